@@ -1,0 +1,2 @@
+pub mod OutputLemmas
+pub mod ReadingLemmas

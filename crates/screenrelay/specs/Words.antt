@@ -1,0 +1,34 @@
+-- The words of the command line.
+use Rattle.std.specs.Prelude.{ℕ, Bool, ◌+◌, nat_lt, nat_le, ◌==◌, ◌&&◌, List, [], ◌∷◌, ◌++◌, length, Option, Some, None, codes, if◌then◌else◌, is_some}
+use Rattle.std.specs.Option.{option_and_then}
+use Rattle.std.specs.Str.{all_ascii_digits, bytes_eq}
+use Rattle.std.specs.Str.Parse.{digits_value}
+use Rattle.screenrelay.specs.declared.words.Job.{Job}
+use Rattle.screenrelay.specs.declared.words.Job.TheVariants.{Relay, Show}
+
+-- what is asked for, on a screen of this size
+pub record Order : Type 0 where
+  pub job : Job
+  pub rows : ℕ
+  pub cols : ℕ
+
+-- 1 to 5 ASCII digits whose value is 1 to 65,535
+abbrev pub is_size : List ℕ → Bool
+is_size word = (nat_le 1 (length word) && nat_le (length word) 5) && (all_ascii_digits word && (nat_le 1 (digits_value 10 word) && nat_le (digits_value 10 word) 65535))
+
+abbrev pub size_of : List ℕ → Option ℕ
+size_of word = if is_size word then Some (digits_value 10 word) else None
+
+abbrev pub job_of : List ℕ → Option Job
+job_of word = if bytes_eq word (codes "relay") then Some Relay else (if bytes_eq word (codes "show") then Some Show else None)
+
+abbrev pub order_of_parts : Option Job → Option ℕ → Option ℕ → Option Order
+order_of_parts (Some job) (Some rows) (Some cols) = Some (record { job = job; rows = rows; cols = cols })
+order_of_parts (Some job) (Some rows) None = None
+order_of_parts (Some job) None cols = None
+order_of_parts None rows cols = None
+
+-- `relay ROWS COLS` or `show ROWS COLS`
+abbrev pub order_of : List (List ℕ) → Option Order
+order_of (job ∷ rows ∷ cols ∷ []) = order_of_parts (job_of job) (size_of rows) (size_of cols)
+order_of _ = None

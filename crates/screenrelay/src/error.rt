@@ -1,0 +1,40 @@
+//! Why a command ended before its work was done.
+
+ghost use Rattle.std.specs.Prelude.{◌≡◌};
+ghost use Rattle.screenrelay.specs.declared.error.RelayError.TheVariants.{Memory};
+
+use std::alloc::{AllocError, AllocFailed};
+use thiserror::Error;
+
+/// Why `relay` or `show` ended early. What was written by then stays written.
+#[derive(Clone, Copy, Debug, Error, PartialEq, Eq)]
+pub enum RelayError {
+    /// A read failed for another cause than interruption.
+    #[error("read")]
+    Read,
+    /// A write or a flush failed, or a write took nothing.
+    #[error("write")]
+    Write,
+    /// Memory was refused.
+    #[error("memory")]
+    Memory,
+    /// The input didn't end within 2^40 reads.
+    #[error("too many reads")]
+    TooManyReads,
+}
+
+impl From<AllocError> for RelayError {
+    ghost from_gives = { λ _ e. e ≡ Memory };
+
+    fn from(_error: AllocError) -> Self {
+        RelayError::Memory
+    }
+}
+
+impl<T: Drop> From<AllocFailed<T>> for RelayError {
+    ghost from_gives = { λ _ e. e ≡ Memory };
+
+    fn from(_error: AllocFailed<T>) -> Self {
+        RelayError::Memory
+    }
+}

@@ -1,0 +1,136 @@
+-- The numbers of a header.
+use Rattle.std.proofs.Common.{◌≡◌, ℕ, zero, suc, ◌+◌, ◌-◌, ◌<◌, ◌≤◌, min, Bool, true, false, List, [], ◌∷◌, ◌++◌, map, length, take, nat_lt, refl, sym, ◌∙◌, ap, arith, length-append, inl, inr}
+use Rattle.std.proofs.lemmas.Grind.{common_steps}
+use Rattle.std.proofs.lemmas.List.{take-append-le}
+use Rattle.std.proofs.lemmas.Bool.{lt-ltb}
+use Rattle.std.proofs.lemmas.Bool.Decides.{nat_tests}
+use Rattle.std.specs.List.{concat, slice_split, onto_first, fold}
+use Rattle.vte_core.specs.Store.{total}
+use Rattle.vte_core.specs.Header.{first_numbers}
+use Rattle.vte_core.proofs.Characters.{bool_cases}
+
+take_all : (k : ℕ) (xs : List ℕ) → length xs ≤ k → take k xs ≡ xs
+take_all k xs h = grind (arith, common_steps)
+
+length-take : (k : ℕ) (xs : List ℕ) → length (take k xs) ≡ min k (length xs)
+length-take k xs = grind (arith, common_steps)
+
+first_numbers-nil : (m : ℕ) → first_numbers m [] ≡ []
+first_numbers-nil zero = refl
+first_numbers-nil (suc m) = refl
+
+pub total-first : (m : ℕ) (gs : List (List ℕ)) → total (first_numbers m gs) ≡ min m (total gs)
+total-first zero gs = omega arith
+total-first (suc m) [] = omega arith
+total-first (suc m) (g ∷ gs) =
+    length-append (take (suc m) g) (concat (first_numbers (suc m - length g) gs))
+    ∙ omega (arith, length-take (suc m) g, total-first (suc m - length g) gs, length-append g (concat gs))
+
+first-room : (m : ℕ) (gs : List (List ℕ)) (g : List ℕ) → total gs < m → first_numbers m (gs ++ g ∷ []) ≡ first_numbers m gs ++ take (m - total gs) g ∷ []
+first-room zero gs g h = absurd (omega arith)
+first-room (suc m) [] g h = let e : suc m - 0 ≡ suc m = omega arith in rw (first_numbers-nil (suc m - length g), e) refl
+first-room (suc m) (x ∷ xs) g h =
+    let len : length (x ++ concat xs) ≡ length x + total xs = length-append x (concat xs) in
+    let less : total xs < suc m - length x = omega arith in
+    let same : suc m - length x - total xs ≡ suc m - length (x ++ concat xs) = omega arith in
+    ap (λ r. take (suc m) x ∷ r) (first-room (suc m - length x) xs g less ∙ ap (λ k. first_numbers (suc m - length x) xs ++ take k g ∷ []) same)
+
+first-full : (m : ℕ) (gs : List (List ℕ)) (g : List ℕ) → m ≤ total gs → first_numbers m (gs ++ g ∷ []) ≡ first_numbers m gs
+first-full zero gs g h = refl
+first-full (suc m) [] g h = absurd (omega arith)
+first-full (suc m) (x ∷ xs) g h =
+    let len : length (x ++ concat xs) ≡ length x + total xs = length-append x (concat xs) in
+    ap (λ r. take (suc m) x ∷ r) (first-full (suc m - length x) xs g (omega arith))
+
+pub total-append : (gs : List (List ℕ)) (g : List ℕ) → total (gs ++ g ∷ []) ≡ total gs + length g
+total-append [] g = omega (arith, length-append g [])
+total-append (x ∷ xs) g = omega (arith, length-append x (concat (xs ++ g ∷ [])), length-append x (concat xs), total-append xs g)
+
+-- one more whole number
+pub record Ended (params gs : List (List ℕ)) (group g : List ℕ) (n : ℕ) (many : Bool) : Type 0 where
+  pub room : total params + length group < 32 → (group ++ n ∷ [] ≡ take (32 - total gs) (g ++ n ∷ [])) × (many ≡ nat_lt 32 (total gs + length (g ++ n ∷ [])))
+  pub full : 32 ≤ total params + length group → (group ≡ take (32 - total gs) (g ++ n ∷ [])) × (true ≡ nat_lt 32 (total gs + length (g ++ n ∷ [])))
+
+pub ended : (params gs : List (List ℕ)) (group g : List ℕ) (n : ℕ) (many : Bool) → params ≡ first_numbers 32 gs → group ≡ take (32 - total gs) g → many ≡ nat_lt 32 (total gs + length g)
+    → Ended params gs group g n many
+ended params gs group g n many p q r =
+    let count : total params ≡ min 32 (total gs) = ap total p ∙ total-first 32 gs in
+    let size : length group ≡ min (32 - total gs) (length g) = ap length q ∙ length-take (32 - total gs) g in
+    let more : length (g ++ n ∷ []) ≡ length g + 1 = length-append g (n ∷ []) in
+    record {
+      room = λ h.
+          let fits : total gs + length g < 32 = omega arith in (
+            ap (λ xs. xs ++ n ∷ []) (q ∙ take_all (32 - total gs) g (omega arith)) ∙ sym (take_all (32 - total gs) (g ++ n ∷ []) (omega arith)),
+            r ∙ grind (arith, nat_tests),
+          );
+      full = λ h.
+          let over : 32 ≤ total gs + length g = omega arith in
+          (q ∙ sym (take-append-le (32 - total gs) g (n ∷ []) (omega arith)), sym (lt-ltb 32 (total gs + length (g ++ n ∷ [])) (omega arith)));
+    }
+
+-- one more whole group
+pub record Closed (params gs : List (List ℕ)) (group g : List ℕ) (many : Bool) : Type 0 where
+  pub some : 0 < length group → params ++ group ∷ [] ≡ first_numbers 32 (gs ++ g ∷ [])
+  pub none : length group ≡ 0 → params ≡ first_numbers 32 (gs ++ g ∷ [])
+  pub many_is : many ≡ nat_lt 32 (total (gs ++ g ∷ []) + 0)
+
+pub closed_group : (params gs : List (List ℕ)) (group g : List ℕ) (many : Bool) → params ≡ first_numbers 32 gs → group ≡ take (32 - total gs) g → many ≡ nat_lt 32 (total gs + length g) → 0 < length g
+    → Closed params gs group g many
+closed_group params gs group g many p q r some =
+    let size : length group ≡ min (32 - total gs) (length g) = ap length q ∙ length-take (32 - total gs) g in
+    record {
+      some = λ h. ap (λ xs. xs ++ group ∷ []) p ∙ (ap (λ x. first_numbers 32 gs ++ x ∷ []) q ∙ sym (first-room 32 gs g (omega arith)));
+      none = λ h. p ∙ sym (first-full 32 gs g (omega arith));
+      many_is = r ∙ ap (λ k. nat_lt 32 k) (omega (arith, total-append gs g));
+    }
+
+-- splits, from the back
+split_some : (p : ℕ → Bool) (xs : List ℕ) → (s : List ℕ) × (ss : List (List ℕ)) × (slice_split p xs ≡ s ∷ ss)
+split_some p [] = ([], [], refl)
+split_some p (x ∷ xs) =
+    elim (bool_cases (p x)) [
+      | inl e ↦ ([], slice_split p xs, rw e refl)
+      | inr e ↦ let (s, ss, f) = split_some p xs in (x ∷ s, ss, rw (e, f) refl)
+    ]
+
+pub onto_last : ℕ → List (List ℕ) → List (List ℕ)
+onto_last b [] = (b ∷ []) ∷ []
+onto_last b (s ∷ []) = (s ++ b ∷ []) ∷ []
+onto_last b (s ∷ t ∷ ts) = s ∷ onto_last b (t ∷ ts)
+
+pub onto_last-last : (b : ℕ) (ss : List (List ℕ)) (s : List ℕ) → onto_last b (ss ++ s ∷ []) ≡ ss ++ (s ++ b ∷ []) ∷ []
+unfolding onto_last
+onto_last-last b [] s = refl
+onto_last-last b (t ∷ []) s = refl
+onto_last-last b (t ∷ u ∷ ss) s = ap (λ r. t ∷ r) (onto_last-last b (u ∷ ss) s)
+
+onto-both : (b x : ℕ) (ss : List (List ℕ)) → onto_first x (onto_last b ss) ≡ onto_last b (onto_first x ss)
+unfolding onto_last
+onto-both b x [] = refl
+onto-both b x (s ∷ []) = refl
+onto-both b x (s ∷ t ∷ ss) = refl
+
+pub split-yes : (p : ℕ → Bool) (xs : List ℕ) (b : ℕ) → p b ≡ true → slice_split p (xs ++ b ∷ []) ≡ slice_split p xs ++ [] ∷ []
+split-yes p [] b e = rw e refl
+split-yes p (x ∷ xs) b e =
+    elim (bool_cases (p x)) [
+      | inl f ↦ rw f (ap (λ r. [] ∷ r) (split-yes p xs b e))
+      | inr f ↦ let (s, ss, g) = split_some p xs in rw f (ap (onto_first x) (split-yes p xs b e) ∙ rw g refl)
+    ]
+
+pub split-no : (p : ℕ → Bool) (xs : List ℕ) (b : ℕ) → p b ≡ false → slice_split p (xs ++ b ∷ []) ≡ onto_last b (slice_split p xs)
+unfolding onto_last
+split-no p [] b e = rw e refl
+split-no p (x ∷ xs) b e =
+    elim (bool_cases (p x)) [
+      | inl f ↦ let (s, ss, g) = split_some p xs in rw f (ap (λ r. [] ∷ r) (split-no p xs b e) ∙ rw g refl)
+      | inr f ↦ rw f (ap (onto_first x) (split-no p xs b e) ∙ onto-both b x (slice_split p xs))
+    ]
+
+pub fold-last : (f : ℕ → ℕ → ℕ) (a : ℕ) (xs : List ℕ) (b : ℕ) → fold f a (xs ++ b ∷ []) ≡ f (fold f a xs) b
+fold-last f a [] b = refl
+fold-last f a (x ∷ xs) b = fold-last f (f a x) xs b
+
+pub map-last : {A B : Type 0} (f : A → B) (xs : List A) (x : A) → map f (xs ++ x ∷ []) ≡ map f xs ++ f x ∷ []
+map-last f [] x = refl
+map-last f (y ∷ ys) x = ap (λ r. f y ∷ r) (map-last f ys x)

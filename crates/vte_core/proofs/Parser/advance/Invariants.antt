@@ -1,0 +1,15 @@
+use Rattle.std.proofs.Common.{◌≡◌, take, List, []}
+use Rattle.vte_core.specs.Event.{Event, Performs}
+use Rattle.vte_core.specs.Pending.{Pending, events_from, after_bytes}
+use Rattle.vte_core.specs.Standing.{IsAt}
+use Rattle.vte_core.proofs.Parser.advance.Given as goal
+
+-- the performer has gone through the events of the bytes so far
+abbrev pub invariant-loop-byte : goal.invariant-loop-byte
+invariant-loop-byte g l = record {
+  told : List Event;
+  performed : Performs g.P.Perform.step l.initial.performer told l.performer;
+  none : l.byte-index ≡ 0 → told ≡ [];
+  stands : (q : Pending) → IsAt g.row.N l.initial.self q → IsAt g.row.N l.self (after_bytes q (take l.byte-index l.bytes));
+  added : (q : Pending) → IsAt g.row.N l.initial.self q → told ≡ events_from g.row.N q (take l.byte-index l.bytes);
+}

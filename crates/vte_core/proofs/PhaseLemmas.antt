@@ -1,0 +1,98 @@
+-- How far a header has come, byte by byte.
+use Rattle.std.proofs.Common.{◌≡◌, ℕ, Bool, true, false, not, ◌&&◌, ◌||◌, inl, inr, List, [], ◌∷◌, ◌++◌, if◌then◌else◌, refl, sym, ◌∙◌, ap, arith}
+use Rattle.std.proofs.lemmas.Bool.Decides.{nat_tests}
+use Rattle.std.specs.List.{filter}
+use Rattle.vte_core.specs.Bytes.{is_numeric, is_intermediate, is_private, is_header}
+use Rattle.vte_core.specs.Header.{unmarked, in_order, only_intermediates, is_well_formed, intermediates}
+use Rattle.vte_core.specs.Phases.{only_numeric, phase_of, next_by, is_kept}
+use Rattle.vte_core.specs.declared.header.Phase.TheVariants.{Start, InNumbers, InIntermediates, Ignored}
+use Rattle.vte_core.proofs.Characters.{bool_cases}
+
+and-assoc : (a b c : Bool) → (a && b) && c ≡ a && (b && c)
+and-assoc true b c = refl
+and-assoc false b c = refl
+
+and-true : (a : Bool) → (a && true) ≡ a
+and-true true = refl
+and-true false = refl
+
+only_numeric-last : (xs : List ℕ) (b : ℕ) → only_numeric (xs ++ b ∷ []) ≡ (only_numeric xs && is_numeric b)
+only_numeric-last [] b = and-true (is_numeric b)
+only_numeric-last (x ∷ xs) b = ap (λ r. is_numeric x && r) (only_numeric-last xs b) ∙ sym (and-assoc (is_numeric x) (only_numeric xs) (is_numeric b))
+
+only_intermediates-last : (xs : List ℕ) (b : ℕ) → only_intermediates (xs ++ b ∷ []) ≡ (only_intermediates xs && is_intermediate b)
+only_intermediates-last [] b = and-true (is_intermediate b)
+only_intermediates-last (x ∷ xs) b = ap (λ r. is_intermediate x && r) (only_intermediates-last xs b) ∙ sym (and-assoc (is_intermediate x) (only_intermediates xs) (is_intermediate b))
+
+one_byte : (n i : Bool) → (if n then true else (i && true)) ≡ (n || i)
+one_byte true i = refl
+one_byte false true = refl
+one_byte false false = refl
+
+in_order-last : (xs : List ℕ) (b : ℕ) → in_order (xs ++ b ∷ []) ≡ (if only_numeric xs then (is_numeric b || is_intermediate b) else (in_order xs && is_intermediate b))
+in_order-last [] b = one_byte (is_numeric b) (is_intermediate b)
+in_order-last (x ∷ xs) b =
+    elim (bool_cases (is_numeric x)) [
+      | inl e ↦ rw e (in_order-last xs b)
+      | inr e ↦ rw e (only_intermediates-last (x ∷ xs) b)
+    ]
+
+unmarked-last : (a : ℕ) (t : List ℕ) (b : ℕ) → unmarked ((a ∷ t) ++ b ∷ []) ≡ unmarked (a ∷ t) ++ b ∷ []
+unmarked-last a t b = elim (bool_cases (is_private a)) [ inl e ↦ rw e refl | inr e ↦ rw e refl ]
+
+next-cases : (N O numeric inter : Bool)
+    → (if (N && numeric) then InNumbers else (if (if N then (numeric || inter) else (O && inter)) then InIntermediates else Ignored))
+    ≡ next_by numeric inter (if N then InNumbers else (if O then InIntermediates else Ignored))
+next-cases true O true inter = refl
+next-cases true O false true = refl
+next-cases true O false false = refl
+next-cases false true numeric true = refl
+next-cases false true numeric false = refl
+next-cases false false numeric inter = refl
+
+first-phase : (b : ℕ) → is_header b ≡ true → phase_of (b ∷ []) ≡ next_by (is_numeric b) (is_intermediate b) Start
+first-phase b h =
+    elim (bool_cases (is_private b)) [
+      | inl p ↦ let i : is_intermediate b ≡ false = grind (arith, nat_tests) in rw (p, i) refl
+      | inr p ↦ elim (bool_cases (is_numeric b)) [
+        | inl n ↦ let i : is_intermediate b ≡ false = grind (arith, nat_tests) in rw (p, n, i) refl
+        | inr n ↦ let i : is_intermediate b ≡ true = grind (arith, nat_tests) in rw (p, n, i) refl
+      ]
+    ]
+
+pub phase_of-last : (h : List ℕ) (b : ℕ) → is_header b ≡ true → phase_of (h ++ b ∷ []) ≡ next_by (is_numeric b) (is_intermediate b) (phase_of h)
+phase_of-last [] b h = first-phase b h
+phase_of-last (a ∷ t) b h =
+    ap (λ u. if only_numeric u then InNumbers else (if in_order u then InIntermediates else Ignored)) (unmarked-last a t b)
+    ∙ rw (only_numeric-last (unmarked (a ∷ t)) b, in_order-last (unmarked (a ∷ t)) b) (next-cases (only_numeric (unmarked (a ∷ t))) (in_order (unmarked (a ∷ t))) (is_numeric b) (is_intermediate b))
+
+pub filter-last : (p : ℕ → Bool) (xs : List ℕ) (b : ℕ) → filter p (xs ++ b ∷ []) ≡ filter p xs ++ (if p b then b ∷ [] else [])
+filter-last p [] b = refl
+filter-last p (x ∷ xs) b = elim (bool_cases (p x)) [ inl e ↦ rw e (ap (λ r. x ∷ r) (filter-last p xs b)) | inr e ↦ rw e (filter-last p xs b) ]
+
+in_order-numeric : (xs : List ℕ) → only_numeric xs ≡ true → in_order xs ≡ true
+in_order-numeric [] h = refl
+in_order-numeric (x ∷ xs) h =
+    elim (bool_cases (is_numeric x)) [
+      | inl e ↦ rw e (in_order-numeric xs (let g = rw e at h in g))
+      | inr e ↦ let g = rw e at h in cc
+    ]
+
+kept-cases : (N O : Bool) → (N ≡ true → O ≡ true) → O ≡ is_kept (if N then InNumbers else (if O then InIntermediates else Ignored))
+kept-cases true O h = h refl
+kept-cases false true h = refl
+kept-cases false false h = refl
+
+pub well_formed-phase : (h : List ℕ) → is_well_formed h ≡ is_kept (phase_of h)
+well_formed-phase [] = refl
+well_formed-phase (a ∷ t) = kept-cases (only_numeric (unmarked (a ∷ t))) (in_order (unmarked (a ∷ t))) (in_order-numeric (unmarked (a ∷ t)))
+
+append-none : (xs : List ℕ) → xs ++ [] ≡ xs
+append-none [] = refl
+append-none (x ∷ xs) = ap (λ r. x ∷ r) (append-none xs)
+
+pub numeric-yes : (h : List ℕ) (b : ℕ) → is_numeric b ≡ true → (filter is_numeric (h ++ b ∷ []) ≡ filter is_numeric h ++ b ∷ []) × (intermediates (h ++ b ∷ []) ≡ intermediates h)
+numeric-yes h b e = (filter-last is_numeric h b ∙ rw e refl, filter-last (λ c. not (is_numeric c)) h b ∙ rw e (append-none (intermediates h)))
+
+pub numeric-no : (h : List ℕ) (b : ℕ) → is_numeric b ≡ false → (filter is_numeric (h ++ b ∷ []) ≡ filter is_numeric h) × (intermediates (h ++ b ∷ []) ≡ intermediates h ++ b ∷ [])
+numeric-no h b e = (filter-last is_numeric h b ∙ rw e (append-none (filter is_numeric h)), filter-last (λ c. not (is_numeric c)) h b ∙ rw e refl)

@@ -1,0 +1,11 @@
+use Rattle.std.proofs.Common.{refl, []}
+use Rattle.vte_core.proofs.numbers.Numbers.new.Goals as goal
+
+pub returns : goal.returns
+returns c = (
+  [],
+  [],
+  0,
+  record { parts = []; last = []; last_parts = []; digits = []; by_groups = refl; by_numbers = refl; are_groups = refl; are_group = refl; is_number = refl },
+  record { params = c.new.ensures; group = c.new-2.ensures; number = refl; many = refl },
+)

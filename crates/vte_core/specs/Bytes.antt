@@ -1,0 +1,45 @@
+-- The classes of bytes.
+use Rattle.std.specs.Prelude.{ℕ, Bool, ◌&&◌, ◌||◌, not, nat_lt, ◌==◌}
+use Rattle.std.specs.Int.{is_in_range}
+
+abbrev pub is_esc : ℕ → Bool
+is_esc b = b == 0x1B
+
+-- CAN and SUB, which end a sequence and are executed
+abbrev pub is_abort : ℕ → Bool
+is_abort b = b == 0x18 || b == 0x1A
+
+abbrev pub is_control : ℕ → Bool
+is_control b = nat_lt b 0x20 && not (is_abort b || is_esc b)
+
+abbrev pub is_intermediate : ℕ → Bool
+is_intermediate b = is_in_range 0x20 0x2F b
+
+-- a digit, `:` or `;`
+abbrev pub is_numeric : ℕ → Bool
+is_numeric b = is_in_range 0x30 0x3B b
+
+-- `<`, `=`, `>` or `?`
+abbrev pub is_private : ℕ → Bool
+is_private b = is_in_range 0x3C 0x3F b
+
+-- what counts in the header of a CSI or a device string
+abbrev pub is_header : ℕ → Bool
+is_header b = is_in_range 0x20 0x3F b
+
+-- what ends the header, or breaks it off
+abbrev pub ends_header : ℕ → Bool
+ends_header b = is_abort b || is_in_range 0x40 0x7E b
+
+abbrev pub ends_escape : ℕ → Bool
+ends_escape b = is_abort b || is_in_range 0x30 0x7E b
+
+abbrev pub ends_osc : ℕ → Bool
+ends_osc b = is_abort b || b == 0x07
+
+abbrev pub ends_device : ℕ → Bool
+ends_device b = is_abort b || b == 0x9C
+
+-- what a device string puts
+abbrev pub is_put : ℕ → Bool
+is_put b = nat_lt b 0x7F

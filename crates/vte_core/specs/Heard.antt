@@ -1,0 +1,61 @@
+-- What a byte tells, by the parser's fields before it (old) and after it (new).
+use Rattle.std.specs.Prelude.{ℕ, Bool, false, ◌||◌, ◌&&◌, List, [], ◌∷◌, length, ◌==◌, if◌then◌else◌}
+use Rattle.vte_core.specs.Event.{Event, Print, Execute, Hook, Unhook, Osc, Csi, Esc}
+use Rattle.vte_core.specs.Bytes.{is_esc, is_abort, is_control, ends_header, ends_escape, ends_osc}
+use Rattle.vte_core.specs.Pending.{InDevice, InSwallowed, byte_told, text_told, told}
+use Rattle.vte_core.specs.Phases.{is_kept}
+use Rattle.vte_core.specs.Store.{cut_at}
+use Rattle.vte_core.specs.declared.header.Header.{Header}
+use Rattle.vte_core.specs.declared.intermediates.Intermediates.{Intermediates}
+use Rattle.vte_core.specs.declared.Parser.{Parser}
+use Rattle.vte_core.specs.declared.State.{State}
+use Rattle.vte_core.specs.declared.State.TheVariants as s
+
+-- of a header that has ended
+abbrev pub csi_event : Header → ℕ → Event
+csi_event x b = Csi x.numbers.params x.intermediates.kept.items (x.numbers.many || x.intermediates.many) b
+
+abbrev pub hook_event : Header → ℕ → Event
+hook_event x b = Hook x.numbers.params x.intermediates.kept.items (x.numbers.many || x.intermediates.many) b
+
+-- of the data of an OSC that has ended
+abbrev pub osc_event : List ℕ × List ℕ → Bool → Event
+osc_event x bell = Osc (cut_at 0 x.1 x.0) bell
+
+abbrev pub final_heard : Intermediates → ℕ → List Event
+final_heard x b =
+    if length x.kept.items == 0 && b == 0x5B then []
+    else (if length x.kept.items == 0 && b == 0x5D then []
+    else (if length x.kept.items == 0 && b == 0x50 then []
+    else (if length x.kept.items == 0 && (b == 0x58 || (b == 0x5E || b == 0x5F)) then []
+    else Esc x.kept.items x.many b ∷ [])))
+
+abbrev pub text_closed : List ℕ → List Event
+text_closed [] = []
+text_closed (a ∷ t) = Print 0xFFFD ∷ []
+
+abbrev pub closed_heard : (n : ℕ) → State → Parser n → Parser n → List Event
+closed_heard n s.Text old new = text_closed old.unfinished
+closed_heard n s.Escape old new = []
+closed_heard n s.Csi old new = []
+closed_heard n s.Osc old new = osc_event new.osc false ∷ []
+closed_heard n s.Hook old new = []
+closed_heard n s.Device old new = Unhook ∷ []
+closed_heard n s.Swallowed old new = []
+
+abbrev pub byte_heard : (n : ℕ) → State → Parser n → Parser n → ℕ → List Event
+byte_heard n s.Text old new b = text_told old.unfinished b
+byte_heard n s.Escape old new b =
+    if ends_escape b then (if is_abort b then Execute b ∷ [] else final_heard old.intermediates b) else told is_control Execute b
+byte_heard n s.Csi old new b =
+    if ends_header b then (if is_abort b then Execute b ∷ [] else (if is_kept old.header.phase then csi_event new.header b ∷ [] else []))
+    else told is_control Execute b
+byte_heard n s.Osc old new b = if ends_osc b then osc_event new.osc (b == 0x07) ∷ told is_abort Execute b else []
+byte_heard n s.Hook old new b =
+    if ends_header b then (if is_abort b then Execute b ∷ [] else (if is_kept old.header.phase then hook_event new.header b ∷ [] else []))
+    else []
+byte_heard n s.Device old new b = byte_told n InDevice b
+byte_heard n s.Swallowed old new b = byte_told n InSwallowed b
+
+abbrev pub heard : (n : ℕ) → Parser n → Parser n → ℕ → List Event
+heard n old new b = if is_esc b then closed_heard n old.state old new else byte_heard n old.state old new b

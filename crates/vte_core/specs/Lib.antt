@@ -1,0 +1,15 @@
+pub mod Event
+pub mod EventOf
+pub mod Bytes
+pub mod Text
+pub mod Header
+pub mod Shapes
+pub mod Rows
+pub mod Pending
+pub mod Store
+pub mod Reading
+pub mod Phases
+pub mod Standing
+pub mod Stopping
+pub mod Heard
+pub mod Told

@@ -1,0 +1,99 @@
+//! The numbers of a header.
+
+ghost use Rattle.std.specs.Prelude.{◌≡◌, ◌+◌, ◌-◌, ◌*◌, ◌<◌, ◌≤◌, ◌^◌, ℕ, List, [], ◌∷◌, ◌++◌, length, min, IsTrue};
+ghost use Rattle.vte_core.specs.Bytes.{is_numeric};
+ghost use Rattle.vte_core.specs.Store.{total};
+
+use crate::Params;
+use arrayvec::ArrayVec;
+
+#[derive(Drop)]
+pub struct Numbers {
+    /// The groups that are whole.
+    pub params: Params,
+    /// The whole numbers of the last group.
+    pub group: ArrayVec<u16, 32>,
+    /// The last number.
+    pub number: u16,
+    /// A number was begun or ended past the 32 that are kept.
+    pub many: bool,
+    ghost fits: { total params + length group.items ≤ 32 },
+}
+
+impl Numbers {
+    ghost use Rattle.vte_core.specs.Reading.{Holds, ReadsNumbers};
+    ghost use Rattle.vte_core.specs.Header.{groups_of, first_numbers};
+    ghost use Rattle.std.specs.Prelude.{nat_lt};
+
+    pub fn new() -> Self
+        ensures { ReadsNumbers result [] }
+    {
+        Numbers {
+            params: Params::new(),
+            group: ArrayVec::new(),
+            number: 0,
+            many: false,
+        }
+    }
+
+    pub fn clear(&mut self)
+        ensures { ReadsNumbers self.new [] }
+    {
+        self.params.clear();
+        self.group.clear();
+        self.number = 0;
+        self.many = false;
+    }
+
+    fn digit(&mut self, digit: u8)
+        requires { digit < 10 }
+        ensures { (gs : List (List ℕ)) (g : List ℕ) (n : ℕ) → Holds self.old gs g n → Holds self.new gs g (min 65535 (n * 10 + digit)) }
+    {
+        self.number = self.number.saturating_mul(10).saturating_add(digit as u16);
+    }
+
+    fn end_number(&mut self)
+        ensures { (gs : List (List ℕ)) (g : List ℕ) (n : ℕ) → Holds self.old gs g n → Holds self.new gs (g ++ n ∷ []) 0 }
+    {
+        let number = self.number;
+        self.number = 0;
+        if self.params.len() + self.group.len() < 32 {
+            self.group.push(number);
+            return;
+        }
+        self.many = true;
+    }
+
+    fn end_group(&mut self)
+        ensures { (gs : List (List ℕ)) (g : List ℕ) (n : ℕ) → Holds self.old gs g n → 0 < length g → Holds self.new (gs ++ g ∷ []) [] n }
+    {
+        if !self.group.is_empty() {
+            self.params.push(self.group.as_slice());
+            self.group.clear();
+        }
+    }
+
+    /// A digit, `:` or `;`.
+    pub fn push(&mut self, byte: u8)
+        requires { IsTrue (is_numeric byte) }
+        ensures { (m : List ℕ) → ReadsNumbers self.old m → ReadsNumbers self.new (m ++ byte ∷ []) }
+    {
+        match byte {
+            b':' => self.end_number(),
+            b';' => {
+                self.end_number();
+                self.end_group();
+            }
+            _ => self.digit(byte - b'0'),
+        }
+    }
+
+    /// The header ends, and with it the last number and the last group.
+    pub fn finish(&mut self)
+        ensures params { (m : List ℕ) → ReadsNumbers self.old m → self.new.params ≡ first_numbers 32 (groups_of m) }
+        ensures many { (m : List ℕ) → ReadsNumbers self.old m → self.new.many ≡ nat_lt 32 (total (groups_of m)) }
+    {
+        self.end_number();
+        self.end_group();
+    }
+}

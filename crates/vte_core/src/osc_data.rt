@@ -1,0 +1,99 @@
+//! The data of an OSC, byte by byte.
+
+ghost use Rattle.std.specs.Prelude.{◌≡◌, ◌+◌, ◌<◌, ◌≤◌, ℕ, List, [], ◌∷◌, ◌++◌, length, take, map, IsTrue};
+ghost use Rattle.vte_core.specs.Event.{Osc as OscEvent};
+ghost use Rattle.vte_core.specs.Heard.{osc_event};
+ghost use Rattle.vte_core.specs.Shapes.{osc_pieces};
+ghost use Rattle.vte_core.specs.Store.{ReadsOsc, cut_at, EndsRise};
+
+use crate::Perform;
+use arrayvec::ArrayVec;
+use std::marker::Model;
+
+/// What is kept of an OSC.
+#[derive(Drop)]
+pub struct OscData<const N: usize> {
+    bytes: ArrayVec<u8, N>,
+    ends: ArrayVec<usize, 16>,
+}
+
+impl<const N: usize> Model for OscData<N> {
+    ghost use Rattle.std.specs.Prelude.{List, ℕ};
+    ghost use Rattle.vte_core.specs.Store.{EndsRise};
+
+    ghost Value = { List ℕ × List ℕ };
+
+    ghost view = { λ x. (x.bytes.items, x.ends.items) };
+
+    ghost invariant = { λ x. EndsRise 0 x.ends.items x.bytes.items };
+}
+
+/// Tells of an OSC, whose pieces end at these places.
+fn tell<P: Perform>(performer: &mut P, bytes: &[u8], ends: &[usize], bell_terminated: bool)
+    requires few { length ends.now ≤ 16 }
+    requires rise { EndsRise 0 ends.now bytes.now }
+    ensures { P.step performer.old (OscEvent (cut_at 0 ends.now bytes.now) bell_terminated) performer.new }
+{
+    let mut pieces: [&[u8]; 16] = [&[]; 16];
+    let mut start = 0;
+    for (i, end) in ends.iter().enumerate() {
+        pieces[i] = &bytes[start..*end];
+        start = *end;
+    }
+    performer.osc_dispatch(&pieces[..ends.len()], bell_terminated);
+}
+
+impl<const N: usize> OscData<N> {
+    pub fn new() -> Self
+        ensures { ReadsOsc N result [] }
+    {
+        OscData {
+            bytes: ArrayVec::new(),
+            ends: ArrayVec::new(),
+        }
+    }
+
+    pub fn clear(&mut self)
+        ensures { ReadsOsc N self.new [] }
+    {
+        self.bytes.clear();
+        self.ends.clear();
+    }
+
+    /// A byte of data, or `;`.
+    pub fn push(&mut self, byte: u8)
+        ensures { (s : List ℕ) → ReadsOsc N self.old s → ReadsOsc N self.new (s ++ byte ∷ []) }
+    {
+        if byte == b';' {
+            if !self.ends.is_full() {
+                self.ends.push(self.bytes.len());
+            }
+        } else if !self.bytes.is_full() {
+            self.bytes.push(byte);
+        }
+    }
+
+    /// The last piece ends.
+    fn end_piece(&mut self)
+        ensures { (s : List ℕ) → ReadsOsc N self.old s → cut_at 0 self.new.1 self.new.0 ≡ osc_pieces N s }
+    {
+        if self.ends.is_full() {
+            return;
+        }
+        self.ends.push(self.bytes.len());
+    }
+
+    /// The OSC ends.
+    pub fn dispatch<P: Perform>(&mut self, performer: &mut P, bell_terminated: bool)
+        ensures told { P.step performer.old (osc_event self.new bell_terminated) performer.new }
+        ensures is_told { (s : List ℕ) → ReadsOsc N self.old s → cut_at 0 self.new.1 self.new.0 ≡ osc_pieces N s }
+    {
+        self.end_piece();
+        tell(
+            performer,
+            self.bytes.as_slice(),
+            self.ends.as_slice(),
+            bell_terminated,
+        );
+    }
+}

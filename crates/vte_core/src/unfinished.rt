@@ -1,0 +1,164 @@
+//! Ground text: the characters of UTF-8.
+
+ghost use Rattle.std.specs.Prelude.{◌≡◌, ◌==◌, ◌+◌, ◌-◌, ◌<◌, ◌≤◌, ℕ, List, [], ◌∷◌, ◌++◌, length, drop, IsTrue, slice_index};
+ghost use Rattle.vte_core.specs.Event.{Event, Print, Execute, Performs};
+ghost use Rattle.vte_core.specs.Text.{char_len, second_min, second_max, first_bits, joined, char_event};
+ghost use Rattle.vte_core.specs.Pending.{IsUnfinished, begun, begun_rest, text_told, text_rest, goes_on, whole_goes_on, IsWhole, code_of};
+ghost use Rattle.std.specs.Char.{InScalarRange};
+
+use crate::Perform;
+use arrayvec::ArrayVec;
+use std::marker::Model;
+
+/// How many bytes a character with this first byte has, 0 where none has it.
+fn char_len(first: u8) -> usize
+    ensures { result ≡ char_len first }
+{
+    match first {
+        0..=0x7F => 1,
+        0xC2..=0xDF => 2,
+        0xE0..=0xEF => 3,
+        0xF0..=0xF4 => 4,
+        _ => 0,
+    }
+}
+
+/// Whether the byte goes on the character that the bytes begin.
+fn goes_on(bytes: &[u8], byte: u8) -> bool
+    requires { 0 < length bytes.now }
+    ensures { result ≡ whole_goes_on bytes.now byte }
+{
+    match bytes {
+        [0xE0] => (0xA0..=0xBF).contains(&byte),
+        [0xED] => (0x80..=0x9F).contains(&byte),
+        [0xF0] => (0x90..=0xBF).contains(&byte),
+        [0xF4] => (0x80..=0x8F).contains(&byte),
+        _ => (0x80..=0xBF).contains(&byte),
+    }
+}
+
+/// Tells of a character.
+fn tell<P: Perform>(performer: &mut P, c: char)
+    ensures { P.step performer.old (char_event c) performer.new }
+{
+    if c < ' ' || ('\u{80}'..='\u{9F}').contains(&c) {
+        performer.execute(c as u8);
+    } else {
+        performer.print(c);
+    }
+}
+
+/// The character with a code.
+fn scalar(code: u32) -> char
+    requires { InScalarRange code }
+    ensures { result ≡ code }
+{
+    char::from_u32(code).unwrap()
+}
+
+/// The character that the bytes are.
+fn character(bytes: &[u8]) -> char
+    requires { IsWhole bytes.now }
+    ensures { result ≡ code_of bytes.now }
+{
+    match bytes {
+        [a] => scalar(*a as u32),
+        [a, b] => scalar((*a as u32 - 0xC0) * 64 + (*b as u32 - 0x80)),
+        [a, b, c] => {
+            scalar(((*a as u32 - 0xE0) * 64 + (*b as u32 - 0x80)) * 64 + (*c as u32 - 0x80))
+        }
+        [a, b, c, d] => scalar(
+            (((*a as u32 - 0xF0) * 64 + (*b as u32 - 0x80)) * 64 + (*c as u32 - 0x80)) * 64
+                + (*d as u32 - 0x80),
+        ),
+        _ => unreachable!(),
+    }
+}
+
+/// A byte that begins a character, or none.
+fn begin<P: Perform>(unfinished: &mut ArrayVec<u8, 4>, performer: &mut P, byte: u8)
+    requires { unfinished.old.items ≡ [] }
+    ensures told { Performs P.step performer.old (begun byte) performer.new }
+    ensures rest { unfinished.new.items ≡ begun_rest byte }
+{
+    match char_len(byte) {
+        1 => tell(performer, byte as char),
+        0 => {
+            if (0x80..=0x9F).contains(&byte) {
+                performer.execute(byte);
+            } else {
+                performer.print('\u{FFFD}');
+            }
+        }
+        _ => unfinished.push(byte),
+    }
+}
+
+/// A byte of ground text, other than ESC.
+fn text_byte<P: Perform>(unfinished: &mut ArrayVec<u8, 4>, performer: &mut P, byte: u8)
+    requires { IsUnfinished unfinished.old.items }
+    ensures told { Performs P.step performer.old (text_told unfinished.old.items byte) performer.new }
+    ensures rest { unfinished.new.items ≡ text_rest unfinished.old.items byte }
+{
+    if unfinished.is_empty() {
+        begin(unfinished, performer, byte);
+    } else if goes_on(unfinished.as_slice(), byte) {
+        unfinished.push(byte);
+        if unfinished.len() == char_len(unfinished.as_slice()[0]) {
+            let c = character(unfinished.as_slice());
+            unfinished.clear();
+            tell(performer, c);
+        }
+    } else {
+        unfinished.clear();
+        performer.print('\u{FFFD}');
+        begin(unfinished, performer, byte);
+    }
+}
+
+/// The bytes of a character that isn't whole yet.
+#[derive(Drop)]
+pub struct Unfinished {
+    bytes: ArrayVec<u8, 4>,
+}
+
+impl Model for Unfinished {
+    ghost use Rattle.std.specs.Prelude.{List, ℕ};
+    ghost use Rattle.vte_core.specs.Pending.{IsUnfinished};
+
+    ghost Value = { List ℕ };
+
+    ghost view = { λ x. x.bytes.items };
+
+    ghost invariant = { λ x. IsUnfinished x.bytes.items };
+}
+
+impl Unfinished {
+    pub fn new() -> Self
+        ensures { result ≡ [] }
+    {
+        Unfinished {
+            bytes: ArrayVec::new(),
+        }
+    }
+
+    pub fn is_empty(&self) -> bool
+        ensures { result ≡ (length self.now == 0) }
+    {
+        self.bytes.is_empty()
+    }
+
+    pub fn clear(&mut self)
+        ensures { self.new ≡ [] }
+    {
+        self.bytes.clear();
+    }
+
+    /// A byte of ground text, other than ESC.
+    pub fn byte<P: Perform>(&mut self, performer: &mut P, byte: u8)
+        ensures told { Performs P.step performer.old (text_told self.old byte) performer.new }
+        ensures rest { self.new ≡ text_rest self.old byte }
+    {
+        text_byte(&mut self.bytes, performer, byte);
+    }
+}
