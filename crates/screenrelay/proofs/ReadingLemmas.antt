@@ -1,6 +1,5 @@
 -- The events of one piece after another.
 use Rattle.std.proofs.Common.{◌≡◌, ℕ, List, [], ◌∷◌, ◌++◌, Option, Some, None, sym, ap, ◌∙◌, append_assoc, refl}
-use Rattle.std.proofs.lemmas.List.{append-nil}
 use Rattle.std.specs.Io.KnownBytes.{Consumes, Keeps}
 use Rattle.vte_core.specs.Event.{Event, Performs}
 use Rattle.vte_core.specs.Shapes.{events}

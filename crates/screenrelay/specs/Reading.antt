@@ -1,5 +1,5 @@
 -- What the events of a byte stream do to a sheet.
-use Rattle.std.specs.Prelude.{ℕ, ◌+◌, ◌-◌, min, List, [], ◌∷◌, ◌==◌, Bool, if◌then◌else◌, ◌&&◌}
+use Rattle.std.specs.Prelude.{ℕ, ◌-◌, List, [], ◌∷◌, ◌==◌, if◌then◌else◌, ◌&&◌}
 use Rattle.std.specs.Int.{is_in_range}
 use Rattle.vte_core.specs.Event.{Event, Print, Execute, Csi}
 use Rattle.vte_core.specs.Shapes.{events}

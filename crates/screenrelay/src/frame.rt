@@ -8,6 +8,7 @@ use itoa::Buffer;
 use std::alloc::{AllocError, Global};
 
 const OPENING: &[u8] = b"\x1b[?2026h\x1b[?25h\x1b[m\x1b[H\x1b[J";
+
 const CLOSING: &[u8] = b"\x1b>\x1b[?1l\x1b[?2004l\x1b[?2026l";
 
 /// A frame that draws the sheet on a blank terminal of its size: a synchronized update whose body
@@ -39,7 +40,12 @@ fn draw(text: &mut Vec<u8>, sheet: &Sheet) -> Result<(), AllocError>
 }
 
 // The last move, to the cursor. A pending one that printing didn't reach goes to the last column.
-fn move_to_cursor(text: &mut Vec<u8>, sheet: &Sheet, row: usize, col: usize) -> Result<(), AllocError>
+fn move_to_cursor(
+    text: &mut Vec<u8>,
+    sheet: &Sheet,
+    row: usize,
+    col: usize,
+) -> Result<(), AllocError>
     requires { row + 1 < 2 ^ 64 }
     ensures { OnOk result (text.new.items ≡ text.old.items ++ move_to_cursor sheet.now row col) }
 {
@@ -52,7 +58,13 @@ fn move_to_cursor(text: &mut Vec<u8>, sheet: &Sheet, row: usize, col: usize) -> 
     move_from_to(text, row, col, to_row, to_col.min(last))
 }
 
-fn move_from_to(text: &mut Vec<u8>, row: usize, col: usize, to_row: usize, to_col: usize) -> Result<(), AllocError>
+fn move_from_to(
+    text: &mut Vec<u8>,
+    row: usize,
+    col: usize,
+    to_row: usize,
+    to_col: usize,
+) -> Result<(), AllocError>
     requires { (row + 1 < 2 ^ 64) × (to_row + 1 < 2 ^ 64) × (to_col + 1 < 2 ^ 64) }
     ensures { OnOk result (text.new.items ≡ text.old.items ++ move_from_to row col to_row to_col) }
 {

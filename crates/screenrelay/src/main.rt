@@ -14,9 +14,8 @@ mod words;
 
 use command::{command, report_fault};
 use error::RelayError;
-use std::env;
-use std::io;
 use std::process::ExitCode;
+use std::{env, io};
 
 fn main(rt: HostRuntime) -> ExitCode {
     let status = match run(&rt) {

@@ -63,7 +63,12 @@ pub fn show<R: Read, W: Write>(
 }
 
 // The sheet that the whole input makes on a blank one. An interrupted read is tried again and counted.
-fn read_sheet<R: Read>(alloc: Global, rows: NonZeroU16, cols: NonZeroU16, input: &mut R) -> Result<Sheet, RelayError>
+fn read_sheet<R: Read>(
+    alloc: Global,
+    rows: NonZeroU16,
+    cols: NonZeroU16,
+    input: &mut R,
+) -> Result<Sheet, RelayError>
     ensures made { IfOk result (λ sheet. IfSome (R.remaining input.old) (λ bytes. sheet ≡ made rows.value cols.value bytes)) }
     ensures fault { IfErr result (λ e. e ≢ RelayError.Write) }
 {

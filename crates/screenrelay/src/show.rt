@@ -12,7 +12,11 @@ use std::alloc::Global;
 use std::io::Write;
 
 /// Writes the text of each row, and a newline after it.
-pub(crate) fn write_rows<W: Write>(alloc: Global, sheet: &Sheet, output: &mut W) -> Result<(), RelayError>
+pub(crate) fn write_rows<W: Write>(
+    alloc: Global,
+    sheet: &Sheet,
+    output: &mut W,
+) -> Result<(), RelayError>
     ensures whole { OnOk result (Appends (W.contents output.old) (W.contents output.new) (page_text sheet.now)) }
     ensures front { TakesFront (W.contents output.old) (W.contents output.new) (page_text sheet.now) }
     ensures fault { IfErr result (λ e. (e ≡ RelayError.Memory) ⊎ (e ≡ RelayError.Write)) }
@@ -29,7 +33,11 @@ pub(crate) fn write_rows<W: Write>(alloc: Global, sheet: &Sheet, output: &mut W)
 }
 
 // Writes the text of a row and a newline, by way of the line's memory.
-fn write_row<W: Write>(cells: &[Option<u8>], line: &mut Vec<u8>, output: &mut W) -> Result<(), RelayError>
+fn write_row<W: Write>(
+    cells: &[Option<u8>],
+    line: &mut Vec<u8>,
+    output: &mut W,
+) -> Result<(), RelayError>
     ensures whole { OnOk result (Appends (W.contents output.old) (W.contents output.new) (row_text cells.now ++ 0x0A ∷ [])) }
     ensures front { TakesFront (W.contents output.old) (W.contents output.new) (row_text cells.now ++ 0x0A ∷ []) }
     ensures fault { IfErr result (λ e. (e ≡ RelayError.Memory) ⊎ (e ≡ RelayError.Write)) }

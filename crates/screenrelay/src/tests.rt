@@ -1,13 +1,14 @@
 //! Whole commands, byte for byte, and faults of readers and writers in mid-stream.
 
-
 use crate::command::command;
 use std::io;
 use std::io::{ErrorKind, Read, Write};
 use std::test::Fail;
 
 const BLANK: &[u8] = b"\x1b[?2026h\x1b[?25h\x1b[m\x1b[H\x1b[J\x1b>\x1b[?1l\x1b[?2004l\x1b[?2026l";
+
 const HI: &[u8] = b"\x1b[?2026h\x1b[?25h\x1b[m\x1b[H\x1b[Jhi\x1b>\x1b[?1l\x1b[?2004l\x1b[?2026l";
+
 const USAGE: &[u8] = b"usage: screenrelay relay|show ROWS COLS\n";
 
 /// What one read does.
@@ -78,9 +79,27 @@ fn commands(rt: HostRuntime) -> Result<(), Fail> {
         (&["relay", "1", "1"], b"", 0, BLANK, b""),
         (&["relay", "24", "80"], b"", 0, BLANK, b""),
         (&["show", "2", "4"], b"abcdxyz", 0, b"abcd\nxyz\n", b""),
-        (&["show", "2", "4"], b"abcd\r\nxyz\r\nk", 0, b"xyz\nk\n", b""),
-        (&["show", "2", "4"], b"abcd\x1b[1;3H\x1b[J\x1b[2CZ", 0, b"ab Z\n\n", b""),
-        (&["relay", "2", "4"], b"abcdxyz", 0, b"\x1b[?2026h\x1b[?25h\x1b[m\x1b[H\x1b[Jabcd\r\nxyz\x1b>\x1b[?1l\x1b[?2004l\x1b[?2026l", b""),
+        (
+            &["show", "2", "4"],
+            b"abcd\r\nxyz\r\nk",
+            0,
+            b"xyz\nk\n",
+            b"",
+        ),
+        (
+            &["show", "2", "4"],
+            b"abcd\x1b[1;3H\x1b[J\x1b[2CZ",
+            0,
+            b"ab Z\n\n",
+            b"",
+        ),
+        (
+            &["relay", "2", "4"],
+            b"abcdxyz",
+            0,
+            b"\x1b[?2026h\x1b[?25h\x1b[m\x1b[H\x1b[Jabcd\r\nxyz\x1b>\x1b[?1l\x1b[?2004l\x1b[?2026l",
+            b"",
+        ),
         (&["relay", "0", "80"], b"hi", 2, b"", USAGE),
         (&["relay", "65536", "4"], b"hi", 2, b"", USAGE),
         (&["relay", "000002", "4"], b"hi", 2, b"", USAGE),
@@ -107,7 +126,11 @@ fn commands(rt: HostRuntime) -> Result<(), Fail> {
 fn readers(rt: HostRuntime) -> Result<(), Fail> {
     let rows: [(&'static [Step], u8, &[u8], &[u8]); 3] = [
         (
-            &[Step::Give(b"hi"), Step::Fail(ErrorKind::BrokenPipe), Step::Give(b"x")],
+            &[
+                Step::Give(b"hi"),
+                Step::Fail(ErrorKind::BrokenPipe),
+                Step::Give(b"x"),
+            ],
             1,
             b"",
             b"screenrelay: read\n",
@@ -119,7 +142,11 @@ fn readers(rt: HostRuntime) -> Result<(), Fail> {
             b"",
         ),
         (
-            &[Step::Give(b"h"), Step::Fail(ErrorKind::Interrupted), Step::Give(b"i")],
+            &[
+                Step::Give(b"h"),
+                Step::Fail(ErrorKind::Interrupted),
+                Step::Give(b"i"),
+            ],
             0,
             HI,
             b"",
@@ -129,7 +156,13 @@ fn readers(rt: HostRuntime) -> Result<(), Fail> {
         let mut written = Vec::new(rt.alloc());
         let mut told = Vec::new(rt.alloc());
         let mut input = Steps { steps };
-        let answer = command(rt.alloc(), &["relay", "2", "4"], &mut input, &mut written, &mut told);
+        let answer = command(
+            rt.alloc(),
+            &["relay", "2", "4"],
+            &mut input,
+            &mut written,
+            &mut told,
+        );
         assert_eq!(rt; answer, status);
         assert_eq!(rt; written.as_slice(), output);
         assert_eq!(rt; told.as_slice(), errors);
@@ -154,10 +187,20 @@ fn writers(rt: HostRuntime) -> Result<(), Fail> {
         };
         let mut told = Vec::new(rt.alloc());
         let mut left = input;
-        let answer = command(rt.alloc(), &[job, "2", "4"], &mut left, &mut written, &mut told);
+        let answer = command(
+            rt.alloc(),
+            &[job, "2", "4"],
+            &mut left,
+            &mut written,
+            &mut told,
+        );
         assert_eq!(rt; answer, status);
         assert_eq!(rt; written.kept.len(), taken);
-        let line: &[u8] = if status == 0 { b"" } else { b"screenrelay: write\n" };
+        let line: &[u8] = if status == 0 {
+            b""
+        } else {
+            b"screenrelay: write\n"
+        };
         assert_eq!(rt; told.as_slice(), line);
     }
     Ok(())

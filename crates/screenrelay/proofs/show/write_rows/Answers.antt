@@ -1,5 +1,4 @@
-use Rattle.std.proofs.Common.{◌≡◌, ℕ, suc, List, [], ◌∷◌, ◌++◌, ◌+◌, ◌-◌, ◌*◌, take, drop, length, ap, sym, ◌∙◌, append_assoc, arith}
-use Rattle.std.specs.Io.KnownBytes.{Appends}
+use Rattle.std.proofs.Common.{◌≡◌, ℕ, suc, List, [], ◌∷◌, ◌++◌, ◌+◌, ◌-◌, ◌*◌, take, drop, ap, ◌∙◌, append_assoc, arith}
 use Rattle.screenrelay.specs.Output.{TakesFront}
 use Rattle.screenrelay.specs.Sheet.{page_text, row_text, rows_text}
 use Rattle.screenrelay.proofs.OutputLemmas.{TakesFront-after, TakesFront-part, Appends-more, rows_text-next}
@@ -15,9 +14,9 @@ returns-in_err-write_row-clause-front g c =
     let cells = c.loop-i.cells.now in
     let line : List ℕ = row_text (take cols cells) ++ (0x0A ∷ []) in
     let page : page_text c.args.sheet.now ≡ so_far.written ++ (line ++ rows_text m cols (drop cols cells)) =
-        so_far.follows ∙ ap (λ j. so_far.written ++ rows_text j cols cells) more ∙ simp append_assoc in
+    so_far.follows ∙ ap (λ j. so_far.written ++ rows_text j cols cells) more ∙ simp append_assoc in
     let front : TakesFront (g.W.Write.contents c.loop-i.output) (g.W.Write.contents c.write_row.new.output) line =
-        rw c.split_at.ensures.front at c.write_row.ensures.front in
+    rw c.split_at.ensures.front at c.write_row.ensures.front in
     rw page (TakesFront-after _ _ _ so_far.written line (rows_text m cols (drop cols cells)) so_far.took front)
 
 pub loop-i-preserved : goal.loop-i-preserved
