@@ -35,27 +35,27 @@ text_closed [] = []
 text_closed (a ∷ t) = Print 0xFFFD ∷ []
 
 abbrev pub closed_heard : (n : ℕ) → State → Parser n → Parser n → List Event
-closed_heard n s.Text old new = text_closed old.unfinished
+closed_heard n s.Ground old new = text_closed old.unfinished
 closed_heard n s.Escape old new = []
 closed_heard n s.Csi old new = []
-closed_heard n s.Osc old new = osc_event new.osc false ∷ []
-closed_heard n s.Hook old new = []
-closed_heard n s.Device old new = Unhook ∷ []
-closed_heard n s.Swallowed old new = []
+closed_heard n s.OscString old new = osc_event new.osc false ∷ []
+closed_heard n s.DcsHeader old new = []
+closed_heard n s.DcsPassthrough old new = Unhook ∷ []
+closed_heard n s.SosPmApcString old new = []
 
 abbrev pub byte_heard : (n : ℕ) → State → Parser n → Parser n → ℕ → List Event
-byte_heard n s.Text old new b = text_told old.unfinished b
+byte_heard n s.Ground old new b = text_told old.unfinished b
 byte_heard n s.Escape old new b =
     if ends_escape b then (if is_abort b then Execute b ∷ [] else final_heard old.intermediates b) else told is_control Execute b
 byte_heard n s.Csi old new b =
     if ends_header b then (if is_abort b then Execute b ∷ [] else (if is_kept old.header.phase then csi_event new.header b ∷ [] else []))
     else told is_control Execute b
-byte_heard n s.Osc old new b = if ends_osc b then osc_event new.osc (b == 0x07) ∷ told is_abort Execute b else []
-byte_heard n s.Hook old new b =
+byte_heard n s.OscString old new b = if ends_osc b then osc_event new.osc (b == 0x07) ∷ told is_abort Execute b else []
+byte_heard n s.DcsHeader old new b =
     if ends_header b then (if is_abort b then Execute b ∷ [] else (if is_kept old.header.phase then hook_event new.header b ∷ [] else []))
     else []
-byte_heard n s.Device old new b = byte_told n InDevice b
-byte_heard n s.Swallowed old new b = byte_told n InSwallowed b
+byte_heard n s.DcsPassthrough old new b = byte_told n InDevice b
+byte_heard n s.SosPmApcString old new b = byte_told n InSwallowed b
 
 abbrev pub heard : (n : ℕ) → Parser n → Parser n → ℕ → List Event
 heard n old new b = if is_esc b then closed_heard n old.state old new else byte_heard n old.state old new b

@@ -4,7 +4,6 @@ pub mod Bytes
 pub mod Text
 pub mod Header
 pub mod Shapes
-pub mod Rows
 pub mod Pending
 pub mod Store
 pub mod Reading
@@ -12,4 +11,5 @@ pub mod Phases
 pub mod Standing
 pub mod Stopping
 pub mod Heard
+pub mod Laws
 pub mod Told

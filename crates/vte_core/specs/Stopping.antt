@@ -1,9 +1,9 @@
 -- Where `advance_until_terminated` stops.
-use Rattle.std.specs.Prelude.{◌≡◌, ℕ, suc, Bool, true, false, not, ◌&&◌, List, [], ◌∷◌}
+use Rattle.std.specs.Prelude.{◌≡◌, ℕ, zero, suc, take, drop, Bool, true, false, not, ◌&&◌, List, [], ◌∷◌}
 use Rattle.std.specs.Bool.{MatchBool}
 use Rattle.vte_core.specs.Event.{Event, Performs}
 use Rattle.vte_core.specs.Bytes.{is_esc}
-use Rattle.vte_core.specs.Pending.{Pending, InText, InEscape, InCsi, InOsc, InHook, InDevice, InSwallowed, events_of_byte, after_byte}
+use Rattle.vte_core.specs.Pending.{Pending, InText, InEscape, InCsi, InOsc, InHook, InDevice, InSwallowed, events_of_byte, after_byte, events_from, after_bytes}
 
 abbrev pub is_text : Pending → Bool
 is_text (InText u) = true
@@ -25,3 +25,16 @@ StopsAt step terminated n q asked [] old k new = (k ≡ 0) × (new ≡ old)
 StopsAt {S} step terminated n q asked (b ∷ bs) old k new =
     MatchBool (asked && terminated old) ((k ≡ 0) × (new ≡ old))
     ((mid : S) × (j : ℕ) × (k ≡ suc j) × Performs step old (events_of_byte n q b) mid × StopsAt step terminated n (after_byte q b) (not (runs_on q b bs)) bs mid j new)
+
+-- whether the performer is asked after the first m of the bytes, where it was asked before them or not
+abbrev pub asks_at : Pending → Bool → List ℕ → ℕ → Bool
+asks_at q asked bs zero = asked
+asks_at q asked [] (suc m) = true
+asks_at q asked (b ∷ bs) (suc m) = asks_at (after_byte q b) (not (runs_on q b bs)) bs m
+
+-- of the k bytes read the performer has gone through the first m, was not terminated then, and has gone through the others
+pub record PassedBy {S : Type 0} (step : S → Event → S → Type 0) (terminated : S → Bool) (n : ℕ) (q : Pending) (bs : List ℕ) (m : ℕ) (old : S) (k : ℕ) (new : S) : Type 0 where
+  pub mid : S
+  pub before : Performs step old (events_from n q (take m bs)) mid
+  pub goes_on : terminated mid ≡ false
+  pub after : Performs step mid (events_from n (after_bytes q (take m bs)) (drop m (take k bs))) new

@@ -1,4 +1,5 @@
-//! The header of a CSI or a device string, byte by byte.
+//! The header of a control sequence or a device control string: the bytes 0x20 to 0x3F before the final byte
+//! (ECMA-48, section 5.4).
 
 ghost use Rattle.std.specs.Prelude.{◌≡◌, ◌+◌, ◌<◌, ◌≤◌, ℕ, Bool, List, [], ◌∷◌, ◌++◌, length, IsTrue, if◌then◌else◌};
 ghost use Rattle.vte_core.specs.Bytes.{is_header, is_private, is_numeric, is_intermediate};
@@ -7,15 +8,17 @@ ghost use Rattle.vte_core.specs.Event.{Csi, Hook};
 ghost use Rattle.vte_core.specs.Heard.{csi_event, hook_event};
 ghost use Rattle.vte_core.specs.Phases.{ReadsHeader, next_by, is_kept};
 
+use crate::Perform;
 use crate::intermediates::Intermediates;
 use crate::numbers::Numbers;
-use crate::Perform;
 
+/// How far a header has come.
 #[derive(Clone, Copy)]
 pub enum Phase {
     Start,
     InNumbers,
     InIntermediates,
+    /// A byte stood where it must not, so the sequence is ignored.
     Ignored,
 }
 
@@ -27,18 +30,21 @@ pub struct Header {
     pub intermediates: Intermediates,
 }
 
+/// Whether the byte is a digit, `:` or `;`.
 fn is_numeric(byte: u8) -> bool
     ensures { result ≡ is_numeric byte }
 {
     (0x30..=0x3B).contains(&byte)
 }
 
+/// Whether the byte is an intermediate.
 fn is_intermediate(byte: u8) -> bool
     ensures { result ≡ is_intermediate byte }
 {
     (0x20..=0x2F).contains(&byte)
 }
 
+/// The phase after one more byte of a header.
 fn next_phase(phase: Phase, byte: u8) -> Phase
     ensures { result ≡ next_by (is_numeric byte) (is_intermediate byte) phase }
 {
@@ -52,6 +58,7 @@ fn next_phase(phase: Phase, byte: u8) -> Phase
     }
 }
 
+/// Whether a header that ends here is told.
 fn is_kept(phase: Phase) -> bool
     ensures { result ≡ is_kept phase }
 {
@@ -62,6 +69,7 @@ fn is_kept(phase: Phase) -> bool
 }
 
 impl Header {
+    /// An empty header.
     pub fn new() -> Self
         ensures { ReadsHeader result [] }
     {
@@ -72,6 +80,7 @@ impl Header {
         }
     }
 
+    /// Begins a header.
     pub fn clear(&mut self)
         ensures { ReadsHeader self.new [] }
     {
@@ -80,6 +89,7 @@ impl Header {
         self.intermediates.clear();
     }
 
+    /// One more byte.
     pub fn push(&mut self, byte: u8)
         requires { IsTrue (is_header byte) }
         ensures { (h : List ℕ) → ReadsHeader self.old h → ReadsHeader self.new (h ++ byte ∷ []) }
@@ -92,7 +102,7 @@ impl Header {
         }
     }
 
-    /// Whether a CSI or a device string with this header is told of.
+    /// Whether a sequence with this header is told.
     pub fn is_kept(&self) -> bool
         ensures kept { result ≡ is_kept self.now.phase }
         ensures well_formed { (h : List ℕ) → ReadsHeader self.now h → result ≡ is_well_formed h }
@@ -100,7 +110,7 @@ impl Header {
         is_kept(self.phase)
     }
 
-    /// The final byte of a CSI.
+    /// The final byte of a control sequence.
     pub fn csi<P: Perform>(&mut self, performer: &mut P, byte: u8)
         ensures told { P.step performer.old (csi_event self.new byte) performer.new }
         ensures is_told { (h : List ℕ) → ReadsHeader self.old h → csi_event self.new byte ≡ Csi (kept_groups h) (kept_intermediates h) (overflows h) byte }
@@ -117,7 +127,7 @@ impl Header {
         );
     }
 
-    /// The final byte of a device string's header.
+    /// The final byte of a device control string's header.
     pub fn hook<P: Perform>(&mut self, performer: &mut P, byte: u8)
         ensures told { P.step performer.old (hook_event self.new byte) performer.new }
         ensures is_told { (h : List ℕ) → ReadsHeader self.old h → hook_event self.new byte ≡ Hook (kept_groups h) (kept_intermediates h) (overflows h) byte }

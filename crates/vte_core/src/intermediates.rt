@@ -1,17 +1,20 @@
-//! The intermediates of an escape or a header.
+//! The intermediates of an escape sequence or a header: two are kept.
 
 ghost use Rattle.std.specs.Prelude.{◌≡◌, List, ℕ, [], ◌∷◌, ◌++◌};
 ghost use Rattle.vte_core.specs.Reading.{KeepsTwo};
 
 use arrayvec::ArrayVec;
 
+/// The first two intermediates.
 #[derive(Drop)]
 pub struct Intermediates {
     pub kept: ArrayVec<u8, 2>,
+    /// There were more.
     pub many: bool,
 }
 
 impl Intermediates {
+    /// None.
     pub fn new() -> Self
         ensures { KeepsTwo result [] }
     {
@@ -21,6 +24,7 @@ impl Intermediates {
         }
     }
 
+    /// Drops them.
     pub fn clear(&mut self)
         ensures { KeepsTwo self.new [] }
     {
@@ -28,6 +32,7 @@ impl Intermediates {
         self.many = false;
     }
 
+    /// One more.
     pub fn push(&mut self, byte: u8)
         ensures { (is : List ℕ) → KeepsTwo self.old is → KeepsTwo self.new (is ++ byte ∷ []) }
     {

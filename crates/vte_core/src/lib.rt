@@ -1,4 +1,16 @@
-//! Bytes to events.
+//! The bytes that a program writes to its terminal, as events.
+//!
+//! A [`Parser`] reads bytes in pieces of any lengths and tells a [`Perform`]er what they say: the characters of ground
+//! text, controls, escape sequences, control sequences, operating system commands and device control strings. The events
+//! depend on the joined bytes alone, never on where they were cut.
+//!
+//! The sequences are those of ECMA-48 (fifth edition, sections 5.3 to 5.6) with the rules that DEC's terminals and xterm
+//! add: CAN and SUB end any sequence and are executed, ESC ends any sequence and begins a new one, controls inside an
+//! escape or control sequence are executed at once, DEL is dropped there, and BEL ends an operating system command.
+//! Ground text is UTF-8 (the Unicode Standard, section 3.9, table 3-7).
+//!
+//! Nothing is allocated. A parser keeps 32 numbers and 2 intermediates of a sequence, and of an operating system command
+//! its first N data bytes in 16 pieces.
 #![tactic(auto)]
 
 ghost use Rattle.std.specs.Prelude.{◌≡◌, ◌≢◌, ◌+◌, ◌<◌, ◌≤◌, ℕ, Bool, List, [], ◌∷◌, ◌++◌, length, IsTrue, take, drop};
@@ -16,38 +28,47 @@ ghost use Rattle.vte_core.specs.Bytes.{is_esc};
 mod event;
 mod header;
 mod intermediates;
+pub mod laws;
 mod numbers;
 mod osc_data;
 mod params;
 mod perform;
+#[cfg(test)]
+mod tests;
 mod unfinished;
 
 pub use event::Event;
-pub use params::{Params, ParamsIter};
-pub use perform::Perform;
-
 use header::Header;
 use intermediates::Intermediates;
 use osc_data::OscData;
+pub use params::{Params, ParamsIter};
+pub use perform::Perform;
 use unfinished::Unfinished;
 
+/// What the bytes so far have begun.
 #[derive(Clone, Copy)]
 enum State {
-    Text,
+    Ground,
     Escape,
     Csi,
-    Osc,
-    Hook,
-    Device,
-    Swallowed,
+    OscString,
+    DcsHeader,
+    DcsPassthrough,
+    SosPmApcString,
 }
 
-/// Reads bytes and tells a performer of their events. It keeps N bytes of an OSC.
+/// Reads bytes and tells a performer of their events. It keeps the first N data bytes of an operating system command.
+///
+/// Each call's contract speaks of every past at which the parser stands: the bytes that it has read since it was made.
+/// A new parser stands at the empty past.
 #[derive(Drop)]
 pub struct Parser<const N: usize> {
     state: State,
+    /// The first bytes of a character in ground text.
     unfinished: Unfinished,
+    /// Those of an escape sequence.
     intermediates: Intermediates,
+    /// The header of a control sequence or a device control string.
     header: Header,
     osc: OscData<N>,
 }
@@ -75,7 +96,7 @@ impl<const N: usize> Parser<N> {
         ensures { Stands N result [] }
     {
         Parser {
-            state: State::Text,
+            state: State::Ground,
             unfinished: Unfinished::new(),
             intermediates: Intermediates::new(),
             header: Header::new(),
@@ -83,28 +104,28 @@ impl<const N: usize> Parser<N> {
         }
     }
 
-    /// ESC.
-    fn esc<P: Perform>(&mut self, performer: &mut P)
+    /// ESC ends what was begun, and begins an escape sequence.
+    fn begin_escape<P: Perform>(&mut self, performer: &mut P)
         ensures stands { (q : Pending) → IsAt N self.old q → IsAt N self.new (InEscape []) }
         ensures told { Performs P.step performer.old (closed_heard N self.old.state self.old self.new) performer.new }
         ensures is_told { (q : Pending) → IsAt N self.old q → closed_heard N self.old.state self.old self.new ≡ closed N q }
     {
         match self.state {
-            State::Text => {
+            State::Ground => {
                 if !self.unfinished.is_empty() {
                     self.unfinished.clear();
                     performer.print('\u{FFFD}');
                 }
             }
-            State::Osc => self.osc.dispatch(performer, false),
-            State::Device => performer.unhook(),
+            State::OscString => self.osc.dispatch(performer, false),
+            State::DcsPassthrough => performer.unhook(),
             _ => {}
         }
         self.state = State::Escape;
         self.intermediates.clear();
     }
 
-    /// A byte of an escape, other than ESC.
+    /// A byte of an escape sequence, other than ESC.
     fn escape<P: Perform>(&mut self, performer: &mut P, byte: u8)
         requires state { self.old.state ≡ State.Escape }
         requires not_esc { byte ≢ 0x1B }
@@ -114,18 +135,18 @@ impl<const N: usize> Parser<N> {
     {
         match byte {
             0x18 | 0x1A => {
-                self.state = State::Text;
+                self.state = State::Ground;
                 performer.execute(byte);
             }
             0x00..=0x1F => performer.execute(byte),
             0x20..=0x2F => self.intermediates.push(byte),
-            0x30..=0x7E => self.introduced(performer, byte),
+            0x30..=0x7E => self.end_escape(performer, byte),
             _ => {}
         }
     }
 
-    /// The final byte of an escape.
-    fn introduced<P: Perform>(&mut self, performer: &mut P, byte: u8)
+    /// The final byte of an escape sequence: it begins a control sequence or a string, or is told.
+    fn end_escape<P: Perform>(&mut self, performer: &mut P, byte: u8)
         requires { self.old.state ≡ State.Escape }
         ensures stands { (is : List ℕ) → IsAt N self.old (InEscape is) → IsAt N self.new (final_rest is byte) }
         ensures told { Performs P.step performer.old (final_heard self.old.intermediates byte) performer.new }
@@ -138,16 +159,16 @@ impl<const N: usize> Parser<N> {
                 self.header.clear();
             }
             b']' if plain => {
-                self.state = State::Osc;
+                self.state = State::OscString;
                 self.osc.clear();
             }
             b'P' if plain => {
-                self.state = State::Hook;
+                self.state = State::DcsHeader;
                 self.header.clear();
             }
-            b'X' | b'^' | b'_' if plain => self.state = State::Swallowed,
+            b'X' | b'^' | b'_' if plain => self.state = State::SosPmApcString,
             _ => {
-                self.state = State::Text;
+                self.state = State::Ground;
                 performer.esc_dispatch(
                     self.intermediates.kept.as_slice(),
                     self.intermediates.many,
@@ -157,7 +178,7 @@ impl<const N: usize> Parser<N> {
         }
     }
 
-    /// A byte of a CSI, other than ESC.
+    /// A byte of a control sequence, other than ESC.
     fn csi<P: Perform>(&mut self, performer: &mut P, byte: u8)
         requires state { self.old.state ≡ State.Csi }
         requires not_esc { byte ≢ 0x1B }
@@ -167,13 +188,13 @@ impl<const N: usize> Parser<N> {
     {
         match byte {
             0x18 | 0x1A => {
-                self.state = State::Text;
+                self.state = State::Ground;
                 performer.execute(byte);
             }
             0x00..=0x1F => performer.execute(byte),
             0x20..=0x3F => self.header.push(byte),
             0x40..=0x7E => {
-                self.state = State::Text;
+                self.state = State::Ground;
                 if self.header.is_kept() {
                     self.header.csi(performer, byte);
                 }
@@ -182,22 +203,22 @@ impl<const N: usize> Parser<N> {
         }
     }
 
-    /// A byte of an OSC, other than ESC.
-    fn osc<P: Perform>(&mut self, performer: &mut P, byte: u8)
-        requires state { self.old.state ≡ State.Osc }
+    /// A byte of an operating system command, other than ESC.
+    fn osc_string<P: Perform>(&mut self, performer: &mut P, byte: u8)
+        requires state { self.old.state ≡ State.OscString }
         requires not_esc { byte ≢ 0x1B }
         ensures stands { (q : Pending) → IsAt N self.old q → IsAt N self.new (byte_rest q byte) }
-        ensures told { Performs P.step performer.old (byte_heard N State.Osc self.old self.new byte) performer.new }
-        ensures is_told { (q : Pending) → IsAt N self.old q → byte_heard N State.Osc self.old self.new byte ≡ byte_told N q byte }
+        ensures told { Performs P.step performer.old (byte_heard N State.OscString self.old self.new byte) performer.new }
+        ensures is_told { (q : Pending) → IsAt N self.old q → byte_heard N State.OscString self.old self.new byte ≡ byte_told N q byte }
     {
         match byte {
             0x18 | 0x1A => {
-                self.state = State::Text;
+                self.state = State::Ground;
                 self.osc.dispatch(performer, false);
                 performer.execute(byte);
             }
             0x07 => {
-                self.state = State::Text;
+                self.state = State::Ground;
                 self.osc.dispatch(performer, true);
             }
             0x00..=0x1F => {}
@@ -205,63 +226,62 @@ impl<const N: usize> Parser<N> {
         }
     }
 
-    /// A byte of a device string's header, other than ESC.
-    fn hook<P: Perform>(&mut self, performer: &mut P, byte: u8)
-        requires { self.old.state ≡ State.Hook }
+    /// A byte of a device control string's header, other than ESC.
+    fn dcs_header<P: Perform>(&mut self, performer: &mut P, byte: u8)
+        requires { self.old.state ≡ State.DcsHeader }
         ensures stands { (q : Pending) → IsAt N self.old q → IsAt N self.new (byte_rest q byte) }
-        ensures told { Performs P.step performer.old (byte_heard N State.Hook self.old self.new byte) performer.new }
-        ensures is_told { (q : Pending) → IsAt N self.old q → byte_heard N State.Hook self.old self.new byte ≡ byte_told N q byte }
+        ensures told { Performs P.step performer.old (byte_heard N State.DcsHeader self.old self.new byte) performer.new }
+        ensures is_told { (q : Pending) → IsAt N self.old q → byte_heard N State.DcsHeader self.old self.new byte ≡ byte_told N q byte }
     {
         match byte {
             0x18 | 0x1A => {
-                self.state = State::Text;
+                self.state = State::Ground;
                 performer.execute(byte);
             }
             0x20..=0x3F => self.header.push(byte),
             0x40..=0x7E => {
                 if self.header.is_kept() {
-                    self.state = State::Device;
+                    self.state = State::DcsPassthrough;
                     self.header.hook(performer, byte);
                 } else {
-                    self.state = State::Swallowed;
+                    self.state = State::SosPmApcString;
                 }
             }
             _ => {}
         }
     }
 
-    /// A byte of a device string's data, other than ESC.
-    fn device<P: Perform>(&mut self, performer: &mut P, byte: u8)
-        requires { self.old.state ≡ State.Device }
+    /// A byte of a device control string's data, other than ESC. 0x9C is ST as one byte.
+    fn dcs_passthrough<P: Perform>(&mut self, performer: &mut P, byte: u8)
+        requires { self.old.state ≡ State.DcsPassthrough }
         ensures stands { (q : Pending) → IsAt N self.old q → IsAt N self.new (byte_rest q byte) }
-        ensures told { Performs P.step performer.old (byte_heard N State.Device self.old self.new byte) performer.new }
-        ensures is_told { (q : Pending) → IsAt N self.old q → byte_heard N State.Device self.old self.new byte ≡ byte_told N q byte }
+        ensures told { Performs P.step performer.old (byte_heard N State.DcsPassthrough self.old self.new byte) performer.new }
+        ensures is_told { (q : Pending) → IsAt N self.old q → byte_heard N State.DcsPassthrough self.old self.new byte ≡ byte_told N q byte }
     {
         match byte {
-            0x18 | 0x1A => {
-                self.state = State::Text;
+            0x18 | 0x1A | 0x9C => {
+                self.state = State::Ground;
                 performer.unhook();
-                performer.execute(byte);
-            }
-            0x9C => {
-                self.state = State::Text;
-                performer.unhook();
+                if byte != 0x9C {
+                    performer.execute(byte);
+                }
             }
             0x00..=0x7E => performer.put(byte),
             _ => {}
         }
     }
 
-    /// A byte of a swallowed string, other than ESC.
-    fn swallowed<P: Perform>(&mut self, performer: &mut P, byte: u8)
-        requires { self.old.state ≡ State.Swallowed }
+    /// A byte of a start of string, a privacy message, an application program command or an ignored device control
+    /// string, other than ESC.
+    fn sos_pm_apc_string<P: Perform>(&mut self, performer: &mut P, byte: u8)
+        requires { self.old.state ≡ State.SosPmApcString }
         ensures stands { (q : Pending) → IsAt N self.old q → IsAt N self.new (byte_rest q byte) }
-        ensures told { Performs P.step performer.old (byte_heard N State.Swallowed self.old self.new byte) performer.new }
-        ensures is_told { (q : Pending) → IsAt N self.old q → byte_heard N State.Swallowed self.old self.new byte ≡ byte_told N q byte }
+        ensures told { Performs P.step performer.old (byte_heard N State.SosPmApcString self.old self.new byte) performer.new }
+        ensures is_told { (q : Pending) → IsAt N self.old q → byte_heard N State.SosPmApcString self.old self.new byte ≡ byte_told N q byte }
     {
         match byte {
             0x18 | 0x1A => {
-                self.state = State::Text;
+                self.state = State::Ground;
                 performer.execute(byte);
             }
             _ => {}
@@ -269,11 +289,11 @@ impl<const N: usize> Parser<N> {
     }
 
     /// A byte of ground text, other than ESC.
-    fn text<P: Perform>(&mut self, performer: &mut P, byte: u8)
-        requires { self.old.state ≡ State.Text }
+    fn ground<P: Perform>(&mut self, performer: &mut P, byte: u8)
+        requires { self.old.state ≡ State.Ground }
         ensures stands { (q : Pending) → IsAt N self.old q → IsAt N self.new (byte_rest q byte) }
-        ensures told { Performs P.step performer.old (byte_heard N State.Text self.old self.new byte) performer.new }
-        ensures is_told { (q : Pending) → IsAt N self.old q → byte_heard N State.Text self.old self.new byte ≡ byte_told N q byte }
+        ensures told { Performs P.step performer.old (byte_heard N State.Ground self.old self.new byte) performer.new }
+        ensures is_told { (q : Pending) → IsAt N self.old q → byte_heard N State.Ground self.old self.new byte ≡ byte_told N q byte }
     {
         self.unfinished.byte(performer, byte);
     }
@@ -285,21 +305,22 @@ impl<const N: usize> Parser<N> {
         ensures is_told { (q : Pending) → IsAt N self.old q → heard N self.old self.new byte ≡ events_of_byte N q byte }
     {
         if byte == 0x1B {
-            self.esc(performer);
+            self.begin_escape(performer);
             return;
         }
         match self.state {
-            State::Text => self.text(performer, byte),
+            State::Ground => self.ground(performer, byte),
             State::Escape => self.escape(performer, byte),
             State::Csi => self.csi(performer, byte),
-            State::Osc => self.osc(performer, byte),
-            State::Hook => self.hook(performer, byte),
-            State::Device => self.device(performer, byte),
-            State::Swallowed => self.swallowed(performer, byte),
+            State::OscString => self.osc_string(performer, byte),
+            State::DcsHeader => self.dcs_header(performer, byte),
+            State::DcsPassthrough => self.dcs_passthrough(performer, byte),
+            State::SosPmApcString => self.sos_pm_apc_string(performer, byte),
         }
     }
 
-    /// Reads bytes.
+    /// Reads the next bytes of the stream, and tells the performer of their events, in order. A character or a sequence
+    /// that the bytes leave unfinished is kept for the next call.
     pub fn advance<P: Perform>(&mut self, performer: &mut P, bytes: &[u8])
         ensures stands { (past : List ℕ) → Stands N self.old past → Stands N self.new (past ++ bytes.now) }
         ensures told { Told P.step N self.old performer.old bytes.now performer.new }
@@ -309,8 +330,9 @@ impl<const N: usize> Parser<N> {
         }
     }
 
-    /// Reads bytes until the performer is terminated. It is asked before the first byte, after each byte of a
-    /// sequence, and after each run of ground text.
+    /// Reads bytes until the performer is terminated, and returns how many it read; the caller gives the others again.
+    /// The performer is asked before the first byte, after each byte of a sequence, and after each run of ground text,
+    /// up to the next ESC or to the end of the bytes; never inside a run.
     pub fn advance_until_terminated<P: Perform>(&mut self, performer: &mut P, bytes: &[u8]) -> usize
         ensures within { result ≤ length bytes.now }
         ensures stands { (past : List ℕ) → Stands N self.old past → Stands N self.new (past ++ take result bytes.now) }
@@ -331,10 +353,11 @@ impl<const N: usize> Parser<N> {
     }
 }
 
+/// Whether the parser reads ground text.
 fn is_text(state: State) -> bool
     ensures { result ≡ state_is_text state }
 {
-    matches!(state, State::Text)
+    matches!(state, State::Ground)
 }
 
 /// Whether the performer is asked after this byte.

@@ -1,4 +1,4 @@
-//! The numbers of a header.
+//! The numbers of a header, digit by digit: 32 are kept, in their groups.
 
 ghost use Rattle.std.specs.Prelude.{◌≡◌, ◌+◌, ◌-◌, ◌*◌, ◌<◌, ◌≤◌, ◌^◌, ℕ, List, [], ◌∷◌, ◌++◌, length, min, IsTrue};
 ghost use Rattle.vte_core.specs.Bytes.{is_numeric};
@@ -7,13 +7,17 @@ ghost use Rattle.vte_core.specs.Store.{total};
 use crate::Params;
 use arrayvec::ArrayVec;
 
+/// How many numbers are kept.
+const MAX_PARAMS: usize = 32;
+
+/// The first 32 numbers.
 #[derive(Drop)]
 pub struct Numbers {
     /// The groups that are whole.
     pub params: Params,
     /// The whole numbers of the last group.
     pub group: ArrayVec<u16, 32>,
-    /// The last number.
+    /// The last number, at most 65,535.
     pub number: u16,
     /// A number was begun or ended past the 32 that are kept.
     pub many: bool,
@@ -25,6 +29,7 @@ impl Numbers {
     ghost use Rattle.vte_core.specs.Header.{groups_of, first_numbers};
     ghost use Rattle.std.specs.Prelude.{nat_lt};
 
+    /// The numbers of an empty header.
     pub fn new() -> Self
         ensures { ReadsNumbers result [] }
     {
@@ -36,6 +41,7 @@ impl Numbers {
         }
     }
 
+    /// Begins a header.
     pub fn clear(&mut self)
         ensures { ReadsNumbers self.new [] }
     {
@@ -45,6 +51,7 @@ impl Numbers {
         self.many = false;
     }
 
+    /// A digit of the last number.
     fn digit(&mut self, digit: u8)
         requires { digit < 10 }
         ensures { (gs : List (List ℕ)) (g : List ℕ) (n : ℕ) → Holds self.old gs g n → Holds self.new gs g (min 65535 (n * 10 + digit)) }
@@ -52,18 +59,20 @@ impl Numbers {
         self.number = self.number.saturating_mul(10).saturating_add(digit as u16);
     }
 
+    /// The last number is whole.
     fn end_number(&mut self)
         ensures { (gs : List (List ℕ)) (g : List ℕ) (n : ℕ) → Holds self.old gs g n → Holds self.new gs (g ++ n ∷ []) 0 }
     {
         let number = self.number;
         self.number = 0;
-        if self.params.len() + self.group.len() < 32 {
+        if self.params.len() + self.group.len() < MAX_PARAMS {
             self.group.push(number);
             return;
         }
         self.many = true;
     }
 
+    /// The last group is whole.
     fn end_group(&mut self)
         ensures { (gs : List (List ℕ)) (g : List ℕ) (n : ℕ) → Holds self.old gs g n → 0 < length g → Holds self.new (gs ++ g ∷ []) [] n }
     {

@@ -1,4 +1,4 @@
-//! The data of an OSC, byte by byte.
+//! The data of an operating system command, byte by byte: the first N bytes, in the first 16 pieces.
 
 ghost use Rattle.std.specs.Prelude.{◌≡◌, ◌+◌, ◌<◌, ◌≤◌, ℕ, List, [], ◌∷◌, ◌++◌, length, take, map, IsTrue};
 ghost use Rattle.vte_core.specs.Event.{Osc as OscEvent};
@@ -10,10 +10,11 @@ use crate::Perform;
 use arrayvec::ArrayVec;
 use std::marker::Model;
 
-/// What is kept of an OSC.
+/// What is kept of the data.
 #[derive(Drop)]
 pub struct OscData<const N: usize> {
     bytes: ArrayVec<u8, N>,
+    /// Where each piece ends that is whole.
     ends: ArrayVec<usize, 16>,
 }
 
@@ -28,7 +29,7 @@ impl<const N: usize> Model for OscData<N> {
     ghost invariant = { λ x. EndsRise 0 x.ends.items x.bytes.items };
 }
 
-/// Tells of an OSC, whose pieces end at these places.
+/// Tells a command, whose pieces end at these places.
 fn tell<P: Perform>(performer: &mut P, bytes: &[u8], ends: &[usize], bell_terminated: bool)
     requires few { length ends.now ≤ 16 }
     requires rise { EndsRise 0 ends.now bytes.now }
@@ -44,6 +45,7 @@ fn tell<P: Perform>(performer: &mut P, bytes: &[u8], ends: &[usize], bell_termin
 }
 
 impl<const N: usize> OscData<N> {
+    /// The data of an empty command.
     pub fn new() -> Self
         ensures { ReadsOsc N result [] }
     {
@@ -53,6 +55,7 @@ impl<const N: usize> OscData<N> {
         }
     }
 
+    /// Begins a command.
     pub fn clear(&mut self)
         ensures { ReadsOsc N self.new [] }
     {
@@ -60,7 +63,7 @@ impl<const N: usize> OscData<N> {
         self.ends.clear();
     }
 
-    /// A byte of data, or `;`.
+    /// A byte of data, or `;`, which isn't data: it begins a piece even where no more data is kept.
     pub fn push(&mut self, byte: u8)
         ensures { (s : List ℕ) → ReadsOsc N self.old s → ReadsOsc N self.new (s ++ byte ∷ []) }
     {
@@ -83,7 +86,7 @@ impl<const N: usize> OscData<N> {
         self.ends.push(self.bytes.len());
     }
 
-    /// The OSC ends.
+    /// The command ends.
     pub fn dispatch<P: Perform>(&mut self, performer: &mut P, bell_terminated: bool)
         ensures told { P.step performer.old (osc_event self.new bell_terminated) performer.new }
         ensures is_told { (s : List ℕ) → ReadsOsc N self.old s → cut_at 0 self.new.1 self.new.0 ≡ osc_pieces N s }

@@ -1,16 +1,19 @@
-//! Short lists in one store.
+//! The parameters of a control sequence or a device control string.
 
 ghost use Rattle.std.specs.Prelude.{◌≡◌, ◌+◌, ◌<◌, ◌≤◌, ◌==◌, ℕ, List, [], ◌∷◌, ◌++◌, length, take, map};
 ghost use Rattle.vte_core.specs.Store.{total};
 ghost use Rattle.std.specs.Iterator.{YieldsFirstBy, item_count};
 
 use arrayvec::ArrayVec;
+use std::fmt;
 use std::marker::Model;
 
-/// Lists of numbers, up to 32 in all.
+/// Groups of numbers, up to 32 numbers in all, each at most 65,535. A group is what stands between two `;`; the
+/// subparameters that `:` separates are its numbers (ITU-T T.416, section 13.1.8). A number without digits is 0.
 #[derive(Drop)]
 pub struct Params {
     numbers: ArrayVec<u16, 32>,
+    /// Where each group ends.
     ends: ArrayVec<usize, 32>,
 }
 
@@ -44,19 +47,21 @@ impl Params {
         }
     }
 
-    /// How many numbers there are.
+    /// How many numbers there are, subparameters counted.
     pub fn len(&self) -> usize
         ensures { result ≡ total self.now }
     {
         self.numbers.len()
     }
 
+    /// Whether there is no number.
     pub fn is_empty(&self) -> bool
         ensures { result ≡ (total self.now == 0) }
     {
         self.numbers.is_empty()
     }
 
+    /// Drops all groups.
     pub(crate) fn clear(&mut self)
         ensures { self.new ≡ [] }
     {
@@ -77,7 +82,7 @@ impl Params {
     }
 }
 
-/// The groups that are left.
+/// The groups of a [`Params`] that are left.
 #[derive(Drop)]
 pub struct ParamsIter<'a> {
     numbers: &'a [u16],
@@ -135,4 +140,31 @@ impl<'a> IntoIterator for &'a Params {
     fn into_iter(self) -> Self::IntoIter {
         self.iter()
     }
+}
+
+/// The numbers as they stand in a control sequence: groups joined by `;`, the numbers of a group by `:`.
+impl fmt::Debug for Params {
+    fn fmt<W: fmt::Write>(&self, f: &mut fmt::Formatter<W>) -> fmt::Result {
+        f.write_str("[")?;
+        let mut is_first = true;
+        for group in self {
+            if !is_first {
+                f.write_str(";")?;
+            }
+            write_group(f, group)?;
+            is_first = false;
+        }
+        f.write_str("]")
+    }
+}
+
+/// Writes the numbers of a group, joined by `:`.
+fn write_group<W: fmt::Write>(f: &mut fmt::Formatter<W>, group: &[u16]) -> fmt::Result {
+    for (i, number) in group.iter().enumerate() {
+        if i != 0 {
+            f.write_str(":")?;
+        }
+        write!(f, "{number}")?;
+    }
+    Ok(())
 }

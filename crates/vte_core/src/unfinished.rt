@@ -1,4 +1,7 @@
-//! Ground text: the characters of UTF-8.
+//! Ground text: the characters of UTF-8 (the Unicode Standard, section 3.9, table 3-7), byte by byte.
+//!
+//! A malformed sequence is the longest front of what follows that also begins a well-formed character, at least one byte:
+//! the length that `str::from_utf8` reports.
 
 ghost use Rattle.std.specs.Prelude.{◌≡◌, ◌==◌, ◌+◌, ◌-◌, ◌<◌, ◌≤◌, ℕ, List, [], ◌∷◌, ◌++◌, length, drop, IsTrue, slice_index};
 ghost use Rattle.vte_core.specs.Event.{Event, Print, Execute, Performs};
@@ -134,6 +137,7 @@ impl Model for Unfinished {
 }
 
 impl Unfinished {
+    /// None.
     pub fn new() -> Self
         ensures { result ≡ [] }
     {
@@ -142,12 +146,14 @@ impl Unfinished {
         }
     }
 
+    /// Whether there is none.
     pub fn is_empty(&self) -> bool
         ensures { result ≡ (length self.now == 0) }
     {
         self.bytes.is_empty()
     }
 
+    /// Drops them.
     pub fn clear(&mut self)
         ensures { self.new ≡ [] }
     {

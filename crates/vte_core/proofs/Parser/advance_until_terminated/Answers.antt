@@ -4,7 +4,7 @@ use Rattle.std.specs.Bool.{IsTrue}
 use Rattle.vte_core.specs.Event.{Event}
 use Rattle.vte_core.specs.Bytes.{is_esc}
 use Rattle.vte_core.specs.Heard.{heard}
-use Rattle.vte_core.specs.Pending.{Pending, InText, pending, after_bytes, events_from}
+use Rattle.vte_core.specs.Pending.{events_of_byte, Pending, InText, pending, after_bytes, events_from}
 use Rattle.vte_core.specs.Shapes.{events}
 use Rattle.vte_core.specs.Standing.{IsAt, text_goes_on}
 use Rattle.vte_core.specs.Stopping.{StopsAt}
@@ -56,8 +56,8 @@ loop-i-preserved g c =
           ∙ ap not (sym (runs_on-is now (get_or bs i 0) (drop (i + 1) bs))))) in
           let m : i + suc k ≡ i + 1 + k = omega arith in
           subst (λ j. StopsAt g.P.Perform.step g.P.Perform.is_terminated g.row.N q true bs c.args.performer.now j new) m
-          (inv.stops q h (suc k) new (stop_step g.P.Perform.step g.P.Perform.is_terminated g.row.N now c.loop-i.asked _ bs i c.loop-i.performer c.byte.new.performer k new c.loop-i-test.true
-          quiet (same_events g.P.Perform.step c.loop-i.performer c.byte.new.performer _ _ (c.byte.ensures.is_told now at) c.byte.ensures.told) asks
+          (inv.stops q h (suc k) new (stop_step g.P.Perform.step g.P.Perform.is_terminated g.row.N now c.loop-i.asked c.asks_after-asked.result bs i c.loop-i.performer c.byte.new.performer k new c.loop-i-test.true
+          quiet (same_events g.P.Perform.step c.loop-i.performer c.byte.new.performer ds (events_of_byte g.row.N now (get_or bs i 0)) (c.byte.ensures.is_told now at) c.byte.ensures.told) asks
           (subst (λ p. StopsAt g.P.Perform.step g.P.Perform.is_terminated g.row.N p c.asks_after-asked.result (drop (i + 1) bs) c.byte.new.performer k new) more r)));
       first = λ h. absurd (omega (arith, h));
       later = λ h. zero_or i
@@ -86,7 +86,7 @@ pub returns-then-stops-clause-stops : goal.returns-then-stops-clause-stops
 returns-then-stops-clause-stops g c = λ past h.
     let m : c.loop-i.i + 0 ≡ c.loop-i.i = omega arith in
     subst (λ k. StopsAt g.P.Perform.step g.P.Perform.is_terminated g.row.N (pending past) true c.args.bytes.now c.args.performer.now k c.loop-i.performer) m
-    (c.loop-i.invariant.stops (pending past) h 0 c.loop-i.performer (stop_now g.P.Perform.step g.P.Perform.is_terminated g.row.N _ c.loop-i.asked c.args.bytes.now c.loop-i.i c.loop-i.performer c.loop-i-test.true (sym c.stops.ensures ∙ c.if-stops.true)))
+    (c.loop-i.invariant.stops (pending past) h 0 c.loop-i.performer (stop_now g.P.Perform.step g.P.Perform.is_terminated g.row.N (after_bytes (pending past) (take c.loop-i.i c.args.bytes.now)) c.loop-i.asked c.args.bytes.now c.loop-i.i c.loop-i.performer c.loop-i-test.true (sym c.stops.ensures ∙ c.if-stops.true)))
 
 true_false : {A : Type 0} (v : Bool) → IsTrue v → v ≡ false → A
 true_false true h e = cc
@@ -120,9 +120,9 @@ pub returns-clause-stops : goal.returns-clause-stops
 returns-clause-stops g c = λ past h.
     let m : c.loop-i.i + 0 ≡ length c.args.bytes.now = omega arith in
     subst (λ k. StopsAt g.P.Perform.step g.P.Perform.is_terminated g.row.N (pending past) true c.args.bytes.now c.args.performer.now k c.loop-i.performer) m
-    (c.loop-i.invariant.stops (pending past) h 0 c.loop-i.performer (stop_end g.P.Perform.step g.P.Perform.is_terminated g.row.N _ c.loop-i.asked c.args.bytes.now c.loop-i.i c.loop-i.performer c.loop-i-test.false))
+    (c.loop-i.invariant.stops (pending past) h 0 c.loop-i.performer (stop_end g.P.Perform.step g.P.Perform.is_terminated g.row.N (after_bytes (pending past) (take c.loop-i.i c.args.bytes.now)) c.loop-i.asked c.args.bytes.now c.loop-i.i c.loop-i.performer c.loop-i-test.false))
 
 pub returns-clause-already : goal.returns-clause-already
 returns-clause-already g c = λ t.
     let e : c.loop-i.i ≡ length c.args.bytes.now = omega arith in
-    zero_or c.loop-i.i (λ z. (sym e ∙ z, (c.loop-i.invariant.first z).1, (c.loop-i.invariant.first z).2)) (λ h. true_false (g.P.Perform.is_terminated c.args.performer.now) t (c.loop-i.invariant.later h))
+    zero_or {A = (length c.args.bytes.now ≡ 0) × (c.loop-i.performer ≡ c.args.performer.now) × (c.loop-i.self ≡ c.args.self.now)} c.loop-i.i (λ z. (sym e ∙ z, (c.loop-i.invariant.first z).1, (c.loop-i.invariant.first z).2)) (λ h. true_false (g.P.Perform.is_terminated c.args.performer.now) t (c.loop-i.invariant.later h))

@@ -1,0 +1,5 @@
+use Rattle.vte_core.proofs.LawLemmas.{added-fits}
+use Rattle.vte_core.proofs.laws.osc_fits.Goals as goal
+
+pub returns : goal.returns
+returns c = added-fits

@@ -1,0 +1,35 @@
+//! Laws of the events of a byte stream, each as the contract of a function that does nothing.
+
+ghost use Rattle.vte_core.specs.Laws.{KeepsBeginnings, CutsBeforeEsc, CutsAfter, AddsFitting, StopsWhereAsked, PassesWhereAsked, AsksInSequences};
+
+use crate::Perform;
+
+/// The events of a beginning of a stream are a beginning of the stream's events.
+pub fn beginnings()
+    ensures { KeepsBeginnings }
+{}
+
+/// A stream may be cut before each ESC: `s ESC t` has the events of `s ESC`, then those of `ESC t`.
+pub fn cut_before_esc()
+    ensures { CutsBeforeEsc }
+{}
+
+/// A stream may be cut after each CAN and each SUB: `s CAN t` has the events of `s CAN`, then those of `t`.
+pub fn cut_after_cancel()
+    ensures can { CutsAfter 0x18 }
+    ensures sub { CutsAfter 0x1A }
+{}
+
+/// Each operating system command that some bytes add to a stream has 1 to 16 pieces, and at most as many bytes in all
+/// as the parser keeps.
+pub fn osc_fits()
+    ensures { AddsFitting }
+{}
+
+/// `Parser::advance_until_terminated` asks after each byte of a sequence; where it stops before the last byte it was
+/// asking, and wherever else it asked the performer was not terminated.
+pub fn asking_points<P: Perform>()
+    ensures stops { StopsWhereAsked P.step P.is_terminated }
+    ensures passes { PassesWhereAsked P.step P.is_terminated }
+    ensures sequences { AsksInSequences }
+{}
