@@ -1,0 +1,4 @@
+pub mod AttrsLemmas
+pub mod ChangeLemmas
+pub mod Lengths
+pub mod Marks

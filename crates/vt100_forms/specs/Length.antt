@@ -1,0 +1,63 @@
+-- How long the spelling of a form can be.
+use Rattle.std.specs.Prelude.{ℕ, ◌^◌, ◌<◌, ◌≤◌, length, encode_utf8_all, Option, Some, None}
+use Rattle.vt100_forms.specs.declared.attrs.Color.{Color}
+use Rattle.vt100_forms.specs.declared.attrs.Color.TheVariants.{Default, Idx, Rgb}
+use Rattle.vt100_forms.specs.declared.attrs.Attrs.{Attrs}
+use Rattle.vt100_forms.specs.declared.position.Pos.{Pos}
+use Rattle.vt100_forms.specs.Form.{Form, Text, MoveTo, MoveRight, EraseChar, ClearRowForward, ClearScreen, ClearAttrs, Crlf, Lf, Backspace, SaveCursor, RestoreCursor, HideCursor, Keypad, CursorKeys, Paste, Mouse, Encoding, Style, Sgr, spelling, spell, change, moves}
+
+-- the numbers are those of a `Color`, an `Attrs` or a `Pos`
+abbrev pub IsByteColor : Color → Type 0
+IsByteColor Default = Unit {0}
+IsByteColor (Idx i) = i < 2 ^ 8
+IsByteColor (Rgb r g b) = (r < 2 ^ 8) × (g < 2 ^ 8) × (b < 2 ^ 8)
+
+abbrev pub HasByteColors : Attrs → Type 0
+HasByteColors a = IsByteColor a.fgcolor × IsByteColor a.bgcolor
+
+abbrev pub IsShortPos : Pos → Type 0
+IsShortPos p = (p.row < 2 ^ 16) × (p.col < 2 ^ 16)
+
+abbrev pub IsByteOption : Option Color → Type 0
+IsByteOption None = Unit {0}
+IsByteOption (Some c) = IsByteColor c
+
+-- the numbers of a form are of the code's types
+abbrev pub HasSmallNumbers : Form → Type 0
+HasSmallNumbers (MoveTo r c) = (r < 2 ^ 16) × (c < 2 ^ 16)
+HasSmallNumbers (MoveRight n) = n < 2 ^ 16
+HasSmallNumbers (EraseChar n) = n < 2 ^ 16
+HasSmallNumbers (Sgr c) = IsByteOption c.fgcolor × IsByteOption c.bgcolor
+HasSmallNumbers _ = Unit {0}
+
+-- the most bytes that a form of each kind takes
+abbrev pub longest : Form → ℕ
+longest (Text cs) = length (encode_utf8_all cs)
+longest (MoveTo r c) = 14
+longest (MoveRight n) = 8
+longest (EraseChar n) = 8
+longest ClearRowForward = 3
+longest ClearScreen = 6
+longest ClearAttrs = 3
+longest Crlf = 2
+longest Lf = 1
+longest Backspace = 1
+longest SaveCursor = 2
+longest RestoreCursor = 2
+longest (HideCursor b) = 6
+longest (Keypad b) = 2
+longest (CursorKeys b) = 5
+longest (Paste b) = 8
+longest (Mouse to from) = 8
+longest (Encoding to from) = 8
+longest (Style to from) = 5
+longest (Sgr c) = 48
+
+abbrev pub EachSpellingIsShort : Type 0
+EachSpellingIsShort = (f : Form) → HasSmallNumbers f → length (spelling f) ≤ longest f
+
+abbrev pub EachMoveIsShort : Type 0
+EachMoveIsShort = (p q : Pos) → IsShortPos p → IsShortPos q → length (spell (moves p q)) ≤ 14
+
+abbrev pub EachChangeIsShort : Type 0
+EachChangeIsShort = (a b : Attrs) → HasByteColors b → length (spell (change a b)) ≤ 48

@@ -1,0 +1,5 @@
+pub mod Attrs
+pub mod Form
+pub mod Length
+pub mod Mark
+pub mod Writer

@@ -1,0 +1,214 @@
+//! The colours and attributes with which a character is drawn.
+ghost use Rattle.std.specs.Prelude.{◌≡◌, ◌<◌, ◌+◌, ◌++◌, [], length, IsOk, OnOk, OnErr, is_ok, if◌then◌else◌, string_bytes, string_len, string_capacity};
+
+use crate::error::GridError;
+use crate::term;
+use crate::term::{BufWrite, Intensity};
+use std::fmt;
+
+/// A foreground or background colour.
+#[derive(Clone, Copy, Debug, Default, Eq, PartialEq)]
+pub enum Color {
+    /// The terminal's own.
+    #[default]
+    Default,
+    /// One of the terminal's 256 numbered colours.
+    Idx(u8),
+    /// Red, green and blue.
+    Rgb(u8, u8, u8),
+}
+
+const TEXT_MODE_INTENSITY: u8 = 0b0000_0011;
+
+const TEXT_MODE_BOLD: u8 = 0b0000_0001;
+
+const TEXT_MODE_DIM: u8 = 0b0000_0010;
+
+const TEXT_MODE_ITALIC: u8 = 0b0000_0100;
+
+const TEXT_MODE_UNDERLINE: u8 = 0b0000_1000;
+
+const TEXT_MODE_INVERSE: u8 = 0b0001_0000;
+
+/// The attributes with which a character is drawn. The bits of `mode` are 1 for bold, 2 for dim, 4 for italic, 8 for
+/// underlined and 16 for inverse; where both 1 and 2 are set, the character is bold.
+#[derive(Clone, Copy, Debug, Eq, PartialEq)]
+pub struct Attrs {
+    /// Of the character itself.
+    pub fgcolor: Color,
+    /// Of what stands behind it.
+    pub bgcolor: Color,
+    /// The bits above.
+    pub mode: u8,
+}
+
+impl Default for Attrs {
+    ghost use Rattle.vt100_forms.specs.Attrs.{default_attrs};
+
+    ghost is_default = { λ a. a ≡ default_attrs };
+
+    fn default() -> Self {
+        Self::new()
+    }
+}
+
+impl Attrs {
+    ghost use Rattle.vt100_forms.specs.Form.{spell, change, intensity_of};
+    ghost use Rattle.vt100_forms.specs.Writer.{HandsOver};
+    ghost use Rattle.vt100_forms.specs.Attrs.{default_attrs, is_bold, is_dim, is_italic, is_underlined, is_inverse, with_bold, with_dim, with_normal_intensity, with_italic, with_underline, with_inverse};
+
+    /// The default colours, and no mode.
+    pub const fn new() -> Self
+        ensures { result ≡ default_attrs }
+    {
+        Self {
+            fgcolor: Color::Default,
+            bgcolor: Color::Default,
+            mode: 0,
+        }
+    }
+
+    /// Whether the bit for bold is set.
+    pub fn bold(&self) -> bool
+        ensures { result ≡ is_bold self.now }
+    {
+        self.mode & TEXT_MODE_BOLD != 0
+    }
+
+    /// Whether the bit for dim is set.
+    pub fn dim(&self) -> bool
+        ensures { result ≡ is_dim self.now }
+    {
+        self.mode & TEXT_MODE_DIM != 0
+    }
+
+    /// Makes it bold, and not dim.
+    pub fn set_bold(&mut self)
+        ensures { self.new ≡ with_bold self.old }
+    {
+        self.mode &= !TEXT_MODE_INTENSITY;
+        self.mode |= TEXT_MODE_BOLD;
+    }
+
+    /// Makes it dim, and not bold.
+    pub fn set_dim(&mut self)
+        ensures { self.new ≡ with_dim self.old }
+    {
+        self.mode &= !TEXT_MODE_INTENSITY;
+        self.mode |= TEXT_MODE_DIM;
+    }
+
+    /// Makes it neither bold nor dim.
+    pub fn set_normal_intensity(&mut self)
+        ensures { self.new ≡ with_normal_intensity self.old }
+    {
+        self.mode &= !TEXT_MODE_INTENSITY;
+    }
+
+    /// Whether it is italic.
+    pub fn italic(&self) -> bool
+        ensures { result ≡ is_italic self.now }
+    {
+        self.mode & TEXT_MODE_ITALIC != 0
+    }
+
+    /// Makes it italic, or not.
+    pub fn set_italic(&mut self, italic: bool)
+        ensures { self.new ≡ with_italic italic self.old }
+    {
+        if italic {
+            self.mode |= TEXT_MODE_ITALIC;
+        } else {
+            self.mode &= !TEXT_MODE_ITALIC;
+        }
+    }
+
+    /// Whether it is underlined.
+    pub fn underline(&self) -> bool
+        ensures { result ≡ is_underlined self.now }
+    {
+        self.mode & TEXT_MODE_UNDERLINE != 0
+    }
+
+    /// Makes it underlined, or not.
+    pub fn set_underline(&mut self, underline: bool)
+        ensures { self.new ≡ with_underline underline self.old }
+    {
+        if underline {
+            self.mode |= TEXT_MODE_UNDERLINE;
+        } else {
+            self.mode &= !TEXT_MODE_UNDERLINE;
+        }
+    }
+
+    /// Whether foreground and background are swapped.
+    pub fn inverse(&self) -> bool
+        ensures { result ≡ is_inverse self.now }
+    {
+        self.mode & TEXT_MODE_INVERSE != 0
+    }
+
+    /// Makes foreground and background swapped, or not.
+    pub fn set_inverse(&mut self, inverse: bool)
+        ensures { self.new ≡ with_inverse inverse self.old }
+    {
+        if inverse {
+            self.mode |= TEXT_MODE_INVERSE;
+        } else {
+            self.mode &= !TEXT_MODE_INVERSE;
+        }
+    }
+
+    pub(crate) fn intensity(&self) -> Intensity
+        ensures { result ≡ intensity_of self.now }
+    {
+        if self.bold() {
+            Intensity::Bold
+        } else if self.dim() {
+            Intensity::Dim
+        } else {
+            Intensity::Normal
+        }
+    }
+
+    /// Appends the form that takes a terminal from the attributes `other` to these: nothing where they are equal, the
+    /// form that clears all where these are the default ones, else one that sets what differs. Where `contents` has to
+    /// grow and there is no memory it stays as it was.
+    pub fn write_escape_code_diff(
+        &self,
+        contents: &mut String,
+        other: &Self,
+    ) -> Result<(), GridError>
+        ensures bytes { string_bytes contents.new ≡
+            (if is_ok result then string_bytes contents.old ++ spell (change other.now self.now) else string_bytes contents.old) }
+        ensures full { OnErr result
+            (string_capacity contents.old < string_len contents.old + length (spell (change other.now self.now))) }
+    {
+        if self == other {
+            Ok(())
+        } else if *self == Self::default() {
+            term::ClearAttrs.write_buf(contents)
+        } else {
+            term::Attrs::of_change(other, self).write_buf(contents)
+        }
+    }
+
+    /// Hands the same bytes to `writer` in one call, in none where there are no bytes. The only error is that call's.
+    pub fn write_escape_code_diff_fmt<W: fmt::Write>(
+        &self,
+        writer: &mut W,
+        other: &Self,
+    ) -> fmt::Result
+        ensures written { OnOk result
+            (HandsOver W.write_str_gives writer.old (spell (change other.now self.now)) writer.new) }
+        ensures empty { spell (change other.now self.now) ≡ [] → IsOk result }
+    {
+        if self == other {
+            Ok(())
+        } else if *self == Self::default() {
+            term::ClearAttrs.write_fmt(writer)
+        } else {
+            term::Attrs::of_change(other, self).write_fmt(writer)
+        }
+    }
+}

@@ -1,0 +1,30 @@
+//! The refusal of what allocates.
+ghost use Rattle.std.specs.Prelude.{◌≡◌};
+ghost use Rattle.vt100_forms.specs.declared.error.GridError.TheVariants.{Memory};
+
+use std::alloc::{AllocError, AllocFailed};
+use thiserror::Error;
+
+/// Why a call on a row, a grid or a form was refused.
+#[derive(Clone, Copy, Debug, Eq, Error, PartialEq)]
+pub enum GridError {
+    /// There was no memory for what the call would have stored.
+    #[error("out of memory")]
+    Memory,
+}
+
+impl From<AllocError> for GridError {
+    ghost from_gives = { λ _ e. e ≡ Memory };
+
+    fn from(_: AllocError) -> GridError {
+        GridError::Memory
+    }
+}
+
+impl<T: Drop> From<AllocFailed<T>> for GridError {
+    ghost from_gives = { λ _ e. e ≡ Memory };
+
+    fn from(_: AllocFailed<T>) -> GridError {
+        GridError::Memory
+    }
+}

@@ -1,0 +1,50 @@
+//! The modes of a terminal that programs choose: which mouse reports they get, in which encoding, and how the cursor
+//! looks.
+
+/// Which events of the mouse a program is told of.
+#[derive(Clone, Copy, Debug, Default, Eq, PartialEq)]
+pub enum MouseProtocolMode {
+    /// None.
+    #[default]
+    None,
+    /// A button going down (xterm's mode 9).
+    Press,
+    /// A button going down or up (mode 1000).
+    PressRelease,
+    /// A button going down or up, and the mouse moving while one is down (mode 1002).
+    ButtonMotion,
+    /// A button going down or up, and the mouse moving (mode 1003).
+    AnyMotion,
+}
+
+/// How a mouse report is written.
+#[derive(Clone, Copy, Debug, Default, Eq, PartialEq)]
+pub enum MouseProtocolEncoding {
+    /// A byte for each number.
+    #[default]
+    Default,
+    /// A UTF-8 character for each number (xterm's mode 1005).
+    Utf8,
+    /// Decimal numbers (mode 1006).
+    Sgr,
+}
+
+/// How the cursor looks (DECSCUSR).
+#[derive(Clone, Copy, Debug, Default, Eq, PartialEq)]
+pub enum CursorStyle {
+    /// As the terminal chooses.
+    #[default]
+    Default,
+    /// A blinking block.
+    BlinkBlock,
+    /// A block.
+    SteadyBlock,
+    /// A blinking line below the character.
+    BlinkUnderline,
+    /// A line below the character.
+    SteadyUnderline,
+    /// A blinking line before the character.
+    BlinkVerticalBar,
+    /// A line before the character.
+    SteadyVerticalBar,
+}
