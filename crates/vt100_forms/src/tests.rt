@@ -30,6 +30,14 @@ impl fmt::Write for Limited {
     }
 }
 
+fn writer_with_room(alloc: Global, room: usize) -> Result<Limited, GridError> {
+    Ok(Limited {
+        taken: String::with_capacity(alloc, 64)?,
+        room,
+        calls: 0,
+    })
+}
+
 // Appends `form` to a text of one character. Where memory is refused the text stands as it was, and a second call appends.
 fn appended<R: Abort, B: BufWrite>(rt: &R, alloc: Global, form: &B) -> Result<String, GridError> {
     let mut text = String::from_str(alloc, "x")?;
@@ -43,11 +51,7 @@ fn appended<R: Abort, B: BufWrite>(rt: &R, alloc: Global, form: &B) -> Result<St
 fn check<R: Abort, B: BufWrite>(rt: &R, alloc: Global, form: &B, want: &str) -> Result<(), Fail> {
     let text = appended(rt, alloc, form)?;
     assert_eq!(rt; text.as_str().strip_prefix("x"), Some(want));
-    let mut limited = Limited {
-        taken: String::new(alloc),
-        room: want.len(),
-        calls: 0,
-    };
+    let mut limited = writer_with_room(alloc, want.len())?;
     assert_eq!(rt; form.write_fmt(&mut limited), Ok(()), "{want}");
     assert_eq!(rt; limited.taken.as_str(), want);
     assert_eq!(rt;
@@ -276,11 +280,7 @@ fn check_change<R: Abort>(
         new.write_escape_code_diff(&mut text, &old)?;
     }
     assert_eq!(rt; text.as_str().strip_prefix("x"), Some(want));
-    let mut limited = Limited {
-        taken: String::new(alloc),
-        room: want.len(),
-        calls: 0,
-    };
+    let mut limited = writer_with_room(alloc, want.len())?;
     assert_eq!(rt;
         new.write_escape_code_diff_fmt(&mut limited, &old),
         Ok(()),
