@@ -3,12 +3,11 @@ use Rattle.std.proofs.Common.{◌≡◌, ℕ, zero, suc, ◌+◌, ◌-◌, ◌<�
 use Rattle.std.proofs.lemmas.Grind.{common_steps}
 use Rattle.std.proofs.Math.Seq.{drop-cons}
 use Rattle.vte_core.specs.Event.{Event, Performs}
-use Rattle.vte_core.specs.Bytes.{is_esc}
 use Rattle.vte_core.specs.Pending.{Pending, InText, InEscape, InCsi, InOsc, InHook, InDevice, InSwallowed, events_of_byte, after_byte, after_bytes, events_from}
 use Rattle.vte_core.proofs.Characters.{bool_cases}
 use Rattle.vte_core.proofs.Telling.{performs-append}
 use Rattle.vte_core.specs.Stopping.{StopsAt, is_text, runs_on, asks_at, PassedBy}
-use Rattle.vte_core.specs.Standing.{IsAt, state_is_text, text_goes_on}
+use Rattle.vte_core.specs.Standing.{IsAt, state_is_text}
 use Rattle.vte_core.specs.declared.Parser.{Parser}
 
 next_byte : (bs : List ℕ) (i : ℕ) → i < length bs → drop i bs ≡ get_or bs i 0 ∷ drop (i + 1) bs
@@ -16,14 +15,6 @@ next_byte bs i h = let m : suc i ≡ i + 1 = omega arith in drop-cons bs i 0 h �
 
 no_byte : (bs : List ℕ) (i : ℕ) → length bs ≤ i → drop i bs ≡ []
 no_byte bs i h = grind (arith, common_steps)
-
-and-false : (v : Bool) → (v && false) ≡ false
-and-false true = refl
-and-false false = refl
-
-pub runs_on-is : (q : Pending) (b : ℕ) (rest : List ℕ) → runs_on q b rest ≡ ((is_text q && not (is_esc b)) && text_goes_on rest)
-runs_on-is q b [] = sym (and-false (is_text q && not (is_esc b)))
-runs_on-is q b (c ∷ rest) = refl
 
 pub is_text-at : (n : ℕ) (p : Parser n) (q : Pending) → IsAt n p q → is_text q ≡ state_is_text p.state
 is_text-at n p (InText u) h = rw h.0 refl
@@ -33,13 +24,6 @@ is_text-at n p (InOsc s) h = rw h.0 refl
 is_text-at n p (InHook x) h = rw h.0 refl
 is_text-at n p InDevice h = rw h.0 refl
 is_text-at n p InSwallowed h = rw h.0 refl
-
-pub stop_step : {S : Type 0} (step : S → Event → S → Type 0) (terminated : S → Bool) (n : ℕ) (q : Pending) (asked asked' : Bool) (bs : List ℕ) (i : ℕ) (old mid : S) (k : ℕ) (new : S)
-    → i < length bs → (asked && terminated old) ≡ false → Performs step old (events_of_byte n q (get_or bs i 0)) mid → asked' ≡ not (runs_on q (get_or bs i 0) (drop (i + 1) bs))
-    → StopsAt step terminated n (after_byte q (get_or bs i 0)) asked' (drop (i + 1) bs) mid k new → StopsAt step terminated n q asked (drop i bs) old (suc k) new
-stop_step {S} step terminated n q asked asked' bs i old mid k new h e p a r =
-    subst (λ xs. StopsAt step terminated n q asked xs old (suc k) new) (sym (next_byte bs i h))
-    (rw e (mid, k, refl, p, subst (λ v. StopsAt step terminated n (after_byte q (get_or bs i 0)) v (drop (i + 1) bs) mid k new) a r))
 
 pub stop_now : {S : Type 0} (step : S → Event → S → Type 0) (terminated : S → Bool) (n : ℕ) (q : Pending) (asked : Bool) (bs : List ℕ) (i : ℕ) (old : S)
     → i < length bs → (asked && terminated old) ≡ true → StopsAt step terminated n q asked (drop i bs) old 0 old

@@ -13,3 +13,4 @@ pub mod Stopping
 pub mod Heard
 pub mod Laws
 pub mod Told
+pub mod Runs

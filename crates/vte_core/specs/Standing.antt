@@ -1,6 +1,5 @@
 -- Where a parser stands.
-use Rattle.std.specs.Prelude.{◌≡◌, ℕ, Bool, true, false, not, List, [], ◌∷◌}
-use Rattle.vte_core.specs.Bytes.{is_esc}
+use Rattle.std.specs.Prelude.{◌≡◌, ℕ, Bool, true, false, List, []}
 use Rattle.vte_core.specs.declared.State.{State}
 use Rattle.vte_core.specs.Pending.{Pending, InText, InEscape, InCsi, InOsc, InHook, InDevice, InSwallowed, pending}
 use Rattle.vte_core.specs.Store.{ReadsOsc}
@@ -31,7 +30,3 @@ state_is_text OscString = false
 state_is_text DcsHeader = false
 state_is_text DcsPassthrough = false
 state_is_text SosPmApcString = false
-
-abbrev pub text_goes_on : List ℕ → Bool
-text_goes_on [] = false
-text_goes_on (b ∷ bs) = not (is_esc b)

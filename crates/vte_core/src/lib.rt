@@ -17,10 +17,11 @@ ghost use Rattle.std.specs.Prelude.{◌≡◌, ◌≢◌, ◌+◌, ◌<◌, ◌�
 ghost use Rattle.vte_core.specs.Event as e;
 ghost use Rattle.vte_core.specs.Event.{Performs};
 ghost use Rattle.vte_core.specs.Told.{Told};
+ghost use Rattle.vte_core.specs.Runs.{Tells, is_one_step, text_len};
 ghost use Rattle.vte_core.specs.Heard.{heard, byte_heard, closed_heard, final_heard};
 ghost use Rattle.vte_core.specs.Shapes.{events};
 ghost use Rattle.vte_core.specs.Pending.{Pending, InText, InEscape, InCsi, InOsc, InHook, InDevice, InSwallowed, final_rest, final_told, events_of_byte, after_byte, byte_told, byte_rest, events_from, after_bytes, closed, pending};
-ghost use Rattle.vte_core.specs.Standing.{IsAt, Stands, state_is_text, text_goes_on};
+ghost use Rattle.vte_core.specs.Standing.{IsAt, Stands, state_is_text};
 ghost use Rattle.vte_core.specs.Stopping.{StopsAt};
 ghost use Rattle.std.specs.Prelude.{true, not, ◌&&◌};
 ghost use Rattle.vte_core.specs.Bytes.{is_esc};
@@ -40,6 +41,7 @@ mod unfinished;
 pub use event::Event;
 use header::Header;
 use intermediates::Intermediates;
+use memchr::memchr;
 use osc_data::OscData;
 pub use params::{Params, ParamsIter};
 pub use perform::Perform;
@@ -319,14 +321,33 @@ impl<const N: usize> Parser<N> {
         }
     }
 
+    /// Reads ground text up to the next ESC, or else one byte, and returns how many bytes it read.
+    fn some<P: Perform>(&mut self, performer: &mut P, bytes: &[u8]) -> usize
+        requires { 0 < length bytes.now }
+        ensures some { 0 < result }
+        ensures within { result ≤ length bytes.now }
+        ensures stands { (q : Pending) → IsAt N self.old q → IsAt N self.new (after_bytes q (take result bytes.now)) }
+        ensures told { Tells P.step N self.old performer.old (take result bytes.now) performer.new }
+        ensures step { (q : Pending) → IsAt N self.old q → is_one_step q (take result bytes.now) (drop result bytes.now) ≡ true }
+    {
+        let len = text_len(self.state, bytes);
+        if len == 0 {
+            self.byte(performer, bytes[0]);
+            return 1;
+        }
+        self.unfinished.run(performer, &bytes[..len]);
+        len
+    }
+
     /// Reads the next bytes of the stream, and tells the performer of their events, in order. A character or a sequence
     /// that the bytes leave unfinished is kept for the next call.
     pub fn advance<P: Perform>(&mut self, performer: &mut P, bytes: &[u8])
         ensures stands { (past : List ℕ) → Stands N self.old past → Stands N self.new (past ++ bytes.now) }
         ensures told { Told P.step N self.old performer.old bytes.now performer.new }
     {
-        for byte in bytes {
-            self.byte(performer, *byte);
+        let mut read = 0;
+        while read < bytes.len() {
+            read += self.some(performer, &bytes[read..]);
         }
     }
 
@@ -341,38 +362,23 @@ impl<const N: usize> Parser<N> {
         ensures ended { result < length bytes.now → IsTrue (P.is_terminated performer.new) }
         ensures already { IsTrue (P.is_terminated performer.old) → (result ≡ 0) × (performer.new ≡ performer.old) × (self.new ≡ self.old) }
     {
-        let mut asked = true;
-        for (i, byte) in bytes.iter().enumerate() {
-            if stops(performer, asked) {
-                return i;
+        let mut read = 0;
+        while read < bytes.len() {
+            if performer.terminated() {
+                return read;
             }
-            asked = asks_after(is_text(self.state), *byte, &bytes[i + 1..]);
-            self.byte(performer, *byte);
+            read += self.some(performer, &bytes[read..]);
         }
         bytes.len()
     }
 }
 
-/// Whether the parser reads ground text.
-fn is_text(state: State) -> bool
-    ensures { result ≡ state_is_text state }
+/// How many of the next bytes are ground text: those before the next ESC.
+fn text_len(state: State, bytes: &[u8]) -> usize
+    ensures { result ≡ text_len state bytes.now }
 {
-    matches!(state, State::Ground)
-}
-
-/// Whether the performer is asked after this byte.
-fn asks_after(in_text: bool, byte: u8, rest: &[u8]) -> bool
-    ensures { result ≡ not ((in_text && not (is_esc byte)) && text_goes_on rest.now) }
-{
-    match rest {
-        [next, ..] => !in_text || byte == 0x1B || *next == 0x1B,
-        [] => true,
+    match state {
+        State::Ground => memchr(0x1B, bytes).unwrap_or(bytes.len()),
+        _ => 0,
     }
-}
-
-/// Whether the performer is asked, and says that it is terminated.
-fn stops<P: Perform>(performer: &P, asked: bool) -> bool
-    ensures { result ≡ (asked && P.is_terminated performer.now) }
-{
-    asked && performer.terminated()
 }

@@ -1,7 +1,9 @@
 //! The trait of what receives events.
 
 ghost use Rattle.std.specs.Prelude.{◌≡◌, Bool, map};
+ghost use Rattle.std.specs.Str.{chars};
 ghost use Rattle.vte_core.specs.Event as e;
+ghost use Rattle.vte_core.specs.Event.{Performs};
 ghost use Rattle.vte_core.specs.EventOf.{event_of};
 
 use crate::event::Event;
@@ -31,6 +33,17 @@ pub trait Perform {
         ensures { step self.old (e.Print c) self.new }
     {
         self.event(Event::Print(c));
+    }
+
+    /// A run of ground text without controls: its characters, one after another. The parser hands over what lies
+    /// between two controls as one text. Only a character that the end of a piece cut, or the one whose first byte ended
+    /// a malformed sequence, comes by `print`, and the text goes on after it.
+    fn print_str(&mut self, text: &str)
+        ensures { Performs step self.old (map e.Print (chars text.now)) self.new }
+    {
+        for c in text.chars() {
+            self.print(c);
+        }
     }
 
     /// A control: 0x00 to 0x1F but ESC, and in ground text 0x80 to 0x9F.

@@ -1,9 +1,13 @@
-//! Ground text: the characters of UTF-8 (the Unicode Standard, section 3.9, table 3-7), byte by byte.
+//! Ground text: the characters of UTF-8 (the Unicode Standard, section 3.9, table 3-7).
+//!
+//! What lies between two controls is checked at once; a character that is cut, or malformed, is read byte by byte.
 //!
 //! A malformed sequence is the longest front of what follows that also begins a well-formed character, at least one byte:
 //! the length that `str::from_utf8` reports.
 
-ghost use Rattle.std.specs.Prelude.{◌≡◌, ◌==◌, ◌+◌, ◌-◌, ◌<◌, ◌≤◌, ℕ, List, [], ◌∷◌, ◌++◌, length, drop, IsTrue, slice_index};
+ghost use Rattle.std.specs.Prelude.{◌≡◌, ◌==◌, ◌+◌, ◌-◌, ◌<◌, ◌≤◌, ℕ, List, [], ◌∷◌, ◌++◌, length, drop, IsTrue, slice_index, take};
+ghost use Rattle.std.specs.Str.{IsUtf8};
+ghost use Rattle.vte_core.specs.Runs.{run_told, run_rest, is_printed, printed_len};
 ghost use Rattle.vte_core.specs.Event.{Event, Print, Execute, Performs};
 ghost use Rattle.vte_core.specs.Text.{char_len, second_min, second_max, first_bits, joined, char_event};
 ghost use Rattle.vte_core.specs.Pending.{IsUnfinished, begun, begun_rest, text_told, text_rest, goes_on, whole_goes_on, IsWhole, code_of};
@@ -12,6 +16,7 @@ ghost use Rattle.std.specs.Char.{InScalarRange};
 use crate::Perform;
 use arrayvec::ArrayVec;
 use std::marker::Model;
+use std::str;
 
 /// How many bytes a character with this first byte has, 0 where none has it.
 fn char_len(first: u8) -> usize
@@ -166,5 +171,101 @@ impl Unfinished {
         ensures rest { self.new ≡ text_rest self.old byte }
     {
         text_byte(&mut self.bytes, performer, byte);
+    }
+}
+
+/// Whether no control that is executed begins at the byte, before the others.
+fn is_printed(byte: u8, rest: &[u8]) -> bool
+    ensures { result ≡ is_printed byte rest.now }
+{
+    match rest {
+        [next, ..] if byte == 0xC2 => !(0x80..=0x9F).contains(next),
+        _ => byte >= 0x20,
+    }
+}
+
+/// How many bytes stand before the next control that is executed.
+fn printed_len(bytes: &[u8]) -> usize
+    ensures { result ≡ printed_len bytes.now }
+{
+    for (i, byte) in bytes.iter().enumerate() {
+        if !is_printed(*byte, &bytes[i + 1..]) {
+            return i;
+        }
+    }
+    bytes.len()
+}
+
+/// The longest text at the front of the bytes.
+fn text_front(bytes: &[u8]) -> &str
+    ensures text { IsUtf8 result.now }
+    ensures front { result.now ≡ take (length result.now) bytes.now }
+    ensures within { length result.now ≤ length bytes.now }
+{
+    match str::from_utf8(bytes) {
+        Ok(text) => text,
+        Err(error) => unsafe { str::from_utf8_unchecked(&bytes[..error.valid_up_to()]) },
+    }
+}
+
+impl Unfinished {
+    /// Reads the text at the front of bytes without controls, or else one byte, and returns how many it read.
+    fn text<P: Perform>(&mut self, performer: &mut P, bytes: &[u8]) -> usize
+        requires not_empty { 0 < length bytes.now }
+        requires printed { printed_len bytes.now ≡ length bytes.now }
+        ensures some { 0 < result }
+        ensures within { result ≤ length bytes.now }
+        ensures told { Performs P.step performer.old (run_told self.old (take result bytes.now)) performer.new }
+        ensures rest { self.new ≡ run_rest self.old (take result bytes.now) }
+    {
+        if self.is_empty() {
+            let text = text_front(bytes);
+            if !text.is_empty() {
+                performer.print_str(text);
+                return text.len();
+            }
+        }
+        self.byte(performer, bytes[0]);
+        1
+    }
+
+    /// Ground text without controls.
+    fn printed<P: Perform>(&mut self, performer: &mut P, bytes: &[u8])
+        requires { printed_len bytes.now ≡ length bytes.now }
+        ensures told { Performs P.step performer.old (run_told self.old bytes.now) performer.new }
+        ensures rest { self.new ≡ run_rest self.old bytes.now }
+    {
+        let mut read = 0;
+        while read < bytes.len() {
+            read += self.text(performer, &bytes[read..]);
+        }
+    }
+
+    /// Reads ground text up to the next control, or else one byte, and returns how many bytes it read.
+    fn some<P: Perform>(&mut self, performer: &mut P, bytes: &[u8]) -> usize
+        requires { 0 < length bytes.now }
+        ensures some { 0 < result }
+        ensures within { result ≤ length bytes.now }
+        ensures told { Performs P.step performer.old (run_told self.old (take result bytes.now)) performer.new }
+        ensures rest { self.new ≡ run_rest self.old (take result bytes.now) }
+    {
+        let len = printed_len(bytes);
+        if len == 0 {
+            self.byte(performer, bytes[0]);
+            return 1;
+        }
+        self.printed(performer, &bytes[..len]);
+        len
+    }
+
+    /// Ground text without ESC.
+    pub fn run<P: Perform>(&mut self, performer: &mut P, bytes: &[u8])
+        ensures told { Performs P.step performer.old (run_told self.old bytes.now) performer.new }
+        ensures rest { self.new ≡ run_rest self.old bytes.now }
+    {
+        let mut read = 0;
+        while read < bytes.len() {
+            read += self.some(performer, &bytes[read..]);
+        }
     }
 }

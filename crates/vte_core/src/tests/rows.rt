@@ -1,7 +1,9 @@
 //! Streams and their events, cut everywhere.
 
+ghost use Rattle.std.specs.Prelude.{⊤, false};
+
 use super::log::{Log, Until};
-use crate::{Params, Parser};
+use crate::{Event, Params, Parser, Perform};
 use std::process::Abort;
 
 /// Read in two pieces, a stream has these events.
@@ -179,4 +181,57 @@ fn no_params(rt: HostRuntime) {
     let mut log = Log::new(&rt, Until::Never);
     Parser::new().advance(&mut log, b"a\x1b[1:2;3m");
     assert_eq!(rt; log.text.as_str(), "print 97 csi [1:2;3] | kept 109 ");
+}
+
+/// Marks where each text begins that it is handed over.
+#[derive(Drop)]
+struct Texts {
+    log: Log,
+}
+
+impl Texts {
+    fn character(&mut self, c: char, is_first: bool) {
+        if is_first {
+            self.log.word("text");
+        }
+        self.log.number(c as u32);
+    }
+}
+
+impl Perform for Texts {
+    ghost step = { λ _ _ _. ⊤ };
+
+    ghost is_terminated = { λ _. false };
+
+    fn event(&mut self, event: Event<'_>) {
+        self.log.event(event);
+    }
+
+    fn terminated(&self) -> bool {
+        false
+    }
+
+    fn print_str(&mut self, text: &str) {
+        let mut is_first = true;
+        for c in text.chars() {
+            self.character(c, is_first);
+            is_first = false;
+        }
+    }
+}
+
+#[test]
+fn runs_of_text(rt: HostRuntime) {
+    let mut texts = Texts {
+        log: Log::new(&rt, Until::Never),
+    };
+    let bytes = b"ab\r\n\xE4\xB8\xADc\xC2\xA9\x7F\xC2\x85\xC2d\x1B7\xFFe\xE4";
+    Parser::new().advance(&mut texts, bytes);
+    assert_eq!(rt;
+        texts.log.text.as_str(),
+        "text 97 98 execute 13 execute 10 text 20013 99 169 127 execute 133 print 65533 print 100 esc | kept 55 print 65533 text 101 "
+    );
+    let mut log = Log::new(&rt, Until::Never);
+    log.print_str("a\u{4E2D}");
+    assert_eq!(rt; log.text.as_str(), "print 97 print 20013 ");
 }

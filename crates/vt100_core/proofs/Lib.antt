@@ -1,0 +1,9 @@
+pub mod SheetLemmas
+pub mod MoveLemmas
+pub mod GridLemmas
+pub mod ShowLemmas
+pub mod EraseLemmas
+pub mod SinkLemmas
+pub mod KeepLemmas
+pub mod ScrollLemmas
+pub mod TextLemmas

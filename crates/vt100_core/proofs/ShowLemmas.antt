@@ -1,0 +1,29 @@
+-- The rows that are shown, one after another.
+use Rattle.std.proofs.Common.{◌≡◌, ℕ, suc, ◌+◌, ◌<◌, ◌≤◌, Bool, true, false, cond, List, [], ◌∷◌, length, drop, drop-cons, add-one, sym, ap, ◌∙◌, arith, nat_lt, length-drop}
+use Rattle.std.specs.Prelude.{Option, Some, None}
+use Rattle.std.proofs.lemmas.Bool.Decides.{nat_tests}
+use Rattle.std.proofs.lemmas.List.{drop_all}
+use Rattle.vt100_rows.specs.Row.{RowView, blank_row}
+use Rattle.vt100_core.specs.Sheet.{row_at}
+use Rattle.vt100_core.specs.Grid.{GridView, visible, visible_at, visible_row_at}
+use Rattle.vt100_core.proofs.SheetLemmas.{row_at-by_position, length-rows_by_position}
+
+pub shown-some : (g : GridView) (n : ℕ) (v : RowView) → visible_row_at g n ≡ Some v → n < length g.rows
+shown-some g n v e = grind (arith, nat_tests)
+
+pub shown-none : (g : GridView) (n : ℕ) → visible_row_at g n ≡ None → length g.rows ≤ n
+shown-none g n e = grind (arith, nat_tests)
+
+shown-value : (g : GridView) (n : ℕ) (v : RowView) → visible_row_at g n ≡ Some v → v ≡ visible_at g n
+shown-value g n v e = grind (arith, nat_tests)
+
+pub drop-visible : (g : GridView) (n : ℕ) (v : RowView) → visible_row_at g n ≡ Some v → drop n (visible g) ≡ v ∷ drop (n + 1) (visible g)
+drop-visible g n v e =
+    let h = shown-some g n v e in
+    rw add-one (drop-cons (visible g) n (blank_row 0) (omega (arith, length-rows_by_position (length g.rows) (visible_at g)))
+    ∙ ap (λ x. x ∷ drop (suc n) (visible g)) (row_at-by_position (length g.rows) (visible_at g) n h ∙ sym (shown-value g n v e)))
+
+pub drop-visible_past : (g : GridView) (n : ℕ) → visible_row_at g n ≡ None → drop n (visible g) ≡ []
+drop-visible_past g n e =
+    let h = shown-none g n e in
+    drop_all n (visible g) (omega (arith, length-rows_by_position (length g.rows) (visible_at g)))

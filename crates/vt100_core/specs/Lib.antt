@@ -1,0 +1,10 @@
+pub mod Sheet
+pub mod Grid
+pub mod Cursor
+pub mod GridFields
+pub mod Erase
+pub mod KeptFields
+pub mod Lines
+pub mod Scroll
+pub mod Text
+pub mod Sink

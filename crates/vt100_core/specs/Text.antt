@@ -1,0 +1,51 @@
+-- Printing one character on a grid.
+use Rattle.std.specs.Prelude.{ℕ, ◌+◌, ◌-◌, ◌<◌, ◌==◌, Bool, true, false, not, ◌&&◌, ◌||◌, nat_lt, nat_le, List, [], length, if◌then◌else◌}
+use Rattle.vt100_forms.specs.declared.attrs.Attrs.{Attrs}
+use Rattle.vt100_rows.specs.Cell.{CellView, columns_of, is_undrawable, cell_of}
+use Rattle.vt100_rows.specs.Row.{RowView, placed, wiped_row, joined_cell, joined_row, is_widening}
+use Rattle.vt100_core.specs.Grid.{GridView, with_row, with_cursor_row, row_of_cursor}
+use Rattle.vt100_core.specs.Scroll.{Scrolled, made_to_fit, wrapped_on}
+use Rattle.vt100_core.specs.declared.printed.Printed.{Printed}
+use Rattle.vt100_core.specs.declared.printed.Printed.TheVariants.{Nothing, Spacing, Joined}
+
+-- a grid, the rows that have left for good on the way to it, and what was printed
+pub record Drawn : Type 0 where
+  pub grid : GridView
+  pub sunk : List RowView
+  pub printed : Printed
+
+-- control characters, what is wider than the screen, and zero-width characters with no cell to their left
+abbrev pub is_dropped : GridView → ℕ → Bool
+is_dropped g c = is_undrawable c || (nat_lt g.width (columns_of c) || ((columns_of c == 0) && (g.col == 0)))
+
+-- the cell at the cursor, and the cursor n columns on
+abbrev pub put_at : GridView → CellView → Attrs → ℕ → GridView
+put_at g x a n = record (with_cursor_row g (placed (row_of_cursor g) g.col x a)) { col = g.col + n }
+
+-- a character of one or two columns, on the next row where too few are left
+abbrev pub spaced : GridView → ℕ → Attrs → Drawn
+spaced g c a =
+    let s = made_to_fit g (columns_of c) true in
+    record { grid = put_at s.grid (cell_of c a) a (columns_of c); sunk = s.sunk; printed = Spacing }
+
+-- a cell that has become wide in the last column stands at the start of the next row, with the drawing attributes
+abbrev pub carried : GridView → ℕ → Attrs → Drawn
+carried g c a =
+    let s = wrapped_on (with_cursor_row g (wiped_row (row_of_cursor g) (g.col - 1) g.col a)) false in
+    record { grid = put_at s.grid (record (joined_cell (row_of_cursor g) g.col c) { attrs = a }) a 2; sunk = s.sunk; printed = Joined }
+
+-- a zero-width character joins the cell to the cursor's left
+abbrev pub joined : GridView → ℕ → Attrs → Drawn
+joined g c a =
+    let v = row_of_cursor g in
+    if not (is_widening v g.col c) then record { grid = with_cursor_row g (joined_row v g.col c); sunk = []; printed = Joined }
+    else if g.width == 1 then record { grid = g; sunk = []; printed = Nothing }
+    else if nat_lt g.col g.width
+    then record { grid = record (with_cursor_row g (placed v (g.col - 1) (joined_cell v g.col c) a)) { col = g.col + 1 }; sunk = []; printed = Joined }
+    else carried g c a
+
+abbrev pub printed : GridView → ℕ → Attrs → Drawn
+printed g c a =
+    if is_dropped g c then record { grid = g; sunk = []; printed = Nothing }
+    else if nat_lt 0 (columns_of c) then spaced g c a
+    else joined g c a

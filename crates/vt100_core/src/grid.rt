@@ -1,0 +1,110 @@
+//! A grid of rows with a cursor.
+ghost use Rattle.std.specs.Prelude.{◌≡◌, ℕ, ◌+◌, ◌-◌, ◌<◌, ◌≤◌, ◌==◌, List, [], length, true, false, OnOk, OnErr, IfOk};
+
+mod cursor;
+mod erase;
+mod lines;
+mod scroll;
+mod show;
+mod text;
+
+use std::alloc::Global;
+use std::collections::VecDeque;
+use std::marker::Model;
+
+use vt100_forms::{GridError, Pos};
+use vt100_rows::Row;
+
+use crate::rows_edit::{blank_rows, reset_all};
+use crate::scrollback::{Scrollback, ScrollbackState};
+use crate::size::Size;
+
+/// The rows of a screen, its cursor, and the rows that scrolled off at its top.
+#[derive(Drop)]
+pub struct Grid {
+    size: Size,
+    pos: Pos,
+    saved_pos: Pos,
+    rows: Vec<Row>,
+    scroll_top: u16,
+    scroll_bottom: u16,
+    origin_mode: bool,
+    saved_origin_mode: bool,
+    scrollback: ScrollbackState,
+}
+
+impl Model for Grid {
+    ghost use Rattle.vt100_core.specs.Grid.{GridView};
+
+    ghost Value = { GridView };
+
+    ghost use Rattle.vt100_core.specs.GridFields.{grid_of, IsGridFields};
+
+    ghost view = { grid_of };
+
+    ghost invariant = { IsGridFields };
+}
+
+impl Grid {
+    ghost use Rattle.vt100_core.specs.Grid.{GridView, new_grid, allocated, cleared, is_in_region, IsAllocated};
+    ghost use Rattle.vt100_core.specs.Cursor.{cursor_at, with_origin, cursor_saved, cursor_restored, with_region, moved_rows_down, moved_rows_up, tab_stop};
+
+    /// A grid with no rows yet: `allocate_rows` makes them.
+    pub fn new(alloc: Global, size: Size, scrollback: Scrollback) -> Self
+        ensures { result ≡ new_grid size.rows.value size.cols.value scrollback }
+    {
+        let (enabled, capacity) = match scrollback {
+            Scrollback::Disabled => (false, 0),
+            Scrollback::Enabled { capacity } => (true, capacity),
+        };
+        Grid {
+            size,
+            pos: Pos { row: 0, col: 0 },
+            saved_pos: Pos { row: 0, col: 0 },
+            rows: Vec::new(alloc),
+            scroll_top: 0,
+            scroll_bottom: size.rows() - 1,
+            origin_mode: false,
+            saved_origin_mode: false,
+            scrollback: ScrollbackState {
+                enabled,
+                rows: VecDeque::new(alloc),
+                capacity,
+                offset: 0,
+                unbounded_len: 0,
+            },
+        }
+    }
+
+    pub fn size(&self) -> Size
+        ensures rows { result.rows.value ≡ self.now.height }
+        ensures cols { result.cols.value ≡ self.now.width }
+    {
+        self.size
+    }
+
+    /// Makes the rows, if the grid has none yet. Where there isn't memory for them nothing is changed.
+    pub fn allocate_rows(&mut self) -> Result<(), GridError>
+        ensures allocated { OnOk result (self.new ≡ allocated self.old) }
+        ensures refused { OnErr result (self.new ≡ self.old) }
+    {
+        if self.rows.is_empty() {
+            let alloc = *self.rows.allocator();
+            self.rows = blank_rows(alloc, self.size)?;
+        }
+        Ok(())
+    }
+
+    /// Makes every row blank, and puts cursor, scroll region and modes back as in a new grid. What is kept stays.
+    pub fn clear(&mut self)
+        ensures { self.new ≡ cleared self.old }
+    {
+        self.pos = Pos { row: 0, col: 0 };
+        self.saved_pos = Pos { row: 0, col: 0 };
+        reset_all(&mut self.rows, self.size.cols());
+        self.scroll_top = 0;
+        self.scroll_bottom = self.size.rows() - 1;
+        self.origin_mode = false;
+        self.saved_origin_mode = false;
+    }
+}

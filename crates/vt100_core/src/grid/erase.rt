@@ -1,0 +1,90 @@
+//! Erasing, and cells that come in and go.
+ghost use Rattle.std.specs.Prelude.{◌≡◌, ℕ, ◌+◌, ◌-◌, ◌<◌, ◌≤◌, ◌==◌, min, true, false, if◌then◌else◌};
+
+use vt100_forms::attrs::Attrs;
+
+use crate::grid::Grid;
+use crate::rows_edit::{clear_all, erase_backward, erase_forward};
+
+impl Grid {
+    ghost use Rattle.vt100_core.specs.Grid.{GridView, IsAllocated};
+    ghost use Rattle.vt100_core.specs.Erase.{all_erased, all_erased_forward, all_erased_backward, row_erased, columns_erased, columns_to_cursor, cells_inserted, cells_deleted};
+
+    /// Empties every row, with these attributes (ED 2).
+    pub fn erase_all(&mut self, attrs: Attrs)
+        requires { IsAllocated self.old }
+        ensures { self.new ≡ all_erased self.old attrs }
+    {
+        clear_all(&mut self.rows, attrs);
+    }
+
+    /// Empties the cursor's row from the cursor on, and every row below it (ED 0).
+    pub fn erase_all_forward(&mut self, attrs: Attrs)
+        requires { IsAllocated self.old }
+        ensures { self.new ≡ all_erased_forward self.old attrs }
+    {
+        let row = usize::from(self.pos.row);
+        erase_forward(&mut self.rows, row, self.pos.col, self.size.cols(), attrs);
+    }
+
+    /// Empties every row above the cursor's, and its row up to the cursor (ED 1).
+    pub fn erase_all_backward(&mut self, attrs: Attrs)
+        requires { IsAllocated self.old }
+        ensures { self.new ≡ all_erased_backward self.old attrs }
+    {
+        let row = usize::from(self.pos.row);
+        let end = self.pos.col.min(self.size.cols() - 1) + 1;
+        erase_backward(&mut self.rows, row, end, attrs);
+    }
+
+    /// Empties the cursor's row, with these attributes (EL 2).
+    pub fn erase_row(&mut self, attrs: Attrs)
+        requires { IsAllocated self.old }
+        ensures { self.new ≡ row_erased self.old attrs }
+    {
+        self.rows[usize::from(self.pos.row)].clear(attrs);
+    }
+
+    /// Empties the cursor's row from the cursor on (EL 0). Where the cursor is past the last column nothing is erased.
+    pub fn erase_row_forward(&mut self, attrs: Attrs)
+        requires { IsAllocated self.old }
+        ensures { self.new ≡ columns_erased self.old self.old.col self.old.width attrs }
+    {
+        self.rows[usize::from(self.pos.row)].erase_range(self.pos.col..self.size.cols(), attrs);
+    }
+
+    /// Empties the cursor's row up to the cursor and at it (EL 1).
+    pub fn erase_row_backward(&mut self, attrs: Attrs)
+        requires { IsAllocated self.old }
+        ensures { self.new ≡ columns_erased self.old 0 (columns_to_cursor self.old) attrs }
+    {
+        let end = self.pos.col.min(self.size.cols() - 1) + 1;
+        self.rows[usize::from(self.pos.row)].erase_range(0..end, attrs);
+    }
+
+    /// Inserts default cells at the cursor (ICH). What falls off the row's end is gone.
+    pub fn insert_cells(&mut self, count: u16)
+        requires { IsAllocated self.old }
+        ensures { self.new ≡ cells_inserted self.old count }
+    {
+        self.rows[usize::from(self.pos.row)].insert(self.pos.col, count);
+    }
+
+    /// Takes cells out at the cursor (DCH). Default cells follow at the row's end.
+    pub fn delete_cells(&mut self, count: u16)
+        requires { IsAllocated self.old }
+        ensures { self.new ≡ cells_deleted self.old count }
+    {
+        let end = self.pos.col.saturating_add(count).min(self.size.cols());
+        self.rows[usize::from(self.pos.row)].remove(self.pos.col..end);
+    }
+
+    /// Empties cells from the cursor on, with these attributes (ECH).
+    pub fn erase_cells(&mut self, count: u16, attrs: Attrs)
+        requires { IsAllocated self.old }
+        ensures { self.new ≡ columns_erased self.old self.old.col (min (self.old.col + count) self.old.width) attrs }
+    {
+        let end = self.pos.col.saturating_add(count).min(self.size.cols());
+        self.rows[usize::from(self.pos.row)].erase_range(self.pos.col..end, attrs);
+    }
+}

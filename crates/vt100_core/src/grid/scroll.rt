@@ -1,0 +1,117 @@
+//! Scrolling up, and the rows that leave the screen.
+ghost use Rattle.std.specs.Prelude.{◌≡◌, ℕ, ◌+◌, ◌-◌, ◌<◌, ◌≤◌, ◌==◌, length, min, true, false, ◌&&◌, OnOk, IfOk, if◌then◌else◌};
+ghost use Rattle.vt100_core.specs.Sink.{TakesAll};
+
+use vt100_forms::GridError;
+
+use crate::grid::Grid;
+use crate::row_sink::{RowSink, give_rows};
+use crate::rows_edit::move_up;
+use crate::scrollback::drop_oldest;
+
+impl Grid {
+    ghost use Rattle.vt100_core.specs.Grid.{GridView, IsAllocated, is_in_region, with_row};
+    ghost use Rattle.vt100_core.specs.Sheet.{row_at};
+    ghost use Rattle.vt100_rows.specs.Row.{with_wrap};
+    ghost use Rattle.vt100_core.specs.Scroll.{scrolled_up, fed, rows_past_bottom, made_to_fit, scrollback_erased, scrollback_shown};
+
+    /// Moves the lines of the scroll region up; blank ones come in at its bottom (SU). Where the region begins at the
+    /// screen's first row, the rows that leave it are kept, as many as the capacity allows. The sink is given those that
+    /// leave for good: the oldest kept ones, and those that are never kept.
+    pub fn scroll_up<S: RowSink>(&mut self, count: u16, sink: &mut S) -> Result<(), GridError>
+        requires { IsAllocated self.old }
+        ensures grid { OnOk result (self.new ≡ (scrolled_up self.old count).grid) }
+        ensures sink { OnOk result (TakesAll S.takes sink.old (scrolled_up self.old count).sunk sink.new) }
+    {
+        let first = usize::from(self.scroll_top);
+        let end = usize::from(self.scroll_bottom) + 1;
+        let n = usize::from(count).min(end - first);
+        if first > 0 {
+            move_up(&mut self.rows, first, end, n, self.size.cols());
+        } else if self.scrollback.enabled {
+            self.scrollback.scroll_off(&mut self.rows, end, n, self.size.rows(), self.size.cols(), sink)?;
+        } else {
+            give_rows(&self.rows[..n], sink);
+            move_up(&mut self.rows, first, end, n, self.size.cols());
+        }
+        Ok(())
+    }
+
+    /// Gives the kept rows to the sink, the oldest first, and keeps none of them (ED 3).
+    pub fn erase_all_scrollback<S: RowSink>(&mut self, sink: &mut S)
+        requires { IsAllocated self.old }
+        ensures grid { self.new ≡ scrollback_erased self.old }
+        ensures sink { TakesAll S.takes sink.old self.old.kept.rows sink.new }
+    {
+        let n = self.scrollback.rows.len();
+        drop_oldest(&mut self.scrollback.rows, n, sink);
+        self.scrollback.unbounded_len = 0;
+        self.scrollback.offset = 0;
+    }
+
+    /// Shows the newest `rows` of the kept rows above the others, or all of them if there are fewer. Those that the screen
+    /// shows are made at least as wide as it.
+    pub fn set_scrollback(&mut self, rows: usize) -> Result<(), GridError>
+        requires { IsAllocated self.old }
+        ensures { OnOk result (self.new ≡ scrollback_shown self.old rows) }
+    {
+        let offset = rows.min(self.scrollback.rows.len());
+        self.scrollback.show(offset, self.size.rows(), self.size.cols())?;
+        Ok(())
+    }
+
+    /// Moves the cursor down. In the scroll region it stops at the region's last row, and the region scrolls up by the
+    /// rows that are left (IND); their number is the answer.
+    pub fn row_inc_scroll<S: RowSink>(&mut self, count: u16, sink: &mut S) -> Result<u16, GridError>
+        requires { IsAllocated self.old }
+        ensures grid { OnOk result (self.new ≡ (fed self.old count).grid) }
+        ensures sink { OnOk result (TakesAll S.takes sink.old (fed self.old count).sunk sink.new) }
+        ensures lines { IfOk result (λ n. n ≡ rows_past_bottom self.old count) }
+    {
+        if !self.in_scroll_region() {
+            self.row_inc_clamp(count);
+            return Ok(0);
+        }
+        let lines = self.pos.row.saturating_add(count).saturating_sub(self.scroll_bottom);
+        self.row_inc_clamp(count);
+        self.scroll_up(lines, sink)?;
+        Ok(lines)
+    }
+
+    /// Moves the cursor to the start of the next row if fewer than `width` columns are left, and scrolls as
+    /// [`row_inc_scroll`](Self::row_inc_scroll) does. The row that it left is marked as wrapped if `wrap` is set, it
+    /// shows something in its last column, and it now stands directly above the cursor; else it isn't wrapped any more.
+    pub fn col_wrap<S: RowSink>(&mut self, width: u16, wrap: bool, sink: &mut S) -> Result<(), GridError>
+        requires allocated { IsAllocated self.old }
+        requires fits { width ≤ self.old.width }
+        ensures grid { OnOk result (self.new ≡ (made_to_fit self.old width wrap).grid) }
+        ensures sink { OnOk result (TakesAll S.takes sink.old (made_to_fit self.old width wrap).sunk sink.new) }
+    {
+        if self.pos.col <= self.size.cols() - width {
+            return Ok(());
+        }
+        let row = self.pos.row;
+        let scrolls = row == self.scroll_bottom;
+        self.pos.col = 0;
+        self.row_inc_scroll(1, sink)?;
+        if scrolls {
+            // On a screen of one row the row that the cursor left is gone.
+            if row > 0 {
+                self.mark_row(row - 1, wrap);
+            }
+            return Ok(());
+        }
+        self.mark_row(row, wrap);
+        Ok(())
+    }
+
+    /// Marks a row as wrapped, if `wrap` is set, it shows something in its last column and it stands directly above the
+    /// cursor; else takes its mark off.
+    fn mark_row(&mut self, row: u16, wrap: bool)
+        requires { row < length self.old.rows }
+        ensures { self.new ≡ with_row self.old row (with_wrap (row_at self.old.rows row) (wrap && ((row + 1) == self.old.row))) }
+    {
+        let wraps = wrap && row + 1 == self.pos.row;
+        self.rows[usize::from(row)].wrap(wraps);
+    }
+}

@@ -1,0 +1,164 @@
+//! Printing text.
+ghost use Rattle.std.specs.Prelude.{◌≡◌, ℕ, ◌+◌, ◌-◌, ◌<◌, ◌≤◌, ◌==◌, ◌&&◌, ◌||◌, nat_lt, true, false, Some, OnOk, IfOk, if◌then◌else◌};
+ghost use Rattle.vt100_rows.specs.Cell.{IsCell, cell_of, columns_of, drawn_columns, has_text};
+ghost use Rattle.vt100_rows.specs.Line.{span_of};
+ghost use Rattle.vt100_rows.specs.Row.{join_row, join_answer};
+ghost use Rattle.vt100_core.specs.Sink.{TakesAll};
+
+use vt100_forms::GridError;
+use vt100_forms::attrs::Attrs;
+use vt100_rows::{Cell, Join, columns};
+
+use crate::grid::Grid;
+use crate::printed::Printed;
+use crate::row_sink::RowSink;
+
+impl Grid {
+    ghost use Rattle.vt100_core.specs.Grid.{GridView, IsGrid, IsAllocated, row_of_cursor, with_cursor_row};
+    ghost use Rattle.vt100_core.specs.Text.{put_at, spaced, joined, is_dropped, printed};
+    ghost use Rattle.vt100_core.specs.Scroll.{made_to_fit};
+
+    /// Prints one character at the cursor, with these attributes.
+    ///
+    /// A character takes as many columns as its Unicode width says (UAX #11), but at most two. Where too few are left it
+    /// goes to the next row, as [`col_wrap`](Self::col_wrap) says. What it covers in part is gone. One that takes no
+    /// column joins the cell to the cursor's left; U+FE0F, which asks for an emoji, can make that cell wide, and where it
+    /// then has no room it moves to the next row. Dropped are control characters, what is wider than the screen, and
+    /// zero-width characters at the first column.
+    ///
+    /// After a refusal the grid is whole, but what it shows is open.
+    pub fn text<S: RowSink>(&mut self, c: char, attrs: Attrs, sink: &mut S) -> Result<Printed, GridError>
+        requires { IsAllocated self.old }
+        ensures grid { OnOk result (self.new ≡ (printed self.old c attrs).grid) }
+        ensures sink { OnOk result (TakesAll S.takes sink.old (printed self.old c attrs).sunk sink.new) }
+        ensures answer { IfOk result (λ p. p ≡ (printed self.old c attrs).printed) }
+    {
+        match self.drawn_columns(c) {
+            None => Ok(Printed::Nothing),
+            Some(columns) => {
+                if columns == 0 {
+                    return self.join(c, attrs, sink);
+                }
+                self.space(c, columns, attrs, sink)?;
+                Ok(Printed::Spacing)
+            }
+        }
+    }
+
+    /// How many columns a character takes here, if it isn't dropped.
+    #[inline]
+    fn drawn_columns(&self, c: char) -> Option<u16>
+        ensures { result ≡ (if is_dropped self.now c then None else Some (columns_of c)) }
+    {
+        match columns(c) {
+            None => None,
+            Some(columns) => {
+                if is_out_of_place(columns, self.pos.col, self.size.cols()) {
+                    None
+                } else {
+                    Some(columns)
+                }
+            }
+        }
+    }
+
+    /// Prints a character of one or two columns.
+    fn space<S: RowSink>(&mut self, c: char, columns: u16, attrs: Attrs, sink: &mut S) -> Result<(), GridError>
+        requires allocated { IsAllocated self.old }
+        requires drawn { drawn_columns c ≡ Some columns }
+        requires some { 0 < columns }
+        requires fits { columns ≤ self.old.width }
+        ensures grid { OnOk result (self.new ≡ (spaced self.old c attrs).grid) }
+        ensures sink { OnOk result (TakesAll S.takes sink.old (spaced self.old c attrs).sunk sink.new) }
+    {
+        self.col_wrap(columns, true, sink)?;
+        self.put(c, columns, attrs);
+        Ok(())
+    }
+
+    /// Puts a character of one or two columns at the cursor.
+    fn put(&mut self, c: char, columns: u16, attrs: Attrs)
+        requires allocated { IsAllocated self.old }
+        requires drawn { drawn_columns c ≡ Some columns }
+        requires some { 0 < columns }
+        requires fits { self.old.col + columns ≤ self.old.width }
+        ensures { self.new ≡ put_at self.old (cell_of c attrs) attrs columns }
+    {
+        let col = self.pos.col;
+        self.rows[usize::from(self.pos.row)].put(col, c, columns, attrs);
+        self.pos.col = col + columns;
+    }
+
+    /// Puts a wide cell at the cursor.
+    fn put_wide(&mut self, cell: Cell, attrs: Attrs)
+        requires allocated { IsAllocated self.old }
+        requires valid { IsCell cell }
+        requires text { has_text cell ≡ true }
+        requires wide { cell.wide ≡ true }
+        requires fits { self.old.col + 2 ≤ self.old.width }
+        ensures { self.new ≡ put_at self.old cell attrs 2 }
+    {
+        let col = self.pos.col;
+        self.rows[usize::from(self.pos.row)].put_cell(col, cell, attrs);
+        self.pos.col = col + 2;
+    }
+
+    /// Has a zero-width character join the cell to the cursor's left, in its row.
+    fn join_in_row(&mut self, c: char, attrs: Attrs) -> Join
+        requires allocated { IsAllocated self.old }
+        requires zero_width { drawn_columns c ≡ Some 0 }
+        requires after_some { 0 < self.old.col }
+        ensures grid { self.new ≡ with_cursor_row self.old (join_row (row_of_cursor self.old) self.old.col c attrs) }
+        ensures answer { result ≡ join_answer (row_of_cursor self.old) self.old.col c attrs }
+        ensures valid { IsGrid self.old }
+    {
+        let col = self.pos.col;
+        self.rows[usize::from(self.pos.row)].join(col, c, attrs)
+    }
+
+    /// Prints a zero-width character.
+    fn join<S: RowSink>(&mut self, c: char, attrs: Attrs, sink: &mut S) -> Result<Printed, GridError>
+        requires allocated { IsAllocated self.old }
+        requires zero_width { drawn_columns c ≡ Some 0 }
+        requires after_some { 0 < self.old.col }
+        ensures grid { OnOk result (self.new ≡ (joined self.old c attrs).grid) }
+        ensures sink { OnOk result (TakesAll S.takes sink.old (joined self.old c attrs).sunk sink.new) }
+        ensures answer { IfOk result (λ p. p ≡ (joined self.old c attrs).printed) }
+    {
+        match self.join_in_row(c, attrs) {
+            Join::InPlace => Ok(Printed::Joined),
+            Join::Ignored => Ok(Printed::Nothing),
+            Join::Widened => {
+                self.pos.col += 1;
+                Ok(Printed::Joined)
+            }
+            Join::Carried(cell) => {
+                self.carry(cell, attrs, sink)?;
+                Ok(Printed::Joined)
+            }
+        }
+    }
+
+    /// Puts a wide cell at the start of the next row.
+    fn carry<S: RowSink>(&mut self, cell: Cell, attrs: Attrs, sink: &mut S) -> Result<(), GridError>
+        requires allocated { IsAllocated self.old }
+        requires valid { IsCell cell }
+        requires text { has_text cell ≡ true }
+        requires wide { cell.wide ≡ true }
+        requires fits { 2 ≤ self.old.width }
+        ensures grid { OnOk result (self.new ≡ put_at (made_to_fit self.old 2 false).grid cell attrs 2) }
+        ensures sink { OnOk result (TakesAll S.takes sink.old (made_to_fit self.old 2 false).sunk sink.new) }
+    {
+        self.col_wrap(2, false, sink)?;
+        self.put_wide(cell, attrs);
+        Ok(())
+    }
+}
+
+/// Whether a character of so many columns is wider than the screen, or takes none and has no cell to its left.
+#[inline]
+fn is_out_of_place(columns: u16, col: u16, width: u16) -> bool
+    ensures { result ≡ (nat_lt width columns || ((columns == 0) && (col == 0))) }
+{
+    columns > width || (columns == 0 && col == 0)
+}

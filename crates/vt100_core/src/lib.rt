@@ -1,0 +1,19 @@
+//! The data of a terminal's screen: cells, rows and the grid that they make, and printing text on it.
+#![tactic(auto)]
+
+pub mod drawing_rows;
+pub mod grid;
+pub mod printed;
+pub mod row_sink;
+mod rows_edit;
+pub mod scrollback;
+pub mod size;
+pub mod visible_rows;
+
+pub use drawing_rows::DrawingRows;
+pub use grid::Grid;
+pub use printed::Printed;
+pub use row_sink::RowSink;
+pub use scrollback::Scrollback;
+pub use size::Size;
+pub use visible_rows::VisibleRows;

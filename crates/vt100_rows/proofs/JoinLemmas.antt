@@ -1,0 +1,157 @@
+-- A zero-width character in a row.
+use Rattle.std.proofs.Common.{◌≡◌, ℕ, ◌+◌, ◌-◌, ◌<◌, ◌≤◌, ◌==◌, Bool, true, false, cond, not, ◌&&◌, ◌||◌, List, [], ◌∷◌, ◌++◌, length, set, Some, sym, refl, ap, ◌∙◌, arith, ⊎_elim, nat_lt}
+use Rattle.std.specs.Char.{IsScalar}
+use Rattle.std.proofs.lemmas.Bool.{false≢true, cases_eq, eq-eqb, ne_eqb, and_parts, cond_both, ltb-true, not-true}
+use Rattle.std.proofs.lemmas.Bool.Decides.{nat_tests}
+use Rattle.vt100_forms.specs.declared.attrs.Attrs.{Attrs}
+use Rattle.vt100_rows.specs.Cell.{CellView, IsCell, IsWideAs, has_text, is_filled, has_room, text_with, is_widened_by, appended, drawn_columns}
+use Rattle.vt100_rows.specs.Line.{IsPaired, Bounded, span_of, update, put, base_col}
+use Rattle.vt100_rows.specs.Row.{RowView, IsRow, cell_at, by_position, joined_cell, is_widening, joined_row, join_row, placed, wiped_row}
+use Rattle.vt100_rows.proofs.CellLemmas.{IsCell-appended}
+use Rattle.vt100_rows.proofs.ListLemmas.{not_first, Bounded-row, set-by_position, length-by_position}
+use Rattle.vt100_rows.proofs.LineLemmas.{put-same, IsPaired-put}
+use Rattle.vt100_rows.proofs.EditedCells.{IsCell-update}
+use Rattle.vt100_rows.proofs.TrimLemmas.{not-false}
+use Rattle.vt100_rows.proofs.RowLemmas.{IsRow-by_position, IsRow-placed, IsRow-wiped, IsPaired-like}
+
+-- ---- the cell that is joined
+
+pub whole_if_wide : (f : ℕ → CellView) (i : ℕ) → IsPaired f → (f i).wide ≡ true → (f i).continuation ≡ false
+whole_if_wide f i p w = (elim (f i).continuation as (λ b. (f i).continuation ≡ b → b ≡ false) [
+  | true ↦ λ e. absurd (false≢true (ap (λ (c : CellView). c.wide) (sym (p.blank i e)) ∙ w))
+  | false ↦ λ e. refl
+]) refl
+
+-- it is no second half
+pub base_col-whole : (f : ℕ → CellView) (col : ℕ) → IsPaired f → (f (base_col f col)).continuation ≡ false
+base_col-whole f col p = (elim (f (col - 1)).continuation as (λ b. (f (col - 1)).continuation ≡ b → (f (cond b (col - 2) (col - 1))).continuation ≡ false) [
+  | true ↦ λ e.
+      let later = not_first f (col - 1) p e in
+      let k : col - 2 + 1 ≡ col - 1 = omega arith in
+      let wide : (f (col - 2)).wide ≡ true = sym (p.next (col - 2)) ∙ ap (λ j. (f j).continuation) k ∙ e in
+      whole_if_wide f (col - 2) p wide
+  | false ↦ λ e. e
+]) refl
+
+pub base_col-within : (f : ℕ → CellView) (n col : ℕ) → 0 < col → col ≤ n → base_col f col < n
+base_col-within f n col h l = cond_both (f (col - 1)).continuation (col - 2) (col - 1) (λ i. i < n) (λ _. omega arith) (λ _. omega arith)
+
+-- ---- what joining does to a cell
+
+text_with-some : (cs : List ℕ) (c : ℕ) → (length (text_with cs c) == 0) ≡ false
+text_with-some [] c = refl
+text_with-some (x ∷ xs) c = ne_eqb (length (x ∷ (xs ++ c ∷ []))) 0 (λ e. absurd (omega (arith, e)))
+
+filled-appended : (x : CellView) (c : ℕ) → is_filled x ≡ true → is_filled (appended x c) ≡ true
+filled-appended x c h = cond_both (has_room x.text) _ x (λ y. is_filled y ≡ true) (λ _. ap (λ b. not b || x.continuation) (text_with-some x.text c)) (λ _. h)
+
+appended-continuation : (x : CellView) (c : ℕ) → (appended x c).continuation ≡ x.continuation
+appended-continuation x c = cond_both (has_room x.text) _ x (λ y. y.continuation ≡ x.continuation) (λ _. refl) (λ _. refl)
+
+-- a wide cell stays wide
+appended-wide : (x : CellView) (c : ℕ) → x.wide ≡ true → (appended x c).wide ≡ true
+appended-wide x c w = cond_both (has_room x.text) _ x (λ y. y.wide ≡ true) (λ _. ap (λ b. b || is_widened_by x.text c) w) (λ _. w)
+
+same-width : (w v : Bool) → (v ≡ true → w ≡ true) → (w && not v) ≡ false → w ≡ v
+same-width true true h e = refl
+same-width true false h e = absurd (false≢true (sym e))
+same-width false true h e = h refl
+same-width false false h e = refl
+
+wide_text : (cs : List ℕ) (w : Bool) → IsWideAs cs w → w ≡ true → not (length cs == 0) ≡ true
+wide_text [] w h e = absurd (false≢true (sym h ∙ e))
+wide_text (x ∷ xs) w h e = ap not (ne_eqb (length (x ∷ xs)) 0 (λ q. absurd (omega (arith, q))))
+
+-- a cell that becomes wide has a text
+pub appended-has_text : (x : CellView) (c : ℕ) → IsCell x → (appended x c).wide ≡ true → has_text (appended x c) ≡ true
+appended-has_text x c h =
+    cond_both (has_room x.text) _ x (λ y. y.wide ≡ true → has_text y ≡ true) (λ _ w. ap not (text_with-some x.text c)) (λ _ w. wide_text x.text x.wide h.wide w)
+
+pub widened-is : (v : RowView) (col c : ℕ) → IsRow v → is_widening v col c ≡ true → ((joined_cell v col c).wide ≡ true) × (has_text (joined_cell v col c) ≡ true)
+widened-is v col c r h =
+    let f = cell_at v.cells in
+    let w = (and_parts (joined_cell v col c).wide (not (f (base_col f col)).wide) h).0 in
+    (w, appended-has_text (f (base_col f col)) c (r.cells (base_col f col)) w)
+
+-- only the cell directly left of the cursor can become wide
+pub widened-base : (v : RowView) (col c : ℕ) → IsRow v → is_widening v col c ≡ true → base_col (cell_at v.cells) col ≡ col - 1
+widened-base v col c r h =
+    let f = cell_at v.cells in
+    let narrow = not-true (f (base_col f col)).wide (and_parts (joined_cell v col c).wide (not (f (base_col f col)).wide) h).1 in
+    (elim (f (col - 1)).continuation as (λ b. (f (col - 1)).continuation ≡ b → (f (cond b (col - 2) (col - 1))).wide ≡ false → cond b (col - 2) (col - 1) ≡ col - 1) [
+      | true ↦ λ e q.
+          let later = not_first f (col - 1) r.paired e in
+          let k : col - 2 + 1 ≡ col - 1 = omega arith in
+          absurd (false≢true (sym q ∙ sym (r.paired.next (col - 2)) ∙ ap (λ j. (f j).continuation) k ∙ e))
+      | false ↦ λ e q. refl
+    ]) refl narrow
+
+-- ---- the rows that result
+
+Bounded-update : (n : ℕ) (f : ℕ → CellView) (i : ℕ) (x : CellView) → Bounded n f → i < n → Bounded n (update f i x)
+Bounded-update n f i x b l k h = grind (arith, nat_tests, b k h)
+
+update-last : (f : ℕ → CellView) (i n : ℕ) (x : CellView) → (is_filled (f i) ≡ true → is_filled x ≡ true) → is_filled (f n) ≡ true → is_filled (update f i x n) ≡ true
+update-last f i n x h g =
+    ⊎_elim (λ (e : n ≡ i). ap (λ b. is_filled (cond b x (f n))) (eq-eqb n i e) ∙ h (ap (λ j. is_filled (f j)) (sym e) ∙ g))
+    (λ ne. ap (λ b. is_filled (cond b x (f n))) (ne_eqb n i ne) ∙ g) (cases_eq n i)
+
+pub IsRow-joined : (v : RowView) (col c : ℕ) → IsRow v → IsScalar c → drawn_columns c ≡ Some 0 → 0 < col → col ≤ length v.cells → is_widening v col c ≡ false → IsRow (joined_row v col c)
+IsRow-joined v col c r s z h l narrow =
+    let f = cell_at v.cells in
+    let n = length v.cells in
+    let i = base_col f col in
+    let x = joined_cell v col c in
+    let whole = base_col-whole f col r.paired in
+    let same = same-width x.wide (f i).wide (appended-wide (f i) c) narrow in
+    IsRow-by_position n (update f i x) v.wrapped r.narrow
+    (IsPaired-like (update f i x) (put f i x (f i).attrs) (λ k. sym (put-same f i x (f i).attrs k r.paired whole same)) (IsPaired-put f i x (f i).attrs r.paired (appended-continuation (f i) c ∙ whole)))
+    (Bounded-update n f i x (Bounded-row v.cells) (base_col-within f n col h l))
+    (IsCell-update f i x r.cells (IsCell-appended (f i) c (r.cells i) s z whole))
+    (λ w. update-last f i (n - 1) x (filled-appended (f i) c) (r.filled w))
+
+pub IsCell-joined : (v : RowView) (col c : ℕ) → IsRow v → IsScalar c → drawn_columns c ≡ Some 0 → IsCell (joined_cell v col c)
+IsCell-joined v col c r s z =
+    let f = cell_at v.cells in
+    IsCell-appended (f (base_col f col)) c (r.cells (base_col f col)) s z (base_col-whole f col r.paired)
+
+widened-within : (x : CellView) (col n : ℕ) → x.wide ≡ true → 0 < col → col < n → col - 1 + span_of x ≤ n
+widened-within x col n w h l = let two : span_of x ≡ 2 = ap (λ b. cond b 2 1) w in omega arith
+
+pub IsRow-join : (v : RowView) (col c : ℕ) (a : Attrs) → IsRow v → IsScalar c → drawn_columns c ≡ Some 0 → 0 < col → col ≤ length v.cells → IsRow (join_row v col c a)
+IsRow-join v col c a r s z h l =
+    let x = joined_cell v col c in
+    let n = length v.cells in
+    cond_both (not (is_widening v col c)) (joined_row v col c) _ IsRow
+    (λ e. IsRow-joined v col c r s z h l (not-true (is_widening v col c) e))
+    (λ e. let wide = widened-is v col c r (not-false (is_widening v col c) e) in
+    cond_both (n == 1) v _ IsRow (λ _. r)
+    (λ _. cond_both (nat_lt col n) (placed v (col - 1) x a) (wiped_row v (col - 1) col a) IsRow
+    (λ t. IsRow-placed v (col - 1) x a r (IsCell-joined v col c r s z) wide.1 (widened-within x col n wide.0 h (ltb-true col n t)))
+    (λ _. IsRow-wiped v (col - 1) col a r l)))
+
+pub length-join : (v : RowView) (col c : ℕ) (a : Attrs) → length (join_row v col c a).cells ≡ length v.cells
+length-join v col c a =
+    let f = cell_at v.cells in
+    let n = length v.cells in
+    cond_both (not (is_widening v col c)) (joined_row v col c) _ (λ w. length w.cells ≡ n) (λ _. length-by_position n (update f (base_col f col) (joined_cell v col c)))
+    (λ _. cond_both (n == 1) v _ (λ w. length w.cells ≡ n) (λ _. refl)
+    (λ _. cond_both (nat_lt col n) (placed v (col - 1) (joined_cell v col c) a) (wiped_row v (col - 1) col a) (λ w. length w.cells ≡ n)
+    (λ _. length-by_position n _) (λ _. length-by_position n _)))
+
+-- what the code does where no cell becomes wide
+pub joins-in_place : (v : RowView) (xs ys : List CellView) (col n i c : ℕ) (x y : CellView) (a : Attrs) → xs ≡ v.cells → ys ≡ v.cells → n ≡ col → i ≡ base_col (cell_at xs) n → y ≡ cell_at ys i → x ≡ appended y c
+    → (x.wide && not y.wide) ≡ false → 0 < col → col ≤ length v.cells → record { cells = set v.cells i x; wrapped = v.wrapped } ≡ join_row v col c a
+joins-in_place v xs ys col n i c x y a exs eys en ei ey ex narrow h l =
+    let f = cell_at v.cells in
+    let j = base_col f col in
+    let at_j : i ≡ j = ei ∙ ap (λ (zs : List CellView). base_col (cell_at zs) n) exs ∙ ap (base_col f) en in
+    let old : y ≡ f j = ey ∙ ap (λ (zs : List CellView). cell_at zs i) eys ∙ ap f at_j in
+    let new : x ≡ joined_cell v col c = ex ∙ ap (λ z. appended z c) old in
+    let same : is_widening v col c ≡ false = ap (λ (z : CellView). z.wide && not (f j).wide) (sym new) ∙ ap (λ (z : CellView). x.wide && not z.wide) (sym old) ∙ narrow in
+    let cells : set v.cells i x ≡ by_position (length v.cells) (update f j (joined_cell v col c)) =
+    ap (λ m. set v.cells m x) at_j ∙ ap (set v.cells j) new
+    ∙ set-by_position v.cells j (joined_cell v col c) (update f j (joined_cell v col c)) (base_col-within f (length v.cells) col h l) (λ k. refl) in
+    (λ k. record { cells = cells k; wrapped = v.wrapped })
+    ∙ ap (λ b. cond (not b) (joined_row v col c)
+    (cond (length v.cells == 1) v (cond (nat_lt col (length v.cells)) (placed v (col - 1) (joined_cell v col c) a) (wiped_row v (col - 1) col a)))) (sym same)

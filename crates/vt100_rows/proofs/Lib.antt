@@ -1,0 +1,13 @@
+pub mod CellTextLemmas
+pub mod WidthLemmas
+pub mod CellLemmas
+pub mod ListLemmas
+pub mod LineLemmas
+pub mod MoveLemmas
+pub mod EditedCells
+pub mod RowLemmas
+pub mod EditLemmas
+pub mod ShiftLemmas
+pub mod TrimLemmas
+pub mod JoinLemmas
+pub mod TextLemmas

@@ -1,0 +1,165 @@
+-- The text of a row, column by column.
+use Rattle.std.proofs.Common.{◌≡◌, ℕ, zero, suc, ◌+◌, ◌-◌, ◌≤◌, ◌==◌, Bool, true, false, cond, not, ◌&&◌, List, [], ◌∷◌, ◌++◌, length, replicate, sym, refl, ap, ◌∙◌, arith, append_assoc, append-nil, length-append, min}
+use Rattle.std.specs.Prelude.{encode_utf8_all, encode_utf8}
+use Rattle.std.proofs.lemmas.Bool.{ne_eqb, false≢true}
+use Rattle.std.proofs.lemmas.List.{replicate-append-replicate}
+use Rattle.std.proofs.lemmas.Str.{encodes-append, encode_ascii}
+use Rattle.vt100_rows.specs.Cell.{CellView, has_text}
+use Rattle.vt100_rows.specs.Row.{RowView, cell_at}
+use Rattle.vt100_rows.specs.Text.{column_text, columns_text, line_text, row_text, written_text}
+
+-- ---- spaces
+
+pub more_spaces : (n : ℕ) → replicate n 32 ++ encode_utf8 32 ≡ replicate (n + 1) 32
+more_spaces n = ap (λ bs. replicate n 32 ++ bs) (encode_ascii 32 (omega arith)) ∙ replicate-append-replicate n 1 32
+
+encodes-spaces : (n : ℕ) → encode_utf8_all (replicate n 32) ≡ replicate n 32
+encodes-spaces zero = refl
+encodes-spaces (suc n) = ap (λ bs. bs ++ encode_utf8_all (replicate n 32)) (encode_ascii 32 (omega arith)) ∙ ap (λ bs. 32 ∷ bs) (encodes-spaces n)
+
+-- ---- one column more
+
+column_text-has : (f : ℕ → CellView) (s k : ℕ) → has_text (f k) ≡ true → column_text f s k ≡ (f k).text
+column_text-has f s k h = rw h refl
+
+-- where a text stands
+line_text-has : (f : ℕ → CellView) (s n b : ℕ) → columns_text f s n ≡ line_text f s n ++ replicate b 32 → has_text (f (s + n)) ≡ true
+    → line_text f s (suc n) ≡ line_text f s n ++ replicate b 32 ++ (f (s + n)).text
+line_text-has f s n b g h =
+    ap (λ t. cond t (columns_text f s (suc n)) (line_text f s n)) h
+    ∙ ap (λ (cs : List ℕ). cs ++ column_text f s (s + n)) g ∙ ap (λ cs. (line_text f s n ++ replicate b 32) ++ cs) (column_text-has f s (s + n) h)
+
+pub columns_text-has : (f : ℕ → CellView) (s n : ℕ) → has_text (f (s + n)) ≡ true → columns_text f s (suc n) ≡ line_text f s (suc n) ++ replicate 0 32
+columns_text-has f s n h = sym (ap (λ t. cond t (columns_text f s (suc n)) (line_text f s n)) h) ∙ sym (append-nil (line_text f s (suc n)))
+
+-- what the code appends there
+pub writes-text : (f : ℕ → CellView) (s n b : ℕ) (old was spaced now : List ℕ) → columns_text f s n ≡ line_text f s n ++ replicate b 32 → has_text (f (s + n)) ≡ true
+    → was ≡ old ++ encode_utf8_all (line_text f s n) → spaced ≡ was ++ replicate b 32 → now ≡ spaced ++ encode_utf8_all (f (s + n)).text
+    → now ≡ old ++ encode_utf8_all (line_text f s (suc n))
+writes-text f s n b old was spaced now g h ew es en =
+    let t = (f (s + n)).text in
+    let ls = line_text f s n in
+    let whole : encode_utf8_all (line_text f s (suc n)) ≡ encode_utf8_all ls ++ replicate b 32 ++ encode_utf8_all t =
+    ap encode_utf8_all (line_text-has f s n b g h) ∙ encodes-append (ls ++ replicate b 32) t
+    ∙ ap (λ bs. bs ++ encode_utf8_all t) (encodes-append ls (replicate b 32) ∙ ap (λ bs. encode_utf8_all ls ++ bs) (encodes-spaces b)) in
+    en ∙ ap (λ (bs : List ℕ). bs ++ encode_utf8_all t) (es ∙ ap (λ (bs : List ℕ). bs ++ replicate b 32) ew)
+    ∙ ap (λ (bs : List ℕ). bs ++ encode_utf8_all t) (append_assoc old (encode_utf8_all ls) (replicate b 32))
+    ∙ append_assoc old (encode_utf8_all ls ++ replicate b 32) (encode_utf8_all t) ∙ ap (λ bs. old ++ bs) (sym whole)
+
+some-text : (xs ys : List ℕ) → not (length ys == 0) ≡ true → not (length (xs ++ ys) == 0) ≡ true
+some-text xs [] h = absurd (false≢true h)
+some-text xs (y ∷ ys) h = ap not (ne_eqb (length (xs ++ y ∷ ys)) 0 (λ e. absurd (omega (arith, e, length-append xs (y ∷ ys)))))
+
+pub shows-text : (f : ℕ → CellView) (s n b : ℕ) → columns_text f s n ≡ line_text f s n ++ replicate b 32 → has_text (f (s + n)) ≡ true → true ≡ not (length (line_text f s (suc n)) == 0)
+shows-text f s n b g h = sym (ap (λ (cs : List ℕ). not (length cs == 0)) (line_text-has f s n b g h) ∙ some-text (line_text f s n ++ replicate b 32) (f (s + n)).text h)
+
+-- where none stands
+pub line_text-none : (f : ℕ → CellView) (s n : ℕ) → has_text (f (s + n)) ≡ false → line_text f s (suc n) ≡ line_text f s n
+line_text-none f s n h = ap (λ t. cond t (columns_text f s (suc n)) (line_text f s n)) h
+
+columns_text-none : (f : ℕ → CellView) (s n b : ℕ) (cs : List ℕ) → columns_text f s n ≡ line_text f s n ++ replicate b 32 → has_text (f (s + n)) ≡ false
+    → column_text f s (s + n) ≡ cs → columns_text f s (suc n) ≡ line_text f s (suc n) ++ (replicate b 32 ++ cs)
+columns_text-none f s n b cs g h e =
+    ap (λ (xs : List ℕ). xs ++ column_text f s (s + n)) g ∙ ap (λ xs. (line_text f s n ++ replicate b 32) ++ xs) e ∙ append_assoc (line_text f s n) (replicate b 32) cs
+    ∙ ap (λ (xs : List ℕ). xs ++ (replicate b 32 ++ cs)) (sym (line_text-none f s n h))
+
+column_text-none : (f : ℕ → CellView) (s k : ℕ) (q : Bool) → has_text (f k) ≡ false → ((f k).continuation && not (k == s)) ≡ q → column_text f s k ≡ cond q [] (32 ∷ [])
+column_text-none f s k q h e = ap (λ t. cond t (f k).text (cond ((f k).continuation && not (k == s)) [] (32 ∷ []))) h ∙ ap (λ t. cond t [] (32 ∷ [])) e
+
+pub columns_text-half : (f : ℕ → CellView) (s n b : ℕ) → columns_text f s n ≡ line_text f s n ++ replicate b 32 → has_text (f (s + n)) ≡ false
+    → ((f (s + n)).continuation && not ((s + n) == s)) ≡ true → columns_text f s (suc n) ≡ line_text f s (suc n) ++ replicate b 32
+columns_text-half f s n b g h e =
+    columns_text-none f s n b [] g h (column_text-none f s (s + n) true h e) ∙ ap (λ xs. line_text f s (suc n) ++ xs) (append-nil (replicate b 32))
+
+pub columns_text-space : (f : ℕ → CellView) (s n b : ℕ) → columns_text f s n ≡ line_text f s n ++ replicate b 32 → has_text (f (s + n)) ≡ false
+    → ((f (s + n)).continuation && not ((s + n) == s)) ≡ false → columns_text f s (suc n) ≡ line_text f s (suc n) ++ replicate (b + 1) 32
+columns_text-space f s n b g h e =
+    columns_text-none f s n b (32 ∷ []) g h (column_text-none f s (s + n) false h e) ∙ ap (λ xs. line_text f s (suc n) ++ xs) (replicate-append-replicate b 1 32)
+
+not-not : (b : Bool) → not (not b) ≡ b
+not-not true = refl
+not-not false = refl
+
+no_text : (cs : List ℕ) → (length cs == 0) ≡ true → cs ≡ []
+no_text [] e = refl
+no_text (c ∷ cs) e = absurd (false≢true (sym (ne_eqb (length (c ∷ cs)) 0 (λ q. absurd (omega (arith, q)))) ∙ e))
+
+-- ---- the loop over the columns
+
+-- n columns from s on are written after `old`, but for b spaces
+pub record IsWritten (f : ℕ → CellView) (s n : ℕ) (old now : List ℕ) (b : ℕ) (shown : Bool) : Type 0 where
+  pub bytes : now ≡ old ++ encode_utf8_all (line_text f s n)
+  pub gap : columns_text f s n ≡ line_text f s n ++ replicate b 32
+  pub shows : shown ≡ not (length (line_text f s n) == 0)
+  pub few : b ≤ n
+
+pub IsWritten-start : (f : ℕ → CellView) (s n : ℕ) (old : List ℕ) → n ≡ 0 → IsWritten f s n old old 0 false
+IsWritten-start f s n old e = rw e (record { bytes = sym (append-nil old); gap = refl; shows = refl; few = omega arith })
+
+IsWritten-at : (f : ℕ → CellView) (s n m : ℕ) (old now : List ℕ) (b : ℕ) (shown : Bool) → m ≡ n → IsWritten f s n old now b shown → IsWritten f s m old now b shown
+IsWritten-at f s n m old now b shown e h = rw e h
+
+module _ (f : ℕ → CellView) (s col b : ℕ) (old was : List ℕ) (shown : Bool) (later : s ≤ col) (h : IsWritten f s (col - s) old was b shown) where
+  here : s + (col - s) ≡ col
+  here = omega arith
+
+  one_more : col + 1 - s ≡ suc (col - s)
+  one_more = omega arith
+
+  pub IsWritten-text : (spaced now : List ℕ) → has_text (f col) ≡ true → spaced ≡ was ++ replicate b 32 → now ≡ spaced ++ encode_utf8_all (f col).text → IsWritten f s (col + 1 - s) old now 0 true
+  IsWritten-text spaced now t es en =
+      let t2 : has_text (f (s + (col - s))) ≡ true = ap (λ k. has_text (f k)) here ∙ t in
+      IsWritten-at f s (suc (col - s)) (col + 1 - s) old now 0 true one_more (record {
+        bytes = writes-text f s (col - s) b old was spaced now h.gap t2 h.bytes es (en ∙ ap (λ k. spaced ++ encode_utf8_all (f k).text) (sym here));
+        gap = columns_text-has f s (col - s) t2;
+        shows = shows-text f s (col - s) b h.gap t2;
+        few = omega arith;
+      })
+
+  blank : (q : Bool) → has_text (f col) ≡ false → ((f col).continuation && not (col == s)) ≡ q
+      → (has_text (f (s + (col - s))) ≡ false) × (((f (s + (col - s))).continuation && not ((s + (col - s)) == s)) ≡ q)
+  blank q t e = (ap (λ k. has_text (f k)) here ∙ t, ap (λ k. (f k).continuation && not (k == s)) here ∙ e)
+
+  pub IsWritten-space : has_text (f col) ≡ false → ((f col).continuation && not (col == s)) ≡ false → IsWritten f s (col + 1 - s) old was (b + 1) shown
+  IsWritten-space t e =
+      let both = blank false t e in
+      let same = line_text-none f s (col - s) both.0 in
+      IsWritten-at f s (suc (col - s)) (col + 1 - s) old was (b + 1) shown one_more (record {
+        bytes = h.bytes ∙ ap (λ (cs : List ℕ). old ++ encode_utf8_all cs) (sym same);
+        gap = columns_text-space f s (col - s) b h.gap both.0 both.1;
+        shows = h.shows ∙ ap (λ (cs : List ℕ). not (length cs == 0)) (sym same);
+        few = let l = h.few in omega arith;
+      })
+
+  pub IsWritten-half : has_text (f col) ≡ false → ((f col).continuation && not (col == s)) ≡ true → IsWritten f s (col + 1 - s) old was b shown
+  IsWritten-half t e =
+      let both = blank true t e in
+      let same = line_text-none f s (col - s) both.0 in
+      IsWritten-at f s (suc (col - s)) (col + 1 - s) old was b shown one_more (record {
+        bytes = h.bytes ∙ ap (λ (cs : List ℕ). old ++ encode_utf8_all cs) (sym same);
+        gap = columns_text-half f s (col - s) b h.gap both.0 both.1;
+        shows = h.shows ∙ ap (λ (cs : List ℕ). not (length cs == 0)) (sym same);
+        few = let l = h.few in omega arith;
+      })
+
+-- ---- what is written in the end
+
+pub written-whole : (v : RowView) (s n m : ℕ) (wrapping shown : Bool) (old now : List ℕ) (b : ℕ) → m ≡ min (s + n) (length v.cells) - s → IsWritten (cell_at v.cells) s m old now b shown
+    → (wrapping && not shown) ≡ false → now ≡ old ++ encode_utf8_all (written_text v s n wrapping)
+written-whole v s n m wrapping shown old now b e h q =
+    let t = row_text v s (s + n) in
+    let same : line_text (cell_at v.cells) s m ≡ t = ap (line_text (cell_at v.cells) s) e in
+    let no : (wrapping && (length t == 0)) ≡ false =
+    ap (λ r. wrapping && r) (sym (not-not (length t == 0)) ∙ ap (λ (cs : List ℕ). not (not (length cs == 0))) (sym same) ∙ ap not (sym h.shows)) ∙ q in
+    h.bytes ∙ ap (λ (cs : List ℕ). old ++ encode_utf8_all cs) same ∙ ap (λ r. old ++ encode_utf8_all (cond r (10 ∷ []) t)) (sym no)
+
+pub written-newline : (v : RowView) (s n m : ℕ) (wrapping shown : Bool) (old was now : List ℕ) (b : ℕ) → m ≡ min (s + n) (length v.cells) - s → IsWritten (cell_at v.cells) s m old was b shown
+    → wrapping ≡ true → shown ≡ false → now ≡ was ++ encode_utf8 10 → now ≡ old ++ encode_utf8_all (written_text v s n wrapping)
+written-newline v s n m wrapping shown old was now b e h w q en =
+    let t = row_text v s (s + n) in
+    let same : line_text (cell_at v.cells) s m ≡ t = ap (line_text (cell_at v.cells) s) e in
+    let none : (length t == 0) ≡ true = sym (not-not (length t == 0)) ∙ ap (λ (cs : List ℕ). not (not (length cs == 0))) (sym same) ∙ ap not (sym h.shows ∙ q) in
+    let yes : (wrapping && (length t == 0)) ≡ true = ap (λ r. r && (length t == 0)) w ∙ none in
+    let empty : t ≡ [] = no_text t none in
+    let bytes : was ≡ old = h.bytes ∙ ap (λ (cs : List ℕ). old ++ encode_utf8_all cs) (same ∙ empty) ∙ append-nil old in
+    en ∙ ap (λ (bs : List ℕ). bs ++ encode_utf8 10) bytes ∙ ap (λ bs. old ++ bs) (sym (append-nil (encode_utf8 10))) ∙ ap (λ r. old ++ encode_utf8_all (cond r (10 ∷ []) t)) (sym yes)

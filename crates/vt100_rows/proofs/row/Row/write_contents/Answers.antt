@@ -1,0 +1,36 @@
+use Rattle.std.proofs.Common.{◌≡◌, ◌++◌, true, false, not, ◌&&◌, ◌==◌, ap, ◌∙◌, sym, List}
+use Rattle.std.specs.Prelude.{string_bytes, encode_utf8_all}
+use Rattle.vt100_rows.specs.Cell.{CellView, has_text}
+use Rattle.vt100_rows.specs.Row.{RowView, cell_at}
+use Rattle.vt100_rows.proofs.TrimLemmas.{not-false}
+use Rattle.std.proofs.lemmas.Bool.{not-true}
+use Rattle.vt100_rows.proofs.TextLemmas.{IsWritten-text, IsWritten-space, IsWritten-half}
+use Rattle.vt100_rows.proofs.row.Row.write_contents.Goals as goal
+use Rattle.vt100_rows.proofs.row.Row.write_contents.Goals.{then-has_contents+in_ok-push_spaces+in_ok-push_str, else-has_contents+then-is_empty_column, else-has_contents+else-is_empty_column}
+
+pub loop-col-preserved : goal.loop-col-preserved
+loop-col-preserved c =
+    let f = cell_at c.args.self.now.cells in
+    let s = c.from-start.result in
+    let k = c.loop-col.col in
+    let old = string_bytes c.args.contents.now in
+    let was = string_bytes c.loop-col.contents in
+    let here : c.at-cell.result.now ≡ f k = c.at-cell.ensures ∙ ap (λ (xs : List CellView). cell_at xs k) (c.deref.ensures.value ∙ ap (λ (v : RowView). v.cells) c.self.view_is) in
+    let has : c.has_contents.result ≡ has_text (f k) = c.has_contents.ensures ∙ ap has_text here in
+    elim c.if-has_contents.branch [
+      | then-has_contents+in_ok-push_spaces+in_ok-push_str w ↦
+          rw (w.contents-is, w.blanks-is, w.shown-is)
+          (IsWritten-text f s k c.loop-col.blanks old was c.loop-col.shown c.loop-col.auto.col c.loop-col.invariant (string_bytes w.push_spaces.new.contents) (string_bytes w.push_str.new.self)
+          (sym has ∙ w.if-has_contents.true) w.in_ok-push_spaces.ensures
+          (w.in_ok-push_str.ensures.bytes ∙ ap (λ bs. string_bytes w.push_spaces.new.contents ++ bs) (w.contents.ensures.bytes ∙ ap (λ (x : CellView). encode_utf8_all x.text) here)))
+      | else-has_contents+then-is_empty_column w ↦
+          let empty : not ((f k).continuation && not (k == s)) ≡ true =
+          ap (λ (x : CellView). not (x.continuation && not (k == s))) (sym here) ∙ sym w.is_empty_column.ensures ∙ w.if-is_empty_column.true in
+          rw (w.contents-is, w.blanks-is, w.shown-is)
+          (IsWritten-space f s k c.loop-col.blanks old was c.loop-col.shown c.loop-col.auto.col c.loop-col.invariant (sym has ∙ w.if-has_contents.false) (not-true _ empty))
+      | else-has_contents+else-is_empty_column w ↦
+          let half : not ((f k).continuation && not (k == s)) ≡ false =
+          ap (λ (x : CellView). not (x.continuation && not (k == s))) (sym here) ∙ sym w.is_empty_column.ensures ∙ w.if-is_empty_column.false in
+          rw (w.contents-is, w.blanks-is, w.shown-is)
+          (IsWritten-half f s k c.loop-col.blanks old was c.loop-col.shown c.loop-col.auto.col c.loop-col.invariant (sym has ∙ w.if-has_contents.false) (not-false _ half))
+    ]

@@ -1,0 +1,150 @@
+-- What a contract sees of a row, what is true of every row, and what each call does to it.
+use Rattle.std.specs.Prelude.{ℕ, suc, ◌-◌, ◌^◌, ◌<◌, ◌≡◌, ◌==◌, Bool, true, false, not, ◌&&◌, nat_lt, min, List, [], ◌∷◌, length, map, take, replicate, slice_index_or, if◌then◌else◌}
+use Rattle.std.specs.List.{range_with_len}
+use Rattle.vt100_forms.specs.declared.attrs.Attrs.{Attrs}
+use Rattle.vt100_rows.specs.declared.join.Join.{Join}
+use Rattle.vt100_rows.specs.declared.join.Join.TheVariants.{InPlace, Ignored, Widened, Carried}
+use Rattle.vt100_rows.specs.Cell.{CellView, IsCell, default_cell, empty_cell, is_filled, is_default, appended}
+use Rattle.vt100_rows.specs.Line.{IsPaired, update, put, put_unflags, base_col, pair_wiped, wiped, wipe_unflags, cut, opened, closed, extended}
+
+-- the cells from left to right, and whether the row's text goes on in the row below
+pub record RowView : Type 0 where
+  pub cells : List CellView
+  pub wrapped : Bool
+
+-- the line of these cells: the cell at column k, and a default cell past the last column
+abbrev pub cell_at : List CellView → ℕ → CellView
+cell_at cells k = slice_index_or cells k default_cell
+
+-- n cells, where the one at column k is f k
+abbrev pub by_position : ℕ → (ℕ → CellView) → List CellView
+by_position n f = map f (range_with_len 0 n)
+
+abbrev pub last_cell : List CellView → CellView
+last_cell cells = cell_at cells (length cells - 1)
+
+-- ---- what is true of every row
+
+pub record IsRow (v : RowView) : Type 0 where
+  pub paired : IsPaired (cell_at v.cells)
+  pub cells : (k : ℕ) → IsCell (cell_at v.cells k)
+  pub filled : v.wrapped ≡ true → is_filled (last_cell v.cells) ≡ true
+  pub narrow : length v.cells < 2 ^ 16
+
+-- ---- whole rows
+
+-- n default cells
+abbrev pub blank_row : ℕ → RowView
+blank_row n = record { cells = replicate n default_cell; wrapped = false }
+
+-- every cell is empty with these attributes
+abbrev pub cleared_row : RowView → Attrs → RowView
+cleared_row v a = record { cells = replicate (length v.cells) (empty_cell a); wrapped = false }
+
+-- the row with this flag; only a row whose last cell shows something can be wrapped
+abbrev pub with_wrap : RowView → Bool → RowView
+with_wrap v wrap = record { cells = v.cells; wrapped = wrap && is_filled (last_cell v.cells) }
+
+abbrev pub unwrapped : RowView → RowView
+unwrapped v = record { cells = v.cells; wrapped = false }
+
+-- ---- one cell and several
+
+-- x is put at column i, with the drawing attributes a
+abbrev pub placed : RowView → ℕ → CellView → Attrs → RowView
+placed v i x a = record {
+  cells = by_position (length v.cells) (put (cell_at v.cells) i x a);
+  wrapped = v.wrapped && not (put_unflags (length v.cells) (cell_at v.cells) i x);
+}
+
+-- the columns from s up to e are erased
+abbrev pub wiped_row : RowView → ℕ → ℕ → Attrs → RowView
+wiped_row v s e a = record {
+  cells = by_position (length v.cells) (wiped (cell_at v.cells) s e a);
+  wrapped = v.wrapped && not (wipe_unflags (length v.cells) (cell_at v.cells) s e);
+}
+
+-- a wide character at column i is gone from both its columns
+abbrev pub pair_cleared : RowView → ℕ → RowView
+pair_cleared v i =
+    let cells = by_position (length v.cells) (pair_wiped (cell_at v.cells) i) in
+    record { cells = cells; wrapped = v.wrapped && is_filled (last_cell cells) }
+
+-- ---- a zero-width character
+
+-- the cell that c joins, left of column col, once it has joined
+abbrev pub joined_cell : RowView → ℕ → ℕ → CellView
+joined_cell v col c = appended (cell_at v.cells (base_col (cell_at v.cells) col)) c
+
+-- whether c makes the cell left of column col wide
+abbrev pub is_widening : RowView → ℕ → ℕ → Bool
+is_widening v col c = (joined_cell v col c).wide && not (cell_at v.cells (base_col (cell_at v.cells) col)).wide
+
+-- the cell changes in its place
+abbrev pub joined_row : RowView → ℕ → ℕ → RowView
+joined_row v col c = record {
+  cells = by_position (length v.cells) (update (cell_at v.cells) (base_col (cell_at v.cells) col) (joined_cell v col c));
+  wrapped = v.wrapped;
+}
+
+-- ---- insertion and removal
+
+-- default cells come in at column i, as many of the count as there are columns from there on
+abbrev pub inserted_cells : List CellView → ℕ → ℕ → List CellView
+inserted_cells cells i count =
+    let n = min count (length cells - i) in
+    if nat_lt 0 n then by_position (length cells) (cut (length cells) (opened (cell_at cells) i n)) else cells
+
+abbrev pub inserted : RowView → ℕ → ℕ → RowView
+inserted v i count = record { cells = inserted_cells v.cells i count; wrapped = false }
+
+-- the columns from s up to e are taken out
+abbrev pub removed : RowView → ℕ → ℕ → RowView
+removed v s e = record {
+  cells = if nat_lt s e then by_position (length v.cells) (closed (length v.cells) (cell_at v.cells) s (e - s)) else v.cells;
+  wrapped = false;
+}
+
+-- ---- another length
+
+abbrev pub truncated : RowView → ℕ → RowView
+truncated v n = record {
+  cells = by_position (min n (length v.cells)) (cut (min n (length v.cells)) (cell_at v.cells));
+  wrapped = false;
+}
+
+abbrev pub grown : RowView → ℕ → CellView → RowView
+grown v n x =
+    if nat_lt (length v.cells) n
+    then record { cells = by_position n (extended (length v.cells) (cell_at v.cells) x); wrapped = false }
+    else v
+
+abbrev pub resized_row : RowView → ℕ → CellView → RowView
+resized_row v n x = if nat_lt n (length v.cells) then truncated v n else grown v n x
+
+-- how many cells stand up to the last that is no default cell
+abbrev pub trimmed_len : List CellView → ℕ
+trimmed_len [] = 0
+trimmed_len (x ∷ xs) = if (trimmed_len xs == 0) && is_default x then 0 else suc (trimmed_len xs)
+
+-- default cells at the end go
+abbrev pub trimmed : RowView → RowView
+trimmed v = record { cells = take (trimmed_len v.cells) v.cells; wrapped = v.wrapped }
+
+-- ---- what a joined character does to the row, and to the text where it stands too far right
+
+-- the cursor stands at column col; a cell that becomes wide in the last column is taken out of the row, unless there
+-- is no other column
+abbrev pub join_row : RowView → ℕ → ℕ → Attrs → RowView
+join_row v col c a =
+    if not (is_widening v col c) then joined_row v col c
+    else if length v.cells == 1 then v
+    else if nat_lt col (length v.cells) then placed v (col - 1) (joined_cell v col c) a
+    else wiped_row v (col - 1) col a
+
+abbrev pub join_answer : RowView → ℕ → ℕ → Attrs → Join
+join_answer v col c a =
+    if not (is_widening v col c) then InPlace
+    else if length v.cells == 1 then Ignored
+    else if nat_lt col (length v.cells) then Widened
+    else Carried (record (joined_cell v col c) { attrs = a })

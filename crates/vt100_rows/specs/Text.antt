@@ -1,0 +1,27 @@
+-- The text that a row shows.
+use Rattle.std.specs.Prelude.{ℕ, zero, suc, ◌+◌, ◌-◌, ◌==◌, Bool, not, ◌&&◌, min, List, [], ◌∷◌, ◌++◌, length, if◌then◌else◌}
+use Rattle.vt100_rows.specs.Cell.{CellView, has_text}
+use Rattle.vt100_rows.specs.Row.{RowView, cell_at}
+
+-- what column k shows in a text from column s on: its own text, or a space where nothing stands. The second half of a
+-- wide cell shows nothing, but at column s it counts as empty.
+abbrev pub column_text : (ℕ → CellView) → ℕ → ℕ → List ℕ
+column_text f s k = if has_text (f k) then (f k).text else if (f k).continuation && not (k == s) then [] else 32 ∷ []
+
+-- what n columns from s on show
+abbrev pub columns_text : (ℕ → CellView) → ℕ → ℕ → List ℕ
+columns_text f s zero = []
+columns_text f s (suc n) = columns_text f s n ++ column_text f s (s + n)
+
+-- the same up to the last column that has a text
+abbrev pub line_text : (ℕ → CellView) → ℕ → ℕ → List ℕ
+line_text f s zero = []
+line_text f s (suc n) = if has_text (f (s + n)) then columns_text f s (suc n) else line_text f s n
+
+-- the text of the row's columns from s up to e
+abbrev pub row_text : RowView → ℕ → ℕ → List ℕ
+row_text v s e = line_text (cell_at v.cells) s (min e (length v.cells) - s)
+
+-- what is written of n columns from s on; where they show no text below a wrapped row, a newline stands for it
+abbrev pub written_text : RowView → ℕ → ℕ → Bool → List ℕ
+written_text v s n wrapping = if wrapping && (length (row_text v s (s + n)) == 0) then 10 ∷ [] else row_text v s (s + n)

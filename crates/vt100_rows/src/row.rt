@@ -1,0 +1,341 @@
+//! One row of a terminal.
+ghost use Rattle.std.specs.Prelude.{◌≡◌, ℕ, ◌+◌, ◌-◌, ◌<◌, ◌≤◌, ◌==◌, ◌++◌, List, length, Some, true, false, not, ◌&&◌, IfOk, OnOk, OnErr, slice_get, string_bytes, encode_utf8_all, replicate};
+ghost use Rattle.std.specs.Option.{option_copied};
+ghost use Rattle.vt100_rows.specs.Cell.{cell_of, has_text, drawn_columns};
+ghost use Rattle.vt100_rows.specs.Line.{span_of};
+ghost use Rattle.vt100_rows.specs.Row.{blank_row, cleared_row, with_wrap, placed, wiped_row, pair_cleared, join_row, join_answer, inserted, removed, truncated, grown, resized_row, trimmed};
+ghost use Rattle.vt100_rows.specs.Text.{written_text};
+
+use crate::cell::Cell;
+use crate::join::Join;
+use crate::line::{
+    at, base_col, clear_cut_half, clear_pair, ends_filled, insert, put, puts_end, remove,
+    trimmed_len, wipe, wipes_end,
+};
+use std::alloc::Global;
+use std::marker::Model;
+use std::ops::Range;
+use vt100_forms::GridError;
+use vt100_forms::attrs::Attrs;
+
+/// One row of a terminal: its cells, and whether its text goes on in the row below.
+#[derive(Debug, Drop)]
+pub struct Row {
+    cells: Vec<Cell>,
+    wrapped: bool,
+}
+
+impl Model for Row {
+    ghost use Rattle.vt100_rows.specs.Row.{RowView, IsRow};
+
+    ghost Value = { RowView };
+
+    ghost view = { λ r. record { cells = r.cells.items; wrapped = r.wrapped } };
+
+    ghost invariant = { λ r. IsRow (record { cells = r.cells.items; wrapped = r.wrapped }) };
+}
+
+impl Row {
+    /// A row of `cols` default cells.
+    pub fn new(alloc: Global, cols: u16) -> Result<Self, GridError>
+        ensures { IfOk result (λ row. row ≡ blank_row cols) }
+    {
+        let mut cells = Vec::new(alloc);
+        cells.resize(usize::from(cols), Cell::new())?;
+        Ok(Row {
+            cells,
+            wrapped: false,
+        })
+    }
+
+    /// An equal row.
+    pub fn clone(&self) -> Result<Self, GridError>
+        ensures { IfOk result (λ row. row ≡ self.now) }
+    {
+        let cells = self.cells.clone()?;
+        Ok(Row {
+            cells,
+            wrapped: self.wrapped,
+        })
+    }
+
+    /// How many columns the row has.
+    #[inline]
+    pub fn cols(&self) -> u16
+        ensures { result ≡ length self.now.cells }
+    {
+        self.cells.len() as u16
+    }
+
+    /// Empties every cell, with these attributes.
+    pub fn clear(&mut self, attrs: Attrs)
+        ensures { self.new ≡ cleared_row self.old attrs }
+    {
+        self.cells.fill(Cell::empty(attrs));
+        self.wrapped = false;
+    }
+
+    /// Makes every cell a default cell.
+    pub fn reset(&mut self)
+        ensures { self.new ≡ blank_row (length self.old.cells) }
+    {
+        self.cells.fill(Cell::new());
+        self.wrapped = false;
+    }
+
+    /// The cell at column `col`, if the row goes that far.
+    #[inline]
+    pub fn get(&self, col: u16) -> Option<&Cell>
+        ensures { option_copied result ≡ slice_get self.now.cells col }
+    {
+        self.cells.get(usize::from(col))
+    }
+
+    /// Inserts default cells at column `i`. What falls off the end is gone.
+    pub fn insert(&mut self, i: u16, count: u16)
+        requires { i ≤ length self.old.cells }
+        ensures { self.new ≡ inserted self.old i count }
+    {
+        self.wrapped = false;
+        insert(&mut self.cells, usize::from(i), usize::from(count));
+    }
+
+    /// Takes out the cells of the range. What stands right of them moves to the left, and default cells follow.
+    pub fn remove(&mut self, range: Range<u16>)
+        requires { range.end ≤ length self.old.cells }
+        ensures { self.new ≡ removed self.old range.start range.end }
+    {
+        self.wrapped = false;
+        let start = usize::from(range.start);
+        let end = usize::from(range.end);
+        if start < end {
+            remove(&mut self.cells, start, end - start);
+        }
+    }
+
+    /// Empties the cell at column `i`, with these attributes. If it is one half of a wide character, the other half
+    /// is emptied too, and keeps its attributes.
+    pub fn erase(&mut self, i: u16, attrs: Attrs)
+        requires { i < length self.old.cells }
+        ensures { self.new ≡ wiped_row self.old i (i + 1) attrs }
+    {
+        let i = usize::from(i);
+        if wipes_end(&self.cells, i, i + 1) {
+            self.wrapped = false;
+        }
+        wipe(&mut self.cells, i, i + 1, attrs);
+    }
+
+    /// Empties the cells of the range, as [`erase`](Self::erase) of each of them does.
+    pub fn erase_range(&mut self, range: Range<u16>, attrs: Attrs)
+        requires { range.end ≤ length self.old.cells }
+        ensures { self.new ≡ wiped_row self.old range.start range.end attrs }
+    {
+        let start = usize::from(range.start);
+        let end = usize::from(range.end);
+        if start >= end {
+            return;
+        }
+        if wipes_end(&self.cells, start, end) {
+            self.wrapped = false;
+        }
+        wipe(&mut self.cells, start, end, attrs);
+    }
+
+    /// Cuts the row after `len` cells; a shorter row keeps its cells. Either way it isn't wrapped any more.
+    pub fn truncate(&mut self, len: u16)
+        ensures { self.new ≡ truncated self.old len }
+    {
+        self.cells.truncate(usize::from(len));
+        self.wrapped = false;
+        clear_cut_half(&mut self.cells);
+    }
+
+    /// Appends cells until there are `len`; a row that is as long or longer stays as it is.
+    pub fn grow(&mut self, len: u16, cell: Cell) -> Result<(), GridError>
+        requires narrow { cell.wide ≡ false }
+        requires whole { cell.continuation ≡ false }
+        ensures ok { OnOk result (self.new ≡ grown self.old len cell) }
+        ensures err { OnErr result (self.new ≡ self.old) }
+    {
+        prove!(!cell.is_wide());
+        if self.cells.len() < usize::from(len) {
+            self.cells.resize(usize::from(len), cell)?;
+            self.wrapped = false;
+        }
+        Ok(())
+    }
+
+    /// Cuts the row after `len` cells, or appends cells until there are `len`.
+    pub fn resize(&mut self, len: u16, cell: Cell) -> Result<(), GridError>
+        requires narrow { cell.wide ≡ false }
+        requires whole { cell.continuation ≡ false }
+        ensures ok { OnOk result (self.new ≡ resized_row self.old len cell) }
+        ensures err { OnErr result (self.new ≡ self.old) }
+    {
+        if usize::from(len) < self.cells.len() {
+            self.truncate(len);
+            Ok(())
+        } else {
+            self.grow(len, cell)
+        }
+    }
+
+    /// Takes away the default cells at the end.
+    pub fn trim(&mut self)
+        ensures { self.new ≡ trimmed self.old }
+    {
+        let len = trimmed_len(&self.cells);
+        self.cells.truncate(len);
+        self.cells.shrink_to_fit();
+    }
+
+    /// Sets whether the row's text goes on in the row below. A row whose last cell shows nothing is never wrapped.
+    pub fn wrap(&mut self, wrap: bool)
+        ensures { self.new ≡ with_wrap self.old wrap }
+    {
+        self.wrapped = wrap && ends_filled(&self.cells);
+    }
+
+    /// Whether the row's text goes on in the row below.
+    #[inline]
+    pub fn wrapped(&self) -> bool
+        ensures { result ≡ self.now.wrapped }
+    {
+        self.wrapped
+    }
+
+    /// Empties both halves of the wide character at column `col`, if one is there. Each keeps its attributes.
+    pub fn clear_wide(&mut self, col: u16)
+        requires { col < length self.old.cells }
+        ensures { self.new ≡ pair_cleared self.old col }
+    {
+        let filled = clear_pair(&mut self.cells, usize::from(col));
+        self.wrapped = self.wrapped && filled;
+    }
+}
+
+/// Calls that print. They stand in for access to a single cell, which could break a wide character in two.
+impl Row {
+    /// Puts the character `c`, which takes `columns` columns, at column `col`, with the drawing attributes.
+    ///
+    /// A wide character that this covers in part is gone: its first half is emptied and keeps its attributes; its
+    /// second half becomes a space with the drawing attributes, or is emptied with them where `c` is wide itself.
+    #[inline]
+    pub fn put(&mut self, col: u16, c: char, columns: u16, attrs: Attrs)
+        requires drawn { drawn_columns c ≡ Some columns }
+        requires spacing { 0 < columns }
+        requires in_row { col + columns ≤ length self.old.cells }
+        ensures { self.new ≡ placed self.old col (cell_of c attrs) attrs }
+    {
+        self.put_cell(col, Cell::of_char(c, columns, attrs), attrs);
+    }
+
+    /// Puts a cell that has a text at column `col`. What it covers goes as [`put`](Self::put) says, with the drawing
+    /// attributes `attrs`.
+    #[inline]
+    pub fn put_cell(&mut self, col: u16, cell: Cell, attrs: Attrs)
+        requires text { has_text cell ≡ true }
+        requires in_row { col + span_of cell ≤ length self.old.cells }
+        ensures { self.new ≡ placed self.old col cell attrs }
+    {
+        let col = usize::from(col);
+        if puts_end(&self.cells, col, cell) {
+            self.wrapped = false;
+        }
+        put(&mut self.cells, col, cell, attrs);
+    }
+
+    /// Puts the zero-width character `c` on the cell left of column `col`, or on the wide character that ends there.
+    ///
+    /// A cell takes it while it has fewer than 18 bytes; an empty cell gets a space first. U+FE0F, which asks for an
+    /// emoji, can make a narrow cell wide: then it covers the next column as [`put`](Self::put) says, with the drawing
+    /// attributes `attrs`. In the last column there is no room for it, and the cell's text is handed out.
+    pub fn join(&mut self, col: u16, c: char, attrs: Attrs) -> Join
+        requires zero_width { drawn_columns c ≡ Some 0 }
+        requires after_some { 0 < col }
+        requires in_row { col ≤ length self.old.cells }
+        ensures row { self.new ≡ join_row self.old col c attrs }
+        ensures answer { result ≡ join_answer self.old col c attrs }
+    {
+        let base = base_col(&self.cells, usize::from(col));
+        let cell = *at(&self.cells, base);
+        let joined = cell.joined(c);
+        if !is_widened(&cell, &joined) {
+            self.cells[base] = joined;
+            Join::InPlace
+        } else if self.cells.len() == 1 {
+            Join::Ignored
+        } else if usize::from(col) < self.cells.len() {
+            self.put_cell(col - 1, joined, attrs);
+            Join::Widened
+        } else {
+            self.erase(col - 1, attrs);
+            Join::Carried(joined.with_attrs(attrs))
+        }
+    }
+}
+
+/// The row's text.
+impl Row {
+    /// Appends the text of `width` columns from column `start` on, without the empty columns at its end. Where no text
+    /// stands there and `wrapping` is set, a newline stands for it.
+    ///
+    /// On an error a part of the text may have been appended.
+    pub fn write_contents(
+        &self,
+        contents: &mut String,
+        start: u16,
+        width: u16,
+        wrapping: bool,
+    ) -> Result<(), GridError>
+        ensures { OnOk result (string_bytes contents.new ≡ string_bytes contents.old ++ encode_utf8_all (written_text self.now start width wrapping)) }
+    {
+        let start = usize::from(start);
+        let end = (start + usize::from(width))
+            .min(self.cells.len())
+            .max(start);
+        let mut blanks = 0;
+        let mut shown = false;
+        for col in start..end {
+            let cell = at(&self.cells, col);
+            if cell.has_contents() {
+                push_spaces(contents, blanks)?;
+                blanks = 0;
+                contents.push_str(cell.contents())?;
+                shown = true;
+            } else if is_empty_column(cell, col == start) {
+                blanks += 1;
+            }
+        }
+        if wrapping && !shown {
+            contents.push('\n')?;
+        }
+        Ok(())
+    }
+}
+
+/// Whether a cell that was `cell`, and is `joined` now, takes a column more.
+fn is_widened(cell: &Cell, joined: &Cell) -> bool
+    ensures { result ≡ (joined.now.wide && not cell.now.wide) }
+{
+    joined.is_wide() && !cell.is_wide()
+}
+
+/// Whether a cell with no text is an empty column of a text, in which it is the first column or a later one. The second
+/// half of a wide character is none but in the first column.
+fn is_empty_column(cell: &Cell, is_first: bool) -> bool
+    ensures { result ≡ not (cell.now.continuation && not is_first) }
+{
+    is_first || !cell.is_wide_continuation()
+}
+
+/// Appends `n` spaces.
+fn push_spaces(contents: &mut String, n: usize) -> Result<(), GridError>
+    ensures { OnOk result (string_bytes contents.new ≡ string_bytes contents.old ++ replicate n 32) }
+{
+    for _ in 0..n {
+        contents.push(' ')?;
+    }
+    Ok(())
+}

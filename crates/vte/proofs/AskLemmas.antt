@@ -1,0 +1,88 @@
+-- Only events of sequences open an update, and after each of them the parser asks.
+use Rattle.std.proofs.Common.{◌≡◌, ℕ, zero, suc, ◌+◌, ◌<◌, ◌≤◌, Bool, true, false, List, [], ◌∷◌, ◌++◌, ◌||◌, ◌&&◌, ◌==◌, if◌then◌else◌, take, drop, length, get_or, arith, refl, ap, sym, ◌∙◌, subst, inl, inr}
+use Rattle.std.specs.List.{list_any}
+use Rattle.std.proofs.lemmas.Bool.{cases_Bool}
+use Rattle.std.proofs.Math.Seq.{take-suc}
+use Rattle.vte_core.specs.Event.{Event, Print, Execute}
+use Rattle.vte_core.specs.Bytes.{is_esc}
+use Rattle.vte_core.specs.Text.{char_event, malformed_event, char_len, first_bits, joined}
+use Rattle.vte_core.specs.Pending.{Pending, InText, InEscape, InCsi, InOsc, InHook, InDevice, InSwallowed, pending, events_from, after_bytes, events_of_byte, begun, text_told, closed, goes_on}
+use Rattle.vte_core.specs.Stopping.{is_text, asks_at}
+use Rattle.vte_core.proofs.Machine.{events_from-append}
+use Rattle.vte_core.proofs.StopLemmas.{asks-after}
+use Rattle.vte.specs.Table.{opens}
+use Rattle.vte.specs.Stretch.{added, opens_in}
+
+none_if : (b : Bool) (xs ys : List Event) → list_any opens xs ≡ false → list_any opens ys ≡ false → list_any opens (if b then xs else ys) ≡ false
+none_if true xs ys h k = h
+none_if false xs ys h k = k
+
+one_none : (b : Bool) (c d : ℕ) → opens (if b then Execute c else Print d) ≡ false
+one_none true c d = refl
+one_none false c d = refl
+
+char_none : (c : ℕ) → list_any opens (char_event c ∷ []) ≡ false
+char_none c = rw (one_none _ c c) refl
+
+malformed_none : (n c : ℕ) → list_any opens (malformed_event n c ∷ []) ≡ false
+malformed_none n c = rw (one_none _ c 0xFFFD) refl
+
+begun_none : (b : ℕ) → list_any opens (begun b) ≡ false
+begun_none b = none_if (char_len b == 1) _ _ (char_none (first_bits b)) (none_if (char_len b == 0) _ _ (malformed_none 1 b) refl)
+
+told_none : (u : List ℕ) (b : ℕ) → list_any opens (text_told u b) ≡ false
+told_none [] b = begun_none b
+told_none (a ∷ t) b =
+    let char : List Event = char_event (joined (first_bits a) (t ++ b ∷ [])) ∷ [] in
+    none_if (goes_on a t b) (if length t + 2 == char_len a then char else []) (Print 0xFFFD ∷ begun b)
+    (none_if (length t + 2 == char_len a) char [] (char_none (joined (first_bits a) (t ++ b ∷ []))) refl) (begun_none b)
+
+closed_none : (u : List ℕ) → list_any opens (closed 1024 (InText u)) ≡ false
+closed_none [] = refl
+closed_none (a ∷ t) = refl
+
+text_none : (q : Pending) (b : ℕ) → is_text q ≡ true → list_any opens (events_of_byte 1024 q b) ≡ false
+text_none (InText u) b h = none_if (is_esc b) _ _ (closed_none u) (told_none u b)
+text_none (InEscape is) b h = absurd (let no : false ≡ true = h in cc)
+text_none (InCsi x) b h = absurd (let no : false ≡ true = h in cc)
+text_none (InOsc s) b h = absurd (let no : false ≡ true = h in cc)
+text_none (InHook x) b h = absurd (let no : false ≡ true = h in cc)
+text_none InDevice b h = absurd (let no : false ≡ true = h in cc)
+text_none InSwallowed b h = absurd (let no : false ≡ true = h in cc)
+
+or-assoc : (a b c : Bool) → ((a || b) || c) ≡ (a || (b || c))
+or-assoc true b c = refl
+or-assoc false b c = refl
+
+any-append : {X : Type 0} (p : X → Bool) (a b : List X) → list_any p (a ++ b) ≡ (list_any p a || list_any p b)
+any-append p [] b = refl
+any-append p (x ∷ a) b = ap (λ v. p x || v) (any-append p a b) ∙ sym (or-assoc (p x) (list_any p a) (list_any p b))
+
+or-false : (b : Bool) → (b || false) ≡ b
+or-false true = refl
+or-false false = refl
+
+-- one byte more, of ground text
+pub opens_in-text : (past bs : List ℕ) (m : ℕ) → m < length bs → is_text (after_bytes (pending past) (take m bs)) ≡ true → opens_in past (take m bs) ≡ false → opens_in past (take (suc m) bs) ≡ false
+opens_in-text past bs m lt text before =
+    let b = get_or bs m 0 in
+    let q = after_bytes (pending past) (take m bs) in
+    let split : added past (take (suc m) bs) ≡ added past (take m bs) ++ (events_of_byte 1024 q b ++ []) =
+    ap (λ xs. added past xs) (take-suc bs m 0 lt) ∙ events_from-append 1024 (pending past) (take m bs) (b ∷ []) in
+    ap (list_any opens) split ∙ (any-append opens (added past (take m bs)) (events_of_byte 1024 q b ++ [])
+    ∙ (ap (λ v. v || list_any opens (events_of_byte 1024 q b ++ [])) before
+    ∙ (any-append opens (events_of_byte 1024 q b) [] ∙ (or-false (list_any opens (events_of_byte 1024 q b)) ∙ text_none q b text))))
+
+-- where no front at which the parser asks opens an update, none does
+pub none_before : (past bs : List ℕ) (n : ℕ) → n ≤ length bs
+    → ((m : ℕ) → m < n → asks_at (pending past) true bs m ≡ true → opens_in past (take m bs) ≡ false)
+    → (m : ℕ) → m < n → opens_in past (take m bs) ≡ false
+none_before past bs n within asked zero lt = refl
+none_before past bs n within asked (suc m) lt =
+    let before : opens_in past (take m bs) ≡ false = none_before past bs n within asked m (omega arith) in
+    elim (cases_Bool (is_text (after_bytes (pending past) (take m bs)))) [
+      | inl text ↦ opens_in-text past bs m (omega arith) text before
+      | inr other ↦
+          let e : m + 1 ≡ suc m = omega arith in
+          asked (suc m) lt (subst (λ (j : ℕ). asks_at (pending past) true bs j ≡ true) e (asks-after (pending past) true bs m (omega arith) other))
+    ]

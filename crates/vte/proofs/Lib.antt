@@ -1,0 +1,10 @@
+pub mod Splits
+pub mod Joins
+pub mod RunLemmas
+pub mod HoldLemmas
+pub mod MarkLemmas
+pub mod AskLemmas
+pub mod SetLemmas
+pub mod TurnLemmas
+pub mod ExactLemmas
+pub mod LawLemmas

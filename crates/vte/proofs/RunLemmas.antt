@@ -1,0 +1,80 @@
+-- Runs of a performer, step by step.
+use Rattle.std.proofs.Common.{◌≡◌, ℕ, Bool, true, false, List, [], ◌∷◌, ◌++◌, Option, ◌||◌, refl, ap, sym, ◌∙◌, subst}
+use Rattle.std.specs.List.{All, list_any}
+use Rattle.std.proofs.lemmas.Bool.{cases_Bool}
+use Rattle.std.proofs.Common.{inl, inr}
+use Rattle.std.proofs.lemmas.List.Elements.{All-head, All-tail}
+use Rattle.vte_core.specs.Event.{Event, Performs}
+use Rattle.vte_core.specs.Laws.{Fits}
+use Rattle.vte_core.specs.Shapes.{events}
+use Rattle.vte_core.specs.Pending.{pending, events_from}
+use Rattle.vte_core.proofs.Machine.{events-past}
+use Rattle.vte_types.specs.Call.{Call, Calls}
+use Rattle.vte.specs.Csi.{opens_group}
+use Rattle.vte.specs.Table.{calls_of, last_after, openers, opens}
+use Rattle.vte.specs.Timeout.{Tick, Sets, Clears, Ticked, sets_of}
+use Rattle.vte.specs.Performed.{Performed, PerformedAll, last_after_all, calls_of_all, openers_of_all}
+use Rattle.vte.specs.Stretch.{added}
+
+pub Calls-append : {S : Type 0} (step : S → Call → S → Type 0) (s m t : S) (a b : List Call) → Calls step s a m → Calls step m b t → Calls step s (a ++ b) t
+Calls-append {S} step s m t [] b h k = subst (λ (x : S). Calls step x b t) h k
+Calls-append {S} step s m t (c ∷ a) b h k = (h.0, h.1, Calls-append step h.0 m t a b h.2 k)
+
+pub Ticked-append : {T : Type 0} (sets : T → ℕ → T → Type 0) (clears : T → T → Type 0) (s m t : T) (a b : List Tick)
+    → Ticked sets clears s a m → Ticked sets clears m b t → Ticked sets clears s (a ++ b) t
+Ticked-append {T} sets clears s m t [] b h k = subst (λ (x : T). Ticked sets clears x b t) h k
+Ticked-append {T} sets clears s m t (Sets ∷ a) b h k = (h.0, h.1, Ticked-append sets clears h.0 m t a b h.2 k)
+Ticked-append {T} sets clears s m t (Clears ∷ a) b h k = (h.0, h.1, Ticked-append sets clears h.0 m t a b h.2 k)
+
+pub sets_of-append : (a b : List (List ℕ)) → sets_of (a ++ b) ≡ sets_of a ++ sets_of b
+sets_of-append [] b = refl
+sets_of-append (g ∷ a) b = elim (cases_Bool (opens_group g)) [
+  | inl e ↦ rw e (ap (λ ts. Sets ∷ ts) (sets_of-append a b))
+  | inr e ↦ rw e (sets_of-append a b)
+]
+
+or-false : (b : Bool) → (b || false) ≡ b
+or-false true = refl
+or-false false = refl
+
+pub or-assoc : (a b c : Bool) → ((a || b) || c) ≡ (a || (b || c))
+or-assoc true b c = refl
+or-assoc false b c = refl
+
+or-any : (b : Bool) (e : Event) (es : List Event) → (b || list_any opens (e ∷ es)) ≡ ((b || opens e) || list_any opens es)
+or-any b e es = sym (or-assoc b (opens e) (list_any opens es))
+
+-- what each step does, a run does
+pub performs_all : {P H T : Type 0} (step : H → Call → H → Type 0) (sets : T → ℕ → T → Type 0) (clears : T → T → Type 0)
+    (h : P → H) (last : P → Option ℕ) (t : P → T) (ended : P → Bool)
+    (steps : P → Event → P → Type 0)
+    → ((p : P) (e : Event) (q : P) → steps p e q → Performed step sets clears e (h p) (last p) (t p) (ended p) (h q) (last q) (t q) (ended q))
+    → (p : P) (es : List Event) (q : P) → All (Fits 1024) es → Performs steps p es q
+    → PerformedAll step sets clears es (h p) (last p) (t p) (ended p) (h q) (last q) (t q) (ended q)
+performs_all step sets clears h last t ended steps each p [] q fits g =
+    record { calls = ap h g; printed = ap last g; ticked = ap t g; ends = ap ended g ∙ sym (or-false (ended p)) }
+performs_all step sets clears h last t ended steps each p (e ∷ es) q fits g =
+    let one = each p e g.0 g.1 in
+    let more = performs_all step sets clears h last t ended steps each g.0 es q (All-tail (Fits 1024) e es fits) g.2 in
+    let calls : Calls step (h g.0) (calls_of_all (last_after (last p) e) es) (h q) = subst (λ (l : Option ℕ). Calls step (h g.0) (calls_of_all l es) (h q)) one.printed more.calls in
+    record {
+      calls = Calls-append step (h p) (h g.0) (h q) (calls_of (last p) e) (calls_of_all (last_after (last p) e) es) (one.calls (All-head (Fits 1024) e es fits)) calls;
+      printed = more.printed ∙ ap (λ l. last_after_all l es) one.printed;
+      ticked = subst (λ (ts : List Tick). Ticked sets clears (t p) ts (t q)) (sym (sets_of-append (openers e) (openers_of_all es)))
+          (Ticked-append sets clears (t p) (t g.0) (t q) (sets_of (openers e)) (sets_of (openers_of_all es)) one.ticked more.ticked);
+      ends = more.ends ∙ (ap (λ b. b || list_any opens es) one.ends ∙ sym (or-any (ended p) e es));
+    }
+
+-- what each step keeps, a run keeps
+pub keeps_all : {P N : Type 0} (f : P → N) (steps : P → Event → P → Type 0) → ((p : P) (e : Event) (q : P) → steps p e q → f q ≡ f p)
+    → (p : P) (es : List Event) (q : P) → Performs steps p es q → f q ≡ f p
+keeps_all f steps each p [] q g = ap f g
+keeps_all f steps each p (e ∷ es) q g = keeps_all f steps each g.0 es q g.2 ∙ each p e g.0 g.1
+
+same_rest : (xs ys zs : List Event) → xs ++ ys ≡ xs ++ zs → ys ≡ zs
+same_rest [] ys zs h = h
+same_rest (x ∷ xs) ys zs h = same_rest xs ys zs (let t : xs ++ ys ≡ xs ++ zs = cc in t)
+
+-- events that bytes add to a stream are those that they add after its past
+pub told_is : (past bs : List ℕ) (es : List Event) → events 1024 (past ++ bs) ≡ events 1024 past ++ es → es ≡ added past bs
+told_is past bs es h = same_rest (events 1024 past) es (added past bs) (sym h ∙ events-past 1024 past bs)

@@ -1,0 +1,112 @@
+-- One turn of the processor, over plain variables.
+use Rattle.std.proofs.Common.{◌≡◌, ℕ, Bool, true, false, List, [], ◌∷◌, ◌++◌, ◌<◌, ◌≤◌, Option, None, Some, MatchOption, refl, ap, sym, ◌∙◌, subst, take, drop, length, append_assoc}
+use Rattle.vte_types.specs.Call.{Call, Calls}
+use Rattle.vte.specs.declared.processor.Processor.{Processor}
+use Rattle.vte.specs.Timeout.{Tick, Ticked}
+use Rattle.vte.specs.Stretch.{calls_from, ticks_from}
+use Rattle.vte.specs.Hold.{limit, closing, held_of}
+use Rattle.vte.specs.Advances.{Plainly, Advances, parses, begins, settles, overflows}
+use Rattle.vte.specs.Standing.{StandsAt, Advanced, Emptied, Held, Begun, Unopened, GoesOn}
+use Rattle.vte.proofs.RunLemmas.{Calls-append}
+
+pub match_option : {X : Type 0} (r : Option X) (P Q : Type 0) (F G : X → Type 0) → (P → Q) → ((x : X) → F x → G x) → MatchOption r P F → MatchOption r Q G
+match_option None P Q F G p f m = p m
+match_option (Some x) P Q F G p f m = f x m
+
+module _ {T A H : Type 0} (sets : T → ℕ → T → Type 0) (clears : T → T → Type 0) (answers : T → Bool → Type 0) (step : H → Call → H → Type 0) where
+  -- nothing was opened
+  pub unopened_advances : (closed : Bool) (old : Processor T A) (parsed held piece : List ℕ) (h : H) (new : Processor T A) (h' : H)
+      → Plainly answers closed old.state.timeout → Unopened sets clears step old parsed held piece h new h' → Advanced sets clears answers step closed old parsed held piece h new h'
+  unopened_advances closed old parsed held piece h new h' plain u = record {
+    parsed' = parsed ++ piece;
+    held' = held;
+    calls = calls_from parsed piece;
+    advances = subst (λ (t : T). Advances sets clears answers closed old.state.timeout parsed held piece t (parsed ++ piece) held (calls_from parsed piece)) (sym u.same)
+        (parses closed old.state.timeout parsed held piece plain u.none);
+    stands = u.stands;
+    goes = u.goes;
+  }
+
+  -- an update was opened in the piece: it goes on from there
+  pub begun_goes_on : (old : Processor T A) (parsed held piece : List ℕ) (n : ℕ) (h : H) (new : Processor T A) (h' : H)
+      → answers old.state.timeout false → Begun sets clears step old parsed held piece n h new h' → GoesOn sets clears answers step old parsed held piece (drop n piece) h new h'
+  begun_goes_on old parsed held piece n h new h' plain b = record {
+    parsed' = parsed ++ take n piece;
+    held' = held;
+    calls = calls_from parsed (take n piece);
+    stands = b.parsed_so.stands;
+    goes = b.parsed_so.goes;
+    further = λ t q k cs a. begins false old.state.timeout parsed held piece n new.state.timeout t q k cs plain b.opens b.parsed_so.ticked a;
+  }
+
+  -- a piece for which there was room
+  pub held_advances : (old : Processor T A) (parsed held piece : List ℕ) (h : H) (new : Processor T A) (h' : H)
+      → answers old.state.timeout true → length (held ++ piece) < limit → Held sets clears step old parsed held piece h new h' → Advanced sets clears answers step false old parsed held piece h new h'
+  held_advances old parsed held piece h new h' open_ fits k = record {
+    parsed' = k.parsed';
+    held' = held_of k.hold';
+    calls = k.calls;
+    advances = settles old.state.timeout parsed held piece new.state.timeout k.parsed' k.hold' k.calls k.ticks open_ fits k.settles k.ticked;
+    stands = k.stands;
+    goes = k.goes;
+  }
+
+  module _ (old mid : Processor T A) (parsed held piece : List ℕ) (h h1 : H) (open_ : answers old.state.timeout true) (full : limit ≤ length (held ++ piece)) (emptied : Emptied sets clears step old parsed held h mid h1)
+      (new : Processor T A) (h' : H) where
+    -- the hold was full: it was emptied before
+    pub after_full : Unopened sets clears step mid (parsed ++ held) [] piece h1 new h' → Advanced sets clears answers step false old parsed held piece h new h'
+    after_full u =
+        let a = unopened_advances true mid (parsed ++ held) [] piece h1 new h' tt u in
+        record {
+          parsed' = a.parsed';
+          held' = a.held';
+          calls = (calls_from parsed held ++ closing) ++ a.calls;
+          advances = overflows old.state.timeout parsed held piece mid.state.timeout new.state.timeout a.parsed' a.held' a.calls open_ full emptied.ticked a.advances;
+          stands = a.stands;
+          goes = Calls-append step h h1 h' (calls_from parsed held ++ closing) a.calls emptied.goes a.goes;
+        }
+
+    pub goes_on_after_full : (n : ℕ) → Begun sets clears step mid (parsed ++ held) [] piece n h1 new h' → GoesOn sets clears answers step old parsed held piece (drop n piece) h new h'
+    goes_on_after_full n b =
+        let calls = calls_from (parsed ++ held) (take n piece) in
+        record {
+          parsed' = (parsed ++ held) ++ take n piece;
+          held' = [];
+          calls = (calls_from parsed held ++ closing) ++ calls;
+          stands = b.parsed_so.stands;
+          goes = Calls-append step h h1 h' (calls_from parsed held ++ closing) calls emptied.goes b.parsed_so.goes;
+          further = λ t q k cs a.
+              subst (λ (ks : List Call). Advances sets clears answers false old.state.timeout parsed held piece t q k ks) (sym (append_assoc (calls_from parsed held ++ closing) calls cs))
+              (overflows old.state.timeout parsed held piece mid.state.timeout t q k (calls ++ cs) open_ full emptied.ticked
+              (begins true mid.state.timeout (parsed ++ held) [] piece n new.state.timeout t q k cs tt b.opens b.parsed_so.ticked a));
+        }
+
+  -- nothing of a piece was taken yet
+  pub goes_on_at_start : (p : Processor T A) (parsed held piece : List ℕ) (h : H) → StandsAt p parsed held → GoesOn sets clears answers step p parsed held piece piece h p h
+  goes_on_at_start p parsed held piece h s = record { parsed' = parsed; held' = held; calls = []; stands = s; goes = refl; further = λ t q k cs a. a }
+
+  module _ (old : Processor T A) (parsed held piece rest : List ℕ) (h : H) (mid : Processor T A) (h1 : H) (so_far : GoesOn sets clears answers step old parsed held piece rest h mid h1)
+      (new : Processor T A) (h' : H) where
+    -- one turn more
+    pub goes_on_more : (rest2 : List ℕ) → GoesOn sets clears answers step mid so_far.parsed' so_far.held' rest rest2 h1 new h' → GoesOn sets clears answers step old parsed held piece rest2 h new h'
+    goes_on_more rest2 a = record {
+      parsed' = a.parsed';
+      held' = a.held';
+      calls = so_far.calls ++ a.calls;
+      stands = a.stands;
+      goes = Calls-append step h h1 h' so_far.calls a.calls so_far.goes a.goes;
+      further = λ t q k cs f.
+          subst (λ (ks : List Call). Advances sets clears answers false old.state.timeout parsed held piece t q k ks) (sym (append_assoc so_far.calls a.calls cs))
+          (so_far.further t q k (a.calls ++ cs) (a.further t q k cs f));
+    }
+
+    -- the last turn
+    pub advanced_at_end : Advanced sets clears answers step false mid so_far.parsed' so_far.held' rest h1 new h' → Advanced sets clears answers step false old parsed held piece h new h'
+    advanced_at_end a = record {
+      parsed' = a.parsed';
+      held' = a.held';
+      calls = so_far.calls ++ a.calls;
+      advances = so_far.further new.state.timeout a.parsed' a.held' a.calls a.advances;
+      stands = a.stands;
+      goes = Calls-append step h h1 h' so_far.calls a.calls so_far.goes a.goes;
+    }

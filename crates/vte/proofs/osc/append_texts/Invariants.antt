@@ -1,0 +1,14 @@
+use Rattle.std.proofs.Common.{◌≡◌, ◌≤◌, ◌∷◌, ◌++◌, filter, length}
+use Rattle.std.specs.List.{flat_map}
+use Rattle.std.specs.Str.{is_utf8}
+use Rattle.vte.proofs.osc.append_texts.Given as goal
+
+-- what is there, with the pieces that are left, is what there will be
+abbrev pub invariant-loop-piece : goal.invariant-loop-piece
+invariant-loop-piece l =
+    length (l.initial.text.bytes ++ flat_map (λ p. 59 ∷ p) (filter is_utf8 l.initial.pieces)) ≤ 1040
+    → l.text.bytes ++ flat_map (λ p. 59 ∷ p) (filter is_utf8 l.pieces)
+    ≡ l.initial.text.bytes ++ flat_map (λ p. 59 ∷ p) (filter is_utf8 l.initial.pieces)
+
+abbrev pub decreases-loop-piece : goal.decreases-loop-piece
+decreases-loop-piece l = length l.pieces

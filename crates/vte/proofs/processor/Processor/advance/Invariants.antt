@@ -1,0 +1,12 @@
+use Rattle.std.proofs.Common.{ℕ, List, length}
+use Rattle.vte.specs.Standing.{StandsAt, GoesOn}
+use Rattle.vte.proofs.processor.Processor.advance.Given as goal
+
+-- the piece so far led to where it goes on with the rest
+abbrev pub invariant-loop-read : goal.invariant-loop-read
+invariant-loop-read g l =
+    (parsed held : List ℕ) → StandsAt l.initial.self parsed held
+    → GoesOn g.T.Timeout.sets g.T.Timeout.clears g.T.Timeout.answers g.H.Handler.step l.initial.self parsed held l.initial.rest l.rest l.initial.handler l.self l.handler
+
+abbrev pub decreases-loop-read : goal.decreases-loop-read
+decreases-loop-read g l = length l.rest

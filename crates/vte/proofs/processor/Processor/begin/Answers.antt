@@ -1,0 +1,58 @@
+use Rattle.std.proofs.Common.{◌≡◌, ◌≤◌, ◌<◌, ◌∙◌, sym, ap, subst, List, [], ℕ, Bool, true, false, length, take, ◌++◌, arith}
+use Rattle.std.specs.List.{list_any}
+use Rattle.std.proofs.lemmas.List.{take_all}
+use Rattle.vte.specs.Csi.{opens_group}
+use Rattle.vte.specs.Timeout.{Tick, Ticked, sets_of}
+use Rattle.vte.specs.Performed.{openers_of_all}
+use Rattle.vte.specs.Stretch.{added, opens_in}
+use Rattle.vte.proofs.AskLemmas.{none_before}
+use Rattle.vte.proofs.HoldLemmas.{printed_after, calls_after}
+use Rattle.vte.proofs.SetLemmas.{any_openers, sets_none}
+use Rattle.vte.proofs.processor.Processor.begin.Goals as goal
+
+pub returns-then-opened-clause-progress : goal.returns-then-opened-clause-progress
+returns-then-opened-clause-progress g c = (c.parse-read.ensures.some c.if-opened.true, c.parse-read.ensures.within)
+
+pub returns-then-opened-clause-led : goal.returns-then-opened-clause-led
+returns-then-opened-clause-led g c parsed held at =
+    let p = c.parse-read.ensures in
+    let n = c.parse-read.result.0 in
+    let run = p.performed parsed at.has_read in
+    let any : opens_in parsed (take n c.args.piece.now) ≡ true = sym run.ends ∙ c.if-opened.true in
+    record {
+      opens = record {
+        within = p.within;
+        opened = any;
+        first = none_before parsed c.args.piece.now n p.within (p.first parsed at.has_read);
+      };
+      parsed_so = record {
+        stands = record {
+          has_read = p.stands parsed at.has_read;
+          printed = printed_after _ _ parsed (take n c.args.piece.now) at.printed run.printed;
+          holds = at.holds;
+          no_end = at.no_end;
+        };
+        ticked = run.ticked;
+        goes = calls_after g.H.Handler.step _ _ _ parsed (take n c.args.piece.now) at.printed run.calls;
+      };
+    }
+
+pub returns-else-opened-clause-led : goal.returns-else-opened-clause-led
+returns-else-opened-clause-led g c parsed held at =
+    let p = c.parse-read.ensures in
+    let n = c.parse-read.result.0 in
+    let all : take n c.args.piece.now ≡ c.args.piece.now = take_all n c.args.piece.now (omega (arith, p.whole c.if-opened.false)) in
+    let run = rw all at (p.performed parsed at.has_read) in
+    let none : opens_in parsed c.args.piece.now ≡ false = sym run.ends ∙ c.if-opened.false in
+    let quiet : sets_of (openers_of_all (added parsed c.args.piece.now)) ≡ [] = sets_none (openers_of_all (added parsed c.args.piece.now)) (any_openers (added parsed c.args.piece.now) ∙ none) in
+    record {
+      none = none;
+      same = rw quiet at run.ticked;
+      stands = record {
+        has_read = rw all at (p.stands parsed at.has_read);
+        printed = printed_after _ _ parsed c.args.piece.now at.printed run.printed;
+        holds = at.holds;
+        no_end = at.no_end;
+      };
+      goes = calls_after g.H.Handler.step _ _ _ parsed c.args.piece.now at.printed run.calls;
+    }

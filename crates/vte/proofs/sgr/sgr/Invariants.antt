@@ -1,0 +1,13 @@
+use Rattle.std.proofs.Common.{◌≡◌, length, map}
+use Rattle.vte_types.specs.Call.{Calls, terminal_attribute}
+use Rattle.vte.specs.Sgr.{attributes, nothing}
+use Rattle.vte.proofs.sgr.sgr.Given as goal
+
+-- where the calls that are left lead, all lead from the start
+abbrev pub invariant-loop-group : goal.invariant-loop-group
+invariant-loop-group g l =
+    (end : _) → Calls g.H.Handler.step l.handler (map terminal_attribute (attributes nothing l.groups)) end
+    → Calls g.H.Handler.step l.initial.handler (map terminal_attribute (attributes nothing l.initial.groups)) end
+
+abbrev pub decreases-loop-group : goal.decreases-loop-group
+decreases-loop-group g l = length l.groups

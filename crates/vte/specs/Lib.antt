@@ -1,0 +1,15 @@
+pub mod Sgr
+pub mod Escape
+pub mod Csi
+pub mod Timeout
+pub mod Split
+pub mod Osc
+pub mod Table
+pub mod Performed
+pub mod Marks
+pub mod Stretch
+pub mod Hold
+pub mod Advances
+pub mod Standing
+pub mod Expiry
+pub mod Laws

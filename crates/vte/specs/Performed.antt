@@ -1,0 +1,37 @@
+-- What events do to a handler, a timeout, and what is kept beside them.
+use Rattle.std.specs.Prelude.{ℕ, Bool, List, [], ◌∷◌, ◌++◌, ◌≡◌, Option, ◌||◌}
+use Rattle.std.specs.List.{All, list_any}
+use Rattle.vte_core.specs.Event.{Event}
+use Rattle.vte_core.specs.Laws.{Fits}
+use Rattle.vte_types.specs.Call.{Call, Calls}
+use Rattle.vte.specs.Table.{calls_of, last_after, openers, opens}
+use Rattle.vte.specs.Timeout.{Ticked, sets_of}
+
+-- one event: of an operating system command that no parser gives, the calls are left open
+pub record Performed {H T : Type 0} (step : H → Call → H → Type 0) (sets : T → ℕ → T → Type 0) (clears : T → T → Type 0) (e : Event)
+    (h : H) (last : Option ℕ) (t : T) (terminated : Bool) (h' : H) (last' : Option ℕ) (t' : T) (terminated' : Bool) : Type 0 where
+  pub calls : Fits 1024 e → Calls step h (calls_of last e) h'
+  pub printed : last' ≡ last_after last e
+  pub ticked : Ticked sets clears t (sets_of (openers e)) t'
+  pub ends : terminated' ≡ (terminated || opens e)
+
+abbrev pub last_after_all : Option ℕ → List Event → Option ℕ
+last_after_all last [] = last
+last_after_all last (e ∷ es) = last_after_all (last_after last e) es
+
+-- the calls of events, in order
+abbrev pub calls_of_all : Option ℕ → List Event → List Call
+calls_of_all last [] = []
+calls_of_all last (e ∷ es) = calls_of last e ++ calls_of_all (last_after last e) es
+
+abbrev pub openers_of_all : List Event → List (List ℕ)
+openers_of_all [] = []
+openers_of_all (e ∷ es) = openers e ++ openers_of_all es
+
+-- events, in order
+pub record PerformedAll {H T : Type 0} (step : H → Call → H → Type 0) (sets : T → ℕ → T → Type 0) (clears : T → T → Type 0) (es : List Event)
+    (h : H) (last : Option ℕ) (t : T) (terminated : Bool) (h' : H) (last' : Option ℕ) (t' : T) (terminated' : Bool) : Type 0 where
+  pub calls : Calls step h (calls_of_all last es) h'
+  pub printed : last' ≡ last_after_all last es
+  pub ticked : Ticked sets clears t (sets_of (openers_of_all es)) t'
+  pub ends : terminated' ≡ (terminated || list_any opens es)

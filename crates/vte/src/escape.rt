@@ -1,0 +1,90 @@
+//! Controls and escape sequences.
+ghost use Rattle.std.specs.Prelude.{◌≡◌};
+ghost use Rattle.vte_types.specs.Call.{Calls};
+ghost use Rattle.vte.specs.Escape.{calls_at, execute_calls, escape_calls, plain_escape_rows, charset_calls, charset_index};
+
+use vte_types::C0;
+use vte_types::charset::{CharsetIndex, StandardCharset};
+use vte_types::handler::Handler;
+
+/// The call of a control.
+pub fn execute<H: Handler>(handler: &mut H, byte: u8)
+    ensures { Calls H.step handler.old (execute_calls byte) handler.new }
+{
+    match byte {
+        C0::HT => handler.put_tab(1),
+        C0::BS => handler.backspace(),
+        C0::CR => handler.carriage_return(),
+        C0::LF | C0::VT | C0::FF => handler.linefeed(),
+        C0::BEL => handler.bell(),
+        C0::SUB => handler.substitute(),
+        C0::SI => handler.set_active_charset(CharsetIndex::G0),
+        C0::SO => handler.set_active_charset(CharsetIndex::G1),
+        _ => {}
+    }
+}
+
+/// The calls of an escape sequence.
+pub fn escape<H: Handler>(handler: &mut H, intermediates: &[u8], byte: u8)
+    ensures { Calls H.step handler.old (escape_calls intermediates.now byte) handler.new }
+{
+    match intermediates {
+        [] => plain_escape(handler, byte),
+        [b'#'] => {
+            if byte == b'8' {
+                handler.decaln();
+            }
+        }
+        [mark] => configure_charset(handler, charset_for(*mark), byte),
+        _ => {}
+    }
+}
+
+/// The calls of an escape sequence without intermediates.
+fn plain_escape<H: Handler>(handler: &mut H, byte: u8)
+    ensures { Calls H.step handler.old (calls_at byte plain_escape_rows) handler.new }
+{
+    match byte {
+        b'D' => handler.linefeed(),
+        b'E' => {
+            handler.linefeed();
+            handler.carriage_return();
+        }
+        b'H' => handler.set_horizontal_tabstop(),
+        b'M' => handler.reverse_index(),
+        b'Z' => handler.identify_terminal(None),
+        b'c' => handler.reset_state(),
+        b'7' => handler.save_cursor_position(),
+        b'8' => handler.restore_cursor_position(),
+        b'=' => handler.set_keypad_application_mode(),
+        b'>' => handler.unset_keypad_application_mode(),
+        _ => {}
+    }
+}
+
+/// The place that an intermediate names.
+fn charset_for(mark: u8) -> Option<CharsetIndex>
+    ensures { result ≡ charset_index mark }
+{
+    match mark {
+        b'(' => Some(CharsetIndex::G0),
+        b')' => Some(CharsetIndex::G1),
+        b'*' => Some(CharsetIndex::G2),
+        b'+' => Some(CharsetIndex::G3),
+        _ => None,
+    }
+}
+
+/// Gives a place the character set that the final byte names.
+fn configure_charset<H: Handler>(handler: &mut H, index: Option<CharsetIndex>, byte: u8)
+    ensures { Calls H.step handler.old (charset_calls index byte) handler.new }
+{
+    let Some(index) = index else {
+        return;
+    };
+    match byte {
+        b'B' => handler.configure_charset(index, StandardCharset::Ascii),
+        b'0' => handler.configure_charset(index, StandardCharset::SpecialCharacterAndLineDrawing),
+        _ => {}
+    }
+}

@@ -1,0 +1,60 @@
+//! A timeout by a clock.
+ghost use Rattle.std.specs.Prelude.{◌≡◌, None, is_some};
+ghost use Rattle.vte.specs.Expiry.{ExpiresAfter, clock_of, expiry_of};
+ghost use Rattle.vte.specs.Timeout.{IsExact};
+
+use crate::clock::Clock;
+use crate::timeout::Timeout;
+use std::time::Duration;
+
+/// Keeps the moment at which an update's time is over. It is pending while it keeps one.
+#[derive(Drop)]
+pub struct StdSyncHandler<C> {
+    clock: C,
+    timeout: Option<Duration>,
+}
+
+impl<C: Clock> StdSyncHandler<C> {
+    /// A timeout that isn't pending, by this clock.
+    pub fn new(clock: C) -> Self
+        ensures clock { clock_of result ≡ clock }
+        ensures timeout { expiry_of result ≡ None }
+    {
+        StdSyncHandler {
+            clock,
+            timeout: None,
+        }
+    }
+
+    /// The moment at which the update's time is over, since the clock's start; None while none is pending.
+    pub fn sync_timeout(&self) -> Option<Duration>
+        ensures { result ≡ expiry_of self.now }
+    {
+        self.timeout
+    }
+}
+
+impl<C: Clock> Timeout for StdSyncHandler<C> {
+    ghost sets = { λ s d t. (clock_of t ≡ clock_of s) × ExpiresAfter (C.may_be (clock_of s)) d (expiry_of t) };
+
+    ghost clears = { λ s t. (clock_of t ≡ clock_of s) × (expiry_of t ≡ None) };
+
+    ghost answers = { λ s b. b ≡ is_some (expiry_of s) };
+
+    fn set_timeout(&mut self, duration: Duration) {
+        self.timeout = Some(self.clock.now().saturating_add(duration));
+    }
+
+    fn clear_timeout(&mut self) {
+        self.timeout = None;
+    }
+
+    fn pending_timeout(&self) -> bool {
+        self.timeout.is_some()
+    }
+}
+
+/// It is pending exactly from setting to clearing.
+pub fn std_sync_handler_is_exact<C: Clock>()
+    ensures { IsExact ⟦<StdSyncHandler<C> as Timeout>⟧.sets ⟦<StdSyncHandler<C> as Timeout>⟧.clears ⟦<StdSyncHandler<C> as Timeout>⟧.answers }
+{}

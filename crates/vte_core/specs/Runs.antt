@@ -1,0 +1,55 @@
+-- Ground text without ESC.
+use Rattle.std.specs.Prelude.{◌≡◌, ℕ, suc, Bool, true, false, not, ◌&&◌, ◌||◌, List, [], ◌∷◌, ◌++◌, length, nat_lt, ◌==◌, if◌then◌else◌}
+use Rattle.std.specs.Int.{is_in_range}
+use Rattle.vte_core.specs.Event.{Event, Performs}
+use Rattle.vte_core.specs.Bytes.{is_esc}
+use Rattle.vte_core.specs.Pending.{Pending, text_told, text_rest, after_byte, events_from}
+use Rattle.vte_core.specs.Shapes.{before}
+use Rattle.vte_core.specs.Standing.{IsAt, state_is_text}
+use Rattle.vte_core.specs.declared.State.{State}
+use Rattle.vte_core.specs.declared.Parser.{Parser}
+use Rattle.vte_core.specs.Stopping.{runs_on}
+
+-- the events of the bytes, after the unfinished bytes u of a character
+abbrev pub run_told : List ℕ → List ℕ → List Event
+run_told u [] = []
+run_told u (b ∷ bs) = text_told u b ++ run_told (text_rest u b) bs
+
+-- and what they leave unfinished
+abbrev pub run_rest : List ℕ → List ℕ → List ℕ
+run_rest u [] = u
+run_rest u (b ∷ bs) = run_rest (text_rest u b) bs
+
+abbrev pub has_no_esc : List ℕ → Bool
+has_no_esc [] = true
+has_no_esc (b ∷ bs) = not (is_esc b) && has_no_esc bs
+
+-- the performer is asked after the bytes, and not between them
+abbrev pub is_one_step : Pending → List ℕ → List ℕ → Bool
+is_one_step q [] rest = false
+is_one_step q (b ∷ []) rest = not (runs_on q b rest)
+is_one_step q (b ∷ c ∷ bs) rest = runs_on q b (c ∷ bs) && is_one_step (after_byte q b) (c ∷ bs) rest
+
+-- the performer has gone through some events, and they are those of the bytes, whatever is pending
+pub record Tells {S : Type 0} (step : S → Event → S → Type 0) (n : ℕ) (parser : Parser n) (old : S) (bytes : List ℕ) (new : S) : Type 0 where
+  pub told : List Event
+  pub performed : Performs step old told new
+  pub added : (q : Pending) → IsAt n parser q → told ≡ events_from n q bytes
+
+-- how many of the next bytes are ground text
+abbrev pub text_len : State → List ℕ → ℕ
+text_len s bs = if state_is_text s then length (before is_esc bs) else 0
+
+-- the bytes after 0xC2 are the second byte of a control from U+0080 to U+009F
+abbrev pub begins_c1 : List ℕ → Bool
+begins_c1 [] = false
+begins_c1 (b ∷ bs) = is_in_range 0x80 0x9F b
+
+-- no control that is executed begins at b
+abbrev pub is_printed : ℕ → List ℕ → Bool
+is_printed b bs = not (nat_lt b 0x20 || (b == 0xC2 && begins_c1 bs))
+
+-- how many bytes stand before the next control that is executed
+abbrev pub printed_len : List ℕ → ℕ
+printed_len [] = 0
+printed_len (b ∷ bs) = if is_printed b bs then suc (printed_len bs) else 0

@@ -1,0 +1,9 @@
+pub mod Lookup
+pub mod Hex
+pub mod Rgb
+pub mod Color
+pub mod Mode
+pub mod Charset
+pub mod CursorIcon
+pub mod Call
+pub mod CallOf

@@ -1,0 +1,158 @@
+//! The calls of a handler, as values.
+use crate::attr::Attr;
+use crate::charset::{CharsetIndex, StandardCharset};
+use crate::clear::{ClearMode, LineClearMode, TabulationClearMode};
+use crate::cursor::{CursorShape, CursorStyle};
+use crate::cursor_icon::CursorIcon;
+use crate::hyperlink::Hyperlink;
+use crate::keyboard::{KeyboardModes, KeyboardModesApplyBehavior, ModifyOtherKeys};
+use crate::mode::{Mode, PrivateMode};
+use crate::rgb::Rgb;
+use crate::scp::{ScpCharPath, ScpUpdateMode};
+
+/// A call of a handler.
+#[derive(Clone, Copy, Debug)]
+pub enum Call<'a> {
+    /// Sets the window's title (OSC 0 and 2), or the default one for `None`.
+    SetTitle(Option<&'a str>),
+    /// Sets the cursor's style (DECSCUSR), or the default one for `None`.
+    SetCursorStyle(Option<CursorStyle>),
+    /// Sets the cursor's shape (OSC 50).
+    SetCursorShape(CursorShape),
+    /// Writes a character at the cursor.
+    Input(char),
+    /// Moves the cursor to a line and a column, both from 0 (CUP, HVP).
+    Goto(i32, usize),
+    /// Moves the cursor to a line, from 0 (VPA).
+    GotoLine(i32),
+    /// Moves the cursor to a column, from 0 (CHA, HPA).
+    GotoCol(usize),
+    /// Inserts so many blanks at the cursor (ICH).
+    InsertBlank(usize),
+    /// Moves the cursor up so many rows (CUU).
+    MoveUp(usize),
+    /// Moves the cursor down so many rows (CUD, VPR).
+    MoveDown(usize),
+    /// Asks what terminal this is (DA); the first intermediate tells which report is wanted.
+    IdentifyTerminal(Option<char>),
+    /// Asks for the report with this number (DSR).
+    DeviceStatus(usize),
+    /// Moves the cursor right so many columns (CUF, HPR).
+    MoveForward(usize),
+    /// Moves the cursor left so many columns (CUB).
+    MoveBackward(usize),
+    /// Moves the cursor down so many rows, to column 0 (CNL).
+    MoveDownAndCr(usize),
+    /// Moves the cursor up so many rows, to column 0 (CPL).
+    MoveUpAndCr(usize),
+    /// Moves the cursor over so many tab stops (HT).
+    PutTab(u16),
+    /// Moves the cursor left one column (BS).
+    Backspace,
+    /// Moves the cursor to column 0 (CR).
+    CarriageReturn,
+    /// Moves the cursor to the next line (LF, VT, FF, IND).
+    Linefeed,
+    /// Rings the bell (BEL).
+    Bell,
+    /// Stands for a character in error (SUB).
+    Substitute,
+    /// Moves the cursor to the next line, and to column 0 in new line mode. No sequence calls it.
+    Newline,
+    /// Sets a tab stop at the cursor's column (HTS).
+    SetHorizontalTabstop,
+    /// Scrolls the region up so many rows (SU).
+    ScrollUp(usize),
+    /// Scrolls the region down so many rows (SD).
+    ScrollDown(usize),
+    /// Inserts so many blank lines at the cursor (IL).
+    InsertBlankLines(usize),
+    /// Deletes so many lines from the cursor on (DL).
+    DeleteLines(usize),
+    /// Erases so many cells from the cursor on (ECH).
+    EraseChars(usize),
+    /// Deletes so many cells from the cursor on (DCH).
+    DeleteChars(usize),
+    /// Moves the cursor back so many tab stops (CBT).
+    MoveBackwardTabs(u16),
+    /// Moves the cursor forward so many tab stops (CHT).
+    MoveForwardTabs(u16),
+    /// Saves the cursor (DECSC, SCOSC).
+    SaveCursorPosition,
+    /// Restores the saved cursor (DECRC, SCORC).
+    RestoreCursorPosition,
+    /// Clears a part of the cursor's line (EL).
+    ClearLine(LineClearMode),
+    /// Clears a part of the screen (ED).
+    ClearScreen(ClearMode),
+    /// Clears tab stops (TBC).
+    ClearTabs(TabulationClearMode),
+    /// Sets a tab stop every so many columns (DECST8C).
+    SetTabs(u16),
+    /// Puts the terminal back to its first state (RIS).
+    ResetState,
+    /// Moves the cursor up one line, and scrolls at the region's top (RI).
+    ReverseIndex,
+    /// Changes one drawing attribute (SGR).
+    TerminalAttribute(Attr),
+    /// Sets a mode (SM).
+    SetMode(Mode),
+    /// Resets a mode (RM).
+    UnsetMode(Mode),
+    /// Asks whether a mode is set (DECRQM).
+    ReportMode(Mode),
+    /// Sets a private mode (DECSET).
+    SetPrivateMode(PrivateMode),
+    /// Resets a private mode (DECRST).
+    UnsetPrivateMode(PrivateMode),
+    /// Asks whether a private mode is set (DECRQM).
+    ReportPrivateMode(PrivateMode),
+    /// Sets the scrolling region (DECSTBM): both lines from 1, to the last line for `None`.
+    SetScrollingRegion(usize, Option<usize>),
+    /// Has the keypad send application sequences (DECKPAM).
+    SetKeypadApplicationMode,
+    /// Has the keypad send numbers (DECKPNM).
+    UnsetKeypadApplicationMode,
+    /// Draws with the character set of this index (SI, SO).
+    SetActiveCharset(CharsetIndex),
+    /// Gives an index its character set (SCS).
+    ConfigureCharset(CharsetIndex, StandardCharset),
+    /// Sets the colour of an index (OSC 4, 10, 11 and 12).
+    SetColor(usize, Rgb),
+    /// Asks for the colour of an index. The answer begins with the prefix and ends with the terminator.
+    DynamicColorSequence(&'a str, usize, &'a str),
+    /// Gives an index its first colour again (OSC 104, 110, 111 and 112).
+    ResetColor(usize),
+    /// Stores data, in base64, in a clipboard (OSC 52).
+    ClipboardStore(u8, &'a [u8]),
+    /// Asks for a clipboard's data (OSC 52). The answer ends with the terminator.
+    ClipboardLoad(u8, &'a str),
+    /// Fills the screen with `E` (DECALN).
+    Decaln,
+    /// Pushes the title on a stack.
+    PushTitle,
+    /// Pops the title from the stack.
+    PopTitle,
+    /// Asks for the text area's size in pixels.
+    TextAreaSizePixels,
+    /// Asks for the text area's size in characters.
+    TextAreaSizeChars,
+    /// Begins a hyperlink, or ends the present one for `None` (OSC 8).
+    SetHyperlink(Option<Hyperlink<'a>>),
+    /// Sets the pointer's shape (OSC 22).
+    SetMouseCursorIcon(CursorIcon),
+    /// Asks for the keyboard modes.
+    ReportKeyboardMode,
+    /// Pushes keyboard modes on a stack.
+    PushKeyboardMode(KeyboardModes),
+    /// Pops so many keyboard modes from the stack.
+    PopKeyboardModes(u16),
+    /// Changes the keyboard modes.
+    SetKeyboardMode(KeyboardModes, KeyboardModesApplyBehavior),
+    /// Sets how xterm's `modifyOtherKeys` works.
+    SetModifyOtherKeys(ModifyOtherKeys),
+    /// Asks how `modifyOtherKeys` works.
+    ReportModifyOtherKeys,
+    /// Selects the character path (SCP).
+    SetScp(ScpCharPath, ScpUpdateMode),
+}
