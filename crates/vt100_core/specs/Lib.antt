@@ -5,6 +5,7 @@ pub mod GridFields
 pub mod Erase
 pub mod KeptFields
 pub mod Lines
+pub mod Resize
 pub mod Scroll
 pub mod Text
 pub mod Sink

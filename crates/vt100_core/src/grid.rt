@@ -15,8 +15,8 @@ use std::marker::Model;
 use vt100_forms::{GridError, Pos};
 use vt100_rows::Row;
 
-use crate::rows_edit::{blank_rows, reset_all};
-use crate::scrollback::{Scrollback, ScrollbackState};
+use crate::rows_edit::{blank_rows, clone_rows, reset_all};
+use crate::scrollback::{Scrollback, ScrollbackState, clone_kept};
 use crate::size::Size;
 
 /// The rows of a screen, its cursor, and the rows that scrolled off at its top.
@@ -106,5 +106,31 @@ impl Grid {
         self.scroll_bottom = self.size.rows() - 1;
         self.origin_mode = false;
         self.saved_origin_mode = false;
+    }
+
+    /// An equal grid.
+    pub fn clone(&self) -> Result<Self, GridError>
+        ensures { IfOk result (λ g. g ≡ self.now) }
+    {
+        let alloc = *self.rows.allocator();
+        let rows = clone_rows(alloc, &self.rows)?;
+        let kept = clone_kept(alloc, &self.scrollback.rows)?;
+        Ok(Grid {
+            size: self.size,
+            pos: self.pos,
+            saved_pos: self.saved_pos,
+            rows,
+            scroll_top: self.scroll_top,
+            scroll_bottom: self.scroll_bottom,
+            origin_mode: self.origin_mode,
+            saved_origin_mode: self.saved_origin_mode,
+            scrollback: ScrollbackState {
+                enabled: self.scrollback.enabled,
+                rows: kept,
+                capacity: self.scrollback.capacity,
+                offset: self.scrollback.offset,
+                unbounded_len: self.scrollback.unbounded_len,
+            },
+        })
     }
 }

@@ -4,7 +4,7 @@ ghost use Rattle.vt100_rows.specs.Row.{RowView, blank_row, cleared_row, wiped_ro
 ghost use Rattle.vt100_core.specs.Erase.{erased_forward_at, erased_backward_at};
 ghost use Rattle.vt100_core.specs.Sheet.{row_at, rows_by_position, turned_up, moved_up, moved_down, opened_line, IsRowOf, changed_between};
 
-use std::alloc::{AllocError, Global};
+use std::alloc::Global;
 
 use vt100_forms::GridError;
 use vt100_forms::attrs::Attrs;
@@ -27,7 +27,7 @@ pub(crate) fn blank_rows(alloc: Global, size: Size) -> Result<Vec<Row>, GridErro
 {
     let mut rows = Vec::with_capacity(alloc, usize::from(size.rows()))?;
     for _row in 0..size.rows() {
-        rows.push(Row::new(alloc, size.cols())?).map_err(AllocError::from)?;
+        rows.push(Row::new(alloc, size.cols())?)?;
     }
     Ok(rows)
 }
@@ -130,4 +130,15 @@ pub(crate) fn open_lines(rows: &mut [Row], first: usize, end: usize, n: usize, w
 {
     move_down(rows, first, end, n, width);
     rows[end - 1].wrap(false);
+}
+
+/// Equal rows.
+pub(crate) fn clone_rows(alloc: Global, rows: &[Row]) -> Result<Vec<Row>, GridError>
+    ensures { IfOk result (λ v. v.items ≡ rows.now) }
+{
+    let mut copy = Vec::with_capacity(alloc, rows.len())?;
+    for row in rows {
+        copy.push(row.clone()?)?;
+    }
+    Ok(copy)
 }

@@ -1,5 +1,5 @@
 //! The rows that left the screen at its top.
-ghost use Rattle.std.specs.Prelude.{◌≡◌, ℕ, ◌+◌, ◌-◌, ◌^◌, ◌<◌, ◌≤◌, ◌==◌, ◌++◌, List, length, take, drop, map, slice_range, OnOk, OnErr, true, false, not, ◌&&◌, if◌then◌else◌};
+ghost use Rattle.std.specs.Prelude.{◌≡◌, ℕ, ◌+◌, ◌-◌, ◌^◌, ◌<◌, ◌≤◌, ◌==◌, ◌++◌, List, length, take, drop, map, slice_range, OnOk, OnErr, IfOk, true, false, not, ◌&&◌, if◌then◌else◌};
 ghost use Rattle.vt100_rows.specs.Cell.{default_cell};
 ghost use Rattle.vt100_rows.specs.Row.{RowView, IsRow, blank_row, grown, trimmed};
 ghost use Rattle.vt100_core.specs.Sheet.{row_at, rows_by_position, IsSheet, changed_between};
@@ -197,4 +197,15 @@ pub(crate) fn widen(rows: &mut VecDeque<Row>, first: usize, end: usize, width: u
         rows[j].grow(width, Cell::new())?;
     }
     Ok(())
+}
+
+/// Equal rows.
+pub(crate) fn clone_kept(alloc: Global, rows: &VecDeque<Row>) -> Result<VecDeque<Row>, GridError>
+    ensures { IfOk result (λ v. v.items ≡ rows.now.items) }
+{
+    let mut copy = VecDeque::with_capacity(alloc, rows.len())?;
+    for j in 0..rows.len() {
+        copy.push_back(kept_at(rows, j).clone()?)?;
+    }
+    Ok(copy)
 }

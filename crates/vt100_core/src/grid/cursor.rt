@@ -19,7 +19,8 @@ impl Grid {
     /// Moves the cursor to a place, which in origin mode is counted from the scroll region's top and kept in the region (CUP).
     pub fn set_pos(&mut self, pos: Pos)
         requires { IsAllocated self.old }
-        ensures { self.new ≡ cursor_at self.old pos.row pos.col }
+        ensures grid { self.new ≡ cursor_at self.old pos.row pos.col }
+        ensures allocated { IsAllocated self.new }
     {
         let row = if self.origin_mode {
             pos.row.saturating_add(self.scroll_top).min(self.scroll_bottom)
@@ -33,7 +34,8 @@ impl Grid {
     /// Saves the cursor and origin mode (DECSC).
     pub fn save_cursor(&mut self)
         requires { IsAllocated self.old }
-        ensures { self.new ≡ cursor_saved self.old }
+        ensures grid { self.new ≡ cursor_saved self.old }
+        ensures allocated { IsAllocated self.new }
     {
         self.saved_pos = self.pos;
         self.saved_origin_mode = self.origin_mode;
@@ -42,7 +44,8 @@ impl Grid {
     /// Brings back the cursor and origin mode that were saved last (DECRC).
     pub fn restore_cursor(&mut self)
         requires { IsAllocated self.old }
-        ensures { self.new ≡ cursor_restored self.old }
+        ensures grid { self.new ≡ cursor_restored self.old }
+        ensures allocated { IsAllocated self.new }
     {
         self.pos = self.saved_pos;
         self.origin_mode = self.saved_origin_mode;
@@ -52,7 +55,8 @@ impl Grid {
     /// first cell (DECSTBM). Rows are counted from 0.
     pub fn set_scroll_region(&mut self, top: u16, bottom: u16)
         requires { IsAllocated self.old }
-        ensures { self.new ≡ with_region self.old top bottom }
+        ensures grid { self.new ≡ with_region self.old top bottom }
+        ensures allocated { IsAllocated self.new }
     {
         let last_row = self.size.rows() - 1;
         let bottom = bottom.min(last_row);
@@ -76,7 +80,8 @@ impl Grid {
     /// Sets whether places are counted from the scroll region's top, and moves the cursor to the first one (DECOM).
     pub fn set_origin_mode(&mut self, mode: bool)
         requires { IsAllocated self.old }
-        ensures { self.new ≡ with_origin self.old mode }
+        ensures grid { self.new ≡ with_origin self.old mode }
+        ensures allocated { IsAllocated self.new }
     {
         self.origin_mode = mode;
         self.set_pos(Pos { row: 0, col: 0 });
@@ -85,7 +90,8 @@ impl Grid {
     /// Moves the cursor down, within the scroll region if it is there (CUD).
     pub fn row_inc_clamp(&mut self, count: u16)
         requires { IsAllocated self.old }
-        ensures { self.new ≡ moved_rows_down self.old count }
+        ensures grid { self.new ≡ moved_rows_down self.old count }
+        ensures allocated { IsAllocated self.new }
     {
         let last_row = if self.in_scroll_region() {
             self.scroll_bottom
@@ -98,7 +104,8 @@ impl Grid {
     /// Moves the cursor up, within the scroll region if it is there (CUU).
     pub fn row_dec_clamp(&mut self, count: u16)
         requires { IsAllocated self.old }
-        ensures { self.new ≡ moved_rows_up self.old count }
+        ensures grid { self.new ≡ moved_rows_up self.old count }
+        ensures allocated { IsAllocated self.new }
     {
         let first_row = if self.in_scroll_region() {
             self.scroll_top
@@ -111,7 +118,8 @@ impl Grid {
     /// Moves the cursor to a row, or to the last one (VPA).
     pub fn row_set(&mut self, i: u16)
         requires { IsAllocated self.old }
-        ensures { self.new ≡ record self.old { row = min i (self.old.height - 1) } }
+        ensures grid { self.new ≡ record self.old { row = min i (self.old.height - 1) } }
+        ensures allocated { IsAllocated self.new }
     {
         self.pos.row = i.min(self.size.rows() - 1);
     }
@@ -120,7 +128,8 @@ impl Grid {
     pub fn col_inc(&mut self, count: u16)
         requires allocated { IsAllocated self.old }
         requires fits { self.old.col + count ≤ self.old.width }
-        ensures { self.new ≡ record self.old { col = self.old.col + count } }
+        ensures grid { self.new ≡ record self.old { col = self.old.col + count } }
+        ensures allocated { IsAllocated self.new }
     {
         self.pos.col += count;
     }
@@ -128,7 +137,8 @@ impl Grid {
     /// Moves the cursor to the right, at most to the last column (CUF).
     pub fn col_inc_clamp(&mut self, count: u16)
         requires { IsAllocated self.old }
-        ensures { self.new ≡ record self.old { col = min (self.old.col + count) (self.old.width - 1) } }
+        ensures grid { self.new ≡ record self.old { col = min (self.old.col + count) (self.old.width - 1) } }
+        ensures allocated { IsAllocated self.new }
     {
         self.pos.col = self.pos.col.saturating_add(count).min(self.size.cols() - 1);
     }
@@ -136,7 +146,8 @@ impl Grid {
     /// Moves the cursor to the left (CUB).
     pub fn col_dec(&mut self, count: u16)
         requires { IsAllocated self.old }
-        ensures { self.new ≡ record self.old { col = self.old.col - count } }
+        ensures grid { self.new ≡ record self.old { col = self.old.col - count } }
+        ensures allocated { IsAllocated self.new }
     {
         self.pos.col = self.pos.col.saturating_sub(count);
     }
@@ -144,7 +155,8 @@ impl Grid {
     /// Moves the cursor to the next tab stop, one every eight columns, or to the last column (HT).
     pub fn col_tab(&mut self)
         requires { IsAllocated self.old }
-        ensures { self.new ≡ record self.old { col = tab_stop self.old } }
+        ensures grid { self.new ≡ record self.old { col = tab_stop self.old } }
+        ensures allocated { IsAllocated self.new }
     {
         let stop = (self.pos.col / 8 * 8).saturating_add(8);
         self.pos.col = stop.min(self.size.cols() - 1);
@@ -153,7 +165,8 @@ impl Grid {
     /// Moves the cursor to a column, or to the last one (CHA).
     pub fn col_set(&mut self, i: u16)
         requires { IsAllocated self.old }
-        ensures { self.new ≡ record self.old { col = min i (self.old.width - 1) } }
+        ensures grid { self.new ≡ record self.old { col = min i (self.old.width - 1) } }
+        ensures allocated { IsAllocated self.new }
     {
         self.pos.col = i.min(self.size.cols() - 1);
     }

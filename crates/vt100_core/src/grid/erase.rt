@@ -13,7 +13,8 @@ impl Grid {
     /// Empties every row, with these attributes (ED 2).
     pub fn erase_all(&mut self, attrs: Attrs)
         requires { IsAllocated self.old }
-        ensures { self.new ≡ all_erased self.old attrs }
+        ensures grid { self.new ≡ all_erased self.old attrs }
+        ensures allocated { IsAllocated self.new }
     {
         clear_all(&mut self.rows, attrs);
     }
@@ -21,7 +22,8 @@ impl Grid {
     /// Empties the cursor's row from the cursor on, and every row below it (ED 0).
     pub fn erase_all_forward(&mut self, attrs: Attrs)
         requires { IsAllocated self.old }
-        ensures { self.new ≡ all_erased_forward self.old attrs }
+        ensures grid { self.new ≡ all_erased_forward self.old attrs }
+        ensures allocated { IsAllocated self.new }
     {
         let row = usize::from(self.pos.row);
         erase_forward(&mut self.rows, row, self.pos.col, self.size.cols(), attrs);
@@ -30,7 +32,8 @@ impl Grid {
     /// Empties every row above the cursor's, and its row up to the cursor (ED 1).
     pub fn erase_all_backward(&mut self, attrs: Attrs)
         requires { IsAllocated self.old }
-        ensures { self.new ≡ all_erased_backward self.old attrs }
+        ensures grid { self.new ≡ all_erased_backward self.old attrs }
+        ensures allocated { IsAllocated self.new }
     {
         let row = usize::from(self.pos.row);
         let end = self.pos.col.min(self.size.cols() - 1) + 1;
@@ -40,7 +43,8 @@ impl Grid {
     /// Empties the cursor's row, with these attributes (EL 2).
     pub fn erase_row(&mut self, attrs: Attrs)
         requires { IsAllocated self.old }
-        ensures { self.new ≡ row_erased self.old attrs }
+        ensures grid { self.new ≡ row_erased self.old attrs }
+        ensures allocated { IsAllocated self.new }
     {
         self.rows[usize::from(self.pos.row)].clear(attrs);
     }
@@ -48,7 +52,8 @@ impl Grid {
     /// Empties the cursor's row from the cursor on (EL 0). Where the cursor is past the last column nothing is erased.
     pub fn erase_row_forward(&mut self, attrs: Attrs)
         requires { IsAllocated self.old }
-        ensures { self.new ≡ columns_erased self.old self.old.col self.old.width attrs }
+        ensures grid { self.new ≡ columns_erased self.old self.old.col self.old.width attrs }
+        ensures allocated { IsAllocated self.new }
     {
         self.rows[usize::from(self.pos.row)].erase_range(self.pos.col..self.size.cols(), attrs);
     }
@@ -56,7 +61,8 @@ impl Grid {
     /// Empties the cursor's row up to the cursor and at it (EL 1).
     pub fn erase_row_backward(&mut self, attrs: Attrs)
         requires { IsAllocated self.old }
-        ensures { self.new ≡ columns_erased self.old 0 (columns_to_cursor self.old) attrs }
+        ensures grid { self.new ≡ columns_erased self.old 0 (columns_to_cursor self.old) attrs }
+        ensures allocated { IsAllocated self.new }
     {
         let end = self.pos.col.min(self.size.cols() - 1) + 1;
         self.rows[usize::from(self.pos.row)].erase_range(0..end, attrs);
@@ -65,7 +71,8 @@ impl Grid {
     /// Inserts default cells at the cursor (ICH). What falls off the row's end is gone.
     pub fn insert_cells(&mut self, count: u16)
         requires { IsAllocated self.old }
-        ensures { self.new ≡ cells_inserted self.old count }
+        ensures grid { self.new ≡ cells_inserted self.old count }
+        ensures allocated { IsAllocated self.new }
     {
         self.rows[usize::from(self.pos.row)].insert(self.pos.col, count);
     }
@@ -73,7 +80,8 @@ impl Grid {
     /// Takes cells out at the cursor (DCH). Default cells follow at the row's end.
     pub fn delete_cells(&mut self, count: u16)
         requires { IsAllocated self.old }
-        ensures { self.new ≡ cells_deleted self.old count }
+        ensures grid { self.new ≡ cells_deleted self.old count }
+        ensures allocated { IsAllocated self.new }
     {
         let end = self.pos.col.saturating_add(count).min(self.size.cols());
         self.rows[usize::from(self.pos.row)].remove(self.pos.col..end);
@@ -82,7 +90,8 @@ impl Grid {
     /// Empties cells from the cursor on, with these attributes (ECH).
     pub fn erase_cells(&mut self, count: u16, attrs: Attrs)
         requires { IsAllocated self.old }
-        ensures { self.new ≡ columns_erased self.old self.old.col (min (self.old.col + count) self.old.width) attrs }
+        ensures grid { self.new ≡ columns_erased self.old self.old.col (min (self.old.col + count) self.old.width) attrs }
+        ensures allocated { IsAllocated self.new }
     {
         let end = self.pos.col.saturating_add(count).min(self.size.cols());
         self.rows[usize::from(self.pos.row)].erase_range(self.pos.col..end, attrs);

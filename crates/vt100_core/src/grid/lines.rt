@@ -12,7 +12,8 @@ impl Grid {
     /// region are gone.
     pub fn insert_lines(&mut self, count: u16)
         requires { IsAllocated self.old }
-        ensures { self.new ≡ lines_inserted self.old count }
+        ensures grid { self.new ≡ lines_inserted self.old count }
+        ensures allocated { IsAllocated self.new }
     {
         if count == 0 || self.pos.row < self.scroll_top || self.pos.row > self.scroll_bottom {
             return;
@@ -26,7 +27,8 @@ impl Grid {
     /// Takes lines out at the cursor's row, if it is in the scroll region; blank ones follow at the region's end (DL).
     pub fn delete_lines(&mut self, count: u16)
         requires { IsAllocated self.old }
-        ensures { self.new ≡ lines_deleted self.old count }
+        ensures grid { self.new ≡ lines_deleted self.old count }
+        ensures allocated { IsAllocated self.new }
     {
         if self.pos.row < self.scroll_top || self.pos.row > self.scroll_bottom {
             return;
@@ -40,7 +42,8 @@ impl Grid {
     /// Moves the lines of the scroll region down; blank ones come in at its top (SD).
     pub fn scroll_down(&mut self, count: u16)
         requires { IsAllocated self.old }
-        ensures { self.new ≡ scrolled_down self.old count }
+        ensures grid { self.new ≡ scrolled_down self.old count }
+        ensures allocated { IsAllocated self.new }
     {
         if count == 0 {
             return;
@@ -54,7 +57,8 @@ impl Grid {
     /// Moves the cursor up. At the scroll region's top, and at the screen's, the region scrolls down instead (RI).
     pub fn row_dec_scroll(&mut self, count: u16)
         requires { IsAllocated self.old }
-        ensures { self.new ≡ fed_up self.old count }
+        ensures grid { self.new ≡ fed_up self.old count }
+        ensures allocated { IsAllocated self.new }
     {
         let first_row = if self.in_scroll_region() {
             self.scroll_top

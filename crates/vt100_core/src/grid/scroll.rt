@@ -22,6 +22,7 @@ impl Grid {
         requires { IsAllocated self.old }
         ensures grid { OnOk result (self.new ≡ (scrolled_up self.old count).grid) }
         ensures sink { OnOk result (TakesAll S.takes sink.old (scrolled_up self.old count).sunk sink.new) }
+        ensures allocated { IsAllocated self.new }
     {
         let first = usize::from(self.scroll_top);
         let end = usize::from(self.scroll_bottom) + 1;
@@ -42,6 +43,7 @@ impl Grid {
         requires { IsAllocated self.old }
         ensures grid { self.new ≡ scrollback_erased self.old }
         ensures sink { TakesAll S.takes sink.old self.old.kept.rows sink.new }
+        ensures allocated { IsAllocated self.new }
     {
         let n = self.scrollback.rows.len();
         drop_oldest(&mut self.scrollback.rows, n, sink);
@@ -53,7 +55,8 @@ impl Grid {
     /// shows are made at least as wide as it.
     pub fn set_scrollback(&mut self, rows: usize) -> Result<(), GridError>
         requires { IsAllocated self.old }
-        ensures { OnOk result (self.new ≡ scrollback_shown self.old rows) }
+        ensures grid { OnOk result (self.new ≡ scrollback_shown self.old rows) }
+        ensures allocated { IsAllocated self.new }
     {
         let offset = rows.min(self.scrollback.rows.len());
         self.scrollback.show(offset, self.size.rows(), self.size.cols())?;
@@ -67,6 +70,7 @@ impl Grid {
         ensures grid { OnOk result (self.new ≡ (fed self.old count).grid) }
         ensures sink { OnOk result (TakesAll S.takes sink.old (fed self.old count).sunk sink.new) }
         ensures lines { IfOk result (λ n. n ≡ rows_past_bottom self.old count) }
+        ensures allocated { IsAllocated self.new }
     {
         if !self.in_scroll_region() {
             self.row_inc_clamp(count);
@@ -86,6 +90,7 @@ impl Grid {
         requires fits { width ≤ self.old.width }
         ensures grid { OnOk result (self.new ≡ (made_to_fit self.old width wrap).grid) }
         ensures sink { OnOk result (TakesAll S.takes sink.old (made_to_fit self.old width wrap).sunk sink.new) }
+        ensures allocated { IsAllocated self.new }
     {
         if self.pos.col <= self.size.cols() - width {
             return Ok(());
@@ -109,7 +114,8 @@ impl Grid {
     /// cursor; else takes its mark off.
     fn mark_row(&mut self, row: u16, wrap: bool)
         requires { row < length self.old.rows }
-        ensures { self.new ≡ with_row self.old row (with_wrap (row_at self.old.rows row) (wrap && ((row + 1) == self.old.row))) }
+        ensures grid { self.new ≡ with_row self.old row (with_wrap (row_at self.old.rows row) (wrap && ((row + 1) == self.old.row))) }
+        ensures allocated { IsAllocated self.new }
     {
         let wraps = wrap && row + 1 == self.pos.row;
         self.rows[usize::from(row)].wrap(wraps);

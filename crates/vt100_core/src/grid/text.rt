@@ -32,6 +32,7 @@ impl Grid {
         ensures grid { OnOk result (self.new ≡ (printed self.old c attrs).grid) }
         ensures sink { OnOk result (TakesAll S.takes sink.old (printed self.old c attrs).sunk sink.new) }
         ensures answer { IfOk result (λ p. p ≡ (printed self.old c attrs).printed) }
+        ensures allocated { IsAllocated self.new }
     {
         match self.drawn_columns(c) {
             None => Ok(Printed::Nothing),
@@ -70,6 +71,7 @@ impl Grid {
         requires fits { columns ≤ self.old.width }
         ensures grid { OnOk result (self.new ≡ (spaced self.old c attrs).grid) }
         ensures sink { OnOk result (TakesAll S.takes sink.old (spaced self.old c attrs).sunk sink.new) }
+        ensures allocated { IsAllocated self.new }
     {
         self.col_wrap(columns, true, sink)?;
         self.put(c, columns, attrs);
@@ -82,7 +84,8 @@ impl Grid {
         requires drawn { drawn_columns c ≡ Some columns }
         requires some { 0 < columns }
         requires fits { self.old.col + columns ≤ self.old.width }
-        ensures { self.new ≡ put_at self.old (cell_of c attrs) attrs columns }
+        ensures grid { self.new ≡ put_at self.old (cell_of c attrs) attrs columns }
+        ensures allocated { IsAllocated self.new }
     {
         let col = self.pos.col;
         self.rows[usize::from(self.pos.row)].put(col, c, columns, attrs);
@@ -96,7 +99,8 @@ impl Grid {
         requires text { has_text cell ≡ true }
         requires wide { cell.wide ≡ true }
         requires fits { self.old.col + 2 ≤ self.old.width }
-        ensures { self.new ≡ put_at self.old cell attrs 2 }
+        ensures grid { self.new ≡ put_at self.old cell attrs 2 }
+        ensures allocated { IsAllocated self.new }
     {
         let col = self.pos.col;
         self.rows[usize::from(self.pos.row)].put_cell(col, cell, attrs);
@@ -111,6 +115,7 @@ impl Grid {
         ensures grid { self.new ≡ with_cursor_row self.old (join_row (row_of_cursor self.old) self.old.col c attrs) }
         ensures answer { result ≡ join_answer (row_of_cursor self.old) self.old.col c attrs }
         ensures valid { IsGrid self.old }
+        ensures allocated { IsAllocated self.new }
     {
         let col = self.pos.col;
         self.rows[usize::from(self.pos.row)].join(col, c, attrs)
@@ -124,6 +129,7 @@ impl Grid {
         ensures grid { OnOk result (self.new ≡ (joined self.old c attrs).grid) }
         ensures sink { OnOk result (TakesAll S.takes sink.old (joined self.old c attrs).sunk sink.new) }
         ensures answer { IfOk result (λ p. p ≡ (joined self.old c attrs).printed) }
+        ensures allocated { IsAllocated self.new }
     {
         match self.join_in_row(c, attrs) {
             Join::InPlace => Ok(Printed::Joined),
@@ -148,6 +154,7 @@ impl Grid {
         requires fits { 2 ≤ self.old.width }
         ensures grid { OnOk result (self.new ≡ put_at (made_to_fit self.old 2 false).grid cell attrs 2) }
         ensures sink { OnOk result (TakesAll S.takes sink.old (made_to_fit self.old 2 false).sunk sink.new) }
+        ensures allocated { IsAllocated self.new }
     {
         self.col_wrap(2, false, sink)?;
         self.put_wide(cell, attrs);
