@@ -28,8 +28,8 @@ erases-forward rows ws row col width a v h ev ew =
     let zs = set rows row v in
     let lz : length zs ≡ length rows = length-set rows row v in
     rows_by_position_is (length rows) (erased_forward_at rows row col width a) ws (ap length ew ∙ length-rows_by_position (length zs) (changed_between (λ x. cleared_row x a) zs (row + 1) (length zs)) ∙ lz)
-        (λ r k. ap (λ vs. row_at vs r) ew ∙ row_at-by_position (length zs) (changed_between (λ x. cleared_row x a) zs (row + 1) (length zs)) r (omega arith)
-            ∙ forward-read rows zs row col width r a v k lz (row_at-set rows row v r h) ev)
+    (λ r k. ap (λ vs. row_at vs r) ew ∙ row_at-by_position (length zs) (changed_between (λ x. cleared_row x a) zs (row + 1) (length zs)) r (omega arith)
+    ∙ forward-read rows zs row col width r a v k lz (row_at-set rows row v r h) ev)
 
 backward-read : (rows zs : List RowView) (row end r : ℕ) (a : Attrs) (v : RowView) → r < length rows → row_at zs r ≡ cond (r == row) v (row_at rows r) → v ≡ wiped_row (row_at rows row) 0 end a
     → changed_between (λ x. cleared_row x a) zs 0 row r ≡ erased_backward_at rows row end a r
@@ -42,8 +42,8 @@ erases-backward rows ws row end a v h ev ew =
     let zs = set rows row v in
     let lz : length zs ≡ length rows = length-set rows row v in
     rows_by_position_is (length rows) (erased_backward_at rows row end a) ws (ap length ew ∙ length-rows_by_position (length zs) (changed_between (λ x. cleared_row x a) zs 0 row) ∙ lz)
-        (λ r k. ap (λ vs. row_at vs r) ew ∙ row_at-by_position (length zs) (changed_between (λ x. cleared_row x a) zs 0 row) r (omega arith)
-            ∙ backward-read rows zs row end r a v k (row_at-set rows row v r h) ev)
+    (λ r k. ap (λ vs. row_at vs r) ew ∙ row_at-by_position (length zs) (changed_between (λ x. cleared_row x a) zs 0 row) r (omega arith)
+    ∙ backward-read rows zs row end r a v k (row_at-set rows row v r h) ev)
 
 all-read : (rows : List RowView) (a : Attrs) (r : ℕ) → r < length rows → changed_between (λ x. cleared_row x a) rows 0 (length rows) r ≡ cleared_row (row_at rows r) a
 all-read rows a r h = grind (arith, nat_tests)
@@ -51,7 +51,7 @@ all-read rows a r h = grind (arith, nat_tests)
 pub clears-all : (rows ws : List RowView) (a : Attrs) → ws ≡ rows_by_position (length rows) (changed_between (λ x. cleared_row x a) rows 0 (length rows)) → ws ≡ rows_by_position (length rows) (λ r. cleared_row (row_at rows r) a)
 clears-all rows ws a e =
     rows_by_position_is (length rows) (λ r. cleared_row (row_at rows r) a) ws (ap length e ∙ length-rows_by_position (length rows) (changed_between (λ x. cleared_row x a) rows 0 (length rows)))
-        (λ r k. ap (λ vs. row_at vs r) e ∙ row_at-by_position (length rows) (changed_between (λ x. cleared_row x a) rows 0 (length rows)) r k ∙ all-read rows a r k)
+    (λ r k. ap (λ vs. row_at vs r) e ∙ row_at-by_position (length rows) (changed_between (λ x. cleared_row x a) rows 0 (length rows)) r k ∙ all-read rows a r k)
 
 -- ---- rows stay what they are
 
@@ -71,16 +71,16 @@ IsRowOf-inserted width v i n r =
     let m = min n (length v.cells - i) in
     let f = cut (length v.cells) (opened (cell_at v.cells) i m) in
     record {
-        row = IsRow-inserted v i n r.row;
-        wide = length-cond (nat_lt 0 m) (record { cells = by_position (length v.cells) f; wrapped = false }) v width (length-by_position (length v.cells) f ∙ r.wide) r.wide;
+      row = IsRow-inserted v i n r.row;
+      wide = length-cond (nat_lt 0 m) (record { cells = by_position (length v.cells) f; wrapped = false }) v width (length-by_position (length v.cells) f ∙ r.wide) r.wide;
     }
 
 IsRowOf-removed : (width : ℕ) (v : RowView) (s e : ℕ) → IsRowOf width v → e ≤ width → IsRowOf width (removed v s e)
 IsRowOf-removed width v s e r h =
     let f = closed (length v.cells) (cell_at v.cells) s (e - s) in
     record {
-        row = IsRow-removed v s e r.row (omega (arith, r.wide));
-        wide = length-cond (nat_lt s e) (record { cells = by_position (length v.cells) f; wrapped = false }) v width (length-by_position (length v.cells) f ∙ r.wide) r.wide;
+      row = IsRow-removed v s e r.row (omega (arith, r.wide));
+      wide = length-cond (nat_lt s e) (record { cells = by_position (length v.cells) f; wrapped = false }) v width (length-by_position (length v.cells) f ∙ r.wide) r.wide;
     }
 
 -- ---- the cursor's row
@@ -94,7 +94,7 @@ cursor_row_of g i a = i.sheet.each g.row (omega (arith, i.sheet.count a, i.curso
 pub IsGrid-cursor_row : (g : GridView) (v : RowView) → IsGrid g → IsAllocated g → IsRowOf g.width v → ((row_of_cursor g).wrapped ≡ false → v.wrapped ≡ false) → IsGrid (with_cursor_row g v)
 IsGrid-cursor_row g v i a row keeps =
     IsGrid-with_row g g.row v i (omega (arith, i.sheet.count a, i.cursor_row)) row
-        (λ e. let at : g.row ≡ g.height - 1 = omega arith in keeps (ap (λ k. (row_at g.rows k).wrapped) at ∙ i.sheet.last))
+    (λ e. let at : g.row ≡ g.height - 1 = omega arith in keeps (ap (λ k. (row_at g.rows k).wrapped) at ∙ i.sheet.last))
 
 pub IsGrid-row_erased : (g : GridView) (a : Attrs) → IsGrid g → IsAllocated g → IsGrid (row_erased g a)
 IsGrid-row_erased g a i l = IsGrid-cursor_row g (cleared_row (row_of_cursor g) a) i l (IsRowOf-cleared g.width (row_of_cursor g) a (cursor_row_of g i l)) (λ _. refl)
@@ -102,7 +102,7 @@ IsGrid-row_erased g a i l = IsGrid-cursor_row g (cleared_row (row_of_cursor g) a
 pub IsGrid-columns_erased : (g : GridView) (s e : ℕ) (a : Attrs) → IsGrid g → IsAllocated g → e ≤ g.width → IsGrid (columns_erased g s e a)
 IsGrid-columns_erased g s e a i l h =
     IsGrid-cursor_row g (wiped_row (row_of_cursor g) s e a) i l (IsRowOf-wiped g.width (row_of_cursor g) s e a (cursor_row_of g i l) h)
-        (λ w. ap (λ b. b && not (wipe_unflags (length (row_of_cursor g).cells) (cell_at (row_of_cursor g).cells) s e)) w)
+    (λ w. ap (λ b. b && not (wipe_unflags (length (row_of_cursor g).cells) (cell_at (row_of_cursor g).cells) s e)) w)
 
 pub IsGrid-cells_inserted : (g : GridView) (n : ℕ) → IsGrid g → IsAllocated g → IsGrid (cells_inserted g n)
 IsGrid-cells_inserted g n i l = IsGrid-cursor_row g (inserted (row_of_cursor g) g.col n) i l (IsRowOf-inserted g.width (row_of_cursor g) g.col n (cursor_row_of g i l)) (λ _. refl)
@@ -126,27 +126,27 @@ wiped-wrapped v s e a w = ap (λ b. b && not (wipe_unflags (length v.cells) (cel
 pub IsGrid-all_erased_forward : (g : GridView) (a : Attrs) → IsGrid g → IsAllocated g → IsGrid (all_erased_forward g a)
 IsGrid-all_erased_forward g a i l =
     IsGrid-positions g (erased_forward_at g.rows g.row g.col g.width a) i l
-        (λ r k. IsRowOf-cond (nat_lt g.row r) g.width (cleared_row (row_at g.rows r) a) (cond (r == g.row) (wiped_row (row_at g.rows r) g.col g.width a) (row_at g.rows r))
-            (λ _. IsRowOf-cleared g.width (row_at g.rows r) a (i.sheet.each r k))
-            (λ _. IsRowOf-cond (r == g.row) g.width (wiped_row (row_at g.rows r) g.col g.width a) (row_at g.rows r)
-                (λ _. IsRowOf-wiped g.width (row_at g.rows r) g.col g.width a (i.sheet.each r k) (omega arith)) (λ _. i.sheet.each r k)))
-        (wrapped-cond (nat_lt g.row (g.height - 1)) (cleared_row (row_at g.rows (g.height - 1)) a) (cond ((g.height - 1) == g.row) (wiped_row (row_at g.rows (g.height - 1)) g.col g.width a) (row_at g.rows (g.height - 1)))
-            (λ _. refl)
-            (λ _. wrapped-cond ((g.height - 1) == g.row) (wiped_row (row_at g.rows (g.height - 1)) g.col g.width a) (row_at g.rows (g.height - 1))
-                (λ _. wiped-wrapped (row_at g.rows (g.height - 1)) g.col g.width a i.sheet.last) (λ _. i.sheet.last)))
+    (λ r k. IsRowOf-cond (nat_lt g.row r) g.width (cleared_row (row_at g.rows r) a) (cond (r == g.row) (wiped_row (row_at g.rows r) g.col g.width a) (row_at g.rows r))
+    (λ _. IsRowOf-cleared g.width (row_at g.rows r) a (i.sheet.each r k))
+    (λ _. IsRowOf-cond (r == g.row) g.width (wiped_row (row_at g.rows r) g.col g.width a) (row_at g.rows r)
+    (λ _. IsRowOf-wiped g.width (row_at g.rows r) g.col g.width a (i.sheet.each r k) (omega arith)) (λ _. i.sheet.each r k)))
+    (wrapped-cond (nat_lt g.row (g.height - 1)) (cleared_row (row_at g.rows (g.height - 1)) a) (cond ((g.height - 1) == g.row) (wiped_row (row_at g.rows (g.height - 1)) g.col g.width a) (row_at g.rows (g.height - 1)))
+    (λ _. refl)
+    (λ _. wrapped-cond ((g.height - 1) == g.row) (wiped_row (row_at g.rows (g.height - 1)) g.col g.width a) (row_at g.rows (g.height - 1))
+    (λ _. wiped-wrapped (row_at g.rows (g.height - 1)) g.col g.width a i.sheet.last) (λ _. i.sheet.last)))
 
 pub IsGrid-all_erased_backward : (g : GridView) (a : Attrs) → IsGrid g → IsAllocated g → IsGrid (all_erased_backward g a)
 IsGrid-all_erased_backward g a i l =
     let e = columns_to_cursor g in
     IsGrid-positions g (erased_backward_at g.rows g.row e a) i l
-        (λ r k. IsRowOf-cond (nat_lt r g.row) g.width (cleared_row (row_at g.rows r) a) (cond (r == g.row) (wiped_row (row_at g.rows r) 0 e a) (row_at g.rows r))
-            (λ _. IsRowOf-cleared g.width (row_at g.rows r) a (i.sheet.each r k))
-            (λ _. IsRowOf-cond (r == g.row) g.width (wiped_row (row_at g.rows r) 0 e a) (row_at g.rows r)
-                (λ _. IsRowOf-wiped g.width (row_at g.rows r) 0 e a (i.sheet.each r k) (omega (arith, i.some_cols))) (λ _. i.sheet.each r k)))
-        (wrapped-cond (nat_lt (g.height - 1) g.row) (cleared_row (row_at g.rows (g.height - 1)) a) (cond ((g.height - 1) == g.row) (wiped_row (row_at g.rows (g.height - 1)) 0 e a) (row_at g.rows (g.height - 1)))
-            (λ _. refl)
-            (λ _. wrapped-cond ((g.height - 1) == g.row) (wiped_row (row_at g.rows (g.height - 1)) 0 e a) (row_at g.rows (g.height - 1))
-                (λ _. wiped-wrapped (row_at g.rows (g.height - 1)) 0 e a i.sheet.last) (λ _. i.sheet.last)))
+    (λ r k. IsRowOf-cond (nat_lt r g.row) g.width (cleared_row (row_at g.rows r) a) (cond (r == g.row) (wiped_row (row_at g.rows r) 0 e a) (row_at g.rows r))
+    (λ _. IsRowOf-cleared g.width (row_at g.rows r) a (i.sheet.each r k))
+    (λ _. IsRowOf-cond (r == g.row) g.width (wiped_row (row_at g.rows r) 0 e a) (row_at g.rows r)
+    (λ _. IsRowOf-wiped g.width (row_at g.rows r) 0 e a (i.sheet.each r k) (omega (arith, i.some_cols))) (λ _. i.sheet.each r k)))
+    (wrapped-cond (nat_lt (g.height - 1) g.row) (cleared_row (row_at g.rows (g.height - 1)) a) (cond ((g.height - 1) == g.row) (wiped_row (row_at g.rows (g.height - 1)) 0 e a) (row_at g.rows (g.height - 1)))
+    (λ _. refl)
+    (λ _. wrapped-cond ((g.height - 1) == g.row) (wiped_row (row_at g.rows (g.height - 1)) 0 e a) (row_at g.rows (g.height - 1))
+    (λ _. wiped-wrapped (row_at g.rows (g.height - 1)) 0 e a i.sheet.last) (λ _. i.sheet.last)))
 
 pub columns_to_cursor-fit : (g : GridView) → IsGrid g → columns_to_cursor g ≤ g.width
 columns_to_cursor-fit g i = omega (arith, i.some_cols)

@@ -17,23 +17,23 @@ IsGrid-cond false g h p q = q refl
 
 pub IsGrid-rows : (g : GridView) (rows : List RowView) → IsGrid g → length rows ≡ length g.rows → IsSheet g.height g.width rows → IsGrid (record g { rows = rows })
 IsGrid-rows g rows i e sheet = record {
-    sheet = sheet;
-    some_rows = i.some_rows;
-    some_cols = i.some_cols;
-    few_rows = i.few_rows;
-    few_cols = i.few_cols;
-    cursor_row = i.cursor_row;
-    cursor_col = i.cursor_col;
-    saved_row = i.saved_row;
-    saved_col = i.saved_col;
-    region = i.region;
-    region_end = i.region_end;
-    region_lines = i.region_lines;
-    kept = i.kept;
-    shown = i.shown;
-    fresh_row = λ z. i.fresh_row (sym e ∙ z);
-    fresh_saved_row = λ z. i.fresh_saved_row (sym e ∙ z);
-    fresh_kept = λ z. i.fresh_kept (sym e ∙ z);
+  sheet = sheet;
+  some_rows = i.some_rows;
+  some_cols = i.some_cols;
+  few_rows = i.few_rows;
+  few_cols = i.few_cols;
+  cursor_row = i.cursor_row;
+  cursor_col = i.cursor_col;
+  saved_row = i.saved_row;
+  saved_col = i.saved_col;
+  region = i.region;
+  region_end = i.region_end;
+  region_lines = i.region_lines;
+  kept = i.kept;
+  shown = i.shown;
+  fresh_row = λ z. i.fresh_row (sym e ∙ z);
+  fresh_saved_row = λ z. i.fresh_saved_row (sym e ∙ z);
+  fresh_kept = λ z. i.fresh_kept (sym e ∙ z);
 }
 
 pub IsGrid-with_row : (g : GridView) (r : ℕ) (v : RowView) → IsGrid g → r < length g.rows → IsRowOf g.width v → ((r + 1) ≡ g.height → v.wrapped ≡ false) → IsGrid (with_row g r v)
@@ -48,7 +48,7 @@ pub IsGrid-lines_opened : (g : GridView) (first n : ℕ) → IsGrid g → IsAllo
 IsGrid-lines_opened g first n i a =
     let f = opened_line g.rows first (g.bottom + 1) (min n (g.bottom + 1 - first)) g.width in
     IsGrid-rows g (rows_by_position (length g.rows) f) i (length-rows_by_position (length g.rows) f)
-        (IsSheet-opened_line g.height g.width g.rows first (g.bottom + 1) (min n (g.bottom + 1 - first)) i.sheet i.some_rows i.few_cols (region_rows g i a))
+    (IsSheet-opened_line g.height g.width g.rows first (g.bottom + 1) (min n (g.bottom + 1 - first)) i.sheet i.some_rows i.few_cols (region_rows g i a))
 
 pub IsGrid-lines_inserted : (g : GridView) (n : ℕ) → IsGrid g → IsAllocated g → IsGrid (lines_inserted g n)
 IsGrid-lines_inserted g n i a = IsGrid-cond (nat_lt 0 n && is_in_region g) (lines_opened g g.row n) g (λ _. IsGrid-lines_opened g g.row n i a) (λ _. i)
@@ -60,37 +60,37 @@ pub IsGrid-lines_deleted : (g : GridView) (n : ℕ) → IsGrid g → IsAllocated
 IsGrid-lines_deleted g n i a =
     let f = moved_up g.rows g.row (g.bottom + 1) (min n (g.bottom + 1 - g.row)) g.width in
     IsGrid-cond (is_in_region g) (with_rows g f) g
-        (λ _. IsGrid-rows g (rows_by_position (length g.rows) f) i (length-rows_by_position (length g.rows) f)
-            (IsSheet-moved_up g.height g.width g.rows g.row (g.bottom + 1) (min n (g.bottom + 1 - g.row)) i.sheet i.some_rows i.few_cols (region_rows g i a)))
-        (λ _. i)
+    (λ _. IsGrid-rows g (rows_by_position (length g.rows) f) i (length-rows_by_position (length g.rows) f)
+    (IsSheet-moved_up g.height g.width g.rows g.row (g.bottom + 1) (min n (g.bottom + 1 - g.row)) i.sheet i.some_rows i.few_cols (region_rows g i a)))
+    (λ _. i)
 
 pub IsGrid-moved_up : (g : GridView) (first end n : ℕ) → IsGrid g → end ≤ length g.rows → IsGrid (with_rows g (moved_up g.rows first end n g.width))
 IsGrid-moved_up g first end n i h =
     IsGrid-rows g (rows_by_position (length g.rows) (moved_up g.rows first end n g.width)) i (length-rows_by_position (length g.rows) (moved_up g.rows first end n g.width))
-        (IsSheet-moved_up g.height g.width g.rows first end n i.sheet i.some_rows i.few_cols h)
+    (IsSheet-moved_up g.height g.width g.rows first end n i.sheet i.some_rows i.few_cols h)
 
 -- ---- rows that have scrolled off
 
 pub IsGrid-scrolled : (g : GridView) (rows : List RowView) (k : KeptPart) → IsGrid g → IsAllocated g → length rows ≡ length g.rows → IsSheet g.height g.width rows → IsKept k → IsShownWide k g.height g.width
     → IsGrid (record g { rows = rows; kept = k })
 IsGrid-scrolled g rows k i a e sheet kept shown = record {
-    sheet = sheet;
-    some_rows = i.some_rows;
-    some_cols = i.some_cols;
-    few_rows = i.few_rows;
-    few_cols = i.few_cols;
-    cursor_row = i.cursor_row;
-    cursor_col = i.cursor_col;
-    saved_row = i.saved_row;
-    saved_col = i.saved_col;
-    region = i.region;
-    region_end = i.region_end;
-    region_lines = i.region_lines;
-    kept = kept;
-    shown = shown;
-    fresh_row = λ z. absurd (omega arith);
-    fresh_saved_row = λ z. absurd (omega arith);
-    fresh_kept = λ z. absurd (omega arith);
+  sheet = sheet;
+  some_rows = i.some_rows;
+  some_cols = i.some_cols;
+  few_rows = i.few_rows;
+  few_cols = i.few_cols;
+  cursor_row = i.cursor_row;
+  cursor_col = i.cursor_col;
+  saved_row = i.saved_row;
+  saved_col = i.saved_col;
+  region = i.region;
+  region_end = i.region_end;
+  region_lines = i.region_lines;
+  kept = kept;
+  shown = shown;
+  fresh_row = λ z. absurd (omega arith);
+  fresh_saved_row = λ z. absurd (omega arith);
+  fresh_kept = λ z. absurd (omega arith);
 }
 
 pub IsSheet-height : (g : GridView) (rows : List RowView) → IsGrid g → IsAllocated g → IsSheet (length g.rows) g.width rows → IsSheet g.height g.width rows

@@ -30,8 +30,8 @@ pub IsRow-push : (rows : List RowView) (v : RowView) → ((k : ℕ) → k < leng
 IsRow-push rows v each row k l =
     let n : length (rows ++ v ∷ []) ≡ length rows + 1 = length-append rows (v ∷ []) in
     ⊎_elim (λ (h : k < length rows). rw (get_or-append rows (v ∷ []) (blank_row 0) k h) (each k h))
-        (λ (h : length rows ≤ k). let e : length rows ≡ k = omega arith in rw (get_or_push rows v (blank_row 0) k e) row)
-        (cases_lt k (length rows))
+    (λ (h : length rows ≤ k). let e : length rows ≡ k = omega arith in rw (get_or_push rows v (blank_row 0) k e) row)
+    (cases_lt k (length rows))
 
 not_yet : (f : RowView → RowView) (old : List RowView) (first r : ℕ) → changed_between f old first r r ≡ row_at old r
 not_yet f old first r = grind (arith, nat_tests)
@@ -56,8 +56,8 @@ pub shows : (k : KeptPart) (rows : List RowView) (offset height width first end 
 shows k rows offset height width first end h ef ee e =
     let f : RowView → RowView = λ v. grown v width default_cell in
     let same : rows ≡ rows_by_position (length k.rows) (changed_between f k.rows (length k.rows - offset) (length k.rows - offset + height)) =
-        rows_by_position_is (length k.rows) (changed_between f k.rows (length k.rows - offset) (length k.rows - offset + height)) rows (ap length e ∙ length-rows_by_position (length k.rows) (changed_between f k.rows first end))
-            (λ j l. ap (λ vs. row_at vs j) e ∙ row_at-by_position (length k.rows) (changed_between f k.rows first end) j l ∙ shown-read f k.rows offset height first end j l ef ee) in
+    rows_by_position_is (length k.rows) (changed_between f k.rows (length k.rows - offset) (length k.rows - offset + height)) rows (ap length e ∙ length-rows_by_position (length k.rows) (changed_between f k.rows first end))
+    (λ j l. ap (λ vs. row_at vs j) e ∙ row_at-by_position (length k.rows) (changed_between f k.rows first end) j l ∙ shown-read f k.rows offset height first end j l ef ee) in
     λ i. record { keeps = k.keeps; rows = same i; capacity = k.capacity; offset = offset; scrolled_off = k.scrolled_off }
 
 -- rows that scroll off
@@ -75,9 +75,9 @@ pushes k rows one two n over off h l eo e1 e2 ef =
     let n-is : n ≡ length (take n rows) = sym (length-first rows n h) in
     let gone : one ≡ drop (overflow k (length (take n rows))) k.rows = e1 ∙ ap (λ m. drop m k.rows) (eo ∙ overflow-same k n (length (take n rows)) l (sym n-is)) in
     let come : map trimmed (slice_range rows (n - min n k.capacity) n) ≡ map trimmed (drop (length (take n rows) - min (length (take n rows)) k.capacity) (take n rows)) =
-        ap (λ (xs : List RowView). map trimmed xs) (between_is rows (n - min n k.capacity) n ∙ ap (λ m. drop (m - min m k.capacity) (take n rows)) n-is) in
+    ap (λ (xs : List RowView). map trimmed xs) (between_is rows (n - min n k.capacity) n ∙ ap (λ m. drop (m - min m k.capacity) (take n rows)) n-is) in
     let all : two ≡ drop (overflow k (length (take n rows))) k.rows ++ map trimmed (drop (length (take n rows) - min (length (take n rows)) k.capacity) (take n rows)) =
-        e2 ∙ ap (λ (xs : List RowView). xs ++ map trimmed (slice_range rows (n - min n k.capacity) n)) gone ∙ ap (λ (xs : List RowView). drop (overflow k (length (take n rows))) k.rows ++ xs) come in
+    e2 ∙ ap (λ (xs : List RowView). xs ++ map trimmed (slice_range rows (n - min n k.capacity) n)) gone ∙ ap (λ (xs : List RowView). drop (overflow k (length (take n rows))) k.rows ++ xs) come in
     let count : off ≡ min (k.scrolled_off + length (take n rows)) (2 ^ 64 - 1) = ef ∙ ap (λ m. min (k.scrolled_off + m) (2 ^ 64 - 1)) n-is in
     λ i. record { keeps = k.keeps; rows = all i; capacity = k.capacity; offset = 0; scrolled_off = count i }
 
@@ -92,7 +92,7 @@ pushed k rows n over h l eo =
     let n-is : n ≡ length (take n rows) = sym (length-first rows n h) in
     ap (λ m. take m k.rows ++ take (n - min n k.capacity) rows) (eo ∙ overflow-same k n (length (take n rows)) l (sym n-is))
     ∙ ap (λ (xs : List RowView). take (overflow k (length (take n rows))) k.rows ++ xs)
-        (sym (take-take (n - min n k.capacity) n rows (omega arith)) ∙ ap (λ m. take (m - min m k.capacity) (take n rows)) n-is)
+    (sym (take-take (n - min n k.capacity) n rows (omega arith)) ∙ ap (λ m. take (m - min m k.capacity) (take n rows)) n-is)
 
 -- the rows that were kept are blank already, and the others are made so
 pub blanks : (rows ys ws : List RowView) (width m n : ℕ) → m ≤ n → n ≤ length rows → ((r : ℕ) → r < length rows → IsRowOf width (row_at rows r))
@@ -104,16 +104,16 @@ blanks rows ys ws width m n p h each ey ew =
     let g : RowView → RowView = λ v. blank_row (length v.cells) in
     let ly : length ys ≡ length rows = ap length ey ∙ length-rows_by_position (length rows) (changed_between f rows m n) in
     rows_by_position_is (length rows) (changed_between f rows 0 n) ws (ap length ew ∙ length-rows_by_position (length ys) (changed_between g ys 0 m) ∙ ly)
-        (λ r l. ap (λ vs. row_at vs r) ew ∙ row_at-by_position (length ys) (changed_between g ys 0 m) r (omega arith)
-            ∙ blanks-read rows ys width m n r p (each r l).wide (ap (λ vs. row_at vs r) ey ∙ row_at-by_position (length rows) (changed_between f rows m n) r l))
+    (λ r l. ap (λ vs. row_at vs r) ew ∙ row_at-by_position (length ys) (changed_between g ys 0 m) r (omega arith)
+    ∙ blanks-read rows ys width m n r p (each r l).wide (ap (λ vs. row_at vs r) ey ∙ row_at-by_position (length rows) (changed_between f rows m n) r l))
 
 pub IsSheet-pushed : (rows ws : List RowView) (width n : ℕ) → IsSheet (length rows) width rows → n ≤ length rows → width < 2 ^ 16
     → ws ≡ rows_by_position (length rows) (changed_between (λ v. blank_row width) rows 0 n) → IsSheet (length rows) width ws
 IsSheet-pushed rows ws width n i h small e =
     ⊎_elim (λ (some : 0 < length rows). rw e (IsSheet-blanks (length rows) width rows 0 n i some small))
-        (λ (none : length rows ≤ 0). subst (λ (xs : List RowView). IsSheet (length rows) width xs)
-            (rows_equal rows ws (sym (ap length e ∙ length-rows_by_position (length rows) (changed_between (λ v. blank_row width) rows 0 n))) (λ k l. absurd (omega arith))) i)
-        (cases_lt 0 (length rows))
+    (λ (none : length rows ≤ 0). subst (λ (xs : List RowView). IsSheet (length rows) width xs)
+    (rows_equal rows ws (sym (ap length e ∙ length-rows_by_position (length rows) (changed_between (λ v. blank_row width) rows 0 n))) (λ k l. absurd (omega arith))) i)
+    (cases_lt 0 (length rows))
 
 pub IsSheet-scrolled : (rows ws : List RowView) (width end n : ℕ) → IsSheet (length rows) width rows → 0 < end → end ≤ length rows → width < 2 ^ 16
     → ws ≡ rows_by_position (length rows) (moved_up rows 0 end n width) → IsSheet (length rows) width ws
@@ -150,8 +150,8 @@ IsShownWide-widened k height width =
     let f = changed_between (λ v. grown v width default_cell) k.rows (length k.rows - k.offset) (length k.rows - k.offset + height) in
     let n = length-rows_by_position (length k.rows) f in
     λ j a b l. wide_along (row_at (rows_by_position (length k.rows) f) j) (grown (row_at k.rows j) width default_cell) width
-        (row_at-by_position (length k.rows) f j (omega (arith, n)) ∙ grown-read k.rows width (length k.rows - k.offset) (length k.rows - k.offset + height) j (omega (arith, n)) (omega (arith, n)))
-        (grown-wide (row_at k.rows j) width)
+    (row_at-by_position (length k.rows) f j (omega (arith, n)) ∙ grown-read k.rows width (length k.rows - k.offset) (length k.rows - k.offset + height) j (omega (arith, n)) (omega (arith, n)))
+    (grown-wide (row_at k.rows j) width)
 
 pub IsShownWide-none : (k : KeptPart) (height width : ℕ) → k.offset ≡ 0 → IsShownWide k height width
 IsShownWide-none k height width e = λ j a b l. absurd (omega (arith, e))

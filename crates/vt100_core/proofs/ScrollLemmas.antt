@@ -29,16 +29,16 @@ pub scrolls-off : (g : GridView) (count end n width height : ℕ) (rows : List R
 scrolls-off g count end n width height rows k t keeps ee en ew eh er ek =
     let c = count-same g count end n t ee en in
     let same_rows : rows ≡ rows_by_position (length g.rows) (moved_up g.rows g.top (g.bottom + 1) (up_count g count) g.width) =
-        er ∙ ap (λ m. rows_by_position (length g.rows) (moved_up g.rows m end n width)) (sym t)
-        ∙ ap (λ m. rows_by_position (length g.rows) (moved_up g.rows g.top m n width)) ee
-        ∙ ap (λ m. rows_by_position (length g.rows) (moved_up g.rows g.top (g.bottom + 1) m width)) c
-        ∙ ap (λ m. rows_by_position (length g.rows) (moved_up g.rows g.top (g.bottom + 1) (up_count g count) m)) ew in
+    er ∙ ap (λ m. rows_by_position (length g.rows) (moved_up g.rows m end n width)) (sym t)
+    ∙ ap (λ m. rows_by_position (length g.rows) (moved_up g.rows g.top m n width)) ee
+    ∙ ap (λ m. rows_by_position (length g.rows) (moved_up g.rows g.top (g.bottom + 1) m width)) c
+    ∙ ap (λ m. rows_by_position (length g.rows) (moved_up g.rows g.top (g.bottom + 1) (up_count g count) m)) ew in
     let left : take n g.rows ≡ left_rows g count = ap (λ m. take m g.rows) c ∙ ap (λ m. take (up_count g count) (drop m g.rows)) (sym t) in
     let same_kept : k ≡ cond (is_kept_from g) (widened (kept_after g.kept (left_rows g count)) g.height g.width) g.kept =
-        ek ∙ ap (λ (xs : List RowView). widened (kept_after g.kept xs) height width) left
-        ∙ ap (λ m. widened (kept_after g.kept (left_rows g count)) m width) eh
-        ∙ ap (λ m. widened (kept_after g.kept (left_rows g count)) g.height m) ew
-        ∙ sym (ap (λ b. cond b (widened (kept_after g.kept (left_rows g count)) g.height g.width) g.kept) (both-true (g.top == 0) g.kept.keeps (eq-eqb g.top 0 t) keeps)) in
+    ek ∙ ap (λ (xs : List RowView). widened (kept_after g.kept xs) height width) left
+    ∙ ap (λ m. widened (kept_after g.kept (left_rows g count)) m width) eh
+    ∙ ap (λ m. widened (kept_after g.kept (left_rows g count)) g.height m) ew
+    ∙ sym (ap (λ b. cond b (widened (kept_after g.kept (left_rows g count)) g.height g.width) g.kept) (both-true (g.top == 0) g.kept.keeps (eq-eqb g.top 0 t) keeps)) in
     λ i. record (with_rows g (moved_up g.rows g.top (g.bottom + 1) (up_count g count) g.width)) { rows = same_rows i; kept = same_kept i }
 
 pub sunk-kept : (g : GridView) (count end n : ℕ) → g.top ≡ 0 → g.kept.keeps ≡ true → end ≡ g.bottom + 1 → n ≡ min count end → pushed_out g.kept (take n g.rows) ≡ (scrolled_up g count).sunk
@@ -47,7 +47,7 @@ sunk-kept g count end n t keeps ee en =
     let left : take n g.rows ≡ left_rows g count = ap (λ m. take m g.rows) c ∙ ap (λ m. take (up_count g count) (drop m g.rows)) (sym t) in
     ap (λ (xs : List RowView). pushed_out g.kept xs) left
     ∙ sym (ap (λ b. cond (not b) [] (cond g.kept.keeps (pushed_out g.kept (left_rows g count)) (left_rows g count))) (eq-eqb g.top 0 t)
-        ∙ ap (λ b. cond b (pushed_out g.kept (left_rows g count)) (left_rows g count)) keeps)
+    ∙ ap (λ b. cond b (pushed_out g.kept (left_rows g count)) (left_rows g count)) keeps)
 
 -- ---- the row that the cursor leaves
 

@@ -15,9 +15,9 @@ use Rattle.vt100_core.specs.Sheet.{row_at, rows_by_position, IsRowOf, IsSheet, c
 pub row_at-set : (rows : List RowView) (r : ℕ) (v : RowView) (k : ℕ) → r < length rows → row_at (set rows r v) k ≡ cond (k == r) v (row_at rows k)
 row_at-set rows r v k h =
     ⊎_elim
-        (λ (e : k ≡ r). ap (λ j. get_or (set rows r v) j (blank_row 0)) e ∙ get_or-set_same rows r v (blank_row 0) h ∙ ap (λ b. cond b v (row_at rows k)) (sym (eq-eqb k r e)))
-        (λ ne. get_or-set_other rows r k v (blank_row 0) ne ∙ ap (λ b. cond b v (row_at rows k)) (sym (ne_eqb k r ne)))
-        (cases_eq k r)
+    (λ (e : k ≡ r). ap (λ j. get_or (set rows r v) j (blank_row 0)) e ∙ get_or-set_same rows r v (blank_row 0) h ∙ ap (λ b. cond b v (row_at rows k)) (sym (eq-eqb k r e)))
+    (λ ne. get_or-set_other rows r k v (blank_row 0) ne ∙ ap (λ b. cond b v (row_at rows k)) (sym (ne_eqb k r ne)))
+    (cases_eq k r)
 
 pub rows_by_position_is : (n : ℕ) (f : ℕ → RowView) (rows : List RowView) → length rows ≡ n → ((k : ℕ) → k < n → row_at rows k ≡ f k) → rows ≡ rows_by_position n f
 rows_by_position_is n f rows e h = fill_by_all f rows n (blank_row 0) e h
@@ -37,7 +37,7 @@ rows_equal rows others e h = ext_get_or (blank_row 0) rows others e h
 pub all_blank : (n width : ℕ) (rows : List RowView) → length rows ≡ n → ((k : ℕ) → k < n → row_at rows k ≡ blank_row width) → rows ≡ replicate n (blank_row width)
 all_blank n width rows e h =
     rows_equal rows (replicate n (blank_row width)) (e ∙ sym (length-replicate n (blank_row width)))
-        (λ k l. h k (omega (arith, e)) ∙ sym (get_or-replicate n k (blank_row width) (blank_row 0) (omega (arith, e))))
+    (λ k l. h k (omega (arith, e)) ∙ sym (get_or-replicate n k (blank_row width) (blank_row 0) (omega (arith, e))))
 
 -- what a Vec holds after its elements were lent as a slice
 pub refilled : {X : Type 0} (n : ℕ) (ys xs : List X) → n ≡ length xs → length ys ≡ length xs → take n (ys ++ drop (length ys) xs) ≡ ys
@@ -71,38 +71,38 @@ unwrapped-cond false v w p q = q refl
 
 pub IsSheet-with_row : (height width : ℕ) (rows : List RowView) (r : ℕ) (v : RowView) → IsSheet height width rows → r < length rows → IsRowOf width v → ((r + 1) ≡ height → v.wrapped ≡ false) → IsSheet height width (set rows r v)
 IsSheet-with_row height width rows r v i h row last = record {
-    count = λ l. length-set rows r v ∙ i.count (omega (arith, length-set rows r v));
-    each = λ k l. rw (row_at-set rows r v k h) (IsRowOf-cond (k == r) width v (row_at rows k) row (i.each k (omega (arith, length-set rows r v))));
-    last =
-        ap (λ (x : RowView). x.wrapped) (row_at-set rows r v (height - 1) h)
-        ∙ ⊎_elim
-            (λ (e : height - 1 ≡ r). ap (λ b. (cond b v (row_at rows (height - 1))).wrapped) (eq-eqb (height - 1) r e) ∙ last (omega (arith, i.count (omega arith))))
-            (λ ne. ap (λ b. (cond b v (row_at rows (height - 1))).wrapped) (ne_eqb (height - 1) r ne) ∙ i.last)
-            (cases_eq (height - 1) r);
+  count = λ l. length-set rows r v ∙ i.count (omega (arith, length-set rows r v));
+  each = λ k l. rw (row_at-set rows r v k h) (IsRowOf-cond (k == r) width v (row_at rows k) row (i.each k (omega (arith, length-set rows r v))));
+  last =
+      ap (λ (x : RowView). x.wrapped) (row_at-set rows r v (height - 1) h)
+      ∙ ⊎_elim
+      (λ (e : height - 1 ≡ r). ap (λ b. (cond b v (row_at rows (height - 1))).wrapped) (eq-eqb (height - 1) r e) ∙ last (omega (arith, i.count (omega arith))))
+      (λ ne. ap (λ b. (cond b v (row_at rows (height - 1))).wrapped) (ne_eqb (height - 1) r ne) ∙ i.last)
+      (cases_eq (height - 1) r);
 }
 
 pub IsSheet-by_position : (height width n : ℕ) (f : ℕ → RowView) → 0 < height → (0 < n → n ≡ height) → ((r : ℕ) → r < n → IsRowOf width (f r)) → (0 < n → (f (height - 1)).wrapped ≡ false) → IsSheet height width (rows_by_position n f)
 IsSheet-by_position height width n f some count each last =
     let e = length-rows_by_position n f in
     record {
-        count = λ l. e ∙ count (omega (arith, e));
-        each = λ r l. rw (row_at-by_position n f r (omega (arith, e))) (each r (omega (arith, e)));
-        last = ⊎_elim
-            (λ (l : 0 < n). ap (λ (v : RowView). v.wrapped) (row_at-by_position n f (height - 1) (omega (arith, count l))) ∙ last l)
-            (λ (l : n ≤ 0). ap (λ (v : RowView). v.wrapped) (row_at_past (rows_by_position n f) (height - 1) (omega (arith, e))))
-            (cases_lt 0 n);
+      count = λ l. e ∙ count (omega (arith, e));
+      each = λ r l. rw (row_at-by_position n f r (omega (arith, e))) (each r (omega (arith, e)));
+      last = ⊎_elim
+          (λ (l : 0 < n). ap (λ (v : RowView). v.wrapped) (row_at-by_position n f (height - 1) (omega (arith, count l))) ∙ last l)
+          (λ (l : n ≤ 0). ap (λ (v : RowView). v.wrapped) (row_at_past (rows_by_position n f) (height - 1) (omega (arith, e))))
+          (cases_lt 0 n);
     }
 
 pub IsSheet-blank : (height width n : ℕ) → (0 < n → n ≡ height) → width < 2 ^ 16 → IsSheet height width (replicate n (blank_row width))
 IsSheet-blank height width n count small =
     let e = length-replicate n (blank_row width) in
     record {
-        count = λ l. e ∙ count (omega (arith, e));
-        each = λ r l. rw (get_or-replicate n r (blank_row width) (blank_row 0) (omega (arith, e))) (IsRowOf-blank width small);
-        last = ⊎_elim
-            (λ (l : height - 1 < n). ap (λ (v : RowView). v.wrapped) (get_or-replicate n (height - 1) (blank_row width) (blank_row 0) l))
-            (λ (l : n ≤ height - 1). ap (λ (v : RowView). v.wrapped) (row_at_past (replicate n (blank_row width)) (height - 1) (omega (arith, e))))
-            (cases_lt (height - 1) n);
+      count = λ l. e ∙ count (omega (arith, e));
+      each = λ r l. rw (get_or-replicate n r (blank_row width) (blank_row 0) (omega (arith, e))) (IsRowOf-blank width small);
+      last = ⊎_elim
+          (λ (l : height - 1 < n). ap (λ (v : RowView). v.wrapped) (get_or-replicate n (height - 1) (blank_row width) (blank_row 0) l))
+          (λ (l : n ≤ height - 1). ap (λ (v : RowView). v.wrapped) (row_at_past (replicate n (blank_row width)) (height - 1) (omega (arith, e))))
+          (cases_lt (height - 1) n);
     }
 
 resets-one : (rows : List RowView) (width k : ℕ) → k < length rows → length (row_at rows k).cells ≡ width → changed_between (λ v. blank_row (length v.cells)) rows 0 (length rows) k ≡ blank_row width
@@ -113,7 +113,7 @@ pub resets-all : (rows ws : List RowView) (width : ℕ) → ((r : ℕ) → r < l
 resets-all rows ws width each e =
     let f : RowView → RowView = λ v. blank_row (length v.cells) in
     all_blank (length rows) width ws (ap length e ∙ length-rows_by_position (length rows) (changed_between f rows 0 (length rows)))
-        (λ k h. ap (λ vs. row_at vs k) e ∙ row_at-by_position (length rows) (changed_between f rows 0 (length rows)) k h ∙ resets-one rows width k h (each k h).wide)
+    (λ k h. ap (λ vs. row_at vs k) e ∙ row_at-by_position (length rows) (changed_between f rows 0 (length rows)) k h ∙ resets-one rows width k h (each k h).wide)
 
 pub IsSheet-with_blank : (height width : ℕ) (rows : List RowView) (r : ℕ) (v : RowView) → IsSheet height width rows → r < length rows → width < 2 ^ 16 → v ≡ blank_row width → IsSheet height width (set rows r v)
 IsSheet-with_blank height width rows r v i h small e = IsSheet-with_row height width rows r v i h (rw e (IsRowOf-blank width small)) (λ _. ap (λ (x : RowView). x.wrapped) e)
@@ -123,5 +123,5 @@ pub IsSheet-blanks : (height width : ℕ) (rows : List RowView) (first end : ℕ
     → IsSheet height width (rows_by_position (length rows) (changed_between (λ v. blank_row width) rows first end))
 IsSheet-blanks height width rows first end i some small =
     IsSheet-by_position height width (length rows) (changed_between (λ v. blank_row width) rows first end) some i.count
-        (λ r l. IsRowOf-cond (nat_le first r && nat_lt r end) width (blank_row width) (row_at rows r) (IsRowOf-blank width small) (i.each r l))
-        (λ l. unwrapped-cond (nat_le first (height - 1) && nat_lt (height - 1) end) (blank_row width) (row_at rows (height - 1)) (λ _. refl) (λ _. i.last))
+    (λ r l. IsRowOf-cond (nat_le first r && nat_lt r end) width (blank_row width) (row_at rows r) (IsRowOf-blank width small) (i.each r l))
+    (λ l. unwrapped-cond (nat_le first (height - 1) && nat_lt (height - 1) end) (blank_row width) (row_at rows (height - 1)) (λ _. refl) (λ _. i.last))

@@ -37,8 +37,8 @@ pub IsSized-fed : (g : GridView) (n : ℕ) → IsSized g (fed g n).grid
 IsSized-fed g n =
     let down = moved_rows_down g n in
     cond_both (is_in_region g) (scrolled_up down (rows_past_bottom g n)) (record { grid = down; sunk = [] }) (λ (s : Scrolled). IsSized g s.grid)
-        (λ _. record { count = length-rows_by_position (length g.rows) (moved_up down.rows down.top (down.bottom + 1) (up_count down (rows_past_bottom g n)) down.width); width = refl; col = refl })
-        (λ _. record { count = refl; width = refl; col = refl })
+    (λ _. record { count = length-rows_by_position (length g.rows) (moved_up down.rows down.top (down.bottom + 1) (up_count down (rows_past_bottom g n)) down.width); width = refl; col = refl })
+    (λ _. record { count = refl; width = refl; col = refl })
 
 IsSized-row : (g h : GridView) (r : ℕ) (v : RowView) → IsSized g h → IsSized g (with_row h r v)
 IsSized-row g h r v s = record { count = length-set h.rows r v ∙ s.count; width = s.width; col = s.col }
@@ -50,7 +50,7 @@ IsSized-wrapped g mark =
     let s = IsSized-fed g0 1 in
     let w = with_row h (left_row g) (with_wrap (row_at h.rows (left_row g)) (mark && ((left_row g + 1) == h.row))) in
     cond_both ((g.row == g.bottom) && (g.row == 0)) h w (λ (x : GridView). IsSized g0 x) (λ _. s)
-        (λ _. IsSized-row g0 h (left_row g) (with_wrap (row_at h.rows (left_row g)) (mark && ((left_row g + 1) == h.row))) s)
+    (λ _. IsSized-row g0 h (left_row g) (with_wrap (row_at h.rows (left_row g)) (mark && ((left_row g + 1) == h.row))) s)
 
 fits-here : (m n : ℕ) → nat_le m n ≡ true → m ≤ n
 fits-here m n e = grind (arith, nat_tests)
@@ -64,30 +64,30 @@ pub IsMade-made : (g : GridView) (columns : ℕ) (mark : Bool) → columns ≤ g
 IsMade-made g columns mark h =
     let s = IsSized-wrapped g mark in
     cond_both (nat_le (g.col + columns) g.width) (record { grid = g; sunk = [] }) (wrapped_on g mark) (λ (x : Scrolled). IsMade g x.grid columns)
-        (λ e. record { count = refl; width = refl; fits = fits-here (g.col + columns) g.width e })
-        (λ _. record { count = s.count; width = s.width; fits = omega (arith, s.col, s.width) })
+    (λ e. record { count = refl; width = refl; fits = fits-here (g.col + columns) g.width e })
+    (λ _. record { count = s.count; width = s.width; fits = omega (arith, s.col, s.width) })
 
 -- ---- a cell at the cursor
 
 pub IsGrid-col : (g : GridView) (col : ℕ) → IsGrid g → col ≤ g.width → IsGrid (record g { col = col })
 IsGrid-col g col i h = record {
-    sheet = i.sheet;
-    some_rows = i.some_rows;
-    some_cols = i.some_cols;
-    few_rows = i.few_rows;
-    few_cols = i.few_cols;
-    cursor_row = i.cursor_row;
-    cursor_col = h;
-    saved_row = i.saved_row;
-    saved_col = i.saved_col;
-    region = i.region;
-    region_end = i.region_end;
-    region_lines = i.region_lines;
-    kept = i.kept;
-    shown = i.shown;
-    fresh_row = i.fresh_row;
-    fresh_saved_row = i.fresh_saved_row;
-    fresh_kept = i.fresh_kept;
+  sheet = i.sheet;
+  some_rows = i.some_rows;
+  some_cols = i.some_cols;
+  few_rows = i.few_rows;
+  few_cols = i.few_cols;
+  cursor_row = i.cursor_row;
+  cursor_col = h;
+  saved_row = i.saved_row;
+  saved_col = i.saved_col;
+  region = i.region;
+  region_end = i.region_end;
+  region_lines = i.region_lines;
+  kept = i.kept;
+  shown = i.shown;
+  fresh_row = i.fresh_row;
+  fresh_saved_row = i.fresh_saved_row;
+  fresh_kept = i.fresh_kept;
 }
 
 pub IsGrid-put_at : (g : GridView) (x : CellView) (a : Attrs) (n : ℕ) → IsGrid g → IsAllocated g → IsCell x → has_text x ≡ true → n ≡ span_of x → g.col + n ≤ g.width → IsGrid (put_at g x a n)
@@ -95,10 +95,10 @@ IsGrid-put_at g x a n i l cell text e h =
     let v = row_of_cursor g in
     let r = cursor_row_of g i l in
     IsGrid-col (with_cursor_row g (placed v g.col x a)) (g.col + n)
-        (IsGrid-cursor_row g (placed v g.col x a) i l
-            (record { row = IsRow-placed v g.col x a r.row cell text (omega (arith, r.wide, e)); wide = length-by_position (length v.cells) (put (cell_at v.cells) g.col x a) ∙ r.wide })
-            (λ w. ap (λ b. b && not (put_unflags (length v.cells) (cell_at v.cells) g.col x)) w))
-        h
+    (IsGrid-cursor_row g (placed v g.col x a) i l
+    (record { row = IsRow-placed v g.col x a r.row cell text (omega (arith, r.wide, e)); wide = length-by_position (length v.cells) (put (cell_at v.cells) g.col x a) ∙ r.wide })
+    (λ w. ap (λ b. b && not (put_unflags (length v.cells) (cell_at v.cells) g.col x)) w))
+    h
 
 span-same : (k n : ℕ) → min 2 k ≡ n → 0 < n → n ≡ cond (n == 2) 2 1
 span-same k n e h = grind (arith, nat_tests)
@@ -116,18 +116,18 @@ joined-wrapped v col c a e =
     let p = placed v (col - 1) (joined_cell v col c) a in
     let w = wiped_row v (col - 1) col a in
     cond_both (not (is_widening v col c)) (joined_row v col c) (cond (length v.cells == 1) v (cond (nat_lt col (length v.cells)) p w)) (λ (x : RowView). x.wrapped ≡ false) (λ _. e)
-        (λ _. cond_both (length v.cells == 1) v (cond (nat_lt col (length v.cells)) p w) (λ (x : RowView). x.wrapped ≡ false) (λ _. e)
-            (λ _. cond_both (nat_lt col (length v.cells)) p w (λ (x : RowView). x.wrapped ≡ false)
-                (λ _. ap (λ b. b && not (put_unflags (length v.cells) (cell_at v.cells) (col - 1) (joined_cell v col c))) e)
-                (λ _. ap (λ b. b && not (wipe_unflags (length v.cells) (cell_at v.cells) (col - 1) col)) e)))
+    (λ _. cond_both (length v.cells == 1) v (cond (nat_lt col (length v.cells)) p w) (λ (x : RowView). x.wrapped ≡ false) (λ _. e)
+    (λ _. cond_both (nat_lt col (length v.cells)) p w (λ (x : RowView). x.wrapped ≡ false)
+    (λ _. ap (λ b. b && not (put_unflags (length v.cells) (cell_at v.cells) (col - 1) (joined_cell v col c))) e)
+    (λ _. ap (λ b. b && not (wipe_unflags (length v.cells) (cell_at v.cells) (col - 1) col)) e)))
 
 pub IsGrid-join : (g : GridView) (c : ℕ) (a : Attrs) → IsGrid g → IsAllocated g → IsScalar c → drawn_columns c ≡ Some 0 → 0 < g.col → IsGrid (with_cursor_row g (join_row (row_of_cursor g) g.col c a))
 IsGrid-join g c a i l s z h =
     let v = row_of_cursor g in
     let r = cursor_row_of g i l in
     IsGrid-cursor_row g (join_row v g.col c a) i l
-        (record { row = IsRow-join v g.col c a r.row s z h (omega (arith, r.wide, i.cursor_col)); wide = length-join v g.col c a ∙ r.wide })
-        (joined-wrapped v g.col c a)
+    (record { row = IsRow-join v g.col c a r.row s z h (omega (arith, r.wide, i.cursor_col)); wide = length-join v g.col c a ∙ r.wide })
+    (joined-wrapped v g.col c a)
 
 -- what each answer says
 
@@ -168,46 +168,47 @@ abbrev drawn_by : GridView → ℕ → Attrs → Bool → Bool → Bool → Draw
 drawn_by g c a wide one room =
     let v = row_of_cursor g in
     cond (not wide) (record { grid = with_cursor_row g (joined_row v g.col c); sunk = []; printed = Joined })
-        (cond one (record { grid = g; sunk = []; printed = Nothing })
-            (cond room (record { grid = record (with_cursor_row g (placed v (g.col - 1) (joined_cell v g.col c) a)) { col = g.col + 1 }; sunk = []; printed = Joined })
-                (carried g c a)))
+    (cond one (record { grid = g; sunk = []; printed = Nothing })
+    (cond room (record { grid = record (with_cursor_row g (placed v (g.col - 1) (joined_cell v g.col c) a)) { col = g.col + 1 }; sunk = []; printed = Joined })
+    (carried g c a)))
 
 by-is : {X : Type 0} (f : Bool → Bool → Bool → X) (p q r p' q' r' : Bool) → p ≡ p' → q ≡ q' → r ≡ r' → f p q r ≡ f p' q' r'
 by-is f p q r p' q' r' a b c = ap (λ x. f x q r) a ∙ ap (λ x. f p' x r) b ∙ ap (λ x. f p' q' x) c
 
 module _ (g : GridView) (c : ℕ) (a : Attrs) (h : GridView) (width-is : length (row_of_cursor g).cells ≡ g.width) (after : h ≡ with_cursor_row g (join_row (row_of_cursor g) g.col c a)) where
-
   pub in-place : is_widening (row_of_cursor g) g.col c ≡ false → (h ≡ (joined g c a).grid) × ((joined g c a).sunk ≡ []) × ((joined g c a).printed ≡ Joined)
   in-place e =
-    let v = row_of_cursor g in
-    let d = by-is (drawn_by g c a) (is_widening v g.col c) (g.width == 1) (nat_lt g.col g.width) false (g.width == 1) (nat_lt g.col g.width) e refl refl in
-    let row = by-is (row_by v g.col c a) (is_widening v g.col c) (length v.cells == 1) (nat_lt g.col (length v.cells)) false (length v.cells == 1) (nat_lt g.col (length v.cells)) e refl refl in
-    (after ∙ ap (λ (x : RowView). with_cursor_row g x) row ∙ sym (ap (λ (x : Drawn). x.grid) d), ap (λ (x : Drawn). x.sunk) d, ap (λ (x : Drawn). x.printed) d)
+      let v = row_of_cursor g in
+      let d = by-is (drawn_by g c a) (is_widening v g.col c) (g.width == 1) (nat_lt g.col g.width) false (g.width == 1) (nat_lt g.col g.width) e refl refl in
+      let row = by-is (row_by v g.col c a) (is_widening v g.col c) (length v.cells == 1) (nat_lt g.col (length v.cells)) false (length v.cells == 1) (nat_lt g.col (length v.cells)) e refl refl in
+      (after ∙ ap (λ (x : RowView). with_cursor_row g x) row ∙ sym (ap (λ (x : Drawn). x.grid) d), ap (λ (x : Drawn). x.sunk) d, ap (λ (x : Drawn). x.printed) d)
 
   pub ignored : is_widening (row_of_cursor g) g.col c ≡ true → (length (row_of_cursor g).cells == 1) ≡ true → (h ≡ (joined g c a).grid) × ((joined g c a).sunk ≡ []) × ((joined g c a).printed ≡ Nothing)
   ignored e one =
-    let v = row_of_cursor g in
-    let one' : (g.width == 1) ≡ true = ap (λ n. n == 1) (sym width-is) ∙ one in
-    let d = by-is (drawn_by g c a) (is_widening v g.col c) (g.width == 1) (nat_lt g.col g.width) true true (nat_lt g.col g.width) e one' refl in
-    let row = by-is (row_by v g.col c a) (is_widening v g.col c) (length v.cells == 1) (nat_lt g.col (length v.cells)) true true (nat_lt g.col (length v.cells)) e one refl in
-    (after ∙ ap (λ (x : RowView). with_cursor_row g x) row ∙ ap (λ (xs : List RowView). record g { rows = xs }) (set-get_or g.rows g.row (blank_row 0)) ∙ sym (ap (λ (x : Drawn). x.grid) d),
-        ap (λ (x : Drawn). x.sunk) d, ap (λ (x : Drawn). x.printed) d)
+      let v = row_of_cursor g in
+      let one' : (g.width == 1) ≡ true = ap (λ n. n == 1) (sym width-is) ∙ one in
+      let d = by-is (drawn_by g c a) (is_widening v g.col c) (g.width == 1) (nat_lt g.col g.width) true true (nat_lt g.col g.width) e one' refl in
+      let row = by-is (row_by v g.col c a) (is_widening v g.col c) (length v.cells == 1) (nat_lt g.col (length v.cells)) true true (nat_lt g.col (length v.cells)) e one refl in (
+        after ∙ ap (λ (x : RowView). with_cursor_row g x) row ∙ ap (λ (xs : List RowView). record g { rows = xs }) (set-get_or g.rows g.row (blank_row 0)) ∙ sym (ap (λ (x : Drawn). x.grid) d),
+        ap (λ (x : Drawn). x.sunk) d,
+        ap (λ (x : Drawn). x.printed) d,
+      )
 
   pub widens : is_widening (row_of_cursor g) g.col c ≡ true → (length (row_of_cursor g).cells == 1) ≡ false → nat_lt g.col (length (row_of_cursor g).cells) ≡ true
       → (record h { col = g.col + 1 } ≡ (joined g c a).grid) × ((joined g c a).sunk ≡ []) × ((joined g c a).printed ≡ Joined)
   widens e one room =
-    let v = row_of_cursor g in
-    let d = by-is (drawn_by g c a) (is_widening v g.col c) (g.width == 1) (nat_lt g.col g.width) true false true e (ap (λ n. n == 1) (sym width-is) ∙ one) (ap (λ n. nat_lt g.col n) (sym width-is) ∙ room) in
-    let row = by-is (row_by v g.col c a) (is_widening v g.col c) (length v.cells == 1) (nat_lt g.col (length v.cells)) true false true e one room in
-    (ap (λ (x : GridView). record x { col = g.col + 1 }) (after ∙ ap (λ (x : RowView). with_cursor_row g x) row) ∙ sym (ap (λ (x : Drawn). x.grid) d), ap (λ (x : Drawn). x.sunk) d, ap (λ (x : Drawn). x.printed) d)
+      let v = row_of_cursor g in
+      let d = by-is (drawn_by g c a) (is_widening v g.col c) (g.width == 1) (nat_lt g.col g.width) true false true e (ap (λ n. n == 1) (sym width-is) ∙ one) (ap (λ n. nat_lt g.col n) (sym width-is) ∙ room) in
+      let row = by-is (row_by v g.col c a) (is_widening v g.col c) (length v.cells == 1) (nat_lt g.col (length v.cells)) true false true e one room in
+      (ap (λ (x : GridView). record x { col = g.col + 1 }) (after ∙ ap (λ (x : RowView). with_cursor_row g x) row) ∙ sym (ap (λ (x : Drawn). x.grid) d), ap (λ (x : Drawn). x.sunk) d, ap (λ (x : Drawn). x.printed) d)
 
   pub carries : is_widening (row_of_cursor g) g.col c ≡ true → (length (row_of_cursor g).cells == 1) ≡ false → nat_lt g.col (length (row_of_cursor g).cells) ≡ false
       → (h ≡ with_cursor_row g (wiped_row (row_of_cursor g) (g.col - 1) g.col a)) × (joined g c a ≡ carried g c a)
   carries e one room =
-    let v = row_of_cursor g in
-    let d = by-is (drawn_by g c a) (is_widening v g.col c) (g.width == 1) (nat_lt g.col g.width) true false false e (ap (λ n. n == 1) (sym width-is) ∙ one) (ap (λ n. nat_lt g.col n) (sym width-is) ∙ room) in
-    let row = by-is (row_by v g.col c a) (is_widening v g.col c) (length v.cells == 1) (nat_lt g.col (length v.cells)) true false false e one room in
-    (after ∙ ap (λ (x : RowView). with_cursor_row g x) row, d)
+      let v = row_of_cursor g in
+      let d = by-is (drawn_by g c a) (is_widening v g.col c) (g.width == 1) (nat_lt g.col g.width) true false false e (ap (λ n. n == 1) (sym width-is) ∙ one) (ap (λ n. nat_lt g.col n) (sym width-is) ∙ room) in
+      let row = by-is (row_by v g.col c a) (is_widening v g.col c) (length v.cells == 1) (nat_lt g.col (length v.cells)) true false false e one room in
+      (after ∙ ap (λ (x : RowView). with_cursor_row g x) row, d)
 
 -- the cell goes on to the next row
 pub carried-is : (g h : GridView) (c : ℕ) (a : Attrs) (x : CellView) → g.width < g.col + 2 → h ≡ with_cursor_row g (wiped_row (row_of_cursor g) (g.col - 1) g.col a) → x ≡ record (joined_cell (row_of_cursor g) g.col c) { attrs = a }
@@ -247,9 +248,9 @@ IsDrawn-here g c n e k =
     let u = or-false (is_undrawable c) (nat_lt g.width (columns_of c) || ((columns_of c == 0) && (g.col == 0))) e in
     let r = or-false (nat_lt g.width (columns_of c)) ((columns_of c == 0) && (g.col == 0)) u.1 in
     record {
-        drawn = ap (λ b. cond b None (Some (columns_of c))) u.0 ∙ ap Some k;
-        fits = omega (arith, fits-drawn g.width (columns_of c) r.0, k);
-        after = λ z. after-first (columns_of c) g.col r.1 (k ∙ z);
+      drawn = ap (λ b. cond b None (Some (columns_of c))) u.0 ∙ ap Some k;
+      fits = omega (arith, fits-drawn g.width (columns_of c) r.0, k);
+      after = λ z. after-first (columns_of c) g.col r.1 (k ∙ z);
     }
 
 none-left : (n : ℕ) → n ≡ 0 → nat_lt 0 n ≡ false

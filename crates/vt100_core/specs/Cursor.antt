@@ -5,8 +5,8 @@ use Rattle.vt100_core.specs.Grid.{GridView, is_in_region}
 -- a row counted from the region's top and kept in it in origin mode, else kept on the screen; a column kept on the screen
 abbrev pub cursor_at : GridView → ℕ → ℕ → GridView
 cursor_at g row col = record g {
-    row = if g.origin then min (row + g.top) g.bottom else min row (g.height - 1);
-    col = min col (g.width - 1);
+  row = if g.origin then min (row + g.top) g.bottom else min row (g.height - 1);
+  col = min col (g.width - 1);
 }
 
 abbrev pub with_origin : GridView → Bool → GridView

@@ -85,18 +85,18 @@ capacity_of (Enabled capacity) = capacity
 
 abbrev pub new_grid : ℕ → ℕ → Scrollback → GridView
 new_grid height width scrollback = record {
-    rows = [];
-    height = height;
-    width = width;
-    row = 0;
-    col = 0;
-    saved_row = 0;
-    saved_col = 0;
-    origin = false;
-    saved_origin = false;
-    top = 0;
-    bottom = height - 1;
-    kept = record { keeps = keeps_of scrollback; rows = []; capacity = capacity_of scrollback; offset = 0; scrolled_off = 0 };
+  rows = [];
+  height = height;
+  width = width;
+  row = 0;
+  col = 0;
+  saved_row = 0;
+  saved_col = 0;
+  origin = false;
+  saved_origin = false;
+  top = 0;
+  bottom = height - 1;
+  kept = record { keeps = keeps_of scrollback; rows = []; capacity = capacity_of scrollback; offset = 0; scrolled_off = 0 };
 }
 
 abbrev pub allocated : GridView → GridView
@@ -105,15 +105,15 @@ allocated g = if length g.rows == 0 then record g { rows = replicate g.height (b
 -- blank rows, and cursor, region and modes as in a new grid; what is kept stays
 abbrev pub cleared : GridView → GridView
 cleared g = record g {
-    rows = replicate (length g.rows) (blank_row g.width);
-    row = 0;
-    col = 0;
-    saved_row = 0;
-    saved_col = 0;
-    origin = false;
-    saved_origin = false;
-    top = 0;
-    bottom = g.height - 1;
+  rows = replicate (length g.rows) (blank_row g.width);
+  row = 0;
+  col = 0;
+  saved_row = 0;
+  saved_col = 0;
+  origin = false;
+  saved_origin = false;
+  top = 0;
+  bottom = g.height - 1;
 }
 
 -- ---- what is shown

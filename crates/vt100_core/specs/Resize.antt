@@ -18,20 +18,20 @@ up_rows g height = (g.height - height) - (g.height - 1 - g.row)
 -- loses its mark
 abbrev pub shortened : GridView → ℕ → ℕ → GridView
 shortened g up height = record g {
-    rows = rows_by_position (min height (length g.rows)) (λ r. if (r + 1) == height then unwrapped (row_at g.rows r) else row_at g.rows r);
-    height = height;
-    row = g.row - up;
-    saved_row = min (g.saved_row - up) (height - 1);
-    bottom = height - 1;
+  rows = rows_by_position (min height (length g.rows)) (λ r. if (r + 1) == height then unwrapped (row_at g.rows r) else row_at g.rows r);
+  height = height;
+  row = g.row - up;
+  saved_row = min (g.saved_row - up) (height - 1);
+  bottom = height - 1;
 }
 
 -- every row has this many columns, and so the cursors
 abbrev pub with_width : GridView → ℕ → GridView
 with_width g width = record g {
-    rows = rows_by_position (length g.rows) (λ r. resized_row (row_at g.rows r) width default_cell);
-    width = width;
-    col = min g.col (width - 1);
-    saved_col = min g.saved_col (width - 1);
+  rows = rows_by_position (length g.rows) (λ r. resized_row (row_at g.rows r) width default_cell);
+  width = width;
+  col = min g.col (width - 1);
+  saved_col = min g.saved_col (width - 1);
 }
 
 -- how many rows come back at the top where the screen gets this height: as many as come, but no more than scrolled off
@@ -49,12 +49,12 @@ abbrev pub lengthened : GridView → ℕ → GridView
 lengthened g height =
     let down = down_rows g height in
     record g {
-        rows = if length g.rows == 0 then [] else rows_back g down ++ g.rows ++ replicate (height - g.height - down) (blank_row g.width);
-        height = height;
-        row = g.row + down;
-        saved_row = g.saved_row + down;
-        bottom = height - 1;
-        kept = record (g.kept) { rows = take (length g.kept.rows - down) g.kept.rows; scrolled_off = g.kept.scrolled_off - down };
+      rows = if length g.rows == 0 then [] else rows_back g down ++ g.rows ++ replicate (height - g.height - down) (blank_row g.width);
+      height = height;
+      row = g.row + down;
+      saved_row = g.saved_row + down;
+      bottom = height - 1;
+      kept = record (g.kept) { rows = take (length g.kept.rows - down) g.kept.rows; scrolled_off = g.kept.scrolled_off - down };
     }
 
 -- of a lower screen the rows under the cursor go first, and then rows scroll off at the top; to a higher one as many rows

@@ -17,8 +17,8 @@ pub record Scrolled : Type 0 where
 -- kept rows that a screen of this height shows are made at least as wide as it, with default cells
 abbrev pub widened : KeptPart → ℕ → ℕ → KeptPart
 widened k height width = record k {
-    rows = rows_by_position (length k.rows)
-        (changed_between (λ v. grown v width default_cell) k.rows (length k.rows - k.offset) (length k.rows - k.offset + height));
+  rows = rows_by_position (length k.rows)
+      (changed_between (λ v. grown v width default_cell) k.rows (length k.rows - k.offset) (length k.rows - k.offset + height));
 }
 
 -- how many kept rows go where n more rows come
@@ -31,9 +31,9 @@ abbrev pub kept_after : KeptPart → List RowView → KeptPart
 kept_after k left =
     let rows = drop (overflow k (length left)) k.rows ++ map trimmed (drop (length left - min (length left) k.capacity) left) in
     record k {
-        rows = rows;
-        offset = if k.offset == 0 then 0 else min (k.offset + length left) (length rows);
-        scrolled_off = min (k.scrolled_off + length left) (2 ^ 64 - 1);
+      rows = rows;
+      offset = if k.offset == 0 then 0 else min (k.offset + length left) (length rows);
+      scrolled_off = min (k.scrolled_off + length left) (2 ^ 64 - 1);
     }
 
 -- the rows that these push out: the oldest kept ones, and then those that are never kept, with all their cells
@@ -57,13 +57,13 @@ is_kept_from g = (g.top == 0) && g.kept.keeps
 -- the region's lines move n up. Rows that leave it below the screen's first row are gone, and no sink is given them.
 abbrev pub scrolled_up : GridView → ℕ → Scrolled
 scrolled_up g n = record {
-    grid = record (with_rows g (moved_up g.rows g.top (g.bottom + 1) (up_count g n) g.width)) {
-        kept = if is_kept_from g then widened (kept_after g.kept (left_rows g n)) g.height g.width else g.kept;
-    };
-    sunk =
-        if not (g.top == 0) then []
-        else if g.kept.keeps then pushed_out g.kept (left_rows g n)
-        else left_rows g n;
+  grid = record (with_rows g (moved_up g.rows g.top (g.bottom + 1) (up_count g n) g.width)) {
+    kept = if is_kept_from g then widened (kept_after g.kept (left_rows g n)) g.height g.width else g.kept;
+  };
+  sunk =
+      if not (g.top == 0) then []
+      else if g.kept.keeps then pushed_out g.kept (left_rows g n)
+      else left_rows g n;
 }
 
 -- ---- the cursor that scrolls
@@ -87,10 +87,10 @@ abbrev pub wrapped_on : GridView → Bool → Scrolled
 wrapped_on g mark =
     let h = (fed (record g { col = 0 }) 1).grid in
     record {
-        grid =
-            if (g.row == g.bottom) && (g.row == 0) then h
-            else with_row h (left_row g) (with_wrap (row_at h.rows (left_row g)) (mark && ((left_row g + 1) == h.row)));
-        sunk = (fed (record g { col = 0 }) 1).sunk;
+      grid =
+          if (g.row == g.bottom) && (g.row == 0) then h
+          else with_row h (left_row g) (with_wrap (row_at h.rows (left_row g)) (mark && ((left_row g + 1) == h.row)));
+      sunk = (fed (record g { col = 0 }) 1).sunk;
     }
 
 -- the same where fewer columns are left than these

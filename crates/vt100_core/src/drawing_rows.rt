@@ -3,7 +3,6 @@ ghost use Rattle.std.specs.Prelude.{◌≡◌};
 ghost use Rattle.std.specs.Iterator.{YieldsFirstRef, item_count};
 
 use std::marker::Model;
-
 use vt100_rows::Row;
 
 /// An iterator over the rows that are drawn on, from the top.

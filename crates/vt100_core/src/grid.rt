@@ -8,16 +8,14 @@ mod scroll;
 mod show;
 mod text;
 
-use std::alloc::Global;
-use std::collections::VecDeque;
-use std::marker::Model;
-
-use vt100_forms::{GridError, Pos};
-use vt100_rows::Row;
-
 use crate::rows_edit::{blank_rows, clone_rows, reset_all};
 use crate::scrollback::{Scrollback, ScrollbackState, clone_kept};
 use crate::size::Size;
+use std::alloc::Global;
+use std::collections::VecDeque;
+use std::marker::Model;
+use vt100_forms::{GridError, Pos};
+use vt100_rows::Row;
 
 /// The rows of a screen, its cursor, and the rows that scrolled off at its top.
 #[derive(Drop)]

@@ -17,8 +17,9 @@ pub use row_sink::RowSink;
 pub use scrollback::Scrollback;
 pub use size::Size;
 pub use visible_rows::VisibleRows;
-
-pub use vt100_forms::{Color, CursorStyle, GridError, MouseProtocolEncoding, MouseProtocolMode, Pos, attrs};
+pub use vt100_forms::{
+    Color, CursorStyle, GridError, MouseProtocolEncoding, MouseProtocolMode, Pos, attrs,
+};
 pub use vt100_rows::{Cell, Row};
 
 #[cfg(test)]

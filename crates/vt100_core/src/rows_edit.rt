@@ -4,13 +4,11 @@ ghost use Rattle.vt100_rows.specs.Row.{RowView, blank_row, cleared_row, wiped_ro
 ghost use Rattle.vt100_core.specs.Erase.{erased_forward_at, erased_backward_at};
 ghost use Rattle.vt100_core.specs.Sheet.{row_at, rows_by_position, turned_up, moved_up, moved_down, opened_line, IsRowOf, changed_between};
 
+use crate::size::Size;
 use std::alloc::Global;
-
 use vt100_forms::GridError;
 use vt100_forms::attrs::Attrs;
 use vt100_rows::Row;
-
-use crate::size::Size;
 
 /// The row at `r`.
 #[inline]

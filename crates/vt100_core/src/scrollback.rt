@@ -5,15 +5,13 @@ ghost use Rattle.vt100_rows.specs.Row.{RowView, IsRow, blank_row, grown, trimmed
 ghost use Rattle.vt100_core.specs.Sheet.{row_at, rows_by_position, IsSheet, changed_between};
 ghost use Rattle.vt100_core.specs.Sink.{TakesAll};
 
+use crate::row_sink::{RowSink, give_rows};
+use crate::rows_edit::{reset_between, turn_up};
 use std::alloc::Global;
 use std::collections::VecDeque;
 use std::mem;
-
 use vt100_forms::GridError;
 use vt100_rows::{Cell, Row};
-
-use crate::row_sink::{RowSink, give_rows};
-use crate::rows_edit::{reset_between, turn_up};
 
 /// Whether a grid keeps rows that scroll off at its top, and how many at most.
 #[derive(Clone, Copy, Debug)]
@@ -86,7 +84,10 @@ impl ScrollbackState {
     {
         self.offset = 0;
         let first = self.rows.len() - offset;
-        let end = self.rows.len().min(first.saturating_add(usize::from(height)));
+        let end = self
+            .rows
+            .len()
+            .min(first.saturating_add(usize::from(height)));
         widen(&mut self.rows, first, end, width)?;
         self.offset = offset;
         Ok(())
@@ -183,7 +184,12 @@ pub(crate) fn keep_rows(
 }
 
 /// Makes the kept rows from `first` up to `end` at least `width` columns wide.
-pub(crate) fn widen(rows: &mut VecDeque<Row>, first: usize, end: usize, width: u16) -> Result<(), GridError>
+pub(crate) fn widen(
+    rows: &mut VecDeque<Row>,
+    first: usize,
+    end: usize,
+    width: u16,
+) -> Result<(), GridError>
     requires in_part { first ≤ end }
     requires in_rows { end ≤ length rows.old.items }
     requires each { (j : ℕ) → j < length rows.old.items → IsRow (row_at rows.old.items j) }

@@ -9,6 +9,7 @@ use std::num::NonZeroU16;
 use std::test::Fail;
 
 /// Counts the rows that it takes.
+#[derive(Drop)]
 struct Counter {
     rows: u64,
 }

@@ -3,11 +3,9 @@ ghost use Rattle.std.specs.Prelude.{◌≡◌, ◌<◌, ◌^◌, length};
 ghost use Rattle.std.specs.Iterator.{YieldsFirstRef, item_count};
 ghost use Rattle.vt100_core.specs.Grid.{visible};
 
-use std::marker::Model;
-
-use vt100_rows::Row;
-
 use crate::grid::Grid;
+use std::marker::Model;
+use vt100_rows::Row;
 
 /// An iterator over the rows that are shown, from the top.
 #[derive(Drop)]

@@ -1,9 +1,8 @@
 //! The cursor, the scroll region and origin mode.
 ghost use Rattle.std.specs.Prelude.{◌≡◌, ℕ, ◌+◌, ◌-◌, ◌<◌, ◌≤◌, ◌==◌, min, true, false, if◌then◌else◌};
 
-use vt100_forms::Pos;
-
 use crate::grid::Grid;
+use vt100_forms::Pos;
 
 impl Grid {
     ghost use Rattle.vt100_core.specs.Grid.{GridView, IsAllocated, is_in_region};
@@ -23,7 +22,9 @@ impl Grid {
         ensures allocated { IsAllocated self.new }
     {
         let row = if self.origin_mode {
-            pos.row.saturating_add(self.scroll_top).min(self.scroll_bottom)
+            pos.row
+                .saturating_add(self.scroll_top)
+                .min(self.scroll_bottom)
         } else {
             pos.row.min(self.size.rows() - 1)
         };

@@ -1,10 +1,9 @@
 //! Erasing, and cells that come in and go.
 ghost use Rattle.std.specs.Prelude.{◌≡◌, ℕ, ◌+◌, ◌-◌, ◌<◌, ◌≤◌, ◌==◌, min, true, false, if◌then◌else◌};
 
-use vt100_forms::attrs::Attrs;
-
 use crate::grid::Grid;
 use crate::rows_edit::{clear_all, erase_backward, erase_forward};
+use vt100_forms::attrs::Attrs;
 
 impl Grid {
     ghost use Rattle.vt100_core.specs.Grid.{GridView, IsAllocated};

@@ -2,12 +2,11 @@
 ghost use Rattle.std.specs.Prelude.{◌≡◌, ℕ, ◌+◌, ◌-◌, ◌<◌, ◌≤◌, ◌==◌, length, min, true, false, ◌&&◌, OnOk, IfOk, if◌then◌else◌};
 ghost use Rattle.vt100_core.specs.Sink.{TakesAll};
 
-use vt100_forms::GridError;
-
 use crate::grid::Grid;
 use crate::row_sink::{RowSink, give_rows};
 use crate::rows_edit::move_up;
 use crate::scrollback::drop_oldest;
+use vt100_forms::GridError;
 
 impl Grid {
     ghost use Rattle.vt100_core.specs.Grid.{GridView, IsAllocated, is_in_region, with_row};
@@ -30,7 +29,14 @@ impl Grid {
         if first > 0 {
             move_up(&mut self.rows, first, end, n, self.size.cols());
         } else if self.scrollback.enabled {
-            self.scrollback.scroll_off(&mut self.rows, end, n, self.size.rows(), self.size.cols(), sink)?;
+            self.scrollback.scroll_off(
+                &mut self.rows,
+                end,
+                n,
+                self.size.rows(),
+                self.size.cols(),
+                sink,
+            )?;
         } else {
             give_rows(&self.rows[..n], sink);
             move_up(&mut self.rows, first, end, n, self.size.cols());
@@ -59,7 +65,8 @@ impl Grid {
         ensures allocated { IsAllocated self.new }
     {
         let offset = rows.min(self.scrollback.rows.len());
-        self.scrollback.show(offset, self.size.rows(), self.size.cols())?;
+        self.scrollback
+            .show(offset, self.size.rows(), self.size.cols())?;
         Ok(())
     }
 
@@ -76,7 +83,11 @@ impl Grid {
             self.row_inc_clamp(count);
             return Ok(0);
         }
-        let lines = self.pos.row.saturating_add(count).saturating_sub(self.scroll_bottom);
+        let lines = self
+            .pos
+            .row
+            .saturating_add(count)
+            .saturating_sub(self.scroll_bottom);
         self.row_inc_clamp(count);
         self.scroll_up(lines, sink)?;
         Ok(lines)
@@ -85,7 +96,12 @@ impl Grid {
     /// Moves the cursor to the start of the next row if fewer than `width` columns are left, and scrolls as
     /// [`row_inc_scroll`](Self::row_inc_scroll) does. The row that it left is marked as wrapped if `wrap` is set, it
     /// shows something in its last column, and it now stands directly above the cursor; else it isn't wrapped any more.
-    pub fn col_wrap<S: RowSink>(&mut self, width: u16, wrap: bool, sink: &mut S) -> Result<(), GridError>
+    pub fn col_wrap<S: RowSink>(
+        &mut self,
+        width: u16,
+        wrap: bool,
+        sink: &mut S,
+    ) -> Result<(), GridError>
         requires allocated { IsAllocated self.old }
         requires fits { width ≤ self.old.width }
         ensures grid { OnOk result (self.new ≡ (made_to_fit self.old width wrap).grid) }

@@ -2,14 +2,13 @@
 ghost use Rattle.std.specs.Prelude.{◌≡◌, ℕ, ◌+◌, ◌-◌, ◌<◌, ◌≤◌, ◌==◌, length, true, false, if◌then◌else◌};
 ghost use Rattle.std.specs.Option.{option_copied};
 
-use vt100_forms::Pos;
-use vt100_rows::{Cell, Row};
-
 use crate::drawing_rows::DrawingRows;
 use crate::grid::Grid;
 use crate::rows_edit::at;
 use crate::scrollback::kept_at;
 use crate::visible_rows::VisibleRows;
+use vt100_forms::Pos;
+use vt100_rows::{Cell, Row};
 
 impl Grid {
     ghost use Rattle.vt100_core.specs.Grid.{GridView, visible, visible_at, visible_row_at, drawing_row_at, cell_in};

@@ -5,13 +5,12 @@ ghost use Rattle.vt100_rows.specs.Line.{span_of};
 ghost use Rattle.vt100_rows.specs.Row.{join_row, join_answer};
 ghost use Rattle.vt100_core.specs.Sink.{TakesAll};
 
-use vt100_forms::GridError;
-use vt100_forms::attrs::Attrs;
-use vt100_rows::{Cell, Join, columns};
-
 use crate::grid::Grid;
 use crate::printed::Printed;
 use crate::row_sink::RowSink;
+use vt100_forms::GridError;
+use vt100_forms::attrs::Attrs;
+use vt100_rows::{Cell, Join, columns};
 
 impl Grid {
     ghost use Rattle.vt100_core.specs.Grid.{GridView, IsGrid, IsAllocated, row_of_cursor, with_cursor_row};
@@ -27,7 +26,12 @@ impl Grid {
     /// zero-width characters at the first column.
     ///
     /// After a refusal the grid is whole, but what it shows is open.
-    pub fn text<S: RowSink>(&mut self, c: char, attrs: Attrs, sink: &mut S) -> Result<Printed, GridError>
+    pub fn text<S: RowSink>(
+        &mut self,
+        c: char,
+        attrs: Attrs,
+        sink: &mut S,
+    ) -> Result<Printed, GridError>
         requires { IsAllocated self.old }
         ensures grid { OnOk result (self.new ≡ (printed self.old c attrs).grid) }
         ensures sink { OnOk result (TakesAll S.takes sink.old (printed self.old c attrs).sunk sink.new) }
@@ -64,7 +68,13 @@ impl Grid {
     }
 
     /// Prints a character of one or two columns.
-    fn space<S: RowSink>(&mut self, c: char, columns: u16, attrs: Attrs, sink: &mut S) -> Result<(), GridError>
+    fn space<S: RowSink>(
+        &mut self,
+        c: char,
+        columns: u16,
+        attrs: Attrs,
+        sink: &mut S,
+    ) -> Result<(), GridError>
         requires allocated { IsAllocated self.old }
         requires drawn { drawn_columns c ≡ Some columns }
         requires some { 0 < columns }
@@ -122,7 +132,12 @@ impl Grid {
     }
 
     /// Prints a zero-width character.
-    fn join<S: RowSink>(&mut self, c: char, attrs: Attrs, sink: &mut S) -> Result<Printed, GridError>
+    fn join<S: RowSink>(
+        &mut self,
+        c: char,
+        attrs: Attrs,
+        sink: &mut S,
+    ) -> Result<Printed, GridError>
         requires allocated { IsAllocated self.old }
         requires zero_width { drawn_columns c ≡ Some 0 }
         requires after_some { 0 < self.old.col }

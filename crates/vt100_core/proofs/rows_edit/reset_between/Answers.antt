@@ -9,4 +9,4 @@ returns c =
     let f : RowView → RowView = λ v. blank_row (length v.cells) in
     let done : c.loop-r.r ≡ c.args.end = omega (arith, c.requires.in_part) in
     rows_by_position_is _ (changed_between f c.args.rows.now c.args.first c.args.end) c.loop-r.rows c.loop-r.auto.rows
-        (λ k h. c.loop-r.invariant k ∙ ap (λ r. changed_between f c.args.rows.now c.args.first r k) done)
+    (λ k h. c.loop-r.invariant k ∙ ap (λ r. changed_between f c.args.rows.now c.args.first r k) done)

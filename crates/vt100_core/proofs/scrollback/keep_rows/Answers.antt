@@ -16,12 +16,12 @@ loop-r-preserved c =
     let whole : IsRow c.replace-row.result = rw row (c.loop-r.invariant.sheet.each c.loop-r.r within).row in
     let short : IsRow c.trim.new.self = rw c.trim.ensures (IsRow-trimmed c.replace-row.result whole) in
     record {
-        blank = changes-more f c.args.rows.now c.loop-r.rows c.args.first c.loop-r.r c.replace-row.new.dest (omega arith) within c.loop-r.invariant.blank fresh;
-        kept = (c.in_ok-push_back.ensures.items ∙ ap (λ (xs : List RowView). xs ++ c.trim.new.self ∷ []) c.loop-r.invariant.kept)
-            ∙ keeps-more f c.args.rows.now c.loop-r.rows c.args.kept.now.items c.args.first c.loop-r.r c.replace-row.result c.trim.new.self (omega arith) (omega arith) c.loop-r.invariant.blank row c.trim.ensures;
-        sheet = IsSheet-with_blank (length c.args.rows.now) c.args.width c.loop-r.rows c.loop-r.r c.replace-row.new.dest c.loop-r.invariant.sheet within (omega arith) fresh;
-        each_kept = rw c.in_ok-push_back.ensures.items (IsRow-push c.loop-r.kept.items c.trim.new.self c.loop-r.invariant.each_kept short);
-        count = rw c.in_ok-push_back.ensures.items (omega (arith, length-append c.loop-r.kept.items (c.trim.new.self ∷ []), c.loop-r.invariant.count));
+      blank = changes-more f c.args.rows.now c.loop-r.rows c.args.first c.loop-r.r c.replace-row.new.dest (omega arith) within c.loop-r.invariant.blank fresh;
+      kept = (c.in_ok-push_back.ensures.items ∙ ap (λ (xs : List RowView). xs ++ c.trim.new.self ∷ []) c.loop-r.invariant.kept)
+          ∙ keeps-more f c.args.rows.now c.loop-r.rows c.args.kept.now.items c.args.first c.loop-r.r c.replace-row.result c.trim.new.self (omega arith) (omega arith) c.loop-r.invariant.blank row c.trim.ensures;
+      sheet = IsSheet-with_blank (length c.args.rows.now) c.args.width c.loop-r.rows c.loop-r.r c.replace-row.new.dest c.loop-r.invariant.sheet within (omega arith) fresh;
+      each_kept = rw c.in_ok-push_back.ensures.items (IsRow-push c.loop-r.kept.items c.trim.new.self c.loop-r.invariant.each_kept short);
+      count = rw c.in_ok-push_back.ensures.items (omega (arith, length-append c.loop-r.kept.items (c.trim.new.self ∷ []), c.loop-r.invariant.count));
     }
 
 pub returns-in_err-push_back-clause-sheet : goal.returns-in_err-push_back-clause-sheet
@@ -38,4 +38,4 @@ returns-clause-rows c =
     let f : RowView → RowView = λ v. blank_row c.args.width in
     let done : c.loop-r.r ≡ c.args.end = omega (arith, c.requires.in_part) in
     rows_by_position_is _ (changed_between f c.args.rows.now c.args.first c.args.end) c.loop-r.rows c.loop-r.auto.rows
-        (λ k h. c.loop-r.invariant.blank k ∙ ap (λ r. changed_between f c.args.rows.now c.args.first r k) done)
+    (λ k h. c.loop-r.invariant.blank k ∙ ap (λ r. changed_between f c.args.rows.now c.args.first r k) done)

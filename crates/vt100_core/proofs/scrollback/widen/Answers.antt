@@ -14,12 +14,12 @@ loop-j-preserved c =
     let within : c.loop-j.j < length rows = omega (arith, c.loop-j.invariant.count, c.requires.in_rows) in
     let row : c.index_mut.result.now ≡ row_at rows c.loop-j.j = c.index_mut.ensures.value ∙ get_or_default rows c.loop-j.j c.index_mut.result.now (blank_row 0) within in
     let wider : c.grow.new.self ≡ f (row_at rows c.loop-j.j) =
-        c.in_ok-grow.ensures.ok ∙ ap (λ (x : CellView). grown c.index_mut.result.now c.args.width x) c.new.ensures ∙ ap f row in
+    c.in_ok-grow.ensures.ok ∙ ap (λ (x : CellView). grown c.index_mut.result.now c.args.width x) c.new.ensures ∙ ap f row in
     record {
-        grown = changes-more f c.args.rows.now.items rows c.args.first c.loop-j.j c.grow.new.self (omega arith) within c.loop-j.invariant.grown wider;
-        each = λ k l. IsRow-set rows c.loop-j.j c.grow.new.self c.loop-j.invariant.each
-            (rw wider (IsRow-grown_default (row_at rows c.loop-j.j) c.args.width (c.loop-j.invariant.each c.loop-j.j within) (omega arith))) within k (omega (arith, length-set rows c.loop-j.j c.grow.new.self));
-        count = length-set rows c.loop-j.j c.grow.new.self ∙ c.loop-j.invariant.count;
+      grown = changes-more f c.args.rows.now.items rows c.args.first c.loop-j.j c.grow.new.self (omega arith) within c.loop-j.invariant.grown wider;
+      each = λ k l. IsRow-set rows c.loop-j.j c.grow.new.self c.loop-j.invariant.each
+          (rw wider (IsRow-grown_default (row_at rows c.loop-j.j) c.args.width (c.loop-j.invariant.each c.loop-j.j within) (omega arith))) within k (omega (arith, length-set rows c.loop-j.j c.grow.new.self));
+      count = length-set rows c.loop-j.j c.grow.new.self ∙ c.loop-j.invariant.count;
     }
 
 pub returns-in_err-grow-clause-each : goal.returns-in_err-grow-clause-each
@@ -34,4 +34,4 @@ returns-clause-rows c =
     let f : RowView → RowView = λ v. grown v c.args.width default_cell in
     let done : c.loop-j.j ≡ c.args.end = omega (arith, c.requires.in_part) in
     rows_by_position_is _ (changed_between f c.args.rows.now.items c.args.first c.args.end) c.loop-j.rows.items c.loop-j.invariant.count
-        (λ k h. c.loop-j.invariant.grown k ∙ ap (λ r. changed_between f c.args.rows.now.items c.args.first r k) done)
+    (λ k h. c.loop-j.invariant.grown k ∙ ap (λ r. changed_between f c.args.rows.now.items c.args.first r k) done)

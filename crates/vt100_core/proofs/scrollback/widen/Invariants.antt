@@ -6,7 +6,7 @@ use Rattle.vt100_core.proofs.scrollback.widen.Given as goal
 
 abbrev pub invariant-loop-j : goal.invariant-loop-j
 invariant-loop-j l = record {
-    grown : (k : ℕ) → row_at l.rows.items k ≡ changed_between (λ v. grown v l.width default_cell) l.initial.rows.items l.first l.j k;
-    each : (k : ℕ) → k < length l.rows.items → IsRow (row_at l.rows.items k);
-    count : length l.rows.items ≡ length l.initial.rows.items
+  grown : (k : ℕ) → row_at l.rows.items k ≡ changed_between (λ v. grown v l.width default_cell) l.initial.rows.items l.first l.j k;
+  each : (k : ℕ) → k < length l.rows.items → IsRow (row_at l.rows.items k);
+  count : length l.rows.items ≡ length l.initial.rows.items;
 }

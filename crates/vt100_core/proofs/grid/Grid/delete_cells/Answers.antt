@@ -8,4 +8,4 @@ use Rattle.vt100_core.proofs.grid.Grid.delete_cells.Goals as goal
 pub invariant_of-self : goal.invariant_of-self
 invariant_of-self c =
     IsGrid-at _ (cells_deleted c.args.self.now c.args.count) (grind (arith, common_steps))
-        (IsGrid-cells_deleted c.args.self.now c.args.count (rw (← c.self.view_is) c.self.invariant) c.requires)
+    (IsGrid-cells_deleted c.args.self.now c.args.count (rw (← c.self.view_is) c.self.invariant) c.requires)

@@ -8,4 +8,4 @@ use Rattle.vt100_core.proofs.grid.Grid.erase_all_forward.Goals as goal
 pub invariant_of-self : goal.invariant_of-self
 invariant_of-self c =
     IsGrid-at _ (all_erased_forward c.args.self.now c.args.attrs) (grind (arith, common_steps))
-        (IsGrid-all_erased_forward c.args.self.now c.args.attrs (rw (← c.self.view_is) c.self.invariant) c.requires)
+    (IsGrid-all_erased_forward c.args.self.now c.args.attrs (rw (← c.self.view_is) c.self.invariant) c.requires)

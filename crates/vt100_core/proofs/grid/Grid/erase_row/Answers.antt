@@ -8,4 +8,4 @@ use Rattle.vt100_core.proofs.grid.Grid.erase_row.Goals as goal
 pub invariant_of-self : goal.invariant_of-self
 invariant_of-self c =
     IsGrid-at _ (row_erased c.args.self.now c.args.attrs) (grind (arith, common_steps))
-        (IsGrid-row_erased c.args.self.now c.args.attrs (rw (← c.self.view_is) c.self.invariant) c.requires)
+    (IsGrid-row_erased c.args.self.now c.args.attrs (rw (← c.self.view_is) c.self.invariant) c.requires)

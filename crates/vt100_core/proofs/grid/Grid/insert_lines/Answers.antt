@@ -7,4 +7,4 @@ use Rattle.vt100_core.proofs.grid.Grid.insert_lines.Goals as goal
 pub invariant_of-self : goal.invariant_of-self
 invariant_of-self c =
     IsGrid-at _ (lines_inserted c.args.self.now c.args.count) (grind (arith, common_steps))
-        (IsGrid-lines_inserted c.args.self.now c.args.count (rw (← c.self.view_is) c.self.invariant) c.requires)
+    (IsGrid-lines_inserted c.args.self.now c.args.count (rw (← c.self.view_is) c.self.invariant) c.requires)

@@ -7,4 +7,4 @@ use Rattle.vt100_core.proofs.grid.Grid.scroll_down.Goals as goal
 pub invariant_of-self : goal.invariant_of-self
 invariant_of-self c =
     IsGrid-at _ (scrolled_down c.args.self.now c.args.count) (grind (arith, common_steps))
-        (IsGrid-scrolled_down c.args.self.now c.args.count (rw (← c.self.view_is) c.self.invariant) c.requires)
+    (IsGrid-scrolled_down c.args.self.now c.args.count (rw (← c.self.view_is) c.self.invariant) c.requires)

@@ -66,7 +66,7 @@ pub returns-in-None-clause-sink : goal.returns-in-None-clause-sink
 returns-in-None-clause-sink g c =
     let s = c.args.self.now in
     TakesAll-list g.S.RowSink.takes c.args.sink.now c.args.sink.now [] ((printed s c.args.c c.args.attrs).sunk)
-        (sym (ap (λ (x : Drawn). x.sunk) (printed-dropped s c.args.c c.args.attrs (hidden-is (is_dropped s c.args.c) (columns_of c.args.c) c.in-None.ensures)))) refl
+    (sym (ap (λ (x : Drawn). x.sunk) (printed-dropped s c.args.c c.args.attrs (hidden-is (is_dropped s c.args.c) (columns_of c.args.c) c.in-None.ensures)))) refl
 
 pub returns-in-None-clause-answer : goal.returns-in-None-clause-answer
 returns-in-None-clause-answer g c =
