@@ -40,3 +40,6 @@ pub mod ansi {
 }
 
 pub use vte_core::{Event, Params, ParamsIter, Parser, Perform};
+
+#[cfg(test)]
+mod tests;

@@ -2,9 +2,6 @@
 ghost use Rattle.std.specs.Prelude.{◌≡◌, ◌≤◌, length, MatchOption};
 ghost use Rattle.vte.specs.Marks.{NoneFrom, IsLast, IsFirstFrom};
 
-use memchr::{memchr, memrchr};
-use vte_types::C0;
-
 /// The start of an update.
 pub const START: [u8; 8] = [0x1b, b'[', b'?', b'2', b'0', b'2', b'6', b'h'];
 

@@ -1,0 +1,6 @@
+//! Worked streams and their calls.
+
+mod hold;
+mod log;
+mod table;
+mod values;
