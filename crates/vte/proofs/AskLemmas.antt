@@ -1,14 +1,14 @@
 -- Only events of sequences open an update, and after each of them the parser asks.
-use Rattle.std.proofs.Common.{◌≡◌, ℕ, zero, suc, ◌+◌, ◌<◌, ◌≤◌, Bool, true, false, List, [], ◌∷◌, ◌++◌, ◌||◌, ◌&&◌, ◌==◌, if◌then◌else◌, take, drop, length, get_or, arith, refl, ap, sym, ◌∙◌, subst, inl, inr}
+use Rattle.std.proofs.Common.{◌≡◌, ℕ, zero, suc, ◌+◌, ◌<◌, ◌≤◌, Bool, true, false, List, [], ◌∷◌, ◌++◌, ◌||◌, ◌==◌, if◌then◌else◌, take, length, get_or, length-append, arith, refl, ap, sym, ◌∙◌, subst, inl, inr}
 use Rattle.std.specs.List.{list_any}
 use Rattle.std.proofs.lemmas.Bool.{cases_Bool}
-use Rattle.std.proofs.Math.Seq.{take-suc}
+use Rattle.std.proofs.Math.Seq.{take-suc, take-append_seam}
 use Rattle.vte_core.specs.Event.{Event, Print, Execute}
 use Rattle.vte_core.specs.Bytes.{is_esc}
 use Rattle.vte_core.specs.Text.{char_event, malformed_event, char_len, first_bits, joined}
-use Rattle.vte_core.specs.Pending.{Pending, InText, InEscape, InCsi, InOsc, InHook, InDevice, InSwallowed, pending, events_from, after_bytes, events_of_byte, begun, text_told, closed, goes_on}
+use Rattle.vte_core.specs.Pending.{Pending, InText, InEscape, InCsi, InOsc, InHook, InDevice, InSwallowed, pending, after_bytes, events_of_byte, begun, text_told, closed, goes_on}
 use Rattle.vte_core.specs.Stopping.{is_text, asks_at}
-use Rattle.vte_core.proofs.Machine.{events_from-append}
+use Rattle.vte_core.proofs.Machine.{events_from-append, after_bytes-append}
 use Rattle.vte_core.proofs.StopLemmas.{asks-after}
 use Rattle.vte.specs.Table.{opens}
 use Rattle.vte.specs.Stretch.{added, opens_in}
@@ -85,4 +85,21 @@ none_before past bs n within asked (suc m) lt =
       | inr other ↦
           let e : m + 1 ≡ suc m = omega arith in
           asked (suc m) lt (subst (λ (j : ℕ). asks_at (pending past) true bs j ≡ true) e (asks-after (pending past) true bs m (omega arith) other))
+    ]
+
+-- after a byte that opens an update the parser asks
+pub asks_where_opened : (past bytes : List ℕ) (b : ℕ) (rest : List ℕ) (asked : Bool)
+    → opens_in (past ++ bytes) (b ∷ []) ≡ true → asks_at (pending past) asked (bytes ++ b ∷ rest) (length bytes + 1) ≡ true
+asks_where_opened past bytes b rest asked h =
+    let q = after_bytes (pending past) bytes in
+    let at : pending (past ++ bytes) ≡ q = after_bytes-append (InText []) past bytes in
+    let more : length (bytes ++ b ∷ rest) ≡ length bytes + length (b ∷ rest) = length-append bytes (b ∷ rest) in
+    elim (cases_Bool (is_text q)) [
+      | inl text ↦
+          let none : opens_in (past ++ bytes) (b ∷ []) ≡ false =
+          ap (λ p. list_any opens (events_of_byte 1024 p b ++ [])) at ∙ (any-append opens (events_of_byte 1024 q b) [] ∙ (or-false (list_any opens (events_of_byte 1024 q b)) ∙ text_none q b text)) in
+          absurd (let no : true ≡ false = sym h ∙ none in cc)
+      | inr other ↦
+          asks-after (pending past) asked (bytes ++ b ∷ rest) (length bytes) (omega (arith, more))
+          (rw (take-append_seam bytes (b ∷ rest)) other)
     ]

@@ -8,3 +8,4 @@ pub mod SetLemmas
 pub mod TurnLemmas
 pub mod ExactLemmas
 pub mod LawLemmas
+pub mod OpeningLemmas
