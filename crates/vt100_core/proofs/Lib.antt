@@ -7,3 +7,4 @@ pub mod SinkLemmas
 pub mod KeepLemmas
 pub mod ScrollLemmas
 pub mod TextLemmas
+pub mod LengthenLemmas

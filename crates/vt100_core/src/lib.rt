@@ -5,6 +5,7 @@ pub mod drawing_rows;
 pub mod grid;
 pub mod printed;
 pub mod row_sink;
+mod rows_back;
 mod rows_edit;
 pub mod scrollback;
 pub mod size;

@@ -1,7 +1,7 @@
 //! The rows that left the screen at its top.
-ghost use Rattle.std.specs.Prelude.{◌≡◌, ℕ, ◌+◌, ◌-◌, ◌^◌, ◌<◌, ◌≤◌, ◌==◌, ◌++◌, List, length, take, drop, map, slice_range, OnOk, OnErr, IfOk, true, false, not, ◌&&◌, if◌then◌else◌};
+ghost use Rattle.std.specs.Prelude.{◌≡◌, ℕ, ◌+◌, ◌-◌, ◌^◌, ◌<◌, ◌≤◌, ◌==◌, ◌++◌, List, length, take, drop, map, slice_range, vec_len, vec_capacity, OnOk, OnErr, IfOk, true, false, not, ◌&&◌, if◌then◌else◌};
 ghost use Rattle.vt100_rows.specs.Cell.{default_cell};
-ghost use Rattle.vt100_rows.specs.Row.{RowView, IsRow, blank_row, grown, trimmed};
+ghost use Rattle.vt100_rows.specs.Row.{RowView, IsRow, blank_row, grown, resized_row, trimmed};
 ghost use Rattle.vt100_core.specs.Sheet.{row_at, rows_by_position, IsSheet, changed_between};
 ghost use Rattle.vt100_core.specs.Sink.{TakesAll};
 
@@ -214,4 +214,34 @@ pub(crate) fn clone_kept(alloc: Global, rows: &VecDeque<Row>) -> Result<VecDeque
         copy.push_back(kept_at(rows, j).clone()?)?;
     }
     Ok(copy)
+}
+
+/// Gives the newest `n` rows `width` columns.
+pub(crate) fn resize_newest(rows: &mut VecDeque<Row>, n: usize, width: u16) -> Result<(), GridError>
+    requires in_rows { n ≤ length rows.old.items }
+    requires each { (j : ℕ) → j < length rows.old.items → IsRow (row_at rows.old.items j) }
+    ensures rows { OnOk result (rows.new.items ≡ take (length rows.old.items - n) rows.old.items ++ map (λ v. resized_row v width default_cell) (drop (length rows.old.items - n) rows.old.items)) }
+
+    // Also where memory ran out.
+    ensures each { (j : ℕ) → j < length rows.new.items → IsRow (row_at rows.new.items j) }
+    ensures count { length rows.new.items ≡ length rows.old.items }
+{
+    for j in rows.len() - n..rows.len() {
+        rows[j].resize(width, Cell::new())?;
+    }
+    Ok(())
+}
+
+/// Moves the newest `n` rows to the end of others, where there is room for them.
+pub(crate) fn take_newest(kept: &mut VecDeque<Row>, n: usize, rows: &mut Vec<Row>)
+    requires in_kept { n ≤ length kept.old.items }
+    requires room { vec_len rows.old + n ≤ vec_capacity rows.old }
+    ensures rows { rows.new.items ≡ rows.old.items ++ drop (length kept.old.items - n) kept.old.items }
+    ensures len { vec_len rows.new ≡ vec_len rows.old + n }
+    ensures kept { kept.new.items ≡ take (length kept.old.items - n) kept.old.items }
+{
+    kept.rotate_right(n);
+    for _i in 0..n {
+        rows.push_reserved(kept.pop_front().unwrap());
+    }
 }
