@@ -3,6 +3,7 @@ ghost use Rattle.std.specs.Prelude.{◌≡◌, ℕ, ◌+◌, ◌-◌, ◌<◌, �
 
 mod cursor;
 mod erase;
+mod lengthen;
 mod lines;
 mod scroll;
 mod show;

@@ -1,0 +1,40 @@
+//! A higher screen.
+ghost use Rattle.std.specs.Prelude.{◌≡◌, ℕ, ◌+◌, ◌-◌, ◌<◌, ◌≤◌, OnOk};
+
+use crate::grid::Grid;
+use crate::rows_back::bring_back;
+use std::num::NonZeroU16;
+use vt100_forms::GridError;
+
+impl Grid {
+    ghost use Rattle.vt100_core.specs.Grid.{GridView};
+    ghost use Rattle.vt100_core.specs.Resize.{lengthened};
+
+    /// Brings back rows at the top and adds blank ones at the bottom, up to so many rows. As many come back as scrolled
+    /// off, at most those that are added, and blank ones in place of those that weren't kept. The cursors go with their
+    /// rows.
+    pub(crate) fn lengthen(&mut self, rows: NonZeroU16) -> Result<(), GridError>
+        requires higher { self.old.height ≤ rows.value }
+        requires whole { self.old.top ≡ 0 }
+        requires hidden { self.old.kept.offset ≡ 0 }
+        ensures grid { OnOk result (self.new ≡ lengthened self.old rows.value) }
+    {
+        let added = usize::from(rows.get() - self.size.rows());
+        let down = self.scrollback.unbounded_len.min(added);
+        if !self.rows.is_empty() {
+            bring_back(
+                &mut self.rows,
+                &mut self.scrollback.rows,
+                down,
+                added - down,
+                self.size.cols(),
+            )?;
+        }
+        self.scrollback.unbounded_len -= down;
+        self.pos.row += down as u16;
+        self.saved_pos.row += down as u16;
+        self.scroll_bottom = rows.get() - 1;
+        self.size.rows = rows;
+        Ok(())
+    }
+}
