@@ -1,16 +1,21 @@
 -- Rows that come back at the top.
-use Rattle.std.proofs.Common.{◌≡◌, ℕ, ◌+◌, ◌-◌, ◌^◌, ◌<◌, ◌≤◌, ◌==◌, Bool, true, false, cond, ◌&&◌, List, [], ◌++◌, length, take, drop, map, replicate, append_assoc, min, refl, sym, ap, ◌∙◌, arith, length-take, length-take-le, length-drop, length-append, nat_lt, nat_le, ⊎_elim}
-use Rattle.std.proofs.lemmas.Bool.{cases_lt}
+use Rattle.std.proofs.Common.{◌≡◌, ℕ, ◌+◌, ◌-◌, ◌^◌, ◌<◌, ◌≤◌, ◌==◌, true, false, List, [], ◌++◌, length, take, drop, map, replicate, append_assoc, min, refl, sym, ap, ◌∙◌, arith, length-take, length-take-le, length-drop, length-append, nat_lt, ⊎_elim}
+use Rattle.std.proofs.lemmas.Bool.{cases_lt, cond_both, eqb-true}
 use Rattle.std.proofs.lemmas.Bool.Decides.{nat_tests}
-use Rattle.std.proofs.lemmas.List.{length-map, length-replicate, replicate-append-replicate, take_at, drop_at, get_or-append_right, get_or-map, get_or-drop, get_or-take}
+use Rattle.std.proofs.lemmas.List.{length-map, length-replicate, get_or-replicate, replicate-append-replicate, take_at, drop_at, get_or-append_right, get_or-map, get_or-drop, get_or-take}
 use Rattle.std.proofs.Math.ListN.{get_or-append}
 use Rattle.vt100_forms.specs.Attrs.{default_attrs}
 use Rattle.vt100_rows.specs.Cell.{default_cell}
-use Rattle.vt100_rows.specs.Row.{RowView, IsRow, blank_row, resized_row}
+use Rattle.vt100_rows.specs.Line.{cut, extended}
+use Rattle.vt100_rows.specs.Row.{RowView, IsRow, blank_row, cell_at, by_position, truncated, grown, resized_row}
 use Rattle.vt100_rows.proofs.RowLemmas.{IsRow-resized}
 use Rattle.vt100_rows.proofs.CellLemmas.{IsCell-empty}
-use Rattle.vt100_core.specs.Sheet.{row_at, changed_between}
-use Rattle.vt100_core.proofs.SheetLemmas.{rows_equal}
+use Rattle.vt100_rows.proofs.ListLemmas.{length-by_position}
+use Rattle.vt100_core.specs.Sheet.{row_at, IsRowOf, IsSheet, changed_between}
+use Rattle.vt100_core.specs.Grid.{KeptPart, IsKept, GridView, IsGrid, IsAllocated}
+use Rattle.vt100_core.specs.Resize.{down_rows, rows_back, lengthened}
+use Rattle.vt100_core.proofs.SheetLemmas.{rows_equal, IsRowOf-blank}
+use Rattle.vt100_core.proofs.KeepLemmas.{IsShownWide-none}
 
 pub IsRow-resized_default : (v : RowView) (width : ℕ) → IsRow v → width < 2 ^ 16 → IsRow (resized_row v width default_cell)
 IsRow-resized_default v width r h = IsRow-resized v width default_cell r (IsCell-empty default_attrs) refl refl h
@@ -78,3 +83,136 @@ brings-back f b old kept sized one two rows come down below n ec es ls e1 e2 en 
     ap length all ∙ simp (length-append, length-replicate, length-map, length-drop) (omega arith) in
     let place : n - down ≡ length (old ++ replicate below b) = simp (length-append, length-replicate) (omega arith) in
     turned-back old (replicate (down - length kept) b) (replicate below b) back rows n down (er ∙ ap (λ (xs : List RowView). drop (n - down) xs ++ take (n - down) xs) all) place
+
+-- ---- what is true of the rows of a screen
+
+not-below : (m n : ℕ) → nat_lt m n ≡ false → m ≤ n → m ≡ n
+not-below m n e h = grind (arith, nat_tests)
+
+is-below : (m n : ℕ) → nat_lt m n ≡ true → m ≤ n
+is-below m n e = grind (arith, nat_tests)
+
+is-above : (m n : ℕ) → nat_lt m n ≡ false → n ≤ m
+is-above m n e = grind (arith, nat_tests)
+
+length-truncated : (v : RowView) (n : ℕ) → n ≤ length v.cells → length (truncated v n).cells ≡ n
+length-truncated v n h = length-by_position (min n (length v.cells)) (cut (min n (length v.cells)) (cell_at v.cells)) ∙ omega arith
+
+length-grown : (v : RowView) (n : ℕ) → length v.cells ≤ n → length (grown v n default_cell).cells ≡ n
+length-grown v n h =
+    cond_both (nat_lt (length v.cells) n) (record { cells = by_position n (extended (length v.cells) (cell_at v.cells) default_cell); wrapped = false }) v (λ (x : RowView). length x.cells ≡ n)
+    (λ _. length-by_position n (extended (length v.cells) (cell_at v.cells) default_cell)) (λ e. not-below (length v.cells) n e h)
+
+length-resized : (v : RowView) (n : ℕ) → length (resized_row v n default_cell).cells ≡ n
+length-resized v n =
+    cond_both (nat_lt n (length v.cells)) (truncated v n) (grown v n default_cell) (λ (x : RowView). length x.cells ≡ n)
+    (λ e. length-truncated v n (is-below n (length v.cells) e)) (λ e. length-grown v n (is-above n (length v.cells) e))
+
+IsRowOf-come : (v : RowView) (width : ℕ) → IsRow v → width < 2 ^ 16 → IsRowOf width (resized_row v width default_cell)
+IsRowOf-come v width r h = record { row = IsRow-resized_default v width r h; wide = length-resized v width }
+
+IsRowOf-append : (width : ℕ) (rows others : List RowView) → ((r : ℕ) → r < length rows → IsRowOf width (row_at rows r)) → ((r : ℕ) → r < length others → IsRowOf width (row_at others r))
+    → (r : ℕ) → r < length (rows ++ others) → IsRowOf width (row_at (rows ++ others) r)
+IsRowOf-append width rows others p q r h =
+    let n : length (rows ++ others) ≡ length rows + length others = length-append rows others in
+    ⊎_elim
+    (λ (l : r < length rows). rw (get_or-append rows others (blank_row 0) r l) (p r l))
+    (λ (l : length rows ≤ r). rw (get_or-append_right rows others (length rows) r (blank_row 0) refl l) (q (r - length rows) (omega arith)))
+    (cases_lt r (length rows))
+
+IsRowOf-blanks : (width n : ℕ) → width < 2 ^ 16 → (r : ℕ) → r < length (replicate n (blank_row width)) → IsRowOf width (row_at (replicate n (blank_row width)) r)
+IsRowOf-blanks width n small r h = rw (get_or-replicate n r (blank_row width) (blank_row 0) (omega (arith, length-replicate n (blank_row width)))) (IsRowOf-blank width small)
+
+IsRowOf-newest : (width first : ℕ) (kept : List RowView) → width < 2 ^ 16 → ((j : ℕ) → j < length kept → IsRow (row_at kept j))
+    → (r : ℕ) → r < length (map (λ v. resized_row v width default_cell) (drop first kept)) → IsRowOf width (row_at (map (λ v. resized_row v width default_cell) (drop first kept)) r)
+IsRowOf-newest width first kept small each r h =
+    let f : RowView → RowView = λ v. resized_row v width default_cell in
+    let n : length (map f (drop first kept)) ≡ length kept - first = length-map (drop first kept) f ∙ length-drop first kept in
+    rw (get_or-map f (drop first kept) r (blank_row 0) (blank_row 0) (omega (arith, length-drop first kept)) ∙ ap f (get_or-drop first kept r (blank_row 0)))
+    (IsRowOf-come (row_at kept (first + r)) width (each (first + r) (omega arith)) small)
+
+length-back : (g : GridView) (down : ℕ) → length (rows_back g down) ≡ down
+length-back g down = simp (length-append, length-replicate, length-map, length-drop) (omega arith)
+
+IsRowOf-back : (g : GridView) (down : ℕ) → IsGrid g → (r : ℕ) → r < length (rows_back g down) → IsRowOf g.width (row_at (rows_back g down) r)
+IsRowOf-back g down i =
+    IsRowOf-append g.width (replicate (down - length g.kept.rows) (blank_row g.width)) (map (λ v. resized_row v g.width default_cell) (drop (length g.kept.rows - down) g.kept.rows))
+    (IsRowOf-blanks g.width (down - length g.kept.rows) i.few_cols) (IsRowOf-newest g.width (length g.kept.rows - down) g.kept.rows i.few_cols i.kept.each)
+
+last-row : (g : GridView) (height down : ℕ) → IsGrid g → IsAllocated g → g.height + down ≤ height
+    → (row_at (rows_back g down ++ g.rows ++ replicate (height - g.height - down) (blank_row g.width)) (height - 1)).wrapped ≡ false
+last-row g height down i a h =
+    let n : length (rows_back g down ++ g.rows) ≡ down + g.height = length-append (rows_back g down) g.rows ∙ omega (arith, length-back g down, i.sheet.count a) in
+    let below = replicate (height - g.height - down) (blank_row g.width) in
+    ⊎_elim
+    (λ (l : down + g.height < height).
+    ap (λ (v : RowView). v.wrapped) (get_or-append_right (rows_back g down ++ g.rows) below (down + g.height) (height - 1) (blank_row 0) n (omega arith)
+    ∙ get_or-replicate (height - g.height - down) (height - 1 - (down + g.height)) (blank_row g.width) (blank_row 0) (omega arith)))
+    (λ (l : height ≤ down + g.height).
+    let e : height - 1 - down ≡ g.height - 1 = omega arith in
+    ap (λ (v : RowView). v.wrapped) (get_or-append (rows_back g down ++ g.rows) below (blank_row 0) (height - 1) (omega (arith, i.some_rows))
+    ∙ get_or-append_right (rows_back g down) g.rows down (height - 1) (blank_row 0) (length-back g down) (omega (arith, i.some_rows))
+    ∙ ap (λ k. row_at g.rows k) e) ∙ i.sheet.last)
+    (cases_lt (down + g.height) height)
+
+IsSheet-come : (g : GridView) (height down : ℕ) → IsGrid g → IsAllocated g → g.height + down ≤ height
+    → IsSheet height g.width (rows_back g down ++ g.rows ++ replicate (height - g.height - down) (blank_row g.width))
+IsSheet-come g height down i a h = record {
+  count = λ _. simp (length-append, length-replicate, length-map, length-drop) (omega (arith, i.sheet.count a));
+  each = IsRowOf-append g.width (rows_back g down ++ g.rows) (replicate (height - g.height - down) (blank_row g.width))
+      (IsRowOf-append g.width (rows_back g down) g.rows (IsRowOf-back g down i) i.sheet.each) (IsRowOf-blanks g.width (height - g.height - down) i.few_cols);
+  last = last-row g height down i a h;
+}
+
+IsSheet-none : (height width : ℕ) → IsSheet height width []
+IsSheet-none height width = record { count = λ l. absurd (omega arith); each = λ r l. absurd (omega arith); last = refl }
+
+some-rows : (n : ℕ) → (n == 0) ≡ false → 0 < n
+some-rows n e = grind (arith, nat_tests)
+
+IsSheet-lengthened : (g : GridView) (height : ℕ) → IsGrid g → g.height ≤ height → IsSheet height g.width (lengthened g height).rows
+IsSheet-lengthened g height i h =
+    let down = down_rows g height in
+    cond_both (length g.rows == 0) [] (rows_back g down ++ g.rows ++ replicate (height - g.height - down) (blank_row g.width)) (λ (xs : List RowView). IsSheet height g.width xs)
+    (λ _. IsSheet-none height g.width) (λ e. IsSheet-come g height down i (some-rows (length g.rows) e) (omega arith))
+
+-- ---- what is true of the grid
+
+IsKept-fewer : (k : KeptPart) (down : ℕ) → IsKept k → k.offset ≡ 0 → IsKept (record k { rows = take (length k.rows - down) k.rows; scrolled_off = k.scrolled_off - down })
+IsKept-fewer k down i off =
+    let n : length (take (length k.rows - down) k.rows) ≡ length k.rows - down = length-take-le (length k.rows - down) k.rows (omega arith) in
+    record {
+      each = λ j l. rw (get_or-take (length k.rows - down) k.rows j (blank_row 0) (omega arith)) (i.each j (omega arith));
+      fits = omega (arith, i.fits);
+      counted = omega (arith, i.counted);
+      offset = omega (arith, off);
+      none = λ e. ((i.none e).0, omega (arith, (i.none e).1));
+    }
+
+none-yet : (g : GridView) (height : ℕ) → length (lengthened g height).rows ≡ 0 → length g.rows ≡ 0
+none-yet g height =
+    let down = down_rows g height in
+    cond_both (length g.rows == 0) [] (rows_back g down ++ g.rows ++ replicate (height - g.height - down) (blank_row g.width)) (λ (xs : List RowView). length xs ≡ 0 → length g.rows ≡ 0)
+    (λ e _. eqb-true (length g.rows) 0 e)
+    (λ _ z. omega (arith, length-append (rows_back g down ++ g.rows) (replicate (height - g.height - down) (blank_row g.width)), length-append (rows_back g down) g.rows))
+
+pub IsGrid-lengthened : (g : GridView) (height : ℕ) → IsGrid g → g.height ≤ height → height < 2 ^ 16 → g.top ≡ 0 → g.kept.offset ≡ 0 → IsGrid (lengthened g height)
+IsGrid-lengthened g height i h small top off = record {
+  sheet = IsSheet-lengthened g height i h;
+  some_rows = omega (arith, i.some_rows);
+  some_cols = i.some_cols;
+  few_rows = small;
+  few_cols = i.few_cols;
+  cursor_row = omega (arith, i.cursor_row);
+  cursor_col = i.cursor_col;
+  saved_row = omega (arith, i.saved_row);
+  saved_col = i.saved_col;
+  region = omega (arith, top);
+  region_end = omega (arith, i.some_rows);
+  region_lines = λ e. omega (arith, i.some_rows);
+  kept = IsKept-fewer g.kept (down_rows g height) i.kept off;
+  shown = IsShownWide-none (lengthened g height).kept height g.width off;
+  fresh_row = λ z. omega (arith, i.fresh_row (none-yet g height z), i.fresh_kept (none-yet g height z));
+  fresh_saved_row = λ z. omega (arith, i.fresh_saved_row (none-yet g height z), i.fresh_kept (none-yet g height z));
+  fresh_kept = λ z. omega (arith, i.fresh_kept (none-yet g height z));
+}

@@ -9,8 +9,8 @@ use std::collections::VecDeque;
 use vt100_forms::GridError;
 use vt100_rows::Row;
 
-/// Puts `down` rows above the others, and `below` blank ones under them. Above come the newest of the kept rows, made as
-/// wide as `width`, and where they are too few, blank ones above them.
+/// Puts `down` rows above the others and `below` blank ones under them. The newest kept rows come back, each with `width`
+/// columns, and blank ones above them where too few were kept.
 pub(crate) fn bring_back(
     rows: &mut Vec<Row>,
     kept: &mut VecDeque<Row>,

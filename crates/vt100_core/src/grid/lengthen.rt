@@ -31,8 +31,9 @@ impl Grid {
             )?;
         }
         self.scrollback.unbounded_len -= down;
-        self.pos.row += down as u16;
-        self.saved_pos.row += down as u16;
+        let lines = down as u16;
+        self.pos.row += lines;
+        self.saved_pos.row += lines;
         self.scroll_bottom = rows.get() - 1;
         self.size.rows = rows;
         Ok(())
