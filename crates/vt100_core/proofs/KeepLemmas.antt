@@ -138,7 +138,7 @@ grown-wide_shorter v width l =
 grown-wide_longer : (v : RowView) (width : ℕ) → width ≤ length v.cells → width ≤ length (grown v width default_cell).cells
 grown-wide_longer v width l = wide_along (grown v width default_cell) v width (grown-longer v width l) l
 
-grown-wide : (v : RowView) (width : ℕ) → width ≤ length (grown v width default_cell).cells
+pub grown-wide : (v : RowView) (width : ℕ) → width ≤ length (grown v width default_cell).cells
 grown-wide v width =
     ⊎_elim (λ (l : length v.cells < width). grown-wide_shorter v width l) (λ (l : width ≤ length v.cells). grown-wide_longer v width l) (cases_lt (length v.cells) width)
 

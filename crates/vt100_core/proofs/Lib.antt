@@ -7,4 +7,5 @@ pub mod SinkLemmas
 pub mod KeepLemmas
 pub mod ScrollLemmas
 pub mod TextLemmas
+pub mod ResizeLemmas
 pub mod LengthenLemmas

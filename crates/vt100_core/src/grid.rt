@@ -5,6 +5,7 @@ mod cursor;
 mod erase;
 mod lengthen;
 mod lines;
+mod resize;
 mod scroll;
 mod show;
 mod text;

@@ -7,6 +7,7 @@ pub mod printed;
 pub mod row_sink;
 mod rows_back;
 mod rows_edit;
+mod rows_resize;
 pub mod scrollback;
 pub mod size;
 pub mod visible_rows;

@@ -2,6 +2,8 @@
 ghost use Rattle.std.specs.Prelude.{IfOk, ◌<◌, length};
 ghost use Rattle.vt100_core.specs.Grid.{IsAllocated};
 
+mod resize;
+
 use super::*;
 use crate::attrs::Attrs;
 use std::alloc::Global;

@@ -1,5 +1,5 @@
 //! A higher screen.
-ghost use Rattle.std.specs.Prelude.{◌≡◌, ℕ, ◌+◌, ◌-◌, ◌<◌, ◌≤◌, OnOk};
+ghost use Rattle.std.specs.Prelude.{◌≡◌, ℕ, ◌+◌, ◌-◌, ◌<◌, ◌≤◌, OnOk, OnErr};
 
 use crate::grid::Grid;
 use crate::rows_back::bring_back;
@@ -18,6 +18,7 @@ impl Grid {
         requires whole { self.old.top ≡ 0 }
         requires hidden { self.old.kept.offset ≡ 0 }
         ensures grid { OnOk result (self.new ≡ lengthened self.old rows.value) }
+        ensures rows { OnErr result (self.new.rows ≡ self.old.rows) }
     {
         let added = usize::from(rows.get() - self.size.rows());
         let down = self.scrollback.unbounded_len.min(added);

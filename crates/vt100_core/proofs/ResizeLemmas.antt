@@ -1,0 +1,330 @@
+-- Another size of the screen.
+use Rattle.std.proofs.Common.{◌≡◌, ℕ, ◌+◌, ◌-◌, ◌^◌, ◌<◌, ◌≤◌, ◌==◌, Bool, true, false, cond, not, ◌&&◌, List, [], ◌++◌, length, set, take, drop, map, min, refl, sym, ap, ◌∙◌, arith, length-set, length-take, length-append, replicate, nat_lt, nat_le, ⊎_elim, subst}
+use Rattle.std.proofs.lemmas.Bool.{cond_both, cases_lt, eq-eqb}
+use Rattle.std.proofs.lemmas.Bool.Decides.{nat_tests}
+use Rattle.std.proofs.lemmas.List.{places, append-nil}
+use Rattle.std.proofs.Math.Seq.{drop-nil, take-nil}
+use Rattle.vt100_forms.specs.Attrs.{default_attrs}
+use Rattle.vt100_rows.specs.Cell.{default_cell}
+use Rattle.vt100_rows.specs.Line.{cut, extended}
+use Rattle.vt100_rows.specs.Row.{RowView, blank_row, cell_at, by_position, truncated, grown, resized_row, trimmed, unwrapped}
+use Rattle.vt100_rows.proofs.RowLemmas.{IsRow-truncated, IsRow-resized}
+use Rattle.vt100_rows.proofs.CellLemmas.{IsCell-empty}
+use Rattle.vt100_rows.proofs.ListLemmas.{length-by_position}
+use Rattle.vt100_core.specs.Sheet.{row_at, rows_by_position, IsRowOf, IsSheet, changed_between, moved_up}
+use Rattle.vt100_core.specs.Resize.{first_rows, whole_screen, up_rows, shortened, with_width, down_rows, rows_back, lengthened, resized}
+use Rattle.vt100_core.specs.Grid.{KeptPart, GridView, IsGrid, IsAllocated}
+use Rattle.vt100_core.specs.Scroll.{Scrolled, widened, overflow, kept_after, pushed_out, up_count, left_rows, is_kept_from, scrolled_up}
+use Rattle.vt100_core.proofs.SheetLemmas.{row_at-set, row_at-by_position, rows_by_position_is, length-rows_by_position, IsSheet-by_position, rows_equal, row_at_past}
+use Rattle.vt100_core.proofs.MoveLemmas.{IsRowOf-unwrapped, IsRowOf-cond, wrapped-cond}
+use Rattle.vt100_core.proofs.KeepLemmas.{IsRow-grown_default, grown-wide, IsShownWide-none}
+
+-- ---- fewer rows
+
+first-read : (rows : List RowView) (height k : ℕ) → k < min height (length rows) → row_at (take height rows) k ≡ row_at rows k
+first-read rows height k h = grind (arith, places)
+
+first-marked : (rows : List RowView) (height k : ℕ) (v : RowView) → 0 < height → v ≡ unwrapped (row_at rows (height - 1)) → cond (k == (height - 1)) v (row_at rows k) ≡ first_rows rows height k
+first-marked rows height k v h e = grind (arith, nat_tests)
+
+first-whole : (rows : List RowView) (height k : ℕ) → k < length rows → length rows < height → row_at rows k ≡ first_rows rows height k
+first-whole rows height k h l = grind (arith, nat_tests)
+
+pub firsts : (rows ys ws : List RowView) (height at : ℕ) (v : RowView) → 0 < height → height ≤ length rows → ys ≡ take height rows → at ≡ height - 1 → v ≡ unwrapped (row_at ys at) → ws ≡ set ys at v
+    → ws ≡ rows_by_position (min height (length rows)) (first_rows rows height)
+firsts rows ys ws height at v h l ey ea ev ew =
+    let n : length ys ≡ min height (length rows) = ap length ey ∙ simp length-take (omega arith) in
+    rows_by_position_is (min height (length rows)) (first_rows rows height) ws (ap length ew ∙ length-set ys at v ∙ n)
+    (λ k m. ap (λ vs. row_at vs k) ew ∙ row_at-set ys at v k (omega arith)
+    ∙ ap (λ j. cond (k == j) v (row_at ys k)) ea ∙ ap (λ x. cond (k == (height - 1)) v x) (ap (λ vs. row_at vs k) ey ∙ first-read rows height k m)
+    ∙ first-marked rows height k v h (ev ∙ ap (λ j. unwrapped (row_at ys j)) ea ∙ ap unwrapped (ap (λ vs. row_at vs (height - 1)) ey ∙ first-read rows height (height - 1) (omega arith))))
+
+pub firsts-all : (rows ys : List RowView) (height : ℕ) → length rows < height → ys ≡ take height rows → ys ≡ rows_by_position (min height (length rows)) (first_rows rows height)
+firsts-all rows ys height l ey =
+    let n : length ys ≡ min height (length rows) = ap length ey ∙ simp length-take (omega arith) in
+    rows_by_position_is (min height (length rows)) (first_rows rows height) ys n
+    (λ k m. ap (λ vs. row_at vs k) ey ∙ first-read rows height k m ∙ first-whole rows height k (omega arith) l)
+
+-- ---- another width
+
+not-below : (m n : ℕ) → nat_lt m n ≡ false → m ≤ n → m ≡ n
+not-below m n e h = grind (arith, nat_tests)
+
+lt_ltb : (m n : ℕ) → m < n → nat_lt m n ≡ true
+lt_ltb m n h = grind (arith, nat_tests)
+
+not-less : (m n : ℕ) → n ≤ m → nat_lt m n ≡ false
+not-less m n h = grind (arith, nat_tests)
+
+is-below : (m n : ℕ) → nat_lt m n ≡ true → m ≤ n
+is-below m n e = grind (arith, nat_tests)
+
+is-above : (m n : ℕ) → nat_lt m n ≡ false → n ≤ m
+is-above m n e = grind (arith, nat_tests)
+
+length-truncated : (v : RowView) (n : ℕ) → n ≤ length v.cells → length (truncated v n).cells ≡ n
+length-truncated v n h = length-by_position (min n (length v.cells)) (cut (min n (length v.cells)) (cell_at v.cells)) ∙ omega arith
+
+length-grown : (v : RowView) (n : ℕ) → length v.cells ≤ n → length (grown v n default_cell).cells ≡ n
+length-grown v n h =
+    cond_both (nat_lt (length v.cells) n) (record { cells = by_position n (extended (length v.cells) (cell_at v.cells) default_cell); wrapped = false }) v (λ (x : RowView). length x.cells ≡ n)
+    (λ _. length-by_position n (extended (length v.cells) (cell_at v.cells) default_cell)) (λ e. not-below (length v.cells) n e h)
+
+length-resized : (v : RowView) (n : ℕ) → length (resized_row v n default_cell).cells ≡ n
+length-resized v n =
+    cond_both (nat_lt n (length v.cells)) (truncated v n) (grown v n default_cell) (λ (x : RowView). length x.cells ≡ n)
+    (λ e. length-truncated v n (is-below n (length v.cells) e)) (λ e. length-grown v n (is-above n (length v.cells) e))
+
+pub IsRowOf-resized : (from to : ℕ) (v : RowView) → IsRowOf from v → to < 2 ^ 16 → IsRowOf to (resized_row v to default_cell)
+IsRowOf-resized from to v r h = record { row = IsRow-resized v to default_cell r.row (IsCell-empty default_attrs) refl refl h; wide = length-resized v to }
+
+all-read : (f : RowView → RowView) (rows : List RowView) (k : ℕ) → k < length rows → changed_between f rows 0 (length rows) k ≡ f (row_at rows k)
+all-read f rows k h = grind (arith, nat_tests)
+
+pub changes-all : (f : RowView → RowView) (rows ws : List RowView) (n : ℕ) → length ws ≡ length rows → n ≡ length rows → ((k : ℕ) → row_at ws k ≡ changed_between f rows 0 n k)
+    → ws ≡ rows_by_position (length rows) (λ r. f (row_at rows r))
+changes-all f rows ws n l e read =
+    rows_by_position_is (length rows) (λ r. f (row_at rows r)) ws l
+    (λ k h. read k ∙ ap (λ m. changed_between f rows 0 m k) e ∙ all-read f rows k h)
+
+rows_alike : (n : ℕ) (f g : ℕ → RowView) → ((k : ℕ) → k < n → f k ≡ g k) → rows_by_position n f ≡ rows_by_position n g
+rows_alike n f g e = rows_by_position_is n g (rows_by_position n f) (length-rows_by_position n f) (λ k h. row_at-by_position n f k h ∙ e k h)
+
+resized-shorter : (v : RowView) (to : ℕ) → to < length v.cells → truncated v to ≡ resized_row v to default_cell
+resized-shorter v to h = ap (λ b. cond b (truncated v to) (grown v to default_cell)) (sym (lt_ltb to (length v.cells) h))
+
+resized-longer : (v : RowView) (to : ℕ) → length v.cells ≤ to → grown v to default_cell ≡ resized_row v to default_cell
+resized-longer v to h = ap (λ b. cond b (truncated v to) (grown v to default_cell)) (sym (not-less to (length v.cells) h))
+
+pub narrows : (rows : List RowView) (from to : ℕ) → IsSheet (length rows) from rows → to < from
+    → rows_by_position (length rows) (changed_between (λ v. truncated v to) rows 0 (length rows)) ≡ rows_by_position (length rows) (λ r. resized_row (row_at rows r) to default_cell)
+narrows rows from to i h =
+    rows_alike (length rows) (changed_between (λ v. truncated v to) rows 0 (length rows)) (λ r. resized_row (row_at rows r) to default_cell)
+    (λ k l. all-read (λ v. truncated v to) rows k l ∙ resized-shorter (row_at rows k) to (omega (arith, (i.each k l).wide)))
+
+pub widens : (rows : List RowView) (from to : ℕ) → IsSheet (length rows) from rows → from ≤ to
+    → rows_by_position (length rows) (λ r. grown (row_at rows r) to default_cell) ≡ rows_by_position (length rows) (λ r. resized_row (row_at rows r) to default_cell)
+widens rows from to i h =
+    rows_alike (length rows) (λ r. grown (row_at rows r) to default_cell) (λ r. resized_row (row_at rows r) to default_cell)
+    (λ k l. resized-longer (row_at rows k) to (omega (arith, (i.each k l).wide)))
+
+-- ---- back to the width that the rows had
+
+left_alone : (rows : List RowView) (r k : ℕ) (v : RowView) → v ≡ row_at rows r → cond (k == r) v (row_at rows k) ≡ row_at rows k
+left_alone rows r k v e = grind (arith, nat_tests)
+
+pub same_read : (rows : List RowView) (r : ℕ) (v : RowView) → r < length rows → v ≡ row_at rows r → (k : ℕ) → row_at (set rows r v) k ≡ row_at rows k
+same_read rows r v h e k = row_at-set rows r v k h ∙ left_alone rows r k v e
+
+changed-in : (f : RowView → RowView) (rows : List RowView) (end k : ℕ) → (nat_le 0 k && nat_lt k end) ≡ true → changed_between f rows 0 end k ≡ f (row_at rows k)
+changed-in f rows end k e = ap (λ b. cond b (f (row_at rows k)) (row_at rows k)) e
+
+changed-out : (f : RowView → RowView) (rows : List RowView) (end k : ℕ) → (nat_le 0 k && nat_lt k end) ≡ false → changed_between f rows 0 end k ≡ row_at rows k
+changed-out f rows end k e = ap (λ b. cond b (f (row_at rows k)) (row_at rows k)) e
+
+IsRowOf-back : (from to : ℕ) (v w : RowView) → IsRowOf from v → from ≤ to → to < 2 ^ 16 → w ≡ grown v to default_cell → IsRowOf from (truncated w from)
+IsRowOf-back from to v w r h small e = record {
+  row = IsRow-truncated w from (rw e (IsRow-grown_default v to r.row small));
+  wide = length-truncated w from (rw e (omega (arith, grown-wide v to)));
+}
+
+pub IsSheet-back : (rows ys ws : List RowView) (from to end : ℕ) → IsSheet (length rows) from rows → from ≤ to → to < 2 ^ 16 → length ys ≡ length rows
+    → ((k : ℕ) → row_at ys k ≡ changed_between (λ v. grown v to default_cell) rows 0 end k)
+    → ws ≡ rows_by_position (length ys) (changed_between (λ v. truncated v from) ys 0 end) → IsSheet (length rows) from ws
+IsSheet-back rows ys ws from to end i h small l read e =
+    let f : ℕ → RowView = changed_between (λ v. truncated v from) ys 0 end in
+    let ew : ws ≡ rows_by_position (length rows) f = e ∙ ap (λ n. rows_by_position n f) l in
+    ⊎_elim
+    (λ (some : 0 < length rows). rw ew (IsSheet-by_position (length rows) from (length rows) f some i.count
+    (λ r m. IsRowOf-cond (nat_le 0 r && nat_lt r end) from (truncated (row_at ys r) from) (row_at ys r)
+    (λ b. IsRowOf-back from to (row_at rows r) (row_at ys r) (i.each r m) h small (read r ∙ changed-in (λ v. grown v to default_cell) rows end r b))
+    (λ b. rw (read r ∙ changed-out (λ v. grown v to default_cell) rows end r b) (i.each r m)))
+    (λ m. wrapped-cond (nat_le 0 (length rows - 1) && nat_lt (length rows - 1) end) (truncated (row_at ys (length rows - 1)) from) (row_at ys (length rows - 1)) (λ _. refl)
+    (λ b. ap (λ (v : RowView). v.wrapped) (read (length rows - 1) ∙ changed-out (λ v. grown v to default_cell) rows end (length rows - 1) b) ∙ i.last))))
+    (λ (none : length rows ≤ 0). subst (λ (xs : List RowView). IsSheet (length rows) from xs)
+    (rows_equal rows ws (sym (ap length ew ∙ length-rows_by_position (length rows) f)) (λ k m. absurd (omega arith))) i)
+    (cases_lt 0 (length rows))
+
+-- ---- as many rows as there are
+
+IsSheet-none : (height width : ℕ) (rows : List RowView) → length rows ≤ 0 → IsSheet height width rows
+IsSheet-none height width rows h = record {
+  count = λ l. absurd (omega arith);
+  each = λ r l. absurd (omega arith);
+  last = ap (λ (v : RowView). v.wrapped) (row_at_past rows (height - 1) (omega arith));
+}
+
+-- the height counts only where there are rows
+pub IsSheet-height_as : (height other width : ℕ) (rows : List RowView) → (0 < length rows → height ≡ other) → IsSheet height width rows → IsSheet other width rows
+IsSheet-height_as height other width rows e i =
+    ⊎_elim (λ (l : 0 < length rows). subst (λ n. IsSheet n width rows) (e l) i) (λ (l : length rows ≤ 0). IsSheet-none other width rows l) (cases_lt 0 (length rows))
+
+-- ---- what is true of a grid stays true
+
+first-last : (rows : List RowView) (height : ℕ) → 0 < height → (first_rows rows height (height - 1)).wrapped ≡ false
+first-last rows height h =
+    let last : (height - 1 + 1) ≡ height = omega arith in
+    ap (λ b. (cond b (unwrapped (row_at rows (height - 1))) (row_at rows (height - 1))).wrapped) (eq-eqb (height - 1 + 1) height last)
+
+IsSheet-shortened : (height from width : ℕ) (rows : List RowView) → IsSheet from width rows → 0 < height → height < from → IsSheet height width (rows_by_position (min height (length rows)) (first_rows rows height))
+IsSheet-shortened height from width rows i some lower =
+    IsSheet-by_position height width (min height (length rows)) (first_rows rows height) some (λ l. omega (arith, i.count (omega arith)))
+    (λ r l. let row = i.each r (omega arith) in
+    IsRowOf-cond ((r + 1) == height) width (unwrapped (row_at rows r)) (row_at rows r) (λ _. IsRowOf-unwrapped width (row_at rows r) row) (λ _. row))
+    (λ _. first-last rows height some)
+
+pub IsGrid-shortened : (g : GridView) (up height : ℕ) → IsGrid g → 0 < height → height < g.height → g.row - up < height → g.top ≡ 0 → g.kept.offset ≡ 0 → IsGrid (shortened g up height)
+IsGrid-shortened g up height i some lower above top hidden =
+    let n = length-rows_by_position (min height (length g.rows)) (first_rows g.rows height) in
+    let none : length (rows_by_position (min height (length g.rows)) (first_rows g.rows height)) ≡ 0 → length g.rows ≡ 0 = λ z. omega (arith, n) in
+    record {
+      sheet = IsSheet-shortened height g.height g.width g.rows i.sheet some lower;
+      some_rows = some;
+      some_cols = i.some_cols;
+      few_rows = omega (arith, i.few_rows);
+      few_cols = i.few_cols;
+      cursor_row = above;
+      cursor_col = i.cursor_col;
+      saved_row = omega arith;
+      saved_col = i.saved_col;
+      region = omega (arith, top);
+      region_end = omega arith;
+      region_lines = λ e. omega (arith, top);
+      kept = i.kept;
+      shown = IsShownWide-none g.kept height g.width hidden;
+      fresh_row = λ z. omega (arith, i.fresh_row (none z));
+      fresh_saved_row = λ z. omega (arith, i.fresh_saved_row (none z));
+      fresh_kept = λ z. i.fresh_kept (none z);
+    }
+
+resized-unwrapped : (v : RowView) (width : ℕ) → v.wrapped ≡ false → (resized_row v width default_cell).wrapped ≡ false
+resized-unwrapped v width e =
+    wrapped-cond (nat_lt width (length v.cells)) (truncated v width) (grown v width default_cell) (λ _. refl)
+    (λ _. wrapped-cond (nat_lt (length v.cells) width) (record { cells = by_position width (extended (length v.cells) (cell_at v.cells) default_cell); wrapped = false }) v (λ _. refl) (λ _. e))
+
+IsSheet-resized : (height from width : ℕ) (rows : List RowView) → IsSheet height from rows → 0 < height → width < 2 ^ 16 → IsSheet height width (rows_by_position (length rows) (λ r. resized_row (row_at rows r) width default_cell))
+IsSheet-resized height from width rows i some small =
+    IsSheet-by_position height width (length rows) (λ r. resized_row (row_at rows r) width default_cell) some i.count
+    (λ r l. IsRowOf-resized from width (row_at rows r) (i.each r l) small)
+    (λ _. resized-unwrapped (row_at rows (height - 1)) width i.last)
+
+pub IsGrid-with_width : (g : GridView) (width : ℕ) → IsGrid g → 0 < width → width < 2 ^ 16 → g.kept.offset ≡ 0 → IsGrid (with_width g width)
+IsGrid-with_width g width i some small hidden =
+    let n = length-rows_by_position (length g.rows) (λ r. resized_row (row_at g.rows r) width default_cell) in
+    record {
+      sheet = IsSheet-resized g.height g.width width g.rows i.sheet i.some_rows small;
+      some_rows = i.some_rows;
+      some_cols = some;
+      few_rows = i.few_rows;
+      few_cols = small;
+      cursor_row = i.cursor_row;
+      cursor_col = omega arith;
+      saved_row = i.saved_row;
+      saved_col = omega arith;
+      region = i.region;
+      region_end = i.region_end;
+      region_lines = i.region_lines;
+      kept = i.kept;
+      shown = IsShownWide-none g.kept g.height width hidden;
+      fresh_row = λ z. i.fresh_row (sym n ∙ z);
+      fresh_saved_row = λ z. i.fresh_saved_row (sym n ∙ z);
+      fresh_kept = λ z. i.fresh_kept (sym n ∙ z);
+    }
+
+-- ---- no row scrolls off
+
+zero-min : (n : ℕ) → min 0 n ≡ 0
+zero-min n = omega arith
+
+stays-one : (rows : List RowView) (first end width m k : ℕ) → m ≡ 0 → row_at rows k ≡ moved_up rows first end m width k
+stays-one rows first end width m k e = grind (arith, nat_tests)
+
+stays : (rows : List RowView) (first end width m : ℕ) → m ≡ 0 → rows_by_position (length rows) (moved_up rows first end m width) ≡ rows
+stays rows first end width m e = sym (rows_by_position_is (length rows) (moved_up rows first end m width) rows refl (λ k h. stays-one rows first end width m k e))
+
+hidden-one : (f : RowView → RowView) (rows : List RowView) (offset height k : ℕ) → offset ≡ 0 → k < length rows
+    → row_at rows k ≡ changed_between f rows (length rows - offset) (length rows - offset + height) k
+hidden-one f rows offset height k e h = grind (arith, nat_tests)
+
+widened-none : (k : KeptPart) (height width : ℕ) → k.offset ≡ 0 → widened k height width ≡ k
+widened-none k height width e =
+    let f : RowView → RowView = λ v. grown v width default_cell in
+    let same = rows_by_position_is (length k.rows) (changed_between f k.rows (length k.rows - k.offset) (length k.rows - k.offset + height)) k.rows refl
+    (λ j h. hidden-one f k.rows k.offset height j e h) in
+    λ i. record k { rows = sym same i }
+
+overflow-none : (k : KeptPart) → length k.rows ≤ k.capacity → overflow k 0 ≡ 0
+overflow-none k h = omega arith
+
+kept_after-none : (k : KeptPart) → length k.rows ≤ k.capacity → k.offset ≡ 0 → k.scrolled_off < 2 ^ 64 → kept_after k [] ≡ k
+kept_after-none k h hidden small =
+    let rows : drop (overflow k 0) k.rows ++ map trimmed (drop (0 - min 0 k.capacity) []) ≡ k.rows =
+    ap (λ n. drop n k.rows ++ map trimmed (drop (0 - min 0 k.capacity) [])) (overflow-none k h)
+    ∙ ap (λ (xs : List RowView). k.rows ++ map trimmed xs) (drop-nil (0 - min 0 k.capacity)) ∙ append-nil k.rows in
+    let offset : cond (k.offset == 0) 0 (min (k.offset + 0) (length (drop (overflow k 0) k.rows ++ map trimmed (drop (0 - min 0 k.capacity) [])))) ≡ k.offset =
+    ap (λ b. cond b 0 (min (k.offset + 0) (length (drop (overflow k 0) k.rows ++ map trimmed (drop (0 - min 0 k.capacity) []))))) (eq-eqb k.offset 0 hidden) ∙ sym hidden in
+    let count : min (k.scrolled_off + 0) (2 ^ 64 - 1) ≡ k.scrolled_off = omega arith in
+    λ i. record k { rows = rows i; offset = offset i; scrolled_off = count i }
+
+left-none : (g : GridView) → left_rows g 0 ≡ []
+left-none g = ap (λ n. take n (drop g.top g.rows)) (zero-min (g.bottom + 1 - g.top))
+
+choice-same : {A : Type 0} (b : Bool) (x y : A) → x ≡ y → cond b x y ≡ y
+choice-same true x y e = e
+choice-same false x y e = refl
+
+pub scrolls-none : (g : GridView) → length g.kept.rows ≤ g.kept.capacity → g.kept.offset ≡ 0 → g.kept.scrolled_off < 2 ^ 64 → (scrolled_up g 0).grid ≡ g
+scrolls-none g h hidden small =
+    let rows = stays g.rows g.top (g.bottom + 1) g.width (up_count g 0) (zero-min (g.bottom + 1 - g.top)) in
+    let kept : cond (is_kept_from g) (widened (kept_after g.kept (left_rows g 0)) g.height g.width) g.kept ≡ g.kept =
+    choice-same (is_kept_from g) (widened (kept_after g.kept (left_rows g 0)) g.height g.width) g.kept
+    (ap (λ (xs : List RowView). widened (kept_after g.kept xs) g.height g.width) (left-none g)
+    ∙ ap (λ (k : KeptPart). widened k g.height g.width) (kept_after-none g.kept h hidden small) ∙ widened-none g.kept g.height g.width hidden) in
+    λ i. record g { rows = rows i; kept = kept i }
+
+pushed_out-none : (k : KeptPart) → length k.rows ≤ k.capacity → pushed_out k [] ≡ []
+pushed_out-none k h = ap (λ n. take n k.rows ++ take (0 - min 0 k.capacity) []) (overflow-none k h) ∙ take-nil (0 - min 0 k.capacity)
+
+pub sinks-none : (g : GridView) → length g.kept.rows ≤ g.kept.capacity → (scrolled_up g 0).sunk ≡ []
+sinks-none g h =
+    ap (λ (xs : List RowView). cond (not (g.top == 0)) [] (cond g.kept.keeps (pushed_out g.kept xs) xs)) (left-none g)
+    ∙ ap (λ (xs : List RowView). cond (not (g.top == 0)) [] xs) (choice-same g.kept.keeps (pushed_out g.kept []) [] (pushed_out-none g.kept h))
+    ∙ choice-same (not (g.top == 0)) [] [] refl
+
+-- ---- a lower screen
+
+abbrev lower_screen : GridView → ℕ → ℕ → Scrolled
+lower_screen g height width =
+    let up = up_rows g height in
+    let s = scrolled_up (whole_screen g) up in
+    record { grid = with_width (shortened s.grid up height) width; sunk = s.sunk }
+
+not-same : (m n : ℕ) (b : Bool) → m < n → ((m == n) && b) ≡ false
+not-same m n b h = grind (arith, nat_tests)
+
+resized-lower : (g : GridView) (height width : ℕ) → height < g.height → lower_screen g height width ≡ resized g height width
+resized-lower g height width h =
+    let same : Scrolled = record { grid = g; sunk = [] } in
+    let higher : Scrolled = record { grid = lengthened (with_width (whole_screen g) width) height; sunk = [] } in
+    sym (ap (λ b. cond b same (cond (nat_lt height g.height) (lower_screen g height width) higher)) (not-same height g.height (width == g.width) h)
+    ∙ ap (λ b. cond b (lower_screen g height width) higher) (lt_ltb height g.height h))
+
+pub lowers : (g s t u : GridView) (up height width : ℕ) → height < g.height → up ≡ up_rows g height → s ≡ (scrolled_up (whole_screen g) up).grid
+    → t ≡ shortened s up height → u ≡ with_width t width → u ≡ (resized g height width).grid
+lowers g s t u up height width h eup es et eu =
+    eu ∙ ap (λ (x : GridView). with_width x width) (et ∙ ap (λ (x : GridView). shortened x up height) es ∙ ap (λ n. shortened (scrolled_up (whole_screen g) n).grid n height) eup)
+    ∙ ap (λ (x : Scrolled). x.grid) (resized-lower g height width h)
+
+pub lowers-sunk : (g : GridView) (up height width : ℕ) → height < g.height → up ≡ up_rows g height → (scrolled_up (whole_screen g) up).sunk ≡ (resized g height width).sunk
+lowers-sunk g up height width h eup = ap (λ n. (scrolled_up (whole_screen g) n).sunk) eup ∙ ap (λ (x : Scrolled). x.sunk) (resized-lower g height width h)
+
+pub some-shortened : (g h : GridView) (up height : ℕ) → h ≡ shortened g up height → 0 < height → IsAllocated g → IsAllocated h
+some-shortened g h up height e some a =
+    let n : length h.rows ≡ min height (length g.rows) = ap (λ (x : GridView). length x.rows) e ∙ length-rows_by_position (min height (length g.rows)) (first_rows g.rows height) in
+    omega (arith, n)
+
+more-rows : (rows back below : List RowView) → 0 < length rows → 0 < length (cond (length rows == 0) [] (back ++ rows ++ below))
+more-rows rows back below h = grind (arith, nat_tests, length-append)
+
+pub some-lengthened : (g h : GridView) (height : ℕ) → h ≡ lengthened g height → IsAllocated g → IsAllocated h
+some-lengthened g h height e a = rw e (more-rows g.rows (rows_back g (down_rows g height)) (replicate (height - g.height - down_rows g height) (blank_row g.width)) a)

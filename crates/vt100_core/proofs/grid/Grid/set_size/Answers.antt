@@ -1,0 +1,76 @@
+use Rattle.std.proofs.Common.{arith, ap, refl, sym, subst, ◌∙◌, ◌≡◌, ◌<◌, ◌^◌, [], length}
+use Rattle.std.proofs.lemmas.Grind.{common_steps}
+use Rattle.vt100_core.specs.Grid.{GridView, IsGrid, IsAllocated}
+use Rattle.vt100_core.specs.Resize.{whole_screen, up_rows, resized}
+use Rattle.vt100_core.specs.Scroll.{scrolled_up}
+use Rattle.vt100_core.specs.Sink.{TakesAll}
+use Rattle.vt100_core.proofs.ResizeLemmas.{lowers, lowers-sunk, scrolls-none, sinks-none, some-shortened, some-lengthened}
+use Rattle.vt100_core.proofs.SinkLemmas.{TakesAll-list}
+use Rattle.vt100_core.proofs.grid.Grid.set_size.Goals.{then-up-gt0+in_ok-scroll_up, else-up-gt0}
+use Rattle.vt100_core.proofs.grid.Grid.set_size.Goals as goal
+
+pub returns-in_ok-set_width-clause-grid : goal.returns-in_ok-set_width-clause-grid
+returns-in_ok-set_width-clause-grid g c =
+    let s = c.args.self.now in
+    let up = c.saturating_sub-up.result in
+    let height = c.args.size.rows.value in
+    let valid : IsGrid s = rw (← c.self.view_is) c.self.invariant in
+    let whole : c.show_whole_screen.new.self ≡ whole_screen s = c.show_whole_screen.ensures in
+    let small : s.kept.scrolled_off < 2 ^ 64 = omega (arith, ap (λ (x : GridView). x.kept.scrolled_off) c.self.view_is) in
+    let above : c.if-up-gt0.self ≡ (scrolled_up (whole_screen s) up).grid =
+    elim c.if-up-gt0.branch [
+      | then-up-gt0+in_ok-scroll_up w ↦ w.self-is ∙ w.in_ok-scroll_up.ensures.grid ∙ ap (λ (x : GridView). (scrolled_up x up).grid) whole
+      | else-up-gt0 w ↦
+          let none : 0 ≡ up = omega arith in
+          w.self-is ∙ whole ∙ sym (scrolls-none (whole_screen s) valid.kept.fits refl small) ∙ ap (λ n. (scrolled_up (whole_screen s) n).grid) none
+    ] in
+    let lower : height < s.height = grind (arith, common_steps) in
+    let count : up ≡ up_rows s height = grind (arith, lower, common_steps) in
+    lowers s c.if-up-gt0.self c.shorten.new.self c.set_width.new.self up height c.args.size.cols.value lower count above c.shorten.ensures c.in_ok-set_width.ensures.grid
+
+pub returns-in_ok-set_width-clause-sink : goal.returns-in_ok-set_width-clause-sink
+returns-in_ok-set_width-clause-sink g c =
+    let s = c.args.self.now in
+    let up = c.saturating_sub-up.result in
+    let height = c.args.size.rows.value in
+    let valid : IsGrid s = rw (← c.self.view_is) c.self.invariant in
+    let whole : c.show_whole_screen.new.self ≡ whole_screen s = c.show_whole_screen.ensures in
+    let lower : height < s.height = grind (arith, common_steps) in
+    let count : up ≡ up_rows s height = grind (arith, lower, common_steps) in
+    let taken : TakesAll g.S.RowSink.takes c.args.sink.now (scrolled_up (whole_screen s) up).sunk c.if-up-gt0.sink =
+    elim c.if-up-gt0.branch [
+      | then-up-gt0+in_ok-scroll_up w ↦
+          subst (λ t. TakesAll g.S.RowSink.takes c.args.sink.now (scrolled_up (whole_screen s) up).sunk t) (sym w.sink-is)
+          (TakesAll-list g.S.RowSink.takes c.args.sink.now w.scroll_up.new.sink (scrolled_up c.show_whole_screen.new.self up).sunk (scrolled_up (whole_screen s) up).sunk
+          (ap (λ (x : GridView). (scrolled_up x up).sunk) whole) w.in_ok-scroll_up.ensures.sink)
+      | else-up-gt0 w ↦
+          let none : 0 ≡ up = omega arith in
+          TakesAll-list g.S.RowSink.takes c.args.sink.now c.if-up-gt0.sink [] (scrolled_up (whole_screen s) up).sunk
+          (sym (sinks-none (whole_screen s) valid.kept.fits) ∙ ap (λ n. (scrolled_up (whole_screen s) n).sunk) none) (sym w.sink-is)
+    ] in
+    TakesAll-list g.S.RowSink.takes c.args.sink.now c.if-up-gt0.sink (scrolled_up (whole_screen s) up).sunk (resized s height c.args.size.cols.value).sunk
+    (lowers-sunk s up height c.args.size.cols.value lower count) taken
+
+pub returns-in_ok-set_width-clause-allocated : goal.returns-in_ok-set_width-clause-allocated
+returns-in_ok-set_width-clause-allocated g c some =
+    let scrolled : IsAllocated c.if-up-gt0.self =
+    elim c.if-up-gt0.branch [
+      | then-up-gt0+in_ok-scroll_up w ↦ subst (λ (x : GridView). IsAllocated x) (sym w.self-is) w.scroll_up.ensures.allocated
+      | else-up-gt0 w ↦ subst (λ (x : GridView). IsAllocated x) (sym (w.self-is ∙ c.show_whole_screen.ensures)) some
+    ] in
+    omega (arith, c.set_width.ensures.count, some-shortened c.if-up-gt0.self c.shorten.new.self c.saturating_sub-up.result c.args.size.rows.value c.shorten.ensures (omega arith) scrolled)
+
+pub returns-in_err-set_width-clause-allocated : goal.returns-in_err-set_width-clause-allocated
+returns-in_err-set_width-clause-allocated g c some =
+    let scrolled : IsAllocated c.if-up-gt0.self =
+    elim c.if-up-gt0.branch [
+      | then-up-gt0+in_ok-scroll_up w ↦ subst (λ (x : GridView). IsAllocated x) (sym w.self-is) w.scroll_up.ensures.allocated
+      | else-up-gt0 w ↦ subst (λ (x : GridView). IsAllocated x) (sym (w.self-is ∙ c.show_whole_screen.ensures)) some
+    ] in
+    omega (arith, c.set_width.ensures.count, some-shortened c.if-up-gt0.self c.shorten.new.self c.saturating_sub-up.result c.args.size.rows.value c.shorten.ensures (omega arith) scrolled)
+
+pub returns-in_ok-lengthen-clause-allocated : goal.returns-in_ok-lengthen-clause-allocated
+returns-in_ok-lengthen-clause-allocated g c some =
+    let before : IsAllocated c.set_width-else-lt.new.self =
+    omega (arith, c.set_width-else-lt.ensures.count, ap (λ (x : GridView). length x.rows) c.show_whole_screen.ensures) in
+    some-lengthened c.set_width-else-lt.new.self c.lengthen.new.self c.args.size.rows.value c.in_ok-lengthen.ensures.grid before

@@ -1,0 +1,87 @@
+//! Another size of the screen.
+ghost use Rattle.std.specs.Prelude.{◌≡◌, ℕ, ◌+◌, ◌-◌, ◌<◌, ◌≤◌, ◌==◌, length, OnOk};
+ghost use Rattle.vt100_core.specs.Sink.{TakesAll};
+
+use crate::grid::Grid;
+use crate::row_sink::RowSink;
+use crate::rows_resize::{keep_first, resize_rows};
+use crate::size::Size;
+use std::num::NonZeroU16;
+use vt100_forms::GridError;
+
+impl Grid {
+    ghost use Rattle.vt100_core.specs.Grid.{GridView, IsAllocated};
+    ghost use Rattle.vt100_core.specs.Resize.{whole_screen, shortened, with_width, resized};
+
+    /// Gives the screen another size. The scroll region becomes the whole screen, and no kept row is shown.
+    ///
+    /// Of a lower screen the rows below the cursor go first, and the sink isn't given them; then rows scroll off at its
+    /// top, as [`scroll_up`](Self::scroll_up) says. On a higher one as many rows come back at the top as have scrolled
+    /// off, at most those that are added, and blank where they weren't kept; blank ones follow at the bottom. The cursors
+    /// go with their rows, and stay on the screen. A row of another width isn't wrapped any more. The size that the screen
+    /// has already changes nothing.
+    ///
+    /// After a refusal the grid is whole, but what it shows is open.
+    pub fn set_size<S: RowSink>(&mut self, size: Size, sink: &mut S) -> Result<(), GridError>
+        ensures grid { OnOk result (self.new ≡ (resized self.old size.rows.value size.cols.value).grid) }
+        ensures sink { OnOk result (TakesAll S.takes sink.old (resized self.old size.rows.value size.cols.value).sunk sink.new) }
+        ensures allocated { IsAllocated self.old → IsAllocated self.new }
+    {
+        if size == self.size {
+            return Ok(());
+        }
+        self.show_whole_screen();
+        if size.rows < self.size.rows {
+            let under = self.size.rows() - 1 - self.pos.row;
+            let up = (self.size.rows() - size.rows()).saturating_sub(under);
+            if up > 0 {
+                self.scroll_up(up, sink)?;
+            }
+            self.shorten(up, size.rows);
+            self.set_width(size.cols)?;
+        } else {
+            self.set_width(size.cols)?;
+            self.lengthen(size.rows)?;
+        }
+        Ok(())
+    }
+
+    /// Makes the scroll region the whole screen, and shows no kept row.
+    fn show_whole_screen(&mut self)
+        ensures { self.new ≡ whole_screen self.old }
+    {
+        self.scroll_top = 0;
+        self.scroll_bottom = self.size.rows() - 1;
+        self.scrollback.offset = 0;
+    }
+
+    /// Keeps the first rows alone, after `up` others have scrolled off.
+    fn shorten(&mut self, up: u16, rows: NonZeroU16)
+        requires lower { rows.value < self.old.height }
+        requires above { self.old.row - up < rows.value }
+        requires whole { self.old.top ≡ 0 }
+        requires hidden { self.old.kept.offset ≡ 0 }
+        ensures { self.new ≡ shortened self.old up rows.value }
+    {
+        keep_first(&mut self.rows, rows.get());
+        let last_row = rows.get() - 1;
+        self.pos.row = self.pos.row.saturating_sub(up);
+        self.saved_pos.row = self.saved_pos.row.saturating_sub(up).min(last_row);
+        self.scroll_bottom = last_row;
+        self.size.rows = rows;
+    }
+
+    /// Gives every row so many columns. If there isn't memory for that they have as many as before.
+    fn set_width(&mut self, cols: NonZeroU16) -> Result<(), GridError>
+        requires hidden { self.old.kept.offset ≡ 0 }
+        ensures grid { OnOk result (self.new ≡ with_width self.old cols.value) }
+        ensures count { length self.new.rows ≡ length self.old.rows }
+    {
+        resize_rows(&mut self.rows, self.size.cols(), cols.get())?;
+        let last_col = cols.get() - 1;
+        self.pos.col = self.pos.col.min(last_col);
+        self.saved_pos.col = self.saved_pos.col.min(last_col);
+        self.size.cols = cols;
+        Ok(())
+    }
+}
