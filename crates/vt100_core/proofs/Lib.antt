@@ -2,6 +2,7 @@ pub mod SheetLemmas
 pub mod MoveLemmas
 pub mod GridLemmas
 pub mod ShowLemmas
+pub mod ContentsLemmas
 pub mod EraseLemmas
 pub mod SinkLemmas
 pub mod KeepLemmas

@@ -1,6 +1,7 @@
 //! A grid of rows with a cursor.
 ghost use Rattle.std.specs.Prelude.{◌≡◌, ℕ, ◌+◌, ◌-◌, ◌<◌, ◌≤◌, ◌==◌, List, [], length, true, false, OnOk, OnErr, IfOk};
 
+mod contents;
 mod cursor;
 mod erase;
 mod lengthen;

@@ -1,0 +1,100 @@
+-- The text that a grid shows: its lines one after another, and the newlines at the end of a text.
+use Rattle.std.proofs.Common.{◌≡◌, ℕ, suc, ◌+◌, ◌-◌, ◌<◌, ◌≤◌, ◌==◌, Bool, true, false, cond, ◌&&◌, nat_lt, List, [], ◌∷◌, ◌++◌, length, take, drop, get_or, refl, sym, ap, ◌∙◌, arith, append_assoc, append-nil, drop-cons, length-drop, take_all, take-take, length-take-le}
+use Rattle.std.specs.Prelude.{encode_utf8_all, encode_utf8}
+use Rattle.std.specs.List.{suffix_len}
+use Rattle.std.proofs.lemmas.Bool.Decides.{nat_tests}
+use Rattle.std.proofs.lemmas.Str.{encodes-append}
+use Rattle.std.proofs.lemmas.List.Sums.{suffix_len-take_yes, suffix_len-take_no, suffix_len-le-length}
+use Rattle.vt100_rows.specs.Row.{RowView, blank_row}
+use Rattle.vt100_rows.specs.Text.{written_text}
+use Rattle.vt100_core.specs.Grid.{GridView, visible, visible_at}
+use Rattle.vt100_core.specs.Contents.{is_below_wrapped, shown_line, shown_lines, newlines_cut}
+use Rattle.vt100_core.proofs.SheetLemmas.{row_at-by_position, length-rows_by_position}
+
+-- ---- the newlines at the end
+
+ends_in : (xs : List ℕ) → length xs ≤ length xs → suffix_len (λ c. c == 10) (take (length xs) xs) ≡ suffix_len (λ c. c == 10) xs
+ends_in xs h = ap (suffix_len (λ c. c == 10)) (take_all (length xs) xs h)
+
+-- one of them goes
+pub newlines_cut-one : (xs ys : List ℕ) → 0 < length xs → (get_or xs (length xs - 1) 0 == 10) ≡ true → ys ≡ take (length xs - 1) xs → newlines_cut ys ≡ newlines_cut xs
+newlines_cut-one xs ys some last e =
+    let p = λ (c : ℕ). c == 10 in
+    let n : length ys ≡ length xs - 1 = ap length e ∙ length-take-le (length xs - 1) xs (omega arith) in
+    let more : suffix_len p xs ≡ 1 + suffix_len p ys =
+    sym (ends_in xs (omega arith)) ∙ suffix_len-take_yes p xs (length xs) 0 some (omega arith) last ∙ ap (λ (zs : List ℕ). 1 + suffix_len p zs) (sym e) in
+    let within = suffix_len-le-length p ys in
+    let same : length ys - suffix_len p ys ≡ length xs - suffix_len p xs = omega arith in
+    ap (λ k. take k ys) same ∙ ap (take (length xs - suffix_len p xs)) e ∙ take-take (length xs - suffix_len p xs) (length xs - 1) xs (omega arith)
+
+-- there are none
+pub newlines_cut-none : (xs : List ℕ) → 0 < length xs → (get_or xs (length xs - 1) 0 == 10) ≡ false → newlines_cut xs ≡ xs
+newlines_cut-none xs some last =
+    let p = λ (c : ℕ). c == 10 in
+    let no : suffix_len p xs ≡ 0 = sym (ends_in xs (omega arith)) ∙ suffix_len-take_no p xs (length xs) 0 some (omega arith) last in
+    take_all (length xs - suffix_len p xs) xs (omega arith)
+
+-- ---- the loop over the rows
+
+-- n rows are written after `old`, and `left` are the others; `wrapping` says whether the last of the n goes on in the next
+pub record IsShown (g : GridView) (n : ℕ) (left : List RowView) (wrapping : Bool) (old now : List ℕ) : Type 0 where
+  pub rows : left ≡ drop n (visible g)
+  pub wraps : wrapping ≡ is_below_wrapped g n
+  pub bytes : now ≡ old ++ encode_utf8_all (shown_lines g n)
+  pub few : n ≤ length g.rows
+
+pub IsShown-start : (g : GridView) (left : List RowView) (old : List ℕ) → left ≡ visible g → IsShown g 0 left false old old
+IsShown-start g left old e = record { rows = e; wraps = refl; bytes = sym (append-nil old); few = omega arith }
+
+some-left : (rows left : List RowView) (n : ℕ) (v : RowView) → drop n rows ≡ v ∷ left → n < length rows
+some-left rows left n v e = let l = ap (λ (xs : List RowView). length xs) e in omega (arith, l, length-drop n rows)
+
+below-some : (n : ℕ) → nat_lt 0 (suc n) ≡ true
+below-some n = grind (arith, nat_tests)
+
+below-next : (g : GridView) (n : ℕ) → (visible_at g n).wrapped ≡ is_below_wrapped g (suc n)
+below-next g n =
+    let e : suc n - 1 ≡ n = omega arith in
+    ap (λ k. (visible_at g k).wrapped) (sym e) ∙ ap (λ b. b && (visible_at g (suc n - 1)).wrapped) (sym (below-some n))
+
+IsShown-at : (g : GridView) (n m : ℕ) (left : List RowView) (wrapping : Bool) (old now : List ℕ) → m ≡ n → IsShown g n left wrapping old now → IsShown g m left wrapping old now
+IsShown-at g n m left wrapping old now e h = rw e h
+
+-- one row more
+pub IsShown-next : (g : GridView) (n m : ℕ) (from left : List RowView) (v : RowView) (wrapping wraps : Bool) (old was row now : List ℕ) → m ≡ n + 1 → IsShown g n from wrapping old was → from ≡ v ∷ left
+    → row ≡ was ++ encode_utf8_all (written_text v 0 g.width wrapping) → wraps ≡ v.wrapped → now ≡ row ++ encode_utf8_all (cond v.wrapped [] (10 ∷ [])) → IsShown g m left wraps old now
+IsShown-next g n m from left v wrapping wraps old was row now em h cut er ew en =
+    let all : drop n (visible g) ≡ v ∷ left = sym h.rows ∙ cut in
+    let within : n < length (visible g) = some-left (visible g) left n v all in
+    let parts : v ∷ left ≡ get_or (visible g) n (blank_row 0) ∷ drop (suc n) (visible g) = sym all ∙ drop-cons (visible g) n (blank_row 0) within in
+    let here : v ≡ visible_at g n =
+    ap (λ (xs : List RowView). get_or xs 0 v) parts ∙ row_at-by_position (length g.rows) (visible_at g) n (omega (arith, length-rows_by_position (length g.rows) (visible_at g))) in
+    let line : encode_utf8_all (shown_line g n) ≡ encode_utf8_all (written_text v 0 g.width wrapping) ++ encode_utf8_all (cond v.wrapped [] (10 ∷ [])) =
+    ap (λ (x : RowView). encode_utf8_all (written_text x 0 g.width (is_below_wrapped g n) ++ cond x.wrapped [] (10 ∷ []))) (sym here)
+    ∙ ap (λ b. encode_utf8_all (written_text v 0 g.width b ++ cond v.wrapped [] (10 ∷ []))) (sym h.wraps)
+    ∙ encodes-append (written_text v 0 g.width wrapping) (cond v.wrapped [] (10 ∷ [])) in
+    IsShown-at g (suc n) m left wraps old now (omega arith) (record {
+      rows = ap (λ (xs : List RowView). drop 1 xs) parts;
+      wraps = ew ∙ ap (λ (x : RowView). x.wrapped) here ∙ below-next g n;
+      bytes =
+          en ∙ ap (λ (bs : List ℕ). bs ++ encode_utf8_all (cond v.wrapped [] (10 ∷ []))) (er ∙ ap (λ (bs : List ℕ). bs ++ encode_utf8_all (written_text v 0 g.width wrapping)) h.bytes)
+          ∙ append_assoc (old ++ encode_utf8_all (shown_lines g n)) (encode_utf8_all (written_text v 0 g.width wrapping)) (encode_utf8_all (cond v.wrapped [] (10 ∷ [])))
+          ∙ ap (λ bs. (old ++ encode_utf8_all (shown_lines g n)) ++ bs) (sym line)
+          ∙ append_assoc old (encode_utf8_all (shown_lines g n)) (encode_utf8_all (shown_line g n))
+          ∙ ap (λ bs. old ++ bs) (sym (encodes-append (shown_lines g n) (shown_line g n)));
+      few = omega (arith, length-rows_by_position (length g.rows) (visible_at g));
+    })
+
+pub no-newline : (wrapped : Bool) (bs : List ℕ) → wrapped ≡ true → bs ≡ bs ++ encode_utf8_all (cond wrapped [] (10 ∷ []))
+no-newline wrapped bs e = sym (ap (λ b. bs ++ encode_utf8_all (cond b [] (10 ∷ []))) e ∙ append-nil bs)
+
+pub one-newline : (wrapped : Bool) (bs now : List ℕ) → wrapped ≡ false → now ≡ bs ++ encode_utf8 10 → now ≡ bs ++ encode_utf8_all (cond wrapped [] (10 ∷ []))
+one-newline wrapped bs now e en = en ∙ ap (λ xs. bs ++ xs) (sym (append-nil (encode_utf8 10))) ∙ ap (λ b. bs ++ encode_utf8_all (cond b [] (10 ∷ []))) (sym e)
+
+-- all rows
+pub IsShown-end : (g : GridView) (n : ℕ) (left : List RowView) (wrapping : Bool) (old now : List ℕ) → left ≡ [] → IsShown g n left wrapping old now → now ≡ old ++ encode_utf8_all (shown_lines g (length g.rows))
+IsShown-end g n left wrapping old now e h =
+    let none = ap (λ (xs : List RowView). length xs) (sym h.rows ∙ e) in
+    let most = h.few in
+    let all : n ≡ length g.rows = omega (arith, none, length-drop n (visible g), length-rows_by_position (length g.rows) (visible_at g)) in
+    h.bytes ∙ ap (λ k. old ++ encode_utf8_all (shown_lines g k)) all
