@@ -21,7 +21,7 @@ use vt100_forms::{GridError, Pos};
 use vt100_rows::Row;
 
 /// The rows of a screen, its cursor, and the rows that scrolled off at its top.
-#[derive(Drop)]
+#[derive(Debug, Drop)]
 pub struct Grid {
     size: Size,
     pos: Pos,

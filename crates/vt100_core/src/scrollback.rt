@@ -21,7 +21,7 @@ pub enum Scrollback {
 }
 
 /// The rows that a grid keeps, the oldest first.
-#[derive(Drop)]
+#[derive(Debug, Drop)]
 pub(crate) struct ScrollbackState {
     pub(crate) enabled: bool,
     pub(crate) rows: VecDeque<Row>,
