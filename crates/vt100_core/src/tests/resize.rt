@@ -4,12 +4,6 @@ ghost use Rattle.vt100_core.specs.Grid.{IsAllocated};
 
 use super::*;
 
-fn size(rows: u16, cols: u16) -> Result<Size, Fail> {
-    let rows = NonZeroU16::new(rows).ok_or("no rows")?;
-    let cols = NonZeroU16::new(cols).ok_or("no columns")?;
-    Ok(Size { rows, cols })
-}
-
 /// A grid of two rows and four columns, after `a`, `b` and `c` on a line each.
 fn three_lines(alloc: Global, capacity: usize) -> Result<Grid, Fail>
     ensures { IfOk result (λ g. IsAllocated g) }
