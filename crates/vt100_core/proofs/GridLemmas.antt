@@ -1,12 +1,11 @@
 -- What is true of a grid stays true.
-use Rattle.std.proofs.Common.{◌≡◌, ℕ, ◌+◌, ◌-◌, ◌^◌, ◌<◌, ◌≤◌, ◌==◌, Bool, true, false, cond, not, ◌&&◌, ◌||◌, List, [], length, set, min, refl, sym, ap, ◌∙◌, arith, length-set, nat_lt, nat_le, ⊎_elim, subst}
-use Rattle.std.proofs.lemmas.Bool.Decides.{nat_tests}
-use Rattle.vt100_rows.specs.Row.{RowView, IsRow, blank_row}
-use Rattle.vt100_core.specs.Sheet.{row_at, rows_by_position, IsRowOf, IsSheet, moved_up, moved_down, opened_line}
+use Rattle.std.proofs.Common.{◌≡◌, ℕ, ◌+◌, ◌-◌, ◌<◌, ◌≤◌, Bool, true, false, cond, ◌&&◌, List, length, set, min, refl, sym, ◌∙◌, arith, length-set, nat_lt, subst}
+use Rattle.vt100_rows.specs.Row.{RowView}
+use Rattle.vt100_sheet.specs.Sheet.{rows_by_position, IsRowOf, IsSheet, moved_up, opened_line}
 use Rattle.vt100_core.specs.Grid.{KeptPart, IsKept, IsShownWide, GridView, IsGrid, IsAllocated, with_row, with_rows, is_in_region}
 use Rattle.vt100_core.specs.Lines.{lines_opened, lines_inserted, lines_deleted, scrolled_down}
-use Rattle.vt100_core.proofs.SheetLemmas.{length-rows_by_position, IsSheet-with_row}
-use Rattle.vt100_core.proofs.MoveLemmas.{IsSheet-moved_up, IsSheet-opened_line}
+use Rattle.vt100_sheet.proofs.SheetLemmas.{length-rows_by_position, IsSheet-with_row}
+use Rattle.vt100_sheet.proofs.MoveLemmas.{IsSheet-moved_up, IsSheet-opened_line}
 
 pub IsGrid-at : (g h : GridView) → g ≡ h → IsGrid h → IsGrid g
 IsGrid-at g h e i = rw e i

@@ -1,10 +1,7 @@
-pub mod SheetLemmas
-pub mod MoveLemmas
 pub mod GridLemmas
 pub mod ShowLemmas
 pub mod ContentsLemmas
 pub mod EraseLemmas
-pub mod SinkLemmas
 pub mod KeepLemmas
 pub mod ScrollLemmas
 pub mod TextLemmas

@@ -1,11 +1,11 @@
 -- Scrolling up.
-use Rattle.std.proofs.Common.{◌≡◌, ℕ, ◌+◌, ◌-◌, ◌^◌, ◌<◌, ◌≤◌, ◌==◌, Bool, true, false, cond, not, ◌&&◌, ◌||◌, List, [], ◌++◌, length, set, take, drop, min, refl, sym, ap, ◌∙◌, arith, nat_lt, nat_le, subst}
+use Rattle.std.proofs.Common.{◌≡◌, ℕ, ◌+◌, ◌<◌, ◌==◌, Bool, true, false, cond, not, ◌&&◌, List, [], length, take, drop, min, refl, sym, ap, ◌∙◌, arith, nat_le, subst}
 use Rattle.std.proofs.lemmas.Bool.{eq-eqb, eqb-true, and_parts}
 use Rattle.std.proofs.lemmas.Bool.Decides.{nat_tests}
-use Rattle.vt100_rows.specs.Row.{RowView, IsRow, with_wrap}
+use Rattle.vt100_rows.specs.Row.{RowView, with_wrap}
 use Rattle.vt100_rows.proofs.RowLemmas.{IsRow-with_wrap}
-use Rattle.vt100_core.specs.Sheet.{row_at, rows_by_position, IsRowOf, IsSheet, moved_up}
-use Rattle.vt100_core.specs.Grid.{KeptPart, GridView, IsGrid, IsAllocated, IsShownWide, with_row, with_rows}
+use Rattle.vt100_sheet.specs.Sheet.{row_at, rows_by_position, IsSheet, moved_up}
+use Rattle.vt100_core.specs.Grid.{KeptPart, GridView, IsGrid, IsShownWide, with_row, with_rows}
 use Rattle.vt100_core.specs.Scroll.{widened, kept_after, pushed_out, up_count, left_rows, is_kept_from, Scrolled, scrolled_up, fed, left_row, wrapped_on, made_to_fit}
 use Rattle.vt100_core.proofs.GridLemmas.{IsGrid-with_row}
 use Rattle.vt100_core.proofs.KeepLemmas.{IsShownWide-widened}

@@ -1,6 +1,6 @@
 -- Printing one character.
-use Rattle.std.proofs.Common.{◌≡◌, ℕ, ◌+◌, ◌-◌, ◌<◌, ◌≤◌, ◌==◌, Bool, true, false, cond, not, ◌&&◌, ◌||◌, List, [], ◌∷◌, length, set, min, refl, sym, ap, ◌∙◌, arith, nat_lt, nat_le, length-set, subst}
-use Rattle.std.specs.Prelude.{Option, Some, None, unwrap_or}
+use Rattle.std.proofs.Common.{◌≡◌, ℕ, ◌+◌, ◌-◌, ◌<◌, ◌≤◌, ◌==◌, Bool, true, false, cond, not, ◌&&◌, ◌||◌, List, [], length, min, refl, sym, ap, ◌∙◌, arith, nat_lt, nat_le, length-set}
+use Rattle.std.specs.Prelude.{Some, None, unwrap_or}
 use Rattle.unicode_width.specs.Width.{char_width}
 use Rattle.std.specs.Char.{IsScalar}
 use Rattle.std.proofs.lemmas.Bool.{cond_both}
@@ -11,18 +11,17 @@ use Rattle.vt100_rows.specs.declared.join.Join.{Join}
 use Rattle.vt100_rows.specs.declared.join.Join.TheVariants.{InPlace, Ignored, Widened, Carried}
 use Rattle.vt100_rows.specs.Cell.{CellView, IsCell, cell_of, columns_of, is_undrawable, drawn_columns, has_text}
 use Rattle.vt100_rows.specs.Line.{span_of, put, put_unflags, wipe_unflags}
-use Rattle.vt100_rows.specs.Row.{RowView, IsRow, blank_row, cell_at, placed, wiped_row, with_wrap, joined_row, joined_cell, is_widening, join_row, join_answer}
+use Rattle.vt100_rows.specs.Row.{RowView, blank_row, cell_at, placed, wiped_row, with_wrap, joined_row, joined_cell, is_widening, join_row}
 use Rattle.vt100_rows.proofs.RowLemmas.{IsRow-placed}
 use Rattle.vt100_rows.proofs.JoinLemmas.{IsRow-join, length-join}
 use Rattle.vt100_rows.proofs.ListLemmas.{length-by_position}
-use Rattle.vt100_core.specs.declared.printed.Printed.{Printed}
-use Rattle.vt100_core.specs.declared.printed.Printed.TheVariants.{Nothing, Spacing, Joined}
-use Rattle.vt100_core.specs.Sheet.{row_at, IsRowOf, moved_up}
+use Rattle.vt100_core.specs.declared.printed.Printed.TheVariants.{Nothing, Joined}
+use Rattle.vt100_sheet.specs.Sheet.{row_at, moved_up}
 use Rattle.vt100_core.specs.Grid.{GridView, IsGrid, IsAllocated, with_row, with_cursor_row, row_of_cursor, is_in_region}
 use Rattle.vt100_core.specs.Cursor.{moved_rows_down}
 use Rattle.vt100_core.specs.Scroll.{Scrolled, scrolled_up, up_count, rows_past_bottom, fed, left_row, wrapped_on, made_to_fit}
 use Rattle.vt100_core.specs.Text.{Drawn, put_at, spaced, carried, joined, is_dropped, printed}
-use Rattle.vt100_core.proofs.SheetLemmas.{length-rows_by_position}
+use Rattle.vt100_sheet.proofs.SheetLemmas.{length-rows_by_position}
 use Rattle.vt100_core.proofs.EraseLemmas.{IsGrid-cursor_row, cursor_row_of}
 use Rattle.vt100_core.proofs.ScrollLemmas.{too-wide}
 

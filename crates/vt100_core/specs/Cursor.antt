@@ -1,5 +1,5 @@
 -- Where the cursor goes.
-use Rattle.std.specs.Prelude.{ℕ, ◌+◌, ◌-◌, ◌*◌, ◌/◌, ◌<◌, ◌≤◌, ◌≡◌, Bool, nat_lt, min, max, if◌then◌else◌}
+use Rattle.std.specs.Prelude.{ℕ, ◌+◌, ◌-◌, ◌*◌, ◌/◌, Bool, nat_lt, min, max, if◌then◌else◌}
 use Rattle.vt100_core.specs.Grid.{GridView, is_in_region}
 
 -- a row counted from the region's top and kept in it in origin mode, else kept on the screen; a column kept on the screen

@@ -1,30 +1,16 @@
 -- Erasing, and cells that come in and go.
-use Rattle.std.specs.Prelude.{ℕ, ◌+◌, ◌-◌, ◌==◌, Bool, nat_lt, min, List, length, if◌then◌else◌}
+use Rattle.std.specs.Prelude.{ℕ, ◌+◌, ◌-◌, min}
 use Rattle.vt100_forms.specs.declared.attrs.Attrs.{Attrs}
-use Rattle.vt100_rows.specs.Row.{RowView, cleared_row, wiped_row, inserted, removed}
-use Rattle.vt100_core.specs.Sheet.{row_at}
+use Rattle.vt100_rows.specs.Row.{cleared_row, wiped_row, inserted, removed}
+use Rattle.vt100_sheet.specs.Sheet.{row_at, erased_forward_at, erased_backward_at}
 use Rattle.vt100_core.specs.Grid.{GridView, with_rows, with_cursor_row, row_of_cursor}
 
 -- every row is empty
 abbrev pub all_erased : GridView → Attrs → GridView
 all_erased g a = with_rows g (λ r. cleared_row (row_at g.rows r) a)
 
--- the cursor's row is empty from the cursor on, and every row below it
-abbrev pub erased_forward_at : List RowView → ℕ → ℕ → ℕ → Attrs → ℕ → RowView
-erased_forward_at rows row col width a r =
-    if nat_lt row r then cleared_row (row_at rows r) a
-    else if r == row then wiped_row (row_at rows r) col width a
-    else row_at rows r
-
 abbrev pub all_erased_forward : GridView → Attrs → GridView
 all_erased_forward g a = with_rows g (erased_forward_at g.rows g.row g.col g.width a)
-
--- every row above row `row` is empty, and that row's first `end` columns
-abbrev pub erased_backward_at : List RowView → ℕ → ℕ → Attrs → ℕ → RowView
-erased_backward_at rows row end a r =
-    if nat_lt r row then cleared_row (row_at rows r) a
-    else if r == row then wiped_row (row_at rows r) 0 end a
-    else row_at rows r
 
 -- the columns up to the cursor's, and its own; all of them where the cursor is past the last
 abbrev pub columns_to_cursor : GridView → ℕ

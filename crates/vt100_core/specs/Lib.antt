@@ -1,4 +1,3 @@
-pub mod Sheet
 pub mod Grid
 pub mod Cursor
 pub mod GridFields
@@ -9,4 +8,3 @@ pub mod Lines
 pub mod Resize
 pub mod Scroll
 pub mod Text
-pub mod Sink

@@ -1,8 +1,8 @@
 -- Another size of the screen, in steps, each by positions.
 use Rattle.std.specs.Prelude.{ℕ, ◌+◌, ◌-◌, ◌==◌, ◌&&◌, nat_lt, min, List, [], ◌++◌, length, take, drop, map, replicate, if◌then◌else◌}
 use Rattle.vt100_rows.specs.Cell.{default_cell}
-use Rattle.vt100_rows.specs.Row.{RowView, blank_row, resized_row, unwrapped}
-use Rattle.vt100_core.specs.Sheet.{row_at, rows_by_position}
+use Rattle.vt100_rows.specs.Row.{RowView, blank_row, resized_row}
+use Rattle.vt100_sheet.specs.Sheet.{row_at, rows_by_position, first_rows}
 use Rattle.vt100_core.specs.Grid.{GridView}
 use Rattle.vt100_core.specs.Scroll.{Scrolled, scrolled_up}
 
@@ -13,10 +13,6 @@ whole_screen g = record g { top = 0; bottom = g.height - 1; kept = record (g.kep
 -- how many rows scroll off at the top where the screen gets this height: as many as go, less those under the cursor
 abbrev pub up_rows : GridView → ℕ → ℕ
 up_rows g height = (g.height - height) - (g.height - 1 - g.row)
-
--- the row at r of the rows up to this height alone: the last loses its mark
-abbrev pub first_rows : List RowView → ℕ → ℕ → RowView
-first_rows rows height r = if (r + 1) == height then unwrapped (row_at rows r) else row_at rows r
 
 -- the rows up to this height alone, after `up` others have scrolled off; the cursors go with their rows
 abbrev pub shortened : GridView → ℕ → ℕ → GridView

@@ -11,14 +11,15 @@ mod scroll;
 mod show;
 mod text;
 
-use crate::rows_edit::{blank_rows, clone_rows, reset_all};
-use crate::scrollback::{Scrollback, ScrollbackState, clone_kept};
-use crate::size::Size;
+use crate::scrollback::{Scrollback, ScrollbackState};
 use std::alloc::Global;
 use std::collections::VecDeque;
 use std::marker::Model;
 use vt100_forms::{GridError, Pos};
 use vt100_rows::Row;
+use vt100_sheet::Size;
+use vt100_sheet::kept_rows::clone_kept;
+use vt100_sheet::rows_edit::{blank_rows, clone_rows, reset_all};
 
 /// The rows of a screen, its cursor, and the rows that scrolled off at its top.
 #[derive(Debug, Drop)]

@@ -4,25 +4,19 @@
 pub mod drawing_rows;
 pub mod grid;
 pub mod printed;
-pub mod row_sink;
-mod rows_back;
-mod rows_edit;
-mod rows_resize;
 pub mod scrollback;
-pub mod size;
 pub mod visible_rows;
 
 pub use drawing_rows::DrawingRows;
 pub use grid::Grid;
 pub use printed::Printed;
-pub use row_sink::RowSink;
 pub use scrollback::Scrollback;
-pub use size::Size;
 pub use visible_rows::VisibleRows;
 pub use vt100_forms::{
     Color, CursorStyle, GridError, MouseProtocolEncoding, MouseProtocolMode, Pos, attrs,
 };
 pub use vt100_rows::{Cell, Row};
+pub use vt100_sheet::{RowSink, Size};
 
 #[cfg(test)]
 mod tests;

@@ -2,8 +2,8 @@
 ghost use Rattle.std.specs.Prelude.{◌≡◌, ℕ, ◌+◌, ◌-◌, ◌<◌, ◌≤◌, ◌==◌, min, true, false, if◌then◌else◌};
 
 use crate::grid::Grid;
-use crate::rows_edit::{clear_all, erase_backward, erase_forward};
 use vt100_forms::attrs::Attrs;
+use vt100_sheet::rows_edit::{clear_all, erase_backward, erase_forward};
 
 impl Grid {
     ghost use Rattle.vt100_core.specs.Grid.{GridView, IsAllocated};

@@ -2,9 +2,9 @@
 ghost use Rattle.std.specs.Prelude.{◌≡◌, ℕ, ◌+◌, ◌-◌, ◌<◌, ◌≤◌, OnOk, OnErr};
 
 use crate::grid::Grid;
-use crate::rows_back::bring_back;
 use std::num::NonZeroU16;
 use vt100_forms::GridError;
+use vt100_sheet::rows_back::bring_back;
 
 impl Grid {
     ghost use Rattle.vt100_core.specs.Grid.{GridView};

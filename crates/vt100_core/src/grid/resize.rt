@@ -1,13 +1,12 @@
 //! Another size of the screen.
 ghost use Rattle.std.specs.Prelude.{◌≡◌, ℕ, ◌+◌, ◌-◌, ◌<◌, ◌≤◌, ◌==◌, length, OnOk};
-ghost use Rattle.vt100_core.specs.Sink.{TakesAll};
+ghost use Rattle.vt100_sheet.specs.Sink.{TakesAll};
 
 use crate::grid::Grid;
-use crate::row_sink::RowSink;
-use crate::rows_resize::{keep_first, resize_rows};
-use crate::size::Size;
 use std::num::NonZeroU16;
 use vt100_forms::GridError;
+use vt100_sheet::rows_resize::{keep_first, resize_rows};
+use vt100_sheet::{RowSink, Size};
 
 impl Grid {
     ghost use Rattle.vt100_core.specs.Grid.{GridView, IsAllocated};

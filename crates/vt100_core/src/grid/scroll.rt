@@ -1,16 +1,16 @@
 //! Scrolling up, and the rows that leave the screen.
 ghost use Rattle.std.specs.Prelude.{◌≡◌, ℕ, ◌+◌, ◌-◌, ◌<◌, ◌≤◌, ◌==◌, length, min, true, false, ◌&&◌, OnOk, IfOk, if◌then◌else◌};
-ghost use Rattle.vt100_core.specs.Sink.{TakesAll};
+ghost use Rattle.vt100_sheet.specs.Sink.{TakesAll};
 
 use crate::grid::Grid;
-use crate::row_sink::{RowSink, give_rows};
-use crate::rows_edit::move_up;
-use crate::scrollback::drop_oldest;
 use vt100_forms::GridError;
+use vt100_sheet::kept_rows::drop_oldest;
+use vt100_sheet::row_sink::{RowSink, give_rows};
+use vt100_sheet::rows_edit::move_up;
 
 impl Grid {
     ghost use Rattle.vt100_core.specs.Grid.{GridView, IsAllocated, is_in_region, with_row};
-    ghost use Rattle.vt100_core.specs.Sheet.{row_at};
+    ghost use Rattle.vt100_sheet.specs.Sheet.{row_at};
     ghost use Rattle.vt100_rows.specs.Row.{with_wrap};
     ghost use Rattle.vt100_core.specs.Scroll.{scrolled_up, fed, rows_past_bottom, made_to_fit, scrollback_erased, scrollback_shown};
 

@@ -4,11 +4,11 @@ ghost use Rattle.std.specs.Option.{option_copied};
 
 use crate::drawing_rows::DrawingRows;
 use crate::grid::Grid;
-use crate::rows_edit::at;
-use crate::scrollback::kept_at;
 use crate::visible_rows::VisibleRows;
 use vt100_forms::Pos;
 use vt100_rows::{Cell, Row};
+use vt100_sheet::kept_rows::kept_at;
+use vt100_sheet::rows_edit::at;
 
 impl Grid {
     ghost use Rattle.vt100_core.specs.Grid.{GridView, visible, visible_at, visible_row_at, drawing_row_at, cell_in};

@@ -3,14 +3,14 @@ ghost use Rattle.std.specs.Prelude.{◌≡◌, ℕ, ◌+◌, ◌-◌, ◌<◌, �
 ghost use Rattle.vt100_rows.specs.Cell.{IsCell, cell_of, columns_of, drawn_columns, has_text};
 ghost use Rattle.vt100_rows.specs.Line.{span_of};
 ghost use Rattle.vt100_rows.specs.Row.{join_row, join_answer};
-ghost use Rattle.vt100_core.specs.Sink.{TakesAll};
+ghost use Rattle.vt100_sheet.specs.Sink.{TakesAll};
 
 use crate::grid::Grid;
 use crate::printed::Printed;
-use crate::row_sink::RowSink;
 use vt100_forms::GridError;
 use vt100_forms::attrs::Attrs;
 use vt100_rows::{Cell, Join, columns};
+use vt100_sheet::RowSink;
 
 impl Grid {
     ghost use Rattle.vt100_core.specs.Grid.{GridView, IsGrid, IsAllocated, row_of_cursor, with_cursor_row};

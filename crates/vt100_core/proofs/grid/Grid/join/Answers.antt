@@ -1,13 +1,13 @@
-use Rattle.std.proofs.Common.{arith, ap, sym, subst, refl, ◌∙◌, ◌≡◌, ◌+◌, ◌<◌, ◌≤◌, ◌==◌, [], List, length, length-set, nat_lt, true}
+use Rattle.std.proofs.Common.{arith, ap, sym, subst, refl, ◌∙◌, ◌≡◌, ◌+◌, ◌<◌, ◌==◌, [], List, length, length-set, nat_lt}
 use Rattle.vt100_rows.specs.Cell.{CellView, IsCell, has_text}
 use Rattle.vt100_rows.specs.Row.{RowView, joined_cell, is_widening, join_row}
 use Rattle.vt100_rows.proofs.CellLemmas.{IsCell-with_attrs}
 use Rattle.vt100_rows.proofs.JoinLemmas.{IsCell-joined, widened-is}
-use Rattle.vt100_core.specs.Sink.{TakesAll}
+use Rattle.vt100_sheet.specs.Sink.{TakesAll}
 use Rattle.vt100_core.specs.Grid.{GridView, row_of_cursor}
 use Rattle.vt100_core.specs.GridFields.{grid_of}
-use Rattle.vt100_core.specs.Text.{Drawn, joined, carried, put_at}
-use Rattle.vt100_core.proofs.SinkLemmas.{TakesAll-list}
+use Rattle.vt100_core.specs.Text.{Drawn, joined}
+use Rattle.vt100_sheet.proofs.SinkLemmas.{TakesAll-list}
 use Rattle.vt100_core.proofs.EraseLemmas.{cursor_row_of}
 use Rattle.vt100_core.proofs.TextLemmas.{IsGrid-col, answer-InPlace, answer-Ignored, answer-Widened, answer-Carried, in-place, ignored, widens, carries, carried-is, below-true, below-false, two-columns}
 use Rattle.vt100_core.proofs.grid.Grid.join.Goals as goal

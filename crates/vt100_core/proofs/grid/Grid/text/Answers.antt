@@ -1,10 +1,9 @@
-use Rattle.std.proofs.Common.{arith, ap, sym, subst, refl, ◌∙◌, ◌≡◌, ◌<◌, [], List, cond, true}
+use Rattle.std.proofs.Common.{arith, ap, sym, subst, refl, ◌∙◌, ◌≡◌, [], cond}
 use Rattle.std.specs.Prelude.{Some, None, OnOk, IfOk}
 use Rattle.vt100_rows.specs.Cell.{columns_of}
-use Rattle.vt100_rows.specs.Row.{RowView}
-use Rattle.vt100_core.specs.Sink.{TakesAll}
+use Rattle.vt100_sheet.specs.Sink.{TakesAll}
 use Rattle.vt100_core.specs.Text.{Drawn, is_dropped, printed}
-use Rattle.vt100_core.proofs.SinkLemmas.{TakesAll-list}
+use Rattle.vt100_sheet.proofs.SinkLemmas.{TakesAll-list}
 use Rattle.vt100_core.proofs.TextLemmas.{shown-is, hidden-is, IsDrawn-here, printed-dropped, printed-joined, printed-spaced}
 use Rattle.vt100_core.proofs.grid.Grid.text.Goals as goal
 

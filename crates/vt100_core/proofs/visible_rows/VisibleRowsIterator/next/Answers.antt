@@ -1,4 +1,4 @@
-use Rattle.std.proofs.Common.{rules, arith, sym, ◌∙◌, ◌≡◌, [], ap, length, List}
+use Rattle.std.proofs.Common.{arith, sym, ◌∙◌, ◌≡◌, [], ap, length, List}
 use Rattle.vt100_rows.specs.Row.{RowView}
 use Rattle.vt100_core.proofs.ShowLemmas.{drop-visible, drop-visible_past}
 use Rattle.vt100_core.proofs.visible_rows.VisibleRowsIterator.next.Goals as goal
