@@ -1,12 +1,14 @@
 -- The text that a grid shows: its lines one after another, and the newlines at the end of a text.
-use Rattle.std.proofs.Common.{◌≡◌, ℕ, suc, ◌+◌, ◌-◌, ◌<◌, ◌≤◌, ◌==◌, Bool, true, false, cond, ◌&&◌, nat_lt, List, [], ◌∷◌, ◌++◌, length, take, drop, get_or, refl, sym, ap, ◌∙◌, arith, append_assoc, append-nil, drop-cons, length-drop, take_all, take-take, length-take-le}
+use Rattle.std.proofs.Common.{◌≡◌, ℕ, zero, suc, ◌+◌, ◌-◌, ◌<◌, ◌≤◌, ◌==◌, Bool, true, false, cond, ◌&&◌, nat_lt, List, [], ◌∷◌, ◌++◌, length, take, drop, get_or, refl, sym, ap, ◌∙◌, arith, append_assoc, append-nil, drop-cons, length-drop, take_all, take-take, length-take-le, ⊎_elim}
 use Rattle.std.specs.Prelude.{encode_utf8_all, encode_utf8}
 use Rattle.std.specs.List.{suffix_len}
+use Rattle.std.proofs.lemmas.Bool.{cases_lt}
 use Rattle.std.proofs.lemmas.Bool.Decides.{nat_tests}
 use Rattle.std.proofs.lemmas.Str.{encodes-append}
 use Rattle.std.proofs.lemmas.List.Sums.{suffix_len-take_yes, suffix_len-take_no, suffix_len-le-length}
 use Rattle.vt100_rows.specs.Row.{RowView, blank_row}
-use Rattle.vt100_rows.specs.Text.{written_text}
+use Rattle.vt100_rows.specs.Text.{written_text, IsBegun}
+use Rattle.vt100_rows.proofs.TextLemmas.{IsBegun-within}
 use Rattle.vt100_core.specs.Grid.{GridView, visible, visible_at}
 use Rattle.vt100_core.specs.Contents.{is_below_wrapped, shown_line, shown_lines, newlines_cut}
 use Rattle.vt100_sheet.proofs.SheetLemmas.{row_at-by_position, length-rows_by_position}
@@ -98,3 +100,40 @@ IsShown-end g n left wrapping old now e h =
     let most = h.few in
     let all : n ≡ length g.rows = omega (arith, none, length-drop n (visible g), length-rows_by_position (length g.rows) (visible_at g)) in
     h.bytes ∙ ap (λ k. old ++ encode_utf8_all (shown_lines g k)) all
+
+-- ---- where memory ran out
+
+lines-more : (g : GridView) (n m : ℕ) → n ≤ m → (rest : List ℕ) × (shown_lines g m ≡ shown_lines g n ++ rest)
+lines-more g n zero h = let e : n ≡ 0 = omega arith in ([], ap (shown_lines g) (sym e) ∙ sym (append-nil (shown_lines g n)))
+lines-more g n (suc m) h =
+    ⊎_elim
+    (λ (l : m < n). let e : n ≡ suc m = omega (arith, h, l) in ([], ap (shown_lines g) (sym e) ∙ sym (append-nil (shown_lines g n))))
+    (λ (l : n ≤ m).
+    let r = lines-more g n m l in
+    (r.0 ++ shown_line g m, ap (λ (cs : List ℕ). cs ++ shown_line g m) r.1 ∙ append_assoc (shown_lines g n) r.0 (shown_line g m)))
+    (cases_lt m n)
+
+-- n rows are written, and a part of the next
+pub IsBegun-row : (g : GridView) (n : ℕ) (from left : List RowView) (v : RowView) (wrapping : Bool) (old was now : List ℕ) → IsShown g n from wrapping old was → from ≡ v ∷ left
+    → IsBegun was (encode_utf8_all (written_text v 0 g.width wrapping)) now → IsBegun old (encode_utf8_all (shown_lines g (length g.rows))) now
+IsBegun-row g n from left v wrapping old was now h cut begun =
+    let all : drop n (visible g) ≡ v ∷ left = sym h.rows ∙ cut in
+    let within : n < length (visible g) = some-left (visible g) left n v all in
+    let here : v ≡ visible_at g n =
+    ap (λ (xs : List RowView). get_or xs 0 v) (sym all ∙ drop-cons (visible g) n (blank_row 0) within)
+    ∙ row_at-by_position (length g.rows) (visible_at g) n (omega (arith, length-rows_by_position (length g.rows) (visible_at g))) in
+    let written = written_text v 0 g.width wrapping in
+    let newline : List ℕ = cond v.wrapped [] (10 ∷ []) in
+    let line : shown_line g n ≡ written ++ newline =
+    ap (λ (x : RowView). written_text x 0 g.width (is_below_wrapped g n) ++ cond x.wrapped [] (10 ∷ [])) (sym here) ∙ ap (λ b. written_text v 0 g.width b ++ newline) (sym h.wraps) in
+    let more = lines-more g (suc n) (length g.rows) (omega (arith, length-rows_by_position (length g.rows) (visible_at g))) in
+    let whole : shown_lines g (length g.rows) ≡ (shown_lines g n ++ written) ++ (newline ++ more.0) =
+    more.1 ∙ ap (λ cs. (shown_lines g n ++ cs) ++ more.0) line ∙ ap (λ (cs : List ℕ). cs ++ more.0) (sym (append_assoc (shown_lines g n) written newline))
+    ∙ append_assoc (shown_lines g n ++ written) newline more.0 in
+    IsBegun-within old was (encode_utf8_all (shown_lines g n)) (encode_utf8_all written) (encode_utf8_all (newline ++ more.0)) (encode_utf8_all (shown_lines g (length g.rows))) now h.bytes
+    (ap encode_utf8_all whole ∙ encodes-append (shown_lines g n ++ written) (newline ++ more.0)
+    ∙ ap (λ (bs : List ℕ). bs ++ encode_utf8_all (newline ++ more.0)) (encodes-append (shown_lines g n) written))
+    begun
+
+pub IsBegun-all : (old text now : List ℕ) → now ≡ old ++ text → IsBegun old text now
+IsBegun-all old text now e = (text, [], sym (append-nil text), e)

@@ -1,12 +1,12 @@
 -- The text of a row, column by column.
-use Rattle.std.proofs.Common.{◌≡◌, ℕ, zero, suc, ◌+◌, ◌-◌, ◌≤◌, ◌==◌, Bool, true, false, cond, not, ◌&&◌, List, [], ◌∷◌, ◌++◌, length, replicate, sym, refl, ap, ◌∙◌, arith, append_assoc, append-nil, length-append, min}
-use Rattle.std.specs.Prelude.{encode_utf8_all, encode_utf8}
-use Rattle.std.proofs.lemmas.Bool.{ne_eqb, false≢true}
+use Rattle.std.proofs.Common.{◌≡◌, ℕ, zero, suc, ◌+◌, ◌-◌, ◌<◌, ◌≤◌, ◌==◌, Bool, true, false, cond, not, ◌&&◌, List, [], ◌∷◌, ◌++◌, length, replicate, sym, refl, ap, ◌∙◌, arith, append_assoc, append-nil, length-append, min, ⊎_elim}
+use Rattle.std.specs.Prelude.{encode_utf8_all, encode_utf8, Result, Ok, Err, OnErr}
+use Rattle.std.proofs.lemmas.Bool.{ne_eqb, false≢true, cond_both, cases_lt}
 use Rattle.std.proofs.lemmas.List.{replicate-append-replicate}
 use Rattle.std.proofs.lemmas.Str.{encodes-append, encode_ascii}
 use Rattle.vt100_rows.specs.Cell.{CellView, has_text}
 use Rattle.vt100_rows.specs.Row.{RowView, cell_at}
-use Rattle.vt100_rows.specs.Text.{column_text, columns_text, line_text, row_text, written_text}
+use Rattle.vt100_rows.specs.Text.{column_text, columns_text, line_text, row_text, written_text, IsBegun}
 
 -- ---- spaces
 
@@ -163,3 +163,87 @@ written-newline v s n m wrapping shown old was now b e h w q en =
     let empty : t ≡ [] = no_text t none in
     let bytes : was ≡ old = h.bytes ∙ ap (λ (cs : List ℕ). old ++ encode_utf8_all cs) (same ∙ empty) ∙ append-nil old in
     en ∙ ap (λ (bs : List ℕ). bs ++ encode_utf8 10) bytes ∙ ap (λ bs. old ++ bs) (sym (append-nil (encode_utf8 10))) ∙ ap (λ r. old ++ encode_utf8_all (cond r (10 ∷ []) t)) (sym yes)
+
+-- ---- where memory ran out
+
+-- a text of which nothing has been written
+pub IsBegun-none : (old text now : List ℕ) → now ≡ old → IsBegun old text now
+IsBegun-none old text now e = ([], text, refl, e ∙ sym (append-nil old))
+
+-- a part of a text has been begun, after what stands before it
+pub IsBegun-within : (old was before part after text now : List ℕ) → was ≡ old ++ before → text ≡ before ++ part ++ after → IsBegun was part now → IsBegun old text now
+IsBegun-within old was before part after text now ew et h = (
+  before ++ h.0,
+  h.1 ++ after,
+  et ∙ ap (λ (xs : List ℕ). before ++ xs ++ after) h.2 ∙ ap (λ (xs : List ℕ). xs ++ after) (sym (append_assoc before h.0 h.1)) ∙ append_assoc (before ++ h.0) h.1 after,
+  h.3 ∙ ap (λ (xs : List ℕ). xs ++ h.0) ew ∙ append_assoc old before h.0,
+)
+
+pub IsBegun-spaces : (n k : ℕ) (old now : List ℕ) → k ≤ n → now ≡ old ++ replicate k 32 → IsBegun old (replicate n 32) now
+IsBegun-spaces n k old now h e =
+    let whole : k + (n - k) ≡ n = omega arith in
+    (replicate k 32, replicate (n - k) 32, ap (λ m. replicate m 32) (sym whole) ∙ sym (replicate-append-replicate k (n - k) 32), e)
+
+-- the text up to a column where one stands is a front of the text of more columns
+module _ (f : ℕ → CellView) (s n : ℕ) (stands : has_text (f (s + n)) ≡ true) where
+  abbrev first : List ℕ
+  first = columns_text f s (suc n)
+
+  columns-more : (k : ℕ) → n < k → (rest : List ℕ) × (columns_text f s k ≡ first ++ rest)
+  columns-more zero h = absurd (omega (arith, h))
+  columns-more (suc k) h =
+      ⊎_elim
+      (λ (l : n < k). let r = columns-more k l in (r.0 ++ column_text f s (s + k), ap (λ (cs : List ℕ). cs ++ column_text f s (s + k)) r.1 ∙ append_assoc first r.0 (column_text f s (s + k))))
+      (λ (l : k ≤ n). let e : k ≡ n = omega (arith, h, l) in ([], ap (λ j. columns_text f s (suc j)) e ∙ sym (append-nil first)))
+      (cases_lt n k)
+
+  pub line-more : (k : ℕ) → n < k → (rest : List ℕ) × (line_text f s k ≡ first ++ rest)
+  line-more zero h = absurd (omega (arith, h))
+  line-more (suc k) h =
+      ⊎_elim
+      (λ (l : n < k). cond_both (has_text (f (s + k))) (columns_text f s (suc k)) (line_text f s k) (λ (cs : List ℕ). (rest : List ℕ) × (cs ≡ first ++ rest)) (λ _. columns-more (suc k) h) (λ _. line-more k l))
+      (λ (l : k ≤ n).
+      let e : k ≡ n = omega (arith, h, l) in
+      ([], ap (λ j. line_text f s (suc j)) e ∙ ap (λ b. cond b (columns_text f s (suc n)) (line_text f s n)) stands ∙ sym (append-nil first)))
+      (cases_lt n k)
+
+some-front : (xs ys : List ℕ) → not (length xs == 0) ≡ true → not (length (xs ++ ys) == 0) ≡ true
+some-front [] ys h = absurd (false≢true h)
+some-front (x ∷ xs) ys h = ap not (ne_eqb (length (x ∷ xs ++ ys)) 0 (λ e. absurd (omega (arith, e, length-append (x ∷ xs) ys))))
+
+pub on-err : {T E P : Type 0} (r : Result T E) → P → OnErr r P
+on-err (Ok x) p = tt
+on-err (Err e) p = p
+
+-- memory ran out at a column where a text stands
+pub IsBegun-text : (v : RowView) (s n col b : ℕ) (wrapping shown : Bool) (old was now : List ℕ) → s ≤ col → col < min (s + n) (length v.cells) → IsWritten (cell_at v.cells) s (col - s) old was b shown
+    → has_text (cell_at v.cells col) ≡ true → IsBegun was (replicate b 32) now → IsBegun old (encode_utf8_all (written_text v s n wrapping)) now
+IsBegun-text v s n col b wrapping shown old was now later within h stands begun =
+    let f = cell_at v.cells in
+    let k = col - s in
+    let m = min (s + n) (length v.cells) - s in
+    let at : s + k ≡ col = omega arith in
+    let here : has_text (f (s + k)) ≡ true = ap (λ j. has_text (f j)) at ∙ stands in
+    let ls = line_text f s k in
+    let t = (f (s + k)).text in
+    let more = line-more f s k here m (omega arith) in
+    let whole : row_text v s (s + n) ≡ (ls ++ replicate b 32) ++ (t ++ more.0) =
+    more.1 ∙ ap (λ (cs : List ℕ). cs ++ more.0) (ap (λ (cs : List ℕ). cs ++ column_text f s (s + k)) h.gap ∙ ap (λ cs. (ls ++ replicate b 32) ++ cs) (column_text-has f s (s + k) here))
+    ∙ append_assoc (ls ++ replicate b 32) t more.0 in
+    let some : (wrapping && (length (row_text v s (s + n)) == 0)) ≡ false =
+    and-none wrapping (length (row_text v s (s + n)) == 0) (ap (λ (cs : List ℕ). not (length cs == 0)) whole ∙ some-text (ls ++ replicate b 32) (t ++ more.0) (some-front t more.0 here)) in
+    IsBegun-within old was (encode_utf8_all ls) (replicate b 32) (encode_utf8_all (t ++ more.0)) (encode_utf8_all (written_text v s n wrapping)) now h.bytes
+    (ap (λ r. encode_utf8_all (cond r (10 ∷ []) (row_text v s (s + n)))) some ∙ ap encode_utf8_all whole ∙ encodes-append (ls ++ replicate b 32) (t ++ more.0)
+    ∙ ap (λ (bs : List ℕ). bs ++ encode_utf8_all (t ++ more.0)) (encodes-append ls (replicate b 32) ∙ ap (λ bs. encode_utf8_all ls ++ bs) (encodes-spaces b)))
+    begun
+  where
+    and-none : (p q : Bool) → not q ≡ true → (p && q) ≡ false
+    and-none true true e = absurd (false≢true e)
+    and-none true false e = refl
+    and-none false q e = refl
+
+-- memory ran out at the newline
+pub IsBegun-newline : (f : ℕ → CellView) (s m b : ℕ) (shown : Bool) (old was now text : List ℕ) → IsWritten f s m old was b shown → shown ≡ false → now ≡ was → IsBegun old text now
+IsBegun-newline f s m b shown old was now text h e en =
+    let none : (length (line_text f s m) == 0) ≡ true = sym (not-not (length (line_text f s m) == 0)) ∙ ap not (sym h.shows ∙ e) in
+    IsBegun-none old text now (en ∙ h.bytes ∙ ap (λ (cs : List ℕ). old ++ encode_utf8_all cs) (no_text (line_text f s m) none) ∙ append-nil old)

@@ -4,7 +4,7 @@ ghost use Rattle.std.specs.Option.{option_copied};
 ghost use Rattle.vt100_rows.specs.Cell.{cell_of, has_text, drawn_columns};
 ghost use Rattle.vt100_rows.specs.Line.{span_of};
 ghost use Rattle.vt100_rows.specs.Row.{blank_row, cleared_row, with_wrap, placed, wiped_row, pair_cleared, join_row, join_answer, inserted, removed, truncated, grown, resized_row, trimmed};
-ghost use Rattle.vt100_rows.specs.Text.{written_text};
+ghost use Rattle.vt100_rows.specs.Text.{written_text, IsBegun};
 
 use crate::cell::Cell;
 use crate::join::Join;
@@ -289,7 +289,8 @@ impl Row {
         width: u16,
         wrapping: bool,
     ) -> Result<(), GridError>
-        ensures { OnOk result (string_bytes contents.new ≡ string_bytes contents.old ++ encode_utf8_all (written_text self.now start width wrapping)) }
+        ensures text { OnOk result (string_bytes contents.new ≡ string_bytes contents.old ++ encode_utf8_all (written_text self.now start width wrapping)) }
+        ensures begun { OnErr result (IsBegun (string_bytes contents.old) (encode_utf8_all (written_text self.now start width wrapping)) (string_bytes contents.new)) }
     {
         let start = usize::from(start);
         let end = (start + usize::from(width))
@@ -332,7 +333,8 @@ fn is_empty_column(cell: &Cell, is_first: bool) -> bool
 
 /// Appends `n` spaces.
 fn push_spaces(contents: &mut String, n: usize) -> Result<(), GridError>
-    ensures { OnOk result (string_bytes contents.new ≡ string_bytes contents.old ++ replicate n 32) }
+    ensures text { OnOk result (string_bytes contents.new ≡ string_bytes contents.old ++ replicate n 32) }
+    ensures begun { OnErr result (IsBegun (string_bytes contents.old) (replicate n 32) (string_bytes contents.new)) }
 {
     for _ in 0..n {
         contents.push(' ')?;

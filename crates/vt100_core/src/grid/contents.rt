@@ -1,5 +1,6 @@
 //! The text that a grid shows.
-ghost use Rattle.std.specs.Prelude.{◌≡◌, ◌++◌, length, OnOk, string_bytes, encode_utf8_all};
+ghost use Rattle.std.specs.Prelude.{◌≡◌, ◌++◌, length, OnOk, OnErr, string_bytes, encode_utf8_all};
+ghost use Rattle.vt100_rows.specs.Text.{IsBegun};
 ghost use Rattle.vt100_core.specs.Contents.{newlines_cut, shown_lines};
 
 use crate::grid::Grid;
@@ -13,6 +14,7 @@ impl Grid {
     /// On an error a part of the text may have been appended.
     pub fn write_contents(&self, contents: &mut String) -> Result<(), GridError>
         ensures text { OnOk result (string_bytes contents.new ≡ newlines_cut (string_bytes contents.old ++ encode_utf8_all (shown_lines self.now (length self.now.rows)))) }
+        ensures begun { OnErr result (IsBegun (string_bytes contents.old) (encode_utf8_all (shown_lines self.now (length self.now.rows))) (string_bytes contents.new)) }
     {
         let mut wrapping = false;
         for row in self.visible_rows() {
