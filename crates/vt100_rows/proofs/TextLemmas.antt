@@ -166,10 +166,6 @@ written-newline v s n m wrapping shown old was now b e h w q en =
 
 -- ---- where memory ran out
 
--- a text of which nothing has been written
-pub IsBegun-none : (old text now : List ℕ) → now ≡ old → IsBegun old text now
-IsBegun-none old text now e = ([], text, refl, e ∙ sym (append-nil old))
-
 -- a part of a text has been begun, after what stands before it
 pub IsBegun-within : (old was before part after text now : List ℕ) → was ≡ old ++ before → text ≡ before ++ part ++ after → IsBegun was part now → IsBegun old text now
 IsBegun-within old was before part after text now ew et h = (
@@ -241,9 +237,3 @@ IsBegun-text v s n col b wrapping shown old was now later within h stands begun 
     and-none true true e = absurd (false≢true e)
     and-none true false e = refl
     and-none false q e = refl
-
--- memory ran out at the newline
-pub IsBegun-newline : (f : ℕ → CellView) (s m b : ℕ) (shown : Bool) (old was now text : List ℕ) → IsWritten f s m old was b shown → shown ≡ false → now ≡ was → IsBegun old text now
-IsBegun-newline f s m b shown old was now text h e en =
-    let none : (length (line_text f s m) == 0) ≡ true = sym (not-not (length (line_text f s m) == 0)) ∙ ap not (sym h.shows ∙ e) in
-    IsBegun-none old text now (en ∙ h.bytes ∙ ap (λ (cs : List ℕ). old ++ encode_utf8_all cs) (no_text (line_text f s m) none) ∙ append-nil old)
