@@ -1,6 +1,13 @@
-use Rattle.std.proofs.Common.{◌≡◌, ◌≤◌, ◌<◌, ℕ, false}
+use Rattle.std.proofs.Common.{◌≡◌, ◌≤◌, ◌<◌, ◌-◌, ℕ, false, length}
 use Rattle.vte.specs.Marks.{is_at}
 use Rattle.vte.proofs.marks.first_mark.Given as goal
 
 abbrev pub invariant-loop-at : goal.invariant-loop-at
-invariant-loop-at l = (k : ℕ) → l.from ≤ k → k < l.at → is_at l.mark l.text k ≡ false
+invariant-loop-at l = record {
+  within : l.next ≤ length l.text;
+  above : l.from ≤ l.next;
+  none : (k : ℕ) → l.from ≤ k → k < l.next → is_at l.mark l.text k ≡ false;
+}
+
+abbrev pub decreases-loop-at : goal.decreases-loop-at
+decreases-loop-at l = length l.text - l.next
