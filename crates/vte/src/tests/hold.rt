@@ -1,6 +1,7 @@
 //! Synchronized updates.
 
-use super::log::{Count, Log, UntilCleared};
+use super::log::{Log, UntilCleared};
+use super::table::calls;
 use crate::ansi::{Handler, Processor, Timeout};
 use std::alloc::Global;
 use std::process::Abort;
@@ -24,7 +25,7 @@ fn takes(
 #[test]
 fn holds_until_the_end_mark(rt: HostRuntime) -> Result<(), Fail> {
     let mut log = Log::new(&rt);
-    let mut processor = Processor::new(rt.alloc(), UntilCleared { pending: false })?;
+    let mut processor = Processor::new(rt.alloc(), UntilCleared::new())?;
     let opened = "SetPrivateMode(Named(SyncUpdate)) ";
     takes(
         &rt,
@@ -54,7 +55,7 @@ fn holds_until_the_end_mark(rt: HostRuntime) -> Result<(), Fail> {
 #[test]
 fn begins_and_stops(rt: HostRuntime) -> Result<(), Fail> {
     let mut log = Log::new(&rt);
-    let mut processor = Processor::new(rt.alloc(), UntilCleared { pending: false })?;
+    let mut processor = Processor::new(rt.alloc(), UntilCleared::new())?;
     takes(&rt, &mut processor, &mut log, b"\x1b[?20", "", 0);
     let opened = "SetPrivateMode(Named(SyncUpdate)) ";
     takes(&rt, &mut processor, &mut log, b"26h\x1b[1m", opened, 4);
@@ -65,7 +66,7 @@ fn begins_and_stops(rt: HostRuntime) -> Result<(), Fail> {
     assert!(rt; !processor.sync_timeout().pending);
 
     let mut other = Log::new(&rt);
-    let mut processor = Processor::new(rt.alloc(), UntilCleared { pending: false })?;
+    let mut processor = Processor::new(rt.alloc(), UntilCleared::new())?;
     let both = "SetPrivateMode(Named(ShowCursor)) SetPrivateMode(Named(SyncUpdate)) ";
     takes(
         &rt,
@@ -79,42 +80,71 @@ fn begins_and_stops(rt: HostRuntime) -> Result<(), Fail> {
     Ok(())
 }
 
-/// Cut once at each place, before and in the hold, both marks are found.
+/// Cut once at each place, before and in the hold, and byte by byte, all marks are found.
 #[test]
 fn marks_are_cut_anywhere(rt: HostRuntime) -> Result<(), Fail> {
-    let stream = b"a\x1b[?2026hb\x1b[?2026l";
-    let wanted =
-        "Input('a') SetPrivateMode(Named(SyncUpdate)) Input('b') UnsetPrivateMode(Named(SyncUpdate)) UnsetPrivateMode(Named(SyncUpdate)) ";
-    for cut in 0..=stream.len() {
-        let mut log = Log::new(&rt);
-        let mut processor = Processor::new(rt.alloc(), UntilCleared { pending: false })?;
-        processor.advance(&mut log, &stream[..cut]);
-        processor.advance(&mut log, &stream[cut..]);
-        assert!(rt; !log.failed);
-        assert_eq!(rt; processor.sync_bytes_count(), 0, "cut at {cut}");
-        assert_eq!(rt; log.text.as_str(), wanted, "cut at {cut}");
-    }
+    calls(
+        &rt,
+        b"a\x1b[?2026hb\x1b[?2026l",
+        "Input('a') SetPrivateMode(Named(SyncUpdate)) Input('b') UnsetPrivateMode(Named(SyncUpdate)) UnsetPrivateMode(Named(SyncUpdate)) ",
+    )?;
+    calls(
+        &rt,
+        b"\x1b[?2026h\x1b[?2026hb\x1b[?2026l\x1b[?2026l",
+        "SetPrivateMode(Named(SyncUpdate)) SetPrivateMode(Named(SyncUpdate)) Input('b') UnsetPrivateMode(Named(SyncUpdate)) UnsetPrivateMode(Named(SyncUpdate)) UnsetPrivateMode(Named(SyncUpdate)) ",
+    )
+}
+
+/// A start mark in the held bytes sets the timeout again, also where a cut goes through it.
+#[test]
+fn sets_the_timeout_again(rt: HostRuntime) -> Result<(), Fail> {
+    let mut log = Log::new(&rt);
+    let mut processor = Processor::new(rt.alloc(), UntilCleared::new())?;
+    let opened = "SetPrivateMode(Named(SyncUpdate)) ";
+    takes(
+        &rt,
+        &mut processor,
+        &mut log,
+        b"\x1b[?2026:1ha\x1b[?20",
+        opened,
+        6,
+    );
+    assert_eq!(rt; processor.sync_timeout().sets, 1);
+    takes(&rt, &mut processor, &mut log, b"26", opened, 8);
+    assert_eq!(rt; processor.sync_timeout().sets, 1);
+    takes(&rt, &mut processor, &mut log, b"h", opened, 9);
+    assert_eq!(rt; processor.sync_timeout().sets, 2);
+    takes(
+        &rt,
+        &mut processor,
+        &mut log,
+        b"\x1b[?2026h\x1b",
+        opened,
+        18,
+    );
+    assert_eq!(rt; processor.sync_timeout().sets, 3);
+    takes(&rt, &mut processor, &mut log, b"bcd", opened, 21);
+    assert_eq!(rt; processor.sync_timeout().sets, 3);
+    assert!(rt; processor.sync_timeout().pending);
     Ok(())
 }
 
 #[test]
 fn empties_a_full_hold(rt: HostRuntime) -> Result<(), Fail> {
-    let mut count = Count {
-        inputs: 0,
-        attributes: 0,
-        closings: 0,
-    };
-    let mut processor = Processor::new(rt.alloc(), UntilCleared { pending: false })?;
-    processor.advance(&mut count, b"\x1b[?2026h\x1b[1m");
-    assert_eq!(rt; processor.sync_bytes_count(), 4);
-    for _ in 0..1_048_573 {
-        processor.advance(&mut count, b"aa");
-    }
-    assert_eq!(rt; processor.sync_bytes_count(), 2_097_150);
-    assert_eq!(rt; count.attributes, 0);
-    processor.advance(&mut count, b"a");
+    let mut log = Log::with_count(&rt);
+    let mut processor = Processor::new(rt.alloc(), UntilCleared::new())?;
+    processor.advance(&mut log, b"\x1b[?2026h");
     assert_eq!(rt; processor.sync_bytes_count(), 0);
-    assert_eq!(rt; (count.attributes, count.closings), (1, 1));
-    assert_eq!(rt; count.inputs, 2_097_147);
+    let opened = "SetPrivateMode(Named(SyncUpdate)) ";
+    takes(&rt, &mut processor, &mut log, b"\x1b[1m", opened, 4);
+    for _ in 0..1_048_573 {
+        processor.advance(&mut log, b"aa");
+    }
+    takes(&rt, &mut processor, &mut log, b"", opened, 2_097_150);
+    assert_eq!(rt; log.inputs, Some(0));
+    let emptied =
+        "SetPrivateMode(Named(SyncUpdate)) TerminalAttribute(Bold) UnsetPrivateMode(Named(SyncUpdate)) ";
+    takes(&rt, &mut processor, &mut log, b"a", emptied, 0);
+    assert_eq!(rt; log.inputs, Some(2_097_147));
     Ok(())
 }

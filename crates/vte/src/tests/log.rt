@@ -5,10 +5,11 @@ ghost use Rattle.std.specs.Prelude.{⊤};
 use crate::ansi::{Call, Clock, Handler, Timeout};
 use std::time::Duration;
 
-/// The calls so far.
+/// The calls so far. Where inputs are counted they aren't written down.
 #[derive(Drop)]
 pub struct Log {
     pub text: String,
+    pub inputs: Option<usize>,
     pub failed: bool,
 }
 
@@ -16,6 +17,16 @@ impl Log {
     pub fn new(rt: &impl AllocGlobal) -> Log {
         Log {
             text: String::new(rt.alloc()),
+            inputs: None,
+            failed: false,
+        }
+    }
+
+    /// Counts inputs.
+    pub fn with_count(rt: &impl AllocGlobal) -> Log {
+        Log {
+            text: String::new(rt.alloc()),
+            inputs: Some(0),
             failed: false,
         }
     }
@@ -25,35 +36,28 @@ impl Handler for Log {
     ghost step = { λ _ _ _. ⊤ };
 
     fn call(&mut self, call: Call<'_>) {
+        if let (Some(count), Call::Input(_)) = (self.inputs, call) {
+            self.inputs = Some(count.saturating_add(1));
+            return;
+        }
         self.failed |= write!(self.text, "{call:?} ").is_err();
     }
 }
 
-/// Counts the calls of each kind that the bounds of the hold are about.
-#[derive(Drop)]
-pub struct Count {
-    pub inputs: usize,
-    pub attributes: usize,
-    pub closings: usize,
-}
-
-impl Handler for Count {
-    ghost step = { λ _ _ _. ⊤ };
-
-    fn call(&mut self, call: Call<'_>) {
-        match call {
-            Call::Input(_) => self.inputs = self.inputs.saturating_add(1),
-            Call::TerminalAttribute(_) => self.attributes = self.attributes.saturating_add(1),
-            Call::UnsetPrivateMode(_) => self.closings = self.closings.saturating_add(1),
-            _ => {}
-        }
-    }
-}
-
-/// A timeout that is pending from `set_timeout` to `clear_timeout`.
+/// A timeout that is pending from `set_timeout` to `clear_timeout`, and how often it was set.
 #[derive(Drop)]
 pub struct UntilCleared {
     pub pending: bool,
+    pub sets: usize,
+}
+
+impl UntilCleared {
+    pub fn new() -> UntilCleared {
+        UntilCleared {
+            pending: false,
+            sets: 0,
+        }
+    }
 }
 
 impl Timeout for UntilCleared {
@@ -65,6 +69,7 @@ impl Timeout for UntilCleared {
 
     fn set_timeout(&mut self, _duration: Duration) {
         self.pending = true;
+        self.sets = self.sets.saturating_add(1);
     }
 
     fn clear_timeout(&mut self) {
