@@ -5,6 +5,7 @@
 mod clock;
 mod color;
 mod csi;
+mod error;
 mod escape;
 pub mod laws;
 mod marks;
@@ -21,6 +22,7 @@ mod timeout;
 /// The processor, its handler, and the values of the handler's calls.
 pub mod ansi {
     pub use crate::clock::Clock;
+    pub use crate::error::OutOfMemory;
     pub use crate::processor::Processor;
     pub use crate::std_sync_handler::{StdSyncHandler, std_sync_handler_is_exact};
     pub use crate::timeout::Timeout;

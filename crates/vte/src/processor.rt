@@ -3,11 +3,12 @@ ghost use Rattle.std.specs.Prelude.{◌≡◌, ◌≤◌, ◌<◌, ◌+◌, ◌-
 ghost use Rattle.vte.specs.Hold.{Renewed};
 
 use crate::csi::SYNC_UPDATE_TIMEOUT_MILLIS;
+use crate::error::OutOfMemory;
 use crate::marks::{END, START, first_mark, last_mark};
 use crate::parse::{parse, parse_all};
 use crate::performer::ProcessorState;
 use crate::timeout::Timeout;
-use std::alloc::{AllocError, Allocator};
+use std::alloc::Allocator;
 use std::time::Duration;
 use vte_core::Parser;
 use vte_types::handler::Handler;
@@ -37,7 +38,7 @@ impl<T: Timeout + Drop, A: Allocator> Processor<T, A> {
     ghost use Rattle.std.specs.Prelude.{None, Some, true, false, take};
 
     /// A processor that has read nothing. The hold is reserved whole, so no later call is refused for memory.
-    pub fn new(alloc: A, timeout: T) -> Result<Self, AllocError>
+    pub fn new(alloc: A, timeout: T) -> Result<Self, OutOfMemory>
         ensures stands { IfOk result (λ p. StandsAt p [] []) }
         ensures exact { IfOk result (λ p. Awaits T.answers timeout false → HoldsAt T.answers p [] None) }
         ensures timeout { IfOk result (λ p. timeout_of p ≡ timeout) }
