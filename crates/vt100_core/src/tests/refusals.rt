@@ -133,3 +133,25 @@ fn texts(rt: HostRuntime) -> Result<(), Fail> {
     assert_eq!(rt; text.as_str(), want);
     Ok(())
 }
+
+/// Gives a grid another size, at the second try if the first was refused.
+fn retried_size<R: Abort>(rt: &R, grid: &mut Grid, rows: u16, cols: u16) -> Result<(), Fail> {
+    let wanted = size(rows, cols)?;
+    if let Err(error) = grid.set_size(wanted, &mut ()) {
+        assert_eq!(rt; error, GridError::Memory);
+        check_grid(rt, grid, grid.size().rows(), grid.size().cols());
+        grid.set_size(wanted, &mut ())?;
+    }
+    check_grid(rt, grid, rows, cols);
+    Ok(())
+}
+
+#[test]
+fn sizes(rt: HostRuntime) -> Result<(), Fail> {
+    let mut grid = retried_grid(&rt, rt.alloc(), 2, 2, KEEP_THREE)?;
+    retried_print(&rt, &mut grid, "a\r\nb\r\nc")?;
+    retried_size(&rt, &mut grid, 4, 3)?;
+    retried_size(&rt, &mut grid, 1, 2)?;
+    retried_size(&rt, &mut grid, 3, 4)?;
+    Ok(())
+}

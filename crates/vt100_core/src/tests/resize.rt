@@ -9,13 +9,7 @@ fn three_lines(alloc: Global, capacity: usize) -> Result<Grid, Fail>
     ensures { IfOk result (λ g. IsAllocated g) }
 {
     let mut grid = grid(alloc, 2, 4, Scrollback::Enabled { capacity })?;
-    print(&mut grid, "a")?;
-    grid.col_set(0);
-    grid.row_inc_scroll(1, &mut ())?;
-    print(&mut grid, "b")?;
-    grid.col_set(0);
-    grid.row_inc_scroll(1, &mut ())?;
-    print(&mut grid, "c")?;
+    print(&mut grid, "a\r\nb\r\nc")?;
     Ok(grid)
 }
 
@@ -23,10 +17,7 @@ fn three_lines(alloc: Global, capacity: usize) -> Result<Grid, Fail>
 fn a_row_that_was_not_kept_comes_back_blank(rt: HostRuntime) -> Result<(), Fail> {
     let mut grid = three_lines(rt.alloc(), 0)?;
     grid.set_size(size(4, 4)?, &mut ())?;
-    assert_eq!(rt; shown(rt.alloc(), &grid, 0)?.as_str(), "....");
-    assert_eq!(rt; shown(rt.alloc(), &grid, 1)?.as_str(), "b...");
-    assert_eq!(rt; shown(rt.alloc(), &grid, 2)?.as_str(), "c...");
-    assert_eq!(rt; shown(rt.alloc(), &grid, 3)?.as_str(), "....");
+    assert_eq!(rt; drawn(rt.alloc(), &grid)?.as_str(), "..../b.../c.../..../");
     assert_eq!(rt; grid.pos(), Pos { row: 2, col: 1 });
     Ok(())
 }
@@ -36,8 +27,7 @@ fn a_kept_row_comes_back_as_wide_as_the_screen(rt: HostRuntime) -> Result<(), Fa
     let mut grid = three_lines(rt.alloc(), 5)?;
     grid.set_scrollback(1)?;
     grid.set_size(size(3, 6)?, &mut ())?;
-    assert_eq!(rt; shown(rt.alloc(), &grid, 0)?.as_str(), "a.....");
-    assert_eq!(rt; shown(rt.alloc(), &grid, 2)?.as_str(), "c.....");
+    assert_eq!(rt; drawn(rt.alloc(), &grid)?.as_str(), "a...../b...../c...../");
     assert_eq!(rt; grid.pos(), Pos { row: 2, col: 1 });
     assert_eq!(rt; grid.scrollback(), 0);
     assert_eq!(rt; grid.scrollback_len(), 0);
@@ -49,14 +39,14 @@ fn rows_scroll_off_a_lower_screen(rt: HostRuntime) -> Result<(), Fail> {
     let mut grid = grid(rt.alloc(), 3, 3, Scrollback::Disabled)?;
     let mut gone = Counter { rows: 0 };
     print(&mut grid, "abcd中f")?;
-    assert_eq!(rt; shown(rt.alloc(), &grid, 1)?.as_str(), "d中_>");
+    assert_eq!(rt; drawn(rt.alloc(), &grid)?.as_str(), "abc>/d中_>/f../");
     grid.save_cursor();
     grid.set_pos(Pos { row: 1, col: 2 });
 
     // The row below the cursor goes, then the first one scrolls off. The wide character is cut.
     grid.set_size(size(1, 2)?, &mut gone)?;
     assert_eq!(rt; gone.rows, 1);
-    assert_eq!(rt; shown(rt.alloc(), &grid, 0)?.as_str(), "d.");
+    assert_eq!(rt; drawn(rt.alloc(), &grid)?.as_str(), "d./");
     assert!(rt; grid.drawing_row(1).is_none());
     assert_eq!(rt; grid.pos(), Pos { row: 0, col: 1 });
     grid.restore_cursor();
@@ -71,7 +61,7 @@ fn the_same_size_changes_nothing(rt: HostRuntime) -> Result<(), Fail> {
     grid.set_pos(Pos { row: 1, col: 4 });
     grid.set_size(size(2, 4)?, &mut ())?;
     assert_eq!(rt; grid.scrollback(), 1);
-    assert_eq!(rt; shown(rt.alloc(), &grid, 1)?.as_str(), "c...");
+    assert_eq!(rt; drawn(rt.alloc(), &grid)?.as_str(), "b.../c.../");
     Ok(())
 }
 
@@ -79,9 +69,9 @@ fn the_same_size_changes_nothing(rt: HostRuntime) -> Result<(), Fail> {
 fn a_wider_row_is_not_wrapped_any_more(rt: HostRuntime) -> Result<(), Fail> {
     let mut grid = grid(rt.alloc(), 2, 2, Scrollback::Disabled)?;
     print(&mut grid, "abcd")?;
-    assert_eq!(rt; shown(rt.alloc(), &grid, 0)?.as_str(), "ab>");
+    assert_eq!(rt; drawn(rt.alloc(), &grid)?.as_str(), "ab>/cd/");
     grid.set_size(size(2, 3)?, &mut ())?;
-    assert_eq!(rt; shown(rt.alloc(), &grid, 0)?.as_str(), "ab.");
+    assert_eq!(rt; drawn(rt.alloc(), &grid)?.as_str(), "ab./cd./");
     assert_eq!(rt; grid.pos(), Pos { row: 1, col: 2 });
     Ok(())
 }
