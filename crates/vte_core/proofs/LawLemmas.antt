@@ -176,10 +176,6 @@ pub from-fits : (n : ℕ) (q : Pending) (bs : List ℕ) → All (Fits n) (events
 from-fits n q [] = All-nil (Fits n)
 from-fits n q (b ∷ bs) = All-append (Fits n) (events_of_byte n q b) (events_from n (after_byte q b) bs) (of_byte-fits n q b) (from-fits n (after_byte q b) bs)
 
-tail_of : List Event → List Event
-tail_of [] = []
-tail_of (e ∷ es) = es
-
 same_rest : (xs ys zs : List Event) → xs ++ ys ≡ xs ++ zs → ys ≡ zs
 same_rest [] ys zs h = h
 same_rest (x ∷ xs) ys zs h = same_rest xs ys zs (cc)

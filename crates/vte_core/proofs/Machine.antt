@@ -234,10 +234,6 @@ pub after_bytes-append : (q : Pending) (xs ys : List ℕ) → after_bytes q (xs 
 after_bytes-append q [] ys = refl
 after_bytes-append q (x ∷ xs) ys = after_bytes-append (after_byte q x) xs ys
 
-pub IsSound-bytes : (q : Pending) (xs : List ℕ) → IsSound q → IsSound (after_bytes q xs)
-IsSound-bytes q [] h = h
-IsSound-bytes q (x ∷ xs) h = IsSound-bytes (after_byte q x) xs (IsSound-byte q x h)
-
 -- the events of a past and what follows it are those of the past, and then those that follow from what is pending
 pub events-past : (n : ℕ) (past bs : List ℕ) → events n (past ++ bs) ≡ events n past ++ events_from n (pending past) bs
 events-past n past bs =
