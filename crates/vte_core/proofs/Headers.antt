@@ -1,12 +1,13 @@
 -- The numbers of a header.
-use Rattle.std.proofs.Common.{◌≡◌, ℕ, zero, suc, ◌+◌, ◌-◌, ◌<◌, ◌≤◌, min, Bool, true, false, List, [], ◌∷◌, ◌++◌, map, length, take, nat_lt, refl, sym, ◌∙◌, ap, arith, length-append, inl, inr}
+use Rattle.std.proofs.Common.{◌≡◌, ◌≢◌, ℕ, zero, suc, ◌+◌, ◌-◌, ◌<◌, ◌≤◌, min, Bool, true, false, List, [], ◌∷◌, ◌++◌, map, length, take, nat_lt, refl, sym, ◌∙◌, ap, arith, length-append, inl, inr}
 use Rattle.std.proofs.lemmas.Grind.{common_steps}
 use Rattle.std.proofs.lemmas.List.{take-append-le}
-use Rattle.std.proofs.lemmas.Bool.{lt-ltb}
+use Rattle.std.proofs.lemmas.Bool.{lt-ltb, cases_lt}
 use Rattle.std.proofs.lemmas.Bool.Decides.{nat_tests}
 use Rattle.std.specs.List.{concat, slice_split, onto_first, fold}
 use Rattle.vte_core.specs.Store.{total}
 use Rattle.vte_core.specs.Header.{first_numbers}
+use Rattle.vte_core.specs.Reading.{with_group}
 use Rattle.vte_core.proofs.Characters.{bool_cases}
 
 take_all : (k : ℕ) (xs : List ℕ) → length xs ≤ k → take k xs ≡ xs
@@ -46,43 +47,69 @@ pub total-append : (gs : List (List ℕ)) (g : List ℕ) → total (gs ++ g ∷ 
 total-append [] g = omega (arith, length-append g [])
 total-append (x ∷ xs) g = omega (arith, length-append x (concat (xs ++ g ∷ [])), length-append x (concat xs), total-append xs g)
 
--- one more whole number
-pub record Ended (params gs : List (List ℕ)) (group g : List ℕ) (n : ℕ) (many : Bool) : Type 0 where
-  pub room : total params + length group < 32 → (group ++ n ∷ [] ≡ take (32 - total gs) (g ++ n ∷ [])) × (many ≡ nat_lt 32 (total gs + length (g ++ n ∷ [])))
-  pub full : 32 ≤ total params + length group → (group ≡ take (32 - total gs) (g ++ n ∷ [])) × (true ≡ nat_lt 32 (total gs + length (g ++ n ∷ [])))
+total-with : (gs : List (List ℕ)) (g : List ℕ) → total (with_group gs g) ≡ total gs + length g
+total-with gs [] = omega arith
+total-with gs (k ∷ ks) = total-append gs (k ∷ ks)
 
-pub ended : (params gs : List (List ℕ)) (group g : List ℕ) (n : ℕ) (many : Bool) → params ≡ first_numbers 32 gs → group ≡ take (32 - total gs) g → many ≡ nat_lt 32 (total gs + length g)
-    → Ended params gs group g n many
-ended params gs group g n many p q r =
-    let count : total params ≡ min 32 (total gs) = ap total p ∙ total-first 32 gs in
-    let size : length group ≡ min (32 - total gs) (length g) = ap length q ∙ length-take (32 - total gs) g in
+with-more : (gs : List (List ℕ)) (g : List ℕ) (n : ℕ) → with_group gs (g ++ n ∷ []) ≡ gs ++ (g ++ n ∷ []) ∷ []
+with-more gs [] n = refl
+with-more gs (k ∷ ks) n = refl
+
+first-over : (gs : List (List ℕ)) (g : List ℕ) (n : ℕ) → 32 ≤ total gs + length g → first_numbers 32 (with_group gs g) ≡ first_numbers 32 (gs ++ (g ++ n ∷ []) ∷ [])
+first-over gs [] n h = sym (first-full 32 gs (n ∷ []) (omega (arith, h)))
+first-over gs (k ∷ ks) n h =
+    elim (cases_lt (total gs) 32) [
+      | inl less ↦
+          first-room 32 gs (k ∷ ks) less ∙ (ap (λ (x : List ℕ). first_numbers 32 gs ++ x ∷ []) (sym (take-append-le (32 - total gs) (k ∷ ks) (n ∷ []) (omega (arith, h))))
+          ∙ sym (first-room 32 gs ((k ∷ ks) ++ n ∷ []) less))
+      | inr over ↦ first-full 32 gs (k ∷ ks) over ∙ sym (first-full 32 gs ((k ∷ ks) ++ n ∷ []) over)
+    ]
+
+first-whole : (gs : List (List ℕ)) (g : List ℕ) → 0 < length g → total gs + length g ≤ 32 → first_numbers 32 (gs ++ g ∷ []) ≡ first_numbers 32 gs ++ g ∷ []
+first-whole gs g some h = first-room 32 gs g (omega (arith, some, h)) ∙ ap (λ (x : List ℕ). first_numbers 32 gs ++ x ∷ []) (take_all (32 - total gs) g (omega (arith, h)))
+
+-- one more whole number
+pub record Ended (params gs : List (List ℕ)) (g : List ℕ) (n : ℕ) (many : Bool) : Type 0 where
+  pub is_open : true ≡ nat_lt 0 (length (g ++ n ∷ []))
+  pub full : total params ≡ 32 → (params ≡ first_numbers 32 (with_group gs (g ++ n ∷ []))) × (true ≡ nat_lt 32 (total gs + length (g ++ n ∷ [])))
+  pub room : total params ≢ 32 → (total params < 32) × (many ≡ nat_lt 32 (total gs + length (g ++ n ∷ [])))
+  pub first : total params ≢ 32 → length g ≡ 0 → params ++ (n ∷ []) ∷ [] ≡ first_numbers 32 (with_group gs (g ++ n ∷ []))
+  pub more : total params ≢ 32 → 0 < length g → (params ≡ first_numbers 32 gs ++ g ∷ []) × (first_numbers 32 gs ++ (g ++ n ∷ []) ∷ [] ≡ first_numbers 32 (with_group gs (g ++ n ∷ [])))
+
+with-some : (gs : List (List ℕ)) (g : List ℕ) → 0 < length g → with_group gs g ≡ gs ++ g ∷ []
+with-some gs [] h = absurd (omega (arith, h))
+with-some gs (k ∷ ks) h = refl
+
+with-none : (gs : List (List ℕ)) (g : List ℕ) → length g ≡ 0 → (with_group gs g ≡ gs) × (g ≡ [])
+with-none gs [] h = (refl, refl)
+with-none gs (k ∷ ks) h = absurd (omega (arith, h))
+
+pub ended : (params gs : List (List ℕ)) (g : List ℕ) (n : ℕ) (many : Bool) → params ≡ first_numbers 32 (with_group gs g) → many ≡ nat_lt 32 (total gs + length g) → Ended params gs g n many
+ended params gs g n many p r =
+    let count : total params ≡ min 32 (total gs + length g) = ap total p ∙ (total-first 32 (with_group gs g) ∙ ap (min 32) (total-with gs g)) in
     let more : length (g ++ n ∷ []) ≡ length g + 1 = length-append g (n ∷ []) in
+    let whole = with-more gs g n in
     record {
-      room = λ h.
-          let fits : total gs + length g < 32 = omega arith in (
-            ap (λ xs. xs ++ n ∷ []) (q ∙ take_all (32 - total gs) g (omega arith)) ∙ sym (take_all (32 - total gs) (g ++ n ∷ []) (omega arith)),
-            r ∙ grind (arith, nat_tests),
-          );
+      is_open = sym (lt-ltb 0 (length (g ++ n ∷ [])) (omega arith));
       full = λ h.
           let over : 32 ≤ total gs + length g = omega arith in
-          (q ∙ sym (take-append-le (32 - total gs) g (n ∷ []) (omega arith)), sym (lt-ltb 32 (total gs + length (g ++ n ∷ [])) (omega arith)));
+          (p ∙ (first-over gs g n over ∙ ap (first_numbers 32) (sym whole)), sym (lt-ltb 32 (total gs + length (g ++ n ∷ [])) (omega arith)));
+      room = λ h. let fits : total gs + length g < 32 = omega arith in (omega arith, r ∙ grind (arith, nat_tests));
+      first = λ h none.
+          let e = with-none gs g none in
+          let same : n ∷ [] ≡ g ++ n ∷ [] = ap (λ (x : List ℕ). x ++ n ∷ []) (sym e.1) in
+          ap (λ (ps : List (List ℕ)). ps ++ (n ∷ []) ∷ []) (p ∙ ap (first_numbers 32) e.0)
+          ∙ (ap (λ (x : List ℕ). first_numbers 32 gs ++ x ∷ []) same ∙ (sym (first-whole gs (g ++ n ∷ []) (omega arith) (omega arith)) ∙ ap (first_numbers 32) (sym whole)));
+      more = λ h some. (
+        p ∙ (ap (first_numbers 32) (with-some gs g some) ∙ first-whole gs g some (omega arith)),
+        sym (first-whole gs (g ++ n ∷ []) (omega arith) (omega arith)) ∙ ap (first_numbers 32) (sym whole),
+      );
     }
 
 -- one more whole group
-pub record Closed (params gs : List (List ℕ)) (group g : List ℕ) (many : Bool) : Type 0 where
-  pub some : 0 < length group → params ++ group ∷ [] ≡ first_numbers 32 (gs ++ g ∷ [])
-  pub none : length group ≡ 0 → params ≡ first_numbers 32 (gs ++ g ∷ [])
-  pub many_is : many ≡ nat_lt 32 (total (gs ++ g ∷ []) + 0)
-
-pub closed_group : (params gs : List (List ℕ)) (group g : List ℕ) (many : Bool) → params ≡ first_numbers 32 gs → group ≡ take (32 - total gs) g → many ≡ nat_lt 32 (total gs + length g) → 0 < length g
-    → Closed params gs group g many
-closed_group params gs group g many p q r some =
-    let size : length group ≡ min (32 - total gs) (length g) = ap length q ∙ length-take (32 - total gs) g in
-    record {
-      some = λ h. ap (λ xs. xs ++ group ∷ []) p ∙ (ap (λ x. first_numbers 32 gs ++ x ∷ []) q ∙ sym (first-room 32 gs g (omega arith)));
-      none = λ h. p ∙ sym (first-full 32 gs g (omega arith));
-      many_is = r ∙ ap (λ k. nat_lt 32 k) (omega (arith, total-append gs g));
-    }
+pub closed_group : (params gs : List (List ℕ)) (g : List ℕ) (many : Bool) → params ≡ first_numbers 32 (with_group gs g) → many ≡ nat_lt 32 (total gs + length g) → 0 < length g
+    → (params ≡ first_numbers 32 (gs ++ g ∷ [])) × (many ≡ nat_lt 32 (total (gs ++ g ∷ []) + 0))
+closed_group params gs g many p r some = (p ∙ ap (first_numbers 32) (with-some gs g some), r ∙ ap (λ k. nat_lt 32 k) (omega (arith, total-append gs g)))
 
 -- splits, from the back
 split_some : (p : ℕ → Bool) (xs : List ℕ) → (s : List ℕ) × (ss : List (List ℕ)) × (slice_split p xs ≡ s ∷ ss)
@@ -93,7 +120,7 @@ split_some p (x ∷ xs) =
       | inr e ↦ let (s, ss, f) = split_some p xs in (x ∷ s, ss, rw (e, f) refl)
     ]
 
-pub onto_last : ℕ → List (List ℕ) → List (List ℕ)
+unfoldable pub onto_last : ℕ → List (List ℕ) → List (List ℕ)
 onto_last b [] = (b ∷ []) ∷ []
 onto_last b (s ∷ []) = (s ++ b ∷ []) ∷ []
 onto_last b (s ∷ t ∷ ts) = s ∷ onto_last b (t ∷ ts)

@@ -1,15 +1,20 @@
 -- What is kept of a header.
-use Rattle.std.specs.Prelude.{◌≡◌, ℕ, ◌+◌, ◌-◌, List, [], ◌∷◌, ◌++◌, map, length, take, nat_lt, ◌==◌}
+use Rattle.std.specs.Prelude.{◌≡◌, ℕ, ◌+◌, List, [], ◌∷◌, ◌++◌, map, length, take, nat_lt, ◌==◌}
 use Rattle.std.specs.List.{slice_split}
 use Rattle.vte_core.specs.Header.{number, first_numbers}
 use Rattle.vte_core.specs.Store.{total}
 use Rattle.vte_core.specs.declared.numbers.Numbers.{Numbers}
 use Rattle.vte_core.specs.declared.intermediates.Intermediates.{Intermediates}
 
+-- the whole groups, and the whole numbers of the last one, where there are any
+abbrev pub with_group : List (List ℕ) → List ℕ → List (List ℕ)
+with_group gs [] = gs
+with_group gs (k ∷ ks) = gs ++ (k ∷ ks) ∷ []
+
 -- these whole groups, then these whole numbers, then this number; the first 32 whole ones are kept
 pub record Holds (x : Numbers) (gs : List (List ℕ)) (g : List ℕ) (n : ℕ) : Type 0 where
-  pub params : x.params ≡ first_numbers 32 gs
-  pub group : x.group.items ≡ take (32 - total gs) g
+  pub params : x.params ≡ first_numbers 32 (with_group gs g)
+  pub is_open : x.is_open ≡ nat_lt 0 (length g)
   pub number : x.number ≡ n
   pub many : x.many ≡ nat_lt 32 (total gs + length g)
 

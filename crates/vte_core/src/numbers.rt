@@ -5,23 +5,19 @@ ghost use Rattle.vte_core.specs.Bytes.{is_numeric};
 ghost use Rattle.vte_core.specs.Store.{total};
 
 use crate::Params;
-use arrayvec::ArrayVec;
-
-/// How many numbers are kept.
-const MAX_PARAMS: usize = 32;
 
 /// The first 32 numbers.
 #[derive(Drop)]
 pub struct Numbers {
-    /// The groups that are whole.
+    /// The whole numbers, in their groups.
     pub params: Params,
-    /// The whole numbers of the last group.
-    pub group: ArrayVec<u16, 32>,
+    /// The last group isn't whole.
+    pub is_open: bool,
     /// The last number, at most 65,535.
     pub number: u16,
     /// A number was begun or ended past the 32 that are kept.
     pub many: bool,
-    ghost fits: { total params + length group.items ≤ 32 },
+    ghost some: { IsTrue is_open → 0 < length params },
 }
 
 impl Numbers {
@@ -35,7 +31,7 @@ impl Numbers {
     {
         Numbers {
             params: Params::new(),
-            group: ArrayVec::new(),
+            is_open: false,
             number: 0,
             many: false,
         }
@@ -46,7 +42,7 @@ impl Numbers {
         ensures { ReadsNumbers self.new [] }
     {
         self.params.clear();
-        self.group.clear();
+        self.is_open = false;
         self.number = 0;
         self.many = false;
     }
@@ -64,22 +60,23 @@ impl Numbers {
         ensures { (gs : List (List ℕ)) (g : List ℕ) (n : ℕ) → Holds self.old gs g n → Holds self.new gs (g ++ n ∷ []) 0 }
     {
         let number = self.number;
+        let goes_on = self.is_open;
         self.number = 0;
-        if self.params.len() + self.group.len() < MAX_PARAMS {
-            self.group.push(number);
-            return;
+        self.is_open = true;
+        if self.params.is_full() {
+            self.many = true;
+        } else if goes_on {
+            self.params.extend(number);
+        } else {
+            self.params.push(number);
         }
-        self.many = true;
     }
 
     /// The last group is whole.
     fn end_group(&mut self)
         ensures { (gs : List (List ℕ)) (g : List ℕ) (n : ℕ) → Holds self.old gs g n → 0 < length g → Holds self.new (gs ++ g ∷ []) [] n }
     {
-        if !self.group.is_empty() {
-            self.params.push(self.group.as_slice());
-            self.group.clear();
-        }
+        self.is_open = false;
     }
 
     /// A digit, `:` or `;`.

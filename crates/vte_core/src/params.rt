@@ -4,28 +4,34 @@ ghost use Rattle.std.specs.Prelude.{◌≡◌, ◌+◌, ◌<◌, ◌≤◌, ◌=
 ghost use Rattle.vte_core.specs.Store.{total};
 ghost use Rattle.std.specs.Iterator.{YieldsFirstBy, item_count};
 
-use arrayvec::ArrayVec;
 use std::fmt;
 use std::marker::Model;
+
+/// How many numbers are kept.
+pub(crate) const MAX_PARAMS: usize = 32;
 
 /// Groups of numbers, up to 32 numbers in all, each at most 65,535. A group is what stands between two `;`; the
 /// subparameters that `:` separates are its numbers (ITU-T T.416, section 13.1.8). A number without digits is 0.
 #[derive(Drop)]
 pub struct Params {
-    numbers: ArrayVec<u16, 32>,
+    numbers: [u16; MAX_PARAMS],
+    /// How many of them there are.
+    len: usize,
     /// Where each group ends.
-    ends: ArrayVec<usize, 32>,
+    ends: [usize; MAX_PARAMS],
+    /// How many groups there are.
+    groups: usize,
 }
 
 impl Model for Params {
-    ghost use Rattle.std.specs.Prelude.{List, ℕ};
+    ghost use Rattle.std.specs.Prelude.{◌≡◌, ◌≤◌, List, ℕ, length, take};
     ghost use Rattle.vte_core.specs.Store.{cut_at, EndsFit};
 
     ghost Value = { List (List ℕ) };
 
-    ghost view = { λ p. cut_at 0 p.ends.items p.numbers.items };
+    ghost view = { λ p. cut_at 0 (take p.groups p.ends) (take p.len p.numbers) };
 
-    ghost invariant = { λ p. EndsFit 0 p.ends.items p.numbers.items };
+    ghost invariant = { λ p. EndsFit 0 (take p.groups p.ends) (take p.len p.numbers) × (p.len ≤ 32) × (p.groups ≤ 32) × (length p.numbers ≡ 32) × (length p.ends ≡ 32) };
 }
 
 impl Default for Params {
@@ -42,8 +48,10 @@ impl Params {
         ensures { result ≡ [] }
     {
         Params {
-            numbers: ArrayVec::new(),
-            ends: ArrayVec::new(),
+            numbers: [0; MAX_PARAMS],
+            len: 0,
+            ends: [0; MAX_PARAMS],
+            groups: 0,
         }
     }
 
@@ -51,34 +59,53 @@ impl Params {
     pub fn len(&self) -> usize
         ensures { result ≡ total self.now }
     {
-        self.numbers.len()
+        self.len
     }
 
     /// Whether there is no number.
     pub fn is_empty(&self) -> bool
         ensures { result ≡ (total self.now == 0) }
     {
-        self.numbers.is_empty()
+        self.len == 0
+    }
+
+    /// Whether no more numbers are kept.
+    pub(crate) fn is_full(&self) -> bool
+        ensures value { result ≡ (total self.now == 32) }
+        ensures fits { total self.now ≤ 32 }
+    {
+        self.len == MAX_PARAMS
     }
 
     /// Drops all groups.
     pub(crate) fn clear(&mut self)
         ensures { self.new ≡ [] }
     {
-        self.numbers.clear();
-        self.ends.clear();
+        self.len = 0;
+        self.groups = 0;
     }
 
-    /// One more group.
-    pub(crate) fn push(&mut self, group: &[u16])
-        requires some { 0 < length group.now }
-        requires room { total self.old + length group.now ≤ 32 }
-        ensures { self.new ≡ self.old ++ group.now ∷ [] }
+    /// One more group, of one number.
+    pub(crate) fn push(&mut self, number: u16)
+        requires { total self.old < 32 }
+        ensures { self.new ≡ self.old ++ (number ∷ []) ∷ [] }
     {
-        for number in group {
-            self.numbers.push(*number);
-        }
-        self.ends.push(self.numbers.len());
+        self.numbers[self.len] = number;
+        self.len += 1;
+        self.ends[self.groups] = self.len;
+        self.groups += 1;
+    }
+
+    /// One more number of the last group.
+    pub(crate) fn extend(&mut self, number: u16)
+        requires some { 0 < length self.old }
+        requires room { total self.old < 32 }
+        ensures last { (gs : List (List ℕ)) (g : List ℕ) → self.old ≡ gs ++ g ∷ [] → self.new ≡ gs ++ (g ++ number ∷ []) ∷ [] }
+        ensures groups { length self.new ≡ length self.old }
+    {
+        self.numbers[self.len] = number;
+        self.len += 1;
+        self.ends[self.groups - 1] = self.len;
     }
 }
 
@@ -123,8 +150,8 @@ impl Params {
         ensures { result ≡ self.now }
     {
         ParamsIter {
-            numbers: self.numbers.as_slice(),
-            ends: self.ends.as_slice(),
+            numbers: &self.numbers[..self.len],
+            ends: &self.ends[..self.groups],
             start: 0,
         }
     }

@@ -1,9 +1,6 @@
-use Rattle.std.proofs.Common.{◌∙◌, ap, arith}
-use Rattle.vte_core.proofs.Stores.{total-cut}
-use Rattle.vte_core.specs.Store.{total}
+use Rattle.std.proofs.Common.{sym}
+use Rattle.vte_core.proofs.Stores.{total-store}
 use Rattle.vte_core.proofs.params.Params.len.Goals as goal
 
 pub returns : goal.returns
-returns c =
-    let t = total-cut 0 c.self.inside.ends.items c.self.inside.numbers.items c.self.invariant in
-    c.len.ensures.value ∙ (omega (arith, t) ∙ ap total c.self.view_is)
+returns c = sym (total-store c.self.inside.numbers c.self.inside.ends c.self.inside.len c.self.inside.groups c.args.self.now c.self.invariant c.self.view_is)
