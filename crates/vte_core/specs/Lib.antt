@@ -1,6 +1,7 @@
 pub mod Event
 pub mod EventOf
 pub mod Bytes
+pub mod Classes
 pub mod Text
 pub mod Header
 pub mod Shapes

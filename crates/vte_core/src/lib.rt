@@ -25,6 +25,7 @@ ghost use Rattle.vte_core.specs.Standing.{IsAt, Stands, state_is_text};
 ghost use Rattle.vte_core.specs.Stopping.{StopsAt};
 ghost use Rattle.std.specs.Prelude.{true, not, ◌&&◌};
 ghost use Rattle.vte_core.specs.Bytes.{is_esc};
+ghost use Rattle.vte_core.specs.Classes.{is_in};
 
 mod event;
 mod header;
@@ -34,6 +35,7 @@ mod numbers;
 mod osc_data;
 mod params;
 mod perform;
+mod table;
 #[cfg(test)]
 mod tests;
 mod unfinished;
@@ -45,6 +47,7 @@ use memchr::memchr;
 use osc_data::OscData;
 pub use params::{Params, ParamsIter};
 pub use perform::Perform;
+use table::{Class, class_of};
 use unfinished::Unfinished;
 
 /// What the bytes so far have begun.
@@ -128,21 +131,23 @@ impl<const N: usize> Parser<N> {
     }
 
     /// A byte of an escape sequence, other than ESC.
-    fn escape<P: Perform>(&mut self, performer: &mut P, byte: u8)
+    fn escape<P: Perform>(&mut self, performer: &mut P, class: Class, byte: u8)
         requires state { self.old.state ≡ State.Escape }
         requires not_esc { byte ≢ 0x1B }
+        requires class { IsTrue (is_in class byte) }
         ensures stands { (q : Pending) → IsAt N self.old q → IsAt N self.new (byte_rest q byte) }
         ensures told { Performs P.step performer.old (byte_heard N State.Escape self.old self.new byte) performer.new }
         ensures is_told { (q : Pending) → IsAt N self.old q → byte_heard N State.Escape self.old self.new byte ≡ byte_told N q byte }
     {
-        match byte {
-            0x18 | 0x1A => {
+        match class {
+            Class::Cancel => {
                 self.state = State::Ground;
                 performer.execute(byte);
             }
-            0x00..=0x1F => performer.execute(byte),
-            0x20..=0x2F => self.intermediates.push(byte),
-            0x30..=0x7E => self.end_escape(performer, byte),
+            Class::Control | Class::Bell => performer.execute(byte),
+            Class::Intermediate => self.intermediates.push(byte),
+            Class::Digit | Class::Colon | Class::Semicolon | Class::Private | Class::Final =>
+                self.end_escape(performer, byte),
             _ => {}
         }
     }
@@ -181,21 +186,23 @@ impl<const N: usize> Parser<N> {
     }
 
     /// A byte of a control sequence, other than ESC.
-    fn csi<P: Perform>(&mut self, performer: &mut P, byte: u8)
+    fn csi<P: Perform>(&mut self, performer: &mut P, class: Class, byte: u8)
         requires state { self.old.state ≡ State.Csi }
         requires not_esc { byte ≢ 0x1B }
+        requires class { IsTrue (is_in class byte) }
         ensures stands { (q : Pending) → IsAt N self.old q → IsAt N self.new (byte_rest q byte) }
         ensures told { Performs P.step performer.old (byte_heard N State.Csi self.old self.new byte) performer.new }
         ensures is_told { (q : Pending) → IsAt N self.old q → byte_heard N State.Csi self.old self.new byte ≡ byte_told N q byte }
     {
-        match byte {
-            0x18 | 0x1A => {
+        match class {
+            Class::Cancel => {
                 self.state = State::Ground;
                 performer.execute(byte);
             }
-            0x00..=0x1F => performer.execute(byte),
-            0x20..=0x3F => self.header.push(byte),
-            0x40..=0x7E => {
+            Class::Control | Class::Bell => performer.execute(byte),
+            Class::Intermediate | Class::Digit | Class::Colon | Class::Semicolon | Class::Private =>
+                self.header.push(byte),
+            Class::Final => {
                 self.state = State::Ground;
                 if self.header.is_kept() {
                     self.header.csi(performer, byte);
@@ -206,42 +213,45 @@ impl<const N: usize> Parser<N> {
     }
 
     /// A byte of an operating system command, other than ESC.
-    fn osc_string<P: Perform>(&mut self, performer: &mut P, byte: u8)
+    fn osc_string<P: Perform>(&mut self, performer: &mut P, class: Class, byte: u8)
         requires state { self.old.state ≡ State.OscString }
         requires not_esc { byte ≢ 0x1B }
+        requires class { IsTrue (is_in class byte) }
         ensures stands { (q : Pending) → IsAt N self.old q → IsAt N self.new (byte_rest q byte) }
         ensures told { Performs P.step performer.old (byte_heard N State.OscString self.old self.new byte) performer.new }
         ensures is_told { (q : Pending) → IsAt N self.old q → byte_heard N State.OscString self.old self.new byte ≡ byte_told N q byte }
     {
-        match byte {
-            0x18 | 0x1A => {
+        match class {
+            Class::Cancel => {
                 self.state = State::Ground;
                 self.osc.dispatch(performer, false);
                 performer.execute(byte);
             }
-            0x07 => {
+            Class::Bell => {
                 self.state = State::Ground;
                 self.osc.dispatch(performer, true);
             }
-            0x00..=0x1F => {}
+            Class::Control => {}
             _ => self.osc.push(byte),
         }
     }
 
     /// A byte of a device control string's header, other than ESC.
-    fn dcs_header<P: Perform>(&mut self, performer: &mut P, byte: u8)
-        requires { self.old.state ≡ State.DcsHeader }
+    fn dcs_header<P: Perform>(&mut self, performer: &mut P, class: Class, byte: u8)
+        requires state { self.old.state ≡ State.DcsHeader }
+        requires class { IsTrue (is_in class byte) }
         ensures stands { (q : Pending) → IsAt N self.old q → IsAt N self.new (byte_rest q byte) }
         ensures told { Performs P.step performer.old (byte_heard N State.DcsHeader self.old self.new byte) performer.new }
         ensures is_told { (q : Pending) → IsAt N self.old q → byte_heard N State.DcsHeader self.old self.new byte ≡ byte_told N q byte }
     {
-        match byte {
-            0x18 | 0x1A => {
+        match class {
+            Class::Cancel => {
                 self.state = State::Ground;
                 performer.execute(byte);
             }
-            0x20..=0x3F => self.header.push(byte),
-            0x40..=0x7E => {
+            Class::Intermediate | Class::Digit | Class::Colon | Class::Semicolon | Class::Private =>
+                self.header.push(byte),
+            Class::Final => {
                 if self.header.is_kept() {
                     self.state = State::DcsPassthrough;
                     self.header.hook(performer, byte);
@@ -254,35 +264,37 @@ impl<const N: usize> Parser<N> {
     }
 
     /// A byte of a device control string's data, other than ESC. 0x9C is ST as one byte.
-    fn dcs_passthrough<P: Perform>(&mut self, performer: &mut P, byte: u8)
-        requires { self.old.state ≡ State.DcsPassthrough }
+    fn dcs_passthrough<P: Perform>(&mut self, performer: &mut P, class: Class, byte: u8)
+        requires state { self.old.state ≡ State.DcsPassthrough }
+        requires class { IsTrue (is_in class byte) }
         ensures stands { (q : Pending) → IsAt N self.old q → IsAt N self.new (byte_rest q byte) }
         ensures told { Performs P.step performer.old (byte_heard N State.DcsPassthrough self.old self.new byte) performer.new }
         ensures is_told { (q : Pending) → IsAt N self.old q → byte_heard N State.DcsPassthrough self.old self.new byte ≡ byte_told N q byte }
     {
-        match byte {
-            0x18 | 0x1A | 0x9C => {
+        match class {
+            Class::Cancel | Class::StringEnd => {
                 self.state = State::Ground;
                 performer.unhook();
                 if byte != 0x9C {
                     performer.execute(byte);
                 }
             }
-            0x00..=0x7E => performer.put(byte),
-            _ => {}
+            Class::Delete | Class::High => {}
+            _ => performer.put(byte),
         }
     }
 
     /// A byte of a start of string, a privacy message, an application program command or an ignored device control
     /// string, other than ESC.
-    fn sos_pm_apc_string<P: Perform>(&mut self, performer: &mut P, byte: u8)
-        requires { self.old.state ≡ State.SosPmApcString }
+    fn sos_pm_apc_string<P: Perform>(&mut self, performer: &mut P, class: Class, byte: u8)
+        requires state { self.old.state ≡ State.SosPmApcString }
+        requires class { IsTrue (is_in class byte) }
         ensures stands { (q : Pending) → IsAt N self.old q → IsAt N self.new (byte_rest q byte) }
         ensures told { Performs P.step performer.old (byte_heard N State.SosPmApcString self.old self.new byte) performer.new }
         ensures is_told { (q : Pending) → IsAt N self.old q → byte_heard N State.SosPmApcString self.old self.new byte ≡ byte_told N q byte }
     {
-        match byte {
-            0x18 | 0x1A => {
+        match class {
+            Class::Cancel => {
                 self.state = State::Ground;
                 performer.execute(byte);
             }
@@ -310,14 +322,15 @@ impl<const N: usize> Parser<N> {
             self.begin_escape(performer);
             return;
         }
+        let class = class_of(byte);
         match self.state {
             State::Ground => self.ground(performer, byte),
-            State::Escape => self.escape(performer, byte),
-            State::Csi => self.csi(performer, byte),
-            State::OscString => self.osc_string(performer, byte),
-            State::DcsHeader => self.dcs_header(performer, byte),
-            State::DcsPassthrough => self.dcs_passthrough(performer, byte),
-            State::SosPmApcString => self.sos_pm_apc_string(performer, byte),
+            State::Escape => self.escape(performer, class, byte),
+            State::Csi => self.csi(performer, class, byte),
+            State::OscString => self.osc_string(performer, class, byte),
+            State::DcsHeader => self.dcs_header(performer, class, byte),
+            State::DcsPassthrough => self.dcs_passthrough(performer, class, byte),
+            State::SosPmApcString => self.sos_pm_apc_string(performer, class, byte),
         }
     }
 
