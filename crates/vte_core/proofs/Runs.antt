@@ -1,12 +1,16 @@
 -- Ground text in runs of whole characters.
 use Rattle.std.proofs.Common.{◌≡◌, ℕ, zero, suc, ◌+◌, ◌-◌, ◌*◌, ◌/◌, ◌%◌, ◌<◌, ◌≤◌, Bool, true, false, not, ◌&&◌, List, [], ◌∷◌, ◌++◌, ◌⊎◌, inl, inr, map, nat_lt, length, take, drop, get_or, ◌==◌, refl, sym, ◌∙◌, ap, subst, arith, append_assoc, length-take}
 use Rattle.std.proofs.lemmas.Bool.Decides.{nat_tests}
+use Rattle.std.proofs.lemmas.Grind.{common_steps}
 use Rattle.std.proofs.lemmas.Bool.{ltb-true, eqb-true, eq-eqb}
 use lib.Utf8.{scalar_cases}
 use Rattle.std.specs.Int.{is_in_range}
 use Rattle.std.specs.Char.{encode_utf8, IsScalar}
 use Rattle.std.specs.Str.{encode_utf8_all, all_scalars, chars, IsUtf8}
-use Rattle.std.proofs.lemmas.Str.{encodes-chars, scalars-chars}
+use Rattle.std.proofs.lemmas.Str.{encodes-chars, scalars-chars, IsUtf8-from_ascii}
+use Rattle.std.specs.Bool.{IsTrue}
+use Rattle.std.specs.Prelude.{nat_eq, slice_index}
+use lib.Dec.{leb}
 use Rattle.vte_core.specs.Event.{Event, Performs, Print}
 use Rattle.vte_core.specs.Bytes.{is_esc}
 use Rattle.vte_core.specs.Text.{char_len, second_min, second_max, first_bits, char_event}
@@ -22,7 +26,7 @@ use Rattle.std.specs.Prelude.{Option, None, Some, unwrap_or}
 use Rattle.vte_core.specs.Stopping.{StopsAt, runs_on, is_text}
 use Rattle.vte_core.proofs.Characters.{bool_cases}
 use lib.Seq.{take-add}
-use Rattle.std.proofs.lemmas.List.{take-append-drop, drop-drop}
+use Rattle.std.proofs.lemmas.List.{take-append-drop, drop-drop, take_more}
 use Rattle.vte_core.proofs.Machine.{events_from-append, after_bytes-append}
 use Rattle.vte_core.proofs.StopLemmas.{whole_rest, is_text-at}
 
@@ -422,3 +426,47 @@ pub printed-text : (bs : List ℕ) → IsUtf8 bs → printed_len bs ≡ length b
 printed-text bs h p =
     let same = encodes-chars bs h in
     (run-text bs h).0 ∙ printed-chars (chars bs) (scalars-chars bs h) (ap printed_len same ∙ (p ∙ ap length (sym same)))
+
+-- blocks without controls
+
+plain_bits : (p q r : Bool) → IsTrue (p && (q && r)) → IsTrue p × (q ≡ true) × (r ≡ true)
+plain_bits true true true h = (h, refl, refl)
+plain_bits true true false h = absurd (let e : false ≡ true = h in cc)
+plain_bits true false r h = absurd (let e : false ≡ true = h in cc)
+plain_bits false q r h = absurd (let e : false ≡ true = h in cc)
+
+plain-printed : (b : ℕ) (rest : List ℕ) → leb 32 b ≡ true → not (nat_eq b 194) ≡ true → is_printed b rest ≡ true
+plain-printed b rest h k =
+    let low : nat_lt b 0x20 ≡ false = grind (arith, nat_tests) in
+    let other : (b == 0xC2) ≡ false = grind (arith, nat_tests) in rw (low, other) refl
+
+pub plain_step : (bs : List ℕ) (i : ℕ) (p : Bool) → i < length bs → (IsTrue p → (rest : List ℕ) → printed_len (take i bs ++ rest) ≡ i + printed_len rest)
+    → IsTrue (p && (leb 32 (get_or bs i 0) && not (nat_eq (get_or bs i 0) 194))) → (rest : List ℕ) → printed_len (take (i + 1) bs ++ rest) ≡ i + 1 + printed_len rest
+plain_step bs i p lt inv t rest =
+    let b = get_or bs i 0 in
+    let parts = plain_bits p (leb 32 b) (not (nat_eq b 194)) t in
+    let front : take (i + 1) bs ++ rest ≡ take i bs ++ (b ∷ rest) = ap (λ (xs : List ℕ). xs ++ rest) (take_more bs i 0 lt) ∙ append_assoc (take i bs) (b ∷ []) rest in
+    let printed : is_printed b rest ≡ true = plain-printed b rest parts.1 parts.2 in
+    let one : printed_len (b ∷ rest) ≡ suc (printed_len rest) = rw printed refl in
+    ap printed_len front ∙ (inv parts.0 (b ∷ rest) ∙ (ap (λ k. i + k) one ∙ omega arith))
+
+pub plain_block : (bs : List ℕ) (i : ℕ) → i + 16 ≤ length bs
+    → ((rest : List ℕ) → printed_len (take (i + 16 - i) (drop i bs) ++ rest) ≡ length (take (i + 16 - i) (drop i bs)) + printed_len rest)
+    → i + printed_len (drop i bs) ≡ printed_len bs → i + 16 + printed_len (drop (i + 16) bs) ≡ printed_len bs
+plain_block bs i within block so_far =
+    let k : i + 16 - i ≡ 16 = omega arith in
+    let len : length (take (i + 16 - i) (drop i bs)) ≡ 16 = grind (arith, common_steps) in
+    let same : take (i + 16 - i) (drop i bs) ++ drop 16 (drop i bs) ≡ drop i bs = ap (λ n. take n (drop i bs) ++ drop 16 (drop i bs)) k ∙ take-append-drop 16 (drop i bs) in
+    let rest : drop (i + 16) bs ≡ drop 16 (drop i bs) = sym (drop-drop 16 i bs) in
+    omega (arith, so_far, len, block (drop 16 (drop i bs)), ap printed_len same, ap printed_len rest)
+
+-- a byte of ASCII
+
+one_at : (b : ℕ) → b < 128 → (i : ℕ) → slice_index (b ∷ []) i < 128
+one_at b h zero = h
+one_at b h (suc i) = omega arith
+
+pub one_ascii : (bs : List ℕ) → 1 ≤ length bs → length bs < 2 → get_or bs 0 0 < 128 → IsUtf8 bs
+one_ascii [] h k l = absurd (omega (arith, h))
+one_ascii (b ∷ []) h k l = IsUtf8-from_ascii (b ∷ []) (one_at b l)
+one_ascii (b ∷ c ∷ bs) h k l = absurd (omega (arith, k))

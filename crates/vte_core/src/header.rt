@@ -90,6 +90,7 @@ impl Header {
     }
 
     /// One more byte.
+    #[inline]
     pub fn push(&mut self, byte: u8)
         requires { IsTrue (is_header byte) }
         ensures { (h : List ℕ) → ReadsHeader self.old h → ReadsHeader self.new (h ++ byte ∷ []) }

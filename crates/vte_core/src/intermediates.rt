@@ -28,7 +28,10 @@ impl Intermediates {
     pub fn clear(&mut self)
         ensures { KeepsTwo self.new [] }
     {
-        self.kept.clear();
+        // Most sequences have none.
+        if !self.kept.is_empty() {
+            self.kept.clear();
+        }
         self.many = false;
     }
 

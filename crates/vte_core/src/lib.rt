@@ -19,7 +19,7 @@ ghost use Rattle.vte_core.specs.Event.{Performs};
 ghost use Rattle.vte_core.specs.Told.{Told};
 ghost use Rattle.vte_core.specs.Runs.{Tells, is_one_step, text_len};
 ghost use Rattle.vte_core.specs.Heard.{heard, byte_heard, closed_heard, final_heard};
-ghost use Rattle.vte_core.specs.Shapes.{events};
+ghost use Rattle.vte_core.specs.Shapes.{events, before};
 ghost use Rattle.vte_core.specs.Pending.{Pending, InText, InEscape, InCsi, InOsc, InHook, InDevice, InSwallowed, final_rest, final_told, events_of_byte, after_byte, byte_told, byte_rest, events_from, after_bytes, closed, pending};
 ghost use Rattle.vte_core.specs.Standing.{IsAt, Stands, state_is_text};
 ghost use Rattle.vte_core.specs.Stopping.{StopsAt};
@@ -387,11 +387,23 @@ impl<const N: usize> Parser<N> {
 }
 
 /// How many of the next bytes are ground text: those before the next ESC.
+#[inline]
 fn text_len(state: State, bytes: &[u8]) -> usize
     ensures { result ≡ text_len state bytes.now }
 {
     match state {
-        State::Ground => memchr(0x1B, bytes).unwrap_or(bytes.len()),
+        State::Ground => len_before_esc(bytes),
         _ => 0,
+    }
+}
+
+/// How many bytes stand before the next ESC. The next one is looked at first: it often begins a sequence.
+#[inline]
+fn len_before_esc(bytes: &[u8]) -> usize
+    ensures { result ≡ length (before is_esc bytes.now) }
+{
+    match bytes {
+        [0x1B, ..] => 0,
+        _ => memchr(0x1B, bytes).unwrap_or(bytes.len()),
     }
 }

@@ -80,6 +80,7 @@ impl Numbers {
     }
 
     /// A digit, `:` or `;`.
+    #[inline]
     pub fn push(&mut self, byte: u8)
         requires { IsTrue (is_numeric byte) }
         ensures { (m : List ℕ) → ReadsNumbers self.old m → ReadsNumbers self.new (m ++ byte ∷ []) }

@@ -18,6 +18,9 @@ use arrayvec::ArrayVec;
 use std::marker::Model;
 use std::str;
 
+/// How many bytes are tested at once for controls.
+const BLOCK_LEN: usize = 16;
+
 /// How many bytes a character with this first byte has, 0 where none has it.
 fn char_len(first: u8) -> usize
     ensures { result ≡ char_len first }
@@ -184,16 +187,45 @@ fn is_printed(byte: u8, rest: &[u8]) -> bool
     }
 }
 
+/// Whether none of the bytes is a control, or 0xC2, with which one may begin.
+#[inline]
+fn is_plain(bytes: &[u8]) -> bool
+    ensures { IsTrue result → (rest : List ℕ) → printed_len (bytes.now ++ rest) ≡ length bytes.now + printed_len rest }
+{
+    let mut is_plain = true;
+    for byte in bytes {
+        is_plain &= (*byte >= 0x20) & (*byte != 0xC2);
+    }
+    is_plain
+}
+
+/// How many bytes stand in whole blocks before one that isn't plain.
+fn plain_len(bytes: &[u8]) -> usize
+    ensures within { result ≤ length bytes.now }
+    ensures printed { result + printed_len (drop result bytes.now) ≡ printed_len bytes.now }
+{
+    let mut len = 0;
+    while bytes.len() - len >= BLOCK_LEN {
+        if !is_plain(&bytes[len..len + BLOCK_LEN]) {
+            return len;
+        }
+        len += BLOCK_LEN;
+    }
+    len
+}
+
 /// How many bytes stand before the next control that is executed.
 fn printed_len(bytes: &[u8]) -> usize
     ensures { result ≡ printed_len bytes.now }
 {
-    for (i, byte) in bytes.iter().enumerate() {
-        if !is_printed(*byte, &bytes[i + 1..]) {
-            return i;
+    let mut len = plain_len(bytes);
+    while len < bytes.len() {
+        if !is_printed(bytes[len], &bytes[len + 1..]) {
+            return len;
         }
+        len += 1;
     }
-    bytes.len()
+    len
 }
 
 /// The longest text at the front of the bytes.
@@ -202,9 +234,12 @@ fn text_front(bytes: &[u8]) -> &str
     ensures front { result.now ≡ take (length result.now) bytes.now }
     ensures within { length result.now ≤ length bytes.now }
 {
-    match str::from_utf8(bytes) {
-        Ok(text) => text,
-        Err(error) => unsafe { str::from_utf8_unchecked(&bytes[..error.valid_up_to()]) },
+    match bytes {
+        [byte] if *byte < 0x80 => unsafe { str::from_utf8_unchecked(bytes) },
+        _ => match str::from_utf8(bytes) {
+            Ok(text) => text,
+            Err(error) => unsafe { str::from_utf8_unchecked(&bytes[..error.valid_up_to()]) },
+        },
     }
 }
 
