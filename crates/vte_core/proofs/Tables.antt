@@ -1,5 +1,5 @@
 -- A table against the classes that it tabulates.
-use Rattle.std.proofs.Common.{◌≡◌, ℕ, zero, suc, ◌+◌, ◌<◌, Bool, true, false, ◌&&◌, List, [], ◌∷◌, length, get_or, refl, sym, ◌∙◌, ap, arith}
+use Rattle.std.proofs.Common.{◌≡◌, ℕ, zero, suc, ◌+◌, ◌<◌, Bool, true, false, ◌&&◌, List, [], ◌∷◌, length, get_or, refl, arith}
 use Rattle.vte_core.specs.Classes.{is_in}
 use Rattle.vte_core.specs.declared.table.Class.{Class}
 

@@ -1,7 +1,7 @@
 //! The header of a control sequence or a device control string: the bytes 0x20 to 0x3F before the final byte
 //! (ECMA-48, section 5.4).
 
-ghost use Rattle.std.specs.Prelude.{◌≡◌, ◌+◌, ◌<◌, ◌≤◌, ℕ, Bool, List, [], ◌∷◌, ◌++◌, length, IsTrue, if◌then◌else◌};
+ghost use Rattle.std.specs.Prelude.{◌≡◌, ◌+◌, ◌<◌, ◌≤◌, ℕ, Bool, List, [], ◌∷◌, ◌++◌, length, IsTrue, if◌then◌else◌, true, false};
 ghost use Rattle.vte_core.specs.Bytes.{is_header, is_private, is_numeric, is_intermediate};
 ghost use Rattle.vte_core.specs.Header.{is_well_formed, kept_groups, kept_intermediates, overflows};
 ghost use Rattle.vte_core.specs.Event.{Csi, Hook};
@@ -30,13 +30,6 @@ pub struct Header {
     pub intermediates: Intermediates,
 }
 
-/// Whether the byte is a digit, `:` or `;`.
-fn is_numeric(byte: u8) -> bool
-    ensures { result ≡ is_numeric byte }
-{
-    (0x30..=0x3B).contains(&byte)
-}
-
 /// Whether the byte is an intermediate.
 fn is_intermediate(byte: u8) -> bool
     ensures { result ≡ is_intermediate byte }
@@ -44,14 +37,24 @@ fn is_intermediate(byte: u8) -> bool
     (0x20..=0x2F).contains(&byte)
 }
 
-/// The phase after one more byte of a header.
-fn next_phase(phase: Phase, byte: u8) -> Phase
-    ensures { result ≡ next_by (is_numeric byte) (is_intermediate byte) phase }
+/// The phase after a digit, `:` or `;`.
+#[inline]
+fn after_numeric(phase: Phase) -> Phase
+    ensures { result ≡ next_by true false phase }
+{
+    match phase {
+        Phase::Start | Phase::InNumbers => Phase::InNumbers,
+        _ => Phase::Ignored,
+    }
+}
+
+/// The phase after any other byte of a header.
+fn after_other(phase: Phase, byte: u8) -> Phase
+    ensures { result ≡ next_by false (is_intermediate byte) phase }
 {
     match phase {
         Phase::Start if is_intermediate(byte) => Phase::InIntermediates,
         Phase::Start => Phase::InNumbers,
-        Phase::InNumbers if is_numeric(byte) => Phase::InNumbers,
         Phase::InNumbers if is_intermediate(byte) => Phase::InIntermediates,
         Phase::InIntermediates if is_intermediate(byte) => Phase::InIntermediates,
         _ => Phase::Ignored,
@@ -89,18 +92,24 @@ impl Header {
         self.intermediates.clear();
     }
 
-    /// One more byte.
-    #[inline]
-    pub fn push(&mut self, byte: u8)
-        requires { IsTrue (is_header byte) }
+    /// A digit, `:` or `;`.
+    #[inline(always)]
+    pub fn numeric(&mut self, byte: u8)
+        requires { IsTrue (is_numeric byte) }
         ensures { (h : List ℕ) → ReadsHeader self.old h → ReadsHeader self.new (h ++ byte ∷ []) }
     {
-        self.phase = next_phase(self.phase, byte);
-        if is_numeric(byte) {
-            self.numbers.push(byte);
-        } else {
-            self.intermediates.push(byte);
-        }
+        self.phase = after_numeric(self.phase);
+        self.numbers.push(byte);
+    }
+
+    /// An intermediate, or a private byte, which is kept as one.
+    pub fn collect(&mut self, byte: u8)
+        requires header { IsTrue (is_header byte) }
+        requires other { is_numeric byte ≡ false }
+        ensures { (h : List ℕ) → ReadsHeader self.old h → ReadsHeader self.new (h ++ byte ∷ []) }
+    {
+        self.phase = after_other(self.phase, byte);
+        self.intermediates.push(byte);
     }
 
     /// Whether a sequence with this header is told.

@@ -200,8 +200,8 @@ impl<const N: usize> Parser<N> {
                 performer.execute(byte);
             }
             Class::Control | Class::Bell => performer.execute(byte),
-            Class::Intermediate | Class::Digit | Class::Colon | Class::Semicolon | Class::Private =>
-                self.header.push(byte),
+            Class::Digit | Class::Colon | Class::Semicolon => self.header.numeric(byte),
+            Class::Intermediate | Class::Private => self.header.collect(byte),
             Class::Final => {
                 self.state = State::Ground;
                 if self.header.is_kept() {
@@ -249,8 +249,8 @@ impl<const N: usize> Parser<N> {
                 self.state = State::Ground;
                 performer.execute(byte);
             }
-            Class::Intermediate | Class::Digit | Class::Colon | Class::Semicolon | Class::Private =>
-                self.header.push(byte),
+            Class::Digit | Class::Colon | Class::Semicolon => self.header.numeric(byte),
+            Class::Intermediate | Class::Private => self.header.collect(byte),
             Class::Final => {
                 if self.header.is_kept() {
                     self.state = State::DcsPassthrough;

@@ -1,4 +1,4 @@
-use Rattle.std.proofs.Common.{◌≡◌, ◌+◌, ◌≤◌, length, sym, ◌∙◌, ap, arith}
+use Rattle.std.proofs.Common.{◌+◌, ◌≤◌, length, arith}
 use Rattle.vte_core.proofs.Runs.{plain_block}
 use Rattle.vte_core.proofs.unfinished.plain_len.Goals as goal
 
