@@ -397,13 +397,15 @@ fn text_len(state: State, bytes: &[u8]) -> usize
     }
 }
 
-/// How many bytes stand before the next ESC. The next one is looked at first: it often begins a sequence.
+/// How many bytes stand before the next ESC. The next two are looked at first: a program that moves the cursor about
+/// writes hardly more between two sequences.
 #[inline]
 fn len_before_esc(bytes: &[u8]) -> usize
     ensures { result ≡ length (before is_esc bytes.now) }
 {
     match bytes {
         [0x1B, ..] => 0,
+        [_, 0x1B, ..] => 1,
         _ => memchr(0x1B, bytes).unwrap_or(bytes.len()),
     }
 }
