@@ -15,3 +15,4 @@ pub mod Heard
 pub mod Laws
 pub mod Told
 pub mod Runs
+pub mod Steps

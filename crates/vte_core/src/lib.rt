@@ -25,7 +25,7 @@ ghost use Rattle.vte_core.specs.Standing.{IsAt, Stands, state_is_text};
 ghost use Rattle.vte_core.specs.Stopping.{StopsAt};
 ghost use Rattle.std.specs.Prelude.{true, not, ◌&&◌};
 ghost use Rattle.vte_core.specs.Bytes.{is_esc};
-ghost use Rattle.vte_core.specs.Classes.{is_in};
+ghost use Rattle.vte_core.specs.Steps.{does, next_state};
 
 mod event;
 mod header;
@@ -47,7 +47,7 @@ use memchr::memchr;
 use osc_data::OscData;
 pub use params::{Params, ParamsIter};
 pub use perform::Perform;
-use table::{Class, class_of};
+use table::{Action, step_of};
 use unfinished::Unfinished;
 
 /// What the bytes so far have begun.
@@ -131,23 +131,22 @@ impl<const N: usize> Parser<N> {
     }
 
     /// A byte of an escape sequence, other than ESC.
-    fn escape<P: Perform>(&mut self, performer: &mut P, class: Class, byte: u8)
+    fn escape<P: Perform>(&mut self, performer: &mut P, action: Action, next: State, byte: u8)
         requires state { self.old.state ≡ State.Escape }
-        requires not_esc { byte ≢ 0x1B }
-        requires class { IsTrue (is_in class byte) }
+        requires action { IsTrue (does State.Escape action byte) }
+        requires next { next ≡ next_state State.Escape action }
         ensures stands { (q : Pending) → IsAt N self.old q → IsAt N self.new (byte_rest q byte) }
         ensures told { Performs P.step performer.old (byte_heard N State.Escape self.old self.new byte) performer.new }
         ensures is_told { (q : Pending) → IsAt N self.old q → byte_heard N State.Escape self.old self.new byte ≡ byte_told N q byte }
     {
-        match class {
-            Class::Cancel => {
-                self.state = State::Ground;
+        match action {
+            Action::Cancel => {
+                self.state = next;
                 performer.execute(byte);
             }
-            Class::Control | Class::Bell => performer.execute(byte),
-            Class::Intermediate => self.intermediates.push(byte),
-            Class::Digit | Class::Colon | Class::Semicolon | Class::Private | Class::Final =>
-                self.end_escape(performer, byte),
+            Action::Execute => performer.execute(byte),
+            Action::Collect => self.intermediates.push(byte),
+            Action::Dispatch => self.end_escape(performer, byte),
             _ => {}
         }
     }
@@ -186,24 +185,24 @@ impl<const N: usize> Parser<N> {
     }
 
     /// A byte of a control sequence, other than ESC.
-    fn csi<P: Perform>(&mut self, performer: &mut P, class: Class, byte: u8)
+    fn csi<P: Perform>(&mut self, performer: &mut P, action: Action, next: State, byte: u8)
         requires state { self.old.state ≡ State.Csi }
-        requires not_esc { byte ≢ 0x1B }
-        requires class { IsTrue (is_in class byte) }
+        requires action { IsTrue (does State.Csi action byte) }
+        requires next { next ≡ next_state State.Csi action }
         ensures stands { (q : Pending) → IsAt N self.old q → IsAt N self.new (byte_rest q byte) }
         ensures told { Performs P.step performer.old (byte_heard N State.Csi self.old self.new byte) performer.new }
         ensures is_told { (q : Pending) → IsAt N self.old q → byte_heard N State.Csi self.old self.new byte ≡ byte_told N q byte }
     {
-        match class {
-            Class::Cancel => {
-                self.state = State::Ground;
+        match action {
+            Action::Cancel => {
+                self.state = next;
                 performer.execute(byte);
             }
-            Class::Control | Class::Bell => performer.execute(byte),
-            Class::Digit | Class::Colon | Class::Semicolon => self.header.numeric(byte),
-            Class::Intermediate | Class::Private => self.header.collect(byte),
-            Class::Final => {
-                self.state = State::Ground;
+            Action::Execute => performer.execute(byte),
+            Action::Param => self.header.numeric(byte),
+            Action::Collect => self.header.collect(byte),
+            Action::Dispatch => {
+                self.state = next;
                 if self.header.is_kept() {
                     self.header.csi(performer, byte);
                 }
@@ -213,47 +212,48 @@ impl<const N: usize> Parser<N> {
     }
 
     /// A byte of an operating system command, other than ESC.
-    fn osc_string<P: Perform>(&mut self, performer: &mut P, class: Class, byte: u8)
+    fn osc_string<P: Perform>(&mut self, performer: &mut P, action: Action, next: State, byte: u8)
         requires state { self.old.state ≡ State.OscString }
-        requires not_esc { byte ≢ 0x1B }
-        requires class { IsTrue (is_in class byte) }
+        requires action { IsTrue (does State.OscString action byte) }
+        requires next { next ≡ next_state State.OscString action }
         ensures stands { (q : Pending) → IsAt N self.old q → IsAt N self.new (byte_rest q byte) }
         ensures told { Performs P.step performer.old (byte_heard N State.OscString self.old self.new byte) performer.new }
         ensures is_told { (q : Pending) → IsAt N self.old q → byte_heard N State.OscString self.old self.new byte ≡ byte_told N q byte }
     {
-        match class {
-            Class::Cancel => {
-                self.state = State::Ground;
+        match action {
+            Action::Cancel => {
+                self.state = next;
                 self.osc.dispatch(performer, false);
                 performer.execute(byte);
             }
-            Class::Bell => {
-                self.state = State::Ground;
+            Action::End => {
+                self.state = next;
                 self.osc.dispatch(performer, true);
             }
-            Class::Control => {}
-            _ => self.osc.push(byte),
+            Action::Put => self.osc.push(byte),
+            _ => {}
         }
     }
 
     /// A byte of a device control string's header, other than ESC.
-    fn dcs_header<P: Perform>(&mut self, performer: &mut P, class: Class, byte: u8)
+    fn dcs_header<P: Perform>(&mut self, performer: &mut P, action: Action, next: State, byte: u8)
         requires state { self.old.state ≡ State.DcsHeader }
-        requires class { IsTrue (is_in class byte) }
+        requires action { IsTrue (does State.DcsHeader action byte) }
+        requires next { next ≡ next_state State.DcsHeader action }
         ensures stands { (q : Pending) → IsAt N self.old q → IsAt N self.new (byte_rest q byte) }
         ensures told { Performs P.step performer.old (byte_heard N State.DcsHeader self.old self.new byte) performer.new }
         ensures is_told { (q : Pending) → IsAt N self.old q → byte_heard N State.DcsHeader self.old self.new byte ≡ byte_told N q byte }
     {
-        match class {
-            Class::Cancel => {
-                self.state = State::Ground;
+        match action {
+            Action::Cancel => {
+                self.state = next;
                 performer.execute(byte);
             }
-            Class::Digit | Class::Colon | Class::Semicolon => self.header.numeric(byte),
-            Class::Intermediate | Class::Private => self.header.collect(byte),
-            Class::Final => {
+            Action::Param => self.header.numeric(byte),
+            Action::Collect => self.header.collect(byte),
+            Action::Dispatch => {
                 if self.header.is_kept() {
-                    self.state = State::DcsPassthrough;
+                    self.state = next;
                     self.header.hook(performer, byte);
                 } else {
                     self.state = State::SosPmApcString;
@@ -264,38 +264,52 @@ impl<const N: usize> Parser<N> {
     }
 
     /// A byte of a device control string's data, other than ESC. 0x9C is ST as one byte.
-    fn dcs_passthrough<P: Perform>(&mut self, performer: &mut P, class: Class, byte: u8)
+    fn dcs_passthrough<P: Perform>(
+        &mut self,
+        performer: &mut P,
+        action: Action,
+        next: State,
+        byte: u8,
+    )
         requires state { self.old.state ≡ State.DcsPassthrough }
-        requires class { IsTrue (is_in class byte) }
+        requires action { IsTrue (does State.DcsPassthrough action byte) }
+        requires next { next ≡ next_state State.DcsPassthrough action }
         ensures stands { (q : Pending) → IsAt N self.old q → IsAt N self.new (byte_rest q byte) }
         ensures told { Performs P.step performer.old (byte_heard N State.DcsPassthrough self.old self.new byte) performer.new }
         ensures is_told { (q : Pending) → IsAt N self.old q → byte_heard N State.DcsPassthrough self.old self.new byte ≡ byte_told N q byte }
     {
-        match class {
-            Class::Cancel | Class::StringEnd => {
-                self.state = State::Ground;
+        match action {
+            Action::Cancel | Action::End => {
+                self.state = next;
                 performer.unhook();
-                if byte != 0x9C {
+                if let Action::Cancel = action {
                     performer.execute(byte);
                 }
             }
-            Class::Delete | Class::High => {}
-            _ => performer.put(byte),
+            Action::Put => performer.put(byte),
+            _ => {}
         }
     }
 
     /// A byte of a start of string, a privacy message, an application program command or an ignored device control
     /// string, other than ESC.
-    fn sos_pm_apc_string<P: Perform>(&mut self, performer: &mut P, class: Class, byte: u8)
+    fn sos_pm_apc_string<P: Perform>(
+        &mut self,
+        performer: &mut P,
+        action: Action,
+        next: State,
+        byte: u8,
+    )
         requires state { self.old.state ≡ State.SosPmApcString }
-        requires class { IsTrue (is_in class byte) }
+        requires action { IsTrue (does State.SosPmApcString action byte) }
+        requires next { next ≡ next_state State.SosPmApcString action }
         ensures stands { (q : Pending) → IsAt N self.old q → IsAt N self.new (byte_rest q byte) }
         ensures told { Performs P.step performer.old (byte_heard N State.SosPmApcString self.old self.new byte) performer.new }
         ensures is_told { (q : Pending) → IsAt N self.old q → byte_heard N State.SosPmApcString self.old self.new byte ≡ byte_told N q byte }
     {
-        match class {
-            Class::Cancel => {
-                self.state = State::Ground;
+        match action {
+            Action::Cancel => {
+                self.state = next;
                 performer.execute(byte);
             }
             _ => {}
@@ -322,15 +336,15 @@ impl<const N: usize> Parser<N> {
             self.begin_escape(performer);
             return;
         }
-        let class = class_of(byte);
+        let (action, next) = step_of(self.state, byte);
         match self.state {
             State::Ground => self.ground(performer, byte),
-            State::Escape => self.escape(performer, class, byte),
-            State::Csi => self.csi(performer, class, byte),
-            State::OscString => self.osc_string(performer, class, byte),
-            State::DcsHeader => self.dcs_header(performer, class, byte),
-            State::DcsPassthrough => self.dcs_passthrough(performer, class, byte),
-            State::SosPmApcString => self.sos_pm_apc_string(performer, class, byte),
+            State::Escape => self.escape(performer, action, next, byte),
+            State::Csi => self.csi(performer, action, next, byte),
+            State::OscString => self.osc_string(performer, action, next, byte),
+            State::DcsHeader => self.dcs_header(performer, action, next, byte),
+            State::DcsPassthrough => self.dcs_passthrough(performer, action, next, byte),
+            State::SosPmApcString => self.sos_pm_apc_string(performer, action, next, byte),
         }
     }
 

@@ -1,8 +1,15 @@
-//! The class of each byte in a sequence.
+//! The class of each byte in a sequence, and what a byte of each class does in each state.
 
+ghost use Rattle.std.specs.Prelude.{◌≡◌, ◌≢◌};
 ghost use Rattle.std.specs.Bool.{IsTrue};
 ghost use Rattle.vte_core.specs.Classes.{is_in};
+ghost use Rattle.vte_core.specs.Steps.{does, next_state};
 
+use crate::State;
+use crate::State::{
+    Csi, DcsHeader, DcsPassthrough, Escape as Esc, Ground, OscString, SosPmApcString,
+};
+use Action::{Cancel as Abort, Collect, Dispatch, End, Execute, Ignore, Param, Put};
 use Class::{
     Bell, Cancel, Colon, Control, Delete, Digit, Escape, Final, High, Intermediate as Between,
     Private, Semicolon, StringEnd,
@@ -64,8 +71,136 @@ static CLASSES: [Class; 256] = [
 
 /// The class of a byte.
 #[inline]
-pub fn class_of(byte: u8) -> Class
+fn class_of(byte: u8) -> Class
     ensures { IsTrue (is_in result byte) }
 {
     CLASSES[byte as usize]
+}
+
+/// What a parser does with a byte inside a sequence.
+#[derive(Clone, Copy)]
+pub enum Action {
+    /// It is dropped.
+    Ignore,
+    /// What was begun is over, and the byte is executed.
+    Cancel,
+    /// It is executed, and what was begun goes on.
+    Execute,
+    /// It is kept as an intermediate.
+    Collect,
+    /// It is of a header's numbers.
+    Param,
+    /// It ends an escape, or a header.
+    Dispatch,
+    /// It is of a string's data.
+    Put,
+    /// It ends a string.
+    End,
+}
+
+/// What a byte of each class does in each state, and the state after it: a row for each state and an entry for each class,
+/// in their order. The byte that ends an escape or a device control string's header may begin something else instead.
+/// Ground text isn't read by classes, and ESC does the same in each state but for what it ends.
+static STEPS: [[(Action, State); 13]; 7] = [
+    [(Ignore, Ground); 13],
+    [
+        (Execute, Esc),
+        (Execute, Esc),
+        (Abort, Ground),
+        (Ignore, Esc),
+        (Collect, Esc),
+        (Dispatch, Ground),
+        (Dispatch, Ground),
+        (Dispatch, Ground),
+        (Dispatch, Ground),
+        (Dispatch, Ground),
+        (Ignore, Esc),
+        (Ignore, Esc),
+        (Ignore, Esc),
+    ],
+    [
+        (Execute, Csi),
+        (Execute, Csi),
+        (Abort, Ground),
+        (Ignore, Csi),
+        (Collect, Csi),
+        (Param, Csi),
+        (Param, Csi),
+        (Param, Csi),
+        (Collect, Csi),
+        (Dispatch, Ground),
+        (Ignore, Csi),
+        (Ignore, Csi),
+        (Ignore, Csi),
+    ],
+    [
+        (Ignore, OscString),
+        (End, Ground),
+        (Abort, Ground),
+        (Ignore, OscString),
+        (Put, OscString),
+        (Put, OscString),
+        (Put, OscString),
+        (Put, OscString),
+        (Put, OscString),
+        (Put, OscString),
+        (Put, OscString),
+        (Put, OscString),
+        (Put, OscString),
+    ],
+    [
+        (Ignore, DcsHeader),
+        (Ignore, DcsHeader),
+        (Abort, Ground),
+        (Ignore, DcsHeader),
+        (Collect, DcsHeader),
+        (Param, DcsHeader),
+        (Param, DcsHeader),
+        (Param, DcsHeader),
+        (Collect, DcsHeader),
+        (Dispatch, DcsPassthrough),
+        (Ignore, DcsHeader),
+        (Ignore, DcsHeader),
+        (Ignore, DcsHeader),
+    ],
+    [
+        (Put, DcsPassthrough),
+        (Put, DcsPassthrough),
+        (Abort, Ground),
+        (Ignore, DcsPassthrough),
+        (Put, DcsPassthrough),
+        (Put, DcsPassthrough),
+        (Put, DcsPassthrough),
+        (Put, DcsPassthrough),
+        (Put, DcsPassthrough),
+        (Put, DcsPassthrough),
+        (Ignore, DcsPassthrough),
+        (End, Ground),
+        (Ignore, DcsPassthrough),
+    ],
+    [
+        (Ignore, SosPmApcString),
+        (Ignore, SosPmApcString),
+        (Abort, Ground),
+        (Ignore, SosPmApcString),
+        (Ignore, SosPmApcString),
+        (Ignore, SosPmApcString),
+        (Ignore, SosPmApcString),
+        (Ignore, SosPmApcString),
+        (Ignore, SosPmApcString),
+        (Ignore, SosPmApcString),
+        (Ignore, SosPmApcString),
+        (Ignore, SosPmApcString),
+        (Ignore, SosPmApcString),
+    ],
+];
+
+/// What a byte other than ESC does in a state, and the state after it.
+#[inline]
+pub fn step_of(state: State, byte: u8) -> (Action, State)
+    requires { byte ≢ 0x1B }
+    ensures action { IsTrue (does state result.0 byte) }
+    ensures next { result.1 ≡ next_state state result.0 }
+{
+    STEPS[state as usize][class_of(byte) as usize]
 }
