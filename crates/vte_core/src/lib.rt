@@ -25,7 +25,6 @@ ghost use Rattle.vte_core.specs.Standing.{IsAt, Stands, state_is_text};
 ghost use Rattle.vte_core.specs.Stopping.{StopsAt};
 ghost use Rattle.std.specs.Prelude.{true, not, ◌&&◌};
 ghost use Rattle.vte_core.specs.Bytes.{is_esc};
-ghost use Rattle.vte_core.specs.Steps.{does, next_state};
 
 mod event;
 mod header;
@@ -131,14 +130,14 @@ impl<const N: usize> Parser<N> {
     }
 
     /// A byte of an escape sequence, other than ESC.
-    fn escape<P: Perform>(&mut self, performer: &mut P, action: Action, next: State, byte: u8)
+    fn escape<P: Perform>(&mut self, performer: &mut P, byte: u8)
         requires state { self.old.state ≡ State.Escape }
-        requires action { IsTrue (does State.Escape action byte) }
-        requires next { next ≡ next_state State.Escape action }
+        requires not_esc { byte ≢ 0x1B }
         ensures stands { (q : Pending) → IsAt N self.old q → IsAt N self.new (byte_rest q byte) }
         ensures told { Performs P.step performer.old (byte_heard N State.Escape self.old self.new byte) performer.new }
         ensures is_told { (q : Pending) → IsAt N self.old q → byte_heard N State.Escape self.old self.new byte ≡ byte_told N q byte }
     {
+        let (action, next) = step_of(State::Escape, byte);
         match action {
             Action::Cancel => {
                 self.state = next;
@@ -185,14 +184,14 @@ impl<const N: usize> Parser<N> {
     }
 
     /// A byte of a control sequence, other than ESC.
-    fn csi<P: Perform>(&mut self, performer: &mut P, action: Action, next: State, byte: u8)
+    fn csi<P: Perform>(&mut self, performer: &mut P, byte: u8)
         requires state { self.old.state ≡ State.Csi }
-        requires action { IsTrue (does State.Csi action byte) }
-        requires next { next ≡ next_state State.Csi action }
+        requires not_esc { byte ≢ 0x1B }
         ensures stands { (q : Pending) → IsAt N self.old q → IsAt N self.new (byte_rest q byte) }
         ensures told { Performs P.step performer.old (byte_heard N State.Csi self.old self.new byte) performer.new }
         ensures is_told { (q : Pending) → IsAt N self.old q → byte_heard N State.Csi self.old self.new byte ≡ byte_told N q byte }
     {
+        let (action, next) = step_of(State::Csi, byte);
         match action {
             Action::Cancel => {
                 self.state = next;
@@ -212,14 +211,14 @@ impl<const N: usize> Parser<N> {
     }
 
     /// A byte of an operating system command, other than ESC.
-    fn osc_string<P: Perform>(&mut self, performer: &mut P, action: Action, next: State, byte: u8)
+    fn osc_string<P: Perform>(&mut self, performer: &mut P, byte: u8)
         requires state { self.old.state ≡ State.OscString }
-        requires action { IsTrue (does State.OscString action byte) }
-        requires next { next ≡ next_state State.OscString action }
+        requires not_esc { byte ≢ 0x1B }
         ensures stands { (q : Pending) → IsAt N self.old q → IsAt N self.new (byte_rest q byte) }
         ensures told { Performs P.step performer.old (byte_heard N State.OscString self.old self.new byte) performer.new }
         ensures is_told { (q : Pending) → IsAt N self.old q → byte_heard N State.OscString self.old self.new byte ≡ byte_told N q byte }
     {
+        let (action, next) = step_of(State::OscString, byte);
         match action {
             Action::Cancel => {
                 self.state = next;
@@ -236,14 +235,14 @@ impl<const N: usize> Parser<N> {
     }
 
     /// A byte of a device control string's header, other than ESC.
-    fn dcs_header<P: Perform>(&mut self, performer: &mut P, action: Action, next: State, byte: u8)
+    fn dcs_header<P: Perform>(&mut self, performer: &mut P, byte: u8)
         requires state { self.old.state ≡ State.DcsHeader }
-        requires action { IsTrue (does State.DcsHeader action byte) }
-        requires next { next ≡ next_state State.DcsHeader action }
+        requires not_esc { byte ≢ 0x1B }
         ensures stands { (q : Pending) → IsAt N self.old q → IsAt N self.new (byte_rest q byte) }
         ensures told { Performs P.step performer.old (byte_heard N State.DcsHeader self.old self.new byte) performer.new }
         ensures is_told { (q : Pending) → IsAt N self.old q → byte_heard N State.DcsHeader self.old self.new byte ≡ byte_told N q byte }
     {
+        let (action, next) = step_of(State::DcsHeader, byte);
         match action {
             Action::Cancel => {
                 self.state = next;
@@ -264,20 +263,14 @@ impl<const N: usize> Parser<N> {
     }
 
     /// A byte of a device control string's data, other than ESC. 0x9C is ST as one byte.
-    fn dcs_passthrough<P: Perform>(
-        &mut self,
-        performer: &mut P,
-        action: Action,
-        next: State,
-        byte: u8,
-    )
+    fn dcs_passthrough<P: Perform>(&mut self, performer: &mut P, byte: u8)
         requires state { self.old.state ≡ State.DcsPassthrough }
-        requires action { IsTrue (does State.DcsPassthrough action byte) }
-        requires next { next ≡ next_state State.DcsPassthrough action }
+        requires not_esc { byte ≢ 0x1B }
         ensures stands { (q : Pending) → IsAt N self.old q → IsAt N self.new (byte_rest q byte) }
         ensures told { Performs P.step performer.old (byte_heard N State.DcsPassthrough self.old self.new byte) performer.new }
         ensures is_told { (q : Pending) → IsAt N self.old q → byte_heard N State.DcsPassthrough self.old self.new byte ≡ byte_told N q byte }
     {
+        let (action, next) = step_of(State::DcsPassthrough, byte);
         match action {
             Action::Cancel | Action::End => {
                 self.state = next;
@@ -293,20 +286,14 @@ impl<const N: usize> Parser<N> {
 
     /// A byte of a start of string, a privacy message, an application program command or an ignored device control
     /// string, other than ESC.
-    fn sos_pm_apc_string<P: Perform>(
-        &mut self,
-        performer: &mut P,
-        action: Action,
-        next: State,
-        byte: u8,
-    )
+    fn sos_pm_apc_string<P: Perform>(&mut self, performer: &mut P, byte: u8)
         requires state { self.old.state ≡ State.SosPmApcString }
-        requires action { IsTrue (does State.SosPmApcString action byte) }
-        requires next { next ≡ next_state State.SosPmApcString action }
+        requires not_esc { byte ≢ 0x1B }
         ensures stands { (q : Pending) → IsAt N self.old q → IsAt N self.new (byte_rest q byte) }
         ensures told { Performs P.step performer.old (byte_heard N State.SosPmApcString self.old self.new byte) performer.new }
         ensures is_told { (q : Pending) → IsAt N self.old q → byte_heard N State.SosPmApcString self.old self.new byte ≡ byte_told N q byte }
     {
+        let (action, next) = step_of(State::SosPmApcString, byte);
         match action {
             Action::Cancel => {
                 self.state = next;
@@ -336,15 +323,14 @@ impl<const N: usize> Parser<N> {
             self.begin_escape(performer);
             return;
         }
-        let (action, next) = step_of(self.state, byte);
         match self.state {
             State::Ground => self.ground(performer, byte),
-            State::Escape => self.escape(performer, action, next, byte),
-            State::Csi => self.csi(performer, action, next, byte),
-            State::OscString => self.osc_string(performer, action, next, byte),
-            State::DcsHeader => self.dcs_header(performer, action, next, byte),
-            State::DcsPassthrough => self.dcs_passthrough(performer, action, next, byte),
-            State::SosPmApcString => self.sos_pm_apc_string(performer, action, next, byte),
+            State::Escape => self.escape(performer, byte),
+            State::Csi => self.csi(performer, byte),
+            State::OscString => self.osc_string(performer, byte),
+            State::DcsHeader => self.dcs_header(performer, byte),
+            State::DcsPassthrough => self.dcs_passthrough(performer, byte),
+            State::SosPmApcString => self.sos_pm_apc_string(performer, byte),
         }
     }
 

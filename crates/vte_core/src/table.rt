@@ -70,7 +70,7 @@ static CLASSES: [Class; 256] = [
 ];
 
 /// The class of a byte.
-#[inline]
+#[inline(always)]
 fn class_of(byte: u8) -> Class
     ensures { IsTrue (is_in result byte) }
 {
@@ -196,7 +196,7 @@ static STEPS: [[(Action, State); 13]; 7] = [
 ];
 
 /// What a byte other than ESC does in a state, and the state after it.
-#[inline]
+#[inline(always)]
 pub fn step_of(state: State, byte: u8) -> (Action, State)
     requires { byte ≢ 0x1B }
     ensures action { IsTrue (does state result.0 byte) }
