@@ -234,12 +234,12 @@ fn text_front(bytes: &[u8]) -> &str
     ensures front { result.now ≡ take (length result.now) bytes.now }
     ensures within { length result.now ≤ length bytes.now }
 {
-    match bytes {
-        [byte] if *byte < 0x80 => unsafe { str::from_utf8_unchecked(bytes) },
-        _ => match str::from_utf8(bytes) {
-            Ok(text) => text,
-            Err(error) => unsafe { str::from_utf8_unchecked(&bytes[..error.valid_up_to()]) },
-        },
+    if bytes.is_ascii() {
+        return unsafe { str::from_utf8_unchecked(bytes) };
+    }
+    match str::from_utf8(bytes) {
+        Ok(text) => text,
+        Err(error) => unsafe { str::from_utf8_unchecked(&bytes[..error.valid_up_to()]) },
     }
 }
 
