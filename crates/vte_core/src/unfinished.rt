@@ -181,9 +181,12 @@ impl Unfinished {
 fn is_printed(byte: u8, rest: &[u8]) -> bool
     ensures { result ≡ is_printed byte rest.now }
 {
+    if byte != 0xC2 {
+        return byte >= 0x20;
+    }
     match rest {
-        [next, ..] if byte == 0xC2 => !(0x80..=0x9F).contains(next),
-        _ => byte >= 0x20,
+        [next, ..] => !(0x80..=0x9F).contains(next),
+        [] => true,
     }
 }
 
