@@ -2,11 +2,12 @@
 use Rattle.std.proofs.Common.{◌≡◌, ℕ, ◌+◌, ◌-◌, ◌<◌, ◌≤◌, ◌==◌, Bool, true, false, cond, not, ◌&&◌, length, min, refl, ap, ◌∙◌, arith, nat_lt}
 use Rattle.std.proofs.lemmas.List.{length-replicate}
 use Rattle.vt100_forms.specs.declared.attrs.Attrs.{Attrs}
-use Rattle.vt100_rows.specs.Cell.{empty_cell}
-use Rattle.vt100_rows.specs.Line.{wiped, wipe_unflags, cut, opened, closed}
-use Rattle.vt100_rows.specs.Row.{RowView, cell_at, by_position, cleared_row, wiped_row, inserted, removed}
+use Rattle.vt100_cells.specs.Cell.{empty_cell}
+use Rattle.vt100_cells.specs.Line.{wiped, wipe_unflags, cut, opened, closed}
+use Rattle.vt100_cells.specs.Cells.{cell_at, by_position}
+use Rattle.vt100_rows.specs.Row.{RowView, cleared_row, wiped_row, inserted, removed}
 use Rattle.vt100_rows.proofs.RowLemmas.{IsRow-cleared, IsRow-wiped, IsRow-inserted, IsRow-removed}
-use Rattle.vt100_rows.proofs.ListLemmas.{length-by_position}
+use Rattle.vt100_cells.proofs.ListLemmas.{length-by_position}
 use Rattle.vt100_sheet.specs.Sheet.{row_at, rows_by_position, IsRowOf}
 use Rattle.vt100_core.specs.Grid.{GridView, IsGrid, IsAllocated, with_rows, with_cursor_row, row_of_cursor}
 use Rattle.vt100_core.specs.Erase.{all_erased, all_erased_forward, all_erased_backward, columns_to_cursor, row_erased, columns_erased, cells_inserted, cells_deleted}

@@ -4,7 +4,7 @@ use Rattle.std.proofs.lemmas.Bool.{cases_lt}
 use Rattle.std.proofs.lemmas.Bool.Decides.{nat_tests}
 use Rattle.std.proofs.lemmas.List.{take-take}
 use Rattle.std.proofs.lemmas.Slice.{between_is}
-use Rattle.vt100_rows.specs.Cell.{default_cell}
+use Rattle.vt100_cells.specs.Cell.{default_cell}
 use Rattle.vt100_rows.specs.Row.{RowView, blank_row, grown, trimmed}
 use Rattle.vt100_sheet.specs.Sheet.{row_at, rows_by_position, IsRowOf, IsSheet, moved_up, changed_between}
 use Rattle.vt100_sheet.proofs.KeptLemmas.{wide_along, grown-wide}

@@ -4,7 +4,7 @@ use Rattle.std.proofs.lemmas.Bool.{cases_lt, cond_both, eqb-true}
 use Rattle.std.proofs.lemmas.Bool.Decides.{nat_tests}
 use Rattle.std.proofs.lemmas.List.{length-map, length-replicate, get_or-replicate, get_or-append_right, get_or-map, get_or-drop, get_or-take}
 use Rattle.std.proofs.Math.ListN.{get_or-append}
-use Rattle.vt100_rows.specs.Cell.{default_cell}
+use Rattle.vt100_cells.specs.Cell.{default_cell}
 use Rattle.vt100_rows.specs.Row.{RowView, IsRow, blank_row, resized_row}
 use Rattle.vt100_sheet.specs.Sheet.{row_at, IsRowOf, IsSheet}
 use Rattle.vt100_sheet.proofs.BackLemmas.{IsRow-resized_default}

@@ -4,9 +4,10 @@ use Rattle.std.proofs.lemmas.Bool.{cases_lt, eq-eqb}
 use Rattle.std.proofs.lemmas.Bool.Decides.{nat_tests}
 use Rattle.std.proofs.lemmas.List.{append-nil}
 use Rattle.std.proofs.Math.Seq.{drop-nil, take-nil}
-use Rattle.vt100_rows.specs.Cell.{default_cell}
-use Rattle.vt100_rows.specs.Line.{extended}
-use Rattle.vt100_rows.specs.Row.{RowView, blank_row, cell_at, by_position, truncated, grown, resized_row, trimmed, unwrapped}
+use Rattle.vt100_cells.specs.Cell.{default_cell}
+use Rattle.vt100_cells.specs.Line.{extended}
+use Rattle.vt100_cells.specs.Cells.{cell_at, by_position}
+use Rattle.vt100_rows.specs.Row.{RowView, blank_row, truncated, grown, resized_row, trimmed, unwrapped}
 use Rattle.vt100_sheet.specs.Sheet.{row_at, rows_by_position, IsSheet, changed_between, moved_up}
 use Rattle.vt100_sheet.specs.Sheet.{first_rows}
 use Rattle.vt100_core.specs.Resize.{whole_screen, up_rows, shortened, with_width, down_rows, rows_back, lengthened, resized}

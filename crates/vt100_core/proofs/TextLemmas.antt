@@ -9,12 +9,13 @@ use Rattle.std.proofs.lemmas.List.{set-get_or}
 use Rattle.vt100_forms.specs.declared.attrs.Attrs.{Attrs}
 use Rattle.vt100_rows.specs.declared.join.Join.{Join}
 use Rattle.vt100_rows.specs.declared.join.Join.TheVariants.{InPlace, Ignored, Widened, Carried}
-use Rattle.vt100_rows.specs.Cell.{CellView, IsCell, cell_of, columns_of, is_undrawable, drawn_columns, has_text}
-use Rattle.vt100_rows.specs.Line.{span_of, put, put_unflags, wipe_unflags}
-use Rattle.vt100_rows.specs.Row.{RowView, blank_row, cell_at, placed, wiped_row, with_wrap, joined_row, joined_cell, is_widening, join_row}
+use Rattle.vt100_cells.specs.Cell.{CellView, IsCell, cell_of, columns_of, is_undrawable, drawn_columns, has_text}
+use Rattle.vt100_cells.specs.Line.{span_of, put, put_unflags, wipe_unflags}
+use Rattle.vt100_cells.specs.Cells.{cell_at}
+use Rattle.vt100_rows.specs.Row.{RowView, blank_row, placed, wiped_row, with_wrap, joined_row, joined_cell, is_widening, join_row}
 use Rattle.vt100_rows.proofs.RowLemmas.{IsRow-placed}
 use Rattle.vt100_rows.proofs.JoinLemmas.{IsRow-join, length-join}
-use Rattle.vt100_rows.proofs.ListLemmas.{length-by_position}
+use Rattle.vt100_cells.proofs.ListLemmas.{length-by_position}
 use Rattle.vt100_core.specs.declared.printed.Printed.TheVariants.{Nothing, Joined}
 use Rattle.vt100_sheet.specs.Sheet.{row_at, moved_up}
 use Rattle.vt100_core.specs.Grid.{GridView, IsGrid, IsAllocated, with_row, with_cursor_row, row_of_cursor, is_in_region}

@@ -1,6 +1,6 @@
 -- What a contract sees of a grid, and what is true of each.
 use Rattle.std.specs.Prelude.{ℕ, ◌+◌, ◌-◌, ◌^◌, ◌<◌, ◌≤◌, ◌≡◌, ◌==◌, Bool, true, false, ◌&&◌, nat_lt, nat_le, List, [], length, replicate, slice_set, slice_get, Option, Some, None, if◌then◌else◌}
-use Rattle.vt100_rows.specs.Cell.{CellView}
+use Rattle.vt100_cells.specs.Cell.{CellView}
 use Rattle.vt100_rows.specs.Row.{RowView, IsRow, blank_row}
 use Rattle.vt100_sheet.specs.Sheet.{row_at, rows_by_position, IsSheet}
 use Rattle.vt100_core.specs.declared.scrollback.Scrollback.{Scrollback}

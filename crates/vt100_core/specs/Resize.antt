@@ -1,6 +1,6 @@
 -- Another size of the screen, in steps, each by positions.
 use Rattle.std.specs.Prelude.{ℕ, ◌+◌, ◌-◌, ◌==◌, ◌&&◌, nat_lt, min, List, [], ◌++◌, length, take, drop, map, replicate, if◌then◌else◌}
-use Rattle.vt100_rows.specs.Cell.{default_cell}
+use Rattle.vt100_cells.specs.Cell.{default_cell}
 use Rattle.vt100_rows.specs.Row.{RowView, blank_row, resized_row}
 use Rattle.vt100_sheet.specs.Sheet.{row_at, rows_by_position, first_rows}
 use Rattle.vt100_core.specs.Grid.{GridView}

@@ -1,7 +1,7 @@
 -- Scrolling up, and the rows that leave the screen. A row that leaves for good is given to a sink; a result says which
 -- rows, in their order.
 use Rattle.std.specs.Prelude.{ℕ, ◌+◌, ◌-◌, ◌^◌, ◌==◌, Bool, not, ◌&&◌, nat_le, min, List, [], ◌++◌, length, take, drop, map, if◌then◌else◌}
-use Rattle.vt100_rows.specs.Cell.{default_cell}
+use Rattle.vt100_cells.specs.Cell.{default_cell}
 use Rattle.vt100_rows.specs.Row.{RowView, grown, trimmed, with_wrap}
 use Rattle.vt100_sheet.specs.Sheet.{row_at, rows_by_position, moved_up, changed_between}
 use Rattle.vt100_core.specs.Grid.{KeptPart, GridView, with_row, with_rows, is_in_region}

@@ -1,7 +1,7 @@
 -- Printing one character on a grid.
 use Rattle.std.specs.Prelude.{ℕ, ◌+◌, ◌-◌, ◌==◌, Bool, true, false, not, ◌&&◌, ◌||◌, nat_lt, List, [], if◌then◌else◌}
 use Rattle.vt100_forms.specs.declared.attrs.Attrs.{Attrs}
-use Rattle.vt100_rows.specs.Cell.{CellView, columns_of, is_undrawable, cell_of}
+use Rattle.vt100_cells.specs.Cell.{CellView, columns_of, is_undrawable, cell_of}
 use Rattle.vt100_rows.specs.Row.{RowView, placed, wiped_row, joined_cell, joined_row, is_widening}
 use Rattle.vt100_core.specs.Grid.{GridView, with_cursor_row, row_of_cursor}
 use Rattle.vt100_core.specs.Scroll.{made_to_fit, wrapped_on}

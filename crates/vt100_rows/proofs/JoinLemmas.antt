@@ -4,68 +4,19 @@ use Rattle.std.specs.Char.{IsScalar}
 use Rattle.std.proofs.lemmas.Bool.{false≢true, cases_eq, eq-eqb, ne_eqb, and_parts, cond_both, ltb-true, not-true}
 use Rattle.std.proofs.lemmas.Bool.Decides.{nat_tests}
 use Rattle.vt100_forms.specs.declared.attrs.Attrs.{Attrs}
-use Rattle.vt100_rows.specs.Cell.{CellView, IsCell, IsWideAs, has_text, is_filled, has_room, text_with, is_widened_by, appended, drawn_columns}
-use Rattle.vt100_rows.specs.Line.{IsPaired, Bounded, span_of, update, put, base_col}
-use Rattle.vt100_rows.specs.Row.{RowView, IsRow, cell_at, by_position, joined_cell, is_widening, joined_row, join_row, placed, wiped_row}
-use Rattle.vt100_rows.proofs.CellLemmas.{IsCell-appended}
-use Rattle.vt100_rows.proofs.ListLemmas.{not_first, Bounded-row, set-by_position, length-by_position}
-use Rattle.vt100_rows.proofs.LineLemmas.{put-same, IsPaired-put}
-use Rattle.vt100_rows.proofs.EditedCells.{IsCell-update}
-use Rattle.vt100_rows.proofs.TrimLemmas.{not-false}
+use Rattle.vt100_cells.specs.Cell.{CellView, IsCell, IsWideAs, has_text, is_filled, has_room, text_with, is_widened_by, appended, drawn_columns}
+use Rattle.vt100_cells.specs.Line.{IsPaired, Bounded, span_of, update, put, base_col}
+use Rattle.vt100_cells.specs.Cells.{cell_at, by_position}
+use Rattle.vt100_rows.specs.Row.{RowView, IsRow, joined_cell, is_widening, joined_row, join_row, placed, wiped_row}
+use Rattle.vt100_cells.proofs.CellLemmas.{IsCell-appended}
+use Rattle.vt100_cells.proofs.ListLemmas.{not_first, Bounded-row, set-by_position, length-by_position}
+use Rattle.vt100_cells.proofs.JoinedCells.{base_col-whole, base_col-within, filled-appended, appended-continuation, appended-wide, same-width, appended-has_text, Bounded-update, update-last}
+use Rattle.vt100_cells.proofs.LineLemmas.{put-same, IsPaired-put}
+use Rattle.vt100_cells.proofs.EditedCells.{IsCell-update}
+use Rattle.vt100_cells.proofs.TrimLemmas.{not-false}
 use Rattle.vt100_rows.proofs.RowLemmas.{IsRow-by_position, IsRow-placed, IsRow-wiped, IsPaired-like}
 
--- ---- the cell that is joined
-
-pub whole_if_wide : (f : ℕ → CellView) (i : ℕ) → IsPaired f → (f i).wide ≡ true → (f i).continuation ≡ false
-whole_if_wide f i p w = (elim (f i).continuation as (λ b. (f i).continuation ≡ b → b ≡ false) [
-  | true ↦ λ e. absurd (false≢true (ap (λ (c : CellView). c.wide) (sym (p.blank i e)) ∙ w))
-  | false ↦ λ e. refl
-]) refl
-
--- it is no second half
-pub base_col-whole : (f : ℕ → CellView) (col : ℕ) → IsPaired f → (f (base_col f col)).continuation ≡ false
-base_col-whole f col p = (elim (f (col - 1)).continuation as (λ b. (f (col - 1)).continuation ≡ b → (f (cond b (col - 2) (col - 1))).continuation ≡ false) [
-  | true ↦ λ e.
-      let later = not_first f (col - 1) p e in
-      let k : col - 2 + 1 ≡ col - 1 = omega arith in
-      let wide : (f (col - 2)).wide ≡ true = sym (p.next (col - 2)) ∙ ap (λ j. (f j).continuation) k ∙ e in
-      whole_if_wide f (col - 2) p wide
-  | false ↦ λ e. e
-]) refl
-
-pub base_col-within : (f : ℕ → CellView) (n col : ℕ) → 0 < col → col ≤ n → base_col f col < n
-base_col-within f n col h l = cond_both (f (col - 1)).continuation (col - 2) (col - 1) (λ i. i < n) (λ _. omega arith) (λ _. omega arith)
-
--- ---- what joining does to a cell
-
-text_with-some : (cs : List ℕ) (c : ℕ) → (length (text_with cs c) == 0) ≡ false
-text_with-some [] c = refl
-text_with-some (x ∷ xs) c = ne_eqb (length (x ∷ (xs ++ c ∷ []))) 0 (λ e. absurd (omega (arith, e)))
-
-filled-appended : (x : CellView) (c : ℕ) → is_filled x ≡ true → is_filled (appended x c) ≡ true
-filled-appended x c h = cond_both (has_room x.text) _ x (λ y. is_filled y ≡ true) (λ _. ap (λ b. not b || x.continuation) (text_with-some x.text c)) (λ _. h)
-
-appended-continuation : (x : CellView) (c : ℕ) → (appended x c).continuation ≡ x.continuation
-appended-continuation x c = cond_both (has_room x.text) _ x (λ y. y.continuation ≡ x.continuation) (λ _. refl) (λ _. refl)
-
--- a wide cell stays wide
-appended-wide : (x : CellView) (c : ℕ) → x.wide ≡ true → (appended x c).wide ≡ true
-appended-wide x c w = cond_both (has_room x.text) _ x (λ y. y.wide ≡ true) (λ _. ap (λ b. b || is_widened_by x.text c) w) (λ _. w)
-
-same-width : (w v : Bool) → (v ≡ true → w ≡ true) → (w && not v) ≡ false → w ≡ v
-same-width true true h e = refl
-same-width true false h e = absurd (false≢true (sym e))
-same-width false true h e = h refl
-same-width false false h e = refl
-
-wide_text : (cs : List ℕ) (w : Bool) → IsWideAs cs w → w ≡ true → not (length cs == 0) ≡ true
-wide_text [] w h e = absurd (false≢true (sym h ∙ e))
-wide_text (x ∷ xs) w h e = ap not (ne_eqb (length (x ∷ xs)) 0 (λ q. absurd (omega (arith, q))))
-
--- a cell that becomes wide has a text
-pub appended-has_text : (x : CellView) (c : ℕ) → IsCell x → (appended x c).wide ≡ true → has_text (appended x c) ≡ true
-appended-has_text x c h =
-    cond_both (has_room x.text) _ x (λ y. y.wide ≡ true → has_text y ≡ true) (λ _ w. ap not (text_with-some x.text c)) (λ _ w. wide_text x.text x.wide h.wide w)
+-- ---- the cell that becomes wide
 
 pub widened-is : (v : RowView) (col c : ℕ) → IsRow v → is_widening v col c ≡ true → ((joined_cell v col c).wide ≡ true) × (has_text (joined_cell v col c) ≡ true)
 widened-is v col c r h =
@@ -87,14 +38,6 @@ widened-base v col c r h =
     ]) refl narrow
 
 -- ---- the rows that result
-
-Bounded-update : (n : ℕ) (f : ℕ → CellView) (i : ℕ) (x : CellView) → Bounded n f → i < n → Bounded n (update f i x)
-Bounded-update n f i x b l k h = grind (arith, nat_tests, b k h)
-
-update-last : (f : ℕ → CellView) (i n : ℕ) (x : CellView) → (is_filled (f i) ≡ true → is_filled x ≡ true) → is_filled (f n) ≡ true → is_filled (update f i x n) ≡ true
-update-last f i n x h g =
-    ⊎_elim (λ (e : n ≡ i). ap (λ b. is_filled (cond b x (f n))) (eq-eqb n i e) ∙ h (ap (λ j. is_filled (f j)) (sym e) ∙ g))
-    (λ ne. ap (λ b. is_filled (cond b x (f n))) (ne_eqb n i ne) ∙ g) (cases_eq n i)
 
 pub IsRow-joined : (v : RowView) (col c : ℕ) → IsRow v → IsScalar c → drawn_columns c ≡ Some 0 → 0 < col → col ≤ length v.cells → is_widening v col c ≡ false → IsRow (joined_row v col c)
 IsRow-joined v col c r s z h l narrow =

@@ -1,13 +1,4 @@
-pub mod CellTextLemmas
-pub mod WidthLemmas
-pub mod CellLemmas
-pub mod ListLemmas
-pub mod LineLemmas
-pub mod MoveLemmas
-pub mod EditedCells
-pub mod RowLemmas
-pub mod EditLemmas
-pub mod ShiftLemmas
 pub mod TrimLemmas
+pub mod RowLemmas
 pub mod JoinLemmas
 pub mod TextLemmas

@@ -5,14 +5,15 @@ use Rattle.std.proofs.lemmas.Bool.Decides.{nat_tests}
 use Rattle.std.proofs.lemmas.List.{places, length-replicate, get_or-take, take-append-le, take_all}
 use Rattle.vt100_forms.specs.declared.attrs.Attrs.{Attrs}
 use Rattle.vt100_forms.specs.Attrs.{default_attrs}
-use Rattle.vt100_rows.specs.Cell.{CellView, IsCell, default_cell, empty_cell, is_filled, has_text}
-use Rattle.vt100_rows.specs.Line.{IsPaired, Bounded, span_of, put, put_unflags, pair_wiped, wiped, wipe_unflags, cut, opened, closed, extended}
-use Rattle.vt100_rows.specs.Row.{RowView, cell_at, by_position, last_cell, IsRow, blank_row, cleared_row, with_wrap, unwrapped, placed, wiped_row, pair_cleared, inserted, removed, truncated, grown, resized_row}
-use Rattle.vt100_rows.proofs.CellLemmas.{IsCell-empty}
-use Rattle.vt100_rows.proofs.ListLemmas.{cell_at-by_position, cell_at-by_position_total, length-by_position, by_position_is, same-by_position, cell_at_past, cell_at-whole, Bounded-row, cell_at-replicate}
-use Rattle.vt100_rows.proofs.LineLemmas.{Bounded-wiped, IsPaired-wiped, wiped-last, Bounded-pair_wiped, IsPaired-pair_wiped, Bounded-put, IsPaired-put, put-filled}
-use Rattle.vt100_rows.proofs.MoveLemmas.{Bounded-cut, IsPaired-cut, IsPaired-opened, IsPaired-closed, Bounded-closed, IsPaired-extended}
-use Rattle.vt100_rows.proofs.EditedCells.{IsCell-put, IsCell-pair_wiped, IsCell-wiped, IsCell-cut, IsCell-opened, IsCell-closed, IsCell-extended}
+use Rattle.vt100_cells.specs.Cell.{CellView, IsCell, default_cell, empty_cell, is_filled, has_text}
+use Rattle.vt100_cells.specs.Line.{IsPaired, Bounded, span_of, put, put_unflags, pair_wiped, wiped, wipe_unflags, cut, opened, closed, extended}
+use Rattle.vt100_cells.specs.Cells.{cell_at, by_position, last_cell}
+use Rattle.vt100_rows.specs.Row.{RowView, IsRow, blank_row, cleared_row, with_wrap, unwrapped, placed, wiped_row, pair_cleared, inserted, removed, truncated, grown, resized_row}
+use Rattle.vt100_cells.proofs.CellLemmas.{IsCell-empty}
+use Rattle.vt100_cells.proofs.ListLemmas.{cell_at-by_position, cell_at-by_position_total, length-by_position, by_position_is, same-by_position, cell_at_past, cell_at-whole, Bounded-row, cell_at-replicate}
+use Rattle.vt100_cells.proofs.LineLemmas.{Bounded-wiped, IsPaired-wiped, wiped-last, Bounded-pair_wiped, IsPaired-pair_wiped, Bounded-put, IsPaired-put, put-filled}
+use Rattle.vt100_cells.proofs.MoveLemmas.{Bounded-cut, IsPaired-cut, IsPaired-opened, IsPaired-closed, Bounded-closed, IsPaired-extended}
+use Rattle.vt100_cells.proofs.EditedCells.{IsCell-put, IsCell-pair_wiped, IsCell-wiped, IsCell-cut, IsCell-opened, IsCell-closed, IsCell-extended}
 
 -- a row's fields after its cells were lent as a slice
 pub IsRow-at : (v w : RowView) → v ≡ w → IsRow w → IsRow v

@@ -4,8 +4,9 @@ use Rattle.std.specs.Prelude.{encode_utf8_all, encode_utf8, Result, Ok, Err, OnE
 use Rattle.std.proofs.lemmas.Bool.{ne_eqb, false≢true, cond_both, cases_lt}
 use Rattle.std.proofs.lemmas.List.{replicate-append-replicate}
 use Rattle.std.proofs.lemmas.Str.{encodes-append, encode_ascii}
-use Rattle.vt100_rows.specs.Cell.{CellView, has_text}
-use Rattle.vt100_rows.specs.Row.{RowView, cell_at}
+use Rattle.vt100_cells.specs.Cell.{CellView, has_text}
+use Rattle.vt100_cells.specs.Cells.{cell_at}
+use Rattle.vt100_rows.specs.Row.{RowView}
 use Rattle.vt100_rows.specs.Text.{column_text, columns_text, line_text, row_text, written_text, IsBegun}
 
 -- ---- spaces

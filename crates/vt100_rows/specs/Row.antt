@@ -1,27 +1,16 @@
 -- What a contract sees of a row, what is true of every row, and what each call does to it.
 use Rattle.std.specs.Prelude.{ℕ, suc, ◌-◌, ◌^◌, ◌<◌, ◌≡◌, ◌==◌, Bool, true, false, not, ◌&&◌, nat_lt, min, List, [], ◌∷◌, length, map, take, replicate, slice_index_or, if◌then◌else◌}
-use Rattle.std.specs.List.{range_with_len}
 use Rattle.vt100_forms.specs.declared.attrs.Attrs.{Attrs}
 use Rattle.vt100_rows.specs.declared.join.Join.{Join}
 use Rattle.vt100_rows.specs.declared.join.Join.TheVariants.{InPlace, Ignored, Widened, Carried}
-use Rattle.vt100_rows.specs.Cell.{CellView, IsCell, default_cell, empty_cell, is_filled, is_default, appended}
-use Rattle.vt100_rows.specs.Line.{IsPaired, update, put, put_unflags, base_col, pair_wiped, wiped, wipe_unflags, cut, opened, closed, extended}
+use Rattle.vt100_cells.specs.Cell.{CellView, IsCell, default_cell, empty_cell, is_filled, is_default, appended}
+use Rattle.vt100_cells.specs.Cells.{cell_at, by_position, last_cell, inserted_cells, trimmed_len}
+use Rattle.vt100_cells.specs.Line.{IsPaired, update, put, put_unflags, base_col, pair_wiped, wiped, wipe_unflags, cut, opened, closed, extended}
 
 -- the cells from left to right, and whether the row's text goes on in the row below
 pub record RowView : Type 0 where
   pub cells : List CellView
   pub wrapped : Bool
-
--- the line of these cells: the cell at column k, and a default cell past the last column
-abbrev pub cell_at : List CellView → ℕ → CellView
-cell_at cells k = slice_index_or cells k default_cell
-
--- n cells, where the one at column k is f k
-abbrev pub by_position : ℕ → (ℕ → CellView) → List CellView
-by_position n f = map f (range_with_len 0 n)
-
-abbrev pub last_cell : List CellView → CellView
-last_cell cells = cell_at cells (length cells - 1)
 
 -- ---- what is true of every row
 
@@ -89,12 +78,6 @@ joined_row v col c = record {
 
 -- ---- insertion and removal
 
--- default cells come in at column i, as many of the count as there are columns from there on
-abbrev pub inserted_cells : List CellView → ℕ → ℕ → List CellView
-inserted_cells cells i count =
-    let n = min count (length cells - i) in
-    if nat_lt 0 n then by_position (length cells) (cut (length cells) (opened (cell_at cells) i n)) else cells
-
 abbrev pub inserted : RowView → ℕ → ℕ → RowView
 inserted v i count = record { cells = inserted_cells v.cells i count; wrapped = false }
 
@@ -121,11 +104,6 @@ grown v n x =
 
 abbrev pub resized_row : RowView → ℕ → CellView → RowView
 resized_row v n x = if nat_lt n (length v.cells) then truncated v n else grown v n x
-
--- how many cells stand up to the last that is no default cell
-abbrev pub trimmed_len : List CellView → ℕ
-trimmed_len [] = 0
-trimmed_len (x ∷ xs) = if (trimmed_len xs == 0) && is_default x then 0 else suc (trimmed_len xs)
 
 -- default cells at the end go
 abbrev pub trimmed : RowView → RowView

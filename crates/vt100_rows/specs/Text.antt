@@ -1,7 +1,8 @@
 -- The text that a row shows.
 use Rattle.std.specs.Prelude.{ℕ, zero, suc, ◌+◌, ◌-◌, ◌≡◌, ◌==◌, Bool, not, ◌&&◌, min, List, [], ◌∷◌, ◌++◌, length, if◌then◌else◌}
-use Rattle.vt100_rows.specs.Cell.{CellView, has_text}
-use Rattle.vt100_rows.specs.Row.{RowView, cell_at}
+use Rattle.vt100_cells.specs.Cell.{CellView, has_text}
+use Rattle.vt100_cells.specs.Cells.{cell_at}
+use Rattle.vt100_rows.specs.Row.{RowView}
 
 -- what column k shows in a text from column s on: its own text, or a space where nothing stands. The second half of a
 -- wide cell shows nothing, but at column s it counts as empty.

@@ -1,5 +1,5 @@
 //! What became of a zero-width character.
-use crate::cell::Cell;
+use vt100_cells::Cell;
 
 /// What [`Row::join`](crate::Row::join) did with a zero-width character.
 #[derive(Clone, Copy)]

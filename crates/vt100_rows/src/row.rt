@@ -1,20 +1,20 @@
 //! One row of a terminal.
 ghost use Rattle.std.specs.Prelude.{◌≡◌, ℕ, ◌+◌, ◌-◌, ◌<◌, ◌≤◌, ◌==◌, ◌++◌, List, length, Some, true, false, not, ◌&&◌, IfOk, OnOk, OnErr, slice_get, string_bytes, encode_utf8_all, replicate};
 ghost use Rattle.std.specs.Option.{option_copied};
-ghost use Rattle.vt100_rows.specs.Cell.{cell_of, has_text, drawn_columns};
-ghost use Rattle.vt100_rows.specs.Line.{span_of};
+ghost use Rattle.vt100_cells.specs.Cell.{cell_of, has_text, drawn_columns};
+ghost use Rattle.vt100_cells.specs.Line.{span_of};
 ghost use Rattle.vt100_rows.specs.Row.{blank_row, cleared_row, with_wrap, placed, wiped_row, pair_cleared, join_row, join_answer, inserted, removed, truncated, grown, resized_row, trimmed};
 ghost use Rattle.vt100_rows.specs.Text.{written_text, IsBegun};
 
-use crate::cell::Cell;
 use crate::join::Join;
-use crate::line::{
-    at, base_col, clear_cut_half, clear_pair, ends_filled, insert, put, puts_end, remove,
-    trimmed_len, wipe, wipes_end,
-};
 use std::alloc::Global;
 use std::marker::Model;
 use std::ops::Range;
+use vt100_cells::Cell;
+use vt100_cells::line::{
+    at, base_col, clear_cut_half, clear_pair, ends_filled, insert, put, puts_end, remove,
+    trimmed_len, wipe, wipes_end,
+};
 use vt100_forms::GridError;
 use vt100_forms::attrs::Attrs;
 

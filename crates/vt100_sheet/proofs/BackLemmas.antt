@@ -5,10 +5,10 @@ use Rattle.std.proofs.lemmas.Bool.Decides.{nat_tests}
 use Rattle.std.proofs.lemmas.List.{length-map, length-replicate, replicate-append-replicate, take_at, drop_at, get_or-append_right, get_or-map, get_or-drop, get_or-take}
 use Rattle.std.proofs.Math.ListN.{get_or-append}
 use Rattle.vt100_forms.specs.Attrs.{default_attrs}
-use Rattle.vt100_rows.specs.Cell.{default_cell}
+use Rattle.vt100_cells.specs.Cell.{default_cell}
 use Rattle.vt100_rows.specs.Row.{RowView, IsRow, blank_row, resized_row}
 use Rattle.vt100_rows.proofs.RowLemmas.{IsRow-resized}
-use Rattle.vt100_rows.proofs.CellLemmas.{IsCell-empty}
+use Rattle.vt100_cells.proofs.CellLemmas.{IsCell-empty}
 use Rattle.vt100_sheet.specs.Sheet.{row_at, changed_between}
 use Rattle.vt100_sheet.proofs.SheetLemmas.{rows_equal}
 

@@ -5,13 +5,14 @@ use Rattle.std.proofs.lemmas.Bool.Decides.{nat_tests}
 use Rattle.std.proofs.lemmas.List.{get_or_push, map-append}
 use Rattle.std.proofs.Math.ListN.{get_or-append}
 use Rattle.std.proofs.lemmas.List.Edits.{between_more}
-use Rattle.vt100_rows.specs.Cell.{default_cell}
-use Rattle.vt100_rows.specs.Line.{extended}
-use Rattle.vt100_rows.specs.Row.{RowView, IsRow, blank_row, cell_at, by_position, grown, trimmed}
+use Rattle.vt100_cells.specs.Cell.{default_cell}
+use Rattle.vt100_cells.specs.Line.{extended}
+use Rattle.vt100_cells.specs.Cells.{cell_at, by_position}
+use Rattle.vt100_rows.specs.Row.{RowView, IsRow, blank_row, grown, trimmed}
 use Rattle.vt100_forms.specs.Attrs.{default_attrs}
 use Rattle.vt100_rows.proofs.RowLemmas.{IsRow-grown}
-use Rattle.vt100_rows.proofs.CellLemmas.{IsCell-empty}
-use Rattle.vt100_rows.proofs.ListLemmas.{length-by_position}
+use Rattle.vt100_cells.proofs.CellLemmas.{IsCell-empty}
+use Rattle.vt100_cells.proofs.ListLemmas.{length-by_position}
 use Rattle.vt100_sheet.specs.Sheet.{row_at, changed_between}
 use Rattle.vt100_sheet.proofs.SheetLemmas.{row_at-set}
 

@@ -4,12 +4,13 @@ use Rattle.std.proofs.lemmas.Bool.{cond_both, cases_lt}
 use Rattle.std.proofs.lemmas.Bool.Decides.{nat_tests}
 use Rattle.std.proofs.lemmas.List.{places}
 use Rattle.vt100_forms.specs.Attrs.{default_attrs}
-use Rattle.vt100_rows.specs.Cell.{default_cell}
-use Rattle.vt100_rows.specs.Line.{cut, extended}
-use Rattle.vt100_rows.specs.Row.{RowView, cell_at, by_position, truncated, grown, resized_row, unwrapped}
+use Rattle.vt100_cells.specs.Cell.{default_cell}
+use Rattle.vt100_cells.specs.Line.{cut, extended}
+use Rattle.vt100_cells.specs.Cells.{cell_at, by_position}
+use Rattle.vt100_rows.specs.Row.{RowView, truncated, grown, resized_row, unwrapped}
 use Rattle.vt100_rows.proofs.RowLemmas.{IsRow-truncated, IsRow-resized}
-use Rattle.vt100_rows.proofs.CellLemmas.{IsCell-empty}
-use Rattle.vt100_rows.proofs.ListLemmas.{length-by_position}
+use Rattle.vt100_cells.proofs.CellLemmas.{IsCell-empty}
+use Rattle.vt100_cells.proofs.ListLemmas.{length-by_position}
 use Rattle.vt100_sheet.specs.Sheet.{row_at, rows_by_position, IsRowOf, IsSheet, changed_between}
 use Rattle.vt100_sheet.specs.Sheet.{first_rows}
 use Rattle.vt100_sheet.proofs.SheetLemmas.{row_at-set, row_at-by_position, rows_by_position_is, length-rows_by_position, IsSheet-by_position, rows_equal}

@@ -1,6 +1,6 @@
 //! The rows that are kept, the oldest first.
 ghost use Rattle.std.specs.Prelude.{◌≡◌, ℕ, ◌+◌, ◌-◌, ◌<◌, ◌≤◌, ◌++◌, length, take, drop, map, slice_range, vec_len, vec_capacity, OnOk, IfOk};
-ghost use Rattle.vt100_rows.specs.Cell.{default_cell};
+ghost use Rattle.vt100_cells.specs.Cell.{default_cell};
 ghost use Rattle.vt100_rows.specs.Row.{IsRow, blank_row, grown, resized_row, trimmed};
 ghost use Rattle.vt100_sheet.specs.Sheet.{row_at, rows_by_position, IsSheet, changed_between};
 ghost use Rattle.vt100_sheet.specs.Sink.{TakesAll};

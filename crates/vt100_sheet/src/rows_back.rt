@@ -1,6 +1,6 @@
 //! Rows that come back at the top of a list of rows.
 ghost use Rattle.std.specs.Prelude.{◌≡◌, ℕ, ◌+◌, ◌-◌, ◌^◌, ◌<◌, ◌≤◌, ◌++◌, List, length, take, drop, map, replicate, vec_len, vec_capacity, OnOk, OnErr};
-ghost use Rattle.vt100_rows.specs.Cell.{default_cell};
+ghost use Rattle.vt100_cells.specs.Cell.{default_cell};
 ghost use Rattle.vt100_rows.specs.Row.{RowView, IsRow, blank_row, resized_row};
 ghost use Rattle.vt100_sheet.specs.Sheet.{row_at};
 

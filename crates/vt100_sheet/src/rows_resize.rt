@@ -1,6 +1,6 @@
 //! Another size of a list of rows.
 ghost use Rattle.std.specs.Prelude.{◌≡◌, ℕ, ◌<◌, ◌≤◌, length, min, OnOk, OnErr};
-ghost use Rattle.vt100_rows.specs.Cell.{default_cell};
+ghost use Rattle.vt100_cells.specs.Cell.{default_cell};
 ghost use Rattle.vt100_rows.specs.Row.{RowView, truncated, grown, resized_row};
 ghost use Rattle.vt100_sheet.specs.Sheet.{row_at, rows_by_position, IsSheet, changed_between, first_rows};
 

@@ -1,7 +1,7 @@
 //! Printing text.
 ghost use Rattle.std.specs.Prelude.{◌≡◌, ℕ, ◌+◌, ◌-◌, ◌<◌, ◌≤◌, ◌==◌, ◌&&◌, ◌||◌, nat_lt, true, false, Some, OnOk, IfOk, if◌then◌else◌};
-ghost use Rattle.vt100_rows.specs.Cell.{IsCell, cell_of, columns_of, drawn_columns, has_text};
-ghost use Rattle.vt100_rows.specs.Line.{span_of};
+ghost use Rattle.vt100_cells.specs.Cell.{IsCell, cell_of, columns_of, drawn_columns, has_text};
+ghost use Rattle.vt100_cells.specs.Line.{span_of};
 ghost use Rattle.vt100_rows.specs.Row.{join_row, join_answer};
 ghost use Rattle.vt100_sheet.specs.Sink.{TakesAll};
 

@@ -1,5 +1,5 @@
 use Rattle.std.proofs.Common.{◌≡◌, ℕ, ◌-◌, ◌<◌, length}
-use Rattle.vt100_rows.specs.Cell.{default_cell}
+use Rattle.vt100_cells.specs.Cell.{default_cell}
 use Rattle.vt100_rows.specs.Row.{IsRow, resized_row}
 use Rattle.vt100_sheet.specs.Sheet.{row_at, changed_between}
 use Rattle.vt100_sheet.proofs.kept_rows.resize_newest.Given as goal

@@ -1,6 +1,6 @@
 use Rattle.std.proofs.Common.{arith, ap, ◌∙◌, ◌≡◌, ◌<◌, length, length-set}
 use Rattle.std.proofs.lemmas.List.{get_or_default}
-use Rattle.vt100_rows.specs.Cell.{CellView, default_cell}
+use Rattle.vt100_cells.specs.Cell.{CellView, default_cell}
 use Rattle.vt100_rows.specs.Row.{RowView, grown, blank_row}
 use Rattle.vt100_sheet.specs.Sheet.{changed_between, row_at}
 use Rattle.vt100_sheet.proofs.SheetLemmas.{rows_by_position_is, changes-more}

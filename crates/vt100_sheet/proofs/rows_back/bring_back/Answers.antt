@@ -1,5 +1,5 @@
 use Rattle.std.proofs.Common.{List, ap, arith, replicate, vec_len, ◌+◌, ◌++◌, ◌-◌, ◌∙◌}
-use Rattle.vt100_rows.specs.Cell.{default_cell}
+use Rattle.vt100_cells.specs.Cell.{default_cell}
 use Rattle.vt100_rows.specs.Row.{RowView, blank_row, resized_row}
 use Rattle.vt100_sheet.proofs.BackLemmas.{brings-back}
 use Rattle.vt100_sheet.proofs.rows_back.bring_back.Goals as goal

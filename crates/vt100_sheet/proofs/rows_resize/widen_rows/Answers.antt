@@ -1,6 +1,6 @@
 use Rattle.std.proofs.Common.{arith, ap, ◌∙◌, ◌≡◌, ◌<◌, length, length-set, set, get_or}
 use Rattle.std.proofs.lemmas.List.{get_or_default}
-use Rattle.vt100_rows.specs.Cell.{CellView, default_cell}
+use Rattle.vt100_cells.specs.Cell.{CellView, default_cell}
 use Rattle.vt100_rows.specs.Row.{RowView, blank_row, grown}
 use Rattle.vt100_sheet.specs.Sheet.{row_at}
 use Rattle.vt100_sheet.proofs.SheetLemmas.{changes-more}

@@ -1,7 +1,7 @@
 use Rattle.std.proofs.Common.{arith, ap, sym, subst, refl, ◌∙◌, ◌≡◌, ◌+◌, ◌<◌, ◌==◌, [], List, length, length-set, nat_lt}
-use Rattle.vt100_rows.specs.Cell.{CellView, IsCell, has_text}
+use Rattle.vt100_cells.specs.Cell.{CellView, IsCell, has_text}
 use Rattle.vt100_rows.specs.Row.{RowView, joined_cell, is_widening, join_row}
-use Rattle.vt100_rows.proofs.CellLemmas.{IsCell-with_attrs}
+use Rattle.vt100_cells.proofs.CellLemmas.{IsCell-with_attrs}
 use Rattle.vt100_rows.proofs.JoinLemmas.{IsCell-joined, widened-is}
 use Rattle.vt100_sheet.specs.Sink.{TakesAll}
 use Rattle.vt100_core.specs.Grid.{GridView, row_of_cursor}

@@ -1,8 +1,8 @@
 use Rattle.std.proofs.Common.{arith, refl}
 use Rattle.std.proofs.lemmas.Grind.{common_steps}
-use Rattle.vt100_rows.specs.Cell.{cell_of}
-use Rattle.vt100_rows.proofs.CellLemmas.{IsCell-of}
-use Rattle.vt100_rows.proofs.WidthLemmas.{drawn-is}
+use Rattle.vt100_cells.specs.Cell.{cell_of}
+use Rattle.vt100_cells.proofs.CellLemmas.{IsCell-of}
+use Rattle.vt100_cells.proofs.WidthLemmas.{drawn-is}
 use Rattle.vt100_core.specs.Text.{put_at}
 use Rattle.vt100_core.proofs.GridLemmas.{IsGrid-at}
 use Rattle.vt100_core.proofs.TextLemmas.{IsGrid-put_at, span_of-cell}

@@ -1,6 +1,6 @@
 use Rattle.std.proofs.Common.{arith, ap, sym, subst, refl, ◌∙◌, ◌≡◌, [], cond}
 use Rattle.std.specs.Prelude.{Some, None, OnOk, IfOk}
-use Rattle.vt100_rows.specs.Cell.{columns_of}
+use Rattle.vt100_cells.specs.Cell.{columns_of}
 use Rattle.vt100_sheet.specs.Sink.{TakesAll}
 use Rattle.vt100_core.specs.Text.{Drawn, is_dropped, printed}
 use Rattle.vt100_sheet.proofs.SinkLemmas.{TakesAll-list}

@@ -1,8 +1,8 @@
 use Rattle.std.proofs.Common.{ap, ◌∙◌, List}
 use Rattle.std.specs.Prelude.{slice_get}
-use Rattle.vt100_rows.specs.Cell.{CellView}
+use Rattle.vt100_cells.specs.Cell.{CellView}
 use Rattle.vt100_rows.specs.Row.{RowView}
-use Rattle.vt100_rows.proofs.ListLemmas.{looked_up}
+use Rattle.vt100_cells.proofs.ListLemmas.{looked_up}
 use Rattle.vt100_rows.proofs.row.Row.get.Goals as goal
 
 pub returns : goal.returns

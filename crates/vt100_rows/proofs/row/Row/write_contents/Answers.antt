@@ -1,9 +1,10 @@
 use Rattle.std.proofs.Common.{◌≡◌, ◌+◌, ◌<◌, ◌++◌, true, false, not, ◌&&◌, ◌==◌, ap, ◌∙◌, sym, subst, arith, length, min, List}
 use Rattle.std.specs.Prelude.{string_bytes, encode_utf8_all}
-use Rattle.vt100_rows.specs.Cell.{CellView, has_text}
-use Rattle.vt100_rows.specs.Row.{RowView, cell_at}
+use Rattle.vt100_cells.specs.Cell.{CellView, has_text}
+use Rattle.vt100_cells.specs.Cells.{cell_at}
+use Rattle.vt100_rows.specs.Row.{RowView}
 use Rattle.vt100_rows.specs.Text.{written_text, IsBegun}
-use Rattle.vt100_rows.proofs.TrimLemmas.{not-false}
+use Rattle.vt100_cells.proofs.TrimLemmas.{not-false}
 use Rattle.std.proofs.lemmas.Bool.{not-true}
 use Rattle.vt100_rows.proofs.TextLemmas.{IsWritten-text, IsWritten-space, IsWritten-half, IsBegun-text, IsBegun-spaces, on-err}
 use Rattle.vt100_rows.proofs.row.Row.write_contents.Goals as goal

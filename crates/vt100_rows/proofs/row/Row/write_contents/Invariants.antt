@@ -1,6 +1,6 @@
 use Rattle.std.proofs.Common.{◌-◌}
 use Rattle.std.specs.Prelude.{string_bytes}
-use Rattle.vt100_rows.specs.Row.{cell_at}
+use Rattle.vt100_cells.specs.Cells.{cell_at}
 use Rattle.vt100_rows.proofs.TextLemmas.{IsWritten}
 use Rattle.vt100_rows.proofs.row.Row.write_contents.Given as goal
 

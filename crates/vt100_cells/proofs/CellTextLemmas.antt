@@ -1,0 +1,67 @@
+-- A text with one more character.
+use Rattle.std.proofs.Common.{◌≡◌, ℕ, zero, suc, ◌+◌, ◌-◌, ◌<◌, ◌≤◌, true, List, [], ◌∷◌, ◌++◌, length, take, drop, replicate, sym, refl, ap, ◌∙◌, arith, length-append, length-take, length-drop, nat_eq, rules, append-nil}
+use Rattle.std.specs.Prelude.{encode_utf8_all, encode_utf8, chars, IsUtf8}
+use Rattle.std.specs.Char.{IsScalar}
+use Rattle.std.specs.Str.{IsAscii}
+use Rattle.std.proofs.lemmas.Bool.{ltb-true}
+use Rattle.std.proofs.lemmas.Bool.Decides.{nat_tests}
+use Rattle.std.proofs.lemmas.List.{drop-drop, drop-replicate}
+use Rattle.std.proofs.lemmas.Str.{IsUtf8-had, chars-append, IsUtf8-append, chars-encodes, length-encode, len_utf8_bounds, IsUtf8-from_ascii, chars-IsAscii}
+use Rattle.std.proofs.lemmas.Slice.{take-put_mid, drop-put_mid}
+use borrow.Rule.Slice.PartMut.{put_mid}
+use Rattle.vt100_cells.specs.declared.cell_text.CellText.TheInside.{Inside}
+use Rattle.vt100_cells.specs.Cell.{has_room}
+use Rattle.vt100_cells.specs.CellFields.{IsText, text_of, length-text_of}
+
+pub len-text_of : (t : Inside) (cs : List ℕ) → IsText t → text_of t ≡ cs → t.len ≡ length (encode_utf8_all cs)
+len-text_of t cs h e = sym (length-text_of t h) ∙ ap (λ x. length (encode_utf8_all x)) e
+
+pub encodes-empty : (cs : List ℕ) → nat_eq (length (encode_utf8_all cs)) 0 ≡ nat_eq (length cs) 0
+encodes-empty [] = refl
+encodes-empty (c ∷ cs) =
+    let k : 1 ≤ length (encode_utf8_all (c ∷ cs)) = omega (arith, length-append (encode_utf8 c) (encode_utf8_all cs), length-encode c, (len_utf8_bounds c).0) in
+    grind (arith, nat_tests)
+
+-- what the fields are once n bytes stand after the text
+IsText-pushed : (t : Inside) (k : ℕ) (ys : List ℕ) → IsText t → IsUtf8 ys → length ys ≡ k → t.len + k ≤ 21 → IsText (record { bytes = put_mid t.len k t.bytes ys; len = t.len + k })
+IsText-pushed t k ys h u e f = record {
+  fits = f;
+  whole = simp (length-append, length-take, length-drop) (omega (arith, h.fits, h.whole));
+  utf8 = rw (take-put_mid t.len k t.bytes ys (t.len + k) (omega arith) (omega (arith, h.fits, h.whole))) (∣ IsUtf8-append (take t.len t.bytes) ys (IsUtf8-had (take t.len t.bytes) h.utf8) u ∣₁);
+  zeros = drop-put_mid t.len k t.bytes ys (t.len + k) (omega arith) (omega (arith, h.fits, h.whole)) e
+      ∙ sym (drop-drop k t.len t.bytes) ∙ ap (drop k) h.zeros ∙ drop-replicate k (21 - t.len) 0 ∙ ap (λ n. replicate n 0) (omega arith);
+}
+
+text_of-pushed : (t : Inside) (k : ℕ) (ys : List ℕ) → IsText t → length ys ≡ k → t.len + k ≤ 21 → text_of (record { bytes = put_mid t.len k t.bytes ys; len = t.len + k }) ≡ text_of t ++ chars ys
+text_of-pushed t k ys h e f =
+    ap chars (take-put_mid t.len k t.bytes ys (t.len + k) (omega arith) (omega (arith, h.fits, h.whole))) ∙ chars-append (take t.len t.bytes) ys (IsUtf8-had (take t.len t.bytes) h.utf8)
+
+chars-encode : (c : ℕ) → IsScalar c → chars (encode_utf8 c) ≡ c ∷ []
+chars-encode c h = ap chars (sym (append-nil (encode_utf8 c))) ∙ chars-encodes (c ∷ []) (search (rules, h))
+
+-- the same where the numbers and the bytes are those of the code
+pub IsText-push : (t : Inside) (cs : List ℕ) (m k : ℕ) (ys : List ℕ) (c : ℕ) → IsText t → text_of t ≡ cs → has_room cs ≡ true → ys ≡ encode_utf8 c → m ≡ length (encode_utf8 c) → k ≡ m → IsUtf8 (encode_utf8 c) → IsText (record { bytes = put_mid t.len k t.bytes ys; len = t.len + m })
+IsText-push t cs m k ys c h v l e em ek u =
+    let n = len-text_of t cs h v in
+    let b = (len_utf8_bounds c).1 in
+    let room : length (encode_utf8_all cs) < 18 = ltb-true (length (encode_utf8_all cs)) 18 l in
+    rw (ek, em, e) (IsText-pushed t (length (encode_utf8 c)) (encode_utf8 c) h u refl (omega (arith, length-encode c)))
+
+pub text_of-push : (t : Inside) (cs : List ℕ) (m k : ℕ) (ys : List ℕ) (c : ℕ) → IsText t → text_of t ≡ cs → has_room cs ≡ true → ys ≡ encode_utf8 c → m ≡ length (encode_utf8 c) → k ≡ m → IsScalar c → text_of (record { bytes = put_mid t.len k t.bytes ys; len = t.len + m }) ≡ cs ++ c ∷ []
+text_of-push t cs m k ys c h v l e em ek u =
+    let n = len-text_of t cs h v in
+    let b = (len_utf8_bounds c).1 in
+    let room : length (encode_utf8_all cs) < 18 = ltb-true (length (encode_utf8_all cs)) 18 l in
+    rw (ek, em, e) (text_of-pushed t (length (encode_utf8 c)) (encode_utf8 c) h refl (omega (arith, length-encode c)) ∙ ap (λ x. x ++ chars (encode_utf8 c)) v ∙ ap (λ x. cs ++ x) (chars-encode c u))
+
+-- ---- one ASCII character
+
+pub IsAscii-one : (c : ℕ) → c < 128 → IsAscii (c ∷ [])
+IsAscii-one c h zero = h
+IsAscii-one c h (suc i) = omega arith
+
+pub IsText-ascii : (c : ℕ) → c < 128 → IsText (record { bytes = c ∷ replicate 20 0; len = 1 })
+IsText-ascii c h = record { fits = omega arith; whole = refl; utf8 = ∣ IsUtf8-from_ascii (c ∷ []) (IsAscii-one c h) ∣₁; zeros = refl }
+
+pub text_of-ascii : (c : ℕ) → c < 128 → text_of (record { bytes = c ∷ replicate 20 0; len = 1 }) ≡ c ∷ []
+text_of-ascii c h = chars-IsAscii (c ∷ []) (IsAscii-one c h)

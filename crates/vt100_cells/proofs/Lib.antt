@@ -1,0 +1,11 @@
+pub mod CellTextLemmas
+pub mod WidthLemmas
+pub mod CellLemmas
+pub mod ListLemmas
+pub mod LineLemmas
+pub mod MoveLemmas
+pub mod EditedCells
+pub mod EditLemmas
+pub mod ShiftLemmas
+pub mod TrimLemmas
+pub mod JoinedCells

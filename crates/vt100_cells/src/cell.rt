@@ -1,0 +1,250 @@
+//! One cell of a terminal.
+ghost use Rattle.std.specs.Prelude.{◌≡◌, ℕ, ◌+◌, ◌-◌, ◌<◌, ◌≤◌, ◌↔◌, ◌==◌, List, [], ◌∷◌, ◌++◌, length, IsTrue, true, false, not, nat_eq, nat_lt, encode_utf8_all, chars};
+ghost use Rattle.vt100_forms.specs.Attrs.{is_bold, is_dim, is_italic, is_underlined, is_inverse};
+ghost use Rattle.vt100_cells.specs.Cell.{IsCell, cell_eq};
+
+use crate::cell_text::CellText;
+use std::marker::Model;
+use std::mem::size_of;
+use vt100_forms::Color;
+use vt100_forms::attrs::Attrs;
+
+/// How a cell stands in its row.
+#[derive(Clone, Copy, Debug, Eq, PartialEq)]
+pub(crate) enum Span {
+    /// It has one column of its own.
+    Narrow,
+    /// It takes the next column too.
+    Wide,
+    /// It is the second column of the cell before it.
+    Continuation,
+}
+
+/// One cell of a terminal: its text, whether it takes two columns, and how it is drawn.
+///
+/// A cell takes 32 bytes, and its text lies in it. The text is a character that takes one or two columns and after it
+/// zero-width ones, each of which was put on while there were fewer than 18 bytes: 21 bytes at most.
+#[derive(Clone, Copy, Debug)]
+pub struct Cell {
+    text: CellText,
+    span: Span,
+    attrs: Attrs,
+}
+
+const _: () = prove!(size_of::<Cell>() <= 32);
+
+impl Model for Cell {
+    ghost use Rattle.vt100_cells.specs.Cell.{CellView, IsCell};
+
+    ghost Value = { CellView };
+
+    ghost use Rattle.vt100_cells.specs.CellFields.{view_of, inside_of, inside_of-view_of};
+
+    ghost view = { view_of };
+
+    ghost invariant = { λ c. IsCell (view_of c) };
+
+    ghost inverse = { inside_of };
+
+    ghost inverse_ok = { inside_of-view_of };
+}
+
+impl PartialEq for Cell {
+    ghost use Rattle.vt100_cells.specs.CellEq.{cell_eq-per};
+
+    ghost eq = { cell_eq };
+
+    ghost laws = { cell_eq-per };
+
+    fn eq(&self, other: &Self) -> bool
+        ensures value { result ≡ cell_eq self.now other.now }
+        ensures same { IsTrue result ↔ (self.now ≡ other.now) }
+    {
+        is_same(self, other)
+    }
+}
+
+/// Whether two cells have the same text, columns and attributes.
+#[inline]
+fn is_same(cell: &Cell, other: &Cell) -> bool
+    ensures { result ≡ cell_eq cell.now other.now }
+{
+    cell.text == other.text && cell.span == other.span && cell.attrs == other.attrs
+}
+
+impl Eq for Cell {
+    ghost use Rattle.vt100_cells.specs.CellEq.{cell_eq-equiv};
+
+    ghost laws = { cell_eq-equiv };
+}
+
+impl Cell {
+    ghost use Rattle.std.specs.Prelude.{Some};
+    ghost use Rattle.vt100_cells.specs.Cell.{empty_cell, default_cell, continuation_cell, cell_of, appended, drawn_columns, has_text};
+
+    /// A cell that shows nothing, with default attributes.
+    pub fn new() -> Self
+        ensures { result ≡ default_cell }
+    {
+        Cell::empty(Attrs::new())
+    }
+
+    pub fn empty(attrs: Attrs) -> Self
+        ensures { result ≡ empty_cell attrs }
+    {
+        Cell {
+            text: CellText::new(),
+            span: Span::Narrow,
+            attrs,
+        }
+    }
+
+    pub fn continuation() -> Self
+        ensures { result ≡ continuation_cell }
+    {
+        Cell {
+            text: CellText::new(),
+            span: Span::Continuation,
+            attrs: Attrs::new(),
+        }
+    }
+
+    /// A cell that holds `c`, which takes `columns` columns.
+    pub fn of_char(c: char, columns: u16, attrs: Attrs) -> Self
+        requires drawn { drawn_columns c ≡ Some columns }
+        requires spacing { 0 < columns }
+        ensures { result ≡ cell_of c attrs }
+    {
+        Cell {
+            text: CellText::of_char(c),
+            span: if columns == 2 {
+                Span::Wide
+            } else {
+                Span::Narrow
+            },
+            attrs,
+        }
+    }
+
+    /// The cell with one more zero-width character, which is dropped where 18 bytes or more are kept. U+FE0F can make
+    /// a narrow cell wide.
+    pub fn joined(self, c: char) -> Self
+        requires zero_width { drawn_columns c ≡ Some 0 }
+        requires no_half { self.continuation ≡ false }
+        ensures { result ≡ appended self c }
+    {
+        if !self.text.has_room() {
+            return self;
+        }
+        let mut text = self.text;
+        text.join(c);
+        let span = if text.is_widened_by(c) {
+            Span::Wide
+        } else {
+            self.span
+        };
+        Cell {
+            text,
+            span,
+            attrs: self.attrs,
+        }
+    }
+
+    /// The cell with other attributes.
+    pub fn with_attrs(self, attrs: Attrs) -> Self
+        requires { self.continuation ≡ false }
+        ensures { result ≡ record self { attrs = attrs } }
+    {
+        Cell {
+            text: self.text,
+            span: self.span,
+            attrs,
+        }
+    }
+
+    /// The text, a character and the zero-width ones that joined it; empty where the cell shows nothing.
+    pub fn contents(&self) -> &str
+        ensures bytes { result.now ≡ encode_utf8_all self.now.text }
+        ensures characters { chars result.now ≡ self.now.text }
+    {
+        self.text.as_str()
+    }
+
+    /// Whether the cell has a text.
+    pub fn has_contents(&self) -> bool
+        ensures { result ≡ has_text self.now }
+    {
+        !self.text.is_empty()
+    }
+
+    /// Whether the cell takes the next column too.
+    pub fn is_wide(&self) -> bool
+        ensures value { result ≡ self.now.wide }
+        ensures valid { IsCell self.now }
+    {
+        self.span == Span::Wide
+    }
+
+    /// Whether the cell is the second column of the cell before it.
+    pub fn is_wide_continuation(&self) -> bool
+        ensures { result ≡ self.now.continuation }
+    {
+        self.span == Span::Continuation
+    }
+
+    /// How the cell is drawn.
+    pub fn attrs(&self) -> Attrs
+        ensures { result ≡ self.now.attrs }
+    {
+        self.attrs
+    }
+
+    /// The colour of the text.
+    pub fn fgcolor(&self) -> Color
+        ensures { result ≡ self.now.attrs.fgcolor }
+    {
+        self.attrs.fgcolor
+    }
+
+    /// The colour of the background.
+    pub fn bgcolor(&self) -> Color
+        ensures { result ≡ self.now.attrs.bgcolor }
+    {
+        self.attrs.bgcolor
+    }
+
+    /// Whether the text is bold.
+    pub fn bold(&self) -> bool
+        ensures { result ≡ is_bold self.now.attrs }
+    {
+        self.attrs.bold()
+    }
+
+    /// Whether the text is dim.
+    pub fn dim(&self) -> bool
+        ensures { result ≡ is_dim self.now.attrs }
+    {
+        self.attrs.dim()
+    }
+
+    /// Whether the text is italic.
+    pub fn italic(&self) -> bool
+        ensures { result ≡ is_italic self.now.attrs }
+    {
+        self.attrs.italic()
+    }
+
+    /// Whether the text is underlined.
+    pub fn underline(&self) -> bool
+        ensures { result ≡ is_underlined self.now.attrs }
+    {
+        self.attrs.underline()
+    }
+
+    /// Whether foreground and background are exchanged.
+    pub fn inverse(&self) -> bool
+        ensures { result ≡ is_inverse self.now.attrs }
+    {
+        self.attrs.inverse()
+    }
+}

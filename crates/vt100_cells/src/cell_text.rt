@@ -1,0 +1,138 @@
+//! The text of a cell, which lies in the cell itself.
+ghost use Rattle.std.specs.Prelude.{◌≡◌, ℕ, ◌+◌, ◌-◌, ◌<◌, ◌≤◌, ◌==◌, List, [], ◌∷◌, ◌++◌, length, IsTrue, encode_utf8_all, chars, nat_eq, nat_lt, not, true, false, ◌&&◌};
+ghost use Rattle.std.specs.Char.{IsScalar};
+ghost use Rattle.unicode_width.specs.Width.{str_width};
+
+use std::marker::Model;
+use std::str;
+use unicode_width::UnicodeWidthStr;
+
+/// How many bytes a text has at most: 17, and a character of 4.
+const CONTENT_BYTES: usize = 21;
+
+/// A text with this many bytes takes no further character.
+const FULL_BYTES: usize = 18;
+
+/// A UTF-8 text of at most 21 bytes.
+#[derive(Clone, Copy, Debug)]
+pub(crate) struct CellText {
+    // The bytes past `len` are 0, so that equal texts have equal fields.
+    bytes: [u8; CONTENT_BYTES],
+    len: u8,
+}
+
+impl Model for CellText {
+    ghost use Rattle.std.specs.Prelude.{List, ℕ};
+
+    ghost Value = { List ℕ };
+
+    ghost use Rattle.vt100_cells.specs.CellFields.{text_of, IsText, fields_of, fields_of-text_of};
+
+    ghost view = { text_of };
+
+    ghost invariant = { IsText };
+
+    ghost inverse = { fields_of };
+
+    ghost inverse_ok = { fields_of-text_of };
+}
+
+impl PartialEq for CellText {
+    ghost use Rattle.vt100_cells.specs.Cell.{text_eq};
+    ghost use Rattle.vt100_cells.specs.CellEq.{text_eq-per};
+
+    ghost eq = { text_eq };
+
+    ghost laws = { text_eq-per };
+
+    fn eq(&self, other: &Self) -> bool {
+        self.as_str() == other.as_str()
+    }
+}
+
+impl CellText {
+    ghost use Rattle.vt100_cells.specs.Cell.{text_with, has_room, is_widened_by};
+
+    pub(crate) const fn new() -> Self
+        ensures { result ≡ [] }
+    {
+        CellText {
+            bytes: [0; CONTENT_BYTES],
+            len: 0,
+        }
+    }
+
+    /// A text of one character.
+    #[inline]
+    pub(crate) fn of_char(c: char) -> Self
+        ensures { result ≡ c ∷ [] }
+    {
+        if c.is_ascii() {
+            return CellText::of_ascii(c as u8);
+        }
+        let mut text = CellText::new();
+        text.push(c);
+        text
+    }
+
+    #[inline]
+    fn of_ascii(c: u8) -> Self
+        requires { c < 128 }
+        ensures { result ≡ c ∷ [] }
+    {
+        let mut bytes = [0; CONTENT_BYTES];
+        bytes[0] = c;
+        CellText { bytes, len: 1 }
+    }
+
+    pub(crate) fn is_empty(&self) -> bool
+        ensures { result ≡ (length self.now == 0) }
+    {
+        self.len == 0
+    }
+
+    pub(crate) fn has_room(&self) -> bool
+        ensures { result ≡ has_room self.now }
+    {
+        usize::from(self.len) < FULL_BYTES
+    }
+
+    pub(crate) fn as_str(&self) -> &str
+        ensures bytes { result.now ≡ encode_utf8_all self.now }
+        ensures characters { chars result.now ≡ self.now }
+    {
+        let n = self.len as usize;
+        unsafe { str::from_utf8_unchecked(&self.bytes[..n]) }
+    }
+
+    /// Whether U+FE0F, just put on, makes this a text of two columns.
+    pub(crate) fn is_widened_by(&self, c: char) -> bool
+        ensures { result ≡ ((c == 0xFE0F) && nat_lt 1 (str_width false self.now)) }
+    {
+        c == '\u{FE0F}' && self.as_str().width() > 1
+    }
+
+    /// Puts a character on, after a space where there is no text yet.
+    pub(crate) fn join(&mut self, c: char)
+        requires { has_room self.old ≡ true }
+        ensures { self.new ≡ text_with self.old c }
+    {
+        if self.is_empty() {
+            self.push(' ');
+        }
+        self.push(c);
+    }
+
+    /// Puts a character at the end.
+    pub(crate) fn push(&mut self, c: char)
+        requires { has_room self.old ≡ true }
+        ensures { self.new ≡ self.old ++ c ∷ [] }
+    {
+        let mut buffer = [0; 4];
+        let encoded = c.encode_utf8(&mut buffer);
+        let start = self.len as usize;
+        let end = start + encoded.len();
+        self.bytes[start..end].copy_from_slice(encoded.as_bytes());
+        self.len = end as u8;
+    }
+}

@@ -1,0 +1,267 @@
+//! Edits of the cells of one line.
+ghost use Rattle.std.specs.Prelude.{◌≡◌, ℕ, ◌+◌, ◌-◌, ◌<◌, ◌≤◌, ◌==◌, List, length, Some, true, false, not, ◌&&◌, slice_set};
+ghost use Rattle.vt100_cells.specs.Cell.{CellView, IsCell, has_text, is_filled, drawn_columns, cell_of, empty_cell, default_cell};
+ghost use Rattle.vt100_cells.specs.Line.{IsPaired, span_of, update, put, put_unflags, base_col, pair_wiped, wiped, wipe_unflags, cut, opened, closed, left_cleared, right_cleared, shifted_right, mended, shifted_left};
+ghost use Rattle.vt100_cells.specs.Cells.{cell_at, by_position, last_cell, inserted_cells, trimmed_len};
+
+use crate::cell::Cell;
+use vt100_forms::attrs::Attrs;
+
+/// The cell at column `i`.
+#[inline]
+pub fn at(cells: &[Cell], i: usize) -> &Cell
+    requires { i < length cells.now }
+    ensures { result.now ≡ cell_at cells.now i }
+{
+    &cells[i]
+}
+
+/// Whether a wide character begins at column `i`; there is none past the end.
+#[inline]
+pub fn is_wide_at(cells: &[Cell], i: usize) -> bool
+    ensures { result ≡ (cell_at cells.now i).wide }
+{
+    if i < cells.len() {
+        at(cells, i).is_wide()
+    } else {
+        false
+    }
+}
+
+/// Whether column `i` is the second one of a wide character; there is none past the end.
+#[inline]
+pub fn is_continuation_at(cells: &[Cell], i: usize) -> bool
+    ensures { result ≡ (cell_at cells.now i).continuation }
+{
+    if i < cells.len() {
+        at(cells, i).is_wide_continuation()
+    } else {
+        false
+    }
+}
+
+/// Writes `cell` at column `i`, if the line goes that far.
+#[inline]
+fn put_within(cells: &mut [Cell], i: usize, cell: Cell)
+    ensures { cells.new ≡ slice_set cells.old i cell }
+{
+    if i < cells.len() {
+        cells[i] = cell;
+    }
+}
+
+/// Whether the last cell shows something.
+pub fn ends_filled(cells: &[Cell]) -> bool
+    ensures { result ≡ is_filled (last_cell cells.now) }
+{
+    if cells.is_empty() {
+        return false;
+    }
+    let last = at(cells, cells.len() - 1);
+    last.has_contents() || last.is_wide_continuation()
+}
+
+/// Empties the cell at column `i`, which keeps its attributes.
+fn clear_at(cells: &mut [Cell], i: usize)
+    requires { i < length cells.old }
+    ensures { cells.new ≡ slice_set cells.old i (empty_cell (cell_at cells.old i).attrs) }
+{
+    let attrs = at(cells, i).attrs();
+    cells[i] = Cell::empty(attrs);
+}
+
+/// Empties the cell directly left of column `i` if it is wide.
+fn clear_left(cells: &mut [Cell], i: usize)
+    requires { i < length cells.old }
+    ensures { cells.new ≡ by_position (length cells.old) (left_cleared (cell_at cells.old) i) }
+{
+    if i == 0 {
+        return;
+    }
+    if at(cells, i - 1).is_wide() {
+        clear_at(cells, i - 1);
+    }
+}
+
+/// Empties the cell at column `e` if it is the second half of a wide character.
+fn clear_right(cells: &mut [Cell], e: usize)
+    ensures { cells.new ≡ by_position (length cells.old) (right_cleared (cell_at cells.old) e) }
+{
+    if is_continuation_at(cells, e) {
+        clear_at(cells, e);
+    }
+}
+
+/// Empties the columns from `s` up to `e`, with these attributes, and the halves of wide characters that are left.
+pub fn wipe(cells: &mut [Cell], s: usize, e: usize, attrs: Attrs)
+    requires some { s < e }
+    requires in_row { e ≤ length cells.old }
+    requires paired { IsPaired (cell_at cells.old) }
+    ensures { cells.new ≡ by_position (length cells.old) (wiped (cell_at cells.old) s e attrs) }
+{
+    clear_left(cells, s);
+    clear_right(cells, e);
+    cells[s..e].fill(Cell::empty(attrs));
+}
+
+/// Whether erasing the columns from `s` up to `e` empties the last one.
+pub fn wipes_end(cells: &[Cell], s: usize, e: usize) -> bool
+    requires { e ≤ length cells.now }
+    ensures { result ≡ wipe_unflags (length cells.now) (cell_at cells.now) s e }
+{
+    s < e && (e >= cells.len() || (e + 1 == cells.len() && at(cells, e).is_wide_continuation()))
+}
+
+/// Puts `cell` at column `i`, with the drawing attributes, over what stands there.
+pub fn put(cells: &mut [Cell], i: usize, cell: Cell, attrs: Attrs)
+    requires in_row { i + span_of cell ≤ length cells.old }
+    ensures { cells.new ≡ by_position (length cells.old) (put (cell_at cells.old) i cell attrs) }
+{
+    let was_wide = at(cells, i).is_wide();
+    let next_was_wide = is_wide_at(cells, i + 1);
+    clear_left(cells, i);
+    cells[i] = cell;
+    if cell.is_wide() {
+        cells[i + 1] = Cell::continuation();
+        if next_was_wide {
+            put_within(cells, i + 2, Cell::empty(attrs));
+        }
+    } else if was_wide {
+        put_within(cells, i + 1, Cell::of_char(' ', 1, attrs));
+    }
+}
+
+/// Whether a cell of two columns, put at column `i`, empties the last one.
+#[inline]
+pub fn puts_end(cells: &[Cell], i: usize, cell: Cell) -> bool
+    requires { i < length cells.now }
+    ensures value { result ≡ put_unflags (length cells.now) (cell_at cells.now) i cell }
+    ensures valid { IsCell cell }
+{
+    cell.is_wide() && is_wide_at(cells, i + 1) && i + 3 == cells.len()
+}
+
+/// The column of the cell that a zero-width character joins, where the cursor stands at `col`.
+pub fn base_col(cells: &[Cell], col: usize) -> usize
+    requires some { 0 < col }
+    requires in_row { col ≤ length cells.now }
+    requires paired { IsPaired (cell_at cells.now) }
+    ensures { result ≡ base_col (cell_at cells.now) col }
+{
+    if at(cells, col - 1).is_wide_continuation() {
+        col - 2
+    } else {
+        col - 1
+    }
+}
+
+/// Empties both halves of the wide character at column `i`, if one is there. Whether the last cell shows something
+/// then.
+pub fn clear_pair(cells: &mut [Cell], i: usize) -> bool
+    requires in_row { i < length cells.old }
+    requires paired { IsPaired (cell_at cells.old) }
+    ensures cells { cells.new ≡ by_position (length cells.old) (pair_wiped (cell_at cells.old) i) }
+    ensures filled { result ≡ is_filled (last_cell cells.new) }
+{
+    if at(cells, i).is_wide() {
+        clear_at(cells, i);
+        clear_at(cells, i + 1);
+    } else if at(cells, i).is_wide_continuation() {
+        clear_at(cells, i - 1);
+        clear_at(cells, i);
+    }
+    ends_filled(cells)
+}
+
+/// Puts `count` default cells in at column `i`. What stands there moves to the right, and what falls off the end is
+/// gone.
+fn shift_right(cells: &mut [Cell], i: usize, count: usize)
+    requires { i + count ≤ length cells.old }
+    ensures { cells.new ≡ by_position (length cells.old) (shifted_right (cell_at cells.old) i count) }
+{
+    cells[i..].rotate_right(count);
+    cells[i..i + count].fill(Cell::new());
+}
+
+/// Empties a wide character whose second half has fallen off the end.
+pub fn clear_cut_half(cells: &mut [Cell])
+    ensures { cells.new ≡ by_position (length cells.old) (cut (length cells.old) (cell_at cells.old)) }
+{
+    let n = cells.len();
+    if n == 0 {
+        return;
+    }
+    if at(cells, n - 1).is_wide() {
+        clear_at(cells, n - 1);
+    }
+}
+
+/// Puts the second half of a wide character at column `i`, and nothing at `j`, where it had gone.
+fn mend_pair(cells: &mut [Cell], i: usize, j: usize)
+    ensures { cells.new ≡ by_position (length cells.old) (mended (cell_at cells.old) i j) }
+{
+    put_within(cells, j, Cell::new());
+    put_within(cells, i, Cell::continuation());
+}
+
+/// Puts `count` default cells in at column `i`, as many as fit, and keeps wide characters whole.
+pub fn insert(cells: &mut [Cell], i: usize, count: usize)
+    requires { i ≤ length cells.old }
+    ensures { cells.new ≡ inserted_cells cells.old i count }
+{
+    let n = count.min(cells.len() - i);
+    if n > 0 {
+        insert_some(cells, i, n);
+    }
+}
+
+/// Puts `n` default cells in at column `i`, and keeps wide characters whole.
+fn insert_some(cells: &mut [Cell], i: usize, n: usize)
+    requires in_row { i + n ≤ length cells.old }
+    requires some { 0 < n }
+    ensures { cells.new ≡ by_position (length cells.old) (cut (length cells.old) (opened (cell_at cells.old) i n)) }
+{
+    let splits_pair = at(cells, i).is_wide_continuation();
+    shift_right(cells, i, n);
+    if splits_pair {
+        mend_pair(cells, i, i + n);
+    }
+    clear_cut_half(cells);
+}
+
+/// Takes `n` cells out at column `s`. What stands right of them moves to the left, and default cells follow.
+fn shift_left(cells: &mut [Cell], s: usize, n: usize)
+    requires { s + n ≤ length cells.old }
+    ensures { cells.new ≡ by_position (length cells.old) (shifted_left (length cells.old) (cell_at cells.old) s n) }
+{
+    cells[s..s + n].fill(Cell::new());
+    cells[s..].rotate_left(n);
+}
+
+/// Takes `n` cells out at column `s`, and empties the halves of wide characters that are left.
+pub fn remove(cells: &mut [Cell], s: usize, n: usize)
+    requires in_row { s + n ≤ length cells.old }
+    requires some { 0 < n }
+    requires paired { IsPaired (cell_at cells.old) }
+    ensures { cells.new ≡ by_position (length cells.old) (closed (length cells.old) (cell_at cells.old) s n) }
+{
+    clear_left(cells, s);
+    clear_right(cells, s + n);
+    shift_left(cells, s, n);
+}
+
+/// How many cells stand up to the last that is no default cell.
+pub fn trimmed_len(cells: &[Cell]) -> usize
+    ensures value { result ≡ trimmed_len cells.now }
+    ensures bound { result ≤ length cells.now }
+{
+    let blank = Cell::new();
+    let mut n = cells.len();
+    while n > 0 {
+        if *at(cells, n - 1) != blank {
+            break;
+        }
+        n -= 1;
+    }
+    n
+}

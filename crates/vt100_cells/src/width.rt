@@ -1,0 +1,24 @@
+//! How many columns a character takes.
+ghost use Rattle.std.specs.Prelude.{◌≡◌};
+ghost use Rattle.vt100_cells.specs.Cell.{drawn_columns};
+
+use unicode_width::UnicodeWidthChar;
+
+/// How many columns `c` takes on a screen: 0 where it joins the character before it, 1 or 2.
+///
+/// This is its width by Unicode (UAX #11, as the crate `unicode_width` reads it), but at most 2, and 1 where Unicode
+/// gives none. `None` for the control characters below U+0100, which are not drawn.
+#[inline]
+pub fn columns(c: char) -> Option<u16>
+    ensures { result ≡ drawn_columns c }
+{
+    // Printable ASCII needs no look-up.
+    if let ' '..='~' = c {
+        return Some(1);
+    }
+    match c.width() {
+        Some(width) => Some(width.min(2) as u16),
+        None if c < '\u{100}' => None,
+        None => Some(1),
+    }
+}

@@ -1,6 +1,0 @@
-use Rattle.std.proofs.Common.{ap, nat_lt, ◌∙◌}
-use Rattle.vt100_rows.proofs.CellTextLemmas.{len-text_of}
-use Rattle.vt100_rows.proofs.cell_text.CellText.has_room.Goals as goal
-
-pub returns : goal.returns
-returns c = ap (λ n. nat_lt n 18) (c.from.ensures ∙ len-text_of c.self.inside c.args.self.now c.self.invariant c.self.view_is)
