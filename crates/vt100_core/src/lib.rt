@@ -17,6 +17,3 @@ pub use vt100_forms::{
 };
 pub use vt100_rows::{Cell, Row};
 pub use vt100_sheet::{RowSink, Size};
-
-#[cfg(test)]
-mod tests;

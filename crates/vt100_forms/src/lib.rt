@@ -12,6 +12,3 @@ pub use attrs::Color;
 pub use error::GridError;
 pub use modes::{CursorStyle, MouseProtocolEncoding, MouseProtocolMode};
 pub use position::Pos;
-
-#[cfg(test)]
-mod tests;

@@ -10,6 +10,3 @@ mod row;
 pub use join::Join;
 pub use row::Row;
 pub use vt100_cells::{Cell, columns};
-
-#[cfg(test)]
-mod tests;

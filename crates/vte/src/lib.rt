@@ -42,6 +42,3 @@ pub mod ansi {
 }
 
 pub use vte_core::{Event, Params, ParamsIter, Parser, Perform};
-
-#[cfg(test)]
-mod tests;

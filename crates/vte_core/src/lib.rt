@@ -35,8 +35,6 @@ mod osc_data;
 mod params;
 mod perform;
 mod table;
-#[cfg(test)]
-mod tests;
 mod unfinished;
 
 pub use event::Event;

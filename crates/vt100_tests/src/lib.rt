@@ -1,0 +1,11 @@
+//! Tests of `vt100_forms`, `vt100_rows`, `vt100_sheet` and `vt100_core`: forms byte for byte, rows and grids at work.
+#![tactic(auto)]
+
+#[cfg(test)]
+mod forms;
+#[cfg(test)]
+mod grid;
+#[cfg(test)]
+mod rows;
+#[cfg(test)]
+mod shown;

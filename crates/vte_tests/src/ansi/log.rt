@@ -1,0 +1,94 @@
+//! A handler that writes down its calls, and timeouts.
+
+ghost use Rattle.std.specs.Prelude.{⊤};
+
+use std::time::Duration;
+use vte::ansi::{Call, Clock, Handler, Timeout};
+
+/// The calls so far. Where inputs are counted they aren't written down.
+#[derive(Drop)]
+pub struct Log {
+    pub text: String,
+    pub inputs: Option<usize>,
+    pub failed: bool,
+}
+
+impl Log {
+    pub fn new(rt: &impl AllocGlobal) -> Log {
+        Log {
+            text: String::new(rt.alloc()),
+            inputs: None,
+            failed: false,
+        }
+    }
+
+    /// Counts inputs.
+    pub fn with_count(rt: &impl AllocGlobal) -> Log {
+        Log {
+            text: String::new(rt.alloc()),
+            inputs: Some(0),
+            failed: false,
+        }
+    }
+}
+
+impl Handler for Log {
+    ghost step = { λ _ _ _. ⊤ };
+
+    fn call(&mut self, call: Call<'_>) {
+        if let (Some(count), Call::Input(_)) = (self.inputs, call) {
+            self.inputs = Some(count.saturating_add(1));
+            return;
+        }
+        self.failed |= write!(self.text, "{call:?} ").is_err();
+    }
+}
+
+/// A timeout that is pending from `set_timeout` to `clear_timeout`, and how often it was set.
+#[derive(Drop)]
+pub struct UntilCleared {
+    pub pending: bool,
+    pub sets: usize,
+}
+
+impl UntilCleared {
+    pub fn new() -> UntilCleared {
+        UntilCleared {
+            pending: false,
+            sets: 0,
+        }
+    }
+}
+
+impl Timeout for UntilCleared {
+    ghost sets = { λ _ _ _. ⊤ };
+
+    ghost clears = { λ _ _. ⊤ };
+
+    ghost answers = { λ _ _. ⊤ };
+
+    fn set_timeout(&mut self, _duration: Duration) {
+        self.pending = true;
+        self.sets = self.sets.saturating_add(1);
+    }
+
+    fn clear_timeout(&mut self) {
+        self.pending = false;
+    }
+
+    fn pending_timeout(&self) -> bool {
+        self.pending
+    }
+}
+
+/// A clock that stands still.
+#[derive(Drop)]
+pub struct Still(pub Duration);
+
+impl Clock for Still {
+    ghost may_be = { λ _ _. ⊤ };
+
+    fn now(&self) -> Duration {
+        self.0
+    }
+}

@@ -1,0 +1,298 @@
+//! Each byte in each state, against the table of states written out.
+
+use super::log::{Log, Until};
+use std::process::Abort;
+use vte_core::Parser;
+
+/// How far a sequence has come.
+#[derive(Clone, Copy)]
+enum Place {
+    Ground,
+    Escape,
+    EscapeIntermediate,
+    CsiEntry,
+    CsiParam,
+    CsiIntermediate,
+    CsiIgnore,
+    DcsEntry,
+    DcsParam,
+    DcsIntermediate,
+    DcsIgnore,
+    DcsData,
+    Osc,
+    Swallowed,
+}
+
+/// What a byte does.
+#[derive(Clone, Copy)]
+enum Effect {
+    Nothing,
+    Print,
+    Malformed,
+    Execute,
+    Begin,
+    Collect,
+    Number,
+    Data,
+    Put,
+    EscDispatch,
+    CsiDispatch,
+    Hook,
+    OscBell,
+}
+
+/// The table: what a byte other than CAN, SUB and ESC does, and where it leads.
+fn entry(place: Place, byte: u8) -> (Effect, Place) {
+    match place {
+        Place::Ground => (ground(byte), Place::Ground),
+        Place::Escape => escape(byte),
+        Place::EscapeIntermediate => match byte {
+            0x00..=0x1F => (Effect::Execute, place),
+            0x20..=0x2F => (Effect::Collect, place),
+            0x30..=0x7E => (Effect::EscDispatch, Place::Ground),
+            _ => (Effect::Nothing, place),
+        },
+        Place::CsiEntry | Place::CsiParam | Place::CsiIntermediate | Place::CsiIgnore => csi(
+            place, byte,
+        ),
+        Place::DcsEntry | Place::DcsParam | Place::DcsIntermediate | Place::DcsIgnore => dcs(
+            place, byte,
+        ),
+        Place::DcsData => match byte {
+            0x00..=0x7E => (Effect::Put, place),
+            0x9C => (Effect::Nothing, Place::Ground),
+            _ => (Effect::Nothing, place),
+        },
+        Place::Osc => match byte {
+            0x07 => (Effect::OscBell, Place::Ground),
+            0x00..=0x1F => (Effect::Nothing, place),
+            _ => (Effect::Data, place),
+        },
+        Place::Swallowed => (Effect::Nothing, place),
+    }
+}
+
+fn ground(byte: u8) -> Effect {
+    match byte {
+        0x00..=0x1F | 0x80..=0x9F => Effect::Execute,
+        0x20..=0x7F => Effect::Print,
+        _ => Effect::Malformed,
+    }
+}
+
+fn escape(byte: u8) -> (Effect, Place) {
+    match byte {
+        0x00..=0x1F => (Effect::Execute, Place::Escape),
+        0x20..=0x2F => (Effect::Collect, Place::EscapeIntermediate),
+        b'[' => (Effect::Begin, Place::CsiEntry),
+        b']' => (Effect::Begin, Place::Osc),
+        b'P' => (Effect::Begin, Place::DcsEntry),
+        b'X' | b'^' | b'_' => (Effect::Begin, Place::Swallowed),
+        0x30..=0x7E => (Effect::EscDispatch, Place::Ground),
+        _ => (Effect::Nothing, Place::Escape),
+    }
+}
+
+fn csi(place: Place, byte: u8) -> (Effect, Place) {
+    match (place, byte) {
+        (_, 0x00..=0x1F) => (Effect::Execute, place),
+        (_, 0x7F..=0xFF) => (Effect::Nothing, place),
+        (Place::CsiIgnore, 0x40..=0x7E) => (Effect::Nothing, Place::Ground),
+        (Place::CsiIgnore, _) => (Effect::Nothing, place),
+        (_, 0x40..=0x7E) => (Effect::CsiDispatch, Place::Ground),
+        (_, 0x20..=0x2F) => (Effect::Collect, Place::CsiIntermediate),
+        (Place::CsiEntry, 0x3C..=0x3F) => (Effect::Collect, Place::CsiParam),
+        (Place::CsiEntry | Place::CsiParam, 0x30..=0x3B) => (Effect::Number, Place::CsiParam),
+        _ => (Effect::Nothing, Place::CsiIgnore),
+    }
+}
+
+fn dcs(place: Place, byte: u8) -> (Effect, Place) {
+    match (place, byte) {
+        (_, 0x00..=0x1F) => (Effect::Nothing, place),
+        (_, 0x7F..=0xFF) => (Effect::Nothing, place),
+        (Place::DcsIgnore, 0x40..=0x7E) => (Effect::Nothing, Place::Swallowed),
+        (Place::DcsIgnore, _) => (Effect::Nothing, place),
+        (_, 0x40..=0x7E) => (Effect::Hook, Place::DcsData),
+        (_, 0x20..=0x2F) => (Effect::Collect, Place::DcsIntermediate),
+        (Place::DcsEntry, 0x3C..=0x3F) => (Effect::Collect, Place::DcsParam),
+        (Place::DcsEntry | Place::DcsParam, 0x30..=0x3B) => (Effect::Number, Place::DcsParam),
+        _ => (Effect::Nothing, Place::DcsIgnore),
+    }
+}
+
+/// Reads bytes by the table.
+#[derive(Drop)]
+struct Reading {
+    place: Place,
+    /// The whole numbers of a header, each with what ends it, and the last number.
+    numbers: String,
+    number: u32,
+    /// The intermediates, or a command's data, as a log writes them.
+    content: Log,
+    log: Log,
+}
+
+impl Reading {
+    fn new(rt: &impl AllocGlobal) -> Reading {
+        Reading {
+            place: Place::Ground,
+            numbers: String::new(rt.alloc()),
+            number: 0,
+            content: Log::new(rt, Until::Never),
+            log: Log::new(rt, Until::Never),
+        }
+    }
+
+    fn begin(&mut self, place: Place) {
+        self.place = place;
+        self.numbers.clear();
+        self.number = 0;
+        self.content.text.clear();
+    }
+
+    /// CAN, SUB or ESC ends what was begun.
+    fn cut(&mut self) {
+        match self.place {
+            Place::Osc => self.log.word("osc"),
+            Place::DcsData => self.log.word("unhook"),
+            _ => return,
+        }
+        if let Place::Osc = self.place {
+            self.data();
+        }
+    }
+
+    fn data(&mut self) {
+        self.log.failed |= self.log.text.push_str(self.content.text.as_str()).is_err();
+        self.log.word("|");
+    }
+
+    fn separate(&mut self, byte: u8) {
+        if byte == b';' {
+            self.content.word("|");
+        } else {
+            self.content.number(byte as u32);
+        }
+    }
+
+    fn number(&mut self, byte: u8) {
+        if let b':' | b';' = byte {
+            self.log.failed |= write!(self.numbers, "{}{}", self.number, byte as char).is_err();
+            self.number = 0;
+        } else {
+            let digit = byte.saturating_sub(b'0') as u32;
+            self.number = self.number.saturating_mul(10).saturating_add(digit);
+        }
+    }
+
+    fn dispatch(&mut self, word: &str, byte: u8) {
+        self.log.word(word);
+        self.log.failed |= write!(self.log.text, "[{}{}] ", self.numbers, self.number).is_err();
+        self.data();
+        self.log.word("kept");
+        self.log.number(byte as u32);
+    }
+
+    fn tell(&mut self, word: &str, number: u32) {
+        self.log.word(word);
+        self.log.number(number);
+    }
+
+    fn apply(&mut self, effect: Effect, byte: u8) {
+        match effect {
+            Effect::Nothing | Effect::Begin => {}
+            Effect::Print => self.tell("print", byte as u32),
+            Effect::Malformed => self.tell("print", 0xFFFD),
+            Effect::Execute => self.tell("execute", byte as u32),
+            Effect::Put => self.tell("put", byte as u32),
+            Effect::Collect => self.content.number(byte as u32),
+            Effect::Data => self.separate(byte),
+            Effect::Number => self.number(byte),
+            Effect::CsiDispatch => self.dispatch("csi", byte),
+            Effect::Hook => self.dispatch("hook", byte),
+            Effect::EscDispatch => {
+                self.log.word("esc");
+                self.data();
+                self.tell("kept", byte as u32);
+            }
+            Effect::OscBell => {
+                self.log.word("osc bell");
+                self.data();
+            }
+        }
+    }
+
+    fn bytes(&mut self, bytes: &[u8]) {
+        for byte in bytes {
+            self.byte(*byte);
+        }
+    }
+
+    fn byte(&mut self, byte: u8) {
+        match byte {
+            0x1B => {
+                self.cut();
+                self.begin(Place::Escape);
+            }
+            0x18 | 0x1A => {
+                self.cut();
+                self.begin(Place::Ground);
+                self.tell("execute", byte as u32);
+            }
+            _ => {
+                let (effect, next) = entry(self.place, byte);
+                if let (Place::DcsData, 0x9C) = (self.place, byte) {
+                    self.log.word("unhook");
+                }
+                self.apply(effect, byte);
+                if let Effect::Begin = effect {
+                    self.begin(next);
+                }
+                self.place = next;
+            }
+        }
+    }
+}
+
+/// The parser and the table give the same events.
+fn reads_alike(rt: &(impl Abort + AllocGlobal), front: &[u8], byte: u8, end: &[u8]) {
+    let mut log = Log::new(rt, Until::Never);
+    let mut parser = Parser::new();
+    parser.advance(&mut log, front);
+    parser.advance(&mut log, &[byte]);
+    parser.advance(&mut log, end);
+    let mut reading = Reading::new(rt);
+    reading.bytes(front);
+    reading.byte(byte);
+    reading.bytes(end);
+    let failed = log.failed || reading.log.failed || reading.content.failed;
+    let wanted = reading.log.text.as_str();
+    assert_eq!(rt; (failed, log.text.as_str()), (false, wanted), "byte {byte}");
+}
+
+#[test]
+fn every_byte_in_every_state(rt: HostRuntime) {
+    let fronts: [&[u8]; 14] = [
+        b"",
+        b"\x1b",
+        b"\x1b(",
+        b"\x1b[",
+        b"\x1b[1",
+        b"\x1b[1!",
+        b"\x1b[1!2",
+        b"\x1bP",
+        b"\x1bP1",
+        b"\x1bP1!",
+        b"\x1bP1!2",
+        b"\x1bPq",
+        b"\x1b]0;a",
+        b"\x1b_a",
+    ];
+    for front in fronts {
+        for byte in 0..=255u8 {
+            reads_alike(&rt, front, byte, b"7mx\x18y");
+            reads_alike(&rt, front, byte, b"?mx\x1bc");
+        }
+    }
+}

@@ -1,0 +1,83 @@
+//! Malformed text, cut everywhere, against what `str::from_utf8` says of the whole.
+
+use super::log::{Log, Until};
+use std::process::Abort;
+use std::str;
+use vte_core::Parser;
+
+/// A character, or a control that is executed.
+fn character(log: &mut Log, c: char) {
+    if c < ' ' || ('\u{80}'..='\u{9F}').contains(&c) {
+        log.word("execute");
+    } else {
+        log.word("print");
+    }
+    log.number(c as u32);
+}
+
+/// A malformed sequence.
+fn malformed(log: &mut Log, bytes: &[u8]) {
+    match bytes {
+        [byte] if (0x80..=0x9F).contains(byte) => character(log, *byte as char),
+        _ => character(log, '\u{FFFD}'),
+    }
+}
+
+/// The events of bytes without ESC.
+fn events(log: &mut Log, bytes: &[u8]) {
+    let mut rest = bytes;
+    for _ in 0..=bytes.len() {
+        let (valid, error_len) = match str::from_utf8(rest) {
+            Ok(text) => (text.len(), None),
+            Err(error) => (error.valid_up_to(), error.error_len()),
+        };
+        let front = rest.get(..valid).unwrap_or(&[]);
+        if let Ok(text) = str::from_utf8(front) {
+            for c in text.chars() {
+                character(log, c);
+            }
+        }
+        let Some(len) = error_len else {
+            return;
+        };
+        let after = rest.get(valid..).unwrap_or(&[]);
+        malformed(log, after.get(..len).unwrap_or(&[]));
+        rest = after.get(len..).unwrap_or(&[]);
+    }
+}
+
+/// The bytes, cut once at each place.
+fn agrees(rt: &(impl Abort + AllocGlobal), bytes: &[u8]) {
+    let mut wanted = Log::new(rt, Until::Never);
+    events(&mut wanted, bytes);
+    for cut in 0..=bytes.len() {
+        let mut log = Log::new(rt, Until::Never);
+        let mut parser = Parser::new();
+        parser.advance(&mut log, &bytes[..cut]);
+        parser.advance(&mut log, &bytes[cut..]);
+        let failed = log.failed || wanted.failed;
+        assert_eq!(rt;
+            (failed, log.text.as_str()),
+            (false, wanted.text.as_str()),
+            "cut at {cut}"
+        );
+    }
+}
+
+#[test]
+fn malformed_text(rt: HostRuntime) {
+    let firsts: [u8; 16] = [
+        0x1A, 0x41, 0x80, 0x9F, 0xA0, 0xC1, 0xC2, 0xDF, 0xE0, 0xE4, 0xED, 0xEF, 0xF0, 0xF3, 0xF4,
+        0xF5,
+    ];
+    let others: [u8; 10] = [0x07, 0x41, 0x80, 0x8F, 0x90, 0x9F, 0xA0, 0xBF, 0xC2, 0xE4];
+    for a in firsts {
+        for b in others {
+            for c in others {
+                for d in [0x41, 0x80, 0xBF, 0xF0] {
+                    agrees(&rt, &[a, b, c, d]);
+                }
+            }
+        }
+    }
+}
