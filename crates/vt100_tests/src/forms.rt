@@ -141,35 +141,47 @@ fn default_changes_are_empty(rt: HostRuntime) -> Result<(), Fail> {
     check(&rt, rt.alloc(), &term::Attrs::default(), "")
 }
 
+const PLACES: &[(u16, u16, &str)] = &[
+    (0, 0, "\x1b[H"),
+    (0, 1, "\x1b[1;2H"),
+    (1, 0, "\x1b[2;1H"),
+    (23, 79, "\x1b[24;80H"),
+    (998, 999, "\x1b[999;1000H"),
+    (65534, 65534, "\x1b[65535;65535H"),
+    (0, 65535, "\x1b[1;65536H"),
+    (65535, 65535, "\x1b[65536;65536H"),
+];
+
 #[test]
 fn moves_to_places(rt: HostRuntime) -> Result<(), Fail> {
-    for (row, col, want) in [
-        (0, 0, "\x1b[H"),
-        (0, 1, "\x1b[1;2H"),
-        (1, 0, "\x1b[2;1H"),
-        (23, 79, "\x1b[24;80H"),
-        (998, 999, "\x1b[999;1000H"),
-        (65534, 65534, "\x1b[65535;65535H"),
-        (0, 65535, "\x1b[1;65536H"),
-        (65535, 65535, "\x1b[65536;65536H"),
-    ] {
-        check(&rt, rt.alloc(), &term::MoveTo::new(Pos { row, col }), want)?;
+    for (row, col, want) in PLACES {
+        check(
+            &rt,
+            rt.alloc(),
+            &term::MoveTo::new(Pos {
+                row: *row,
+                col: *col,
+            }),
+            want,
+        )?;
     }
     Ok(())
 }
 
+const COUNTS: &[(u16, &str, &str)] = &[
+    (0, "", ""),
+    (1, "\x1b[C", "\x1b[X"),
+    (2, "\x1b[2C", "\x1b[2X"),
+    (10, "\x1b[10C", "\x1b[10X"),
+    (1000, "\x1b[1000C", "\x1b[1000X"),
+    (65535, "\x1b[65535C", "\x1b[65535X"),
+];
+
 #[test]
 fn moves_right_and_erases(rt: HostRuntime) -> Result<(), Fail> {
-    for (count, right, erased) in [
-        (0, "", ""),
-        (1, "\x1b[C", "\x1b[X"),
-        (2, "\x1b[2C", "\x1b[2X"),
-        (10, "\x1b[10C", "\x1b[10X"),
-        (1000, "\x1b[1000C", "\x1b[1000X"),
-        (65535, "\x1b[65535C", "\x1b[65535X"),
-    ] {
-        check(&rt, rt.alloc(), &term::MoveRight::new(count), right)?;
-        check(&rt, rt.alloc(), &term::EraseChar::new(count), erased)?;
+    for (count, right, erased) in COUNTS {
+        check(&rt, rt.alloc(), &term::MoveRight::new(*count), right)?;
+        check(&rt, rt.alloc(), &term::EraseChar::new(*count), erased)?;
     }
     Ok(())
 }
@@ -178,103 +190,158 @@ fn place((row, col): (u16, u16)) -> Pos {
     Pos { row, col }
 }
 
+const MOVES: &[((u16, u16), (u16, u16), &str)] = &[
+    ((0, 0), (1, 0), "\r\n"),
+    ((0, 5), (1, 0), "\r\n"),
+    ((3, 4), (3, 4), ""),
+    ((5, 0), (5, 0), ""),
+    ((3, 4), (3, 5), "\x1b[C"),
+    ((3, 4), (3, 9), "\x1b[5C"),
+    ((3, 4), (3, 3), "\x1b[4;4H"),
+    ((3, 4), (4, 4), "\x1b[5;5H"),
+    ((3, 4), (2, 0), "\x1b[3;1H"),
+    ((3, 4), (0, 0), "\x1b[H"),
+    ((0, 0), (0, 65535), "\x1b[65535C"),
+    ((65535, 0), (0, 0), "\x1b[H"),
+    ((65534, 7), (65535, 0), "\r\n"),
+];
+
 #[test]
 fn moves_from_place_to_place(rt: HostRuntime) -> Result<(), Fail> {
-    for (from, to, want) in [
-        ((0, 0), (1, 0), "\r\n"),
-        ((0, 5), (1, 0), "\r\n"),
-        ((3, 4), (3, 4), ""),
-        ((5, 0), (5, 0), ""),
-        ((3, 4), (3, 5), "\x1b[C"),
-        ((3, 4), (3, 9), "\x1b[5C"),
-        ((3, 4), (3, 3), "\x1b[4;4H"),
-        ((3, 4), (4, 4), "\x1b[5;5H"),
-        ((3, 4), (2, 0), "\x1b[3;1H"),
-        ((3, 4), (0, 0), "\x1b[H"),
-        ((0, 0), (0, 65535), "\x1b[65535C"),
-        ((65535, 0), (0, 0), "\x1b[H"),
-        ((65534, 7), (65535, 0), "\r\n"),
-    ] {
-        let (from, to) = (place(from), place(to));
+    for (from, to, want) in MOVES {
+        let (from, to) = (place(*from), place(*to));
         check(&rt, rt.alloc(), &term::MoveFromTo::new(from, to), want)?;
     }
     Ok(())
 }
 
+const MODES: &[(MouseProtocolMode, MouseProtocolMode, &str)] = &[
+    (
+        MouseProtocolMode::None,
+        MouseProtocolMode::Press,
+        "\x1b[?9l",
+    ),
+    (
+        MouseProtocolMode::None,
+        MouseProtocolMode::PressRelease,
+        "\x1b[?1000l",
+    ),
+    (
+        MouseProtocolMode::None,
+        MouseProtocolMode::ButtonMotion,
+        "\x1b[?1002l",
+    ),
+    (
+        MouseProtocolMode::None,
+        MouseProtocolMode::AnyMotion,
+        "\x1b[?1003l",
+    ),
+    (
+        MouseProtocolMode::Press,
+        MouseProtocolMode::None,
+        "\x1b[?9h",
+    ),
+    (
+        MouseProtocolMode::PressRelease,
+        MouseProtocolMode::Press,
+        "\x1b[?1000h",
+    ),
+    (
+        MouseProtocolMode::ButtonMotion,
+        MouseProtocolMode::AnyMotion,
+        "\x1b[?1002h",
+    ),
+    (
+        MouseProtocolMode::AnyMotion,
+        MouseProtocolMode::PressRelease,
+        "\x1b[?1003h",
+    ),
+    (
+        MouseProtocolMode::AnyMotion,
+        MouseProtocolMode::AnyMotion,
+        "",
+    ),
+];
+
 #[test]
 fn changes_mouse_modes(rt: HostRuntime) -> Result<(), Fail> {
-    use MouseProtocolMode::{AnyMotion, ButtonMotion, None, Press, PressRelease};
-    for (mode, prev, want) in [
-        (None, Press, "\x1b[?9l"),
-        (None, PressRelease, "\x1b[?1000l"),
-        (None, ButtonMotion, "\x1b[?1002l"),
-        (None, AnyMotion, "\x1b[?1003l"),
-        (Press, None, "\x1b[?9h"),
-        (PressRelease, Press, "\x1b[?1000h"),
-        (ButtonMotion, AnyMotion, "\x1b[?1002h"),
-        (AnyMotion, PressRelease, "\x1b[?1003h"),
-        (AnyMotion, AnyMotion, ""),
-    ] {
-        check(
-            &rt,
-            rt.alloc(),
-            &term::MouseProtocolMode::new(mode, prev),
-            want,
-        )?;
+    for (mode, prev, want) in MODES {
+        let form = term::MouseProtocolMode::new(*mode, *prev);
+        check(&rt, rt.alloc(), &form, want)?;
     }
     Ok(())
 }
+
+const ENCODINGS: &[(MouseProtocolEncoding, MouseProtocolEncoding, &str)] = &[
+    (
+        MouseProtocolEncoding::Default,
+        MouseProtocolEncoding::Utf8,
+        "\x1b[?1005l",
+    ),
+    (
+        MouseProtocolEncoding::Default,
+        MouseProtocolEncoding::Sgr,
+        "\x1b[?1006l",
+    ),
+    (
+        MouseProtocolEncoding::Utf8,
+        MouseProtocolEncoding::Default,
+        "\x1b[?1005h",
+    ),
+    (
+        MouseProtocolEncoding::Utf8,
+        MouseProtocolEncoding::Sgr,
+        "\x1b[?1005h",
+    ),
+    (
+        MouseProtocolEncoding::Sgr,
+        MouseProtocolEncoding::Utf8,
+        "\x1b[?1006h",
+    ),
+    (MouseProtocolEncoding::Sgr, MouseProtocolEncoding::Sgr, ""),
+];
 
 #[test]
 fn changes_mouse_encodings(rt: HostRuntime) -> Result<(), Fail> {
-    use MouseProtocolEncoding::{Default, Sgr, Utf8};
-    for (encoding, prev, want) in [
-        (Default, Utf8, "\x1b[?1005l"),
-        (Default, Sgr, "\x1b[?1006l"),
-        (Utf8, Default, "\x1b[?1005h"),
-        (Utf8, Sgr, "\x1b[?1005h"),
-        (Sgr, Utf8, "\x1b[?1006h"),
-        (Sgr, Sgr, ""),
-    ] {
-        check(
-            &rt,
-            rt.alloc(),
-            &term::MouseProtocolEncoding::new(encoding, prev),
-            want,
-        )?;
+    for (encoding, prev, want) in ENCODINGS {
+        let form = term::MouseProtocolEncoding::new(*encoding, *prev);
+        check(&rt, rt.alloc(), &form, want)?;
     }
     Ok(())
 }
 
+const STYLES: &[(CursorStyle, CursorStyle, &str)] = &[
+    (CursorStyle::Default, CursorStyle::BlinkBlock, "\x1b[0 q"),
+    (CursorStyle::BlinkBlock, CursorStyle::Default, "\x1b[1 q"),
+    (CursorStyle::SteadyBlock, CursorStyle::Default, "\x1b[2 q"),
+    (
+        CursorStyle::BlinkUnderline,
+        CursorStyle::Default,
+        "\x1b[3 q",
+    ),
+    (
+        CursorStyle::SteadyUnderline,
+        CursorStyle::Default,
+        "\x1b[4 q",
+    ),
+    (
+        CursorStyle::BlinkVerticalBar,
+        CursorStyle::Default,
+        "\x1b[5 q",
+    ),
+    (
+        CursorStyle::SteadyVerticalBar,
+        CursorStyle::Default,
+        "\x1b[6 q",
+    ),
+    (CursorStyle::SteadyBlock, CursorStyle::SteadyBlock, ""),
+];
+
 #[test]
 fn changes_cursor_styles(rt: HostRuntime) -> Result<(), Fail> {
-    for (style, prev, want) in [
-        (CursorStyle::Default, CursorStyle::BlinkBlock, "\x1b[0 q"),
-        (CursorStyle::BlinkBlock, CursorStyle::Default, "\x1b[1 q"),
-        (CursorStyle::SteadyBlock, CursorStyle::Default, "\x1b[2 q"),
-        (
-            CursorStyle::BlinkUnderline,
-            CursorStyle::Default,
-            "\x1b[3 q",
-        ),
-        (
-            CursorStyle::SteadyUnderline,
-            CursorStyle::Default,
-            "\x1b[4 q",
-        ),
-        (
-            CursorStyle::BlinkVerticalBar,
-            CursorStyle::Default,
-            "\x1b[5 q",
-        ),
-        (
-            CursorStyle::SteadyVerticalBar,
-            CursorStyle::Default,
-            "\x1b[6 q",
-        ),
-        (CursorStyle::SteadyBlock, CursorStyle::SteadyBlock, ""),
-    ] {
-        check(&rt, rt.alloc(), &term::CursorStyle::new(style, prev), want)?;
+    for (style, prev, want) in STYLES {
+        let form = term::CursorStyle::new(*style, *prev);
+        check(&rt, rt.alloc(), &form, want)?;
     }
     Ok(())
 }
@@ -337,60 +404,69 @@ fn colored(fgcolor: Color, bgcolor: Color) -> Attrs {
     }
 }
 
+const COLORS: &[(Color, &str, &str)] = &[
+    (Color::Idx(0), "\x1b[30m", "\x1b[40m"),
+    (Color::Idx(1), "\x1b[31m", "\x1b[41m"),
+    (Color::Idx(7), "\x1b[37m", "\x1b[47m"),
+    (Color::Idx(8), "\x1b[90m", "\x1b[100m"),
+    (Color::Idx(15), "\x1b[97m", "\x1b[107m"),
+    (Color::Idx(16), "\x1b[38;5;16m", "\x1b[48;5;16m"),
+    (Color::Idx(99), "\x1b[38;5;99m", "\x1b[48;5;99m"),
+    (Color::Idx(100), "\x1b[38;5;100m", "\x1b[48;5;100m"),
+    (Color::Idx(231), "\x1b[38;5;231m", "\x1b[48;5;231m"),
+    (Color::Idx(255), "\x1b[38;5;255m", "\x1b[48;5;255m"),
+    (Color::Rgb(0, 0, 0), "\x1b[38;2;0;0;0m", "\x1b[48;2;0;0;0m"),
+    (
+        Color::Rgb(1, 20, 255),
+        "\x1b[38;2;1;20;255m",
+        "\x1b[48;2;1;20;255m",
+    ),
+    (
+        Color::Rgb(100, 128, 200),
+        "\x1b[38;2;100;128;200m",
+        "\x1b[48;2;100;128;200m",
+    ),
+];
+
 #[test]
 fn changes_colors(rt: HostRuntime) -> Result<(), Fail> {
     let plain = Attrs::new();
-    for (color, fg, bg) in [
-        (Color::Idx(0), "\x1b[30m", "\x1b[40m"),
-        (Color::Idx(1), "\x1b[31m", "\x1b[41m"),
-        (Color::Idx(7), "\x1b[37m", "\x1b[47m"),
-        (Color::Idx(8), "\x1b[90m", "\x1b[100m"),
-        (Color::Idx(15), "\x1b[97m", "\x1b[107m"),
-        (Color::Idx(16), "\x1b[38;5;16m", "\x1b[48;5;16m"),
-        (Color::Idx(99), "\x1b[38;5;99m", "\x1b[48;5;99m"),
-        (Color::Idx(100), "\x1b[38;5;100m", "\x1b[48;5;100m"),
-        (Color::Idx(231), "\x1b[38;5;231m", "\x1b[48;5;231m"),
-        (Color::Idx(255), "\x1b[38;5;255m", "\x1b[48;5;255m"),
-        (Color::Rgb(0, 0, 0), "\x1b[38;2;0;0;0m", "\x1b[48;2;0;0;0m"),
-        (
-            Color::Rgb(1, 20, 255),
-            "\x1b[38;2;1;20;255m",
-            "\x1b[48;2;1;20;255m",
-        ),
-        (
-            Color::Rgb(100, 128, 200),
-            "\x1b[38;2;100;128;200m",
-            "\x1b[48;2;100;128;200m",
-        ),
-    ] {
-        check_change(&rt, rt.alloc(), plain, colored(color, Color::Default), fg)?;
-        check_change(&rt, rt.alloc(), plain, colored(Color::Default, color), bg)?;
-        check_change(
-            &rt,
-            rt.alloc(),
-            colored(color, Color::Default),
-            plain,
-            "\x1b[m",
-        )?;
+    for (color, foreground, background) in COLORS {
+        let on_text = colored(*color, Color::Default);
+        let behind = colored(Color::Default, *color);
+        check_change(&rt, rt.alloc(), plain, on_text, foreground)?;
+        check_change(&rt, rt.alloc(), plain, behind, background)?;
+        check_change(&rt, rt.alloc(), on_text, plain, "\x1b[m")?;
     }
     Ok(())
 }
 
+const YELLOW: Color = Color::Idx(3);
+
+const RGB: Color = Color::Rgb(1, 2, 3);
+
+const BOTH: &[((Color, Color), (Color, Color), &str)] = &[
+    (
+        (Color::Default, YELLOW),
+        (YELLOW, Color::Default),
+        "\x1b[33;49m",
+    ),
+    (
+        (YELLOW, Color::Default),
+        (Color::Default, YELLOW),
+        "\x1b[39;43m",
+    ),
+    (
+        (RGB, YELLOW),
+        (Color::Idx(77), RGB),
+        "\x1b[38;5;77;48;2;1;2;3m",
+    ),
+    ((YELLOW, RGB), (YELLOW, RGB), ""),
+];
+
 #[test]
 fn changes_both_colors(rt: HostRuntime) -> Result<(), Fail> {
-    let plain = Color::Default;
-    let yellow = Color::Idx(3);
-    let rgb = Color::Rgb(1, 2, 3);
-    for (old, new, want) in [
-        ((plain, yellow), (yellow, plain), "\x1b[33;49m"),
-        ((yellow, plain), (plain, yellow), "\x1b[39;43m"),
-        (
-            (rgb, yellow),
-            (Color::Idx(77), rgb),
-            "\x1b[38;5;77;48;2;1;2;3m",
-        ),
-        ((yellow, rgb), (yellow, rgb), ""),
-    ] {
+    for (old, new, want) in BOTH {
         check_change(
             &rt,
             rt.alloc(),
@@ -402,29 +478,36 @@ fn changes_both_colors(rt: HostRuntime) -> Result<(), Fail> {
     Ok(())
 }
 
+const TEXT_MODES: &[(u8, u8, &str)] = &[
+    (0, 1, "\x1b[1m"),
+    (1, 0, "\x1b[22m"),
+    (1, 2, "\x1b[2m"),
+    (2, 1, "\x1b[1m"),
+    (0, 4, "\x1b[3m"),
+    (4, 0, "\x1b[23m"),
+    (0, 8, "\x1b[4m"),
+    (8, 0, "\x1b[24m"),
+    (0, 16, "\x1b[7m"),
+    (16, 0, "\x1b[27m"),
+    (0, 29, "\x1b[1;3;4;7m"),
+    (29, 0, "\x1b[22;23;24;27m"),
+    (5, 10, "\x1b[2;23;4m"),
+    (3, 1, ""),
+    (32, 64, ""),
+];
+
 #[test]
 fn changes_modes_of_text(rt: HostRuntime) -> Result<(), Fail> {
-    let red = Color::Idx(1);
-    for (old, new, want) in [
-        (0, 1, "\x1b[1m"),
-        (1, 0, "\x1b[22m"),
-        (1, 2, "\x1b[2m"),
-        (2, 1, "\x1b[1m"),
-        (0, 4, "\x1b[3m"),
-        (4, 0, "\x1b[23m"),
-        (0, 8, "\x1b[4m"),
-        (8, 0, "\x1b[24m"),
-        (0, 16, "\x1b[7m"),
-        (16, 0, "\x1b[27m"),
-        (0, 29, "\x1b[1;3;4;7m"),
-        (29, 0, "\x1b[22;23;24;27m"),
-        (5, 10, "\x1b[2;23;4m"),
-        (3, 1, ""),
-        (32, 64, ""),
-    ] {
-        let plain = colored(red, Color::Default);
-        let old = Attrs { mode: old, ..plain };
-        let new = Attrs { mode: new, ..plain };
+    let plain = colored(Color::Idx(1), Color::Default);
+    for (old, new, want) in TEXT_MODES {
+        let old = Attrs {
+            mode: *old,
+            ..plain
+        };
+        let new = Attrs {
+            mode: *new,
+            ..plain
+        };
         check_change(&rt, rt.alloc(), old, new, want)?;
     }
     Ok(())

@@ -10,6 +10,8 @@ mod resize;
 mod text;
 
 use crate::shown::shown;
+use cursor::{Move, go};
+use edits::{Edit, apply};
 use std::alloc::Global;
 use std::num::NonZeroU16;
 use std::process::Abort;
@@ -18,7 +20,7 @@ use vt100_core::attrs::Attrs;
 use vt100_core::{Grid, GridError, Pos, Printed, Row, RowSink, Scrollback, Size};
 
 /// Counts the rows that it takes.
-#[derive(Drop)]
+#[derive(Default, Drop)]
 struct Counter {
     rows: u64,
 }
@@ -31,24 +33,50 @@ impl RowSink for Counter {
     }
 }
 
-const KEEP_ONE: Scrollback = Scrollback::Enabled { capacity: 1 };
-
-fn size(rows: u16, cols: u16) -> Result<Size, Fail> {
-    let rows = NonZeroU16::new(rows).ok_or("no rows")?;
-    let cols = NonZeroU16::new(cols).ok_or("no columns")?;
-    Ok(Size { rows, cols })
+/// What is done to a grid.
+#[derive(Clone, Copy)]
+enum Step {
+    Print(&'static str),
+    Go(Move),
+    Edit(Edit),
+    Size(u16, u16),
+    Show(usize),
+    EraseScrollback,
+    Clear,
 }
 
-fn grid(alloc: Global, rows: u16, cols: u16, scrollback: Scrollback) -> Result<Grid, Fail>
+/// Rows, columns, and how many rows are kept at most, if there is scrollback.
+type Start = (u16, u16, Option<usize>);
+
+/// A new grid, what is done to it, and then: its rows and the cursor's row and column; how many rows are kept, how many
+/// of these are shown, and how many went to the sink.
+type Case = (Start, &'static [Step], &'static str, (usize, usize, u64));
+
+fn size(rows: u16, cols: u16) -> Size {
+    Size {
+        rows: NonZeroU16::new(rows).unwrap_or(NonZeroU16::MIN),
+        cols: NonZeroU16::new(cols).unwrap_or(NonZeroU16::MIN),
+    }
+}
+
+fn scrollback(capacity: Option<usize>) -> Scrollback {
+    match capacity {
+        Some(capacity) => Scrollback::Enabled { capacity },
+        None => Scrollback::Disabled,
+    }
+}
+
+fn grid(alloc: Global, start: Start) -> Result<Grid, Fail>
     ensures { IfOk result (λ g. IsAllocated g) }
 {
-    let mut grid = Grid::new(alloc, size(rows, cols)?, scrollback);
+    let (rows, cols, capacity) = start;
+    let mut grid = Grid::new(alloc, size(rows, cols), scrollback(capacity));
     grid.allocate_rows()?;
     Ok(grid)
 }
 
 /// Prints a text, where `\r` goes to the first column and `\n` to the next row.
-fn print(grid: &mut Grid, text: &str) -> Result<(), GridError>
+fn print(grid: &mut Grid, text: &str, sink: &mut Counter) -> Result<(), GridError>
     requires { IsAllocated grid.old }
     ensures { IsAllocated grid.new }
 {
@@ -56,14 +84,40 @@ fn print(grid: &mut Grid, text: &str) -> Result<(), GridError>
         match c {
             '\r' => grid.col_set(0),
             '\n' => {
-                grid.row_inc_scroll(1, &mut ())?;
+                grid.row_inc_scroll(1, sink)?;
             }
             _ => {
-                grid.text(c, Attrs::new(), &mut ())?;
+                grid.text(c, Attrs::new(), sink)?;
             }
         }
     }
     Ok(())
+}
+
+fn take(grid: &mut Grid, step: Step, sink: &mut Counter) -> Result<(), GridError>
+    requires { IsAllocated grid.old }
+    ensures { IsAllocated grid.new }
+{
+    match step {
+        Step::Print(text) => print(grid, text, sink)?,
+        Step::Go(step) => go(grid, step),
+        Step::Edit(edit) => apply(grid, edit, sink)?,
+        Step::Size(rows, cols) => grid.set_size(size(rows, cols), sink)?,
+        Step::Show(rows) => grid.set_scrollback(rows)?,
+        Step::EraseScrollback => grid.erase_all_scrollback(sink),
+        Step::Clear => grid.clear(),
+    }
+    Ok(())
+}
+
+/// A grid after these steps, and how many rows went to the sink.
+fn run(alloc: Global, start: Start, steps: &[Step]) -> Result<(Grid, u64), Fail> {
+    let mut grid = grid(alloc, start)?;
+    let mut sink = Counter::default();
+    for step in steps {
+        take(&mut grid, *step, &mut sink)?;
+    }
+    Ok((grid, sink.rows))
 }
 
 /// All rows that are drawn on, with a `/` after each.
@@ -85,11 +139,12 @@ fn check(rt: &(impl Abort + AllocGlobal), grid: &Grid, want: &str) -> Result<(),
     Ok(())
 }
 
-/// How many rows are kept, how many may be, and how many of them are shown.
-fn kept(grid: &Grid) -> (usize, usize, usize) {
-    (
-        grid.scrollback_len(),
-        grid.scrollback_capacity(),
-        grid.scrollback(),
-    )
+fn check_all(rt: &(impl Abort + AllocGlobal), cases: &[Case]) -> Result<(), Fail> {
+    for (start, steps, want, counts) in cases {
+        let (grid, gone) = run(rt.alloc(), *start, steps)?;
+        let kept = (grid.scrollback_len(), grid.scrollback(), gone);
+        assert_eq!(rt; kept, *counts, "{want}");
+        check(rt, &grid, want)?;
+    }
+    Ok(())
 }

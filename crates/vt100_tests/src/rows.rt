@@ -85,74 +85,78 @@ fn apply(row: &mut Row, edit: Edit) -> Result<(), GridError> {
     Ok(())
 }
 
+/// Columns, a text that is printed on a row that is then wrapped, an edit, and the row then.
+const EDITS: &[(u16, &str, Edit, &str)] = &[
+    (4, "中文", Edit::Put(1, 'x'), ".x文_>"),
+    (4, "中文", Edit::Put(0, 'x'), "x 文_>"),
+    (4, "a中b", Edit::Put(0, '文'), "文_.b>"),
+    (4, "an中", Edit::Put(1, '文'), "a文_."),
+    (4, "中x", Edit::Insert(1, 1), "中_.x"),
+    (4, "ab中", Edit::Insert(0, 1), ".ab."),
+    (4, "abcd", Edit::Insert(4, 9), "abcd"),
+    (4, "abcd", Edit::Insert(1, 9), "a..."),
+    (4, "中文", Edit::Remove(1, 2), ".文_."),
+    (4, "中文", Edit::Remove(0, 1), ".文_."),
+    (4, "abcd", Edit::Remove(1, 3), "ad.."),
+    (4, "中文", Edit::Erase(0), "..文_>"),
+    (4, "中文", Edit::Erase(1), "..文_>"),
+    (4, "中文", Edit::Erase(2), "中_.."),
+    (2, "ab", Edit::Erase(1), "a."),
+    (4, "中文", Edit::EraseRange(1, 3), "...."),
+    (4, "abcd", Edit::EraseRange(3, 1), "abcd>"),
+    (4, "中文", Edit::ClearWide(1), "..文_>"),
+    (4, "中文", Edit::ClearWide(3), "中_.."),
+    (4, "ab中", Edit::Truncate(3), "ab."),
+    (4, "abcd", Edit::Truncate(9), "abcd"),
+    (4, "abcd", Edit::Truncate(0), ""),
+    (2, "ab", Edit::Grow(4), "ab.."),
+    (2, "ab", Edit::Grow(1), "ab>"),
+    (4, "ab中", Edit::Resize(3), "ab."),
+    (2, "中", Edit::Resize(3), "中_."),
+    (2, "ab", Edit::Resize(2), "ab>"),
+    (5, "ab", Edit::Trim, "ab"),
+    (3, "ab", Edit::Wrap, "ab."),
+    (2, "中", Edit::Wrap, "中_>"),
+    (3, "中x", Edit::Clear, "..."),
+    (3, "中x", Edit::Reset, "..."),
+];
+
 #[test]
 fn edits_keep_wide_characters_whole(rt: HostRuntime) -> Result<(), Fail> {
-    let cases = [
-        (4, "中文", Edit::Put(1, 'x'), ".x文_>"),
-        (4, "中文", Edit::Put(0, 'x'), "x 文_>"),
-        (4, "a中b", Edit::Put(0, '文'), "文_.b>"),
-        (4, "an中", Edit::Put(1, '文'), "a文_."),
-        (4, "中x", Edit::Insert(1, 1), "中_.x"),
-        (4, "ab中", Edit::Insert(0, 1), ".ab."),
-        (4, "abcd", Edit::Insert(4, 9), "abcd"),
-        (4, "abcd", Edit::Insert(1, 9), "a..."),
-        (4, "中文", Edit::Remove(1, 2), ".文_."),
-        (4, "中文", Edit::Remove(0, 1), ".文_."),
-        (4, "abcd", Edit::Remove(1, 3), "ad.."),
-        (4, "中文", Edit::Erase(0), "..文_>"),
-        (4, "中文", Edit::Erase(1), "..文_>"),
-        (4, "中文", Edit::Erase(2), "中_.."),
-        (2, "ab", Edit::Erase(1), "a."),
-        (4, "中文", Edit::EraseRange(1, 3), "...."),
-        (4, "abcd", Edit::EraseRange(3, 1), "abcd>"),
-        (4, "中文", Edit::ClearWide(1), "..文_>"),
-        (4, "中文", Edit::ClearWide(3), "中_.."),
-        (4, "ab中", Edit::Truncate(3), "ab."),
-        (4, "abcd", Edit::Truncate(9), "abcd"),
-        (4, "abcd", Edit::Truncate(0), ""),
-        (2, "ab", Edit::Grow(4), "ab.."),
-        (2, "ab", Edit::Grow(1), "ab>"),
-        (4, "ab中", Edit::Resize(3), "ab."),
-        (2, "中", Edit::Resize(3), "中_."),
-        (2, "ab", Edit::Resize(2), "ab>"),
-        (5, "ab", Edit::Trim, "ab"),
-        (3, "ab", Edit::Wrap, "ab."),
-        (2, "中", Edit::Wrap, "中_>"),
-        (3, "中x", Edit::Clear, "..."),
-        (3, "中x", Edit::Reset, "..."),
-    ];
-    for (cols, text, edit, want) in cases {
-        let mut row = row_of(rt.alloc(), cols, text)?;
+    for (cols, text, edit, want) in EDITS {
+        let mut row = row_of(rt.alloc(), *cols, text)?;
         row.wrap(true);
-        apply(&mut row, edit)?;
+        apply(&mut row, *edit)?;
         check(&rt, &row, want)?;
     }
     Ok(())
 }
 
+/// Columns, a text that is printed, and the row then.
+const JOINED: &[(u16, &str, &str)] = &[
+    (2, "e\u{301}", "e\u{301}."),
+    (2, "中\u{301}", "中\u{301}_"),
+    (2, "\u{301}a", "a."),
+    (3, "\u{2764}\u{FE0F}x", "\u{2764}\u{FE0F}_x"),
+    (1, "\u{2764}\u{FE0F}", "\u{2764}"),
+    (2, "a\u{2764}\u{FE0F}", "a."),
+    // One is put on while fewer than 18 bytes are kept.
+    (
+        1,
+        "e\u{301}\u{301}\u{301}\u{301}\u{301}\u{301}\u{301}\u{301}\u{301}\u{301}\u{301}",
+        "e\u{301}\u{301}\u{301}\u{301}\u{301}\u{301}\u{301}\u{301}\u{301}",
+    ),
+    (
+        1,
+        "e\u{E0100}\u{E0100}\u{E0100}\u{E0100}\u{E0100}\u{E0100}",
+        "e\u{E0100}\u{E0100}\u{E0100}\u{E0100}\u{E0100}",
+    ),
+];
+
 #[test]
 fn zero_width_characters_join(rt: HostRuntime) -> Result<(), Fail> {
-    let cases = [
-        (2, "e\u{301}", "e\u{301}."),
-        (2, "中\u{301}", "中\u{301}_"),
-        (2, "\u{301}a", "a."),
-        (3, "\u{2764}\u{FE0F}x", "\u{2764}\u{FE0F}_x"),
-        (1, "\u{2764}\u{FE0F}", "\u{2764}"),
-        (2, "a\u{2764}\u{FE0F}", "a."),
-        // One is put on while fewer than 18 bytes are kept.
-        (
-            1,
-            "e\u{301}\u{301}\u{301}\u{301}\u{301}\u{301}\u{301}\u{301}\u{301}\u{301}\u{301}",
-            "e\u{301}\u{301}\u{301}\u{301}\u{301}\u{301}\u{301}\u{301}\u{301}",
-        ),
-        (
-            1,
-            "e\u{E0100}\u{E0100}\u{E0100}\u{E0100}\u{E0100}\u{E0100}",
-            "e\u{E0100}\u{E0100}\u{E0100}\u{E0100}\u{E0100}",
-        ),
-    ];
-    for (cols, text, want) in cases {
-        let row = row_of(rt.alloc(), cols, text)?;
+    for (cols, text, want) in JOINED {
+        let row = row_of(rt.alloc(), *cols, text)?;
         check(&rt, &row, want)?;
     }
     Ok(())
@@ -203,6 +207,26 @@ fn a_cell_without_room_is_carried(rt: HostRuntime) -> Result<(), Fail> {
 }
 
 #[test]
+fn copies_are_equal(rt: HostRuntime) -> Result<(), Fail> {
+    let row = row_of(rt.alloc(), 2, "a")?;
+    let copy = row.clone()?;
+    let first = copy.get(0);
+    assert_eq!(rt; (first == row.get(0), first == row.get(1)), (true, false));
+    Ok(())
+}
+
+/// What a cell's getters say: bold, dim, italic, underline and inverse.
+fn flags(cell: &Cell) -> [bool; 5] {
+    [
+        cell.bold(),
+        cell.dim(),
+        cell.italic(),
+        cell.underline(),
+        cell.inverse(),
+    ]
+}
+
+#[test]
 fn cells_tell_their_attributes(rt: HostRuntime) -> Result<(), Fail> {
     let mut attrs = Attrs {
         fgcolor: Color::Idx(9),
@@ -214,46 +238,35 @@ fn cells_tell_their_attributes(rt: HostRuntime) -> Result<(), Fail> {
     attrs.set_inverse(true);
     let mut row = Row::new(rt.alloc(), 2)?;
     print(&mut row, 0, "a", attrs);
-    let copy = row.clone()?;
-    assert_eq!(rt; copy.get(0), row.get(0));
-    assert!(rt; copy.get(0) != row.get(1));
-    let cell = copy.get(0).ok_or("no cell")?;
-    assert_eq!(rt;
-        (cell.attrs(), cell.fgcolor(), cell.bgcolor()),
-        (attrs, Color::Idx(9), Color::Rgb(1, 2, 3))
-    );
-    assert_eq!(rt;
-        [
-            cell.bold(),
-            cell.dim(),
-            cell.italic(),
-            cell.underline(),
-            cell.inverse()
-        ],
-        [true, false, true, false, true]
-    );
+    let cell = *row.get(0).ok_or("no cell")?;
+    let told = (cell.attrs(), cell.fgcolor(), cell.bgcolor());
+    assert_eq!(rt; told, (attrs, Color::Idx(9), Color::Rgb(1, 2, 3)));
+    assert_eq!(rt; flags(&cell), [true, false, true, false, true]);
     Ok(())
 }
 
+/// Columns, a text that is printed, the first column that is written, how many are, whether the row above is wrapped,
+/// and what is written.
+const WRITTEN: &[(u16, &str, u16, u16, bool, &str)] = &[
+    (4, "ab", 0, 4, false, "ab"),
+    (4, "中x", 0, 4, false, "中x"),
+    (4, "中x", 1, 3, false, " x"),
+    (4, "中x", 1, 1, false, ""),
+    (4, "中x", 0, 1, false, "中"),
+    (4, "", 0, 4, false, ""),
+    (4, "", 0, 4, true, "\n"),
+    (4, "ab", 0, 4, true, "ab"),
+    (4, "ab", 9, 4, true, "\n"),
+    (4, "ab", 1, 65_535, false, "b"),
+];
+
 #[test]
 fn writes_the_text_of_columns(rt: HostRuntime) -> Result<(), Fail> {
-    let cases = [
-        (4, "ab", 0, 4, false, "ab"),
-        (4, "中x", 0, 4, false, "中x"),
-        (4, "中x", 1, 3, false, " x"),
-        (4, "中x", 1, 1, false, ""),
-        (4, "中x", 0, 1, false, "中"),
-        (4, "", 0, 4, false, ""),
-        (4, "", 0, 4, true, "\n"),
-        (4, "ab", 0, 4, true, "ab"),
-        (4, "ab", 9, 4, true, "\n"),
-        (4, "ab", 1, 65_535, false, "b"),
-    ];
-    for (cols, text, start, width, wrapping, want) in cases {
-        let row = row_of(rt.alloc(), cols, text)?;
+    for (cols, text, start, width, wrapping, want) in WRITTEN {
+        let row = row_of(rt.alloc(), *cols, text)?;
         let mut contents = String::new(rt.alloc());
-        row.write_contents(&mut contents, start, width, wrapping)?;
-        assert_eq!(rt; contents.as_str(), want);
+        row.write_contents(&mut contents, *start, *width, *wrapping)?;
+        assert_eq!(rt; contents.as_str(), *want);
     }
 
     Ok(())

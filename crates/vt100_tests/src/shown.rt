@@ -1,20 +1,22 @@
 //! Rows as texts.
 use std::alloc::Global;
 use std::test::Fail;
-use vt100_core::Row;
+use vt100_core::{Cell, Row};
+
+fn text_of(cell: Option<&Cell>) -> &str {
+    match cell {
+        Some(cell) if cell.has_contents() => cell.contents(),
+        Some(cell) if cell.is_wide_continuation() => "_",
+        _ => ".",
+    }
+}
 
 /// A row's cells, `.` for an empty one and `_` for the second half of a wide one, and `>` where the row is wrapped.
 pub fn shown(alloc: Global, row: &Row) -> Result<String, Fail> {
     let mut text = String::new(alloc);
     for col in 0..row.cols() {
-        match row.get(col) {
-            Some(cell) if cell.has_contents() => text.push_str(cell.contents())?,
-            Some(cell) if cell.is_wide_continuation() => text.push('_')?,
-            _ => text.push('.')?,
-        }
+        text.push_str(text_of(row.get(col)))?;
     }
-    if row.wrapped() {
-        text.push('>')?;
-    }
+    text.push_str(if row.wrapped() { ">" } else { "" })?;
     Ok(text)
 }

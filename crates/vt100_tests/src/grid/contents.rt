@@ -1,70 +1,70 @@
 //! The text of a whole grid.
 use super::*;
 
-/// A grid's text is this one.
-fn reads(rt: &(impl Abort + AllocGlobal), grid: &Grid, want: &str) -> Result<(), Fail> {
-    let mut text = String::new(rt.alloc());
-    grid.write_contents(&mut text)?;
-    assert_eq!(rt; text.as_str(), want);
-    Ok(())
-}
+/// A new grid, what is done to it, and its text then.
+const TEXTS: &[(Start, &[Step], &str)] = &[
+    ((2, 4, None), &[], ""),
+    ((2, 4, None), &[Step::Print("abcdxyz")], "abcdxyz"),
+    ((2, 4, None), &[Step::Print("中文x")], "中文x"),
+    ((2, 4, None), &[Step::Print("a  ")], "a  "),
+    ((3, 4, None), &[Step::Print("\n\nx")], "\n\nx"),
+    ((3, 4, None), &[Step::Print("a\r\n\r\nb")], "a\n\nb"),
+    ((3, 4, None), &[Step::Print("a\r\nb\r\n")], "a\nb"),
+    ((3, 3, None), &[Step::Print("ab中")], "ab\n中"),
+    // A row that was erased below one that is wrapped.
+    (
+        (3, 2, None),
+        &[Step::Print("abc"), Step::Edit(Edit::EraseRow)],
+        "ab",
+    ),
+    (
+        (3, 2, None),
+        &[
+            Step::Print("abc"),
+            Step::Edit(Edit::EraseRow),
+            Step::Go(Move::To(2, 0)),
+            Step::Print("d"),
+        ],
+        "ab\n\nd",
+    ),
+    // Rows that are kept.
+    ((2, 4, Some(1)), &[Step::Print("a\r\nb\r\nc")], "b\nc"),
+    (
+        (2, 4, Some(1)),
+        &[Step::Print("a\r\nb\r\nc"), Step::Show(1)],
+        "a\nb",
+    ),
+    (
+        (2, 4, Some(1)),
+        &[
+            Step::Print("a\r\nb\r\nc"),
+            Step::Show(1),
+            Step::EraseScrollback,
+        ],
+        "b\nc",
+    ),
+];
 
 #[test]
-fn joins_wrapped_rows(rt: HostRuntime) -> Result<(), Fail> {
-    let cases = [
-        (2, 4, "", ""),
-        (2, 4, "abcdxyz", "abcdxyz"),
-        (2, 4, "中文x", "中文x"),
-        (2, 4, "a  ", "a  "),
-        (3, 4, "\n\nx", "\n\nx"),
-        (3, 4, "a\r\n\r\nb", "a\n\nb"),
-        (3, 4, "a\r\nb\r\n", "a\nb"),
-        (3, 3, "ab中", "ab\n中"),
-    ];
-    for (rows, cols, text, want) in cases {
-        let mut grid = grid(rt.alloc(), rows, cols, Scrollback::Disabled)?;
-        print(&mut grid, text)?;
-        reads(&rt, &grid, want)?;
+fn texts(rt: HostRuntime) -> Result<(), Fail> {
+    for (start, steps, want) in TEXTS {
+        let (grid, _) = run(rt.alloc(), *start, steps)?;
+        let mut text = String::new(rt.alloc());
+        grid.write_contents(&mut text)?;
+        assert_eq!(rt; text.as_str(), *want);
     }
     Ok(())
 }
 
-#[test]
-fn row_that_was_erased_below_a_wrapped_one(rt: HostRuntime) -> Result<(), Fail> {
-    let mut grid = grid(rt.alloc(), 3, 2, Scrollback::Disabled)?;
-    print(&mut grid, "abc")?;
-    grid.erase_row(Attrs::new());
-    reads(&rt, &grid, "ab")?;
-    grid.set_pos(Pos { row: 2, col: 0 });
-    print(&mut grid, "d")?;
-    reads(&rt, &grid, "ab\n\nd")
-}
-
-#[test]
-fn shows_kept_rows(rt: HostRuntime) -> Result<(), Fail> {
-    let mut grid = grid(rt.alloc(), 2, 4, KEEP_ONE)?;
-    print(&mut grid, "a\r\nb\r\nc")?;
-    reads(&rt, &grid, "b\nc")?;
-    grid.set_scrollback(1)?;
-    reads(&rt, &grid, "a\nb")?;
-    grid.erase_all_scrollback(&mut ());
-    reads(&rt, &grid, "b\nc")
-}
-
+/// What stood in the string stays, but for newlines at its end.
 #[test]
 fn appends(rt: HostRuntime) -> Result<(), Fail> {
-    let mut grid = grid(rt.alloc(), 2, 2, Scrollback::Disabled)?;
+    let (mut grid, _) = run(rt.alloc(), (2, 2, None), &[Step::Print("a")])?;
     let mut text = String::from_str(rt.alloc(), "x\n")?;
-    print(&mut grid, "a")?;
     grid.write_contents(&mut text)?;
     assert_eq!(rt; text.as_str(), "x\na");
-    Ok(())
-}
-
-#[test]
-fn cuts_newlines_that_stood_there(rt: HostRuntime) -> Result<(), Fail> {
-    let grid = grid(rt.alloc(), 2, 2, Scrollback::Disabled)?;
-    let mut text = String::from_str(rt.alloc(), "x\na\n")?;
+    text.push('\n')?;
+    grid.clear();
     grid.write_contents(&mut text)?;
     assert_eq!(rt; text.as_str(), "x\na");
     Ok(())

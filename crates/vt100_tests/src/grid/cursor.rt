@@ -5,7 +5,7 @@ ghost use Rattle.vt100_core.specs.Grid.{IsAllocated};
 use super::*;
 
 #[derive(Clone, Copy)]
-enum Move {
+pub enum Move {
     RowInc(u16),
     RowDec(u16),
     RowSet(u16),
@@ -20,7 +20,7 @@ enum Move {
     To(u16, u16),
 }
 
-fn go(grid: &mut Grid, step: Move)
+pub fn go(grid: &mut Grid, step: Move)
     requires { IsAllocated grid.old }
     ensures { IsAllocated grid.new }
 {
@@ -40,45 +40,53 @@ fn go(grid: &mut Grid, step: Move)
     }
 }
 
+/// Moves one after another, and where the cursor is after each.
+const MOVES: &[(Move, (u16, u16))] = &[
+    (Move::To(9, 99), (5, 19)),
+    (Move::RowDec(2), (3, 19)),
+    (Move::ColDec(12), (3, 7)),
+    (Move::Tab, (3, 8)),
+    (Move::Tab, (3, 16)),
+    (Move::Tab, (3, 19)),
+    (Move::RowSet(7), (5, 19)),
+    (Move::RowDec(65535), (0, 19)),
+    (Move::ColSet(3), (0, 3)),
+    (Move::ColInc(4), (0, 7)),
+    (Move::Save, (0, 7)),
+    (Move::Region(2, 4), (2, 0)),
+    (Move::RowInc(65535), (4, 0)),
+    (Move::RowDec(65535), (2, 0)),
+    (Move::Origin(true), (2, 0)),
+    (Move::To(1, 1), (3, 1)),
+    (Move::To(9, 1), (4, 1)),
+    (Move::RowSet(5), (5, 1)),
+    (Move::RowDec(65535), (0, 1)),
+    (Move::Restore, (0, 7)),
+    (Move::To(1, 1), (1, 1)),
+    (Move::Region(4, 4), (0, 0)),
+    (Move::ColInc(65535), (0, 19)),
+];
+
 #[test]
 fn moves(rt: HostRuntime) -> Result<(), Fail> {
-    let mut screen = grid(rt.alloc(), 6, 20, Scrollback::Disabled)?;
-    let steps = [
-        (Move::To(9, 99), (5, 19)),
-        (Move::RowDec(2), (3, 19)),
-        (Move::ColDec(12), (3, 7)),
-        (Move::Tab, (3, 8)),
-        (Move::Tab, (3, 16)),
-        (Move::Tab, (3, 19)),
-        (Move::RowSet(7), (5, 19)),
-        (Move::RowDec(65535), (0, 19)),
-        (Move::ColSet(3), (0, 3)),
-        (Move::ColInc(4), (0, 7)),
-        (Move::Save, (0, 7)),
-        (Move::Region(2, 4), (2, 0)),
-        (Move::RowInc(65535), (4, 0)),
-        (Move::RowDec(65535), (2, 0)),
-        (Move::Origin(true), (2, 0)),
-        (Move::To(1, 1), (3, 1)),
-        (Move::To(9, 1), (4, 1)),
-        (Move::RowSet(5), (5, 1)),
-        (Move::RowDec(65535), (0, 1)),
-        (Move::Restore, (0, 7)),
-        (Move::To(1, 1), (1, 1)),
-        (Move::Region(4, 4), (0, 0)),
-        (Move::ColInc(65535), (0, 19)),
-    ];
-    for (step, (row, col)) in steps {
-        go(&mut screen, step);
-        assert_eq!(rt; screen.pos(), Pos { row, col });
+    let mut screen = grid(rt.alloc(), (6, 20, None))?;
+    for (step, (row, col)) in MOVES {
+        go(&mut screen, *step);
+        assert_eq!(rt;
+            screen.pos(),
+            Pos {
+                row: *row,
+                col: *col
+            }
+        );
     }
     Ok(())
 }
 
 #[test]
 fn waits_past_the_last_column(rt: HostRuntime) -> Result<(), Fail> {
-    let mut grid = grid(rt.alloc(), 2, 2, Scrollback::Disabled)?;
-    print(&mut grid, "a")?;
+    let mut grid = grid(rt.alloc(), (2, 2, None))?;
+    print(&mut grid, "a", &mut Counter::default())?;
     if grid.pos().col < grid.size().cols() {
         grid.col_inc(1);
     }

@@ -5,7 +5,7 @@ ghost use Rattle.vt100_core.specs.Grid.{IsAllocated};
 use super::*;
 
 #[derive(Clone, Copy)]
-enum Edit {
+pub enum Edit {
     EraseAll,
     EraseAllForward,
     EraseAllBackward,
@@ -22,7 +22,7 @@ enum Edit {
     RowDecScroll(u16),
 }
 
-fn apply(grid: &mut Grid, edit: Edit) -> Result<(), GridError>
+pub fn apply(grid: &mut Grid, edit: Edit, sink: &mut Counter) -> Result<(), GridError>
     requires { IsAllocated grid.old }
     ensures { IsAllocated grid.new }
 {
@@ -39,56 +39,91 @@ fn apply(grid: &mut Grid, edit: Edit) -> Result<(), GridError>
         Edit::DeleteCells(count) => grid.delete_cells(count),
         Edit::InsertLines(count) => grid.insert_lines(count),
         Edit::DeleteLines(count) => grid.delete_lines(count),
-        Edit::ScrollUp(count) => grid.scroll_up(count, &mut ())?,
+        Edit::ScrollUp(count) => grid.scroll_up(count, sink)?,
         Edit::ScrollDown(count) => grid.scroll_down(count),
         Edit::RowDecScroll(count) => grid.row_dec_scroll(count),
     }
     Ok(())
 }
 
+/// Edits at the second column of the second row.
+const AROUND: &[(Edit, &str)] = &[
+    (Edit::EraseAll, "..../..../..../"),
+    (Edit::EraseAllForward, "abcd/e.../..../"),
+    (Edit::EraseAllBackward, "..../..gh/ijkl/"),
+    (Edit::EraseRow, "abcd/..../ijkl/"),
+    (Edit::EraseRowForward, "abcd/e.../ijkl/"),
+    (Edit::EraseRowBackward, "abcd/..gh/ijkl/"),
+    (Edit::EraseCells(2), "abcd/e..h/ijkl/"),
+    (Edit::InsertCells(2), "abcd/e..f/ijkl/"),
+    (Edit::DeleteCells(2), "abcd/eh../ijkl/"),
+    (Edit::InsertLines(1), "abcd/..../efgh/"),
+    (Edit::DeleteLines(1), "abcd/ijkl/..../"),
+    (Edit::ScrollUp(2), "ijkl/..../..../"),
+    (Edit::ScrollDown(1), "..../abcd/efgh/"),
+    (Edit::RowDecScroll(3), "..../..../abcd/"),
+];
+
 #[test]
 fn edits_around_the_cursor(rt: HostRuntime) -> Result<(), Fail> {
-    let cases = [
-        (Edit::EraseAll, "..../..../..../"),
-        (Edit::EraseAllForward, "abcd/e.../..../"),
-        (Edit::EraseAllBackward, "..../..gh/ijkl/"),
-        (Edit::EraseRow, "abcd/..../ijkl/"),
-        (Edit::EraseRowForward, "abcd/e.../ijkl/"),
-        (Edit::EraseRowBackward, "abcd/..gh/ijkl/"),
-        (Edit::EraseCells(2), "abcd/e..h/ijkl/"),
-        (Edit::InsertCells(2), "abcd/e..f/ijkl/"),
-        (Edit::DeleteCells(2), "abcd/eh../ijkl/"),
-        (Edit::InsertLines(1), "abcd/..../efgh/"),
-        (Edit::DeleteLines(1), "abcd/ijkl/..../"),
-        (Edit::ScrollUp(2), "ijkl/..../..../"),
-        (Edit::ScrollDown(1), "..../abcd/efgh/"),
-        (Edit::RowDecScroll(3), "..../..../abcd/"),
-    ];
-    for (edit, want) in cases {
-        let mut grid = grid(rt.alloc(), 3, 4, Scrollback::Disabled)?;
-        print(&mut grid, "abcd\r\nefgh\r\nijkl")?;
-        grid.set_pos(Pos { row: 1, col: 1 });
-        apply(&mut grid, edit)?;
-        assert_eq!(rt; drawn(rt.alloc(), &grid)?.as_str(), want);
+    for (edit, want) in AROUND {
+        let steps = [
+            Step::Print("abcd\r\nefgh\r\nijkl"),
+            Step::Go(Move::To(1, 1)),
+            Step::Edit(*edit),
+        ];
+        let (grid, _) = run(rt.alloc(), (3, 4, None), &steps)?;
+        assert_eq!(rt; drawn(rt.alloc(), &grid)?.as_str(), *want);
     }
     Ok(())
 }
 
+const CASES: &[Case] = &[
+    // Lines of a region.
+    (
+        (3, 1, None),
+        &[
+            Step::Print("a\r\nb"),
+            Step::Go(Move::Region(1, 2)),
+            Step::Edit(Edit::RowDecScroll(1)),
+        ],
+        "a/./b/ 1 0",
+        (0, 0, 0),
+    ),
+    (
+        (2, 1, None),
+        &[Step::Print("a\r\nb"), Step::Clear],
+        "././ 0 0",
+        (0, 0, 0),
+    ),
+    // The row that was kept goes, and of the two that leave then the first, which is never kept.
+    (
+        (2, 2, Some(1)),
+        &[Step::Print("a\r\nb\r\nc"), Step::Edit(Edit::ScrollUp(3))],
+        "../../ 1 1",
+        (1, 0, 2),
+    ),
+    (
+        (2, 2, Some(1)),
+        &[
+            Step::Print("a\r\nb\r\nc"),
+            Step::Edit(Edit::ScrollUp(3)),
+            Step::EraseScrollback,
+        ],
+        "../../ 1 1",
+        (0, 0, 3),
+    ),
+];
+
 #[test]
-fn edits_lines_of_a_region(rt: HostRuntime) -> Result<(), Fail> {
-    let mut grid = grid(rt.alloc(), 3, 1, Scrollback::Disabled)?;
-    print(&mut grid, "a\r\nb")?;
-    grid.set_scroll_region(1, 2);
-    grid.row_dec_scroll(1);
-    check(&rt, &grid, "a/./b/ 1 0")
+fn edits_of_lines(rt: HostRuntime) -> Result<(), Fail> {
+    check_all(&rt, CASES)
 }
 
 #[test]
-fn clears_a_grid_and_not_its_copy(rt: HostRuntime) -> Result<(), Fail> {
-    let mut grid = grid(rt.alloc(), 2, 1, Scrollback::Disabled)?;
-    print(&mut grid, "a\r\nb")?;
+fn a_copy_is_a_grid_of_its_own(rt: HostRuntime) -> Result<(), Fail> {
+    let (mut grid, _) = run(rt.alloc(), (2, 1, None), &[Step::Print("a\r\nb")])?;
     let copy = grid.clone()?;
     grid.clear();
-    check(&rt, &grid, "././ 0 0")?;
     check(&rt, &copy, "a/b/ 1 1")
 }

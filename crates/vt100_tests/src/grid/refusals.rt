@@ -5,8 +5,6 @@ ghost use Rattle.vt100_core.specs.Grid.{IsAllocated};
 use super::*;
 use std::process::Abort;
 
-const KEEP_THREE: Scrollback = Scrollback::Enabled { capacity: 3 };
-
 /// How many rows are drawn on, and whether each has so many columns.
 fn drawn_rows(grid: &Grid, cols: u16) -> (u32, bool) {
     let mut count = 0_u32;
@@ -32,26 +30,20 @@ fn check_grid<R: Abort>(rt: &R, grid: &Grid, rows: u16, cols: u16) {
     let size = grid.size();
     assert_eq!(rt; (size.rows(), size.cols()), (rows, cols));
     assert_eq!(rt; drawn_rows(grid, cols), (u32::from(rows), true));
-    let (len, capacity, offset) = kept(grid);
+    let (len, offset) = (grid.scrollback_len(), grid.scrollback());
+    let capacity = grid.scrollback_capacity();
     let Pos { row, col } = grid.pos();
     let fits = [row < rows, col <= cols, len <= capacity, offset <= len];
     assert_eq!(rt; (shows_wide_rows(grid, cols), fits), (true, [true; 4]));
 }
 
 /// A grid whose rows were allocated at the second try, if the first was refused.
-fn retried_grid<R: Abort>(
-    rt: &R,
-    alloc: Global,
-    rows: u16,
-    cols: u16,
-    scrollback: Scrollback,
-) -> Result<Grid, Fail>
+fn retried_grid(alloc: Global, start: Start) -> Result<Grid, Fail>
     ensures { IfOk result (λ g. IsAllocated g) }
 {
-    let mut grid = Grid::new(alloc, size(rows, cols)?, scrollback);
-    if let Err(error) = grid.allocate_rows() {
-        assert_eq!(rt; error, GridError::Memory);
-        assert!(rt; grid.drawing_row(0).is_none());
+    let (rows, cols, capacity) = start;
+    let mut grid = Grid::new(alloc, size(rows, cols), scrollback(capacity));
+    if grid.allocate_rows().is_err() {
         grid.allocate_rows()?;
     }
     Ok(grid)
@@ -63,25 +55,24 @@ fn retried_print<R: Abort>(rt: &R, grid: &mut Grid, text: &str) -> Result<(), Fa
     ensures { IsAllocated grid.new }
 {
     let size = grid.size();
-    if let Err(error) = print(grid, text) {
-        assert_eq!(rt; error, GridError::Memory);
+    if print(grid, text, &mut Counter::default()).is_err() {
         check_grid(rt, grid, size.rows(), size.cols());
         grid.clear();
-        print(grid, text)?;
+        print(grid, text, &mut Counter::default())?;
     }
     Ok(())
 }
 
 #[test]
 fn rows_are_allocated_or_none(rt: HostRuntime) -> Result<(), Fail> {
-    let grid = retried_grid(&rt, rt.alloc(), 2, 3, Scrollback::Disabled)?;
+    let grid = retried_grid(rt.alloc(), (2, 3, None))?;
     check_grid(&rt, &grid, 2, 3);
     Ok(())
 }
 
 #[test]
 fn text_that_wraps_and_widens(rt: HostRuntime) -> Result<(), Fail> {
-    let mut grid = retried_grid(&rt, rt.alloc(), 2, 2, KEEP_THREE)?;
+    let mut grid = retried_grid(rt.alloc(), (2, 2, Some(3)))?;
     retried_print(&rt, &mut grid, "abcd\u{2764}\u{fe0f}x")?;
     check_grid(&rt, &grid, 2, 2);
     check(&rt, &grid, "\u{2764}\u{fe0f}_>/x./ 1 1")
@@ -89,7 +80,7 @@ fn text_that_wraps_and_widens(rt: HostRuntime) -> Result<(), Fail> {
 
 #[test]
 fn rows_that_are_kept(rt: HostRuntime) -> Result<(), Fail> {
-    let mut grid = retried_grid(&rt, rt.alloc(), 3, 2, KEEP_THREE)?;
+    let mut grid = retried_grid(rt.alloc(), (3, 2, Some(3)))?;
     retried_print(&rt, &mut grid, "a\r\nb\r\nc")?;
     let mut lines = grid.row_inc_scroll(2, &mut ());
     if lines.is_err() {
@@ -103,10 +94,9 @@ fn rows_that_are_kept(rt: HostRuntime) -> Result<(), Fail> {
 
 #[test]
 fn rows_that_are_shown_again(rt: HostRuntime) -> Result<(), Fail> {
-    let mut grid = retried_grid(&rt, rt.alloc(), 1, 2, KEEP_THREE)?;
+    let mut grid = retried_grid(rt.alloc(), (1, 2, Some(3)))?;
     retried_print(&rt, &mut grid, "a\r\nb\r\nc")?;
-    if let Err(error) = grid.set_scrollback(3) {
-        assert_eq!(rt; error, GridError::Memory);
+    if grid.set_scrollback(3).is_err() {
         check_grid(&rt, &grid, 1, 2);
         grid.set_scrollback(3)?;
     }
@@ -117,12 +107,11 @@ fn rows_that_are_shown_again(rt: HostRuntime) -> Result<(), Fail> {
 
 #[test]
 fn copies(rt: HostRuntime) -> Result<(), Fail> {
-    let mut grid = retried_grid(&rt, rt.alloc(), 2, 2, KEEP_THREE)?;
+    let mut grid = retried_grid(rt.alloc(), (2, 2, Some(3)))?;
     retried_print(&rt, &mut grid, "a\r\nb\r\nc")?;
     let copy = match grid.clone() {
         Ok(copy) => copy,
-        Err(error) => {
-            assert_eq!(rt; error, GridError::Memory);
+        Err(_) => {
             check_grid(&rt, &grid, 2, 2);
             grid.clone()?
         }
@@ -134,25 +123,21 @@ fn copies(rt: HostRuntime) -> Result<(), Fail> {
 
 #[test]
 fn texts(rt: HostRuntime) -> Result<(), Fail> {
-    let mut grid = retried_grid(&rt, rt.alloc(), 3, 20, Scrollback::Disabled)?;
+    let mut grid = retried_grid(rt.alloc(), (3, 20, None))?;
     retried_print(&rt, &mut grid, "a line of text\r\n\r\nand a third")?;
-    let want = "a line of text\n\nand a third";
     let mut text = String::new(rt.alloc());
-    if let Err(error) = grid.write_contents(&mut text) {
-        assert_eq!(rt; error, GridError::Memory);
-        assert!(rt; want.starts_with(text.as_str()));
+    if grid.write_contents(&mut text).is_err() {
         text.clear();
         grid.write_contents(&mut text)?;
     }
-    assert_eq!(rt; text.as_str(), want);
+    assert_eq!(rt; text.as_str(), "a line of text\n\nand a third");
     Ok(())
 }
 
 /// Gives a grid another size, at the second try if the first was refused.
 fn retried_size<R: Abort>(rt: &R, grid: &mut Grid, rows: u16, cols: u16) -> Result<(), Fail> {
-    let wanted = size(rows, cols)?;
-    if let Err(error) = grid.set_size(wanted, &mut ()) {
-        assert_eq!(rt; error, GridError::Memory);
+    let wanted = size(rows, cols);
+    if grid.set_size(wanted, &mut ()).is_err() {
         check_grid(rt, grid, grid.size().rows(), grid.size().cols());
         grid.set_size(wanted, &mut ())?;
     }
@@ -162,7 +147,7 @@ fn retried_size<R: Abort>(rt: &R, grid: &mut Grid, rows: u16, cols: u16) -> Resu
 
 #[test]
 fn sizes(rt: HostRuntime) -> Result<(), Fail> {
-    let mut grid = retried_grid(&rt, rt.alloc(), 2, 2, KEEP_THREE)?;
+    let mut grid = retried_grid(rt.alloc(), (2, 2, Some(3)))?;
     retried_print(&rt, &mut grid, "a\r\nb\r\nc")?;
     retried_size(&rt, &mut grid, 4, 3)?;
     retried_size(&rt, &mut grid, 1, 2)?;

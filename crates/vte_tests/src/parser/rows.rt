@@ -183,7 +183,7 @@ fn no_params(rt: HostRuntime) {
     assert_eq!(rt; log.text.as_str(), "print 97 csi [1:2;3] | kept 109 ");
 }
 
-/// Marks where each text begins that it is handed over.
+/// Tells where each text begins that it is handed over.
 #[derive(Drop)]
 struct Texts {
     log: Log,
