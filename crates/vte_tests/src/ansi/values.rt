@@ -26,7 +26,7 @@ fn timeouts(rt: HostRuntime) {
 }
 
 #[test]
-fn colors_of_three_parts(rt: HostRuntime) -> Result<(), Fail> {
+fn texts_of_colors(rt: HostRuntime) -> Result<(), Fail> {
     let color = Rgb {
         r: 10,
         g: 11,
@@ -42,6 +42,16 @@ fn colors_of_three_parts(rt: HostRuntime) -> Result<(), Fail> {
     ] {
         assert_eq!(rt; Rgb::from_str(text), want, "{text}");
     }
+    Ok(())
+}
+
+#[test]
+fn sums_and_differences_of_colors(rt: HostRuntime) {
+    let color = Rgb {
+        r: 10,
+        g: 11,
+        b: 12,
+    };
     let other = Rgb { r: 250, g: 1, b: 0 };
     let sum = Rgb {
         r: 255,
@@ -50,7 +60,6 @@ fn colors_of_three_parts(rt: HostRuntime) -> Result<(), Fail> {
     };
     let difference = Rgb { r: 0, g: 10, b: 12 };
     assert_eq!(rt; (color + other, color - other), (sum, difference));
-    Ok(())
 }
 
 const PRIVATE_MODES: &[(NamedPrivateMode, u16)] = &[

@@ -138,38 +138,39 @@ fn characters(rt: HostRuntime) {
     }
 }
 
-/// The bytes read until the performer is terminated, and read again.
+/// When a log asks the parser to stop, bytes, how many of them are read, and their events.
+const STOPS: &[(Until, &[u8], usize, &str)] = &[
+    (
+        Until::ControlSequence,
+        b"ab\x1b[1mcd",
+        6,
+        "print 97 print 98 csi [1] | kept 109 ",
+    ),
+    (Until::Event, b"\xE4\xB8\x1b[m", 3, "print 65533 "),
+    (
+        Until::Event,
+        b"ab\n\x1b[m",
+        3,
+        "print 97 print 98 execute 10 ",
+    ),
+    (Until::Event, b"\x1b[\n\n", 3, "execute 10 "),
+    (
+        Until::Never,
+        b"ab\x1b[m",
+        5,
+        "print 97 print 98 csi [0] | kept 109 ",
+    ),
+];
+
+/// Read until the performer is terminated, and then read again, which reads nothing.
 #[test]
 fn stops(rt: HostRuntime) {
-    let rows: [(Until, &[u8], usize, &str); 5] = [
-        (
-            Until::ControlSequence,
-            b"ab\x1b[1mcd",
-            6,
-            "print 97 print 98 csi [1] | kept 109 ",
-        ),
-        (Until::Event, b"\xE4\xB8\x1b[m", 3, "print 65533 "),
-        (
-            Until::Event,
-            b"ab\n\x1b[m",
-            3,
-            "print 97 print 98 execute 10 ",
-        ),
-        (Until::Event, b"\x1b[\n\n", 3, "execute 10 "),
-        (
-            Until::Never,
-            b"ab\x1b[m",
-            5,
-            "print 97 print 98 csi [0] | kept 109 ",
-        ),
-    ];
-    for (until, bytes, wanted, text) in rows {
-        let mut log = Log::new(&rt, until);
+    for (until, bytes, wanted, text) in STOPS {
+        let mut log = Log::new(&rt, *until);
         let mut parser: Parser<1024> = Parser::default();
         let read = parser.advance_until_terminated(&mut log, bytes);
-        assert_eq!(rt; (read, log.text.as_str()), (wanted, text));
         let more = parser.advance_until_terminated(&mut log, &bytes[read..]);
-        assert_eq!(rt; (more, log.text.as_str()), (0, text));
+        assert_eq!(rt; (read, more, log.text.as_str()), (*wanted, 0, *text));
     }
 }
 
