@@ -12,6 +12,8 @@ use Rattle.vte_core.proofs.Machine.{events_from-append, after_bytes-append}
 use Rattle.vte_core.proofs.StopLemmas.{asks-after}
 use Rattle.vte.specs.Table.{opens}
 use Rattle.vte.specs.Stretch.{added, opens_in}
+use Rattle.vte.proofs.RunLemmas.{any-append}
+use Rattle.vte.proofs.HoldLemmas.{added-from}
 
 none_if : (b : Bool) (xs ys : List Event) → list_any opens xs ≡ false → list_any opens ys ≡ false → list_any opens (if b then xs else ys) ≡ false
 none_if true xs ys h k = h
@@ -50,14 +52,6 @@ text_none (InHook x) b h = absurd (let no : false ≡ true = h in cc)
 text_none InDevice b h = absurd (let no : false ≡ true = h in cc)
 text_none InSwallowed b h = absurd (let no : false ≡ true = h in cc)
 
-or-assoc : (a b c : Bool) → ((a || b) || c) ≡ (a || (b || c))
-or-assoc true b c = refl
-or-assoc false b c = refl
-
-any-append : {X : Type 0} (p : X → Bool) (a b : List X) → list_any p (a ++ b) ≡ (list_any p a || list_any p b)
-any-append p [] b = refl
-any-append p (x ∷ a) b = ap (λ v. p x || v) (any-append p a b) ∙ sym (or-assoc (p x) (list_any p a) (list_any p b))
-
 or-false : (b : Bool) → (b || false) ≡ b
 or-false true = refl
 or-false false = refl
@@ -68,7 +62,8 @@ opens_in-text past bs m lt text before =
     let b = get_or bs m 0 in
     let q = after_bytes (pending past) (take m bs) in
     let split : added past (take (suc m) bs) ≡ added past (take m bs) ++ (events_of_byte 1024 q b ++ []) =
-    ap (λ xs. added past xs) (take-suc bs m 0 lt) ∙ events_from-append 1024 (pending past) (take m bs) (b ∷ []) in
+    ap (λ xs. added past xs) (take-suc bs m 0 lt) ∙ (added-from past (take m bs ++ b ∷ []) ∙ (events_from-append 1024 (pending past) (take m bs) (b ∷ [])
+    ∙ ap (λ es. es ++ (events_of_byte 1024 q b ++ [])) (sym (added-from past (take m bs))))) in
     ap (list_any opens) split ∙ (any-append opens (added past (take m bs)) (events_of_byte 1024 q b ++ [])
     ∙ (ap (λ v. v || list_any opens (events_of_byte 1024 q b ++ [])) before
     ∙ (any-append opens (events_of_byte 1024 q b) [] ∙ (or-false (list_any opens (events_of_byte 1024 q b)) ∙ text_none q b text))))
@@ -77,7 +72,7 @@ opens_in-text past bs m lt text before =
 pub none_before : (past bs : List ℕ) (n : ℕ) → n ≤ length bs
     → ((m : ℕ) → m < n → asks_at (pending past) true bs m ≡ true → opens_in past (take m bs) ≡ false)
     → (m : ℕ) → m < n → opens_in past (take m bs) ≡ false
-none_before past bs n within asked zero lt = refl
+none_before past bs n within asked zero lt = ap (list_any opens) (added-from past [])
 none_before past bs n within asked (suc m) lt =
     let before : opens_in past (take m bs) ≡ false = none_before past bs n within asked m (omega arith) in
     elim (cases_Bool (is_text (after_bytes (pending past) (take m bs)))) [
@@ -97,7 +92,7 @@ asks_where_opened past bytes b rest asked h =
     elim (cases_Bool (is_text q)) [
       | inl text ↦
           let none : opens_in (past ++ bytes) (b ∷ []) ≡ false =
-          ap (λ p. list_any opens (events_of_byte 1024 p b ++ [])) at ∙ (any-append opens (events_of_byte 1024 q b) [] ∙ (or-false (list_any opens (events_of_byte 1024 q b)) ∙ text_none q b text)) in
+          ap (list_any opens) (added-from (past ++ bytes) (b ∷ [])) ∙ (ap (λ p. list_any opens (events_of_byte 1024 p b ++ [])) at ∙ (any-append opens (events_of_byte 1024 q b) [] ∙ (or-false (list_any opens (events_of_byte 1024 q b)) ∙ text_none q b text))) in
           absurd (let no : true ≡ false = sym h ∙ none in cc)
       | inr other ↦
           asks-after (pending past) asked (bytes ++ b ∷ rest) (length bytes) (omega (arith, more))

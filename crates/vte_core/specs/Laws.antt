@@ -3,12 +3,17 @@ use Rattle.std.specs.Prelude.{◌≡◌, ℕ, ◌+◌, ◌<◌, ◌≤◌, Bool,
 use Rattle.std.specs.List.{All, concat}
 use Rattle.vte_core.specs.Event.{Event, Osc}
 use Rattle.vte_core.specs.Shapes.{events}
+use Rattle.vte_core.specs.Added.{added}
 use Rattle.vte_core.specs.Pending.{Pending, after_bytes}
 use Rattle.vte_core.specs.Stopping.{StopsAt, PassedBy, asks_at, is_text}
 
 -- the events of a beginning of a stream are a beginning of its events
 abbrev pub KeepsBeginnings : Type 0
-KeepsBeginnings = (n : ℕ) (s t : List ℕ) → (es : List Event) × (events n (s ++ t) ≡ events n s ++ es)
+KeepsBeginnings = (n : ℕ) (past bytes : List ℕ) → events n (past ++ bytes) ≡ events n past ++ added n past bytes
+
+-- bytes that follow one another add their events one after the other
+abbrev pub AddsInOrder : Type 0
+AddsInOrder = (n : ℕ) (past a b : List ℕ) → added n past (a ++ b) ≡ added n past a ++ added n (past ++ a) b
 
 -- ESC begins anew, and ends what came before it
 abbrev pub CutsBeforeEsc : Type 0
@@ -25,7 +30,7 @@ Fits n _ = Unit {0}
 
 -- the events that some bytes add to a stream fit
 abbrev pub AddsFitting : Type 0
-AddsFitting = (n : ℕ) (past bs : List ℕ) (es : List Event) → events n (past ++ bs) ≡ events n past ++ es → All (Fits n) es
+AddsFitting = (n : ℕ) (past bytes : List ℕ) → All (Fits n) (added n past bytes)
 
 -- where the parser stops before the last byte, the performer is asked and terminated
 abbrev pub StopsWhereAsked : {S : Type 0} → (S → Event → S → Type 0) → (S → Bool) → Type 0

@@ -5,6 +5,7 @@ pub mod Classes
 pub mod Text
 pub mod Header
 pub mod Shapes
+pub mod Added
 pub mod Pending
 pub mod Store
 pub mod Reading

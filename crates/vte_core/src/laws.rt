@@ -1,12 +1,14 @@
 //! Laws of the events of a byte stream, each as the contract of a function that does nothing.
 
-ghost use Rattle.vte_core.specs.Laws.{KeepsBeginnings, CutsBeforeEsc, CutsAfter, AddsFitting, StopsWhereAsked, PassesWhereAsked, AsksInSequences};
+ghost use Rattle.vte_core.specs.Laws.{KeepsBeginnings, AddsInOrder, CutsBeforeEsc, CutsAfter, AddsFitting, StopsWhereAsked, PassesWhereAsked, AsksInSequences};
 
 use crate::Perform;
 
-/// The events of a beginning of a stream are a beginning of the stream's events.
+/// The events of a beginning of a stream are a beginning of the stream's events; pieces that follow one another add
+/// their events one after the other.
 pub fn beginnings()
-    ensures { KeepsBeginnings }
+    ensures kept { KeepsBeginnings }
+    ensures in_order { AddsInOrder }
 {}
 
 /// A stream may be cut before each ESC: `s ESC t` has the events of `s ESC`, then those of `ESC t`.
