@@ -1,10 +1,10 @@
 -- What a processor does under a timeout that is pending exactly from setting to clearing.
-use Rattle.std.proofs.Common.{◌≡◌, ℕ, Bool, true, false, List, [], ◌∷◌, ◌++◌, ◌<◌, ◌≤◌, Option, None, Some, is_some, refl, ap, sym, ◌∙◌, subst, take, drop, length, append_assoc}
-use Rattle.vte_types.specs.Call.{Call, Calls}
+use Rattle.std.proofs.Common.{◌≡◌, ℕ, Bool, true, false, List, [], ◌∷◌, ◌++◌, Option, None, Some, is_some, refl, sym, ◌∙◌, subst, take, drop, append_assoc}
+use Rattle.vte_types.specs.Call.{Call}
 use Rattle.vte.specs.declared.processor.Processor.{Processor}
-use Rattle.vte.specs.Timeout.{Tick, Sets, Clears, Ticked, sets_of, Awaits, IsExact}
+use Rattle.vte.specs.Timeout.{Tick, Clears, Ticked, Awaits, IsExact}
 use Rattle.vte.specs.Performed.{openers_of_all}
-use Rattle.vte.specs.Stretch.{added, calls_from, ticks_from, opens_in, OpensAt}
+use Rattle.vte.specs.Stretch.{added, ticks_from}
 use Rattle.vte.specs.Hold as hold
 use Rattle.vte.specs.Hold.{limit, closing, held_of, Renews, again, quiet, Settles, keeps, replays, closes, Takes}
 use Rattle.vte.specs.Advances.{Plainly, Advances, parses, begins, settles, overflows}

@@ -1,5 +1,5 @@
 -- Stretches that follow one another.
-use Rattle.std.proofs.Common.{◌≡◌, ℕ, Bool, true, false, List, [], ◌∷◌, ◌++◌, Option, None, Some, ◌||◌, refl, ap, sym, ◌∙◌, subst, append_assoc}
+use Rattle.std.proofs.Common.{◌≡◌, ℕ, false, List, [], ◌∷◌, ◌++◌, Option, None, ◌||◌, refl, ap, sym, ◌∙◌, subst, append_assoc}
 use Rattle.std.specs.List.{list_any}
 use Rattle.vte_core.specs.Event.{Event}
 use Rattle.vte_core.specs.Shapes.{events}
@@ -38,6 +38,9 @@ pub calls_from-append : (past a b : List ℕ) → calls_from past (a ++ b) ≡ c
 calls_from-append past a b =
     ap (calls_of_all (last_of past)) (added-append past a b) ∙ (calls_of_all-append (last_of past) (added past a) (added (past ++ a) b)
     ∙ ap (λ l. calls_from past a ++ calls_of_all l (added (past ++ a) b)) (sym (last_of-append past a)))
+
+pub opens_in-none : (past : List ℕ) → opens_in past [] ≡ false
+opens_in-none past = ap (list_any opens) (core.added-none 1024 past)
 
 pub opens_in-append : (past a b : List ℕ) → opens_in past (a ++ b) ≡ (opens_in past a || opens_in (past ++ a) b)
 opens_in-append past a b = ap (list_any opens) (added-append past a b) ∙ any-append opens (added past a) (added (past ++ a) b)

@@ -1,8 +1,8 @@
 -- Laws of the hold.
-use Rattle.std.proofs.Common.{◌≡◌, ◌<◌, ◌≤◌, ◌+◌, ℕ, Bool, true, false, List, [], ◌++◌, Option, None, Some, take, drop, length, refl, sym, ◌∙◌, ap, append_assoc, arith}
+use Rattle.std.proofs.Common.{◌≡◌, ◌<◌, ℕ, true, false, List, [], ◌++◌, Option, None, Some, take, drop, length, refl, sym, ◌∙◌, ap, append_assoc, arith}
 use Rattle.std.proofs.lemmas.List.{append-nil, take-append-drop}
 use Rattle.vte_types.specs.Call.{Call}
-use Rattle.vte.specs.Marks.{end_mark, is_at, NoneFrom, IsLast}
+use Rattle.vte.specs.Marks.{end_mark, NoneFrom, IsLast}
 use Rattle.vte.specs.Timeout.{Tick}
 use Rattle.vte.specs.Hold.{Settles, keeps, replays, closes, Takes, parses, begins, settles, overflows, held_of, limit}
 

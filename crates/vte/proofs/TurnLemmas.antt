@@ -1,9 +1,8 @@
 -- One turn of the processor, over plain variables.
-use Rattle.std.proofs.Common.{◌≡◌, ℕ, Bool, true, false, List, [], ◌∷◌, ◌++◌, ◌<◌, ◌≤◌, Option, None, Some, MatchOption, refl, ap, sym, ◌∙◌, subst, take, drop, length, append_assoc}
-use Rattle.vte_types.specs.Call.{Call, Calls}
+use Rattle.std.proofs.Common.{ℕ, Bool, true, false, List, [], ◌++◌, ◌<◌, ◌≤◌, Option, None, Some, MatchOption, refl, sym, subst, take, drop, length, append_assoc}
+use Rattle.vte_types.specs.Call.{Call}
 use Rattle.vte.specs.declared.processor.Processor.{Processor}
-use Rattle.vte.specs.Timeout.{Tick, Ticked}
-use Rattle.vte.specs.Stretch.{calls_from, ticks_from}
+use Rattle.vte.specs.Stretch.{calls_from}
 use Rattle.vte.specs.Hold.{limit, closing, held_of}
 use Rattle.vte.specs.Advances.{Plainly, Advances, parses, begins, settles, overflows}
 use Rattle.vte.specs.Standing.{StandsAt, Advanced, Emptied, Held, Begun, Unopened, GoesOn}

@@ -1,9 +1,8 @@
 -- Laws of the table and of the hold.
-use Rattle.std.specs.Prelude.{ℕ, ◌≡◌, ◌<◌, ◌+◌, ◌↔◌, Bool, true, false, List, [], ◌∷◌, ◌++◌, Option, Some, length}
+use Rattle.std.specs.Prelude.{ℕ, ◌≡◌, ◌<◌, ◌+◌, ◌↔◌, true, false, List, [], ◌∷◌, ◌++◌, Option, Some, length}
 use Rattle.std.specs.List.{list_any}
 use Rattle.vte_core.specs.Event.{Event, Csi}
-use Rattle.vte_core.specs.Pending.{pending}
-use Rattle.vte_core.specs.Stopping.{asks_at}
+use Rattle.vte_core.specs.Stopping.{asks_after}
 use Rattle.vte_types.specs.Call.{Call}
 use Rattle.vte.specs.Table.{calls_of, opens, is_opening}
 use Rattle.vte.specs.Performed.{calls_of_all}
@@ -43,5 +42,5 @@ OpensByStarts = (e : Event) → (opens e ≡ true) ↔ IsStart e
 
 -- the parser asks after each byte that adds an event which opens an update
 abbrev pub AsksWhereOpened : Type 0
-AsksWhereOpened = (past bytes : List ℕ) (b : ℕ) (rest : List ℕ) (asked : Bool)
-    → opens_in (past ++ bytes) (b ∷ []) ≡ true → asks_at (pending past) asked (bytes ++ b ∷ rest) (length bytes + 1) ≡ true
+AsksWhereOpened = (past bytes : List ℕ) (b : ℕ) (rest : List ℕ)
+    → opens_in (past ++ bytes) (b ∷ []) ≡ true → asks_after past (bytes ++ b ∷ rest) (length bytes + 1) ≡ true

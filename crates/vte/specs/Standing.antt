@@ -1,5 +1,5 @@
 -- Where a processor stands.
-use Rattle.std.specs.Prelude.{ℕ, Bool, true, false, List, [], ◌∷◌, ◌++◌, ◌≡◌, Option, is_some, take}
+use Rattle.std.specs.Prelude.{ℕ, Bool, false, List, [], ◌∷◌, ◌++◌, ◌≡◌, Option, is_some, take}
 use Rattle.vte_core.specs.Standing.{Stands}
 use Rattle.vte_types.specs.Call.{Call, Calls}
 use Rattle.vte.specs.declared.processor.Processor.{Processor}

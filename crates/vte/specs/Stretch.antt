@@ -1,5 +1,5 @@
 -- What a stretch of a stream's bytes asks for, after those that were parsed before it.
-use Rattle.std.specs.Prelude.{ℕ, Bool, true, false, List, [], ◌++◌, ◌≡◌, ◌<◌, ◌≤◌, Option, None, take, length}
+use Rattle.std.specs.Prelude.{ℕ, Bool, true, false, List, ◌≡◌, ◌<◌, ◌≤◌, Option, None, take, length}
 use Rattle.std.specs.List.{list_any}
 use Rattle.vte_core.specs.Event.{Event}
 use Rattle.vte_core.specs.Shapes.{events}

@@ -6,6 +6,7 @@ pub mod Text
 pub mod Header
 pub mod Shapes
 pub mod Added
+pub mod GroundText
 pub mod Pending
 pub mod Store
 pub mod Reading

@@ -1,6 +1,6 @@
 //! Laws of the events of a byte stream, each as the contract of a function that does nothing.
 
-ghost use Rattle.vte_core.specs.Laws.{KeepsBeginnings, AddsInOrder, CutsBeforeEsc, CutsAfter, AddsFitting, StopsWhereAsked, PassesWhereAsked, AsksInSequences};
+ghost use Rattle.vte_core.specs.Laws.{KeepsBeginnings, AddsInOrder, CutsBeforeEsc, CutsAfter, AddsFitting, TellsCharacters, AsksAsSaid, StopsAsSaid};
 
 use crate::Perform;
 
@@ -28,10 +28,16 @@ pub fn osc_fits()
     ensures { AddsFitting }
 {}
 
-/// `Parser::advance_until_terminated` asks after each byte of a sequence; where it stops before the last byte it was
-/// asking, and wherever else it asked the performer was not terminated.
+/// A byte of ground text prints characters or executes controls, and does nothing else. Ground text stands before the
+/// first ESC, and after the shape that each ESC begins.
+pub fn ground_text()
+    ensures { TellsCharacters }
+{}
+
+/// `Parser::advance_until_terminated` asks its performer before the first byte of a piece, after each byte that isn't
+/// ground text, and after each run of ground text, which goes up to the next ESC or to the piece's end; never inside a
+/// run. It stops at the first of these points at which the performer is terminated.
 pub fn asking_points<P: Perform>()
-    ensures stops { StopsWhereAsked P.step P.is_terminated }
-    ensures passes { PassesWhereAsked P.step P.is_terminated }
-    ensures sequences { AsksInSequences }
+    ensures asked { AsksAsSaid }
+    ensures stops { StopsAsSaid P.step P.is_terminated }
 {}

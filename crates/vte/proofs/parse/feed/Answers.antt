@@ -1,5 +1,3 @@
-use Rattle.std.proofs.Common.{◌≡◌, List, ℕ, subst}
-use Rattle.vte_core.specs.Event.{Event, Performs}
 use Rattle.vte_core.proofs.AddedLemmas.{added-fits}
 use Rattle.vte_core.proofs.Telling.{same_events}
 use Rattle.vte.specs.Stretch.{added}

@@ -1,11 +1,8 @@
-use Rattle.std.proofs.Common.{◌≡◌, ◌∙◌, ◌<◌, ap, sym, List, [], ℕ, take, true, false, refl, arith}
-use Rattle.vte_core.specs.Event.{Event, Performs}
-use Rattle.vte_core.specs.Pending.{pending}
+use Rattle.std.proofs.Common.{◌≡◌, ◌∙◌, ◌<◌, ap, sym, [], ℕ, take, true, false, refl, arith}
 use Rattle.vte_core.proofs.AddedLemmas.{added-fits}
-use Rattle.vte_core.proofs.StopLemmas.{stops-passed}
+use Rattle.vte_core.proofs.StopLemmas.{stops-said}
 use Rattle.vte_core.proofs.Telling.{same_events}
 use Rattle.vte.specs.Stretch.{added}
-use Rattle.vte.proofs.HoldLemmas.{added-from}
 use Rattle.vte.proofs.RunLemmas.{performs_all, keeps_all, told_is}
 use Rattle.vte.proofs.parse.feed_until_terminated.Goals as goal
 
@@ -38,8 +35,9 @@ returns-clause-some g c fresh ended =
 
 pub returns-clause-first : goal.returns-clause-first
 returns-clause-first g c past stands fresh m below asks =
-    let by = stops-passed _ _ 1024 (pending past) _ c.args.bytes.now _ _ _ m (c.advance_until_terminated.ensures.stops past stands) below asks in
+    let stops = stops-said _ _ 1024 past c.args.bytes.now _ _ _ (c.advance_until_terminated.ensures.stops past stands) in
+    let by = stops.passed m below asks in
     let run = performs_all g.H.Handler.step g.T.Timeout.sets g.T.Timeout.clears (λ p. p.handler.now) (λ p. p.state.now.preceding_char) (λ p. p.state.now.timeout) (λ p. p.terminated) _ (λ p e q s. s.0) _
-    (added past (take m c.args.bytes.now)) _ (added-fits 1024 past (take m c.args.bytes.now)) (same_events _ _ _ _ _ (sym (added-from past (take m c.args.bytes.now))) by.before) in
+    (added past (take m c.args.bytes.now)) _ (added-fits 1024 past (take m c.args.bytes.now)) by.before in
     let ends = run.ends in
     rw fresh at (sym ends ∙ by.goes_on)

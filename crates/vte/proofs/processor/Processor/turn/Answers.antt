@@ -1,4 +1,4 @@
-use Rattle.std.proofs.Common.{◌≡◌, ◌<◌, ◌≤◌, ◌+◌, ◌∙◌, sym, List, ℕ, [], ◌++◌, Option, None, Some, length, length-append, ap, arith, true, false}
+use Rattle.std.proofs.Common.{◌<◌, ◌≤◌, [], ◌++◌, length, length-append, ap, arith, false}
 use Rattle.vte.specs.Hold.{limit}
 use Rattle.vte.proofs.TurnLemmas.{match_option, unopened_advances, begun_goes_on, held_advances, after_full, goes_on_after_full}
 use Rattle.vte.proofs.processor.Processor.turn.Goals as goal
