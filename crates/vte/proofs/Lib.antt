@@ -8,4 +8,5 @@ pub mod SetLemmas
 pub mod TurnLemmas
 pub mod ExactLemmas
 pub mod LawLemmas
+pub mod ClosingLemmas
 pub mod OpeningLemmas

@@ -11,5 +11,7 @@ pub mod Stretch
 pub mod Hold
 pub mod Advances
 pub mod Standing
+pub mod Closings
+pub mod Given
 pub mod Expiry
 pub mod Laws

@@ -1,14 +1,46 @@
 //! Laws of the calls and of the hold, each as the contract of a function that does nothing.
-ghost use Rattle.vte.specs.Laws.{ConservesBytes, NeverTears, OpensAsCalled, OpensAsAllCalled, OpensByStarts, AsksWhereOpened};
+ghost use Rattle.vte.specs.Laws.{ConservesBytes, ConservesUnderAny, NeverTears, JoinsCalls, JoinsPrinted, JoinsOpenings, JoinsTicks, CallsAreOfParsed, CallsAreOfParsedUnderAny, FiltersClosings, IgnoresClosings, MakesTableCalls, OpensAsCalled, OpensAsAllCalled, OpensByStarts, AsksWhereOpened};
 
-/// All bytes given are the parsed ones followed by the held ones.
-pub fn bytes_are_conserved()
-    ensures { ConservesBytes }
+use crate::timeout::Timeout;
+use vte_types::handler::Handler;
+
+/// All bytes given are the parsed ones followed by the held ones, whatever the timeout.
+pub fn bytes_are_conserved<T: Timeout>()
+    ensures exact { ConservesBytes }
+    ensures any { ConservesUnderAny T.sets T.clears T.answers }
 {}
 
 /// While an update is open and its end mark hasn't come whole, nothing is parsed and no call is made.
 pub fn updates_are_never_torn()
     ensures { NeverTears }
+{}
+
+/// Bytes that follow one another make their calls one after the other, and so they open updates and set the timeout.
+pub fn stretches_are_joined()
+    ensures calls { JoinsCalls }
+    ensures printed { JoinsPrinted }
+    ensures openings { JoinsOpenings }
+    ensures ticks { JoinsTicks }
+{}
+
+/// The calls of a piece are the table's calls of the bytes that it leads to parse, with one closing call
+/// (`unset_private_mode` of `SyncUpdate`) for each emptying of the whole hold, which clears the timeout once.
+pub fn calls_are_of_parsed_bytes<T: Timeout>()
+    ensures exact { CallsAreOfParsed }
+    ensures any { CallsAreOfParsedUnderAny T.sets T.clears T.answers }
+{}
+
+/// Closing calls that stand among others may be filtered out; a handler on which they do nothing goes where it would go
+/// without them.
+pub fn closings_are_ignored<H: Handler>()
+    ensures filtered { FiltersClosings }
+    ensures ignored { IgnoresClosings H.step }
+{}
+
+/// Whatever pieces and stops a new processor is given, all its calls are the table's calls of the events of all parsed
+/// bytes, with one closing call for each emptying of the whole hold.
+pub fn calls_are_of_the_table()
+    ensures { MakesTableCalls }
 {}
 
 /// An update is opened by exactly those events whose calls hold `set_private_mode` of `SyncUpdate`: each `CSI ? .. h` of

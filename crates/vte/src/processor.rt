@@ -99,13 +99,15 @@ impl<T: Timeout + Drop, A: Allocator> Processor<T, A> {
             (λ n. GoesOn T.sets T.clears T.answers H.step self.old parsed held piece.now (drop n piece.now) handler.old self.new handler.new) }
         ensures progress { IfSome result (λ n. (0 < n) × (n ≤ length piece.now)) }
     {
-        if !self.state.timeout.pending_timeout() {
+        if self.state.timeout.pending_timeout() {
+            if piece.len() <= SYNC_BUFFER_SIZE - self.held.len() {
+                self.hold(handler, piece);
+                return None;
+            }
+        } else if self.held.is_empty() {
             return self.begin(handler, piece);
         }
-        if piece.len() <= SYNC_BUFFER_SIZE - self.held.len() {
-            self.hold(handler, piece);
-            return None;
-        }
+        // There is no room, or the update's time is over.
         self.empty(handler);
         self.begin(handler, piece)
     }
