@@ -71,9 +71,9 @@ then_parsed p q r m n x y h k = record {
   bytes = h.bytes ++ k.bytes;
   more = k.more ∙ (ap (λ s. s ++ k.bytes) h.more ∙ append_assoc p h.bytes k.bytes);
   made =
-    let second : WithClosings (calls_from (p ++ h.bytes) k.bytes) n y = subst (λ (s : List ℕ). WithClosings (calls_from s k.bytes) n y) h.more k.made in
-    subst (λ (cs : List Call). WithClosings cs (m + n) (x ++ y)) (sym (calls_from-append p h.bytes k.bytes))
-    (with_more (calls_from p h.bytes) m x (calls_from (p ++ h.bytes) k.bytes) n y h.made second);
+      let second : WithClosings (calls_from (p ++ h.bytes) k.bytes) n y = subst (λ (s : List ℕ). WithClosings (calls_from s k.bytes) n y) h.more k.made in
+      subst (λ (cs : List Call). WithClosings cs (m + n) (x ++ y)) (sym (calls_from-append p h.bytes k.bytes))
+      (with_more (calls_from p h.bytes) m x (calls_from (p ++ h.bytes) k.bytes) n y h.made second);
 }
 
 -- how often the timeout was cleared
@@ -141,17 +141,21 @@ module _ {T : Type 0} (sets : T → ℕ → T → Type 0) (clears : T → T → 
       let b = take n piece in
       let (ts, z, more) = advanced_parsed false u (parsed ++ b) [] (drop n piece) t' parsed' held' cs f in
       let e : zero + clearings ts ≡ clearings (ticks_from parsed b ++ ts) =
-      sym (clearings-append (ticks_from parsed b) ts ∙ (let g = from_clears_none parsed b in omega (arith, g))) in
-      (ticks_from parsed b ++ ts, Ticked-append sets clears t u t' (ticks_from parsed b) ts y z,
-      counted _ _ _ _ _ e (then_parsed parsed (parsed ++ b) parsed' zero (clearings ts) (calls_from parsed b) cs (bytes_parsed parsed b) more))
+      sym (clearings-append (ticks_from parsed b) ts ∙ (let g = from_clears_none parsed b in omega (arith, g))) in (
+        ticks_from parsed b ++ ts,
+        Ticked-append sets clears t u t' (ticks_from parsed b) ts y z,
+        counted _ _ _ _ _ e (then_parsed parsed (parsed ++ b) parsed' zero (clearings ts) (calls_from parsed b) cs (bytes_parsed parsed b) more),
+      )
   advanced_parsed closed t parsed held piece t' parsed' held' calls (any.settles _ _ _ _ _ _ hold' _ ticks open_ fits s y) =
       (ticks, y, settled parsed held piece parsed' hold' calls ticks s)
   advanced_parsed closed t parsed held piece t' parsed' held' calls (any.empties _ _ _ _ is_open u _ _ _ cs asked must y f) =
       let (ts, z, more) = advanced_parsed true u (parsed ++ held) [] piece t' parsed' held' cs f in
       let e : 1 + clearings ts ≡ clearings ((ticks_from parsed held ++ Clears ∷ []) ++ ts) =
-      sym (clearings-append (ticks_from parsed held ++ Clears ∷ []) ts ∙ ap (λ k. k + clearings ts) (closed_clears parsed held)) in
-      ((ticks_from parsed held ++ Clears ∷ []) ++ ts, Ticked-append sets clears t u t' (ticks_from parsed held ++ Clears ∷ []) ts y z,
-      counted _ _ _ _ _ e (then_parsed parsed (parsed ++ held) parsed' 1 (clearings ts) (calls_from parsed held ++ hold.closing) cs (closed_parsed parsed held) more))
+      sym (clearings-append (ticks_from parsed held ++ Clears ∷ []) ts ∙ ap (λ k. k + clearings ts) (closed_clears parsed held)) in (
+        (ticks_from parsed held ++ Clears ∷ []) ++ ts,
+        Ticked-append sets clears t u t' (ticks_from parsed held ++ Clears ∷ []) ts y z,
+        counted _ _ _ _ _ e (then_parsed parsed (parsed ++ held) parsed' 1 (clearings ts) (calls_from parsed held ++ hold.closing) cs (closed_parsed parsed held) more),
+      )
 
 -- all that was given
 
@@ -167,9 +171,10 @@ led p h gs p' h' calls ticks (takes _ _ piece rest q k cs ts _ _ ds us t l) =
 led p h gs p' h' calls ticks (stops _ _ rest _ _ cs ts l) =
     let more = led (p ++ held_of h) None rest p' h' cs ts l in
     let e : 1 + clearings ts ≡ clearings ((ticks_from p (held_of h) ++ Clears ∷ []) ++ ts) =
-    sym (clearings-append (ticks_from p (held_of h) ++ Clears ∷ []) ts ∙ ap (λ k. k + clearings ts) (closed_clears p (held_of h))) in
-    (sym (append_assoc p (held_of h) (bytes_of rest)) ∙ more.0,
-    counted _ _ _ _ _ e (then_parsed p (p ++ held_of h) p' 1 (clearings ts) (calls_from p (held_of h) ++ hold.closing) cs (closed_parsed p (held_of h)) more.1))
+    sym (clearings-append (ticks_from p (held_of h) ++ Clears ∷ []) ts ∙ ap (λ k. k + clearings ts) (closed_clears p (held_of h))) in (
+      sym (append_assoc p (held_of h) (bytes_of rest)) ∙ more.0,
+      counted _ _ _ _ _ e (then_parsed p (p ++ held_of h) p' 1 (clearings ts) (calls_from p (held_of h) ++ hold.closing) cs (closed_parsed p (held_of h)) more.1),
+    )
 
 pub all_led : (gs : List Given) (p : List ℕ) (h : Option (List ℕ)) (calls : List Call) (ticks : List Tick)
     → Leads [] None gs p h calls ticks → (bytes_of gs ≡ p ++ held_of h) × WithClosings (calls_of_all None (events 1024 p)) (clearings ticks) calls

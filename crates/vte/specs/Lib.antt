@@ -15,3 +15,14 @@ pub mod Closings
 pub mod Given
 pub mod Expiry
 pub mod Laws
+pub use Rattle.vte_core.specs.Event
+pub use Rattle.vte_core.specs.Shapes
+pub use Rattle.vte_core.specs.Added
+pub use Rattle.vte_core.specs.GroundText
+pub use Rattle.vte_core.specs.Stopping
+pub use Rattle.vte_types.specs.Call
+pub use Rattle.vte_types.specs.Charset
+pub use Rattle.vte_types.specs.Color
+pub use Rattle.vte_types.specs.CursorIcon
+pub use Rattle.vte_types.specs.Mode
+pub use Rattle.vte_types.specs.Rgb

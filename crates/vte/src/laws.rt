@@ -1,8 +1,12 @@
-//! Laws of the calls and of the hold, each as the contract of a function that does nothing.
+//! Laws of the calls, of the hold and of the values, each as the contract of a function that does nothing.
 ghost use Rattle.vte.specs.Laws.{ConservesBytes, ConservesUnderAny, NeverTears, JoinsCalls, JoinsPrinted, JoinsOpenings, JoinsTicks, CallsAreOfParsed, CallsAreOfParsedUnderAny, FiltersClosings, IgnoresClosings, MakesTableCalls, OpensAsCalled, OpensAsAllCalled, OpensByStarts, AsksWhereOpened};
 
+pub use crate::std_sync_handler::std_sync_handler_is_exact;
 use crate::timeout::Timeout;
+pub use vte_types::color::bright_and_dim_undo_each_other;
 use vte_types::handler::Handler;
+pub use vte_types::mode::raw_is_the_number;
+pub use vte_types::rgb::display_is_read;
 
 /// All bytes given are the parsed ones followed by the held ones, whatever the timeout.
 pub fn bytes_are_conserved<T: Timeout>()

@@ -69,7 +69,8 @@ impl<T: Timeout + Drop, A: Allocator> Processor<T, A> {
         self.held.len()
     }
 
-    /// Takes the next piece of the stream.
+    /// Takes the next piece of the stream. Held bytes are parsed before later ones: where the timeout isn't pending any
+    /// more while bytes are held, the hold is emptied first, as by `stop_sync`.
     pub fn advance<H: Handler>(&mut self, handler: &mut H, bytes: &[u8])
         ensures advanced { (parsed held : List ℕ) → StandsAt self.old parsed held
             → Advanced T.sets T.clears T.answers H.step false self.old parsed held bytes.now handler.old self.new handler.new }
