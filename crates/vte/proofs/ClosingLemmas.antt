@@ -15,11 +15,11 @@ use Rattle.vte.specs.Hold.{Renews, again, quiet, Settles, keeps, replays, closes
 use Rattle.vte.specs.Advances as any
 use Rattle.vte.specs.Advances.{Advances}
 use Rattle.vte.specs.Closings.{is_closing, without_closings, WithClosings, none, call, closing, clearings, Parses}
-use Rattle.vte.specs.Given.{Given, Leads, ends, takes, stops, bytes_of}
+use Rattle.vte.specs.Moves.{Move, given, Runs, ends, gives, stops}
 use Rattle.vte.specs.Laws.{IgnoresClosings}
 use Rattle.vte.proofs.HoldLemmas.{calls_from-append}
 use Rattle.vte.proofs.RunLemmas.{Ticked-append}
-use Rattle.vte.proofs.LawLemmas.{conserve}
+use Rattle.vte.proofs.LawLemmas.{conserve_any}
 
 -- closings among calls
 
@@ -157,29 +157,29 @@ module _ {T : Type 0} (sets : T → ℕ → T → Type 0) (clears : T → T → 
         counted _ _ _ _ _ e (then_parsed parsed (parsed ++ held) parsed' 1 (clearings ts) (calls_from parsed held ++ hold.closing) cs (closed_parsed parsed held) more),
       )
 
--- all that was given
+  -- all that was given
+  ran : (moves : List Move) (t : T) (p h : List ℕ) (t' : T) (p' h' : List ℕ) (calls : List Call) → Runs sets clears answers moves t p h t' p' h' calls
+      → (p ++ (h ++ given moves) ≡ p' ++ h') × (ticks : List Tick) × Ticked sets clears t ticks t' × Parses p p' (clearings ticks) calls
+  ran moves t p h t' p' h' calls (ends _ _ _) = (ap (λ s. p ++ s) (append-nil h), [], refl, none_parsed p)
+  ran moves t p h t' p' h' calls (gives piece rest _ _ _ u q k cs _ _ _ ds a r) =
+      let (all, us, z, more) = ran rest u q k t' p' h' ds r in
+      let (ts, y, one) = advanced_parsed false t p h piece u q k cs a in
+      let same : p ++ (h ++ (piece ++ given rest)) ≡ q ++ (k ++ given rest) =
+      ap (λ s. p ++ s) (sym (append_assoc h piece (given rest))) ∙ (sym (append_assoc p (h ++ piece) (given rest))
+      ∙ (ap (λ s. s ++ given rest) (conserve_any sets clears answers false t p h piece u q k cs a) ∙ append_assoc q k (given rest))) in
+      (same ∙ all, ts ++ us, Ticked-append sets clears t u t' ts us y z,
+      counted _ _ _ _ _ (sym (clearings-append ts us)) (then_parsed p q p' (clearings ts) (clearings us) cs ds one more))
+  ran moves t p h t' p' h' calls (stops rest _ _ _ u _ _ _ ds y r) =
+      let (all, us, z, more) = ran rest u (p ++ h) [] t' p' h' ds r in
+      let closed = ticks_from p h ++ Clears ∷ [] in
+      let e : 1 + clearings us ≡ clearings (closed ++ us) = sym (clearings-append closed us ∙ ap (λ k. k + clearings us) (closed_clears p h)) in
+      (sym (append_assoc p h (given rest)) ∙ all, closed ++ us, Ticked-append sets clears t u t' closed us y z,
+      counted _ _ _ _ _ e (then_parsed p (p ++ h) p' 1 (clearings us) (calls_from p h ++ hold.closing) ds (closed_parsed p h) more))
 
-led : (p : List ℕ) (h : Option (List ℕ)) (gs : List Given) (p' : List ℕ) (h' : Option (List ℕ)) (calls : List Call) (ticks : List Tick)
-    → Leads p h gs p' h' calls ticks → (p ++ (held_of h ++ bytes_of gs) ≡ p' ++ held_of h') × Parses p p' (clearings ticks) calls
-led p h gs p' h' calls ticks (ends _ _) = (ap (λ s. p ++ s) (append-nil (held_of h)), none_parsed p)
-led p h gs p' h' calls ticks (takes _ _ piece rest q k cs ts _ _ ds us t l) =
-    let more = led q k rest p' h' ds us l in
-    let all : p ++ (held_of h ++ (piece ++ bytes_of rest)) ≡ q ++ (held_of k ++ bytes_of rest) =
-    ap (λ s. p ++ s) (sym (append_assoc (held_of h) piece (bytes_of rest))) ∙ (sym (append_assoc p (held_of h ++ piece) (bytes_of rest))
-    ∙ (ap (λ s. s ++ bytes_of rest) (conserve p h piece q k cs ts t) ∙ append_assoc q (held_of k) (bytes_of rest))) in
-    (all ∙ more.0, counted _ _ _ _ _ (sym (clearings-append ts us)) (then_parsed p q p' (clearings ts) (clearings us) cs ds (taken_parsed p h piece q k cs ts t) more.1))
-led p h gs p' h' calls ticks (stops _ _ rest _ _ cs ts l) =
-    let more = led (p ++ held_of h) None rest p' h' cs ts l in
-    let e : 1 + clearings ts ≡ clearings ((ticks_from p (held_of h) ++ Clears ∷ []) ++ ts) =
-    sym (clearings-append (ticks_from p (held_of h) ++ Clears ∷ []) ts ∙ ap (λ k. k + clearings ts) (closed_clears p (held_of h))) in (
-      sym (append_assoc p (held_of h) (bytes_of rest)) ∙ more.0,
-      counted _ _ _ _ _ e (then_parsed p (p ++ held_of h) p' 1 (clearings ts) (calls_from p (held_of h) ++ hold.closing) cs (closed_parsed p (held_of h)) more.1),
-    )
-
-pub all_led : (gs : List Given) (p : List ℕ) (h : Option (List ℕ)) (calls : List Call) (ticks : List Tick)
-    → Leads [] None gs p h calls ticks → (bytes_of gs ≡ p ++ held_of h) × WithClosings (calls_of_all None (events 1024 p)) (clearings ticks) calls
-all_led gs p h calls ticks l =
-    let r = led [] None gs p h calls ticks l in
-    let first : calls_from [] r.1.bytes ≡ calls_of_all None (events 1024 p) =
-    ap (calls_of_all None) (added-first 1024 r.1.bytes ∙ ap (events 1024) (sym r.1.more)) in
-    (r.0, subst (λ (cs : List Call). WithClosings cs (clearings ticks) calls) first r.1.made)
+  pub all_ran : (moves : List Move) (t t' : T) (parsed held : List ℕ) (calls : List Call) → Runs sets clears answers moves t [] [] t' parsed held calls
+      → (given moves ≡ parsed ++ held) × (ticks : List Tick) × Ticked sets clears t ticks t' × WithClosings (calls_of_all None (events 1024 parsed)) (clearings ticks) calls
+  all_ran moves t t' parsed held calls r =
+      let (all, ticks, y, made) = ran moves t [] [] t' parsed held calls r in
+      let first : calls_from [] made.bytes ≡ calls_of_all None (events 1024 parsed) =
+      ap (calls_of_all None) (added-first 1024 made.bytes ∙ ap (events 1024) (sym made.more)) in
+      (all, ticks, y, subst (λ (cs : List Call). WithClosings cs (clearings ticks) calls) first made.made)

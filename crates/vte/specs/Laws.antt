@@ -15,7 +15,7 @@ use Rattle.vte.specs.Timeout.{Tick, Ticked}
 use Rattle.vte.specs.Hold.{Takes, held_of, limit}
 use Rattle.vte.specs.Advances.{Advances}
 use Rattle.vte.specs.Closings.{without_closings, WithClosings, clearings, Parses}
-use Rattle.vte.specs.Given.{Given, Leads, bytes_of}
+use Rattle.vte.specs.Moves.{Move, Runs, given}
 
 -- all bytes given are the parsed ones followed by the held ones
 abbrev pub ConservesBytes : Type 0
@@ -60,11 +60,12 @@ abbrev pub IgnoresClosings : {H : Type 0} → (H → Call → H → Type 0) → 
 IgnoresClosings {H} step = ((s t : H) → step s (unset_private_mode (Named SyncUpdate)) t → t ≡ s)
     → (cs : List Call) (n : ℕ) (calls : List Call) (s t : H) → WithClosings cs n calls → Calls step s calls t → Calls step s cs t
 
--- from a new processor on: all bytes given are the parsed ones followed by the held ones, and all calls are the table's
--- calls of the events of the parsed bytes, with one closing for each emptying of the whole hold
-abbrev pub MakesTableCalls : Type 0
-MakesTableCalls = (gs : List Given) (parsed : List ℕ) (hold : Option (List ℕ)) (calls : List Call) (ticks : List Tick) → Leads [] None gs parsed hold calls ticks
-    → (bytes_of gs ≡ parsed ++ held_of hold) × WithClosings (calls_of_all None (events 1024 parsed)) (clearings ticks) calls
+-- from a new processor on, under any timeout: all bytes given are the parsed ones followed by the held ones, and all
+-- calls are the table's calls of the events of the parsed bytes, with a closing for each clearing of the timeout
+abbrev pub MakesTableCalls : {T : Type 0} → (T → ℕ → T → Type 0) → (T → T → Type 0) → (T → Bool → Type 0) → Type 0
+MakesTableCalls {T} sets clears answers = (moves : List Move) (t t' : T) (parsed held : List ℕ) (calls : List Call)
+    → Runs sets clears answers moves t [] [] t' parsed held calls → (given moves ≡ parsed ++ held)
+    × (ticks : List Tick) × Ticked sets clears t ticks t' × WithClosings (calls_of_all None (events 1024 parsed)) (clearings ticks) calls
 
 -- an open update isn't torn: while no end mark has come whole, nothing is parsed and no call is made
 abbrev pub NeverTears : Type 0

@@ -12,7 +12,7 @@ pub mod Hold
 pub mod Advances
 pub mod Standing
 pub mod Closings
-pub mod Given
+pub mod Moves
 pub mod Expiry
 pub mod Laws
 pub use Rattle.vte_core.specs.Event

@@ -41,10 +41,11 @@ pub fn closings_are_ignored<H: Handler>()
     ensures ignored { IgnoresClosings H.step }
 {}
 
-/// Whatever pieces and stops a new processor is given, all its calls are the table's calls of the events of all parsed
-/// bytes, with one closing call for each emptying of the whole hold.
-pub fn calls_are_of_the_table()
-    ensures { MakesTableCalls }
+/// Whatever pieces and stops a new processor is given, and whatever its timeout, all bytes given are the parsed ones
+/// followed by the held ones, and all its calls are the table's calls of the events of the parsed bytes, with one closing
+/// call for each emptying of the whole hold, which clears the timeout once.
+pub fn calls_are_of_the_table<T: Timeout>()
+    ensures { MakesTableCalls T.sets T.clears T.answers }
 {}
 
 /// An update is opened by exactly those events whose calls hold `set_private_mode` of `SyncUpdate`: each `CSI ? .. h` of
