@@ -10,3 +10,6 @@ pub mod ExactLemmas
 pub mod LawLemmas
 pub mod ClosingLemmas
 pub mod OpeningLemmas
+pub mod FrameMarks
+pub mod FrameLemmas
+pub mod FrameMoves

@@ -15,9 +15,11 @@ pub mod Closings
 pub mod Moves
 pub mod Expiry
 pub mod Laws
+pub mod Frames
 pub use Rattle.vte_core.specs.Event
 pub use Rattle.vte_core.specs.Shapes
 pub use Rattle.vte_core.specs.Added
+pub use Rattle.vte_core.specs.Ground
 pub use Rattle.vte_core.specs.GroundText
 pub use Rattle.vte_core.specs.Stopping
 pub use Rattle.vte_types.specs.Call

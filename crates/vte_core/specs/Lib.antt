@@ -18,3 +18,4 @@ pub mod Laws
 pub mod Told
 pub mod Runs
 pub mod Steps
+pub mod Ground

@@ -1,6 +1,7 @@
 //! Laws of the events of a byte stream, each as the contract of a function that does nothing.
 
 ghost use Rattle.vte_core.specs.Laws.{KeepsBeginnings, AddsInOrder, CutsBeforeEsc, CutsAfter, AddsFitting, TellsCharacters, AsksAsSaid, StopsAsSaid};
+ghost use Rattle.vte_core.specs.Ground.{AddsAsAlone, NothingIsAtGround, GroundJoins, EscLeavesGround, LeadsToGround, EscapesEndAtGround, ControlSequencesEndAtGround, TextsEndAtGround, NothingPendingIsGround};
 
 use crate::Perform;
 
@@ -40,4 +41,25 @@ pub fn ground_text()
 pub fn asking_points<P: Perform>()
     ensures asked { AsksAsSaid }
     ensures stops { StopsAsSaid P.step P.is_terminated }
+{}
+
+/// A parser is at ground where what follows is read as if it stood alone: before the first byte, after bytes that end at
+/// ground behind others that do, after each CAN and each SUB, and where nothing is pending.
+pub fn at_ground()
+    ensures alone { AddsAsAlone }
+    ensures nothing { NothingIsAtGround }
+    ensures joined { GroundJoins }
+    ensures can { LeadsToGround 0x18 }
+    ensures sub { LeadsToGround 0x1A }
+    ensures pending { NothingPendingIsGround }
+{}
+
+/// Sequences and texts that end at ground: an escape with its intermediates and its final byte (not one that begins a
+/// longer sequence), a control sequence with its header and its final byte, and well-formed text without ESC. What begins
+/// with ESC and ends at ground does so after any bytes.
+pub fn ends_at_ground()
+    ensures escapes { EscapesEndAtGround }
+    ensures sequences { ControlSequencesEndAtGround }
+    ensures texts { TextsEndAtGround }
+    ensures anew { EscLeavesGround }
 {}
