@@ -1,105 +1,77 @@
 -- Only events of sequences open an update, and after each of them the parser asks.
-use Rattle.std.proofs.Common.{◌≡◌, ℕ, zero, suc, ◌+◌, ◌<◌, ◌≤◌, Bool, true, false, List, [], ◌∷◌, ◌++◌, ◌||◌, ◌==◌, if◌then◌else◌, take, length, get_or, length-append, arith, refl, ap, sym, ◌∙◌, subst, inl, inr}
-use Rattle.std.specs.List.{list_any}
+use Rattle.std.proofs.Common.{◌≡◌, ℕ, zero, suc, ◌+◌, ◌<◌, ◌≤◌, Bool, true, false, List, [], ◌∷◌, ◌++◌, ◌||◌, ◌==◌, take, length, get_or, length-append, append_assoc, arith, refl, ap, sym, ◌∙◌, inl, inr}
+use Rattle.std.specs.List.{All, list_any}
 use Rattle.std.proofs.lemmas.Bool.{cases_Bool}
+use Rattle.std.proofs.lemmas.List.Elements.{All-head, All-tail}
 use Rattle.std.proofs.Math.Seq.{take-suc, take-append_seam}
-use Rattle.vte_core.specs.Event.{Event, Print, Execute}
-use Rattle.vte_core.specs.Bytes.{is_esc}
-use Rattle.vte_core.specs.Text.{char_event, malformed_event, char_len, first_bits, joined}
-use Rattle.vte_core.specs.Pending.{Pending, InText, InEscape, InCsi, InOsc, InHook, InDevice, InSwallowed, pending, after_bytes, events_of_byte, begun, text_told, closed, goes_on}
-use Rattle.vte_core.specs.Stopping.{is_text, asks_at}
-use Rattle.vte_core.proofs.Machine.{events_from-append, after_bytes-append}
-use Rattle.vte_core.proofs.StopLemmas.{asks-after}
+use Rattle.vte_core.specs.Event.{Event, Print, Execute, Hook, Put, Unhook, Osc, Csi, Esc}
+use Rattle.vte_core.specs.GroundText.{ends_in_text}
+use Rattle.vte_core.specs.Stopping.{asks_after}
+use Rattle.vte_core.specs.Laws.{IsCharacter}
+use Rattle.vte_core.proofs.GroundTextLemmas.{text-tells}
 use Rattle.vte.specs.Table.{opens}
 use Rattle.vte.specs.Stretch.{added, opens_in}
+use Rattle.vte.proofs.HoldLemmas.{opens_in-none, opens_in-append}
 
-none_if : (b : Bool) (xs ys : List Event) → list_any opens xs ≡ false → list_any opens ys ≡ false → list_any opens (if b then xs else ys) ≡ false
-none_if true xs ys h k = h
-none_if false xs ys h k = k
+one_none : (e : Event) → IsCharacter e → opens e ≡ false
+one_none (Print c) h = refl
+one_none (Execute b) h = refl
+one_none (Hook gs is ignore f) h = absurd h
+one_none (Put b) h = absurd h
+one_none Unhook h = absurd h
+one_none (Osc ps bell) h = absurd h
+one_none (Csi gs is ignore f) h = absurd h
+one_none (Esc is ignore b) h = absurd h
 
-one_none : (b : Bool) (c d : ℕ) → opens (if b then Execute c else Print d) ≡ false
-one_none true c d = refl
-one_none false c d = refl
+all_none : (es : List Event) → All IsCharacter es → list_any opens es ≡ false
+all_none [] h = refl
+all_none (e ∷ es) h = rw (one_none e (All-head IsCharacter e es h)) (all_none es (All-tail IsCharacter e es h))
 
-char_none : (c : ℕ) → list_any opens (char_event c ∷ []) ≡ false
-char_none c = rw (one_none _ c c) refl
+-- ground text opens none
+pub text_opens_none : (past : List ℕ) (b : ℕ) → ends_in_text (past ++ b ∷ []) ≡ true → opens_in past (b ∷ []) ≡ false
+text_opens_none past b h = all_none (added past (b ∷ [])) (text-tells 1024 past b h)
 
-malformed_none : (n c : ℕ) → list_any opens (malformed_event n c ∷ []) ≡ false
-malformed_none n c = rw (one_none _ c 0xFFFD) refl
+or_true : (v : Bool) → (v || true) ≡ true
+or_true true = refl
+or_true false = refl
 
-begun_none : (b : ℕ) → list_any opens (begun b) ≡ false
-begun_none b = none_if (char_len b == 1) _ _ (char_none (first_bits b)) (none_if (char_len b == 0) _ _ (malformed_none 1 b) refl)
+-- after a byte that isn't ground text the parser asks
+asks_past_text : (past piece : List ℕ) (m : ℕ) → ends_in_text (past ++ take m piece) ≡ false → asks_after past piece m ≡ true
+asks_past_text past piece m h = rw h (or_true (m == 0))
 
-told_none : (u : List ℕ) (b : ℕ) → list_any opens (text_told u b) ≡ false
-told_none [] b = begun_none b
-told_none (a ∷ t) b =
-    let char : List Event = char_event (joined (first_bits a) (t ++ b ∷ [])) ∷ [] in
-    none_if (goes_on a t b) (if length t + 2 == char_len a then char else []) (Print 0xFFFD ∷ begun b)
-    (none_if (length t + 2 == char_len a) char [] (char_none (joined (first_bits a) (t ++ b ∷ []))) refl) (begun_none b)
-
-closed_none : (u : List ℕ) → list_any opens (closed 1024 (InText u)) ≡ false
-closed_none [] = refl
-closed_none (a ∷ t) = refl
-
-text_none : (q : Pending) (b : ℕ) → is_text q ≡ true → list_any opens (events_of_byte 1024 q b) ≡ false
-text_none (InText u) b h = none_if (is_esc b) _ _ (closed_none u) (told_none u b)
-text_none (InEscape is) b h = absurd (let no : false ≡ true = h in cc)
-text_none (InCsi x) b h = absurd (let no : false ≡ true = h in cc)
-text_none (InOsc s) b h = absurd (let no : false ≡ true = h in cc)
-text_none (InHook x) b h = absurd (let no : false ≡ true = h in cc)
-text_none InDevice b h = absurd (let no : false ≡ true = h in cc)
-text_none InSwallowed b h = absurd (let no : false ≡ true = h in cc)
-
-or-assoc : (a b c : Bool) → ((a || b) || c) ≡ (a || (b || c))
-or-assoc true b c = refl
-or-assoc false b c = refl
-
-any-append : {X : Type 0} (p : X → Bool) (a b : List X) → list_any p (a ++ b) ≡ (list_any p a || list_any p b)
-any-append p [] b = refl
-any-append p (x ∷ a) b = ap (λ v. p x || v) (any-append p a b) ∙ sym (or-assoc (p x) (list_any p a) (list_any p b))
-
-or-false : (b : Bool) → (b || false) ≡ b
-or-false true = refl
-or-false false = refl
+front : (past bs : List ℕ) (m : ℕ) → m < length bs → past ++ take (suc m) bs ≡ (past ++ take m bs) ++ get_or bs m 0 ∷ []
+front past bs m lt = ap (λ xs. past ++ xs) (take-suc bs m 0 lt) ∙ sym (append_assoc past (take m bs) (get_or bs m 0 ∷ []))
 
 -- one byte more, of ground text
-pub opens_in-text : (past bs : List ℕ) (m : ℕ) → m < length bs → is_text (after_bytes (pending past) (take m bs)) ≡ true → opens_in past (take m bs) ≡ false → opens_in past (take (suc m) bs) ≡ false
+opens_in-text : (past bs : List ℕ) (m : ℕ) → m < length bs → ends_in_text (past ++ take (suc m) bs) ≡ true → opens_in past (take m bs) ≡ false → opens_in past (take (suc m) bs) ≡ false
 opens_in-text past bs m lt text before =
     let b = get_or bs m 0 in
-    let q = after_bytes (pending past) (take m bs) in
-    let split : added past (take (suc m) bs) ≡ added past (take m bs) ++ (events_of_byte 1024 q b ++ []) =
-    ap (λ xs. added past xs) (take-suc bs m 0 lt) ∙ events_from-append 1024 (pending past) (take m bs) (b ∷ []) in
-    ap (list_any opens) split ∙ (any-append opens (added past (take m bs)) (events_of_byte 1024 q b ++ [])
-    ∙ (ap (λ v. v || list_any opens (events_of_byte 1024 q b ++ [])) before
-    ∙ (any-append opens (events_of_byte 1024 q b) [] ∙ (or-false (list_any opens (events_of_byte 1024 q b)) ∙ text_none q b text))))
+    ap (opens_in past) (take-suc bs m 0 lt) ∙ (opens_in-append past (take m bs) (b ∷ [])
+    ∙ (ap (λ v. v || opens_in (past ++ take m bs) (b ∷ [])) before ∙ text_opens_none (past ++ take m bs) b (ap ends_in_text (sym (front past bs m lt)) ∙ text)))
 
 -- where no front at which the parser asks opens an update, none does
 pub none_before : (past bs : List ℕ) (n : ℕ) → n ≤ length bs
-    → ((m : ℕ) → m < n → asks_at (pending past) true bs m ≡ true → opens_in past (take m bs) ≡ false)
+    → ((m : ℕ) → m < n → asks_after past bs m ≡ true → opens_in past (take m bs) ≡ false)
     → (m : ℕ) → m < n → opens_in past (take m bs) ≡ false
-none_before past bs n within asked zero lt = refl
+none_before past bs n within asked zero lt = opens_in-none past
 none_before past bs n within asked (suc m) lt =
     let before : opens_in past (take m bs) ≡ false = none_before past bs n within asked m (omega arith) in
-    elim (cases_Bool (is_text (after_bytes (pending past) (take m bs)))) [
+    elim (cases_Bool (ends_in_text (past ++ take (suc m) bs))) [
       | inl text ↦ opens_in-text past bs m (omega arith) text before
-      | inr other ↦
-          let e : m + 1 ≡ suc m = omega arith in
-          asked (suc m) lt (subst (λ (j : ℕ). asks_at (pending past) true bs j ≡ true) e (asks-after (pending past) true bs m (omega arith) other))
+      | inr other ↦ asked (suc m) lt (asks_past_text past bs (suc m) other)
     ]
 
 -- after a byte that opens an update the parser asks
-pub asks_where_opened : (past bytes : List ℕ) (b : ℕ) (rest : List ℕ) (asked : Bool)
-    → opens_in (past ++ bytes) (b ∷ []) ≡ true → asks_at (pending past) asked (bytes ++ b ∷ rest) (length bytes + 1) ≡ true
-asks_where_opened past bytes b rest asked h =
-    let q = after_bytes (pending past) bytes in
-    let at : pending (past ++ bytes) ≡ q = after_bytes-append (InText []) past bytes in
-    let more : length (bytes ++ b ∷ rest) ≡ length bytes + length (b ∷ rest) = length-append bytes (b ∷ rest) in
-    elim (cases_Bool (is_text q)) [
-      | inl text ↦
-          let none : opens_in (past ++ bytes) (b ∷ []) ≡ false =
-          ap (λ p. list_any opens (events_of_byte 1024 p b ++ [])) at ∙ (any-append opens (events_of_byte 1024 q b) [] ∙ (or-false (list_any opens (events_of_byte 1024 q b)) ∙ text_none q b text)) in
-          absurd (let no : true ≡ false = sym h ∙ none in cc)
-      | inr other ↦
-          asks-after (pending past) asked (bytes ++ b ∷ rest) (length bytes) (omega (arith, more))
-          (rw (take-append_seam bytes (b ∷ rest)) other)
+pub asks_where_opened : (past bytes : List ℕ) (b : ℕ) (rest : List ℕ)
+    → opens_in (past ++ bytes) (b ∷ []) ≡ true → asks_after past (bytes ++ b ∷ rest) (length bytes + 1) ≡ true
+asks_where_opened past bytes b rest h =
+    let piece = bytes ++ b ∷ rest in
+    let more : length piece ≡ length bytes + length (b ∷ rest) = length-append bytes (b ∷ rest) in
+    let m : length bytes + 1 ≡ length (bytes ++ b ∷ []) = sym (length-append bytes (b ∷ [])) in
+    let so_far : past ++ take (length bytes + 1) piece ≡ (past ++ bytes) ++ b ∷ [] =
+    ap (λ xs. past ++ xs) (ap (λ k. take k piece) m ∙ (ap (take (length (bytes ++ b ∷ []))) (sym (append_assoc bytes (b ∷ []) rest)) ∙ take-append_seam (bytes ++ b ∷ []) rest))
+    ∙ sym (append_assoc past bytes (b ∷ [])) in
+    elim (cases_Bool (ends_in_text (past ++ take (length bytes + 1) piece))) [
+      | inl text ↦ absurd (let no : true ≡ false = sym h ∙ text_opens_none (past ++ bytes) b (ap ends_in_text (sym so_far) ∙ text) in cc)
+      | inr other ↦ asks_past_text past piece (length bytes + 1) other
     ]

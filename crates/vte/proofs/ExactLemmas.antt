@@ -1,14 +1,14 @@
 -- What a processor does under a timeout that is pending exactly from setting to clearing.
-use Rattle.std.proofs.Common.{◌≡◌, ℕ, Bool, true, false, List, [], ◌∷◌, ◌++◌, ◌<◌, ◌≤◌, Option, None, Some, is_some, refl, ap, sym, ◌∙◌, subst, take, drop, length, append_assoc}
-use Rattle.vte_types.specs.Call.{Call, Calls}
+use Rattle.std.proofs.Common.{◌≡◌, ℕ, Bool, true, false, List, [], ◌∷◌, ◌++◌, Option, None, Some, is_some, refl, ap, sym, ◌∙◌, subst, take, drop, length, append_assoc, arith}
+use Rattle.vte_types.specs.Call.{Call}
 use Rattle.vte.specs.declared.processor.Processor.{Processor}
-use Rattle.vte.specs.Timeout.{Tick, Sets, Clears, Ticked, sets_of, Awaits, IsExact}
+use Rattle.vte.specs.Timeout.{Tick, Clears, Ticked, Awaits, IsExact}
 use Rattle.vte.specs.Performed.{openers_of_all}
-use Rattle.vte.specs.Stretch.{added, calls_from, ticks_from, opens_in, OpensAt}
+use Rattle.vte.specs.Stretch.{added, ticks_from}
 use Rattle.vte.specs.Hold as hold
 use Rattle.vte.specs.Hold.{limit, closing, held_of, Renews, again, quiet, Settles, keeps, replays, closes, Takes}
-use Rattle.vte.specs.Advances.{Plainly, Advances, parses, begins, settles, overflows}
-use Rattle.vte.specs.Standing.{StandsAt, HoldsAt, Advanced, Taken}
+use Rattle.vte.specs.Advances.{Plainly, Advances, parses, begins, settles, empties}
+use Rattle.vte.specs.Standing.{timeout_of, StandsAt, HoldsAt, Advanced, Taken}
 use Rattle.vte.proofs.RunLemmas.{Ticked-append}
 use Rattle.vte.proofs.SetLemmas.{OnlySets, no_more, one_more, only-append, sets_only, sets_some, any_openers, sets_keep, some_set, cleared_last}
 
@@ -45,12 +45,12 @@ module _ {T : Type 0} (sets : T → ℕ → T → Type 0) (clears : T → T → 
 
   exactly : (closed : Bool) (t : T) (parsed held piece : List ℕ) (t' : T) (parsed' held' : List ℕ) (calls : List Call) → Advances sets clears answers closed t parsed held piece t' parsed' held' calls
       → (hold : Option (List ℕ)) → held ≡ held_of hold → Awaits answers t (is_some hold) → (closed ≡ true → hold ≡ None) → Exactly t parsed hold piece t' parsed' held' calls
-  exactly closed t parsed held piece t' parsed' held' calls (parses _ _ _ _ _ plain none) None e a c =
+  exactly closed t parsed held piece t' parsed' held' calls (parses _ _ _ _ plain none) None e a c =
       record { hold' = None; ticks = []; takes = hold.parses parsed piece none; ticked = refl; held_is = e; awaits = a }
-  exactly closed t parsed held piece t' parsed' held' calls (parses _ _ _ _ _ plain none) (Some k) e a c = absurd (never_plain closed t k plain a c)
-  exactly closed t parsed held piece t' parsed' held' calls (begins _ _ _ _ _ n u _ _ _ more plain at y f) None e a c =
+  exactly closed t parsed held piece t' parsed' held' calls (parses _ _ _ _ plain none) (Some k) e a c = absurd (never_plain closed t k plain a c)
+  exactly closed t parsed held piece t' parsed' held' calls (begins _ _ _ _ n u _ _ _ more plain at y f) None e a c =
       let some = some_set sets clears answers exact t (ticks_from parsed (take n piece)) u (sets_some (openers_of_all (added parsed (take n piece))) (any_openers (added parsed (take n piece)) ∙ at.opened)) y in
-      let r = exactly false u (parsed ++ take n piece) held (drop n piece) t' parsed' held' more f (Some []) e some (λ no. absurd (let b : false ≡ true = no in cc)) in
+      let r = exactly false u (parsed ++ take n piece) [] (drop n piece) t' parsed' held' more f (Some []) e some (λ no. absurd (let b : false ≡ true = no in cc)) in
       record {
         hold' = r.hold';
         ticks = ticks_from parsed (take n piece) ++ r.ticks;
@@ -59,7 +59,7 @@ module _ {T : Type 0} (sets : T → ℕ → T → Type 0) (clears : T → T → 
         held_is = r.held_is;
         awaits = r.awaits;
       }
-  exactly closed t parsed held piece t' parsed' held' calls (begins _ _ _ _ _ n u _ _ _ more plain at y f) (Some k) e a c = absurd (never_plain closed t k plain a c)
+  exactly closed t parsed held piece t' parsed' held' calls (begins _ _ _ _ n u _ _ _ more plain at y f) (Some k) e a c = absurd (never_plain closed t k plain a c)
   exactly _ t parsed held piece t' parsed' held' calls (settles _ _ _ _ _ _ hold' _ ticks open_ fits s y) None e a c = absurd (let no : true ≡ false = a true open_ in cc)
   exactly _ t parsed held piece t' parsed' held' calls (settles _ _ _ _ _ _ hold' _ ticks open_ fits s y) (Some k) e a c =
       record {
@@ -70,8 +70,10 @@ module _ {T : Type 0} (sets : T → ℕ → T → Type 0) (clears : T → T → 
         held_is = refl;
         awaits = settled_awaits t t' parsed held piece parsed' hold' calls ticks s y a;
       }
-  exactly _ t parsed held piece t' parsed' held' calls (overflows _ _ _ _ u _ _ _ more open_ full y f) None e a c = absurd (let no : true ≡ false = a true open_ in cc)
-  exactly _ t parsed held piece t' parsed' held' calls (overflows _ _ _ _ u _ _ _ more open_ full y f) (Some k) e a c =
+  exactly _ t parsed held piece t' parsed' held' calls (empties _ _ _ _ true u _ _ _ more asked full y f) None e a c = absurd (let no : true ≡ false = a true asked in cc)
+  exactly _ t parsed held piece t' parsed' held' calls (empties _ _ _ _ false u _ _ _ more asked some y f) None e a c = absurd (let no : length held ≡ 0 = ap length e in omega (arith, some, no))
+  exactly _ t parsed held piece t' parsed' held' calls (empties _ _ _ _ false u _ _ _ more asked some y f) (Some k) e a c = absurd (let no : false ≡ true = a false asked in cc)
+  exactly _ t parsed held piece t' parsed' held' calls (empties _ _ _ _ true u _ _ _ more asked full y f) (Some k) e a c =
       let none = cleared_last sets clears answers exact t (ticks_from parsed held) u y in
       let r = exactly true u (parsed ++ held) [] piece t' parsed' held' more f None refl none (λ _. refl) in
       let ticks = (ticks_from parsed held ++ Clears ∷ []) ++ r.ticks in
@@ -87,7 +89,7 @@ module _ {T : Type 0} (sets : T → ℕ → T → Type 0) (clears : T → T → 
   pub taken : {A H : Type 0} (step : H → Call → H → Type 0) (old : Processor T A) (parsed : List ℕ) (hold : Option (List ℕ)) (piece : List ℕ) (h : H) (new : Processor T A) (h' : H)
       → HoldsAt answers old parsed hold → Advanced sets clears answers step false old parsed (held_of hold) piece h new h' → Taken sets clears answers step old parsed hold piece h new h'
   taken {A} {H} step old parsed hold piece h new h' at a =
-      let r = exactly false old.state.timeout parsed (held_of hold) piece new.state.timeout a.parsed' a.held' a.calls a.advances hold refl at.awaits (λ no. absurd (let b : false ≡ true = no in cc)) in
+      let r = exactly false (timeout_of old) parsed (held_of hold) piece (timeout_of new) a.parsed' a.held' a.calls a.advances hold refl at.awaits (λ no. absurd (let b : false ≡ true = no in cc)) in
       record {
         parsed' = a.parsed';
         hold' = r.hold';

@@ -8,4 +8,8 @@ pub mod SetLemmas
 pub mod TurnLemmas
 pub mod ExactLemmas
 pub mod LawLemmas
+pub mod ClosingLemmas
 pub mod OpeningLemmas
+pub mod FrameMarks
+pub mod FrameLemmas
+pub mod FrameMoves

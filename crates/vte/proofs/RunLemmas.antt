@@ -7,8 +7,7 @@ use Rattle.std.proofs.lemmas.List.Elements.{All-head, All-tail}
 use Rattle.vte_core.specs.Event.{Event, Performs}
 use Rattle.vte_core.specs.Laws.{Fits}
 use Rattle.vte_core.specs.Shapes.{events}
-use Rattle.vte_core.specs.Pending.{pending, events_from}
-use Rattle.vte_core.proofs.Machine.{events-past}
+use Rattle.vte_core.proofs.AddedLemmas.{added-is}
 use Rattle.vte_types.specs.Call.{Call, Calls}
 use Rattle.vte.specs.Csi.{opens_group}
 use Rattle.vte.specs.Table.{calls_of, last_after, openers, opens}
@@ -44,6 +43,10 @@ or-assoc false b c = refl
 or-any : (b : Bool) (e : Event) (es : List Event) → (b || list_any opens (e ∷ es)) ≡ ((b || opens e) || list_any opens es)
 or-any b e es = sym (or-assoc b (opens e) (list_any opens es))
 
+pub any-append : {X : Type 0} (p : X → Bool) (a b : List X) → list_any p (a ++ b) ≡ (list_any p a || list_any p b)
+any-append p [] b = refl
+any-append p (x ∷ a) b = ap (λ v. p x || v) (any-append p a b) ∙ sym (or-assoc (p x) (list_any p a) (list_any p b))
+
 -- what each step does, a run does
 pub performs_all : {P H T : Type 0} (step : H → Call → H → Type 0) (sets : T → ℕ → T → Type 0) (clears : T → T → Type 0)
     (h : P → H) (last : P → Option ℕ) (t : P → T) (ended : P → Bool)
@@ -71,10 +74,6 @@ pub keeps_all : {P N : Type 0} (f : P → N) (steps : P → Event → P → Type
 keeps_all f steps each p [] q g = ap f g
 keeps_all f steps each p (e ∷ es) q g = keeps_all f steps each g.0 es q g.2 ∙ each p e g.0 g.1
 
-same_rest : (xs ys zs : List Event) → xs ++ ys ≡ xs ++ zs → ys ≡ zs
-same_rest [] ys zs h = h
-same_rest (x ∷ xs) ys zs h = same_rest xs ys zs (let t : xs ++ ys ≡ xs ++ zs = cc in t)
-
 -- events that bytes add to a stream are those that they add after its past
 pub told_is : (past bs : List ℕ) (es : List Event) → events 1024 (past ++ bs) ≡ events 1024 past ++ es → es ≡ added past bs
-told_is past bs es h = same_rest (events 1024 past) es (added past bs) (sym h ∙ events-past 1024 past bs)
+told_is past bs es h = added-is 1024 past bs es h

@@ -10,24 +10,30 @@ abbrev pub Plainly : {T : Type 0} → (T → Bool → Type 0) → Bool → T →
 Plainly answers true t = Unit {0}
 Plainly answers false t = answers t false
 
+-- The hold is emptied before the piece is parsed plainly: where an update is open and there is no room, and where bytes
+-- are held and the timeout answers that none is open.
+abbrev pub IsEmptied : Bool → List ℕ → List ℕ → Type 0
+IsEmptied true held piece = limit ≤ length (held ++ piece)
+IsEmptied false held piece = 0 < length held
+
 -- From a timeout, parsed bytes and held bytes a piece leads to others, with these calls. Where an update was just
 -- closed (the first argument), the timeout isn't asked.
 pub data Advances {T : Type 0} (sets : T → ℕ → T → Type 0) (clears : T → T → Type 0) (answers : T → Bool → Type 0)
     : Bool → T → List ℕ → List ℕ → List ℕ → T → List ℕ → List ℕ → List Call → Type 0 where
-  -- nothing in the piece opens an update
-  parses : (closed : Bool) (t : T) (parsed held piece : List ℕ) → Plainly answers closed t → opens_in parsed piece ≡ false
-      → Advances sets clears answers closed t parsed held piece t (parsed ++ piece) held (calls_from parsed piece)
-  -- a byte opens one, and what remains is a piece
-  begins : (closed : Bool) (t : T) (parsed held piece : List ℕ) (n : ℕ) (u : T) (t' : T) (parsed' held' : List ℕ) (calls : List Call)
+  -- nothing is held, and nothing in the piece opens an update
+  parses : (closed : Bool) (t : T) (parsed piece : List ℕ) → Plainly answers closed t → opens_in parsed piece ≡ false
+      → Advances sets clears answers closed t parsed [] piece t (parsed ++ piece) [] (calls_from parsed piece)
+  -- nothing is held, a byte opens one, and what remains is a piece
+  begins : (closed : Bool) (t : T) (parsed piece : List ℕ) (n : ℕ) (u : T) (t' : T) (parsed' held' : List ℕ) (calls : List Call)
       → Plainly answers closed t → OpensAt parsed piece n → Ticked sets clears t (ticks_from parsed (take n piece)) u
-      → Advances sets clears answers false u (parsed ++ take n piece) held (drop n piece) t' parsed' held' calls
-      → Advances sets clears answers closed t parsed held piece t' parsed' held' (calls_from parsed (take n piece) ++ calls)
+      → Advances sets clears answers false u (parsed ++ take n piece) [] (drop n piece) t' parsed' held' calls
+      → Advances sets clears answers closed t parsed [] piece t' parsed' held' (calls_from parsed (take n piece) ++ calls)
   -- an update is open, and there is room
   settles : (t : T) (parsed held piece : List ℕ) (t' : T) (parsed' : List ℕ) (hold' : Option (List ℕ)) (calls : List Call) (ticks : List Tick)
       → answers t true → length (held ++ piece) < limit → Settles parsed held piece parsed' hold' calls ticks → Ticked sets clears t ticks t'
       → Advances sets clears answers false t parsed held piece t' parsed' (held_of hold') calls
-  -- an update is open, and there is no room: the hold is emptied, and the piece is parsed plainly
-  overflows : (t : T) (parsed held piece : List ℕ) (u : T) (t' : T) (parsed' held' : List ℕ) (calls : List Call)
-      → answers t true → limit ≤ length (held ++ piece) → Ticked sets clears t (ticks_from parsed held ++ Clears ∷ []) u
+  -- the hold is emptied first
+  empties : (t : T) (parsed held piece : List ℕ) (is_open : Bool) (u : T) (t' : T) (parsed' held' : List ℕ) (calls : List Call)
+      → answers t is_open → IsEmptied is_open held piece → Ticked sets clears t (ticks_from parsed held ++ Clears ∷ []) u
       → Advances sets clears answers true u (parsed ++ held) [] piece t' parsed' held' calls
       → Advances sets clears answers false t parsed held piece t' parsed' held' ((calls_from parsed held ++ closing) ++ calls)

@@ -1,5 +1,5 @@
 -- What control sequences ask for.
-use Rattle.std.specs.Prelude.{ℕ, ℤ, pos, ◌-◌, ◌%◌, Bool, true, false, ◌&&◌, List, [], ◌∷◌, Option, Some, None, nat_eq, if◌then◌else◌, map, replicate, unwrap_or}
+use Rattle.std.specs.Prelude.{ℕ, pos, ◌-◌, ◌%◌, Bool, true, false, ◌&&◌, List, [], ◌∷◌, Option, Some, None, nat_eq, if◌then◌else◌, map, replicate, unwrap_or}
 use Rattle.vte_types.specs.Call as call
 use Rattle.vte_types.specs.Call.{Call}
 use Rattle.vte_types.specs.Lookup.{lookup}
@@ -9,7 +9,6 @@ use Rattle.vte_types.specs.declared.clear.LineClearMode.TheVariants as line
 use Rattle.vte_types.specs.declared.clear.TabulationClearMode.TheVariants as tabs
 use Rattle.vte_types.specs.declared.cursor.CursorShape.{CursorShape}
 use Rattle.vte_types.specs.declared.cursor.CursorShape.TheVariants as shape
-use Rattle.vte_types.specs.declared.cursor.CursorStyle.{CursorStyle}
 use Rattle.vte_types.specs.declared.keyboard.KeyboardModes.{KeyboardModes}
 use Rattle.vte_types.specs.declared.keyboard.KeyboardModesApplyBehavior.{KeyboardModesApplyBehavior}
 use Rattle.vte_types.specs.declared.keyboard.KeyboardModesApplyBehavior.TheVariants as apply

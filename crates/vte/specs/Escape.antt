@@ -5,7 +5,6 @@ use Rattle.vte_types.specs.Call.{Call}
 use Rattle.vte_types.specs.Lookup.{lookup}
 use Rattle.vte_types.specs.declared.charset.CharsetIndex.{CharsetIndex}
 use Rattle.vte_types.specs.declared.charset.CharsetIndex.TheVariants as i
-use Rattle.vte_types.specs.declared.charset.StandardCharset.{StandardCharset}
 use Rattle.vte_types.specs.declared.charset.StandardCharset.TheVariants as c
 
 -- the calls beside a key, none where it has no row

@@ -1,21 +1,71 @@
 -- Laws of the table and of the hold.
-use Rattle.std.specs.Prelude.{ℕ, ◌≡◌, ◌<◌, ◌+◌, ◌↔◌, Bool, true, false, List, [], ◌∷◌, ◌++◌, Option, Some, length}
+use Rattle.std.specs.Prelude.{ℕ, Bool, ◌||◌, ◌≡◌, ◌<◌, ◌+◌, ◌↔◌, true, false, List, [], ◌∷◌, ◌++◌, Option, None, Some, length}
 use Rattle.std.specs.List.{list_any}
 use Rattle.vte_core.specs.Event.{Event, Csi}
-use Rattle.vte_core.specs.Pending.{pending}
-use Rattle.vte_core.specs.Stopping.{asks_at}
-use Rattle.vte_types.specs.Call.{Call}
+use Rattle.vte_core.specs.Stopping.{asks_after}
+use Rattle.vte_core.specs.Shapes.{events}
+use Rattle.vte_types.specs.Call.{Call, Calls, unset_private_mode}
+use Rattle.vte_types.specs.declared.mode.PrivateMode.TheVariants.{Named}
+use Rattle.vte_types.specs.declared.mode.NamedPrivateMode.TheVariants.{SyncUpdate}
 use Rattle.vte.specs.Table.{calls_of, opens, is_opening}
-use Rattle.vte.specs.Performed.{calls_of_all}
-use Rattle.vte.specs.Stretch.{opens_in}
+use Rattle.vte.specs.Performed.{last_after_all, calls_of_all}
+use Rattle.vte.specs.Stretch.{added, last_of, calls_from, ticks_from, opens_in}
 use Rattle.vte.specs.Marks.{end_mark, NoneFrom}
-use Rattle.vte.specs.Timeout.{Tick}
+use Rattle.vte.specs.Timeout.{Tick, Ticked}
 use Rattle.vte.specs.Hold.{Takes, held_of, limit}
+use Rattle.vte.specs.Advances.{Advances}
+use Rattle.vte.specs.Closings.{without_closings, WithClosings, clearings, Parses}
+use Rattle.vte.specs.Moves.{Move, Runs, given}
 
 -- all bytes given are the parsed ones followed by the held ones
 abbrev pub ConservesBytes : Type 0
 ConservesBytes = (parsed : List ℕ) (hold : Option (List ℕ)) (piece parsed' : List ℕ) (hold' : Option (List ℕ)) (calls : List Call) (ticks : List Tick)
     → Takes parsed hold piece parsed' hold' calls ticks → parsed ++ (held_of hold ++ piece) ≡ parsed' ++ held_of hold'
+
+-- the same under any timeout
+abbrev pub ConservesUnderAny : {T : Type 0} → (T → ℕ → T → Type 0) → (T → T → Type 0) → (T → Bool → Type 0) → Type 0
+ConservesUnderAny {T} sets clears answers = (t : T) (parsed held piece : List ℕ) (t' : T) (parsed' held' : List ℕ) (calls : List Call)
+    → Advances sets clears answers false t parsed held piece t' parsed' held' calls → parsed ++ (held ++ piece) ≡ parsed' ++ held'
+
+-- the calls of bytes that follow one another, what they print last, and how they open updates and set the timeout
+abbrev pub JoinsCalls : Type 0
+JoinsCalls = (past a b : List ℕ) → calls_from past (a ++ b) ≡ calls_from past a ++ calls_from (past ++ a) b
+
+abbrev pub JoinsPrinted : Type 0
+JoinsPrinted = (past bytes : List ℕ) → last_of (past ++ bytes) ≡ last_after_all (last_of past) (added past bytes)
+
+abbrev pub JoinsOpenings : Type 0
+JoinsOpenings = (past a b : List ℕ) → opens_in past (a ++ b) ≡ (opens_in past a || opens_in (past ++ a) b)
+
+abbrev pub JoinsTicks : Type 0
+JoinsTicks = (past a b : List ℕ) → ticks_from past (a ++ b) ≡ ticks_from past a ++ ticks_from (past ++ a) b
+
+-- the calls of a piece are those of the bytes that it leads to parse, and a closing for each clearing of the timeout
+abbrev pub CallsAreOfParsed : Type 0
+CallsAreOfParsed = (parsed : List ℕ) (hold : Option (List ℕ)) (piece parsed' : List ℕ) (hold' : Option (List ℕ)) (calls : List Call) (ticks : List Tick)
+    → Takes parsed hold piece parsed' hold' calls ticks → Parses parsed parsed' (clearings ticks) calls
+
+-- the same under any timeout
+abbrev pub CallsAreOfParsedUnderAny : {T : Type 0} → (T → ℕ → T → Type 0) → (T → T → Type 0) → (T → Bool → Type 0) → Type 0
+CallsAreOfParsedUnderAny {T} sets clears answers = (t : T) (parsed held piece : List ℕ) (t' : T) (parsed' held' : List ℕ) (calls : List Call)
+    → Advances sets clears answers false t parsed held piece t' parsed' held' calls
+    → (ticks : List Tick) × Ticked sets clears t ticks t' × Parses parsed parsed' (clearings ticks) calls
+
+-- calls that differ in closings alone are the same without them
+abbrev pub FiltersClosings : Type 0
+FiltersClosings = (cs : List Call) (n : ℕ) (calls : List Call) → WithClosings cs n calls → without_closings calls ≡ without_closings cs
+
+-- a handler on which a closing does nothing goes where it would go without the closings
+abbrev pub IgnoresClosings : {H : Type 0} → (H → Call → H → Type 0) → Type 0
+IgnoresClosings {H} step = ((s t : H) → step s (unset_private_mode (Named SyncUpdate)) t → t ≡ s)
+    → (cs : List Call) (n : ℕ) (calls : List Call) (s t : H) → WithClosings cs n calls → Calls step s calls t → Calls step s cs t
+
+-- from a new processor on, under any timeout: all bytes given are the parsed ones followed by the held ones, and all
+-- calls are the table's calls of the events of the parsed bytes, with a closing for each clearing of the timeout
+abbrev pub MakesTableCalls : {T : Type 0} → (T → ℕ → T → Type 0) → (T → T → Type 0) → (T → Bool → Type 0) → Type 0
+MakesTableCalls {T} sets clears answers = (moves : List Move) (t t' : T) (parsed held : List ℕ) (calls : List Call)
+    → Runs sets clears answers moves t [] [] t' parsed held calls → (given moves ≡ parsed ++ held)
+    × (ticks : List Tick) × Ticked sets clears t ticks t' × WithClosings (calls_of_all None (events 1024 parsed)) (clearings ticks) calls
 
 -- an open update isn't torn: while no end mark has come whole, nothing is parsed and no call is made
 abbrev pub NeverTears : Type 0
@@ -43,5 +93,5 @@ OpensByStarts = (e : Event) → (opens e ≡ true) ↔ IsStart e
 
 -- the parser asks after each byte that adds an event which opens an update
 abbrev pub AsksWhereOpened : Type 0
-AsksWhereOpened = (past bytes : List ℕ) (b : ℕ) (rest : List ℕ) (asked : Bool)
-    → opens_in (past ++ bytes) (b ∷ []) ≡ true → asks_at (pending past) asked (bytes ++ b ∷ rest) (length bytes + 1) ≡ true
+AsksWhereOpened = (past bytes : List ℕ) (b : ℕ) (rest : List ℕ)
+    → opens_in (past ++ bytes) (b ∷ []) ≡ true → asks_after past (bytes ++ b ∷ rest) (length bytes + 1) ≡ true

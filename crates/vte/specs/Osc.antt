@@ -3,7 +3,7 @@ use Rattle.std.specs.Prelude.{ℕ, ◌+◌, ◌*◌, ◌-◌, ◌/◌, ◌^◌, 
 use Rattle.std.specs.List.{slice_split, concat, join_with_byte, starts_with, fold, flat_map, range_with_len}
 use Rattle.std.specs.Str.{is_utf8, trim, all_ascii_digits}
 use Rattle.std.specs.Fmt.{decimal}
-use Rattle.std.specs.Option.{option_map, option_and_then, option_to_list}
+use Rattle.std.specs.Option.{option_and_then, option_to_list}
 use Rattle.vte_types.specs.Call as call
 use Rattle.vte_types.specs.Call.{Call, Link}
 use Rattle.vte_types.specs.Hex.{are_hex, hex_value}

@@ -1,6 +1,6 @@
 -- What events do to a handler, a timeout, and what is kept beside them.
 use Rattle.std.specs.Prelude.{ℕ, Bool, List, [], ◌∷◌, ◌++◌, ◌≡◌, Option, ◌||◌}
-use Rattle.std.specs.List.{All, list_any}
+use Rattle.std.specs.List.{list_any}
 use Rattle.vte_core.specs.Event.{Event}
 use Rattle.vte_core.specs.Laws.{Fits}
 use Rattle.vte_types.specs.Call.{Call, Calls}

@@ -1,11 +1,9 @@
 -- What the groups of an SGR sequence ask for.
-use Rattle.std.specs.Prelude.{ℕ, Bool, true, false, List, [], ◌∷◌, ◌++◌, Option, Some, None, nat_eq, nat_lt, if◌then◌else◌, length, drop, unwrap_or}
+use Rattle.std.specs.Prelude.{ℕ, List, [], ◌∷◌, ◌++◌, Option, Some, None, nat_eq, nat_lt, if◌then◌else◌, length, drop, unwrap_or}
 use Rattle.std.specs.Option.{option_map, option_to_list}
 use Rattle.vte_types.specs.Lookup.{lookup}
-use Rattle.vte_types.specs.declared.rgb.Rgb.{Rgb}
 use Rattle.vte_types.specs.declared.color.Color.{Color}
 use Rattle.vte_types.specs.declared.color.Color.TheVariants.{Named, Spec, Indexed}
-use Rattle.vte_types.specs.declared.color.NamedColor.{NamedColor}
 use Rattle.vte_types.specs.declared.color.NamedColor.TheVariants as c
 use Rattle.vte_types.specs.declared.attr.Attr.{Attr}
 use Rattle.vte_types.specs.declared.attr.Attr.TheVariants as a

@@ -1,5 +1,5 @@
 -- Where a processor stands.
-use Rattle.std.specs.Prelude.{ℕ, Bool, true, false, List, [], ◌∷◌, ◌++◌, ◌≡◌, Option, is_some, take}
+use Rattle.std.specs.Prelude.{ℕ, Bool, false, List, [], ◌∷◌, ◌++◌, ◌≡◌, Option, is_some, take}
 use Rattle.vte_core.specs.Standing.{Stands}
 use Rattle.vte_types.specs.Call.{Call, Calls}
 use Rattle.vte.specs.declared.processor.Processor.{Processor}
@@ -23,7 +23,7 @@ pub record StandsAt {T A : Type 0} (p : Processor T A) (parsed held : List ℕ) 
 -- the same, where the timeout says whether an update is open
 pub record HoldsAt {T A : Type 0} (answers : T → Bool → Type 0) (p : Processor T A) (parsed : List ℕ) (hold : Option (List ℕ)) : Type 0 where
   pub stands : StandsAt p parsed (held_of hold)
-  pub awaits : Awaits answers p.state.timeout (is_some hold)
+  pub awaits : Awaits answers (timeout_of p) (is_some hold)
 
 -- what a piece led to
 pub record Advanced {T A H : Type 0} (sets : T → ℕ → T → Type 0) (clears : T → T → Type 0) (answers : T → Bool → Type 0) (step : H → Call → H → Type 0)
@@ -31,7 +31,7 @@ pub record Advanced {T A H : Type 0} (sets : T → ℕ → T → Type 0) (clears
   pub parsed' : List ℕ
   pub held' : List ℕ
   pub calls : List Call
-  pub advances : Advances sets clears answers closed old.state.timeout parsed held piece new.state.timeout parsed' held' calls
+  pub advances : Advances sets clears answers closed (timeout_of old) parsed held piece (timeout_of new) parsed' held' calls
   pub stands : StandsAt new parsed' held'
   pub goes : Calls step h calls h'
 
@@ -44,21 +44,21 @@ pub record Taken {T A H : Type 0} (sets : T → ℕ → T → Type 0) (clears : 
   pub ticks : List Tick
   pub takes : Takes parsed hold piece parsed' hold' calls ticks
   pub stands : HoldsAt answers new parsed' hold'
-  pub ticked : Ticked sets clears old.state.timeout ticks new.state.timeout
+  pub ticked : Ticked sets clears (timeout_of old) ticks (timeout_of new)
   pub goes : Calls step h calls h'
 
 -- bytes were parsed, and then those held are these
 pub record Parsed {T A H : Type 0} (sets : T → ℕ → T → Type 0) (clears : T → T → Type 0) (step : H → Call → H → Type 0)
     (old : Processor T A) (parsed bytes held : List ℕ) (h : H) (new : Processor T A) (h' : H) : Type 0 where
   pub stands : StandsAt new (parsed ++ bytes) held
-  pub ticked : Ticked sets clears old.state.timeout (ticks_from parsed bytes) new.state.timeout
+  pub ticked : Ticked sets clears (timeout_of old) (ticks_from parsed bytes) (timeout_of new)
   pub goes : Calls step h (calls_from parsed bytes) h'
 
 -- all held bytes were parsed, and the update was closed
 pub record Emptied {T A H : Type 0} (sets : T → ℕ → T → Type 0) (clears : T → T → Type 0) (step : H → Call → H → Type 0)
     (old : Processor T A) (parsed held : List ℕ) (h : H) (new : Processor T A) (h' : H) : Type 0 where
   pub stands : StandsAt new (parsed ++ held) []
-  pub ticked : Ticked sets clears old.state.timeout (ticks_from parsed held ++ Clears ∷ []) new.state.timeout
+  pub ticked : Ticked sets clears (timeout_of old) (ticks_from parsed held ++ Clears ∷ []) (timeout_of new)
   pub goes : Calls step h (calls_from parsed held ++ closing) h'
 
 -- a piece for which there is room was taken while an update was open
@@ -70,7 +70,7 @@ pub record Held {T A H : Type 0} (sets : T → ℕ → T → Type 0) (clears : T
   pub ticks : List Tick
   pub settles : Settles parsed held piece parsed' hold' calls ticks
   pub stands : StandsAt new parsed' (held_of hold')
-  pub ticked : Ticked sets clears old.state.timeout ticks new.state.timeout
+  pub ticked : Ticked sets clears (timeout_of old) ticks (timeout_of new)
   pub goes : Calls step h calls h'
 
 -- a byte of the piece opened an update
@@ -83,7 +83,7 @@ pub record Begun {T A H : Type 0} (sets : T → ℕ → T → Type 0) (clears : 
 pub record Unopened {T A H : Type 0} (sets : T → ℕ → T → Type 0) (clears : T → T → Type 0) (step : H → Call → H → Type 0)
     (old : Processor T A) (parsed held piece : List ℕ) (h : H) (new : Processor T A) (h' : H) : Type 0 where
   pub none : opens_in parsed piece ≡ false
-  pub same : new.state.timeout ≡ old.state.timeout
+  pub same : timeout_of new ≡ timeout_of old
   pub stands : StandsAt new (parsed ++ piece) held
   pub goes : Calls step h (calls_from parsed piece) h'
 
@@ -95,5 +95,5 @@ pub record GoesOn {T A H : Type 0} (sets : T → ℕ → T → Type 0) (clears :
   pub calls : List Call
   pub stands : StandsAt new parsed' held'
   pub goes : Calls step h calls h'
-  pub further : (t : T) (q k : List ℕ) (cs : List Call) → Advances sets clears answers false new.state.timeout parsed' held' rest t q k cs
-      → Advances sets clears answers false old.state.timeout parsed held piece t q k (calls ++ cs)
+  pub further : (t : T) (q k : List ℕ) (cs : List Call) → Advances sets clears answers false (timeout_of new) parsed' held' rest t q k cs
+      → Advances sets clears answers false (timeout_of old) parsed held piece t q k (calls ++ cs)

@@ -1,20 +1,21 @@
 -- What a stretch of a stream's bytes asks for, after those that were parsed before it.
-use Rattle.std.specs.Prelude.{ℕ, Bool, true, false, List, [], ◌++◌, ◌≡◌, ◌<◌, ◌≤◌, Option, None, take, length}
+use Rattle.std.specs.Prelude.{ℕ, Bool, true, false, List, ◌≡◌, ◌<◌, ◌≤◌, Option, None, take, length}
 use Rattle.std.specs.List.{list_any}
 use Rattle.vte_core.specs.Event.{Event}
-use Rattle.vte_core.specs.Pending.{pending, events_from}
+use Rattle.vte_core.specs.Shapes.{events}
+use Rattle.vte_core.specs.Added as core
 use Rattle.vte_types.specs.Call.{Call}
 use Rattle.vte.specs.Table.{opens}
 use Rattle.vte.specs.Timeout.{Tick, sets_of}
 use Rattle.vte.specs.Performed.{last_after_all, calls_of_all, openers_of_all}
 
--- the events that the bytes add to those of the past
+-- the events that a stream has with these bytes, beyond those of its past
 abbrev pub added : List ℕ → List ℕ → List Event
-added past bytes = events_from 1024 (pending past) bytes
+added past bytes = core.added 1024 past bytes
 
 -- the last character that these bytes print
 abbrev pub last_of : List ℕ → Option ℕ
-last_of past = last_after_all None (added [] past)
+last_of past = last_after_all None (events 1024 past)
 
 -- the calls of the next bytes
 abbrev pub calls_from : List ℕ → List ℕ → List Call

@@ -24,8 +24,9 @@ pub mod ansi {
     pub use crate::clock::Clock;
     pub use crate::error::OutOfMemory;
     pub use crate::processor::Processor;
-    pub use crate::std_sync_handler::{StdSyncHandler, std_sync_handler_is_exact};
+    pub use crate::std_sync_handler::StdSyncHandler;
     pub use crate::timeout::Timeout;
+    pub use bitflags::Flags;
     pub use vte_types::attr::Attr;
     pub use vte_types::call::Call;
     pub use vte_types::charset::{CharsetIndex, StandardCharset};

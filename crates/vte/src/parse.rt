@@ -2,8 +2,7 @@
 ghost use Rattle.std.specs.Prelude.{◌≡◌, ◌≤◌, ◌<◌, ◌++◌, ℕ, List, take, length, false, true};
 ghost use Rattle.std.specs.List.{list_any};
 ghost use Rattle.vte_core.specs.Standing.{Stands};
-ghost use Rattle.vte_core.specs.Pending.{pending};
-ghost use Rattle.vte_core.specs.Stopping.{asks_at};
+ghost use Rattle.vte_core.specs.Stopping.{asks_after};
 ghost use Rattle.vte.specs.Performed.{PerformedAll};
 ghost use Rattle.vte.specs.Table.{opens};
 ghost use Rattle.vte.specs.Stretch.{added, opens_in};
@@ -64,7 +63,7 @@ fn feed_until_terminated<T: Timeout, H: Handler>(
     ensures ended { result < length bytes.now → performer.new.terminated ≡ true }
     ensures some { performer.old.terminated ≡ false → performer.new.terminated ≡ true → 0 < result }
     ensures first { (past : List ℕ) → Stands 1024 parser.old past → performer.old.terminated ≡ false
-        → (m : ℕ) → m < result → asks_at (pending past) true bytes.now m ≡ true → opens_in past (take m bytes.now) ≡ false }
+        → (m : ℕ) → m < result → asks_after past bytes.now m ≡ true → opens_in past (take m bytes.now) ≡ false }
 {
     parser.advance_until_terminated(performer, bytes)
 }
@@ -83,7 +82,7 @@ pub fn parse<T: Timeout, H: Handler>(
     ensures whole { result.1 ≡ false → result.0 ≡ length bytes.now }
     ensures some { result.1 ≡ true → 0 < result.0 }
     ensures first { (past : List ℕ) → Stands 1024 parser.old past
-        → (m : ℕ) → m < result.0 → asks_at (pending past) true bytes.now m ≡ true → opens_in past (take m bytes.now) ≡ false }
+        → (m : ℕ) → m < result.0 → asks_after past bytes.now m ≡ true → opens_in past (take m bytes.now) ≡ false }
 {
     let mut performer = Performer {
         state,

@@ -69,7 +69,8 @@ impl<T: Timeout + Drop, A: Allocator> Processor<T, A> {
         self.held.len()
     }
 
-    /// Takes the next piece of the stream.
+    /// Takes the next piece of the stream. Held bytes are parsed before later ones: where the timeout isn't pending any
+    /// more while bytes are held, the hold is emptied first, as by `stop_sync`.
     pub fn advance<H: Handler>(&mut self, handler: &mut H, bytes: &[u8])
         ensures advanced { (parsed held : List ℕ) → StandsAt self.old parsed held
             → Advanced T.sets T.clears T.answers H.step false self.old parsed held bytes.now handler.old self.new handler.new }
@@ -99,13 +100,15 @@ impl<T: Timeout + Drop, A: Allocator> Processor<T, A> {
             (λ n. GoesOn T.sets T.clears T.answers H.step self.old parsed held piece.now (drop n piece.now) handler.old self.new handler.new) }
         ensures progress { IfSome result (λ n. (0 < n) × (n ≤ length piece.now)) }
     {
-        if !self.state.timeout.pending_timeout() {
+        if self.state.timeout.pending_timeout() {
+            if piece.len() <= SYNC_BUFFER_SIZE - self.held.len() {
+                self.hold(handler, piece);
+                return None;
+            }
+        } else if self.held.is_empty() {
             return self.begin(handler, piece);
         }
-        if piece.len() <= SYNC_BUFFER_SIZE - self.held.len() {
-            self.hold(handler, piece);
-            return None;
-        }
+        // There is no room, or the update's time is over.
         self.empty(handler);
         self.begin(handler, piece)
     }

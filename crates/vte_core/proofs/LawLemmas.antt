@@ -1,5 +1,5 @@
 -- Laws of the events of a byte stream.
-use Rattle.std.proofs.Common.{◌≡◌, ℕ, zero, suc, ◌+◌, ◌-◌, ◌≤◌, Bool, true, false, ◌&&◌, ◌||◌, List, [], ◌∷◌, ◌++◌, length, take, nat_lt, ◌==◌, refl, sym, ◌∙◌, ap, subst, inl, inr, append_assoc, arith, length-append, length-take}
+use Rattle.std.proofs.Common.{◌≡◌, ℕ, zero, suc, ◌+◌, ◌-◌, ◌≤◌, Bool, true, false, ◌&&◌, ◌||◌, List, [], ◌∷◌, ◌++◌, length, take, nat_lt, ◌==◌, refl, sym, ◌∙◌, ap, inl, inr, append_assoc, arith, length-append, length-take}
 use Rattle.std.proofs.lemmas.Bool.Decides.{nat_tests}
 use Rattle.std.proofs.lemmas.List.Elements.{All-nil, All-cons, All-append}
 use Rattle.std.proofs.lemmas.List.Splits.{length-slice_split}
@@ -175,12 +175,3 @@ of_byte-fits n q b = elim (bool_cases (is_esc b)) [ inl e ↦ rw e (closed-fits 
 pub from-fits : (n : ℕ) (q : Pending) (bs : List ℕ) → All (Fits n) (events_from n q bs)
 from-fits n q [] = All-nil (Fits n)
 from-fits n q (b ∷ bs) = All-append (Fits n) (events_of_byte n q b) (events_from n (after_byte q b) bs) (of_byte-fits n q b) (from-fits n (after_byte q b) bs)
-
-same_rest : (xs ys zs : List Event) → xs ++ ys ≡ xs ++ zs → ys ≡ zs
-same_rest [] ys zs h = h
-same_rest (x ∷ xs) ys zs h = same_rest xs ys zs (cc)
-
-pub added-fits : (n : ℕ) (past bs : List ℕ) (es : List Event) → events n (past ++ bs) ≡ events n past ++ es → All (Fits n) es
-added-fits n past bs es h =
-    let same : events_from n (pending past) bs ≡ es = same_rest (events n past) (events_from n (pending past) bs) es (sym (events-past n past bs) ∙ h) in
-    subst (λ (xs : List Event). All (Fits n) xs) same (from-fits n (pending past) bs)

@@ -1,12 +1,20 @@
 -- Where `advance_until_terminated` stops.
-use Rattle.std.proofs.Common.{◌≡◌, ℕ, zero, suc, ◌+◌, ◌-◌, ◌<◌, ◌≤◌, Bool, true, false, not, ◌&&◌, List, [], ◌∷◌, length, take, drop, get_or, refl, sym, ◌∙◌, ap, subst, arith, inl, inr}
+use Rattle.std.proofs.Common.{◌≡◌, ℕ, zero, suc, ◌+◌, ◌-◌, ◌<◌, ◌≤◌, Bool, true, false, not, ◌&&◌, ◌||◌, ◌==◌, List, [], ◌∷◌, ◌++◌, append_assoc, length, take, drop, get_or, refl, sym, ◌∙◌, ap, subst, arith, inl, inr}
 use Rattle.std.proofs.lemmas.Grind.{common_steps}
-use Rattle.std.proofs.Math.Seq.{drop-cons}
+use Rattle.std.proofs.lemmas.Bool.Decides.{nat_tests}
+use Rattle.std.proofs.Math.Seq.{drop-cons, take-suc}
 use Rattle.vte_core.specs.Event.{Event, Performs}
-use Rattle.vte_core.specs.Pending.{Pending, InText, InEscape, InCsi, InOsc, InHook, InDevice, InSwallowed, events_of_byte, after_byte, after_bytes, events_from}
+use Rattle.vte_core.specs.Pending.{Pending, InText, InEscape, InCsi, InOsc, InHook, InDevice, InSwallowed, events_of_byte, after_byte, after_bytes, events_from, pending}
 use Rattle.vte_core.proofs.Characters.{bool_cases}
-use Rattle.vte_core.proofs.Telling.{performs-append}
-use Rattle.vte_core.specs.Stopping.{StopsAt, is_text, runs_on, asks_at, PassedBy}
+use Rattle.vte_core.proofs.Telling.{performs-append, same_events}
+use Rattle.vte_core.proofs.Machine.{after_bytes-append}
+use Rattle.vte_core.proofs.AddedLemmas.{added-from}
+use Rattle.vte_core.proofs.GroundTextLemmas.{ends_in_text-last}
+use Rattle.vte_core.specs.Bytes.{is_esc}
+use Rattle.vte_core.specs.Added.{added}
+use Rattle.vte_core.specs.GroundText.{ends_in_text}
+use Rattle.vte_core.specs.Laws.{AsksAsSaid, StopsAsSaid}
+use Rattle.vte_core.specs.Stopping.{StopsAt, is_text, runs_on, ends_run, asks_at, PassedBy}
 use Rattle.vte_core.specs.Standing.{IsAt, state_is_text}
 use Rattle.vte_core.specs.declared.Parser.{Parser}
 
@@ -105,15 +113,76 @@ stops-passed {S} step terminated n q asked (b ∷ bs) old k new (suc m) h lt a =
           })
     ]
 
-not_running : (q : Pending) (b : ℕ) (bs : List ℕ) → is_text q ≡ false → not (runs_on q b bs) ≡ true
-not_running q b [] h = refl
-not_running q b (c ∷ bs) h = rw h refl
+-- in the words of the whole texts
 
--- it asks after each byte of a sequence
-asks-after_suc : (q : Pending) (asked : Bool) (bs : List ℕ) (m : ℕ) → m < length bs → is_text (after_bytes q (take m bs)) ≡ false → asks_at q asked bs (suc m) ≡ true
-asks-after_suc q asked [] m lt h = absurd (omega (arith, lt))
-asks-after_suc q asked (b ∷ bs) zero lt h = not_running q b bs h
-asks-after_suc q asked (b ∷ bs) (suc m) lt h = asks-after_suc (after_byte q b) (not (runs_on q b bs)) bs m (omega (arith, lt)) h
+asks-next : (q : Pending) (asked : Bool) (bs : List ℕ) (m : ℕ) → m < length bs
+    → asks_at q asked bs (suc m) ≡ not (runs_on (after_bytes q (take m bs)) (get_or bs m 0) (drop (suc m) bs))
+asks-next q asked [] m lt = absurd (omega (arith, lt))
+asks-next q asked (b ∷ bs) zero lt = refl
+asks-next q asked (b ∷ bs) (suc m) lt = asks-next (after_byte q b) (not (runs_on q b bs)) bs m (omega (arith, lt))
 
-pub asks-after : (q : Pending) (asked : Bool) (bs : List ℕ) (m : ℕ) → m < length bs → is_text (after_bytes q (take m bs)) ≡ false → asks_at q asked bs (m + 1) ≡ true
-asks-after q asked bs m lt h = let e : suc m ≡ m + 1 = omega arith in subst (λ (j : ℕ). asks_at q asked bs j ≡ true) e (asks-after_suc q asked bs m lt h)
+pub pending-more : (past bs : List ℕ) → pending (past ++ bs) ≡ after_bytes (pending past) bs
+pending-more past bs = after_bytes-append (InText []) past bs
+
+-- the last of some bytes is ground text where text was pending before it, and it isn't ESC
+ends-next : (past bs : List ℕ) (m : ℕ) → m < length bs
+    → ends_in_text (past ++ take (suc m) bs) ≡ (is_text (after_bytes (pending past) (take m bs)) && not (is_esc (get_or bs m 0)))
+ends-next past bs m lt =
+    let b = get_or bs m 0 in
+    let split : past ++ take (suc m) bs ≡ (past ++ take m bs) ++ b ∷ [] = ap (λ xs. past ++ xs) (take-suc bs m 0 lt) ∙ sym (append_assoc past (take m bs) (b ∷ [])) in
+    ap ends_in_text split ∙ (ends_in_text-last (past ++ take m bs) b ∙ ap (λ q. is_text q && not (is_esc b)) (pending-more past (take m bs)))
+
+or_true : (v : Bool) → (v || true) ≡ true
+or_true true = refl
+or_true false = refl
+
+not_both : (v w : Bool) → not (v && not w) ≡ (not v || w)
+not_both true true = refl
+not_both true false = refl
+not_both false w = refl
+
+runs-said : (q : Pending) (b : ℕ) (rest : List ℕ) → not (runs_on q b rest) ≡ (not (is_text q && not (is_esc b)) || ends_run rest)
+runs-said q b [] = sym (or_true (not (is_text q && not (is_esc b))))
+runs-said q b (c ∷ rest) = not_both (is_text q && not (is_esc b)) (is_esc c)
+
+pub asks-said : AsksAsSaid
+asks-said past piece zero within = refl
+asks-said past piece (suc m) within =
+    let q = after_bytes (pending past) (take m piece) in
+    let rest = drop (suc m) piece in
+    let some : (suc m == 0) ≡ false = grind (arith, nat_tests) in
+    let lt : m < length piece = omega (arith, within) in
+    rw some (asks-next (pending past) true piece m lt ∙ (runs-said q (get_or piece m 0) rest
+    ∙ ap (λ v. not v || ends_run rest) (sym (ends-next past piece m lt))))
+
+stops-within : {S : Type 0} (step : S → Event → S → Type 0) (terminated : S → Bool) (n : ℕ) (q : Pending) (asked : Bool) (bs : List ℕ) (old : S) (k : ℕ) (new : S)
+    → StopsAt step terminated n q asked bs old k new → k ≤ length bs
+stops-within {S} step terminated n q asked [] old k new h = omega (arith, h.0)
+stops-within {S} step terminated n q asked (b ∷ bs) old k new h =
+    elim (bool_cases (asked && terminated old)) [
+      | inl e ↦ let g = rw e at h in omega (arith, g.0)
+      | inr e ↦
+          let (mid, j, i, p, r) = rw e at h in
+          let more = stops-within step terminated n (after_byte q b) (not (runs_on q b bs)) bs mid j new r in
+          omega (arith, i, more)
+    ]
+
+pub stops-said : {S : Type 0} (step : S → Event → S → Type 0) (terminated : S → Bool) → StopsAsSaid step terminated
+stops-said {S} step terminated n past piece old k new h =
+    let q = pending past in
+    let within = stops-within step terminated n q true piece old k new h in
+    record {
+      within = within;
+      performed = same_events step old new _ _ (sym (added-from n past (take k piece))) (stops-performs step terminated n q true piece old k new h);
+      asked = λ lt. let at = stops-asked step terminated n q true piece old k new h lt in (sym (asks-said past piece k within) ∙ at.0, at.1);
+      passed = λ m lt asks.
+          let by = stops-passed step terminated n q true piece old k new m h lt (asks-said past piece m (omega (arith, lt, within)) ∙ asks) in
+          let on : added n (past ++ take m piece) (drop m (take k piece)) ≡ events_from n (after_bytes q (take m piece)) (drop m (take k piece)) =
+          added-from n (past ++ take m piece) (drop m (take k piece)) ∙ ap (λ (p : Pending). events_from n p (drop m (take k piece))) (pending-more past (take m piece)) in
+          record {
+            mid = by.mid;
+            before = same_events step old by.mid _ _ (sym (added-from n past (take m piece))) by.before;
+            goes_on = by.goes_on;
+            after = same_events step by.mid new _ _ (sym on) by.after;
+          };
+    }

@@ -1,14 +1,20 @@
 -- Laws of the events of a byte stream, for a parser that keeps n bytes of an operating system command.
-use Rattle.std.specs.Prelude.{◌≡◌, ℕ, ◌+◌, ◌<◌, ◌≤◌, Bool, true, false, List, [], ◌∷◌, ◌++◌, length, take}
+use Rattle.std.specs.Prelude.{◌≡◌, ℕ, ◌<◌, ◌≤◌, Bool, true, List, [], ◌∷◌, ◌++◌, length}
 use Rattle.std.specs.List.{All, concat}
-use Rattle.vte_core.specs.Event.{Event, Osc}
+use Rattle.vte_core.specs.Event.{Event, Print, Execute, Osc}
 use Rattle.vte_core.specs.Shapes.{events}
-use Rattle.vte_core.specs.Pending.{Pending, after_bytes}
-use Rattle.vte_core.specs.Stopping.{StopsAt, PassedBy, asks_at, is_text}
+use Rattle.vte_core.specs.Added.{added}
+use Rattle.vte_core.specs.GroundText.{ends_in_text}
+use Rattle.vte_core.specs.Pending.{pending}
+use Rattle.vte_core.specs.Stopping.{StopsAt, Stops, asks_at, asks_after}
 
 -- the events of a beginning of a stream are a beginning of its events
 abbrev pub KeepsBeginnings : Type 0
-KeepsBeginnings = (n : ℕ) (s t : List ℕ) → (es : List Event) × (events n (s ++ t) ≡ events n s ++ es)
+KeepsBeginnings = (n : ℕ) (past bytes : List ℕ) → events n (past ++ bytes) ≡ events n past ++ added n past bytes
+
+-- bytes that follow one another add their events one after the other
+abbrev pub AddsInOrder : Type 0
+AddsInOrder = (n : ℕ) (past a b : List ℕ) → added n past (a ++ b) ≡ added n past a ++ added n (past ++ a) b
 
 -- ESC begins anew, and ends what came before it
 abbrev pub CutsBeforeEsc : Type 0
@@ -25,18 +31,23 @@ Fits n _ = Unit {0}
 
 -- the events that some bytes add to a stream fit
 abbrev pub AddsFitting : Type 0
-AddsFitting = (n : ℕ) (past bs : List ℕ) (es : List Event) → events n (past ++ bs) ≡ events n past ++ es → All (Fits n) es
+AddsFitting = (n : ℕ) (past bytes : List ℕ) → All (Fits n) (added n past bytes)
 
--- where the parser stops before the last byte, the performer is asked and terminated
-abbrev pub StopsWhereAsked : {S : Type 0} → (S → Event → S → Type 0) → (S → Bool) → Type 0
-StopsWhereAsked {S} step terminated = (n : ℕ) (q : Pending) (asked : Bool) (bs : List ℕ) (old : S) (k : ℕ) (new : S)
-    → StopsAt step terminated n q asked bs old k new → k < length bs → (asks_at q asked bs k ≡ true) × (terminated new ≡ true)
+-- of ground text: a character is printed, or a control is executed
+abbrev pub IsCharacter : Event → Type 0
+IsCharacter (Print c) = Unit {0}
+IsCharacter (Execute b) = Unit {0}
+IsCharacter _ = ⊥
 
--- at each point at which the performer was asked before that, it was not terminated
-abbrev pub PassesWhereAsked : {S : Type 0} → (S → Event → S → Type 0) → (S → Bool) → Type 0
-PassesWhereAsked {S} step terminated = (n : ℕ) (q : Pending) (asked : Bool) (bs : List ℕ) (old : S) (k : ℕ) (new : S) (m : ℕ)
-    → StopsAt step terminated n q asked bs old k new → m < k → asks_at q asked bs m ≡ true → PassedBy step terminated n q bs m old k new
+-- a byte of ground text adds nothing else
+abbrev pub TellsCharacters : Type 0
+TellsCharacters = (n : ℕ) (past : List ℕ) (b : ℕ) → ends_in_text (past ++ b ∷ []) ≡ true → All IsCharacter (added n past (b ∷ []))
 
--- the performer is asked after each byte of a sequence
-abbrev pub AsksInSequences : Type 0
-AsksInSequences = (q : Pending) (asked : Bool) (bs : List ℕ) (m : ℕ) → m < length bs → is_text (after_bytes q (take m bs)) ≡ false → asks_at q asked bs (m + 1) ≡ true
+-- the points at which the performer is asked, byte by byte and in the words of the whole texts
+abbrev pub AsksAsSaid : Type 0
+AsksAsSaid = (past piece : List ℕ) (m : ℕ) → m ≤ length piece → asks_at (pending past) true piece m ≡ asks_after past piece m
+
+-- and where it stops
+abbrev pub StopsAsSaid : {S : Type 0} → (S → Event → S → Type 0) → (S → Bool) → Type 0
+StopsAsSaid {S} step terminated = (n : ℕ) (past piece : List ℕ) (old : S) (k : ℕ) (new : S)
+    → StopsAt step terminated n (pending past) true piece old k new → Stops step terminated n past piece old k new

@@ -5,6 +5,8 @@ pub mod Classes
 pub mod Text
 pub mod Header
 pub mod Shapes
+pub mod Added
+pub mod GroundText
 pub mod Pending
 pub mod Store
 pub mod Reading
@@ -16,3 +18,4 @@ pub mod Laws
 pub mod Told
 pub mod Runs
 pub mod Steps
+pub mod Ground

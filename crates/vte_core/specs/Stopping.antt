@@ -1,8 +1,10 @@
 -- Where `advance_until_terminated` stops.
-use Rattle.std.specs.Prelude.{◌≡◌, ℕ, zero, suc, take, drop, Bool, true, false, not, ◌&&◌, List, [], ◌∷◌}
+use Rattle.std.specs.Prelude.{◌≡◌, ◌<◌, ◌≤◌, ◌==◌, ℕ, zero, suc, take, drop, length, Bool, true, false, not, ◌&&◌, ◌||◌, List, [], ◌∷◌, ◌++◌}
 use Rattle.std.specs.Bool.{MatchBool}
 use Rattle.vte_core.specs.Event.{Event, Performs}
 use Rattle.vte_core.specs.Bytes.{is_esc}
+use Rattle.vte_core.specs.Added.{added}
+use Rattle.vte_core.specs.GroundText.{ends_in_text}
 use Rattle.vte_core.specs.Pending.{Pending, InText, InEscape, InCsi, InOsc, InHook, InDevice, InSwallowed, events_of_byte, after_byte, events_from, after_bytes}
 
 abbrev pub is_text : Pending → Bool
@@ -38,3 +40,27 @@ pub record PassedBy {S : Type 0} (step : S → Event → S → Type 0) (terminat
   pub before : Performs step old (events_from n q (take m bs)) mid
   pub goes_on : terminated mid ≡ false
   pub after : Performs step mid (events_from n (after_bytes q (take m bs)) (drop m (take k bs))) new
+
+-- a run of ground text goes up to the next ESC, or to the piece's end
+abbrev pub ends_run : List ℕ → Bool
+ends_run [] = true
+ends_run (b ∷ bs) = is_esc b
+
+-- Whether the performer is asked after the first m bytes of a piece: at its beginning, after each byte of a sequence,
+-- and at the end of each run of ground text.
+abbrev pub asks_after : List ℕ → List ℕ → ℕ → Bool
+asks_after past piece m = m == 0 || (not (ends_in_text (past ++ take m piece)) || ends_run (drop m piece))
+
+-- of the k bytes read the performer has gone through the first m, was not terminated then, and has gone through the others
+pub record Passed {S : Type 0} (step : S → Event → S → Type 0) (terminated : S → Bool) (n : ℕ) (past piece : List ℕ) (m : ℕ) (old : S) (k : ℕ) (new : S) : Type 0 where
+  pub mid : S
+  pub before : Performs step old (added n past (take m piece)) mid
+  pub goes_on : terminated mid ≡ false
+  pub after : Performs step mid (added n (past ++ take m piece) (drop m (take k piece))) new
+
+-- k bytes of the piece are read: up to the first point at which the performer is asked and says that it is terminated, or all
+pub record Stops {S : Type 0} (step : S → Event → S → Type 0) (terminated : S → Bool) (n : ℕ) (past piece : List ℕ) (old : S) (k : ℕ) (new : S) : Type 0 where
+  pub within : k ≤ length piece
+  pub performed : Performs step old (added n past (take k piece)) new
+  pub asked : k < length piece → (asks_after past piece k ≡ true) × (terminated new ≡ true)
+  pub passed : (m : ℕ) → m < k → asks_after past piece m ≡ true → Passed step terminated n past piece m old k new

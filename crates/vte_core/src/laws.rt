@@ -1,12 +1,15 @@
 //! Laws of the events of a byte stream, each as the contract of a function that does nothing.
 
-ghost use Rattle.vte_core.specs.Laws.{KeepsBeginnings, CutsBeforeEsc, CutsAfter, AddsFitting, StopsWhereAsked, PassesWhereAsked, AsksInSequences};
+ghost use Rattle.vte_core.specs.Laws.{KeepsBeginnings, AddsInOrder, CutsBeforeEsc, CutsAfter, AddsFitting, TellsCharacters, AsksAsSaid, StopsAsSaid};
+ghost use Rattle.vte_core.specs.Ground.{AddsAsAlone, NothingIsAtGround, GroundJoins, EscLeavesGround, LeadsToGround, EscapesEndAtGround, ControlSequencesEndAtGround, TextsEndAtGround, NothingPendingIsGround};
 
 use crate::Perform;
 
-/// The events of a beginning of a stream are a beginning of the stream's events.
+/// The events of a beginning of a stream are a beginning of the stream's events; pieces that follow one another add
+/// their events one after the other.
 pub fn beginnings()
-    ensures { KeepsBeginnings }
+    ensures kept { KeepsBeginnings }
+    ensures in_order { AddsInOrder }
 {}
 
 /// A stream may be cut before each ESC: `s ESC t` has the events of `s ESC`, then those of `ESC t`.
@@ -26,10 +29,37 @@ pub fn osc_fits()
     ensures { AddsFitting }
 {}
 
-/// `Parser::advance_until_terminated` asks after each byte of a sequence; where it stops before the last byte it was
-/// asking, and wherever else it asked the performer was not terminated.
+/// A byte of ground text prints characters or executes controls, and does nothing else. Ground text stands before the
+/// first ESC, and after the shape that each ESC begins.
+pub fn ground_text()
+    ensures { TellsCharacters }
+{}
+
+/// `Parser::advance_until_terminated` asks its performer before the first byte of a piece, after each byte that isn't
+/// ground text, and after each run of ground text, which goes up to the next ESC or to the piece's end; never inside a
+/// run. It stops at the first of these points at which the performer is terminated.
 pub fn asking_points<P: Perform>()
-    ensures stops { StopsWhereAsked P.step P.is_terminated }
-    ensures passes { PassesWhereAsked P.step P.is_terminated }
-    ensures sequences { AsksInSequences }
+    ensures asked { AsksAsSaid }
+    ensures stops { StopsAsSaid P.step P.is_terminated }
+{}
+
+/// A parser is at ground where what follows is read as if it stood alone: before the first byte, after bytes that end at
+/// ground behind others that do, after each CAN and each SUB, and where nothing is pending.
+pub fn at_ground()
+    ensures alone { AddsAsAlone }
+    ensures nothing { NothingIsAtGround }
+    ensures joined { GroundJoins }
+    ensures can { LeadsToGround 0x18 }
+    ensures sub { LeadsToGround 0x1A }
+    ensures pending { NothingPendingIsGround }
+{}
+
+/// Sequences and texts that end at ground: an escape with its intermediates and its final byte (not one that begins a
+/// longer sequence), a control sequence with its header and its final byte, and well-formed text without ESC. What begins
+/// with ESC and ends at ground does so after any bytes.
+pub fn ends_at_ground()
+    ensures escapes { EscapesEndAtGround }
+    ensures sequences { ControlSequencesEndAtGround }
+    ensures texts { TextsEndAtGround }
+    ensures anew { EscLeavesGround }
 {}

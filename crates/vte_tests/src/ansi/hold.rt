@@ -1,8 +1,9 @@
 //! Synchronized updates.
 
-use super::log::{Log, UntilCleared};
+use super::log::{Flagged, Log, UntilCleared};
 use super::table::calls;
 use std::alloc::Global;
+use std::cell::Cell;
 use std::process::Abort;
 use std::test::Fail;
 use vte::ansi::{Handler, Processor, Timeout};
@@ -135,6 +136,23 @@ fn sets_the_timeout_again(rt: HostRuntime) -> Result<(), Fail> {
         (sets, processor.sync_timeout().pending),
         ([1, 1, 2, 3, 3], true)
     );
+    Ok(())
+}
+
+/// Held bytes are parsed before later ones, also where the timeout isn't pending any more.
+#[test]
+fn parses_held_bytes_first(rt: HostRuntime) -> Result<(), Fail> {
+    let pending = Cell::new(false);
+    let mut log = Log::new(&rt);
+    let mut processor = Processor::new(rt.alloc(), Flagged(&pending))?;
+    processor.advance(&mut log, b"\x1b[?2026hab");
+    let held = processor.sync_bytes_count();
+    pending.set(false);
+    processor.advance(&mut log, b"cd");
+    let all =
+        "SetPrivateMode(Named(SyncUpdate)) Input('a') Input('b') UnsetPrivateMode(Named(SyncUpdate)) Input('c') Input('d') ";
+    let after = processor.sync_bytes_count();
+    assert_eq!(rt; (held, after, log.text.as_str()), (2, 0, all));
     Ok(())
 }
 

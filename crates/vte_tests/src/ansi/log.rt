@@ -2,6 +2,7 @@
 
 ghost use Rattle.std.specs.Prelude.{⊤};
 
+use std::cell::Cell;
 use std::time::Duration;
 use vte::ansi::{Call, Clock, Handler, Timeout};
 
@@ -78,6 +79,30 @@ impl Timeout for UntilCleared {
 
     fn pending_timeout(&self) -> bool {
         self.pending
+    }
+}
+
+/// A timeout that is pending while the flag beside it is up.
+#[derive(Drop)]
+pub struct Flagged<'a>(pub &'a Cell<bool>);
+
+impl<'a> Timeout for Flagged<'a> {
+    ghost sets = { λ _ _ _. ⊤ };
+
+    ghost clears = { λ _ _. ⊤ };
+
+    ghost answers = { λ _ _. ⊤ };
+
+    fn set_timeout(&mut self, _duration: Duration) {
+        self.0.set(true);
+    }
+
+    fn clear_timeout(&mut self) {
+        self.0.set(false);
+    }
+
+    fn pending_timeout(&self) -> bool {
+        self.0.get()
     }
 }
 

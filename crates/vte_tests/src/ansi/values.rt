@@ -1,13 +1,12 @@
 //! Values.
 
 use super::log::Still;
-use bitflags::Flags;
 use std::str::FromStr;
 use std::test::Fail;
 use std::time::Duration;
 use vte::ansi::{
-    C0, KeyboardModes, Mode, NamedColor, NamedMode, NamedPrivateMode, PrivateMode, Rgb,
-    StandardCharset, StdSyncHandler, Timeout,
+    C0, Flags, KeyboardModes, Mode, NamedColor, NamedMode, NamedPrivateMode, OutOfMemory,
+    PrivateMode, Rgb, StandardCharset, StdSyncHandler, Timeout,
 };
 
 #[test]
@@ -32,8 +31,8 @@ fn texts_of_colors(rt: HostRuntime) -> Result<(), Fail> {
         g: 11,
         b: 12,
     };
-    let text = format!(in rt.alloc(); "{color}")?;
-    assert_eq!(rt; text.as_str(), "#0a0b0c");
+    let text = format!(in rt.alloc(); "{color}, {OutOfMemory}")?;
+    assert_eq!(rt; text.as_str(), "#0a0b0c, out of memory");
     for (text, want) in [
         ("#0a0b0c", Ok(color)),
         ("0x0A0b0c", Ok(color)),

@@ -1,4 +1,4 @@
-use Rattle.std.proofs.Common.{◌≡◌, ℕ, ◌<◌, arith}
+use Rattle.std.proofs.Common.{◌<◌, arith}
 use Rattle.vte.proofs.color.scale.Goals.{in-1, in-2, in-3, in-4}
 use Rattle.vte.proofs.color.scale.Goals as goal
 

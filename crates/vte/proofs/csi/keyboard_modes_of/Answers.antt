@@ -1,7 +1,6 @@
 use Rattle.std.proofs.Common.{◌≡◌, ℕ, ◌%◌, ◌∙◌, ap, arith, bit_and}
 use Rattle.std.proofs.lemmas.Nat.{and_mask}
 use Rattle.bitflags.proofs.OnLiterals.{bitflags_on_literals}
-use Rattle.vte_types.specs.declared.keyboard.KeyboardModes.{KeyboardModes}
 use Rattle.vte.proofs.csi.keyboard_modes_of.Goals as goal
 
 low_bits : (n : ℕ) → bit_and (bit_and n 255) 31 ≡ n % 32

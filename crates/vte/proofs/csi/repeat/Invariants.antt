@@ -1,4 +1,4 @@
-use Rattle.std.proofs.Common.{◌≡◌, ◌-◌, replicate}
+use Rattle.std.proofs.Common.{◌-◌, replicate}
 use Rattle.vte_types.specs.Call.{Calls, input}
 use Rattle.vte.proofs.csi.repeat.Given as goal
 

@@ -1,4 +1,4 @@
-use Rattle.std.proofs.Common.{◌≡◌, length, map}
+use Rattle.std.proofs.Common.{length, map}
 use Rattle.vte_types.specs.Call.{Calls, set_mode}
 use Rattle.vte_types.specs.Mode.{mode_of}
 use Rattle.vte.specs.Sgr.{first}

@@ -1,4 +1,4 @@
-use Rattle.std.proofs.Common.{◌≡◌, ◌==◌, ◌+◌, find, length, nat_eq, codes, Option, Some, None, ℕ, List, Bor}
+use Rattle.std.proofs.Common.{◌≡◌, ◌+◌, find, length, nat_eq, codes, Option, Some, None, ℕ, List, Bor}
 use Rattle.std.specs.List.{starts_with}
 use Rattle.std.specs.Option.{option_map}
 use Rattle.vte.specs.Split.{parts_after}

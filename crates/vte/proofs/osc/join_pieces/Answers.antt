@@ -1,4 +1,4 @@
-use Rattle.std.proofs.Common.{◌≡◌, ◌≤◌, ◌∙◌, ◌∷◌, ◌++◌, sym, ap, map, length, length-append, arith}
+use Rattle.std.proofs.Common.{◌≤◌, ◌∙◌, ◌∷◌, ◌++◌, sym, ap, length, length-append, arith}
 use Rattle.std.specs.List.{flat_map}
 use Rattle.vte.specs.Osc.{text_or_empty}
 use Rattle.vte.proofs.Joins.{join-texts}

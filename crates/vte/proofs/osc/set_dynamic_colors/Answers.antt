@@ -1,6 +1,6 @@
-use Rattle.std.proofs.Common.{◌≡◌, ◌∙◌, ◌+◌, ◌∷◌, ℕ, List, Some, None, true, false, nat_lt, if◌then◌else◌, arith, refl, inl, inr}
+use Rattle.std.proofs.Common.{◌≡◌, ◌+◌, ℕ, List, Some, None, false, nat_lt, if◌then◌else◌, arith, inl, inr}
 use Rattle.std.proofs.lemmas.Bool.{cases_Bool}
-use Rattle.vte.specs.Osc.{two_digits, colour_calls, dynamic_calls}
+use Rattle.vte.specs.Osc.{two_digits, colour_calls}
 use Rattle.vte.proofs.RunLemmas.{Calls-append}
 use Rattle.vte.proofs.osc.set_dynamic_colors.Goals as goal
 

@@ -1,4 +1,4 @@
-use Rattle.std.proofs.Common.{◌≡◌, ◌∙◌, ◌∷◌, [], sym, ap, List, ℕ, Option, Some, None, length, map, option_map, ◌==◌, true, false, arith, refl}
+use Rattle.std.proofs.Common.{◌≡◌, ◌∙◌, ◌∷◌, [], sym, List, ℕ, Some, None, length, map, option_map, ◌==◌, true, false, refl}
 use Rattle.std.specs.List.{join_with_byte}
 use Rattle.vte_types.specs.Call as call
 use Rattle.vte_types.specs.Call.{Link}

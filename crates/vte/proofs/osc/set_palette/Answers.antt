@@ -1,6 +1,3 @@
-use Rattle.std.proofs.Common.{◌≡◌, ◌∙◌, ◌++◌, ◌∷◌, sym, codes, List, ℕ, refl}
-use Rattle.std.specs.Fmt.{decimal}
-use Rattle.vte.specs.Osc.{colour_calls, pairs_calls}
 use Rattle.vte.proofs.RunLemmas.{Calls-append}
 use Rattle.vte.proofs.osc.set_palette.Goals as goal
 

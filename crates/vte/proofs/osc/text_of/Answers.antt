@@ -1,4 +1,4 @@
-use Rattle.std.proofs.Common.{◌≡◌, ap, Some, refl}
+use Rattle.std.proofs.Common.{ap, Some, refl}
 use Rattle.std.proofs.lemmas.Str.{is_utf8-from_IsUtf8, IsUtf8-from_is_utf8}
 use Rattle.std.proofs.lemmas.Bool.{false_from_ne_true}
 use Rattle.vte.proofs.osc.text_of.Goals as goal

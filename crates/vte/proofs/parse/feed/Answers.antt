@@ -1,7 +1,4 @@
-use Rattle.std.proofs.Common.{◌≡◌, List, ℕ, subst}
-use Rattle.vte_core.specs.Event.{Event, Performs}
-use Rattle.vte_core.specs.Pending.{pending}
-use Rattle.vte_core.proofs.LawLemmas.{from-fits}
+use Rattle.vte_core.proofs.AddedLemmas.{added-fits}
 use Rattle.vte_core.proofs.Telling.{same_events}
 use Rattle.vte.specs.Stretch.{added}
 use Rattle.vte.proofs.RunLemmas.{performs_all, keeps_all, told_is}
@@ -18,4 +15,4 @@ returns-clause-performed g c past stands =
     let told = c.advance.ensures.told in
     let is = told_is past c.args.bytes.now told.told (told.added past stands) in
     performs_all g.H.Handler.step g.T.Timeout.sets g.T.Timeout.clears (λ p. p.handler.now) (λ p. p.state.now.preceding_char) (λ p. p.state.now.timeout) (λ p. p.terminated) _ (λ p e q s. s.0) _
-    (added past c.args.bytes.now) _ (from-fits 1024 (pending past) c.args.bytes.now) (same_events _ _ _ told.told (added past c.args.bytes.now) is told.performed)
+    (added past c.args.bytes.now) _ (added-fits 1024 past c.args.bytes.now) (same_events _ _ _ told.told (added past c.args.bytes.now) is told.performed)

@@ -1,8 +1,6 @@
-use Rattle.std.proofs.Common.{◌≡◌, ◌∙◌, ◌<◌, ap, sym, List, [], ℕ, take, true, false, refl, arith}
-use Rattle.vte_core.specs.Event.{Event, Performs}
-use Rattle.vte_core.specs.Pending.{pending}
-use Rattle.vte_core.proofs.LawLemmas.{from-fits}
-use Rattle.vte_core.proofs.StopLemmas.{stops-passed}
+use Rattle.std.proofs.Common.{◌≡◌, ◌∙◌, ◌<◌, ap, sym, [], ℕ, take, true, false, refl, arith}
+use Rattle.vte_core.proofs.AddedLemmas.{added-fits}
+use Rattle.vte_core.proofs.StopLemmas.{stops-said}
 use Rattle.vte_core.proofs.Telling.{same_events}
 use Rattle.vte.specs.Stretch.{added}
 use Rattle.vte.proofs.RunLemmas.{performs_all, keeps_all, told_is}
@@ -20,7 +18,7 @@ returns-clause-performed g c past stands =
     let bytes = take c.advance_until_terminated.result c.args.bytes.now in
     let is = told_is past bytes told.told (told.added past stands) in
     performs_all g.H.Handler.step g.T.Timeout.sets g.T.Timeout.clears (λ p. p.handler.now) (λ p. p.state.now.preceding_char) (λ p. p.state.now.timeout) (λ p. p.terminated) _ (λ p e q s. s.0) _
-    (added past bytes) _ (from-fits 1024 (pending past) bytes) (same_events _ _ _ told.told (added past bytes) is told.performed)
+    (added past bytes) _ (added-fits 1024 past bytes) (same_events _ _ _ told.told (added past bytes) is told.performed)
 
 positive : (n : ℕ) → (n ≡ 0 → ⊥) → 0 < n
 positive n h = omega (arith, h)
@@ -37,8 +35,9 @@ returns-clause-some g c fresh ended =
 
 pub returns-clause-first : goal.returns-clause-first
 returns-clause-first g c past stands fresh m below asks =
-    let by = stops-passed _ _ 1024 (pending past) _ c.args.bytes.now _ _ _ m (c.advance_until_terminated.ensures.stops past stands) below asks in
+    let stops = stops-said _ _ 1024 past c.args.bytes.now _ _ _ (c.advance_until_terminated.ensures.stops past stands) in
+    let by = stops.passed m below asks in
     let run = performs_all g.H.Handler.step g.T.Timeout.sets g.T.Timeout.clears (λ p. p.handler.now) (λ p. p.state.now.preceding_char) (λ p. p.state.now.timeout) (λ p. p.terminated) _ (λ p e q s. s.0) _
-    (added past (take m c.args.bytes.now)) _ (from-fits 1024 (pending past) (take m c.args.bytes.now)) by.before in
+    (added past (take m c.args.bytes.now)) _ (added-fits 1024 past (take m c.args.bytes.now)) by.before in
     let ends = run.ends in
     rw fresh at (sym ends ∙ by.goes_on)

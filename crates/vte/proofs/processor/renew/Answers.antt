@@ -1,4 +1,4 @@
-use Rattle.std.proofs.Common.{◌∷◌, [], refl, rules}
+use Rattle.std.proofs.Common.{◌∷◌, [], refl}
 use Rattle.vte.specs.Timeout.{Sets}
 use Rattle.vte.specs.Hold.{again, quiet}
 use Rattle.vte.proofs.processor.renew.Goals as goal

@@ -1,4 +1,4 @@
-use Rattle.std.proofs.Common.{◌≡◌, length, map}
+use Rattle.std.proofs.Common.{length, map}
 use Rattle.vte_types.specs.Call.{Calls, terminal_attribute}
 use Rattle.vte.specs.Sgr.{attributes, nothing}
 use Rattle.vte.proofs.sgr.sgr.Given as goal

@@ -1,11 +1,8 @@
-use Rattle.vte_core.proofs.StopLemmas.{stops-asked, stops-passed, asks-after}
+use Rattle.vte_core.proofs.StopLemmas.{asks-said, stops-said}
 use Rattle.vte_core.proofs.laws.asking_points.Goals as goal
 
+pub returns-clause-asked : goal.returns-clause-asked
+returns-clause-asked g c = asks-said
+
 pub returns-clause-stops : goal.returns-clause-stops
-returns-clause-stops g c = stops-asked g.P.Perform.step g.P.Perform.is_terminated
-
-pub returns-clause-passes : goal.returns-clause-passes
-returns-clause-passes g c = stops-passed g.P.Perform.step g.P.Perform.is_terminated
-
-pub returns-clause-sequences : goal.returns-clause-sequences
-returns-clause-sequences g c = asks-after
+returns-clause-stops g c = stops-said g.P.Perform.step g.P.Perform.is_terminated

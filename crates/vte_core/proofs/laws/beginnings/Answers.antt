@@ -1,6 +1,8 @@
-use Rattle.vte_core.specs.Pending.{pending, events_from}
-use Rattle.vte_core.proofs.Machine.{events-past}
+use Rattle.vte_core.proofs.AddedLemmas.{events-added, added-append}
 use Rattle.vte_core.proofs.laws.beginnings.Goals as goal
 
-pub returns : goal.returns
-returns c = λ n s t. (events_from n (pending s) t, events-past n s t)
+pub returns-clause-kept : goal.returns-clause-kept
+returns-clause-kept c = events-added
+
+pub returns-clause-in_order : goal.returns-clause-in_order
+returns-clause-in_order c = added-append

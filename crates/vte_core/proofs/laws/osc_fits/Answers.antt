@@ -1,4 +1,4 @@
-use Rattle.vte_core.proofs.LawLemmas.{added-fits}
+use Rattle.vte_core.proofs.AddedLemmas.{added-fits}
 use Rattle.vte_core.proofs.laws.osc_fits.Goals as goal
 
 pub returns : goal.returns

@@ -1,6 +1,4 @@
-use Rattle.std.proofs.Common.{◌≡◌, drop, ap, sym, List, ℕ, Option}
 use Rattle.vte.specs.Hold.{held_of}
-use Rattle.vte.specs.Standing.{StandsAt, Advanced}
 use Rattle.vte.proofs.TurnLemmas.{goes_on_at_start, goes_on_more, advanced_at_end}
 use Rattle.vte.proofs.ExactLemmas.{taken}
 use Rattle.vte.proofs.processor.Processor.advance.Goals as goal

@@ -1,8 +1,6 @@
-use Rattle.std.proofs.Common.{◌≡◌, ◌≤◌, ◌<◌, ◌∙◌, sym, ap, subst, List, [], ℕ, Bool, true, false, length, take, ◌++◌, arith}
-use Rattle.std.specs.List.{list_any}
+use Rattle.std.proofs.Common.{◌≡◌, ◌∙◌, sym, [], true, false, take, arith}
 use Rattle.std.proofs.lemmas.List.{take_all}
-use Rattle.vte.specs.Csi.{opens_group}
-use Rattle.vte.specs.Timeout.{Tick, Ticked, sets_of}
+use Rattle.vte.specs.Timeout.{sets_of}
 use Rattle.vte.specs.Performed.{openers_of_all}
 use Rattle.vte.specs.Stretch.{added, opens_in}
 use Rattle.vte.proofs.AskLemmas.{none_before}

@@ -1,6 +1,6 @@
-use Rattle.std.proofs.Common.{◌≡◌, ◌∙◌, ◌++◌, ◌∷◌, [], List, ℕ, refl}
+use Rattle.std.proofs.Common.{◌≡◌, ◌∙◌, ◌∷◌, [], refl}
 use Rattle.vte.specs.Timeout.{Clears}
-use Rattle.vte.specs.Stretch.{added, ticks_from}
+use Rattle.vte.specs.Stretch.{ticks_from}
 use Rattle.vte.proofs.RunLemmas.{Ticked-append}
 use Rattle.vte.proofs.HoldLemmas.{printed_after, calls_after, closed_calls}
 use Rattle.vte.proofs.MarkLemmas.{none_in_empty}

@@ -1,5 +1,5 @@
-use Rattle.std.proofs.Common.{◌≡◌, ◌<◌, ◌+◌, ◌-◌, ◌∙◌, sym, List, ℕ, [], ◌++◌, length, length-append, ap, arith, take, drop, vec_len, refl, Some, None, subst}
-use Rattle.vte.specs.Hold.{keeps, replays, closes, limit, unseen, Renewed, Renews}
+use Rattle.std.proofs.Common.{◌≡◌, ◌∙◌, [], ◌++◌, length, ap, arith, refl, Some}
+use Rattle.vte.specs.Hold.{keeps, replays, closes, unseen}
 use Rattle.vte.proofs.MarkLemmas.{none_from_seen}
 use Rattle.vte.proofs.RunLemmas.{Ticked-append}
 use Rattle.vte.proofs.processor.Processor.hold.Goals as goal

@@ -1,4 +1,4 @@
-use Rattle.std.proofs.Common.{◌≡◌, ◌∙◌, ap, List, ℕ, take, drop}
+use Rattle.std.proofs.Common.{◌≡◌, ◌∙◌, ap, take, drop}
 use Rattle.vte.proofs.HoldLemmas.{printed_after, calls_after}
 use Rattle.vte.proofs.MarkLemmas.{none_after}
 use Rattle.vte.proofs.processor.Processor.release.Goals as goal

@@ -1,4 +1,3 @@
-use Rattle.std.proofs.Common.{◌++◌}
 use Rattle.vte.specs.Hold.{held_of}
 use Rattle.vte.specs.Stretch.{ticks_from}
 use Rattle.vte.proofs.SetLemmas.{cleared_last}

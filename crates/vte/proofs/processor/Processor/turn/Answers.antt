@@ -1,28 +1,42 @@
-use Rattle.std.proofs.Common.{◌≡◌, ◌<◌, ◌≤◌, ◌+◌, ◌∙◌, sym, List, ℕ, [], ◌++◌, Option, None, Some, length, length-append, ap, arith, true, false}
+use Rattle.std.proofs.Common.{◌≡◌, ◌<◌, ◌≤◌, ◌==◌, ◌+◌, ◌∙◌, sym, List, ℕ, [], ◌∷◌, ◌++◌, length, length-append, ap, arith, true, false, refl, Bool}
+use Rattle.std.proofs.lemmas.Bool.{eqb-true}
+use Rattle.std.proofs.lemmas.Bool.Decides.{nat_tests}
 use Rattle.vte.specs.Hold.{limit}
-use Rattle.vte.proofs.TurnLemmas.{match_option, unopened_advances, begun_goes_on, held_advances, after_full, goes_on_after_full}
+use Rattle.vte.specs.Advances.{IsEmptied}
+use Rattle.vte.proofs.TurnLemmas.{plain_turn, turn_after, held_advances}
 use Rattle.vte.proofs.processor.Processor.turn.Goals as goal
+use Rattle.vte.proofs.processor.Processor.turn.Goals.{then-pending_timeout+else-piece-len, else-pending_timeout+else-is_empty}
 
-pub returns-then-not-pending_timeout-clause-led : goal.returns-then-not-pending_timeout-clause-led
-returns-then-not-pending_timeout-clause-led g c parsed held at =
-    let quiet = rw c.if-not-pending_timeout.true at c.pending_timeout.ensures in
-    match_option c.begin.result _ _ _ _
-    (λ u. unopened_advances g.T.Timeout.sets g.T.Timeout.clears g.T.Timeout.answers g.H.Handler.step false _ _ _ _ _ _ _ quiet u)
-    (λ n b. begun_goes_on g.T.Timeout.sets g.T.Timeout.clears g.T.Timeout.answers g.H.Handler.step _ _ _ _ n _ _ _ quiet b)
-    (c.begin.ensures.led parsed held at)
+no_bytes : (xs : List ℕ) → length xs ≡ 0 → xs ≡ []
+no_bytes [] h = refl
+no_bytes (x ∷ xs) h = absurd (omega (arith, h))
+
+positive : (n : ℕ) → (n == 0) ≡ false → 0 < n
+positive n h = grind (arith, nat_tests)
+
+pub returns-then-is_empty-clause-led : goal.returns-then-is_empty-clause-led
+returns-then-is_empty-clause-led g c parsed held at =
+    let plain = rw c.if-pending_timeout.false at c.pending_timeout.ensures in
+    let none = eqb-true _ 0 (sym c.is_empty.ensures ∙ c.if-is_empty.true) in
+    let empty : held ≡ [] = no_bytes held (omega (arith, ap length at.holds, c.args.self.now.held.ok.0, none)) in
+    plain_turn g.T.Timeout.sets g.T.Timeout.clears g.T.Timeout.answers g.H.Handler.step c.begin.result _ parsed held c.args.piece.now _ _ _ empty plain (c.begin.ensures.led parsed held at)
 
 pub returns-then-piece-len-clause-led : goal.returns-then-piece-len-clause-led
 returns-then-piece-len-clause-led g c parsed held at =
-    let pending = rw c.if-not-pending_timeout.false at c.pending_timeout.ensures in
+    let pending = rw c.if-pending_timeout.true at c.pending_timeout.ensures in
     let fits : length (held ++ c.args.piece.now) < limit = omega (arith, c.if-piece-len.true, c.len.ensures, length-append held c.args.piece.now, ap length at.holds, c.args.self.now.held.ok.0, c.args.self.now.bounded) in
     held_advances g.T.Timeout.sets g.T.Timeout.clears g.T.Timeout.answers g.H.Handler.step _ _ _ _ _ _ _ pending fits (c.hold.ensures parsed held at)
 
 pub returns-clause-led : goal.returns-clause-led
 returns-clause-led g c parsed held at =
-    let pending = rw c.if-not-pending_timeout.false at c.pending_timeout.ensures in
     let emptied = c.empty.ensures parsed held at.has_read at.printed at.holds in
-    let full : limit ≤ length (held ++ c.args.piece.now) = omega (arith, c.if-piece-len.false, c.len.ensures, length-append held c.args.piece.now, ap length at.holds, c.args.self.now.held.ok.0, c.args.self.now.bounded) in
-    match_option c.begin-2.result _ _ _ _
-    (λ u. after_full g.T.Timeout.sets g.T.Timeout.clears g.T.Timeout.answers g.H.Handler.step _ _ parsed held c.args.piece.now _ _ pending full emptied _ _ u)
-    (λ n b. goes_on_after_full g.T.Timeout.sets g.T.Timeout.clears g.T.Timeout.answers g.H.Handler.step _ _ parsed held c.args.piece.now _ _ pending full emptied _ _ n b)
+    let why : IsEmptied c.pending_timeout.result held c.args.piece.now = elim c.if-pending_timeout.branch [
+      | then-pending_timeout+else-piece-len w ↦
+          let full : limit ≤ length (held ++ c.args.piece.now) = omega (arith, w.if-piece-len.false, w.len.ensures, length-append held c.args.piece.now, ap length at.holds, c.args.self.now.held.ok.0, c.args.self.now.bounded) in
+          rw w.if-pending_timeout.true full
+      | else-pending_timeout+else-is_empty w ↦
+          let some : 0 < length held = omega (arith, positive _ (sym w.is_empty.ensures ∙ w.if-is_empty.false), ap length at.holds, c.args.self.now.held.ok.0) in
+          rw w.if-pending_timeout.false some
+    ] in
+    turn_after g.T.Timeout.sets g.T.Timeout.clears g.T.Timeout.answers g.H.Handler.step _ _ parsed held c.args.piece.now _ _ c.pending_timeout.result c.pending_timeout.ensures why emptied _ _ c.begin-2.result
     (c.begin-2.ensures.led (parsed ++ held) [] emptied.stands)

@@ -1,0 +1,95 @@
+-- Frames: updates that a start mark begins and an end mark ends, joined and given in pieces.
+use Rattle.std.specs.Prelude.{◌≡◌, ◌≢◌, ℕ, ◌<◌, ◌≤◌, false, List, [], ◌∷◌, ◌++◌, Option, None, Some, map, take, length}
+use Rattle.std.specs.List.{All, concat, list_any}
+use Rattle.vte_core.specs.Shapes.{events}
+use Rattle.vte_core.specs.Ground.{AtGround}
+use Rattle.vte_types.specs.Call.{Call, set_private_mode}
+use Rattle.vte_types.specs.declared.mode.PrivateMode.TheVariants.{Named}
+use Rattle.vte_types.specs.declared.mode.NamedPrivateMode.TheVariants.{SyncUpdate}
+use Rattle.vte.specs.Table.{opens}
+use Rattle.vte.specs.Timeout.{Tick}
+use Rattle.vte.specs.Marks.{start_mark, end_mark}
+use Rattle.vte.specs.Stretch.{calls_from, opens_in, OpensAt}
+use Rattle.vte.specs.Hold.{limit, closing, held_of, Takes}
+use Rattle.vte.specs.Moves.{Move, Gives, Stops, given}
+
+-- the marks around a body: an end mark stands at the end only, and no event of the body opens an update
+pub record IsFrame (frame : List ℕ) : Type 0 where
+  pub body : List ℕ
+  pub is : frame ≡ start_mark ++ (body ++ end_mark)
+  pub ends_once : (before after : List ℕ) → body ++ end_mark ≡ before ++ (end_mark ++ after) → after ≡ []
+  pub opens_nothing : list_any opens (events 1024 body) ≡ false
+
+-- from a parsed text and a hold the moves lead to others, whatever calls and settings of the timeout they make
+pub data Leads : List Move → List ℕ → Option (List ℕ) → List ℕ → Option (List ℕ) → Type 0 where
+  ends : (parsed : List ℕ) (hold : Option (List ℕ)) → Leads [] parsed hold parsed hold
+  gives : (piece : List ℕ) (moves : List Move) (parsed : List ℕ) (hold : Option (List ℕ)) (mid : List ℕ) (mid_hold : Option (List ℕ))
+      (calls : List Call) (ticks : List Tick) (parsed' : List ℕ) (hold' : Option (List ℕ)) → Takes parsed hold piece mid mid_hold calls ticks
+      → Leads moves mid mid_hold parsed' hold' → Leads (Gives piece ∷ moves) parsed hold parsed' hold'
+  -- what was held is parsed, and no update is open
+  stops : (moves : List Move) (parsed : List ℕ) (hold : Option (List ℕ)) (parsed' : List ℕ) (hold' : Option (List ℕ))
+      → Leads moves (parsed ++ held_of hold) None parsed' hold' → Leads (Stops ∷ moves) parsed hold parsed' hold'
+
+abbrev pub MovesFollow : Type 0
+MovesFollow = (moves more : List Move) (parsed : List ℕ) (hold : Option (List ℕ)) (mid : List ℕ) (mid_hold : Option (List ℕ)) (parsed' : List ℕ) (hold' : Option (List ℕ))
+    → Leads moves parsed hold mid mid_hold → Leads more mid mid_hold parsed' hold' → Leads (moves ++ more) parsed hold parsed' hold'
+
+-- whole frames are parsed, in whatever pieces they come and wherever the update is stopped by hand
+abbrev pub WholeFramesAreParsed : Type 0
+WholeFramesAreParsed = (frames : List (List ℕ)) (moves : List Move) (past parsed : List ℕ) (hold : Option (List ℕ))
+    → All IsFrame frames → given moves ≡ concat frames → Leads moves past None parsed hold → (parsed ≡ past ++ concat frames) × (hold ≡ None)
+
+-- the bytes are less than the next frame
+abbrev pub IsPart : List ℕ → List (List ℕ) → Type 0
+IsPart part [] = part ≡ []
+IsPart part (frame ∷ frames) = (left : List ℕ) × (frame ≡ part ++ left) × (left ≢ [])
+
+-- whole bytes, and part of a frame, were given: what is parsed and held
+pub data Rests (whole part parsed : List ℕ) (hold : Option (List ℕ)) : Type 0 where
+  -- less than the start mark came, and no update is open
+  closed : length part < 8 → parsed ≡ whole ++ part → hold ≡ None → Rests whole part parsed hold
+  -- the start mark was parsed, and the rest is held
+  opened : (held : List ℕ) → part ≡ start_mark ++ held → parsed ≡ whole ++ start_mark → hold ≡ Some held → Rests whole part parsed hold
+  -- the start mark is held, and the rest with it
+  kept : 8 ≤ length part → parsed ≡ whole → hold ≡ Some part → Rests whole part parsed hold
+
+-- of the frames those that were given whole are parsed, and of the next one at most its start mark
+pub record IsUntorn (frames : List (List ℕ)) (past bytes parsed : List ℕ) (hold : Option (List ℕ)) : Type 0 where
+  pub whole : List (List ℕ)
+  pub rest : List (List ℕ)
+  pub part : List ℕ
+  pub frames_are : frames ≡ whole ++ rest
+  pub bytes_are : bytes ≡ concat whole ++ part
+  pub is_part : IsPart part rest
+  pub rests : Rests (past ++ concat whole) part parsed hold
+
+-- frames below the hold's limit are never torn, in whatever pieces the beginning of them comes
+abbrev pub FramesAreNeverTorn : Type 0
+FramesAreNeverTorn = (frames pieces : List (List ℕ)) (beyond past parsed : List ℕ) (hold : Option (List ℕ))
+    → All IsFrame frames → All (λ frame. length frame < limit) frames → concat pieces ++ beyond ≡ concat frames
+    → Leads (map Gives pieces) past None parsed hold → IsUntorn frames past (concat pieces) parsed hold
+
+-- so what is parsed beyond whole frames is a beginning of the start mark
+abbrev pub OnlyAMarkIsBegun : Type 0
+OnlyAMarkIsBegun = (whole part parsed : List ℕ) (hold : Option (List ℕ)) (rest : List (List ℕ)) → All IsFrame rest → IsPart part rest
+    → Rests whole part parsed hold → (count : ℕ) × (count ≤ 8) × (parsed ≡ whole ++ take count start_mark)
+
+-- whatever came before, a start mark opens an update at its last byte and at none before
+abbrev pub StartMarksOpen : Type 0
+StartMarksOpen = (past : List ℕ) → OpensAt past start_mark 8
+
+-- and it begins anew: after it nothing is unfinished
+abbrev pub MarksEndAtGround : Type 0
+MarksEndAtGround = (past : List ℕ) → AtGround 1024 (past ++ start_mark) × AtGround 1024 (past ++ end_mark)
+
+-- where nothing is unfinished, a begun start mark makes no call, and the whole one says that an update was opened
+abbrev pub StartMarksCall : Type 0
+StartMarksCall = (past : List ℕ) → AtGround 1024 past
+    → ((count : ℕ) → count < 8 → calls_from past (take count start_mark) ≡ []) × (calls_from past start_mark ≡ set_private_mode (Named SyncUpdate) ∷ [])
+
+abbrev pub EndMarksCall : Type 0
+EndMarksCall = (past : List ℕ) → (opens_in past end_mark ≡ false) × (AtGround 1024 past → calls_from past end_mark ≡ closing)
+
+-- nothing is unfinished after whole frames
+abbrev pub FramesEndAtGround : Type 0
+FramesEndAtGround = (frames : List (List ℕ)) (past : List ℕ) → All IsFrame frames → AtGround 1024 past → AtGround 1024 (past ++ concat frames)

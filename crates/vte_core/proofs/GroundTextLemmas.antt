@@ -1,0 +1,204 @@
+-- Ground text, byte by byte.
+use Rattle.std.proofs.Common.{◌≡◌, ℕ, Bool, true, false, not, ◌&&◌, ◌||◌, List, [], ◌∷◌, ◌++◌, ◌+◌, length, nat_lt, ◌==◌, if◌then◌else◌, refl, sym, ◌∙◌, ap, subst, inl, inr, append_assoc, append-nil}
+use Rattle.std.specs.List.{All, filter}
+use Rattle.std.specs.Int.{is_in_range}
+use Rattle.std.proofs.lemmas.List.Elements.{All-nil, All-cons}
+use Rattle.vte_core.specs.Event.{Event, Print}
+use Rattle.vte_core.specs.Bytes.{is_esc, is_abort, is_control, is_intermediate, is_header, ends_header, ends_escape, ends_osc, ends_device}
+use Rattle.vte_core.specs.Text.{char_len, first_bits, joined, char_event, malformed_event}
+use Rattle.vte_core.specs.Header.{is_well_formed}
+use Rattle.vte_core.specs.Shapes.{before, from, cut_at_esc}
+use Rattle.vte_core.specs.GroundText as ground
+use Rattle.vte_core.specs.GroundText.{past_device, past_introduced, past_final, text_of, last_text_of, has_bytes, ends_in_text}
+use Rattle.vte_core.specs.Pending.{Pending, InText, InEscape, InCsi, InOsc, InHook, InDevice, InSwallowed, kept, goes_on, begun, text_told, final_rest, byte_rest, events_of_byte, after_bytes, pending}
+use Rattle.vte_core.specs.Stopping.{is_text}
+use Rattle.vte_core.specs.Laws.{IsCharacter, TellsCharacters}
+use Rattle.vte_core.proofs.AddedLemmas.{added-from}
+use Rattle.vte_core.proofs.Characters.{bool_cases}
+
+-- the ground text that a segment ends in, read from what is pending
+abbrev pub text_on : Pending → List ℕ → List ℕ
+text_on (InText u) s = s
+text_on (InEscape is) s = past_final (is ++ filter is_intermediate (before ends_escape s)) (from ends_escape s)
+text_on (InCsi h) s = ground.past ends_header s
+text_on (InOsc d) s = ground.past ends_osc s
+text_on (InHook h) s = past_device (h ++ filter is_header (before ends_header s)) (from ends_header s)
+text_on InDevice s = ground.past ends_device s
+text_on InSwallowed s = ground.past is_abort s
+
+filter-kept : (keep : ℕ → Bool) (h : List ℕ) (b : ℕ) (s : List ℕ) → h ++ filter keep (b ∷ s) ≡ (h ++ kept keep b) ++ filter keep s
+filter-kept keep h b s =
+    elim (bool_cases (keep b)) [
+      | inl e ↦ rw e (sym (append_assoc h (b ∷ []) (filter keep s)))
+      | inr e ↦ rw e (ap (λ (k : List ℕ). k ++ filter keep s) (sym (append-nil h)))
+    ]
+
+-- a byte that ends the shape, and one that doesn't
+past-byte : (p : ℕ → Bool) (q : Pending) (b : ℕ) (s : List ℕ) → text_on q s ≡ ground.past p s → ground.past p (b ∷ s) ≡ text_on (if p b then InText [] else q) s
+past-byte p q b s same = elim (bool_cases (p b)) [ inl e ↦ rw e refl | inr e ↦ rw e (sym same) ]
+
+device-byte : (h : List ℕ) (b : ℕ) (s : List ℕ) → text_on (InHook h) (b ∷ s) ≡ text_on (byte_rest (InHook h) b) s
+device-byte h b s =
+    elim (bool_cases (ends_header b)) [
+      | inl e ↦ rw (e, append-nil h) (elim (bool_cases (is_abort b)) [
+        | inl a ↦ rw a refl
+        | inr a ↦ rw a (elim (bool_cases (is_well_formed h)) [ inl w ↦ rw w refl | inr w ↦ rw w refl ])
+      ])
+      | inr e ↦ rw e (rw (filter-kept is_header h b (before ends_header s)) refl)
+    ]
+
+introduced-byte : (is : List ℕ) (b : ℕ) (s : List ℕ) → past_introduced is b s ≡ text_on (final_rest is b) s
+introduced-byte is b s =
+    elim (bool_cases (length is == 0 && b == 0x5B)) [
+      | inl e ↦ rw e refl
+      | inr e ↦ rw e (elim (bool_cases (length is == 0 && b == 0x5D)) [
+        | inl f ↦ rw f refl
+        | inr f ↦ rw f (elim (bool_cases (length is == 0 && b == 0x50)) [
+          | inl g ↦ rw g refl
+          | inr g ↦ rw g (elim (bool_cases (length is == 0 && (b == 0x58 || (b == 0x5E || b == 0x5F)))) [
+            | inl h ↦ rw h refl
+            | inr h ↦ rw h refl
+          ])
+        ])
+      ])
+    ]
+
+escape-byte : (is : List ℕ) (b : ℕ) (s : List ℕ) → text_on (InEscape is) (b ∷ s) ≡ text_on (byte_rest (InEscape is) b) s
+escape-byte is b s =
+    elim (bool_cases (ends_escape b)) [
+      | inl e ↦ rw (e, append-nil is) (elim (bool_cases (is_abort b)) [ inl a ↦ rw a refl | inr a ↦ rw a (introduced-byte is b s) ])
+      | inr e ↦ rw e (rw (filter-kept is_intermediate is b (before ends_escape s)) refl)
+    ]
+
+-- a byte of a shape
+shape-byte : (q : Pending) (b : ℕ) (s : List ℕ) → is_text q ≡ false → text_on q (b ∷ s) ≡ text_on (byte_rest q b) s
+shape-byte (InText u) b s h = absurd (let no : true ≡ false = h in cc)
+shape-byte (InEscape is) b s h = escape-byte is b s
+shape-byte (InCsi x) b s h = past-byte ends_header (InCsi (x ++ kept is_header b)) b s refl
+shape-byte (InOsc d) b s h = past-byte ends_osc (InOsc (d ++ kept (λ c. not (is_control c)) b)) b s refl
+shape-byte (InHook x) b s h = device-byte x b s
+shape-byte InDevice b s h = past-byte ends_device InDevice b s refl
+shape-byte InSwallowed b s h = past-byte is_abort InSwallowed b s refl
+
+none_left : (q : Pending) → text_on q [] ≡ []
+none_left (InText u) = refl
+none_left (InEscape is) = refl
+none_left (InCsi h) = refl
+none_left (InOsc d) = refl
+none_left (InHook h) = refl
+none_left InDevice = refl
+none_left InSwallowed = refl
+
+last_of_shape : (q : Pending) (b : ℕ) → is_text q ≡ false → has_bytes (text_on q (b ∷ [])) ≡ is_text q
+last_of_shape q b h = ap has_bytes (shape-byte q b [] h ∙ none_left (byte_rest q b)) ∙ sym h
+
+-- the ground text that the bytes end in, read from what is pending
+abbrev pub last_on : Pending → List ℕ → List ℕ
+last_on q bs = last_text_of (text_on q (cut_at_esc bs).0) (cut_at_esc bs).1
+
+-- one byte more before a text that isn't empty
+grown_by : (c d : ℕ) (s : List ℕ) (ts : List (List ℕ)) → has_bytes (last_text_of (c ∷ d ∷ s) ts) ≡ has_bytes (last_text_of (d ∷ s) ts)
+grown_by c d s [] = refl
+grown_by c d s (t ∷ ts) = refl
+
+grown : (c : ℕ) (bs : List ℕ) (b : ℕ) → let r = cut_at_esc (bs ++ b ∷ []) in has_bytes (last_text_of (c ∷ r.0) r.1) ≡ has_bytes (last_text_of r.0 r.1)
+grown c [] b = elim (bool_cases (is_esc b)) [ inl e ↦ rw e refl | inr e ↦ rw e refl ]
+grown c (d ∷ bs) b =
+    elim (bool_cases (is_esc d)) [
+      | inl e ↦ rw e refl
+      | inr e ↦ rw e (grown_by c d (cut_at_esc (bs ++ b ∷ [])).0 (cut_at_esc (bs ++ b ∷ [])).1)
+    ]
+
+shape_more : (q : Pending) (c : ℕ) (bs : List ℕ) (b : ℕ) → is_text q ≡ false
+    → let r = cut_at_esc (bs ++ b ∷ []) in has_bytes (last_text_of (text_on q (c ∷ r.0)) r.1) ≡ has_bytes (last_on (byte_rest q c) (bs ++ b ∷ []))
+shape_more q c bs b h =
+    let r = cut_at_esc (bs ++ b ∷ []) in ap (λ (s : List ℕ). has_bytes (last_text_of s r.1)) (shape-byte q c r.0 h)
+
+byte_more : (q : Pending) (c : ℕ) (bs : List ℕ) (b : ℕ) → let r = cut_at_esc (bs ++ b ∷ []) in has_bytes (last_text_of (text_on q (c ∷ r.0)) r.1) ≡ has_bytes (last_on (byte_rest q c) (bs ++ b ∷ []))
+byte_more (InText u) c bs b = grown c bs b
+byte_more (InEscape is) c bs b = shape_more (InEscape is) c bs b refl
+byte_more (InCsi h) c bs b = shape_more (InCsi h) c bs b refl
+byte_more (InOsc d) c bs b = shape_more (InOsc d) c bs b refl
+byte_more (InHook h) c bs b = shape_more (InHook h) c bs b refl
+byte_more InDevice c bs b = shape_more InDevice c bs b refl
+byte_more InSwallowed c bs b = shape_more InSwallowed c bs b refl
+
+last_byte : (q : Pending) (b : ℕ) → has_bytes (text_on q (b ∷ [])) ≡ is_text q
+last_byte (InText u) b = refl
+last_byte (InEscape is) b = last_of_shape (InEscape is) b refl
+last_byte (InCsi h) b = last_of_shape (InCsi h) b refl
+last_byte (InOsc d) b = last_of_shape (InOsc d) b refl
+last_byte (InHook h) b = last_of_shape (InHook h) b refl
+last_byte InDevice b = last_of_shape InDevice b refl
+last_byte InSwallowed b = last_of_shape InSwallowed b refl
+
+and_true : (v : Bool) → (v && true) ≡ v
+and_true true = refl
+and_true false = refl
+
+and_false : (v : Bool) → (v && false) ≡ false
+and_false true = refl
+and_false false = refl
+
+-- the last byte is ground text where text was pending before it, and it isn't ESC
+ends_on : (q : Pending) (bs : List ℕ) (b : ℕ) → has_bytes (last_on q (bs ++ b ∷ [])) ≡ (is_text (after_bytes q bs) && not (is_esc b))
+ends_on q [] b =
+    elim (bool_cases (is_esc b)) [
+      | inl e ↦ rw e (sym (and_false (is_text q)))
+      | inr e ↦ rw e (last_byte q b ∙ sym (and_true (is_text q)))
+    ]
+ends_on q (c ∷ bs) b =
+    elim (bool_cases (is_esc c)) [
+      | inl e ↦ rw e (ends_on (InEscape []) bs b)
+      | inr e ↦ rw e (byte_more q c bs b ∙ ends_on (byte_rest q c) bs b)
+    ]
+
+pub ends_in_text-last : (past : List ℕ) (b : ℕ) → ends_in_text (past ++ b ∷ []) ≡ (is_text (pending past) && not (is_esc b))
+ends_in_text-last past b = ends_on (InText []) past b
+
+-- ground text prints characters and executes controls
+
+one : (e : Event) → IsCharacter e → All IsCharacter (e ∷ [])
+one e h = All-cons IsCharacter e [] h (All-nil IsCharacter)
+
+char_is : (c : ℕ) → IsCharacter (char_event c)
+char_is c = elim (bool_cases (nat_lt c 0x20 || is_in_range 0x80 0x9F c)) [ inl e ↦ rw e tt | inr e ↦ rw e tt ]
+
+malformed_is : (k a : ℕ) → IsCharacter (malformed_event k a)
+malformed_is k a = elim (bool_cases (k == 1 && is_in_range 0x80 0x9F a)) [ inl e ↦ rw e tt | inr e ↦ rw e tt ]
+
+begun_are : (b : ℕ) → All IsCharacter (begun b)
+begun_are b =
+    elim (bool_cases (char_len b == 1)) [
+      | inl e ↦ rw e (one (char_event (first_bits b)) (char_is (first_bits b)))
+      | inr e ↦ rw e (elim (bool_cases (char_len b == 0)) [
+        | inl f ↦ rw f (one (malformed_event 1 b) (malformed_is 1 b))
+        | inr f ↦ rw f (All-nil IsCharacter)
+      ])
+    ]
+
+told_are : (u : List ℕ) (b : ℕ) → All IsCharacter (text_told u b)
+told_are [] b = begun_are b
+told_are (a ∷ t) b =
+    elim (bool_cases (goes_on a t b)) [
+      | inl e ↦ rw e (elim (bool_cases (length t + 2 == char_len a)) [
+        | inl f ↦ rw f (one (char_event (joined (first_bits a) (t ++ b ∷ []))) (char_is (joined (first_bits a) (t ++ b ∷ []))))
+        | inr f ↦ rw f (All-nil IsCharacter)
+      ])
+      | inr e ↦ rw e (All-cons IsCharacter (Print 0xFFFD) (begun b) tt (begun_are b))
+    ]
+
+of_byte_are : (n : ℕ) (q : Pending) (b : ℕ) → (is_text q && not (is_esc b)) ≡ true → All IsCharacter (events_of_byte n q b)
+of_byte_are n (InText u) b h = elim (bool_cases (is_esc b)) [ inl e ↦ absurd (let no : false ≡ true = rw e at h in cc) | inr e ↦ rw e (told_are u b) ]
+of_byte_are n (InEscape is) b h = absurd (let no : false ≡ true = h in cc)
+of_byte_are n (InCsi x) b h = absurd (let no : false ≡ true = h in cc)
+of_byte_are n (InOsc s) b h = absurd (let no : false ≡ true = h in cc)
+of_byte_are n (InHook x) b h = absurd (let no : false ≡ true = h in cc)
+of_byte_are n InDevice b h = absurd (let no : false ≡ true = h in cc)
+of_byte_are n InSwallowed b h = absurd (let no : false ≡ true = h in cc)
+
+pub text-tells : TellsCharacters
+text-tells n past b h =
+    let q = pending past in
+    let told : All IsCharacter (events_of_byte n q b) = of_byte_are n q b (sym (ends_in_text-last past b) ∙ h) in
+    subst (λ (es : List Event). All IsCharacter es) (sym (added-from n past (b ∷ []) ∙ append-nil (events_of_byte n q b))) told
