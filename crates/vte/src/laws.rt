@@ -15,7 +15,7 @@ pub fn bytes_are_conserved<T: Timeout>()
     ensures any { ConservesUnderAny T.sets T.clears T.answers }
 {}
 
-/// While an update is open and its end mark hasn't come whole, nothing is parsed and no call is made.
+/// While an update is open, there is room and its end mark hasn't come whole, nothing is parsed and no call is made.
 pub fn updates_are_never_torn()
     ensures { NeverTears }
 {}
