@@ -166,15 +166,21 @@ module _ {T : Type 0} (sets : T → ℕ → T → Type 0) (clears : T → T → 
       let (ts, y, one) = advanced_parsed false t p h piece u q k cs a in
       let same : p ++ (h ++ (piece ++ given rest)) ≡ q ++ (k ++ given rest) =
       ap (λ s. p ++ s) (sym (append_assoc h piece (given rest))) ∙ (sym (append_assoc p (h ++ piece) (given rest))
-      ∙ (ap (λ s. s ++ given rest) (conserve_any sets clears answers false t p h piece u q k cs a) ∙ append_assoc q k (given rest))) in
-      (same ∙ all, ts ++ us, Ticked-append sets clears t u t' ts us y z,
-      counted _ _ _ _ _ (sym (clearings-append ts us)) (then_parsed p q p' (clearings ts) (clearings us) cs ds one more))
+      ∙ (ap (λ s. s ++ given rest) (conserve_any sets clears answers false t p h piece u q k cs a) ∙ append_assoc q k (given rest))) in (
+        same ∙ all,
+        ts ++ us,
+        Ticked-append sets clears t u t' ts us y z,
+        counted _ _ _ _ _ (sym (clearings-append ts us)) (then_parsed p q p' (clearings ts) (clearings us) cs ds one more),
+      )
   ran moves t p h t' p' h' calls (stops rest _ _ _ u _ _ _ ds y r) =
       let (all, us, z, more) = ran rest u (p ++ h) [] t' p' h' ds r in
       let closed = ticks_from p h ++ Clears ∷ [] in
-      let e : 1 + clearings us ≡ clearings (closed ++ us) = sym (clearings-append closed us ∙ ap (λ k. k + clearings us) (closed_clears p h)) in
-      (sym (append_assoc p h (given rest)) ∙ all, closed ++ us, Ticked-append sets clears t u t' closed us y z,
-      counted _ _ _ _ _ e (then_parsed p (p ++ h) p' 1 (clearings us) (calls_from p h ++ hold.closing) ds (closed_parsed p h) more))
+      let e : 1 + clearings us ≡ clearings (closed ++ us) = sym (clearings-append closed us ∙ ap (λ k. k + clearings us) (closed_clears p h)) in (
+        sym (append_assoc p h (given rest)) ∙ all,
+        closed ++ us,
+        Ticked-append sets clears t u t' closed us y z,
+        counted _ _ _ _ _ e (then_parsed p (p ++ h) p' 1 (clearings us) (calls_from p h ++ hold.closing) ds (closed_parsed p h) more),
+      )
 
   pub all_ran : (moves : List Move) (t t' : T) (parsed held : List ℕ) (calls : List Call) → Runs sets clears answers moves t [] [] t' parsed held calls
       → (given moves ≡ parsed ++ held) × (ticks : List Tick) × Ticked sets clears t ticks t' × WithClosings (calls_of_all None (events 1024 parsed)) (clearings ticks) calls
