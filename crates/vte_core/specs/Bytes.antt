@@ -1,6 +1,11 @@
 -- The classes of bytes.
-use Rattle.std.specs.Prelude.{ℕ, Bool, ◌&&◌, ◌||◌, not, nat_lt, ◌==◌}
+use Rattle.std.specs.Prelude.{ℕ, Bool, true, ◌&&◌, ◌||◌, not, nat_lt, ◌==◌, List, [], ◌∷◌}
 use Rattle.std.specs.Int.{is_in_range}
+
+-- each of the bytes passes the test
+abbrev pub each : (ℕ → Bool) → List ℕ → Bool
+each p [] = true
+each p (b ∷ bs) = p b && each p bs
 
 abbrev pub is_esc : ℕ → Bool
 is_esc b = b == 0x1B
@@ -36,6 +41,10 @@ ends_escape b = is_abort b || is_in_range 0x30 0x7E b
 
 abbrev pub ends_osc : ℕ → Bool
 ends_osc b = is_abort b || b == 0x07
+
+-- the data of an operating system command, and `;`
+abbrev pub is_data : ℕ → Bool
+is_data b = not (nat_lt b 0x20)
 
 abbrev pub ends_device : ℕ → Bool
 ends_device b = is_abort b || b == 0x9C

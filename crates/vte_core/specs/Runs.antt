@@ -1,9 +1,9 @@
 -- Ground text without ESC.
-use Rattle.std.specs.Prelude.{◌≡◌, ℕ, suc, Bool, true, false, not, ◌&&◌, ◌||◌, List, [], ◌∷◌, ◌++◌, length, nat_lt, ◌==◌, if◌then◌else◌}
+use Rattle.std.specs.Prelude.{◌≡◌, ℕ, suc, Bool, true, false, not, ◌&&◌, ◌||◌, List, [], ◌∷◌, ◌++◌, ◌⊎◌, length, nat_lt, ◌==◌, if◌then◌else◌}
 use Rattle.std.specs.Int.{is_in_range}
 use Rattle.vte_core.specs.Event.{Event, Performs}
 use Rattle.vte_core.specs.Bytes.{is_esc}
-use Rattle.vte_core.specs.Pending.{Pending, text_told, text_rest, after_byte, events_from}
+use Rattle.vte_core.specs.Pending.{Pending, text_told, text_rest, after_byte, after_bytes, events_from}
 use Rattle.vte_core.specs.Shapes.{before}
 use Rattle.vte_core.specs.Standing.{IsAt, state_is_text}
 use Rattle.vte_core.specs.declared.State.{State}
@@ -29,6 +29,14 @@ abbrev pub is_one_step : Pending → List ℕ → List ℕ → Bool
 is_one_step q [] rest = false
 is_one_step q (b ∷ []) rest = not (runs_on q b rest)
 is_one_step q (b ∷ c ∷ bs) rest = runs_on q b (c ∷ bs) && is_one_step (after_byte q b) (c ∷ bs) rest
+
+-- the bytes at the front tell nothing, and the others, if there are any, are one step
+pub record IsStep (n : ℕ) (q : Pending) (bs rest : List ℕ) : Type 0 where
+  pub quiet : List ℕ
+  pub last : List ℕ
+  pub parts : bs ≡ quiet ++ last
+  pub nothing : events_from n q quiet ≡ []
+  pub one : (last ≡ []) ⊎ (is_one_step (after_bytes q quiet) last rest ≡ true)
 
 -- the performer has gone through some events, and they are those of the bytes, whatever is pending
 pub record Tells {S : Type 0} (step : S → Event → S → Type 0) (n : ℕ) (parser : Parser n) (old : S) (bytes : List ℕ) (new : S) : Type 0 where

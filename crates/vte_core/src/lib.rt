@@ -17,7 +17,7 @@ ghost use Rattle.std.specs.Prelude.{◌≡◌, ◌≢◌, ◌+◌, ◌<◌, ◌�
 ghost use Rattle.vte_core.specs.Event as e;
 ghost use Rattle.vte_core.specs.Event.{Performs};
 ghost use Rattle.vte_core.specs.Told.{Told};
-ghost use Rattle.vte_core.specs.Runs.{Tells, is_one_step, text_len};
+ghost use Rattle.vte_core.specs.Runs.{Tells, IsStep, is_one_step, text_len};
 ghost use Rattle.vte_core.specs.Heard.{heard, byte_heard, closed_heard, final_heard};
 ghost use Rattle.vte_core.specs.Shapes.{events, before};
 ghost use Rattle.vte_core.specs.Pending.{Pending, InText, InEscape, InCsi, InOsc, InHook, InDevice, InSwallowed, final_rest, final_told, events_of_byte, after_byte, byte_told, byte_rest, events_from, after_bytes, closed, pending};
@@ -334,8 +334,24 @@ impl<const N: usize> Parser<N> {
         }
     }
 
+    /// Reads the bytes at the front that tell nothing: the numbers of a header or the data of a command. Returns how many
+    /// they are.
+    #[inline(always)]
+    fn read_quiet(&mut self, bytes: &[u8]) -> usize
+        ensures within { result ≤ length bytes.now }
+        ensures stands { (q : Pending) → IsAt N self.old q → IsAt N self.new (after_bytes q (take result bytes.now)) }
+        ensures quiet { (q : Pending) → IsAt N self.old q → events_from N q (take result bytes.now) ≡ [] }
+    {
+        match self.state {
+            State::Csi | State::DcsHeader => self.header.read_numbers(bytes),
+            State::OscString => self.osc.read(bytes),
+            _ => 0,
+        }
+    }
+
     /// Reads ground text up to the next ESC, or else one byte, and returns how many bytes it read.
-    fn some<P: Perform>(&mut self, performer: &mut P, bytes: &[u8]) -> usize
+    #[inline(always)]
+    fn read_one<P: Perform>(&mut self, performer: &mut P, bytes: &[u8]) -> usize
         requires { 0 < length bytes.now }
         ensures some { 0 < result }
         ensures within { result ≤ length bytes.now }
@@ -352,6 +368,24 @@ impl<const N: usize> Parser<N> {
         len
     }
 
+    /// Reads bytes up to the first that tells something, and with it, or ground text up to the next ESC. Returns how many
+    /// bytes it read.
+    #[inline(always)]
+    fn read_some<P: Perform>(&mut self, performer: &mut P, bytes: &[u8]) -> usize
+        requires { 0 < length bytes.now }
+        ensures some { 0 < result }
+        ensures within { result ≤ length bytes.now }
+        ensures stands { (q : Pending) → IsAt N self.old q → IsAt N self.new (after_bytes q (take result bytes.now)) }
+        ensures told { Tells P.step N self.old performer.old (take result bytes.now) performer.new }
+        ensures step { (q : Pending) → IsAt N self.old q → IsStep N q (take result bytes.now) (drop result bytes.now) }
+    {
+        let quiet = self.read_quiet(bytes);
+        if quiet == bytes.len() {
+            return quiet;
+        }
+        quiet + self.read_one(performer, &bytes[quiet..])
+    }
+
     /// Reads the next bytes of the stream, and tells the performer of their events, in order. A character or a sequence
     /// that the bytes leave unfinished is kept for the next call.
     pub fn advance<P: Perform>(&mut self, performer: &mut P, bytes: &[u8])
@@ -360,7 +394,7 @@ impl<const N: usize> Parser<N> {
     {
         let mut read = 0;
         while read < bytes.len() {
-            read += self.some(performer, &bytes[read..]);
+            read += self.read_some(performer, &bytes[read..]);
         }
     }
 
@@ -380,7 +414,7 @@ impl<const N: usize> Parser<N> {
             if performer.terminated() {
                 return read;
             }
-            read += self.some(performer, &bytes[read..]);
+            read += self.read_some(performer, &bytes[read..]);
         }
         bytes.len()
     }

@@ -1,7 +1,7 @@
 use Rattle.std.proofs.Common.{◌∙◌, ◌<◌, sym, arith, length-take, take}
 use Rattle.vte_core.specs.Runs.{run_told}
 use Rattle.vte_core.proofs.Runs.{run-at, byte-at, text-within}
-use Rattle.vte_core.proofs.Parser.some.Goals as goal
+use Rattle.vte_core.proofs.Parser.read_one.Goals as goal
 
 pub returns-then-len-eq0-clause-step : goal.returns-then-len-eq0-clause-step
 returns-then-len-eq0-clause-step g c = λ q h. byte-at g.row.N c.args.self.now c.args.bytes.now q c.requires (sym c.if-len-eq0.true ∙ c.text_len-len.ensures) h
