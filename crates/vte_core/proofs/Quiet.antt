@@ -1,5 +1,5 @@
 -- Bytes that tell nothing.
-use Rattle.std.proofs.Common.{◌≡◌, ℕ, suc, ◌+◌, ◌<◌, Bool, true, false, not, ◌&&◌, List, [], ◌∷◌, ◌++◌, ◌⊎◌, inl, inr, length, nat_lt, ◌==◌, refl, sym, ◌∙◌, ap, subst, arith, append_assoc, length-append}
+use Rattle.std.proofs.Common.{◌≡◌, ℕ, suc, ◌+◌, ◌<◌, ◌≤◌, take, drop, get_or, Bool, true, false, not, ◌&&◌, List, [], ◌∷◌, ◌++◌, ◌⊎◌, inl, inr, length, nat_lt, ◌==◌, refl, sym, ◌∙◌, ap, subst, arith, append_assoc, length-append}
 use Rattle.std.proofs.lemmas.Bool.Decides.{nat_tests}
 use Rattle.vte_core.specs.Event.{Event, Performs}
 use Rattle.vte_core.specs.Bytes.{each, is_esc, is_abort, is_control, is_header, is_numeric, is_data, ends_header, ends_osc}
@@ -10,7 +10,7 @@ use Rattle.vte_core.specs.Standing.{IsAt}
 use Rattle.vte_core.specs.Stopping.{StopsAt, runs_on}
 use Rattle.vte_core.specs.Runs.{is_one_step, IsStep}
 use Rattle.vte_core.specs.declared.Parser.{Parser}
-use Rattle.vte_core.specs.declared.State.TheVariants.{Csi, OscString, DcsHeader}
+use Rattle.vte_core.specs.declared.State.TheVariants.{Ground, Csi, OscString, DcsHeader}
 use Rattle.vte_core.proofs.Characters.{bool_cases}
 use Rattle.vte_core.proofs.PhaseLemmas.{each-first, append-none}
 use Rattle.vte_core.proofs.Machine.{events_from-append, after_bytes-append}
@@ -145,3 +145,35 @@ quiet_then n q front piece all e h = (
   ap (events_from n q) e ∙ (events_from-append n q front piece ∙ ap (λ (es : List Event). es ++ events_from n (after_bytes q front) piece) h),
   ap (after_bytes q) e ∙ after_bytes-append q front piece,
 )
+
+-- `ESC [` and some numbers, after whole ground text
+
+begun-text : (n : ℕ) (p : Parser n) (q : Pending) → p.state ≡ Ground → p.unfinished ≡ [] → IsAt n p q → q ≡ InText []
+begun-text n p (InText u) s e at = ap InText (sym at.1 ∙ e)
+begun-text n p (InEscape is) s e at = let no = sym s ∙ at.0 in cc
+begun-text n p (InCsi h) s e at = let no = sym s ∙ at.0 in cc
+begun-text n p (InOsc d) s e at = let no = sym s ∙ at.0 in cc
+begun-text n p (InHook h) s e at = let no = sym s ∙ at.0 in cc
+begun-text n p InDevice s e at = let no = sym s ∙ at.0 in cc
+begun-text n p InSwallowed s e at = let no = sym s ∙ at.0 in cc
+
+introduced : (bs : List ℕ) (k : ℕ) → 2 ≤ length bs → get_or bs 0 0 ≡ 0x1B → get_or bs 1 0 ≡ 0x5B → take (2 + k) bs ≡ 0x1B ∷ 0x5B ∷ take k (drop 2 bs)
+introduced [] k h e f = absurd (omega (arith, h))
+introduced (a ∷ []) k h e f = absurd (omega (arith, h))
+introduced (a ∷ b ∷ xs) k h e f =
+    let m : 2 + k ≡ suc (suc k) = omega arith in
+    let first : a ≡ 0x1B = e in
+    let second : b ≡ 0x5B = f in
+    ap (λ (j : ℕ). take j (a ∷ b ∷ xs)) m ∙ rw (first, second) refl
+
+pub begin-quiet : (n : ℕ) (p : Parser n) (q : Pending) (bs : List ℕ) (k : ℕ) → 2 ≤ length bs → get_or bs 0 0 ≡ 0x1B → get_or bs 1 0 ≡ 0x5B
+    → p.state ≡ Ground → p.unfinished ≡ [] → each is_numeric (take k (drop 2 bs)) ≡ true → IsAt n p q → events_from n q (take (2 + k) bs) ≡ []
+begin-quiet n p q bs k some e f s u num at =
+    rw (begun-text n p q s u at, introduced bs k some e f) ((all_kept n InCsi is_numeric [] (take k (drop 2 bs)) (numeric-csi n) num).0)
+
+pub begin-at : (n : ℕ) (p new : Parser n) (q : Pending) (bs : List ℕ) (k : ℕ) → 2 ≤ length bs → get_or bs 0 0 ≡ 0x1B → get_or bs 1 0 ≡ 0x5B
+    → p.state ≡ Ground → p.unfinished ≡ [] → new.state ≡ Csi → new.unfinished ≡ [] → each is_numeric (take k (drop 2 bs)) ≡ true → ReadsHeader new.header (take k (drop 2 bs)) → IsAt n p q
+    → IsAt n new (after_bytes q (take (2 + k) bs))
+begin-at n p new q bs k some e f s u t v num r at =
+    let m = all_kept n InCsi is_numeric [] (take k (drop 2 bs)) (numeric-csi n) num in
+    rw (begun-text n p q s u at, introduced bs k some e f) (rw m.1 (t, v, r))

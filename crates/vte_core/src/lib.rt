@@ -345,6 +345,26 @@ impl<const N: usize> Parser<N> {
         match self.state {
             State::Csi | State::DcsHeader => self.header.read_numbers(bytes),
             State::OscString => self.osc.read(bytes),
+            State::Ground => self.begin_csi(bytes),
+            _ => 0,
+        }
+    }
+
+    /// Reads `ESC [` after whole ground text, and the numbers that follow, if they stand at the front. Returns how many
+    /// bytes they are.
+    #[inline(always)]
+    fn begin_csi(&mut self, bytes: &[u8]) -> usize
+        requires { self.old.state ≡ State.Ground }
+        ensures within { result ≤ length bytes.now }
+        ensures stands { (q : Pending) → IsAt N self.old q → IsAt N self.new (after_bytes q (take result bytes.now)) }
+        ensures quiet { (q : Pending) → IsAt N self.old q → events_from N q (take result bytes.now) ≡ [] }
+    {
+        match bytes {
+            [0x1B, b'[', rest @ ..] if self.unfinished.is_empty() => {
+                self.state = State::Csi;
+                self.header.clear();
+                2 + self.header.read_numbers(rest)
+            }
             _ => 0,
         }
     }

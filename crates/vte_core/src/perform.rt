@@ -41,6 +41,12 @@ pub trait Perform {
     fn print_str(&mut self, text: &str)
         ensures { Performs step self.old (map e.Print (chars text.now)) self.new }
     {
+        if text.is_ascii() {
+            for byte in text.as_bytes() {
+                self.print(*byte as char);
+            }
+            return;
+        }
         for c in text.chars() {
             self.print(c);
         }
