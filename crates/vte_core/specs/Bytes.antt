@@ -17,6 +17,14 @@ is_abort b = b == 0x18 || b == 0x1A
 abbrev pub is_control : ℕ → Bool
 is_control b = nat_lt b 0x20 && not (is_abort b || is_esc b)
 
+-- what is executed at once in ground text
+abbrev pub is_c0 : ℕ → Bool
+is_c0 b = nat_lt b 0x20 && not (is_esc b)
+
+-- a character of ASCII that is printed
+abbrev pub is_plain : ℕ → Bool
+is_plain b = is_in_range 0x20 0x7F b
+
 abbrev pub is_intermediate : ℕ → Bool
 is_intermediate b = is_in_range 0x20 0x2F b
 

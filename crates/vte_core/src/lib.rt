@@ -17,9 +17,9 @@ ghost use Rattle.std.specs.Prelude.{◌≡◌, ◌≢◌, ◌+◌, ◌<◌, ◌�
 ghost use Rattle.vte_core.specs.Event as e;
 ghost use Rattle.vte_core.specs.Event.{Performs};
 ghost use Rattle.vte_core.specs.Told.{Told};
-ghost use Rattle.vte_core.specs.Runs.{Tells, IsStep, is_one_step, text_len};
+ghost use Rattle.vte_core.specs.Runs.{Tells, IsStep, is_one_step};
 ghost use Rattle.vte_core.specs.Heard.{heard, byte_heard, closed_heard, final_heard};
-ghost use Rattle.vte_core.specs.Shapes.{events, before};
+ghost use Rattle.vte_core.specs.Shapes.{events};
 ghost use Rattle.vte_core.specs.Pending.{Pending, InText, InEscape, InCsi, InOsc, InHook, InDevice, InSwallowed, final_rest, final_told, events_of_byte, after_byte, byte_told, byte_rest, events_from, after_bytes, closed, pending};
 ghost use Rattle.vte_core.specs.Standing.{IsAt, Stands, state_is_text};
 ghost use Rattle.vte_core.specs.Stopping.{StopsAt};
@@ -42,7 +42,6 @@ mod unfinished;
 pub use event::Event;
 use header::Header;
 use intermediates::Intermediates;
-use memchr::memchr;
 use osc_data::OscData;
 pub use params::{Params, ParamsIter};
 pub use perform::Perform;
@@ -379,13 +378,11 @@ impl<const N: usize> Parser<N> {
         ensures told { Tells P.step N self.old performer.old (take result bytes.now) performer.new }
         ensures step { (q : Pending) → IsAt N self.old q → is_one_step q (take result bytes.now) (drop result bytes.now) ≡ true }
     {
-        let len = text_len(self.state, bytes);
-        if len == 0 {
-            self.byte(performer, bytes[0]);
-            return 1;
+        if is_text(self.state, bytes[0]) {
+            return self.unfinished.read(performer, bytes);
         }
-        self.unfinished.run(performer, &bytes[..len]);
-        len
+        self.byte(performer, bytes[0]);
+        1
     }
 
     /// Reads bytes up to the first that tells something, and with it, or ground text up to the next ESC. Returns how many
@@ -440,26 +437,13 @@ impl<const N: usize> Parser<N> {
     }
 }
 
-/// How many of the next bytes are ground text: those before the next ESC.
-#[inline]
-fn text_len(state: State, bytes: &[u8]) -> usize
-    ensures { result ≡ text_len state bytes.now }
+/// Whether the byte is ground text.
+#[inline(always)]
+fn is_text(state: State, byte: u8) -> bool
+    ensures { result ≡ (state_is_text state && not (is_esc byte)) }
 {
     match state {
-        State::Ground => len_before_esc(bytes),
-        _ => 0,
-    }
-}
-
-/// How many bytes stand before the next ESC. The next two are looked at first: a program that moves the cursor about
-/// writes hardly more between two sequences.
-#[inline]
-fn len_before_esc(bytes: &[u8]) -> usize
-    ensures { result ≡ length (before is_esc bytes.now) }
-{
-    match bytes {
-        [0x1B, ..] => 0,
-        [_, 0x1B, ..] => 1,
-        _ => memchr(0x1B, bytes).unwrap_or(bytes.len()),
+        State::Ground => byte != 0x1B,
+        _ => false,
     }
 }

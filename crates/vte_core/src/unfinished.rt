@@ -5,9 +5,11 @@
 //! A malformed sequence is the longest front of what follows that also begins a well-formed character, at least one byte:
 //! the length that `str::from_utf8` reports.
 
-ghost use Rattle.std.specs.Prelude.{◌≡◌, ◌==◌, ◌+◌, ◌-◌, ◌<◌, ◌≤◌, ℕ, List, [], ◌∷◌, ◌++◌, length, drop, IsTrue, slice_index, take};
+ghost use Rattle.std.specs.Prelude.{◌≡◌, ◌==◌, ◌+◌, ◌-◌, ◌<◌, ◌≤◌, ℕ, List, [], ◌∷◌, ◌++◌, length, drop, map, IsTrue, true, false, slice_index, take};
 ghost use Rattle.std.specs.Str.{IsUtf8};
-ghost use Rattle.vte_core.specs.Runs.{run_told, run_rest, is_printed, printed_len};
+ghost use Rattle.vte_core.specs.Bytes.{each, is_c0, is_esc, is_plain};
+ghost use Rattle.vte_core.specs.Runs.{ReadsText, run_told, run_rest, is_printed, printed_len};
+ghost use Rattle.vte_core.specs.Shapes.{before};
 ghost use Rattle.vte_core.specs.Event.{Event, Print, Execute, Performs};
 ghost use Rattle.vte_core.specs.Text.{char_len, second_min, second_max, first_bits, joined, char_event};
 ghost use Rattle.vte_core.specs.Pending.{IsUnfinished, begun, begun_rest, text_told, text_rest, goes_on, whole_goes_on, IsWhole, code_of};
@@ -192,24 +194,24 @@ fn is_printed(byte: u8, rest: &[u8]) -> bool
 
 /// Whether none of the bytes is a control, or 0xC2, with which one may begin.
 #[inline]
-fn is_plain(bytes: &[u8]) -> bool
+fn are_printed(bytes: &[u8]) -> bool
     ensures { IsTrue result → (rest : List ℕ) → printed_len (bytes.now ++ rest) ≡ length bytes.now + printed_len rest }
 {
-    let mut is_plain = true;
+    let mut are_printed = true;
     for byte in bytes {
-        is_plain &= (*byte >= 0x20) & (*byte != 0xC2);
+        are_printed &= (*byte >= 0x20) & (*byte != 0xC2);
     }
-    is_plain
+    are_printed
 }
 
-/// How many bytes stand in whole blocks before one that isn't plain.
-fn plain_len(bytes: &[u8]) -> usize
+/// How many bytes stand in whole blocks that are printed.
+fn block_len(bytes: &[u8]) -> usize
     ensures within { result ≤ length bytes.now }
     ensures printed { result + printed_len (drop result bytes.now) ≡ printed_len bytes.now }
 {
     let mut len = 0;
     while bytes.len() - len >= BLOCK_LEN {
-        if !is_plain(&bytes[len..len + BLOCK_LEN]) {
+        if !are_printed(&bytes[len..len + BLOCK_LEN]) {
             return len;
         }
         len += BLOCK_LEN;
@@ -221,7 +223,7 @@ fn plain_len(bytes: &[u8]) -> usize
 fn printed_len(bytes: &[u8]) -> usize
     ensures { result ≡ printed_len bytes.now }
 {
-    let mut len = plain_len(bytes);
+    let mut len = block_len(bytes);
     while len < bytes.len() {
         if !is_printed(bytes[len], &bytes[len + 1..]) {
             return len;
@@ -231,15 +233,81 @@ fn printed_len(bytes: &[u8]) -> usize
     len
 }
 
+/// Whether the byte is a character of ASCII that is printed.
+#[inline(always)]
+fn is_plain(byte: u8) -> bool
+    ensures { result ≡ is_plain byte }
+{
+    (0x20..=0x7F).contains(&byte)
+}
+
+/// Whether each of the bytes is a character of ASCII that is printed.
+#[inline(always)]
+fn are_plain(bytes: &[u8]) -> bool
+    ensures { IsTrue result → each is_plain bytes.now ≡ true }
+{
+    let mut are_plain = true;
+    for byte in bytes {
+        are_plain &= (*byte >= 0x20) & (*byte < 0x80);
+    }
+    are_plain
+}
+
+/// How many bytes at the front are characters of ASCII that are printed.
+#[inline(always)]
+fn ascii_len(bytes: &[u8]) -> usize
+    ensures within { result ≤ length bytes.now }
+    ensures plain { each is_plain (take result bytes.now) ≡ true }
+{
+    let mut len = 0;
+    while bytes.len() - len >= BLOCK_LEN && are_plain(&bytes[len..len + BLOCK_LEN]) {
+        len += BLOCK_LEN;
+    }
+    while len < bytes.len() && is_plain(bytes[len]) {
+        len += 1;
+    }
+    len
+}
+
+/// Whether text of ASCII before these bytes ends with them: at a control, or at a byte that begins no character.
+#[inline(always)]
+fn ends_text(bytes: &[u8]) -> bool {
+    match bytes {
+        [] => true,
+        [next, ..] => *next < 0x20 || char_len(*next) == 0,
+    }
+}
+
+/// The characters of ASCII that the bytes are.
+#[inline(always)]
+fn ascii_text(bytes: &[u8]) -> &str
+    requires { each is_plain bytes.now ≡ true }
+    ensures { result.now ≡ bytes.now }
+{
+    unsafe { str::from_utf8_unchecked(bytes) }
+}
+
+/// Executes the controls of ASCII at the front, up to ESC, and returns how many they are.
+#[inline(always)]
+fn execute_controls<P: Perform>(performer: &mut P, bytes: &[u8]) -> usize
+    ensures within { result ≤ length bytes.now }
+    ensures controls { each is_c0 (take result bytes.now) ≡ true }
+    ensures told { Performs P.step performer.old (map Execute (take result bytes.now)) performer.new }
+{
+    let mut read = 0;
+    while read < bytes.len() && bytes[read] < 0x20 && bytes[read] != 0x1B {
+        performer.execute(bytes[read]);
+        read += 1;
+    }
+    read
+}
+
 /// The longest text at the front of the bytes.
 fn text_front(bytes: &[u8]) -> &str
     ensures text { IsUtf8 result.now }
     ensures front { result.now ≡ take (length result.now) bytes.now }
     ensures within { length result.now ≤ length bytes.now }
 {
-    if bytes.is_ascii() {
-        return unsafe { str::from_utf8_unchecked(bytes) };
-    }
     match str::from_utf8(bytes) {
         Ok(text) => text,
         Err(error) => unsafe { str::from_utf8_unchecked(&bytes[..error.valid_up_to()]) },
@@ -279,31 +347,55 @@ impl Unfinished {
         }
     }
 
-    /// Reads ground text up to the next control, or else one byte, and returns how many bytes it read.
+    /// Reads ground text without ESC up to the next control, or else one byte, and returns how many bytes it read.
+    fn mixed<P: Perform>(&mut self, performer: &mut P, bytes: &[u8]) -> usize
+        requires some { 0 < length bytes.now }
+        requires text { is_esc (slice_index bytes.now 0) ≡ false }
+        ensures { ReadsText P.step self.old performer.old bytes.now result performer.new self.new }
+    {
+        if char_len(bytes[0]) > 0 {
+            let len = printed_len(bytes);
+            if len > 0 {
+                self.printed(performer, &bytes[..len]);
+                return len;
+            }
+        }
+        self.byte(performer, bytes[0]);
+        1
+    }
+
+    /// Reads some ground text before the next ESC, and returns how many bytes it read.
+    #[inline(always)]
     fn some<P: Perform>(&mut self, performer: &mut P, bytes: &[u8]) -> usize
-        requires { 0 < length bytes.now }
-        ensures some { 0 < result }
-        ensures within { result ≤ length bytes.now }
+        requires some { 0 < length bytes.now }
+        requires text { is_esc (slice_index bytes.now 0) ≡ false }
+        ensures { ReadsText P.step self.old performer.old bytes.now result performer.new self.new }
+    {
+        if self.is_empty() {
+            let controls = execute_controls(performer, bytes);
+            if controls > 0 {
+                return controls;
+            }
+            let len = ascii_len(bytes);
+            if len > 0 && ends_text(&bytes[len..]) {
+                performer.print_str(ascii_text(&bytes[..len]));
+                return len;
+            }
+        }
+        self.mixed(performer, bytes)
+    }
+
+    /// Reads ground text up to the next ESC, and returns how many bytes it read.
+    #[inline(always)]
+    pub fn read<P: Perform>(&mut self, performer: &mut P, bytes: &[u8]) -> usize
+        ensures len { result ≡ length (before is_esc bytes.now) }
         ensures told { Performs P.step performer.old (run_told self.old (take result bytes.now)) performer.new }
         ensures rest { self.new ≡ run_rest self.old (take result bytes.now) }
     {
-        let len = printed_len(bytes);
-        if len == 0 {
-            self.byte(performer, bytes[0]);
-            return 1;
-        }
-        self.printed(performer, &bytes[..len]);
-        len
-    }
-
-    /// Ground text without ESC.
-    pub fn run<P: Perform>(&mut self, performer: &mut P, bytes: &[u8])
-        ensures told { Performs P.step performer.old (run_told self.old bytes.now) performer.new }
-        ensures rest { self.new ≡ run_rest self.old bytes.now }
-    {
         let mut read = 0;
-        while read < bytes.len() {
+        while read < bytes.len() && bytes[read] != 0x1B {
             read += self.some(performer, &bytes[read..]);
         }
+        read
     }
 }

@@ -1,33 +1,29 @@
-use Rattle.std.proofs.Common.{◌∙◌, ◌<◌, sym, arith, length-take, take}
+use Rattle.std.proofs.Common.{◌≡◌, ◌∙◌, ◌<◌, sym, arith, length, take, ap}
 use Rattle.vte_core.specs.Runs.{run_told}
-use Rattle.vte_core.proofs.Runs.{run-at, byte-at, text-within}
+use Rattle.vte_core.proofs.Runs.{run-at, byte-at, before-len, some-before, text-byte}
 use Rattle.vte_core.proofs.Parser.read_one.Goals as goal
 
-pub returns-then-len-eq0-clause-step : goal.returns-then-len-eq0-clause-step
-returns-then-len-eq0-clause-step g c = λ q h. byte-at g.row.N c.args.self.now c.args.bytes.now q c.requires (sym c.if-len-eq0.true ∙ c.text_len-len.ensures) h
+pub returns-then-is_text-clause-some : goal.returns-then-is_text-clause-some
+returns-then-is_text-clause-some g c =
+    let some = some-before c.args.bytes.now c.requires (text-byte _ _ (sym c.is_text.ensures ∙ c.if-is_text.true)).1 in omega (arith, some, c.read.ensures.len)
 
-pub slice_bounds-run-end : goal.slice_bounds-run-end
-slice_bounds-run-end g c = omega (arith, length-take c.text_len-len.result c.args.bytes.now, text-within c.args.self.now.state c.args.bytes.now c.text_len-len.result c.text_len-len.ensures)
+pub returns-then-is_text-clause-within : goal.returns-then-is_text-clause-within
+returns-then-is_text-clause-within g c = omega (arith, c.read.ensures.len, before-len c.args.bytes.now)
 
-pub returns-clause-within : goal.returns-clause-within
-returns-clause-within g c = text-within c.args.self.now.state c.args.bytes.now c.text_len-len.result c.text_len-len.ensures
+pub returns-then-is_text-clause-stands : goal.returns-then-is_text-clause-stands
+returns-then-is_text-clause-stands g c = λ q h.
+    let r = run-at g.row.N c.args.self.now c.args.bytes.now c.read.result q c.requires (sym c.is_text.ensures ∙ c.if-is_text.true) c.read.ensures.len h in
+    rw r.1 (r.3, c.read.ensures.rest)
 
-pub returns-clause-stands : goal.returns-clause-stands
-returns-clause-stands g c = λ q h.
-    let some : 0 < c.text_len-len.result = omega arith in
-    let r = run-at g.row.N c.args.self.now c.args.bytes.now c.text_len-len.result q c.text_len-len.ensures some h in
-    rw r.1 (r.3, c.run.ensures.rest)
+pub returns-then-is_text-clause-told : goal.returns-then-is_text-clause-told
+returns-then-is_text-clause-told g c = record {
+  told = run_told c.args.self.now.unfinished (take c.read.result c.args.bytes.now);
+  performed = c.read.ensures.told;
+  added = λ q h. sym (run-at g.row.N c.args.self.now c.args.bytes.now c.read.result q c.requires (sym c.is_text.ensures ∙ c.if-is_text.true) c.read.ensures.len h).0;
+}
 
-pub returns-clause-told : goal.returns-clause-told
-returns-clause-told g c =
-    let some : 0 < c.text_len-len.result = omega arith in
-    record {
-      told = run_told c.args.self.now.unfinished (take c.text_len-len.result c.args.bytes.now);
-      performed = c.run.ensures.told;
-      added = λ q h. sym (run-at g.row.N c.args.self.now c.args.bytes.now c.text_len-len.result q c.text_len-len.ensures some h).0;
-    }
+pub returns-then-is_text-clause-step : goal.returns-then-is_text-clause-step
+returns-then-is_text-clause-step g c = λ q h. (run-at g.row.N c.args.self.now c.args.bytes.now c.read.result q c.requires (sym c.is_text.ensures ∙ c.if-is_text.true) c.read.ensures.len h).2
 
 pub returns-clause-step : goal.returns-clause-step
-returns-clause-step g c = λ q h.
-    let some : 0 < c.text_len-len.result = omega arith in
-    (run-at g.row.N c.args.self.now c.args.bytes.now c.text_len-len.result q c.text_len-len.ensures some h).2
+returns-clause-step g c = λ q h. byte-at g.row.N c.args.self.now c.args.bytes.now q c.requires (sym c.is_text.ensures ∙ c.if-is_text.false) h

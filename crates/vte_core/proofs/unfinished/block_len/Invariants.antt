@@ -1,6 +1,6 @@
 use Rattle.std.proofs.Common.{◌≡◌, ◌+◌, ◌-◌, ◌≤◌, drop, length}
 use Rattle.vte_core.specs.Runs.{printed_len}
-use Rattle.vte_core.proofs.unfinished.plain_len.Given as goal
+use Rattle.vte_core.proofs.unfinished.block_len.Given as goal
 
 abbrev pub invariant-loop-len : goal.invariant-loop-len
 invariant-loop-len l = record {

@@ -1,10 +1,12 @@
-use Rattle.std.proofs.Common.{◌≡◌, ◌≤◌, ◌+◌, ◌-◌, ◌∙◌, sym, ap, arith, List, ℕ, ◌++◌, length, take, drop, length-take, length-drop}
-use Rattle.std.proofs.lemmas.Grind.{common_steps}
+use Rattle.std.proofs.Common.{◌≡◌, ◌≤◌, ◌<◌, ◌+◌, ◌-◌, ◌∙◌, sym, ap, arith, List, ℕ, ◌++◌, true, length, take, drop, get_or, length-take, length-drop}
+use Rattle.std.proofs.lemmas.Bool.{eq-eqb}
 use Rattle.vte_core.specs.Event.{Event}
-use Rattle.vte_core.specs.Runs.{run_told, run_rest}
+use Rattle.vte_core.specs.Bytes.{is_esc}
+use Rattle.vte_core.specs.Runs.{run_told, run_rest, has_no_esc}
 use Rattle.vte_core.proofs.Runs.{run_told-append, run_rest-append, read_more}
+use Rattle.vte_core.proofs.Ground.{no_esc-append, text_end}
 use Rattle.vte_core.proofs.Telling.{performs-append, same_events}
-use Rattle.vte_core.proofs.unfinished.Unfinished.run.Goals as goal
+use Rattle.vte_core.proofs.unfinished.Unfinished.read.Goals as goal
 
 pub loop-read-preserved : goal.loop-read-preserved
 loop-read-preserved g c =
@@ -19,23 +21,20 @@ loop-read-preserved g c =
     let told : run_told c.loop-read.self piece ≡ run_told (run_rest u (take i bs)) piece = ap (λ (v : List ℕ). run_told v piece) inv.rest in
     record {
       within = omega (arith, c.some-read.ensures.within, length-take (length bs - i) (drop i bs), length-drop i bs);
+      no_esc = ap has_no_esc more ∙ no_esc-append (take i bs) piece inv.no_esc c.some-read.ensures.no_esc;
       told = same_events g.P.Perform.step c.args.performer.now c.some-read.new.performer (run_told u (take i bs) ++ run_told c.loop-read.self piece) (run_told u (take (i + k) bs))
           (ap (λ (es : List Event). run_told u (take i bs) ++ es) told ∙ (sym (run_told-append u (take i bs) piece) ∙ ap (run_told u) (sym more)))
           (performs-append g.P.Perform.step c.args.performer.now c.loop-read.performer c.some-read.new.performer (run_told u (take i bs)) (run_told c.loop-read.self piece) inv.told c.some-read.ensures.told);
       rest = c.some-read.ensures.rest ∙ (mid ∙ (sym (run_rest-append u (take i bs) piece) ∙ ap (run_rest u) (sym more)));
     }
 
-all_read : (xs : List ℕ) (i : ℕ) → length xs ≤ i → take i xs ≡ xs
-all_read xs i h = grind (arith, common_steps)
-
-pub returns-clause-told : goal.returns-clause-told
-returns-clause-told g c =
+pub returns-else-bytes-read-ne27-clause-len : goal.returns-else-bytes-read-ne27-clause-len
+returns-else-bytes-read-ne27-clause-len g c =
     let bs = c.args.bytes.now in
-    let all : take c.loop-read.read bs ≡ bs = all_read bs c.loop-read.read c.loop-read-test.false in
-    same_events g.P.Perform.step c.args.performer.now c.loop-read.performer (run_told c.args.self.now (take c.loop-read.read bs)) (run_told c.args.self.now bs) (ap (run_told c.args.self.now) all) c.loop-read.invariant.told
+    let i = c.loop-read.read in
+    let esc : is_esc (get_or bs i 0) ≡ true = eq-eqb (get_or bs i 0) 0x1B (omega (arith, c.if-bytes-read-ne27.false)) in
+    text_end bs i c.loop-read.invariant.within c.loop-read.invariant.no_esc (λ lt. esc)
 
-pub returns-clause-rest : goal.returns-clause-rest
-returns-clause-rest g c =
-    let bs = c.args.bytes.now in
-    let all : take c.loop-read.read bs ≡ bs = all_read bs c.loop-read.read c.loop-read-test.false in
-    c.loop-read.invariant.rest ∙ ap (run_rest c.args.self.now) all
+pub returns-after-loop-read-clause-len : goal.returns-after-loop-read-clause-len
+returns-after-loop-read-clause-len g c =
+    text_end c.args.bytes.now c.loop-read.read c.loop-read.invariant.within c.loop-read.invariant.no_esc (λ lt. absurd (omega (arith, lt, c.loop-read-test.false)))
