@@ -132,8 +132,7 @@ impl Numbers {
         ensures params { (m : List ℕ) → ReadsNumbers self.old m → self.new.params ≡ first_numbers 32 (groups_of m) }
         ensures many { (m : List ℕ) → ReadsNumbers self.old m → self.new.many ≡ nat_lt 32 (total (groups_of m)) }
     {
-        let number = self.number;
-        self.end_number(number);
+        self.end_number(self.number);
         self.end_group();
     }
 }
