@@ -5,7 +5,7 @@
 //! A malformed sequence is the longest front of what follows that also begins a well-formed character, at least one byte:
 //! the length that `str::from_utf8` reports.
 
-ghost use Rattle.std.specs.Prelude.{◌≡◌, ◌==◌, ◌+◌, ◌-◌, ◌<◌, ◌≤◌, ℕ, List, [], ◌∷◌, ◌++◌, length, drop, map, IsTrue, true, false, slice_index, take};
+ghost use Rattle.std.specs.Prelude.{◌≡◌, ◌==◌, ◌+◌, ◌-◌, ◌<◌, ◌≤◌, ℕ, List, [], ◌∷◌, ◌++◌, length, drop, map, IfSome, IsTrue, true, false, slice_index, take};
 ghost use Rattle.std.specs.Str.{IsUtf8};
 ghost use Rattle.vte_core.specs.Bytes.{each, is_c0, is_esc, is_plain};
 ghost use Rattle.vte_core.specs.Runs.{ReadsText, run_told, run_rest, is_printed, printed_len};
@@ -14,9 +14,11 @@ ghost use Rattle.vte_core.specs.Event.{Event, Print, Execute, Performs};
 ghost use Rattle.vte_core.specs.Text.{char_len, second_min, second_max, first_bits, joined, char_event};
 ghost use Rattle.vte_core.specs.Pending.{IsUnfinished, begun, begun_rest, text_told, text_rest, goes_on, whole_goes_on, IsWhole, code_of};
 ghost use Rattle.std.specs.Char.{InScalarRange};
+ghost use Rattle.std.specs.Int.{is_in_range};
 
 use crate::Perform;
 use arrayvec::ArrayVec;
+use simdutf8::compat::from_utf8;
 use std::marker::Model;
 use std::str;
 
@@ -233,6 +235,30 @@ fn printed_len(bytes: &[u8]) -> usize
     len
 }
 
+/// How many bytes stand before the next control that is executed, where a character begins; else 0.
+#[inline(always)]
+fn text_len(bytes: &[u8]) -> usize
+    requires { 0 < length bytes.now }
+    ensures within { result ≤ length bytes.now }
+    ensures printed { printed_len (take result bytes.now) ≡ length (take result bytes.now) }
+{
+    if char_len(bytes[0]) == 0 {
+        return 0;
+    }
+    printed_len(bytes)
+}
+
+/// The control from U+0080 to U+009F at the front, which has two bytes.
+#[inline(always)]
+fn c1(bytes: &[u8]) -> Option<u8>
+    ensures { IfSome result (λ b. IsTrue (is_in_range 0x80 0x9F b) × (take 2 bytes.now ≡ 0xC2 ∷ b ∷ [])) }
+{
+    match bytes {
+        [0xC2, second, ..] if (0x80..=0x9F).contains(second) => Some(*second),
+        _ => None,
+    }
+}
+
 /// Whether the byte is a character of ASCII that is printed.
 #[inline(always)]
 fn is_plain(byte: u8) -> bool
@@ -308,7 +334,7 @@ fn text_front(bytes: &[u8]) -> &str
     ensures front { result.now ≡ take (length result.now) bytes.now }
     ensures within { length result.now ≤ length bytes.now }
 {
-    match str::from_utf8(bytes) {
+    match from_utf8(bytes) {
         Ok(text) => text,
         Err(error) => unsafe { str::from_utf8_unchecked(&bytes[..error.valid_up_to()]) },
     }
@@ -324,7 +350,7 @@ impl Unfinished {
         ensures told { Performs P.step performer.old (run_told self.old (take result bytes.now)) performer.new }
         ensures rest { self.new ≡ run_rest self.old (take result bytes.now) }
     {
-        if self.is_empty() {
+        if self.is_empty() && char_len(bytes[0]) > 0 {
             let text = text_front(bytes);
             if !text.is_empty() {
                 performer.print_str(text);
@@ -353,11 +379,15 @@ impl Unfinished {
         requires text { is_esc (slice_index bytes.now 0) ≡ false }
         ensures { ReadsText P.step self.old performer.old bytes.now result performer.new self.new }
     {
-        if char_len(bytes[0]) > 0 {
-            let len = printed_len(bytes);
-            if len > 0 {
-                self.printed(performer, &bytes[..len]);
-                return len;
+        let len = text_len(bytes);
+        if len > 0 {
+            self.printed(performer, &bytes[..len]);
+            return len;
+        }
+        if self.is_empty() {
+            if let Some(control) = c1(bytes) {
+                performer.execute(control);
+                return 2;
             }
         }
         self.byte(performer, bytes[0]);
@@ -371,7 +401,7 @@ impl Unfinished {
         requires text { is_esc (slice_index bytes.now 0) ≡ false }
         ensures { ReadsText P.step self.old performer.old bytes.now result performer.new self.new }
     {
-        if self.is_empty() {
+        if self.is_empty() && bytes[0] < 0x80 {
             let controls = execute_controls(performer, bytes);
             if controls > 0 {
                 return controls;
