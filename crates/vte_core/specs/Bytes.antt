@@ -57,6 +57,10 @@ is_data b = not (nat_lt b 0x20)
 abbrev pub ends_device : ℕ → Bool
 ends_device b = is_abort b || b == 0x9C
 
+-- what a device string puts and goes on after
+abbrev pub is_device_data : ℕ → Bool
+is_device_data b = nat_lt b 0x7F && not (is_abort b || is_esc b)
+
 -- what a device string puts
 abbrev pub is_put : ℕ → Bool
 is_put b = nat_lt b 0x7F

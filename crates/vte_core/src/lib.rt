@@ -13,7 +13,7 @@
 //! its first N data bytes in 16 pieces.
 #![tactic(auto)]
 
-ghost use Rattle.std.specs.Prelude.{◌≡◌, ◌≢◌, ◌+◌, ◌<◌, ◌≤◌, ℕ, Bool, List, [], ◌∷◌, ◌++◌, length, IsTrue, take, drop};
+ghost use Rattle.std.specs.Prelude.{◌≡◌, ◌≢◌, ◌+◌, ◌<◌, ◌≤◌, ℕ, Bool, List, [], ◌∷◌, ◌++◌, length, map, IsTrue, take, drop};
 ghost use Rattle.vte_core.specs.Event as e;
 ghost use Rattle.vte_core.specs.Event.{Performs};
 ghost use Rattle.vte_core.specs.Told.{Told};
@@ -24,7 +24,7 @@ ghost use Rattle.vte_core.specs.Pending.{Pending, InText, InEscape, InCsi, InOsc
 ghost use Rattle.vte_core.specs.Standing.{IsAt, Stands, state_is_text};
 ghost use Rattle.vte_core.specs.Stopping.{StopsAt};
 ghost use Rattle.std.specs.Prelude.{true, not, ◌&&◌};
-ghost use Rattle.vte_core.specs.Bytes.{is_esc};
+ghost use Rattle.vte_core.specs.Bytes.{each, is_device_data, is_esc};
 
 mod event;
 mod header;
@@ -403,6 +403,36 @@ impl<const N: usize> Parser<N> {
         quiet + self.read_one(performer, &bytes[quiet..])
     }
 
+    /// Puts the data of a device control string at the front, and returns how many bytes it is.
+    #[inline(always)]
+    fn put_data<P: Perform>(&mut self, performer: &mut P, bytes: &[u8]) -> usize
+        ensures within { result ≤ length bytes.now }
+        ensures stands { (q : Pending) → IsAt N self.old q → IsAt N self.new (after_bytes q (take result bytes.now)) }
+        ensures told { Tells P.step N self.old performer.old (take result bytes.now) performer.new }
+    {
+        match self.state {
+            State::DcsPassthrough => put_front(performer, bytes),
+            _ => 0,
+        }
+    }
+
+    /// Reads bytes as `read_some` does, or the data of a device control string, of which each byte is told. Returns how
+    /// many bytes it read.
+    #[inline(always)]
+    fn read_on<P: Perform>(&mut self, performer: &mut P, bytes: &[u8]) -> usize
+        requires { 0 < length bytes.now }
+        ensures some { 0 < result }
+        ensures within { result ≤ length bytes.now }
+        ensures stands { (q : Pending) → IsAt N self.old q → IsAt N self.new (after_bytes q (take result bytes.now)) }
+        ensures told { Tells P.step N self.old performer.old (take result bytes.now) performer.new }
+    {
+        let len = self.put_data(performer, bytes);
+        if len == bytes.len() {
+            return len;
+        }
+        len + self.read_some(performer, &bytes[len..])
+    }
+
     /// Reads the next bytes of the stream, and tells the performer of their events, in order. A character or a sequence
     /// that the bytes leave unfinished is kept for the next call.
     pub fn advance<P: Perform>(&mut self, performer: &mut P, bytes: &[u8])
@@ -411,7 +441,7 @@ impl<const N: usize> Parser<N> {
     {
         let mut read = 0;
         while read < bytes.len() {
-            read += self.read_some(performer, &bytes[read..]);
+            read += self.read_on(performer, &bytes[read..]);
         }
     }
 
@@ -446,4 +476,27 @@ fn is_text(state: State, byte: u8) -> bool
         State::Ground => byte != 0x1B,
         _ => false,
     }
+}
+
+/// Puts the bytes at the front that are a device control string's data, and returns how many they are.
+#[inline(always)]
+fn put_front<P: Perform>(performer: &mut P, bytes: &[u8]) -> usize
+    ensures within { result ≤ length bytes.now }
+    ensures all_put { each is_device_data (take result bytes.now) ≡ true }
+    ensures told { Performs P.step performer.old (map e.Put (take result bytes.now)) performer.new }
+{
+    let mut read = 0;
+    while read < bytes.len() && is_device_data(bytes[read]) {
+        performer.put(bytes[read]);
+        read += 1;
+    }
+    read
+}
+
+/// Whether the byte is a device control string's data, and doesn't end it.
+#[inline(always)]
+fn is_device_data(byte: u8) -> bool
+    ensures { result ≡ is_device_data byte }
+{
+    byte < 0x7F && !matches!(byte, 0x18 | 0x1A | 0x1B)
 }
