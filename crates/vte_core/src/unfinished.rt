@@ -235,14 +235,25 @@ fn printed_len(bytes: &[u8]) -> usize
     len
 }
 
-/// How many bytes stand before the next control that is executed, where a character begins; else 0.
+/// Whether a character may begin at the bytes, by the first two. Where none does it's quicker to read them one by one.
+#[inline(always)]
+fn may_begin(bytes: &[u8]) -> bool {
+    match bytes {
+        [first, second, ..] if *first >= 0x80 => {
+            char_len(*first) > 0 && goes_on(&bytes[..1], *second)
+        }
+        [first, ..] => char_len(*first) > 0,
+        [] => false,
+    }
+}
+
+/// How many bytes stand before the next control that is executed, where a character may begin; else 0.
 #[inline(always)]
 fn text_len(bytes: &[u8]) -> usize
-    requires { 0 < length bytes.now }
     ensures within { result ≤ length bytes.now }
     ensures printed { printed_len (take result bytes.now) ≡ length (take result bytes.now) }
 {
-    if char_len(bytes[0]) == 0 {
+    if !may_begin(bytes) {
         return 0;
     }
     printed_len(bytes)
@@ -350,7 +361,7 @@ impl Unfinished {
         ensures told { Performs P.step performer.old (run_told self.old (take result bytes.now)) performer.new }
         ensures rest { self.new ≡ run_rest self.old (take result bytes.now) }
     {
-        if self.is_empty() && char_len(bytes[0]) > 0 {
+        if self.is_empty() && may_begin(bytes) {
             let text = text_front(bytes);
             if !text.is_empty() {
                 performer.print_str(text);
@@ -379,16 +390,16 @@ impl Unfinished {
         requires text { is_esc (slice_index bytes.now 0) ≡ false }
         ensures { ReadsText P.step self.old performer.old bytes.now result performer.new self.new }
     {
-        let len = text_len(bytes);
-        if len > 0 {
-            self.printed(performer, &bytes[..len]);
-            return len;
-        }
         if self.is_empty() {
             if let Some(control) = c1(bytes) {
                 performer.execute(control);
                 return 2;
             }
+        }
+        let len = text_len(bytes);
+        if len > 0 {
+            self.printed(performer, &bytes[..len]);
+            return len;
         }
         self.byte(performer, bytes[0]);
         1
