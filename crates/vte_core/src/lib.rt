@@ -37,7 +37,7 @@ mod perform;
 mod table;
 #[cfg(test)]
 mod tests;
-mod unfinished;
+mod text;
 
 pub use event::Event;
 use header::Header;
@@ -46,7 +46,7 @@ use osc_data::OscData;
 pub use params::{Params, ParamsIter};
 pub use perform::Perform;
 use table::{Action, step_of};
-use unfinished::Unfinished;
+use text::Unfinished;
 
 /// What the bytes so far have begun.
 #[derive(Clone, Copy)]
