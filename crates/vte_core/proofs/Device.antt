@@ -1,5 +1,5 @@
 -- The data of a device string.
-use Rattle.std.proofs.Common.{◌≡◌, ℕ, Bool, true, false, List, [], ◌∷◌, ◌++◌, map, refl, sym, ◌∙◌, ap, arith}
+use Rattle.std.proofs.Common.{◌≡◌, ℕ, true, false, List, [], ◌∷◌, map, refl, sym, ◌∙◌, ap, arith}
 use Rattle.std.proofs.lemmas.Bool.Decides.{nat_tests}
 use Rattle.vte_core.specs.Event.{Event, Put}
 use Rattle.vte_core.specs.Bytes.{each, is_esc, is_device_data, ends_device, is_put}

@@ -1,13 +1,13 @@
 -- Ground text: controls and characters of ASCII, and where it ends.
-use Rattle.std.proofs.Common.{◌≡◌, ℕ, zero, suc, ◌+◌, ◌-◌, ◌<◌, ◌≤◌, Bool, true, false, not, ◌&&◌, List, [], ◌∷◌, ◌++◌, map, length, take, drop, get_or, nat_lt, ◌==◌, inl, inr, refl, sym, ◌∙◌, ap, arith}
+use Rattle.std.proofs.Common.{◌≡◌, ℕ, zero, suc, ◌<◌, ◌≤◌, Bool, true, false, List, [], ◌∷◌, ◌++◌, map, length, take, get_or, nat_lt, inl, inr, refl, ◌∙◌, ap, arith}
 use Rattle.std.proofs.lemmas.Bool.Decides.{nat_tests}
 use Rattle.std.specs.Int.{is_in_range}
 use Rattle.std.specs.Prelude.{slice_index}
 use Rattle.vte_core.specs.Event.{Event, Print, Execute}
 use Rattle.vte_core.specs.Bytes.{each, is_esc, is_c0, is_plain}
-use Rattle.vte_core.specs.Text.{char_len, first_bits, char_event}
+use Rattle.vte_core.specs.Text.{char_event}
 use Rattle.vte_core.specs.Shapes.{before}
-use Rattle.vte_core.specs.Runs.{run_told, run_rest, has_no_esc, is_printed, printed_len}
+use Rattle.vte_core.specs.Runs.{run_told, run_rest, has_no_esc, printed_len}
 use Rattle.vte_core.proofs.Characters.{bool_cases}
 use Rattle.vte_core.proofs.PhaseLemmas.{each-first}
 use Rattle.vte_core.proofs.Runs.{one, printed-both, no_esc-both}

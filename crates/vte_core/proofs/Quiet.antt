@@ -1,8 +1,8 @@
 -- Bytes that tell nothing.
-use Rattle.std.proofs.Common.{◌≡◌, ℕ, suc, ◌+◌, ◌<◌, ◌≤◌, take, drop, get_or, Bool, true, false, not, ◌&&◌, List, [], ◌∷◌, ◌++◌, ◌⊎◌, inl, inr, length, nat_lt, ◌==◌, refl, sym, ◌∙◌, ap, subst, arith, append_assoc, length-append}
+use Rattle.std.proofs.Common.{◌≡◌, ℕ, suc, ◌+◌, ◌≤◌, take, drop, get_or, Bool, true, false, not, ◌&&◌, List, [], ◌∷◌, ◌++◌, ◌⊎◌, inl, inr, length, refl, sym, ◌∙◌, ap, subst, arith, append_assoc, length-append}
 use Rattle.std.proofs.lemmas.Bool.Decides.{nat_tests}
 use Rattle.vte_core.specs.Event.{Event, Performs}
-use Rattle.vte_core.specs.Bytes.{each, is_esc, is_abort, is_control, is_header, is_numeric, is_data, ends_header, ends_osc}
+use Rattle.vte_core.specs.Bytes.{each, is_esc, is_control, is_header, is_numeric, is_data, ends_header, ends_osc}
 use Rattle.vte_core.specs.Pending.{Pending, InText, InEscape, InCsi, InOsc, InHook, InDevice, InSwallowed, events_of_byte, events_from, after_byte, after_bytes}
 use Rattle.vte_core.specs.Phases.{ReadsHeader}
 use Rattle.vte_core.specs.Store.{ReadsOsc}

@@ -7,9 +7,9 @@ use lib.Utf8.{scalar_cases}
 use Rattle.std.specs.Int.{is_in_range}
 use Rattle.std.specs.Char.{encode_utf8, IsScalar}
 use Rattle.std.specs.Str.{encode_utf8_all, all_scalars, chars, IsUtf8}
-use Rattle.std.proofs.lemmas.Str.{encodes-chars, scalars-chars, IsUtf8-from_ascii}
+use Rattle.std.proofs.lemmas.Str.{encodes-chars, scalars-chars}
 use Rattle.std.specs.Bool.{IsTrue}
-use Rattle.std.specs.Prelude.{nat_eq, slice_index}
+use Rattle.std.specs.Prelude.{nat_eq}
 use lib.Dec.{leb}
 use Rattle.vte_core.specs.Event.{Event, Performs, Print}
 use Rattle.vte_core.specs.Bytes.{is_esc}
@@ -147,13 +147,6 @@ run-events n u (b ∷ bs) h =
 pub no_esc-before : (s : List ℕ) → has_no_esc (before is_esc s) ≡ true
 no_esc-before [] = refl
 no_esc-before (b ∷ s) = elim (bool_cases (is_esc b)) [ inl e ↦ rw e refl | inr e ↦ rw e (rw e (no_esc-before s)) ]
-
-pub first-len : (s : List ℕ) (k : ℕ) → k ≤ length s → ((j : ℕ) → j < k → is_esc (get_or s j 0) ≡ false) → (k < length s → is_esc (get_or s k 0) ≡ true) → k ≡ length (before is_esc s)
-first-len [] k l h t = omega (arith, l)
-first-len (b ∷ s) zero l h t = let e : is_esc b ≡ true = t (omega arith) in rw e refl
-first-len (b ∷ s) (suc k) l h t =
-    let e : is_esc b ≡ false = h 0 (omega arith) in
-    rw e (ap suc (first-len s k (omega (arith, l)) (λ j lt. h (suc j) (omega (arith, lt))) (λ lt. t (omega (arith, lt)))))
 
 pub take-before : (s : List ℕ) → take (length (before is_esc s)) s ≡ before is_esc s
 take-before [] = refl
@@ -451,14 +444,3 @@ plain_block bs i within block so_far =
     let same : take (i + 16 - i) (drop i bs) ++ drop 16 (drop i bs) ≡ drop i bs = ap (λ n. take n (drop i bs) ++ drop 16 (drop i bs)) k ∙ take-append-drop 16 (drop i bs) in
     let rest : drop (i + 16) bs ≡ drop 16 (drop i bs) = sym (drop-drop 16 i bs) in
     omega (arith, so_far, len, block (drop 16 (drop i bs)), ap printed_len same, ap printed_len rest)
-
--- a byte of ASCII
-
-one_at : (b : ℕ) → b < 128 → (i : ℕ) → slice_index (b ∷ []) i < 128
-one_at b h zero = h
-one_at b h (suc i) = omega arith
-
-pub one_ascii : (bs : List ℕ) → 1 ≤ length bs → length bs < 2 → get_or bs 0 0 < 128 → IsUtf8 bs
-one_ascii [] h k l = absurd (omega (arith, h))
-one_ascii (b ∷ []) h k l = IsUtf8-from_ascii (b ∷ []) (one_at b l)
-one_ascii (b ∷ c ∷ bs) h k l = absurd (omega (arith, k))

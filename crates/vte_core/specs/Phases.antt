@@ -1,5 +1,5 @@
 -- How far a header has come, and what is kept of it.
-use Rattle.std.specs.Prelude.{◌≡◌, ℕ, Bool, true, false, ◌&&◌, List, [], ◌∷◌, if◌then◌else◌}
+use Rattle.std.specs.Prelude.{◌≡◌, ℕ, Bool, true, false, List, [], ◌∷◌, if◌then◌else◌}
 use Rattle.std.specs.List.{filter}
 use Rattle.vte_core.specs.Bytes.{each, is_numeric}
 use Rattle.vte_core.specs.Header.{unmarked, in_order, intermediates}

@@ -4,9 +4,7 @@ use Rattle.std.specs.Int.{is_in_range}
 use Rattle.vte_core.specs.Event.{Event, Performs}
 use Rattle.vte_core.specs.Bytes.{is_esc}
 use Rattle.vte_core.specs.Pending.{Pending, text_told, text_rest, after_byte, after_bytes, events_from}
-use Rattle.vte_core.specs.Shapes.{before}
-use Rattle.vte_core.specs.Standing.{IsAt, state_is_text}
-use Rattle.vte_core.specs.declared.State.{State}
+use Rattle.vte_core.specs.Standing.{IsAt}
 use Rattle.vte_core.specs.declared.Parser.{Parser}
 use Rattle.vte_core.specs.Stopping.{runs_on}
 

@@ -110,6 +110,7 @@ fn begin<P: Perform>(unfinished: &mut ArrayVec<u8, 4>, performer: &mut P, byte: 
 }
 
 /// A byte of ground text, other than ESC.
+#[inline(always)]
 fn text_byte<P: Perform>(unfinished: &mut ArrayVec<u8, 4>, performer: &mut P, byte: u8)
     requires { IsUnfinished unfinished.old.items }
     ensures told { Performs P.step performer.old (text_told unfinished.old.items byte) performer.new }
@@ -173,6 +174,7 @@ impl Unfinished {
     }
 
     /// A byte of ground text, other than ESC.
+    #[inline(always)]
     pub fn byte<P: Perform>(&mut self, performer: &mut P, byte: u8)
         ensures told { Performs P.step performer.old (text_told self.old byte) performer.new }
         ensures rest { self.new ≡ text_rest self.old byte }

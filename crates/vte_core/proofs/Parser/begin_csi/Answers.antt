@@ -1,7 +1,6 @@
-use Rattle.std.proofs.Common.{◌≡◌, ◌≤◌, ◌∙◌, ◌-◌, ◌++◌, ℕ, List, [], refl, sym, ap, arith, subst, true, length, take, drop, get_or, rules}
+use Rattle.std.proofs.Common.{◌≡◌, ◌∙◌, ◌-◌, ℕ, List, [], refl, sym, ap, arith, subst, true, length, take, drop, get_or}
 use Rattle.vte_core.specs.Bytes.{each, is_numeric}
 use Rattle.vte_core.specs.Phases.{ReadsHeader}
-use Rattle.vte_core.specs.declared.State.TheVariants.{Csi}
 use Rattle.vte_core.proofs.Runs.{nil_of_len}
 use Rattle.vte_core.proofs.StopLemmas.{whole_rest}
 use Rattle.vte_core.proofs.Quiet.{begin-at, begin-quiet}

@@ -1,4 +1,4 @@
-use Rattle.std.proofs.Common.{◌≡◌, ◌∙◌, ◌+◌, ◌-◌, ◌++◌, ℕ, List, sym, subst, length, take, drop}
+use Rattle.std.proofs.Common.{◌+◌, ◌-◌, ◌++◌, sym, subst, length, take, drop}
 use Rattle.vte_core.specs.Pending.{Pending, after_bytes}
 use Rattle.vte_core.specs.Standing.{IsAt}
 use Rattle.vte_core.proofs.Runs.{read_more, one_more_step}

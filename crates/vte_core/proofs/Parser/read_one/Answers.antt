@@ -1,4 +1,4 @@
-use Rattle.std.proofs.Common.{◌≡◌, ◌∙◌, ◌<◌, sym, arith, length, take, ap}
+use Rattle.std.proofs.Common.{◌∙◌, sym, arith, take}
 use Rattle.vte_core.specs.Runs.{run_told}
 use Rattle.vte_core.proofs.Runs.{run-at, byte-at, before-len, some-before, text-byte}
 use Rattle.vte_core.proofs.Parser.read_one.Goals as goal

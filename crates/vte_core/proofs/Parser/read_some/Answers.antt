@@ -1,6 +1,5 @@
-use Rattle.std.proofs.Common.{◌≡◌, ◌∙◌, ◌+◌, ◌-◌, ◌++◌, ℕ, List, [], sym, ap, subst, arith, length, length-take, take, drop}
-use Rattle.vte_core.specs.Event.{Event}
-use Rattle.vte_core.specs.Pending.{Pending, events_from, after_bytes}
+use Rattle.std.proofs.Common.{◌∙◌, ◌+◌, ◌-◌, ℕ, List, sym, subst, length, take, drop}
+use Rattle.vte_core.specs.Pending.{Pending, after_bytes}
 use Rattle.vte_core.specs.Runs.{IsStep}
 use Rattle.vte_core.specs.Standing.{IsAt}
 use Rattle.vte_core.proofs.Runs.{read_more, piece_and_rest}

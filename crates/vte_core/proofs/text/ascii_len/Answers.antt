@@ -1,4 +1,4 @@
-use Rattle.std.proofs.Common.{◌≡◌, ◌∙◌, ◌+◌, ◌-◌, ◌++◌, ℕ, List, true, ap, sym, arith, length, length-drop, take, drop}
+use Rattle.std.proofs.Common.{◌≡◌, ◌∙◌, ◌+◌, ◌-◌, ℕ, true, ap, sym, arith, take, drop}
 use Rattle.vte_core.specs.Bytes.{each, is_plain}
 use Rattle.vte_core.proofs.Ground.{each-append}
 use Rattle.vte_core.proofs.text.ascii_len.Goals as goal

@@ -1,4 +1,4 @@
-use Rattle.std.proofs.Common.{◌≡◌, ◌≤◌, sym, arith, ℕ, length, take, subst}
+use Rattle.std.proofs.Common.{◌≡◌, sym, arith, ℕ, length, take, subst}
 use Rattle.vte_core.specs.Runs.{printed_len}
 use Rattle.vte_core.proofs.Runs.{printed-front, printed-within}
 use Rattle.vte_core.proofs.text.text_len.Goals as goal

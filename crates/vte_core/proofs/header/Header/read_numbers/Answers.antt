@@ -1,4 +1,4 @@
-use Rattle.std.proofs.Common.{◌≡◌, ◌<◌, ◌∙◌, ◌++◌, [], ℕ, List, sym, ap, true, false, arith, length, length-take, take}
+use Rattle.std.proofs.Common.{◌≡◌, ◌<◌, ◌∙◌, ◌++◌, ℕ, List, sym, ap, true, false, arith, length, length-take, take}
 use Rattle.vte_core.specs.Phases.{next_by, phase_of}
 use Rattle.vte_core.proofs.PhaseLemmas.{numerics-some, numerics-kept, append-none}
 use Rattle.vte_core.proofs.header.Header.read_numbers.Goals as goal

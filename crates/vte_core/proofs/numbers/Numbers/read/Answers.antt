@@ -1,4 +1,4 @@
-use Rattle.std.proofs.Common.{◌≡◌, ◌∙◌, ap, arith, sym, subst, true, ◌&&◌, ◌+◌, ◌++◌, ◌∷◌, [], ℕ, List, take, get_or, append_assoc}
+use Rattle.std.proofs.Common.{◌≡◌, ◌∙◌, ap, arith, sym, subst, true, ◌+◌, ◌++◌, ◌∷◌, [], ℕ, List, take, get_or, append_assoc}
 use Rattle.std.proofs.lemmas.List.{take_more}
 use Rattle.vte_core.specs.Bytes.{each, is_numeric}
 use Rattle.vte_core.specs.Reading.{ReadsUpTo}

@@ -1,4 +1,4 @@
-use Rattle.std.proofs.Common.{◌≡◌, ◌≤◌, sym, arith, List, ℕ, length, length-take, take}
+use Rattle.std.proofs.Common.{arith, length-take, take}
 use Rattle.vte_core.proofs.Ground.{printed-no_esc}
 use Rattle.vte_core.proofs.text.Unfinished.mixed.Goals as goal
 

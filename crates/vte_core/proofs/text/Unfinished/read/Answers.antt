@@ -1,4 +1,4 @@
-use Rattle.std.proofs.Common.{◌≡◌, ◌≤◌, ◌<◌, ◌+◌, ◌-◌, ◌∙◌, sym, ap, arith, List, ℕ, ◌++◌, true, length, take, drop, get_or, length-take, length-drop}
+use Rattle.std.proofs.Common.{◌≡◌, ◌+◌, ◌-◌, ◌∙◌, sym, ap, arith, List, ℕ, ◌++◌, true, length, take, drop, get_or, length-take, length-drop}
 use Rattle.std.proofs.lemmas.Bool.{eq-eqb}
 use Rattle.vte_core.specs.Event.{Event}
 use Rattle.vte_core.specs.Bytes.{is_esc}

@@ -3,7 +3,7 @@ use Rattle.std.specs.Prelude.{⊤}
 use Rattle.std.proofs.lemmas.Iterator.{YieldsList-from_chars}
 use Rattle.std.proofs.lemmas.Iterator.Consumers.{YieldsList-end}
 use Rattle.std.specs.Str.{chars}
-use Rattle.vte_core.specs.Event.{Event, Print, Performs}
+use Rattle.vte_core.specs.Event.{Event, Print}
 use Rattle.vte_core.proofs.Telling.{performs-append, same_events}
 use Rattle.vte_core.proofs.tests.rows.TextsPerform.print_str.Goals as goal
 
