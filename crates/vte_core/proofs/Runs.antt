@@ -7,22 +7,20 @@ use lib.Utf8.{scalar_cases}
 use Rattle.std.specs.Int.{is_in_range}
 use Rattle.std.specs.Char.{encode_utf8, IsScalar}
 use Rattle.std.specs.Str.{encode_utf8_all, all_scalars, chars, IsUtf8}
-use Rattle.std.proofs.lemmas.Str.{encodes-chars, scalars-chars, IsUtf8-from_ascii}
+use Rattle.std.proofs.lemmas.Str.{encodes-chars, scalars-chars}
 use Rattle.std.specs.Bool.{IsTrue}
-use Rattle.std.specs.Prelude.{nat_eq, slice_index}
+use Rattle.std.specs.Prelude.{nat_eq}
 use lib.Dec.{leb}
 use Rattle.vte_core.specs.Event.{Event, Performs, Print}
 use Rattle.vte_core.specs.Bytes.{is_esc}
 use Rattle.vte_core.specs.Text.{char_len, second_min, second_max, first_bits, char_event}
 use Rattle.vte_core.specs.Shapes.{before, from}
 use Rattle.vte_core.specs.Pending.{Pending, InText, InEscape, InCsi, InOsc, InHook, InDevice, InSwallowed, text_told, text_rest, events_of_byte, events_from, after_byte, after_bytes}
-use Rattle.vte_core.specs.Runs.{run_told, run_rest, has_no_esc, is_one_step, text_len, is_printed, printed_len}
+use Rattle.vte_core.specs.Runs.{run_told, run_rest, has_no_esc, is_one_step, is_printed, printed_len}
 use Rattle.vte_core.specs.Standing.{IsAt, state_is_text}
 use Rattle.vte_core.specs.declared.Parser.{Parser}
 use Rattle.vte_core.specs.declared.State.{State}
 use Rattle.vte_core.specs.declared.State.TheVariants.{Ground, Escape, Csi, OscString, DcsHeader, DcsPassthrough, SosPmApcString}
-use Rattle.memchr.specs.Find.{IsFirstByte, is_byte}
-use Rattle.std.specs.Prelude.{Option, None, Some, unwrap_or}
 use Rattle.vte_core.specs.Stopping.{StopsAt, runs_on, is_text}
 use Rattle.vte_core.proofs.Characters.{bool_cases}
 use lib.Seq.{take-add}
@@ -32,7 +30,7 @@ use Rattle.vte_core.proofs.StopLemmas.{whole_rest, is_text-at}
 
 -- a character of one byte, of two, three and four
 
-one : (c : ℕ) (rest : List ℕ) → c < 128 → (run_told [] (c ∷ rest) ≡ char_event c ∷ run_told [] rest) × (run_rest [] (c ∷ rest) ≡ run_rest [] rest)
+pub one : (c : ℕ) (rest : List ℕ) → c < 128 → (run_told [] (c ∷ rest) ≡ char_event c ∷ run_told [] rest) × (run_rest [] (c ∷ rest) ≡ run_rest [] rest)
 one c rest h =
     let n : char_len c ≡ 1 = grind (arith, nat_tests) in
     let e : first_bits c ≡ c = grind (arith, nat_tests) in
@@ -135,7 +133,7 @@ run_rest-append u (x ∷ xs) ys = run_rest-append (text_rest u x) xs ys
 
 -- the bytes before the next ESC
 
-no_esc-both : (b : ℕ) (bs : List ℕ) → has_no_esc (b ∷ bs) ≡ true → (is_esc b ≡ false) × (has_no_esc bs ≡ true)
+pub no_esc-both : (b : ℕ) (bs : List ℕ) → has_no_esc (b ∷ bs) ≡ true → (is_esc b ≡ false) × (has_no_esc bs ≡ true)
 no_esc-both b bs h = elim (bool_cases (is_esc b)) [ inl e ↦ let g = rw e at h in cc | inr e ↦ (e, let g = rw e at h in g) ]
 
 pub run-events : (n : ℕ) (u bs : List ℕ) → has_no_esc bs ≡ true → (events_from n (InText u) bs ≡ run_told u bs) × (after_bytes (InText u) bs ≡ InText (run_rest u bs))
@@ -149,13 +147,6 @@ run-events n u (b ∷ bs) h =
 pub no_esc-before : (s : List ℕ) → has_no_esc (before is_esc s) ≡ true
 no_esc-before [] = refl
 no_esc-before (b ∷ s) = elim (bool_cases (is_esc b)) [ inl e ↦ rw e refl | inr e ↦ rw e (rw e (no_esc-before s)) ]
-
-pub first-len : (s : List ℕ) (k : ℕ) → k ≤ length s → ((j : ℕ) → j < k → is_esc (get_or s j 0) ≡ false) → (k < length s → is_esc (get_or s k 0) ≡ true) → k ≡ length (before is_esc s)
-first-len [] k l h t = omega (arith, l)
-first-len (b ∷ s) zero l h t = let e : is_esc b ≡ true = t (omega arith) in rw e refl
-first-len (b ∷ s) (suc k) l h t =
-    let e : is_esc b ≡ false = h 0 (omega arith) in
-    rw e (ap suc (first-len s k (omega (arith, l)) (λ j lt. h (suc j) (omega (arith, lt))) (λ lt. t (omega (arith, lt)))))
 
 pub take-before : (s : List ℕ) → take (length (before is_esc s)) s ≡ before is_esc s
 take-before [] = refl
@@ -237,15 +228,9 @@ text_pending n p (InHook x) run h t e = cc
 text_pending n p InDevice run h t e = cc
 text_pending n p InSwallowed run h t e = cc
 
-some-text : (s : State) (bs : List ℕ) → 0 < text_len s bs → (state_is_text s ≡ true) × (text_len s bs ≡ length (before is_esc bs))
-some-text s bs h = elim (bool_cases (state_is_text s)) [ inl e ↦ (e, rw e refl) | inr e ↦ let g = rw e at h in absurd (omega (arith, g)) ]
-
-before-len : (s : List ℕ) → length (before is_esc s) ≤ length s
+pub before-len : (s : List ℕ) → length (before is_esc s) ≤ length s
 before-len [] = omega arith
 before-len (b ∷ s) = elim (bool_cases (is_esc b)) [ inl e ↦ rw e (omega arith) | inr e ↦ rw e (let r = before-len s in omega (arith, r)) ]
-
-pub text-within : (s : State) (bs : List ℕ) (k : ℕ) → k ≡ text_len s bs → k ≤ length bs
-text-within s bs k h = elim (bool_cases (state_is_text s)) [ inl e ↦ let g = rw e at h in omega (arith, g, before-len bs) | inr e ↦ let g = rw e at h in omega (arith, g) ]
 
 step-at : (q : Pending) (bs : List ℕ) → is_text q ≡ true → 0 < length (before is_esc bs) → is_one_step q (before is_esc bs) (from is_esc bs) ≡ true
 step-at (InText u) bs t h = step-run u bs h
@@ -265,18 +250,27 @@ is_ground DcsHeader h = cc
 is_ground DcsPassthrough h = cc
 is_ground SosPmApcString h = cc
 
+pub some-before : (bs : List ℕ) → 0 < length bs → is_esc (get_or bs 0 0) ≡ false → 0 < length (before is_esc bs)
+some-before [] h e = absurd (omega (arith, h))
+some-before (b ∷ bs) h e = let f : is_esc b ≡ false = e in rw f (omega arith)
+
+pub text-byte : (a b : Bool) → (a && not b) ≡ true → (a ≡ true) × (b ≡ false)
+text-byte true true h = cc
+text-byte true false h = (refl, refl)
+text-byte false b h = cc
+
 -- a run of ground text, from where the parser stands
-pub run-at : (n : ℕ) (p : Parser n) (bs : List ℕ) (k : ℕ) (q : Pending) → k ≡ text_len p.state bs → 0 < k → IsAt n p q
+pub run-at : (n : ℕ) (p : Parser n) (bs : List ℕ) (k : ℕ) (q : Pending) → 0 < length bs → (state_is_text p.state && not (is_esc (get_or bs 0 0))) ≡ true → k ≡ length (before is_esc bs) → IsAt n p q
     → (events_from n q (take k bs) ≡ run_told p.unfinished (take k bs)) × (after_bytes q (take k bs) ≡ InText (run_rest p.unfinished (take k bs)))
     × (is_one_step q (take k bs) (drop k bs) ≡ true) × (p.state ≡ Ground)
-run-at n p bs k q is some h =
-    let t = some-text p.state bs (omega (arith, is)) in
-    let len : k ≡ length (before is_esc bs) = is ∙ t.1 in
-    let text : is_text q ≡ true = is_text-at n p q h ∙ t.0 in
+run-at n p bs k q some is len h =
+    let e = text-byte (state_is_text p.state) (is_esc (get_or bs 0 0)) is in
+    let text : is_text q ≡ true = is_text-at n p q h ∙ e.0 in
     let front : take k bs ≡ before is_esc bs = ap (λ (j : ℕ). take j bs) len ∙ take-before bs in
     let back : drop k bs ≡ from is_esc bs = ap (λ (j : ℕ). drop j bs) len ∙ drop-before bs in
     let r = text_pending n p q (take k bs) h text (ap has_no_esc front ∙ no_esc-before bs) in
-    (r.0, r.1, ap (λ (xs : List ℕ). is_one_step q xs (drop k bs)) front ∙ (ap (is_one_step q (before is_esc bs)) back ∙ step-at q bs text (omega (arith, len))), is_ground p.state t.0)
+    let step = step-at q bs text (some-before bs some e.1) in
+    (r.0, r.1, ap (λ (xs : List ℕ). is_one_step q xs (drop k bs)) front ∙ (ap (is_one_step q (before is_esc bs)) back ∙ step), is_ground p.state e.0)
 
 no_run : (q : Pending) (b : ℕ) (s : List ℕ) → (is_text q ≡ true → is_esc b ≡ true) → is_one_step q (b ∷ []) s ≡ true
 no_run q b [] h = refl
@@ -286,23 +280,14 @@ no_run q b (c ∷ s) h =
       | inr e ↦ rw e refl
     ]
 
--- one byte of a sequence
-pub byte-at : (n : ℕ) (p : Parser n) (bs : List ℕ) (q : Pending) → 0 < length bs → 0 ≡ text_len p.state bs → IsAt n p q → is_one_step q (take 1 bs) (drop 1 bs) ≡ true
+-- one byte of a sequence, or ESC
+pub byte-at : (n : ℕ) (p : Parser n) (bs : List ℕ) (q : Pending) → 0 < length bs → (state_is_text p.state && not (is_esc (get_or bs 0 0))) ≡ false → IsAt n p q → is_one_step q (take 1 bs) (drop 1 bs) ≡ true
 byte-at n p [] q some none h = absurd (omega (arith, some))
 byte-at n p (b ∷ s) q some none h = no_run q b s (λ t.
     elim (bool_cases (is_esc b)) [
       | inl e ↦ e
-      | inr e ↦ let text : state_is_text p.state ≡ true = sym (is_text-at n p q h) ∙ t in let g = rw (text, e) at none in absurd (omega (arith, g))
+      | inr e ↦ let text : state_is_text p.state ≡ true = sym (is_text-at n p q h) ∙ t in let no = rw (text, e) at none in cc
     ])
-
-not_true : (v : Bool) → (v ≡ true → ⊥) → v ≡ false
-not_true true h = absurd (h refl)
-not_true false h = refl
-
--- the answer of `memchr`
-pub first_found : (bs : List ℕ) (r : Option ℕ) → IsFirstByte (is_byte 0x1B) bs r → unwrap_or r (length bs) ≡ length (before is_esc bs)
-first_found bs None h = first-len bs (length bs) (omega arith) (λ j lt. not_true (is_esc (get_or bs j 0)) (h j (omega arith) lt)) (λ lt. absurd (omega (arith, lt)))
-first_found bs (Some k) h = first-len bs k (omega (arith, h.0.high)) (λ j lt. not_true (is_esc (get_or bs j 0)) (h.0.before j (omega arith) lt)) (λ lt. h.1)
 
 -- one more step of the parser
 pub one_more_step : (n : ℕ) (q : Pending) (front piece all : List ℕ) (es ds : List Event) → all ≡ front ++ piece → es ≡ events_from n q front → ds ≡ events_from n (after_bytes q front) piece
@@ -323,7 +308,7 @@ piece_and_rest bs i k h =
 
 -- bytes without controls that are executed
 
-printed-both : (b : ℕ) (bs : List ℕ) → printed_len (b ∷ bs) ≡ suc (length bs) → (is_printed b bs ≡ true) × (printed_len bs ≡ length bs)
+pub printed-both : (b : ℕ) (bs : List ℕ) → printed_len (b ∷ bs) ≡ suc (length bs) → (is_printed b bs ≡ true) × (printed_len bs ≡ length bs)
 printed-both b bs h =
     elim (bool_cases (is_printed b bs)) [
       | inl e ↦ (e, let g = rw e at h in omega (arith, g))
@@ -459,14 +444,3 @@ plain_block bs i within block so_far =
     let same : take (i + 16 - i) (drop i bs) ++ drop 16 (drop i bs) ≡ drop i bs = ap (λ n. take n (drop i bs) ++ drop 16 (drop i bs)) k ∙ take-append-drop 16 (drop i bs) in
     let rest : drop (i + 16) bs ≡ drop 16 (drop i bs) = sym (drop-drop 16 i bs) in
     omega (arith, so_far, len, block (drop 16 (drop i bs)), ap printed_len same, ap printed_len rest)
-
--- a byte of ASCII
-
-one_at : (b : ℕ) → b < 128 → (i : ℕ) → slice_index (b ∷ []) i < 128
-one_at b h zero = h
-one_at b h (suc i) = omega arith
-
-pub one_ascii : (bs : List ℕ) → 1 ≤ length bs → length bs < 2 → get_or bs 0 0 < 128 → IsUtf8 bs
-one_ascii [] h k l = absurd (omega (arith, h))
-one_ascii (b ∷ []) h k l = IsUtf8-from_ascii (b ∷ []) (one_at b l)
-one_ascii (b ∷ c ∷ bs) h k l = absurd (omega (arith, k))

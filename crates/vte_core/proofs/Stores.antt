@@ -86,6 +86,11 @@ pub groups_below : (numbers ends : List ℕ) (len groups : ℕ) (old : List (Lis
 groups_below numbers ends len groups old (fit, a, b, c, d) v h =
     omega (arith, total-store numbers ends len groups old (fit, a, b, c, d) v, h, ends_below 0 (take groups ends) (take len numbers) fit, length_front numbers len c a, length_front ends groups d b)
 
+pub groups_few : (numbers ends : List ℕ) (len groups : ℕ) (old : List (List ℕ)) → IsStore numbers ends len groups → cut_at 0 (take groups ends) (take len numbers) ≡ old → length old ≤ 32
+groups_few numbers ends len groups old (fit, a, b, c, d) v =
+    let count : length old ≡ length (take groups ends) = ap length (sym v) ∙ length-cut 0 (take groups ends) (take len numbers) in
+    omega (arith, b, length_front ends groups d b, count)
+
 pub groups_some : (numbers ends : List ℕ) (len groups : ℕ) (old : List (List ℕ)) → cut_at 0 (take groups ends) (take len numbers) ≡ old → 0 < length old → 0 < groups
 groups_some numbers ends len groups old v h =
     let size : length (take groups ends) ≤ groups = grind (arith, common_steps) in omega (arith, h, ap length v, length-cut 0 (take groups ends) (take len numbers))

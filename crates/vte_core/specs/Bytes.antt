@@ -1,6 +1,11 @@
 -- The classes of bytes.
-use Rattle.std.specs.Prelude.{ℕ, Bool, ◌&&◌, ◌||◌, not, nat_lt, ◌==◌}
+use Rattle.std.specs.Prelude.{ℕ, Bool, true, ◌&&◌, ◌||◌, not, nat_lt, ◌==◌, List, [], ◌∷◌}
 use Rattle.std.specs.Int.{is_in_range}
+
+-- each of the bytes passes the test
+abbrev pub each : (ℕ → Bool) → List ℕ → Bool
+each p [] = true
+each p (b ∷ bs) = p b && each p bs
 
 abbrev pub is_esc : ℕ → Bool
 is_esc b = b == 0x1B
@@ -11,6 +16,14 @@ is_abort b = b == 0x18 || b == 0x1A
 
 abbrev pub is_control : ℕ → Bool
 is_control b = nat_lt b 0x20 && not (is_abort b || is_esc b)
+
+-- what is executed at once in ground text
+abbrev pub is_c0 : ℕ → Bool
+is_c0 b = nat_lt b 0x20 && not (is_esc b)
+
+-- a character of ASCII that is printed
+abbrev pub is_plain : ℕ → Bool
+is_plain b = is_in_range 0x20 0x7F b
 
 abbrev pub is_intermediate : ℕ → Bool
 is_intermediate b = is_in_range 0x20 0x2F b
@@ -37,8 +50,16 @@ ends_escape b = is_abort b || is_in_range 0x30 0x7E b
 abbrev pub ends_osc : ℕ → Bool
 ends_osc b = is_abort b || b == 0x07
 
+-- the data of an operating system command, and `;`
+abbrev pub is_data : ℕ → Bool
+is_data b = not (nat_lt b 0x20)
+
 abbrev pub ends_device : ℕ → Bool
 ends_device b = is_abort b || b == 0x9C
+
+-- what a device string puts and goes on after
+abbrev pub is_device_data : ℕ → Bool
+is_device_data b = nat_lt b 0x7F && not (is_abort b || is_esc b)
 
 -- what a device string puts
 abbrev pub is_put : ℕ → Bool

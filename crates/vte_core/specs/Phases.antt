@@ -1,22 +1,18 @@
 -- How far a header has come, and what is kept of it.
-use Rattle.std.specs.Prelude.{◌≡◌, ℕ, Bool, true, false, ◌&&◌, List, [], ◌∷◌, if◌then◌else◌}
+use Rattle.std.specs.Prelude.{◌≡◌, ℕ, Bool, true, false, List, [], ◌∷◌, if◌then◌else◌}
 use Rattle.std.specs.List.{filter}
-use Rattle.vte_core.specs.Bytes.{is_numeric}
+use Rattle.vte_core.specs.Bytes.{each, is_numeric}
 use Rattle.vte_core.specs.Header.{unmarked, in_order, intermediates}
 use Rattle.vte_core.specs.Reading.{ReadsNumbers, KeepsTwo}
 use Rattle.vte_core.specs.declared.header.Header.{Header}
 use Rattle.vte_core.specs.declared.header.Phase.{Phase}
 use Rattle.vte_core.specs.declared.header.Phase.TheVariants.{Start, InNumbers, InIntermediates, Ignored}
 
-abbrev pub only_numeric : List ℕ → Bool
-only_numeric [] = true
-only_numeric (b ∷ bs) = is_numeric b && only_numeric bs
-
 -- how far the header has come
 abbrev pub phase_of : List ℕ → Phase
 phase_of [] = Start
 phase_of (a ∷ t) =
-    if only_numeric (unmarked (a ∷ t)) then InNumbers
+    if each is_numeric (unmarked (a ∷ t)) then InNumbers
     else (if in_order (unmarked (a ∷ t)) then InIntermediates else Ignored)
 
 -- the same after one more byte, which is numeric or an intermediate or neither

@@ -11,11 +11,10 @@ abbrev pub with_group : List (List ℕ) → List ℕ → List (List ℕ)
 with_group gs [] = gs
 with_group gs (k ∷ ks) = gs ++ (k ∷ ks) ∷ []
 
--- these whole groups, then these whole numbers, then this number; the first 32 whole ones are kept
-pub record Holds (x : Numbers) (gs : List (List ℕ)) (g : List ℕ) (n : ℕ) : Type 0 where
+-- these whole groups, then these whole numbers; the first 32 of them are kept
+pub record Holds (x : Numbers) (gs : List (List ℕ)) (g : List ℕ) : Type 0 where
   pub params : x.params ≡ first_numbers 32 (with_group gs g)
   pub is_open : x.is_open ≡ nat_lt 0 (length g)
-  pub number : x.number ≡ n
   pub many : x.many ≡ nat_lt 32 (total gs + length g)
 
 -- the digits, `:` and `;` so far are these whole groups, then these whole numbers, then this number
@@ -30,9 +29,12 @@ pub record AreNumbers (m : List ℕ) (gs : List (List ℕ)) (g : List ℕ) (n : 
   pub are_group : g ≡ map number last_parts
   pub is_number : n ≡ number digits
 
--- what is kept stands for the digits, `:` and `;` so far
+-- what is kept, and the last number n, stand for the digits, `:` and `;` so far
+abbrev pub ReadsUpTo : Numbers → ℕ → List ℕ → Type 0
+ReadsUpTo x n m = (gs : List (List ℕ)) × (g : List ℕ) × AreNumbers m gs g n × Holds x gs g
+
 abbrev pub ReadsNumbers : Numbers → List ℕ → Type 0
-ReadsNumbers x m = (gs : List (List ℕ)) × (g : List ℕ) × (n : ℕ) × AreNumbers m gs g n × Holds x gs g n
+ReadsNumbers x m = ReadsUpTo x x.number m
 
 -- the first two are kept
 pub record KeepsTwo (x : Intermediates) (is : List ℕ) : Type 0 where

@@ -1,12 +1,10 @@
 -- Ground text without ESC.
-use Rattle.std.specs.Prelude.{◌≡◌, ℕ, suc, Bool, true, false, not, ◌&&◌, ◌||◌, List, [], ◌∷◌, ◌++◌, length, nat_lt, ◌==◌, if◌then◌else◌}
+use Rattle.std.specs.Prelude.{◌≡◌, ◌<◌, ◌≤◌, ℕ, suc, take, Bool, true, false, not, ◌&&◌, ◌||◌, List, [], ◌∷◌, ◌++◌, ◌⊎◌, length, nat_lt, ◌==◌, if◌then◌else◌}
 use Rattle.std.specs.Int.{is_in_range}
 use Rattle.vte_core.specs.Event.{Event, Performs}
 use Rattle.vte_core.specs.Bytes.{is_esc}
-use Rattle.vte_core.specs.Pending.{Pending, text_told, text_rest, after_byte, events_from}
-use Rattle.vte_core.specs.Shapes.{before}
-use Rattle.vte_core.specs.Standing.{IsAt, state_is_text}
-use Rattle.vte_core.specs.declared.State.{State}
+use Rattle.vte_core.specs.Pending.{Pending, text_told, text_rest, after_byte, after_bytes, events_from}
+use Rattle.vte_core.specs.Standing.{IsAt}
 use Rattle.vte_core.specs.declared.Parser.{Parser}
 use Rattle.vte_core.specs.Stopping.{runs_on}
 
@@ -24,21 +22,33 @@ abbrev pub has_no_esc : List ℕ → Bool
 has_no_esc [] = true
 has_no_esc (b ∷ bs) = not (is_esc b) && has_no_esc bs
 
+-- the first k bytes, some at least, are read as ground text after the unfinished bytes u, and leave v
+pub record ReadsText {S : Type 0} (step : S → Event → S → Type 0) (u : List ℕ) (old : S) (bs : List ℕ) (k : ℕ) (new : S) (v : List ℕ) : Type 0 where
+  pub some : 0 < k
+  pub within : k ≤ length bs
+  pub no_esc : has_no_esc (take k bs) ≡ true
+  pub told : Performs step old (run_told u (take k bs)) new
+  pub rest : v ≡ run_rest u (take k bs)
+
 -- the performer is asked after the bytes, and not between them
 abbrev pub is_one_step : Pending → List ℕ → List ℕ → Bool
 is_one_step q [] rest = false
 is_one_step q (b ∷ []) rest = not (runs_on q b rest)
 is_one_step q (b ∷ c ∷ bs) rest = runs_on q b (c ∷ bs) && is_one_step (after_byte q b) (c ∷ bs) rest
 
+-- the bytes at the front tell nothing, and the others, if there are any, are one step
+pub record IsStep (n : ℕ) (q : Pending) (bs rest : List ℕ) : Type 0 where
+  pub quiet : List ℕ
+  pub last : List ℕ
+  pub parts : bs ≡ quiet ++ last
+  pub nothing : events_from n q quiet ≡ []
+  pub one : (last ≡ []) ⊎ (is_one_step (after_bytes q quiet) last rest ≡ true)
+
 -- the performer has gone through some events, and they are those of the bytes, whatever is pending
 pub record Tells {S : Type 0} (step : S → Event → S → Type 0) (n : ℕ) (parser : Parser n) (old : S) (bytes : List ℕ) (new : S) : Type 0 where
   pub told : List Event
   pub performed : Performs step old told new
   pub added : (q : Pending) → IsAt n parser q → told ≡ events_from n q bytes
-
--- how many of the next bytes are ground text
-abbrev pub text_len : State → List ℕ → ℕ
-text_len s bs = if state_is_text s then length (before is_esc bs) else 0
 
 -- the bytes after 0xC2 are the second byte of a control from U+0080 to U+009F
 abbrev pub begins_c1 : List ℕ → Bool

@@ -1,8 +1,8 @@
 //! The header of a control sequence or a device control string: the bytes 0x20 to 0x3F before the final byte
 //! (ECMA-48, section 5.4).
 
-ghost use Rattle.std.specs.Prelude.{◌≡◌, ◌+◌, ◌<◌, ◌≤◌, ℕ, Bool, List, [], ◌∷◌, ◌++◌, length, IsTrue, if◌then◌else◌, true, false};
-ghost use Rattle.vte_core.specs.Bytes.{is_header, is_private, is_numeric, is_intermediate};
+ghost use Rattle.std.specs.Prelude.{◌≡◌, ◌+◌, ◌<◌, ◌≤◌, ℕ, Bool, List, [], ◌∷◌, ◌++◌, length, take, IsTrue, if◌then◌else◌, true, false};
+ghost use Rattle.vte_core.specs.Bytes.{each, is_header, is_private, is_numeric, is_intermediate};
 ghost use Rattle.vte_core.specs.Header.{is_well_formed, kept_groups, kept_intermediates, overflows};
 ghost use Rattle.vte_core.specs.Event.{Csi, Hook};
 ghost use Rattle.vte_core.specs.Heard.{csi_event, hook_event};
@@ -92,8 +92,21 @@ impl Header {
         self.intermediates.clear();
     }
 
-    /// A digit, `:` or `;`.
+    /// Reads the digits, `:` and `;` at the front of the bytes, and returns how many they are.
     #[inline(always)]
+    pub fn read_numbers(&mut self, bytes: &[u8]) -> usize
+        ensures within { result ≤ length bytes.now }
+        ensures numeric { each is_numeric (take result bytes.now) ≡ true }
+        ensures reads { (h : List ℕ) → ReadsHeader self.old h → ReadsHeader self.new (h ++ take result bytes.now) }
+    {
+        let len = self.numbers.read(bytes);
+        if len > 0 {
+            self.phase = after_numeric(self.phase);
+        }
+        len
+    }
+
+    /// A digit, `:` or `;`.
     pub fn numeric(&mut self, byte: u8)
         requires { IsTrue (is_numeric byte) }
         ensures { (h : List ℕ) → ReadsHeader self.old h → ReadsHeader self.new (h ++ byte ∷ []) }

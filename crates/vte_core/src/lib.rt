@@ -13,18 +13,18 @@
 //! its first N data bytes in 16 pieces.
 #![tactic(auto)]
 
-ghost use Rattle.std.specs.Prelude.{◌≡◌, ◌≢◌, ◌+◌, ◌<◌, ◌≤◌, ℕ, Bool, List, [], ◌∷◌, ◌++◌, length, IsTrue, take, drop};
+ghost use Rattle.std.specs.Prelude.{◌≡◌, ◌≢◌, ◌+◌, ◌<◌, ◌≤◌, ℕ, Bool, List, [], ◌∷◌, ◌++◌, length, map, IsTrue, take, drop};
 ghost use Rattle.vte_core.specs.Event as e;
 ghost use Rattle.vte_core.specs.Event.{Performs};
 ghost use Rattle.vte_core.specs.Told.{Told};
-ghost use Rattle.vte_core.specs.Runs.{Tells, is_one_step, text_len};
+ghost use Rattle.vte_core.specs.Runs.{Tells, IsStep, is_one_step};
 ghost use Rattle.vte_core.specs.Heard.{heard, byte_heard, closed_heard, final_heard};
-ghost use Rattle.vte_core.specs.Shapes.{events, before};
+ghost use Rattle.vte_core.specs.Shapes.{events};
 ghost use Rattle.vte_core.specs.Pending.{Pending, InText, InEscape, InCsi, InOsc, InHook, InDevice, InSwallowed, final_rest, final_told, events_of_byte, after_byte, byte_told, byte_rest, events_from, after_bytes, closed, pending};
 ghost use Rattle.vte_core.specs.Standing.{IsAt, Stands, state_is_text};
 ghost use Rattle.vte_core.specs.Stopping.{StopsAt};
 ghost use Rattle.std.specs.Prelude.{true, not, ◌&&◌};
-ghost use Rattle.vte_core.specs.Bytes.{is_esc};
+ghost use Rattle.vte_core.specs.Bytes.{each, is_device_data, is_esc};
 
 mod event;
 mod header;
@@ -35,17 +35,16 @@ mod osc_data;
 mod params;
 mod perform;
 mod table;
-mod unfinished;
+mod text;
 
 pub use event::Event;
 use header::Header;
 use intermediates::Intermediates;
-use memchr::memchr;
 use osc_data::OscData;
 pub use params::{Params, ParamsIter};
 pub use perform::Perform;
 use table::{Action, step_of};
-use unfinished::Unfinished;
+use text::Unfinished;
 
 /// What the bytes so far have begun.
 #[derive(Clone, Copy)]
@@ -332,8 +331,44 @@ impl<const N: usize> Parser<N> {
         }
     }
 
+    /// Reads the bytes at the front that tell nothing: the numbers of a header or the data of a command. Returns how many
+    /// they are.
+    #[inline(always)]
+    fn read_quiet(&mut self, bytes: &[u8]) -> usize
+        ensures within { result ≤ length bytes.now }
+        ensures stands { (q : Pending) → IsAt N self.old q → IsAt N self.new (after_bytes q (take result bytes.now)) }
+        ensures quiet { (q : Pending) → IsAt N self.old q → events_from N q (take result bytes.now) ≡ [] }
+    {
+        match self.state {
+            State::Csi | State::DcsHeader => self.header.read_numbers(bytes),
+            State::OscString => self.osc.read(bytes),
+            State::Ground => self.begin_csi(bytes),
+            _ => 0,
+        }
+    }
+
+    /// Reads `ESC [` after whole ground text, and the numbers that follow, if they stand at the front. Returns how many
+    /// bytes they are.
+    #[inline(always)]
+    fn begin_csi(&mut self, bytes: &[u8]) -> usize
+        requires { self.old.state ≡ State.Ground }
+        ensures within { result ≤ length bytes.now }
+        ensures stands { (q : Pending) → IsAt N self.old q → IsAt N self.new (after_bytes q (take result bytes.now)) }
+        ensures quiet { (q : Pending) → IsAt N self.old q → events_from N q (take result bytes.now) ≡ [] }
+    {
+        match bytes {
+            [0x1B, b'[', rest @ ..] if self.unfinished.is_empty() => {
+                self.state = State::Csi;
+                self.header.clear();
+                2 + self.header.read_numbers(rest)
+            }
+            _ => 0,
+        }
+    }
+
     /// Reads ground text up to the next ESC, or else one byte, and returns how many bytes it read.
-    fn some<P: Perform>(&mut self, performer: &mut P, bytes: &[u8]) -> usize
+    #[inline(always)]
+    fn read_one<P: Perform>(&mut self, performer: &mut P, bytes: &[u8]) -> usize
         requires { 0 < length bytes.now }
         ensures some { 0 < result }
         ensures within { result ≤ length bytes.now }
@@ -341,13 +376,59 @@ impl<const N: usize> Parser<N> {
         ensures told { Tells P.step N self.old performer.old (take result bytes.now) performer.new }
         ensures step { (q : Pending) → IsAt N self.old q → is_one_step q (take result bytes.now) (drop result bytes.now) ≡ true }
     {
-        let len = text_len(self.state, bytes);
-        if len == 0 {
-            self.byte(performer, bytes[0]);
-            return 1;
+        if is_text(self.state, bytes[0]) {
+            return self.unfinished.read(performer, bytes);
         }
-        self.unfinished.run(performer, &bytes[..len]);
-        len
+        self.byte(performer, bytes[0]);
+        1
+    }
+
+    /// Reads bytes up to the first that tells something, and with it, or ground text up to the next ESC. Returns how many
+    /// bytes it read.
+    #[inline(always)]
+    fn read_some<P: Perform>(&mut self, performer: &mut P, bytes: &[u8]) -> usize
+        requires { 0 < length bytes.now }
+        ensures some { 0 < result }
+        ensures within { result ≤ length bytes.now }
+        ensures stands { (q : Pending) → IsAt N self.old q → IsAt N self.new (after_bytes q (take result bytes.now)) }
+        ensures told { Tells P.step N self.old performer.old (take result bytes.now) performer.new }
+        ensures step { (q : Pending) → IsAt N self.old q → IsStep N q (take result bytes.now) (drop result bytes.now) }
+    {
+        let quiet = self.read_quiet(bytes);
+        if quiet == bytes.len() {
+            return quiet;
+        }
+        quiet + self.read_one(performer, &bytes[quiet..])
+    }
+
+    /// Puts the data of a device control string at the front, and returns how many bytes it is.
+    #[inline(always)]
+    fn put_data<P: Perform>(&mut self, performer: &mut P, bytes: &[u8]) -> usize
+        ensures within { result ≤ length bytes.now }
+        ensures stands { (q : Pending) → IsAt N self.old q → IsAt N self.new (after_bytes q (take result bytes.now)) }
+        ensures told { Tells P.step N self.old performer.old (take result bytes.now) performer.new }
+    {
+        match self.state {
+            State::DcsPassthrough => put_front(performer, bytes),
+            _ => 0,
+        }
+    }
+
+    /// Reads bytes as `read_some` does, or the data of a device control string, of which each byte is told. Returns how
+    /// many bytes it read.
+    #[inline(always)]
+    fn read_on<P: Perform>(&mut self, performer: &mut P, bytes: &[u8]) -> usize
+        requires { 0 < length bytes.now }
+        ensures some { 0 < result }
+        ensures within { result ≤ length bytes.now }
+        ensures stands { (q : Pending) → IsAt N self.old q → IsAt N self.new (after_bytes q (take result bytes.now)) }
+        ensures told { Tells P.step N self.old performer.old (take result bytes.now) performer.new }
+    {
+        let len = self.put_data(performer, bytes);
+        if len == bytes.len() {
+            return len;
+        }
+        len + self.read_some(performer, &bytes[len..])
     }
 
     /// Reads the next bytes of the stream, and tells the performer of their events, in order. A character or a sequence
@@ -358,7 +439,7 @@ impl<const N: usize> Parser<N> {
     {
         let mut read = 0;
         while read < bytes.len() {
-            read += self.some(performer, &bytes[read..]);
+            read += self.read_on(performer, &bytes[read..]);
         }
     }
 
@@ -378,32 +459,42 @@ impl<const N: usize> Parser<N> {
             if performer.terminated() {
                 return read;
             }
-            read += self.some(performer, &bytes[read..]);
+            read += self.read_some(performer, &bytes[read..]);
         }
         bytes.len()
     }
 }
 
-/// How many of the next bytes are ground text: those before the next ESC.
-#[inline]
-fn text_len(state: State, bytes: &[u8]) -> usize
-    ensures { result ≡ text_len state bytes.now }
+/// Whether the byte is ground text.
+#[inline(always)]
+fn is_text(state: State, byte: u8) -> bool
+    ensures { result ≡ (state_is_text state && not (is_esc byte)) }
 {
     match state {
-        State::Ground => len_before_esc(bytes),
-        _ => 0,
+        State::Ground => byte != 0x1B,
+        _ => false,
     }
 }
 
-/// How many bytes stand before the next ESC. The next two are looked at first: a program that moves the cursor about
-/// writes hardly more between two sequences.
-#[inline]
-fn len_before_esc(bytes: &[u8]) -> usize
-    ensures { result ≡ length (before is_esc bytes.now) }
+/// Puts the bytes at the front that are a device control string's data, and returns how many they are.
+#[inline(always)]
+fn put_front<P: Perform>(performer: &mut P, bytes: &[u8]) -> usize
+    ensures within { result ≤ length bytes.now }
+    ensures all_put { each is_device_data (take result bytes.now) ≡ true }
+    ensures told { Performs P.step performer.old (map e.Put (take result bytes.now)) performer.new }
 {
-    match bytes {
-        [0x1B, ..] => 0,
-        [_, 0x1B, ..] => 1,
-        _ => memchr(0x1B, bytes).unwrap_or(bytes.len()),
+    let mut read = 0;
+    while read < bytes.len() && is_device_data(bytes[read]) {
+        performer.put(bytes[read]);
+        read += 1;
     }
+    read
+}
+
+/// Whether the byte is a device control string's data, and doesn't end it.
+#[inline(always)]
+fn is_device_data(byte: u8) -> bool
+    ensures { result ≡ is_device_data byte }
+{
+    byte < 0x7F && !matches!(byte, 0x18 | 0x1A | 0x1B)
 }

@@ -1,10 +1,18 @@
 //! The numbers of a header, digit by digit: 32 are kept, in their groups.
 
-ghost use Rattle.std.specs.Prelude.{◌≡◌, ◌+◌, ◌-◌, ◌*◌, ◌<◌, ◌≤◌, ◌^◌, ℕ, List, [], ◌∷◌, ◌++◌, length, min, IsTrue};
-ghost use Rattle.vte_core.specs.Bytes.{is_numeric};
+ghost use Rattle.std.specs.Prelude.{◌≡◌, ◌+◌, ◌-◌, ◌*◌, ◌<◌, ◌≤◌, ◌^◌, ℕ, List, [], ◌∷◌, ◌++◌, length, take, true, IsTrue};
+ghost use Rattle.vte_core.specs.Bytes.{each, is_numeric};
 ghost use Rattle.vte_core.specs.Store.{total};
 
 use crate::Params;
+
+/// Whether the byte is a digit, `:` or `;`.
+#[inline(always)]
+fn is_numeric(byte: u8) -> bool
+    ensures { result ≡ is_numeric byte }
+{
+    (0x30..=0x3B).contains(&byte)
+}
 
 /// The first 32 numbers.
 #[derive(Drop)]
@@ -21,7 +29,7 @@ pub struct Numbers {
 }
 
 impl Numbers {
-    ghost use Rattle.vte_core.specs.Reading.{Holds, ReadsNumbers};
+    ghost use Rattle.vte_core.specs.Reading.{Holds, ReadsNumbers, ReadsUpTo};
     ghost use Rattle.vte_core.specs.Header.{groups_of, first_numbers};
     ghost use Rattle.std.specs.Prelude.{nat_lt};
 
@@ -47,21 +55,12 @@ impl Numbers {
         self.many = false;
     }
 
-    /// A digit of the last number.
-    fn digit(&mut self, digit: u8)
-        requires { digit < 10 }
-        ensures { (gs : List (List ℕ)) (g : List ℕ) (n : ℕ) → Holds self.old gs g n → Holds self.new gs g (min 65535 (n * 10 + digit)) }
+    /// A number is whole.
+    #[inline]
+    fn end_number(&mut self, number: u16)
+        ensures { (gs : List (List ℕ)) (g : List ℕ) → Holds self.old gs g → Holds self.new gs (g ++ number ∷ []) }
     {
-        self.number = self.number.saturating_mul(10).saturating_add(digit as u16);
-    }
-
-    /// The last number is whole.
-    fn end_number(&mut self)
-        ensures { (gs : List (List ℕ)) (g : List ℕ) (n : ℕ) → Holds self.old gs g n → Holds self.new gs (g ++ n ∷ []) 0 }
-    {
-        let number = self.number;
         let goes_on = self.is_open;
-        self.number = 0;
         self.is_open = true;
         if self.params.is_full() {
             self.many = true;
@@ -73,26 +72,59 @@ impl Numbers {
     }
 
     /// The last group is whole.
+    #[inline]
     fn end_group(&mut self)
-        ensures { (gs : List (List ℕ)) (g : List ℕ) (n : ℕ) → Holds self.old gs g n → 0 < length g → Holds self.new (gs ++ g ∷ []) [] n }
+        ensures { (gs : List (List ℕ)) (g : List ℕ) → Holds self.old gs g → 0 < length g → Holds self.new (gs ++ g ∷ []) [] }
     {
         self.is_open = false;
     }
 
+    /// A digit, `:` or `;` after the last number, which is returned as it is then.
+    #[inline(always)]
+    fn after_byte(&mut self, number: u16, byte: u8) -> u16
+        requires { IsTrue (is_numeric byte) }
+        ensures { (m : List ℕ) → ReadsUpTo self.old number m → ReadsUpTo self.new result (m ++ byte ∷ []) }
+    {
+        match byte {
+            b':' => {
+                self.end_number(number);
+                0
+            }
+            b';' => {
+                self.end_number(number);
+                self.end_group();
+                0
+            }
+            _ => number
+                .saturating_mul(10)
+                .saturating_add((byte - b'0') as u16),
+        }
+    }
+
     /// A digit, `:` or `;`.
-    #[inline]
     pub fn push(&mut self, byte: u8)
         requires { IsTrue (is_numeric byte) }
         ensures { (m : List ℕ) → ReadsNumbers self.old m → ReadsNumbers self.new (m ++ byte ∷ []) }
     {
-        match byte {
-            b':' => self.end_number(),
-            b';' => {
-                self.end_number();
-                self.end_group();
-            }
-            _ => self.digit(byte - b'0'),
+        let number = self.number;
+        self.number = self.after_byte(number, byte);
+    }
+
+    /// Reads the digits, `:` and `;` at the front of the bytes, and returns how many they are.
+    #[inline(always)]
+    pub fn read(&mut self, bytes: &[u8]) -> usize
+        ensures within { result ≤ length bytes.now }
+        ensures numeric { each is_numeric (take result bytes.now) ≡ true }
+        ensures reads { (m : List ℕ) → ReadsNumbers self.old m → ReadsNumbers self.new (m ++ take result bytes.now) }
+    {
+        let mut number = self.number;
+        let mut read = 0;
+        while read < bytes.len() && is_numeric(bytes[read]) {
+            number = self.after_byte(number, bytes[read]);
+            read += 1;
         }
+        self.number = number;
+        read
     }
 
     /// The header ends, and with it the last number and the last group.
@@ -100,7 +132,7 @@ impl Numbers {
         ensures params { (m : List ℕ) → ReadsNumbers self.old m → self.new.params ≡ first_numbers 32 (groups_of m) }
         ensures many { (m : List ℕ) → ReadsNumbers self.old m → self.new.many ≡ nat_lt 32 (total (groups_of m)) }
     {
-        self.end_number();
+        self.end_number(self.number);
         self.end_group();
     }
 }

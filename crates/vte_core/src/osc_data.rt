@@ -1,7 +1,8 @@
 //! The data of an operating system command, byte by byte: the first N bytes, in the first 16 pieces.
 
-ghost use Rattle.std.specs.Prelude.{◌≡◌, ◌+◌, ◌<◌, ◌≤◌, ℕ, List, [], ◌∷◌, ◌++◌, length, take, map, IsTrue};
+ghost use Rattle.std.specs.Prelude.{◌≡◌, ◌+◌, ◌<◌, ◌≤◌, ℕ, List, [], ◌∷◌, ◌++◌, length, take, map, IsTrue, true};
 ghost use Rattle.vte_core.specs.Event.{Osc as OscEvent};
+ghost use Rattle.vte_core.specs.Bytes.{each, is_data};
 ghost use Rattle.vte_core.specs.Heard.{osc_event};
 ghost use Rattle.vte_core.specs.Shapes.{osc_pieces};
 ghost use Rattle.vte_core.specs.Store.{ReadsOsc, cut_at, EndsRise};
@@ -74,6 +75,21 @@ impl<const N: usize> OscData<N> {
         } else if !self.bytes.is_full() {
             self.bytes.push(byte);
         }
+    }
+
+    /// Reads the bytes at the front that aren't controls, and returns how many they are.
+    #[inline(always)]
+    pub fn read(&mut self, bytes: &[u8]) -> usize
+        ensures within { result ≤ length bytes.now }
+        ensures all_data { each is_data (take result bytes.now) ≡ true }
+        ensures reads { (s : List ℕ) → ReadsOsc N self.old s → ReadsOsc N self.new (s ++ take result bytes.now) }
+    {
+        let mut read = 0;
+        while read < bytes.len() && bytes[read] >= 0x20 {
+            self.push(bytes[read]);
+            read += 1;
+        }
+        read
     }
 
     /// The last piece ends.

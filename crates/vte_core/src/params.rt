@@ -55,9 +55,10 @@ impl Params {
         }
     }
 
-    /// How many numbers there are, subparameters counted.
+    /// How many numbers there are, subparameters counted: at most 32.
     pub fn len(&self) -> usize
-        ensures { result ≡ total self.now }
+        ensures value { result ≡ total self.now }
+        ensures few { total self.now ≤ 32 }
     {
         self.len
     }
@@ -145,9 +146,10 @@ impl<'a> Iterator for ParamsIter<'a> {
 }
 
 impl Params {
-    /// The groups, in order.
+    /// The groups, in order: at most 32.
     pub fn iter(&self) -> ParamsIter<'_>
-        ensures { result ≡ self.now }
+        ensures groups { result ≡ self.now }
+        ensures few { length self.now ≤ 32 }
     {
         ParamsIter {
             numbers: &self.numbers[..self.len],

@@ -9,6 +9,9 @@ ghost use Rattle.vte_core.specs.EventOf.{event_of};
 use crate::event::Event;
 use crate::params::Params;
 
+/// From how many bytes on it's worth while to ask whether a text is ASCII alone, which needs no decoding.
+const LONG_TEXT: usize = 16;
+
 /// Receives the events of a byte stream, in order, each once.
 ///
 /// An implementation writes [`event`](Perform::event) and [`terminated`](Perform::terminated). Every other method
@@ -41,6 +44,12 @@ pub trait Perform {
     fn print_str(&mut self, text: &str)
         ensures { Performs step self.old (map e.Print (chars text.now)) self.new }
     {
+        if text.len() >= LONG_TEXT && text.is_ascii() {
+            for byte in text.as_bytes() {
+                self.print(*byte as char);
+            }
+            return;
+        }
         for c in text.chars() {
             self.print(c);
         }

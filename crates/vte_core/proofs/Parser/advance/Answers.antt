@@ -16,21 +16,21 @@ pub loop-read-preserved : goal.loop-read-preserved
 loop-read-preserved g c =
     let bs = c.args.bytes.now in
     let i = c.loop-read.read in
-    let k = c.some-read.result in
+    let k = c.read_on-read.result in
     let inv = c.loop-read.invariant in
-    let tells = c.some-read.ensures.told in
+    let tells = c.read_on-read.ensures.told in
     let piece : List ℕ = take k (take (length bs - i) (drop i bs)) in
     let more : take (i + k) bs ≡ take i bs ++ piece = read_more bs i k in
     record {
-      within = omega (arith, c.some-read.ensures.within, length-take (length bs - i) (drop i bs), length-drop i bs);
+      within = omega (arith, c.read_on-read.ensures.within, length-take (length bs - i) (drop i bs), length-drop i bs);
       told = inv.told ++ tells.told;
-      performed = performs-append g.P.Perform.step c.args.performer.now c.loop-read.performer c.some-read.new.performer inv.told tells.told inv.performed tells.performed;
-      none = λ h. absurd (omega (arith, h, c.some-read.ensures.some));
+      performed = performs-append g.P.Perform.step c.args.performer.now c.loop-read.performer c.read_on-read.new.performer inv.told tells.told inv.performed tells.performed;
+      none = λ h. absurd (omega (arith, h, c.read_on-read.ensures.some));
       stands = λ q h.
           let now = after_bytes q (take i bs) in
           let at = inv.stands q h in
           let step = one_more_step g.row.N q (take i bs) piece (take (i + k) bs) inv.told tells.told more (inv.added q h) (tells.added now at) in
-          subst (λ (r : Pending). IsAt g.row.N c.some-read.new.self r) (sym step.1) (c.some-read.ensures.stands now at);
+          subst (λ (r : Pending). IsAt g.row.N c.read_on-read.new.self r) (sym step.1) (c.read_on-read.ensures.stands now at);
       added = λ q h. (one_more_step g.row.N q (take i bs) piece (take (i + k) bs) inv.told tells.told more (inv.added q h) (tells.added (after_bytes q (take i bs)) (inv.stands q h))).0;
     }
 

@@ -7,7 +7,8 @@ use Rattle.vte_core.specs.Shapes.{events}
 use Rattle.vte_core.specs.Standing.{IsAt}
 use Rattle.vte_core.specs.Stopping.{StopsAt}
 use Rattle.vte_core.proofs.StopLemmas.{stop_now, stop_end}
-use Rattle.vte_core.proofs.Runs.{read_more, one_more_step, piece_and_rest, stop_steps}
+use Rattle.vte_core.proofs.Runs.{read_more, one_more_step, piece_and_rest}
+use Rattle.vte_core.proofs.Quiet.{step_stops}
 use Rattle.vte_core.proofs.Telling.{same_events, performs-append}
 use Rattle.vte_core.proofs.Machine.{after_bytes-append, events-past}
 use Rattle.vte_core.proofs.Parser.advance_until_terminated.Goals as goal
@@ -33,38 +34,38 @@ pub loop-read-preserved : goal.loop-read-preserved
 loop-read-preserved g c =
     let bs = c.args.bytes.now in
     let i = c.loop-read.read in
-    let k = c.some-read.result in
+    let k = c.read_some-read.result in
     let inv = c.loop-read.invariant in
-    let tells = c.some-read.ensures.told in
+    let tells = c.read_some-read.ensures.told in
     let piece : List ℕ = take k (take (length bs - i) (drop i bs)) in
     let more : take (i + k) bs ≡ take i bs ++ piece = read_more bs i k in
     let quiet : g.P.Perform.is_terminated c.loop-read.performer ≡ false = sym c.terminated.ensures ∙ c.if-terminated.false in
     record {
-      within = omega (arith, c.some-read.ensures.within, length-take (length bs - i) (drop i bs), length-drop i bs);
+      within = omega (arith, c.read_some-read.ensures.within, length-take (length bs - i) (drop i bs), length-drop i bs);
       told = inv.told ++ tells.told;
-      performed = performs-append g.P.Perform.step c.args.performer.now c.loop-read.performer c.some-read.new.performer inv.told tells.told inv.performed tells.performed;
-      none = λ h. absurd (omega (arith, h, c.some-read.ensures.some));
+      performed = performs-append g.P.Perform.step c.args.performer.now c.loop-read.performer c.read_some-read.new.performer inv.told tells.told inv.performed tells.performed;
+      none = λ h. absurd (omega (arith, h, c.read_some-read.ensures.some));
       stands = λ q h.
           let now = after_bytes q (take i bs) in
           let at = inv.stands q h in
           let step = one_more_step g.row.N q (take i bs) piece (take (i + k) bs) inv.told tells.told more (inv.added q h) (tells.added now at) in
-          subst (λ (r : Pending). IsAt g.row.N c.some-read.new.self r) (sym step.1) (c.some-read.ensures.stands now at);
+          subst (λ (r : Pending). IsAt g.row.N c.read_some-read.new.self r) (sym step.1) (c.read_some-read.ensures.stands now at);
       added = λ q h. (one_more_step g.row.N q (take i bs) piece (take (i + k) bs) inv.told tells.told more (inv.added q h) (tells.added (after_bytes q (take i bs)) (inv.stands q h))).0;
       stops = λ q h j new r.
           let now = after_bytes q (take i bs) in
           let at = inv.stands q h in
           let rest : List ℕ = drop k (take (length bs - i) (drop i bs)) in
-          let parts = piece_and_rest bs i k c.some-read.ensures.within in
+          let parts = piece_and_rest bs i k c.read_some-read.ensures.within in
           let step = one_more_step g.row.N q (take i bs) piece (take (i + k) bs) inv.told tells.told more (inv.added q h) (tells.added now at) in
-          let left : StopsAt g.P.Perform.step g.P.Perform.is_terminated g.row.N (after_bytes now piece) true rest c.some-read.new.performer j new =
-          subst (λ (x : Pending). StopsAt g.P.Perform.step g.P.Perform.is_terminated g.row.N x true rest c.some-read.new.performer j new) step.1
-          (subst (λ (xs : List ℕ). StopsAt g.P.Perform.step g.P.Perform.is_terminated g.row.N (after_bytes q (take (i + k) bs)) true xs c.some-read.new.performer j new) parts.2 r) in
-          let gone = same_events g.P.Perform.step c.loop-read.performer c.some-read.new.performer tells.told (events_from g.row.N now piece) (tells.added now at) tells.performed in
-          let whole = stop_steps g.P.Perform.step g.P.Perform.is_terminated g.row.N now true piece rest c.loop-read.performer c.some-read.new.performer j new (c.some-read.ensures.step now at) quiet gone left in
+          let left : StopsAt g.P.Perform.step g.P.Perform.is_terminated g.row.N (after_bytes now piece) true rest c.read_some-read.new.performer j new =
+          subst (λ (x : Pending). StopsAt g.P.Perform.step g.P.Perform.is_terminated g.row.N x true rest c.read_some-read.new.performer j new) step.1
+          (subst (λ (xs : List ℕ). StopsAt g.P.Perform.step g.P.Perform.is_terminated g.row.N (after_bytes q (take (i + k) bs)) true xs c.read_some-read.new.performer j new) parts.2 r) in
+          let gone = same_events g.P.Perform.step c.loop-read.performer c.read_some-read.new.performer tells.told (events_from g.row.N now piece) (tells.added now at) tells.performed in
+          let whole = step_stops g.P.Perform.step g.P.Perform.is_terminated g.row.N now piece rest c.loop-read.performer c.read_some-read.new.performer j new (c.read_some-read.ensures.step now at) quiet gone left in
           let m : i + (length piece + j) ≡ i + k + j = omega (arith, parts.1) in
           subst (λ (x : ℕ). StopsAt g.P.Perform.step g.P.Perform.is_terminated g.row.N q true bs c.args.performer.now x new) m
           (inv.stops q h (length piece + j) new (subst (λ (xs : List ℕ). StopsAt g.P.Perform.step g.P.Perform.is_terminated g.row.N now true xs c.loop-read.performer (length piece + j) new) parts.0 whole));
-      first = λ h. absurd (omega (arith, h, c.some-read.ensures.some));
+      first = λ h. absurd (omega (arith, h, c.read_some-read.ensures.some));
       later = λ h. zero_or i (g.P.Perform.is_terminated c.args.performer.now) (λ z. ap g.P.Perform.is_terminated (sym (inv.first z).0) ∙ quiet) inv.later;
     }
 

@@ -5,7 +5,6 @@ pub returns : goal.returns
 returns c = (
   [],
   [],
-  0,
   record { parts = []; last = []; last_parts = []; digits = []; by_groups = refl; by_numbers = refl; are_groups = refl; are_group = refl; is_number = refl },
-  record { params = c.new.ensures; is_open = refl; number = refl; many = refl },
+  record { params = c.new.ensures; is_open = refl; many = refl },
 )

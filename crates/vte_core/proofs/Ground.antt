@@ -1,0 +1,72 @@
+-- Ground text: controls and characters of ASCII, and where it ends.
+use Rattle.std.proofs.Common.{◌≡◌, ℕ, zero, suc, ◌<◌, ◌≤◌, Bool, true, false, List, [], ◌∷◌, ◌++◌, map, length, take, get_or, nat_lt, inl, inr, refl, ◌∙◌, ap, arith}
+use Rattle.std.proofs.lemmas.Bool.Decides.{nat_tests}
+use Rattle.std.specs.Int.{is_in_range}
+use Rattle.std.specs.Prelude.{slice_index}
+use Rattle.vte_core.specs.Event.{Event, Print, Execute}
+use Rattle.vte_core.specs.Bytes.{each, is_esc, is_c0, is_plain}
+use Rattle.vte_core.specs.Text.{char_event}
+use Rattle.vte_core.specs.Shapes.{before}
+use Rattle.vte_core.specs.Runs.{run_told, run_rest, has_no_esc, printed_len}
+use Rattle.vte_core.proofs.Characters.{bool_cases}
+use Rattle.vte_core.proofs.PhaseLemmas.{each-first}
+use Rattle.vte_core.proofs.Runs.{one, printed-both, no_esc-both}
+
+pub each-append : (p : ℕ → Bool) (xs ys : List ℕ) → each p xs ≡ true → each p ys ≡ true → each p (xs ++ ys) ≡ true
+each-append p [] ys h k = k
+each-append p (x ∷ xs) ys h k = let g = each-first p x xs h in rw g.0 (each-append p xs ys g.1 k)
+
+pub no_esc-append : (xs ys : List ℕ) → has_no_esc xs ≡ true → has_no_esc ys ≡ true → has_no_esc (xs ++ ys) ≡ true
+no_esc-append [] ys h k = k
+no_esc-append (x ∷ xs) ys h k = let g = no_esc-both x xs h in rw g.0 (no_esc-append xs ys g.1 k)
+
+-- controls are executed, one by one
+pub c0-run : (xs : List ℕ) → each is_c0 xs ≡ true → (run_told [] xs ≡ map Execute xs) × (run_rest [] xs ≡ []) × (has_no_esc xs ≡ true)
+c0-run [] h = (refl, refl, refl)
+c0-run (b ∷ xs) h =
+    let g = each-first is_c0 b xs h in
+    let low : b < 0x20 = grind (arith, nat_tests) in
+    let esc : is_esc b ≡ false = grind (arith, nat_tests) in
+    let control : nat_lt b 0x20 ≡ true = grind (arith, nat_tests) in
+    let event : char_event b ≡ Execute b = rw control refl in
+    let first = one b xs (omega (arith, low)) in
+    let more = c0-run xs g.1 in
+    (first.0 ∙ (ap (λ (e : Event). e ∷ run_told [] xs) event ∙ ap (λ (es : List Event). Execute b ∷ es) more.0), first.1 ∙ more.1, rw esc more.2)
+
+-- characters of ASCII are printed, one by one
+pub plain-run : (xs : List ℕ) → each is_plain xs ≡ true → (run_told [] xs ≡ map Print xs) × (run_rest [] xs ≡ []) × (has_no_esc xs ≡ true)
+plain-run [] h = (refl, refl, refl)
+plain-run (b ∷ xs) h =
+    let g = each-first is_plain b xs h in
+    let low : b < 128 = grind (arith, nat_tests) in
+    let esc : is_esc b ≡ false = grind (arith, nat_tests) in
+    let control : nat_lt b 0x20 ≡ false = grind (arith, nat_tests) in
+    let high : is_in_range 0x80 0x9F b ≡ false = grind (arith, nat_tests) in
+    let event : char_event b ≡ Print b = rw (control, high) refl in
+    let first = one b xs low in
+    let more = plain-run xs g.1 in
+    (first.0 ∙ (ap (λ (e : Event). e ∷ run_told [] xs) event ∙ ap (λ (es : List Event). Print b ∷ es) more.0), first.1 ∙ more.1, rw esc more.2)
+
+pub plain-ascii : (xs : List ℕ) → each is_plain xs ≡ true → (i : ℕ) → slice_index xs i < 128
+plain-ascii [] h i = omega arith
+plain-ascii (b ∷ xs) h zero = let g = each-first is_plain b xs h in let is : is_plain b ≡ true = g.0 in grind (arith, nat_tests)
+plain-ascii (b ∷ xs) h (suc i) = let g = each-first is_plain b xs h in plain-ascii xs g.1 i
+
+-- ESC isn't printed
+pub printed-no_esc : (xs : List ℕ) → printed_len xs ≡ length xs → has_no_esc xs ≡ true
+printed-no_esc [] h = refl
+printed-no_esc (b ∷ xs) h =
+    let g = printed-both b xs h in
+    elim (bool_cases (is_esc b)) [
+      | inl e ↦ let low : nat_lt b 0x20 ≡ true = grind (arith, nat_tests) in let no = rw low at g.0 in cc
+      | inr e ↦ rw e (printed-no_esc xs g.1)
+    ]
+
+-- ground text ends before ESC
+pub text_end : (s : List ℕ) (k : ℕ) → k ≤ length s → has_no_esc (take k s) ≡ true → (k < length s → is_esc (get_or s k 0) ≡ true) → k ≡ length (before is_esc s)
+text_end [] k l h t = omega (arith, l)
+text_end (b ∷ s) zero l h t = let e : is_esc b ≡ true = t (omega arith) in rw e refl
+text_end (b ∷ s) (suc k) l h t =
+    let g = no_esc-both b (take k s) h in
+    let e : is_esc b ≡ false = g.0 in
+    rw e (ap suc (text_end s k (omega (arith, l)) g.1 (λ lt. t (omega (arith, lt)))))

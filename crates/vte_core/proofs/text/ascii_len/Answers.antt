@@ -1,0 +1,16 @@
+use Rattle.std.proofs.Common.{◌≡◌, ◌∙◌, ◌+◌, ◌-◌, ℕ, true, ap, sym, arith, take, drop}
+use Rattle.vte_core.specs.Bytes.{each, is_plain}
+use Rattle.vte_core.proofs.Ground.{each-append}
+use Rattle.vte_core.proofs.text.ascii_len.Goals as goal
+use lib.Seq.{take-add}
+
+pub loop-len-preserved : goal.loop-len-preserved
+loop-len-preserved c =
+    let bs = c.args.bytes.now in
+    let i = c.loop-len.len in
+    let k : i + 16 - i ≡ 16 = omega arith in
+    let block : each is_plain (take 16 (drop i bs)) ≡ true = ap (λ (n : ℕ). each is_plain (take n (drop i bs))) (sym k) ∙ c.are_plain.ensures c.if-are_plain.true in
+    record {
+      within = omega arith;
+      plain = ap (each is_plain) (take-add i 16 bs) ∙ each-append is_plain (take i bs) (take 16 (drop i bs)) c.loop-len.invariant.plain block;
+    }

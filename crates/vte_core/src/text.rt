@@ -1,0 +1,444 @@
+//! Ground text: the characters of UTF-8 (the Unicode Standard, section 3.9, table 3-7).
+//!
+//! What lies between two controls is checked at once; a character that is cut, or malformed, is read byte by byte.
+//!
+//! A malformed sequence is the longest front of what follows that also begins a well-formed character, at least one byte:
+//! the length that `str::from_utf8` reports.
+
+ghost use Rattle.std.specs.Prelude.{◌≡◌, ◌==◌, ◌+◌, ◌-◌, ◌<◌, ◌≤◌, ℕ, List, [], ◌∷◌, ◌++◌, length, drop, map, IfSome, IsTrue, true, false, slice_index, take};
+ghost use Rattle.std.specs.Str.{IsUtf8};
+ghost use Rattle.vte_core.specs.Bytes.{each, is_c0, is_esc, is_plain};
+ghost use Rattle.vte_core.specs.Runs.{ReadsText, run_told, run_rest, is_printed, printed_len};
+ghost use Rattle.vte_core.specs.Shapes.{before};
+ghost use Rattle.vte_core.specs.Event.{Event, Print, Execute, Performs};
+ghost use Rattle.vte_core.specs.Text.{char_len, second_min, second_max, first_bits, joined, char_event};
+ghost use Rattle.vte_core.specs.Pending.{IsUnfinished, begun, begun_rest, text_told, text_rest, goes_on, whole_goes_on, IsWhole, code_of};
+ghost use Rattle.std.specs.Char.{InScalarRange};
+ghost use Rattle.std.specs.Int.{is_in_range};
+
+use crate::Perform;
+use arrayvec::ArrayVec;
+use simdutf8::compat::from_utf8;
+use std::marker::Model;
+use std::str;
+
+/// How many bytes are tested at once for controls.
+const BLOCK_LEN: usize = 16;
+
+/// How many bytes a character with this first byte has, 0 where none has it.
+fn char_len(first: u8) -> usize
+    ensures { result ≡ char_len first }
+{
+    match first {
+        0..=0x7F => 1,
+        0xC2..=0xDF => 2,
+        0xE0..=0xEF => 3,
+        0xF0..=0xF4 => 4,
+        _ => 0,
+    }
+}
+
+/// Whether the byte goes on the character that the bytes begin.
+fn goes_on(bytes: &[u8], byte: u8) -> bool
+    requires { 0 < length bytes.now }
+    ensures { result ≡ whole_goes_on bytes.now byte }
+{
+    match bytes {
+        [0xE0] => (0xA0..=0xBF).contains(&byte),
+        [0xED] => (0x80..=0x9F).contains(&byte),
+        [0xF0] => (0x90..=0xBF).contains(&byte),
+        [0xF4] => (0x80..=0x8F).contains(&byte),
+        _ => (0x80..=0xBF).contains(&byte),
+    }
+}
+
+/// Tells of a character.
+fn tell<P: Perform>(performer: &mut P, c: char)
+    ensures { P.step performer.old (char_event c) performer.new }
+{
+    if c < ' ' || ('\u{80}'..='\u{9F}').contains(&c) {
+        performer.execute(c as u8);
+    } else {
+        performer.print(c);
+    }
+}
+
+/// The character with a code.
+fn scalar(code: u32) -> char
+    requires { InScalarRange code }
+    ensures { result ≡ code }
+{
+    char::from_u32(code).unwrap()
+}
+
+/// The character that the bytes are.
+fn character(bytes: &[u8]) -> char
+    requires { IsWhole bytes.now }
+    ensures { result ≡ code_of bytes.now }
+{
+    match bytes {
+        [a] => scalar(*a as u32),
+        [a, b] => scalar((*a as u32 - 0xC0) * 64 + (*b as u32 - 0x80)),
+        [a, b, c] => {
+            scalar(((*a as u32 - 0xE0) * 64 + (*b as u32 - 0x80)) * 64 + (*c as u32 - 0x80))
+        }
+        [a, b, c, d] => scalar(
+            (((*a as u32 - 0xF0) * 64 + (*b as u32 - 0x80)) * 64 + (*c as u32 - 0x80)) * 64
+                + (*d as u32 - 0x80),
+        ),
+        _ => unreachable!(),
+    }
+}
+
+/// A byte that begins a character, or none.
+fn begin<P: Perform>(unfinished: &mut ArrayVec<u8, 4>, performer: &mut P, byte: u8)
+    requires { unfinished.old.items ≡ [] }
+    ensures told { Performs P.step performer.old (begun byte) performer.new }
+    ensures rest { unfinished.new.items ≡ begun_rest byte }
+{
+    match char_len(byte) {
+        1 => tell(performer, byte as char),
+        0 => {
+            if (0x80..=0x9F).contains(&byte) {
+                performer.execute(byte);
+            } else {
+                performer.print('\u{FFFD}');
+            }
+        }
+        _ => unfinished.push(byte),
+    }
+}
+
+/// A byte of ground text, other than ESC.
+#[inline(always)]
+fn text_byte<P: Perform>(unfinished: &mut ArrayVec<u8, 4>, performer: &mut P, byte: u8)
+    requires { IsUnfinished unfinished.old.items }
+    ensures told { Performs P.step performer.old (text_told unfinished.old.items byte) performer.new }
+    ensures rest { unfinished.new.items ≡ text_rest unfinished.old.items byte }
+{
+    if unfinished.is_empty() {
+        begin(unfinished, performer, byte);
+    } else if goes_on(unfinished.as_slice(), byte) {
+        unfinished.push(byte);
+        if unfinished.len() == char_len(unfinished.as_slice()[0]) {
+            let c = character(unfinished.as_slice());
+            unfinished.clear();
+            tell(performer, c);
+        }
+    } else {
+        unfinished.clear();
+        performer.print('\u{FFFD}');
+        begin(unfinished, performer, byte);
+    }
+}
+
+/// The bytes of a character that isn't whole yet.
+#[derive(Drop)]
+pub struct Unfinished {
+    bytes: ArrayVec<u8, 4>,
+}
+
+impl Model for Unfinished {
+    ghost use Rattle.std.specs.Prelude.{List, ℕ};
+    ghost use Rattle.vte_core.specs.Pending.{IsUnfinished};
+
+    ghost Value = { List ℕ };
+
+    ghost view = { λ x. x.bytes.items };
+
+    ghost invariant = { λ x. IsUnfinished x.bytes.items };
+}
+
+impl Unfinished {
+    /// None.
+    pub fn new() -> Self
+        ensures { result ≡ [] }
+    {
+        Unfinished {
+            bytes: ArrayVec::new(),
+        }
+    }
+
+    /// Whether there is none.
+    pub fn is_empty(&self) -> bool
+        ensures { result ≡ (length self.now == 0) }
+    {
+        self.bytes.is_empty()
+    }
+
+    /// Drops them.
+    pub fn clear(&mut self)
+        ensures { self.new ≡ [] }
+    {
+        self.bytes.clear();
+    }
+
+    /// A byte of ground text, other than ESC.
+    #[inline(always)]
+    pub fn byte<P: Perform>(&mut self, performer: &mut P, byte: u8)
+        ensures told { Performs P.step performer.old (text_told self.old byte) performer.new }
+        ensures rest { self.new ≡ text_rest self.old byte }
+    {
+        text_byte(&mut self.bytes, performer, byte);
+    }
+}
+
+/// Whether no control that is executed begins at the byte, before the others.
+fn is_printed(byte: u8, rest: &[u8]) -> bool
+    ensures { result ≡ is_printed byte rest.now }
+{
+    if byte != 0xC2 {
+        return byte >= 0x20;
+    }
+    match rest {
+        [next, ..] => !(0x80..=0x9F).contains(next),
+        [] => true,
+    }
+}
+
+/// Whether none of the bytes is a control, or 0xC2, with which one may begin.
+#[inline]
+fn are_printed(bytes: &[u8]) -> bool
+    ensures { IsTrue result → (rest : List ℕ) → printed_len (bytes.now ++ rest) ≡ length bytes.now + printed_len rest }
+{
+    let mut are_printed = true;
+    for byte in bytes {
+        are_printed &= (*byte >= 0x20) & (*byte != 0xC2);
+    }
+    are_printed
+}
+
+/// How many bytes stand in whole blocks that are printed.
+fn block_len(bytes: &[u8]) -> usize
+    ensures within { result ≤ length bytes.now }
+    ensures printed { result + printed_len (drop result bytes.now) ≡ printed_len bytes.now }
+{
+    let mut len = 0;
+    while bytes.len() - len >= BLOCK_LEN {
+        if !are_printed(&bytes[len..len + BLOCK_LEN]) {
+            return len;
+        }
+        len += BLOCK_LEN;
+    }
+    len
+}
+
+/// How many bytes stand before the next control that is executed.
+fn printed_len(bytes: &[u8]) -> usize
+    ensures { result ≡ printed_len bytes.now }
+{
+    let mut len = block_len(bytes);
+    while len < bytes.len() {
+        if !is_printed(bytes[len], &bytes[len + 1..]) {
+            return len;
+        }
+        len += 1;
+    }
+    len
+}
+
+/// Whether a character may begin at the bytes, by the first two. Where none does it's quicker to read them one by one.
+#[inline(always)]
+fn may_begin(bytes: &[u8]) -> bool {
+    match bytes {
+        [first, second, ..] if *first >= 0x80 => {
+            char_len(*first) > 0 && goes_on(&bytes[..1], *second)
+        }
+        [first, ..] => char_len(*first) > 0,
+        [] => false,
+    }
+}
+
+/// How many bytes stand before the next control that is executed, where a character may begin; else 0.
+#[inline(always)]
+fn text_len(bytes: &[u8]) -> usize
+    ensures within { result ≤ length bytes.now }
+    ensures printed { printed_len (take result bytes.now) ≡ length (take result bytes.now) }
+{
+    if !may_begin(bytes) {
+        return 0;
+    }
+    printed_len(bytes)
+}
+
+/// The control from U+0080 to U+009F at the front, which has two bytes.
+#[inline(always)]
+fn c1(bytes: &[u8]) -> Option<u8>
+    ensures { IfSome result (λ b. IsTrue (is_in_range 0x80 0x9F b) × (take 2 bytes.now ≡ 0xC2 ∷ b ∷ [])) }
+{
+    match bytes {
+        [0xC2, second, ..] if (0x80..=0x9F).contains(second) => Some(*second),
+        _ => None,
+    }
+}
+
+/// Whether the byte is a character of ASCII that is printed.
+#[inline(always)]
+fn is_plain(byte: u8) -> bool
+    ensures { result ≡ is_plain byte }
+{
+    (0x20..=0x7F).contains(&byte)
+}
+
+/// Whether each of the bytes is a character of ASCII that is printed.
+#[inline(always)]
+fn are_plain(bytes: &[u8]) -> bool
+    ensures { IsTrue result → each is_plain bytes.now ≡ true }
+{
+    let mut are_plain = true;
+    for byte in bytes {
+        are_plain &= (*byte >= 0x20) & (*byte < 0x80);
+    }
+    are_plain
+}
+
+/// How many bytes at the front are characters of ASCII that are printed.
+#[inline(always)]
+fn ascii_len(bytes: &[u8]) -> usize
+    ensures within { result ≤ length bytes.now }
+    ensures plain { each is_plain (take result bytes.now) ≡ true }
+{
+    let mut len = 0;
+    while bytes.len() - len >= BLOCK_LEN && are_plain(&bytes[len..len + BLOCK_LEN]) {
+        len += BLOCK_LEN;
+    }
+    while len < bytes.len() && is_plain(bytes[len]) {
+        len += 1;
+    }
+    len
+}
+
+/// Whether text of ASCII before these bytes ends with them: at a control, or at a byte that begins no character.
+#[inline(always)]
+fn ends_text(bytes: &[u8]) -> bool {
+    match bytes {
+        [] => true,
+        [next, ..] => *next < 0x20 || char_len(*next) == 0,
+    }
+}
+
+/// The characters of ASCII that the bytes are.
+#[inline(always)]
+fn ascii_text(bytes: &[u8]) -> &str
+    requires { each is_plain bytes.now ≡ true }
+    ensures { result.now ≡ bytes.now }
+{
+    unsafe { str::from_utf8_unchecked(bytes) }
+}
+
+/// Executes the controls of ASCII at the front, up to ESC, and returns how many they are.
+#[inline(always)]
+fn execute_controls<P: Perform>(performer: &mut P, bytes: &[u8]) -> usize
+    ensures within { result ≤ length bytes.now }
+    ensures controls { each is_c0 (take result bytes.now) ≡ true }
+    ensures told { Performs P.step performer.old (map Execute (take result bytes.now)) performer.new }
+{
+    let mut read = 0;
+    while read < bytes.len() && bytes[read] < 0x20 && bytes[read] != 0x1B {
+        performer.execute(bytes[read]);
+        read += 1;
+    }
+    read
+}
+
+/// The longest text at the front of the bytes.
+fn text_front(bytes: &[u8]) -> &str
+    ensures text { IsUtf8 result.now }
+    ensures front { result.now ≡ take (length result.now) bytes.now }
+    ensures within { length result.now ≤ length bytes.now }
+{
+    match from_utf8(bytes) {
+        Ok(text) => text,
+        Err(error) => unsafe { str::from_utf8_unchecked(&bytes[..error.valid_up_to()]) },
+    }
+}
+
+impl Unfinished {
+    /// Reads the text at the front of bytes without controls, or else one byte, and returns how many it read.
+    fn text<P: Perform>(&mut self, performer: &mut P, bytes: &[u8]) -> usize
+        requires not_empty { 0 < length bytes.now }
+        requires printed { printed_len bytes.now ≡ length bytes.now }
+        ensures some { 0 < result }
+        ensures within { result ≤ length bytes.now }
+        ensures told { Performs P.step performer.old (run_told self.old (take result bytes.now)) performer.new }
+        ensures rest { self.new ≡ run_rest self.old (take result bytes.now) }
+    {
+        if self.is_empty() && may_begin(bytes) {
+            let text = text_front(bytes);
+            if !text.is_empty() {
+                performer.print_str(text);
+                return text.len();
+            }
+        }
+        self.byte(performer, bytes[0]);
+        1
+    }
+
+    /// Ground text without controls.
+    fn printed<P: Perform>(&mut self, performer: &mut P, bytes: &[u8])
+        requires { printed_len bytes.now ≡ length bytes.now }
+        ensures told { Performs P.step performer.old (run_told self.old bytes.now) performer.new }
+        ensures rest { self.new ≡ run_rest self.old bytes.now }
+    {
+        let mut read = 0;
+        while read < bytes.len() {
+            read += self.text(performer, &bytes[read..]);
+        }
+    }
+
+    /// Reads ground text without ESC up to the next control, or else one byte, and returns how many bytes it read.
+    fn mixed<P: Perform>(&mut self, performer: &mut P, bytes: &[u8]) -> usize
+        requires some { 0 < length bytes.now }
+        requires text { is_esc (slice_index bytes.now 0) ≡ false }
+        ensures { ReadsText P.step self.old performer.old bytes.now result performer.new self.new }
+    {
+        if self.is_empty() {
+            if let Some(control) = c1(bytes) {
+                performer.execute(control);
+                return 2;
+            }
+        }
+        let len = text_len(bytes);
+        if len > 0 {
+            self.printed(performer, &bytes[..len]);
+            return len;
+        }
+        self.byte(performer, bytes[0]);
+        1
+    }
+
+    /// Reads some ground text before the next ESC, and returns how many bytes it read.
+    #[inline(always)]
+    fn some<P: Perform>(&mut self, performer: &mut P, bytes: &[u8]) -> usize
+        requires some { 0 < length bytes.now }
+        requires text { is_esc (slice_index bytes.now 0) ≡ false }
+        ensures { ReadsText P.step self.old performer.old bytes.now result performer.new self.new }
+    {
+        if self.is_empty() && bytes[0] < 0x80 {
+            let controls = execute_controls(performer, bytes);
+            if controls > 0 {
+                return controls;
+            }
+            let len = ascii_len(bytes);
+            if len > 0 && ends_text(&bytes[len..]) {
+                performer.print_str(ascii_text(&bytes[..len]));
+                return len;
+            }
+        }
+        self.mixed(performer, bytes)
+    }
+
+    /// Reads ground text up to the next ESC, and returns how many bytes it read.
+    #[inline(always)]
+    pub fn read<P: Perform>(&mut self, performer: &mut P, bytes: &[u8]) -> usize
+        ensures len { result ≡ length (before is_esc bytes.now) }
+        ensures told { Performs P.step performer.old (run_told self.old (take result bytes.now)) performer.new }
+        ensures rest { self.new ≡ run_rest self.old (take result bytes.now) }
+    {
+        let mut read = 0;
+        while read < bytes.len() && bytes[read] != 0x1B {
+            read += self.some(performer, &bytes[read..]);
+        }
+        read
+    }
+}
