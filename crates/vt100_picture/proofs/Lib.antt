@@ -4,3 +4,4 @@ pub mod FormLemmas
 pub mod PlainText
 pub mod PrintedCells
 pub mod TouchLemmas
+pub mod Examples

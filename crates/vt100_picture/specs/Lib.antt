@@ -1,4 +1,5 @@
 pub mod Apply
+pub mod Examples
 pub mod FormText
 pub mod Laws
 pub mod Leads

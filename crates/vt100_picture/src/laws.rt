@@ -1,4 +1,5 @@
 //! Facts about forms and pictures as wholes. Each function does nothing: its contract is the fact.
+ghost use Rattle.vt100_picture.specs.Examples.{EachExampleHolds};
 ghost use Rattle.vt100_picture.specs.FormText.{EachTextIsPlain};
 ghost use Rattle.vt100_picture.specs.Laws.{EachEmptyFormIsIdle, EachFormKeepsTerminals, EachListJoins, EachPathJoins, EachMoveLeads, EachChangeIsRead, EachCellIsPrinted, EachUntouchedCellStays};
 
@@ -46,4 +47,9 @@ pub fn untouched_cells_stay()
 /// The text of a cell holds no ESC.
 pub fn texts_are_plain()
     ensures { EachTextIsPlain }
+{}
+
+/// What some lists of forms make of small screens.
+pub fn examples_hold()
+    ensures { EachExampleHolds }
 {}
