@@ -1,11 +1,11 @@
 -- The text of a cell, character by character.
-use Rattle.std.proofs.Common.{◌≡◌, ℕ, zero, suc, ◌+◌, ◌-◌, ◌<◌, ◌≤◌, ◌==◌, inl, inr, Bool, true, false, cond, List, [], ◌∷◌, ◌++◌, length, take, drop, nat_lt, sym, refl, ap, subst, ◌∙◌, arith, length-append, append_assoc, append-nil, ⊎_elim, take-append-drop, length-take-le, length-drop}
+use Rattle.std.proofs.Common.{◌≡◌, ℕ, suc, ◌+◌, ◌≤◌, ◌==◌, Bool, true, false, List, [], ◌∷◌, ◌++◌, length, take, drop, sym, refl, ap, subst, ◌∙◌, arith, length-append, append_assoc, append-nil, ⊎_elim, take-append-drop, length-drop}
 use Rattle.std.specs.Prelude.{Contains, encode_utf8_all, encode_utf8}
 use Rattle.std.proofs.Math.Seq.{take-append_seam}
-use Rattle.std.proofs.lemmas.Bool.{false≢true, cond_both, ltb-true}
+use Rattle.std.proofs.lemmas.Bool.{ltb-true}
 use Rattle.std.proofs.lemmas.Str.{encodes-append, length-encode, len_utf8_bounds}
 use Rattle.vt100_forms.specs.declared.attrs.Attrs.{Attrs}
-use Rattle.vt100_cells.specs.Cell.{CellView, IsCell, IsShort, IsWideAs, cell_of, columns_of, has_room, text_with, appended_plain, all_appended, EachCellIsItsCharacters, EachTextIsShort}
+use Rattle.vt100_cells.specs.Cell.{CellView, IsCell, IsShort, IsWideAs, columns_of, has_room, appended_plain, all_appended, EachCellIsItsCharacters, EachTextIsShort}
 
 -- a character put on a text with room
 put_on : (y : ℕ) (ys : List ℕ) (w q : Bool) (a : Attrs) (d : ℕ) → has_room (y ∷ ys) ≡ true

@@ -1,5 +1,5 @@
 -- Small screens, computed.
-use Rattle.std.proofs.Common.{◌≡◌, ℕ, true, false, refl}
+use Rattle.std.proofs.Common.{refl}
 use lib.Utf8.{encode}
 use Rattle.unicode_width.specs.Width.{char_width}
 use Rattle.vt100_picture.specs.Position.{update}

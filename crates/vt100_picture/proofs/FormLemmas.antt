@@ -1,7 +1,7 @@
 -- What forms and lists of forms do.
-use Rattle.std.proofs.Common.{◌≡◌, ℕ, ◌+◌, ◌-◌, ◌<◌, ◌≤◌, ◌==◌, Bool, true, false, cond, not, ◌&&◌, nat_lt, nat_le, List, [], ◌∷◌, ◌++◌, length, min, Option, Some, None, sym, refl, ap, ◌∙◌, arith, length-append}
+use Rattle.std.proofs.Common.{◌≡◌, ℕ, ◌+◌, ◌-◌, ◌<◌, ◌≤◌, ◌==◌, Bool, true, false, cond, not, ◌&&◌, nat_lt, List, [], ◌∷◌, ◌++◌, length, min, Option, Some, None, sym, refl, ap, ◌∙◌, arith, length-append}
 use Rattle.std.specs.Prelude.{encode_utf8, encode_utf8_all, decimal, codes, unwrap_or}
-use Rattle.std.proofs.lemmas.Bool.{false≢true, cond_both, eqb-true, ltb-true, and_parts, lt-ltb, ne_eqb}
+use Rattle.std.proofs.lemmas.Bool.{cond_both, eqb-true, ltb-true, and_parts, lt-ltb, ne_eqb}
 use Rattle.std.proofs.lemmas.Bool.Decides.{nat_tests}
 use Rattle.std.proofs.lemmas.Str.{length-encode, len_utf8_bounds}
 use mathlib.Core.Path.{fun_ext}
@@ -9,18 +9,15 @@ use Rattle.vt100_forms.specs.declared.attrs.Attrs.{Attrs}
 use Rattle.vt100_forms.specs.declared.attrs.Color.{Color}
 use Rattle.vt100_forms.specs.declared.attrs.Color.TheVariants.{Default, Idx, Rgb}
 use Rattle.vt100_forms.specs.declared.term.Intensity.{Intensity}
-use Rattle.vt100_forms.specs.declared.position.Pos.{Pos}
-use Rattle.vt100_forms.specs.declared.modes.CursorStyle.{CursorStyle}
-use Rattle.vt100_forms.specs.Attrs.{IsProper, default_attrs, attrs_eq}
-use Rattle.vt100_forms.specs.Form.{Form, Text, MoveTo, MoveRight, EraseChar, ClearRowForward, ClearScreen, ClearAttrs, Crlf, Lf, Backspace, SaveCursor, RestoreCursor, HideCursor, Keypad, CursorKeys, Paste, Mouse, Encoding, Style, Sgr, Change, spelling, csi, counted, mode_change, mode_set, mode_reset, mouse_number, encoding_number, style_number, color_part, intensity_part, flag_part, sgr_numbers, sgr_text, with_change, intensity_set, flag_set, change, changed_attrs, moves}
+use Rattle.vt100_forms.specs.Attrs.{default_attrs, attrs_eq}
+use Rattle.vt100_forms.specs.Form.{Form, Text, MoveTo, MoveRight, EraseChar, ClearRowForward, ClearScreen, ClearAttrs, Crlf, Lf, Backspace, SaveCursor, RestoreCursor, HideCursor, Keypad, CursorKeys, Paste, Mouse, Encoding, Style, Sgr, Change, csi, counted, mode_change, mode_set, mode_reset, mouse_number, encoding_number, style_number, color_part, intensity_part, flag_part, sgr_numbers, sgr_text, with_change, intensity_set, flag_set, changed_attrs}
 use Rattle.vt100_forms.proofs.AttrsLemmas.{change-leads}
 use Rattle.vt100_cells.specs.Cell.{CellView}
 use Rattle.vt100_cells.specs.CellEq.{attrs_eq-true}
 use Rattle.vt100_cells.specs.Line.{wiped, wipe_unflags}
 use Rattle.vt100_picture.specs.Position.{update}
-use Rattle.vt100_picture.specs.Term.{Size, Modes, Shown, Saved, Term, IsTerm, IsShown, IsSaved, shown_of, saved_of, term_of}
+use Rattle.vt100_picture.specs.Term.{Size, Shown, Saved, Term, IsTerm, IsShown, IsSaved, shown_of, saved_of, term_of}
 use Rattle.vt100_picture.specs.Apply.{with_line, erase, down, switched, apply, run}
-use Rattle.vt100_picture.specs.Leads.{Leads}
 use Rattle.vt100_picture.specs.Laws.{EachEmptyFormIsIdle, EachListJoins, EachPathJoins, EachMoveLeads, EachChangeIsRead}
 use Rattle.vt100_picture.proofs.Positions.{update-kept}
 use Rattle.vt100_picture.proofs.TermLemmas.{IsTerm-run}

@@ -1,13 +1,13 @@
 -- The text of a cell has no ESC.
-use Rattle.std.proofs.Common.{◌≡◌, ℕ, zero, suc, ◌+◌, ◌<◌, ◌≤◌, Bool, true, false, cond, List, [], ◌∷◌, ◌++◌, length, get_or, min, Option, Some, None, sym, refl, ap, ◌∙◌, arith, append-nil}
-use Rattle.std.specs.Prelude.{encode_utf8, encode_utf8_all, unwrap_or, All}
+use Rattle.std.proofs.Common.{◌≡◌, ℕ, suc, ◌<◌, true, false, List, [], ◌∷◌, ◌++◌, length, get_or, None, sym, refl, ap, ◌∙◌, arith, append-nil}
+use Rattle.std.specs.Prelude.{encode_utf8, encode_utf8_all, All}
 use Rattle.std.specs.List.{AllByRecursion}
 use Rattle.std.proofs.lemmas.Bool.{false≢true}
 use Rattle.std.proofs.lemmas.Bool.Decides.{nat_tests}
 use Rattle.std.proofs.lemmas.Str.{inside_one}
 use Rattle.unicode_width.specs.Width.{char_width}
 use Rattle.vt100_cells.specs.Cell.{columns_of, is_undrawable, IsCellText}
-use Rattle.vt100_picture.specs.FormText.{IsSentText, EachTextIsPlain}
+use Rattle.vt100_picture.specs.FormText.{EachTextIsPlain}
 
 esc_width : char_width false 27 ≡ None
 unfolding char_width

@@ -1,21 +1,21 @@
 -- The text of a cell, read character by character, puts the cell.
-use Rattle.std.proofs.Common.{◌≡◌, ℕ, zero, suc, ◌+◌, ◌-◌, ◌<◌, ◌≤◌, ◌==◌, Bool, true, false, cond, not, ◌&&◌, ◌||◌, nat_lt, nat_le, List, [], ◌∷◌, length, min, Option, Some, None, sym, refl, ap, subst, ◌∙◌, arith, ⊎_elim}
+use Rattle.std.proofs.Common.{◌≡◌, ℕ, suc, ◌+◌, ◌-◌, ◌<◌, ◌≤◌, ◌==◌, true, false, cond, not, ◌&&◌, nat_lt, List, [], ◌∷◌, length, min, Option, Some, None, sym, refl, ap, subst, ◌∙◌, arith}
 use Rattle.std.specs.Prelude.{Contains, All, unwrap_or, is_none}
-use Rattle.std.proofs.lemmas.Bool.{false≢true, cond_both, ne_eqb, le-ltb, eq-eqb}
+use Rattle.std.proofs.lemmas.Bool.{ne_eqb, le-ltb, eq-eqb}
 use Rattle.std.proofs.lemmas.Bool.Decides.{nat_tests}
 use mathlib.Core.Path.{fun_ext}
 use Rattle.unicode_width.specs.Width.{char_width}
 use Rattle.vt100_forms.specs.declared.attrs.Attrs.{Attrs}
-use Rattle.vt100_forms.specs.Form.{Text}
-use Rattle.vt100_cells.specs.Cell.{CellView, IsCell, IsCellText, IsWideAs, cell_of, columns_of, is_undrawable, has_room, continuation_cell, appended_plain, all_appended}
-use Rattle.vt100_cells.specs.Line.{span_of, put, put_unflags, base_col}
+use Rattle.vt100_cells.specs.Cell.{CellView, IsCell, IsCellText, cell_of, columns_of, is_undrawable, appended_plain, all_appended}
+use Rattle.vt100_cells.specs.Line.{span_of, put, base_col}
 use Rattle.vt100_cells.proofs.CellTexts.{cell-is_characters}
+use Rattle.vt100_cells.proofs.JoinedCells.{plain-continuation, plain-wide}
 use Rattle.vt100_picture.specs.Position.{update}
-use Rattle.vt100_picture.specs.Term.{Size, Term, IsTerm}
+use Rattle.vt100_picture.specs.Term.{Size, Term}
 use Rattle.vt100_picture.specs.Apply.{with_line, print, join, made_to_fit, is_dropped, input, inputs, apply}
 use Rattle.vt100_picture.specs.Laws.{EachCellIsPrinted}
 use Rattle.vt100_picture.proofs.Positions.{update-same, update-twice}
-use Rattle.vt100_picture.proofs.TermLemmas.{span-some, span-columns, columns-few, plain-continuation, plain-wide}
+use Rattle.vt100_picture.proofs.TermLemmas.{span-some, span-columns, columns-few}
 
 -- ---- a zero-width character is drawn
 

@@ -1,15 +1,15 @@
 -- What each step keeps true of a terminal.
-use Rattle.std.proofs.Common.{◌≡◌, ℕ, ◌+◌, ◌-◌, ◌<◌, ◌≤◌, ◌==◌, Bool, true, false, cond, not, ◌&&◌, ◌||◌, nat_lt, nat_le, List, [], ◌∷◌, ◌++◌, length, min, sym, refl, ap, ◌∙◌, arith, ⊎_elim}
-use Rattle.std.proofs.lemmas.Bool.{false≢true, cond_both, eqb-true, ltb-true, ltb-false, leb-true, not-true, and_parts, ne_eqb}
+use Rattle.std.proofs.Common.{◌≡◌, ℕ, ◌+◌, ◌-◌, ◌<◌, ◌≤◌, ◌==◌, Bool, true, false, cond, not, ◌&&◌, ◌||◌, nat_lt, nat_le, List, [], ◌∷◌, min, sym, refl, ap, ◌∙◌, arith}
+use Rattle.std.proofs.lemmas.Bool.{false≢true, cond_both, eqb-true, ltb-true, ltb-false, leb-true, not-true, and_parts}
 use Rattle.std.proofs.lemmas.Bool.Decides.{nat_tests}
 use Rattle.vt100_forms.specs.Form.{Form, Text, MoveTo, MoveRight, EraseChar, ClearRowForward, ClearScreen, ClearAttrs, Crlf, Lf, Backspace, SaveCursor, RestoreCursor, HideCursor, Keypad, CursorKeys, Paste, Mouse, Encoding, Style, Sgr}
 use Rattle.vt100_forms.specs.declared.attrs.Attrs.{Attrs}
 use Rattle.vt100_forms.specs.declared.modes.CursorStyle.{CursorStyle}
 use Rattle.vt100_forms.specs.Attrs.{default_attrs}
-use Rattle.vt100_cells.specs.Cell.{CellView, default_cell, empty_cell, cell_of, columns_of, is_undrawable, is_filled, has_room, text_with, appended_plain}
+use Rattle.vt100_cells.specs.Cell.{CellView, default_cell, empty_cell, cell_of, columns_of, is_undrawable, is_filled, appended_plain}
 use Rattle.vt100_cells.specs.Line.{IsPaired, Bounded, span_of, put, put_unflags, base_col, wiped, wipe_unflags}
 use Rattle.vt100_cells.proofs.LineLemmas.{Bounded-wiped, IsPaired-wiped, wiped-last, Bounded-put, IsPaired-put, put-filled}
-use Rattle.vt100_cells.proofs.JoinedCells.{base_col-whole, base_col-within}
+use Rattle.vt100_cells.proofs.JoinedCells.{base_col-whole, base_col-within, plain-continuation, plain-wide, plain-filled, Bounded-update, update-last}
 use Rattle.vt100_picture.specs.Position.{update}
 use Rattle.vt100_picture.specs.Term.{Size, Modes, Term, IsTerm}
 use Rattle.vt100_picture.specs.Apply.{with_line, erase, print, join, down, wrap, made_to_fit, is_dropped, input, inputs, apply, run}
@@ -194,19 +194,6 @@ IsTerm-print z x t h c y l =
 
 -- ---- a zero-width character
 
-pub plain-continuation : (x : CellView) (c : ℕ) → (appended_plain x c).continuation ≡ x.continuation
-plain-continuation x c = cond_both (has_room x.text) _ x (λ y. y.continuation ≡ x.continuation) (λ _. refl) (λ _. refl)
-
-pub plain-wide : (x : CellView) (c : ℕ) → (appended_plain x c).wide ≡ x.wide
-plain-wide x c = cond_both (has_room x.text) _ x (λ y. y.wide ≡ x.wide) (λ _. refl) (λ _. refl)
-
-text_with-some : (cs : List ℕ) (c : ℕ) → (length (text_with cs c) == 0) ≡ false
-text_with-some [] c = refl
-text_with-some (x ∷ xs) c = ne_eqb (length (x ∷ (xs ++ c ∷ []))) 0 (λ e. absurd (omega (arith, e)))
-
-plain-filled : (x : CellView) (c : ℕ) → is_filled x ≡ true → is_filled (appended_plain x c) ≡ true
-plain-filled x c h = cond_both (has_room x.text) _ x (λ y. is_filled y ≡ true) (λ _. ap (λ b. not b || x.continuation) (text_with-some x.text c)) (λ _. h)
-
 -- another cell of the same width, where no second half stands
 IsPaired-updated : (f : ℕ → CellView) (i : ℕ) (x : CellView) → IsPaired f → x.wide ≡ (f i).wide → x.continuation ≡ false → (f i).continuation ≡ false → IsPaired (update f i x)
 unfolding update
@@ -216,16 +203,8 @@ IsPaired-updated f i x p w c d = record {
   blank = λ k h. grind (arith, nat_tests, p.blank k);
 }
 
-Bounded-updated : (n : ℕ) (f : ℕ → CellView) (i : ℕ) (x : CellView) → Bounded n f → i < n → Bounded n (update f i x)
-unfolding update
-Bounded-updated n f i x b l k h = grind (arith, nat_tests, b k h)
-
-updated-filled : (f : ℕ → CellView) (i n : ℕ) (x : CellView) → (is_filled (f i) ≡ true → is_filled x ≡ true) → is_filled (f n) ≡ true → is_filled (update f i x n) ≡ true
-unfolding update
-updated-filled f i n x h g = cond_both (n == i) x (f n) (λ y. is_filled y ≡ true) (λ e. h (ap (λ j. is_filled (f j)) (sym (eqb-true n i e)) ∙ g)) (λ _. g)
-
 pub IsTerm-join : (z : Size) (c : ℕ) (t : Term) → IsTerm z t → 0 < t.col → IsTerm z (join c t)
-unfolding join
+unfolding join update
 IsTerm-join z c t h some =
     let f = t.cell t.row in
     let p = h.paired t.row in
@@ -233,12 +212,12 @@ IsTerm-join z c t h some =
     let x = appended_plain (f i) c in
     let whole = base_col-whole f t.col p in
     let within = base_col-within f z.cols t.col some h.in_cols in
-    IsTerm-with_line z t (update f i x) true h (IsPaired-updated f i x p (plain-wide (f i) c) (plain-continuation (f i) c ∙ whole) whole) (Bounded-updated z.cols f i x (h.beyond t.row) within)
-    (λ _ w. updated-filled f i (z.cols - 1) x (plain-filled (f i) c) (h.filled t.row w))
+    IsTerm-with_line z t (update f i x) true h (IsPaired-updated f i x p (plain-wide (f i) c) (plain-continuation (f i) c ∙ whole) whole) (Bounded-update z.cols f i x (h.beyond t.row) within)
+    (λ _ w. update-last f i (z.cols - 1) x (plain-filled (f i) c) (h.filled t.row w))
 
 -- ---- characters
 
-neither : (a b : Bool) → (a || b) ≡ false → (a ≡ false) × (b ≡ false)
+pub neither : (a b : Bool) → (a || b) ≡ false → (a ≡ false) × (b ≡ false)
 neither true b e = absurd (false≢true (sym e))
 neither false b e = (refl, e)
 

@@ -1,6 +1,6 @@
 -- A cell that a form doesn't touch stays.
-use Rattle.std.proofs.Common.{◌≡◌, ℕ, ◌+◌, ◌-◌, ◌<◌, ◌≤◌, ◌==◌, Bool, true, false, cond, not, ◌&&◌, ◌||◌, nat_lt, nat_le, List, [], ◌∷◌, min, sym, refl, ap, ◌∙◌, arith}
-use Rattle.std.proofs.lemmas.Bool.{false≢true, cond_both, eqb-true, lt-ltb, ltb-true, ltb-false, leb-true}
+use Rattle.std.proofs.Common.{◌≡◌, ℕ, ◌+◌, ◌-◌, ◌==◌, Bool, true, false, cond, ◌&&◌, ◌||◌, nat_lt, nat_le, List, [], ◌∷◌, min, sym, refl, ap, ◌∙◌, arith}
+use Rattle.std.proofs.lemmas.Bool.{false≢true, cond_both, eqb-true, lt-ltb}
 use Rattle.std.proofs.lemmas.Bool.Decides.{nat_tests}
 use Rattle.vt100_forms.specs.declared.attrs.Attrs.{Attrs}
 use Rattle.vt100_forms.specs.Form.{Form, Text, MoveTo, MoveRight, EraseChar, ClearRowForward, ClearScreen, ClearAttrs, Crlf, Lf, Backspace, SaveCursor, RestoreCursor, HideCursor, Keypad, CursorKeys, Paste, Mouse, Encoding, Style, Sgr}
@@ -8,9 +8,10 @@ use Rattle.vt100_cells.specs.Cell.{CellView, columns_of, cell_of, appended_plain
 use Rattle.vt100_cells.specs.Line.{put, wiped, base_col}
 use Rattle.vt100_picture.specs.Position.{update}
 use Rattle.vt100_picture.specs.Term.{Size, Term}
-use Rattle.vt100_picture.specs.Apply.{with_line, erase, print, join, down, wrap, made_to_fit, is_dropped, input, inputs, apply, run}
+use Rattle.vt100_picture.specs.Apply.{with_line, erase, print, join, down, wrap, made_to_fit, is_dropped, input, inputs, apply}
 use Rattle.vt100_picture.specs.Touch.{put_touches, wipe_touches, is_last_row, input_touches, inputs_touch, form_touches, touches}
 use Rattle.vt100_picture.specs.Laws.{EachUntouchedCellStays}
+use Rattle.vt100_picture.proofs.TermLemmas.{neither}
 
 -- ---- a line
 
@@ -63,10 +64,6 @@ unfolding wrap down
 wrap-is z t h = let room = room_below z t h in (rw room refl, rw room refl, rw room refl, rw room refl)
 
 -- ---- characters
-
-neither : (a b : Bool) → (a || b) ≡ false → (a ≡ false) × (b ≡ false)
-neither true b e = absurd (false≢true (sym e))
-neither false b e = (refl, e)
 
 input-untouched : (z : Size) (c : ℕ) (t : Term) (r k : ℕ) → input_touches z c t r k ≡ false → (input z c t).cell r k ≡ t.cell r k
 unfolding input input_touches made_to_fit

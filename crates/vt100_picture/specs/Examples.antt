@@ -1,5 +1,5 @@
 -- Small screens, form by form.
-use Rattle.std.specs.Prelude.{ℕ, ◌≡◌, Bool, true, false, List, [], ◌∷◌, ◌++◌, map, codes, Some}
+use Rattle.std.specs.Prelude.{ℕ, ◌≡◌, true, false, List, [], ◌∷◌, ◌++◌, map, codes, Some}
 use Rattle.std.specs.List.{range_with_len}
 use Rattle.vt100_forms.specs.declared.attrs.Color.TheVariants.{Default, Idx}
 use Rattle.vt100_forms.specs.declared.attrs.Attrs.{Attrs}

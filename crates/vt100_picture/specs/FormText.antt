@@ -1,5 +1,5 @@
 -- The texts of cells that writers send.
-use Rattle.std.specs.Prelude.{ℕ, ◌<◌, ◌≡◌, List, length, All, Contains}
+use Rattle.std.specs.Prelude.{ℕ, ◌<◌, List, length, All, Contains}
 use Rattle.std.specs.Char.{IsScalar}
 use Rattle.vt100_forms.specs.Form.{Text}
 use Rattle.vt100_forms.specs.Mark.{HasPlainText}

@@ -1,6 +1,6 @@
 -- Where two pictures of one size differ, and the cells that a difference of them may touch.
-use Rattle.std.specs.Prelude.{ℕ, ◌+◌, ◌-◌, ◌<◌, ◌≡◌, ◌⊎◌, Bool, true, false, ◌||◌}
-use Rattle.vt100_cells.specs.Cell.{CellView, is_filled}
+use Rattle.std.specs.Prelude.{ℕ, ◌+◌, ◌-◌, ◌<◌, ◌≡◌, ◌⊎◌, true, false, ◌||◌}
+use Rattle.vt100_cells.specs.Cell.{is_filled}
 use Rattle.vt100_picture.specs.Term.{Size, Shown}
 
 -- row r differs in a cell or in whether it goes on
