@@ -7,7 +7,7 @@ use Rattle.std.proofs.lemmas.Bool.Decides.{nat_tests}
 use Rattle.std.proofs.lemmas.Str.{inside_one}
 use Rattle.unicode_width.specs.Width.{char_width}
 use Rattle.vt100_cells.specs.Cell.{columns_of, is_undrawable, IsCellText}
-use Rattle.vt100_picture.specs.FormText.{EachTextIsPlain}
+use Rattle.vt100_picture.specs.FormText.{IsSentText, EachCellIsSent, EachTextIsPlain}
 
 esc_width : char_width false 27 ≡ None
 unfolding char_width
@@ -56,3 +56,6 @@ no_esc-cell (c ∷ cs) h = (esc_undrawn c h.0, all-rest cs h.2)
 pub text-plain : EachTextIsPlain
 unfolding is_no_esc
 text-plain cs h = no_esc-all cs (no_esc-cell cs h.characters)
+
+pub cell-sent : EachCellIsSent
+cell-sent x h some known = record { some = some; characters = h.characters; short = h.short; scalars = h.scalars; known = known }

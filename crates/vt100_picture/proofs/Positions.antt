@@ -1,5 +1,5 @@
 -- Laws of functions that are changed at one place or over a range.
-use Rattle.std.proofs.Common.{◌≡◌, ℕ, ◌+◌, ◌<◌, ◌≤◌, ◌==◌, cond, refl, arith}
+use Rattle.std.proofs.Common.{◌≡◌, ℕ, ◌+◌, ◌<◌, ◌≤◌, ◌==◌, cond, refl, arith, ap, ◌∙◌}
 use Rattle.std.proofs.lemmas.Bool.Decides.{nat_tests}
 use mathlib.Core.Path.{fun_ext}
 use Rattle.vt100_picture.specs.Position.{update, splice}
@@ -99,3 +99,8 @@ splice-whole_at f n g beyond k = grind (arith, nat_tests, beyond k)
 -- past the range both agree
 pub splice-whole : {A : Type 0} (f : ℕ → A) (n : ℕ) (g : ℕ → A) → ((k : ℕ) → n ≤ k → f k ≡ g k) → splice f 0 n g ≡ g
 splice-whole f n g beyond = fun_ext (splice-whole_at f n g beyond)
+
+-- ---- a place that is read and written again
+
+pub update-edited : {A : Type 0} (f : ℕ → A) (i : ℕ) (v : A) (g : A → A) → update (update f i v) i (g (update f i v i)) ≡ update f i (g v)
+update-edited f i v g = ap (λ x. update (update f i v) i (g x)) (update-same f i v) ∙ update-twice f i v (g v)

@@ -1,5 +1,5 @@
 -- A cell that a form doesn't touch stays.
-use Rattle.std.proofs.Common.{◌≡◌, ℕ, ◌+◌, ◌-◌, ◌==◌, Bool, true, false, cond, ◌&&◌, ◌||◌, nat_lt, nat_le, List, [], ◌∷◌, min, sym, refl, ap, ◌∙◌, arith}
+use Rattle.std.proofs.Common.{◌≡◌, ℕ, ◌+◌, ◌-◌, ◌==◌, Bool, true, false, cond, ◌&&◌, ◌||◌, nat_lt, nat_le, List, [], ◌∷◌, min, sym, refl, ap, ◌∙◌, arith, ◌++◌}
 use Rattle.std.proofs.lemmas.Bool.{false≢true, cond_both, eqb-true, lt-ltb}
 use Rattle.std.proofs.lemmas.Bool.Decides.{nat_tests}
 use Rattle.vt100_forms.specs.declared.attrs.Attrs.{Attrs}
@@ -8,8 +8,8 @@ use Rattle.vt100_cells.specs.Cell.{CellView, columns_of, cell_of, appended_plain
 use Rattle.vt100_cells.specs.Line.{put, wiped, base_col}
 use Rattle.vt100_picture.specs.Position.{update}
 use Rattle.vt100_picture.specs.Term.{Size, Term}
-use Rattle.vt100_picture.specs.Apply.{with_line, erase, print, join, down, wrap, made_to_fit, is_dropped, input, inputs, apply}
-use Rattle.vt100_picture.specs.Touch.{put_touches, wipe_touches, is_last_row, input_touches, inputs_touch, form_touches, touches}
+use Rattle.vt100_picture.specs.Apply.{with_line, erase, print, join, down, wrap, made_to_fit, is_dropped, input, inputs, apply, run}
+use Rattle.vt100_picture.specs.Touch.{put_touches, wipe_touches, is_last_row, input_touches, inputs_touch, form_touches, touches, Within}
 use Rattle.vt100_picture.specs.Laws.{EachUntouchedCellStays}
 use Rattle.vt100_picture.proofs.TermLemmas.{neither}
 
@@ -130,3 +130,14 @@ unfolding touches
 cell-untouched z f t r k hr hk h =
     form-untouched z f t r k
     (ap (λ b. b && form_touches z f t r k) (sym (lt-ltb k z.cols hk)) ∙ ap (λ b. (b && nat_lt k z.cols) && form_touches z f t r k) (sym (lt-ltb r z.rows hr)) ∙ h)
+
+-- ---- lists of forms
+
+pub within-joined : (S : ℕ → ℕ → Type 0) (z : Size) (fs gs : List Form) (t : Term) → Within S z fs t → Within S z gs (run z fs t) → Within S z (fs ++ gs) t
+within-joined S z [] gs t a b = b
+within-joined S z (f ∷ fs) gs t a b = (a.0, within-joined S z fs gs (apply z f t) a.1 b)
+
+-- a larger set
+pub within-more : (S T : ℕ → ℕ → Type 0) (z : Size) (fs : List Form) (t : Term) → ((r k : ℕ) → S r k → T r k) → Within S z fs t → Within T z fs t
+within-more S T z [] t h w = tt
+within-more S T z (f ∷ fs) t h w = (λ r k e. h r k (w.0 r k e), within-more S T z fs (apply z f t) h w.1)

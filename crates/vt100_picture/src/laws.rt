@@ -1,6 +1,6 @@
 //! Facts about forms and pictures as wholes. Each function does nothing: its contract is the fact.
 ghost use Rattle.vt100_picture.specs.Examples.{EachExampleHolds};
-ghost use Rattle.vt100_picture.specs.FormText.{EachTextIsPlain};
+ghost use Rattle.vt100_picture.specs.FormText.{EachCellIsSent, EachTextIsPlain};
 ghost use Rattle.vt100_picture.specs.Laws.{EachEmptyFormIsIdle, EachFormKeepsTerminals, EachListJoins, EachPathJoins, EachMoveLeads, EachChangeIsRead, EachCellIsPrinted, EachUntouchedCellStays};
 
 /// A form that is spelled by no bytes changes nothing.
@@ -42,6 +42,11 @@ pub fn cells_are_printed()
 /// A cell that a form doesn't touch stays.
 pub fn untouched_cells_stay()
     ensures { EachUntouchedCellStays }
+{}
+
+/// What a cell shows can be sent as a form, but for U+FFFD.
+pub fn cells_are_sent()
+    ensures { EachCellIsSent }
 {}
 
 /// The text of a cell holds no ESC.
