@@ -2,7 +2,7 @@
 use Rattle.std.proofs.Common.{◌≡◌, ℕ, ◌+◌, ◌-◌, ◌<◌, ◌≤◌, ◌==◌, Bool, true, false, cond, not, ◌&&◌, ◌||◌, List, [], ◌∷◌, ◌++◌, length, sym, refl, ap, ◌∙◌, arith, ⊎_elim}
 use Rattle.std.proofs.lemmas.Bool.{false≢true, cases_eq, eq-eqb, ne_eqb, cond_both}
 use Rattle.std.proofs.lemmas.Bool.Decides.{nat_tests}
-use Rattle.vt100_cells.specs.Cell.{CellView, IsCell, IsWideAs, has_text, is_filled, has_room, text_with, is_widened_by, appended}
+use Rattle.vt100_cells.specs.Cell.{CellView, IsCell, IsWideAs, has_text, is_filled, has_room, text_with, is_widened_by, appended, appended_plain}
 use Rattle.vt100_cells.specs.Line.{IsPaired, Bounded, update, base_col}
 use Rattle.vt100_cells.proofs.ListLemmas.{not_first}
 
@@ -58,6 +58,17 @@ wide_text (x ∷ xs) w h e = ap not (ne_eqb (length (x ∷ xs)) 0 (λ q. absurd 
 pub appended-has_text : (x : CellView) (c : ℕ) → IsCell x → (appended x c).wide ≡ true → has_text (appended x c) ≡ true
 appended-has_text x c h =
     cond_both (has_room x.text) _ x (λ y. y.wide ≡ true → has_text y ≡ true) (λ _ w. ap not (text_with-some x.text c)) (λ _ w. wide_text x.text x.wide h.wide w)
+
+-- ---- the same where U+FE0F widens nothing
+
+pub plain-continuation : (x : CellView) (c : ℕ) → (appended_plain x c).continuation ≡ x.continuation
+plain-continuation x c = cond_both (has_room x.text) _ x (λ y. y.continuation ≡ x.continuation) (λ _. refl) (λ _. refl)
+
+pub plain-wide : (x : CellView) (c : ℕ) → (appended_plain x c).wide ≡ x.wide
+plain-wide x c = cond_both (has_room x.text) _ x (λ y. y.wide ≡ x.wide) (λ _. refl) (λ _. refl)
+
+pub plain-filled : (x : CellView) (c : ℕ) → is_filled x ≡ true → is_filled (appended_plain x c) ≡ true
+plain-filled x c h = cond_both (has_room x.text) _ x (λ y. is_filled y ≡ true) (λ _. ap (λ b. not b || x.continuation) (text_with-some x.text c)) (λ _. h)
 
 -- ---- a line with another cell in one column
 

@@ -1,5 +1,5 @@
 -- What a contract sees of a cell, what is true of every cell, and the cells that edits make.
-use Rattle.std.specs.Prelude.{ℕ, ◌≡◌, ◌<◌, ◌==◌, ◌⊎◌, Bool, true, false, not, List, [], ◌∷◌, ◌++◌, length, take, min, Option, Some, None, is_none, unwrap_or, nat_eq, nat_lt, if◌then◌else◌, ◌&&◌, ◌||◌, encode_utf8_all, All, Contains}
+use Rattle.std.specs.Prelude.{ℕ, ◌≡◌, ◌<◌, ◌≤◌, ◌==◌, ◌⊎◌, Bool, true, false, not, List, [], ◌∷◌, ◌++◌, length, take, min, Option, Some, None, is_none, unwrap_or, nat_eq, nat_lt, if◌then◌else◌, ◌&&◌, ◌||◌, encode_utf8_all, All, Contains}
 use Rattle.std.specs.Char.{IsScalar}
 use lib.Pointwise.{pointwise}
 use Rattle.vt100_forms.specs.declared.attrs.Attrs.{Attrs}
@@ -80,6 +80,11 @@ appended_plain x c =
     then record { text = text_with x.text c; wide = x.wide; continuation = x.continuation; attrs = x.attrs }
     else x
 
+-- the same for these characters, one after the other
+abbrev pub all_appended : CellView → List ℕ → CellView
+all_appended x [] = x
+all_appended x (c ∷ cs) = all_appended (appended_plain x c) cs
+
 -- ---- what is true of every cell
 
 -- nothing, or a drawn character that takes columns and then some that take none
@@ -117,3 +122,12 @@ cell_eq x y = (text_eq x.text y.text && (bool_eq x.wide y.wide && bool_eq x.cont
 
 abbrev pub is_default : CellView → Bool
 is_default x = cell_eq x default_cell
+
+-- ---- laws
+
+-- a cell without U+FE0F is its first character with the others put on
+abbrev pub EachCellIsItsCharacters : Type 0
+EachCellIsItsCharacters = (x : CellView) (c : ℕ) (cs : List ℕ) → IsCell x → x.text ≡ c ∷ cs → (Contains cs 0xFE0F → ⊥) → all_appended (cell_of c x.attrs) cs ≡ x
+
+abbrev pub EachTextIsShort : Type 0
+EachTextIsShort = (x : CellView) → IsCell x → length (encode_utf8_all x.text) ≤ 21

@@ -55,7 +55,7 @@ bool_eq-refl : (p : Bool) → bool_eq p p ≡ true
 bool_eq-refl true = refl
 bool_eq-refl false = refl
 
-attrs_eq-true : (a b : Attrs) → attrs_eq a b ≡ true → a ≡ b
+pub attrs_eq-true : (a b : Attrs) → attrs_eq a b ≡ true → a ≡ b
 attrs_eq-true a b h =
     let p = and_parts (color_eq a.fgcolor b.fgcolor) (color_eq a.bgcolor b.bgcolor && (a.mode == b.mode)) h in
     let q = and_parts (color_eq a.bgcolor b.bgcolor) (a.mode == b.mode) p.1 in

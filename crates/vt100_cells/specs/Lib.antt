@@ -3,3 +3,4 @@ pub mod CellEq
 pub mod CellFields
 pub mod Cells
 pub mod Line
+pub use Rattle.vt100_forms.specs.Attrs

@@ -9,6 +9,7 @@
 
 mod cell;
 mod cell_text;
+pub mod laws;
 pub mod line;
 mod width;
 

@@ -8,3 +8,12 @@ pub mod Lines
 pub mod Resize
 pub mod Scroll
 pub mod Text
+pub mod Picture
+pub use Rattle.vt100_forms.specs.Attrs
+pub use Rattle.vt100_cells.specs.Cell
+pub use Rattle.vt100_cells.specs.Cells
+pub use Rattle.vt100_cells.specs.Line
+pub use Rattle.vt100_rows.specs.Row
+pub use Rattle.vt100_rows.specs.Text as RowText
+pub use Rattle.vt100_sheet.specs.Sheet
+pub use Rattle.vt100_sheet.specs.Sink

@@ -13,7 +13,7 @@ pub use printed::Printed;
 pub use scrollback::Scrollback;
 pub use visible_rows::VisibleRows;
 pub use vt100_forms::{
-    Color, CursorStyle, GridError, MouseProtocolEncoding, MouseProtocolMode, Pos, attrs,
+    Color, CursorStyle, GridError, MouseProtocolEncoding, MouseProtocolMode, Pos, attrs, term,
 };
 pub use vt100_rows::{Cell, Row};
 pub use vt100_sheet::{RowSink, Size};

@@ -1,2 +1,6 @@
 pub mod Row
 pub mod Text
+pub use Rattle.vt100_forms.specs.Attrs
+pub use Rattle.vt100_cells.specs.Cell
+pub use Rattle.vt100_cells.specs.Cells
+pub use Rattle.vt100_cells.specs.Line

@@ -67,6 +67,14 @@ impl Row {
         self.cells.len() as u16
     }
 
+    /// The cells, from the left.
+    #[inline]
+    pub fn cells(&self) -> &[Cell]
+        ensures { result.now ≡ self.now.cells }
+    {
+        &self.cells
+    }
+
     /// Empties every cell, with these attributes.
     pub fn clear(&mut self, attrs: Attrs)
         ensures { self.new ≡ cleared_row self.old attrs }
@@ -126,7 +134,8 @@ impl Row {
         wipe(&mut self.cells, i, i + 1, attrs);
     }
 
-    /// Empties the cells of the range, as [`erase`](Self::erase) of each of them does.
+    /// Empties the cells of the range, as [`erase`](Self::erase) of each of them does. For the grid alone.
+    #[doc(hidden)]
     pub fn erase_range(&mut self, range: Range<u16>, attrs: Attrs)
         requires { range.end ≤ length self.old.cells }
         ensures { self.new ≡ wiped_row self.old range.start range.end attrs }
@@ -215,12 +224,14 @@ impl Row {
     }
 }
 
-/// Calls that print. They stand in for access to a single cell, which could break a wide character in two.
+/// Calls that print. They stand in for access to a single cell, which could break a wide character in two. They are for
+/// the grid of `vt100_core` alone, which meets their conditions.
 impl Row {
     /// Puts the character `c`, which takes `columns` columns, at column `col`, with the drawing attributes.
     ///
     /// A wide character that this covers in part is gone: its first half is emptied and keeps its attributes; its
     /// second half becomes a space with the drawing attributes, or is emptied with them where `c` is wide itself.
+    #[doc(hidden)]
     #[inline]
     pub fn put(&mut self, col: u16, c: char, columns: u16, attrs: Attrs)
         requires drawn { drawn_columns c ≡ Some columns }
@@ -233,6 +244,7 @@ impl Row {
 
     /// Puts a cell that has a text at column `col`. What it covers goes as [`put`](Self::put) says, with the drawing
     /// attributes `attrs`.
+    #[doc(hidden)]
     #[inline]
     pub fn put_cell(&mut self, col: u16, cell: Cell, attrs: Attrs)
         requires text { has_text cell ≡ true }
@@ -251,6 +263,7 @@ impl Row {
     /// A cell takes it while it has fewer than 18 bytes; an empty cell gets a space first. U+FE0F, which asks for an
     /// emoji, can make a narrow cell wide: then it covers the next column as [`put`](Self::put) says, with the drawing
     /// attributes `attrs`. In the last column there is no room for it, and the cell's text is handed out.
+    #[doc(hidden)]
     pub fn join(&mut self, col: u16, c: char, attrs: Attrs) -> Join
         requires zero_width { drawn_columns c ≡ Some 0 }
         requires after_some { 0 < col }

@@ -5,3 +5,4 @@ pub mod ClearLemmas
 pub mod KeptLemmas
 pub mod BackLemmas
 pub mod WidthLemmas
+pub mod PictureLemmas

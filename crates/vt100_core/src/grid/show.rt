@@ -33,16 +33,27 @@ impl Grid {
     pub fn visible_row(&self, row: u16) -> Option<&Row>
         ensures { option_copied result ≡ visible_row_at self.now row }
     {
-        let row = usize::from(row);
-        if row >= self.rows.len() {
-            return None;
+        if usize::from(row) < self.rows.len() {
+            Some(self.shown_row(row))
+        } else {
+            None
         }
+    }
+
+    /// The row that is shown at `row`, which is one of the grid's. For those who go over the rows by their numbers.
+    #[doc(hidden)]
+    #[inline]
+    pub fn shown_row(&self, row: u16) -> &Row
+        requires { row < length self.now.rows }
+        ensures { result.now ≡ visible_at self.now row }
+    {
+        let row = usize::from(row);
         let offset = self.scrollback.offset;
         if row < offset {
             let first = self.scrollback.rows.len() - offset;
-            Some(kept_at(&self.scrollback.rows, first + row))
+            kept_at(&self.scrollback.rows, first + row)
         } else {
-            Some(at(&self.rows, row - offset))
+            at(&self.rows, row - offset)
         }
     }
 

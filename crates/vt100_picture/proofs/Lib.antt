@@ -1,0 +1,7 @@
+pub mod Positions
+pub mod TermLemmas
+pub mod FormLemmas
+pub mod PlainText
+pub mod PrintedCells
+pub mod TouchLemmas
+pub mod Examples

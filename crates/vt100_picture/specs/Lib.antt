@@ -1,0 +1,14 @@
+pub mod Apply
+pub mod Examples
+pub mod FormText
+pub mod Laws
+pub mod Leads
+pub mod Local
+pub mod Position
+pub mod Term
+pub mod Touch
+pub use Rattle.vt100_forms.specs.Attrs
+pub use Rattle.vt100_forms.specs.Form
+pub use Rattle.vt100_forms.specs.Mark
+pub use Rattle.vt100_cells.specs.Cell
+pub use Rattle.vt100_cells.specs.Line
