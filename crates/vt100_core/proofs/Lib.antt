@@ -4,6 +4,7 @@ pub mod ContentsLemmas
 pub mod EraseLemmas
 pub mod KeepLemmas
 pub mod ScrollLemmas
+pub mod StayLemmas
 pub mod TextLemmas
 pub mod ResizeLemmas
 pub mod LengthenLemmas

@@ -46,7 +46,7 @@ IsRow-grown_default v width r h = IsRow-grown v width default_cell r (IsCell-emp
 pub wide_along : (v w : RowView) (width : ℕ) → v ≡ w → width ≤ length w.cells → width ≤ length v.cells
 wide_along v w width e h = rw e h
 
-grown-longer : (v : RowView) (width : ℕ) → width ≤ length v.cells → grown v width default_cell ≡ v
+pub grown-longer : (v : RowView) (width : ℕ) → width ≤ length v.cells → grown v width default_cell ≡ v
 grown-longer v width l = grind (arith, nat_tests)
 
 grown-shorter : (v : RowView) (width : ℕ) → length v.cells < width → grown v width default_cell ≡ record { cells = by_position width (extended (length v.cells) (cell_at v.cells) default_cell); wrapped = false }

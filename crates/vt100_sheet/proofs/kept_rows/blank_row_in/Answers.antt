@@ -1,5 +1,5 @@
 use Rattle.std.proofs.Common.{ap, ◌∙◌}
-use Rattle.vt100_rows.specs.Cell.{CellView, default_cell}
+use Rattle.vt100_cells.specs.Cell.{CellView, default_cell}
 use Rattle.vt100_rows.specs.Row.{RowView, grown}
 use Rattle.vt100_sheet.proofs.KeptLemmas.{blank-again}
 use Rattle.vt100_sheet.proofs.kept_rows.blank_row_in.Goals as goal
