@@ -45,7 +45,7 @@ IsRowOf-newest width first kept small each r h =
     rw (get_or-map f (drop first kept) r (blank_row 0) (blank_row 0) (omega (arith, length-drop first kept)) ∙ ap f (get_or-drop first kept r (blank_row 0)))
     (IsRowOf-come (row_at kept (first + r)) width (each (first + r) (omega arith)) small)
 
-length-back : (g : GridView) (down : ℕ) → length (rows_back g down) ≡ down
+pub length-back : (g : GridView) (down : ℕ) → length (rows_back g down) ≡ down
 length-back g down = simp (length-append, length-replicate, length-map, length-drop) (omega arith)
 
 IsRowOf-back : (g : GridView) (down : ℕ) → IsGrid g → (r : ℕ) → r < length (rows_back g down) → IsRowOf g.width (row_at (rows_back g down) r)

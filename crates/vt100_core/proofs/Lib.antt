@@ -7,4 +7,5 @@ pub mod ScrollLemmas
 pub mod StayLemmas
 pub mod TextLemmas
 pub mod ResizeLemmas
+pub mod PlaceLemmas
 pub mod LengthenLemmas

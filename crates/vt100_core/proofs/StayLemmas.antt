@@ -44,7 +44,7 @@ overflow-none k h = omega arith
 offset-same : (n m : ℕ) → n ≤ m → cond (n == 0) 0 (min (n + 0) m) ≡ n
 offset-same n m h = grind (arith, nat_tests)
 
-kept_after-none : (k : KeptPart) → IsKept k → kept_after k [] ≡ k
+pub kept_after-none : (k : KeptPart) → IsKept k → kept_after k [] ≡ k
 kept_after-none k i =
     let rows : drop (overflow k 0) k.rows ++ map trimmed (drop (0 - min 0 k.capacity) []) ≡ k.rows =
     ap (λ n. drop n k.rows ++ map trimmed (drop (0 - min 0 k.capacity) [])) (overflow-none k i.fits)

@@ -14,7 +14,9 @@ use vt100_sheet::rows_edit::{reset_between, turn_up};
 /// Whether a grid keeps rows that scroll off at its top, and how many at most.
 #[derive(Clone, Copy, Debug)]
 pub enum Scrollback {
+    /// No row is kept.
     Disabled,
+    /// The newest rows are kept, at most `capacity` of them.
     Enabled { capacity: usize },
 }
 

@@ -87,7 +87,7 @@ rows_alike n f g e = rows_by_position_is n g (rows_by_position n f) (length-rows
 resized-shorter : (v : RowView) (to : ℕ) → to < length v.cells → truncated v to ≡ resized_row v to default_cell
 resized-shorter v to h = ap (λ b. cond b (truncated v to) (grown v to default_cell)) (sym (lt_ltb to (length v.cells) h))
 
-resized-longer : (v : RowView) (to : ℕ) → length v.cells ≤ to → grown v to default_cell ≡ resized_row v to default_cell
+pub resized-longer : (v : RowView) (to : ℕ) → length v.cells ≤ to → grown v to default_cell ≡ resized_row v to default_cell
 resized-longer v to h = ap (λ b. cond b (truncated v to) (grown v to default_cell)) (sym (not-less to (length v.cells) h))
 
 pub narrows : (rows : List RowView) (from to : ℕ) → IsSheet (length rows) from rows → to < from
