@@ -7,3 +7,4 @@ pub mod ScrollLemmas
 pub mod TextLemmas
 pub mod ResizeLemmas
 pub mod LengthenLemmas
+pub mod RunLemmas
