@@ -9,3 +9,4 @@ pub mod EditLemmas
 pub mod ShiftLemmas
 pub mod TrimLemmas
 pub mod JoinedCells
+pub mod RunLemmas

@@ -1,5 +1,5 @@
 -- What a contract sees of a cell, what is true of every cell, and the cells that edits make.
-use Rattle.std.specs.Prelude.{ℕ, ◌≡◌, ◌<◌, ◌==◌, ◌⊎◌, Bool, true, false, not, List, [], ◌∷◌, ◌++◌, length, take, min, Option, Some, None, is_none, unwrap_or, nat_eq, nat_lt, if◌then◌else◌, ◌&&◌, ◌||◌, encode_utf8_all, All, Contains}
+use Rattle.std.specs.Prelude.{ℕ, ◌≡◌, ◌<◌, ◌≤◌, ◌==◌, ◌⊎◌, Bool, true, false, not, List, [], ◌∷◌, ◌++◌, length, take, min, Option, Some, None, is_none, unwrap_or, nat_eq, nat_lt, if◌then◌else◌, ◌&&◌, ◌||◌, encode_utf8_all, All, Contains}
 use Rattle.std.specs.Char.{IsScalar}
 use lib.Pointwise.{pointwise}
 use Rattle.vt100_forms.specs.declared.attrs.Attrs.{Attrs}
@@ -26,6 +26,10 @@ is_undrawable c = is_none (char_width false c) && nat_lt c 0x100
 -- the columns of a character that is drawn
 abbrev pub drawn_columns : ℕ → Option ℕ
 drawn_columns c = if is_undrawable c then None else Some (columns_of c)
+
+-- the printable characters of ASCII, which take one column each
+abbrev pub IsPrintable : ℕ → Type 0
+IsPrintable c = (32 ≤ c) × (c < 127)
 
 -- ---- cells
 

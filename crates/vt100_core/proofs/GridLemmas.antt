@@ -4,7 +4,7 @@ use Rattle.vt100_rows.specs.Row.{RowView}
 use Rattle.vt100_sheet.specs.Sheet.{rows_by_position, IsRowOf, IsSheet, moved_up, opened_line}
 use Rattle.vt100_core.specs.declared.scrollback.Scrollback.{Scrollback}
 use Rattle.vt100_core.specs.declared.scrollback.Scrollback.TheVariants.{Disabled, Enabled}
-use Rattle.vt100_core.specs.Grid.{KeptPart, IsKept, IsShownWide, GridView, IsGrid, IsAllocated, keeps_of, capacity_of, scrollback_of, new_grid, with_row, with_rows, is_in_region}
+use Rattle.vt100_core.specs.Grid.{KeptPart, IsKept, IsShownWide, GridView, IsGrid, IsAllocated, SameLimits, keeps_of, capacity_of, scrollback_of, new_grid, with_row, with_rows, is_in_region}
 use Rattle.vt100_core.specs.Lines.{lines_opened, lines_inserted, lines_deleted, scrolled_down}
 use Rattle.vt100_sheet.proofs.SheetLemmas.{length-rows_by_position, IsSheet-with_row}
 use Rattle.vt100_sheet.proofs.MoveLemmas.{IsSheet-moved_up, IsSheet-opened_line}
@@ -15,6 +15,15 @@ IsGrid-at g h e i = rw e i
 pub IsGrid-cond : (b : Bool) (g h : GridView) → (b ≡ true → IsGrid g) → (b ≡ false → IsGrid h) → IsGrid (cond b g h)
 IsGrid-cond true g h p q = p refl
 IsGrid-cond false g h p q = q refl
+
+-- ---- limits
+
+pub SameLimits-trans : (g h k : GridView) → SameLimits g h → SameLimits h k → SameLimits g k
+SameLimits-trans g h k p q = record {
+  height = q.height ∙ p.height;
+  width = q.width ∙ p.width;
+  kept = record { keeps = q.kept.keeps ∙ p.kept.keeps; capacity = q.kept.capacity ∙ p.kept.capacity };
+}
 
 -- ---- a grid without rows
 

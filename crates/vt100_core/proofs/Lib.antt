@@ -9,3 +9,4 @@ pub mod TextLemmas
 pub mod ResizeLemmas
 pub mod PlaceLemmas
 pub mod LengthenLemmas
+pub mod RunLemmas

@@ -1,9 +1,9 @@
 //! One row of a terminal.
-ghost use Rattle.std.specs.Prelude.{◌≡◌, ℕ, ◌+◌, ◌-◌, ◌<◌, ◌≤◌, ◌==◌, ◌++◌, List, length, Some, true, false, not, ◌&&◌, IfOk, IsOk, OnOk, OnErr, slice_get, string_bytes, encode_utf8_all, replicate};
+ghost use Rattle.std.specs.Prelude.{◌≡◌, ℕ, ◌+◌, ◌-◌, ◌<◌, ◌≤◌, ◌==◌, ◌++◌, List, length, Some, true, false, not, ◌&&◌, IfOk, IsOk, OnOk, OnErr, slice_get, string_bytes, encode_utf8_all, replicate, All};
 ghost use Rattle.std.specs.Option.{option_copied};
-ghost use Rattle.vt100_cells.specs.Cell.{cell_of, has_text, drawn_columns};
+ghost use Rattle.vt100_cells.specs.Cell.{cell_of, has_text, drawn_columns, IsPrintable};
 ghost use Rattle.vt100_cells.specs.Line.{span_of};
-ghost use Rattle.vt100_rows.specs.Row.{blank_row, cleared_row, with_wrap, placed, wiped_row, pair_cleared, join_row, join_answer, inserted, removed, truncated, grown, resized_row, trimmed};
+ghost use Rattle.vt100_rows.specs.Row.{blank_row, cleared_row, with_wrap, placed, wiped_row, pair_cleared, join_row, join_answer, inserted, removed, truncated, grown, resized_row, trimmed, run_row, placed_each};
 ghost use Rattle.vt100_rows.specs.Text.{written_text, IsBegun};
 
 use crate::join::Join;
@@ -12,7 +12,7 @@ use std::marker::Model;
 use std::ops::Range;
 use vt100_cells::Cell;
 use vt100_cells::line::{
-    at, base_col, clear_cut_half, clear_pair, ends_filled, insert, put, puts_end, remove,
+    at, base_col, clear_cut_half, clear_pair, ends_filled, insert, put, put_run, puts_end, remove,
     trimmed_len, wipe, wipes_end,
 };
 use vt100_forms::GridError;
@@ -249,6 +249,19 @@ impl Row {
             self.wrapped = false;
         }
         put(&mut self.cells, col, cell, attrs);
+    }
+
+    /// Puts the characters of `text`, which are printable ASCII, at column `col` and after it, as [`put`](Self::put) of
+    /// each in turn does.
+    pub fn put_run(&mut self, col: u16, text: &[u8], attrs: Attrs)
+        requires printable { All IsPrintable text.now }
+        requires in_row { col + length text.now ≤ length self.old.cells }
+        ensures row { self.new ≡ run_row self.old col text.now attrs }
+        ensures each { self.new ≡ placed_each self.old col text.now attrs }
+    {
+        if !text.is_empty() {
+            put_run(&mut self.cells, usize::from(col), text, attrs);
+        }
     }
 
     /// Puts the zero-width character `c` on the cell left of column `col`, or on the wide character that ends there.

@@ -1,8 +1,8 @@
 //! Printing text.
-ghost use Rattle.std.specs.Prelude.{◌≡◌, ℕ, ◌+◌, ◌-◌, ◌<◌, ◌≤◌, ◌==◌, ◌&&◌, ◌||◌, nat_lt, true, false, Some, IsOk, OnOk, IfOk, if◌then◌else◌};
-ghost use Rattle.vt100_cells.specs.Cell.{IsCell, cell_of, columns_of, drawn_columns, has_text};
+ghost use Rattle.std.specs.Prelude.{◌≡◌, ℕ, ◌+◌, ◌-◌, ◌<◌, ◌≤◌, ◌==◌, ◌&&◌, ◌||◌, nat_lt, true, false, Some, IsOk, OnOk, IfOk, if◌then◌else◌, All, length, take};
+ghost use Rattle.vt100_cells.specs.Cell.{IsCell, cell_of, columns_of, drawn_columns, has_text, IsPrintable};
 ghost use Rattle.vt100_cells.specs.Line.{span_of};
-ghost use Rattle.vt100_rows.specs.Row.{join_row, join_answer};
+ghost use Rattle.vt100_rows.specs.Row.{join_row, join_answer, placed_each};
 ghost use Rattle.vt100_sheet.specs.Sink.{TakesAll};
 
 use crate::grid::Grid;
@@ -183,6 +183,76 @@ impl Grid {
         self.col_wrap(2, false, sink)?;
         self.put_wide(cell, attrs);
         Ok(())
+    }
+}
+
+/// Printing a run of characters.
+impl Grid {
+    ghost use Rattle.vt100_core.specs.Grid.{IsAllocated, SameLimits, row_of_cursor, with_cursor_row};
+    ghost use Rattle.vt100_core.specs.Text.{printed_all};
+
+    /// Prints the characters of `text`, which are printable ASCII, as [`text`](Self::text) of each in turn does.
+    ///
+    /// Only a grid that keeps rows can be refused. After a refusal the grid is whole, and what it shows is open.
+    pub fn text_run<S: RowSink>(
+        &mut self,
+        text: &[u8],
+        attrs: Attrs,
+        sink: &mut S,
+    ) -> Result<(), GridError>
+        requires allocated { IsAllocated self.old }
+        requires printable { All IsPrintable text.now }
+        ensures grid { OnOk result (self.new ≡ (printed_all self.old text.now attrs).grid) }
+        ensures sink { OnOk result (TakesAll S.takes sink.old (printed_all self.old text.now attrs).sunk sink.new) }
+        ensures limits { SameLimits self.old self.new }
+        ensures keeps_none { self.old.kept.capacity ≡ 0 → IsOk result }
+        ensures allocated { IsAllocated self.new }
+    {
+        let mut rest = text;
+        while !rest.is_empty() {
+            let n = self.text_in_row(rest, attrs, sink)?;
+            rest = &rest[n..];
+        }
+        Ok(())
+    }
+
+    /// Prints the first characters of `text`, as many as go into a row. How many they are.
+    fn text_in_row<S: RowSink>(
+        &mut self,
+        text: &[u8],
+        attrs: Attrs,
+        sink: &mut S,
+    ) -> Result<usize, GridError>
+        requires allocated { IsAllocated self.old }
+        requires some { 0 < length text.now }
+        requires printable { All IsPrintable text.now }
+        ensures some { IfOk result (λ n. 0 < n) }
+        ensures within { IfOk result (λ n. n ≤ length text.now) }
+        ensures grid { IfOk result (λ n. self.new ≡ (printed_all self.old (take n text.now) attrs).grid) }
+        ensures sink { IfOk result (λ n. TakesAll S.takes sink.old (printed_all self.old (take n text.now) attrs).sunk sink.new) }
+        ensures limits { SameLimits self.old self.new }
+        ensures keeps_none { self.old.kept.capacity ≡ 0 → IsOk result }
+        ensures allocated { IsAllocated self.new }
+    {
+        let cols = self.size.cols();
+        self.col_wrap(1, true, sink)?;
+        let room = cols - self.pos.col;
+        let n = text.len().min(usize::from(room));
+        self.put_run(&text[..n], attrs);
+        Ok(n)
+    }
+
+    /// Puts the characters of `text` at the cursor, whose row has room for them.
+    fn put_run(&mut self, text: &[u8], attrs: Attrs)
+        requires allocated { IsAllocated self.old }
+        requires printable { All IsPrintable text.now }
+        requires fits { self.old.col + length text.now ≤ self.old.width }
+        ensures grid { self.new ≡ record (with_cursor_row self.old (placed_each (row_of_cursor self.old) self.old.col text.now attrs)) { col = self.old.col + length text.now } }
+        ensures allocated { IsAllocated self.new }
+    {
+        let col = self.pos.col;
+        self.rows[usize::from(self.pos.row)].put_run(col, text, attrs);
+        self.pos.col = col + text.len() as u16;
     }
 }
 
