@@ -75,6 +75,7 @@ goes-up rows end n up width r e h = grind (arith, nat_tests)
 
 places-lower : (g : GridView) (height width r : ℕ) → IsGrid g → IsAllocated g → r < height → height < g.height
     → row_at (with_width (shortened (scrolled_up (whole_screen g) (up_rows g height)).grid (up_rows g height) height) width).rows r ≡ resized_row_at g height width r
+unfolding scrolled_up
 places-lower g height width r i a h lower =
     let up = up_rows g height in
     let n = up_count (whole_screen g) up in
@@ -177,6 +178,7 @@ is-lower m n e = grind (arith, nat_tests)
 -- ---- all together
 
 pub places_rows : (g : GridView) (height width r : ℕ) → IsGrid g → IsAllocated g → r < height → row_at (resized g height width).grid.rows r ≡ resized_row_at g height width r
+unfolding resized
 places_rows g height width r i a h =
     let same : Scrolled = record { grid = g; sunk = [] } in
     let s = scrolled_up (whole_screen g) (up_rows g height) in
@@ -211,6 +213,7 @@ left-first : (g : GridView) (up : ℕ) → up ≤ g.height → 0 < g.height → 
 left-first g up h some = let e : up_count (whole_screen g) up ≡ up = omega arith in ap (λ n. take n g.rows) e
 
 scrolled-kept : (g : GridView) (up : ℕ) → IsGrid g → up ≤ g.height → (scrolled_up (whole_screen g) up).grid.kept.rows ≡ (kept_after g.kept (take up g.rows)).rows
+unfolding scrolled_up
 scrolled-kept g up i h =
     let w = whole_screen g in
     let k = kept_after w.kept (left_rows w up) in
@@ -219,6 +222,7 @@ scrolled-kept g up i h =
     (λ e. let none = (i.kept.none e).0 in sym (none-kept g.kept (take up g.rows) none (omega (arith, i.kept.fits))))
 
 pub keeps_rows : (g : GridView) (height width : ℕ) → IsGrid g → IsAllocated g → 0 < height → (resized g height width).grid.kept.rows ≡ kept_rows_left g height
+unfolding resized
 keeps_rows g height width i a some =
     let same : Scrolled = record { grid = g; sunk = [] } in
     let s = scrolled_up (whole_screen g) (up_rows g height) in

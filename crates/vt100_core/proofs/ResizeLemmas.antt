@@ -175,6 +175,7 @@ not-same : (m n : ℕ) (b : Bool) → m < n → ((m == n) && b) ≡ false
 not-same m n b h = grind (arith, nat_tests)
 
 resized-lower : (g : GridView) (height width : ℕ) → height < g.height → lower_screen g height width ≡ resized g height width
+unfolding resized
 resized-lower g height width h =
     let same : Scrolled = record { grid = g; sunk = [] } in
     let higher : Scrolled = record { grid = lengthened (with_width (whole_screen g) width) height; sunk = [] } in

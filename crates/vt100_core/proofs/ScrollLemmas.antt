@@ -30,6 +30,7 @@ count-same g count end n t e f = omega arith
 pub scrolls-off : (g : GridView) (count end n width height : ℕ) (rows : List RowView) (k : KeptPart) → g.top ≡ 0 → g.kept.keeps ≡ true → end ≡ g.bottom + 1 → n ≡ min count end → width ≡ g.width → height ≡ g.height
     → rows ≡ rows_by_position (length g.rows) (moved_up g.rows 0 end n width) → k ≡ widened (kept_after g.kept (take n g.rows)) height width
     → record g { rows = rows; kept = k } ≡ (scrolled_up g count).grid
+unfolding scrolled_up
 scrolls-off g count end n width height rows k t keeps ee en ew eh er ek =
     let c = count-same g count end n t ee en in
     let same_rows : rows ≡ rows_by_position (length g.rows) (moved_up g.rows g.top (g.bottom + 1) (up_count g count) g.width) =
@@ -46,6 +47,7 @@ scrolls-off g count end n width height rows k t keeps ee en ew eh er ek =
     λ i. record (with_rows g (moved_up g.rows g.top (g.bottom + 1) (up_count g count) g.width)) { rows = same_rows i; kept = same_kept i }
 
 pub sunk-kept : (g : GridView) (count end n : ℕ) → g.top ≡ 0 → g.kept.keeps ≡ true → end ≡ g.bottom + 1 → n ≡ min count end → pushed_out g.kept (take n g.rows) ≡ (scrolled_up g count).sunk
+unfolding scrolled_up
 sunk-kept g count end n t keeps ee en =
     let c = count-same g count end n t ee en in
     let left : take n g.rows ≡ left_rows g count = ap (λ m. take m g.rows) c ∙ ap (λ m. take (up_count g count) (drop m g.rows)) (sym t) in

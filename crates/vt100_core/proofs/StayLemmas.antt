@@ -62,6 +62,7 @@ choice-same true x y e = e
 choice-same false x y e = refl
 
 pub scrolls-none : (g : GridView) (n : ℕ) → up_count g n ≡ 0 → IsKept g.kept → IsShownWide g.kept g.height g.width → g ≡ (scrolled_up g n).grid
+unfolding scrolled_up
 scrolls-none g n e i wide =
     let rows = stays g.rows g.top (g.bottom + 1) g.width (up_count g n) e in
     let kept : cond (is_kept_from g) (widened (kept_after g.kept (left_rows g n)) g.height g.width) g.kept ≡ g.kept =
@@ -74,6 +75,7 @@ pushed_out-none : (k : KeptPart) → length k.rows ≤ k.capacity → pushed_out
 pushed_out-none k h = ap (λ n. take n k.rows ++ take (0 - min 0 k.capacity) []) (overflow-none k h) ∙ take-nil (0 - min 0 k.capacity)
 
 pub sinks-none : (g : GridView) (n : ℕ) → up_count g n ≡ 0 → length g.kept.rows ≤ g.kept.capacity → [] ≡ (scrolled_up g n).sunk
+unfolding scrolled_up
 sinks-none g n e h =
     sym (ap (λ (xs : List RowView). cond (not (g.top == 0)) [] (cond g.kept.keeps (pushed_out g.kept xs) xs)) (left-none g n e)
     ∙ ap (λ (xs : List RowView). cond (not (g.top == 0)) [] xs) (choice-same g.kept.keeps (pushed_out g.kept []) [] (pushed_out-none g.kept h))
@@ -82,6 +84,7 @@ sinks-none g n e h =
 -- ---- a line feed above the region's last row
 
 feeds : (g : GridView) (n : ℕ) → is_in_region g ≡ true → scrolled_up (moved_rows_down g n) (rows_past_bottom g n) ≡ fed g n
+unfolding fed
 feeds g n e = sym (ap (λ b. cond b (scrolled_up (moved_rows_down g n) (rows_past_bottom g n)) (let s : Scrolled = record { grid = moved_rows_down g n; sunk = [] } in s)) e)
 
 no-lines : (g : GridView) (m : ℕ) → m ≡ 0 → up_count g m ≡ 0

@@ -34,6 +34,7 @@ pub record IsSized (g h : GridView) : Type 0 where
   pub col : h.col ≡ g.col
 
 pub IsSized-fed : (g : GridView) (n : ℕ) → IsSized g (fed g n).grid
+unfolding fed scrolled_up
 IsSized-fed g n =
     let down = moved_rows_down g n in
     cond_both (is_in_region g) (scrolled_up down (rows_past_bottom g n)) (record { grid = down; sunk = [] }) (λ (s : Scrolled). IsSized g s.grid)
@@ -44,6 +45,7 @@ IsSized-row : (g h : GridView) (r : ℕ) (v : RowView) → IsSized g h → IsSiz
 IsSized-row g h r v s = record { count = length-set h.rows r v ∙ s.count; width = s.width; col = s.col }
 
 pub IsSized-wrapped : (g : GridView) (wrap : Bool) → IsSized (record g { col = 0 }) (wrapped_on g wrap).grid
+unfolding wrapped_on
 IsSized-wrapped g wrap =
     let g0 = record g { col = 0 } in
     let h = (fed g0 1).grid in
@@ -259,14 +261,17 @@ some-left : (n : ℕ) → 0 < n → nat_lt 0 n ≡ true
 some-left n h = grind (arith, nat_tests)
 
 pub printed-dropped : (g : GridView) (c : ℕ) (a : Attrs) → is_dropped g c ≡ true → printed g c a ≡ record { grid = g; sunk = []; printed = Nothing }
+unfolding printed
 printed-dropped g c a e = ap (λ b. cond b (let d : Drawn = record { grid = g; sunk = []; printed = Nothing } in d) (cond (nat_lt 0 (columns_of c)) (spaced g c a) (joined g c a))) e
 
 pub printed-joined : (g : GridView) (c : ℕ) (a : Attrs) → is_dropped g c ≡ false → columns_of c ≡ 0 → printed g c a ≡ joined g c a
+unfolding printed
 printed-joined g c a e k =
     ap (λ b. cond b (let d : Drawn = record { grid = g; sunk = []; printed = Nothing } in d) (cond (nat_lt 0 (columns_of c)) (spaced g c a) (joined g c a))) e
     ∙ ap (λ b. cond b (spaced g c a) (joined g c a)) (none-left (columns_of c) k)
 
 pub printed-spaced : (g : GridView) (c : ℕ) (a : Attrs) → is_dropped g c ≡ false → 0 < columns_of c → printed g c a ≡ spaced g c a
+unfolding printed
 printed-spaced g c a e h =
     ap (λ b. cond b (let d : Drawn = record { grid = g; sunk = []; printed = Nothing } in d) (cond (nat_lt 0 (columns_of c)) (spaced g c a) (joined g c a))) e
     ∙ ap (λ b. cond b (spaced g c a) (joined g c a)) (some-left (columns_of c) h)

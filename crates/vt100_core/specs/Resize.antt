@@ -58,7 +58,7 @@ lengthened g height =
 
 -- of a lower screen the rows under the cursor go first, and then rows scroll off at the top; to a higher one as many rows
 -- come back as scrolled off. The same size changes nothing.
-abbrev pub resized : GridView → ℕ → ℕ → Scrolled
+unfoldable pub resized : GridView → ℕ → ℕ → Scrolled
 resized g height width =
     let up = up_rows g height in
     let s = scrolled_up (whole_screen g) up in

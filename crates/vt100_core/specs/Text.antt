@@ -44,7 +44,7 @@ joined g c a =
     then record { grid = record (with_cursor_row g (placed v (g.col - 1) (joined_cell v g.col c) a)) { col = g.col + 1 }; sunk = []; printed = Joined }
     else carried g c a
 
-abbrev pub printed : GridView → ℕ → Attrs → Drawn
+unfoldable pub printed : GridView → ℕ → Attrs → Drawn
 printed g c a =
     if is_dropped g c then record { grid = g; sunk = []; printed = Nothing }
     else if nat_lt 0 (columns_of c) then spaced g c a

@@ -22,6 +22,7 @@ impl Grid {
     ///
     /// After a refusal the grid is whole, it keeps as many rows at most, and the sink has been given the rows that leave for
     /// good; its size and what it shows are open.
+    #[tactic(auto, unfolding(crate::specs::Resize::resized, crate::specs::Scroll::scrolled_up))]
     pub fn set_size<S: RowSink>(&mut self, size: Size, sink: &mut S) -> Result<(), GridError>
         ensures grid { OnOk result (self.new ≡ (resized self.old size.rows.value size.cols.value).grid) }
         ensures sink { TakesAll S.takes sink.old (resized self.old size.rows.value size.cols.value).sunk sink.new }

@@ -20,6 +20,7 @@ impl Grid {
     ///
     /// Only a grid that keeps rows can be refused. After a refusal the sink has been given these rows, the grid is whole,
     /// and what it shows is open.
+    #[tactic(auto, unfolding(crate::specs::Scroll::scrolled_up))]
     pub fn scroll_up<S: RowSink>(&mut self, count: u16, sink: &mut S) -> Result<(), GridError>
         requires { IsAllocated self.old }
         ensures grid { OnOk result (self.new ≡ (scrolled_up self.old count).grid) }
@@ -86,6 +87,7 @@ impl Grid {
 
     /// Moves the cursor down. In the scroll region it stops at the region's last row, and the region scrolls up by the
     /// rows that are left (IND); their number is the answer. It is refused as [`scroll_up`](Self::scroll_up) is.
+    #[tactic(auto, unfolding(crate::specs::Scroll::fed))]
     pub fn row_inc_scroll<S: RowSink>(&mut self, count: u16, sink: &mut S) -> Result<u16, GridError>
         requires { IsAllocated self.old }
         ensures grid { OnOk result (self.new ≡ (fed self.old count).grid) }
@@ -116,6 +118,7 @@ impl Grid {
     /// [`row_inc_scroll`](Self::row_inc_scroll) does. The row that it left is marked as wrapped if `wrap` is set, it
     /// shows something in its last column, and it now stands directly above the cursor; else it isn't wrapped any more.
     /// It is refused as [`scroll_up`](Self::scroll_up) is.
+    #[tactic(auto, unfolding(crate::specs::Scroll::wrapped_on))]
     pub fn col_wrap<S: RowSink>(
         &mut self,
         width: u16,
