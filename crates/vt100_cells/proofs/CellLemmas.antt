@@ -1,5 +1,5 @@
 -- Every cell that an edit makes is one that a cell can be.
-use Rattle.std.proofs.Common.{◌≡◌, ℕ, zero, suc, ◌<◌, ◌≤◌, ◌==◌, inl, inr, ⊎_elim, Bool, true, false, ◌||◌, List, [], ◌∷◌, ◌++◌, length, Some, nat_lt, sym, refl, ap, ◌∙◌, arith, length-append}
+use Rattle.std.proofs.Common.{◌≡◌, ℕ, zero, suc, ◌<◌, ◌≤◌, ◌==◌, inl, inr, ⊎_elim, Bool, true, false, ◌||◌, List, [], ◌∷◌, ◌++◌, length, Some, nat_lt, sym, refl, ap, ◌∙◌, arith, rules, length-append}
 use Rattle.std.specs.Prelude.{All, Contains}
 use Rattle.std.specs.Char.{IsScalar}
 use Rattle.std.proofs.lemmas.Bool.{cases_lt, false≢true, eqb-true, and_parts, cond_both}
@@ -9,8 +9,8 @@ use Rattle.std.proofs.lemmas.List.Elements.{All-append, Contains-append_left, Co
 use Rattle.std.proofs.lemmas.Str.{encode_ascii}
 use Rattle.unicode_width.specs.Width.{str_width}
 use Rattle.vt100_forms.specs.declared.attrs.Attrs.{Attrs}
-use Rattle.vt100_cells.proofs.WidthLemmas.{space_is_narrow, space_is_drawn, drawn-is}
-use Rattle.vt100_cells.specs.Cell.{CellView, IsCell, IsCellText, IsShort, IsWideAs, columns_of, is_undrawable, drawn_columns, has_room, empty_cell, continuation_cell, cell_of, text_with, is_widened_by, appended}
+use Rattle.vt100_cells.proofs.WidthLemmas.{space_is_narrow, space_is_drawn, drawn-is, printable-is}
+use Rattle.vt100_cells.specs.Cell.{CellView, IsCell, IsCellText, IsShort, IsWideAs, columns_of, is_undrawable, drawn_columns, has_room, empty_cell, continuation_cell, cell_of, text_with, is_widened_by, appended, IsPrintable}
 
 -- ---- each kind of cell
 
@@ -116,3 +116,25 @@ IsCell-appended x c h s z n = cond_both (has_room x.text) _ x IsCell (λ r. IsCe
 pub IsCell-made : (x : CellView) (c : ℕ) (t : List ℕ) (w q : Bool) → IsCell x → IsScalar c → drawn_columns c ≡ Some 0 → x.continuation ≡ false → has_room x.text ≡ true
     → t ≡ text_with x.text c → w ≡ (x.wide || is_widened_by x.text c) → q ≡ x.continuation → IsCell (record { text = t; wide = w; continuation = q; attrs = x.attrs })
 IsCell-made x c t w q h s z n r et ew eq = rw (et, ew, eq) (IsCell-with x c h s z n r)
+
+-- ---- printable ASCII characters
+
+pub narrow-printable : (c : ℕ) (a : Attrs) → IsPrintable c → (cell_of c a).wide ≡ false
+narrow-printable c a p = ap (λ n. n == 2) (printable-is c p).1
+
+scalar-printable : (c : ℕ) → IsPrintable c → IsScalar c
+scalar-printable c p = search rules
+
+pub IsCell-printable : (c : ℕ) (a : Attrs) → IsPrintable c → IsCell (cell_of c a)
+IsCell-printable c a p = let d = printable-is c p in IsCell-of c a (scalar-printable c p) d.0 (omega (arith, d.1))
+
+-- a space's cell with another character
+pub replaced-is : (x : CellView) (t : List ℕ) (c : ℕ) (a : Attrs) → x ≡ cell_of 32 a → IsPrintable c → t ≡ c ∷ [] → record { text = t; wide = x.wide; continuation = x.continuation; attrs = x.attrs } ≡ cell_of c a
+replaced-is x t c a e p et =
+    let w = ap (λ (y : CellView). y.wide) e ∙ ap (λ n. n == 2) (space_is_narrow ∙ sym (printable-is c p).1) in
+    let q = ap (λ (y : CellView). y.continuation) e in
+    let b = ap (λ (y : CellView). y.attrs) e in
+    λ i. record { text = et i; wide = w i; continuation = q i; attrs = b i }
+
+pub IsCell-replaced : (x : CellView) (t : List ℕ) (c : ℕ) (a : Attrs) → x ≡ cell_of 32 a → IsPrintable c → t ≡ c ∷ [] → IsCell (record { text = t; wide = x.wide; continuation = x.continuation; attrs = x.attrs })
+IsCell-replaced x t c a e p et = rw (replaced-is x t c a e p et) (IsCell-printable c a p)

@@ -1,17 +1,17 @@
 -- A text with one more character.
-use Rattle.std.proofs.Common.{◌≡◌, ℕ, zero, suc, ◌+◌, ◌-◌, ◌<◌, ◌≤◌, true, List, [], ◌∷◌, ◌++◌, length, take, drop, replicate, sym, refl, ap, ◌∙◌, arith, length-append, length-take, length-drop, nat_eq, rules, append-nil}
+use Rattle.std.proofs.Common.{◌≡◌, ℕ, zero, suc, ◌+◌, ◌-◌, ◌<◌, ◌≤◌, true, List, [], ◌∷◌, ◌++◌, length, take, drop, set, replicate, sym, refl, ap, ◌∙◌, arith, length-append, length-take, length-drop, nat_eq, rules, append-nil}
 use Rattle.std.specs.Prelude.{encode_utf8_all, encode_utf8, chars, IsUtf8}
 use Rattle.std.specs.Char.{IsScalar}
 use Rattle.std.specs.Str.{IsAscii}
 use Rattle.std.proofs.lemmas.Bool.{ltb-true}
 use Rattle.std.proofs.lemmas.Bool.Decides.{nat_tests}
 use Rattle.std.proofs.lemmas.List.{drop-drop, drop-replicate}
-use Rattle.std.proofs.lemmas.Str.{IsUtf8-had, chars-append, IsUtf8-append, chars-encodes, length-encode, len_utf8_bounds, IsUtf8-from_ascii, chars-IsAscii}
+use Rattle.std.proofs.lemmas.Str.{IsUtf8-had, chars-append, IsUtf8-append, chars-encodes, length-encode, len_utf8_bounds, IsUtf8-from_ascii, chars-IsAscii, encode_ascii}
 use Rattle.std.proofs.lemmas.Slice.{take-put_mid, drop-put_mid}
 use borrow.Rule.Slice.PartMut.{put_mid}
 use Rattle.vt100_cells.specs.declared.cell_text.CellText.TheInside.{Inside}
 use Rattle.vt100_cells.specs.Cell.{has_room}
-use Rattle.vt100_cells.specs.CellFields.{IsText, text_of, length-text_of}
+use Rattle.vt100_cells.specs.CellFields.{IsText, text_of, length-text_of, fields_of, fields_of-text_of}
 
 pub len-text_of : (t : Inside) (cs : List ℕ) → IsText t → text_of t ≡ cs → t.len ≡ length (encode_utf8_all cs)
 len-text_of t cs h e = sym (length-text_of t h) ∙ ap (λ x. length (encode_utf8_all x)) e
@@ -65,3 +65,15 @@ IsText-ascii c h = record { fits = omega arith; whole = refl; utf8 = ∣ IsUtf8-
 
 pub text_of-ascii : (c : ℕ) → c < 128 → text_of (record { bytes = c ∷ replicate 20 0; len = 1 }) ≡ c ∷ []
 text_of-ascii c h = chars-IsAscii (c ∷ []) (IsAscii-one c h)
+
+-- the character of a space's text is replaced
+space-fields : (t : Inside) → IsText t → text_of t ≡ 32 ∷ [] → t ≡ record { bytes = 32 ∷ replicate 20 0; len = 1 }
+space-fields t h e =
+    let one : encode_utf8_all (32 ∷ []) ≡ 32 ∷ [] = ap (λ bs. bs ++ []) (encode_ascii 32 (omega arith)) in
+    sym (fields_of-text_of t h) ∙ ap fields_of e ∙ ap (λ bs. record { bytes = bs ++ replicate (21 - length bs) 0; len = length bs }) one
+
+pub IsText-replaced : (t : Inside) (c : ℕ) → IsText t → text_of t ≡ 32 ∷ [] → c < 128 → IsText (record { bytes = set t.bytes 0 c; len = t.len })
+IsText-replaced t c h e l = rw (space-fields t h e) (IsText-ascii c l)
+
+pub text_of-replaced : (t : Inside) (c : ℕ) → IsText t → text_of t ≡ 32 ∷ [] → c < 128 → text_of (record { bytes = set t.bytes 0 c; len = t.len }) ≡ c ∷ []
+text_of-replaced t c h e l = rw (space-fields t h e) (text_of-ascii c l)

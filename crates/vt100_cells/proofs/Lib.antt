@@ -10,3 +10,4 @@ pub mod ShiftLemmas
 pub mod TrimLemmas
 pub mod JoinedCells
 pub mod CellTexts
+pub mod RunLemmas

@@ -1,8 +1,8 @@
 -- The columns of a character.
-use Rattle.std.proofs.Common.{◌≡◌, ℕ, ◌<◌, ◌≤◌, true, false, cond, Some, None, refl, arith}
+use Rattle.std.proofs.Common.{◌≡◌, ℕ, ◌<◌, ◌≤◌, true, false, cond, Some, None, refl, sym, arith}
 use Rattle.std.proofs.lemmas.Bool.Decides.{nat_tests}
 use Rattle.unicode_width.specs.Width.{char_width}
-use Rattle.vt100_cells.specs.Cell.{columns_of, is_undrawable, drawn_columns}
+use Rattle.vt100_cells.specs.Cell.{columns_of, is_undrawable, drawn_columns, IsPrintable}
 
 width-ascii : (c : ℕ) → 32 ≤ c → c < 127 → char_width false c ≡ Some 1
 unfolding char_width
@@ -24,3 +24,6 @@ drawn-is c n e = elim (is_undrawable c) as (λ b. (cond b None (Some (columns_of
   | true ↦ λ h. cc
   | false ↦ λ h. (refl, cc)
 ] e
+
+pub printable-is : (c : ℕ) → IsPrintable c → (is_undrawable c ≡ false) × (columns_of c ≡ 1)
+printable-is c p = drawn-is c 1 (sym (drawn-ascii c p.0 p.1))

@@ -1,5 +1,5 @@
 -- Edits of a line of cells: f gives the cell at each column, and each definition says what then stands at column k.
-use Rattle.std.specs.Prelude.{ℕ, ◌+◌, ◌-◌, ◌≤◌, ◌≡◌, ◌==◌, Bool, true, false, ◌&&◌, ◌||◌, nat_lt, nat_le, if◌then◌else◌}
+use Rattle.std.specs.Prelude.{ℕ, ◌+◌, ◌-◌, ◌≤◌, ◌≡◌, ◌==◌, Bool, true, false, ◌&&◌, ◌||◌, nat_lt, nat_le, if◌then◌else◌, List, length, slice_index}
 use Rattle.vt100_forms.specs.declared.attrs.Attrs.{Attrs}
 use Rattle.vt100_cells.specs.Cell.{CellView, default_cell, empty_cell, continuation_cell, cell_of}
 
@@ -53,6 +53,16 @@ pair_wiped f i k =
     else f k
 
 -- ---- several columns
+
+-- the characters xs, which take one column each, are put from i on, with the attributes a, and what they cover goes. A
+-- wide cell whose second half stood at i is empty and keeps its own; the second half of a wide cell whose first half
+-- they cover becomes a space.
+abbrev pub run : (ℕ → CellView) → ℕ → List ℕ → Attrs → ℕ → CellView
+run f i xs a k =
+    if nat_le i k && nat_lt k (i + length xs) then cell_of (slice_index xs (k - i)) a
+    else if nat_lt 0 (length xs) && (((k + 1) == i) && (f k).wide) then empty_cell (f k).attrs
+    else if nat_lt 0 (length xs) && ((k == (i + length xs)) && (f k).continuation) then cell_of 32 a
+    else f k
 
 -- the columns from s up to e are empty with the attributes a, and so is each half that is left of a wide cell at
 -- either side, with its own

@@ -80,7 +80,7 @@ impl Eq for Cell {
 
 impl Cell {
     ghost use Rattle.std.specs.Prelude.{Some};
-    ghost use Rattle.vt100_cells.specs.Cell.{empty_cell, default_cell, continuation_cell, cell_of, appended, drawn_columns, has_text};
+    ghost use Rattle.vt100_cells.specs.Cell.{empty_cell, default_cell, continuation_cell, cell_of, appended, drawn_columns, has_text, IsPrintable};
 
     /// A cell that shows nothing, with default attributes.
     pub fn new() -> Self
@@ -123,6 +123,20 @@ impl Cell {
                 Span::Narrow
             },
             attrs,
+        }
+    }
+
+    /// A space's cell with the printable ASCII character `c` in its place.
+    #[inline]
+    pub(crate) fn replaced_by_ascii(self, c: u8) -> Self
+        requires space { self ≡ cell_of 32 self.attrs }
+        requires printable { IsPrintable c }
+        ensures { result ≡ cell_of c self.attrs }
+    {
+        Cell {
+            text: self.text.replaced_by_ascii(c),
+            span: self.span,
+            attrs: self.attrs,
         }
     }
 

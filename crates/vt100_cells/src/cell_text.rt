@@ -85,6 +85,21 @@ impl CellText {
         CellText { bytes, len: 1 }
     }
 
+    /// The space's text with `c` in its place.
+    #[inline]
+    pub(crate) fn replaced_by_ascii(self, c: u8) -> Self
+        requires space { self ≡ 32 ∷ [] }
+        requires ascii { c < 128 }
+        ensures { result ≡ c ∷ [] }
+    {
+        let mut bytes = self.bytes;
+        bytes[0] = c;
+        CellText {
+            bytes,
+            len: self.len,
+        }
+    }
+
     pub(crate) fn is_empty(&self) -> bool
         ensures { result ≡ (length self.now == 0) }
     {

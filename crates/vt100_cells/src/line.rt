@@ -1,7 +1,7 @@
 //! Edits of the cells of one line.
-ghost use Rattle.std.specs.Prelude.{◌≡◌, ℕ, ◌+◌, ◌-◌, ◌<◌, ◌≤◌, ◌==◌, List, length, Some, true, false, not, ◌&&◌, slice_set};
-ghost use Rattle.vt100_cells.specs.Cell.{CellView, IsCell, has_text, is_filled, drawn_columns, cell_of, empty_cell, default_cell};
-ghost use Rattle.vt100_cells.specs.Line.{IsPaired, span_of, update, put, put_unflags, base_col, pair_wiped, wiped, wipe_unflags, cut, opened, closed, left_cleared, right_cleared, shifted_right, mended, shifted_left};
+ghost use Rattle.std.specs.Prelude.{◌≡◌, ℕ, ◌+◌, ◌-◌, ◌<◌, ◌≤◌, ◌==◌, List, length, Some, true, false, not, ◌&&◌, slice_set, All, slice_index};
+ghost use Rattle.vt100_cells.specs.Cell.{CellView, IsCell, has_text, is_filled, drawn_columns, cell_of, empty_cell, default_cell, IsPrintable};
+ghost use Rattle.vt100_cells.specs.Line.{IsPaired, span_of, update, put, put_unflags, base_col, pair_wiped, wiped, wipe_unflags, cut, opened, closed, left_cleared, right_cleared, shifted_right, mended, shifted_left, run};
 ghost use Rattle.vt100_cells.specs.Cells.{cell_at, by_position, last_cell, inserted_cells, trimmed_len};
 
 use crate::cell::Cell;
@@ -264,4 +264,35 @@ pub fn trimmed_len(cells: &[Cell]) -> usize
         n -= 1;
     }
     n
+}
+
+/// Puts the printable ASCII characters of `text` at column `i` and after it, over what stands there.
+pub fn put_run(cells: &mut [Cell], i: usize, text: &[u8], attrs: Attrs)
+    requires some { 0 < length text.now }
+    requires in_row { i + length text.now ≤ length cells.old }
+    requires printable { All IsPrintable text.now }
+    requires paired { IsPaired (cell_at cells.old) }
+    ensures { cells.new ≡ by_position (length cells.old) (run (cell_at cells.old) i text.now attrs) }
+{
+    let end = i + text.len();
+    clear_left(cells, i);
+    let space = Cell::of_char(' ', 1, attrs);
+    if is_continuation_at(cells, end) {
+        cells[end] = space;
+    }
+    write_run(&mut cells[i..end], text, space);
+}
+
+/// Writes each character of `text` into a cell that is like `space`.
+// Inlined, it would write a cell in six pieces.
+#[inline(never)]
+fn write_run(cells: &mut [Cell], text: &[u8], space: Cell)
+    requires one_each { length cells.old ≡ length text.now }
+    requires printable { All IsPrintable text.now }
+    requires space { space ≡ cell_of 32 space.attrs }
+    ensures { cells.new ≡ by_position (length cells.old) (λ k. cell_of (slice_index text.now k) space.attrs) }
+{
+    for (i, cell) in cells.iter_mut().enumerate() {
+        *cell = space.replaced_by_ascii(text[i]);
+    }
 }

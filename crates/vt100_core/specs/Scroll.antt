@@ -55,7 +55,7 @@ abbrev pub is_kept_from : GridView → Bool
 is_kept_from g = (g.top == 0) && g.kept.keeps
 
 -- the region's lines move n up. Rows that leave it below the screen's first row are gone, and no sink is given them.
-abbrev pub scrolled_up : GridView → ℕ → Scrolled
+unfoldable pub scrolled_up : GridView → ℕ → Scrolled
 scrolled_up g n = record {
   grid = record (with_rows g (moved_up g.rows g.top (g.bottom + 1) (up_count g n) g.width)) {
     kept = if is_kept_from g then widened (kept_after g.kept (left_rows g n)) g.height g.width else g.kept;
@@ -73,29 +73,29 @@ abbrev pub rows_past_bottom : GridView → ℕ → ℕ
 rows_past_bottom g n = if is_in_region g then min (g.row + n) 65535 - g.bottom else 0
 
 -- n rows down, where the region scrolls up by those that are left at its last row
-abbrev pub fed : GridView → ℕ → Scrolled
+unfoldable pub fed : GridView → ℕ → Scrolled
 fed g n = if is_in_region g then scrolled_up (moved_rows_down g n) (rows_past_bottom g n) else record { grid = moved_rows_down g n; sunk = [] }
 
 -- where the row that the cursor leaves stands after a line feed
 abbrev pub left_row : GridView → ℕ
 left_row g = if g.row == g.bottom then g.row - 1 else g.row
 
--- the cursor goes to the first column of the next row. The row that it left is marked as going on there if `mark` is
--- set, it shows something in its last column, and it now stands directly above; else it loses its mark. On a screen of
--- one row that row is gone.
-abbrev pub wrapped_on : GridView → Bool → Scrolled
-wrapped_on g mark =
+-- the cursor goes to the first column of the next row. The row that it left is wrapped if `wrap` is set, it shows
+-- something in its last column, and it now stands directly above; else it isn't wrapped any more. On a screen of one row
+-- that row is gone.
+unfoldable pub wrapped_on : GridView → Bool → Scrolled
+wrapped_on g wrap =
     let h = (fed (record g { col = 0 }) 1).grid in
     record {
       grid =
           if (g.row == g.bottom) && (g.row == 0) then h
-          else with_row h (left_row g) (with_wrap (row_at h.rows (left_row g)) (mark && ((left_row g + 1) == h.row)));
+          else with_row h (left_row g) (with_wrap (row_at h.rows (left_row g)) (wrap && ((left_row g + 1) == h.row)));
       sunk = (fed (record g { col = 0 }) 1).sunk;
     }
 
 -- the same where fewer columns are left than these
 abbrev pub made_to_fit : GridView → ℕ → Bool → Scrolled
-made_to_fit g columns mark = if nat_le (g.col + columns) g.width then record { grid = g; sunk = [] } else wrapped_on g mark
+made_to_fit g columns wrap = if nat_le (g.col + columns) g.width then record { grid = g; sunk = [] } else wrapped_on g wrap
 
 -- ---- what is kept, by itself
 

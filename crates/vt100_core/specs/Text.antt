@@ -1,10 +1,10 @@
 -- Printing one character on a grid.
-use Rattle.std.specs.Prelude.{ℕ, ◌+◌, ◌-◌, ◌==◌, Bool, true, false, not, ◌&&◌, ◌||◌, nat_lt, List, [], if◌then◌else◌}
+use Rattle.std.specs.Prelude.{ℕ, ◌+◌, ◌-◌, ◌==◌, Bool, true, false, not, ◌&&◌, ◌||◌, nat_lt, List, [], ◌∷◌, ◌++◌, if◌then◌else◌}
 use Rattle.vt100_forms.specs.declared.attrs.Attrs.{Attrs}
 use Rattle.vt100_cells.specs.Cell.{CellView, columns_of, is_undrawable, cell_of}
 use Rattle.vt100_rows.specs.Row.{RowView, placed, wiped_row, joined_cell, joined_row, is_widening}
 use Rattle.vt100_core.specs.Grid.{GridView, with_cursor_row, row_of_cursor}
-use Rattle.vt100_core.specs.Scroll.{made_to_fit, wrapped_on}
+use Rattle.vt100_core.specs.Scroll.{Scrolled, made_to_fit, wrapped_on}
 use Rattle.vt100_core.specs.declared.printed.Printed.{Printed}
 use Rattle.vt100_core.specs.declared.printed.Printed.TheVariants.{Nothing, Spacing, Joined}
 
@@ -44,8 +44,16 @@ joined g c a =
     then record { grid = record (with_cursor_row g (placed v (g.col - 1) (joined_cell v g.col c) a)) { col = g.col + 1 }; sunk = []; printed = Joined }
     else carried g c a
 
-abbrev pub printed : GridView → ℕ → Attrs → Drawn
+unfoldable pub printed : GridView → ℕ → Attrs → Drawn
 printed g c a =
     if is_dropped g c then record { grid = g; sunk = []; printed = Nothing }
     else if nat_lt 0 (columns_of c) then spaced g c a
     else joined g c a
+
+-- characters are printed one after another
+abbrev pub printed_all : GridView → List ℕ → Attrs → Scrolled
+printed_all g [] a = record { grid = g; sunk = [] }
+printed_all g (c ∷ cs) a =
+    let first = printed g c a in
+    let others = printed_all first.grid cs a in
+    record { grid = others.grid; sunk = first.sunk ++ others.sunk }

@@ -2,3 +2,4 @@ pub mod TrimLemmas
 pub mod RowLemmas
 pub mod JoinLemmas
 pub mod TextLemmas
+pub mod RowRuns

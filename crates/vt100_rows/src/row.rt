@@ -1,9 +1,9 @@
 //! One row of a terminal.
-ghost use Rattle.std.specs.Prelude.{◌≡◌, ℕ, ◌+◌, ◌-◌, ◌<◌, ◌≤◌, ◌==◌, ◌++◌, List, length, Some, true, false, not, ◌&&◌, IfOk, OnOk, OnErr, slice_get, string_bytes, encode_utf8_all, replicate};
+ghost use Rattle.std.specs.Prelude.{◌≡◌, ℕ, ◌+◌, ◌-◌, ◌<◌, ◌≤◌, ◌==◌, ◌++◌, List, length, Some, true, false, not, ◌&&◌, IfOk, IsOk, OnOk, OnErr, slice_get, string_bytes, encode_utf8_all, replicate, All};
 ghost use Rattle.std.specs.Option.{option_copied};
-ghost use Rattle.vt100_cells.specs.Cell.{cell_of, has_text, drawn_columns};
+ghost use Rattle.vt100_cells.specs.Cell.{cell_of, has_text, drawn_columns, IsPrintable};
 ghost use Rattle.vt100_cells.specs.Line.{span_of};
-ghost use Rattle.vt100_rows.specs.Row.{blank_row, cleared_row, with_wrap, placed, wiped_row, pair_cleared, join_row, join_answer, inserted, removed, truncated, grown, resized_row, trimmed};
+ghost use Rattle.vt100_rows.specs.Row.{blank_row, cleared_row, with_wrap, placed, wiped_row, pair_cleared, join_row, join_answer, inserted, removed, truncated, grown, resized_row, trimmed, run_row, placed_each};
 ghost use Rattle.vt100_rows.specs.Text.{written_text, IsBegun};
 
 use crate::join::Join;
@@ -12,7 +12,7 @@ use std::marker::Model;
 use std::ops::Range;
 use vt100_cells::Cell;
 use vt100_cells::line::{
-    at, base_col, clear_cut_half, clear_pair, ends_filled, insert, put, puts_end, remove,
+    at, base_col, clear_cut_half, clear_pair, ends_filled, insert, put, put_run, puts_end, remove,
     trimmed_len, wipe, wipes_end,
 };
 use vt100_forms::GridError;
@@ -36,11 +36,11 @@ impl Model for Row {
 }
 
 impl Row {
-    /// A row of `cols` default cells.
+    /// A row of `cols` default cells. It takes memory for these and no more.
     pub fn new(alloc: Global, cols: u16) -> Result<Self, GridError>
         ensures { IfOk result (λ row. row ≡ blank_row cols) }
     {
-        let mut cells = Vec::new(alloc);
+        let mut cells = Vec::with_capacity(alloc, usize::from(cols))?;
         cells.resize(usize::from(cols), Cell::new())?;
         Ok(Row {
             cells,
@@ -160,27 +160,32 @@ impl Row {
         clear_cut_half(&mut self.cells);
     }
 
-    /// Appends cells until there are `len`; a row that is as long or longer stays as it is.
+    /// Appends cells until there are `len`; a row that is as long or longer stays as it is, and is never refused.
     pub fn grow(&mut self, len: u16, cell: Cell) -> Result<(), GridError>
         requires narrow { cell.wide ≡ false }
         requires whole { cell.continuation ≡ false }
         ensures ok { OnOk result (self.new ≡ grown self.old len cell) }
         ensures err { OnErr result (self.new ≡ self.old) }
+        ensures enough { len ≤ length self.old.cells → IsOk result }
     {
         prove!(!cell.is_wide());
-        if self.cells.len() < usize::from(len) {
-            self.cells.resize(usize::from(len), cell)?;
+        let len = usize::from(len);
+        if self.cells.len() < len {
+            self.cells.reserve_exact(len - self.cells.len())?;
+            self.cells.resize(len, cell)?;
             self.wrapped = false;
         }
         Ok(())
     }
 
-    /// Cuts the row after `len` cells, or appends cells until there are `len`.
+    /// Cuts the row after `len` cells, or appends cells until there are `len`. Only a row that becomes longer can be
+    /// refused.
     pub fn resize(&mut self, len: u16, cell: Cell) -> Result<(), GridError>
         requires narrow { cell.wide ≡ false }
         requires whole { cell.continuation ≡ false }
         ensures ok { OnOk result (self.new ≡ resized_row self.old len cell) }
         ensures err { OnErr result (self.new ≡ self.old) }
+        ensures enough { len ≤ length self.old.cells → IsOk result }
     {
         if usize::from(len) < self.cells.len() {
             self.truncate(len);
@@ -256,6 +261,19 @@ impl Row {
             self.wrapped = false;
         }
         put(&mut self.cells, col, cell, attrs);
+    }
+
+    /// Puts the characters of `text`, which are printable ASCII, at column `col` and after it, as [`put`](Self::put) of
+    /// each in turn does.
+    pub fn put_run(&mut self, col: u16, text: &[u8], attrs: Attrs)
+        requires printable { All IsPrintable text.now }
+        requires in_row { col + length text.now ≤ length self.old.cells }
+        ensures row { self.new ≡ run_row self.old col text.now attrs }
+        ensures each { self.new ≡ placed_each self.old col text.now attrs }
+    {
+        if !text.is_empty() {
+            put_run(&mut self.cells, usize::from(col), text, attrs);
+        }
     }
 
     /// Puts the zero-width character `c` on the cell left of column `col`, or on the wide character that ends there.

@@ -1,8 +1,8 @@
 //! Printing text.
-ghost use Rattle.std.specs.Prelude.{◌≡◌, ℕ, ◌+◌, ◌-◌, ◌<◌, ◌≤◌, ◌==◌, ◌&&◌, ◌||◌, nat_lt, true, false, Some, OnOk, IfOk, if◌then◌else◌};
-ghost use Rattle.vt100_cells.specs.Cell.{IsCell, cell_of, columns_of, drawn_columns, has_text};
+ghost use Rattle.std.specs.Prelude.{◌≡◌, ℕ, ◌+◌, ◌-◌, ◌<◌, ◌≤◌, ◌==◌, ◌&&◌, ◌||◌, nat_lt, true, false, Some, IsOk, OnOk, IfOk, if◌then◌else◌, All, length, take};
+ghost use Rattle.vt100_cells.specs.Cell.{IsCell, cell_of, columns_of, drawn_columns, has_text, IsPrintable};
 ghost use Rattle.vt100_cells.specs.Line.{span_of};
-ghost use Rattle.vt100_rows.specs.Row.{join_row, join_answer};
+ghost use Rattle.vt100_rows.specs.Row.{join_row, join_answer, placed_each};
 ghost use Rattle.vt100_sheet.specs.Sink.{TakesAll};
 
 use crate::grid::Grid;
@@ -13,7 +13,7 @@ use vt100_rows::{Cell, Join, columns};
 use vt100_sheet::RowSink;
 
 impl Grid {
-    ghost use Rattle.vt100_core.specs.Grid.{GridView, IsGrid, IsAllocated, row_of_cursor, with_cursor_row};
+    ghost use Rattle.vt100_core.specs.Grid.{GridView, IsGrid, IsAllocated, SameLimits, row_of_cursor, with_cursor_row};
     ghost use Rattle.vt100_core.specs.Text.{put_at, spaced, joined, is_dropped, printed};
     ghost use Rattle.vt100_core.specs.Scroll.{made_to_fit};
 
@@ -25,7 +25,8 @@ impl Grid {
     /// then has no room it moves to the next row. Dropped are control characters, what is wider than the screen, and
     /// zero-width characters at the first column.
     ///
-    /// After a refusal the grid is whole, but what it shows is open.
+    /// Only a grid that keeps rows can be refused. After a refusal the sink has been given the rows that leave for good,
+    /// the grid is whole, and what it shows is open.
     pub fn text<S: RowSink>(
         &mut self,
         c: char,
@@ -34,8 +35,10 @@ impl Grid {
     ) -> Result<Printed, GridError>
         requires { IsAllocated self.old }
         ensures grid { OnOk result (self.new ≡ (printed self.old c attrs).grid) }
-        ensures sink { OnOk result (TakesAll S.takes sink.old (printed self.old c attrs).sunk sink.new) }
+        ensures sink { TakesAll S.takes sink.old (printed self.old c attrs).sunk sink.new }
         ensures answer { IfOk result (λ p. p ≡ (printed self.old c attrs).printed) }
+        ensures limits { SameLimits self.old self.new }
+        ensures keeps_none { self.old.kept.capacity ≡ 0 → IsOk result }
         ensures allocated { IsAllocated self.new }
     {
         match self.drawn_columns(c) {
@@ -80,7 +83,9 @@ impl Grid {
         requires some { 0 < columns }
         requires fits { columns ≤ self.old.width }
         ensures grid { OnOk result (self.new ≡ (spaced self.old c attrs).grid) }
-        ensures sink { OnOk result (TakesAll S.takes sink.old (spaced self.old c attrs).sunk sink.new) }
+        ensures sink { TakesAll S.takes sink.old (spaced self.old c attrs).sunk sink.new }
+        ensures limits { SameLimits self.old self.new }
+        ensures keeps_none { self.old.kept.capacity ≡ 0 → IsOk result }
         ensures allocated { IsAllocated self.new }
     {
         self.col_wrap(columns, true, sink)?;
@@ -142,8 +147,10 @@ impl Grid {
         requires zero_width { drawn_columns c ≡ Some 0 }
         requires after_some { 0 < self.old.col }
         ensures grid { OnOk result (self.new ≡ (joined self.old c attrs).grid) }
-        ensures sink { OnOk result (TakesAll S.takes sink.old (joined self.old c attrs).sunk sink.new) }
+        ensures sink { TakesAll S.takes sink.old (joined self.old c attrs).sunk sink.new }
         ensures answer { IfOk result (λ p. p ≡ (joined self.old c attrs).printed) }
+        ensures limits { SameLimits self.old self.new }
+        ensures keeps_none { self.old.kept.capacity ≡ 0 → IsOk result }
         ensures allocated { IsAllocated self.new }
     {
         match self.join_in_row(c, attrs) {
@@ -168,12 +175,84 @@ impl Grid {
         requires wide { cell.wide ≡ true }
         requires fits { 2 ≤ self.old.width }
         ensures grid { OnOk result (self.new ≡ put_at (made_to_fit self.old 2 false).grid cell attrs 2) }
-        ensures sink { OnOk result (TakesAll S.takes sink.old (made_to_fit self.old 2 false).sunk sink.new) }
+        ensures sink { TakesAll S.takes sink.old (made_to_fit self.old 2 false).sunk sink.new }
+        ensures limits { SameLimits self.old self.new }
+        ensures keeps_none { self.old.kept.capacity ≡ 0 → IsOk result }
         ensures allocated { IsAllocated self.new }
     {
         self.col_wrap(2, false, sink)?;
         self.put_wide(cell, attrs);
         Ok(())
+    }
+}
+
+/// Printing a run of characters.
+impl Grid {
+    ghost use Rattle.vt100_core.specs.Grid.{IsAllocated, SameLimits, row_of_cursor, with_cursor_row};
+    ghost use Rattle.vt100_core.specs.Text.{printed_all};
+
+    /// Prints the characters of `text`, which are printable ASCII, as [`text`](Self::text) of each in turn does.
+    ///
+    /// Only a grid that keeps rows can be refused. After a refusal the grid is whole, and what it shows is open.
+    pub fn text_run<S: RowSink>(
+        &mut self,
+        text: &[u8],
+        attrs: Attrs,
+        sink: &mut S,
+    ) -> Result<(), GridError>
+        requires allocated { IsAllocated self.old }
+        requires printable { All IsPrintable text.now }
+        ensures grid { OnOk result (self.new ≡ (printed_all self.old text.now attrs).grid) }
+        ensures sink { OnOk result (TakesAll S.takes sink.old (printed_all self.old text.now attrs).sunk sink.new) }
+        ensures limits { SameLimits self.old self.new }
+        ensures keeps_none { self.old.kept.capacity ≡ 0 → IsOk result }
+        ensures allocated { IsAllocated self.new }
+    {
+        let mut rest = text;
+        while !rest.is_empty() {
+            let n = self.text_in_row(rest, attrs, sink)?;
+            rest = &rest[n..];
+        }
+        Ok(())
+    }
+
+    /// Prints the first characters of `text`, as many as go into a row. How many they are.
+    fn text_in_row<S: RowSink>(
+        &mut self,
+        text: &[u8],
+        attrs: Attrs,
+        sink: &mut S,
+    ) -> Result<usize, GridError>
+        requires allocated { IsAllocated self.old }
+        requires some { 0 < length text.now }
+        requires printable { All IsPrintable text.now }
+        ensures some { IfOk result (λ n. 0 < n) }
+        ensures within { IfOk result (λ n. n ≤ length text.now) }
+        ensures grid { IfOk result (λ n. self.new ≡ (printed_all self.old (take n text.now) attrs).grid) }
+        ensures sink { IfOk result (λ n. TakesAll S.takes sink.old (printed_all self.old (take n text.now) attrs).sunk sink.new) }
+        ensures limits { SameLimits self.old self.new }
+        ensures keeps_none { self.old.kept.capacity ≡ 0 → IsOk result }
+        ensures allocated { IsAllocated self.new }
+    {
+        let cols = self.size.cols();
+        self.col_wrap(1, true, sink)?;
+        let room = cols - self.pos.col;
+        let n = text.len().min(usize::from(room));
+        self.put_run(&text[..n], attrs);
+        Ok(n)
+    }
+
+    /// Puts the characters of `text` at the cursor, whose row has room for them.
+    fn put_run(&mut self, text: &[u8], attrs: Attrs)
+        requires allocated { IsAllocated self.old }
+        requires printable { All IsPrintable text.now }
+        requires fits { self.old.col + length text.now ≤ self.old.width }
+        ensures grid { self.new ≡ record (with_cursor_row self.old (placed_each (row_of_cursor self.old) self.old.col text.now attrs)) { col = self.old.col + length text.now } }
+        ensures allocated { IsAllocated self.new }
+    {
+        let col = self.pos.col;
+        self.rows[usize::from(self.pos.row)].put_run(col, text, attrs);
+        self.pos.col = col + text.len() as u16;
     }
 }
 

@@ -1,0 +1,26 @@
+use Rattle.std.proofs.Common.{arith, ◌≡◌, ◌∙◌, ◌+◌, length, true, false, ap}
+use Rattle.vt100_cells.specs.Cell.{CellView}
+use Rattle.vt100_cells.specs.Cells.{cell_at}
+use Rattle.vt100_cells.proofs.WidthLemmas.{space_is_drawn}
+use Rattle.vt100_cells.proofs.RunLemmas.{spaces-right, spaces-no_right, writes-run}
+use Rattle.vt100_cells.proofs.line.put_run.Goals as goal
+use Rattle.vt100_cells.proofs.line.put_run.Goals.{then-is_continuation_at, else-is_continuation_at}
+
+pub of_char-space-requires-clause-drawn : goal.of_char-space-requires-clause-drawn
+of_char-space-requires-clause-drawn c = space_is_drawn
+
+pub returns : goal.returns
+returns c =
+    let ys = c.clear_left.new.cells in
+    let e = c.args.i + length c.args.text.now in
+    let a = c.args.attrs in
+    let whole = writes-run c.args.cells.now ys c.if-is_continuation_at.cells c.write_run.new.cells c.args.i e _ c.args.text.now a c.of_char-space.result.attrs c.requires.some (omega arith) c.requires.in_row (omega arith)
+        (ap (λ (x : CellView). x.attrs) c.of_char-space.ensures) c.clear_left.ensures in
+    elim c.if-is_continuation_at.branch [
+      | then-is_continuation_at w ↦
+          let half : (cell_at ys e).continuation ≡ true = cc in
+          whole (w.cells-is ∙ spaces-right ys e c.of_char-space.result a c.of_char-space.ensures half) c.write_run.ensures
+      | else-is_continuation_at w ↦
+          let none : (cell_at ys e).continuation ≡ false = cc in
+          whole (w.cells-is ∙ spaces-no_right ys e a none) c.write_run.ensures
+    ]
