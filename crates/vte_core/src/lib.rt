@@ -445,7 +445,8 @@ impl<const N: usize> Parser<N> {
 
     /// Reads bytes until the performer is terminated, and returns how many it read; the caller gives the others again.
     /// The performer is asked before the first byte, after each byte of a sequence, and after each run of ground text,
-    /// up to the next ESC or to the end of the bytes; never inside a run.
+    /// up to the next ESC or to the end of the bytes; never inside a run. Its answer stands for as long as it is told
+    /// nothing.
     pub fn advance_until_terminated<P: Perform>(&mut self, performer: &mut P, bytes: &[u8]) -> usize
         ensures within { result ≤ length bytes.now }
         ensures stands { (past : List ℕ) → Stands N self.old past → Stands N self.new (past ++ take result bytes.now) }
