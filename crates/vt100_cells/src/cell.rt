@@ -89,6 +89,8 @@ impl Cell {
         Cell::empty(Attrs::new())
     }
 
+    /// A cell that shows nothing, with these attributes.
+    #[doc(hidden)]
     pub fn empty(attrs: Attrs) -> Self
         ensures { result ≡ empty_cell attrs }
     {
@@ -99,6 +101,8 @@ impl Cell {
         }
     }
 
+    /// The second column of a wide character.
+    #[doc(hidden)]
     pub fn continuation() -> Self
         ensures { result ≡ continuation_cell }
     {
@@ -109,7 +113,8 @@ impl Cell {
         }
     }
 
-    /// A cell that holds `c`, which takes `columns` columns.
+    /// A cell that holds `c`, which takes `columns` columns. For rows alone.
+    #[doc(hidden)]
     pub fn of_char(c: char, columns: u16, attrs: Attrs) -> Self
         requires drawn { drawn_columns c ≡ Some columns }
         requires spacing { 0 < columns }
@@ -141,7 +146,8 @@ impl Cell {
     }
 
     /// The cell with one more zero-width character, which is dropped where 18 bytes or more are kept. U+FE0F can make
-    /// a narrow cell wide.
+    /// a narrow cell wide. For rows alone.
+    #[doc(hidden)]
     pub fn joined(self, c: char) -> Self
         requires zero_width { drawn_columns c ≡ Some 0 }
         requires no_half { self.continuation ≡ false }
@@ -164,7 +170,8 @@ impl Cell {
         }
     }
 
-    /// The cell with other attributes.
+    /// The cell with other attributes. For rows alone.
+    #[doc(hidden)]
     pub fn with_attrs(self, attrs: Attrs) -> Self
         requires { self.continuation ≡ false }
         ensures { result ≡ record self { attrs = attrs } }
