@@ -110,6 +110,7 @@ impl Cell {
     }
 
     /// A cell that holds `c`, which takes `columns` columns.
+    #[inline]
     pub fn of_char(c: char, columns: u16, attrs: Attrs) -> Self
         requires drawn { drawn_columns c ≡ Some columns }
         requires spacing { 0 < columns }

@@ -71,6 +71,7 @@ fn clear_at(cells: &mut [Cell], i: usize)
 }
 
 /// Empties the cell directly left of column `i` if it is wide.
+#[inline]
 fn clear_left(cells: &mut [Cell], i: usize)
     requires { i < length cells.old }
     ensures { cells.new ≡ by_position (length cells.old) (left_cleared (cell_at cells.old) i) }
@@ -113,6 +114,7 @@ pub fn wipes_end(cells: &[Cell], s: usize, e: usize) -> bool
 }
 
 /// Puts `cell` at column `i`, with the drawing attributes, over what stands there.
+#[inline]
 pub fn put(cells: &mut [Cell], i: usize, cell: Cell, attrs: Attrs)
     requires in_row { i + span_of cell ≤ length cells.old }
     ensures { cells.new ≡ by_position (length cells.old) (put (cell_at cells.old) i cell attrs) }

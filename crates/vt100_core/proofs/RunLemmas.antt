@@ -32,10 +32,10 @@ not-dropped : (u : Bool) (k w col : ℕ) → u ≡ false → k ≡ 1 → 0 < w �
 not-dropped u k w col eu ek h = grind (arith, nat_tests)
 
 -- n columns of a character that goes to the grid h
-abbrev drawn_at : Scrolled → ℕ → Attrs → ℕ → Drawn
+abbrev pub drawn_at : Scrolled → ℕ → Attrs → ℕ → Drawn
 drawn_at s c a n = record { grid = put_at s.grid (cell_of c a) a n; sunk = s.sunk; printed = Spacing }
 
-printed-printable : (g : GridView) (c : ℕ) (a : Attrs) → IsPrintable c → 0 < g.width → printed g c a ≡ drawn_at (made_to_fit g 1 true) c a 1
+pub printed-printable : (g : GridView) (c : ℕ) (a : Attrs) → IsPrintable c → 0 < g.width → printed g c a ≡ drawn_at (made_to_fit g 1 true) c a 1
 printed-printable g c a p w =
     let d = printable-is c p in
     printed-spaced g c a (not-dropped (is_undrawable c) (columns_of c) g.width g.col d.0 d.1 w) (omega (arith, d.1)) ∙ ap (λ n. drawn_at (made_to_fit g n true) c a n) d.1
@@ -43,7 +43,7 @@ printed-printable g c a p w =
 fits-true : (m n : ℕ) → m ≤ n → nat_le m n ≡ true
 fits-true m n h = grind (arith, nat_tests)
 
-made-here : (g : GridView) → g.col + 1 ≤ g.width → made_to_fit g 1 true ≡ record { grid = g; sunk = [] }
+pub made-here : (g : GridView) → g.col + 1 ≤ g.width → made_to_fit g 1 true ≡ record { grid = g; sunk = [] }
 made-here g h = ap (λ b. cond b (let s : Scrolled = record { grid = g; sunk = [] } in s) (wrapped_on g true)) (fits-true (g.col + 1) g.width h)
 
 -- ---- a run in one row
