@@ -1,8 +1,10 @@
 -- What is true of a grid stays true.
-use Rattle.std.proofs.Common.{◌≡◌, ℕ, ◌+◌, ◌-◌, ◌<◌, ◌≤◌, Bool, true, false, cond, ◌&&◌, List, length, set, min, refl, sym, ◌∙◌, arith, length-set, nat_lt, subst}
+use Rattle.std.proofs.Common.{◌≡◌, ℕ, ◌+◌, ◌-◌, ◌<◌, ◌≤◌, Bool, true, false, cond, ◌&&◌, List, [], ◌∷◌, length, set, min, refl, sym, ap, ◌∙◌, arith, length-set, nat_lt, subst}
 use Rattle.vt100_rows.specs.Row.{RowView}
 use Rattle.vt100_sheet.specs.Sheet.{rows_by_position, IsRowOf, IsSheet, moved_up, opened_line}
-use Rattle.vt100_core.specs.Grid.{KeptPart, IsKept, IsShownWide, GridView, IsGrid, IsAllocated, with_row, with_rows, is_in_region}
+use Rattle.vt100_core.specs.declared.scrollback.Scrollback.{Scrollback}
+use Rattle.vt100_core.specs.declared.scrollback.Scrollback.TheVariants.{Disabled, Enabled}
+use Rattle.vt100_core.specs.Grid.{KeptPart, IsKept, IsShownWide, GridView, IsGrid, IsAllocated, SameLimits, keeps_of, capacity_of, scrollback_of, new_grid, with_row, with_rows, is_in_region}
 use Rattle.vt100_core.specs.Lines.{lines_opened, lines_inserted, lines_deleted, scrolled_down}
 use Rattle.vt100_sheet.proofs.SheetLemmas.{length-rows_by_position, IsSheet-with_row}
 use Rattle.vt100_sheet.proofs.MoveLemmas.{IsSheet-moved_up, IsSheet-opened_line}
@@ -13,6 +15,82 @@ IsGrid-at g h e i = rw e i
 pub IsGrid-cond : (b : Bool) (g h : GridView) → (b ≡ true → IsGrid g) → (b ≡ false → IsGrid h) → IsGrid (cond b g h)
 IsGrid-cond true g h p q = p refl
 IsGrid-cond false g h p q = q refl
+
+-- ---- limits
+
+pub SameLimits-trans : (g h k : GridView) → SameLimits g h → SameLimits h k → SameLimits g k
+SameLimits-trans g h k p q = record {
+  height = q.height ∙ p.height;
+  width = q.width ∙ p.width;
+  kept = record { keeps = q.kept.keeps ∙ p.kept.keeps; capacity = q.kept.capacity ∙ p.kept.capacity };
+}
+
+-- ---- a grid without rows
+
+pub no-rows : (rows : List RowView) → length rows ≡ 0 → rows ≡ []
+no-rows [] e = refl
+no-rows (v ∷ rows) e = absurd (omega arith)
+
+-- what a new grid is, part by part
+pub record IsNew (g : GridView) : Type 0 where
+  pub rows : g.rows ≡ []
+  pub row : g.row ≡ 0
+  pub col : g.col ≡ 0
+  pub saved_row : g.saved_row ≡ 0
+  pub saved_col : g.saved_col ≡ 0
+  pub origin : g.origin ≡ false
+  pub saved_origin : g.saved_origin ≡ false
+  pub top : g.top ≡ 0
+  pub bottom : g.bottom ≡ g.height - 1
+  pub kept_rows : g.kept.rows ≡ []
+  pub offset : g.kept.offset ≡ 0
+  pub scrolled_off : g.kept.scrolled_off ≡ 0
+
+IsNew-made : (g : GridView) (s : Scrollback) → g ≡ new_grid g.height g.width s → IsNew g
+IsNew-made g s e = record {
+  rows = ap (λ (x : GridView). x.rows) e;
+  row = ap (λ (x : GridView). x.row) e;
+  col = ap (λ (x : GridView). x.col) e;
+  saved_row = ap (λ (x : GridView). x.saved_row) e;
+  saved_col = ap (λ (x : GridView). x.saved_col) e;
+  origin = ap (λ (x : GridView). x.origin) e;
+  saved_origin = ap (λ (x : GridView). x.saved_origin) e;
+  top = ap (λ (x : GridView). x.top) e;
+  bottom = ap (λ (x : GridView). x.bottom) e;
+  kept_rows = ap (λ (x : GridView). x.kept.rows) e;
+  offset = ap (λ (x : GridView). x.kept.offset) e;
+  scrolled_off = ap (λ (x : GridView). x.kept.scrolled_off) e;
+}
+
+pub IsNew-of : (g : GridView) → IsGrid g → length g.rows ≡ 0 → IsNew g
+IsNew-of g i z = IsNew-made g (scrollback_of g.kept) (i.fresh z)
+
+keeps-same : (b : Bool) (n : ℕ) → keeps_of (cond b (Enabled n) Disabled) ≡ b
+keeps-same true n = refl
+keeps-same false n = refl
+
+capacity-same : (b : Bool) (n : ℕ) → (b ≡ false → n ≡ 0) → capacity_of (cond b (Enabled n) Disabled) ≡ n
+capacity-same true n h = refl
+capacity-same false n h = sym (h refl)
+
+pub new-again : (g : GridView) → IsKept g.kept → IsNew g → g ≡ new_grid g.height g.width (scrollback_of g.kept)
+new-again g k n =
+    let keeps = sym (keeps-same g.kept.keeps g.kept.capacity) in
+    let capacity = sym (capacity-same g.kept.keeps g.kept.capacity (λ e. (k.none e).0)) in
+    λ i. record {
+      rows = n.rows i;
+      height = g.height;
+      width = g.width;
+      row = n.row i;
+      col = n.col i;
+      saved_row = n.saved_row i;
+      saved_col = n.saved_col i;
+      origin = n.origin i;
+      saved_origin = n.saved_origin i;
+      top = n.top i;
+      bottom = n.bottom i;
+      kept = record { keeps = keeps i; rows = n.kept_rows i; capacity = capacity i; offset = n.offset i; scrolled_off = n.scrolled_off i };
+    }
 
 pub IsGrid-rows : (g : GridView) (rows : List RowView) → IsGrid g → length rows ≡ length g.rows → IsSheet g.height g.width rows → IsGrid (record g { rows = rows })
 IsGrid-rows g rows i e sheet = record {
@@ -30,9 +108,20 @@ IsGrid-rows g rows i e sheet = record {
   region_lines = i.region_lines;
   kept = i.kept;
   shown = i.shown;
-  fresh_row = λ z. i.fresh_row (sym e ∙ z);
-  fresh_saved_row = λ z. i.fresh_saved_row (sym e ∙ z);
-  fresh_kept = λ z. i.fresh_kept (sym e ∙ z);
+  fresh = λ z. let n = IsNew-of g i (sym e ∙ z) in new-again (record g { rows = rows }) i.kept (record {
+    rows = no-rows rows z;
+    row = n.row;
+    col = n.col;
+    saved_row = n.saved_row;
+    saved_col = n.saved_col;
+    origin = n.origin;
+    saved_origin = n.saved_origin;
+    top = n.top;
+    bottom = n.bottom;
+    kept_rows = n.kept_rows;
+    offset = n.offset;
+    scrolled_off = n.scrolled_off;
+  });
 }
 
 pub IsGrid-with_row : (g : GridView) (r : ℕ) (v : RowView) → IsGrid g → r < length g.rows → IsRowOf g.width v → ((r + 1) ≡ g.height → v.wrapped ≡ false) → IsGrid (with_row g r v)
@@ -87,9 +176,7 @@ IsGrid-scrolled g rows k i a e sheet kept shown = record {
   region_lines = i.region_lines;
   kept = kept;
   shown = shown;
-  fresh_row = λ z. absurd (omega arith);
-  fresh_saved_row = λ z. absurd (omega arith);
-  fresh_kept = λ z. absurd (omega arith);
+  fresh = λ z. absurd (omega arith);
 }
 
 pub IsSheet-height : (g : GridView) (rows : List RowView) → IsGrid g → IsAllocated g → IsSheet (length g.rows) g.width rows → IsSheet g.height g.width rows

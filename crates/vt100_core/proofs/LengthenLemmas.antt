@@ -4,6 +4,7 @@ use Rattle.std.proofs.lemmas.Bool.{cases_lt, cond_both, eqb-true}
 use Rattle.std.proofs.lemmas.Bool.Decides.{nat_tests}
 use Rattle.std.proofs.lemmas.List.{length-map, length-replicate, get_or-replicate, get_or-append_right, get_or-map, get_or-drop, get_or-take}
 use Rattle.std.proofs.Math.ListN.{get_or-append}
+use Rattle.std.proofs.Math.Seq.{take-nil}
 use Rattle.vt100_cells.specs.Cell.{default_cell}
 use Rattle.vt100_rows.specs.Row.{RowView, IsRow, blank_row, resized_row}
 use Rattle.vt100_sheet.specs.Sheet.{row_at, IsRowOf, IsSheet}
@@ -12,6 +13,7 @@ use Rattle.vt100_sheet.proofs.WidthLemmas.{length-resized}
 use Rattle.vt100_core.specs.Grid.{KeptPart, IsKept, GridView, IsGrid, IsAllocated}
 use Rattle.vt100_core.specs.Resize.{down_rows, rows_back, lengthened}
 use Rattle.vt100_sheet.proofs.SheetLemmas.{IsRowOf-blank}
+use Rattle.vt100_core.proofs.GridLemmas.{IsNew-of, new-again, no-rows}
 use Rattle.vt100_core.proofs.KeepLemmas.{IsShownWide-none}
 
 -- ---- the rows from `first` on have changed
@@ -43,7 +45,7 @@ IsRowOf-newest width first kept small each r h =
     rw (get_or-map f (drop first kept) r (blank_row 0) (blank_row 0) (omega (arith, length-drop first kept)) ∙ ap f (get_or-drop first kept r (blank_row 0)))
     (IsRowOf-come (row_at kept (first + r)) width (each (first + r) (omega arith)) small)
 
-length-back : (g : GridView) (down : ℕ) → length (rows_back g down) ≡ down
+pub length-back : (g : GridView) (down : ℕ) → length (rows_back g down) ≡ down
 length-back g down = simp (length-append, length-replicate, length-map, length-drop) (omega arith)
 
 IsRowOf-back : (g : GridView) (down : ℕ) → IsGrid g → (r : ℕ) → r < length (rows_back g down) → IsRowOf g.width (row_at (rows_back g down) r)
@@ -99,6 +101,7 @@ IsKept-fewer k down i off =
       counted = omega (arith, i.counted);
       offset = omega (arith, off);
       none = λ e. ((i.none e).0, omega (arith, (i.none e).1));
+      bounded = omega (arith, i.bounded);
     }
 
 none-yet : (g : GridView) (height : ℕ) → length (lengthened g height).rows ≡ 0 → length g.rows ≡ 0
@@ -124,7 +127,18 @@ IsGrid-lengthened g height i h small top off = record {
   region_lines = λ e. omega (arith, i.some_rows);
   kept = IsKept-fewer g.kept (down_rows g height) i.kept off;
   shown = IsShownWide-none (lengthened g height).kept height g.width off;
-  fresh_row = λ z. omega (arith, i.fresh_row (none-yet g height z), i.fresh_kept (none-yet g height z));
-  fresh_saved_row = λ z. omega (arith, i.fresh_saved_row (none-yet g height z), i.fresh_kept (none-yet g height z));
-  fresh_kept = λ z. omega (arith, i.fresh_kept (none-yet g height z));
+  fresh = λ z. let n = IsNew-of g i (none-yet g height z) in new-again (lengthened g height) (IsKept-fewer g.kept (down_rows g height) i.kept off) (record {
+    rows = no-rows (lengthened g height).rows z;
+    row = omega (arith, n.row, n.scrolled_off);
+    col = n.col;
+    saved_row = omega (arith, n.saved_row, n.scrolled_off);
+    saved_col = n.saved_col;
+    origin = n.origin;
+    saved_origin = n.saved_origin;
+    top = n.top;
+    bottom = refl;
+    kept_rows = ap (λ (xs : List RowView). take (length g.kept.rows - down_rows g height) xs) n.kept_rows ∙ take-nil (length g.kept.rows - down_rows g height);
+    offset = n.offset;
+    scrolled_off = omega (arith, n.scrolled_off);
+  });
 }

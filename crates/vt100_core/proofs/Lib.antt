@@ -4,7 +4,9 @@ pub mod ContentsLemmas
 pub mod EraseLemmas
 pub mod KeepLemmas
 pub mod ScrollLemmas
+pub mod StayLemmas
 pub mod TextLemmas
 pub mod ResizeLemmas
+pub mod PlaceLemmas
 pub mod LengthenLemmas
 pub mod RunLemmas

@@ -13,17 +13,12 @@ use Rattle.vt100_sheet.specs.Sheet.{first_rows}
 use Rattle.vt100_core.specs.Resize.{whole_screen, up_rows, shortened, with_width, down_rows, rows_back, lengthened, resized}
 use Rattle.vt100_sheet.proofs.WidthLemmas.{lt_ltb, IsRowOf-resized}
 use Rattle.vt100_sheet.specs.Sheet.{first_rows}
-use Rattle.vt100_core.specs.Grid.{KeptPart, GridView, IsGrid, IsAllocated}
+use Rattle.vt100_core.specs.Grid.{KeptPart, IsKept, GridView, IsGrid, IsAllocated}
 use Rattle.vt100_core.specs.Scroll.{Scrolled, widened, overflow, kept_after, pushed_out, up_count, left_rows, is_kept_from, scrolled_up}
 use Rattle.vt100_sheet.proofs.SheetLemmas.{rows_by_position_is, length-rows_by_position, IsSheet-by_position, row_at_past}
 use Rattle.vt100_sheet.proofs.MoveLemmas.{IsRowOf-unwrapped, IsRowOf-cond, wrapped-cond}
+use Rattle.vt100_core.proofs.GridLemmas.{IsNew-of, new-again, no-rows}
 use Rattle.vt100_core.proofs.KeepLemmas.{IsShownWide-none}
-
--- ---- fewer rows
-
--- ---- another width
-
--- ---- back to the width that the rows had
 
 -- ---- as many rows as there are
 
@@ -72,9 +67,20 @@ IsGrid-shortened g up height i some lower above top hidden =
       region_lines = λ e. omega (arith, top);
       kept = i.kept;
       shown = IsShownWide-none g.kept height g.width hidden;
-      fresh_row = λ z. omega (arith, i.fresh_row (none z));
-      fresh_saved_row = λ z. omega (arith, i.fresh_saved_row (none z));
-      fresh_kept = λ z. i.fresh_kept (none z);
+      fresh = λ z. let n = IsNew-of g i (none z) in new-again (shortened g up height) i.kept (record {
+        rows = no-rows (shortened g up height).rows z;
+        row = omega (arith, n.row);
+        col = n.col;
+        saved_row = omega (arith, n.saved_row);
+        saved_col = n.saved_col;
+        origin = n.origin;
+        saved_origin = n.saved_origin;
+        top = n.top;
+        bottom = refl;
+        kept_rows = n.kept_rows;
+        offset = n.offset;
+        scrolled_off = n.scrolled_off;
+      });
     }
 
 resized-unwrapped : (v : RowView) (width : ℕ) → v.wrapped ≡ false → (resized_row v width default_cell).wrapped ≡ false
@@ -106,70 +112,56 @@ IsGrid-with_width g width i some small hidden =
       region_lines = i.region_lines;
       kept = i.kept;
       shown = IsShownWide-none g.kept g.height width hidden;
-      fresh_row = λ z. i.fresh_row (sym n ∙ z);
-      fresh_saved_row = λ z. i.fresh_saved_row (sym n ∙ z);
-      fresh_kept = λ z. i.fresh_kept (sym n ∙ z);
+      fresh = λ z. let m = IsNew-of g i (sym n ∙ z) in new-again (with_width g width) i.kept (record {
+        rows = no-rows (with_width g width).rows z;
+        row = m.row;
+        col = omega (arith, m.col);
+        saved_row = m.saved_row;
+        saved_col = omega (arith, m.saved_col);
+        origin = m.origin;
+        saved_origin = m.saved_origin;
+        top = m.top;
+        bottom = m.bottom;
+        kept_rows = m.kept_rows;
+        offset = m.offset;
+        scrolled_off = m.scrolled_off;
+      });
     }
 
--- ---- no row scrolls off
+IsKept-hidden : (k : KeptPart) → IsKept k → IsKept (record k { offset = 0 })
+IsKept-hidden k i = record { each = i.each; fits = i.fits; counted = i.counted; offset = omega arith; none = i.none; bounded = i.bounded }
 
-zero-min : (n : ℕ) → min 0 n ≡ 0
-zero-min n = omega arith
-
-stays-one : (rows : List RowView) (first end width m k : ℕ) → m ≡ 0 → row_at rows k ≡ moved_up rows first end m width k
-stays-one rows first end width m k e = grind (arith, nat_tests)
-
-stays : (rows : List RowView) (first end width m : ℕ) → m ≡ 0 → rows_by_position (length rows) (moved_up rows first end m width) ≡ rows
-stays rows first end width m e = sym (rows_by_position_is (length rows) (moved_up rows first end m width) rows refl (λ k h. stays-one rows first end width m k e))
-
-hidden-one : (f : RowView → RowView) (rows : List RowView) (offset height k : ℕ) → offset ≡ 0 → k < length rows
-    → row_at rows k ≡ changed_between f rows (length rows - offset) (length rows - offset + height) k
-hidden-one f rows offset height k e h = grind (arith, nat_tests)
-
-widened-none : (k : KeptPart) (height width : ℕ) → k.offset ≡ 0 → widened k height width ≡ k
-widened-none k height width e =
-    let f : RowView → RowView = λ v. grown v width default_cell in
-    let same = rows_by_position_is (length k.rows) (changed_between f k.rows (length k.rows - k.offset) (length k.rows - k.offset + height)) k.rows refl
-    (λ j h. hidden-one f k.rows k.offset height j e h) in
-    λ i. record k { rows = sym same i }
-
-overflow-none : (k : KeptPart) → length k.rows ≤ k.capacity → overflow k 0 ≡ 0
-overflow-none k h = omega arith
-
-kept_after-none : (k : KeptPart) → length k.rows ≤ k.capacity → k.offset ≡ 0 → k.scrolled_off < 2 ^ 64 → kept_after k [] ≡ k
-kept_after-none k h hidden small =
-    let rows : drop (overflow k 0) k.rows ++ map trimmed (drop (0 - min 0 k.capacity) []) ≡ k.rows =
-    ap (λ n. drop n k.rows ++ map trimmed (drop (0 - min 0 k.capacity) [])) (overflow-none k h)
-    ∙ ap (λ (xs : List RowView). k.rows ++ map trimmed xs) (drop-nil (0 - min 0 k.capacity)) ∙ append-nil k.rows in
-    let offset : cond (k.offset == 0) 0 (min (k.offset + 0) (length (drop (overflow k 0) k.rows ++ map trimmed (drop (0 - min 0 k.capacity) [])))) ≡ k.offset =
-    ap (λ b. cond b 0 (min (k.offset + 0) (length (drop (overflow k 0) k.rows ++ map trimmed (drop (0 - min 0 k.capacity) []))))) (eq-eqb k.offset 0 hidden) ∙ sym hidden in
-    let count : min (k.scrolled_off + 0) (2 ^ 64 - 1) ≡ k.scrolled_off = omega arith in
-    λ i. record k { rows = rows i; offset = offset i; scrolled_off = count i }
-
-left-none : (g : GridView) → left_rows g 0 ≡ []
-left-none g = ap (λ n. take n (drop g.top g.rows)) (zero-min (g.bottom + 1 - g.top))
-
-choice-same : {A : Type 0} (b : Bool) (x y : A) → x ≡ y → cond b x y ≡ y
-choice-same true x y e = e
-choice-same false x y e = refl
-
-pub scrolls-none : (g : GridView) → length g.kept.rows ≤ g.kept.capacity → g.kept.offset ≡ 0 → g.kept.scrolled_off < 2 ^ 64 → (scrolled_up g 0).grid ≡ g
-scrolls-none g h hidden small =
-    let rows = stays g.rows g.top (g.bottom + 1) g.width (up_count g 0) (zero-min (g.bottom + 1 - g.top)) in
-    let kept : cond (is_kept_from g) (widened (kept_after g.kept (left_rows g 0)) g.height g.width) g.kept ≡ g.kept =
-    choice-same (is_kept_from g) (widened (kept_after g.kept (left_rows g 0)) g.height g.width) g.kept
-    (ap (λ (xs : List RowView). widened (kept_after g.kept xs) g.height g.width) (left-none g)
-    ∙ ap (λ (k : KeptPart). widened k g.height g.width) (kept_after-none g.kept h hidden small) ∙ widened-none g.kept g.height g.width hidden) in
-    λ i. record g { rows = rows i; kept = kept i }
-
-pushed_out-none : (k : KeptPart) → length k.rows ≤ k.capacity → pushed_out k [] ≡ []
-pushed_out-none k h = ap (λ n. take n k.rows ++ take (0 - min 0 k.capacity) []) (overflow-none k h) ∙ take-nil (0 - min 0 k.capacity)
-
-pub sinks-none : (g : GridView) → length g.kept.rows ≤ g.kept.capacity → (scrolled_up g 0).sunk ≡ []
-sinks-none g h =
-    ap (λ (xs : List RowView). cond (not (g.top == 0)) [] (cond g.kept.keeps (pushed_out g.kept xs) xs)) (left-none g)
-    ∙ ap (λ (xs : List RowView). cond (not (g.top == 0)) [] xs) (choice-same g.kept.keeps (pushed_out g.kept []) [] (pushed_out-none g.kept h))
-    ∙ choice-same (not (g.top == 0)) [] [] refl
+pub IsGrid-whole_screen : (g : GridView) → IsGrid g → IsGrid (whole_screen g)
+IsGrid-whole_screen g i = record {
+  sheet = i.sheet;
+  some_rows = i.some_rows;
+  some_cols = i.some_cols;
+  few_rows = i.few_rows;
+  few_cols = i.few_cols;
+  cursor_row = i.cursor_row;
+  cursor_col = i.cursor_col;
+  saved_row = i.saved_row;
+  saved_col = i.saved_col;
+  region = omega arith;
+  region_end = omega (arith, i.some_rows);
+  region_lines = λ e. omega (arith, i.some_rows);
+  kept = IsKept-hidden g.kept i.kept;
+  shown = IsShownWide-none (whole_screen g).kept g.height g.width refl;
+  fresh = λ z. let n = IsNew-of g i z in new-again (whole_screen g) (IsKept-hidden g.kept i.kept) (record {
+    rows = n.rows;
+    row = n.row;
+    col = n.col;
+    saved_row = n.saved_row;
+    saved_col = n.saved_col;
+    origin = n.origin;
+    saved_origin = n.saved_origin;
+    top = refl;
+    bottom = refl;
+    kept_rows = n.kept_rows;
+    offset = refl;
+    scrolled_off = n.scrolled_off;
+  });
+}
 
 -- ---- a lower screen
 

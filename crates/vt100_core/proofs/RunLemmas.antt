@@ -1,5 +1,5 @@
 -- Printing a run of printable ASCII characters.
-use Rattle.std.proofs.Common.{◌≡◌, ℕ, zero, suc, ◌+◌, ◌<◌, ◌≤◌, ◌==◌, Bool, true, false, cond, ◌&&◌, ◌||◌, List, [], ◌∷◌, ◌++◌, length, set, take, drop, sym, refl, ap, ◌∙◌, arith, nat_lt, nat_le, length-set, append-nil, append_assoc, add-zero, subst}
+use Rattle.std.proofs.Common.{◌≡◌, ℕ, zero, ◌+◌, ◌<◌, ◌≤◌, ◌==◌, Bool, true, false, cond, ◌&&◌, ◌||◌, List, [], ◌∷◌, ◌++◌, length, set, take, drop, sym, refl, ap, ◌∙◌, arith, nat_lt, nat_le, length-set, append-nil, append_assoc, add-zero, subst}
 use Rattle.std.specs.Prelude.{All}
 use Rattle.std.proofs.lemmas.Bool.Decides.{nat_tests}
 use Rattle.std.proofs.lemmas.List.Elements.{All-drop}
@@ -10,15 +10,15 @@ use Rattle.vt100_cells.specs.Cells.{cell_at}
 use Rattle.vt100_cells.specs.Line.{run}
 use Rattle.vt100_cells.proofs.WidthLemmas.{printable-is}
 use Rattle.vt100_cells.proofs.ListLemmas.{length-by_position}
-use Rattle.vt100_rows.specs.Row.{RowView, blank_row, placed, run_row, placed_each}
+use Rattle.vt100_rows.specs.Row.{RowView, blank_row, placed, placed_each}
 use Rattle.vt100_rows.proofs.RowRuns.{run_row-each, IsRow-each}
-use Rattle.vt100_sheet.specs.Sheet.{row_at, IsRowOf}
+use Rattle.vt100_sheet.specs.Sheet.{IsRowOf}
 use Rattle.vt100_sheet.specs.Sink.{TakesAll}
 use Rattle.vt100_sheet.proofs.SinkLemmas.{TakesAll-append}
 use Rattle.vt100_core.specs.declared.printed.Printed.TheVariants.{Spacing}
 use Rattle.vt100_core.specs.Grid.{GridView, IsGrid, IsAllocated, row_of_cursor, with_cursor_row}
 use Rattle.vt100_core.specs.Scroll.{Scrolled, wrapped_on, made_to_fit}
-use Rattle.vt100_core.specs.Text.{Drawn, put_at, is_dropped, printed, printed_all}
+use Rattle.vt100_core.specs.Text.{Drawn, put_at, printed, printed_all}
 use Rattle.vt100_core.proofs.EraseLemmas.{IsGrid-cursor_row, cursor_row_of}
 use Rattle.vt100_core.proofs.TextLemmas.{IsGrid-col, printed-spaced}
 
@@ -116,6 +116,7 @@ IsGrid-run_at g xs a i l p h =
     let e = run_row-each xs v g.col a r.row p (omega (arith, r.wide)) in
     IsGrid-col (with_cursor_row g (placed_each v g.col xs a)) (g.col + length xs)
     (IsGrid-cursor_row g (placed_each v g.col xs a) i l (wrapped-each xs v g.col g.width a r p h) (λ w. sym (ap (λ (u : RowView). u.wrapped) e) ∙ w))
+    (omega (arith, length-set g.rows g.row (placed_each v g.col xs a)))
     h
 
 -- ---- one row after another

@@ -17,6 +17,10 @@ pub IsShownWide-is : (k m : KeptPart) (height height' width width' : ℕ) → k 
 IsShownWide-is k m height height' width width' e f g =
     subst (λ w. IsShownWide k height' w) g (subst (λ h. IsShownWide k h width) f (subst (λ (x : KeptPart). IsShownWide x height width) (sym e) (IsShownWide-widened m height width)))
 
+pub IsShownWide-as : (k m : KeptPart) (height height' width width' : ℕ) → k ≡ m → height ≡ height' → width ≡ width' → IsShownWide m height' width' → IsShownWide k height width
+IsShownWide-as k m height height' width width' e f g wide =
+    subst (λ w. IsShownWide k height w) (sym g) (subst (λ h. IsShownWide k h width') (sym f) (subst (λ (x : KeptPart). IsShownWide x height' width') (sym e) wide))
+
 both-true : (p q : Bool) → p ≡ true → q ≡ true → (p && q) ≡ true
 both-true p q e f = ap (λ b. b && q) e ∙ f
 
@@ -51,10 +55,10 @@ sunk-kept g count end n t keeps ee en =
 
 -- ---- the row that the cursor leaves
 
-pub IsGrid-marked : (g : GridView) (r : ℕ) (wraps : Bool) → IsGrid g → r < length g.rows → (wraps ≡ true → r + 1 < g.height) → IsGrid (with_row g r (with_wrap (row_at g.rows r) wraps))
-IsGrid-marked g r true i h below =
+pub IsGrid-wrap_row : (g : GridView) (r : ℕ) (wraps : Bool) → IsGrid g → r < length g.rows → (wraps ≡ true → r + 1 < g.height) → IsGrid (with_row g r (with_wrap (row_at g.rows r) wraps))
+IsGrid-wrap_row g r true i h below =
     IsGrid-with_row g r (with_wrap (row_at g.rows r) true) i h (record { row = IsRow-with_wrap (row_at g.rows r) true (i.sheet.each r h).row; wide = (i.sheet.each r h).wide }) (λ e. absurd (omega (arith, below refl)))
-IsGrid-marked g r false i h below =
+IsGrid-wrap_row g r false i h below =
     IsGrid-with_row g r (with_wrap (row_at g.rows r) false) i h (record { row = IsRow-with_wrap (row_at g.rows r) false (i.sheet.each r h).row; wide = (i.sheet.each r h).wide }) (λ e. refl)
 
 pub above-last : (g : GridView) (r : ℕ) (wrap : Bool) → IsGrid g → (wrap && ((r + 1) == g.row)) ≡ true → r + 1 < g.height
@@ -64,20 +68,3 @@ above-last g r wrap i e =
 
 pub too-wide : (g : GridView) (w : ℕ) → g.width < g.col + w → nat_le (g.col + w) g.width ≡ false
 too-wide g w h = grind (arith, nat_tests)
-
-pub wraps : (g : GridView) (w : ℕ) (mark : Bool) (k : GridView) (r : ℕ) → g.width < g.col + w → k ≡ (fed (record g { col = 0 }) 1).grid → r ≡ left_row g → ((g.row == g.bottom) && (g.row == 0)) ≡ false
-    → with_row k r (with_wrap (row_at k.rows r) (mark && ((r + 1) == k.row))) ≡ (made_to_fit g w mark).grid
-wraps g w mark k r h ek er e =
-    let f : GridView → ℕ → GridView = λ x m. with_row x m (with_wrap (row_at x.rows m) (mark && ((m + 1) == x.row))) in
-    let below = (fed (record g { col = 0 }) 1).grid in
-    ap (λ (x : GridView). f x r) ek ∙ ap (λ m. f below m) er ∙ sym (ap (λ b. cond b below (f below (left_row g))) e)
-    ∙ sym (ap (λ b. (cond b (let s : Scrolled = record { grid = g; sunk = [] } in s) (wrapped_on g mark)).grid) (too-wide g w h))
-
-pub wraps-gone : (g : GridView) (w : ℕ) (mark : Bool) (k : GridView) → g.width < g.col + w → k ≡ (fed (record g { col = 0 }) 1).grid → ((g.row == g.bottom) && (g.row == 0)) ≡ true → k ≡ (made_to_fit g w mark).grid
-wraps-gone g w mark k h ek e =
-    let below = (fed (record g { col = 0 }) 1).grid in
-    ek ∙ sym (ap (λ b. cond b below (with_row below (left_row g) (with_wrap (row_at below.rows (left_row g)) (mark && ((left_row g + 1) == below.row))))) e)
-    ∙ sym (ap (λ b. (cond b (let s : Scrolled = record { grid = g; sunk = [] } in s) (wrapped_on g mark)).grid) (too-wide g w h))
-
-pub wraps-sunk : (g : GridView) (w : ℕ) (mark : Bool) → g.width < g.col + w → (fed (record g { col = 0 }) 1).sunk ≡ (made_to_fit g w mark).sunk
-wraps-sunk g w mark h = sym (ap (λ b. (cond b (let s : Scrolled = record { grid = g; sunk = [] } in s) (wrapped_on g mark)).sunk) (too-wide g w h))

@@ -43,14 +43,14 @@ IsSized-fed g n =
 IsSized-row : (g h : GridView) (r : ℕ) (v : RowView) → IsSized g h → IsSized g (with_row h r v)
 IsSized-row g h r v s = record { count = length-set h.rows r v ∙ s.count; width = s.width; col = s.col }
 
-pub IsSized-wrapped : (g : GridView) (mark : Bool) → IsSized (record g { col = 0 }) (wrapped_on g mark).grid
-IsSized-wrapped g mark =
+pub IsSized-wrapped : (g : GridView) (wrap : Bool) → IsSized (record g { col = 0 }) (wrapped_on g wrap).grid
+IsSized-wrapped g wrap =
     let g0 = record g { col = 0 } in
     let h = (fed g0 1).grid in
     let s = IsSized-fed g0 1 in
-    let w = with_row h (left_row g) (with_wrap (row_at h.rows (left_row g)) (mark && ((left_row g + 1) == h.row))) in
+    let w = with_row h (left_row g) (with_wrap (row_at h.rows (left_row g)) (wrap && ((left_row g + 1) == h.row))) in
     cond_both ((g.row == g.bottom) && (g.row == 0)) h w (λ (x : GridView). IsSized g0 x) (λ _. s)
-    (λ _. IsSized-row g0 h (left_row g) (with_wrap (row_at h.rows (left_row g)) (mark && ((left_row g + 1) == h.row))) s)
+    (λ _. IsSized-row g0 h (left_row g) (with_wrap (row_at h.rows (left_row g)) (wrap && ((left_row g + 1) == h.row))) s)
 
 fits-here : (m n : ℕ) → nat_le m n ≡ true → m ≤ n
 fits-here m n e = grind (arith, nat_tests)
@@ -60,17 +60,17 @@ pub record IsMade (g h : GridView) (columns : ℕ) : Type 0 where
   pub width : h.width ≡ g.width
   pub fits : h.col + columns ≤ h.width
 
-pub IsMade-made : (g : GridView) (columns : ℕ) (mark : Bool) → columns ≤ g.width → IsMade g (made_to_fit g columns mark).grid columns
-IsMade-made g columns mark h =
-    let s = IsSized-wrapped g mark in
-    cond_both (nat_le (g.col + columns) g.width) (record { grid = g; sunk = [] }) (wrapped_on g mark) (λ (x : Scrolled). IsMade g x.grid columns)
+pub IsMade-made : (g : GridView) (columns : ℕ) (wrap : Bool) → columns ≤ g.width → IsMade g (made_to_fit g columns wrap).grid columns
+IsMade-made g columns wrap h =
+    let s = IsSized-wrapped g wrap in
+    cond_both (nat_le (g.col + columns) g.width) (record { grid = g; sunk = [] }) (wrapped_on g wrap) (λ (x : Scrolled). IsMade g x.grid columns)
     (λ e. record { count = refl; width = refl; fits = fits-here (g.col + columns) g.width e })
     (λ _. record { count = s.count; width = s.width; fits = omega (arith, s.col, s.width) })
 
 -- ---- a cell at the cursor
 
-pub IsGrid-col : (g : GridView) (col : ℕ) → IsGrid g → col ≤ g.width → IsGrid (record g { col = col })
-IsGrid-col g col i h = record {
+pub IsGrid-col : (g : GridView) (col : ℕ) → IsGrid g → IsAllocated g → col ≤ g.width → IsGrid (record g { col = col })
+IsGrid-col g col i a h = record {
   sheet = i.sheet;
   some_rows = i.some_rows;
   some_cols = i.some_cols;
@@ -85,9 +85,7 @@ IsGrid-col g col i h = record {
   region_lines = i.region_lines;
   kept = i.kept;
   shown = i.shown;
-  fresh_row = i.fresh_row;
-  fresh_saved_row = i.fresh_saved_row;
-  fresh_kept = i.fresh_kept;
+  fresh = λ z. absurd (omega arith);
 }
 
 pub IsGrid-put_at : (g : GridView) (x : CellView) (a : Attrs) (n : ℕ) → IsGrid g → IsAllocated g → IsCell x → has_text x ≡ true → n ≡ span_of x → g.col + n ≤ g.width → IsGrid (put_at g x a n)
@@ -98,6 +96,7 @@ IsGrid-put_at g x a n i l cell text e h =
     (IsGrid-cursor_row g (placed v g.col x a) i l
     (record { row = IsRow-placed v g.col x a r.row cell text (omega (arith, r.wide, e)); wide = length-by_position (length v.cells) (put (cell_at v.cells) g.col x a) ∙ r.wide })
     (λ w. ap (λ b. b && not (put_unflags (length v.cells) (cell_at v.cells) g.col x)) w))
+    (omega (arith, length-set g.rows g.row (placed v g.col x a)))
     h
 
 span-same : (k n : ℕ) → min 2 k ≡ n → 0 < n → n ≡ cond (n == 2) 2 1

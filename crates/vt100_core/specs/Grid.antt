@@ -36,12 +36,46 @@ pub record GridView : Type 0 where
   pub bottom : ℕ
   pub kept : KeptPart
 
+-- ---- making one
+
+abbrev pub keeps_of : Scrollback → Bool
+keeps_of Disabled = false
+keeps_of (Enabled capacity) = true
+
+abbrev pub capacity_of : Scrollback → ℕ
+capacity_of Disabled = 0
+capacity_of (Enabled capacity) = capacity
+
+-- the scrollback that a grid with this part was made with
+abbrev pub scrollback_of : KeptPart → Scrollback
+scrollback_of k = if k.keeps then Enabled k.capacity else Disabled
+
+abbrev pub new_grid : ℕ → ℕ → Scrollback → GridView
+new_grid height width scrollback = record {
+  rows = [];
+  height = height;
+  width = width;
+  row = 0;
+  col = 0;
+  saved_row = 0;
+  saved_col = 0;
+  origin = false;
+  saved_origin = false;
+  top = 0;
+  bottom = height - 1;
+  kept = record { keeps = keeps_of scrollback; rows = []; capacity = capacity_of scrollback; offset = 0; scrolled_off = 0 };
+}
+
+-- ---- what is true of each
+
 pub record IsKept (k : KeptPart) : Type 0 where
   pub each : (j : ℕ) → j < length k.rows → IsRow (row_at k.rows j)
   pub fits : length k.rows ≤ k.capacity
   pub counted : length k.rows ≤ k.scrolled_off
   pub offset : k.offset ≤ length k.rows
   pub none : k.keeps ≡ false → (k.capacity ≡ 0) × (k.scrolled_off ≡ 0)
+  -- the count stops there
+  pub bounded : k.scrolled_off < 2 ^ 64
 
 -- a kept row that a screen of this size shows is at least as wide as it
 abbrev pub IsShownWide : KeptPart → ℕ → ℕ → Type 0
@@ -64,40 +98,27 @@ pub record IsGrid (g : GridView) : Type 0 where
   pub region_lines : g.top ≡ g.bottom → g.height ≡ 1
   pub kept : IsKept g.kept
   pub shown : IsShownWide g.kept g.height g.width
-  -- before its rows are allocated, nothing has moved or left
-  pub fresh_row : length g.rows ≡ 0 → g.row ≡ 0
-  pub fresh_saved_row : length g.rows ≡ 0 → g.saved_row ≡ 0
-  pub fresh_kept : length g.rows ≡ 0 → g.kept.scrolled_off ≡ 0
+  -- a grid without rows is a new one
+  pub fresh : length g.rows ≡ 0 → g ≡ new_grid g.height g.width (scrollback_of g.kept)
 
 -- whether the grid has its rows
 abbrev pub IsAllocated : GridView → Type 0
 IsAllocated g = 0 < length g.rows
 
--- ---- making one
+-- ---- what a refusal leaves
 
-abbrev pub keeps_of : Scrollback → Bool
-keeps_of Disabled = false
-keeps_of (Enabled capacity) = true
+-- as many rows are kept at most, if any
+pub record SameKeeping (k m : KeptPart) : Type 0 where
+  pub keeps : m.keeps ≡ k.keeps
+  pub capacity : m.capacity ≡ k.capacity
 
-abbrev pub capacity_of : Scrollback → ℕ
-capacity_of Disabled = 0
-capacity_of (Enabled capacity) = capacity
+-- two grids of one size that keep as many rows at most
+pub record SameLimits (g h : GridView) : Type 0 where
+  pub height : h.height ≡ g.height
+  pub width : h.width ≡ g.width
+  pub kept : SameKeeping g.kept h.kept
 
-abbrev pub new_grid : ℕ → ℕ → Scrollback → GridView
-new_grid height width scrollback = record {
-  rows = [];
-  height = height;
-  width = width;
-  row = 0;
-  col = 0;
-  saved_row = 0;
-  saved_col = 0;
-  origin = false;
-  saved_origin = false;
-  top = 0;
-  bottom = height - 1;
-  kept = record { keeps = keeps_of scrollback; rows = []; capacity = capacity_of scrollback; offset = 0; scrolled_off = 0 };
-}
+-- ---- rows for a new grid
 
 abbrev pub allocated : GridView → GridView
 allocated g = if length g.rows == 0 then record g { rows = replicate g.height (blank_row g.width) } else g

@@ -1,10 +1,10 @@
 -- Another size of the screen, in steps, each by positions.
-use Rattle.std.specs.Prelude.{ℕ, ◌+◌, ◌-◌, ◌==◌, ◌&&◌, nat_lt, min, List, [], ◌++◌, length, take, drop, map, replicate, if◌then◌else◌}
+use Rattle.std.specs.Prelude.{◌≡◌, ℕ, ◌+◌, ◌-◌, ◌<◌, ◌==◌, ◌&&◌, nat_lt, min, List, [], ◌++◌, length, take, drop, map, replicate, if◌then◌else◌}
 use Rattle.vt100_cells.specs.Cell.{default_cell}
-use Rattle.vt100_rows.specs.Row.{RowView, blank_row, resized_row}
+use Rattle.vt100_rows.specs.Row.{RowView, blank_row, resized_row, unwrapped}
 use Rattle.vt100_sheet.specs.Sheet.{row_at, rows_by_position, first_rows}
-use Rattle.vt100_core.specs.Grid.{GridView}
-use Rattle.vt100_core.specs.Scroll.{Scrolled, scrolled_up}
+use Rattle.vt100_core.specs.Grid.{GridView, IsGrid, IsAllocated}
+use Rattle.vt100_core.specs.Scroll.{Scrolled, kept_after, scrolled_up}
 
 -- the region is the whole screen, and no kept row is shown
 abbrev pub whole_screen : GridView → GridView
@@ -65,3 +65,39 @@ resized g height width =
     if (height == g.height) && (width == g.width) then record { grid = g; sunk = [] }
     else if nat_lt height g.height then record { grid = with_width (shortened s.grid up height) width; sunk = s.sunk }
     else record { grid = lengthened (with_width (whole_screen g) width) height; sunk = [] }
+
+-- ---- where each row stands then
+
+-- the row that comes to stand at r on a screen of this height: one that comes back, where it was kept, one that stood on
+-- the screen, or a blank one
+abbrev pub row_coming_to : GridView → ℕ → ℕ → ℕ → RowView
+row_coming_to g height width r =
+    let kept = length g.kept.rows in
+    let down = down_rows g height in
+    let up = up_rows g height in
+    if nat_lt (r + kept) down then blank_row width
+    else if nat_lt r down then row_at g.kept.rows (r + kept - down)
+    else if nat_lt (r + up - down) g.height then row_at g.rows (r + up - down)
+    else blank_row width
+
+-- it gets the new width, and isn't wrapped if it is the last
+abbrev pub resized_row_at : GridView → ℕ → ℕ → ℕ → RowView
+resized_row_at g height width r =
+    let v = row_coming_to g height width r in
+    resized_row (if (r + 1) == height then unwrapped v else v) width default_cell
+
+-- the rows that are kept then, the oldest first: those that scrolled off are among them, and those that came back aren't
+abbrev pub kept_rows_left : GridView → ℕ → List RowView
+kept_rows_left g height =
+    let rows = (kept_after g.kept (take (up_rows g height) g.rows)).rows in
+    take (length rows - down_rows g height) rows
+
+abbrev pub EachResizePlacesRows : Type 0
+EachResizePlacesRows =
+    (g : GridView) (height width r : ℕ) → IsGrid g → IsAllocated g → r < height
+    → row_at (resized g height width).grid.rows r ≡ resized_row_at g height width r
+
+abbrev pub EachResizeKeepsRows : Type 0
+EachResizeKeepsRows =
+    (g : GridView) (height width : ℕ) → IsGrid g → IsAllocated g → 0 < height
+    → (resized g height width).grid.kept.rows ≡ kept_rows_left g height

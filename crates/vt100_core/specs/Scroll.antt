@@ -80,22 +80,22 @@ fed g n = if is_in_region g then scrolled_up (moved_rows_down g n) (rows_past_bo
 abbrev pub left_row : GridView → ℕ
 left_row g = if g.row == g.bottom then g.row - 1 else g.row
 
--- the cursor goes to the first column of the next row. The row that it left is marked as going on there if `mark` is
--- set, it shows something in its last column, and it now stands directly above; else it loses its mark. On a screen of
--- one row that row is gone.
+-- the cursor goes to the first column of the next row. The row that it left is wrapped if `wrap` is set, it shows
+-- something in its last column, and it now stands directly above; else it isn't wrapped any more. On a screen of one row
+-- that row is gone.
 abbrev pub wrapped_on : GridView → Bool → Scrolled
-wrapped_on g mark =
+wrapped_on g wrap =
     let h = (fed (record g { col = 0 }) 1).grid in
     record {
       grid =
           if (g.row == g.bottom) && (g.row == 0) then h
-          else with_row h (left_row g) (with_wrap (row_at h.rows (left_row g)) (mark && ((left_row g + 1) == h.row)));
+          else with_row h (left_row g) (with_wrap (row_at h.rows (left_row g)) (wrap && ((left_row g + 1) == h.row)));
       sunk = (fed (record g { col = 0 }) 1).sunk;
     }
 
 -- the same where fewer columns are left than these
 abbrev pub made_to_fit : GridView → ℕ → Bool → Scrolled
-made_to_fit g columns mark = if nat_le (g.col + columns) g.width then record { grid = g; sunk = [] } else wrapped_on g mark
+made_to_fit g columns wrap = if nat_le (g.col + columns) g.width then record { grid = g; sunk = [] } else wrapped_on g wrap
 
 -- ---- what is kept, by itself
 

@@ -6,7 +6,7 @@ use std::marker::Model;
 use vt100_rows::Row;
 
 /// An iterator over the rows that are drawn on, from the top.
-#[derive(Drop)]
+#[derive(Debug, Drop)]
 pub struct DrawingRows<'a> {
     rows: &'a [Row],
 }

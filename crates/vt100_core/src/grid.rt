@@ -1,5 +1,5 @@
 //! A grid of rows with a cursor.
-ghost use Rattle.std.specs.Prelude.{◌≡◌, ℕ, ◌+◌, ◌-◌, ◌<◌, ◌≤◌, ◌==◌, List, [], length, true, false, OnOk, OnErr, IfOk};
+ghost use Rattle.std.specs.Prelude.{◌≡◌, ℕ, ◌+◌, ◌-◌, ◌<◌, ◌≤◌, ◌==◌, List, [], length, true, false, IsOk, OnOk, OnErr, IfOk};
 
 mod contents;
 mod cursor;
@@ -78,6 +78,7 @@ impl Grid {
         }
     }
 
+    /// How many rows and columns the screen has.
     pub fn size(&self) -> Size
         ensures rows { result.rows.value ≡ self.now.height }
         ensures cols { result.cols.value ≡ self.now.width }
@@ -89,6 +90,7 @@ impl Grid {
     pub fn allocate_rows(&mut self) -> Result<(), GridError>
         ensures allocated { OnOk result (self.new ≡ allocated self.old) }
         ensures refused { OnErr result (self.new ≡ self.old) }
+        ensures enough { IsAllocated self.old → IsOk result }
     {
         if self.rows.is_empty() {
             let alloc = *self.rows.allocator();

@@ -3,6 +3,7 @@
 
 pub mod drawing_rows;
 pub mod grid;
+pub mod laws;
 pub mod printed;
 pub mod scrollback;
 pub mod visible_rows;

@@ -1,5 +1,5 @@
 //! The rows that left the screen at its top.
-ghost use Rattle.std.specs.Prelude.{◌≡◌, ◌-◌, ◌<◌, ◌≤◌, ◌==◌, length, take, OnOk, OnErr, true};
+ghost use Rattle.std.specs.Prelude.{◌≡◌, ◌-◌, ◌<◌, ◌≤◌, ◌==◌, length, take, IsOk, OnOk, OnErr, true};
 ghost use Rattle.vt100_rows.specs.Row.{blank_row};
 ghost use Rattle.vt100_sheet.specs.Sheet.{rows_by_position, IsSheet, changed_between};
 ghost use Rattle.vt100_sheet.specs.Sink.{TakesAll};
@@ -14,7 +14,9 @@ use vt100_sheet::rows_edit::{reset_between, turn_up};
 /// Whether a grid keeps rows that scroll off at its top, and how many at most.
 #[derive(Clone, Copy, Debug)]
 pub enum Scrollback {
+    /// No row is kept.
     Disabled,
+    /// The newest rows are kept, at most `capacity` of them.
     Enabled { capacity: usize },
 }
 
@@ -31,7 +33,7 @@ pub(crate) struct ScrollbackState {
 }
 
 impl ScrollbackState {
-    ghost use Rattle.vt100_core.specs.Grid.{IsKept};
+    ghost use Rattle.vt100_core.specs.Grid.{IsKept, IsShownWide, SameKeeping};
     ghost use Rattle.vt100_core.specs.KeptFields.{kept_of};
     ghost use Rattle.vt100_core.specs.Scroll.{kept_after, pushed_out, widened};
     ghost use Rattle.vt100_sheet.specs.Sheet.{moved_up};
@@ -50,22 +52,23 @@ impl ScrollbackState {
         requires in_rows { n ≤ length rows.old }
         requires sheet { IsSheet (length rows.old) width rows.old }
         ensures kept { OnOk result (kept_of self.new ≡ record (kept_after (kept_of self.old) (take n rows.old)) { offset = 0 }) }
-        ensures sink { OnOk result (TakesAll S.takes sink.old (pushed_out (kept_of self.old) (take n rows.old)) sink.new) }
         ensures rows { OnOk result (rows.new ≡ rows_by_position (length rows.old) (changed_between (λ v. blank_row width) rows.old 0 n)) }
 
-        // Also where memory ran out.
+        // Also where memory ran out, which it does only where rows are kept.
+        ensures sink { TakesAll S.takes sink.old (pushed_out (kept_of self.old) (take n rows.old)) sink.new }
         ensures valid { IsKept (kept_of self.new) }
         ensures hidden { self.new.offset ≡ 0 }
         ensures sheet { IsSheet (length rows.old) width rows.new }
+        ensures same { SameKeeping (kept_of self.old) (kept_of self.new) }
+        ensures none { self.old.capacity ≡ 0 → IsOk result }
     {
         self.offset = 0;
         self.unbounded_len = self.unbounded_len.saturating_add(n);
         let fits = n.min(self.capacity);
         let room = self.capacity - self.rows.len();
-        drop_oldest(&mut self.rows, fits.saturating_sub(room), sink);
+        let spare = drop_oldest(&mut self.rows, fits.saturating_sub(room), sink);
         give_rows(&rows[..n - fits], sink);
-        let alloc = *self.rows.allocator();
-        keep_rows(alloc, &mut self.rows, rows, n - fits, n, width)?;
+        keep_rows(&mut self.rows, rows, n - fits, n, width, spare)?;
         reset_between(rows, 0, n - fits);
         Ok(())
     }
@@ -76,9 +79,11 @@ impl ScrollbackState {
         requires some { offset ≤ length self.old.rows.items }
         ensures kept { OnOk result (kept_of self.new ≡ widened (record (kept_of self.old) { offset = offset }) height width) }
 
-        // Also where memory ran out: then none is shown.
+        // Also where memory ran out, which it does only where a row that is to be shown is narrower: then none is shown.
         ensures valid { IsKept (kept_of self.new) }
         ensures hidden { OnErr result (self.new.offset ≡ 0) }
+        ensures same { SameKeeping (kept_of self.old) (kept_of self.new) }
+        ensures wide { IsShownWide (record (kept_of self.old) { offset = offset }) height width → IsOk result }
     {
         self.offset = 0;
         let first = self.rows.len() - offset;
@@ -108,13 +113,15 @@ impl ScrollbackState {
         requires in_rows { end ≤ length rows.old }
         requires sheet { IsSheet (length rows.old) width rows.old }
         ensures kept { OnOk result (kept_of self.new ≡ widened (kept_after (kept_of self.old) (take n rows.old)) height width) }
-        ensures sink { OnOk result (TakesAll S.takes sink.old (pushed_out (kept_of self.old) (take n rows.old)) sink.new) }
         ensures rows { OnOk result (rows.new ≡ rows_by_position (length rows.old) (moved_up rows.old 0 end n width)) }
 
-        // Also where memory ran out: then no kept row is shown.
+        // Also where memory ran out, which it does only where rows are kept: then no kept row is shown.
+        ensures sink { TakesAll S.takes sink.old (pushed_out (kept_of self.old) (take n rows.old)) sink.new }
         ensures valid { IsKept (kept_of self.new) }
         ensures hidden { OnErr result (self.new.offset ≡ 0) }
         ensures sheet { IsSheet (length rows.old) width rows.new }
+        ensures same { SameKeeping (kept_of self.old) (kept_of self.new) }
+        ensures none { self.old.capacity ≡ 0 → IsOk result }
     {
         let shown = self.offset;
         self.push_off(rows, n, width, sink)?;

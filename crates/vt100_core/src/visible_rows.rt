@@ -8,7 +8,7 @@ use std::marker::Model;
 use vt100_rows::Row;
 
 /// An iterator over the rows that are shown, from the top.
-#[derive(Drop)]
+#[derive(Debug, Drop)]
 pub struct VisibleRows<'a> {
     grid: &'a Grid,
     next: u16,

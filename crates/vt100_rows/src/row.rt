@@ -1,5 +1,5 @@
 //! One row of a terminal.
-ghost use Rattle.std.specs.Prelude.{◌≡◌, ℕ, ◌+◌, ◌-◌, ◌<◌, ◌≤◌, ◌==◌, ◌++◌, List, length, Some, true, false, not, ◌&&◌, IfOk, OnOk, OnErr, slice_get, string_bytes, encode_utf8_all, replicate, All};
+ghost use Rattle.std.specs.Prelude.{◌≡◌, ℕ, ◌+◌, ◌-◌, ◌<◌, ◌≤◌, ◌==◌, ◌++◌, List, length, Some, true, false, not, ◌&&◌, IfOk, IsOk, OnOk, OnErr, slice_get, string_bytes, encode_utf8_all, replicate, All};
 ghost use Rattle.std.specs.Option.{option_copied};
 ghost use Rattle.vt100_cells.specs.Cell.{cell_of, has_text, drawn_columns, IsPrintable};
 ghost use Rattle.vt100_cells.specs.Line.{span_of};
@@ -36,11 +36,11 @@ impl Model for Row {
 }
 
 impl Row {
-    /// A row of `cols` default cells.
+    /// A row of `cols` default cells. It takes memory for these and no more.
     pub fn new(alloc: Global, cols: u16) -> Result<Self, GridError>
         ensures { IfOk result (λ row. row ≡ blank_row cols) }
     {
-        let mut cells = Vec::new(alloc);
+        let mut cells = Vec::with_capacity(alloc, usize::from(cols))?;
         cells.resize(usize::from(cols), Cell::new())?;
         Ok(Row {
             cells,
@@ -151,27 +151,32 @@ impl Row {
         clear_cut_half(&mut self.cells);
     }
 
-    /// Appends cells until there are `len`; a row that is as long or longer stays as it is.
+    /// Appends cells until there are `len`; a row that is as long or longer stays as it is, and is never refused.
     pub fn grow(&mut self, len: u16, cell: Cell) -> Result<(), GridError>
         requires narrow { cell.wide ≡ false }
         requires whole { cell.continuation ≡ false }
         ensures ok { OnOk result (self.new ≡ grown self.old len cell) }
         ensures err { OnErr result (self.new ≡ self.old) }
+        ensures enough { len ≤ length self.old.cells → IsOk result }
     {
         prove!(!cell.is_wide());
-        if self.cells.len() < usize::from(len) {
-            self.cells.resize(usize::from(len), cell)?;
+        let len = usize::from(len);
+        if self.cells.len() < len {
+            self.cells.reserve_exact(len - self.cells.len())?;
+            self.cells.resize(len, cell)?;
             self.wrapped = false;
         }
         Ok(())
     }
 
-    /// Cuts the row after `len` cells, or appends cells until there are `len`.
+    /// Cuts the row after `len` cells, or appends cells until there are `len`. Only a row that becomes longer can be
+    /// refused.
     pub fn resize(&mut self, len: u16, cell: Cell) -> Result<(), GridError>
         requires narrow { cell.wide ≡ false }
         requires whole { cell.continuation ≡ false }
         ensures ok { OnOk result (self.new ≡ resized_row self.old len cell) }
         ensures err { OnErr result (self.new ≡ self.old) }
+        ensures enough { len ≤ length self.old.cells → IsOk result }
     {
         if usize::from(len) < self.cells.len() {
             self.truncate(len);

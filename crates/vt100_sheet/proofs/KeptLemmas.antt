@@ -1,18 +1,18 @@
 -- Rows that are kept.
-use Rattle.std.proofs.Common.{◌≡◌, ℕ, ◌+◌, ◌^◌, ◌<◌, ◌≤◌, ◌==◌, Bool, true, false, cond, List, [], ◌∷◌, ◌++◌, slice_range, append_assoc, length, set, map, refl, sym, ap, ◌∙◌, arith, length-append, ⊎_elim}
+use Rattle.std.proofs.Common.{◌≡◌, ℕ, ◌+◌, ◌^◌, ◌<◌, ◌≤◌, ◌==◌, Bool, true, false, cond, List, [], ◌∷◌, ◌++◌, replicate, min, slice_range, append_assoc, length, set, map, refl, sym, ap, ◌∙◌, arith, length-append, ⊎_elim}
 use Rattle.std.proofs.lemmas.Bool.{cases_lt}
 use Rattle.std.proofs.lemmas.Bool.Decides.{nat_tests}
-use Rattle.std.proofs.lemmas.List.{get_or_push, map-append}
+use Rattle.std.proofs.lemmas.List.{get_or_push, map-append, get_or-replicate, length-replicate, ext_get_or}
 use Rattle.std.proofs.Math.ListN.{get_or-append}
 use Rattle.std.proofs.lemmas.List.Edits.{between_more}
-use Rattle.vt100_cells.specs.Cell.{default_cell}
-use Rattle.vt100_cells.specs.Line.{extended}
+use Rattle.vt100_cells.specs.Cell.{CellView, default_cell}
+use Rattle.vt100_cells.specs.Line.{cut, extended}
 use Rattle.vt100_cells.specs.Cells.{cell_at, by_position}
-use Rattle.vt100_rows.specs.Row.{RowView, IsRow, blank_row, grown, trimmed}
+use Rattle.vt100_rows.specs.Row.{RowView, IsRow, blank_row, truncated, grown, trimmed}
 use Rattle.vt100_forms.specs.Attrs.{default_attrs}
 use Rattle.vt100_rows.proofs.RowLemmas.{IsRow-grown}
 use Rattle.vt100_cells.proofs.CellLemmas.{IsCell-empty}
-use Rattle.vt100_cells.proofs.ListLemmas.{length-by_position}
+use Rattle.vt100_cells.proofs.ListLemmas.{cell_at-by_position, length-by_position}
 use Rattle.vt100_sheet.specs.Sheet.{row_at, changed_between}
 use Rattle.vt100_sheet.proofs.SheetLemmas.{row_at-set}
 
@@ -30,7 +30,7 @@ IsRow-push rows v each row k l =
     (λ (h : length rows ≤ k). let e : length rows ≡ k = omega arith in rw (get_or_push rows v (blank_row 0) k e) row)
     (cases_lt k (length rows))
 
-not_yet : (f : RowView → RowView) (old : List RowView) (first r : ℕ) → changed_between f old first r r ≡ row_at old r
+pub not_yet : (f : RowView → RowView) (old : List RowView) (first r : ℕ) → changed_between f old first r r ≡ row_at old r
 not_yet f old first r = grind (arith, nat_tests)
 
 pub keeps-more : (f : RowView → RowView) (old rows kept : List RowView) (first r : ℕ) (v w : RowView) → first ≤ r → r < length old → ((k : ℕ) → row_at rows k ≡ changed_between f old first r k)
@@ -46,7 +46,7 @@ IsRow-grown_default v width r h = IsRow-grown v width default_cell r (IsCell-emp
 pub wide_along : (v w : RowView) (width : ℕ) → v ≡ w → width ≤ length w.cells → width ≤ length v.cells
 wide_along v w width e h = rw e h
 
-grown-longer : (v : RowView) (width : ℕ) → width ≤ length v.cells → grown v width default_cell ≡ v
+pub grown-longer : (v : RowView) (width : ℕ) → width ≤ length v.cells → grown v width default_cell ≡ v
 grown-longer v width l = grind (arith, nat_tests)
 
 grown-shorter : (v : RowView) (width : ℕ) → length v.cells < width → grown v width default_cell ≡ record { cells = by_position width (extended (length v.cells) (cell_at v.cells) default_cell); wrapped = false }
@@ -63,3 +63,30 @@ grown-wide_longer v width l = wide_along (grown v width default_cell) v width (g
 pub grown-wide : (v : RowView) (width : ℕ) → width ≤ length (grown v width default_cell).cells
 grown-wide v width =
     ⊎_elim (λ (l : length v.cells < width). grown-wide_shorter v width l) (λ (l : width ≤ length v.cells). grown-wide_longer v width l) (cases_lt (length v.cells) width)
+
+-- ---- a row that becomes blank
+
+added : (m k : ℕ) (f : ℕ → CellView) → m ≡ 0 → extended m f default_cell k ≡ default_cell
+added m k f e = grind (arith, nat_tests)
+
+all-added : (m n : ℕ) (f : ℕ → CellView) → m ≡ 0 → by_position n (extended m f default_cell) ≡ replicate n default_cell
+all-added m n f e =
+    let l = length-by_position n (extended m f default_cell) in
+    ext_get_or default_cell (by_position n (extended m f default_cell)) (replicate n default_cell) (l ∙ sym (length-replicate n default_cell))
+    (λ k h. cell_at-by_position n (extended m f default_cell) k (omega (arith, l)) ∙ added m k f e ∙ sym (get_or-replicate n k default_cell default_cell (omega (arith, l))))
+
+none-kept : (v : RowView) → length (truncated v 0).cells ≡ 0
+none-kept v = length-by_position (min 0 (length v.cells)) (cut (min 0 (length v.cells)) (cell_at v.cells)) ∙ omega arith
+
+-- all its cells go, and blank ones come in their place
+pub blank-again : (v : RowView) (width : ℕ) → grown (truncated v 0) width default_cell ≡ blank_row width
+blank-again v width =
+    let w = truncated v 0 in
+    ⊎_elim
+    (λ (l : 0 < width).
+    grown-shorter w width (omega (arith, none-kept v)) ∙ ap (λ (xs : List CellView). record { cells = xs; wrapped = false }) (all-added (length w.cells) width (cell_at w.cells) (none-kept v)))
+    (λ (l : width ≤ 0).
+    let none : min 0 (length v.cells) ≡ 0 = omega arith in
+    let zero : 0 ≡ width = omega arith in
+    grown-longer w width (omega arith) ∙ ap (λ n. record { cells = by_position n (cut n (cell_at v.cells)); wrapped = false }) none ∙ ap (λ n. blank_row n) zero)
+    (cases_lt 0 width)

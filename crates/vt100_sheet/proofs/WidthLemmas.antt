@@ -20,8 +20,8 @@ use Rattle.vt100_sheet.proofs.KeptLemmas.{IsRow-grown_default, grown-wide}
 first-read : (rows : List RowView) (height k : ℕ) → k < min height (length rows) → row_at (take height rows) k ≡ row_at rows k
 first-read rows height k h = grind (arith, places)
 
-first-marked : (rows : List RowView) (height k : ℕ) (v : RowView) → 0 < height → v ≡ unwrapped (row_at rows (height - 1)) → cond (k == (height - 1)) v (row_at rows k) ≡ first_rows rows height k
-first-marked rows height k v h e = grind (arith, nat_tests)
+first-unwrapped : (rows : List RowView) (height k : ℕ) (v : RowView) → 0 < height → v ≡ unwrapped (row_at rows (height - 1)) → cond (k == (height - 1)) v (row_at rows k) ≡ first_rows rows height k
+first-unwrapped rows height k v h e = grind (arith, nat_tests)
 
 first-whole : (rows : List RowView) (height k : ℕ) → k < length rows → length rows < height → row_at rows k ≡ first_rows rows height k
 first-whole rows height k h l = grind (arith, nat_tests)
@@ -33,7 +33,7 @@ firsts rows ys ws height at v h l ey ea ev ew =
     rows_by_position_is (min height (length rows)) (first_rows rows height) ws (ap length ew ∙ length-set ys at v ∙ n)
     (λ k m. ap (λ vs. row_at vs k) ew ∙ row_at-set ys at v k (omega arith)
     ∙ ap (λ j. cond (k == j) v (row_at ys k)) ea ∙ ap (λ x. cond (k == (height - 1)) v x) (ap (λ vs. row_at vs k) ey ∙ first-read rows height k m)
-    ∙ first-marked rows height k v h (ev ∙ ap (λ j. unwrapped (row_at ys j)) ea ∙ ap unwrapped (ap (λ vs. row_at vs (height - 1)) ey ∙ first-read rows height (height - 1) (omega arith))))
+    ∙ first-unwrapped rows height k v h (ev ∙ ap (λ j. unwrapped (row_at ys j)) ea ∙ ap unwrapped (ap (λ vs. row_at vs (height - 1)) ey ∙ first-read rows height (height - 1) (omega arith))))
 
 pub firsts-all : (rows ys : List RowView) (height : ℕ) → length rows < height → ys ≡ take height rows → ys ≡ rows_by_position (min height (length rows)) (first_rows rows height)
 firsts-all rows ys height l ey =
@@ -87,7 +87,7 @@ rows_alike n f g e = rows_by_position_is n g (rows_by_position n f) (length-rows
 resized-shorter : (v : RowView) (to : ℕ) → to < length v.cells → truncated v to ≡ resized_row v to default_cell
 resized-shorter v to h = ap (λ b. cond b (truncated v to) (grown v to default_cell)) (sym (lt_ltb to (length v.cells) h))
 
-resized-longer : (v : RowView) (to : ℕ) → length v.cells ≤ to → grown v to default_cell ≡ resized_row v to default_cell
+pub resized-longer : (v : RowView) (to : ℕ) → length v.cells ≤ to → grown v to default_cell ≡ resized_row v to default_cell
 resized-longer v to h = ap (λ b. cond b (truncated v to) (grown v to default_cell)) (sym (not-less to (length v.cells) h))
 
 pub narrows : (rows : List RowView) (from to : ℕ) → IsSheet (length rows) from rows → to < from

@@ -44,7 +44,7 @@ moved_down rows first end n width r =
     else if nat_lt r (first + n) then blank_row width
     else row_at rows (r - n)
 
--- the same, where the row at `end - 1` loses its mark, since its text went on in a row that is gone
+-- the same, where the row at `end - 1` isn't wrapped any more, since its text went on in a row that is gone
 abbrev pub opened_line : List RowView → ℕ → ℕ → ℕ → ℕ → ℕ → RowView
 opened_line rows first end n width r =
     if (r + 1) == end then unwrapped (moved_down rows first end n width r) else moved_down rows first end n width r
@@ -67,6 +67,6 @@ erased_backward_at rows row end a r =
     else if r == row then wiped_row (row_at rows r) 0 end a
     else row_at rows r
 
--- the row at r of the rows up to this height alone: the last loses its mark
+-- the row at r of the rows up to this height alone: the last isn't wrapped any more
 abbrev pub first_rows : List RowView → ℕ → ℕ → RowView
 first_rows rows height r = if (r + 1) == height then unwrapped (row_at rows r) else row_at rows r

@@ -1,5 +1,5 @@
 //! The rows that are kept, the oldest first.
-ghost use Rattle.std.specs.Prelude.{◌≡◌, ℕ, ◌+◌, ◌-◌, ◌<◌, ◌≤◌, ◌++◌, length, take, drop, map, slice_range, vec_len, vec_capacity, OnOk, IfOk};
+ghost use Rattle.std.specs.Prelude.{◌≡◌, ℕ, ◌+◌, ◌-◌, ◌<◌, ◌≤◌, ◌++◌, length, take, drop, map, slice_range, vec_len, vec_capacity, IsOk, OnOk, IfOk};
 ghost use Rattle.vt100_cells.specs.Cell.{default_cell};
 ghost use Rattle.vt100_rows.specs.Row.{IsRow, blank_row, grown, resized_row, trimmed};
 ghost use Rattle.vt100_sheet.specs.Sheet.{row_at, rows_by_position, IsSheet, changed_between};
@@ -21,27 +21,31 @@ pub fn kept_at(rows: &VecDeque<Row>, j: usize) -> &Row
     &rows[j]
 }
 
-/// Takes out the oldest `n` rows, and gives them to the sink.
-pub fn drop_oldest<S: RowSink>(rows: &mut VecDeque<Row>, n: usize, sink: &mut S)
+/// Takes out the oldest `n` rows, and gives them to the sink. The last of them is handed back, so that its memory can
+/// serve again.
+pub fn drop_oldest<S: RowSink>(rows: &mut VecDeque<Row>, n: usize, sink: &mut S) -> Option<Row>
     requires { n ≤ length rows.old.items }
     ensures kept { rows.new.items ≡ drop n rows.old.items }
     ensures sink { TakesAll S.takes sink.old (take n rows.old.items) sink.new }
 {
+    let mut last = None;
     for _i in 0..n {
         let row = rows.pop_front().unwrap();
         sink.row(&row);
+        last = Some(row);
     }
+    last
 }
 
 /// Moves the rows from `first` up to `end`, without the default cells at their ends, to the end of the kept ones, and
-/// leaves blank rows in their place.
+/// leaves blank rows in their place. The first of these takes the memory of the spare row, if there is one.
 pub fn keep_rows(
-    alloc: Global,
     kept: &mut VecDeque<Row>,
     rows: &mut [Row],
     first: usize,
     end: usize,
     width: u16,
+    mut spare: Option<Row>,
 ) -> Result<(), GridError>
     requires in_part { first ≤ end }
     requires in_rows { end ≤ length rows.old }
@@ -50,18 +54,34 @@ pub fn keep_rows(
     ensures kept { OnOk result (kept.new.items ≡ kept.old.items ++ map trimmed (slice_range rows.old first end)) }
     ensures rows { OnOk result (rows.new ≡ rows_by_position (length rows.old) (changed_between (λ v. blank_row width) rows.old first end)) }
 
-    // Also where memory ran out.
+    // Also where memory ran out, which it does only where a row is kept.
     ensures sheet { IsSheet (length rows.old) width rows.new }
     ensures each_kept { (j : ℕ) → j < length kept.new.items → IsRow (row_at kept.new.items j) }
     ensures count { length kept.new.items ≤ length kept.old.items + (end - first) }
+    ensures none { end ≤ first → IsOk result }
 {
+    let alloc = *kept.allocator();
     for r in first..end {
-        let fresh = Row::new(alloc, width)?;
+        let fresh = blank_row_in(alloc, spare.take(), width)?;
         let mut row = mem::replace(&mut rows[r], fresh);
         row.trim();
         kept.push_back(row)?;
     }
     Ok(())
+}
+
+/// A blank row, in the memory of the spare one if there is one.
+fn blank_row_in(alloc: Global, spare: Option<Row>, width: u16) -> Result<Row, GridError>
+    ensures { IfOk result (λ row. row ≡ blank_row width) }
+{
+    match spare {
+        None => Row::new(alloc, width),
+        Some(mut row) => {
+            row.truncate(0);
+            row.grow(width, Cell::new())?;
+            Ok(row)
+        }
+    }
 }
 
 /// Makes the kept rows from `first` up to `end` at least `width` columns wide.
@@ -76,9 +96,10 @@ pub fn widen(
     requires each { (j : ℕ) → j < length rows.old.items → IsRow (row_at rows.old.items j) }
     ensures rows { OnOk result (rows.new.items ≡ rows_by_position (length rows.old.items) (changed_between (λ v. grown v width default_cell) rows.old.items first end)) }
 
-    // Also where memory ran out.
+    // Also where memory ran out, which it does only where one of them is narrower.
     ensures each { (j : ℕ) → j < length rows.new.items → IsRow (row_at rows.new.items j) }
     ensures count { length rows.new.items ≡ length rows.old.items }
+    ensures wide { ((j : ℕ) → first ≤ j → j < end → width ≤ length (row_at rows.old.items j).cells) → IsOk result }
 {
     for j in first..end {
         rows[j].grow(width, Cell::new())?;

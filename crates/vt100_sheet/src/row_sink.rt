@@ -11,6 +11,7 @@ pub trait RowSink {
     // What a call leaves, from the sink and the row.
     ghost takes: { Self → RowView → Self → Type 0 };
 
+    /// Takes a row that leaves for good.
     fn row(&mut self, row: &Row)
         ensures { takes self.old row.now self.new };
 }

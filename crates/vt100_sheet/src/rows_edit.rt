@@ -117,7 +117,7 @@ pub fn move_down(rows: &mut [Row], first: usize, end: usize, n: usize, width: u1
     reset_between(rows, first, first + n);
 }
 
-/// The same, and takes the mark off the row at `end - 1`.
+/// The same; the row at `end - 1` isn't wrapped any more.
 pub fn open_lines(rows: &mut [Row], first: usize, end: usize, n: usize, width: u16)
     requires in_part { first + n ≤ end }
     requires some { 0 < end }

@@ -7,7 +7,7 @@ ghost use Rattle.vt100_sheet.specs.Sheet.{row_at, rows_by_position, IsSheet, cha
 use vt100_forms::GridError;
 use vt100_rows::{Cell, Row};
 
-/// Keeps the first `height` rows alone, and takes the mark off the last of them.
+/// Keeps the first `height` rows alone; the last of them isn't wrapped any more.
 pub fn keep_first(rows: &mut Vec<Row>, height: u16)
     requires { 0 < height }
     ensures { rows.new.items ≡ rows_by_position (min height (length rows.old.items)) (first_rows rows.old.items height) }

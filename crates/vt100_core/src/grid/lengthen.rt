@@ -7,7 +7,7 @@ use vt100_forms::GridError;
 use vt100_sheet::rows_back::bring_back;
 
 impl Grid {
-    ghost use Rattle.vt100_core.specs.Grid.{GridView};
+    ghost use Rattle.vt100_core.specs.Grid.{GridView, SameKeeping};
     ghost use Rattle.vt100_core.specs.Resize.{lengthened};
 
     /// Brings back rows at the top and adds blank ones at the bottom, up to so many rows. As many come back as scrolled
@@ -19,6 +19,7 @@ impl Grid {
         requires hidden { self.old.kept.offset ≡ 0 }
         ensures grid { OnOk result (self.new ≡ lengthened self.old rows.value) }
         ensures rows { OnErr result (self.new.rows ≡ self.old.rows) }
+        ensures keeping { SameKeeping self.old.kept self.new.kept }
     {
         let added = usize::from(rows.get() - self.size.rows());
         let down = self.scrollback.unbounded_len.min(added);

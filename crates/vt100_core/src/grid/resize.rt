@@ -1,5 +1,5 @@
 //! Another size of the screen.
-ghost use Rattle.std.specs.Prelude.{◌≡◌, ℕ, ◌+◌, ◌-◌, ◌<◌, ◌≤◌, ◌==◌, length, OnOk};
+ghost use Rattle.std.specs.Prelude.{◌≡◌, ℕ, ◌+◌, ◌-◌, ◌<◌, ◌≤◌, ◌==◌, length, IsOk, OnOk};
 ghost use Rattle.vt100_sheet.specs.Sink.{TakesAll};
 
 use crate::grid::Grid;
@@ -9,7 +9,7 @@ use vt100_sheet::rows_resize::{keep_first, resize_rows};
 use vt100_sheet::{RowSink, Size};
 
 impl Grid {
-    ghost use Rattle.vt100_core.specs.Grid.{GridView, IsAllocated};
+    ghost use Rattle.vt100_core.specs.Grid.{GridView, IsAllocated, SameKeeping};
     ghost use Rattle.vt100_core.specs.Resize.{whole_screen, shortened, with_width, resized};
 
     /// Gives the screen another size. The scroll region becomes the whole screen, and no kept row is shown.
@@ -20,10 +20,13 @@ impl Grid {
     /// go with their rows, and stay on the screen. A row of another width isn't wrapped any more. The size that the screen
     /// has already changes nothing.
     ///
-    /// After a refusal the grid is whole, but what it shows is open.
+    /// After a refusal the grid is whole, it keeps as many rows at most, and the sink has been given the rows that leave for
+    /// good; its size and what it shows are open.
     pub fn set_size<S: RowSink>(&mut self, size: Size, sink: &mut S) -> Result<(), GridError>
         ensures grid { OnOk result (self.new ≡ (resized self.old size.rows.value size.cols.value).grid) }
-        ensures sink { OnOk result (TakesAll S.takes sink.old (resized self.old size.rows.value size.cols.value).sunk sink.new) }
+        ensures sink { TakesAll S.takes sink.old (resized self.old size.rows.value size.cols.value).sunk sink.new }
+        ensures keeping { SameKeeping self.old.kept self.new.kept }
+        ensures same { size.rows.value ≡ self.old.height → size.cols.value ≡ self.old.width → IsOk result }
         ensures allocated { IsAllocated self.old → IsAllocated self.new }
     {
         if size == self.size {
@@ -75,6 +78,7 @@ impl Grid {
         requires hidden { self.old.kept.offset ≡ 0 }
         ensures grid { OnOk result (self.new ≡ with_width self.old cols.value) }
         ensures count { length self.new.rows ≡ length self.old.rows }
+        ensures kept { self.new.kept ≡ self.old.kept }
     {
         resize_rows(&mut self.rows, self.size.cols(), cols.get())?;
         let last_col = cols.get() - 1;

@@ -1,5 +1,5 @@
 //! Scrolling up, and the rows that leave the screen.
-ghost use Rattle.std.specs.Prelude.{◌≡◌, ℕ, ◌+◌, ◌-◌, ◌<◌, ◌≤◌, ◌==◌, length, min, true, false, ◌&&◌, OnOk, IfOk, if◌then◌else◌};
+ghost use Rattle.std.specs.Prelude.{◌≡◌, ℕ, ◌+◌, ◌-◌, ◌<◌, ◌≤◌, ◌==◌, length, min, true, false, ◌&&◌, IsOk, OnOk, IfOk, if◌then◌else◌};
 ghost use Rattle.vt100_sheet.specs.Sink.{TakesAll};
 
 use crate::grid::Grid;
@@ -9,7 +9,7 @@ use vt100_sheet::row_sink::{RowSink, give_rows};
 use vt100_sheet::rows_edit::move_up;
 
 impl Grid {
-    ghost use Rattle.vt100_core.specs.Grid.{GridView, IsAllocated, is_in_region, with_row};
+    ghost use Rattle.vt100_core.specs.Grid.{GridView, IsAllocated, IsShownWide, SameLimits, is_in_region, with_row};
     ghost use Rattle.vt100_sheet.specs.Sheet.{row_at};
     ghost use Rattle.vt100_rows.specs.Row.{with_wrap};
     ghost use Rattle.vt100_core.specs.Scroll.{scrolled_up, fed, rows_past_bottom, made_to_fit, scrollback_erased, scrollback_shown};
@@ -17,15 +17,23 @@ impl Grid {
     /// Moves the lines of the scroll region up; blank ones come in at its bottom (SU). Where the region begins at the
     /// screen's first row, the rows that leave it are kept, as many as the capacity allows. The sink is given those that
     /// leave for good: the oldest kept ones, and those that are never kept.
+    ///
+    /// Only a grid that keeps rows can be refused. After a refusal the sink has been given these rows, the grid is whole,
+    /// and what it shows is open.
     pub fn scroll_up<S: RowSink>(&mut self, count: u16, sink: &mut S) -> Result<(), GridError>
         requires { IsAllocated self.old }
         ensures grid { OnOk result (self.new ≡ (scrolled_up self.old count).grid) }
-        ensures sink { OnOk result (TakesAll S.takes sink.old (scrolled_up self.old count).sunk sink.new) }
+        ensures sink { TakesAll S.takes sink.old (scrolled_up self.old count).sunk sink.new }
+        ensures limits { SameLimits self.old self.new }
+        ensures keeps_none { self.old.kept.capacity ≡ 0 → IsOk result }
         ensures allocated { IsAllocated self.new }
     {
         let first = usize::from(self.scroll_top);
         let end = usize::from(self.scroll_bottom) + 1;
         let n = usize::from(count).min(end - first);
+        if n == 0 {
+            return Ok(());
+        }
         if first > 0 {
             move_up(&mut self.rows, first, end, n, self.size.cols());
         } else if self.scrollback.enabled {
@@ -59,9 +67,15 @@ impl Grid {
 
     /// Shows the newest `rows` of the kept rows above the others, or all of them if there are fewer. Those that the screen
     /// shows are made at least as wide as it.
+    ///
+    /// Refused is only what makes a row wider. After a refusal the grid is whole, and what it shows is open.
     pub fn set_scrollback(&mut self, rows: usize) -> Result<(), GridError>
         requires { IsAllocated self.old }
         ensures grid { OnOk result (self.new ≡ scrollback_shown self.old rows) }
+        ensures limits { SameLimits self.old self.new }
+        ensures hidden { rows ≡ 0 → IsOk result }
+        ensures wide { IsShownWide (record (self.old.kept) { offset = min rows (length self.old.kept.rows) }) self.old.height self.old.width
+            → IsOk result }
         ensures allocated { IsAllocated self.new }
     {
         let offset = rows.min(self.scrollback.rows.len());
@@ -71,12 +85,14 @@ impl Grid {
     }
 
     /// Moves the cursor down. In the scroll region it stops at the region's last row, and the region scrolls up by the
-    /// rows that are left (IND); their number is the answer.
+    /// rows that are left (IND); their number is the answer. It is refused as [`scroll_up`](Self::scroll_up) is.
     pub fn row_inc_scroll<S: RowSink>(&mut self, count: u16, sink: &mut S) -> Result<u16, GridError>
         requires { IsAllocated self.old }
         ensures grid { OnOk result (self.new ≡ (fed self.old count).grid) }
-        ensures sink { OnOk result (TakesAll S.takes sink.old (fed self.old count).sunk sink.new) }
+        ensures sink { TakesAll S.takes sink.old (fed self.old count).sunk sink.new }
         ensures lines { IfOk result (λ n. n ≡ rows_past_bottom self.old count) }
+        ensures limits { SameLimits self.old self.new }
+        ensures keeps_none { self.old.kept.capacity ≡ 0 → IsOk result }
         ensures allocated { IsAllocated self.new }
     {
         if !self.in_scroll_region() {
@@ -89,6 +105,9 @@ impl Grid {
             .saturating_add(count)
             .saturating_sub(self.scroll_bottom);
         self.row_inc_clamp(count);
+        if lines == 0 {
+            return Ok(0);
+        }
         self.scroll_up(lines, sink)?;
         Ok(lines)
     }
@@ -96,6 +115,7 @@ impl Grid {
     /// Moves the cursor to the start of the next row if fewer than `width` columns are left, and scrolls as
     /// [`row_inc_scroll`](Self::row_inc_scroll) does. The row that it left is marked as wrapped if `wrap` is set, it
     /// shows something in its last column, and it now stands directly above the cursor; else it isn't wrapped any more.
+    /// It is refused as [`scroll_up`](Self::scroll_up) is.
     pub fn col_wrap<S: RowSink>(
         &mut self,
         width: u16,
@@ -105,7 +125,9 @@ impl Grid {
         requires allocated { IsAllocated self.old }
         requires fits { width ≤ self.old.width }
         ensures grid { OnOk result (self.new ≡ (made_to_fit self.old width wrap).grid) }
-        ensures sink { OnOk result (TakesAll S.takes sink.old (made_to_fit self.old width wrap).sunk sink.new) }
+        ensures sink { TakesAll S.takes sink.old (made_to_fit self.old width wrap).sunk sink.new }
+        ensures limits { SameLimits self.old self.new }
+        ensures keeps_none { self.old.kept.capacity ≡ 0 → IsOk result }
         ensures allocated { IsAllocated self.new }
     {
         if self.pos.col <= self.size.cols() - width {
@@ -118,17 +140,17 @@ impl Grid {
         if scrolls {
             // On a screen of one row the row that the cursor left is gone.
             if row > 0 {
-                self.mark_row(row - 1, wrap);
+                self.wrap_row(row - 1, wrap);
             }
             return Ok(());
         }
-        self.mark_row(row, wrap);
+        self.wrap_row(row, wrap);
         Ok(())
     }
 
-    /// Marks a row as wrapped, if `wrap` is set, it shows something in its last column and it stands directly above the
-    /// cursor; else takes its mark off.
-    fn mark_row(&mut self, row: u16, wrap: bool)
+    /// Sets whether a row is wrapped: it is if `wrap` is set, it shows something in its last column and it stands directly
+    /// above the cursor.
+    fn wrap_row(&mut self, row: u16, wrap: bool)
         requires { row < length self.old.rows }
         ensures grid { self.new ≡ with_row self.old row (with_wrap (row_at self.old.rows row) (wrap && ((row + 1) == self.old.row))) }
         ensures allocated { IsAllocated self.new }

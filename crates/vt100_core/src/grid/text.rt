@@ -1,5 +1,5 @@
 //! Printing text.
-ghost use Rattle.std.specs.Prelude.{◌≡◌, ℕ, ◌+◌, ◌-◌, ◌<◌, ◌≤◌, ◌==◌, ◌&&◌, ◌||◌, nat_lt, true, false, Some, OnOk, IfOk, if◌then◌else◌, All, length, take};
+ghost use Rattle.std.specs.Prelude.{◌≡◌, ℕ, ◌+◌, ◌-◌, ◌<◌, ◌≤◌, ◌==◌, ◌&&◌, ◌||◌, nat_lt, true, false, Some, IsOk, OnOk, IfOk, if◌then◌else◌, All, length, take};
 ghost use Rattle.vt100_cells.specs.Cell.{IsCell, cell_of, columns_of, drawn_columns, has_text, IsPrintable};
 ghost use Rattle.vt100_cells.specs.Line.{span_of};
 ghost use Rattle.vt100_rows.specs.Row.{join_row, join_answer, placed_each};
@@ -13,7 +13,7 @@ use vt100_rows::{Cell, Join, columns};
 use vt100_sheet::RowSink;
 
 impl Grid {
-    ghost use Rattle.vt100_core.specs.Grid.{GridView, IsGrid, IsAllocated, row_of_cursor, with_cursor_row};
+    ghost use Rattle.vt100_core.specs.Grid.{GridView, IsGrid, IsAllocated, SameLimits, row_of_cursor, with_cursor_row};
     ghost use Rattle.vt100_core.specs.Text.{put_at, spaced, joined, is_dropped, printed};
     ghost use Rattle.vt100_core.specs.Scroll.{made_to_fit};
 
@@ -25,7 +25,8 @@ impl Grid {
     /// then has no room it moves to the next row. Dropped are control characters, what is wider than the screen, and
     /// zero-width characters at the first column.
     ///
-    /// After a refusal the grid is whole, but what it shows is open.
+    /// Only a grid that keeps rows can be refused. After a refusal the sink has been given the rows that leave for good,
+    /// the grid is whole, and what it shows is open.
     #[inline]
     pub fn text<S: RowSink>(
         &mut self,
@@ -35,8 +36,10 @@ impl Grid {
     ) -> Result<Printed, GridError>
         requires { IsAllocated self.old }
         ensures grid { OnOk result (self.new ≡ (printed self.old c attrs).grid) }
-        ensures sink { OnOk result (TakesAll S.takes sink.old (printed self.old c attrs).sunk sink.new) }
+        ensures sink { TakesAll S.takes sink.old (printed self.old c attrs).sunk sink.new }
         ensures answer { IfOk result (λ p. p ≡ (printed self.old c attrs).printed) }
+        ensures limits { SameLimits self.old self.new }
+        ensures keeps_none { self.old.kept.capacity ≡ 0 → IsOk result }
         ensures allocated { IsAllocated self.new }
     {
         // The short way, which is inlined, for most characters.
@@ -53,7 +56,9 @@ impl Grid {
     fn make_room<S: RowSink>(&mut self, sink: &mut S) -> Result<(), GridError>
         requires allocated { IsAllocated self.old }
         ensures grid { OnOk result (self.new ≡ (made_to_fit self.old 1 true).grid) }
-        ensures sink { OnOk result (TakesAll S.takes sink.old (made_to_fit self.old 1 true).sunk sink.new) }
+        ensures sink { TakesAll S.takes sink.old (made_to_fit self.old 1 true).sunk sink.new }
+        ensures limits { SameLimits self.old self.new }
+        ensures keeps_none { self.old.kept.capacity ≡ 0 → IsOk result }
         ensures allocated { IsAllocated self.new }
         ensures wide { 0 < self.old.width }
     {
@@ -73,8 +78,10 @@ impl Grid {
     ) -> Result<Printed, GridError>
         requires { IsAllocated self.old }
         ensures grid { OnOk result (self.new ≡ (printed self.old c attrs).grid) }
-        ensures sink { OnOk result (TakesAll S.takes sink.old (printed self.old c attrs).sunk sink.new) }
+        ensures sink { TakesAll S.takes sink.old (printed self.old c attrs).sunk sink.new }
         ensures answer { IfOk result (λ p. p ≡ (printed self.old c attrs).printed) }
+        ensures limits { SameLimits self.old self.new }
+        ensures keeps_none { self.old.kept.capacity ≡ 0 → IsOk result }
         ensures allocated { IsAllocated self.new }
     {
         match self.drawn_columns(c) {
@@ -119,7 +126,9 @@ impl Grid {
         requires some { 0 < columns }
         requires fits { columns ≤ self.old.width }
         ensures grid { OnOk result (self.new ≡ (spaced self.old c attrs).grid) }
-        ensures sink { OnOk result (TakesAll S.takes sink.old (spaced self.old c attrs).sunk sink.new) }
+        ensures sink { TakesAll S.takes sink.old (spaced self.old c attrs).sunk sink.new }
+        ensures limits { SameLimits self.old self.new }
+        ensures keeps_none { self.old.kept.capacity ≡ 0 → IsOk result }
         ensures allocated { IsAllocated self.new }
     {
         self.col_wrap(columns, true, sink)?;
@@ -182,8 +191,10 @@ impl Grid {
         requires zero_width { drawn_columns c ≡ Some 0 }
         requires after_some { 0 < self.old.col }
         ensures grid { OnOk result (self.new ≡ (joined self.old c attrs).grid) }
-        ensures sink { OnOk result (TakesAll S.takes sink.old (joined self.old c attrs).sunk sink.new) }
+        ensures sink { TakesAll S.takes sink.old (joined self.old c attrs).sunk sink.new }
         ensures answer { IfOk result (λ p. p ≡ (joined self.old c attrs).printed) }
+        ensures limits { SameLimits self.old self.new }
+        ensures keeps_none { self.old.kept.capacity ≡ 0 → IsOk result }
         ensures allocated { IsAllocated self.new }
     {
         match self.join_in_row(c, attrs) {
@@ -208,7 +219,9 @@ impl Grid {
         requires wide { cell.wide ≡ true }
         requires fits { 2 ≤ self.old.width }
         ensures grid { OnOk result (self.new ≡ put_at (made_to_fit self.old 2 false).grid cell attrs 2) }
-        ensures sink { OnOk result (TakesAll S.takes sink.old (made_to_fit self.old 2 false).sunk sink.new) }
+        ensures sink { TakesAll S.takes sink.old (made_to_fit self.old 2 false).sunk sink.new }
+        ensures limits { SameLimits self.old self.new }
+        ensures keeps_none { self.old.kept.capacity ≡ 0 → IsOk result }
         ensures allocated { IsAllocated self.new }
     {
         self.col_wrap(2, false, sink)?;
@@ -219,12 +232,12 @@ impl Grid {
 
 /// Printing a run of characters.
 impl Grid {
-    ghost use Rattle.vt100_core.specs.Grid.{IsAllocated, row_of_cursor, with_cursor_row};
+    ghost use Rattle.vt100_core.specs.Grid.{IsAllocated, SameLimits, row_of_cursor, with_cursor_row};
     ghost use Rattle.vt100_core.specs.Text.{printed_all};
 
     /// Prints the characters of `text`, which are printable ASCII, as [`text`](Self::text) of each in turn does.
     ///
-    /// After a refusal the grid is whole, but what it shows is open.
+    /// Only a grid that keeps rows can be refused. After a refusal the grid is whole, and what it shows is open.
     pub fn text_run<S: RowSink>(
         &mut self,
         text: &[u8],
@@ -235,6 +248,8 @@ impl Grid {
         requires printable { All IsPrintable text.now }
         ensures grid { OnOk result (self.new ≡ (printed_all self.old text.now attrs).grid) }
         ensures sink { OnOk result (TakesAll S.takes sink.old (printed_all self.old text.now attrs).sunk sink.new) }
+        ensures limits { SameLimits self.old self.new }
+        ensures keeps_none { self.old.kept.capacity ≡ 0 → IsOk result }
         ensures allocated { IsAllocated self.new }
     {
         let mut rest = text;
@@ -259,6 +274,8 @@ impl Grid {
         ensures within { IfOk result (λ n. n ≤ length text.now) }
         ensures grid { IfOk result (λ n. self.new ≡ (printed_all self.old (take n text.now) attrs).grid) }
         ensures sink { IfOk result (λ n. TakesAll S.takes sink.old (printed_all self.old (take n text.now) attrs).sunk sink.new) }
+        ensures limits { SameLimits self.old self.new }
+        ensures keeps_none { self.old.kept.capacity ≡ 0 → IsOk result }
         ensures allocated { IsAllocated self.new }
     {
         let cols = self.size.cols();

@@ -33,7 +33,7 @@ returns-then-columns-eq0-clause-sink g c =
     let s = c.args.self.now in
     let e : Some c.in-Some.columns ≡ cond (is_dropped s c.args.c) None (Some (columns_of c.args.c)) = c.in-Some.ensures in
     let d = shown-is (is_dropped s c.args.c) (columns_of c.args.c) c.in-Some.columns e in
-    subst (λ (x : Drawn). OnOk c.join.result (TakesAll g.S.RowSink.takes c.args.sink.now x.sunk c.join.new.sink)) (sym (printed-joined s c.args.c c.args.attrs d.0 (d.1 ∙ c.if-columns-eq0.true))) c.join.ensures.sink
+    subst (λ (x : Drawn). TakesAll g.S.RowSink.takes c.args.sink.now x.sunk c.join.new.sink) (sym (printed-joined s c.args.c c.args.attrs d.0 (d.1 ∙ c.if-columns-eq0.true))) c.join.ensures.sink
 
 pub returns-then-columns-eq0-clause-answer : goal.returns-then-columns-eq0-clause-answer
 returns-then-columns-eq0-clause-answer g c =
@@ -85,6 +85,13 @@ returns-in_ok-space-in-Some-clause-sink g c =
     let e : Some c.in-Some.columns ≡ cond (is_dropped s c.args.c) None (Some (columns_of c.args.c)) = c.in-Some.ensures in
     let d = shown-is (is_dropped s c.args.c) (columns_of c.args.c) c.in-Some.columns e in
     subst (λ (x : Drawn). TakesAll g.S.RowSink.takes c.args.sink.now x.sunk c.space.new.sink) (sym (printed-spaced s c.args.c c.args.attrs d.0 (omega (arith, d.1)))) c.in_ok-space-in-Some.ensures.sink
+
+pub returns-in_err-space-in-Some-clause-sink : goal.returns-in_err-space-in-Some-clause-sink
+returns-in_err-space-in-Some-clause-sink g c =
+    let s = c.args.self.now in
+    let e : Some c.in-Some.columns ≡ cond (is_dropped s c.args.c) None (Some (columns_of c.args.c)) = c.in-Some.ensures in
+    let d = shown-is (is_dropped s c.args.c) (columns_of c.args.c) c.in-Some.columns e in
+    subst (λ (x : Drawn). TakesAll g.S.RowSink.takes c.args.sink.now x.sunk c.space.new.sink) (sym (printed-spaced s c.args.c c.args.attrs d.0 (omega (arith, d.1)))) c.in_err-space-in-Some.ensures.sink
 
 pub returns-in_ok-space-in-Some-clause-answer : goal.returns-in_ok-space-in-Some-clause-answer
 returns-in_ok-space-in-Some-clause-answer g c =

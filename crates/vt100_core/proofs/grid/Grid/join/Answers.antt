@@ -4,7 +4,7 @@ use Rattle.vt100_rows.specs.Row.{RowView, joined_cell, is_widening, join_row}
 use Rattle.vt100_cells.proofs.CellLemmas.{IsCell-with_attrs}
 use Rattle.vt100_rows.proofs.JoinLemmas.{IsCell-joined, widened-is}
 use Rattle.vt100_sheet.specs.Sink.{TakesAll}
-use Rattle.vt100_core.specs.Grid.{GridView, row_of_cursor}
+use Rattle.vt100_core.specs.Grid.{GridView, IsAllocated, row_of_cursor}
 use Rattle.vt100_core.specs.GridFields.{grid_of}
 use Rattle.vt100_core.specs.Text.{Drawn, joined}
 use Rattle.vt100_sheet.proofs.SinkLemmas.{TakesAll-list}
@@ -116,7 +116,7 @@ invariant_of-self g c =
     let col : c.self.inside.pos.col ≡ s.col = ap (λ (y : GridView). y.col) (c.self.view_is ∙ c.join_in_row.ensures.grid) in
     let width : c.self.inside.size.cols.value ≡ s.width = ap (λ (y : GridView). y.width) (c.self.view_is ∙ c.join_in_row.ensures.grid) in
     let room : s.col < length v.cells = below-true s.col (length v.cells) is.2 in
-    IsGrid-col (grid_of c.self.inside) (c.self.inside.pos.col + 1) c.self.invariant (omega (arith, col, width, n, room))
+    IsGrid-col (grid_of c.self.inside) (c.self.inside.pos.col + 1) c.self.invariant (subst (λ (y : GridView). IsAllocated y) (sym c.self.view_is) c.join_in_row.ensures.allocated) (omega (arith, col, width, n, room))
 
 pub returns-in-Widened-clause-grid : goal.returns-in-Widened-clause-grid
 returns-in-Widened-clause-grid g c =
@@ -198,6 +198,18 @@ returns-in_ok-carry-in-Carried-clause-sink g c =
     let far : s.width < s.col + 2 = omega (arith, below-false s.col (length v.cells) is.2, n) in
     let on = carried-is s c.join_in_row.new.self c.args.c c.args.attrs c.in-Carried.cell far all.0 is.3 in
     subst (λ (rows : List RowView). TakesAll g.S.RowSink.takes c.args.sink.now rows c.carry.new.sink) (on.1 ∙ sym (ap (λ (y : Drawn). y.sunk) all.1)) c.in_ok-carry-in-Carried.ensures.sink
+
+pub returns-in_err-carry-in-Carried-clause-sink : goal.returns-in_err-carry-in-Carried-clause-sink
+returns-in_err-carry-in-Carried-clause-sink g c =
+    let s = c.args.self.now in
+    let v = row_of_cursor s in
+    let n = (cursor_row_of s c.join_in_row.ensures.valid c.requires.allocated).wide in
+    let x = record (joined_cell v s.col c.args.c) { attrs = c.args.attrs } in
+    let is = answer-Carried (is_widening v s.col c.args.c) (length v.cells == 1) (nat_lt s.col (length v.cells)) x c.in-Carried.cell c.in-Carried.ensures.answer in
+    let all = carries s c.args.c c.args.attrs c.join_in_row.new.self n c.join_in_row.ensures.grid is.0 is.1 is.2 in
+    let far : s.width < s.col + 2 = omega (arith, below-false s.col (length v.cells) is.2, n) in
+    let on = carried-is s c.join_in_row.new.self c.args.c c.args.attrs c.in-Carried.cell far all.0 is.3 in
+    subst (λ (rows : List RowView). TakesAll g.S.RowSink.takes c.args.sink.now rows c.carry.new.sink) (on.1 ∙ sym (ap (λ (y : Drawn). y.sunk) all.1)) c.in_err-carry-in-Carried.ensures.sink
 
 pub returns-in_ok-carry-in-Carried-clause-answer : goal.returns-in_ok-carry-in-Carried-clause-answer
 returns-in_ok-carry-in-Carried-clause-answer g c =

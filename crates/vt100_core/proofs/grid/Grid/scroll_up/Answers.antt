@@ -2,7 +2,7 @@ use Rattle.std.proofs.Common.{arith, ap, subst, sym, ◌∙◌, ◌≡◌, ◌+�
 use Rattle.std.proofs.lemmas.Grind.{common_steps}
 use Rattle.vt100_rows.specs.Row.{RowView}
 use Rattle.vt100_sheet.specs.Sheet.{rows_by_position, moved_up}
-use Rattle.vt100_core.specs.Grid.{GridView, IsAllocated, with_rows}
+use Rattle.vt100_core.specs.Grid.{GridView, IsGrid, IsAllocated, with_rows}
 use Rattle.vt100_core.specs.GridFields.{grid_of}
 use Rattle.vt100_core.specs.KeptFields.{kept_of}
 use Rattle.vt100_core.specs.Scroll.{up_count, widened, kept_after, pushed_out, scrolled_up}
@@ -11,6 +11,7 @@ use Rattle.vt100_sheet.proofs.SinkLemmas.{TakesAll-list}
 use Rattle.vt100_core.proofs.GridLemmas.{IsGrid-at, IsGrid-moved_up, IsGrid-scrolled, region_rows}
 use Rattle.vt100_core.proofs.KeepLemmas.{IsShownWide-none}
 use Rattle.vt100_core.proofs.ScrollLemmas.{IsSheet-as, IsShownWide-is, scrolls-off, sunk-kept}
+use Rattle.vt100_core.proofs.StayLemmas.{scrolls-none}
 use Rattle.vt100_core.proofs.grid.Grid.scroll_up.Goals as goal
 
 pub invariant_of-self : goal.invariant_of-self
@@ -85,3 +86,25 @@ returns-in_ok-scroll_off-clause-sink g c =
     TakesAll-list g.S.RowSink.takes c.args.sink.now c.scroll_off.new.sink (pushed_out s.kept (take n c.deref_mut-then-self.result.now)) ((scrolled_up c.args.self.now c.args.count).sunk)
     (ap (λ (xs : List RowView). pushed_out s.kept (take n xs)) same ∙ sunk-kept s c.args.count end n top c.if-self.true last lines ∙ ap (λ (x : GridView). (scrolled_up x c.args.count).sunk) c.self.view_is)
     c.in_ok-scroll_off.ensures.sink
+
+pub returns-in_err-scroll_off-clause-sink : goal.returns-in_err-scroll_off-clause-sink
+returns-in_err-scroll_off-clause-sink g c =
+    let same = c.deref_mut-then-self.ensures.value in
+    let s = grid_of c.self.inside in
+    let end = c.from-end.result + 1 in
+    let n = c.min-n.result in
+    let top : s.top ≡ 0 = omega arith in
+    let last : end ≡ s.bottom + 1 = omega arith in
+    let lines : n ≡ min c.args.count end = omega arith in
+    TakesAll-list g.S.RowSink.takes c.args.sink.now c.scroll_off.new.sink (pushed_out s.kept (take n c.deref_mut-then-self.result.now)) ((scrolled_up c.args.self.now c.args.count).sunk)
+    (ap (λ (xs : List RowView). pushed_out s.kept (take n xs)) same ∙ sunk-kept s c.args.count end n top c.if-self.true last lines ∙ ap (λ (x : GridView). (scrolled_up x c.args.count).sunk) c.self.view_is)
+    c.in_err-scroll_off.ensures.sink
+
+pub returns-then-n-eq0-clause-grid : goal.returns-then-n-eq0-clause-grid
+returns-then-n-eq0-clause-grid g c =
+    let s = c.args.self.now in
+    let valid : IsGrid s = rw (← c.self.view_is) c.self.invariant in
+    let top = ap (λ (x : GridView). x.top) c.self.view_is in
+    let bottom = ap (λ (x : GridView). x.bottom) c.self.view_is in
+    let none : up_count s c.args.count ≡ 0 = omega arith in
+    scrolls-none s c.args.count none valid.kept valid.shown

@@ -1,13 +1,27 @@
-use Rattle.std.proofs.Common.{arith, ap, refl, sym, subst, ◌∙◌, ◌≡◌, ◌<◌, ◌^◌, [], length}
+use Rattle.std.proofs.Common.{arith, ap, sym, subst, ◌∙◌, ◌≡◌, ◌<◌, ◌≤◌, [], length, ⊎_elim}
+use Rattle.std.proofs.lemmas.Bool.{cases_lt}
 use Rattle.std.proofs.lemmas.Grind.{common_steps}
 use Rattle.vt100_core.specs.Grid.{GridView, IsGrid, IsAllocated}
 use Rattle.vt100_core.specs.Resize.{whole_screen, up_rows, resized}
 use Rattle.vt100_core.specs.Scroll.{scrolled_up}
 use Rattle.vt100_sheet.specs.Sink.{TakesAll}
-use Rattle.vt100_core.proofs.ResizeLemmas.{lowers, lowers-sunk, scrolls-none, sinks-none, some-shortened, some-lengthened}
+use Rattle.vt100_core.proofs.ResizeLemmas.{IsGrid-whole_screen, lowers, lowers-sunk, some-shortened, some-lengthened}
+use Rattle.vt100_core.proofs.GridLemmas.{IsNew-of}
+use Rattle.vt100_core.proofs.StayLemmas.{scrolls-none, sinks-none}
 use Rattle.vt100_sheet.proofs.SinkLemmas.{TakesAll-list}
 use Rattle.vt100_core.proofs.grid.Grid.set_size.Goals.{then-up-gt0+in_ok-scroll_up, else-up-gt0}
 use Rattle.vt100_core.proofs.grid.Grid.set_size.Goals as goal
+
+pub scroll_up-requires : goal.scroll_up-requires
+scroll_up-requires g c =
+    let s = c.args.self.now in
+    let up = c.saturating_sub-up.result in
+    let height = c.args.size.rows.value in
+    let valid : IsGrid s = rw (← c.self.view_is) c.self.invariant in
+    let rows = ap (λ (x : GridView). length x.rows) c.show_whole_screen.ensures in
+    let lower : height < s.height = grind (arith, common_steps) in
+    let count : up ≡ up_rows s height = grind (arith, lower, common_steps) in
+    ⊎_elim (λ (l : 0 < length s.rows). omega arith) (λ (l : length s.rows ≤ 0). let n = (IsNew-of s valid (omega arith)).row in absurd (omega arith)) (cases_lt 0 (length s.rows))
 
 pub returns-in_ok-set_width-clause-grid : goal.returns-in_ok-set_width-clause-grid
 returns-in_ok-set_width-clause-grid g c =
@@ -16,13 +30,13 @@ returns-in_ok-set_width-clause-grid g c =
     let height = c.args.size.rows.value in
     let valid : IsGrid s = rw (← c.self.view_is) c.self.invariant in
     let whole : c.show_whole_screen.new.self ≡ whole_screen s = c.show_whole_screen.ensures in
-    let small : s.kept.scrolled_off < 2 ^ 64 = omega (arith, ap (λ (x : GridView). x.kept.scrolled_off) c.self.view_is) in
+    let hidden : IsGrid (whole_screen s) = IsGrid-whole_screen s valid in
     let above : c.if-up-gt0.self ≡ (scrolled_up (whole_screen s) up).grid =
     elim c.if-up-gt0.branch [
       | then-up-gt0+in_ok-scroll_up w ↦ w.self-is ∙ w.in_ok-scroll_up.ensures.grid ∙ ap (λ (x : GridView). (scrolled_up x up).grid) whole
       | else-up-gt0 w ↦
           let none : 0 ≡ up = omega arith in
-          w.self-is ∙ whole ∙ sym (scrolls-none (whole_screen s) valid.kept.fits refl small) ∙ ap (λ n. (scrolled_up (whole_screen s) n).grid) none
+          w.self-is ∙ whole ∙ scrolls-none (whole_screen s) up (omega arith) hidden.kept hidden.shown
     ] in
     let lower : height < s.height = grind (arith, common_steps) in
     let count : up ≡ up_rows s height = grind (arith, lower, common_steps) in
@@ -42,14 +56,48 @@ returns-in_ok-set_width-clause-sink g c =
       | then-up-gt0+in_ok-scroll_up w ↦
           subst (λ t. TakesAll g.S.RowSink.takes c.args.sink.now (scrolled_up (whole_screen s) up).sunk t) (sym w.sink-is)
           (TakesAll-list g.S.RowSink.takes c.args.sink.now w.scroll_up.new.sink (scrolled_up c.show_whole_screen.new.self up).sunk (scrolled_up (whole_screen s) up).sunk
-          (ap (λ (x : GridView). (scrolled_up x up).sunk) whole) w.in_ok-scroll_up.ensures.sink)
+          (ap (λ (x : GridView). (scrolled_up x up).sunk) whole) w.scroll_up.ensures.sink)
       | else-up-gt0 w ↦
           let none : 0 ≡ up = omega arith in
           TakesAll-list g.S.RowSink.takes c.args.sink.now c.if-up-gt0.sink [] (scrolled_up (whole_screen s) up).sunk
-          (sym (sinks-none (whole_screen s) valid.kept.fits) ∙ ap (λ n. (scrolled_up (whole_screen s) n).sunk) none) (sym w.sink-is)
+          (sinks-none (whole_screen s) up (omega arith) valid.kept.fits) (sym w.sink-is)
     ] in
     TakesAll-list g.S.RowSink.takes c.args.sink.now c.if-up-gt0.sink (scrolled_up (whole_screen s) up).sunk (resized s height c.args.size.cols.value).sunk
     (lowers-sunk s up height c.args.size.cols.value lower count) taken
+
+pub returns-in_err-set_width-clause-sink : goal.returns-in_err-set_width-clause-sink
+returns-in_err-set_width-clause-sink g c =
+    let s = c.args.self.now in
+    let up = c.saturating_sub-up.result in
+    let height = c.args.size.rows.value in
+    let valid : IsGrid s = rw (← c.self.view_is) c.self.invariant in
+    let whole : c.show_whole_screen.new.self ≡ whole_screen s = c.show_whole_screen.ensures in
+    let lower : height < s.height = grind (arith, common_steps) in
+    let count : up ≡ up_rows s height = grind (arith, lower, common_steps) in
+    let taken : TakesAll g.S.RowSink.takes c.args.sink.now (scrolled_up (whole_screen s) up).sunk c.if-up-gt0.sink =
+    elim c.if-up-gt0.branch [
+      | then-up-gt0+in_ok-scroll_up w ↦
+          subst (λ t. TakesAll g.S.RowSink.takes c.args.sink.now (scrolled_up (whole_screen s) up).sunk t) (sym w.sink-is)
+          (TakesAll-list g.S.RowSink.takes c.args.sink.now w.scroll_up.new.sink (scrolled_up c.show_whole_screen.new.self up).sunk (scrolled_up (whole_screen s) up).sunk
+          (ap (λ (x : GridView). (scrolled_up x up).sunk) whole) w.scroll_up.ensures.sink)
+      | else-up-gt0 w ↦
+          let none : 0 ≡ up = omega arith in
+          TakesAll-list g.S.RowSink.takes c.args.sink.now c.if-up-gt0.sink [] (scrolled_up (whole_screen s) up).sunk
+          (sinks-none (whole_screen s) up (omega arith) valid.kept.fits) (sym w.sink-is)
+    ] in
+    TakesAll-list g.S.RowSink.takes c.args.sink.now c.if-up-gt0.sink (scrolled_up (whole_screen s) up).sunk (resized s height c.args.size.cols.value).sunk
+    (lowers-sunk s up height c.args.size.cols.value lower count) taken
+
+pub returns-in_err-scroll_up-clause-sink : goal.returns-in_err-scroll_up-clause-sink
+returns-in_err-scroll_up-clause-sink g c =
+    let s = c.args.self.now in
+    let up = c.saturating_sub-up.result in
+    let height = c.args.size.rows.value in
+    let whole : c.show_whole_screen.new.self ≡ whole_screen s = c.show_whole_screen.ensures in
+    let lower : height < s.height = grind (arith, common_steps) in
+    let count : up ≡ up_rows s height = grind (arith, lower, common_steps) in
+    TakesAll-list g.S.RowSink.takes c.args.sink.now c.scroll_up.new.sink (scrolled_up c.show_whole_screen.new.self up).sunk (resized s height c.args.size.cols.value).sunk
+    (ap (λ (x : GridView). (scrolled_up x up).sunk) whole ∙ lowers-sunk s up height c.args.size.cols.value lower count) c.scroll_up.ensures.sink
 
 pub returns-in_ok-set_width-clause-allocated : goal.returns-in_ok-set_width-clause-allocated
 returns-in_ok-set_width-clause-allocated g c some =

@@ -1,4 +1,4 @@
-use Rattle.std.proofs.Common.{arith, ◌∙◌, ◌≡◌, ◌+◌, ◌<◌, ◌≤◌, length, take, subst, sym, ap, length-take, min, true, ℕ}
+use Rattle.std.proofs.Common.{arith, ◌∙◌, ◌≡◌, ◌+◌, ◌<◌, ◌≤◌, length, take, subst, sym, ap, length-take, min, true}
 use Rattle.std.proofs.lemmas.List.Elements.{All-take}
 use Rattle.vt100_cells.specs.Cell.{IsPrintable}
 use Rattle.vt100_sheet.proofs.SinkLemmas.{TakesAll-list}

@@ -3,6 +3,7 @@ use Rattle.std.specs.Prelude.{All}
 use Rattle.std.proofs.lemmas.List.{take_rest}
 use Rattle.std.proofs.lemmas.List.Elements.{All-drop}
 use Rattle.vt100_cells.specs.Cell.{IsPrintable}
+use Rattle.vt100_core.proofs.GridLemmas.{SameLimits-trans}
 use Rattle.vt100_core.proofs.RunLemmas.{IsOnTheWay, on-the-way-next}
 use Rattle.vt100_core.proofs.grid.Grid.text_run.Goals as goal
 
@@ -17,6 +18,7 @@ loop-rest-preserved g c =
     let e = take_rest rest n in
     record {
       allocated = c.in_ok-n.ensures.allocated;
+      limits = SameLimits-trans self c.loop-rest.self c.text_in_row.new.self c.loop-rest.invariant.limits c.in_ok-n.ensures.limits;
       printable = subst (λ (xs : List ℕ). All IsPrintable xs) (sym e) (All-drop IsPrintable n rest c.loop-rest.invariant.printable);
       printed = subst (λ (xs : List ℕ). IsOnTheWay g.S.RowSink.takes self sink text a c.text_in_row.new.self c.text_in_row.new.sink xs) (sym e)
           (on-the-way-next g.S.RowSink.takes self c.loop-rest.self c.text_in_row.new.self sink c.loop-rest.sink c.text_in_row.new.sink text rest a n c.loop-rest.invariant.printed c.in_ok-n.ensures.grid c.in_ok-n.ensures.sink);
