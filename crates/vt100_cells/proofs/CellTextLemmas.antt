@@ -1,16 +1,19 @@
 -- A text with one more character.
-use Rattle.std.proofs.Common.{◌≡◌, ℕ, zero, suc, ◌+◌, ◌-◌, ◌<◌, ◌≤◌, true, List, [], ◌∷◌, ◌++◌, length, take, drop, set, replicate, sym, refl, ap, ◌∙◌, arith, length-append, length-take, length-drop, nat_eq, rules, append-nil}
+use Rattle.std.proofs.Common.{◌≡◌, ℕ, zero, suc, ◌+◌, ◌-◌, ◌<◌, ◌≤◌, true, ◌&&◌, List, [], ◌∷◌, ◌++◌, length, take, drop, set, replicate, sym, refl, ap, ◌∙◌, arith, length-append, length-take, length-drop, nat_eq, rules, append-nil}
 use Rattle.std.specs.Prelude.{encode_utf8_all, encode_utf8, chars, IsUtf8}
 use Rattle.std.specs.Char.{IsScalar}
 use Rattle.std.specs.Str.{IsAscii}
-use Rattle.std.proofs.lemmas.Bool.{ltb-true}
+use Rattle.std.proofs.lemmas.Bool.{ltb-true, and_parts, eqb-true, eq-eqb}
+use Rattle.std.proofs.lemmas.Cmp.{nat_list_eq_equiv}
+use Rattle.std.specs.Cmp.{both_ways}
+use Rattle.vt100_cells.specs.CellEq.{text_eq-true}
 use Rattle.std.proofs.lemmas.Bool.Decides.{nat_tests}
 use Rattle.std.proofs.lemmas.List.{drop-drop, drop-replicate}
 use Rattle.std.proofs.lemmas.Str.{IsUtf8-had, chars-append, IsUtf8-append, chars-encodes, length-encode, len_utf8_bounds, IsUtf8-from_ascii, chars-IsAscii, encode_ascii}
 use Rattle.std.proofs.lemmas.Slice.{take-put_mid, drop-put_mid}
 use borrow.Rule.Slice.PartMut.{put_mid}
 use Rattle.vt100_cells.specs.declared.cell_text.CellText.TheInside.{Inside}
-use Rattle.vt100_cells.specs.Cell.{has_room}
+use Rattle.vt100_cells.specs.Cell.{has_room, text_eq}
 use Rattle.vt100_cells.specs.CellFields.{IsText, text_of, length-text_of, fields_of, fields_of-text_of}
 
 pub len-text_of : (t : Inside) (cs : List ℕ) → IsText t → text_of t ≡ cs → t.len ≡ length (encode_utf8_all cs)
@@ -77,3 +80,14 @@ IsText-replaced t c h e l = rw (space-fields t h e) (IsText-ascii c l)
 
 pub text_of-replaced : (t : Inside) (c : ℕ) → IsText t → text_of t ≡ 32 ∷ [] → c < 128 → text_of (record { bytes = set t.bytes 0 c; len = t.len }) ≡ c ∷ []
 text_of-replaced t c h e l = rw (space-fields t h e) (text_of-ascii c l)
+
+-- texts are the same where their fields are
+pub same-fields : (t u : Inside) → IsText t → IsText u → (nat_eq t.len u.len && text_eq t.bytes u.bytes) ≡ text_eq (text_of t) (text_of u)
+same-fields t u ht hu = both_ways (nat_eq t.len u.len && text_eq t.bytes u.bytes) (text_eq (text_of t) (text_of u))
+    (λ h. let p = and_parts (nat_eq t.len u.len) (text_eq t.bytes u.bytes) h in
+    let n = eqb-true t.len u.len p.0 in
+    let bs = text_eq-true t.bytes u.bytes p.1 in
+    let e : text_of t ≡ text_of u = λ i. text_of (record { bytes = bs i; len = n i }) in
+    ap (text_eq (text_of t)) (sym e) ∙ nat_list_eq_equiv.refl (text_of t))
+    (λ h. let e : t ≡ u = sym (fields_of-text_of t ht) ∙ ap fields_of (text_eq-true (text_of t) (text_of u) h) ∙ fields_of-text_of u hu in
+    ap (λ (w : Inside). nat_eq t.len w.len && text_eq t.bytes w.bytes) (sym e) ∙ rw (eq-eqb t.len t.len refl) (nat_list_eq_equiv.refl t.bytes))

@@ -1,10 +1,8 @@
 -- Equality of texts and cells decides whether they are the same.
 use Rattle.std.proofs.Common.{◌≡◌, ℕ, Bool, true, false, ◌&&◌, ◌==◌, List, sym, refl, ap, ◌∙◌}
-use Rattle.std.specs.Prelude.{encode_utf8_all}
 use Rattle.std.specs.Cmp.{IsPartialEquivalence, IsEquivalence, partial_equiv_from_equiv, both_ways}
 use Rattle.std.proofs.lemmas.Cmp.{nat_list_eq_equiv}
 use Rattle.std.proofs.lemmas.Bool.{and_parts, false≢true, eqb-true, eq-eqb}
-use Rattle.std.proofs.lemmas.Str.{encodes_same}
 use lib.Pointwise.{bytes_decides}
 use Rattle.vt100_forms.specs.declared.attrs.Attrs.{Attrs}
 use Rattle.vt100_forms.specs.declared.attrs.Color.{Color}
@@ -17,12 +15,6 @@ text_eq-per = partial_equiv_from_equiv nat_list_eq_equiv
 
 pub text_eq-true : (xs ys : List ℕ) → text_eq xs ys ≡ true → xs ≡ ys
 text_eq-true xs ys h = (bytes_decides xs ys).0 h
-
--- texts are the same where their bytes are
-pub text_eq-encodes : (xs ys : List ℕ) → text_eq (encode_utf8_all xs) (encode_utf8_all ys) ≡ text_eq xs ys
-text_eq-encodes xs ys = both_ways (text_eq (encode_utf8_all xs) (encode_utf8_all ys)) (text_eq xs ys)
-    (λ h. let e = encodes_same xs ys (text_eq-true (encode_utf8_all xs) (encode_utf8_all ys) h) in ap (text_eq xs) (sym e) ∙ nat_list_eq_equiv.refl xs)
-    (λ h. let e = text_eq-true xs ys h in ap (λ zs. text_eq (encode_utf8_all xs) (encode_utf8_all zs)) (sym e) ∙ nat_list_eq_equiv.refl (encode_utf8_all xs))
 
 color_eq-refl : (a : Color) → color_eq a a ≡ true
 color_eq-refl Default = refl

@@ -80,7 +80,7 @@ impl Eq for Cell {
 
 impl Cell {
     ghost use Rattle.std.specs.Prelude.{Some};
-    ghost use Rattle.vt100_cells.specs.Cell.{empty_cell, default_cell, continuation_cell, cell_of, appended, drawn_columns, has_text, IsPrintable};
+    ghost use Rattle.vt100_cells.specs.Cell.{empty_cell, default_cell, continuation_cell, cell_of, appended, drawn_columns, has_text, is_default, IsPrintable};
 
     /// A cell that shows nothing, with default attributes.
     pub fn new() -> Self
@@ -115,6 +115,7 @@ impl Cell {
 
     /// A cell that holds `c`, which takes `columns` columns. For rows alone.
     #[doc(hidden)]
+    #[inline]
     pub fn of_char(c: char, columns: u16, attrs: Attrs) -> Self
         requires drawn { drawn_columns c ≡ Some columns }
         requires spacing { 0 < columns }
@@ -211,6 +212,14 @@ impl Cell {
         ensures { result ≡ self.now.continuation }
     {
         self.span == Span::Continuation
+    }
+
+    /// Whether this is the cell that [`new`](Self::new) makes.
+    #[inline]
+    pub fn is_default(&self) -> bool
+        ensures { result ≡ is_default self.now }
+    {
+        self.text.is_empty() && self.span == Span::Narrow && self.attrs == Attrs::new()
     }
 
     /// How the cell is drawn.

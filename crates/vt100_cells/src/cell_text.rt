@@ -46,7 +46,7 @@ impl PartialEq for CellText {
     ghost laws = { text_eq-per };
 
     fn eq(&self, other: &Self) -> bool {
-        self.as_str() == other.as_str()
+        self.len == other.len && self.bytes == other.bytes
     }
 }
 

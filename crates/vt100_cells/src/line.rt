@@ -71,6 +71,7 @@ fn clear_at(cells: &mut [Cell], i: usize)
 }
 
 /// Empties the cell directly left of column `i` if it is wide.
+#[inline]
 fn clear_left(cells: &mut [Cell], i: usize)
     requires { i < length cells.old }
     ensures { cells.new ≡ by_position (length cells.old) (left_cleared (cell_at cells.old) i) }
@@ -113,6 +114,7 @@ pub fn wipes_end(cells: &[Cell], s: usize, e: usize) -> bool
 }
 
 /// Puts `cell` at column `i`, with the drawing attributes, over what stands there.
+#[inline]
 pub fn put(cells: &mut [Cell], i: usize, cell: Cell, attrs: Attrs)
     requires in_row { i + span_of cell ≤ length cells.old }
     ensures { cells.new ≡ by_position (length cells.old) (put (cell_at cells.old) i cell attrs) }
@@ -255,10 +257,9 @@ pub fn trimmed_len(cells: &[Cell]) -> usize
     ensures value { result ≡ trimmed_len cells.now }
     ensures bound { result ≤ length cells.now }
 {
-    let blank = Cell::new();
     let mut n = cells.len();
     while n > 0 {
-        if *at(cells, n - 1) != blank {
+        if !at(cells, n - 1).is_default() {
             break;
         }
         n -= 1;
@@ -266,25 +267,25 @@ pub fn trimmed_len(cells: &[Cell]) -> usize
     n
 }
 
-/// Puts the printable ASCII characters of `text` at column `i` and after it, over what stands there.
-pub fn put_run(cells: &mut [Cell], i: usize, text: &[u8], attrs: Attrs)
+/// Puts the printable ASCII characters of `text` at column `start` and after it, over what stands there.
+pub fn put_run(cells: &mut [Cell], start: usize, text: &[u8], attrs: Attrs)
     requires some { 0 < length text.now }
-    requires in_row { i + length text.now ≤ length cells.old }
+    requires in_row { start + length text.now ≤ length cells.old }
     requires printable { All IsPrintable text.now }
     requires paired { IsPaired (cell_at cells.old) }
-    ensures { cells.new ≡ by_position (length cells.old) (run (cell_at cells.old) i text.now attrs) }
+    ensures { cells.new ≡ by_position (length cells.old) (run (cell_at cells.old) start text.now attrs) }
 {
-    let end = i + text.len();
-    clear_left(cells, i);
+    let end = start + text.len();
+    clear_left(cells, start);
     let space = Cell::of_char(' ', 1, attrs);
     if is_continuation_at(cells, end) {
         cells[end] = space;
     }
-    write_run(&mut cells[i..end], text, space);
+    write_run(&mut cells[start..end], text, space);
 }
 
 /// Writes each character of `text` into a cell that is like `space`.
-// Inlined, it would write a cell in six pieces.
+// Where LLVM inlines it, it writes each cell in six pieces, else in three.
 #[inline(never)]
 fn write_run(cells: &mut [Cell], text: &[u8], space: Cell)
     requires one_each { length cells.old ≡ length text.now }

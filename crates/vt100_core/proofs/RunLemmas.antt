@@ -1,5 +1,5 @@
 -- Printing a run of printable ASCII characters.
-use Rattle.std.proofs.Common.{◌≡◌, ℕ, zero, suc, ◌+◌, ◌<◌, ◌≤◌, ◌==◌, Bool, true, false, cond, ◌&&◌, ◌||◌, List, [], ◌∷◌, ◌++◌, length, set, take, drop, sym, refl, ap, ◌∙◌, arith, nat_lt, nat_le, length-set, append-nil, append_assoc, add-zero, subst}
+use Rattle.std.proofs.Common.{◌≡◌, ℕ, zero, ◌+◌, ◌<◌, ◌≤◌, ◌==◌, Bool, true, false, cond, ◌&&◌, ◌||◌, List, [], ◌∷◌, ◌++◌, length, set, take, drop, sym, refl, ap, ◌∙◌, arith, nat_lt, nat_le, length-set, append-nil, append_assoc, add-zero, subst}
 use Rattle.std.specs.Prelude.{All}
 use Rattle.std.proofs.lemmas.Bool.Decides.{nat_tests}
 use Rattle.std.proofs.lemmas.List.Elements.{All-drop}
@@ -10,15 +10,15 @@ use Rattle.vt100_cells.specs.Cells.{cell_at}
 use Rattle.vt100_cells.specs.Line.{run}
 use Rattle.vt100_cells.proofs.WidthLemmas.{printable-is}
 use Rattle.vt100_cells.proofs.ListLemmas.{length-by_position}
-use Rattle.vt100_rows.specs.Row.{RowView, blank_row, placed, run_row, placed_each}
+use Rattle.vt100_rows.specs.Row.{RowView, blank_row, placed, placed_each}
 use Rattle.vt100_rows.proofs.RowRuns.{run_row-each, IsRow-each}
-use Rattle.vt100_sheet.specs.Sheet.{row_at, IsRowOf}
+use Rattle.vt100_sheet.specs.Sheet.{IsRowOf}
 use Rattle.vt100_sheet.specs.Sink.{TakesAll}
 use Rattle.vt100_sheet.proofs.SinkLemmas.{TakesAll-append}
 use Rattle.vt100_core.specs.declared.printed.Printed.TheVariants.{Spacing}
 use Rattle.vt100_core.specs.Grid.{GridView, IsGrid, IsAllocated, row_of_cursor, with_cursor_row}
 use Rattle.vt100_core.specs.Scroll.{Scrolled, wrapped_on, made_to_fit}
-use Rattle.vt100_core.specs.Text.{Drawn, put_at, is_dropped, printed, printed_all}
+use Rattle.vt100_core.specs.Text.{Drawn, put_at, printed, printed_all}
 use Rattle.vt100_core.proofs.EraseLemmas.{IsGrid-cursor_row, cursor_row_of}
 use Rattle.vt100_core.proofs.TextLemmas.{IsGrid-col, printed-spaced}
 
@@ -32,10 +32,10 @@ not-dropped : (u : Bool) (k w col : ℕ) → u ≡ false → k ≡ 1 → 0 < w �
 not-dropped u k w col eu ek h = grind (arith, nat_tests)
 
 -- n columns of a character that goes to the grid h
-abbrev drawn_at : Scrolled → ℕ → Attrs → ℕ → Drawn
+abbrev pub drawn_at : Scrolled → ℕ → Attrs → ℕ → Drawn
 drawn_at s c a n = record { grid = put_at s.grid (cell_of c a) a n; sunk = s.sunk; printed = Spacing }
 
-printed-printable : (g : GridView) (c : ℕ) (a : Attrs) → IsPrintable c → 0 < g.width → printed g c a ≡ drawn_at (made_to_fit g 1 true) c a 1
+pub printed-printable : (g : GridView) (c : ℕ) (a : Attrs) → IsPrintable c → 0 < g.width → printed g c a ≡ drawn_at (made_to_fit g 1 true) c a 1
 printed-printable g c a p w =
     let d = printable-is c p in
     printed-spaced g c a (not-dropped (is_undrawable c) (columns_of c) g.width g.col d.0 d.1 w) (omega (arith, d.1)) ∙ ap (λ n. drawn_at (made_to_fit g n true) c a n) d.1
@@ -43,7 +43,7 @@ printed-printable g c a p w =
 fits-true : (m n : ℕ) → m ≤ n → nat_le m n ≡ true
 fits-true m n h = grind (arith, nat_tests)
 
-made-here : (g : GridView) → g.col + 1 ≤ g.width → made_to_fit g 1 true ≡ record { grid = g; sunk = [] }
+pub made-here : (g : GridView) → g.col + 1 ≤ g.width → made_to_fit g 1 true ≡ record { grid = g; sunk = [] }
 made-here g h = ap (λ b. cond b (let s : Scrolled = record { grid = g; sunk = [] } in s) (wrapped_on g true)) (fits-true (g.col + 1) g.width h)
 
 -- ---- a run in one row

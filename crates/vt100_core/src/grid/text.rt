@@ -27,7 +27,50 @@ impl Grid {
     ///
     /// Only a grid that keeps rows can be refused. After a refusal the sink has been given the rows that leave for good,
     /// the grid is whole, and what it shows is open.
+    #[inline]
     pub fn text<S: RowSink>(
+        &mut self,
+        c: char,
+        attrs: Attrs,
+        sink: &mut S,
+    ) -> Result<Printed, GridError>
+        requires { IsAllocated self.old }
+        ensures grid { OnOk result (self.new ≡ (printed self.old c attrs).grid) }
+        ensures sink { TakesAll S.takes sink.old (printed self.old c attrs).sunk sink.new }
+        ensures answer { IfOk result (λ p. p ≡ (printed self.old c attrs).printed) }
+        ensures limits { SameLimits self.old self.new }
+        ensures keeps_none { self.old.kept.capacity ≡ 0 → IsOk result }
+        ensures allocated { IsAllocated self.new }
+    {
+        // The short way, which is inlined, for most characters.
+        if let ' '..='~' = c {
+            self.make_room(sink)?;
+            self.put(c, 1, attrs);
+            return Ok(Printed::Spacing);
+        }
+        self.any_text(c, attrs, sink)
+    }
+
+    /// Has the cursor stand where one column is left, as [`col_wrap`](Self::col_wrap) does.
+    #[inline]
+    fn make_room<S: RowSink>(&mut self, sink: &mut S) -> Result<(), GridError>
+        requires allocated { IsAllocated self.old }
+        ensures grid { OnOk result (self.new ≡ (made_to_fit self.old 1 true).grid) }
+        ensures sink { TakesAll S.takes sink.old (made_to_fit self.old 1 true).sunk sink.new }
+        ensures limits { SameLimits self.old self.new }
+        ensures keeps_none { self.old.kept.capacity ≡ 0 → IsOk result }
+        ensures allocated { IsAllocated self.new }
+        ensures wide { 0 < self.old.width }
+    {
+        if self.pos.col < self.size.cols() {
+            return Ok(());
+        }
+        self.col_wrap(1, true, sink)
+    }
+
+    /// Prints any one character, as [`text`](Self::text) says.
+    #[inline(never)]
+    fn any_text<S: RowSink>(
         &mut self,
         c: char,
         attrs: Attrs,
@@ -94,6 +137,7 @@ impl Grid {
     }
 
     /// Puts a character of one or two columns at the cursor.
+    #[inline]
     fn put(&mut self, c: char, columns: u16, attrs: Attrs)
         requires allocated { IsAllocated self.old }
         requires drawn { drawn_columns c ≡ Some columns }
@@ -235,7 +279,7 @@ impl Grid {
         ensures allocated { IsAllocated self.new }
     {
         let cols = self.size.cols();
-        self.col_wrap(1, true, sink)?;
+        self.make_room(sink)?;
         let room = cols - self.pos.col;
         let n = text.len().min(usize::from(room));
         self.put_run(&text[..n], attrs);

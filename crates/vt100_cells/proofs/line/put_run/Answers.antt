@@ -12,10 +12,10 @@ of_char-space-requires-clause-drawn c = space_is_drawn
 pub returns : goal.returns
 returns c =
     let ys = c.clear_left.new.cells in
-    let e = c.args.i + length c.args.text.now in
+    let e = c.args.start + length c.args.text.now in
     let a = c.args.attrs in
-    let whole = writes-run c.args.cells.now ys c.if-is_continuation_at.cells c.write_run.new.cells c.args.i e _ c.args.text.now a c.of_char-space.result.attrs c.requires.some (omega arith) c.requires.in_row (omega arith)
-        (ap (λ (x : CellView). x.attrs) c.of_char-space.ensures) c.clear_left.ensures in
+    let whole = writes-run c.args.cells.now ys c.if-is_continuation_at.cells c.write_run.new.cells c.args.start e _ c.args.text.now a c.of_char-space.result.attrs c.requires.some (omega arith) c.requires.in_row (omega arith)
+    (ap (λ (x : CellView). x.attrs) c.of_char-space.ensures) c.clear_left.ensures in
     elim c.if-is_continuation_at.branch [
       | then-is_continuation_at w ↦
           let half : (cell_at ys e).continuation ≡ true = cc in

@@ -8,15 +8,14 @@ use Rattle.vt100_cells.proofs.line.trimmed_len.Goals as goal
 pub loop-n-preserved : goal.loop-n-preserved
 loop-n-preserved c =
     let xs = c.args.cells.now in
-    let e : not (cell_eq (cell_at xs (c.loop-n.n - 1)) default_cell) ≡ false = cc in
+    let e : not (is_default (cell_at xs (c.loop-n.n - 1))) ≡ false = cc in
     record {
       within = omega arith;
       same = c.loop-n.invariant.same ∙ trimmed_len-step xs (c.loop-n.n - 1) c.loop-n.n (omega arith) c.loop-n.invariant.within (not-false (is_default (cell_at xs (c.loop-n.n - 1))) e);
-      empty = c.loop-n.invariant.empty;
     }
 
-pub returns-then-ne-clause-value : goal.returns-then-ne-clause-value
-returns-then-ne-clause-value c =
+pub returns-then-not-is_default-clause-value : goal.returns-then-not-is_default-clause-value
+returns-then-not-is_default-clause-value c =
     let xs = c.args.cells.now in
-    let e : not (cell_eq (cell_at xs (c.loop-n.n - 1)) default_cell) ≡ true = cc in
+    let e : not (is_default (cell_at xs (c.loop-n.n - 1))) ≡ true = cc in
     sym (c.loop-n.invariant.same ∙ trimmed_len-stop xs (c.loop-n.n - 1) c.loop-n.n (omega arith) c.loop-n.invariant.within (not-true (is_default (cell_at xs (c.loop-n.n - 1))) e))

@@ -1,4 +1,4 @@
-use Rattle.std.proofs.Common.{arith, ◌∙◌, ◌≡◌, ◌+◌, ◌<◌, ◌≤◌, length, take, subst, sym, ap, length-take, min, true, ℕ}
+use Rattle.std.proofs.Common.{arith, ◌∙◌, ◌≡◌, ◌+◌, ◌<◌, ◌≤◌, length, take, subst, sym, ap, length-take, min, true}
 use Rattle.std.proofs.lemmas.List.Elements.{All-take}
 use Rattle.vt100_cells.specs.Cell.{IsPrintable}
 use Rattle.vt100_sheet.proofs.SinkLemmas.{TakesAll-list}
@@ -8,9 +8,6 @@ use Rattle.vt100_core.specs.Text.{printed_all}
 use Rattle.vt100_core.proofs.TextLemmas.{IsMade-made}
 use Rattle.vt100_core.proofs.RunLemmas.{cursor-within, in-row-grid, in-row-sunk}
 use Rattle.vt100_core.proofs.grid.Grid.text_in_row.Goals as goal
-
-pub col_wrap-requires-clause-fits : goal.col_wrap-requires-clause-fits
-col_wrap-requires-clause-fits g c = subst (λ (x : GridView). 0 < x.width) c.self.view_is c.self.invariant.some_cols
 
 pub put_run-requires-clause-printable : goal.put_run-requires-clause-printable
 put_run-requires-clause-printable g c = All-take IsPrintable c.min-n.result c.args.text.now c.requires.printable
@@ -31,8 +28,8 @@ pub returns-clause-grid : goal.returns-clause-grid
 returns-clause-grid g c =
     let wide : 0 < c.args.self.now.width = subst (λ (x : GridView). 0 < x.width) c.self.view_is c.self.invariant.some_cols in
     let m = IsMade-made c.args.self.now 1 true wide in
-    let h = c.col_wrap.new.self in
-    let e = c.in_ok-col_wrap.ensures.grid in
+    let h = c.make_room.new.self in
+    let e = c.in_ok-make_room.ensures.grid in
     let one : h.col + 1 ≤ h.width = subst (λ (x : GridView). x.col + 1 ≤ x.width) (sym e) m.fits in
     let same : h.width ≡ c.args.self.now.width = ap (λ (x : GridView). x.width) e ∙ m.width in
     let col : c.self-2.inside.pos.col ≡ h.col = ap (λ (x : GridView). x.col) c.self-2.view_is in
@@ -43,14 +40,14 @@ returns-clause-grid g c =
     let some : 0 < length xs = omega arith in
     let fits : h.col + length xs ≤ h.width = omega arith in
     let printable = All-take IsPrintable c.min-n.result c.args.text.now c.requires.printable in
-    in-row-grid c.args.self.now h c.put_run.new.self xs c.args.attrs some printable wide e fits (cursor-within h valid c.in_ok-col_wrap.ensures.allocated) c.put_run.ensures.grid
+    in-row-grid c.args.self.now h c.put_run.new.self xs c.args.attrs some printable wide e fits (cursor-within h valid c.in_ok-make_room.ensures.allocated) c.put_run.ensures.grid
 
 pub returns-clause-sink : goal.returns-clause-sink
 returns-clause-sink g c =
     let wide : 0 < c.args.self.now.width = subst (λ (x : GridView). 0 < x.width) c.self.view_is c.self.invariant.some_cols in
     let m = IsMade-made c.args.self.now 1 true wide in
-    let h = c.col_wrap.new.self in
-    let e = c.in_ok-col_wrap.ensures.grid in
+    let h = c.make_room.new.self in
+    let e = c.in_ok-make_room.ensures.grid in
     let one : h.col + 1 ≤ h.width = subst (λ (x : GridView). x.col + 1 ≤ x.width) (sym e) m.fits in
     let same : h.width ≡ c.args.self.now.width = ap (λ (x : GridView). x.width) e ∙ m.width in
     let col : c.self-2.inside.pos.col ≡ h.col = ap (λ (x : GridView). x.col) c.self-2.view_is in
@@ -61,5 +58,5 @@ returns-clause-sink g c =
     let some : 0 < length xs = omega arith in
     let fits : h.col + length xs ≤ h.width = omega arith in
     let printable = All-take IsPrintable c.min-n.result c.args.text.now c.requires.printable in
-    TakesAll-list g.S.RowSink.takes c.args.sink.now c.col_wrap.new.sink (made_to_fit c.args.self.now 1 true).sunk (printed_all c.args.self.now xs c.args.attrs).sunk
-    (in-row-sunk c.args.self.now h xs c.args.attrs some printable wide e fits (cursor-within h valid c.in_ok-col_wrap.ensures.allocated)) c.in_ok-col_wrap.ensures.sink
+    TakesAll-list g.S.RowSink.takes c.args.sink.now c.make_room.new.sink (made_to_fit c.args.self.now 1 true).sunk (printed_all c.args.self.now xs c.args.attrs).sunk
+    (in-row-sunk c.args.self.now h xs c.args.attrs some printable wide e fits (cursor-within h valid c.in_ok-make_room.ensures.allocated)) c.in_ok-make_room.ensures.sink
