@@ -13,3 +13,4 @@ pub mod OpeningLemmas
 pub mod FrameMarks
 pub mod FrameLemmas
 pub mod FrameMoves
+pub mod FrameBodies

@@ -12,6 +12,7 @@ use Rattle.vte_types.specs.Call.{Call, Calls}
 use Rattle.vte.specs.Csi.{opens_group}
 use Rattle.vte.specs.Table.{calls_of, last_after, openers, opens}
 use Rattle.vte.specs.Timeout.{Tick, Sets, Clears, Ticked, sets_of}
+use Rattle.vte.specs.declared.performer.ProcessorState.{ProcessorState}
 use Rattle.vte.specs.Performed.{Performed, PerformedAll, last_after_all, calls_of_all, openers_of_all}
 use Rattle.vte.specs.Stretch.{added}
 
@@ -49,22 +50,22 @@ any-append p (x ∷ a) b = ap (λ v. p x || v) (any-append p a b) ∙ sym (or-as
 
 -- what each step does, a run does
 pub performs_all : {P H T : Type 0} (step : H → Call → H → Type 0) (sets : T → ℕ → T → Type 0) (clears : T → T → Type 0)
-    (h : P → H) (last : P → Option ℕ) (t : P → T) (ended : P → Bool)
-    (steps : P → Event → P → Type 0)
-    → ((p : P) (e : Event) (q : P) → steps p e q → Performed step sets clears e (h p) (last p) (t p) (ended p) (h q) (last q) (t q) (ended q))
+    (h : P → H) (s : P → ProcessorState T) (ended : P → Bool) (steps : P → Event → P → Type 0)
+    → ((p : P) (e : Event) (q : P) → steps p e q → Performed step sets clears e (h p) (s p) (ended p) (h q) (s q) (ended q))
     → (p : P) (es : List Event) (q : P) → All (Fits 1024) es → Performs steps p es q
-    → PerformedAll step sets clears es (h p) (last p) (t p) (ended p) (h q) (last q) (t q) (ended q)
-performs_all step sets clears h last t ended steps each p [] q fits g =
-    record { calls = ap h g; printed = ap last g; ticked = ap t g; ends = ap ended g ∙ sym (or-false (ended p)) }
-performs_all step sets clears h last t ended steps each p (e ∷ es) q fits g =
+    → PerformedAll step sets clears es (h p) (s p) (ended p) (h q) (s q) (ended q)
+performs_all step sets clears h s ended steps each p [] q fits g =
+    record { calls = ap h g; printed = ap (λ x. (s x).preceding_char) g; ticked = ap (λ x. (s x).timeout) g; ends = ap ended g ∙ sym (or-false (ended p)) }
+performs_all step sets clears h s ended steps each p (e ∷ es) q fits g =
     let one = each p e g.0 g.1 in
-    let more = performs_all step sets clears h last t ended steps each g.0 es q (All-tail (Fits 1024) e es fits) g.2 in
-    let calls : Calls step (h g.0) (calls_of_all (last_after (last p) e) es) (h q) = subst (λ (l : Option ℕ). Calls step (h g.0) (calls_of_all l es) (h q)) one.printed more.calls in
+    let more = performs_all step sets clears h s ended steps each g.0 es q (All-tail (Fits 1024) e es fits) g.2 in
+    let last = (s p).preceding_char in
+    let calls : Calls step (h g.0) (calls_of_all (last_after last e) es) (h q) = subst (λ (l : Option ℕ). Calls step (h g.0) (calls_of_all l es) (h q)) one.printed more.calls in
     record {
-      calls = Calls-append step (h p) (h g.0) (h q) (calls_of (last p) e) (calls_of_all (last_after (last p) e) es) (one.calls (All-head (Fits 1024) e es fits)) calls;
+      calls = Calls-append step (h p) (h g.0) (h q) (calls_of last e) (calls_of_all (last_after last e) es) (one.calls (All-head (Fits 1024) e es fits)) calls;
       printed = more.printed ∙ ap (λ l. last_after_all l es) one.printed;
-      ticked = subst (λ (ts : List Tick). Ticked sets clears (t p) ts (t q)) (sym (sets_of-append (openers e) (openers_of_all es)))
-          (Ticked-append sets clears (t p) (t g.0) (t q) (sets_of (openers e)) (sets_of (openers_of_all es)) one.ticked more.ticked);
+      ticked = subst (λ (ts : List Tick). Ticked sets clears (s p).timeout ts (s q).timeout) (sym (sets_of-append (openers e) (openers_of_all es)))
+          (Ticked-append sets clears (s p).timeout (s g.0).timeout (s q).timeout (sets_of (openers e)) (sets_of (openers_of_all es)) one.ticked more.ticked);
       ends = more.ends ∙ (ap (λ b. b || list_any opens es) one.ends ∙ sym (or-any (ended p) e es));
     }
 

@@ -1,5 +1,5 @@
 -- One turn of the processor, over plain variables.
-use Rattle.std.proofs.Common.{◌≡◌, ℕ, Bool, true, false, List, [], ◌++◌, ◌<◌, ◌≤◌, Option, None, Some, MatchOption, refl, sym, subst, take, drop, length, append_assoc}
+use Rattle.std.proofs.Common.{◌≡◌, ℕ, Bool, true, false, List, [], ◌++◌, ◌<◌, Option, None, Some, MatchOption, refl, sym, subst, take, drop, length, append_assoc}
 use Rattle.vte_types.specs.Call.{Call}
 use Rattle.vte.specs.declared.processor.Processor.{Processor}
 use Rattle.vte.specs.Stretch.{calls_from}

@@ -2,7 +2,7 @@
 use Rattle.std.specs.Prelude.{◌≡◌, ◌≢◌, ℕ, ◌<◌, ◌≤◌, false, List, [], ◌∷◌, ◌++◌, Option, None, Some, map, take, length}
 use Rattle.std.specs.List.{All, concat, list_any}
 use Rattle.vte_core.specs.Shapes.{events}
-use Rattle.vte_core.specs.Ground.{AtGround}
+use Rattle.vte_core.specs.Ground.{AtGround, IsText}
 use Rattle.vte_types.specs.Call.{Call, set_private_mode}
 use Rattle.vte_types.specs.declared.mode.PrivateMode.TheVariants.{Named}
 use Rattle.vte_types.specs.declared.mode.NamedPrivateMode.TheVariants.{SyncUpdate}
@@ -23,21 +23,25 @@ pub record IsFrame (frame : List ℕ) : Type 0 where
 -- from a parsed text and a hold the moves lead to others, whatever calls and settings of the timeout they make
 pub data Leads : List Move → List ℕ → Option (List ℕ) → List ℕ → Option (List ℕ) → Type 0 where
   ends : (parsed : List ℕ) (hold : Option (List ℕ)) → Leads [] parsed hold parsed hold
-  gives : (piece : List ℕ) (moves : List Move) (parsed : List ℕ) (hold : Option (List ℕ)) (mid : List ℕ) (mid_hold : Option (List ℕ))
-      (calls : List Call) (ticks : List Tick) (parsed' : List ℕ) (hold' : Option (List ℕ)) → Takes parsed hold piece mid mid_hold calls ticks
+  gives : (piece : List ℕ) (moves : List Move) (parsed : List ℕ) (hold : Option (List ℕ)) (mid : List ℕ)
+      (mid_hold : Option (List ℕ)) (calls : List Call) (ticks : List Tick) (parsed' : List ℕ) (hold' : Option (List ℕ))
+      → Takes parsed hold piece mid mid_hold calls ticks
       → Leads moves mid mid_hold parsed' hold' → Leads (Gives piece ∷ moves) parsed hold parsed' hold'
   -- what was held is parsed, and no update is open
   stops : (moves : List Move) (parsed : List ℕ) (hold : Option (List ℕ)) (parsed' : List ℕ) (hold' : Option (List ℕ))
       → Leads moves (parsed ++ held_of hold) None parsed' hold' → Leads (Stops ∷ moves) parsed hold parsed' hold'
 
 abbrev pub MovesFollow : Type 0
-MovesFollow = (moves more : List Move) (parsed : List ℕ) (hold : Option (List ℕ)) (mid : List ℕ) (mid_hold : Option (List ℕ)) (parsed' : List ℕ) (hold' : Option (List ℕ))
-    → Leads moves parsed hold mid mid_hold → Leads more mid mid_hold parsed' hold' → Leads (moves ++ more) parsed hold parsed' hold'
+MovesFollow = (moves more : List Move) (parsed : List ℕ) (hold : Option (List ℕ)) (mid : List ℕ)
+    (mid_hold : Option (List ℕ)) (parsed' : List ℕ) (hold' : Option (List ℕ))
+    → Leads moves parsed hold mid mid_hold → Leads more mid mid_hold parsed' hold'
+    → Leads (moves ++ more) parsed hold parsed' hold'
 
 -- whole frames are parsed, in whatever pieces they come and wherever the update is stopped by hand
 abbrev pub WholeFramesAreParsed : Type 0
 WholeFramesAreParsed = (frames : List (List ℕ)) (moves : List Move) (past parsed : List ℕ) (hold : Option (List ℕ))
-    → All IsFrame frames → given moves ≡ concat frames → Leads moves past None parsed hold → (parsed ≡ past ++ concat frames) × (hold ≡ None)
+    → All IsFrame frames → given moves ≡ concat frames → Leads moves past None parsed hold
+    → (parsed ≡ past ++ concat frames) × (hold ≡ None)
 
 -- the bytes are less than the next frame
 abbrev pub IsPart : List ℕ → List (List ℕ) → Type 0
@@ -49,7 +53,8 @@ pub data Rests (whole part parsed : List ℕ) (hold : Option (List ℕ)) : Type 
   -- less than the start mark came, and no update is open
   closed : length part < 8 → parsed ≡ whole ++ part → hold ≡ None → Rests whole part parsed hold
   -- the start mark was parsed, and the rest is held
-  opened : (held : List ℕ) → part ≡ start_mark ++ held → parsed ≡ whole ++ start_mark → hold ≡ Some held → Rests whole part parsed hold
+  opened : (held : List ℕ) → part ≡ start_mark ++ held → parsed ≡ whole ++ start_mark → hold ≡ Some held
+      → Rests whole part parsed hold
   -- the start mark is held, and the rest with it
   kept : 8 ≤ length part → parsed ≡ whole → hold ≡ Some part → Rests whole part parsed hold
 
@@ -71,25 +76,39 @@ FramesAreNeverTorn = (frames pieces : List (List ℕ)) (beyond past parsed : Lis
 
 -- so what is parsed beyond whole frames is a beginning of the start mark
 abbrev pub OnlyAMarkIsBegun : Type 0
-OnlyAMarkIsBegun = (whole part parsed : List ℕ) (hold : Option (List ℕ)) (rest : List (List ℕ)) → All IsFrame rest → IsPart part rest
+OnlyAMarkIsBegun = (whole part parsed : List ℕ) (hold : Option (List ℕ)) (rest : List (List ℕ))
+    → All IsFrame rest → IsPart part rest
     → Rests whole part parsed hold → (count : ℕ) × (count ≤ 8) × (parsed ≡ whole ++ take count start_mark)
 
 -- whatever came before, a start mark opens an update at its last byte and at none before
 abbrev pub StartMarksOpen : Type 0
 StartMarksOpen = (past : List ℕ) → OpensAt past start_mark 8
 
--- and it begins anew: after it nothing is unfinished
+-- and nothing is unfinished after it, or after an end mark
 abbrev pub MarksEndAtGround : Type 0
 MarksEndAtGround = (past : List ℕ) → AtGround 1024 (past ++ start_mark) × AtGround 1024 (past ++ end_mark)
 
 -- where nothing is unfinished, a begun start mark makes no call, and the whole one says that an update was opened
 abbrev pub StartMarksCall : Type 0
 StartMarksCall = (past : List ℕ) → AtGround 1024 past
-    → ((count : ℕ) → count < 8 → calls_from past (take count start_mark) ≡ []) × (calls_from past start_mark ≡ set_private_mode (Named SyncUpdate) ∷ [])
+    → ((count : ℕ) → count < 8 → calls_from past (take count start_mark) ≡ [])
+    × (calls_from past start_mark ≡ set_private_mode (Named SyncUpdate) ∷ [])
 
 abbrev pub EndMarksCall : Type 0
-EndMarksCall = (past : List ℕ) → (opens_in past end_mark ≡ false) × (AtGround 1024 past → calls_from past end_mark ≡ closing)
+EndMarksCall = (past : List ℕ)
+    → (opens_in past end_mark ≡ false) × (AtGround 1024 past → calls_from past end_mark ≡ closing)
 
 -- nothing is unfinished after whole frames
 abbrev pub FramesEndAtGround : Type 0
-FramesEndAtGround = (frames : List (List ℕ)) (past : List ℕ) → All IsFrame frames → AtGround 1024 past → AtGround 1024 (past ++ concat frames)
+FramesEndAtGround = (frames : List (List ℕ)) (past : List ℕ)
+    → All IsFrame frames → AtGround 1024 past → AtGround 1024 (past ++ concat frames)
+
+-- what is put together from parts that end at ground and open nothing does so too
+abbrev pub PartsOpenNothing : Type 0
+PartsOpenNothing = (parts : List (List ℕ))
+    → All (AtGround 1024) parts → All (λ part. list_any opens (events 1024 part) ≡ false) parts
+    → AtGround 1024 (concat parts) × (list_any opens (events 1024 (concat parts)) ≡ false)
+
+-- text without ESC, between the marks
+abbrev pub TextsMakeFrames : Type 0
+TextsMakeFrames = (text : List ℕ) → IsText text → IsFrame (start_mark ++ (text ++ end_mark))

@@ -6,13 +6,14 @@ use Rattle.vte_core.specs.Laws.{Fits}
 use Rattle.vte_types.specs.Call.{Call, Calls}
 use Rattle.vte.specs.Table.{calls_of, last_after, openers, opens}
 use Rattle.vte.specs.Timeout.{Ticked, sets_of}
+use Rattle.vte.specs.declared.performer.ProcessorState.{ProcessorState}
 
 -- one event: of an operating system command that no parser gives, the calls are left open
 pub record Performed {H T : Type 0} (step : H → Call → H → Type 0) (sets : T → ℕ → T → Type 0) (clears : T → T → Type 0) (e : Event)
-    (h : H) (last : Option ℕ) (t : T) (terminated : Bool) (h' : H) (last' : Option ℕ) (t' : T) (terminated' : Bool) : Type 0 where
-  pub calls : Fits 1024 e → Calls step h (calls_of last e) h'
-  pub printed : last' ≡ last_after last e
-  pub ticked : Ticked sets clears t (sets_of (openers e)) t'
+    (h : H) (s : ProcessorState T) (terminated : Bool) (h' : H) (s' : ProcessorState T) (terminated' : Bool) : Type 0 where
+  pub calls : Fits 1024 e → Calls step h (calls_of s.preceding_char e) h'
+  pub printed : s'.preceding_char ≡ last_after s.preceding_char e
+  pub ticked : Ticked sets clears s.timeout (sets_of (openers e)) s'.timeout
   pub ends : terminated' ≡ (terminated || opens e)
 
 abbrev pub last_after_all : Option ℕ → List Event → Option ℕ
@@ -30,8 +31,8 @@ openers_of_all (e ∷ es) = openers e ++ openers_of_all es
 
 -- events, in order
 pub record PerformedAll {H T : Type 0} (step : H → Call → H → Type 0) (sets : T → ℕ → T → Type 0) (clears : T → T → Type 0) (es : List Event)
-    (h : H) (last : Option ℕ) (t : T) (terminated : Bool) (h' : H) (last' : Option ℕ) (t' : T) (terminated' : Bool) : Type 0 where
-  pub calls : Calls step h (calls_of_all last es) h'
-  pub printed : last' ≡ last_after_all last es
-  pub ticked : Ticked sets clears t (sets_of (openers_of_all es)) t'
+    (h : H) (s : ProcessorState T) (terminated : Bool) (h' : H) (s' : ProcessorState T) (terminated' : Bool) : Type 0 where
+  pub calls : Calls step h (calls_of_all s.preceding_char es) h'
+  pub printed : s'.preceding_char ≡ last_after_all s.preceding_char es
+  pub ticked : Ticked sets clears s.timeout (sets_of (openers_of_all es)) s'.timeout
   pub ends : terminated' ≡ (terminated || list_any opens es)

@@ -1,6 +1,6 @@
 //! Laws of the calls, of the hold and of the values, each as the contract of a function that does nothing.
 ghost use Rattle.vte.specs.Laws.{ConservesBytes, ConservesUnderAny, NeverTears, JoinsCalls, JoinsPrinted, JoinsOpenings, JoinsTicks, CallsAreOfParsed, CallsAreOfParsedUnderAny, FiltersClosings, IgnoresClosings, MakesTableCalls, OpensAsCalled, OpensAsAllCalled, OpensByStarts, AsksWhereOpened};
-ghost use Rattle.vte.specs.Frames.{StartMarksOpen, StartMarksCall, EndMarksCall, MarksEndAtGround, MovesFollow, WholeFramesAreParsed, FramesAreNeverTorn, OnlyAMarkIsBegun, FramesEndAtGround};
+ghost use Rattle.vte.specs.Frames.{StartMarksOpen, StartMarksCall, EndMarksCall, MarksEndAtGround, MovesFollow, WholeFramesAreParsed, FramesAreNeverTorn, OnlyAMarkIsBegun, FramesEndAtGround, PartsOpenNothing, TextsMakeFrames};
 
 pub use crate::std_sync_handler::std_sync_handler_is_exact;
 use crate::timeout::Timeout;
@@ -60,8 +60,8 @@ pub fn openings_are_called()
 {}
 
 /// A start mark opens an update at its eighth byte and at none before, whatever came before it, and an end mark opens
-/// none. After either nothing is unfinished. Where nothing was unfinished before it, a begun start mark makes no call, the
-/// whole one makes `set_private_mode` of `SyncUpdate`, and an end mark makes `unset_private_mode` of it.
+/// none. After either nothing is unfinished. Where nothing was unfinished before it, a begun start mark makes no call,
+/// the whole one makes `set_private_mode` of `SyncUpdate`, and an end mark makes `unset_private_mode` of it.
 pub fn marks_are_read()
     ensures opens { StartMarksOpen }
     ensures start { StartMarksCall }
@@ -69,17 +69,24 @@ pub fn marks_are_read()
     ensures whole { MarksEndAtGround }
 {}
 
-/// Joined frames are parsed whole and nothing is held after them, in whatever pieces they come and wherever their updates
-/// are stopped by hand. After them nothing is unfinished.
+/// Joined frames are parsed whole and nothing is held after them, in whatever pieces they come and wherever their
+/// updates are stopped by hand. After them nothing is unfinished.
 pub fn whole_frames_are_parsed()
     ensures parsed { WholeFramesAreParsed }
     ensures finished { FramesEndAtGround }
     ensures moves { MovesFollow }
 {}
 
-/// Frames below the hold's limit are never torn: of a beginning of joined frames, in whatever pieces it comes, just those
-/// that came whole are parsed, and of the next one at most its start mark, of which less makes no call at all.
+/// Frames below the hold's limit are never torn: of a beginning of joined frames, in whatever pieces it comes, just
+/// those that came whole are parsed, and of the next one at most its start mark, of which less makes no call at all.
 pub fn frames_are_never_torn()
     ensures untorn { FramesAreNeverTorn }
     ensures begun { OnlyAMarkIsBegun }
+{}
+
+/// What may stand between the marks of a frame: parts that end at ground and open nothing, put together, do so too, and
+/// well-formed text without ESC makes a frame.
+pub fn frames_are_made()
+    ensures parts { PartsOpenNothing }
+    ensures texts { TextsMakeFrames }
 {}

@@ -22,8 +22,8 @@ fn feed<T: Timeout, H: Handler>(
     ensures same_state { performer.new.state.ghost_name ≡ performer.old.state.ghost_name }
     ensures stands { (past : List ℕ) → Stands 1024 parser.old past → Stands 1024 parser.new (past ++ bytes.now) }
     ensures performed { (past : List ℕ) → Stands 1024 parser.old past → PerformedAll H.step T.sets T.clears (added past bytes.now)
-        performer.old.handler.now performer.old.state.now.preceding_char performer.old.state.now.timeout performer.old.terminated
-        performer.new.handler.now performer.new.state.now.preceding_char performer.new.state.now.timeout performer.new.terminated }
+        performer.old.handler.now performer.old.state.now performer.old.terminated
+        performer.new.handler.now performer.new.state.now performer.new.terminated }
 {
     parser.advance(performer, bytes);
 }
@@ -37,7 +37,7 @@ pub fn parse_all<T: Timeout, H: Handler>(
 )
     ensures stands { (past : List ℕ) → Stands 1024 parser.old past → Stands 1024 parser.new (past ++ bytes.now) }
     ensures performed { (past : List ℕ) → Stands 1024 parser.old past → PerformedAll H.step T.sets T.clears (added past bytes.now)
-        handler.old state.old.preceding_char state.old.timeout false handler.new state.new.preceding_char state.new.timeout (list_any opens (added past bytes.now)) }
+        handler.old state.old false handler.new state.new (list_any opens (added past bytes.now)) }
 {
     let mut performer = Performer {
         state,
@@ -58,8 +58,8 @@ fn feed_until_terminated<T: Timeout, H: Handler>(
     ensures same_state { performer.new.state.ghost_name ≡ performer.old.state.ghost_name }
     ensures stands { (past : List ℕ) → Stands 1024 parser.old past → Stands 1024 parser.new (past ++ take result bytes.now) }
     ensures performed { (past : List ℕ) → Stands 1024 parser.old past → PerformedAll H.step T.sets T.clears (added past (take result bytes.now))
-        performer.old.handler.now performer.old.state.now.preceding_char performer.old.state.now.timeout performer.old.terminated
-        performer.new.handler.now performer.new.state.now.preceding_char performer.new.state.now.timeout performer.new.terminated }
+        performer.old.handler.now performer.old.state.now performer.old.terminated
+        performer.new.handler.now performer.new.state.now performer.new.terminated }
     ensures ended { result < length bytes.now → performer.new.terminated ≡ true }
     ensures some { performer.old.terminated ≡ false → performer.new.terminated ≡ true → 0 < result }
     ensures first { (past : List ℕ) → Stands 1024 parser.old past → performer.old.terminated ≡ false
@@ -78,7 +78,7 @@ pub fn parse<T: Timeout, H: Handler>(
     ensures within { result.0 ≤ length bytes.now }
     ensures stands { (past : List ℕ) → Stands 1024 parser.old past → Stands 1024 parser.new (past ++ take result.0 bytes.now) }
     ensures performed { (past : List ℕ) → Stands 1024 parser.old past → PerformedAll H.step T.sets T.clears (added past (take result.0 bytes.now))
-        handler.old state.old.preceding_char state.old.timeout false handler.new state.new.preceding_char state.new.timeout result.1 }
+        handler.old state.old false handler.new state.new result.1 }
     ensures whole { result.1 ≡ false → result.0 ≡ length bytes.now }
     ensures some { result.1 ≡ true → 0 < result.0 }
     ensures first { (past : List ℕ) → Stands 1024 parser.old past

@@ -29,7 +29,7 @@ impl<'a, H: Handler, T: Timeout> Perform for Performer<'a, H, T> {
     ghost use Rattle.std.specs.Prelude.{◌≡◌};
     ghost use Rattle.vte.specs.Performed.{Performed};
 
-    ghost step = { λ p e q. Performed H.step T.sets T.clears e p.handler.now p.state.now.preceding_char p.state.now.timeout p.terminated q.handler.now q.state.now.preceding_char q.state.now.timeout q.terminated × (q.handler.ghost_name ≡ p.handler.ghost_name) × (q.state.ghost_name ≡ p.state.ghost_name) };
+    ghost step = { λ p e q. Performed H.step T.sets T.clears e p.handler.now p.state.now p.terminated q.handler.now q.state.now q.terminated × (q.handler.ghost_name ≡ p.handler.ghost_name) × (q.state.ghost_name ≡ p.state.ghost_name) };
 
     ghost is_terminated = { λ p. p.terminated };
 

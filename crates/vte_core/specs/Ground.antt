@@ -1,9 +1,12 @@
 -- Where a parser that keeps n bytes of an operating system command has nothing unfinished.
-use Rattle.std.specs.Prelude.{◌≡◌, ◌≢◌, ℕ, Bool, true, false, ◌||◌, List, [], ◌∷◌, ◌++◌, ◌==◌}
+use Rattle.std.specs.Prelude.{◌≡◌, ◌≢◌, ℕ, Bool, true, false, ◌||◌, List, [], ◌∷◌, ◌++◌, map, take, length, nat_lt, ◌==◌, if◌then◌else◌}
 use Rattle.std.specs.Int.{is_in_range}
 use Rattle.std.specs.List.{AllByRecursion}
-use Rattle.std.specs.Str.{IsUtf8}
+use Rattle.std.specs.Str.{IsUtf8, chars}
+use Rattle.vte_core.specs.Event.{Event, Csi, Esc}
 use Rattle.vte_core.specs.Bytes.{is_intermediate, is_header}
+use Rattle.vte_core.specs.Text.{char_event}
+use Rattle.vte_core.specs.Header.{is_well_formed, kept_groups, kept_intermediates, overflows}
 use Rattle.vte_core.specs.Shapes.{events}
 use Rattle.vte_core.specs.Added.{added}
 use Rattle.vte_core.specs.Pending.{pending, InText}
@@ -12,12 +15,12 @@ use Rattle.vte_core.specs.Pending.{pending, InText}
 abbrev pub AtGround : ℕ → List ℕ → Type 0
 AtGround n past = (bytes : List ℕ) → events n (past ++ bytes) ≡ events n past ++ events n bytes
 
-abbrev pub NothingIsAtGround : Type 0
-NothingIsAtGround = (n : ℕ) → AtGround n []
-
 -- so the bytes add those events
 abbrev pub AddsAsAlone : Type 0
 AddsAsAlone = (n : ℕ) (past bytes : List ℕ) → AtGround n past → added n past bytes ≡ events n bytes
+
+abbrev pub NothingIsAtGround : Type 0
+NothingIsAtGround = (n : ℕ) → AtGround n []
 
 -- bytes that end at ground, after bytes that do
 abbrev pub GroundJoins : Type 0
@@ -36,19 +39,48 @@ abbrev pub is_introducer : ℕ → Bool
 is_introducer b = b == 0x5B || (b == 0x5D || (b == 0x50 || (b == 0x58 || (b == 0x5E || b == 0x5F))))
 
 -- ESC, intermediates and a final byte
+abbrev pub IsEscape : List ℕ → ℕ → Type 0
+IsEscape between final =
+    AllByRecursion (λ b. is_intermediate b ≡ true) between × (is_in_range 0x30 0x7E final ≡ true)
+    × (between ≡ [] → is_introducer final ≡ false)
+
 abbrev pub EscapesEndAtGround : Type 0
-EscapesEndAtGround = (n : ℕ) (between : List ℕ) (final : ℕ) → AllByRecursion (λ b. is_intermediate b ≡ true) between → is_in_range 0x30 0x7E final ≡ true
-    → (between ≡ [] → is_introducer final ≡ false) → AtGround n (0x1B ∷ (between ++ final ∷ []))
+EscapesEndAtGround = (n : ℕ) (between : List ℕ) (final : ℕ) → IsEscape between final
+    → AtGround n (0x1B ∷ (between ++ final ∷ []))
 
 -- ESC [, a header and a final byte
+abbrev pub IsSequence : List ℕ → ℕ → Type 0
+IsSequence header final = AllByRecursion (λ b. is_header b ≡ true) header × (is_in_range 0x40 0x7E final ≡ true)
+
 abbrev pub ControlSequencesEndAtGround : Type 0
-ControlSequencesEndAtGround = (n : ℕ) (header : List ℕ) (final : ℕ) → AllByRecursion (λ b. is_header b ≡ true) header → is_in_range 0x40 0x7E final ≡ true
+ControlSequencesEndAtGround = (n : ℕ) (header : List ℕ) (final : ℕ) → IsSequence header final
     → AtGround n (0x1B ∷ 0x5B ∷ (header ++ final ∷ []))
 
 -- whole characters, controls among them, without ESC
+abbrev pub IsText : List ℕ → Type 0
+IsText text = IsUtf8 text × AllByRecursion (λ b. b ≢ 0x1B) text
+
 abbrev pub TextsEndAtGround : Type 0
-TextsEndAtGround = (n : ℕ) (text : List ℕ) → IsUtf8 text → AllByRecursion (λ b. b ≢ 0x1B) text → AtGround n text
+TextsEndAtGround = (n : ℕ) (text : List ℕ) → IsText text → AtGround n text
 
 -- nothing is pending
 abbrev pub NothingPendingIsGround : Type 0
 NothingPendingIsGround = (n : ℕ) (past : List ℕ) → pending past ≡ InText [] → AtGround n past
+
+-- the event of such a sequence, and those of such a text: each character printed, or executed
+abbrev pub EscapesTell : Type 0
+EscapesTell = (n : ℕ) (between : List ℕ) (final : ℕ) → IsEscape between final
+    → events n (0x1B ∷ (between ++ final ∷ [])) ≡ Esc (take 2 between) (nat_lt 2 (length between)) final ∷ []
+
+-- none where the header is malformed
+abbrev pub header_event : List ℕ → ℕ → List Event
+header_event header final =
+    if is_well_formed header then Csi (kept_groups header) (kept_intermediates header) (overflows header) final ∷ []
+    else []
+
+abbrev pub ControlSequencesTell : Type 0
+ControlSequencesTell = (n : ℕ) (header : List ℕ) (final : ℕ) → IsSequence header final
+    → events n (0x1B ∷ 0x5B ∷ (header ++ final ∷ [])) ≡ header_event header final
+
+abbrev pub TextsTell : Type 0
+TextsTell = (n : ℕ) (text : List ℕ) → IsText text → events n text ≡ map char_event (chars text)

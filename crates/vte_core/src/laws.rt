@@ -1,7 +1,7 @@
 //! Laws of the events of a byte stream, each as the contract of a function that does nothing.
 
 ghost use Rattle.vte_core.specs.Laws.{KeepsBeginnings, AddsInOrder, CutsBeforeEsc, CutsAfter, AddsFitting, TellsCharacters, AsksAsSaid, StopsAsSaid};
-ghost use Rattle.vte_core.specs.Ground.{AddsAsAlone, NothingIsAtGround, GroundJoins, EscLeavesGround, LeadsToGround, EscapesEndAtGround, ControlSequencesEndAtGround, TextsEndAtGround, NothingPendingIsGround};
+ghost use Rattle.vte_core.specs.Ground.{AddsAsAlone, NothingIsAtGround, GroundJoins, EscLeavesGround, LeadsToGround, EscapesEndAtGround, ControlSequencesEndAtGround, TextsEndAtGround, NothingPendingIsGround, EscapesTell, ControlSequencesTell, TextsTell};
 
 use crate::Perform;
 
@@ -43,8 +43,8 @@ pub fn asking_points<P: Perform>()
     ensures stops { StopsAsSaid P.step P.is_terminated }
 {}
 
-/// A parser is at ground where what follows is read as if it stood alone: before the first byte, after bytes that end at
-/// ground behind others that do, after each CAN and each SUB, and where nothing is pending.
+/// A parser is at ground where what follows is read as if it stood alone: before the first byte, after bytes that end
+/// at ground behind others that do, after each CAN and each SUB, and where nothing is pending.
 pub fn at_ground()
     ensures alone { AddsAsAlone }
     ensures nothing { NothingIsAtGround }
@@ -55,11 +55,19 @@ pub fn at_ground()
 {}
 
 /// Sequences and texts that end at ground: an escape with its intermediates and its final byte (not one that begins a
-/// longer sequence), a control sequence with its header and its final byte, and well-formed text without ESC. What begins
-/// with ESC and ends at ground does so after any bytes.
+/// longer sequence), a control sequence with its header and its final byte, and well-formed text without ESC. What
+/// begins with ESC and ends at ground does so after any bytes.
 pub fn ends_at_ground()
     ensures escapes { EscapesEndAtGround }
     ensures sequences { ControlSequencesEndAtGround }
     ensures texts { TextsEndAtGround }
     ensures anew { EscLeavesGround }
+{}
+
+/// What such sequences and texts tell: an escape or a control sequence its one event (none where the control sequence
+/// is ignored), and a text its characters, each printed or, where it is a control, executed.
+pub fn sequences_and_texts()
+    ensures escapes { EscapesTell }
+    ensures sequences { ControlSequencesTell }
+    ensures texts { TextsTell }
 {}

@@ -17,7 +17,7 @@ returns-clause-performed g c past stands =
     let told = c.advance_until_terminated.ensures.told in
     let bytes = take c.advance_until_terminated.result c.args.bytes.now in
     let is = told_is past bytes told.told (told.added past stands) in
-    performs_all g.H.Handler.step g.T.Timeout.sets g.T.Timeout.clears (λ p. p.handler.now) (λ p. p.state.now.preceding_char) (λ p. p.state.now.timeout) (λ p. p.terminated) _ (λ p e q s. s.0) _
+    performs_all g.H.Handler.step g.T.Timeout.sets g.T.Timeout.clears (λ p. p.handler.now) (λ p. p.state.now) (λ p. p.terminated) _ (λ p e q s. s.0) _
     (added past bytes) _ (added-fits 1024 past bytes) (same_events _ _ _ told.told (added past bytes) is told.performed)
 
 positive : (n : ℕ) → (n ≡ 0 → ⊥) → 0 < n
@@ -37,7 +37,7 @@ pub returns-clause-first : goal.returns-clause-first
 returns-clause-first g c past stands fresh m below asks =
     let stops = stops-said _ _ 1024 past c.args.bytes.now _ _ _ (c.advance_until_terminated.ensures.stops past stands) in
     let by = stops.passed m below asks in
-    let run = performs_all g.H.Handler.step g.T.Timeout.sets g.T.Timeout.clears (λ p. p.handler.now) (λ p. p.state.now.preceding_char) (λ p. p.state.now.timeout) (λ p. p.terminated) _ (λ p e q s. s.0) _
+    let run = performs_all g.H.Handler.step g.T.Timeout.sets g.T.Timeout.clears (λ p. p.handler.now) (λ p. p.state.now) (λ p. p.terminated) _ (λ p e q s. s.0) _
     (added past (take m c.args.bytes.now)) _ (added-fits 1024 past (take m c.args.bytes.now)) by.before in
     let ends = run.ends in
     rw fresh at (sym ends ∙ by.goes_on)

@@ -1,4 +1,4 @@
-use Rattle.std.proofs.Common.{◌≡◌, ◌<◌, ◌≤◌, ◌==◌, ◌+◌, ◌∙◌, sym, List, ℕ, [], ◌∷◌, ◌++◌, length, length-append, ap, arith, true, false, refl, Bool}
+use Rattle.std.proofs.Common.{◌≡◌, ◌<◌, ◌≤◌, ◌==◌, ◌∙◌, sym, List, ℕ, [], ◌∷◌, ◌++◌, length, length-append, ap, arith, false, refl}
 use Rattle.std.proofs.lemmas.Bool.{eqb-true}
 use Rattle.std.proofs.lemmas.Bool.Decides.{nat_tests}
 use Rattle.vte.specs.Hold.{limit}
