@@ -7,7 +7,7 @@ use Rattle.std.proofs.lemmas.Bool.Decides.{nat_tests}
 use Rattle.std.proofs.lemmas.Str.{inside_one}
 use Rattle.unicode_width.specs.Width.{char_width}
 use Rattle.vt100_cells.specs.Cell.{columns_of, is_undrawable, IsCellText}
-use Rattle.vt100_picture.specs.FormText.{IsSentText, EachCellIsSent, EachTextIsPlain}
+use Rattle.vt100_picture.specs.FormText.{EachCellIsSent, EachTextIsPlain}
 
 esc_width : char_width false 27 ≡ None
 unfolding char_width
