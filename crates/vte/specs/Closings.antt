@@ -15,7 +15,7 @@ is_closing _ = false
 abbrev pub without_closings : List Call → List Call
 without_closings = filter (λ c. not (is_closing c))
 
--- n closings stand among these calls, and give those
+-- these calls, with n closings put among them, are those
 pub data WithClosings : List Call → ℕ → List Call → Type 0 where
   none : WithClosings [] zero []
   call : (c : Call) (cs : List Call) (n : ℕ) (calls : List Call) → WithClosings cs n calls → WithClosings (c ∷ cs) n (c ∷ calls)

@@ -67,7 +67,7 @@ MakesTableCalls {T} sets clears answers = (moves : List Move) (t t' : T) (parsed
     → Runs sets clears answers moves t [] [] t' parsed held calls → (given moves ≡ parsed ++ held)
     × (ticks : List Tick) × Ticked sets clears t ticks t' × WithClosings (calls_of_all None (events 1024 parsed)) (clearings ticks) calls
 
--- an open update isn't torn: while no end mark has come whole, nothing is parsed and no call is made
+-- an open update isn't torn: while there is room and no end mark has come whole, nothing is parsed and no call is made
 abbrev pub NeverTears : Type 0
 NeverTears = (parsed held piece parsed' : List ℕ) (hold' : Option (List ℕ)) (calls : List Call) (ticks : List Tick)
     → Takes parsed (Some held) piece parsed' hold' calls ticks → length (held ++ piece) < limit → NoneFrom end_mark (held ++ piece) 0
