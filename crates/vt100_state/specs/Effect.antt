@@ -2,15 +2,17 @@
 use Rattle.std.specs.Prelude.{ℕ, ◌-◌, ◌==◌, Bool, true, false, ◌&&◌, ◌||◌, List, [], ◌∷◌, Option, Some, None, nat_eq, if◌then◌else◌, replicate, unwrap_or}
 use Rattle.std.specs.Int.{is_in_range}
 use Rattle.std.specs.List.{list_all}
+use Rattle.std.specs.Option.{option_map}
+use Rattle.vt100_forms.specs.declared.modes.CursorStyle.{CursorStyle}
 use Rattle.vte_core.specs.Event.{Event, Print, Execute, Hook, Put, Unhook, Osc, Csi, Esc}
 use Rattle.vt100_forms.specs.declared.modes.CursorStyle.TheVariants as style
 use Rattle.vt100_state.specs.Lookup.{lookup}
 use Rattle.vt100_state.specs.State.{State}
 use Rattle.vt100_state.specs.Call as call
 use Rattle.vt100_state.specs.Call.{Call}
-use Rattle.vt100_state.specs.Sgr.{Read, sgr_read}
-use Rattle.vt100_state.specs.PrivateModes.{Counted, modes_set, modes_reset}
-use Rattle.vt100_state.specs.Step.{Report, Stepped, typed, repeated, moved_left, moved_right, tabbed, at_column, at_row, at_place, moved_up, moved_down, line_above, line_below, line_fed, line_fed_back, in_region, saved, restored, erased_below, erased_above, erased_all, erased_kept, erased_right, erased_left, erased_row, cells_erased, cells_added, cells_taken, lines_added, lines_taken, region_up, region_down, with_keypad, with_style, made_anew}
+use Rattle.vt100_state.specs.Sgr.{sgr_read}
+use Rattle.vt100_state.specs.PrivateModes.{modes_set, modes_reset}
+use Rattle.vt100_state.specs.Step.{Report, Stepped, Partly, quietly, typed, repeated, moved_left, moved_right, tabbed, at_column, at_row, at_place, moved_up, moved_down, line_above, line_below, line_fed, line_fed_back, in_region, saved, restored, erased_below, erased_above, erased_all, erased_kept, erased_right, erased_left, erased_row, cells_erased, cells_added, cells_taken, lines_added, lines_taken, region_up, region_down, with_keypad, with_style, made_anew}
 
 -- the state after an event's own change, the rows that left on the way, and the calls that are made then
 pub record Effect : Type 0 where
@@ -91,25 +93,43 @@ count gs = number_or 1 gs
 abbrev pub csi_call : List ℕ → List (List ℕ) → ℕ → Call
 csi_call ms gs b = call.unhandled_csi (first ms) (second ms) gs b
 
--- ED and EL, by their number
-abbrev pub screen_rows : List (ℕ × (State → Effect))
-screen_rows = (0, λ s. changes (erased_below s)) ∷ (1, λ s. changes (erased_above s)) ∷ (2, λ s. changes (erased_all s)) ∷ (3, λ s. steps (erased_kept s)) ∷ []
+-- ED, EL and DECSCUSR, by their number
+abbrev pub display_rows : List (ℕ × (State → Stepped))
+display_rows = (0, λ s. quietly (erased_below s)) ∷ (1, λ s. quietly (erased_above s)) ∷ (2, λ s. quietly (erased_all s)) ∷ (3, erased_kept) ∷ []
 
-abbrev pub line_rows : List (ℕ × (State → Effect))
-line_rows = (0, λ s. changes (erased_right s)) ∷ (1, λ s. changes (erased_left s)) ∷ (2, λ s. changes (erased_row s)) ∷ []
+abbrev pub line_rows : List (ℕ × (State → Stepped))
+line_rows = (0, λ s. quietly (erased_right s)) ∷ (1, λ s. quietly (erased_left s)) ∷ (2, λ s. quietly (erased_row s)) ∷ []
 
-abbrev pub style_rows : List (ℕ × (State → Effect))
+abbrev pub style_rows : List (ℕ × CursorStyle)
 style_rows =
-    (0, λ s. changes (with_style style.Default s)) ∷ (1, λ s. changes (with_style style.BlinkBlock s)) ∷ (2, λ s. changes (with_style style.SteadyBlock s))
-    ∷ (3, λ s. changes (with_style style.BlinkUnderline s)) ∷ (4, λ s. changes (with_style style.SteadyUnderline s))
-    ∷ (5, λ s. changes (with_style style.BlinkVerticalBar s)) ∷ (6, λ s. changes (with_style style.SteadyVerticalBar s)) ∷ []
+    (0, style.Default) ∷ (1, style.BlinkBlock) ∷ (2, style.SteadyBlock) ∷ (3, style.BlinkUnderline) ∷ (4, style.SteadyUnderline)
+    ∷ (5, style.BlinkVerticalBar) ∷ (6, style.SteadyVerticalBar) ∷ []
 
--- SGR; each unhandled group makes the call once
-abbrev pub sgr_effect : Read → Call → State → Effect
-sgr_effect x k s = record { state = record s { attrs = x.attrs }; reports = []; calls = replicate x.unhandled k }
+-- a row of a table, where there is one
+abbrev pub row_partly : Option (State → Stepped) → State → Partly
+row_partly None s = record { state = s; reports = []; unhandled = 1 }
+row_partly (Some f) s = record { state = (f s).state; reports = (f s).reports; unhandled = 0 }
 
-abbrev pub modes_effect : Counted → Call → Effect
-modes_effect x k = record { state = x.state; reports = []; calls = replicate x.unhandled k }
+abbrev pub display_erased : ℕ → State → Partly
+display_erased n s = row_partly (lookup n display_rows) s
+
+abbrev pub line_erased : ℕ → State → Partly
+line_erased n s = row_partly (lookup n line_rows) s
+
+abbrev pub styled : ℕ → State → Partly
+styled n s = row_partly (option_map (λ x t. quietly (with_style x t)) (lookup n style_rows)) s
+
+-- SGR
+abbrev pub attributes_read : List (List ℕ) → State → Partly
+attributes_read gs s = record {
+  state = record s { attrs = (sgr_read gs s.attrs).attrs };
+  reports = [];
+  unhandled = (sgr_read gs s.attrs).unhandled;
+}
+
+-- the call is made once for each part that is unhandled
+abbrev pub partly : Partly → Call → Effect
+partly x k = record { state = x.state; reports = x.reports; calls = replicate x.unhandled k }
 
 -- 8 asks for a size, of which an absent number is the screen's
 abbrev pub window_effect : List (List ℕ) → Call → State → Effect
@@ -133,14 +153,14 @@ plain_rows =
 -- J K m t, which can be unhandled by their numbers
 abbrev pub other_rows : List (ℕ × (List (List ℕ) → Call → State → Effect))
 other_rows =
-    (0x4A, λ gs k s. effect_or (lookup (number_or 0 gs) screen_rows) k s) ∷ (0x4B, λ gs k s. effect_or (lookup (number_or 0 gs) line_rows) k s)
-    ∷ (0x6D, λ gs k s. sgr_effect (sgr_read gs s.attrs) k s) ∷ (0x74, window_effect) ∷ []
+    (0x4A, λ gs k s. partly (display_erased (number_or 0 gs) s) k) ∷ (0x4B, λ gs k s. partly (line_erased (number_or 0 gs) s) k)
+    ∷ (0x6D, λ gs k s. partly (attributes_read gs s) k) ∷ (0x74, window_effect) ∷ []
 
 -- after `?`: J K h l
 abbrev pub private_rows : List (ℕ × (List (List ℕ) → Call → State → Effect))
 private_rows =
-    (0x4A, λ gs k s. effect_or (lookup (number_or 0 gs) screen_rows) k s) ∷ (0x4B, λ gs k s. effect_or (lookup (number_or 0 gs) line_rows) k s)
-    ∷ (0x68, λ gs k s. modes_effect (modes_set gs s) k) ∷ (0x6C, λ gs k s. modes_effect (modes_reset gs s) k) ∷ []
+    (0x4A, λ gs k s. partly (display_erased (number_or 0 gs) s) k) ∷ (0x4B, λ gs k s. partly (line_erased (number_or 0 gs) s) k)
+    ∷ (0x68, λ gs k s. partly (modes_set gs s) k) ∷ (0x6C, λ gs k s. partly (modes_reset gs s) k) ∷ []
 
 abbrev pub row_effect : Option (List (List ℕ) → Call → State → Effect) → List (List ℕ) → Call → State → Effect
 row_effect None gs k s = calling (k ∷ []) s
@@ -154,7 +174,7 @@ plain_effect (Some f) gs b s = f gs s
 abbrev pub csi_effect : List (List ℕ) → List ℕ → ℕ → State → Effect
 csi_effect gs [] b s = plain_effect (lookup b plain_rows) gs b s
 csi_effect gs (m ∷ ms) b s =
-    if nat_eq m 0x20 then (if nat_eq b 0x71 then effect_or (lookup (number_or 0 gs) style_rows) (csi_call (m ∷ ms) gs b) s else calling (csi_call [] gs b ∷ []) s)
+    if nat_eq m 0x20 then (if nat_eq b 0x71 then partly (styled (number_or 0 gs) s) (csi_call (m ∷ ms) gs b) else calling (csi_call [] gs b ∷ []) s)
     else (if nat_eq m 0x3F then row_effect (lookup b private_rows) gs (csi_call (m ∷ ms) gs b) s else calling (csi_call (m ∷ ms) gs b ∷ []) s)
 
 -- ---- operating system commands

@@ -6,7 +6,7 @@ use Rattle.vt100_forms.specs.declared.modes.MouseProtocolEncoding.{MouseProtocol
 use Rattle.vt100_forms.specs.declared.modes.MouseProtocolEncoding.TheVariants as encoding
 use Rattle.vt100_state.specs.Lookup.{lookup}
 use Rattle.vt100_state.specs.State.{State}
-use Rattle.vt100_state.specs.Step.{with_modes, with_cursor_keys, with_paste, with_hidden, with_origin_mode, alternate_shown, main_shown, alternate_entered, alternate_left}
+use Rattle.vt100_state.specs.Step.{Partly, with_modes, with_cursor_keys, with_paste, with_hidden, with_origin_mode, alternate_shown, main_shown, alternate_entered, alternate_left}
 
 abbrev pub is_mouse : MouseProtocolMode → MouseProtocolMode → Bool
 is_mouse mouse.None mouse.None = true
@@ -47,27 +47,22 @@ reset_rows =
     ∷ (1000, mouse_reset mouse.PressRelease) ∷ (1002, mouse_reset mouse.ButtonMotion) ∷ (1003, mouse_reset mouse.AnyMotion)
     ∷ (1005, encoding_reset encoding.Utf8) ∷ (1006, encoding_reset encoding.Sgr) ∷ (1049, alternate_left) ∷ (2004, with_paste false) ∷ []
 
--- a state, and how many groups were unhandled
-pub record Counted : Type 0 where
-  pub state : State
-  pub unhandled : ℕ
-
 -- what stands in a table for a group; a group of more numbers than one is in no row
 abbrev pub row_of : List (ℕ × (State → State)) → List ℕ → Option (State → State)
 row_of rows (n ∷ []) = lookup n rows
 row_of rows ns = None
 
-abbrev pub counted_on : Option (State → State) → State → ℕ → Counted
-counted_on None s n = record { state = s; unhandled = n + 1 }
-counted_on (Some f) s n = record { state = f s; unhandled = n }
+abbrev pub partly_on : Option (State → State) → Partly → Partly
+partly_on None x = record x { unhandled = x.unhandled + 1 }
+partly_on (Some f) x = record x { state = f x.state }
 
--- the groups in order; n were unhandled before
-abbrev pub modes_from : List (ℕ × (State → State)) → Counted → List (List ℕ) → Counted
+-- the groups in order
+abbrev pub modes_from : List (ℕ × (State → State)) → Partly → List (List ℕ) → Partly
 modes_from rows x [] = x
-modes_from rows x (g ∷ gs) = modes_from rows (counted_on (row_of rows g) x.state x.unhandled) gs
+modes_from rows x (g ∷ gs) = modes_from rows (partly_on (row_of rows g) x) gs
 
-abbrev pub modes_set : List (List ℕ) → State → Counted
-modes_set gs s = modes_from set_rows (record { state = s; unhandled = 0 }) gs
+abbrev pub modes_set : List (List ℕ) → State → Partly
+modes_set gs s = modes_from set_rows (record { state = s; reports = []; unhandled = 0 }) gs
 
-abbrev pub modes_reset : List (List ℕ) → State → Counted
-modes_reset gs s = modes_from reset_rows (record { state = s; unhandled = 0 }) gs
+abbrev pub modes_reset : List (List ℕ) → State → Partly
+modes_reset gs s = modes_from reset_rows (record { state = s; reports = []; unhandled = 0 }) gs

@@ -26,6 +26,12 @@ pub record Stepped : Type 0 where
   pub state : State
   pub reports : List Report
 
+-- the same of a sequence of which parts can be unknown, and how many of them were
+pub record Partly : Type 0 where
+  pub state : State
+  pub reports : List Report
+  pub unhandled : ℕ
+
 -- no row leaves
 abbrev pub quietly : State → Stepped
 quietly s = record { state = s; reports = [] }
@@ -200,7 +206,7 @@ with_origin_mode b s = with_shown s (with_origin s.shown b)
 -- it is shown, with rows (mode 47 set); no kept row is shown any more where it was
 abbrev pub alternate_shown : State → State
 alternate_shown s =
-    if s.alternate then with_shown s (allocated (scrollback_shown s.shown 0))
+    if s.alternate then with_shown s (scrollback_shown s.shown 0)
     else record s { shown = allocated s.other; other = scrollback_shown s.shown 0; alternate = true }
 
 -- the main one is shown (mode 47 reset)
