@@ -1,5 +1,5 @@
 -- What calls do to a screen, and how they are refused.
-use Rattle.std.specs.Prelude.{◌≡◌, ℕ, Bool, true, false, Result, Err, OnOk, if◌then◌else◌}
+use Rattle.std.specs.Prelude.{◌≡◌, ℕ, Bool, true, false, Result, Ok, Err, OnOk, if◌then◌else◌}
 use Rattle.vt100_rows.specs.Row.{RowView}
 use Rattle.vt100_state.specs.State.{State}
 use Rattle.vt100_state.specs.Step.{Stepped, Partly}
@@ -34,3 +34,11 @@ pub record Counts {C : Type 0} (scrolls : C → RowView → Bool → C → Type 
   pub hears : v.failed ≡ false → Hears scrolls c (f v.state).reports d
   pub count : v.failed ≡ false → unhandled ≡ (f v.state).unhandled
   pub dead : v.failed ≡ true → (w ≡ v) × (d ≡ c) × (unhandled ≡ 0)
+
+-- A call of a screen v that is then w, and that may be refused: the same without callbacks.
+pub record TriesAlone (f : State → State) (v : ScreenView) (result : Result (Unit {0}) ScreenError) (w : ScreenView) : Type 0 where
+  pub live : OnOk result (v.failed ≡ false)
+  pub screen : OnOk result (w ≡ alive (f v.state))
+  pub memory : result ≡ Err Memory → w.failed ≡ true
+  pub refused : result ≡ Err Failed → v.failed ≡ true
+  pub dead : v.failed ≡ true → (result ≡ Err Failed) × (w ≡ v)

@@ -8,7 +8,9 @@ mod controls;
 mod erase;
 mod getters;
 mod motion;
+mod readers;
 mod reported;
+mod whole;
 mod wrapped;
 
 use crate::error::ScreenError;
@@ -40,6 +42,8 @@ pub struct Screen {
 
     last_char: Option<char>,
 
+    /// Where its texts and new sheets come from.
+    alloc: Global,
     /// Whether a call found no memory, so that what is shown is open.
     failed: bool,
 }
@@ -87,6 +91,7 @@ impl Screen {
             mouse_protocol_encoding: MouseProtocolEncoding::Default,
             cursor_style: CursorStyle::Default,
             last_char: None,
+            alloc,
             failed: false,
         })
     }

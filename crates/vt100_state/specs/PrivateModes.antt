@@ -1,5 +1,5 @@
 -- Private modes (DECSET, DECRST; xterm's control sequences).
-use Rattle.std.specs.Prelude.{ℕ, ◌+◌, Bool, true, false, List, [], ◌∷◌, Option, Some, None, if◌then◌else◌}
+use Rattle.std.specs.Prelude.{ℕ, ◌+◌, Bool, true, false, List, [], ◌∷◌, Option, Some, None, is_some, if◌then◌else◌}
 use Rattle.vt100_forms.specs.declared.modes.MouseProtocolMode.{MouseProtocolMode}
 use Rattle.vt100_forms.specs.declared.modes.MouseProtocolMode.TheVariants as mouse
 use Rattle.vt100_forms.specs.declared.modes.MouseProtocolEncoding.{MouseProtocolEncoding}
@@ -52,9 +52,13 @@ abbrev pub row_of : List (ℕ × (State → State)) → List ℕ → Option (Sta
 row_of rows (n ∷ []) = lookup n rows
 row_of rows ns = None
 
+-- the state that a row leads to; where there is none nothing changes
+abbrev pub row_state : Option (State → State) → State → State
+row_state None s = s
+row_state (Some f) s = f s
+
 abbrev pub partly_on : Option (State → State) → Partly → Partly
-partly_on None x = record x { unhandled = x.unhandled + 1 }
-partly_on (Some f) x = record x { state = f x.state }
+partly_on o x = record { state = row_state o x.state; reports = x.reports; unhandled = if is_some o then x.unhandled else x.unhandled + 1 }
 
 -- the groups in order
 abbrev pub modes_from : List (ℕ × (State → State)) → Partly → List (List ℕ) → Partly

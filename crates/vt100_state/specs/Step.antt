@@ -229,15 +229,14 @@ alternate_left s = restored (main_shown s)
 abbrev pub made_anew : State → State
 made_anew s = fresh_state (main_sheet s).height (main_sheet s).width (main_sheet s).kept.capacity
 
--- both sheets get another size, the main one first
+-- both sheets get another size; the rows of the main one are reported first
 abbrev pub resized_to : ℕ → ℕ → State → Stepped
-resized_to height width s =
-    let m = resized (main_sheet s) height width in
-    let a = resized (alternate_sheet s) height width in
-    record {
-      state = if s.alternate then record s { shown = a.grid; other = m.grid } else record s { shown = m.grid; other = a.grid };
-      reports = reports_of false m.sunk ++ reports_of true a.sunk;
-    }
+resized_to height width s = record {
+  state = record s { shown = (resized s.shown height width).grid; other = (resized s.other height width).grid };
+  reports =
+      reports_of false (resized (main_sheet s) height width).sunk
+      ++ reports_of true (resized (alternate_sheet s) height width).sunk;
+}
 
 -- n of the kept rows are shown, and they go unreported: two calls of the screen's own
 abbrev pub kept_shown : ℕ → State → State

@@ -1,13 +1,15 @@
 //! Calls on a sheet that tell callbacks of the rows that leave it.
-ghost use Rattle.std.specs.Prelude.{◌≡◌, OnOk};
+ghost use Rattle.std.specs.Prelude.{◌≡◌, OnOk, IfOk};
 ghost use Rattle.vt100_core.specs.Grid.{IsAllocated, SameLimits};
 ghost use Rattle.vt100_core.specs.Scroll.{fed, scrolled_up, scrollback_erased};
+ghost use Rattle.vt100_core.specs.Text.{printed};
 ghost use Rattle.vt100_state.specs.Step.{reports_of};
 ghost use Rattle.vt100_state.specs.Call.{Hears};
 
 use crate::callbacks::Callbacks;
+use vt100_core::attrs::Attrs;
 use vt100_core::capture::RowContents;
-use vt100_core::{Grid, GridError, Row, RowSink};
+use vt100_core::{Grid, GridError, Printed, Row, RowSink};
 
 /// Tells callbacks of the rows that leave a sheet.
 #[derive(Drop)]
@@ -23,6 +25,25 @@ impl<'a, CB: Callbacks> RowSink for Reporter<'a, CB> {
         self.callbacks
             .on_scroll(RowContents::new(row), self.alternate_screen);
     }
+}
+
+/// A character.
+#[inline]
+pub(super) fn print<CB: Callbacks>(
+    grid: &mut Grid,
+    reporter: &mut Reporter<'_, CB>,
+    c: char,
+    attrs: Attrs,
+) -> Result<Printed, GridError>
+    requires { IsAllocated grid.old }
+    ensures grid { OnOk result (grid.new ≡ (printed grid.old c attrs).grid) }
+    ensures answer { IfOk result (λ p. p ≡ (printed grid.old c attrs).printed) }
+    ensures same { reporter.new.callbacks.ghost_name ≡ reporter.old.callbacks.ghost_name }
+    ensures hears { Hears CB.scrolls reporter.old.callbacks.now (reports_of reporter.old.alternate_screen (printed grid.old c attrs).sunk) reporter.new.callbacks.now }
+    ensures limits { SameLimits grid.old grid.new }
+    ensures allocated { IsAllocated grid.new }
+{
+    grid.text(c, attrs, reporter)
 }
 
 /// A line feed.
