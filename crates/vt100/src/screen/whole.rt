@@ -6,6 +6,7 @@ ghost use Rattle.vt100.specs.declared.error.ScreenError.TheVariants.{Memory};
 
 use crate::callbacks::Callbacks;
 use crate::error::ScreenError;
+use crate::screen::reported::resize_both;
 use crate::screen::{Screen, WrappedScreen};
 use std::num::NonZeroU16;
 use vt100_core::Size;
@@ -116,5 +117,43 @@ impl<CB: Callbacks> WrappedScreen<CB> {
             }
             Err(_) => Err(self.screen.fail()),
         }
+    }
+
+    /// Gives the screen another size, and tells the callbacks of the rows that leave it: those of the main sheet first.
+    pub fn set_size_with_cb(
+        &mut self,
+        rows: NonZeroU16,
+        cols: NonZeroU16,
+    ) -> Result<(), ScreenError>
+        ensures { Tries CB.scrolls (resized_to rows.value cols.value) self.old.screen self.old.callbacks result self.new.screen self.new.callbacks }
+    {
+        if self.screen.failed {
+            return Err(ScreenError::Failed);
+        }
+        let size = Size { rows, cols };
+        if self.screen.alternate_screen {
+            if resize_both(
+                &mut self.screen.other_grid,
+                &mut self.screen.grid,
+                &mut self.callbacks,
+                size,
+            )
+            .is_err()
+            {
+                return Err(self.screen.fail());
+            }
+            return Ok(());
+        }
+        if resize_both(
+            &mut self.screen.grid,
+            &mut self.screen.other_grid,
+            &mut self.callbacks,
+            size,
+        )
+        .is_err()
+        {
+            return Err(self.screen.fail());
+        }
+        Ok(())
     }
 }
