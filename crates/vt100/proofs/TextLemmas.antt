@@ -1,5 +1,5 @@
 -- A printed character, from what the sheet and the callbacks did.
-use Rattle.std.proofs.Common.{◌≡◌, ◌∙◌, ℕ, Bool, true, false, Option, Ok, sym}
+use Rattle.std.proofs.Common.{◌≡◌, ◌∙◌, ℕ, Bool, false, Option, Ok, sym}
 use Rattle.std.proofs.lemmas.Bool.{false≢true}
 use Rattle.vt100_core.specs.Grid.{GridView}
 use Rattle.vt100_core.specs.Text.{printed}

@@ -1,5 +1,5 @@
 -- Answers for screen::wrapped::WrappedScreen::text.
-use Rattle.std.proofs.Common.{◌≡◌, ◌∙◌, ap, sym}
+use Rattle.std.proofs.Common.{◌∙◌, ap}
 use Rattle.vt100_state.specs.Step.{last_after}
 use Rattle.vt100.proofs.TextLemmas.{typed_tries}
 use Rattle.vt100.proofs.screen.wrapped.WrappedScreen.text.Goals as goal
