@@ -1,6 +1,7 @@
 //! The data of a terminal's screen: cells, rows and the grid that they make, and printing text on it.
 #![tactic(auto)]
 
+pub mod capture;
 pub mod drawing_rows;
 pub mod grid;
 pub mod laws;

@@ -1,0 +1,3 @@
+pub mod HearLemmas
+pub mod ResizeLemmas
+pub mod TextLemmas

@@ -1,0 +1,3 @@
+pub mod CallOf
+pub mod ScreenFields
+pub mod Tries

@@ -1,0 +1,25 @@
+//! The refusals of a screen.
+ghost use Rattle.std.specs.Prelude.{◌≡◌};
+ghost use Rattle.vt100.specs.declared.error.ScreenError.TheVariants.{Memory};
+
+use thiserror::Error;
+use vt100_core::GridError;
+
+/// Why a call on a screen was refused.
+#[derive(Clone, Copy, Debug, Eq, Error, PartialEq)]
+pub enum ScreenError {
+    /// There was no memory for what the call would have stored.
+    #[error("out of memory")]
+    Memory,
+    /// An earlier call found no memory, and left open what the screen shows.
+    #[error("the screen has failed")]
+    Failed,
+}
+
+impl From<GridError> for ScreenError {
+    ghost from_gives = { λ _ e. e ≡ Memory };
+
+    fn from(_: GridError) -> ScreenError {
+        ScreenError::Memory
+    }
+}

@@ -1,0 +1,98 @@
+//! The screen of a terminal.
+ghost use Rattle.std.specs.Prelude.{◌≡◌, OnErr, IfOk, Err};
+ghost use Rattle.vt100_state.specs.State.{fresh_state};
+ghost use Rattle.vt100.specs.Tries.{alive};
+ghost use Rattle.vt100.specs.declared.error.ScreenError.TheVariants.{Memory};
+
+mod controls;
+mod erase;
+mod getters;
+mod motion;
+mod readers;
+mod reported;
+mod whole;
+mod wrapped;
+
+use crate::error::ScreenError;
+use std::alloc::Global;
+use std::marker::Model;
+use vt100_core::attrs::Attrs;
+use vt100_core::{CursorStyle, Grid, MouseProtocolEncoding, MouseProtocolMode, Scrollback, Size};
+pub use wrapped::WrappedScreen;
+
+/// The screen of a terminal: what it shows, and the modes that a program has set.
+#[derive(Debug, Drop)]
+pub struct Screen {
+    /// The sheet that is shown and drawn on: the alternate one where `alternate_screen` is set, else the main one.
+    grid: Grid,
+    /// The other one.
+    other_grid: Grid,
+    alternate_screen: bool,
+
+    attrs: Attrs,
+    saved_attrs: Attrs,
+
+    application_keypad: bool,
+    application_cursor: bool,
+    hide_cursor: bool,
+    bracketed_paste: bool,
+    mouse_protocol_mode: MouseProtocolMode,
+    mouse_protocol_encoding: MouseProtocolEncoding,
+    cursor_style: CursorStyle,
+
+    last_char: Option<char>,
+
+    /// Where its texts and new sheets come from.
+    alloc: Global,
+    /// Whether a call found no memory, so that what is shown is open.
+    failed: bool,
+}
+
+impl Model for Screen {
+    ghost use Rattle.vt100_state.specs.Call.{ScreenView};
+
+    ghost Value = { ScreenView };
+
+    ghost use Rattle.vt100.specs.ScreenFields.{screen_of, IsScreen};
+
+    ghost view = { screen_of };
+
+    ghost invariant = { IsScreen };
+}
+
+impl Screen {
+    pub(crate) fn new(
+        alloc: Global,
+        size: Size,
+        scrollback_capacity: usize,
+    ) -> Result<Self, ScreenError>
+        ensures screen { IfOk result (λ screen. screen ≡ alive (fresh_state size.rows.value size.cols.value scrollback_capacity)) }
+        ensures memory { OnErr result (result ≡ Err Memory) }
+    {
+        let mut grid = Grid::new(
+            alloc,
+            size,
+            Scrollback::Enabled {
+                capacity: scrollback_capacity,
+            },
+        );
+        grid.allocate_rows()?;
+        Ok(Screen {
+            grid,
+            other_grid: Grid::new(alloc, size, Scrollback::Disabled),
+            alternate_screen: false,
+            attrs: Attrs::new(),
+            saved_attrs: Attrs::new(),
+            application_keypad: false,
+            application_cursor: false,
+            hide_cursor: false,
+            bracketed_paste: false,
+            mouse_protocol_mode: MouseProtocolMode::None,
+            mouse_protocol_encoding: MouseProtocolEncoding::Default,
+            cursor_style: CursorStyle::Default,
+            last_char: None,
+            alloc,
+            failed: false,
+        })
+    }
+}

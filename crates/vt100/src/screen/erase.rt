@@ -1,0 +1,151 @@
+//! Control sequences by which cells and lines come in, go or are emptied.
+ghost use Rattle.std.specs.Prelude.{◌≡◌, true, false};
+ghost use Rattle.vt100.specs.Tries.{unless_failed, Counts};
+ghost use Rattle.vt100_state.specs.Step.{cells_added, cells_taken, cells_erased, lines_added, lines_taken, region_down};
+ghost use Rattle.vt100_state.specs.Effect.{display_erased, line_erased, styled};
+
+use crate::callbacks::Callbacks;
+use crate::screen::WrappedScreen;
+use crate::screen::reported::{Reporter, erase_kept};
+use vt100_core::CursorStyle;
+
+impl<CB: Callbacks> WrappedScreen<CB> {
+    /// Inserts default cells at the cursor; what falls off the row's end is gone (ICH).
+    pub fn ich(&mut self, count: u16)
+        ensures screen { self.new.screen ≡ unless_failed (cells_added count) self.old.screen }
+        ensures callbacks { self.new.callbacks ≡ self.old.callbacks }
+    {
+        if !self.screen.failed {
+            self.screen.grid.insert_cells(count);
+        }
+    }
+
+    /// Takes cells out at the cursor; default ones follow at the row's end (DCH).
+    pub fn dch(&mut self, count: u16)
+        ensures screen { self.new.screen ≡ unless_failed (cells_taken count) self.old.screen }
+        ensures callbacks { self.new.callbacks ≡ self.old.callbacks }
+    {
+        if !self.screen.failed {
+            self.screen.grid.delete_cells(count);
+        }
+    }
+
+    /// Empties cells from the cursor on, with the drawing attributes (ECH).
+    pub fn ech(&mut self, count: u16)
+        ensures screen { self.new.screen ≡ unless_failed (cells_erased count) self.old.screen }
+        ensures callbacks { self.new.callbacks ≡ self.old.callbacks }
+    {
+        if !self.screen.failed {
+            let attrs = self.screen.attrs;
+            self.screen.grid.erase_cells(count, attrs);
+        }
+    }
+
+    /// Inserts blank lines at the cursor's row, if it is in the scroll region (IL).
+    pub fn il(&mut self, count: u16)
+        ensures screen { self.new.screen ≡ unless_failed (lines_added count) self.old.screen }
+        ensures callbacks { self.new.callbacks ≡ self.old.callbacks }
+    {
+        if !self.screen.failed {
+            self.screen.grid.insert_lines(count);
+        }
+    }
+
+    /// Takes lines out at the cursor's row, if it is in the scroll region; blank ones follow at its end (DL).
+    pub fn dl(&mut self, count: u16)
+        ensures screen { self.new.screen ≡ unless_failed (lines_taken count) self.old.screen }
+        ensures callbacks { self.new.callbacks ≡ self.old.callbacks }
+    {
+        if !self.screen.failed {
+            self.screen.grid.delete_lines(count);
+        }
+    }
+
+    /// Moves the lines of the scroll region down; blank ones come in at its top (SD).
+    pub fn sd(&mut self, count: u16)
+        ensures screen { self.new.screen ≡ unless_failed (region_down count) self.old.screen }
+        ensures callbacks { self.new.callbacks ≡ self.old.callbacks }
+    {
+        if !self.screen.failed {
+            self.screen.grid.scroll_down(count);
+        }
+    }
+
+    /// Empties the screen from the cursor on (0), up to the cursor and at it (1), or whole (2), with the drawing attributes;
+    /// or takes the kept rows away, of which the callbacks are told (3) (ED). Answers how many sequences were unhandled: 1
+    /// at another number.
+    pub fn ed(&mut self, mode: u16) -> usize
+        ensures { Counts CB.scrolls (display_erased mode) self.old.screen self.old.callbacks result self.new.screen self.new.callbacks }
+    {
+        if self.screen.failed {
+            return 0;
+        }
+        let attrs = self.screen.attrs;
+        match mode {
+            0 => self.screen.grid.erase_all_forward(attrs),
+            1 => self.screen.grid.erase_all_backward(attrs),
+            2 => self.screen.grid.erase_all(attrs),
+            3 => {
+                let mut reporter = Reporter {
+                    callbacks: &mut self.callbacks,
+                    alternate_screen: self.screen.alternate_screen,
+                };
+                erase_kept(&mut self.screen.grid, &mut reporter);
+            }
+            _ => return 1,
+        }
+        0
+    }
+
+    /// The same (DECSED): no cell is protected from being erased.
+    pub fn decsed(&mut self, mode: u16) -> usize
+        ensures { Counts CB.scrolls (display_erased mode) self.old.screen self.old.callbacks result self.new.screen self.new.callbacks }
+    {
+        self.ed(mode)
+    }
+
+    /// Empties the cursor's row from the cursor on (0), up to the cursor and at it (1), or whole (2), with the drawing
+    /// attributes (EL). Answers how many sequences were unhandled: 1 at another number.
+    pub fn el(&mut self, mode: u16) -> usize
+        ensures { Counts CB.scrolls (line_erased mode) self.old.screen self.old.callbacks result self.new.screen self.new.callbacks }
+    {
+        if self.screen.failed {
+            return 0;
+        }
+        let attrs = self.screen.attrs;
+        match mode {
+            0 => self.screen.grid.erase_row_forward(attrs),
+            1 => self.screen.grid.erase_row_backward(attrs),
+            2 => self.screen.grid.erase_row(attrs),
+            _ => return 1,
+        }
+        0
+    }
+
+    /// The same (DECSEL): no cell is protected from being erased.
+    pub fn decsel(&mut self, mode: u16) -> usize
+        ensures { Counts CB.scrolls (line_erased mode) self.old.screen self.old.callbacks result self.new.screen self.new.callbacks }
+    {
+        self.el(mode)
+    }
+
+    /// Sets how the cursor looks (DECSCUSR). Answers how many sequences were unhandled: 1 past 6.
+    pub(crate) fn decscusr(&mut self, style: u16) -> usize
+        ensures { Counts CB.scrolls (styled style) self.old.screen self.old.callbacks result self.new.screen self.new.callbacks }
+    {
+        if self.screen.failed {
+            return 0;
+        }
+        self.screen.cursor_style = match style {
+            0 => CursorStyle::Default,
+            1 => CursorStyle::BlinkBlock,
+            2 => CursorStyle::SteadyBlock,
+            3 => CursorStyle::BlinkUnderline,
+            4 => CursorStyle::SteadyUnderline,
+            5 => CursorStyle::BlinkVerticalBar,
+            6 => CursorStyle::SteadyVerticalBar,
+            _ => return 1,
+        };
+        0
+    }
+}

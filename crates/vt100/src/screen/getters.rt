@@ -1,0 +1,179 @@
+//! What a screen answers about itself.
+ghost use Rattle.std.specs.Prelude.{◌≡◌, length, false, unwrap_or};
+ghost use Rattle.std.specs.Option.{option_copied, option_map};
+ghost use Rattle.vt100_forms.specs.Attrs.{is_bold, is_dim, is_italic, is_underlined, is_inverse};
+ghost use Rattle.vt100_core.specs.Grid.{cell_in, visible_row_at};
+
+use crate::screen::Screen;
+use std::num::NonZeroU16;
+use vt100_core::{Cell, Color, CursorStyle, MouseProtocolEncoding, MouseProtocolMode, Pos};
+
+impl Screen {
+    /// Whether a call found no memory. What a failed screen shows is open, and it doesn't change any more.
+    pub fn failed(&self) -> bool
+        ensures { result ≡ self.now.failed }
+    {
+        self.failed
+    }
+
+    /// How many rows and columns the screen has.
+    pub fn size(&self) -> (NonZeroU16, NonZeroU16)
+        ensures rows { result.0.value ≡ self.now.state.shown.height }
+        ensures cols { result.1.value ≡ self.now.state.shown.width }
+    {
+        let size = self.grid.size();
+        (size.rows, size.cols)
+    }
+
+    /// How many rows the shown sheet keeps.
+    pub fn scrollback_len(&self) -> usize
+        ensures { result ≡ length self.now.state.shown.kept.rows }
+    {
+        self.grid.scrollback_len()
+    }
+
+    /// How many rows the shown sheet keeps at most.
+    pub fn scrollback_capacity(&self) -> usize
+        ensures { result ≡ self.now.state.shown.kept.capacity }
+    {
+        self.grid.scrollback_capacity()
+    }
+
+    /// How many of the kept rows, from the newest back, are shown above the others.
+    pub fn scrollback(&self) -> usize
+        ensures { result ≡ self.now.state.shown.kept.offset }
+    {
+        self.grid.scrollback()
+    }
+
+    /// The cursor's row and column, counted from 0. The column is the number of columns where the next character wraps
+    /// first.
+    pub fn cursor_position(&self) -> (u16, u16)
+        ensures { result ≡ (self.now.state.shown.row, self.now.state.shown.col) }
+    {
+        let pos = self.grid.pos();
+        (pos.row, pos.col)
+    }
+
+    /// The cell that is shown at a place, counted from 0, if there is one. A kept row can be wider than the screen.
+    pub fn cell(&self, row: u16, col: u16) -> Option<&Cell>
+        ensures { option_copied result ≡ cell_in (visible_row_at self.now.state.shown row) col }
+    {
+        self.grid.visible_cell(Pos { row, col })
+    }
+
+    /// Whether the text of the row that is shown at `row`, counted from 0, goes on in the next one.
+    pub fn row_wrapped(&self, row: u16) -> bool
+        ensures { result ≡ unwrap_or (option_map (λ v. v.wrapped) (visible_row_at self.now.state.shown row)) false }
+    {
+        match self.grid.visible_row(row) {
+            Some(row) => row.wrapped(),
+            None => false,
+        }
+    }
+
+    /// Whether the alternate sheet is shown (modes 47 and 1049).
+    pub fn alternate_screen(&self) -> bool
+        ensures { result ≡ self.now.state.alternate }
+    {
+        self.alternate_screen
+    }
+
+    /// Whether the keypad sends application sequences (DECKPAM).
+    pub fn application_keypad(&self) -> bool
+        ensures { result ≡ self.now.state.modes.keypad }
+    {
+        self.application_keypad
+    }
+
+    /// Whether the cursor keys send application sequences (DECCKM, mode 1).
+    pub fn application_cursor(&self) -> bool
+        ensures { result ≡ self.now.state.modes.cursor_keys }
+    {
+        self.application_cursor
+    }
+
+    /// Whether the cursor is hidden (mode 25 reset).
+    pub fn hide_cursor(&self) -> bool
+        ensures { result ≡ self.now.state.hidden }
+    {
+        self.hide_cursor
+    }
+
+    /// Whether a paste comes between marks (mode 2004).
+    pub fn bracketed_paste(&self) -> bool
+        ensures { result ≡ self.now.state.modes.paste }
+    {
+        self.bracketed_paste
+    }
+
+    /// Which events of the mouse the program is told of.
+    pub fn mouse_protocol_mode(&self) -> MouseProtocolMode
+        ensures { result ≡ self.now.state.modes.mouse }
+    {
+        self.mouse_protocol_mode
+    }
+
+    /// How it is told of them.
+    pub fn mouse_protocol_encoding(&self) -> MouseProtocolEncoding
+        ensures { result ≡ self.now.state.modes.encoding }
+    {
+        self.mouse_protocol_encoding
+    }
+
+    /// How the cursor looks (DECSCUSR).
+    pub fn cursor_style(&self) -> CursorStyle
+        ensures { result ≡ self.now.state.style }
+    {
+        self.cursor_style
+    }
+
+    /// The foreground colour with which the next character is drawn.
+    pub fn fgcolor(&self) -> Color
+        ensures { result ≡ self.now.state.attrs.fgcolor }
+    {
+        self.attrs.fgcolor
+    }
+
+    /// The background colour with which the next character is drawn.
+    pub fn bgcolor(&self) -> Color
+        ensures { result ≡ self.now.state.attrs.bgcolor }
+    {
+        self.attrs.bgcolor
+    }
+
+    /// Whether the next character is drawn bold.
+    pub fn bold(&self) -> bool
+        ensures { result ≡ is_bold self.now.state.attrs }
+    {
+        self.attrs.bold()
+    }
+
+    /// Whether the next character is drawn dim.
+    pub fn dim(&self) -> bool
+        ensures { result ≡ is_dim self.now.state.attrs }
+    {
+        self.attrs.dim()
+    }
+
+    /// Whether the next character is drawn in italics.
+    pub fn italic(&self) -> bool
+        ensures { result ≡ is_italic self.now.state.attrs }
+    {
+        self.attrs.italic()
+    }
+
+    /// Whether the next character is drawn underlined.
+    pub fn underline(&self) -> bool
+        ensures { result ≡ is_underlined self.now.state.attrs }
+    {
+        self.attrs.underline()
+    }
+
+    /// Whether the next character is drawn with foreground and background swapped.
+    pub fn inverse(&self) -> bool
+        ensures { result ≡ is_inverse self.now.state.attrs }
+    {
+        self.attrs.inverse()
+    }
+}

@@ -1,0 +1,131 @@
+//! Calls on a sheet that tell callbacks of the rows that leave it.
+ghost use Rattle.std.specs.Prelude.{◌≡◌, ◌++◌, OnOk, IfOk, true, false};
+ghost use Rattle.vt100_core.specs.Grid.{IsAllocated, SameLimits};
+ghost use Rattle.vt100_core.specs.Scroll.{fed, scrolled_up, scrollback_erased};
+ghost use Rattle.vt100_core.specs.Resize.{resized};
+ghost use Rattle.vt100_core.specs.Text.{printed};
+ghost use Rattle.vt100_state.specs.Step.{reports_of};
+ghost use Rattle.vt100_state.specs.Call.{Hears};
+
+use crate::callbacks::Callbacks;
+use vt100_core::attrs::Attrs;
+use vt100_core::capture::RowContents;
+use vt100_core::{Grid, GridError, Printed, Row, RowSink, Size};
+
+/// Tells callbacks of the rows that leave a sheet.
+#[derive(Drop)]
+pub(super) struct Reporter<'a, CB> {
+    pub(super) callbacks: &'a mut CB,
+    pub(super) alternate_screen: bool,
+}
+
+impl<'a, CB: Callbacks> RowSink for Reporter<'a, CB> {
+    ghost takes = { λ s v t. CB.scrolls s.callbacks.now v s.alternate_screen t.callbacks.now × (t.alternate_screen ≡ s.alternate_screen) × (t.callbacks.ghost_name ≡ s.callbacks.ghost_name) };
+
+    fn row(&mut self, row: &Row) {
+        self.callbacks
+            .on_scroll(RowContents::new(row), self.alternate_screen);
+    }
+}
+
+/// A character.
+#[inline]
+pub(super) fn print<CB: Callbacks>(
+    grid: &mut Grid,
+    reporter: &mut Reporter<'_, CB>,
+    c: char,
+    attrs: Attrs,
+) -> Result<Printed, GridError>
+    requires { IsAllocated grid.old }
+    ensures grid { OnOk result (grid.new ≡ (printed grid.old c attrs).grid) }
+    ensures answer { IfOk result (λ p. p ≡ (printed grid.old c attrs).printed) }
+    ensures same { reporter.new.callbacks.ghost_name ≡ reporter.old.callbacks.ghost_name }
+    ensures hears { Hears CB.scrolls reporter.old.callbacks.now (reports_of reporter.old.alternate_screen (printed grid.old c attrs).sunk) reporter.new.callbacks.now }
+    ensures limits { SameLimits grid.old grid.new }
+    ensures allocated { IsAllocated grid.new }
+{
+    grid.text(c, attrs, reporter)
+}
+
+/// A line feed.
+#[inline]
+pub(super) fn line_feed<CB: Callbacks>(
+    grid: &mut Grid,
+    reporter: &mut Reporter<'_, CB>,
+) -> Result<u16, GridError>
+    requires { IsAllocated grid.old }
+    ensures grid { OnOk result (grid.new ≡ (fed grid.old 1).grid) }
+    ensures same { reporter.new.callbacks.ghost_name ≡ reporter.old.callbacks.ghost_name }
+    ensures hears { Hears CB.scrolls reporter.old.callbacks.now (reports_of reporter.old.alternate_screen (fed grid.old 1).sunk) reporter.new.callbacks.now }
+    ensures limits { SameLimits grid.old grid.new }
+    ensures allocated { IsAllocated grid.new }
+{
+    grid.row_inc_scroll(1, reporter)
+}
+
+/// The scroll region moves up.
+#[inline]
+pub(super) fn scroll_up<CB: Callbacks>(
+    grid: &mut Grid,
+    reporter: &mut Reporter<'_, CB>,
+    count: u16,
+) -> Result<(), GridError>
+    requires { IsAllocated grid.old }
+    ensures grid { OnOk result (grid.new ≡ (scrolled_up grid.old count).grid) }
+    ensures same { reporter.new.callbacks.ghost_name ≡ reporter.old.callbacks.ghost_name }
+    ensures hears { Hears CB.scrolls reporter.old.callbacks.now (reports_of reporter.old.alternate_screen (scrolled_up grid.old count).sunk) reporter.new.callbacks.now }
+    ensures limits { SameLimits grid.old grid.new }
+    ensures allocated { IsAllocated grid.new }
+{
+    grid.scroll_up(count, reporter)
+}
+
+/// The kept rows go.
+pub(super) fn erase_kept<CB: Callbacks>(grid: &mut Grid, reporter: &mut Reporter<'_, CB>)
+    requires { IsAllocated grid.old }
+    ensures grid { grid.new ≡ scrollback_erased grid.old }
+    ensures same { reporter.new.callbacks.ghost_name ≡ reporter.old.callbacks.ghost_name }
+    ensures hears { Hears CB.scrolls reporter.old.callbacks.now (reports_of reporter.old.alternate_screen grid.old.kept.rows) reporter.new.callbacks.now }
+    ensures allocated { IsAllocated grid.new }
+{
+    grid.erase_all_scrollback(reporter);
+}
+
+/// Another size.
+fn resize<CB: Callbacks>(
+    grid: &mut Grid,
+    reporter: &mut Reporter<'_, CB>,
+    size: Size,
+) -> Result<(), GridError>
+    ensures grid { OnOk result (grid.new ≡ (resized grid.old size.rows.value size.cols.value).grid) }
+    ensures same { reporter.new.callbacks.ghost_name ≡ reporter.old.callbacks.ghost_name }
+    ensures hears { Hears CB.scrolls reporter.old.callbacks.now (reports_of reporter.old.alternate_screen (resized grid.old size.rows.value size.cols.value).sunk) reporter.new.callbacks.now }
+    ensures allocated { IsAllocated grid.old → IsAllocated grid.new }
+{
+    grid.set_size(size, reporter)
+}
+
+/// Another size of the main sheet, and then of the alternate one.
+#[tactic(auto, using(crate::proofs::HearLemmas::hears_append))]
+pub(super) fn resize_both<CB: Callbacks>(
+    main: &mut Grid,
+    alternate: &mut Grid,
+    callbacks: &mut CB,
+    size: Size,
+) -> Result<(), GridError>
+    ensures main { OnOk result (main.new ≡ (resized main.old size.rows.value size.cols.value).grid) }
+    ensures alternate { OnOk result (alternate.new ≡ (resized alternate.old size.rows.value size.cols.value).grid) }
+    ensures hears { OnOk result (Hears CB.scrolls callbacks.old
+        (reports_of false (resized main.old size.rows.value size.cols.value).sunk ++ reports_of true (resized alternate.old size.rows.value size.cols.value).sunk)
+        callbacks.new) }
+    ensures main_allocated { IsAllocated main.old → IsAllocated main.new }
+    ensures alternate_allocated { IsAllocated alternate.old → IsAllocated alternate.new }
+{
+    let mut reporter = Reporter {
+        callbacks,
+        alternate_screen: false,
+    };
+    resize(main, &mut reporter, size)?;
+    reporter.alternate_screen = true;
+    resize(alternate, &mut reporter, size)
+}

@@ -1,0 +1,16 @@
+-- Answers for laws::main_sheet_comes_back: by computing.
+use Rattle.std.proofs.Common.{refl}
+use Rattle.unicode_width.specs.Width.{char_width}
+use Rattle.vt100_state.proofs.laws.main_sheet_comes_back.Goals as goal
+
+pub returns-clause-alternate : goal.returns-clause-alternate
+unfolding char_width
+returns-clause-alternate c = refl
+
+pub returns-clause-main : goal.returns-clause-main
+unfolding char_width
+returns-clause-main c = refl
+
+pub returns-clause-cursor : goal.returns-clause-cursor
+unfolding char_width
+returns-clause-cursor c = refl

@@ -1,0 +1,8 @@
+-- Answers for laws::red_is_drawn: by computing.
+use Rattle.std.proofs.Common.{refl}
+use Rattle.unicode_width.specs.Width.{char_width}
+use Rattle.vt100_state.proofs.laws.red_is_drawn.Goals as goal
+
+pub returns : goal.returns
+unfolding char_width
+returns c = refl

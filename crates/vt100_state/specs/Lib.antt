@@ -1,0 +1,9 @@
+pub mod Lookup
+pub mod State
+pub mod Step
+pub mod Call
+pub mod Sgr
+pub mod PrivateModes
+pub mod Effect
+pub mod Made
+pub mod Rows

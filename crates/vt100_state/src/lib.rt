@@ -1,0 +1,4 @@
+//! What a terminal is, and what a program's bytes make of it.
+#![tactic(auto)]
+
+pub mod laws;
