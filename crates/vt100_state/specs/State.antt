@@ -2,22 +2,11 @@
 use Rattle.std.specs.Prelude.{ℕ, ◌+◌, ◌≡◌, ◌==◌, Bool, true, false, not, ◌&&◌, Option, None, if◌then◌else◌}
 use Rattle.vt100_forms.specs.Attrs.{default_attrs, IsProper}
 use Rattle.vt100_forms.specs.declared.attrs.Attrs.{Attrs}
-use Rattle.vt100_forms.specs.declared.modes.MouseProtocolMode.{MouseProtocolMode}
-use Rattle.vt100_forms.specs.declared.modes.MouseProtocolMode.TheVariants as mouse
-use Rattle.vt100_forms.specs.declared.modes.MouseProtocolEncoding.{MouseProtocolEncoding}
-use Rattle.vt100_forms.specs.declared.modes.MouseProtocolEncoding.TheVariants as encoding
 use Rattle.vt100_forms.specs.declared.modes.CursorStyle.{CursorStyle}
 use Rattle.vt100_forms.specs.declared.modes.CursorStyle.TheVariants as style
+use Rattle.vt100_picture.specs.Term.{Modes, default_modes}
 use Rattle.vt100_core.specs.Grid.{GridView, IsGrid, IsAllocated, new_grid, allocated}
 use Rattle.vt100_core.specs.declared.scrollback.Scrollback.TheVariants.{Disabled, Enabled}
-
--- which reports a program wants for keys, pastes and the mouse
-pub record Modes : Type 0 where
-  pub keypad : Bool
-  pub cursor_keys : Bool
-  pub paste : Bool
-  pub mouse : MouseProtocolMode
-  pub encoding : MouseProtocolEncoding
 
 pub record State : Type 0 where
   -- the sheet that is shown and drawn on, and the other one
@@ -42,9 +31,6 @@ abbrev pub alternate_sheet : State → GridView
 alternate_sheet s = if s.alternate then s.shown else s.other
 
 -- ---- at first
-
-abbrev pub default_modes : Modes
-default_modes = record { keypad = false; cursor_keys = false; paste = false; mouse = mouse.None; encoding = encoding.Default }
 
 -- a blank main sheet that keeps so many rows, and an alternate one that has no rows until it is used and keeps none
 abbrev pub fresh_state : ℕ → ℕ → ℕ → State

@@ -11,7 +11,8 @@ use Rattle.vt100_core.specs.Resize.{resized}
 use Rattle.vt100_core.specs.Text.{printed}
 use Rattle.vt100_core.specs.declared.printed.Printed.{Printed}
 use Rattle.vt100_core.specs.declared.printed.Printed.TheVariants.{Nothing, Spacing, Joined}
-use Rattle.vt100_state.specs.State.{State, Modes, main_sheet, alternate_sheet, fresh_state}
+use Rattle.vt100_picture.specs.Term.{Modes}
+use Rattle.vt100_state.specs.State.{State, main_sheet, alternate_sheet, fresh_state}
 
 -- a row that has left for good, and whether it was one of the alternate sheet
 pub record Report : Type 0 where
