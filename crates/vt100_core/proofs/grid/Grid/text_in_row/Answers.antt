@@ -16,8 +16,8 @@ pub returns-clause-some : goal.returns-clause-some
 returns-clause-some g c =
     let wide : 0 < c.args.self.now.width = subst (λ (x : GridView). 0 < x.width) c.self.view_is c.self.invariant.some_cols in
     let m = IsMade-made c.args.self.now 1 true wide in
-    let h = c.col_wrap.new.self in
-    let e = c.in_ok-col_wrap.ensures.grid in
+    let h = c.make_room.new.self in
+    let e = c.in_ok-make_room.ensures.grid in
     let one : h.col + 1 ≤ h.width = subst (λ (x : GridView). x.col + 1 ≤ x.width) (sym e) m.fits in
     let same : h.width ≡ c.args.self.now.width = ap (λ (x : GridView). x.width) e ∙ m.width in
     let col : c.self-2.inside.pos.col ≡ h.col = ap (λ (x : GridView). x.col) c.self-2.view_is in
