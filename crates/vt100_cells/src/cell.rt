@@ -80,7 +80,7 @@ impl Eq for Cell {
 
 impl Cell {
     ghost use Rattle.std.specs.Prelude.{Some};
-    ghost use Rattle.vt100_cells.specs.Cell.{empty_cell, default_cell, continuation_cell, cell_of, appended, drawn_columns, has_text, is_default, IsPrintable};
+    ghost use Rattle.vt100_cells.specs.Cell.{empty_cell, default_cell, continuation_cell, cell_of, appended, drawn_columns, has_room, has_text, is_default, IsPrintable};
 
     /// A cell that shows nothing, with default attributes.
     pub fn new() -> Self
@@ -144,6 +144,15 @@ impl Cell {
             span: self.span,
             attrs: self.attrs,
         }
+    }
+
+    /// Whether the text takes one more zero-width character. For rows alone.
+    #[doc(hidden)]
+    #[inline]
+    pub fn has_room(&self) -> bool
+        ensures { result ≡ has_room self.now.text }
+    {
+        self.text.has_room()
     }
 
     /// The cell with one more zero-width character, which is dropped where 18 bytes or more are kept. U+FE0F can make

@@ -1,5 +1,5 @@
 //! The text of a cell, which lies in the cell itself.
-ghost use Rattle.std.specs.Prelude.{◌≡◌, ℕ, ◌+◌, ◌-◌, ◌<◌, ◌≤◌, ◌==◌, List, [], ◌∷◌, ◌++◌, length, IsTrue, encode_utf8_all, chars, nat_eq, nat_lt, not, true, false, ◌&&◌};
+ghost use Rattle.std.specs.Prelude.{◌≡◌, ℕ, ◌+◌, ◌-◌, ◌<◌, ◌≤◌, ◌==◌, List, [], ◌∷◌, ◌++◌, length, IsTrue, encode_utf8_all, chars, slice_set, slice_index, nat_eq, nat_lt, not, true, false, ◌&&◌};
 ghost use Rattle.std.specs.Char.{IsScalar};
 ghost use Rattle.unicode_width.specs.Width.{str_width};
 
@@ -139,6 +139,7 @@ impl CellText {
     }
 
     /// Puts a character at the end.
+    #[inline]
     pub(crate) fn push(&mut self, c: char)
         requires { has_room self.old ≡ true }
         ensures { self.new ≡ self.old ++ c ∷ [] }
@@ -147,7 +148,33 @@ impl CellText {
         let encoded = c.encode_utf8(&mut buffer);
         let start = self.len as usize;
         let end = start + encoded.len();
-        self.bytes[start..end].copy_from_slice(encoded.as_bytes());
+        copy_up_to_four(&mut self.bytes[start..end], encoded.as_bytes());
         self.len = end as u8;
+    }
+}
+
+/// Copies at most four bytes.
+// A copy of so few bytes, but of no fixed number, would be a call of `memcpy`.
+#[inline]
+fn copy_up_to_four(to: &mut [u8], from: &[u8])
+    requires same { length to.old ≡ length from.now }
+    requires few { length from.now ≤ 4 }
+    ensures { to.new ≡ from.now }
+{
+    copy_byte(to, from, 0);
+    copy_byte(to, from, 1);
+    copy_byte(to, from, 2);
+    copy_byte(to, from, 3);
+}
+
+/// Copies the byte at position `i`, if there is one.
+#[inline]
+fn copy_byte(to: &mut [u8], from: &[u8], i: usize)
+    requires { length to.old ≡ length from.now }
+    ensures value { to.new ≡ slice_set to.old i (slice_index from.now i) }
+    ensures len { length to.new ≡ length to.old }
+{
+    if i < from.len() {
+        to[i] = from[i];
     }
 }

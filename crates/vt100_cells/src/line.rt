@@ -114,7 +114,7 @@ pub fn wipes_end(cells: &[Cell], s: usize, e: usize) -> bool
 }
 
 /// Puts `cell` at column `i`, with the drawing attributes, over what stands there.
-#[inline]
+#[inline(always)]
 pub fn put(cells: &mut [Cell], i: usize, cell: Cell, attrs: Attrs)
     requires in_row { i + span_of cell ≤ length cells.old }
     ensures { cells.new ≡ by_position (length cells.old) (put (cell_at cells.old) i cell attrs) }

@@ -1,10 +1,11 @@
 -- A zero-width character in a row.
 use Rattle.std.proofs.Common.{◌≡◌, ℕ, ◌+◌, ◌-◌, ◌<◌, ◌≤◌, ◌==◌, Bool, true, false, cond, not, ◌&&◌, ◌||◌, List, [], ◌∷◌, ◌++◌, length, set, Some, sym, refl, ap, ◌∙◌, arith, ⊎_elim, nat_lt}
 use Rattle.std.specs.Char.{IsScalar}
+use Rattle.std.proofs.lemmas.List.{set-get_or}
 use Rattle.std.proofs.lemmas.Bool.{false≢true, cases_eq, eq-eqb, ne_eqb, and_parts, cond_both, ltb-true, not-true}
 use Rattle.std.proofs.lemmas.Bool.Decides.{nat_tests}
 use Rattle.vt100_forms.specs.declared.attrs.Attrs.{Attrs}
-use Rattle.vt100_cells.specs.Cell.{CellView, IsCell, IsWideAs, has_text, is_filled, has_room, text_with, is_widened_by, appended, drawn_columns}
+use Rattle.vt100_cells.specs.Cell.{CellView, IsCell, IsWideAs, has_text, is_filled, has_room, text_with, is_widened_by, appended, drawn_columns, default_cell}
 use Rattle.vt100_cells.specs.Line.{IsPaired, Bounded, span_of, update, put, base_col}
 use Rattle.vt100_cells.specs.Cells.{cell_at, by_position}
 use Rattle.vt100_rows.specs.Row.{RowView, IsRow, joined_cell, is_widening, joined_row, join_row, placed, wiped_row}
@@ -98,3 +99,20 @@ joins-in_place v xs ys col n i c x y a exs eys en ei ey ex narrow h l =
     (λ k. record { cells = cells k; wrapped = v.wrapped })
     ∙ ap (λ b. cond (not b) (joined_row v col c)
     (cond (length v.cells == 1) v (cond (nat_lt col (length v.cells)) (placed v (col - 1) (joined_cell v col c) a) (wiped_row v (col - 1) col a)))) (sym same)
+
+-- ---- a cell that takes no more
+
+same-width-twice : (b : Bool) → (b && not b) ≡ false
+same-width-twice true = refl
+same-width-twice false = refl
+
+appended-full : (x : CellView) (c : ℕ) → has_room x.text ≡ false → appended x c ≡ x
+appended-full x c full = ap (λ b. cond b (record { text = text_with x.text c; wide = x.wide || is_widened_by x.text c; continuation = x.continuation; attrs = x.attrs }) x) full
+
+pub joins-full : (v : RowView) (xs ys : List CellView) (col n i c : ℕ) (y : CellView) (a : Attrs) → xs ≡ v.cells → ys ≡ v.cells → n ≡ col → i ≡ base_col (cell_at xs) n → y ≡ cell_at ys i → has_room y.text ≡ false
+    → 0 < col → col ≤ length v.cells → v ≡ join_row v col c a
+joins-full v xs ys col n i c y a exs eys en ei ey full h l =
+    let old : y ≡ cell_at v.cells i = ey ∙ ap (λ (zs : List CellView). cell_at zs i) eys in
+    let same : set v.cells i y ≡ v.cells = ap (set v.cells i) old ∙ set-get_or v.cells i default_cell in
+    (λ k. record { cells = sym same k; wrapped = v.wrapped })
+    ∙ joins-in_place v xs ys col n i c y y a exs eys en ei ey (sym (appended-full y c full)) (same-width-twice y.wide) h l

@@ -237,7 +237,7 @@ impl Row {
     /// A wide character that this covers in part is gone: its first half is emptied and keeps its attributes; its
     /// second half becomes a space with the drawing attributes, or is emptied with them where `c` is wide itself.
     #[doc(hidden)]
-    #[inline]
+    #[inline(always)]
     pub fn put(&mut self, col: u16, c: char, columns: u16, attrs: Attrs)
         requires drawn { drawn_columns c ≡ Some columns }
         requires spacing { 0 < columns }
@@ -250,7 +250,7 @@ impl Row {
     /// Puts a cell that has a text at column `col`. What it covers goes as [`put`](Self::put) says, with the drawing
     /// attributes `attrs`.
     #[doc(hidden)]
-    #[inline]
+    #[inline(always)]
     pub fn put_cell(&mut self, col: u16, cell: Cell, attrs: Attrs)
         requires text { has_text cell ≡ true }
         requires in_row { col + span_of cell ≤ length self.old.cells }
@@ -290,6 +290,9 @@ impl Row {
         ensures answer { result ≡ join_answer self.old col c attrs }
     {
         let base = base_col(&self.cells, usize::from(col));
+        if !at(&self.cells, base).has_room() {
+            return Join::InPlace;
+        }
         let cell = *at(&self.cells, base);
         let joined = cell.joined(c);
         if !is_widened(&cell, &joined) {

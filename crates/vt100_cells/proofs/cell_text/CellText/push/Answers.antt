@@ -5,20 +5,20 @@ use Rattle.std.proofs.lemmas.Str.{IsUtf8-encode}
 use Rattle.vt100_cells.proofs.CellTextLemmas.{len-text_of, IsText-push, text_of-push}
 use Rattle.vt100_cells.proofs.cell_text.CellText.push.Goals as goal
 
-pub slice_bounds-copy_from_slice-end : goal.slice_bounds-copy_from_slice-end
-slice_bounds-copy_from_slice-end c =
+pub slice_bounds-copy_up_to_four-end : goal.slice_bounds-copy_up_to_four-end
+slice_bounds-copy_up_to_four-end c =
     let n = len-text_of c.self.inside c.args.self.now c.self.invariant c.self.view_is in
     let room = ltb-true (length (encode_utf8_all c.args.self.now)) 18 c.requires in
     omega (arith, n, room, c.encode_utf8-encoded.ensures.upper_bound)
 
 pub invariant_of-self : goal.invariant_of-self
 invariant_of-self c =
-    IsText-push c.self.inside c.args.self.now _ _ c.copy_from_slice.new.self c.args.c c.self.invariant c.self.view_is c.requires
-    (c.copy_from_slice.ensures.after ∙ c.as_bytes.ensures.value ∙ c.encode_utf8-encoded.ensures.value)
+    IsText-push c.self.inside c.args.self.now _ _ c.copy_up_to_four.new.to c.args.c c.self.invariant c.self.view_is c.requires
+    (c.copy_up_to_four.ensures ∙ c.as_bytes.ensures.value ∙ c.encode_utf8-encoded.ensures.value)
     (ap length c.encode_utf8-encoded.ensures.value) (omega arith) (IsUtf8-encode c.args.c c.ranges.c.0)
 
 pub returns : goal.returns
 returns c =
-    text_of-push c.self.inside c.args.self.now _ _ c.copy_from_slice.new.self c.args.c c.self.invariant c.self.view_is c.requires
-    (c.copy_from_slice.ensures.after ∙ c.as_bytes.ensures.value ∙ c.encode_utf8-encoded.ensures.value)
+    text_of-push c.self.inside c.args.self.now _ _ c.copy_up_to_four.new.to c.args.c c.self.invariant c.self.view_is c.requires
+    (c.copy_up_to_four.ensures ∙ c.as_bytes.ensures.value ∙ c.encode_utf8-encoded.ensures.value)
     (ap length c.encode_utf8-encoded.ensures.value) (omega arith) c.ranges.c.0

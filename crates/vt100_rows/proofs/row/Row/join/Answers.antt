@@ -1,15 +1,23 @@
 use Rattle.std.proofs.Common.{ap, ◌∙◌, sym, ◌≤◌, length, arith}
 use Rattle.vt100_rows.specs.Row.{RowView, join_row}
 use Rattle.vt100_rows.proofs.RowLemmas.{IsRow-at}
-use Rattle.vt100_rows.proofs.JoinLemmas.{IsRow-join, joins-in_place}
+use Rattle.vt100_rows.proofs.JoinLemmas.{IsRow-join, joins-in_place, joins-full}
 use Rattle.vt100_rows.proofs.row.Row.join.Goals as goal
 
 pub returns-then-not-is_widened-clause-row : goal.returns-then-not-is_widened-clause-row
 returns-then-not-is_widened-clause-row c =
     let within : c.args.col ≤ length c.self.inside.cells.items = omega (arith, c.requires.in_row, ap (λ (v : RowView). length v.cells) c.self.view_is) in
-    joins-in_place (record { cells = c.self.inside.cells.items; wrapped = c.self.inside.wrapped }) c.deref.result.now c.deref-2.result.now c.args.col c.from.result c.base_col-base.result c.args.c
-    c.joined-joined.result c.at.result.now c.args.attrs c.deref.ensures.value c.deref-2.ensures.value c.from.ensures c.base_col-base.ensures c.at.ensures c.joined-joined.ensures
+    joins-in_place (record { cells = c.self.inside.cells.items; wrapped = c.self.inside.wrapped }) c.deref.result.now c.deref-3.result.now c.args.col c.from.result c.base_col-base.result c.args.c
+    c.joined-joined.result c.at-2.result.now c.args.attrs c.deref.ensures.value c.deref-3.ensures.value c.from.ensures c.base_col-base.ensures c.at-2.ensures c.joined-joined.ensures
     (sym c.is_widened.ensures ∙ c.if-not-is_widened.true) c.requires.after_some within
+    ∙ ap (λ (v : RowView). join_row v c.args.col c.args.c c.args.attrs) c.self.view_is
+
+pub returns-then-not-has_room-clause-row : goal.returns-then-not-has_room-clause-row
+returns-then-not-has_room-clause-row c =
+    let within : c.args.col ≤ length c.self.inside.cells.items = omega (arith, c.requires.in_row, ap (λ (v : RowView). length v.cells) c.self.view_is) in
+    sym c.self.view_is ∙ joins-full (record { cells = c.self.inside.cells.items; wrapped = c.self.inside.wrapped }) c.deref.result.now c.deref-2.result.now c.args.col c.from.result c.base_col-base.result c.args.c
+    c.at.result.now c.args.attrs c.deref.ensures.value c.deref-2.ensures.value c.from.ensures c.base_col-base.ensures c.at.ensures
+    (sym c.has_room.ensures ∙ c.if-not-has_room.true) c.requires.after_some within
     ∙ ap (λ (v : RowView). join_row v c.args.col c.args.c c.args.attrs) c.self.view_is
 
 pub invariant_of-self : goal.invariant_of-self
