@@ -65,6 +65,15 @@ impl<'a, H: Handler, T: Timeout> Perform for Performer<'a, H, T> {
         self.state.preceding_char = Some(c);
     }
 
+    fn print_str(&mut self, text: &str) {
+        let mut last = self.state.preceding_char;
+        for c in text.chars() {
+            self.handler.input(c);
+            last = Some(c);
+        }
+        self.state.preceding_char = last;
+    }
+
     fn execute(&mut self, byte: u8) {
         execute(self.handler, byte);
     }
