@@ -1,5 +1,6 @@
 -- Printed text, with the last character stored once, after it.
-use Rattle.std.proofs.Common.{◌≡◌, ◌∙◌, sym, ap, subst, refl, ℕ, Bool, true, false, List, [], ◌∷◌, ◌++◌, Option, Some, ◌||◌, map}
+use Rattle.std.proofs.Common.{◌≡◌, ◌∙◌, sym, ap, refl, ℕ, Bool, true, false, List, [], ◌∷◌, ◌++◌, Option, Some, ◌||◌, map, take, length, ◌≤◌, arith}
+use Rattle.std.proofs.lemmas.Grind.{common_steps}
 use Rattle.vte_core.specs.Event.{Event, Print, Performs}
 use Rattle.vte_core.proofs.Telling.{performs-append, same_events}
 use Rattle.vte_types.specs.Call as call
@@ -27,12 +28,15 @@ still false = refl
 
 -- one more character, handed over
 pub printed-more : {H T : Type 0} (step : H → Call → H → Type 0) (sets : T → ℕ → T → Type 0) (clears : T → T → Type 0) (old p q : Performer H T)
-    (last : Option ℕ) (cs : List ℕ) (c : ℕ) → Performs (Steps step sets clears) old (map Print cs) (with_last p last)
+    (last : Option ℕ) (cs : List ℕ) (c : ℕ) (ds : List ℕ) → ds ≡ cs ++ c ∷ [] → Performs (Steps step sets clears) old (map Print cs) (with_last p last)
     → step p.handler.now (call.input c) q.handler.now → q.handler.ghost_name ≡ p.handler.ghost_name → q.state ≡ p.state → q.terminated ≡ p.terminated
-    → Performs (Steps step sets clears) old (map Print (cs ++ c ∷ [])) (with_last q (Some c))
-printed-more {H} {T} step sets clears old p q last cs c before input named state terminated =
+    → Performs (Steps step sets clears) old (map Print ds) (with_last q (Some c))
+printed-more {H} {T} step sets clears old p q last cs c ds more before input named state terminated =
     let one : Steps step sets clears (with_last p last) (Print c) (with_last q (Some c)) =
         (record { calls = λ fits. (q.handler.now, input, refl); printed = refl; ticked = ap (λ s. s.now.timeout) state; ends = terminated ∙ still p.terminated },
             named, ap (λ s. s.ghost_name) state) in
-    same_events (Steps step sets clears) old (with_last q (Some c)) (map Print cs ++ Print c ∷ []) (map Print (cs ++ c ∷ [])) (map-last cs c)
+    same_events (Steps step sets clears) old (with_last q (Some c)) (map Print cs ++ Print c ∷ []) (map Print ds) (map-last cs c ∙ ap (map Print) (sym more))
     (performs-append (Steps step sets clears) old (with_last p last) (with_last q (Some c)) (map Print cs) (Print c ∷ []) before (with_last q (Some c), one, refl))
+
+pub all_taken : (xs : List ℕ) (i : ℕ) → length xs ≤ i → take i xs ≡ xs
+all_taken xs i h = grind (arith, common_steps)
