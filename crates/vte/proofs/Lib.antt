@@ -1,6 +1,7 @@
 pub mod Splits
 pub mod Joins
 pub mod RunLemmas
+pub mod PrintLemmas
 pub mod HoldLemmas
 pub mod MarkLemmas
 pub mod AskLemmas

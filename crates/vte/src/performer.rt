@@ -8,6 +8,9 @@ use crate::timeout::Timeout;
 use vte_core::{Event, Params, Perform};
 use vte_types::handler::Handler;
 
+/// From how many bytes on it's worth while to ask whether a text is ASCII alone, which needs no decoding.
+const LONG_TEXT: usize = 16;
+
 /// What is kept from event to event.
 #[derive(Drop)]
 pub struct ProcessorState<T> {
@@ -63,6 +66,24 @@ impl<'a, H: Handler, T: Timeout> Perform for Performer<'a, H, T> {
     fn print(&mut self, c: char) {
         self.handler.input(c);
         self.state.preceding_char = Some(c);
+    }
+
+    fn print_str(&mut self, text: &str) {
+        let mut last = self.state.preceding_char;
+        if text.len() >= LONG_TEXT && text.is_ascii() {
+            for byte in text.as_bytes() {
+                let c = *byte as char;
+                self.handler.input(c);
+                last = Some(c);
+            }
+            self.state.preceding_char = last;
+            return;
+        }
+        for c in text.chars() {
+            self.handler.input(c);
+            last = Some(c);
+        }
+        self.state.preceding_char = last;
     }
 
     fn execute(&mut self, byte: u8) {
