@@ -13,8 +13,8 @@ use Rattle.vte_core.proofs.GroundTextLemmas.{ends_in_text-last}
 use Rattle.vte_core.specs.Bytes.{is_esc}
 use Rattle.vte_core.specs.Added.{added}
 use Rattle.vte_core.specs.GroundText.{ends_in_text}
-use Rattle.vte_core.specs.Laws.{AsksAsSaid, StopsAsSaid}
-use Rattle.vte_core.specs.Stopping.{StopsAt, is_text, runs_on, ends_run, asks_at, PassedBy}
+use Rattle.vte_core.specs.Laws.{AsksAsSaid}
+use Rattle.vte_core.specs.Stopping.{StopsAt, Stops, is_text, runs_on, ends_run, asks_at, PassedBy}
 use Rattle.vte_core.specs.Standing.{IsAt, state_is_text}
 use Rattle.vte_core.specs.declared.Parser.{Parser}
 
@@ -167,7 +167,8 @@ stops-within {S} step terminated n q asked (b ∷ bs) old k new h =
           omega (arith, i, more)
     ]
 
-pub stops-said : {S : Type 0} (step : S → Event → S → Type 0) (terminated : S → Bool) → StopsAsSaid step terminated
+pub stops-said : {S : Type 0} (step : S → Event → S → Type 0) (terminated : S → Bool) (n : ℕ) (past piece : List ℕ) (old : S) (k : ℕ) (new : S)
+    → StopsAt step terminated n (pending past) true piece old k new → Stops step terminated n past piece old k new
 stops-said {S} step terminated n past piece old k new h =
     let q = pending past in
     let within = stops-within step terminated n q true piece old k new h in

@@ -1,12 +1,12 @@
 -- Laws of the events of a byte stream, for a parser that keeps n bytes of an operating system command.
-use Rattle.std.specs.Prelude.{◌≡◌, ℕ, ◌<◌, ◌≤◌, Bool, true, List, [], ◌∷◌, ◌++◌, length}
+use Rattle.std.specs.Prelude.{◌≡◌, ℕ, ◌<◌, ◌≤◌, true, List, [], ◌∷◌, ◌++◌, length}
 use Rattle.std.specs.List.{All, concat}
 use Rattle.vte_core.specs.Event.{Event, Print, Execute, Osc}
 use Rattle.vte_core.specs.Shapes.{events}
 use Rattle.vte_core.specs.Added.{added}
 use Rattle.vte_core.specs.GroundText.{ends_in_text}
 use Rattle.vte_core.specs.Pending.{pending}
-use Rattle.vte_core.specs.Stopping.{StopsAt, Stops, asks_at, asks_after}
+use Rattle.vte_core.specs.Stopping.{asks_at, asks_after}
 
 -- the events of a beginning of a stream are a beginning of its events
 abbrev pub KeepsBeginnings : Type 0
@@ -46,8 +46,3 @@ TellsCharacters = (n : ℕ) (past : List ℕ) (b : ℕ) → ends_in_text (past +
 -- the points at which the performer is asked, byte by byte and in the words of the whole texts
 abbrev pub AsksAsSaid : Type 0
 AsksAsSaid = (past piece : List ℕ) (m : ℕ) → m ≤ length piece → asks_at (pending past) true piece m ≡ asks_after past piece m
-
--- and where it stops
-abbrev pub StopsAsSaid : {S : Type 0} → (S → Event → S → Type 0) → (S → Bool) → Type 0
-StopsAsSaid {S} step terminated = (n : ℕ) (past piece : List ℕ) (old : S) (k : ℕ) (new : S)
-    → StopsAt step terminated n (pending past) true piece old k new → Stops step terminated n past piece old k new

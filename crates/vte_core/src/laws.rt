@@ -1,9 +1,7 @@
 //! Laws of the events of a byte stream, each as the contract of a function that does nothing.
 
-ghost use Rattle.vte_core.specs.Laws.{KeepsBeginnings, AddsInOrder, CutsBeforeEsc, CutsAfter, AddsFitting, TellsCharacters, AsksAsSaid, StopsAsSaid};
+ghost use Rattle.vte_core.specs.Laws.{KeepsBeginnings, AddsInOrder, CutsBeforeEsc, CutsAfter, AddsFitting, TellsCharacters, AsksAsSaid};
 ghost use Rattle.vte_core.specs.Ground.{AddsAsAlone, NothingIsAtGround, GroundJoins, EscLeavesGround, LeadsToGround, EscapesEndAtGround, ControlSequencesEndAtGround, TextsEndAtGround, NothingPendingIsGround, EscapesTell, ControlSequencesTell, TextsTell};
-
-use crate::Perform;
 
 /// The events of a beginning of a stream are a beginning of the stream's events; pieces that follow one another add
 /// their events one after the other.
@@ -37,10 +35,9 @@ pub fn ground_text()
 
 /// `Parser::advance_until_terminated` asks its performer before the first byte of a piece, after each byte that isn't
 /// ground text, and after each run of ground text, which goes up to the next ESC or to the piece's end; never inside a
-/// run. It stops at the first of these points at which the performer is terminated.
-pub fn asking_points<P: Perform>()
-    ensures asked { AsksAsSaid }
-    ensures stops { StopsAsSaid P.step P.is_terminated }
+/// run.
+pub fn asking_points()
+    ensures { AsksAsSaid }
 {}
 
 /// A parser is at ground where what follows is read as if it stood alone: before the first byte, after bytes that end

@@ -20,9 +20,9 @@ ghost use Rattle.vte_core.specs.Told.{Told};
 ghost use Rattle.vte_core.specs.Runs.{Tells, IsStep, is_one_step};
 ghost use Rattle.vte_core.specs.Heard.{heard, byte_heard, closed_heard, final_heard};
 ghost use Rattle.vte_core.specs.Shapes.{events};
-ghost use Rattle.vte_core.specs.Pending.{Pending, InText, InEscape, InCsi, InOsc, InHook, InDevice, InSwallowed, final_rest, final_told, events_of_byte, after_byte, byte_told, byte_rest, events_from, after_bytes, closed, pending};
+ghost use Rattle.vte_core.specs.Pending.{Pending, InText, InEscape, InCsi, InOsc, InHook, InDevice, InSwallowed, final_rest, final_told, events_of_byte, after_byte, byte_told, byte_rest, events_from, after_bytes, closed};
 ghost use Rattle.vte_core.specs.Standing.{IsAt, Stands, state_is_text};
-ghost use Rattle.vte_core.specs.Stopping.{StopsAt};
+ghost use Rattle.vte_core.specs.Stopping.{Stops};
 ghost use Rattle.std.specs.Prelude.{true, not, ◌&&◌};
 ghost use Rattle.vte_core.specs.Bytes.{each, is_device_data, is_esc};
 
@@ -451,7 +451,7 @@ impl<const N: usize> Parser<N> {
         ensures within { result ≤ length bytes.now }
         ensures stands { (past : List ℕ) → Stands N self.old past → Stands N self.new (past ++ take result bytes.now) }
         ensures told { Told P.step N self.old performer.old (take result bytes.now) performer.new }
-        ensures stops { (past : List ℕ) → Stands N self.old past → StopsAt P.step P.is_terminated N (pending past) true bytes.now performer.old result performer.new }
+        ensures stops { (past : List ℕ) → Stands N self.old past → Stops P.step P.is_terminated N past bytes.now performer.old result performer.new }
         ensures ended { result < length bytes.now → IsTrue (P.is_terminated performer.new) }
         ensures already { IsTrue (P.is_terminated performer.old) → (result ≡ 0) × (performer.new ≡ performer.old) × (self.new ≡ self.old) }
     {

@@ -1,6 +1,5 @@
 use Rattle.std.proofs.Common.{◌≡◌, ◌∙◌, ◌<◌, ap, sym, [], ℕ, take, true, false, refl, arith}
 use Rattle.vte_core.proofs.AddedLemmas.{added-fits}
-use Rattle.vte_core.proofs.StopLemmas.{stops-said}
 use Rattle.vte_core.proofs.Telling.{same_events}
 use Rattle.vte.specs.Stretch.{added}
 use Rattle.vte.proofs.RunLemmas.{performs_all, keeps_all, told_is}
@@ -35,8 +34,7 @@ returns-clause-some g c fresh ended =
 
 pub returns-clause-first : goal.returns-clause-first
 returns-clause-first g c past stands fresh m below asks =
-    let stops = stops-said _ _ 1024 past c.args.bytes.now _ _ _ (c.advance_until_terminated.ensures.stops past stands) in
-    let by = stops.passed m below asks in
+    let by = (c.advance_until_terminated.ensures.stops past stands).passed m below asks in
     let run = performs_all g.H.Handler.step g.T.Timeout.sets g.T.Timeout.clears (λ p. p.handler.now) (λ p. p.state.now) (λ p. p.terminated) _ (λ p e q s. s.0) _
     (added past (take m c.args.bytes.now)) _ (added-fits 1024 past (take m c.args.bytes.now)) by.before in
     let ends = run.ends in

@@ -6,7 +6,7 @@ use Rattle.vte_core.specs.Pending.{Pending, InText, pending, after_bytes, events
 use Rattle.vte_core.specs.Shapes.{events}
 use Rattle.vte_core.specs.Standing.{IsAt}
 use Rattle.vte_core.specs.Stopping.{StopsAt}
-use Rattle.vte_core.proofs.StopLemmas.{stop_now, stop_end}
+use Rattle.vte_core.proofs.StopLemmas.{stop_now, stop_end, stops-said}
 use Rattle.vte_core.proofs.Runs.{read_more, one_more_step, piece_and_rest}
 use Rattle.vte_core.proofs.Quiet.{step_stops}
 use Rattle.vte_core.proofs.Telling.{same_events, performs-append}
@@ -89,8 +89,9 @@ returns-then-terminated-clause-told g c =
 pub returns-then-terminated-clause-stops : goal.returns-then-terminated-clause-stops
 returns-then-terminated-clause-stops g c = λ past h.
     let m : c.loop-read.read + 0 ≡ c.loop-read.read = omega arith in
-    subst (λ k. StopsAt g.P.Perform.step g.P.Perform.is_terminated g.row.N (pending past) true c.args.bytes.now c.args.performer.now k c.loop-read.performer) m
-    (c.loop-read.invariant.stops (pending past) h 0 c.loop-read.performer (stop_now g.P.Perform.step g.P.Perform.is_terminated g.row.N (after_bytes (pending past) (take c.loop-read.read c.args.bytes.now)) true c.args.bytes.now c.loop-read.read c.loop-read.performer c.loop-read-test.true (sym c.terminated.ensures ∙ c.if-terminated.true)))
+    stops-said _ _ g.row.N past c.args.bytes.now _ _ _
+    (subst (λ k. StopsAt g.P.Perform.step g.P.Perform.is_terminated g.row.N (pending past) true c.args.bytes.now c.args.performer.now k c.loop-read.performer) m
+    (c.loop-read.invariant.stops (pending past) h 0 c.loop-read.performer (stop_now g.P.Perform.step g.P.Perform.is_terminated g.row.N (after_bytes (pending past) (take c.loop-read.read c.args.bytes.now)) true c.args.bytes.now c.loop-read.read c.loop-read.performer c.loop-read-test.true (sym c.terminated.ensures ∙ c.if-terminated.true))))
 
 at_first : {A : Type 0} (i : ℕ) (v : Bool) → IsTrue v → (0 < i → v ≡ false) → (i ≡ 0 → A) → A
 at_first zero v t h f = f refl
@@ -124,8 +125,9 @@ returns-clause-told g c =
 pub returns-clause-stops : goal.returns-clause-stops
 returns-clause-stops g c = λ past h.
     let m : c.loop-read.read + 0 ≡ length c.args.bytes.now = omega (arith, c.loop-read.invariant.within) in
-    subst (λ k. StopsAt g.P.Perform.step g.P.Perform.is_terminated g.row.N (pending past) true c.args.bytes.now c.args.performer.now k c.loop-read.performer) m
-    (c.loop-read.invariant.stops (pending past) h 0 c.loop-read.performer (stop_end g.P.Perform.step g.P.Perform.is_terminated g.row.N (after_bytes (pending past) (take c.loop-read.read c.args.bytes.now)) true c.args.bytes.now c.loop-read.read c.loop-read.performer c.loop-read-test.false))
+    stops-said _ _ g.row.N past c.args.bytes.now _ _ _
+    (subst (λ k. StopsAt g.P.Perform.step g.P.Perform.is_terminated g.row.N (pending past) true c.args.bytes.now c.args.performer.now k c.loop-read.performer) m
+    (c.loop-read.invariant.stops (pending past) h 0 c.loop-read.performer (stop_end g.P.Perform.step g.P.Perform.is_terminated g.row.N (after_bytes (pending past) (take c.loop-read.read c.args.bytes.now)) true c.args.bytes.now c.loop-read.read c.loop-read.performer c.loop-read-test.false)))
 
 pub returns-clause-already : goal.returns-clause-already
 returns-clause-already g c = λ t.
