@@ -1,15 +1,21 @@
-use Rattle.std.proofs.Common.{arith, ap, sym, ◌∙◌, true}
+use Rattle.std.proofs.Common.{arith, ap, subst, sym, ◌∙◌, ◌+◌, ◌≤◌, true}
 use Rattle.vt100_cells.specs.Cell.{IsPrintable, cell_of}
 use Rattle.vt100_cells.proofs.WidthLemmas.{drawn-ascii}
 use Rattle.vt100_sheet.proofs.SinkLemmas.{TakesAll-list}
 use Rattle.vt100_core.specs.Grid.{GridView}
 use Rattle.vt100_core.specs.Scroll.{made_to_fit}
 use Rattle.vt100_core.specs.Text.{Drawn, put_at, printed}
+use Rattle.vt100_core.proofs.TextLemmas.{IsMade-made}
 use Rattle.vt100_core.proofs.RunLemmas.{printed-printable}
 use Rattle.vt100_core.proofs.grid.Grid.text.Goals as goal
 
 pub put-requires-clause-drawn : goal.put-requires-clause-drawn
 put-requires-clause-drawn g c = sym (drawn-ascii c.args.c (omega arith) (omega arith))
+
+pub put-requires-clause-fits : goal.put-requires-clause-fits
+put-requires-clause-fits g c =
+    let m = IsMade-made c.args.self.now 1 true c.in_ok-make_room.ensures.wide in
+    subst (λ (x : GridView). x.col + 1 ≤ x.width) (sym c.in_ok-make_room.ensures.grid) m.fits
 
 pub returns-in-32-to-126-clause-grid : goal.returns-in-32-to-126-clause-grid
 returns-in-32-to-126-clause-grid g c =
