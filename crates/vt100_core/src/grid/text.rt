@@ -137,7 +137,7 @@ impl Grid {
     }
 
     /// Puts a character of one or two columns at the cursor.
-    #[inline]
+    #[inline(always)]
     fn put(&mut self, c: char, columns: u16, attrs: Attrs)
         requires allocated { IsAllocated self.old }
         requires drawn { drawn_columns c ≡ Some columns }

@@ -1,4 +1,4 @@
-use Rattle.std.proofs.Common.{arith, ap, sym, subst, ◌∙◌, ◌+◌, ◌≤◌, true}
+use Rattle.std.proofs.Common.{arith, ap, subst, sym, ◌∙◌, ◌+◌, ◌≤◌, true}
 use Rattle.vt100_cells.specs.Cell.{IsPrintable, cell_of}
 use Rattle.vt100_cells.proofs.WidthLemmas.{drawn-ascii}
 use Rattle.vt100_sheet.proofs.SinkLemmas.{TakesAll-list}
@@ -15,7 +15,7 @@ put-requires-clause-drawn g c = sym (drawn-ascii c.args.c (omega arith) (omega a
 pub put-requires-clause-fits : goal.put-requires-clause-fits
 put-requires-clause-fits g c =
     let m = IsMade-made c.args.self.now 1 true c.in_ok-make_room.ensures.wide in
-    subst (λ (h : GridView). h.col + 1 ≤ h.width) (sym c.in_ok-make_room.ensures.grid) m.fits
+    subst (λ (x : GridView). x.col + 1 ≤ x.width) (sym c.in_ok-make_room.ensures.grid) m.fits
 
 pub returns-in-32-to-126-clause-grid : goal.returns-in-32-to-126-clause-grid
 returns-in-32-to-126-clause-grid g c =
