@@ -6,7 +6,6 @@ use Rattle.vte_core.proofs.Telling.{performs-append, same_events}
 use Rattle.vte_types.specs.Call as call
 use Rattle.vte_types.specs.Call.{Call}
 use Rattle.vte.specs.Performed.{Performed}
-use Rattle.vte.specs.declared.performer.ProcessorState.{ProcessorState}
 use Rattle.vte.specs.declared.performer.Performer.{Performer}
 
 -- what an event does to a performer
@@ -32,9 +31,11 @@ pub printed-more : {H T : Type 0} (step : H → Call → H → Type 0) (sets : T
     → step p.handler.now (call.input c) q.handler.now → q.handler.ghost_name ≡ p.handler.ghost_name → q.state ≡ p.state → q.terminated ≡ p.terminated
     → Performs (Steps step sets clears) old (map Print ds) (with_last q (Some c))
 printed-more {H} {T} step sets clears old p q last cs c ds more before input named state terminated =
-    let one : Steps step sets clears (with_last p last) (Print c) (with_last q (Some c)) =
-        (record { calls = λ fits. (q.handler.now, input, refl); printed = refl; ticked = ap (λ s. s.now.timeout) state; ends = terminated ∙ still p.terminated },
-            named, ap (λ s. s.ghost_name) state) in
+    let one : Steps step sets clears (with_last p last) (Print c) (with_last q (Some c)) = (
+      record { calls = λ fits. (q.handler.now, input, refl); printed = refl; ticked = ap (λ s. s.now.timeout) state; ends = terminated ∙ still p.terminated },
+      named,
+      ap (λ s. s.ghost_name) state,
+    ) in
     same_events (Steps step sets clears) old (with_last q (Some c)) (map Print cs ++ Print c ∷ []) (map Print ds) (map-last cs c ∙ ap (map Print) (sym more))
     (performs-append (Steps step sets clears) old (with_last p last) (with_last q (Some c)) (map Print cs) (Print c ∷ []) before (with_last q (Some c), one, refl))
 
