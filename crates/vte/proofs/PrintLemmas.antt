@@ -6,7 +6,6 @@ use Rattle.vte_core.proofs.Telling.{performs-append, same_events}
 use Rattle.vte_types.specs.Call as call
 use Rattle.vte_types.specs.Call.{Call}
 use Rattle.vte.specs.Performed.{Performed}
-use Rattle.vte.specs.declared.performer.ProcessorState.{ProcessorState}
 use Rattle.vte.specs.declared.performer.Performer.{Performer}
 
 -- what an event does to a performer
