@@ -14,7 +14,8 @@ drop-front [] ys = refl
 drop-front (x ∷ xs) ys = drop-front xs ys
 
 -- what a stream has beyond its past is what the bytes add
-pub added-is : (n : ℕ) (past bytes : List ℕ) (es : List Event) → events n (past ++ bytes) ≡ events n past ++ es → es ≡ added n past bytes
+pub added-is : (n : ℕ) (past bytes : List ℕ) (es : List Event) → events n (past ++ bytes) ≡ events n past ++ es
+    → es ≡ added n past bytes
 unfolding added
 added-is n past bytes es h = sym (ap (drop (length (events n past))) h ∙ drop-front (events n past) es)
 
@@ -23,7 +24,8 @@ pub added-from : (n : ℕ) (past bytes : List ℕ) → added n past bytes ≡ ev
 added-from n past bytes = sym (added-is n past bytes (events_from n (pending past) bytes) (events-past n past bytes))
 
 pub events-added : KeepsBeginnings
-events-added n past bytes = events-past n past bytes ∙ ap (λ (es : List Event). events n past ++ es) (sym (added-from n past bytes))
+events-added n past bytes = events-past n past bytes
+    ∙ ap (λ (es : List Event). events n past ++ es) (sym (added-from n past bytes))
 
 pub added-none : (n : ℕ) (past : List ℕ) → added n past [] ≡ []
 added-none n past = added-from n past []
@@ -37,8 +39,10 @@ added-append n past a b =
     let more = added n (past ++ a) b in
     let whole : events n (past ++ (a ++ b)) ≡ events n past ++ (added n past a ++ more) =
     ap (events n) (sym (append_assoc past a b)) ∙ (events-added n (past ++ a) b
-    ∙ (ap (λ (es : List Event). es ++ more) (events-added n past a) ∙ append_assoc (events n past) (added n past a) more)) in
+    ∙ (ap (λ (es : List Event). es ++ more) (events-added n past a)
+    ∙ append_assoc (events n past) (added n past a) more)) in
     sym (added-is n past (a ++ b) (added n past a ++ more) whole)
 
 pub added-fits : AddsFitting
-added-fits n past bytes = subst (λ (es : List Event). All (Fits n) es) (sym (added-from n past bytes)) (from-fits n (pending past) bytes)
+added-fits n past bytes = subst (λ (es : List Event). All (Fits n) es) (sym (added-from n past bytes))
+    (from-fits n (pending past) bytes)

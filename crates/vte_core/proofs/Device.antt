@@ -3,14 +3,16 @@ use Rattle.std.proofs.Common.{◌≡◌, ℕ, true, false, List, [], ◌∷◌, 
 use Rattle.std.proofs.lemmas.Bool.Decides.{nat_tests}
 use Rattle.vte_core.specs.Event.{Event, Put}
 use Rattle.vte_core.specs.Bytes.{each, is_esc, is_device_data, ends_device, is_put}
-use Rattle.vte_core.specs.Pending.{Pending, InText, InEscape, InCsi, InOsc, InHook, InDevice, InSwallowed, events_from, after_bytes}
+use Rattle.vte_core.specs.Pending.{Pending, InText, InEscape, InCsi, InOsc, InHook, InDevice, InSwallowed, events_from}
+use Rattle.vte_core.specs.Pending.{after_bytes}
 use Rattle.vte_core.specs.Standing.{IsAt}
 use Rattle.vte_core.specs.declared.Parser.{Parser}
 use Rattle.vte_core.specs.declared.State.TheVariants.{DcsPassthrough}
 use Rattle.vte_core.proofs.PhaseLemmas.{each-first}
 
 -- it is put, byte by byte
-put_on : (n : ℕ) (xs : List ℕ) → each is_device_data xs ≡ true → (events_from n InDevice xs ≡ map Put xs) × (after_bytes InDevice xs ≡ InDevice)
+put_on : (n : ℕ) (xs : List ℕ) → each is_device_data xs ≡ true → (events_from n InDevice xs ≡ map Put xs)
+    × (after_bytes InDevice xs ≡ InDevice)
 put_on n [] h = (refl, refl)
 put_on n (b ∷ xs) h =
     let g = each-first is_device_data b xs h in
@@ -20,7 +22,8 @@ put_on n (b ∷ xs) h =
     let more = put_on n xs g.1 in
     (rw (esc, ends, put) (ap (λ (es : List Event). Put b ∷ es) more.0), rw (esc, ends) more.1)
 
-pub device-at : (n : ℕ) (p : Parser n) (q : Pending) (xs : List ℕ) → p.state ≡ DcsPassthrough → each is_device_data xs ≡ true → IsAt n p q
+pub device-at : (n : ℕ) (p : Parser n) (q : Pending) (xs : List ℕ) → p.state ≡ DcsPassthrough
+    → each is_device_data xs ≡ true → IsAt n p q
     → (events_from n q xs ≡ map Put xs) × IsAt n p (after_bytes q xs)
 device-at n p (InText u) xs s e at = let no = sym s ∙ at.0 in cc
 device-at n p (InEscape is) xs s e at = let no = sym s ∙ at.0 in cc

@@ -1,5 +1,6 @@
 -- Ground text: controls and characters of ASCII, and where it ends.
-use Rattle.std.proofs.Common.{◌≡◌, ℕ, zero, suc, ◌<◌, ◌≤◌, Bool, true, false, List, [], ◌∷◌, ◌++◌, map, length, take, get_or, nat_lt, inl, inr, refl, ◌∙◌, ap, arith}
+use Rattle.std.proofs.Common.{◌≡◌, ℕ, zero, suc, ◌<◌, ◌≤◌, Bool, true, false, List, [], ◌∷◌, ◌++◌, map, length, take}
+use Rattle.std.proofs.Common.{get_or, nat_lt, inl, inr, refl, ◌∙◌, ap, arith}
 use Rattle.std.proofs.lemmas.Bool.Decides.{nat_tests}
 use Rattle.std.specs.Int.{is_in_range}
 use Rattle.std.specs.Prelude.{slice_index}
@@ -21,7 +22,8 @@ no_esc-append [] ys h k = k
 no_esc-append (x ∷ xs) ys h k = let g = no_esc-both x xs h in rw g.0 (no_esc-append xs ys g.1 k)
 
 -- controls are executed, one by one
-pub c0-run : (xs : List ℕ) → each is_c0 xs ≡ true → (run_told [] xs ≡ map Execute xs) × (run_rest [] xs ≡ []) × (has_no_esc xs ≡ true)
+pub c0-run : (xs : List ℕ) → each is_c0 xs ≡ true → (run_told [] xs ≡ map Execute xs) × (run_rest [] xs ≡ [])
+    × (has_no_esc xs ≡ true)
 c0-run [] h = (refl, refl, refl)
 c0-run (b ∷ xs) h =
     let g = each-first is_c0 b xs h in
@@ -30,11 +32,19 @@ c0-run (b ∷ xs) h =
     let control : nat_lt b 0x20 ≡ true = grind (arith, nat_tests) in
     let event : char_event b ≡ Execute b = rw control refl in
     let first = one b xs (omega (arith, low)) in
-    let more = c0-run xs g.1 in
-    (first.0 ∙ (ap (λ (e : Event). e ∷ run_told [] xs) event ∙ ap (λ (es : List Event). Execute b ∷ es) more.0), first.1 ∙ more.1, rw esc more.2)
+    let more = c0-run xs g.1 in (
+      first.0 ∙ (ap (λ (e : Event). e ∷ run_told [] xs) event ∙ ap (λ (es : List Event). Execute b ∷ es) more.0),
+      first.1 ∙ more.1,
+      rw esc more.2,
+    )
+
+pub map-execute : (xs ys : List ℕ) → map Execute xs ++ map Execute ys ≡ map Execute (xs ++ ys)
+map-execute [] ys = refl
+map-execute (x ∷ xs) ys = ap (λ (es : List Event). Execute x ∷ es) (map-execute xs ys)
 
 -- characters of ASCII are printed, one by one
-pub plain-run : (xs : List ℕ) → each is_plain xs ≡ true → (run_told [] xs ≡ map Print xs) × (run_rest [] xs ≡ []) × (has_no_esc xs ≡ true)
+pub plain-run : (xs : List ℕ) → each is_plain xs ≡ true → (run_told [] xs ≡ map Print xs) × (run_rest [] xs ≡ [])
+    × (has_no_esc xs ≡ true)
 plain-run [] h = (refl, refl, refl)
 plain-run (b ∷ xs) h =
     let g = each-first is_plain b xs h in
@@ -44,12 +54,16 @@ plain-run (b ∷ xs) h =
     let high : is_in_range 0x80 0x9F b ≡ false = grind (arith, nat_tests) in
     let event : char_event b ≡ Print b = rw (control, high) refl in
     let first = one b xs low in
-    let more = plain-run xs g.1 in
-    (first.0 ∙ (ap (λ (e : Event). e ∷ run_told [] xs) event ∙ ap (λ (es : List Event). Print b ∷ es) more.0), first.1 ∙ more.1, rw esc more.2)
+    let more = plain-run xs g.1 in (
+      first.0 ∙ (ap (λ (e : Event). e ∷ run_told [] xs) event ∙ ap (λ (es : List Event). Print b ∷ es) more.0),
+      first.1 ∙ more.1,
+      rw esc more.2,
+    )
 
 pub plain-ascii : (xs : List ℕ) → each is_plain xs ≡ true → (i : ℕ) → slice_index xs i < 128
 plain-ascii [] h i = omega arith
-plain-ascii (b ∷ xs) h zero = let g = each-first is_plain b xs h in let is : is_plain b ≡ true = g.0 in grind (arith, nat_tests)
+plain-ascii (b ∷ xs) h zero = let g = each-first is_plain b xs h in let is : is_plain b ≡ true = g.0
+    in grind (arith, nat_tests)
 plain-ascii (b ∷ xs) h (suc i) = let g = each-first is_plain b xs h in plain-ascii xs g.1 i
 
 -- ESC isn't printed
@@ -63,7 +77,8 @@ printed-no_esc (b ∷ xs) h =
     ]
 
 -- ground text ends before ESC
-pub text_end : (s : List ℕ) (k : ℕ) → k ≤ length s → has_no_esc (take k s) ≡ true → (k < length s → is_esc (get_or s k 0) ≡ true) → k ≡ length (before is_esc s)
+pub text_end : (s : List ℕ) (k : ℕ) → k ≤ length s → has_no_esc (take k s) ≡ true
+    → (k < length s → is_esc (get_or s k 0) ≡ true) → k ≡ length (before is_esc s)
 text_end [] k l h t = omega (arith, l)
 text_end (b ∷ s) zero l h t = let e : is_esc b ≡ true = t (omega arith) in rw e refl
 text_end (b ∷ s) (suc k) l h t =

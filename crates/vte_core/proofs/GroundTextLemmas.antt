@@ -1,16 +1,21 @@
 -- Ground text, byte by byte.
-use Rattle.std.proofs.Common.{◌≡◌, ℕ, Bool, true, false, not, ◌&&◌, ◌||◌, List, [], ◌∷◌, ◌++◌, ◌+◌, length, nat_lt, ◌==◌, if◌then◌else◌, refl, sym, ◌∙◌, ap, subst, inl, inr, append_assoc, append-nil}
+use Rattle.std.proofs.Common.{◌≡◌, ℕ, Bool, true, false, not, ◌&&◌, ◌||◌, List, [], ◌∷◌, ◌++◌, ◌+◌, length, nat_lt}
+use Rattle.std.proofs.Common.{◌==◌, if◌then◌else◌, refl, sym, ◌∙◌, ap, subst, inl, inr, append_assoc, append-nil}
 use Rattle.std.specs.List.{All, filter}
 use Rattle.std.specs.Int.{is_in_range}
 use Rattle.std.proofs.lemmas.List.Elements.{All-nil, All-cons}
 use Rattle.vte_core.specs.Event.{Event, Print}
-use Rattle.vte_core.specs.Bytes.{is_esc, is_abort, is_control, is_intermediate, is_header, ends_header, ends_escape, ends_osc, ends_device}
+use Rattle.vte_core.specs.Bytes.{is_esc, is_abort, is_control, is_intermediate, is_header, ends_header, ends_escape}
+use Rattle.vte_core.specs.Bytes.{ends_osc, ends_device}
 use Rattle.vte_core.specs.Text.{char_len, first_bits, joined, char_event, malformed_event}
 use Rattle.vte_core.specs.Header.{is_well_formed}
 use Rattle.vte_core.specs.Shapes.{before, from, cut_at_esc}
 use Rattle.vte_core.specs.GroundText as ground
-use Rattle.vte_core.specs.GroundText.{past_device, past_introduced, past_final, text_of, last_text_of, has_bytes, ends_in_text}
-use Rattle.vte_core.specs.Pending.{Pending, InText, InEscape, InCsi, InOsc, InHook, InDevice, InSwallowed, kept, goes_on, begun, text_told, final_rest, byte_rest, events_of_byte, after_bytes, pending}
+use Rattle.vte_core.specs.GroundText.{past_device, past_introduced, past_final, text_of, last_text_of, has_bytes}
+use Rattle.vte_core.specs.GroundText.{ends_in_text}
+use Rattle.vte_core.specs.Pending.{Pending, InText, InEscape, InCsi, InOsc, InHook, InDevice, InSwallowed, kept}
+use Rattle.vte_core.specs.Pending.{goes_on, begun, text_told, final_rest, byte_rest, events_of_byte, after_bytes}
+use Rattle.vte_core.specs.Pending.{pending}
 use Rattle.vte_core.specs.Stopping.{is_text}
 use Rattle.vte_core.specs.Laws.{IsCharacter, TellsCharacters}
 use Rattle.vte_core.proofs.AddedLemmas.{added-from}
@@ -26,7 +31,8 @@ text_on (InHook h) s = past_device (h ++ filter is_header (before ends_header s)
 text_on InDevice s = ground.past ends_device s
 text_on InSwallowed s = ground.past is_abort s
 
-filter-kept : (keep : ℕ → Bool) (h : List ℕ) (b : ℕ) (s : List ℕ) → h ++ filter keep (b ∷ s) ≡ (h ++ kept keep b) ++ filter keep s
+filter-kept : (keep : ℕ → Bool) (h : List ℕ) (b : ℕ) (s : List ℕ)
+    → h ++ filter keep (b ∷ s) ≡ (h ++ kept keep b) ++ filter keep s
 filter-kept keep h b s =
     elim (bool_cases (keep b)) [
       | inl e ↦ rw e (sym (append_assoc h (b ∷ []) (filter keep s)))
@@ -34,7 +40,8 @@ filter-kept keep h b s =
     ]
 
 -- a byte that ends the shape, and one that doesn't
-past-byte : (p : ℕ → Bool) (q : Pending) (b : ℕ) (s : List ℕ) → text_on q s ≡ ground.past p s → ground.past p (b ∷ s) ≡ text_on (if p b then InText [] else q) s
+past-byte : (p : ℕ → Bool) (q : Pending) (b : ℕ) (s : List ℕ) → text_on q s ≡ ground.past p s
+    → ground.past p (b ∷ s) ≡ text_on (if p b then InText [] else q) s
 past-byte p q b s same = elim (bool_cases (p b)) [ inl e ↦ rw e refl | inr e ↦ rw e (sym same) ]
 
 device-byte : (h : List ℕ) (b : ℕ) (s : List ℕ) → text_on (InHook h) (b ∷ s) ≡ text_on (byte_rest (InHook h) b) s
@@ -66,7 +73,8 @@ introduced-byte is b s =
 escape-byte : (is : List ℕ) (b : ℕ) (s : List ℕ) → text_on (InEscape is) (b ∷ s) ≡ text_on (byte_rest (InEscape is) b) s
 escape-byte is b s =
     elim (bool_cases (ends_escape b)) [
-      | inl e ↦ rw (e, append-nil is) (elim (bool_cases (is_abort b)) [ inl a ↦ rw a refl | inr a ↦ rw a (introduced-byte is b s) ])
+      | inl e ↦ rw (e, append-nil is) (elim (bool_cases (is_abort b))
+          [ inl a ↦ rw a refl | inr a ↦ rw a (introduced-byte is b s) ])
       | inr e ↦ rw e (rw (filter-kept is_intermediate is b (before ends_escape s)) refl)
     ]
 
@@ -97,11 +105,13 @@ abbrev pub last_on : Pending → List ℕ → List ℕ
 last_on q bs = last_text_of (text_on q (cut_at_esc bs).0) (cut_at_esc bs).1
 
 -- one byte more before a text that isn't empty
-grown_by : (c d : ℕ) (s : List ℕ) (ts : List (List ℕ)) → has_bytes (last_text_of (c ∷ d ∷ s) ts) ≡ has_bytes (last_text_of (d ∷ s) ts)
+grown_by : (c d : ℕ) (s : List ℕ) (ts : List (List ℕ))
+    → has_bytes (last_text_of (c ∷ d ∷ s) ts) ≡ has_bytes (last_text_of (d ∷ s) ts)
 grown_by c d s [] = refl
 grown_by c d s (t ∷ ts) = refl
 
-grown : (c : ℕ) (bs : List ℕ) (b : ℕ) → let r = cut_at_esc (bs ++ b ∷ []) in has_bytes (last_text_of (c ∷ r.0) r.1) ≡ has_bytes (last_text_of r.0 r.1)
+grown : (c : ℕ) (bs : List ℕ) (b : ℕ) → let r = cut_at_esc (bs ++ b ∷ [])
+    in has_bytes (last_text_of (c ∷ r.0) r.1) ≡ has_bytes (last_text_of r.0 r.1)
 grown c [] b = elim (bool_cases (is_esc b)) [ inl e ↦ rw e refl | inr e ↦ rw e refl ]
 grown c (d ∷ bs) b =
     elim (bool_cases (is_esc d)) [
@@ -110,11 +120,13 @@ grown c (d ∷ bs) b =
     ]
 
 shape_more : (q : Pending) (c : ℕ) (bs : List ℕ) (b : ℕ) → is_text q ≡ false
-    → let r = cut_at_esc (bs ++ b ∷ []) in has_bytes (last_text_of (text_on q (c ∷ r.0)) r.1) ≡ has_bytes (last_on (byte_rest q c) (bs ++ b ∷ []))
+    → let r = cut_at_esc (bs ++ b ∷ []) in has_bytes (last_text_of (text_on q (c ∷ r.0)) r.1)
+    ≡ has_bytes (last_on (byte_rest q c) (bs ++ b ∷ []))
 shape_more q c bs b h =
     let r = cut_at_esc (bs ++ b ∷ []) in ap (λ (s : List ℕ). has_bytes (last_text_of s r.1)) (shape-byte q c r.0 h)
 
-byte_more : (q : Pending) (c : ℕ) (bs : List ℕ) (b : ℕ) → let r = cut_at_esc (bs ++ b ∷ []) in has_bytes (last_text_of (text_on q (c ∷ r.0)) r.1) ≡ has_bytes (last_on (byte_rest q c) (bs ++ b ∷ []))
+byte_more : (q : Pending) (c : ℕ) (bs : List ℕ) (b : ℕ) → let r = cut_at_esc (bs ++ b ∷ [])
+    in has_bytes (last_text_of (text_on q (c ∷ r.0)) r.1) ≡ has_bytes (last_on (byte_rest q c) (bs ++ b ∷ []))
 byte_more (InText u) c bs b = grown c bs b
 byte_more (InEscape is) c bs b = shape_more (InEscape is) c bs b refl
 byte_more (InCsi h) c bs b = shape_more (InCsi h) c bs b refl
@@ -141,7 +153,8 @@ and_false true = refl
 and_false false = refl
 
 -- the last byte is ground text where text was pending before it, and it isn't ESC
-ends_on : (q : Pending) (bs : List ℕ) (b : ℕ) → has_bytes (last_on q (bs ++ b ∷ [])) ≡ (is_text (after_bytes q bs) && not (is_esc b))
+ends_on : (q : Pending) (bs : List ℕ) (b : ℕ) → has_bytes (last_on q (bs ++ b ∷ []))
+    ≡ (is_text (after_bytes q bs) && not (is_esc b))
 ends_on q [] b =
     elim (bool_cases (is_esc b)) [
       | inl e ↦ rw e (sym (and_false (is_text q)))
@@ -153,7 +166,8 @@ ends_on q (c ∷ bs) b =
       | inr e ↦ rw e (byte_more q c bs b ∙ ends_on (byte_rest q c) bs b)
     ]
 
-pub ends_in_text-last : (past : List ℕ) (b : ℕ) → ends_in_text (past ++ b ∷ []) ≡ (is_text (pending past) && not (is_esc b))
+pub ends_in_text-last : (past : List ℕ) (b : ℕ) → ends_in_text (past ++ b ∷ [])
+    ≡ (is_text (pending past) && not (is_esc b))
 ends_in_text-last past b = ends_on (InText []) past b
 
 -- ground text prints characters and executes controls
@@ -182,14 +196,17 @@ told_are [] b = begun_are b
 told_are (a ∷ t) b =
     elim (bool_cases (goes_on a t b)) [
       | inl e ↦ rw e (elim (bool_cases (length t + 2 == char_len a)) [
-        | inl f ↦ rw f (one (char_event (joined (first_bits a) (t ++ b ∷ []))) (char_is (joined (first_bits a) (t ++ b ∷ []))))
+        | inl f ↦ rw f (one (char_event (joined (first_bits a) (t ++ b ∷ [])))
+            (char_is (joined (first_bits a) (t ++ b ∷ []))))
         | inr f ↦ rw f (All-nil IsCharacter)
       ])
       | inr e ↦ rw e (All-cons IsCharacter (Print 0xFFFD) (begun b) tt (begun_are b))
     ]
 
-of_byte_are : (n : ℕ) (q : Pending) (b : ℕ) → (is_text q && not (is_esc b)) ≡ true → All IsCharacter (events_of_byte n q b)
-of_byte_are n (InText u) b h = elim (bool_cases (is_esc b)) [ inl e ↦ absurd (let no : false ≡ true = rw e at h in cc) | inr e ↦ rw e (told_are u b) ]
+of_byte_are : (n : ℕ) (q : Pending) (b : ℕ) → (is_text q && not (is_esc b)) ≡ true
+    → All IsCharacter (events_of_byte n q b)
+of_byte_are n (InText u) b h = elim (bool_cases (is_esc b))
+    [ inl e ↦ absurd (let no : false ≡ true = rw e at h in cc) | inr e ↦ rw e (told_are u b) ]
 of_byte_are n (InEscape is) b h = absurd (let no : false ≡ true = h in cc)
 of_byte_are n (InCsi x) b h = absurd (let no : false ≡ true = h in cc)
 of_byte_are n (InOsc s) b h = absurd (let no : false ≡ true = h in cc)
@@ -201,4 +218,5 @@ pub text-tells : TellsCharacters
 text-tells n past b h =
     let q = pending past in
     let told : All IsCharacter (events_of_byte n q b) = of_byte_are n q b (sym (ends_in_text-last past b) ∙ h) in
-    subst (λ (es : List Event). All IsCharacter es) (sym (added-from n past (b ∷ []) ∙ append-nil (events_of_byte n q b))) told
+    subst (λ (es : List Event). All IsCharacter es)
+    (sym (added-from n past (b ∷ []) ∙ append-nil (events_of_byte n q b))) told

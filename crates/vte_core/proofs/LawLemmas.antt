@@ -1,5 +1,7 @@
 -- Laws of the events of a byte stream.
-use Rattle.std.proofs.Common.{◌≡◌, ℕ, zero, suc, ◌+◌, ◌-◌, ◌≤◌, Bool, true, false, ◌&&◌, ◌||◌, List, [], ◌∷◌, ◌++◌, length, take, nat_lt, ◌==◌, refl, sym, ◌∙◌, ap, inl, inr, append_assoc, arith, length-append, length-take}
+use Rattle.std.proofs.Common.{◌≡◌, ℕ, zero, suc, ◌+◌, ◌-◌, ◌≤◌, Bool, true, false, ◌&&◌, ◌||◌, List, [], ◌∷◌, ◌++◌}
+use Rattle.std.proofs.Common.{length, take, nat_lt, ◌==◌, refl, sym, ◌∙◌, ap, inl, inr, append_assoc, arith}
+use Rattle.std.proofs.Common.{length-append, length-take}
 use Rattle.std.proofs.lemmas.Bool.Decides.{nat_tests}
 use Rattle.std.proofs.lemmas.List.Elements.{All-nil, All-cons, All-append}
 use Rattle.std.proofs.lemmas.List.Splits.{length-slice_split}
@@ -10,7 +12,9 @@ use Rattle.vte_core.specs.Bytes.{is_esc, is_abort, is_control, is_put, ends_head
 use Rattle.vte_core.specs.Text.{char_len, first_bits, joined, char_event, malformed_event}
 use Rattle.vte_core.specs.Header.{is_well_formed}
 use Rattle.vte_core.specs.Shapes.{events, first_bytes, osc_pieces}
-use Rattle.vte_core.specs.Pending.{Pending, InText, InEscape, InCsi, InOsc, InHook, InDevice, InSwallowed, pending, told, goes_on, begun, text_told, closed, final_told, byte_told, events_of_byte, after_byte, events_from, after_bytes}
+use Rattle.vte_core.specs.Pending.{Pending, InText, InEscape, InCsi, InOsc, InHook, InDevice, InSwallowed, pending}
+use Rattle.vte_core.specs.Pending.{told, goes_on, begun, text_told, closed, final_told, byte_told, events_of_byte}
+use Rattle.vte_core.specs.Pending.{after_byte, events_from, after_bytes}
 use Rattle.vte_core.specs.Laws.{Fits}
 use Rattle.vte_core.proofs.Characters.{bool_cases}
 use Rattle.vte_core.proofs.Machine.{events-past, events-told, after_bytes-append}
@@ -21,7 +25,9 @@ pub esc-cut : (n : ℕ) (s t : List ℕ) → events n (s ++ 0x1B ∷ t) ≡ even
 esc-cut n s t =
     let front : (s ++ 0x1B ∷ []) ++ t ≡ s ++ 0x1B ∷ t = append_assoc s (0x1B ∷ []) t in
     ap (events n) (sym front) ∙ (events-past n (s ++ 0x1B ∷ []) t
-    ∙ ap (λ (es : List Event). events n (s ++ 0x1B ∷ []) ++ es) (ap (λ (q : Pending). events_from n q t) (after_bytes-append (InText []) s (0x1B ∷ [])) ∙ sym (events-told n (0x1B ∷ t))))
+    ∙ ap (λ (es : List Event). events n (s ++ 0x1B ∷ [])
+    ++ es) (ap (λ (q : Pending). events_from n q t) (after_bytes-append (InText []) s (0x1B ∷ []))
+    ∙ sym (events-told n (0x1B ∷ t))))
 
 -- CAN and SUB
 
@@ -46,12 +52,15 @@ after-abort (InHook x) b h = rw (abort-not_esc b h, h) refl
 after-abort InDevice b h = rw (abort-not_esc b h, h) refl
 after-abort InSwallowed b h = rw (abort-not_esc b h, h) refl
 
-pub abort-cut : (b : ℕ) → is_abort b ≡ true → (n : ℕ) (s t : List ℕ) → events n (s ++ b ∷ t) ≡ events n (s ++ b ∷ []) ++ events n t
+pub abort-cut : (b : ℕ) → is_abort b ≡ true → (n : ℕ) (s t : List ℕ)
+    → events n (s ++ b ∷ t) ≡ events n (s ++ b ∷ []) ++ events n t
 abort-cut b h n s t =
     let front : (s ++ b ∷ []) ++ t ≡ s ++ b ∷ t = append_assoc s (b ∷ []) t in
-    let none : pending (s ++ b ∷ []) ≡ InText [] = after_bytes-append (InText []) s (b ∷ []) ∙ after-abort (after_bytes (InText []) s) b h in
+    let none : pending (s ++ b ∷ []) ≡ InText [] =
+    after_bytes-append (InText []) s (b ∷ []) ∙ after-abort (after_bytes (InText []) s) b h in
     ap (events n) (sym front) ∙ (events-past n (s ++ b ∷ []) t
-    ∙ ap (λ (es : List Event). events n (s ++ b ∷ []) ++ es) (ap (λ (q : Pending). events_from n q t) none ∙ sym (events-told n t)))
+    ∙ ap (λ (es : List Event). events n (s ++ b ∷ []) ++ es) (ap (λ (q : Pending). events_from n q t) none
+    ∙ sym (events-told n t)))
 
 -- the pieces of an operating system command
 
@@ -64,7 +73,9 @@ few-bytes zero n ps = omega arith
 few-bytes (suc k) n [] = omega arith
 few-bytes (suc k) n (p ∷ ps) =
     let rest = few-bytes k (n - length p) ps in
-    let len : length (take n p ++ concat (take k (first_bytes (n - length p) ps))) ≡ length (take n p) + length (concat (take k (first_bytes (n - length p) ps))) = length-append (take n p) (concat (take k (first_bytes (n - length p) ps))) in
+    let len : length (take n p ++ concat (take k (first_bytes (n - length p) ps)))
+    ≡ length (take n p) + length (concat (take k (first_bytes (n - length p) ps))) =
+    length-append (take n p) (concat (take k (first_bytes (n - length p) ps))) in
     omega (arith, rest, len, length-take n p)
 
 pub pieces-fit : (n : ℕ) (s : List ℕ) (bell : Bool) → Fits n (Osc (osc_pieces n s) bell)
@@ -102,7 +113,8 @@ text-fits n [] b = begun-fits n b
 text-fits n (a ∷ t) b =
     elim (bool_cases (goes_on a t b)) [
       | inl e ↦ rw e (elim (bool_cases (length t + 2 == char_len a)) [
-        | inl f ↦ rw f (one-fits n (char_event (joined (first_bits a) (t ++ b ∷ []))) (char-fits n (joined (first_bits a) (t ++ b ∷ []))))
+        | inl f ↦ rw f (one-fits n (char_event (joined (first_bits a) (t ++ b ∷ [])))
+            (char-fits n (joined (first_bits a) (t ++ b ∷ []))))
         | inr f ↦ rw f (All-nil (Fits n))
       ])
       | inr e ↦ rw e (All-cons (Fits n) (Print 0xFFFD) (begun b) tt (begun-fits n b))
@@ -138,27 +150,31 @@ byte-fits : (n : ℕ) (q : Pending) (b : ℕ) → All (Fits n) (byte_told n q b)
 byte-fits n (InText u) b = text-fits n u b
 byte-fits n (InEscape is) b =
     elim (bool_cases (ends_escape b)) [
-      | inl e ↦ rw e (elim (bool_cases (is_abort b)) [ inl f ↦ rw f (one-fits n (Execute b) tt) | inr f ↦ rw f (final-fits n is b) ])
+      | inl e ↦ rw e (elim (bool_cases (is_abort b))
+          [ inl f ↦ rw f (one-fits n (Execute b) tt) | inr f ↦ rw f (final-fits n is b) ])
       | inr e ↦ rw e (told-fits n is_control Execute b tt)
     ]
 byte-fits n (InCsi x) b =
     elim (bool_cases (ends_header b)) [
       | inl e ↦ rw e (elim (bool_cases (is_abort b)) [
         | inl f ↦ rw f (one-fits n (Execute b) tt)
-        | inr f ↦ rw f (elim (bool_cases (is_well_formed x)) [ inl g ↦ rw g (one-fits n (Csi _ _ _ b) tt) | inr g ↦ rw g (All-nil (Fits n)) ])
+        | inr f ↦ rw f (elim (bool_cases (is_well_formed x))
+            [ inl g ↦ rw g (one-fits n (Csi _ _ _ b) tt) | inr g ↦ rw g (All-nil (Fits n)) ])
       ])
       | inr e ↦ rw e (told-fits n is_control Execute b tt)
     ]
 byte-fits n (InOsc s) b =
     elim (bool_cases (ends_osc b)) [
-      | inl e ↦ rw e (All-cons (Fits n) (Osc (osc_pieces n s) (b == 0x07)) (told is_abort Execute b) (pieces-fit n s (b == 0x07)) (told-fits n is_abort Execute b tt))
+      | inl e ↦ rw e (All-cons (Fits n) (Osc (osc_pieces n s) (b == 0x07)) (told is_abort Execute b)
+          (pieces-fit n s (b == 0x07)) (told-fits n is_abort Execute b tt))
       | inr e ↦ rw e (All-nil (Fits n))
     ]
 byte-fits n (InHook x) b =
     elim (bool_cases (ends_header b)) [
       | inl e ↦ rw e (elim (bool_cases (is_abort b)) [
         | inl f ↦ rw f (one-fits n (Execute b) tt)
-        | inr f ↦ rw f (elim (bool_cases (is_well_formed x)) [ inl g ↦ rw g (one-fits n (Hook _ _ _ b) tt) | inr g ↦ rw g (All-nil (Fits n)) ])
+        | inr f ↦ rw f (elim (bool_cases (is_well_formed x))
+            [ inl g ↦ rw g (one-fits n (Hook _ _ _ b) tt) | inr g ↦ rw g (All-nil (Fits n)) ])
       ])
       | inr e ↦ rw e (All-nil (Fits n))
     ]
@@ -174,4 +190,5 @@ of_byte-fits n q b = elim (bool_cases (is_esc b)) [ inl e ↦ rw e (closed-fits 
 
 pub from-fits : (n : ℕ) (q : Pending) (bs : List ℕ) → All (Fits n) (events_from n q bs)
 from-fits n q [] = All-nil (Fits n)
-from-fits n q (b ∷ bs) = All-append (Fits n) (events_of_byte n q b) (events_from n (after_byte q b) bs) (of_byte-fits n q b) (from-fits n (after_byte q b) bs)
+from-fits n q (b ∷ bs) = All-append (Fits n) (events_of_byte n q b) (events_from n (after_byte q b) bs)
+    (of_byte-fits n q b) (from-fits n (after_byte q b) bs)

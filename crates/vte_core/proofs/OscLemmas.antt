@@ -1,5 +1,7 @@
 -- The data of an OSC.
-use Rattle.std.proofs.Common.{◌≡◌, ℕ, zero, suc, ◌+◌, ◌-◌, ◌<◌, ◌≤◌, min, true, false, List, [], ◌∷◌, ◌++◌, map, length, take, drop, set, get_or, ◌==◌, refl, sym, ◌∙◌, ap, arith, append_assoc, length-append, slice_range, subst, ◌⊎◌, inl, inr, nat_lt}
+use Rattle.std.proofs.Common.{◌≡◌, ℕ, zero, suc, ◌+◌, ◌-◌, ◌<◌, ◌≤◌, min, true, false, List, [], ◌∷◌, ◌++◌, map, length}
+use Rattle.std.proofs.Common.{take, drop, set, get_or, ◌==◌, refl, sym, ◌∙◌, ap, arith, append_assoc, length-append}
+use Rattle.std.proofs.Common.{slice_range, subst, ◌⊎◌, inl, inr, nat_lt}
 use Rattle.std.proofs.lemmas.Grind.{common_steps}
 use Rattle.std.proofs.lemmas.List.{take-append-le}
 use Rattle.std.proofs.Math.Seq.{drop-cons, take-suc-set}
@@ -16,7 +18,8 @@ pub rise_in : (start : ℕ) (ends xs : List ℕ) → EndsRise start ends xs → 
 rise_in start [] xs h = h
 rise_in start (end ∷ ends) xs h = omega (arith, h.0, rise_in end ends xs h.1)
 
-pub rise-more : (start : ℕ) (ends xs ys : List ℕ) → length xs ≤ length ys → EndsRise start ends xs → EndsRise start ends ys
+pub rise-more : (start : ℕ) (ends xs ys : List ℕ) → length xs ≤ length ys → EndsRise start ends xs
+    → EndsRise start ends ys
 rise-more start [] xs ys k h = omega (arith, h)
 rise-more start (end ∷ ends) xs ys k h = (h.0, rise-more end ends xs ys k h.1)
 
@@ -38,7 +41,8 @@ append-none : (xs : List ℕ) → xs ++ [] ≡ xs
 append-none [] = refl
 append-none (x ∷ xs) = ap (λ r. x ∷ r) (append-none xs)
 
-concat-byte : (ps : List (List ℕ)) (p : List ℕ) (b : ℕ) → concat (ps ++ (p ++ b ∷ []) ∷ []) ≡ concat (ps ++ p ∷ []) ++ b ∷ []
+concat-byte : (ps : List (List ℕ)) (p : List ℕ) (b : ℕ)
+    → concat (ps ++ (p ++ b ∷ []) ∷ []) ≡ concat (ps ++ p ∷ []) ++ b ∷ []
 concat-byte [] p b = append_assoc p (b ∷ []) [] ∙ (ap (λ r. p ++ r) refl ∙ sym (ap (λ r. r ++ b ∷ []) (append-none p)))
 concat-byte (q ∷ ps) p b = ap (λ r. q ++ r) (concat-byte ps p b) ∙ sym (append_assoc q (concat (ps ++ p ∷ [])) (b ∷ []))
 
@@ -46,7 +50,8 @@ concat-none : (ps : List (List ℕ)) → concat (ps ++ [] ∷ []) ≡ concat ps
 concat-none [] = refl
 concat-none (q ∷ ps) = ap (λ r. q ++ r) (concat-none ps)
 
-ends_from-last : (n k : ℕ) (ps : List (List ℕ)) (p : List ℕ) → ends_from n k (ps ++ p ∷ []) ≡ ends_from n k ps ++ min n (k + total (ps ++ p ∷ [])) ∷ []
+ends_from-last : (n k : ℕ) (ps : List (List ℕ)) (p : List ℕ)
+    → ends_from n k (ps ++ p ∷ []) ≡ ends_from n k ps ++ min n (k + total (ps ++ p ∷ [])) ∷ []
 ends_from-last n k [] p = ap (λ j. min n (k + j) ∷ []) (omega (arith, length-append p []))
 ends_from-last n k (q ∷ ps) p =
     ap (λ r. min n (k + length q) ∷ r) (ends_from-last n (k + length q) ps p
@@ -56,7 +61,8 @@ length-take : (k : ℕ) (xs : List ℕ) → length (take k xs) ≡ min k (length
 length-take k xs = grind (arith, common_steps)
 
 -- a data byte
-pub osc-byte : (n : ℕ) (x : List ℕ × List ℕ) (s : List ℕ) (b : ℕ) (bytes : List ℕ) → (b == 0x3B) ≡ false → (r : ReadsOsc n x s)
+pub osc-byte : (n : ℕ) (x : List ℕ × List ℕ) (s : List ℕ) (b : ℕ) (bytes : List ℕ) → (b == 0x3B) ≡ false
+    → (r : ReadsOsc n x s)
     → bytes ≡ take n (concat (r.parts ++ r.last ∷ []) ++ b ∷ []) → ReadsOsc n (bytes, x.1) (s ++ b ∷ [])
 osc-byte n x s b bytes e r h = record {
   parts = r.parts;
@@ -67,7 +73,8 @@ osc-byte n x s b bytes e r h = record {
 }
 
 -- `;`
-pub osc-semicolon : (n : ℕ) (x : List ℕ × List ℕ) (s : List ℕ) (b : ℕ) (ends : List ℕ) → (b == 0x3B) ≡ true → (r : ReadsOsc n x s)
+pub osc-semicolon : (n : ℕ) (x : List ℕ × List ℕ) (s : List ℕ) (b : ℕ) (ends : List ℕ) → (b == 0x3B) ≡ true
+    → (r : ReadsOsc n x s)
     → ends ≡ take 16 (ends_from n 0 (r.parts ++ r.last ∷ [])) → ReadsOsc n (x.0, ends) (s ++ b ∷ [])
 osc-semicolon n x s b ends e r h = record {
   parts = r.parts ++ r.last ∷ [];
@@ -78,19 +85,23 @@ osc-semicolon n x s b ends e r h = record {
 }
 
 -- one more end
-pub end-room : (n : ℕ) (x : List ℕ × List ℕ) (s : List ℕ) (r : ReadsOsc n x s) → length x.1 < 16 → x.1 ++ length x.0 ∷ [] ≡ take 16 (ends_from n 0 (r.parts ++ r.last ∷ []))
+pub end-room : (n : ℕ) (x : List ℕ × List ℕ) (s : List ℕ) (r : ReadsOsc n x s) → length x.1 < 16
+    → x.1 ++ length x.0 ∷ [] ≡ take 16 (ends_from n 0 (r.parts ++ r.last ∷ []))
 end-room n x s r h =
     let all = r.parts ++ r.last ∷ [] in
     let size : length x.0 ≡ min n (0 + total all) = ap length r.bytes ∙ (length-take n (concat all) ∙ omega arith) in
     let few : length (take 16 (ends_from n 0 r.parts)) < 16 = omega (arith, ap length r.ends) in
     ap (λ y. y ++ length x.0 ∷ []) r.ends ∙ (ap (λ j. take 16 (ends_from n 0 r.parts) ++ j ∷ []) size
-    ∙ (sym (take-room 16 (ends_from n 0 r.parts) (min n (0 + total all)) few) ∙ ap (take 16) (sym (ends_from-last n 0 r.parts r.last))))
+    ∙ (sym (take-room 16 (ends_from n 0 r.parts) (min n (0 + total all)) few)
+    ∙ ap (take 16) (sym (ends_from-last n 0 r.parts r.last))))
 
-pub end-full : (n : ℕ) (x : List ℕ × List ℕ) (s : List ℕ) (r : ReadsOsc n x s) → 16 ≤ length x.1 → x.1 ≡ take 16 (ends_from n 0 (r.parts ++ r.last ∷ []))
+pub end-full : (n : ℕ) (x : List ℕ × List ℕ) (s : List ℕ) (r : ReadsOsc n x s) → 16 ≤ length x.1
+    → x.1 ≡ take 16 (ends_from n 0 (r.parts ++ r.last ∷ []))
 end-full n x s r h =
     let all = r.parts ++ r.last ∷ [] in
     let many : 16 ≤ length (take 16 (ends_from n 0 r.parts)) = omega (arith, ap length r.ends) in
-    r.ends ∙ (sym (take-full 16 (ends_from n 0 r.parts) (min n (0 + total all)) many) ∙ ap (take 16) (sym (ends_from-last n 0 r.parts r.last)))
+    r.ends ∙ (sym (take-full 16 (ends_from n 0 r.parts) (min n (0 + total all)) many)
+    ∙ ap (take 16) (sym (ends_from-last n 0 r.parts r.last)))
 
 -- the pieces at the end
 cut-take : (m start : ℕ) (ends xs : List ℕ) → cut_at start (take m ends) xs ≡ take m (cut_at start ends xs)
@@ -119,9 +130,11 @@ drop_take : (n k : ℕ) (pre xs : List ℕ) → length pre ≡ k → k ≤ n →
 drop_take n k [] xs h l = rw (sym h) (ap (λ j. take j xs) (omega arith))
 drop_take n zero (x ∷ pre) xs h l = absurd (omega (arith, h))
 drop_take zero (suc k) (x ∷ pre) xs h l = absurd (omega arith)
-drop_take (suc n) (suc k) (x ∷ pre) xs h l = drop_take n k pre xs (omega (arith, h)) (omega arith) ∙ ap (λ j. take j xs) (omega arith)
+drop_take (suc n) (suc k) (x ∷ pre) xs h l = drop_take n k pre xs (omega (arith, h)) (omega arith)
+    ∙ ap (λ j. take j xs) (omega arith)
 
-range-piece : (n k : ℕ) (pre p rest : List ℕ) → length pre ≡ k → slice_range (take n (pre ++ (p ++ rest))) (min n k) (min n (k + length p)) ≡ take (n - k) p
+range-piece : (n k : ℕ) (pre p rest : List ℕ) → length pre ≡ k
+    → slice_range (take n (pre ++ (p ++ rest))) (min n k) (min n (k + length p)) ≡ take (n - k) p
 range-piece n k pre p rest h =
     elim (cases_le n k) [
       | inl e ↦
@@ -132,7 +145,8 @@ range-piece n k pre p rest h =
           rw (a, b, c, z) refl
       | inr e ↦
           let a : min n k ≡ k = omega (arith, e) in
-          let d : drop k (take n (pre ++ (p ++ rest))) ≡ take (n - k) (p ++ rest) = drop_take n k pre (p ++ rest) h (omega (arith, e)) in
+          let d : drop k (take n (pre ++ (p ++ rest))) ≡ take (n - k) (p ++ rest) =
+          drop_take n k pre (p ++ rest) h (omega (arith, e)) in
           rw (a, d) (elim (cases_le n (k + length p)) [
             | inl f ↦
                 let b : min n (k + length p) ≡ n = omega (arith, f) in
@@ -140,43 +154,58 @@ range-piece n k pre p rest h =
             | inr f ↦
                 let b : min n (k + length p) ≡ k + length p = omega (arith, f) in
                 let c : k + length p - k ≡ length p = omega arith in
-                rw (b, c) (take_less (length p) (n - k) (p ++ rest) (omega (arith, f)) ∙ (take-append_seam p rest ∙ sym (take_whole (n - k) p (omega (arith, f)))))
+                rw (b, c) (take_less (length p) (n - k) (p ++ rest) (omega (arith, f))
+                ∙ (take-append_seam p rest ∙ sym (take_whole (n - k) p (omega (arith, f)))))
           ])
     ]
 
-cut-first : (n k : ℕ) (ps : List (List ℕ)) (pre : List ℕ) → length pre ≡ k → cut_at (min n k) (ends_from n k ps) (take n (pre ++ concat ps)) ≡ first_bytes (n - k) ps
+cut-first : (n k : ℕ) (ps : List (List ℕ)) (pre : List ℕ) → length pre ≡ k
+    → cut_at (min n k) (ends_from n k ps) (take n (pre ++ concat ps)) ≡ first_bytes (n - k) ps
 cut-first n k [] pre h = refl
 cut-first n k (p ∷ ps) pre h =
     let len : length (pre ++ p) ≡ k + length p = length-append pre p ∙ ap (λ j. j + length p) h in
     let first = range-piece n k pre p (concat ps) h in
-    let more : cut_at (min n (k + length p)) (ends_from n (k + length p) ps) (take n (pre ++ (p ++ concat ps))) ≡ first_bytes (n - k - length p) ps =
-    ap (λ y. cut_at (min n (k + length p)) (ends_from n (k + length p) ps) (take n y)) (sym (append_assoc pre p (concat ps)))
+    let more : cut_at (min n (k + length p)) (ends_from n (k + length p) ps) (take n (pre ++ (p ++ concat ps)))
+    ≡ first_bytes (n - k - length p) ps =
+    ap (λ y. cut_at (min n (k + length p)) (ends_from n (k + length p) ps) (take n y))
+    (sym (append_assoc pre p (concat ps)))
     ∙ (cut-first n (k + length p) ps (pre ++ p) len ∙ ap (λ j. first_bytes j ps) (omega arith)) in cc
 
-pub cut-pieces : (n : ℕ) (x : List ℕ × List ℕ) (s ends : List ℕ) (r : ReadsOsc n x s) → ends ≡ take 16 (ends_from n 0 (r.parts ++ r.last ∷ [])) → cut_at 0 ends x.0 ≡ osc_pieces n s
+pub cut-pieces : (n : ℕ) (x : List ℕ × List ℕ) (s ends : List ℕ) (r : ReadsOsc n x s)
+    → ends ≡ take 16 (ends_from n 0 (r.parts ++ r.last ∷ [])) → cut_at 0 ends x.0 ≡ osc_pieces n s
 cut-pieces n x s ends r h =
     let all = r.parts ++ r.last ∷ [] in
-    ap (λ y. cut_at 0 y x.0) h ∙ (ap (λ y. cut_at 0 (take 16 (ends_from n 0 all)) y) r.bytes ∙ (cut-take 16 0 (ends_from n 0 all) (take n (concat all))
-    ∙ ap (take 16) (ap (λ j. cut_at j (ends_from n 0 all) (take n (concat all))) (omega arith) ∙ (cut-first n 0 all [] refl ∙ (ap (λ j. first_bytes j all) (omega arith) ∙ ap (first_bytes n) (sym r.by_parts))))))
+    ap (λ y. cut_at 0 y x.0) h ∙ (ap (λ y. cut_at 0 (take 16 (ends_from n 0 all)) y) r.bytes
+    ∙ (cut-take 16 0 (ends_from n 0 all) (take n (concat all))
+    ∙ ap (take 16) (ap (λ j. cut_at j (ends_from n 0 all) (take n (concat all))) (omega arith)
+    ∙ (cut-first n 0 all [] refl ∙ (ap (λ j. first_bytes j all) (omega arith) ∙ ap (first_bytes n) (sym r.by_parts))))))
 
 -- one more piece told
-pub tell_step : {X : Type 0} (f : X → List ℕ) (xs : List X) (x : X) (i start end : ℕ) (rest bytes : List ℕ) (all : List (List ℕ)) → i < length xs → f x ≡ slice_range bytes start end
-    → map f (take i xs) ++ cut_at start (end ∷ rest) bytes ≡ all → map f (take (i + 1) (set xs i x)) ++ cut_at end rest bytes ≡ all
+pub tell_step : {X : Type 0} (f : X → List ℕ) (xs : List X) (x : X) (i start end : ℕ) (rest bytes : List ℕ)
+    (all : List (List ℕ)) → i < length xs → f x ≡ slice_range bytes start end
+    → map f (take i xs) ++ cut_at start (end ∷ rest) bytes ≡ all
+    → map f (take (i + 1) (set xs i x)) ++ cut_at end rest bytes ≡ all
 tell_step f xs x i start end rest bytes all h e k =
-    let more : take (i + 1) (set xs i x) ≡ take i xs ++ x ∷ [] = (let m : i + 1 ≡ suc i = omega arith in ap (λ j. take j (set xs i x)) m) ∙ take-suc-set xs i x h in
+    let more : take (i + 1) (set xs i x) ≡ take i xs ++ x ∷ [] =
+    (let m : i + 1 ≡ suc i = omega arith in ap (λ j. take j (set xs i x)) m) ∙ take-suc-set xs i x h in
     ap (λ y. map f y ++ cut_at end rest bytes) more
     ∙ (ap (λ y. y ++ cut_at end rest bytes) (map-last f (take i xs) x)
     ∙ (append_assoc (map f (take i xs)) (f x ∷ []) (cut_at end rest bytes)
     ∙ (ap (λ y. map f (take i xs) ++ y ∷ cut_at end rest bytes) e ∙ k)))
 
-pub rise_at : (start : ℕ) (ends xs : List ℕ) (i : ℕ) → i < length ends → EndsRise start (drop i ends) xs → (start ≤ get_or ends i 0) × EndsRise (get_or ends i 0) (drop (i + 1) ends) xs
+pub rise_at : (start : ℕ) (ends xs : List ℕ) (i : ℕ) → i < length ends → EndsRise start (drop i ends) xs
+    → (start ≤ get_or ends i 0) × EndsRise (get_or ends i 0) (drop (i + 1) ends) xs
 rise_at start ends xs i h k =
-    let e : drop i ends ≡ get_or ends i 0 ∷ drop (i + 1) ends = drop-cons ends i 0 h ∙ (let m : suc i ≡ i + 1 = omega arith in ap (λ j. get_or ends i 0 ∷ drop j ends) m) in
+    let e : drop i ends ≡ get_or ends i 0 ∷ drop (i + 1) ends =
+    drop-cons ends i 0 h ∙ (let m : suc i ≡ i + 1 = omega arith in ap (λ j. get_or ends i 0 ∷ drop j ends) m) in
     rw e at k
 
-pub cut_next : (start : ℕ) (ends xs : List ℕ) (i : ℕ) → i < length ends → cut_at start (drop i ends) xs ≡ slice_range xs start (get_or ends i 0) ∷ cut_at (get_or ends i 0) (drop (i + 1) ends) xs
+pub cut_next : (start : ℕ) (ends xs : List ℕ) (i : ℕ) → i < length ends
+    → cut_at start (drop i ends) xs ≡ slice_range xs start (get_or ends i 0)
+    ∷ cut_at (get_or ends i 0) (drop (i + 1) ends) xs
 cut_next start ends xs i h =
-    let e : drop i ends ≡ get_or ends i 0 ∷ drop (i + 1) ends = drop-cons ends i 0 h ∙ (let m : suc i ≡ i + 1 = omega arith in ap (λ j. get_or ends i 0 ∷ drop j ends) m) in
+    let e : drop i ends ≡ get_or ends i 0 ∷ drop (i + 1) ends =
+    drop-cons ends i 0 h ∙ (let m : suc i ≡ i + 1 = omega arith in ap (λ j. get_or ends i 0 ∷ drop j ends) m) in
     ap (λ y. cut_at start y xs) e
 
 pub not_full : (k m : ℕ) → false ≡ (k == m) → k ≤ m → k < m
@@ -185,11 +214,15 @@ not_full k m h l = grind (arith, nat_tests)
 pub is_full : (k m : ℕ) → true ≡ (k == m) → m ≤ k
 is_full k m h = grind (arith, nat_tests)
 
-pub bytes-room : (n : ℕ) (x : List ℕ × List ℕ) (s : List ℕ) (b : ℕ) (r : ReadsOsc n x s) → length x.0 < n → x.0 ++ b ∷ [] ≡ take n (concat (r.parts ++ r.last ∷ []) ++ b ∷ [])
-bytes-room n x s b r h = ap (λ y. y ++ b ∷ []) r.bytes ∙ sym (take-room n (concat (r.parts ++ r.last ∷ [])) b (omega (arith, ap length r.bytes)))
+pub bytes-room : (n : ℕ) (x : List ℕ × List ℕ) (s : List ℕ) (b : ℕ) (r : ReadsOsc n x s) → length x.0 < n
+    → x.0 ++ b ∷ [] ≡ take n (concat (r.parts ++ r.last ∷ []) ++ b ∷ [])
+bytes-room n x s b r h = ap (λ y. y ++ b ∷ []) r.bytes
+    ∙ sym (take-room n (concat (r.parts ++ r.last ∷ [])) b (omega (arith, ap length r.bytes)))
 
-pub bytes-full : (n : ℕ) (x : List ℕ × List ℕ) (s : List ℕ) (b : ℕ) (r : ReadsOsc n x s) → n ≤ length x.0 → x.0 ≡ take n (concat (r.parts ++ r.last ∷ []) ++ b ∷ [])
-bytes-full n x s b r h = r.bytes ∙ sym (take-full n (concat (r.parts ++ r.last ∷ [])) b (omega (arith, ap length r.bytes)))
+pub bytes-full : (n : ℕ) (x : List ℕ × List ℕ) (s : List ℕ) (b : ℕ) (r : ReadsOsc n x s) → n ≤ length x.0
+    → x.0 ≡ take n (concat (r.parts ++ r.last ∷ []) ++ b ∷ [])
+bytes-full n x s b r h = r.bytes ∙ sym (take-full n (concat (r.parts ++ r.last ∷ [])) b
+    (omega (arith, ap length r.bytes)))
 
 pub reads-by : (n : ℕ) (x y : List ℕ × List ℕ) (s : List ℕ) → x ≡ y → ReadsOsc n y s → ReadsOsc n x s
 reads-by n x y s e r = subst (λ (z : List ℕ × List ℕ). ReadsOsc n z s) (sym e) r

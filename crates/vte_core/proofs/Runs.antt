@@ -1,5 +1,7 @@
 -- Ground text in runs of whole characters.
-use Rattle.std.proofs.Common.{◌≡◌, ℕ, zero, suc, ◌+◌, ◌-◌, ◌*◌, ◌/◌, ◌%◌, ◌<◌, ◌≤◌, Bool, true, false, not, ◌&&◌, List, [], ◌∷◌, ◌++◌, ◌⊎◌, inl, inr, map, nat_lt, length, take, drop, get_or, ◌==◌, refl, sym, ◌∙◌, ap, subst, arith, append_assoc, length-take}
+use Rattle.std.proofs.Common.{◌≡◌, ℕ, zero, suc, ◌+◌, ◌-◌, ◌*◌, ◌/◌, ◌%◌, ◌<◌, ◌≤◌, Bool, true, false, not, ◌&&◌, List}
+use Rattle.std.proofs.Common.{[], ◌∷◌, ◌++◌, ◌⊎◌, inl, inr, map, nat_lt, length, take, drop, get_or, ◌==◌, refl, sym}
+use Rattle.std.proofs.Common.{◌∙◌, ap, subst, arith, append_assoc, length-take}
 use Rattle.std.proofs.lemmas.Bool.Decides.{nat_tests}
 use Rattle.std.proofs.lemmas.Grind.{common_steps}
 use Rattle.std.proofs.lemmas.Bool.{ltb-true, eqb-true, eq-eqb}
@@ -15,12 +17,14 @@ use Rattle.vte_core.specs.Event.{Event, Performs, Print}
 use Rattle.vte_core.specs.Bytes.{is_esc}
 use Rattle.vte_core.specs.Text.{char_len, second_min, second_max, first_bits, char_event}
 use Rattle.vte_core.specs.Shapes.{before, from}
-use Rattle.vte_core.specs.Pending.{Pending, InText, InEscape, InCsi, InOsc, InHook, InDevice, InSwallowed, text_told, text_rest, events_of_byte, events_from, after_byte, after_bytes}
+use Rattle.vte_core.specs.Pending.{Pending, InText, InEscape, InCsi, InOsc, InHook, InDevice, InSwallowed, text_told}
+use Rattle.vte_core.specs.Pending.{text_rest, events_of_byte, events_from, after_byte, after_bytes}
 use Rattle.vte_core.specs.Runs.{run_told, run_rest, has_no_esc, is_one_step, is_printed, printed_len}
 use Rattle.vte_core.specs.Standing.{IsAt, state_is_text}
 use Rattle.vte_core.specs.declared.Parser.{Parser}
 use Rattle.vte_core.specs.declared.State.{State}
-use Rattle.vte_core.specs.declared.State.TheVariants.{Ground, Escape, Csi, OscString, DcsHeader, DcsPassthrough, SosPmApcString}
+use Rattle.vte_core.specs.declared.State.TheVariants.{Ground, Escape, Csi, OscString, DcsHeader, DcsPassthrough}
+use Rattle.vte_core.specs.declared.State.TheVariants.{SosPmApcString}
 use Rattle.vte_core.specs.Stopping.{StopsAt, runs_on, is_text}
 use Rattle.vte_core.proofs.Characters.{bool_cases}
 use lib.Seq.{take-add}
@@ -30,26 +34,37 @@ use Rattle.vte_core.proofs.StopLemmas.{whole_rest, is_text-at}
 
 -- a character of one byte, of two, three and four
 
-pub one : (c : ℕ) (rest : List ℕ) → c < 128 → (run_told [] (c ∷ rest) ≡ char_event c ∷ run_told [] rest) × (run_rest [] (c ∷ rest) ≡ run_rest [] rest)
+pub one : (c : ℕ) (rest : List ℕ) → c < 128 → (run_told [] (c ∷ rest) ≡ char_event c ∷ run_told [] rest)
+    × (run_rest [] (c ∷ rest) ≡ run_rest [] rest)
 one c rest h =
     let n : char_len c ≡ 1 = grind (arith, nat_tests) in
     let e : first_bits c ≡ c = grind (arith, nat_tests) in
     (rw n (ap (λ x. char_event x ∷ run_told [] rest) e), rw n refl)
 
-two : (a b c : ℕ) (rest : List ℕ) → char_len a ≡ 2 → is_in_range (second_min a) (second_max a) b ≡ true → first_bits a * 64 + (b - 128) ≡ c
+two : (a b c : ℕ) (rest : List ℕ) → char_len a ≡ 2 → is_in_range (second_min a) (second_max a) b ≡ true
+    → first_bits a * 64 + (b - 128) ≡ c
     → (run_told [] (a ∷ b ∷ rest) ≡ char_event c ∷ run_told [] rest) × (run_rest [] (a ∷ b ∷ rest) ≡ run_rest [] rest)
 two a b c rest n s e = (rw (n, s, n) (ap (λ x. char_event x ∷ run_told [] rest) e), rw (n, s, n) refl)
 
-three : (a b d c : ℕ) (rest : List ℕ) → char_len a ≡ 3 → is_in_range (second_min a) (second_max a) b ≡ true → is_in_range 0x80 0xBF d ≡ true
-    → (first_bits a * 64 + (b - 128)) * 64 + (d - 128) ≡ c → (run_told [] (a ∷ b ∷ d ∷ rest) ≡ char_event c ∷ run_told [] rest) × (run_rest [] (a ∷ b ∷ d ∷ rest) ≡ run_rest [] rest)
+three : (a b d c : ℕ) (rest : List ℕ) → char_len a ≡ 3 → is_in_range (second_min a) (second_max a) b ≡ true
+    → is_in_range 0x80 0xBF d ≡ true
+    → (first_bits a * 64 + (b - 128)) * 64 + (d - 128) ≡ c
+    → (run_told [] (a ∷ b ∷ d ∷ rest) ≡ char_event c ∷ run_told [] rest)
+    × (run_rest [] (a ∷ b ∷ d ∷ rest) ≡ run_rest [] rest)
 three a b d c rest n s t e = (rw (n, s, n, t, n) (ap (λ x. char_event x ∷ run_told [] rest) e), rw (n, s, n, t, n) refl)
 
-four : (a b d e c : ℕ) (rest : List ℕ) → char_len a ≡ 4 → is_in_range (second_min a) (second_max a) b ≡ true → is_in_range 0x80 0xBF d ≡ true → is_in_range 0x80 0xBF e ≡ true
+four : (a b d e c : ℕ) (rest : List ℕ) → char_len a ≡ 4 → is_in_range (second_min a) (second_max a) b ≡ true
+    → is_in_range 0x80 0xBF d ≡ true → is_in_range 0x80 0xBF e ≡ true
     → ((first_bits a * 64 + (b - 128)) * 64 + (d - 128)) * 64 + (e - 128) ≡ c
-    → (run_told [] (a ∷ b ∷ d ∷ e ∷ rest) ≡ char_event c ∷ run_told [] rest) × (run_rest [] (a ∷ b ∷ d ∷ e ∷ rest) ≡ run_rest [] rest)
-four a b d e c rest n s t u is = (rw (n, s, n, t, n, u, n) (ap (λ x. char_event x ∷ run_told [] rest) is), rw (n, s, n, t, n, u, n) refl)
+    → (run_told [] (a ∷ b ∷ d ∷ e ∷ rest) ≡ char_event c ∷ run_told [] rest)
+    × (run_rest [] (a ∷ b ∷ d ∷ e ∷ rest) ≡ run_rest [] rest)
+four a b d e c rest n s t u is = (
+  rw (n, s, n, t, n, u, n) (ap (λ x. char_event x ∷ run_told [] rest) is),
+  rw (n, s, n, t, n, u, n) refl,
+)
 
-encode-two : (c : ℕ) → 128 ≤ c → c < 2048 → (char_len (192 + c / 64) ≡ 2) × (is_in_range (second_min (192 + c / 64)) (second_max (192 + c / 64)) (128 + c % 64) ≡ true)
+encode-two : (c : ℕ) → 128 ≤ c → c < 2048 → (char_len (192 + c / 64) ≡ 2)
+    × (is_in_range (second_min (192 + c / 64)) (second_max (192 + c / 64)) (128 + c % 64) ≡ true)
     × (first_bits (192 + c / 64) * 64 + (128 + c % 64 - 128) ≡ c)
 encode-two c h k =
     let q : c / 64 < 32 = omega arith in
@@ -59,7 +74,8 @@ encode-two c h k =
     (grind (arith, nat_tests), grind (arith, nat_tests), grind (arith, nat_tests))
 
 encode-three : (c x y : ℕ) → 2048 ≤ c → c < 65536 → (c < 55296) ⊎ (57344 ≤ c) → x ≡ c / 4096 → y ≡ c / 64 % 64
-    → (char_len (224 + x) ≡ 3) × (is_in_range (second_min (224 + x)) (second_max (224 + x)) (128 + y) ≡ true) × (is_in_range 0x80 0xBF (128 + c % 64) ≡ true)
+    → (char_len (224 + x) ≡ 3) × (is_in_range (second_min (224 + x)) (second_max (224 + x)) (128 + y) ≡ true)
+    × (is_in_range 0x80 0xBF (128 + c % 64) ≡ true)
     × ((first_bits (224 + x) * 64 + (128 + y - 128)) * 64 + (128 + c % 64 - 128) ≡ c)
 encode-three c x y h k s p q =
     let r : c % 64 < 64 = omega arith in
@@ -69,15 +85,21 @@ encode-three c x y h k s p q =
     (grind (arith, nat_tests), grind (arith, nat_tests), grind (arith, nat_tests), grind (arith, nat_tests))
 
 encode-four : (c x y z : ℕ) → 65536 ≤ c → c < 1114112 → x ≡ c / 262144 → y ≡ c / 4096 % 64 → z ≡ c / 64 % 64
-    → (char_len (240 + x) ≡ 4) × (is_in_range (second_min (240 + x)) (second_max (240 + x)) (128 + y) ≡ true) × (is_in_range 0x80 0xBF (128 + z) ≡ true) × (is_in_range 0x80 0xBF (128 + c % 64) ≡ true)
+    → (char_len (240 + x) ≡ 4) × (is_in_range (second_min (240 + x)) (second_max (240 + x)) (128 + y) ≡ true)
+    × (is_in_range 0x80 0xBF (128 + z) ≡ true) × (is_in_range 0x80 0xBF (128 + c % 64) ≡ true)
     × (((first_bits (240 + x) * 64 + (128 + y - 128)) * 64 + (128 + z - 128)) * 64 + (128 + c % 64 - 128) ≡ c)
 encode-four c x y z h k p q w =
     let r : c % 64 < 64 = omega arith in
     let t : y < 64 = omega arith in
     let u : z < 64 = omega arith in
     let d : 262144 * x + (4096 * y + (64 * z + c % 64)) ≡ c = omega arith in
-    let l : x < 5 = omega arith in
-    (grind (arith, nat_tests), grind (arith, nat_tests), grind (arith, nat_tests), grind (arith, nat_tests), grind (arith, nat_tests))
+    let l : x < 5 = omega arith in (
+      grind (arith, nat_tests),
+      grind (arith, nat_tests),
+      grind (arith, nat_tests),
+      grind (arith, nat_tests),
+      grind (arith, nat_tests),
+    )
 
 nat_not : (a b : ℕ) → nat_lt a b ≡ false → b ≤ a
 nat_not a b h = grind (arith, nat_tests)
@@ -87,13 +109,15 @@ and_both true b h = (refl, h)
 and_both false b h = cc
 
 -- a whole character tells itself, and leaves nothing
-run-char : (c : ℕ) (rest : List ℕ) → IsScalar c → (run_told [] (encode_utf8 c ++ rest) ≡ char_event c ∷ run_told [] rest) × (run_rest [] (encode_utf8 c ++ rest) ≡ run_rest [] rest)
+run-char : (c : ℕ) (rest : List ℕ) → IsScalar c → (run_told [] (encode_utf8 c ++ rest) ≡ char_event c
+    ∷ run_told [] rest) × (run_rest [] (encode_utf8 c ++ rest) ≡ run_rest [] rest)
 unfolding encode_utf8
 run-char c rest h =
     elim (bool_cases (nat_lt c 128)) [
       | inl e ↦ rw e (one c rest (ltb-true c 128 e))
       | inr e ↦ elim (bool_cases (nat_lt c 2048)) [
-        | inl f ↦ rw (e, f) (let k = encode-two c (omega (arith, nat_not c 128 e)) (ltb-true c 2048 f) in two (192 + c / 64) (128 + c % 64) c rest k.0 k.1 k.2)
+        | inl f ↦ rw (e, f) (let k = encode-two c (omega (arith, nat_not c 128 e)) (ltb-true c 2048 f)
+            in two (192 + c / 64) (128 + c % 64) c rest k.0 k.1 k.2)
         | inr f ↦ elim (bool_cases (nat_lt c 65536)) [
           | inl j ↦ rw (e, f, j) (
               let ok : (c < 55296) ⊎ (57344 ≤ c) = elim (scalar_cases c h) [ inl a ↦ inl a | inr a ↦ inr a.0 ] in
@@ -101,13 +125,16 @@ run-char c rest h =
               three (224 + c / 4096) (128 + c / 64 % 64) (128 + c % 64) c rest k.0 k.1 k.2 k.3)
           | inr j ↦ rw (e, f, j) (
               let high : c < 1114112 = elim (scalar_cases c h) [ inl a ↦ omega (arith, a) | inr a ↦ a.1 ] in
-              let k = encode-four c (c / 262144) (c / 4096 % 64) (c / 64 % 64) (nat_not c 65536 j) high refl refl refl in
-              four (240 + c / 262144) (128 + c / 4096 % 64) (128 + c / 64 % 64) (128 + c % 64) c rest k.0 k.1 k.2 k.3 k.4)
+              let k = encode-four c (c / 262144) (c / 4096 % 64) (c / 64 % 64) (nat_not c 65536 j) high refl refl refl
+              in
+              four (240 + c / 262144) (128 + c / 4096 % 64) (128 + c / 64 % 64) (128 + c % 64) c rest k.0 k.1 k.2 k.3
+              k.4)
         ]
       ]
     ]
 
-run-chars : (cs : List ℕ) → all_scalars cs ≡ true → (run_told [] (encode_utf8_all cs) ≡ map char_event cs) × (run_rest [] (encode_utf8_all cs) ≡ [])
+run-chars : (cs : List ℕ) → all_scalars cs ≡ true → (run_told [] (encode_utf8_all cs) ≡ map char_event cs)
+    × (run_rest [] (encode_utf8_all cs) ≡ [])
 run-chars [] h = (refl, refl)
 run-chars (c ∷ cs) h =
     let g = and_both _ _ h in
@@ -125,7 +152,8 @@ run-text bs h =
 pub run_told-append : (u xs ys : List ℕ) → run_told u (xs ++ ys) ≡ run_told u xs ++ run_told (run_rest u xs) ys
 run_told-append u [] ys = refl
 run_told-append u (x ∷ xs) ys =
-    ap (λ es. text_told u x ++ es) (run_told-append (text_rest u x) xs ys) ∙ sym (append_assoc (text_told u x) (run_told (text_rest u x) xs) (run_told (run_rest (text_rest u x) xs) ys))
+    ap (λ es. text_told u x ++ es) (run_told-append (text_rest u x) xs ys)
+    ∙ sym (append_assoc (text_told u x) (run_told (text_rest u x) xs) (run_told (run_rest (text_rest u x) xs) ys))
 
 pub run_rest-append : (u xs ys : List ℕ) → run_rest u (xs ++ ys) ≡ run_rest (run_rest u xs) ys
 run_rest-append u [] ys = refl
@@ -134,9 +162,14 @@ run_rest-append u (x ∷ xs) ys = run_rest-append (text_rest u x) xs ys
 -- the bytes before the next ESC
 
 pub no_esc-both : (b : ℕ) (bs : List ℕ) → has_no_esc (b ∷ bs) ≡ true → (is_esc b ≡ false) × (has_no_esc bs ≡ true)
-no_esc-both b bs h = elim (bool_cases (is_esc b)) [ inl e ↦ let g = rw e at h in cc | inr e ↦ (e, let g = rw e at h in g) ]
+no_esc-both b bs h = elim (bool_cases (is_esc b)) [
+  | inl e ↦ let g = rw e at h
+      in cc
+  | inr e ↦ (e, let g = rw e at h in g)
+]
 
-pub run-events : (n : ℕ) (u bs : List ℕ) → has_no_esc bs ≡ true → (events_from n (InText u) bs ≡ run_told u bs) × (after_bytes (InText u) bs ≡ InText (run_rest u bs))
+pub run-events : (n : ℕ) (u bs : List ℕ) → has_no_esc bs ≡ true → (events_from n (InText u) bs ≡ run_told u bs)
+    × (after_bytes (InText u) bs ≡ InText (run_rest u bs))
 run-events n u [] h = (refl, refl)
 run-events n u (b ∷ bs) h =
     let g = no_esc-both b bs h in
@@ -150,7 +183,8 @@ no_esc-before (b ∷ s) = elim (bool_cases (is_esc b)) [ inl e ↦ rw e refl | i
 
 pub take-before : (s : List ℕ) → take (length (before is_esc s)) s ≡ before is_esc s
 take-before [] = refl
-take-before (b ∷ s) = elim (bool_cases (is_esc b)) [ inl e ↦ rw e refl | inr e ↦ rw e (ap (λ r. b ∷ r) (take-before s)) ]
+take-before (b ∷ s) = elim (bool_cases (is_esc b))
+    [ inl e ↦ rw e refl | inr e ↦ rw e (ap (λ r. b ∷ r) (take-before s)) ]
 
 pub drop-before : (s : List ℕ) → drop (length (before is_esc s)) s ≡ from is_esc s
 drop-before [] = refl
@@ -160,9 +194,14 @@ drop-before (b ∷ s) = elim (bool_cases (is_esc b)) [ inl e ↦ rw e refl | inr
 
 stops_on : (u : List ℕ) (b : ℕ) (s : List ℕ) → runs_on (InText u) b (from is_esc s) ≡ false
 stops_on u b [] = refl
-stops_on u b (c ∷ s) = elim (bool_cases (is_esc c)) [ inl e ↦ rw e (rw e (elim (bool_cases (is_esc b)) [ inl f ↦ rw f refl | inr f ↦ rw f refl ])) | inr e ↦ rw e (stops_on u b s) ]
+stops_on u b (c ∷ s) = elim (bool_cases (is_esc c)) [
+  | inl e ↦ rw e (rw e (elim (bool_cases (is_esc b)) [ inl f ↦ rw f refl | inr f ↦ rw f refl ]))
+  | inr e ↦ rw e
+      (stops_on u b s)
+]
 
-step-text : (u : List ℕ) (b : ℕ) (bs s : List ℕ) → has_no_esc (b ∷ bs) ≡ true → is_one_step (InText u) (b ∷ bs) (from is_esc s) ≡ true
+step-text : (u : List ℕ) (b : ℕ) (bs s : List ℕ) → has_no_esc (b ∷ bs) ≡ true
+    → is_one_step (InText u) (b ∷ bs) (from is_esc s) ≡ true
 step-text u b [] s h = ap not (stops_on u b s)
 step-text u b (c ∷ bs) s h =
     let g = no_esc-both b (c ∷ bs) h in
@@ -170,7 +209,8 @@ step-text u b (c ∷ bs) s h =
     let f : is_esc c ≡ false = (no_esc-both c bs g.1).0 in
     rw (e, f) (step-text (text_rest u b) c bs s g.1)
 
-pub step-run : (u s : List ℕ) → 0 < length (before is_esc s) → is_one_step (InText u) (before is_esc s) (from is_esc s) ≡ true
+pub step-run : (u s : List ℕ) → 0 < length (before is_esc s)
+    → is_one_step (InText u) (before is_esc s) (from is_esc s) ≡ true
 step-run u [] h = absurd (omega (arith, h))
 step-run u (b ∷ s) h =
     elim (bool_cases (is_esc b)) [
@@ -178,21 +218,31 @@ step-run u (b ∷ s) h =
       | inr e ↦ rw e (step-text u b (before is_esc s) s (rw e (no_esc-before s)))
     ]
 
-performs-split : {S : Type 0} (step : S → Event → S → Type 0) (old new : S) (es fs : List Event) → Performs step old (es ++ fs) new → (mid : S) × Performs step old es mid × Performs step mid fs new
+performs-split : {S : Type 0} (step : S → Event → S → Type 0) (old new : S) (es fs : List Event)
+    → Performs step old (es ++ fs) new → (mid : S) × Performs step old es mid × Performs step mid fs new
 performs-split {S} step old new [] fs h = (old, refl, h)
-performs-split {S} step old new (e ∷ es) fs (m, s, h) = let r = performs-split step m new es fs h in (r.0, (m, s, r.1), r.2)
+performs-split {S} step old new (e ∷ es) fs (m, s, h) = let r = performs-split step m new es fs h
+    in (r.0, (m, s, r.1), r.2)
 
 -- over one step of the parser, at whose beginning the performer goes on
-pub stop_steps : {S : Type 0} (step : S → Event → S → Type 0) (terminated : S → Bool) (n : ℕ) (q : Pending) (asked : Bool) (bs rest : List ℕ) (old mid : S) (k : ℕ) (new : S)
+pub stop_steps : {S : Type 0} (step : S → Event → S → Type 0) (terminated : S
+    → Bool) (n : ℕ) (q : Pending) (asked : Bool) (bs rest : List ℕ) (old mid : S) (k : ℕ) (new : S)
     → is_one_step q bs rest ≡ true → (asked && terminated old) ≡ false → Performs step old (events_from n q bs) mid
-    → StopsAt step terminated n (after_bytes q bs) true rest mid k new → StopsAt step terminated n q asked (bs ++ rest) old (length bs + k) new
+    → StopsAt step terminated n (after_bytes q bs) true rest mid k new
+    → StopsAt step terminated n q asked (bs ++ rest) old (length bs + k) new
 stop_steps {S} step terminated n q asked [] rest old mid k new o e p r = cc
 stop_steps {S} step terminated n q asked (b ∷ []) rest old mid k new o e p r =
     let d = performs-split step old mid (events_of_byte n q b) [] p in
     let same : mid ≡ d.0 = d.2 in
     let m : suc k ≡ 1 + k = omega arith in
     subst (λ (j : ℕ). StopsAt step terminated n q asked (b ∷ rest) old j new) m
-    (rw e (mid, k, refl, subst (λ (x : S). Performs step old (events_of_byte n q b) x) (sym same) d.1, subst (λ (v : Bool). StopsAt step terminated n (after_byte q b) v rest mid k new) (sym o) r))
+    (rw e (
+      mid,
+      k,
+      refl,
+      subst (λ (x : S). Performs step old (events_of_byte n q b) x) (sym same) d.1,
+      subst (λ (v : Bool). StopsAt step terminated n (after_byte q b) v rest mid k new) (sym o) r,
+    ))
 stop_steps {S} step terminated n q asked (b ∷ c ∷ bs) rest old mid k new o e p r =
     let both = and_both (runs_on q b (c ∷ bs)) (is_one_step (after_byte q b) (c ∷ bs) rest) o in
     let on : runs_on q b (c ∷ (bs ++ rest)) ≡ true = both.0 in
@@ -204,7 +254,8 @@ stop_steps {S} step terminated n q asked (b ∷ c ∷ bs) rest old mid k new o e
       length (c ∷ bs) + k,
       refl,
       d.1,
-      subst (λ (v : Bool). StopsAt step terminated n (after_byte q b) v (c ∷ (bs ++ rest)) d.0 (length (c ∷ bs) + k) new) (ap not (sym on))
+      subst (λ (v : Bool). StopsAt step terminated n (after_byte q b) v (c
+          ∷ (bs ++ rest)) d.0 (length (c ∷ bs) + k) new) (ap not (sym on))
           (stop_steps step terminated n (after_byte q b) false (c ∷ bs) rest d.0 mid k new both.1 refl d.2 r),
     ))
 
@@ -218,9 +269,14 @@ read_more bs i k = take-add i k bs ∙ ap (λ xs. take i bs ++ take k xs) (sym (
 
 -- where the parser reads ground text
 
-text_pending : (n : ℕ) (p : Parser n) (q : Pending) (run : List ℕ) → IsAt n p q → is_text q ≡ true → has_no_esc run ≡ true
+text_pending : (n : ℕ) (p : Parser n) (q : Pending) (run : List ℕ) → IsAt n p q → is_text q ≡ true
+    → has_no_esc run ≡ true
     → (events_from n q run ≡ run_told p.unfinished run) × (after_bytes q run ≡ InText (run_rest p.unfinished run))
-text_pending n p (InText u) run h t e = let r = run-events n u run e in (r.0 ∙ ap (λ (v : List ℕ). run_told v run) (sym h.1), r.1 ∙ ap (λ (v : List ℕ). InText (run_rest v run)) (sym h.1))
+text_pending n p (InText u) run h t e = let r = run-events n u run e
+    in (
+      r.0 ∙ ap (λ (v : List ℕ). run_told v run) (sym h.1),
+      r.1 ∙ ap (λ (v : List ℕ). InText (run_rest v run)) (sym h.1),
+    )
 text_pending n p (InEscape is) run h t e = cc
 text_pending n p (InCsi x) run h t e = cc
 text_pending n p (InOsc x) run h t e = cc
@@ -230,9 +286,11 @@ text_pending n p InSwallowed run h t e = cc
 
 pub before-len : (s : List ℕ) → length (before is_esc s) ≤ length s
 before-len [] = omega arith
-before-len (b ∷ s) = elim (bool_cases (is_esc b)) [ inl e ↦ rw e (omega arith) | inr e ↦ rw e (let r = before-len s in omega (arith, r)) ]
+before-len (b ∷ s) = elim (bool_cases (is_esc b))
+    [ inl e ↦ rw e (omega arith) | inr e ↦ rw e (let r = before-len s in omega (arith, r)) ]
 
-step-at : (q : Pending) (bs : List ℕ) → is_text q ≡ true → 0 < length (before is_esc bs) → is_one_step q (before is_esc bs) (from is_esc bs) ≡ true
+step-at : (q : Pending) (bs : List ℕ) → is_text q ≡ true → 0 < length (before is_esc bs)
+    → is_one_step q (before is_esc bs) (from is_esc bs) ≡ true
 step-at (InText u) bs t h = step-run u bs h
 step-at (InEscape is) bs t h = cc
 step-at (InCsi x) bs t h = cc
@@ -260,8 +318,10 @@ text-byte true false h = (refl, refl)
 text-byte false b h = cc
 
 -- a run of ground text, from where the parser stands
-pub run-at : (n : ℕ) (p : Parser n) (bs : List ℕ) (k : ℕ) (q : Pending) → 0 < length bs → (state_is_text p.state && not (is_esc (get_or bs 0 0))) ≡ true → k ≡ length (before is_esc bs) → IsAt n p q
-    → (events_from n q (take k bs) ≡ run_told p.unfinished (take k bs)) × (after_bytes q (take k bs) ≡ InText (run_rest p.unfinished (take k bs)))
+pub run-at : (n : ℕ) (p : Parser n) (bs : List ℕ) (k : ℕ) (q : Pending) → 0 < length bs
+    → (state_is_text p.state && not (is_esc (get_or bs 0 0))) ≡ true → k ≡ length (before is_esc bs) → IsAt n p q
+    → (events_from n q (take k bs) ≡ run_told p.unfinished (take k bs))
+    × (after_bytes q (take k bs) ≡ InText (run_rest p.unfinished (take k bs)))
     × (is_one_step q (take k bs) (drop k bs) ≡ true) × (p.state ≡ Ground)
 run-at n p bs k q some is len h =
     let e = text-byte (state_is_text p.state) (is_esc (get_or bs 0 0)) is in
@@ -269,8 +329,31 @@ run-at n p bs k q some is len h =
     let front : take k bs ≡ before is_esc bs = ap (λ (j : ℕ). take j bs) len ∙ take-before bs in
     let back : drop k bs ≡ from is_esc bs = ap (λ (j : ℕ). drop j bs) len ∙ drop-before bs in
     let r = text_pending n p q (take k bs) h text (ap has_no_esc front ∙ no_esc-before bs) in
-    let step = step-at q bs text (some-before bs some e.1) in
-    (r.0, r.1, ap (λ (xs : List ℕ). is_one_step q xs (drop k bs)) front ∙ (ap (is_one_step q (before is_esc bs)) back ∙ step), is_ground p.state e.0)
+    let step = step-at q bs text (some-before bs some e.1) in (
+      r.0,
+      r.1,
+      ap (λ (xs : List ℕ). is_one_step q xs (drop k bs)) front
+          ∙ (ap (is_one_step q (before is_esc bs)) back ∙ step),
+      is_ground p.state e.0,
+    )
+
+-- up to the next ESC, where the parser stands in ground text
+pub ground-run : (n : ℕ) (p : Parser n) (bs : List ℕ) (k : ℕ) (q : Pending) → p.state ≡ Ground
+    → k ≡ length (before is_esc bs) → IsAt n p q
+    → (events_from n q (take k bs) ≡ run_told p.unfinished (take k bs))
+    × (after_bytes q (take k bs) ≡ InText (run_rest p.unfinished (take k bs)))
+ground-run n p bs k q s len h =
+    let text : is_text q ≡ true = is_text-at n p q h ∙ ap state_is_text s in
+    let front : take k bs ≡ before is_esc bs = ap (λ (j : ℕ). take j bs) len ∙ take-before bs in
+    text_pending n p q (take k bs) h text (ap has_no_esc front ∙ no_esc-before bs)
+
+pub at-esc : (bs : List ℕ) → length (before is_esc bs) < length bs
+    → get_or (drop (length (before is_esc bs)) bs) 0 0 ≡ 0x1B
+at-esc [] h = absurd (omega (arith, h))
+at-esc (b ∷ bs) h = elim (bool_cases (is_esc b)) [
+  | inl e ↦ rw e (eqb-true b 0x1B e)
+  | inr e ↦ let g = rw e at h in rw e (at-esc bs (omega (arith, g)))
+]
 
 no_run : (q : Pending) (b : ℕ) (s : List ℕ) → (is_text q ≡ true → is_esc b ≡ true) → is_one_step q (b ∷ []) s ≡ true
 no_run q b [] h = refl
@@ -281,34 +364,44 @@ no_run q b (c ∷ s) h =
     ]
 
 -- one byte of a sequence, or ESC
-pub byte-at : (n : ℕ) (p : Parser n) (bs : List ℕ) (q : Pending) → 0 < length bs → (state_is_text p.state && not (is_esc (get_or bs 0 0))) ≡ false → IsAt n p q → is_one_step q (take 1 bs) (drop 1 bs) ≡ true
+pub byte-at : (n : ℕ) (p : Parser n) (bs : List ℕ) (q : Pending) → 0 < length bs
+    → (state_is_text p.state && not (is_esc (get_or bs 0 0))) ≡ false → IsAt n p q
+    → is_one_step q (take 1 bs) (drop 1 bs) ≡ true
 byte-at n p [] q some none h = absurd (omega (arith, some))
 byte-at n p (b ∷ s) q some none h = no_run q b s (λ t.
     elim (bool_cases (is_esc b)) [
       | inl e ↦ e
-      | inr e ↦ let text : state_is_text p.state ≡ true = sym (is_text-at n p q h) ∙ t in let no = rw (text, e) at none in cc
+      | inr e ↦ let text : state_is_text p.state ≡ true = sym (is_text-at n p q h) ∙ t in let no = rw (text, e) at none
+          in cc
     ])
 
 -- one more step of the parser
-pub one_more_step : (n : ℕ) (q : Pending) (front piece all : List ℕ) (es ds : List Event) → all ≡ front ++ piece → es ≡ events_from n q front → ds ≡ events_from n (after_bytes q front) piece
+pub one_more_step : (n : ℕ) (q : Pending) (front piece all : List ℕ) (es ds : List Event) → all ≡ front ++ piece
+    → es ≡ events_from n q front → ds ≡ events_from n (after_bytes q front) piece
     → (es ++ ds ≡ events_from n q all) × (after_bytes q all ≡ after_bytes (after_bytes q front) piece)
 one_more_step n q front piece all es ds e p r = (
-  ap (λ (xs : List Event). xs ++ ds) p ∙ (ap (λ (ys : List Event). events_from n q front ++ ys) r ∙ (sym (events_from-append n q front piece) ∙ ap (events_from n q) (sym e))),
+  ap (λ (xs : List Event). xs ++ ds) p ∙ (ap (λ (ys : List Event). events_from n q front ++ ys) r
+      ∙ (sym (events_from-append n q front piece) ∙ ap (events_from n q) (sym e))),
   ap (after_bytes q) e ∙ after_bytes-append q front piece,
 )
 
 -- the piece that a step read of what is left, and the rest of it
 pub piece_and_rest : (bs : List ℕ) (i k : ℕ) → k ≤ length (take (length bs - i) (drop i bs))
-    → (take k (take (length bs - i) (drop i bs)) ++ drop k (take (length bs - i) (drop i bs)) ≡ drop i bs) × (length (take k (take (length bs - i) (drop i bs))) ≡ k)
+    → (take k (take (length bs - i) (drop i bs)) ++ drop k (take (length bs - i) (drop i bs)) ≡ drop i bs)
+    × (length (take k (take (length bs - i) (drop i bs))) ≡ k)
     × (drop (i + k) bs ≡ drop k (take (length bs - i) (drop i bs)))
 piece_and_rest bs i k h =
     let ys = take (length bs - i) (drop i bs) in
-    let same : take (length bs - i) (drop i bs) ≡ drop i bs = whole_rest bs i in
-    (take-append-drop k (take (length bs - i) (drop i bs)) ∙ same, omega (arith, h, length-take k (take (length bs - i) (drop i bs))), sym (drop-drop k i bs) ∙ ap (drop k) (sym same))
+    let same : take (length bs - i) (drop i bs) ≡ drop i bs = whole_rest bs i in (
+      take-append-drop k (take (length bs - i) (drop i bs)) ∙ same,
+      omega (arith, h, length-take k (take (length bs - i) (drop i bs))),
+      sym (drop-drop k i bs) ∙ ap (drop k) (sym same),
+    )
 
 -- bytes without controls that are executed
 
-pub printed-both : (b : ℕ) (bs : List ℕ) → printed_len (b ∷ bs) ≡ suc (length bs) → (is_printed b bs ≡ true) × (printed_len bs ≡ length bs)
+pub printed-both : (b : ℕ) (bs : List ℕ) → printed_len (b ∷ bs) ≡ suc (length bs) → (is_printed b bs ≡ true)
+    × (printed_len bs ≡ length bs)
 printed-both b bs h =
     elim (bool_cases (is_printed b bs)) [
       | inl e ↦ (e, let g = rw e at h in omega (arith, g))
@@ -316,7 +409,11 @@ printed-both b bs h =
     ]
 
 printed-take : (b n : ℕ) (bs : List ℕ) → is_printed b bs ≡ true → is_printed b (take n bs) ≡ true
-printed-take b zero bs h = elim (bool_cases (nat_lt b 0x20)) [ inl e ↦ let g = rw e at h in cc | inr e ↦ rw e (elim (bool_cases (b == 0xC2)) [ inl f ↦ rw f refl | inr f ↦ rw f refl ]) ]
+printed-take b zero bs h = elim (bool_cases (nat_lt b 0x20)) [
+  | inl e ↦ let g = rw e at h
+      in cc
+  | inr e ↦ rw e (elim (bool_cases (b == 0xC2)) [ inl f ↦ rw f refl | inr f ↦ rw f refl ])
+]
 printed-take b (suc n) [] h = h
 printed-take b (suc n) (c ∷ bs) h = h
 
@@ -337,13 +434,15 @@ pub printed-front : (bs : List ℕ) → printed_len (take (printed_len bs) bs) �
 printed-front [] = refl
 printed-front (b ∷ bs) =
     elim (bool_cases (is_printed b bs)) [
-      | inl e ↦ let f : is_printed b (take (printed_len bs) bs) ≡ true = printed-take b (printed_len bs) bs e in rw e (rw f (ap suc (printed-front bs)))
+      | inl e ↦ let f : is_printed b (take (printed_len bs) bs) ≡ true = printed-take b (printed_len bs) bs e
+          in rw e (rw f (ap suc (printed-front bs)))
       | inr e ↦ rw e refl
     ]
 
 pub printed-within : (bs : List ℕ) → printed_len bs ≤ length bs
 printed-within [] = omega arith
-printed-within (b ∷ bs) = elim (bool_cases (is_printed b bs)) [ inl e ↦ rw e (let r = printed-within bs in omega (arith, r)) | inr e ↦ rw e (omega arith) ]
+printed-within (b ∷ bs) = elim (bool_cases (is_printed b bs))
+    [ inl e ↦ rw e (let r = printed-within bs in omega (arith, r)) | inr e ↦ rw e (omega arith) ]
 
 print-low : (c : ℕ) (bs : List ℕ) → c < 128 → is_printed c bs ≡ true → char_event c ≡ Print c
 print-low c bs h p =
@@ -352,7 +451,8 @@ print-low c bs h p =
       | inr e ↦ let f : is_in_range 0x80 0x9F c ≡ false = grind (arith, nat_tests) in rw (e, f) refl
     ]
 
-print-two : (c : ℕ) (bs : List ℕ) → 128 ≤ c → is_printed (192 + c / 64) ((128 + c % 64) ∷ bs) ≡ true → char_event c ≡ Print c
+print-two : (c : ℕ) (bs : List ℕ) → 128 ≤ c → is_printed (192 + c / 64) ((128 + c % 64) ∷ bs) ≡ true
+    → char_event c ≡ Print c
 print-two c bs h p =
     let low : nat_lt c 0x20 ≡ false = grind (arith, nat_tests) in
     let d : 64 * (c / 64) + c % 64 ≡ c = omega arith in
@@ -363,7 +463,11 @@ print-two c bs h p =
           let lead : (192 + c / 64 == 0xC2) ≡ true = eq-eqb (192 + c / 64) 0xC2 (omega arith) in
           let second : is_in_range 0x80 0x9F (128 + c % 64) ≡ true = grind (arith, nat_tests) in
           let g = rw (lead, second) at p in
-          elim (bool_cases (nat_lt (192 + c / 64) 0x20)) [ inl f ↦ let k = rw f at g in cc | inr f ↦ let k = rw f at g in cc ]
+          elim (bool_cases (nat_lt (192 + c / 64) 0x20)) [
+            | inl f ↦ let k = rw f at g in cc
+            | inr f ↦ let k = rw f at g
+                in cc
+          ]
       | inr e ↦ rw (low, e) refl
     ]
 
@@ -373,7 +477,9 @@ print-high c h =
     let f : is_in_range 0x80 0x9F c ≡ false = grind (arith, nat_tests) in
     rw (low, f) refl
 
-printed-char : (c : ℕ) (rest : List ℕ) → IsScalar c → printed_len (encode_utf8 c ++ rest) ≡ length (encode_utf8 c ++ rest) → (char_event c ≡ Print c) × (printed_len rest ≡ length rest)
+printed-char : (c : ℕ) (rest : List ℕ) → IsScalar c
+    → printed_len (encode_utf8 c ++ rest) ≡ length (encode_utf8 c ++ rest) → (char_event c ≡ Print c)
+    × (printed_len rest ≡ length rest)
 unfolding encode_utf8
 printed-char c rest s h =
     elim (bool_cases (nat_lt c 128)) [
@@ -391,7 +497,8 @@ printed-char c rest s h =
               (print-high c (nat_not c 2048 f), (printed-both (128 + c % 64) rest l.1).1)
           | inr j ↦
               let g = rw (e, f, j) at h in
-              let k = printed-both (240 + c / 262144) ((128 + c / 4096 % 64) ∷ (128 + c / 64 % 64) ∷ (128 + c % 64) ∷ rest) g in
+              let k = printed-both (240 + c / 262144) ((128 + c / 4096 % 64) ∷ (128 + c / 64 % 64) ∷ (128 + c % 64)
+              ∷ rest) g in
               let l = printed-both (128 + c / 4096 % 64) ((128 + c / 64 % 64) ∷ (128 + c % 64) ∷ rest) k.1 in
               let m = printed-both (128 + c / 64 % 64) ((128 + c % 64) ∷ rest) l.1 in
               (print-high c (nat_not c 2048 f), (printed-both (128 + c % 64) rest m.1).1)
@@ -399,7 +506,8 @@ printed-char c rest s h =
       ]
     ]
 
-printed-chars : (cs : List ℕ) → all_scalars cs ≡ true → printed_len (encode_utf8_all cs) ≡ length (encode_utf8_all cs) → map char_event cs ≡ map Print cs
+printed-chars : (cs : List ℕ) → all_scalars cs ≡ true → printed_len (encode_utf8_all cs) ≡ length (encode_utf8_all cs)
+    → map char_event cs ≡ map Print cs
 printed-chars [] h p = refl
 printed-chars (c ∷ cs) h p =
     let g = and_both _ _ h in
@@ -425,22 +533,27 @@ plain-printed b rest h k =
     let low : nat_lt b 0x20 ≡ false = grind (arith, nat_tests) in
     let other : (b == 0xC2) ≡ false = grind (arith, nat_tests) in rw (low, other) refl
 
-pub plain_step : (bs : List ℕ) (i : ℕ) (p : Bool) → i < length bs → (IsTrue p → (rest : List ℕ) → printed_len (take i bs ++ rest) ≡ i + printed_len rest)
-    → IsTrue (p && (leb 32 (get_or bs i 0) && not (nat_eq (get_or bs i 0) 194))) → (rest : List ℕ) → printed_len (take (i + 1) bs ++ rest) ≡ i + 1 + printed_len rest
+pub plain_step : (bs : List ℕ) (i : ℕ) (p : Bool) → i < length bs
+    → (IsTrue p → (rest : List ℕ) → printed_len (take i bs ++ rest) ≡ i + printed_len rest)
+    → IsTrue (p && (leb 32 (get_or bs i 0) && not (nat_eq (get_or bs i 0) 194))) → (rest : List ℕ)
+    → printed_len (take (i + 1) bs ++ rest) ≡ i + 1 + printed_len rest
 plain_step bs i p lt inv t rest =
     let b = get_or bs i 0 in
     let parts = plain_bits p (leb 32 b) (not (nat_eq b 194)) t in
-    let front : take (i + 1) bs ++ rest ≡ take i bs ++ (b ∷ rest) = ap (λ (xs : List ℕ). xs ++ rest) (take_more bs i 0 lt) ∙ append_assoc (take i bs) (b ∷ []) rest in
+    let front : take (i + 1) bs ++ rest ≡ take i bs ++ (b ∷ rest) =
+    ap (λ (xs : List ℕ). xs ++ rest) (take_more bs i 0 lt) ∙ append_assoc (take i bs) (b ∷ []) rest in
     let printed : is_printed b rest ≡ true = plain-printed b rest parts.1 parts.2 in
     let one : printed_len (b ∷ rest) ≡ suc (printed_len rest) = rw printed refl in
     ap printed_len front ∙ (inv parts.0 (b ∷ rest) ∙ (ap (λ k. i + k) one ∙ omega arith))
 
 pub plain_block : (bs : List ℕ) (i : ℕ) → i + 16 ≤ length bs
-    → ((rest : List ℕ) → printed_len (take (i + 16 - i) (drop i bs) ++ rest) ≡ length (take (i + 16 - i) (drop i bs)) + printed_len rest)
+    → ((rest : List ℕ) → printed_len (take (i + 16 - i) (drop i bs) ++ rest)
+    ≡ length (take (i + 16 - i) (drop i bs)) + printed_len rest)
     → i + printed_len (drop i bs) ≡ printed_len bs → i + 16 + printed_len (drop (i + 16) bs) ≡ printed_len bs
 plain_block bs i within block so_far =
     let k : i + 16 - i ≡ 16 = omega arith in
     let len : length (take (i + 16 - i) (drop i bs)) ≡ 16 = grind (arith, common_steps) in
-    let same : take (i + 16 - i) (drop i bs) ++ drop 16 (drop i bs) ≡ drop i bs = ap (λ n. take n (drop i bs) ++ drop 16 (drop i bs)) k ∙ take-append-drop 16 (drop i bs) in
+    let same : take (i + 16 - i) (drop i bs) ++ drop 16 (drop i bs) ≡ drop i bs =
+    ap (λ n. take n (drop i bs) ++ drop 16 (drop i bs)) k ∙ take-append-drop 16 (drop i bs) in
     let rest : drop (i + 16) bs ≡ drop 16 (drop i bs) = sym (drop-drop 16 i bs) in
     omega (arith, so_far, len, block (drop 16 (drop i bs)), ap printed_len same, ap printed_len rest)

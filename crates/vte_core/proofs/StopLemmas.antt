@@ -1,10 +1,13 @@
 -- Where `advance_until_terminated` stops.
-use Rattle.std.proofs.Common.{◌≡◌, ℕ, zero, suc, ◌+◌, ◌-◌, ◌<◌, ◌≤◌, Bool, true, false, not, ◌&&◌, ◌||◌, ◌==◌, List, [], ◌∷◌, ◌++◌, append_assoc, length, take, drop, get_or, refl, sym, ◌∙◌, ap, subst, arith, inl, inr}
+use Rattle.std.proofs.Common.{◌≡◌, ℕ, zero, suc, ◌+◌, ◌-◌, ◌<◌, ◌≤◌, Bool, true, false, not, ◌&&◌, ◌||◌, ◌==◌, List, []}
+use Rattle.std.proofs.Common.{◌∷◌, ◌++◌, append_assoc, length, take, drop, get_or, refl, sym, ◌∙◌, ap, subst, arith}
+use Rattle.std.proofs.Common.{inl, inr}
 use Rattle.std.proofs.lemmas.Grind.{common_steps}
 use Rattle.std.proofs.lemmas.Bool.Decides.{nat_tests}
 use Rattle.std.proofs.Math.Seq.{drop-cons, take-suc}
 use Rattle.vte_core.specs.Event.{Event, Performs}
-use Rattle.vte_core.specs.Pending.{Pending, InText, InEscape, InCsi, InOsc, InHook, InDevice, InSwallowed, events_of_byte, after_byte, after_bytes, events_from, pending}
+use Rattle.vte_core.specs.Pending.{Pending, InText, InEscape, InCsi, InOsc, InHook, InDevice, InSwallowed}
+use Rattle.vte_core.specs.Pending.{events_of_byte, after_byte, after_bytes, events_from, pending}
 use Rattle.vte_core.proofs.Characters.{bool_cases}
 use Rattle.vte_core.proofs.Telling.{performs-append, same_events}
 use Rattle.vte_core.proofs.Machine.{after_bytes-append}
@@ -33,12 +36,14 @@ is_text-at n p (InHook x) h = rw h.0 refl
 is_text-at n p InDevice h = rw h.0 refl
 is_text-at n p InSwallowed h = rw h.0 refl
 
-pub stop_now : {S : Type 0} (step : S → Event → S → Type 0) (terminated : S → Bool) (n : ℕ) (q : Pending) (asked : Bool) (bs : List ℕ) (i : ℕ) (old : S)
+pub stop_now : {S : Type 0} (step : S → Event → S → Type 0) (terminated : S
+    → Bool) (n : ℕ) (q : Pending) (asked : Bool) (bs : List ℕ) (i : ℕ) (old : S)
     → i < length bs → (asked && terminated old) ≡ true → StopsAt step terminated n q asked (drop i bs) old 0 old
 stop_now {S} step terminated n q asked bs i old h e =
     subst (λ xs. StopsAt step terminated n q asked xs old 0 old) (sym (next_byte bs i h)) (rw e (refl, refl))
 
-pub stop_end : {S : Type 0} (step : S → Event → S → Type 0) (terminated : S → Bool) (n : ℕ) (q : Pending) (asked : Bool) (bs : List ℕ) (i : ℕ) (old : S)
+pub stop_end : {S : Type 0} (step : S → Event → S → Type 0) (terminated : S
+    → Bool) (n : ℕ) (q : Pending) (asked : Bool) (bs : List ℕ) (i : ℕ) (old : S)
     → length bs ≤ i → StopsAt step terminated n q asked (drop i bs) old 0 old
 stop_end {S} step terminated n q asked bs i old h =
     subst (λ xs. StopsAt step terminated n q asked xs old 0 old) (sym (no_byte bs i h)) (refl, refl)
@@ -51,7 +56,8 @@ take-zero zero = refl
 take-zero (suc k) = refl
 
 -- up to where it stops, the performer has gone through the events of the bytes read
-pub stops-performs : {S : Type 0} (step : S → Event → S → Type 0) (terminated : S → Bool) (n : ℕ) (q : Pending) (asked : Bool) (bs : List ℕ) (old : S) (k : ℕ) (new : S)
+pub stops-performs : {S : Type 0} (step : S → Event → S → Type 0) (terminated : S
+    → Bool) (n : ℕ) (q : Pending) (asked : Bool) (bs : List ℕ) (old : S) (k : ℕ) (new : S)
     → StopsAt step terminated n q asked bs old k new → Performs step old (events_from n q (take k bs)) new
 stops-performs {S} step terminated n q asked [] old k new h = rw (take-zero k) h.1
 stops-performs {S} step terminated n q asked (b ∷ bs) old k new h =
@@ -68,8 +74,10 @@ and_true true b h = (refl, h)
 and_true false b h = cc
 
 -- where it stops before the last byte, it asks and is told to
-pub stops-asked : {S : Type 0} (step : S → Event → S → Type 0) (terminated : S → Bool) (n : ℕ) (q : Pending) (asked : Bool) (bs : List ℕ) (old : S) (k : ℕ) (new : S)
-    → StopsAt step terminated n q asked bs old k new → k < length bs → (asks_at q asked bs k ≡ true) × (terminated new ≡ true)
+pub stops-asked : {S : Type 0} (step : S → Event → S → Type 0) (terminated : S
+    → Bool) (n : ℕ) (q : Pending) (asked : Bool) (bs : List ℕ) (old : S) (k : ℕ) (new : S)
+    → StopsAt step terminated n q asked bs old k new → k < length bs → (asks_at q asked bs k ≡ true)
+    × (terminated new ≡ true)
 stops-asked {S} step terminated n q asked [] old k new h lt = absurd (omega (arith, lt))
 stops-asked {S} step terminated n q asked (b ∷ bs) old k new h lt =
     elim (bool_cases (asked && terminated old)) [
@@ -79,15 +87,18 @@ stops-asked {S} step terminated n q asked (b ∷ bs) old k new h lt =
           rw (g.0, g.1) both
       | inr e ↦
           let (mid, j, i, p, r) = rw e at h in
-          rw i (stops-asked step terminated n (after_byte q b) (not (runs_on q b bs)) bs mid j new r (omega (arith, lt, i)))
+          rw i (stops-asked step terminated n (after_byte q b) (not (runs_on q b bs)) bs mid j new r
+          (omega (arith, lt, i)))
     ]
 
 not_asked : (asked is : Bool) → (asked && is) ≡ false → asked ≡ true → is ≡ false
 not_asked asked is e a = let g = rw a at e in g
 
 -- a point at which it asked before it stopped
-pub stops-passed : {S : Type 0} (step : S → Event → S → Type 0) (terminated : S → Bool) (n : ℕ) (q : Pending) (asked : Bool) (bs : List ℕ) (old : S) (k : ℕ) (new : S) (m : ℕ)
-    → StopsAt step terminated n q asked bs old k new → m < k → asks_at q asked bs m ≡ true → PassedBy step terminated n q bs m old k new
+pub stops-passed : {S : Type 0} (step : S → Event → S → Type 0) (terminated : S
+    → Bool) (n : ℕ) (q : Pending) (asked : Bool) (bs : List ℕ) (old : S) (k : ℕ) (new : S) (m : ℕ)
+    → StopsAt step terminated n q asked bs old k new → m < k → asks_at q asked bs m ≡ true
+    → PassedBy step terminated n q bs m old k new
 stops-passed {S} step terminated n q asked [] old k new m h lt a = absurd (omega (arith, lt, h.0))
 stops-passed {S} step terminated n q asked (b ∷ bs) old k new zero h lt a =
     elim (bool_cases (asked && terminated old)) [
@@ -104,10 +115,12 @@ stops-passed {S} step terminated n q asked (b ∷ bs) old k new (suc m) h lt a =
       | inl e ↦ let g = rw e at h in absurd (omega (arith, lt, g.0))
       | inr e ↦
           let (mid, j, i, p, r) = rw e at h in
-          let rest = stops-passed step terminated n (after_byte q b) (not (runs_on q b bs)) bs mid j new m r (omega (arith, lt, i)) a in
+          let rest = stops-passed step terminated n (after_byte q b) (not (runs_on q b bs)) bs mid j new m r
+          (omega (arith, lt, i)) a in
           rw i (record {
             mid = rest.mid;
-            before = performs-append step old mid rest.mid (events_of_byte n q b) (events_from n (after_byte q b) (take m bs)) p rest.before;
+            before = performs-append step old mid rest.mid (events_of_byte n q b)
+                (events_from n (after_byte q b) (take m bs)) p rest.before;
             goes_on = rest.goes_on;
             after = rest.after;
           })
@@ -126,11 +139,14 @@ pending-more past bs = after_bytes-append (InText []) past bs
 
 -- the last of some bytes is ground text where text was pending before it, and it isn't ESC
 ends-next : (past bs : List ℕ) (m : ℕ) → m < length bs
-    → ends_in_text (past ++ take (suc m) bs) ≡ (is_text (after_bytes (pending past) (take m bs)) && not (is_esc (get_or bs m 0)))
+    → ends_in_text (past ++ take (suc m) bs) ≡ (is_text (after_bytes (pending past) (take m bs))
+    && not (is_esc (get_or bs m 0)))
 ends-next past bs m lt =
     let b = get_or bs m 0 in
-    let split : past ++ take (suc m) bs ≡ (past ++ take m bs) ++ b ∷ [] = ap (λ xs. past ++ xs) (take-suc bs m 0 lt) ∙ sym (append_assoc past (take m bs) (b ∷ [])) in
-    ap ends_in_text split ∙ (ends_in_text-last (past ++ take m bs) b ∙ ap (λ q. is_text q && not (is_esc b)) (pending-more past (take m bs)))
+    let split : past ++ take (suc m) bs ≡ (past ++ take m bs) ++ b ∷ [] =
+    ap (λ xs. past ++ xs) (take-suc bs m 0 lt) ∙ sym (append_assoc past (take m bs) (b ∷ [])) in
+    ap ends_in_text split ∙ (ends_in_text-last (past ++ take m bs) b
+    ∙ ap (λ q. is_text q && not (is_esc b)) (pending-more past (take m bs)))
 
 or_true : (v : Bool) → (v || true) ≡ true
 or_true true = refl
@@ -141,7 +157,8 @@ not_both true true = refl
 not_both true false = refl
 not_both false w = refl
 
-runs-said : (q : Pending) (b : ℕ) (rest : List ℕ) → not (runs_on q b rest) ≡ (not (is_text q && not (is_esc b)) || ends_run rest)
+runs-said : (q : Pending) (b : ℕ) (rest : List ℕ)
+    → not (runs_on q b rest) ≡ (not (is_text q && not (is_esc b)) || ends_run rest)
 runs-said q b [] = sym (or_true (not (is_text q && not (is_esc b))))
 runs-said q b (c ∷ rest) = not_both (is_text q && not (is_esc b)) (is_esc c)
 
@@ -155,7 +172,8 @@ asks-said past piece (suc m) within =
     rw some (asks-next (pending past) true piece m lt ∙ (runs-said q (get_or piece m 0) rest
     ∙ ap (λ v. not v || ends_run rest) (sym (ends-next past piece m lt))))
 
-stops-within : {S : Type 0} (step : S → Event → S → Type 0) (terminated : S → Bool) (n : ℕ) (q : Pending) (asked : Bool) (bs : List ℕ) (old : S) (k : ℕ) (new : S)
+stops-within : {S : Type 0} (step : S → Event → S → Type 0) (terminated : S
+    → Bool) (n : ℕ) (q : Pending) (asked : Bool) (bs : List ℕ) (old : S) (k : ℕ) (new : S)
     → StopsAt step terminated n q asked bs old k new → k ≤ length bs
 stops-within {S} step terminated n q asked [] old k new h = omega (arith, h.0)
 stops-within {S} step terminated n q asked (b ∷ bs) old k new h =
@@ -167,19 +185,25 @@ stops-within {S} step terminated n q asked (b ∷ bs) old k new h =
           omega (arith, i, more)
     ]
 
-pub stops-said : {S : Type 0} (step : S → Event → S → Type 0) (terminated : S → Bool) (n : ℕ) (past piece : List ℕ) (old : S) (k : ℕ) (new : S)
+pub stops-said : {S : Type 0} (step : S → Event → S → Type 0) (terminated : S
+    → Bool) (n : ℕ) (past piece : List ℕ) (old : S) (k : ℕ) (new : S)
     → StopsAt step terminated n (pending past) true piece old k new → Stops step terminated n past piece old k new
 stops-said {S} step terminated n past piece old k new h =
     let q = pending past in
     let within = stops-within step terminated n q true piece old k new h in
     record {
       within = within;
-      performed = same_events step old new _ _ (sym (added-from n past (take k piece))) (stops-performs step terminated n q true piece old k new h);
-      asked = λ lt. let at = stops-asked step terminated n q true piece old k new h lt in (sym (asks-said past piece k within) ∙ at.0, at.1);
+      performed = same_events step old new _ _ (sym (added-from n past (take k piece)))
+          (stops-performs step terminated n q true piece old k new h);
+      asked = λ lt. let at = stops-asked step terminated n q true piece old k new h lt
+          in (sym (asks-said past piece k within) ∙ at.0, at.1);
       passed = λ m lt asks.
-          let by = stops-passed step terminated n q true piece old k new m h lt (asks-said past piece m (omega (arith, lt, within)) ∙ asks) in
-          let on : added n (past ++ take m piece) (drop m (take k piece)) ≡ events_from n (after_bytes q (take m piece)) (drop m (take k piece)) =
-          added-from n (past ++ take m piece) (drop m (take k piece)) ∙ ap (λ (p : Pending). events_from n p (drop m (take k piece))) (pending-more past (take m piece)) in
+          let by = stops-passed step terminated n q true piece old k new m h lt
+          (asks-said past piece m (omega (arith, lt, within)) ∙ asks) in
+          let on : added n (past ++ take m piece) (drop m (take k piece))
+          ≡ events_from n (after_bytes q (take m piece)) (drop m (take k piece)) =
+          added-from n (past ++ take m piece) (drop m (take k piece))
+          ∙ ap (λ (p : Pending). events_from n p (drop m (take k piece))) (pending-more past (take m piece)) in
           record {
             mid = by.mid;
             before = same_events step old by.mid _ _ (sym (added-from n past (take m piece))) by.before;

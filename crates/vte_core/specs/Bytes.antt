@@ -61,6 +61,10 @@ ends_device b = is_abort b || b == 0x9C
 abbrev pub is_device_data : ℕ → Bool
 is_device_data b = nat_lt b 0x7F && not (is_abort b || is_esc b)
 
+-- what a swallowed string drops
+abbrev pub is_swallowed : ℕ → Bool
+is_swallowed b = not (is_abort b || is_esc b)
+
 -- what a device string puts
 abbrev pub is_put : ℕ → Bool
 is_put b = nat_lt b 0x7F

@@ -2,7 +2,8 @@
 use Rattle.std.specs.Prelude.{ℕ, Bool, not, ◌&&◌, ◌||◌, ◌==◌, nat_lt}
 use Rattle.std.specs.Int.{is_in_range}
 use Rattle.vte_core.specs.declared.table.Class.{Class}
-use Rattle.vte_core.specs.declared.table.Class.TheVariants.{Control, Bell, Cancel, Escape, Intermediate, Digit, Colon, Semicolon, Private, Final, Delete, StringEnd, High}
+use Rattle.vte_core.specs.declared.table.Class.TheVariants.{Control, Bell, Cancel, Escape, Intermediate, Digit, Colon}
+use Rattle.vte_core.specs.declared.table.Class.TheVariants.{Semicolon, Private, Final, Delete, StringEnd, High}
 
 abbrev pub is_in : Class → ℕ → Bool
 is_in Control b = nat_lt b 0x20 && not (b == 0x07 || (b == 0x18 || (b == 0x1A || b == 0x1B)))

@@ -12,14 +12,16 @@ past p s = drop 1 (from p s)
 -- what follows a device string with the header h, of which this is left
 abbrev pub past_device : List ℕ → List ℕ → List ℕ
 past_device h [] = []
-past_device h (b ∷ rest) = if is_abort b then rest else (if is_well_formed h then past ends_device rest else past is_abort rest)
+past_device h (b ∷ rest) = if is_abort b then rest
+    else (if is_well_formed h then past ends_device rest else past is_abort rest)
 
 -- what follows the shape that the final byte of an escape with these intermediates begins
 abbrev pub past_introduced : List ℕ → ℕ → List ℕ → List ℕ
 past_introduced is b rest =
     if length is == 0 && b == 0x5B then past ends_header rest
     else (if length is == 0 && b == 0x5D then past ends_osc rest
-    else (if length is == 0 && b == 0x50 then past_device (filter is_header (before ends_header rest)) (from ends_header rest)
+    else (if length is == 0 && b == 0x50 then past_device (filter is_header (before ends_header rest))
+    (from ends_header rest)
     else (if length is == 0 && (b == 0x58 || (b == 0x5E || b == 0x5F)) then past is_abort rest
     else rest)))
 

@@ -1,5 +1,6 @@
 -- The header of a CSI or a device string: the bytes 0x20 to 0x3F between the introducer and the final byte.
-use Rattle.std.specs.Prelude.{ℕ, zero, suc, ◌+◌, ◌-◌, ◌*◌, min, Bool, true, not, ◌&&◌, ◌||◌, List, [], ◌∷◌, map, length, take, nat_lt, ◌==◌, if◌then◌else◌}
+use Rattle.std.specs.Prelude.{ℕ, zero, suc, ◌+◌, ◌-◌, ◌*◌, min, Bool, true, not, ◌&&◌, ◌||◌, List, [], ◌∷◌, map, length}
+use Rattle.std.specs.Prelude.{take, nat_lt, ◌==◌, if◌then◌else◌}
 use Rattle.std.specs.List.{filter, slice_split, concat, fold}
 use Rattle.vte_core.specs.Bytes.{is_intermediate, is_numeric, is_private}
 

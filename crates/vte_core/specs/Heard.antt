@@ -46,13 +46,16 @@ closed_heard n s.SosPmApcString old new = []
 abbrev pub byte_heard : (n : ℕ) → State → Parser n → Parser n → ℕ → List Event
 byte_heard n s.Ground old new b = text_told old.unfinished b
 byte_heard n s.Escape old new b =
-    if ends_escape b then (if is_abort b then Execute b ∷ [] else final_heard old.intermediates b) else told is_control Execute b
+    if ends_escape b then (if is_abort b then Execute b ∷ [] else final_heard old.intermediates b)
+    else told is_control Execute b
 byte_heard n s.Csi old new b =
-    if ends_header b then (if is_abort b then Execute b ∷ [] else (if is_kept old.header.phase then csi_event new.header b ∷ [] else []))
+    if ends_header b then (if is_abort b then Execute b ∷ []
+    else (if is_kept old.header.phase then csi_event new.header b ∷ [] else []))
     else told is_control Execute b
 byte_heard n s.OscString old new b = if ends_osc b then osc_event new.osc (b == 0x07) ∷ told is_abort Execute b else []
 byte_heard n s.DcsHeader old new b =
-    if ends_header b then (if is_abort b then Execute b ∷ [] else (if is_kept old.header.phase then hook_event new.header b ∷ [] else []))
+    if ends_header b then (if is_abort b then Execute b ∷ []
+    else (if is_kept old.header.phase then hook_event new.header b ∷ [] else []))
     else []
 byte_heard n s.DcsPassthrough old new b = byte_told n InDevice b
 byte_heard n s.SosPmApcString old new b = byte_told n InSwallowed b

@@ -41,8 +41,10 @@ IsCharacter _ = ⊥
 
 -- a byte of ground text adds nothing else
 abbrev pub TellsCharacters : Type 0
-TellsCharacters = (n : ℕ) (past : List ℕ) (b : ℕ) → ends_in_text (past ++ b ∷ []) ≡ true → All IsCharacter (added n past (b ∷ []))
+TellsCharacters = (n : ℕ) (past : List ℕ) (b : ℕ) → ends_in_text (past ++ b ∷ []) ≡ true
+    → All IsCharacter (added n past (b ∷ []))
 
 -- the points at which the performer is asked, byte by byte and in the words of the whole texts
 abbrev pub AsksAsSaid : Type 0
-AsksAsSaid = (past piece : List ℕ) (m : ℕ) → m ≤ length piece → asks_at (pending past) true piece m ≡ asks_after past piece m
+AsksAsSaid = (past piece : List ℕ) (m : ℕ) → m ≤ length piece
+    → asks_at (pending past) true piece m ≡ asks_after past piece m

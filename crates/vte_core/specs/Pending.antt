@@ -1,9 +1,12 @@
 -- What of the bytes so far is still to be told: where a parser stands.
-use Rattle.std.specs.Prelude.{◌≡◌, ℕ, ◌+◌, ◌-◌, ◌<◌, Bool, false, not, ◌&&◌, ◌||◌, List, [], ◌∷◌, ◌++◌, length, take, nat_lt, ◌==◌, if◌then◌else◌}
+use Rattle.std.specs.Prelude.{◌≡◌, ℕ, ◌+◌, ◌-◌, ◌<◌, Bool, false, not, ◌&&◌, ◌||◌, List, [], ◌∷◌, ◌++◌, length, take}
+use Rattle.std.specs.Prelude.{nat_lt, ◌==◌, if◌then◌else◌}
 use Rattle.std.specs.Int.{is_in_range}
 use Rattle.vte_core.specs.Event.{Event, Print, Execute, Hook, Put, Unhook, Osc, Csi, Esc}
-use Rattle.vte_core.specs.Bytes.{is_esc, is_abort, is_control, is_intermediate, is_header, ends_header, ends_escape, ends_osc, ends_device, is_put}
-use Rattle.vte_core.specs.Text.{char_len, second_min, second_max, tail_len, first_bits, joined, char_event, malformed_event}
+use Rattle.vte_core.specs.Bytes.{is_esc, is_abort, is_control, is_intermediate, is_header, ends_header, ends_escape}
+use Rattle.vte_core.specs.Bytes.{ends_osc, ends_device, is_put}
+use Rattle.vte_core.specs.Text.{char_len, second_min, second_max, tail_len, first_bits, joined, char_event}
+use Rattle.vte_core.specs.Text.{malformed_event}
 use Rattle.vte_core.specs.Header.{is_well_formed, kept_groups, kept_intermediates, overflows}
 use Rattle.vte_core.specs.Shapes.{osc_pieces}
 
@@ -36,7 +39,8 @@ goes_on a (c ∷ t) b = is_in_range 0x80 0xBF b
 
 -- the events of a byte that begins a character, and what it leaves unfinished
 abbrev pub begun : ℕ → List Event
-begun b = if char_len b == 1 then char_event (first_bits b) ∷ [] else (if char_len b == 0 then malformed_event 1 b ∷ [] else [])
+begun b = if char_len b == 1 then char_event (first_bits b) ∷ []
+    else (if char_len b == 0 then malformed_event 1 b ∷ [] else [])
 
 abbrev pub begun_rest : ℕ → List ℕ
 begun_rest b = if char_len b == 1 then [] else (if char_len b == 0 then [] else b ∷ [])
@@ -44,7 +48,8 @@ begun_rest b = if char_len b == 1 then [] else (if char_len b == 0 then [] else 
 abbrev pub text_told : List ℕ → ℕ → List Event
 text_told [] b = begun b
 text_told (a ∷ t) b =
-    if goes_on a t b then (if length t + 2 == char_len a then char_event (joined (first_bits a) (t ++ b ∷ [])) ∷ [] else [])
+    if goes_on a t b then (if length t + 2 == char_len a then char_event (joined (first_bits a) (t ++ b ∷ [])) ∷ []
+    else [])
     else Print 0xFFFD ∷ begun b
 
 abbrev pub text_rest : List ℕ → ℕ → List ℕ
@@ -87,12 +92,14 @@ byte_told n (InText u) b = text_told u b
 byte_told n (InEscape is) b =
     if ends_escape b then (if is_abort b then Execute b ∷ [] else final_told is b) else told is_control Execute b
 byte_told n (InCsi h) b =
-    if ends_header b then (if is_abort b then Execute b ∷ [] else (if is_well_formed h then Csi (kept_groups h) (kept_intermediates h) (overflows h) b ∷ [] else []))
+    if ends_header b then (if is_abort b then Execute b ∷ []
+    else (if is_well_formed h then Csi (kept_groups h) (kept_intermediates h) (overflows h) b ∷ [] else []))
     else told is_control Execute b
 byte_told n (InOsc s) b =
     if ends_osc b then Osc (osc_pieces n s) (b == 0x07) ∷ told is_abort Execute b else []
 byte_told n (InHook h) b =
-    if ends_header b then (if is_abort b then Execute b ∷ [] else (if is_well_formed h then Hook (kept_groups h) (kept_intermediates h) (overflows h) b ∷ [] else []))
+    if ends_header b then (if is_abort b then Execute b ∷ []
+    else (if is_well_formed h then Hook (kept_groups h) (kept_intermediates h) (overflows h) b ∷ [] else []))
     else []
 byte_told n InDevice b =
     if ends_device b then Unhook ∷ told is_abort Execute b else told is_put Put b
@@ -101,7 +108,8 @@ byte_told n InSwallowed b = told is_abort Execute b
 abbrev pub byte_rest : Pending → ℕ → Pending
 byte_rest (InText u) b = InText (text_rest u b)
 byte_rest (InEscape is) b =
-    if ends_escape b then (if is_abort b then InText [] else final_rest is b) else InEscape (is ++ kept is_intermediate b)
+    if ends_escape b then (if is_abort b then InText [] else final_rest is b)
+    else InEscape (is ++ kept is_intermediate b)
 byte_rest (InCsi h) b = if ends_header b then InText [] else InCsi (h ++ kept is_header b)
 byte_rest (InOsc s) b = if ends_osc b then InText [] else InOsc (s ++ kept (λ c. not (is_control c)) b)
 byte_rest (InHook h) b =
@@ -133,7 +141,8 @@ pending past = after_bytes (InText []) past
 -- the bytes begin a character and are not yet the whole of it
 abbrev pub IsUnfinished : List ℕ → Type 0
 IsUnfinished [] = Unit {0}
-IsUnfinished (a ∷ t) = (tail_len (char_len a - 1) (second_min a) (second_max a) t ≡ length t) × (length t + 1 < char_len a)
+IsUnfinished (a ∷ t) = (tail_len (char_len a - 1) (second_min a) (second_max a) t ≡ length t)
+    × (length t + 1 < char_len a)
 
 abbrev pub IsSound : Pending → Type 0
 IsSound (InText u) = IsUnfinished u

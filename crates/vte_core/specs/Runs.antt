@@ -1,5 +1,6 @@
 -- Ground text without ESC.
-use Rattle.std.specs.Prelude.{◌≡◌, ◌<◌, ◌≤◌, ℕ, suc, take, Bool, true, false, not, ◌&&◌, ◌||◌, List, [], ◌∷◌, ◌++◌, ◌⊎◌, length, nat_lt, ◌==◌, if◌then◌else◌}
+use Rattle.std.specs.Prelude.{◌≡◌, ◌<◌, ◌≤◌, ℕ, suc, take, Bool, true, false, not, ◌&&◌, ◌||◌, List, [], ◌∷◌, ◌++◌, ◌⊎◌}
+use Rattle.std.specs.Prelude.{length, nat_lt, ◌==◌, if◌then◌else◌}
 use Rattle.std.specs.Int.{is_in_range}
 use Rattle.vte_core.specs.Event.{Event, Performs}
 use Rattle.vte_core.specs.Bytes.{is_esc}
@@ -23,7 +24,8 @@ has_no_esc [] = true
 has_no_esc (b ∷ bs) = not (is_esc b) && has_no_esc bs
 
 -- the first k bytes, some at least, are read as ground text after the unfinished bytes u, and leave v
-pub record ReadsText {S : Type 0} (step : S → Event → S → Type 0) (u : List ℕ) (old : S) (bs : List ℕ) (k : ℕ) (new : S) (v : List ℕ) : Type 0 where
+pub record ReadsText {S : Type 0} (step : S → Event → S
+    → Type 0) (u : List ℕ) (old : S) (bs : List ℕ) (k : ℕ) (new : S) (v : List ℕ) : Type 0 where
   pub some : 0 < k
   pub within : k ≤ length bs
   pub no_esc : has_no_esc (take k bs) ≡ true
@@ -45,7 +47,8 @@ pub record IsStep (n : ℕ) (q : Pending) (bs rest : List ℕ) : Type 0 where
   pub one : (last ≡ []) ⊎ (is_one_step (after_bytes q quiet) last rest ≡ true)
 
 -- the performer has gone through some events, and they are those of the bytes, whatever is pending
-pub record Tells {S : Type 0} (step : S → Event → S → Type 0) (n : ℕ) (parser : Parser n) (old : S) (bytes : List ℕ) (new : S) : Type 0 where
+pub record Tells {S : Type 0} (step : S → Event → S
+    → Type 0) (n : ℕ) (parser : Parser n) (old : S) (bytes : List ℕ) (new : S) : Type 0 where
   pub told : List Event
   pub performed : Performs step old told new
   pub added : (q : Pending) → IsAt n parser q → told ≡ events_from n q bytes

@@ -1,9 +1,11 @@
 -- The events of a list of bytes, for a parser that keeps n bytes of an OSC. Nothing here has states: the list is
 -- cut before each ESC, and each segment is read by its written shape. The flag cut says that ESC ends the segment.
-use Rattle.std.specs.Prelude.{ℕ, ◌-◌, Bool, true, false, not, ◌&&◌, ◌||◌, List, [], ◌∷◌, ◌++◌, map, length, take, nat_lt, ◌==◌, if◌then◌else◌}
+use Rattle.std.specs.Prelude.{ℕ, ◌-◌, Bool, true, false, not, ◌&&◌, ◌||◌, List, [], ◌∷◌, ◌++◌, map, length, take}
+use Rattle.std.specs.Prelude.{nat_lt, ◌==◌, if◌then◌else◌}
 use Rattle.std.specs.List.{filter, slice_split}
 use Rattle.vte_core.specs.Event.{Event, Execute, Hook, Put, Unhook, Osc, Csi, Esc}
-use Rattle.vte_core.specs.Bytes.{is_esc, is_abort, is_control, is_intermediate, is_header, ends_header, ends_escape, ends_osc, ends_device, is_put}
+use Rattle.vte_core.specs.Bytes.{is_esc, is_abort, is_control, is_intermediate, is_header, ends_header, ends_escape}
+use Rattle.vte_core.specs.Bytes.{ends_osc, ends_device, is_put}
 use Rattle.vte_core.specs.Text.{text}
 use Rattle.vte_core.specs.Header.{is_well_formed, kept_groups, kept_intermediates, overflows}
 
@@ -60,7 +62,8 @@ csi_end cut h (b ∷ rest) =
     else text cut rest)
 
 abbrev pub csi : Bool → List ℕ → List Event
-csi cut s = executed (before ends_header s) ++ csi_end cut (filter is_header (before ends_header s)) (from ends_header s)
+csi cut s = executed (before ends_header s) ++ csi_end cut (filter is_header (before ends_header s))
+    (from ends_header s)
 
 -- the first n data bytes, in their pieces
 abbrev pub first_bytes : ℕ → List (List ℕ) → List (List ℕ)
@@ -74,7 +77,8 @@ osc_pieces n s = take 16 (first_bytes n (slice_split (λ b. b == 0x3B) s))
 -- the data s of an OSC, and what ends it
 abbrev pub osc_end : ℕ → Bool → List ℕ → List ℕ → List Event
 osc_end n cut s [] = if cut then Osc (osc_pieces n s) false ∷ [] else []
-osc_end n cut s (b ∷ rest) = Osc (osc_pieces n s) (b == 0x07) ∷ (if is_abort b then aborted cut b rest else text cut rest)
+osc_end n cut s (b ∷ rest) = Osc (osc_pieces n s) (b == 0x07)
+    ∷ (if is_abort b then aborted cut b rest else text cut rest)
 
 abbrev pub osc : ℕ → Bool → List ℕ → List Event
 osc n cut s = osc_end n cut (filter (λ b. not (is_control b)) (before ends_osc s)) (from ends_osc s)
@@ -94,12 +98,14 @@ escape_end n cut is (b ∷ rest) = if is_abort b then aborted cut b rest else in
 
 -- what follows an ESC
 abbrev pub escape : ℕ → Bool → List ℕ → List Event
-escape n cut s = executed (before ends_escape s) ++ escape_end n cut (filter is_intermediate (before ends_escape s)) (from ends_escape s)
+escape n cut s = executed (before ends_escape s) ++ escape_end n cut (filter is_intermediate (before ends_escape s))
+    (from ends_escape s)
 
 -- the part before the first ESC, and the segments after each ESC
 abbrev pub cut_at_esc : List ℕ → List ℕ × List (List ℕ)
 cut_at_esc [] = ([], [])
-cut_at_esc (b ∷ bs) = if is_esc b then ([], (cut_at_esc bs).0 ∷ (cut_at_esc bs).1) else (b ∷ (cut_at_esc bs).0, (cut_at_esc bs).1)
+cut_at_esc (b ∷ bs) = if is_esc b then ([], (cut_at_esc bs).0 ∷ (cut_at_esc bs).1)
+    else (b ∷ (cut_at_esc bs).0, (cut_at_esc bs).1)
 
 -- s is read by f, and each other segment as what follows an ESC
 abbrev pub segments : ℕ → (Bool → List ℕ → List Event) → List ℕ → List (List ℕ) → List Event

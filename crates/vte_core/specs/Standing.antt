@@ -6,7 +6,8 @@ use Rattle.vte_core.specs.Store.{ReadsOsc}
 use Rattle.vte_core.specs.Reading.{KeepsTwo}
 use Rattle.vte_core.specs.Phases.{ReadsHeader}
 use Rattle.vte_core.specs.declared.Parser.{Parser}
-use Rattle.vte_core.specs.declared.State.TheVariants.{Ground, Escape, Csi, OscString, DcsHeader, DcsPassthrough, SosPmApcString}
+use Rattle.vte_core.specs.declared.State.TheVariants.{Ground, Escape, Csi, OscString, DcsHeader, DcsPassthrough}
+use Rattle.vte_core.specs.declared.State.TheVariants.{SosPmApcString}
 
 -- the parser's fields stand for what is pending
 abbrev pub IsAt : (n : ℕ) → Parser n → Pending → Type 0

@@ -5,7 +5,8 @@ use Rattle.vte_core.specs.Bytes.{is_abort, is_control, is_intermediate, is_numer
 use Rattle.vte_core.specs.declared.State.{State}
 use Rattle.vte_core.specs.declared.State.TheVariants as s
 use Rattle.vte_core.specs.declared.table.Action.{Action}
-use Rattle.vte_core.specs.declared.table.Action.TheVariants.{Ignore, Cancel, Execute, Collect, Param, Dispatch, Put, End}
+use Rattle.vte_core.specs.declared.table.Action.TheVariants.{Ignore, Cancel, Execute, Collect, Param, Dispatch, Put}
+use Rattle.vte_core.specs.declared.table.Action.TheVariants.{End}
 
 -- whether the byte does this in the state
 abbrev pub does : State → Action → ℕ → Bool

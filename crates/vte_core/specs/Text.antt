@@ -1,5 +1,6 @@
 -- The events of ground text: the characters of UTF-8.
-use Rattle.std.specs.Prelude.{ℕ, zero, suc, ◌+◌, ◌-◌, ◌*◌, Bool, ◌&&◌, ◌||◌, List, [], ◌∷◌, ◌++◌, length, take, nat_lt, ◌==◌, if◌then◌else◌}
+use Rattle.std.specs.Prelude.{ℕ, zero, suc, ◌+◌, ◌-◌, ◌*◌, Bool, ◌&&◌, ◌||◌, List, [], ◌∷◌, ◌++◌, length, take, nat_lt}
+use Rattle.std.specs.Prelude.{◌==◌, if◌then◌else◌}
 use Rattle.std.specs.Int.{is_in_range}
 use Rattle.vte_core.specs.Event.{Event, Print, Execute}
 
@@ -30,7 +31,8 @@ front_len a bs = suc (tail_len (char_len a - 1) (second_min a) (second_max a) bs
 
 -- the bits of the first byte, and the number that the bytes of a character spell
 abbrev pub first_bits : ℕ → ℕ
-first_bits a = if nat_lt a 0x80 then a else (if nat_lt a 0xE0 then a - 0xC0 else (if nat_lt a 0xF0 then a - 0xE0 else a - 0xF0))
+first_bits a = if nat_lt a 0x80 then a else (if nat_lt a 0xE0 then a - 0xC0
+    else (if nat_lt a 0xF0 then a - 0xE0 else a - 0xF0))
 
 abbrev pub joined : ℕ → List ℕ → ℕ
 joined c [] = c
@@ -44,7 +46,8 @@ char_event c = if nat_lt c 0x20 || is_in_range 0x80 0x9F c then Execute c else P
 abbrev pub malformed_event : ℕ → ℕ → Event
 malformed_event n a = if n == 1 && is_in_range 0x80 0x9F a then Execute a else Print 0xFFFD
 
--- the event of the character or of the malformed sequence at the front; an unfinished character at the end gives one only where ESC cuts it off
+-- the event of the character or of the malformed sequence at the front; an unfinished character at the end gives one
+-- only where ESC cuts it off
 abbrev pub front_event : Bool → ℕ → List ℕ → List Event
 front_event cut a bs =
     let n = front_len a bs in

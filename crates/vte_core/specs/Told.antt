@@ -7,7 +7,8 @@ use Rattle.vte_core.specs.declared.Parser.{Parser}
 
 -- the performer has gone through some events: none where there are no bytes, and, whatever past the parser stood at,
 -- those that the bytes add to it
-pub record Told {S : Type 0} (step : S → Event → S → Type 0) (n : ℕ) (parser : Parser n) (old : S) (bytes : List ℕ) (new : S) : Type 0 where
+pub record Told {S : Type 0} (step : S → Event → S
+    → Type 0) (n : ℕ) (parser : Parser n) (old : S) (bytes : List ℕ) (new : S) : Type 0 where
   pub told : List Event
   pub performed : Performs step old told new
   pub none : bytes ≡ [] → told ≡ []

@@ -1,7 +1,8 @@
 //! The header of a control sequence or a device control string: the bytes 0x20 to 0x3F before the final byte
 //! (ECMA-48, section 5.4).
 
-ghost use Rattle.std.specs.Prelude.{◌≡◌, ◌+◌, ◌<◌, ◌≤◌, ℕ, Bool, List, [], ◌∷◌, ◌++◌, length, take, IsTrue, if◌then◌else◌, true, false};
+ghost use Rattle.std.specs.Prelude.{◌≡◌, ◌+◌, ◌<◌, ◌≤◌, ℕ, Bool, List, [], ◌∷◌, ◌++◌, length, take, IsTrue};
+ghost use Rattle.std.specs.Prelude.{if◌then◌else◌, true, false};
 ghost use Rattle.vte_core.specs.Bytes.{each, is_header, is_private, is_numeric, is_intermediate};
 ghost use Rattle.vte_core.specs.Header.{is_well_formed, kept_groups, kept_intermediates, overflows};
 ghost use Rattle.vte_core.specs.Event.{Csi, Hook};
@@ -10,7 +11,7 @@ ghost use Rattle.vte_core.specs.Phases.{ReadsHeader, next_by, is_kept};
 
 use crate::Perform;
 use crate::intermediates::Intermediates;
-use crate::numbers::Numbers;
+use crate::numbers::{Numbers, is_numeric};
 
 /// How far a header has come.
 #[derive(Clone, Copy)]
@@ -31,10 +32,20 @@ pub struct Header {
 }
 
 /// Whether the byte is an intermediate.
+#[inline(always)]
 fn is_intermediate(byte: u8) -> bool
     ensures { result ≡ is_intermediate byte }
 {
     (0x20..=0x2F).contains(&byte)
+}
+
+/// Whether the byte is of a header, and neither a digit nor `:` nor `;`.
+#[inline(always)]
+fn is_other(byte: u8) -> bool
+    ensures header { IsTrue result → is_header byte ≡ true }
+    ensures other { IsTrue result → is_numeric byte ≡ false }
+{
+    matches!(byte, 0x20..=0x2F | 0x3C..=0x3F)
 }
 
 /// The phase after a digit, `:` or `;`.
@@ -49,6 +60,7 @@ fn after_numeric(phase: Phase) -> Phase
 }
 
 /// The phase after any other byte of a header.
+#[inline(always)]
 fn after_other(phase: Phase, byte: u8) -> Phase
     ensures { result ≡ next_by false (is_intermediate byte) phase }
 {
@@ -62,6 +74,7 @@ fn after_other(phase: Phase, byte: u8) -> Phase
 }
 
 /// Whether a header that ends here is told.
+#[inline(always)]
 fn is_kept(phase: Phase) -> bool
     ensures { result ≡ is_kept phase }
 {
@@ -84,6 +97,7 @@ impl Header {
     }
 
     /// Begins a header.
+    #[inline]
     pub fn clear(&mut self)
         ensures { ReadsHeader self.new [] }
     {
@@ -94,16 +108,36 @@ impl Header {
 
     /// Reads the digits, `:` and `;` at the front of the bytes, and returns how many they are.
     #[inline(always)]
-    pub fn read_numbers(&mut self, bytes: &[u8]) -> usize
+    fn read_numbers(&mut self, bytes: &[u8]) -> usize
         ensures within { result ≤ length bytes.now }
         ensures numeric { each is_numeric (take result bytes.now) ≡ true }
         ensures reads { (h : List ℕ) → ReadsHeader self.old h → ReadsHeader self.new (h ++ take result bytes.now) }
     {
+        match bytes {
+            [first, ..] if is_numeric(*first) => {}
+            _ => return 0,
+        }
         let len = self.numbers.read(bytes);
         if len > 0 {
             self.phase = after_numeric(self.phase);
         }
         len
+    }
+
+    /// Reads the bytes of a header at the front, and returns how many they are.
+    #[inline(always)]
+    pub fn read(&mut self, bytes: &[u8]) -> usize
+        ensures within { result ≤ length bytes.now }
+        ensures header { each is_header (take result bytes.now) ≡ true }
+        ensures reads { (h : List ℕ) → ReadsHeader self.old h → ReadsHeader self.new (h ++ take result bytes.now) }
+    {
+        let mut read = self.read_numbers(bytes);
+        while read < bytes.len() && is_other(bytes[read]) {
+            self.collect(bytes[read]);
+            read += 1;
+            read += self.read_numbers(&bytes[read..]);
+        }
+        read
     }
 
     /// A digit, `:` or `;`.
@@ -116,6 +150,7 @@ impl Header {
     }
 
     /// An intermediate, or a private byte, which is kept as one.
+    #[inline]
     pub fn collect(&mut self, byte: u8)
         requires header { IsTrue (is_header byte) }
         requires other { is_numeric byte ≡ false }
@@ -126,6 +161,7 @@ impl Header {
     }
 
     /// Whether a sequence with this header is told.
+    #[inline]
     pub fn is_kept(&self) -> bool
         ensures kept { result ≡ is_kept self.now.phase }
         ensures well_formed { (h : List ℕ) → ReadsHeader self.now h → result ≡ is_well_formed h }
@@ -136,7 +172,8 @@ impl Header {
     /// The final byte of a control sequence.
     pub fn csi<P: Perform>(&mut self, performer: &mut P, byte: u8)
         ensures told { P.step performer.old (csi_event self.new byte) performer.new }
-        ensures is_told { (h : List ℕ) → ReadsHeader self.old h → csi_event self.new byte ≡ Csi (kept_groups h) (kept_intermediates h) (overflows h) byte }
+        ensures is_told { (h : List ℕ) → ReadsHeader self.old h
+            → csi_event self.new byte ≡ Csi (kept_groups h) (kept_intermediates h) (overflows h) byte }
     {
         self.numbers.finish();
         let numbers = &self.numbers;
@@ -153,7 +190,8 @@ impl Header {
     /// The final byte of a device control string's header.
     pub fn hook<P: Perform>(&mut self, performer: &mut P, byte: u8)
         ensures told { P.step performer.old (hook_event self.new byte) performer.new }
-        ensures is_told { (h : List ℕ) → ReadsHeader self.old h → hook_event self.new byte ≡ Hook (kept_groups h) (kept_intermediates h) (overflows h) byte }
+        ensures is_told { (h : List ℕ) → ReadsHeader self.old h
+            → hook_event self.new byte ≡ Hook (kept_groups h) (kept_intermediates h) (overflows h) byte }
     {
         self.numbers.finish();
         let numbers = &self.numbers;

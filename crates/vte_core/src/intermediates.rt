@@ -25,17 +25,16 @@ impl Intermediates {
     }
 
     /// Drops them.
+    #[inline]
     pub fn clear(&mut self)
         ensures { KeepsTwo self.new [] }
     {
-        // Most sequences have none.
-        if !self.kept.is_empty() {
-            self.kept.clear();
-        }
+        self.kept = ArrayVec::new();
         self.many = false;
     }
 
     /// One more.
+    #[inline]
     pub fn push(&mut self, byte: u8)
         ensures { (is : List ℕ) → KeepsTwo self.old is → KeepsTwo self.new (is ++ byte ∷ []) }
     {

@@ -1,7 +1,10 @@
 //! Laws of the events of a byte stream, each as the contract of a function that does nothing.
 
-ghost use Rattle.vte_core.specs.Laws.{KeepsBeginnings, AddsInOrder, CutsBeforeEsc, CutsAfter, AddsFitting, TellsCharacters, AsksAsSaid};
-ghost use Rattle.vte_core.specs.Ground.{AddsAsAlone, NothingIsAtGround, GroundJoins, EscLeavesGround, LeadsToGround, EscapesEndAtGround, ControlSequencesEndAtGround, TextsEndAtGround, NothingPendingIsGround, EscapesTell, ControlSequencesTell, TextsTell};
+ghost use Rattle.vte_core.specs.Laws.{KeepsBeginnings, AddsInOrder, CutsBeforeEsc, CutsAfter, AddsFitting};
+ghost use Rattle.vte_core.specs.Laws.{TellsCharacters, AsksAsSaid};
+ghost use Rattle.vte_core.specs.Ground.{AddsAsAlone, NothingIsAtGround, GroundJoins, EscLeavesGround, LeadsToGround};
+ghost use Rattle.vte_core.specs.Ground.{EscapesEndAtGround, ControlSequencesEndAtGround, TextsEndAtGround};
+ghost use Rattle.vte_core.specs.Ground.{NothingPendingIsGround, EscapesTell, ControlSequencesTell, TextsTell};
 
 /// The events of a beginning of a stream are a beginning of the stream's events; pieces that follow one another add
 /// their events one after the other.

@@ -1,30 +1,33 @@
 //! The bytes that a program writes to its terminal, as events.
 //!
 //! A [`Parser`] reads bytes in pieces of any lengths and tells a [`Perform`]er what they say: the characters of ground
-//! text, controls, escape sequences, control sequences, operating system commands and device control strings. The events
-//! depend on the joined bytes alone, never on where they were cut.
+//! text, controls, escape sequences, control sequences, operating system commands and device control strings. The
+//! events depend on the joined bytes alone, never on where they were cut.
 //!
-//! The sequences are those of ECMA-48 (fifth edition, sections 5.3 to 5.6) with the rules that DEC's terminals and xterm
-//! add: CAN and SUB end any sequence and are executed, ESC ends any sequence and begins a new one, controls inside an
-//! escape or control sequence are executed at once, DEL is dropped there, and BEL ends an operating system command.
-//! Ground text is UTF-8 (the Unicode Standard, section 3.9, table 3-7).
+//! The sequences are those of ECMA-48 (fifth edition, sections 5.3 to 5.6) with the rules that DEC's terminals and
+//! xterm add: CAN and SUB end any sequence and are executed, ESC ends any sequence and begins a new one, controls
+//! inside an escape or control sequence are executed at once, DEL is dropped there, and BEL ends an operating system
+//! command. Ground text is UTF-8 (the Unicode Standard, section 3.9, table 3-7).
 //!
-//! Nothing is allocated. A parser keeps 32 numbers and 2 intermediates of a sequence, and of an operating system command
-//! its first N data bytes in 16 pieces.
+//! Nothing is allocated. A parser keeps 32 numbers and 2 intermediates of a sequence, and of an operating system
+//! command its first N data bytes in 16 pieces.
 #![tactic(auto)]
 
-ghost use Rattle.std.specs.Prelude.{◌≡◌, ◌≢◌, ◌+◌, ◌<◌, ◌≤◌, ℕ, Bool, List, [], ◌∷◌, ◌++◌, length, map, IsTrue, take, drop};
+ghost use Rattle.std.specs.Prelude.{◌≡◌, ◌≢◌, ◌+◌, ◌<◌, ◌≤◌, ℕ, Bool, List, [], ◌∷◌, ◌++◌, length, map, IsTrue, take};
+ghost use Rattle.std.specs.Prelude.{drop, slice_index};
 ghost use Rattle.vte_core.specs.Event as e;
 ghost use Rattle.vte_core.specs.Event.{Performs};
 ghost use Rattle.vte_core.specs.Told.{Told};
 ghost use Rattle.vte_core.specs.Runs.{Tells, IsStep, is_one_step};
 ghost use Rattle.vte_core.specs.Heard.{heard, byte_heard, closed_heard, final_heard};
 ghost use Rattle.vte_core.specs.Shapes.{events};
-ghost use Rattle.vte_core.specs.Pending.{Pending, InText, InEscape, InCsi, InOsc, InHook, InDevice, InSwallowed, final_rest, final_told, events_of_byte, after_byte, byte_told, byte_rest, events_from, after_bytes, closed};
+ghost use Rattle.vte_core.specs.Pending.{Pending, InText, InEscape, InCsi, InOsc, InHook, InDevice, InSwallowed};
+ghost use Rattle.vte_core.specs.Pending.{final_rest, final_told, events_of_byte, after_byte, byte_told, byte_rest};
+ghost use Rattle.vte_core.specs.Pending.{events_from, after_bytes, closed};
 ghost use Rattle.vte_core.specs.Standing.{IsAt, Stands, state_is_text};
 ghost use Rattle.vte_core.specs.Stopping.{Stops};
 ghost use Rattle.std.specs.Prelude.{true, not, ◌&&◌};
-ghost use Rattle.vte_core.specs.Bytes.{each, is_device_data, is_esc};
+ghost use Rattle.vte_core.specs.Bytes.{each, is_device_data, is_esc, is_swallowed};
 
 mod event;
 mod header;
@@ -109,7 +112,8 @@ impl<const N: usize> Parser<N> {
     fn begin_escape<P: Perform>(&mut self, performer: &mut P)
         ensures stands { (q : Pending) → IsAt N self.old q → IsAt N self.new (InEscape []) }
         ensures told { Performs P.step performer.old (closed_heard N self.old.state self.old self.new) performer.new }
-        ensures is_told { (q : Pending) → IsAt N self.old q → closed_heard N self.old.state self.old self.new ≡ closed N q }
+        ensures is_told { (q : Pending) → IsAt N self.old q
+            → closed_heard N self.old.state self.old self.new ≡ closed N q }
     {
         match self.state {
             State::Ground => {
@@ -132,7 +136,8 @@ impl<const N: usize> Parser<N> {
         requires not_esc { byte ≢ 0x1B }
         ensures stands { (q : Pending) → IsAt N self.old q → IsAt N self.new (byte_rest q byte) }
         ensures told { Performs P.step performer.old (byte_heard N State.Escape self.old self.new byte) performer.new }
-        ensures is_told { (q : Pending) → IsAt N self.old q → byte_heard N State.Escape self.old self.new byte ≡ byte_told N q byte }
+        ensures is_told { (q : Pending) → IsAt N self.old q
+            → byte_heard N State.Escape self.old self.new byte ≡ byte_told N q byte }
     {
         let (action, next) = step_of(State::Escape, byte);
         match action {
@@ -152,7 +157,8 @@ impl<const N: usize> Parser<N> {
         requires { self.old.state ≡ State.Escape }
         ensures stands { (is : List ℕ) → IsAt N self.old (InEscape is) → IsAt N self.new (final_rest is byte) }
         ensures told { Performs P.step performer.old (final_heard self.old.intermediates byte) performer.new }
-        ensures is_told { (is : List ℕ) → IsAt N self.old (InEscape is) → final_heard self.old.intermediates byte ≡ final_told is byte }
+        ensures is_told { (is : List ℕ) → IsAt N self.old (InEscape is)
+            → final_heard self.old.intermediates byte ≡ final_told is byte }
     {
         let plain = self.intermediates.kept.is_empty();
         match byte {
@@ -186,7 +192,8 @@ impl<const N: usize> Parser<N> {
         requires not_esc { byte ≢ 0x1B }
         ensures stands { (q : Pending) → IsAt N self.old q → IsAt N self.new (byte_rest q byte) }
         ensures told { Performs P.step performer.old (byte_heard N State.Csi self.old self.new byte) performer.new }
-        ensures is_told { (q : Pending) → IsAt N self.old q → byte_heard N State.Csi self.old self.new byte ≡ byte_told N q byte }
+        ensures is_told { (q : Pending) → IsAt N self.old q
+            → byte_heard N State.Csi self.old self.new byte ≡ byte_told N q byte }
     {
         let (action, next) = step_of(State::Csi, byte);
         match action {
@@ -212,8 +219,10 @@ impl<const N: usize> Parser<N> {
         requires state { self.old.state ≡ State.OscString }
         requires not_esc { byte ≢ 0x1B }
         ensures stands { (q : Pending) → IsAt N self.old q → IsAt N self.new (byte_rest q byte) }
-        ensures told { Performs P.step performer.old (byte_heard N State.OscString self.old self.new byte) performer.new }
-        ensures is_told { (q : Pending) → IsAt N self.old q → byte_heard N State.OscString self.old self.new byte ≡ byte_told N q byte }
+        ensures told { Performs P.step performer.old (byte_heard N State.OscString self.old self.new byte)
+            performer.new }
+        ensures is_told { (q : Pending) → IsAt N self.old q
+            → byte_heard N State.OscString self.old self.new byte ≡ byte_told N q byte }
     {
         let (action, next) = step_of(State::OscString, byte);
         match action {
@@ -236,8 +245,10 @@ impl<const N: usize> Parser<N> {
         requires state { self.old.state ≡ State.DcsHeader }
         requires not_esc { byte ≢ 0x1B }
         ensures stands { (q : Pending) → IsAt N self.old q → IsAt N self.new (byte_rest q byte) }
-        ensures told { Performs P.step performer.old (byte_heard N State.DcsHeader self.old self.new byte) performer.new }
-        ensures is_told { (q : Pending) → IsAt N self.old q → byte_heard N State.DcsHeader self.old self.new byte ≡ byte_told N q byte }
+        ensures told { Performs P.step performer.old (byte_heard N State.DcsHeader self.old self.new byte)
+            performer.new }
+        ensures is_told { (q : Pending) → IsAt N self.old q
+            → byte_heard N State.DcsHeader self.old self.new byte ≡ byte_told N q byte }
     {
         let (action, next) = step_of(State::DcsHeader, byte);
         match action {
@@ -264,8 +275,10 @@ impl<const N: usize> Parser<N> {
         requires state { self.old.state ≡ State.DcsPassthrough }
         requires not_esc { byte ≢ 0x1B }
         ensures stands { (q : Pending) → IsAt N self.old q → IsAt N self.new (byte_rest q byte) }
-        ensures told { Performs P.step performer.old (byte_heard N State.DcsPassthrough self.old self.new byte) performer.new }
-        ensures is_told { (q : Pending) → IsAt N self.old q → byte_heard N State.DcsPassthrough self.old self.new byte ≡ byte_told N q byte }
+        ensures told { Performs P.step performer.old (byte_heard N State.DcsPassthrough self.old self.new byte)
+            performer.new }
+        ensures is_told { (q : Pending) → IsAt N self.old q
+            → byte_heard N State.DcsPassthrough self.old self.new byte ≡ byte_told N q byte }
     {
         let (action, next) = step_of(State::DcsPassthrough, byte);
         match action {
@@ -287,8 +300,10 @@ impl<const N: usize> Parser<N> {
         requires state { self.old.state ≡ State.SosPmApcString }
         requires not_esc { byte ≢ 0x1B }
         ensures stands { (q : Pending) → IsAt N self.old q → IsAt N self.new (byte_rest q byte) }
-        ensures told { Performs P.step performer.old (byte_heard N State.SosPmApcString self.old self.new byte) performer.new }
-        ensures is_told { (q : Pending) → IsAt N self.old q → byte_heard N State.SosPmApcString self.old self.new byte ≡ byte_told N q byte }
+        ensures told { Performs P.step performer.old (byte_heard N State.SosPmApcString self.old self.new byte)
+            performer.new }
+        ensures is_told { (q : Pending) → IsAt N self.old q
+            → byte_heard N State.SosPmApcString self.old self.new byte ≡ byte_told N q byte }
     {
         let (action, next) = step_of(State::SosPmApcString, byte);
         match action {
@@ -305,7 +320,8 @@ impl<const N: usize> Parser<N> {
         requires { self.old.state ≡ State.Ground }
         ensures stands { (q : Pending) → IsAt N self.old q → IsAt N self.new (byte_rest q byte) }
         ensures told { Performs P.step performer.old (byte_heard N State.Ground self.old self.new byte) performer.new }
-        ensures is_told { (q : Pending) → IsAt N self.old q → byte_heard N State.Ground self.old self.new byte ≡ byte_told N q byte }
+        ensures is_told { (q : Pending) → IsAt N self.old q
+            → byte_heard N State.Ground self.old self.new byte ≡ byte_told N q byte }
     {
         self.unfinished.byte(performer, byte);
     }
@@ -331,8 +347,32 @@ impl<const N: usize> Parser<N> {
         }
     }
 
-    /// Reads the bytes at the front that tell nothing: the numbers of a header or the data of a command. Returns how many
-    /// they are.
+    /// Reads the `[` or `P` after ESC that begins a header, and the header that follows, if they stand at the front.
+    /// Returns how many bytes they are.
+    #[inline(always)]
+    fn begin_header(&mut self, bytes: &[u8]) -> usize
+        requires { self.old.state ≡ State.Escape }
+        ensures within { result ≤ length bytes.now }
+        ensures stands { (q : Pending) → IsAt N self.old q → IsAt N self.new (after_bytes q (take result bytes.now)) }
+        ensures quiet { (q : Pending) → IsAt N self.old q → events_from N q (take result bytes.now) ≡ [] }
+    {
+        match bytes {
+            [b'[', rest @ ..] if self.intermediates.kept.is_empty() => {
+                self.state = State::Csi;
+                self.header.clear();
+                1 + self.header.read(rest)
+            }
+            [b'P', rest @ ..] if self.intermediates.kept.is_empty() => {
+                self.state = State::DcsHeader;
+                self.header.clear();
+                1 + self.header.read(rest)
+            }
+            _ => 0,
+        }
+    }
+
+    /// Reads the bytes at the front that tell nothing: a header, the data of a command, or what is swallowed. Returns
+    /// how many they are.
     #[inline(always)]
     fn read_quiet(&mut self, bytes: &[u8]) -> usize
         ensures within { result ≤ length bytes.now }
@@ -340,19 +380,22 @@ impl<const N: usize> Parser<N> {
         ensures quiet { (q : Pending) → IsAt N self.old q → events_from N q (take result bytes.now) ≡ [] }
     {
         match self.state {
-            State::Csi | State::DcsHeader => self.header.read_numbers(bytes),
+            State::Csi | State::DcsHeader => self.header.read(bytes),
             State::OscString => self.osc.read(bytes),
-            State::Ground => self.begin_csi(bytes),
+            State::SosPmApcString => swallowed_len(bytes),
+            State::Escape => self.begin_header(bytes),
             _ => 0,
         }
     }
 
-    /// Reads `ESC [` after whole ground text, and the numbers that follow, if they stand at the front. Returns how many
+    /// Reads `ESC [` after whole ground text, and the header that follows, if they stand at the front. Returns how many
     /// bytes they are.
     #[inline(always)]
     fn begin_csi(&mut self, bytes: &[u8]) -> usize
         requires { self.old.state ≡ State.Ground }
         ensures within { result ≤ length bytes.now }
+        ensures begun { 0 < result → self.new.state ≡ State.Csi }
+        ensures not_begun { result ≡ 0 → self.new.state ≡ State.Ground }
         ensures stands { (q : Pending) → IsAt N self.old q → IsAt N self.new (after_bytes q (take result bytes.now)) }
         ensures quiet { (q : Pending) → IsAt N self.old q → events_from N q (take result bytes.now) ≡ [] }
     {
@@ -360,10 +403,50 @@ impl<const N: usize> Parser<N> {
             [0x1B, b'[', rest @ ..] if self.unfinished.is_empty() => {
                 self.state = State::Csi;
                 self.header.clear();
-                2 + self.header.read_numbers(rest)
+                2 + self.header.read(rest)
             }
             _ => 0,
         }
+    }
+
+    /// The byte after a control sequence's header.
+    #[inline(always)]
+    fn end_csi<P: Perform>(&mut self, performer: &mut P, byte: u8)
+        requires { self.old.state ≡ State.Csi }
+        ensures stands { (q : Pending) → IsAt N self.old q → IsAt N self.new (after_byte q byte) }
+        ensures told { Performs P.step performer.old (heard N self.old self.new byte) performer.new }
+        ensures is_told { (q : Pending) → IsAt N self.old q → heard N self.old self.new byte ≡ events_of_byte N q byte }
+    {
+        if byte == 0x1B {
+            self.begin_escape(performer);
+        } else {
+            self.csi(performer, byte);
+        }
+    }
+
+    /// Reads a control sequence that ESC begins after ground text, up to the first byte that tells something, and with
+    /// it; or else ESC alone. Returns how many bytes it read.
+    #[inline(always)]
+    fn read_escape<P: Perform>(&mut self, performer: &mut P, bytes: &[u8]) -> usize
+        requires some { 0 < length bytes.now }
+        requires ground { self.old.state ≡ State.Ground }
+        requires esc { slice_index bytes.now 0 ≡ 0x1B }
+        ensures some { 0 < result }
+        ensures within { result ≤ length bytes.now }
+        ensures stands { (q : Pending) → IsAt N self.old q → IsAt N self.new (after_bytes q (take result bytes.now)) }
+        ensures told { Tells P.step N self.old performer.old (take result bytes.now) performer.new }
+        ensures step { (q : Pending) → IsAt N self.old q → IsStep N q (take result bytes.now) (drop result bytes.now) }
+    {
+        let quiet = self.begin_csi(bytes);
+        if quiet == 0 {
+            self.begin_escape(performer);
+            return 1;
+        }
+        if quiet < bytes.len() {
+            self.end_csi(performer, bytes[quiet]);
+            return quiet + 1;
+        }
+        quiet
     }
 
     /// Reads ground text up to the next ESC, or else one byte, and returns how many bytes it read.
@@ -374,7 +457,8 @@ impl<const N: usize> Parser<N> {
         ensures within { result ≤ length bytes.now }
         ensures stands { (q : Pending) → IsAt N self.old q → IsAt N self.new (after_bytes q (take result bytes.now)) }
         ensures told { Tells P.step N self.old performer.old (take result bytes.now) performer.new }
-        ensures step { (q : Pending) → IsAt N self.old q → is_one_step q (take result bytes.now) (drop result bytes.now) ≡ true }
+        ensures step { (q : Pending) → IsAt N self.old q
+            → is_one_step q (take result bytes.now) (drop result bytes.now) ≡ true }
     {
         if is_text(self.state, bytes[0]) {
             return self.unfinished.read(performer, bytes);
@@ -383,10 +467,10 @@ impl<const N: usize> Parser<N> {
         1
     }
 
-    /// Reads bytes up to the first that tells something, and with it, or ground text up to the next ESC. Returns how many
-    /// bytes it read.
+    /// Reads bytes up to the first that tells something, and with it, or ground text up to the next ESC. Returns how
+    /// many bytes it read.
     #[inline(always)]
-    fn read_some<P: Perform>(&mut self, performer: &mut P, bytes: &[u8]) -> usize
+    fn read_step<P: Perform>(&mut self, performer: &mut P, bytes: &[u8]) -> usize
         requires { 0 < length bytes.now }
         ensures some { 0 < result }
         ensures within { result ≤ length bytes.now }
@@ -399,6 +483,39 @@ impl<const N: usize> Parser<N> {
             return quiet;
         }
         quiet + self.read_one(performer, &bytes[quiet..])
+    }
+
+    /// Reads bytes as `read_step` does, and a control sequence after ground text at once.
+    #[inline(always)]
+    fn read_some<P: Perform>(&mut self, performer: &mut P, bytes: &[u8]) -> usize
+        requires { 0 < length bytes.now }
+        ensures some { 0 < result }
+        ensures within { result ≤ length bytes.now }
+        ensures stands { (q : Pending) → IsAt N self.old q → IsAt N self.new (after_bytes q (take result bytes.now)) }
+        ensures told { Tells P.step N self.old performer.old (take result bytes.now) performer.new }
+        ensures step { (q : Pending) → IsAt N self.old q → IsStep N q (take result bytes.now) (drop result bytes.now) }
+    {
+        match self.state {
+            State::Ground if bytes[0] == 0x1B => self.read_escape(performer, bytes),
+            _ => self.read_step(performer, bytes),
+        }
+    }
+
+    /// Reads ground text up to the next ESC, and the control sequence that it begins. Returns how many bytes they are.
+    #[inline(always)]
+    fn read_text<P: Perform>(&mut self, performer: &mut P, bytes: &[u8]) -> usize
+        requires some { 0 < length bytes.now }
+        requires ground { self.old.state ≡ State.Ground }
+        ensures some { 0 < result }
+        ensures within { result ≤ length bytes.now }
+        ensures stands { (q : Pending) → IsAt N self.old q → IsAt N self.new (after_bytes q (take result bytes.now)) }
+        ensures told { Tells P.step N self.old performer.old (take result bytes.now) performer.new }
+    {
+        let len = self.unfinished.read(performer, bytes);
+        if len == bytes.len() {
+            return len;
+        }
+        len + self.read_escape(performer, &bytes[len..])
     }
 
     /// Puts the data of a device control string at the front, and returns how many bytes it is.
@@ -414,10 +531,10 @@ impl<const N: usize> Parser<N> {
         }
     }
 
-    /// Reads bytes as `read_some` does, or the data of a device control string, of which each byte is told. Returns how
-    /// many bytes it read.
+    /// Reads the data of a device control string at the front, and then as `read_step` does. Returns how many bytes it
+    /// read.
     #[inline(always)]
-    fn read_on<P: Perform>(&mut self, performer: &mut P, bytes: &[u8]) -> usize
+    fn read_sequence<P: Perform>(&mut self, performer: &mut P, bytes: &[u8]) -> usize
         requires { 0 < length bytes.now }
         ensures some { 0 < result }
         ensures within { result ≤ length bytes.now }
@@ -428,7 +545,22 @@ impl<const N: usize> Parser<N> {
         if len == bytes.len() {
             return len;
         }
-        len + self.read_some(performer, &bytes[len..])
+        len + self.read_step(performer, &bytes[len..])
+    }
+
+    /// Reads some bytes, and returns how many.
+    #[inline(always)]
+    fn read_on<P: Perform>(&mut self, performer: &mut P, bytes: &[u8]) -> usize
+        requires { 0 < length bytes.now }
+        ensures some { 0 < result }
+        ensures within { result ≤ length bytes.now }
+        ensures stands { (q : Pending) → IsAt N self.old q → IsAt N self.new (after_bytes q (take result bytes.now)) }
+        ensures told { Tells P.step N self.old performer.old (take result bytes.now) performer.new }
+    {
+        match self.state {
+            State::Ground => self.read_text(performer, bytes),
+            _ => self.read_sequence(performer, bytes),
+        }
     }
 
     /// Reads the next bytes of the stream, and tells the performer of their events, in order. A character or a sequence
@@ -451,9 +583,11 @@ impl<const N: usize> Parser<N> {
         ensures within { result ≤ length bytes.now }
         ensures stands { (past : List ℕ) → Stands N self.old past → Stands N self.new (past ++ take result bytes.now) }
         ensures told { Told P.step N self.old performer.old (take result bytes.now) performer.new }
-        ensures stops { (past : List ℕ) → Stands N self.old past → Stops P.step P.is_terminated N past bytes.now performer.old result performer.new }
+        ensures stops { (past : List ℕ) → Stands N self.old past
+            → Stops P.step P.is_terminated N past bytes.now performer.old result performer.new }
         ensures ended { result < length bytes.now → IsTrue (P.is_terminated performer.new) }
-        ensures already { IsTrue (P.is_terminated performer.old) → (result ≡ 0) × (performer.new ≡ performer.old) × (self.new ≡ self.old) }
+        ensures already { IsTrue (P.is_terminated performer.old) → (result ≡ 0) × (performer.new ≡ performer.old)
+            × (self.new ≡ self.old) }
     {
         let mut read = 0;
         while read < bytes.len() {
@@ -475,6 +609,19 @@ fn is_text(state: State, byte: u8) -> bool
         State::Ground => byte != 0x1B,
         _ => false,
     }
+}
+
+/// How many bytes at the front are swallowed: neither ESC nor CAN nor SUB.
+#[inline(always)]
+fn swallowed_len(bytes: &[u8]) -> usize
+    ensures within { result ≤ length bytes.now }
+    ensures swallowed { each is_swallowed (take result bytes.now) ≡ true }
+{
+    let mut len = 0;
+    while len < bytes.len() && !matches!(bytes[len], 0x18 | 0x1A | 0x1B) {
+        len += 1;
+    }
+    len
 }
 
 /// Puts the bytes at the front that are a device control string's data, and returns how many they are.

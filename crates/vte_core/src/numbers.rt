@@ -1,6 +1,7 @@
 //! The numbers of a header, digit by digit: 32 are kept, in their groups.
 
-ghost use Rattle.std.specs.Prelude.{◌≡◌, ◌+◌, ◌-◌, ◌*◌, ◌<◌, ◌≤◌, ◌^◌, ℕ, List, [], ◌∷◌, ◌++◌, length, take, true, IsTrue};
+ghost use Rattle.std.specs.Prelude.{◌≡◌, ◌+◌, ◌-◌, ◌*◌, ◌<◌, ◌≤◌, ◌^◌, ℕ, List, [], ◌∷◌, ◌++◌, length, take, true};
+ghost use Rattle.std.specs.Prelude.{IsTrue};
 ghost use Rattle.vte_core.specs.Bytes.{each, is_numeric};
 ghost use Rattle.vte_core.specs.Store.{total};
 
@@ -8,7 +9,7 @@ use crate::Params;
 
 /// Whether the byte is a digit, `:` or `;`.
 #[inline(always)]
-fn is_numeric(byte: u8) -> bool
+pub fn is_numeric(byte: u8) -> bool
     ensures { result ≡ is_numeric byte }
 {
     (0x30..=0x3B).contains(&byte)
@@ -74,7 +75,8 @@ impl Numbers {
     /// The last group is whole.
     #[inline]
     fn end_group(&mut self)
-        ensures { (gs : List (List ℕ)) (g : List ℕ) → Holds self.old gs g → 0 < length g → Holds self.new (gs ++ g ∷ []) [] }
+        ensures { (gs : List (List ℕ)) (g : List ℕ) → Holds self.old gs g → 0 < length g
+            → Holds self.new (gs ++ g ∷ []) [] }
     {
         self.is_open = false;
     }
@@ -86,18 +88,16 @@ impl Numbers {
         ensures { (m : List ℕ) → ReadsUpTo self.old number m → ReadsUpTo self.new result (m ++ byte ∷ []) }
     {
         match byte {
-            b':' => {
-                self.end_number(number);
-                0
-            }
+            b'0'..=b'9' => (number as u32 * 10 + (byte - b'0') as u32).min(0xFFFF) as u16,
             b';' => {
                 self.end_number(number);
                 self.end_group();
                 0
             }
-            _ => number
-                .saturating_mul(10)
-                .saturating_add((byte - b'0') as u16),
+            _ => {
+                self.end_number(number);
+                0
+            }
         }
     }
 

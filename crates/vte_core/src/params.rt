@@ -31,7 +31,8 @@ impl Model for Params {
 
     ghost view = { λ p. cut_at 0 (take p.groups p.ends) (take p.len p.numbers) };
 
-    ghost invariant = { λ p. EndsFit 0 (take p.groups p.ends) (take p.len p.numbers) × (p.len ≤ 32) × (p.groups ≤ 32) × (length p.numbers ≡ 32) × (length p.ends ≡ 32) };
+    ghost invariant = { λ p. EndsFit 0 (take p.groups p.ends) (take p.len p.numbers) × (p.len ≤ 32) × (p.groups ≤ 32)
+        × (length p.numbers ≡ 32) × (length p.ends ≡ 32) };
 }
 
 impl Default for Params {
@@ -101,7 +102,8 @@ impl Params {
     pub(crate) fn extend(&mut self, number: u16)
         requires some { 0 < length self.old }
         requires room { total self.old < 32 }
-        ensures last { (gs : List (List ℕ)) (g : List ℕ) → self.old ≡ gs ++ g ∷ [] → self.new ≡ gs ++ (g ++ number ∷ []) ∷ [] }
+        ensures last { (gs : List (List ℕ)) (g : List ℕ) → self.old ≡ gs ++ g ∷ []
+            → self.new ≡ gs ++ (g ++ number ∷ []) ∷ [] }
         ensures groups { length self.new ≡ length self.old }
     {
         self.numbers[self.len] = number;

@@ -10,7 +10,7 @@ use crate::event::Event;
 use crate::params::Params;
 
 /// From how many bytes on it's worth while to ask whether a text is ASCII alone, which needs no decoding.
-const LONG_TEXT: usize = 16;
+const LONG_TEXT: usize = 8;
 
 /// Receives the events of a byte stream, in order, each once.
 ///
@@ -39,8 +39,8 @@ pub trait Perform {
     }
 
     /// A run of ground text without controls: its characters, one after another. The parser hands over what lies
-    /// between two controls as one text. Only a character that the end of a piece cut, or the one whose first byte ended
-    /// a malformed sequence, comes by `print`, and the text goes on after it.
+    /// between two controls as one text. Only a character that stands alone, that the end of a piece cut, or whose
+    /// first byte ended a malformed sequence comes by `print`, and the text goes on after it.
     fn print_str(&mut self, text: &str)
         ensures { Performs step self.old (map e.Print (chars text.now)) self.new }
     {

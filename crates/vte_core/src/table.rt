@@ -98,9 +98,9 @@ pub enum Action {
     End,
 }
 
-/// What a byte of each class does in each state, and the state after it: a row for each state and an entry for each class,
-/// in their order. The byte that ends an escape or a device control string's header may begin something else instead.
-/// Ground text isn't read by classes, and ESC does the same in each state but for what it ends.
+/// What a byte of each class does in each state, and the state after it: a row for each state and an entry for each
+/// class, in their order. The byte that ends an escape or a device control string's header may begin something else
+/// instead. Ground text isn't read by classes, and ESC does the same in each state but for what it ends.
 static STEPS: [[(Action, State); 13]; 7] = [
     [(Ignore, Ground); 13],
     [

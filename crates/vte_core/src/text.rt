@@ -2,17 +2,19 @@
 //!
 //! What lies between two controls is checked at once; a character that is cut, or malformed, is read byte by byte.
 //!
-//! A malformed sequence is the longest front of what follows that also begins a well-formed character, at least one byte:
-//! the length that `str::from_utf8` reports.
+//! A malformed sequence is the longest front of what follows that also begins a well-formed character, at least one
+//! byte: the length that `str::from_utf8` reports.
 
-ghost use Rattle.std.specs.Prelude.{◌≡◌, ◌==◌, ◌+◌, ◌-◌, ◌<◌, ◌≤◌, ℕ, List, [], ◌∷◌, ◌++◌, length, drop, map, IfSome, IsTrue, true, false, slice_index, take};
+ghost use Rattle.std.specs.Prelude.{◌≡◌, ◌==◌, ◌+◌, ◌-◌, ◌<◌, ◌≤◌, ℕ, List, [], ◌∷◌, ◌++◌, length, drop, map, IfSome};
+ghost use Rattle.std.specs.Prelude.{IsTrue, true, false, slice_index, take};
 ghost use Rattle.std.specs.Str.{IsUtf8};
 ghost use Rattle.vte_core.specs.Bytes.{each, is_c0, is_esc, is_plain};
 ghost use Rattle.vte_core.specs.Runs.{ReadsText, run_told, run_rest, is_printed, printed_len};
 ghost use Rattle.vte_core.specs.Shapes.{before};
 ghost use Rattle.vte_core.specs.Event.{Event, Print, Execute, Performs};
 ghost use Rattle.vte_core.specs.Text.{char_len, second_min, second_max, first_bits, joined, char_event};
-ghost use Rattle.vte_core.specs.Pending.{IsUnfinished, begun, begun_rest, text_told, text_rest, goes_on, whole_goes_on, IsWhole, code_of};
+ghost use Rattle.vte_core.specs.Pending.{IsUnfinished, begun, begun_rest, text_told, text_rest, goes_on, whole_goes_on};
+ghost use Rattle.vte_core.specs.Pending.{IsWhole, code_of};
 ghost use Rattle.std.specs.Char.{InScalarRange};
 ghost use Rattle.std.specs.Int.{is_in_range};
 
@@ -25,6 +27,9 @@ use std::str;
 /// How many bytes are tested at once for controls.
 const BLOCK_LEN: usize = 16;
 
+/// How many bytes are tested at once where fewer are left.
+const SHORT_LEN: usize = 8;
+
 /// How many bytes a character with this first byte has, 0 where none has it.
 fn char_len(first: u8) -> usize
     ensures { result ≡ char_len first }
@@ -36,6 +41,12 @@ fn char_len(first: u8) -> usize
         0xF0..=0xF4 => 4,
         _ => 0,
     }
+}
+
+/// Whether the byte may stand in a character after its first byte.
+#[inline(always)]
+fn is_tail(byte: u8) -> bool {
+    (0x80..=0xBF).contains(&byte)
 }
 
 /// Whether the byte goes on the character that the bytes begin.
@@ -122,11 +133,11 @@ fn text_byte<P: Perform>(unfinished: &mut ArrayVec<u8, 4>, performer: &mut P, by
         unfinished.push(byte);
         if unfinished.len() == char_len(unfinished.as_slice()[0]) {
             let c = character(unfinished.as_slice());
-            unfinished.clear();
+            *unfinished = ArrayVec::new();
             tell(performer, c);
         }
     } else {
-        unfinished.clear();
+        *unfinished = ArrayVec::new();
         performer.print('\u{FFFD}');
         begin(unfinished, performer, byte);
     }
@@ -170,7 +181,7 @@ impl Unfinished {
     pub fn clear(&mut self)
         ensures { self.new ≡ [] }
     {
-        self.bytes.clear();
+        self.bytes = ArrayVec::new();
     }
 
     /// A byte of ground text, other than ESC.
@@ -237,25 +248,30 @@ fn printed_len(bytes: &[u8]) -> usize
     len
 }
 
-/// Whether a character may begin at the bytes, by the first two. Where none does it's quicker to read them one by one.
+/// Whether the bytes begin with a whole character. Where they don't it's quicker to read them one by one.
 #[inline(always)]
-fn may_begin(bytes: &[u8]) -> bool {
-    match bytes {
-        [first, second, ..] if *first >= 0x80 => {
-            char_len(*first) > 0 && goes_on(&bytes[..1], *second)
+fn begins_whole(bytes: &[u8]) -> bool
+    requires { 0 < length bytes.now }
+{
+    match (char_len(bytes[0]), bytes) {
+        (1, _) => true,
+        (2, [_, second, ..]) => is_tail(*second),
+        (3, [_, second, third, ..]) => goes_on(&bytes[..1], *second) && is_tail(*third),
+        (4, [_, second, third, fourth, ..]) => {
+            goes_on(&bytes[..1], *second) && is_tail(*third) && is_tail(*fourth)
         }
-        [first, ..] => char_len(*first) > 0,
-        [] => false,
+        _ => false,
     }
 }
 
 /// How many bytes stand before the next control that is executed, where a character may begin; else 0.
 #[inline(always)]
 fn text_len(bytes: &[u8]) -> usize
+    requires { 0 < length bytes.now }
     ensures within { result ≤ length bytes.now }
     ensures printed { printed_len (take result bytes.now) ≡ length (take result bytes.now) }
 {
-    if !may_begin(bytes) {
+    if !begins_whole(bytes) {
         return 0;
     }
     printed_len(bytes)
@@ -292,6 +308,18 @@ fn are_plain(bytes: &[u8]) -> bool
     are_plain
 }
 
+/// How many bytes at the front, a short block or none, are characters of ASCII that are printed.
+#[inline(always)]
+fn short_len(bytes: &[u8]) -> usize
+    ensures within { result ≤ length bytes.now }
+    ensures plain { each is_plain (take result bytes.now) ≡ true }
+{
+    if bytes.len() < SHORT_LEN || !are_plain(&bytes[..SHORT_LEN]) {
+        return 0;
+    }
+    SHORT_LEN
+}
+
 /// How many bytes at the front are characters of ASCII that are printed.
 #[inline(always)]
 fn ascii_len(bytes: &[u8]) -> usize
@@ -302,6 +330,7 @@ fn ascii_len(bytes: &[u8]) -> usize
     while bytes.len() - len >= BLOCK_LEN && are_plain(&bytes[len..len + BLOCK_LEN]) {
         len += BLOCK_LEN;
     }
+    len += short_len(&bytes[len..]);
     while len < bytes.len() && is_plain(bytes[len]) {
         len += 1;
     }
@@ -313,7 +342,7 @@ fn ascii_len(bytes: &[u8]) -> usize
 fn ends_text(bytes: &[u8]) -> bool {
     match bytes {
         [] => true,
-        [next, ..] => *next < 0x20 || char_len(*next) == 0,
+        [next, ..] => *next < 0x20 || !begins_whole(bytes),
     }
 }
 
@@ -326,6 +355,28 @@ fn ascii_text(bytes: &[u8]) -> &str
     unsafe { str::from_utf8_unchecked(bytes) }
 }
 
+/// Whether each of the bytes is a control of ASCII, other than ESC.
+#[inline(always)]
+fn are_controls(bytes: &[u8]) -> bool
+    ensures { IsTrue result → each is_c0 bytes.now ≡ true }
+{
+    let mut are_controls = true;
+    for byte in bytes {
+        are_controls &= (*byte < 0x20) & (*byte != 0x1B);
+    }
+    are_controls
+}
+
+/// Executes controls of ASCII.
+#[inline(always)]
+fn execute_all<P: Perform>(performer: &mut P, bytes: &[u8])
+    ensures { Performs P.step performer.old (map Execute bytes.now) performer.new }
+{
+    for byte in bytes {
+        performer.execute(*byte);
+    }
+}
+
 /// Executes the controls of ASCII at the front, up to ESC, and returns how many they are.
 #[inline(always)]
 fn execute_controls<P: Perform>(performer: &mut P, bytes: &[u8]) -> usize
@@ -334,6 +385,10 @@ fn execute_controls<P: Perform>(performer: &mut P, bytes: &[u8]) -> usize
     ensures told { Performs P.step performer.old (map Execute (take result bytes.now)) performer.new }
 {
     let mut read = 0;
+    while bytes.len() - read >= BLOCK_LEN && are_controls(&bytes[read..read + BLOCK_LEN]) {
+        execute_all(performer, &bytes[read..read + BLOCK_LEN]);
+        read += BLOCK_LEN;
+    }
     while read < bytes.len() && bytes[read] < 0x20 && bytes[read] != 0x1B {
         performer.execute(bytes[read]);
         read += 1;
@@ -363,7 +418,7 @@ impl Unfinished {
         ensures told { Performs P.step performer.old (run_told self.old (take result bytes.now)) performer.new }
         ensures rest { self.new ≡ run_rest self.old (take result bytes.now) }
     {
-        if self.is_empty() && may_begin(bytes) {
+        if self.is_empty() && begins_whole(bytes) {
             let text = text_front(bytes);
             if !text.is_empty() {
                 performer.print_str(text);
@@ -386,18 +441,14 @@ impl Unfinished {
         }
     }
 
-    /// Reads ground text without ESC up to the next control, or else one byte, and returns how many bytes it read.
+    /// Reads ground text after whole characters up to the next control, or else one byte, and returns how many bytes
+    /// it read.
     fn mixed<P: Perform>(&mut self, performer: &mut P, bytes: &[u8]) -> usize
         requires some { 0 < length bytes.now }
         requires text { is_esc (slice_index bytes.now 0) ≡ false }
+        requires none { self.old ≡ [] }
         ensures { ReadsText P.step self.old performer.old bytes.now result performer.new self.new }
     {
-        if self.is_empty() {
-            if let Some(control) = c1(bytes) {
-                performer.execute(control);
-                return 2;
-            }
-        }
         let len = text_len(bytes);
         if len > 0 {
             self.printed(performer, &bytes[..len]);
@@ -414,16 +465,31 @@ impl Unfinished {
         requires text { is_esc (slice_index bytes.now 0) ≡ false }
         ensures { ReadsText P.step self.old performer.old bytes.now result performer.new self.new }
     {
-        if self.is_empty() && bytes[0] < 0x80 {
-            let controls = execute_controls(performer, bytes);
-            if controls > 0 {
-                return controls;
+        if !self.is_empty() {
+            self.byte(performer, bytes[0]);
+            return 1;
+        }
+        if bytes[0] < 0x20 {
+            performer.execute(bytes[0]);
+            return 1 + execute_controls(performer, &bytes[1..]);
+        }
+        if bytes[0] < 0x80 {
+            let is_alone = ends_text(&bytes[1..]);
+            if is_alone {
+                performer.print(bytes[0] as char);
+                return 1;
             }
             let len = ascii_len(bytes);
             if len > 0 && ends_text(&bytes[len..]) {
                 performer.print_str(ascii_text(&bytes[..len]));
                 return len;
             }
+        } else if let Some(control) = c1(bytes) {
+            performer.execute(control);
+            return 2;
+        } else if !begins_whole(bytes) {
+            self.byte(performer, bytes[0]);
+            return 1;
         }
         self.mixed(performer, bytes)
     }

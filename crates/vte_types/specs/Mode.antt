@@ -16,10 +16,14 @@ mode_rows = (4, m.Named n.Insert) ∷ (20, m.Named n.LineFeedNewLine) ∷ []
 
 abbrev pub private_mode_rows : List (ℕ × PrivateMode)
 private_mode_rows =
-    (1, p.Named q.CursorKeys) ∷ (3, p.Named q.ColumnMode) ∷ (6, p.Named q.Origin) ∷ (7, p.Named q.LineWrap) ∷ (12, p.Named q.BlinkingCursor)
-    ∷ (25, p.Named q.ShowCursor) ∷ (1000, p.Named q.ReportMouseClicks) ∷ (1002, p.Named q.ReportCellMouseMotion) ∷ (1003, p.Named q.ReportAllMouseMotion)
-    ∷ (1004, p.Named q.ReportFocusInOut) ∷ (1005, p.Named q.Utf8Mouse) ∷ (1006, p.Named q.SgrMouse) ∷ (1007, p.Named q.AlternateScroll)
-    ∷ (1042, p.Named q.UrgencyHints) ∷ (1049, p.Named q.SwapScreenAndSetRestoreCursor) ∷ (2004, p.Named q.BracketedPaste)
+    (1, p.Named q.CursorKeys) ∷ (3, p.Named q.ColumnMode) ∷ (6, p.Named q.Origin) ∷ (7, p.Named q.LineWrap)
+    ∷ (12, p.Named q.BlinkingCursor)
+    ∷ (25, p.Named q.ShowCursor) ∷ (1000, p.Named q.ReportMouseClicks) ∷ (1002, p.Named q.ReportCellMouseMotion)
+    ∷ (1003, p.Named q.ReportAllMouseMotion)
+    ∷ (1004, p.Named q.ReportFocusInOut) ∷ (1005, p.Named q.Utf8Mouse) ∷ (1006, p.Named q.SgrMouse)
+    ∷ (1007, p.Named q.AlternateScroll)
+    ∷ (1042, p.Named q.UrgencyHints) ∷ (1049, p.Named q.SwapScreenAndSetRestoreCursor)
+    ∷ (2004, p.Named q.BracketedPaste)
     ∷ (2026, p.Named q.SyncUpdate) ∷ []
 
 -- the mode that a parameter names

@@ -1,5 +1,6 @@
 -- Colours by red, green and blue.
-use Rattle.std.specs.Prelude.{◌≡◌, ℕ, ◌+◌, ◌-◌, ◌/◌, ◌%◌, ◌<◌, min, List, ◌∷◌, [], ◌++◌, Option, Some, None, Result, Ok, Err, length, take, drop, nat_eq, ◌==◌, ◌&&◌, if◌then◌else◌, codes}
+use Rattle.std.specs.Prelude.{◌≡◌, ℕ, ◌+◌, ◌-◌, ◌/◌, ◌%◌, ◌<◌, min, List, ◌∷◌, [], ◌++◌, Option, Some, None, Result, Ok}
+use Rattle.std.specs.Prelude.{Err, length, take, drop, nat_eq, ◌==◌, ◌&&◌, if◌then◌else◌, codes}
 use Rattle.std.specs.List.{starts_with}
 use Rattle.std.specs.Char.{digit_char}
 use Rattle.vte_types.specs.Hex.{are_hex, hex_value}
@@ -23,7 +24,11 @@ rgb_text x = codes "#" ++ (two_digits x.r ++ (two_digits x.g ++ two_digits x.b))
 abbrev pub six_digits : List ℕ → Option Rgb
 six_digits ds =
     if length ds == 6 && are_hex ds
-    then Some (record { r = hex_value (take 2 ds); g = hex_value (take 2 (drop 2 ds)); b = hex_value (take 2 (drop 4 ds)) })
+    then Some (record {
+      r = hex_value (take 2 ds);
+      g = hex_value (take 2 (drop 2 ds));
+      b = hex_value (take 2 (drop 4 ds));
+    })
     else None
 
 abbrev pub or_refused : Option Rgb → Result Rgb (Unit {0})

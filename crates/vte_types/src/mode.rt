@@ -1,6 +1,7 @@
 //! Modes.
 ghost use Rattle.std.specs.Prelude.{◌≡◌};
-ghost use Rattle.vte_types.specs.Mode.{mode_of, private_mode_of, raw_of, private_raw_of, mode_number, private_mode_number, RawIsTheNumber};
+ghost use Rattle.vte_types.specs.Mode.{mode_of, private_mode_of, raw_of, private_raw_of, mode_number};
+ghost use Rattle.vte_types.specs.Mode.{private_mode_number, RawIsTheNumber};
 
 /// A mode with a name. Its number (`as u16`) is the parameter that names it.
 #[derive(Clone, Copy, PartialEq, Eq, Debug)]

@@ -23,6 +23,8 @@ loop-read-preserved g c =
     record {
       within = omega arith;
       all_put = ap (each is_device_data) more ∙ each-more is_device_data (take i bs) b inv.all_put is;
-      told = same_events g.P.Perform.step c.args.performer.now c.put.new.self (es ++ ds) (map Put (take (i + 1) bs)) (map-last (take i bs) b ∙ ap (map Put) (sym more))
-          (performs-append g.P.Perform.step c.args.performer.now c.loop-read.performer c.put.new.self es ds inv.told (c.put.new.self, c.put.ensures, refl));
+      told = same_events g.P.Perform.step c.args.performer.now c.put.new.self (es
+          ++ ds) (map Put (take (i + 1) bs)) (map-last (take i bs) b ∙ ap (map Put) (sym more))
+          (performs-append g.P.Perform.step c.args.performer.now c.loop-read.performer c.put.new.self es ds inv.told
+          (c.put.new.self, c.put.ensures, refl));
     }

@@ -16,7 +16,8 @@ invariant-loop-read g l = record {
   stands : (q : Pending) → IsAt g.row.N l.initial.self q → IsAt g.row.N l.self (after_bytes q (take l.read l.bytes));
   added : (q : Pending) → IsAt g.row.N l.initial.self q → told ≡ events_from g.row.N q (take l.read l.bytes);
   stops : (q : Pending) → IsAt g.row.N l.initial.self q → (k : ℕ) (new : _)
-      → StopsAt g.P.Perform.step g.P.Perform.is_terminated g.row.N (after_bytes q (take l.read l.bytes)) true (drop l.read l.bytes) l.performer k new
+      → StopsAt g.P.Perform.step g.P.Perform.is_terminated g.row.N (after_bytes q (take l.read l.bytes)) true
+      (drop l.read l.bytes) l.performer k new
       → StopsAt g.P.Perform.step g.P.Perform.is_terminated g.row.N q true l.bytes l.initial.performer (l.read + k) new;
   first : l.read ≡ 0 → (l.performer ≡ l.initial.performer) × (l.self ≡ l.initial.self);
   later : 0 < l.read → g.P.Perform.is_terminated l.initial.performer ≡ false;

@@ -5,11 +5,13 @@ use Rattle.vte_core.proofs.Parser.put_data.Goals as goal
 
 pub returns-in-DcsPassthrough-clause-stands : goal.returns-in-DcsPassthrough-clause-stands
 returns-in-DcsPassthrough-clause-stands g c = λ q h.
-    (device-at g.row.N c.args.self.now q (take c.put_front.result c.args.bytes.now) c.in-DcsPassthrough.is c.put_front.ensures.all_put h).1
+    (device-at g.row.N c.args.self.now q (take c.put_front.result c.args.bytes.now) c.in-DcsPassthrough.is
+    c.put_front.ensures.all_put h).1
 
 pub returns-in-DcsPassthrough-clause-told : goal.returns-in-DcsPassthrough-clause-told
 returns-in-DcsPassthrough-clause-told g c = record {
   told = map Put (take c.put_front.result c.args.bytes.now);
   performed = c.put_front.ensures.told;
-  added = λ q h. sym (device-at g.row.N c.args.self.now q (take c.put_front.result c.args.bytes.now) c.in-DcsPassthrough.is c.put_front.ensures.all_put h).0;
+  added = λ q h. sym (device-at g.row.N c.args.self.now q (take c.put_front.result c.args.bytes.now)
+      c.in-DcsPassthrough.is c.put_front.ensures.all_put h).0;
 }

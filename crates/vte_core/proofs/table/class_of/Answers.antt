@@ -5,4 +5,5 @@ use Rattle.vte_core.proofs.Tables.{entry}
 use Rattle.vte_core.proofs.table.class_of.Goals as goal
 
 pub returns : goal.returns
-returns c = let e : 0 + c.args.byte ≡ c.args.byte = omega arith in rw e at (entry Control 0 CLASSES c.args.byte refl (omega arith))
+returns c = let e : 0 + c.args.byte ≡ c.args.byte = omega arith
+    in rw e at (entry Control 0 CLASSES c.args.byte refl (omega arith))

@@ -1,6 +1,8 @@
 use Rattle.std.proofs.Common.{◌≡◌, ◌∙◌, ◌+◌, ◌-◌, ℕ, true, ap, sym, arith, take, drop}
 use Rattle.vte_core.specs.Bytes.{each, is_plain}
 use Rattle.vte_core.proofs.Ground.{each-append}
+use Rattle.vte_core.proofs.Runs.{read_more}
+use Rattle.std.proofs.Common.{List, length, length-take, length-drop}
 use Rattle.vte_core.proofs.text.ascii_len.Goals as goal
 use lib.Seq.{take-add}
 
@@ -9,8 +11,29 @@ loop-len-preserved c =
     let bs = c.args.bytes.now in
     let i = c.loop-len.len in
     let k : i + 16 - i ≡ 16 = omega arith in
-    let block : each is_plain (take 16 (drop i bs)) ≡ true = ap (λ (n : ℕ). each is_plain (take n (drop i bs))) (sym k) ∙ c.are_plain.ensures c.if-are_plain.true in
+    let block : each is_plain (take 16 (drop i bs)) ≡ true =
+    ap (λ (n : ℕ). each is_plain (take n (drop i bs))) (sym k) ∙ c.are_plain.ensures c.if-are_plain.true in
     record {
       within = omega arith;
-      plain = ap (each is_plain) (take-add i 16 bs) ∙ each-append is_plain (take i bs) (take 16 (drop i bs)) c.loop-len.invariant.plain block;
+      plain = ap (each is_plain) (take-add i 16 bs)
+          ∙ each-append is_plain (take i bs) (take 16 (drop i bs)) c.loop-len.invariant.plain block;
+    }
+
+pub loop-len-2-init : goal.loop-len-2-init
+loop-len-2-init c =
+    let bs = c.args.bytes.now in
+    let i = c.loop-len.len in
+    let k = c.short_len-len.result in
+    let piece : List ℕ = take k (take (length bs - i) (drop i bs)) in
+    record {
+      within = omega (
+        arith,
+        c.short_len-len.ensures.within,
+        c.loop-len.invariant.within,
+        length-take (length bs
+            - i) (drop i bs),
+        length-drop i bs,
+      );
+      plain = ap (each is_plain) (read_more bs i k)
+          ∙ each-append is_plain (take i bs) piece c.loop-len.invariant.plain c.short_len-len.ensures.plain;
     }

@@ -1,29 +1,52 @@
-use Rattle.std.proofs.Common.{◌≡◌, ◌∙◌, ◌+◌, ◌++◌, ◌∷◌, [], ℕ, List, true, ap, sym, refl, arith, take, get_or, map}
+use Rattle.std.proofs.Common.{◌≡◌, ◌∙◌, ◌+◌, ◌-◌, ◌≤◌, ◌++◌, ◌∷◌, [], ℕ, List, true, ap, sym, refl, arith, take, drop}
+use Rattle.std.proofs.Common.{get_or, map, length}
 use Rattle.std.proofs.lemmas.List.{take_more}
 use Rattle.std.proofs.lemmas.Bool.Decides.{nat_tests}
 use Rattle.vte_core.specs.Bytes.{each, is_c0}
 use Rattle.vte_core.specs.Event.{Event, Execute}
 use Rattle.vte_core.proofs.PhaseLemmas.{each-more}
+use Rattle.vte_core.proofs.Ground.{each-append, map-execute}
 use Rattle.vte_core.proofs.Telling.{performs-append, same_events}
 use Rattle.vte_core.proofs.text.execute_controls.Goals as goal
-
-map-last : (bs : List ℕ) (b : ℕ) → map Execute bs ++ Execute b ∷ [] ≡ map Execute (bs ++ b ∷ [])
-map-last [] b = refl
-map-last (x ∷ bs) b = ap (λ (es : List Event). Execute x ∷ es) (map-last bs b)
+use lib.Seq.{take-add}
 
 pub loop-read-preserved : goal.loop-read-preserved
 loop-read-preserved g c =
     let bs = c.args.bytes.now in
     let i = c.loop-read.read in
-    let b = get_or bs i 0 in
     let inv = c.loop-read.invariant in
-    let more : take (i + 1) bs ≡ take i bs ++ b ∷ [] = take_more bs i 0 c.loop-read-test.true in
+    let within : i + 16 ≤ length bs = omega (arith, c.loop-read-test.true, inv.within) in
+    let len : i + 16 - i ≡ 16 = omega arith in
+    let block : List ℕ = take (i + 16 - i) (drop i bs) in
+    let more : take (i + 16) bs ≡ take i bs ++ block =
+    take-add i 16 bs ∙ ap (λ (n : ℕ). take i bs ++ take n (drop i bs)) (sym len) in
+    let es : List Event = map Execute (take i bs) in
+    let ds : List Event = map Execute block in
+    record {
+      within = within;
+      controls = ap (each is_c0) more
+          ∙ each-append is_c0 (take i bs) block inv.controls (c.are_controls.ensures c.if-are_controls.true);
+      told = same_events g.P.Perform.step c.args.performer.now c.execute_all.new.performer (es ++ ds)
+          (map Execute (take (i + 16) bs)) (map-execute (take i bs) block ∙ ap (map Execute) (sym more))
+          (performs-append g.P.Perform.step c.args.performer.now c.loop-read.performer c.execute_all.new.performer
+          es ds inv.told c.execute_all.ensures);
+    }
+
+pub loop-read-2-preserved : goal.loop-read-2-preserved
+loop-read-2-preserved g c =
+    let bs = c.args.bytes.now in
+    let i = c.loop-read-2.read in
+    let b = get_or bs i 0 in
+    let inv = c.loop-read-2.invariant in
+    let more : take (i + 1) bs ≡ take i bs ++ b ∷ [] = take_more bs i 0 c.loop-read-2-test.true in
     let is : is_c0 b ≡ true = grind (arith, nat_tests, c.if-bytes-read-lt32.true, c.if-bytes-read-ne27.true) in
     let es : List Event = map Execute (take i bs) in
     let ds : List Event = Execute b ∷ [] in
     record {
       within = omega arith;
       controls = ap (each is_c0) more ∙ each-more is_c0 (take i bs) b inv.controls is;
-      told = same_events g.P.Perform.step c.args.performer.now c.execute.new.self (es ++ ds) (map Execute (take (i + 1) bs)) (map-last (take i bs) b ∙ ap (map Execute) (sym more))
-          (performs-append g.P.Perform.step c.args.performer.now c.loop-read.performer c.execute.new.self es ds inv.told (c.execute.new.self, c.execute.ensures, refl));
+      told = same_events g.P.Perform.step c.args.performer.now c.execute.new.self (es ++ ds)
+          (map Execute (take (i + 1) bs)) (map-execute (take i bs) (b ∷ []) ∙ ap (map Execute) (sym more))
+          (performs-append g.P.Perform.step c.args.performer.now c.loop-read-2.performer c.execute.new.self es ds
+          inv.told (c.execute.new.self, c.execute.ensures, refl));
     }

@@ -7,4 +7,5 @@ pub returns-clause-within : goal.returns-clause-within
 returns-clause-within c = omega (arith, printed-within c.args.bytes.now, c.printed_len.ensures)
 
 pub returns-clause-printed : goal.returns-clause-printed
-returns-clause-printed c = subst (λ (j : ℕ). printed_len (take j c.args.bytes.now) ≡ length (take j c.args.bytes.now)) (sym c.printed_len.ensures) (printed-front c.args.bytes.now)
+returns-clause-printed c = subst (λ (j : ℕ). printed_len (take j c.args.bytes.now) ≡ length (take j c.args.bytes.now))
+    (sym c.printed_len.ensures) (printed-front c.args.bytes.now)

@@ -4,4 +4,5 @@ use Rattle.vte_types.proofs.cursor_icon.first_named.Given as goal
 
 -- the first one is among those that are left
 abbrev pub invariant-loop-icon : goal.invariant-loop-icon
-invariant-loop-icon l = find (λ x. bytes_eq (name_of x) l.name) (drop l.icon-index l.icons) ≡ find (λ x. bytes_eq (name_of x) l.name) l.icons
+invariant-loop-icon l = find (λ x. bytes_eq (name_of x) l.name) (drop l.icon-index l.icons)
+    ≡ find (λ x. bytes_eq (name_of x) l.name) l.icons

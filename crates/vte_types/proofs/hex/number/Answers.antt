@@ -10,9 +10,14 @@ small (suc (suc (suc zero))) n below is = is
 small (suc (suc (suc (suc i)))) n below is = absurd (omega arith)
 
 pub overflow_mul-number : goal.overflow_mul-number
-overflow_mul-number c = omega (arith, small c.loop-digit.digit-index c.loop-digit.number (omega arith) c.loop-digit.invariant.small)
+overflow_mul-number c = omega (
+  arith,
+  small c.loop-digit.digit-index c.loop-digit.number (omega arith)
+      c.loop-digit.invariant.small,
+)
 
 pub overflow_add-number : goal.overflow_add-number
 overflow_add-number c =
-    let room : c.loop-digit.number < 4096 = small c.loop-digit.digit-index c.loop-digit.number (omega arith) c.loop-digit.invariant.small in
+    let room : c.loop-digit.number < 4096 = small c.loop-digit.digit-index c.loop-digit.number (omega arith)
+    c.loop-digit.invariant.small in
     omega (arith, c.in_ok-number.ensures.cases, c.in_ok-number.ensures.value)

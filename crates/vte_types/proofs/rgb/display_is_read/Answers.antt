@@ -21,4 +21,20 @@ whole n = omega arith
 
 pub returns : goal.returns
 returns c x r g b =
-    rw (high x.r r, low x.r, high x.g g, low x.g, high x.b b, low x.b, is_high x.r r, is_low x.r, is_high x.g g, is_low x.g, is_high x.b b, is_low x.b, whole x.r, whole x.g, whole x.b) refl
+    rw (
+      high x.r r,
+      low x.r,
+      high x.g g,
+      low x.g,
+      high x.b b,
+      low x.b,
+      is_high x.r r,
+      is_low x.r,
+      is_high x.g g,
+      is_low x.g,
+      is_high x.b b,
+      is_low x.b,
+      whole x.r,
+      whole x.g,
+      whole x.b,
+    ) refl

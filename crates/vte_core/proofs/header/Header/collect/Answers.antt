@@ -10,7 +10,8 @@ returns c = λ h r.
     let e : is_numeric b ≡ false = c.requires.other in
     let n = numeric-no h b e in
     record {
-      phase = c.after_other-self.ensures ∙ (ap (next_by false (is_intermediate b)) r.phase ∙ sym (rw e at (phase_of-last h b c.requires.header)));
+      phase = c.after_other-self.ensures ∙ (ap (next_by false (is_intermediate b)) r.phase
+          ∙ sym (rw e at (phase_of-last h b c.requires.header)));
       numbers = rw n.0 r.numbers;
       kept = rw n.1 (c.push.ensures _ r.kept);
     }

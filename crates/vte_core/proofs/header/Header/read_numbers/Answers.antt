@@ -11,7 +11,8 @@ returns-then-len-gt0-clause-reads c = λ h r.
     let some : 0 < length xs = omega (arith, length-take k bs, c.read-len.ensures.within, c.if-len-gt0.true) in
     let n = numerics-kept h xs c.read-len.ensures.numeric in
     record {
-      phase = c.after_numeric-self.ensures ∙ (ap (next_by true false) r.phase ∙ sym (numerics-some h xs c.read-len.ensures.numeric some));
+      phase = c.after_numeric-self.ensures ∙ (ap (next_by true false) r.phase
+          ∙ sym (numerics-some h xs c.read-len.ensures.numeric some));
       numbers = rw n.0 (c.read-len.ensures.reads _ r.numbers);
       kept = rw n.1 r.kept;
     }

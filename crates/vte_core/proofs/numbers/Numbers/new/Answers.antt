@@ -5,6 +5,16 @@ pub returns : goal.returns
 returns c = (
   [],
   [],
-  record { parts = []; last = []; last_parts = []; digits = []; by_groups = refl; by_numbers = refl; are_groups = refl; are_group = refl; is_number = refl },
+  record {
+    parts = [];
+    last = [];
+    last_parts = [];
+    digits = [];
+    by_groups = refl;
+    by_numbers = refl;
+    are_groups = refl;
+    are_group = refl;
+    is_number = refl;
+  },
   record { params = c.new.ensures; is_open = refl; many = refl },
 )

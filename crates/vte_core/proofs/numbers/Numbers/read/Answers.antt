@@ -1,4 +1,5 @@
-use Rattle.std.proofs.Common.{◌≡◌, ◌∙◌, ap, arith, sym, subst, true, ◌+◌, ◌++◌, ◌∷◌, [], ℕ, List, take, get_or, append_assoc}
+use Rattle.std.proofs.Common.{◌≡◌, ◌∙◌, ap, arith, sym, subst, true, ◌+◌, ◌++◌, ◌∷◌, [], ℕ, List, take, get_or}
+use Rattle.std.proofs.Common.{append_assoc}
 use Rattle.std.proofs.lemmas.List.{take_more}
 use Rattle.vte_core.specs.Bytes.{each, is_numeric}
 use Rattle.vte_core.specs.Reading.{ReadsUpTo}
@@ -16,7 +17,8 @@ loop-read-preserved c =
       within = omega arith;
       numeric = ap (each is_numeric) more ∙ each-more is_numeric (take i bs) b c.loop-read.invariant.numeric is;
       reads = λ m r. subst (λ (xs : List ℕ). ReadsUpTo c.after_byte-number.new.self c.after_byte-number.result xs)
-          (append_assoc m (take i bs) (b ∷ []) ∙ ap (λ (xs : List ℕ). m ++ xs) (sym more)) (c.after_byte-number.ensures (m ++ take i bs) (c.loop-read.invariant.reads m r));
+          (append_assoc m (take i bs) (b ∷ []) ∙ ap (λ (xs : List ℕ). m ++ xs) (sym more))
+          (c.after_byte-number.ensures (m ++ take i bs) (c.loop-read.invariant.reads m r));
     }
 
 pub returns-clause-reads : goal.returns-clause-reads

@@ -6,4 +6,10 @@ take_nil zero = refl
 take_nil (suc k) = refl
 
 pub returns : goal.returns
-returns g c = record { parts = []; last = []; by_parts = refl; bytes = c.clear.ensures ∙ take_nil g.row.N; ends = c.clear-2.ensures }
+returns g c = record {
+  parts = [];
+  last = [];
+  by_parts = refl;
+  bytes = c.clear.ensures ∙ take_nil g.row.N;
+  ends = c.clear-2.ensures;
+}

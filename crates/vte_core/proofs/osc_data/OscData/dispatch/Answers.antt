@@ -12,7 +12,8 @@ returns-clause-told g c =
     let e = ap (λ y. cut_at 0 y c.as_slice.result.now) c.as_slice-2.ensures.value
     ∙ (ap (λ y. cut_at 0 c.self.inside.ends.items y) c.as_slice.ensures.value
     ∙ ap (λ (y : List ℕ × List ℕ). cut_at 0 y.1 y.0) c.self.view_is) in
-    same_step g.P.Perform.step c.args.performer.now c.tell.new.performer _ _ (ap (λ ps. Osc ps c.args.bell_terminated) e) c.tell.ensures
+    same_step g.P.Perform.step c.args.performer.now c.tell.new.performer _ _
+    (ap (λ ps. Osc ps c.args.bell_terminated) e) c.tell.ensures
 
 pub returns-clause-is_told : goal.returns-clause-is_told
 returns-clause-is_told g c = λ s r. c.end_piece.ensures s r

@@ -1,4 +1,5 @@
-use Rattle.std.proofs.Common.{◌≡◌, ◌∙◌, ap, arith, sym, subst, true, ◌+◌, ◌++◌, ◌∷◌, [], ℕ, List, take, get_or, append_assoc}
+use Rattle.std.proofs.Common.{◌≡◌, ◌∙◌, ap, arith, sym, subst, true, ◌+◌, ◌++◌, ◌∷◌, [], ℕ, List, take, get_or}
+use Rattle.std.proofs.Common.{append_assoc}
 use Rattle.std.proofs.lemmas.List.{take_more}
 use Rattle.std.proofs.lemmas.Bool.Decides.{nat_tests}
 use Rattle.vte_core.specs.Bytes.{each, is_data}
@@ -17,5 +18,6 @@ loop-read-preserved g c =
       within = omega arith;
       all_data = ap (each is_data) more ∙ each-more is_data (take i bs) b c.loop-read.invariant.all_data is;
       reads = λ s r. subst (λ (xs : List ℕ). ReadsOsc g.row.N c.push.new.self xs)
-          (append_assoc s (take i bs) (b ∷ []) ∙ ap (λ (xs : List ℕ). s ++ xs) (sym more)) (c.push.ensures (s ++ take i bs) (c.loop-read.invariant.reads s r));
+          (append_assoc s (take i bs) (b ∷ []) ∙ ap (λ (xs : List ℕ). s ++ xs) (sym more))
+          (c.push.ensures (s ++ take i bs) (c.loop-read.invariant.reads s r));
     }

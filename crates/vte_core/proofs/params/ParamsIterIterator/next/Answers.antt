@@ -7,5 +7,6 @@ offset_bounds-self-inside-self-inside c = omega (arith, ends_below _ _ _ c.self.
 
 pub slice_bounds-group-end : goal.slice_bounds-group-end
 slice_bounds-group-end c =
-    let n = fit_next c.self.inside.start c.in_ok-end.end.now c.self.inside.ends.now c.in_ok-end.ends.now c.self.inside.numbers.now c.in_ok-end.ensures.cases.0 c.self.invariant.0 in
+    let n = fit_next c.self.inside.start c.in_ok-end.end.now c.self.inside.ends.now c.in_ok-end.ends.now
+    c.self.inside.numbers.now c.in_ok-end.ensures.cases.0 c.self.invariant.0 in
     omega (arith, n.0, n.1)

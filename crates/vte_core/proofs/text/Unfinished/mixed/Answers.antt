@@ -3,7 +3,11 @@ use Rattle.vte_core.proofs.Ground.{printed-no_esc}
 use Rattle.vte_core.proofs.text.Unfinished.mixed.Goals as goal
 
 pub slice_bounds-printed-end : goal.slice_bounds-printed-end
-slice_bounds-printed-end g c = omega (arith, length-take c.text_len-len.result c.args.bytes.now, c.text_len-len.ensures.within)
+slice_bounds-printed-end g c = omega (
+  arith,
+  length-take c.text_len-len.result c.args.bytes.now,
+  c.text_len-len.ensures.within,
+)
 
 pub returns-then-len-gt0 : goal.returns-then-len-gt0
 returns-then-len-gt0 g c = record {
