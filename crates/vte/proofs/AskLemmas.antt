@@ -1,5 +1,6 @@
 -- Only events of sequences open an update, and after each of them the parser asks.
-use Rattle.std.proofs.Common.{◌≡◌, ℕ, zero, suc, ◌+◌, ◌<◌, ◌≤◌, Bool, true, false, List, [], ◌∷◌, ◌++◌, ◌||◌, ◌==◌, take, length, get_or, length-append, append_assoc, arith, refl, ap, sym, ◌∙◌, inl, inr}
+use Rattle.std.proofs.Common.{◌≡◌, ℕ, zero, suc, ◌+◌, ◌<◌, ◌≤◌, Bool, true, false, List, [], ◌∷◌, ◌++◌, ◌||◌, ◌==◌}
+use Rattle.std.proofs.Common.{take, length, get_or, length-append, append_assoc, arith, refl, ap, sym, ◌∙◌, inl, inr}
 use Rattle.std.specs.List.{All, list_any}
 use Rattle.std.proofs.lemmas.Bool.{cases_Bool}
 use Rattle.std.proofs.lemmas.List.Elements.{All-head, All-tail}
@@ -36,18 +37,22 @@ or_true true = refl
 or_true false = refl
 
 -- after a byte that isn't ground text the parser asks
-asks_past_text : (past piece : List ℕ) (m : ℕ) → ends_in_text (past ++ take m piece) ≡ false → asks_after past piece m ≡ true
+asks_past_text : (past piece : List ℕ) (m : ℕ) → ends_in_text (past ++ take m piece) ≡ false
+    → asks_after past piece m ≡ true
 asks_past_text past piece m h = rw h (or_true (m == 0))
 
 front : (past bs : List ℕ) (m : ℕ) → m < length bs → past ++ take (suc m) bs ≡ (past ++ take m bs) ++ get_or bs m 0 ∷ []
-front past bs m lt = ap (λ xs. past ++ xs) (take-suc bs m 0 lt) ∙ sym (append_assoc past (take m bs) (get_or bs m 0 ∷ []))
+front past bs m lt = ap (λ xs. past ++ xs) (take-suc bs m 0 lt)
+    ∙ sym (append_assoc past (take m bs) (get_or bs m 0 ∷ []))
 
 -- one byte more, of ground text
-opens_in-text : (past bs : List ℕ) (m : ℕ) → m < length bs → ends_in_text (past ++ take (suc m) bs) ≡ true → opens_in past (take m bs) ≡ false → opens_in past (take (suc m) bs) ≡ false
+opens_in-text : (past bs : List ℕ) (m : ℕ) → m < length bs → ends_in_text (past ++ take (suc m) bs) ≡ true
+    → opens_in past (take m bs) ≡ false → opens_in past (take (suc m) bs) ≡ false
 opens_in-text past bs m lt text before =
     let b = get_or bs m 0 in
     ap (opens_in past) (take-suc bs m 0 lt) ∙ (opens_in-append past (take m bs) (b ∷ [])
-    ∙ (ap (λ v. v || opens_in (past ++ take m bs) (b ∷ [])) before ∙ text_opens_none (past ++ take m bs) b (ap ends_in_text (sym (front past bs m lt)) ∙ text)))
+    ∙ (ap (λ v. v || opens_in (past ++ take m bs) (b ∷ [])) before
+    ∙ text_opens_none (past ++ take m bs) b (ap ends_in_text (sym (front past bs m lt)) ∙ text)))
 
 -- where no front at which the parser asks opens an update, none does
 pub none_before : (past bs : List ℕ) (n : ℕ) → n ≤ length bs
@@ -69,9 +74,12 @@ asks_where_opened past bytes b rest h =
     let more : length piece ≡ length bytes + length (b ∷ rest) = length-append bytes (b ∷ rest) in
     let m : length bytes + 1 ≡ length (bytes ++ b ∷ []) = sym (length-append bytes (b ∷ [])) in
     let so_far : past ++ take (length bytes + 1) piece ≡ (past ++ bytes) ++ b ∷ [] =
-    ap (λ xs. past ++ xs) (ap (λ k. take k piece) m ∙ (ap (take (length (bytes ++ b ∷ []))) (sym (append_assoc bytes (b ∷ []) rest)) ∙ take-append_seam (bytes ++ b ∷ []) rest))
+    ap (λ xs. past ++ xs) (ap (λ k. take k piece) m
+    ∙ (ap (take (length (bytes ++ b ∷ []))) (sym (append_assoc bytes (b ∷ []) rest))
+    ∙ take-append_seam (bytes ++ b ∷ []) rest))
     ∙ sym (append_assoc past bytes (b ∷ [])) in
     elim (cases_Bool (ends_in_text (past ++ take (length bytes + 1) piece))) [
-      | inl text ↦ absurd (let no : true ≡ false = sym h ∙ text_opens_none (past ++ bytes) b (ap ends_in_text (sym so_far) ∙ text) in cc)
+      | inl text ↦ absurd (let no : true ≡ false =
+          sym h ∙ text_opens_none (past ++ bytes) b (ap ends_in_text (sym so_far) ∙ text) in cc)
       | inr other ↦ asks_past_text past piece (length bytes + 1) other
     ]

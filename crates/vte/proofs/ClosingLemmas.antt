@@ -1,5 +1,6 @@
 -- The calls of what was parsed, with the closings among them.
-use Rattle.std.proofs.Common.{◌≡◌, ℕ, zero, suc, ◌+◌, Bool, true, false, List, [], ◌∷◌, ◌++◌, Option, None, Some, take, drop, refl, ap, sym, ◌∙◌, subst, append_assoc, append-nil, inl, inr, arith}
+use Rattle.std.proofs.Common.{◌≡◌, ℕ, zero, suc, ◌+◌, Bool, true, false, List, [], ◌∷◌, ◌++◌, Option, None, Some, take}
+use Rattle.std.proofs.Common.{drop, refl, ap, sym, ◌∙◌, subst, append_assoc, append-nil, inl, inr, arith}
 use Rattle.std.proofs.lemmas.Bool.{cases_Bool}
 use Rattle.vte_core.specs.Shapes.{events}
 use Rattle.vte_core.proofs.AddedLemmas.{added-none, added-first}
@@ -27,16 +28,19 @@ with_none : (cs : List Call) → WithClosings cs zero cs
 with_none [] = none
 with_none (c ∷ cs) = call c cs zero cs (with_none cs)
 
-with_more : (a : List Call) (m : ℕ) (x : List Call) (b : List Call) (n : ℕ) (y : List Call) → WithClosings a m x → WithClosings b n y → WithClosings (a ++ b) (m + n) (x ++ y)
+with_more : (a : List Call) (m : ℕ) (x : List Call) (b : List Call) (n : ℕ) (y : List Call) → WithClosings a m x
+    → WithClosings b n y → WithClosings (a ++ b) (m + n) (x ++ y)
 with_more [] zero [] b n y none k = let e : n ≡ zero + n = omega arith in subst (λ (i : ℕ). WithClosings b i y) e k
 with_more (c ∷ a) m (_ ∷ x) b n y (call _ _ _ _ h) k = call c (a ++ b) (m + n) (x ++ y) (with_more a m x b n y h k)
 with_more a (suc m) (_ ∷ x) b n y (closing _ _ _ h) k =
     let e : suc (m + n) ≡ suc m + n = omega arith in
-    subst (λ (i : ℕ). WithClosings (a ++ b) i (unset_private_mode (Named SyncUpdate) ∷ (x ++ y))) e (closing (a ++ b) (m + n) (x ++ y) (with_more a m x b n y h k))
+    subst (λ (i : ℕ). WithClosings (a ++ b) i (unset_private_mode (Named SyncUpdate) ∷ (x ++ y))) e
+    (closing (a ++ b) (m + n) (x ++ y) (with_more a m x b n y h k))
 with_more [] (suc m) [] b n y h k = elim h [ ]
 with_more (c ∷ a) m [] b n y h k = elim h [ ]
 
-pub filtered : (cs : List Call) (n : ℕ) (calls : List Call) → WithClosings cs n calls → without_closings calls ≡ without_closings cs
+pub filtered : (cs : List Call) (n : ℕ) (calls : List Call) → WithClosings cs n calls
+    → without_closings calls ≡ without_closings cs
 filtered [] n calls none = refl
 filtered (c ∷ cs) n (_ ∷ calls) (call _ _ _ _ h) = elim (cases_Bool (is_closing c)) [
   | inl e ↦ rw e (filtered cs n calls h)
@@ -46,7 +50,8 @@ filtered cs (suc n) (_ ∷ calls) (closing _ _ _ h) = filtered cs n calls h
 
 pub ignored : {H : Type 0} (step : H → Call → H → Type 0) → IgnoresClosings step
 ignored {H} step idle [] n calls s t none g = g
-ignored {H} step idle (c ∷ cs) n (_ ∷ calls) s t (call _ _ _ _ h) g = (g.0, g.1, ignored step idle cs n calls g.0 t h g.2)
+ignored {H} step idle (c ∷ cs) n (_ ∷ calls) s t (call _ _ _ _ h) g =
+    (g.0, g.1, ignored step idle cs n calls g.0 t h g.2)
 ignored {H} step idle cs (suc n) (_ ∷ calls) s t (closing _ _ _ h) g =
     subst (λ (x : H). Calls step x cs t) (idle s g.0 g.1) (ignored step idle cs n calls g.0 t h g.2)
 
@@ -63,15 +68,18 @@ closed_parsed p b = record {
   bytes = b;
   more = refl;
   made = subst (λ (cs : List Call). WithClosings cs 1 (calls_from p b ++ hold.closing)) (append-nil (calls_from p b))
-      (with_more (calls_from p b) zero (calls_from p b) [] 1 hold.closing (with_none (calls_from p b)) (closing [] zero [] none));
+      (with_more (calls_from p b) zero (calls_from p b) [] 1 hold.closing (with_none (calls_from p b))
+      (closing [] zero [] none));
 }
 
-then_parsed : (p q r : List ℕ) (m n : ℕ) (x y : List Call) → Parses p q m x → Parses q r n y → Parses p r (m + n) (x ++ y)
+then_parsed : (p q r : List ℕ) (m n : ℕ) (x y : List Call) → Parses p q m x → Parses q r n y
+    → Parses p r (m + n) (x ++ y)
 then_parsed p q r m n x y h k = record {
   bytes = h.bytes ++ k.bytes;
   more = k.more ∙ (ap (λ s. s ++ k.bytes) h.more ∙ append_assoc p h.bytes k.bytes);
   made =
-      let second : WithClosings (calls_from (p ++ h.bytes) k.bytes) n y = subst (λ (s : List ℕ). WithClosings (calls_from s k.bytes) n y) h.more k.made in
+      let second : WithClosings (calls_from (p ++ h.bytes) k.bytes) n y =
+      subst (λ (s : List ℕ). WithClosings (calls_from s k.bytes) n y) h.more k.made in
       subst (λ (cs : List Call). WithClosings cs (m + n) (x ++ y)) (sym (calls_from-append p h.bytes k.bytes))
       (with_more (calls_from p h.bytes) m x (calls_from (p ++ h.bytes) k.bytes) n y h.made second);
 }
@@ -85,7 +93,8 @@ clearings-append (Clears ∷ a) b = let more = clearings-append a b in omega (ar
 
 sets_clear_none : (gs : List (List ℕ)) → clearings (sets_of gs) ≡ 0
 sets_clear_none [] = refl
-sets_clear_none (g ∷ gs) = elim (cases_Bool (opens_group g)) [ inl e ↦ rw e (sets_clear_none gs) | inr e ↦ rw e (sets_clear_none gs) ]
+sets_clear_none (g ∷ gs) = elim (cases_Bool (opens_group g))
+    [ inl e ↦ rw e (sets_clear_none gs) | inr e ↦ rw e (sets_clear_none gs) ]
 
 from_clears_none : (p b : List ℕ) → clearings (ticks_from p b) ≡ 0
 from_clears_none p b = sets_clear_none (openers_of_all (added p b))
@@ -104,19 +113,23 @@ counted p q m n calls e h = subst (λ (i : ℕ). Parses p q i calls) e h
 
 settled : (parsed held piece parsed' : List ℕ) (hold' : Option (List ℕ)) (calls : List Call) (ticks : List Tick)
     → Settles parsed held piece parsed' hold' calls ticks → Parses parsed parsed' (clearings ticks) calls
-settled parsed held piece parsed' hold' calls ticks (keeps _ _ _ _ r _) = counted _ _ _ _ _ (sym (renews_clear_none _ _ ticks r)) (none_parsed parsed)
+settled parsed held piece parsed' hold' calls ticks (keeps _ _ _ _ r _) =
+    counted _ _ _ _ _ (sym (renews_clear_none _ _ ticks r)) (none_parsed parsed)
 settled parsed held piece parsed' hold' calls ticks (replays _ _ _ renewed r n cut) =
     let b = take n (held ++ piece) in
     let e : clearings (renewed ++ ticks_from parsed b) ≡ zero =
-    clearings-append renewed (ticks_from parsed b) ∙ (let f = renews_clear_none _ _ renewed r in let g = from_clears_none parsed b in omega (arith, f, g)) in
+    clearings-append renewed (ticks_from parsed b)
+    ∙ (let f = renews_clear_none _ _ renewed r in let g = from_clears_none parsed b in omega (arith, f, g)) in
     counted _ _ _ _ _ (sym e) (bytes_parsed parsed b)
 settled parsed held piece parsed' hold' calls ticks (closes _ _ _ renewed r c) =
     let b = held ++ piece in
     let e : clearings (renewed ++ (ticks_from parsed b ++ Clears ∷ [])) ≡ 1 =
-    clearings-append renewed (ticks_from parsed b ++ Clears ∷ []) ∙ (let f = renews_clear_none _ _ renewed r in let g = closed_clears parsed b in omega (arith, f, g)) in
+    clearings-append renewed (ticks_from parsed b ++ Clears ∷ [])
+    ∙ (let f = renews_clear_none _ _ renewed r in let g = closed_clears parsed b in omega (arith, f, g)) in
     counted _ _ _ _ _ (sym e) (closed_parsed parsed b)
 
-pub taken_parsed : (parsed : List ℕ) (hold' : Option (List ℕ)) (piece parsed' : List ℕ) (hold'' : Option (List ℕ)) (calls : List Call) (ticks : List Tick)
+pub taken_parsed : (parsed : List ℕ) (hold' : Option (List ℕ)) (piece parsed' : List ℕ) (hold'' : Option (List ℕ))
+    (calls : List Call) (ticks : List Tick)
     → Takes parsed hold' piece parsed' hold'' calls ticks → Parses parsed parsed' (clearings ticks) calls
 taken_parsed parsed h piece parsed' h' calls ticks (hold.parses _ _ _) = bytes_parsed parsed piece
 taken_parsed parsed h piece parsed' h' calls ticks (hold.begins _ _ n _ _ cs ts at t) =
@@ -124,19 +137,26 @@ taken_parsed parsed h piece parsed' h' calls ticks (hold.begins _ _ n _ _ cs ts 
     let more = taken_parsed (parsed ++ b) (Some []) (drop n piece) parsed' h' cs ts t in
     let e : zero + clearings ts ≡ clearings (ticks_from parsed b ++ ts) =
     sym (clearings-append (ticks_from parsed b) ts ∙ (let f = from_clears_none parsed b in omega (arith, f))) in
-    counted _ _ _ _ _ e (then_parsed parsed (parsed ++ b) parsed' zero (clearings ts) (calls_from parsed b) cs (bytes_parsed parsed b) more)
-taken_parsed parsed h piece parsed' h' calls ticks (hold.settles _ held _ _ _ _ _ fits s) = settled parsed held piece parsed' h' calls ticks s
+    counted _ _ _ _ _ e (then_parsed parsed (parsed
+    ++ b) parsed' zero (clearings ts) (calls_from parsed b) cs (bytes_parsed parsed b) more)
+taken_parsed parsed h piece parsed' h' calls ticks (hold.settles _ held _ _ _ _ _ fits s) =
+    settled parsed held piece parsed' h' calls ticks s
 taken_parsed parsed h piece parsed' h' calls ticks (hold.overflows _ held _ _ _ cs ts full t) =
     let more = taken_parsed (parsed ++ held) None piece parsed' h' cs ts t in
     let e : 1 + clearings ts ≡ clearings ((ticks_from parsed held ++ Clears ∷ []) ++ ts) =
-    sym (clearings-append (ticks_from parsed held ++ Clears ∷ []) ts ∙ ap (λ k. k + clearings ts) (closed_clears parsed held)) in
-    counted _ _ _ _ _ e (then_parsed parsed (parsed ++ held) parsed' 1 (clearings ts) (calls_from parsed held ++ hold.closing) cs (closed_parsed parsed held) more)
+    sym (clearings-append (ticks_from parsed held ++ Clears ∷ []) ts
+    ∙ ap (λ k. k + clearings ts) (closed_clears parsed held)) in
+    counted _ _ _ _ _ e (then_parsed parsed (parsed ++ held) parsed' 1 (clearings ts) (calls_from parsed held
+    ++ hold.closing) cs (closed_parsed parsed held) more)
 
 -- the same under any timeout
 module _ {T : Type 0} (sets : T → ℕ → T → Type 0) (clears : T → T → Type 0) (answers : T → Bool → Type 0) where
-  pub advanced_parsed : (closed : Bool) (t : T) (parsed held piece : List ℕ) (t' : T) (parsed' held' : List ℕ) (calls : List Call)
-      → Advances sets clears answers closed t parsed held piece t' parsed' held' calls → (ticks : List Tick) × Ticked sets clears t ticks t' × Parses parsed parsed' (clearings ticks) calls
-  advanced_parsed closed t parsed held piece t' parsed' held' calls (any.parses _ _ _ _ plain _) = ([], refl, bytes_parsed parsed piece)
+  pub advanced_parsed : (closed : Bool) (t : T) (parsed held piece : List ℕ) (t' : T) (parsed' held' : List ℕ)
+      (calls : List Call)
+      → Advances sets clears answers closed t parsed held piece t' parsed' held' calls → (ticks : List Tick)
+      × Ticked sets clears t ticks t' × Parses parsed parsed' (clearings ticks) calls
+  advanced_parsed closed t parsed held piece t' parsed' held' calls (any.parses _ _ _ _ plain _) =
+      ([], refl, bytes_parsed parsed piece)
   advanced_parsed closed t parsed held piece t' parsed' held' calls (any.begins _ _ _ _ n u _ _ _ cs plain at y f) =
       let b = take n piece in
       let (ts, z, more) = advanced_parsed false u (parsed ++ b) [] (drop n piece) t' parsed' held' cs f in
@@ -144,46 +164,59 @@ module _ {T : Type 0} (sets : T → ℕ → T → Type 0) (clears : T → T → 
       sym (clearings-append (ticks_from parsed b) ts ∙ (let g = from_clears_none parsed b in omega (arith, g))) in (
         ticks_from parsed b ++ ts,
         Ticked-append sets clears t u t' (ticks_from parsed b) ts y z,
-        counted _ _ _ _ _ e (then_parsed parsed (parsed ++ b) parsed' zero (clearings ts) (calls_from parsed b) cs (bytes_parsed parsed b) more),
+        counted _ _ _ _ _ e (then_parsed parsed (parsed
+            ++ b) parsed' zero (clearings ts) (calls_from parsed b) cs (bytes_parsed parsed b) more),
       )
-  advanced_parsed closed t parsed held piece t' parsed' held' calls (any.settles _ _ _ _ _ _ hold' _ ticks open_ fits s y) =
+  advanced_parsed closed t parsed held piece t' parsed' held' calls
+      (any.settles _ _ _ _ _ _ hold' _ ticks open_ fits s y) =
       (ticks, y, settled parsed held piece parsed' hold' calls ticks s)
-  advanced_parsed closed t parsed held piece t' parsed' held' calls (any.empties _ _ _ _ is_open u _ _ _ cs asked must y f) =
+  advanced_parsed closed t parsed held piece t' parsed' held' calls
+      (any.empties _ _ _ _ is_open u _ _ _ cs asked must y f) =
       let (ts, z, more) = advanced_parsed true u (parsed ++ held) [] piece t' parsed' held' cs f in
       let e : 1 + clearings ts ≡ clearings ((ticks_from parsed held ++ Clears ∷ []) ++ ts) =
-      sym (clearings-append (ticks_from parsed held ++ Clears ∷ []) ts ∙ ap (λ k. k + clearings ts) (closed_clears parsed held)) in (
+      sym (clearings-append (ticks_from parsed held ++ Clears ∷ []) ts
+      ∙ ap (λ k. k + clearings ts) (closed_clears parsed held)) in (
         (ticks_from parsed held ++ Clears ∷ []) ++ ts,
         Ticked-append sets clears t u t' (ticks_from parsed held ++ Clears ∷ []) ts y z,
-        counted _ _ _ _ _ e (then_parsed parsed (parsed ++ held) parsed' 1 (clearings ts) (calls_from parsed held ++ hold.closing) cs (closed_parsed parsed held) more),
+        counted _ _ _ _ _ e (then_parsed parsed (parsed ++ held) parsed' 1 (clearings ts) (calls_from parsed held
+            ++ hold.closing) cs (closed_parsed parsed held) more),
       )
 
   -- all that was given
-  ran : (moves : List Move) (t : T) (p h : List ℕ) (t' : T) (p' h' : List ℕ) (calls : List Call) → Runs sets clears answers moves t p h t' p' h' calls
-      → (p ++ (h ++ given moves) ≡ p' ++ h') × (ticks : List Tick) × Ticked sets clears t ticks t' × Parses p p' (clearings ticks) calls
+  ran : (moves : List Move) (t : T) (p h : List ℕ) (t' : T) (p' h' : List ℕ) (calls : List Call)
+      → Runs sets clears answers moves t p h t' p' h' calls
+      → (p ++ (h ++ given moves) ≡ p' ++ h') × (ticks : List Tick) × Ticked sets clears t ticks t'
+      × Parses p p' (clearings ticks) calls
   ran moves t p h t' p' h' calls (ends _ _ _) = (ap (λ s. p ++ s) (append-nil h), [], refl, none_parsed p)
   ran moves t p h t' p' h' calls (gives piece rest _ _ _ u q k cs _ _ _ ds a r) =
       let (all, us, z, more) = ran rest u q k t' p' h' ds r in
       let (ts, y, one) = advanced_parsed false t p h piece u q k cs a in
       let same : p ++ (h ++ (piece ++ given rest)) ≡ q ++ (k ++ given rest) =
       ap (λ s. p ++ s) (sym (append_assoc h piece (given rest))) ∙ (sym (append_assoc p (h ++ piece) (given rest))
-      ∙ (ap (λ s. s ++ given rest) (conserve_any sets clears answers false t p h piece u q k cs a) ∙ append_assoc q k (given rest))) in (
+      ∙ (ap (λ s. s ++ given rest) (conserve_any sets clears answers false t p h piece u q k cs a)
+      ∙ append_assoc q k (given rest))) in (
         same ∙ all,
         ts ++ us,
         Ticked-append sets clears t u t' ts us y z,
-        counted _ _ _ _ _ (sym (clearings-append ts us)) (then_parsed p q p' (clearings ts) (clearings us) cs ds one more),
+        counted _ _ _ _ _ (sym (clearings-append ts us))
+            (then_parsed p q p' (clearings ts) (clearings us) cs ds one more),
       )
   ran moves t p h t' p' h' calls (stops rest _ _ _ u _ _ _ ds y r) =
       let (all, us, z, more) = ran rest u (p ++ h) [] t' p' h' ds r in
       let closed = ticks_from p h ++ Clears ∷ [] in
-      let e : 1 + clearings us ≡ clearings (closed ++ us) = sym (clearings-append closed us ∙ ap (λ k. k + clearings us) (closed_clears p h)) in (
+      let e : 1 + clearings us ≡ clearings (closed ++ us) =
+      sym (clearings-append closed us ∙ ap (λ k. k + clearings us) (closed_clears p h)) in (
         sym (append_assoc p h (given rest)) ∙ all,
         closed ++ us,
         Ticked-append sets clears t u t' closed us y z,
-        counted _ _ _ _ _ e (then_parsed p (p ++ h) p' 1 (clearings us) (calls_from p h ++ hold.closing) ds (closed_parsed p h) more),
+        counted _ _ _ _ _ e (then_parsed p (p ++ h) p' 1 (clearings us) (calls_from p h
+            ++ hold.closing) ds (closed_parsed p h) more),
       )
 
-  pub all_ran : (moves : List Move) (t t' : T) (parsed held : List ℕ) (calls : List Call) → Runs sets clears answers moves t [] [] t' parsed held calls
-      → (given moves ≡ parsed ++ held) × (ticks : List Tick) × Ticked sets clears t ticks t' × WithClosings (calls_of_all None (events 1024 parsed)) (clearings ticks) calls
+  pub all_ran : (moves : List Move) (t t' : T) (parsed held : List ℕ) (calls : List Call)
+      → Runs sets clears answers moves t [] [] t' parsed held calls
+      → (given moves ≡ parsed ++ held) × (ticks : List Tick) × Ticked sets clears t ticks t'
+      × WithClosings (calls_of_all None (events 1024 parsed)) (clearings ticks) calls
   all_ran moves t t' parsed held calls r =
       let (all, ticks, y, made) = ran moves t [] [] t' parsed held calls r in
       let first : calls_from [] made.bytes ≡ calls_of_all None (events 1024 parsed) =

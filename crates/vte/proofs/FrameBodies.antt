@@ -1,5 +1,6 @@
 -- What may stand between the marks of a frame.
-use Rattle.std.proofs.Common.{◌≡◌, ◌≢◌, ℕ, ◌+◌, ◌<◌, Bool, true, false, ◌||◌, List, [], ◌∷◌, ◌++◌, if◌then◌else◌, map, length, refl, sym, ◌∙◌, ap, inl, inr, arith, length-append}
+use Rattle.std.proofs.Common.{◌≡◌, ◌≢◌, ℕ, ◌+◌, ◌<◌, Bool, true, false, ◌||◌, List, [], ◌∷◌, ◌++◌, if◌then◌else◌, map}
+use Rattle.std.proofs.Common.{length, refl, sym, ◌∙◌, ap, inl, inr, arith, length-append}
 use Rattle.std.specs.List.{AllByRecursion, concat, list_any}
 use Rattle.std.specs.Str.{chars}
 use Rattle.std.proofs.lemmas.Bool.{cases_lt}
@@ -14,13 +15,15 @@ use Rattle.vte.specs.Marks.{start_mark, end_mark}
 use Rattle.vte.specs.Frames.{IsFrame}
 use Rattle.vte.proofs.FrameLemmas.{cut_later}
 
-pub parts_open_nothing : (parts : List (List ℕ)) → AllByRecursion (AtGround 1024) parts → AllByRecursion (λ part. list_any opens (events 1024 part) ≡ false) parts
+pub parts_open_nothing : (parts : List (List ℕ)) → AllByRecursion (AtGround 1024) parts
+    → AllByRecursion (λ part. list_any opens (events 1024 part) ≡ false) parts
     → AtGround 1024 (concat parts) × (list_any opens (events 1024 (concat parts)) ≡ false)
 parts_open_nothing [] h k = (ground-nothing 1024, refl)
 parts_open_nothing (part ∷ parts) h k =
     let later = parts_open_nothing parts h.1 k.1 in (
       ground-joins 1024 part (concat parts) h.0 later.0,
-      ap (list_any opens) (h.0 (concat parts)) ∙ (list_any-append opens (events 1024 part) (events 1024 (concat parts)) ∙ (ap (λ v. v || list_any opens (events 1024 (concat parts))) k.0 ∙ later.1)),
+      ap (list_any opens) (h.0 (concat parts)) ∙ (list_any-append opens (events 1024 part) (events 1024 (concat parts))
+          ∙ (ap (λ v. v || list_any opens (events 1024 (concat parts))) k.0 ∙ later.1)),
     )
 
 one_none : (b : Bool) (c : ℕ) → opens (if b then Execute c else Print c) ≡ false
@@ -35,18 +38,22 @@ chars_none (c ∷ cs) = ap (λ v. v || list_any opens (map char_event cs)) (one_
 no_esc : (text front after : List ℕ) → AllByRecursion (λ b. b ≢ 0x1B) text → text ≡ front ++ 0x1B ∷ after → ⊥
 no_esc [] front after h e = absurd (omega (arith, ap length e, length-append front (0x1B ∷ after)))
 no_esc (b ∷ text) [] after h e = h.0 (let same : b ≡ 0x1B = cc in same)
-no_esc (b ∷ text) (c ∷ front) after h e = no_esc text front after h.1 (let same : text ≡ front ++ 0x1B ∷ after = cc in same)
+no_esc (b ∷ text) (c ∷ front) after h e = no_esc text front after h.1 (let same : text ≡ front ++ 0x1B ∷ after = cc
+    in same)
 
 nil_of : (xs : List ℕ) → length xs ≡ 0 → xs ≡ []
 nil_of [] h = refl
 nil_of (x ∷ xs) h = absurd (omega (arith, h))
 
 -- so an end mark doesn't begin in it
-begun_in : (text before after rest : List ℕ) → AllByRecursion (λ b. b ≢ 0x1B) text → length before < length text → text ≡ before ++ rest → end_mark ++ after ≡ rest ++ end_mark → ⊥
+begun_in : (text before after rest : List ℕ) → AllByRecursion (λ b. b ≢ 0x1B) text → length before < length text
+    → text ≡ before ++ rest → end_mark ++ after ≡ rest ++ end_mark → ⊥
 begun_in text before after [] h inside is same = absurd (omega (arith, inside, ap length is, length-append before []))
-begun_in text before after (c ∷ rest) h inside is same = no_esc text before rest h (is ∙ ap (λ b. before ++ b ∷ rest) (let first : c ≡ 0x1B = cc in first))
+begun_in text before after (c ∷ rest) h inside is same =
+    no_esc text before rest h (is ∙ ap (λ b. before ++ b ∷ rest) (let first : c ≡ 0x1B = cc in first))
 
-text_ends_once : (text before after : List ℕ) → AllByRecursion (λ b. b ≢ 0x1B) text → text ++ end_mark ≡ before ++ (end_mark ++ after) → after ≡ []
+text_ends_once : (text before after : List ℕ) → AllByRecursion (λ b. b ≢ 0x1B) text
+    → text ++ end_mark ≡ before ++ (end_mark ++ after) → after ≡ []
 text_ends_once text before after h e =
     elim (cases_lt (length before) (length text)) [
       | inl inside ↦
@@ -54,7 +61,8 @@ text_ends_once text before after h e =
           absurd (begun_in text before after cut.0 h inside cut.1 cut.2)
       | inr behind ↦
           let cut = cut_later text end_mark before (end_mark ++ after) e behind in
-          let size : length end_mark ≡ length cut.0 + length (end_mark ++ after) = ap length cut.2 ∙ length-append cut.0 (end_mark ++ after) in
+          let size : length end_mark ≡ length cut.0 + length (end_mark ++ after) =
+          ap length cut.2 ∙ length-append cut.0 (end_mark ++ after) in
           nil_of after (omega (arith, size, length-append end_mark after))
     ]
 

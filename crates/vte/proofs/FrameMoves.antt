@@ -1,5 +1,6 @@
 -- Lists of moves over joined frames.
-use Rattle.std.proofs.Common.{◌≡◌, ℕ, ◌+◌, ◌<◌, ◌≤◌, List, [], ◌∷◌, ◌++◌, Option, None, map, length, take, refl, sym, ◌∙◌, ap, subst, inl, inr, arith, append_assoc, append-nil, length-append}
+use Rattle.std.proofs.Common.{◌≡◌, ℕ, ◌+◌, ◌<◌, ◌≤◌, List, [], ◌∷◌, ◌++◌, Option, None, map, length, take, refl, sym}
+use Rattle.std.proofs.Common.{◌∙◌, ap, subst, inl, inr, arith, append_assoc, append-nil, length-append}
 use Rattle.std.specs.List.{All, AllByRecursion, concat}
 use Rattle.std.proofs.lemmas.Bool.{cases_lt}
 use Rattle.std.proofs.lemmas.List.{append_cancel_left, take_at}
@@ -12,22 +13,40 @@ use Rattle.vte.specs.Hold.{limit, held_of, Takes}
 use Rattle.vte.specs.Moves.{Move, Gives, Stops, given}
 use Rattle.vte.specs.Frames.{IsFrame, IsPart, Leads, ends, gives, stops, Rests, closed, opened, kept, IsUntorn}
 use Rattle.vte.proofs.FrameMarks.{ground_end}
-use Rattle.vte.proofs.FrameLemmas.{cut_later, concat-append, Frames, frames_back, front_short, RestsBy, outside, inside, before, piece_rests}
+use Rattle.vte.proofs.FrameLemmas.{cut_later, concat-append, Frames, frames_back, front_short, RestsBy, outside, inside}
+use Rattle.vte.proofs.FrameLemmas.{before, piece_rests}
 
 -- a front of joined frames is whole frames and part of the next
 cut_frames : (frames : List (List ℕ)) (xs beyond : List ℕ) → xs ++ beyond ≡ concat frames
-    → (whole : List (List ℕ)) × (rest : List (List ℕ)) × (p : List ℕ) × (frames ≡ whole ++ rest) × (xs ≡ concat whole ++ p) × IsPart p rest
+    → (whole : List (List ℕ)) × (rest : List (List ℕ)) × (p : List ℕ) × (frames ≡ whole ++ rest)
+    × (xs ≡ concat whole ++ p) × IsPart p rest
 cut_frames [] [] beyond e = ([], [], [], refl, refl, refl)
 cut_frames [] (x ∷ xs) beyond e = absurd (omega (arith, ap length e))
 cut_frames (f ∷ fs) xs beyond e =
     elim (cases_lt (length xs) (length f)) [
       | inl short ↦
-          let cut = cut_later xs beyond f (concat fs) e (omega (arith, short)) in
-          ([], f ∷ fs, xs, refl, refl, (cut.0, cut.1, λ none. absurd (omega (arith, short, ap length cut.1, ap length none, length-append xs cut.0))))
+          let cut = cut_later xs beyond f (concat fs) e (omega (arith, short)) in (
+            [],
+            f ∷ fs,
+            xs,
+            refl,
+            refl,
+            (
+              cut.0,
+              cut.1,
+              λ none. absurd (omega (arith, short, ap length cut.1, ap length none, length-append xs cut.0)),
+            ),
+          )
       | inr long ↦
           let cut = cut_later f (concat fs) xs beyond (sym e) long in
-          let later = cut_frames fs cut.0 beyond (sym cut.2) in
-          (f ∷ later.0, later.1, later.2, ap (λ gs. f ∷ gs) later.3, cut.1 ∙ (ap (λ zs. f ++ zs) later.4 ∙ sym (append_assoc f (concat later.0) later.2)), later.5)
+          let later = cut_frames fs cut.0 beyond (sym cut.2) in (
+            f ∷ later.0,
+            later.1,
+            later.2,
+            ap (λ gs. f ∷ gs) later.3,
+            cut.1 ∙ (ap (λ zs. f ++ zs) later.4 ∙ sym (append_assoc f (concat later.0) later.2)),
+            later.5,
+          )
     ]
 
 -- where bytes of frames leave a parsed text and a hold
@@ -41,37 +60,51 @@ record Untorn (T : Type 0) (frames : List (List ℕ)) (past bytes parsed : List 
   rests : RestsBy T (past ++ concat whole) part parsed hold
 
 -- one more piece
-more : (T : Type 0) (frames : List (List ℕ)) (past bytes piece beyond parsed parsed' : List ℕ) (hold hold' : Option (List ℕ)) (calls : List Call) (ticks : List Tick)
-    → Frames T frames → (bytes ++ piece) ++ beyond ≡ concat frames → Untorn T frames past bytes parsed hold → Takes parsed hold piece parsed' hold' calls ticks
+more : (T : Type 0) (frames : List (List ℕ)) (past bytes piece beyond parsed parsed' : List ℕ)
+    (hold hold' : Option (List ℕ)) (calls : List Call) (ticks : List Tick)
+    → Frames T frames → (bytes ++ piece) ++ beyond ≡ concat frames → Untorn T frames past bytes parsed hold
+    → Takes parsed hold piece parsed' hold' calls ticks
     → Untorn T frames past (bytes ++ piece) parsed' hold'
 more T frames past bytes piece beyond parsed parsed' hold hold' calls ticks fs e r t =
-    let at : bytes ++ piece ≡ concat r.whole ++ (r.part ++ piece) = ap (λ zs. zs ++ piece) r.bytes_are ∙ append_assoc (concat r.whole) r.part piece in
+    let at : bytes ++ piece ≡ concat r.whole ++ (r.part ++ piece) =
+    ap (λ zs. zs ++ piece) r.bytes_are ∙ append_assoc (concat r.whole) r.part piece in
     let all : concat r.whole ++ ((r.part ++ piece) ++ beyond) ≡ concat r.whole ++ concat r.rest =
-    sym (append_assoc (concat r.whole) (r.part ++ piece) beyond) ∙ (ap (λ zs. zs ++ beyond) (sym at) ∙ (e ∙ (ap concat r.frames_are ∙ concat-append r.whole r.rest))) in
-    let cut = cut_frames r.rest (r.part ++ piece) beyond (append_cancel_left (concat r.whole) ((r.part ++ piece) ++ beyond) (concat r.rest) all) in
-    let here : Frames T r.rest = frames_back T r.whole r.rest (subst (λ (gs : List (List ℕ)). Frames T gs) r.frames_are fs) in
+    sym (append_assoc (concat r.whole) (r.part ++ piece) beyond)
+    ∙ (ap (λ zs. zs ++ beyond) (sym at) ∙ (e ∙ (ap concat r.frames_are ∙ concat-append r.whole r.rest))) in
+    let cut = cut_frames r.rest (r.part ++ piece) beyond
+    (append_cancel_left (concat r.whole) ((r.part ++ piece) ++ beyond) (concat r.rest) all) in
+    let here : Frames T r.rest = frames_back T r.whole r.rest
+    (subst (λ (gs : List (List ℕ)). Frames T gs) r.frames_are fs) in
     let here' : Frames T (cut.0 ++ cut.1) = subst (λ (gs : List (List ℕ)). Frames T gs) cut.3 here in
     let is_part : IsPart r.part (cut.0 ++ cut.1) = subst (λ (gs : List (List ℕ)). IsPart r.part gs) cut.3 r.is_part in
-    let next = piece_rests T (past ++ concat r.whole) r.part cut.2 piece parsed parsed' hold hold' cut.0 cut.1 r.rests here' is_part cut.4 cut.5 (calls, ticks, t) in
+    let next = piece_rests T (past ++ concat r.whole) r.part cut.2 piece parsed parsed' hold hold' cut.0 cut.1 r.rests
+    here' is_part cut.4 cut.5 (calls, ticks, t) in
     let whole : concat (r.whole ++ cut.0) ≡ concat r.whole ++ concat cut.0 = concat-append r.whole cut.0 in
     record {
       whole = r.whole ++ cut.0;
       rest = cut.1;
       part = cut.2;
       frames_are = r.frames_are ∙ (ap (λ zs. r.whole ++ zs) cut.3 ∙ sym (append_assoc r.whole cut.0 cut.1));
-      bytes_are = at ∙ (ap (λ zs. concat r.whole ++ zs) cut.4 ∙ (sym (append_assoc (concat r.whole) (concat cut.0) cut.2) ∙ ap (λ zs. zs ++ cut.2) (sym whole)));
+      bytes_are = at ∙ (ap (λ zs. concat r.whole ++ zs) cut.4
+          ∙ (sym (append_assoc (concat r.whole) (concat cut.0) cut.2) ∙ ap (λ zs. zs ++ cut.2) (sym whole)));
       is_part = cut.5;
-      rests = subst (λ (w : List ℕ). RestsBy T w cut.2 parsed' hold') (append_assoc past (concat r.whole) (concat cut.0) ∙ ap (λ zs. past ++ zs) (sym whole)) next;
+      rests = subst (λ (w : List ℕ). RestsBy T w cut.2 parsed' hold')
+          (append_assoc past (concat r.whole) (concat cut.0) ∙ ap (λ zs. past ++ zs) (sym whole)) next;
     }
 
 -- the update is stopped
-stopped_rests : (T : Type 0) (whole part parsed : List ℕ) (hold : Option (List ℕ)) → T → RestsBy T whole part parsed hold → RestsBy T whole part (parsed ++ held_of hold) None
-stopped_rests T whole part parsed hold t (outside why at is) = outside why (ap (λ o. parsed ++ held_of o) is ∙ (append-nil parsed ∙ at)) refl
+stopped_rests : (T : Type 0) (whole part parsed : List ℕ) (hold : Option (List ℕ)) → T
+    → RestsBy T whole part parsed hold → RestsBy T whole part (parsed ++ held_of hold) None
+stopped_rests T whole part parsed hold t (outside why at is) =
+    outside why (ap (λ o. parsed ++ held_of o) is ∙ (append-nil parsed ∙ at)) refl
 stopped_rests T whole part parsed hold t (inside held starts at is) =
-    outside (inr t) (ap (λ o. parsed ++ held_of o) is ∙ (ap (λ xs. xs ++ held) at ∙ (append_assoc whole start_mark held ∙ ap (λ xs. whole ++ xs) (sym starts)))) refl
-stopped_rests T whole part parsed hold t (before long at is) = outside (inr t) (ap (λ o. parsed ++ held_of o) is ∙ ap (λ xs. xs ++ part) at) refl
+    outside (inr t) (ap (λ o. parsed ++ held_of o) is
+    ∙ (ap (λ xs. xs ++ held) at ∙ (append_assoc whole start_mark held ∙ ap (λ xs. whole ++ xs) (sym starts)))) refl
+stopped_rests T whole part parsed hold t (before long at is) =
+    outside (inr t) (ap (λ o. parsed ++ held_of o) is ∙ ap (λ xs. xs ++ part) at) refl
 
-stopped : (T : Type 0) (frames : List (List ℕ)) (past bytes parsed : List ℕ) (hold : Option (List ℕ)) → T → Untorn T frames past bytes parsed hold → Untorn T frames past bytes (parsed ++ held_of hold) None
+stopped : (T : Type 0) (frames : List (List ℕ)) (past bytes parsed : List ℕ) (hold : Option (List ℕ)) → T
+    → Untorn T frames past bytes parsed hold → Untorn T frames past bytes (parsed ++ held_of hold) None
 stopped T frames past bytes parsed hold t r =
     record {
       whole = r.whole;
@@ -89,18 +122,26 @@ StopsBy T [] = Unit {0}
 StopsBy T (Gives piece ∷ moves) = StopsBy T moves
 StopsBy T (Stops ∷ moves) = T × StopsBy T moves
 
-follow : (T : Type 0) (frames : List (List ℕ)) (past beyond bytes : List ℕ) (moves : List Move) (parsed : List ℕ) (hold : Option (List ℕ)) (parsed' : List ℕ) (hold' : Option (List ℕ))
-    → Frames T frames → StopsBy T moves → (bytes ++ given moves) ++ beyond ≡ concat frames → Untorn T frames past bytes parsed hold
+follow : (T : Type 0) (frames : List (List ℕ)) (past beyond bytes : List ℕ) (moves : List Move) (parsed : List ℕ)
+    (hold : Option (List ℕ)) (parsed' : List ℕ) (hold' : Option (List ℕ))
+    → Frames T frames → StopsBy T moves → (bytes ++ given moves) ++ beyond ≡ concat frames
+    → Untorn T frames past bytes parsed hold
     → Leads moves parsed hold parsed' hold' → Untorn T frames past (bytes ++ given moves) parsed' hold'
-follow T frames past beyond bytes moves parsed hold parsed' hold' fs why e r (ends _ _) = subst (λ (xs : List ℕ). Untorn T frames past xs parsed hold) (sym (append-nil bytes)) r
-follow T frames past beyond bytes moves parsed hold parsed' hold' fs why e r (gives piece rest _ _ mid mid_hold calls ticks _ _ t l) =
-    let same : bytes ++ (piece ++ given rest) ≡ (bytes ++ piece) ++ given rest = sym (append_assoc bytes piece (given rest)) in
-    let all : (bytes ++ piece) ++ (given rest ++ beyond) ≡ concat frames = sym (append_assoc (bytes ++ piece) (given rest) beyond) ∙ (ap (λ xs. xs ++ beyond) (sym same) ∙ e) in
+follow T frames past beyond bytes moves parsed hold parsed' hold' fs why e r (ends _ _) =
+    subst (λ (xs : List ℕ). Untorn T frames past xs parsed hold) (sym (append-nil bytes)) r
+follow T frames past beyond bytes moves parsed hold parsed' hold' fs why e r
+    (gives piece rest _ _ mid mid_hold calls ticks _ _ t l) =
+    let same : bytes ++ (piece ++ given rest) ≡ (bytes ++ piece) ++ given rest =
+    sym (append_assoc bytes piece (given rest)) in
+    let all : (bytes ++ piece) ++ (given rest ++ beyond) ≡ concat frames =
+    sym (append_assoc (bytes ++ piece) (given rest) beyond) ∙ (ap (λ xs. xs ++ beyond) (sym same) ∙ e) in
     let next = more T frames past bytes piece (given rest ++ beyond) parsed mid hold mid_hold calls ticks fs all r t in
     subst (λ (xs : List ℕ). Untorn T frames past xs parsed' hold') (sym same)
-    (follow T frames past beyond (bytes ++ piece) rest mid mid_hold parsed' hold' fs why (ap (λ xs. xs ++ beyond) (sym same) ∙ e) next l)
+    (follow T frames past beyond (bytes ++ piece) rest mid mid_hold parsed' hold' fs why
+    (ap (λ xs. xs ++ beyond) (sym same) ∙ e) next l)
 follow T frames past beyond bytes moves parsed hold parsed' hold' fs why e r (stops rest _ _ _ _ l) =
-    follow T frames past beyond bytes rest (parsed ++ held_of hold) None parsed' hold' fs why.1 e (stopped T frames past bytes parsed hold why.0 r) l
+    follow T frames past beyond bytes rest (parsed
+    ++ held_of hold) None parsed' hold' fs why.1 e (stopped T frames past bytes parsed hold why.0 r) l
 
 none_part : (T : Type 0) (frames : List (List ℕ)) → Frames T frames → IsPart [] frames
 none_part T [] fs = refl
@@ -120,13 +161,17 @@ at_first T frames past fs = record {
 
 -- ---- the laws
 
-pub moves_follow : (moves further : List Move) (parsed : List ℕ) (hold : Option (List ℕ)) (mid : List ℕ) (mid_hold : Option (List ℕ)) (parsed' : List ℕ) (hold' : Option (List ℕ))
-    → Leads moves parsed hold mid mid_hold → Leads further mid mid_hold parsed' hold' → Leads (moves ++ further) parsed hold parsed' hold'
+pub moves_follow : (moves further : List Move) (parsed : List ℕ) (hold : Option (List ℕ)) (mid : List ℕ)
+    (mid_hold : Option (List ℕ)) (parsed' : List ℕ) (hold' : Option (List ℕ))
+    → Leads moves parsed hold mid mid_hold → Leads further mid mid_hold parsed' hold'
+    → Leads (moves ++ further) parsed hold parsed' hold'
 moves_follow moves further parsed hold mid mid_hold parsed' hold' (ends _ _) k = k
 moves_follow moves further parsed hold mid mid_hold parsed' hold' (gives piece rest _ _ m h calls ticks _ _ t l) k =
-    gives piece (rest ++ further) parsed hold m h calls ticks parsed' hold' t (moves_follow rest further m h mid mid_hold parsed' hold' l k)
+    gives piece (rest ++ further) parsed hold m h calls ticks parsed' hold' t
+    (moves_follow rest further m h mid mid_hold parsed' hold' l k)
 moves_follow moves further parsed hold mid mid_hold parsed' hold' (stops rest _ _ _ _ l) k =
-    stops (rest ++ further) parsed hold parsed' hold' (moves_follow rest further (parsed ++ held_of hold) None mid mid_hold parsed' hold' l k)
+    stops (rest ++ further) parsed hold parsed' hold'
+    (moves_follow rest further (parsed ++ held_of hold) None mid mid_hold parsed' hold' l k)
 
 loose : (frames : List (List ℕ)) → AllByRecursion IsFrame frames → Frames (Unit {0}) frames
 loose [] h = tt
@@ -138,19 +183,23 @@ any_stops (Gives piece ∷ moves) = any_stops moves
 any_stops (Stops ∷ moves) = (tt, any_stops moves)
 
 -- with no bytes of a frame left over, none is held
-whole_rests : (T : Type 0) (whole part parsed : List ℕ) (hold : Option (List ℕ)) → part ≡ [] → RestsBy T whole part parsed hold → (parsed ≡ whole) × (hold ≡ None)
+whole_rests : (T : Type 0) (whole part parsed : List ℕ) (hold : Option (List ℕ)) → part ≡ []
+    → RestsBy T whole part parsed hold → (parsed ≡ whole) × (hold ≡ None)
 whole_rests T whole part parsed hold e (outside why at is) = (at ∙ (ap (λ xs. whole ++ xs) e ∙ append-nil whole), is)
-whole_rests T whole part parsed hold e (inside held starts at is) = absurd (omega (arith, ap length starts, ap length e))
+whole_rests T whole part parsed hold e (inside held starts at is) =
+    absurd (omega (arith, ap length starts, ap length e))
 whole_rests T whole part parsed hold e (before long at is) = absurd (omega (arith, ap length e, long))
 
 append_itself : (a b : List ℕ) → a ≡ a ++ b → b ≡ []
 append_itself a b e = sym (append_cancel_left a [] b (append-nil a ∙ e))
 
 -- less than a frame cannot come where all frames came
-nothing_left : (T : Type 0) (whole rest : List (List ℕ)) (part : List ℕ) → Frames T rest → IsPart part rest → concat (whole ++ rest) ≡ concat whole ++ part → (rest ≡ []) × (part ≡ [])
+nothing_left : (T : Type 0) (whole rest : List (List ℕ)) (part : List ℕ) → Frames T rest → IsPart part rest
+    → concat (whole ++ rest) ≡ concat whole ++ part → (rest ≡ []) × (part ≡ [])
 nothing_left T whole [] part fs is e = (refl, is)
 nothing_left T whole (f ∷ rest) part fs is e =
-    let same : concat (f ∷ rest) ≡ part = append_cancel_left (concat whole) (concat (f ∷ rest)) part (sym (concat-append whole (f ∷ rest)) ∙ e) in
+    let same : concat (f ∷ rest) ≡ part = append_cancel_left (concat whole) (concat (f ∷ rest)) part
+    (sym (concat-append whole (f ∷ rest)) ∙ e) in
     let long : length (f ++ concat rest) ≡ length f + length (concat rest) = length-append f (concat rest) in
     let size : length f ≡ length part + length is.0 = ap length is.1 ∙ length-append part is.0 in
     let none : is.0 ≡ [] = nil_of is.0 (omega (arith, long, size, ap length same)) in
@@ -161,17 +210,23 @@ nothing_left T whole (f ∷ rest) part fs is e =
     nil_of (x ∷ xs) h = absurd (omega (arith, h))
 
 pub whole_are_parsed : (frames : List (List ℕ)) (moves : List Move) (past parsed : List ℕ) (hold : Option (List ℕ))
-    → All IsFrame frames → given moves ≡ concat frames → Leads moves past None parsed hold → (parsed ≡ past ++ concat frames) × (hold ≡ None)
+    → All IsFrame frames → given moves ≡ concat frames → Leads moves past None parsed hold
+    → (parsed ≡ past ++ concat frames) × (hold ≡ None)
 whole_are_parsed frames moves past parsed hold all e l =
     let fs = loose frames (recursion_from_All IsFrame frames all) in
-    let r = follow (Unit {0}) frames past [] [] moves past None parsed hold fs (any_stops moves) (append-nil (given moves) ∙ e) (at_first (Unit {0}) frames past fs) l in
-    let here : Frames (Unit {0}) r.rest = frames_back (Unit {0}) r.whole r.rest (subst (λ (gs : List (List ℕ)). Frames (Unit {0}) gs) r.frames_are fs) in
-    let left = nothing_left (Unit {0}) r.whole r.rest r.part here r.is_part (ap concat (sym r.frames_are) ∙ (sym e ∙ r.bytes_are)) in
+    let r = follow (Unit {0}) frames past [] [] moves past None parsed hold fs (any_stops moves)
+    (append-nil (given moves) ∙ e) (at_first (Unit {0}) frames past fs) l in
+    let here : Frames (Unit {0}) r.rest = frames_back (Unit {0}) r.whole r.rest
+    (subst (λ (gs : List (List ℕ)). Frames (Unit {0}) gs) r.frames_are fs) in
+    let left = nothing_left (Unit {0}) r.whole r.rest r.part here r.is_part (ap concat (sym r.frames_are)
+    ∙ (sym e ∙ r.bytes_are)) in
     let s = whole_rests (Unit {0}) (past ++ concat r.whole) r.part parsed hold left.1 r.rests in
-    let whole : r.whole ≡ frames = sym (append-nil r.whole) ∙ (ap (λ gs. r.whole ++ gs) (sym left.0) ∙ sym r.frames_are) in
+    let whole : r.whole ≡ frames = sym (append-nil r.whole)
+    ∙ (ap (λ gs. r.whole ++ gs) (sym left.0) ∙ sym r.frames_are) in
     (s.0 ∙ ap (λ gs. past ++ concat gs) whole, s.1)
 
-tight : (frames : List (List ℕ)) → AllByRecursion IsFrame frames → AllByRecursion (λ f. length f < limit) frames → Frames ⊥ frames
+tight : (frames : List (List ℕ)) → AllByRecursion IsFrame frames → AllByRecursion (λ f. length f < limit) frames
+    → Frames ⊥ frames
 tight [] h k = tt
 tight (f ∷ frames) h k = (record { frame = h.0; large = λ big. omega (arith, big, k.0) }, tight frames h.1 k.1)
 
@@ -183,7 +238,8 @@ given_pieces : (pieces : List (List ℕ)) → given (map Gives pieces) ≡ conca
 given_pieces [] = refl
 given_pieces (piece ∷ pieces) = ap (λ xs. piece ++ xs) (given_pieces pieces)
 
-rests_so : (whole part parsed : List ℕ) (hold : Option (List ℕ)) → RestsBy ⊥ whole part parsed hold → Rests whole part parsed hold
+rests_so : (whole part parsed : List ℕ) (hold : Option (List ℕ)) → RestsBy ⊥ whole part parsed hold
+    → Rests whole part parsed hold
 rests_so whole part parsed hold (outside (inl short) at is) = closed short at is
 rests_so whole part parsed hold (outside (inr t) at is) = absurd t
 rests_so whole part parsed hold (inside held starts at is) = opened held starts at is
@@ -193,10 +249,12 @@ pub never_torn : (frames pieces : List (List ℕ)) (beyond past parsed : List �
     → All IsFrame frames → All (λ f. length f < limit) frames → concat pieces ++ beyond ≡ concat frames
     → Leads (map Gives pieces) past None parsed hold → IsUntorn frames past (concat pieces) parsed hold
 never_torn frames pieces beyond past parsed hold all small e l =
-    let fs = tight frames (recursion_from_All IsFrame frames all) (recursion_from_All (λ f. length f < limit) frames small) in
+    let fs = tight frames (recursion_from_All IsFrame frames all)
+    (recursion_from_All (λ f. length f < limit) frames small) in
     let moves = map Gives pieces in
     let all_given : given moves ++ beyond ≡ concat frames = ap (λ xs. xs ++ beyond) (given_pieces pieces) ∙ e in
-    let r = follow ⊥ frames past beyond [] moves past None parsed hold fs (no_stops pieces) all_given (at_first ⊥ frames past fs) l in
+    let r = follow ⊥ frames past beyond [] moves past None parsed hold fs (no_stops pieces) all_given
+    (at_first ⊥ frames past fs) l in
     record {
       whole = r.whole;
       rest = r.rest;
@@ -207,22 +265,28 @@ never_torn frames pieces beyond past parsed hold all small e l =
       rests = rests_so (past ++ concat r.whole) r.part parsed hold r.rests;
     }
 
-part_of_start : (part : List ℕ) (rest : List (List ℕ)) → AllByRecursion IsFrame rest → IsPart part rest → length part < 8 → take (length part) start_mark ≡ part
+part_of_start : (part : List ℕ) (rest : List (List ℕ)) → AllByRecursion IsFrame rest → IsPart part rest
+    → length part < 8 → take (length part) start_mark ≡ part
 part_of_start part [] h e short = ap (λ xs. take (length xs) start_mark) e ∙ sym e
 part_of_start part (f ∷ rest) h e short =
     let at = front_short f part e.0 h.0 e.1 short in
     ap (take (length part)) at.1 ∙ take_at part at.0 (length part) refl
 
-pub mark_begun : (whole part parsed : List ℕ) (hold : Option (List ℕ)) (rest : List (List ℕ)) → AllByRecursion IsFrame rest → IsPart part rest
+pub mark_begun : (whole part parsed : List ℕ) (hold : Option (List ℕ)) (rest : List (List ℕ))
+    → AllByRecursion IsFrame rest → IsPart part rest
     → Rests whole part parsed hold → (count : ℕ) × (count ≤ 8) × (parsed ≡ whole ++ take count start_mark)
-mark_begun whole part parsed hold rest h e (closed short at is) = (length part, omega (arith, short), at ∙ ap (λ xs. whole ++ xs) (sym (part_of_start part rest h e short)))
+mark_begun whole part parsed hold rest h e (closed short at is) =
+    (length part, omega (arith, short), at ∙ ap (λ xs. whole ++ xs) (sym (part_of_start part rest h e short)))
 mark_begun whole part parsed hold rest h e (opened held starts at is) = (8, omega arith, at)
 mark_begun whole part parsed hold rest h e (kept long at is) = (0, omega arith, at ∙ sym (append-nil whole))
 
-pub frames_ground : (frames : List (List ℕ)) (past : List ℕ) → AllByRecursion IsFrame frames → AtGround 1024 past → AtGround 1024 (past ++ concat frames)
+pub frames_ground : (frames : List (List ℕ)) (past : List ℕ) → AllByRecursion IsFrame frames → AtGround 1024 past
+    → AtGround 1024 (past ++ concat frames)
 frames_ground [] past h g = subst (λ (xs : List ℕ). AtGround 1024 xs) (sym (append-nil past)) g
 frames_ground (f ∷ frames) past h g =
     let front = past ++ (start_mark ++ h.0.body) in
-    let is : front ++ end_mark ≡ past ++ f = append_assoc past (start_mark ++ h.0.body) end_mark ∙ ap (λ xs. past ++ xs) (append_assoc start_mark h.0.body end_mark ∙ sym h.0.is) in
+    let is : front ++ end_mark ≡ past ++ f = append_assoc past (start_mark ++ h.0.body) end_mark
+    ∙ ap (λ xs. past ++ xs) (append_assoc start_mark h.0.body end_mark ∙ sym h.0.is) in
     let here : AtGround 1024 (past ++ f) = subst (λ (xs : List ℕ). AtGround 1024 xs) is (ground_end front) in
-    subst (λ (xs : List ℕ). AtGround 1024 xs) (append_assoc past f (concat frames)) (frames_ground frames (past ++ f) h.1 here)
+    subst (λ (xs : List ℕ). AtGround 1024 xs) (append_assoc past f (concat frames))
+    (frames_ground frames (past ++ f) h.1 here)

@@ -1,5 +1,6 @@
 -- Marks in parts of a text.
-use Rattle.std.proofs.Common.{◌≡◌, refl, inl, inr, ℕ, zero, suc, false, List, [], ◌∷◌, ◌++◌, ◌<◌, ◌≤◌, ◌+◌, ◌-◌, ◌==◌, length, take, drop, slice_index, arith, length-drop, ap, sym, ◌∙◌}
+use Rattle.std.proofs.Common.{◌≡◌, refl, inl, inr, ℕ, zero, suc, false, List, [], ◌∷◌, ◌++◌, ◌<◌, ◌≤◌, ◌+◌, ◌-◌, ◌==◌}
+use Rattle.std.proofs.Common.{length, take, drop, slice_index, arith, length-drop, ap, sym, ◌∙◌}
 use Rattle.std.proofs.lemmas.List.{drop-drop, drop-append-le, take-append-le, get_or-drop, get_or-take}
 use Rattle.std.proofs.lemmas.Bool.{cases_lt, eq-eqb, eqb-true}
 use Rattle.memchr.specs.Find.{Nowhere, Passes, is_byte}
@@ -16,31 +17,40 @@ pub none_in_empty : NoneFrom end_mark [] 0
 none_in_empty k low below = absurd (omega arith)
 
 -- A mark that stands whole in the front stands there alone.
-same_in_front : (held piece : List ℕ) (k : ℕ) → k + 8 ≤ length held → is_at end_mark (held ++ piece) k ≡ is_at end_mark held k
+same_in_front : (held piece : List ℕ) (k : ℕ) → k + 8 ≤ length held
+    → is_at end_mark (held ++ piece) k ≡ is_at end_mark held k
 same_in_front held piece k fits =
     let low : k ≤ length held = omega arith in
     let whole : 8 ≤ length (drop k held) = omega (arith, length-drop k held) in
     rw (drop-append-le, take-append-le) refl
 
--- where no end mark stands in the held bytes, one in the held bytes and the piece begins in the last 7 of the held ones or later
-pub none_from_seen : (held piece : List ℕ) (seen : ℕ) → seen ≤ length held - 7 → NoneFrom end_mark held 0 → NoneFrom end_mark (held ++ piece) seen → NoneFrom end_mark (held ++ piece) 0
+-- where no end mark stands in the held bytes, one in the held bytes and the piece begins in the last 7 of the held ones
+-- or later
+pub none_from_seen : (held piece : List ℕ) (seen : ℕ) → seen ≤ length held - 7 → NoneFrom end_mark held 0
+    → NoneFrom end_mark (held ++ piece) seen → NoneFrom end_mark (held ++ piece) 0
 none_from_seen held piece seen close old new k low below =
     elim (cases_lt k seen) [
-      | inl sooner ↦ let fits : k + 8 ≤ length held = omega (arith, close, sooner) in same_in_front held piece k fits ∙ old k low (omega arith)
+      | inl sooner ↦ let fits : k + 8 ≤ length held = omega (arith, close, sooner)
+          in same_in_front held piece k fits ∙ old k low (omega arith)
       | inr later ↦ new k later below
     ]
 
 -- where the first byte of a mark doesn't stand, the mark doesn't
-not_first : (mark text : List ℕ) (k : ℕ) → 0 < length mark → k < length text → ¬ Passes (is_byte (slice_index mark 0)) text k → is_at mark text k ≡ false
+not_first : (mark text : List ℕ) (k : ℕ) → 0 < length mark → k < length text
+    → ¬ Passes (is_byte (slice_index mark 0)) text k → is_at mark text k ≡ false
 not_first [] text k some below other = absurd (omega arith)
 not_first (m ∷ mark) [] k some below other = absurd (omega arith)
-not_first (m ∷ mark) (t ∷ text) zero some below other = rw (not_true (m == t) (λ is. other (eq-eqb t m (sym (eqb-true m t is))))) refl
+not_first (m ∷ mark) (t ∷ text) zero some below other =
+    rw (not_true (m == t) (λ is. other (eq-eqb t m (sym (eqb-true m t is))))) refl
 not_first (m ∷ mark) (t ∷ text) (suc k) some below other = not_first (m ∷ mark) text k some (omega arith) other
 
 -- the same of a stretch of a part of the text, `n` bytes from `from` on
 pub none_in_part : (mark text : List ℕ) (from n i j : ℕ) → 0 < length mark → from + n ≤ length text → j ≤ n
-    → Nowhere (Passes (is_byte (slice_index mark 0)) (take n (drop from text))) i j → (k : ℕ) → from + i ≤ k → k < from + j → is_at mark text k ≡ false
+    → Nowhere (Passes (is_byte (slice_index mark 0)) (take n (drop from text))) i j → (k : ℕ) → from + i ≤ k
+    → k < from + j → is_at mark text k ≡ false
 none_in_part mark text from n i j some fits inside nowhere k low high =
     let place : from + (k - from) ≡ k = omega (arith, low) in
-    let reads : slice_index (take n (drop from text)) (k - from) ≡ slice_index text k = get_or-take n (drop from text) (k - from) 0 (omega arith) ∙ (get_or-drop from text (k - from) 0 ∙ ap (slice_index text) place) in
+    let reads : slice_index (take n (drop from text)) (k - from) ≡ slice_index text k =
+    get_or-take n (drop from text) (k - from) 0 (omega arith)
+    ∙ (get_or-drop from text (k - from) 0 ∙ ap (slice_index text) place) in
     not_first mark text k some (omega arith) (λ is. nowhere (k - from) (omega arith) (omega arith) (rw reads is))

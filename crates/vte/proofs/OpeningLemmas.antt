@@ -1,5 +1,7 @@
 -- Which events are called as the opening of an update.
-use Rattle.std.proofs.Common.{◌≡◌, ℕ, ◌+◌, ◌%◌, ◌==◌, ◌↔◌, Bool, true, false, ◌&&◌, ◌||◌, List, [], ◌∷◌, ◌++◌, Option, None, Some, IfSome, nat_eq, nat_lt, bytes_eq, if◌then◌else◌, map, unwrap_or, length, drop, find, codes, zero, suc, refl, ap, sym, ◌∙◌, subst, inl, inr}
+use Rattle.std.proofs.Common.{◌≡◌, ℕ, ◌+◌, ◌%◌, ◌==◌, ◌↔◌, Bool, true, false, ◌&&◌, ◌||◌, List, [], ◌∷◌, ◌++◌, Option}
+use Rattle.std.proofs.Common.{None, Some, IfSome, nat_eq, nat_lt, bytes_eq, if◌then◌else◌, map, unwrap_or, length, drop}
+use Rattle.std.proofs.Common.{find, codes, zero, suc, refl, ap, sym, ◌∙◌, subst, inl, inr}
 use Rattle.std.specs.List.{list_any, flat_map, range_with_len, starts_with}
 use Rattle.std.specs.Option.{option_to_list}
 use Rattle.std.proofs.lemmas.Bool.{cases_Bool, eqb-true}
@@ -15,9 +17,16 @@ use Rattle.vte_types.specs.declared.rgb.Rgb.{Rgb}
 use Rattle.vte_types.specs.declared.scp.ScpCharPath.{ScpCharPath}
 use Rattle.vte_types.specs.declared.scp.ScpUpdateMode.{ScpUpdateMode}
 use Rattle.vte.specs.Sgr.{first}
-use Rattle.vte.specs.Escape.{calls_at, execute_rows, plain_escape_rows, hash_escape_rows, charset_index, charset_rows, charset_calls, escape_calls}
-use Rattle.vte.specs.Csi.{number_or, identify_calls, counted_rows, repeat_calls, other_rows, place_rows, place_calls, other_calls, counted_calls, plain_calls, question_rows, other_keys_rows, greater_rows, scp_calls, style_rows, space_rows, question_dollar_rows, calls_by, marked_rows, csi_calls, opens_group, opening_groups}
-use Rattle.vte.specs.Osc.{named, end_text, title_calls, colour_of_text, set_or_ask, colour_calls, byte_number, pair_calls, pairs_calls, palette_calls, link_calls, two_digits, dynamic_calls, icon_calls, shape_rows, shape_calls, cursor_calls, clipboard_calls, index_resets, all_resets, reset_calls, osc_rows, osc_calls}
+use Rattle.vte.specs.Escape.{calls_at, execute_rows, plain_escape_rows, hash_escape_rows, charset_index, charset_rows}
+use Rattle.vte.specs.Escape.{charset_calls, escape_calls}
+use Rattle.vte.specs.Csi.{number_or, identify_calls, counted_rows, repeat_calls, other_rows, place_rows, place_calls}
+use Rattle.vte.specs.Csi.{other_calls, counted_calls, plain_calls, question_rows, other_keys_rows, greater_rows}
+use Rattle.vte.specs.Csi.{scp_calls, style_rows, space_rows, question_dollar_rows, calls_by, marked_rows, csi_calls}
+use Rattle.vte.specs.Csi.{opens_group, opening_groups}
+use Rattle.vte.specs.Osc.{named, end_text, title_calls, colour_of_text, set_or_ask, colour_calls, byte_number}
+use Rattle.vte.specs.Osc.{pair_calls, pairs_calls, palette_calls, link_calls, two_digits, dynamic_calls, icon_calls}
+use Rattle.vte.specs.Osc.{shape_rows, shape_calls, cursor_calls, clipboard_calls, index_resets, all_resets, reset_calls}
+use Rattle.vte.specs.Osc.{osc_rows, osc_calls}
 use Rattle.vte.specs.Table.{calls_of, last_after, opens, is_opening}
 use Rattle.vte.specs.Performed.{calls_of_all}
 use Rattle.vte.specs.Laws.{IsStart}
@@ -47,21 +56,24 @@ Rows P [] = Unit {0}
 Rows P (row ∷ rows) = P row.0 row.1 × Rows P rows
 
 -- it is so of the row that a key finds
-found : {X : Type 0} (P : ℕ → X → Type 0) (key : ℕ) (rows : List (ℕ × X)) → Rows P rows → IfSome (lookup key rows) (P key)
+found : {X : Type 0} (P : ℕ → X → Type 0) (key : ℕ) (rows : List (ℕ × X)) → Rows P rows
+    → IfSome (lookup key rows) (P key)
 found P key [] h = tt
 found {X} P key (row ∷ rows) h = elim (cases_Bool (nat_eq key row.0)) [
   | inl e ↦ rw e (subst (λ (k : ℕ). P k row.1) (sym (eqb-true key row.0 e)) h.0)
   | inr e ↦ rw e (found P key rows h.1)
 ]
 
-found_or : {X : Type 0} (P : ℕ → X → Type 0) (key : ℕ) (rows : List (ℕ × X)) (other : X) → Rows P rows → P key other → P key (unwrap_or (lookup key rows) other)
+found_or : {X : Type 0} (P : ℕ → X → Type 0) (key : ℕ) (rows : List (ℕ × X)) (other : X) → Rows P rows → P key other
+    → P key (unwrap_or (lookup key rows) other)
 found_or P key [] other h k = k
 found_or P key (row ∷ rows) other h k = elim (cases_Bool (nat_eq key row.0)) [
   | inl e ↦ rw e (subst (λ (j : ℕ). P j row.1) (sym (eqb-true key row.0 e)) h.0)
   | inr e ↦ rw e (found_or P key rows other h.1 k)
 ]
 
-named_or : {X : Type 0} (P : X → Type 0) (name : List ℕ) (rows : List (List ℕ × X)) (other : X) → Rows (λ k x. P x) rows → P other → P (unwrap_or (named name rows) other)
+named_or : {X : Type 0} (P : X → Type 0) (name : List ℕ) (rows : List (List ℕ × X)) (other : X)
+    → Rows (λ k x. P x) rows → P other → P (unwrap_or (named name rows) other)
 named_or P name [] other h k = k
 named_or P name (row ∷ rows) other h k = elim (cases_Bool (bytes_eq name row.0)) [
   | inl e ↦ rw e h.0
@@ -71,7 +83,8 @@ named_or P name (row ∷ rows) other h k = elim (cases_Bool (bytes_eq name row.0
 quiet_at : (key : ℕ) (rows : List (ℕ × List Call)) → Rows (λ k cs. Quiet cs) rows → Quiet (calls_at key rows)
 quiet_at key rows h = found_or (λ k cs. Quiet cs) key rows [] h refl
 
-quiet_by : (f : ℕ) (rows : List (ℕ × (List (List ℕ) → List Call))) (gs : List (List ℕ)) → Rows (λ k c. Quiet (c gs)) rows → Quiet (calls_by f rows gs)
+quiet_by : (f : ℕ) (rows : List (ℕ × (List (List ℕ) → List Call))) (gs : List (List ℕ))
+    → Rows (λ k c. Quiet (c gs)) rows → Quiet (calls_by f rows gs)
 quiet_by f rows gs h = found_or (λ k c. Quiet (c gs)) f rows (λ xs. []) h refl
 
 -- controls and escape sequences
@@ -85,7 +98,8 @@ charset_quiet (Some g) b = quiet_at b (charset_rows g) search
 
 escape_quiet : (ms : List ℕ) (b : ℕ) → Quiet (escape_calls ms b)
 escape_quiet [] b = quiet_at b plain_escape_rows search
-escape_quiet (x ∷ []) b = quiet_if (nat_eq x 35) (calls_at b hash_escape_rows) (charset_calls (charset_index x) b) (quiet_at b hash_escape_rows search) (charset_quiet (charset_index x) b)
+escape_quiet (x ∷ []) b = quiet_if (nat_eq x 35) (calls_at b hash_escape_rows) (charset_calls (charset_index x) b)
+    (quiet_at b hash_escape_rows search) (charset_quiet (charset_index x) b)
 escape_quiet (x ∷ y ∷ ms) b = refl
 
 -- control sequences without intermediates
@@ -95,20 +109,26 @@ repeat_quiet None n = refl
 repeat_quiet (Some x) zero = refl
 repeat_quiet (Some x) (suc n) = repeat_quiet (Some x) n
 
-place_quiet : (o : Option (List (List ℕ) → Call)) (gs : List (List ℕ)) → IfSome o (λ c. is_opening (c gs) ≡ false) → Quiet (place_calls o gs)
+place_quiet : (o : Option (List (List ℕ) → Call)) (gs : List (List ℕ)) → IfSome o (λ c. is_opening (c gs) ≡ false)
+    → Quiet (place_calls o gs)
 place_quiet None gs h = refl
 place_quiet (Some c) gs h = rw h refl
 
-other_quiet : (o : Option (Option ℕ → List (List ℕ) → List Call)) (last : Option ℕ) (gs : List (List ℕ)) (f : ℕ) → IfSome o (λ c. Quiet (c last gs)) → Quiet (other_calls o last gs f)
-other_quiet None last gs f h = place_quiet (lookup f place_rows) gs (found (λ k c. is_opening (c gs) ≡ false) f place_rows search)
+other_quiet : (o : Option (Option ℕ → List (List ℕ) → List Call)) (last : Option ℕ) (gs : List (List ℕ)) (f : ℕ)
+    → IfSome o (λ c. Quiet (c last gs)) → Quiet (other_calls o last gs f)
+other_quiet None last gs f h = place_quiet (lookup f place_rows) gs
+    (found (λ k c. is_opening (c gs) ≡ false) f place_rows search)
 other_quiet (Some c) last gs f h = h
 
-counted_quiet : (o : Option (ℕ → Call)) (last : Option ℕ) (gs : List (List ℕ)) (f : ℕ) → IfSome o (λ c. is_opening (c (number_or 1 gs)) ≡ false) → Quiet (counted_calls o last gs f)
-counted_quiet None last gs f h = other_quiet (lookup f other_rows) last gs f (found (λ k c. Quiet (c last gs)) f other_rows (search (quiet_at, quiet_map, repeat_quiet)))
+counted_quiet : (o : Option (ℕ → Call)) (last : Option ℕ) (gs : List (List ℕ)) (f : ℕ)
+    → IfSome o (λ c. is_opening (c (number_or 1 gs)) ≡ false) → Quiet (counted_calls o last gs f)
+counted_quiet None last gs f h = other_quiet (lookup f other_rows) last gs f
+    (found (λ k c. Quiet (c last gs)) f other_rows (search (quiet_at, quiet_map, repeat_quiet)))
 counted_quiet (Some c) last gs f h = rw h refl
 
 plain_quiet : (last : Option ℕ) (gs : List (List ℕ)) (f : ℕ) → Quiet (plain_calls last gs f)
-plain_quiet last gs f = counted_quiet (lookup f counted_rows) last gs f (found (λ k c. is_opening (c (number_or 1 gs)) ≡ false) f counted_rows search)
+plain_quiet last gs f = counted_quiet (lookup f counted_rows) last gs f
+    (found (λ k c. is_opening (c (number_or 1 gs)) ≡ false) f counted_rows search)
 
 -- with intermediates
 
@@ -137,24 +157,30 @@ not_so cs h = absurd (let no : true ≡ false = h in cc)
 
 -- ? and another final than h
 question_quiet : (f : ℕ) (gs : List (List ℕ)) → nat_eq f 104 ≡ false → Quiet (calls_by f question_rows gs)
-question_quiet f gs = found_or (λ k c. nat_eq k 104 ≡ false → Quiet (c gs)) f question_rows (λ xs. []) (search (not_so, quiet_map, quiet_if)) (λ e. refl)
+question_quiet f gs = found_or (λ k c. nat_eq k 104 ≡ false
+    → Quiet (c gs)) f question_rows (λ xs. []) (search (not_so, quiet_map, quiet_if)) (λ e. refl)
 
 -- another intermediate than ?
-marked_quiet : (x f : ℕ) (gs : List (List ℕ)) → nat_eq x 63 ≡ false → Quiet (calls_by f (unwrap_or (lookup x marked_rows) []) gs)
-marked_quiet x f gs = found_or (λ k rows. nat_eq k 63 ≡ false → Quiet (calls_by f rows gs)) x marked_rows [] (search (not_so, quiet_by, greater_quiet, space_quiet)) (λ e. refl)
+marked_quiet : (x f : ℕ) (gs : List (List ℕ)) → nat_eq x 63 ≡ false
+    → Quiet (calls_by f (unwrap_or (lookup x marked_rows) []) gs)
+marked_quiet x f gs = found_or (λ k rows. nat_eq k 63 ≡ false
+    → Quiet (calls_by f rows gs)) x marked_rows [] (search (not_so, quiet_by, greater_quiet, space_quiet)) (λ e. refl)
 
 -- ? h
 
 mode_quiet : (n : ℕ) → nat_eq n 2026 ≡ false → is_opening (set_private_mode (private_mode_of n)) ≡ false
-mode_quiet n = found_or (λ k m. nat_eq k 2026 ≡ false → is_opening (set_private_mode m) ≡ false) n private_mode_rows (Unknown n) (search) (λ e. refl)
+mode_quiet n = found_or (λ k m. nat_eq k 2026 ≡ false
+    → is_opening (set_private_mode m) ≡ false) n private_mode_rows (Unknown n) (search) (λ e. refl)
 
 mode_opens : (n : ℕ) → is_opening (set_private_mode (private_mode_of n)) ≡ nat_eq n 2026
 mode_opens n = elim (cases_Bool (nat_eq n 2026)) [
-  | inl e ↦ subst (λ (k : ℕ). is_opening (set_private_mode (private_mode_of k)) ≡ nat_eq k 2026) (sym (eqb-true n 2026 e)) refl
+  | inl e ↦ subst (λ (k : ℕ). is_opening (set_private_mode (private_mode_of k)) ≡ nat_eq k 2026)
+      (sym (eqb-true n 2026 e)) refl
   | inr e ↦ mode_quiet n e ∙ sym e
 ]
 
-modes_open : (gs : List (List ℕ)) → list_any is_opening (map (λ g. set_private_mode (private_mode_of (first g))) gs) ≡ list_any opens_group gs
+modes_open : (gs : List (List ℕ)) → list_any is_opening (map (λ g. set_private_mode (private_mode_of (first g))) gs)
+    ≡ list_any opens_group gs
 modes_open [] = refl
 modes_open (g ∷ gs) = rw (mode_opens (first g), modes_open gs) refl
 
@@ -175,7 +201,8 @@ pair_quiet (Some i) p end = set_or_ask_quiet (colour_of_text p) _ i end p
 pairs_quiet : (ps : List (List ℕ)) (end : List ℕ) → Quiet (pairs_calls ps end)
 pairs_quiet [] end = refl
 pairs_quiet (i ∷ []) end = refl
-pairs_quiet (i ∷ p ∷ ps) end = quiet-append (pair_calls (byte_number i) p end) (pairs_calls ps end) (pair_quiet (byte_number i) p end) (pairs_quiet ps end)
+pairs_quiet (i ∷ p ∷ ps) end = quiet-append (pair_calls (byte_number i) p end) (pairs_calls ps end)
+    (pair_quiet (byte_number i) p end) (pairs_quiet ps end)
 
 palette_quiet : (ps : List (List ℕ)) (end : List ℕ) → Quiet (palette_calls ps end)
 palette_quiet ps end = quiet_if (length ps % 2 == 0) _ _ (pairs_quiet ps end) refl
@@ -189,11 +216,13 @@ dynamic_quiet : (n : ℕ) (ps : List (List ℕ)) (end : List ℕ) → Quiet (dyn
 dynamic_quiet n [] end = refl
 dynamic_quiet n (p ∷ ps) end =
     quiet_if (nat_lt 12 n) _ _ refl
-    (quiet-append (colour_calls (two_digits n) (246 + n) end p) (dynamic_calls (n + 1) ps end) (set_or_ask_quiet (colour_of_text p) (two_digits n) (246 + n) end p) (dynamic_quiet (n + 1) ps end))
+    (quiet-append (colour_calls (two_digits n) (246 + n) end p) (dynamic_calls (n + 1) ps end)
+    (set_or_ask_quiet (colour_of_text p) (two_digits n) (246 + n) end p) (dynamic_quiet (n + 1) ps end))
 
 icon_quiet : (ps : List (List ℕ)) → Quiet (icon_calls ps)
 icon_quiet [] = refl
-icon_quiet (p ∷ []) = quiet_map set_mouse_cursor_icon (option_to_list (find (λ icon. bytes_eq (name_of icon) p) all_icons)) (λ i. refl)
+icon_quiet (p ∷ []) = quiet_map set_mouse_cursor_icon
+    (option_to_list (find (λ icon. bytes_eq (name_of icon) p) all_icons)) (λ i. refl)
 icon_quiet (p ∷ q ∷ ps) = refl
 
 shape_quiet : (bs : List ℕ) → Quiet (shape_calls bs)
@@ -215,18 +244,30 @@ all_quiet = quiet_map reset_color (range_with_len 0 256) (λ i. refl)
 reset_quiet : (ps : List (List ℕ)) → Quiet (reset_calls ps)
 reset_quiet [] = all_quiet
 reset_quiet ([] ∷ ps) = all_quiet
-reset_quiet ((b ∷ bs) ∷ ps) = quiet_flat_map index_resets ((b ∷ bs) ∷ ps) (λ p. quiet_map reset_color (option_to_list (byte_number p)) (λ i. refl))
+reset_quiet ((b ∷ bs) ∷ ps) = quiet_flat_map index_resets ((b ∷ bs)
+    ∷ ps) (λ p. quiet_map reset_color (option_to_list (byte_number p)) (λ i. refl))
 
 osc_quiet : (ps : List (List ℕ)) (bell : Bool) → Quiet (osc_calls ps bell)
 osc_quiet [] bell = refl
 osc_quiet (p ∷ ps) bell = named_or (λ c. Quiet (c ps (end_text bell))) p osc_rows (λ qs e. [])
-    (search (title_quiet, palette_quiet, link_quiet, dynamic_quiet, icon_quiet, cursor_quiet, clipboard_quiet, reset_quiet)) refl
+    (search (
+      title_quiet,
+      palette_quiet,
+      link_quiet,
+      dynamic_quiet,
+      icon_quiet,
+      cursor_quiet,
+      clipboard_quiet,
+      reset_quiet,
+    )) refl
 
 -- all events
 
-other_sequence : (last : Option ℕ) (gs : List (List ℕ)) (x f : ℕ) → (nat_eq x 63 && nat_eq f 104) ≡ false → Quiet (calls_by f (unwrap_or (lookup x marked_rows) []) gs)
+other_sequence : (last : Option ℕ) (gs : List (List ℕ)) (x f : ℕ) → (nat_eq x 63 && nat_eq f 104) ≡ false
+    → Quiet (calls_by f (unwrap_or (lookup x marked_rows) []) gs)
 other_sequence last gs x f h = elim (cases_Bool (nat_eq x 63)) [
-  | inl e ↦ subst (λ (y : ℕ). Quiet (calls_by f (unwrap_or (lookup y marked_rows) []) gs)) (sym (eqb-true x 63 e)) (question_quiet f gs (rw e at h))
+  | inl e ↦ subst (λ (y : ℕ). Quiet (calls_by f (unwrap_or (lookup y marked_rows) []) gs)) (sym (eqb-true x 63 e))
+      (question_quiet f gs (rw e at h))
   | inr e ↦ marked_quiet x f gs e
 ]
 
@@ -234,13 +275,16 @@ both_true : (a b : Bool) → (a && b) ≡ true → (a ≡ true) × (b ≡ true)
 both_true true b h = (refl, h)
 both_true false b h = absurd (let no : false ≡ true = h in cc)
 
-sequence_opens : (last : Option ℕ) (gs : List (List ℕ)) (ms : List ℕ) (f : ℕ) → list_any is_opening (csi_calls last gs ms f) ≡ list_any opens_group (opening_groups gs ms f)
+sequence_opens : (last : Option ℕ) (gs : List (List ℕ)) (ms : List ℕ) (f : ℕ)
+    → list_any is_opening (csi_calls last gs ms f) ≡ list_any opens_group (opening_groups gs ms f)
 sequence_opens last gs [] f = quiet_if (nat_eq f 99) _ _ (identify_quiet gs []) (plain_quiet last gs f)
 sequence_opens last gs (x ∷ []) f = elim (cases_Bool (nat_eq x 63 && nat_eq f 104)) [
   | inl e ↦
       let both = both_true (nat_eq x 63) (nat_eq f 104) e in
-      subst (λ (y : ℕ). list_any is_opening (csi_calls last gs (y ∷ []) f) ≡ list_any opens_group (opening_groups gs (y ∷ []) f)) (sym (eqb-true x 63 both.0))
-      (subst (λ (g : ℕ). list_any is_opening (csi_calls last gs (63 ∷ []) g) ≡ list_any opens_group (opening_groups gs (63 ∷ []) g)) (sym (eqb-true f 104 both.1)) (modes_open gs))
+      subst (λ (y : ℕ). list_any is_opening (csi_calls last gs (y ∷ []) f)
+      ≡ list_any opens_group (opening_groups gs (y ∷ []) f)) (sym (eqb-true x 63 both.0))
+      (subst (λ (g : ℕ). list_any is_opening (csi_calls last gs (63 ∷ []) g)
+      ≡ list_any opens_group (opening_groups gs (63 ∷ []) g)) (sym (eqb-true f 104 both.1)) (modes_open gs))
   | inr e ↦ rw e (quiet_if (nat_eq f 99) _ _ (identify_quiet gs (x ∷ [])) (other_sequence last gs x f e))
 ]
 sequence_opens last gs (x ∷ y ∷ []) f = quiet_if (nat_eq f 99) _ _ (identify_quiet gs (x ∷ y ∷ []))
@@ -258,9 +302,11 @@ opens_as_called last (Hook gs ms ignore f) = refl
 opens_as_called last (Put b) = refl
 opens_as_called last Unhook = refl
 
-pub opens_as_all_called : (last : Option ℕ) (es : List Event) → list_any is_opening (calls_of_all last es) ≡ list_any opens es
+pub opens_as_all_called : (last : Option ℕ) (es : List Event)
+    → list_any is_opening (calls_of_all last es) ≡ list_any opens es
 opens_as_all_called last [] = refl
-opens_as_all_called last (e ∷ es) = list_any-append is_opening (calls_of last e) (calls_of_all (last_after last e) es) ∙ rw (opens_as_called last e, opens_as_all_called (last_after last e) es) refl
+opens_as_all_called last (e ∷ es) = list_any-append is_opening (calls_of last e) (calls_of_all (last_after last e) es)
+    ∙ rw (opens_as_called last e, opens_as_all_called (last_after last e) es) refl
 
 -- the shape of what opens
 
@@ -286,14 +332,16 @@ has_start (g ∷ gs) h = elim (cases_Bool (opens_group g)) [
 never_so : (e : Event) → false ≡ true → IsStart e
 never_so e h = absurd (let no : false ≡ true = h in cc)
 
-question_start : (gs : List (List ℕ)) (x f : ℕ) → list_any opens_group (opening_groups gs (x ∷ []) f) ≡ true → IsStart (Csi gs (x ∷ []) false f)
+question_start : (gs : List (List ℕ)) (x f : ℕ) → list_any opens_group (opening_groups gs (x ∷ []) f) ≡ true
+    → IsStart (Csi gs (x ∷ []) false f)
 question_start gs x f h = elim (cases_Bool (nat_eq x 63 && nat_eq f 104)) [
   | inl e ↦
       let both = both_true (nat_eq x 63) (nat_eq f 104) e in
       let s = has_start gs (rw e at h) in
       let xs : x ≡ 63 = eqb-true x 63 both.0 in
       let fs : f ≡ 104 = eqb-true f 104 both.1 in
-      let is : Csi gs (x ∷ []) false f ≡ Csi (s.before ++ (2026 ∷ s.more) ∷ s.after) (63 ∷ []) false 104 = ap (λ hs. Csi hs (x ∷ []) false f) s.is ∙ rw (xs, fs) refl in
+      let is : Csi gs (x ∷ []) false f ≡ Csi (s.before ++ (2026 ∷ s.more) ∷ s.after) (63 ∷ []) false 104 =
+      ap (λ hs. Csi hs (x ∷ []) false f) s.is ∙ rw (xs, fs) refl in
       record { before = s.before; more = s.more; after = s.after; is = is }
   | inr e ↦ never_so (Csi gs (x ∷ []) false f) (rw e at h)
 ]
@@ -308,7 +356,8 @@ or-true true = refl
 or-true false = refl
 
 start_opens : (e : Event) → IsStart e → opens e ≡ true
-start_opens e s = rw (s.is) (list_any-append opens_group s.before ((2026 ∷ s.more) ∷ s.after) ∙ or-true (list_any opens_group s.before))
+start_opens e s = rw (s.is) (list_any-append opens_group s.before ((2026 ∷ s.more) ∷ s.after)
+    ∙ or-true (list_any opens_group s.before))
 
 pub opens_by_starts : (e : Event) → (opens e ≡ true) ↔ IsStart e
 opens_by_starts e = (starts e, start_opens e)

@@ -1,43 +1,67 @@
--- Printed text, with the last character stored once, after it.
-use Rattle.std.proofs.Common.{◌≡◌, ◌∙◌, sym, ap, refl, ℕ, Bool, true, false, List, [], ◌∷◌, ◌++◌, Option, Some, ◌||◌, map, take, length, ◌≤◌, arith}
+-- Printed text, handed to a handler, with the last character stored once, after it.
+use Rattle.std.proofs.Common.{◌≡◌, ◌∙◌, sym, ap, refl, ℕ, Bool, true, false, List, [], ◌∷◌, ◌++◌, Option, Some, ◌||◌}
+use Rattle.std.proofs.Common.{map, take, length, ◌≤◌, arith, subst}
 use Rattle.std.proofs.lemmas.Grind.{common_steps}
 use Rattle.vte_core.specs.Event.{Event, Print, Performs}
-use Rattle.vte_core.proofs.Telling.{performs-append, same_events}
-use Rattle.vte_types.specs.Call as call
-use Rattle.vte_types.specs.Call.{Call}
-use Rattle.vte.specs.Performed.{Performed}
+use Rattle.vte_types.specs.Call.{Call, Calls, input}
+use Rattle.vte.specs.Performed.{Performed, last_after_all}
+use Rattle.vte.proofs.RunLemmas.{Calls-append}
 use Rattle.vte.specs.declared.performer.Performer.{Performer}
 
 -- what an event does to a performer
-abbrev pub Steps : {H T : Type 0} → (H → Call → H → Type 0) → (T → ℕ → T → Type 0) → (T → T → Type 0) → Performer H T → Event → Performer H T → Type 0
-Steps step sets clears p e q = Performed step sets clears e p.handler.now p.state.now p.terminated q.handler.now q.state.now q.terminated
+abbrev pub Steps : {H T : Type 0} → (H → Call → H → Type 0) → (T → ℕ → T → Type 0) → (T → T → Type 0) → Performer H T
+    → Event → Performer H T → Type 0
+Steps step sets clears p e q = Performed step sets clears e p.handler.now p.state.now p.terminated q.handler.now
+    q.state.now q.terminated
     × (q.handler.ghost_name ≡ p.handler.ghost_name) × (q.state.ghost_name ≡ p.state.ghost_name)
 
--- a performer that keeps this as the last printed character
-abbrev pub with_last : {H T : Type 0} → Performer H T → Option ℕ → Performer H T
-with_last p last = record p { state = record p.state { now = record p.state.now { preceding_char = last } } }
-
-map-last : (cs : List ℕ) (c : ℕ) → map Print cs ++ Print c ∷ [] ≡ map Print (cs ++ c ∷ [])
-map-last [] c = refl
-map-last (x ∷ cs) c = ap (λ (es : List Event). Print x ∷ es) (map-last cs c)
+-- a performer whose handler was told characters, of which this is the last
+abbrev pub printed : {H T : Type 0} → Performer H T → H → Option ℕ → Performer H T
+printed p h last = record p {
+  handler = record p.handler { now = h };
+  state = record p.state { now = record p.state.now { preceding_char = last } };
+}
 
 still : (b : Bool) → b ≡ (b || false)
 still true = refl
 still false = refl
 
--- one more character, handed over
-pub printed-more : {H T : Type 0} (step : H → Call → H → Type 0) (sets : T → ℕ → T → Type 0) (clears : T → T → Type 0) (old p q : Performer H T)
-    (last : Option ℕ) (cs : List ℕ) (c : ℕ) (ds : List ℕ) → ds ≡ cs ++ c ∷ [] → Performs (Steps step sets clears) old (map Print cs) (with_last p last)
-    → step p.handler.now (call.input c) q.handler.now → q.handler.ghost_name ≡ p.handler.ghost_name → q.state ≡ p.state → q.terminated ≡ p.terminated
-    → Performs (Steps step sets clears) old (map Print ds) (with_last q (Some c))
-printed-more {H} {T} step sets clears old p q last cs c ds more before input named state terminated =
-    let one : Steps step sets clears (with_last p last) (Print c) (with_last q (Some c)) = (
-      record { calls = λ fits. (q.handler.now, input, refl); printed = refl; ticked = ap (λ s. s.now.timeout) state; ends = terminated ∙ still p.terminated },
-      named,
-      ap (λ s. s.ghost_name) state,
-    ) in
-    same_events (Steps step sets clears) old (with_last q (Some c)) (map Print cs ++ Print c ∷ []) (map Print ds) (map-last cs c ∙ ap (map Print) (sym more))
-    (performs-append (Steps step sets clears) old (with_last p last) (with_last q (Some c)) (map Print cs) (Print c ∷ []) before (with_last q (Some c), one, refl))
+-- a handler that was told characters, with the last of them: as events
+pub printed-all : {H T : Type 0} (step : H → Call → H → Type 0) (sets : T → ℕ → T → Type 0) (clears : T → T → Type 0)
+    (p : Performer H T) (cs : List ℕ) (h : H) (last : Option ℕ) → Calls step p.handler.now (map input cs) h
+    → last ≡ last_after_all p.state.now.preceding_char (map Print cs)
+    → Performs (Steps step sets clears) p (map Print cs) (printed p h last)
+printed-all step sets clears p [] h last calls is =
+    ap (λ x. printed p x last) calls ∙ ap (λ l. printed p p.handler.now l) is
+printed-all step sets clears p (c ∷ cs) h last calls is = (
+  printed p calls.0 (Some c),
+  (
+    record { calls = λ fits. (calls.0, calls.1, refl); printed = refl; ticked = refl; ends = still p.terminated },
+    refl,
+    refl,
+  ),
+  printed-all step sets clears (printed p calls.0 (Some c)) cs h last calls.2 is,
+)
+
+map-last : (cs : List ℕ) (c : ℕ) → map input cs ++ input c ∷ [] ≡ map input (cs ++ c ∷ [])
+map-last [] c = refl
+map-last (x ∷ cs) c = ap (λ (xs : List Call). input x ∷ xs) (map-last cs c)
+
+-- one more character, told
+pub input-more : {H : Type 0} (step : H → Call → H → Type 0) (s m t : H) (cs : List ℕ) (c : ℕ) (ds : List ℕ)
+    → ds ≡ cs ++ c ∷ [] → Calls step s (map input cs) m → step m (input c) t → Calls step s (map input ds) t
+input-more step s m t cs c ds is before told =
+    subst (λ (xs : List Call). Calls step s xs t) (map-last cs c ∙ ap (map input) (sym is))
+    (Calls-append step s m t (map input cs) (input c ∷ []) before (t, told, refl))
+
+last-more : (before : Option ℕ) (cs : List ℕ) (c : ℕ) → Some c ≡ last_after_all before (map Print (cs ++ c ∷ []))
+last-more before [] c = refl
+last-more before (x ∷ cs) c = last-more (Some x) cs c
+
+-- it is the last one
+pub last-is : (before : Option ℕ) (cs : List ℕ) (c : ℕ) (ds : List ℕ) → ds ≡ cs ++ c ∷ []
+    → Some c ≡ last_after_all before (map Print ds)
+last-is before cs c ds is = last-more before cs c ∙ ap (λ xs. last_after_all before (map Print xs)) (sym is)
 
 pub all_taken : (xs : List ℕ) (i : ℕ) → length xs ≤ i → take i xs ≡ xs
 all_taken xs i h = grind (arith, common_steps)

@@ -16,7 +16,8 @@ use Rattle.vte.specs.declared.performer.ProcessorState.{ProcessorState}
 use Rattle.vte.specs.Performed.{Performed, PerformedAll, last_after_all, calls_of_all, openers_of_all}
 use Rattle.vte.specs.Stretch.{added}
 
-pub Calls-append : {S : Type 0} (step : S → Call → S → Type 0) (s m t : S) (a b : List Call) → Calls step s a m → Calls step m b t → Calls step s (a ++ b) t
+pub Calls-append : {S : Type 0} (step : S → Call → S → Type 0) (s m t : S) (a b : List Call) → Calls step s a m
+    → Calls step m b t → Calls step s (a ++ b) t
 Calls-append {S} step s m t [] b h k = subst (λ (x : S). Calls step x b t) h k
 Calls-append {S} step s m t (c ∷ a) b h k = (h.0, h.1, Calls-append step h.0 m t a b h.2 k)
 
@@ -41,7 +42,8 @@ pub or-assoc : (a b c : Bool) → ((a || b) || c) ≡ (a || (b || c))
 or-assoc true b c = refl
 or-assoc false b c = refl
 
-or-any : (b : Bool) (e : Event) (es : List Event) → (b || list_any opens (e ∷ es)) ≡ ((b || opens e) || list_any opens es)
+or-any : (b : Bool) (e : Event) (es : List Event)
+    → (b || list_any opens (e ∷ es)) ≡ ((b || opens e) || list_any opens es)
 or-any b e es = sym (or-assoc b (opens e) (list_any opens es))
 
 pub any-append : {X : Type 0} (p : X → Bool) (a b : List X) → list_any p (a ++ b) ≡ (list_any p a || list_any p b)
@@ -51,30 +53,42 @@ any-append p (x ∷ a) b = ap (λ v. p x || v) (any-append p a b) ∙ sym (or-as
 -- what each step does, a run does
 pub performs_all : {P H T : Type 0} (step : H → Call → H → Type 0) (sets : T → ℕ → T → Type 0) (clears : T → T → Type 0)
     (h : P → H) (s : P → ProcessorState T) (ended : P → Bool) (steps : P → Event → P → Type 0)
-    → ((p : P) (e : Event) (q : P) → steps p e q → Performed step sets clears e (h p) (s p) (ended p) (h q) (s q) (ended q))
+    → ((p : P) (e : Event) (q : P) → steps p e q → Performed step sets clears e (h p) (s p) (ended p) (h q) (s q)
+    (ended q))
     → (p : P) (es : List Event) (q : P) → All (Fits 1024) es → Performs steps p es q
     → PerformedAll step sets clears es (h p) (s p) (ended p) (h q) (s q) (ended q)
 performs_all step sets clears h s ended steps each p [] q fits g =
-    record { calls = ap h g; printed = ap (λ x. (s x).preceding_char) g; ticked = ap (λ x. (s x).timeout) g; ends = ap ended g ∙ sym (or-false (ended p)) }
+    record {
+      calls = ap h g;
+      printed = ap (λ x. (s x).preceding_char) g;
+      ticked = ap (λ x. (s x).timeout) g;
+      ends = ap ended g ∙ sym (or-false (ended p));
+    }
 performs_all step sets clears h s ended steps each p (e ∷ es) q fits g =
     let one = each p e g.0 g.1 in
     let more = performs_all step sets clears h s ended steps each g.0 es q (All-tail (Fits 1024) e es fits) g.2 in
     let last = (s p).preceding_char in
-    let calls : Calls step (h g.0) (calls_of_all (last_after last e) es) (h q) = subst (λ (l : Option ℕ). Calls step (h g.0) (calls_of_all l es) (h q)) one.printed more.calls in
+    let calls : Calls step (h g.0) (calls_of_all (last_after last e) es) (h q) =
+    subst (λ (l : Option ℕ). Calls step (h g.0) (calls_of_all l es) (h q)) one.printed more.calls in
     record {
-      calls = Calls-append step (h p) (h g.0) (h q) (calls_of last e) (calls_of_all (last_after last e) es) (one.calls (All-head (Fits 1024) e es fits)) calls;
+      calls = Calls-append step (h p) (h g.0) (h q) (calls_of last e) (calls_of_all (last_after last e) es)
+          (one.calls (All-head (Fits 1024) e es fits)) calls;
       printed = more.printed ∙ ap (λ l. last_after_all l es) one.printed;
-      ticked = subst (λ (ts : List Tick). Ticked sets clears (s p).timeout ts (s q).timeout) (sym (sets_of-append (openers e) (openers_of_all es)))
-          (Ticked-append sets clears (s p).timeout (s g.0).timeout (s q).timeout (sets_of (openers e)) (sets_of (openers_of_all es)) one.ticked more.ticked);
+      ticked = subst (λ (ts : List Tick). Ticked sets clears (s p).timeout ts (s q).timeout)
+          (sym (sets_of-append (openers e) (openers_of_all es)))
+          (Ticked-append sets clears (s p).timeout (s g.0).timeout (s q).timeout (sets_of (openers e))
+          (sets_of (openers_of_all es)) one.ticked more.ticked);
       ends = more.ends ∙ (ap (λ b. b || list_any opens es) one.ends ∙ sym (or-any (ended p) e es));
     }
 
 -- what each step keeps, a run keeps
-pub keeps_all : {P N : Type 0} (f : P → N) (steps : P → Event → P → Type 0) → ((p : P) (e : Event) (q : P) → steps p e q → f q ≡ f p)
+pub keeps_all : {P N : Type 0} (f : P → N) (steps : P → Event → P → Type 0)
+    → ((p : P) (e : Event) (q : P) → steps p e q → f q ≡ f p)
     → (p : P) (es : List Event) (q : P) → Performs steps p es q → f q ≡ f p
 keeps_all f steps each p [] q g = ap f g
 keeps_all f steps each p (e ∷ es) q g = keeps_all f steps each g.0 es q g.2 ∙ each p e g.0 g.1
 
 -- events that bytes add to a stream are those that they add after its past
-pub told_is : (past bs : List ℕ) (es : List Event) → events 1024 (past ++ bs) ≡ events 1024 past ++ es → es ≡ added past bs
+pub told_is : (past bs : List ℕ) (es : List Event) → events 1024 (past ++ bs) ≡ events 1024 past ++ es
+    → es ≡ added past bs
 told_is past bs es h = added-is 1024 past bs es h

@@ -54,9 +54,11 @@ sets_some (g ∷ gs) h = elim (cases_Bool (opens_group g)) [
   | inr e ↦ rw e (sets_some gs (let more : list_any opens_group gs ≡ true = rw e at h in more))
 ]
 
-module _ {T : Type 0} (sets : T → ℕ → T → Type 0) (clears : T → T → Type 0) (answers : T → Bool → Type 0) (exact : IsExact sets clears answers) where
+module _ {T : Type 0} (sets : T → ℕ → T → Type 0) (clears : T → T → Type 0) (answers : T → Bool
+    → Type 0) (exact : IsExact sets clears answers) where
   -- settings keep it pending
-  pub sets_keep : (t : T) (ts : List Tick) (u : T) → OnlySets ts → Ticked sets clears t ts u → Awaits answers t true → Awaits answers u true
+  pub sets_keep : (t : T) (ts : List Tick) (u : T) → OnlySets ts → Ticked sets clears t ts u → Awaits answers t true
+      → Awaits answers u true
   sets_keep t [] u no_more e a = subst (λ (x : T). Awaits answers x true) (sym e) a
   sets_keep t (Sets ∷ ts) u (one_more _ more) y a = sets_keep y.0 ts u more y.2 (exact.set t 150_000_000 y.0 y.1)
   sets_keep t (Clears ∷ ts) u h y a = elim h [ ]
@@ -67,7 +69,8 @@ module _ {T : Type 0} (sets : T → ℕ → T → Type 0) (clears : T → T → 
   some_set t (Sets ∷ ts) u (first_set _ more) y = sets_keep y.0 ts u more y.2 (exact.set t 150_000_000 y.0 y.1)
 
   -- after a clearing at the end it isn't
-  pub cleared_last : (t : T) (ts : List Tick) (u : T) → Ticked sets clears t (ts ++ Clears ∷ []) u → Awaits answers u false
+  pub cleared_last : (t : T) (ts : List Tick) (u : T) → Ticked sets clears t (ts ++ Clears ∷ []) u
+      → Awaits answers u false
   cleared_last t [] u y = subst (λ (x : T). Awaits answers x false) (sym y.2) (exact.cleared t y.0 y.1)
   cleared_last t (Sets ∷ ts) u y = cleared_last y.0 ts u y.2
   cleared_last t (Clears ∷ ts) u y = cleared_last y.0 ts u y.2

@@ -24,16 +24,23 @@ pub data Advances {T : Type 0} (sets : T → ℕ → T → Type 0) (clears : T �
   parses : (closed : Bool) (t : T) (parsed piece : List ℕ) → Plainly answers closed t → opens_in parsed piece ≡ false
       → Advances sets clears answers closed t parsed [] piece t (parsed ++ piece) [] (calls_from parsed piece)
   -- nothing is held, a byte opens one, and what remains is a piece
-  begins : (closed : Bool) (t : T) (parsed piece : List ℕ) (n : ℕ) (u : T) (t' : T) (parsed' held' : List ℕ) (calls : List Call)
+  begins : (closed : Bool) (t : T) (parsed piece : List ℕ) (n : ℕ) (u : T) (t' : T) (parsed' held' : List ℕ)
+      (calls : List Call)
       → Plainly answers closed t → OpensAt parsed piece n → Ticked sets clears t (ticks_from parsed (take n piece)) u
       → Advances sets clears answers false u (parsed ++ take n piece) [] (drop n piece) t' parsed' held' calls
-      → Advances sets clears answers closed t parsed [] piece t' parsed' held' (calls_from parsed (take n piece) ++ calls)
+      → Advances sets clears answers closed t parsed [] piece t' parsed' held' (calls_from parsed (take n piece)
+      ++ calls)
   -- an update is open, and there is room
-  settles : (t : T) (parsed held piece : List ℕ) (t' : T) (parsed' : List ℕ) (hold' : Option (List ℕ)) (calls : List Call) (ticks : List Tick)
-      → answers t true → length (held ++ piece) < limit → Settles parsed held piece parsed' hold' calls ticks → Ticked sets clears t ticks t'
+  settles : (t : T) (parsed held piece : List ℕ) (t' : T) (parsed' : List ℕ) (hold' : Option (List ℕ))
+      (calls : List Call) (ticks : List Tick)
+      → answers t true → length (held ++ piece) < limit → Settles parsed held piece parsed' hold' calls ticks
+      → Ticked sets clears t ticks t'
       → Advances sets clears answers false t parsed held piece t' parsed' (held_of hold') calls
   -- the hold is emptied first
-  empties : (t : T) (parsed held piece : List ℕ) (is_open : Bool) (u : T) (t' : T) (parsed' held' : List ℕ) (calls : List Call)
-      → answers t is_open → IsEmptied is_open held piece → Ticked sets clears t (ticks_from parsed held ++ Clears ∷ []) u
+  empties : (t : T) (parsed held piece : List ℕ) (is_open : Bool) (u : T) (t' : T) (parsed' held' : List ℕ)
+      (calls : List Call)
+      → answers t is_open → IsEmptied is_open held piece
+      → Ticked sets clears t (ticks_from parsed held ++ Clears ∷ []) u
       → Advances sets clears answers true u (parsed ++ held) [] piece t' parsed' held' calls
-      → Advances sets clears answers false t parsed held piece t' parsed' held' ((calls_from parsed held ++ closing) ++ calls)
+      → Advances sets clears answers false t parsed held piece t' parsed' held' ((calls_from parsed held ++ closing)
+      ++ calls)

@@ -18,8 +18,10 @@ without_closings = filter (λ c. not (is_closing c))
 -- these calls, with n closings put among them, are those
 pub data WithClosings : List Call → ℕ → List Call → Type 0 where
   none : WithClosings [] zero []
-  call : (c : Call) (cs : List Call) (n : ℕ) (calls : List Call) → WithClosings cs n calls → WithClosings (c ∷ cs) n (c ∷ calls)
-  closing : (cs : List Call) (n : ℕ) (calls : List Call) → WithClosings cs n calls → WithClosings cs (suc n) (unset_private_mode (Named SyncUpdate) ∷ calls)
+  call : (c : Call) (cs : List Call) (n : ℕ) (calls : List Call) → WithClosings cs n calls
+      → WithClosings (c ∷ cs) n (c ∷ calls)
+  closing : (cs : List Call) (n : ℕ) (calls : List Call) → WithClosings cs n calls
+      → WithClosings cs (suc n) (unset_private_mode (Named SyncUpdate) ∷ calls)
 
 -- how often the timeout is cleared: once for each emptying of the whole hold
 abbrev pub clearings : List Tick → ℕ

@@ -1,5 +1,6 @@
 -- What control sequences ask for.
-use Rattle.std.specs.Prelude.{ℕ, pos, ◌-◌, ◌%◌, Bool, true, false, ◌&&◌, List, [], ◌∷◌, Option, Some, None, nat_eq, if◌then◌else◌, map, replicate, unwrap_or}
+use Rattle.std.specs.Prelude.{ℕ, pos, ◌-◌, ◌%◌, Bool, true, false, ◌&&◌, List, [], ◌∷◌, Option, Some, None, nat_eq}
+use Rattle.std.specs.Prelude.{if◌then◌else◌, map, replicate, unwrap_or}
 use Rattle.vte_types.specs.Call as call
 use Rattle.vte_types.specs.Call.{Call}
 use Rattle.vte_types.specs.Lookup.{lookup}
@@ -45,17 +46,20 @@ identify_calls gs ms = if nat_eq (number_or 0 gs) 0 then call.identify_terminal 
 abbrev pub counted_rows : List (ℕ × (ℕ → Call))
 counted_rows =
     (64, call.insert_blank) ∷ (80, call.delete_chars) ∷ (88, call.erase_chars)
-    ∷ (65, call.move_up) ∷ (66, call.move_down) ∷ (101, call.move_down) ∷ (67, call.move_forward) ∷ (97, call.move_forward) ∷ (68, call.move_backward)
+    ∷ (65, call.move_up) ∷ (66, call.move_down) ∷ (101, call.move_down) ∷ (67, call.move_forward)
+    ∷ (97, call.move_forward) ∷ (68, call.move_backward)
     ∷ (69, call.move_down_and_cr) ∷ (70, call.move_up_and_cr) ∷ (76, call.insert_blank_lines) ∷ (77, call.delete_lines)
     ∷ (83, call.scroll_up) ∷ (84, call.scroll_down) ∷ (73, call.move_forward_tabs) ∷ (90, call.move_backward_tabs) ∷ []
 
 -- J
 abbrev pub clear_screen_rows : List (ℕ × List Call)
-clear_screen_rows = (0, call.clear_screen screen.Below ∷ []) ∷ (1, call.clear_screen screen.Above ∷ []) ∷ (2, call.clear_screen screen.All ∷ []) ∷ (3, call.clear_screen screen.Saved ∷ []) ∷ []
+clear_screen_rows = (0, call.clear_screen screen.Below ∷ []) ∷ (1, call.clear_screen screen.Above ∷ [])
+    ∷ (2, call.clear_screen screen.All ∷ []) ∷ (3, call.clear_screen screen.Saved ∷ []) ∷ []
 
 -- K
 abbrev pub clear_line_rows : List (ℕ × List Call)
-clear_line_rows = (0, call.clear_line line.Right ∷ []) ∷ (1, call.clear_line line.Left ∷ []) ∷ (2, call.clear_line line.All ∷ []) ∷ []
+clear_line_rows = (0, call.clear_line line.Right ∷ []) ∷ (1, call.clear_line line.Left ∷ [])
+    ∷ (2, call.clear_line line.All ∷ []) ∷ []
 
 -- g
 abbrev pub clear_tabs_rows : List (ℕ × List Call)
@@ -63,7 +67,8 @@ clear_tabs_rows = (0, call.clear_tabs tabs.Current ∷ []) ∷ (3, call.clear_ta
 
 -- t
 abbrev pub window_rows : List (ℕ × List Call)
-window_rows = (14, call.text_area_size_pixels ∷ []) ∷ (18, call.text_area_size_chars ∷ []) ∷ (22, call.push_title ∷ []) ∷ (23, call.pop_title ∷ []) ∷ []
+window_rows = (14, call.text_area_size_pixels ∷ []) ∷ (18, call.text_area_size_chars ∷ []) ∷ (22, call.push_title ∷ [])
+    ∷ (23, call.pop_title ∷ []) ∷ []
 
 -- b, with the last printed character
 abbrev pub repeat_calls : Option ℕ → ℕ → List Call
@@ -145,7 +150,11 @@ greater_rows =
 
 -- after =: u
 abbrev pub equals_rows : List (ℕ × (List (List ℕ) → List Call))
-equals_rows = (117, λ gs. call.set_keyboard_mode (keyboard_modes (number_or 0 gs)) (behaviour_of (number_or 0 (rest gs))) ∷ []) ∷ []
+equals_rows = (
+  117,
+  λ gs. call.set_keyboard_mode (keyboard_modes (number_or 0 gs))
+      (behaviour_of (number_or 0 (rest gs))) ∷ [],
+) ∷ []
 
 -- after <: u
 abbrev pub less_rows : List (ℕ × (List (List ℕ) → List Call))
@@ -156,7 +165,8 @@ abbrev pub char_path : ℕ → Option ScpCharPath
 char_path n = lookup n ((0, path.Default) ∷ (1, path.LTR) ∷ (2, path.RTL) ∷ [])
 
 abbrev pub update_mode : ℕ → Option ScpUpdateMode
-update_mode n = lookup n ((0, update.ImplementationDependant) ∷ (1, update.DataToPresentation) ∷ (2, update.PresentationToData) ∷ [])
+update_mode n = lookup n ((0, update.ImplementationDependant) ∷ (1, update.DataToPresentation)
+    ∷ (2, update.PresentationToData) ∷ [])
 
 abbrev pub scp_calls : Option ScpCharPath → Option ScpUpdateMode → List Call
 scp_calls None u = []
@@ -168,7 +178,8 @@ styled s blinks = call.set_cursor_style (Some (record { shape = s; blinking = bl
 
 abbrev pub style_rows : List (ℕ × List Call)
 style_rows =
-    (0, call.set_cursor_style None ∷ []) ∷ (1, styled shape.Block true) ∷ (2, styled shape.Block false) ∷ (3, styled shape.Underline true)
+    (0, call.set_cursor_style None ∷ []) ∷ (1, styled shape.Block true) ∷ (2, styled shape.Block false)
+    ∷ (3, styled shape.Underline true)
     ∷ (4, styled shape.Underline false) ∷ (5, styled shape.Beam true) ∷ (6, styled shape.Beam false) ∷ []
 
 abbrev pub space_rows : List (ℕ × (List (List ℕ) → List Call))
@@ -191,7 +202,8 @@ calls_by f rows gs = unwrap_or (lookup f rows) (λ gs. []) gs
 -- after one intermediate: ? > = < space $
 abbrev pub marked_rows : List (ℕ × List (ℕ × (List (List ℕ) → List Call)))
 marked_rows =
-    (63, question_rows) ∷ (62, greater_rows) ∷ (61, equals_rows) ∷ (60, less_rows) ∷ (32, space_rows) ∷ (36, dollar_rows) ∷ []
+    (63, question_rows) ∷ (62, greater_rows) ∷ (61, equals_rows) ∷ (60, less_rows) ∷ (32, space_rows)
+    ∷ (36, dollar_rows) ∷ []
 
 abbrev pub marked_calls : Option ℕ → List (List ℕ) → List ℕ → ℕ → List Call
 marked_calls last gs [] f = plain_calls last gs f

@@ -16,7 +16,8 @@ abbrev pub execute_rows : List (ℕ × List Call)
 execute_rows =
     (9, call.put_tab 1 ∷ []) ∷ (8, call.backspace ∷ []) ∷ (13, call.carriage_return ∷ [])
     ∷ (10, call.linefeed ∷ []) ∷ (11, call.linefeed ∷ []) ∷ (12, call.linefeed ∷ [])
-    ∷ (7, call.bell ∷ []) ∷ (26, call.substitute ∷ []) ∷ (15, call.set_active_charset i.G0 ∷ []) ∷ (14, call.set_active_charset i.G1 ∷ []) ∷ []
+    ∷ (7, call.bell ∷ []) ∷ (26, call.substitute ∷ []) ∷ (15, call.set_active_charset i.G0 ∷ [])
+    ∷ (14, call.set_active_charset i.G1 ∷ []) ∷ []
 
 abbrev pub execute_calls : ℕ → List Call
 execute_calls b = calls_at b execute_rows
@@ -24,8 +25,10 @@ execute_calls b = calls_at b execute_rows
 -- without intermediates: D E H M Z c 7 8 = >
 abbrev pub plain_escape_rows : List (ℕ × List Call)
 plain_escape_rows =
-    (68, call.linefeed ∷ []) ∷ (69, call.linefeed ∷ call.carriage_return ∷ []) ∷ (72, call.set_horizontal_tabstop ∷ []) ∷ (77, call.reverse_index ∷ [])
-    ∷ (90, call.identify_terminal None ∷ []) ∷ (99, call.reset_state ∷ []) ∷ (55, call.save_cursor_position ∷ []) ∷ (56, call.restore_cursor_position ∷ [])
+    (68, call.linefeed ∷ []) ∷ (69, call.linefeed ∷ call.carriage_return ∷ []) ∷ (72, call.set_horizontal_tabstop ∷ [])
+    ∷ (77, call.reverse_index ∷ [])
+    ∷ (90, call.identify_terminal None ∷ []) ∷ (99, call.reset_state ∷ []) ∷ (55, call.save_cursor_position ∷ [])
+    ∷ (56, call.restore_cursor_position ∷ [])
     ∷ (61, call.set_keypad_application_mode ∷ []) ∷ (62, call.unset_keypad_application_mode ∷ []) ∷ []
 
 -- after #: 8
@@ -38,7 +41,8 @@ charset_index b = lookup b ((40, i.G0) ∷ (41, i.G1) ∷ (42, i.G2) ∷ (43, i.
 
 -- after one of them: B 0
 abbrev pub charset_rows : CharsetIndex → List (ℕ × List Call)
-charset_rows g = (66, call.configure_charset g c.Ascii ∷ []) ∷ (48, call.configure_charset g c.SpecialCharacterAndLineDrawing ∷ []) ∷ []
+charset_rows g = (66, call.configure_charset g c.Ascii ∷ [])
+    ∷ (48, call.configure_charset g c.SpecialCharacterAndLineDrawing ∷ []) ∷ []
 
 abbrev pub charset_calls : Option CharsetIndex → ℕ → List Call
 charset_calls None b = []

@@ -7,7 +7,8 @@ use Rattle.std.specs.declared.time.Duration.{Duration}
 -- the kept moment is so many nanoseconds after one that the clock may answer, or the greatest
 abbrev pub ExpiresAfter : (Duration → Type 0) → ℕ → Option Duration → Type 0
 ExpiresAfter may_be_now d None = ⊥
-ExpiresAfter may_be_now d (Some end) = (now : Duration) × may_be_now now × (as_nanos end ≡ min (as_nanos now + d) max_nanos)
+ExpiresAfter may_be_now d (Some end) = (now : Duration) × may_be_now now
+    × (as_nanos end ≡ min (as_nanos now + d) max_nanos)
 
 -- the clock of a timeout, and the moment that it keeps
 abbrev pub clock_of : {C : Type 0} → StdSyncHandler C → C

@@ -1,5 +1,6 @@
 -- The hold of synchronized updates: which of the bytes given are parsed, and which are held.
-use Rattle.std.specs.Prelude.{ℕ, ◌-◌, true, false, List, [], ◌∷◌, ◌++◌, ◌≡◌, ◌<◌, ◌≤◌, ◌+◌, Option, None, Some, take, drop, length}
+use Rattle.std.specs.Prelude.{ℕ, ◌-◌, true, false, List, [], ◌∷◌, ◌++◌, ◌≡◌, ◌<◌, ◌≤◌, ◌+◌, Option, None, Some, take}
+use Rattle.std.specs.Prelude.{drop, length}
 use Rattle.vte_types.specs.Call.{Call, unset_private_mode}
 use Rattle.vte_types.specs.declared.mode.PrivateMode.TheVariants.{Named}
 use Rattle.vte_types.specs.declared.mode.NamedPrivateMode.TheVariants.{SyncUpdate}
@@ -32,7 +33,8 @@ pub data Renews (text : List ℕ) (from : ℕ) : List Tick → Type 0 where
   again : (k : ℕ) → from ≤ k → is_at start_mark text k ≡ true → Renews text from (Sets ∷ [])
   quiet : NoneFrom start_mark text from → Renews text from []
 
-pub record Renewed {T : Type 0} (sets : T → ℕ → T → Type 0) (clears : T → T → Type 0) (old : T) (text : List ℕ) (from : ℕ) (new : T) : Type 0 where
+pub record Renewed {T : Type 0} (sets : T → ℕ → T → Type 0) (clears : T → T
+    → Type 0) (old : T) (text : List ℕ) (from : ℕ) (new : T) : Type 0 where
   pub ticks : List Tick
   pub renews : Renews text from ticks
   pub ticked : Ticked sets clears old ticks new
@@ -44,11 +46,13 @@ pub data Settles : List ℕ → List ℕ → List ℕ → List ℕ → Option (L
   keeps : (parsed held piece : List ℕ) (ticks : List Tick) → Renews (held ++ piece) (unseen held) ticks
       → NoneFrom end_mark (held ++ piece) 0 → Settles parsed held piece parsed (Some (held ++ piece)) [] ticks
   -- an end mark and a start mark after it: that one and what follows stays held
-  replays : (parsed held piece : List ℕ) (ticks : List Tick) → Renews (held ++ piece) (unseen held) ticks → (n : ℕ) → IsCut (held ++ piece) n
+  replays : (parsed held piece : List ℕ) (ticks : List Tick) → Renews (held ++ piece) (unseen held) ticks → (n : ℕ)
+      → IsCut (held ++ piece) n
       → Settles parsed held piece (parsed ++ take n (held ++ piece)) (Some (drop n (held ++ piece)))
       (calls_from parsed (take n (held ++ piece))) (ticks ++ ticks_from parsed (take n (held ++ piece)))
   -- an end mark and no start mark after it
-  closes : (parsed held piece : List ℕ) (ticks : List Tick) → Renews (held ++ piece) (unseen held) ticks → Closes (held ++ piece)
+  closes : (parsed held piece : List ℕ) (ticks : List Tick) → Renews (held ++ piece) (unseen held) ticks
+      → Closes (held ++ piece)
       → Settles parsed held piece (parsed ++ (held ++ piece)) None
       (calls_from parsed (held ++ piece) ++ closing) (ticks ++ (ticks_from parsed (held ++ piece) ++ Clears ∷ []))
 
@@ -59,9 +63,11 @@ pub data Takes : List ℕ → Option (List ℕ) → List ℕ → List ℕ → Op
   parses : (parsed piece : List ℕ) → opens_in parsed piece ≡ false
       → Takes parsed None piece (parsed ++ piece) None (calls_from parsed piece) []
   -- a byte opens one, and what remains is a piece
-  begins : (parsed piece : List ℕ) (n : ℕ) (parsed' : List ℕ) (hold' : Option (List ℕ)) (calls : List Call) (ticks : List Tick)
+  begins : (parsed piece : List ℕ) (n : ℕ) (parsed' : List ℕ) (hold' : Option (List ℕ)) (calls : List Call)
+      (ticks : List Tick)
       → OpensAt parsed piece n → Takes (parsed ++ take n piece) (Some []) (drop n piece) parsed' hold' calls ticks
-      → Takes parsed None piece parsed' hold' (calls_from parsed (take n piece) ++ calls) (ticks_from parsed (take n piece) ++ ticks)
+      → Takes parsed None piece parsed' hold' (calls_from parsed (take n piece)
+      ++ calls) (ticks_from parsed (take n piece) ++ ticks)
   -- there is room for it
   settles : (parsed held piece parsed' : List ℕ) (hold' : Option (List ℕ)) (calls : List Call) (ticks : List Tick)
       → length (held ++ piece) < limit → Settles parsed held piece parsed' hold' calls ticks
@@ -69,7 +75,8 @@ pub data Takes : List ℕ → Option (List ℕ) → List ℕ → List ℕ → Op
   -- there is none: the hold is emptied, and the piece is parsed plainly
   overflows : (parsed held piece parsed' : List ℕ) (hold' : Option (List ℕ)) (calls : List Call) (ticks : List Tick)
       → limit ≤ length (held ++ piece) → Takes (parsed ++ held) None piece parsed' hold' calls ticks
-      → Takes parsed (Some held) piece parsed' hold' ((calls_from parsed held ++ closing) ++ calls) ((ticks_from parsed held ++ Clears ∷ []) ++ ticks)
+      → Takes parsed (Some held) piece parsed' hold' ((calls_from parsed held ++ closing)
+      ++ calls) ((ticks_from parsed held ++ Clears ∷ []) ++ ticks)
 
 abbrev pub held_of : Option (List ℕ) → List ℕ
 held_of None = []

@@ -1,5 +1,6 @@
 -- Laws of the table and of the hold.
-use Rattle.std.specs.Prelude.{ℕ, Bool, ◌||◌, ◌≡◌, ◌<◌, ◌+◌, ◌↔◌, true, false, List, [], ◌∷◌, ◌++◌, Option, None, Some, length}
+use Rattle.std.specs.Prelude.{ℕ, Bool, ◌||◌, ◌≡◌, ◌<◌, ◌+◌, ◌↔◌, true, false, List, [], ◌∷◌, ◌++◌, Option, None, Some}
+use Rattle.std.specs.Prelude.{length}
 use Rattle.std.specs.List.{list_any}
 use Rattle.vte_core.specs.Event.{Event, Csi}
 use Rattle.vte_core.specs.Stopping.{asks_after}
@@ -19,13 +20,16 @@ use Rattle.vte.specs.Moves.{Move, Runs, given}
 
 -- all bytes given are the parsed ones followed by the held ones
 abbrev pub ConservesBytes : Type 0
-ConservesBytes = (parsed : List ℕ) (hold : Option (List ℕ)) (piece parsed' : List ℕ) (hold' : Option (List ℕ)) (calls : List Call) (ticks : List Tick)
+ConservesBytes = (parsed : List ℕ) (hold : Option (List ℕ)) (piece parsed' : List ℕ) (hold' : Option (List ℕ))
+    (calls : List Call) (ticks : List Tick)
     → Takes parsed hold piece parsed' hold' calls ticks → parsed ++ (held_of hold ++ piece) ≡ parsed' ++ held_of hold'
 
 -- the same under any timeout
 abbrev pub ConservesUnderAny : {T : Type 0} → (T → ℕ → T → Type 0) → (T → T → Type 0) → (T → Bool → Type 0) → Type 0
-ConservesUnderAny {T} sets clears answers = (t : T) (parsed held piece : List ℕ) (t' : T) (parsed' held' : List ℕ) (calls : List Call)
-    → Advances sets clears answers false t parsed held piece t' parsed' held' calls → parsed ++ (held ++ piece) ≡ parsed' ++ held'
+ConservesUnderAny {T} sets clears answers = (t : T) (parsed held piece : List ℕ) (t' : T) (parsed' held' : List ℕ)
+    (calls : List Call)
+    → Advances sets clears answers false t parsed held piece t' parsed' held' calls
+    → parsed ++ (held ++ piece) ≡ parsed' ++ held'
 
 -- the calls of bytes that follow one another, what they print last, and how they open updates and set the timeout
 abbrev pub JoinsCalls : Type 0
@@ -42,35 +46,42 @@ JoinsTicks = (past a b : List ℕ) → ticks_from past (a ++ b) ≡ ticks_from p
 
 -- the calls of a piece are those of the bytes that it leads to parse, and a closing for each clearing of the timeout
 abbrev pub CallsAreOfParsed : Type 0
-CallsAreOfParsed = (parsed : List ℕ) (hold : Option (List ℕ)) (piece parsed' : List ℕ) (hold' : Option (List ℕ)) (calls : List Call) (ticks : List Tick)
+CallsAreOfParsed = (parsed : List ℕ) (hold : Option (List ℕ)) (piece parsed' : List ℕ) (hold' : Option (List ℕ))
+    (calls : List Call) (ticks : List Tick)
     → Takes parsed hold piece parsed' hold' calls ticks → Parses parsed parsed' (clearings ticks) calls
 
 -- the same under any timeout
-abbrev pub CallsAreOfParsedUnderAny : {T : Type 0} → (T → ℕ → T → Type 0) → (T → T → Type 0) → (T → Bool → Type 0) → Type 0
-CallsAreOfParsedUnderAny {T} sets clears answers = (t : T) (parsed held piece : List ℕ) (t' : T) (parsed' held' : List ℕ) (calls : List Call)
+abbrev pub CallsAreOfParsedUnderAny : {T : Type 0} → (T → ℕ → T → Type 0) → (T → T → Type 0) → (T → Bool → Type 0)
+    → Type 0
+CallsAreOfParsedUnderAny {T} sets clears answers =
+    (t : T) (parsed held piece : List ℕ) (t' : T) (parsed' held' : List ℕ) (calls : List Call)
     → Advances sets clears answers false t parsed held piece t' parsed' held' calls
     → (ticks : List Tick) × Ticked sets clears t ticks t' × Parses parsed parsed' (clearings ticks) calls
 
 -- calls that differ in closings alone are the same without them
 abbrev pub FiltersClosings : Type 0
-FiltersClosings = (cs : List Call) (n : ℕ) (calls : List Call) → WithClosings cs n calls → without_closings calls ≡ without_closings cs
+FiltersClosings = (cs : List Call) (n : ℕ) (calls : List Call) → WithClosings cs n calls
+    → without_closings calls ≡ without_closings cs
 
 -- a handler on which a closing does nothing goes where it would go without the closings
 abbrev pub IgnoresClosings : {H : Type 0} → (H → Call → H → Type 0) → Type 0
 IgnoresClosings {H} step = ((s t : H) → step s (unset_private_mode (Named SyncUpdate)) t → t ≡ s)
-    → (cs : List Call) (n : ℕ) (calls : List Call) (s t : H) → WithClosings cs n calls → Calls step s calls t → Calls step s cs t
+    → (cs : List Call) (n : ℕ) (calls : List Call) (s t : H) → WithClosings cs n calls → Calls step s calls t
+    → Calls step s cs t
 
 -- from a new processor on, under any timeout: all bytes given are the parsed ones followed by the held ones, and all
 -- calls are the table's calls of the events of the parsed bytes, with a closing for each clearing of the timeout
 abbrev pub MakesTableCalls : {T : Type 0} → (T → ℕ → T → Type 0) → (T → T → Type 0) → (T → Bool → Type 0) → Type 0
 MakesTableCalls {T} sets clears answers = (moves : List Move) (t t' : T) (parsed held : List ℕ) (calls : List Call)
     → Runs sets clears answers moves t [] [] t' parsed held calls → (given moves ≡ parsed ++ held)
-    × (ticks : List Tick) × Ticked sets clears t ticks t' × WithClosings (calls_of_all None (events 1024 parsed)) (clearings ticks) calls
+    × (ticks : List Tick) × Ticked sets clears t ticks t'
+    × WithClosings (calls_of_all None (events 1024 parsed)) (clearings ticks) calls
 
 -- an open update isn't torn: while there is room and no end mark has come whole, nothing is parsed and no call is made
 abbrev pub NeverTears : Type 0
 NeverTears = (parsed held piece parsed' : List ℕ) (hold' : Option (List ℕ)) (calls : List Call) (ticks : List Tick)
-    → Takes parsed (Some held) piece parsed' hold' calls ticks → length (held ++ piece) < limit → NoneFrom end_mark (held ++ piece) 0
+    → Takes parsed (Some held) piece parsed' hold' calls ticks → length (held ++ piece) < limit
+    → NoneFrom end_mark (held ++ piece) 0
     → (parsed' ≡ parsed) × (hold' ≡ Some (held ++ piece)) × (calls ≡ [])
 
 -- the calls of an event hold `set_private_mode(SyncUpdate)` exactly where it opens an update

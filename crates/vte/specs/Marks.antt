@@ -24,4 +24,5 @@ IsLast mark text i = (i < length text) × (is_at mark text i ≡ true) × NoneFr
 
 -- the first one from a place on stands here
 abbrev pub IsFirstFrom : List ℕ → List ℕ → ℕ → ℕ → Type 0
-IsFirstFrom mark text from i = (from ≤ i) × (i < length text) × (is_at mark text i ≡ true) × ((k : ℕ) → from ≤ k → k < i → is_at mark text k ≡ false)
+IsFirstFrom mark text from i = (from ≤ i) × (i < length text) × (is_at mark text i ≡ true)
+    × ((k : ℕ) → from ≤ k → k < i → is_at mark text k ≡ false)

@@ -21,11 +21,16 @@ given (Stops ∷ moves) = given moves
 pub data Runs {T : Type 0} (sets : T → ℕ → T → Type 0) (clears : T → T → Type 0) (answers : T → Bool → Type 0)
     : List Move → T → List ℕ → List ℕ → T → List ℕ → List ℕ → List Call → Type 0 where
   ends : (t : T) (parsed held : List ℕ) → Runs sets clears answers [] t parsed held t parsed held []
-  gives : (piece : List ℕ) (moves : List Move) (t : T) (parsed held : List ℕ) (mid : T) (mid_parsed mid_held : List ℕ) (calls : List Call)
-      (t' : T) (parsed' held' : List ℕ) (more : List Call) → Advances sets clears answers false t parsed held piece mid mid_parsed mid_held calls
+  gives : (piece : List ℕ) (moves : List Move) (t : T) (parsed held : List ℕ) (mid : T) (mid_parsed mid_held : List ℕ)
+      (calls : List Call)
+      (t' : T) (parsed' held' : List ℕ) (more : List Call)
+      → Advances sets clears answers false t parsed held piece mid mid_parsed mid_held calls
       → Runs sets clears answers moves mid mid_parsed mid_held t' parsed' held' more
       → Runs sets clears answers (Gives piece ∷ moves) t parsed held t' parsed' held' (calls ++ more)
   -- what was held is parsed, and the update is closed
-  stops : (moves : List Move) (t : T) (parsed held : List ℕ) (mid : T) (t' : T) (parsed' held' : List ℕ) (more : List Call)
-      → Ticked sets clears t (ticks_from parsed held ++ Clears ∷ []) mid → Runs sets clears answers moves mid (parsed ++ held) [] t' parsed' held' more
-      → Runs sets clears answers (Stops ∷ moves) t parsed held t' parsed' held' ((calls_from parsed held ++ closing) ++ more)
+  stops : (moves : List Move) (t : T) (parsed held : List ℕ) (mid : T) (t' : T) (parsed' held' : List ℕ)
+      (more : List Call)
+      → Ticked sets clears t (ticks_from parsed held ++ Clears ∷ []) mid
+      → Runs sets clears answers moves mid (parsed ++ held) [] t' parsed' held' more
+      → Runs sets clears answers (Stops ∷ moves) t parsed held t' parsed' held' ((calls_from parsed held ++ closing)
+      ++ more)

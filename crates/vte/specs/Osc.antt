@@ -1,5 +1,7 @@
 -- What operating system commands ask for.
-use Rattle.std.specs.Prelude.{ℕ, ◌+◌, ◌*◌, ◌-◌, ◌/◌, ◌^◌, ◌%◌, ◌≤◌, Bool, ◌&&◌, List, [], ◌∷◌, ◌++◌, Option, Some, None, nat_eq, nat_lt, ◌==◌, if◌then◌else◌, length, take, drop, map, unwrap_or, bytes_eq, codes, find, filter}
+use Rattle.std.specs.Prelude.{ℕ, ◌+◌, ◌*◌, ◌-◌, ◌/◌, ◌^◌, ◌%◌, ◌≤◌, Bool, ◌&&◌, List, [], ◌∷◌, ◌++◌, Option, Some, None}
+use Rattle.std.specs.Prelude.{nat_eq, nat_lt, ◌==◌, if◌then◌else◌, length, take, drop, map, unwrap_or, bytes_eq, codes}
+use Rattle.std.specs.Prelude.{find, filter}
 use Rattle.std.specs.List.{slice_split, concat, join_with_byte, starts_with, fold, flat_map, range_with_len}
 use Rattle.std.specs.Str.{is_utf8, trim, all_ascii_digits}
 use Rattle.std.specs.Fmt.{decimal}
@@ -65,7 +67,8 @@ abbrev pub third_rows : List (ℕ × ℕ)
 third_rows = (3, 1) ∷ (6, 2) ∷ (9, 3) ∷ (12, 4) ∷ []
 
 abbrev pub colour_of_thirds : ℕ → List ℕ → Option Rgb
-colour_of_thirds n ds = colour_of_parts (leading (take n ds)) (leading (take n (drop n ds))) (leading (take n (drop (2 * n) ds)))
+colour_of_thirds n ds = colour_of_parts (leading (take n ds)) (leading (take n (drop n ds)))
+    (leading (take n (drop (2 * n) ds)))
 
 abbrev pub hash_colour : List ℕ → Option Rgb
 hash_colour ds = option_and_then (λ n. colour_of_thirds n ds) (lookup (length ds) third_rows)
@@ -121,7 +124,8 @@ text_or_empty p = unwrap_or (utf8_or_none p) []
 
 -- its id: what follows the first `id=` at a part's beginning, of parts cut at `:`
 abbrev pub link_id : List ℕ → Option (List ℕ)
-link_id p = option_and_then (λ part. utf8_or_none (drop 3 part)) (find (λ part. starts_with nat_eq part (codes "id=")) (slice_split (λ c. c == 58) p))
+link_id p = option_and_then (λ part. utf8_or_none (drop 3 part))
+    (find (λ part. starts_with nat_eq part (codes "id=")) (slice_split (λ c. c == 58) p))
 
 abbrev pub link_to : List ℕ → List ℕ → Option Link
 link_to p uri = if length uri == 0 then None else Some (record { id = link_id p; uri = uri })
@@ -137,17 +141,20 @@ two_digits n = (48 + n / 10) ∷ (48 + n % 10) ∷ []
 
 abbrev pub dynamic_calls : ℕ → List (List ℕ) → List ℕ → List Call
 dynamic_calls n [] end = []
-dynamic_calls n (p ∷ ps) end = if nat_lt 12 n then [] else colour_calls (two_digits n) (246 + n) end p ++ dynamic_calls (n + 1) ps end
+dynamic_calls n (p ∷ ps) end = if nat_lt 12 n then []
+    else colour_calls (two_digits n) (246 + n) end p ++ dynamic_calls (n + 1) ps end
 
 -- 22: a pointer by name
 abbrev pub icon_calls : List (List ℕ) → List Call
 icon_calls [] = []
-icon_calls (p ∷ []) = map call.set_mouse_cursor_icon (option_to_list (find (λ icon. bytes_eq (name_of icon) p) all_icons))
+icon_calls (p ∷ []) = map call.set_mouse_cursor_icon
+    (option_to_list (find (λ icon. bytes_eq (name_of icon) p) all_icons))
 icon_calls (p ∷ q ∷ ps) = []
 
 -- 50: a cursor's shape
 abbrev pub shape_rows : List (ℕ × List Call)
-shape_rows = (48, call.set_cursor_shape shape.Block ∷ []) ∷ (49, call.set_cursor_shape shape.Beam ∷ []) ∷ (50, call.set_cursor_shape shape.Underline ∷ []) ∷ []
+shape_rows = (48, call.set_cursor_shape shape.Block ∷ []) ∷ (49, call.set_cursor_shape shape.Beam ∷ [])
+    ∷ (50, call.set_cursor_shape shape.Underline ∷ []) ∷ []
 
 abbrev pub shape_calls : List ℕ → List Call
 shape_calls [] = []
@@ -165,7 +172,8 @@ clipboard_of (b ∷ bs) = b
 abbrev pub clipboard_calls : List (List ℕ) → List ℕ → List Call
 clipboard_calls [] end = []
 clipboard_calls (s ∷ []) end = []
-clipboard_calls (s ∷ d ∷ ps) end = if bytes_eq d (codes "?") then call.clipboard_load (clipboard_of s) end ∷ [] else call.clipboard_store (clipboard_of s) d ∷ []
+clipboard_calls (s ∷ d ∷ ps) end = if bytes_eq d (codes "?") then call.clipboard_load (clipboard_of s) end ∷ []
+    else call.clipboard_store (clipboard_of s) d ∷ []
 
 -- 104: colours of the palette, all where none is named
 abbrev pub index_resets : List ℕ → List Call

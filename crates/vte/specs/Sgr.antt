@@ -1,5 +1,6 @@
 -- What the groups of an SGR sequence ask for.
-use Rattle.std.specs.Prelude.{ℕ, List, [], ◌∷◌, ◌++◌, Option, Some, None, nat_eq, nat_lt, if◌then◌else◌, length, drop, unwrap_or}
+use Rattle.std.specs.Prelude.{ℕ, List, [], ◌∷◌, ◌++◌, Option, Some, None, nat_eq, nat_lt, if◌then◌else◌, length, drop}
+use Rattle.std.specs.Prelude.{unwrap_or}
 use Rattle.std.specs.Option.{option_map, option_to_list}
 use Rattle.vte_types.specs.Lookup.{lookup}
 use Rattle.vte_types.specs.declared.color.Color.{Color}
@@ -13,23 +14,34 @@ use Rattle.vte.specs.declared.sgr.Target.TheVariants.{Foreground, Background, Un
 -- a group of one number
 abbrev pub singles : List (ℕ × Attr)
 singles =
-    (0, a.Reset) ∷ (1, a.Bold) ∷ (2, a.Dim) ∷ (3, a.Italic) ∷ (4, a.Underline) ∷ (5, a.BlinkSlow) ∷ (6, a.BlinkFast) ∷ (7, a.Reverse)
-    ∷ (8, a.Hidden) ∷ (9, a.Strike) ∷ (21, a.CancelBold) ∷ (22, a.CancelBoldDim) ∷ (23, a.CancelItalic) ∷ (24, a.CancelUnderline)
+    (0, a.Reset) ∷ (1, a.Bold) ∷ (2, a.Dim) ∷ (3, a.Italic) ∷ (4, a.Underline) ∷ (5, a.BlinkSlow) ∷ (6, a.BlinkFast)
+    ∷ (7, a.Reverse)
+    ∷ (8, a.Hidden) ∷ (9, a.Strike) ∷ (21, a.CancelBold) ∷ (22, a.CancelBoldDim) ∷ (23, a.CancelItalic)
+    ∷ (24, a.CancelUnderline)
     ∷ (25, a.CancelBlink) ∷ (27, a.CancelReverse) ∷ (28, a.CancelHidden) ∷ (29, a.CancelStrike)
-    ∷ (30, a.Foreground (Named c.Black)) ∷ (31, a.Foreground (Named c.Red)) ∷ (32, a.Foreground (Named c.Green)) ∷ (33, a.Foreground (Named c.Yellow))
-    ∷ (34, a.Foreground (Named c.Blue)) ∷ (35, a.Foreground (Named c.Magenta)) ∷ (36, a.Foreground (Named c.Cyan)) ∷ (37, a.Foreground (Named c.White))
+    ∷ (30, a.Foreground (Named c.Black)) ∷ (31, a.Foreground (Named c.Red)) ∷ (32, a.Foreground (Named c.Green))
+    ∷ (33, a.Foreground (Named c.Yellow))
+    ∷ (34, a.Foreground (Named c.Blue)) ∷ (35, a.Foreground (Named c.Magenta)) ∷ (36, a.Foreground (Named c.Cyan))
+    ∷ (37, a.Foreground (Named c.White))
     ∷ (39, a.Foreground (Named c.Foreground))
-    ∷ (40, a.Background (Named c.Black)) ∷ (41, a.Background (Named c.Red)) ∷ (42, a.Background (Named c.Green)) ∷ (43, a.Background (Named c.Yellow))
-    ∷ (44, a.Background (Named c.Blue)) ∷ (45, a.Background (Named c.Magenta)) ∷ (46, a.Background (Named c.Cyan)) ∷ (47, a.Background (Named c.White))
+    ∷ (40, a.Background (Named c.Black)) ∷ (41, a.Background (Named c.Red)) ∷ (42, a.Background (Named c.Green))
+    ∷ (43, a.Background (Named c.Yellow))
+    ∷ (44, a.Background (Named c.Blue)) ∷ (45, a.Background (Named c.Magenta)) ∷ (46, a.Background (Named c.Cyan))
+    ∷ (47, a.Background (Named c.White))
     ∷ (49, a.Background (Named c.Background)) ∷ (59, a.UnderlineColor None)
-    ∷ (90, a.Foreground (Named c.BrightBlack)) ∷ (91, a.Foreground (Named c.BrightRed)) ∷ (92, a.Foreground (Named c.BrightGreen)) ∷ (93, a.Foreground (Named c.BrightYellow))
-    ∷ (94, a.Foreground (Named c.BrightBlue)) ∷ (95, a.Foreground (Named c.BrightMagenta)) ∷ (96, a.Foreground (Named c.BrightCyan)) ∷ (97, a.Foreground (Named c.BrightWhite))
-    ∷ (100, a.Background (Named c.BrightBlack)) ∷ (101, a.Background (Named c.BrightRed)) ∷ (102, a.Background (Named c.BrightGreen)) ∷ (103, a.Background (Named c.BrightYellow))
-    ∷ (104, a.Background (Named c.BrightBlue)) ∷ (105, a.Background (Named c.BrightMagenta)) ∷ (106, a.Background (Named c.BrightCyan)) ∷ (107, a.Background (Named c.BrightWhite)) ∷ []
+    ∷ (90, a.Foreground (Named c.BrightBlack)) ∷ (91, a.Foreground (Named c.BrightRed))
+    ∷ (92, a.Foreground (Named c.BrightGreen)) ∷ (93, a.Foreground (Named c.BrightYellow))
+    ∷ (94, a.Foreground (Named c.BrightBlue)) ∷ (95, a.Foreground (Named c.BrightMagenta))
+    ∷ (96, a.Foreground (Named c.BrightCyan)) ∷ (97, a.Foreground (Named c.BrightWhite))
+    ∷ (100, a.Background (Named c.BrightBlack)) ∷ (101, a.Background (Named c.BrightRed))
+    ∷ (102, a.Background (Named c.BrightGreen)) ∷ (103, a.Background (Named c.BrightYellow))
+    ∷ (104, a.Background (Named c.BrightBlue)) ∷ (105, a.Background (Named c.BrightMagenta))
+    ∷ (106, a.Background (Named c.BrightCyan)) ∷ (107, a.Background (Named c.BrightWhite)) ∷ []
 
 -- 4 and a style
 abbrev pub underlines : List (ℕ × Attr)
-underlines = (0, a.CancelUnderline) ∷ (2, a.DoubleUnderline) ∷ (3, a.Undercurl) ∷ (4, a.DottedUnderline) ∷ (5, a.DashedUnderline) ∷ []
+underlines = (0, a.CancelUnderline) ∷ (2, a.DoubleUnderline) ∷ (3, a.Undercurl) ∷ (4, a.DottedUnderline)
+    ∷ (5, a.DashedUnderline) ∷ []
 
 abbrev pub coloured : Target → Color → Attr
 coloured Foreground x = a.Foreground x
@@ -41,7 +53,8 @@ target_of n = lookup n ((38, Foreground) ∷ (48, Background) ∷ (58, Underline
 
 -- the colour of red, green and blue, where each is below 256
 abbrev pub rgb_colour : ℕ → ℕ → ℕ → Option Color
-rgb_colour r g b = if nat_lt r 256 then (if nat_lt g 256 then (if nat_lt b 256 then Some (Spec (record { r = r; g = g; b = b })) else None) else None) else None
+rgb_colour r g b = if nat_lt r 256 then (if nat_lt g 256
+    then (if nat_lt b 256 then Some (Spec (record { r = r; g = g; b = b })) else None) else None) else None
 
 abbrev pub indexed_colour : ℕ → Option Color
 indexed_colour i = if nat_lt i 256 then Some (Indexed i) else None
@@ -112,7 +125,9 @@ abbrev pub attributes : Awaits → List (List ℕ) → List Attr
 attributes a [] = []
 attributes nothing (g ∷ gs) = option_to_list (group_attr g) ++ attributes (awaited g) gs
 attributes (selector t) (g ∷ gs) = attributes (chosen t (first g)) gs
-attributes (index t) (g ∷ gs) = option_to_list (option_map (coloured t) (indexed_colour (first g))) ++ attributes nothing gs
+attributes (index t) (g ∷ gs) = option_to_list (option_map (coloured t) (indexed_colour (first g)))
+    ++ attributes nothing gs
 attributes (red t) (g ∷ gs) = attributes (if nat_lt (first g) 256 then green t (first g) else nothing) gs
 attributes (green t r) (g ∷ gs) = attributes (if nat_lt (first g) 256 then blue t r (first g) else nothing) gs
-attributes (blue t r gr) (g ∷ gs) = option_to_list (option_map (coloured t) (rgb_colour r gr (first g))) ++ attributes nothing gs
+attributes (blue t r gr) (g ∷ gs) = option_to_list (option_map (coloured t) (rgb_colour r gr (first g)))
+    ++ attributes nothing gs

@@ -21,23 +21,29 @@ pub record StandsAt {T A : Type 0} (p : Processor T A) (parsed held : List ℕ) 
   pub no_end : NoneFrom end_mark held 0
 
 -- the same, where the timeout says whether an update is open
-pub record HoldsAt {T A : Type 0} (answers : T → Bool → Type 0) (p : Processor T A) (parsed : List ℕ) (hold : Option (List ℕ)) : Type 0 where
+pub record HoldsAt {T A : Type 0} (answers : T → Bool
+    → Type 0) (p : Processor T A) (parsed : List ℕ) (hold : Option (List ℕ)) : Type 0 where
   pub stands : StandsAt p parsed (held_of hold)
   pub awaits : Awaits answers (timeout_of p) (is_some hold)
 
 -- what a piece led to
-pub record Advanced {T A H : Type 0} (sets : T → ℕ → T → Type 0) (clears : T → T → Type 0) (answers : T → Bool → Type 0) (step : H → Call → H → Type 0)
-    (closed : Bool) (old : Processor T A) (parsed held piece : List ℕ) (h : H) (new : Processor T A) (h' : H) : Type 0 where
+pub record Advanced {T A H : Type 0} (sets : T → ℕ → T → Type 0) (clears : T → T → Type 0) (answers : T → Bool
+    → Type 0) (step : H → Call → H → Type 0)
+    (closed : Bool) (old : Processor T A) (parsed held piece : List ℕ) (h : H) (new : Processor T A) (h' : H) : Type
+    0 where
   pub parsed' : List ℕ
   pub held' : List ℕ
   pub calls : List Call
-  pub advances : Advances sets clears answers closed (timeout_of old) parsed held piece (timeout_of new) parsed' held' calls
+  pub advances : Advances sets clears answers closed (timeout_of old) parsed held piece (timeout_of new) parsed' held'
+      calls
   pub stands : StandsAt new parsed' held'
   pub goes : Calls step h calls h'
 
 -- what a piece led to, under a timeout that is pending exactly from setting to clearing
-pub record Taken {T A H : Type 0} (sets : T → ℕ → T → Type 0) (clears : T → T → Type 0) (answers : T → Bool → Type 0) (step : H → Call → H → Type 0)
-    (old : Processor T A) (parsed : List ℕ) (hold : Option (List ℕ)) (piece : List ℕ) (h : H) (new : Processor T A) (h' : H) : Type 0 where
+pub record Taken {T A H : Type 0} (sets : T → ℕ → T → Type 0) (clears : T → T → Type 0) (answers : T → Bool
+    → Type 0) (step : H → Call → H → Type 0)
+    (old : Processor T A) (parsed : List ℕ) (hold : Option (List ℕ)) (piece : List ℕ) (h : H) (new : Processor T A)
+    (h' : H) : Type 0 where
   pub parsed' : List ℕ
   pub hold' : Option (List ℕ)
   pub calls : List Call
@@ -80,7 +86,8 @@ pub record Begun {T A H : Type 0} (sets : T → ℕ → T → Type 0) (clears : 
   pub parsed_so : Parsed sets clears step old parsed (take n piece) held h new h'
 
 -- nothing in the piece opened one
-pub record Unopened {T A H : Type 0} (sets : T → ℕ → T → Type 0) (clears : T → T → Type 0) (step : H → Call → H → Type 0)
+pub record Unopened {T A H : Type 0} (sets : T → ℕ → T → Type 0) (clears : T → T → Type 0) (step : H → Call → H
+    → Type 0)
     (old : Processor T A) (parsed held piece : List ℕ) (h : H) (new : Processor T A) (h' : H) : Type 0 where
   pub none : opens_in parsed piece ≡ false
   pub same : timeout_of new ≡ timeout_of old
@@ -88,12 +95,14 @@ pub record Unopened {T A H : Type 0} (sets : T → ℕ → T → Type 0) (clears
   pub goes : Calls step h (calls_from parsed piece) h'
 
 -- what the beginning of a piece led to, where it goes on with the rest
-pub record GoesOn {T A H : Type 0} (sets : T → ℕ → T → Type 0) (clears : T → T → Type 0) (answers : T → Bool → Type 0) (step : H → Call → H → Type 0)
+pub record GoesOn {T A H : Type 0} (sets : T → ℕ → T → Type 0) (clears : T → T → Type 0) (answers : T → Bool
+    → Type 0) (step : H → Call → H → Type 0)
     (old : Processor T A) (parsed held piece rest : List ℕ) (h : H) (new : Processor T A) (h' : H) : Type 0 where
   pub parsed' : List ℕ
   pub held' : List ℕ
   pub calls : List Call
   pub stands : StandsAt new parsed' held'
   pub goes : Calls step h calls h'
-  pub further : (t : T) (q k : List ℕ) (cs : List Call) → Advances sets clears answers false (timeout_of new) parsed' held' rest t q k cs
+  pub further : (t : T) (q k : List ℕ) (cs : List Call)
+      → Advances sets clears answers false (timeout_of new) parsed' held' rest t q k cs
       → Advances sets clears answers false (timeout_of old) parsed held piece t q k (calls ++ cs)

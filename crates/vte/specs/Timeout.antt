@@ -27,6 +27,7 @@ abbrev pub Awaits : {T : Type 0} → (T → Bool → Type 0) → T → Bool → 
 Awaits answers t want = (b : Bool) → answers t b → b ≡ want
 
 -- a timeout that is pending exactly from setting to clearing
-pub record IsExact {T : Type 0} (sets : T → ℕ → T → Type 0) (clears : T → T → Type 0) (answers : T → Bool → Type 0) : Type 0 where
+pub record IsExact {T : Type 0} (sets : T → ℕ → T → Type 0) (clears : T → T → Type 0) (answers : T → Bool
+    → Type 0) : Type 0 where
   pub set : (s : T) (d : ℕ) (t : T) → sets s d t → Awaits answers t true
   pub cleared : (s t : T) → clears s t → Awaits answers t false

@@ -1,8 +1,10 @@
 //! Colours and numbers in texts.
-ghost use Rattle.std.specs.Prelude.{◌≡◌, ◌==◌, ◌<◌, ◌≤◌, ◌+◌, ◌-◌, ◌*◌, ◌&&◌, length, nat_lt, Some, None, if◌then◌else◌};
+ghost use Rattle.std.specs.Prelude.{◌≡◌, ◌==◌, ◌<◌, ◌≤◌, ◌+◌, ◌-◌, ◌*◌, ◌&&◌, length, nat_lt, Some, None};
+ghost use Rattle.std.specs.Prelude.{if◌then◌else◌};
 ghost use Rattle.std.specs.Char.{is_ascii_digit};
 ghost use Rattle.std.specs.List.{slice_split};
-ghost use Rattle.vte.specs.Osc.{colour_of_text, hash_colour, colour_of_thirds, leading, three_parts, scaled, byte_number};
+ghost use Rattle.vte.specs.Osc.{colour_of_text, hash_colour, colour_of_thirds, leading, three_parts, scaled};
+ghost use Rattle.vte.specs.Osc.{byte_number};
 
 use crate::split::split_first;
 use vte_types::hex;
@@ -107,7 +109,8 @@ pub fn parse_number(digits: &[u8]) -> Option<u8>
 
 /// A number with one more decimal digit.
 fn one_more(number: u8, digit: u8) -> Option<u8>
-    ensures { result ≡ (if is_ascii_digit digit && nat_lt (number * 10 + (digit - 48)) 256 then Some (number * 10 + (digit - 48)) else None) }
+    ensures { result ≡ (if is_ascii_digit digit && nat_lt (number * 10 + (digit - 48)) 256
+        then Some (number * 10 + (digit - 48)) else None) }
 {
     if !digit.is_ascii_digit() {
         return None;

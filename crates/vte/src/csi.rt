@@ -1,12 +1,18 @@
 //! Control sequences.
-ghost use Rattle.std.specs.Prelude.{◌≡◌, ◌≢◌, ◌≤◌, map};
+ghost use Rattle.std.specs.Prelude.{◌≡◌, ◌≢◌, ◌≤◌, ◌<◌, ℕ, Option, length, map};
 ghost use Rattle.std.specs.List.{list_any};
-ghost use Rattle.vte_types.specs.Call.{Calls, set_mode as set_mode_call, unset_mode as unset_mode_call, set_private_mode as set_private_call, unset_private_mode as unset_private_call};
+ghost use Rattle.vte_types.specs.Call.{Calls, set_mode as set_mode_call, unset_mode as unset_mode_call};
+ghost use Rattle.vte_types.specs.Call.{set_private_mode as set_private_call, unset_private_mode as unset_private_call};
 ghost use Rattle.vte_types.specs.Lookup.{lookup};
 ghost use Rattle.vte_types.specs.Mode.{mode_of, private_mode_of};
 ghost use Rattle.vte.specs.Escape.{calls_at};
 ghost use Rattle.vte.specs.Sgr.{first};
-ghost use Rattle.vte.specs.Csi.{number_or, rest, identify_calls, plain_calls, other_rows, other_calls, place_rows, place_calls, clear_screen_rows, clear_line_rows, clear_tabs_rows, window_rows, repeat_calls, keyboard_modes, behaviour_of, asks_four, calls_by, greater_rows, equals_rows, less_rows, space_rows, dollar_rows, question_dollar_rows, question_rows, char_path, update_mode, style_rows, marked_calls, csi_calls, opens_group, opening_groups};
+ghost use Rattle.vte.specs.Csi.{number_or, rest, identify_calls, plain_calls, other_rows, other_calls, place_rows};
+ghost use Rattle.vte.specs.Csi.{place_calls, clear_screen_rows, clear_line_rows, clear_tabs_rows, window_rows};
+ghost use Rattle.vte.specs.Csi.{repeat_calls, keyboard_modes, behaviour_of, asks_four, calls_by, greater_rows};
+ghost use Rattle.vte.specs.Csi.{equals_rows, less_rows, space_rows, dollar_rows, question_dollar_rows, question_rows};
+ghost use Rattle.vte.specs.Csi.{char_path, update_mode, style_rows, marked_calls, csi_calls, opens_group};
+ghost use Rattle.vte.specs.Csi.{opening_groups};
 ghost use Rattle.vte.specs.Timeout.{Ticked, sets_of};
 
 use crate::sgr::{next_number, sgr};
@@ -49,15 +55,39 @@ pub fn csi<H: Handler, T: Timeout>(
     action: char,
 ) -> bool
     ensures calls { Calls H.step handler.old (csi_calls last params.now intermediates.now action) handler.new }
-    ensures timeout { Ticked T.sets T.clears timeout.old (sets_of (opening_groups params.now intermediates.now action)) timeout.new }
+    ensures timeout { Ticked T.sets T.clears timeout.old (sets_of (opening_groups params.now intermediates.now action))
+        timeout.new }
     ensures opened { result ≡ list_any opens_group (opening_groups params.now intermediates.now action) }
 {
     if action == 'c' {
         identify_terminal(handler, params.iter(), intermediates);
         return false;
     }
+    if intermediates.is_empty() {
+        plain(handler, last, params, action);
+        return false;
+    }
+    marked(handler, timeout, params, intermediates, action)
+}
+
+/// The calls of a control sequence with intermediates, and whether it opened an update. It isn't inlined, so that
+/// sequences without intermediates need no room for what it lends.
+#[inline(never)]
+fn marked<H: Handler, T: Timeout>(
+    handler: &mut H,
+    timeout: &mut T,
+    params: &Params,
+    intermediates: &[u8],
+    action: char,
+) -> bool
+    requires { 0 < length intermediates.now }
+    ensures calls { (last : Option ℕ)
+        → Calls H.step handler.old (marked_calls last params.now intermediates.now action) handler.new }
+    ensures timeout { Ticked T.sets T.clears timeout.old (sets_of (opening_groups params.now intermediates.now action))
+        timeout.new }
+    ensures opened { result ≡ list_any opens_group (opening_groups params.now intermediates.now action) }
+{
     match intermediates {
-        [] => plain(handler, last, params, action),
         [b'?'] if action == 'h' => return set_private_modes(handler, timeout, params.iter()),
         [b'?'] => question(handler, params.iter(), action),
         [b'>'] => greater(handler, params.iter(), action),
@@ -236,7 +266,8 @@ fn set_private_modes<H: Handler, T: Timeout>(
     timeout: &mut T,
     mut groups: ParamsIter<'_>,
 ) -> bool
-    ensures calls { Calls H.step handler.old (map (λ g. set_private_call (private_mode_of (first g))) groups.entry) handler.new }
+    ensures calls { Calls H.step handler.old (map (λ g. set_private_call (private_mode_of (first g))) groups.entry)
+        handler.new }
     ensures timeout { Ticked T.sets T.clears timeout.old (sets_of groups.entry) timeout.new }
     ensures opened { result ≡ list_any opens_group groups.entry }
 {
@@ -253,7 +284,8 @@ fn set_private_modes<H: Handler, T: Timeout>(
 
 /// `?l`.
 fn unset_private_modes<H: Handler>(handler: &mut H, mut groups: ParamsIter<'_>)
-    ensures { Calls H.step handler.old (map (λ g. unset_private_call (private_mode_of (first g))) groups.entry) handler.new }
+    ensures { Calls H.step handler.old (map (λ g. unset_private_call (private_mode_of (first g))) groups.entry)
+        handler.new }
 {
     while let Some(number) = next_number(&mut groups) {
         handler.unset_private_mode(PrivateMode::new(number));

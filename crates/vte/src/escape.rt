@@ -1,7 +1,8 @@
 //! Controls and escape sequences.
 ghost use Rattle.std.specs.Prelude.{◌≡◌};
 ghost use Rattle.vte_types.specs.Call.{Calls};
-ghost use Rattle.vte.specs.Escape.{calls_at, execute_calls, escape_calls, plain_escape_rows, charset_calls, charset_index};
+ghost use Rattle.vte.specs.Escape.{calls_at, execute_calls, escape_calls, plain_escape_rows, charset_calls};
+ghost use Rattle.vte.specs.Escape.{charset_index};
 
 use vte_types::C0;
 use vte_types::charset::{CharsetIndex, StandardCharset};

@@ -1,6 +1,11 @@
 //! Laws of the calls, of the hold and of the values, each as the contract of a function that does nothing.
-ghost use Rattle.vte.specs.Laws.{ConservesBytes, ConservesUnderAny, NeverTears, JoinsCalls, JoinsPrinted, JoinsOpenings, JoinsTicks, CallsAreOfParsed, CallsAreOfParsedUnderAny, FiltersClosings, IgnoresClosings, MakesTableCalls, OpensAsCalled, OpensAsAllCalled, OpensByStarts, AsksWhereOpened};
-ghost use Rattle.vte.specs.Frames.{StartMarksOpen, StartMarksCall, EndMarksCall, MarksEndAtGround, MovesFollow, WholeFramesAreParsed, FramesAreNeverTorn, OnlyAMarkIsBegun, FramesEndAtGround, PartsOpenNothing, TextsMakeFrames};
+ghost use Rattle.vte.specs.Laws.{ConservesBytes, ConservesUnderAny, NeverTears, JoinsCalls, JoinsPrinted};
+ghost use Rattle.vte.specs.Laws.{JoinsOpenings, JoinsTicks, CallsAreOfParsed, CallsAreOfParsedUnderAny};
+ghost use Rattle.vte.specs.Laws.{FiltersClosings, IgnoresClosings, MakesTableCalls, OpensAsCalled, OpensAsAllCalled};
+ghost use Rattle.vte.specs.Laws.{OpensByStarts, AsksWhereOpened};
+ghost use Rattle.vte.specs.Frames.{StartMarksOpen, StartMarksCall, EndMarksCall, MarksEndAtGround, MovesFollow};
+ghost use Rattle.vte.specs.Frames.{WholeFramesAreParsed, FramesAreNeverTorn, OnlyAMarkIsBegun, FramesEndAtGround};
+ghost use Rattle.vte.specs.Frames.{PartsOpenNothing, TextsMakeFrames};
 
 pub use crate::std_sync_handler::std_sync_handler_is_exact;
 use crate::timeout::Timeout;
@@ -43,15 +48,15 @@ pub fn closings_are_ignored<H: Handler>()
 {}
 
 /// Whatever pieces and stops a new processor is given, and whatever its timeout, all bytes given are the parsed ones
-/// followed by the held ones, and all its calls are the table's calls of the events of the parsed bytes, with one closing
-/// call for each emptying of the whole hold, which clears the timeout once.
+/// followed by the held ones, and all its calls are the table's calls of the events of the parsed bytes, with one
+/// closing call for each emptying of the whole hold, which clears the timeout once.
 pub fn calls_are_of_the_table<T: Timeout>()
     ensures { MakesTableCalls T.sets T.clears T.answers }
 {}
 
-/// An update is opened by exactly those events whose calls hold `set_private_mode` of `SyncUpdate`: each `CSI ? .. h` of
-/// which nothing was left out and which has a group that begins with 2026. After the byte that completes it the parser
-/// asks whether its performer is terminated.
+/// An update is opened by exactly those events whose calls hold `set_private_mode` of `SyncUpdate`: each `CSI ? .. h`
+/// of which nothing was left out and which has a group that begins with 2026. After the byte that completes it the
+/// parser asks whether its performer is terminated.
 pub fn openings_are_called()
     ensures event { OpensAsCalled }
     ensures events { OpensAsAllCalled }

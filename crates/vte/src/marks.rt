@@ -13,7 +13,8 @@ pub const END: [u8; 8] = [0x1b, b'[', b'?', b'2', b'0', b'2', b'6', b'l'];
 /// Where the last mark stands, of those from a place on. It is looked for only where its first byte stands.
 pub fn last_mark(text: &[u8], mark: &[u8; 8], from: usize) -> Option<usize>
     requires { from ≤ length text.now }
-    ensures { MatchOption result (NoneFrom mark.now text.now from) (IsLast mark.now text.now) }
+    ensures { MatchOption result (NoneFrom mark.now text.now from)
+        (λ i. (from ≤ i) × IsLast mark.now text.now i) }
 {
     let mut end = text.len();
     while let Some(at) = memrchr(mark[0], &text[from..end]) {

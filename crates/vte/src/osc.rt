@@ -1,12 +1,15 @@
 //! Operating system commands (xterm's control sequences, "Operating System Commands").
-ghost use Rattle.std.specs.Prelude.{◌≡◌, ◌≤◌, ◌++◌, ◌∷◌, [], codes, map, filter, length, nat_lt, option_map, Some, None, if◌then◌else◌};
+ghost use Rattle.std.specs.Prelude.{◌≡◌, ◌≤◌, ◌++◌, ◌∷◌, [], codes, map, filter, length, nat_lt, option_map, Some};
+ghost use Rattle.std.specs.Prelude.{None, if◌then◌else◌};
 ghost use Rattle.std.specs.List.{flat_map, join_with_byte};
 ghost use Rattle.std.specs.Str.{is_utf8};
 ghost use Rattle.std.specs.Fmt.{decimal};
 ghost use Rattle.vte_core.specs.Event as e;
 ghost use Rattle.vte_core.specs.Laws.{Fits};
 ghost use Rattle.vte_types.specs.Call.{Calls};
-ghost use Rattle.vte.specs.Osc.{osc_calls, title_calls, text_or_empty, utf8_or_none, link_calls, link_id, colour_calls, palette_calls, dynamic_calls, icon_calls, cursor_calls, clipboard_calls, reset_calls, all_resets, index_resets, two_digits, AreKept};
+ghost use Rattle.vte.specs.Osc.{osc_calls, title_calls, text_or_empty, utf8_or_none, link_calls, link_id, colour_calls};
+ghost use Rattle.vte.specs.Osc.{palette_calls, dynamic_calls, icon_calls, cursor_calls, clipboard_calls, reset_calls};
+ghost use Rattle.vte.specs.Osc.{all_resets, index_resets, two_digits, AreKept};
 
 use crate::color::{parse_color, parse_number};
 use crate::pieces::Pieces;
@@ -148,7 +151,8 @@ fn set_palette<H: Handler>(handler: &mut H, mut pieces: Pieces<'_>, terminator: 
 
 /// Sets or asks for a colour of the palette.
 fn set_indexed<H: Handler>(handler: &mut H, index: u8, color: &[u8], terminator: &str)
-    ensures { Calls H.step handler.old (colour_calls (codes "4;" ++ decimal index) index terminator.now color.now) handler.new }
+    ensures { Calls H.step handler.old (colour_calls (codes "4;" ++ decimal index) index terminator.now color.now)
+        handler.new }
 {
     let mut prefix = ArrayString::<64>::new();
     prefix.push_str("4;");

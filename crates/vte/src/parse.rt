@@ -13,7 +13,7 @@ use vte_core::{Parser, Perform};
 use vte_types::handler::Handler;
 
 /// Parses all bytes for a performer.
-fn feed<T: Timeout, H: Handler>(
+fn advance<T: Timeout, H: Handler>(
     parser: &mut Parser<1024>,
     performer: &mut Performer<'_, H, T>,
     bytes: &[u8],
@@ -21,7 +21,8 @@ fn feed<T: Timeout, H: Handler>(
     ensures same_handler { performer.new.handler.ghost_name ≡ performer.old.handler.ghost_name }
     ensures same_state { performer.new.state.ghost_name ≡ performer.old.state.ghost_name }
     ensures stands { (past : List ℕ) → Stands 1024 parser.old past → Stands 1024 parser.new (past ++ bytes.now) }
-    ensures performed { (past : List ℕ) → Stands 1024 parser.old past → PerformedAll H.step T.sets T.clears (added past bytes.now)
+    ensures performed { (past : List ℕ) → Stands 1024 parser.old past
+        → PerformedAll H.step T.sets T.clears (added past bytes.now)
         performer.old.handler.now performer.old.state.now performer.old.terminated
         performer.new.handler.now performer.new.state.now performer.new.terminated }
 {
@@ -29,14 +30,15 @@ fn feed<T: Timeout, H: Handler>(
 }
 
 /// Parses all bytes.
-pub fn parse_all<T: Timeout, H: Handler>(
+pub fn parse<T: Timeout, H: Handler>(
     parser: &mut Parser<1024>,
     state: &mut ProcessorState<T>,
     handler: &mut H,
     bytes: &[u8],
 )
     ensures stands { (past : List ℕ) → Stands 1024 parser.old past → Stands 1024 parser.new (past ++ bytes.now) }
-    ensures performed { (past : List ℕ) → Stands 1024 parser.old past → PerformedAll H.step T.sets T.clears (added past bytes.now)
+    ensures performed { (past : List ℕ) → Stands 1024 parser.old past
+        → PerformedAll H.step T.sets T.clears (added past bytes.now)
         handler.old state.old false handler.new state.new (list_any opens (added past bytes.now)) }
 {
     let mut performer = Performer {
@@ -44,11 +46,11 @@ pub fn parse_all<T: Timeout, H: Handler>(
         handler,
         terminated: false,
     };
-    feed(parser, &mut performer, bytes);
+    advance(parser, &mut performer, bytes);
 }
 
 /// Parses up to the first point at which the performer is terminated.
-fn feed_until_terminated<T: Timeout, H: Handler>(
+fn advance_until_terminated<T: Timeout, H: Handler>(
     parser: &mut Parser<1024>,
     performer: &mut Performer<'_, H, T>,
     bytes: &[u8],
@@ -56,8 +58,10 @@ fn feed_until_terminated<T: Timeout, H: Handler>(
     ensures within { result ≤ length bytes.now }
     ensures same_handler { performer.new.handler.ghost_name ≡ performer.old.handler.ghost_name }
     ensures same_state { performer.new.state.ghost_name ≡ performer.old.state.ghost_name }
-    ensures stands { (past : List ℕ) → Stands 1024 parser.old past → Stands 1024 parser.new (past ++ take result bytes.now) }
-    ensures performed { (past : List ℕ) → Stands 1024 parser.old past → PerformedAll H.step T.sets T.clears (added past (take result bytes.now))
+    ensures stands { (past : List ℕ) → Stands 1024 parser.old past
+        → Stands 1024 parser.new (past ++ take result bytes.now) }
+    ensures performed { (past : List ℕ) → Stands 1024 parser.old past
+        → PerformedAll H.step T.sets T.clears (added past (take result bytes.now))
         performer.old.handler.now performer.old.state.now performer.old.terminated
         performer.new.handler.now performer.new.state.now performer.new.terminated }
     ensures ended { result < length bytes.now → performer.new.terminated ≡ true }
@@ -69,15 +73,17 @@ fn feed_until_terminated<T: Timeout, H: Handler>(
 }
 
 /// Parses up to the byte that opens an update, or all. Answers how many bytes that was, and whether one was opened.
-pub fn parse<T: Timeout, H: Handler>(
+pub fn parse_until_opened<T: Timeout, H: Handler>(
     parser: &mut Parser<1024>,
     state: &mut ProcessorState<T>,
     handler: &mut H,
     bytes: &[u8],
 ) -> (usize, bool)
     ensures within { result.0 ≤ length bytes.now }
-    ensures stands { (past : List ℕ) → Stands 1024 parser.old past → Stands 1024 parser.new (past ++ take result.0 bytes.now) }
-    ensures performed { (past : List ℕ) → Stands 1024 parser.old past → PerformedAll H.step T.sets T.clears (added past (take result.0 bytes.now))
+    ensures stands { (past : List ℕ) → Stands 1024 parser.old past
+        → Stands 1024 parser.new (past ++ take result.0 bytes.now) }
+    ensures performed { (past : List ℕ) → Stands 1024 parser.old past
+        → PerformedAll H.step T.sets T.clears (added past (take result.0 bytes.now))
         handler.old state.old false handler.new state.new result.1 }
     ensures whole { result.1 ≡ false → result.0 ≡ length bytes.now }
     ensures some { result.1 ≡ true → 0 < result.0 }
@@ -89,6 +95,6 @@ pub fn parse<T: Timeout, H: Handler>(
         handler,
         terminated: false,
     };
-    let read = feed_until_terminated(parser, &mut performer, bytes);
+    let read = advance_until_terminated(parser, &mut performer, bytes);
     (read, performer.terminated)
 }

@@ -1,5 +1,9 @@
 //! The performer between a parser and a handler.
-ghost use Rattle.std.specs.Prelude.{◌≡◌};
+ghost use Rattle.std.specs.Prelude.{◌≡◌, map};
+ghost use Rattle.std.specs.Str.{chars};
+ghost use Rattle.vte_core.specs.Event.{Print};
+ghost use Rattle.vte_types.specs.Call.{Calls, input};
+ghost use Rattle.vte.specs.Performed.{last_after_all};
 
 use crate::csi::csi;
 use crate::escape::{escape, execute};
@@ -28,11 +32,35 @@ pub struct Performer<'a, H, T> {
     pub terminated: bool,
 }
 
+/// Hands the characters of a text to a handler, one by one. Answers the last one, or `before` where there is none.
+#[inline]
+fn input_all<H: Handler>(handler: &mut H, text: &str, before: Option<char>) -> Option<char>
+    ensures calls { Calls H.step handler.old (map input (chars text.now)) handler.new }
+    ensures last { result ≡ last_after_all before (map Print (chars text.now)) }
+{
+    let mut last = before;
+    if text.len() >= LONG_TEXT && text.is_ascii() {
+        for byte in text.as_bytes() {
+            let c = *byte as char;
+            handler.input(c);
+            last = Some(c);
+        }
+        return last;
+    }
+    for c in text.chars() {
+        handler.input(c);
+        last = Some(c);
+    }
+    last
+}
+
 impl<'a, H: Handler, T: Timeout> Perform for Performer<'a, H, T> {
     ghost use Rattle.std.specs.Prelude.{◌≡◌};
     ghost use Rattle.vte.specs.Performed.{Performed};
 
-    ghost step = { λ p e q. Performed H.step T.sets T.clears e p.handler.now p.state.now p.terminated q.handler.now q.state.now q.terminated × (q.handler.ghost_name ≡ p.handler.ghost_name) × (q.state.ghost_name ≡ p.state.ghost_name) };
+    ghost step = { λ p e q. Performed H.step T.sets T.clears e p.handler.now p.state.now p.terminated q.handler.now
+        q.state.now q.terminated × (q.handler.ghost_name ≡ p.handler.ghost_name)
+        × (q.state.ghost_name ≡ p.state.ghost_name) };
 
     ghost is_terminated = { λ p. p.terminated };
 
@@ -69,21 +97,7 @@ impl<'a, H: Handler, T: Timeout> Perform for Performer<'a, H, T> {
     }
 
     fn print_str(&mut self, text: &str) {
-        let mut last = self.state.preceding_char;
-        if text.len() >= LONG_TEXT && text.is_ascii() {
-            for byte in text.as_bytes() {
-                let c = *byte as char;
-                self.handler.input(c);
-                last = Some(c);
-            }
-            self.state.preceding_char = last;
-            return;
-        }
-        for c in text.chars() {
-            self.handler.input(c);
-            last = Some(c);
-        }
-        self.state.preceding_char = last;
+        self.state.preceding_char = input_all(self.handler, text, self.state.preceding_char);
     }
 
     fn execute(&mut self, byte: u8) {

@@ -1,11 +1,12 @@
 //! The processor.
-ghost use Rattle.std.specs.Prelude.{◌≡◌, ◌≤◌, ◌<◌, ◌+◌, ◌-◌, ◌++◌, ℕ, List, [], Option, drop, length, vec_len, vec_capacity, MatchOption, IfOk, IfSome};
+ghost use Rattle.std.specs.Prelude.{◌≡◌, ◌≤◌, ◌<◌, ◌+◌, ◌-◌, ◌++◌, ℕ, List, [], Option, drop, length, vec_len};
+ghost use Rattle.std.specs.Prelude.{vec_capacity, MatchOption, IfOk, IfSome};
 ghost use Rattle.vte.specs.Hold.{Renewed};
 
 use crate::csi::SYNC_UPDATE_TIMEOUT_MILLIS;
 use crate::error::OutOfMemory;
 use crate::marks::{END, START, first_mark, last_mark};
-use crate::parse::{parse, parse_all};
+use crate::parse::{parse, parse_until_opened};
 use crate::performer::ProcessorState;
 use crate::timeout::Timeout;
 use std::alloc::Allocator;
@@ -34,7 +35,8 @@ impl<T: Timeout + Drop, A: Allocator> Processor<T, A> {
     ghost use Rattle.vte_core.specs.Standing.{Stands};
     ghost use Rattle.vte.specs.Marks.{end_mark, NoneFrom};
     ghost use Rattle.vte.specs.Stretch.{last_of};
-    ghost use Rattle.vte.specs.Standing.{timeout_of, StandsAt, HoldsAt, Advanced, Taken, Emptied, Held, Parsed, Begun, Unopened, GoesOn};
+    ghost use Rattle.vte.specs.Standing.{timeout_of, StandsAt, HoldsAt, Advanced, Taken, Emptied, Held, Parsed, Begun};
+    ghost use Rattle.vte.specs.Standing.{Unopened, GoesOn};
     ghost use Rattle.std.specs.Prelude.{None, Some, true, false, take};
 
     /// A processor that has read nothing. The hold is reserved whole, so no later call is refused for memory.
@@ -73,8 +75,10 @@ impl<T: Timeout + Drop, A: Allocator> Processor<T, A> {
     /// more while bytes are held, the hold is emptied first, as by `stop_sync`.
     pub fn advance<H: Handler>(&mut self, handler: &mut H, bytes: &[u8])
         ensures advanced { (parsed held : List ℕ) → StandsAt self.old parsed held
-            → Advanced T.sets T.clears T.answers H.step false self.old parsed held bytes.now handler.old self.new handler.new }
-        ensures exact { (parsed : List ℕ) (hold : Option (List ℕ)) → IsExact T.sets T.clears T.answers → HoldsAt T.answers self.old parsed hold
+            → Advanced T.sets T.clears T.answers H.step false self.old parsed held bytes.now handler.old self.new
+            handler.new }
+        ensures exact { (parsed : List ℕ) (hold : Option (List ℕ)) → IsExact T.sets T.clears T.answers
+            → HoldsAt T.answers self.old parsed hold
             → Taken T.sets T.clears T.answers H.step self.old parsed hold bytes.now handler.old self.new handler.new }
     {
         let mut rest = bytes;
@@ -87,7 +91,8 @@ impl<T: Timeout + Drop, A: Allocator> Processor<T, A> {
     pub fn stop_sync<H: Handler>(&mut self, handler: &mut H)
         ensures emptied { (parsed held : List ℕ) → StandsAt self.old parsed held
             → Emptied T.sets T.clears H.step self.old parsed held handler.old self.new handler.new }
-        ensures exact { (parsed : List ℕ) (hold : Option (List ℕ)) → IsExact T.sets T.clears T.answers → HoldsAt T.answers self.old parsed hold
+        ensures exact { (parsed : List ℕ) (hold : Option (List ℕ)) → IsExact T.sets T.clears T.answers
+            → HoldsAt T.answers self.old parsed hold
             → HoldsAt T.answers self.new (parsed ++ held_of hold) None }
     {
         self.empty(handler);
@@ -96,8 +101,10 @@ impl<T: Timeout + Drop, A: Allocator> Processor<T, A> {
     /// Takes the beginning of a piece, or all of it. Answers where it goes on.
     fn turn<H: Handler>(&mut self, handler: &mut H, piece: &[u8]) -> Option<usize>
         ensures led { (parsed held : List ℕ) → StandsAt self.old parsed held → MatchOption result
-            (Advanced T.sets T.clears T.answers H.step false self.old parsed held piece.now handler.old self.new handler.new)
-            (λ n. GoesOn T.sets T.clears T.answers H.step self.old parsed held piece.now (drop n piece.now) handler.old self.new handler.new) }
+            (Advanced T.sets T.clears T.answers H.step false self.old parsed held piece.now handler.old self.new
+            handler.new)
+            (λ n. GoesOn T.sets T.clears T.answers H.step self.old parsed held piece.now (drop n piece.now) handler.old
+            self.new handler.new) }
         ensures progress { IfSome result (λ n. (0 < n) × (n ≤ length piece.now)) }
     {
         if self.state.timeout.pending_timeout() {
@@ -120,7 +127,7 @@ impl<T: Timeout + Drop, A: Allocator> Processor<T, A> {
             (λ n. Begun T.sets T.clears H.step self.old parsed held piece.now n handler.old self.new handler.new) }
         ensures progress { IfSome result (λ n. (0 < n) × (n ≤ length piece.now)) }
     {
-        let (read, opened) = parse(&mut self.parser, &mut self.state, handler, piece);
+        let (read, opened) = parse_until_opened(&mut self.parser, &mut self.state, handler, piece);
         if opened { Some(read) } else { None }
     }
 
@@ -146,10 +153,12 @@ impl<T: Timeout + Drop, A: Allocator> Processor<T, A> {
     /// Parses so many held bytes, and keeps the rest.
     fn release<H: Handler>(&mut self, handler: &mut H, n: usize)
         requires { n ≤ vec_len self.old.held }
-        ensures { (parsed held : List ℕ) → Stands 1024 self.old.parser parsed → self.old.state.preceding_char ≡ last_of parsed → self.old.held.items ≡ held → NoneFrom end_mark held n
-            → Parsed T.sets T.clears H.step self.old parsed (take n held) (drop n held) handler.old self.new handler.new }
+        ensures { (parsed held : List ℕ) → Stands 1024 self.old.parser parsed
+            → self.old.state.preceding_char ≡ last_of parsed → self.old.held.items ≡ held → NoneFrom end_mark held n
+            → Parsed T.sets T.clears H.step self.old parsed (take n held) (drop n held) handler.old self.new
+            handler.new }
     {
-        parse_all(
+        parse(
             &mut self.parser,
             &mut self.state,
             handler,
@@ -160,10 +169,11 @@ impl<T: Timeout + Drop, A: Allocator> Processor<T, A> {
 
     /// Parses all held bytes, and closes the update.
     fn empty<H: Handler>(&mut self, handler: &mut H)
-        ensures { (parsed held : List ℕ) → Stands 1024 self.old.parser parsed → self.old.state.preceding_char ≡ last_of parsed → self.old.held.items ≡ held
+        ensures { (parsed held : List ℕ) → Stands 1024 self.old.parser parsed
+            → self.old.state.preceding_char ≡ last_of parsed → self.old.held.items ≡ held
             → Emptied T.sets T.clears H.step self.old parsed held handler.old self.new handler.new }
     {
-        parse_all(
+        parse(
             &mut self.parser,
             &mut self.state,
             handler,

@@ -1,8 +1,12 @@
 //! SGR: the attributes that groups of numbers ask for (ECMA-48 8.3.117; colours by ITU-T T.416).
 ghost use Rattle.std.specs.Prelude.{◌≡◌, ◌≤◌, ℕ, List, length, ◌∷◌, [], ◌++◌, map, MatchOption, option_to_list};
+ghost use Rattle.std.specs.Prelude.{◌+◌, ◌<◌, Some};
 ghost use Rattle.vte_types.specs.Call.{Calls, terminal_attribute};
 ghost use Rattle.vte_types.specs.Lookup.{lookup};
-ghost use Rattle.vte.specs.Sgr.{singles, rgb_colour, indexed_colour, group_colour, coloured, target_of, group_attr, first, attributes, nothing, selector, underline_of};
+ghost use Rattle.vte_types.specs.declared.attr.Attr.TheVariants as said;
+ghost use Rattle.vte_types.specs.declared.color.Color.TheVariants.{Named};
+ghost use Rattle.vte.specs.Sgr.{singles, rgb_colour, indexed_colour, group_colour, coloured, target_of};
+ghost use Rattle.vte.specs.Sgr.{first, attributes, nothing, selector, underline_of};
 
 use vte_core::ParamsIter;
 use vte_types::attr::Attr;
@@ -10,6 +14,44 @@ use vte_types::color::{Color, NamedColor};
 use vte_types::handler::Handler;
 use vte_types::rgb::Rgb;
 
+/// The color that 30 and 40 more than a number name.
+fn plain(number: u16) -> NamedColor
+    requires { number < 8 }
+    ensures text { lookup (30 + number) singles ≡ Some (said.Foreground (Named result)) }
+    ensures ground { lookup (40 + number) singles ≡ Some (said.Background (Named result)) }
+{
+    match number {
+        0 => NamedColor::Black,
+        1 => NamedColor::Red,
+        2 => NamedColor::Green,
+        3 => NamedColor::Yellow,
+        4 => NamedColor::Blue,
+        5 => NamedColor::Magenta,
+        6 => NamedColor::Cyan,
+        _ => NamedColor::White,
+    }
+}
+
+/// The color that 90 and 100 more than a number name.
+fn bright(number: u16) -> NamedColor
+    requires { number < 8 }
+    ensures text { lookup (90 + number) singles ≡ Some (said.Foreground (Named result)) }
+    ensures ground { lookup (100 + number) singles ≡ Some (said.Background (Named result)) }
+{
+    match number {
+        0 => NamedColor::BrightBlack,
+        1 => NamedColor::BrightRed,
+        2 => NamedColor::BrightGreen,
+        3 => NamedColor::BrightYellow,
+        4 => NamedColor::BrightBlue,
+        5 => NamedColor::BrightMagenta,
+        6 => NamedColor::BrightCyan,
+        _ => NamedColor::BrightWhite,
+    }
+}
+
+/// What a number that is a group of its own asks for.
+#[inline(always)]
 fn single(code: u16) -> Option<Attr>
     ensures { result ≡ lookup code singles }
 {
@@ -32,46 +74,19 @@ fn single(code: u16) -> Option<Attr>
         27 => Attr::CancelReverse,
         28 => Attr::CancelHidden,
         29 => Attr::CancelStrike,
-        30 => Attr::Foreground(Color::Named(NamedColor::Black)),
-        31 => Attr::Foreground(Color::Named(NamedColor::Red)),
-        32 => Attr::Foreground(Color::Named(NamedColor::Green)),
-        33 => Attr::Foreground(Color::Named(NamedColor::Yellow)),
-        34 => Attr::Foreground(Color::Named(NamedColor::Blue)),
-        35 => Attr::Foreground(Color::Named(NamedColor::Magenta)),
-        36 => Attr::Foreground(Color::Named(NamedColor::Cyan)),
-        37 => Attr::Foreground(Color::Named(NamedColor::White)),
+        30..=37 => Attr::Foreground(Color::Named(plain(code - 30))),
         39 => Attr::Foreground(Color::Named(NamedColor::Foreground)),
-        40 => Attr::Background(Color::Named(NamedColor::Black)),
-        41 => Attr::Background(Color::Named(NamedColor::Red)),
-        42 => Attr::Background(Color::Named(NamedColor::Green)),
-        43 => Attr::Background(Color::Named(NamedColor::Yellow)),
-        44 => Attr::Background(Color::Named(NamedColor::Blue)),
-        45 => Attr::Background(Color::Named(NamedColor::Magenta)),
-        46 => Attr::Background(Color::Named(NamedColor::Cyan)),
-        47 => Attr::Background(Color::Named(NamedColor::White)),
+        40..=47 => Attr::Background(Color::Named(plain(code - 40))),
         49 => Attr::Background(Color::Named(NamedColor::Background)),
         59 => Attr::UnderlineColor(None),
-        90 => Attr::Foreground(Color::Named(NamedColor::BrightBlack)),
-        91 => Attr::Foreground(Color::Named(NamedColor::BrightRed)),
-        92 => Attr::Foreground(Color::Named(NamedColor::BrightGreen)),
-        93 => Attr::Foreground(Color::Named(NamedColor::BrightYellow)),
-        94 => Attr::Foreground(Color::Named(NamedColor::BrightBlue)),
-        95 => Attr::Foreground(Color::Named(NamedColor::BrightMagenta)),
-        96 => Attr::Foreground(Color::Named(NamedColor::BrightCyan)),
-        97 => Attr::Foreground(Color::Named(NamedColor::BrightWhite)),
-        100 => Attr::Background(Color::Named(NamedColor::BrightBlack)),
-        101 => Attr::Background(Color::Named(NamedColor::BrightRed)),
-        102 => Attr::Background(Color::Named(NamedColor::BrightGreen)),
-        103 => Attr::Background(Color::Named(NamedColor::BrightYellow)),
-        104 => Attr::Background(Color::Named(NamedColor::BrightBlue)),
-        105 => Attr::Background(Color::Named(NamedColor::BrightMagenta)),
-        106 => Attr::Background(Color::Named(NamedColor::BrightCyan)),
-        107 => Attr::Background(Color::Named(NamedColor::BrightWhite)),
+        90..=97 => Attr::Foreground(Color::Named(bright(code - 90))),
+        100..=107 => Attr::Background(Color::Named(bright(code - 100))),
         _ => return None,
     };
     Some(attr)
 }
 
+/// A color by its red, green and blue parts, each at most 255.
 fn rgb(r: u16, g: u16, b: u16) -> Option<Color>
     ensures { result ≡ rgb_colour r g b }
 {
@@ -86,6 +101,7 @@ fn rgb(r: u16, g: u16, b: u16) -> Option<Color>
     }
 }
 
+/// The color of the palette with this index, at most 255.
 fn indexed(i: u16) -> Option<Color>
     ensures { result ≡ indexed_colour i }
 {
@@ -96,7 +112,8 @@ fn indexed(i: u16) -> Option<Color>
     }
 }
 
-fn colour_in_group(numbers: &[u16]) -> Option<Color>
+/// A color whose numbers stand in the group.
+fn color_in_group(numbers: &[u16]) -> Option<Color>
     ensures { result ≡ group_colour numbers.now }
 {
     match numbers {
@@ -107,6 +124,7 @@ fn colour_in_group(numbers: &[u16]) -> Option<Color>
     }
 }
 
+/// What a color is for.
 #[derive(Clone, Copy)]
 pub enum Target {
     Foreground,
@@ -114,16 +132,18 @@ pub enum Target {
     Underline,
 }
 
-fn in_colour(target: Target, colour: Color) -> Attr
-    ensures { result ≡ coloured target colour }
+/// The attribute of a color.
+fn in_color(target: Target, color: Color) -> Attr
+    ensures { result ≡ coloured target color }
 {
     match target {
-        Target::Foreground => Attr::Foreground(colour),
-        Target::Background => Attr::Background(colour),
-        Target::Underline => Attr::UnderlineColor(Some(colour)),
+        Target::Foreground => Attr::Foreground(color),
+        Target::Background => Attr::Background(color),
+        Target::Underline => Attr::UnderlineColor(Some(color)),
     }
 }
 
+/// What the color is for that a number begins.
 fn target_for(code: u16) -> Option<Target>
     ensures { result ≡ target_of code }
 {
@@ -135,6 +155,7 @@ fn target_for(code: u16) -> Option<Target>
     }
 }
 
+/// The underline with a style's number.
 fn underline(style: u16) -> Attr
     ensures { result ≡ underline_of style [] }
 {
@@ -150,7 +171,8 @@ fn underline(style: u16) -> Attr
 
 /// The first number of the next group.
 pub fn next_number(groups: &mut ParamsIter<'_>) -> Option<u16>
-    ensures { MatchOption result ((groups.old ≡ []) × (groups.new ≡ [])) (λ n. (g : List ℕ) × (groups.old ≡ g ∷ groups.new) × (n ≡ first g)) }
+    ensures { MatchOption result ((groups.old ≡ []) × (groups.new ≡ [])) (λ n. (g : List ℕ)
+        × (groups.old ≡ g ∷ groups.new) × (n ≡ first g)) }
 {
     match groups.next()? {
         [] => Some(0),
@@ -158,8 +180,8 @@ pub fn next_number(groups: &mut ParamsIter<'_>) -> Option<u16>
     }
 }
 
-/// A colour whose numbers stand in groups of their own.
-fn colour_in_groups(target: Target, groups: &mut ParamsIter<'_>) -> Option<Attr>
+/// A color whose numbers stand in groups of their own.
+fn color_in_groups(target: Target, groups: &mut ParamsIter<'_>) -> Option<Attr>
     ensures gives { attributes (selector target) groups.old ≡ option_to_list result ++ attributes nothing groups.new }
     ensures shorter { length groups.new ≤ length groups.old }
 {
@@ -174,40 +196,32 @@ fn colour_in_groups(target: Target, groups: &mut ParamsIter<'_>) -> Option<Attr>
                 return None;
             }
             let blue = next_number(groups)?;
-            Some(in_colour(target, rgb(red, green, blue)?))
+            Some(in_color(target, rgb(red, green, blue)?))
         }
         5 => {
             let index = next_number(groups)?;
-            Some(in_colour(target, indexed(index)?))
+            Some(in_color(target, indexed(index)?))
         }
         _ => None,
     }
 }
 
-/// What one group asks for by itself.
-fn attribute_of(group: &[u16]) -> Option<Attr>
-    ensures { result ≡ group_attr group.now }
+/// What a group asks for, with the groups after it that it takes.
+#[inline(always)]
+fn attribute(group: &[u16], groups: &mut ParamsIter<'_>) -> Option<Attr>
+    ensures gives { attributes nothing (group.now ∷ groups.old) ≡ option_to_list result
+        ++ attributes nothing groups.new }
+    ensures shorter { length groups.new ≤ length groups.old }
 {
     match group {
         [] => None,
-        [code] => single(*code),
+        [code] => match target_for(*code) {
+            Some(target) => color_in_groups(target, groups),
+            None => single(*code),
+        },
         [4, style] => Some(underline(*style)),
         [4, ..] => Some(Attr::Underline),
-        [code, numbers @ ..] => Some(in_colour(target_for(*code)?, colour_in_group(numbers)?)),
-    }
-}
-
-/// What a group asks for, with the groups after it that it takes.
-fn attribute(group: &[u16], groups: &mut ParamsIter<'_>) -> Option<Attr>
-    ensures gives { attributes nothing (group.now ∷ groups.old) ≡ option_to_list result ++ attributes nothing groups.new }
-    ensures shorter { length groups.new ≤ length groups.old }
-{
-    if let [code] = group
-        && let Some(target) = target_for(*code)
-    {
-        colour_in_groups(target, groups)
-    } else {
-        attribute_of(group)
+        [code, numbers @ ..] => Some(in_color(target_for(*code)?, color_in_group(numbers)?)),
     }
 }
 

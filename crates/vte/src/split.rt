@@ -7,7 +7,8 @@ use memchr::memchr;
 
 /// What stands before the first such byte, and what follows it: nothing where there is no such byte.
 pub fn split_first(text: &[u8], byte: u8) -> (&[u8], Option<&[u8]>)
-    ensures parts { slice_split (λ c. c == byte) text.now ≡ result.0.now ∷ parts_after byte (option_map (λ t. t.now) result.1) }
+    ensures parts { slice_split (λ c. c == byte) text.now ≡ result.0.now
+        ∷ parts_after byte (option_map (λ t. t.now) result.1) }
     ensures shorter { IfSome result.1 (λ t. length t.now < length text.now) }
 {
     match memchr(byte, text) {

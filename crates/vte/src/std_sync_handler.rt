@@ -56,5 +56,7 @@ impl<C: Clock> Timeout for StdSyncHandler<C> {
 
 /// It is pending exactly from setting to clearing.
 pub fn std_sync_handler_is_exact<C: Clock>()
-    ensures { IsExact ⟦<StdSyncHandler<C> as Timeout>⟧.sets ⟦<StdSyncHandler<C> as Timeout>⟧.clears ⟦<StdSyncHandler<C> as Timeout>⟧.answers }
+    ensures { IsExact ⟦<StdSyncHandler<C> as Timeout>⟧.sets
+        ⟦<StdSyncHandler<C> as Timeout>⟧.clears
+        ⟦<StdSyncHandler<C> as Timeout>⟧.answers }
 {}

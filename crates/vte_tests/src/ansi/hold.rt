@@ -51,7 +51,9 @@ fn holds_until_the_end_mark(rt: HostRuntime) -> Result<(), Fail> {
         12,
     );
     let all =
-        "SetPrivateMode(Named(SyncUpdate)) TerminalAttribute(Bold) UnsetPrivateMode(Named(SyncUpdate)) SetPrivateMode(Named(SyncUpdate)) TerminalAttribute(Underline) UnsetPrivateMode(Named(SyncUpdate)) UnsetPrivateMode(Named(SyncUpdate)) ";
+        "SetPrivateMode(Named(SyncUpdate)) TerminalAttribute(Bold) UnsetPrivateMode(Named(SyncUpdate)) \
+         SetPrivateMode(Named(SyncUpdate)) TerminalAttribute(Underline) UnsetPrivateMode(Named(SyncUpdate)) \
+         UnsetPrivateMode(Named(SyncUpdate)) ";
     takes(&rt, &mut processor, &mut log, b"\x1b[?2026l", all, 0);
     assert!(rt; !processor.sync_timeout().pending);
     Ok(())
@@ -96,12 +98,14 @@ fn marks_are_cut_anywhere(rt: HostRuntime) -> Result<(), Fail> {
     calls(
         &rt,
         b"a\x1b[?2026hb\x1b[?2026l",
-        "Input('a') SetPrivateMode(Named(SyncUpdate)) Input('b') UnsetPrivateMode(Named(SyncUpdate)) UnsetPrivateMode(Named(SyncUpdate)) ",
+        "Input('a') SetPrivateMode(Named(SyncUpdate)) Input('b') UnsetPrivateMode(Named(SyncUpdate)) \
+         UnsetPrivateMode(Named(SyncUpdate)) ",
     )?;
     calls(
         &rt,
         b"\x1b[?2026h\x1b[?2026hb\x1b[?2026l\x1b[?2026l",
-        "SetPrivateMode(Named(SyncUpdate)) SetPrivateMode(Named(SyncUpdate)) Input('b') UnsetPrivateMode(Named(SyncUpdate)) UnsetPrivateMode(Named(SyncUpdate)) UnsetPrivateMode(Named(SyncUpdate)) ",
+        "SetPrivateMode(Named(SyncUpdate)) SetPrivateMode(Named(SyncUpdate)) Input('b') \
+         UnsetPrivateMode(Named(SyncUpdate)) UnsetPrivateMode(Named(SyncUpdate)) UnsetPrivateMode(Named(SyncUpdate)) ",
     )
 }
 
@@ -150,7 +154,8 @@ fn parses_held_bytes_first(rt: HostRuntime) -> Result<(), Fail> {
     pending.set(false);
     processor.advance(&mut log, b"cd");
     let all =
-        "SetPrivateMode(Named(SyncUpdate)) Input('a') Input('b') UnsetPrivateMode(Named(SyncUpdate)) Input('c') Input('d') ";
+        "SetPrivateMode(Named(SyncUpdate)) Input('a') Input('b') UnsetPrivateMode(Named(SyncUpdate)) Input('c') \
+         Input('d') ";
     let after = processor.sync_bytes_count();
     assert_eq!(rt; (held, after, log.text.as_str()), (2, 0, all));
     Ok(())

@@ -152,7 +152,8 @@ const CONTROL_SEQUENCES: &[Row] = &[
     (b"\x1b[n\x1b[6n", "DeviceStatus(0) DeviceStatus(6) "),
     (
         b"\x1b[r\x1b[2;5r\x1b[1:5r\x1b[4;0r",
-        "SetScrollingRegion(1, None) SetScrollingRegion(2, Some(5)) SetScrollingRegion(1, None) SetScrollingRegion(4, None) ",
+        "SetScrollingRegion(1, None) SetScrollingRegion(2, Some(5)) SetScrollingRegion(1, None) \
+         SetScrollingRegion(4, None) ",
     ),
     (b"\x1b[S\x1b[3T", "ScrollUp(1) ScrollDown(3) "),
     (b"\x1b[s\x1b[u", "SaveCursorPosition RestoreCursorPosition "),
@@ -162,19 +163,23 @@ const CONTROL_SEQUENCES: &[Row] = &[
     ),
     (
         b"\x1b[?1;3;6;7;12;25h",
-        "SetPrivateMode(Named(CursorKeys)) SetPrivateMode(Named(ColumnMode)) SetPrivateMode(Named(Origin)) SetPrivateMode(Named(LineWrap)) SetPrivateMode(Named(BlinkingCursor)) SetPrivateMode(Named(ShowCursor)) ",
+        "SetPrivateMode(Named(CursorKeys)) SetPrivateMode(Named(ColumnMode)) SetPrivateMode(Named(Origin)) \
+         SetPrivateMode(Named(LineWrap)) SetPrivateMode(Named(BlinkingCursor)) SetPrivateMode(Named(ShowCursor)) ",
     ),
     (
         b"\x1b[?1000;1002;1003;1004l",
-        "UnsetPrivateMode(Named(ReportMouseClicks)) UnsetPrivateMode(Named(ReportCellMouseMotion)) UnsetPrivateMode(Named(ReportAllMouseMotion)) UnsetPrivateMode(Named(ReportFocusInOut)) ",
+        "UnsetPrivateMode(Named(ReportMouseClicks)) UnsetPrivateMode(Named(ReportCellMouseMotion)) \
+         UnsetPrivateMode(Named(ReportAllMouseMotion)) UnsetPrivateMode(Named(ReportFocusInOut)) ",
     ),
     (
         b"\x1b[?1005;1006;1007;1042h",
-        "SetPrivateMode(Named(Utf8Mouse)) SetPrivateMode(Named(SgrMouse)) SetPrivateMode(Named(AlternateScroll)) SetPrivateMode(Named(UrgencyHints)) ",
+        "SetPrivateMode(Named(Utf8Mouse)) SetPrivateMode(Named(SgrMouse)) SetPrivateMode(Named(AlternateScroll)) \
+         SetPrivateMode(Named(UrgencyHints)) ",
     ),
     (
         b"\x1b[?1049;2004;9l",
-        "UnsetPrivateMode(Named(SwapScreenAndSetRestoreCursor)) UnsetPrivateMode(Named(BracketedPaste)) UnsetPrivateMode(Unknown(9)) ",
+        "UnsetPrivateMode(Named(SwapScreenAndSetRestoreCursor)) UnsetPrivateMode(Named(BracketedPaste)) \
+         UnsetPrivateMode(Unknown(9)) ",
     ),
     (b"\x1b[?2026l", "UnsetPrivateMode(Named(SyncUpdate)) "),
     (b"\x1b[?5W\x1b[?W", "SetTabs(8) "),
@@ -184,11 +189,14 @@ const CONTROL_SEQUENCES: &[Row] = &[
     ),
     (
         b"\x1b[ q\x1b[1 q\x1b[2 q",
-        "SetCursorStyle(None) SetCursorStyle(Some(CursorStyle { shape: Block, blinking: true })) SetCursorStyle(Some(CursorStyle { shape: Block, blinking: false })) ",
+        "SetCursorStyle(None) SetCursorStyle(Some(CursorStyle { shape: Block, blinking: true })) \
+         SetCursorStyle(Some(CursorStyle { shape: Block, blinking: false })) ",
     ),
     (
         b"\x1b[3 q\x1b[4 q\x1b[5 q",
-        "SetCursorStyle(Some(CursorStyle { shape: Underline, blinking: true })) SetCursorStyle(Some(CursorStyle { shape: Underline, blinking: false })) SetCursorStyle(Some(CursorStyle { shape: Beam, blinking: true })) ",
+        "SetCursorStyle(Some(CursorStyle { shape: Underline, blinking: true })) \
+         SetCursorStyle(Some(CursorStyle { shape: Underline, blinking: false })) \
+         SetCursorStyle(Some(CursorStyle { shape: Beam, blinking: true })) ",
     ),
     (
         b"\x1b[6 q\x1b[7 q",
@@ -210,7 +218,8 @@ const CONTROL_SEQUENCES: &[Row] = &[
     (b"\x1b[?u", "ReportKeyboardMode "),
     (
         b"\x1b[=5;2u\x1b[=1;3u\x1b[=255u",
-        "SetKeyboardMode(KeyboardModes(5), Union) SetKeyboardMode(KeyboardModes(1), Difference) SetKeyboardMode(KeyboardModes(31), Replace) ",
+        "SetKeyboardMode(KeyboardModes(5), Union) SetKeyboardMode(KeyboardModes(1), Difference) \
+         SetKeyboardMode(KeyboardModes(31), Replace) ",
     ),
     (
         b"\x1b[>257u\x1b[>u",
@@ -369,27 +378,34 @@ fn attributes(rt: HostRuntime) -> Result<(), Fail> {
 const COLOURS: &[Row] = &[
     (
         b"\x1b[38;2;1;2;3;1m\x1b[38;5;200;1m",
-        "TerminalAttribute(Foreground(Spec(Rgb { r: 1, g: 2, b: 3 }))) TerminalAttribute(Bold) TerminalAttribute(Foreground(Indexed(200))) TerminalAttribute(Bold) ",
+        "TerminalAttribute(Foreground(Spec(Rgb { r: 1, g: 2, b: 3 }))) TerminalAttribute(Bold) \
+         TerminalAttribute(Foreground(Indexed(200))) TerminalAttribute(Bold) ",
     ),
     (
         b"\x1b[38:2:1:2:3m\x1b[38:2:0:1:2:3m\x1b[38:5:200m",
-        "TerminalAttribute(Foreground(Spec(Rgb { r: 1, g: 2, b: 3 }))) TerminalAttribute(Foreground(Spec(Rgb { r: 1, g: 2, b: 3 }))) TerminalAttribute(Foreground(Indexed(200))) ",
+        "TerminalAttribute(Foreground(Spec(Rgb { r: 1, g: 2, b: 3 }))) \
+         TerminalAttribute(Foreground(Spec(Rgb { r: 1, g: 2, b: 3 }))) TerminalAttribute(Foreground(Indexed(200))) ",
     ),
     (
         b"\x1b[48;2;1;2;3;1m\x1b[48;5;200;1m",
-        "TerminalAttribute(Background(Spec(Rgb { r: 1, g: 2, b: 3 }))) TerminalAttribute(Bold) TerminalAttribute(Background(Indexed(200))) TerminalAttribute(Bold) ",
+        "TerminalAttribute(Background(Spec(Rgb { r: 1, g: 2, b: 3 }))) TerminalAttribute(Bold) \
+         TerminalAttribute(Background(Indexed(200))) TerminalAttribute(Bold) ",
     ),
     (
         b"\x1b[48:2:1:2:3m\x1b[48:2:0:1:2:3m\x1b[48:5:200m",
-        "TerminalAttribute(Background(Spec(Rgb { r: 1, g: 2, b: 3 }))) TerminalAttribute(Background(Spec(Rgb { r: 1, g: 2, b: 3 }))) TerminalAttribute(Background(Indexed(200))) ",
+        "TerminalAttribute(Background(Spec(Rgb { r: 1, g: 2, b: 3 }))) \
+         TerminalAttribute(Background(Spec(Rgb { r: 1, g: 2, b: 3 }))) TerminalAttribute(Background(Indexed(200))) ",
     ),
     (
         b"\x1b[58;2;1;2;3;1m\x1b[58;5;200;1m",
-        "TerminalAttribute(UnderlineColor(Some(Spec(Rgb { r: 1, g: 2, b: 3 })))) TerminalAttribute(Bold) TerminalAttribute(UnderlineColor(Some(Indexed(200)))) TerminalAttribute(Bold) ",
+        "TerminalAttribute(UnderlineColor(Some(Spec(Rgb { r: 1, g: 2, b: 3 })))) TerminalAttribute(Bold) \
+         TerminalAttribute(UnderlineColor(Some(Indexed(200)))) TerminalAttribute(Bold) ",
     ),
     (
         b"\x1b[58:2:1:2:3m\x1b[58:2:0:1:2:3m\x1b[58:5:200m",
-        "TerminalAttribute(UnderlineColor(Some(Spec(Rgb { r: 1, g: 2, b: 3 })))) TerminalAttribute(UnderlineColor(Some(Spec(Rgb { r: 1, g: 2, b: 3 })))) TerminalAttribute(UnderlineColor(Some(Indexed(200)))) ",
+        "TerminalAttribute(UnderlineColor(Some(Spec(Rgb { r: 1, g: 2, b: 3 })))) \
+         TerminalAttribute(UnderlineColor(Some(Spec(Rgb { r: 1, g: 2, b: 3 })))) \
+         TerminalAttribute(UnderlineColor(Some(Indexed(200)))) ",
     ),
     (
         b"\x1b[38;5m\x1b[38;2;256;1;3m\x1b[38;7;1m",

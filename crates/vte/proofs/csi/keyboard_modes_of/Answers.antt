@@ -12,4 +12,5 @@ low_bits n =
 
 pub returns : goal.returns
 unfolding bitflags_on_literals
-returns c = let bits : c.from_bits_truncate.result.0 ≡ c.args.number % 32 = c.from_bits_truncate.ensures tt ∙ low_bits c.args.number in ap (λ n. record { 0 = n }) bits
+returns c = let bits : c.from_bits_truncate.result.0 ≡ c.args.number % 32 =
+    c.from_bits_truncate.ensures tt ∙ low_bits c.args.number in ap (λ n. record { 0 = n }) bits

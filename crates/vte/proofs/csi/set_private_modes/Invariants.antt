@@ -10,9 +10,12 @@ use Rattle.vte.proofs.csi.set_private_modes.Given as goal
 -- where what is left leads, all leads from the start
 abbrev pub invariant-loop-number : goal.invariant-loop-number
 invariant-loop-number g l = record {
-  calls : (end : _) → Calls g.H.Handler.step l.handler (map (λ x. set_private_mode (private_mode_of (first x))) l.groups) end
-      → Calls g.H.Handler.step l.initial.handler (map (λ x. set_private_mode (private_mode_of (first x))) l.initial.groups) end;
-  timeout : (end : _) → Ticked g.T.Timeout.sets g.T.Timeout.clears l.timeout (sets_of l.groups) end → Ticked g.T.Timeout.sets g.T.Timeout.clears l.initial.timeout (sets_of l.initial.groups) end;
+  calls : (end : _) → Calls g.H.Handler.step l.handler
+      (map (λ x. set_private_mode (private_mode_of (first x))) l.groups) end
+      → Calls g.H.Handler.step l.initial.handler (map (λ x. set_private_mode (private_mode_of (first x)))
+      l.initial.groups) end;
+  timeout : (end : _) → Ticked g.T.Timeout.sets g.T.Timeout.clears l.timeout (sets_of l.groups) end
+      → Ticked g.T.Timeout.sets g.T.Timeout.clears l.initial.timeout (sets_of l.initial.groups) end;
   opened : (l.opened || list_any opens_group l.groups) ≡ list_any opens_group l.initial.groups;
 }
 

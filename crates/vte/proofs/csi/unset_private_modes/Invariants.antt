@@ -7,8 +7,10 @@ use Rattle.vte.proofs.csi.unset_private_modes.Given as goal
 -- where the calls that are left lead, all lead from the start
 abbrev pub invariant-loop-number : goal.invariant-loop-number
 invariant-loop-number g l =
-    (end : _) → Calls g.H.Handler.step l.handler (map (λ x. unset_private_mode (private_mode_of (first x))) l.groups) end
-    → Calls g.H.Handler.step l.initial.handler (map (λ x. unset_private_mode (private_mode_of (first x))) l.initial.groups) end
+    (end : _) → Calls g.H.Handler.step l.handler (map (λ x. unset_private_mode (private_mode_of (first x))) l.groups)
+    end
+    → Calls g.H.Handler.step l.initial.handler (map (λ x. unset_private_mode (private_mode_of (first x)))
+    l.initial.groups) end
 
 abbrev pub decreases-loop-number : goal.decreases-loop-number
 decreases-loop-number g l = length l.groups

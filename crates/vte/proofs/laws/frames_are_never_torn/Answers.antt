@@ -7,4 +7,5 @@ pub returns-clause-untorn : goal.returns-clause-untorn
 returns-clause-untorn c = never_torn
 
 pub returns-clause-begun : goal.returns-clause-begun
-returns-clause-begun c = λ whole part parsed hold rest all is r. mark_begun whole part parsed hold rest (recursion_from_All IsFrame rest all) is r
+returns-clause-begun c = λ whole part parsed hold rest all is r.
+    mark_begun whole part parsed hold rest (recursion_from_All IsFrame rest all) is r

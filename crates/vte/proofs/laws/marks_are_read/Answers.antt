@@ -1,4 +1,5 @@
-use Rattle.vte.proofs.FrameMarks.{start_opens_at, begun_calls, start_calls, end_none, end_calls, ground_start, ground_end}
+use Rattle.vte.proofs.FrameMarks.{start_opens_at, begun_calls, start_calls, end_none, end_calls, ground_start}
+use Rattle.vte.proofs.FrameMarks.{ground_end}
 use Rattle.vte.proofs.laws.marks_are_read.Goals as goal
 
 pub returns-clause-opens : goal.returns-clause-opens

@@ -10,5 +10,10 @@ returns c empty fits =
     let more = flat_map (λ p. 59 ∷ text_or_empty p) c.args.pieces in
     let whole = join-texts first c.args.pieces in
     let room : length (first ++ more) ≤ 1040 = rw whole at fits in
-    let begun = c.begin.ensures empty (omega (arith, room, length-append first more, ap length c.text_or_nothing.ensures)) ∙ c.text_or_nothing.ensures in
+    let begun = c.begin.ensures empty (omega (
+      arith,
+      room,
+      length-append first more,
+      ap length c.text_or_nothing.ensures,
+    )) ∙ c.text_or_nothing.ensures in
     c.append_pieces.ensures (rw begun room) ∙ (ap (λ b. b ++ more) begun ∙ sym whole)

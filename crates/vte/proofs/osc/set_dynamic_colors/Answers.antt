@@ -4,7 +4,8 @@ use Rattle.vte.specs.Osc.{two_digits, colour_calls}
 use Rattle.vte.proofs.RunLemmas.{Calls-append}
 use Rattle.vte.proofs.osc.set_dynamic_colors.Goals as goal
 
-prefix_is : (n : ℕ) (f : List ℕ) → Some f ≡ (if nat_lt 12 n then None else Some (two_digits n)) → (nat_lt 12 n ≡ false) × (f ≡ two_digits n)
+prefix_is : (n : ℕ) (f : List ℕ) → Some f ≡ (if nat_lt 12 n then None else Some (two_digits n)) → (nat_lt 12 n ≡ false)
+    × (f ≡ two_digits n)
 prefix_is n f h = elim (cases_Bool (nat_lt 12 n)) [
   | inl e ↦ absurd (let no : Some f ≡ None = rw e at h in cc)
   | inr e ↦ (e, (let is : Some f ≡ Some (two_digits n) = rw e at h in cc))
@@ -19,5 +20,6 @@ loop-color-preserved g c =
       from = omega arith;
       calls = λ end more. c.loop-color.invariant.calls end
           (rw (c.in-Some.ensures.steps, prefix.0)
-          (Calls-append g.H.Handler.step _ _ _ (colour_calls (two_digits n) (246 + n) c.args.terminator.now c.in-Some.color.now) _ (rw (prefix.1, index) at c.set_color.ensures) more));
+          (Calls-append g.H.Handler.step _ _ _ (colour_calls (two_digits n) (246 + n) c.args.terminator.now
+          c.in-Some.color.now) _ (rw (prefix.1, index) at c.set_color.ensures) more));
     }

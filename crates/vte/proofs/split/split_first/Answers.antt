@@ -8,7 +8,9 @@ returns-in-Some-clause-parts c =
     let text = c.args.text.now in
     let at = c.in-Some.at in
     let rest : take (length text - (at + 1)) (drop (at + 1) text) ≡ drop (at + 1) text = grind (arith, common_steps) in
-    rw (rest, add-one) (split_at (λ x. x == c.args.byte) text at c.in-Some.ensures.0.high c.in-Some.ensures.1 (λ k low. not_true _ (c.in-Some.ensures.0.before k (omega arith) low)))
+    rw (rest, add-one) (split_at (λ x. x == c.args.byte) text at c.in-Some.ensures.0.high c.in-Some.ensures.1
+    (λ k low. not_true _ (c.in-Some.ensures.0.before k (omega arith) low)))
 
 pub returns-in-None-clause-parts : goal.returns-in-None-clause-parts
-returns-in-None-clause-parts c = split_nowhere (λ x. x == c.args.byte) c.args.text.now (λ k low. not_true _ (c.in-None.ensures k (omega arith) low))
+returns-in-None-clause-parts c = split_nowhere (λ x. x == c.args.byte) c.args.text.now
+    (λ k low. not_true _ (c.in-None.ensures k (omega arith) low))

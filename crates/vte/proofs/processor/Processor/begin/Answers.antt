@@ -9,12 +9,15 @@ use Rattle.vte.proofs.SetLemmas.{any_openers, sets_none}
 use Rattle.vte.proofs.processor.Processor.begin.Goals as goal
 
 pub returns-then-opened-clause-progress : goal.returns-then-opened-clause-progress
-returns-then-opened-clause-progress g c = (c.parse-read.ensures.some c.if-opened.true, c.parse-read.ensures.within)
+returns-then-opened-clause-progress g c = (
+  c.parse_until_opened-read.ensures.some c.if-opened.true,
+  c.parse_until_opened-read.ensures.within,
+)
 
 pub returns-then-opened-clause-led : goal.returns-then-opened-clause-led
 returns-then-opened-clause-led g c parsed held at =
-    let p = c.parse-read.ensures in
-    let n = c.parse-read.result.0 in
+    let p = c.parse_until_opened-read.ensures in
+    let n = c.parse_until_opened-read.result.0 in
     let run = p.performed parsed at.has_read in
     let any : opens_in parsed (take n c.args.piece.now) ≡ true = sym run.ends ∙ c.if-opened.true in
     record {
@@ -37,12 +40,15 @@ returns-then-opened-clause-led g c parsed held at =
 
 pub returns-else-opened-clause-led : goal.returns-else-opened-clause-led
 returns-else-opened-clause-led g c parsed held at =
-    let p = c.parse-read.ensures in
-    let n = c.parse-read.result.0 in
-    let all : take n c.args.piece.now ≡ c.args.piece.now = take_all n c.args.piece.now (omega (arith, p.whole c.if-opened.false)) in
+    let p = c.parse_until_opened-read.ensures in
+    let n = c.parse_until_opened-read.result.0 in
+    let all : take n c.args.piece.now ≡ c.args.piece.now =
+    take_all n c.args.piece.now (omega (arith, p.whole c.if-opened.false)) in
     let run = rw all at (p.performed parsed at.has_read) in
     let none : opens_in parsed c.args.piece.now ≡ false = sym run.ends ∙ c.if-opened.false in
-    let quiet : sets_of (openers_of_all (added parsed c.args.piece.now)) ≡ [] = sets_none (openers_of_all (added parsed c.args.piece.now)) (any_openers (added parsed c.args.piece.now) ∙ none) in
+    let quiet : sets_of (openers_of_all (added parsed c.args.piece.now)) ≡ [] =
+    sets_none (openers_of_all (added parsed c.args.piece.now)) (any_openers (added parsed c.args.piece.now)
+    ∙ none) in
     record {
       none = none;
       same = rw quiet at run.ticked;

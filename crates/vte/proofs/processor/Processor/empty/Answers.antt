@@ -9,14 +9,16 @@ use Rattle.vte.proofs.processor.Processor.empty.Goals as goal
 pub returns : goal.returns
 returns g c parsed held reads printed items =
     let is : c.as_slice.result.now ≡ held = c.as_slice.ensures.value ∙ items in
-    let run = rw is at (c.parse_all.ensures.performed parsed reads) in
+    let run = rw is at (c.parse.ensures.performed parsed reads) in
     record {
       stands = record {
-        has_read = rw is at (c.parse_all.ensures.stands parsed reads);
+        has_read = rw is at (c.parse.ensures.stands parsed reads);
         printed = printed_after _ _ parsed held printed run.printed;
         holds = c.clear.ensures.items;
         no_end = none_in_empty;
       };
-      ticked = Ticked-append g.T.Timeout.sets g.T.Timeout.clears _ _ _ (ticks_from parsed held) (Clears ∷ []) run.ticked (c.clear_timeout.new.self, c.clear_timeout.ensures, refl);
-      goes = closed_calls g.H.Handler.step _ _ _ parsed held (calls_after g.H.Handler.step _ _ _ parsed held printed run.calls) c.unset_private_mode.ensures;
+      ticked = Ticked-append g.T.Timeout.sets g.T.Timeout.clears _ _ _ (ticks_from parsed held) (Clears
+          ∷ []) run.ticked (c.clear_timeout.new.self, c.clear_timeout.ensures, refl);
+      goes = closed_calls g.H.Handler.step _ _ _ parsed held
+          (calls_after g.H.Handler.step _ _ _ parsed held printed run.calls) c.unset_private_mode.ensures;
     }

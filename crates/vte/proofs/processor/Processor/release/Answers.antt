@@ -7,10 +7,10 @@ pub returns : goal.returns
 returns g c parsed held reads printed items none =
     let n = c.args.n in
     let is : c.as_slice.result.now ≡ held = c.as_slice.ensures.value ∙ items in
-    let run = rw is at (c.parse_all.ensures.performed parsed reads) in
+    let run = rw is at (c.parse.ensures.performed parsed reads) in
     record {
       stands = record {
-        has_read = rw is at (c.parse_all.ensures.stands parsed reads);
+        has_read = rw is at (c.parse.ensures.stands parsed reads);
         printed = printed_after _ _ parsed (take n held) printed run.printed;
         holds = c.drop_front.ensures.items ∙ ap (drop n) items;
         no_end = none_after n held none;

@@ -3,20 +3,23 @@ use Rattle.vte_core.proofs.AddedLemmas.{added-fits}
 use Rattle.vte_core.proofs.Telling.{same_events}
 use Rattle.vte.specs.Stretch.{added}
 use Rattle.vte.proofs.RunLemmas.{performs_all, keeps_all, told_is}
-use Rattle.vte.proofs.parse.feed_until_terminated.Goals as goal
+use Rattle.vte.proofs.parse.advance_until_terminated.Goals as goal
 
 pub returns-clause-same_handler : goal.returns-clause-same_handler
-returns-clause-same_handler g c = keeps_all (λ p. p.handler.ghost_name) _ (λ p e q s. s.1) _ _ _ c.advance_until_terminated.ensures.told.performed
+returns-clause-same_handler g c = keeps_all (λ p. p.handler.ghost_name) _ (λ p e q s. s.1) _ _ _
+    c.advance_until_terminated.ensures.told.performed
 
 pub returns-clause-same_state : goal.returns-clause-same_state
-returns-clause-same_state g c = keeps_all (λ p. p.state.ghost_name) _ (λ p e q s. s.2) _ _ _ c.advance_until_terminated.ensures.told.performed
+returns-clause-same_state g c = keeps_all (λ p. p.state.ghost_name) _ (λ p e q s. s.2) _ _ _
+    c.advance_until_terminated.ensures.told.performed
 
 pub returns-clause-performed : goal.returns-clause-performed
 returns-clause-performed g c past stands =
     let told = c.advance_until_terminated.ensures.told in
     let bytes = take c.advance_until_terminated.result c.args.bytes.now in
     let is = told_is past bytes told.told (told.added past stands) in
-    performs_all g.H.Handler.step g.T.Timeout.sets g.T.Timeout.clears (λ p. p.handler.now) (λ p. p.state.now) (λ p. p.terminated) _ (λ p e q s. s.0) _
+    performs_all g.H.Handler.step g.T.Timeout.sets g.T.Timeout.clears (λ p. p.handler.now) (λ p. p.state.now)
+    (λ p. p.terminated) _ (λ p e q s. s.0) _
     (added past bytes) _ (added-fits 1024 past bytes) (same_events _ _ _ told.told (added past bytes) is told.performed)
 
 positive : (n : ℕ) → (n ≡ 0 → ⊥) → 0 < n
@@ -35,7 +38,8 @@ returns-clause-some g c fresh ended =
 pub returns-clause-first : goal.returns-clause-first
 returns-clause-first g c past stands fresh m below asks =
     let by = (c.advance_until_terminated.ensures.stops past stands).passed m below asks in
-    let run = performs_all g.H.Handler.step g.T.Timeout.sets g.T.Timeout.clears (λ p. p.handler.now) (λ p. p.state.now) (λ p. p.terminated) _ (λ p e q s. s.0) _
+    let run = performs_all g.H.Handler.step g.T.Timeout.sets g.T.Timeout.clears (λ p. p.handler.now) (λ p. p.state.now)
+    (λ p. p.terminated) _ (λ p e q s. s.0) _
     (added past (take m c.args.bytes.now)) _ (added-fits 1024 past (take m c.args.bytes.now)) by.before in
     let ends = run.ends in
     rw fresh at (sym ends ∙ by.goes_on)
