@@ -1,5 +1,6 @@
 -- Every cell that an edit makes is one that a cell can be.
-use Rattle.std.proofs.Common.{◌≡◌, ℕ, zero, suc, ◌<◌, ◌≤◌, ◌==◌, inl, inr, ⊎_elim, Bool, true, false, ◌||◌, List, [], ◌∷◌, ◌++◌, length, Some, nat_lt, sym, refl, ap, ◌∙◌, arith, rules, length-append}
+use Rattle.std.proofs.Common.{◌≡◌, ℕ, zero, suc, ◌<◌, ◌≤◌, ◌==◌, inl, inr, ⊎_elim, Bool, true, false, ◌||◌, List, []}
+use Rattle.std.proofs.Common.{◌∷◌, ◌++◌, length, Some, nat_lt, sym, refl, ap, ◌∙◌, arith, rules, length-append}
 use Rattle.std.specs.Prelude.{All, Contains}
 use Rattle.std.specs.Char.{IsScalar}
 use Rattle.std.proofs.lemmas.Bool.{cases_lt, false≢true, eqb-true, and_parts, cond_both}
@@ -10,15 +11,29 @@ use Rattle.std.proofs.lemmas.Str.{encode_ascii}
 use Rattle.unicode_width.specs.Width.{str_width}
 use Rattle.vt100_forms.specs.declared.attrs.Attrs.{Attrs}
 use Rattle.vt100_cells.proofs.WidthLemmas.{space_is_narrow, space_is_drawn, drawn-is, printable-is}
-use Rattle.vt100_cells.specs.Cell.{CellView, IsCell, IsCellText, IsShort, IsWideAs, columns_of, is_undrawable, drawn_columns, has_room, empty_cell, continuation_cell, cell_of, text_with, is_widened_by, appended, IsPrintable}
+use Rattle.vt100_cells.specs.Cell.{CellView, IsCell, IsCellText, IsShort, IsWideAs, columns_of, is_undrawable}
+use Rattle.vt100_cells.specs.Cell.{drawn_columns, has_room, empty_cell, continuation_cell, cell_of, text_with}
+use Rattle.vt100_cells.specs.Cell.{is_widened_by, appended, IsPrintable}
 
 -- ---- each kind of cell
 
 pub IsCell-empty : (a : Attrs) → IsCell (empty_cell a)
-IsCell-empty a = record { characters = tt; short = λ i p l. absurd (omega arith); scalars = λ k d l. absurd (omega arith); wide = refl; blank = λ _. refl }
+IsCell-empty a = record {
+  characters = tt;
+  short = λ i p l. absurd (omega arith);
+  scalars = λ k d l. absurd (omega arith);
+  wide = refl;
+  blank = λ _. refl;
+}
 
 pub IsCell-continuation : IsCell continuation_cell
-IsCell-continuation = record { characters = tt; short = λ i p l. absurd (omega arith); scalars = λ k d l. absurd (omega arith); wide = refl; blank = λ _. refl }
+IsCell-continuation = record {
+  characters = tt;
+  short = λ i p l. absurd (omega arith);
+  scalars = λ k d l. absurd (omega arith);
+  wide = refl;
+  blank = λ _. refl;
+}
 
 one-scalar : (c : ℕ) → IsScalar c → All IsScalar (c ∷ [])
 one-scalar c s zero d l = s
@@ -49,7 +64,13 @@ pub IsCell-space : (a : Attrs) → IsCell (cell_of 32 a)
 IsCell-space a = let d = drawn-is 32 1 space_is_drawn in IsCell-of 32 a refl d.0 (omega arith)
 
 pub IsCell-with_attrs : (x : CellView) (a : Attrs) → IsCell x → IsCell (record x { attrs = a })
-IsCell-with_attrs x a h = record { characters = h.characters; short = h.short; scalars = h.scalars; wide = h.wide; blank = h.blank }
+IsCell-with_attrs x a h = record {
+  characters = h.characters;
+  short = h.short;
+  scalars = h.scalars;
+  wide = h.wide;
+  blank = h.blank;
+}
 
 -- ---- a zero-width character joins a cell
 
@@ -83,13 +104,15 @@ holds-last : (c : ℕ) → c ≡ 0xFE0F → Contains (c ∷ []) 0xFE0F
 holds-last c e = (0, omega arith, e)
 
 -- b: whether c widens the text
-wide-snoc : (y : ℕ) (ys : List ℕ) (c : ℕ) (w b : Bool) → IsWideAs (y ∷ ys) w → (b ≡ true → c ≡ 0xFE0F) → IsWideAs (y ∷ (ys ++ c ∷ [])) (w || b)
+wide-snoc : (y : ℕ) (ys : List ℕ) (c : ℕ) (w b : Bool) → IsWideAs (y ∷ ys) w → (b ≡ true → c ≡ 0xFE0F)
+    → IsWideAs (y ∷ (ys ++ c ∷ [])) (w || b)
 wide-snoc y ys c w true h e = inr (Contains-append_right ys (c ∷ []) 0xFE0F (holds-last c (e refl)), or-true w)
 wide-snoc y ys c w false h e =
     ⊎_elim (λ (q : w ≡ (columns_of y == 2)). inl (or-false w ∙ q))
     (λ q. inr (Contains-append_left ys (c ∷ []) 0xFE0F q.0, or-false w ∙ q.1)) h
 
-wide-with : (cs : List ℕ) (c : ℕ) (w b : Bool) → IsWideAs cs w → (b ≡ true → c ≡ 0xFE0F) → IsWideAs (text_with cs c) (w || b)
+wide-with : (cs : List ℕ) (c : ℕ) (w b : Bool) → IsWideAs cs w → (b ≡ true → c ≡ 0xFE0F)
+    → IsWideAs (text_with cs c) (w || b)
 wide-with [] c w b h e =
     let narrow : (columns_of 32 == 2) ≡ false = ap (λ n. n == 2) space_is_narrow in
     wide-snoc 32 [] c w b (inl (h ∙ sym narrow)) e
@@ -99,8 +122,14 @@ pub widened_by-is : (cs : List ℕ) (c : ℕ) → is_widened_by cs c ≡ true �
 widened_by-is cs c h = eqb-true c 0xFE0F (and_parts (c == 0xFE0F) (nat_lt 1 (str_width false (text_with cs c))) h).0
 
 -- the cell that has taken the character
-pub IsCell-with : (x : CellView) (c : ℕ) → IsCell x → IsScalar c → drawn_columns c ≡ Some 0 → x.continuation ≡ false → has_room x.text ≡ true
-    → IsCell (record { text = text_with x.text c; wide = x.wide || is_widened_by x.text c; continuation = x.continuation; attrs = x.attrs })
+pub IsCell-with : (x : CellView) (c : ℕ) → IsCell x → IsScalar c → drawn_columns c ≡ Some 0 → x.continuation ≡ false
+    → has_room x.text ≡ true
+    → IsCell (record {
+      text = text_with x.text c;
+      wide = x.wide || is_widened_by x.text c;
+      continuation = x.continuation;
+      attrs = x.attrs;
+    })
 IsCell-with x c h s z n r = record {
   characters = text-with x.text c h.characters (drawn-is c 0 z).1;
   short = short-with x.text c h.short r;
@@ -109,12 +138,15 @@ IsCell-with x c h s z n r = record {
   blank = λ e. absurd (false≢true (sym n ∙ e));
 }
 
-pub IsCell-appended : (x : CellView) (c : ℕ) → IsCell x → IsScalar c → drawn_columns c ≡ Some 0 → x.continuation ≡ false → IsCell (appended x c)
+pub IsCell-appended : (x : CellView) (c : ℕ) → IsCell x → IsScalar c → drawn_columns c ≡ Some 0
+    → x.continuation ≡ false → IsCell (appended x c)
 IsCell-appended x c h s z n = cond_both (has_room x.text) _ x IsCell (λ r. IsCell-with x c h s z n r) (λ _. h)
 
 -- the same for the fields that the code has made
-pub IsCell-made : (x : CellView) (c : ℕ) (t : List ℕ) (w q : Bool) → IsCell x → IsScalar c → drawn_columns c ≡ Some 0 → x.continuation ≡ false → has_room x.text ≡ true
-    → t ≡ text_with x.text c → w ≡ (x.wide || is_widened_by x.text c) → q ≡ x.continuation → IsCell (record { text = t; wide = w; continuation = q; attrs = x.attrs })
+pub IsCell-made : (x : CellView) (c : ℕ) (t : List ℕ) (w q : Bool) → IsCell x → IsScalar c → drawn_columns c ≡ Some 0
+    → x.continuation ≡ false → has_room x.text ≡ true
+    → t ≡ text_with x.text c → w ≡ (x.wide || is_widened_by x.text c) → q ≡ x.continuation
+    → IsCell (record { text = t; wide = w; continuation = q; attrs = x.attrs })
 IsCell-made x c t w q h s z n r et ew eq = rw (et, ew, eq) (IsCell-with x c h s z n r)
 
 -- ---- printable ASCII characters
@@ -129,12 +161,14 @@ pub IsCell-printable : (c : ℕ) (a : Attrs) → IsPrintable c → IsCell (cell_
 IsCell-printable c a p = let d = printable-is c p in IsCell-of c a (scalar-printable c p) d.0 (omega (arith, d.1))
 
 -- a space's cell with another character
-pub replaced-is : (x : CellView) (t : List ℕ) (c : ℕ) (a : Attrs) → x ≡ cell_of 32 a → IsPrintable c → t ≡ c ∷ [] → record { text = t; wide = x.wide; continuation = x.continuation; attrs = x.attrs } ≡ cell_of c a
+pub replaced-is : (x : CellView) (t : List ℕ) (c : ℕ) (a : Attrs) → x ≡ cell_of 32 a → IsPrintable c → t ≡ c ∷ []
+    → record { text = t; wide = x.wide; continuation = x.continuation; attrs = x.attrs } ≡ cell_of c a
 replaced-is x t c a e p et =
     let w = ap (λ (y : CellView). y.wide) e ∙ ap (λ n. n == 2) (space_is_narrow ∙ sym (printable-is c p).1) in
     let q = ap (λ (y : CellView). y.continuation) e in
     let b = ap (λ (y : CellView). y.attrs) e in
     λ i. record { text = et i; wide = w i; continuation = q i; attrs = b i }
 
-pub IsCell-replaced : (x : CellView) (t : List ℕ) (c : ℕ) (a : Attrs) → x ≡ cell_of 32 a → IsPrintable c → t ≡ c ∷ [] → IsCell (record { text = t; wide = x.wide; continuation = x.continuation; attrs = x.attrs })
+pub IsCell-replaced : (x : CellView) (t : List ℕ) (c : ℕ) (a : Attrs) → x ≡ cell_of 32 a → IsPrintable c → t ≡ c ∷ []
+    → IsCell (record { text = t; wide = x.wide; continuation = x.continuation; attrs = x.attrs })
 IsCell-replaced x t c a e p et = rw (replaced-is x t c a e p et) (IsCell-printable c a p)

@@ -1,5 +1,7 @@
 -- A text with one more character.
-use Rattle.std.proofs.Common.{◌≡◌, ℕ, zero, suc, ◌+◌, ◌-◌, ◌<◌, ◌≤◌, true, ◌&&◌, List, [], ◌∷◌, ◌++◌, length, take, drop, set, replicate, sym, refl, ap, ◌∙◌, arith, length-append, length-take, length-drop, nat_eq, rules, append-nil}
+use Rattle.std.proofs.Common.{◌≡◌, ℕ, zero, suc, ◌+◌, ◌-◌, ◌<◌, ◌≤◌, true, ◌&&◌, List, [], ◌∷◌, ◌++◌, length, take}
+use Rattle.std.proofs.Common.{drop, set, replicate, sym, refl, ap, ◌∙◌, arith, length-append, length-take, length-drop}
+use Rattle.std.proofs.Common.{nat_eq, rules, append-nil}
 use Rattle.std.specs.Prelude.{encode_utf8_all, encode_utf8, chars, IsUtf8}
 use Rattle.std.specs.Char.{IsScalar}
 use Rattle.std.specs.Str.{IsAscii}
@@ -9,7 +11,8 @@ use Rattle.std.specs.Cmp.{both_ways}
 use Rattle.vt100_cells.specs.CellEq.{text_eq-true}
 use Rattle.std.proofs.lemmas.Bool.Decides.{nat_tests}
 use Rattle.std.proofs.lemmas.List.{drop-drop, drop-replicate}
-use Rattle.std.proofs.lemmas.Str.{IsUtf8-had, chars-append, IsUtf8-append, chars-encodes, length-encode, len_utf8_bounds, IsUtf8-from_ascii, chars-IsAscii, encode_ascii}
+use Rattle.std.proofs.lemmas.Str.{IsUtf8-had, chars-append, IsUtf8-append, chars-encodes, length-encode}
+use Rattle.std.proofs.lemmas.Str.{len_utf8_bounds, IsUtf8-from_ascii, chars-IsAscii, encode_ascii}
 use Rattle.std.proofs.lemmas.Slice.{take-put_mid, drop-put_mid}
 use borrow.Rule.Slice.PartMut.{put_mid}
 use Rattle.vt100_cells.specs.declared.cell_text.CellText.TheInside.{Inside}
@@ -22,40 +25,51 @@ len-text_of t cs h e = sym (length-text_of t h) ∙ ap (λ x. length (encode_utf
 pub encodes-empty : (cs : List ℕ) → nat_eq (length (encode_utf8_all cs)) 0 ≡ nat_eq (length cs) 0
 encodes-empty [] = refl
 encodes-empty (c ∷ cs) =
-    let k : 1 ≤ length (encode_utf8_all (c ∷ cs)) = omega (arith, length-append (encode_utf8 c) (encode_utf8_all cs), length-encode c, (len_utf8_bounds c).0) in
+    let k : 1 ≤ length (encode_utf8_all (c ∷ cs)) =
+    omega (arith, length-append (encode_utf8 c) (encode_utf8_all cs), length-encode c, (len_utf8_bounds c).0) in
     grind (arith, nat_tests)
 
 -- what the fields are once n bytes stand after the text
-IsText-pushed : (t : Inside) (k : ℕ) (ys : List ℕ) → IsText t → IsUtf8 ys → length ys ≡ k → t.len + k ≤ 21 → IsText (record { bytes = put_mid t.len k t.bytes ys; len = t.len + k })
+IsText-pushed : (t : Inside) (k : ℕ) (ys : List ℕ) → IsText t → IsUtf8 ys → length ys ≡ k → t.len + k ≤ 21
+    → IsText (record { bytes = put_mid t.len k t.bytes ys; len = t.len + k })
 IsText-pushed t k ys h u e f = record {
   fits = f;
   whole = simp (length-append, length-take, length-drop) (omega (arith, h.fits, h.whole));
-  utf8 = rw (take-put_mid t.len k t.bytes ys (t.len + k) (omega arith) (omega (arith, h.fits, h.whole))) (∣ IsUtf8-append (take t.len t.bytes) ys (IsUtf8-had (take t.len t.bytes) h.utf8) u ∣₁);
+  utf8 = rw (take-put_mid t.len k t.bytes ys (t.len + k) (omega arith) (omega (arith, h.fits, h.whole)))
+      (∣ IsUtf8-append (take t.len t.bytes) ys (IsUtf8-had (take t.len t.bytes) h.utf8) u ∣₁);
   zeros = drop-put_mid t.len k t.bytes ys (t.len + k) (omega arith) (omega (arith, h.fits, h.whole)) e
-      ∙ sym (drop-drop k t.len t.bytes) ∙ ap (drop k) h.zeros ∙ drop-replicate k (21 - t.len) 0 ∙ ap (λ n. replicate n 0) (omega arith);
+      ∙ sym (drop-drop k t.len t.bytes) ∙ ap (drop k) h.zeros ∙ drop-replicate k (21 - t.len) 0
+      ∙ ap (λ n. replicate n 0) (omega arith);
 }
 
-text_of-pushed : (t : Inside) (k : ℕ) (ys : List ℕ) → IsText t → length ys ≡ k → t.len + k ≤ 21 → text_of (record { bytes = put_mid t.len k t.bytes ys; len = t.len + k }) ≡ text_of t ++ chars ys
+text_of-pushed : (t : Inside) (k : ℕ) (ys : List ℕ) → IsText t → length ys ≡ k → t.len + k ≤ 21
+    → text_of (record { bytes = put_mid t.len k t.bytes ys; len = t.len + k }) ≡ text_of t ++ chars ys
 text_of-pushed t k ys h e f =
-    ap chars (take-put_mid t.len k t.bytes ys (t.len + k) (omega arith) (omega (arith, h.fits, h.whole))) ∙ chars-append (take t.len t.bytes) ys (IsUtf8-had (take t.len t.bytes) h.utf8)
+    ap chars (take-put_mid t.len k t.bytes ys (t.len + k) (omega arith) (omega (arith, h.fits, h.whole)))
+    ∙ chars-append (take t.len t.bytes) ys (IsUtf8-had (take t.len t.bytes) h.utf8)
 
 chars-encode : (c : ℕ) → IsScalar c → chars (encode_utf8 c) ≡ c ∷ []
 chars-encode c h = ap chars (sym (append-nil (encode_utf8 c))) ∙ chars-encodes (c ∷ []) (search (rules, h))
 
 -- the same where the numbers and the bytes are those of the code
-pub IsText-push : (t : Inside) (cs : List ℕ) (m k : ℕ) (ys : List ℕ) (c : ℕ) → IsText t → text_of t ≡ cs → has_room cs ≡ true → ys ≡ encode_utf8 c → m ≡ length (encode_utf8 c) → k ≡ m → IsUtf8 (encode_utf8 c) → IsText (record { bytes = put_mid t.len k t.bytes ys; len = t.len + m })
+pub IsText-push : (t : Inside) (cs : List ℕ) (m k : ℕ) (ys : List ℕ) (c : ℕ) → IsText t → text_of t ≡ cs
+    → has_room cs ≡ true → ys ≡ encode_utf8 c → m ≡ length (encode_utf8 c) → k ≡ m → IsUtf8 (encode_utf8 c)
+    → IsText (record { bytes = put_mid t.len k t.bytes ys; len = t.len + m })
 IsText-push t cs m k ys c h v l e em ek u =
     let n = len-text_of t cs h v in
     let b = (len_utf8_bounds c).1 in
     let room : length (encode_utf8_all cs) < 18 = ltb-true (length (encode_utf8_all cs)) 18 l in
     rw (ek, em, e) (IsText-pushed t (length (encode_utf8 c)) (encode_utf8 c) h u refl (omega (arith, length-encode c)))
 
-pub text_of-push : (t : Inside) (cs : List ℕ) (m k : ℕ) (ys : List ℕ) (c : ℕ) → IsText t → text_of t ≡ cs → has_room cs ≡ true → ys ≡ encode_utf8 c → m ≡ length (encode_utf8 c) → k ≡ m → IsScalar c → text_of (record { bytes = put_mid t.len k t.bytes ys; len = t.len + m }) ≡ cs ++ c ∷ []
+pub text_of-push : (t : Inside) (cs : List ℕ) (m k : ℕ) (ys : List ℕ) (c : ℕ) → IsText t → text_of t ≡ cs
+    → has_room cs ≡ true → ys ≡ encode_utf8 c → m ≡ length (encode_utf8 c) → k ≡ m → IsScalar c
+    → text_of (record { bytes = put_mid t.len k t.bytes ys; len = t.len + m }) ≡ cs ++ c ∷ []
 text_of-push t cs m k ys c h v l e em ek u =
     let n = len-text_of t cs h v in
     let b = (len_utf8_bounds c).1 in
     let room : length (encode_utf8_all cs) < 18 = ltb-true (length (encode_utf8_all cs)) 18 l in
-    rw (ek, em, e) (text_of-pushed t (length (encode_utf8 c)) (encode_utf8 c) h refl (omega (arith, length-encode c)) ∙ ap (λ x. x ++ chars (encode_utf8 c)) v ∙ ap (λ x. cs ++ x) (chars-encode c u))
+    rw (ek, em, e) (text_of-pushed t (length (encode_utf8 c)) (encode_utf8 c) h refl (omega (arith, length-encode c))
+    ∙ ap (λ x. x ++ chars (encode_utf8 c)) v ∙ ap (λ x. cs ++ x) (chars-encode c u))
 
 -- ---- one ASCII character
 
@@ -64,7 +78,12 @@ IsAscii-one c h zero = h
 IsAscii-one c h (suc i) = omega arith
 
 pub IsText-ascii : (c : ℕ) → c < 128 → IsText (record { bytes = c ∷ replicate 20 0; len = 1 })
-IsText-ascii c h = record { fits = omega arith; whole = refl; utf8 = ∣ IsUtf8-from_ascii (c ∷ []) (IsAscii-one c h) ∣₁; zeros = refl }
+IsText-ascii c h = record {
+  fits = omega arith;
+  whole = refl;
+  utf8 = ∣ IsUtf8-from_ascii (c ∷ []) (IsAscii-one c h) ∣₁;
+  zeros = refl;
+}
 
 pub text_of-ascii : (c : ℕ) → c < 128 → text_of (record { bytes = c ∷ replicate 20 0; len = 1 }) ≡ c ∷ []
 text_of-ascii c h = chars-IsAscii (c ∷ []) (IsAscii-one c h)
@@ -73,21 +92,27 @@ text_of-ascii c h = chars-IsAscii (c ∷ []) (IsAscii-one c h)
 space-fields : (t : Inside) → IsText t → text_of t ≡ 32 ∷ [] → t ≡ record { bytes = 32 ∷ replicate 20 0; len = 1 }
 space-fields t h e =
     let one : encode_utf8_all (32 ∷ []) ≡ 32 ∷ [] = ap (λ bs. bs ++ []) (encode_ascii 32 (omega arith)) in
-    sym (fields_of-text_of t h) ∙ ap fields_of e ∙ ap (λ bs. record { bytes = bs ++ replicate (21 - length bs) 0; len = length bs }) one
+    sym (fields_of-text_of t h) ∙ ap fields_of e ∙ ap (λ bs.
+    record { bytes = bs ++ replicate (21 - length bs) 0; len = length bs }) one
 
-pub IsText-replaced : (t : Inside) (c : ℕ) → IsText t → text_of t ≡ 32 ∷ [] → c < 128 → IsText (record { bytes = set t.bytes 0 c; len = t.len })
+pub IsText-replaced : (t : Inside) (c : ℕ) → IsText t → text_of t ≡ 32 ∷ [] → c < 128
+    → IsText (record { bytes = set t.bytes 0 c; len = t.len })
 IsText-replaced t c h e l = rw (space-fields t h e) (IsText-ascii c l)
 
-pub text_of-replaced : (t : Inside) (c : ℕ) → IsText t → text_of t ≡ 32 ∷ [] → c < 128 → text_of (record { bytes = set t.bytes 0 c; len = t.len }) ≡ c ∷ []
+pub text_of-replaced : (t : Inside) (c : ℕ) → IsText t → text_of t ≡ 32 ∷ [] → c < 128
+    → text_of (record { bytes = set t.bytes 0 c; len = t.len }) ≡ c ∷ []
 text_of-replaced t c h e l = rw (space-fields t h e) (text_of-ascii c l)
 
 -- texts are the same where their fields are
-pub same-fields : (t u : Inside) → IsText t → IsText u → (nat_eq t.len u.len && text_eq t.bytes u.bytes) ≡ text_eq (text_of t) (text_of u)
+pub same-fields : (t u : Inside) → IsText t → IsText u
+    → (nat_eq t.len u.len && text_eq t.bytes u.bytes) ≡ text_eq (text_of t) (text_of u)
 same-fields t u ht hu = both_ways (nat_eq t.len u.len && text_eq t.bytes u.bytes) (text_eq (text_of t) (text_of u))
     (λ h. let p = and_parts (nat_eq t.len u.len) (text_eq t.bytes u.bytes) h in
     let n = eqb-true t.len u.len p.0 in
     let bs = text_eq-true t.bytes u.bytes p.1 in
     let e : text_of t ≡ text_of u = λ i. text_of (record { bytes = bs i; len = n i }) in
     ap (text_eq (text_of t)) (sym e) ∙ nat_list_eq_equiv.refl (text_of t))
-    (λ h. let e : t ≡ u = sym (fields_of-text_of t ht) ∙ ap fields_of (text_eq-true (text_of t) (text_of u) h) ∙ fields_of-text_of u hu in
-    ap (λ (w : Inside). nat_eq t.len w.len && text_eq t.bytes w.bytes) (sym e) ∙ rw (eq-eqb t.len t.len refl) (nat_list_eq_equiv.refl t.bytes))
+    (λ h. let e : t ≡ u = sym (fields_of-text_of t ht) ∙ ap fields_of (text_eq-true (text_of t) (text_of u) h)
+    ∙ fields_of-text_of u hu in
+    ap (λ (w : Inside). nat_eq t.len w.len && text_eq t.bytes w.bytes) (sym e)
+    ∙ rw (eq-eqb t.len t.len refl) (nat_list_eq_equiv.refl t.bytes))

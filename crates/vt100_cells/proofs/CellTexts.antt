@@ -1,24 +1,30 @@
 -- The text of a cell, character by character.
-use Rattle.std.proofs.Common.{◌≡◌, ℕ, suc, ◌+◌, ◌≤◌, ◌==◌, Bool, true, false, List, [], ◌∷◌, ◌++◌, length, take, drop, sym, refl, ap, subst, ◌∙◌, arith, length-append, append_assoc, append-nil, ⊎_elim, take-append-drop, length-drop}
+use Rattle.std.proofs.Common.{◌≡◌, ℕ, suc, ◌+◌, ◌≤◌, ◌==◌, Bool, true, false, List, [], ◌∷◌, ◌++◌, length, take, drop}
+use Rattle.std.proofs.Common.{sym, refl, ap, subst, ◌∙◌, arith, length-append, append_assoc, append-nil, ⊎_elim}
+use Rattle.std.proofs.Common.{take-append-drop, length-drop}
 use Rattle.std.specs.Prelude.{Contains, encode_utf8_all, encode_utf8}
 use Rattle.std.proofs.Math.Seq.{take-append_seam}
 use Rattle.std.proofs.lemmas.Bool.{ltb-true}
 use Rattle.std.proofs.lemmas.Str.{encodes-append, length-encode, len_utf8_bounds}
 use Rattle.vt100_forms.specs.declared.attrs.Attrs.{Attrs}
-use Rattle.vt100_cells.specs.Cell.{CellView, IsCell, IsShort, IsWideAs, columns_of, has_room, appended_plain, all_appended, EachCellIsItsCharacters, EachTextIsShort}
+use Rattle.vt100_cells.specs.Cell.{CellView, IsCell, IsShort, IsWideAs, columns_of, has_room, appended_plain}
+use Rattle.vt100_cells.specs.Cell.{all_appended, EachCellIsItsCharacters, EachTextIsShort}
 
 -- a character put on a text with room
 put_on : (y : ℕ) (ys : List ℕ) (w q : Bool) (a : Attrs) (d : ℕ) → has_room (y ∷ ys) ≡ true
-    → appended_plain (record { text = y ∷ ys; wide = w; continuation = q; attrs = a }) d ≡ record { text = y ∷ (ys ++ d ∷ []); wide = w; continuation = q; attrs = a }
+    → appended_plain (record { text = y ∷ ys; wide = w; continuation = q; attrs = a }) d
+    ≡ record { text = y ∷ (ys ++ d ∷ []); wide = w; continuation = q; attrs = a }
 put_on y ys w q a d h = rw h refl
 
 -- y ∷ ys stands, and ds come
 all-put_on : (y : ℕ) (ys ds : List ℕ) (w q : Bool) (a : Attrs) → IsShort (y ∷ (ys ++ ds))
-    → all_appended (record { text = y ∷ ys; wide = w; continuation = q; attrs = a }) ds ≡ record { text = y ∷ (ys ++ ds); wide = w; continuation = q; attrs = a }
+    → all_appended (record { text = y ∷ ys; wide = w; continuation = q; attrs = a }) ds
+    ≡ record { text = y ∷ (ys ++ ds); wide = w; continuation = q; attrs = a }
 all-put_on y ys [] w q a h = λ i. record { text = y ∷ sym (append-nil ys) i; wide = w; continuation = q; attrs = a }
 all-put_on y ys (d ∷ ds) w q a h =
     let n = length-append ys (d ∷ ds) in
-    let front : take (suc (length ys)) (y ∷ (ys ++ d ∷ ds)) ≡ y ∷ ys = ap (λ zs. y ∷ zs) (take-append_seam ys (d ∷ ds)) in
+    let front : take (suc (length ys)) (y ∷ (ys ++ d ∷ ds)) ≡ y ∷ ys = ap (λ zs. y ∷ zs) (take-append_seam ys (d ∷ ds))
+    in
     let room : has_room (y ∷ ys) ≡ true = ap has_room (sym front) ∙ h (suc (length ys)) (omega arith) (omega arith) in
     let same : ys ++ d ∷ [] ++ ds ≡ ys ++ d ∷ ds = append_assoc ys (d ∷ []) ds in
     ap (λ x. all_appended x ds) (put_on y ys w q a d room)
@@ -51,8 +57,10 @@ last-is_short : (n : ℕ) (cs : List ℕ) → length cs ≡ n + 2 → IsShort cs
 last-is_short n cs e h =
     let front = ltb-true (length (encode_utf8_all (take (n + 1) cs))) 18 (h (n + 1) (omega arith) (omega arith)) in
     let last = one_char (drop (n + 1) cs) (omega (arith, length-drop (n + 1) cs)) in
-    let whole : length (encode_utf8_all cs) ≡ length (encode_utf8_all (take (n + 1) cs)) + length (encode_utf8_all (drop (n + 1) cs)) =
-    ap (λ zs. length (encode_utf8_all zs)) (sym (take-append-drop (n + 1) cs)) ∙ ap length (encodes-append (take (n + 1) cs) (drop (n + 1) cs))
+    let whole : length (encode_utf8_all cs) ≡ length (encode_utf8_all (take (n + 1) cs))
+    + length (encode_utf8_all (drop (n + 1) cs)) =
+    ap (λ zs. length (encode_utf8_all zs)) (sym (take-append-drop (n + 1) cs))
+    ∙ ap length (encodes-append (take (n + 1) cs) (drop (n + 1) cs))
     ∙ length-append (encode_utf8_all (take (n + 1) cs)) (encode_utf8_all (drop (n + 1) cs)) in
     omega arith
 

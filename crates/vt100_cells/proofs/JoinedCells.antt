@@ -1,8 +1,10 @@
 -- A cell that a zero-width character joins, and its place in a line.
-use Rattle.std.proofs.Common.{◌≡◌, ℕ, ◌+◌, ◌-◌, ◌<◌, ◌≤◌, ◌==◌, Bool, true, false, cond, not, ◌&&◌, ◌||◌, List, [], ◌∷◌, ◌++◌, length, sym, refl, ap, ◌∙◌, arith, ⊎_elim}
+use Rattle.std.proofs.Common.{◌≡◌, ℕ, ◌+◌, ◌-◌, ◌<◌, ◌≤◌, ◌==◌, Bool, true, false, cond, not, ◌&&◌, ◌||◌, List, [], ◌∷◌}
+use Rattle.std.proofs.Common.{◌++◌, length, sym, refl, ap, ◌∙◌, arith, ⊎_elim}
 use Rattle.std.proofs.lemmas.Bool.{false≢true, cases_eq, eq-eqb, ne_eqb, cond_both}
 use Rattle.std.proofs.lemmas.Bool.Decides.{nat_tests}
-use Rattle.vt100_cells.specs.Cell.{CellView, IsCell, IsWideAs, has_text, is_filled, has_room, text_with, is_widened_by, appended, appended_plain}
+use Rattle.vt100_cells.specs.Cell.{CellView, IsCell, IsWideAs, has_text, is_filled, has_room, text_with, is_widened_by}
+use Rattle.vt100_cells.specs.Cell.{appended, appended_plain}
 use Rattle.vt100_cells.specs.Line.{IsPaired, Bounded, update, base_col}
 use Rattle.vt100_cells.proofs.ListLemmas.{not_first}
 
@@ -16,17 +18,19 @@ whole_if_wide f i p w = (elim (f i).continuation as (λ b. (f i).continuation �
 
 -- it is no second half
 pub base_col-whole : (f : ℕ → CellView) (col : ℕ) → IsPaired f → (f (base_col f col)).continuation ≡ false
-base_col-whole f col p = (elim (f (col - 1)).continuation as (λ b. (f (col - 1)).continuation ≡ b → (f (cond b (col - 2) (col - 1))).continuation ≡ false) [
-  | true ↦ λ e.
-      let later = not_first f (col - 1) p e in
-      let k : col - 2 + 1 ≡ col - 1 = omega arith in
-      let wide : (f (col - 2)).wide ≡ true = sym (p.next (col - 2)) ∙ ap (λ j. (f j).continuation) k ∙ e in
-      whole_if_wide f (col - 2) p wide
-  | false ↦ λ e. e
-]) refl
+base_col-whole f col p = (elim (f (col - 1)).continuation as (λ b. (f (col - 1)).continuation ≡ b
+    → (f (cond b (col - 2) (col - 1))).continuation ≡ false) [
+      | true ↦ λ e.
+          let later = not_first f (col - 1) p e in
+          let k : col - 2 + 1 ≡ col - 1 = omega arith in
+          let wide : (f (col - 2)).wide ≡ true = sym (p.next (col - 2)) ∙ ap (λ j. (f j).continuation) k ∙ e in
+          whole_if_wide f (col - 2) p wide
+      | false ↦ λ e. e
+    ]) refl
 
 pub base_col-within : (f : ℕ → CellView) (n col : ℕ) → 0 < col → col ≤ n → base_col f col < n
-base_col-within f n col h l = cond_both (f (col - 1)).continuation (col - 2) (col - 1) (λ i. i < n) (λ _. omega arith) (λ _. omega arith)
+base_col-within f n col h l = cond_both (f (col - 1)).continuation (col - 2) (col - 1) (λ i. i < n) (λ _. omega arith)
+    (λ _. omega arith)
 
 -- ---- what joining does to a cell
 
@@ -35,14 +39,17 @@ text_with-some [] c = refl
 text_with-some (x ∷ xs) c = ne_eqb (length (x ∷ (xs ++ c ∷ []))) 0 (λ e. absurd (omega (arith, e)))
 
 pub filled-appended : (x : CellView) (c : ℕ) → is_filled x ≡ true → is_filled (appended x c) ≡ true
-filled-appended x c h = cond_both (has_room x.text) _ x (λ y. is_filled y ≡ true) (λ _. ap (λ b. not b || x.continuation) (text_with-some x.text c)) (λ _. h)
+filled-appended x c h = cond_both (has_room x.text) _ x (λ y. is_filled y ≡ true)
+    (λ _. ap (λ b. not b || x.continuation) (text_with-some x.text c)) (λ _. h)
 
 pub appended-continuation : (x : CellView) (c : ℕ) → (appended x c).continuation ≡ x.continuation
-appended-continuation x c = cond_both (has_room x.text) _ x (λ y. y.continuation ≡ x.continuation) (λ _. refl) (λ _. refl)
+appended-continuation x c = cond_both (has_room x.text) _ x (λ y. y.continuation ≡ x.continuation) (λ _. refl)
+    (λ _. refl)
 
 -- a wide cell stays wide
 pub appended-wide : (x : CellView) (c : ℕ) → x.wide ≡ true → (appended x c).wide ≡ true
-appended-wide x c w = cond_both (has_room x.text) _ x (λ y. y.wide ≡ true) (λ _. ap (λ b. b || is_widened_by x.text c) w) (λ _. w)
+appended-wide x c w = cond_both (has_room x.text) _ x (λ y. y.wide ≡ true)
+    (λ _. ap (λ b. b || is_widened_by x.text c) w) (λ _. w)
 
 pub same-width : (w v : Bool) → (v ≡ true → w ≡ true) → (w && not v) ≡ false → w ≡ v
 same-width true true h e = refl
@@ -57,7 +64,8 @@ wide_text (x ∷ xs) w h e = ap not (ne_eqb (length (x ∷ xs)) 0 (λ q. absurd 
 -- a cell that becomes wide has a text
 pub appended-has_text : (x : CellView) (c : ℕ) → IsCell x → (appended x c).wide ≡ true → has_text (appended x c) ≡ true
 appended-has_text x c h =
-    cond_both (has_room x.text) _ x (λ y. y.wide ≡ true → has_text y ≡ true) (λ _ w. ap not (text_with-some x.text c)) (λ _ w. wide_text x.text x.wide h.wide w)
+    cond_both (has_room x.text) _ x (λ y. y.wide ≡ true
+    → has_text y ≡ true) (λ _ w. ap not (text_with-some x.text c)) (λ _ w. wide_text x.text x.wide h.wide w)
 
 -- ---- the same where U+FE0F widens nothing
 
@@ -68,14 +76,17 @@ pub plain-wide : (x : CellView) (c : ℕ) → (appended_plain x c).wide ≡ x.wi
 plain-wide x c = cond_both (has_room x.text) _ x (λ y. y.wide ≡ x.wide) (λ _. refl) (λ _. refl)
 
 pub plain-filled : (x : CellView) (c : ℕ) → is_filled x ≡ true → is_filled (appended_plain x c) ≡ true
-plain-filled x c h = cond_both (has_room x.text) _ x (λ y. is_filled y ≡ true) (λ _. ap (λ b. not b || x.continuation) (text_with-some x.text c)) (λ _. h)
+plain-filled x c h = cond_both (has_room x.text) _ x (λ y. is_filled y ≡ true)
+    (λ _. ap (λ b. not b || x.continuation) (text_with-some x.text c)) (λ _. h)
 
 -- ---- a line with another cell in one column
 
 pub Bounded-update : (n : ℕ) (f : ℕ → CellView) (i : ℕ) (x : CellView) → Bounded n f → i < n → Bounded n (update f i x)
 Bounded-update n f i x b l k h = grind (arith, nat_tests, b k h)
 
-pub update-last : (f : ℕ → CellView) (i n : ℕ) (x : CellView) → (is_filled (f i) ≡ true → is_filled x ≡ true) → is_filled (f n) ≡ true → is_filled (update f i x n) ≡ true
+pub update-last : (f : ℕ → CellView) (i n : ℕ) (x : CellView) → (is_filled (f i) ≡ true → is_filled x ≡ true)
+    → is_filled (f n) ≡ true → is_filled (update f i x n) ≡ true
 update-last f i n x h g =
-    ⊎_elim (λ (e : n ≡ i). ap (λ b. is_filled (cond b x (f n))) (eq-eqb n i e) ∙ h (ap (λ j. is_filled (f j)) (sym e) ∙ g))
+    ⊎_elim (λ (e : n ≡ i). ap (λ b. is_filled (cond b x (f n))) (eq-eqb n i e)
+    ∙ h (ap (λ j. is_filled (f j)) (sym e) ∙ g))
     (λ ne. ap (λ b. is_filled (cond b x (f n))) (ne_eqb n i ne) ∙ g) (cases_eq n i)

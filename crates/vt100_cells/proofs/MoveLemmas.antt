@@ -19,35 +19,45 @@ IsPaired-cut n f p = record {
 
 -- ---- cells that come in
 
-opened-next-left : (f : ℕ → CellView) (i m k : ℕ) → IsPaired f → k + 1 < i → (opened f i m (k + 1)).continuation ≡ (opened f i m k).wide
+opened-next-left : (f : ℕ → CellView) (i m k : ℕ) → IsPaired f → k + 1 < i
+    → (opened f i m (k + 1)).continuation ≡ (opened f i m k).wide
 opened-next-left f i m k p h = grind (arith, nat_tests, p.next k)
 
-opened-next-before : (f : ℕ → CellView) (j m : ℕ) → IsPaired f → 0 < m → (opened f (j + 1) m (j + 1)).continuation ≡ (opened f (j + 1) m j).wide
+opened-next-before : (f : ℕ → CellView) (j m : ℕ) → IsPaired f → 0 < m
+    → (opened f (j + 1) m (j + 1)).continuation ≡ (opened f (j + 1) m j).wide
 opened-next-before f j m p pos = grind (arith, nat_tests, p.next j)
 
-opened-next-gap : (f : ℕ → CellView) (i m k : ℕ) → i ≤ k → k + 1 < i + m → (opened f i m (k + 1)).continuation ≡ (opened f i m k).wide
+opened-next-gap : (f : ℕ → CellView) (i m k : ℕ) → i ≤ k → k + 1 < i + m
+    → (opened f i m (k + 1)).continuation ≡ (opened f i m k).wide
 opened-next-gap f i m k h l = grind (arith, nat_tests)
 
-opened-next-seam : (f : ℕ → CellView) (i m : ℕ) → (opened f i (m + 1) (i + (m + 1))).continuation ≡ (opened f i (m + 1) (i + m)).wide
+opened-next-seam : (f : ℕ → CellView) (i m : ℕ) → (opened f i (m + 1) (i + (m + 1))).continuation
+    ≡ (opened f i (m + 1) (i + m)).wide
 opened-next-seam f i m = grind (arith, nat_tests)
 
-opened-next-after : (f : ℕ → CellView) (i m k : ℕ) → i + m ≤ k → 0 < m → (f (k + 1 - m)).continuation ≡ (f (k - m)).wide → ((f i).continuation ≡ true → (f i).wide ≡ false)
+opened-next-after : (f : ℕ → CellView) (i m k : ℕ) → i + m ≤ k → 0 < m
+    → (f (k + 1 - m)).continuation ≡ (f (k - m)).wide → ((f i).continuation ≡ true → (f i).wide ≡ false)
     → (opened f i m (k + 1)).continuation ≡ (opened f i m k).wide
 opened-next-after f i m k h pos e b = grind (arith, nat_tests, b)
 
-opened-next : (f : ℕ → CellView) (i m k : ℕ) → IsPaired f → 0 < m → (opened f i m (k + 1)).continuation ≡ (opened f i m k).wide
+opened-next : (f : ℕ → CellView) (i m k : ℕ) → IsPaired f → 0 < m
+    → (opened f i m (k + 1)).continuation ≡ (opened f i m k).wide
 opened-next f i m k p pos =
     ⊎_elim (λ (a : k + 1 < i). opened-next-left f i m k p a)
     (λ (a : i ≤ k + 1). ⊎_elim
     (λ (b : k < i). let e : k + 1 ≡ i = omega arith in
-    ap (λ j. (opened f j m (k + 1)).continuation) (sym e) ∙ opened-next-before f k m p pos ∙ ap (λ j. (opened f j m k).wide) e)
+    ap (λ j. (opened f j m (k + 1)).continuation) (sym e) ∙ opened-next-before f k m p pos
+    ∙ ap (λ j. (opened f j m k).wide) e)
     (λ (b : i ≤ k). ⊎_elim (λ (d : k + 1 < i + m). opened-next-gap f i m k b d)
     (λ (d : i + m ≤ k + 1). ⊎_elim
-    (λ (q : k < i + m). let em : m - 1 + 1 ≡ m = omega arith in let ek : i + (m - 1) ≡ k = omega arith in let el : i + (m - 1 + 1) ≡ k + 1 = omega arith in
+    (λ (q : k < i + m). let em : m - 1 + 1 ≡ m = omega arith in let ek : i + (m - 1) ≡ k = omega arith in
+    let el : i + (m - 1 + 1) ≡ k + 1 = omega arith in
     ap (λ j. (opened f i m j).continuation) (sym el) ∙ ap (λ j. (opened f i j (i + (m - 1 + 1))).continuation) (sym em)
-    ∙ opened-next-seam f i (m - 1) ∙ ap (λ j. (opened f i j (i + (m - 1))).wide) em ∙ ap (λ j. (opened f i m j).wide) ek)
+    ∙ opened-next-seam f i (m - 1) ∙ ap (λ j. (opened f i j (i + (m - 1))).wide) em
+    ∙ ap (λ j. (opened f i m j).wide) ek)
     (λ (q : i + m ≤ k). let e : k - m + 1 ≡ k + 1 - m = omega arith in
-    opened-next-after f i m k q pos (ap (λ j. (f j).continuation) (sym e) ∙ p.next (k - m)) (λ h. ap (λ (c : CellView). c.wide) (p.blank i h)))
+    opened-next-after f i m k q pos (ap (λ j. (f j).continuation) (sym e)
+    ∙ p.next (k - m)) (λ h. ap (λ (c : CellView). c.wide) (p.blank i h)))
     (cases_lt k (i + m)))
     (cases_lt (k + 1) (i + m)))
     (cases_lt k i))
@@ -63,29 +73,37 @@ IsPaired-opened f i m p pos = record {
 
 -- ---- cells that go
 
-closed-next-far : (m : ℕ) (f : ℕ → CellView) (s n k : ℕ) → IsPaired f → k + 1 < s → (closed m f s n (k + 1)).continuation ≡ (closed m f s n k).wide
+closed-next-far : (m : ℕ) (f : ℕ → CellView) (s n k : ℕ) → IsPaired f → k + 1 < s
+    → (closed m f s n (k + 1)).continuation ≡ (closed m f s n k).wide
 closed-next-far m f s n k p h = grind (arith, nat_tests, p.next k, p.blank (k + 1))
 
-closed-next-seam : (m : ℕ) (f : ℕ → CellView) (s n : ℕ) → IsPaired f → s + 1 + n ≤ m → (closed m f (s + 1) n (s + 1)).continuation ≡ (closed m f (s + 1) n s).wide
+closed-next-seam : (m : ℕ) (f : ℕ → CellView) (s n : ℕ) → IsPaired f → s + 1 + n ≤ m
+    → (closed m f (s + 1) n (s + 1)).continuation ≡ (closed m f (s + 1) n s).wide
 closed-next-seam m f s n p h = grind (arith, nat_tests)
 
-closed-next-after : (m : ℕ) (f : ℕ → CellView) (s n k : ℕ) → IsPaired f → s ≤ k → s + n ≤ m → 0 < n → (f (k + 1 + n)).continuation ≡ (f (k + n)).wide → ((f (k + n)).continuation ≡ true → f (k + n) ≡ continuation_cell)
+closed-next-after : (m : ℕ) (f : ℕ → CellView) (s n k : ℕ) → IsPaired f → s ≤ k → s + n ≤ m → 0 < n
+    → (f (k + 1 + n)).continuation ≡ (f (k + n)).wide
+    → ((f (k + n)).continuation ≡ true → f (k + n) ≡ continuation_cell)
     → (m ≤ k + n → f (k + n) ≡ default_cell) → (m ≤ k + 1 + n → f (k + 1 + n) ≡ default_cell)
     → (closed m f s n (k + 1)).continuation ≡ (closed m f s n k).wide
 closed-next-after m f s n k p h l pos e b d1 d2 = grind (arith, nat_tests, b, d1, d2)
 
-closed-next : (m : ℕ) (f : ℕ → CellView) (s n k : ℕ) → IsPaired f → Bounded m f → s + n ≤ m → 0 < n → (closed m f s n (k + 1)).continuation ≡ (closed m f s n k).wide
+closed-next : (m : ℕ) (f : ℕ → CellView) (s n k : ℕ) → IsPaired f → Bounded m f → s + n ≤ m → 0 < n
+    → (closed m f s n (k + 1)).continuation ≡ (closed m f s n k).wide
 closed-next m f s n k p past l pos =
     ⊎_elim (λ (a : k + 1 < s). closed-next-far m f s n k p a)
     (λ (a : s ≤ k + 1). ⊎_elim
     (λ (b : k < s). let e : k + 1 ≡ s = omega arith in
-    ap (λ j. (closed m f j n (k + 1)).continuation) (sym e) ∙ closed-next-seam m f k n p (omega arith) ∙ ap (λ j. (closed m f j n k).wide) e)
+    ap (λ j. (closed m f j n (k + 1)).continuation) (sym e) ∙ closed-next-seam m f k n p (omega arith)
+    ∙ ap (λ j. (closed m f j n k).wide) e)
     (λ (b : s ≤ k). let e : k + n + 1 ≡ k + 1 + n = omega arith in
-    closed-next-after m f s n k p b l pos (ap (λ j. (f j).continuation) (sym e) ∙ p.next (k + n)) (p.blank (k + n)) (past (k + n)) (past (k + 1 + n)))
+    closed-next-after m f s n k p b l pos (ap (λ j. (f j).continuation) (sym e)
+    ∙ p.next (k + n)) (p.blank (k + n)) (past (k + n)) (past (k + 1 + n)))
     (cases_lt k s))
     (cases_lt (k + 1) s)
 
-pub IsPaired-closed : (m : ℕ) (f : ℕ → CellView) (s n : ℕ) → IsPaired f → Bounded m f → s + n ≤ m → 0 < n → IsPaired (closed m f s n)
+pub IsPaired-closed : (m : ℕ) (f : ℕ → CellView) (s n : ℕ) → IsPaired f → Bounded m f → s + n ≤ m → 0 < n
+    → IsPaired (closed m f s n)
 IsPaired-closed m f s n p past l pos = record {
   first = grind (arith, nat_tests, p.first);
   next = λ k. closed-next m f s n k p past l pos;
@@ -97,7 +115,8 @@ Bounded-closed m f s n l pos k h = grind (arith, nat_tests)
 
 -- ---- a longer line
 
-pub IsPaired-extended : (m : ℕ) (f : ℕ → CellView) (x : CellView) → IsPaired f → Bounded m f → x.wide ≡ false → x.continuation ≡ false → IsPaired (extended m f x)
+pub IsPaired-extended : (m : ℕ) (f : ℕ → CellView) (x : CellView) → IsPaired f → Bounded m f → x.wide ≡ false
+    → x.continuation ≡ false → IsPaired (extended m f x)
 IsPaired-extended m f x p past w c = record {
   first = grind (arith, nat_tests, p.first);
   next = λ k. grind (arith, nat_tests, p.next k, past (k + 1));

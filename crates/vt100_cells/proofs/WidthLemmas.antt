@@ -20,10 +20,11 @@ unfolding char_width
 space_is_drawn = refl
 
 pub drawn-is : (c n : ℕ) → drawn_columns c ≡ Some n → (is_undrawable c ≡ false) × (columns_of c ≡ n)
-drawn-is c n e = elim (is_undrawable c) as (λ b. (cond b None (Some (columns_of c)) ≡ Some n) → (b ≡ false) × (columns_of c ≡ n)) [
-  | true ↦ λ h. cc
-  | false ↦ λ h. (refl, cc)
-] e
+drawn-is c n e = elim (is_undrawable c) as (λ b. (cond b None (Some (columns_of c)) ≡ Some n) → (b ≡ false)
+    × (columns_of c ≡ n)) [
+      | true ↦ λ h. cc
+      | false ↦ λ h. (refl, cc)
+    ] e
 
 pub printable-is : (c : ℕ) → IsPrintable c → (is_undrawable c ≡ false) × (columns_of c ≡ 1)
 printable-is c p = drawn-is c 1 (sym (drawn-ascii c p.0 p.1))

@@ -1,12 +1,15 @@
 -- What a contract sees of a cell, what is true of every cell, and the cells that edits make.
-use Rattle.std.specs.Prelude.{ℕ, ◌≡◌, ◌<◌, ◌≤◌, ◌==◌, ◌⊎◌, Bool, true, false, not, List, [], ◌∷◌, ◌++◌, length, take, min, Option, Some, None, is_none, unwrap_or, nat_eq, nat_lt, if◌then◌else◌, ◌&&◌, ◌||◌, encode_utf8_all, All, Contains}
+use Rattle.std.specs.Prelude.{ℕ, ◌≡◌, ◌<◌, ◌≤◌, ◌==◌, ◌⊎◌, Bool, true, false, not, List, [], ◌∷◌, ◌++◌, length, take}
+use Rattle.std.specs.Prelude.{min, Option, Some, None, is_none, unwrap_or, nat_eq, nat_lt, if◌then◌else◌, ◌&&◌, ◌||◌}
+use Rattle.std.specs.Prelude.{encode_utf8_all, All, Contains}
 use Rattle.std.specs.Char.{IsScalar}
 use lib.Pointwise.{pointwise}
 use Rattle.vt100_forms.specs.declared.attrs.Attrs.{Attrs}
 use Rattle.vt100_forms.specs.Attrs.{default_attrs, attrs_eq}
 use Rattle.unicode_width.specs.Width.{char_width, str_width}
 
--- the characters; whether they take two columns; whether this is the second column of the cell before it; how it is drawn
+-- the characters; whether they take two columns; whether this is the second column of the cell before it; how it is
+-- drawn
 pub record CellView : Type 0 where
   pub text : List ℕ
   pub wide : Bool
@@ -74,7 +77,12 @@ has_room cs = nat_lt (length (encode_utf8_all cs)) 18
 abbrev pub appended : CellView → ℕ → CellView
 appended x c =
     if has_room x.text
-    then record { text = text_with x.text c; wide = x.wide || is_widened_by x.text c; continuation = x.continuation; attrs = x.attrs }
+    then record {
+      text = text_with x.text c;
+      wide = x.wide || is_widened_by x.text c;
+      continuation = x.continuation;
+      attrs = x.attrs;
+    }
     else x
 
 -- the same where U+FE0F widens nothing
@@ -122,7 +130,8 @@ text_eq = pointwise nat_eq
 
 -- equality of text, flags and attributes
 abbrev pub cell_eq : CellView → CellView → Bool
-cell_eq x y = (text_eq x.text y.text && (bool_eq x.wide y.wide && bool_eq x.continuation y.continuation)) && attrs_eq x.attrs y.attrs
+cell_eq x y = (text_eq x.text y.text && (bool_eq x.wide y.wide && bool_eq x.continuation y.continuation))
+    && attrs_eq x.attrs y.attrs
 
 abbrev pub is_default : CellView → Bool
 is_default x = cell_eq x default_cell
@@ -131,7 +140,8 @@ is_default x = cell_eq x default_cell
 
 -- a cell without U+FE0F is its first character with the others put on
 abbrev pub EachCellIsItsCharacters : Type 0
-EachCellIsItsCharacters = (x : CellView) (c : ℕ) (cs : List ℕ) → IsCell x → x.text ≡ c ∷ cs → (Contains cs 0xFE0F → ⊥) → all_appended (cell_of c x.attrs) cs ≡ x
+EachCellIsItsCharacters = (x : CellView) (c : ℕ) (cs : List ℕ) → IsCell x → x.text ≡ c ∷ cs → (Contains cs 0xFE0F → ⊥)
+    → all_appended (cell_of c x.attrs) cs ≡ x
 
 abbrev pub EachTextIsShort : Type 0
 EachTextIsShort = (x : CellView) → IsCell x → length (encode_utf8_all x.text) ≤ 21

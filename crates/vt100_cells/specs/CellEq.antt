@@ -62,7 +62,8 @@ attrs_eq-refl a = rw (color_eq-refl a.fgcolor, color_eq-refl a.bgcolor) (eq-eqb 
 -- a test on cells answers true exactly for one cell twice
 pub cell_eq-true : (x y : CellView) → cell_eq x y ≡ true → x ≡ y
 cell_eq-true x y h =
-    let p = and_parts (text_eq x.text y.text && (bool_eq x.wide y.wide && bool_eq x.continuation y.continuation)) (attrs_eq x.attrs y.attrs) h in
+    let p = and_parts (text_eq x.text y.text && (bool_eq x.wide y.wide && bool_eq x.continuation y.continuation))
+    (attrs_eq x.attrs y.attrs) h in
     let q = and_parts (text_eq x.text y.text) (bool_eq x.wide y.wide && bool_eq x.continuation y.continuation) p.0 in
     let r = and_parts (bool_eq x.wide y.wide) (bool_eq x.continuation y.continuation) q.1 in
     let t = text_eq-true x.text y.text q.0 in
@@ -72,7 +73,11 @@ cell_eq-true x y h =
     λ i. record { text = t i; wide = w i; continuation = c i; attrs = a i }
 
 pub cell_eq-refl : (x : CellView) → cell_eq x x ≡ true
-cell_eq-refl x = rw (nat_list_eq_equiv.refl x.text, bool_eq-refl x.wide, bool_eq-refl x.continuation) (attrs_eq-refl x.attrs)
+cell_eq-refl x = rw (
+  nat_list_eq_equiv.refl x.text,
+  bool_eq-refl x.wide,
+  bool_eq-refl x.continuation,
+) (attrs_eq-refl x.attrs)
 
 pub cell_eq-of_same : (x y : CellView) → x ≡ y → cell_eq x y ≡ true
 cell_eq-of_same x y e = ap (cell_eq x) (sym e) ∙ cell_eq-refl x
@@ -80,7 +85,8 @@ cell_eq-of_same x y e = ap (cell_eq x) (sym e) ∙ cell_eq-refl x
 pub cell_eq-equiv : IsEquivalence cell_eq
 cell_eq-equiv = record {
   refl = cell_eq-refl;
-  symm = λ x y. both_ways (cell_eq x y) (cell_eq y x) (λ h. cell_eq-of_same y x (sym (cell_eq-true x y h))) (λ h. cell_eq-of_same x y (sym (cell_eq-true y x h)));
+  symm = λ x y. both_ways (cell_eq x y) (cell_eq y x) (λ h. cell_eq-of_same y x (sym (cell_eq-true x y h)))
+      (λ h. cell_eq-of_same x y (sym (cell_eq-true y x h)));
   congr = λ x y z h. ap (λ w. cell_eq w z) (cell_eq-true x y h);
 }
 

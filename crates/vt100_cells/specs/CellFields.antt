@@ -1,5 +1,6 @@
 -- The fields of a cell and of its text, and what a contract sees of them.
-use Rattle.std.specs.Prelude.{ℕ, ◌-◌, ◌≡◌, ◌≤◌, Bool, true, false, List, ◌++◌, length, take, drop, replicate, chars, encode_utf8_all, IsUtf8, refl}
+use Rattle.std.specs.Prelude.{ℕ, ◌-◌, ◌≡◌, ◌≤◌, Bool, true, false, List, ◌++◌, length, take, drop, replicate, chars}
+use Rattle.std.specs.Prelude.{encode_utf8_all, IsUtf8, refl}
 use Rattle.std.proofs.Common.{arith, take-append-drop, length-take-le, sym, ap, ◌∙◌}
 use Rattle.std.proofs.lemmas.Str.{IsUtf8-had, encodes-chars}
 use Rattle.vt100_cells.specs.declared.cell_text.CellText.TheInside.{Inside as TextInside}
@@ -37,8 +38,10 @@ pub fields_of-text_of : (t : TextInside) → IsText t → fields_of (text_of t) 
 fields_of-text_of t h =
     let n : length (encode_utf8_all (text_of t)) ≡ t.len = length-text_of t h in
     let e : encode_utf8_all (text_of t) ≡ take t.len t.bytes = encode_utf8_all-text_of t h in
-    let whole : take t.len t.bytes ++ replicate (21 - t.len) 0 ≡ t.bytes = ap (λ x. take t.len t.bytes ++ x) (sym h.zeros) ∙ take-append-drop t.len t.bytes in
-    let both : encode_utf8_all (text_of t) ++ replicate (21 - length (encode_utf8_all (text_of t))) 0 ≡ t.bytes = rw (n, e) whole in
+    let whole : take t.len t.bytes ++ replicate (21 - t.len) 0 ≡ t.bytes =
+    ap (λ x. take t.len t.bytes ++ x) (sym h.zeros) ∙ take-append-drop t.len t.bytes in
+    let both : encode_utf8_all (text_of t) ++ replicate (21 - length (encode_utf8_all (text_of t))) 0 ≡ t.bytes =
+    rw (n, e) whole in
     λ i. record { bytes = both i; len = n i }
 
 -- ---- the columns
@@ -66,7 +69,12 @@ span_from-span Continuation = refl
 -- ---- the cell
 
 abbrev pub view_of : CellInside → CellView
-view_of c = record { text = c.text; wide = is_wide_span c.span; continuation = is_continuation_span c.span; attrs = c.attrs }
+view_of c = record {
+  text = c.text;
+  wide = is_wide_span c.span;
+  continuation = is_continuation_span c.span;
+  attrs = c.attrs;
+}
 
 abbrev pub inside_of : CellView → CellInside
 inside_of x = record { text = x.text; span = span_from x.wide x.continuation; attrs = x.attrs }

@@ -1,5 +1,6 @@
 -- Edits of a line of cells: f gives the cell at each column, and each definition says what then stands at column k.
-use Rattle.std.specs.Prelude.{ℕ, ◌+◌, ◌-◌, ◌≤◌, ◌≡◌, ◌==◌, Bool, true, false, ◌&&◌, ◌||◌, nat_lt, nat_le, if◌then◌else◌, List, length, slice_index}
+use Rattle.std.specs.Prelude.{ℕ, ◌+◌, ◌-◌, ◌≤◌, ◌≡◌, ◌==◌, Bool, true, false, ◌&&◌, ◌||◌, nat_lt, nat_le, if◌then◌else◌}
+use Rattle.std.specs.Prelude.{List, length, slice_index}
 use Rattle.vt100_forms.specs.declared.attrs.Attrs.{Attrs}
 use Rattle.vt100_cells.specs.Cell.{CellView, default_cell, empty_cell, continuation_cell, cell_of}
 
@@ -69,7 +70,8 @@ run f i xs a k =
 abbrev pub wiped : (ℕ → CellView) → ℕ → ℕ → Attrs → ℕ → CellView
 wiped f s e a k =
     if nat_le s k && nat_lt k e then empty_cell a
-    else if nat_lt s e && ((((k + 1) == s) && (f k).wide) || ((k == e) && (f k).continuation)) then empty_cell (f k).attrs
+    else if nat_lt s e && ((((k + 1) == s) && (f k).wide) || ((k == e) && (f k).continuation))
+    then empty_cell (f k).attrs
     else f k
 
 -- whether that empties the last of n columns

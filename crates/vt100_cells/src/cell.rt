@@ -1,5 +1,6 @@
 //! One cell of a terminal.
-ghost use Rattle.std.specs.Prelude.{◌≡◌, ℕ, ◌+◌, ◌-◌, ◌<◌, ◌≤◌, ◌↔◌, ◌==◌, List, [], ◌∷◌, ◌++◌, length, IsTrue, true, false, not, nat_eq, nat_lt, encode_utf8_all, chars};
+ghost use Rattle.std.specs.Prelude.{◌≡◌, ℕ, ◌+◌, ◌-◌, ◌<◌, ◌≤◌, ◌↔◌, ◌==◌, List, [], ◌∷◌, ◌++◌, length, IsTrue, true};
+ghost use Rattle.std.specs.Prelude.{false, not, nat_eq, nat_lt, encode_utf8_all, chars};
 ghost use Rattle.vt100_forms.specs.Attrs.{is_bold, is_dim, is_italic, is_underlined, is_inverse};
 ghost use Rattle.vt100_cells.specs.Cell.{IsCell, cell_eq};
 
@@ -80,7 +81,8 @@ impl Eq for Cell {
 
 impl Cell {
     ghost use Rattle.std.specs.Prelude.{Some};
-    ghost use Rattle.vt100_cells.specs.Cell.{empty_cell, default_cell, continuation_cell, cell_of, appended, drawn_columns, has_room, has_text, is_default, IsPrintable};
+    ghost use Rattle.vt100_cells.specs.Cell.{empty_cell, default_cell, continuation_cell, cell_of, appended};
+    ghost use Rattle.vt100_cells.specs.Cell.{drawn_columns, has_room, has_text, is_default, IsPrintable};
 
     /// A cell that shows nothing, with default attributes.
     pub fn new() -> Self
@@ -132,18 +134,14 @@ impl Cell {
         }
     }
 
-    /// A space's cell with the printable ASCII character `c` in its place.
+    /// Puts the printable ASCII character `c` in place of a space.
     #[inline]
-    pub(crate) fn replaced_by_ascii(self, c: u8) -> Self
-        requires space { self ≡ cell_of 32 self.attrs }
+    pub(crate) fn replace_by_ascii(&mut self, c: u8)
+        requires space { self.old ≡ cell_of 32 self.old.attrs }
         requires printable { IsPrintable c }
-        ensures { result ≡ cell_of c self.attrs }
+        ensures { self.new ≡ cell_of c self.old.attrs }
     {
-        Cell {
-            text: self.text.replaced_by_ascii(c),
-            span: self.span,
-            attrs: self.attrs,
-        }
+        self.text.replace_by_ascii(c);
     }
 
     /// Whether the text takes one more zero-width character. For rows alone.

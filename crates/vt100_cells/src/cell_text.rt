@@ -1,5 +1,7 @@
 //! The text of a cell, which lies in the cell itself.
-ghost use Rattle.std.specs.Prelude.{◌≡◌, ℕ, ◌+◌, ◌-◌, ◌<◌, ◌≤◌, ◌==◌, List, [], ◌∷◌, ◌++◌, length, IsTrue, encode_utf8_all, chars, slice_set, slice_index, nat_eq, nat_lt, not, true, false, ◌&&◌};
+ghost use Rattle.std.specs.Prelude.{◌≡◌, ℕ, ◌+◌, ◌-◌, ◌<◌, ◌≤◌, ◌==◌, List, [], ◌∷◌, ◌++◌, length, IsTrue};
+ghost use Rattle.std.specs.Prelude.{encode_utf8_all, chars, slice_set, slice_index, nat_eq, nat_lt, not, true, false};
+ghost use Rattle.std.specs.Prelude.{◌&&◌};
 ghost use Rattle.std.specs.Char.{IsScalar};
 ghost use Rattle.unicode_width.specs.Width.{str_width};
 
@@ -85,19 +87,14 @@ impl CellText {
         CellText { bytes, len: 1 }
     }
 
-    /// The space's text with `c` in its place.
+    /// Puts the ASCII character `c` in place of a space.
     #[inline]
-    pub(crate) fn replaced_by_ascii(self, c: u8) -> Self
-        requires space { self ≡ 32 ∷ [] }
+    pub(crate) fn replace_by_ascii(&mut self, c: u8)
+        requires space { self.old ≡ 32 ∷ [] }
         requires ascii { c < 128 }
-        ensures { result ≡ c ∷ [] }
+        ensures { self.new ≡ c ∷ [] }
     {
-        let mut bytes = self.bytes;
-        bytes[0] = c;
-        CellText {
-            bytes,
-            len: self.len,
-        }
+        self.bytes[0] = c;
     }
 
     pub(crate) fn is_empty(&self) -> bool

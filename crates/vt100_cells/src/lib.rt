@@ -3,8 +3,8 @@
 //! A [`Cell`] is what stands at one column of a row. The two columns of a wide character stand together after every
 //! edit of a line: the cell with its text, and directly after it a blank continuation.
 //!
-//! The module [`line`] and the calls of [`Cell`] that make one are a part of the rows that are built on this crate: they
-//! edit a slice of cells, which by itself promises nothing. A row's own calls have no such conditions.
+//! The module [`line`] and the calls of [`Cell`] that make one are a part of the rows that are built on this crate:
+//! they edit a slice of cells, which by itself promises nothing. A row's own calls have no such conditions.
 #![tactic(auto)]
 
 mod cell;

@@ -1,7 +1,11 @@
 //! Edits of the cells of one line.
-ghost use Rattle.std.specs.Prelude.{◌≡◌, ℕ, ◌+◌, ◌-◌, ◌<◌, ◌≤◌, ◌==◌, List, length, Some, true, false, not, ◌&&◌, slice_set, All, slice_index};
-ghost use Rattle.vt100_cells.specs.Cell.{CellView, IsCell, has_text, is_filled, drawn_columns, cell_of, empty_cell, default_cell, IsPrintable};
-ghost use Rattle.vt100_cells.specs.Line.{IsPaired, span_of, update, put, put_unflags, base_col, pair_wiped, wiped, wipe_unflags, cut, opened, closed, left_cleared, right_cleared, shifted_right, mended, shifted_left, run};
+ghost use Rattle.std.specs.Prelude.{◌≡◌, ℕ, ◌+◌, ◌-◌, ◌<◌, ◌≤◌, ◌==◌, List, length, Some, true, false, not, ◌&&◌};
+ghost use Rattle.std.specs.Prelude.{slice_set, All, slice_index};
+ghost use Rattle.vt100_cells.specs.Cell.{CellView, IsCell, has_text, is_filled, drawn_columns, cell_of, empty_cell};
+ghost use Rattle.vt100_cells.specs.Cell.{default_cell, IsPrintable};
+ghost use Rattle.vt100_cells.specs.Line.{IsPaired, span_of, update, put, put_unflags, base_col, pair_wiped, wiped};
+ghost use Rattle.vt100_cells.specs.Line.{wipe_unflags, cut, opened, closed, left_cleared, right_cleared, shifted_right};
+ghost use Rattle.vt100_cells.specs.Line.{mended, shifted_left, run};
 ghost use Rattle.vt100_cells.specs.Cells.{cell_at, by_position, last_cell, inserted_cells, trimmed_len};
 
 use crate::cell::Cell;
@@ -285,7 +289,7 @@ pub fn put_run(cells: &mut [Cell], start: usize, text: &[u8], attrs: Attrs)
 }
 
 /// Writes each character of `text` into a cell that is like `space`.
-// Where LLVM inlines it, it writes each cell in six pieces, else in three.
+// A copy of the whole space and then its first byte are three stores; a cell that LLVM sees made of its parts is seven.
 #[inline(never)]
 fn write_run(cells: &mut [Cell], text: &[u8], space: Cell)
     requires one_each { length cells.old ≡ length text.now }
@@ -294,6 +298,7 @@ fn write_run(cells: &mut [Cell], text: &[u8], space: Cell)
     ensures { cells.new ≡ by_position (length cells.old) (λ k. cell_of (slice_index text.now k) space.attrs) }
 {
     for (i, cell) in cells.iter_mut().enumerate() {
-        *cell = space.replaced_by_ascii(text[i]);
+        *cell = space;
+        cell.replace_by_ascii(text[i]);
     }
 }

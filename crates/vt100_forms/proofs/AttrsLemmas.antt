@@ -1,13 +1,17 @@
--- What the setters of the attributes set, and that a change leads from the old attributes to the new ones. A fact of the
--- modes below a number is computed for each of them.
-use Rattle.std.proofs.Common.{◌≡◌, ℕ, zero, suc, ◌^◌, ◌<◌, List, [], ◌∷◌, Bool, true, false, not, ◌&&◌, ◌||◌, refl, arith, ap, sym, ◌∙◌, subst, inl, inr, eqb}
+-- What the setters of the attributes set, and that a change leads from the old attributes to the new ones. A fact of
+-- the modes below a number is computed for each of them.
+use Rattle.std.proofs.Common.{◌≡◌, ℕ, zero, suc, ◌^◌, ◌<◌, List, [], ◌∷◌, Bool, true, false, not, ◌&&◌, ◌||◌, refl}
+use Rattle.std.proofs.Common.{arith, ap, sym, ◌∙◌, subst, inl, inr, eqb}
 use Rattle.std.specs.Prelude.{nat_lt, unwrap_or, Some, None}
 use Rattle.std.proofs.lemmas.Bool.Decides.{eqb_tells}
 use Rattle.std.proofs.lemmas.Bool.{cond_both, eqb-true, ltb-true}
 use Rattle.vt100_forms.specs.declared.attrs.Color.{Color}
 use Rattle.vt100_forms.specs.declared.attrs.Color.TheVariants.{Default, Idx, Rgb}
 use Rattle.vt100_forms.specs.declared.attrs.Attrs.{Attrs}
-use Rattle.vt100_forms.specs.Attrs.{default_attrs, color_eq, is_bold, is_dim, is_italic, is_underlined, is_inverse, with_mode, with_bold, with_dim, with_normal_intensity, with_italic, with_underline, with_inverse, IsProper, flags_of, SettersAreRead, EachSetterIsRead, EachSetterKeepsProper}
+use Rattle.vt100_forms.specs.Attrs.{default_attrs, color_eq, is_bold, is_dim, is_italic, is_underlined, is_inverse}
+use Rattle.vt100_forms.specs.Attrs.{with_mode, with_bold, with_dim, with_normal_intensity, with_italic, with_underline}
+use Rattle.vt100_forms.specs.Attrs.{with_inverse, IsProper, flags_of, SettersAreRead, EachSetterIsRead}
+use Rattle.vt100_forms.specs.Attrs.{EachSetterKeepsProper}
 use Rattle.vt100_forms.specs.Form.{with_change, changed_attrs, changed_color, EachChangeLeads}
 
 both-left : (a b : Bool) → (a && b) ≡ true → a ≡ true
@@ -61,53 +65,65 @@ all_same-true (x ∷ xs) [] h = cc
 of_mode : ℕ → Attrs
 of_mode m = with_mode default_attrs m
 
-reads_bold : all_below 256 (λ m. all_same (flags_of (with_bold (of_mode m))) (true ∷ false ∷ is_italic (of_mode m) ∷ is_underlined (of_mode m) ∷ is_inverse (of_mode m) ∷ [])) ≡ true
+reads_bold : all_below 256 (λ m. all_same (flags_of (with_bold (of_mode m))) (true ∷ false ∷ is_italic (of_mode m)
+    ∷ is_underlined (of_mode m) ∷ is_inverse (of_mode m) ∷ [])) ≡ true
 unfolding all_below all_same same of_mode
 reads_bold = refl
 
-reads_dim : all_below 256 (λ m. all_same (flags_of (with_dim (of_mode m))) (false ∷ true ∷ is_italic (of_mode m) ∷ is_underlined (of_mode m) ∷ is_inverse (of_mode m) ∷ [])) ≡ true
+reads_dim : all_below 256 (λ m. all_same (flags_of (with_dim (of_mode m))) (false ∷ true ∷ is_italic (of_mode m)
+    ∷ is_underlined (of_mode m) ∷ is_inverse (of_mode m) ∷ [])) ≡ true
 unfolding all_below all_same same of_mode
 reads_dim = refl
 
-reads_normal : all_below 256 (λ m. all_same (flags_of (with_normal_intensity (of_mode m))) (false ∷ false ∷ is_italic (of_mode m) ∷ is_underlined (of_mode m) ∷ is_inverse (of_mode m) ∷ [])) ≡ true
+reads_normal : all_below 256 (λ m. all_same (flags_of (with_normal_intensity (of_mode m))) (false ∷ false
+    ∷ is_italic (of_mode m) ∷ is_underlined (of_mode m) ∷ is_inverse (of_mode m) ∷ [])) ≡ true
 unfolding all_below all_same same of_mode
 reads_normal = refl
 
-reads_italic_true : all_below 256 (λ m. all_same (flags_of (with_italic true (of_mode m))) (is_bold (of_mode m) ∷ is_dim (of_mode m) ∷ true ∷ is_underlined (of_mode m) ∷ is_inverse (of_mode m) ∷ [])) ≡ true
+reads_italic_true : all_below 256 (λ m. all_same (flags_of (with_italic true (of_mode m))) (is_bold (of_mode m)
+    ∷ is_dim (of_mode m) ∷ true ∷ is_underlined (of_mode m) ∷ is_inverse (of_mode m) ∷ [])) ≡ true
 unfolding all_below all_same same of_mode
 reads_italic_true = refl
 
-reads_italic_false : all_below 256 (λ m. all_same (flags_of (with_italic false (of_mode m))) (is_bold (of_mode m) ∷ is_dim (of_mode m) ∷ false ∷ is_underlined (of_mode m) ∷ is_inverse (of_mode m) ∷ [])) ≡ true
+reads_italic_false : all_below 256 (λ m. all_same (flags_of (with_italic false (of_mode m))) (is_bold (of_mode m)
+    ∷ is_dim (of_mode m) ∷ false ∷ is_underlined (of_mode m) ∷ is_inverse (of_mode m) ∷ [])) ≡ true
 unfolding all_below all_same same of_mode
 reads_italic_false = refl
 
-reads_underline_true : all_below 256 (λ m. all_same (flags_of (with_underline true (of_mode m))) (is_bold (of_mode m) ∷ is_dim (of_mode m) ∷ is_italic (of_mode m) ∷ true ∷ is_inverse (of_mode m) ∷ [])) ≡ true
+reads_underline_true : all_below 256 (λ m. all_same (flags_of (with_underline true (of_mode m))) (is_bold (of_mode m)
+    ∷ is_dim (of_mode m) ∷ is_italic (of_mode m) ∷ true ∷ is_inverse (of_mode m) ∷ [])) ≡ true
 unfolding all_below all_same same of_mode
 reads_underline_true = refl
 
-reads_underline_false : all_below 256 (λ m. all_same (flags_of (with_underline false (of_mode m))) (is_bold (of_mode m) ∷ is_dim (of_mode m) ∷ is_italic (of_mode m) ∷ false ∷ is_inverse (of_mode m) ∷ [])) ≡ true
+reads_underline_false : all_below 256 (λ m. all_same (flags_of (with_underline false (of_mode m))) (is_bold (of_mode m)
+    ∷ is_dim (of_mode m) ∷ is_italic (of_mode m) ∷ false ∷ is_inverse (of_mode m) ∷ [])) ≡ true
 unfolding all_below all_same same of_mode
 reads_underline_false = refl
 
-reads_inverse_true : all_below 256 (λ m. all_same (flags_of (with_inverse true (of_mode m))) (is_bold (of_mode m) ∷ is_dim (of_mode m) ∷ is_italic (of_mode m) ∷ is_underlined (of_mode m) ∷ true ∷ [])) ≡ true
+reads_inverse_true : all_below 256 (λ m. all_same (flags_of (with_inverse true (of_mode m))) (is_bold (of_mode m)
+    ∷ is_dim (of_mode m) ∷ is_italic (of_mode m) ∷ is_underlined (of_mode m) ∷ true ∷ [])) ≡ true
 unfolding all_below all_same same of_mode
 reads_inverse_true = refl
 
-reads_inverse_false : all_below 256 (λ m. all_same (flags_of (with_inverse false (of_mode m))) (is_bold (of_mode m) ∷ is_dim (of_mode m) ∷ is_italic (of_mode m) ∷ is_underlined (of_mode m) ∷ false ∷ [])) ≡ true
+reads_inverse_false : all_below 256 (λ m. all_same (flags_of (with_inverse false (of_mode m))) (is_bold (of_mode m)
+    ∷ is_dim (of_mode m) ∷ is_italic (of_mode m) ∷ is_underlined (of_mode m) ∷ false ∷ [])) ≡ true
 unfolding all_below all_same same of_mode
 reads_inverse_false = refl
 
-italic_flags : (b : Bool) (a : Attrs) → a.mode < 2 ^ 8 → flags_of (with_italic b a) ≡ is_bold a ∷ is_dim a ∷ b ∷ is_underlined a ∷ is_inverse a ∷ []
+italic_flags : (b : Bool) (a : Attrs) → a.mode < 2 ^ 8
+    → flags_of (with_italic b a) ≡ is_bold a ∷ is_dim a ∷ b ∷ is_underlined a ∷ is_inverse a ∷ []
 unfolding of_mode
 italic_flags true a h = all_same-true _ _ (all_below-at 256 _ reads_italic_true a.mode h)
 italic_flags false a h = all_same-true _ _ (all_below-at 256 _ reads_italic_false a.mode h)
 
-underline_flags : (b : Bool) (a : Attrs) → a.mode < 2 ^ 8 → flags_of (with_underline b a) ≡ is_bold a ∷ is_dim a ∷ is_italic a ∷ b ∷ is_inverse a ∷ []
+underline_flags : (b : Bool) (a : Attrs) → a.mode < 2 ^ 8
+    → flags_of (with_underline b a) ≡ is_bold a ∷ is_dim a ∷ is_italic a ∷ b ∷ is_inverse a ∷ []
 unfolding of_mode
 underline_flags true a h = all_same-true _ _ (all_below-at 256 _ reads_underline_true a.mode h)
 underline_flags false a h = all_same-true _ _ (all_below-at 256 _ reads_underline_false a.mode h)
 
-inverse_flags : (b : Bool) (a : Attrs) → a.mode < 2 ^ 8 → flags_of (with_inverse b a) ≡ is_bold a ∷ is_dim a ∷ is_italic a ∷ is_underlined a ∷ b ∷ []
+inverse_flags : (b : Bool) (a : Attrs) → a.mode < 2 ^ 8
+    → flags_of (with_inverse b a) ≡ is_bold a ∷ is_dim a ∷ is_italic a ∷ is_underlined a ∷ b ∷ []
 unfolding of_mode
 inverse_flags true a h = all_same-true _ _ (all_below-at 256 _ reads_inverse_true a.mode h)
 inverse_flags false a h = all_same-true _ _ (all_below-at 256 _ reads_inverse_false a.mode h)
@@ -204,7 +220,10 @@ setters_keep_proper a h =
     record {
       bold = record { small = ltb-true _ _ (all_below-at 32 _ small_bold a.mode h.small); one = ap strong read.bold };
       dim = record { small = ltb-true _ _ (all_below-at 32 _ small_dim a.mode h.small); one = ap strong read.dim };
-      normal = record { small = ltb-true _ _ (all_below-at 32 _ small_normal a.mode h.small); one = ap strong read.normal };
+      normal = record {
+        small = ltb-true _ _ (all_below-at 32 _ small_normal a.mode h.small);
+        one = ap strong read.normal;
+      };
       italic = λ b. italic-proper b a h;
       underline = λ b. underline-proper b a h;
       inverse = λ b. inverse-proper b a h;
@@ -225,7 +244,8 @@ or-false : (a b : Bool) → a ≡ false → (a || b) ≡ true → b ≡ true
 or-false true b h k = cc
 or-false false b h k = k
 
-mode-leads : (m n : ℕ) → m < 32 → n < 32 → strong (flags_of (of_mode m)) ≡ false → strong (flags_of (of_mode n)) ≡ false → mode_after m n ≡ n
+mode-leads : (m n : ℕ) → m < 32 → n < 32 → strong (flags_of (of_mode m)) ≡ false
+    → strong (flags_of (of_mode n)) ≡ false → mode_after m n ≡ n
 unfolding leads_at
 mode-leads m n hm hn sm sn =
     let row : all_below 32 (leads_at m) ≡ true = all_below-at 32 _ modes_lead m hm in
@@ -249,12 +269,15 @@ color_eq-true (Rgb r g b) (Idx j) h = cc
 
 color-leads : (old new : Color) → unwrap_or (changed_color old new) old ≡ new
 color-leads old new =
-    cond_both (color_eq new old) None (Some new) (λ o. unwrap_or o old ≡ new) (λ h. sym (color_eq-true new old h)) (λ h. refl)
+    cond_both (color_eq new old) None (Some new) (λ o. unwrap_or o old ≡ new) (λ h. sym (color_eq-true new old h))
+    (λ h. refl)
 
 pub change-leads : EachChangeLeads
 unfolding of_mode mode_after strong
 change-leads old new ho hn =
-    let fg : unwrap_or (changed_color old.fgcolor new.fgcolor) old.fgcolor ≡ new.fgcolor = color-leads old.fgcolor new.fgcolor in
-    let bg : unwrap_or (changed_color old.bgcolor new.bgcolor) old.bgcolor ≡ new.bgcolor = color-leads old.bgcolor new.bgcolor in
+    let fg : unwrap_or (changed_color old.fgcolor new.fgcolor) old.fgcolor ≡ new.fgcolor =
+    color-leads old.fgcolor new.fgcolor in
+    let bg : unwrap_or (changed_color old.bgcolor new.bgcolor) old.bgcolor ≡ new.bgcolor =
+    color-leads old.bgcolor new.bgcolor in
     let mode : mode_after old.mode new.mode ≡ new.mode = mode-leads old.mode new.mode ho.small hn.small ho.one hn.one in
     λ i. record { fgcolor = fg i; bgcolor = bg i; mode = mode i }

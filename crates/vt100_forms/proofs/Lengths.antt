@@ -1,5 +1,6 @@
 -- How long the spelling of a form can be.
-use Rattle.std.proofs.Common.{◌≡◌, ℕ, ◌+◌, ◌-◌, ◌^◌, ◌<◌, ◌≤◌, List, [], ◌∷◌, ◌++◌, Bool, true, false, ◌&&◌, refl, arith, Option, Some, None, length, length-append}
+use Rattle.std.proofs.Common.{◌≡◌, ℕ, ◌+◌, ◌-◌, ◌^◌, ◌<◌, ◌≤◌, List, [], ◌∷◌, ◌++◌, Bool, true, false, ◌&&◌, refl}
+use Rattle.std.proofs.Common.{arith, Option, Some, None, length, length-append}
 use Rattle.std.specs.Prelude.{decimal, ◌==◌, nat_lt}
 use Rattle.std.proofs.lemmas.Fmt.{length-decimal-le}
 use Rattle.std.proofs.lemmas.Bool.{cond_both}
@@ -14,7 +15,12 @@ use Rattle.vt100_forms.specs.declared.modes.MouseProtocolEncoding.TheVariants as
 use Rattle.vt100_forms.specs.declared.modes.CursorStyle.{CursorStyle}
 use Rattle.vt100_forms.specs.declared.modes.CursorStyle.TheVariants as style
 use Rattle.vt100_forms.specs.Attrs.{default_attrs, color_eq, attrs_eq}
-use Rattle.vt100_forms.specs.Form.{Form, Text, MoveTo, MoveRight, EraseChar, ClearRowForward, ClearScreen, ClearAttrs, Crlf, Lf, Backspace, SaveCursor, RestoreCursor, HideCursor, Keypad, CursorKeys, Paste, Mouse, Encoding, Style, Sgr, Change, spelling, spell, changed_attrs, changed_color, counted, mode_change, mouse_number, encoding_number, style_number, color_numbers, color_part, intensity_part, flag_part, sgr_numbers, sgr_text, further_numbers}
+use Rattle.vt100_forms.specs.Form.{Form, Text, MoveTo, MoveRight, EraseChar, ClearRowForward, ClearScreen, ClearAttrs}
+use Rattle.vt100_forms.specs.Form.{Crlf, Lf, Backspace, SaveCursor, RestoreCursor, HideCursor, Keypad, CursorKeys}
+use Rattle.vt100_forms.specs.Form.{Paste, Mouse, Encoding, Style, Sgr, Change, spelling, spell, changed_attrs}
+use Rattle.vt100_forms.specs.Form.{changed_color, counted, mode_change, mouse_number, encoding_number, style_number}
+use Rattle.vt100_forms.specs.Form.{color_numbers, color_part, intensity_part, flag_part, sgr_numbers, sgr_text}
+use Rattle.vt100_forms.specs.Form.{further_numbers}
 use Rattle.vt100_forms.specs.Length.{IsByteColor, IsByteOption, EachSpellingIsShort, EachMoveIsShort, EachChangeIsShort}
 
 digits-1 : (n : ℕ) → n < 10 → length (decimal n) ≤ 1
@@ -68,10 +74,18 @@ width_of-color : (base : ℕ) (c : Color) → base ≤ 40 → IsByteColor c → 
 width_of-color base Default b h = omega (arith, digits-2 (base + 9) (omega arith))
 width_of-color base (Idx i) b h =
     cond_both (nat_lt i 8) _ _ (λ ns. width_of ns ≤ 17) (λ g. omega (arith, digits-3 (base + i) (omega arith)))
-    (λ g. cond_both (nat_lt i 16) _ _ (λ ns. width_of ns ≤ 17) (λ k. omega (arith, digits-3 (base + 52 + i) (omega arith)))
+    (λ g. cond_both (nat_lt i 16) _ _ (λ ns. width_of ns ≤ 17)
+    (λ k. omega (arith, digits-3 (base + 52 + i) (omega arith)))
     (λ k. omega (arith, digits-2 (base + 8) (omega arith), digits-1 5 (omega arith), digits-3 i (omega arith))))
 width_of-color base (Rgb r g b') b h =
-    omega (arith, digits-2 (base + 8) (omega arith), digits-1 2 (omega arith), digits-3 r (omega (arith, h.0)), digits-3 g (omega (arith, h.1)), digits-3 b' (omega (arith, h.2)))
+    omega (
+      arith,
+      digits-2 (base + 8) (omega arith),
+      digits-1 2 (omega arith),
+      digits-3 r (omega (arith, h.0)),
+      digits-3 g (omega (arith, h.1)),
+      digits-3 b' (omega (arith, h.2)),
+    )
 
 width_of-color_part : (base : ℕ) (o : Option Color) → base ≤ 40 → IsByteOption o → width_of (color_part base o) ≤ 17
 width_of-color_part base None b h = omega arith
@@ -162,7 +176,8 @@ length-moves p q hp hq =
     cond_both ((q.row == p.row + 1) && (q.col == 0)) _ _ P (λ h. omega arith)
     (λ h. cond_both ((p.row == q.row) && (p.col == q.col)) _ _ P (λ g. omega arith)
     (λ g. cond_both ((p.row == q.row) && nat_lt p.col q.col) _ _ P
-    (λ k. length-spell_one (MoveRight (q.col - p.col)) 14 (omega (arith, length-counted (q.col - p.col) 67 (omega (arith, hq.1)))))
+    (λ k. length-spell_one (MoveRight (q.col - p.col)) 14
+    (omega (arith, length-counted (q.col - p.col) 67 (omega (arith, hq.1)))))
     (λ k. length-spell_one (MoveTo q.row q.col) 14 (length-MoveTo q.row q.col hq.0 hq.1))))
 
 changed_color-small : (old new : Color) → IsByteColor new → IsByteOption (changed_color old new)
@@ -173,4 +188,6 @@ length-change a b h =
     let P : List Form → Type 0 = λ fs. length (spell fs) ≤ 48 in
     cond_both (attrs_eq b a) _ _ P (λ i. omega arith)
     (λ i. cond_both (attrs_eq b default_attrs) _ _ P (λ j. omega arith)
-    (λ j. length-spell_one (Sgr (changed_attrs a b)) 48 (length-Sgr (changed_attrs a b) (changed_color-small a.fgcolor b.fgcolor h.0) (changed_color-small a.bgcolor b.bgcolor h.1))))
+    (λ j. length-spell_one (Sgr (changed_attrs a b)) 48
+    (length-Sgr (changed_attrs a b) (changed_color-small a.fgcolor b.fgcolor h.0)
+    (changed_color-small a.bgcolor b.bgcolor h.1))))

@@ -1,5 +1,6 @@
 -- No list of forms holds a mark of a synchronized update.
-use Rattle.std.proofs.Common.{◌≡◌, ℕ, zero, suc, ◌+◌, ◌/◌, ◌%◌, ◌<◌, ◌≤◌, List, [], ◌∷◌, ◌++◌, Bool, true, false, ◌&&◌, refl, arith, ap, sym, ◌∙◌, append_assoc, append-nil, length, length-append, not}
+use Rattle.std.proofs.Common.{◌≡◌, ℕ, zero, suc, ◌+◌, ◌/◌, ◌%◌, ◌<◌, ◌≤◌, List, [], ◌∷◌, ◌++◌, Bool, true, false, ◌&&◌}
+use Rattle.std.proofs.Common.{refl, arith, ap, sym, ◌∙◌, append_assoc, append-nil, length, length-append, not}
 use Rattle.std.specs.Prelude.{decimal, encode_utf8_all, ◌==◌, nat_lt, nat_eq, codes}
 use Rattle.std.specs.List.{AllByRecursion}
 use Rattle.std.proofs.lemmas.List.{append_cancel_left}
@@ -11,7 +12,11 @@ use Rattle.vt100_forms.specs.declared.modes.MouseProtocolMode.TheVariants as mou
 use Rattle.vt100_forms.specs.declared.modes.MouseProtocolEncoding.{MouseProtocolEncoding}
 use Rattle.vt100_forms.specs.declared.modes.MouseProtocolEncoding.TheVariants as encoding
 use Rattle.vt100_forms.specs.declared.modes.CursorStyle.{CursorStyle}
-use Rattle.vt100_forms.specs.Form.{Form, Text, MoveTo, MoveRight, EraseChar, ClearRowForward, ClearScreen, ClearAttrs, Crlf, Lf, Backspace, SaveCursor, RestoreCursor, HideCursor, Keypad, CursorKeys, Paste, Mouse, Encoding, Style, Sgr, spelling, spell, csi, counted, mode_change, mode_set, mode_reset, mouse_number, encoding_number, style_number, sgr_numbers, sgr_text, further_numbers}
+use Rattle.vt100_forms.specs.Form.{Form, Text, MoveTo, MoveRight, EraseChar, ClearRowForward, ClearScreen, ClearAttrs}
+use Rattle.vt100_forms.specs.Form.{Crlf, Lf, Backspace, SaveCursor, RestoreCursor, HideCursor, Keypad, CursorKeys}
+use Rattle.vt100_forms.specs.Form.{Paste, Mouse, Encoding, Style, Sgr, spelling, spell, csi, counted, mode_change}
+use Rattle.vt100_forms.specs.Form.{mode_set, mode_reset, mouse_number, encoding_number, style_number, sgr_numbers}
+use Rattle.vt100_forms.specs.Form.{sgr_text, further_numbers}
 use Rattle.vt100_forms.specs.Mark.{mark_head, HasPlainText, MarksStandBehindForms, NoMarkInForms}
 
 -- where a mark stands in p followed by r, it stands behind p
@@ -59,7 +64,8 @@ unfolding agrees
 agrees-equal [] m r s e = refl
 agrees-equal (x ∷ xs) [] r s e = refl
 agrees-equal (x ∷ xs) (y ∷ ys) r s e =
-    ap (λ b. b && agrees xs ys) (eq-eqb y x (sym (same-first x y (xs ++ r) (ys ++ s) e))) ∙ agrees-equal xs ys r s (same-rest x y (xs ++ r) (ys ++ s) e)
+    ap (λ b. b && agrees xs ys) (eq-eqb y x (sym (same-first x y (xs ++ r) (ys ++ s) e)))
+    ∙ agrees-equal xs ys r s (same-rest x y (xs ++ r) (ys ++ s) e)
 
 not-both : (b : Bool) → not b ≡ true → b ≡ true → ⊥
 not-both true h k = absurd cc
@@ -71,7 +77,8 @@ behind-clear [] h r xs ys e = (xs, refl)
 behind-clear (b ∷ bs) h r [] ys e =
     absurd (not-both (agrees (b ∷ bs) mark_head) (both-left _ _ h) (agrees-equal (b ∷ bs) mark_head r ys e))
 behind-clear (b ∷ bs) h r (x ∷ xs) ys e =
-    let (zs, found) = behind-clear bs (both-right _ _ h) r xs ys (same-rest b x (bs ++ r) (xs ++ (mark_head ++ ys)) e) in
+    let (zs, found) = behind-clear bs (both-right _ _ h) r xs ys (same-rest b x (bs ++ r) (xs ++ (mark_head ++ ys)) e)
+    in
     let first : x ≡ b = sym (same-first b x (bs ++ r) (xs ++ (mark_head ++ ys)) e) in
     (zs, λ i. first i ∷ found i)
 
@@ -93,7 +100,8 @@ not-escape b h = grind (arith, nat_tests)
 clear-plain : (ps : List ℕ) → Plain ps → clear ps ≡ true
 unfolding clear agrees
 clear-plain [] h = refl
-clear-plain (p ∷ ps) h = ap (λ t. not (t && agrees ps (codes "[?2026")) && clear ps) (not-escape p h.0) ∙ clear-plain ps h.1
+clear-plain (p ∷ ps) h = ap (λ t. not (t && agrees ps (codes "[?2026")) && clear ps) (not-escape p h.0)
+    ∙ clear-plain ps h.1
 
 -- a number's digits
 abbrev Digits : List ℕ → Type 0
@@ -111,21 +119,25 @@ digits-numeral (d ∷ ds) h = h
 glyph-low : (d : ℕ) → d < 10 → (48 ≤ digit_glyph false d) × (digit_glyph false d ≤ 57)
 glyph-low d h =
     let P : ℕ → Type 0 = λ g. (48 ≤ g) × (g ≤ 57) in
-    cond_both (nat_lt d 10) (48 + d) (87 + d) P (λ i. (omega arith, omega arith)) (λ i. absurd (omega (arith, ltb-false d 10 i)))
+    cond_both (nat_lt d 10) (48 + d) (87 + d) P (λ i. (omega arith, omega arith))
+    (λ i. absurd (omega (arith, ltb-false d 10 i)))
 
 numeral-onto : (k n : ℕ) (acc : List ℕ) → Numeral acc → Numeral (digits_onto k 10 false n acc)
 numeral-onto zero n acc h = h
 numeral-onto (suc k) n acc h =
     let g : (48 ≤ digit_glyph false (n % 10)) × (digit_glyph false (n % 10) ≤ 57) = glyph-low (n % 10) (omega arith) in
     let more : Numeral (digit_glyph false (n % 10) ∷ acc) = (g.0, g.1, digits-numeral acc h) in
-    cond_both ((n / 10) == 0) _ _ Numeral (λ i. more) (λ i. numeral-onto k (n / 10) (digit_glyph false (n % 10) ∷ acc) more)
+    cond_both ((n / 10) == 0) _ _ Numeral (λ i. more)
+    (λ i. numeral-onto k (n / 10) (digit_glyph false (n % 10) ∷ acc) more)
 
 decimal-numeral : (n : ℕ) → Numeral (decimal n)
 unfolding digits
 decimal-numeral n =
     let g : (48 ≤ digit_glyph false (n % 10)) × (digit_glyph false (n % 10) ≤ 57) = glyph-low (n % 10) (omega arith) in
     let one : Numeral (digit_glyph false (n % 10) ∷ []) = (g.0, g.1, tt) in
-    cond_both ((n / 10) == 0) (digit_glyph false (n % 10) ∷ []) (digits_onto 63 10 false (n / 10) (digit_glyph false (n % 10) ∷ [])) Numeral (λ i. one) (λ i. numeral-onto 63 (n / 10) (digit_glyph false (n % 10) ∷ []) one)
+    cond_both ((n / 10) == 0) (digit_glyph false (n % 10)
+    ∷ []) (digits_onto 63 10 false (n / 10) (digit_glyph false (n % 10) ∷ [])) Numeral (λ i. one)
+    (λ i. numeral-onto 63 (n / 10) (digit_glyph false (n % 10) ∷ []) one)
 
 digits-plain : (ds : List ℕ) → Digits ds → Plain ds
 digits-plain [] h = tt
@@ -165,15 +177,21 @@ not-question-high d h = grind (arith, nat_tests)
 clear-csi : (ds : List ℕ) → StartsLow ds → Plain ds → clear (csi ds) ≡ true
 unfolding clear agrees StartsLow
 clear-csi [] h k = elim h [ ]
-clear-csi (d ∷ ds) h k = ap (λ t. not (t && agrees ds (codes "2026")) && clear (d ∷ ds)) (not-question d h) ∙ clear-plain (d ∷ ds) k
+clear-csi (d ∷ ds) h k = ap (λ t. not (t && agrees ds (codes "2026")) && clear (d ∷ ds)) (not-question d h)
+    ∙ clear-plain (d ∷ ds) k
 
 clear-numbered : (n : ℕ) (rest : List ℕ) → Plain rest → clear (csi (decimal n ++ rest)) ≡ true
 clear-numbered n rest h =
-    clear-csi (decimal n ++ rest) (low-append (decimal n) rest (decimal-numeral n)) (plain-append (decimal n) rest (decimal-plain n) h)
+    clear-csi (decimal n ++ rest) (low-append (decimal n) rest (decimal-numeral n))
+    (plain-append (decimal n) rest (decimal-plain n) h)
 
 further-plain : (ns : List ℕ) → Plain (further_numbers ns)
 further-plain [] = tt
-further-plain (n ∷ ns) = (λ e. omega (arith, e), plain-append (decimal n) (further_numbers ns) (decimal-plain n) (further-plain ns))
+further-plain (n ∷ ns) = (
+  λ e. omega (arith, e),
+  plain-append (decimal n) (further_numbers ns) (decimal-plain n)
+      (further-plain ns),
+)
 
 abbrev IsClear : List ℕ → Type 0
 IsClear xs = clear xs ≡ true
@@ -181,20 +199,25 @@ IsClear xs = clear xs ≡ true
 clear-MoveTo : (r c : ℕ) → clear (spelling (MoveTo r c)) ≡ true
 unfolding clear agrees
 clear-MoveTo r c = cond_both ((r == 0) && (c == 0)) _ _ IsClear (λ i. refl)
-    (λ i. clear-numbered (r + 1) (59 ∷ (decimal (c + 1) ++ codes "H"))
-    (λ e. omega (arith, e), plain-append (decimal (c + 1)) (codes "H") (decimal-plain (c + 1)) (plain_byte 72 (omega arith))))
+    (λ i. clear-numbered (r + 1) (59 ∷ (decimal (c + 1) ++ codes "H")) (
+      λ e. omega (arith, e),
+      plain-append (decimal (c + 1)) (codes "H") (decimal-plain (c + 1))
+          (plain_byte 72 (omega arith)),
+    ))
 
 clear-counted : (n b : ℕ) → 63 < b → clear (counted n (b ∷ [])) ≡ true
 unfolding clear agrees
 clear-counted n b h = cond_both (n == 0) _ _ IsClear (λ i. refl)
     (λ i. cond_both (n == 1) _ _ IsClear
-    (λ j. ap (λ u. not (u && true) && clear (b ∷ [])) (not-question-high b h) ∙ clear-plain (b ∷ []) (plain_byte b (omega arith)))
+    (λ j. ap (λ u. not (u && true) && clear (b ∷ [])) (not-question-high b h)
+    ∙ clear-plain (b ∷ []) (plain_byte b (omega arith)))
     (λ j. clear-numbered n (b ∷ []) (plain_byte b (omega arith))))
 
 clear-sgr_text : (ns : List ℕ) → clear (sgr_text ns) ≡ true
 unfolding clear
 clear-sgr_text [] = refl
-clear-sgr_text (n ∷ ns) = clear-numbered n (further_numbers ns ++ codes "m") (plain-append (further_numbers ns) (codes "m") (further-plain ns) (plain_byte 109 (omega arith)))
+clear-sgr_text (n ∷ ns) = clear-numbered n (further_numbers ns
+    ++ codes "m") (plain-append (further_numbers ns) (codes "m") (further-plain ns) (plain_byte 109 (omega arith)))
 
 -- a private mode that is set and reset with no mark
 abbrev IsClearMode : ℕ → Type 0
@@ -256,11 +279,13 @@ behind-nil r xs ys e = (xs, refl)
 
 pub marks_behind : MarksStandBehindForms
 marks_behind [] h = behind-nil
-marks_behind (f ∷ fs) h = behind-append (spelling f) (spell fs) (behind-clear (spelling f) (clear-spelling f h.0)) (marks_behind fs h.1)
+marks_behind (f ∷ fs) h = behind-append (spelling f) (spell fs) (behind-clear (spelling f) (clear-spelling f h.0))
+    (marks_behind fs h.1)
 
 pub no_mark : NoMarkInForms
 no_mark fs h xs ys e =
     let (zs, found) = marks_behind fs h [] xs ys (append-nil (spell fs) ∙ e) in
-    let joined : length (spell fs) ≡ length xs + (length mark_head + length ys) = ap length e ∙ length-append xs (mark_head ++ ys) ∙ ap (λ n. length xs + n) (length-append mark_head ys) in
+    let joined : length (spell fs) ≡ length xs + (length mark_head + length ys) =
+    ap length e ∙ length-append xs (mark_head ++ ys) ∙ ap (λ n. length xs + n) (length-append mark_head ys) in
     let long : length xs ≡ length (spell fs) + length zs = ap length found ∙ length-append (spell fs) zs in
     omega (arith, joined, long)

@@ -76,7 +76,8 @@ pub record SettersAreRead (a : Attrs) : Type 0 where
   pub dim : flags_of (with_dim a) ≡ false ∷ true ∷ is_italic a ∷ is_underlined a ∷ is_inverse a ∷ []
   pub normal : flags_of (with_normal_intensity a) ≡ false ∷ false ∷ is_italic a ∷ is_underlined a ∷ is_inverse a ∷ []
   pub italic : (b : Bool) → flags_of (with_italic b a) ≡ is_bold a ∷ is_dim a ∷ b ∷ is_underlined a ∷ is_inverse a ∷ []
-  pub underline : (b : Bool) → flags_of (with_underline b a) ≡ is_bold a ∷ is_dim a ∷ is_italic a ∷ b ∷ is_inverse a ∷ []
+  pub underline : (b : Bool) → flags_of (with_underline b a) ≡ is_bold a ∷ is_dim a ∷ is_italic a ∷ b ∷ is_inverse a
+      ∷ []
   pub inverse : (b : Bool) → flags_of (with_inverse b a) ≡ is_bold a ∷ is_dim a ∷ is_italic a ∷ is_underlined a ∷ b ∷ []
 
 -- each setter keeps attributes proper

@@ -1,5 +1,6 @@
 -- The forms that a screen's writers send to a terminal, and how each is spelled: one spelling for each form.
-use Rattle.std.specs.Prelude.{ℕ, ◌≡◌, ◌+◌, ◌-◌, ◌==◌, ◌&&◌, bit_and, bit_or, unwrap_or, List, [], ◌∷◌, ◌++◌, Bool, true, false, if◌then◌else◌, nat_lt, decimal, codes, encode_utf8_all, Option, Some, None}
+use Rattle.std.specs.Prelude.{ℕ, ◌≡◌, ◌+◌, ◌-◌, ◌==◌, ◌&&◌, bit_and, bit_or, unwrap_or, List, [], ◌∷◌, ◌++◌, Bool, true}
+use Rattle.std.specs.Prelude.{false, if◌then◌else◌, nat_lt, decimal, codes, encode_utf8_all, Option, Some, None}
 use Rattle.std.specs.List.{flat_map}
 use Rattle.vt100_forms.specs.declared.attrs.Color.{Color}
 use Rattle.vt100_forms.specs.declared.attrs.Color.TheVariants.{Default, Idx, Rgb}
@@ -13,7 +14,8 @@ use Rattle.vt100_forms.specs.declared.modes.MouseProtocolEncoding.TheVariants as
 use Rattle.vt100_forms.specs.declared.modes.CursorStyle.{CursorStyle}
 use Rattle.vt100_forms.specs.declared.modes.CursorStyle.TheVariants as style
 use Rattle.vt100_forms.specs.declared.position.Pos.{Pos}
-use Rattle.vt100_forms.specs.Attrs.{default_attrs, color_eq, attrs_eq, is_bold, is_dim, is_italic, is_underlined, is_inverse, IsProper}
+use Rattle.vt100_forms.specs.Attrs.{default_attrs, color_eq, attrs_eq, is_bold, is_dim, is_italic, is_underlined}
+use Rattle.vt100_forms.specs.Attrs.{is_inverse, IsProper}
 
 -- which attributes an SGR form sets, and to what
 pub record Change : Type 0 where
@@ -221,8 +223,8 @@ with_change c a = record {
   mode = flag_set 16 c.inverse (flag_set 8 c.underline (flag_set 4 c.italic (intensity_set c.intensity a.mode)));
 }
 
--- the form, at most one, that takes a terminal from the old attributes to the new ones. It may have no bytes though they
--- differ, where they differ in bits of no meaning or in dim beside bold alone
+-- the form, at most one, that takes a terminal from the old attributes to the new ones. It may have no bytes though
+-- they differ, where they differ in bits of no meaning or in dim beside bold alone
 abbrev pub change : Attrs → Attrs → List Form
 change old new =
     if attrs_eq new old then []

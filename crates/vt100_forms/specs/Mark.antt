@@ -18,4 +18,5 @@ MarksStandBehindForms = (fs : List Form) → AllByRecursion HasPlainText fs → 
     → spell fs ++ r ≡ xs ++ (mark_head ++ ys) → (zs : List ℕ) × (xs ≡ spell fs ++ zs)
 
 abbrev pub NoMarkInForms : Type 0
-NoMarkInForms = (fs : List Form) → AllByRecursion HasPlainText fs → (xs ys : List ℕ) → spell fs ≡ xs ++ (mark_head ++ ys) → ⊥
+NoMarkInForms = (fs : List Form) → AllByRecursion HasPlainText fs → (xs ys : List ℕ)
+    → spell fs ≡ xs ++ (mark_head ++ ys) → ⊥

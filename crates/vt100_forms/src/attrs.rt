@@ -1,5 +1,6 @@
 //! The colours and attributes with which a character is drawn.
-ghost use Rattle.std.specs.Prelude.{◌≡◌, ◌<◌, ◌+◌, ◌++◌, [], length, IsOk, OnOk, OnErr, is_ok, if◌then◌else◌, string_bytes, string_len, string_capacity};
+ghost use Rattle.std.specs.Prelude.{◌≡◌, ◌<◌, ◌+◌, ◌++◌, [], length, IsOk, OnOk, OnErr, is_ok, if◌then◌else◌};
+ghost use Rattle.std.specs.Prelude.{string_bytes, string_len, string_capacity};
 
 use crate::error::GridError;
 use crate::term;
@@ -55,7 +56,9 @@ impl Default for Attrs {
 impl Attrs {
     ghost use Rattle.vt100_forms.specs.Form.{spell, change, intensity_of};
     ghost use Rattle.vt100_forms.specs.Writer.{HandsOver};
-    ghost use Rattle.vt100_forms.specs.Attrs.{default_attrs, is_bold, is_dim, is_italic, is_underlined, is_inverse, with_bold, with_dim, with_normal_intensity, with_italic, with_underline, with_inverse};
+    ghost use Rattle.vt100_forms.specs.Attrs.{default_attrs, is_bold, is_dim, is_italic, is_underlined, is_inverse};
+    ghost use Rattle.vt100_forms.specs.Attrs.{with_bold, with_dim, with_normal_intensity, with_italic, with_underline};
+    ghost use Rattle.vt100_forms.specs.Attrs.{with_inverse};
 
     /// The default colours, and no mode.
     pub const fn new() -> Self
@@ -180,7 +183,8 @@ impl Attrs {
         other: &Self,
     ) -> Result<(), GridError>
         ensures bytes { string_bytes contents.new ≡
-            (if is_ok result then string_bytes contents.old ++ spell (change other.now self.now) else string_bytes contents.old) }
+            (if is_ok result then string_bytes contents.old ++ spell (change other.now self.now)
+            else string_bytes contents.old) }
         ensures full { OnErr result
             (string_capacity contents.old < string_len contents.old + length (spell (change other.now self.now))) }
     {

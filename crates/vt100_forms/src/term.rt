@@ -1,7 +1,10 @@
 //! The forms that a writer sends to a terminal (ECMA-48, the VT100's and xterm's control sequences).
-ghost use Rattle.std.specs.Prelude.{◌≡◌, ◌≤◌, ◌<◌, ◌+◌, ◌*◌, length, decimal, List, [], ◌∷◌, ◌++◌, Some, None, string_bytes, string_len, string_capacity, is_ok, IsOk, OnOk, OnErr, if◌then◌else◌};
+ghost use Rattle.std.specs.Prelude.{◌≡◌, ◌≤◌, ◌<◌, ◌+◌, ◌*◌, length, decimal, List, [], ◌∷◌, ◌++◌, Some, None};
+ghost use Rattle.std.specs.Prelude.{string_bytes, string_len, string_capacity, is_ok, IsOk, OnOk, OnErr, if◌then◌else◌};
 ghost use Rattle.vt100_forms.specs.Form.{Form, spell};
-ghost use Rattle.vt100_forms.specs.Form.{changed_color, changed_intensity, changed_flag, color_part, flag_part, further_numbers, mouse_number, encoding_number, style_number, mode_change, counted};
+ghost use Rattle.vt100_forms.specs.Form.{changed_color, changed_intensity, changed_flag, color_part, flag_part};
+ghost use Rattle.vt100_forms.specs.Form.{further_numbers, mouse_number, encoding_number, style_number, mode_change};
+ghost use Rattle.vt100_forms.specs.Form.{counted};
 ghost use Rattle.vt100_forms.specs.Writer.{HandsOver};
 ghost use Rattle.arrayvec.specs.ArrayVec.{array_vec_len};
 

@@ -1,5 +1,6 @@
 -- What forms and lists of forms do.
-use Rattle.std.proofs.Common.{◌≡◌, ℕ, ◌+◌, ◌-◌, ◌<◌, ◌≤◌, ◌==◌, Bool, true, false, cond, not, ◌&&◌, nat_lt, List, [], ◌∷◌, ◌++◌, length, min, Option, Some, None, sym, refl, ap, ◌∙◌, arith, length-append}
+use Rattle.std.proofs.Common.{◌≡◌, ℕ, ◌+◌, ◌-◌, ◌<◌, ◌≤◌, ◌==◌, Bool, true, false, cond, not, ◌&&◌, nat_lt, List, []}
+use Rattle.std.proofs.Common.{◌∷◌, ◌++◌, length, min, Option, Some, None, sym, refl, ap, ◌∙◌, arith, length-append}
 use Rattle.std.specs.Prelude.{encode_utf8, encode_utf8_all, decimal, codes, unwrap_or}
 use Rattle.std.proofs.lemmas.Bool.{cond_both, eqb-true, ltb-true, and_parts, lt-ltb, ne_eqb}
 use Rattle.std.proofs.lemmas.Bool.Decides.{nat_tests}
@@ -10,7 +11,12 @@ use Rattle.vt100_forms.specs.declared.attrs.Color.{Color}
 use Rattle.vt100_forms.specs.declared.attrs.Color.TheVariants.{Default, Idx, Rgb}
 use Rattle.vt100_forms.specs.declared.term.Intensity.{Intensity}
 use Rattle.vt100_forms.specs.Attrs.{default_attrs, attrs_eq}
-use Rattle.vt100_forms.specs.Form.{Form, Text, MoveTo, MoveRight, EraseChar, ClearRowForward, ClearScreen, ClearAttrs, Crlf, Lf, Backspace, SaveCursor, RestoreCursor, HideCursor, Keypad, CursorKeys, Paste, Mouse, Encoding, Style, Sgr, Change, csi, counted, mode_change, mode_set, mode_reset, mouse_number, encoding_number, style_number, color_part, intensity_part, flag_part, sgr_numbers, sgr_text, with_change, intensity_set, flag_set, changed_attrs}
+use Rattle.vt100_forms.specs.Form.{Form, Text, MoveTo, MoveRight, EraseChar, ClearRowForward, ClearScreen, ClearAttrs}
+use Rattle.vt100_forms.specs.Form.{Crlf, Lf, Backspace, SaveCursor, RestoreCursor, HideCursor, Keypad, CursorKeys}
+use Rattle.vt100_forms.specs.Form.{Paste, Mouse, Encoding, Style, Sgr, Change, csi, counted, mode_change, mode_set}
+use Rattle.vt100_forms.specs.Form.{mode_reset, mouse_number, encoding_number, style_number, color_part, intensity_part}
+use Rattle.vt100_forms.specs.Form.{flag_part, sgr_numbers, sgr_text, with_change, intensity_set, flag_set}
+use Rattle.vt100_forms.specs.Form.{changed_attrs}
 use Rattle.vt100_forms.proofs.AttrsLemmas.{change-leads}
 use Rattle.vt100_cells.specs.Cell.{CellView}
 use Rattle.vt100_cells.specs.CellEq.{attrs_eq-true}
@@ -61,9 +67,13 @@ both_none : (xs ys : List ℕ) → xs ++ ys ≡ [] → (xs ≡ []) × (ys ≡ []
 both_none [] ys e = (refl, e)
 both_none (x ∷ xs) ys e = absurd (no_list x (xs ++ ys) e)
 
-pub with_line-same : (t : Term) (g : ℕ → CellView) (stays : Bool) → g ≡ t.cell t.row → stays ≡ true → with_line t g stays ≡ t
+pub with_line-same : (t : Term) (g : ℕ → CellView) (stays : Bool) → g ≡ t.cell t.row → stays ≡ true
+    → with_line t g stays ≡ t
 unfolding with_line
-with_line-same t g stays e h = λ i. record t { cell = update-kept t.cell t.row g e i; wrapped = cond (h i) t.wrapped (update t.wrapped t.row false) }
+with_line-same t g stays e h = λ i. record t {
+  cell = update-kept t.cell t.row g e i;
+  wrapped = cond (h i) t.wrapped (update t.wrapped t.row false);
+}
 
 wiped-none : (f : ℕ → CellView) (s e : ℕ) (a : Attrs) (k : ℕ) → e ≤ s → wiped f s e a k ≡ f k
 wiped-none f s e a k h = grind (arith, nat_tests)
@@ -79,15 +89,20 @@ erase-none z e t h =
 
 counted-none : (n : ℕ) (final : List ℕ) → counted n final ≡ [] → n ≡ 0
 counted-none n final e =
-    cond_both (n == 0) [] (cond (n == 1) (csi final) (csi (decimal n ++ final))) (λ bs. bs ≡ [] → n ≡ 0) (λ h _. eqb-true n 0 h)
-    (λ _. cond_both (n == 1) (csi final) (csi (decimal n ++ final)) (λ bs. bs ≡ [] → n ≡ 0) (λ _ q. absurd (no_list 27 _ q)) (λ _ q. absurd (no_list 27 _ q))) e
+    cond_both (n == 0) [] (cond (n == 1) (csi final) (csi (decimal n ++ final))) (λ bs. bs ≡ []
+    → n ≡ 0) (λ h _. eqb-true n 0 h)
+    (λ _. cond_both (n == 1) (csi final) (csi (decimal n ++ final)) (λ bs. bs ≡ []
+    → n ≡ 0) (λ _ q. absurd (no_list 27 _ q)) (λ _ q. absurd (no_list 27 _ q))) e
 
 change-none : (to from : ℕ) → mode_change to from ≡ [] → (to == from) ≡ true
 change-none to from e =
-    cond_both (to == from) [] (cond (to == 0) (mode_reset from) (mode_set to)) (λ bs. bs ≡ [] → (to == from) ≡ true) (λ h _. h)
-    (λ _. cond_both (to == 0) (mode_reset from) (mode_set to) (λ bs. bs ≡ [] → (to == from) ≡ true) (λ _ q. absurd (no_list 27 _ q)) (λ _ q. absurd (no_list 27 _ q))) e
+    cond_both (to == from) [] (cond (to == 0) (mode_reset from) (mode_set to)) (λ bs. bs ≡ []
+    → (to == from) ≡ true) (λ h _. h)
+    (λ _. cond_both (to == 0) (mode_reset from) (mode_set to) (λ bs. bs ≡ []
+    → (to == from) ≡ true) (λ _ q. absurd (no_list 27 _ q)) (λ _ q. absurd (no_list 27 _ q))) e
 
-switched-none : {A : Type 0} (number : A → ℕ) (to from now : A) → (number to == number from) ≡ true → switched number to from now ≡ now
+switched-none : {A : Type 0} (number : A → ℕ) (to from now : A) → (number to == number from) ≡ true
+    → switched number to from now ≡ now
 switched-none number to from now h = rw h refl
 
 sgr-none : (ns : List ℕ) → sgr_text ns ≡ [] → ns ≡ []
@@ -98,8 +113,10 @@ color-none : (base : ℕ) (c : Option Color) → color_part base c ≡ [] → c 
 color-none base None e = refl
 color-none base (Some Default) e = absurd (no_list _ _ e)
 color-none base (Some (Idx i)) e =
-    cond_both (nat_lt i 8) ((base + i) ∷ []) (cond (nat_lt i 16) ((base + 52 + i) ∷ []) ((base + 8) ∷ 5 ∷ i ∷ [])) (λ ns. ns ≡ [] → Some (Idx i) ≡ None) (λ _ q. absurd (no_list _ _ q))
-    (λ _. cond_both (nat_lt i 16) ((base + 52 + i) ∷ []) ((base + 8) ∷ 5 ∷ i ∷ []) (λ ns. ns ≡ [] → Some (Idx i) ≡ None) (λ _ q. absurd (no_list _ _ q)) (λ _ q. absurd (no_list _ _ q))) e
+    cond_both (nat_lt i 8) ((base + i) ∷ []) (cond (nat_lt i 16) ((base + 52 + i) ∷ []) ((base + 8) ∷ 5 ∷ i ∷ []))
+    (λ ns. ns ≡ [] → Some (Idx i) ≡ None) (λ _ q. absurd (no_list _ _ q))
+    (λ _. cond_both (nat_lt i 16) ((base + 52 + i) ∷ []) ((base + 8) ∷ 5 ∷ i ∷ []) (λ ns. ns ≡ []
+    → Some (Idx i) ≡ None) (λ _ q. absurd (no_list _ _ q)) (λ _ q. absurd (no_list _ _ q))) e
 color-none base (Some (Rgb r g b)) e = absurd (no_list _ _ e)
 
 intensity-none : (o : Option Intensity) → intensity_part o ≡ [] → o ≡ None
@@ -115,8 +132,10 @@ with_change-none : (c : Change) (a : Attrs) → sgr_numbers c ≡ [] → with_ch
 with_change-none c a e =
     let fg = color_part 30 c.fgcolor in
     let bg = color_part 40 c.bgcolor in
-    let p6 = both_none (fg ++ bg ++ intensity_part c.intensity ++ flag_part 3 23 c.italic ++ flag_part 4 24 c.underline) (flag_part 7 27 c.inverse) e in
-    let p5 = both_none (fg ++ bg ++ intensity_part c.intensity ++ flag_part 3 23 c.italic) (flag_part 4 24 c.underline) p6.0 in
+    let p6 = both_none (fg ++ bg ++ intensity_part c.intensity ++ flag_part 3 23 c.italic
+    ++ flag_part 4 24 c.underline) (flag_part 7 27 c.inverse) e in
+    let p5 = both_none (fg ++ bg ++ intensity_part c.intensity
+    ++ flag_part 3 23 c.italic) (flag_part 4 24 c.underline) p6.0 in
     let p4 = both_none (fg ++ bg ++ intensity_part c.intensity) (flag_part 3 23 c.italic) p5.0 in
     let p3 = both_none (fg ++ bg) (intensity_part c.intensity) p4.0 in
     let p2 = both_none fg bg p3.0 in
@@ -137,12 +156,20 @@ unfolding apply
 form-idle z (Text []) t e = refl
 form-idle z (Text (c ∷ cs)) t e =
     let n : length (encode_utf8 c ++ encode_utf8_all cs) ≡ 0 = ap length e in
-    absurd (omega (arith, n, length-append (encode_utf8 c) (encode_utf8_all cs), length-encode c, (len_utf8_bounds c).0))
+    absurd (omega (
+      arith,
+      n,
+      length-append (encode_utf8 c) (encode_utf8_all cs),
+      length-encode c,
+      (len_utf8_bounds c).0,
+    ))
 form-idle z (MoveTo r c) t e =
-    cond_both ((r == 0) && (c == 0)) (csi (codes "H")) (csi (decimal (r + 1) ++ 59 ∷ (decimal (c + 1) ++ codes "H"))) (λ bs. bs ≡ [] → apply z (MoveTo r c) t ≡ t)
+    cond_both ((r == 0) && (c == 0)) (csi (codes "H")) (csi (decimal (r + 1) ++ 59 ∷ (decimal (c + 1) ++ codes "H")))
+    (λ bs. bs ≡ [] → apply z (MoveTo r c) t ≡ t)
     (λ _ q. absurd (no_list 27 _ q)) (λ _ q. absurd (no_list 27 _ q)) e
 form-idle z (MoveRight n) t e = let none = counted-none n (codes "C") e in rw none refl
-form-idle z (EraseChar n) t e = let none = counted-none n (codes "X") e in erase-none z (min (t.col + n) z.cols) t (omega arith)
+form-idle z (EraseChar n) t e = let none = counted-none n (codes "X") e
+    in erase-none z (min (t.col + n) z.cols) t (omega arith)
 form-idle z ClearRowForward t e = absurd (no_list 27 _ e)
 form-idle z ClearScreen t e = absurd (no_list 27 _ e)
 form-idle z ClearAttrs t e = absurd (no_list 27 _ e)
@@ -160,11 +187,15 @@ form-idle z (CursorKeys false) t e = absurd (no_list 27 _ e)
 form-idle z (Paste true) t e = absurd (no_list 27 _ e)
 form-idle z (Paste false) t e = absurd (no_list 27 _ e)
 form-idle z (Mouse to from) t e =
-    ap (λ m. record t { modes = record (t.modes) { mouse = m } }) (switched-none mouse_number to from t.modes.mouse (change-none (mouse_number to) (mouse_number from) e))
+    ap (λ m. record t { modes = record (t.modes) { mouse = m } })
+    (switched-none mouse_number to from t.modes.mouse (change-none (mouse_number to) (mouse_number from) e))
 form-idle z (Encoding to from) t e =
-    ap (λ m. record t { modes = record (t.modes) { encoding = m } }) (switched-none encoding_number to from t.modes.encoding (change-none (encoding_number to) (encoding_number from) e))
+    ap (λ m. record t { modes = record (t.modes) { encoding = m } })
+    (switched-none encoding_number to from t.modes.encoding
+    (change-none (encoding_number to) (encoding_number from) e))
 form-idle z (Style to from) t e =
-    cond_both (style_number to == style_number from) [] (csi (decimal (style_number to) ++ codes " q")) (λ bs. bs ≡ [] → apply z (Style to from) t ≡ t)
+    cond_both (style_number to == style_number from) [] (csi (decimal (style_number to) ++ codes " q")) (λ bs. bs ≡ []
+    → apply z (Style to from) t ≡ t)
     (λ h _. ap (λ b. record t { style = cond b t.style to }) h) (λ _ q. absurd (no_list 27 _ q)) e
 form-idle z (Sgr c) t e = ap (λ a. record t { attrs = a }) (with_change-none c t.attrs (sgr-none (sgr_numbers c) e))
 
@@ -193,7 +224,8 @@ moves-lead z t p q er ec hr hc =
     (λ h. let parts = and_parts (p.row == q.row) (nat_lt p.col q.col) h in
     let row = eqb-true p.row q.row parts.0 in
     let col = ltb-true p.col q.col parts.1 in
-    ap (λ b. cond b t (record t { col = min (t.col + (q.col - p.col)) (z.cols - 1) })) (ne_eqb (q.col - p.col) 0 (λ e. absurd (omega arith)))
+    ap (λ b. cond b t (record t { col = min (t.col + (q.col - p.col)) (z.cols - 1) }))
+    (ne_eqb (q.col - p.col) 0 (λ e. absurd (omega arith)))
     ∙ at_place t t.row q.row (min (t.col + (q.col - p.col)) (z.cols - 1)) q.col (er ∙ row) (omega arith))
     (λ _. at_place t (min q.row (z.rows - 1)) q.row (min q.col (z.cols - 1)) q.col (omega arith) (omega arith))))
 
@@ -207,4 +239,5 @@ change-read z t old new e ho hn =
     (λ h. ap (λ a. record t { attrs = a }) (e ∙ sym (attrs_eq-true new old h)))
     (λ _. cond_both (attrs_eq new default_attrs) _ _ P
     (λ h. ap (λ a. record t { attrs = a }) (sym (attrs_eq-true new default_attrs h)))
-    (λ _. ap (λ a. record t { attrs = with_change (changed_attrs old new) a }) e ∙ ap (λ a. record t { attrs = a }) (change-leads old new ho hn)))
+    (λ _. ap (λ a. record t { attrs = with_change (changed_attrs old new) a }) e
+    ∙ ap (λ a. record t { attrs = a }) (change-leads old new ho hn)))

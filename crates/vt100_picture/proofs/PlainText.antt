@@ -1,5 +1,6 @@
 -- The text of a cell has no ESC.
-use Rattle.std.proofs.Common.{◌≡◌, ℕ, suc, ◌<◌, true, false, List, [], ◌∷◌, ◌++◌, length, get_or, None, sym, refl, ap, ◌∙◌, arith, append-nil}
+use Rattle.std.proofs.Common.{◌≡◌, ℕ, suc, ◌<◌, true, false, List, [], ◌∷◌, ◌++◌, length, get_or, None, sym, refl, ap}
+use Rattle.std.proofs.Common.{◌∙◌, arith, append-nil}
 use Rattle.std.specs.Prelude.{encode_utf8, encode_utf8_all, All}
 use Rattle.std.specs.List.{AllByRecursion}
 use Rattle.std.proofs.lemmas.Bool.{false≢true}
@@ -16,7 +17,8 @@ esc_width = grind (arith, nat_tests)
 is_no_esc : ℕ → Type 0
 is_no_esc b = b ≡ 27 → ⊥
 
-no_esc-join : (xs ys : List ℕ) → AllByRecursion is_no_esc xs → AllByRecursion is_no_esc ys → AllByRecursion is_no_esc (xs ++ ys)
+no_esc-join : (xs ys : List ℕ) → AllByRecursion is_no_esc xs → AllByRecursion is_no_esc ys
+    → AllByRecursion is_no_esc (xs ++ ys)
 no_esc-join [] ys h g = g
 no_esc-join (x ∷ xs) ys h g = (h.0, no_esc-join xs ys h.1 g)
 
@@ -26,7 +28,8 @@ no_esc-each [] h = tt
 no_esc-each (x ∷ xs) h = (h 0 (omega arith), no_esc-each xs (λ k l. h (suc k) (omega arith)))
 
 no_esc-char : (c : ℕ) → (c ≡ 27 → ⊥) → AllByRecursion is_no_esc (encode_utf8 c)
-no_esc-char c h = no_esc-each (encode_utf8 c) (λ k l e. h (inside_one c [] (encode_utf8 c) k (sym (append-nil (encode_utf8 c))) l (omega (arith, e)) ∙ e))
+no_esc-char c h = no_esc-each (encode_utf8 c) (λ k l e.
+    h (inside_one c [] (encode_utf8 c) k (sym (append-nil (encode_utf8 c))) l (omega (arith, e)) ∙ e))
 
 no_esc-all : (cs : List ℕ) → AllByRecursion is_no_esc cs → AllByRecursion is_no_esc (encode_utf8_all cs)
 unfolding is_no_esc
@@ -41,7 +44,8 @@ esc_undrawn : (c : ℕ) → is_undrawable c ≡ false → c ≡ 27 → ⊥
 esc_undrawn c h e = false≢true (sym h ∙ ap is_undrawable e ∙ esc_is)
 
 esc_spacing : (c : ℕ) → columns_of c ≡ 0 → c ≡ 27 → ⊥
-esc_spacing c h e = let one : columns_of 27 ≡ 1 = rw esc_width refl in let none : columns_of 27 ≡ 0 = ap columns_of (sym e) ∙ h in absurd (omega arith)
+esc_spacing c h e = let one : columns_of 27 ≡ 1 = rw esc_width refl in
+    let none : columns_of 27 ≡ 0 = ap columns_of (sym e) ∙ h in absurd (omega arith)
 
 all-rest : (cs : List ℕ) → All (λ d. columns_of d ≡ 0) cs → AllByRecursion is_no_esc cs
 unfolding is_no_esc
@@ -58,4 +62,10 @@ unfolding is_no_esc
 text-plain cs h = no_esc-all cs (no_esc-cell cs h.characters)
 
 pub cell-sent : EachCellIsSent
-cell-sent x h some known = record { some = some; characters = h.characters; short = h.short; scalars = h.scalars; known = known }
+cell-sent x h some known = record {
+  some = some;
+  characters = h.characters;
+  short = h.short;
+  scalars = h.scalars;
+  known = known;
+}

@@ -1,8 +1,13 @@
 -- What each form does to a plain terminal.
-use Rattle.std.specs.Prelude.{ℕ, ◌+◌, ◌-◌, ◌==◌, Bool, true, false, not, ◌&&◌, ◌||◌, nat_lt, nat_le, min, List, [], ◌∷◌, if◌then◌else◌}
+use Rattle.std.specs.Prelude.{ℕ, ◌+◌, ◌-◌, ◌==◌, Bool, true, false, not, ◌&&◌, ◌||◌, nat_lt, nat_le, min, List, [], ◌∷◌}
+use Rattle.std.specs.Prelude.{if◌then◌else◌}
 use Rattle.vt100_forms.specs.Attrs.{default_attrs}
-use Rattle.vt100_forms.specs.Form.{Form, Text, MoveTo, MoveRight, EraseChar, ClearRowForward, ClearScreen, ClearAttrs, Crlf, Lf, Backspace, SaveCursor, RestoreCursor, HideCursor, Keypad, CursorKeys, Paste, Mouse, Encoding, Style, Sgr, mouse_number, encoding_number, style_number, with_change}
-use Rattle.vt100_cells.specs.Cell.{CellView, columns_of, is_undrawable, cell_of, empty_cell, default_cell, is_filled, appended_plain}
+use Rattle.vt100_forms.specs.Form.{Form, Text, MoveTo, MoveRight, EraseChar, ClearRowForward, ClearScreen, ClearAttrs}
+use Rattle.vt100_forms.specs.Form.{Crlf, Lf, Backspace, SaveCursor, RestoreCursor, HideCursor, Keypad, CursorKeys}
+use Rattle.vt100_forms.specs.Form.{Paste, Mouse, Encoding, Style, Sgr, mouse_number, encoding_number, style_number}
+use Rattle.vt100_forms.specs.Form.{with_change}
+use Rattle.vt100_cells.specs.Cell.{CellView, columns_of, is_undrawable, cell_of, empty_cell, default_cell, is_filled}
+use Rattle.vt100_cells.specs.Cell.{appended_plain}
 use Rattle.vt100_cells.specs.Line.{span_of, put, put_unflags, base_col, wiped, wipe_unflags}
 use Rattle.vt100_picture.specs.Position.{update}
 use Rattle.vt100_picture.specs.Term.{Size, Term}
@@ -11,7 +16,11 @@ use Rattle.vt100_picture.specs.Term.{Size, Term}
 
 -- g in place of the cursor's line; the row goes on in the next one only if it `stays` so
 unfoldable pub with_line : Term → (ℕ → CellView) → Bool → Term
-with_line t g stays = record t { cell = update t.cell t.row g; wrapped = if stays then t.wrapped else update t.wrapped t.row false }
+with_line t g stays = record t {
+  cell = update t.cell t.row g;
+  wrapped = if stays then t.wrapped
+      else update t.wrapped t.row false;
+}
 
 -- the columns from the cursor up to e are erased
 unfoldable pub erase : Size → ℕ → Term → Term
@@ -19,7 +28,8 @@ erase z e t = with_line t (wiped (t.cell t.row) t.col e t.attrs) (not (wipe_unfl
 
 -- x is put at the cursor, which goes on behind it
 unfoldable pub print : Size → CellView → Term → Term
-print z x t = record (with_line t (put (t.cell t.row) t.col x t.attrs) (not (put_unflags z.cols (t.cell t.row) t.col x))) { col = t.col + span_of x }
+print z x t = record (with_line t (put (t.cell t.row) t.col x t.attrs)
+    (not (put_unflags z.cols (t.cell t.row) t.col x))) { col = t.col + span_of x }
 
 -- a zero-width character joins the cell left of the cursor
 unfoldable pub join : ℕ → Term → Term
@@ -48,14 +58,15 @@ made_to_fit z n t = if nat_le (t.col + n) z.cols then t else wrap z t
 
 -- ---- characters
 
--- control characters, what is wider than the screen, and zero-width characters with no cell to their left
-abbrev pub is_dropped : Size → ℕ → Term → Bool
-is_dropped z c t = is_undrawable c || (nat_lt z.cols (columns_of c) || ((columns_of c == 0) && (t.col == 0)))
+-- what isn't shown on a screen of `width` columns where the cursor stands at `col`: control characters, what is wider
+-- than the screen, and zero-width characters with no cell to their left
+abbrev pub is_dropped : ℕ → ℕ → ℕ → Bool
+is_dropped width col c = is_undrawable c || (nat_lt width (columns_of c) || ((columns_of c == 0) && (col == 0)))
 
 -- one character. U+FE0F makes no cell wide.
 unfoldable pub input : Size → ℕ → Term → Term
 input z c t =
-    if is_dropped z c t then t
+    if is_dropped z.cols t.col c then t
     else if columns_of c == 0 then join c t
     else print z (cell_of c t.attrs) (made_to_fit z (columns_of c) t)
 
@@ -65,8 +76,8 @@ inputs z (c ∷ cs) t = inputs z cs (input z c t)
 
 -- ---- modes
 
--- a form takes a mode from `from` to `to`, by their numbers, where 0 is the default; `now` is what the terminal has. The
--- default is reached by a reset of `from`, which does nothing where another mode is set.
+-- a form takes a mode from `from` to `to`, by their numbers, where 0 is the default; `now` is what the terminal has.
+-- The default is reached by a reset of `from`, which does nothing where another mode is set.
 abbrev pub switched : {A : Type 0} → (A → ℕ) → A → A → A → A
 switched number to from now =
     if number to == number from then now
@@ -97,8 +108,14 @@ apply z (HideCursor b) t = record t { hidden = b }
 apply z (Keypad b) t = record t { modes = record (t.modes) { keypad = b } }
 apply z (CursorKeys b) t = record t { modes = record (t.modes) { cursor_keys = b } }
 apply z (Paste b) t = record t { modes = record (t.modes) { paste = b } }
-apply z (Mouse to from) t = record t { modes = record (t.modes) { mouse = switched mouse_number to from t.modes.mouse } }
-apply z (Encoding to from) t = record t { modes = record (t.modes) { encoding = switched encoding_number to from t.modes.encoding } }
+apply z (Mouse to from) t = record t {
+  modes = record (t.modes) {
+    mouse = switched mouse_number to from t.modes.mouse;
+  };
+}
+apply z (Encoding to from) t = record t {
+  modes = record (t.modes) { encoding = switched encoding_number to from t.modes.encoding };
+}
 apply z (Style to from) t = record t { style = if style_number to == style_number from then t.style else to }
 apply z (Sgr c) t = record t { attrs = with_change c t.attrs }
 

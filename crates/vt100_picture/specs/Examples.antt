@@ -3,7 +3,8 @@ use Rattle.std.specs.Prelude.{ℕ, ◌≡◌, true, false, List, [], ◌∷◌, 
 use Rattle.std.specs.List.{range_with_len}
 use Rattle.vt100_forms.specs.declared.attrs.Color.TheVariants.{Default, Idx}
 use Rattle.vt100_forms.specs.declared.attrs.Attrs.{Attrs}
-use Rattle.vt100_forms.specs.Form.{Form, Text, MoveTo, MoveRight, EraseChar, ClearScreen, ClearAttrs, SaveCursor, RestoreCursor, Sgr, no_change}
+use Rattle.vt100_forms.specs.Form.{Form, Text, MoveTo, MoveRight, EraseChar, ClearScreen, ClearAttrs, SaveCursor}
+use Rattle.vt100_forms.specs.Form.{RestoreCursor, Sgr, no_change}
 use Rattle.vt100_cells.specs.Cell.{columns_of, is_undrawable, empty_cell, default_cell}
 use Rattle.vt100_picture.specs.Term.{Size, Term, blank_term}
 use Rattle.vt100_picture.specs.Apply.{run}
@@ -28,7 +29,8 @@ after z fs = run z fs blank_term
 
 -- `abcdxyz` on 2 rows of 4 columns, and then `e` over the `d`, and the `y` erased
 abbrev pub differed : Term
-differed = after (screen 2 4) (typed (codes "abcdxyz") ++ MoveTo 0 3 ∷ typed (codes "e") ++ MoveTo 1 1 ∷ EraseChar 1 ∷ [])
+differed = after (screen 2 4) (typed (codes "abcdxyz") ++ MoveTo 0 3 ∷ typed (codes "e") ++ MoveTo 1 1 ∷ EraseChar 1
+    ∷ [])
 
 -- a red background
 abbrev pub red : Attrs
@@ -38,7 +40,8 @@ abbrev pub reddened : Form
 reddened = Sgr (record no_change { bgcolor = Some (Idx 1) })
 
 pub record EachExampleHolds : Type 0 where
-  pub typed_texts : texts (screen 2 4) (after (screen 2 4) (typed (codes "abcdxyz"))) ≡ each (codes "abcd") ∷ (each (codes "xyz") ++ [] ∷ []) ∷ []
+  pub typed_texts : texts (screen 2 4) (after (screen 2 4) (typed (codes "abcdxyz"))) ≡ each (codes "abcd")
+      ∷ (each (codes "xyz") ++ [] ∷ []) ∷ []
   pub differed_texts : texts (screen 2 4) differed ≡ each (codes "abce") ∷ ((120 ∷ []) ∷ [] ∷ (122 ∷ []) ∷ [] ∷ []) ∷ []
   pub differed_flag : differed.wrapped 0 ≡ true
   -- behind the last column the cursor waits; a move to the right ends in the last one, and a move by none leaves it
@@ -46,18 +49,26 @@ pub record EachExampleHolds : Type 0 where
   pub moved_right : (after (screen 1 2) (typed (codes "ab") ++ MoveRight 1 ∷ [])).col ≡ 1
   pub moved_by_none : (after (screen 1 2) (typed (codes "ab") ++ MoveRight 0 ∷ [])).col ≡ 2
   -- a fifth character on 2 rows of 2 columns
-  pub scrolled_texts : texts (screen 2 2) (after (screen 2 2) (typed (codes "abcde"))) ≡ each (codes "cd") ∷ ((101 ∷ []) ∷ [] ∷ []) ∷ []
+  pub scrolled_texts : texts (screen 2 2) (after (screen 2 2) (typed (codes "abcde"))) ≡ each (codes "cd")
+      ∷ ((101 ∷ []) ∷ [] ∷ []) ∷ []
   pub scrolled_flags : map (after (screen 2 2) (typed (codes "abcde"))).wrapped (0 ∷ 1 ∷ []) ≡ true ∷ false ∷ []
   -- the screen is cleared with the colour that is drawn with, and nothing off it
   pub cleared : (after (screen 2 2) (reddened ∷ ClearScreen ∷ [])).cell 1 1 ≡ empty_cell red
   pub cleared_beyond : (after (screen 2 2) (reddened ∷ ClearScreen ∷ [])).cell 1 2 ≡ default_cell
   -- what is saved comes back
-  pub restored : (after (screen 1 3) (reddened ∷ Text (97 ∷ []) ∷ SaveCursor ∷ MoveTo 0 0 ∷ ClearAttrs ∷ RestoreCursor ∷ [])).attrs ≡ red
+  pub restored : (after (screen 1 3) (reddened ∷ Text (97 ∷ []) ∷ SaveCursor ∷ MoveTo 0 0 ∷ ClearAttrs ∷ RestoreCursor
+      ∷ [])).attrs ≡ red
   -- a wide character w, of which the second half is erased
-  pub halved : (w : ℕ) → columns_of w ≡ 2 → is_undrawable w ≡ false → texts (screen 1 3) (after (screen 1 3) (Text (w ∷ []) ∷ MoveTo 0 1 ∷ EraseChar 1 ∷ [])) ≡ ([] ∷ [] ∷ [] ∷ []) ∷ []
+  pub halved : (w : ℕ) → columns_of w ≡ 2 → is_undrawable w ≡ false
+      → texts (screen 1 3) (after (screen 1 3) (Text (w ∷ []) ∷ MoveTo 0 1 ∷ EraseChar 1 ∷ [])) ≡ ([] ∷ [] ∷ [] ∷ [])
+      ∷ []
   -- in the last column there is no room for it, and the row that it leaves doesn't go on
   pub wrapped_wide : (w : ℕ) → columns_of w ≡ 2 → is_undrawable w ≡ false
-      → texts (screen 2 3) (after (screen 2 3) (typed (codes "ab") ++ Text (w ∷ []) ∷ [])) ≡ (each (codes "ab") ++ [] ∷ []) ∷ ((w ∷ []) ∷ [] ∷ [] ∷ []) ∷ []
-  pub wrapped_flag : (w : ℕ) → columns_of w ≡ 2 → is_undrawable w ≡ false → (after (screen 2 3) (typed (codes "ab") ++ Text (w ∷ []) ∷ [])).wrapped 0 ≡ false
+      → texts (screen 2 3) (after (screen 2 3) (typed (codes "ab") ++ Text (w ∷ []) ∷ []))
+      ≡ (each (codes "ab") ++ [] ∷ []) ∷ ((w ∷ []) ∷ [] ∷ [] ∷ []) ∷ []
+  pub wrapped_flag : (w : ℕ) → columns_of w ≡ 2 → is_undrawable w ≡ false
+      → (after (screen 2 3) (typed (codes "ab") ++ Text (w ∷ []) ∷ [])).wrapped 0 ≡ false
   -- a zero-width character m joins the letter before it, also where the cursor waits
-  pub joined : (m : ℕ) → columns_of m ≡ 0 → is_undrawable m ≡ false → texts (screen 1 2) (after (screen 1 2) (Text (97 ∷ []) ∷ Text (98 ∷ m ∷ []) ∷ [])) ≡ ((97 ∷ []) ∷ (98 ∷ m ∷ []) ∷ []) ∷ []
+  pub joined : (m : ℕ) → columns_of m ≡ 0 → is_undrawable m ≡ false
+      → texts (screen 1 2) (after (screen 1 2) (Text (97 ∷ []) ∷ Text (98 ∷ m ∷ []) ∷ []))
+      ≡ ((97 ∷ []) ∷ (98 ∷ m ∷ []) ∷ []) ∷ []

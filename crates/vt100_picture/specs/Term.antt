@@ -1,4 +1,5 @@
--- A plain terminal: its main sheet at offset 0, with the whole screen as its region. What it shows is given by position.
+-- A plain terminal: its main sheet at offset 0, with the whole screen as its region. What it shows is given by
+-- position.
 use Rattle.std.specs.Prelude.{ℕ, ◌-◌, ◌<◌, ◌≤◌, ◌≡◌, Bool, true, false}
 use Rattle.vt100_forms.specs.declared.attrs.Attrs.{Attrs}
 use Rattle.vt100_forms.specs.declared.modes.MouseProtocolMode.{MouseProtocolMode}
@@ -23,9 +24,9 @@ pub record Modes : Type 0 where
   pub mouse : MouseProtocolMode
   pub encoding : MouseProtocolEncoding
 
--- the cell at each row and column, and a default cell off the screen; which rows go on in the next one; the cursor, whose
--- column is the number of columns where it waits to go on in the next row; whether it is hidden; the attributes with
--- which the next character is drawn
+-- the cell at each row and column, and a default cell off the screen; which rows go on in the next one; the cursor,
+-- whose column is the number of columns where it waits to go on in the next row; whether it is hidden; the attributes
+-- with which the next character is drawn
 pub record Shown : Type 0 where
   pub cell : ℕ → ℕ → CellView
   pub wrapped : ℕ → Bool
@@ -90,7 +91,13 @@ term_of s v = record {
 -- ---- a new terminal
 
 abbrev pub default_modes : Modes
-default_modes = record { keypad = false; cursor_keys = false; paste = false; mouse = mouse.None; encoding = encoding.Default }
+default_modes = record {
+  keypad = false;
+  cursor_keys = false;
+  paste = false;
+  mouse = mouse.None;
+  encoding = encoding.Default;
+}
 
 abbrev pub blank_shown : Shown
 blank_shown = record {

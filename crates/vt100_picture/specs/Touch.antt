@@ -1,17 +1,22 @@
 -- The cells that a form touches: those that it fills, clears or erases, with the second halves; and every cell where it
 -- scrolls.
-use Rattle.std.specs.Prelude.{ℕ, ◌+◌, ◌≡◌, ◌==◌, Bool, true, false, ◌&&◌, ◌||◌, nat_lt, nat_le, min, List, [], ◌∷◌, if◌then◌else◌}
-use Rattle.vt100_forms.specs.Form.{Form, Text, MoveTo, MoveRight, EraseChar, ClearRowForward, ClearScreen, ClearAttrs, Crlf, Lf, Backspace, SaveCursor, RestoreCursor, HideCursor, Keypad, CursorKeys, Paste, Mouse, Encoding, Style, Sgr}
+use Rattle.std.specs.Prelude.{ℕ, ◌+◌, ◌≡◌, ◌==◌, Bool, true, false, ◌&&◌, ◌||◌, nat_lt, nat_le, min, List, [], ◌∷◌}
+use Rattle.std.specs.Prelude.{if◌then◌else◌}
+use Rattle.vt100_forms.specs.Form.{Form, Text, MoveTo, MoveRight, EraseChar, ClearRowForward, ClearScreen, ClearAttrs}
+use Rattle.vt100_forms.specs.Form.{Crlf, Lf, Backspace, SaveCursor, RestoreCursor, HideCursor, Keypad, CursorKeys}
+use Rattle.vt100_forms.specs.Form.{Paste, Mouse, Encoding, Style, Sgr}
 use Rattle.vt100_cells.specs.Cell.{CellView, columns_of, cell_of}
 use Rattle.vt100_cells.specs.Line.{base_col}
 use Rattle.vt100_picture.specs.Term.{Size, Term}
 use Rattle.vt100_picture.specs.Apply.{is_dropped, input, apply}
 
--- x put at column i of the line f: its columns, the rest of a wide cell that it covers, and one whose second half it covers
+-- x put at column i of the line f: its columns, the rest of a wide cell that it covers, and one whose second half it
+-- covers
 abbrev pub put_touches : (ℕ → CellView) → ℕ → CellView → ℕ → Bool
 put_touches f i x k =
     (k == i)
-    || (((k == (i + 1)) && (x.wide || (f i).wide)) || ((((k + 1) == i) && (f k).wide) || ((k == (i + 2)) && (x.wide && (f (i + 1)).wide))))
+    || (((k == (i + 1)) && (x.wide || (f i).wide))
+    || ((((k + 1) == i) && (f k).wide) || ((k == (i + 2)) && (x.wide && (f (i + 1)).wide))))
 
 -- the columns from s up to e erased
 abbrev pub wipe_touches : (ℕ → CellView) → ℕ → ℕ → ℕ → Bool
@@ -23,9 +28,10 @@ is_last_row z t = nat_le z.rows (t.row + 1)
 
 unfoldable pub input_touches : Size → ℕ → Term → ℕ → ℕ → Bool
 input_touches z c t r k =
-    if is_dropped z c t then false
+    if is_dropped z.cols t.col c then false
     else if columns_of c == 0 then (r == t.row) && (k == base_col (t.cell t.row) t.col)
-    else if nat_le (t.col + columns_of c) z.cols then (r == t.row) && put_touches (t.cell t.row) t.col (cell_of c t.attrs) k
+    else if nat_le (t.col + columns_of c) z.cols then (r == t.row)
+    && put_touches (t.cell t.row) t.col (cell_of c t.attrs) k
     else is_last_row z t || ((r == (t.row + 1)) && put_touches (t.cell (t.row + 1)) 0 (cell_of c t.attrs) k)
 
 abbrev pub inputs_touch : Size → List ℕ → Term → ℕ → ℕ → Bool

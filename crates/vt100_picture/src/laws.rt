@@ -1,7 +1,8 @@
 //! Facts about forms and pictures as wholes. Each function does nothing: its contract is the fact.
 ghost use Rattle.vt100_picture.specs.Examples.{EachExampleHolds};
 ghost use Rattle.vt100_picture.specs.FormText.{EachCellIsSent, EachTextIsPlain};
-ghost use Rattle.vt100_picture.specs.Laws.{EachEmptyFormIsIdle, EachFormKeepsTerminals, EachListJoins, EachPathJoins, EachMoveLeads, EachChangeIsRead, EachCellIsPrinted, EachUntouchedCellStays};
+ghost use Rattle.vt100_picture.specs.Laws.{EachEmptyFormIsIdle, EachFormKeepsTerminals, EachListJoins, EachPathJoins};
+ghost use Rattle.vt100_picture.specs.Laws.{EachMoveLeads, EachChangeIsRead, EachCellIsPrinted, EachUntouchedCellStays};
 
 /// A form that is spelled by no bytes changes nothing.
 pub fn empty_forms_are_idle()

@@ -1,17 +1,20 @@
 -- A zero-width character in a row.
-use Rattle.std.proofs.Common.{◌≡◌, ℕ, ◌+◌, ◌-◌, ◌<◌, ◌≤◌, ◌==◌, Bool, true, false, cond, not, ◌&&◌, ◌||◌, List, [], ◌∷◌, ◌++◌, length, set, Some, sym, refl, ap, ◌∙◌, arith, ⊎_elim, nat_lt}
+use Rattle.std.proofs.Common.{◌≡◌, ℕ, ◌+◌, ◌-◌, ◌<◌, ◌≤◌, ◌==◌, Bool, true, false, cond, not, ◌&&◌, ◌||◌, List, [], ◌∷◌}
+use Rattle.std.proofs.Common.{◌++◌, length, set, Some, sym, refl, ap, ◌∙◌, arith, ⊎_elim, nat_lt}
 use Rattle.std.specs.Char.{IsScalar}
 use Rattle.std.proofs.lemmas.List.{set-get_or}
 use Rattle.std.proofs.lemmas.Bool.{false≢true, cases_eq, eq-eqb, ne_eqb, and_parts, cond_both, ltb-true, not-true}
 use Rattle.std.proofs.lemmas.Bool.Decides.{nat_tests}
 use Rattle.vt100_forms.specs.declared.attrs.Attrs.{Attrs}
-use Rattle.vt100_cells.specs.Cell.{CellView, IsCell, IsWideAs, has_text, is_filled, has_room, text_with, is_widened_by, appended, drawn_columns, default_cell}
+use Rattle.vt100_cells.specs.Cell.{CellView, IsCell, IsWideAs, has_text, is_filled, has_room, text_with, is_widened_by}
+use Rattle.vt100_cells.specs.Cell.{appended, drawn_columns, default_cell}
 use Rattle.vt100_cells.specs.Line.{IsPaired, Bounded, span_of, update, put, base_col}
 use Rattle.vt100_cells.specs.Cells.{cell_at, by_position}
 use Rattle.vt100_rows.specs.Row.{RowView, IsRow, joined_cell, is_widening, joined_row, join_row, placed, wiped_row}
 use Rattle.vt100_cells.proofs.CellLemmas.{IsCell-appended}
 use Rattle.vt100_cells.proofs.ListLemmas.{not_first, Bounded-row, set-by_position, length-by_position}
-use Rattle.vt100_cells.proofs.JoinedCells.{base_col-whole, base_col-within, filled-appended, appended-continuation, appended-wide, same-width, appended-has_text, Bounded-update, update-last}
+use Rattle.vt100_cells.proofs.JoinedCells.{base_col-whole, base_col-within, filled-appended, appended-continuation}
+use Rattle.vt100_cells.proofs.JoinedCells.{appended-wide, same-width, appended-has_text, Bounded-update, update-last}
 use Rattle.vt100_cells.proofs.LineLemmas.{put-same, IsPaired-put}
 use Rattle.vt100_cells.proofs.EditedCells.{IsCell-update}
 use Rattle.vt100_cells.proofs.TrimLemmas.{not-false}
@@ -19,18 +22,22 @@ use Rattle.vt100_rows.proofs.RowLemmas.{IsRow-by_position, IsRow-placed, IsRow-w
 
 -- ---- the cell that becomes wide
 
-pub widened-is : (v : RowView) (col c : ℕ) → IsRow v → is_widening v col c ≡ true → ((joined_cell v col c).wide ≡ true) × (has_text (joined_cell v col c) ≡ true)
+pub widened-is : (v : RowView) (col c : ℕ) → IsRow v → is_widening v col c ≡ true → ((joined_cell v col c).wide ≡ true)
+    × (has_text (joined_cell v col c) ≡ true)
 widened-is v col c r h =
     let f = cell_at v.cells in
     let w = (and_parts (joined_cell v col c).wide (not (f (base_col f col)).wide) h).0 in
     (w, appended-has_text (f (base_col f col)) c (r.cells (base_col f col)) w)
 
 -- only the cell directly left of the cursor can become wide
-pub widened-base : (v : RowView) (col c : ℕ) → IsRow v → is_widening v col c ≡ true → base_col (cell_at v.cells) col ≡ col - 1
+pub widened-base : (v : RowView) (col c : ℕ) → IsRow v → is_widening v col c ≡ true
+    → base_col (cell_at v.cells) col ≡ col - 1
 widened-base v col c r h =
     let f = cell_at v.cells in
-    let narrow = not-true (f (base_col f col)).wide (and_parts (joined_cell v col c).wide (not (f (base_col f col)).wide) h).1 in
-    (elim (f (col - 1)).continuation as (λ b. (f (col - 1)).continuation ≡ b → (f (cond b (col - 2) (col - 1))).wide ≡ false → cond b (col - 2) (col - 1) ≡ col - 1) [
+    let narrow = not-true (f (base_col f col)).wide
+    (and_parts (joined_cell v col c).wide (not (f (base_col f col)).wide) h).1 in
+    (elim (f (col - 1)).continuation as (λ b. (f (col - 1)).continuation ≡ b
+    → (f (cond b (col - 2) (col - 1))).wide ≡ false → cond b (col - 2) (col - 1) ≡ col - 1) [
       | true ↦ λ e q.
           let later = not_first f (col - 1) r.paired e in
           let k : col - 2 + 1 ≡ col - 1 = omega arith in
@@ -40,7 +47,8 @@ widened-base v col c r h =
 
 -- ---- the rows that result
 
-pub IsRow-joined : (v : RowView) (col c : ℕ) → IsRow v → IsScalar c → drawn_columns c ≡ Some 0 → 0 < col → col ≤ length v.cells → is_widening v col c ≡ false → IsRow (joined_row v col c)
+pub IsRow-joined : (v : RowView) (col c : ℕ) → IsRow v → IsScalar c → drawn_columns c ≡ Some 0 → 0 < col
+    → col ≤ length v.cells → is_widening v col c ≡ false → IsRow (joined_row v col c)
 IsRow-joined v col c r s z h l narrow =
     let f = cell_at v.cells in
     let n = length v.cells in
@@ -49,12 +57,14 @@ IsRow-joined v col c r s z h l narrow =
     let whole = base_col-whole f col r.paired in
     let same = same-width x.wide (f i).wide (appended-wide (f i) c) narrow in
     IsRow-by_position n (update f i x) v.wrapped r.narrow
-    (IsPaired-like (update f i x) (put f i x (f i).attrs) (λ k. sym (put-same f i x (f i).attrs k r.paired whole same)) (IsPaired-put f i x (f i).attrs r.paired (appended-continuation (f i) c ∙ whole)))
+    (IsPaired-like (update f i x) (put f i x (f i).attrs) (λ k. sym (put-same f i x (f i).attrs k r.paired whole same))
+    (IsPaired-put f i x (f i).attrs r.paired (appended-continuation (f i) c ∙ whole)))
     (Bounded-update n f i x (Bounded-row v.cells) (base_col-within f n col h l))
     (IsCell-update f i x r.cells (IsCell-appended (f i) c (r.cells i) s z whole))
     (λ w. update-last f i (n - 1) x (filled-appended (f i) c) (r.filled w))
 
-pub IsCell-joined : (v : RowView) (col c : ℕ) → IsRow v → IsScalar c → drawn_columns c ≡ Some 0 → IsCell (joined_cell v col c)
+pub IsCell-joined : (v : RowView) (col c : ℕ) → IsRow v → IsScalar c → drawn_columns c ≡ Some 0
+    → IsCell (joined_cell v col c)
 IsCell-joined v col c r s z =
     let f = cell_at v.cells in
     IsCell-appended (f (base_col f col)) c (r.cells (base_col f col)) s z (base_col-whole f col r.paired)
@@ -62,7 +72,8 @@ IsCell-joined v col c r s z =
 widened-within : (x : CellView) (col n : ℕ) → x.wide ≡ true → 0 < col → col < n → col - 1 + span_of x ≤ n
 widened-within x col n w h l = let two : span_of x ≡ 2 = ap (λ b. cond b 2 1) w in omega arith
 
-pub IsRow-join : (v : RowView) (col c : ℕ) (a : Attrs) → IsRow v → IsScalar c → drawn_columns c ≡ Some 0 → 0 < col → col ≤ length v.cells → IsRow (join_row v col c a)
+pub IsRow-join : (v : RowView) (col c : ℕ) (a : Attrs) → IsRow v → IsScalar c → drawn_columns c ≡ Some 0 → 0 < col
+    → col ≤ length v.cells → IsRow (join_row v col c a)
 IsRow-join v col c a r s z h l =
     let x = joined_cell v col c in
     let n = length v.cells in
@@ -71,34 +82,42 @@ IsRow-join v col c a r s z h l =
     (λ e. let wide = widened-is v col c r (not-false (is_widening v col c) e) in
     cond_both (n == 1) v _ IsRow (λ _. r)
     (λ _. cond_both (nat_lt col n) (placed v (col - 1) x a) (wiped_row v (col - 1) col a) IsRow
-    (λ t. IsRow-placed v (col - 1) x a r (IsCell-joined v col c r s z) wide.1 (widened-within x col n wide.0 h (ltb-true col n t)))
+    (λ t. IsRow-placed v (col - 1) x a r (IsCell-joined v col c r s z) wide.1
+    (widened-within x col n wide.0 h (ltb-true col n t)))
     (λ _. IsRow-wiped v (col - 1) col a r l)))
 
 pub length-join : (v : RowView) (col c : ℕ) (a : Attrs) → length (join_row v col c a).cells ≡ length v.cells
 length-join v col c a =
     let f = cell_at v.cells in
     let n = length v.cells in
-    cond_both (not (is_widening v col c)) (joined_row v col c) _ (λ w. length w.cells ≡ n) (λ _. length-by_position n (update f (base_col f col) (joined_cell v col c)))
+    cond_both (not (is_widening v col c)) (joined_row v col c) _ (λ w. length w.cells ≡ n)
+    (λ _. length-by_position n (update f (base_col f col) (joined_cell v col c)))
     (λ _. cond_both (n == 1) v _ (λ w. length w.cells ≡ n) (λ _. refl)
-    (λ _. cond_both (nat_lt col n) (placed v (col - 1) (joined_cell v col c) a) (wiped_row v (col - 1) col a) (λ w. length w.cells ≡ n)
+    (λ _. cond_both (nat_lt col n) (placed v (col - 1) (joined_cell v col c) a) (wiped_row v (col - 1) col a)
+    (λ w. length w.cells ≡ n)
     (λ _. length-by_position n _) (λ _. length-by_position n _)))
 
 -- what the code does where no cell becomes wide
-pub joins-in_place : (v : RowView) (xs ys : List CellView) (col n i c : ℕ) (x y : CellView) (a : Attrs) → xs ≡ v.cells → ys ≡ v.cells → n ≡ col → i ≡ base_col (cell_at xs) n → y ≡ cell_at ys i → x ≡ appended y c
-    → (x.wide && not y.wide) ≡ false → 0 < col → col ≤ length v.cells → record { cells = set v.cells i x; wrapped = v.wrapped } ≡ join_row v col c a
+pub joins-in_place : (v : RowView) (xs ys : List CellView) (col n i c : ℕ) (x y : CellView) (a : Attrs) → xs ≡ v.cells
+    → ys ≡ v.cells → n ≡ col → i ≡ base_col (cell_at xs) n → y ≡ cell_at ys i → x ≡ appended y c
+    → (x.wide && not y.wide) ≡ false → 0 < col → col ≤ length v.cells
+    → record { cells = set v.cells i x; wrapped = v.wrapped } ≡ join_row v col c a
 joins-in_place v xs ys col n i c x y a exs eys en ei ey ex narrow h l =
     let f = cell_at v.cells in
     let j = base_col f col in
     let at_j : i ≡ j = ei ∙ ap (λ (zs : List CellView). base_col (cell_at zs) n) exs ∙ ap (base_col f) en in
     let old : y ≡ f j = ey ∙ ap (λ (zs : List CellView). cell_at zs i) eys ∙ ap f at_j in
     let new : x ≡ joined_cell v col c = ex ∙ ap (λ z. appended z c) old in
-    let same : is_widening v col c ≡ false = ap (λ (z : CellView). z.wide && not (f j).wide) (sym new) ∙ ap (λ (z : CellView). x.wide && not z.wide) (sym old) ∙ narrow in
+    let same : is_widening v col c ≡ false = ap (λ (z : CellView). z.wide && not (f j).wide) (sym new)
+    ∙ ap (λ (z : CellView). x.wide && not z.wide) (sym old) ∙ narrow in
     let cells : set v.cells i x ≡ by_position (length v.cells) (update f j (joined_cell v col c)) =
     ap (λ m. set v.cells m x) at_j ∙ ap (set v.cells j) new
-    ∙ set-by_position v.cells j (joined_cell v col c) (update f j (joined_cell v col c)) (base_col-within f (length v.cells) col h l) (λ k. refl) in
+    ∙ set-by_position v.cells j (joined_cell v col c) (update f j (joined_cell v col c))
+    (base_col-within f (length v.cells) col h l) (λ k. refl) in
     (λ k. record { cells = cells k; wrapped = v.wrapped })
     ∙ ap (λ b. cond (not b) (joined_row v col c)
-    (cond (length v.cells == 1) v (cond (nat_lt col (length v.cells)) (placed v (col - 1) (joined_cell v col c) a) (wiped_row v (col - 1) col a)))) (sym same)
+    (cond (length v.cells == 1) v (cond (nat_lt col (length v.cells)) (placed v (col - 1) (joined_cell v col c) a)
+    (wiped_row v (col - 1) col a)))) (sym same)
 
 -- ---- a cell that takes no more
 
@@ -107,12 +126,19 @@ same-width-twice true = refl
 same-width-twice false = refl
 
 appended-full : (x : CellView) (c : ℕ) → has_room x.text ≡ false → appended x c ≡ x
-appended-full x c full = ap (λ b. cond b (record { text = text_with x.text c; wide = x.wide || is_widened_by x.text c; continuation = x.continuation; attrs = x.attrs }) x) full
+appended-full x c full = ap (λ b. cond b (record {
+  text = text_with x.text c;
+  wide = x.wide || is_widened_by x.text c;
+  continuation = x.continuation;
+  attrs = x.attrs;
+}) x) full
 
-pub joins-full : (v : RowView) (xs ys : List CellView) (col n i c : ℕ) (y : CellView) (a : Attrs) → xs ≡ v.cells → ys ≡ v.cells → n ≡ col → i ≡ base_col (cell_at xs) n → y ≡ cell_at ys i → has_room y.text ≡ false
+pub joins-full : (v : RowView) (xs ys : List CellView) (col n i c : ℕ) (y : CellView) (a : Attrs) → xs ≡ v.cells
+    → ys ≡ v.cells → n ≡ col → i ≡ base_col (cell_at xs) n → y ≡ cell_at ys i → has_room y.text ≡ false
     → 0 < col → col ≤ length v.cells → v ≡ join_row v col c a
 joins-full v xs ys col n i c y a exs eys en ei ey full h l =
     let old : y ≡ cell_at v.cells i = ey ∙ ap (λ (zs : List CellView). cell_at zs i) eys in
     let same : set v.cells i y ≡ v.cells = ap (set v.cells i) old ∙ set-get_or v.cells i default_cell in
     (λ k. record { cells = sym same k; wrapped = v.wrapped })
-    ∙ joins-in_place v xs ys col n i c y y a exs eys en ei ey (sym (appended-full y c full)) (same-width-twice y.wide) h l
+    ∙ joins-in_place v xs ys col n i c y y a exs eys en ei ey (sym (appended-full y c full)) (same-width-twice y.wide)
+    h l

@@ -3,3 +3,4 @@ pub mod RowLemmas
 pub mod JoinLemmas
 pub mod TextLemmas
 pub mod RowRuns
+pub mod BasicLemmas

@@ -1,5 +1,6 @@
 -- A run of printable ASCII characters, put on a row.
-use Rattle.std.proofs.Common.{◌≡◌, ℕ, zero, suc, ◌+◌, ◌<◌, ◌≤◌, ◌==◌, Bool, true, false, cond, not, ◌&&◌, List, [], ◌∷◌, length, sym, refl, ap, ◌∙◌, arith}
+use Rattle.std.proofs.Common.{◌≡◌, ℕ, zero, suc, ◌+◌, ◌<◌, ◌≤◌, ◌==◌, Bool, true, false, cond, not, ◌&&◌, List, [], ◌∷◌}
+use Rattle.std.proofs.Common.{length, sym, refl, ap, ◌∙◌, arith}
 use Rattle.std.specs.Prelude.{All}
 use Rattle.std.proofs.lemmas.List.Elements.{All-drop}
 use Rattle.vt100_forms.specs.declared.attrs.Attrs.{Attrs}
@@ -25,11 +26,13 @@ and-not-narrow true w u e = ap (λ q. not (q && u)) e
 and-not-narrow false w u e = refl
 
 -- a row of as many cells, whose line is known
-run_row-like : (v w : RowView) (i : ℕ) (xs : List ℕ) (a : Attrs) (f : ℕ → CellView) → length w.cells ≡ length v.cells → cell_at w.cells ≡ f → w.wrapped ≡ v.wrapped
+run_row-like : (v w : RowView) (i : ℕ) (xs : List ℕ) (a : Attrs) (f : ℕ → CellView) → length w.cells ≡ length v.cells
+    → cell_at w.cells ≡ f → w.wrapped ≡ v.wrapped
     → run_row w i xs a ≡ record { cells = by_position (length v.cells) (run f i xs a); wrapped = v.wrapped }
 run_row-like v w i xs a f n e b = λ j. record { cells = by_position (n j) (run (e j) i xs a); wrapped = b j }
 
-pub run_row-each : (xs : List ℕ) (v : RowView) (i : ℕ) (a : Attrs) → IsRow v → All IsPrintable xs → i + length xs ≤ length v.cells → run_row v i xs a ≡ placed_each v i xs a
+pub run_row-each : (xs : List ℕ) (v : RowView) (i : ℕ) (a : Attrs) → IsRow v → All IsPrintable xs
+    → i + length xs ≤ length v.cells → run_row v i xs a ≡ placed_each v i xs a
 run_row-each [] v i a r p l = sym (run_row-none v i a)
 run_row-each (x ∷ xs) v i a r p l =
     let f = cell_at v.cells in
@@ -43,7 +46,9 @@ run_row-each (x ∷ xs) v i a r p l =
     let valid_row = IsRow-placed v i (cell_of x a) a r valid refl (omega (arith, span)) in
     let line = line-placed v i (cell_of x a) a r (omega (arith, span)) in
     let flag = and-not-narrow v.wrapped ((cell_of x a).wide) ((f (i + 1)).wide && ((i + 3) == n)) narrow in
-    sym (ap (λ (cells : List CellView). record { cells = cells; wrapped = v.wrapped }) (by_position-same n (run (put f i (cell_of x a) a) (i + 1) xs a) (run f i (x ∷ xs) a) (λ k. run-step f i x xs a narrow k r.paired)))
+    sym (ap (λ (cells : List CellView). record { cells = cells; wrapped = v.wrapped })
+    (by_position-same n (run (put f i (cell_of x a) a) (i + 1) xs a) (run f i (x ∷ xs) a)
+    (λ k. run-step f i x xs a narrow k r.paired)))
     ∙ sym (run_row-like v w (i + 1) xs a (put f i (cell_of x a) a) lw line flag)
     ∙ run_row-each xs w (i + 1) a valid_row (All-drop IsPrintable 1 (x ∷ xs) p) (omega (arith, lw))
 
@@ -52,14 +57,18 @@ run_row-empty v i [] a e = run_row-none v i a
 run_row-empty v i (x ∷ xs) a e = absurd (omega arith)
 
 -- each step keeps what is true of a row
-pub IsRow-each : (xs : List ℕ) (v : RowView) (i : ℕ) (a : Attrs) → IsRow v → All IsPrintable xs → i + length xs ≤ length v.cells → IsRow (placed_each v i xs a)
+pub IsRow-each : (xs : List ℕ) (v : RowView) (i : ℕ) (a : Attrs) → IsRow v → All IsPrintable xs
+    → i + length xs ≤ length v.cells → IsRow (placed_each v i xs a)
 IsRow-each [] v i a r p l = r
 IsRow-each (x ∷ xs) v i a r p l =
     let px : IsPrintable x = p zero 0 (omega arith) in
     let span = span-narrow (cell_of x a) (narrow-printable x a px) in
     let w = placed v i (cell_of x a) a in
-    let lw : length w.cells ≡ length v.cells = length-by_position (length v.cells) (put (cell_at v.cells) i (cell_of x a) a) in
-    IsRow-each xs w (i + 1) a (IsRow-placed v i (cell_of x a) a r (IsCell-printable x a px) refl (omega (arith, span))) (All-drop IsPrintable 1 (x ∷ xs) p) (omega (arith, lw))
+    let lw : length w.cells ≡ length v.cells = length-by_position (length v.cells)
+    (put (cell_at v.cells) i (cell_of x a) a) in
+    IsRow-each xs w (i + 1) a (IsRow-placed v i (cell_of x a) a r (IsCell-printable x a px) refl (omega (arith, span)))
+    (All-drop IsPrintable 1 (x ∷ xs) p) (omega (arith, lw))
 
-pub IsRow-run : (v : RowView) (i : ℕ) (xs : List ℕ) (a : Attrs) → IsRow v → All IsPrintable xs → i + length xs ≤ length v.cells → IsRow (run_row v i xs a)
+pub IsRow-run : (v : RowView) (i : ℕ) (xs : List ℕ) (a : Attrs) → IsRow v → All IsPrintable xs
+    → i + length xs ≤ length v.cells → IsRow (run_row v i xs a)
 IsRow-run v i xs a r p l = rw (run_row-each xs v i a r p l) (IsRow-each xs v i a r p l)

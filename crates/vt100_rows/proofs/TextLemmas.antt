@@ -1,5 +1,7 @@
 -- The text of a row, column by column.
-use Rattle.std.proofs.Common.{◌≡◌, ℕ, zero, suc, ◌+◌, ◌-◌, ◌<◌, ◌≤◌, ◌==◌, Bool, true, false, cond, not, ◌&&◌, List, [], ◌∷◌, ◌++◌, length, replicate, sym, refl, ap, ◌∙◌, arith, append_assoc, append-nil, length-append, min, ⊎_elim}
+use Rattle.std.proofs.Common.{◌≡◌, ℕ, zero, suc, ◌+◌, ◌-◌, ◌<◌, ◌≤◌, ◌==◌, Bool, true, false, cond, not, ◌&&◌, List, []}
+use Rattle.std.proofs.Common.{◌∷◌, ◌++◌, length, replicate, sym, refl, ap, ◌∙◌, arith, append_assoc, append-nil}
+use Rattle.std.proofs.Common.{length-append, min, ⊎_elim}
 use Rattle.std.specs.Prelude.{encode_utf8_all, encode_utf8, Result, Ok, Err, OnErr}
 use Rattle.std.proofs.lemmas.Bool.{ne_eqb, false≢true, cond_both, cases_lt}
 use Rattle.std.proofs.lemmas.List.{replicate-append-replicate}
@@ -16,7 +18,8 @@ more_spaces n = ap (λ bs. replicate n 32 ++ bs) (encode_ascii 32 (omega arith))
 
 encodes-spaces : (n : ℕ) → encode_utf8_all (replicate n 32) ≡ replicate n 32
 encodes-spaces zero = refl
-encodes-spaces (suc n) = ap (λ bs. bs ++ encode_utf8_all (replicate n 32)) (encode_ascii 32 (omega arith)) ∙ ap (λ bs. 32 ∷ bs) (encodes-spaces n)
+encodes-spaces (suc n) = ap (λ bs. bs ++ encode_utf8_all (replicate n 32)) (encode_ascii 32 (omega arith))
+    ∙ ap (λ bs. 32 ∷ bs) (encodes-spaces n)
 
 -- ---- one column more
 
@@ -24,58 +27,79 @@ column_text-has : (f : ℕ → CellView) (s k : ℕ) → has_text (f k) ≡ true
 column_text-has f s k h = rw h refl
 
 -- where a text stands
-line_text-has : (f : ℕ → CellView) (s n b : ℕ) → columns_text f s n ≡ line_text f s n ++ replicate b 32 → has_text (f (s + n)) ≡ true
+line_text-has : (f : ℕ → CellView) (s n b : ℕ) → columns_text f s n ≡ line_text f s n ++ replicate b 32
+    → has_text (f (s + n)) ≡ true
     → line_text f s (suc n) ≡ line_text f s n ++ replicate b 32 ++ (f (s + n)).text
 line_text-has f s n b g h =
     ap (λ t. cond t (columns_text f s (suc n)) (line_text f s n)) h
-    ∙ ap (λ (cs : List ℕ). cs ++ column_text f s (s + n)) g ∙ ap (λ cs. (line_text f s n ++ replicate b 32) ++ cs) (column_text-has f s (s + n) h)
+    ∙ ap (λ (cs : List ℕ). cs ++ column_text f s (s + n)) g
+    ∙ ap (λ cs. (line_text f s n ++ replicate b 32) ++ cs) (column_text-has f s (s + n) h)
 
-pub columns_text-has : (f : ℕ → CellView) (s n : ℕ) → has_text (f (s + n)) ≡ true → columns_text f s (suc n) ≡ line_text f s (suc n) ++ replicate 0 32
-columns_text-has f s n h = sym (ap (λ t. cond t (columns_text f s (suc n)) (line_text f s n)) h) ∙ sym (append-nil (line_text f s (suc n)))
+pub columns_text-has : (f : ℕ → CellView) (s n : ℕ) → has_text (f (s + n)) ≡ true
+    → columns_text f s (suc n) ≡ line_text f s (suc n) ++ replicate 0 32
+columns_text-has f s n h = sym (ap (λ t. cond t (columns_text f s (suc n)) (line_text f s n)) h)
+    ∙ sym (append-nil (line_text f s (suc n)))
 
 -- what the code appends there
-pub writes-text : (f : ℕ → CellView) (s n b : ℕ) (old was spaced now : List ℕ) → columns_text f s n ≡ line_text f s n ++ replicate b 32 → has_text (f (s + n)) ≡ true
-    → was ≡ old ++ encode_utf8_all (line_text f s n) → spaced ≡ was ++ replicate b 32 → now ≡ spaced ++ encode_utf8_all (f (s + n)).text
+pub writes-text : (f : ℕ → CellView) (s n b : ℕ) (old was spaced now : List ℕ)
+    → columns_text f s n ≡ line_text f s n ++ replicate b 32 → has_text (f (s + n)) ≡ true
+    → was ≡ old ++ encode_utf8_all (line_text f s n) → spaced ≡ was ++ replicate b 32
+    → now ≡ spaced ++ encode_utf8_all (f (s + n)).text
     → now ≡ old ++ encode_utf8_all (line_text f s (suc n))
 writes-text f s n b old was spaced now g h ew es en =
     let t = (f (s + n)).text in
     let ls = line_text f s n in
     let whole : encode_utf8_all (line_text f s (suc n)) ≡ encode_utf8_all ls ++ replicate b 32 ++ encode_utf8_all t =
     ap encode_utf8_all (line_text-has f s n b g h) ∙ encodes-append (ls ++ replicate b 32) t
-    ∙ ap (λ bs. bs ++ encode_utf8_all t) (encodes-append ls (replicate b 32) ∙ ap (λ bs. encode_utf8_all ls ++ bs) (encodes-spaces b)) in
+    ∙ ap (λ bs. bs ++ encode_utf8_all t) (encodes-append ls (replicate b 32)
+    ∙ ap (λ bs. encode_utf8_all ls ++ bs) (encodes-spaces b)) in
     en ∙ ap (λ (bs : List ℕ). bs ++ encode_utf8_all t) (es ∙ ap (λ (bs : List ℕ). bs ++ replicate b 32) ew)
     ∙ ap (λ (bs : List ℕ). bs ++ encode_utf8_all t) (append_assoc old (encode_utf8_all ls) (replicate b 32))
     ∙ append_assoc old (encode_utf8_all ls ++ replicate b 32) (encode_utf8_all t) ∙ ap (λ bs. old ++ bs) (sym whole)
 
 some-text : (xs ys : List ℕ) → not (length ys == 0) ≡ true → not (length (xs ++ ys) == 0) ≡ true
 some-text xs [] h = absurd (false≢true h)
-some-text xs (y ∷ ys) h = ap not (ne_eqb (length (xs ++ y ∷ ys)) 0 (λ e. absurd (omega (arith, e, length-append xs (y ∷ ys)))))
+some-text xs (y ∷ ys) h = ap not (ne_eqb (length (xs ++ y ∷ ys)) 0
+    (λ e. absurd (omega (arith, e, length-append xs (y ∷ ys)))))
 
-pub shows-text : (f : ℕ → CellView) (s n b : ℕ) → columns_text f s n ≡ line_text f s n ++ replicate b 32 → has_text (f (s + n)) ≡ true → true ≡ not (length (line_text f s (suc n)) == 0)
-shows-text f s n b g h = sym (ap (λ (cs : List ℕ). not (length cs == 0)) (line_text-has f s n b g h) ∙ some-text (line_text f s n ++ replicate b 32) (f (s + n)).text h)
+pub shows-text : (f : ℕ → CellView) (s n b : ℕ) → columns_text f s n ≡ line_text f s n ++ replicate b 32
+    → has_text (f (s + n)) ≡ true → true ≡ not (length (line_text f s (suc n)) == 0)
+shows-text f s n b g h = sym (ap (λ (cs : List ℕ). not (length cs == 0)) (line_text-has f s n b g h)
+    ∙ some-text (line_text f s n ++ replicate b 32) (f (s + n)).text h)
 
 -- where none stands
-pub line_text-none : (f : ℕ → CellView) (s n : ℕ) → has_text (f (s + n)) ≡ false → line_text f s (suc n) ≡ line_text f s n
+pub line_text-none : (f : ℕ → CellView) (s n : ℕ) → has_text (f (s + n)) ≡ false
+    → line_text f s (suc n) ≡ line_text f s n
 line_text-none f s n h = ap (λ t. cond t (columns_text f s (suc n)) (line_text f s n)) h
 
-columns_text-none : (f : ℕ → CellView) (s n b : ℕ) (cs : List ℕ) → columns_text f s n ≡ line_text f s n ++ replicate b 32 → has_text (f (s + n)) ≡ false
+columns_text-none : (f : ℕ → CellView) (s n b : ℕ) (cs : List ℕ)
+    → columns_text f s n ≡ line_text f s n ++ replicate b 32 → has_text (f (s + n)) ≡ false
     → column_text f s (s + n) ≡ cs → columns_text f s (suc n) ≡ line_text f s (suc n) ++ (replicate b 32 ++ cs)
 columns_text-none f s n b cs g h e =
-    ap (λ (xs : List ℕ). xs ++ column_text f s (s + n)) g ∙ ap (λ xs. (line_text f s n ++ replicate b 32) ++ xs) e ∙ append_assoc (line_text f s n) (replicate b 32) cs
+    ap (λ (xs : List ℕ). xs ++ column_text f s (s + n)) g ∙ ap (λ xs. (line_text f s n ++ replicate b 32) ++ xs) e
+    ∙ append_assoc (line_text f s n) (replicate b 32) cs
     ∙ ap (λ (xs : List ℕ). xs ++ (replicate b 32 ++ cs)) (sym (line_text-none f s n h))
 
-column_text-none : (f : ℕ → CellView) (s k : ℕ) (q : Bool) → has_text (f k) ≡ false → ((f k).continuation && not (k == s)) ≡ q → column_text f s k ≡ cond q [] (32 ∷ [])
-column_text-none f s k q h e = ap (λ t. cond t (f k).text (cond ((f k).continuation && not (k == s)) [] (32 ∷ []))) h ∙ ap (λ t. cond t [] (32 ∷ [])) e
+column_text-none : (f : ℕ → CellView) (s k : ℕ) (q : Bool) → has_text (f k) ≡ false
+    → ((f k).continuation && not (k == s)) ≡ q → column_text f s k ≡ cond q [] (32 ∷ [])
+column_text-none f s k q h e = ap (λ t. cond t (f k).text (cond ((f k).continuation && not (k == s)) [] (32 ∷ []))) h
+    ∙ ap (λ t. cond t [] (32 ∷ [])) e
 
-pub columns_text-half : (f : ℕ → CellView) (s n b : ℕ) → columns_text f s n ≡ line_text f s n ++ replicate b 32 → has_text (f (s + n)) ≡ false
-    → ((f (s + n)).continuation && not ((s + n) == s)) ≡ true → columns_text f s (suc n) ≡ line_text f s (suc n) ++ replicate b 32
+pub columns_text-half : (f : ℕ → CellView) (s n b : ℕ) → columns_text f s n ≡ line_text f s n ++ replicate b 32
+    → has_text (f (s + n)) ≡ false
+    → ((f (s + n)).continuation && not ((s + n) == s)) ≡ true
+    → columns_text f s (suc n) ≡ line_text f s (suc n) ++ replicate b 32
 columns_text-half f s n b g h e =
-    columns_text-none f s n b [] g h (column_text-none f s (s + n) true h e) ∙ ap (λ xs. line_text f s (suc n) ++ xs) (append-nil (replicate b 32))
+    columns_text-none f s n b [] g h (column_text-none f s (s + n) true h e)
+    ∙ ap (λ xs. line_text f s (suc n) ++ xs) (append-nil (replicate b 32))
 
-pub columns_text-space : (f : ℕ → CellView) (s n b : ℕ) → columns_text f s n ≡ line_text f s n ++ replicate b 32 → has_text (f (s + n)) ≡ false
-    → ((f (s + n)).continuation && not ((s + n) == s)) ≡ false → columns_text f s (suc n) ≡ line_text f s (suc n) ++ replicate (b + 1) 32
+pub columns_text-space : (f : ℕ → CellView) (s n b : ℕ) → columns_text f s n ≡ line_text f s n ++ replicate b 32
+    → has_text (f (s + n)) ≡ false
+    → ((f (s + n)).continuation && not ((s + n) == s)) ≡ false
+    → columns_text f s (suc n) ≡ line_text f s (suc n) ++ replicate (b + 1) 32
 columns_text-space f s n b g h e =
-    columns_text-none f s n b (32 ∷ []) g h (column_text-none f s (s + n) false h e) ∙ ap (λ xs. line_text f s (suc n) ++ xs) (replicate-append-replicate b 1 32)
+    columns_text-none f s n b (32 ∷ []) g h (column_text-none f s (s + n) false h e)
+    ∙ ap (λ xs. line_text f s (suc n) ++ xs) (replicate-append-replicate b 1 32)
 
 not-not : (b : Bool) → not (not b) ≡ b
 not-not true = refl
@@ -95,23 +119,32 @@ pub record IsWritten (f : ℕ → CellView) (s n : ℕ) (old now : List ℕ) (b 
   pub few : b ≤ n
 
 pub IsWritten-start : (f : ℕ → CellView) (s n : ℕ) (old : List ℕ) → n ≡ 0 → IsWritten f s n old old 0 false
-IsWritten-start f s n old e = rw e (record { bytes = sym (append-nil old); gap = refl; shows = refl; few = omega arith })
+IsWritten-start f s n old e = rw e (record {
+  bytes = sym (append-nil old);
+  gap = refl;
+  shows = refl;
+  few = omega arith;
+})
 
-IsWritten-at : (f : ℕ → CellView) (s n m : ℕ) (old now : List ℕ) (b : ℕ) (shown : Bool) → m ≡ n → IsWritten f s n old now b shown → IsWritten f s m old now b shown
+IsWritten-at : (f : ℕ → CellView) (s n m : ℕ) (old now : List ℕ) (b : ℕ) (shown : Bool) → m ≡ n
+    → IsWritten f s n old now b shown → IsWritten f s m old now b shown
 IsWritten-at f s n m old now b shown e h = rw e h
 
-module _ (f : ℕ → CellView) (s col b : ℕ) (old was : List ℕ) (shown : Bool) (later : s ≤ col) (h : IsWritten f s (col - s) old was b shown) where
+module _ (f : ℕ → CellView) (s col b : ℕ) (old was : List ℕ) (shown : Bool) (later : s ≤ col)
+    (h : IsWritten f s (col - s) old was b shown) where
   here : s + (col - s) ≡ col
   here = omega arith
 
   one_more : col + 1 - s ≡ suc (col - s)
   one_more = omega arith
 
-  pub IsWritten-text : (spaced now : List ℕ) → has_text (f col) ≡ true → spaced ≡ was ++ replicate b 32 → now ≡ spaced ++ encode_utf8_all (f col).text → IsWritten f s (col + 1 - s) old now 0 true
+  pub IsWritten-text : (spaced now : List ℕ) → has_text (f col) ≡ true → spaced ≡ was ++ replicate b 32
+      → now ≡ spaced ++ encode_utf8_all (f col).text → IsWritten f s (col + 1 - s) old now 0 true
   IsWritten-text spaced now t es en =
       let t2 : has_text (f (s + (col - s))) ≡ true = ap (λ k. has_text (f k)) here ∙ t in
       IsWritten-at f s (suc (col - s)) (col + 1 - s) old now 0 true one_more (record {
-        bytes = writes-text f s (col - s) b old was spaced now h.gap t2 h.bytes es (en ∙ ap (λ k. spaced ++ encode_utf8_all (f k).text) (sym here));
+        bytes = writes-text f s (col - s) b old was spaced now h.gap t2 h.bytes es (en
+            ∙ ap (λ k. spaced ++ encode_utf8_all (f k).text) (sym here));
         gap = columns_text-has f s (col - s) t2;
         shows = shows-text f s (col - s) b h.gap t2;
         few = omega arith;
@@ -121,7 +154,8 @@ module _ (f : ℕ → CellView) (s col b : ℕ) (old was : List ℕ) (shown : Bo
       → (has_text (f (s + (col - s))) ≡ false) × (((f (s + (col - s))).continuation && not ((s + (col - s)) == s)) ≡ q)
   blank q t e = (ap (λ k. has_text (f k)) here ∙ t, ap (λ k. (f k).continuation && not (k == s)) here ∙ e)
 
-  pub IsWritten-space : has_text (f col) ≡ false → ((f col).continuation && not (col == s)) ≡ false → IsWritten f s (col + 1 - s) old was (b + 1) shown
+  pub IsWritten-space : has_text (f col) ≡ false → ((f col).continuation && not (col == s)) ≡ false
+      → IsWritten f s (col + 1 - s) old was (b + 1) shown
   IsWritten-space t e =
       let both = blank false t e in
       let same = line_text-none f s (col - s) both.0 in
@@ -132,7 +166,8 @@ module _ (f : ℕ → CellView) (s col b : ℕ) (old was : List ℕ) (shown : Bo
         few = let l = h.few in omega arith;
       })
 
-  pub IsWritten-half : has_text (f col) ≡ false → ((f col).continuation && not (col == s)) ≡ true → IsWritten f s (col + 1 - s) old was b shown
+  pub IsWritten-half : has_text (f col) ≡ false → ((f col).continuation && not (col == s)) ≡ true
+      → IsWritten f s (col + 1 - s) old was b shown
   IsWritten-half t e =
       let both = blank true t e in
       let same = line_text-none f s (col - s) both.0 in
@@ -145,41 +180,56 @@ module _ (f : ℕ → CellView) (s col b : ℕ) (old was : List ℕ) (shown : Bo
 
 -- ---- what is written in the end
 
-pub written-whole : (v : RowView) (s n m : ℕ) (wrapping shown : Bool) (old now : List ℕ) (b : ℕ) → m ≡ min (s + n) (length v.cells) - s → IsWritten (cell_at v.cells) s m old now b shown
+pub written-whole : (v : RowView) (s n m : ℕ) (wrapping shown : Bool) (old now : List ℕ) (b : ℕ)
+    → m ≡ min (s + n) (length v.cells) - s → IsWritten (cell_at v.cells) s m old now b shown
     → (wrapping && not shown) ≡ false → now ≡ old ++ encode_utf8_all (written_text v s n wrapping)
 written-whole v s n m wrapping shown old now b e h q =
     let t = row_text v s (s + n) in
     let same : line_text (cell_at v.cells) s m ≡ t = ap (line_text (cell_at v.cells) s) e in
     let no : (wrapping && (length t == 0)) ≡ false =
-    ap (λ r. wrapping && r) (sym (not-not (length t == 0)) ∙ ap (λ (cs : List ℕ). not (not (length cs == 0))) (sym same) ∙ ap not (sym h.shows)) ∙ q in
-    h.bytes ∙ ap (λ (cs : List ℕ). old ++ encode_utf8_all cs) same ∙ ap (λ r. old ++ encode_utf8_all (cond r (10 ∷ []) t)) (sym no)
+    ap (λ r. wrapping && r) (sym (not-not (length t == 0))
+    ∙ ap (λ (cs : List ℕ). not (not (length cs == 0))) (sym same) ∙ ap not (sym h.shows)) ∙ q in
+    h.bytes ∙ ap (λ (cs : List ℕ). old ++ encode_utf8_all cs) same
+    ∙ ap (λ r. old ++ encode_utf8_all (cond r (10 ∷ []) t)) (sym no)
 
-pub written-newline : (v : RowView) (s n m : ℕ) (wrapping shown : Bool) (old was now : List ℕ) (b : ℕ) → m ≡ min (s + n) (length v.cells) - s → IsWritten (cell_at v.cells) s m old was b shown
-    → wrapping ≡ true → shown ≡ false → now ≡ was ++ encode_utf8 10 → now ≡ old ++ encode_utf8_all (written_text v s n wrapping)
+pub written-newline : (v : RowView) (s n m : ℕ) (wrapping shown : Bool) (old was now : List ℕ) (b : ℕ)
+    → m ≡ min (s + n) (length v.cells) - s → IsWritten (cell_at v.cells) s m old was b shown
+    → wrapping ≡ true → shown ≡ false → now ≡ was ++ encode_utf8 10
+    → now ≡ old ++ encode_utf8_all (written_text v s n wrapping)
 written-newline v s n m wrapping shown old was now b e h w q en =
     let t = row_text v s (s + n) in
     let same : line_text (cell_at v.cells) s m ≡ t = ap (line_text (cell_at v.cells) s) e in
-    let none : (length t == 0) ≡ true = sym (not-not (length t == 0)) ∙ ap (λ (cs : List ℕ). not (not (length cs == 0))) (sym same) ∙ ap not (sym h.shows ∙ q) in
+    let none : (length t == 0) ≡ true = sym (not-not (length t == 0))
+    ∙ ap (λ (cs : List ℕ). not (not (length cs == 0))) (sym same) ∙ ap not (sym h.shows ∙ q) in
     let yes : (wrapping && (length t == 0)) ≡ true = ap (λ r. r && (length t == 0)) w ∙ none in
     let empty : t ≡ [] = no_text t none in
     let bytes : was ≡ old = h.bytes ∙ ap (λ (cs : List ℕ). old ++ encode_utf8_all cs) (same ∙ empty) ∙ append-nil old in
-    en ∙ ap (λ (bs : List ℕ). bs ++ encode_utf8 10) bytes ∙ ap (λ bs. old ++ bs) (sym (append-nil (encode_utf8 10))) ∙ ap (λ r. old ++ encode_utf8_all (cond r (10 ∷ []) t)) (sym yes)
+    en ∙ ap (λ (bs : List ℕ). bs ++ encode_utf8 10) bytes ∙ ap (λ bs. old ++ bs) (sym (append-nil (encode_utf8 10)))
+    ∙ ap (λ r. old ++ encode_utf8_all (cond r (10 ∷ []) t)) (sym yes)
 
 -- ---- where memory ran out
 
 -- a part of a text has been begun, after what stands before it
-pub IsBegun-within : (old was before part after text now : List ℕ) → was ≡ old ++ before → text ≡ before ++ part ++ after → IsBegun was part now → IsBegun old text now
+pub IsBegun-within : (old was before part after text now : List ℕ) → was ≡ old ++ before
+    → text ≡ before ++ part ++ after → IsBegun was part now → IsBegun old text now
 IsBegun-within old was before part after text now ew et h = (
   before ++ h.0,
   h.1 ++ after,
-  et ∙ ap (λ (xs : List ℕ). before ++ xs ++ after) h.2 ∙ ap (λ (xs : List ℕ). xs ++ after) (sym (append_assoc before h.0 h.1)) ∙ append_assoc (before ++ h.0) h.1 after,
+  et ∙ ap (λ (xs : List ℕ). before ++ xs ++ after) h.2
+      ∙ ap (λ (xs : List ℕ). xs ++ after) (sym (append_assoc before h.0 h.1)) ∙ append_assoc (before ++ h.0) h.1 after,
   h.3 ∙ ap (λ (xs : List ℕ). xs ++ h.0) ew ∙ append_assoc old before h.0,
 )
 
-pub IsBegun-spaces : (n k : ℕ) (old now : List ℕ) → k ≤ n → now ≡ old ++ replicate k 32 → IsBegun old (replicate n 32) now
+pub IsBegun-spaces : (n k : ℕ) (old now : List ℕ) → k ≤ n → now ≡ old ++ replicate k 32
+    → IsBegun old (replicate n 32) now
 IsBegun-spaces n k old now h e =
-    let whole : k + (n - k) ≡ n = omega arith in
-    (replicate k 32, replicate (n - k) 32, ap (λ m. replicate m 32) (sym whole) ∙ sym (replicate-append-replicate k (n - k) 32), e)
+    let whole : k + (n - k) ≡ n = omega arith in (
+      replicate k 32,
+      replicate (n - k) 32,
+      ap (λ m. replicate m 32) (sym whole)
+          ∙ sym (replicate-append-replicate k (n - k) 32),
+      e,
+    )
 
 -- the text up to a column where one stands is a front of the text of more columns
 module _ (f : ℕ → CellView) (s n : ℕ) (stands : has_text (f (s + n)) ≡ true) where
@@ -190,31 +240,42 @@ module _ (f : ℕ → CellView) (s n : ℕ) (stands : has_text (f (s + n)) ≡ t
   columns-more zero h = absurd (omega (arith, h))
   columns-more (suc k) h =
       ⊎_elim
-      (λ (l : n < k). let r = columns-more k l in (r.0 ++ column_text f s (s + k), ap (λ (cs : List ℕ). cs ++ column_text f s (s + k)) r.1 ∙ append_assoc first r.0 (column_text f s (s + k))))
-      (λ (l : k ≤ n). let e : k ≡ n = omega (arith, h, l) in ([], ap (λ j. columns_text f s (suc j)) e ∙ sym (append-nil first)))
+      (λ (l : n < k). let r = columns-more k l in (
+        r.0 ++ column_text f s (s + k),
+        ap (λ (cs : List ℕ). cs ++ column_text f s (s + k)) r.1 ∙ append_assoc first r.0 (column_text f s (s + k)),
+      ))
+      (λ (l : k ≤ n). let e : k ≡ n = omega (arith, h, l)
+      in ([], ap (λ j. columns_text f s (suc j)) e ∙ sym (append-nil first)))
       (cases_lt n k)
 
   pub line-more : (k : ℕ) → n < k → (rest : List ℕ) × (line_text f s k ≡ first ++ rest)
   line-more zero h = absurd (omega (arith, h))
   line-more (suc k) h =
       ⊎_elim
-      (λ (l : n < k). cond_both (has_text (f (s + k))) (columns_text f s (suc k)) (line_text f s k) (λ (cs : List ℕ). (rest : List ℕ) × (cs ≡ first ++ rest)) (λ _. columns-more (suc k) h) (λ _. line-more k l))
+      (λ (l : n < k). cond_both (has_text (f (s + k))) (columns_text f s (suc k)) (line_text f s k)
+      (λ (cs : List ℕ). (rest : List ℕ) × (cs ≡ first ++ rest)) (λ _. columns-more (suc k) h) (λ _. line-more k l))
       (λ (l : k ≤ n).
-      let e : k ≡ n = omega (arith, h, l) in
-      ([], ap (λ j. line_text f s (suc j)) e ∙ ap (λ b. cond b (columns_text f s (suc n)) (line_text f s n)) stands ∙ sym (append-nil first)))
+      let e : k ≡ n = omega (arith, h, l) in (
+        [],
+        ap (λ j. line_text f s (suc j)) e ∙ ap (λ b. cond b (columns_text f s (suc n)) (line_text f s n)) stands
+            ∙ sym (append-nil first),
+      ))
       (cases_lt n k)
 
 some-front : (xs ys : List ℕ) → not (length xs == 0) ≡ true → not (length (xs ++ ys) == 0) ≡ true
 some-front [] ys h = absurd (false≢true h)
-some-front (x ∷ xs) ys h = ap not (ne_eqb (length (x ∷ xs ++ ys)) 0 (λ e. absurd (omega (arith, e, length-append (x ∷ xs) ys))))
+some-front (x ∷ xs) ys h = ap not (ne_eqb (length (x ∷ xs ++ ys)) 0
+    (λ e. absurd (omega (arith, e, length-append (x ∷ xs) ys))))
 
 pub on-err : {T E P : Type 0} (r : Result T E) → P → OnErr r P
 on-err (Ok x) p = tt
 on-err (Err e) p = p
 
 -- memory ran out at a column where a text stands
-pub IsBegun-text : (v : RowView) (s n col b : ℕ) (wrapping shown : Bool) (old was now : List ℕ) → s ≤ col → col < min (s + n) (length v.cells) → IsWritten (cell_at v.cells) s (col - s) old was b shown
-    → has_text (cell_at v.cells col) ≡ true → IsBegun was (replicate b 32) now → IsBegun old (encode_utf8_all (written_text v s n wrapping)) now
+pub IsBegun-text : (v : RowView) (s n col b : ℕ) (wrapping shown : Bool) (old was now : List ℕ) → s ≤ col
+    → col < min (s + n) (length v.cells) → IsWritten (cell_at v.cells) s (col - s) old was b shown
+    → has_text (cell_at v.cells col) ≡ true → IsBegun was (replicate b 32) now
+    → IsBegun old (encode_utf8_all (written_text v s n wrapping)) now
 IsBegun-text v s n col b wrapping shown old was now later within h stands begun =
     let f = cell_at v.cells in
     let k = col - s in
@@ -225,13 +286,18 @@ IsBegun-text v s n col b wrapping shown old was now later within h stands begun 
     let t = (f (s + k)).text in
     let more = line-more f s k here m (omega arith) in
     let whole : row_text v s (s + n) ≡ (ls ++ replicate b 32) ++ (t ++ more.0) =
-    more.1 ∙ ap (λ (cs : List ℕ). cs ++ more.0) (ap (λ (cs : List ℕ). cs ++ column_text f s (s + k)) h.gap ∙ ap (λ cs. (ls ++ replicate b 32) ++ cs) (column_text-has f s (s + k) here))
+    more.1 ∙ ap (λ (cs : List ℕ). cs ++ more.0) (ap (λ (cs : List ℕ). cs ++ column_text f s (s + k)) h.gap
+    ∙ ap (λ cs. (ls ++ replicate b 32) ++ cs) (column_text-has f s (s + k) here))
     ∙ append_assoc (ls ++ replicate b 32) t more.0 in
     let some : (wrapping && (length (row_text v s (s + n)) == 0)) ≡ false =
-    and-none wrapping (length (row_text v s (s + n)) == 0) (ap (λ (cs : List ℕ). not (length cs == 0)) whole ∙ some-text (ls ++ replicate b 32) (t ++ more.0) (some-front t more.0 here)) in
-    IsBegun-within old was (encode_utf8_all ls) (replicate b 32) (encode_utf8_all (t ++ more.0)) (encode_utf8_all (written_text v s n wrapping)) now h.bytes
-    (ap (λ r. encode_utf8_all (cond r (10 ∷ []) (row_text v s (s + n)))) some ∙ ap encode_utf8_all whole ∙ encodes-append (ls ++ replicate b 32) (t ++ more.0)
-    ∙ ap (λ (bs : List ℕ). bs ++ encode_utf8_all (t ++ more.0)) (encodes-append ls (replicate b 32) ∙ ap (λ bs. encode_utf8_all ls ++ bs) (encodes-spaces b)))
+    and-none wrapping (length (row_text v s (s + n)) == 0) (ap (λ (cs : List ℕ). not (length cs == 0)) whole
+    ∙ some-text (ls ++ replicate b 32) (t ++ more.0) (some-front t more.0 here)) in
+    IsBegun-within old was (encode_utf8_all ls) (replicate b 32) (encode_utf8_all (t ++ more.0))
+    (encode_utf8_all (written_text v s n wrapping)) now h.bytes
+    (ap (λ r. encode_utf8_all (cond r (10 ∷ []) (row_text v s (s + n)))) some ∙ ap encode_utf8_all whole
+    ∙ encodes-append (ls ++ replicate b 32) (t ++ more.0)
+    ∙ ap (λ (bs : List ℕ). bs ++ encode_utf8_all (t ++ more.0)) (encodes-append ls (replicate b 32)
+    ∙ ap (λ bs. encode_utf8_all ls ++ bs) (encodes-spaces b)))
     begun
   where
     and-none : (p q : Bool) → not q ≡ true → (p && q) ≡ false

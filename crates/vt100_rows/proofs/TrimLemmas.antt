@@ -13,13 +13,15 @@ IsRow-trimmed v r =
     record {
       paired = record {
         first = ap (λ (c : CellView). c.continuation) (same 0) ∙ r.paired.first;
-        next = λ k. ap (λ (c : CellView). c.continuation) (same (k + 1)) ∙ r.paired.next k ∙ ap (λ (c : CellView). c.wide) (sym (same k));
+        next = λ k. ap (λ (c : CellView). c.continuation) (same (k + 1)) ∙ r.paired.next k
+            ∙ ap (λ (c : CellView). c.wide) (sym (same k));
         blank = λ k h. same k ∙ r.paired.blank k (ap (λ (c : CellView). c.continuation) (sym (same k)) ∙ h);
       };
       cells = λ k. rw (same k) (r.cells k);
       filled = λ w.
           let full = r.filled w in
-          let all : take (trimmed_len xs) xs ≡ xs = ap (λ n. take n xs) (trimmed_len-whole xs full) ∙ take_all (length xs) xs (omega arith) in
+          let all : take (trimmed_len xs) xs ≡ xs =
+          ap (λ n. take n xs) (trimmed_len-whole xs full) ∙ take_all (length xs) xs (omega arith) in
           ap (λ l. is_filled (last_cell l)) all ∙ full;
       narrow = omega (arith, length-take (trimmed_len xs) xs, r.narrow);
     }

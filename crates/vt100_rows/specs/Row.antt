@@ -1,11 +1,13 @@
 -- What a contract sees of a row, what is true of every row, and what each call does to it.
-use Rattle.std.specs.Prelude.{ℕ, suc, ◌+◌, ◌-◌, ◌^◌, ◌<◌, ◌≡◌, ◌==◌, Bool, true, false, not, ◌&&◌, nat_lt, min, List, [], ◌∷◌, length, map, take, replicate, slice_index_or, if◌then◌else◌}
+use Rattle.std.specs.Prelude.{ℕ, suc, ◌+◌, ◌-◌, ◌^◌, ◌<◌, ◌≡◌, ◌==◌, Bool, true, false, not, ◌&&◌, nat_lt, min, List}
+use Rattle.std.specs.Prelude.{[], ◌∷◌, length, map, take, replicate, slice_index_or, if◌then◌else◌}
 use Rattle.vt100_forms.specs.declared.attrs.Attrs.{Attrs}
 use Rattle.vt100_rows.specs.declared.join.Join.{Join}
 use Rattle.vt100_rows.specs.declared.join.Join.TheVariants.{InPlace, Ignored, Widened, Carried}
 use Rattle.vt100_cells.specs.Cell.{CellView, IsCell, default_cell, empty_cell, cell_of, is_filled, is_default, appended}
 use Rattle.vt100_cells.specs.Cells.{cell_at, by_position, last_cell, inserted_cells, trimmed_len}
-use Rattle.vt100_cells.specs.Line.{IsPaired, update, put, put_unflags, base_col, pair_wiped, wiped, wipe_unflags, cut, opened, closed, extended, run}
+use Rattle.vt100_cells.specs.Line.{IsPaired, update, put, put_unflags, base_col, pair_wiped, wiped, wipe_unflags, cut}
+use Rattle.vt100_cells.specs.Line.{opened, closed, extended, run}
 
 -- the cells from left to right, and whether the row's text goes on in the row below
 pub record RowView : Type 0 where
@@ -81,7 +83,8 @@ is_widening v col c = (joined_cell v col c).wide && not (cell_at v.cells (base_c
 -- the cell changes in its place
 abbrev pub joined_row : RowView → ℕ → ℕ → RowView
 joined_row v col c = record {
-  cells = by_position (length v.cells) (update (cell_at v.cells) (base_col (cell_at v.cells) col) (joined_cell v col c));
+  cells = by_position (length v.cells) (update (cell_at v.cells) (base_col (cell_at v.cells) col)
+      (joined_cell v col c));
   wrapped = v.wrapped;
 }
 
@@ -93,7 +96,8 @@ inserted v i count = record { cells = inserted_cells v.cells i count; wrapped = 
 -- the columns from s up to e are taken out
 abbrev pub removed : RowView → ℕ → ℕ → RowView
 removed v s e = record {
-  cells = if nat_lt s e then by_position (length v.cells) (closed (length v.cells) (cell_at v.cells) s (e - s)) else v.cells;
+  cells = if nat_lt s e then by_position (length v.cells) (closed (length v.cells) (cell_at v.cells) s (e - s))
+      else v.cells;
   wrapped = false;
 }
 

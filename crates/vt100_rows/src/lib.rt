@@ -4,6 +4,7 @@
 //! character stand together after every call: the cell with its text, and directly after it a blank continuation.
 #![tactic(auto)]
 
+mod basic;
 mod join;
 mod row;
 

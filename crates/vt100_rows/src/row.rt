@@ -1,9 +1,12 @@
 //! One row of a terminal.
-ghost use Rattle.std.specs.Prelude.{◌≡◌, ℕ, ◌+◌, ◌-◌, ◌<◌, ◌≤◌, ◌==◌, ◌++◌, List, length, Some, true, false, not, ◌&&◌, IfOk, IsOk, OnOk, OnErr, slice_get, string_bytes, encode_utf8_all, replicate, All};
+ghost use Rattle.std.specs.Prelude.{◌≡◌, ℕ, ◌+◌, ◌-◌, ◌<◌, ◌≤◌, ◌==◌, ◌++◌, List, length, Some, true, false, not, ◌&&◌};
+ghost use Rattle.std.specs.Prelude.{IfOk, IsOk, OnOk, OnErr, slice_get, string_bytes, encode_utf8_all, replicate, All};
 ghost use Rattle.std.specs.Option.{option_copied};
 ghost use Rattle.vt100_cells.specs.Cell.{cell_of, has_text, drawn_columns, IsPrintable};
 ghost use Rattle.vt100_cells.specs.Line.{span_of};
-ghost use Rattle.vt100_rows.specs.Row.{blank_row, cleared_row, with_wrap, placed, wiped_row, pair_cleared, join_row, join_answer, inserted, removed, truncated, grown, resized_row, trimmed, run_row, placed_each};
+ghost use Rattle.vt100_rows.specs.Row.{blank_row, cleared_row, with_wrap, placed, wiped_row, pair_cleared, join_row};
+ghost use Rattle.vt100_rows.specs.Row.{join_answer, inserted, removed, truncated, grown, resized_row, trimmed, run_row};
+ghost use Rattle.vt100_rows.specs.Row.{placed_each};
 ghost use Rattle.vt100_rows.specs.Text.{written_text, IsBegun};
 
 use crate::join::Join;
@@ -323,8 +326,10 @@ impl Row {
         width: u16,
         wrapping: bool,
     ) -> Result<(), GridError>
-        ensures text { OnOk result (string_bytes contents.new ≡ string_bytes contents.old ++ encode_utf8_all (written_text self.now start width wrapping)) }
-        ensures begun { OnErr result (IsBegun (string_bytes contents.old) (encode_utf8_all (written_text self.now start width wrapping)) (string_bytes contents.new)) }
+        ensures text { OnOk result (string_bytes contents.new ≡ string_bytes contents.old
+            ++ encode_utf8_all (written_text self.now start width wrapping)) }
+        ensures begun { OnErr result (IsBegun (string_bytes contents.old)
+            (encode_utf8_all (written_text self.now start width wrapping)) (string_bytes contents.new)) }
     {
         let start = usize::from(start);
         let end = (start + usize::from(width))

@@ -1,5 +1,6 @@
 -- Lists of rows, by positions.
-use Rattle.std.specs.Prelude.{ℕ, ◌+◌, ◌-◌, ◌<◌, ◌≡◌, ◌==◌, false, ◌&&◌, ◌||◌, nat_lt, nat_le, List, length, map, slice_index_or, if◌then◌else◌}
+use Rattle.std.specs.Prelude.{ℕ, ◌+◌, ◌-◌, ◌<◌, ◌≡◌, ◌==◌, false, ◌&&◌, ◌||◌, nat_lt, nat_le, List, length, map}
+use Rattle.std.specs.Prelude.{slice_index_or, if◌then◌else◌}
 use Rattle.std.specs.List.{range_with_len}
 use Rattle.vt100_forms.specs.declared.attrs.Attrs.{Attrs}
 use Rattle.vt100_rows.specs.Row.{RowView, IsRow, blank_row, unwrapped, cleared_row, wiped_row}
@@ -17,7 +18,8 @@ pub record IsRowOf (width : ℕ) (v : RowView) : Type 0 where
   pub row : IsRow v
   pub wide : length v.cells ≡ width
 
--- what the rows of a screen are: none yet, or one for each line, all of one width, the last of which never goes on in another
+-- what the rows of a screen are: none yet, or one for each line, all of one width, the last of which never goes on in
+-- another
 pub record IsSheet (height width : ℕ) (rows : List RowView) : Type 0 where
   pub count : 0 < length rows → length rows ≡ height
   pub each : (r : ℕ) → r < length rows → IsRowOf width (row_at rows r)
@@ -37,7 +39,8 @@ turned_up rows first end n r =
     else if nat_lt (r + n) end then row_at rows (r + n)
     else row_at rows (r + n - (end - first))
 
--- from row `first` up to row `end` n blank rows come in at the top, and the others stand n further down; no other row changes
+-- from row `first` up to row `end` n blank rows come in at the top, and the others stand n further down; no other row
+-- changes
 abbrev pub moved_down : List RowView → ℕ → ℕ → ℕ → ℕ → ℕ → RowView
 moved_down rows first end n width r =
     if nat_lt r first || nat_le end r then row_at rows r

@@ -1,5 +1,6 @@
 //! The rows that are kept, the oldest first.
-ghost use Rattle.std.specs.Prelude.{◌≡◌, ℕ, ◌+◌, ◌-◌, ◌<◌, ◌≤◌, ◌++◌, length, take, drop, map, slice_range, vec_len, vec_capacity, IsOk, OnOk, IfOk};
+ghost use Rattle.std.specs.Prelude.{◌≡◌, ℕ, ◌+◌, ◌-◌, ◌<◌, ◌≤◌, ◌++◌, length, take, drop, map, slice_range, vec_len};
+ghost use Rattle.std.specs.Prelude.{vec_capacity, IsOk, OnOk, IfOk};
 ghost use Rattle.vt100_cells.specs.Cell.{default_cell};
 ghost use Rattle.vt100_rows.specs.Row.{IsRow, blank_row, grown, resized_row, trimmed};
 ghost use Rattle.vt100_sheet.specs.Sheet.{row_at, rows_by_position, IsSheet, changed_between};
@@ -52,7 +53,8 @@ pub fn keep_rows(
     requires sheet { IsSheet (length rows.old) width rows.old }
     requires each_kept { (j : ℕ) → j < length kept.old.items → IsRow (row_at kept.old.items j) }
     ensures kept { OnOk result (kept.new.items ≡ kept.old.items ++ map trimmed (slice_range rows.old first end)) }
-    ensures rows { OnOk result (rows.new ≡ rows_by_position (length rows.old) (changed_between (λ v. blank_row width) rows.old first end)) }
+    ensures rows { OnOk result (rows.new ≡ rows_by_position (length rows.old)
+        (changed_between (λ v. blank_row width) rows.old first end)) }
 
     // Also where memory ran out, which it does only where a row is kept.
     ensures sheet { IsSheet (length rows.old) width rows.new }
@@ -94,7 +96,8 @@ pub fn widen(
     requires in_part { first ≤ end }
     requires in_rows { end ≤ length rows.old.items }
     requires each { (j : ℕ) → j < length rows.old.items → IsRow (row_at rows.old.items j) }
-    ensures rows { OnOk result (rows.new.items ≡ rows_by_position (length rows.old.items) (changed_between (λ v. grown v width default_cell) rows.old.items first end)) }
+    ensures rows { OnOk result (rows.new.items ≡ rows_by_position (length rows.old.items)
+        (changed_between (λ v. grown v width default_cell) rows.old.items first end)) }
 
     // Also where memory ran out, which it does only where one of them is narrower.
     ensures each { (j : ℕ) → j < length rows.new.items → IsRow (row_at rows.new.items j) }
@@ -122,7 +125,8 @@ pub fn clone_kept(alloc: Global, rows: &VecDeque<Row>) -> Result<VecDeque<Row>, 
 pub fn resize_newest(rows: &mut VecDeque<Row>, n: usize, width: u16) -> Result<(), GridError>
     requires in_rows { n ≤ length rows.old.items }
     requires each { (j : ℕ) → j < length rows.old.items → IsRow (row_at rows.old.items j) }
-    ensures rows { OnOk result (rows.new.items ≡ take (length rows.old.items - n) rows.old.items ++ map (λ v. resized_row v width default_cell) (drop (length rows.old.items - n) rows.old.items)) }
+    ensures rows { OnOk result (rows.new.items ≡ take (length rows.old.items - n) rows.old.items
+        ++ map (λ v. resized_row v width default_cell) (drop (length rows.old.items - n) rows.old.items)) }
 
     // Also where memory ran out.
     ensures each { (j : ℕ) → j < length rows.new.items → IsRow (row_at rows.new.items j) }

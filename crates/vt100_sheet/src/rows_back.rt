@@ -1,5 +1,6 @@
 //! Rows that come back at the top of a list of rows.
-ghost use Rattle.std.specs.Prelude.{◌≡◌, ℕ, ◌+◌, ◌-◌, ◌^◌, ◌<◌, ◌≤◌, ◌++◌, List, length, take, drop, map, replicate, vec_len, vec_capacity, OnOk, OnErr};
+ghost use Rattle.std.specs.Prelude.{◌≡◌, ℕ, ◌+◌, ◌-◌, ◌^◌, ◌<◌, ◌≤◌, ◌++◌, List, length, take, drop, map, replicate};
+ghost use Rattle.std.specs.Prelude.{vec_len, vec_capacity, OnOk, OnErr};
 ghost use Rattle.vt100_cells.specs.Cell.{default_cell};
 ghost use Rattle.vt100_rows.specs.Row.{RowView, IsRow, blank_row, resized_row};
 ghost use Rattle.vt100_sheet.specs.Sheet.{row_at};
@@ -9,8 +10,8 @@ use std::collections::VecDeque;
 use vt100_forms::GridError;
 use vt100_rows::Row;
 
-/// Puts `down` rows above the others and `below` blank ones under them. The newest kept rows come back, each with `width`
-/// columns, and blank ones above them where too few were kept.
+/// Puts `down` rows above the others and `below` blank ones under them. The newest kept rows come back, each with
+/// `width` columns, and blank ones above them where too few were kept.
 pub fn bring_back(
     rows: &mut Vec<Row>,
     kept: &mut VecDeque<Row>,
@@ -20,7 +21,9 @@ pub fn bring_back(
 ) -> Result<(), GridError>
     requires few { down + below < 2 ^ 16 }
     requires each { (j : ℕ) → j < length kept.old.items → IsRow (row_at kept.old.items j) }
-    ensures rows { OnOk result (rows.new.items ≡ (replicate (down - length kept.old.items) (blank_row width) ++ map (λ v. resized_row v width default_cell) (drop (length kept.old.items - down) kept.old.items)) ++ rows.old.items ++ replicate below (blank_row width)) }
+    ensures rows { OnOk result (rows.new.items ≡ (replicate (down - length kept.old.items) (blank_row width)
+        ++ map (λ v. resized_row v width default_cell) (drop (length kept.old.items - down) kept.old.items))
+        ++ rows.old.items ++ replicate below (blank_row width)) }
     ensures kept { OnOk result (kept.new.items ≡ take (length kept.old.items - down) kept.old.items) }
 
     // Where memory ran out.
@@ -37,7 +40,8 @@ pub fn bring_back(
     Ok(())
 }
 
-/// Puts `n` blank rows at the end, where there is room for them. Where there isn't memory for their cells nothing changes.
+/// Puts `n` blank rows at the end, where there is room for them. Where there isn't memory for their cells nothing
+/// changes.
 fn push_blank(rows: &mut Vec<Row>, n: usize, width: u16) -> Result<(), GridError>
     requires room { vec_len rows.old + n ≤ vec_capacity rows.old }
     ensures rows { OnOk result (rows.new.items ≡ rows.old.items ++ replicate n (blank_row width)) }

@@ -1,7 +1,9 @@
 //! Edits of a list of rows.
-ghost use Rattle.std.specs.Prelude.{◌≡◌, ℕ, ◌+◌, ◌-◌, ◌<◌, ◌≤◌, ◌==◌, List, length, true, false, not, ◌&&◌, IfOk, replicate};
+ghost use Rattle.std.specs.Prelude.{◌≡◌, ℕ, ◌+◌, ◌-◌, ◌<◌, ◌≤◌, ◌==◌, List, length, true, false, not, ◌&&◌, IfOk};
+ghost use Rattle.std.specs.Prelude.{replicate};
 ghost use Rattle.vt100_rows.specs.Row.{RowView, blank_row, cleared_row, wiped_row};
-ghost use Rattle.vt100_sheet.specs.Sheet.{row_at, rows_by_position, turned_up, moved_up, moved_down, opened_line, IsRowOf, changed_between, erased_forward_at, erased_backward_at};
+ghost use Rattle.vt100_sheet.specs.Sheet.{row_at, rows_by_position, turned_up, moved_up, moved_down, opened_line};
+ghost use Rattle.vt100_sheet.specs.Sheet.{IsRowOf, changed_between, erased_forward_at, erased_backward_at};
 
 use crate::size::Size;
 use std::alloc::Global;
@@ -33,7 +35,8 @@ pub fn blank_rows(alloc: Global, size: Size) -> Result<Vec<Row>, GridError>
 pub fn reset_between(rows: &mut [Row], first: usize, end: usize)
     requires in_part { first ≤ end }
     requires in_rows { end ≤ length rows.old }
-    ensures { rows.new ≡ rows_by_position (length rows.old) (changed_between (λ v. blank_row (length v.cells)) rows.old first end) }
+    ensures { rows.new ≡ rows_by_position (length rows.old)
+        (changed_between (λ v. blank_row (length v.cells)) rows.old first end) }
 {
     for r in first..end {
         rows[r].reset();
@@ -52,7 +55,8 @@ pub fn reset_all(rows: &mut [Row], width: u16)
 pub fn clear_between(rows: &mut [Row], first: usize, end: usize, attrs: Attrs)
     requires in_part { first ≤ end }
     requires in_rows { end ≤ length rows.old }
-    ensures { rows.new ≡ rows_by_position (length rows.old) (changed_between (λ v. cleared_row v attrs) rows.old first end) }
+    ensures { rows.new ≡ rows_by_position (length rows.old)
+        (changed_between (λ v. cleared_row v attrs) rows.old first end) }
 {
     for r in first..end {
         rows[r].clear(attrs);

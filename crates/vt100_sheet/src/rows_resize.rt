@@ -10,7 +10,8 @@ use vt100_rows::{Cell, Row};
 /// Keeps the first `height` rows alone; the last of them isn't wrapped any more.
 pub fn keep_first(rows: &mut Vec<Row>, height: u16)
     requires { 0 < height }
-    ensures { rows.new.items ≡ rows_by_position (min height (length rows.old.items)) (first_rows rows.old.items height) }
+    ensures { rows.new.items ≡ rows_by_position (min height (length rows.old.items))
+        (first_rows rows.old.items height) }
 {
     let height = usize::from(height);
     rows.truncate(height);
@@ -22,7 +23,8 @@ pub fn keep_first(rows: &mut Vec<Row>, height: u16)
 /// Gives every row `to` columns, where they have `from`. If there isn't memory for that each has `from` columns again.
 pub fn resize_rows(rows: &mut [Row], from: u16, to: u16) -> Result<(), GridError>
     requires sheet { IsSheet (length rows.old) from rows.old }
-    ensures rows { OnOk result (rows.new ≡ rows_by_position (length rows.old) (λ r. resized_row (row_at rows.old r) to default_cell)) }
+    ensures rows { OnOk result (rows.new ≡ rows_by_position (length rows.old)
+        (λ r. resized_row (row_at rows.old r) to default_cell)) }
     ensures sheet { OnErr result (IsSheet (length rows.old) from rows.new) }
 {
     if to < from {
@@ -38,7 +40,8 @@ pub fn resize_rows(rows: &mut [Row], from: u16, to: u16) -> Result<(), GridError
 fn widen_rows(rows: &mut [Row], from: u16, to: u16) -> Result<(), GridError>
     requires sheet { IsSheet (length rows.old) from rows.old }
     requires wider { from ≤ to }
-    ensures rows { OnOk result (rows.new ≡ rows_by_position (length rows.old) (λ r. grown (row_at rows.old r) to default_cell)) }
+    ensures rows { OnOk result (rows.new ≡ rows_by_position (length rows.old)
+        (λ r. grown (row_at rows.old r) to default_cell)) }
     ensures sheet { OnErr result (IsSheet (length rows.old) from rows.new) }
 {
     for r in 0..rows.len() {

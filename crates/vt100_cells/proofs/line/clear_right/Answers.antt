@@ -11,7 +11,8 @@ clear_at-requires c =
 pub returns-then-is_continuation_at : goal.returns-then-is_continuation_at
 returns-then-is_continuation_at c =
     let half : (cell_at c.args.cells.now c.args.e).continuation ≡ true = cc in
-    c.clear_at.ensures ∙ clears-right c.args.cells.now c.args.e (continuation_within c.args.cells.now c.args.e half) half
+    c.clear_at.ensures ∙ clears-right c.args.cells.now c.args.e (continuation_within c.args.cells.now c.args.e half)
+    half
 
 pub returns-else-is_continuation_at : goal.returns-else-is_continuation_at
 returns-else-is_continuation_at c =

@@ -14,12 +14,14 @@ returns c =
     let ys = c.clear_left.new.cells in
     let e = c.args.start + length c.args.text.now in
     let a = c.args.attrs in
-    let whole = writes-run c.args.cells.now ys c.if-is_continuation_at.cells c.write_run.new.cells c.args.start e _ c.args.text.now a c.of_char-space.result.attrs c.requires.some (omega arith) c.requires.in_row (omega arith)
+    let whole = writes-run c.args.cells.now ys c.if-is_continuation_at.cells c.write_run.new.cells c.args.start e _
+    c.args.text.now a c.of_char-space.result.attrs c.requires.some (omega arith) c.requires.in_row (omega arith)
     (ap (λ (x : CellView). x.attrs) c.of_char-space.ensures) c.clear_left.ensures in
     elim c.if-is_continuation_at.branch [
       | then-is_continuation_at w ↦
           let half : (cell_at ys e).continuation ≡ true = cc in
-          whole (w.cells-is ∙ spaces-right ys e c.of_char-space.result a c.of_char-space.ensures half) c.write_run.ensures
+          whole (w.cells-is ∙ spaces-right ys e c.of_char-space.result a c.of_char-space.ensures half)
+          c.write_run.ensures
       | else-is_continuation_at w ↦
           let none : (cell_at ys e).continuation ≡ false = cc in
           whole (w.cells-is ∙ spaces-no_right ys e a none) c.write_run.ensures

@@ -7,5 +7,6 @@ use Rattle.vt100_cells.proofs.line.shift_right.Goals as goal
 pub returns : goal.returns
 returns c =
     let blank : c.new.result ≡ default_cell = cc in
-    shifts-right c.args.cells.now _ _ _ c.args.i c.args.count _ c.new.result c.requires (omega arith) (take_rest c.args.cells.now c.args.i) c.rotate_right.ensures.after
+    shifts-right c.args.cells.now _ _ _ c.args.i c.args.count _ c.new.result c.requires (omega arith)
+    (take_rest c.args.cells.now c.args.i) c.rotate_right.ensures.after
     (c.fill.ensures.after (λ y e. search rules)) blank

@@ -11,11 +11,13 @@ loop-n-preserved c =
     let e : not (is_default (cell_at xs (c.loop-n.n - 1))) ≡ false = cc in
     record {
       within = omega arith;
-      same = c.loop-n.invariant.same ∙ trimmed_len-step xs (c.loop-n.n - 1) c.loop-n.n (omega arith) c.loop-n.invariant.within (not-false (is_default (cell_at xs (c.loop-n.n - 1))) e);
+      same = c.loop-n.invariant.same ∙ trimmed_len-step xs (c.loop-n.n - 1) c.loop-n.n (omega arith)
+          c.loop-n.invariant.within (not-false (is_default (cell_at xs (c.loop-n.n - 1))) e);
     }
 
 pub returns-then-not-is_default-clause-value : goal.returns-then-not-is_default-clause-value
 returns-then-not-is_default-clause-value c =
     let xs = c.args.cells.now in
     let e : not (is_default (cell_at xs (c.loop-n.n - 1))) ≡ true = cc in
-    sym (c.loop-n.invariant.same ∙ trimmed_len-stop xs (c.loop-n.n - 1) c.loop-n.n (omega arith) c.loop-n.invariant.within (not-true (is_default (cell_at xs (c.loop-n.n - 1))) e))
+    sym (c.loop-n.invariant.same ∙ trimmed_len-stop xs (c.loop-n.n - 1) c.loop-n.n (omega arith)
+    c.loop-n.invariant.within (not-true (is_default (cell_at xs (c.loop-n.n - 1))) e))

@@ -12,4 +12,5 @@ loop-row-preserved g c =
     let e : take (i + 1) rows ≡ take i rows ++ c.row-item.result ∷ [] =
     take_more rows i c.row-item.result c.loop-row-test.true ∙ ap (λ x. take i rows ++ x ∷ []) (sym c.row-item.is) in
     subst (λ (xs : List RowView). TakesAll g.S.RowSink.takes c.args.sink.now xs c.row.new.self) (sym e)
-    (TakesAll-push g.S.RowSink.takes c.args.sink.now c.loop-row.sink c.row.new.self (take i rows) c.row-item.result c.loop-row.invariant c.row.ensures)
+    (TakesAll-push g.S.RowSink.takes c.args.sink.now c.loop-row.sink c.row.new.self (take i rows) c.row-item.result
+    c.loop-row.invariant c.row.ensures)

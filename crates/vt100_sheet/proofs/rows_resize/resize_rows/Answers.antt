@@ -5,8 +5,10 @@ use Rattle.vt100_sheet.proofs.WidthLemmas.{narrows, widens}
 use Rattle.vt100_sheet.proofs.rows_resize.resize_rows.Goals as goal
 
 pub returns-then-to-from-clause-rows : goal.returns-then-to-from-clause-rows
-returns-then-to-from-clause-rows c = c.narrow_rows.ensures ∙ narrows c.args.rows.now c.args.from c.args.to c.requires.sheet (omega arith)
+returns-then-to-from-clause-rows c = c.narrow_rows.ensures
+    ∙ narrows c.args.rows.now c.args.from c.args.to c.requires.sheet (omega arith)
 
 pub returns-else-to-from-clause-rows : goal.returns-else-to-from-clause-rows
 returns-else-to-from-clause-rows c =
-    subst (λ (rows : List RowView). OnOk c.widen_rows.result (c.widen_rows.new.rows ≡ rows)) (widens c.args.rows.now c.args.from c.args.to c.requires.sheet (omega arith)) c.widen_rows.ensures.rows
+    subst (λ (rows : List RowView). OnOk c.widen_rows.result (c.widen_rows.new.rows ≡ rows))
+    (widens c.args.rows.now c.args.from c.args.to c.requires.sheet (omega arith)) c.widen_rows.ensures.rows

@@ -16,13 +16,17 @@ invariant_of-result-2 c =
     elim c.if-is_widened_by.branch [
       | then-is_widened_by w ↦
           let now : is_widened_by x.text c.args.c ≡ true = sym widened ∙ w.if-is_widened_by.true in
-          IsCell-made x c.args.c c.join.new.self (is_wide_span c.if-is_widened_by.span) (is_continuation_span c.if-is_widened_by.span) c.self.invariant c.ranges.c.0 c.requires.zero_width whole room
+          IsCell-made x c.args.c c.join.new.self (is_wide_span c.if-is_widened_by.span)
+          (is_continuation_span c.if-is_widened_by.span) c.self.invariant c.ranges.c.0 c.requires.zero_width whole
+          room
           c.join.ensures
           (ap is_wide_span w.span-is ∙ sym (ap (λ b. x.wide || b) now ∙ or-true x.wide))
           (ap is_continuation_span w.span-is ∙ sym whole)
       | else-is_widened_by w ↦
           let not_now : is_widened_by x.text c.args.c ≡ false = sym widened ∙ w.if-is_widened_by.false in
-          IsCell-made x c.args.c c.join.new.self (is_wide_span c.if-is_widened_by.span) (is_continuation_span c.if-is_widened_by.span) c.self.invariant c.ranges.c.0 c.requires.zero_width whole room
+          IsCell-made x c.args.c c.join.new.self (is_wide_span c.if-is_widened_by.span)
+          (is_continuation_span c.if-is_widened_by.span) c.self.invariant c.ranges.c.0 c.requires.zero_width whole
+          room
           c.join.ensures
           (ap is_wide_span w.span-is ∙ sym (ap (λ b. x.wide || b) not_now ∙ or-false x.wide))
           (ap is_continuation_span w.span-is)

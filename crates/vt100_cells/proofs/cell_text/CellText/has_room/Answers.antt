@@ -3,4 +3,5 @@ use Rattle.vt100_cells.proofs.CellTextLemmas.{len-text_of}
 use Rattle.vt100_cells.proofs.cell_text.CellText.has_room.Goals as goal
 
 pub returns : goal.returns
-returns c = ap (λ n. nat_lt n 18) (c.from.ensures ∙ len-text_of c.self.inside c.args.self.now c.self.invariant c.self.view_is)
+returns c = ap (λ n. nat_lt n 18) (c.from.ensures
+    ∙ len-text_of c.self.inside c.args.self.now c.self.invariant c.self.view_is)

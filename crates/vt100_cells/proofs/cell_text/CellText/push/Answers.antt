@@ -13,12 +13,14 @@ slice_bounds-copy_up_to_four-end c =
 
 pub invariant_of-self : goal.invariant_of-self
 invariant_of-self c =
-    IsText-push c.self.inside c.args.self.now _ _ c.copy_up_to_four.new.to c.args.c c.self.invariant c.self.view_is c.requires
+    IsText-push c.self.inside c.args.self.now _ _ c.copy_up_to_four.new.to c.args.c c.self.invariant c.self.view_is
+    c.requires
     (c.copy_up_to_four.ensures ∙ c.as_bytes.ensures.value ∙ c.encode_utf8-encoded.ensures.value)
     (ap length c.encode_utf8-encoded.ensures.value) (omega arith) (IsUtf8-encode c.args.c c.ranges.c.0)
 
 pub returns : goal.returns
 returns c =
-    text_of-push c.self.inside c.args.self.now _ _ c.copy_up_to_four.new.to c.args.c c.self.invariant c.self.view_is c.requires
+    text_of-push c.self.inside c.args.self.now _ _ c.copy_up_to_four.new.to c.args.c c.self.invariant c.self.view_is
+    c.requires
     (c.copy_up_to_four.ensures ∙ c.as_bytes.ensures.value ∙ c.encode_utf8-encoded.ensures.value)
     (ap length c.encode_utf8-encoded.ensures.value) (omega arith) c.ranges.c.0

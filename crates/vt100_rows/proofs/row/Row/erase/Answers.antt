@@ -7,4 +7,5 @@ use Rattle.vt100_rows.proofs.row.Row.erase.Goals as goal
 pub invariant_of-self : goal.invariant_of-self
 invariant_of-self c =
     IsRow-at _ (wiped_row c.args.self.now c.args.i (c.args.i + 1) c.args.attrs) (grind (arith, common_steps))
-    (IsRow-wiped c.args.self.now c.args.i (c.args.i + 1) c.args.attrs (rw (← c.self.view_is) c.self.invariant) (omega (arith, c.requires)))
+    (IsRow-wiped c.args.self.now c.args.i (c.args.i + 1) c.args.attrs (rw (← c.self.view_is) c.self.invariant)
+    (omega (arith, c.requires)))

@@ -9,4 +9,5 @@ pub returns : goal.returns
 returns c =
     looked_up c.deref.result.now c.from.result c.get.result c.get.ensures.lookup.0 c.get.ensures.lookup.1
     ∙ ap (slice_get c.deref.result.now) c.from.ensures
-    ∙ ap (λ (xs : List CellView). slice_get xs c.args.col) (c.deref.ensures.value ∙ ap (λ (v : RowView). v.cells) c.self.view_is)
+    ∙ ap (λ (xs : List CellView). slice_get xs c.args.col) (c.deref.ensures.value
+    ∙ ap (λ (v : RowView). v.cells) c.self.view_is)

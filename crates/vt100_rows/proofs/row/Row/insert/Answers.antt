@@ -8,11 +8,15 @@ use Rattle.vt100_rows.proofs.row.Row.insert.Goals as goal
 pub returns : goal.returns
 returns c =
     let xs = c.self.inside.cells.items in
-    let whole = refilled c.self.inside.cells.len c.insert.new.cells xs c.self.inside.cells.ok.0 (c.insert.auto.cells ∙ ap length c.deref_mut.ensures.value) in
-    let cells = whole ∙ c.insert.ensures ∙ ap (λ (l : List CellView). inserted_cells l c.from.result c.from-2.result) c.deref_mut.ensures.value
+    let whole = refilled c.self.inside.cells.len c.insert.new.cells xs c.self.inside.cells.ok.0 (c.insert.auto.cells
+    ∙ ap length c.deref_mut.ensures.value) in
+    let cells = whole ∙ c.insert.ensures ∙ ap (λ (l : List CellView). inserted_cells l c.from.result c.from-2.result)
+    c.deref_mut.ensures.value
     ∙ ap (λ j. inserted_cells xs j c.from-2.result) c.from.ensures ∙ ap (inserted_cells xs c.args.i) c.from-2.ensures in
-    (λ i. record { cells = cells i; wrapped = false }) ∙ ap (λ (v : RowView). inserted v c.args.i c.args.count) c.self.view_is
+    (λ i. record { cells = cells i; wrapped = false })
+    ∙ ap (λ (v : RowView). inserted v c.args.i c.args.count) c.self.view_is
 
 pub invariant_of-self : goal.invariant_of-self
 invariant_of-self c =
-    IsRow-at _ (inserted c.args.self.now c.args.i c.args.count) (returns c) (IsRow-inserted c.args.self.now c.args.i c.args.count (rw (← c.self.view_is) c.self.invariant))
+    IsRow-at _ (inserted c.args.self.now c.args.i c.args.count) (returns c)
+    (IsRow-inserted c.args.self.now c.args.i c.args.count (rw (← c.self.view_is) c.self.invariant))

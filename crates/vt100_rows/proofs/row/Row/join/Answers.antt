@@ -6,21 +6,28 @@ use Rattle.vt100_rows.proofs.row.Row.join.Goals as goal
 
 pub returns-then-not-is_widened-clause-row : goal.returns-then-not-is_widened-clause-row
 returns-then-not-is_widened-clause-row c =
-    let within : c.args.col ≤ length c.self.inside.cells.items = omega (arith, c.requires.in_row, ap (λ (v : RowView). length v.cells) c.self.view_is) in
-    joins-in_place (record { cells = c.self.inside.cells.items; wrapped = c.self.inside.wrapped }) c.deref.result.now c.deref-3.result.now c.args.col c.from.result c.base_col-base.result c.args.c
-    c.joined-joined.result c.at-2.result.now c.args.attrs c.deref.ensures.value c.deref-3.ensures.value c.from.ensures c.base_col-base.ensures c.at-2.ensures c.joined-joined.ensures
+    let within : c.args.col ≤ length c.self.inside.cells.items =
+    omega (arith, c.requires.in_row, ap (λ (v : RowView). length v.cells) c.self.view_is) in
+    joins-in_place (record { cells = c.self.inside.cells.items; wrapped = c.self.inside.wrapped }) c.deref.result.now
+    c.deref-3.result.now c.args.col c.from.result c.base_col-base.result c.args.c
+    c.joined-joined.result c.at-2.result.now c.args.attrs c.deref.ensures.value c.deref-3.ensures.value c.from.ensures
+    c.base_col-base.ensures c.at-2.ensures c.joined-joined.ensures
     (sym c.is_widened.ensures ∙ c.if-not-is_widened.true) c.requires.after_some within
     ∙ ap (λ (v : RowView). join_row v c.args.col c.args.c c.args.attrs) c.self.view_is
 
 pub returns-then-not-has_room-clause-row : goal.returns-then-not-has_room-clause-row
 returns-then-not-has_room-clause-row c =
-    let within : c.args.col ≤ length c.self.inside.cells.items = omega (arith, c.requires.in_row, ap (λ (v : RowView). length v.cells) c.self.view_is) in
-    sym c.self.view_is ∙ joins-full (record { cells = c.self.inside.cells.items; wrapped = c.self.inside.wrapped }) c.deref.result.now c.deref-2.result.now c.args.col c.from.result c.base_col-base.result c.args.c
-    c.at.result.now c.args.attrs c.deref.ensures.value c.deref-2.ensures.value c.from.ensures c.base_col-base.ensures c.at.ensures
+    let within : c.args.col ≤ length c.self.inside.cells.items =
+    omega (arith, c.requires.in_row, ap (λ (v : RowView). length v.cells) c.self.view_is) in
+    sym c.self.view_is ∙ joins-full (record { cells = c.self.inside.cells.items; wrapped = c.self.inside.wrapped })
+    c.deref.result.now c.deref-2.result.now c.args.col c.from.result c.base_col-base.result c.args.c
+    c.at.result.now c.args.attrs c.deref.ensures.value c.deref-2.ensures.value c.from.ensures c.base_col-base.ensures
+    c.at.ensures
     (sym c.has_room.ensures ∙ c.if-not-has_room.true) c.requires.after_some within
     ∙ ap (λ (v : RowView). join_row v c.args.col c.args.c c.args.attrs) c.self.view_is
 
 pub invariant_of-self : goal.invariant_of-self
 invariant_of-self c =
     IsRow-at _ (join_row c.args.self.now c.args.col c.args.c c.args.attrs) (returns-then-not-is_widened-clause-row c)
-    (IsRow-join c.args.self.now c.args.col c.args.c c.args.attrs (rw (← c.self.view_is) c.self.invariant) c.ranges.c.0 c.requires.zero_width c.requires.after_some c.requires.in_row)
+    (IsRow-join c.args.self.now c.args.col c.args.c c.args.attrs (rw (← c.self.view_is) c.self.invariant) c.ranges.c.0
+    c.requires.zero_width c.requires.after_some c.requires.in_row)

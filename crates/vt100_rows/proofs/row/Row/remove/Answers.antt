@@ -7,4 +7,5 @@ use Rattle.vt100_rows.proofs.row.Row.remove.Goals as goal
 pub invariant_of-self : goal.invariant_of-self
 invariant_of-self c =
     IsRow-at _ (removed c.args.self.now c.args.range.start c.args.range.end) (grind (arith, common_steps))
-    (IsRow-removed c.args.self.now c.args.range.start c.args.range.end (rw (← c.self.view_is) c.self.invariant) c.requires)
+    (IsRow-removed c.args.self.now c.args.range.start c.args.range.end (rw (← c.self.view_is) c.self.invariant)
+    c.requires)

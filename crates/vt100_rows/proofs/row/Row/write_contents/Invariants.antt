@@ -5,4 +5,5 @@ use Rattle.vt100_rows.proofs.TextLemmas.{IsWritten}
 use Rattle.vt100_rows.proofs.row.Row.write_contents.Given as goal
 
 abbrev pub invariant-loop-col : goal.invariant-loop-col
-invariant-loop-col l = IsWritten (cell_at l.self.cells) l.start (l.col - l.start) (string_bytes l.initial.contents) (string_bytes l.contents) l.blanks l.shown
+invariant-loop-col l = IsWritten (cell_at l.self.cells) l.start (l.col - l.start) (string_bytes l.initial.contents)
+    (string_bytes l.contents) l.blanks l.shown

@@ -1,9 +1,0 @@
-use Rattle.std.proofs.Common.{◌∙◌}
-use Rattle.vt100_cells.proofs.CellTextLemmas.{IsText-replaced, text_of-replaced}
-use Rattle.vt100_cells.proofs.cell_text.CellText.replaced_by_ascii.Goals as goal
-
-pub invariant_of-result : goal.invariant_of-result
-invariant_of-result c = IsText-replaced c.self.inside c.args.c c.self.invariant (c.self.view_is ∙ c.requires.space) c.requires.ascii
-
-pub returns : goal.returns
-returns c = text_of-replaced c.self.inside c.args.c c.self.invariant (c.self.view_is ∙ c.requires.space) c.requires.ascii
