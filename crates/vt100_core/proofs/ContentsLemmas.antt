@@ -1,5 +1,7 @@
 -- The text that a grid shows: its lines one after another, and the newlines at the end of a text.
-use Rattle.std.proofs.Common.{◌≡◌, ℕ, zero, suc, ◌+◌, ◌-◌, ◌<◌, ◌≤◌, ◌==◌, Bool, true, false, cond, ◌&&◌, nat_lt, List, [], ◌∷◌, ◌++◌, length, take, drop, get_or, refl, sym, ap, ◌∙◌, arith, append_assoc, append-nil, drop-cons, length-drop, take_all, take-take, length-take-le, ⊎_elim}
+use Rattle.std.proofs.Common.{◌≡◌, ℕ, zero, suc, ◌+◌, ◌-◌, ◌<◌, ◌≤◌, ◌==◌, Bool, true, false, cond, ◌&&◌, nat_lt, List}
+use Rattle.std.proofs.Common.{[], ◌∷◌, ◌++◌, length, take, drop, get_or, refl, sym, ap, ◌∙◌, arith, append_assoc}
+use Rattle.std.proofs.Common.{append-nil, drop-cons, length-drop, take_all, take-take, length-take-le, ⊎_elim}
 use Rattle.std.specs.Prelude.{encode_utf8_all, encode_utf8}
 use Rattle.std.specs.List.{suffix_len}
 use Rattle.std.proofs.lemmas.Bool.{cases_lt}
@@ -15,37 +17,45 @@ use Rattle.vt100_sheet.proofs.SheetLemmas.{row_at-by_position, length-rows_by_po
 
 -- ---- the newlines at the end
 
-ends_in : (xs : List ℕ) → length xs ≤ length xs → suffix_len (λ c. c == 10) (take (length xs) xs) ≡ suffix_len (λ c. c == 10) xs
+ends_in : (xs : List ℕ) → length xs ≤ length xs → suffix_len (λ c. c == 10) (take (length xs) xs)
+    ≡ suffix_len (λ c. c == 10) xs
 ends_in xs h = ap (suffix_len (λ c. c == 10)) (take_all (length xs) xs h)
 
 -- one of them goes
-pub newlines_cut-one : (xs ys : List ℕ) → 0 < length xs → (get_or xs (length xs - 1) 0 == 10) ≡ true → ys ≡ take (length xs - 1) xs → newlines_cut ys ≡ newlines_cut xs
+pub newlines_cut-one : (xs ys : List ℕ) → 0 < length xs → (get_or xs (length xs - 1) 0 == 10) ≡ true
+    → ys ≡ take (length xs - 1) xs → newlines_cut ys ≡ newlines_cut xs
 newlines_cut-one xs ys some last e =
     let p = λ (c : ℕ). c == 10 in
     let n : length ys ≡ length xs - 1 = ap length e ∙ length-take-le (length xs - 1) xs (omega arith) in
     let more : suffix_len p xs ≡ 1 + suffix_len p ys =
-    sym (ends_in xs (omega arith)) ∙ suffix_len-take_yes p xs (length xs) 0 some (omega arith) last ∙ ap (λ (zs : List ℕ). 1 + suffix_len p zs) (sym e) in
+    sym (ends_in xs (omega arith)) ∙ suffix_len-take_yes p xs (length xs) 0 some (omega arith) last
+    ∙ ap (λ (zs : List ℕ). 1 + suffix_len p zs) (sym e) in
     let within = suffix_len-le-length p ys in
     let same : length ys - suffix_len p ys ≡ length xs - suffix_len p xs = omega arith in
-    ap (λ k. take k ys) same ∙ ap (take (length xs - suffix_len p xs)) e ∙ take-take (length xs - suffix_len p xs) (length xs - 1) xs (omega arith)
+    ap (λ k. take k ys) same ∙ ap (take (length xs - suffix_len p xs)) e
+    ∙ take-take (length xs - suffix_len p xs) (length xs - 1) xs (omega arith)
 
 -- there are none
-pub newlines_cut-none : (xs : List ℕ) → 0 < length xs → (get_or xs (length xs - 1) 0 == 10) ≡ false → newlines_cut xs ≡ xs
+pub newlines_cut-none : (xs : List ℕ) → 0 < length xs → (get_or xs (length xs - 1) 0 == 10) ≡ false
+    → newlines_cut xs ≡ xs
 newlines_cut-none xs some last =
     let p = λ (c : ℕ). c == 10 in
-    let no : suffix_len p xs ≡ 0 = sym (ends_in xs (omega arith)) ∙ suffix_len-take_no p xs (length xs) 0 some (omega arith) last in
+    let no : suffix_len p xs ≡ 0 = sym (ends_in xs (omega arith))
+    ∙ suffix_len-take_no p xs (length xs) 0 some (omega arith) last in
     take_all (length xs - suffix_len p xs) xs (omega arith)
 
 -- ---- the loop over the rows
 
--- n rows are written after `old`, and `left` are the others; `wrapping` says whether the last of the n goes on in the next
+-- n rows are written after `old`, and `left` are the others; `wrapping` says whether the last of the n goes on in the
+-- next
 pub record IsShown (g : GridView) (n : ℕ) (left : List RowView) (wrapping : Bool) (old now : List ℕ) : Type 0 where
   pub rows : left ≡ drop n (visible g)
   pub wraps : wrapping ≡ is_below_wrapped g n
   pub bytes : now ≡ old ++ encode_utf8_all (shown_lines g n)
   pub few : n ≤ length g.rows
 
-pub IsShown-start : (g : GridView) (left : List RowView) (old : List ℕ) → left ≡ visible g → IsShown g 0 left false old old
+pub IsShown-start : (g : GridView) (left : List RowView) (old : List ℕ) → left ≡ visible g
+    → IsShown g 0 left false old old
 IsShown-start g left old e = record { rows = e; wraps = refl; bytes = sym (append-nil old); few = omega arith }
 
 some-left : (rows left : List RowView) (n : ℕ) (v : RowView) → drop n rows ≡ v ∷ left → n < length rows
@@ -59,78 +69,109 @@ below-next g n =
     let e : suc n - 1 ≡ n = omega arith in
     ap (λ k. (visible_at g k).wrapped) (sym e) ∙ ap (λ b. b && (visible_at g (suc n - 1)).wrapped) (sym (below-some n))
 
-IsShown-at : (g : GridView) (n m : ℕ) (left : List RowView) (wrapping : Bool) (old now : List ℕ) → m ≡ n → IsShown g n left wrapping old now → IsShown g m left wrapping old now
+IsShown-at : (g : GridView) (n m : ℕ) (left : List RowView) (wrapping : Bool) (old now : List ℕ) → m ≡ n
+    → IsShown g n left wrapping old now → IsShown g m left wrapping old now
 IsShown-at g n m left wrapping old now e h = rw e h
 
 -- one row more
-pub IsShown-next : (g : GridView) (n m : ℕ) (from left : List RowView) (v : RowView) (wrapping wraps : Bool) (old was row now : List ℕ) → m ≡ n + 1 → IsShown g n from wrapping old was → from ≡ v ∷ left
-    → row ≡ was ++ encode_utf8_all (written_text v 0 g.width wrapping) → wraps ≡ v.wrapped → now ≡ row ++ encode_utf8_all (cond v.wrapped [] (10 ∷ [])) → IsShown g m left wraps old now
+pub IsShown-next : (g : GridView) (n m : ℕ) (from left : List RowView) (v : RowView) (wrapping wraps : Bool)
+    (old was row now : List ℕ) → m ≡ n + 1 → IsShown g n from wrapping old was → from ≡ v ∷ left
+    → row ≡ was ++ encode_utf8_all (written_text v 0 g.width wrapping) → wraps ≡ v.wrapped
+    → now ≡ row ++ encode_utf8_all (cond v.wrapped [] (10 ∷ [])) → IsShown g m left wraps old now
 IsShown-next g n m from left v wrapping wraps old was row now em h cut er ew en =
     let all : drop n (visible g) ≡ v ∷ left = sym h.rows ∙ cut in
     let within : n < length (visible g) = some-left (visible g) left n v all in
-    let parts : v ∷ left ≡ get_or (visible g) n (blank_row 0) ∷ drop (suc n) (visible g) = sym all ∙ drop-cons (visible g) n (blank_row 0) within in
+    let parts : v ∷ left ≡ get_or (visible g) n (blank_row 0) ∷ drop (suc n) (visible g) =
+    sym all ∙ drop-cons (visible g) n (blank_row 0) within in
     let here : v ≡ visible_at g n =
-    ap (λ (xs : List RowView). get_or xs 0 v) parts ∙ row_at-by_position (length g.rows) (visible_at g) n (omega (arith, length-rows_by_position (length g.rows) (visible_at g))) in
-    let line : encode_utf8_all (shown_line g n) ≡ encode_utf8_all (written_text v 0 g.width wrapping) ++ encode_utf8_all (cond v.wrapped [] (10 ∷ [])) =
-    ap (λ (x : RowView). encode_utf8_all (written_text x 0 g.width (is_below_wrapped g n) ++ cond x.wrapped [] (10 ∷ []))) (sym here)
+    ap (λ (xs : List RowView). get_or xs 0 v) parts
+    ∙ row_at-by_position (length g.rows) (visible_at g) n
+    (omega (arith, length-rows_by_position (length g.rows) (visible_at g))) in
+    let line : encode_utf8_all (shown_line g n) ≡ encode_utf8_all (written_text v 0 g.width wrapping)
+    ++ encode_utf8_all (cond v.wrapped [] (10 ∷ [])) =
+    ap (λ (x : RowView). encode_utf8_all (written_text x 0 g.width (is_below_wrapped g n)
+    ++ cond x.wrapped [] (10 ∷ []))) (sym here)
     ∙ ap (λ b. encode_utf8_all (written_text v 0 g.width b ++ cond v.wrapped [] (10 ∷ []))) (sym h.wraps)
     ∙ encodes-append (written_text v 0 g.width wrapping) (cond v.wrapped [] (10 ∷ [])) in
     IsShown-at g (suc n) m left wraps old now (omega arith) (record {
       rows = ap (λ (xs : List RowView). drop 1 xs) parts;
       wraps = ew ∙ ap (λ (x : RowView). x.wrapped) here ∙ below-next g n;
       bytes =
-          en ∙ ap (λ (bs : List ℕ). bs ++ encode_utf8_all (cond v.wrapped [] (10 ∷ []))) (er ∙ ap (λ (bs : List ℕ). bs ++ encode_utf8_all (written_text v 0 g.width wrapping)) h.bytes)
-          ∙ append_assoc (old ++ encode_utf8_all (shown_lines g n)) (encode_utf8_all (written_text v 0 g.width wrapping)) (encode_utf8_all (cond v.wrapped [] (10 ∷ [])))
+          en ∙ ap (λ (bs : List ℕ). bs ++ encode_utf8_all (cond v.wrapped [] (10 ∷ []))) (er
+          ∙ ap (λ (bs : List ℕ). bs ++ encode_utf8_all (written_text v 0 g.width wrapping)) h.bytes)
+          ∙ append_assoc (old ++ encode_utf8_all (shown_lines g n))
+          (encode_utf8_all (written_text v 0 g.width wrapping)) (encode_utf8_all (cond v.wrapped [] (10 ∷ [])))
           ∙ ap (λ bs. (old ++ encode_utf8_all (shown_lines g n)) ++ bs) (sym line)
           ∙ append_assoc old (encode_utf8_all (shown_lines g n)) (encode_utf8_all (shown_line g n))
           ∙ ap (λ bs. old ++ bs) (sym (encodes-append (shown_lines g n) (shown_line g n)));
       few = omega (arith, length-rows_by_position (length g.rows) (visible_at g));
     })
 
-pub no-newline : (wrapped : Bool) (bs : List ℕ) → wrapped ≡ true → bs ≡ bs ++ encode_utf8_all (cond wrapped [] (10 ∷ []))
+pub no-newline : (wrapped : Bool) (bs : List ℕ) → wrapped ≡ true
+    → bs ≡ bs ++ encode_utf8_all (cond wrapped [] (10 ∷ []))
 no-newline wrapped bs e = sym (ap (λ b. bs ++ encode_utf8_all (cond b [] (10 ∷ []))) e ∙ append-nil bs)
 
-pub one-newline : (wrapped : Bool) (bs now : List ℕ) → wrapped ≡ false → now ≡ bs ++ encode_utf8 10 → now ≡ bs ++ encode_utf8_all (cond wrapped [] (10 ∷ []))
-one-newline wrapped bs now e en = en ∙ ap (λ xs. bs ++ xs) (sym (append-nil (encode_utf8 10))) ∙ ap (λ b. bs ++ encode_utf8_all (cond b [] (10 ∷ []))) (sym e)
+pub one-newline : (wrapped : Bool) (bs now : List ℕ) → wrapped ≡ false → now ≡ bs ++ encode_utf8 10
+    → now ≡ bs ++ encode_utf8_all (cond wrapped [] (10 ∷ []))
+one-newline wrapped bs now e en = en ∙ ap (λ xs. bs ++ xs) (sym (append-nil (encode_utf8 10)))
+    ∙ ap (λ b. bs ++ encode_utf8_all (cond b [] (10 ∷ []))) (sym e)
 
 -- all rows
-pub IsShown-end : (g : GridView) (n : ℕ) (left : List RowView) (wrapping : Bool) (old now : List ℕ) → left ≡ [] → IsShown g n left wrapping old now → now ≡ old ++ encode_utf8_all (shown_lines g (length g.rows))
+pub IsShown-end : (g : GridView) (n : ℕ) (left : List RowView) (wrapping : Bool) (old now : List ℕ) → left ≡ []
+    → IsShown g n left wrapping old now → now ≡ old ++ encode_utf8_all (shown_lines g (length g.rows))
 IsShown-end g n left wrapping old now e h =
     let none = ap (λ (xs : List RowView). length xs) (sym h.rows ∙ e) in
     let most = h.few in
-    let all : n ≡ length g.rows = omega (arith, none, length-drop n (visible g), length-rows_by_position (length g.rows) (visible_at g)) in
+    let all : n ≡ length g.rows = omega (
+      arith,
+      none,
+      length-drop n (visible g),
+      length-rows_by_position (length g.rows) (visible_at g),
+    ) in
     h.bytes ∙ ap (λ k. old ++ encode_utf8_all (shown_lines g k)) all
 
 -- ---- where memory ran out
 
 lines-more : (g : GridView) (n m : ℕ) → n ≤ m → (rest : List ℕ) × (shown_lines g m ≡ shown_lines g n ++ rest)
-lines-more g n zero h = let e : n ≡ 0 = omega arith in ([], ap (shown_lines g) (sym e) ∙ sym (append-nil (shown_lines g n)))
+lines-more g n zero h = let e : n ≡ 0 = omega arith
+    in ([], ap (shown_lines g) (sym e) ∙ sym (append-nil (shown_lines g n)))
 lines-more g n (suc m) h =
     ⊎_elim
-    (λ (l : m < n). let e : n ≡ suc m = omega (arith, h, l) in ([], ap (shown_lines g) (sym e) ∙ sym (append-nil (shown_lines g n))))
+    (λ (l : m < n). let e : n ≡ suc m = omega (arith, h, l)
+    in ([], ap (shown_lines g) (sym e) ∙ sym (append-nil (shown_lines g n))))
     (λ (l : n ≤ m).
-    let r = lines-more g n m l in
-    (r.0 ++ shown_line g m, ap (λ (cs : List ℕ). cs ++ shown_line g m) r.1 ∙ append_assoc (shown_lines g n) r.0 (shown_line g m)))
+    let r = lines-more g n m l in (
+      r.0 ++ shown_line g m,
+      ap (λ (cs : List ℕ). cs ++ shown_line g m) r.1
+          ∙ append_assoc (shown_lines g n) r.0 (shown_line g m),
+    ))
     (cases_lt m n)
 
 -- n rows are written, and a part of the next
-pub IsBegun-row : (g : GridView) (n : ℕ) (from left : List RowView) (v : RowView) (wrapping : Bool) (old was now : List ℕ) → IsShown g n from wrapping old was → from ≡ v ∷ left
-    → IsBegun was (encode_utf8_all (written_text v 0 g.width wrapping)) now → IsBegun old (encode_utf8_all (shown_lines g (length g.rows))) now
+pub IsBegun-row : (g : GridView) (n : ℕ) (from left : List RowView) (v : RowView) (wrapping : Bool)
+    (old was now : List ℕ) → IsShown g n from wrapping old was → from ≡ v ∷ left
+    → IsBegun was (encode_utf8_all (written_text v 0 g.width wrapping)) now
+    → IsBegun old (encode_utf8_all (shown_lines g (length g.rows))) now
 IsBegun-row g n from left v wrapping old was now h cut begun =
     let all : drop n (visible g) ≡ v ∷ left = sym h.rows ∙ cut in
     let within : n < length (visible g) = some-left (visible g) left n v all in
     let here : v ≡ visible_at g n =
     ap (λ (xs : List RowView). get_or xs 0 v) (sym all ∙ drop-cons (visible g) n (blank_row 0) within)
-    ∙ row_at-by_position (length g.rows) (visible_at g) n (omega (arith, length-rows_by_position (length g.rows) (visible_at g))) in
+    ∙ row_at-by_position (length g.rows) (visible_at g) n
+    (omega (arith, length-rows_by_position (length g.rows) (visible_at g))) in
     let written = written_text v 0 g.width wrapping in
     let newline : List ℕ = cond v.wrapped [] (10 ∷ []) in
     let line : shown_line g n ≡ written ++ newline =
-    ap (λ (x : RowView). written_text x 0 g.width (is_below_wrapped g n) ++ cond x.wrapped [] (10 ∷ [])) (sym here) ∙ ap (λ b. written_text v 0 g.width b ++ newline) (sym h.wraps) in
-    let more = lines-more g (suc n) (length g.rows) (omega (arith, length-rows_by_position (length g.rows) (visible_at g))) in
+    ap (λ (x : RowView). written_text x 0 g.width (is_below_wrapped g n) ++ cond x.wrapped [] (10 ∷ [])) (sym here)
+    ∙ ap (λ b. written_text v 0 g.width b ++ newline) (sym h.wraps) in
+    let more = lines-more g (suc n) (length g.rows)
+    (omega (arith, length-rows_by_position (length g.rows) (visible_at g))) in
     let whole : shown_lines g (length g.rows) ≡ (shown_lines g n ++ written) ++ (newline ++ more.0) =
-    more.1 ∙ ap (λ cs. (shown_lines g n ++ cs) ++ more.0) line ∙ ap (λ (cs : List ℕ). cs ++ more.0) (sym (append_assoc (shown_lines g n) written newline))
+    more.1 ∙ ap (λ cs. (shown_lines g n ++ cs) ++ more.0) line
+    ∙ ap (λ (cs : List ℕ). cs ++ more.0) (sym (append_assoc (shown_lines g n) written newline))
     ∙ append_assoc (shown_lines g n ++ written) newline more.0 in
-    IsBegun-within old was (encode_utf8_all (shown_lines g n)) (encode_utf8_all written) (encode_utf8_all (newline ++ more.0)) (encode_utf8_all (shown_lines g (length g.rows))) now h.bytes
+    IsBegun-within old was (encode_utf8_all (shown_lines g n)) (encode_utf8_all written)
+    (encode_utf8_all (newline ++ more.0)) (encode_utf8_all (shown_lines g (length g.rows))) now h.bytes
     (ap encode_utf8_all whole ∙ encodes-append (shown_lines g n ++ written) (newline ++ more.0)
     ∙ ap (λ (bs : List ℕ). bs ++ encode_utf8_all (newline ++ more.0)) (encodes-append (shown_lines g n) written))
     begun

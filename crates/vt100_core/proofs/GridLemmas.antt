@@ -1,10 +1,12 @@
 -- What is true of a grid stays true.
-use Rattle.std.proofs.Common.{◌≡◌, ℕ, ◌+◌, ◌-◌, ◌<◌, ◌≤◌, Bool, true, false, cond, ◌&&◌, List, [], ◌∷◌, length, set, min, refl, sym, ap, ◌∙◌, arith, length-set, nat_lt, subst}
+use Rattle.std.proofs.Common.{◌≡◌, ℕ, ◌+◌, ◌-◌, ◌<◌, ◌≤◌, Bool, true, false, cond, ◌&&◌, List, [], ◌∷◌, length, set}
+use Rattle.std.proofs.Common.{min, refl, sym, ap, ◌∙◌, arith, length-set, nat_lt, subst}
 use Rattle.vt100_rows.specs.Row.{RowView}
 use Rattle.vt100_sheet.specs.Sheet.{rows_by_position, IsRowOf, IsSheet, moved_up, opened_line}
 use Rattle.vt100_core.specs.declared.scrollback.Scrollback.{Scrollback}
 use Rattle.vt100_core.specs.declared.scrollback.Scrollback.TheVariants.{Disabled, Enabled}
-use Rattle.vt100_core.specs.Grid.{KeptPart, IsKept, IsShownWide, GridView, IsGrid, IsAllocated, SameLimits, keeps_of, capacity_of, scrollback_of, new_grid, with_row, with_rows, is_in_region}
+use Rattle.vt100_core.specs.Grid.{KeptPart, IsKept, IsShownWide, GridView, IsGrid, IsAllocated, SameLimits, keeps_of}
+use Rattle.vt100_core.specs.Grid.{capacity_of, scrollback_of, new_grid, with_row, with_rows, is_in_region}
 use Rattle.vt100_core.specs.Lines.{lines_opened, lines_inserted, lines_deleted, scrolled_down}
 use Rattle.vt100_sheet.proofs.SheetLemmas.{length-rows_by_position, IsSheet-with_row}
 use Rattle.vt100_sheet.proofs.MoveLemmas.{IsSheet-moved_up, IsSheet-opened_line}
@@ -89,10 +91,17 @@ new-again g k n =
       saved_origin = n.saved_origin i;
       top = n.top i;
       bottom = n.bottom i;
-      kept = record { keeps = keeps i; rows = n.kept_rows i; capacity = capacity i; offset = n.offset i; scrolled_off = n.scrolled_off i };
+      kept = record {
+        keeps = keeps i;
+        rows = n.kept_rows i;
+        capacity = capacity i;
+        offset = n.offset i;
+        scrolled_off = n.scrolled_off i;
+      };
     }
 
-pub IsGrid-rows : (g : GridView) (rows : List RowView) → IsGrid g → length rows ≡ length g.rows → IsSheet g.height g.width rows → IsGrid (record g { rows = rows })
+pub IsGrid-rows : (g : GridView) (rows : List RowView) → IsGrid g → length rows ≡ length g.rows
+    → IsSheet g.height g.width rows → IsGrid (record g { rows = rows })
 IsGrid-rows g rows i e sheet = record {
   sheet = sheet;
   some_rows = i.some_rows;
@@ -124,8 +133,10 @@ IsGrid-rows g rows i e sheet = record {
   });
 }
 
-pub IsGrid-with_row : (g : GridView) (r : ℕ) (v : RowView) → IsGrid g → r < length g.rows → IsRowOf g.width v → ((r + 1) ≡ g.height → v.wrapped ≡ false) → IsGrid (with_row g r v)
-IsGrid-with_row g r v i h row last = IsGrid-rows g (set g.rows r v) i (length-set g.rows r v) (IsSheet-with_row g.height g.width g.rows r v i.sheet h row last)
+pub IsGrid-with_row : (g : GridView) (r : ℕ) (v : RowView) → IsGrid g → r < length g.rows → IsRowOf g.width v
+    → ((r + 1) ≡ g.height → v.wrapped ≡ false) → IsGrid (with_row g r v)
+IsGrid-with_row g r v i h row last = IsGrid-rows g (set g.rows r v) i (length-set g.rows r v)
+    (IsSheet-with_row g.height g.width g.rows r v i.sheet h row last)
 
 -- ---- lines
 
@@ -136,30 +147,37 @@ pub IsGrid-lines_opened : (g : GridView) (first n : ℕ) → IsGrid g → IsAllo
 IsGrid-lines_opened g first n i a =
     let f = opened_line g.rows first (g.bottom + 1) (min n (g.bottom + 1 - first)) g.width in
     IsGrid-rows g (rows_by_position (length g.rows) f) i (length-rows_by_position (length g.rows) f)
-    (IsSheet-opened_line g.height g.width g.rows first (g.bottom + 1) (min n (g.bottom + 1 - first)) i.sheet i.some_rows i.few_cols (region_rows g i a))
+    (IsSheet-opened_line g.height g.width g.rows first (g.bottom + 1) (min n (g.bottom + 1 - first)) i.sheet
+    i.some_rows i.few_cols (region_rows g i a))
 
 pub IsGrid-lines_inserted : (g : GridView) (n : ℕ) → IsGrid g → IsAllocated g → IsGrid (lines_inserted g n)
-IsGrid-lines_inserted g n i a = IsGrid-cond (nat_lt 0 n && is_in_region g) (lines_opened g g.row n) g (λ _. IsGrid-lines_opened g g.row n i a) (λ _. i)
+IsGrid-lines_inserted g n i a = IsGrid-cond (nat_lt 0 n
+    && is_in_region g) (lines_opened g g.row n) g (λ _. IsGrid-lines_opened g g.row n i a) (λ _. i)
 
 pub IsGrid-scrolled_down : (g : GridView) (n : ℕ) → IsGrid g → IsAllocated g → IsGrid (scrolled_down g n)
-IsGrid-scrolled_down g n i a = IsGrid-cond (nat_lt 0 n) (lines_opened g g.top n) g (λ _. IsGrid-lines_opened g g.top n i a) (λ _. i)
+IsGrid-scrolled_down g n i a = IsGrid-cond (nat_lt 0 n) (lines_opened g g.top n) g
+    (λ _. IsGrid-lines_opened g g.top n i a) (λ _. i)
 
 pub IsGrid-lines_deleted : (g : GridView) (n : ℕ) → IsGrid g → IsAllocated g → IsGrid (lines_deleted g n)
 IsGrid-lines_deleted g n i a =
     let f = moved_up g.rows g.row (g.bottom + 1) (min n (g.bottom + 1 - g.row)) g.width in
     IsGrid-cond (is_in_region g) (with_rows g f) g
     (λ _. IsGrid-rows g (rows_by_position (length g.rows) f) i (length-rows_by_position (length g.rows) f)
-    (IsSheet-moved_up g.height g.width g.rows g.row (g.bottom + 1) (min n (g.bottom + 1 - g.row)) i.sheet i.some_rows i.few_cols (region_rows g i a)))
+    (IsSheet-moved_up g.height g.width g.rows g.row (g.bottom + 1) (min n (g.bottom + 1 - g.row)) i.sheet i.some_rows
+    i.few_cols (region_rows g i a)))
     (λ _. i)
 
-pub IsGrid-moved_up : (g : GridView) (first end n : ℕ) → IsGrid g → end ≤ length g.rows → IsGrid (with_rows g (moved_up g.rows first end n g.width))
+pub IsGrid-moved_up : (g : GridView) (first end n : ℕ) → IsGrid g → end ≤ length g.rows
+    → IsGrid (with_rows g (moved_up g.rows first end n g.width))
 IsGrid-moved_up g first end n i h =
-    IsGrid-rows g (rows_by_position (length g.rows) (moved_up g.rows first end n g.width)) i (length-rows_by_position (length g.rows) (moved_up g.rows first end n g.width))
+    IsGrid-rows g (rows_by_position (length g.rows) (moved_up g.rows first end n g.width)) i
+    (length-rows_by_position (length g.rows) (moved_up g.rows first end n g.width))
     (IsSheet-moved_up g.height g.width g.rows first end n i.sheet i.some_rows i.few_cols h)
 
 -- ---- rows that have scrolled off
 
-pub IsGrid-scrolled : (g : GridView) (rows : List RowView) (k : KeptPart) → IsGrid g → IsAllocated g → length rows ≡ length g.rows → IsSheet g.height g.width rows → IsKept k → IsShownWide k g.height g.width
+pub IsGrid-scrolled : (g : GridView) (rows : List RowView) (k : KeptPart) → IsGrid g → IsAllocated g
+    → length rows ≡ length g.rows → IsSheet g.height g.width rows → IsKept k → IsShownWide k g.height g.width
     → IsGrid (record g { rows = rows; kept = k })
 IsGrid-scrolled g rows k i a e sheet kept shown = record {
   sheet = sheet;
@@ -179,7 +197,8 @@ IsGrid-scrolled g rows k i a e sheet kept shown = record {
   fresh = λ z. absurd (omega arith);
 }
 
-pub IsSheet-height : (g : GridView) (rows : List RowView) → IsGrid g → IsAllocated g → IsSheet (length g.rows) g.width rows → IsSheet g.height g.width rows
+pub IsSheet-height : (g : GridView) (rows : List RowView) → IsGrid g → IsAllocated g
+    → IsSheet (length g.rows) g.width rows → IsSheet g.height g.width rows
 IsSheet-height g rows i a s = subst (λ h. IsSheet h g.width rows) (i.sheet.count a) s
 
 pub IsSheet-count : (g : GridView) → IsGrid g → IsAllocated g → IsSheet (length g.rows) g.width g.rows

@@ -1,8 +1,10 @@
 -- Rows that come back at the top.
-use Rattle.std.proofs.Common.{◌≡◌, ℕ, ◌+◌, ◌-◌, ◌^◌, ◌<◌, ◌≤◌, ◌==◌, false, List, [], ◌++◌, length, take, drop, map, replicate, refl, ap, ◌∙◌, arith, length-take-le, length-drop, length-append, ⊎_elim}
+use Rattle.std.proofs.Common.{◌≡◌, ℕ, ◌+◌, ◌-◌, ◌^◌, ◌<◌, ◌≤◌, ◌==◌, false, List, [], ◌++◌, length, take, drop, map}
+use Rattle.std.proofs.Common.{replicate, refl, ap, ◌∙◌, arith, length-take-le, length-drop, length-append, ⊎_elim}
 use Rattle.std.proofs.lemmas.Bool.{cases_lt, cond_both, eqb-true}
 use Rattle.std.proofs.lemmas.Bool.Decides.{nat_tests}
-use Rattle.std.proofs.lemmas.List.{length-map, length-replicate, get_or-replicate, get_or-append_right, get_or-map, get_or-drop, get_or-take}
+use Rattle.std.proofs.lemmas.List.{length-map, length-replicate, get_or-replicate, get_or-append_right, get_or-map}
+use Rattle.std.proofs.lemmas.List.{get_or-drop, get_or-take}
 use Rattle.std.proofs.Math.ListN.{get_or-append}
 use Rattle.std.proofs.Math.Seq.{take-nil}
 use Rattle.vt100_cells.specs.Cell.{default_cell}
@@ -12,7 +14,7 @@ use Rattle.vt100_sheet.proofs.BackLemmas.{IsRow-resized_default}
 use Rattle.vt100_sheet.proofs.WidthLemmas.{length-resized}
 use Rattle.vt100_core.specs.Grid.{KeptPart, IsKept, GridView, IsGrid, IsAllocated}
 use Rattle.vt100_core.specs.Resize.{down_rows, rows_back, lengthened}
-use Rattle.vt100_sheet.proofs.SheetLemmas.{IsRowOf-blank}
+use Rattle.vt100_sheet.proofs.SheetLemmas.{IsRowOf-blank, IsSheet-none}
 use Rattle.vt100_core.proofs.GridLemmas.{IsNew-of, new-again, no-rows}
 use Rattle.vt100_core.proofs.KeepLemmas.{IsShownWide-none}
 
@@ -25,47 +27,64 @@ use Rattle.vt100_core.proofs.KeepLemmas.{IsShownWide-none}
 IsRowOf-come : (v : RowView) (width : ℕ) → IsRow v → width < 2 ^ 16 → IsRowOf width (resized_row v width default_cell)
 IsRowOf-come v width r h = record { row = IsRow-resized_default v width r h; wide = length-resized v width }
 
-IsRowOf-append : (width : ℕ) (rows others : List RowView) → ((r : ℕ) → r < length rows → IsRowOf width (row_at rows r)) → ((r : ℕ) → r < length others → IsRowOf width (row_at others r))
+IsRowOf-append : (width : ℕ) (rows others : List RowView) → ((r : ℕ) → r < length rows → IsRowOf width (row_at rows r))
+    → ((r : ℕ) → r < length others → IsRowOf width (row_at others r))
     → (r : ℕ) → r < length (rows ++ others) → IsRowOf width (row_at (rows ++ others) r)
 IsRowOf-append width rows others p q r h =
     let n : length (rows ++ others) ≡ length rows + length others = length-append rows others in
     ⊎_elim
     (λ (l : r < length rows). rw (get_or-append rows others (blank_row 0) r l) (p r l))
-    (λ (l : length rows ≤ r). rw (get_or-append_right rows others (length rows) r (blank_row 0) refl l) (q (r - length rows) (omega arith)))
+    (λ (l : length rows ≤ r). rw (get_or-append_right rows others (length rows) r (blank_row 0) refl l)
+    (q (r - length rows) (omega arith)))
     (cases_lt r (length rows))
 
-IsRowOf-blanks : (width n : ℕ) → width < 2 ^ 16 → (r : ℕ) → r < length (replicate n (blank_row width)) → IsRowOf width (row_at (replicate n (blank_row width)) r)
-IsRowOf-blanks width n small r h = rw (get_or-replicate n r (blank_row width) (blank_row 0) (omega (arith, length-replicate n (blank_row width)))) (IsRowOf-blank width small)
+IsRowOf-blanks : (width n : ℕ) → width < 2 ^ 16 → (r : ℕ) → r < length (replicate n (blank_row width))
+    → IsRowOf width (row_at (replicate n (blank_row width)) r)
+IsRowOf-blanks width n small r h = rw (get_or-replicate n r (blank_row width) (blank_row 0)
+    (omega (arith, length-replicate n (blank_row width)))) (IsRowOf-blank width small)
 
-IsRowOf-newest : (width first : ℕ) (kept : List RowView) → width < 2 ^ 16 → ((j : ℕ) → j < length kept → IsRow (row_at kept j))
-    → (r : ℕ) → r < length (map (λ v. resized_row v width default_cell) (drop first kept)) → IsRowOf width (row_at (map (λ v. resized_row v width default_cell) (drop first kept)) r)
+IsRowOf-newest : (width first : ℕ) (kept : List RowView) → width < 2 ^ 16
+    → ((j : ℕ) → j < length kept → IsRow (row_at kept j))
+    → (r : ℕ) → r < length (map (λ v. resized_row v width default_cell) (drop first kept))
+    → IsRowOf width (row_at (map (λ v. resized_row v width default_cell) (drop first kept)) r)
 IsRowOf-newest width first kept small each r h =
     let f : RowView → RowView = λ v. resized_row v width default_cell in
-    let n : length (map f (drop first kept)) ≡ length kept - first = length-map (drop first kept) f ∙ length-drop first kept in
-    rw (get_or-map f (drop first kept) r (blank_row 0) (blank_row 0) (omega (arith, length-drop first kept)) ∙ ap f (get_or-drop first kept r (blank_row 0)))
+    let n : length (map f (drop first kept)) ≡ length kept - first =
+    length-map (drop first kept) f ∙ length-drop first kept in
+    rw (get_or-map f (drop first kept) r (blank_row 0) (blank_row 0) (omega (arith, length-drop first kept))
+    ∙ ap f (get_or-drop first kept r (blank_row 0)))
     (IsRowOf-come (row_at kept (first + r)) width (each (first + r) (omega arith)) small)
 
 pub length-back : (g : GridView) (down : ℕ) → length (rows_back g down) ≡ down
 length-back g down = simp (length-append, length-replicate, length-map, length-drop) (omega arith)
 
-IsRowOf-back : (g : GridView) (down : ℕ) → IsGrid g → (r : ℕ) → r < length (rows_back g down) → IsRowOf g.width (row_at (rows_back g down) r)
+IsRowOf-back : (g : GridView) (down : ℕ) → IsGrid g → (r : ℕ) → r < length (rows_back g down)
+    → IsRowOf g.width (row_at (rows_back g down) r)
 IsRowOf-back g down i =
-    IsRowOf-append g.width (replicate (down - length g.kept.rows) (blank_row g.width)) (map (λ v. resized_row v g.width default_cell) (drop (length g.kept.rows - down) g.kept.rows))
-    (IsRowOf-blanks g.width (down - length g.kept.rows) i.few_cols) (IsRowOf-newest g.width (length g.kept.rows - down) g.kept.rows i.few_cols i.kept.each)
+    IsRowOf-append g.width (replicate (down - length g.kept.rows) (blank_row g.width))
+    (map (λ v. resized_row v g.width default_cell) (drop (length g.kept.rows - down) g.kept.rows))
+    (IsRowOf-blanks g.width (down - length g.kept.rows) i.few_cols)
+    (IsRowOf-newest g.width (length g.kept.rows - down) g.kept.rows i.few_cols i.kept.each)
 
 last-row : (g : GridView) (height down : ℕ) → IsGrid g → IsAllocated g → g.height + down ≤ height
-    → (row_at (rows_back g down ++ g.rows ++ replicate (height - g.height - down) (blank_row g.width)) (height - 1)).wrapped ≡ false
+    → (row_at (rows_back g down ++ g.rows ++ replicate (height - g.height - down) (blank_row g.width))
+    (height - 1)).wrapped ≡ false
 last-row g height down i a h =
-    let n : length (rows_back g down ++ g.rows) ≡ down + g.height = length-append (rows_back g down) g.rows ∙ omega (arith, length-back g down, i.sheet.count a) in
+    let n : length (rows_back g down ++ g.rows) ≡ down + g.height =
+    length-append (rows_back g down) g.rows ∙ omega (arith, length-back g down, i.sheet.count a) in
     let below = replicate (height - g.height - down) (blank_row g.width) in
     ⊎_elim
     (λ (l : down + g.height < height).
-    ap (λ (v : RowView). v.wrapped) (get_or-append_right (rows_back g down ++ g.rows) below (down + g.height) (height - 1) (blank_row 0) n (omega arith)
-    ∙ get_or-replicate (height - g.height - down) (height - 1 - (down + g.height)) (blank_row g.width) (blank_row 0) (omega arith)))
+    ap (λ (v : RowView). v.wrapped) (get_or-append_right (rows_back g down
+    ++ g.rows) below (down + g.height) (height - 1) (blank_row 0) n (omega arith)
+    ∙ get_or-replicate (height - g.height - down) (height - 1 - (down + g.height)) (blank_row g.width) (blank_row 0)
+    (omega arith)))
     (λ (l : height ≤ down + g.height).
     let e : height - 1 - down ≡ g.height - 1 = omega arith in
-    ap (λ (v : RowView). v.wrapped) (get_or-append (rows_back g down ++ g.rows) below (blank_row 0) (height - 1) (omega (arith, i.some_rows))
-    ∙ get_or-append_right (rows_back g down) g.rows down (height - 1) (blank_row 0) (length-back g down) (omega (arith, i.some_rows))
+    ap (λ (v : RowView). v.wrapped) (get_or-append (rows_back g down
+    ++ g.rows) below (blank_row 0) (height - 1) (omega (arith, i.some_rows))
+    ∙ get_or-append_right (rows_back g down) g.rows down (height - 1) (blank_row 0) (length-back g down)
+    (omega (arith, i.some_rows))
     ∙ ap (λ k. row_at g.rows k) e) ∙ i.sheet.last)
     (cases_lt (down + g.height) height)
 
@@ -74,29 +93,33 @@ IsSheet-come : (g : GridView) (height down : ℕ) → IsGrid g → IsAllocated g
 IsSheet-come g height down i a h = record {
   count = λ _. simp (length-append, length-replicate, length-map, length-drop) (omega (arith, i.sheet.count a));
   each = IsRowOf-append g.width (rows_back g down ++ g.rows) (replicate (height - g.height - down) (blank_row g.width))
-      (IsRowOf-append g.width (rows_back g down) g.rows (IsRowOf-back g down i) i.sheet.each) (IsRowOf-blanks g.width (height - g.height - down) i.few_cols);
+      (IsRowOf-append g.width (rows_back g down) g.rows (IsRowOf-back g down i) i.sheet.each)
+      (IsRowOf-blanks g.width (height - g.height - down) i.few_cols);
   last = last-row g height down i a h;
 }
-
-IsSheet-none : (height width : ℕ) → IsSheet height width []
-IsSheet-none height width = record { count = λ l. absurd (omega arith); each = λ r l. absurd (omega arith); last = refl }
 
 some-rows : (n : ℕ) → (n == 0) ≡ false → 0 < n
 some-rows n e = grind (arith, nat_tests)
 
-IsSheet-lengthened : (g : GridView) (height : ℕ) → IsGrid g → g.height ≤ height → IsSheet height g.width (lengthened g height).rows
+IsSheet-lengthened : (g : GridView) (height : ℕ) → IsGrid g → g.height ≤ height
+    → IsSheet height g.width (lengthened g height).rows
 IsSheet-lengthened g height i h =
     let down = down_rows g height in
-    cond_both (length g.rows == 0) [] (rows_back g down ++ g.rows ++ replicate (height - g.height - down) (blank_row g.width)) (λ (xs : List RowView). IsSheet height g.width xs)
-    (λ _. IsSheet-none height g.width) (λ e. IsSheet-come g height down i (some-rows (length g.rows) e) (omega arith))
+    cond_both (length g.rows == 0) [] (rows_back g down ++ g.rows
+    ++ replicate (height - g.height - down) (blank_row g.width)) (λ (xs : List RowView). IsSheet height g.width xs)
+    (λ _. IsSheet-none height g.width [] (omega arith))
+    (λ e. IsSheet-come g height down i (some-rows (length g.rows) e) (omega arith))
 
 -- ---- what is true of the grid
 
-IsKept-fewer : (k : KeptPart) (down : ℕ) → IsKept k → k.offset ≡ 0 → IsKept (record k { rows = take (length k.rows - down) k.rows; scrolled_off = k.scrolled_off - down })
+IsKept-fewer : (k : KeptPart) (down : ℕ) → IsKept k → k.offset ≡ 0
+    → IsKept (record k { rows = take (length k.rows - down) k.rows; scrolled_off = k.scrolled_off - down })
 IsKept-fewer k down i off =
-    let n : length (take (length k.rows - down) k.rows) ≡ length k.rows - down = length-take-le (length k.rows - down) k.rows (omega arith) in
+    let n : length (take (length k.rows - down) k.rows) ≡ length k.rows - down =
+    length-take-le (length k.rows - down) k.rows (omega arith) in
     record {
-      each = λ j l. rw (get_or-take (length k.rows - down) k.rows j (blank_row 0) (omega arith)) (i.each j (omega arith));
+      each = λ j l. rw (get_or-take (length k.rows - down) k.rows j (blank_row 0) (omega arith))
+          (i.each j (omega arith));
       fits = omega (arith, i.fits);
       counted = omega (arith, i.counted);
       offset = omega (arith, off);
@@ -107,11 +130,19 @@ IsKept-fewer k down i off =
 none-yet : (g : GridView) (height : ℕ) → length (lengthened g height).rows ≡ 0 → length g.rows ≡ 0
 none-yet g height =
     let down = down_rows g height in
-    cond_both (length g.rows == 0) [] (rows_back g down ++ g.rows ++ replicate (height - g.height - down) (blank_row g.width)) (λ (xs : List RowView). length xs ≡ 0 → length g.rows ≡ 0)
+    cond_both (length g.rows == 0) [] (rows_back g down ++ g.rows
+    ++ replicate (height - g.height - down) (blank_row g.width)) (λ (xs : List RowView). length xs ≡ 0
+    → length g.rows ≡ 0)
     (λ e _. eqb-true (length g.rows) 0 e)
-    (λ _ z. omega (arith, length-append (rows_back g down ++ g.rows) (replicate (height - g.height - down) (blank_row g.width)), length-append (rows_back g down) g.rows))
+    (λ _ z. omega (
+      arith,
+      length-append (rows_back g down
+          ++ g.rows) (replicate (height - g.height - down) (blank_row g.width)),
+      length-append (rows_back g down) g.rows,
+    ))
 
-pub IsGrid-lengthened : (g : GridView) (height : ℕ) → IsGrid g → g.height ≤ height → height < 2 ^ 16 → g.top ≡ 0 → g.kept.offset ≡ 0 → IsGrid (lengthened g height)
+pub IsGrid-lengthened : (g : GridView) (height : ℕ) → IsGrid g → g.height ≤ height → height < 2 ^ 16 → g.top ≡ 0
+    → g.kept.offset ≡ 0 → IsGrid (lengthened g height)
 IsGrid-lengthened g height i h small top off = record {
   sheet = IsSheet-lengthened g height i h;
   some_rows = omega (arith, i.some_rows);
@@ -127,18 +158,20 @@ IsGrid-lengthened g height i h small top off = record {
   region_lines = λ e. omega (arith, i.some_rows);
   kept = IsKept-fewer g.kept (down_rows g height) i.kept off;
   shown = IsShownWide-none (lengthened g height).kept height g.width off;
-  fresh = λ z. let n = IsNew-of g i (none-yet g height z) in new-again (lengthened g height) (IsKept-fewer g.kept (down_rows g height) i.kept off) (record {
-    rows = no-rows (lengthened g height).rows z;
-    row = omega (arith, n.row, n.scrolled_off);
-    col = n.col;
-    saved_row = omega (arith, n.saved_row, n.scrolled_off);
-    saved_col = n.saved_col;
-    origin = n.origin;
-    saved_origin = n.saved_origin;
-    top = n.top;
-    bottom = refl;
-    kept_rows = ap (λ (xs : List RowView). take (length g.kept.rows - down_rows g height) xs) n.kept_rows ∙ take-nil (length g.kept.rows - down_rows g height);
-    offset = n.offset;
-    scrolled_off = omega (arith, n.scrolled_off);
-  });
+  fresh = λ z. let n = IsNew-of g i (none-yet g height z)
+      in new-again (lengthened g height) (IsKept-fewer g.kept (down_rows g height) i.kept off) (record {
+        rows = no-rows (lengthened g height).rows z;
+        row = omega (arith, n.row, n.scrolled_off);
+        col = n.col;
+        saved_row = omega (arith, n.saved_row, n.scrolled_off);
+        saved_col = n.saved_col;
+        origin = n.origin;
+        saved_origin = n.saved_origin;
+        top = n.top;
+        bottom = refl;
+        kept_rows = ap (λ (xs : List RowView). take (length g.kept.rows - down_rows g height) xs) n.kept_rows
+            ∙ take-nil (length g.kept.rows - down_rows g height);
+        offset = n.offset;
+        scrolled_off = omega (arith, n.scrolled_off);
+      });
 }

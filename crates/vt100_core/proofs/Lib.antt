@@ -6,8 +6,12 @@ pub mod KeepLemmas
 pub mod ScrollLemmas
 pub mod StayLemmas
 pub mod TextLemmas
+pub mod JoinLemmas
 pub mod ResizeLemmas
 pub mod PlaceLemmas
 pub mod LengthenLemmas
 pub mod PictureLemmas
 pub mod RunLemmas
+pub mod InputLemmas
+pub mod BasicLemmas
+pub mod InputTexts

@@ -1,5 +1,6 @@
 -- What a grid shows, by position.
-use Rattle.std.proofs.Common.{◌≡◌, ℕ, ◌+◌, ◌-◌, ◌<◌, ◌≤◌, ◌==◌, Bool, true, false, cond, ◌&&◌, nat_lt, List, length, sym, refl, ap, ◌∙◌, arith, ⊎_elim}
+use Rattle.std.proofs.Common.{◌≡◌, ℕ, ◌+◌, ◌-◌, ◌<◌, ◌≤◌, ◌==◌, Bool, true, false, cond, ◌&&◌, nat_lt, List, length}
+use Rattle.std.proofs.Common.{sym, refl, ap, ◌∙◌, arith, ⊎_elim}
 use Rattle.std.proofs.lemmas.Bool.{false≢true, cond_both, cases_lt, le-ltb, lt-ltb}
 use Rattle.std.proofs.lemmas.Bool.Decides.{nat_tests}
 use mathlib.Core.Path.{fun_ext}
@@ -27,25 +28,31 @@ visible_at-drawn g r e =
 pub visible-drawn : (g : GridView) → g.kept.offset ≡ 0 → visible g ≡ g.rows
 visible-drawn g e =
     let n = length-rows_by_position (length g.rows) (visible_at g) in
-    rows_equal (visible g) g.rows n (λ k l. row_at-by_position (length g.rows) (visible_at g) k (omega arith) ∙ visible_at-drawn g k e)
+    rows_equal (visible g) g.rows n (λ k l. row_at-by_position (length g.rows) (visible_at g) k (omega arith)
+    ∙ visible_at-drawn g k e)
 
 -- ---- a grid's rows are a terminal's lines
 
 IsPaired-default : IsPaired (λ k. default_cell)
 IsPaired-default = record { first = refl; next = λ k. refl; blank = λ k e. absurd (false≢true e) }
 
-pub lines-paired : (height width : ℕ) (rows : List RowView) (r : ℕ) → IsSheet height width rows → IsPaired (lines_of rows r)
+pub lines-paired : (height width : ℕ) (rows : List RowView) (r : ℕ) → IsSheet height width rows
+    → IsPaired (lines_of rows r)
 lines-paired height width rows r h =
     ⊎_elim (λ l. (h.each r l).row.paired) (λ l. rw (lines-past rows r l) IsPaired-default) (cases_lt r (length rows))
 
-pub lines-bounded : (height width : ℕ) (rows : List RowView) (r : ℕ) → IsSheet height width rows → Bounded width (lines_of rows r)
+pub lines-bounded : (height width : ℕ) (rows : List RowView) (r : ℕ) → IsSheet height width rows
+    → Bounded width (lines_of rows r)
 lines-bounded height width rows r h k m =
-    ⊎_elim (λ l. cell_at_past (row_at rows r).cells k (omega (arith, (h.each r l).wide))) (λ l. ap (λ f. f k) (lines-past rows r l)) (cases_lt r (length rows))
+    ⊎_elim (λ l. cell_at_past (row_at rows r).cells k (omega (arith, (h.each r l).wide)))
+    (λ l. ap (λ f. f k) (lines-past rows r l)) (cases_lt r (length rows))
 
-wraps-filled : (height width : ℕ) (rows : List RowView) (r : ℕ) → IsSheet height width rows → wraps_of rows r ≡ true → is_filled (lines_of rows r (width - 1)) ≡ true
+wraps-filled : (height width : ℕ) (rows : List RowView) (r : ℕ) → IsSheet height width rows → wraps_of rows r ≡ true
+    → is_filled (lines_of rows r (width - 1)) ≡ true
 wraps-filled height width rows r h w =
     ⊎_elim
-    (λ (l : r < length rows). let one = h.each r l in ap (λ n. is_filled (lines_of rows r (n - 1))) (sym one.wide) ∙ one.row.filled w)
+    (λ (l : r < length rows). let one = h.each r l
+    in ap (λ n. is_filled (lines_of rows r (n - 1))) (sym one.wide) ∙ one.row.filled w)
     (λ (l : length rows ≤ r). absurd (false≢true (sym (wraps-past rows r l) ∙ w)))
     (cases_lt r (length rows))
 
@@ -67,13 +74,20 @@ IsTerm-grid g x h some =
       saved_in_cols = h.saved_col;
     }
 
-shown_line-drawn : (g : GridView) (r k : ℕ) → IsGrid g → IsAllocated g → g.kept.offset ≡ 0 → shown_lines g r k ≡ lines_of g.rows r k
+shown_line-drawn : (g : GridView) (r k : ℕ) → IsGrid g → IsAllocated g → g.kept.offset ≡ 0
+    → shown_lines g r k ≡ lines_of g.rows r k
 shown_line-drawn g r k h some e =
     let count = h.sheet.count some in
     ⊎_elim
     (λ (l : r < g.height). ⊎_elim
-    (λ (m : k < g.width). rw (lt-ltb r g.height l, lt-ltb k g.width m) (ap (λ (v : RowView). cell_at v.cells k) (visible_at-drawn g r e)))
-    (λ (m : g.width ≤ k). rw (lt-ltb r g.height l, le-ltb k g.width m) (sym (lines-bounded g.height g.width g.rows r h.sheet k m)))
+    (λ (m : k < g.width). rw (
+      lt-ltb r g.height l,
+      lt-ltb k g.width m,
+    ) (ap (λ (v : RowView). cell_at v.cells k) (visible_at-drawn g r e)))
+    (λ (m : g.width ≤ k). rw (
+      lt-ltb r g.height l,
+      le-ltb k g.width m,
+    ) (sym (lines-bounded g.height g.width g.rows r h.sheet k m)))
     (cases_lt k g.width))
     (λ (l : g.height ≤ r). rw (le-ltb r g.height l) (sym (ap (λ f. f k) (lines-past g.rows r (omega arith)))))
     (cases_lt r g.height)
@@ -82,7 +96,8 @@ shown_line-drawn g r k h some e =
 pub shown_lines-drawn : (g : GridView) → IsGrid g → IsAllocated g → g.kept.offset ≡ 0 → shown_lines g ≡ lines_of g.rows
 shown_lines-drawn g h some e = fun_ext (λ r. fun_ext (λ k. shown_line-drawn g r k h some e))
 
-shown_wrap-drawn : (g : GridView) (r : ℕ) → IsGrid g → IsAllocated g → g.kept.offset ≡ 0 → shown_wraps g r ≡ wraps_of g.rows r
+shown_wrap-drawn : (g : GridView) (r : ℕ) → IsGrid g → IsAllocated g → g.kept.offset ≡ 0
+    → shown_wraps g r ≡ wraps_of g.rows r
 shown_wrap-drawn g r h some e =
     let count = h.sheet.count some in
     ⊎_elim (λ (l : r < g.height). rw (lt-ltb r g.height l) (ap (λ (v : RowView). v.wrapped) (visible_at-drawn g r e)))

@@ -1,57 +1,61 @@
 -- Another size of the screen.
-use Rattle.std.proofs.Common.{◌≡◌, ℕ, ◌+◌, ◌-◌, ◌^◌, ◌<◌, ◌≤◌, ◌==◌, Bool, true, false, cond, not, ◌&&◌, List, [], ◌++◌, length, take, drop, map, min, refl, sym, ap, ◌∙◌, arith, length-append, replicate, nat_lt, ⊎_elim, subst}
+use Rattle.std.proofs.Common.{◌≡◌, ℕ, ◌+◌, ◌-◌, ◌^◌, ◌<◌, ◌≤◌, ◌==◌, Bool, false, cond, ◌&&◌, List, [], ◌++◌}
+use Rattle.std.proofs.Common.{length, min, refl, sym, ap, ◌∙◌, arith, length-append, replicate, nat_lt}
+use Rattle.std.proofs.Common.{⊎_elim, subst}
 use Rattle.std.proofs.lemmas.Bool.{cases_lt, eq-eqb}
 use Rattle.std.proofs.lemmas.Bool.Decides.{nat_tests}
-use Rattle.std.proofs.lemmas.List.{append-nil}
-use Rattle.std.proofs.Math.Seq.{drop-nil, take-nil}
 use Rattle.vt100_cells.specs.Cell.{default_cell}
 use Rattle.vt100_cells.specs.Line.{extended}
 use Rattle.vt100_cells.specs.Cells.{cell_at, by_position}
-use Rattle.vt100_rows.specs.Row.{RowView, blank_row, truncated, grown, resized_row, trimmed, unwrapped}
-use Rattle.vt100_sheet.specs.Sheet.{row_at, rows_by_position, IsSheet, changed_between, moved_up}
+use Rattle.vt100_rows.specs.Row.{RowView, blank_row, truncated, grown, resized_row, unwrapped}
+use Rattle.vt100_sheet.specs.Sheet.{row_at, rows_by_position, IsSheet}
 use Rattle.vt100_sheet.specs.Sheet.{first_rows}
-use Rattle.vt100_core.specs.Resize.{whole_screen, up_rows, shortened, with_width, down_rows, rows_back, lengthened, resized}
+use Rattle.vt100_core.specs.Resize.{whole_screen, up_rows, shortened, with_width, down_rows, rows_back, lengthened}
+use Rattle.vt100_core.specs.Resize.{resized}
 use Rattle.vt100_sheet.proofs.WidthLemmas.{lt_ltb, IsRowOf-resized}
 use Rattle.vt100_sheet.specs.Sheet.{first_rows}
 use Rattle.vt100_core.specs.Grid.{KeptPart, IsKept, GridView, IsGrid, IsAllocated}
-use Rattle.vt100_core.specs.Scroll.{Scrolled, widened, overflow, kept_after, pushed_out, up_count, left_rows, is_kept_from, scrolled_up}
-use Rattle.vt100_sheet.proofs.SheetLemmas.{rows_by_position_is, length-rows_by_position, IsSheet-by_position, row_at_past}
-use Rattle.vt100_sheet.proofs.MoveLemmas.{IsRowOf-unwrapped, IsRowOf-cond, wrapped-cond}
+use Rattle.vt100_core.specs.Scroll.{Scrolled}
+use Rattle.vt100_core.specs.Scroll.{scrolled_up}
+use Rattle.vt100_sheet.proofs.SheetLemmas.{length-rows_by_position, IsSheet-by_position}
+use Rattle.vt100_sheet.proofs.SheetLemmas.{IsRowOf-cond, wrapped-cond, IsSheet-none}
+use Rattle.vt100_sheet.proofs.MoveLemmas.{IsRowOf-unwrapped}
 use Rattle.vt100_core.proofs.GridLemmas.{IsNew-of, new-again, no-rows}
 use Rattle.vt100_core.proofs.KeepLemmas.{IsShownWide-none}
 
 -- ---- as many rows as there are
 
-IsSheet-none : (height width : ℕ) (rows : List RowView) → length rows ≤ 0 → IsSheet height width rows
-IsSheet-none height width rows h = record {
-  count = λ l. absurd (omega arith);
-  each = λ r l. absurd (omega arith);
-  last = ap (λ (v : RowView). v.wrapped) (row_at_past rows (height - 1) (omega arith));
-}
-
 -- the height counts only where there are rows
-pub IsSheet-height_as : (height other width : ℕ) (rows : List RowView) → (0 < length rows → height ≡ other) → IsSheet height width rows → IsSheet other width rows
+pub IsSheet-height_as : (height other width : ℕ) (rows : List RowView) → (0 < length rows → height ≡ other)
+    → IsSheet height width rows → IsSheet other width rows
 IsSheet-height_as height other width rows e i =
-    ⊎_elim (λ (l : 0 < length rows). subst (λ n. IsSheet n width rows) (e l) i) (λ (l : length rows ≤ 0). IsSheet-none other width rows l) (cases_lt 0 (length rows))
+    ⊎_elim (λ (l : 0 < length rows). subst (λ n. IsSheet n width rows) (e l) i)
+    (λ (l : length rows ≤ 0). IsSheet-none other width rows l) (cases_lt 0 (length rows))
 
 -- ---- what is true of a grid stays true
 
 first-last : (rows : List RowView) (height : ℕ) → 0 < height → (first_rows rows height (height - 1)).wrapped ≡ false
 first-last rows height h =
     let last : (height - 1 + 1) ≡ height = omega arith in
-    ap (λ b. (cond b (unwrapped (row_at rows (height - 1))) (row_at rows (height - 1))).wrapped) (eq-eqb (height - 1 + 1) height last)
+    ap (λ b. (cond b (unwrapped (row_at rows (height - 1))) (row_at rows (height - 1))).wrapped)
+    (eq-eqb (height - 1 + 1) height last)
 
-IsSheet-shortened : (height from width : ℕ) (rows : List RowView) → IsSheet from width rows → 0 < height → height < from → IsSheet height width (rows_by_position (min height (length rows)) (first_rows rows height))
+IsSheet-shortened : (height from width : ℕ) (rows : List RowView) → IsSheet from width rows → 0 < height
+    → height < from → IsSheet height width (rows_by_position (min height (length rows)) (first_rows rows height))
 IsSheet-shortened height from width rows i some lower =
-    IsSheet-by_position height width (min height (length rows)) (first_rows rows height) some (λ l. omega (arith, i.count (omega arith)))
+    IsSheet-by_position height width (min height (length rows)) (first_rows rows height) some
+    (λ l. omega (arith, i.count (omega arith)))
     (λ r l. let row = i.each r (omega arith) in
-    IsRowOf-cond ((r + 1) == height) width (unwrapped (row_at rows r)) (row_at rows r) (λ _. IsRowOf-unwrapped width (row_at rows r) row) (λ _. row))
+    IsRowOf-cond ((r + 1) == height) width (unwrapped (row_at rows r)) (row_at rows r)
+    (λ _. IsRowOf-unwrapped width (row_at rows r) row) (λ _. row))
     (λ _. first-last rows height some)
 
-pub IsGrid-shortened : (g : GridView) (up height : ℕ) → IsGrid g → 0 < height → height < g.height → g.row - up < height → g.top ≡ 0 → g.kept.offset ≡ 0 → IsGrid (shortened g up height)
+pub IsGrid-shortened : (g : GridView) (up height : ℕ) → IsGrid g → 0 < height → height < g.height → g.row - up < height
+    → g.top ≡ 0 → g.kept.offset ≡ 0 → IsGrid (shortened g up height)
 IsGrid-shortened g up height i some lower above top hidden =
     let n = length-rows_by_position (min height (length g.rows)) (first_rows g.rows height) in
-    let none : length (rows_by_position (min height (length g.rows)) (first_rows g.rows height)) ≡ 0 → length g.rows ≡ 0 = λ z. omega (arith, n) in
+    let none : length (rows_by_position (min height (length g.rows)) (first_rows g.rows height)) ≡ 0
+    → length g.rows ≡ 0 = λ z. omega (arith, n) in
     record {
       sheet = IsSheet-shortened height g.height g.width g.rows i.sheet some lower;
       some_rows = some;
@@ -86,15 +90,22 @@ IsGrid-shortened g up height i some lower above top hidden =
 resized-unwrapped : (v : RowView) (width : ℕ) → v.wrapped ≡ false → (resized_row v width default_cell).wrapped ≡ false
 resized-unwrapped v width e =
     wrapped-cond (nat_lt width (length v.cells)) (truncated v width) (grown v width default_cell) (λ _. refl)
-    (λ _. wrapped-cond (nat_lt (length v.cells) width) (record { cells = by_position width (extended (length v.cells) (cell_at v.cells) default_cell); wrapped = false }) v (λ _. refl) (λ _. e))
+    (λ _. wrapped-cond (nat_lt (length v.cells) width)
+    (record {
+      cells = by_position width (extended (length v.cells) (cell_at v.cells) default_cell);
+      wrapped = false;
+    }) v (λ _. refl) (λ _. e))
 
-IsSheet-resized : (height from width : ℕ) (rows : List RowView) → IsSheet height from rows → 0 < height → width < 2 ^ 16 → IsSheet height width (rows_by_position (length rows) (λ r. resized_row (row_at rows r) width default_cell))
+IsSheet-resized : (height from width : ℕ) (rows : List RowView) → IsSheet height from rows → 0 < height
+    → width < 2 ^ 16 → IsSheet height width (rows_by_position (length rows)
+    (λ r. resized_row (row_at rows r) width default_cell))
 IsSheet-resized height from width rows i some small =
     IsSheet-by_position height width (length rows) (λ r. resized_row (row_at rows r) width default_cell) some i.count
     (λ r l. IsRowOf-resized from width (row_at rows r) (i.each r l) small)
     (λ _. resized-unwrapped (row_at rows (height - 1)) width i.last)
 
-pub IsGrid-with_width : (g : GridView) (width : ℕ) → IsGrid g → 0 < width → width < 2 ^ 16 → g.kept.offset ≡ 0 → IsGrid (with_width g width)
+pub IsGrid-with_width : (g : GridView) (width : ℕ) → IsGrid g → 0 < width → width < 2 ^ 16 → g.kept.offset ≡ 0
+    → IsGrid (with_width g width)
 IsGrid-with_width g width i some small hidden =
     let n = length-rows_by_position (length g.rows) (λ r. resized_row (row_at g.rows r) width default_cell) in
     record {
@@ -129,7 +140,14 @@ IsGrid-with_width g width i some small hidden =
     }
 
 IsKept-hidden : (k : KeptPart) → IsKept k → IsKept (record k { offset = 0 })
-IsKept-hidden k i = record { each = i.each; fits = i.fits; counted = i.counted; offset = omega arith; none = i.none; bounded = i.bounded }
+IsKept-hidden k i = record {
+  each = i.each;
+  fits = i.fits;
+  counted = i.counted;
+  offset = omega arith;
+  none = i.none;
+  bounded = i.bounded;
+}
 
 pub IsGrid-whole_screen : (g : GridView) → IsGrid g → IsGrid (whole_screen g)
 IsGrid-whole_screen g i = record {
@@ -174,30 +192,41 @@ lower_screen g height width =
 not-same : (m n : ℕ) (b : Bool) → m < n → ((m == n) && b) ≡ false
 not-same m n b h = grind (arith, nat_tests)
 
-resized-lower : (g : GridView) (height width : ℕ) → height < g.height → lower_screen g height width ≡ resized g height width
+resized-lower : (g : GridView) (height width : ℕ) → height < g.height
+    → lower_screen g height width ≡ resized g height width
 unfolding resized
 resized-lower g height width h =
     let same : Scrolled = record { grid = g; sunk = [] } in
     let higher : Scrolled = record { grid = lengthened (with_width (whole_screen g) width) height; sunk = [] } in
-    sym (ap (λ b. cond b same (cond (nat_lt height g.height) (lower_screen g height width) higher)) (not-same height g.height (width == g.width) h)
+    sym (ap (λ b. cond b same (cond (nat_lt height g.height) (lower_screen g height width) higher))
+    (not-same height g.height (width == g.width) h)
     ∙ ap (λ b. cond b (lower_screen g height width) higher) (lt_ltb height g.height h))
 
-pub lowers : (g s t u : GridView) (up height width : ℕ) → height < g.height → up ≡ up_rows g height → s ≡ (scrolled_up (whole_screen g) up).grid
+pub lowers : (g s t u : GridView) (up height width : ℕ) → height < g.height → up ≡ up_rows g height
+    → s ≡ (scrolled_up (whole_screen g) up).grid
     → t ≡ shortened s up height → u ≡ with_width t width → u ≡ (resized g height width).grid
 lowers g s t u up height width h eup es et eu =
-    eu ∙ ap (λ (x : GridView). with_width x width) (et ∙ ap (λ (x : GridView). shortened x up height) es ∙ ap (λ n. shortened (scrolled_up (whole_screen g) n).grid n height) eup)
+    eu ∙ ap (λ (x : GridView). with_width x width) (et ∙ ap (λ (x : GridView). shortened x up height) es
+    ∙ ap (λ n. shortened (scrolled_up (whole_screen g) n).grid n height) eup)
     ∙ ap (λ (x : Scrolled). x.grid) (resized-lower g height width h)
 
-pub lowers-sunk : (g : GridView) (up height width : ℕ) → height < g.height → up ≡ up_rows g height → (scrolled_up (whole_screen g) up).sunk ≡ (resized g height width).sunk
-lowers-sunk g up height width h eup = ap (λ n. (scrolled_up (whole_screen g) n).sunk) eup ∙ ap (λ (x : Scrolled). x.sunk) (resized-lower g height width h)
+pub lowers-sunk : (g : GridView) (up height width : ℕ) → height < g.height → up ≡ up_rows g height
+    → (scrolled_up (whole_screen g) up).sunk ≡ (resized g height width).sunk
+lowers-sunk g up height width h eup = ap (λ n. (scrolled_up (whole_screen g) n).sunk) eup
+    ∙ ap (λ (x : Scrolled). x.sunk) (resized-lower g height width h)
 
-pub some-shortened : (g h : GridView) (up height : ℕ) → h ≡ shortened g up height → 0 < height → IsAllocated g → IsAllocated h
+pub some-shortened : (g h : GridView) (up height : ℕ) → h ≡ shortened g up height → 0 < height → IsAllocated g
+    → IsAllocated h
 some-shortened g h up height e some a =
-    let n : length h.rows ≡ min height (length g.rows) = ap (λ (x : GridView). length x.rows) e ∙ length-rows_by_position (min height (length g.rows)) (first_rows g.rows height) in
+    let n : length h.rows ≡ min height (length g.rows) =
+    ap (λ (x : GridView). length x.rows) e
+    ∙ length-rows_by_position (min height (length g.rows)) (first_rows g.rows height) in
     omega (arith, n)
 
-more-rows : (rows back below : List RowView) → 0 < length rows → 0 < length (cond (length rows == 0) [] (back ++ rows ++ below))
+more-rows : (rows back below : List RowView) → 0 < length rows
+    → 0 < length (cond (length rows == 0) [] (back ++ rows ++ below))
 more-rows rows back below h = grind (arith, nat_tests, length-append)
 
 pub some-lengthened : (g h : GridView) (height : ℕ) → h ≡ lengthened g height → IsAllocated g → IsAllocated h
-some-lengthened g h height e a = rw e (more-rows g.rows (rows_back g (down_rows g height)) (replicate (height - g.height - down_rows g height) (blank_row g.width)) a)
+some-lengthened g h height e a = rw e (more-rows g.rows (rows_back g (down_rows g height))
+    (replicate (height - g.height - down_rows g height) (blank_row g.width)) a)

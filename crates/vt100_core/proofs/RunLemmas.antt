@@ -1,5 +1,7 @@
 -- Printing a run of printable ASCII characters.
-use Rattle.std.proofs.Common.{◌≡◌, ℕ, zero, ◌+◌, ◌<◌, ◌≤◌, ◌==◌, Bool, true, false, cond, ◌&&◌, ◌||◌, List, [], ◌∷◌, ◌++◌, length, set, take, drop, sym, refl, ap, ◌∙◌, arith, nat_lt, nat_le, length-set, append-nil, append_assoc, add-zero, subst}
+use Rattle.std.proofs.Common.{◌≡◌, ℕ, zero, ◌+◌, ◌<◌, ◌≤◌, ◌==◌, Bool, true, false, cond, ◌&&◌, ◌||◌, List, [], ◌∷◌}
+use Rattle.std.proofs.Common.{◌++◌, length, set, take, drop, sym, refl, ap, ◌∙◌, arith, nat_lt, nat_le, length-set}
+use Rattle.std.proofs.Common.{append-nil, append_assoc, add-zero, subst}
 use Rattle.std.specs.Prelude.{All}
 use Rattle.std.proofs.lemmas.Bool.Decides.{nat_tests}
 use Rattle.std.proofs.lemmas.List.Elements.{All-drop}
@@ -18,7 +20,7 @@ use Rattle.vt100_sheet.proofs.SinkLemmas.{TakesAll-append}
 use Rattle.vt100_core.specs.declared.printed.Printed.TheVariants.{Spacing}
 use Rattle.vt100_core.specs.Grid.{GridView, IsGrid, IsAllocated, row_of_cursor, with_cursor_row}
 use Rattle.vt100_core.specs.Scroll.{Scrolled, wrapped_on, made_to_fit}
-use Rattle.vt100_core.specs.Text.{Drawn, put_at, printed, printed_all}
+use Rattle.vt100_core.specs.Text.{Drawn, put_at, printed, printed_all, TakesFront}
 use Rattle.vt100_core.proofs.EraseLemmas.{IsGrid-cursor_row, cursor_row_of}
 use Rattle.vt100_core.proofs.TextLemmas.{IsGrid-col, printed-spaced}
 
@@ -28,30 +30,37 @@ run_at g xs a = record (with_cursor_row g (placed_each (row_of_cursor g) g.col x
 
 -- ---- one printable character
 
-not-dropped : (u : Bool) (k w col : ℕ) → u ≡ false → k ≡ 1 → 0 < w → (u || (nat_lt w k || ((k == 0) && (col == 0)))) ≡ false
+not-dropped : (u : Bool) (k w col : ℕ) → u ≡ false → k ≡ 1 → 0 < w
+    → (u || (nat_lt w k || ((k == 0) && (col == 0)))) ≡ false
 not-dropped u k w col eu ek h = grind (arith, nat_tests)
 
 -- n columns of a character that goes to the grid h
 abbrev pub drawn_at : Scrolled → ℕ → Attrs → ℕ → Drawn
 drawn_at s c a n = record { grid = put_at s.grid (cell_of c a) a n; sunk = s.sunk; printed = Spacing }
 
-pub printed-printable : (g : GridView) (c : ℕ) (a : Attrs) → IsPrintable c → 0 < g.width → printed g c a ≡ drawn_at (made_to_fit g 1 true) c a 1
+pub printed-printable : (g : GridView) (c : ℕ) (a : Attrs) → IsPrintable c → 0 < g.width
+    → printed g c a ≡ drawn_at (made_to_fit g 1 true) c a 1
 printed-printable g c a p w =
     let d = printable-is c p in
-    printed-spaced g c a (not-dropped (is_undrawable c) (columns_of c) g.width g.col d.0 d.1 w) (omega (arith, d.1)) ∙ ap (λ n. drawn_at (made_to_fit g n true) c a n) d.1
+    printed-spaced g c a (not-dropped (is_undrawable c) (columns_of c) g.width g.col d.0 d.1 w) (omega (arith, d.1))
+    ∙ ap (λ n. drawn_at (made_to_fit g n true) c a n) d.1
 
 fits-true : (m n : ℕ) → m ≤ n → nat_le m n ≡ true
 fits-true m n h = grind (arith, nat_tests)
 
 pub made-here : (g : GridView) → g.col + 1 ≤ g.width → made_to_fit g 1 true ≡ record { grid = g; sunk = [] }
-made-here g h = ap (λ b. cond b (let s : Scrolled = record { grid = g; sunk = [] } in s) (wrapped_on g true)) (fits-true (g.col + 1) g.width h)
+made-here g h = ap (λ b. cond b (let s : Scrolled = record { grid = g; sunk = [] } in s) (wrapped_on g true))
+    (fits-true (g.col + 1) g.width h)
 
 -- ---- a run in one row
 
-with-first : (g : GridView) (x : ℕ) (xs : List ℕ) (a : Attrs) → g.row < length g.rows → run_at (put_at g (cell_of x a) a 1) xs a ≡ run_at g (x ∷ xs) a
+with-first : (g : GridView) (x : ℕ) (xs : List ℕ) (a : Attrs) → g.row < length g.rows
+    → run_at (put_at g (cell_of x a) a 1) xs a ≡ run_at g (x ∷ xs) a
 with-first g x xs a h =
     let w = placed (row_of_cursor g) g.col (cell_of x a) a in
-    let r = ap (λ (u : RowView). set (set g.rows g.row w) g.row (placed_each u (g.col + 1) xs a)) (get_or-set_same g.rows g.row w (blank_row 0) h) ∙ set-set g.rows g.row w (placed_each w (g.col + 1) xs a) in
+    let r = ap (λ (u : RowView). set (set g.rows g.row w) g.row (placed_each u (g.col + 1) xs a))
+    (get_or-set_same g.rows g.row w (blank_row 0) h) ∙ set-set g.rows g.row w (placed_each w (g.col + 1) xs a)
+    in
     let n : g.col + 1 + length xs ≡ g.col + length (x ∷ xs) = omega arith in
     λ i. record g { rows = r i; col = n i }
 
@@ -65,18 +74,23 @@ run_at-none g a =
 abbrev after_first : Drawn → List ℕ → Attrs → Scrolled
 after_first d xs a = record { grid = (printed_all d.grid xs a).grid; sunk = d.sunk ++ (printed_all d.grid xs a).sunk }
 
-printed_all-here : (xs : List ℕ) (g : GridView) (a : Attrs) → All IsPrintable xs → g.col + length xs ≤ g.width → g.row < length g.rows → printed_all g xs a ≡ record { grid = run_at g xs a; sunk = [] }
-printed_all-here [] g a p h l = ap (λ (k : GridView). let s : Scrolled = record { grid = k; sunk = [] } in s) (run_at-none g a)
+printed_all-here : (xs : List ℕ) (g : GridView) (a : Attrs) → All IsPrintable xs → g.col + length xs ≤ g.width
+    → g.row < length g.rows → printed_all g xs a ≡ record { grid = run_at g xs a; sunk = [] }
+printed_all-here [] g a p h l = ap (λ (k : GridView). let s : Scrolled = record { grid = k; sunk = [] }
+    in s) (run_at-none g a)
 printed_all-here (x ∷ xs) g a p h l =
     let g1 = put_at g (cell_of x a) a 1 in
-    let first = printed-printable g x a (p zero 0 (omega arith)) (omega arith) ∙ ap (λ (s : Scrolled). drawn_at s x a 1) (made-here g (omega arith)) in
+    let first = printed-printable g x a (p zero 0 (omega arith)) (omega arith)
+    ∙ ap (λ (s : Scrolled). drawn_at s x a 1) (made-here g (omega arith)) in
     let count = length-set g.rows g.row (placed (row_of_cursor g) g.col (cell_of x a) a) in
     ap (λ (d : Drawn). after_first d xs a) first
-    ∙ ap (λ (o : Scrolled). let s : Scrolled = record { grid = o.grid; sunk = o.sunk } in s) (printed_all-here xs g1 a (All-drop IsPrintable 1 (x ∷ xs) p) (omega arith) (omega (arith, count)))
+    ∙ ap (λ (o : Scrolled). let s : Scrolled = record { grid = o.grid; sunk = o.sunk }
+    in s) (printed_all-here xs g1 a (All-drop IsPrintable 1 (x ∷ xs) p) (omega arith) (omega (arith, count)))
     ∙ ap (λ (k : GridView). let s : Scrolled = record { grid = k; sunk = [] } in s) (with-first g x xs a l)
 
 -- the first row of a run: h is the grid once its first character fits
-in-row : (g : GridView) (xs : List ℕ) (a : Attrs) (s : Scrolled) → 0 < length xs → All IsPrintable xs → 0 < g.width → made_to_fit g 1 true ≡ s → s.grid.col + length xs ≤ s.grid.width → s.grid.row < length s.grid.rows
+in-row : (g : GridView) (xs : List ℕ) (a : Attrs) (s : Scrolled) → 0 < length xs → All IsPrintable xs → 0 < g.width
+    → made_to_fit g 1 true ≡ s → s.grid.col + length xs ≤ s.grid.width → s.grid.row < length s.grid.rows
     → printed_all g xs a ≡ record { grid = run_at s.grid xs a; sunk = s.sunk }
 in-row g [] a s some p w e h l = absurd (omega arith)
 in-row g (x ∷ xs) a s some p w e h l =
@@ -84,87 +98,137 @@ in-row g (x ∷ xs) a s some p w e h l =
     let first = printed-printable g x a (p zero 0 (omega arith)) w ∙ ap (λ (t : Scrolled). drawn_at t x a 1) e in
     let count = length-set s.grid.rows s.grid.row (placed (row_of_cursor s.grid) s.grid.col (cell_of x a) a) in
     ap (λ (d : Drawn). after_first d xs a) first
-    ∙ ap (λ (o : Scrolled). let t : Scrolled = record { grid = o.grid; sunk = s.sunk ++ o.sunk } in t) (printed_all-here xs g1 a (All-drop IsPrintable 1 (x ∷ xs) p) (omega arith) (omega (arith, count)))
+    ∙ ap (λ (o : Scrolled). let t : Scrolled = record { grid = o.grid; sunk = s.sunk ++ o.sunk }
+    in t) (printed_all-here xs g1 a (All-drop IsPrintable 1 (x ∷ xs) p) (omega arith) (omega (arith, count)))
     ∙ (λ i. record { grid = with-first s.grid x xs a l i; sunk = append-nil s.sunk i })
 
-pub in-row-grid : (g h k : GridView) (xs : List ℕ) (a : Attrs) → 0 < length xs → All IsPrintable xs → 0 < g.width → h ≡ (made_to_fit g 1 true).grid → h.col + length xs ≤ h.width → h.row < length h.rows → k ≡ run_at h xs a
+pub in-row-grid : (g h k : GridView) (xs : List ℕ) (a : Attrs) → 0 < length xs → All IsPrintable xs → 0 < g.width
+    → h ≡ (made_to_fit g 1 true).grid → h.col + length xs ≤ h.width → h.row < length h.rows → k ≡ run_at h xs a
     → k ≡ (printed_all g xs a).grid
 in-row-grid g h k xs a some p w e fits l ek =
     let s = made_to_fit g 1 true in
-    ek ∙ ap (λ (y : GridView). run_at y xs a) e ∙ sym (ap (λ (o : Scrolled). o.grid) (in-row g xs a s some p w refl (rw (← e) fits) (rw (← e) l)))
+    ek ∙ ap (λ (y : GridView). run_at y xs a) e ∙ sym
+    (ap (λ (o : Scrolled). o.grid) (in-row g xs a s some p w refl (rw (← e) fits) (rw (← e) l)))
 
-pub in-row-sunk : (g h : GridView) (xs : List ℕ) (a : Attrs) → 0 < length xs → All IsPrintable xs → 0 < g.width → h ≡ (made_to_fit g 1 true).grid → h.col + length xs ≤ h.width → h.row < length h.rows
+pub in-row-sunk : (g h : GridView) (xs : List ℕ) (a : Attrs) → 0 < length xs → All IsPrintable xs → 0 < g.width
+    → h ≡ (made_to_fit g 1 true).grid → h.col + length xs ≤ h.width → h.row < length h.rows
     → (made_to_fit g 1 true).sunk ≡ (printed_all g xs a).sunk
 in-row-sunk g h xs a some p w e fits l =
     let s = made_to_fit g 1 true in
     sym (ap (λ (o : Scrolled). o.sunk) (in-row g xs a s some p w refl (rw (← e) fits) (rw (← e) l)))
 
+-- what leaves where the first character is made to fit
+pub first-sunk : (g : GridView) (xs : List ℕ) (a : Attrs) → 0 < length xs → All IsPrintable xs → 0 < g.width
+    → (made_to_fit g 1 true).sunk ≡ (printed_all g (take 1 xs) a).sunk
+first-sunk g [] a some p w = absurd (omega arith)
+first-sunk g (x ∷ xs) a some p w =
+    sym (append-nil (printed g x a).sunk
+    ∙ ap (λ (d : Drawn). d.sunk) (printed-printable g x a (p zero 0 (omega arith)) w))
+
 -- ---- what is true of a grid stays true
 
-wrapped-each : (xs : List ℕ) (v : RowView) (i width : ℕ) (a : Attrs) → IsRowOf width v → All IsPrintable xs → i + length xs ≤ width → IsRowOf width (placed_each v i xs a)
+wrapped-each : (xs : List ℕ) (v : RowView) (i width : ℕ) (a : Attrs) → IsRowOf width v → All IsPrintable xs
+    → i + length xs ≤ width → IsRowOf width (placed_each v i xs a)
 wrapped-each xs v i width a r p h =
     let e = run_row-each xs v i a r.row p (omega (arith, r.wide)) in
     record {
       row = IsRow-each xs v i a r.row p (omega (arith, r.wide));
-      wide = sym (ap (λ (u : RowView). length u.cells) e) ∙ length-by_position (length v.cells) (run (cell_at v.cells) i xs a) ∙ r.wide;
+      wide = sym (ap (λ (u : RowView). length u.cells) e)
+          ∙ length-by_position (length v.cells) (run (cell_at v.cells) i xs a) ∙ r.wide;
     }
 
-pub IsGrid-run_at : (g : GridView) (xs : List ℕ) (a : Attrs) → IsGrid g → IsAllocated g → All IsPrintable xs → g.col + length xs ≤ g.width → IsGrid (run_at g xs a)
+pub IsGrid-run_at : (g : GridView) (xs : List ℕ) (a : Attrs) → IsGrid g → IsAllocated g → All IsPrintable xs
+    → g.col + length xs ≤ g.width → IsGrid (run_at g xs a)
 IsGrid-run_at g xs a i l p h =
     let v = row_of_cursor g in
     let r = cursor_row_of g i l in
     let e = run_row-each xs v g.col a r.row p (omega (arith, r.wide)) in
     IsGrid-col (with_cursor_row g (placed_each v g.col xs a)) (g.col + length xs)
-    (IsGrid-cursor_row g (placed_each v g.col xs a) i l (wrapped-each xs v g.col g.width a r p h) (λ w. sym (ap (λ (u : RowView). u.wrapped) e) ∙ w))
+    (IsGrid-cursor_row g (placed_each v g.col xs a) i l (wrapped-each xs v g.col g.width a r p h)
+    (λ w. sym (ap (λ (u : RowView). u.wrapped) e) ∙ w))
     (omega (arith, length-set g.rows g.row (placed_each v g.col xs a)))
     h
 
 -- ---- one row after another
 
 printed_all-append : (xs ys : List ℕ) (g : GridView) (a : Attrs)
-    → printed_all g (xs ++ ys) a ≡ record { grid = (printed_all (printed_all g xs a).grid ys a).grid; sunk = (printed_all g xs a).sunk ++ (printed_all (printed_all g xs a).grid ys a).sunk }
+    → printed_all g (xs ++ ys) a ≡ record {
+      grid = (printed_all (printed_all g xs a).grid ys a).grid;
+      sunk = (printed_all g xs a).sunk ++ (printed_all (printed_all g xs a).grid ys a).sunk;
+    }
 printed_all-append [] ys g a = refl
 printed_all-append (x ∷ xs) ys g a =
     let d = printed g x a in
     let o = printed_all d.grid xs a in
     let t = printed_all o.grid ys a in
-    ap (λ (s : Scrolled). let u : Scrolled = record { grid = s.grid; sunk = d.sunk ++ s.sunk } in u) (printed_all-append xs ys d.grid a)
+    ap (λ (s : Scrolled). let u : Scrolled = record { grid = s.grid; sunk = d.sunk ++ s.sunk }
+    in u) (printed_all-append xs ys d.grid a)
     ∙ (λ i. record { grid = t.grid; sunk = sym (append_assoc d.sunk o.sunk t.sunk) i })
 
--- a grid g and a sink s on the way from g0 and s0: what is left prints what the whole text would
-pub record IsOnTheWay {S : Type 0} (takes : S → RowView → S → Type 0) (g0 : GridView) (s0 : S) (text : List ℕ) (a : Attrs) (g : GridView) (s : S) (rest : List ℕ) : Type 0 where
-  pub sunk : List RowView
-  pub taken : TakesAll takes s0 sunk s
-  pub grid : (printed_all g0 text a).grid ≡ (printed_all g rest a).grid
-  pub rows : (printed_all g0 text a).sunk ≡ sunk ++ (printed_all g rest a).sunk
+-- a grid g and a sink s on the way from g0 and s0: a front of the text has been printed
+pub record IsOnTheWay {S : Type 0} (takes : S → RowView → S
+    → Type 0) (g0 : GridView) (s0 : S) (text : List ℕ) (a : Attrs) (g : GridView) (s : S) (rest : List ℕ) : Type 0 where
+  pub front : List ℕ
+  pub parts : text ≡ front ++ rest
+  pub grid : g ≡ (printed_all g0 front a).grid
+  pub taken : TakesAll takes s0 (printed_all g0 front a).sunk s
 
-pub on-the-way-first : {S : Type 0} (takes : S → RowView → S → Type 0) (g : GridView) (s : S) (text : List ℕ) (a : Attrs) → IsOnTheWay takes g s text a g s text
-on-the-way-first takes g s text a = record { sunk = []; taken = refl; grid = refl; rows = refl }
+pub on-the-way-first : {S : Type 0} (takes : S → RowView → S
+    → Type 0) (g : GridView) (s : S) (text : List ℕ) (a : Attrs) → IsOnTheWay takes g s text a g s text
+on-the-way-first takes g s text a = record { front = []; parts = refl; grid = refl; taken = refl }
 
-pub on-the-way-next : {S : Type 0} (takes : S → RowView → S → Type 0) (g0 g h : GridView) (s0 s t : S) (text rest : List ℕ) (a : Attrs) (n : ℕ) → IsOnTheWay takes g0 s0 text a g s rest
-    → h ≡ (printed_all g (take n rest) a).grid → TakesAll takes s (printed_all g (take n rest) a).sunk t → IsOnTheWay takes g0 s0 text a h t (drop n rest)
-on-the-way-next takes g0 g h s0 s t text rest a n w e taken =
-    let now = printed_all g (take n rest) a in
-    let later = printed_all now.grid (drop n rest) a in
-    let whole : printed_all g rest a ≡ record { grid = later.grid; sunk = now.sunk ++ later.sunk } = ap (λ xs. printed_all g xs a) (sym (take-append-drop n rest)) ∙ printed_all-append (take n rest) (drop n rest) g a in
-    let same : printed_all now.grid (drop n rest) a ≡ printed_all h (drop n rest) a = ap (λ (y : GridView). printed_all y (drop n rest) a) (sym e) in
-    record {
-      sunk = w.sunk ++ now.sunk;
-      taken = TakesAll-append takes s0 s t w.sunk now.sunk w.taken taken;
-      grid = w.grid ∙ ap (λ (o : Scrolled). o.grid) whole ∙ ap (λ (o : Scrolled). o.grid) same;
-      rows = w.rows ∙ ap (λ (o : Scrolled). w.sunk ++ o.sunk) whole ∙ sym (append_assoc w.sunk now.sunk later.sunk) ∙ ap (λ (o : Scrolled). (w.sunk ++ now.sunk) ++ o.sunk) same;
-    }
+-- what has been taken once n more characters have been printed
+taken-next : {S : Type 0} (takes : S → RowView → S
+    → Type 0) (g0 g : GridView) (s0 s t : S) (front xs : List ℕ) (a : Attrs) → g ≡ (printed_all g0 front a).grid
+    → TakesAll takes s0 (printed_all g0 front a).sunk s → TakesAll takes s (printed_all g xs a).sunk t
+    → TakesAll takes s0 (printed_all g0 (front ++ xs) a).sunk t
+taken-next takes g0 g s0 s t front xs a e taken next =
+    let o = printed_all g0 front a in
+    subst (λ (p : Scrolled). TakesAll takes s0 p.sunk t) (sym (printed_all-append front xs g0 a))
+    (TakesAll-append takes s0 s t o.sunk (printed_all o.grid xs a).sunk taken
+    (subst (λ (y : GridView). TakesAll takes s (printed_all y xs a).sunk t) e next))
 
-nothing-left : (rest : List ℕ) → length rest ≡ 0 → rest ≡ []
-nothing-left [] e = refl
-nothing-left (x ∷ xs) e = absurd (omega arith)
+pub on-the-way-next : {S : Type 0} (takes : S → RowView → S
+    → Type 0) (g0 g h : GridView) (s0 s t : S) (text rest : List ℕ) (a : Attrs) (n : ℕ)
+    → IsOnTheWay takes g0 s0 text a g s rest
+    → h ≡ (printed_all g (take n rest) a).grid → TakesAll takes s (printed_all g (take n rest) a).sunk t
+    → IsOnTheWay takes g0 s0 text a h t (drop n rest)
+on-the-way-next takes g0 g h s0 s t text rest a n w e taken = record {
+  front = w.front ++ take n rest;
+  parts = w.parts ∙ ap (λ xs. w.front ++ xs) (sym (take-append-drop n rest))
+      ∙ sym (append_assoc w.front (take n rest) (drop n rest));
+  grid = e ∙ ap (λ (y : GridView). (printed_all y (take n rest) a).grid) w.grid
+      ∙ sym (ap (λ (p : Scrolled). p.grid) (printed_all-append w.front (take n rest) g0 a));
+  taken = taken-next takes g0 g s0 s t w.front (take n rest) a w.grid w.taken taken;
+}
 
-pub on-the-way-grid : {S : Type 0} (takes : S → RowView → S → Type 0) (g0 g : GridView) (s0 s : S) (text rest : List ℕ) (a : Attrs) → IsOnTheWay takes g0 s0 text a g s rest → length rest ≡ 0 → g ≡ (printed_all g0 text a).grid
-on-the-way-grid takes g0 g s0 s text rest a w e = sym (w.grid ∙ ap (λ xs. (printed_all g xs a).grid) (nothing-left rest e))
+-- what a sink has taken where the first character of what is left was refused
+pub on-the-way-refused : {S : Type 0} (takes : S → RowView → S
+    → Type 0) (g0 g : GridView) (s0 s t : S) (text rest : List ℕ) (a : Attrs) → IsOnTheWay takes g0 s0 text a g s rest
+    → TakesAll takes s (printed_all g (take 1 rest) a).sunk t → TakesFront takes s0 g0 text a t
+on-the-way-refused takes g0 g s0 s t text rest a w taken = (
+  w.front ++ take 1 rest,
+  drop 1 rest,
+  w.parts ∙ ap (λ xs. w.front ++ xs) (sym (take-append-drop 1 rest))
+      ∙ sym (append_assoc w.front (take 1 rest) (drop 1 rest)),
+  taken-next takes g0 g s0 s t w.front (take 1 rest) a w.grid w.taken taken,
+)
 
-pub on-the-way-sink : {S : Type 0} (takes : S → RowView → S → Type 0) (g0 g : GridView) (s0 s : S) (text rest : List ℕ) (a : Attrs) → IsOnTheWay takes g0 s0 text a g s rest → length rest ≡ 0 → TakesAll takes s0 (printed_all g0 text a).sunk s
+all-printed : (text front rest : List ℕ) → text ≡ front ++ rest → length rest ≡ 0 → text ≡ front
+all-printed text front [] e z = e ∙ append-nil front
+all-printed text front (x ∷ xs) e z = absurd (omega arith)
+
+pub on-the-way-grid : {S : Type 0} (takes : S → RowView → S
+    → Type 0) (g0 g : GridView) (s0 s : S) (text rest : List ℕ) (a : Attrs) → IsOnTheWay takes g0 s0 text a g s rest
+    → length rest ≡ 0 → g ≡ (printed_all g0 text a).grid
+on-the-way-grid takes g0 g s0 s text rest a w e =
+    w.grid ∙ ap (λ xs. (printed_all g0 xs a).grid) (sym (all-printed text w.front rest w.parts e))
+
+pub on-the-way-sink : {S : Type 0} (takes : S → RowView → S
+    → Type 0) (g0 g : GridView) (s0 s : S) (text rest : List ℕ) (a : Attrs) → IsOnTheWay takes g0 s0 text a g s rest
+    → length rest ≡ 0 → TakesAll takes s0 (printed_all g0 text a).sunk s
 on-the-way-sink takes g0 g s0 s text rest a w e =
-    subst (λ (vs : List RowView). TakesAll takes s0 vs s) (sym (w.rows ∙ ap (λ xs. w.sunk ++ (printed_all g xs a).sunk) (nothing-left rest e) ∙ append-nil w.sunk)) w.taken
+    subst (λ xs. TakesAll takes s0 (printed_all g0 xs a).sunk s) (sym (all-printed text w.front rest w.parts e)) w.taken
 
 -- ---- the code
 

@@ -1,5 +1,6 @@
 -- The rows that are shown, one after another.
-use Rattle.std.proofs.Common.{◌≡◌, ℕ, suc, ◌+◌, ◌<◌, ◌≤◌, [], ◌∷◌, length, drop, drop-cons, add-one, sym, ap, ◌∙◌, arith}
+use Rattle.std.proofs.Common.{◌≡◌, ℕ, suc, ◌+◌, ◌<◌, ◌≤◌, [], ◌∷◌, length, drop, drop-cons, add-one, sym, ap, ◌∙◌}
+use Rattle.std.proofs.Common.{arith}
 use Rattle.std.specs.Prelude.{Some, None}
 use Rattle.std.proofs.lemmas.Bool.Decides.{nat_tests}
 use Rattle.std.proofs.lemmas.List.{drop_all}
@@ -16,11 +17,14 @@ shown-none g n e = grind (arith, nat_tests)
 shown-value : (g : GridView) (n : ℕ) (v : RowView) → visible_row_at g n ≡ Some v → v ≡ visible_at g n
 shown-value g n v e = grind (arith, nat_tests)
 
-pub drop-visible : (g : GridView) (n : ℕ) (v : RowView) → visible_row_at g n ≡ Some v → drop n (visible g) ≡ v ∷ drop (n + 1) (visible g)
+pub drop-visible : (g : GridView) (n : ℕ) (v : RowView) → visible_row_at g n ≡ Some v
+    → drop n (visible g) ≡ v ∷ drop (n + 1) (visible g)
 drop-visible g n v e =
     let h = shown-some g n v e in
-    rw add-one (drop-cons (visible g) n (blank_row 0) (omega (arith, length-rows_by_position (length g.rows) (visible_at g)))
-    ∙ ap (λ x. x ∷ drop (suc n) (visible g)) (row_at-by_position (length g.rows) (visible_at g) n h ∙ sym (shown-value g n v e)))
+    rw add-one (drop-cons (visible g) n (blank_row 0)
+    (omega (arith, length-rows_by_position (length g.rows) (visible_at g)))
+    ∙ ap (λ x. x ∷ drop (suc n) (visible g)) (row_at-by_position (length g.rows) (visible_at g) n h
+    ∙ sym (shown-value g n v e)))
 
 pub drop-visible_past : (g : GridView) (n : ℕ) → visible_row_at g n ≡ None → drop n (visible g) ≡ []
 drop-visible_past g n e =

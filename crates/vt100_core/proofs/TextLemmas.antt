@@ -1,5 +1,6 @@
 -- Printing one character.
-use Rattle.std.proofs.Common.{◌≡◌, ℕ, ◌+◌, ◌-◌, ◌<◌, ◌≤◌, ◌==◌, Bool, true, false, cond, not, ◌&&◌, ◌||◌, List, [], length, min, refl, sym, ap, ◌∙◌, arith, nat_lt, nat_le, length-set}
+use Rattle.std.proofs.Common.{◌≡◌, ℕ, ◌+◌, ◌-◌, ◌<◌, ◌≤◌, ◌==◌, Bool, true, false, cond, not, ◌&&◌, ◌||◌, List, []}
+use Rattle.std.proofs.Common.{length, min, refl, sym, ap, ◌∙◌, arith, nat_lt, nat_le, length-set}
 use Rattle.std.specs.Prelude.{Some, None, unwrap_or}
 use Rattle.unicode_width.specs.Width.{char_width}
 use Rattle.std.specs.Char.{IsScalar}
@@ -12,7 +13,8 @@ use Rattle.vt100_rows.specs.declared.join.Join.TheVariants.{InPlace, Ignored, Wi
 use Rattle.vt100_cells.specs.Cell.{CellView, IsCell, cell_of, columns_of, is_undrawable, drawn_columns, has_text}
 use Rattle.vt100_cells.specs.Line.{span_of, put, put_unflags, wipe_unflags}
 use Rattle.vt100_cells.specs.Cells.{cell_at}
-use Rattle.vt100_rows.specs.Row.{RowView, blank_row, placed, wiped_row, with_wrap, joined_row, joined_cell, is_widening, join_row}
+use Rattle.vt100_rows.specs.Row.{RowView, blank_row, placed, wiped_row, with_wrap, joined_row, joined_cell, is_widening}
+use Rattle.vt100_rows.specs.Row.{join_row}
 use Rattle.vt100_rows.proofs.RowLemmas.{IsRow-placed}
 use Rattle.vt100_rows.proofs.JoinLemmas.{IsRow-join, length-join}
 use Rattle.vt100_cells.proofs.ListLemmas.{length-by_position}
@@ -20,8 +22,10 @@ use Rattle.vt100_core.specs.declared.printed.Printed.TheVariants.{Nothing, Joine
 use Rattle.vt100_sheet.specs.Sheet.{row_at, moved_up}
 use Rattle.vt100_core.specs.Grid.{GridView, IsGrid, IsAllocated, with_row, with_cursor_row, row_of_cursor, is_in_region}
 use Rattle.vt100_core.specs.Cursor.{moved_rows_down}
-use Rattle.vt100_core.specs.Scroll.{Scrolled, scrolled_up, up_count, rows_past_bottom, fed, left_row, wrapped_on, made_to_fit}
-use Rattle.vt100_core.specs.Text.{Drawn, put_at, spaced, carried, joined, is_dropped, printed}
+use Rattle.vt100_core.specs.Scroll.{Scrolled, scrolled_up, up_count, rows_past_bottom, fed, left_row, wrapped_on}
+use Rattle.vt100_core.specs.Scroll.{made_to_fit}
+use Rattle.vt100_core.specs.Text.{Drawn, put_at, spaced, carried, joined, printed}
+use Rattle.vt100_picture.specs.Apply.{is_dropped}
 use Rattle.vt100_sheet.proofs.SheetLemmas.{length-rows_by_position}
 use Rattle.vt100_core.proofs.EraseLemmas.{IsGrid-cursor_row, cursor_row_of}
 use Rattle.vt100_core.proofs.ScrollLemmas.{too-wide}
@@ -37,8 +41,14 @@ pub IsSized-fed : (g : GridView) (n : ℕ) → IsSized g (fed g n).grid
 unfolding fed scrolled_up
 IsSized-fed g n =
     let down = moved_rows_down g n in
-    cond_both (is_in_region g) (scrolled_up down (rows_past_bottom g n)) (record { grid = down; sunk = [] }) (λ (s : Scrolled). IsSized g s.grid)
-    (λ _. record { count = length-rows_by_position (length g.rows) (moved_up down.rows down.top (down.bottom + 1) (up_count down (rows_past_bottom g n)) down.width); width = refl; col = refl })
+    cond_both (is_in_region g) (scrolled_up down (rows_past_bottom g n)) (record { grid = down; sunk = [] })
+    (λ (s : Scrolled). IsSized g s.grid)
+    (λ _. record {
+      count = length-rows_by_position (length g.rows)
+          (moved_up down.rows down.top (down.bottom + 1) (up_count down (rows_past_bottom g n)) down.width);
+      width = refl;
+      col = refl;
+    })
     (λ _. record { count = refl; width = refl; col = refl })
 
 IsSized-row : (g h : GridView) (r : ℕ) (v : RowView) → IsSized g h → IsSized g (with_row h r v)
@@ -52,7 +62,8 @@ IsSized-wrapped g wrap =
     let s = IsSized-fed g0 1 in
     let w = with_row h (left_row g) (with_wrap (row_at h.rows (left_row g)) (wrap && ((left_row g + 1) == h.row))) in
     cond_both ((g.row == g.bottom) && (g.row == 0)) h w (λ (x : GridView). IsSized g0 x) (λ _. s)
-    (λ _. IsSized-row g0 h (left_row g) (with_wrap (row_at h.rows (left_row g)) (wrap && ((left_row g + 1) == h.row))) s)
+    (λ _. IsSized-row g0 h (left_row g) (with_wrap (row_at h.rows (left_row g)) (wrap && ((left_row g + 1) == h.row)))
+    s)
 
 fits-here : (m n : ℕ) → nat_le m n ≡ true → m ≤ n
 fits-here m n e = grind (arith, nat_tests)
@@ -62,10 +73,12 @@ pub record IsMade (g h : GridView) (columns : ℕ) : Type 0 where
   pub width : h.width ≡ g.width
   pub fits : h.col + columns ≤ h.width
 
-pub IsMade-made : (g : GridView) (columns : ℕ) (wrap : Bool) → columns ≤ g.width → IsMade g (made_to_fit g columns wrap).grid columns
+pub IsMade-made : (g : GridView) (columns : ℕ) (wrap : Bool) → columns ≤ g.width
+    → IsMade g (made_to_fit g columns wrap).grid columns
 IsMade-made g columns wrap h =
     let s = IsSized-wrapped g wrap in
-    cond_both (nat_le (g.col + columns) g.width) (record { grid = g; sunk = [] }) (wrapped_on g wrap) (λ (x : Scrolled). IsMade g x.grid columns)
+    cond_both (nat_le (g.col + columns) g.width) (record { grid = g; sunk = [] }) (wrapped_on g wrap)
+    (λ (x : Scrolled). IsMade g x.grid columns)
     (λ e. record { count = refl; width = refl; fits = fits-here (g.col + columns) g.width e })
     (λ _. record { count = s.count; width = s.width; fits = omega (arith, s.col, s.width) })
 
@@ -90,13 +103,17 @@ IsGrid-col g col i a h = record {
   fresh = λ z. absurd (omega arith);
 }
 
-pub IsGrid-put_at : (g : GridView) (x : CellView) (a : Attrs) (n : ℕ) → IsGrid g → IsAllocated g → IsCell x → has_text x ≡ true → n ≡ span_of x → g.col + n ≤ g.width → IsGrid (put_at g x a n)
+pub IsGrid-put_at : (g : GridView) (x : CellView) (a : Attrs) (n : ℕ) → IsGrid g → IsAllocated g → IsCell x
+    → has_text x ≡ true → n ≡ span_of x → g.col + n ≤ g.width → IsGrid (put_at g x a n)
 IsGrid-put_at g x a n i l cell text e h =
     let v = row_of_cursor g in
     let r = cursor_row_of g i l in
     IsGrid-col (with_cursor_row g (placed v g.col x a)) (g.col + n)
     (IsGrid-cursor_row g (placed v g.col x a) i l
-    (record { row = IsRow-placed v g.col x a r.row cell text (omega (arith, r.wide, e)); wide = length-by_position (length v.cells) (put (cell_at v.cells) g.col x a) ∙ r.wide })
+    (record {
+      row = IsRow-placed v g.col x a r.row cell text (omega (arith, r.wide, e));
+      wide = length-by_position (length v.cells) (put (cell_at v.cells) g.col x a) ∙ r.wide;
+    })
     (λ w. ap (λ b. b && not (put_unflags (length v.cells) (cell_at v.cells) g.col x)) w))
     (omega (arith, length-set g.rows g.row (placed v g.col x a)))
     h
@@ -116,18 +133,25 @@ joined-wrapped : (v : RowView) (col c : ℕ) (a : Attrs) → v.wrapped ≡ false
 joined-wrapped v col c a e =
     let p = placed v (col - 1) (joined_cell v col c) a in
     let w = wiped_row v (col - 1) col a in
-    cond_both (not (is_widening v col c)) (joined_row v col c) (cond (length v.cells == 1) v (cond (nat_lt col (length v.cells)) p w)) (λ (x : RowView). x.wrapped ≡ false) (λ _. e)
-    (λ _. cond_both (length v.cells == 1) v (cond (nat_lt col (length v.cells)) p w) (λ (x : RowView). x.wrapped ≡ false) (λ _. e)
+    cond_both (not (is_widening v col c)) (joined_row v col c)
+    (cond (length v.cells == 1) v (cond (nat_lt col (length v.cells)) p w)) (λ (x : RowView). x.wrapped ≡ false)
+    (λ _. e)
+    (λ _. cond_both (length v.cells == 1) v (cond (nat_lt col (length v.cells)) p w) (λ (x : RowView). x.wrapped
+    ≡ false) (λ _. e)
     (λ _. cond_both (nat_lt col (length v.cells)) p w (λ (x : RowView). x.wrapped ≡ false)
     (λ _. ap (λ b. b && not (put_unflags (length v.cells) (cell_at v.cells) (col - 1) (joined_cell v col c))) e)
     (λ _. ap (λ b. b && not (wipe_unflags (length v.cells) (cell_at v.cells) (col - 1) col)) e)))
 
-pub IsGrid-join : (g : GridView) (c : ℕ) (a : Attrs) → IsGrid g → IsAllocated g → IsScalar c → drawn_columns c ≡ Some 0 → 0 < g.col → IsGrid (with_cursor_row g (join_row (row_of_cursor g) g.col c a))
+pub IsGrid-join : (g : GridView) (c : ℕ) (a : Attrs) → IsGrid g → IsAllocated g → IsScalar c → drawn_columns c ≡ Some 0
+    → 0 < g.col → IsGrid (with_cursor_row g (join_row (row_of_cursor g) g.col c a))
 IsGrid-join g c a i l s z h =
     let v = row_of_cursor g in
     let r = cursor_row_of g i l in
     IsGrid-cursor_row g (join_row v g.col c a) i l
-    (record { row = IsRow-join v g.col c a r.row s z h (omega (arith, r.wide, i.cursor_col)); wide = length-join v g.col c a ∙ r.wide })
+    (record {
+      row = IsRow-join v g.col c a r.row s z h (omega (arith, r.wide, i.cursor_col));
+      wide = length-join v g.col c a ∙ r.wide;
+    })
     (joined-wrapped v g.col c a)
 
 -- what each answer says
@@ -141,19 +165,22 @@ answer-InPlace true true room x e = cc
 answer-InPlace true false true x e = cc
 answer-InPlace true false false x e = cc
 
-pub answer-Ignored : (wide one room : Bool) (x : CellView) → Ignored ≡ answer_by wide one room x → (wide ≡ true) × (one ≡ true)
+pub answer-Ignored : (wide one room : Bool) (x : CellView) → Ignored ≡ answer_by wide one room x → (wide ≡ true)
+    × (one ≡ true)
 answer-Ignored false one room x e = cc
 answer-Ignored true true room x e = (refl, refl)
 answer-Ignored true false true x e = cc
 answer-Ignored true false false x e = cc
 
-pub answer-Widened : (wide one room : Bool) (x : CellView) → Widened ≡ answer_by wide one room x → (wide ≡ true) × (one ≡ false) × (room ≡ true)
+pub answer-Widened : (wide one room : Bool) (x : CellView) → Widened ≡ answer_by wide one room x → (wide ≡ true)
+    × (one ≡ false) × (room ≡ true)
 answer-Widened false one room x e = cc
 answer-Widened true true room x e = cc
 answer-Widened true false true x e = (refl, refl, refl)
 answer-Widened true false false x e = cc
 
-pub answer-Carried : (wide one room : Bool) (x y : CellView) → Carried y ≡ answer_by wide one room x → (wide ≡ true) × (one ≡ false) × (room ≡ false) × (y ≡ x)
+pub answer-Carried : (wide one room : Bool) (x y : CellView) → Carried y ≡ answer_by wide one room x → (wide ≡ true)
+    × (one ≡ false) × (room ≡ false) × (y ≡ x)
 answer-Carried false one room x y e = cc
 answer-Carried true true room x y e = cc
 answer-Carried true false true x y e = cc
@@ -163,65 +190,105 @@ answer-Carried true false false x y e = (refl, refl, refl, cc)
 
 abbrev row_by : RowView → ℕ → ℕ → Attrs → Bool → Bool → Bool → RowView
 row_by v col c a wide one room =
-    cond (not wide) (joined_row v col c) (cond one v (cond room (placed v (col - 1) (joined_cell v col c) a) (wiped_row v (col - 1) col a)))
+    cond (not wide) (joined_row v col c) (cond one v
+    (cond room (placed v (col - 1) (joined_cell v col c) a) (wiped_row v (col - 1) col a)))
 
 abbrev drawn_by : GridView → ℕ → Attrs → Bool → Bool → Bool → Drawn
 drawn_by g c a wide one room =
     let v = row_of_cursor g in
     cond (not wide) (record { grid = with_cursor_row g (joined_row v g.col c); sunk = []; printed = Joined })
     (cond one (record { grid = g; sunk = []; printed = Nothing })
-    (cond room (record { grid = record (with_cursor_row g (placed v (g.col - 1) (joined_cell v g.col c) a)) { col = g.col + 1 }; sunk = []; printed = Joined })
+    (cond room (record {
+      grid = record (with_cursor_row g (placed v (g.col - 1) (joined_cell v g.col c) a)) {
+        col = g.col + 1;
+      };
+      sunk = [];
+      printed = Joined;
+    })
     (carried g c a)))
 
-by-is : {X : Type 0} (f : Bool → Bool → Bool → X) (p q r p' q' r' : Bool) → p ≡ p' → q ≡ q' → r ≡ r' → f p q r ≡ f p' q' r'
+by-is : {X : Type 0} (f : Bool → Bool → Bool → X) (p q r p' q' r' : Bool) → p ≡ p' → q ≡ q' → r ≡ r'
+    → f p q r ≡ f p' q' r'
 by-is f p q r p' q' r' a b c = ap (λ x. f x q r) a ∙ ap (λ x. f p' x r) b ∙ ap (λ x. f p' q' x) c
 
-module _ (g : GridView) (c : ℕ) (a : Attrs) (h : GridView) (width-is : length (row_of_cursor g).cells ≡ g.width) (after : h ≡ with_cursor_row g (join_row (row_of_cursor g) g.col c a)) where
-  pub in-place : is_widening (row_of_cursor g) g.col c ≡ false → (h ≡ (joined g c a).grid) × ((joined g c a).sunk ≡ []) × ((joined g c a).printed ≡ Joined)
+module _ (g : GridView) (c : ℕ) (a : Attrs) (h : GridView) (width-is : length (row_of_cursor g).cells ≡ g.width)
+    (after : h ≡ with_cursor_row g (join_row (row_of_cursor g) g.col c a)) where
+  pub in-place : is_widening (row_of_cursor g) g.col c ≡ false → (h ≡ (joined g c a).grid) × ((joined g c a).sunk ≡ [])
+      × ((joined g c a).printed ≡ Joined)
   in-place e =
       let v = row_of_cursor g in
-      let d = by-is (drawn_by g c a) (is_widening v g.col c) (g.width == 1) (nat_lt g.col g.width) false (g.width == 1) (nat_lt g.col g.width) e refl refl in
-      let row = by-is (row_by v g.col c a) (is_widening v g.col c) (length v.cells == 1) (nat_lt g.col (length v.cells)) false (length v.cells == 1) (nat_lt g.col (length v.cells)) e refl refl in
-      (after ∙ ap (λ (x : RowView). with_cursor_row g x) row ∙ sym (ap (λ (x : Drawn). x.grid) d), ap (λ (x : Drawn). x.sunk) d, ap (λ (x : Drawn). x.printed) d)
-
-  pub ignored : is_widening (row_of_cursor g) g.col c ≡ true → (length (row_of_cursor g).cells == 1) ≡ true → (h ≡ (joined g c a).grid) × ((joined g c a).sunk ≡ []) × ((joined g c a).printed ≡ Nothing)
-  ignored e one =
-      let v = row_of_cursor g in
-      let one' : (g.width == 1) ≡ true = ap (λ n. n == 1) (sym width-is) ∙ one in
-      let d = by-is (drawn_by g c a) (is_widening v g.col c) (g.width == 1) (nat_lt g.col g.width) true true (nat_lt g.col g.width) e one' refl in
-      let row = by-is (row_by v g.col c a) (is_widening v g.col c) (length v.cells == 1) (nat_lt g.col (length v.cells)) true true (nat_lt g.col (length v.cells)) e one refl in (
-        after ∙ ap (λ (x : RowView). with_cursor_row g x) row ∙ ap (λ (xs : List RowView). record g { rows = xs }) (set-get_or g.rows g.row (blank_row 0)) ∙ sym (ap (λ (x : Drawn). x.grid) d),
+      let d = by-is (drawn_by g c a) (is_widening v g.col c) (g.width == 1) (nat_lt g.col g.width) false (g.width == 1)
+      (nat_lt g.col g.width) e refl refl in
+      let row = by-is (row_by v g.col c a) (is_widening v g.col c) (length v.cells == 1)
+      (nat_lt g.col (length v.cells)) false (length v.cells == 1) (nat_lt g.col (length v.cells)) e refl refl in (
+        after ∙ ap (λ (x : RowView). with_cursor_row g x) row ∙ sym (ap (λ (x : Drawn). x.grid) d),
         ap (λ (x : Drawn). x.sunk) d,
         ap (λ (x : Drawn). x.printed) d,
       )
 
-  pub widens : is_widening (row_of_cursor g) g.col c ≡ true → (length (row_of_cursor g).cells == 1) ≡ false → nat_lt g.col (length (row_of_cursor g).cells) ≡ true
-      → (record h { col = g.col + 1 } ≡ (joined g c a).grid) × ((joined g c a).sunk ≡ []) × ((joined g c a).printed ≡ Joined)
+  pub ignored : is_widening (row_of_cursor g) g.col c ≡ true → (length (row_of_cursor g).cells == 1) ≡ true
+      → (h ≡ (joined g c a).grid) × ((joined g c a).sunk ≡ []) × ((joined g c a).printed ≡ Nothing)
+  ignored e one =
+      let v = row_of_cursor g in
+      let one' : (g.width == 1) ≡ true = ap (λ n. n == 1) (sym width-is) ∙ one in
+      let d = by-is (drawn_by g c a) (is_widening v g.col c) (g.width == 1) (nat_lt g.col g.width) true true
+      (nat_lt g.col g.width) e one' refl in
+      let row = by-is (row_by v g.col c a) (is_widening v g.col c) (length v.cells == 1)
+      (nat_lt g.col (length v.cells)) true true (nat_lt g.col (length v.cells)) e one refl in (
+        after ∙ ap (λ (x : RowView). with_cursor_row g x) row
+            ∙ ap (λ (xs : List RowView). record g { rows = xs }) (set-get_or g.rows g.row (blank_row 0))
+            ∙ sym (ap (λ (x : Drawn). x.grid) d),
+        ap (λ (x : Drawn). x.sunk) d,
+        ap (λ (x : Drawn). x.printed) d,
+      )
+
+  pub widens : is_widening (row_of_cursor g) g.col c ≡ true → (length (row_of_cursor g).cells == 1) ≡ false
+      → nat_lt g.col (length (row_of_cursor g).cells) ≡ true
+      → (record h { col = g.col + 1 } ≡ (joined g c a).grid) × ((joined g c a).sunk ≡ [])
+      × ((joined g c a).printed ≡ Joined)
   widens e one room =
       let v = row_of_cursor g in
-      let d = by-is (drawn_by g c a) (is_widening v g.col c) (g.width == 1) (nat_lt g.col g.width) true false true e (ap (λ n. n == 1) (sym width-is) ∙ one) (ap (λ n. nat_lt g.col n) (sym width-is) ∙ room) in
-      let row = by-is (row_by v g.col c a) (is_widening v g.col c) (length v.cells == 1) (nat_lt g.col (length v.cells)) true false true e one room in
-      (ap (λ (x : GridView). record x { col = g.col + 1 }) (after ∙ ap (λ (x : RowView). with_cursor_row g x) row) ∙ sym (ap (λ (x : Drawn). x.grid) d), ap (λ (x : Drawn). x.sunk) d, ap (λ (x : Drawn). x.printed) d)
+      let d = by-is (drawn_by g c a) (is_widening v g.col c) (g.width == 1) (nat_lt g.col g.width) true false true e
+      (ap (λ n. n == 1) (sym width-is) ∙ one) (ap (λ n. nat_lt g.col n) (sym width-is) ∙ room) in
+      let row = by-is (row_by v g.col c a) (is_widening v g.col c) (length v.cells == 1)
+      (nat_lt g.col (length v.cells)) true false true e one room in (
+        ap (λ (x : GridView). record x { col = g.col + 1 }) (after ∙ ap (λ (x : RowView). with_cursor_row g x) row)
+            ∙ sym (ap (λ (x : Drawn). x.grid) d),
+        ap (λ (x : Drawn). x.sunk) d,
+        ap (λ (x : Drawn). x.printed) d,
+      )
 
-  pub carries : is_widening (row_of_cursor g) g.col c ≡ true → (length (row_of_cursor g).cells == 1) ≡ false → nat_lt g.col (length (row_of_cursor g).cells) ≡ false
+  pub carries : is_widening (row_of_cursor g) g.col c ≡ true → (length (row_of_cursor g).cells == 1) ≡ false
+      → nat_lt g.col (length (row_of_cursor g).cells) ≡ false
       → (h ≡ with_cursor_row g (wiped_row (row_of_cursor g) (g.col - 1) g.col a)) × (joined g c a ≡ carried g c a)
   carries e one room =
       let v = row_of_cursor g in
-      let d = by-is (drawn_by g c a) (is_widening v g.col c) (g.width == 1) (nat_lt g.col g.width) true false false e (ap (λ n. n == 1) (sym width-is) ∙ one) (ap (λ n. nat_lt g.col n) (sym width-is) ∙ room) in
-      let row = by-is (row_by v g.col c a) (is_widening v g.col c) (length v.cells == 1) (nat_lt g.col (length v.cells)) true false false e one room in
+      let d = by-is (drawn_by g c a) (is_widening v g.col c) (g.width == 1) (nat_lt g.col g.width) true false false e
+      (ap (λ n. n == 1) (sym width-is) ∙ one) (ap (λ n. nat_lt g.col n) (sym width-is) ∙ room) in
+      let row = by-is (row_by v g.col c a) (is_widening v g.col c) (length v.cells == 1)
+      (nat_lt g.col (length v.cells)) true false false e one room in
       (after ∙ ap (λ (x : RowView). with_cursor_row g x) row, d)
 
 -- the cell goes on to the next row
-pub carried-is : (g h : GridView) (c : ℕ) (a : Attrs) (x : CellView) → g.width < g.col + 2 → h ≡ with_cursor_row g (wiped_row (row_of_cursor g) (g.col - 1) g.col a) → x ≡ record (joined_cell (row_of_cursor g) g.col c) { attrs = a }
-    → (put_at (made_to_fit h 2 false).grid x a 2 ≡ (carried g c a).grid) × ((made_to_fit h 2 false).sunk ≡ (carried g c a).sunk)
+pub carried-is : (g h : GridView) (c : ℕ) (a : Attrs) (x : CellView) → g.width < g.col + 2
+    → h ≡ with_cursor_row g (wiped_row (row_of_cursor g) (g.col - 1) g.col a)
+    → x ≡ record (joined_cell (row_of_cursor g) g.col c) { attrs = a }
+    → (put_at (made_to_fit h 2 false).grid x a 2 ≡ (carried g c a).grid)
+    × ((made_to_fit h 2 false).sunk ≡ (carried g c a).sunk)
 carried-is g h c a x wide eh ex =
     let w = with_cursor_row g (wiped_row (row_of_cursor g) (g.col - 1) g.col a) in
-    let made : made_to_fit h 2 false ≡ wrapped_on w false = ap (λ (y : GridView). made_to_fit y 2 false) eh ∙ ap (λ b. cond b (let s : Scrolled = record { grid = w; sunk = [] } in s) (wrapped_on w false)) (too-wide w 2 wide) in
-    (ap (λ (s : Scrolled). put_at s.grid x a 2) made ∙ ap (λ (y : CellView). put_at (wrapped_on w false).grid y a 2) ex, ap (λ (s : Scrolled). s.sunk) made)
+    let made : made_to_fit h 2 false ≡ wrapped_on w false =
+    ap (λ (y : GridView). made_to_fit y 2 false) eh
+    ∙ ap (λ b. cond b (let s : Scrolled = record { grid = w; sunk = [] } in s) (wrapped_on w false))
+    (too-wide w 2 wide) in (
+      ap (λ (s : Scrolled). put_at s.grid x a 2) made
+          ∙ ap (λ (y : CellView). put_at (wrapped_on w false).grid y a 2) ex,
+      ap (λ (s : Scrolled). s.sunk) made,
+    )
 
 -- ---- which are dropped
 
-pub shown-is : (b : Bool) (k n : ℕ) → Some n ≡ cond b None (Some k) → (b ≡ false) × (k ≡ n)
+shown-is : (b : Bool) (k n : ℕ) → Some n ≡ cond b None (Some k) → (b ≡ false) × (k ≡ n)
 shown-is true k n e = cc
 shown-is false k n e = (refl, cc)
 
@@ -229,7 +296,7 @@ pub hidden-is : (b : Bool) (k : ℕ) → None ≡ cond b None (Some k) → b ≡
 hidden-is true k e = refl
 hidden-is false k e = cc
 
-or-false : (p q : Bool) → (p || q) ≡ false → (p ≡ false) × (q ≡ false)
+pub or-false : (p q : Bool) → (p || q) ≡ false → (p ≡ false) × (q ≡ false)
 or-false true q e = cc
 or-false false q e = (refl, e)
 
@@ -239,20 +306,31 @@ fits-drawn width n e = grind (arith, nat_tests)
 after-first : (n col : ℕ) → ((n == 0) && (col == 0)) ≡ false → n ≡ 0 → 0 < col
 after-first n col e z = grind (arith, nat_tests)
 
+-- a character of n columns that is drawn
 pub record IsDrawn (g : GridView) (c n : ℕ) : Type 0 where
+  pub kept : is_dropped g.width g.col c ≡ false
+  pub columns : columns_of c ≡ n
   pub drawn : drawn_columns c ≡ Some n
   pub fits : n ≤ g.width
   pub after : n ≡ 0 → 0 < g.col
 
-pub IsDrawn-here : (g : GridView) (c n : ℕ) → is_dropped g c ≡ false → columns_of c ≡ n → IsDrawn g c n
+pub IsDrawn-here : (g : GridView) (c n : ℕ) → is_dropped g.width g.col c ≡ false → columns_of c ≡ n → IsDrawn g c n
 IsDrawn-here g c n e k =
     let u = or-false (is_undrawable c) (nat_lt g.width (columns_of c) || ((columns_of c == 0) && (g.col == 0))) e in
     let r = or-false (nat_lt g.width (columns_of c)) ((columns_of c == 0) && (g.col == 0)) u.1 in
     record {
+      kept = e;
+      columns = k;
       drawn = ap (λ b. cond b None (Some (columns_of c))) u.0 ∙ ap Some k;
       fits = omega (arith, fits-drawn g.width (columns_of c) r.0, k);
       after = λ z. after-first (columns_of c) g.col r.1 (k ∙ z);
     }
+
+pub IsDrawn-shown : (g : GridView) (c n : ℕ) → Some n ≡ cond (is_dropped g.width g.col c) None (Some (columns_of c))
+    → IsDrawn g c n
+IsDrawn-shown g c n shown =
+    let is = shown-is (is_dropped g.width g.col c) (columns_of c) n shown in
+    IsDrawn-here g c n is.0 is.1
 
 none-left : (n : ℕ) → n ≡ 0 → nat_lt 0 n ≡ false
 none-left n e = grind (arith, nat_tests)
@@ -260,27 +338,27 @@ none-left n e = grind (arith, nat_tests)
 some-left : (n : ℕ) → 0 < n → nat_lt 0 n ≡ true
 some-left n h = grind (arith, nat_tests)
 
-pub printed-dropped : (g : GridView) (c : ℕ) (a : Attrs) → is_dropped g c ≡ true → printed g c a ≡ record { grid = g; sunk = []; printed = Nothing }
+pub printed-dropped : (g : GridView) (c : ℕ) (a : Attrs) → is_dropped g.width g.col c ≡ true
+    → printed g c a ≡ record { grid = g; sunk = []; printed = Nothing }
 unfolding printed
-printed-dropped g c a e = ap (λ b. cond b (let d : Drawn = record { grid = g; sunk = []; printed = Nothing } in d) (cond (nat_lt 0 (columns_of c)) (spaced g c a) (joined g c a))) e
+printed-dropped g c a e = ap (λ b. cond b (let d : Drawn = record { grid = g; sunk = []; printed = Nothing }
+    in d) (cond (nat_lt 0 (columns_of c)) (spaced g c a) (joined g c a))) e
 
-pub printed-joined : (g : GridView) (c : ℕ) (a : Attrs) → is_dropped g c ≡ false → columns_of c ≡ 0 → printed g c a ≡ joined g c a
+pub printed-joined : (g : GridView) (c : ℕ) (a : Attrs) → is_dropped g.width g.col c ≡ false → columns_of c ≡ 0
+    → printed g c a ≡ joined g c a
 unfolding printed
 printed-joined g c a e k =
-    ap (λ b. cond b (let d : Drawn = record { grid = g; sunk = []; printed = Nothing } in d) (cond (nat_lt 0 (columns_of c)) (spaced g c a) (joined g c a))) e
+    ap (λ b. cond b (let d : Drawn = record { grid = g; sunk = []; printed = Nothing }
+    in d) (cond (nat_lt 0 (columns_of c)) (spaced g c a) (joined g c a))) e
     ∙ ap (λ b. cond b (spaced g c a) (joined g c a)) (none-left (columns_of c) k)
 
-pub printed-spaced : (g : GridView) (c : ℕ) (a : Attrs) → is_dropped g c ≡ false → 0 < columns_of c → printed g c a ≡ spaced g c a
+pub printed-spaced : (g : GridView) (c : ℕ) (a : Attrs) → is_dropped g.width g.col c ≡ false → 0 < columns_of c
+    → printed g c a ≡ spaced g c a
 unfolding printed
 printed-spaced g c a e h =
-    ap (λ b. cond b (let d : Drawn = record { grid = g; sunk = []; printed = Nothing } in d) (cond (nat_lt 0 (columns_of c)) (spaced g c a) (joined g c a))) e
+    ap (λ b. cond b (let d : Drawn = record { grid = g; sunk = []; printed = Nothing }
+    in d) (cond (nat_lt 0 (columns_of c)) (spaced g c a) (joined g c a))) e
     ∙ ap (λ b. cond b (spaced g c a) (joined g c a)) (some-left (columns_of c) h)
-
-pub below-true : (m n : ℕ) → nat_lt m n ≡ true → m < n
-below-true m n e = grind (arith, nat_tests)
-
-pub below-false : (m n : ℕ) → nat_lt m n ≡ false → n ≤ m
-below-false m n e = grind (arith, nat_tests)
 
 pub two-columns : (n : ℕ) → (n == 1) ≡ false → 0 < n → 2 ≤ n
 two-columns n e h = grind (arith, nat_tests)

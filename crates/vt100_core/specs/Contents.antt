@@ -1,5 +1,6 @@
 -- The text that a grid shows.
-use Rattle.std.specs.Prelude.{ℕ, zero, suc, ◌-◌, ◌==◌, Bool, ◌&&◌, nat_lt, List, [], ◌∷◌, ◌++◌, length, take, if◌then◌else◌}
+use Rattle.std.specs.Prelude.{ℕ, zero, suc, ◌-◌, ◌==◌, Bool, ◌&&◌, nat_lt, List, [], ◌∷◌, ◌++◌, length, take}
+use Rattle.std.specs.Prelude.{if◌then◌else◌}
 use Rattle.std.specs.List.{suffix_len}
 use Rattle.vt100_rows.specs.Text.{written_text}
 use Rattle.vt100_core.specs.Grid.{GridView, visible_at}
@@ -11,7 +12,8 @@ is_below_wrapped g r = nat_lt 0 r && (visible_at g (r - 1)).wrapped
 -- the text of the row that is shown at r, in the screen's columns, and a newline unless it goes on in the next. A row
 -- without text in which another goes on has a newline in the text's place.
 abbrev pub shown_line : GridView → ℕ → List ℕ
-shown_line g r = written_text (visible_at g r) 0 g.width (is_below_wrapped g r) ++ (if (visible_at g r).wrapped then [] else 10 ∷ [])
+shown_line g r = written_text (visible_at g r) 0 g.width (is_below_wrapped g r)
+    ++ (if (visible_at g r).wrapped then [] else 10 ∷ [])
 
 -- the first n of these
 abbrev pub shown_lines : GridView → ℕ → List ℕ

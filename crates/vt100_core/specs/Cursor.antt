@@ -2,7 +2,8 @@
 use Rattle.std.specs.Prelude.{ℕ, ◌+◌, ◌-◌, ◌*◌, ◌/◌, Bool, nat_lt, min, max, if◌then◌else◌}
 use Rattle.vt100_core.specs.Grid.{GridView, is_in_region}
 
--- a row counted from the region's top and kept in it in origin mode, else kept on the screen; a column kept on the screen
+-- a row counted from the region's top and kept in it in origin mode, else kept on the screen; a column kept on the
+-- screen
 abbrev pub cursor_at : GridView → ℕ → ℕ → GridView
 cursor_at g row col = record g {
   row = if g.origin then min (row + g.top) g.bottom else min row (g.height - 1);

@@ -1,5 +1,6 @@
 -- What a contract sees of a grid, and what is true of each.
-use Rattle.std.specs.Prelude.{ℕ, ◌+◌, ◌-◌, ◌^◌, ◌<◌, ◌≤◌, ◌≡◌, ◌==◌, Bool, true, false, ◌&&◌, nat_lt, nat_le, List, [], length, replicate, slice_set, slice_get, Option, Some, None, if◌then◌else◌}
+use Rattle.std.specs.Prelude.{ℕ, ◌+◌, ◌-◌, ◌^◌, ◌<◌, ◌≤◌, ◌≡◌, ◌==◌, Bool, true, false, ◌&&◌, nat_lt, nat_le, List, []}
+use Rattle.std.specs.Prelude.{length, replicate, slice_set, slice_get, Option, Some, None, if◌then◌else◌}
 use Rattle.vt100_cells.specs.Cell.{CellView}
 use Rattle.vt100_rows.specs.Row.{RowView, IsRow, blank_row}
 use Rattle.vt100_sheet.specs.Sheet.{row_at, rows_by_position, IsSheet}
@@ -63,7 +64,13 @@ new_grid height width scrollback = record {
   saved_origin = false;
   top = 0;
   bottom = height - 1;
-  kept = record { keeps = keeps_of scrollback; rows = []; capacity = capacity_of scrollback; offset = 0; scrolled_off = 0 };
+  kept = record {
+    keeps = keeps_of scrollback;
+    rows = [];
+    capacity = capacity_of scrollback;
+    offset = 0;
+    scrolled_off = 0;
+  };
 }
 
 -- ---- what is true of each
@@ -80,7 +87,8 @@ pub record IsKept (k : KeptPart) : Type 0 where
 -- a kept row that a screen of this size shows is at least as wide as it
 abbrev pub IsShownWide : KeptPart → ℕ → ℕ → Type 0
 IsShownWide k height width =
-    (j : ℕ) → length k.rows - k.offset ≤ j → j < length k.rows - k.offset + height → j < length k.rows → width ≤ length (row_at k.rows j).cells
+    (j : ℕ) → length k.rows - k.offset ≤ j → j < length k.rows - k.offset + height → j < length k.rows
+    → width ≤ length (row_at k.rows j).cells
 
 pub record IsGrid (g : GridView) : Type 0 where
   pub sheet : IsSheet g.height g.width g.rows
@@ -142,7 +150,8 @@ cleared g = record g {
 -- the row shown at r: the newest `offset` kept rows stand above the others
 abbrev pub visible_at : GridView → ℕ → RowView
 visible_at g r =
-    if nat_lt r g.kept.offset then row_at g.kept.rows (length g.kept.rows - g.kept.offset + r) else row_at g.rows (r - g.kept.offset)
+    if nat_lt r g.kept.offset then row_at g.kept.rows (length g.kept.rows - g.kept.offset + r)
+    else row_at g.rows (r - g.kept.offset)
 
 -- the rows that are shown, as many as are drawn on
 abbrev pub visible : GridView → List RowView

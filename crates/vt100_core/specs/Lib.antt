@@ -2,6 +2,7 @@ pub mod Grid
 pub mod Cursor
 pub mod GridFields
 pub mod Contents
+pub mod Basic
 pub mod Erase
 pub mod KeptFields
 pub mod Lines

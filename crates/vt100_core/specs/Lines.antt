@@ -15,7 +15,8 @@ lines_inserted g n = if nat_lt 0 n && is_in_region g then lines_opened g g.row n
 -- n lines go at the cursor's row, and blank ones follow at the region's end
 abbrev pub lines_deleted : GridView → ℕ → GridView
 lines_deleted g n =
-    if is_in_region g then with_rows g (moved_up g.rows g.row (g.bottom + 1) (min n (g.bottom + 1 - g.row)) g.width) else g
+    if is_in_region g then with_rows g (moved_up g.rows g.row (g.bottom + 1) (min n (g.bottom + 1 - g.row)) g.width)
+    else g
 
 abbrev pub scrolled_down : GridView → ℕ → GridView
 scrolled_down g n = if nat_lt 0 n then lines_opened g g.top n else g

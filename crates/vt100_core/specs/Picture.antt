@@ -1,12 +1,17 @@
 -- A grid as a picture.
-use Rattle.std.specs.Prelude.{ℕ, ◌&&◌, Bool, nat_lt, if◌then◌else◌}
+use Rattle.std.specs.Prelude.{ℕ, ◌-◌, ◌≡◌, ◌==◌, ◌&&◌, Bool, false, nat_lt, List, All, Contains, if◌then◌else◌}
+use Rattle.std.specs.Char.{IsScalar}
 use Rattle.vt100_forms.specs.declared.attrs.Attrs.{Attrs}
 use Rattle.vt100_forms.specs.declared.modes.CursorStyle.{CursorStyle}
-use Rattle.vt100_cells.specs.Cell.{CellView, default_cell}
+use Rattle.vt100_forms.specs.Form.{Text}
+use Rattle.vt100_cells.specs.Cell.{CellView, default_cell, columns_of}
 use Rattle.vt100_cells.specs.Cells.{cell_at}
+use Rattle.vt100_rows.specs.Row.{is_widening}
 use Rattle.vt100_picture.specs.Term.{Size, Modes, Term}
+use Rattle.vt100_picture.specs.Apply.{input, apply}
 use Rattle.vt100_sheet.specs.Picture.{lines_of, wraps_of}
-use Rattle.vt100_core.specs.Grid.{GridView, visible_at}
+use Rattle.vt100_core.specs.Grid.{GridView, IsGrid, IsAllocated, row_of_cursor, visible_at}
+use Rattle.vt100_core.specs.Text.{printed, printed_all}
 
 abbrev pub size_of : GridView → Size
 size_of g = record { rows = g.height; cols = g.width }
@@ -41,3 +46,24 @@ term_of g x = record {
   saved_col = g.saved_col;
   saved_attrs = x.saved_attrs;
 }
+
+-- a grid with its rows, of which all are the scroll region
+pub record IsPlain (g : GridView) : Type 0 where
+  pub grid : IsGrid g
+  pub some : IsAllocated g
+  pub top : g.top ≡ 0
+  pub bottom : g.bottom ≡ g.height - 1
+
+-- whether c, as U+FE0F, joins the cell left of the cursor and makes it wide
+abbrev pub widens : GridView → ℕ → Bool
+widens g c = (columns_of c == 0) && (nat_lt 0 g.col && is_widening (row_of_cursor g) g.col c)
+
+-- a character that is printed on a grid is input to the terminal that shows its rows
+abbrev pub EachPrintIsInput : Type 0
+EachPrintIsInput = (g : GridView) (x : Extras) (c : ℕ) → IsPlain g → widens g c ≡ false
+    → term_of (printed g c x.attrs).grid x ≡ input (size_of g) c (term_of g x)
+
+-- and so is a text without U+FE0F
+abbrev pub EachTextIsInput : Type 0
+EachTextIsInput = (g : GridView) (x : Extras) (cs : List ℕ) → IsPlain g → All IsScalar cs → (Contains cs 0xFE0F → ⊥)
+    → term_of (printed_all g cs x.attrs).grid x ≡ apply (size_of g) (Text cs) (term_of g x)

@@ -1,5 +1,6 @@
 -- Another size of the screen, in steps, each by positions.
-use Rattle.std.specs.Prelude.{◌≡◌, ℕ, ◌+◌, ◌-◌, ◌<◌, ◌==◌, ◌&&◌, nat_lt, min, List, [], ◌++◌, length, take, drop, map, replicate, if◌then◌else◌}
+use Rattle.std.specs.Prelude.{◌≡◌, ℕ, ◌+◌, ◌-◌, ◌<◌, ◌==◌, ◌&&◌, nat_lt, min, List, [], ◌++◌, length, take, drop, map}
+use Rattle.std.specs.Prelude.{replicate, if◌then◌else◌}
 use Rattle.vt100_cells.specs.Cell.{default_cell}
 use Rattle.vt100_rows.specs.Row.{RowView, blank_row, resized_row, unwrapped}
 use Rattle.vt100_sheet.specs.Sheet.{row_at, rows_by_position, first_rows}
@@ -48,16 +49,20 @@ abbrev pub lengthened : GridView → ℕ → GridView
 lengthened g height =
     let down = down_rows g height in
     record g {
-      rows = if length g.rows == 0 then [] else rows_back g down ++ g.rows ++ replicate (height - g.height - down) (blank_row g.width);
+      rows = if length g.rows == 0 then [] else rows_back g down ++ g.rows
+          ++ replicate (height - g.height - down) (blank_row g.width);
       height = height;
       row = g.row + down;
       saved_row = g.saved_row + down;
       bottom = height - 1;
-      kept = record (g.kept) { rows = take (length g.kept.rows - down) g.kept.rows; scrolled_off = g.kept.scrolled_off - down };
+      kept = record (g.kept) {
+        rows = take (length g.kept.rows - down) g.kept.rows;
+        scrolled_off = g.kept.scrolled_off - down;
+      };
     }
 
--- of a lower screen the rows under the cursor go first, and then rows scroll off at the top; to a higher one as many rows
--- come back as scrolled off. The same size changes nothing.
+-- of a lower screen the rows under the cursor go first, and then rows scroll off at the top; to a higher one as many
+-- rows come back as scrolled off. The same size changes nothing.
 unfoldable pub resized : GridView → ℕ → ℕ → Scrolled
 resized g height width =
     let up = up_rows g height in
@@ -68,8 +73,8 @@ resized g height width =
 
 -- ---- where each row stands then
 
--- the row that comes to stand at r on a screen of this height: one that comes back, where it was kept, one that stood on
--- the screen, or a blank one
+-- the row that comes to stand at r on a screen of this height: one that comes back, where it was kept, one that stood
+-- on the screen, or a blank one
 abbrev pub row_coming_to : GridView → ℕ → ℕ → ℕ → RowView
 row_coming_to g height width r =
     let kept = length g.kept.rows in
@@ -86,7 +91,8 @@ resized_row_at g height width r =
     let v = row_coming_to g height width r in
     resized_row (if (r + 1) == height then unwrapped v else v) width default_cell
 
--- the rows that are kept then, the oldest first: those that scrolled off are among them, and those that came back aren't
+-- the rows that are kept then, the oldest first: those that scrolled off are among them, and those that came back
+-- aren't
 abbrev pub kept_rows_left : GridView → ℕ → List RowView
 kept_rows_left g height =
     let rows = (kept_after g.kept (take (up_rows g height) g.rows)).rows in

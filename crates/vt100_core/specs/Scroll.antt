@@ -1,6 +1,7 @@
 -- Scrolling up, and the rows that leave the screen. A row that leaves for good is given to a sink; a result says which
 -- rows, in their order.
-use Rattle.std.specs.Prelude.{ℕ, ◌+◌, ◌-◌, ◌^◌, ◌==◌, Bool, not, ◌&&◌, nat_le, min, List, [], ◌++◌, length, take, drop, map, if◌then◌else◌}
+use Rattle.std.specs.Prelude.{ℕ, ◌+◌, ◌-◌, ◌^◌, ◌==◌, Bool, not, ◌&&◌, nat_le, min, List, [], ◌++◌, length, take, drop}
+use Rattle.std.specs.Prelude.{map, if◌then◌else◌}
 use Rattle.vt100_cells.specs.Cell.{default_cell}
 use Rattle.vt100_rows.specs.Row.{RowView, grown, trimmed, with_wrap}
 use Rattle.vt100_sheet.specs.Sheet.{row_at, rows_by_position, moved_up, changed_between}
@@ -18,7 +19,8 @@ pub record Scrolled : Type 0 where
 abbrev pub widened : KeptPart → ℕ → ℕ → KeptPart
 widened k height width = record k {
   rows = rows_by_position (length k.rows)
-      (changed_between (λ v. grown v width default_cell) k.rows (length k.rows - k.offset) (length k.rows - k.offset + height));
+      (changed_between (λ v. grown v width default_cell) k.rows (length k.rows - k.offset)
+      (length k.rows - k.offset + height));
 }
 
 -- how many kept rows go where n more rows come
@@ -29,7 +31,8 @@ overflow k n = (length k.rows + min n k.capacity) - k.capacity
 -- allows. Those that are newly kept lose the default cells at their end. What is shown stays, unless it is gone.
 abbrev pub kept_after : KeptPart → List RowView → KeptPart
 kept_after k left =
-    let rows = drop (overflow k (length left)) k.rows ++ map trimmed (drop (length left - min (length left) k.capacity) left) in
+    let rows = drop (overflow k (length left)) k.rows
+    ++ map trimmed (drop (length left - min (length left) k.capacity) left) in
     record k {
       rows = rows;
       offset = if k.offset == 0 then 0 else min (k.offset + length left) (length rows);
@@ -74,15 +77,16 @@ rows_past_bottom g n = if is_in_region g then min (g.row + n) 65535 - g.bottom e
 
 -- n rows down, where the region scrolls up by those that are left at its last row
 unfoldable pub fed : GridView → ℕ → Scrolled
-fed g n = if is_in_region g then scrolled_up (moved_rows_down g n) (rows_past_bottom g n) else record { grid = moved_rows_down g n; sunk = [] }
+fed g n = if is_in_region g then scrolled_up (moved_rows_down g n) (rows_past_bottom g n)
+    else record { grid = moved_rows_down g n; sunk = [] }
 
 -- where the row that the cursor leaves stands after a line feed
 abbrev pub left_row : GridView → ℕ
 left_row g = if g.row == g.bottom then g.row - 1 else g.row
 
 -- the cursor goes to the first column of the next row. The row that it left is wrapped if `wrap` is set, it shows
--- something in its last column, and it now stands directly above; else it isn't wrapped any more. On a screen of one row
--- that row is gone.
+-- something in its last column, and it now stands directly above; else it isn't wrapped any more. On a screen of one
+-- row that row is gone.
 unfoldable pub wrapped_on : GridView → Bool → Scrolled
 wrapped_on g wrap =
     let h = (fed (record g { col = 0 }) 1).grid in
@@ -95,7 +99,8 @@ wrapped_on g wrap =
 
 -- the same where fewer columns are left than these
 abbrev pub made_to_fit : GridView → ℕ → Bool → Scrolled
-made_to_fit g columns wrap = if nat_le (g.col + columns) g.width then record { grid = g; sunk = [] } else wrapped_on g wrap
+made_to_fit g columns wrap = if nat_le (g.col + columns) g.width then record { grid = g; sunk = [] }
+    else wrapped_on g wrap
 
 -- ---- what is kept, by itself
 
@@ -103,4 +108,7 @@ abbrev pub scrollback_erased : GridView → GridView
 scrollback_erased g = record g { kept = record (g.kept) { rows = []; offset = 0; scrolled_off = 0 } }
 
 abbrev pub scrollback_shown : GridView → ℕ → GridView
-scrollback_shown g n = record g { kept = widened (record (g.kept) { offset = min n (length g.kept.rows) }) g.height g.width }
+scrollback_shown g n = record g {
+  kept = widened (record (g.kept) { offset = min n (length g.kept.rows) }) g.height
+      g.width;
+}

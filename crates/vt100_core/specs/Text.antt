@@ -1,8 +1,11 @@
 -- Printing one character on a grid.
-use Rattle.std.specs.Prelude.{ℕ, ◌+◌, ◌-◌, ◌==◌, Bool, true, false, not, ◌&&◌, ◌||◌, nat_lt, List, [], ◌∷◌, ◌++◌, if◌then◌else◌}
+use Rattle.std.specs.Prelude.{ℕ, ◌+◌, ◌-◌, ◌==◌, true, false, not, nat_lt, List, [], ◌∷◌, ◌++◌}
+use Rattle.std.specs.Prelude.{◌≡◌, if◌then◌else◌}
 use Rattle.vt100_forms.specs.declared.attrs.Attrs.{Attrs}
-use Rattle.vt100_cells.specs.Cell.{CellView, columns_of, is_undrawable, cell_of}
+use Rattle.vt100_cells.specs.Cell.{CellView, columns_of, cell_of}
 use Rattle.vt100_rows.specs.Row.{RowView, placed, wiped_row, joined_cell, joined_row, is_widening}
+use Rattle.vt100_picture.specs.Apply.{is_dropped}
+use Rattle.vt100_sheet.specs.Sink.{TakesAll}
 use Rattle.vt100_core.specs.Grid.{GridView, with_cursor_row, row_of_cursor}
 use Rattle.vt100_core.specs.Scroll.{Scrolled, made_to_fit, wrapped_on}
 use Rattle.vt100_core.specs.declared.printed.Printed.{Printed}
@@ -13,10 +16,6 @@ pub record Drawn : Type 0 where
   pub grid : GridView
   pub sunk : List RowView
   pub printed : Printed
-
--- control characters, what is wider than the screen, and zero-width characters with no cell to their left
-abbrev pub is_dropped : GridView → ℕ → Bool
-is_dropped g c = is_undrawable c || (nat_lt g.width (columns_of c) || ((columns_of c == 0) && (g.col == 0)))
 
 -- the cell at the cursor, and the cursor n columns on
 abbrev pub put_at : GridView → CellView → Attrs → ℕ → GridView
@@ -32,21 +31,35 @@ spaced g c a =
 abbrev pub carried : GridView → ℕ → Attrs → Drawn
 carried g c a =
     let s = wrapped_on (with_cursor_row g (wiped_row (row_of_cursor g) (g.col - 1) g.col a)) false in
-    record { grid = put_at s.grid (record (joined_cell (row_of_cursor g) g.col c) { attrs = a }) a 2; sunk = s.sunk; printed = Joined }
+    record {
+      grid = put_at s.grid (record (joined_cell (row_of_cursor g) g.col c) { attrs = a }) a 2;
+      sunk = s.sunk;
+      printed = Joined;
+    }
 
 -- a zero-width character joins the cell to the cursor's left
 abbrev pub joined : GridView → ℕ → Attrs → Drawn
 joined g c a =
     let v = row_of_cursor g in
-    if not (is_widening v g.col c) then record { grid = with_cursor_row g (joined_row v g.col c); sunk = []; printed = Joined }
+    if not (is_widening v g.col c) then record {
+      grid = with_cursor_row g (joined_row v g.col c);
+      sunk = [];
+      printed = Joined;
+    }
     else if g.width == 1 then record { grid = g; sunk = []; printed = Nothing }
     else if nat_lt g.col g.width
-    then record { grid = record (with_cursor_row g (placed v (g.col - 1) (joined_cell v g.col c) a)) { col = g.col + 1 }; sunk = []; printed = Joined }
+    then record {
+      grid = record (with_cursor_row g (placed v (g.col - 1) (joined_cell v g.col c) a)) {
+        col = g.col + 1;
+      };
+      sunk = [];
+      printed = Joined;
+    }
     else carried g c a
 
 unfoldable pub printed : GridView → ℕ → Attrs → Drawn
 printed g c a =
-    if is_dropped g c then record { grid = g; sunk = []; printed = Nothing }
+    if is_dropped g.width g.col c then record { grid = g; sunk = []; printed = Nothing }
     else if nat_lt 0 (columns_of c) then spaced g c a
     else joined g c a
 
@@ -57,3 +70,8 @@ printed_all g (c ∷ cs) a =
     let first = printed g c a in
     let others = printed_all first.grid cs a in
     record { grid = others.grid; sunk = first.sunk ++ others.sunk }
+
+-- the sink s has been given the rows that leave while a front of the text is printed, and is t
+abbrev pub TakesFront : {S : Type 0} → (S → RowView → S → Type 0) → S → GridView → List ℕ → Attrs → S → Type 0
+TakesFront takes s g text a t =
+    (front : List ℕ) × (rest : List ℕ) × (text ≡ front ++ rest) × TakesAll takes s (printed_all g front a).sunk t

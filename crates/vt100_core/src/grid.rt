@@ -1,6 +1,8 @@
 //! A grid of rows with a cursor.
-ghost use Rattle.std.specs.Prelude.{◌≡◌, ℕ, ◌+◌, ◌-◌, ◌<◌, ◌≤◌, ◌==◌, List, [], length, true, false, IsOk, OnOk, OnErr, IfOk};
+ghost use Rattle.std.specs.Prelude.{◌≡◌, ℕ, ◌+◌, ◌-◌, ◌<◌, ◌≤◌, ◌==◌, List, [], length, true, false, IsOk, OnOk, OnErr};
+ghost use Rattle.std.specs.Prelude.{IfOk};
 
+mod basic;
 mod contents;
 mod cursor;
 mod erase;
@@ -49,7 +51,8 @@ impl Model for Grid {
 
 impl Grid {
     ghost use Rattle.vt100_core.specs.Grid.{GridView, new_grid, allocated, cleared, is_in_region, IsAllocated};
-    ghost use Rattle.vt100_core.specs.Cursor.{cursor_at, with_origin, cursor_saved, cursor_restored, with_region, moved_rows_down, moved_rows_up, tab_stop};
+    ghost use Rattle.vt100_core.specs.Cursor.{cursor_at, with_origin, cursor_saved, cursor_restored, with_region};
+    ghost use Rattle.vt100_core.specs.Cursor.{moved_rows_down, moved_rows_up, tab_stop};
 
     /// A grid with no rows yet: `allocate_rows` makes them.
     pub fn new(alloc: Global, size: Size, scrollback: Scrollback) -> Self
@@ -89,6 +92,7 @@ impl Grid {
     /// Makes the rows, if the grid has none yet. Where there isn't memory for them nothing is changed.
     pub fn allocate_rows(&mut self) -> Result<(), GridError>
         ensures allocated { OnOk result (self.new ≡ allocated self.old) }
+        ensures some { OnOk result (IsAllocated self.new) }
         ensures refused { OnErr result (self.new ≡ self.old) }
         ensures enough { IsAllocated self.old → IsOk result }
     {

@@ -38,8 +38,8 @@ impl ScrollbackState {
     ghost use Rattle.vt100_core.specs.Scroll.{kept_after, pushed_out, widened};
     ghost use Rattle.vt100_sheet.specs.Sheet.{moved_up};
 
-    /// Takes the first `n` rows in, and leaves blank rows in their place. What this pushes out goes to the sink. None of
-    /// the kept rows is shown then.
+    /// Takes the first `n` rows in, and leaves blank rows in their place. What this pushes out goes to the sink. None
+    /// of the kept rows is shown then.
     pub(crate) fn push_off<S: RowSink>(
         &mut self,
         rows: &mut [Row],
@@ -51,8 +51,10 @@ impl ScrollbackState {
         requires valid { IsKept (kept_of self.old) }
         requires in_rows { n ≤ length rows.old }
         requires sheet { IsSheet (length rows.old) width rows.old }
-        ensures kept { OnOk result (kept_of self.new ≡ record (kept_after (kept_of self.old) (take n rows.old)) { offset = 0 }) }
-        ensures rows { OnOk result (rows.new ≡ rows_by_position (length rows.old) (changed_between (λ v. blank_row width) rows.old 0 n)) }
+        ensures kept { OnOk result (kept_of self.new
+            ≡ record (kept_after (kept_of self.old) (take n rows.old)) { offset = 0 }) }
+        ensures rows { OnOk result (rows.new ≡ rows_by_position (length rows.old)
+            (changed_between (λ v. blank_row width) rows.old 0 n)) }
 
         // Also where memory ran out, which it does only where rows are kept.
         ensures sink { TakesAll S.takes sink.old (pushed_out (kept_of self.old) (take n rows.old)) sink.new }
@@ -77,9 +79,11 @@ impl ScrollbackState {
     pub(crate) fn show(&mut self, offset: usize, height: u16, width: u16) -> Result<(), GridError>
         requires valid { IsKept (kept_of self.old) }
         requires some { offset ≤ length self.old.rows.items }
-        ensures kept { OnOk result (kept_of self.new ≡ widened (record (kept_of self.old) { offset = offset }) height width) }
+        ensures kept { OnOk result (kept_of self.new
+            ≡ widened (record (kept_of self.old) { offset = offset }) height width) }
 
-        // Also where memory ran out, which it does only where a row that is to be shown is narrower: then none is shown.
+        // Also where memory ran out, which it does only where a row that is to be shown is narrower: then none is
+        // shown.
         ensures valid { IsKept (kept_of self.new) }
         ensures hidden { OnErr result (self.new.offset ≡ 0) }
         ensures same { SameKeeping (kept_of self.old) (kept_of self.new) }
@@ -112,7 +116,8 @@ impl ScrollbackState {
         requires in_part { n ≤ end }
         requires in_rows { end ≤ length rows.old }
         requires sheet { IsSheet (length rows.old) width rows.old }
-        ensures kept { OnOk result (kept_of self.new ≡ widened (kept_after (kept_of self.old) (take n rows.old)) height width) }
+        ensures kept { OnOk result (kept_of self.new
+            ≡ widened (kept_after (kept_of self.old) (take n rows.old)) height width) }
         ensures rows { OnOk result (rows.new ≡ rows_by_position (length rows.old) (moved_up rows.old 0 end n width)) }
 
         // Also where memory ran out, which it does only where rows are kept: then no kept row is shown.

@@ -28,9 +28,10 @@ pub record ScreenView : Type 0 where
   pub state : State
   pub failed : Bool
 
--- callbacks c and the screen v that they are lent have gone through these calls, in order and each once, and are d and w;
--- `step` says what one call does
-abbrev pub Calls : {C : Type 0} → (C → ScreenView → Call → C → ScreenView → Type 0) → C → ScreenView → List Call → C → ScreenView → Type 0
+-- callbacks c and the screen v that they are lent have gone through these calls, in order and each once, and are d and
+-- w; `step` says what one call does
+abbrev pub Calls : {C : Type 0} → (C → ScreenView → Call → C → ScreenView → Type 0) → C → ScreenView → List Call → C
+    → ScreenView → Type 0
 Calls step c v [] d w = (c ≡ d) × (v ≡ w)
 Calls {C} step c v (k ∷ ks) d w = (b : C) × (u : ScreenView) × step c v k b u × Calls step b u ks d w
 

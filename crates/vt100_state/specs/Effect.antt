@@ -1,5 +1,6 @@
 -- What each event of a byte stream does to a terminal.
-use Rattle.std.specs.Prelude.{ℕ, ◌-◌, ◌==◌, Bool, true, false, ◌&&◌, ◌||◌, List, [], ◌∷◌, Option, Some, None, nat_eq, if◌then◌else◌, replicate, unwrap_or}
+use Rattle.std.specs.Prelude.{ℕ, ◌-◌, ◌==◌, Bool, true, false, ◌&&◌, ◌||◌, List, [], ◌∷◌, Option, Some, None, nat_eq}
+use Rattle.std.specs.Prelude.{if◌then◌else◌, replicate, unwrap_or}
 use Rattle.std.specs.Int.{is_in_range}
 use Rattle.std.specs.List.{list_all}
 use Rattle.std.specs.Option.{option_map}
@@ -12,7 +13,12 @@ use Rattle.vt100_state.specs.Call as call
 use Rattle.vt100_state.specs.Call.{Call}
 use Rattle.vt100_state.specs.Sgr.{sgr_read}
 use Rattle.vt100_state.specs.PrivateModes.{modes_set, modes_reset}
-use Rattle.vt100_state.specs.Step.{Report, Stepped, Partly, quietly, typed, repeated, moved_left, moved_right, tabbed, at_column, at_row, at_place, moved_up, moved_down, line_above, line_below, line_fed, line_fed_back, in_region, saved, restored, erased_below, erased_above, erased_all, erased_kept, erased_right, erased_left, erased_row, cells_erased, cells_added, cells_taken, lines_added, lines_taken, region_up, region_down, with_keypad, with_style, made_anew}
+use Rattle.vt100_state.specs.Step.{Report, Stepped, Partly, quietly, typed, repeated, moved_left, moved_right, tabbed}
+use Rattle.vt100_state.specs.Step.{at_column, at_row, at_place, moved_up, moved_down, line_above, line_below, line_fed}
+use Rattle.vt100_state.specs.Step.{line_fed_back, in_region, saved, restored, erased_below, erased_above, erased_all}
+use Rattle.vt100_state.specs.Step.{erased_kept, erased_right, erased_left, erased_row, cells_erased, cells_added}
+use Rattle.vt100_state.specs.Step.{cells_taken, lines_added, lines_taken, region_up, region_down, with_keypad}
+use Rattle.vt100_state.specs.Step.{with_style, made_anew}
 
 -- the state after an event's own change, the rows that left on the way, and the calls that are made then
 pub record Effect : Type 0 where
@@ -46,15 +52,18 @@ print_effect c s = if is_unhandled c then calling (call.unhandled_char c ∷ [])
 abbrev pub control_rows : List (ℕ × (State → Effect))
 control_rows =
     (7, calling (call.audible_bell ∷ [])) ∷ (8, λ s. changes (moved_left 1 s)) ∷ (9, λ s. changes (tabbed s))
-    ∷ (10, λ s. steps (line_fed s)) ∷ (11, λ s. steps (line_fed s)) ∷ (12, λ s. steps (line_fed s)) ∷ (13, λ s. changes (at_column 0 s))
+    ∷ (10, λ s. steps (line_fed s)) ∷ (11, λ s. steps (line_fed s)) ∷ (12, λ s. steps (line_fed s))
+    ∷ (13, λ s. changes (at_column 0 s))
     ∷ (14, changes) ∷ (15, changes) ∷ []
 
 -- ---- escapes: 7 8 = > M c g
 
 abbrev pub escape_rows : List (ℕ × (State → Effect))
 escape_rows =
-    (0x37, λ s. changes (saved s)) ∷ (0x38, λ s. changes (restored s)) ∷ (0x3D, λ s. changes (with_keypad true s)) ∷ (0x3E, λ s. changes (with_keypad false s))
-    ∷ (0x4D, λ s. changes (line_fed_back s)) ∷ (0x63, λ s. changes (made_anew s)) ∷ (0x67, calling (call.visual_bell ∷ [])) ∷ []
+    (0x37, λ s. changes (saved s)) ∷ (0x38, λ s. changes (restored s)) ∷ (0x3D, λ s. changes (with_keypad true s))
+    ∷ (0x3E, λ s. changes (with_keypad false s))
+    ∷ (0x4D, λ s. changes (line_fed_back s)) ∷ (0x63, λ s. changes (made_anew s))
+    ∷ (0x67, calling (call.visual_bell ∷ [])) ∷ []
 
 abbrev pub first : List ℕ → Option ℕ
 first [] = None
@@ -95,14 +104,17 @@ csi_call ms gs b = call.unhandled_csi (first ms) (second ms) gs b
 
 -- ED, EL and DECSCUSR, by their number
 abbrev pub display_rows : List (ℕ × (State → Stepped))
-display_rows = (0, λ s. quietly (erased_below s)) ∷ (1, λ s. quietly (erased_above s)) ∷ (2, λ s. quietly (erased_all s)) ∷ (3, erased_kept) ∷ []
+display_rows = (0, λ s. quietly (erased_below s)) ∷ (1, λ s. quietly (erased_above s))
+    ∷ (2, λ s. quietly (erased_all s)) ∷ (3, erased_kept) ∷ []
 
 abbrev pub line_rows : List (ℕ × (State → Stepped))
-line_rows = (0, λ s. quietly (erased_right s)) ∷ (1, λ s. quietly (erased_left s)) ∷ (2, λ s. quietly (erased_row s)) ∷ []
+line_rows = (0, λ s. quietly (erased_right s)) ∷ (1, λ s. quietly (erased_left s)) ∷ (2, λ s. quietly (erased_row s))
+    ∷ []
 
 abbrev pub style_rows : List (ℕ × CursorStyle)
 style_rows =
-    (0, style.Default) ∷ (1, style.BlinkBlock) ∷ (2, style.SteadyBlock) ∷ (3, style.BlinkUnderline) ∷ (4, style.SteadyUnderline)
+    (0, style.Default) ∷ (1, style.BlinkBlock) ∷ (2, style.SteadyBlock) ∷ (3, style.BlinkUnderline)
+    ∷ (4, style.SteadyUnderline)
     ∷ (5, style.BlinkVerticalBar) ∷ (6, style.SteadyVerticalBar) ∷ []
 
 -- a row of a table, where there is one
@@ -135,31 +147,40 @@ partly x k = record { state = x.state; reports = x.reports; calls = replicate x.
 abbrev pub window_effect : List (List ℕ) → Call → State → Effect
 window_effect gs k s =
     if nat_eq (unwrap_or (given gs) 0) 8
-    then calling (call.resize (unwrap_or (given (later gs)) s.shown.height) (unwrap_or (given (later (later gs))) s.shown.width) ∷ []) s
+    then calling (call.resize (unwrap_or (given (later gs)) s.shown.height)
+    (unwrap_or (given (later (later gs))) s.shown.width) ∷ []) s
     else calling (k ∷ []) s
 
 -- finals that take a count or places: @ A B C D E F G H L M P S T X ` b d f r
 abbrev pub plain_rows : List (ℕ × (List (List ℕ) → State → Effect))
 plain_rows =
-    (0x40, λ gs s. changes (cells_added (count gs) s)) ∷ (0x41, λ gs s. changes (moved_up (count gs) s)) ∷ (0x42, λ gs s. changes (moved_down (count gs) s))
+    (0x40, λ gs s. changes (cells_added (count gs) s)) ∷ (0x41, λ gs s. changes (moved_up (count gs) s))
+    ∷ (0x42, λ gs s. changes (moved_down (count gs) s))
     ∷ (0x43, λ gs s. changes (moved_right (count gs) s)) ∷ (0x44, λ gs s. changes (moved_left (count gs) s))
     ∷ (0x45, λ gs s. changes (line_below (count gs) s)) ∷ (0x46, λ gs s. changes (line_above (count gs) s))
-    ∷ (0x47, λ gs s. changes (at_column (count gs - 1) s)) ∷ (0x60, λ gs s. changes (at_column (count gs - 1) s)) ∷ (0x64, λ gs s. changes (at_row (count gs - 1) s))
-    ∷ (0x48, λ gs s. changes (at_place (count gs - 1) (count (later gs) - 1) s)) ∷ (0x66, λ gs s. changes (at_place (count gs - 1) (count (later gs) - 1) s))
-    ∷ (0x4C, λ gs s. changes (lines_added (count gs) s)) ∷ (0x4D, λ gs s. changes (lines_taken (count gs) s)) ∷ (0x50, λ gs s. changes (cells_taken (count gs) s))
-    ∷ (0x53, λ gs s. steps (region_up (count gs) s)) ∷ (0x54, λ gs s. changes (region_down (count gs) s)) ∷ (0x58, λ gs s. changes (cells_erased (count gs) s))
-    ∷ (0x62, λ gs s. steps (repeated (count gs) s)) ∷ (0x72, λ gs s. changes (in_region (count gs - 1) (number_or s.shown.height (later gs) - 1) s)) ∷ []
+    ∷ (0x47, λ gs s. changes (at_column (count gs - 1) s)) ∷ (0x60, λ gs s. changes (at_column (count gs - 1) s))
+    ∷ (0x64, λ gs s. changes (at_row (count gs - 1) s))
+    ∷ (0x48, λ gs s. changes (at_place (count gs - 1) (count (later gs) - 1) s))
+    ∷ (0x66, λ gs s. changes (at_place (count gs - 1) (count (later gs) - 1) s))
+    ∷ (0x4C, λ gs s. changes (lines_added (count gs) s)) ∷ (0x4D, λ gs s. changes (lines_taken (count gs) s))
+    ∷ (0x50, λ gs s. changes (cells_taken (count gs) s))
+    ∷ (0x53, λ gs s. steps (region_up (count gs) s)) ∷ (0x54, λ gs s. changes (region_down (count gs) s))
+    ∷ (0x58, λ gs s. changes (cells_erased (count gs) s))
+    ∷ (0x62, λ gs s. steps (repeated (count gs) s))
+    ∷ (0x72, λ gs s. changes (in_region (count gs - 1) (number_or s.shown.height (later gs) - 1) s)) ∷ []
 
 -- J K m t, which can be unhandled by their numbers
 abbrev pub other_rows : List (ℕ × (List (List ℕ) → Call → State → Effect))
 other_rows =
-    (0x4A, λ gs k s. partly (display_erased (number_or 0 gs) s) k) ∷ (0x4B, λ gs k s. partly (line_erased (number_or 0 gs) s) k)
+    (0x4A, λ gs k s. partly (display_erased (number_or 0 gs) s) k)
+    ∷ (0x4B, λ gs k s. partly (line_erased (number_or 0 gs) s) k)
     ∷ (0x6D, λ gs k s. partly (attributes_read gs s) k) ∷ (0x74, window_effect) ∷ []
 
 -- after `?`: J K h l
 abbrev pub private_rows : List (ℕ × (List (List ℕ) → Call → State → Effect))
 private_rows =
-    (0x4A, λ gs k s. partly (display_erased (number_or 0 gs) s) k) ∷ (0x4B, λ gs k s. partly (line_erased (number_or 0 gs) s) k)
+    (0x4A, λ gs k s. partly (display_erased (number_or 0 gs) s) k)
+    ∷ (0x4B, λ gs k s. partly (line_erased (number_or 0 gs) s) k)
     ∷ (0x68, λ gs k s. partly (modes_set gs s) k) ∷ (0x6C, λ gs k s. partly (modes_reset gs s) k) ∷ []
 
 abbrev pub row_effect : Option (List (List ℕ) → Call → State → Effect) → List (List ℕ) → Call → State → Effect
@@ -174,15 +195,18 @@ plain_effect (Some f) gs b s = f gs s
 abbrev pub csi_effect : List (List ℕ) → List ℕ → ℕ → State → Effect
 csi_effect gs [] b s = plain_effect (lookup b plain_rows) gs b s
 csi_effect gs (m ∷ ms) b s =
-    if nat_eq m 0x20 then (if nat_eq b 0x71 then partly (styled (number_or 0 gs) s) (csi_call (m ∷ ms) gs b) else calling (csi_call [] gs b ∷ []) s)
-    else (if nat_eq m 0x3F then row_effect (lookup b private_rows) gs (csi_call (m ∷ ms) gs b) s else calling (csi_call (m ∷ ms) gs b ∷ []) s)
+    if nat_eq m 0x20 then (if nat_eq b 0x71 then partly (styled (number_or 0 gs) s) (csi_call (m ∷ ms) gs b)
+    else calling (csi_call [] gs b ∷ []) s)
+    else (if nat_eq m 0x3F then row_effect (lookup b private_rows) gs (csi_call (m ∷ ms) gs b) s
+    else calling (csi_call (m ∷ ms) gs b ∷ []) s)
 
 -- ---- operating system commands
 
 -- 0, 1 and 2 with one more piece
 abbrev pub title_rows : List (ℕ × (List ℕ → List Call))
 title_rows =
-    (0x30, λ p. call.set_window_icon_name p ∷ call.set_window_title p ∷ []) ∷ (0x31, λ p. call.set_window_icon_name p ∷ [])
+    (0x30, λ p. call.set_window_icon_name p ∷ call.set_window_title p ∷ [])
+    ∷ (0x31, λ p. call.set_window_icon_name p ∷ [])
     ∷ (0x32, λ p. call.set_window_title p ∷ []) ∷ []
 
 -- c p q s, 0 to 7
@@ -192,7 +216,8 @@ is_selector b = (is_in_range 0x30 0x37 b || (nat_eq b 0x63 || nat_eq b 0x70)) ||
 -- letters, digits, + / =
 abbrev pub is_base64 : ℕ → Bool
 is_base64 b =
-    (is_in_range 0x41 0x5A b || (is_in_range 0x61 0x7A b || is_in_range 0x30 0x39 b)) || (nat_eq b 0x2B || (nat_eq b 0x2F || nat_eq b 0x3D))
+    (is_in_range 0x41 0x5A b || (is_in_range 0x61 0x7A b || is_in_range 0x30 0x39 b))
+    || (nat_eq b 0x2B || (nat_eq b 0x2F || nat_eq b 0x3D))
 
 abbrev pub is_question : List ℕ → Bool
 is_question (b ∷ []) = nat_eq b 0x3F

@@ -6,7 +6,8 @@ use Rattle.vt100_forms.specs.declared.modes.MouseProtocolEncoding.{MouseProtocol
 use Rattle.vt100_forms.specs.declared.modes.MouseProtocolEncoding.TheVariants as encoding
 use Rattle.vt100_state.specs.Lookup.{lookup}
 use Rattle.vt100_state.specs.State.{State}
-use Rattle.vt100_state.specs.Step.{Partly, with_modes, with_cursor_keys, with_paste, with_hidden, with_origin_mode, alternate_shown, main_shown, alternate_entered, alternate_left}
+use Rattle.vt100_state.specs.Step.{Partly, with_modes, with_cursor_keys, with_paste, with_hidden, with_origin_mode}
+use Rattle.vt100_state.specs.Step.{alternate_shown, main_shown, alternate_entered, alternate_left}
 
 abbrev pub is_mouse : MouseProtocolMode → MouseProtocolMode → Bool
 is_mouse mouse.None mouse.None = true
@@ -37,15 +38,20 @@ encoding_reset m s = if is_encoding s.modes.encoding m then encoding_set encodin
 
 abbrev pub set_rows : List (ℕ × (State → State))
 set_rows =
-    (1, with_cursor_keys true) ∷ (6, with_origin_mode true) ∷ (9, mouse_set mouse.Press) ∷ (25, with_hidden false) ∷ (47, alternate_shown)
+    (1, with_cursor_keys true) ∷ (6, with_origin_mode true) ∷ (9, mouse_set mouse.Press) ∷ (25, with_hidden false)
+    ∷ (47, alternate_shown)
     ∷ (1000, mouse_set mouse.PressRelease) ∷ (1002, mouse_set mouse.ButtonMotion) ∷ (1003, mouse_set mouse.AnyMotion)
-    ∷ (1005, encoding_set encoding.Utf8) ∷ (1006, encoding_set encoding.Sgr) ∷ (1049, alternate_entered) ∷ (2004, with_paste true) ∷ []
+    ∷ (1005, encoding_set encoding.Utf8) ∷ (1006, encoding_set encoding.Sgr) ∷ (1049, alternate_entered)
+    ∷ (2004, with_paste true) ∷ []
 
 abbrev pub reset_rows : List (ℕ × (State → State))
 reset_rows =
-    (1, with_cursor_keys false) ∷ (6, with_origin_mode false) ∷ (9, mouse_reset mouse.Press) ∷ (25, with_hidden true) ∷ (47, main_shown)
-    ∷ (1000, mouse_reset mouse.PressRelease) ∷ (1002, mouse_reset mouse.ButtonMotion) ∷ (1003, mouse_reset mouse.AnyMotion)
-    ∷ (1005, encoding_reset encoding.Utf8) ∷ (1006, encoding_reset encoding.Sgr) ∷ (1049, alternate_left) ∷ (2004, with_paste false) ∷ []
+    (1, with_cursor_keys false) ∷ (6, with_origin_mode false) ∷ (9, mouse_reset mouse.Press) ∷ (25, with_hidden true)
+    ∷ (47, main_shown)
+    ∷ (1000, mouse_reset mouse.PressRelease) ∷ (1002, mouse_reset mouse.ButtonMotion)
+    ∷ (1003, mouse_reset mouse.AnyMotion)
+    ∷ (1005, encoding_reset encoding.Utf8) ∷ (1006, encoding_reset encoding.Sgr) ∷ (1049, alternate_left)
+    ∷ (2004, with_paste false) ∷ []
 
 -- what stands in a table for a group; a group of more numbers than one is in no row
 abbrev pub row_of : List (ℕ × (State → State)) → List ℕ → Option (State → State)
@@ -58,7 +64,12 @@ row_state None s = s
 row_state (Some f) s = f s
 
 abbrev pub partly_on : Option (State → State) → Partly → Partly
-partly_on o x = record { state = row_state o x.state; reports = x.reports; unhandled = if is_some o then x.unhandled else x.unhandled + 1 }
+partly_on o x = record {
+  state = row_state o x.state;
+  reports = x.reports;
+  unhandled = if is_some o then x.unhandled
+      else x.unhandled + 1;
+}
 
 -- the groups in order
 abbrev pub modes_from : List (ℕ × (State → State)) → Partly → List (List ℕ) → Partly

@@ -1,7 +1,9 @@
 -- What the groups of an SGR sequence do to the drawing attributes (ECMA-48 8.3.117; colours by ITU-T T.416).
-use Rattle.std.specs.Prelude.{ℕ, ◌+◌, ◌-◌, ◌&&◌, Bool, true, false, List, [], ◌∷◌, Option, Some, None, nat_eq, nat_lt, if◌then◌else◌}
+use Rattle.std.specs.Prelude.{ℕ, ◌+◌, ◌-◌, ◌&&◌, Bool, true, false, List, [], ◌∷◌, Option, Some, None, nat_eq, nat_lt}
+use Rattle.std.specs.Prelude.{if◌then◌else◌}
 use Rattle.std.specs.Int.{is_in_range}
-use Rattle.vt100_forms.specs.Attrs.{default_attrs, with_bold, with_dim, with_normal_intensity, with_italic, with_underline, with_inverse}
+use Rattle.vt100_forms.specs.Attrs.{default_attrs, with_bold, with_dim, with_normal_intensity, with_italic}
+use Rattle.vt100_forms.specs.Attrs.{with_underline, with_inverse}
 use Rattle.vt100_forms.specs.declared.attrs.Attrs.{Attrs}
 use Rattle.vt100_forms.specs.declared.attrs.Color.{Color}
 use Rattle.vt100_forms.specs.declared.attrs.Color.TheVariants.{Default, Idx, Rgb}
@@ -16,7 +18,8 @@ coloured false x a = record a { bgcolor = x }
 
 abbrev pub flag_rows : List (ℕ × (Attrs → Attrs))
 flag_rows =
-    (0, λ a. default_attrs) ∷ (1, with_bold) ∷ (2, with_dim) ∷ (3, with_italic true) ∷ (4, with_underline true) ∷ (7, with_inverse true)
+    (0, λ a. default_attrs) ∷ (1, with_bold) ∷ (2, with_dim) ∷ (3, with_italic true) ∷ (4, with_underline true)
+    ∷ (7, with_inverse true)
     ∷ (22, with_normal_intensity) ∷ (23, with_italic false) ∷ (24, with_underline false) ∷ (27, with_inverse false)
     ∷ (39, coloured true Default) ∷ (49, coloured false Default) ∷ []
 
@@ -56,7 +59,8 @@ pub data Next : Type 0 where
 
 -- a colour where its values are below 256
 abbrev pub rgb_next : Bool → ℕ → ℕ → ℕ → Attrs → Next
-rgb_next t r g b a = if nat_lt r 256 && (nat_lt g 256 && nat_lt b 256) then goes_on nothing (coloured t (Rgb r g b) a) else ends
+rgb_next t r g b a = if nat_lt r 256 && (nat_lt g 256 && nat_lt b 256) then goes_on nothing (coloured t (Rgb r g b) a)
+    else ends
 
 abbrev pub index_next : Bool → ℕ → Attrs → Next
 index_next t i a = if nat_lt i 256 then goes_on nothing (coloured t (Idx i) a) else ends
@@ -85,7 +89,8 @@ first_next (n ∷ []) a = single_next (target_of n) n a
 first_next (n ∷ m ∷ ns) a = target_next (target_of n) (m ∷ ns) a
 
 abbrev pub kind_next : Bool → List ℕ → Attrs → Next
-kind_next t (n ∷ []) a = if nat_eq n 2 then goes_on (red t) a else (if nat_eq n 5 then goes_on (index t) a else ends_unhandled)
+kind_next t (n ∷ []) a = if nat_eq n 2 then goes_on (red t) a
+    else (if nat_eq n 5 then goes_on (index t) a else ends_unhandled)
 kind_next t ns a = ends_unhandled
 
 -- a value that stands alone and is below 256

@@ -61,8 +61,8 @@ pub record IsState (s : State) : Type 0 where
   pub attrs : IsProper s.attrs
   pub saved_attrs : IsProper s.saved_attrs
 
--- the main sheet is shown, with no kept row, one region and places counted from the screen's top: where a redraw is read
--- as it was meant
+-- the main sheet is shown, with no kept row, one region and places counted from the screen's top: where a redraw is
+-- read as it was meant
 abbrev pub is_plain : State → Bool
 is_plain s =
     not s.alternate && ((s.shown.kept.offset == 0) && ((s.shown.top == 0) && (((s.shown.bottom + 1) == s.shown.height)

@@ -1,10 +1,13 @@
 -- What each control does to a state, over the maps of its sheets.
-use Rattle.std.specs.Prelude.{ℕ, zero, suc, ◌+◌, ◌-◌, Bool, true, false, min, List, [], ◌++◌, map, Option, Some, None, if◌then◌else◌}
+use Rattle.std.specs.Prelude.{ℕ, zero, suc, ◌+◌, ◌-◌, Bool, true, false, min, List, [], ◌++◌, map, Option, Some, None}
+use Rattle.std.specs.Prelude.{if◌then◌else◌}
 use Rattle.vt100_forms.specs.declared.modes.CursorStyle.{CursorStyle}
 use Rattle.vt100_rows.specs.Row.{RowView}
 use Rattle.vt100_core.specs.Grid.{GridView, allocated, cleared}
-use Rattle.vt100_core.specs.Cursor.{cursor_at, with_origin, cursor_saved, cursor_restored, with_region, moved_rows_down, moved_rows_up, tab_stop}
-use Rattle.vt100_core.specs.Erase.{all_erased, all_erased_forward, all_erased_backward, row_erased, columns_erased, columns_to_cursor, cells_inserted, cells_deleted}
+use Rattle.vt100_core.specs.Cursor.{cursor_at, with_origin, cursor_saved, cursor_restored, with_region, moved_rows_down}
+use Rattle.vt100_core.specs.Cursor.{moved_rows_up, tab_stop}
+use Rattle.vt100_core.specs.Erase.{all_erased, all_erased_forward, all_erased_backward, row_erased, columns_erased}
+use Rattle.vt100_core.specs.Erase.{columns_to_cursor, cells_inserted, cells_deleted}
 use Rattle.vt100_core.specs.Lines.{lines_inserted, lines_deleted, scrolled_down, fed_up}
 use Rattle.vt100_core.specs.Scroll.{Scrolled, scrolled_up, fed, scrollback_erased, scrollback_shown}
 use Rattle.vt100_core.specs.Resize.{resized}
@@ -56,7 +59,10 @@ last_after Joined c last = last
 abbrev pub typed : ℕ → State → Stepped
 typed c s =
     let d = printed s.shown c s.attrs in
-    record { state = record s { shown = d.grid; last = last_after d.printed c s.last }; reports = reports_of s.alternate d.sunk }
+    record {
+      state = record s { shown = d.grid; last = last_after d.printed c s.last };
+      reports = reports_of s.alternate d.sunk;
+    }
 
 -- the same character n times
 abbrev pub typed_times : ℕ → ℕ → State → Stepped
@@ -142,7 +148,10 @@ erased_all s = with_shown s (all_erased s.shown s.attrs)
 
 -- ED 3: the kept rows go, and are reported
 abbrev pub erased_kept : State → Stepped
-erased_kept s = record { state = record s { shown = scrollback_erased s.shown }; reports = reports_of s.alternate s.shown.kept.rows }
+erased_kept s = record {
+  state = record s { shown = scrollback_erased s.shown };
+  reports = reports_of s.alternate s.shown.kept.rows;
+}
 
 -- EL 0, 1, 2
 abbrev pub erased_right : State → State

@@ -6,14 +6,16 @@ ghost use Rattle.vt100_core.specs.Contents.{shown_lines};
 ghost use Rattle.vt100_state.specs.Call as call;
 ghost use Rattle.vt100_state.specs.Made.{made, Fed, Resized};
 ghost use Rattle.vt100_state.specs.Step.{kept_shown, kept_dropped};
-ghost use Rattle.vt100_state.specs.Rows.{esc, shown_by, cell_shown, text_shown, calls_by, three_lines, red_word, cut_red, on_alternate};
+ghost use Rattle.vt100_state.specs.Rows.{esc, shown_by, cell_shown, text_shown, calls_by, three_lines, red_word};
+ghost use Rattle.vt100_state.specs.Rows.{cut_red, on_alternate};
 
 /// A style, a request for a size, and a private mode that is unknown.
 pub fn requests_are_told()
     ensures style { (shown_by 1 2 (esc (codes "[5 q"))).style ≡ style.BlinkVerticalBar }
     ensures size { calls_by 1 2 (esc (codes "[8;30;90t")) ≡ call.resize 30 90 ∷ [] }
     ensures unknown { calls_by 1 2 (esc (codes "[?7h")) ≡ call.unhandled_csi (Some 63) None ((7 ∷ []) ∷ []) 104 ∷ [] }
-    ensures pieces { calls_by 1 2 (esc (codes "]2;a;b") ++ 7 ∷ []) ≡ call.unhandled_osc (codes "2" ∷ codes "a" ∷ codes "b" ∷ []) ∷ [] }
+    ensures pieces { calls_by 1 2 (esc (codes "]2;a;b") ++ 7 ∷ [])
+        ≡ call.unhandled_osc (codes "2" ∷ codes "a" ∷ codes "b" ∷ []) ∷ [] }
 {}
 
 /// A red word.
@@ -24,8 +26,10 @@ pub fn red_is_drawn()
 /// One row is kept, shown, and dropped.
 pub fn row_is_kept()
     ensures kept { length (made 2 4 1 (Fed three_lines ∷ [])).shown.kept.rows ≡ 1 }
-    ensures shown { shown_lines (kept_shown 1 (made 2 4 1 (Fed three_lines ∷ []))).shown 2 ≡ codes "a" ++ 10 ∷ codes "b" ++ 10 ∷ [] }
-    ensures dropped { shown_lines (kept_dropped (kept_shown 1 (made 2 4 1 (Fed three_lines ∷ [])))).shown 2 ≡ codes "b" ++ 10 ∷ codes "c" ++ 10 ∷ [] }
+    ensures shown { shown_lines (kept_shown 1 (made 2 4 1 (Fed three_lines ∷ []))).shown 2 ≡ codes "a" ++ 10
+        ∷ codes "b" ++ 10 ∷ [] }
+    ensures dropped { shown_lines (kept_dropped (kept_shown 1 (made 2 4 1 (Fed three_lines ∷ [])))).shown 2 ≡ codes "b"
+        ++ 10 ∷ codes "c" ++ 10 ∷ [] }
 {}
 
 /// A sequence that a resize cuts acts after it.

@@ -46,7 +46,8 @@ fn appended<B: BufWrite>(alloc: Global, form: &B) -> Result<String, GridError> {
     Ok(text)
 }
 
-/// What a writer has taken after the first write and in how many calls, and what a second write answers that lacks room.
+/// What a writer has taken after the first write and in how many calls, and what a second write answers that lacks
+/// room.
 fn told<'a>(want: &'a str) -> (fmt::Result, usize, fmt::Result, &'a str) {
     if want.is_empty() {
         (Ok(()), 0, Ok(()), want)
@@ -577,7 +578,9 @@ fn prints_debug_texts(rt: HostRuntime) -> Result<(), Fail> {
     )?;
     assert_eq!(rt;
         text.as_str(),
-        "MoveTo { row: 1, col: 2 } MouseProtocolMode { mode: None, prev: None } ClearScreen Attrs { fgcolor: None, bgcolor: None, intensity: None, italic: Some(true), underline: None, inverse: None } out of memory Memory"
+        "MoveTo { row: 1, col: 2 } MouseProtocolMode { mode: None, prev: None } ClearScreen Attrs \
+         { fgcolor: None, bgcolor: None, intensity: None, italic: Some(true), underline: None, inverse: None } out \
+         of memory Memory"
     );
     Ok(())
 }

@@ -7,14 +7,17 @@ use crate::grid::Grid;
 use vt100_forms::GridError;
 
 impl Grid {
-    /// Appends the text of the rows that are shown, in the screen's columns: without the empty columns at a row's end, and
-    /// with a newline after each row that doesn't go on in the next. Then the newlines at the end of `contents` go, also
-    /// those that it had before.
+    /// Appends the text of the rows that are shown, in the screen's columns: without the empty columns at a row's end,
+    /// and with a newline after each row that doesn't go on in the next. Then the newlines at the end of `contents` go,
+    /// also those that it had before.
     ///
     /// On an error a part of the text may have been appended.
     pub fn write_contents(&self, contents: &mut String) -> Result<(), GridError>
-        ensures text { OnOk result (string_bytes contents.new ≡ newlines_cut (string_bytes contents.old ++ encode_utf8_all (shown_lines self.now (length self.now.rows)))) }
-        ensures begun { OnErr result (IsBegun (string_bytes contents.old) (encode_utf8_all (shown_lines self.now (length self.now.rows))) (string_bytes contents.new)) }
+        ensures text { OnOk result (string_bytes contents.new
+            ≡ newlines_cut (string_bytes contents.old
+            ++ encode_utf8_all (shown_lines self.now (length self.now.rows)))) }
+        ensures begun { OnErr result (IsBegun (string_bytes contents.old)
+            (encode_utf8_all (shown_lines self.now (length self.now.rows))) (string_bytes contents.new)) }
     {
         let mut wrapping = false;
         for row in self.visible_rows() {

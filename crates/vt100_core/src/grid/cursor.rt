@@ -6,7 +6,8 @@ use vt100_forms::Pos;
 
 impl Grid {
     ghost use Rattle.vt100_core.specs.Grid.{GridView, IsAllocated, is_in_region};
-    ghost use Rattle.vt100_core.specs.Cursor.{cursor_at, with_origin, cursor_saved, cursor_restored, with_region, moved_rows_down, moved_rows_up, tab_stop};
+    ghost use Rattle.vt100_core.specs.Cursor.{cursor_at, with_origin, cursor_saved, cursor_restored, with_region};
+    ghost use Rattle.vt100_core.specs.Cursor.{moved_rows_down, moved_rows_up, tab_stop};
 
     /// The cursor; its column is the number of columns where the next character wraps first.
     pub fn pos(&self) -> Pos
@@ -15,7 +16,8 @@ impl Grid {
         self.pos
     }
 
-    /// Moves the cursor to a place, which in origin mode is counted from the scroll region's top and kept in the region (CUP).
+    /// Moves the cursor to a place, which in origin mode is counted from the scroll region's top and kept in the region
+    /// (CUP).
     pub fn set_pos(&mut self, pos: Pos)
         requires { IsAllocated self.old }
         ensures grid { self.new ≡ cursor_at self.old pos.row pos.col }

@@ -7,7 +7,8 @@ use vt100_sheet::rows_edit::{clear_all, erase_backward, erase_forward};
 
 impl Grid {
     ghost use Rattle.vt100_core.specs.Grid.{GridView, IsAllocated};
-    ghost use Rattle.vt100_core.specs.Erase.{all_erased, all_erased_forward, all_erased_backward, row_erased, columns_erased, columns_to_cursor, cells_inserted, cells_deleted};
+    ghost use Rattle.vt100_core.specs.Erase.{all_erased, all_erased_forward, all_erased_backward, row_erased};
+    ghost use Rattle.vt100_core.specs.Erase.{columns_erased, columns_to_cursor, cells_inserted, cells_deleted};
 
     /// Empties every row, with these attributes (ED 2).
     pub fn erase_all(&mut self, attrs: Attrs)
@@ -89,7 +90,8 @@ impl Grid {
     /// Empties cells from the cursor on, with these attributes (ECH).
     pub fn erase_cells(&mut self, count: u16, attrs: Attrs)
         requires { IsAllocated self.old }
-        ensures grid { self.new ≡ columns_erased self.old self.old.col (min (self.old.col + count) self.old.width) attrs }
+        ensures grid { self.new ≡ columns_erased self.old self.old.col (min (self.old.col + count) self.old.width)
+            attrs }
         ensures allocated { IsAllocated self.new }
     {
         let end = self.pos.col.saturating_add(count).min(self.size.cols());

@@ -19,6 +19,8 @@ impl Grid {
         requires hidden { self.old.kept.offset ≡ 0 }
         ensures grid { OnOk result (self.new ≡ lengthened self.old rows.value) }
         ensures rows { OnErr result (self.new.rows ≡ self.old.rows) }
+        ensures height { OnErr result (self.new.height ≡ self.old.height) }
+        ensures width { self.new.width ≡ self.old.width }
         ensures keeping { SameKeeping self.old.kept self.new.kept }
     {
         let added = usize::from(rows.get() - self.size.rows());

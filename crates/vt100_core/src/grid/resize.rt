@@ -1,5 +1,5 @@
 //! Another size of the screen.
-ghost use Rattle.std.specs.Prelude.{◌≡◌, ℕ, ◌+◌, ◌-◌, ◌<◌, ◌≤◌, ◌==◌, length, IsOk, OnOk};
+ghost use Rattle.std.specs.Prelude.{◌≡◌, ℕ, ◌+◌, ◌-◌, ◌<◌, ◌≤◌, ◌==◌, length, IsOk, OnOk, OnErr, ◌⊎◌};
 ghost use Rattle.vt100_sheet.specs.Sink.{TakesAll};
 
 use crate::grid::Grid;
@@ -16,16 +16,18 @@ impl Grid {
     ///
     /// Of a lower screen the rows below the cursor go first, and the sink isn't given them; then rows scroll off at its
     /// top, as [`scroll_up`](Self::scroll_up) says. On a higher one as many rows come back at the top as have scrolled
-    /// off, at most those that are added, and blank where they weren't kept; blank ones follow at the bottom. The cursors
-    /// go with their rows, and stay on the screen. A row of another width isn't wrapped any more. The size that the screen
-    /// has already changes nothing.
+    /// off, at most those that are added, and blank where they weren't kept; blank ones follow at the bottom. The
+    /// cursors go with their rows, and stay on the screen. A row of another width isn't wrapped any more. The size that
+    /// the screen has already changes nothing.
     ///
-    /// After a refusal the grid is whole, it keeps as many rows at most, and the sink has been given the rows that leave for
-    /// good; its size and what it shows are open.
+    /// After a refusal the grid is whole, it keeps as many rows at most, and the sink has been given the rows that
+    /// leave for good; its height and its width are each the old or the new one, and what it shows is open.
     #[tactic(auto, unfolding(crate::specs::Resize::resized, crate::specs::Scroll::scrolled_up))]
     pub fn set_size<S: RowSink>(&mut self, size: Size, sink: &mut S) -> Result<(), GridError>
         ensures grid { OnOk result (self.new ≡ (resized self.old size.rows.value size.cols.value).grid) }
         ensures sink { TakesAll S.takes sink.old (resized self.old size.rows.value size.cols.value).sunk sink.new }
+        ensures height { OnErr result ((self.new.height ≡ self.old.height) ⊎ (self.new.height ≡ size.rows.value)) }
+        ensures width { OnErr result ((self.new.width ≡ self.old.width) ⊎ (self.new.width ≡ size.cols.value)) }
         ensures keeping { SameKeeping self.old.kept self.new.kept }
         ensures same { size.rows.value ≡ self.old.height → size.cols.value ≡ self.old.width → IsOk result }
         ensures allocated { IsAllocated self.old → IsAllocated self.new }
@@ -79,6 +81,8 @@ impl Grid {
         requires hidden { self.old.kept.offset ≡ 0 }
         ensures grid { OnOk result (self.new ≡ with_width self.old cols.value) }
         ensures count { length self.new.rows ≡ length self.old.rows }
+        ensures height { self.new.height ≡ self.old.height }
+        ensures width { OnErr result (self.new.width ≡ self.old.width) }
         ensures kept { self.new.kept ≡ self.old.kept }
     {
         resize_rows(&mut self.rows, self.size.cols(), cols.get())?;

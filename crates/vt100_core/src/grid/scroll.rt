@@ -1,5 +1,6 @@
 //! Scrolling up, and the rows that leave the screen.
-ghost use Rattle.std.specs.Prelude.{◌≡◌, ℕ, ◌+◌, ◌-◌, ◌<◌, ◌≤◌, ◌==◌, length, min, true, false, ◌&&◌, IsOk, OnOk, IfOk, if◌then◌else◌};
+ghost use Rattle.std.specs.Prelude.{◌≡◌, ℕ, ◌+◌, ◌-◌, ◌<◌, ◌≤◌, ◌==◌, length, min, true, false, ◌&&◌, IsOk, OnOk, IfOk};
+ghost use Rattle.std.specs.Prelude.{if◌then◌else◌};
 ghost use Rattle.vt100_sheet.specs.Sink.{TakesAll};
 
 use crate::grid::Grid;
@@ -12,14 +13,15 @@ impl Grid {
     ghost use Rattle.vt100_core.specs.Grid.{GridView, IsAllocated, IsShownWide, SameLimits, is_in_region, with_row};
     ghost use Rattle.vt100_sheet.specs.Sheet.{row_at};
     ghost use Rattle.vt100_rows.specs.Row.{with_wrap};
-    ghost use Rattle.vt100_core.specs.Scroll.{scrolled_up, fed, rows_past_bottom, made_to_fit, scrollback_erased, scrollback_shown};
+    ghost use Rattle.vt100_core.specs.Scroll.{scrolled_up, fed, rows_past_bottom, made_to_fit, scrollback_erased};
+    ghost use Rattle.vt100_core.specs.Scroll.{scrollback_shown};
 
     /// Moves the lines of the scroll region up; blank ones come in at its bottom (SU). Where the region begins at the
-    /// screen's first row, the rows that leave it are kept, as many as the capacity allows. The sink is given those that
-    /// leave for good: the oldest kept ones, and those that are never kept.
+    /// screen's first row, the rows that leave it are kept, as many as the capacity allows. The sink is given those
+    /// that leave for good: the oldest kept ones, and those that are never kept.
     ///
-    /// Only a grid that keeps rows can be refused. After a refusal the sink has been given these rows, the grid is whole,
-    /// and what it shows is open.
+    /// Only a grid that keeps rows can be refused. After a refusal the sink has been given these rows, the grid is
+    /// whole, and what it shows is open.
     #[tactic(auto, unfolding(crate::specs::Scroll::scrolled_up))]
     pub fn scroll_up<S: RowSink>(&mut self, count: u16, sink: &mut S) -> Result<(), GridError>
         requires { IsAllocated self.old }
@@ -66,8 +68,8 @@ impl Grid {
         self.scrollback.offset = 0;
     }
 
-    /// Shows the newest `rows` of the kept rows above the others, or all of them if there are fewer. Those that the screen
-    /// shows are made at least as wide as it.
+    /// Shows the newest `rows` of the kept rows above the others, or all of them if there are fewer. Those that the
+    /// screen shows are made at least as wide as it.
     ///
     /// Refused is only what makes a row wider. After a refusal the grid is whole, and what it shows is open.
     pub fn set_scrollback(&mut self, rows: usize) -> Result<(), GridError>
@@ -75,7 +77,8 @@ impl Grid {
         ensures grid { OnOk result (self.new ≡ scrollback_shown self.old rows) }
         ensures limits { SameLimits self.old self.new }
         ensures hidden { rows ≡ 0 → IsOk result }
-        ensures wide { IsShownWide (record (self.old.kept) { offset = min rows (length self.old.kept.rows) }) self.old.height self.old.width
+        ensures wide { IsShownWide (record (self.old.kept) { offset = min rows (length self.old.kept.rows) })
+            self.old.height self.old.width
             → IsOk result }
         ensures allocated { IsAllocated self.new }
     {
@@ -151,11 +154,12 @@ impl Grid {
         Ok(())
     }
 
-    /// Sets whether a row is wrapped: it is if `wrap` is set, it shows something in its last column and it stands directly
-    /// above the cursor.
+    /// Sets whether a row is wrapped: it is if `wrap` is set, it shows something in its last column and it stands
+    /// directly above the cursor.
     fn wrap_row(&mut self, row: u16, wrap: bool)
         requires { row < length self.old.rows }
-        ensures grid { self.new ≡ with_row self.old row (with_wrap (row_at self.old.rows row) (wrap && ((row + 1) == self.old.row))) }
+        ensures grid { self.new ≡ with_row self.old row
+            (with_wrap (row_at self.old.rows row) (wrap && ((row + 1) == self.old.row))) }
         ensures allocated { IsAllocated self.new }
     {
         let wraps = wrap && row + 1 == self.pos.row;

@@ -13,8 +13,8 @@ use vt100_sheet::rows_edit::at;
 impl Grid {
     ghost use Rattle.vt100_core.specs.Grid.{GridView, visible, visible_at, visible_row_at, drawing_row_at, cell_in};
 
-    /// The rows that are shown, from the top: as many kept ones as the scrollback's offset says, then drawn ones. A kept
-    /// row can be wider than the screen.
+    /// The rows that are shown, from the top: as many kept ones as the scrollback's offset says, then drawn ones. A
+    /// kept row can be wider than the screen.
     pub fn visible_rows(&self) -> VisibleRows<'_>
         ensures { result ≡ visible self.now }
     {

@@ -1,5 +1,6 @@
 //! Printing text.
-ghost use Rattle.std.specs.Prelude.{◌≡◌, ℕ, ◌+◌, ◌-◌, ◌<◌, ◌≤◌, ◌==◌, ◌&&◌, ◌||◌, nat_lt, true, false, Some, IsOk, OnOk, IfOk, if◌then◌else◌, All, length, take};
+ghost use Rattle.std.specs.Prelude.{◌≡◌, ℕ, ◌+◌, ◌-◌, ◌<◌, ◌≤◌, ◌==◌, ◌&&◌, ◌||◌, nat_lt, true, false, Some, IsOk};
+ghost use Rattle.std.specs.Prelude.{OnOk, OnErr, IfOk, if◌then◌else◌, All, length, take};
 ghost use Rattle.vt100_cells.specs.Cell.{IsCell, cell_of, columns_of, drawn_columns, has_text, IsPrintable};
 ghost use Rattle.vt100_cells.specs.Line.{span_of};
 ghost use Rattle.vt100_rows.specs.Row.{join_row, join_answer, placed_each};
@@ -14,19 +15,20 @@ use vt100_sheet::RowSink;
 
 impl Grid {
     ghost use Rattle.vt100_core.specs.Grid.{GridView, IsGrid, IsAllocated, SameLimits, row_of_cursor, with_cursor_row};
-    ghost use Rattle.vt100_core.specs.Text.{put_at, spaced, joined, is_dropped, printed};
+    ghost use Rattle.vt100_core.specs.Text.{put_at, spaced, joined, printed};
+    ghost use Rattle.vt100_picture.specs.Apply.{is_dropped};
     ghost use Rattle.vt100_core.specs.Scroll.{made_to_fit};
 
     /// Prints one character at the cursor, with these attributes.
     ///
-    /// A character takes as many columns as its Unicode width says (UAX #11), but at most two. Where too few are left it
-    /// goes to the next row, as [`col_wrap`](Self::col_wrap) says. What it covers in part is gone. One that takes no
-    /// column joins the cell to the cursor's left; U+FE0F, which asks for an emoji, can make that cell wide, and where it
-    /// then has no room it moves to the next row. Dropped are control characters, what is wider than the screen, and
+    /// A character takes as many columns as its Unicode width says (UAX #11), but at most two. Where too few are left
+    /// it goes to the next row, as [`col_wrap`](Self::col_wrap) says. What it covers in part is gone. One that takes no
+    /// column joins the cell to the cursor's left; U+FE0F, which asks for an emoji, can make that cell wide, and where
+    /// it then has no room it moves to the next row. Dropped are control characters, what is wider than the screen, and
     /// zero-width characters at the first column.
     ///
-    /// Only a grid that keeps rows can be refused. After a refusal the sink has been given the rows that leave for good,
-    /// the grid is whole, and what it shows is open.
+    /// Only a grid that keeps rows can be refused. After a refusal the sink has been given the rows that leave for
+    /// good, the grid is whole, and what it shows is open.
     #[inline]
     pub fn text<S: RowSink>(
         &mut self,
@@ -99,7 +101,7 @@ impl Grid {
     /// How many columns a character takes here, if it isn't dropped.
     #[inline]
     fn drawn_columns(&self, c: char) -> Option<u16>
-        ensures { result ≡ (if is_dropped self.now c then None else Some (columns_of c)) }
+        ensures { result ≡ (if is_dropped self.now.width self.now.col c then None else Some (columns_of c)) }
     {
         match columns(c) {
             None => None,
@@ -233,11 +235,12 @@ impl Grid {
 /// Printing a run of characters.
 impl Grid {
     ghost use Rattle.vt100_core.specs.Grid.{IsAllocated, SameLimits, row_of_cursor, with_cursor_row};
-    ghost use Rattle.vt100_core.specs.Text.{printed_all};
+    ghost use Rattle.vt100_core.specs.Text.{printed_all, TakesFront};
 
     /// Prints the characters of `text`, which are printable ASCII, as [`text`](Self::text) of each in turn does.
     ///
-    /// Only a grid that keeps rows can be refused. After a refusal the grid is whole, and what it shows is open.
+    /// Only a grid that keeps rows can be refused. After a refusal the sink has been given the rows that leave for good
+    /// while a front of the text is printed, the grid is whole, and what it shows is open.
     pub fn text_run<S: RowSink>(
         &mut self,
         text: &[u8],
@@ -248,6 +251,7 @@ impl Grid {
         requires printable { All IsPrintable text.now }
         ensures grid { OnOk result (self.new ≡ (printed_all self.old text.now attrs).grid) }
         ensures sink { OnOk result (TakesAll S.takes sink.old (printed_all self.old text.now attrs).sunk sink.new) }
+        ensures begun { OnErr result (TakesFront S.takes sink.old self.old text.now attrs sink.new) }
         ensures limits { SameLimits self.old self.new }
         ensures keeps_none { self.old.kept.capacity ≡ 0 → IsOk result }
         ensures allocated { IsAllocated self.new }
@@ -273,7 +277,10 @@ impl Grid {
         ensures some { IfOk result (λ n. 0 < n) }
         ensures within { IfOk result (λ n. n ≤ length text.now) }
         ensures grid { IfOk result (λ n. self.new ≡ (printed_all self.old (take n text.now) attrs).grid) }
-        ensures sink { IfOk result (λ n. TakesAll S.takes sink.old (printed_all self.old (take n text.now) attrs).sunk sink.new) }
+        ensures sink { IfOk result (λ n. TakesAll S.takes sink.old (printed_all self.old (take n text.now) attrs).sunk
+            sink.new) }
+        ensures begun { OnErr result (TakesAll S.takes sink.old (printed_all self.old (take 1 text.now) attrs).sunk
+            sink.new) }
         ensures limits { SameLimits self.old self.new }
         ensures keeps_none { self.old.kept.capacity ≡ 0 → IsOk result }
         ensures allocated { IsAllocated self.new }
@@ -291,7 +298,11 @@ impl Grid {
         requires allocated { IsAllocated self.old }
         requires printable { All IsPrintable text.now }
         requires fits { self.old.col + length text.now ≤ self.old.width }
-        ensures grid { self.new ≡ record (with_cursor_row self.old (placed_each (row_of_cursor self.old) self.old.col text.now attrs)) { col = self.old.col + length text.now } }
+        ensures grid { self.new ≡ record (with_cursor_row self.old
+            (placed_each (row_of_cursor self.old) self.old.col text.now attrs)) {
+              col =
+                  self.old.col + length text.now;
+            } }
         ensures allocated { IsAllocated self.new }
     {
         let col = self.pos.col;

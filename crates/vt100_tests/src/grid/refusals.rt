@@ -1,4 +1,5 @@
-//! Calls that find no memory. They are refused where the tests run with allocations that fail; else each succeeds at once.
+//! Calls that find no memory. They are refused where the tests run with allocations that fail; else each succeeds at
+//! once.
 ghost use Rattle.std.specs.Prelude.{IfOk, ◌<◌, length};
 ghost use Rattle.vt100_core.specs.Grid.{IsAllocated};
 

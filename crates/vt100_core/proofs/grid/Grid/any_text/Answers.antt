@@ -1,101 +1,101 @@
-use Rattle.std.proofs.Common.{arith, ap, sym, subst, refl, ◌∙◌, ◌≡◌, [], cond}
-use Rattle.std.specs.Prelude.{Some, None, OnOk, IfOk}
+use Rattle.std.proofs.Common.{arith, ap, sym, subst, refl, ◌∙◌, ◌≡◌, []}
+use Rattle.std.specs.Prelude.{Some, OnOk, IfOk}
 use Rattle.vt100_cells.specs.Cell.{columns_of}
 use Rattle.vt100_sheet.specs.Sink.{TakesAll}
-use Rattle.vt100_core.specs.Text.{Drawn, is_dropped, printed}
+use Rattle.vt100_core.specs.Text.{Drawn, printed}
+use Rattle.vt100_picture.specs.Apply.{is_dropped}
 use Rattle.vt100_sheet.proofs.SinkLemmas.{TakesAll-list}
-use Rattle.vt100_core.proofs.TextLemmas.{shown-is, hidden-is, IsDrawn-here, printed-dropped, printed-joined, printed-spaced}
+use Rattle.vt100_core.proofs.TextLemmas.{hidden-is, IsDrawn-shown, printed-dropped, printed-joined}
+use Rattle.vt100_core.proofs.TextLemmas.{printed-spaced}
 use Rattle.vt100_core.proofs.grid.Grid.any_text.Goals as goal
 
 pub join-requires-clause-zero_width : goal.join-requires-clause-zero_width
 join-requires-clause-zero_width g c =
     let s = c.args.self.now in
-    let e : Some c.in-Some.columns ≡ cond (is_dropped s c.args.c) None (Some (columns_of c.args.c)) = c.in-Some.ensures in
-    let d = shown-is (is_dropped s c.args.c) (columns_of c.args.c) c.in-Some.columns e in
-    (IsDrawn-here s c.args.c c.in-Some.columns d.0 d.1).drawn ∙ ap Some c.if-columns-eq0.true
+    let d = IsDrawn-shown s c.args.c c.in-Some.columns c.in-Some.ensures in
+    d.drawn ∙ ap Some c.if-columns-eq0.true
 
 pub join-requires-clause-after_some : goal.join-requires-clause-after_some
 join-requires-clause-after_some g c =
     let s = c.args.self.now in
-    let e : Some c.in-Some.columns ≡ cond (is_dropped s c.args.c) None (Some (columns_of c.args.c)) = c.in-Some.ensures in
-    let d = shown-is (is_dropped s c.args.c) (columns_of c.args.c) c.in-Some.columns e in
-    (IsDrawn-here s c.args.c c.in-Some.columns d.0 d.1).after c.if-columns-eq0.true
+    let d = IsDrawn-shown s c.args.c c.in-Some.columns c.in-Some.ensures in
+    d.after c.if-columns-eq0.true
 
 pub returns-then-columns-eq0-clause-grid : goal.returns-then-columns-eq0-clause-grid
 returns-then-columns-eq0-clause-grid g c =
     let s = c.args.self.now in
-    let e : Some c.in-Some.columns ≡ cond (is_dropped s c.args.c) None (Some (columns_of c.args.c)) = c.in-Some.ensures in
-    let d = shown-is (is_dropped s c.args.c) (columns_of c.args.c) c.in-Some.columns e in
-    subst (λ (x : Drawn). OnOk c.join.result (c.join.new.self ≡ x.grid)) (sym (printed-joined s c.args.c c.args.attrs d.0 (d.1 ∙ c.if-columns-eq0.true))) c.join.ensures.grid
+    let d = IsDrawn-shown s c.args.c c.in-Some.columns c.in-Some.ensures in
+    subst (λ (x : Drawn). OnOk c.join.result (c.join.new.self ≡ x.grid))
+    (sym (printed-joined s c.args.c c.args.attrs d.kept (d.columns ∙ c.if-columns-eq0.true))) c.join.ensures.grid
 
 pub returns-then-columns-eq0-clause-sink : goal.returns-then-columns-eq0-clause-sink
 returns-then-columns-eq0-clause-sink g c =
     let s = c.args.self.now in
-    let e : Some c.in-Some.columns ≡ cond (is_dropped s c.args.c) None (Some (columns_of c.args.c)) = c.in-Some.ensures in
-    let d = shown-is (is_dropped s c.args.c) (columns_of c.args.c) c.in-Some.columns e in
-    subst (λ (x : Drawn). TakesAll g.S.RowSink.takes c.args.sink.now x.sunk c.join.new.sink) (sym (printed-joined s c.args.c c.args.attrs d.0 (d.1 ∙ c.if-columns-eq0.true))) c.join.ensures.sink
+    let d = IsDrawn-shown s c.args.c c.in-Some.columns c.in-Some.ensures in
+    subst (λ (x : Drawn). TakesAll g.S.RowSink.takes c.args.sink.now x.sunk c.join.new.sink)
+    (sym (printed-joined s c.args.c c.args.attrs d.kept (d.columns ∙ c.if-columns-eq0.true))) c.join.ensures.sink
 
 pub returns-then-columns-eq0-clause-answer : goal.returns-then-columns-eq0-clause-answer
 returns-then-columns-eq0-clause-answer g c =
     let s = c.args.self.now in
-    let e : Some c.in-Some.columns ≡ cond (is_dropped s c.args.c) None (Some (columns_of c.args.c)) = c.in-Some.ensures in
-    let d = shown-is (is_dropped s c.args.c) (columns_of c.args.c) c.in-Some.columns e in
-    subst (λ (x : Drawn). IfOk c.join.result (λ p. p ≡ x.printed)) (sym (printed-joined s c.args.c c.args.attrs d.0 (d.1 ∙ c.if-columns-eq0.true))) c.join.ensures.answer
+    let d = IsDrawn-shown s c.args.c c.in-Some.columns c.in-Some.ensures in
+    subst (λ (x : Drawn). IfOk c.join.result (λ p. p ≡ x.printed))
+    (sym (printed-joined s c.args.c c.args.attrs d.kept (d.columns ∙ c.if-columns-eq0.true))) c.join.ensures.answer
 
 pub space-requires-clause-drawn : goal.space-requires-clause-drawn
 space-requires-clause-drawn g c =
     let s = c.args.self.now in
-    let e : Some c.in-Some.columns ≡ cond (is_dropped s c.args.c) None (Some (columns_of c.args.c)) = c.in-Some.ensures in
-    let d = shown-is (is_dropped s c.args.c) (columns_of c.args.c) c.in-Some.columns e in
-    (IsDrawn-here s c.args.c c.in-Some.columns d.0 d.1).drawn
+    let d = IsDrawn-shown s c.args.c c.in-Some.columns c.in-Some.ensures in
+    d.drawn
 
 pub space-requires-clause-fits : goal.space-requires-clause-fits
 space-requires-clause-fits g c =
     let s = c.args.self.now in
-    let e : Some c.in-Some.columns ≡ cond (is_dropped s c.args.c) None (Some (columns_of c.args.c)) = c.in-Some.ensures in
-    let d = shown-is (is_dropped s c.args.c) (columns_of c.args.c) c.in-Some.columns e in
-    (IsDrawn-here s c.args.c c.in-Some.columns d.0 d.1).fits
+    let d = IsDrawn-shown s c.args.c c.in-Some.columns c.in-Some.ensures in
+    d.fits
 
 pub returns-in-None-clause-grid : goal.returns-in-None-clause-grid
 returns-in-None-clause-grid g c =
     let s = c.args.self.now in
-    sym (ap (λ (x : Drawn). x.grid) (printed-dropped s c.args.c c.args.attrs (hidden-is (is_dropped s c.args.c) (columns_of c.args.c) c.in-None.ensures)))
+    sym (ap (λ (x : Drawn). x.grid) (printed-dropped s c.args.c c.args.attrs
+    (hidden-is (is_dropped s.width s.col c.args.c) (columns_of c.args.c) c.in-None.ensures)))
 
 pub returns-in-None-clause-sink : goal.returns-in-None-clause-sink
 returns-in-None-clause-sink g c =
     let s = c.args.self.now in
     TakesAll-list g.S.RowSink.takes c.args.sink.now c.args.sink.now [] ((printed s c.args.c c.args.attrs).sunk)
-    (sym (ap (λ (x : Drawn). x.sunk) (printed-dropped s c.args.c c.args.attrs (hidden-is (is_dropped s c.args.c) (columns_of c.args.c) c.in-None.ensures)))) refl
+    (sym (ap (λ (x : Drawn). x.sunk) (printed-dropped s c.args.c c.args.attrs
+    (hidden-is (is_dropped s.width s.col c.args.c) (columns_of c.args.c) c.in-None.ensures)))) refl
 
 pub returns-in-None-clause-answer : goal.returns-in-None-clause-answer
 returns-in-None-clause-answer g c =
     let s = c.args.self.now in
-    sym (ap (λ (x : Drawn). x.printed) (printed-dropped s c.args.c c.args.attrs (hidden-is (is_dropped s c.args.c) (columns_of c.args.c) c.in-None.ensures)))
+    sym (ap (λ (x : Drawn). x.printed) (printed-dropped s c.args.c c.args.attrs
+    (hidden-is (is_dropped s.width s.col c.args.c) (columns_of c.args.c) c.in-None.ensures)))
 
 pub returns-in_ok-space-in-Some-clause-grid : goal.returns-in_ok-space-in-Some-clause-grid
 returns-in_ok-space-in-Some-clause-grid g c =
     let s = c.args.self.now in
-    let e : Some c.in-Some.columns ≡ cond (is_dropped s c.args.c) None (Some (columns_of c.args.c)) = c.in-Some.ensures in
-    let d = shown-is (is_dropped s c.args.c) (columns_of c.args.c) c.in-Some.columns e in
-    c.in_ok-space-in-Some.ensures.grid ∙ sym (ap (λ (x : Drawn). x.grid) (printed-spaced s c.args.c c.args.attrs d.0 (omega (arith, d.1))))
+    let d = IsDrawn-shown s c.args.c c.in-Some.columns c.in-Some.ensures in
+    c.in_ok-space-in-Some.ensures.grid ∙ sym (ap (λ (x : Drawn). x.grid)
+    (printed-spaced s c.args.c c.args.attrs d.kept (omega (arith, d.columns))))
 
 pub returns-in_ok-space-in-Some-clause-sink : goal.returns-in_ok-space-in-Some-clause-sink
 returns-in_ok-space-in-Some-clause-sink g c =
     let s = c.args.self.now in
-    let e : Some c.in-Some.columns ≡ cond (is_dropped s c.args.c) None (Some (columns_of c.args.c)) = c.in-Some.ensures in
-    let d = shown-is (is_dropped s c.args.c) (columns_of c.args.c) c.in-Some.columns e in
-    subst (λ (x : Drawn). TakesAll g.S.RowSink.takes c.args.sink.now x.sunk c.space.new.sink) (sym (printed-spaced s c.args.c c.args.attrs d.0 (omega (arith, d.1)))) c.in_ok-space-in-Some.ensures.sink
+    let d = IsDrawn-shown s c.args.c c.in-Some.columns c.in-Some.ensures in
+    subst (λ (x : Drawn). TakesAll g.S.RowSink.takes c.args.sink.now x.sunk c.space.new.sink)
+    (sym (printed-spaced s c.args.c c.args.attrs d.kept (omega (arith, d.columns)))) c.in_ok-space-in-Some.ensures.sink
 
 pub returns-in_err-space-in-Some-clause-sink : goal.returns-in_err-space-in-Some-clause-sink
 returns-in_err-space-in-Some-clause-sink g c =
     let s = c.args.self.now in
-    let e : Some c.in-Some.columns ≡ cond (is_dropped s c.args.c) None (Some (columns_of c.args.c)) = c.in-Some.ensures in
-    let d = shown-is (is_dropped s c.args.c) (columns_of c.args.c) c.in-Some.columns e in
-    subst (λ (x : Drawn). TakesAll g.S.RowSink.takes c.args.sink.now x.sunk c.space.new.sink) (sym (printed-spaced s c.args.c c.args.attrs d.0 (omega (arith, d.1)))) c.in_err-space-in-Some.ensures.sink
+    let d = IsDrawn-shown s c.args.c c.in-Some.columns c.in-Some.ensures in
+    subst (λ (x : Drawn). TakesAll g.S.RowSink.takes c.args.sink.now x.sunk c.space.new.sink)
+    (sym (printed-spaced s c.args.c c.args.attrs d.kept (omega (arith, d.columns)))) c.in_err-space-in-Some.ensures.sink
 
 pub returns-in_ok-space-in-Some-clause-answer : goal.returns-in_ok-space-in-Some-clause-answer
 returns-in_ok-space-in-Some-clause-answer g c =
     let s = c.args.self.now in
-    let e : Some c.in-Some.columns ≡ cond (is_dropped s c.args.c) None (Some (columns_of c.args.c)) = c.in-Some.ensures in
-    let d = shown-is (is_dropped s c.args.c) (columns_of c.args.c) c.in-Some.columns e in
-    sym (ap (λ (x : Drawn). x.printed) (printed-spaced s c.args.c c.args.attrs d.0 (omega (arith, d.1))))
+    let d = IsDrawn-shown s c.args.c c.in-Some.columns c.in-Some.ensures in
+    sym (ap (λ (x : Drawn). x.printed) (printed-spaced s c.args.c c.args.attrs d.kept (omega (arith, d.columns))))

@@ -5,7 +5,8 @@ use Rattle.vt100_core.proofs.grid.Grid.carry.Goals as goal
 
 pub put_wide-requires-clause-allocated : goal.put_wide-requires-clause-allocated
 put_wide-requires-clause-allocated g c =
-    let e = ap (λ (x : GridView). length x.rows) c.in_ok-col_wrap.ensures.grid ∙ (IsMade-made c.args.self.now 2 false c.requires.fits).count in
+    let e = ap (λ (x : GridView). length x.rows) c.in_ok-col_wrap.ensures.grid
+    ∙ (IsMade-made c.args.self.now 2 false c.requires.fits).count in
     omega (arith, e, c.requires.allocated)
 
 pub put_wide-requires-clause-fits : goal.put_wide-requires-clause-fits

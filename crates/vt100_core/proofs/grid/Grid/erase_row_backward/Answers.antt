@@ -7,5 +7,8 @@ use Rattle.vt100_core.proofs.grid.Grid.erase_row_backward.Goals as goal
 
 pub invariant_of-self : goal.invariant_of-self
 invariant_of-self c =
-    IsGrid-at _ (columns_erased c.args.self.now 0 (columns_to_cursor c.args.self.now) c.args.attrs) (grind (arith, common_steps))
-    (IsGrid-columns_erased c.args.self.now 0 (columns_to_cursor c.args.self.now) c.args.attrs (rw (← c.self.view_is) c.self.invariant) c.requires (columns_to_cursor-fit c.args.self.now (rw (← c.self.view_is) c.self.invariant)))
+    IsGrid-at _ (columns_erased c.args.self.now 0 (columns_to_cursor c.args.self.now) c.args.attrs)
+    (grind (arith, common_steps))
+    (IsGrid-columns_erased c.args.self.now 0 (columns_to_cursor c.args.self.now) c.args.attrs
+    (rw (← c.self.view_is) c.self.invariant) c.requires
+    (columns_to_cursor-fit c.args.self.now (rw (← c.self.view_is) c.self.invariant)))

@@ -9,5 +9,7 @@ use Rattle.vt100_core.proofs.grid.Grid.join_in_row.Goals as goal
 pub invariant_of-self : goal.invariant_of-self
 invariant_of-self c =
     let s = c.args.self.now in
-    IsGrid-at _ (with_cursor_row s (join_row (row_of_cursor s) s.col c.args.c c.args.attrs)) (grind (arith, common_steps))
-    (IsGrid-join s c.args.c c.args.attrs (rw (← c.self.view_is) c.self.invariant) c.requires.allocated c.ranges.c.0 c.requires.zero_width c.requires.after_some)
+    IsGrid-at _ (with_cursor_row s (join_row (row_of_cursor s) s.col c.args.c c.args.attrs))
+    (grind (arith, common_steps))
+    (IsGrid-join s c.args.c c.args.attrs (rw (← c.self.view_is) c.self.invariant) c.requires.allocated c.ranges.c.0
+    c.requires.zero_width c.requires.after_some)

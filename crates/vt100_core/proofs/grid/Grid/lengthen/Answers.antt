@@ -11,5 +11,7 @@ pub invariant_of-self-2 : goal.invariant_of-self-2
 invariant_of-self-2 c =
     IsGrid-at _ (lengthened (grid_of c.self.inside) c.args.rows.value) (grind (arith, common_steps))
     (IsGrid-lengthened (grid_of c.self.inside) c.args.rows.value c.self.invariant
-    (subst (λ (x : GridView). x.height ≤ c.args.rows.value) (sym c.self.view_is) c.requires.higher) (omega (arith, c.get.ensures.value))
-    (ap (λ (x : GridView). x.top) c.self.view_is ∙ c.requires.whole) (ap (λ (x : GridView). x.kept.offset) c.self.view_is ∙ c.requires.hidden))
+    (subst (λ (x : GridView). x.height ≤ c.args.rows.value) (sym c.self.view_is) c.requires.higher)
+    (omega (arith, c.get.ensures.value))
+    (ap (λ (x : GridView). x.top) c.self.view_is ∙ c.requires.whole)
+    (ap (λ (x : GridView). x.kept.offset) c.self.view_is ∙ c.requires.hidden))

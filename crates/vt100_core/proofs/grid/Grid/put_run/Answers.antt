@@ -7,4 +7,5 @@ use Rattle.vt100_core.proofs.grid.Grid.put_run.Goals as goal
 pub invariant_of-self : goal.invariant_of-self
 invariant_of-self c =
     IsGrid-at _ (run_at c.args.self.now c.args.text.now c.args.attrs) (grind (arith, common_steps))
-    (IsGrid-run_at c.args.self.now c.args.text.now c.args.attrs (rw (← c.self.view_is) c.self.invariant) c.requires.allocated c.requires.printable c.requires.fits)
+    (IsGrid-run_at c.args.self.now c.args.text.now c.args.attrs (rw (← c.self.view_is) c.self.invariant)
+    c.requires.allocated c.requires.printable c.requires.fits)

@@ -8,5 +8,6 @@ use Rattle.vt100_core.proofs.grid.Grid.put_wide.Goals as goal
 pub invariant_of-self : goal.invariant_of-self
 invariant_of-self c =
     IsGrid-at _ (put_at c.args.self.now c.args.cell c.args.attrs 2) (grind (arith, common_steps))
-    (IsGrid-put_at c.args.self.now c.args.cell c.args.attrs 2 (rw (← c.self.view_is) c.self.invariant) c.requires.allocated c.requires.valid c.requires.text
+    (IsGrid-put_at c.args.self.now c.args.cell c.args.attrs 2 (rw (← c.self.view_is) c.self.invariant)
+    c.requires.allocated c.requires.valid c.requires.text
     (span_of-wide c.args.cell c.requires.wide) c.requires.fits)

@@ -20,4 +20,5 @@ returns-then-lines-eq0-clause-sink g c =
     let valid : IsGrid s = rw (← c.self.view_is) c.self.invariant in
     let inside : is_in_region s ≡ true = grind (arith, common_steps) in
     let none : rows_past_bottom s c.args.count ≡ 0 = grind (arith, inside, common_steps) in
-    TakesAll-list g.S.RowSink.takes c.args.sink.now c.args.sink.now [] (fed s c.args.count).sunk (feeds-sunk_none s c.args.count inside none valid.kept.fits) refl
+    TakesAll-list g.S.RowSink.takes c.args.sink.now c.args.sink.now [] (fed s c.args.count).sunk
+    (feeds-sunk_none s c.args.count inside none valid.kept.fits) refl

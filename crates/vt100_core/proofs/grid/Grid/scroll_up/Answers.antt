@@ -17,26 +17,37 @@ use Rattle.vt100_core.proofs.grid.Grid.scroll_up.Goals as goal
 pub invariant_of-self : goal.invariant_of-self
 invariant_of-self g c =
     let s = c.args.self.now in
-    IsGrid-at _ (with_rows s (moved_up s.rows s.top (s.bottom + 1) (up_count s c.args.count) s.width)) (grind (arith, common_steps))
-    (IsGrid-moved_up s s.top (s.bottom + 1) (up_count s c.args.count) (rw (← c.self.view_is) c.self.invariant) (region_rows s (rw (← c.self.view_is) c.self.invariant) c.requires))
+    IsGrid-at _ (with_rows s (moved_up s.rows s.top (s.bottom + 1) (up_count s c.args.count) s.width))
+    (grind (arith, common_steps))
+    (IsGrid-moved_up s s.top (s.bottom + 1) (up_count s c.args.count) (rw (← c.self.view_is) c.self.invariant)
+    (region_rows s (rw (← c.self.view_is) c.self.invariant) c.requires))
 
 pub invariant_of-self-else-self : goal.invariant_of-self-else-self
 invariant_of-self-else-self g c =
     let s = c.args.self.now in
-    IsGrid-at _ (with_rows s (moved_up s.rows s.top (s.bottom + 1) (up_count s c.args.count) s.width)) (grind (arith, common_steps))
-    (IsGrid-moved_up s s.top (s.bottom + 1) (up_count s c.args.count) (rw (← c.self.view_is) c.self.invariant) (region_rows s (rw (← c.self.view_is) c.self.invariant) c.requires))
+    IsGrid-at _ (with_rows s (moved_up s.rows s.top (s.bottom + 1) (up_count s c.args.count) s.width))
+    (grind (arith, common_steps))
+    (IsGrid-moved_up s s.top (s.bottom + 1) (up_count s c.args.count) (rw (← c.self.view_is) c.self.invariant)
+    (region_rows s (rw (← c.self.view_is) c.self.invariant) c.requires))
 
 pub invariant_of-self-in-Continue-1 : goal.invariant_of-self-in-Continue-1
 invariant_of-self-in-Continue-1 g c =
     let lent = c.deref_mut-then-self.result.now in
     let same : lent ≡ c.self.inside.rows.items = c.deref_mut-then-self.ensures.value in
-    let count : length c.scroll_off.new.rows ≡ length c.self.inside.rows.items = c.scroll_off.auto.rows ∙ ap (λ (xs : List RowView). length xs) same in
-    let back = refilled c.self.inside.rows.len c.scroll_off.new.rows c.self.inside.rows.items c.self.inside.rows.ok.0 count in
-    let some : IsAllocated (grid_of c.self.inside) = subst (λ (x : GridView). IsAllocated x) (sym c.self.view_is) c.requires in
+    let count : length c.scroll_off.new.rows ≡ length c.self.inside.rows.items =
+    c.scroll_off.auto.rows ∙ ap (λ (xs : List RowView). length xs) same in
+    let back = refilled c.self.inside.rows.len c.scroll_off.new.rows c.self.inside.rows.items c.self.inside.rows.ok.0
+    count in
+    let some : IsAllocated (grid_of c.self.inside) =
+    subst (λ (x : GridView). IsAllocated x) (sym c.self.view_is) c.requires in
     IsGrid-at _ (record (grid_of c.self.inside) { rows = c.scroll_off.new.rows; kept = kept_of c.scroll_off.new.self })
-    (ap (λ (xs : List RowView). record (grid_of c.self.inside) { rows = xs; kept = kept_of c.scroll_off.new.self }) back)
-    (IsGrid-scrolled (grid_of c.self.inside) c.scroll_off.new.rows (kept_of c.scroll_off.new.self) c.self.invariant some count
-    (IsSheet-as (length lent) c.self.inside.size.rows.value c.cols-then-self.result c.self.inside.size.cols.value c.scroll_off.new.rows (ap (λ (xs : List RowView). length xs) same ∙ c.self.invariant.sheet.count some) c.cols-then-self.ensures c.scroll_off.ensures.sheet)
+    (ap (λ (xs : List RowView). record (grid_of c.self.inside) { rows = xs; kept = kept_of c.scroll_off.new.self })
+    back)
+    (IsGrid-scrolled (grid_of c.self.inside) c.scroll_off.new.rows (kept_of c.scroll_off.new.self) c.self.invariant
+    some count
+    (IsSheet-as (length lent) c.self.inside.size.rows.value c.cols-then-self.result c.self.inside.size.cols.value
+    c.scroll_off.new.rows (ap (λ (xs : List RowView). length xs) same
+    ∙ c.self.invariant.sheet.count some) c.cols-then-self.ensures c.scroll_off.ensures.sheet)
     c.scroll_off.ensures.valid
     (IsShownWide-is _ _ _ _ _ _ c.in_ok-scroll_off.ensures.kept c.rows.ensures c.cols-then-self.ensures))
 
@@ -44,34 +55,49 @@ pub invariant_of-self-in_err-scroll_off : goal.invariant_of-self-in_err-scroll_o
 invariant_of-self-in_err-scroll_off g c =
     let lent = c.deref_mut-then-self.result.now in
     let same : lent ≡ c.self.inside.rows.items = c.deref_mut-then-self.ensures.value in
-    let count : length c.scroll_off.new.rows ≡ length c.self.inside.rows.items = c.scroll_off.auto.rows ∙ ap (λ (xs : List RowView). length xs) same in
-    let back = refilled c.self.inside.rows.len c.scroll_off.new.rows c.self.inside.rows.items c.self.inside.rows.ok.0 count in
-    let some : IsAllocated (grid_of c.self.inside) = subst (λ (x : GridView). IsAllocated x) (sym c.self.view_is) c.requires in
+    let count : length c.scroll_off.new.rows ≡ length c.self.inside.rows.items =
+    c.scroll_off.auto.rows ∙ ap (λ (xs : List RowView). length xs) same in
+    let back = refilled c.self.inside.rows.len c.scroll_off.new.rows c.self.inside.rows.items c.self.inside.rows.ok.0
+    count in
+    let some : IsAllocated (grid_of c.self.inside) =
+    subst (λ (x : GridView). IsAllocated x) (sym c.self.view_is) c.requires in
     IsGrid-at _ (record (grid_of c.self.inside) { rows = c.scroll_off.new.rows; kept = kept_of c.scroll_off.new.self })
-    (ap (λ (xs : List RowView). record (grid_of c.self.inside) { rows = xs; kept = kept_of c.scroll_off.new.self }) back)
-    (IsGrid-scrolled (grid_of c.self.inside) c.scroll_off.new.rows (kept_of c.scroll_off.new.self) c.self.invariant some count
-    (IsSheet-as (length lent) c.self.inside.size.rows.value c.cols-then-self.result c.self.inside.size.cols.value c.scroll_off.new.rows (ap (λ (xs : List RowView). length xs) same ∙ c.self.invariant.sheet.count some) c.cols-then-self.ensures c.scroll_off.ensures.sheet)
+    (ap (λ (xs : List RowView). record (grid_of c.self.inside) { rows = xs; kept = kept_of c.scroll_off.new.self })
+    back)
+    (IsGrid-scrolled (grid_of c.self.inside) c.scroll_off.new.rows (kept_of c.scroll_off.new.self) c.self.invariant
+    some count
+    (IsSheet-as (length lent) c.self.inside.size.rows.value c.cols-then-self.result c.self.inside.size.cols.value
+    c.scroll_off.new.rows (ap (λ (xs : List RowView). length xs) same
+    ∙ c.self.invariant.sheet.count some) c.cols-then-self.ensures c.scroll_off.ensures.sheet)
     c.scroll_off.ensures.valid
-    (IsShownWide-none (kept_of c.scroll_off.new.self) c.self.inside.size.rows.value c.self.inside.size.cols.value c.in_err-scroll_off.ensures.hidden))
+    (IsShownWide-none (kept_of c.scroll_off.new.self) c.self.inside.size.rows.value c.self.inside.size.cols.value
+    c.in_err-scroll_off.ensures.hidden))
 
 pub returns-in_ok-scroll_off-clause-grid : goal.returns-in_ok-scroll_off-clause-grid
 returns-in_ok-scroll_off-clause-grid g c =
     let lent = c.deref_mut-then-self.result.now in
     let same : lent ≡ c.self.inside.rows.items = c.deref_mut-then-self.ensures.value in
-    let count : length c.scroll_off.new.rows ≡ length c.self.inside.rows.items = c.scroll_off.auto.rows ∙ ap (λ (xs : List RowView). length xs) same in
-    let back = refilled c.self.inside.rows.len c.scroll_off.new.rows c.self.inside.rows.items c.self.inside.rows.ok.0 count in
+    let count : length c.scroll_off.new.rows ≡ length c.self.inside.rows.items =
+    c.scroll_off.auto.rows ∙ ap (λ (xs : List RowView). length xs) same in
+    let back = refilled c.self.inside.rows.len c.scroll_off.new.rows c.self.inside.rows.items c.self.inside.rows.ok.0
+    count in
     let s = grid_of c.self.inside in
     let end = c.from-end.result + 1 in
     let n = c.min-n.result in
     let top : s.top ≡ 0 = omega arith in
     let last : end ≡ s.bottom + 1 = omega arith in
     let lines : n ≡ min c.args.count end = omega arith in
-    let rows : c.scroll_off.new.rows ≡ rows_by_position (length s.rows) (moved_up s.rows 0 end n c.cols-then-self.result) =
-    c.in_ok-scroll_off.ensures.rows ∙ ap (λ (xs : List RowView). rows_by_position (length xs) (moved_up xs 0 end n c.cols-then-self.result)) same in
-    let kept : kept_of c.scroll_off.new.self ≡ widened (kept_after s.kept (take n s.rows)) c.rows.result c.cols-then-self.result =
-    c.in_ok-scroll_off.ensures.kept ∙ ap (λ (xs : List RowView). widened (kept_after s.kept (take n xs)) c.rows.result c.cols-then-self.result) same in
+    let rows : c.scroll_off.new.rows ≡ rows_by_position (length s.rows)
+    (moved_up s.rows 0 end n c.cols-then-self.result) =
+    c.in_ok-scroll_off.ensures.rows ∙ ap (λ (xs : List RowView).
+    rows_by_position (length xs) (moved_up xs 0 end n c.cols-then-self.result)) same in
+    let kept : kept_of c.scroll_off.new.self ≡ widened (kept_after s.kept (take n s.rows)) c.rows.result
+    c.cols-then-self.result =
+    c.in_ok-scroll_off.ensures.kept ∙ ap (λ (xs : List RowView).
+    widened (kept_after s.kept (take n xs)) c.rows.result c.cols-then-self.result) same in
     ap (λ (xs : List RowView). record s { rows = xs; kept = kept_of c.scroll_off.new.self }) back
-    ∙ scrolls-off s c.args.count end n c.cols-then-self.result c.rows.result c.scroll_off.new.rows (kept_of c.scroll_off.new.self) top c.if-self.true last lines c.cols-then-self.ensures c.rows.ensures rows kept
+    ∙ scrolls-off s c.args.count end n c.cols-then-self.result c.rows.result c.scroll_off.new.rows
+    (kept_of c.scroll_off.new.self) top c.if-self.true last lines c.cols-then-self.ensures c.rows.ensures rows kept
     ∙ ap (λ (x : GridView). (scrolled_up x c.args.count).grid) c.self.view_is
 
 pub returns-in_ok-scroll_off-clause-sink : goal.returns-in_ok-scroll_off-clause-sink
@@ -83,8 +109,11 @@ returns-in_ok-scroll_off-clause-sink g c =
     let top : s.top ≡ 0 = omega arith in
     let last : end ≡ s.bottom + 1 = omega arith in
     let lines : n ≡ min c.args.count end = omega arith in
-    TakesAll-list g.S.RowSink.takes c.args.sink.now c.scroll_off.new.sink (pushed_out s.kept (take n c.deref_mut-then-self.result.now)) ((scrolled_up c.args.self.now c.args.count).sunk)
-    (ap (λ (xs : List RowView). pushed_out s.kept (take n xs)) same ∙ sunk-kept s c.args.count end n top c.if-self.true last lines ∙ ap (λ (x : GridView). (scrolled_up x c.args.count).sunk) c.self.view_is)
+    TakesAll-list g.S.RowSink.takes c.args.sink.now c.scroll_off.new.sink
+    (pushed_out s.kept (take n c.deref_mut-then-self.result.now)) ((scrolled_up c.args.self.now c.args.count).sunk)
+    (ap (λ (xs : List RowView). pushed_out s.kept (take n xs)) same
+    ∙ sunk-kept s c.args.count end n top c.if-self.true last lines
+    ∙ ap (λ (x : GridView). (scrolled_up x c.args.count).sunk) c.self.view_is)
     c.in_ok-scroll_off.ensures.sink
 
 pub returns-in_err-scroll_off-clause-sink : goal.returns-in_err-scroll_off-clause-sink
@@ -96,8 +125,11 @@ returns-in_err-scroll_off-clause-sink g c =
     let top : s.top ≡ 0 = omega arith in
     let last : end ≡ s.bottom + 1 = omega arith in
     let lines : n ≡ min c.args.count end = omega arith in
-    TakesAll-list g.S.RowSink.takes c.args.sink.now c.scroll_off.new.sink (pushed_out s.kept (take n c.deref_mut-then-self.result.now)) ((scrolled_up c.args.self.now c.args.count).sunk)
-    (ap (λ (xs : List RowView). pushed_out s.kept (take n xs)) same ∙ sunk-kept s c.args.count end n top c.if-self.true last lines ∙ ap (λ (x : GridView). (scrolled_up x c.args.count).sunk) c.self.view_is)
+    TakesAll-list g.S.RowSink.takes c.args.sink.now c.scroll_off.new.sink
+    (pushed_out s.kept (take n c.deref_mut-then-self.result.now)) ((scrolled_up c.args.self.now c.args.count).sunk)
+    (ap (λ (xs : List RowView). pushed_out s.kept (take n xs)) same
+    ∙ sunk-kept s c.args.count end n top c.if-self.true last lines
+    ∙ ap (λ (x : GridView). (scrolled_up x c.args.count).sunk) c.self.view_is)
     c.in_err-scroll_off.ensures.sink
 
 pub returns-then-n-eq0-clause-grid : goal.returns-then-n-eq0-clause-grid

@@ -21,7 +21,8 @@ scroll_up-requires g c =
     let rows = ap (λ (x : GridView). length x.rows) c.show_whole_screen.ensures in
     let lower : height < s.height = grind (arith, common_steps) in
     let count : up ≡ up_rows s height = grind (arith, lower, common_steps) in
-    ⊎_elim (λ (l : 0 < length s.rows). omega arith) (λ (l : length s.rows ≤ 0). let n = (IsNew-of s valid (omega arith)).row in absurd (omega arith)) (cases_lt 0 (length s.rows))
+    ⊎_elim (λ (l : 0 < length s.rows). omega arith) (λ (l : length s.rows ≤ 0).
+    let n = (IsNew-of s valid (omega arith)).row in absurd (omega arith)) (cases_lt 0 (length s.rows))
 
 pub returns-in_ok-set_width-clause-grid : goal.returns-in_ok-set_width-clause-grid
 returns-in_ok-set_width-clause-grid g c =
@@ -33,14 +34,16 @@ returns-in_ok-set_width-clause-grid g c =
     let hidden : IsGrid (whole_screen s) = IsGrid-whole_screen s valid in
     let above : c.if-up-gt0.self ≡ (scrolled_up (whole_screen s) up).grid =
     elim c.if-up-gt0.branch [
-      | then-up-gt0+in_ok-scroll_up w ↦ w.self-is ∙ w.in_ok-scroll_up.ensures.grid ∙ ap (λ (x : GridView). (scrolled_up x up).grid) whole
+      | then-up-gt0+in_ok-scroll_up w ↦ w.self-is ∙ w.in_ok-scroll_up.ensures.grid
+          ∙ ap (λ (x : GridView). (scrolled_up x up).grid) whole
       | else-up-gt0 w ↦
           let none : 0 ≡ up = omega arith in
           w.self-is ∙ whole ∙ scrolls-none (whole_screen s) up (omega arith) hidden.kept hidden.shown
     ] in
     let lower : height < s.height = grind (arith, common_steps) in
     let count : up ≡ up_rows s height = grind (arith, lower, common_steps) in
-    lowers s c.if-up-gt0.self c.shorten.new.self c.set_width.new.self up height c.args.size.cols.value lower count above c.shorten.ensures c.in_ok-set_width.ensures.grid
+    lowers s c.if-up-gt0.self c.shorten.new.self c.set_width.new.self up height c.args.size.cols.value lower count
+    above c.shorten.ensures c.in_ok-set_width.ensures.grid
 
 pub returns-in_ok-set_width-clause-sink : goal.returns-in_ok-set_width-clause-sink
 returns-in_ok-set_width-clause-sink g c =
@@ -54,15 +57,18 @@ returns-in_ok-set_width-clause-sink g c =
     let taken : TakesAll g.S.RowSink.takes c.args.sink.now (scrolled_up (whole_screen s) up).sunk c.if-up-gt0.sink =
     elim c.if-up-gt0.branch [
       | then-up-gt0+in_ok-scroll_up w ↦
-          subst (λ t. TakesAll g.S.RowSink.takes c.args.sink.now (scrolled_up (whole_screen s) up).sunk t) (sym w.sink-is)
-          (TakesAll-list g.S.RowSink.takes c.args.sink.now w.scroll_up.new.sink (scrolled_up c.show_whole_screen.new.self up).sunk (scrolled_up (whole_screen s) up).sunk
+          subst (λ t. TakesAll g.S.RowSink.takes c.args.sink.now (scrolled_up (whole_screen s) up).sunk t)
+          (sym w.sink-is)
+          (TakesAll-list g.S.RowSink.takes c.args.sink.now w.scroll_up.new.sink
+          (scrolled_up c.show_whole_screen.new.self up).sunk (scrolled_up (whole_screen s) up).sunk
           (ap (λ (x : GridView). (scrolled_up x up).sunk) whole) w.scroll_up.ensures.sink)
       | else-up-gt0 w ↦
           let none : 0 ≡ up = omega arith in
           TakesAll-list g.S.RowSink.takes c.args.sink.now c.if-up-gt0.sink [] (scrolled_up (whole_screen s) up).sunk
           (sinks-none (whole_screen s) up (omega arith) valid.kept.fits) (sym w.sink-is)
     ] in
-    TakesAll-list g.S.RowSink.takes c.args.sink.now c.if-up-gt0.sink (scrolled_up (whole_screen s) up).sunk (resized s height c.args.size.cols.value).sunk
+    TakesAll-list g.S.RowSink.takes c.args.sink.now c.if-up-gt0.sink (scrolled_up (whole_screen s) up).sunk
+    (resized s height c.args.size.cols.value).sunk
     (lowers-sunk s up height c.args.size.cols.value lower count) taken
 
 pub returns-in_err-set_width-clause-sink : goal.returns-in_err-set_width-clause-sink
@@ -77,15 +83,18 @@ returns-in_err-set_width-clause-sink g c =
     let taken : TakesAll g.S.RowSink.takes c.args.sink.now (scrolled_up (whole_screen s) up).sunk c.if-up-gt0.sink =
     elim c.if-up-gt0.branch [
       | then-up-gt0+in_ok-scroll_up w ↦
-          subst (λ t. TakesAll g.S.RowSink.takes c.args.sink.now (scrolled_up (whole_screen s) up).sunk t) (sym w.sink-is)
-          (TakesAll-list g.S.RowSink.takes c.args.sink.now w.scroll_up.new.sink (scrolled_up c.show_whole_screen.new.self up).sunk (scrolled_up (whole_screen s) up).sunk
+          subst (λ t. TakesAll g.S.RowSink.takes c.args.sink.now (scrolled_up (whole_screen s) up).sunk t)
+          (sym w.sink-is)
+          (TakesAll-list g.S.RowSink.takes c.args.sink.now w.scroll_up.new.sink
+          (scrolled_up c.show_whole_screen.new.self up).sunk (scrolled_up (whole_screen s) up).sunk
           (ap (λ (x : GridView). (scrolled_up x up).sunk) whole) w.scroll_up.ensures.sink)
       | else-up-gt0 w ↦
           let none : 0 ≡ up = omega arith in
           TakesAll-list g.S.RowSink.takes c.args.sink.now c.if-up-gt0.sink [] (scrolled_up (whole_screen s) up).sunk
           (sinks-none (whole_screen s) up (omega arith) valid.kept.fits) (sym w.sink-is)
     ] in
-    TakesAll-list g.S.RowSink.takes c.args.sink.now c.if-up-gt0.sink (scrolled_up (whole_screen s) up).sunk (resized s height c.args.size.cols.value).sunk
+    TakesAll-list g.S.RowSink.takes c.args.sink.now c.if-up-gt0.sink (scrolled_up (whole_screen s) up).sunk
+    (resized s height c.args.size.cols.value).sunk
     (lowers-sunk s up height c.args.size.cols.value lower count) taken
 
 pub returns-in_err-scroll_up-clause-sink : goal.returns-in_err-scroll_up-clause-sink
@@ -96,29 +105,45 @@ returns-in_err-scroll_up-clause-sink g c =
     let whole : c.show_whole_screen.new.self ≡ whole_screen s = c.show_whole_screen.ensures in
     let lower : height < s.height = grind (arith, common_steps) in
     let count : up ≡ up_rows s height = grind (arith, lower, common_steps) in
-    TakesAll-list g.S.RowSink.takes c.args.sink.now c.scroll_up.new.sink (scrolled_up c.show_whole_screen.new.self up).sunk (resized s height c.args.size.cols.value).sunk
-    (ap (λ (x : GridView). (scrolled_up x up).sunk) whole ∙ lowers-sunk s up height c.args.size.cols.value lower count) c.scroll_up.ensures.sink
+    TakesAll-list g.S.RowSink.takes c.args.sink.now c.scroll_up.new.sink
+    (scrolled_up c.show_whole_screen.new.self up).sunk (resized s height c.args.size.cols.value).sunk
+    (ap (λ (x : GridView). (scrolled_up x up).sunk) whole
+    ∙ lowers-sunk s up height c.args.size.cols.value lower count) c.scroll_up.ensures.sink
 
 pub returns-in_ok-set_width-clause-allocated : goal.returns-in_ok-set_width-clause-allocated
 returns-in_ok-set_width-clause-allocated g c some =
     let scrolled : IsAllocated c.if-up-gt0.self =
     elim c.if-up-gt0.branch [
-      | then-up-gt0+in_ok-scroll_up w ↦ subst (λ (x : GridView). IsAllocated x) (sym w.self-is) w.scroll_up.ensures.allocated
+      | then-up-gt0+in_ok-scroll_up w ↦ subst (λ (x : GridView). IsAllocated x) (sym w.self-is)
+          w.scroll_up.ensures.allocated
       | else-up-gt0 w ↦ subst (λ (x : GridView). IsAllocated x) (sym (w.self-is ∙ c.show_whole_screen.ensures)) some
     ] in
-    omega (arith, c.set_width.ensures.count, some-shortened c.if-up-gt0.self c.shorten.new.self c.saturating_sub-up.result c.args.size.rows.value c.shorten.ensures (omega arith) scrolled)
+    omega (
+      arith,
+      c.set_width.ensures.count,
+      some-shortened c.if-up-gt0.self c.shorten.new.self
+          c.saturating_sub-up.result c.args.size.rows.value c.shorten.ensures (omega arith) scrolled,
+    )
 
 pub returns-in_err-set_width-clause-allocated : goal.returns-in_err-set_width-clause-allocated
 returns-in_err-set_width-clause-allocated g c some =
     let scrolled : IsAllocated c.if-up-gt0.self =
     elim c.if-up-gt0.branch [
-      | then-up-gt0+in_ok-scroll_up w ↦ subst (λ (x : GridView). IsAllocated x) (sym w.self-is) w.scroll_up.ensures.allocated
+      | then-up-gt0+in_ok-scroll_up w ↦ subst (λ (x : GridView). IsAllocated x) (sym w.self-is)
+          w.scroll_up.ensures.allocated
       | else-up-gt0 w ↦ subst (λ (x : GridView). IsAllocated x) (sym (w.self-is ∙ c.show_whole_screen.ensures)) some
     ] in
-    omega (arith, c.set_width.ensures.count, some-shortened c.if-up-gt0.self c.shorten.new.self c.saturating_sub-up.result c.args.size.rows.value c.shorten.ensures (omega arith) scrolled)
+    omega (
+      arith,
+      c.set_width.ensures.count,
+      some-shortened c.if-up-gt0.self c.shorten.new.self
+          c.saturating_sub-up.result c.args.size.rows.value c.shorten.ensures (omega arith) scrolled,
+    )
 
 pub returns-in_ok-lengthen-clause-allocated : goal.returns-in_ok-lengthen-clause-allocated
 returns-in_ok-lengthen-clause-allocated g c some =
     let before : IsAllocated c.set_width-else-lt.new.self =
-    omega (arith, c.set_width-else-lt.ensures.count, ap (λ (x : GridView). length x.rows) c.show_whole_screen.ensures) in
-    some-lengthened c.set_width-else-lt.new.self c.lengthen.new.self c.args.size.rows.value c.in_ok-lengthen.ensures.grid before
+    omega (arith, c.set_width-else-lt.ensures.count, ap (λ (x : GridView). length x.rows) c.show_whole_screen.ensures)
+    in
+    some-lengthened c.set_width-else-lt.new.self c.lengthen.new.self c.args.size.rows.value
+    c.in_ok-lengthen.ensures.grid before

@@ -13,25 +13,34 @@ pub resize_rows-requires : goal.resize_rows-requires
 resize_rows-requires c =
     let own = c.self.inside in
     let sheet : IsSheet (length own.rows.items) own.size.cols.value own.rows.items =
-    IsSheet-height_as own.size.rows.value (length own.rows.items) own.size.cols.value own.rows.items (λ l. sym (c.self.invariant.sheet.count l)) c.self.invariant.sheet in
+    IsSheet-height_as own.size.rows.value (length own.rows.items) own.size.cols.value own.rows.items
+    (λ l. sym (c.self.invariant.sheet.count l)) c.self.invariant.sheet in
     record {
-      sheet = subst (λ (xs : List RowView). IsSheet (length xs) c.cols.result xs) (sym c.deref_mut.ensures.value) (subst (λ w. IsSheet (length own.rows.items) w own.rows.items) (sym c.cols.ensures) sheet);
+      sheet = subst (λ (xs : List RowView). IsSheet (length xs) c.cols.result xs) (sym c.deref_mut.ensures.value)
+          (subst (λ w. IsSheet (length own.rows.items) w own.rows.items) (sym c.cols.ensures) sheet);
     }
 
 pub invariant_of-self : goal.invariant_of-self
 invariant_of-self c =
     let own = c.self.inside in
     let same : c.deref_mut.result.now ≡ own.rows.items = c.deref_mut.ensures.value in
-    let count : length c.resize_rows.new.rows ≡ length own.rows.items = c.resize_rows.auto.rows ∙ ap (λ (xs : List RowView). length xs) same in
+    let count : length c.resize_rows.new.rows ≡ length own.rows.items =
+    c.resize_rows.auto.rows ∙ ap (λ (xs : List RowView). length xs) same in
     let back = refilled own.rows.len c.resize_rows.new.rows own.rows.items own.rows.ok.0 count in
     let sheet : IsSheet (length own.rows.items) own.size.cols.value c.resize_rows.new.rows =
-    subst (λ w. IsSheet (length own.rows.items) w c.resize_rows.new.rows) c.cols.ensures (subst (λ (xs : List RowView). IsSheet (length xs) c.cols.result c.resize_rows.new.rows) same c.in_err-resize_rows.ensures.sheet) in
-    IsGrid-at _ (record (grid_of own) { rows = c.resize_rows.new.rows }) (ap (λ (xs : List RowView). record (grid_of own) { rows = xs }) back)
+    subst (λ w. IsSheet (length own.rows.items) w c.resize_rows.new.rows) c.cols.ensures
+    (subst (λ (xs : List RowView). IsSheet (length xs) c.cols.result c.resize_rows.new.rows) same
+    c.in_err-resize_rows.ensures.sheet) in
+    IsGrid-at _ (record (grid_of own) { rows = c.resize_rows.new.rows })
+    (ap (λ (xs : List RowView). record (grid_of own) { rows = xs }) back)
     (IsGrid-rows (grid_of own) c.resize_rows.new.rows c.self.invariant count
-    (IsSheet-height_as (length own.rows.items) own.size.rows.value own.size.cols.value c.resize_rows.new.rows (λ l. c.self.invariant.sheet.count (omega (arith, count))) sheet))
+    (IsSheet-height_as (length own.rows.items) own.size.rows.value own.size.cols.value c.resize_rows.new.rows
+    (λ l. c.self.invariant.sheet.count (omega (arith, count))) sheet))
 
 pub invariant_of-self-2 : goal.invariant_of-self-2
 invariant_of-self-2 c =
     let s = c.args.self.now in
     IsGrid-at _ (with_width s c.args.cols.value) (grind (arith, common_steps))
-    (IsGrid-with_width s c.args.cols.value (rw (← c.self.view_is) c.self.invariant) (omega (arith, c.get.ensures.nonzero, c.get.ensures.value)) (omega (arith, c.get.ensures.value)) c.requires.hidden)
+    (IsGrid-with_width s c.args.cols.value (rw (← c.self.view_is) c.self.invariant)
+    (omega (arith, c.get.ensures.nonzero, c.get.ensures.value)) (omega (arith, c.get.ensures.value))
+    c.requires.hidden)

@@ -9,4 +9,6 @@ pub invariant_of-self : goal.invariant_of-self
 invariant_of-self c =
     let s = c.args.self.now in
     IsGrid-at _ (shortened s c.args.up c.args.rows.value) (grind (arith, common_steps))
-    (IsGrid-shortened s c.args.up c.args.rows.value (rw (← c.self.view_is) c.self.invariant) (omega (arith, c.get.ensures.nonzero, c.get.ensures.value)) c.requires.lower c.requires.above c.requires.whole c.requires.hidden)
+    (IsGrid-shortened s c.args.up c.args.rows.value (rw (← c.self.view_is) c.self.invariant)
+    (omega (arith, c.get.ensures.nonzero, c.get.ensures.value)) c.requires.lower c.requires.above c.requires.whole
+    c.requires.hidden)

@@ -5,7 +5,8 @@ use Rattle.vt100_core.proofs.grid.Grid.space.Goals as goal
 
 pub put-requires-clause-allocated : goal.put-requires-clause-allocated
 put-requires-clause-allocated g c =
-    let e = ap (λ (x : GridView). length x.rows) c.in_ok-col_wrap.ensures.grid ∙ (IsMade-made c.args.self.now c.args.columns true c.requires.fits).count in
+    let e = ap (λ (x : GridView). length x.rows) c.in_ok-col_wrap.ensures.grid
+    ∙ (IsMade-made c.args.self.now c.args.columns true c.requires.fits).count in
     omega (arith, e, c.requires.allocated)
 
 pub put-requires-clause-fits : goal.put-requires-clause-fits

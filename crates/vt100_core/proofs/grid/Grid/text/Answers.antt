@@ -22,21 +22,27 @@ returns-in-32-to-126-clause-grid g c =
     let p : IsPrintable c.args.c = (omega arith, omega arith) in
     c.put.ensures.grid
     ∙ ap (λ (h : GridView). put_at h (cell_of c.args.c c.args.attrs) c.args.attrs 1) c.in_ok-make_room.ensures.grid
-    ∙ sym (ap (λ (d : Drawn). d.grid) (printed-printable c.args.self.now c.args.c c.args.attrs p c.in_ok-make_room.ensures.wide))
+    ∙ sym (ap (λ (d : Drawn). d.grid) (printed-printable c.args.self.now c.args.c c.args.attrs p
+    c.in_ok-make_room.ensures.wide))
 
 pub returns-in-32-to-126-clause-sink : goal.returns-in-32-to-126-clause-sink
 returns-in-32-to-126-clause-sink g c =
     let p : IsPrintable c.args.c = (omega arith, omega arith) in
-    TakesAll-list g.S.RowSink.takes c.args.sink.now c.make_room.new.sink (made_to_fit c.args.self.now 1 true).sunk (printed c.args.self.now c.args.c c.args.attrs).sunk
-    (sym (ap (λ (d : Drawn). d.sunk) (printed-printable c.args.self.now c.args.c c.args.attrs p c.in_ok-make_room.ensures.wide))) c.in_ok-make_room.ensures.sink
+    TakesAll-list g.S.RowSink.takes c.args.sink.now c.make_room.new.sink (made_to_fit c.args.self.now 1 true).sunk
+    (printed c.args.self.now c.args.c c.args.attrs).sunk
+    (sym (ap (λ (d : Drawn). d.sunk) (printed-printable c.args.self.now c.args.c c.args.attrs p
+    c.in_ok-make_room.ensures.wide))) c.in_ok-make_room.ensures.sink
 
 pub returns-in-32-to-126-clause-answer : goal.returns-in-32-to-126-clause-answer
 returns-in-32-to-126-clause-answer g c =
     let p : IsPrintable c.args.c = (omega arith, omega arith) in
-    sym (ap (λ (d : Drawn). d.printed) (printed-printable c.args.self.now c.args.c c.args.attrs p c.in_ok-make_room.ensures.wide))
+    sym (ap (λ (d : Drawn). d.printed) (printed-printable c.args.self.now c.args.c c.args.attrs p
+    c.in_ok-make_room.ensures.wide))
 
 pub returns-in_err-make_room-clause-sink : goal.returns-in_err-make_room-clause-sink
 returns-in_err-make_room-clause-sink g c =
     let p : IsPrintable c.args.c = (omega arith, omega arith) in
-    TakesAll-list g.S.RowSink.takes c.args.sink.now c.make_room.new.sink (made_to_fit c.args.self.now 1 true).sunk (printed c.args.self.now c.args.c c.args.attrs).sunk
-    (sym (ap (λ (d : Drawn). d.sunk) (printed-printable c.args.self.now c.args.c c.args.attrs p c.in_err-make_room.ensures.wide))) c.in_err-make_room.ensures.sink
+    TakesAll-list g.S.RowSink.takes c.args.sink.now c.make_room.new.sink (made_to_fit c.args.self.now 1 true).sunk
+    (printed c.args.self.now c.args.c c.args.attrs).sunk
+    (sym (ap (λ (d : Drawn). d.sunk) (printed-printable c.args.self.now c.args.c c.args.attrs p
+    c.in_err-make_room.ensures.wide))) c.in_err-make_room.ensures.sink

@@ -1,12 +1,13 @@
 use Rattle.std.proofs.Common.{arith, ◌∙◌, ◌≡◌, ◌+◌, ◌<◌, ◌≤◌, length, take, subst, sym, ap, length-take, min, true}
 use Rattle.std.proofs.lemmas.List.Elements.{All-take}
 use Rattle.vt100_cells.specs.Cell.{IsPrintable}
+use Rattle.vt100_rows.proofs.TextLemmas.{on-err}
 use Rattle.vt100_sheet.proofs.SinkLemmas.{TakesAll-list}
 use Rattle.vt100_core.specs.Grid.{GridView, IsGrid}
 use Rattle.vt100_core.specs.Scroll.{made_to_fit}
 use Rattle.vt100_core.specs.Text.{printed_all}
 use Rattle.vt100_core.proofs.TextLemmas.{IsMade-made}
-use Rattle.vt100_core.proofs.RunLemmas.{cursor-within, in-row-grid, in-row-sunk}
+use Rattle.vt100_core.proofs.RunLemmas.{cursor-within, in-row-grid, in-row-sunk, first-sunk}
 use Rattle.vt100_core.proofs.grid.Grid.text_in_row.Goals as goal
 
 pub put_run-requires-clause-printable : goal.put_run-requires-clause-printable
@@ -14,7 +15,8 @@ put_run-requires-clause-printable g c = All-take IsPrintable c.min-n.result c.ar
 
 pub returns-clause-some : goal.returns-clause-some
 returns-clause-some g c =
-    let wide : 0 < c.args.self.now.width = subst (λ (x : GridView). 0 < x.width) c.self.view_is c.self.invariant.some_cols in
+    let wide : 0 < c.args.self.now.width = subst (λ (x : GridView). 0 < x.width) c.self.view_is
+    c.self.invariant.some_cols in
     let m = IsMade-made c.args.self.now 1 true wide in
     let h = c.make_room.new.self in
     let e = c.in_ok-make_room.ensures.grid in
@@ -26,7 +28,8 @@ returns-clause-some g c =
 
 pub returns-clause-grid : goal.returns-clause-grid
 returns-clause-grid g c =
-    let wide : 0 < c.args.self.now.width = subst (λ (x : GridView). 0 < x.width) c.self.view_is c.self.invariant.some_cols in
+    let wide : 0 < c.args.self.now.width = subst (λ (x : GridView). 0 < x.width) c.self.view_is
+    c.self.invariant.some_cols in
     let m = IsMade-made c.args.self.now 1 true wide in
     let h = c.make_room.new.self in
     let e = c.in_ok-make_room.ensures.grid in
@@ -40,11 +43,13 @@ returns-clause-grid g c =
     let some : 0 < length xs = omega arith in
     let fits : h.col + length xs ≤ h.width = omega arith in
     let printable = All-take IsPrintable c.min-n.result c.args.text.now c.requires.printable in
-    in-row-grid c.args.self.now h c.put_run.new.self xs c.args.attrs some printable wide e fits (cursor-within h valid c.in_ok-make_room.ensures.allocated) c.put_run.ensures.grid
+    in-row-grid c.args.self.now h c.put_run.new.self xs c.args.attrs some printable wide e fits
+    (cursor-within h valid c.in_ok-make_room.ensures.allocated) c.put_run.ensures.grid
 
 pub returns-clause-sink : goal.returns-clause-sink
 returns-clause-sink g c =
-    let wide : 0 < c.args.self.now.width = subst (λ (x : GridView). 0 < x.width) c.self.view_is c.self.invariant.some_cols in
+    let wide : 0 < c.args.self.now.width = subst (λ (x : GridView). 0 < x.width) c.self.view_is
+    c.self.invariant.some_cols in
     let m = IsMade-made c.args.self.now 1 true wide in
     let h = c.make_room.new.self in
     let e = c.in_ok-make_room.ensures.grid in
@@ -58,5 +63,17 @@ returns-clause-sink g c =
     let some : 0 < length xs = omega arith in
     let fits : h.col + length xs ≤ h.width = omega arith in
     let printable = All-take IsPrintable c.min-n.result c.args.text.now c.requires.printable in
-    TakesAll-list g.S.RowSink.takes c.args.sink.now c.make_room.new.sink (made_to_fit c.args.self.now 1 true).sunk (printed_all c.args.self.now xs c.args.attrs).sunk
-    (in-row-sunk c.args.self.now h xs c.args.attrs some printable wide e fits (cursor-within h valid c.in_ok-make_room.ensures.allocated)) c.in_ok-make_room.ensures.sink
+    TakesAll-list g.S.RowSink.takes c.args.sink.now c.make_room.new.sink (made_to_fit c.args.self.now 1 true).sunk
+    (printed_all c.args.self.now xs c.args.attrs).sunk
+    (in-row-sunk c.args.self.now h xs c.args.attrs some printable wide e fits
+    (cursor-within h valid c.in_ok-make_room.ensures.allocated)) c.in_ok-make_room.ensures.sink
+
+pub returns-in_err-make_room-clause-begun : goal.returns-in_err-make_room-clause-begun
+returns-in_err-make_room-clause-begun g c =
+    let wide : 0 < c.args.self.now.width = subst (λ (x : GridView). 0 < x.width) c.self.view_is
+    c.self.invariant.some_cols in
+    on-err c.from_residual.result (TakesAll-list g.S.RowSink.takes c.args.sink.now c.make_room.new.sink
+    (made_to_fit c.args.self.now 1 true).sunk
+    (printed_all c.args.self.now (take 1 c.args.text.now) c.args.attrs).sunk
+    (first-sunk c.args.self.now c.args.text.now c.args.attrs c.requires.some c.requires.printable wide)
+    c.in_err-make_room.ensures.sink)

@@ -11,17 +11,24 @@ returns-clause-kept g c =
     let s = c.args.self.now in
     let over : c.saturating_sub.result ≡ min c.args.n s.capacity - (s.capacity - length s.rows.items) = omega arith in
     let first : c.args.n - c.min-fits.result ≡ c.args.n - min c.args.n s.capacity = omega arith in
-    pushes (kept_of s) c.args.rows.now c.drop_oldest-spare.new.rows.items c.keep_rows.new.kept.items c.args.n c.saturating_sub.result c.saturating_add-self.result c.requires.in_rows c.requires.valid.fits over
-    c.drop_oldest-spare.ensures.kept (c.in_ok-keep_rows.ensures.kept ∙ ap (λ m. c.drop_oldest-spare.new.rows.items ++ map trimmed (slice_range c.args.rows.now m c.args.n)) first) (omega arith)
+    pushes (kept_of s) c.args.rows.now c.drop_oldest-spare.new.rows.items c.keep_rows.new.kept.items c.args.n
+    c.saturating_sub.result c.saturating_add-self.result c.requires.in_rows c.requires.valid.fits over
+    c.drop_oldest-spare.ensures.kept (c.in_ok-keep_rows.ensures.kept
+    ∙ ap (λ m. c.drop_oldest-spare.new.rows.items ++ map trimmed (slice_range c.args.rows.now m c.args.n)) first)
+    (omega arith)
 
 pub returns-clause-sink : goal.returns-clause-sink
 returns-clause-sink g c =
     let s = c.args.self.now in
     let over : c.saturating_sub.result ≡ min c.args.n s.capacity - (s.capacity - length s.rows.items) = omega arith in
     let first : c.args.n - c.min-fits.result ≡ c.args.n - min c.args.n s.capacity = omega arith in
-    TakesAll-list g.S.RowSink.takes c.args.sink.now c.give_rows.new.sink (take c.saturating_sub.result s.rows.items ++ take (c.args.n - c.min-fits.result) c.args.rows.now) (pushed_out (kept_of s) (take c.args.n c.args.rows.now))
-    (ap (λ m. take c.saturating_sub.result s.rows.items ++ take m c.args.rows.now) first ∙ pushed (kept_of s) c.args.rows.now c.args.n c.saturating_sub.result c.requires.in_rows c.requires.valid.fits over)
-    (TakesAll-append g.S.RowSink.takes c.args.sink.now c.drop_oldest-spare.new.sink c.give_rows.new.sink (take c.saturating_sub.result s.rows.items) (take (c.args.n - c.min-fits.result) c.args.rows.now)
+    TakesAll-list g.S.RowSink.takes c.args.sink.now c.give_rows.new.sink (take c.saturating_sub.result s.rows.items
+    ++ take (c.args.n - c.min-fits.result) c.args.rows.now) (pushed_out (kept_of s) (take c.args.n c.args.rows.now))
+    (ap (λ m. take c.saturating_sub.result s.rows.items ++ take m c.args.rows.now) first
+    ∙ pushed (kept_of s) c.args.rows.now c.args.n c.saturating_sub.result c.requires.in_rows c.requires.valid.fits
+    over)
+    (TakesAll-append g.S.RowSink.takes c.args.sink.now c.drop_oldest-spare.new.sink c.give_rows.new.sink
+    (take c.saturating_sub.result s.rows.items) (take (c.args.n - c.min-fits.result) c.args.rows.now)
     c.drop_oldest-spare.ensures.sink c.give_rows.ensures)
 
 pub returns-in_err-keep_rows-clause-sink : goal.returns-in_err-keep_rows-clause-sink
@@ -29,18 +36,25 @@ returns-in_err-keep_rows-clause-sink g c =
     let s = c.args.self.now in
     let over : c.saturating_sub.result ≡ min c.args.n s.capacity - (s.capacity - length s.rows.items) = omega arith in
     let first : c.args.n - c.min-fits.result ≡ c.args.n - min c.args.n s.capacity = omega arith in
-    TakesAll-list g.S.RowSink.takes c.args.sink.now c.give_rows.new.sink (take c.saturating_sub.result s.rows.items ++ take (c.args.n - c.min-fits.result) c.args.rows.now) (pushed_out (kept_of s) (take c.args.n c.args.rows.now))
-    (ap (λ m. take c.saturating_sub.result s.rows.items ++ take m c.args.rows.now) first ∙ pushed (kept_of s) c.args.rows.now c.args.n c.saturating_sub.result c.requires.in_rows c.requires.valid.fits over)
-    (TakesAll-append g.S.RowSink.takes c.args.sink.now c.drop_oldest-spare.new.sink c.give_rows.new.sink (take c.saturating_sub.result s.rows.items) (take (c.args.n - c.min-fits.result) c.args.rows.now)
+    TakesAll-list g.S.RowSink.takes c.args.sink.now c.give_rows.new.sink (take c.saturating_sub.result s.rows.items
+    ++ take (c.args.n - c.min-fits.result) c.args.rows.now) (pushed_out (kept_of s) (take c.args.n c.args.rows.now))
+    (ap (λ m. take c.saturating_sub.result s.rows.items ++ take m c.args.rows.now) first
+    ∙ pushed (kept_of s) c.args.rows.now c.args.n c.saturating_sub.result c.requires.in_rows c.requires.valid.fits
+    over)
+    (TakesAll-append g.S.RowSink.takes c.args.sink.now c.drop_oldest-spare.new.sink c.give_rows.new.sink
+    (take c.saturating_sub.result s.rows.items) (take (c.args.n - c.min-fits.result) c.args.rows.now)
     c.drop_oldest-spare.ensures.sink c.give_rows.ensures)
 
 pub returns-clause-rows : goal.returns-clause-rows
 returns-clause-rows g c =
-    blanks c.args.rows.now c.keep_rows.new.rows c.reset_between.new.rows c.args.width (c.args.n - c.min-fits.result) c.args.n (omega arith) c.requires.in_rows c.requires.sheet.each
+    blanks c.args.rows.now c.keep_rows.new.rows c.reset_between.new.rows c.args.width (c.args.n - c.min-fits.result)
+    c.args.n (omega arith) c.requires.in_rows c.requires.sheet.each
     c.in_ok-keep_rows.ensures.rows c.reset_between.ensures
 
 pub returns-clause-sheet : goal.returns-clause-sheet
 returns-clause-sheet g c =
-    IsSheet-pushed c.args.rows.now c.reset_between.new.rows c.args.width c.args.n c.requires.sheet c.requires.in_rows (omega arith)
-    (blanks c.args.rows.now c.keep_rows.new.rows c.reset_between.new.rows c.args.width (c.args.n - c.min-fits.result) c.args.n (omega arith) c.requires.in_rows c.requires.sheet.each
+    IsSheet-pushed c.args.rows.now c.reset_between.new.rows c.args.width c.args.n c.requires.sheet c.requires.in_rows
+    (omega arith)
+    (blanks c.args.rows.now c.keep_rows.new.rows c.reset_between.new.rows c.args.width (c.args.n - c.min-fits.result)
+    c.args.n (omega arith) c.requires.in_rows c.requires.sheet.each
     c.in_ok-keep_rows.ensures.rows c.reset_between.ensures)

@@ -5,14 +5,19 @@ use Rattle.vt100_core.proofs.scrollback.ScrollbackState.scroll_off.Goals as goal
 
 pub returns-clause-rows : goal.returns-clause-rows
 returns-clause-rows g c =
-    moves_up_top c.args.rows.now c.push_off.new.rows c.turn_up.new.rows c.args.end c.args.n c.args.width c.requires.in_part c.requires.in_rows c.in_ok-push_off.ensures.rows c.turn_up.ensures
+    moves_up_top c.args.rows.now c.push_off.new.rows c.turn_up.new.rows c.args.end c.args.n c.args.width
+    c.requires.in_part c.requires.in_rows c.in_ok-push_off.ensures.rows c.turn_up.ensures
 
 pub returns-clause-sheet : goal.returns-clause-sheet
 returns-clause-sheet g c =
-    IsSheet-scrolled c.args.rows.now c.turn_up.new.rows c.args.width c.args.end c.args.n c.requires.sheet c.requires.some c.requires.in_rows (omega arith)
-    (moves_up_top c.args.rows.now c.push_off.new.rows c.turn_up.new.rows c.args.end c.args.n c.args.width c.requires.in_part c.requires.in_rows c.in_ok-push_off.ensures.rows c.turn_up.ensures)
+    IsSheet-scrolled c.args.rows.now c.turn_up.new.rows c.args.width c.args.end c.args.n c.requires.sheet
+    c.requires.some c.requires.in_rows (omega arith)
+    (moves_up_top c.args.rows.now c.push_off.new.rows c.turn_up.new.rows c.args.end c.args.n c.args.width
+    c.requires.in_part c.requires.in_rows c.in_ok-push_off.ensures.rows c.turn_up.ensures)
 
 pub returns-in_err-show-clause-sheet : goal.returns-in_err-show-clause-sheet
 returns-in_err-show-clause-sheet g c =
-    IsSheet-scrolled c.args.rows.now c.turn_up.new.rows c.args.width c.args.end c.args.n c.requires.sheet c.requires.some c.requires.in_rows (omega arith)
-    (moves_up_top c.args.rows.now c.push_off.new.rows c.turn_up.new.rows c.args.end c.args.n c.args.width c.requires.in_part c.requires.in_rows c.in_ok-push_off.ensures.rows c.turn_up.ensures)
+    IsSheet-scrolled c.args.rows.now c.turn_up.new.rows c.args.width c.args.end c.args.n c.requires.sheet
+    c.requires.some c.requires.in_rows (omega arith)
+    (moves_up_top c.args.rows.now c.push_off.new.rows c.turn_up.new.rows c.args.end c.args.n c.args.width
+    c.requires.in_part c.requires.in_rows c.in_ok-push_off.ensures.rows c.turn_up.ensures)

@@ -1,0 +1,3 @@
+pub mod CaptureLemmas
+pub mod PlainLemmas
+pub mod RowsLemmas

@@ -1,0 +1,17 @@
+//! Captures: what a terminal showed, as text with its attributes, and the plain text and the rows of such a text.
+//!
+//! A capture holds no control sequences but SGR, and no control characters but newlines. The range, its state and a row
+//! that writes itself are in [`state`], the plain pieces in [`plain`], the rows in [`rows`].
+#![tactic(auto)]
+
+pub mod plain;
+pub mod rows;
+pub mod several;
+pub mod state;
+
+pub use plain::{
+    BasicFormattedToPlain, BasicFormattedToPlainIndexed, basic_formatted_to_plain,
+    basic_formatted_to_plain_indexed,
+};
+pub use rows::{BasicFormattedRows, basic_formatted_rows};
+pub use state::{BasicFormattedCaptureRange, BasicFormattedCaptureState, RowContents};

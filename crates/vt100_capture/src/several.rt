@@ -1,0 +1,24 @@
+//! Several rows of a capture.
+ghost use Rattle.std.specs.Prelude.{◌≡◌, OnOk};
+ghost use Rattle.std.specs.Fmt.{WritesInCalls};
+ghost use Rattle.vt100_capture.specs.Capture.{captured, after_rows};
+
+use crate::state::{BasicFormattedCaptureState, RowContents};
+use std::fmt;
+use vt100_rows::Row;
+
+/// Writes rows one after another, as parts of the capture that goes on at `state`. For the grid alone.
+#[doc(hidden)]
+pub fn write_rows<W: fmt::Write>(
+    rows: &[Row],
+    writer: &mut W,
+    state: &mut BasicFormattedCaptureState,
+) -> fmt::Result
+    ensures text { OnOk result (WritesInCalls W.write_str_gives writer.old (captured state.old rows.now) writer.new) }
+    ensures state { OnOk result (state.new ≡ after_rows state.old rows.now) }
+{
+    for row in rows {
+        RowContents::new(row).write_formatted_basic(writer, state)?;
+    }
+    Ok(())
+}

@@ -1,0 +1,18 @@
+-- A capture of some rows, and then of others.
+use Rattle.std.proofs.Common.{◌≡◌, ℕ, List, ◌++◌, sym, ap, subst, ◌∙◌}
+use Rattle.std.specs.Fmt.{WritesInCalls}
+use Rattle.vt100_rows.specs.Row.{RowView}
+use Rattle.vt100_rows.proofs.BasicLemmas.{writes-append}
+use Rattle.vt100_capture.specs.Capture.{CaptureView, captured, after_rows}
+use Rattle.vt100_capture.proofs.CaptureLemmas.{captured-append, after_rows-append}
+
+module _ (s t : CaptureView) (xs ys : List RowView) (e : t ≡ after_rows s xs) where
+  pub both-written : {W : Type 0} (gives : W → List ℕ → W → Type 0) (w u v : W) → WritesInCalls gives w (captured s xs) u
+      → WritesInCalls gives u (captured t ys) v → WritesInCalls gives w (captured s (xs ++ ys)) v
+  both-written gives w u v first second =
+      subst (λ bs. WritesInCalls gives w bs v) (sym (captured-append s xs ys))
+      (writes-append gives w u v (captured s xs) (captured (after_rows s xs) ys) first
+      (subst (λ z. WritesInCalls gives u (captured z ys) v) e second))
+
+  pub both-after : (u : CaptureView) → u ≡ after_rows t ys → u ≡ after_rows s (xs ++ ys)
+  both-after u h = h ∙ ap (λ z. after_rows z ys) e ∙ sym (after_rows-append s xs ys)

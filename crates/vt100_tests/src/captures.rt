@@ -1,0 +1,97 @@
+//! Captures: what is written of rows that leave and that are shown, and what is read of it.
+ghost use Rattle.std.specs.Prelude.{IfOk, ◌<◌, length};
+ghost use Rattle.vt100_core.specs.Grid.{IsAllocated};
+
+use std::alloc::Global;
+use std::num::NonZeroU16;
+use std::test::Fail;
+use vt100_core::attrs::Attrs;
+use vt100_core::capture::{
+    BasicFormattedCaptureRange, BasicFormattedCaptureState, RowContents, basic_formatted_rows,
+    basic_formatted_to_plain, basic_formatted_to_plain_indexed,
+};
+use vt100_core::{Color, Grid, GridError, Row, RowSink, Scrollback, Size};
+
+/// Captures the rows that it takes.
+#[derive(Drop)]
+struct Recorder {
+    text: String,
+    state: BasicFormattedCaptureState,
+    failed: bool,
+}
+
+impl RowSink for Recorder {
+    ghost takes = { λ s v t. Unit {0} };
+
+    fn row(&mut self, row: &Row) {
+        let written = RowContents::new(row).write_formatted_basic(&mut self.text, &mut self.state);
+        self.failed = self.failed || written.is_err();
+    }
+}
+
+fn new_grid(alloc: Global, rows: u16, cols: u16, capacity: usize) -> Result<Grid, GridError>
+    ensures { IfOk result (λ g. IsAllocated g) }
+{
+    let size = Size {
+        rows: NonZeroU16::new(rows).unwrap_or(NonZeroU16::MIN),
+        cols: NonZeroU16::new(cols).unwrap_or(NonZeroU16::MIN),
+    };
+    let mut grid = Grid::new(alloc, size, Scrollback::Enabled { capacity });
+    grid.allocate_rows()?;
+    Ok(grid)
+}
+
+#[test]
+fn rows_that_leave_go_on_in_the_capture_of_the_others(rt: HostRuntime) -> Result<(), Fail> {
+    let mut red = Attrs::new();
+    red.fgcolor = Color::Idx(1);
+    let mut grid = new_grid(rt.alloc(), 1, 2, 0)?;
+    let mut sink = Recorder {
+        text: String::new(rt.alloc()),
+        state: BasicFormattedCaptureState::new(),
+        failed: false,
+    };
+    grid.text('a', Attrs::new(), &mut sink)?;
+    grid.text('b', Attrs::new(), &mut sink)?;
+    grid.text('c', Attrs::new(), &mut sink)?;
+    grid.text('d', red, &mut sink)?;
+    assert_eq!(rt; (sink.text.as_str(), sink.failed), ("ab", false));
+    let range = BasicFormattedCaptureRange::Full(&mut sink.state);
+    assert!(rt;
+        grid.write_contents_formatted_basic(&mut sink.text, range)
+            .is_ok()
+    );
+    assert_eq!(rt; sink.text.as_str(), "ab\nc\u{1b}[31md");
+    Ok(())
+}
+
+#[test]
+fn pieces_stand_at_their_places(rt: HostRuntime) {
+    let capture = "hello\x1b[31;1mworld";
+    let mut pieces = basic_formatted_to_plain_indexed(capture);
+    assert_eq!(rt; pieces.next(), Some((0, "hello")));
+    assert_eq!(rt; pieces.next(), Some((12, "world")));
+    assert_eq!(rt; pieces.next(), None);
+    assert!(rt; basic_formatted_to_plain(capture).eq(["hello", "world"]));
+}
+
+/// A capture, a width, and its rows.
+const ROWS: &[(&str, u16, &[&str])] = &[
+    ("ab\ncd", 1, &["a", "b", "c", "d"]),
+    ("", 1, &[""]),
+    // Characters of two columns, of which one has no room; one of none; and a sequence, which takes no column.
+    ("中文x", 3, &["中", "文x"]),
+    ("中文", 1, &["中", "文"]),
+    ("ab\u{301}\x1b[mcd", 2, &["ab\u{301}\x1b[m", "cd"]),
+];
+
+#[test]
+fn captures_are_cut_into_rows(rt: HostRuntime) {
+    for (capture, width, rows) in ROWS {
+        let mut cut = basic_formatted_rows(capture, *width);
+        for row in *rows {
+            assert_eq!(rt; cut.next(), Some(*row));
+        }
+        assert_eq!(rt; (cut.next(), cut.next()), (None, None));
+    }
+}
