@@ -8,7 +8,8 @@ use Rattle.vt100_state.specs.Call.{Hears}
 -- a sink whose takings are the callbacks' hearings, and which keeps its flag and the place of the callbacks
 pub hears_all : {S C N : Type 0} (scrolls : C → RowView → Bool → C → Type 0) (takes : S → RowView → S → Type 0)
     (callbacks : S → C) (alternate : S → Bool) (name : S → N)
-    → ((s : S) (v : RowView) (t : S) → takes s v t → scrolls (callbacks s) v (alternate s) (callbacks t) × (alternate t ≡ alternate s) × (name t ≡ name s))
+    → ((s : S) (v : RowView) (t : S) → takes s v t → scrolls (callbacks s) v (alternate s) (callbacks t)
+    × (alternate t ≡ alternate s) × (name t ≡ name s))
     → (s : S) (rows : List RowView) (t : S) → TakesAll takes s rows t
     → Hears scrolls (callbacks s) (reports_of (alternate s) rows) (callbacks t) × (name t ≡ name s)
 hears_all scrolls takes callbacks alternate name each s [] t h = (ap callbacks h, ap name (sym h))

@@ -1,3 +1,10 @@
 pub mod CallOf
+pub mod Goes
+pub mod Laws
+pub mod ParserLends
+pub mod Parsing
+pub mod Runs
 pub mod ScreenFields
+pub mod SgrReading
+pub mod Texts
 pub mod Tries

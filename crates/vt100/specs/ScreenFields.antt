@@ -1,5 +1,6 @@
 -- How a screen's fields give what a contract sees of it.
-use Rattle.std.specs.Prelude.{◌≡◌, true}
+use Rattle.std.specs.Prelude.{◌≡◌, true, false, not}
+use Rattle.vt100_forms.specs.Attrs.{IsProper}
 use Rattle.vt100_core.specs.Grid.{IsAllocated}
 use Rattle.vt100_state.specs.Call.{ScreenView}
 use Rattle.vt100.specs.declared.screen.Screen.TheInside.{Inside}
@@ -26,7 +27,14 @@ screen_of s = record {
   failed = s.failed;
 }
 
--- the shown sheet has rows, and so has the main one
+-- the shown sheet has rows, and so has the main one; on a screen that hasn't failed both have one size; the main one
+-- alone keeps rows; the attributes are such as a terminal's own calls make
 pub record IsScreen (s : Inside) : Type 0 where
   pub shown : IsAllocated s.grid
   pub main : s.alternate_screen ≡ true → IsAllocated s.other_grid
+  pub height : s.failed ≡ false → s.other_grid.height ≡ s.grid.height
+  pub width : s.failed ≡ false → s.other_grid.width ≡ s.grid.width
+  pub shown_keeps : s.grid.kept.keeps ≡ not s.alternate_screen
+  pub other_keeps : s.other_grid.kept.keeps ≡ s.alternate_screen
+  pub attrs : IsProper s.attrs
+  pub saved_attrs : IsProper s.saved_attrs

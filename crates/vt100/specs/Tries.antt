@@ -1,5 +1,5 @@
 -- What calls do to a screen, and how they are refused.
-use Rattle.std.specs.Prelude.{◌≡◌, ℕ, Bool, true, false, Result, Err, OnOk, if◌then◌else◌}
+use Rattle.std.specs.Prelude.{◌≡◌, ℕ, Bool, true, false, Result, Err, OnOk, IfOk, if◌then◌else◌}
 use Rattle.vt100_rows.specs.Row.{RowView}
 use Rattle.vt100_state.specs.State.{State}
 use Rattle.vt100_state.specs.Step.{Stepped, Partly}
@@ -15,8 +15,8 @@ alive s = record { state = s; failed = false }
 abbrev pub unless_failed : (State → State) → ScreenView → ScreenView
 unless_failed f v = if v.failed then v else alive (f v.state)
 
--- A call that may be refused, of a screen v and callbacks c that are then w and d. It does f, and the callbacks are told of
--- the rows that leave. Without memory the screen has failed; one that has failed refuses, and nothing changes.
+-- A call that may be refused, of a screen v and callbacks c that are then w and d. It does f, and the callbacks are
+-- told of the rows that leave. Without memory the screen has failed; one that has failed refuses, and nothing changes.
 pub record Tries {C A : Type 0} (scrolls : C → RowView → Bool → C → Type 0) (f : State → Stepped)
     (v : ScreenView) (c : C) (result : Result A ScreenError) (w : ScreenView) (d : C) : Type 0 where
   pub live : OnOk result (v.failed ≡ false)
@@ -26,8 +26,8 @@ pub record Tries {C A : Type 0} (scrolls : C → RowView → Bool → C → Type
   pub refused : result ≡ Err Failed → v.failed ≡ true
   pub dead : v.failed ≡ true → (result ≡ Err Failed) × (w ≡ v) × (d ≡ c)
 
--- A call that can't be refused, but of which parts can be unknown; the answer says how many were. A failed screen stays as it
--- is, and then none was.
+-- A call that can't be refused, but of which parts can be unknown; the answer says how many were. A failed screen stays
+-- as it is, and then none was.
 pub record Counts {C : Type 0} (scrolls : C → RowView → Bool → C → Type 0) (f : State → Partly)
     (v : ScreenView) (c : C) (unhandled : ℕ) (w : ScreenView) (d : C) : Type 0 where
   pub screen : v.failed ≡ false → w ≡ alive (f v.state).state
@@ -35,8 +35,15 @@ pub record Counts {C : Type 0} (scrolls : C → RowView → Bool → C → Type 
   pub count : v.failed ≡ false → unhandled ≡ (f v.state).unhandled
   pub dead : v.failed ≡ true → (w ≡ v) × (d ≡ c) × (unhandled ≡ 0)
 
+-- A call that may be refused, and of which parts can be unknown; at success the answer says how many were.
+pub record TriesParts {C : Type 0} (scrolls : C → RowView → Bool → C → Type 0) (f : State → Partly)
+    (v : ScreenView) (c : C) (result : Result ℕ ScreenError) (w : ScreenView) (d : C) : Type 0 where
+  pub tries : Tries scrolls (λ s. record { state = (f s).state; reports = (f s).reports }) v c result w d
+  pub count : IfOk result (λ n. n ≡ (f v.state).unhandled)
+
 -- A call of a screen v that is then w, and that may be refused: the same without callbacks.
-pub record TriesAlone (f : State → State) (v : ScreenView) (result : Result (Unit {0}) ScreenError) (w : ScreenView) : Type 0 where
+pub record TriesAlone (f : State → State) (v : ScreenView) (result : Result (Unit {0}) ScreenError)
+    (w : ScreenView) : Type 0 where
   pub live : OnOk result (v.failed ≡ false)
   pub screen : OnOk result (w ≡ alive (f v.state))
   pub memory : result ≡ Err Memory → w.failed ≡ true

@@ -46,15 +46,16 @@ pub trait Callbacks {
     /// What a call does: the callbacks and the screen before it, the call, and both after it.
     ghost step: { Self → ScreenView → said.Call → Self → ScreenView → Type 0 };
 
-    /// What a report does: the callbacks before it, the row, whether it left the alternate sheet, and the callbacks after.
+    /// What a report does: the callbacks before it, the row, whether it left the alternate sheet, and the callbacks
+    /// after.
     ghost scrolls: { Self → RowView → Bool → Self → Type 0 };
 
     /// A call.
     fn call(&mut self, screen: &mut Screen, call: Call<'_>)
         ensures { step self.old screen.old (call_of call.entry) self.new screen.new };
 
-    /// A row left for good: it was kept and is pushed out, or it left the screen and isn't kept. `alternate_screen` says
-    /// that it was a row of the alternate screen.
+    /// A row left for good: it was kept and is pushed out, or it left the screen and isn't kept. `alternate_screen`
+    /// says that it was a row of the alternate screen.
     ///
     /// A screen that becomes lower tells of rows too. One that becomes higher gets rows back, blank where they weren't
     /// kept; these are told of like others when they leave again.
@@ -141,7 +142,8 @@ pub trait Callbacks {
         params: &[&[u16]],
         c: char,
     )
-        ensures { step self.old screen.old (said.unhandled_csi i1 i2 (map (λ g. g.now) params.now) c) self.new screen.new }
+        ensures { step self.old screen.old (said.unhandled_csi i1 i2 (map (λ g. g.now) params.now) c) self.new
+            screen.new }
     {
         self.call(screen, Call::UnhandledCsi(i1, i2, params, c));
     }

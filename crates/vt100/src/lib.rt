@@ -3,11 +3,16 @@
 
 pub mod callbacks;
 pub mod error;
+pub mod laws;
+pub mod parser;
+mod perform;
+mod runs;
 pub mod screen;
 
 pub use callbacks::{Call, Callbacks};
 pub use error::ScreenError;
-pub use screen::{Screen, WrappedScreen};
+pub use parser::Parser;
+pub use screen::{Rows, Screen, WrappedScreen};
 pub use vt100_core::{
     Cell, Color, CursorStyle, MouseProtocolEncoding, MouseProtocolMode, attrs, capture,
 };

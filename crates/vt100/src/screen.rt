@@ -8,12 +8,16 @@ mod controls;
 mod erase;
 mod getters;
 mod motion;
+mod private_modes;
 mod readers;
 mod reported;
+mod rows;
+mod sgr;
 mod whole;
 mod wrapped;
 
 use crate::error::ScreenError;
+pub use rows::Rows;
 use std::alloc::Global;
 use std::marker::Model;
 use vt100_core::attrs::Attrs;
@@ -66,7 +70,8 @@ impl Screen {
         size: Size,
         scrollback_capacity: usize,
     ) -> Result<Self, ScreenError>
-        ensures screen { IfOk result (λ screen. screen ≡ alive (fresh_state size.rows.value size.cols.value scrollback_capacity)) }
+        ensures screen { IfOk result (λ screen. screen
+            ≡ alive (fresh_state size.rows.value size.cols.value scrollback_capacity)) }
         ensures memory { OnErr result (result ≡ Err Memory) }
     {
         let mut grid = Grid::new(

@@ -43,8 +43,7 @@ impl<CB: Callbacks> WrappedScreen<CB> {
         ensures callbacks { self.new.callbacks ≡ self.old.callbacks }
     {
         if !self.screen.failed {
-            self.screen.grid.save_cursor();
-            self.screen.saved_attrs = self.screen.attrs;
+            self.screen.save_cursor();
         }
     }
 
@@ -54,8 +53,7 @@ impl<CB: Callbacks> WrappedScreen<CB> {
         ensures callbacks { self.new.callbacks ≡ self.old.callbacks }
     {
         if !self.screen.failed {
-            self.screen.grid.restore_cursor();
-            self.screen.attrs = self.screen.saved_attrs;
+            self.screen.restore_cursor();
         }
     }
 
@@ -79,7 +77,8 @@ impl<CB: Callbacks> WrappedScreen<CB> {
         }
     }
 
-    /// Moves the cursor a row up. At the scroll region's top, and at the screen's, the region scrolls down instead (RI).
+    /// Moves the cursor a row up. At the scroll region's top, and at the screen's, the region scrolls down instead
+    /// (RI).
     pub fn ri(&mut self)
         ensures screen { self.new.screen ≡ unless_failed (line_fed_back) self.old.screen }
         ensures callbacks { self.new.callbacks ≡ self.old.callbacks }

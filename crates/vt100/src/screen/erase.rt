@@ -71,11 +71,12 @@ impl<CB: Callbacks> WrappedScreen<CB> {
         }
     }
 
-    /// Empties the screen from the cursor on (0), up to the cursor and at it (1), or whole (2), with the drawing attributes;
-    /// or takes the kept rows away, of which the callbacks are told (3) (ED). Answers how many sequences were unhandled: 1
-    /// at another number.
+    /// Empties the screen from the cursor on (0), up to the cursor and at it (1), or whole (2), with the drawing
+    /// attributes; or takes the kept rows away, of which the callbacks are told (3) (ED). Answers how many sequences
+    /// were unhandled: 1 at another number.
     pub fn ed(&mut self, mode: u16) -> usize
-        ensures { Counts CB.scrolls (display_erased mode) self.old.screen self.old.callbacks result self.new.screen self.new.callbacks }
+        ensures { Counts CB.scrolls (display_erased mode) self.old.screen self.old.callbacks result self.new.screen
+            self.new.callbacks }
     {
         if self.screen.failed {
             return 0;
@@ -99,7 +100,8 @@ impl<CB: Callbacks> WrappedScreen<CB> {
 
     /// The same (DECSED): no cell is protected from being erased.
     pub fn decsed(&mut self, mode: u16) -> usize
-        ensures { Counts CB.scrolls (display_erased mode) self.old.screen self.old.callbacks result self.new.screen self.new.callbacks }
+        ensures { Counts CB.scrolls (display_erased mode) self.old.screen self.old.callbacks result self.new.screen
+            self.new.callbacks }
     {
         self.ed(mode)
     }
@@ -107,7 +109,8 @@ impl<CB: Callbacks> WrappedScreen<CB> {
     /// Empties the cursor's row from the cursor on (0), up to the cursor and at it (1), or whole (2), with the drawing
     /// attributes (EL). Answers how many sequences were unhandled: 1 at another number.
     pub fn el(&mut self, mode: u16) -> usize
-        ensures { Counts CB.scrolls (line_erased mode) self.old.screen self.old.callbacks result self.new.screen self.new.callbacks }
+        ensures { Counts CB.scrolls (line_erased mode) self.old.screen self.old.callbacks result self.new.screen
+            self.new.callbacks }
     {
         if self.screen.failed {
             return 0;
@@ -124,14 +127,16 @@ impl<CB: Callbacks> WrappedScreen<CB> {
 
     /// The same (DECSEL): no cell is protected from being erased.
     pub fn decsel(&mut self, mode: u16) -> usize
-        ensures { Counts CB.scrolls (line_erased mode) self.old.screen self.old.callbacks result self.new.screen self.new.callbacks }
+        ensures { Counts CB.scrolls (line_erased mode) self.old.screen self.old.callbacks result self.new.screen
+            self.new.callbacks }
     {
         self.el(mode)
     }
 
     /// Sets how the cursor looks (DECSCUSR). Answers how many sequences were unhandled: 1 past 6.
     pub(crate) fn decscusr(&mut self, style: u16) -> usize
-        ensures { Counts CB.scrolls (styled style) self.old.screen self.old.callbacks result self.new.screen self.new.callbacks }
+        ensures { Counts CB.scrolls (styled style) self.old.screen self.old.callbacks result self.new.screen
+            self.new.callbacks }
     {
         if self.screen.failed {
             return 0;

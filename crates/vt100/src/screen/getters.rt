@@ -1,8 +1,9 @@
 //! What a screen answers about itself.
-ghost use Rattle.std.specs.Prelude.{◌≡◌, length, false, unwrap_or};
+ghost use Rattle.std.specs.Prelude.{not, ◌≡◌, length, false, unwrap_or};
 ghost use Rattle.std.specs.Option.{option_copied, option_map};
 ghost use Rattle.vt100_forms.specs.Attrs.{is_bold, is_dim, is_italic, is_underlined, is_inverse};
-ghost use Rattle.vt100_core.specs.Grid.{cell_in, visible_row_at};
+ghost use Rattle.vt100_core.specs.Grid.{IsGrid, cell_in, visible_row_at};
+ghost use Rattle.vt100_state.specs.State.{IsState};
 
 use crate::screen::Screen;
 use std::num::NonZeroU16;
@@ -14,6 +15,16 @@ impl Screen {
         ensures { result ≡ self.now.failed }
     {
         self.failed
+    }
+
+    /// Whether no call found no memory: the sheets of such a screen have one size, the main one alone keeps rows, and
+    /// its attributes are proper.
+    pub fn is_live(&self) -> bool
+        ensures answer { result ≡ not self.now.failed }
+        ensures live { self.now.failed ≡ false → IsGrid self.now.state.shown → IsGrid self.now.state.other
+            → IsState self.now.state }
+    {
+        !self.failed
     }
 
     /// How many rows and columns the screen has.

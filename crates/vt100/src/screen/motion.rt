@@ -1,7 +1,8 @@
 //! Control sequences that move the cursor.
 ghost use Rattle.std.specs.Prelude.{◌≡◌, ◌-◌, true, false};
 ghost use Rattle.vt100.specs.Tries.{unless_failed};
-ghost use Rattle.vt100_state.specs.Step.{moved_up, moved_down, moved_left, moved_right, line_below, line_above, at_column, at_row, at_place, in_region};
+ghost use Rattle.vt100_state.specs.Step.{moved_up, moved_down, moved_left, moved_right, line_below, line_above};
+ghost use Rattle.vt100_state.specs.Step.{at_column, at_row, at_place, in_region};
 
 use crate::callbacks::Callbacks;
 use crate::screen::WrappedScreen;
@@ -80,6 +81,14 @@ impl<CB: Callbacks> WrappedScreen<CB> {
         }
     }
 
+    /// The same as [`cha`](Self::cha) (HPA).
+    pub(crate) fn hpa(&mut self, col: u16)
+        ensures screen { self.new.screen ≡ unless_failed (at_column (col - 1)) self.old.screen }
+        ensures callbacks { self.new.callbacks ≡ self.old.callbacks }
+    {
+        self.cha(col);
+    }
+
     /// Moves the cursor to a row, or to the last one (VPA). Rows are counted from 1, and 0 counts as 1.
     pub fn vpa(&mut self, row: u16)
         ensures screen { self.new.screen ≡ unless_failed (at_row (row - 1)) self.old.screen }
@@ -90,8 +99,8 @@ impl<CB: Callbacks> WrappedScreen<CB> {
         }
     }
 
-    /// Moves the cursor to a row and a column, counted from 1, where 0 counts as 1 (CUP). In origin mode rows are counted
-    /// from the scroll region's top, and the cursor stays in the region.
+    /// Moves the cursor to a row and a column, counted from 1, where 0 counts as 1 (CUP). In origin mode rows are
+    /// counted from the scroll region's top, and the cursor stays in the region.
     pub fn cup(&mut self, pos: (u16, u16))
         ensures screen { self.new.screen ≡ unless_failed (at_place (pos.0 - 1) (pos.1 - 1)) self.old.screen }
         ensures callbacks { self.new.callbacks ≡ self.old.callbacks }
@@ -105,8 +114,8 @@ impl<CB: Callbacks> WrappedScreen<CB> {
         }
     }
 
-    /// Sets the scroll region, which is the whole screen unless it has two rows or more, and moves the cursor to its first
-    /// cell (DECSTBM). Rows are counted from 1, and 0 counts as 1.
+    /// Sets the scroll region, which is the whole screen unless it has two rows or more, and moves the cursor to its
+    /// first cell (DECSTBM). Rows are counted from 1, and 0 counts as 1.
     pub fn decstbm(&mut self, rows: (u16, u16))
         ensures screen { self.new.screen ≡ unless_failed (in_region (rows.0 - 1) (rows.1 - 1)) self.old.screen }
         ensures callbacks { self.new.callbacks ≡ self.old.callbacks }

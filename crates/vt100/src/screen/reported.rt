@@ -1,9 +1,10 @@
 //! Calls on a sheet that tell callbacks of the rows that leave it.
-ghost use Rattle.std.specs.Prelude.{◌≡◌, ◌++◌, OnOk, IfOk, true, false};
+ghost use Rattle.std.specs.Prelude.{◌≡◌, ◌<◌, ◌++◌, OnOk, IfOk, All, true, false};
+ghost use Rattle.vt100_cells.specs.Cell.{IsPrintable};
 ghost use Rattle.vt100_core.specs.Grid.{IsAllocated, SameLimits};
 ghost use Rattle.vt100_core.specs.Scroll.{fed, scrolled_up, scrollback_erased};
 ghost use Rattle.vt100_core.specs.Resize.{resized};
-ghost use Rattle.vt100_core.specs.Text.{printed};
+ghost use Rattle.vt100_core.specs.Text.{printed, printed_all};
 ghost use Rattle.vt100_state.specs.Step.{reports_of};
 ghost use Rattle.vt100_state.specs.Call.{Hears};
 
@@ -20,7 +21,8 @@ pub(super) struct Reporter<'a, CB> {
 }
 
 impl<'a, CB: Callbacks> RowSink for Reporter<'a, CB> {
-    ghost takes = { λ s v t. CB.scrolls s.callbacks.now v s.alternate_screen t.callbacks.now × (t.alternate_screen ≡ s.alternate_screen) × (t.callbacks.ghost_name ≡ s.callbacks.ghost_name) };
+    ghost takes = { λ s v t. CB.scrolls s.callbacks.now v s.alternate_screen t.callbacks.now
+        × (t.alternate_screen ≡ s.alternate_screen) × (t.callbacks.ghost_name ≡ s.callbacks.ghost_name) };
 
     fn row(&mut self, row: &Row) {
         self.callbacks
@@ -40,11 +42,35 @@ pub(super) fn print<CB: Callbacks>(
     ensures grid { OnOk result (grid.new ≡ (printed grid.old c attrs).grid) }
     ensures answer { IfOk result (λ p. p ≡ (printed grid.old c attrs).printed) }
     ensures same { reporter.new.callbacks.ghost_name ≡ reporter.old.callbacks.ghost_name }
-    ensures hears { Hears CB.scrolls reporter.old.callbacks.now (reports_of reporter.old.alternate_screen (printed grid.old c attrs).sunk) reporter.new.callbacks.now }
+    ensures hears { Hears CB.scrolls reporter.old.callbacks.now
+        (reports_of reporter.old.alternate_screen (printed grid.old c attrs).sunk) reporter.new.callbacks.now }
     ensures limits { SameLimits grid.old grid.new }
     ensures allocated { IsAllocated grid.new }
 {
     grid.text(c, attrs, reporter)
+}
+
+/// Printable ASCII, character by character.
+#[inline]
+pub(super) fn print_run<CB: Callbacks>(
+    grid: &mut Grid,
+    reporter: &mut Reporter<'_, CB>,
+    text: &[u8],
+    attrs: Attrs,
+) -> Result<(), GridError>
+    requires allocated { IsAllocated grid.old }
+    requires printable { All IsPrintable text.now }
+    ensures some_columns { 0 < grid.old.width }
+    ensures grid { OnOk result (grid.new ≡ (printed_all grid.old text.now attrs).grid) }
+    ensures same { reporter.new.callbacks.ghost_name ≡ reporter.old.callbacks.ghost_name }
+    ensures hears { OnOk result (Hears CB.scrolls reporter.old.callbacks.now
+        (reports_of reporter.old.alternate_screen (printed_all grid.old text.now attrs).sunk)
+        reporter.new.callbacks.now) }
+    ensures limits { SameLimits grid.old grid.new }
+    ensures allocated { IsAllocated grid.new }
+{
+    prove!(grid.size().cols.get() > 0);
+    grid.text_run(text, attrs, reporter)
 }
 
 /// A line feed.
@@ -56,7 +82,8 @@ pub(super) fn line_feed<CB: Callbacks>(
     requires { IsAllocated grid.old }
     ensures grid { OnOk result (grid.new ≡ (fed grid.old 1).grid) }
     ensures same { reporter.new.callbacks.ghost_name ≡ reporter.old.callbacks.ghost_name }
-    ensures hears { Hears CB.scrolls reporter.old.callbacks.now (reports_of reporter.old.alternate_screen (fed grid.old 1).sunk) reporter.new.callbacks.now }
+    ensures hears { Hears CB.scrolls reporter.old.callbacks.now
+        (reports_of reporter.old.alternate_screen (fed grid.old 1).sunk) reporter.new.callbacks.now }
     ensures limits { SameLimits grid.old grid.new }
     ensures allocated { IsAllocated grid.new }
 {
@@ -73,7 +100,8 @@ pub(super) fn scroll_up<CB: Callbacks>(
     requires { IsAllocated grid.old }
     ensures grid { OnOk result (grid.new ≡ (scrolled_up grid.old count).grid) }
     ensures same { reporter.new.callbacks.ghost_name ≡ reporter.old.callbacks.ghost_name }
-    ensures hears { Hears CB.scrolls reporter.old.callbacks.now (reports_of reporter.old.alternate_screen (scrolled_up grid.old count).sunk) reporter.new.callbacks.now }
+    ensures hears { Hears CB.scrolls reporter.old.callbacks.now
+        (reports_of reporter.old.alternate_screen (scrolled_up grid.old count).sunk) reporter.new.callbacks.now }
     ensures limits { SameLimits grid.old grid.new }
     ensures allocated { IsAllocated grid.new }
 {
@@ -85,13 +113,15 @@ pub(super) fn erase_kept<CB: Callbacks>(grid: &mut Grid, reporter: &mut Reporter
     requires { IsAllocated grid.old }
     ensures grid { grid.new ≡ scrollback_erased grid.old }
     ensures same { reporter.new.callbacks.ghost_name ≡ reporter.old.callbacks.ghost_name }
-    ensures hears { Hears CB.scrolls reporter.old.callbacks.now (reports_of reporter.old.alternate_screen grid.old.kept.rows) reporter.new.callbacks.now }
+    ensures hears { Hears CB.scrolls reporter.old.callbacks.now
+        (reports_of reporter.old.alternate_screen grid.old.kept.rows) reporter.new.callbacks.now }
     ensures allocated { IsAllocated grid.new }
 {
     grid.erase_all_scrollback(reporter);
 }
 
 /// Another size.
+#[tactic(auto, using(crate::proofs::SizeLemmas::resized_height, crate::proofs::SizeLemmas::resized_width))]
 fn resize<CB: Callbacks>(
     grid: &mut Grid,
     reporter: &mut Reporter<'_, CB>,
@@ -99,7 +129,12 @@ fn resize<CB: Callbacks>(
 ) -> Result<(), GridError>
     ensures grid { OnOk result (grid.new ≡ (resized grid.old size.rows.value size.cols.value).grid) }
     ensures same { reporter.new.callbacks.ghost_name ≡ reporter.old.callbacks.ghost_name }
-    ensures hears { Hears CB.scrolls reporter.old.callbacks.now (reports_of reporter.old.alternate_screen (resized grid.old size.rows.value size.cols.value).sunk) reporter.new.callbacks.now }
+    ensures hears { Hears CB.scrolls reporter.old.callbacks.now
+        (reports_of reporter.old.alternate_screen (resized grid.old size.rows.value size.cols.value).sunk)
+        reporter.new.callbacks.now }
+    ensures rows { OnOk result (grid.new.height ≡ size.rows.value) }
+    ensures cols { OnOk result (grid.new.width ≡ size.cols.value) }
+    ensures keeps { grid.new.kept.keeps ≡ grid.old.kept.keeps }
     ensures allocated { IsAllocated grid.old → IsAllocated grid.new }
 {
     grid.set_size(size, reporter)
@@ -116,8 +151,13 @@ pub(super) fn resize_both<CB: Callbacks>(
     ensures main { OnOk result (main.new ≡ (resized main.old size.rows.value size.cols.value).grid) }
     ensures alternate { OnOk result (alternate.new ≡ (resized alternate.old size.rows.value size.cols.value).grid) }
     ensures hears { OnOk result (Hears CB.scrolls callbacks.old
-        (reports_of false (resized main.old size.rows.value size.cols.value).sunk ++ reports_of true (resized alternate.old size.rows.value size.cols.value).sunk)
+        (reports_of false (resized main.old size.rows.value size.cols.value).sunk
+        ++ reports_of true (resized alternate.old size.rows.value size.cols.value).sunk)
         callbacks.new) }
+    ensures rows { OnOk result (alternate.new.height ≡ main.new.height) }
+    ensures cols { OnOk result (alternate.new.width ≡ main.new.width) }
+    ensures main_keeps { main.new.kept.keeps ≡ main.old.kept.keeps }
+    ensures alternate_keeps { alternate.new.kept.keeps ≡ alternate.old.kept.keeps }
     ensures main_allocated { IsAllocated main.old → IsAllocated main.new }
     ensures alternate_allocated { IsAllocated alternate.old → IsAllocated alternate.new }
 {

@@ -22,6 +22,7 @@ impl Screen {
     }
 
     /// Gives the screen another size, and tells no callbacks of the rows that leave it.
+    #[tactic(auto, using(crate::proofs::SizeLemmas::resized_height, crate::proofs::SizeLemmas::resized_width))]
     pub fn set_size(&mut self, rows: NonZeroU16, cols: NonZeroU16) -> Result<(), ScreenError>
         ensures { TriesAlone (λ s. (resized_to rows.value cols.value s).state) self.old result self.new }
     {
@@ -30,10 +31,12 @@ impl Screen {
         }
         let size = Size { rows, cols };
         if self.grid.set_size(size, &mut ()).is_err() {
-            return Err(self.fail());
+            self.failed = true;
+            return Err(ScreenError::Memory);
         }
         if self.other_grid.set_size(size, &mut ()).is_err() {
-            return Err(self.fail());
+            self.failed = true;
+            return Err(ScreenError::Memory);
         }
         Ok(())
     }
@@ -105,7 +108,8 @@ impl Screen {
 impl<CB: Callbacks> WrappedScreen<CB> {
     /// Makes everything as at first, at this size and capacity (RIS). The callbacks are told of no row.
     pub fn ris(&mut self) -> Result<(), ScreenError>
-        ensures { Tries CB.scrolls (λ s. quietly (made_anew s)) self.old.screen self.old.callbacks result self.new.screen self.new.callbacks }
+        ensures { Tries CB.scrolls (λ s. quietly (made_anew s)) self.old.screen self.old.callbacks result
+            self.new.screen self.new.callbacks }
     {
         if self.screen.failed {
             return Err(ScreenError::Failed);
@@ -125,7 +129,8 @@ impl<CB: Callbacks> WrappedScreen<CB> {
         rows: NonZeroU16,
         cols: NonZeroU16,
     ) -> Result<(), ScreenError>
-        ensures { Tries CB.scrolls (resized_to rows.value cols.value) self.old.screen self.old.callbacks result self.new.screen self.new.callbacks }
+        ensures { Tries CB.scrolls (resized_to rows.value cols.value) self.old.screen self.old.callbacks result
+            self.new.screen self.new.callbacks }
     {
         if self.screen.failed {
             return Err(ScreenError::Failed);
@@ -140,7 +145,8 @@ impl<CB: Callbacks> WrappedScreen<CB> {
             )
             .is_err()
             {
-                return Err(self.screen.fail());
+                self.screen.failed = true;
+                return Err(ScreenError::Memory);
             }
             return Ok(());
         }
@@ -152,7 +158,8 @@ impl<CB: Callbacks> WrappedScreen<CB> {
         )
         .is_err()
         {
-            return Err(self.screen.fail());
+            self.screen.failed = true;
+            return Err(ScreenError::Memory);
         }
         Ok(())
     }

@@ -1,13 +1,15 @@
 //! A screen with its callbacks.
-ghost use Rattle.std.specs.Prelude.{◌≡◌, OnOk, OnErr, IfOk, Err, true, false};
+ghost use Rattle.std.specs.Prelude.{◌≡◌, OnOk, OnErr, IfOk, Err, All, true, false};
+ghost use Rattle.vt100_cells.specs.Cell.{IsPrintable};
+ghost use Rattle.vt100.specs.Runs.{typed_all, last_of};
 ghost use Rattle.vt100.specs.Tries.{Tries};
-ghost use Rattle.vt100_state.specs.Step.{typed, line_fed, region_up, last_after};
+ghost use Rattle.vt100_state.specs.Step.{typed, repeated, line_fed, region_up, last_after};
 ghost use Rattle.vt100.specs.declared.error.ScreenError.TheVariants.{Memory};
 
 use crate::callbacks::Callbacks;
 use crate::error::ScreenError;
 use crate::screen::Screen;
-use crate::screen::reported::{Reporter, line_feed, print, scroll_up};
+use crate::screen::reported::{Reporter, line_feed, print, print_run, scroll_up};
 use vt100_core::Printed;
 
 /// A screen with the callbacks that it tells of its events.
@@ -20,7 +22,8 @@ pub struct WrappedScreen<CB> {
 impl<CB: Callbacks> WrappedScreen<CB> {
     /// Prints a character at the cursor, with the drawing attributes.
     pub fn text(&mut self, c: char) -> Result<(), ScreenError>
-        ensures { Tries CB.scrolls (typed c) self.old.screen self.old.callbacks result self.new.screen self.new.callbacks }
+        ensures { Tries CB.scrolls (typed c) self.old.screen self.old.callbacks result self.new.screen
+            self.new.callbacks }
     {
         if self.screen.failed {
             return Err(ScreenError::Failed);
@@ -40,9 +43,34 @@ impl<CB: Callbacks> WrappedScreen<CB> {
         Ok(())
     }
 
+    /// Prints printable ASCII as [`text`](Self::text) of each character in turn does.
+    pub(crate) fn text_run(&mut self, text: &[u8]) -> Result<(), ScreenError>
+        requires { All IsPrintable text.now }
+        ensures { Tries CB.scrolls (typed_all text.now) self.old.screen self.old.callbacks result self.new.screen
+            self.new.callbacks }
+    {
+        if self.screen.failed {
+            return Err(ScreenError::Failed);
+        }
+        let attrs = self.screen.attrs;
+        let mut reporter = Reporter {
+            callbacks: &mut self.callbacks,
+            alternate_screen: self.screen.alternate_screen,
+        };
+        match print_run(&mut self.screen.grid, &mut reporter, text, attrs) {
+            Ok(()) => self.screen.last_char = last_of(text, self.screen.last_char),
+            Err(_) => {
+                self.screen.failed = true;
+                return Err(ScreenError::Memory);
+            }
+        }
+        Ok(())
+    }
+
     /// Moves the cursor a row down, where the scroll region moves up at its last row (LF).
     pub fn lf(&mut self) -> Result<(), ScreenError>
-        ensures { Tries CB.scrolls line_fed self.old.screen self.old.callbacks result self.new.screen self.new.callbacks }
+        ensures { Tries CB.scrolls line_fed self.old.screen self.old.callbacks result self.new.screen
+            self.new.callbacks }
     {
         if self.screen.failed {
             return Err(ScreenError::Failed);
@@ -56,6 +84,68 @@ impl<CB: Callbacks> WrappedScreen<CB> {
             return Err(ScreenError::Memory);
         }
         Ok(())
+    }
+
+    /// The same (VT).
+    pub fn vt(&mut self) -> Result<(), ScreenError>
+        ensures { Tries CB.scrolls line_fed self.old.screen self.old.callbacks result self.new.screen
+            self.new.callbacks }
+    {
+        self.lf()
+    }
+
+    /// The same (FF).
+    pub fn ff(&mut self) -> Result<(), ScreenError>
+        ensures { Tries CB.scrolls line_fed self.old.screen self.old.callbacks result self.new.screen
+            self.new.callbacks }
+    {
+        self.lf()
+    }
+
+    /// Moves the lines of the scroll region up; blank ones come in at its bottom (SU).
+    pub fn su(&mut self, count: u16) -> Result<(), ScreenError>
+        ensures { Tries CB.scrolls (region_up count) self.old.screen self.old.callbacks result self.new.screen
+            self.new.callbacks }
+    {
+        if self.screen.failed {
+            return Err(ScreenError::Failed);
+        }
+        let mut reporter = Reporter {
+            callbacks: &mut self.callbacks,
+            alternate_screen: self.screen.alternate_screen,
+        };
+        if scroll_up(&mut self.screen.grid, &mut reporter, count).is_err() {
+            self.screen.failed = true;
+            return Err(ScreenError::Memory);
+        }
+        Ok(())
+    }
+
+    /// Prints the last character that was drawn in a cell of its own, so many times more, if there is one (REP).
+    pub(crate) fn rep(&mut self, count: u16) -> Result<(), ScreenError>
+        ensures { Tries CB.scrolls (repeated count) self.old.screen self.old.callbacks result self.new.screen
+            self.new.callbacks }
+    {
+        if self.screen.failed {
+            return Err(ScreenError::Failed);
+        }
+        if let Some(c) = self.screen.last_char {
+            for _i in 0..count {
+                self.text(c)?;
+            }
+        }
+        Ok(())
+    }
+}
+
+/// The last of these characters, or where there are none the one before them.
+#[inline]
+fn last_of(text: &[u8], last: Option<char>) -> Option<char>
+    ensures { result ≡ last_of text.now last }
+{
+    match text {
+        [.., byte] => Some(*byte as char),
+        [] => last,
     }
 }
 

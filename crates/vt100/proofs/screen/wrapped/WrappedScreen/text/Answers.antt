@@ -7,4 +7,5 @@ use Rattle.vt100.proofs.screen.wrapped.WrappedScreen.text.Goals as goal
 pub returns : goal.returns
 returns g c = rw (← c.self.view_is)
     (typed_tries g.CB.Callbacks.scrolls c.args.c _ _ _ _ _ c.if-self.false c.in-Ok.ensures.grid
-    (c.last_after-self-inside.ensures ∙ ap (λ p. last_after p c.args.c c.self.inside.0.0.last_char) c.in-Ok.ensures.answer) c.print.ensures.hears)
+    (c.last_after-self-inside.ensures ∙ ap (λ p. last_after p c.args.c c.self.inside.0.0.last_char)
+    c.in-Ok.ensures.answer) c.print.ensures.hears)

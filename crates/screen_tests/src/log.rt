@@ -1,0 +1,139 @@
+//! Callbacks that write down what they are told.
+
+ghost use Rattle.std.specs.Prelude.{⊤};
+
+use crate::shown::{Start, count};
+use std::alloc::Global;
+use std::str;
+use vt100::capture::{BasicFormattedCaptureState, RowContents};
+use vt100::{Call, Callbacks, Parser, Screen, ScreenError};
+
+/// The calls so far, each as a few words with the cursor's place at that time, and the capture of the rows that left.
+/// What asks for a size gets it.
+#[derive(Drop)]
+pub struct Log {
+    pub text: String,
+    pub capture: String,
+    pub state: BasicFormattedCaptureState,
+    pub failed: bool,
+}
+
+impl Log {
+    fn new(alloc: Global) -> Log {
+        Log {
+            text: String::new(alloc),
+            capture: String::new(alloc),
+            state: BasicFormattedCaptureState::default(),
+            failed: false,
+        }
+    }
+
+    pub fn word(&mut self, word: &str) {
+        self.failed |= write!(self.text, "{word} ").is_err();
+    }
+
+    fn bytes(&mut self, bytes: &[u8]) {
+        self.word(str::from_utf8(bytes).unwrap_or("?"));
+    }
+
+    fn sequence(&mut self, params: &[&[u16]], c: char) {
+        self.failed |= write!(self.text, "{params:?} {c} ").is_err();
+    }
+
+    fn marks(&mut self, i1: Option<u8>, i2: Option<u8>) {
+        self.failed |= write!(self.text, "{i1:?} {i2:?} ").is_err();
+    }
+
+    /// What the screen has come to when a call is made.
+    fn place(&mut self, screen: &Screen) {
+        let (row, col) = screen.cursor_position();
+        let bold = if screen.bold() { "b" } else { "" };
+        self.failed |= write!(self.text, "at {row} {col}{bold}; ").is_err();
+    }
+
+    fn request(&mut self, screen: &mut Screen, rows: u16, cols: u16) {
+        self.failed |= write!(self.text, "resize {rows} {cols} ").is_err();
+        self.failed |= screen.set_size(count(rows), count(cols)).is_err();
+    }
+}
+
+impl Callbacks for Log {
+    ghost step = { λ _ _ _ _ _. ⊤ };
+
+    ghost scrolls = { λ _ _ _ _. ⊤ };
+
+    fn call(&mut self, screen: &mut Screen, call: Call<'_>) {
+        match call {
+            Call::AudibleBell => self.word("bell by a detour"),
+            Call::VisualBell => self.word("flash"),
+            Call::Resize(rows, cols) => self.request(screen, rows, cols),
+            Call::SetWindowIconName(name) => {
+                self.word("icon");
+                self.bytes(name);
+            }
+            Call::SetWindowTitle(title) => {
+                self.word("title");
+                self.bytes(title);
+            }
+            Call::CopyToClipboard(ty, data) => {
+                self.word("copy");
+                self.bytes(ty);
+                self.bytes(data);
+            }
+            Call::PasteFromClipboard(ty) => {
+                self.word("paste");
+                self.bytes(ty);
+            }
+            Call::UnhandledChar(c) => self.failed |= write!(
+                self.text,
+                "char {} ",
+                c as u32
+            ).is_err(),
+            Call::UnhandledControl(b) => self.failed |= write!(self.text, "control {b} ").is_err(),
+            Call::UnhandledEscape(i1, i2, b) => {
+                self.word("escape");
+                self.marks(i1, i2);
+                self.failed |= write!(self.text, "{b} ").is_err();
+            }
+            Call::UnhandledCsi(i1, i2, params, c) => {
+                self.word("csi");
+                self.marks(i1, i2);
+                self.sequence(params, c);
+            }
+            Call::UnhandledOsc(params) => {
+                self.word("osc");
+                for piece in params {
+                    self.bytes(piece);
+                }
+            }
+        }
+        self.place(screen);
+    }
+
+    fn on_scroll(&mut self, contents: RowContents<'_>, alternate_screen: bool) {
+        self.word(if alternate_screen {
+            "alternate row"
+        } else {
+            "row"
+        });
+        let mut alone = BasicFormattedCaptureState::new();
+        self.failed |= contents
+            .write_formatted_basic(&mut self.text, &mut alone)
+            .is_err();
+        self.word(";");
+        self.failed |= contents
+            .write_formatted_basic(&mut self.capture, &mut self.state)
+            .is_err();
+    }
+
+    fn audible_bell(&mut self, screen: &mut Screen) {
+        self.word("bell");
+        self.place(screen);
+    }
+}
+
+/// A parser of this size with a log.
+pub fn logging_parser(alloc: Global, start: Start) -> Result<Parser<Log>, ScreenError> {
+    let (rows, cols, capacity) = start;
+    Parser::new_with_callbacks(alloc, count(rows), count(cols), capacity, Log::new(alloc))
+}

@@ -1,0 +1,189 @@
+-- Events that a screen has gone through, and what acts make.
+use Rattle.std.proofs.Common.{◌≡◌, ◌∙◌, ◌⊎◌, ℕ, Bool, true, false, List, [], ◌∷◌, ◌++◌, ap, refl, sym, subst}
+use Rattle.std.proofs.Common.{inl, inr, append_assoc, append-nil, Ok, Err, Result, OnOk}
+use Rattle.std.proofs.lemmas.Bool.{false≢true}
+use Rattle.vte_core.specs.Event.{Event, Performs}
+use Rattle.vte_core.specs.declared.Parser.{Parser}
+use Rattle.vte_core.specs.Standing.{Stands}
+use Rattle.vte_core.specs.Told.{Told}
+use Rattle.vte_core.specs.Added.{added}
+use Rattle.vte_core.proofs.AddedLemmas.{added-is, added-append, added-none}
+use Rattle.vt100_rows.specs.Row.{RowView}
+use Rattle.vt100_state.specs.State.{State}
+use Rattle.vt100_state.specs.Step.{resized_to}
+use Rattle.vt100_state.specs.Call.{Call, ScreenView}
+use Rattle.vt100_state.specs.Effect.{effect}
+use Rattle.vt100_state.specs.Made.{Act, Fed, Resized, played, events_added, bytes_fed, made_on, made}
+use Rattle.vt100.specs.declared.screen.wrapped.WrappedScreen.{WrappedScreen}
+use Rattle.vt100.specs.declared.error.ScreenError.{ScreenError}
+use Rattle.vt100.specs.Tries.{Tries, alive}
+use Rattle.vt100.specs.Goes.{Either, Tells, Goes, GoesThrough}
+use Rattle.vt100.specs.Parsing.{ParserView, StandsAt, KeepsScreens}
+use Rattle.vt100.specs.Laws.{PlaysEvents, FeedsMake, FeedsJoin, FeedsNothing, ActsFollow}
+use Rattle.vt100.proofs.EventLemmas.{is_alive}
+
+both : (b : Bool) → (b ≡ true) ⊎ (b ≡ false)
+both true = inl refl
+both false = inr refl
+
+-- ---- a performer's steps
+
+abbrev pub Steps : {C : Type 0} → (C → ScreenView → Call → C → ScreenView → Type 0) → (C → RowView → Bool → C → Type 0)
+    → WrappedScreen C → Event → WrappedScreen C → Type 0
+Steps step scrolls p e q = Goes step scrolls e p.callbacks p.screen q.callbacks q.screen
+
+pub goes_through : {C : Type 0} (step : C → ScreenView → Call → C → ScreenView → Type 0)
+    (scrolls : C → RowView → Bool → C → Type 0) (es : List Event) (p q : WrappedScreen C)
+    → Performs (Steps step scrolls) p es q → GoesThrough step scrolls es p.callbacks p.screen q.callbacks q.screen
+goes_through step scrolls [] p q h = (ap (λ x. x.callbacks) h, ap (λ x. x.screen) h)
+goes_through step scrolls (e ∷ es) p q (m, s, h) = (m.callbacks, m.screen, s, goes_through step scrolls es m q h)
+
+-- what a call of the reader told
+pub goes_told : {C : Type 0} (step : C → ScreenView → Call → C → ScreenView → Type 0)
+    (scrolls : C → RowView → Bool → C → Type 0) (r : Parser 1024) (p : WrappedScreen C) (bytes : List ℕ)
+    (q : WrappedScreen C) → Told (Steps step scrolls) 1024 r p bytes q → (past : List ℕ) → Stands 1024 r past
+    → GoesThrough step scrolls (events_added past bytes) p.callbacks p.screen q.callbacks q.screen
+unfolding added
+goes_told {C} step scrolls r p bytes q t past stands =
+    subst (λ (es : List Event). GoesThrough step scrolls es p.callbacks p.screen q.callbacks q.screen)
+    (added-is 1024 past bytes t.told (t.added past stands)) (goes_through step scrolls t.told p q t.performed)
+
+-- ---- callbacks that leave the screen as it is
+
+tells_keeps : {C : Type 0} (step : C → ScreenView → Call → C → ScreenView → Type 0) → KeepsScreens step
+    → (c : C) (v : ScreenView) (ks : List Call) (d : C) (w : ScreenView) → Tells step c v ks d w → w ≡ v
+tells_keeps step keeps c v [] d w h = h.1
+tells_keeps {C} step keeps c v (k ∷ ks) d w h =
+    let cases : (b : Bool) → Either b ((d ≡ c) × (w ≡ v)) ((a : C) × (u : ScreenView) × step c v k a u
+    × Tells step a u ks d w) → w ≡ v = λ b. elim b as (λ x. Either x ((d ≡ c) × (w ≡ v)) ((a : C) × (u : ScreenView)
+    × step c v k a u × Tells step a u ks d w) → w ≡ v) [
+      | true ↦ λ p. p.1
+      | false ↦ λ q. tells_keeps step keeps q.0 q.1 ks d w q.3 ∙ keeps c v k q.0 q.1 q.2
+    ] in
+    cases v.failed h
+
+one_played : {C : Type 0} (step : C → ScreenView → Call → C → ScreenView → Type 0)
+    (scrolls : C → RowView → Bool → C → Type 0) → KeepsScreens step → (e : Event) (c : C) (v : ScreenView) (d : C)
+    (w : ScreenView) → v.failed ≡ false → Goes step scrolls e c v d w → w.failed ≡ false
+    → w ≡ alive (effect e v.state).state
+one_played step scrolls keeps e c v d w h g live =
+    elim (g.live h) [
+      | inl a ↦ tells_keeps step keeps a.0 (alive (effect e v.state).state) (effect e v.state).calls d w a.2
+      | inr f ↦ absurd (false≢true (sym live ∙ f))
+    ]
+
+failed_stays : {C : Type 0} (step : C → ScreenView → Call → C → ScreenView → Type 0)
+    (scrolls : C → RowView → Bool → C → Type 0) (es : List Event) (c : C) (v : ScreenView) (d : C) (w : ScreenView)
+    → v.failed ≡ true → GoesThrough step scrolls es c v d w → w.failed ≡ true
+failed_stays step scrolls [] c v d w h g = ap (λ (x : ScreenView). x.failed) g.1 ∙ h
+failed_stays step scrolls (e ∷ es) c v d w h (b, u, one, more) =
+    failed_stays step scrolls es b u d w (ap (λ (x : ScreenView). x.failed) (one.dead h).1 ∙ h) more
+
+pub all_played : {C : Type 0} (step : C → ScreenView → Call → C → ScreenView → Type 0)
+    (scrolls : C → RowView → Bool → C → Type 0) → KeepsScreens step → (es : List Event) (c : C) (v : ScreenView) (d : C)
+    (w : ScreenView) → v.failed ≡ false → GoesThrough step scrolls es c v d w → w.failed ≡ false
+    → w ≡ alive (played es v.state)
+all_played step scrolls keeps [] c v d w h g live = g.1 ∙ is_alive v h
+all_played step scrolls keeps (e ∷ es) c v d w h (b, u, one, more) live =
+    elim (both u.failed) [
+      | inl f ↦ absurd (false≢true (sym live ∙ failed_stays step scrolls es b u d w f more))
+      | inr f ↦ all_played step scrolls keeps es b u d w f more live
+          ∙ ap (λ (x : ScreenView). alive (played es x.state)) (one_played step scrolls keeps e c v b u h one f)
+    ]
+
+pub plays_events : PlaysEvents
+plays_events es s w g live = all_played (λ c x k d y. x ≡ y) (λ c r a d. c ≡ d) (λ c v k d w h. sym h) es tt
+    (alive s) tt w
+    refl g live
+
+pub feeds_make : FeedsMake
+feeds_make past bytes s w g live = plays_events (events_added past bytes) s w g live
+
+-- ---- what acts make
+
+played_append : (xs ys : List Event) (s : State) → played (xs ++ ys) s ≡ played ys (played xs s)
+played_append [] ys s = refl
+played_append (x ∷ xs) ys s = played_append xs ys (effect x s).state
+
+feeds_after : (past : List ℕ) (s : State) (a b : List ℕ) → played (events_added past (a ++ b)) s
+    ≡ played (events_added (past ++ a) b) (played (events_added past a) s)
+unfolding added
+feeds_after past s a b =
+    ap (λ (es : List Event). played es s) (added-append 1024 past a b)
+    ∙ played_append (events_added past a) (events_added (past ++ a) b) s
+
+pub feeds_join : FeedsJoin
+feeds_join past s a b acts =
+    ap (λ (p : List ℕ). made_on p (played (events_added (past ++ a) b) (played (events_added past a) s)) acts)
+    (append_assoc past a b)
+    ∙ ap (λ (t : State). made_on (past ++ (a ++ b)) t acts) (sym (feeds_after past s a b))
+
+none_added : (past : List ℕ) → events_added past [] ≡ []
+unfolding added
+none_added past = added-none 1024 past
+
+pub feeds_nothing : FeedsNothing
+feeds_nothing past s acts =
+    ap (λ (p : List ℕ). made_on p (played (events_added past []) s) acts) (append-nil past)
+    ∙ ap (λ (es : List Event). made_on past (played es s) acts) (none_added past)
+
+made_after : (past : List ℕ) (s : State) (acts more : List Act)
+    → made_on past s (acts ++ more) ≡ made_on (past ++ bytes_fed acts) (made_on past s acts) more
+made_after past s [] more = ap (λ (p : List ℕ). made_on p s more) (sym (append-nil past))
+made_after past s (Fed bs ∷ acts) more =
+    made_after (past ++ bs) (played (events_added past bs) s) acts more
+    ∙ ap (λ (p : List ℕ). made_on p (made_on (past ++ bs) (played (events_added past bs) s) acts) more)
+    (append_assoc past bs (bytes_fed acts))
+made_after past s (Resized rows cols ∷ acts) more = made_after past (resized_to rows cols s).state acts more
+
+pub acts_follow : ActsFollow
+acts_follow rows cols capacity acts more = made_after [] _ acts more
+
+bytes_after : (acts more : List Act) → bytes_fed (acts ++ more) ≡ bytes_fed acts ++ bytes_fed more
+bytes_after [] more = refl
+bytes_after (Fed bs ∷ acts) more = ap (λ (p : List ℕ). bs ++ p) (bytes_after acts more)
+    ∙ sym (append_assoc bs (bytes_fed acts) (bytes_fed more))
+bytes_after (Resized rows cols ∷ acts) more = bytes_after acts more
+
+-- ---- where a parser stands
+
+pub stands_fed : {C : Type 0} (step : C → ScreenView → Call → C → ScreenView → Type 0)
+    (scrolls : C → RowView → Bool → C → Type 0) → KeepsScreens step → (p q : ParserView C) (bytes : List ℕ)
+    → ((past : List ℕ) → Stands 1024 p.reader past → Stands 1024 q.reader (past ++ bytes))
+    → ((past : List ℕ) → Stands 1024 p.reader past → GoesThrough step scrolls (events_added past bytes)
+    p.callbacks p.screen q.callbacks q.screen)
+    → q.screen.failed ≡ false → (rows cols capacity : ℕ) (acts : List Act) → StandsAt p rows cols capacity acts
+    → StandsAt q rows cols capacity (acts ++ Fed bytes ∷ [])
+stands_fed step scrolls keeps p q bytes reads goes live rows cols capacity acts at =
+    let past = bytes_fed acts in
+    let s = made rows cols capacity acts in
+    let alive_there = ap (λ (x : ScreenView). x.failed) at.screen in
+    let shown = all_played step scrolls keeps (events_added past bytes) p.callbacks p.screen q.callbacks q.screen
+    alive_there (goes past at.has_read) live
+    ∙ ap (λ (x : ScreenView). alive (played (events_added past bytes) x.state)) at.screen in
+    record {
+      has_read = subst (λ (b : List ℕ). Stands 1024 q.reader b) (ap (λ (b : List ℕ). past ++ b) (sym (append-nil bytes))
+          ∙ sym (bytes_after acts (Fed bytes ∷ []))) (reads past at.has_read);
+      screen = shown ∙ ap alive (sym (acts_follow rows cols capacity acts (Fed bytes ∷ [])));
+    }
+
+pub stands_resized : {C : Type 0} (p q : ParserView C) (height width : ℕ) → q.reader ≡ p.reader
+    → q.screen ≡ alive (resized_to height width p.screen.state).state
+    → (rows cols capacity : ℕ) (acts : List Act) → StandsAt p rows cols capacity acts
+    → StandsAt q rows cols capacity (acts ++ Resized height width ∷ [])
+stands_resized p q height width reader screen rows cols capacity acts at = record {
+  has_read = subst (λ (b : List ℕ). Stands 1024 q.reader b)
+      (sym (append-nil (bytes_fed acts)) ∙ sym (bytes_after acts (Resized height width ∷ [])))
+      (subst (λ (r : Parser 1024). Stands 1024 r (bytes_fed acts)) (sym reader) at.has_read);
+  screen = screen ∙ ap (λ (x : ScreenView). alive (resized_to height width x.state).state) at.screen
+      ∙ ap alive (sym (acts_follow rows cols capacity acts (Resized height width ∷ [])));
+}
+
+pub resized_stands : {C : Type 0} (scrolls : C → RowView → Bool → C → Type 0) (p q : ParserView C) (height width : ℕ)
+    (result : Result (Unit {0}) ScreenError) → q.reader ≡ p.reader
+    → Tries scrolls (resized_to height width) p.screen p.callbacks result q.screen q.callbacks
+    → (rows cols capacity : ℕ) (acts : List Act) → StandsAt p rows cols capacity acts
+    → OnOk result (StandsAt q rows cols capacity (acts ++ Resized height width ∷ []))
+resized_stands scrolls p q height width (Ok u) reader t rows cols capacity acts at =
+    stands_resized p q height width reader t.screen rows cols capacity acts at
+resized_stands scrolls p q height width (Err e) reader t rows cols capacity acts at = tt

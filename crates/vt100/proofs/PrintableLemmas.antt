@@ -1,0 +1,50 @@
+-- Bytes that are printable ASCII.
+use Rattle.std.proofs.Common.{◌≡◌, ◌∙◌, ◌+◌, ◌-◌, ◌<◌, ◌≤◌, ◌&&◌, ℕ, zero, suc, Bool, List, [], ◌∷◌, ◌++◌, ap, sym}
+use Rattle.std.proofs.Common.{refl, Option, Some, length, take, drop, get_or, nat_lt, arith, take-append-drop}
+use Rattle.std.specs.Prelude.{All, IsTrue}
+use Rattle.std.specs.Str.{IsAscii, IsUtf8, IsCharBoundary, chars}
+use Rattle.std.proofs.lemmas.Bool.{and_parts, leb-true, ltb-true}
+use Rattle.std.proofs.lemmas.List.Elements.{All-drop, All-more}
+use Rattle.std.proofs.lemmas.Str.{IsUtf8-from_ascii, IsCharBoundary-from_take, chars-append, chars-IsAscii}
+use Rattle.vt100_cells.specs.Cell.{IsPrintable}
+use Rattle.vt100.specs.Runs.{last_of}
+use lib.Dec.{leb}
+
+-- one more
+pub printable-more : (bs : List ℕ) (i : ℕ) (p : Bool) → i < length bs → (IsTrue p → All IsPrintable (take i bs))
+    → IsTrue (p && (leb 32 (get_or bs i 0) && nat_lt (get_or bs i 0) 127)) → All IsPrintable (take (i + 1) bs)
+printable-more bs i p lt so_far t =
+    let b = get_or bs i 0 in
+    let both = and_parts p (leb 32 b && nat_lt b 127) t in
+    let ends = and_parts (leb 32 b) (nat_lt b 127) both.1 in
+    All-more IsPrintable bs i 0 lt (so_far both.0) (leb-true 32 b ends.0, ltb-true b 127 ends.1)
+
+printable-ascii : (xs : List ℕ) → All IsPrintable xs → IsAscii xs
+printable-ascii [] p i = omega arith
+printable-ascii (x ∷ xs) p zero = let one = p zero 0 (omega arith) in omega (arith, one.1)
+printable-ascii (x ∷ xs) p (suc i) = printable-ascii xs (All-drop IsPrintable 1 (x ∷ xs) p) i
+
+-- a text may be cut behind them, and they are its first characters
+pub printable-boundary : (bs : List ℕ) (n : ℕ) → IsUtf8 bs → n ≤ length bs → All IsPrintable (take n bs)
+    → IsCharBoundary bs n
+printable-boundary bs n u within p =
+    IsCharBoundary-from_take bs n u within (IsUtf8-from_ascii (take n bs) (printable-ascii (take n bs) p))
+
+pub printable-chars : (bs : List ℕ) (n : ℕ) → All IsPrintable (take n bs) → chars bs ≡ take n bs ++ chars (drop n bs)
+printable-chars bs n p =
+    let ascii = printable-ascii (take n bs) p in
+    ap chars (sym (take-append-drop n bs)) ∙ chars-append (take n bs) (drop n bs) (IsUtf8-from_ascii (take n bs) ascii)
+    ∙ ap (λ (xs : List ℕ). xs ++ chars (drop n bs)) (chars-IsAscii (take n bs) ascii)
+
+pub last_of-is : (xs : List ℕ) (last : Option ℕ) → 0 < length xs → last_of xs last ≡ Some (get_or xs (length xs - 1) 0)
+last_of-is [] last some = absurd (omega arith)
+last_of-is (x ∷ []) last some = refl
+last_of-is (x ∷ y ∷ ys) last some =
+    let e : length (y ∷ ys) - 1 ≡ length ys = omega arith in
+    let f : length (x ∷ y ∷ ys) - 1 ≡ suc (length ys) = omega arith in
+    last_of-is (y ∷ ys) (Some x) (omega arith) ∙ ap (λ n. Some (get_or (y ∷ ys) n 0)) e
+    ∙ sym (ap (λ n. Some (get_or (x ∷ y ∷ ys) n 0)) f)
+
+pub last_of-none : (xs : List ℕ) (last : Option ℕ) → length xs ≡ 0 → last_of xs last ≡ last
+last_of-none [] last none = refl
+last_of-none (x ∷ xs) last none = absurd (omega arith)

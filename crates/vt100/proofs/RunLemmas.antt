@@ -1,0 +1,292 @@
+-- Printable ASCII that is printed at once, as event by event.
+use Rattle.std.proofs.Common.{◌≡◌, ◌∙◌, ◌<◌, ◌==◌, ℕ, zero, Bool, true, false, cond, List, [], ◌∷◌, ◌++◌, ap, sym}
+use Rattle.std.proofs.Common.{Option, Some, Result, Ok, Err, OnOk, OnErr, length, map, refl, subst, inl, inr, arith}
+use Rattle.std.proofs.Common.{if◌then◌else◌, nat_le, take, drop, ◌+◌, ◌⊎◌, ◌&&◌, ◌≤◌}
+use Rattle.std.specs.Prelude.{All}
+use Rattle.std.specs.Char.{encode_utf8}
+use Rattle.std.specs.Str.{IsUtf8, chars}
+use Rattle.std.proofs.lemmas.Grind.{common_steps}
+use Rattle.std.proofs.lemmas.Str.{chars_past_char, chars-nil}
+use Rattle.vte_core.proofs.Telling.{performs-append, same_events}
+use Rattle.std.proofs.lemmas.Bool.{false≢true}
+use Rattle.std.proofs.lemmas.Bool.Decides.{nat_tests}
+use Rattle.std.proofs.lemmas.List.Elements.{All-drop}
+use Rattle.vt100_cells.specs.Cell.{IsPrintable}
+use Rattle.vt100_forms.specs.declared.attrs.Attrs.{Attrs}
+use Rattle.vt100_rows.specs.Row.{RowView}
+use Rattle.vt100_sheet.specs.Sink.{TakesAll}
+use Rattle.vt100_core.specs.Grid.{GridView, is_in_region}
+use Rattle.vt100_core.specs.Cursor.{moved_rows_down}
+use Rattle.vt100_core.specs.Scroll.{Scrolled, scrolled_up, fed, wrapped_on, rows_past_bottom}
+use Rattle.vt100_core.specs.Text.{Drawn, printed, printed_all, TakesFront}
+use Rattle.vt100_core.specs.declared.printed.Printed.{Printed}
+use Rattle.vt100_core.proofs.RunLemmas.{printed-printable}
+use Rattle.vt100_state.specs.State.{State}
+use Rattle.vt100_state.specs.Step.{Report, Stepped, reports_of, typed, last_after}
+use Rattle.vt100_state.specs.Call as said
+use Rattle.vt100_state.specs.Call.{Call, ScreenView, Hears}
+use Rattle.vt100_state.specs.Effect.{is_unhandled, calling, steps}
+use Rattle.vte_core.specs.Event.{Event, Print, Performs}
+use Rattle.vt100.specs.declared.error.ScreenError.{ScreenError}
+use Rattle.vt100.specs.declared.error.ScreenError.TheVariants.{Memory, Failed}
+use Rattle.vt100.specs.declared.screen.wrapped.WrappedScreen.{WrappedScreen}
+use Rattle.vt100.specs.Tries.{Tries, alive}
+use Rattle.vt100.specs.Goes.{Goes, GoesThrough}
+use Rattle.vt100.specs.Runs.{typed_all, last_of, PrintsFront}
+use Rattle.vt100.proofs.HearLemmas.{hears_all}
+use Rattle.vt100.proofs.PrintableLemmas.{printable-chars}
+use Rattle.vt100.proofs.EventLemmas.{is_alive, does_as, does_none}
+use Rattle.vt100.proofs.PlayLemmas.{Steps}
+
+-- ---- a sheet stays as wide
+
+width-cond : (b : Bool) (w : ℕ) (x y : Scrolled) → x.grid.width ≡ w → y.grid.width ≡ w
+    → (if b then x else y).grid.width ≡ w
+width-cond true w x y p q = p
+width-cond false w x y p q = q
+
+width-grid : (b : Bool) (w : ℕ) (x y : GridView) → x.width ≡ w → y.width ≡ w → (if b then x else y).width ≡ w
+width-grid true w x y p q = p
+width-grid false w x y p q = q
+
+width-fed : (g : GridView) (n : ℕ) → (fed g n).grid.width ≡ g.width
+unfolding fed scrolled_up
+width-fed g n = width-cond (is_in_region g) g.width (scrolled_up (moved_rows_down g n) (rows_past_bottom g n))
+    (record { grid = moved_rows_down g n; sunk = [] }) refl refl
+
+width-wrapped_on : (g : GridView) (b : Bool) → (wrapped_on g b).grid.width ≡ g.width
+unfolding wrapped_on
+width-wrapped_on g b =
+    let e = width-fed (record g { col = 0 }) 1 in
+    width-grid ((g.row == g.bottom) && (g.row == 0)) g.width (fed (record g { col = 0 }) 1).grid _ e e
+
+width-printed : (g : GridView) (c : ℕ) (a : Attrs) → IsPrintable c → 0 < g.width → (printed g c a).grid.width ≡ g.width
+width-printed g c a p w =
+    ap (λ (d : Drawn). d.grid.width) (printed-printable g c a p w)
+    ∙ width-cond (nat_le (g.col + 1) g.width) g.width (record { grid = g; sunk = [] }) (wrapped_on g true) refl
+    (width-wrapped_on g true)
+
+-- ---- a run, as characters that are typed
+
+-- a state with another shown sheet and another last character, and the rows that left
+abbrev drawn_as : State → GridView → Option ℕ → List RowView → Stepped
+drawn_as s g last sunk = record {
+  state = record s { shown = g; last = last };
+  reports = reports_of s.alternate sunk;
+}
+
+typed-printable : (c : ℕ) (s : State) → IsPrintable c → 0 < s.shown.width
+    → typed c s ≡ drawn_as s (printed s.shown c s.attrs).grid (Some c) (printed s.shown c s.attrs).sunk
+typed-printable c s p w =
+    let d = printed s.shown c s.attrs in
+    ap (λ (q : Printed). drawn_as s d.grid (last_after q c s.last) d.sunk)
+    (ap (λ (x : Drawn). x.printed) (printed-printable s.shown c s.attrs p w))
+
+reports-append : (b : Bool) (xs ys : List RowView) → reports_of b xs ++ reports_of b ys ≡ reports_of b (xs ++ ys)
+reports-append b [] ys = refl
+reports-append b (x ∷ xs) ys =
+    ap (λ (rs : List Report). record { row = x; alternate = b } ∷ rs) (reports-append b xs ys)
+
+abbrev then_typed : Stepped → List ℕ → Stepped
+then_typed t xs = record { state = (typed_all xs t.state).state; reports = t.reports ++ (typed_all xs t.state).reports }
+
+pub typed_all-is : (xs : List ℕ) (s : State) → All IsPrintable xs → 0 < s.shown.width
+    → typed_all xs s ≡ drawn_as s (printed_all s.shown xs s.attrs).grid (last_of xs s.last)
+    (printed_all s.shown xs s.attrs).sunk
+typed_all-is [] s p w = refl
+typed_all-is (x ∷ xs) s p w =
+    let d = printed s.shown x s.attrs in
+    let o = printed_all d.grid xs s.attrs in
+    let one = drawn_as s d.grid (Some x) d.sunk in
+    let wide : d.grid.width ≡ s.shown.width = width-printed s.shown x s.attrs (p zero 0 (omega arith)) w in
+    let more = typed_all-is xs one.state (All-drop IsPrintable 1 (x ∷ xs) p) (rw wide w) in
+    ap (λ (t : Stepped). then_typed t xs) (typed-printable x s (p zero 0 (omega arith)) w)
+    ∙ ap (λ (t : Stepped). let u : Stepped = record { state = t.state; reports = one.reports ++ t.reports } in u) more
+    ∙ (λ i. record {
+      state = record s { shown = o.grid; last = last_of xs (Some x) };
+      reports = reports-append s.alternate d.sunk o.sunk i;
+    })
+
+pub run_tries : {C : Type 0} (scrolls : C → RowView → Bool → C
+    → Type 0) (xs : List ℕ) (v : ScreenView) (c d : C) (g : GridView) (last : Option ℕ)
+    → v.failed ≡ false → All IsPrintable xs → 0 < v.state.shown.width
+    → g ≡ (printed_all v.state.shown xs v.state.attrs).grid
+    → last ≡ last_of xs v.state.last
+    → Hears scrolls c (reports_of v.state.alternate (printed_all v.state.shown xs v.state.attrs).sunk) d
+    → Tries {A = Unit {0}} scrolls (typed_all xs) v c (Ok tt)
+    (record { state = record (v.state) { shown = g; last = last }; failed = v.failed }) d
+run_tries scrolls xs v c d g last live p w is_grid is_last hears =
+    let is = typed_all-is xs v.state p w in
+    record {
+      live = live;
+      screen = (λ i. record { state = record (v.state) { shown = is_grid i; last = is_last i }; failed = live i })
+          ∙ ap (λ (t : Stepped). alive t.state) (sym is);
+      hears = subst (λ (t : Stepped). Hears scrolls c t.reports d) (sym is) hears;
+      memory = λ e. cc;
+      refused = λ e. cc;
+      dead = λ e. absurd (false≢true (sym live ∙ e));
+    }
+
+-- ---- what the callbacks heard of a run, and that they stay where they are
+
+pub run_heard : {S C N E : Type 0} (scrolls : C → RowView → Bool → C → Type 0) (takes : S → RowView → S → Type 0)
+    (callbacks : S → C) (alternate : S → Bool) (name : S → N)
+    → ((s : S) (v : RowView) (t : S) → takes s v t → scrolls (callbacks s) v (alternate s) (callbacks t)
+    × (alternate t ≡ alternate s) × (name t ≡ name s))
+    → (result : Result (Unit {0}) E) (s : S) (rows : List RowView) (t : S) → OnOk result (TakesAll takes s rows t)
+    → OnOk result (Hears scrolls (callbacks s) (reports_of (alternate s) rows) (callbacks t))
+run_heard scrolls takes callbacks alternate name each (Ok u) s rows t h =
+    (hears_all scrolls takes callbacks alternate name each s rows t h).0
+run_heard scrolls takes callbacks alternate name each (Err e) s rows t h = tt
+
+pub run_same : {S C N E : Type 0} (scrolls : C → RowView → Bool → C → Type 0) (takes : S → RowView → S → Type 0)
+    (callbacks : S → C) (alternate : S → Bool) (name : S → N)
+    → ((s : S) (v : RowView) (t : S) → takes s v t → scrolls (callbacks s) v (alternate s) (callbacks t)
+    × (alternate t ≡ alternate s) × (name t ≡ name s))
+    → (result : Result (Unit {0}) E) (s : S) (g : GridView) (xs : List ℕ) (a : Attrs) (t : S)
+    → OnOk result (TakesAll takes s (printed_all g xs a).sunk t) → OnErr result (TakesFront takes s g xs a t)
+    → name t ≡ name s
+run_same scrolls takes callbacks alternate name each (Ok u) s g xs a t h k =
+    (hears_all scrolls takes callbacks alternate name each s (printed_all g xs a).sunk t h).1
+run_same scrolls takes callbacks alternate name each (Err e) s g xs a t h k =
+    (hears_all scrolls takes callbacks alternate name each s (printed_all g k.0 a).sunk t k.3).1
+
+-- ---- a run, event by event
+
+-- reports of two changes are told of, one change after the other
+hears-split : {C : Type 0} (scrolls : C → RowView → Bool → C → Type 0) (c : C) (xs ys : List Report) (d : C)
+    → Hears scrolls c (xs ++ ys) d → (b : C) × Hears scrolls c xs b × Hears scrolls b ys d
+hears-split scrolls c [] ys d h = (c, refl, h)
+hears-split scrolls c (x ∷ xs) ys d h =
+    let r = hears-split scrolls h.0 xs ys d h.2 in
+    (r.0, (h.0, h.1, r.1), r.2)
+
+printable-handled : (c : ℕ) → IsPrintable c → is_unhandled c ≡ false
+printable-handled c p = grind (arith, nat_tests)
+
+-- one character of a run
+goes-typed : {C : Type 0} (step : C → ScreenView → Call → C → ScreenView → Type 0)
+    (scrolls : C → RowView → Bool → C → Type 0) (ch : ℕ) (c : C) (v : ScreenView) (d : C) (w : ScreenView)
+    → IsPrintable ch → v.failed ≡ false → (Hears scrolls c (typed ch v.state).reports d
+    × (w ≡ alive (typed ch v.state).state)) ⊎ (w.failed ≡ true) → Goes step scrolls (Print ch) c v d w
+goes-typed step scrolls ch c v d w p live h =
+    does_as step scrolls (λ t. steps (typed ch t)) _ c v d w
+    (ap (λ (b : Bool). cond b (calling (said.unhandled_char ch ∷ []) v.state) (steps (typed ch v.state)))
+    (sym (printable-handled ch p)))
+    (record {
+      dead = λ e. absurd (false≢true (sym live ∙ e));
+      live = λ e. elim h [
+        | inl a ↦ inl (d, a.0, (refl, a.1))
+        | inr f ↦ inr f
+      ];
+    })
+
+goes-failed : {C : Type 0} (step : C → ScreenView → Call → C → ScreenView → Type 0)
+    (scrolls : C → RowView → Bool → C → Type 0) (xs : List ℕ) (c : C) (v : ScreenView) → v.failed ≡ true
+    → GoesThrough step scrolls (map Print xs) c v c v
+goes-failed step scrolls [] c v h = (refl, refl)
+goes-failed step scrolls (x ∷ xs) c v h =
+    (c, v, does_none step scrolls _ c v h, goes-failed step scrolls xs c v h)
+
+goes-run : {C : Type 0} (step : C → ScreenView → Call → C → ScreenView → Type 0)
+    (scrolls : C → RowView → Bool → C → Type 0) (xs : List ℕ) (c : C) (v : ScreenView) (d : C) (w : ScreenView)
+    → All IsPrintable xs → v.failed ≡ false → Hears scrolls c (typed_all xs v.state).reports d
+    → w ≡ alive (typed_all xs v.state).state → GoesThrough step scrolls (map Print xs) c v d w
+goes-run step scrolls [] c v d w p live hears screen = (sym hears, screen ∙ sym (is_alive v live))
+goes-run step scrolls (x ∷ xs) c v d w p live hears screen =
+    let t = typed x v.state in
+    let s = hears-split scrolls c t.reports (typed_all xs t.state).reports d hears in (
+      s.0,
+      alive t.state,
+      goes-typed step scrolls x c v s.0 (alive t.state) (p zero 0 (omega arith)) live (inl (s.1, refl)),
+      goes-run step scrolls xs s.0 (alive t.state) d w (All-drop IsPrintable 1 (x ∷ xs) p) refl s.2 screen,
+    )
+
+-- the screen fails at the first of some characters, where it is w then
+goes-refused : {C : Type 0} (step : C → ScreenView → Call → C → ScreenView → Type 0)
+    (scrolls : C → RowView → Bool → C → Type 0) (xs : List ℕ) (c : C) (v : ScreenView) (d : C) (w : ScreenView)
+    → 0 < length xs → All IsPrintable xs → v.failed ≡ false → w.failed ≡ true
+    → GoesThrough step scrolls (map Print xs) c v d w
+goes-refused step scrolls [] c v d w some p live failed = absurd (omega arith)
+goes-refused step scrolls (x ∷ xs) c v d w some p live failed = (
+  d,
+  w,
+  goes-typed step scrolls x c v d w (p zero 0 (omega arith)) live (inr failed),
+  goes-failed step scrolls xs d w failed,
+)
+
+either-failed : (b : Bool) → (b ≡ true) ⊎ (b ≡ false)
+either-failed true = inl refl
+either-failed false = inr refl
+
+memory-failed : {A : Type 0} (x y : Result A ScreenError) → x ≡ Err Memory → y ≡ Err Failed → x ≡ y → false ≡ true
+memory-failed x y p q e = cc
+
+pub goes-tries : {C A : Type 0} (step : C → ScreenView → Call → C → ScreenView → Type 0)
+    (scrolls : C → RowView → Bool → C → Type 0) (xs : List ℕ) (c : C) (v : ScreenView)
+    (result : Result A ScreenError) (d : C) (w : ScreenView) → 0 < length xs → All IsPrintable xs
+    → Tries scrolls (typed_all xs) v c result w d → GoesThrough step scrolls (map Print xs) c v d w
+goes-tries step scrolls xs c v (Ok a) d w some p t = goes-run step scrolls xs c v d w p t.live t.hears t.screen
+goes-tries {C} {A} step scrolls xs c v (Err Memory) d w some p t =
+    elim (either-failed v.failed) [
+      | inl f ↦ absurd (false≢true (memory-failed {A = A} (Err Memory) (Err Failed) refl refl (t.dead f).0))
+      | inr f ↦ goes-refused step scrolls xs c v d w some p f (t.memory refl)
+    ]
+goes-tries {C} step scrolls xs c v (Err Failed) d w some p t =
+    let f = t.refused refl in
+    let same = t.dead f in
+    subst (λ (x : C). GoesThrough step scrolls (map Print xs) c v x w) (sym same.2)
+    (subst (λ (x : ScreenView). GoesThrough step scrolls (map Print xs) c v c x) (sym same.1)
+    (goes-failed step scrolls xs c v f))
+
+-- ---- a performer's steps
+
+pub performs-goes : {C : Type 0} (step : C → ScreenView → Call → C → ScreenView → Type 0)
+    (scrolls : C → RowView → Bool → C → Type 0) (es : List Event) (p q : WrappedScreen C)
+    → GoesThrough step scrolls es p.callbacks p.screen q.callbacks q.screen → Performs (Steps step scrolls) p es q
+performs-goes step scrolls [] p q h = λ i. record { screen = h.1 i; callbacks = h.0 i }
+performs-goes {C} step scrolls (e ∷ es) p q h =
+    let m : WrappedScreen C = record { screen = h.1; callbacks = h.0 } in
+    (m, h.2, performs-goes step scrolls es m q h.3)
+
+-- ---- the front of a text
+
+-- printable ASCII
+pub front-run : {C A : Type 0} (step : C → ScreenView → Call → C → ScreenView → Type 0)
+    (scrolls : C → RowView → Bool → C → Type 0) (bs : List ℕ) (n : ℕ) (c : C) (v : ScreenView)
+    (result : Result A ScreenError) (d : C) (w : ScreenView) → 0 < n → n ≤ length bs → All IsPrintable (take n bs)
+    → Tries scrolls (typed_all (take n bs)) v c result w d → PrintsFront step scrolls bs (drop n bs) c v d w
+front-run step scrolls bs n c v result d w pos within p t =
+    let some : 0 < length (take n bs) = grind (arith, common_steps) in
+    (take n bs, printable-chars bs n p, goes-tries step scrolls (take n bs) c v result d w some p t)
+
+-- a character
+pub front-char : {C : Type 0} (step : C → ScreenView → Call → C → ScreenView → Type 0)
+    (scrolls : C → RowView → Bool → C → Type 0) (bs rest : List ℕ) (ch : ℕ) (c : C) (v : ScreenView) (d : C)
+    (w : ScreenView) → IsUtf8 bs → bs ≡ encode_utf8 ch ++ rest → Goes step scrolls (Print ch) c v d w
+    → PrintsFront step scrolls bs rest c v d w
+front-char step scrolls bs rest ch c v d w u e goes =
+    (ch ∷ [], chars_past_char bs rest ch u e, (d, w, goes, (refl, refl)))
+
+map-append : (xs ys : List ℕ) → map Print xs ++ map Print ys ≡ map Print (xs ++ ys)
+map-append [] ys = refl
+map-append (x ∷ xs) ys = ap (λ (es : List Event). Print x ∷ es) (map-append xs ys)
+
+-- and then the others
+pub front-then : {C : Type 0} (step : C → ScreenView → Call → C → ScreenView → Type 0)
+    (scrolls : C → RowView → Bool → C → Type 0) (bs rest : List ℕ) (p m q : WrappedScreen C)
+    → PrintsFront step scrolls bs rest p.callbacks p.screen m.callbacks m.screen
+    → Performs (Steps step scrolls) m (map Print (chars rest)) q
+    → Performs (Steps step scrolls) p (map Print (chars bs)) q
+front-then step scrolls bs rest p m q h more =
+    same_events (Steps step scrolls) p q (map Print h.0 ++ map Print (chars rest)) (map Print (chars bs))
+    (map-append h.0 (chars rest) ∙ ap (map Print) (sym h.1))
+    (performs-append (Steps step scrolls) p m q (map Print h.0) (map Print (chars rest))
+    (performs-goes step scrolls (map Print h.0) p m h.2) more)
+
+pub front-end : {C : Type 0} (step : C → ScreenView → Call → C → ScreenView → Type 0)
+    (scrolls : C → RowView → Bool → C → Type 0) (bs : List ℕ) (p : WrappedScreen C) → length bs ≡ 0
+    → Performs (Steps step scrolls) p (map Print (chars bs)) p
+front-end step scrolls [] p none =
+    same_events (Steps step scrolls) p p [] (map Print (chars [])) (ap (map Print) (sym chars-nil)) refl
+front-end step scrolls (x ∷ xs) p none = absurd (omega arith)

@@ -1,0 +1,17 @@
+-- Answers for perform::WrappedScreenPerform::esc_dispatch.
+use Rattle.std.proofs.Common.{◌∙◌, ◌<◌, [], ◌∷◌, length, sym, arith}
+use Rattle.vt100_state.specs.Call as said
+use Rattle.vt100_state.specs.Effect.{first, second, calling}
+use Rattle.vt100.proofs.EventLemmas.{does_as, does_call, escape_more}
+use Rattle.vt100.proofs.perform.WrappedScreenPerform.esc_dispatch.Goals as goal
+
+pub returns-in_default : goal.returns-in_default
+returns-in_default g c =
+    let ms = c.args.intermediates.now in
+    let some : 0 < length ms = omega arith in
+    let one = rw c.first_two-marks.ensures.first at c.unhandled_escape.ensures in
+    let two = rw c.first_two-marks.ensures.second at one in
+    does_as g.CB.Callbacks.step g.CB.Callbacks.scrolls (calling (said.unhandled_escape (first ms)
+    (second ms) c.args.byte ∷ [])) _ _ _ _ _
+    (escape_more ms c.args.byte c.args.self.now.screen.state some)
+    (does_call g.CB.Callbacks.step g.CB.Callbacks.scrolls _ _ _ _ _ (sym c.failed.ensures ∙ c.if-failed.false) two)

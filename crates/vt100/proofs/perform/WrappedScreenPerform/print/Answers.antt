@@ -1,0 +1,26 @@
+-- Answers for perform::WrappedScreenPerform::print.
+use Rattle.std.proofs.Common.{◌≡◌, ◌∙◌, [], ◌∷◌, Bool, true, false, cond, ap, sym}
+use Rattle.vt100_state.specs.Call as said
+use Rattle.vt100_state.specs.Effect.{is_unhandled, calling, steps}
+use Rattle.vt100_state.specs.Step.{typed}
+use Rattle.vt100.proofs.EventLemmas.{does_as, does_call, does_steps}
+use Rattle.vt100.proofs.perform.WrappedScreenPerform.print.Goals as goal
+
+pub returns-then-is_unhandled : goal.returns-then-is_unhandled
+returns-then-is_unhandled g c =
+    let ch = c.args.c in
+    let s = c.args.self.now.screen.state in
+    let is : is_unhandled ch ≡ true = sym c.is_unhandled.ensures ∙ c.if-is_unhandled.true in
+    does_as g.CB.Callbacks.step g.CB.Callbacks.scrolls (calling (said.unhandled_char ch ∷ [])) _ _ _ _ _
+    (ap (λ (b : Bool). cond b (calling (said.unhandled_char ch ∷ []) s) (steps (typed ch s))) (sym is))
+    (does_call g.CB.Callbacks.step g.CB.Callbacks.scrolls (said.unhandled_char ch) _ _ _ _
+    (sym c.failed.ensures ∙ c.if-failed.false) c.unhandled_char.ensures)
+
+pub returns-else-is_unhandled : goal.returns-else-is_unhandled
+returns-else-is_unhandled g c =
+    let ch = c.args.c in
+    let s = c.args.self.now.screen.state in
+    let is : is_unhandled ch ≡ false = sym c.is_unhandled.ensures ∙ c.if-is_unhandled.false in
+    does_as g.CB.Callbacks.step g.CB.Callbacks.scrolls (λ t. steps (typed ch t)) _ _ _ _ _
+    (ap (λ (b : Bool). cond b (calling (said.unhandled_char ch ∷ []) s) (steps (typed ch s))) (sym is))
+    (does_steps g.CB.Callbacks.step g.CB.Callbacks.scrolls (typed ch) _ _ _ _ _ c.text.ensures)

@@ -1,0 +1,18 @@
+-- Invariants of perform::WrappedScreenPerform::print_str.
+use Rattle.std.proofs.Common.{map, length}
+use Rattle.std.specs.Str.{chars}
+use Rattle.vte_core.specs.Event.{Print, Performs}
+use Rattle.vt100.proofs.PlayLemmas.{Steps}
+use Rattle.vt100.proofs.perform.WrappedScreenPerform.print_str.Given as goal
+use denote.Text.{Utf8}
+use denote.Shadow.{shadow}
+
+-- where the characters that are left lead, all lead from the start
+abbrev pub invariant-loop-rest : goal.invariant-loop-rest
+invariant-loop-rest g l =
+    shadow (Utf8 l.rest) × ((q : _) → Performs (Steps g.CB.Callbacks.step g.CB.Callbacks.scrolls) l.self
+    (map Print (chars l.rest)) q → Performs (Steps g.CB.Callbacks.step g.CB.Callbacks.scrolls) l.initial.self
+    (map Print (chars l.text)) q)
+
+abbrev pub decreases-loop-rest : goal.decreases-loop-rest
+decreases-loop-rest g l = length l.rest

@@ -1,0 +1,9 @@
+-- Invariants of runs::are_printable.
+use Rattle.std.proofs.Common.{take}
+use Rattle.std.specs.Prelude.{All}
+use Rattle.std.specs.Bool.{IsTrue}
+use Rattle.vt100_cells.specs.Cell.{IsPrintable}
+use Rattle.vt100.proofs.runs.are_printable.Given as goal
+
+abbrev pub invariant-loop-byte : goal.invariant-loop-byte
+invariant-loop-byte l = IsTrue l.are_printable → All IsPrintable (take l.byte-index l.bytes)

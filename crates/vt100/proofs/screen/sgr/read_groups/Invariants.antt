@@ -1,0 +1,16 @@
+-- Invariants of screen::sgr::read_groups.
+use Rattle.std.proofs.Common.{◌≡◌, ◌+◌, ◌≤◌, length}
+use Rattle.vt100_state.specs.Sgr.{read_groups, nothing}
+use Rattle.vt100.proofs.screen.sgr.read_groups.Given as goal
+
+-- what the groups that are left lead to, all lead to from the start
+abbrev pub invariant-loop-group : goal.invariant-loop-group
+invariant-loop-group l = record {
+  few : l.unhandled + length l.groups ≤ 32;
+  attrs : (read_groups l.groups nothing l.attrs).attrs ≡ (read_groups l.fn.params nothing l.fn.attrs).attrs;
+  unhandled : l.unhandled + (read_groups l.groups nothing l.attrs).unhandled
+      ≡ (read_groups l.fn.params nothing l.fn.attrs).unhandled;
+}
+
+abbrev pub decreases-loop-group : goal.decreases-loop-group
+decreases-loop-group l = length l.groups

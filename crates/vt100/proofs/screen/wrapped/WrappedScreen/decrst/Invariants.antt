@@ -1,0 +1,17 @@
+-- Invariants of screen::wrapped::WrappedScreen::decrst.
+use Rattle.std.proofs.Common.{◌≡◌, ◌+◌, ◌≤◌, [], length, false}
+use Rattle.vt100_state.specs.PrivateModes.{modes_from, modes_reset, reset_rows}
+use Rattle.vt100.proofs.screen.wrapped.WrappedScreen.decrst.Given as goal
+
+-- what the groups that are left lead to, all lead to from the start
+abbrev pub invariant-loop-group : goal.invariant-loop-group
+invariant-loop-group g l = record {
+  live : l.self.screen.failed ≡ false;
+  same : l.self.callbacks ≡ l.fn.self.callbacks;
+  few : l.unhandled + length l.groups ≤ 32;
+  modes : modes_from reset_rows (record { state = l.self.screen.state; reports = []; unhandled = l.unhandled }) l.groups
+      ≡ modes_reset l.fn.params l.fn.self.screen.state;
+}
+
+abbrev pub decreases-loop-group : goal.decreases-loop-group
+decreases-loop-group g l = length l.groups

@@ -1,0 +1,47 @@
+-- What events do to a screen and to the callbacks that are told of them.
+use Rattle.std.specs.Prelude.{◌≡◌, ◌⊎◌, Bool, true, false, List, [], ◌∷◌}
+use Rattle.vte_core.specs.Event.{Event}
+use Rattle.vt100_rows.specs.Row.{RowView}
+use Rattle.vt100_state.specs.State.{State}
+use Rattle.vt100_state.specs.Call.{Call, ScreenView, Hears}
+use Rattle.vt100_state.specs.Effect.{Effect, effect}
+use Rattle.vt100.specs.Tries.{alive}
+
+-- P where it is so, else Q
+abbrev pub Either : Bool → Type 0 → Type 0 → Type 0
+Either true P Q = P
+Either false P Q = Q
+
+-- Callbacks c and the screen v that they are lent have gone through these calls, in order and each once, and are d and
+-- w. `step` says what one call does; it may change the screen. Once the screen has failed no further call is made.
+abbrev pub Tells : {C : Type 0} → (C → ScreenView → Call → C → ScreenView → Type 0) → C → ScreenView → List Call → C
+    → ScreenView → Type 0
+Tells step c v [] d w = (d ≡ c) × (w ≡ v)
+Tells {C} step c v (k ∷ ks) d w =
+    Either v.failed ((d ≡ c) × (w ≡ v)) ((b : C) × (u : ScreenView) × step c v k b u × Tells step b u ks d w)
+
+-- an effect on callbacks c, which are then d, and on their screen, which is then w: the change is made, c are told of
+-- the rows that leave, and then the calls are made
+abbrev pub Acts : {C : Type 0} → (C → ScreenView → Call → C → ScreenView → Type 0) → (C → RowView → Bool → C → Type 0)
+    → C → Effect → C → ScreenView → Type 0
+Acts {C} step scrolls c x d w = (b : C) × Hears scrolls c x.reports b × Tells step b (alive x.state) x.calls d w
+
+-- What brings about the effect f does to callbacks c and a screen v, which are then d and w. On a failed screen nothing
+-- is done. Else f comes about, or the change finds no memory, and the screen has failed.
+pub record Does {C : Type 0} (step : C → ScreenView → Call → C → ScreenView → Type 0)
+    (scrolls : C → RowView → Bool → C → Type 0) (f : State → Effect) (c : C) (v : ScreenView) (d : C)
+    (w : ScreenView) : Type 0 where
+  pub dead : v.failed ≡ true → (d ≡ c) × (w ≡ v)
+  pub live : v.failed ≡ false → Acts step scrolls c (f v.state) d w ⊎ (w.failed ≡ true)
+
+-- an event
+abbrev pub Goes : {C : Type 0} → (C → ScreenView → Call → C → ScreenView → Type 0) → (C → RowView → Bool → C → Type 0)
+    → Event → C → ScreenView → C → ScreenView → Type 0
+Goes step scrolls e c v d w = Does step scrolls (effect e) c v d w
+
+-- events, one after another
+abbrev pub GoesThrough : {C : Type 0} → (C → ScreenView → Call → C → ScreenView → Type 0)
+    → (C → RowView → Bool → C → Type 0) → List Event → C → ScreenView → C → ScreenView → Type 0
+GoesThrough step scrolls [] c v d w = (d ≡ c) × (w ≡ v)
+GoesThrough {C} step scrolls (e ∷ es) c v d w =
+    (b : C) × (u : ScreenView) × Goes step scrolls e c v b u × GoesThrough step scrolls es b u d w

@@ -1,0 +1,29 @@
+-- Characters that are printed one after another.
+use Rattle.std.specs.Prelude.{◌≡◌, ℕ, Bool, List, [], ◌∷◌, ◌++◌, map, Option, Some}
+use Rattle.std.specs.Str.{chars}
+use Rattle.vte_core.specs.Event.{Print}
+use Rattle.vt100_rows.specs.Row.{RowView}
+use Rattle.vt100_state.specs.State.{State}
+use Rattle.vt100_state.specs.Step.{Stepped, quietly, typed}
+use Rattle.vt100_state.specs.Call.{Call, ScreenView}
+use Rattle.vt100.specs.Goes.{GoesThrough}
+
+-- characters, one after another
+abbrev pub typed_all : List ℕ → State → Stepped
+typed_all [] s = quietly s
+typed_all (c ∷ cs) s =
+    let first = typed c s in
+    let others = typed_all cs first.state in
+    record { state = others.state; reports = first.reports ++ others.reports }
+
+-- the last of the characters, or where there are none this one
+abbrev pub last_of : List ℕ → Option ℕ → Option ℕ
+last_of [] last = last
+last_of (c ∷ cs) last = last_of cs (Some c)
+
+-- callbacks c and a screen v have gone through the printing of the characters at the front of a text, of which these
+-- bytes are left, and are d and w
+abbrev pub PrintsFront : {C : Type 0} → (C → ScreenView → Call → C → ScreenView → Type 0)
+    → (C → RowView → Bool → C → Type 0) → List ℕ → List ℕ → C → ScreenView → C → ScreenView → Type 0
+PrintsFront step scrolls text left c v d w =
+    (front : List ℕ) × (chars text ≡ front ++ chars left) × GoesThrough step scrolls (map Print front) c v d w

@@ -1,0 +1,508 @@
+//! The events of a byte stream, on a screen (ECMA-48; DEC's VT100 to VT510; xterm's control sequences).
+ghost use Rattle.std.specs.Prelude.{◌≡◌, ◌≢◌, [], ◌∷◌, replicate, map, nat_eq, true, false, None};
+ghost use Rattle.std.specs.Prelude.{if◌then◌else◌, unwrap_or, ◌<◌, length};
+ghost use Rattle.std.specs.List.{list_all};
+ghost use Rattle.vt100_state.specs.Effect.{calling, partly, number_or, given, later, csi_call, plain_effect};
+ghost use Rattle.vt100_state.specs.Effect.{plain_rows};
+ghost use Rattle.vt100_state.specs.Effect.{row_effect, other_rows, private_rows, window_effect, styled};
+ghost use Rattle.vt100_state.specs.Effect.{first, second, effect_or, escape_rows, osc_calls, is_unhandled};
+ghost use Rattle.vt100_state.specs.Effect.{is_selector, is_question, is_base64};
+ghost use Rattle.vt100_state.specs.Lookup.{lookup};
+ghost use Rattle.vt100_state.specs.Call as said;
+ghost use Rattle.vt100.specs.Goes.{Does, Tells};
+ghost use Rattle.vt100.specs.Runs.{PrintsFront};
+
+use crate::callbacks::Callbacks;
+use crate::runs::printable_len;
+use crate::screen::WrappedScreen;
+use arrayvec::ArrayVec;
+use std::num::NonZeroU16;
+use vte_core::{Event, Params, ParamsIter, Perform};
+
+impl<CB: Callbacks> Perform for WrappedScreen<CB> {
+    ghost use Rattle.std.specs.Prelude.{false};
+    ghost use Rattle.vt100.specs.Goes.{Goes};
+
+    ghost step = { λ p e q. Goes CB.step CB.scrolls e p.callbacks p.screen q.callbacks q.screen };
+
+    ghost is_terminated = { λ p. false };
+
+    fn event(&mut self, event: Event<'_>) {
+        match event {
+            Event::Print(c) => self.print(c),
+            Event::Execute(byte) => self.execute(byte),
+            Event::CsiDispatch {
+                params,
+                intermediates,
+                ignore,
+                action,
+            } => self.csi_dispatch(params, intermediates, ignore, action),
+            Event::EscDispatch {
+                intermediates,
+                ignore,
+                byte,
+            } => self.esc_dispatch(intermediates, ignore, byte),
+            Event::OscDispatch {
+                params,
+                bell_terminated,
+            } => self.osc_dispatch(params, bell_terminated),
+            Event::Hook { .. } => {}
+            Event::Put(_) => {}
+            Event::Unhook => {}
+        }
+    }
+
+    fn terminated(&self) -> bool {
+        false
+    }
+
+    fn print(&mut self, c: char) {
+        if self.screen.failed() {
+            return;
+        }
+        if is_unhandled(c) {
+            self.callbacks.unhandled_char(&mut self.screen, c);
+        } else {
+            let _ = self.text(c);
+        }
+    }
+
+    fn print_str(&mut self, text: &str) {
+        let mut rest = text;
+        while !rest.is_empty() {
+            rest = self.print_some(rest);
+        }
+    }
+
+    fn execute(&mut self, byte: u8) {
+        if self.screen.failed() {
+            return;
+        }
+        match byte {
+            7 => self.callbacks.audible_bell(&mut self.screen),
+            8 => self.bs(),
+            9 => self.tab(),
+            10 => {
+                let _ = self.lf();
+            }
+            11 => {
+                let _ = self.vt();
+            }
+            12 => {
+                let _ = self.ff();
+            }
+            13 => self.cr(),
+            // Shift out and in: there are no other character sets, but it isn't an error to ask for them.
+            14 | 15 => {}
+            _ => self.callbacks.unhandled_control(&mut self.screen, byte),
+        }
+    }
+
+    fn csi_dispatch(&mut self, params: &Params, intermediates: &[u8], _ignore: bool, action: char) {
+        if self.screen.failed() {
+            return;
+        }
+        match intermediates.first().copied() {
+            None => self.plain_csi(params, action),
+            Some(b' ') => self.space_csi(params, intermediates, action),
+            Some(b'?') => self.private_csi(params, intermediates, action),
+            Some(_) => self.unhandled_csi(params, intermediates, action),
+        }
+    }
+
+    fn esc_dispatch(&mut self, intermediates: &[u8], _ignore: bool, byte: u8) {
+        if self.screen.failed() {
+            return;
+        }
+        match intermediates {
+            [] => self.plain_esc(byte),
+            _ => {
+                let marks = first_two(intermediates);
+                self.callbacks
+                    .unhandled_escape(&mut self.screen, marks.0, marks.1, byte);
+            }
+        }
+    }
+
+    fn osc_dispatch(&mut self, params: &[&[u8]], _bell_terminated: bool) {
+        if self.screen.failed() {
+            return;
+        }
+        match params {
+            [command, text] => self.title(params, command, text),
+            [command, selectors, bytes] => self.clipboard(params, command, selectors, bytes),
+            _ => self.callbacks.unhandled_osc(&mut self.screen, params),
+        }
+    }
+}
+
+impl<CB: Callbacks> WrappedScreen<CB> {
+    /// Prints the printable ASCII at the front of a text at once, or else its first character; returns what is left.
+    fn print_some<'a>(&mut self, text: &'a str) -> &'a str
+        requires { 0 < length text.now }
+        ensures shorter { length result.now < length text.now }
+        ensures printed { PrintsFront CB.step CB.scrolls text.now result.now self.old.callbacks self.old.screen
+            self.new.callbacks self.new.screen }
+    {
+        let len = printable_len(text.as_bytes());
+        if len > 0 {
+            let _ = self.text_run(&text.as_bytes()[..len]);
+            return &text[len..];
+        }
+        let mut chars = text.chars();
+        if let Some(c) = chars.next() {
+            self.print(c);
+        }
+        chars.as_str()
+    }
+
+    /// An escape sequence without intermediates.
+    fn plain_esc(&mut self, byte: u8)
+        requires { self.old.screen.failed ≡ false }
+        ensures { Does CB.step CB.scrolls (effect_or (lookup byte escape_rows) (said.unhandled_escape None None byte))
+            self.old.callbacks self.old.screen self.new.callbacks self.new.screen }
+    {
+        match byte {
+            b'7' => self.decsc(),
+            b'8' => self.decrc(),
+            b'=' => self.deckpam(),
+            b'>' => self.deckpnm(),
+            b'M' => self.ri(),
+            b'c' => {
+                let _ = self.ris();
+            }
+            b'g' => self.callbacks.visual_bell(&mut self.screen),
+            _ => self
+                .callbacks
+                .unhandled_escape(&mut self.screen, None, None, byte),
+        }
+    }
+
+    /// A control sequence without intermediates.
+    fn plain_csi(&mut self, params: &Params, action: char)
+        requires { self.old.screen.failed ≡ false }
+        ensures { Does CB.step CB.scrolls (plain_effect (lookup action plain_rows) params.now action)
+            self.old.callbacks self.old.screen self.new.callbacks self.new.screen }
+    {
+        match action {
+            '@' => self.ich(canonicalize_params_1(params, 1)),
+            'A' => self.cuu(canonicalize_params_1(params, 1)),
+            'B' => self.cud(canonicalize_params_1(params, 1)),
+            'C' => self.cuf(canonicalize_params_1(params, 1)),
+            'D' => self.cub(canonicalize_params_1(params, 1)),
+            'E' => self.cnl(canonicalize_params_1(params, 1)),
+            'F' => self.cpl(canonicalize_params_1(params, 1)),
+            'G' => self.cha(canonicalize_params_1(params, 1)),
+            'H' | 'f' => self.cup(canonicalize_params_2(params, 1, 1)),
+            'L' => self.il(canonicalize_params_1(params, 1)),
+            'M' => self.dl(canonicalize_params_1(params, 1)),
+            'P' => self.dch(canonicalize_params_1(params, 1)),
+            'S' => {
+                let _ = self.su(canonicalize_params_1(params, 1));
+            }
+            'T' => self.sd(canonicalize_params_1(params, 1)),
+            'X' => self.ech(canonicalize_params_1(params, 1)),
+            '`' => self.hpa(canonicalize_params_1(params, 1)),
+            'b' => {
+                let _ = self.rep(canonicalize_params_1(params, 1));
+            }
+            'd' => self.vpa(canonicalize_params_1(params, 1)),
+            'r' => {
+                let (rows, _) = self.screen.size();
+                self.decstbm(canonicalize_params_2(params, 1, rows.get()));
+            }
+            _ => self.other_csi(params, action),
+        }
+    }
+
+    /// The finals that are unhandled at some numbers, and all others.
+    fn other_csi(&mut self, params: &Params, action: char)
+        requires { self.old.screen.failed ≡ false }
+        ensures { Does CB.step CB.scrolls (row_effect (lookup action other_rows) params.now
+            (csi_call [] params.now action)) self.old.callbacks self.old.screen self.new.callbacks self.new.screen }
+    {
+        match action {
+            'J' => {
+                let unhandled = self.ed(canonicalize_params_1(params, 0));
+                self.unhandled_groups(unhandled, params, &[], action);
+            }
+            'K' => {
+                let unhandled = self.el(canonicalize_params_1(params, 0));
+                self.unhandled_groups(unhandled, params, &[], action);
+            }
+            'm' => {
+                let unhandled = self.sgr(params);
+                self.unhandled_groups(unhandled, params, &[], action);
+            }
+            't' => self.window(params, action),
+            _ => self.unhandled_csi(params, &[], action),
+        }
+    }
+
+    /// XTWINOPS: 8 asks for a size, of which an absent number is the screen's.
+    fn window(&mut self, params: &Params, action: char)
+        requires { self.old.screen.failed ≡ false }
+        ensures { Does CB.step CB.scrolls (window_effect params.now (csi_call [] params.now action))
+            self.old.callbacks self.old.screen self.new.callbacks self.new.screen }
+    {
+        let mut groups = params.iter();
+        let operation = next_number(&mut groups).unwrap_or(0);
+        match operation {
+            8 => {
+                let request = requested_size(groups, self.screen.size());
+                self.callbacks.resize(&mut self.screen, request);
+            }
+            _ => self.unhandled_csi(params, &[], action),
+        }
+    }
+
+    /// A control sequence with a space as its first intermediate.
+    fn space_csi(&mut self, params: &Params, intermediates: &[u8], action: char)
+        requires { self.old.screen.failed ≡ false }
+        ensures { Does CB.step CB.scrolls (λ s. if nat_eq action 0x71
+            then partly (styled (number_or 0 params.now) s) (csi_call intermediates.now params.now action)
+            else calling (csi_call [] params.now action ∷ []) s)
+            self.old.callbacks self.old.screen self.new.callbacks self.new.screen }
+    {
+        match action {
+            'q' => {
+                let unhandled = self.decscusr(canonicalize_params_1(params, 0));
+                self.unhandled_groups(unhandled, params, intermediates, action);
+            }
+            _ => self.unhandled_csi(params, &[], action),
+        }
+    }
+
+    /// One with `?`.
+    fn private_csi(&mut self, params: &Params, intermediates: &[u8], action: char)
+        requires { self.old.screen.failed ≡ false }
+        ensures { Does CB.step CB.scrolls (row_effect (lookup action private_rows) params.now
+            (csi_call intermediates.now params.now action)) self.old.callbacks self.old.screen self.new.callbacks
+            self.new.screen }
+    {
+        match action {
+            'J' => {
+                let unhandled = self.decsed(canonicalize_params_1(params, 0));
+                self.unhandled_groups(unhandled, params, intermediates, action);
+            }
+            'K' => {
+                let unhandled = self.decsel(canonicalize_params_1(params, 0));
+                self.unhandled_groups(unhandled, params, intermediates, action);
+            }
+            'h' => {
+                if let Ok(unhandled) = self.decset(params) {
+                    self.unhandled_groups(unhandled, params, intermediates, action);
+                }
+            }
+            'l' => {
+                let unhandled = self.decrst(params);
+                self.unhandled_groups(unhandled, params, intermediates, action);
+            }
+            _ => self.unhandled_csi(params, intermediates, action),
+        }
+    }
+
+    /// Tells of an unhandled sequence, once for each of its groups that are, while the screen hasn't failed.
+    fn unhandled_groups(
+        &mut self,
+        count: usize,
+        params: &Params,
+        intermediates: &[u8],
+        action: char,
+    )
+        ensures { Tells CB.step self.old.callbacks self.old.screen
+            (replicate count (csi_call intermediates.now params.now action)) self.new.callbacks self.new.screen }
+    {
+        for _i in 0..count {
+            if self.screen.failed() {
+                return;
+            }
+            self.tell_csi(params, intermediates, action);
+        }
+    }
+
+    /// An unhandled sequence.
+    fn unhandled_csi(&mut self, params: &Params, intermediates: &[u8], action: char)
+        requires { self.old.screen.failed ≡ false }
+        ensures { Does CB.step CB.scrolls (calling (csi_call intermediates.now params.now action ∷ []))
+            self.old.callbacks self.old.screen self.new.callbacks self.new.screen }
+    {
+        self.tell_csi(params, intermediates, action);
+    }
+
+    /// Tells of an unhandled sequence: its first two intermediates, its parameters and its final byte.
+    fn tell_csi(&mut self, params: &Params, intermediates: &[u8], action: char)
+        ensures { CB.step self.old.callbacks self.old.screen (csi_call intermediates.now params.now action)
+            self.new.callbacks self.new.screen }
+    {
+        let mut groups: ArrayVec<&[u16], 32> = ArrayVec::new();
+        let mut rest = params.iter();
+        while let Some(group) = rest.next() {
+            groups.push(group);
+        }
+        self.callbacks.unhandled_csi(
+            &mut self.screen,
+            intermediates.first().copied(),
+            intermediates.get(1).copied(),
+            groups.as_slice(),
+            action,
+        );
+    }
+
+    /// OSC 0, 1 and 2: the icon's name and the window's title.
+    fn title(&mut self, params: &[&[u8]], command: &[u8], text: &[u8])
+        requires live { self.old.screen.failed ≡ false }
+        requires pieces { map (λ p. p.now) params.now ≡ command.now ∷ text.now ∷ [] }
+        ensures { Does CB.step CB.scrolls (calling (osc_calls (map (λ p. p.now) params.now)))
+            self.old.callbacks self.old.screen self.new.callbacks self.new.screen }
+    {
+        match command {
+            [b'0'] => self.icon_and_title(text),
+            [b'1'] => self.callbacks.set_window_icon_name(&mut self.screen, text),
+            [b'2'] => self.callbacks.set_window_title(&mut self.screen, text),
+            _ => self.callbacks.unhandled_osc(&mut self.screen, params),
+        }
+    }
+
+    /// One text for both.
+    fn icon_and_title(&mut self, text: &[u8])
+        requires { self.old.screen.failed ≡ false }
+        ensures { Does CB.step CB.scrolls (calling (said.set_window_icon_name text.now
+            ∷ said.set_window_title text.now ∷ []))
+            self.old.callbacks self.old.screen self.new.callbacks self.new.screen }
+    {
+        self.callbacks.set_window_icon_name(&mut self.screen, text);
+        if !self.screen.failed() {
+            self.callbacks.set_window_title(&mut self.screen, text);
+        }
+    }
+
+    /// OSC 52: data for clipboards, or a request for what they hold.
+    fn clipboard(&mut self, params: &[&[u8]], command: &[u8], selectors: &[u8], bytes: &[u8])
+        requires live { self.old.screen.failed ≡ false }
+        requires pieces { map (λ p. p.now) params.now ≡ command.now ∷ selectors.now ∷ bytes.now ∷ [] }
+        ensures { Does CB.step CB.scrolls (calling (osc_calls (map (λ p. p.now) params.now)))
+            self.old.callbacks self.old.screen self.new.callbacks self.new.screen }
+    {
+        if !is_clipboard(command) || !are_selectors(selectors) {
+            self.callbacks.unhandled_osc(&mut self.screen, params);
+        } else if is_question(bytes) {
+            self.callbacks
+                .paste_from_clipboard(&mut self.screen, selectors);
+        } else if are_base64(bytes) {
+            self.callbacks
+                .copy_to_clipboard(&mut self.screen, selectors, bytes);
+        } else {
+            self.callbacks.unhandled_osc(&mut self.screen, params);
+        }
+    }
+}
+
+/// Whether a character isn't drawn, but told of: U+FFFD, and the controls from U+0080 to U+009F.
+#[inline]
+fn is_unhandled(c: char) -> bool
+    ensures { result ≡ is_unhandled c }
+{
+    matches!(c, '\u{FFFD}' | '\u{80}'..='\u{9F}')
+}
+
+/// Whether a command is that of clipboards.
+fn is_clipboard(command: &[u8]) -> bool
+    ensures yes { result ≡ true → command.now ≡ 0x35 ∷ 0x32 ∷ [] }
+    ensures no { result ≡ false → command.now ≢ 0x35 ∷ 0x32 ∷ [] }
+{
+    matches!(command, [b'5', b'2'])
+}
+
+/// Whether letters and digits name clipboards: `c`, `p`, `q`, `s` or `0` to `7`.
+fn are_selectors(selectors: &[u8]) -> bool
+    ensures { result ≡ list_all is_selector selectors.now }
+{
+    selectors.iter().all(|byte| is_selector(*byte))
+}
+
+fn is_selector(byte: u8) -> bool
+    ensures { result ≡ is_selector byte }
+{
+    matches!(byte, b'0'..=b'7' | b'c' | b'p' | b'q' | b's')
+}
+
+/// Whether the clipboards' contents are asked for.
+fn is_question(bytes: &[u8]) -> bool
+    ensures { result ≡ is_question bytes.now }
+{
+    matches!(bytes, [b'?'])
+}
+
+/// Whether bytes are those of base64.
+fn are_base64(bytes: &[u8]) -> bool
+    ensures { result ≡ list_all is_base64 bytes.now }
+{
+    bytes.iter().all(|byte| is_base64(*byte))
+}
+
+fn is_base64(byte: u8) -> bool
+    ensures { result ≡ is_base64 byte }
+{
+    matches!(byte, b'A'..=b'Z' | b'a'..=b'z' | b'0'..=b'9' | b'+' | b'/' | b'=')
+}
+
+/// The first two intermediates.
+fn first_two(intermediates: &[u8]) -> (Option<u8>, Option<u8>)
+    ensures first { result.0 ≡ first intermediates.now }
+    ensures second { result.1 ≡ second intermediates.now }
+{
+    (
+        intermediates.first().copied(),
+        intermediates.get(1).copied(),
+    )
+}
+
+/// The first number of the next group, if it is there.
+fn next_number(groups: &mut ParamsIter<'_>) -> Option<u16>
+    ensures number { result ≡ given groups.old }
+    ensures rest { groups.new ≡ later groups.old }
+{
+    groups.next()?.first().copied()
+}
+
+/// So many rows and columns as the next two groups name, or else as the screen has.
+fn requested_size(mut groups: ParamsIter<'_>, size: (NonZeroU16, NonZeroU16)) -> (u16, u16)
+    ensures rows { result.0 ≡ unwrap_or (given groups.entry) size.0.value }
+    ensures cols { result.1 ≡ unwrap_or (given (later groups.entry)) size.1.value }
+{
+    let (rows, cols) = size;
+    let rows = next_number(&mut groups).unwrap_or(rows.get());
+    let cols = next_number(&mut groups).unwrap_or(cols.get());
+    (rows, cols)
+}
+
+/// The first number of the next group, or the default where it is absent or 0.
+fn next_or(groups: &mut ParamsIter<'_>, default: u16) -> u16
+    ensures number { result ≡ number_or default groups.old }
+    ensures rest { groups.new ≡ later groups.old }
+{
+    match next_number(groups) {
+        None | Some(0) => default,
+        Some(number) => number,
+    }
+}
+
+/// The first number, or the default where it is absent or 0.
+fn canonicalize_params_1(params: &Params, default: u16) -> u16
+    ensures { result ≡ number_or default params.now }
+{
+    next_or(&mut params.iter(), default)
+}
+
+/// The first numbers of the first two groups, each or its default where it is absent or 0.
+fn canonicalize_params_2(params: &Params, default1: u16, default2: u16) -> (u16, u16)
+    ensures first { result.0 ≡ number_or default1 params.now }
+    ensures second { result.1 ≡ number_or default2 (later params.now) }
+{
+    let mut groups = params.iter();
+    (
+        next_or(&mut groups, default1),
+        next_or(&mut groups, default2),
+    )
+}

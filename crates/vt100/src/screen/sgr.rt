@@ -1,0 +1,155 @@
+//! SGR: the drawing attributes (ECMA-48 8.3.117; colours by ITU-T T.416).
+ghost use Rattle.std.specs.Prelude.{◌≡◌, ◌≤◌, ◌<◌, ◌∷◌, [], ℕ, Bool, List, length, MatchResult, None, is_some};
+ghost use Rattle.vt100_forms.specs.declared.attrs.Attrs.{Attrs};
+ghost use Rattle.vt100_state.specs.Sgr.{read_groups, nothing, kind, red, code_row};
+ghost use Rattle.vt100_state.specs.Effect.{attributes_read};
+ghost use Rattle.vt100.specs.SgrReading.{first_value, value_read, rgb_read, group_led, colour_led, code_applied};
+ghost use Rattle.vt100.specs.SgrReading.{read_of};
+ghost use Rattle.vt100.specs.Tries.{Counts};
+ghost use Rattle.vt100.specs.declared.screen.sgr.End.TheVariants.{Value};
+
+use crate::callbacks::Callbacks;
+use crate::screen::WrappedScreen;
+use vt100_core::Color;
+use vt100_core::attrs::Attrs;
+use vte_core::{Params, ParamsIter};
+
+impl<CB: Callbacks> WrappedScreen<CB> {
+    /// Changes the drawing attributes (SGR): 0 to 4, 7, 22 to 24, 27, the colours of 30 to 49, 90 to 97 and 100 to 107,
+    /// those of 38 and 48 in one group or in groups of their own. Without any group the attributes become the default
+    /// ones. A value past 255, or one that is missing, ends the reading; so does a kind of colour that is neither 2 nor
+    /// 5. Answers how many groups were unhandled: such a kind, and any other group.
+    pub fn sgr(&mut self, params: &Params) -> usize
+        ensures { Counts CB.scrolls (attributes_read params.now) self.old.screen self.old.callbacks result
+            self.new.screen self.new.callbacks }
+    {
+        if self.screen.failed {
+            return 0;
+        }
+        if params.iter().next().is_none() {
+            self.screen.attrs = Attrs::default();
+            return 0;
+        }
+        read_groups(&mut self.screen.attrs, params)
+    }
+}
+
+/// Why the reading ends before the last group.
+#[derive(Clone, Copy)]
+pub(super) enum End {
+    /// A value is past 255, missing, or in a group with others.
+    Value,
+    /// A kind of colour is neither 2 nor 5.
+    Kind,
+}
+
+/// Reads groups, from the first one on. Answers how many were unhandled.
+fn read_groups(attrs: &mut Attrs, params: &Params) -> usize
+    ensures { read_of attrs.new result ≡ read_groups params.now nothing attrs.old }
+{
+    let mut unhandled = 0;
+    let mut groups = params.iter();
+    while let Some(group) = groups.next() {
+        match read_group(attrs, group, &mut groups) {
+            Ok(true) => {}
+            Ok(false) => unhandled += 1,
+            Err(End::Value) => return unhandled,
+            Err(End::Kind) => return unhandled + 1,
+        }
+    }
+    unhandled
+}
+
+/// Reads a group, and of those after it the ones that a colour in groups of its own takes. Answers whether it is
+/// handled.
+fn read_group(attrs: &mut Attrs, group: &[u16], groups: &mut ParamsIter<'_>) -> Result<bool, End>
+    ensures reads { read_groups (group.now ∷ groups.old) nothing attrs.old ≡ group_led result attrs.new groups.new }
+    ensures shorter { length groups.new ≤ length groups.old }
+{
+    match group {
+        [38] => attrs.fgcolor = colour_in_groups(groups)?,
+        [48] => attrs.bgcolor = colour_in_groups(groups)?,
+        [code] => return Ok(read_code(attrs, *code)),
+        [38, 2, r, g, b] => attrs.fgcolor = rgb(*r, *g, *b)?,
+        [38, 5, i] => attrs.fgcolor = Color::Idx(value(*i)?),
+        [48, 2, r, g, b] => attrs.bgcolor = rgb(*r, *g, *b)?,
+        [48, 5, i] => attrs.bgcolor = Color::Idx(value(*i)?),
+        _ => return Ok(false),
+    }
+    Ok(true)
+}
+
+/// What a group of one number does, but for 38 and 48. Answers whether it does something.
+fn read_code(attrs: &mut Attrs, code: u16) -> bool
+    ensures handled { result ≡ is_some (code_row code) }
+    ensures attrs { attrs.new ≡ code_applied (code_row code) attrs.old }
+{
+    match code {
+        0 => *attrs = Attrs::default(),
+        1 => attrs.set_bold(),
+        2 => attrs.set_dim(),
+        3 => attrs.set_italic(true),
+        4 => attrs.set_underline(true),
+        7 => attrs.set_inverse(true),
+        22 => attrs.set_normal_intensity(),
+        23 => attrs.set_italic(false),
+        24 => attrs.set_underline(false),
+        27 => attrs.set_inverse(false),
+        30..=37 => attrs.fgcolor = Color::Idx((code - 30) as u8),
+        39 => attrs.fgcolor = Color::Default,
+        40..=47 => attrs.bgcolor = Color::Idx((code - 40) as u8),
+        49 => attrs.bgcolor = Color::Default,
+        90..=97 => attrs.fgcolor = Color::Idx((code - 82) as u8),
+        100..=107 => attrs.bgcolor = Color::Idx((code - 92) as u8),
+        _ => return false,
+    }
+    true
+}
+
+/// A colour in groups of its own: its kind, and its values.
+fn colour_in_groups(groups: &mut ParamsIter<'_>) -> Result<Color, End>
+    ensures reads { (t : Bool) (a : Attrs) → read_groups groups.old (kind t) a ≡ colour_led t result a groups.new }
+    ensures shorter { length groups.new ≤ length groups.old }
+{
+    match groups.next() {
+        None => Err(End::Value),
+        Some([2]) => rgb_in_groups(groups),
+        Some([5]) => Ok(Color::Idx(next_value(groups)?)),
+        Some(_) => Err(End::Kind),
+    }
+}
+
+/// Red, green and blue in groups of their own.
+fn rgb_in_groups(groups: &mut ParamsIter<'_>) -> Result<Color, End>
+    ensures reads { (t : Bool) (a : Attrs) → read_groups groups.old (red t) a ≡ colour_led t result a groups.new }
+    ensures shorter { length groups.new ≤ length groups.old }
+{
+    let red = next_value(groups)?;
+    let green = next_value(groups)?;
+    let blue = next_value(groups)?;
+    Ok(Color::Rgb(red, green, blue))
+}
+
+/// A value in a group of its own.
+fn next_value(groups: &mut ParamsIter<'_>) -> Result<u8, End>
+    ensures reads { MatchResult result (λ n. (groups.old ≡ (n ∷ []) ∷ groups.new) × (n < 256))
+        (λ e. (e ≡ Value) × (first_value groups.old ≡ None)) }
+    ensures shorter { length groups.new ≤ length groups.old }
+{
+    match groups.next() {
+        Some([number]) => value(*number),
+        _ => Err(End::Value),
+    }
+}
+
+fn rgb(red: u16, green: u16, blue: u16) -> Result<Color, End>
+    ensures { result ≡ rgb_read red green blue }
+{
+    Ok(Color::Rgb(value(red)?, value(green)?, value(blue)?))
+}
+
+fn value(number: u16) -> Result<u8, End>
+    ensures { result ≡ value_read number }
+{
+    u8::try_from(number).map_err(|_| End::Value)
+}
