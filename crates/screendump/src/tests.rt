@@ -1,0 +1,157 @@
+//! Whole commands, byte for byte, and faults of readers and writers.
+
+use crate::command::command;
+use std::io;
+use std::io::{ErrorKind, Read, Write};
+use std::test::Fail;
+
+const USAGE: &[u8] = b"usage: screendump run|ROWS COLS [CAPACITY [TIMES]]\n";
+
+const BLANK: &[u8] = b"size 1 2\n\
+cursor 0 0 hide=0\n\
+modes keypad=0 cursor_keys=0 paste=0 mouse=None encoding=Default style=Default alternate=0\n\
+attrs d d -----\n\
+scrollback len=0 offset=0 capacity=0\n";
+
+const AB_OF_ABC: &[u8] = b"size 1 2\n\
+cursor 0 1 hide=0\n\
+modes keypad=0 cursor_keys=0 paste=0 mouse=None encoding=Default style=Default alternate=0\n\
+attrs i1 d b----\n\
+scrollback len=1 offset=0 capacity=3\n\
+cell 0 0 63 w=0 c=0 i1 d b----\n";
+
+/// A reader that fails.
+#[derive(Drop)]
+struct Broken {
+    kind: ErrorKind,
+}
+
+impl Read for Broken {
+    fn read(&mut self, _buf: &mut [u8]) -> io::Result<usize> {
+        Err(io::Error::from(self.kind))
+    }
+}
+
+/// A writer that keeps what it takes, and fails once its room is used up.
+#[derive(Drop)]
+struct Narrow {
+    kept: Vec<u8>,
+    room: usize,
+    flushes: bool,
+}
+
+impl Write for Narrow {
+    fn write(&mut self, buf: &[u8]) -> io::Result<usize> {
+        let [first, ..] = buf else {
+            return Ok(0);
+        };
+        if self.kept.len() >= self.room {
+            return Err(io::Error::from(ErrorKind::BrokenPipe));
+        }
+        self.kept.push(*first)?;
+        Ok(1)
+    }
+
+    fn flush(&mut self) -> io::Result<()> {
+        if self.flushes {
+            Ok(())
+        } else {
+            Err(io::Error::from(ErrorKind::BrokenPipe))
+        }
+    }
+}
+
+#[test]
+fn commands(rt: HostRuntime) -> Result<(), Fail> {
+    let rows: [(&[&str], &[u8], u8, &[u8], &[u8]); 22] = [
+        (&["1", "2"], b"", 0, BLANK, b""),
+        (&["1", "2", "0", "0"], b"ab", 0, BLANK, b""),
+        (&["1", "2", "3"], b"ab\x1b[1;31mc", 0, AB_OF_ABC, b""),
+        (&["1", "2", "3", "7"], b"ab\x1b[1;31mc", 0, AB_OF_ABC, b""),
+        (&["run"], b"new 1 2 0\ndump\n", 0, b"new\n", b""),
+        (&["run"], b"", 0, b"", b""),
+        (&["run"], b"# a comment\n\n", 0, b"", b""),
+        (
+            &["run"],
+            b"new 1 4 0\r\nfeed 61E4b8AD # text\r\nrows 0 4\nbetween 0 0 0 1",
+            0,
+            b"new\nrow 0 61e4b8ad\nbetween 61\n",
+            b"",
+        ),
+        (
+            &["run"],
+            b"new 1 2 0\nfeed 6\n",
+            1,
+            b"new\n",
+            b"screendump: script\n",
+        ),
+        (&["run"], b"feed 6g", 1, b"", b"screendump: script\n"),
+        (&["run"], b"new 0 2 0", 1, b"", b"screendump: script\n"),
+        (&["run"], b"rows 1", 1, b"", b"screendump: script\n"),
+        (&["run"], b"rows 1 65536", 1, b"", b"screendump: script\n"),
+        (&["run"], b"dumps", 1, b"", b"screendump: script\n"),
+        (&["run"], b"\xff", 1, b"", b"screendump: script\n"),
+        (&["run", "1"], b"ab", 2, b"", USAGE),
+        (&["0", "80"], b"ab", 2, b"", USAGE),
+        (&["65536", "80"], b"ab", 2, b"", USAGE),
+        (&["000001", "80"], b"ab", 2, b"", USAGE),
+        (&["1", "2", "0000000001"], b"ab", 2, b"", USAGE),
+        (&["1", "2", "3", "4", "5"], b"ab", 2, b"", USAGE),
+        (&[], b"ab", 2, b"", USAGE),
+    ];
+    for (words, input, status, output, errors) in rows {
+        let mut written = Vec::new(rt.alloc());
+        let mut told = Vec::new(rt.alloc());
+        let mut left = input;
+        let answer = command(rt.alloc(), words, &mut left, &mut written, &mut told);
+        assert_eq!(rt; answer, status, "{words:?}");
+        assert!(rt; written.as_slice().starts_with(output), "{words:?}");
+        assert_eq!(rt; told.as_slice(), errors, "{words:?}");
+        if status == 2 {
+            assert_eq!(rt; left, input, "{words:?}");
+        }
+    }
+    Ok(())
+}
+
+#[test]
+fn faults(rt: HostRuntime) -> Result<(), Fail> {
+    let reads: [(ErrorKind, &[u8]); 2] = [
+        (ErrorKind::BrokenPipe, b"screendump: read\n"),
+        (ErrorKind::OutOfMemory, b"screendump: memory\n"),
+    ];
+    for (kind, told) in reads {
+        for words in [["1", "2"].as_slice(), ["run"].as_slice()] {
+            let mut written = Vec::new(rt.alloc());
+            let mut errors = Vec::new(rt.alloc());
+            let answer = command(
+                rt.alloc(),
+                words,
+                &mut Broken { kind },
+                &mut written,
+                &mut errors,
+            );
+            assert_eq!(rt; answer, 1);
+            assert_eq!(rt; errors.as_slice(), told);
+            assert!(rt; written.is_empty());
+        }
+    }
+    for (room, flushes) in [(0, true), (20, true), (1000, false)] {
+        for (words, input) in [
+            (["1", "2"].as_slice(), b"ab".as_slice()),
+            (["run"].as_slice(), b"new 1 2 0\ndump".as_slice()),
+        ] {
+            let mut output = Narrow {
+                kept: Vec::new(rt.alloc()),
+                room,
+                flushes,
+            };
+            let mut errors = Vec::new(rt.alloc());
+            let mut left = input;
+            let answer = command(rt.alloc(), words, &mut left, &mut output, &mut errors);
+            assert_eq!(rt; answer, 1);
+            assert_eq!(rt; errors.as_slice(), b"screendump: write\n".as_slice());
+        }
+    }
+    Ok(())
+}
