@@ -1,0 +1,23 @@
+-- The small rows compute.
+use Rattle.std.proofs.Common.{refl}
+use Rattle.unicode_width.specs.Width.{char_width}
+use Rattle.vt100_redraw.specs.Writer.{◌>>◌, skip, goto, turn, colour, print, space, back, erasing, clearing, marking}
+use Rattle.vt100_redraw.specs.RowWriter.{reprint, opening, to_erase, flush_of, flush, finish_of, finish, arrive}
+use Rattle.vt100_redraw.specs.RowWriter.{mark_of, mark, draw, column, columns, unflag, print_last, mend, closing}
+use Rattle.vt100_redraw.specs.RowWriter.{row_redraw, row_difference}
+use Rattle.vt100_redraw.specs.Examples.{EachExampleIsWritten}
+
+pub examples : EachExampleIsWritten
+unfolding ◌>>◌ skip goto turn colour print space back erasing clearing marking reprint opening to_erase flush_of flush
+    finish_of finish arrive mark_of mark draw column columns unflag print_last mend closing row_redraw row_difference
+    char_width
+examples = record {
+  middle = refl;
+  end = refl;
+  drawn = refl;
+  flagged = refl;
+  flagged_empty = refl;
+  flagged_erased = refl;
+  wraps = refl;
+  ends = refl;
+}

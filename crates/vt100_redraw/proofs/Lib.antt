@@ -1,0 +1,11 @@
+pub mod Columns
+pub mod ColumnsWrites
+pub mod Examples
+pub mod Lines
+pub mod RowEnd
+pub mod RowLeads
+pub mod RowRedraw
+pub mod RowStart
+pub mod RowWrites
+pub mod Steps
+pub mod WritesLemmas

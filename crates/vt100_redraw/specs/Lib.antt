@@ -1,0 +1,11 @@
+pub mod Drawing
+pub mod Examples
+pub mod Laws
+pub mod RowWriter
+pub mod Scene
+pub mod Writer
+pub mod Writes
+pub use Rattle.vt100_forms.specs.Attrs
+pub use Rattle.vt100_forms.specs.Form
+pub use Rattle.vt100_cells.specs.Cell
+pub use Rattle.vt100_cells.specs.Line

@@ -1,0 +1,13 @@
+//! The forms by which a row is drawn on a terminal that shows another one.
+//!
+//! The definitions say which forms a redraw and a difference of a row are; the laws say where these lead. A [`Drawing`]
+//! appends the forms of a row's columns.
+#![tactic(auto)]
+
+mod draw;
+pub mod drawing;
+pub mod laws;
+pub mod pen;
+
+pub use drawing::Drawing;
+pub use pen::{Erase, Pen};
