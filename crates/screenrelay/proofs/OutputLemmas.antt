@@ -1,5 +1,6 @@
 -- Writes one after another.
-use Rattle.std.proofs.Common.{◌≡◌, ◌≤◌, ◌+◌, ℕ, suc, List, [], ◌∷◌, ◌++◌, length, take, drop, min, Option, Some, None, sym, ap, ◌∙◌, append_assoc, arith, length-drop}
+use Rattle.std.proofs.Common.{◌≡◌, ◌≤◌, ◌+◌, ℕ, suc, List, [], ◌∷◌, ◌++◌, length, take, drop, min, Option, Some, None}
+use Rattle.std.proofs.Common.{sym, ap, ◌∙◌, append_assoc, arith, length-drop}
 use Rattle.std.proofs.lemmas.List.{append-nil, take_all, take-append-le}
 use Rattle.std.proofs.Math.Seq.{take-add, take-append-add, take-append_seam}
 use Rattle.std.specs.Io.KnownBytes.{Appends}
@@ -17,18 +18,23 @@ Appends-none None = tt
 Appends-none (Some a) = sym (append-nil a)
 
 -- a write took n bytes of what was offered: the text from s on
-pub Appends-next : (a b c : Option (List ℕ)) (text : List ℕ) (s n k : ℕ) → Appends a b (take s text) → Appends b c (take n (take k (drop s text))) → length text ≤ s + k → Appends a c (take (s + n) text)
+pub Appends-next : (a b c : Option (List ℕ)) (text : List ℕ) (s n k : ℕ) → Appends a b (take s text)
+    → Appends b c (take n (take k (drop s text))) → length text ≤ s + k → Appends a c (take (s + n) text)
 Appends-next a b c text s n k before more fits =
     let whole : take k (drop s text) ≡ drop s text = take_all k (drop s text) (omega (arith, length-drop s text)) in
     let next : Appends b c (take n (drop s text)) = rw whole at more in
     rw (take-add s n text) (Appends-more a b c (take s text) (take n (drop s text)) before next)
 
 -- a text was taken whole, and a front of the one after it
-pub TakesFront-after : (a b c : Option (List ℕ)) (xs ys zs : List ℕ) → Appends a b xs → TakesFront b c ys → TakesFront a c (xs ++ (ys ++ zs))
+pub TakesFront-after : (a b c : Option (List ℕ)) (xs ys zs : List ℕ) → Appends a b xs → TakesFront b c ys
+    → TakesFront a c (xs ++ (ys ++ zs))
 TakesFront-after a b c xs ys zs whole (n, front) =
     let m : ℕ = min n (length ys) in
-    let same : take n ys ≡ take m (ys ++ zs) = grind (arith, take-append-le, take_all) in
-    (length xs + m, rw (take-append-add xs (ys ++ zs) m) (Appends-more a b c xs (take m (ys ++ zs)) whole (rw same at front)))
+    let same : take n ys ≡ take m (ys ++ zs) = grind (arith, take-append-le, take_all) in (
+      length xs + m,
+      rw (take-append-add xs (ys ++ zs) m)
+          (Appends-more a b c xs (take m (ys ++ zs)) whole (rw same at front)),
+    )
 
 pub TakesFront-none : (a : Option (List ℕ)) (text : List ℕ) → TakesFront a a text
 TakesFront-none a text = (0, Appends-none a)
@@ -36,7 +42,8 @@ TakesFront-none a text = (0, Appends-none a)
 pub TakesFront-part : (a b : Option (List ℕ)) (xs ys : List ℕ) → Appends a b xs → TakesFront a b (xs ++ ys)
 TakesFront-part a b xs ys whole = (length xs, rw (take-append_seam xs ys) whole)
 
-pub rows_text-next : (page written : List ℕ) (n m cols : ℕ) (cells : List (Option ℕ)) → page ≡ written ++ rows_text n cols cells → n ≡ suc m
+pub rows_text-next : (page written : List ℕ) (n m cols : ℕ) (cells : List (Option ℕ))
+    → page ≡ written ++ rows_text n cols cells → n ≡ suc m
     → page ≡ (written ++ (row_text (take cols cells) ++ (0x0A ∷ []))) ++ rows_text m cols (drop cols cells)
 rows_text-next page written n m cols cells e k =
     e ∙ ap (λ j. written ++ rows_text j cols cells) k ∙ simp append_assoc

@@ -6,21 +6,26 @@ use Rattle.vte_core.specs.Shapes.{events}
 use Rattle.screenrelay.specs.Sheet.{Page, blank}
 use Rattle.screenrelay.specs.Reading.{stepped, stepped_through, made}
 
-pub stepped_through-append : (p : Page) (es fs : List Event) → stepped_through p (es ++ fs) ≡ stepped_through (stepped_through p es) fs
+pub stepped_through-append : (p : Page) (es fs : List Event)
+    → stepped_through p (es ++ fs) ≡ stepped_through (stepped_through p es) fs
 stepped_through-append p [] fs = refl
 stepped_through-append p (e ∷ es) fs = stepped_through-append (stepped p e) es fs
 
 -- a sheet that went through events is stepped through them
-pub performs-is : (p : Page) (es : List Event) (q : Page) → Performs (λ (old : Page) (e : Event) (new : Page). new ≡ stepped old e) p es q → q ≡ stepped_through p es
+pub performs-is : (p : Page) (es : List Event) (q : Page)
+    → Performs (λ (old : Page) (e : Event) (new : Page). new ≡ stepped old e) p es q → q ≡ stepped_through p es
 performs-is p [] q e = e
 performs-is p (e ∷ es) q (mid, step, rest) = performs-is mid es q rest ∙ ap (λ s. stepped_through s es) step
 
-pub made-more : (rows cols : ℕ) (past bytes : List ℕ) (told : List Event) (q : Page) → events 1024 (past ++ bytes) ≡ events 1024 past ++ told
+pub made-more : (rows cols : ℕ) (past bytes : List ℕ) (told : List Event) (q : Page)
+    → events 1024 (past ++ bytes) ≡ events 1024 past ++ told
     → q ≡ stepped_through (made rows cols past) told → q ≡ made rows cols (past ++ bytes)
 made-more rows cols past bytes told q e s =
-    s ∙ sym (ap (stepped_through (blank rows cols)) e ∙ stepped_through-append (blank rows cols) (events 1024 past) told)
+    s ∙ sym (ap (stepped_through (blank rows cols)) e
+    ∙ stepped_through-append (blank rows cols) (events 1024 past) told)
 
-pub Consumes-more : (a b c : Option (List ℕ)) (xs ys : List ℕ) → Consumes a b xs → Consumes b c ys → Consumes a c (xs ++ ys)
+pub Consumes-more : (a b c : Option (List ℕ)) (xs ys : List ℕ) → Consumes a b xs → Consumes b c ys
+    → Consumes a c (xs ++ ys)
 Consumes-more None b c xs ys h k = tt
 Consumes-more (Some a) None c xs ys h k = absurd h
 Consumes-more (Some a) (Some b) None xs ys h k = absurd k

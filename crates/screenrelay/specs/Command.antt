@@ -22,5 +22,7 @@ line cs = cs ++ (0x0A ∷ [])
 -- the message that goes with an exit status
 abbrev pub Reports : ℕ → List ℕ → Type 0
 Reports zero message = message ≡ []
-Reports (suc zero) message = (message ≡ line (codes "screenrelay: read")) ⊎ ((message ≡ line (codes "screenrelay: write")) ⊎ ((message ≡ line (codes "screenrelay: memory")) ⊎ (message ≡ line (codes "screenrelay: too many reads"))))
+Reports (suc zero) message = (message ≡ line (codes "screenrelay: read"))
+    ⊎ ((message ≡ line (codes "screenrelay: write"))
+    ⊎ ((message ≡ line (codes "screenrelay: memory")) ⊎ (message ≡ line (codes "screenrelay: too many reads"))))
 Reports (suc (suc n)) message = message ≡ line (codes "usage: screenrelay relay|show ROWS COLS")

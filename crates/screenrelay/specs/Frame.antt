@@ -1,5 +1,6 @@
 -- The frame that draws a sheet on a blank terminal of its size.
-use Rattle.std.specs.Prelude.{ℕ, ◌+◌, ◌-◌, ◌/◌, ◌%◌, min, nat_lt, ◌==◌, ◌&&◌, List, [], ◌∷◌, ◌++◌, Option, Some, None, codes, decimal, if◌then◌else◌}
+use Rattle.std.specs.Prelude.{ℕ, ◌+◌, ◌-◌, ◌/◌, ◌%◌, min, nat_lt, ◌==◌, ◌&&◌, List, [], ◌∷◌, ◌++◌, Option, Some, None}
+use Rattle.std.specs.Prelude.{codes, decimal, if◌then◌else◌}
 use Rattle.screenrelay.specs.Sheet.{Page}
 
 -- `ESC [` and these characters
@@ -46,7 +47,8 @@ move_to_cursor p r c =
 abbrev pub drawn : Page → ℕ → ℕ → ℕ → List (Option ℕ) → List ℕ
 drawn p r c i [] = move_to_cursor p r c
 drawn p r c i (None ∷ cells) = drawn p r c (i + 1) cells
-drawn p r c i (Some x ∷ cells) = move_from_to r c (i / p.cols) (i % p.cols) ++ (x ∷ drawn p (i / p.cols) (i % p.cols + 1) (i + 1) cells)
+drawn p r c i (Some x ∷ cells) = move_from_to r c (i / p.cols) (i % p.cols)
+    ++ (x ∷ drawn p (i / p.cols) (i % p.cols + 1) (i + 1) cells)
 
 abbrev pub frame : Page → List ℕ
 frame p = start_mark ++ opening ++ drawn p 0 0 0 p.cells ++ closing ++ end_mark

@@ -1,8 +1,10 @@
 -- A sheet of cells with a cursor, and what is printed and moved on it.
-use Rattle.std.specs.Prelude.{ℕ, zero, suc, ◌+◌, ◌-◌, ◌*◌, min, nat_lt, List, [], ◌∷◌, ◌++◌, length, take, drop, replicate, slice_set, Option, Some, None, is_none, unwrap_or, map, if◌then◌else◌}
+use Rattle.std.specs.Prelude.{ℕ, zero, suc, ◌+◌, ◌-◌, ◌*◌, min, nat_lt, List, [], ◌∷◌, ◌++◌, length, take, drop}
+use Rattle.std.specs.Prelude.{replicate, slice_set, Option, Some, None, is_none, unwrap_or, map, if◌then◌else◌}
 use Rattle.std.specs.List.{suffix_len}
 
--- the cells stand in reading order, row after row; the cursor's column may be the number of columns, and is then pending
+-- the cells stand in reading order, row after row; the cursor's column may be the number of columns, and is then
+-- pending
 pub record Page : Type 0 where
   pub rows : ℕ
   pub cols : ℕ

@@ -13,13 +13,15 @@ pub record Order : Type 0 where
 
 -- 1 to 5 ASCII digits whose value is 1 to 65,535
 abbrev pub is_size : List ℕ → Bool
-is_size word = (nat_le 1 (length word) && nat_le (length word) 5) && (all_ascii_digits word && (nat_le 1 (digits_value 10 word) && nat_le (digits_value 10 word) 65535))
+is_size word = (nat_le 1 (length word) && nat_le (length word) 5)
+    && (all_ascii_digits word && (nat_le 1 (digits_value 10 word) && nat_le (digits_value 10 word) 65535))
 
 abbrev pub size_of : List ℕ → Option ℕ
 size_of word = if is_size word then Some (digits_value 10 word) else None
 
 abbrev pub job_of : List ℕ → Option Job
-job_of word = if bytes_eq word (codes "relay") then Some Relay else (if bytes_eq word (codes "show") then Some Show else None)
+job_of word = if bytes_eq word (codes "relay") then Some Relay
+    else (if bytes_eq word (codes "show") then Some Show else None)
 
 abbrev pub order_of_parts : Option Job → Option ℕ → Option ℕ → Option Order
 order_of_parts (Some job) (Some rows) (Some cols) = Some (record { job = job; rows = rows; cols = cols })

@@ -34,10 +34,14 @@ pub fn command<R: Read, W: Write, V: Write>(
     output: &mut W,
     errors: &mut V,
 ) -> u8
-    ensures usage { order_of (map (λ w. w.now) words.now) ≡ None → (result ≡ 2) × (input.new ≡ input.old) × (output.new ≡ output.old) }
+    ensures usage { order_of (map (λ w. w.now) words.now) ≡ None → (result ≡ 2) × (input.new ≡ input.old)
+        × (output.new ≡ output.old) }
     ensures fault { IfSome (order_of (map (λ w. w.now) words.now)) (λ order. result ≤ 1) }
-    ensures done { result ≡ 0 → IfSome (order_of (map (λ w. w.now) words.now)) (λ order. IfSome (R.remaining input.old) (λ bytes. Appends (W.contents output.old) (W.contents output.new) (wanted order bytes))) }
-    ensures reports { (message : List ℕ) × Reports result message × TakesFront (V.contents errors.old) (V.contents errors.new) message }
+    ensures done { result ≡ 0 → IfSome (order_of (map (λ w. w.now) words.now))
+        (λ order. IfSome (R.remaining input.old) (λ bytes.
+        Appends (W.contents output.old) (W.contents output.new) (wanted order bytes))) }
+    ensures reports { (message : List ℕ) × Reports result message
+        × TakesFront (V.contents errors.old) (V.contents errors.new) message }
 {
     let Some(order) = parse(words) else {
         report(errors, b"usage: screenrelay relay|show ROWS COLS\n");
@@ -56,7 +60,8 @@ pub fn command<R: Read, W: Write, V: Write>(
 /// Tells a fault in a line on `errors`, and answers the exit status that goes with it.
 pub(crate) fn report_fault<V: Write>(errors: &mut V, error: RelayError) -> u8
     ensures status { result ≡ 1 }
-    ensures reports { (message : List ℕ) × Reports 1 message × TakesFront (V.contents errors.old) (V.contents errors.new) message }
+    ensures reports { (message : List ℕ) × Reports 1 message
+        × TakesFront (V.contents errors.old) (V.contents errors.new) message }
 {
     report(errors, fault_line(error));
     FAULT

@@ -34,8 +34,11 @@ pub fn relay<R: Read, W: Write>(
     input: &mut R,
     output: &mut W,
 ) -> Result<(), RelayError>
-    ensures frame { OnOk result (IfSome (R.remaining input.old) (λ bytes. Appends (W.contents output.old) (W.contents output.new) (frame (made rows.value cols.value bytes)))) }
-    ensures front { IfSome (R.remaining input.old) (λ bytes. TakesFront (W.contents output.old) (W.contents output.new) (frame (made rows.value cols.value bytes))) }
+    ensures frame { OnOk result (IfSome (R.remaining input.old)
+        (λ bytes. Appends (W.contents output.old) (W.contents output.new) (frame (made rows.value cols.value bytes)))) }
+    ensures front { IfSome (R.remaining input.old)
+        (λ bytes. TakesFront (W.contents output.old) (W.contents output.new)
+        (frame (made rows.value cols.value bytes))) }
 {
     let sheet = read_sheet(alloc, rows, cols, input)?;
     let text = frame(alloc, &sheet)?;
@@ -54,8 +57,12 @@ pub fn show<R: Read, W: Write>(
     input: &mut R,
     output: &mut W,
 ) -> Result<(), RelayError>
-    ensures text { OnOk result (IfSome (R.remaining input.old) (λ bytes. Appends (W.contents output.old) (W.contents output.new) (page_text (made rows.value cols.value bytes)))) }
-    ensures front { IfSome (R.remaining input.old) (λ bytes. TakesFront (W.contents output.old) (W.contents output.new) (page_text (made rows.value cols.value bytes))) }
+    ensures text { OnOk result (IfSome (R.remaining input.old)
+        (λ bytes. Appends (W.contents output.old) (W.contents output.new)
+        (page_text (made rows.value cols.value bytes)))) }
+    ensures front { IfSome (R.remaining input.old)
+        (λ bytes. TakesFront (W.contents output.old) (W.contents output.new)
+        (page_text (made rows.value cols.value bytes))) }
 {
     let sheet = read_sheet(alloc, rows, cols, input)?;
     write_rows(alloc, &sheet, output)?;
@@ -69,7 +76,8 @@ fn read_sheet<R: Read>(
     cols: NonZeroU16,
     input: &mut R,
 ) -> Result<Sheet, RelayError>
-    ensures made { IfOk result (λ sheet. IfSome (R.remaining input.old) (λ bytes. sheet ≡ made rows.value cols.value bytes)) }
+    ensures made { IfOk result (λ sheet. IfSome (R.remaining input.old) (λ bytes. sheet
+        ≡ made rows.value cols.value bytes)) }
     ensures fault { IfErr result (λ e. e ≢ RelayError.Write) }
 {
     let mut sheet = Sheet::new(alloc, rows, cols)?;

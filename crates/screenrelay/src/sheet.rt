@@ -1,7 +1,9 @@
 //! A plain sheet of cells with a cursor.
 
-ghost use Rattle.std.specs.Prelude.{◌≡◌, ℕ, ◌+◌, ◌*◌, ◌<◌, ◌≤◌, ◌^◌, IfOk, OnOk, length, ◌++◌, drop, take, replicate, None, List, map};
-ghost use Rattle.screenrelay.specs.Sheet.{blank, place, down, fitted, put, printed, returned, moved_to, moved_right, erased, row_text, rows_text, trimmed};
+ghost use Rattle.std.specs.Prelude.{◌≡◌, ℕ, ◌+◌, ◌*◌, ◌<◌, ◌≤◌, ◌^◌, IfOk, OnOk, length, ◌++◌, drop, take, replicate};
+ghost use Rattle.std.specs.Prelude.{None, List, map};
+ghost use Rattle.screenrelay.specs.Sheet.{blank, place, down, fitted, put, printed, returned, moved_to, moved_right};
+ghost use Rattle.screenrelay.specs.Sheet.{erased, row_text, rows_text, trimmed};
 ghost use Rattle.screenrelay.specs.Reading.{stepped, controlled, first_number, next_groups, count};
 ghost use Rattle.std.specs.Prelude.{false};
 
@@ -28,7 +30,8 @@ impl Model for Sheet {
 
     ghost view = { λ s. record { rows = s.rows; cols = s.cols; cells = s.cells.items; row = s.row; col = s.col } };
 
-    ghost invariant = { λ s. (length s.cells.items ≡ s.rows * s.cols) × (s.row < s.rows) × (s.col ≤ s.cols) × (0 < s.cols) };
+    ghost invariant = { λ s. (length s.cells.items ≡ s.rows * s.cols) × (s.row < s.rows) × (s.col ≤ s.cols)
+        × (0 < s.cols) };
 }
 
 impl Sheet {

@@ -38,7 +38,8 @@ fn write_row<W: Write>(
     line: &mut Vec<u8>,
     output: &mut W,
 ) -> Result<(), RelayError>
-    ensures whole { OnOk result (Appends (W.contents output.old) (W.contents output.new) (row_text cells.now ++ 0x0A ∷ [])) }
+    ensures whole { OnOk result (Appends (W.contents output.old) (W.contents output.new) (row_text cells.now ++ 0x0A
+        ∷ [])) }
     ensures front { TakesFront (W.contents output.old) (W.contents output.new) (row_text cells.now ++ 0x0A ∷ []) }
     ensures fault { IfErr result (λ e. (e ≡ RelayError.Memory) ⊎ (e ≡ RelayError.Write)) }
 {

@@ -26,7 +26,8 @@ pub(crate) struct Order {
 
 /// Reads `relay ROWS COLS` or `show ROWS COLS`.
 pub(crate) fn parse(words: &[&str]) -> Option<Order>
-    ensures { option_map (λ o. record { job = o.job; rows = o.rows.value; cols = o.cols.value }) result ≡ order_of (map (λ w. w.now) words.now) }
+    ensures { option_map (λ o. record { job = o.job; rows = o.rows.value; cols = o.cols.value }) result
+        ≡ order_of (map (λ w. w.now) words.now) }
 {
     let [job, rows, cols] = words else {
         return None;

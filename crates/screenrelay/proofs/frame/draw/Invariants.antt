@@ -6,5 +6,6 @@ use Rattle.screenrelay.proofs.frame.draw.Given as goal
 abbrev pub invariant-loop-place : goal.invariant-loop-place
 invariant-loop-place l = record {
   fits : l.row + 1 < 2 ^ 64;
-  left : l.text.items ++ drawn l.sheet l.row l.col l.place (drop l.place l.cell-items) ≡ l.fn.text.items ++ drawn l.sheet 0 0 0 l.sheet.cells;
+  left : l.text.items ++ drawn l.sheet l.row l.col l.place (drop l.place l.cell-items) ≡ l.fn.text.items
+      ++ drawn l.sheet 0 0 0 l.sheet.cells;
 }

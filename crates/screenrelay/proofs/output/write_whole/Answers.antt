@@ -4,6 +4,13 @@ use Rattle.screenrelay.proofs.output.write_whole.Goals as goal
 
 pub loop-sent-preserved : goal.loop-sent-preserved
 loop-sent-preserved g c = record {
-  within = omega (arith, length-take (length c.args.text.now - c.loop-sent.sent) (drop c.loop-sent.sent c.args.text.now), length-drop c.loop-sent.sent c.args.text.now, c.in-Ok.ensures.bound);
-  taken = Appends-next _ _ _ c.args.text.now c.loop-sent.sent c.in-Ok.n (length c.args.text.now - c.loop-sent.sent) c.loop-sent.invariant.taken c.in-Ok.ensures.bytes (omega arith);
+  within = omega (
+    arith,
+    length-take (length c.args.text.now - c.loop-sent.sent)
+        (drop c.loop-sent.sent c.args.text.now),
+    length-drop c.loop-sent.sent c.args.text.now,
+    c.in-Ok.ensures.bound,
+  );
+  taken = Appends-next _ _ _ c.args.text.now c.loop-sent.sent c.in-Ok.n (length c.args.text.now - c.loop-sent.sent)
+      c.loop-sent.invariant.taken c.in-Ok.ensures.bytes (omega arith);
 }

@@ -14,7 +14,8 @@ loop-reads-preserved g c =
             past = so_far.past ++ piece;
             consumed = Consumes-more _ _ _ so_far.past piece so_far.consumed (w.in-Ok.ensures.bytes.0);
             stands = rw w.parser-is (w.advance.ensures.stands so_far.past so_far.stands);
-            sheet_is = w.sheet-is ∙ made-more c.args.rows.value c.args.cols.value so_far.past piece told.told _ (told.added so_far.past so_far.stands)
+            sheet_is = w.sheet-is ∙ made-more c.args.rows.value c.args.cols.value so_far.past piece told.told _
+                (told.added so_far.past so_far.stands)
                 (rw so_far.sheet_is at (performs-is _ told.told _ told.performed));
           }
       | in-Err+else-ne w ↦ record {

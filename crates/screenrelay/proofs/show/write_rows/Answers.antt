@@ -31,11 +31,13 @@ loop-i-preserved g c =
     record {
       left = omega (arith, c.split_at.ensures.back_len, so_far.left, ap (λ (j : ℕ). j * cols) more);
       written = so_far.written ++ line;
-      took = Appends-more _ _ _ so_far.written line so_far.took (rw c.split_at.ensures.front at c.in_ok-write_row.ensures.whole);
+      took = Appends-more _ _ _ so_far.written line so_far.took
+          (rw c.split_at.ensures.front at c.in_ok-write_row.ensures.whole);
       follows = rw c.split_at.ensures.back (rows_text-next _ so_far.written n m cols cells so_far.follows more);
     }
 
 pub returns-clause-front : goal.returns-clause-front
 returns-clause-front g c =
     let so_far = c.loop-i.invariant in
-    rw so_far.follows (TakesFront-part _ _ so_far.written (rows_text (c.rows-i-end.result - c.loop-i.i) c.from-cols.result c.loop-i.cells.now) so_far.took)
+    rw so_far.follows (TakesFront-part _ _ so_far.written
+    (rows_text (c.rows-i-end.result - c.loop-i.i) c.from-cols.result c.loop-i.cells.now) so_far.took)

@@ -16,5 +16,7 @@ not_sized word h = grind arith
 
 pub returns-in-Err : goal.returns-in-Err
 returns-in-Err c =
-    let digits : all_ascii_digits c.args.word.now ≡ true = right-true (nat_le (length c.args.word.now) 5) _ c.if-not-is_short_number.ensures in
-    not_sized c.args.word.now (parse_digits own 16 c.args.word.now (Err c.in-Err.field-0) c.in-Err.ensures.value.0 digits)
+    let digits : all_ascii_digits c.args.word.now ≡ true =
+    right-true (nat_le (length c.args.word.now) 5) _ c.if-not-is_short_number.ensures in
+    not_sized c.args.word.now (parse_digits own 16 c.args.word.now (Err c.in-Err.field-0) c.in-Err.ensures.value.0
+    digits)
