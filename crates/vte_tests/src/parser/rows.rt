@@ -231,7 +231,7 @@ fn runs_of_text(rt: HostRuntime) {
     assert_eq!(rt;
         texts.log.text.as_str(),
         "text 97 98 execute 13 execute 10 text 20013 99 169 127 execute 133 print 65533 print 100 esc | kept 55 \
-         print 65533 text 101 "
+         print 65533 print 101 "
     );
     let mut log = Log::new(&rt, Until::Never);
     log.print_str("a\u{4E2D}");
