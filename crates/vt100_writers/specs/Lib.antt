@@ -1,0 +1,14 @@
+pub mod Cursor
+pub mod Laws
+pub mod Modes
+pub mod Rows
+pub mod Screen
+pub mod Texts
+pub use Rattle.vt100_forms.specs.Attrs
+pub use Rattle.vt100_forms.specs.Form
+pub use Rattle.vt100_forms.specs.Mark
+pub use Rattle.vt100_cells.specs.Cell
+pub use Rattle.vt100_cells.specs.Line
+pub use Rattle.vt100_picture.specs.Position
+pub use Rattle.vt100_picture.specs.Term
+pub use Rattle.vt100_picture.specs.Apply
