@@ -1,3 +1,4 @@
+pub mod ClosingWrites
 pub mod Columns
 pub mod ColumnsWrites
 pub mod Examples

@@ -133,13 +133,17 @@ print_last x = if has_text x then (colour x.attrs >> print x false) else skip
 unfoldable pub mend : Job → CellView → Writer
 mend j x = if j.wrapped then print_last x else (unflag x >> print_last x)
 
--- Where the row's flag changes, and where the terminal may have lost it, the last cell is drawn again. A flag that is
--- to be set is set by the next row.
+-- the row's flag changes, or the terminal may have lost it
+abbrev pub owes_end : Job → Pen → Bool
+owes_end j p = not (bool_eq j.wrapped j.was_wrapped) || (j.wrapped && p.lost)
+
+-- There the last cell is drawn again. A flag that is to be set is set by the next row.
 unfoldable pub closing : Job → Writer
-closing j p =
-    if not (bool_eq j.wrapped j.was_wrapped) || (j.wrapped && p.lost)
-    then (goto j.row (last_col j) >> mend j (last_cell j)) p
-    else skip p
+closing j p = if owes_end j p then (goto j.row (last_col j) >> mend j (last_cell j)) p else skip p
+
+-- The row is drawn, and has the flag that it had before: what the next row is told of this one, where this one goes on.
+abbrev pub keeps_flag : Job → Pen → Bool
+keeps_flag j p = j.was_wrapped && not p.lost
 
 -- ---- the row
 
