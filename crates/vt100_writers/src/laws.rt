@@ -1,6 +1,7 @@
 //! Facts about redraws and differences of screens. Each function does nothing: its contract is the fact.
 ghost use Rattle.vt100_writers.specs.Laws.{EachModeIsSet, EachModeIsChanged, EachAttributeIsSet};
 ghost use Rattle.vt100_writers.specs.Laws.{EachCursorIsPlaced, EachCursorStateIsSet};
+ghost use Rattle.vt100_writers.specs.Laws.{EachRowsRedrawLeads, EachRowsDifferenceLeads};
 
 /// From the cells and flags of a screen the cursor comes to its place, and nothing else changes.
 pub fn cursors_are_placed()
@@ -25,4 +26,15 @@ pub fn modes_are_changed()
 /// Any terminal gets the attributes.
 pub fn attributes_are_set()
     ensures { EachAttributeIsSet }
+{}
+
+/// The redraws of all rows lead from a blank screen to the cells and flags of the present one; the pen says where the
+/// cursor is, and with which attributes the terminal draws.
+pub fn redraws_of_rows_lead()
+    ensures { EachRowsRedrawLeads }
+{}
+
+/// The differences of all rows lead from an earlier screen's cells and flags to those of the present one.
+pub fn differences_of_rows_lead()
+    ensures { EachRowsDifferenceLeads }
 {}
