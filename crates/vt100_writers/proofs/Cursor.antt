@@ -287,7 +287,7 @@ waits-on_empty z t s p a r c row h ha k l none =
 
 -- ---- where the cursor waits
 
-Ends : Size → Shown → ℕ → Option ℕ → Type 0
+unfoldable pub Ends : Size → Shown → ℕ → Option ℕ → Type 0
 Ends z s r None = has_text (last_cell z s r) ≡ false
 Ends z s r (Some i) = (i ≤ r) × (has_text (last_cell z s i) ≡ true)
 
@@ -297,7 +297,7 @@ unfolding Ends
 ends-above z s r None none e = none
 ends-above z s r (Some i) none e = (let up = e.0 in omega arith, e.1)
 
-ends : (z : Size) (s : Shown) (r : ℕ) → Ends z s r (row_with_end z s r)
+pub ends : (z : Size) (s : Shown) (r : ℕ) → Ends z s r (row_with_end z s r)
 unfolding Ends
 ends z s zero = cond_both (has_text (last_cell z s 0)) (Some 0) None (Ends z s 0) (λ h. (omega arith, h)) (λ h. h)
 ends z s (suc r) =

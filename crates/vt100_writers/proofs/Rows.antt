@@ -1,11 +1,9 @@
 -- The rows of a screen, drawn one after the other.
 use Rattle.std.proofs.Common.{◌≡◌, ℕ, zero, suc, ◌+◌, ◌-◌, ◌<◌, ◌≤◌, Bool, true, false, cond, not, ◌&&◌}
-use Rattle.std.proofs.Common.{Option, None, refl, arith, sym, ap, subst, ◌∙◌, inl, inr}
+use Rattle.std.proofs.Common.{None, refl, arith, sym, ap, subst, ◌∙◌, inl, inr}
 use Rattle.std.proofs.lemmas.Bool.{cases_Bool, false≢true}
 use mathlib.Core.Path.{fun_ext}
-use Rattle.vt100_forms.specs.declared.attrs.Attrs.{Attrs}
 use Rattle.vt100_forms.specs.Attrs.{IsProper}
-use Rattle.vt100_forms.specs.Form.{Form}
 use Rattle.vt100_cells.specs.Cell.{CellView, default_cell, is_filled}
 use Rattle.vt100_cells.specs.Line.{IsPaired}
 use Rattle.vt100_picture.specs.Position.{update, splice}
@@ -16,8 +14,8 @@ use Rattle.vt100_picture.proofs.Positions.{splice-update, splice-whole}
 use Rattle.vt100_picture.proofs.FormLemmas.{run-joined}
 use Rattle.vt100_redraw.specs.declared.pen.Pen.{Pen}
 use Rattle.vt100_redraw.specs.Writer.{Writer, ◌>>◌, skip}
-use Rattle.vt100_redraw.specs.RowWriter.{row_redraw, row_difference, keeps_flag}
-use Rattle.vt100_redraw.specs.Scene.{Scene, IsScene, IsReady, IsDrawn, IsLine, with_row, flags_above}
+use Rattle.vt100_redraw.specs.RowWriter.{row_redraw, row_difference}
+use Rattle.vt100_redraw.specs.Scene.{Scene, IsScene, IsReady, IsDrawn, IsLine, with_row}
 use Rattle.vt100_redraw.proofs.Steps.{at}
 use Rattle.vt100_redraw.proofs.RowStart.{difference-leads}
 use Rattle.vt100_redraw.proofs.RowRedraw.{redraw-leads}

@@ -1,14 +1,10 @@
 -- Redraws and differences of whole screens.
-use Rattle.std.proofs.Common.{◌≡◌, ℕ, ◌<◌, Bool, true, false, cond, not, ◌&&◌, nat_lt, List, [], ◌∷◌, ◌++◌}
-use Rattle.std.proofs.Common.{Option, Some, None, refl, arith, sym, ap, subst, ◌∙◌}
+use Rattle.std.proofs.Common.{◌≡◌, ℕ, Bool, true, false, cond, ◌&&◌, nat_lt, List, [], ◌∷◌, ◌++◌}
+use Rattle.std.proofs.Common.{Some, refl, ap, ◌∙◌}
 use Rattle.std.specs.List.{AllByRecursion}
-use Rattle.std.proofs.lemmas.Bool.{cond_both}
 use mathlib.Core.Path.{fun_ext}
 use Rattle.vt100_forms.specs.declared.attrs.Attrs.{Attrs}
 use Rattle.vt100_forms.specs.declared.modes.CursorStyle.{CursorStyle}
-use Rattle.vt100_forms.specs.declared.modes.MouseProtocolMode.TheVariants as mouse
-use Rattle.vt100_forms.specs.declared.modes.MouseProtocolEncoding.TheVariants as encoding
-use Rattle.vt100_forms.specs.declared.modes.CursorStyle.TheVariants as style
 use Rattle.vt100_forms.specs.Attrs.{IsProper, default_attrs}
 use Rattle.vt100_forms.specs.Form.{Form, ClearAttrs, ClearScreen, HideCursor, change}
 use Rattle.vt100_cells.specs.Cell.{CellView, default_cell, empty_cell}
@@ -25,7 +21,7 @@ use Rattle.vt100_writers.specs.Modes.{switch, input_mode_formatted, input_mode_d
 use Rattle.vt100_writers.specs.Screen.{cursor_placed, grid_redraw, grid_contents_formatted, grid_difference}
 use Rattle.vt100_writers.specs.Screen.{contents_formatted, state_formatted, contents_diff, state_diff, contents_diffs}
 use Rattle.vt100_writers.specs.Screen.{last_shown}
-use Rattle.vt100_writers.specs.Laws.{IsDrawable, IsScreen, showing, with_modes, with_grid_of, EachGridRedrawLeads}
+use Rattle.vt100_writers.specs.Laws.{IsDrawable, IsScreen, showing, with_modes, EachGridRedrawLeads}
 use Rattle.vt100_writers.specs.Laws.{EachGridDifferenceLeads, EachRedrawLeads, EachStateRedrawLeads}
 use Rattle.vt100_writers.specs.Laws.{EachDifferenceLeads, EachStateDifferenceLeads, EachChainLeads}
 use Rattle.vt100_writers.proofs.Modes.{default-proper, hide-switched, modes-run, modes-run_changed}

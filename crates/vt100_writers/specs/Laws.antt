@@ -8,6 +8,8 @@ use Rattle.vt100_forms.specs.declared.modes.MouseProtocolEncoding.TheVariants as
 use Rattle.vt100_forms.specs.declared.modes.CursorStyle.TheVariants as style
 use Rattle.vt100_forms.specs.declared.modes.CursorStyle.{CursorStyle}
 use Rattle.vt100_forms.specs.Attrs.{IsProper, default_attrs}
+use Rattle.vt100_forms.specs.Form.{Form, spell}
+use Rattle.vt100_forms.specs.Mark.{mark_head, HasPlainText}
 use Rattle.vt100_cells.specs.Cell.{IsCell}
 use Rattle.vt100_picture.specs.Term.{Size, Modes, Shown, Term, IsShown, blank_shown}
 use Rattle.vt100_picture.specs.Apply.{run}
@@ -154,27 +156,40 @@ pub record ModesAreSet (z : Size) (old new : Shown) (t : Term) : Type 0 where
 abbrev pub EachModeComesOut : Type 0
 EachModeComesOut = (z : Size) (old new : Shown) (t : Term) → ModesAreSet z old new t
 
--- the texts among all that is written for these states
-pub record TextsOf (P : List ℕ → Type 0) (z : Size) (old new : Shown) : Type 0 where
-  pub state_formatted : AllTexts P (state_formatted z new)
-  pub contents_formatted : AllTexts P (contents_formatted z new)
-  pub state_diff : AllTexts P (state_diff z old new)
-  pub contents_diff : AllTexts P (contents_diff z old new)
-  pub cursor_state_formatted : AllTexts P (cursor_state_formatted z new)
-  pub input_mode_formatted : AllTexts P (input_mode_formatted new)
-  pub input_mode_diff : AllTexts P (input_mode_diff old new)
-  pub attributes_formatted : AllTexts P (attributes_formatted new)
-  pub grid_formatted : AllTexts P (grid_contents_formatted z new)
-  pub grid_diff : AllTexts P (grid_difference z old new).forms
-  pub cursor : (p : Option Pos) (a : Attrs) → AllTexts P (cursor_position_formatted z new p a)
+-- what is true of each list of forms that is written for these states
+pub record IsTrueOfEach (Q : List Form → Type 0) (z : Size) (old new : Shown) : Type 0 where
+  pub state_formatted : Q (state_formatted z new)
+  pub contents_formatted : Q (contents_formatted z new)
+  pub state_diff : Q (state_diff z old new)
+  pub contents_diff : Q (contents_diff z old new)
+  pub cursor_state_formatted : Q (cursor_state_formatted z new)
+  pub input_mode_formatted : Q (input_mode_formatted new)
+  pub input_mode_diff : Q (input_mode_diff old new)
+  pub attributes_formatted : Q (attributes_formatted new)
+  pub grid_formatted : Q (grid_contents_formatted z new)
+  pub grid_diff : Q (grid_difference z old new).forms
+  pub cursor : (p : Option Pos) (a : Attrs) → Q (cursor_position_formatted z new p a)
 
--- texts of cells, where no cell shows U+FFFD
+-- cells of which none shows U+FFFD
+pub record IsKnown (s : Shown) : Type 0 where
+  pub cells : (r k : ℕ) → IsCell (s.cell r k)
+  pub known : (r k : ℕ) → Contains (s.cell r k).text 0xFFFD → ⊥
+
+-- the texts are those of cells
 abbrev pub EachTextIsSent : Type 0
-EachTextIsSent = (z : Size) (old new : Shown) → ((r k : ℕ) → IsCell (new.cell r k))
-    → ((r k : ℕ) → Contains (new.cell r k).text 0xFFFD → ⊥) → TextsOf IsSentText z old new
+EachTextIsSent = (z : Size) (old new : Shown) → IsKnown new → IsTrueOfEach (AllTexts IsSentText) z old new
 
--- and where none shows U+FE0F either, none of them has it
+-- and no mark of a synchronized update stands in them
+abbrev pub HasNoMark : List Form → Type 0
+HasNoMark fs = (xs ys : List ℕ) → spell fs ≡ xs ++ (mark_head ++ ys) → ⊥
+
+abbrev pub EachIsPlain : Type 0
+EachIsPlain = (z : Size) (old new : Shown) → IsKnown new → IsTrueOfEach (AllByRecursion HasPlainText) z old new
+
+abbrev pub EachHasNoMark : Type 0
+EachHasNoMark = (z : Size) (old new : Shown) → IsKnown new → IsTrueOfEach HasNoMark z old new
+
+-- and where no cell shows U+FE0F either, the texts are forms without it
 abbrev pub EachTextIsAForm : Type 0
-EachTextIsAForm = (z : Size) (old new : Shown) → ((r k : ℕ) → IsCell (new.cell r k))
-    → ((r k : ℕ) → Contains (new.cell r k).text 0xFFFD → ⊥) → ((r k : ℕ) → Contains (new.cell r k).text 0xFE0F → ⊥)
-    → TextsOf IsFormText z old new
+EachTextIsAForm = (z : Size) (old new : Shown) → IsKnown new
+    → ((r k : ℕ) → Contains (new.cell r k).text 0xFE0F → ⊥) → IsTrueOfEach (AllTexts IsFormText) z old new

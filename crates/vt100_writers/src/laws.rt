@@ -5,6 +5,8 @@ ghost use Rattle.vt100_writers.specs.Laws.{EachRowsRedrawLeads, EachRowsDifferen
 ghost use Rattle.vt100_writers.specs.Laws.{EachGridRedrawLeads, EachGridDifferenceLeads, EachRedrawLeads};
 ghost use Rattle.vt100_writers.specs.Laws.{EachStateRedrawLeads, EachDifferenceLeads, EachStateDifferenceLeads};
 ghost use Rattle.vt100_writers.specs.Laws.{EachChainLeads};
+ghost use Rattle.vt100_writers.specs.Laws.{EachModeComesOut, EachTextIsSent, EachTextIsAForm, EachIsPlain};
+ghost use Rattle.vt100_writers.specs.Laws.{EachHasNoMark};
 
 /// From the cells and flags of a screen the cursor comes to its place, and nothing else changes.
 pub fn cursors_are_placed()
@@ -77,4 +79,30 @@ pub fn state_differences_lead()
 /// A redraw, and differences after it, show the last screen.
 pub fn chains_lead()
     ensures { EachChainLeads }
+{}
+
+/// Also where U+FE0F is shown, by which a terminal may make a cell wide, the modes and the style come out as they are;
+/// a redraw or difference of the contents alone leaves them.
+pub fn modes_come_out()
+    ensures { EachModeComesOut }
+{}
+
+/// Each text among the forms is that of a cell or a space, where no cell shows U+FFFD.
+pub fn texts_are_sent()
+    ensures { EachTextIsSent }
+{}
+
+/// Where no cell shows U+FE0F either, none of the texts has it.
+pub fn texts_are_forms()
+    ensures { EachTextIsAForm }
+{}
+
+/// None of the texts has an ESC.
+pub fn texts_are_plain()
+    ensures { EachIsPlain }
+{}
+
+/// So no mark of a synchronized update stands in the bytes.
+pub fn no_mark_is_written()
+    ensures { EachHasNoMark }
 {}
