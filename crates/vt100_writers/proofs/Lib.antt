@@ -4,3 +4,4 @@ pub mod Cursor
 pub mod Screens
 pub mod Drawing
 pub mod Texts
+pub mod Examples

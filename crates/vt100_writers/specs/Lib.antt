@@ -1,4 +1,5 @@
 pub mod Cursor
+pub mod Examples
 pub mod Laws
 pub mod Modes
 pub mod Rows

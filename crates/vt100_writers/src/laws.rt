@@ -1,4 +1,5 @@
 //! Facts about redraws and differences of screens. Each function does nothing: its contract is the fact.
+ghost use Rattle.vt100_writers.specs.Examples.{EachExampleIsWritten};
 ghost use Rattle.vt100_writers.specs.Laws.{EachModeIsSet, EachModeIsChanged, EachAttributeIsSet};
 ghost use Rattle.vt100_writers.specs.Laws.{EachCursorIsPlaced, EachCursorStateIsSet};
 ghost use Rattle.vt100_writers.specs.Laws.{EachRowsRedrawLeads, EachRowsDifferenceLeads};
@@ -105,4 +106,9 @@ pub fn texts_are_plain()
 /// So no mark of a synchronized update stands in the bytes.
 pub fn no_mark_is_written()
     ensures { EachHasNoMark }
+{}
+
+/// What is written for some small screens.
+pub fn examples_are_written()
+    ensures { EachExampleIsWritten }
 {}
