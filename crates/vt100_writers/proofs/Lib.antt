@@ -5,3 +5,5 @@ pub mod Screens
 pub mod Drawing
 pub mod Texts
 pub mod Examples
+pub mod Costs
+pub mod Lengths

@@ -141,8 +141,8 @@ differs z old new m y ho ha hn =
     let g : (v : Saved) → IsGridDone z (term_of first v) new a (grid_difference z old new).forms (term_of first v) =
     λ v. difference-grid z (term_of first v) old new ho ha hn.drawable in
     let one = hides z (with_modes m y old) old.hidden b refl in
-    let two : Reaches z (grid_difference z old new).forms first second = grid_reaches z _ first second (λ v. (g v).leads)
-    in
+    let fs = (grid_difference z old new).forms in
+    let two : Reaches z fs first second = grid_reaches z fs first second (λ v. (g v).leads) in
     joined z (switch HideCursor old.hidden b ++ (grid_difference z old new).forms) (change a new.attrs)
     (with_modes m y old) second (with_modes m y new)
     (joined z (switch HideCursor old.hidden b) (grid_difference z old new).forms (with_modes m y old) first second one

@@ -1,13 +1,14 @@
 -- How the cursor comes to its place on a screen whose rows are drawn.
 --
--- A cursor waits behind the last column once a character is printed there. So the last cell of the row is printed again;
--- where it has no text, that of the nearest row above which has one, and the cursor goes down from there; where no row
--- has one, a space is printed, and erased again while the cursor is saved.
+-- A cursor waits behind the last column once a character is printed there. So the last cell of the row is printed
+-- again; where it has no text, that of the nearest row above which has one, and the cursor goes down from there; where
+-- no row has one, a space is printed, and erased again while the cursor is saved.
 use Rattle.std.specs.Prelude.{ℕ, zero, suc, ◌-◌, ◌==◌, ◌&&◌, Bool, false, nat_lt, List, [], ◌∷◌, ◌++◌, replicate}
 use Rattle.std.specs.Prelude.{Option, Some, None, if◌then◌else◌}
 use Rattle.vt100_forms.specs.declared.attrs.Attrs.{Attrs}
 use Rattle.vt100_forms.specs.declared.position.Pos.{Pos}
-use Rattle.vt100_forms.specs.Form.{Form, Text, MoveTo, EraseChar, Lf, Backspace, SaveCursor, RestoreCursor, change, moves}
+use Rattle.vt100_forms.specs.Form.{Form, Text, MoveTo, EraseChar, Lf, Backspace, SaveCursor, RestoreCursor, change}
+use Rattle.vt100_forms.specs.Form.{moves}
 use Rattle.vt100_cells.specs.Cell.{CellView, has_text}
 use Rattle.vt100_picture.specs.Term.{Size, Shown}
 

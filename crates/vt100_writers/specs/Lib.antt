@@ -1,6 +1,7 @@
 pub mod Cursor
 pub mod Examples
 pub mod Laws
+pub mod Length
 pub mod Modes
 pub mod Rows
 pub mod Screen

@@ -1,4 +1,5 @@
 //! Facts about redraws and differences of screens. Each function does nothing: its contract is the fact.
+ghost use Rattle.vt100_writers.specs.Length.{EachIsShort};
 ghost use Rattle.vt100_writers.specs.Examples.{EachExampleIsWritten};
 ghost use Rattle.vt100_writers.specs.Laws.{EachModeIsSet, EachModeIsChanged, EachAttributeIsSet};
 ghost use Rattle.vt100_writers.specs.Laws.{EachCursorIsPlaced, EachCursorStateIsSet};
@@ -106,6 +107,11 @@ pub fn texts_are_plain()
 /// So no mark of a synchronized update stands in the bytes.
 pub fn no_mark_is_written()
     ensures { EachHasNoMark }
+{}
+
+/// How many bytes are written at most: 1,024 for each cell of the screen, and 256, 512 or 1,008 more; for the modes 128.
+pub fn redraws_and_differences_are_short()
+    ensures { EachIsShort }
 {}
 
 /// What is written for some small screens.
