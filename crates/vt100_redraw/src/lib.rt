@@ -8,6 +8,7 @@ mod closing;
 mod draw;
 pub mod drawing;
 pub mod laws;
+mod opening;
 pub mod pen;
 
 pub use drawing::Drawing;
