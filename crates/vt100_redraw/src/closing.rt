@@ -1,8 +1,9 @@
-//! How a row ends: its last cell is drawn again where its flag changes.
-ghost use Rattle.std.specs.Prelude.{◌≡◌, ◌+◌, ◌<◌, ◌^◌, length, is_ok, string_bytes};
+//! How a row ends, and the difference of a whole row. Where the row's flag changes its last cell is drawn again.
+ghost use Rattle.std.specs.Prelude.{◌≡◌, ◌+◌, ◌<◌, ◌≤◌, ◌^◌, length, is_ok, string_bytes, IsTrue, Decides};
 ghost use Rattle.vt100_cells.specs.Line.{span_of};
 ghost use Rattle.vt100_redraw.specs.Drawing.{job_of};
-ghost use Rattle.vt100_redraw.specs.RowWriter.{last_col, unflag, print_last, mend, owes_end, closing};
+ghost use Rattle.vt100_redraw.specs.RowWriter.{last_col, unflag, print_last, mend, owes_end, closing, IsKept};
+ghost use Rattle.vt100_redraw.specs.RowWriter.{row_difference};
 ghost use Rattle.vt100_redraw.specs.Writes.{Writes};
 
 use crate::drawing::Drawing;
@@ -33,8 +34,8 @@ impl<'a> Drawing<'a> {
         self.wrapped != self.was_wrapped || (self.wrapped && pen.lost)
     }
 
-    /// Draws the last cell, where the cursor stands, once more. If the row doesn't go on, the cell is erased first, which
-    /// takes the flag away.
+    /// Draws the last cell, where the cursor stands, once more. If the row doesn't go on, the cell is erased first,
+    /// which takes the flag away.
     fn mend(&self, pen: &mut Pen, contents: &mut String, cell: &Cell) -> Result<(), GridError>
         requires { pen.old.pos.col + span_of cell.now < 2 ^ 16 }
         ensures { Writes (mend (job_of self.now) cell.now) pen.old (string_bytes contents.old) (is_ok result) pen.new
@@ -62,6 +63,47 @@ impl<'a> Drawing<'a> {
         let col = self.last_col();
         pen.goto(contents, Pos { row: self.row, col })?;
         self.mend(pen, contents, at(self.cells, usize::from(col)))?;
+        Ok(())
+    }
+
+    /// Whether the terminal shows all of the cells already.
+    fn shows_all(&self) -> bool
+        ensures { Decides result (self.now.cells.now ≡ self.now.earlier.now) }
+    {
+        self.cells == self.earlier
+    }
+
+    /// Whether the terminal shows the row already, and nothing is owed to it or to the row above.
+    fn is_kept(&self, pen: &Pen) -> bool
+        ensures { IsTrue result → IsKept (job_of self.now) pen.now }
+    {
+        self.wrapped == self.was_wrapped
+            && (!self.above || self.was_above)
+            && pen.erase.is_none()
+            && !pen.lost
+            && self.shows_all()
+    }
+
+    /// Draws `count` columns, from the first that is drawn on, where the terminal shows others, and sets the row's flag
+    /// or takes it away. A row that stays costs a comparison.
+    ///
+    /// Where it is refused for want of memory a part of the forms may have been appended.
+    pub fn difference(
+        &self,
+        pen: &mut Pen,
+        contents: &mut String,
+        count: u16,
+    ) -> Result<(), GridError>
+        requires starts_inside { self.now.start < length self.now.cells.now }
+        requires ends_inside { self.now.start + count ≤ length self.now.cells.now }
+        ensures { Writes (row_difference (job_of self.now) count) pen.old (string_bytes contents.old) (is_ok result)
+            pen.new (string_bytes contents.new) }
+    {
+        if self.is_kept(pen) {
+            return Ok(());
+        }
+        self.redraw(pen, contents, count)?;
+        self.closing(pen, contents)?;
         Ok(())
     }
 }

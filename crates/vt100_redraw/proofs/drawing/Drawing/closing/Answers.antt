@@ -49,6 +49,6 @@ pub returns : goal.returns
 returns c =
     let j = job_of c.args.self.now in
     let here = c.at.ensures ∙ ap (cell_at c.args.self.now.cells.now) c.from.ensures in
-    wrote_closing j c.args.pen.now (string_bytes c.args.contents.now) c.last_col-col.result c.at.result.now c.goto.new.self
-    (string_bytes c.goto.new.contents) c.mend.new.pen (string_bytes c.mend.new.contents)
+    wrote_closing j c.args.pen.now (string_bytes c.args.contents.now) c.last_col-col.result c.at.result.now
+    c.goto.new.self (string_bytes c.goto.new.contents) c.mend.new.pen (string_bytes c.mend.new.contents)
     (sym c.if-not-owes_end.ensures) c.last_col-col.ensures here c.in_ok-goto.ensures c.in_ok-mend.ensures
