@@ -1,12 +1,15 @@
 -- Nothing is written for a row that stays.
 use Rattle.std.proofs.Common.{◌≡◌, ℕ, zero, suc, ◌+◌, Bool, true, false, not, ◌&&◌, ◌||◌, List, ◌++◌, ◌==◌, refl}
 use Rattle.std.proofs.Common.{sym, ap, ◌∙◌, inl, inr}
-use Rattle.std.proofs.lemmas.Bool.{cases_Bool}
+use Rattle.std.proofs.lemmas.Bool.{cases_Bool, false≢true}
 use Rattle.std.specs.Prelude.{Decides}
 use Rattle.vt100_forms.specs.Form.{spell}
 use Rattle.vt100_cells.specs.CellEq.{cell_eq-refl, cell_eq-true}
 use Rattle.vt100_cells.specs.Cell.{CellView, cell_eq, bool_eq}
+use Rattle.vt100_cells.specs.Cells.{cell_at}
+use Rattle.vt100_redraw.specs.declared.drawing.Drawing.{Drawing}
 use Rattle.vt100_redraw.specs.declared.pen.Pen.{Pen}
+use Rattle.vt100_redraw.specs.Drawing.{job_of, IsSettled}
 use Rattle.vt100_redraw.specs.Writer.{Drawn, Writer, ◌>>◌, skip}
 use Rattle.vt100_redraw.specs.RowWriter.{Job, is_same, opening, flush, finish, draw, column, columns, closing}
 use Rattle.vt100_redraw.specs.RowWriter.{owes_end, row_redraw, row_difference, IsKept}
@@ -76,6 +79,20 @@ difference-kept j n p h =
     skips-then (row_redraw j n) (closing j) p (redraw-kept j n p h) (closing-none j p (unowed-end j p h))
 
 -- ---- the row, as the code appends it
+
+settled-unowed : (above was : Bool) (b : Bool) → (above ≡ true → was ≡ true) → ((above && not was) && b) ≡ false
+settled-unowed true true b h = refl
+settled-unowed true false b h = absurd (false≢true (h refl))
+settled-unowed false was b h = refl
+
+pub settled_kept : (d : Drawing) (p : Pen) → IsSettled d p → IsKept (job_of d) p
+settled_kept d p h = record {
+  cells = λ k. ap (λ cells. cell_at cells k) h.cells;
+  flag = h.flag;
+  unowed = settled-unowed d.above d.was_above _ h.above;
+  closed = h.closed;
+  unlost = h.unlost;
+}
 
 pub wrote_difference_kept : (j : Job) (n : ℕ) (p : Pen) (s : List ℕ) → IsKept j p
     → Wrote (row_difference j n) p s p s

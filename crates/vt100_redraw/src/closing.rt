@@ -1,8 +1,8 @@
 //! How a row ends, and the difference of a whole row. Where the row's flag changes its last cell is drawn again.
-ghost use Rattle.std.specs.Prelude.{◌≡◌, ◌+◌, ◌<◌, ◌≤◌, ◌^◌, length, is_ok, string_bytes, IsTrue, Decides};
+ghost use Rattle.std.specs.Prelude.{◌≡◌, ◌+◌, ◌<◌, ◌≤◌, ◌^◌, length, is_ok, string_bytes, Decides};
 ghost use Rattle.vt100_cells.specs.Line.{span_of};
-ghost use Rattle.vt100_redraw.specs.Drawing.{job_of};
-ghost use Rattle.vt100_redraw.specs.RowWriter.{last_col, unflag, print_last, mend, owes_end, closing, IsKept};
+ghost use Rattle.vt100_redraw.specs.Drawing.{job_of, IsSettled};
+ghost use Rattle.vt100_redraw.specs.RowWriter.{last_col, unflag, print_last, mend, owes_end, closing};
 ghost use Rattle.vt100_redraw.specs.RowWriter.{row_difference};
 ghost use Rattle.vt100_redraw.specs.Writes.{Writes};
 
@@ -74,8 +74,8 @@ impl<'a> Drawing<'a> {
     }
 
     /// Whether the terminal shows the row already, and nothing is owed to it or to the row above.
-    fn is_kept(&self, pen: &Pen) -> bool
-        ensures { IsTrue result → IsKept (job_of self.now) pen.now }
+    fn is_settled(&self, pen: &Pen) -> bool
+        ensures { Decides result (IsSettled self.now pen.now) }
     {
         self.wrapped == self.was_wrapped
             && (!self.above || self.was_above)
@@ -99,7 +99,7 @@ impl<'a> Drawing<'a> {
         ensures { Writes (row_difference (job_of self.now) count) pen.old (string_bytes contents.old) (is_ok result)
             pen.new (string_bytes contents.new) }
     {
-        if self.is_kept(pen) {
+        if self.is_settled(pen) {
             return Ok(());
         }
         self.redraw(pen, contents, count)?;

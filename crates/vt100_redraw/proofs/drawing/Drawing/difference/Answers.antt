@@ -2,14 +2,14 @@ use Rattle.std.specs.Prelude.{string_bytes}
 use Rattle.vt100_redraw.specs.Drawing.{job_of}
 use Rattle.vt100_redraw.specs.RowWriter.{row_difference}
 use Rattle.vt100_redraw.proofs.KeptRows.{begun_difference_closing, begun_difference_redraw, wrote_difference}
-use Rattle.vt100_redraw.proofs.KeptRows.{wrote_difference_kept}
+use Rattle.vt100_redraw.proofs.KeptRows.{settled_kept, wrote_difference_kept}
 use Rattle.vt100_redraw.proofs.RowWrites.{on_err}
 use Rattle.vt100_redraw.proofs.drawing.Drawing.difference.Goals as goal
 
-pub returns-then-is_kept : goal.returns-then-is_kept
-returns-then-is_kept c =
+pub returns-then-is_settled : goal.returns-then-is_settled
+returns-then-is_settled c =
     wrote_difference_kept (job_of c.args.self.now) c.args.count c.args.pen.now (string_bytes c.args.contents.now)
-    (c.is_kept.ensures c.if-is_kept.true)
+    (settled_kept c.args.self.now c.args.pen.now (c.is_settled.ensures.0 c.if-is_settled.true))
 
 pub returns-in_err-redraw : goal.returns-in_err-redraw
 returns-in_err-redraw c =
