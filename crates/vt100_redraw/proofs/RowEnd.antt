@@ -12,7 +12,7 @@ use Rattle.vt100_cells.proofs.LineLemmas.{wide_within}
 use Rattle.vt100_picture.specs.Position.{update}
 use Rattle.vt100_picture.specs.Term.{Term}
 use Rattle.vt100_picture.specs.Apply.{run}
-use Rattle.vt100_picture.proofs.Positions.{update-twice, update-other, update-kept}
+use Rattle.vt100_picture.proofs.Positions.{update-same, update-twice, update-other, update-kept}
 use Rattle.vt100_redraw.specs.declared.pen.Erase.{Erase}
 use Rattle.vt100_redraw.specs.declared.pen.Pen.{Pen}
 use Rattle.vt100_redraw.specs.Writer.{Writer, ◌>>◌, skip, goto, colour, print, erasing, clearing}
@@ -162,27 +162,27 @@ and_last true true c e = e
 and_last true false c e = refl
 and_last false b c e = refl
 
-print-last_is : (x : CellView) (p : Pen) → has_text x ≡ true → print_last x p ≡ (colour x.attrs >> print x false) p
+pub print-last_is : (x : CellView) (p : Pen) → has_text x ≡ true → print_last x p ≡ (colour x.attrs >> print x false) p
 unfolding print_last
 print-last_is x p h = rw h refl
 
-print-last_none : (x : CellView) (p : Pen) → has_text x ≡ false → print_last x p ≡ skip p
+pub print-last_none : (x : CellView) (p : Pen) → has_text x ≡ false → print_last x p ≡ skip p
 unfolding print_last
 print-last_none x p h = rw h refl
 
-unflag-full : (x : CellView) (p : Pen) → has_text x ≡ true → unflag x p ≡ erasing 1 true p
+pub unflag-full : (x : CellView) (p : Pen) → has_text x ≡ true → unflag x p ≡ erasing 1 true p
 unfolding unflag
 unflag-full x p h = rw h refl
 
-unflag-empty : (x : CellView) (p : Pen) → has_text x ≡ false → unflag x p ≡ (colour x.attrs >> erasing 1 true) p
+pub unflag-empty : (x : CellView) (p : Pen) → has_text x ≡ false → unflag x p ≡ (colour x.attrs >> erasing 1 true) p
 unfolding unflag
 unflag-empty x p h = rw h refl
 
-mend-wraps : (j : Job) (x : CellView) (p : Pen) → j.wrapped ≡ true → mend j x p ≡ print_last x p
+pub mend-wraps : (j : Job) (x : CellView) (p : Pen) → j.wrapped ≡ true → mend j x p ≡ print_last x p
 unfolding mend
 mend-wraps j x p h = rw h refl
 
-mend-ends : (j : Job) (x : CellView) (p : Pen) → j.wrapped ≡ false → mend j x p ≡ (unflag x >> print_last x) p
+pub mend-ends : (j : Job) (x : CellView) (p : Pen) → j.wrapped ≡ false → mend j x p ≡ (unflag x >> print_last x) p
 unfolding mend
 mend-ends j x p h = rw h refl
 
@@ -283,6 +283,22 @@ no-need true false lost h = absurd (false≢true (sym h))
 no-need false true lost h = absurd (false≢true (sym h))
 no-need false false lost h = (refl, λ g. refl)
 
+-- a row that goes on and kept its flag needs nothing
+no-need_kept : (a b lost : Bool) → a ≡ true → (b && not lost) ≡ true
+    → (not (bool_eq a b) || (a && lost)) ≡ false
+no-need_kept true true false h g = refl
+no-need_kept true true true h g = absurd (false≢true g)
+no-need_kept true false lost h g = absurd (false≢true g)
+no-need_kept false b lost h g = absurd (false≢true h)
+
+-- one that goes on and needs nothing kept its flag
+kept-no_need : (a b lost : Bool) → a ≡ true → (not (bool_eq a b) || (a && lost)) ≡ false
+    → (b && not lost) ≡ true
+kept-no_need true true false h g = refl
+kept-no_need true true true h g = absurd (false≢true (sym g))
+kept-no_need true false lost h g = absurd (false≢true (sym g))
+kept-no_need false b lost h g = absurd (false≢true h)
+
 pub flags-off : (F V : ℕ → Bool) (i : ℕ) (lost b : Bool) → Flags F V i lost → update F i b ≡ update V i b
 flags-off F V i lost b (inl e) = ap (λ G. update G i b) e
 flags-off F V i lost b (inr e) = ap (λ G. update G i b) e.1 ∙ update-twice V i false b
@@ -294,12 +310,12 @@ flags-kept s F lost h same ends (inl e) =
     e ∙ sym (update-kept (flags_above s) s.job.row s.job.wrapped (same ∙ sym (own-flag s h)))
 flags-kept s F lost h same ends (inr e) = e.1 ∙ ap (update (flags_above s) s.job.row) (sym (ends e.0))
 
-closing-none : (j : Job) (p : Pen) → (not (bool_eq j.wrapped j.was_wrapped) || (j.wrapped && p.lost)) ≡ false
+pub closing-none : (j : Job) (p : Pen) → (not (bool_eq j.wrapped j.was_wrapped) || (j.wrapped && p.lost)) ≡ false
     → closing j p ≡ skip p
 unfolding closing
 closing-none j p h = rw h refl
 
-closing-some : (j : Job) (p : Pen) → (not (bool_eq j.wrapped j.was_wrapped) || (j.wrapped && p.lost)) ≡ true
+pub closing-some : (j : Job) (p : Pen) → (not (bool_eq j.wrapped j.was_wrapped) || (j.wrapped && p.lost)) ≡ true
     → closing j p ≡ (goto j.row (last_col j) >> mend j (last_cell j)) p
 unfolding closing
 closing-some j p h = rw h refl
@@ -328,6 +344,7 @@ closing-at s F r k a lost h ha kept =
     elim (cases_Bool (not (bool_eq j.wrapped j.was_wrapped) || (j.wrapped && lost))) [
       | inr fine ↦
           (let none = no-need j.wrapped j.was_wrapped lost fine in
+          let on = flags-kept s F lost h none.0 none.1 kept in
           drawn-takes s (closing j) p t p t
           (takes-as z skip (closing j) p t p t (closing-none j p fine) (takes-skip z p t))
           (record {
@@ -335,7 +352,10 @@ closing-at s F r k a lost h ha kept =
             stands = refl;
             proper = ha;
             closed = refl;
-            flagged = inl (flags-kept s F lost h none.0 none.1 kept);
+            flagged = inl on;
+            keeps = λ wraps _. ap (λ G. G j.row) on ∙ update-same (flags_above s) j.row j.wrapped ∙ wraps;
+            waits = λ wraps g. absurd (both_ways (j.was_wrapped && not lost) g
+                (kept-no_need j.wrapped j.was_wrapped lost wraps fine));
           }))
       | inl needs ↦ elim (cases_Bool j.wrapped) [
         | inl wraps ↦
@@ -351,6 +371,9 @@ closing-at s F r k a lost h ha kept =
               proper = h.proper c;
               closed = refl;
               flagged = inr (wraps, refl, refl, flags-off F (flags_above s) j.row lost true kept);
+              keeps = λ _ g. absurd (both_ways _ (no-need_kept j.wrapped j.was_wrapped lost wraps
+                  (ap (λ b. j.was_wrapped && not b) (sym (or_off lost false refl)) ∙ g)) needs);
+              waits = λ _ _. (refl, refl);
             }))
         | inr ends ↦
             (let off : update F j.row false ≡ update (flags_above s) j.row j.wrapped =
@@ -370,6 +393,8 @@ closing-at s F r k a lost h ha kept =
                     proper = h.proper c;
                     closed = refl;
                     flagged = inl off;
+                    keeps = λ wraps _. absurd (both_ways j.wrapped ends wraps);
+                    waits = λ wraps _. absurd (both_ways j.wrapped ends wraps);
                   })
               | inr empty ↦
                   (let is : j.new c ≡ empty_cell x.attrs = empty-is x (h.cells c) empty last.whole in
@@ -390,6 +415,8 @@ closing-at s F r k a lost h ha kept =
                     proper = h.proper c;
                     closed = refl;
                     flagged = inl off;
+                    keeps = λ wraps _. absurd (both_ways j.wrapped ends wraps);
+                    waits = λ wraps _. absurd (both_ways j.wrapped ends wraps);
                   }))
             ])
       ]

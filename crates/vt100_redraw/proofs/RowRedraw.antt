@@ -1,11 +1,11 @@
 -- A redraw ends at the end of a row that goes on in the next one.
 use Rattle.std.proofs.Common.{◌≡◌, ℕ, suc, ◌+◌, ◌==◌, Bool, true, false, not, ◌&&◌}
 use Rattle.std.proofs.Common.{Option, Some, None, arith, sym, ap, ◌∙◌, inl, inr, subst}
-use Rattle.std.proofs.lemmas.Bool.{cases_Bool, both_ways, or_left}
+use Rattle.std.proofs.lemmas.Bool.{cases_Bool, both_ways, or_left, false≢true}
 use Rattle.vt100_forms.specs.declared.attrs.Attrs.{Attrs}
 use Rattle.vt100_forms.specs.Attrs.{attrs_eq}
 use Rattle.vt100_cells.specs.CellEq.{cell_eq-true}
-use Rattle.vt100_cells.specs.Cell.{has_text}
+use Rattle.vt100_cells.specs.Cell.{has_text, default_cell}
 use Rattle.vt100_cells.specs.Line.{span_of}
 use Rattle.vt100_redraw.specs.declared.pen.Erase.{Erase}
 use Rattle.vt100_redraw.specs.declared.pen.Pen.{Pen}
@@ -127,6 +127,19 @@ redraw-behind s p h differs some =
     let at_end = columns-behind s (opening j p).pen h differs some in
     finish-behind j q.pos.row q.pos.col q.attrs q.erase q.lost at_end at_end.closed
 
+-- where a row goes on, and no flag was set, its last cell is drawn last
+redraw-waits : (s : Scene) (p : Pen) → IsScene s → ((k : ℕ) → s.job.old k ≡ default_cell) → s.job.wrapped ≡ true
+    → IsBehind s.job s.job.cols (row_redraw s.job s.job.cols p).pen
+redraw-waits s p h blank wraps =
+    let j = s.job in
+    let some = last-text s h (h.new.filled wraps) in
+    let differs : is_same j (last_col j) ≡ false = (elim (cases_Bool (is_same j (last_col j))) [
+      | inr differs ↦ differs
+      | inl same ↦ absurd (both_ways (has_text (last_cell j)) (ap has_text
+          (cell_eq-true (last_cell j) (j.old (last_col j)) same ∙ blank (last_col j))) some)
+    ]) in
+    redraw-behind s p h differs some
+
 pub redraw-leads : EachRedrawLeads
 redraw-leads s p h ready blank unflagged =
     let j = s.job in
@@ -140,13 +153,9 @@ redraw-leads s p h ready blank unflagged =
       flagged = (elim (cases_Bool j.wrapped) [
         | inr ends ↦ inl (flags-kept s all.flags q.lost h (ends ∙ sym unflagged) (λ e. ends) all.kept)
         | inl wraps ↦
-            (let some = last-text s h (h.new.filled wraps) in
-            let differs : is_same j (last_col j) ≡ false = (elim (cases_Bool (is_same j (last_col j))) [
-              | inr differs ↦ differs
-              | inl same ↦ absurd (both_ways (has_text (last_cell j)) (ap has_text
-                  (cell_eq-true (last_cell j) (j.old (last_col j)) same ∙ blank (last_col j))) some)
-            ]) in
-            let behind = redraw-behind s p h differs some in
+            (let behind = redraw-waits s p h blank wraps in
             inr (wraps, behind.row, behind.col, flags-off all.flags (flags_above s) j.row q.lost true all.kept))
       ]);
+      keeps = λ _ g. absurd (false≢true (sym (ap (λ b. b && not q.lost) unflagged) ∙ g));
+      waits = λ wraps _. (let behind = redraw-waits s p h blank wraps in (behind.row, behind.col));
     }

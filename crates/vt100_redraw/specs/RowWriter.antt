@@ -3,7 +3,7 @@
 -- Empty columns with the same attributes are erased together: what is to be erased waits in the pen until a column
 -- follows that ends it. Where the row above goes on in this one and its flag isn't set yet, the first character of
 -- this row is printed from the end of that row, which sets it.
-use Rattle.std.specs.Prelude.{ℕ, zero, suc, ◌+◌, ◌-◌, ◌==◌, Bool, true, false, not, ◌&&◌, ◌||◌, nat_lt}
+use Rattle.std.specs.Prelude.{ℕ, zero, suc, ◌≡◌, ◌+◌, ◌-◌, ◌==◌, Bool, true, false, not, ◌&&◌, ◌||◌, nat_lt}
 use Rattle.std.specs.Prelude.{Option, Some, None, if◌then◌else◌}
 use Rattle.vt100_forms.specs.declared.attrs.Attrs.{Attrs}
 use Rattle.vt100_forms.specs.Attrs.{attrs_eq}
@@ -133,13 +133,17 @@ print_last x = if has_text x then (colour x.attrs >> print x false) else skip
 unfoldable pub mend : Job → CellView → Writer
 mend j x = if j.wrapped then print_last x else (unflag x >> print_last x)
 
--- Where the row's flag changes, and where the terminal may have lost it, the last cell is drawn again. A flag that is
--- to be set is set by the next row.
+-- the row's flag changes, or the terminal may have lost it
+abbrev pub owes_end : Job → Pen → Bool
+owes_end j p = not (bool_eq j.wrapped j.was_wrapped) || (j.wrapped && p.lost)
+
+-- There the last cell is drawn again. A flag that is to be set is set by the next row.
 unfoldable pub closing : Job → Writer
-closing j p =
-    if not (bool_eq j.wrapped j.was_wrapped) || (j.wrapped && p.lost)
-    then (goto j.row (last_col j) >> mend j (last_cell j)) p
-    else skip p
+closing j p = if owes_end j p then (goto j.row (last_col j) >> mend j (last_cell j)) p else skip p
+
+-- The row is drawn, and has the flag that it had before: what the next row is told of this one, where this one goes on.
+abbrev pub keeps_flag : Job → Pen → Bool
+keeps_flag j p = j.was_wrapped && not p.lost
 
 -- ---- the row
 
@@ -150,3 +154,11 @@ row_redraw j n = opening j >> columns j n >> finish j
 -- n columns of the row, and its flag
 unfoldable pub row_difference : Job → ℕ → Writer
 row_difference j n = row_redraw j n >> closing j
+
+-- the terminal shows the row already, and nothing is owed to it or to the row above
+pub record IsKept (j : Job) (p : Pen) : Type 0 where
+  pub cells : (k : ℕ) → j.new k ≡ j.old k
+  pub flag : j.wrapped ≡ j.was_wrapped
+  pub unowed : owes_flag j p ≡ false
+  pub closed : p.erase ≡ None
+  pub unlost : p.lost ≡ false

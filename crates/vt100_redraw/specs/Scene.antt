@@ -8,7 +8,7 @@ use Rattle.vt100_cells.specs.Line.{IsPaired, Bounded}
 use Rattle.vt100_picture.specs.Position.{update}
 use Rattle.vt100_picture.specs.Term.{Size, Term}
 use Rattle.vt100_redraw.specs.declared.pen.Pen.{Pen}
-use Rattle.vt100_redraw.specs.RowWriter.{Job}
+use Rattle.vt100_redraw.specs.RowWriter.{Job, keeps_flag}
 
 -- A terminal of so many rows, and the columns of the job: its cells and flags before the row is drawn. Of `term` the
 -- rest counts.
@@ -61,7 +61,8 @@ pub record IsReady (s : Scene) (p : Pen) : Type 0 where
   pub waits : s.job.above ≡ true → s.job.was_above ≡ false → (p.pos.row + 1 ≡ s.job.row) × (p.pos.col ≡ s.job.cols)
 
 -- The row is drawn, and the pen is right. The row has its flag; or it goes on in the next one, and its flag may be
--- missing, and then the cursor waits at its end.
+-- missing, and then the cursor waits at its end. What the next row is told of this one is true: where this one kept its
+-- flag it has it, and where it didn't the cursor waits.
 pub record IsDrawn (s : Scene) (p : Pen) (t : Term) : Type 0 where
   pub flags : ℕ → Bool
   pub stands : t ≡ with_row s s.job.new flags p.pos.row p.pos.col p.attrs
@@ -70,3 +71,5 @@ pub record IsDrawn (s : Scene) (p : Pen) (t : Term) : Type 0 where
   pub flagged : (flags ≡ update (flags_above s) s.job.row s.job.wrapped)
       ⊎ ((s.job.wrapped ≡ true) × (p.pos.row ≡ s.job.row) × (p.pos.col ≡ s.job.cols)
       × (update flags s.job.row true ≡ update (flags_above s) s.job.row true))
+  pub keeps : s.job.wrapped ≡ true → keeps_flag s.job p ≡ true → flags s.job.row ≡ true
+  pub waits : s.job.wrapped ≡ true → keeps_flag s.job p ≡ false → (p.pos.row ≡ s.job.row) × (p.pos.col ≡ s.job.cols)
