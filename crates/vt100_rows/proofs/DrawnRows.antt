@@ -16,12 +16,13 @@ use Rattle.vt100_picture.specs.Apply.{run}
 use Rattle.vt100_picture.proofs.Positions.{update-same, update-other, update-kept}
 use Rattle.vt100_redraw.specs.declared.pen.Pen.{Pen}
 use Rattle.vt100_redraw.specs.Writer.{Drawn, skip}
-use Rattle.vt100_redraw.specs.RowWriter.{Job, row_redraw}
+use Rattle.vt100_redraw.specs.RowWriter.{row_redraw, row_difference}
 use Rattle.vt100_redraw.specs.Scene.{Scene, IsScene, IsLine, IsReady, IsDrawn, size_of, with_row}
 use Rattle.vt100_redraw.proofs.RowRedraw.{redraw-leads}
+use Rattle.vt100_redraw.proofs.RowStart.{difference-leads}
 use Rattle.vt100_rows.specs.Row.{RowView, IsRow}
-use Rattle.vt100_rows.specs.Forms.{redraw_job, redraw, pen_at, formatted}
-use Rattle.vt100_rows.specs.Laws.{screen_of, IsPlainRow, IsAtRow, IsRowDrawn, EachRowIsDrawn}
+use Rattle.vt100_rows.specs.Forms.{redraw_job, redraw, pen_at, formatted, difference_job, difference, differing}
+use Rattle.vt100_rows.specs.Laws.{screen_of, IsPlainRow, IsAtRow, IsRowDrawn, EachRowIsDrawn, EachDifferenceIsDrawn}
 
 default-proper : IsProper default_attrs
 default-proper = record { small = omega arith; one = refl }
@@ -145,6 +146,69 @@ row-drawn rows t v row width pos attrs h plain inside some wide at =
     let before = term-before s row refl refl refl at.cells at.row_is at.col_is at.attrs_are in
     let leads = redraw-leads s (starting row) (is-redraw rows t v row h plain inside some at.wrapped)
     (row-ready s row refl) (λ k. refl) refl in
+    let all : IsRowDrawn row (cell_at v.cells) d.pen t (run (size_of s) d.forms t) =
+    row-after s d.pen (run (size_of s) d.forms t) refl refl refl
+    (subst (λ (x : Term). IsDrawn s d.pen (run (size_of s) d.forms x)) before leads) in
+    subst (λ (e : Drawn). IsRowDrawn row (cell_at v.cells) e.pen t (run (screen_of rows v) e.forms t)) (sym is) all
+
+-- ---- the difference
+
+difference-whole : (v earlier : RowView) (width row : ℕ) (was_above : Bool) (p : Pen)
+    → length earlier.cells ≡ length v.cells → 0 < length v.cells → length v.cells ≤ width
+    → difference v earlier 0 width row false was_above p
+    ≡ row_difference (difference_job v earlier 0 row false was_above) (length v.cells) p
+difference-whole v earlier width row was_above p same some wide =
+    let cols = min (length v.cells) (length earlier.cells) in
+    let j = difference_job v earlier 0 row false was_above in
+    let inside : 0 < cols = omega (arith, same, some) in
+    ap (λ b. cond b (row_difference j (min width (cols - 0))) skip p) (lt-ltb 0 cols inside)
+    ∙ ap (λ n. row_difference j n p) (omega (arith, same, wide))
+
+difference-scene : (rows : ℕ) (t : Term) (v earlier : RowView) (row : ℕ) (was_above : Bool) → Scene
+difference-scene rows t v earlier row was_above = record {
+  rows = rows;
+  job = difference_job v earlier 0 row false was_above;
+  term = t;
+  cells = t.cell;
+  flags = t.wrapped;
+}
+
+is-difference : (rows : ℕ) (t : Term) (v earlier : RowView) (row : ℕ) (was_above : Bool) → IsRow v → IsPlainRow v
+    → IsRow earlier → length earlier.cells ≡ length v.cells → row < rows → 0 < length v.cells
+    → t.wrapped row ≡ earlier.wrapped → IsScene (difference-scene rows t v earlier row was_above)
+unfolding difference-scene
+is-difference rows t v earlier row was_above h plain was same inside some flag = record {
+  whole = refl;
+  some_col = some;
+  row_in = inside;
+  old = subst (λ n. IsLine n (cell_at earlier.cells) earlier.wrapped) same (line-of earlier was);
+  new = line-of v h;
+  cells = h.cells;
+  plain = plain.plain;
+  proper = plain.proper;
+  flag = flag;
+  below_first = λ q. absurd (false≢true q);
+  above_filled = λ q. absurd (false≢true q);
+  above_flag = λ q. absurd (false≢true q);
+}
+
+pub difference-drawn : EachDifferenceIsDrawn
+unfolding difference-scene
+difference-drawn rows t v earlier row width was_above pos attrs h plain was same inside some wide at =
+    let s = difference-scene rows t v earlier row was_above in
+    let d : Drawn = row_difference s.job s.job.cols (starting row) in
+    let told : record { pos = pos; attrs = attrs; erase = None; lost = false } ≡ starting row = λ i. record {
+      pos = at.told_pos i;
+      attrs = at.told_attrs i;
+      erase = None;
+      lost = false;
+    } in
+    let is : differing v earlier 0 width row false was_above pos attrs ≡ d =
+    ap (difference v earlier 0 width row false was_above) told
+    ∙ difference-whole v earlier width row was_above (starting row) same some wide in
+    let before = term-before s row refl refl refl at.cells at.row_is at.col_is at.attrs_are in
+    let leads = difference-leads s (starting row)
+    (is-difference rows t v earlier row was_above h plain was same inside some at.wrapped) (row-ready s row refl) in
     let all : IsRowDrawn row (cell_at v.cells) d.pen t (run (size_of s) d.forms t) =
     row-after s d.pen (run (size_of s) d.forms t) refl refl refl
     (subst (λ (x : Term). IsDrawn s d.pen (run (size_of s) d.forms x)) before leads) in
