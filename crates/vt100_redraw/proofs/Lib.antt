@@ -11,4 +11,5 @@ pub mod RowRedraw
 pub mod RowStart
 pub mod RowWrites
 pub mod Steps
+pub mod Texts
 pub mod WritesLemmas
