@@ -7,3 +7,4 @@ pub mod BasicLemmas
 pub mod DrawnRows
 pub mod Examples
 pub mod FormsLemmas
+pub mod SentTexts

@@ -1,15 +1,19 @@
 -- What the forms of a whole row do to a terminal.
-use Rattle.std.specs.Prelude.{ℕ, ◌≡◌, ◌<◌, ◌≤◌, Bool, false, length, Contains, Option, Some, unwrap_or}
+use Rattle.std.specs.Prelude.{ℕ, ◌≡◌, ◌<◌, ◌≤◌, Bool, false, List, ◌++◌, length, Contains, Option, Some, unwrap_or}
 use Rattle.vt100_forms.specs.declared.attrs.Attrs.{Attrs}
 use Rattle.vt100_forms.specs.declared.position.Pos.{Pos}
 use Rattle.vt100_forms.specs.Attrs.{IsProper, default_attrs}
+use Rattle.vt100_forms.specs.Form.{Form, spell}
+use Rattle.vt100_forms.specs.Mark.{mark_head}
 use Rattle.vt100_cells.specs.Cell.{CellView, default_cell}
 use Rattle.vt100_cells.specs.Cells.{cell_at}
 use Rattle.vt100_picture.specs.Term.{Size, Term}
 use Rattle.vt100_picture.specs.Apply.{run}
+use Rattle.vt100_picture.specs.FormText.{IsSentText, IsFormText}
 use Rattle.vt100_redraw.specs.declared.pen.Pen.{Pen}
+use Rattle.vt100_redraw.specs.Texts.{AllDrawing}
 use Rattle.vt100_rows.specs.Row.{RowView, IsRow}
-use Rattle.vt100_rows.specs.Forms.{formatted, differing}
+use Rattle.vt100_rows.specs.Forms.{redraw, formatted, difference, differing}
 
 -- a terminal of so many rows, as wide as the row
 abbrev pub screen_of : ℕ → RowView → Size
@@ -64,3 +68,30 @@ EachDifferenceIsDrawn = (rows : ℕ) (t : Term) (v earlier : RowView) (row width
     → IsAtRow row (cell_at earlier.cells) earlier.wrapped (Some pos) (Some attrs) t
     → IsRowDrawn row (cell_at v.cells) (differing v earlier 0 width row false was_above pos attrs).pen t
     (run (screen_of rows v) (differing v earlier 0 width row false was_above pos attrs).forms t)
+
+-- ---- the forms of any part of a row
+
+-- Q is true of the forms of a redraw and of a difference, whichever columns are drawn and wherever
+abbrev pub IsTrueOfForms : (List Form → Type 0) → RowView → Type 0
+IsTrueOfForms Q v = (earlier : RowView) (start width row : ℕ) (above was_above : Bool) (p : Pen)
+    → Q (redraw v start width row above p).forms × Q (difference v earlier start width row above was_above p).forms
+
+-- no character of the row is U+FFFD, which a terminal doesn't draw
+abbrev pub IsKnownRow : RowView → Type 0
+IsKnownRow v = (k : ℕ) → Contains (cell_at v.cells k).text 0xFFFD → ⊥
+
+-- they set no mode and no style, and their texts are those of cells
+abbrev pub EachTextIsSent : Type 0
+EachTextIsSent = (v : RowView) → IsRow v → IsKnownRow v → IsTrueOfForms (AllDrawing IsSentText) v
+
+-- which hold no U+FE0F if the row doesn't
+abbrev pub EachTextIsAForm : Type 0
+EachTextIsAForm = (v : RowView) → IsRow v → IsKnownRow v → ((k : ℕ) → Contains (cell_at v.cells k).text 0xFE0F → ⊥)
+    → IsTrueOfForms (AllDrawing IsFormText) v
+
+-- no mark of a synchronized update stands in them
+abbrev pub HasNoMark : List Form → Type 0
+HasNoMark fs = (xs ys : List ℕ) → spell fs ≡ xs ++ (mark_head ++ ys) → ⊥
+
+abbrev pub EachHasNoMark : Type 0
+EachHasNoMark = (v : RowView) → IsRow v → IsKnownRow v → IsTrueOfForms HasNoMark v
