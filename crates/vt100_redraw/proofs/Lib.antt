@@ -2,11 +2,14 @@ pub mod ClosingWrites
 pub mod Columns
 pub mod ColumnsWrites
 pub mod Examples
+pub mod KeptRows
 pub mod Lines
+pub mod OpeningWrites
 pub mod RowEnd
 pub mod RowLeads
 pub mod RowRedraw
 pub mod RowStart
 pub mod RowWrites
 pub mod Steps
+pub mod Texts
 pub mod WritesLemmas

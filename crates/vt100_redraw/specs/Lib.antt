@@ -3,6 +3,7 @@ pub mod Examples
 pub mod Laws
 pub mod RowWriter
 pub mod Scene
+pub mod Texts
 pub mod Writer
 pub mod Writes
 pub use Rattle.vt100_forms.specs.Attrs

@@ -4,9 +4,11 @@
 //! appends the forms of a row's columns.
 #![tactic(auto)]
 
+mod closing;
 mod draw;
 pub mod drawing;
 pub mod laws;
+mod opening;
 pub mod pen;
 
 pub use drawing::Drawing;

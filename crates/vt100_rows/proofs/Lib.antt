@@ -4,3 +4,7 @@ pub mod JoinLemmas
 pub mod TextLemmas
 pub mod RowRuns
 pub mod BasicLemmas
+pub mod DrawnRows
+pub mod Examples
+pub mod FormsLemmas
+pub mod SentTexts

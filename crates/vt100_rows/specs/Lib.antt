@@ -1,6 +1,9 @@
 pub mod Row
 pub mod Text
 pub mod Basic
+pub mod Examples
+pub mod Forms
+pub mod Laws
 pub use Rattle.vt100_forms.specs.Attrs
 pub use Rattle.vt100_cells.specs.Cell
 pub use Rattle.vt100_cells.specs.Cells

@@ -1,0 +1,37 @@
+//! Facts about rows. Each function does nothing: its contract is the fact.
+ghost use Rattle.vt100_rows.specs.Examples.{EachExampleIsWritten};
+ghost use Rattle.vt100_rows.specs.Laws.{EachRowIsDrawn, EachDifferenceIsDrawn, EachTextIsSent};
+ghost use Rattle.vt100_rows.specs.Laws.{EachTextIsAForm, EachHasNoMark};
+
+/// A terminal whose cursor stands at the start of a blank row, and that reads what
+/// [`write_contents_formatted`](crate::Row::write_contents_formatted) appends for a whole row, shows this row there; its
+/// other rows stay.
+pub fn rows_are_drawn()
+    ensures { EachRowIsDrawn }
+{}
+
+/// The same of [`write_contents_diff`](crate::Row::write_contents_diff), where the terminal shows the earlier row.
+pub fn differences_are_drawn()
+    ensures { EachDifferenceIsDrawn }
+{}
+
+/// The forms of any part of a row set no mode and no style; what they print are texts of cells, if no cell of the row has
+/// U+FFFD.
+pub fn texts_are_sent()
+    ensures { EachTextIsSent }
+{}
+
+/// If no cell has U+FE0F either, no text that is printed has it.
+pub fn texts_are_forms()
+    ensures { EachTextIsAForm }
+{}
+
+/// No mark of a synchronized update stands in what is appended.
+pub fn marks_are_absent()
+    ensures { EachHasNoMark }
+{}
+
+/// What is appended for some small rows.
+pub fn examples_are_written()
+    ensures { EachExampleIsWritten }
+{}
