@@ -24,6 +24,7 @@ use Rattle.vt100_writers.specs.Screen.{last_shown}
 use Rattle.vt100_writers.specs.Laws.{IsDrawable, IsScreen, showing, with_modes, EachGridRedrawLeads}
 use Rattle.vt100_writers.specs.Laws.{EachGridDifferenceLeads, EachRedrawLeads, EachStateRedrawLeads}
 use Rattle.vt100_writers.specs.Laws.{EachDifferenceLeads, EachStateDifferenceLeads, EachChainLeads}
+use Rattle.vt100_writers.specs.Laws.{EachLaterRedrawLeads}
 use Rattle.vt100_writers.proofs.Modes.{default-proper, hide-switched, modes-run, modes-run_changed}
 use Rattle.vt100_writers.proofs.Cursor.{cursor-run, known-some}
 use Rattle.vt100_writers.proofs.Rows.{IsDone, redraw-done, difference-done}
@@ -169,6 +170,13 @@ state-difference_leads z old new ho ha hn v hv =
     joined z (contents_diff z old new) (input_mode_diff old new) old (with_modes old.modes old.style new) new
     (differs z old new old.modes old.style ho ha hn)
     (λ w. ap shown_of (modes-run_changed z (term_of (with_modes old.modes old.style new) w) old new refl refl)) v
+
+pub later-redraw_leads : EachLaterRedrawLeads
+unfolding Reaches
+later-redraw_leads z old new from h em es v hv =
+    joined z (contents_formatted z new) (input_mode_diff old new) from (with_modes from.modes from.style new) new
+    (redraws z new from h)
+    (λ w. ap shown_of (modes-run_changed z (term_of (with_modes from.modes from.style new) w) old new em es)) v
 
 -- ---- chains
 

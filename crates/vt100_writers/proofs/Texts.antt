@@ -23,11 +23,13 @@ use Rattle.vt100_writers.specs.Cursor.{cursor_position_formatted}
 use Rattle.vt100_writers.specs.Modes.{switch, input_mode_formatted, input_mode_diff, attributes_formatted}
 use Rattle.vt100_writers.specs.Screen.{grid_contents_formatted, grid_difference, contents_formatted, state_formatted}
 use Rattle.vt100_writers.specs.Screen.{contents_diff, state_diff, cursor_state_formatted}
-use Rattle.vt100_writers.specs.Texts.{IsDrawing, AllDrawing, HasText, AllTexts, TextsAre}
+use Rattle.vt100_writers.specs.Texts.{HasText, AllTexts}
+use Rattle.vt100_redraw.specs.Texts.{IsDrawing, AllDrawing}
+use Rattle.vt100_redraw.proofs.Texts.{all-join, change-drawing}
 use Rattle.vt100_writers.specs.Laws.{IsKnown, IsTrueOfEach, HasNoMark, EachTextIsSent, EachIsPlain, EachHasNoMark}
 use Rattle.vt100_writers.specs.Laws.{EachTextIsAForm, EachModeComesOut}
 use Rattle.vt100_writers.proofs.Modes.{modes-run, modes-run_changed}
-use Rattle.vt100_writers.proofs.Drawing.{all-join, change-drawing, cursor-drawing, grid-drawing, grid_diff-drawing}
+use Rattle.vt100_writers.proofs.Drawing.{TextsAre, cursor-drawing, grid-drawing, grid_diff-drawing}
 use Rattle.vt100_writers.proofs.Drawing.{contents-drawing, contents_diff-drawing, cursor_state-drawing}
 
 -- ---- texts

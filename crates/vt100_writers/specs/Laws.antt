@@ -134,6 +134,11 @@ abbrev pub EachStateDifferenceLeads : Type 0
 EachStateDifferenceLeads = (z : Size) (old new : Shown) → IsShown z old → IsProper old.attrs → IsScreen z new
     → Leads z (state_diff z old new) old new
 
+-- a redraw, and what differs in modes and style, from any terminal that has those of the old screen
+abbrev pub EachLaterRedrawLeads : Type 0
+EachLaterRedrawLeads = (z : Size) (old new from : Shown) → IsScreen z new → from.modes ≡ old.modes
+    → from.style ≡ old.style → Leads z (contents_formatted z new ++ input_mode_diff old new) from new
+
 -- a redraw, and differences after it, lead to the last of these screens
 abbrev pub EachChainLeads : Type 0
 EachChainLeads = (z : Size) (s from : Shown) (xs : List Shown) → IsScreen z s → AllByRecursion (IsScreen z) xs

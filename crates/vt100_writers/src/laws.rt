@@ -6,7 +6,7 @@ ghost use Rattle.vt100_writers.specs.Laws.{EachCursorIsPlaced, EachCursorStateIs
 ghost use Rattle.vt100_writers.specs.Laws.{EachRowsRedrawLeads, EachRowsDifferenceLeads};
 ghost use Rattle.vt100_writers.specs.Laws.{EachGridRedrawLeads, EachGridDifferenceLeads, EachRedrawLeads};
 ghost use Rattle.vt100_writers.specs.Laws.{EachStateRedrawLeads, EachDifferenceLeads, EachStateDifferenceLeads};
-ghost use Rattle.vt100_writers.specs.Laws.{EachChainLeads};
+ghost use Rattle.vt100_writers.specs.Laws.{EachChainLeads, EachLaterRedrawLeads};
 ghost use Rattle.vt100_writers.specs.Laws.{EachModeComesOut, EachTextIsSent, EachTextIsAForm, EachIsPlain};
 ghost use Rattle.vt100_writers.specs.Laws.{EachHasNoMark};
 
@@ -78,6 +78,12 @@ pub fn state_differences_lead()
     ensures { EachStateDifferenceLeads }
 {}
 
+/// A redraw followed by what differs in the modes leads from any picture, with the modes and the style of an earlier
+/// screen, to all that the present one shows.
+pub fn later_redraws_lead()
+    ensures { EachLaterRedrawLeads }
+{}
+
 /// A redraw, and differences after it, show the last screen.
 pub fn chains_lead()
     ensures { EachChainLeads }
@@ -109,7 +115,8 @@ pub fn no_mark_is_written()
     ensures { EachHasNoMark }
 {}
 
-/// How many bytes are written at most: 1,024 for each cell of the screen, and 256, 512 or 1,008 more; for the modes 128.
+/// How many bytes are written at most: 1,024 for each cell of the screen, and 256, 512 or 1,008 more; 128 for the modes
+/// alone.
 pub fn redraws_and_differences_are_short()
     ensures { EachIsShort }
 {}
