@@ -184,12 +184,13 @@ pub record IsKnown (s : Shown) : Type 0 where
 abbrev pub EachTextIsSent : Type 0
 EachTextIsSent = (z : Size) (old new : Shown) → IsKnown new → IsTrueOfEach (AllTexts IsSentText) z old new
 
--- and no mark of a synchronized update stands in them
-abbrev pub HasNoMark : List Form → Type 0
-HasNoMark fs = (xs ys : List ℕ) → spell fs ≡ xs ++ (mark_head ++ ys) → ⊥
-
+-- so they have no ESC
 abbrev pub EachIsPlain : Type 0
 EachIsPlain = (z : Size) (old new : Shown) → IsKnown new → IsTrueOfEach (AllByRecursion HasPlainText) z old new
+
+-- and no mark of a synchronized update stands in the bytes
+abbrev pub HasNoMark : List Form → Type 0
+HasNoMark fs = (xs ys : List ℕ) → spell fs ≡ xs ++ (mark_head ++ ys) → ⊥
 
 abbrev pub EachHasNoMark : Type 0
 EachHasNoMark = (z : Size) (old new : Shown) → IsKnown new → IsTrueOfEach HasNoMark z old new
