@@ -3,6 +3,7 @@ pub mod Columns
 pub mod ColumnsWrites
 pub mod Examples
 pub mod Lines
+pub mod OpeningWrites
 pub mod RowEnd
 pub mod RowLeads
 pub mod RowRedraw

@@ -1,7 +1,7 @@
 -- The start of a row that is drawn, and the whole row.
 use Rattle.std.proofs.Common.{◌≡◌, ℕ, ◌+◌, ◌-◌, ◌<◌, ◌==◌, Bool, true, false, cond, not, ◌&&◌, ◌||◌}
 use Rattle.std.proofs.Common.{Option, None, refl, arith, sym, ap}
-use Rattle.std.proofs.Common.{◌∙◌, inl, inr, ◌⊎◌, subst}
+use Rattle.std.proofs.Common.{◌∙◌, inl, inr, ◌⊎◌, subst, if◌then◌else◌}
 use Rattle.std.proofs.lemmas.Bool.{cases_Bool, cases_lt, both_ways, and_parts, and_from, eq-eqb, lt-ltb}
 use Rattle.std.proofs.lemmas.Bool.{not-true}
 use Rattle.vt100_forms.specs.declared.attrs.Attrs.{Attrs}
@@ -41,26 +41,31 @@ waits-wraps j n p above row col some =
     and_from j.above _ above (and_from (p.pos.row + 1 == j.row) _ (eq-eqb (p.pos.row + 1) j.row row)
     (lt-ltb j.cols (p.pos.col + n) (omega (arith, col, some))))
 
-opening-none : (j : Job) (p : Pen) → owes_flag j p ≡ false → opening j p ≡ skip p
+pub opening-none : (j : Job) (p : Pen) → owes_flag j p ≡ false → opening j p ≡ skip p
 unfolding opening
 opening-none j p h = rw h refl
 
-opening-some : (j : Job) (p : Pen) → owes_flag j p ≡ true
+pub opening-some : (j : Job) (p : Pen) → owes_flag j p ≡ true
     → opening j p ≡ (turn j.row >> colour (j.new j.start).attrs >> reprint j (j.new j.start)) p
 unfolding opening
 opening-some j p h = rw h refl
 
-reprint-wide : (j : Job) (x : CellView) (p : Pen) → has_text x ≡ true → x.wide ≡ true
+pub reprint-wide : (j : Job) (x : CellView) (p : Pen) → has_text x ≡ true → x.wide ≡ true
     → reprint j x p ≡ (print x false >> (back >> back)) p
 unfolding reprint
 reprint-wide j x p h g = rw (h, g) refl
 
-reprint-narrow : (j : Job) (x : CellView) (p : Pen) → has_text x ≡ true → x.wide ≡ false
+pub reprint-narrow : (j : Job) (x : CellView) (p : Pen) → has_text x ≡ true → x.wide ≡ false
     → reprint j x p ≡ (print x false >> back) p
 unfolding reprint
 reprint-narrow j x p h g = rw (h, g) refl
 
-reprint-empty : (j : Job) (x : CellView) (p : Pen) → has_text x ≡ false
+pub reprint-some : (j : Job) (x : CellView) (p : Pen) → has_text x ≡ true
+    → reprint j x p ≡ (print x false >> (if x.wide then (back >> back) else back)) p
+unfolding reprint
+reprint-some j x p h = rw h refl
+
+pub reprint-empty : (j : Job) (x : CellView) (p : Pen) → has_text x ≡ false
     → reprint j x p ≡ (space >> back >> erasing 1 (wipe_unflags j.cols j.old 0 1)) p
 unfolding reprint
 reprint-empty j x p h = rw h refl

@@ -24,7 +24,7 @@ impl<'a> Drawing<'a> {
     }
 
     /// Whether the terminal shows the cell already.
-    fn is_same(&self, col: u16) -> bool
+    pub(crate) fn is_same(&self, col: u16) -> bool
         requires { col < length self.now.cells.now }
         ensures { result ≡ is_same (job_of self.now) col }
     {
@@ -38,7 +38,7 @@ impl<'a> Drawing<'a> {
     }
 
     /// Whether `columns` columns don't fit behind the cursor in the row above, which goes on in this one.
-    fn wraps(&self, pen: &Pen, columns: u16) -> bool
+    pub(crate) fn wraps(&self, pen: &Pen, columns: u16) -> bool
         ensures { result ≡ wraps (job_of self.now) columns pen.now }
     {
         self.above
@@ -116,7 +116,7 @@ impl<'a> Drawing<'a> {
     }
 
     /// Erases what is still to be erased, to the end of the row.
-    fn finish(&self, pen: &mut Pen, contents: &mut String) -> Result<(), GridError>
+    pub(crate) fn finish(&self, pen: &mut Pen, contents: &mut String) -> Result<(), GridError>
         ensures { Writes (finish (job_of self.now)) pen.old (string_bytes contents.old) (is_ok result) pen.new
             (string_bytes contents.new) }
     {
@@ -174,7 +174,12 @@ impl<'a> Drawing<'a> {
     }
 
     /// Draws `count` columns, from the first that is drawn on.
-    fn columns(&self, pen: &mut Pen, contents: &mut String, count: u16) -> Result<(), GridError>
+    pub(crate) fn columns(
+        &self,
+        pen: &mut Pen,
+        contents: &mut String,
+        count: u16,
+    ) -> Result<(), GridError>
         requires { self.now.start + count ≤ length self.now.cells.now }
         ensures { Writes (columns (job_of self.now) count) pen.old (string_bytes contents.old) (is_ok result) pen.new
             (string_bytes contents.new) }
@@ -189,7 +194,7 @@ impl<'a> Drawing<'a> {
 /// Which forms take the row's flag away.
 impl<'a> Drawing<'a> {
     /// Whether the terminal loses the row's flag where the columns from `from` up to `to` are erased.
-    fn loses_by_erase(&self, from: u16, to: u16) -> bool
+    pub(crate) fn loses_by_erase(&self, from: u16, to: u16) -> bool
         ensures { result ≡ wipe_unflags (job_of self.now).cols (job_of self.now).old from to }
     {
         let to = usize::from(to);

@@ -7,6 +7,7 @@
 mod draw;
 pub mod drawing;
 pub mod laws;
+mod opening;
 pub mod pen;
 
 pub use drawing::Drawing;

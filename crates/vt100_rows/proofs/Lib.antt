@@ -4,3 +4,4 @@ pub mod JoinLemmas
 pub mod TextLemmas
 pub mod RowRuns
 pub mod BasicLemmas
+pub mod FormsLemmas

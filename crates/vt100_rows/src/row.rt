@@ -9,6 +9,8 @@ ghost use Rattle.vt100_rows.specs.Row.{join_answer, inserted, removed, truncated
 ghost use Rattle.vt100_rows.specs.Row.{placed_each};
 ghost use Rattle.vt100_rows.specs.Text.{written_text, IsBegun};
 
+mod forms;
+
 use crate::join::Join;
 use std::alloc::Global;
 use std::marker::Model;

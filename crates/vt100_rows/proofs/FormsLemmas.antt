@@ -1,0 +1,18 @@
+-- A row that is drawn.
+use Rattle.std.proofs.Common.{ℕ, ◌-◌, ◌≤◌, Bool, List, length, min, ap, cond}
+use Rattle.std.proofs.lemmas.Bool.{le-ltb}
+use Rattle.vt100_redraw.specs.declared.pen.Pen.{Pen}
+use Rattle.vt100_redraw.specs.Writer.{skip}
+use Rattle.vt100_redraw.specs.RowWriter.{row_redraw}
+use Rattle.vt100_redraw.specs.Writes.{Wrote}
+use Rattle.vt100_redraw.proofs.WritesLemmas.{wrote_as, wrote_skip}
+use Rattle.vt100_rows.specs.Row.{RowView}
+use Rattle.vt100_rows.specs.Forms.{redraw_job, redraw}
+
+-- nothing is drawn of a row that ends before the first column
+pub wrote_row_none : (v : RowView) (start width row : ℕ) (above : Bool) (p : Pen) (s : List ℕ) → length v.cells ≤ start
+    → Wrote (redraw v start width row above) p s p s
+wrote_row_none v start width row above p s outside =
+    wrote_as skip (redraw v start width row above) p s p s
+    (ap (λ b. cond b (row_redraw (redraw_job v start row above) (min width (length v.cells - start))) skip p)
+    (le-ltb start (length v.cells) outside)) (wrote_skip p s)

@@ -1,0 +1,111 @@
+//! A row as forms.
+ghost use Rattle.std.specs.Prelude.{◌≡◌, ◌++◌, is_ok, OnOk, IfOk, OnErr, string_bytes};
+ghost use Rattle.vt100_forms.specs.Form.{spell};
+ghost use Rattle.vt100_redraw.specs.Writes.{Writes};
+ghost use Rattle.vt100_rows.specs.Forms.{redraw, pen_at, formatted};
+ghost use Rattle.vt100_rows.specs.Text.{IsBegun};
+
+use crate::row::Row;
+use vt100_forms::GridError;
+use vt100_forms::attrs::Attrs;
+use vt100_forms::position::Pos;
+use vt100_redraw::{Drawing, Pen};
+
+impl Row {
+    /// Appends the forms that draw `width` columns of the row from column `start` on, as row `row` of a terminal that
+    /// shows default cells there. `wrapping` says whether the row above goes on in this one; then it gets its flag from
+    /// the first character, if the cursor waits at its end.
+    ///
+    /// `prev_pos` is where the terminal's cursor stands before: if it isn't given, at column `start`, or at the end of
+    /// the row above where `wrapping` is set. `prev_attrs` are the attributes that it draws with, the default ones if
+    /// they aren't given. Both are answered as they are afterwards. A row that ends before `start` appends nothing.
+    ///
+    /// On an error a part of the forms may have been appended.
+    pub fn write_contents_formatted(
+        &self,
+        contents: &mut String,
+        start: u16,
+        width: u16,
+        row: u16,
+        wrapping: bool,
+        prev_pos: Option<Pos>,
+        prev_attrs: Option<Attrs>,
+    ) -> Result<(Pos, Attrs), GridError>
+        ensures text { OnOk result (string_bytes contents.new ≡ string_bytes contents.old
+            ++ spell (formatted self.now start width row wrapping prev_pos prev_attrs).forms) }
+        ensures pos { IfOk result (λ answer. answer.0
+            ≡ (formatted self.now start width row wrapping prev_pos prev_attrs).pen.pos) }
+        ensures attrs { IfOk result (λ answer. answer.1
+            ≡ (formatted self.now start width row wrapping prev_pos prev_attrs).pen.attrs) }
+        ensures begun { OnErr result (IsBegun (string_bytes contents.old)
+            (spell (formatted self.now start width row wrapping prev_pos prev_attrs).forms)
+            (string_bytes contents.new)) }
+    {
+        let mut pen = self.pen_at(start, row, wrapping, prev_pos, prev_attrs);
+        self.redraw(contents, &mut pen, start, width, row, wrapping)?;
+        Ok((pen.pos, pen.attrs))
+    }
+
+    /// The pen before the row is drawn.
+    fn pen_at(
+        &self,
+        start: u16,
+        row: u16,
+        wrapping: bool,
+        prev_pos: Option<Pos>,
+        prev_attrs: Option<Attrs>,
+    ) -> Pen
+        ensures { result ≡ pen_at self.now start row wrapping prev_pos prev_attrs }
+    {
+        let pos = if wrapping {
+            Pos {
+                row: row.saturating_sub(1),
+                col: self.cols(),
+            }
+        } else {
+            Pos { row, col: start }
+        };
+        Pen {
+            pos: prev_pos.unwrap_or(pos),
+            attrs: prev_attrs.unwrap_or(Attrs::new()),
+            erase: None,
+            lost: false,
+        }
+    }
+}
+
+/// The same with the whole pen, for the grid.
+impl Row {
+    /// Draws the row as [`write_contents_formatted`](Self::write_contents_formatted) does. `above` says whether the row
+    /// above goes on in this one.
+    #[doc(hidden)]
+    pub fn redraw(
+        &self,
+        contents: &mut String,
+        pen: &mut Pen,
+        start: u16,
+        width: u16,
+        row: u16,
+        above: bool,
+    ) -> Result<(), GridError>
+        ensures { Writes (redraw self.now start width row above) pen.old (string_bytes contents.old) (is_ok result)
+            pen.new (string_bytes contents.new) }
+    {
+        let cols = self.cols();
+        if cols <= start {
+            return Ok(());
+        }
+        let drawing = Drawing {
+            cells: &self.cells,
+            earlier: &[],
+            wrapped: self.wrapped,
+            was_wrapped: false,
+            above,
+            was_above: false,
+            row,
+            start,
+        };
+        drawing.redraw(pen, contents, width.min(cols - start))?;
+        Ok(())
+    }
+}
