@@ -1,3 +1,4 @@
 pub mod Rows
 pub mod Modes
 pub mod Cursor
+pub mod Screens
