@@ -1,7 +1,7 @@
 -- The end of a row, as the code writes it.
-use Rattle.std.proofs.Common.{◌≡◌, ℕ, ◌+◌, ◌<◌, Bool, true, false, List, refl, sym, ap, ◌∙◌}
+use Rattle.std.proofs.Common.{◌≡◌, ℕ, ◌+◌, ◌-◌, ◌<◌, Bool, true, false, List, refl, sym, ap, ◌∙◌}
 use Rattle.std.proofs.Common.{arith, inl, inr}
-use Rattle.std.proofs.lemmas.Bool.{cases_Bool}
+use Rattle.std.proofs.lemmas.Bool.{cases_Bool, cond_both}
 use Rattle.vt100_forms.specs.declared.attrs.Attrs.{Attrs}
 use Rattle.vt100_forms.specs.Form.{spell}
 use Rattle.vt100_cells.specs.Cell.{CellView, has_text}
@@ -170,3 +170,14 @@ pub begun_closing_mend : (j : Job) (p : Pen) (s : List ℕ) (c : ℕ) (x : CellV
 begun_closing_mend j p s c x q t u h e is v b =
     begun_as (goto j.row c >> mend j x) (closing j) p s u (closing_as j p c x h e is)
     (begun_then (goto j.row c) (mend j x) p s q t u v b)
+
+pub gone_col : (row col : ℕ) (p : Pen) (s : List ℕ) (q : Pen) (t : List ℕ) → Wrote (goto row col) p s q t
+    → q.pos.col ≡ col
+gone_col row col p s q t w = col_of (goto row col) p s q t col (goto-col row col p) w
+
+-- the last cell stands in the row
+pub last_inside : (j : Job) (c : ℕ) → 0 < j.cols → c ≡ last_col j → c < j.cols
+last_inside j c some e =
+    let inside : last_col j < j.cols = cond_both (j.new (j.cols - 1)).continuation (j.cols - 2) (j.cols - 1)
+    (λ n. n < j.cols) (λ _. omega (arith, some)) (λ _. omega (arith, some)) in
+    omega (arith, e, inside)

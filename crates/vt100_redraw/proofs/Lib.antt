@@ -2,6 +2,7 @@ pub mod ClosingWrites
 pub mod Columns
 pub mod ColumnsWrites
 pub mod Examples
+pub mod KeptRows
 pub mod Lines
 pub mod OpeningWrites
 pub mod RowEnd

@@ -107,7 +107,7 @@ begun_to_erase_after j e p s q t u h a b =
     begun_as (goto j.row e.from >> colour e.attrs) (to_erase j e) p s u (erase-goto j e p h)
     (begun_then (goto j.row e.from) (colour e.attrs) p s q t u a b)
 
-flush-is_none : (j : Job) (n : ℕ) (p : Pen) → p.erase ≡ None → flush j n p ≡ skip p
+pub flush-is_none : (j : Job) (n : ℕ) (p : Pen) → p.erase ≡ None → flush j n p ≡ skip p
 unfolding flush flush_of
 flush-is_none j n p e = ap (λ o. flush_of j n o p) e
 
@@ -121,7 +121,7 @@ flush-is_ended : (j : Job) (n : ℕ) (p : Pen) (e : Erase) → p.erase ≡ Some 
 unfolding flush flush_of
 flush-is_ended j n p e h g = ap (λ o. flush_of j n o p) h ∙ rw g refl
 
-finish-is_none : (j : Job) (p : Pen) → p.erase ≡ None → finish j p ≡ skip p
+pub finish-is_none : (j : Job) (p : Pen) → p.erase ≡ None → finish j p ≡ skip p
 unfolding finish finish_of
 finish-is_none j p e = ap (λ o. finish_of j o p) e
 
@@ -295,12 +295,12 @@ span_fits cells n x k is few paired inside here =
       | inr narrow ↦ rw narrow (omega (arith, inside, few, here))
     ]
 
-column-is_half : (j : Job) (n : ℕ) (p : Pen) → ((j.new n).continuation && not (n == j.start)) ≡ true
+pub column-is_half : (j : Job) (n : ℕ) (p : Pen) → ((j.new n).continuation && not (n == j.start)) ≡ true
     → column j n p ≡ skip p
 unfolding column
 column-is_half j n p h = rw h refl
 
-column-is_whole : (j : Job) (n : ℕ) (p : Pen) → ((j.new n).continuation && not (n == j.start)) ≡ false
+pub column-is_whole : (j : Job) (n : ℕ) (p : Pen) → ((j.new n).continuation && not (n == j.start)) ≡ false
     → column j n p ≡ (flush j n >> draw j n) p
 unfolding column
 column-is_whole j n p h = rw h refl

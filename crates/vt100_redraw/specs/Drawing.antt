@@ -1,7 +1,8 @@
 -- A row that is drawn, as the code holds it.
-use Rattle.std.specs.Prelude.{length}
+use Rattle.std.specs.Prelude.{◌≡◌, true, false, length, None}
 use Rattle.vt100_cells.specs.Cells.{cell_at}
 use Rattle.vt100_redraw.specs.declared.drawing.Drawing.{Drawing}
+use Rattle.vt100_redraw.specs.declared.pen.Pen.{Pen}
 use Rattle.vt100_redraw.specs.RowWriter.{Job}
 
 abbrev pub job_of : Drawing → Job
@@ -16,3 +17,12 @@ job_of d = record {
   above = d.above;
   was_above = d.was_above;
 }
+
+-- The terminal shows the row's cells and has its flag, and that of the row above if that one goes on; and the pen owes
+-- nothing.
+pub record IsSettled (d : Drawing) (p : Pen) : Type 0 where
+  pub cells : d.cells.now ≡ d.earlier.now
+  pub flag : d.wrapped ≡ d.was_wrapped
+  pub above : d.above ≡ true → d.was_above ≡ true
+  pub closed : p.erase ≡ None
+  pub unlost : p.lost ≡ false

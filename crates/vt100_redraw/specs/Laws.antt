@@ -3,7 +3,8 @@ use Rattle.std.specs.Prelude.{ℕ, ◌≡◌, false}
 use Rattle.vt100_cells.specs.Cell.{default_cell}
 use Rattle.vt100_picture.specs.Apply.{run}
 use Rattle.vt100_redraw.specs.declared.pen.Pen.{Pen}
-use Rattle.vt100_redraw.specs.RowWriter.{row_redraw, row_difference}
+use Rattle.vt100_redraw.specs.Writer.{skip}
+use Rattle.vt100_redraw.specs.RowWriter.{Job, IsKept, row_redraw, row_difference}
 use Rattle.vt100_redraw.specs.Scene.{Scene, IsScene, IsReady, IsDrawn, size_of, with_row}
 
 -- from a terminal that shows the earlier row, the difference leads to one that shows the present one, and nothing else
@@ -19,3 +20,7 @@ EachRedrawLeads = (s : Scene) (p : Pen) → IsScene s → IsReady s p → ((k : 
     → s.job.was_wrapped ≡ false
     → IsDrawn s (row_redraw s.job s.job.cols p).pen (run (size_of s) (row_redraw s.job s.job.cols p).forms
     (with_row s s.job.old s.flags p.pos.row p.pos.col p.attrs))
+
+-- nothing is written for a row that stays, however many of its columns are drawn
+abbrev pub EachKeptRowIsLeft : Type 0
+EachKeptRowIsLeft = (j : Job) (n : ℕ) (p : Pen) → IsKept j p → row_difference j n p ≡ skip p

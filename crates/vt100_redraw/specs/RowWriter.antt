@@ -3,7 +3,7 @@
 -- Empty columns with the same attributes are erased together: what is to be erased waits in the pen until a column
 -- follows that ends it. Where the row above goes on in this one and its flag isn't set yet, the first character of
 -- this row is printed from the end of that row, which sets it.
-use Rattle.std.specs.Prelude.{ℕ, zero, suc, ◌+◌, ◌-◌, ◌==◌, Bool, true, false, not, ◌&&◌, ◌||◌, nat_lt}
+use Rattle.std.specs.Prelude.{ℕ, zero, suc, ◌≡◌, ◌+◌, ◌-◌, ◌==◌, Bool, true, false, not, ◌&&◌, ◌||◌, nat_lt}
 use Rattle.std.specs.Prelude.{Option, Some, None, if◌then◌else◌}
 use Rattle.vt100_forms.specs.declared.attrs.Attrs.{Attrs}
 use Rattle.vt100_forms.specs.Attrs.{attrs_eq}
@@ -154,3 +154,11 @@ row_redraw j n = opening j >> columns j n >> finish j
 -- n columns of the row, and its flag
 unfoldable pub row_difference : Job → ℕ → Writer
 row_difference j n = row_redraw j n >> closing j
+
+-- the terminal shows the row already, and nothing is owed to it or to the row above
+pub record IsKept (j : Job) (p : Pen) : Type 0 where
+  pub cells : (k : ℕ) → j.new k ≡ j.old k
+  pub flag : j.wrapped ≡ j.was_wrapped
+  pub unowed : owes_flag j p ≡ false
+  pub closed : p.erase ≡ None
+  pub unlost : p.lost ≡ false

@@ -17,7 +17,7 @@ use vt100_forms::attrs::Attrs;
 use vt100_forms::position::Pos;
 
 impl<'a> Drawing<'a> {
-    fn cols(&self) -> u16
+    pub(crate) fn cols(&self) -> u16
         ensures { result ≡ length self.now.cells.now }
     {
         self.cells.len() as u16

@@ -4,6 +4,7 @@
 //! appends the forms of a row's columns.
 #![tactic(auto)]
 
+mod closing;
 mod draw;
 pub mod drawing;
 pub mod laws;

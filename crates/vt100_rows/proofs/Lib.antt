@@ -4,4 +4,5 @@ pub mod JoinLemmas
 pub mod TextLemmas
 pub mod RowRuns
 pub mod BasicLemmas
+pub mod DrawnRows
 pub mod FormsLemmas

@@ -2,6 +2,7 @@ pub mod Row
 pub mod Text
 pub mod Basic
 pub mod Forms
+pub mod Laws
 pub use Rattle.vt100_forms.specs.Attrs
 pub use Rattle.vt100_cells.specs.Cell
 pub use Rattle.vt100_cells.specs.Cells

@@ -6,6 +6,7 @@
 
 mod basic;
 mod join;
+pub mod laws;
 mod row;
 
 pub use join::Join;

@@ -1,0 +1,151 @@
+-- What the forms of a whole row do to a terminal.
+use Rattle.std.proofs.Common.{◌≡◌, ℕ, ◌-◌, ◌<◌, ◌≤◌, Bool, true, false, List, [], length, min, Option, None, refl, arith}
+use Rattle.std.proofs.Common.{sym, ap, ◌∙◌, subst, cond, inl, inr, ◌⊎◌}
+use Rattle.std.specs.Prelude.{unwrap_or}
+use Rattle.std.proofs.lemmas.Bool.{false≢true, lt-ltb}
+use mathlib.Core.Path.{fun_ext}
+use Rattle.vt100_forms.specs.declared.attrs.Attrs.{Attrs}
+use Rattle.vt100_forms.specs.declared.position.Pos.{Pos}
+use Rattle.vt100_forms.specs.Attrs.{IsProper, default_attrs}
+use Rattle.vt100_cells.specs.Cell.{CellView, default_cell}
+use Rattle.vt100_cells.specs.Cells.{cell_at}
+use Rattle.vt100_cells.proofs.ListLemmas.{Bounded-row}
+use Rattle.vt100_picture.specs.Position.{update}
+use Rattle.vt100_picture.specs.Term.{Size, Term}
+use Rattle.vt100_picture.specs.Apply.{run}
+use Rattle.vt100_picture.proofs.Positions.{update-same, update-other, update-kept}
+use Rattle.vt100_redraw.specs.declared.pen.Pen.{Pen}
+use Rattle.vt100_redraw.specs.Writer.{Drawn, skip}
+use Rattle.vt100_redraw.specs.RowWriter.{Job, row_redraw}
+use Rattle.vt100_redraw.specs.Scene.{Scene, IsScene, IsLine, IsReady, IsDrawn, size_of, with_row}
+use Rattle.vt100_redraw.proofs.RowRedraw.{redraw-leads}
+use Rattle.vt100_rows.specs.Row.{RowView, IsRow}
+use Rattle.vt100_rows.specs.Forms.{redraw_job, redraw, pen_at, formatted}
+use Rattle.vt100_rows.specs.Laws.{screen_of, IsPlainRow, IsAtRow, IsRowDrawn, EachRowIsDrawn}
+
+default-proper : IsProper default_attrs
+default-proper = record { small = omega arith; one = refl }
+
+-- the pen at the start of a row
+abbrev starting : ℕ → Pen
+starting row = record { pos = record { row = row; col = 0 }; attrs = default_attrs; erase = None; lost = false }
+
+-- a row as it is drawn
+line-of : (v : RowView) → IsRow v → IsLine (length v.cells) (cell_at v.cells) v.wrapped
+line-of v h = record { paired = h.paired; beyond = Bounded-row v.cells; filled = h.filled }
+
+blank-line : (n : ℕ) → IsLine n (cell_at []) false
+blank-line n = record {
+  paired = record { first = refl; next = λ k. refl; blank = λ k q. absurd (false≢true q) };
+  beyond = λ k l. refl;
+  filled = λ q. absurd (false≢true q);
+}
+
+-- a row that nothing waits for
+row-ready : (s : Scene) (row : ℕ) → s.job.above ≡ false → IsReady s (starting row)
+row-ready s row alone = record {
+  closed = refl;
+  kept = refl;
+  proper = default-proper;
+  waits = λ above was. absurd (false≢true (sym alone ∙ above));
+}
+
+-- the terminal before
+term-before : (s : Scene) (row : ℕ) → s.job.row ≡ row → s.cells ≡ s.term.cell → s.flags ≡ s.term.wrapped
+    → ((k : ℕ) → s.term.cell row k ≡ s.job.old k) → s.term.row ≡ row → s.term.col ≡ 0 → s.term.attrs ≡ default_attrs
+    → with_row s s.job.old s.flags row 0 default_attrs ≡ s.term
+term-before s row is cells flags shows r c a =
+    let line : s.job.old ≡ s.cells s.job.row = fun_ext (λ k. sym (shows k)
+    ∙ ap (λ (f : ℕ → ℕ → CellView). f row k) (sym cells) ∙ ap (λ i. s.cells i k) (sym is)) in
+    let all : update s.cells s.job.row s.job.old ≡ s.term.cell = update-kept s.cells s.job.row s.job.old line ∙ cells in
+    λ i. record (s.term) { cell = all i; wrapped = flags i; row = sym r i; col = sym c i; attrs = sym a i }
+
+other-flags : (F G : ℕ → Bool) (row : ℕ) (b : Bool) (r : ℕ) → (r ≡ row → ⊥) → F ≡ update G row b → F r ≡ G r
+other-flags F G row b r apart e = ap (λ (f : ℕ → Bool). f r) e ∙ update-other G row r b apart
+
+-- the terminal after
+row-after : (s : Scene) (p : Pen) (u : Term) → s.job.above ≡ false → s.cells ≡ s.term.cell → s.flags ≡ s.term.wrapped
+    → IsDrawn s p u → IsRowDrawn s.job.row s.job.new p s.term u
+row-after s p u alone cells flags d =
+    let row = s.job.row in
+    let above : cond s.job.above (update s.flags (row - 1) true) s.flags ≡ s.flags = ap
+    (λ b. cond b (update s.flags (row - 1) true) s.flags) alone in
+    record {
+      drawn = λ k. ap (λ (x : Term). x.cell row k) d.stands ∙ ap (λ (f : ℕ → CellView). f k)
+          (update-same s.cells row s.job.new);
+      others = λ r k apart. ap (λ (x : Term). x.cell r k) d.stands ∙ ap (λ (f : ℕ → CellView). f k)
+          (update-other s.cells row r s.job.new apart) ∙ ap (λ (f : ℕ → ℕ → CellView). f r k) cells;
+      flags = λ r apart. ap (λ (x : Term). x.wrapped r) d.stands ∙ (elim d.flagged [
+        | inl set ↦ other-flags d.flags s.flags row s.job.wrapped r apart
+            (set ∙ ap (λ (F : ℕ → Bool). update F row s.job.wrapped) above)
+        | inr waits ↦ sym (update-other d.flags row r true apart)
+            ∙ other-flags (update d.flags row true) s.flags row true r apart
+            (waits.3 ∙ ap (λ (F : ℕ → Bool). update F row true) above)
+      ]) ∙ ap (λ (F : ℕ → Bool). F r) flags;
+      row_is = ap (λ (x : Term). x.row) d.stands;
+      col_is = ap (λ (x : Term). x.col) d.stands;
+      attrs_are = ap (λ (x : Term). x.attrs) d.stands;
+      hidden = ap (λ (x : Term). x.hidden) d.stands;
+      modes = ap (λ (x : Term). x.modes) d.stands;
+      style = ap (λ (x : Term). x.style) d.stands;
+      saved_row = ap (λ (x : Term). x.saved_row) d.stands;
+      saved_col = ap (λ (x : Term). x.saved_col) d.stands;
+      saved_attrs = ap (λ (x : Term). x.saved_attrs) d.stands;
+    }
+
+-- ---- the redraw
+
+redraw-whole : (v : RowView) (width row : ℕ) (p : Pen) → 0 < length v.cells → length v.cells ≤ width
+    → redraw v 0 width row false p ≡ row_redraw (redraw_job v 0 row false) (length v.cells) p
+redraw-whole v width row p some wide =
+    ap (λ b. cond b (row_redraw (redraw_job v 0 row false) (min width (length v.cells - 0))) skip p)
+    (lt-ltb 0 (length v.cells) some)
+    ∙ ap (λ n. row_redraw (redraw_job v 0 row false) n p) (omega (arith, wide))
+
+pen-told : (v : RowView) (row : ℕ) (pos : Option Pos) (attrs : Option Attrs)
+    → unwrap_or pos (record { row = row; col = 0 }) ≡ record { row = row; col = 0 }
+    → unwrap_or attrs default_attrs ≡ default_attrs → pen_at v 0 row false pos attrs ≡ starting row
+pen-told v row pos attrs p a = λ i. record { pos = p i; attrs = a i; erase = None; lost = false }
+
+redraw-scene : (rows : ℕ) (t : Term) (v : RowView) (row : ℕ) → Scene
+redraw-scene rows t v row = record {
+  rows = rows;
+  job = redraw_job v 0 row false;
+  term = t;
+  cells = t.cell;
+  flags = t.wrapped;
+}
+
+is-redraw : (rows : ℕ) (t : Term) (v : RowView) (row : ℕ) → IsRow v → IsPlainRow v → row < rows → 0 < length v.cells
+    → t.wrapped row ≡ false → IsScene (redraw-scene rows t v row)
+unfolding redraw-scene
+is-redraw rows t v row h plain inside some flag = record {
+  whole = refl;
+  some_col = some;
+  row_in = inside;
+  old = blank-line (length v.cells);
+  new = line-of v h;
+  cells = h.cells;
+  plain = plain.plain;
+  proper = plain.proper;
+  flag = flag;
+  below_first = λ q. absurd (false≢true q);
+  above_filled = λ q. absurd (false≢true q);
+  above_flag = λ q. absurd (false≢true q);
+}
+
+pub row-drawn : EachRowIsDrawn
+unfolding redraw-scene
+row-drawn rows t v row width pos attrs h plain inside some wide at =
+    let s = redraw-scene rows t v row in
+    let d : Drawn = row_redraw s.job s.job.cols (starting row) in
+    let is : formatted v 0 width row false pos attrs ≡ d =
+    ap (redraw v 0 width row false) (pen-told v row pos attrs at.told_pos at.told_attrs)
+    ∙ redraw-whole v width row (starting row) some wide in
+    let before = term-before s row refl refl refl at.cells at.row_is at.col_is at.attrs_are in
+    let leads = redraw-leads s (starting row) (is-redraw rows t v row h plain inside some at.wrapped)
+    (row-ready s row refl) (λ k. refl) refl in
+    let all : IsRowDrawn row (cell_at v.cells) d.pen t (run (size_of s) d.forms t) =
+    row-after s d.pen (run (size_of s) d.forms t) refl refl refl
+    (subst (λ (x : Term). IsDrawn s d.pen (run (size_of s) d.forms x)) before leads) in
+    subst (λ (e : Drawn). IsRowDrawn row (cell_at v.cells) e.pen t (run (screen_of rows v) e.forms t)) (sym is) all

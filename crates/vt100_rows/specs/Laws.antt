@@ -1,0 +1,57 @@
+-- What the forms of a whole row do to a terminal.
+use Rattle.std.specs.Prelude.{ℕ, ◌≡◌, ◌<◌, ◌≤◌, Bool, false, length, Contains, Option, None, unwrap_or}
+use Rattle.vt100_forms.specs.declared.attrs.Attrs.{Attrs}
+use Rattle.vt100_forms.specs.declared.position.Pos.{Pos}
+use Rattle.vt100_forms.specs.Attrs.{IsProper, default_attrs}
+use Rattle.vt100_cells.specs.Cell.{CellView, default_cell}
+use Rattle.vt100_cells.specs.Cells.{cell_at}
+use Rattle.vt100_picture.specs.Term.{Size, Term}
+use Rattle.vt100_picture.specs.Apply.{run}
+use Rattle.vt100_redraw.specs.declared.pen.Pen.{Pen}
+use Rattle.vt100_rows.specs.Row.{RowView, IsRow}
+use Rattle.vt100_rows.specs.Forms.{formatted}
+
+-- a terminal of so many rows, as wide as the row
+abbrev pub screen_of : ℕ → RowView → Size
+screen_of rows v = record { rows = rows; cols = length v.cells }
+
+-- no character of the row asks for an emoji, and its attributes are such as control sequences can set
+pub record IsPlainRow (v : RowView) : Type 0 where
+  pub plain : (k : ℕ) → Contains (cell_at v.cells k).text 0xFE0F → ⊥
+  pub proper : (k : ℕ) → IsProper (cell_at v.cells k).attrs
+
+-- The terminal shows these cells in this row, which has the flag or hasn't; its cursor stands at the start of the row,
+-- and it draws with the default attributes. What a writer is told of cursor and attributes, if it is told, is right.
+pub record IsAtRow (row : ℕ) (f : ℕ → CellView) (flag : Bool) (pos : Option Pos) (attrs : Option Attrs) (t : Term)
+    : Type 0 where
+  pub cells : (k : ℕ) → t.cell row k ≡ f k
+  pub wrapped : t.wrapped row ≡ flag
+  pub row_is : t.row ≡ row
+  pub col_is : t.col ≡ 0
+  pub attrs_are : t.attrs ≡ default_attrs
+  pub told_pos : unwrap_or pos (record { row = row; col = 0 }) ≡ record { row = row; col = 0 }
+  pub told_attrs : unwrap_or attrs default_attrs ≡ default_attrs
+
+-- From the terminal t to the terminal u: row `row` shows these cells, and all other rows are as they were, with their
+-- flags. The cursor and the attributes are those of the pen; what is hidden, the modes and what is saved stay.
+pub record IsRowDrawn (row : ℕ) (f : ℕ → CellView) (p : Pen) (t u : Term) : Type 0 where
+  pub drawn : (k : ℕ) → u.cell row k ≡ f k
+  pub others : (r k : ℕ) → (r ≡ row → ⊥) → u.cell r k ≡ t.cell r k
+  pub flags : (r : ℕ) → (r ≡ row → ⊥) → u.wrapped r ≡ t.wrapped r
+  pub row_is : u.row ≡ p.pos.row
+  pub col_is : u.col ≡ p.pos.col
+  pub attrs_are : u.attrs ≡ p.attrs
+  pub hidden : u.hidden ≡ t.hidden
+  pub modes : u.modes ≡ t.modes
+  pub style : u.style ≡ t.style
+  pub saved_row : u.saved_row ≡ t.saved_row
+  pub saved_col : u.saved_col ≡ t.saved_col
+  pub saved_attrs : u.saved_attrs ≡ t.saved_attrs
+
+-- where the terminal shows default cells and no flag, the forms of the whole row lead to the row's cells
+abbrev pub EachRowIsDrawn : Type 0
+EachRowIsDrawn = (rows : ℕ) (t : Term) (v : RowView) (row width : ℕ) (pos : Option Pos) (attrs : Option Attrs) → IsRow v
+    → IsPlainRow v → row < rows → 0 < length v.cells → length v.cells ≤ width
+    → IsAtRow row (λ k. default_cell) false pos attrs t
+    → IsRowDrawn row (cell_at v.cells) (formatted v 0 width row false pos attrs).pen t
+    (run (screen_of rows v) (formatted v 0 width row false pos attrs).forms t)
