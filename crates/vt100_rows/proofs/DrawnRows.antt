@@ -16,12 +16,13 @@ use Rattle.vt100_picture.specs.Apply.{run}
 use Rattle.vt100_picture.proofs.Positions.{update-same, update-other, update-kept}
 use Rattle.vt100_redraw.specs.declared.pen.Pen.{Pen}
 use Rattle.vt100_redraw.specs.Writer.{Drawn, skip}
-use Rattle.vt100_redraw.specs.RowWriter.{Job, row_redraw}
+use Rattle.vt100_redraw.specs.RowWriter.{row_redraw, row_difference}
 use Rattle.vt100_redraw.specs.Scene.{Scene, IsScene, IsLine, IsReady, IsDrawn, size_of, with_row}
 use Rattle.vt100_redraw.proofs.RowRedraw.{redraw-leads}
+use Rattle.vt100_redraw.proofs.RowStart.{difference-leads}
 use Rattle.vt100_rows.specs.Row.{RowView, IsRow}
-use Rattle.vt100_rows.specs.Forms.{redraw_job, redraw, pen_at, formatted}
-use Rattle.vt100_rows.specs.Laws.{screen_of, IsPlainRow, IsAtRow, IsRowDrawn, EachRowIsDrawn}
+use Rattle.vt100_rows.specs.Forms.{redraw_job, redraw, pen_at, formatted, difference_job, difference, differing}
+use Rattle.vt100_rows.specs.Laws.{screen_of, IsPlainRow, IsAtRow, IsRowDrawn, EachRowIsDrawn, EachDifferenceIsDrawn}
 
 default-proper : IsProper default_attrs
 default-proper = record { small = omega arith; one = refl }
@@ -31,10 +32,10 @@ abbrev starting : ℕ → Pen
 starting row = record { pos = record { row = row; col = 0 }; attrs = default_attrs; erase = None; lost = false }
 
 -- a row as it is drawn
-line-of : (v : RowView) → IsRow v → IsLine (length v.cells) (cell_at v.cells) v.wrapped
+pub line-of : (v : RowView) → IsRow v → IsLine (length v.cells) (cell_at v.cells) v.wrapped
 line-of v h = record { paired = h.paired; beyond = Bounded-row v.cells; filled = h.filled }
 
-blank-line : (n : ℕ) → IsLine n (cell_at []) false
+pub blank-line : (n : ℕ) → IsLine n (cell_at []) false
 blank-line n = record {
   paired = record { first = refl; next = λ k. refl; blank = λ k q. absurd (false≢true q) };
   beyond = λ k l. refl;
@@ -95,12 +96,13 @@ row-after s p u alone cells flags d =
 
 -- ---- the redraw
 
-redraw-whole : (v : RowView) (width row : ℕ) (p : Pen) → 0 < length v.cells → length v.cells ≤ width
-    → redraw v 0 width row false p ≡ row_redraw (redraw_job v 0 row false) (length v.cells) p
-redraw-whole v width row p some wide =
-    ap (λ b. cond b (row_redraw (redraw_job v 0 row false) (min width (length v.cells - 0))) skip p)
-    (lt-ltb 0 (length v.cells) some)
-    ∙ ap (λ n. row_redraw (redraw_job v 0 row false) n p) (omega (arith, wide))
+-- a whole row
+pub redraw-whole : (v : RowView) (width row : ℕ) (above : Bool) (p : Pen) → 0 < length v.cells → length v.cells ≤ width
+    → redraw v 0 width row above p ≡ row_redraw (redraw_job v 0 row above) (length v.cells) p
+redraw-whole v width row above p some wide =
+    let j = redraw_job v 0 row above in
+    ap (λ b. cond b (row_redraw j (min width (length v.cells - 0))) skip p) (lt-ltb 0 (length v.cells) some)
+    ∙ ap (λ n. row_redraw j n p) (omega (arith, wide))
 
 pen-told : (v : RowView) (row : ℕ) (pos : Option Pos) (attrs : Option Attrs)
     → unwrap_or pos (record { row = row; col = 0 }) ≡ record { row = row; col = 0 }
@@ -141,10 +143,73 @@ row-drawn rows t v row width pos attrs h plain inside some wide at =
     let d : Drawn = row_redraw s.job s.job.cols (starting row) in
     let is : formatted v 0 width row false pos attrs ≡ d =
     ap (redraw v 0 width row false) (pen-told v row pos attrs at.told_pos at.told_attrs)
-    ∙ redraw-whole v width row (starting row) some wide in
+    ∙ redraw-whole v width row false (starting row) some wide in
     let before = term-before s row refl refl refl at.cells at.row_is at.col_is at.attrs_are in
     let leads = redraw-leads s (starting row) (is-redraw rows t v row h plain inside some at.wrapped)
     (row-ready s row refl) (λ k. refl) refl in
+    let all : IsRowDrawn row (cell_at v.cells) d.pen t (run (size_of s) d.forms t) =
+    row-after s d.pen (run (size_of s) d.forms t) refl refl refl
+    (subst (λ (x : Term). IsDrawn s d.pen (run (size_of s) d.forms x)) before leads) in
+    subst (λ (e : Drawn). IsRowDrawn row (cell_at v.cells) e.pen t (run (screen_of rows v) e.forms t)) (sym is) all
+
+-- ---- the difference
+
+pub difference-whole : (v earlier : RowView) (width row : ℕ) (above was_above : Bool) (p : Pen)
+    → length earlier.cells ≡ length v.cells → 0 < length v.cells → length v.cells ≤ width
+    → difference v earlier 0 width row above was_above p
+    ≡ row_difference (difference_job v earlier 0 row above was_above) (length v.cells) p
+difference-whole v earlier width row above was_above p same some wide =
+    let cols = min (length v.cells) (length earlier.cells) in
+    let j = difference_job v earlier 0 row above was_above in
+    let inside : 0 < cols = omega (arith, same, some) in
+    ap (λ b. cond b (row_difference j (min width (cols - 0))) skip p) (lt-ltb 0 cols inside)
+    ∙ ap (λ n. row_difference j n p) (omega (arith, same, wide))
+
+difference-scene : (rows : ℕ) (t : Term) (v earlier : RowView) (row : ℕ) (was_above : Bool) → Scene
+difference-scene rows t v earlier row was_above = record {
+  rows = rows;
+  job = difference_job v earlier 0 row false was_above;
+  term = t;
+  cells = t.cell;
+  flags = t.wrapped;
+}
+
+is-difference : (rows : ℕ) (t : Term) (v earlier : RowView) (row : ℕ) (was_above : Bool) → IsRow v → IsPlainRow v
+    → IsRow earlier → length earlier.cells ≡ length v.cells → row < rows → 0 < length v.cells
+    → t.wrapped row ≡ earlier.wrapped → IsScene (difference-scene rows t v earlier row was_above)
+unfolding difference-scene
+is-difference rows t v earlier row was_above h plain was same inside some flag = record {
+  whole = refl;
+  some_col = some;
+  row_in = inside;
+  old = subst (λ n. IsLine n (cell_at earlier.cells) earlier.wrapped) same (line-of earlier was);
+  new = line-of v h;
+  cells = h.cells;
+  plain = plain.plain;
+  proper = plain.proper;
+  flag = flag;
+  below_first = λ q. absurd (false≢true q);
+  above_filled = λ q. absurd (false≢true q);
+  above_flag = λ q. absurd (false≢true q);
+}
+
+pub difference-drawn : EachDifferenceIsDrawn
+unfolding difference-scene
+difference-drawn rows t v earlier row width was_above pos attrs h plain was same inside some wide at =
+    let s = difference-scene rows t v earlier row was_above in
+    let d : Drawn = row_difference s.job s.job.cols (starting row) in
+    let told : record { pos = pos; attrs = attrs; erase = None; lost = false } ≡ starting row = λ i. record {
+      pos = at.told_pos i;
+      attrs = at.told_attrs i;
+      erase = None;
+      lost = false;
+    } in
+    let is : differing v earlier 0 width row false was_above pos attrs ≡ d =
+    ap (difference v earlier 0 width row false was_above) told
+    ∙ difference-whole v earlier width row false was_above (starting row) same some wide in
+    let before = term-before s row refl refl refl at.cells at.row_is at.col_is at.attrs_are in
+    let leads = difference-leads s (starting row)
+    (is-difference rows t v earlier row was_above h plain was same inside some at.wrapped) (row-ready s row refl) in
     let all : IsRowDrawn row (cell_at v.cells) d.pen t (run (size_of s) d.forms t) =
     row-after s d.pen (run (size_of s) d.forms t) refl refl refl
     (subst (λ (x : Term). IsDrawn s d.pen (run (size_of s) d.forms x)) before leads) in

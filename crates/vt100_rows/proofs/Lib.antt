@@ -5,4 +5,5 @@ pub mod TextLemmas
 pub mod RowRuns
 pub mod BasicLemmas
 pub mod DrawnRows
+pub mod Examples
 pub mod FormsLemmas

@@ -7,7 +7,7 @@ use Rattle.vt100_forms.specs.Attrs.{default_attrs}
 use Rattle.vt100_cells.specs.Cells.{cell_at}
 use Rattle.vt100_redraw.specs.declared.pen.Pen.{Pen}
 use Rattle.vt100_redraw.specs.Writer.{Drawn, Writer, skip}
-use Rattle.vt100_redraw.specs.RowWriter.{Job, row_redraw}
+use Rattle.vt100_redraw.specs.RowWriter.{Job, row_redraw, row_difference}
 use Rattle.vt100_rows.specs.Row.{RowView}
 
 -- The row is drawn from column `start` on, as row `row` of a terminal that shows default cells there, and no flag;
@@ -46,3 +46,33 @@ pen_at v start row above pos attrs = record {
 -- what `write_contents_formatted` appends, and the pen after it
 abbrev pub formatted : RowView → ℕ → ℕ → ℕ → Bool → Option Pos → Option Attrs → Drawn
 formatted v start width row above pos attrs = redraw v start width row above (pen_at v start row above pos attrs)
+
+-- ---- over an earlier row
+
+-- The same, where the terminal shows an earlier row and its flag; `was_above` says whether it has the flag of the row
+-- above.
+abbrev pub difference_job : RowView → RowView → ℕ → ℕ → Bool → Bool → Job
+difference_job v earlier start row above was_above = record {
+  cols = length v.cells;
+  row = row;
+  start = start;
+  old = cell_at earlier.cells;
+  new = cell_at v.cells;
+  wrapped = v.wrapped;
+  was_wrapped = earlier.wrapped;
+  above = above;
+  was_above = was_above;
+}
+
+-- `width` columns of it, or as many as both rows have, and the row's flag; nothing where one of them ends before `start`
+abbrev pub difference : RowView → RowView → ℕ → ℕ → ℕ → Bool → Bool → Writer
+difference v earlier start width row above was_above =
+    let cols = min (length v.cells) (length earlier.cells) in
+    if nat_lt start cols
+    then row_difference (difference_job v earlier start row above was_above) (min width (cols - start))
+    else skip
+
+-- what `write_contents_diff` appends, and the pen after it
+abbrev pub differing : RowView → RowView → ℕ → ℕ → ℕ → Bool → Bool → Pos → Attrs → Drawn
+differing v earlier start width row above was_above pos attrs =
+    difference v earlier start width row above was_above (record { pos = pos; attrs = attrs; erase = None; lost = false })

@@ -1,5 +1,5 @@
 -- What the forms of a whole row do to a terminal.
-use Rattle.std.specs.Prelude.{ℕ, ◌≡◌, ◌<◌, ◌≤◌, Bool, false, length, Contains, Option, None, unwrap_or}
+use Rattle.std.specs.Prelude.{ℕ, ◌≡◌, ◌<◌, ◌≤◌, Bool, false, length, Contains, Option, Some, unwrap_or}
 use Rattle.vt100_forms.specs.declared.attrs.Attrs.{Attrs}
 use Rattle.vt100_forms.specs.declared.position.Pos.{Pos}
 use Rattle.vt100_forms.specs.Attrs.{IsProper, default_attrs}
@@ -9,7 +9,7 @@ use Rattle.vt100_picture.specs.Term.{Size, Term}
 use Rattle.vt100_picture.specs.Apply.{run}
 use Rattle.vt100_redraw.specs.declared.pen.Pen.{Pen}
 use Rattle.vt100_rows.specs.Row.{RowView, IsRow}
-use Rattle.vt100_rows.specs.Forms.{formatted}
+use Rattle.vt100_rows.specs.Forms.{formatted, differing}
 
 -- a terminal of so many rows, as wide as the row
 abbrev pub screen_of : ℕ → RowView → Size
@@ -55,3 +55,12 @@ EachRowIsDrawn = (rows : ℕ) (t : Term) (v : RowView) (row width : ℕ) (pos : 
     → IsAtRow row (λ k. default_cell) false pos attrs t
     → IsRowDrawn row (cell_at v.cells) (formatted v 0 width row false pos attrs).pen t
     (run (screen_of rows v) (formatted v 0 width row false pos attrs).forms t)
+
+-- where it shows an earlier row of the same length, those of the whole row's difference do
+abbrev pub EachDifferenceIsDrawn : Type 0
+EachDifferenceIsDrawn = (rows : ℕ) (t : Term) (v earlier : RowView) (row width : ℕ) (was_above : Bool) (pos : Pos)
+    (attrs : Attrs) → IsRow v → IsPlainRow v → IsRow earlier → length earlier.cells ≡ length v.cells → row < rows
+    → 0 < length v.cells → length v.cells ≤ width
+    → IsAtRow row (cell_at earlier.cells) earlier.wrapped (Some pos) (Some attrs) t
+    → IsRowDrawn row (cell_at v.cells) (differing v earlier 0 width row false was_above pos attrs).pen t
+    (run (screen_of rows v) (differing v earlier 0 width row false was_above pos attrs).forms t)

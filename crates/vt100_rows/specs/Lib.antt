@@ -1,6 +1,7 @@
 pub mod Row
 pub mod Text
 pub mod Basic
+pub mod Examples
 pub mod Forms
 pub mod Laws
 pub use Rattle.vt100_forms.specs.Attrs

@@ -2,7 +2,7 @@
 ghost use Rattle.std.specs.Prelude.{◌≡◌, ◌++◌, is_ok, OnOk, IfOk, OnErr, string_bytes};
 ghost use Rattle.vt100_forms.specs.Form.{spell};
 ghost use Rattle.vt100_redraw.specs.Writes.{Writes};
-ghost use Rattle.vt100_rows.specs.Forms.{redraw, pen_at, formatted};
+ghost use Rattle.vt100_rows.specs.Forms.{redraw, pen_at, formatted, difference, differing};
 ghost use Rattle.vt100_rows.specs.Text.{IsBegun};
 
 use crate::row::Row;
@@ -43,6 +43,57 @@ impl Row {
     {
         let mut pen = self.pen_at(start, row, wrapping, prev_pos, prev_attrs);
         self.redraw(contents, &mut pen, start, width, row, wrapping)?;
+        Ok((pen.pos, pen.attrs))
+    }
+
+    /// Appends the forms that draw `width` columns of the row from column `start` on where they differ from those of
+    /// `prev`, and the row's flag. Row `row` of the terminal shows `prev`; `wrapping` says whether the row above goes
+    /// on in this one, `prev_wrapping` whether the terminal has the flag for it. If it hasn't, that row gets its flag
+    /// from the first character, if the cursor waits at its end.
+    ///
+    /// `prev_pos` is where the terminal's cursor stands before, and `prev_attrs` are the attributes that it draws with.
+    /// Both are answered as they are afterwards. Rows of different lengths differ in the columns that both have; where
+    /// one of them ends before `start` nothing is appended.
+    ///
+    /// On an error a part of the forms may have been appended.
+    pub fn write_contents_diff(
+        &self,
+        contents: &mut String,
+        prev: &Self,
+        start: u16,
+        width: u16,
+        row: u16,
+        wrapping: bool,
+        prev_wrapping: bool,
+        prev_pos: Pos,
+        prev_attrs: Attrs,
+    ) -> Result<(Pos, Attrs), GridError>
+        ensures text { OnOk result (string_bytes contents.new ≡ string_bytes contents.old ++ spell
+            (differing self.now prev.now start width row wrapping prev_wrapping prev_pos prev_attrs).forms) }
+        ensures pos { IfOk result (λ answer. answer.0
+            ≡ (differing self.now prev.now start width row wrapping prev_wrapping prev_pos prev_attrs).pen.pos) }
+        ensures attrs { IfOk result (λ answer. answer.1
+            ≡ (differing self.now prev.now start width row wrapping prev_wrapping prev_pos prev_attrs).pen.attrs) }
+        ensures begun { OnErr result (IsBegun (string_bytes contents.old) (spell
+            (differing self.now prev.now start width row wrapping prev_wrapping prev_pos prev_attrs).forms)
+            (string_bytes contents.new)) }
+    {
+        let mut pen = Pen {
+            pos: prev_pos,
+            attrs: prev_attrs,
+            erase: None,
+            lost: false,
+        };
+        self.difference(
+            contents,
+            &mut pen,
+            prev,
+            start,
+            width,
+            row,
+            wrapping,
+            prev_wrapping,
+        )?;
         Ok((pen.pos, pen.attrs))
     }
 
@@ -106,6 +157,40 @@ impl Row {
             start,
         };
         drawing.redraw(pen, contents, width.min(cols - start))?;
+        Ok(())
+    }
+    /// Draws the row over `prev` as [`write_contents_diff`](Self::write_contents_diff) does. `above` says whether the
+    /// row above goes on in this one, `was_above` whether the terminal has the flag for it.
+    #[doc(hidden)]
+    pub fn difference(
+        &self,
+        contents: &mut String,
+        pen: &mut Pen,
+        prev: &Self,
+        start: u16,
+        width: u16,
+        row: u16,
+        above: bool,
+        was_above: bool,
+    ) -> Result<(), GridError>
+        ensures { Writes (difference self.now prev.now start width row above was_above) pen.old
+            (string_bytes contents.old) (is_ok result) pen.new (string_bytes contents.new) }
+    {
+        let cols = self.cols().min(prev.cols());
+        if cols <= start {
+            return Ok(());
+        }
+        let drawing = Drawing {
+            cells: &self.cells,
+            earlier: &prev.cells,
+            wrapped: self.wrapped,
+            was_wrapped: prev.wrapped,
+            above,
+            was_above,
+            row,
+            start,
+        };
+        drawing.difference(pen, contents, width.min(cols - start))?;
         Ok(())
     }
 }

@@ -1,0 +1,27 @@
+-- The small rows compute.
+use Rattle.std.proofs.Common.{refl}
+use Rattle.vt100_redraw.specs.Writer.{◌>>◌, skip, goto, turn, colour, print, space, back, erasing, clearing, marking}
+use Rattle.vt100_redraw.specs.RowWriter.{reprint, opening, to_erase, flush_of, flush, finish_of, finish, arrive}
+use Rattle.vt100_redraw.specs.RowWriter.{mark_of, mark, draw, column, columns, unflag, print_last, mend, closing}
+use Rattle.vt100_redraw.specs.RowWriter.{row_redraw, row_difference}
+use Rattle.vt100_rows.specs.Examples.{EachExampleIsWritten}
+
+pub examples : EachExampleIsWritten
+unfolding ◌>>◌ skip goto turn colour print space back erasing clearing marking reprint opening to_erase flush_of flush
+    finish_of finish arrive mark_of mark draw column columns unflag print_last mend closing row_redraw row_difference
+examples = record {
+  whole = refl;
+  part = refl;
+  part_pos = refl;
+  part_from = refl;
+  narrow = refl;
+  past = refl;
+  below = refl;
+  below_empty = refl;
+  coloured = refl;
+  kept = refl;
+  differs = refl;
+  differs_attrs = refl;
+  shorter = refl;
+  shorter_past = refl;
+}

@@ -1,0 +1,22 @@
+use Rattle.std.proofs.Common.{◌≤◌, ◌<◌, arith, sym, subst, length, min, List}
+use Rattle.std.specs.Prelude.{string_bytes}
+use Rattle.vt100_cells.specs.Cell.{CellView}
+use Rattle.vt100_cells.specs.Cells.{cell_at}
+use Rattle.vt100_cells.specs.Line.{IsPaired}
+use Rattle.vt100_rows.proofs.FormsLemmas.{wrote_difference_none}
+use Rattle.vt100_rows.proofs.row.Row.difference.Goals as goal
+
+pub returns-then-cols-start : goal.returns-then-cols-start
+returns-then-cols-start c =
+    let v = c.args.self.now in
+    let earlier = c.args.prev.now in
+    let outside : min (length v.cells) (length earlier.cells) ≤ c.args.start =
+    omega (arith, c.cols.ensures, c.cols-2.ensures, c.min-cols.ensures) in
+    wrote_difference_none v earlier c.args.start c.args.width c.args.row c.args.above c.args.was_above c.args.pen.now
+    (string_bytes c.args.contents.now) outside
+
+pub invariant_of-drawing : goal.invariant_of-drawing
+invariant_of-drawing c = record {
+  few = subst (λ (xs : List CellView). length xs < 65536) (sym c.deref.ensures.value) c.self.invariant.narrow;
+  paired = subst (λ (xs : List CellView). IsPaired (cell_at xs)) (sym c.deref.ensures.value) c.self.invariant.paired;
+}
