@@ -35,7 +35,7 @@ coloured-proper : (t : Bool) (x : Color) (a : Attrs) → IsProper a → IsProper
 coloured-proper true x a h = record { small = h.small; one = h.one }
 coloured-proper false x a h = record { small = h.small; one = h.one }
 
-default-proper : IsProper default_attrs
+pub default-proper : IsProper default_attrs
 default-proper = record { small = omega arith; one = refl }
 
 row-cond : (b : Bool) (o p : Option (Attrs → Attrs)) → RowKeeps o → RowKeeps p → RowKeeps (if b then o else p)
