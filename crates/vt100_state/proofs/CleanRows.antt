@@ -1,21 +1,21 @@
 -- No edit of a row puts U+FFFD into it, where none was put in.
-use Rattle.std.proofs.Common.{◌≡◌, ℕ, ◌+◌, ◌-◌, ◌<◌, ◌≤◌, ◌==◌, Bool, cond, not, ◌&&◌, ◌||◌, List, [], ◌∷◌, ◌++◌}
-use Rattle.std.proofs.Common.{length, set, take, drop, map, min, replicate, arith, sym, subst, nat_lt, nat_le, All}
+use Rattle.std.proofs.Common.{◌≡◌, ℕ, ◌+◌, ◌-◌, ◌<◌, ◌≤◌, ◌==◌, Bool, cond, not, List, [], ◌∷◌}
+use Rattle.std.proofs.Common.{length, min, arith, sym, subst, nat_lt, All}
 use Rattle.std.proofs.Common.{⊎_elim}
 use Rattle.std.specs.List.{range_with_len}
 use Rattle.std.proofs.lemmas.Bool.{cases_lt, cond_both}
-use Rattle.std.proofs.lemmas.List.Elements.{All-nil, All-cons, All-push, All-map, All-replicate, All-take, All-append}
+use Rattle.std.proofs.lemmas.List.Elements.{All-nil, All-cons, All-push, All-map, All-replicate, All-take}
 use Rattle.vt100_forms.specs.declared.attrs.Attrs.{Attrs}
 use Rattle.vt100_forms.specs.Attrs.{default_attrs}
 use Rattle.vt100_cells.specs.Cell.{CellView, default_cell, empty_cell, continuation_cell, cell_of, text_with, has_room}
-use Rattle.vt100_cells.specs.Cell.{is_widened_by, appended}
-use Rattle.vt100_cells.specs.Cells.{cell_at, by_position, inserted_cells, trimmed_len}
+use Rattle.vt100_cells.specs.Cell.{appended}
+use Rattle.vt100_cells.specs.Cells.{cell_at, by_position, trimmed_len}
 use Rattle.vt100_cells.specs.Line.{update, put, base_col, wiped, cut, opened, closed, extended}
 use Rattle.vt100_cells.proofs.ListLemmas.{cell_at_past}
 use Rattle.vt100_rows.specs.Row.{RowView, blank_row, cleared_row, with_wrap, unwrapped, placed, wiped_row, joined_cell}
 use Rattle.vt100_rows.specs.Row.{is_widening, joined_row, join_row, inserted, removed, truncated, grown, resized_row}
 use Rattle.vt100_rows.specs.Row.{trimmed}
-use Rattle.vt100_sheet.specs.Sheet.{row_at, rows_by_position, moved_up, moved_down, opened_line, changed_between}
+use Rattle.vt100_sheet.specs.Sheet.{row_at, rows_by_position, moved_up, moved_down, opened_line}
 use Rattle.vt100_sheet.specs.Sheet.{erased_forward_at, erased_backward_at, first_rows}
 use Rattle.vt100_sheet.proofs.SheetLemmas.{row_at_past}
 
@@ -98,6 +98,9 @@ line-extended m f h k = either _ _ _ (h k) (clean-empty default_attrs)
 pub record IsCleanRow (v : RowView) : Type 0 where
   pub cells : All IsClean v.cells
 
+pub clean-cell : (v : RowView) → IsCleanRow v → (k : ℕ) → IsClean (cell_at v.cells k)
+clean-cell v h k = clean-at v.cells h.cells k
+
 pub clean-either : (b : Bool) (v w : RowView) → IsCleanRow v → IsCleanRow w → IsCleanRow (cond b v w)
 clean-either b v w p q = cond_both b v w IsCleanRow (λ _. p) (λ _. q)
 
@@ -116,13 +119,17 @@ clean-unwrapped v h = record { cells = h.cells }
 pub clean-placed : (v : RowView) (i : ℕ) (x : CellView) (a : Attrs) → IsCleanRow v → IsClean x
     → IsCleanRow (placed v i x a)
 clean-placed v i x a h y =
-    record { cells = cells-by (length v.cells) (put (cell_at v.cells) i x a)
-        (line-put (cell_at v.cells) i x a (clean-at v.cells h.cells) y) }
+    record {
+      cells = cells-by (length v.cells) (put (cell_at v.cells) i x a)
+          (line-put (cell_at v.cells) i x a (clean-at v.cells h.cells) y);
+    }
 
 pub clean-wiped : (v : RowView) (s e : ℕ) (a : Attrs) → IsCleanRow v → IsCleanRow (wiped_row v s e a)
 clean-wiped v s e a h =
-    record { cells = cells-by (length v.cells) (wiped (cell_at v.cells) s e a)
-        (line-wiped (cell_at v.cells) s e a (clean-at v.cells h.cells)) }
+    record {
+      cells = cells-by (length v.cells) (wiped (cell_at v.cells) s e a)
+          (line-wiped (cell_at v.cells) s e a (clean-at v.cells h.cells));
+    }
 
 pub clean-joined_cell : (v : RowView) (col c : ℕ) → IsCleanRow v → IsKnown c → IsClean (joined_cell v col c)
 clean-joined_cell v col c h k =
@@ -132,9 +139,11 @@ clean-joined_cell v col c h k =
 clean-joined : (v : RowView) (col c : ℕ) → IsCleanRow v → IsKnown c → IsCleanRow (joined_row v col c)
 clean-joined v col c h k =
     let f = cell_at v.cells in
-    record { cells = cells-by (length v.cells) (update f (base_col f col) (joined_cell v col c))
-        (line-update f (base_col f col) (joined_cell v col c) (clean-at v.cells h.cells)
-        (clean-joined_cell v col c h k)) }
+    record {
+      cells = cells-by (length v.cells) (update f (base_col f col) (joined_cell v col c))
+          (line-update f (base_col f col) (joined_cell v col c) (clean-at v.cells h.cells)
+          (clean-joined_cell v col c h k));
+    }
 
 pub clean-join : (v : RowView) (col c : ℕ) (a : Attrs) → IsCleanRow v → IsKnown c → IsCleanRow (join_row v col c a)
 clean-join v col c a h k =
@@ -150,17 +159,21 @@ clean-inserted v i count h =
     let n = length v.cells in
     let m = min count (n - i) in
     let f = opened (cell_at v.cells) i m in
-    record { cells = cond_both (nat_lt 0 m) (by_position n (cut n f)) v.cells (λ (xs : List CellView). All IsClean xs)
-        (λ _. cells-by n (cut n f) (line-cut n f (line-opened (cell_at v.cells) i m (clean-at v.cells h.cells))))
-        (λ _. h.cells) }
+    record {
+      cells = cond_both (nat_lt 0 m) (by_position n (cut n f)) v.cells (λ (xs : List CellView). All IsClean xs)
+          (λ _. cells-by n (cut n f) (line-cut n f (line-opened (cell_at v.cells) i m (clean-at v.cells h.cells))))
+          (λ _. h.cells);
+    }
 
 pub clean-removed : (v : RowView) (s e : ℕ) → IsCleanRow v → IsCleanRow (removed v s e)
 clean-removed v s e h =
     let n = length v.cells in
     let f = closed n (cell_at v.cells) s (e - s) in
-    record { cells = cond_both (nat_lt s e) (by_position n f) v.cells (λ (xs : List CellView). All IsClean xs)
-        (λ _. cells-by n f (line-closed n (cell_at v.cells) s (e - s) (clean-at v.cells h.cells)))
-        (λ _. h.cells) }
+    record {
+      cells = cond_both (nat_lt s e) (by_position n f) v.cells (λ (xs : List CellView). All IsClean xs)
+          (λ _. cells-by n f (line-closed n (cell_at v.cells) s (e - s) (clean-at v.cells h.cells)))
+          (λ _. h.cells);
+    }
 
 clean-truncated : (v : RowView) (n : ℕ) → IsCleanRow v → IsCleanRow (truncated v n)
 clean-truncated v n h =

@@ -1,45 +1,39 @@
 -- What is true of each sheet of a terminal that shows no kept row: it stays true.
-use Rattle.std.proofs.Common.{◌≡◌, ℕ, ◌+◌, ◌-◌, ◌^◌, ◌<◌, ◌≤◌, ◌==◌, Bool, true, false, cond, not, ◌&&◌, List, []}
-use Rattle.std.proofs.Common.{◌∷◌, ◌++◌, length, set, take, drop, map, min, max, replicate, refl, sym, ap, ◌∙◌, arith}
-use Rattle.std.proofs.Common.{subst, length-set, length-append, nat_lt, nat_le, All}
+use Rattle.std.proofs.Common.{◌≡◌, ℕ, ◌+◌, ◌-◌, ◌^◌, ◌<◌, ◌≤◌, ◌==◌, Bool, true, false, cond, ◌&&◌, List, []}
+use Rattle.std.proofs.Common.{◌++◌, length, set, drop, map, min, max, refl, sym, ap, ◌∙◌, arith}
+use Rattle.std.proofs.Common.{subst, length-set, length-append, nat_lt, All}
 use Rattle.std.proofs.lemmas.Bool.{cond_both, false≢true}
 use Rattle.std.proofs.lemmas.Bool.Decides.{nat_tests}
-use Rattle.std.proofs.lemmas.List.{length-map, length-replicate}
+use Rattle.std.proofs.lemmas.List.{length-map}
 use Rattle.std.proofs.Common.{length-drop}
-use Rattle.std.proofs.lemmas.List.Elements.{All-set, All-drop, All-take, All-append, All-map, All-replicate, All-weaker}
-use Rattle.std.proofs.lemmas.List.Elements.{All-nil, All-from_get_or}
+use Rattle.std.proofs.lemmas.List.Elements.{All-set, All-drop, All-take, All-append, All-map, All-weaker}
+use Rattle.std.proofs.lemmas.List.Elements.{All-from_get_or}
 use Rattle.vt100_forms.specs.declared.attrs.Attrs.{Attrs}
-use Rattle.vt100_cells.specs.Cell.{CellView, default_cell}
-use Rattle.vt100_rows.specs.Row.{RowView, IsRow, blank_row, trimmed, with_wrap, cleared_row, wiped_row, inserted, removed}
-use Rattle.vt100_rows.proofs.RowLemmas.{IsRow-blank}
+use Rattle.vt100_rows.specs.Row.{RowView, IsRow, blank_row, trimmed, cleared_row, wiped_row, inserted, removed}
 use Rattle.vt100_rows.proofs.TrimLemmas.{IsRow-trimmed}
 use Rattle.vt100_sheet.specs.Sheet.{row_at, rows_by_position, moved_up, opened_line, erased_forward_at}
 use Rattle.vt100_sheet.specs.Sheet.{erased_backward_at}
-use Rattle.vt100_sheet.proofs.SheetLemmas.{length-rows_by_position, IsSheet-blank}
+use Rattle.vt100_sheet.proofs.SheetLemmas.{length-rows_by_position}
 use Rattle.vt100_sheet.proofs.MoveLemmas.{IsSheet-moved_up}
-use Rattle.vt100_core.specs.Grid.{KeptPart, IsKept, IsShownWide, GridView, IsGrid, IsAllocated, new_grid, scrollback_of}
-use Rattle.vt100_core.specs.Grid.{keeps_of, capacity_of, allocated, cleared, with_row, with_rows, with_cursor_row}
+use Rattle.vt100_core.specs.Grid.{KeptPart, IsKept, GridView, IsGrid, IsAllocated}
+use Rattle.vt100_core.specs.Grid.{with_row, with_rows}
 use Rattle.vt100_core.specs.Grid.{row_of_cursor, is_in_region}
-use Rattle.vt100_core.specs.declared.scrollback.Scrollback.{Scrollback}
-use Rattle.vt100_core.specs.declared.scrollback.Scrollback.TheVariants.{Disabled, Enabled}
 use Rattle.vt100_core.specs.Cursor.{cursor_at, with_origin, cursor_saved, cursor_restored, with_region, moved_rows_down}
-use Rattle.vt100_core.specs.Cursor.{moved_rows_up, tab_stop}
+use Rattle.vt100_core.specs.Cursor.{moved_rows_up}
 use Rattle.vt100_core.specs.Erase.{all_erased, all_erased_forward, all_erased_backward, row_erased, columns_erased}
 use Rattle.vt100_core.specs.Erase.{columns_to_cursor, cells_inserted, cells_deleted}
 use Rattle.vt100_core.specs.Lines.{lines_opened, lines_inserted, lines_deleted, scrolled_down, rows_past_top, fed_up}
 use Rattle.vt100_core.specs.Scroll.{Scrolled, widened, overflow, kept_after, up_count, left_rows, is_kept_from}
-use Rattle.vt100_core.specs.Scroll.{scrolled_up, rows_past_bottom, fed, left_row, wrapped_on, made_to_fit}
-use Rattle.vt100_core.specs.Scroll.{scrollback_erased, scrollback_shown}
-use Rattle.vt100_core.proofs.GridLemmas.{IsNew, IsNew-of, new-again, no-rows, IsGrid-rows, region_rows}
-use Rattle.vt100_core.proofs.GridLemmas.{IsGrid-lines_opened, IsGrid-lines_inserted, IsGrid-scrolled_down}
-use Rattle.vt100_core.proofs.GridLemmas.{IsGrid-lines_deleted, IsGrid-moved_up, IsGrid-scrolled}
+use Rattle.vt100_core.specs.Scroll.{scrolled_up, rows_past_bottom, fed}
+use Rattle.vt100_core.proofs.GridLemmas.{region_rows}
+use Rattle.vt100_core.proofs.GridLemmas.{IsGrid-lines_opened}
+use Rattle.vt100_core.proofs.GridLemmas.{IsGrid-moved_up, IsGrid-scrolled}
 use Rattle.vt100_core.proofs.KeepLemmas.{IsShownWide-none}
 use Rattle.vt100_core.proofs.StayLemmas.{widened-none}
-use Rattle.vt100_core.proofs.ScrollLemmas.{IsGrid-wrap_row, above-last}
 use Rattle.vt100_core.proofs.EraseLemmas.{IsGrid-row_erased, IsGrid-columns_erased, IsGrid-cells_inserted}
 use Rattle.vt100_core.proofs.EraseLemmas.{IsGrid-cells_deleted, IsGrid-all_erased, IsGrid-all_erased_forward}
 use Rattle.vt100_core.proofs.EraseLemmas.{IsGrid-all_erased_backward}
-use Rattle.vt100_state.proofs.CleanRows.{IsCleanRow, clean-either, clean-blank, clean-cleared, clean-with_wrap}
+use Rattle.vt100_state.proofs.CleanRows.{IsCleanRow, clean-cleared}
 use Rattle.vt100_state.proofs.CleanRows.{clean-wiped, clean-inserted, clean-removed, clean-trimmed, clean-row, clean-rows}
 use Rattle.vt100_state.proofs.CleanRows.{clean-moved_up, clean-opened_line, clean-erased_forward, clean-erased_backward}
 
@@ -459,7 +453,7 @@ drawn-scrolled_up l g n d =
     let rows = rows_by_position (length g.rows) f in
     let m = length-rows_by_position (length g.rows) f in
     let clean = clean-rows (length g.rows) f (clean-moved_up g.rows g.top (g.bottom
-        + 1) (up_count g n) g.width d.fine.rows) in
+    + 1) (up_count g n) g.width d.fine.rows) in
     let k = kept_after g.kept left in
     cond_both (is_kept_from g) (widened k g.height g.width) g.kept
     (λ (x : KeptPart). IsDrawn l (record g { rows = rows; kept = x }))

@@ -1,23 +1,23 @@
 -- New sheets, other sizes, and what is kept by itself.
-use Rattle.std.proofs.Common.{◌≡◌, ℕ, ◌+◌, ◌-◌, ◌^◌, ◌<◌, ◌≤◌, ◌==◌, Bool, true, false, cond, ◌&&◌, List, [], ◌++◌}
-use Rattle.std.proofs.Common.{length, take, drop, map, min, replicate, refl, sym, ap, ◌∙◌, arith, subst, ⊎_elim}
-use Rattle.std.proofs.Common.{length-append, nat_lt, All}
+use Rattle.std.proofs.Common.{◌≡◌, ℕ, ◌-◌, ◌^◌, ◌<◌, ◌≤◌, ◌==◌, Bool, true, false, cond, ◌&&◌, List, [], ◌++◌}
+use Rattle.std.proofs.Common.{length, drop, map, min, replicate, refl, sym, ap, ◌∙◌, arith, subst, ⊎_elim}
+use Rattle.std.proofs.Common.{nat_lt, All}
 use Rattle.std.proofs.lemmas.Bool.{cond_both, cases_lt, eqb-true, eq-eqb, false≢true}
 use Rattle.std.proofs.lemmas.Bool.Decides.{nat_tests}
 use Rattle.std.proofs.lemmas.List.{length-replicate}
 use Rattle.std.proofs.lemmas.List.Elements.{All-nil, All-take, All-drop, All-append, All-map, All-replicate, All-weaker}
 use Rattle.vt100_cells.specs.Cell.{default_cell}
 use Rattle.vt100_rows.specs.Row.{RowView, blank_row, resized_row}
-use Rattle.vt100_sheet.specs.Sheet.{row_at, rows_by_position, first_rows}
+use Rattle.vt100_sheet.specs.Sheet.{row_at, first_rows}
 use Rattle.vt100_sheet.proofs.SheetLemmas.{length-rows_by_position, IsSheet-blank, IsSheet-none}
-use Rattle.vt100_core.specs.Grid.{KeptPart, IsKept, GridView, IsGrid, IsAllocated, new_grid, keeps_of, capacity_of}
+use Rattle.vt100_core.specs.Grid.{KeptPart, IsKept, GridView, IsAllocated, new_grid, keeps_of, capacity_of}
 use Rattle.vt100_core.specs.Grid.{allocated, cleared}
 use Rattle.vt100_core.specs.declared.scrollback.Scrollback.{Scrollback}
 use Rattle.vt100_core.specs.declared.scrollback.Scrollback.TheVariants.{Disabled, Enabled}
-use Rattle.vt100_core.specs.Scroll.{Scrolled, widened, scrolled_up, up_count, scrollback_erased, scrollback_shown}
+use Rattle.vt100_core.specs.Scroll.{Scrolled, scrolled_up, up_count, scrollback_erased, scrollback_shown}
 use Rattle.vt100_core.specs.Resize.{whole_screen, up_rows, shortened, with_width, down_rows, rows_back, lengthened}
 use Rattle.vt100_core.specs.Resize.{resized}
-use Rattle.vt100_core.proofs.GridLemmas.{IsNew, IsNew-of, new-again, no-rows}
+use Rattle.vt100_core.proofs.GridLemmas.{IsNew-of, new-again, no-rows}
 use Rattle.vt100_core.proofs.KeepLemmas.{IsShownWide-none}
 use Rattle.vt100_core.proofs.StayLemmas.{widened-none, scrolls-none}
 use Rattle.vt100_core.proofs.ResizeLemmas.{IsGrid-whole_screen, IsGrid-shortened, IsGrid-with_width, some-shortened}

@@ -1,20 +1,19 @@
 -- What is true of each terminal that shows no kept row stays true, step by step.
-use Rattle.std.proofs.Common.{◌≡◌, ◌∙◌, ℕ, zero, suc, ◌+◌, ◌-◌, ◌^◌, ◌<◌, ◌≤◌, Bool, true, false, not, cond, Option}
-use Rattle.std.proofs.Common.{Some, None, min, ap, arith, refl, sym, subst, ⊎_elim, if◌then◌else◌}
+use Rattle.std.proofs.Common.{◌≡◌, ◌∙◌, ℕ, zero, suc, ◌+◌, ◌-◌, ◌^◌, ◌<◌, Bool, true, false, not, Option}
+use Rattle.std.proofs.Common.{Some, None, min, ap, arith, refl, sym, subst, if◌then◌else◌}
 use Rattle.std.specs.Char.{IsScalar}
-use Rattle.std.proofs.lemmas.Bool.{cond_both, cases_Bool, false≢true}
-use Rattle.vt100_forms.specs.Attrs.{default_attrs, IsProper}
+use Rattle.std.proofs.lemmas.Bool.{cond_both, false≢true}
+use Rattle.vt100_forms.specs.Attrs.{IsProper}
 use Rattle.vt100_core.specs.Grid.{GridView, IsAllocated, new_grid, allocated, cleared}
 use Rattle.vt100_core.specs.declared.scrollback.Scrollback.TheVariants.{Disabled, Enabled}
 use Rattle.vt100_core.specs.declared.printed.Printed.{Printed}
 use Rattle.vt100_core.specs.declared.printed.Printed.TheVariants.{Nothing, Spacing, Joined}
 use Rattle.vt100_core.specs.Cursor.{tab_stop}
-use Rattle.vt100_core.specs.Scroll.{fed, scrolled_up, scrollback_shown}
+use Rattle.vt100_core.specs.Scroll.{scrollback_shown}
 use Rattle.vt100_core.specs.Text.{printed}
-use Rattle.vt100_core.specs.Resize.{resized}
 use Rattle.vt100_core.proofs.EraseLemmas.{columns_to_cursor-fit}
 use Rattle.vt100_state.specs.State.{State, IsState, main_sheet, fresh_state}
-use Rattle.vt100_state.specs.Step.{Stepped, quietly, with_shown, with_scrolled, last_after, typed, typed_times}
+use Rattle.vt100_state.specs.Step.{Stepped, with_shown, last_after, typed, typed_times}
 use Rattle.vt100_state.specs.Step.{repeated_last, repeated, moved_left, moved_right, tabbed, at_column, at_row, at_place}
 use Rattle.vt100_state.specs.Step.{moved_up, moved_down, line_above, line_below, line_fed, line_fed_back, in_region}
 use Rattle.vt100_state.specs.Step.{saved, restored, erased_below, erased_above, erased_all, erased_kept, erased_right}
@@ -22,7 +21,7 @@ use Rattle.vt100_state.specs.Step.{erased_left, erased_row, cells_erased, cells_
 use Rattle.vt100_state.specs.Step.{lines_taken, region_up, region_down, with_origin_mode, alternate_shown, main_shown}
 use Rattle.vt100_state.specs.Step.{alternate_cleared, alternate_entered, alternate_left, made_anew, resized_to}
 use Rattle.vt100_state.proofs.CleanRows.{IsKnown}
-use Rattle.vt100_state.proofs.FineGrids.{Limits, IsFine, IsDrawn, drawn-at, drawn-col, drawn-row, drawn-cursor_at}
+use Rattle.vt100_state.proofs.FineGrids.{Limits, IsFine, IsDrawn, drawn-col, drawn-row, drawn-cursor_at}
 use Rattle.vt100_state.proofs.FineGrids.{drawn-origin, drawn-saved, drawn-restored, drawn-region, drawn-down, drawn-up}
 use Rattle.vt100_state.proofs.FineGrids.{drawn-fed_up, drawn-fed, drawn-scrolled_up, drawn-all_erased}
 use Rattle.vt100_state.proofs.FineGrids.{drawn-all_erased_forward, drawn-all_erased_backward, drawn-row_erased}

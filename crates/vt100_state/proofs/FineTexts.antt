@@ -1,5 +1,5 @@
 -- Printing keeps what is true of a sheet.
-use Rattle.std.proofs.Common.{◌≡◌, ℕ, ◌+◌, ◌-◌, ◌^◌, ◌<◌, ◌≤◌, ◌==◌, Bool, true, false, cond, not, ◌&&◌, List, []}
+use Rattle.std.proofs.Common.{◌≡◌, ℕ, ◌+◌, ◌-◌, ◌<◌, ◌≤◌, ◌==◌, Bool, true, false, ◌&&◌, []}
 use Rattle.std.proofs.Common.{length, length-set, refl, sym, ap, ◌∙◌, arith, subst, ⊎_elim, nat_lt, nat_le}
 use Rattle.std.specs.Prelude.{Some}
 use Rattle.std.specs.Char.{IsScalar}
@@ -10,7 +10,7 @@ use Rattle.vt100_cells.specs.Cell.{CellView, IsCell, cell_of, columns_of, has_te
 use Rattle.vt100_cells.specs.Line.{span_of}
 use Rattle.vt100_cells.proofs.CellLemmas.{IsCell-of, IsCell-with_attrs}
 use Rattle.vt100_cells.proofs.WidthLemmas.{drawn-is}
-use Rattle.vt100_rows.specs.Row.{RowView, with_wrap, placed, wiped_row, joined_cell, is_widening, join_row}
+use Rattle.vt100_rows.specs.Row.{with_wrap, placed, wiped_row, joined_cell, is_widening, join_row}
 use Rattle.vt100_rows.proofs.JoinLemmas.{widened-is, IsCell-joined}
 use Rattle.vt100_sheet.specs.Sheet.{row_at}
 use Rattle.vt100_picture.specs.Apply.{is_dropped}
@@ -25,7 +25,7 @@ use Rattle.vt100_core.proofs.TextLemmas.{span_of-wide, IsGrid-join, in-place, ig
 use Rattle.vt100_core.proofs.TextLemmas.{IsDrawn-here, printed-dropped, printed-joined, printed-spaced}
 use Rattle.vt100_state.proofs.CleanRows.{IsKnown, IsClean, clean-of, clean-with_wrap, clean-placed, clean-wiped}
 use Rattle.vt100_state.proofs.CleanRows.{clean-joined_cell, clean-join, clean-row}
-use Rattle.vt100_state.proofs.FineGrids.{Limits, IsFine, IsDrawn, row-drawn, drawn-col, drawn-fed}
+use Rattle.vt100_state.proofs.FineGrids.{Limits, IsDrawn, row-drawn, drawn-col, drawn-fed}
 
 -- ---- the cursor goes to the next row
 

@@ -5,3 +5,6 @@ pub mod FineTexts
 pub mod ProperLemmas
 pub mod StateLemmas
 pub mod FineStates
+pub mod ScalarEvents
+pub mod FineEvents
+pub mod MadeLemmas
