@@ -21,15 +21,18 @@ use Rattle.vt100_state.specs.Sgr.{sgr_read}
 use Rattle.vt100_state.specs.PrivateModes.{is_mouse, is_encoding, mouse_set, encoding_set, mouse_reset, encoding_reset}
 use Rattle.vt100_state.specs.PrivateModes.{set_rows, reset_rows, row_of, row_state, partly_on, modes_from}
 use Rattle.vt100_state.specs.Step.{Stepped, Partly, quietly, with_style, with_modes, typed}
-use Rattle.vt100_state.specs.Effect.{Effect, effect_or, is_unhandled, control_rows, escape_rows, count, later, number_or}
-use Rattle.vt100_state.specs.Effect.{display_rows, line_rows, style_rows, row_partly, display_erased, line_erased, styled}
+use Rattle.vt100_state.specs.Effect.{Effect, effect_or, is_unhandled, control_rows, escape_rows, count, later}
+use Rattle.vt100_state.specs.Effect.{number_or}
+use Rattle.vt100_state.specs.Effect.{display_rows, line_rows, style_rows, row_partly, display_erased, line_erased}
+use Rattle.vt100_state.specs.Effect.{styled}
 use Rattle.vt100_state.specs.Effect.{given, window_effect, plain_rows, other_rows, private_rows, row_effect}
 use Rattle.vt100_state.specs.Effect.{plain_effect, csi_call, csi_effect, effect, escape_effect, print_effect, calling}
 use Rattle.vt100_state.specs.Effect.{steps}
 use Rattle.vt100_state.proofs.CleanRows.{IsKnown}
 use Rattle.vt100_state.proofs.FineStates.{Bounds, IsWell, Keeps, KeepsStepped, well-typed, well-repeated}
 use Rattle.vt100_state.proofs.FineStates.{well-moved_left, well-moved_right, well-tabbed, well-at_column, well-at_row}
-use Rattle.vt100_state.proofs.FineStates.{well-at_place, well-moved_up, well-moved_down, well-line_above, well-line_below}
+use Rattle.vt100_state.proofs.FineStates.{well-at_place, well-moved_up, well-moved_down, well-line_above}
+use Rattle.vt100_state.proofs.FineStates.{well-line_below}
 use Rattle.vt100_state.proofs.FineStates.{well-line_fed, well-line_fed_back, well-in_region, well-saved, well-restored}
 use Rattle.vt100_state.proofs.FineStates.{well-erased_below, well-erased_above, well-erased_all, well-erased_kept}
 use Rattle.vt100_state.proofs.FineStates.{well-erased_right, well-erased_left, well-erased_row, well-cells_erased}
@@ -114,7 +117,8 @@ state-if b p s t v w = cond_both p s t (λ x. IsWell b x) (λ _. v) (λ _. w)
 
 mouse-reset : (m : MouseProtocolMode) → Keeps (mouse_reset m)
 mouse-reset m b s w =
-    state-if b (is_mouse s.modes.mouse m) (mouse_set mouse.None s) s (modes-well (λ t. record (t.modes) { mouse = mouse.None }) b s w) w
+    state-if b (is_mouse s.modes.mouse m) (mouse_set mouse.None s) s (modes-well (λ t. record
+    (t.modes) { mouse = mouse.None }) b s w) w
 
 encoding-reset : (m : MouseProtocolEncoding) → Keeps (encoding_reset m)
 encoding-reset m b s w =
@@ -203,7 +207,8 @@ display-well n = row-partly (lookup n display_rows) (looked-up KeepsStepped n di
 line-well : (n : ℕ) → Keeps (λ s. (line_erased n s).state)
 line-well n = row-partly (lookup n line_rows) (looked-up KeepsStepped n line_rows lines-keep)
 
-style-row : (o : Option CursorStyle) → Keeps (λ s. (row_partly (option_map (λ x t. quietly (with_style x t)) o) s).state)
+style-row : (o : Option CursorStyle) → Keeps (λ s. (row_partly (option_map (λ x t. quietly
+    (with_style x t)) o) s).state)
 style-row None b s w = w
 style-row (Some x) b s w = style-well x b s w
 

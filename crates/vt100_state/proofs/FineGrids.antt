@@ -34,7 +34,8 @@ use Rattle.vt100_core.proofs.EraseLemmas.{IsGrid-row_erased, IsGrid-columns_eras
 use Rattle.vt100_core.proofs.EraseLemmas.{IsGrid-cells_deleted, IsGrid-all_erased, IsGrid-all_erased_forward}
 use Rattle.vt100_core.proofs.EraseLemmas.{IsGrid-all_erased_backward}
 use Rattle.vt100_state.proofs.CleanRows.{IsCleanRow, clean-cleared}
-use Rattle.vt100_state.proofs.CleanRows.{clean-wiped, clean-inserted, clean-removed, clean-trimmed, clean-row, clean-rows}
+use Rattle.vt100_state.proofs.CleanRows.{clean-wiped, clean-inserted, clean-removed, clean-trimmed, clean-row}
+use Rattle.vt100_state.proofs.CleanRows.{clean-rows}
 use Rattle.vt100_state.proofs.CleanRows.{clean-moved_up, clean-opened_line, clean-erased_forward, clean-erased_backward}
 
 -- a sheet's size, and how many rows it keeps, if any
@@ -272,7 +273,8 @@ drawn-at l g row col r c d =
 pub drawn-col : (l : Limits) (g : GridView) (col : ℕ) → col ≤ g.width → IsDrawn l g → IsDrawn l (record g { col = col })
 drawn-col l g col c d = drawn-at l g g.row col d.fine.grid.cursor_row c d
 
-pub drawn-row : (l : Limits) (g : GridView) (row : ℕ) → row < g.height → IsDrawn l g → IsDrawn l (record g { row = row })
+pub drawn-row : (l : Limits) (g : GridView) (row : ℕ) → row < g.height → IsDrawn l g
+    → IsDrawn l (record g { row = row })
 drawn-row l g row r d = drawn-at l g row g.col r d.fine.grid.cursor_col d
 
 pub drawn-cursor_at : (l : Limits) (g : GridView) (row col : ℕ) → IsDrawn l g → IsDrawn l (cursor_at g row col)
@@ -300,7 +302,8 @@ drawn-origin l g mode d =
 pub drawn-saved : (l : Limits) (g : GridView) → IsDrawn l g → IsDrawn l (cursor_saved g)
 drawn-saved l g d =
     let o = are-on g d.fine.grid in
-    places-drawn l g (record (places_of g) { saved_row = g.row; saved_col = g.col; saved_origin = g.origin }) d (record {
+    places-drawn l g (record (places_of g) { saved_row = g.row; saved_col = g.col; saved_origin = g.origin }) d
+    (record {
       row = o.row;
       col = o.col;
       saved_row = o.row;
@@ -313,7 +316,8 @@ drawn-saved l g d =
 pub drawn-restored : (l : Limits) (g : GridView) → IsDrawn l g → IsDrawn l (cursor_restored g)
 drawn-restored l g d =
     let o = are-on g d.fine.grid in
-    places-drawn l g (record (places_of g) { row = g.saved_row; col = g.saved_col; origin = g.saved_origin }) d (record {
+    places-drawn l g (record (places_of g) { row = g.saved_row; col = g.saved_col; origin = g.saved_origin }) d
+    (record {
       row = o.saved_row;
       col = o.saved_col;
       saved_row = o.saved_row;
@@ -464,7 +468,8 @@ drawn-scrolled_up l g n d =
     let valid = kept-after g.kept left i.kept all_left (omega (arith, d.fine.capacity, d.fine.few)) d.fine.hidden
     (both-are (g.top == 0) g.kept.keeps e) in
     let narrow = IsShownWide-none k g.height g.width off in
-    subst (λ (x : KeptPart). IsDrawn l (record g { rows = rows; kept = x })) (sym (widened-none k g.height g.width narrow))
+    subst (λ (x : KeptPart). IsDrawn l (record g { rows = rows; kept = x })) (sym
+    (widened-none k g.height g.width narrow))
     (kept-drawn l g rows k d
     (IsGrid-scrolled g rows k i d.some m
     (IsSheet-moved_up g.height g.width g.rows g.top (g.bottom + 1) (up_count g n) i.sheet i.some_rows i.few_cols

@@ -303,7 +303,8 @@ longer-fine l g height d higher small top =
     let back : All IsCleanRow (rows_back g down) = All-append IsCleanRow
     (replicate (down - length g.kept.rows) (blank_row g.width)) (map f newest)
     (All-replicate IsCleanRow (down - length g.kept.rows) (blank_row g.width) (clean-blank g.width))
-    (All-map IsCleanRow f newest (All-weaker IsCleanRow (λ v. IsCleanRow (f v)) (λ v h. clean-resized v g.width h) newest
+    (All-map IsCleanRow f newest (All-weaker IsCleanRow (λ v. IsCleanRow (f v))
+    (λ v h. clean-resized v g.width h) newest
     (All-drop IsCleanRow (length g.kept.rows - down) g.kept.rows d.kept))) in
     record {
       grid = IsGrid-lengthened g height d.grid higher small top d.hidden;

@@ -14,7 +14,8 @@ use Rattle.vt100_core.specs.Text.{printed}
 use Rattle.vt100_core.proofs.EraseLemmas.{columns_to_cursor-fit}
 use Rattle.vt100_state.specs.State.{State, IsState, main_sheet, fresh_state}
 use Rattle.vt100_state.specs.Step.{Stepped, with_shown, last_after, typed, typed_times}
-use Rattle.vt100_state.specs.Step.{repeated_last, repeated, moved_left, moved_right, tabbed, at_column, at_row, at_place}
+use Rattle.vt100_state.specs.Step.{repeated_last, repeated, moved_left, moved_right, tabbed, at_column, at_row}
+use Rattle.vt100_state.specs.Step.{at_place}
 use Rattle.vt100_state.specs.Step.{moved_up, moved_down, line_above, line_below, line_fed, line_fed_back, in_region}
 use Rattle.vt100_state.specs.Step.{saved, restored, erased_below, erased_above, erased_all, erased_kept, erased_right}
 use Rattle.vt100_state.specs.Step.{erased_left, erased_row, cells_erased, cells_added, cells_taken, lines_added}
@@ -71,7 +72,8 @@ not-not b false e = ap not e
 pub is-state : (b : Bounds) (s : State) → IsWell b s → IsState s
 is-state b s w =
     state_whole s w.shown.some w.main (w.other.height ∙ sym w.shown.fine.height)
-    (w.other.width ∙ sym w.shown.fine.width) w.shown.fine.keeps (w.other.keeps ∙ not-not (not s.alternate) s.alternate refl)
+    (w.other.width ∙ sym w.shown.fine.width) w.shown.fine.keeps (w.other.keeps ∙ not-not
+    (not s.alternate) s.alternate refl)
     w.attrs w.saved_attrs w.shown.fine.grid w.other.grid
 
 -- ---- the shown sheet

@@ -8,3 +8,4 @@ pub mod FineStates
 pub mod ScalarEvents
 pub mod FineEvents
 pub mod MadeLemmas
+pub mod ShownLemmas

@@ -8,7 +8,8 @@ use Rattle.vt100_forms.specs.declared.attrs.Color.{Color}
 use Rattle.vt100_forms.specs.declared.attrs.Color.TheVariants.{Default, Idx, Rgb}
 use Rattle.vt100_forms.proofs.AttrsLemmas.{setters_keep_proper}
 use Rattle.vt100_state.specs.Lookup.{lookup}
-use Rattle.vt100_state.specs.Sgr.{coloured, flag_rows, code_row, target_of, Awaits, nothing, kind, index, red, green, blue}
+use Rattle.vt100_state.specs.Sgr.{coloured, flag_rows, code_row, target_of, Awaits, nothing, kind, index, red, green}
+use Rattle.vt100_state.specs.Sgr.{blue}
 use Rattle.vt100_state.specs.Sgr.{Next, goes_on, passed_over, ends, ends_unhandled, rgb_next, index_next, colour_next}
 use Rattle.vt100_state.specs.Sgr.{target_next, code_next, single_next, first_next, kind_next, value_next, next, Read}
 use Rattle.vt100_state.specs.Sgr.{read_on, read_groups, sgr_read}

@@ -14,7 +14,8 @@ use Rattle.vte_core.specs.Bytes.{ends_device, is_put}
 use Rattle.vte_core.specs.Header.{is_well_formed, kept_groups, kept_intermediates, overflows}
 use Rattle.vte_core.specs.Text.{char_len, second_min, second_max, tail_len, front_len, first_bits, joined, char_event}
 use Rattle.vte_core.specs.Text.{malformed_event, front_event, text_after, text}
-use Rattle.vte_core.specs.Shapes.{before, from, executed, aborted, swallowed_end, swallowed, device_end, device, hook_end}
+use Rattle.vte_core.specs.Shapes.{before, from, executed, aborted, swallowed_end, swallowed, device_end, device}
+use Rattle.vte_core.specs.Shapes.{hook_end}
 use Rattle.vte_core.specs.Shapes.{hook, csi_end, csi, osc_pieces, osc_end, osc, introduced, escape_end, escape}
 use Rattle.vte_core.specs.Shapes.{cut_at_esc, segments, events}
 use Rattle.vt100_state.specs.Made.{events_added}
@@ -129,7 +130,8 @@ three-is : (x b c : ℕ) → ((x < 13) ⊎ ((x ≡ 13) × (b ≤ 0x9F))) ⊎ (14
     → IsScalar ((x * 64 + (b - 128)) * 64 + (c - 128))
 three-is x b c (inl (inl h)) l p q r = low ((x * 64 + (b - 128)) * 64 + (c - 128)) (omega (arith, h, p, q))
 three-is x b c (inl (inr (e, h))) l p q r = low ((x * 64 + (b - 128)) * 64 + (c - 128)) (omega (arith, e, h, q))
-three-is x b c (inr h) l p q r = high ((x * 64 + (b - 128)) * 64 + (c - 128)) (omega (arith, h)) (omega (arith, l, p, q))
+three-is x b c (inr h) l p q r = high ((x * 64 + (b - 128)) * 64 + (c - 128)) (omega (arith, h)) (omega
+    (arith, l, p, q))
 
 which-three : (a b : ℕ) → 0xE0 ≤ a → b ≤ second_max a
     → ((a - 0xE0 < 13) ⊎ ((a - 0xE0 ≡ 13) × (b ≤ 0x9F))) ⊎ (14 ≤ a - 0xE0)
@@ -296,7 +298,8 @@ hook_end-told cut h (b ∷ rest) =
     if-told (is_abort b) (aborted cut b rest) (cond (is_well_formed h) begins (swallowed cut rest))
     (aborted-told cut b rest)
     (if-told (is_well_formed h) begins (swallowed cut rest)
-    (then-more (Hook (kept_groups h) (kept_intermediates h) (overflows h) b) (device cut rest) tt (device-told cut rest))
+    (then-more (Hook (kept_groups h) (kept_intermediates h) (overflows h) b) (device cut rest) tt
+    (device-told cut rest))
     (swallowed-told cut rest))
 
 csi_end-told : (cut : Bool) (h s : List ℕ) → Told (csi_end cut h s)

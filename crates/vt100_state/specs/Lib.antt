@@ -7,4 +7,5 @@ pub mod PrivateModes
 pub mod Effect
 pub mod Made
 pub mod Holds
+pub mod Shown
 pub mod Rows

@@ -4,6 +4,7 @@
 //! Sizes are from 1 to 65,535, and fewer than 2^64 rows are kept, as the types of the calls say.
 ghost use Rattle.vt100_state.specs.Holds.{MakesStates, MakesLastSize, MakesCapacity, MakesNoOffset, MakesCells};
 ghost use Rattle.vt100_state.specs.Holds.{KeepsAtSameSize};
+ghost use Rattle.vt100_state.specs.Shown.{EachCellIsTold, EachWrapIsTold, AlikeShowTheSame};
 
 /// It is a state of a terminal: its sheets are grids of one size, the shown one and the main one have their rows, the
 /// main one alone keeps rows, and the drawing and the saved attributes are proper.
@@ -31,4 +32,12 @@ pub fn shown_cells()
 /// A resize to the size that the terminal has already changes nothing, and no row leaves.
 pub fn same_sizes()
     ensures { KeepsAtSameSize }
+{}
+
+/// At each place of the screen `Screen::cell` tells a cell, and it is the one that is shown; `Screen::row_wrapped`
+/// tells each row's flag. So two terminals of one size of which the calls that ask tell the same show the same.
+pub fn shown_is_told()
+    ensures cells { EachCellIsTold }
+    ensures wraps { EachWrapIsTold }
+    ensures alike { AlikeShowTheSame }
 {}
