@@ -1,5 +1,5 @@
 -- Sheets keep their sizes, and how many rows they keep at most.
-use Rattle.std.proofs.Common.{◌≡◌, ◌∙◌, ℕ, Bool, true, false, cond, List, [], ◌∷◌, Option, Some, None, refl, sym, ap}
+use Rattle.std.proofs.Common.{◌≡◌, ℕ, Bool, true, false, cond, refl, sym, ap}
 use Rattle.std.proofs.Common.{subst, not, length, replicate, ◌==◌}
 use Rattle.std.proofs.lemmas.Bool.{cond_both, false≢true}
 use Rattle.vt100_core.specs.Grid.{GridView, SameLimits, allocated, cleared}

@@ -12,7 +12,7 @@ use Rattle.vt100_core.specs.Cursor.{tab_stop}
 use Rattle.vt100_core.specs.Scroll.{scrollback_shown}
 use Rattle.vt100_core.specs.Text.{printed}
 use Rattle.vt100_core.proofs.EraseLemmas.{columns_to_cursor-fit}
-use Rattle.vt100_state.specs.State.{State, IsState, main_sheet, fresh_state}
+use Rattle.vt100_state.specs.State.{State, IsState, main_sheet, alternate_sheet, fresh_state}
 use Rattle.vt100_state.specs.Step.{Stepped, with_shown, last_after, typed, typed_times}
 use Rattle.vt100_state.specs.Step.{repeated_last, repeated, moved_left, moved_right, tabbed, at_column, at_row}
 use Rattle.vt100_state.specs.Step.{at_place}
@@ -335,6 +335,12 @@ main-fine b s w =
     cond_both s.alternate s.other s.shown (λ g. IsFine (limits b false) g)
     (λ e. fine-as b (not s.alternate) false s.other (ap not e) w.other)
     (λ e. fine-as b s.alternate false s.shown e w.shown.fine)
+
+pub alternate-fine : (b : Bounds) (s : State) → IsWell b s → IsFine (limits b true) (alternate_sheet s)
+alternate-fine b s w =
+    cond_both s.alternate s.shown s.other (λ g. IsFine (limits b true) g)
+    (λ e. fine-as b s.alternate true s.shown e w.shown.fine)
+    (λ e. fine-as b (not s.alternate) true s.other (ap not e) w.other)
 
 pub well-made_anew : Keeps made_anew
 well-made_anew b s w =

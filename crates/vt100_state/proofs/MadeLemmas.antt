@@ -32,7 +32,7 @@ played-well [] h b s w = w
 played-well (e ∷ es) h b s w =
     played-well es (All-tail IsTold e es h) b (effect e s).state (effect-well e (All-head IsTold e es h) b s w)
 
-abbrev bounded : Bounds → List Act → Bounds
+abbrev pub bounded : Bounds → List Act → Bounds
 bounded b acts = record b { height = last_rows b.height acts; width = last_cols b.width acts }
 
 acts-well : (acts : List Act) → All IsAct acts → (past : List ℕ) (b : Bounds) (s : State) → IsWell b s
@@ -46,10 +46,10 @@ acts-well (Resized rows cols ∷ acts) h past b s w =
     acts-well acts (All-tail IsAct (Resized rows cols) acts h) past (record b { height = rows; width = cols })
     (resized_to rows cols s).state (well-resized b s rows cols w is.0.0 is.0.1 is.1.0 is.1.1)
 
-abbrev first_bounds : ℕ → ℕ → ℕ → Bounds
+abbrev pub first_bounds : ℕ → ℕ → ℕ → Bounds
 first_bounds rows cols capacity = record { height = rows; width = cols; capacity = capacity }
 
-made-well : (rows cols capacity : ℕ) (acts : List Act) → AreActs rows cols capacity acts
+pub made-well : (rows cols capacity : ℕ) (acts : List Act) → AreActs rows cols capacity acts
     → IsWell (bounded (first_bounds rows cols capacity) acts) (made rows cols capacity acts)
 made-well rows cols capacity acts h =
     acts-well acts h.each [] (first_bounds rows cols capacity) (fresh_state rows cols capacity)

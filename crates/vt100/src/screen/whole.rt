@@ -12,15 +12,6 @@ use std::num::NonZeroU16;
 use vt100_core::Size;
 
 impl Screen {
-    /// Marks the screen as failed, after a refusal.
-    pub(super) fn fail(&mut self) -> ScreenError
-        ensures failed { self.new.failed ≡ true }
-        ensures memory { result ≡ Memory }
-    {
-        self.failed = true;
-        ScreenError::Memory
-    }
-
     /// Gives the screen another size, and tells no callbacks of the rows that leave it.
     #[tactic(auto, using(crate::proofs::SizeLemmas::resized_height, crate::proofs::SizeLemmas::resized_width))]
     pub fn set_size(&mut self, rows: NonZeroU16, cols: NonZeroU16) -> Result<(), ScreenError>
@@ -44,13 +35,15 @@ impl Screen {
     /// Shows the newest `rows` of the kept rows above the others, or all of them if there are fewer. What the screen
     /// answers then, and what [`cell`](Self::cell) and the texts show, is read there.
     pub fn set_scrollback(&mut self, rows: usize) -> Result<(), ScreenError>
-        ensures { TriesAlone (kept_shown rows) self.old result self.new }
+        ensures tries { TriesAlone (kept_shown rows) self.old result self.new }
+        ensures bounds { SameBounds self.old.state self.new.state }
     {
         if self.failed {
             return Err(ScreenError::Failed);
         }
         if self.grid.set_scrollback(rows).is_err() {
-            return Err(self.fail());
+            self.failed = true;
+            return Err(ScreenError::Memory);
         }
         Ok(())
     }
