@@ -266,7 +266,8 @@ pub fed_bounded : {C : Type 0} (step : C → ScreenView → Call → C → Scree
 fed_bounded step scrolls keeps p q bytes goes rows cols capacity acts are at =
     let past = bytes_fed acts in
     let b = bounded (first_bounds rows cols capacity) acts in
-    let well : IsWell b p.screen.state = subst (λ (x : State). IsWell b x) (sym (ap (λ (x : ScreenView). x.state) at.screen))
+    let well : IsWell b p.screen.state = subst (λ (x : State). IsWell b x)
+    (sym (ap (λ (x : ScreenView). x.state) at.screen))
     (made-well rows cols capacity acts are) in
     events_bounded step scrolls keeps b (events_added past bytes) (added-told past bytes) p.callbacks p.screen
     q.callbacks q.screen (ap (λ (x : ScreenView). x.failed) at.screen) well (goes past at.has_read)

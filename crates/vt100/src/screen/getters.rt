@@ -17,8 +17,8 @@ impl Screen {
         self.failed
     }
 
-    /// Whether no call found no memory. Such a screen is in a state of a terminal: its sheets are grids of one size, the
-    /// main one alone keeps rows, and its attributes are proper.
+    /// Whether no call found no memory. Such a screen is in a state of a terminal: its sheets are grids of one size,
+    /// the main one alone keeps rows, and its attributes are proper. The sheets of a failed one are grids too.
     pub fn is_live(&self) -> bool
         ensures answer { result ≡ not self.now.failed }
         ensures live { self.now.failed ≡ false → IsState self.now.state }

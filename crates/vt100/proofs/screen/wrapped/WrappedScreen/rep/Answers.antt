@@ -26,14 +26,16 @@ returns-in_err-text-clause-tries g c =
     let live : c.args.self.now.screen.failed ≡ false = search rules in
     rw is (repeated_refused g.CB.Callbacks.scrolls c.args.count c.in-Some.c c.args.self.now.screen c.loop-i.self.screen
     c.text.new.self.screen c.args.self.now.callbacks c.loop-i.self.callbacks c.text.new.self.callbacks
-    c.in_err-text.field-0.0 live (ap (λ (x : ScreenView). x.failed) c.loop-i.invariant.screen) c.in_err-text.ensures.tries)
+    c.in_err-text.field-0.0 live (ap (λ (x : ScreenView). x.failed) c.loop-i.invariant.screen)
+    c.in_err-text.ensures.tries)
 
 pub returns-after-loop-i-clause-tries : goal.returns-after-loop-i-clause-tries
 returns-after-loop-i-clause-tries g c =
     let n : c.loop-i._i ≡ c.args.count = omega arith in
     let live : c.args.self.now.screen.failed ≡ false = search rules in
     let last : c.args.self.now.screen.state.last ≡ Some c.in-Some.c = search rules in
-    let screen : c.loop-i.self.screen ≡ alive (typed_times c.args.count c.in-Some.c c.args.self.now.screen.state).state =
+    let screen : c.loop-i.self.screen
+    ≡ alive (typed_times c.args.count c.in-Some.c c.args.self.now.screen.state).state =
     rw (← n) c.loop-i.invariant.screen in
     let hears : Hears g.CB.Callbacks.scrolls c.args.self.now.callbacks
     (typed_times c.args.count c.in-Some.c c.args.self.now.screen.state).reports c.loop-i.self.callbacks =
