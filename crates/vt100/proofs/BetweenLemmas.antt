@@ -1,5 +1,5 @@
 -- The text between two places of a screen, written row by row.
-use Rattle.std.proofs.Common.{◌≡◌, ℕ, zero, suc, ◌+◌, ◌-◌, ◌<◌, ◌≤◌, ◌==◌, Bool, true, false, cond, nat_lt, min, List}
+use Rattle.std.proofs.Common.{◌≡◌, ℕ, suc, ◌+◌, ◌-◌, ◌<◌, ◌≤◌, ◌==◌, Bool, true, false, cond, nat_lt, min, List}
 use Rattle.std.proofs.Common.{[], ◌∷◌, ◌++◌, length, refl, sym, ap, ◌∙◌, arith, append_assoc, append-nil}
 use Rattle.std.specs.Prelude.{encode_utf8_all, encode_utf8, Some, None}
 use Rattle.std.proofs.lemmas.Str.{encodes-append}
@@ -52,7 +52,8 @@ IsBetween-next g r s n m k w v start was now e ek on ev ew h en = rw e (record {
       en ∙ ap (λ (bs : List ℕ). bs ++ encode_utf8_all (rest_of_row v start w)) h.text
       ∙ ap (λ x. encode_utf8_all (rows_from g r s n) ++ encode_utf8_all (rest_of_row x start w))
       (ev ∙ ap (visible_at g) ek)
-      ∙ ap (λ x. encode_utf8_all (rows_from g r s n) ++ encode_utf8_all (rest_of_row (visible_at g (r + n)) x w)) h.begins
+      ∙ ap (λ x. encode_utf8_all (rows_from g r s n) ++ encode_utf8_all (rest_of_row (visible_at g (r + n)) x w))
+      h.begins
       ∙ ap (λ x. encode_utf8_all (rows_from g r s n)
       ++ encode_utf8_all (rest_of_row (visible_at g (r + n)) (cond (n == 0) s 0) x)) ew
       ∙ sym (encodes-append (rows_from g r s n) (rest_of_row (visible_at g (r + n)) (cond (n == 0) s 0) g.width));
@@ -96,7 +97,8 @@ between-on g r s q e n k v start was now h on en ek ev b enow =
     ∙ ap (λ cs. encode_utf8_all rows ++ encode_utf8_all cs) (row_text-to v start k e ek
     ∙ ap (λ x. row_text x start e) ev ∙ ap (λ x. row_text (visible_at g q) x e) from)
     ∙ sym (encodes-append rows last)
-    ∙ ap encode_utf8_all (sym (between-whole g r s q e true last (not-below q r h) (is-below q (length g.rows) on) refl))
+    ∙ ap encode_utf8_all
+    (sym (between-whole g r s q e true last (not-below q r h) (is-below q (length g.rows) on) refl))
 
 -- a row between lies below the screen, or the end does
 pub between-past : (g : GridView) (r s q e n k : ℕ) (start : ℕ) (now : List ℕ) → r ≤ q → k ≤ q → length g.rows ≤ k

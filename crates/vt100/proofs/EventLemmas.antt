@@ -1,5 +1,5 @@
 -- Effects, from what the calls of a screen did.
-use Rattle.std.proofs.Common.{◌≡◌, ◌∙◌, ℕ, Bool, true, false, List, [], ◌∷◌, Result, Ok, Err, ap, refl, sym}
+use Rattle.std.proofs.Common.{◌≡◌, ◌∙◌, ℕ, Bool, true, false, List, [], ◌∷◌, Result, Ok, Err, OnErr, ap, refl, sym}
 use Rattle.std.proofs.Common.{replicate, cond, inl, inr, subst, length, arith, ◌<◌}
 use Rattle.std.proofs.lemmas.Bool.{false≢true}
 use Rattle.vt100_rows.specs.Row.{RowView}
@@ -13,7 +13,7 @@ use Rattle.vt100_state.specs.Call.{unhandled_escape}
 use Rattle.vt100_state.specs.Lookup.{lookup}
 use Rattle.vt100.specs.declared.error.ScreenError.{ScreenError}
 use Rattle.vt100.specs.declared.error.ScreenError.TheVariants.{Memory, Failed}
-use Rattle.vt100.specs.Tries.{Tries, TriesParts, Counts, alive, unless_failed}
+use Rattle.vt100.specs.Tries.{Tries, TriesParts, Counts, SameBounds, alive, unless_failed}
 use Rattle.vt100.specs.Goes.{Either, Tells, Acts, Does}
 
 pub is_alive : (v : ScreenView) → v.failed ≡ false → v ≡ alive v.state
@@ -49,16 +49,16 @@ does_none step scrolls f c v h = record {
 pub does_steps : {C A : Type 0} (step : C → ScreenView → Call → C → ScreenView → Type 0)
     (scrolls : C → RowView → Bool → C → Type 0) (f : State → Stepped) (c : C) (v : ScreenView)
     (result : Result A ScreenError) (d : C) (w : ScreenView) → Tries scrolls f v c result w d
-    → Does step scrolls (λ s. steps (f s)) c v d w
-does_steps step scrolls f c v (Ok a) d w t = record {
+    → OnErr result (SameBounds v.state w.state) → Does step scrolls (λ s. steps (f s)) c v d w
+does_steps step scrolls f c v (Ok a) d w t k = record {
   dead = λ e. ((t.dead e).2, (t.dead e).1);
   live = λ e. inl (d, t.hears, (refl, t.screen));
 }
-does_steps step scrolls f c v (Err Memory) d w t = record {
+does_steps step scrolls f c v (Err Memory) d w t k = record {
   dead = λ e. ((t.dead e).2, (t.dead e).1);
-  live = λ e. inr (t.memory refl);
+  live = λ e. inr (t.memory refl, k);
 }
-does_steps step scrolls f c v (Err Failed) d w t = record {
+does_steps step scrolls f c v (Err Failed) d w t k = record {
   dead = λ e. ((t.dead e).2, (t.dead e).1);
   live = λ e. absurd (false≢true (sym e ∙ t.refused refl));
 }
@@ -109,12 +109,13 @@ does_parts {C} step scrolls f k c v n b u d w h x calls = record {
 pub does_refused : {C : Type 0} (step : C → ScreenView → Call → C → ScreenView → Type 0)
     (scrolls : C → RowView → Bool → C → Type 0) (f : State → Partly) (k : Call) (c : C) (v : ScreenView)
     (e : ScreenError) (d : C) (w : ScreenView)
-    → v.failed ≡ false → TriesParts scrolls f v c (Err e) w d → Does step scrolls (λ s. partly (f s) k) c v d w
-does_refused step scrolls f k c v Memory d w h x = record {
+    → v.failed ≡ false → TriesParts scrolls f v c (Err e) w d → SameBounds v.state w.state
+    → Does step scrolls (λ s. partly (f s) k) c v d w
+does_refused step scrolls f k c v Memory d w h x bounds = record {
   dead = λ e. absurd (false≢true (sym h ∙ e));
-  live = λ e. inr (x.tries.memory refl);
+  live = λ e. inr (x.tries.memory refl, bounds);
 }
-does_refused step scrolls f k c v Failed d w h x = record {
+does_refused step scrolls f k c v Failed d w h x bounds = record {
   dead = λ e. absurd (false≢true (sym h ∙ e));
   live = λ e. absurd (false≢true (sym h ∙ x.tries.refused refl));
 }

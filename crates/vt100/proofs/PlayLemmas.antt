@@ -1,6 +1,7 @@
 -- Events that a screen has gone through, and what acts make.
 use Rattle.std.proofs.Common.{◌≡◌, ◌∙◌, ◌⊎◌, ℕ, Bool, true, false, List, [], ◌∷◌, ◌++◌, ap, refl, sym, subst}
-use Rattle.std.proofs.Common.{inl, inr, append_assoc, append-nil, Ok, Err, Result, OnOk}
+use Rattle.std.proofs.Common.{inl, inr, append_assoc, append-nil, Ok, Err, Result, OnOk, All}
+use Rattle.std.proofs.lemmas.List.Elements.{All-head, All-tail}
 use Rattle.std.proofs.lemmas.Bool.{false≢true}
 use Rattle.vte_core.specs.Event.{Event, Performs}
 use Rattle.vte_core.specs.declared.Parser.{Parser}
@@ -16,10 +17,19 @@ use Rattle.vt100_state.specs.Effect.{effect}
 use Rattle.vt100_state.specs.Made.{Act, Fed, Resized, played, events_added, bytes_fed, made_on, made}
 use Rattle.vt100.specs.declared.screen.wrapped.WrappedScreen.{WrappedScreen}
 use Rattle.vt100.specs.declared.error.ScreenError.{ScreenError}
-use Rattle.vt100.specs.Tries.{Tries, alive}
+use Rattle.vt100.specs.Tries.{Tries, SameBounds, alive}
 use Rattle.vt100.specs.Goes.{Either, Tells, Goes, GoesThrough}
 use Rattle.vt100.specs.Parsing.{ParserView, StandsAt, KeepsScreens}
-use Rattle.vt100.specs.Laws.{PlaysEvents, FeedsMake, FeedsJoin, FeedsNothing, ActsFollow}
+use Rattle.vt100.specs.Laws.{PlaysEvents, FeedsMake, FeedsJoin, FeedsNothing, ActsFollow, ResizedScreensArePutIn}
+use Rattle.vt100_state.specs.State.{main_sheet, alternate_sheet}
+use Rattle.vt100_state.specs.Holds.{AreActs}
+use Rattle.vt100_core.specs.Grid.{GridView, SameLimits}
+use Rattle.vt100_state.proofs.FineGrids.{Limits, IsFine}
+use Rattle.vt100_state.proofs.FineStates.{Bounds, IsWell, limits, main-fine, alternate-fine}
+use Rattle.vt100_state.proofs.FineEvents.{effect-well}
+use Rattle.vt100_state.proofs.ScalarEvents.{IsTold, added-told}
+use Rattle.vt100_state.proofs.MadeLemmas.{bounded, first_bounds, made-well}
+use Rattle.vt100.proofs.BoundsLemmas.{bounds_same, bounds_is, bounds_trans}
 use Rattle.vt100.proofs.EventLemmas.{is_alive}
 
 both : (b : Bool) → (b ≡ true) ⊎ (b ≡ false)
@@ -69,7 +79,7 @@ one_played : {C : Type 0} (step : C → ScreenView → Call → C → ScreenView
 one_played step scrolls keeps e c v d w h g live =
     elim (g.live h) [
       | inl a ↦ tells_keeps step keeps a.0 (alive (effect e v.state).state) (effect e v.state).calls d w a.2
-      | inr f ↦ absurd (false≢true (sym live ∙ f))
+      | inr f ↦ absurd (false≢true (sym live ∙ f.0))
     ]
 
 failed_stays : {C : Type 0} (step : C → ScreenView → Call → C → ScreenView → Type 0)
@@ -187,3 +197,77 @@ pub resized_stands : {C : Type 0} (scrolls : C → RowView → Bool → C → Ty
 resized_stands scrolls p q height width (Ok u) reader t rows cols capacity acts at =
     stands_resized p q height width reader t.screen rows cols capacity acts at
 resized_stands scrolls p q height width (Err e) reader t rows cols capacity acts at = tt
+
+pub put_in : ResizedScreensArePutIn
+put_in p w height width rows cols capacity acts at screen =
+    stands_resized p (record p { screen = w }) height width refl screen rows cols capacity acts at
+
+-- ---- sheets keep their bounds
+
+fine-limits : (l : Limits) (g h : GridView) → IsFine l g → IsFine l h → SameLimits g h
+fine-limits l g h p q = record {
+  height = q.height ∙ sym p.height;
+  width = q.width ∙ sym p.width;
+  kept = record { keeps = q.keeps ∙ sym p.keeps; capacity = q.capacity ∙ sym p.capacity };
+}
+
+well-bounds : (b : Bounds) (s t : State) → IsWell b s → IsWell b t → SameBounds s t
+well-bounds b s t p q = record {
+  main = fine-limits (limits b false) (main_sheet s) (main_sheet t) (main-fine b s p) (main-fine b t q);
+  alternate = fine-limits (limits b true) (alternate_sheet s) (alternate_sheet t) (alternate-fine b s p)
+      (alternate-fine b t q);
+}
+
+failed_same : {C : Type 0} (step : C → ScreenView → Call → C → ScreenView → Type 0)
+    (scrolls : C → RowView → Bool → C → Type 0) (es : List Event) (c : C) (v : ScreenView) (d : C) (w : ScreenView)
+    → v.failed ≡ true → GoesThrough step scrolls es c v d w → w ≡ v
+failed_same step scrolls [] c v d w h g = g.1
+failed_same step scrolls (e ∷ es) c v d w h (b, u, one, more) =
+    failed_same step scrolls es b u d w (ap (λ (x : ScreenView). x.failed) (one.dead h).1 ∙ h) more ∙ (one.dead h).1
+
+-- an event after which the screen has failed
+one_bounded : {C : Type 0} (step : C → ScreenView → Call → C → ScreenView → Type 0)
+    (scrolls : C → RowView → Bool → C → Type 0) → KeepsScreens step → (e : Event) (c : C) (v : ScreenView) (d : C)
+    (w : ScreenView) → v.failed ≡ false → Goes step scrolls e c v d w → w.failed ≡ true → SameBounds v.state w.state
+one_bounded step scrolls keeps e c v d w h g failed =
+    elim (g.live h) [
+      | inl a ↦
+          let is = tells_keeps step keeps a.0 (alive (effect e v.state).state) (effect e v.state).calls d w a.2 in
+          absurd (false≢true (sym (ap (λ (x : ScreenView). x.failed) is) ∙ failed))
+      | inr f ↦ f.1
+    ]
+
+events_bounded : {C : Type 0} (step : C → ScreenView → Call → C → ScreenView → Type 0)
+    (scrolls : C → RowView → Bool → C → Type 0) → KeepsScreens step → (b : Bounds) (es : List Event)
+    → All IsTold es → (c : C) (v : ScreenView) (d : C) (w : ScreenView) → v.failed ≡ false → IsWell b v.state
+    → GoesThrough step scrolls es c v d w → SameBounds v.state w.state
+events_bounded step scrolls keeps b [] told c v d w h well g =
+    bounds_is v.state w.state v.state (ap (λ (x : ScreenView). x.state) g.1) (bounds_same v.state)
+events_bounded step scrolls keeps b (e ∷ es) told c v d w h well (m, u, one, more) =
+    elim (both u.failed) [
+      | inl f ↦
+          bounds_is v.state w.state u.state
+          (ap (λ (x : ScreenView). x.state) (failed_same step scrolls es m u d w f more))
+          (one_bounded step scrolls keeps e c v m u h one f)
+      | inr f ↦
+          let is = ap (λ (x : ScreenView). x.state) (one_played step scrolls keeps e c v m u h one f) in
+          let next : IsWell b u.state = subst (λ (x : State). IsWell b x) (sym is)
+          (effect-well e (All-head IsTold e es told) b v.state well) in
+          bounds_trans v.state u.state w.state (well-bounds b v.state u.state well next)
+          (events_bounded step scrolls keeps b es (All-tail IsTold e es told) m u d w f next more)
+    ]
+
+pub fed_bounded : {C : Type 0} (step : C → ScreenView → Call → C → ScreenView → Type 0)
+    (scrolls : C → RowView → Bool → C → Type 0) → KeepsScreens step → (p q : ParserView C) (bytes : List ℕ)
+    → ((past : List ℕ) → Stands 1024 p.reader past → GoesThrough step scrolls (events_added past bytes)
+    p.callbacks p.screen q.callbacks q.screen)
+    → (rows cols capacity : ℕ) (acts : List Act) → AreActs rows cols capacity acts
+    → StandsAt p rows cols capacity acts → SameBounds p.screen.state q.screen.state
+fed_bounded step scrolls keeps p q bytes goes rows cols capacity acts are at =
+    let past = bytes_fed acts in
+    let b = bounded (first_bounds rows cols capacity) acts in
+    let well : IsWell b p.screen.state = subst (λ (x : State). IsWell b x)
+    (sym (ap (λ (x : ScreenView). x.state) at.screen))
+    (made-well rows cols capacity acts are) in
+    events_bounded step scrolls keeps b (events_added past bytes) (added-told past bytes) p.callbacks p.screen
+    q.callbacks q.screen (ap (λ (x : ScreenView). x.failed) at.screen) well (goes past at.has_read)

@@ -30,7 +30,7 @@ use Rattle.vte_core.specs.Event.{Event, Print, Performs}
 use Rattle.vt100.specs.declared.error.ScreenError.{ScreenError}
 use Rattle.vt100.specs.declared.error.ScreenError.TheVariants.{Memory, Failed}
 use Rattle.vt100.specs.declared.screen.wrapped.WrappedScreen.{WrappedScreen}
-use Rattle.vt100.specs.Tries.{Tries, alive}
+use Rattle.vt100.specs.Tries.{Tries, SameBounds, alive}
 use Rattle.vt100.specs.Goes.{Goes, GoesThrough}
 use Rattle.vt100.specs.Runs.{typed_all, last_of, PrintsFront}
 use Rattle.vt100.proofs.HearLemmas.{hears_all}
@@ -168,7 +168,8 @@ printable-handled c p = grind (arith, nat_tests)
 goes-typed : {C : Type 0} (step : C → ScreenView → Call → C → ScreenView → Type 0)
     (scrolls : C → RowView → Bool → C → Type 0) (ch : ℕ) (c : C) (v : ScreenView) (d : C) (w : ScreenView)
     → IsPrintable ch → v.failed ≡ false → (Hears scrolls c (typed ch v.state).reports d
-    × (w ≡ alive (typed ch v.state).state)) ⊎ (w.failed ≡ true) → Goes step scrolls (Print ch) c v d w
+    × (w ≡ alive (typed ch v.state).state)) ⊎ ((w.failed ≡ true) × SameBounds v.state w.state)
+    → Goes step scrolls (Print ch) c v d w
 goes-typed step scrolls ch c v d w p live h =
     does_as step scrolls (λ t. steps (typed ch t)) _ c v d w
     (ap (λ (b : Bool). cond b (calling (said.unhandled_char ch ∷ []) v.state) (steps (typed ch v.state)))
@@ -205,13 +206,13 @@ goes-run step scrolls (x ∷ xs) c v d w p live hears screen =
 -- the screen fails at the first of some characters, where it is w then
 goes-refused : {C : Type 0} (step : C → ScreenView → Call → C → ScreenView → Type 0)
     (scrolls : C → RowView → Bool → C → Type 0) (xs : List ℕ) (c : C) (v : ScreenView) (d : C) (w : ScreenView)
-    → 0 < length xs → All IsPrintable xs → v.failed ≡ false → w.failed ≡ true
+    → 0 < length xs → All IsPrintable xs → v.failed ≡ false → w.failed ≡ true → SameBounds v.state w.state
     → GoesThrough step scrolls (map Print xs) c v d w
-goes-refused step scrolls [] c v d w some p live failed = absurd (omega arith)
-goes-refused step scrolls (x ∷ xs) c v d w some p live failed = (
+goes-refused step scrolls [] c v d w some p live failed bounds = absurd (omega arith)
+goes-refused step scrolls (x ∷ xs) c v d w some p live failed bounds = (
   d,
   w,
-  goes-typed step scrolls x c v d w (p zero 0 (omega arith)) live (inr failed),
+  goes-typed step scrolls x c v d w (p zero 0 (omega arith)) live (inr (failed, bounds)),
   goes-failed step scrolls xs d w failed,
 )
 
@@ -225,14 +226,15 @@ memory-failed x y p q e = cc
 pub goes-tries : {C A : Type 0} (step : C → ScreenView → Call → C → ScreenView → Type 0)
     (scrolls : C → RowView → Bool → C → Type 0) (xs : List ℕ) (c : C) (v : ScreenView)
     (result : Result A ScreenError) (d : C) (w : ScreenView) → 0 < length xs → All IsPrintable xs
-    → Tries scrolls (typed_all xs) v c result w d → GoesThrough step scrolls (map Print xs) c v d w
-goes-tries step scrolls xs c v (Ok a) d w some p t = goes-run step scrolls xs c v d w p t.live t.hears t.screen
-goes-tries {C} {A} step scrolls xs c v (Err Memory) d w some p t =
+    → Tries scrolls (typed_all xs) v c result w d → SameBounds v.state w.state
+    → GoesThrough step scrolls (map Print xs) c v d w
+goes-tries step scrolls xs c v (Ok a) d w some p t k = goes-run step scrolls xs c v d w p t.live t.hears t.screen
+goes-tries {C} {A} step scrolls xs c v (Err Memory) d w some p t k =
     elim (either-failed v.failed) [
       | inl f ↦ absurd (false≢true (memory-failed {A = A} (Err Memory) (Err Failed) refl refl (t.dead f).0))
-      | inr f ↦ goes-refused step scrolls xs c v d w some p f (t.memory refl)
+      | inr f ↦ goes-refused step scrolls xs c v d w some p f (t.memory refl) k
     ]
-goes-tries {C} step scrolls xs c v (Err Failed) d w some p t =
+goes-tries {C} step scrolls xs c v (Err Failed) d w some p t k =
     let f = t.refused refl in
     let same = t.dead f in
     subst (λ (x : C). GoesThrough step scrolls (map Print xs) c v x w) (sym same.2)
@@ -255,10 +257,11 @@ performs-goes {C} step scrolls (e ∷ es) p q h =
 pub front-run : {C A : Type 0} (step : C → ScreenView → Call → C → ScreenView → Type 0)
     (scrolls : C → RowView → Bool → C → Type 0) (bs : List ℕ) (n : ℕ) (c : C) (v : ScreenView)
     (result : Result A ScreenError) (d : C) (w : ScreenView) → 0 < n → n ≤ length bs → All IsPrintable (take n bs)
-    → Tries scrolls (typed_all (take n bs)) v c result w d → PrintsFront step scrolls bs (drop n bs) c v d w
-front-run step scrolls bs n c v result d w pos within p t =
+    → Tries scrolls (typed_all (take n bs)) v c result w d → SameBounds v.state w.state
+    → PrintsFront step scrolls bs (drop n bs) c v d w
+front-run step scrolls bs n c v result d w pos within p t k =
     let some : 0 < length (take n bs) = grind (arith, common_steps) in
-    (take n bs, printable-chars bs n p, goes-tries step scrolls (take n bs) c v result d w some p t)
+    (take n bs, printable-chars bs n p, goes-tries step scrolls (take n bs) c v result d w some p t k)
 
 -- a character
 pub front-char : {C : Type 0} (step : C → ScreenView → Call → C → ScreenView → Type 0)

@@ -30,8 +30,8 @@ resized-size g height width =
     let up = up_rows g height in
     let s = scrolled_up (whole_screen g) up in
     size-cond ((height == g.height) && (width == g.width)) (nat_lt height g.height) g
-    (with_width (shortened s.grid up height) width) (lengthened (with_width (whole_screen g) width) height) s.sunk height
-    width
+    (with_width (shortened s.grid up height) width) (lengthened (with_width (whole_screen g) width) height) s.sunk
+    height width
     (λ e. let t = both (height == g.height) (width == g.width) e in
     (sym (eqb-true height g.height t.0), sym (eqb-true width g.width t.1)))
     (refl, refl) (refl, refl)

@@ -9,7 +9,8 @@ ghost use Rattle.std.specs.declared.io.ErrorKind.TheVariants.{OutOfMemory, Other
 ghost use Rattle.vt100_state.specs.State.{fresh_state};
 ghost use Rattle.vt100_state.specs.Step.{resized_to};
 ghost use Rattle.vt100_state.specs.Made.{Act, Fed, Resized, events_added};
-ghost use Rattle.vt100.specs.Tries.{Tries, alive};
+ghost use Rattle.vt100_state.specs.Holds.{AreActs};
+ghost use Rattle.vt100.specs.Tries.{Tries, SameBounds, alive};
 ghost use Rattle.vt100.specs.declared.error.ScreenError.TheVariants.{Memory, Failed};
 
 use crate::callbacks::Callbacks;
@@ -103,7 +104,8 @@ impl<CB: Callbacks> Parser<CB> {
     /// call.
     ///
     /// Where memory is refused, and where a call of the callbacks left a screen that has failed, the later events do
-    /// nothing, and the answer is [`ScreenError::Memory`]. On a screen that had failed before nothing is done.
+    /// nothing, and the answer is [`ScreenError::Memory`]; but for what the callbacks change, the screen keeps its size
+    /// and its capacity. On a screen that had failed before nothing is done.
     pub fn process(&mut self, bytes: &[u8]) -> Result<(), ScreenError>
         ensures alive { OnOk result (self.new.screen.failed ≡ false) }
         ensures memory { result ≡ Err Memory → (self.old.screen.failed ≡ false) × (self.new.screen.failed ≡ true) }
@@ -117,6 +119,9 @@ impl<CB: Callbacks> Parser<CB> {
         ensures made { KeepsScreens CB.step → (rows cols capacity : ℕ) (acts : List Act)
             → StandsAt self.old rows cols capacity acts
             → OnOk result (StandsAt self.new rows cols capacity (acts ++ Fed bytes.now ∷ [])) }
+        ensures bounds { KeepsScreens CB.step → (rows cols capacity : ℕ) (acts : List Act)
+            → AreActs rows cols capacity acts → StandsAt self.old rows cols capacity acts
+            → SameBounds self.old.screen.state self.new.screen.state }
     {
         if self.screen.screen.failed() {
             return Err(ScreenError::Failed);
@@ -196,6 +201,8 @@ impl Write for Parser<()> {
         ensures dead { self.old.screen.failed ≡ true → self.new ≡ self.old }
         ensures made { (rows cols capacity : ℕ) (acts : List Act) → StandsAt self.old rows cols capacity acts
             → OnOk result (StandsAt self.new rows cols capacity (acts ++ Fed buf.now ∷ [])) }
+        ensures bounds { (rows cols capacity : ℕ) (acts : List Act) → AreActs rows cols capacity acts
+            → StandsAt self.old rows cols capacity acts → SameBounds self.old.screen.state self.new.screen.state }
     {
         match self.process(buf) {
             Ok(()) => Ok(buf.len()),

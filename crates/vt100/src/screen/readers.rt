@@ -29,6 +29,7 @@ impl Screen {
         self.grid.write_contents(&mut contents)?;
         Ok(contents)
     }
+
     /// The text of each row that is shown, from the top: `width` columns from column `start` on, without the empty
     /// columns at its end and without newlines. Of a wide character that begins before `start` the second half counts
     /// as an empty column.
@@ -72,9 +73,9 @@ impl Screen {
         Ok(contents)
     }
 
-    /// The rows that are shown, as text with its attributes: no control sequences but SGR, and no control characters but
-    /// a newline after each row but the last that doesn't go on in the next. The attributes that are set before it have
-    /// to be the default ones, and aren't reset at the end.
+    /// The rows that are shown, as text with its attributes: no control sequences but SGR, and no control characters
+    /// but a newline after each row but the last that doesn't go on in the next. The attributes that are set before it
+    /// have to be the default ones, and aren't reset at the end.
     pub fn contents_formatted_basic(&self) -> Result<String, ScreenError>
         ensures text { IfOk result (λ contents. string_bytes contents
             ≡ captured new_capture (visible self.now.state.shown)) }

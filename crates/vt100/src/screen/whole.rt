@@ -1,7 +1,7 @@
 //! Calls on a whole screen.
 ghost use Rattle.std.specs.Prelude.{◌≡◌, OnErr, IfOk, Err, true, false};
 ghost use Rattle.vt100_state.specs.Step.{kept_shown, kept_dropped, resized_to, made_anew, quietly};
-ghost use Rattle.vt100.specs.Tries.{Tries, TriesAlone, alive, unless_failed};
+ghost use Rattle.vt100.specs.Tries.{Tries, TriesAlone, SameBounds, alive, unless_failed};
 ghost use Rattle.vt100.specs.declared.error.ScreenError.TheVariants.{Memory};
 
 use crate::callbacks::Callbacks;
@@ -12,15 +12,6 @@ use std::num::NonZeroU16;
 use vt100_core::Size;
 
 impl Screen {
-    /// Marks the screen as failed, after a refusal.
-    pub(super) fn fail(&mut self) -> ScreenError
-        ensures failed { self.new.failed ≡ true }
-        ensures memory { result ≡ Memory }
-    {
-        self.failed = true;
-        ScreenError::Memory
-    }
-
     /// Gives the screen another size, and tells no callbacks of the rows that leave it.
     #[tactic(auto, using(crate::proofs::SizeLemmas::resized_height, crate::proofs::SizeLemmas::resized_width))]
     pub fn set_size(&mut self, rows: NonZeroU16, cols: NonZeroU16) -> Result<(), ScreenError>
@@ -44,13 +35,15 @@ impl Screen {
     /// Shows the newest `rows` of the kept rows above the others, or all of them if there are fewer. What the screen
     /// answers then, and what [`cell`](Self::cell) and the texts show, is read there.
     pub fn set_scrollback(&mut self, rows: usize) -> Result<(), ScreenError>
-        ensures { TriesAlone (kept_shown rows) self.old result self.new }
+        ensures tries { TriesAlone (kept_shown rows) self.old result self.new }
+        ensures bounds { SameBounds self.old.state self.new.state }
     {
         if self.failed {
             return Err(ScreenError::Failed);
         }
         if self.grid.set_scrollback(rows).is_err() {
-            return Err(self.fail());
+            self.failed = true;
+            return Err(ScreenError::Memory);
         }
         Ok(())
     }
@@ -108,8 +101,9 @@ impl Screen {
 impl<CB: Callbacks> WrappedScreen<CB> {
     /// Makes everything as at first, at this size and capacity (RIS). The callbacks are told of no row.
     pub fn ris(&mut self) -> Result<(), ScreenError>
-        ensures { Tries CB.scrolls (λ s. quietly (made_anew s)) self.old.screen self.old.callbacks result
+        ensures tries { Tries CB.scrolls (λ s. quietly (made_anew s)) self.old.screen self.old.callbacks result
             self.new.screen self.new.callbacks }
+        ensures bounds { OnErr result (SameBounds self.old.screen.state self.new.screen.state) }
     {
         if self.screen.failed {
             return Err(ScreenError::Failed);
@@ -119,7 +113,10 @@ impl<CB: Callbacks> WrappedScreen<CB> {
                 self.screen = screen;
                 Ok(())
             }
-            Err(_) => Err(self.screen.fail()),
+            Err(_) => {
+                self.screen.failed = true;
+                Err(ScreenError::Memory)
+            }
         }
     }
 

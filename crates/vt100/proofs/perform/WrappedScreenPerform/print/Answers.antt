@@ -3,6 +3,7 @@ use Rattle.std.proofs.Common.{◌≡◌, ◌∙◌, [], ◌∷◌, Bool, true, f
 use Rattle.vt100_state.specs.Call as said
 use Rattle.vt100_state.specs.Effect.{is_unhandled, calling, steps}
 use Rattle.vt100_state.specs.Step.{typed}
+use Rattle.vt100_rows.proofs.TextLemmas.{on-err}
 use Rattle.vt100.proofs.EventLemmas.{does_as, does_call, does_steps}
 use Rattle.vt100.proofs.perform.WrappedScreenPerform.print.Goals as goal
 
@@ -23,4 +24,5 @@ returns-else-is_unhandled g c =
     let is : is_unhandled ch ≡ false = sym c.is_unhandled.ensures ∙ c.if-is_unhandled.false in
     does_as g.CB.Callbacks.step g.CB.Callbacks.scrolls (λ t. steps (typed ch t)) _ _ _ _ _
     (ap (λ (b : Bool). cond b (calling (said.unhandled_char ch ∷ []) s) (steps (typed ch s))) (sym is))
-    (does_steps g.CB.Callbacks.step g.CB.Callbacks.scrolls (typed ch) _ _ _ _ _ c.text.ensures)
+    (does_steps g.CB.Callbacks.step g.CB.Callbacks.scrolls (typed ch) _ _ _ _ _ c.text.ensures.tries
+    (on-err c.text.result c.text.ensures.bounds))

@@ -4,6 +4,7 @@ use Rattle.vt100_state.specs.Effect.{changes, count, later, number_or}
 use Rattle.vt100_state.specs.Step.{cells_added, moved_up, moved_down, moved_right, moved_left, line_below, line_above}
 use Rattle.vt100_state.specs.Step.{at_column, at_row, at_place, lines_added, lines_taken, cells_taken, region_up}
 use Rattle.vt100_state.specs.Step.{region_down, cells_erased, repeated, in_region}
+use Rattle.vt100_rows.proofs.TextLemmas.{on-err}
 use Rattle.vt100.proofs.EventLemmas.{does_as, does_change, does_steps, plain_does}
 use Rattle.vt100.proofs.screen.wrapped.WrappedScreen.plain_csi.Goals as goal
 
@@ -65,7 +66,7 @@ returns-in-P g c = plain_does g.CB.Callbacks.step g.CB.Callbacks.scrolls _ _ _ _
 pub returns-in-S : goal.returns-in-S
 returns-in-S g c = plain_does g.CB.Callbacks.step g.CB.Callbacks.scrolls _ _ _ _ _ _ _ c.in-S.is
     (does_steps g.CB.Callbacks.step g.CB.Callbacks.scrolls (region_up (count c.args.params.now)) _ _ _ _ _
-    (rw c.canonicalize_params_1-in-S.ensures at c.su.ensures))
+    (rw c.canonicalize_params_1-in-S.ensures at c.su.ensures.tries) (on-err c.su.result c.su.ensures.bounds))
 
 pub returns-in-T : goal.returns-in-T
 returns-in-T g c = plain_does g.CB.Callbacks.step g.CB.Callbacks.scrolls _ _ _ _ _ _ _ c.in-T.is
@@ -85,7 +86,7 @@ returns-in-96 g c = plain_does g.CB.Callbacks.step g.CB.Callbacks.scrolls _ _ _ 
 pub returns-in-b : goal.returns-in-b
 returns-in-b g c = plain_does g.CB.Callbacks.step g.CB.Callbacks.scrolls _ _ _ _ _ _ _ c.in-b.is
     (does_steps g.CB.Callbacks.step g.CB.Callbacks.scrolls (repeated (count c.args.params.now)) _ _ _ _ _
-    (rw c.canonicalize_params_1-in-b.ensures at c.rep.ensures))
+    (rw c.canonicalize_params_1-in-b.ensures at c.rep.ensures.tries) (on-err c.rep.result c.rep.ensures.bounds))
 
 pub returns-in-d : goal.returns-in-d
 returns-in-d g c = plain_does g.CB.Callbacks.step g.CB.Callbacks.scrolls _ _ _ _ _ _ _ c.in-d.is
