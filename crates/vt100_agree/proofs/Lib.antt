@@ -1,0 +1,4 @@
+pub mod PlainStates
+pub mod Cursors
+pub mod Modes
+pub mod Attributes
