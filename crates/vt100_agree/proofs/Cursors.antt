@@ -55,7 +55,7 @@ read-place r n gs h =
     in
     ap (λ b. min (cond b 1 (kept_number (r + 1)) - 1) (n - 1)) some ∙ omega (arith, h)
 
-placed-at : (s : State) (p q r c : ℕ) → s.shown.origin ≡ false → min p (s.shown.height - 1) ≡ r
+pub placed-at : (s : State) (p q r c : ℕ) → s.shown.origin ≡ false → min p (s.shown.height - 1) ≡ r
     → min q (s.shown.width - 1) ≡ c → at_place p q s ≡ moved s r c
 placed-at s p q r c o e f =
     let g = s.shown in
@@ -100,7 +100,7 @@ pub read-count : (n m : ℕ) → 0 < n → cond (nat_eq (kept_number n) 0) m (ke
 read-count n m h =
     ap (λ b. cond b m (kept_number n)) (ne_eqb (kept_number n) 0 (λ e. absurd (omega (arith, e, h))))
 
-nonzero : (n : ℕ) → (n == 0) ≡ false → 0 < n
+pub nonzero : (n : ℕ) → (n == 0) ≡ false → 0 < n
 nonzero n h = grind (arith, nat_tests)
 
 shows-right : (s : State) (m n : ℕ) → IsPlainState s → 0 < n

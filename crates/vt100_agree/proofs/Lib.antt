@@ -2,3 +2,5 @@ pub mod PlainStates
 pub mod Cursors
 pub mod Modes
 pub mod Attributes
+pub mod Erasures
+pub mod Feeds
