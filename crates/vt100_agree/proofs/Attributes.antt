@@ -1,6 +1,6 @@
 -- Forms that change the drawing attributes.
-use Rattle.std.proofs.Common.{◌≡◌, ℕ, ◌+◌, ◌-◌, ◌<◌, ◌≤◌, ◌==◌, Bool, true, false, cond, List, [], ◌∷◌, ◌++◌, map}
-use Rattle.std.proofs.Common.{nat_eq, nat_lt, Option, Some, None, refl, sym, ap, ◌∙◌, arith, append-nil, append_assoc}
+use Rattle.std.proofs.Common.{◌≡◌, ℕ, ◌+◌, ◌-◌, ◌<◌, ◌≤◌, Bool, true, false, cond, List, [], ◌∷◌, ◌++◌, map}
+use Rattle.std.proofs.Common.{nat_eq, nat_lt, Option, Some, None, refl, sym, ap, ◌∙◌, arith, append-nil}
 use Rattle.std.specs.Prelude.{unwrap_or}
 use Rattle.std.specs.Int.{is_in_range}
 use Rattle.std.proofs.lemmas.Bool.{cond_both, lt-ltb, ltb-true, ltb-false}
@@ -11,15 +11,13 @@ use Rattle.vt100_forms.specs.declared.attrs.Color.TheVariants.{Default, Idx, Rgb
 use Rattle.vt100_forms.specs.declared.term.Intensity.{Intensity}
 use Rattle.vt100_forms.specs.declared.term.Intensity.TheVariants.{Normal, Bold, Dim}
 use Rattle.vt100_forms.specs.Attrs.{with_mode}
-use Rattle.vt100_forms.specs.Form.{Form, ClearAttrs, Sgr, Change, color_numbers, color_part, intensity_part, flag_part}
+use Rattle.vt100_forms.specs.Form.{ClearAttrs, Sgr, Change, color_numbers, color_part, intensity_part, flag_part}
 use Rattle.vt100_forms.specs.Form.{sgr_numbers, with_change, intensity_set, flag_set}
 use Rattle.vt100_forms.specs.Length.{IsByteColor, IsByteOption}
-use Rattle.vt100_picture.specs.Term.{Term}
 use Rattle.vt100_picture.specs.Apply.{apply}
 use Rattle.vt100_read.specs.Events.{kept_number, sgr_events, events_of}
 use Rattle.vt100_state.specs.State.{State}
-use Rattle.vt100_state.specs.Sgr.{coloured, code_row, Awaits, nothing, first_next, Next, goes_on, Read, read_groups}
-use Rattle.vt100_state.specs.Sgr.{sgr_read}
+use Rattle.vt100_state.specs.Sgr.{coloured, nothing, first_next, goes_on, Read, read_groups}
 use Rattle.vt100_state.specs.Made.{played}
 use Rattle.vt100_agree.specs.Plain.{terminal_of, screen_of, IsPlainState}
 use Rattle.vt100_agree.specs.Laws.{Shows}

@@ -1,18 +1,15 @@
 -- Forms that move the cursor, save it, and bring it back.
-use Rattle.std.proofs.Common.{◌≡◌, ℕ, ◌+◌, ◌-◌, ◌^◌, ◌<◌, ◌≤◌, ◌==◌, Bool, true, false, cond, ◌&&◌, List, [], ◌∷◌, min}
-use Rattle.std.proofs.Common.{nat_eq, refl, sym, ap, ◌∙◌, subst, arith}
+use Rattle.std.proofs.Common.{◌≡◌, ℕ, ◌+◌, ◌-◌, ◌^◌, ◌<◌, ◌≤◌, ◌==◌, true, false, cond, ◌&&◌, List, [], ◌∷◌, min}
+use Rattle.std.proofs.Common.{nat_eq, refl, sym, ap, ◌∙◌, arith}
 use Rattle.std.proofs.lemmas.Bool.{cond_both, ne_eqb, eqb-true, and_parts}
 use Rattle.std.proofs.lemmas.Bool.Decides.{nat_tests}
-use Rattle.vte_core.specs.Event.{Event}
-use Rattle.vt100_forms.specs.Form.{Form, MoveTo, MoveRight, Backspace, SaveCursor, RestoreCursor}
-use Rattle.vt100_picture.specs.Term.{Size, Term}
+use Rattle.vt100_forms.specs.Form.{MoveTo, MoveRight, Backspace, SaveCursor, RestoreCursor}
 use Rattle.vt100_picture.specs.Apply.{apply}
 use Rattle.vt100_read.specs.Events.{kept_number, sequence, bare, events_of}
 use Rattle.vt100_core.specs.Grid.{GridView}
-use Rattle.vt100_core.specs.Cursor.{cursor_at}
 use Rattle.vt100_state.specs.State.{State}
 use Rattle.vt100_state.specs.Step.{with_shown, at_place, moved_right}
-use Rattle.vt100_state.specs.Effect.{number_or, count}
+use Rattle.vt100_state.specs.Effect.{number_or}
 use Rattle.vt100_state.specs.Made.{played}
 use Rattle.vt100_agree.specs.Plain.{terminal_of, screen_of, IsPlainGrid, IsPlainState}
 use Rattle.vt100_agree.specs.Laws.{Shows}
@@ -144,22 +141,25 @@ shows-SaveCursor s h =
     record {
       shows = refl;
       size = refl;
-      plain = (h.0, record {
-        sheet = p.sheet;
-        some = p.some;
-        few_rows = p.few_rows;
-        few_cols = p.few_cols;
-        some_cols = p.some_cols;
-        cursor_row = p.cursor_row;
-        cursor_col = p.cursor_col;
-        saved_row = p.cursor_row;
-        saved_col = p.cursor_col;
-        top = p.top;
-        bottom = p.bottom;
-        origin = p.origin;
-        saved_origin = p.origin;
-        offset = p.offset;
-      });
+      plain = (
+        h.0,
+        record {
+          sheet = p.sheet;
+          some = p.some;
+          few_rows = p.few_rows;
+          few_cols = p.few_cols;
+          some_cols = p.some_cols;
+          cursor_row = p.cursor_row;
+          cursor_col = p.cursor_col;
+          saved_row = p.cursor_row;
+          saved_col = p.cursor_col;
+          top = p.top;
+          bottom = p.bottom;
+          origin = p.origin;
+          saved_origin = p.origin;
+          offset = p.offset;
+        },
+      );
     }
 
 pub shows-RestoreCursor : (s : State) → IsPlainState s
@@ -170,20 +170,23 @@ shows-RestoreCursor s h =
     record {
       shows = refl;
       size = refl;
-      plain = (h.0, record {
-        sheet = p.sheet;
-        some = p.some;
-        few_rows = p.few_rows;
-        few_cols = p.few_cols;
-        some_cols = p.some_cols;
-        cursor_row = p.saved_row;
-        cursor_col = p.saved_col;
-        saved_row = p.saved_row;
-        saved_col = p.saved_col;
-        top = p.top;
-        bottom = p.bottom;
-        origin = p.saved_origin;
-        saved_origin = p.saved_origin;
-        offset = p.offset;
-      });
+      plain = (
+        h.0,
+        record {
+          sheet = p.sheet;
+          some = p.some;
+          few_rows = p.few_rows;
+          few_cols = p.few_cols;
+          some_cols = p.some_cols;
+          cursor_row = p.saved_row;
+          cursor_col = p.saved_col;
+          saved_row = p.saved_row;
+          saved_col = p.saved_col;
+          top = p.top;
+          bottom = p.bottom;
+          origin = p.saved_origin;
+          saved_origin = p.saved_origin;
+          offset = p.offset;
+        },
+      );
     }

@@ -1,41 +1,39 @@
 -- Forms that erase.
-use Rattle.std.proofs.Common.{◌≡◌, ℕ, ◌+◌, ◌-◌, ◌<◌, ◌≤◌, ◌==◌, Bool, true, false, cond, not, ◌&&◌, nat_lt, nat_le}
+use Rattle.std.proofs.Common.{◌≡◌, ℕ, ◌+◌, ◌-◌, ◌<◌, ◌≤◌, ◌==◌, Bool, true, false, cond, not, ◌&&◌, nat_lt}
 use Rattle.std.proofs.Common.{nat_eq, List, [], ◌∷◌, length, set, min, refl, sym, ap, ◌∙◌, arith, length-set, ⊎_elim}
-use Rattle.std.proofs.lemmas.Bool.{cond_both, cases_lt, lt-ltb, le-ltb, eqb-true, ne_eqb, eq-eqb}
+use Rattle.std.proofs.lemmas.Bool.{cond_both, cases_lt, lt-ltb, le-ltb, eqb-true}
 use Rattle.std.proofs.lemmas.Bool.Decides.{nat_tests}
 use Rattle.std.proofs.lemmas.List.{length-replicate}
 use mathlib.Core.Path.{fun_ext}
-use Rattle.vte_core.specs.Event.{Event}
 use Rattle.vt100_forms.specs.declared.attrs.Attrs.{Attrs}
-use Rattle.vt100_forms.specs.Form.{Form, EraseChar, ClearRowForward, ClearScreen}
+use Rattle.vt100_forms.specs.Form.{EraseChar, ClearRowForward, ClearScreen}
 use Rattle.vt100_cells.specs.Cell.{CellView, empty_cell, default_cell}
 use Rattle.vt100_cells.specs.Cells.{cell_at}
 use Rattle.vt100_cells.specs.Line.{wiped, wipe_unflags}
 use Rattle.vt100_cells.proofs.ListLemmas.{cell_at_past, cell_at-replicate}
 use Rattle.vt100_picture.specs.Position.{update}
-use Rattle.vt100_picture.specs.Term.{Size, Term}
 use Rattle.vt100_picture.specs.Apply.{with_line, erase, apply}
 use Rattle.vt100_picture.proofs.FormLemmas.{erase-none}
 use Rattle.vt100_rows.specs.Row.{RowView, wiped_row, cleared_row}
 use Rattle.vt100_rows.proofs.RowLemmas.{line-wiped, IsRow-cleared}
 use Rattle.vt100_sheet.specs.Sheet.{row_at, rows_by_position, erased_forward_at, IsRowOf, IsSheet}
 use Rattle.vt100_sheet.specs.Picture.{lines_of, wraps_of}
-use Rattle.vt100_sheet.proofs.SheetLemmas.{row_at-by_position, length-rows_by_position, IsRowOf-cond, wrapped-cond}
+use Rattle.vt100_sheet.proofs.SheetLemmas.{row_at-by_position, length-rows_by_position, IsRowOf-cond}
 use Rattle.vt100_sheet.proofs.SheetLemmas.{IsSheet-with_row, IsSheet-by_position}
 use Rattle.vt100_sheet.proofs.PictureLemmas.{lines-set, wraps-set, lines-past, wraps-past}
 use Rattle.vt100_core.specs.Grid.{GridView, row_of_cursor, with_cursor_row}
-use Rattle.vt100_core.specs.Erase.{columns_erased, all_erased_forward}
-use Rattle.vt100_core.specs.Picture.{size_of, Extras, term_of}
+use Rattle.vt100_core.specs.Erase.{columns_erased}
+use Rattle.vt100_core.specs.Picture.{Extras, term_of}
 use Rattle.vt100_core.proofs.EraseLemmas.{IsRowOf-wiped}
 use Rattle.vt100_core.proofs.InputLemmas.{here, cursor_row}
 use Rattle.vt100_read.specs.Events.{kept_number, sequence, bare, events_of}
 use Rattle.vt100_state.specs.State.{State}
-use Rattle.vt100_state.specs.Step.{with_shown, at_place, cells_erased, erased_right, erased_below}
+use Rattle.vt100_state.specs.Step.{with_shown, cells_erased, erased_below}
 use Rattle.vt100_state.specs.Made.{played}
 use Rattle.vt100_agree.specs.Plain.{terminal_of, screen_of, extras_of, IsPlainGrid, IsPlainState}
 use Rattle.vt100_agree.specs.Laws.{Shows}
 use Rattle.vt100_agree.proofs.PlainStates.{drawable, shows-at, shows-same}
-use Rattle.vt100_agree.proofs.Cursors.{moved, plain-moved, placed-at, read-count, nonzero}
+use Rattle.vt100_agree.proofs.Cursors.{plain-moved, placed-at, read-count, nonzero}
 
 -- ---- another row at the cursor
 
@@ -114,8 +112,11 @@ erased-shows s e h l =
           ∙ ap (λ c. with_line (terminal_of s) c (not (wipe_unflags g.width f g.col e)))
           (line-wiped v g.col e a (omega (arith, r.wide, l)));
       size = refl;
-      plain = (h.0, plain-row g w p (IsRowOf-wiped g.width v g.col e a r l)
-          (λ q. ap (λ b. b && not (wipe_unflags (length v.cells) f g.col e)) q));
+      plain = (
+        h.0,
+        plain-row g w p (IsRowOf-wiped g.width v g.col e a r l)
+            (λ q. ap (λ b. b && not (wipe_unflags (length v.cells) f g.col e)) q),
+      );
     }
 
 erased-as : (s : State) (m n : ℕ) → IsPlainState s
@@ -280,6 +281,9 @@ shows-ClearScreen s h =
     (record {
       shows = λ i. record (terminal_of s) { cell = cells i; wrapped = flags i; row = 0; col = 0 };
       size = refl;
-      plain = (h.0, plain-rows (record g { row = 0; col = 0 }) rows
-          (plain-moved g 0 0 p (omega (arith, p.cursor_row)) (omega arith)) (empty-sheet g s.attrs p) n);
+      plain = (
+        h.0,
+        plain-rows (record g { row = 0; col = 0 }) rows
+            (plain-moved g 0 0 p (omega (arith, p.cursor_row)) (omega arith)) (empty-sheet g s.attrs p) n,
+      );
     })

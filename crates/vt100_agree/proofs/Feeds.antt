@@ -3,24 +3,24 @@ use Rattle.std.proofs.Common.{◌≡◌, ℕ, ◌+◌, ◌-◌, ◌<◌, ◌≤�
 use Rattle.std.proofs.Common.{refl, sym, ap, subst, ◌∙◌, arith, ⊎_elim}
 use Rattle.std.proofs.lemmas.Bool.{cond_both, cond-true, cond-false, lt-ltb, le-ltb, eq-eqb, cases_lt}
 use Rattle.std.proofs.lemmas.Bool.Decides.{nat_tests}
-use Rattle.vt100_forms.specs.Form.{Form, Crlf, Lf}
-use Rattle.vt100_cells.specs.Cell.{CellView, default_cell}
+use Rattle.vt100_forms.specs.Form.{Crlf, Lf}
+use Rattle.vt100_cells.specs.Cell.{default_cell}
 use Rattle.vt100_picture.specs.Term.{Size, Term}
 use Rattle.vt100_picture.specs.Apply.{down, apply}
-use Rattle.vt100_rows.specs.Row.{RowView, with_wrap}
-use Rattle.vt100_sheet.specs.Sheet.{row_at, rows_by_position, moved_up, IsSheet}
+use Rattle.vt100_rows.specs.Row.{RowView}
+use Rattle.vt100_sheet.specs.Sheet.{row_at, rows_by_position, moved_up}
 use Rattle.vt100_sheet.specs.Picture.{lines_of, wraps_of}
 use Rattle.vt100_sheet.proofs.SheetLemmas.{length-rows_by_position, rows_by_position_is}
 use Rattle.vt100_sheet.proofs.MoveLemmas.{IsSheet-moved_up}
 use Rattle.vt100_sheet.proofs.PictureLemmas.{lines-up, wraps-up}
-use Rattle.vt100_core.specs.Grid.{KeptPart, GridView, with_row, is_in_region}
+use Rattle.vt100_core.specs.Grid.{KeptPart, GridView, is_in_region}
 use Rattle.vt100_core.specs.Cursor.{moved_rows_down}
-use Rattle.vt100_core.specs.Scroll.{Scrolled, kept_after, widened, is_kept_from, left_rows, scrolled_up, fed, left_row}
-use Rattle.vt100_core.specs.Scroll.{rows_past_bottom, wrapped_on, made_to_fit}
+use Rattle.vt100_core.specs.Scroll.{Scrolled, kept_after, widened, is_kept_from, left_rows, scrolled_up, fed}
+use Rattle.vt100_core.specs.Scroll.{rows_past_bottom}
 use Rattle.vt100_core.proofs.InputLemmas.{IsDrawable}
 use Rattle.vt100_read.specs.Events.{events_of}
 use Rattle.vt100_state.specs.State.{State}
-use Rattle.vt100_state.specs.Step.{with_shown, line_fed, at_column}
+use Rattle.vt100_state.specs.Step.{with_shown, line_fed}
 use Rattle.vt100_state.specs.Made.{played}
 use Rattle.vt100_agree.specs.Plain.{terminal_of, screen_of, IsPlainGrid, IsPlainState}
 use Rattle.vt100_agree.specs.Laws.{Shows}
@@ -203,9 +203,12 @@ shows-fed s h =
     (record {
       shows = (λ i. record t { cell = lines i; wrapped = flags i }) ∙ sym (down-up z t m);
       size = refl;
-      plain = (h.0, plain-rows g (fed_rows g 1) p
-          (IsSheet-moved_up g.height g.width g.rows 0 (length g.rows) 1 p.sheet (omega (arith, d.row)) p.few_cols
-          (omega arith)) n);
+      plain = (
+        h.0,
+        plain-rows g (fed_rows g 1) p
+            (IsSheet-moved_up g.height g.width g.rows 0 (length g.rows) 1 p.sheet (omega (arith, d.row)) p.few_cols
+            (omega arith)) n,
+      );
     }))
     (cases_lt (g.row + 1) g.height)
 

@@ -4,3 +4,5 @@ pub mod Modes
 pub mod Attributes
 pub mod Erasures
 pub mod Feeds
+pub mod Texts
+pub mod Playing

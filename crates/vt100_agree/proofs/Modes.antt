@@ -1,16 +1,14 @@
 -- Forms that set modes, and the cursor's style.
-use Rattle.std.proofs.Common.{◌≡◌, ℕ, ◌==◌, Bool, true, false, cond, not, ◌&&◌, List, [], ◌∷◌, refl, sym, ap, ◌∙◌}
-use Rattle.std.proofs.lemmas.Bool.{false≢true, eqb-true}
-use Rattle.vte_core.specs.Event.{Event}
+use Rattle.std.proofs.Common.{◌≡◌, ◌==◌, Bool, true, false, cond, not, ◌&&◌, [], ◌∷◌, refl, sym, ap, ◌∙◌}
+use Rattle.std.proofs.lemmas.Bool.{false≢true}
 use Rattle.vt100_forms.specs.declared.modes.MouseProtocolMode.{MouseProtocolMode}
 use Rattle.vt100_forms.specs.declared.modes.MouseProtocolMode.TheVariants as mouse
 use Rattle.vt100_forms.specs.declared.modes.MouseProtocolEncoding.{MouseProtocolEncoding}
 use Rattle.vt100_forms.specs.declared.modes.MouseProtocolEncoding.TheVariants as encoding
 use Rattle.vt100_forms.specs.declared.modes.CursorStyle.{CursorStyle}
 use Rattle.vt100_forms.specs.declared.modes.CursorStyle.TheVariants as style
-use Rattle.vt100_forms.specs.Form.{Form, HideCursor, Keypad, CursorKeys, Paste, Mouse, Encoding, Style, mouse_number}
+use Rattle.vt100_forms.specs.Form.{HideCursor, Keypad, CursorKeys, Paste, Mouse, Encoding, Style, mouse_number}
 use Rattle.vt100_forms.specs.Form.{encoding_number, style_number}
-use Rattle.vt100_picture.specs.Term.{Term}
 use Rattle.vt100_picture.specs.Apply.{switched, apply}
 use Rattle.vt100_read.specs.Events.{sequence, set_event, reset_event, mode_events, events_of}
 use Rattle.vt100_state.specs.State.{State}
@@ -19,7 +17,7 @@ use Rattle.vt100_state.specs.PrivateModes.{is_mouse, is_encoding, mouse_set, enc
 use Rattle.vt100_state.specs.Made.{played}
 use Rattle.vt100_agree.specs.Plain.{terminal_of, screen_of, IsPlainState}
 use Rattle.vt100_agree.specs.Laws.{Shows}
-use Rattle.vt100_agree.proofs.PlainStates.{shows-at, shows-same}
+use Rattle.vt100_agree.proofs.PlainStates.{shows-at}
 
 pub shows-HideCursor : (s : State) (b : Bool) → IsPlainState s
     → Shows s (apply (screen_of s) (HideCursor b) (terminal_of s)) (played (events_of (HideCursor b)) s)

@@ -1,13 +1,11 @@
 -- Plain states.
-use Rattle.std.proofs.Common.{◌≡◌, ℕ, ◌+◌, ◌-◌, ◌<◌, ◌≤◌, ◌==◌, Bool, true, false, not, ◌&&◌, refl, sym, ap, ◌∙◌, subst}
-use Rattle.std.proofs.Common.{arith}
-use Rattle.std.proofs.lemmas.Bool.{and_parts, and_from, eqb-true, eq-eqb}
+use Rattle.std.proofs.Common.{◌≡◌, ◌+◌, ◌==◌, Bool, true, false, not, refl, sym, ◌∙◌, subst}
+use Rattle.std.proofs.lemmas.Bool.{and_parts, eqb-true, eq-eqb}
 use Rattle.vt100_picture.specs.Term.{Term}
 use Rattle.vt100_core.specs.Grid.{GridView}
 use Rattle.vt100_core.proofs.InputLemmas.{IsDrawable}
 use Rattle.vt100_state.specs.State.{State, IsState, is_plain}
-use Rattle.vt100_state.specs.Step.{with_shown}
-use Rattle.vt100_agree.specs.Plain.{terminal_of, screen_of, IsPlainGrid, IsPlainState}
+use Rattle.vt100_agree.specs.Plain.{terminal_of, IsPlainGrid, IsPlainState}
 use Rattle.vt100_agree.specs.Laws.{Shows, EachPlainStateIsRead}
 
 not-true : (b : Bool) → not b ≡ true → b ≡ false
@@ -22,23 +20,25 @@ plain-of s i h =
     let three = and_parts (g.top == 0) _ two.1 in
     let four = and_parts ((g.bottom + 1) == g.height) _ three.1 in
     let five = and_parts (not g.origin) (not g.saved_origin) four.1 in
-    let k = i.shown in
-    (not-true s.alternate one.0, record {
-      sheet = k.sheet;
-      some = i.drawn;
-      few_rows = k.few_rows;
-      few_cols = k.few_cols;
-      some_cols = k.some_cols;
-      cursor_row = k.cursor_row;
-      cursor_col = k.cursor_col;
-      saved_row = k.saved_row;
-      saved_col = k.saved_col;
-      top = eqb-true g.top 0 three.0;
-      bottom = eqb-true (g.bottom + 1) g.height four.0;
-      origin = not-true g.origin five.0;
-      saved_origin = not-true g.saved_origin five.1;
-      offset = eqb-true g.kept.offset 0 two.0;
-    })
+    let k = i.shown in (
+      not-true s.alternate one.0,
+      record {
+        sheet = k.sheet;
+        some = i.drawn;
+        few_rows = k.few_rows;
+        few_cols = k.few_cols;
+        some_cols = k.some_cols;
+        cursor_row = k.cursor_row;
+        cursor_col = k.cursor_col;
+        saved_row = k.saved_row;
+        saved_col = k.saved_col;
+        top = eqb-true g.top 0 three.0;
+        bottom = eqb-true (g.bottom + 1) g.height four.0;
+        origin = not-true g.origin five.0;
+        saved_origin = not-true g.saved_origin five.1;
+        offset = eqb-true g.kept.offset 0 two.0;
+      },
+    )
 
 is_plain-of : (s : State) → IsPlainState s → is_plain s ≡ true
 is_plain-of s h =

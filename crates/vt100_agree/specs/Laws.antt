@@ -1,7 +1,6 @@
 -- What forms make of a terminal's state.
 use Rattle.std.specs.Prelude.{ℕ, ◌≡◌, true, List, [], ◌∷◌, ◌++◌}
 use Rattle.std.specs.List.{AllByRecursion}
-use Rattle.vte_core.specs.Event.{Event}
 use Rattle.vte_core.specs.Ground.{AtGround}
 use Rattle.vt100_forms.specs.Form.{Form, Text, spell}
 use Rattle.vt100_forms.specs.Length.{HasSmallNumbers}

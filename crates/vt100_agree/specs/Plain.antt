@@ -1,5 +1,5 @@
 -- The terminal that a state shows, and the states that read forms as they are meant.
-use Rattle.std.specs.Prelude.{ℕ, ◌+◌, ◌^◌, ◌<◌, ◌≤◌, ◌≡◌, false}
+use Rattle.std.specs.Prelude.{◌+◌, ◌^◌, ◌<◌, ◌≤◌, ◌≡◌, false}
 use Rattle.vt100_picture.specs.Term.{Size, Term}
 use Rattle.vt100_sheet.specs.Sheet.{IsSheet}
 use Rattle.vt100_core.specs.Grid.{GridView, IsAllocated}
