@@ -39,7 +39,8 @@ singles-join (m ∷ ms) ns gs = ap (λ rest. (kept_number m ∷ []) ∷ rest) (s
 
 -- the numbers change the attributes by f, whatever follows them
 abbrev IsReadBy : List ℕ → (Attrs → Attrs) → Type 0
-IsReadBy ns f = (gs : List (List ℕ)) (a : Attrs) → read_groups (singles ns ++ gs) nothing a ≡ read_groups gs nothing (f a)
+IsReadBy ns f = (gs : List (List ℕ)) (a : Attrs)
+    → read_groups (singles ns ++ gs) nothing a ≡ read_groups gs nothing (f a)
 
 read-both : (ms ns : List ℕ) (f k : Attrs → Attrs) → IsReadBy ms f → IsReadBy ns k
     → IsReadBy (ms ++ ns) (λ a. k (f a))
@@ -48,7 +49,8 @@ read-both ms ns f k h g gs a =
 
 -- ---- colours
 
-fore-next : (i : ℕ) (a : Attrs) → i < 8 → first_next (kept_number (30 + i) ∷ []) a ≡ goes_on nothing (coloured true (Idx i) a)
+fore-next : (i : ℕ) (a : Attrs) → i < 8
+    → first_next (kept_number (30 + i) ∷ []) a ≡ goes_on nothing (coloured true (Idx i) a)
 fore-next i a h =
     let kept : kept_number (30 + i) ≡ 30 + i = omega (arith, h) in
     let one : nat_eq (30 + i) 38 ≡ false = grind (arith, nat_tests) in
@@ -57,7 +59,8 @@ fore-next i a h =
     let back : 30 + i - 30 ≡ i = omega arith in
     ap (λ n. first_next (n ∷ []) a) kept ∙ rw (one, two, within, back) refl
 
-back-next : (i : ℕ) (a : Attrs) → i < 8 → first_next (kept_number (40 + i) ∷ []) a ≡ goes_on nothing (coloured false (Idx i) a)
+back-next : (i : ℕ) (a : Attrs) → i < 8
+    → first_next (kept_number (40 + i) ∷ []) a ≡ goes_on nothing (coloured false (Idx i) a)
 back-next i a h =
     let kept : kept_number (40 + i) ≡ 40 + i = omega (arith, h) in
     let one : nat_eq (40 + i) 38 ≡ false = grind (arith, nat_tests) in

@@ -89,7 +89,8 @@ shows-MoveTo s r c h =
     (ap (λ n. min n (s.shown.width - 1)) (sym col)))
     (λ _. shows-placed s (number_or 1 ((kept_number (r + 1) ∷ []) ∷ (kept_number (c + 1) ∷ []) ∷ []) - 1)
     (number_or 1 ((kept_number (c + 1) ∷ []) ∷ []) - 1) r c h
-    (read-place r s.shown.height ((kept_number (c + 1) ∷ []) ∷ []) k.few_rows) (read-place c s.shown.width [] k.few_cols))
+    (read-place r s.shown.height ((kept_number (c + 1) ∷ []) ∷ []) k.few_rows)
+    (read-place c s.shown.width [] k.few_cols))
 
 -- ---- to the right, and to the left
 

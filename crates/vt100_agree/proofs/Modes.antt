@@ -102,23 +102,26 @@ mouse-zero mouse.AnyMotion h = absurd (false≢true h)
 
 -- the mode that a form leads to
 mouse-played : (to from : MouseProtocolMode) (s : State)
-    → played (mode_events (mouse_number to) (mouse_number from)) s ≡ mouse_set (switched mouse_number to from s.modes.mouse) s
+    → played (mode_events (mouse_number to) (mouse_number from)) s
+    ≡ mouse_set (switched mouse_number to from s.modes.mouse) s
 mouse-played to from s =
+    let now = s.modes.mouse in
     (elim (mouse_number to == mouse_number from) as (λ b. (mouse_number to == mouse_number from) ≡ b
-    → played (cond b [] (cond (mouse_number to == 0) (reset_event (mouse_number from) ∷ []) (set_event (mouse_number to) ∷ []))) s
-    ≡ mouse_set (cond b s.modes.mouse (cond ((mouse_number to == 0) && not (mouse_number s.modes.mouse == mouse_number from))
-    s.modes.mouse to)) s) [
+    → played (cond b [] (cond (mouse_number to == 0) (reset_event (mouse_number from) ∷ [])
+    (set_event (mouse_number to) ∷ []))) s
+    ≡ mouse_set (cond b now (cond ((mouse_number to == 0) && not (mouse_number now == mouse_number from)) now to)) s) [
       | true ↦ λ _. refl
       | false ↦ λ e.
           (elim (mouse_number to == 0) as (λ z. (mouse_number to == 0) ≡ z
           → played (cond z (reset_event (mouse_number from) ∷ []) (set_event (mouse_number to) ∷ [])) s
-          ≡ mouse_set (cond (z && not (mouse_number s.modes.mouse == mouse_number from)) s.modes.mouse to) s) [
+          ≡ mouse_set (cond (z && not (mouse_number now == mouse_number from)) now to) s) [
             | true ↦ λ z.
                 let is : to ≡ mouse.None = mouse-zero to z in
-                mouse-reset_is from s (ap (λ (m : MouseProtocolMode). mouse_number m == mouse_number from) (sym is) ∙ e)
-                ∙ mouse-kept (is_mouse s.modes.mouse from) s
-                ∙ ap (λ b. mouse_set (cond (not b) s.modes.mouse mouse.None) s) (is_mouse-number s.modes.mouse from)
-                ∙ ap (λ m. mouse_set (cond (not (mouse_number s.modes.mouse == mouse_number from)) s.modes.mouse m) s) (sym is)
+                mouse-reset_is from s (ap (λ (m : MouseProtocolMode). mouse_number m == mouse_number from)
+                (sym is) ∙ e)
+                ∙ mouse-kept (is_mouse now from) s
+                ∙ ap (λ b. mouse_set (cond (not b) now mouse.None) s) (is_mouse-number now from)
+                ∙ ap (λ m. mouse_set (cond (not (mouse_number now == mouse_number from)) now m) s) (sym is)
             | false ↦ λ z. mouse-set_is to s z
           ]) refl
     ]) refl
@@ -167,23 +170,27 @@ encoding-zero encoding.Sgr h = absurd (false≢true h)
 
 -- the mode that a form leads to
 encoding-played : (to from : MouseProtocolEncoding) (s : State)
-    → played (mode_events (encoding_number to) (encoding_number from)) s ≡ encoding_set (switched encoding_number to from s.modes.encoding) s
+    → played (mode_events (encoding_number to) (encoding_number from)) s
+    ≡ encoding_set (switched encoding_number to from s.modes.encoding) s
 encoding-played to from s =
+    let now = s.modes.encoding in
     (elim (encoding_number to == encoding_number from) as (λ b. (encoding_number to == encoding_number from) ≡ b
-    → played (cond b [] (cond (encoding_number to == 0) (reset_event (encoding_number from) ∷ []) (set_event (encoding_number to) ∷ []))) s
-    ≡ encoding_set (cond b s.modes.encoding (cond ((encoding_number to == 0) && not (encoding_number s.modes.encoding == encoding_number from))
-    s.modes.encoding to)) s) [
+    → played (cond b [] (cond (encoding_number to == 0) (reset_event (encoding_number from) ∷ [])
+    (set_event (encoding_number to) ∷ []))) s
+    ≡ encoding_set (cond b now (cond ((encoding_number to == 0) && not (encoding_number now == encoding_number from))
+    now to)) s) [
       | true ↦ λ _. refl
       | false ↦ λ e.
           (elim (encoding_number to == 0) as (λ z. (encoding_number to == 0) ≡ z
           → played (cond z (reset_event (encoding_number from) ∷ []) (set_event (encoding_number to) ∷ [])) s
-          ≡ encoding_set (cond (z && not (encoding_number s.modes.encoding == encoding_number from)) s.modes.encoding to) s) [
+          ≡ encoding_set (cond (z && not (encoding_number now == encoding_number from)) now to) s) [
             | true ↦ λ z.
                 let is : to ≡ encoding.Default = encoding-zero to z in
-                encoding-reset_is from s (ap (λ (m : MouseProtocolEncoding). encoding_number m == encoding_number from) (sym is) ∙ e)
-                ∙ encoding-kept (is_encoding s.modes.encoding from) s
-                ∙ ap (λ b. encoding_set (cond (not b) s.modes.encoding encoding.Default) s) (is_encoding-number s.modes.encoding from)
-                ∙ ap (λ m. encoding_set (cond (not (encoding_number s.modes.encoding == encoding_number from)) s.modes.encoding m) s) (sym is)
+                encoding-reset_is from s (ap (λ (m : MouseProtocolEncoding). encoding_number m == encoding_number from)
+                (sym is) ∙ e)
+                ∙ encoding-kept (is_encoding now from) s
+                ∙ ap (λ b. encoding_set (cond (not b) now encoding.Default) s) (is_encoding-number now from)
+                ∙ ap (λ m. encoding_set (cond (not (encoding_number now == encoding_number from)) now m) s) (sym is)
             | false ↦ λ z. encoding-set_is to s z
           ]) refl
     ]) refl
@@ -199,7 +206,8 @@ shows-Encoding s to from h =
 
 -- ---- the cursor's style
 
-style-is : (m : CursorStyle) (s : State) → played (sequence (0x20 ∷ []) (style_number m ∷ []) 0x71 ∷ []) s ≡ with_style m s
+style-is : (m : CursorStyle) (s : State)
+    → played (sequence (0x20 ∷ []) (style_number m ∷ []) 0x71 ∷ []) s ≡ with_style m s
 style-is style.Default s = refl
 style-is style.BlinkBlock s = refl
 style-is style.SteadyBlock s = refl

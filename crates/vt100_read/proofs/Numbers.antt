@@ -77,7 +77,8 @@ further-numeric (n ∷ ns) h = (
       (further-numeric ns h.1),
 )
 
-spelled-numeric : (n : ℕ) (ns : List ℕ) → n < 2 ^ 64 → AreSmall ns → AllByRecursion (λ b. is_numeric b ≡ true) (spelled n ns)
+spelled-numeric : (n : ℕ) (ns : List ℕ) → n < 2 ^ 64 → AreSmall ns
+    → AllByRecursion (λ b. is_numeric b ≡ true) (spelled n ns)
 spelled-numeric n ns h k = numeric-append (decimal n) (further_numbers ns) (digits-numeric (decimal n) (digits-of n h))
     (further-numeric ns k)
 
@@ -154,7 +155,9 @@ singles-first zero (n ∷ ns) h = absurd (omega (arith, h))
 singles-first (suc k) [] h = refl
 singles-first (suc k) (n ∷ ns) h =
     let less : suc k - 1 ≡ k = omega arith in
-    λ i. (kept_number n ∷ take-none k i) ∷ (ap (λ j. first_numbers j (singles ns)) less ∙ singles-first k ns (omega (arith, h))) i
+    let others : first_numbers (suc k - 1) (singles ns) ≡ singles ns =
+    ap (λ j. first_numbers j (singles ns)) less ∙ singles-first k ns (omega (arith, h)) in
+    λ i. (kept_number n ∷ take-none k i) ∷ others i
 
 singles-length : (ns : List ℕ) → length (concat (singles ns)) ≡ length ns
 singles-length [] = refl
@@ -163,7 +166,8 @@ singles-length (n ∷ ns) = ap suc (singles-length ns)
 spelled-overflow : (n : ℕ) (ns : List ℕ) → n < 2 ^ 64 → AreSmall ns → length (n ∷ ns) ≤ 32
     → overflows (spelled n ns) ≡ false
 spelled-overflow n ns h k l =
-    ap (λ gs. nat_lt 32 (length (concat gs)) || nat_lt 2 (length (intermediates (spelled n ns)))) (spelled-groups n ns h k)
+    ap (λ gs. nat_lt 32 (length (concat gs)) || nat_lt 2 (length (intermediates (spelled n ns))))
+    (spelled-groups n ns h k)
     ∙ ap (λ is. nat_lt 32 (length (concat (singles (n ∷ ns)))) || nat_lt 2 (length is))
     (numeric-between (spelled n ns) (spelled-numeric n ns h k))
     ∙ ap (λ j. nat_lt 32 j || false) (singles-length (n ∷ ns))

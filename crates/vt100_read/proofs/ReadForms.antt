@@ -143,8 +143,10 @@ few-color base (Idx i) b h =
     cond_both (nat_lt i 8) _ _ (AreFew 5) (λ _. ((omega (arith, b, h), tt), omega arith))
     (λ _. cond_both (nat_lt i 16) _ _ (AreFew 5) (λ _. ((omega (arith, b, h), tt), omega arith))
     (λ _. ((omega (arith, b), (omega arith, (omega (arith, h), tt))), omega arith)))
-few-color base (Rgb r g b') b h =
-    ((omega (arith, b), (omega arith, (omega (arith, h.0), (omega (arith, h.1), (omega (arith, h.2), tt))))), omega arith)
+few-color base (Rgb r g b') b h = (
+  (omega (arith, b), (omega arith, (omega (arith, h.0), (omega (arith, h.1), (omega (arith, h.2), tt))))),
+  omega arith,
+)
 
 few-color_part : (base : ℕ) (o : Option Color) → base ≤ 40 → IsByteOption o → AreFew 5 (color_part base o)
 few-color_part base None b h = (tt, omega arith)
@@ -254,7 +256,8 @@ form-read k (Keypad false) h = read-escape k 62 refl refl
 form-read k (CursorKeys true) h = read-header k (codes "?1") 104 _ ((refl, (refl, tt)), refl) refl
 form-read k (CursorKeys false) h = read-header k (codes "?1") 108 _ ((refl, (refl, tt)), refl) refl
 form-read k (Paste true) h = read-header k (codes "?2004") 104 _ ((refl, (refl, (refl, (refl, (refl, tt))))), refl) refl
-form-read k (Paste false) h = read-header k (codes "?2004") 108 _ ((refl, (refl, (refl, (refl, (refl, tt))))), refl) refl
+form-read k (Paste false) h =
+    read-header k (codes "?2004") 108 _ ((refl, (refl, (refl, (refl, (refl, tt))))), refl) refl
 form-read k (Mouse to from) h = read-mode_change k _ _ (mouse-small to) (mouse-small from)
 form-read k (Encoding to from) h = read-mode_change k _ _ (encoding-small to) (encoding-small from)
 form-read k (Style to from) h =
