@@ -16,6 +16,7 @@ use Rattle.vt100_sheet.proofs.MoveLemmas.{IsSheet-moved_up}
 use Rattle.vt100_sheet.proofs.PictureLemmas.{lines-up, wraps-up}
 use Rattle.vt100_core.specs.Grid.{KeptPart, GridView, is_in_region}
 use Rattle.vt100_core.specs.Cursor.{moved_rows_down}
+use Rattle.vt100_core.specs.Picture.{size_of}
 use Rattle.vt100_core.specs.Scroll.{Scrolled, kept_after, widened, is_kept_from, left_rows, scrolled_up, fed}
 use Rattle.vt100_core.specs.Scroll.{rows_past_bottom}
 use Rattle.vt100_core.proofs.InputLemmas.{IsDrawable}
@@ -31,13 +32,14 @@ use Rattle.vt100_agree.proofs.Erasures.{plain-rows}
 
 -- ---- what scrolling leaves aside
 
--- h has the saved cursor and the modes of g, and shows no kept row where g shows none
+-- h is as large as g, has its saved cursor and modes, and shows no kept row where g shows none
 pub record IsAside (g h : GridView) : Type 0 where
   pub saved_row : h.saved_row ≡ g.saved_row
   pub saved_col : h.saved_col ≡ g.saved_col
   pub origin : h.origin ≡ g.origin
   pub saved_origin : h.saved_origin ≡ g.saved_origin
   pub offset : g.kept.offset ≡ 0 → h.kept.offset ≡ 0
+  pub size : size_of h ≡ size_of g
 
 pub aside-both : (g h k : GridView) → IsAside g h → IsAside h k → IsAside g k
 aside-both g h k a b = record {
@@ -46,6 +48,7 @@ aside-both g h k a b = record {
   origin = b.origin ∙ a.origin;
   saved_origin = b.saved_origin ∙ a.saved_origin;
   offset = λ e. b.offset (a.offset e);
+  size = b.size ∙ a.size;
 }
 
 offset-kept : (g : GridView) (left : List RowView) (b : Bool) → g.kept.offset ≡ 0
@@ -61,6 +64,7 @@ aside-scrolled g n = record {
   origin = refl;
   saved_origin = refl;
   offset = offset-kept g (left_rows g n) (is_kept_from g);
+  size = refl;
 }
 
 aside-down : (g : GridView) (n : ℕ) → IsAside g (moved_rows_down g n)
@@ -70,6 +74,7 @@ aside-down g n = record {
   origin = refl;
   saved_origin = refl;
   offset = λ e. e;
+  size = refl;
 }
 
 pub aside-fed : (g : GridView) (n : ℕ) → IsAside g (fed g n).grid
@@ -175,7 +180,7 @@ shows-kept s k h g t e o n =
     (sym e) n in
     record { shows = bare.shows; size = bare.size; plain = (bare.plain.0, plain-kept k h bare.plain.1 o) }
 
-shows-fed : (s : State) → IsPlainState s
+pub shows-fed : (s : State) → IsPlainState s
     → Shows s (down (screen_of s) (terminal_of s)) (with_shown s (fed s.shown 1).grid)
 shows-fed s h =
     let g = s.shown in

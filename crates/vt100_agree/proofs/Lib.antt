@@ -6,3 +6,5 @@ pub mod Erasures
 pub mod Feeds
 pub mod Texts
 pub mod Playing
+pub mod SentTexts
+pub mod SentPlaying

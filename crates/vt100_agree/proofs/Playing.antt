@@ -48,7 +48,7 @@ form-played s (Encoding to from) h f = shows-Encoding s to from h
 form-played s (Style to from) h f = shows-Style s to from h
 form-played s (Sgr c) h f = shows-Sgr s c h f.1.0 f.1.1
 
-played-joined : (es gs : List Event) (s : State) → played (es ++ gs) s ≡ played gs (played es s)
+pub played-joined : (es gs : List Event) (s : State) → played (es ++ gs) s ≡ played gs (played es s)
 played-joined [] gs s = refl
 played-joined (e ∷ es) gs s = played-joined es gs (effect e s).state
 

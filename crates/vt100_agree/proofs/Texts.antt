@@ -42,22 +42,23 @@ use Rattle.vt100_agree.proofs.Feeds.{IsAside, aside-both, aside-fed}
 
 -- ---- what wrapping leaves aside
 
-aside-same : (g : GridView) → IsAside g g
-aside-same g = record { saved_row = refl; saved_col = refl; origin = refl; saved_origin = refl; offset = λ e. e }
+pub aside-same : (g : GridView) → IsAside g g
+aside-same g = record { saved_row = refl; saved_col = refl; origin = refl; saved_origin = refl; offset = λ e. e; size = refl }
 
-aside-row : (g h : GridView) (r : ℕ) (v : RowView) → IsAside g h → IsAside g (with_row h r v)
+pub aside-row : (g h : GridView) (r : ℕ) (v : RowView) → IsAside g h → IsAside g (with_row h r v)
 aside-row g h r v a = record {
   saved_row = a.saved_row;
   saved_col = a.saved_col;
   origin = a.origin;
   saved_origin = a.saved_origin;
   offset = a.offset;
+  size = a.size;
 }
 
-aside-first : (g : GridView) → IsAside g (record g { col = 0 })
-aside-first g = record { saved_row = refl; saved_col = refl; origin = refl; saved_origin = refl; offset = λ e. e }
+pub aside-first : (g : GridView) → IsAside g (record g { col = 0 })
+aside-first g = record { saved_row = refl; saved_col = refl; origin = refl; saved_origin = refl; offset = λ e. e; size = refl }
 
-aside-wrapped : (g : GridView) (wrap : Bool) → IsAside g (wrapped_on g wrap).grid
+pub aside-wrapped : (g : GridView) (wrap : Bool) → IsAside g (wrapped_on g wrap).grid
 unfolding wrapped_on
 aside-wrapped g wrap =
     let g0 = record g { col = 0 } in
@@ -65,12 +66,12 @@ aside-wrapped g wrap =
     let a = aside-both g g0 h (aside-first g) (aside-fed g0 1) in
     cond_both ((g.row == g.bottom) && (g.row == 0)) h _ (IsAside g) (λ _. a) (λ _. aside-row g h (left_row g) _ a)
 
-aside-made : (g : GridView) (n : ℕ) → IsAside g (made_to_fit g n true).grid
+pub aside-made : (g : GridView) (n : ℕ) → IsAside g (made_to_fit g n true).grid
 aside-made g n =
     cond_both (nat_le (g.col + n) g.width) (record { grid = g; sunk = [] }) (wrapped_on g true)
     (λ (x : Scrolled). IsAside g x.grid) (λ _. aside-same g) (λ _. aside-wrapped g true)
 
-plain-made : (g : GridView) (x : Extras) (n : ℕ) → IsPlainGrid g → IsPlainGrid (made_to_fit g n true).grid
+pub plain-made : (g : GridView) (x : Extras) (n : ℕ) → IsPlainGrid g → IsPlainGrid (made_to_fit g n true).grid
 plain-made g x n p =
     let next = IsNext-made g x n (drawable g p) in
     let d = next.drawable in
@@ -94,7 +95,7 @@ plain-made g x n p =
       offset = a.offset p.offset;
     }
 
-plain-put : (g : GridView) (x : CellView) (a : Attrs) (n : ℕ) → IsPlainGrid g → IsCell x → has_text x ≡ true
+pub plain-put : (g : GridView) (x : CellView) (a : Attrs) (n : ℕ) → IsPlainGrid g → IsCell x → has_text x ≡ true
     → n ≡ span_of x → g.col + n ≤ g.width → IsPlainGrid (put_at g x a n)
 plain-put g x a n p cell text e l =
     let v = row_of_cursor g in

@@ -4,7 +4,7 @@ use Rattle.std.specs.List.{AllByRecursion}
 use Rattle.vte_core.specs.Ground.{AtGround}
 use Rattle.vt100_forms.specs.Form.{Form, Text, spell}
 use Rattle.vt100_forms.specs.Length.{HasSmallNumbers}
-use Rattle.vt100_picture.specs.FormText.{IsFormText}
+use Rattle.vt100_picture.specs.FormText.{IsSentText, IsFormText}
 use Rattle.vt100_picture.specs.Term.{Term}
 use Rattle.vt100_picture.specs.Apply.{apply, run}
 use Rattle.vt100_read.specs.Events.{events_of, events_of_all}
@@ -43,4 +43,31 @@ abbrev pub EachSpellingIsMade : Type 0
 EachSpellingIsMade = (past : List ℕ) (s : State) (fs : List Form) → AtGround 1024 past → IsPlainState s
     → AllByRecursion IsForm fs
     → Shows s (run (screen_of s) fs (terminal_of s)) (made_on past s (Fed (spell fs) ∷ []))
+    × AtGround 1024 (past ++ spell fs)
+
+-- ---- with U+FE0F
+
+abbrev pub HasSentText : Form → Type 0
+HasSentText (Text cs) = IsSentText cs
+HasSentText _ = Unit {0}
+
+-- the same as a form, but that its text may hold U+FE0F, by which a state may make a cell wide
+abbrev pub IsSentForm : Form → Type 0
+IsSentForm f = HasSentText f × HasSmallNumbers f
+
+-- u is a plain state, as large as s, that has the modes and the style of t
+pub record HasModes (s : State) (t : Term) (u : State) : Type 0 where
+  pub modes : u.modes ≡ t.modes
+  pub style : u.style ≡ t.style
+  pub size : screen_of u ≡ screen_of s
+  pub plain : IsPlainState u
+
+abbrev pub EachSentListIsPlayed : Type 0
+EachSentListIsPlayed = (s : State) (fs : List Form) → IsPlainState s → AllByRecursion IsSentForm fs
+    → HasModes s (run (screen_of s) fs (terminal_of s)) (played (events_of_all fs) s)
+
+abbrev pub EachSentSpellingIsMade : Type 0
+EachSentSpellingIsMade = (past : List ℕ) (s : State) (fs : List Form) → AtGround 1024 past → IsPlainState s
+    → AllByRecursion IsSentForm fs
+    → HasModes s (run (screen_of s) fs (terminal_of s)) (made_on past s (Fed (spell fs) ∷ []))
     × AtGround 1024 (past ++ spell fs)

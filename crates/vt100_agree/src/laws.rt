@@ -1,5 +1,6 @@
 //! Facts about forms and states. Each function does nothing: its contract is the fact.
 ghost use Rattle.vt100_agree.specs.Laws.{EachFormIsPlayed, EachListIsPlayed, EachSpellingIsMade, EachPlainStateIsRead};
+ghost use Rattle.vt100_agree.specs.Laws.{EachSentListIsPlayed, EachSentSpellingIsMade};
 
 /// A state of a terminal that is plain can be read as forms mean it, and one that can is plain.
 pub fn plain_states_are_read()
@@ -21,4 +22,15 @@ pub fn lists_are_played()
 /// again then.
 pub fn spellings_are_made()
     ensures { EachSpellingIsMade }
+{}
+
+/// Where texts of the forms hold U+FE0F, by which a state may make a cell wide, the state is still plain and as large as
+/// before, and has the modes and the cursor's style that the forms say.
+pub fn sent_lists_are_played()
+    ensures { EachSentListIsPlayed }
+{}
+
+/// The same of the bytes of such a list.
+pub fn sent_spellings_are_made()
+    ensures { EachSentSpellingIsMade }
 {}
