@@ -8,9 +8,9 @@ use Rattle.vt100_forms.specs.Form.{Crlf, Lf, Backspace, SaveCursor, RestoreCurso
 use Rattle.vt100_forms.specs.Form.{Paste, Mouse, Encoding, Style, Sgr, spell}
 use Rattle.vt100_picture.specs.Apply.{apply, run}
 use Rattle.vt100_read.specs.Events.{events_of, events_of_all}
-use Rattle.vt100_read.specs.Laws.{IsReadable}
+use Rattle.vt100_read.specs.Laws.{IsSentForm}
 use Rattle.vt100_read.proofs.ReadForms.{list-read}
-use Rattle.vt100_read.proofs.SentTexts.{sent-printed}
+use Rattle.vt100_read.proofs.SentTexts.{forms-readable}
 use Rattle.vt100_state.specs.State.{State}
 use Rattle.vt100_state.specs.Effect.{effect}
 use Rattle.vt100_state.specs.Made.{played, events_added}
@@ -64,36 +64,36 @@ list-played s (x ∷ fs) h f =
     (sym (λ i. run (one.size i) fs (one.shows i)))
     (shows-then s u v (apply (screen_of s) x (terminal_of s)) w one (list-played u fs one.plain f.1))
 
-form-readable : (f : Form) → IsForm f → IsReadable f
-form-readable (Text cs) h = (sent-printed cs h.0.sent, h.1)
-form-readable (MoveTo r c) h = h
-form-readable (MoveRight n) h = h
-form-readable (EraseChar n) h = h
-form-readable ClearRowForward h = h
-form-readable ClearScreen h = h
-form-readable ClearAttrs h = h
-form-readable Crlf h = h
-form-readable Lf h = h
-form-readable Backspace h = h
-form-readable SaveCursor h = h
-form-readable RestoreCursor h = h
-form-readable (HideCursor b) h = h
-form-readable (Keypad b) h = h
-form-readable (CursorKeys b) h = h
-form-readable (Paste b) h = h
-form-readable (Mouse to from) h = h
-form-readable (Encoding to from) h = h
-form-readable (Style to from) h = h
-form-readable (Sgr c) h = h
+form-sent : (f : Form) → IsForm f → IsSentForm f
+form-sent (Text cs) h = (h.0.sent, h.1)
+form-sent (MoveTo r c) h = h
+form-sent (MoveRight n) h = h
+form-sent (EraseChar n) h = h
+form-sent ClearRowForward h = h
+form-sent ClearScreen h = h
+form-sent ClearAttrs h = h
+form-sent Crlf h = h
+form-sent Lf h = h
+form-sent Backspace h = h
+form-sent SaveCursor h = h
+form-sent RestoreCursor h = h
+form-sent (HideCursor b) h = h
+form-sent (Keypad b) h = h
+form-sent (CursorKeys b) h = h
+form-sent (Paste b) h = h
+form-sent (Mouse to from) h = h
+form-sent (Encoding to from) h = h
+form-sent (Style to from) h = h
+form-sent (Sgr c) h = h
 
-forms-readable : (fs : List Form) → AllByRecursion IsForm fs → AllByRecursion IsReadable fs
-forms-readable [] h = tt
-forms-readable (f ∷ fs) h = (form-readable f h.0, forms-readable fs h.1)
+forms-sent : (fs : List Form) → AllByRecursion IsForm fs → AllByRecursion IsSentForm fs
+forms-sent [] h = tt
+forms-sent (f ∷ fs) h = (form-sent f h.0, forms-sent fs h.1)
 
 pub spelling-made : EachSpellingIsMade
 unfolding added
 spelling-made past s fs g h f =
-    let r = list-read 1024 past fs g (forms-readable fs f) in
+    let r = list-read 1024 past fs g (forms-readable fs (forms-sent fs f)) in
     let t = run (screen_of s) fs (terminal_of s) in (
       shows-at s (played (events_added past (spell fs)) s) (played (events_of_all fs) s) t t
           (ap (λ es. played es s) r.0) refl (list-played s fs h f),

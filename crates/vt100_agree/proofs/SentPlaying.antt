@@ -17,11 +17,12 @@ use Rattle.vt100_picture.specs.Apply.{switched, apply, run}
 use Rattle.vt100_read.specs.Events.{events_of, events_of_all}
 use Rattle.vt100_read.specs.Laws.{IsReadable}
 use Rattle.vt100_read.proofs.ReadForms.{list-read}
-use Rattle.vt100_read.proofs.SentTexts.{sent-printed}
+use Rattle.vt100_read.specs.Laws.{IsSentForm}
+use Rattle.vt100_read.proofs.SentTexts.{forms-readable}
 use Rattle.vt100_state.specs.State.{State}
 use Rattle.vt100_state.specs.Made.{played}
 use Rattle.vt100_agree.specs.Plain.{terminal_of, screen_of, IsPlainState}
-use Rattle.vt100_agree.specs.Laws.{Shows, IsSentForm, HasModes, EachSentListIsPlayed, EachSentSpellingIsMade}
+use Rattle.vt100_agree.specs.Laws.{Shows, HasModes, EachSentListIsPlayed, EachSentSpellingIsMade}
 use Rattle.vt100_agree.proofs.Playing.{form-played, played-joined}
 use Rattle.vt100_agree.proofs.SentTexts.{like-text}
 
@@ -185,32 +186,6 @@ sent-list-played s (x ∷ fs) h f =
       size = rest.size ∙ one.size;
       plain = rest.plain;
     })
-
-form-readable : (f : Form) → IsSentForm f → IsReadable f
-form-readable (Text cs) h = (sent-printed cs h.0, h.1)
-form-readable (MoveTo r c) h = h
-form-readable (MoveRight n) h = h
-form-readable (EraseChar n) h = h
-form-readable ClearRowForward h = h
-form-readable ClearScreen h = h
-form-readable ClearAttrs h = h
-form-readable Crlf h = h
-form-readable Lf h = h
-form-readable Backspace h = h
-form-readable SaveCursor h = h
-form-readable RestoreCursor h = h
-form-readable (HideCursor b) h = h
-form-readable (Keypad b) h = h
-form-readable (CursorKeys b) h = h
-form-readable (Paste b) h = h
-form-readable (Mouse to from) h = h
-form-readable (Encoding to from) h = h
-form-readable (Style to from) h = h
-form-readable (Sgr c) h = h
-
-forms-readable : (fs : List Form) → AllByRecursion IsSentForm fs → AllByRecursion IsReadable fs
-forms-readable [] h = tt
-forms-readable (f ∷ fs) h = (form-readable f h.0, forms-readable fs h.1)
 
 pub sent-spelling-made : EachSentSpellingIsMade
 unfolding added

@@ -106,7 +106,8 @@ plain-carried g c a p s z l e =
 
 plain-widened : (g : GridView) (c : ℕ) (a : Attrs) → IsPlainGrid g → IsScalar c → drawn_columns c ≡ Some 0 → 0 < g.col
     → g.col < g.width → is_widening (row_of_cursor g) g.col c ≡ true
-    → IsPlainGrid (record (with_cursor_row g (placed (row_of_cursor g) (g.col - 1) (joined_cell (row_of_cursor g) g.col c)
+    → IsPlainGrid (record (with_cursor_row g (placed (row_of_cursor g) (g.col - 1)
+    (joined_cell (row_of_cursor g) g.col c)
     a)) { col = g.col + 1 })
 plain-widened g c a p s z some l e =
     let v = row_of_cursor g in
@@ -253,7 +254,8 @@ like-same s h = record { modes = refl; style = refl; size = refl; plain = h }
 like-typed : (s : State) (c : ℕ) → IsPlainState s → IsScalar c → IsLike s (effect (Print c) s).state
 like-typed s c h scalar =
     let one = sound-printed s.shown c (extras_of s) h.1 scalar in
-    cond_both (is_unhandled c) (calling (unhandled_char c ∷ []) s) (steps (typed c s)) (λ (e : Effect). IsLike s e.state)
+    cond_both (is_unhandled c) (calling (unhandled_char c ∷ []) s) (steps (typed c s))
+    (λ (e : Effect). IsLike s e.state)
     (λ _. like-same s h)
     (λ _. record { modes = refl; style = refl; size = one.size; plain = (h.0, one.plain) })
 

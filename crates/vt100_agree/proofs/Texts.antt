@@ -43,7 +43,14 @@ use Rattle.vt100_agree.proofs.Feeds.{IsAside, aside-both, aside-fed}
 -- ---- what wrapping leaves aside
 
 pub aside-same : (g : GridView) → IsAside g g
-aside-same g = record { saved_row = refl; saved_col = refl; origin = refl; saved_origin = refl; offset = λ e. e; size = refl }
+aside-same g = record {
+  saved_row = refl;
+  saved_col = refl;
+  origin = refl;
+  saved_origin = refl;
+  offset = λ e. e;
+  size = refl;
+}
 
 pub aside-row : (g h : GridView) (r : ℕ) (v : RowView) → IsAside g h → IsAside g (with_row h r v)
 aside-row g h r v a = record {
@@ -56,7 +63,14 @@ aside-row g h r v a = record {
 }
 
 pub aside-first : (g : GridView) → IsAside g (record g { col = 0 })
-aside-first g = record { saved_row = refl; saved_col = refl; origin = refl; saved_origin = refl; offset = λ e. e; size = refl }
+aside-first g = record {
+  saved_row = refl;
+  saved_col = refl;
+  origin = refl;
+  saved_origin = refl;
+  offset = λ e. e;
+  size = refl;
+}
 
 pub aside-wrapped : (g : GridView) (wrap : Bool) → IsAside g (wrapped_on g wrap).grid
 unfolding wrapped_on

@@ -4,10 +4,11 @@ use Rattle.std.specs.List.{AllByRecursion}
 use Rattle.vte_core.specs.Ground.{AtGround}
 use Rattle.vt100_forms.specs.Form.{Form, Text, spell}
 use Rattle.vt100_forms.specs.Length.{HasSmallNumbers}
-use Rattle.vt100_picture.specs.FormText.{IsSentText, IsFormText}
+use Rattle.vt100_picture.specs.FormText.{IsFormText}
 use Rattle.vt100_picture.specs.Term.{Term}
 use Rattle.vt100_picture.specs.Apply.{apply, run}
 use Rattle.vt100_read.specs.Events.{events_of, events_of_all}
+use Rattle.vt100_read.specs.Laws.{IsSentForm}
 use Rattle.vt100_state.specs.State.{State, IsState, is_plain}
 use Rattle.vt100_state.specs.Made.{Fed, played, made_on}
 use Rattle.vt100_agree.specs.Plain.{terminal_of, screen_of, IsPlainState}
@@ -45,15 +46,7 @@ EachSpellingIsMade = (past : List ℕ) (s : State) (fs : List Form) → AtGround
     → Shows s (run (screen_of s) fs (terminal_of s)) (made_on past s (Fed (spell fs) ∷ []))
     × AtGround 1024 (past ++ spell fs)
 
--- ---- with U+FE0F
-
-abbrev pub HasSentText : Form → Type 0
-HasSentText (Text cs) = IsSentText cs
-HasSentText _ = Unit {0}
-
--- the same as a form, but that its text may hold U+FE0F, by which a state may make a cell wide
-abbrev pub IsSentForm : Form → Type 0
-IsSentForm f = HasSentText f × HasSmallNumbers f
+-- ---- texts with U+FE0F, by which a state may make a cell wide
 
 -- u is a plain state, as large as s, that has the modes and the style of t
 pub record HasModes (s : State) (t : Term) (u : State) : Type 0 where

@@ -24,8 +24,8 @@ pub fn spellings_are_made()
     ensures { EachSpellingIsMade }
 {}
 
-/// Where texts of the forms hold U+FE0F, by which a state may make a cell wide, the state is still plain and as large as
-/// before, and has the modes and the cursor's style that the forms say.
+/// Where texts of the forms hold U+FE0F, by which a state may make a cell wide, the state is still plain and as large
+/// as before, and has the modes and the cursor's style that the forms say.
 pub fn sent_lists_are_played()
     ensures { EachSentListIsPlayed }
 {}

@@ -9,7 +9,10 @@ use Rattle.std.proofs.lemmas.Bool.{false≢true}
 use Rattle.std.proofs.lemmas.Bool.Decides.{nat_tests}
 use Rattle.unicode_width.specs.Width.{char_width}
 use Rattle.vt100_cells.specs.Cell.{columns_of, is_undrawable, IsCellText}
-use Rattle.vt100_read.specs.Laws.{IsPrinted, EachSentTextIsPrinted}
+use Rattle.vt100_forms.specs.Form.{Form, Text, MoveTo, MoveRight, EraseChar, ClearRowForward, ClearScreen, ClearAttrs}
+use Rattle.vt100_forms.specs.Form.{Crlf, Lf, Backspace, SaveCursor, RestoreCursor, HideCursor, Keypad, CursorKeys}
+use Rattle.vt100_forms.specs.Form.{Paste, Mouse, Encoding, Style, Sgr}
+use Rattle.vt100_read.specs.Laws.{IsPrinted, IsReadable, IsSentForm, EachSentTextIsPrinted, EachSentFormIsReadable}
 
 control_width : (c : ℕ) → (nat_lt c 0x20 || is_in_range 0x80 0x9F c) ≡ true → char_width false c ≡ None
 unfolding char_width
@@ -50,3 +53,29 @@ cell_printed (c ∷ cs) h s = (
 
 pub sent-printed : EachSentTextIsPrinted
 sent-printed cs h = cell_printed cs h.characters h.scalars
+
+pub form-readable : EachSentFormIsReadable
+form-readable (Text cs) h = (sent-printed cs h.0, h.1)
+form-readable (MoveTo r c) h = h
+form-readable (MoveRight n) h = h
+form-readable (EraseChar n) h = h
+form-readable ClearRowForward h = h
+form-readable ClearScreen h = h
+form-readable ClearAttrs h = h
+form-readable Crlf h = h
+form-readable Lf h = h
+form-readable Backspace h = h
+form-readable SaveCursor h = h
+form-readable RestoreCursor h = h
+form-readable (HideCursor b) h = h
+form-readable (Keypad b) h = h
+form-readable (CursorKeys b) h = h
+form-readable (Paste b) h = h
+form-readable (Mouse to from) h = h
+form-readable (Encoding to from) h = h
+form-readable (Style to from) h = h
+form-readable (Sgr c) h = h
+
+pub forms-readable : (fs : List Form) → AllByRecursion IsSentForm fs → AllByRecursion IsReadable fs
+forms-readable [] h = tt
+forms-readable (f ∷ fs) h = (form-readable f h.0, forms-readable fs h.1)

@@ -24,6 +24,18 @@ HasPrintedText _ = Unit {0}
 abbrev pub IsReadable : Form → Type 0
 IsReadable f = HasPrintedText f × HasSmallNumbers f
 
+-- ---- what writers send
+
+abbrev pub HasSentText : Form → Type 0
+HasSentText (Text cs) = IsSentText cs
+HasSentText _ = Unit {0}
+
+-- its text is one that a cell can show, and its numbers are of the code's types
+abbrev pub IsSentForm : Form → Type 0
+IsSentForm f = HasSentText f × HasSmallNumbers f
+
+-- ---- what a parser makes of it
+
 -- a parser that keeps n bytes of an operating system command reads these bytes as these events, and is at ground then
 abbrev pub IsReadAs : ℕ → List ℕ → List Event → Type 0
 IsReadAs n bytes es = (events n bytes ≡ es) × AtGround n bytes
@@ -39,3 +51,7 @@ EachListIsRead = (n : ℕ) (past : List ℕ) (fs : List Form) → AtGround n pas
 -- what writers send as the text of a cell, U+FE0F included, is printed
 abbrev pub EachSentTextIsPrinted : Type 0
 EachSentTextIsPrinted = (cs : List ℕ) → IsSentText cs → HasPrintedText (Text cs)
+
+-- so a parser reads each form that writers send
+abbrev pub EachSentFormIsReadable : Type 0
+EachSentFormIsReadable = (f : Form) → IsSentForm f → IsReadable f
