@@ -1,0 +1,66 @@
+-- What forms make of a terminal's state.
+use Rattle.std.specs.Prelude.{ℕ, ◌≡◌, true, List, [], ◌∷◌, ◌++◌}
+use Rattle.std.specs.List.{AllByRecursion}
+use Rattle.vte_core.specs.Ground.{AtGround}
+use Rattle.vt100_forms.specs.Form.{Form, Text, spell}
+use Rattle.vt100_forms.specs.Length.{HasSmallNumbers}
+use Rattle.vt100_picture.specs.FormText.{IsFormText}
+use Rattle.vt100_picture.specs.Term.{Term}
+use Rattle.vt100_picture.specs.Apply.{apply, run}
+use Rattle.vt100_read.specs.Events.{events_of, events_of_all}
+use Rattle.vt100_read.specs.Laws.{IsSentForm}
+use Rattle.vt100_state.specs.State.{State, IsState, is_plain}
+use Rattle.vt100_state.specs.Made.{Fed, played, made_on}
+use Rattle.vt100_agree.specs.Plain.{terminal_of, screen_of, IsPlainState}
+
+abbrev pub HasFormText : Form → Type 0
+HasFormText (Text cs) = IsFormText cs
+HasFormText _ = Unit {0}
+
+-- its text is a form text, and its numbers are of the code's types
+abbrev pub IsForm : Form → Type 0
+IsForm f = HasFormText f × HasSmallNumbers f
+
+-- u is a plain state, as large as s, that shows t
+pub record Shows (s : State) (t : Term) (u : State) : Type 0 where
+  pub shows : terminal_of u ≡ t
+  pub size : screen_of u ≡ screen_of s
+  pub plain : IsPlainState u
+
+abbrev pub EachPlainStateIsRead : Type 0
+EachPlainStateIsRead = (s : State) → (IsState s → is_plain s ≡ true → IsPlainState s)
+    × (IsPlainState s → is_plain s ≡ true)
+
+abbrev pub EachFormIsPlayed : Type 0
+EachFormIsPlayed = (s : State) (f : Form) → IsPlainState s → IsForm f
+    → Shows s (apply (screen_of s) f (terminal_of s)) (played (events_of f) s)
+
+abbrev pub EachListIsPlayed : Type 0
+EachListIsPlayed = (s : State) (fs : List Form) → IsPlainState s → AllByRecursion IsForm fs
+    → Shows s (run (screen_of s) fs (terminal_of s)) (played (events_of_all fs) s)
+
+-- after any past that ends at ground
+abbrev pub EachSpellingIsMade : Type 0
+EachSpellingIsMade = (past : List ℕ) (s : State) (fs : List Form) → AtGround 1024 past → IsPlainState s
+    → AllByRecursion IsForm fs
+    → Shows s (run (screen_of s) fs (terminal_of s)) (made_on past s (Fed (spell fs) ∷ []))
+    × AtGround 1024 (past ++ spell fs)
+
+-- ---- texts with U+FE0F, by which a state may make a cell wide
+
+-- u is a plain state, as large as s, that has the modes and the style of t
+pub record HasModes (s : State) (t : Term) (u : State) : Type 0 where
+  pub modes : u.modes ≡ t.modes
+  pub style : u.style ≡ t.style
+  pub size : screen_of u ≡ screen_of s
+  pub plain : IsPlainState u
+
+abbrev pub EachSentListIsPlayed : Type 0
+EachSentListIsPlayed = (s : State) (fs : List Form) → IsPlainState s → AllByRecursion IsSentForm fs
+    → HasModes s (run (screen_of s) fs (terminal_of s)) (played (events_of_all fs) s)
+
+abbrev pub EachSentSpellingIsMade : Type 0
+EachSentSpellingIsMade = (past : List ℕ) (s : State) (fs : List Form) → AtGround 1024 past → IsPlainState s
+    → AllByRecursion IsSentForm fs
+    → HasModes s (run (screen_of s) fs (terminal_of s)) (made_on past s (Fed (spell fs) ∷ []))
+    × AtGround 1024 (past ++ spell fs)

@@ -1,0 +1,4 @@
+pub mod Examples
+pub mod Numbers
+pub mod ReadForms
+pub mod SentTexts

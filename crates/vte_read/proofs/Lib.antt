@@ -1,0 +1,3 @@
+pub mod Told
+pub mod Calling
+pub mod Stepping

@@ -1,0 +1,5 @@
+use Rattle.vte_read.proofs.Calling.{spelling-called}
+use Rattle.vte_read.proofs.laws.spellings_call.Goals as goal
+
+pub returns : goal.returns
+returns c = spelling-called
