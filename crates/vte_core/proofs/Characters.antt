@@ -90,10 +90,10 @@ IsUnfinished-begun b =
     ]
 
 -- a first byte of more than one is no control
-lead-high : (a : ℕ) → 1 < char_len a → is_in_range 0x80 0x9F a ≡ false
+pub lead-high : (a : ℕ) → 1 < char_len a → is_in_range 0x80 0x9F a ≡ false
 lead-high a h = grind (arith, nat_tests)
 
-malformed-high : (n a : ℕ) → is_in_range 0x80 0x9F a ≡ false → malformed_event n a ≡ Print 0xFFFD
+pub malformed-high : (n a : ℕ) → is_in_range 0x80 0x9F a ≡ false → malformed_event n a ≡ Print 0xFFFD
 malformed-high n a h = elim (bool_cases (n == 1)) [ inl e ↦ rw (e, h) refl | inr e ↦ rw e refl ]
 
 -- what the front tells, by its length

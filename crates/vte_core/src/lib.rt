@@ -109,7 +109,6 @@ impl<const N: usize> Parser<N> {
     }
 
     /// ESC ends what was begun, and begins an escape sequence.
-    #[inline(always)]
     fn begin_escape<P: Perform>(&mut self, performer: &mut P)
         ensures stands { (q : Pending) → IsAt N self.old q → IsAt N self.new (InEscape []) }
         ensures told { Performs P.step performer.old (closed_heard N self.old.state self.old self.new) performer.new }
@@ -465,7 +464,6 @@ impl<const N: usize> Parser<N> {
     }
 
     /// Reads ESC, and with it the header that it begins and the byte after that. Returns how many bytes it read.
-    #[inline(always)]
     fn read_anew<P: Perform>(&mut self, performer: &mut P, bytes: &[u8]) -> usize
         requires some { 0 < length bytes.now }
         requires esc { slice_index bytes.now 0 ≡ 0x1B }
@@ -555,7 +553,26 @@ impl<const N: usize> Parser<N> {
         }
     }
 
-    /// Reads ground text up to the next ESC, and what `read_anew` reads from there. Returns how many bytes they are.
+    /// Reads ESC after ground text, and mostly the header that it begins and the byte after that. Returns how many
+    /// bytes it read.
+    #[inline(always)]
+    fn leave_text<P: Perform>(&mut self, performer: &mut P, bytes: &[u8]) -> usize
+        requires some { 0 < length bytes.now }
+        requires ground { self.old.state ≡ State.Ground }
+        requires esc { slice_index bytes.now 0 ≡ 0x1B }
+        ensures some { 0 < result }
+        ensures within { result ≤ length bytes.now }
+        ensures stands { (q : Pending) → IsAt N self.old q → IsAt N self.new (after_bytes q (take result bytes.now)) }
+        ensures told { Tells P.step N self.old performer.old (take result bytes.now) performer.new }
+    {
+        if self.unfinished.is_empty() {
+            self.read_escape(performer, bytes)
+        } else {
+            self.read_anew(performer, bytes)
+        }
+    }
+
+    /// Reads ground text up to the next ESC, and what `leave_text` reads from there. Returns how many bytes they are.
     #[inline(always)]
     fn read_text<P: Perform>(&mut self, performer: &mut P, bytes: &[u8]) -> usize
         requires some { 0 < length bytes.now }
@@ -569,7 +586,7 @@ impl<const N: usize> Parser<N> {
         if len == bytes.len() {
             return len;
         }
-        len + self.read_anew(performer, &bytes[len..])
+        len + self.leave_text(performer, &bytes[len..])
     }
 
     /// Reads the bytes of a sequence at the front that don't end it, if there are any: a header or data. Returns how
@@ -582,6 +599,7 @@ impl<const N: usize> Parser<N> {
     {
         match self.state {
             State::DcsPassthrough => put_front(performer, bytes),
+            State::Escape => 0,
             _ => self.read_quiet(bytes),
         }
     }
@@ -628,6 +646,7 @@ impl<const N: usize> Parser<N> {
     {
         match self.state {
             State::Ground => self.read_text(performer, bytes),
+            _ if bytes[0] == 0x1B => self.read_anew(performer, bytes),
             _ => self.read_sequence(performer, bytes),
         }
     }
