@@ -29,7 +29,7 @@ goes_on-tail a [] b = refl
 goes_on-tail a (c ∷ t) b = refl
 
 -- a tail that goes on at its first byte goes on at the others
-tail_first : (k lo hi c : ℕ) (t : List ℕ) → tail_len (suc k) lo hi (c ∷ t) ≡ length (c ∷ t)
+pub tail_first : (k lo hi c : ℕ) (t : List ℕ) → tail_len (suc k) lo hi (c ∷ t) ≡ length (c ∷ t)
     → (is_in_range lo hi c ≡ true) × (tail_len k 0x80 0xBF t ≡ length t)
 tail_first k lo hi c t h =
     elim (bool_cases (is_in_range lo hi c)) [

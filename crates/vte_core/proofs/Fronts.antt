@@ -7,12 +7,12 @@ use Rattle.std.proofs.lemmas.List.{drop-drop, drop_all, append-nil}
 use Rattle.std.specs.Int.{is_in_range}
 use Rattle.vte_core.specs.Event.{Event, Performs, Print, Execute}
 use Rattle.vte_core.specs.Bytes.{is_esc}
-use Rattle.vte_core.specs.Text.{char_len, first_bits, char_event, malformed_event}
-use Rattle.vte_core.specs.Pending.{goes_on, text_told, text_rest}
+use Rattle.vte_core.specs.Text.{char_len, second_min, second_max, first_bits, char_event, malformed_event}
+use Rattle.vte_core.specs.Pending.{goes_on, text_told, text_rest, IsWhole, code_of}
 use Rattle.vte_core.specs.Shapes.{before}
 use Rattle.vte_core.specs.Runs.{ReadsText, run_told, run_rest, has_no_esc}
-use Rattle.vte_core.proofs.Characters.{bool_cases, lead-high, malformed-high}
-use Rattle.vte_core.proofs.Runs.{run_told-append, run_rest-append, no_esc-both, take-before}
+use Rattle.vte_core.proofs.Characters.{bool_cases, lead-high, malformed-high, tail_first}
+use Rattle.vte_core.proofs.Runs.{run_told-append, run_rest-append, no_esc-both, take-before, two, three, four}
 use Rattle.vte_core.proofs.StopLemmas.{whole_rest}
 
 -- the text before the next ESC begins with the bytes that have none
@@ -232,3 +232,91 @@ of_three a long least = grind (arith, nat_tests)
 
 pub of_four : (a : ℕ) → 1 < char_len a → 0xF0 ≤ a → 3 < char_len a
 of_four a long least = grind (arith, nat_tests)
+
+-- whole characters
+
+pub whole_two : (bs : List ℕ) → 1 < length bs → 1 < char_len (get_or bs 0 0)
+    → goes_on (get_or bs 0 0) [] (get_or bs 1 0) ≡ true → get_or bs 0 0 < 0xE0 → IsWhole (take 2 bs)
+whole_two [] some long begun less = absurd (omega (arith, some))
+whole_two (a ∷ []) some long begun less = absurd (omega (arith, some))
+whole_two (a ∷ b ∷ s) some long begun less =
+    let n : char_len a ≡ 2 = grind (arith, nat_tests) in rw (n, begun) (refl, refl)
+
+pub whole_three : (bs : List ℕ) → 2 < length bs → 1 < char_len (get_or bs 0 0)
+    → goes_on (get_or bs 0 0) [] (get_or bs 1 0) ≡ true → is_in_range 0x80 0xBF (get_or bs 2 0) ≡ true
+    → 0xE0 ≤ get_or bs 0 0 → get_or bs 0 0 < 0xF0 → IsWhole (take 3 bs)
+whole_three [] some long begun third least less = absurd (omega (arith, some))
+whole_three (a ∷ []) some long begun third least less = absurd (omega (arith, some))
+whole_three (a ∷ b ∷ []) some long begun third least less = absurd (omega (arith, some))
+whole_three (a ∷ b ∷ c ∷ s) some long begun third least less =
+    let n : char_len a ≡ 3 = grind (arith, nat_tests) in rw (n, begun, third) (refl, refl)
+
+pub whole_four : (bs : List ℕ) → 3 < length bs → 1 < char_len (get_or bs 0 0)
+    → goes_on (get_or bs 0 0) [] (get_or bs 1 0) ≡ true → is_in_range 0x80 0xBF (get_or bs 2 0) ≡ true
+    → is_in_range 0x80 0xBF (get_or bs 3 0) ≡ true → 0xF0 ≤ get_or bs 0 0 → IsWhole (take 4 bs)
+whole_four [] some long begun third fourth least = absurd (omega (arith, some))
+whole_four (a ∷ []) some long begun third fourth least = absurd (omega (arith, some))
+whole_four (a ∷ b ∷ []) some long begun third fourth least = absurd (omega (arith, some))
+whole_four (a ∷ b ∷ c ∷ []) some long begun third fourth least = absurd (omega (arith, some))
+whole_four (a ∷ b ∷ c ∷ d ∷ s) some long begun third fourth least =
+    let n : char_len a ≡ 4 = grind (arith, nat_tests) in rw (n, begun, third, fourth) (refl, refl)
+
+at_most_four : (a : ℕ) → char_len a ≤ 4
+at_most_four a =
+    elim (bool_cases (nat_lt a 0x80)) [
+      | inl e ↦ rw e (omega arith)
+      | inr e ↦ rw e (elim (bool_cases (is_in_range 0xC2 0xDF a)) [
+        | inl f ↦ rw f (omega arith)
+        | inr f ↦ rw f (elim (bool_cases (is_in_range 0xE0 0xEF a)) [
+          | inl g ↦ rw g (omega arith)
+          | inr g ↦ rw g (elim (bool_cases (is_in_range 0xF0 0xF4 a)) [
+            | inl h ↦ rw h (omega arith)
+            | inr h ↦ rw h (omega arith)
+          ])
+        ])
+      ])
+    ]
+
+lead-no_esc : (a : ℕ) → 1 < char_len a → is_esc a ≡ false
+lead-no_esc a long = grind (arith, nat_tests)
+
+second-no_esc : (a b : ℕ) → is_in_range (second_min a) (second_max a) b ≡ true → is_esc b ≡ false
+second-no_esc a b h = grind (arith, nat_tests)
+
+tail-no_esc : (b : ℕ) → is_in_range 0x80 0xBF b ≡ true → is_esc b ≡ false
+tail-no_esc b h = grind (arith, nat_tests)
+
+-- a whole character of more than one byte
+pub whole-told : (bs : List ℕ) → IsWhole bs → 1 < length bs
+    → (run_told [] bs ≡ char_event (code_of bs) ∷ []) × (run_rest [] bs ≡ []) × (has_no_esc bs ≡ true)
+whole-told [] h long = absurd (omega (arith, long))
+whole-told (a ∷ []) h long = absurd (omega (arith, long))
+whole-told (a ∷ b ∷ []) h long =
+    let n : char_len a ≡ 2 = sym h.1 in
+    let first = tail_first 0 (second_min a) (second_max a) b [] (let g = rw n at h.0 in g) in
+    let r = two a b _ [] n first.0 refl in
+    let e = lead-no_esc a (omega (arith, n)) in
+    let f = second-no_esc a b first.0 in
+    (r.0, r.1, rw (e, f) refl)
+whole-told (a ∷ b ∷ c ∷ []) h long =
+    let n : char_len a ≡ 3 = sym h.1 in
+    let first = tail_first 1 (second_min a) (second_max a) b (c ∷ []) (let g = rw n at h.0 in g) in
+    let second = tail_first 0 0x80 0xBF c [] first.1 in
+    let r = three a b c _ [] n first.0 second.0 refl in
+    let e = lead-no_esc a (omega (arith, n)) in
+    let f = second-no_esc a b first.0 in
+    let i = tail-no_esc c second.0 in
+    (r.0, r.1, rw (e, f, i) refl)
+whole-told (a ∷ b ∷ c ∷ d ∷ []) h long =
+    let n : char_len a ≡ 4 = sym h.1 in
+    let first = tail_first 2 (second_min a) (second_max a) b (c ∷ d ∷ []) (let g = rw n at h.0 in g) in
+    let second = tail_first 1 0x80 0xBF c (d ∷ []) first.1 in
+    let third = tail_first 0 0x80 0xBF d [] second.1 in
+    let r = four a b c d _ [] n first.0 second.0 third.0 refl in
+    let e = lead-no_esc a (omega (arith, n)) in
+    let f = second-no_esc a b first.0 in
+    let i = tail-no_esc c second.0 in
+    let j = tail-no_esc d third.0 in
+    (r.0, r.1, rw (e, f, i, j) refl)
+whole-told (a ∷ b ∷ c ∷ d ∷ x ∷ s) h long =
+    absurd (omega (arith, h.1, at_most_four a))

@@ -267,16 +267,31 @@ fn is_begun(first: u8, second: u8) -> bool
     ((0xC2..=0xF4).contains(&first) & is_tail(second)) && goes_on(&[first], second)
 }
 
+/// How long the character is that the first two bytes begin, 0 where it isn't whole.
+#[inline(always)]
+fn begun_len(bytes: &[u8]) -> usize
+    requires some { 1 < length bytes.now }
+    requires begun { 1 < char_len (slice_index bytes.now 0) }
+    requires goes_on { goes_on (slice_index bytes.now 0) [] (slice_index bytes.now 1) ≡ true }
+    ensures within { result ≤ length bytes.now }
+    ensures long { 0 < result → 1 < result }
+    ensures whole { 0 < result → IsWhole (take result bytes.now) }
+{
+    match bytes {
+        [first, ..] if *first < 0xE0 => 2,
+        [first, _, third, ..] if *first < 0xF0 && is_tail(*third) => 3,
+        [first, _, third, fourth, ..] if *first >= 0xF0 && is_tail(*third) && is_tail(*fourth) => {
+            4
+        }
+        _ => 0,
+    }
+}
+
 /// Whether the bytes begin with a whole character of two bytes or more.
 #[inline(always)]
 fn begins_long(bytes: &[u8]) -> bool {
     match bytes {
-        [first, second, rest @ ..] if is_begun(*first, *second) => match rest {
-            _ if *first < 0xE0 => true,
-            [third, ..] if *first < 0xF0 => is_tail(*third),
-            [third, fourth, ..] => is_tail(*third) && is_tail(*fourth),
-            _ => false,
-        },
+        [first, second, ..] if is_begun(*first, *second) => begun_len(bytes) > 0,
         _ => false,
     }
 }
@@ -546,10 +561,15 @@ impl Unfinished {
             performer.execute(control);
             return 2;
         }
-        if begins_long(bytes) {
-            return self.mixed(performer, bytes);
+        let len = begun_len(bytes);
+        if len == 0 {
+            return self.cut(performer, bytes);
         }
-        self.cut(performer, bytes)
+        if ends_text(&bytes[len..]) {
+            tell(performer, character(&bytes[..len]));
+            return len;
+        }
+        self.mixed(performer, bytes)
     }
 
     /// Reads a character of two bytes or more and the text after it, or a malformed sequence, or else one byte, and
