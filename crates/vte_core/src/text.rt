@@ -382,7 +382,7 @@ fn ascii_len(bytes: &[u8]) -> usize
 fn ends_text(bytes: &[u8]) -> bool {
     match bytes {
         [] => true,
-        [next, ..] => !is_plain(*next) && !begins_long(bytes),
+        [next, ..] => !is_plain(*next) && (*next < 0xC2 || !begins_long(bytes)),
     }
 }
 
