@@ -29,7 +29,7 @@ goes_on-tail a [] b = refl
 goes_on-tail a (c ∷ t) b = refl
 
 -- a tail that goes on at its first byte goes on at the others
-tail_first : (k lo hi c : ℕ) (t : List ℕ) → tail_len (suc k) lo hi (c ∷ t) ≡ length (c ∷ t)
+pub tail_first : (k lo hi c : ℕ) (t : List ℕ) → tail_len (suc k) lo hi (c ∷ t) ≡ length (c ∷ t)
     → (is_in_range lo hi c ≡ true) × (tail_len k 0x80 0xBF t ≡ length t)
 tail_first k lo hi c t h =
     elim (bool_cases (is_in_range lo hi c)) [
@@ -90,10 +90,10 @@ IsUnfinished-begun b =
     ]
 
 -- a first byte of more than one is no control
-lead-high : (a : ℕ) → 1 < char_len a → is_in_range 0x80 0x9F a ≡ false
+pub lead-high : (a : ℕ) → 1 < char_len a → is_in_range 0x80 0x9F a ≡ false
 lead-high a h = grind (arith, nat_tests)
 
-malformed-high : (n a : ℕ) → is_in_range 0x80 0x9F a ≡ false → malformed_event n a ≡ Print 0xFFFD
+pub malformed-high : (n a : ℕ) → is_in_range 0x80 0x9F a ≡ false → malformed_event n a ≡ Print 0xFFFD
 malformed-high n a h = elim (bool_cases (n == 1)) [ inl e ↦ rw (e, h) refl | inr e ↦ rw e refl ]
 
 -- what the front tells, by its length

@@ -8,7 +8,7 @@ use Rattle.vte_core.specs.Event.{Event, Performs}
 use Rattle.vte_core.specs.Bytes.{each, is_esc, is_control, is_header, is_data, is_swallowed, is_abort}
 use Rattle.vte_core.specs.Bytes.{ends_header, ends_osc}
 use Rattle.vte_core.specs.Pending.{Pending, InText, InEscape, InCsi, InOsc, InHook, InDevice, InSwallowed}
-use Rattle.vte_core.specs.Pending.{events_of_byte, events_from, after_byte, after_bytes}
+use Rattle.vte_core.specs.Pending.{events_of_byte, events_from, after_byte, after_bytes, closed}
 use Rattle.vte_core.specs.Phases.{ReadsHeader}
 use Rattle.vte_core.specs.Store.{ReadsOsc}
 use Rattle.vte_core.specs.Standing.{IsAt}
@@ -357,3 +357,9 @@ escape-hook n p new q bs k some e s u t v num r at =
     let m = all_kept n InHook is_header [] (take k (drop 1 bs)) (header-hook n) num in
     let b = begun-escape n p q s u at in
     rw (b.0, after_first bs 0x50 k some e) (m.0, rw m.1 (t, v ∙ b.1, r))
+
+-- ESC at the front
+pub escape-at : (n : ℕ) (q : Pending) (bs : List ℕ) → 0 < length bs → get_or bs 0 0 ≡ 0x1B
+    → (closed n q ≡ events_from n q (take 1 bs)) × (after_bytes q (take 1 bs) ≡ InEscape [])
+escape-at n q [] some e = absurd (omega (arith, some))
+escape-at n q (b ∷ s) some e = let f : b ≡ 0x1B = e in rw f (sym (no_more (closed n q)), refl)

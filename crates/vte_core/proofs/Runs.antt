@@ -41,19 +41,19 @@ one c rest h =
     let e : first_bits c ≡ c = grind (arith, nat_tests) in
     (rw n (ap (λ x. char_event x ∷ run_told [] rest) e), rw n refl)
 
-two : (a b c : ℕ) (rest : List ℕ) → char_len a ≡ 2 → is_in_range (second_min a) (second_max a) b ≡ true
+pub two : (a b c : ℕ) (rest : List ℕ) → char_len a ≡ 2 → is_in_range (second_min a) (second_max a) b ≡ true
     → first_bits a * 64 + (b - 128) ≡ c
     → (run_told [] (a ∷ b ∷ rest) ≡ char_event c ∷ run_told [] rest) × (run_rest [] (a ∷ b ∷ rest) ≡ run_rest [] rest)
 two a b c rest n s e = (rw (n, s, n) (ap (λ x. char_event x ∷ run_told [] rest) e), rw (n, s, n) refl)
 
-three : (a b d c : ℕ) (rest : List ℕ) → char_len a ≡ 3 → is_in_range (second_min a) (second_max a) b ≡ true
+pub three : (a b d c : ℕ) (rest : List ℕ) → char_len a ≡ 3 → is_in_range (second_min a) (second_max a) b ≡ true
     → is_in_range 0x80 0xBF d ≡ true
     → (first_bits a * 64 + (b - 128)) * 64 + (d - 128) ≡ c
     → (run_told [] (a ∷ b ∷ d ∷ rest) ≡ char_event c ∷ run_told [] rest)
     × (run_rest [] (a ∷ b ∷ d ∷ rest) ≡ run_rest [] rest)
 three a b d c rest n s t e = (rw (n, s, n, t, n) (ap (λ x. char_event x ∷ run_told [] rest) e), rw (n, s, n, t, n) refl)
 
-four : (a b d e c : ℕ) (rest : List ℕ) → char_len a ≡ 4 → is_in_range (second_min a) (second_max a) b ≡ true
+pub four : (a b d e c : ℕ) (rest : List ℕ) → char_len a ≡ 4 → is_in_range (second_min a) (second_max a) b ≡ true
     → is_in_range 0x80 0xBF d ≡ true → is_in_range 0x80 0xBF e ≡ true
     → ((first_bits a * 64 + (b - 128)) * 64 + (d - 128)) * 64 + (e - 128) ≡ c
     → (run_told [] (a ∷ b ∷ d ∷ e ∷ rest) ≡ char_event c ∷ run_told [] rest)

@@ -1,10 +1,11 @@
 -- Ground text without ESC.
 use Rattle.std.specs.Prelude.{◌≡◌, ◌<◌, ◌≤◌, ℕ, suc, take, Bool, true, false, not, ◌&&◌, ◌||◌, List, [], ◌∷◌, ◌++◌, ◌⊎◌}
-use Rattle.std.specs.Prelude.{length, nat_lt, ◌==◌, if◌then◌else◌}
+use Rattle.std.specs.Prelude.{length, drop, nat_lt, ◌==◌, if◌then◌else◌}
 use Rattle.std.specs.Int.{is_in_range}
 use Rattle.vte_core.specs.Event.{Event, Performs}
 use Rattle.vte_core.specs.Bytes.{is_esc}
 use Rattle.vte_core.specs.Pending.{Pending, text_told, text_rest, after_byte, after_bytes, events_from}
+use Rattle.vte_core.specs.Shapes.{before}
 use Rattle.vte_core.specs.Standing.{IsAt}
 use Rattle.vte_core.specs.declared.Parser.{Parser}
 use Rattle.vte_core.specs.Stopping.{runs_on}
@@ -23,14 +24,17 @@ abbrev pub has_no_esc : List ℕ → Bool
 has_no_esc [] = true
 has_no_esc (b ∷ bs) = not (is_esc b) && has_no_esc bs
 
--- the first k bytes, some at least, are read as ground text after the unfinished bytes u, and leave v
+-- The first k bytes, some at least, are read as ground text after the unfinished bytes u, and leave v. What is told of
+-- them, and then what the text up to the next ESC tells that is left after v, is what the whole text tells.
 pub record ReadsText {S : Type 0} (step : S → Event → S
     → Type 0) (u : List ℕ) (old : S) (bs : List ℕ) (k : ℕ) (new : S) (v : List ℕ) : Type 0 where
   pub some : 0 < k
   pub within : k ≤ length bs
   pub no_esc : has_no_esc (take k bs) ≡ true
-  pub told : Performs step old (run_told u (take k bs)) new
-  pub rest : v ≡ run_rest u (take k bs)
+  pub told : List Event
+  pub performed : Performs step old told new
+  pub added : run_told u (before is_esc bs) ≡ told ++ run_told v (drop k (before is_esc bs))
+  pub rest : run_rest u (before is_esc bs) ≡ run_rest v (drop k (before is_esc bs))
 
 -- the performer is asked after the bytes, and not between them
 abbrev pub is_one_step : Pending → List ℕ → List ℕ → Bool

@@ -65,10 +65,9 @@ fn after_other(phase: Phase, byte: u8) -> Phase
     ensures { result ≡ next_by false (is_intermediate byte) phase }
 {
     match phase {
-        Phase::Start if is_intermediate(byte) => Phase::InIntermediates,
+        Phase::Ignored => Phase::Ignored,
+        _ if is_intermediate(byte) => Phase::InIntermediates,
         Phase::Start => Phase::InNumbers,
-        Phase::InNumbers if is_intermediate(byte) => Phase::InIntermediates,
-        Phase::InIntermediates if is_intermediate(byte) => Phase::InIntermediates,
         _ => Phase::Ignored,
     }
 }

@@ -114,6 +114,7 @@ impl<const N: usize> Parser<N> {
         ensures told { Performs P.step performer.old (closed_heard N self.old.state self.old self.new) performer.new }
         ensures is_told { (q : Pending) → IsAt N self.old q
             → closed_heard N self.old.state self.old self.new ≡ closed N q }
+        ensures state { self.new.state ≡ State.Escape }
     {
         match self.state {
             State::Ground => {
@@ -355,6 +356,8 @@ impl<const N: usize> Parser<N> {
         ensures within { result ≤ length bytes.now }
         ensures stands { (q : Pending) → IsAt N self.old q → IsAt N self.new (after_bytes q (take result bytes.now)) }
         ensures quiet { (q : Pending) → IsAt N self.old q → events_from N q (take result bytes.now) ≡ [] }
+        ensures csi { 0 < result → slice_index bytes.now 0 ≡ 0x5B → self.new.state ≡ State.Csi }
+        ensures hook { 0 < result → slice_index bytes.now 0 ≢ 0x5B → self.new.state ≡ State.DcsHeader }
     {
         match bytes {
             [b'[', rest @ ..] if self.intermediates.kept.is_empty() => {
@@ -422,6 +425,55 @@ impl<const N: usize> Parser<N> {
         } else {
             self.csi(performer, byte);
         }
+    }
+
+    /// The byte after a device control string's header.
+    #[inline(always)]
+    fn end_dcs_header<P: Perform>(&mut self, performer: &mut P, byte: u8)
+        requires { self.old.state ≡ State.DcsHeader }
+        ensures stands { (q : Pending) → IsAt N self.old q → IsAt N self.new (after_byte q byte) }
+        ensures told { Performs P.step performer.old (heard N self.old self.new byte) performer.new }
+        ensures is_told { (q : Pending) → IsAt N self.old q → heard N self.old self.new byte ≡ events_of_byte N q byte }
+    {
+        if byte == 0x1B {
+            self.begin_escape(performer);
+        } else {
+            self.dcs_header(performer, byte);
+        }
+    }
+
+    /// Reads what follows ESC up to the end of a header, and the byte after it; nothing where no header begins. Returns
+    /// how many bytes it read.
+    #[inline(always)]
+    fn read_header<P: Perform>(&mut self, performer: &mut P, bytes: &[u8]) -> usize
+        requires { self.old.state ≡ State.Escape }
+        ensures within { result ≤ length bytes.now }
+        ensures stands { (q : Pending) → IsAt N self.old q → IsAt N self.new (after_bytes q (take result bytes.now)) }
+        ensures told { Tells P.step N self.old performer.old (take result bytes.now) performer.new }
+    {
+        let quiet = self.begin_header(bytes);
+        if quiet == 0 || quiet == bytes.len() {
+            return quiet;
+        }
+        if bytes[0] == b'[' {
+            self.end_csi(performer, bytes[quiet]);
+        } else {
+            self.end_dcs_header(performer, bytes[quiet]);
+        }
+        quiet + 1
+    }
+
+    /// Reads ESC, and with it the header that it begins and the byte after that. Returns how many bytes it read.
+    fn read_anew<P: Perform>(&mut self, performer: &mut P, bytes: &[u8]) -> usize
+        requires some { 0 < length bytes.now }
+        requires esc { slice_index bytes.now 0 ≡ 0x1B }
+        ensures some { 0 < result }
+        ensures within { result ≤ length bytes.now }
+        ensures stands { (q : Pending) → IsAt N self.old q → IsAt N self.new (after_bytes q (take result bytes.now)) }
+        ensures told { Tells P.step N self.old performer.old (take result bytes.now) performer.new }
+    {
+        self.begin_escape(performer);
+        1 + self.read_header(performer, &bytes[1..])
     }
 
     /// Reads a control sequence that ESC begins after ground text, up to the first byte that tells something, and with
@@ -501,7 +553,26 @@ impl<const N: usize> Parser<N> {
         }
     }
 
-    /// Reads ground text up to the next ESC, and the control sequence that it begins. Returns how many bytes they are.
+    /// Reads ESC after ground text, and mostly the header that it begins and the byte after that. Returns how many
+    /// bytes it read.
+    #[inline(always)]
+    fn leave_text<P: Perform>(&mut self, performer: &mut P, bytes: &[u8]) -> usize
+        requires some { 0 < length bytes.now }
+        requires ground { self.old.state ≡ State.Ground }
+        requires esc { slice_index bytes.now 0 ≡ 0x1B }
+        ensures some { 0 < result }
+        ensures within { result ≤ length bytes.now }
+        ensures stands { (q : Pending) → IsAt N self.old q → IsAt N self.new (after_bytes q (take result bytes.now)) }
+        ensures told { Tells P.step N self.old performer.old (take result bytes.now) performer.new }
+    {
+        if self.unfinished.is_empty() {
+            self.read_escape(performer, bytes)
+        } else {
+            self.read_anew(performer, bytes)
+        }
+    }
+
+    /// Reads ground text up to the next ESC, and what `leave_text` reads from there. Returns how many bytes they are.
     #[inline(always)]
     fn read_text<P: Perform>(&mut self, performer: &mut P, bytes: &[u8]) -> usize
         requires some { 0 < length bytes.now }
@@ -515,24 +586,40 @@ impl<const N: usize> Parser<N> {
         if len == bytes.len() {
             return len;
         }
-        len + self.read_escape(performer, &bytes[len..])
+        len + self.leave_text(performer, &bytes[len..])
     }
 
-    /// Puts the data of a device control string at the front, and returns how many bytes it is.
+    /// Reads the bytes of a sequence at the front that don't end it, if there are any: a header or data. Returns how
+    /// many they are.
     #[inline(always)]
-    fn put_data<P: Perform>(&mut self, performer: &mut P, bytes: &[u8]) -> usize
+    fn read_inside<P: Perform>(&mut self, performer: &mut P, bytes: &[u8]) -> usize
         ensures within { result ≤ length bytes.now }
         ensures stands { (q : Pending) → IsAt N self.old q → IsAt N self.new (after_bytes q (take result bytes.now)) }
         ensures told { Tells P.step N self.old performer.old (take result bytes.now) performer.new }
     {
         match self.state {
             State::DcsPassthrough => put_front(performer, bytes),
-            _ => 0,
+            State::Escape => 0,
+            _ => self.read_quiet(bytes),
         }
     }
 
-    /// Reads the data of a device control string at the front, and then as `read_step` does. Returns how many bytes it
-    /// read.
+    /// Reads ESC as `read_anew` does, or one byte, or ground text up to the next ESC. Returns how many bytes it read.
+    #[inline(always)]
+    fn read_next<P: Perform>(&mut self, performer: &mut P, bytes: &[u8]) -> usize
+        requires { 0 < length bytes.now }
+        ensures some { 0 < result }
+        ensures within { result ≤ length bytes.now }
+        ensures stands { (q : Pending) → IsAt N self.old q → IsAt N self.new (after_bytes q (take result bytes.now)) }
+        ensures told { Tells P.step N self.old performer.old (take result bytes.now) performer.new }
+    {
+        if bytes[0] == 0x1B {
+            return self.read_anew(performer, bytes);
+        }
+        self.read_one(performer, bytes)
+    }
+
+    /// Reads the bytes of a sequence that don't end it, and then as `read_next` does. Returns how many bytes it read.
     #[inline(always)]
     fn read_sequence<P: Perform>(&mut self, performer: &mut P, bytes: &[u8]) -> usize
         requires { 0 < length bytes.now }
@@ -541,11 +628,11 @@ impl<const N: usize> Parser<N> {
         ensures stands { (q : Pending) → IsAt N self.old q → IsAt N self.new (after_bytes q (take result bytes.now)) }
         ensures told { Tells P.step N self.old performer.old (take result bytes.now) performer.new }
     {
-        let len = self.put_data(performer, bytes);
+        let len = self.read_inside(performer, bytes);
         if len == bytes.len() {
             return len;
         }
-        len + self.read_step(performer, &bytes[len..])
+        len + self.read_next(performer, &bytes[len..])
     }
 
     /// Reads some bytes, and returns how many.
@@ -559,6 +646,7 @@ impl<const N: usize> Parser<N> {
     {
         match self.state {
             State::Ground => self.read_text(performer, bytes),
+            _ if bytes[0] == 0x1B => self.read_anew(performer, bytes),
             _ => self.read_sequence(performer, bytes),
         }
     }

@@ -13,6 +13,7 @@ ghost use Rattle.vte_core.specs.Runs.{ReadsText, run_told, run_rest, is_printed,
 ghost use Rattle.vte_core.specs.Shapes.{before};
 ghost use Rattle.vte_core.specs.Event.{Event, Print, Execute, Performs};
 ghost use Rattle.vte_core.specs.Text.{char_len, second_min, second_max, first_bits, joined, char_event};
+ghost use Rattle.vte_core.specs.Text.{malformed_event};
 ghost use Rattle.vte_core.specs.Pending.{IsUnfinished, begun, begun_rest, text_told, text_rest, goes_on, whole_goes_on};
 ghost use Rattle.vte_core.specs.Pending.{IsWhole, code_of};
 ghost use Rattle.std.specs.Char.{InScalarRange};
@@ -45,7 +46,9 @@ fn char_len(first: u8) -> usize
 
 /// Whether the byte may stand in a character after its first byte.
 #[inline(always)]
-fn is_tail(byte: u8) -> bool {
+fn is_tail(byte: u8) -> bool
+    ensures { result ≡ is_in_range 0x80 0xBF byte }
+{
     (0x80..=0xBF).contains(&byte)
 }
 
@@ -101,6 +104,18 @@ fn character(bytes: &[u8]) -> char
     }
 }
 
+/// Tells of a byte that is a malformed sequence alone.
+#[inline(always)]
+fn tell_malformed<P: Perform>(performer: &mut P, byte: u8)
+    ensures { P.step performer.old (malformed_event 1 byte) performer.new }
+{
+    if (0x80..=0x9F).contains(&byte) {
+        performer.execute(byte);
+    } else {
+        performer.print('\u{FFFD}');
+    }
+}
+
 /// A byte that begins a character, or none.
 fn begin<P: Perform>(unfinished: &mut ArrayVec<u8, 4>, performer: &mut P, byte: u8)
     requires { unfinished.old.items ≡ [] }
@@ -109,13 +124,7 @@ fn begin<P: Perform>(unfinished: &mut ArrayVec<u8, 4>, performer: &mut P, byte: 
 {
     match char_len(byte) {
         1 => tell(performer, byte as char),
-        0 => {
-            if (0x80..=0x9F).contains(&byte) {
-                performer.execute(byte);
-            } else {
-                performer.print('\u{FFFD}');
-            }
-        }
+        0 => tell_malformed(performer, byte),
         _ => unfinished.push(byte),
     }
 }
@@ -248,20 +257,51 @@ fn printed_len(bytes: &[u8]) -> usize
     len
 }
 
+/// Whether the two bytes begin a character of two bytes or more.
+#[inline(always)]
+fn is_begun(first: u8, second: u8) -> bool
+    ensures begun { IsTrue result → 1 < char_len first }
+    ensures goes_on { IsTrue result → goes_on first [] second ≡ true }
+    ensures not_begun { result ≡ false → 1 < char_len first → goes_on first [] second ≡ false }
+{
+    ((0xC2..=0xF4).contains(&first) & is_tail(second)) && goes_on(&[first], second)
+}
+
+/// How long the character is that the first two bytes begin, 0 where it isn't whole.
+#[inline(always)]
+fn begun_len(bytes: &[u8]) -> usize
+    requires some { 1 < length bytes.now }
+    requires begun { 1 < char_len (slice_index bytes.now 0) }
+    requires goes_on { goes_on (slice_index bytes.now 0) [] (slice_index bytes.now 1) ≡ true }
+    ensures within { result ≤ length bytes.now }
+    ensures long { 0 < result → 1 < result }
+    ensures whole { 0 < result → IsWhole (take result bytes.now) }
+{
+    match bytes {
+        [first, ..] if *first < 0xE0 => 2,
+        [first, _, third, ..] if *first < 0xF0 && is_tail(*third) => 3,
+        [first, _, third, fourth, ..] if *first >= 0xF0 && is_tail(*third) && is_tail(*fourth) => {
+            4
+        }
+        _ => 0,
+    }
+}
+
+/// Whether the bytes begin with a whole character of two bytes or more.
+#[inline(always)]
+fn begins_long(bytes: &[u8]) -> bool {
+    match bytes {
+        [first, second, ..] if is_begun(*first, *second) => begun_len(bytes) > 0,
+        _ => false,
+    }
+}
+
 /// Whether the bytes begin with a whole character. Where they don't it's quicker to read them one by one.
 #[inline(always)]
 fn begins_whole(bytes: &[u8]) -> bool
     requires { 0 < length bytes.now }
 {
-    match (char_len(bytes[0]), bytes) {
-        (1, _) => true,
-        (2, [_, second, ..]) => is_tail(*second),
-        (3, [_, second, third, ..]) => goes_on(&bytes[..1], *second) && is_tail(*third),
-        (4, [_, second, third, fourth, ..]) => {
-            goes_on(&bytes[..1], *second) && is_tail(*third) && is_tail(*fourth)
-        }
-        _ => false,
-    }
+    bytes[0] < 0x80 || begins_long(bytes)
 }
 
 /// How many bytes stand before the next control that is executed, where a character may begin; else 0.
@@ -342,7 +382,7 @@ fn ascii_len(bytes: &[u8]) -> usize
 fn ends_text(bytes: &[u8]) -> bool {
     match bytes {
         [] => true,
-        [next, ..] => *next < 0x20 || !begins_whole(bytes),
+        [next, ..] => !is_plain(*next) && (*next < 0xC2 || !begins_long(bytes)),
     }
 }
 
@@ -458,6 +498,102 @@ impl Unfinished {
         1
     }
 
+    /// Reads the characters of ASCII at the front, and with them the text after them, and returns how many bytes it
+    /// read.
+    #[inline(always)]
+    fn plain<P: Perform>(&mut self, performer: &mut P, bytes: &[u8]) -> usize
+        requires some { 0 < length bytes.now }
+        requires plain { is_plain (slice_index bytes.now 0) ≡ true }
+        requires none { self.old ≡ [] }
+        ensures { ReadsText P.step self.old performer.old bytes.now result performer.new self.new }
+    {
+        let is_alone = ends_text(&bytes[1..]);
+        if is_alone {
+            performer.print(bytes[0] as char);
+            return 1;
+        }
+        let len = ascii_len(bytes);
+        if len > 0 && ends_text(&bytes[len..]) {
+            performer.print_str(ascii_text(&bytes[..len]));
+            return len;
+        }
+        self.mixed(performer, bytes)
+    }
+
+    /// Reads the malformed sequence of two or three bytes at the front, or else one byte, and returns how many bytes it
+    /// read.
+    #[inline(always)]
+    fn cut<P: Perform>(&mut self, performer: &mut P, bytes: &[u8]) -> usize
+        requires some { 1 < length bytes.now }
+        requires begun { 1 < char_len (slice_index bytes.now 0) }
+        requires goes_on { goes_on (slice_index bytes.now 0) [] (slice_index bytes.now 1) ≡ true }
+        requires none { self.old ≡ [] }
+        ensures { ReadsText P.step self.old performer.old bytes.now result performer.new self.new }
+    {
+        match bytes {
+            [first, _, third, ..] if *first >= 0xE0 && !is_tail(*third) && *third != 0x1B => {
+                performer.print('\u{FFFD}');
+                2
+            }
+            [first, _, third, fourth, ..]
+                if *first >= 0xF0 && is_tail(*third) && !is_tail(*fourth) && *fourth != 0x1B => {
+                performer.print('\u{FFFD}');
+                3
+            }
+            _ => {
+                self.byte(performer, bytes[0]);
+                1
+            }
+        }
+    }
+
+    /// Reads a character of two bytes or more and the text after it, or the malformed sequence of two bytes or more at
+    /// the front, or else one byte, and returns how many bytes it read.
+    #[inline(always)]
+    fn begun<P: Perform>(&mut self, performer: &mut P, bytes: &[u8]) -> usize
+        requires some { 1 < length bytes.now }
+        requires begun { 1 < char_len (slice_index bytes.now 0) }
+        requires goes_on { goes_on (slice_index bytes.now 0) [] (slice_index bytes.now 1) ≡ true }
+        requires none { self.old ≡ [] }
+        ensures { ReadsText P.step self.old performer.old bytes.now result performer.new self.new }
+    {
+        if let Some(control) = c1(bytes) {
+            performer.execute(control);
+            return 2;
+        }
+        let len = begun_len(bytes);
+        if len == 0 {
+            return self.cut(performer, bytes);
+        }
+        if ends_text(&bytes[len..]) {
+            tell(performer, character(&bytes[..len]));
+            return len;
+        }
+        self.mixed(performer, bytes)
+    }
+
+    /// Reads a character of two bytes or more and the text after it, or a malformed sequence, or else one byte, and
+    /// returns how many bytes it read.
+    #[inline(always)]
+    fn high<P: Perform>(&mut self, performer: &mut P, bytes: &[u8]) -> usize
+        requires some { 0 < length bytes.now }
+        requires high { 0x80 ≤ slice_index bytes.now 0 }
+        requires none { self.old ≡ [] }
+        ensures { ReadsText P.step self.old performer.old bytes.now result performer.new self.new }
+    {
+        match bytes {
+            [first, second, ..] if is_begun(*first, *second) => self.begun(performer, bytes),
+            [first, second, ..] if *second != 0x1B => {
+                tell_malformed(performer, *first);
+                1
+            }
+            _ => {
+                self.byte(performer, bytes[0]);
+                1
+            }
+        }
+    }
+
     /// Reads some ground text before the next ESC, and returns how many bytes it read.
     #[inline(always)]
     fn some<P: Perform>(&mut self, performer: &mut P, bytes: &[u8]) -> usize
@@ -474,24 +610,10 @@ impl Unfinished {
             return 1 + execute_controls(performer, &bytes[1..]);
         }
         if bytes[0] < 0x80 {
-            let is_alone = ends_text(&bytes[1..]);
-            if is_alone {
-                performer.print(bytes[0] as char);
-                return 1;
-            }
-            let len = ascii_len(bytes);
-            if len > 0 && ends_text(&bytes[len..]) {
-                performer.print_str(ascii_text(&bytes[..len]));
-                return len;
-            }
-        } else if let Some(control) = c1(bytes) {
-            performer.execute(control);
-            return 2;
-        } else if !begins_whole(bytes) {
-            self.byte(performer, bytes[0]);
-            return 1;
+            self.plain(performer, bytes)
+        } else {
+            self.high(performer, bytes)
         }
-        self.mixed(performer, bytes)
     }
 
     /// Reads ground text up to the next ESC, and returns how many bytes it read.

@@ -24,14 +24,14 @@ returns-then-len-bytes-clause-told g c = record {
       c.read-len.ensures.len h).0;
 }
 
-pub slice_bounds-read_escape-count : goal.slice_bounds-read_escape-count
-slice_bounds-read_escape-count g c = omega (arith, c.read-len.ensures.len, before-len c.args.bytes.now)
+pub slice_bounds-leave_text-count : goal.slice_bounds-leave_text-count
+slice_bounds-leave_text-count g c = omega (arith, c.read-len.ensures.len, before-len c.args.bytes.now)
 
-pub slice_bounds-read_escape-start : goal.slice_bounds-read_escape-start
-slice_bounds-read_escape-start g c = omega (arith, c.read-len.ensures.len, before-len c.args.bytes.now)
+pub slice_bounds-leave_text-start : goal.slice_bounds-leave_text-start
+slice_bounds-leave_text-start g c = omega (arith, c.read-len.ensures.len, before-len c.args.bytes.now)
 
-pub read_escape-requires : goal.read_escape-requires
-read_escape-requires g c =
+pub leave_text-requires : goal.leave_text-requires
+leave_text-requires g c =
     let bs = c.args.bytes.now in
     let k = c.read-len.result in
     let len = c.read-len.ensures.len in
@@ -51,7 +51,7 @@ pub returns-clause-stands : goal.returns-clause-stands
 returns-clause-stands g c = λ q h.
     let bs = c.args.bytes.now in
     let k = c.read-len.result in
-    let j = c.read_escape.result in
+    let j = c.leave_text.result in
     let run = ground-run g.row.N c.args.self.now bs k q c.requires.ground c.read-len.ensures.len h in
     let now = after_bytes q (take k bs) in
     let at : IsAt g.row.N (record {
@@ -62,21 +62,21 @@ returns-clause-stands g c = λ q h.
       osc = c.args.self.now.osc;
     }) now = rw run.1 (c.requires.ground, c.read-len.ensures.rest) in
     let both = one_more_step g.row.N q (take k bs) (take j (take (length bs - k) (drop k bs))) (take (k + j) bs)
-    (run_told c.args.self.now.unfinished (take k bs)) c.read_escape.ensures.told.told (read_more bs k j)
-    (sym run.0) (c.read_escape.ensures.told.added now at) in
-    subst (λ (r : Pending). IsAt g.row.N c.read_escape.new.self r) (sym both.1) (c.read_escape.ensures.stands now at)
+    (run_told c.args.self.now.unfinished (take k bs)) c.leave_text.ensures.told.told (read_more bs k j)
+    (sym run.0) (c.leave_text.ensures.told.added now at) in
+    subst (λ (r : Pending). IsAt g.row.N c.leave_text.new.self r) (sym both.1) (c.leave_text.ensures.stands now at)
 
 pub returns-clause-told : goal.returns-clause-told
 returns-clause-told g c =
     let bs = c.args.bytes.now in
     let k = c.read-len.result in
-    let j = c.read_escape.result in
-    let tells = c.read_escape.ensures.told in
+    let j = c.leave_text.result in
+    let tells = c.leave_text.ensures.told in
     let front = run_told c.args.self.now.unfinished (take k bs) in
     record {
       told = front ++ tells.told;
       performed = performs-append g.P.Perform.step c.args.performer.now c.read-len.new.performer
-          c.read_escape.new.performer front tells.told c.read-len.ensures.told tells.performed;
+          c.leave_text.new.performer front tells.told c.read-len.ensures.told tells.performed;
       added = λ q h.
           let run = ground-run g.row.N c.args.self.now bs k q c.requires.ground c.read-len.ensures.len h in
           let now = after_bytes q (take k bs) in

@@ -1,10 +1,10 @@
-use Rattle.std.proofs.Common.{◌≡◌, ◌+◌, ◌-◌, ◌∙◌, sym, ap, arith, List, ℕ, ◌++◌, true, length, take, drop, get_or}
-use Rattle.std.proofs.Common.{length-take, length-drop}
+use Rattle.std.proofs.Common.{◌≡◌, ◌+◌, ◌-◌, ◌++◌, arith, true, length, take, drop, get_or, length-take, length-drop, ap, sym, ◌∙◌}
 use Rattle.std.proofs.lemmas.Bool.{eq-eqb}
-use Rattle.vte_core.specs.Event.{Event}
 use Rattle.vte_core.specs.Bytes.{is_esc}
-use Rattle.vte_core.specs.Runs.{run_told, run_rest, has_no_esc}
-use Rattle.vte_core.proofs.Runs.{run_told-append, run_rest-append, read_more}
+use Rattle.vte_core.specs.Runs.{run_told, has_no_esc}
+use Rattle.vte_core.specs.Shapes.{before}
+use Rattle.vte_core.proofs.Fronts.{reads_more, reads_all}
+use Rattle.vte_core.proofs.Runs.{read_more}
 use Rattle.vte_core.proofs.Ground.{no_esc-append, text_end}
 use Rattle.vte_core.proofs.Telling.{performs-append, same_events}
 use Rattle.vte_core.proofs.text.Unfinished.read.Goals as goal
@@ -14,35 +14,47 @@ loop-read-preserved g c =
     let bs = c.args.bytes.now in
     let i = c.loop-read.read in
     let k = c.some-read.result in
-    let u = c.args.self.now in
-    let piece : List ℕ = take k (take (length bs - i) (drop i bs)) in
     let inv = c.loop-read.invariant in
-    let more = read_more bs i k in
-    let mid : run_rest c.loop-read.self piece ≡ run_rest (run_rest u (take i bs)) piece =
-    ap (λ (v : List ℕ). run_rest v piece) inv.rest in
-    let told : run_told c.loop-read.self piece ≡ run_told (run_rest u (take i bs)) piece =
-    ap (λ (v : List ℕ). run_told v piece) inv.rest in
+    let reads = c.some-read.ensures in
+    let more = reads_more g.P.Perform.step c.args.self.now c.loop-read.self c.loop-read.performer bs i k
+    c.some-read.new.performer c.some-read.new.self inv.told inv.within inv.no_esc inv.added inv.rest reads in
     record {
-      within = omega (arith, c.some-read.ensures.within, length-take (length bs - i) (drop i bs), length-drop i bs);
-      no_esc = ap has_no_esc more ∙ no_esc-append (take i bs) piece inv.no_esc c.some-read.ensures.no_esc;
-      told = same_events g.P.Perform.step c.args.performer.now c.some-read.new.performer (run_told u (take i bs)
-          ++ run_told c.loop-read.self piece) (run_told u (take (i + k) bs))
-          (ap (λ (es : List Event). run_told u (take i bs) ++ es) told
-          ∙ (sym (run_told-append u (take i bs) piece) ∙ ap (run_told u) (sym more)))
-          (performs-append g.P.Perform.step c.args.performer.now c.loop-read.performer c.some-read.new.performer
-          (run_told u (take i bs)) (run_told c.loop-read.self piece) inv.told c.some-read.ensures.told);
-      rest = c.some-read.ensures.rest ∙ (mid ∙ (sym (run_rest-append u (take i bs) piece)
-          ∙ ap (run_rest u) (sym more)));
+      within = omega (arith, reads.within, length-take (length bs - i) (drop i bs), length-drop i bs);
+      no_esc = ap has_no_esc (read_more bs i k)
+          ∙ no_esc-append (take i bs) (take k (take (length bs - i) (drop i bs))) inv.no_esc reads.no_esc;
+      told = inv.told ++ reads.told;
+      performed = performs-append g.P.Perform.step c.args.performer.now c.loop-read.performer
+          c.some-read.new.performer inv.told reads.told inv.performed reads.performed;
+      added = more.0;
+      rest = more.1;
     }
 
-pub returns-else-bytes-read-ne27-clause-len : goal.returns-else-bytes-read-ne27-clause-len
-returns-else-bytes-read-ne27-clause-len g c =
+pub returns-else-bytes-read-ne27 : goal.returns-else-bytes-read-ne27
+returns-else-bytes-read-ne27 g c =
     let bs = c.args.bytes.now in
     let i = c.loop-read.read in
+    let inv = c.loop-read.invariant in
     let esc : is_esc (get_or bs i 0) ≡ true = eq-eqb (get_or bs i 0) 0x1B (omega (arith, c.if-bytes-read-ne27.false)) in
-    text_end bs i c.loop-read.invariant.within c.loop-read.invariant.no_esc (λ lt. esc)
+    let len : i ≡ length (before is_esc bs) = text_end bs i inv.within inv.no_esc (λ lt. esc) in
+    let all = reads_all c.args.self.now c.loop-read.self bs i inv.told len inv.added inv.rest in
+    record {
+      len = len;
+      told = same_events g.P.Perform.step c.args.performer.now c.loop-read.performer inv.told
+          (run_told c.args.self.now (take i bs)) all.0 inv.performed;
+      rest = all.1;
+    }
 
-pub returns-after-loop-read-clause-len : goal.returns-after-loop-read-clause-len
-returns-after-loop-read-clause-len g c =
-    text_end c.args.bytes.now c.loop-read.read c.loop-read.invariant.within c.loop-read.invariant.no_esc
-    (λ lt. absurd (omega (arith, lt, c.loop-read-test.false)))
+pub returns-after-loop-read : goal.returns-after-loop-read
+returns-after-loop-read g c =
+    let bs = c.args.bytes.now in
+    let i = c.loop-read.read in
+    let inv = c.loop-read.invariant in
+    let len : i ≡ length (before is_esc bs) =
+    text_end bs i inv.within inv.no_esc (λ lt. absurd (omega (arith, lt, c.loop-read-test.false))) in
+    let all = reads_all c.args.self.now c.loop-read.self bs i inv.told len inv.added inv.rest in
+    record {
+      len = len;
+      told = same_events g.P.Perform.step c.args.performer.now c.loop-read.performer inv.told
+          (run_told c.args.self.now (take i bs)) all.0 inv.performed;
+      rest = all.1;
+    }

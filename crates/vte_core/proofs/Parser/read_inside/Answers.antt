@@ -1,7 +1,7 @@
-use Rattle.std.proofs.Common.{map, take, sym}
+use Rattle.std.proofs.Common.{map, take, sym, refl, []}
 use Rattle.vte_core.specs.Event.{Put}
 use Rattle.vte_core.proofs.Device.{device-at}
-use Rattle.vte_core.proofs.Parser.put_data.Goals as goal
+use Rattle.vte_core.proofs.Parser.read_inside.Goals as goal
 
 pub returns-in-DcsPassthrough-clause-stands : goal.returns-in-DcsPassthrough-clause-stands
 returns-in-DcsPassthrough-clause-stands g c = λ q h.
@@ -14,4 +14,11 @@ returns-in-DcsPassthrough-clause-told g c = record {
   performed = c.put_front.ensures.told;
   added = λ q h. sym (device-at g.row.N c.args.self.now q (take c.put_front.result c.args.bytes.now)
       c.in-DcsPassthrough.is c.put_front.ensures.all_put h).0;
+}
+
+pub returns-in_default : goal.returns-in_default
+returns-in_default g c = record {
+  within = c.read_quiet.ensures.within;
+  stands = c.read_quiet.ensures.stands;
+  told = record { told = []; performed = refl; added = λ q h. sym (c.read_quiet.ensures.quiet q h) };
 }

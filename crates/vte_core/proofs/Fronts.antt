@@ -1,0 +1,322 @@
+-- Ground text, front by front.
+use Rattle.std.proofs.Common.{◌≡◌, ℕ, zero, suc, ◌+◌, ◌-◌, ◌*◌, ◌<◌, ◌≤◌, true, false, List, [], ◌∷◌, ◌++◌, length, take, drop}
+use Rattle.std.proofs.Common.{get_or, nat_lt, ◌==◌, refl, sym, ◌∙◌, ap, arith, inl, inr, append_assoc}
+use Rattle.std.proofs.lemmas.Bool.Decides.{nat_tests}
+use Rattle.std.proofs.lemmas.Bool.{eqb-true}
+use Rattle.std.proofs.lemmas.List.{drop-drop, drop_all, append-nil}
+use Rattle.std.specs.Int.{is_in_range}
+use Rattle.vte_core.specs.Event.{Event, Performs, Print, Execute}
+use Rattle.vte_core.specs.Bytes.{is_esc}
+use Rattle.vte_core.specs.Text.{char_len, second_min, second_max, first_bits, char_event, malformed_event}
+use Rattle.vte_core.specs.Pending.{goes_on, text_told, text_rest, IsWhole, code_of}
+use Rattle.vte_core.specs.Shapes.{before}
+use Rattle.vte_core.specs.Runs.{ReadsText, run_told, run_rest, has_no_esc}
+use Rattle.vte_core.proofs.Characters.{bool_cases, lead-high, malformed-high, tail_first}
+use Rattle.vte_core.proofs.Runs.{run_told-append, run_rest-append, no_esc-both, take-before, two, three, four}
+use Rattle.vte_core.proofs.StopLemmas.{whole_rest}
+
+-- the text before the next ESC begins with the bytes that have none
+front-before : (bs : List ℕ) (k : ℕ) → k ≤ length bs → has_no_esc (take k bs) ≡ true
+    → before is_esc bs ≡ take k bs ++ drop k (before is_esc bs)
+front-before bs zero l h = refl
+front-before [] (suc k) l h = absurd (omega (arith, l))
+front-before (b ∷ bs) (suc k) l h =
+    let g = no_esc-both b (take k bs) h in
+    let e : is_esc b ≡ false = g.0 in
+    rw e (ap (λ (xs : List ℕ). b ∷ xs) (front-before bs k (omega (arith, l)) g.1))
+
+before-drop : (bs : List ℕ) (k : ℕ) → k ≤ length bs → has_no_esc (take k bs) ≡ true
+    → before is_esc (drop k bs) ≡ drop k (before is_esc bs)
+before-drop bs zero l h = refl
+before-drop [] (suc k) l h = absurd (omega (arith, l))
+before-drop (b ∷ bs) (suc k) l h =
+    let g = no_esc-both b (take k bs) h in
+    let e : is_esc b ≡ false = g.0 in
+    rw e (before-drop bs k (omega (arith, l)) g.1)
+
+-- a front that is told by itself
+pub reads_front : {S : Type 0} (step : S → Event → S
+    → Type 0) (u : List ℕ) (old : S) (bs : List ℕ) (k : ℕ) (new : S) (v : List ℕ) → 0 < k → k ≤ length bs
+    → has_no_esc (take k bs) ≡ true → Performs step old (run_told u (take k bs)) new → v ≡ run_rest u (take k bs)
+    → ReadsText step u old bs k new v
+reads_front step u old bs k new v s l h p r =
+    let e = front-before bs k l h in
+    let left = drop k (before is_esc bs) in
+    record {
+      some = s;
+      within = l;
+      no_esc = h;
+      told = run_told u (take k bs);
+      performed = p;
+      added = ap (run_told u) e ∙ (run_told-append u (take k bs) left
+          ∙ ap (λ (w : List ℕ). run_told u (take k bs) ++ run_told w left) (sym r));
+      rest = ap (run_rest u) e ∙ (run_rest-append u (take k bs) left ∙ ap (λ (w : List ℕ). run_rest w left) (sym r));
+    }
+
+-- one byte
+pub reads_byte : {S : Type 0} (step : S → Event → S → Type 0) (u : List ℕ) (old : S) (bs : List ℕ) (new : S) (v : List ℕ)
+    → 0 < length bs → is_esc (get_or bs 0 0) ≡ false → Performs step old (text_told u (get_or bs 0 0)) new
+    → v ≡ text_rest u (get_or bs 0 0) → ReadsText step u old bs 1 new v
+reads_byte step u old [] new v some e p r = absurd (omega (arith, some))
+reads_byte step u old (b ∷ s) new v some e p r =
+    let f : is_esc b ≡ false = e in
+    record {
+      some = omega arith;
+      within = omega arith;
+      no_esc = rw f refl;
+      told = text_told u b;
+      performed = p;
+      added = rw f (ap (λ (w : List ℕ). text_told u b ++ run_told w (before is_esc s)) (sym r));
+      rest = rw f (ap (λ (w : List ℕ). run_rest w (before is_esc s)) (sym r));
+    }
+
+-- a malformed sequence of one byte, of two and three
+
+cut-one : (a b : ℕ) (s : List ℕ) → 1 < char_len a → goes_on a [] b ≡ false
+    → (run_told [] (a ∷ b ∷ s) ≡ Print 0xFFFD ∷ run_told [] (b ∷ s)) × (run_rest [] (a ∷ b ∷ s) ≡ run_rest [] (b ∷ s))
+cut-one a b s long off =
+    let one : (char_len a == 1) ≡ false = grind (arith, nat_tests) in
+    let none : (char_len a == 0) ≡ false = grind (arith, nat_tests) in
+    (rw (one, none, off) refl, rw (one, none, off) refl)
+
+cut-two : (a b c : ℕ) (s : List ℕ) → 2 < char_len a → goes_on a [] b ≡ true → is_in_range 0x80 0xBF c ≡ false
+    → (run_told [] (a ∷ b ∷ c ∷ s) ≡ Print 0xFFFD ∷ run_told [] (c ∷ s))
+    × (run_rest [] (a ∷ b ∷ c ∷ s) ≡ run_rest [] (c ∷ s))
+cut-two a b c s long begun off =
+    let one : (char_len a == 1) ≡ false = grind (arith, nat_tests) in
+    let none : (char_len a == 0) ≡ false = grind (arith, nat_tests) in
+    let two : (2 == char_len a) ≡ false = grind (arith, nat_tests) in
+    (rw (one, none, begun, two, off) refl, rw (one, none, begun, two, off) refl)
+
+cut-three : (a b c d : ℕ) (s : List ℕ) → 3 < char_len a → goes_on a [] b ≡ true → is_in_range 0x80 0xBF c ≡ true
+    → is_in_range 0x80 0xBF d ≡ false
+    → (run_told [] (a ∷ b ∷ c ∷ d ∷ s) ≡ Print 0xFFFD ∷ run_told [] (d ∷ s))
+    × (run_rest [] (a ∷ b ∷ c ∷ d ∷ s) ≡ run_rest [] (d ∷ s))
+cut-three a b c d s long begun on off =
+    let one : (char_len a == 1) ≡ false = grind (arith, nat_tests) in
+    let none : (char_len a == 0) ≡ false = grind (arith, nat_tests) in
+    let two : (2 == char_len a) ≡ false = grind (arith, nat_tests) in
+    let three : (3 == char_len a) ≡ false = grind (arith, nat_tests) in
+    (rw (one, none, begun, two, on, three, off) refl, rw (one, none, begun, two, on, three, off) refl)
+
+stray : (a : ℕ) (s : List ℕ) → char_len a ≡ 0
+    → (run_told [] (a ∷ s) ≡ malformed_event 1 a ∷ run_told [] s) × (run_rest [] (a ∷ s) ≡ run_rest [] s)
+stray a s none = (rw none refl, rw none refl)
+
+malformed-told : (a b : ℕ) (s : List ℕ) → 0x80 ≤ a → (1 < char_len a → goes_on a [] b ≡ false)
+    → (run_told [] (a ∷ b ∷ s) ≡ malformed_event 1 a ∷ run_told [] (b ∷ s))
+    × (run_rest [] (a ∷ b ∷ s) ≡ run_rest [] (b ∷ s))
+malformed-told a b s high off =
+    elim (bool_cases (nat_lt 1 (char_len a))) [
+      | inl e ↦
+          let long : 1 < char_len a = grind (arith, nat_tests) in
+          let cut = cut-one a b s long (off long) in
+          let is : malformed_event 1 a ≡ Print 0xFFFD = malformed-high 1 a (lead-high a long) in
+          (cut.0 ∙ ap (λ (x : Event). x ∷ run_told [] (b ∷ s)) (sym is), cut.1)
+      | inr e ↦ stray a (b ∷ s) (grind (arith, nat_tests))
+    ]
+
+pub reads_malformed : {S : Type 0} (step : S → Event → S → Type 0) (old : S) (bs : List ℕ) (new : S) → 1 < length bs
+    → 0x80 ≤ get_or bs 0 0 → is_esc (get_or bs 1 0) ≡ false
+    → (1 < char_len (get_or bs 0 0) → goes_on (get_or bs 0 0) [] (get_or bs 1 0) ≡ false)
+    → step old (malformed_event 1 (get_or bs 0 0)) new → ReadsText step [] old bs 1 new []
+reads_malformed step old [] new some high esc off h = absurd (omega (arith, some))
+reads_malformed step old (a ∷ []) new some high esc off h = absurd (omega (arith, some))
+reads_malformed step old (a ∷ b ∷ s) new some high esc off h =
+    let e : is_esc a ≡ false = grind (arith, nat_tests) in
+    let f : is_esc b ≡ false = esc in
+    let both = malformed-told a b (before is_esc s) high off in
+    record {
+      some = omega arith;
+      within = omega arith;
+      no_esc = rw e refl;
+      told = malformed_event 1 a ∷ [];
+      performed = (new, h, refl);
+      added = rw (e, f) both.0;
+      rest = rw (e, f) both.1;
+    }
+
+pub reads_two : {S : Type 0} (step : S → Event → S → Type 0) (old : S) (bs : List ℕ) (new : S) → 2 < length bs
+    → 2 < char_len (get_or bs 0 0) → goes_on (get_or bs 0 0) [] (get_or bs 1 0) ≡ true
+    → is_in_range 0x80 0xBF (get_or bs 2 0) ≡ false → is_esc (get_or bs 2 0) ≡ false
+    → step old (Print 0xFFFD) new → ReadsText step [] old bs 2 new []
+reads_two step old [] new some long begun off esc h = absurd (omega (arith, some))
+reads_two step old (a ∷ []) new some long begun off esc h = absurd (omega (arith, some))
+reads_two step old (a ∷ b ∷ []) new some long begun off esc h = absurd (omega (arith, some))
+reads_two step old (a ∷ b ∷ c ∷ s) new some long begun off esc h =
+    let e : is_esc a ≡ false = grind (arith, nat_tests) in
+    let f : is_esc b ≡ false = grind (arith, nat_tests) in
+    let g : is_esc c ≡ false = esc in
+    let both = cut-two a b c (before is_esc s) long begun off in
+    record {
+      some = omega arith;
+      within = omega arith;
+      no_esc = rw (e, f) refl;
+      told = Print 0xFFFD ∷ [];
+      performed = (new, h, refl);
+      added = rw (e, f, g) both.0;
+      rest = rw (e, f, g) both.1;
+    }
+
+pub reads_three : {S : Type 0} (step : S → Event → S → Type 0) (old : S) (bs : List ℕ) (new : S) → 3 < length bs
+    → 3 < char_len (get_or bs 0 0) → goes_on (get_or bs 0 0) [] (get_or bs 1 0) ≡ true
+    → is_in_range 0x80 0xBF (get_or bs 2 0) ≡ true → is_in_range 0x80 0xBF (get_or bs 3 0) ≡ false
+    → is_esc (get_or bs 3 0) ≡ false → step old (Print 0xFFFD) new → ReadsText step [] old bs 3 new []
+reads_three step old [] new some long begun on off esc h = absurd (omega (arith, some))
+reads_three step old (a ∷ []) new some long begun on off esc h = absurd (omega (arith, some))
+reads_three step old (a ∷ b ∷ []) new some long begun on off esc h = absurd (omega (arith, some))
+reads_three step old (a ∷ b ∷ c ∷ []) new some long begun on off esc h = absurd (omega (arith, some))
+reads_three step old (a ∷ b ∷ c ∷ d ∷ s) new some long begun on off esc h =
+    let e : is_esc a ≡ false = grind (arith, nat_tests) in
+    let f : is_esc b ≡ false = grind (arith, nat_tests) in
+    let g : is_esc c ≡ false = grind (arith, nat_tests) in
+    let i : is_esc d ≡ false = esc in
+    let both = cut-three a b c d (before is_esc s) long begun on off in
+    record {
+      some = omega arith;
+      within = omega arith;
+      no_esc = rw (e, f, g) refl;
+      told = Print 0xFFFD ∷ [];
+      performed = (new, h, refl);
+      added = rw (e, f, g, i) both.0;
+      rest = rw (e, f, g, i) both.1;
+    }
+
+-- a control of two bytes
+pub c1-run : (b : ℕ) → is_in_range 0x80 0x9F b ≡ true
+    → (run_told [] (0xC2 ∷ b ∷ []) ≡ Execute b ∷ []) × (run_rest [] (0xC2 ∷ b ∷ []) ≡ [])
+    × (has_no_esc (0xC2 ∷ b ∷ []) ≡ true)
+c1-run b h =
+    let on : is_in_range 0x80 0xBF b ≡ true = grind (arith, nat_tests) in
+    let esc : is_esc b ≡ false = grind (arith, nat_tests) in
+    let low : nat_lt b 0x20 ≡ false = grind (arith, nat_tests) in
+    let code : 2 * 64 + (b - 128) ≡ b = grind (arith, nat_tests) in
+    (rw on (rw code (rw (low, h) refl)), rw on refl, rw esc refl)
+
+-- after the first i bytes, told so far, a step of ground text
+pub reads_more : {S : Type 0} (step : S → Event → S
+    → Type 0) (u w : List ℕ) (mid : S) (bs : List ℕ) (i k : ℕ) (new : S) (v : List ℕ) (told : List Event)
+    → i ≤ length bs → has_no_esc (take i bs) ≡ true
+    → run_told u (before is_esc bs) ≡ told ++ run_told w (drop i (before is_esc bs))
+    → run_rest u (before is_esc bs) ≡ run_rest w (drop i (before is_esc bs))
+    → (r : ReadsText step w mid (take (length bs - i) (drop i bs)) k new v)
+    → (run_told u (before is_esc bs) ≡ (told ++ r.told) ++ run_told v (drop (i + k) (before is_esc bs)))
+    × (run_rest u (before is_esc bs) ≡ run_rest v (drop (i + k) (before is_esc bs)))
+reads_more step u w mid bs i k new v told l h a b r =
+    let s = before is_esc bs in
+    let p : before is_esc (take (length bs - i) (drop i bs)) ≡ drop i s =
+    ap (before is_esc) (whole_rest bs i) ∙ before-drop bs i l h in
+    let left : drop k (before is_esc (take (length bs - i) (drop i bs))) ≡ drop (i + k) s =
+    ap (drop k) p ∙ drop-drop k i s in (
+      a ∙ (ap (λ (es : List Event). told ++ es) (ap (run_told w) (sym p) ∙ (r.added
+          ∙ ap (λ (xs : List ℕ). r.told ++ run_told v xs) left))
+          ∙ sym (append_assoc told r.told (run_told v (drop (i + k) s)))),
+      b ∙ (ap (run_rest w) (sym p) ∙ (r.rest ∙ ap (run_rest v) left)),
+    )
+
+-- the whole text
+pub reads_all : (u w : List ℕ) (bs : List ℕ) (i : ℕ) (told : List Event) → i ≡ length (before is_esc bs)
+    → run_told u (before is_esc bs) ≡ told ++ run_told w (drop i (before is_esc bs))
+    → run_rest u (before is_esc bs) ≡ run_rest w (drop i (before is_esc bs))
+    → (told ≡ run_told u (take i bs)) × (w ≡ run_rest u (take i bs))
+reads_all u w bs i told e a b =
+    let s = before is_esc bs in
+    let all : take i bs ≡ s = ap (λ (j : ℕ). take j bs) e ∙ take-before bs in
+    let none : drop i s ≡ [] = drop_all i s (omega (arith, e)) in (
+      sym (ap (run_told u) all ∙ (a ∙ (ap (λ (xs : List ℕ). told ++ run_told w xs) none ∙ append-nil told))),
+      sym (ap (run_rest u) all ∙ (b ∙ ap (run_rest w) none)),
+    )
+
+pub of_three : (a : ℕ) → 1 < char_len a → 0xE0 ≤ a → 2 < char_len a
+of_three a long least = grind (arith, nat_tests)
+
+pub of_four : (a : ℕ) → 1 < char_len a → 0xF0 ≤ a → 3 < char_len a
+of_four a long least = grind (arith, nat_tests)
+
+-- whole characters
+
+pub whole_two : (bs : List ℕ) → 1 < length bs → 1 < char_len (get_or bs 0 0)
+    → goes_on (get_or bs 0 0) [] (get_or bs 1 0) ≡ true → get_or bs 0 0 < 0xE0 → IsWhole (take 2 bs)
+whole_two [] some long begun less = absurd (omega (arith, some))
+whole_two (a ∷ []) some long begun less = absurd (omega (arith, some))
+whole_two (a ∷ b ∷ s) some long begun less =
+    let n : char_len a ≡ 2 = grind (arith, nat_tests) in rw (n, begun) (refl, refl)
+
+pub whole_three : (bs : List ℕ) → 2 < length bs → 1 < char_len (get_or bs 0 0)
+    → goes_on (get_or bs 0 0) [] (get_or bs 1 0) ≡ true → is_in_range 0x80 0xBF (get_or bs 2 0) ≡ true
+    → 0xE0 ≤ get_or bs 0 0 → get_or bs 0 0 < 0xF0 → IsWhole (take 3 bs)
+whole_three [] some long begun third least less = absurd (omega (arith, some))
+whole_three (a ∷ []) some long begun third least less = absurd (omega (arith, some))
+whole_three (a ∷ b ∷ []) some long begun third least less = absurd (omega (arith, some))
+whole_three (a ∷ b ∷ c ∷ s) some long begun third least less =
+    let n : char_len a ≡ 3 = grind (arith, nat_tests) in rw (n, begun, third) (refl, refl)
+
+pub whole_four : (bs : List ℕ) → 3 < length bs → 1 < char_len (get_or bs 0 0)
+    → goes_on (get_or bs 0 0) [] (get_or bs 1 0) ≡ true → is_in_range 0x80 0xBF (get_or bs 2 0) ≡ true
+    → is_in_range 0x80 0xBF (get_or bs 3 0) ≡ true → 0xF0 ≤ get_or bs 0 0 → IsWhole (take 4 bs)
+whole_four [] some long begun third fourth least = absurd (omega (arith, some))
+whole_four (a ∷ []) some long begun third fourth least = absurd (omega (arith, some))
+whole_four (a ∷ b ∷ []) some long begun third fourth least = absurd (omega (arith, some))
+whole_four (a ∷ b ∷ c ∷ []) some long begun third fourth least = absurd (omega (arith, some))
+whole_four (a ∷ b ∷ c ∷ d ∷ s) some long begun third fourth least =
+    let n : char_len a ≡ 4 = grind (arith, nat_tests) in rw (n, begun, third, fourth) (refl, refl)
+
+at_most_four : (a : ℕ) → char_len a ≤ 4
+at_most_four a =
+    elim (bool_cases (nat_lt a 0x80)) [
+      | inl e ↦ rw e (omega arith)
+      | inr e ↦ rw e (elim (bool_cases (is_in_range 0xC2 0xDF a)) [
+        | inl f ↦ rw f (omega arith)
+        | inr f ↦ rw f (elim (bool_cases (is_in_range 0xE0 0xEF a)) [
+          | inl g ↦ rw g (omega arith)
+          | inr g ↦ rw g (elim (bool_cases (is_in_range 0xF0 0xF4 a)) [
+            | inl h ↦ rw h (omega arith)
+            | inr h ↦ rw h (omega arith)
+          ])
+        ])
+      ])
+    ]
+
+lead-no_esc : (a : ℕ) → 1 < char_len a → is_esc a ≡ false
+lead-no_esc a long = grind (arith, nat_tests)
+
+second-no_esc : (a b : ℕ) → is_in_range (second_min a) (second_max a) b ≡ true → is_esc b ≡ false
+second-no_esc a b h = grind (arith, nat_tests)
+
+tail-no_esc : (b : ℕ) → is_in_range 0x80 0xBF b ≡ true → is_esc b ≡ false
+tail-no_esc b h = grind (arith, nat_tests)
+
+-- a whole character of more than one byte
+pub whole-told : (bs : List ℕ) → IsWhole bs → 1 < length bs
+    → (run_told [] bs ≡ char_event (code_of bs) ∷ []) × (run_rest [] bs ≡ []) × (has_no_esc bs ≡ true)
+whole-told [] h long = absurd (omega (arith, long))
+whole-told (a ∷ []) h long = absurd (omega (arith, long))
+whole-told (a ∷ b ∷ []) h long =
+    let n : char_len a ≡ 2 = sym h.1 in
+    let first = tail_first 0 (second_min a) (second_max a) b [] (let g = rw n at h.0 in g) in
+    let r = two a b _ [] n first.0 refl in
+    let e = lead-no_esc a (omega (arith, n)) in
+    let f = second-no_esc a b first.0 in
+    (r.0, r.1, rw (e, f) refl)
+whole-told (a ∷ b ∷ c ∷ []) h long =
+    let n : char_len a ≡ 3 = sym h.1 in
+    let first = tail_first 1 (second_min a) (second_max a) b (c ∷ []) (let g = rw n at h.0 in g) in
+    let second = tail_first 0 0x80 0xBF c [] first.1 in
+    let r = three a b c _ [] n first.0 second.0 refl in
+    let e = lead-no_esc a (omega (arith, n)) in
+    let f = second-no_esc a b first.0 in
+    let i = tail-no_esc c second.0 in
+    (r.0, r.1, rw (e, f, i) refl)
+whole-told (a ∷ b ∷ c ∷ d ∷ []) h long =
+    let n : char_len a ≡ 4 = sym h.1 in
+    let first = tail_first 2 (second_min a) (second_max a) b (c ∷ d ∷ []) (let g = rw n at h.0 in g) in
+    let second = tail_first 1 0x80 0xBF c (d ∷ []) first.1 in
+    let third = tail_first 0 0x80 0xBF d [] second.1 in
+    let r = four a b c d _ [] n first.0 second.0 third.0 refl in
+    let e = lead-no_esc a (omega (arith, n)) in
+    let f = second-no_esc a b first.0 in
+    let i = tail-no_esc c second.0 in
+    let j = tail-no_esc d third.0 in
+    (r.0, r.1, rw (e, f, i, j) refl)
+whole-told (a ∷ b ∷ c ∷ d ∷ x ∷ s) h long =
+    absurd (omega (arith, h.1, at_most_four a))
