@@ -41,19 +41,19 @@ pub record IsRoom (s : Scene) (C : ℕ → Type 0) (S : ℕ → ℕ → Type 0) 
   pub empty : (c k : ℕ) → c < s.job.cols → is_same s.job c ≡ false → k < s.job.cols
       → is_filled (s.job.new k) ≡ false → C k
 
-or-four : (a b c d : Bool) → (a || (b || (c || d))) ≡ true
+pub or-four : (a b c d : Bool) → (a || (b || (c || d))) ≡ true
     → (a ≡ true) ⊎ ((b ≡ true) ⊎ ((c ≡ true) ⊎ (d ≡ true)))
 or-four true b c d h = inl refl
 or-four false true c d h = inr (inl refl)
 or-four false false true d h = inr (inr (inl refl))
 or-four false false false d h = inr (inr (inr h))
 
-or-split : (a b : Bool) → (a || b) ≡ true → (a ≡ true) ⊎ (b ≡ true)
+pub or-split : (a b : Bool) → (a || b) ≡ true → (a ≡ true) ⊎ (b ≡ true)
 or-split true b h = inl refl
 or-split false b h = inr h
 
 -- where the earlier row has a wide cell
-wide-there : (s : Scene) → IsScene s → (n : ℕ) (f : ℕ → CellView) → Line s.job.old s.job.new n f
+pub wide-there : (s : Scene) → IsScene s → (n : ℕ) (f : ℕ → CellView) → Line s.job.old s.job.new n f
     → (f n).wide ≡ true → (s.job.old n).wide ≡ true
 wide-there s h n f l wide =
     elim (cases_Bool (s.job.old n).continuation) [
@@ -70,7 +70,7 @@ not-left s h n k f l single next wide =
     ∙ h.new.paired.next k ∙ ap (λ (x : CellView). x.wide) (sym is) ∙ wide)
 
 -- a cell that differs is put at n
-put-room : (s : Scene) (C : ℕ → Type 0) (S : ℕ → ℕ → Type 0) → IsScene s → IsRoom s C S → (n : ℕ) (f : ℕ → CellView)
+pub put-room : (s : Scene) (C : ℕ → Type 0) (S : ℕ → ℕ → Type 0) → IsScene s → IsRoom s C S → (n : ℕ) (f : ℕ → CellView)
     → Line s.job.old s.job.new n f → (s.job.new n).continuation ≡ false → n < s.job.cols → C n → (k : ℕ)
     → k < s.job.cols → put_touches f n (s.job.new n) k ≡ true → S s.job.row k
 put-room s C S h o n f l single inside here k low touched =
@@ -113,7 +113,7 @@ put-room s C S h o n f l single inside here k low touched =
     ]
 
 -- columns that are to be empty are erased
-wipe-room : (s : Scene) (C : ℕ → Type 0) (S : ℕ → ℕ → Type 0) → IsScene s → IsRoom s C S → (a b : ℕ)
+pub wipe-room : (s : Scene) (C : ℕ → Type 0) (S : ℕ → ℕ → Type 0) → IsScene s → IsRoom s C S → (a b : ℕ)
     (f : ℕ → CellView) (x : Attrs)
     → ((k : ℕ) → k < a → f k ≡ s.job.new k)
     → ((f b).continuation ≡ true → (s.job.old b).continuation ≡ true)
@@ -149,7 +149,7 @@ wipe-room s C S h o a b f x written half some up_to blank close k low touched =
 
 -- ---- a cell is drawn
 
-draws-within : (s : Scene) (C : ℕ → Type 0) (S : ℕ → ℕ → Type 0) (F : ℕ → Bool) (f : ℕ → CellView) (r k : ℕ)
+pub draws-within : (s : Scene) (C : ℕ → Type 0) (S : ℕ → ℕ → Type 0) (F : ℕ → Bool) (f : ℕ → CellView) (r k : ℕ)
     (a : Attrs) (lost b : Bool) (n : ℕ) → IsScene s → IsRoom s C S → IsProper a
     → has_text (s.job.new n) ≡ true → (s.job.new n).continuation ≡ false → n < s.job.cols → C n
     → Line s.job.old s.job.new n f
