@@ -4,6 +4,7 @@ pub mod ColumnsWrites
 pub mod Examples
 pub mod KeptRows
 pub mod Lines
+pub mod Local
 pub mod LocalColumns
 pub mod LocalRow
 pub mod OpeningWrites

@@ -88,7 +88,7 @@ columns-marked j (suc n) p h = column-marked j (j.start + n) (columns j n p).pen
 -- ---- columns are erased
 
 -- a space is printed in the first column
-space-room : (s : Scene) (C : ℕ → Type 0) (S : ℕ → ℕ → Type 0) → IsScene s → IsRoom s C S → (f : ℕ → CellView)
+pub space-room : (s : Scene) (C : ℕ → Type 0) (S : ℕ → ℕ → Type 0) → IsScene s → IsRoom s C S → (f : ℕ → CellView)
     (a : Attrs) → Line s.job.old s.job.new 0 f → C 0 → (k : ℕ) → k < s.job.cols
     → put_touches f 0 (cell_of 32 a) k ≡ true → S s.job.row k
 unfolding char_width
