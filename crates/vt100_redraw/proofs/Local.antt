@@ -3,7 +3,7 @@ use Rattle.std.proofs.Common.{◌≡◌, ℕ, ◌+◌, ◌-◌, ◌<◌, ◌≤�
 use Rattle.std.proofs.Common.{Option, None, refl, arith, sym, ap, ◌∙◌, inl, inr, ◌⊎◌, subst}
 use Rattle.std.proofs.lemmas.Bool.Decides.{nat_tests}
 use Rattle.std.proofs.lemmas.Bool.{cases_Bool, both_ways, and_parts, and_from, eqb-true, leb-true, ltb-true, false≢true}
-use Rattle.std.proofs.lemmas.Bool.{not-true}
+use Rattle.std.proofs.lemmas.Bool.{cond_both}
 use Rattle.vt100_forms.specs.declared.attrs.Attrs.{Attrs}
 use Rattle.vt100_forms.specs.Attrs.{IsProper}
 use Rattle.vt100_cells.specs.CellEq.{cell_eq-true}
@@ -159,3 +159,278 @@ opening-within s C S p h ready o first =
     let t = with_row s s.job.old s.flags p.pos.row p.pos.col p.attrs in
     let base = opening-at_within s C S p.pos.row p.pos.col p.attrs p.lost h ready.proper o first in
     subst (λ e. Stays S (size_of s) (opening s.job) (pen p.pos.row p.pos.col p.attrs e p.lost) t) (sym ready.closed) base
+
+-- nothing waits to be erased after it
+reprint-marked : (j : Job) (x : CellView) (p : Pen) → p.erase ≡ None → IsMarked j (reprint j x p).pen.erase
+unfolding reprint ◌>>◌ print space back erasing
+reprint-marked j x p none =
+    let P : Writer → Type 0 = λ f. IsMarked j (f p).pen.erase in
+    let clear : IsMarked j p.erase = subst (IsMarked j) (sym none) tt in
+    cond_both (has_text x) (print x false >> cond x.wide (back >> back) back)
+    (space >> back >> erasing 1 (wipe_unflags j.cols j.old 0 1)) P
+    (λ _. cond_both x.wide (back >> back) back (λ f. IsMarked j ((print x false >> f) p).pen.erase) (λ _. clear)
+    (λ _. clear)) (λ _. tt)
+
+opening-marked : (j : Job) (p : Pen) → p.erase ≡ None → IsMarked j (opening j p).pen.erase
+unfolding opening ◌>>◌ turn colour skip
+opening-marked j p none =
+    let clear : IsMarked j p.erase = subst (IsMarked j) (sym none) tt in
+    cond_both (owes_flag j p) ((turn j.row >> colour (j.new j.start).attrs >> reprint j (j.new j.start)) p) (skip p)
+    (λ (d : Drawn). IsMarked j d.pen.erase)
+    (λ _. reprint-marked j (j.new j.start) (record p {
+      pos = record { row = j.row; col = 0 };
+      attrs = (j.new j.start).attrs;
+    }) none) (λ _. clear)
+
+-- ---- the last cell once more
+
+or-later : (a b : Bool) → b ≡ true → (a || b) ≡ true
+or-later true b h = refl
+or-later false b h = h
+
+-- its columns may be touched
+record IsEndRoom (s : Scene) (S : ℕ → ℕ → Type 0) : Type 0 where
+  here : S s.job.row (last_col s.job)
+  next : (last_cell s.job).wide ≡ true → S s.job.row (last_col s.job + 1)
+
+end-room : (s : Scene) (C : ℕ → Type 0) (S : ℕ → ℕ → Type 0) → IsScene s → IsRoom s C S → C (s.job.cols - 1)
+    → IsEndRoom s S
+end-room s C S h o last =
+    let j = s.job in
+    let c = last_col j in
+    let l = last-is s h in
+    let end : j.cols - 1 < j.cols = omega (arith, h.some_col) in
+    elim (cases_Bool (last_cell j).wide) [
+      | inr narrow ↦
+          (let one = span-narrow (last_cell j) narrow in
+          let is : j.cols - 1 ≡ c = omega (arith, one, l.up_to) in
+          record {
+            here = subst (S j.row) is (o.close (j.cols - 1) end last);
+            next = λ wide. absurd (both_ways (last_cell j).wide narrow wide);
+          })
+      | inl wide ↦
+          (let two = span-wide (last_cell j) wide in
+          let is : j.cols - 1 ≡ c + 1 = omega (arith, two, l.up_to) in
+          let half : (j.new (c + 1)).continuation ≡ true = h.new.paired.next c ∙ wide in
+          record {
+            here = o.first c (omega (arith, two, l.up_to)) (subst C is last) (or-later (j.old (c + 1)).continuation _ half);
+            next = λ _. subst (S j.row) is (o.close (j.cols - 1) end last);
+          })
+    ]
+
+-- the line shows nothing wide directly left of the last cell, and there at most what is wide itself
+record IsOverEnd (s : Scene) (g : ℕ → CellView) : Type 0 where
+  left : (k : ℕ) → k + 1 ≡ last_col s.job → (g k).wide ≡ false
+  there : (g (last_col s.job)).wide ≡ true → (last_cell s.job).wide ≡ true
+
+new-over : (s : Scene) → IsScene s → IsOverEnd s s.job.new
+new-over s h =
+    let j = s.job in
+    record {
+      left = λ k e. sym (h.new.paired.next k) ∙ ap (λ i. (j.new i).continuation) e ∙ (last-is s h).whole;
+      there = λ q. q;
+    }
+
+wiped-narrow : (f : ℕ → CellView) (c : ℕ) (a : Attrs) (k : ℕ) → k + 1 ≡ c → (f k).wide ≡ false
+    → (wiped f c (c + 1) a k).wide ≡ false
+wiped-narrow f c a k e h = grind (arith, nat_tests)
+
+wiped-none : (f : ℕ → CellView) (c : ℕ) (a : Attrs) → (wiped f c (c + 1) a c).wide ≡ false
+wiped-none f c a = grind (arith, nat_tests)
+
+wiped-over : (s : Scene) (a : Attrs) → IsScene s
+    → IsOverEnd s (wiped s.job.new (last_col s.job) (last_col s.job + 1) a)
+wiped-over s a h =
+    let j = s.job in
+    let c = last_col j in
+    record {
+      left = λ k e. wiped-narrow j.new c a k e ((new-over s h).left k e);
+      there = λ q. absurd (both_ways _ (wiped-none j.new c a) q);
+    }
+
+print-end : (s : Scene) (S : ℕ → ℕ → Type 0) → IsScene s → IsEndRoom s S → (g : ℕ → CellView) → IsOverEnd s g → (k : ℕ)
+    → k < s.job.cols → put_touches g (last_col s.job) (last_cell s.job) k ≡ true → S s.job.row k
+print-end s S h room g over k low touched =
+    let j = s.job in
+    let c = last_col j in
+    let x = last_cell j in
+    let l = last-is s h in
+    elim (or-four (k == c) ((k == (c + 1)) && (x.wide || (g c).wide)) (((k + 1) == c) && (g k).wide)
+    ((k == (c + 2)) && (x.wide && (g (c + 1)).wide)) touched) [
+      | inl at_c ↦ subst (S j.row) (sym (eqb-true k c at_c)) room.here
+      | inr (inl next) ↦
+          (let both = and_parts (k == (c + 1)) _ next in
+          let wide : x.wide ≡ true = (elim (or-split x.wide (g c).wide both.1) [
+            | inl new ↦ new
+            | inr old ↦ over.there old
+          ]) in
+          subst (S j.row) (sym (eqb-true k (c + 1) both.0)) (room.next wide))
+      | inr (inr (inl left)) ↦
+          (let both = and_parts ((k + 1) == c) _ left in
+          absurd (both_ways (g k).wide (over.left k (eqb-true (k + 1) c both.0)) both.1))
+      | inr (inr (inr third)) ↦
+          (let both = and_parts (k == (c + 2)) _ third in
+          let is = eqb-true k (c + 2) both.0 in
+          let two = span-wide x (and_parts x.wide _ both.1).0 in
+          absurd (omega (arith, is, two, l.up_to, low)))
+    ]
+
+wipe-end : (s : Scene) (S : ℕ → ℕ → Type 0) → IsScene s → IsEndRoom s S → (k : ℕ) → k < s.job.cols
+    → wipe_touches s.job.new (last_col s.job) (last_col s.job + 1) k ≡ true → S s.job.row k
+wipe-end s S h room k low touched =
+    let j = s.job in
+    let c = last_col j in
+    elim (or-split (nat_le c k && nat_lt k (c + 1)) _ touched) [
+      | inl between ↦
+          (let both = and_parts (nat_le c k) (nat_lt k (c + 1)) between in
+          let from = leb-true c k both.0 in
+          let to = ltb-true k (c + 1) both.1 in
+          let is : c ≡ k = omega (arith, from, to) in
+          subst (S j.row) is room.here)
+      | inr edges ↦ elim (or-split (((k + 1) == c) && (j.new k).wide) ((k == (c + 1)) && (j.new k).continuation)
+          (and_parts (nat_lt c (c + 1)) _ edges).1) [
+            | inl left ↦
+                (let both = and_parts ((k + 1) == c) _ left in
+                absurd (both_ways (j.new k).wide ((new-over s h).left k (eqb-true (k + 1) c both.0)) both.1))
+            | inr right ↦
+                (let both = and_parts (k == (c + 1)) _ right in
+                let is = eqb-true k (c + 1) both.0 in
+                let wide : (j.new c).wide ≡ true = sym (h.new.paired.next c) ∙ ap (λ i. (j.new i).continuation) (sym is)
+                ∙ both.1 in
+                subst (S j.row) (sym is) (room.next wide))
+          ]
+    ]
+
+print_last-within : (s : Scene) (S : ℕ → ℕ → Type 0) (F : ℕ → Bool) (g : ℕ → CellView) (a : Attrs) (lost : Bool)
+    → IsScene s → IsProper a → IsEndRoom s S → IsOverEnd s g
+    → Stays S (size_of s) (print_last (last_cell s.job)) (pen s.job.row (last_col s.job) a None lost)
+    (with_row s g F s.job.row (last_col s.job) a)
+print_last-within s S F g a lost h ha room over =
+    let j = s.job in
+    let c = last_col j in
+    let x = last_cell j in
+    let z = size_of s in
+    let p = pen j.row c a None lost in
+    let t = with_row s g F j.row c a in
+    let l = last-is s h in
+    elim (cases_Bool (has_text x)) [
+      | inr none ↦ stays-as S z skip (print_last x) p t (print-last_none x p none) (stays-skip S z p t)
+      | inl some ↦ stays-as S z (colour x.attrs >> print x false) (print_last x) p t (print-last_is x p some)
+          (stays-then S z (colour x.attrs) (print x false) p t _ _
+          (takes-colour z s.term (update s.cells j.row g) F j.row c a j.row c None lost x.attrs ha (h.proper c))
+          (stays-colour S z x.attrs p t)
+          (stays-print S z s.term s.cells F j.row c x.attrs g x false _ (sends s h c some) (omega (arith, l.up_to))
+          (print-end s S h room g over)))
+    ]
+
+mend-within : (s : Scene) (S : ℕ → ℕ → Type 0) (F : ℕ → Bool) (a : Attrs) (lost : Bool) → IsScene s → IsProper a
+    → IsEndRoom s S
+    → Stays S (size_of s) (mend s.job (last_cell s.job)) (pen s.job.row (last_col s.job) a None lost)
+    (with_row s s.job.new F s.job.row (last_col s.job) a)
+mend-within s S F a lost h ha room =
+    let j = s.job in
+    let c = last_col j in
+    let x = last_cell j in
+    let z = size_of s in
+    let p = pen j.row c a None lost in
+    let t = with_row s j.new F j.row c a in
+    let l = last-is s h in
+    let some = span-few x in
+    let fits : c + 1 ≤ j.cols = omega (arith, l.up_to, some) in
+    elim (cases_Bool j.wrapped) [
+      | inl wraps ↦ stays-as S z (print_last x) (mend j x) p t (mend-wraps j x p wraps)
+          (print_last-within s S F j.new a lost h ha room (new-over s h))
+      | inr ends ↦ stays-as S z (unflag x >> print_last x) (mend j x) p t (mend-ends j x p ends)
+          (elim (cases_Bool (has_text x)) [
+            | inl full ↦ stays-then S z (unflag x) (print_last x) p t _ _
+                (takes-as z (erasing 1 true) (unflag x) p t _ _ (unflag-full x p full)
+                (takes-erasing z s.term s.cells F j.row c 1 j.new a None lost true fits))
+                (stays-as S z (erasing 1 true) (unflag x) p t (unflag-full x p full)
+                (stays-erasing S z s.term s.cells F j.row c 1 (c + 1) a j.new true p refl fits (wipe-end s S h room)))
+                (print_last-within s S (kept_or_off (wipe_unflags j.cols j.new c (c + 1)) F j.row)
+                (wiped j.new c (c + 1) a) a (lost || true) h ha room (wiped-over s a h))
+            | inr empty ↦ stays-idle S z (unflag x) (print_last x) p t
+                (stays-as S z (colour x.attrs >> erasing 1 true) (unflag x) p t (unflag-empty x p empty)
+                (stays-then S z (colour x.attrs) (erasing 1 true) p t _ _
+                (takes-colour z s.term (update s.cells j.row j.new) F j.row c a j.row c None lost x.attrs ha (h.proper c))
+                (stays-colour S z x.attrs p t)
+                (stays-erasing S z s.term s.cells F j.row c 1 (c + 1) x.attrs j.new true _ refl fits
+                (wipe-end s S h room))))
+                (λ q u. stays-as S z skip (print_last x) q u (print-last_none x q empty) (stays-skip S z q u))
+          ])
+    ]
+
+closing-at_within : (s : Scene) (C : ℕ → Type 0) (S : ℕ → ℕ → Type 0) (F : ℕ → Bool) (r k : ℕ) (a : Attrs)
+    (lost : Bool) → IsScene s → IsProper a → IsRoom s C S
+    → (owes_end s.job (pen r k a None lost) ≡ true → C (s.job.cols - 1))
+    → Stays S (size_of s) (closing s.job) (pen r k a None lost) (with_row s s.job.new F r k a)
+closing-at_within s C S F r k a lost h ha o last =
+    let j = s.job in
+    let z = size_of s in
+    let c = last_col j in
+    let x = last_cell j in
+    let p = pen r k a None lost in
+    let t = with_row s j.new F r k a in
+    let l = last-is s h in
+    let some = span-few x in
+    let inside : c < j.cols = omega (arith, l.up_to, some) in
+    elim (cases_Bool (owes_end j p)) [
+      | inr fine ↦ stays-as S z skip (closing j) p t (closing-none j p fine) (stays-skip S z p t)
+      | inl needs ↦ stays-as S z (goto j.row c >> mend j x) (closing j) p t (closing-some j p needs)
+          (stays-then S z (goto j.row c) (mend j x) p t _ _
+          (takes-goto z s.term (update s.cells j.row j.new) F r k a None lost j.row c h.row_in inside)
+          (stays-goto S z j.row c p t refl h.row_in)
+          (mend-within s S F a lost h ha (end-room s C S h o (last needs))))
+    ]
+
+closing-within : (s : Scene) (C : ℕ → Type 0) (S : ℕ → ℕ → Type 0) (p : Pen) (t : Term) → IsScene s → IsRoom s C S
+    → IsFilled s p t → (owes_end s.job p ≡ true → C (s.job.cols - 1)) → Stays S (size_of s) (closing s.job) p t
+closing-within s C S p t h o now last =
+    let j = s.job in
+    let base = closing-at_within s C S now.flags p.pos.row p.pos.col p.attrs p.lost h now.proper o last in
+    subst (λ e. Stays S (size_of s) (closing j) (pen p.pos.row p.pos.col p.attrs e p.lost) t) (sym now.closed)
+    (subst (λ (x : Term). Stays S (size_of s) (closing j) (pen p.pos.row p.pos.col p.attrs None p.lost) x)
+    (sym now.stands) base)
+
+-- ---- the row
+
+redraw-within : (s : Scene) (C : ℕ → Type 0) (S : ℕ → ℕ → Type 0) (p : Pen) → IsScene s → IsReady s p → IsRoom s C S
+    → (owes_flag s.job p ≡ true → C 0)
+    → Stays S (size_of s) (row_redraw s.job s.job.cols) p
+    (with_row s s.job.old s.flags p.pos.row p.pos.col p.attrs)
+unfolding row_redraw
+redraw-within s C S p h ready o first =
+    let j = s.job in
+    let z = size_of s in
+    let t = with_row s j.old s.flags p.pos.row p.pos.col p.attrs in
+    let f = opening j in
+    let g = columns j j.cols in
+    let q = (f p).pen in
+    let u = run z (f p).forms t in
+    let begun = opening-leads s p h ready in
+    let unmarked : IsMarked j q.erase = opening-marked j p ready.closed in
+    let at_end : At s j.cols (g q).pen (run z (g q).forms u) = columns-lead s q u h begun j.cols (omega arith) in
+    let both : Takes z (f >> g) p t (g q).pen (run z (g q).forms u) = takes-then z f g p t q u _ _
+    (record { pen_is = refl; term_is = refl }) (record { pen_is = refl; term_is = refl }) in
+    stays-then S z (f >> g) (finish j) p t _ _ both
+    (stays-then S z f g p t q u (record { pen_is = refl; term_is = refl }) (opening-within s C S p h ready o first)
+    (columns-within s C S q u h o begun unmarked j.cols (omega arith)))
+    (finish-within s C S (g q).pen (run z (g q).forms u) h o at_end (columns-marked j j.cols q unmarked))
+
+-- the difference of a row touches the columns where something is to be done, with their other halves
+pub difference-within : (s : Scene) (C : ℕ → Type 0) (S : ℕ → ℕ → Type 0) (p : Pen) → IsScene s → IsReady s p
+    → IsRoom s C S → (owes_flag s.job p ≡ true → C 0)
+    → (owes_end s.job (row_redraw s.job s.job.cols p).pen ≡ true → C (s.job.cols - 1))
+    → Within S (size_of s) (row_difference s.job s.job.cols p).forms
+    (with_row s s.job.old s.flags p.pos.row p.pos.col p.attrs)
+unfolding row_difference
+difference-within s C S p h ready o first last =
+    let j = s.job in
+    let z = size_of s in
+    let t = with_row s j.old s.flags p.pos.row p.pos.col p.attrs in
+    let f = row_redraw j j.cols in
+    let q = (f p).pen in
+    let u = run z (f p).forms t in
+    stays-then S z f (closing j) p t q u (record { pen_is = refl; term_is = refl })
+    (redraw-within s C S p h ready o first)
+    (closing-within s C S q u h o (redraw-filled s p h ready) last)
