@@ -5,6 +5,7 @@ pub mod Examples
 pub mod KeptRows
 pub mod Lines
 pub mod Local
+pub mod LocalCells
 pub mod LocalColumns
 pub mod LocalRow
 pub mod OpeningWrites

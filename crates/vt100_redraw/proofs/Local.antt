@@ -171,7 +171,7 @@ reprint-marked j x p none =
     (λ _. cond_both x.wide (back >> back) back (λ f. IsMarked j ((print x false >> f) p).pen.erase) (λ _. clear)
     (λ _. clear)) (λ _. tt)
 
-opening-marked : (j : Job) (p : Pen) → p.erase ≡ None → IsMarked j (opening j p).pen.erase
+pub opening-marked : (j : Job) (p : Pen) → p.erase ≡ None → IsMarked j (opening j p).pen.erase
 unfolding opening ◌>>◌ turn colour skip
 opening-marked j p none =
     let clear : IsMarked j p.erase = subst (IsMarked j) (sym none) tt in

@@ -64,7 +64,7 @@ draw-marked j c p h =
     (λ _. subst (IsMarked j) (sym (full-erase j c (span_of x) x.attrs x _ p)) h)
     (λ _. mark-marked j c p.erase p refl differs h))
 
-flush_of-marked : (j : Job) (c : ℕ) (o : Option Erase) (p : Pen) → p.erase ≡ o → IsMarked j o
+pub flush_of-marked : (j : Job) (c : ℕ) (o : Option Erase) (p : Pen) → p.erase ≡ o → IsMarked j o
     → IsMarked j (flush_of j c o p).pen.erase
 unfolding flush_of ◌>>◌ erasing skip
 flush_of-marked j c None p is h = subst (IsMarked j) (sym is) tt
@@ -73,7 +73,7 @@ flush_of-marked j c (Some e) p is h =
     (to_erase j e >> erasing (c - e.from) (wipe_unflags j.cols j.old e.from c)) skip
     (λ (f : Writer). IsMarked j (f p).pen.erase) (λ _. tt) (λ _. subst (IsMarked j) (sym is) h)
 
-column-marked : (j : Job) (c : ℕ) (p : Pen) → IsMarked j p.erase → IsMarked j (column j c p).pen.erase
+pub column-marked : (j : Job) (c : ℕ) (p : Pen) → IsMarked j p.erase → IsMarked j (column j c p).pen.erase
 unfolding column ◌>>◌ skip flush
 column-marked j c p h =
     cond_both ((j.new c).continuation && not (c == j.start)) skip (flush j c >> draw j c)
