@@ -1,5 +1,6 @@
 -- The cells that the difference of a row touches.
-use Rattle.std.proofs.Common.{◌≡◌, ℕ, ◌+◌, ◌-◌, ◌<◌, ◌≤◌, ◌==◌, Bool, true, false, cond, not, ◌&&◌, ◌||◌, nat_lt, nat_le}
+use Rattle.std.proofs.Common.{◌≡◌, ℕ, ◌+◌, ◌-◌, ◌<◌, ◌≤◌, ◌==◌, Bool, true, false, cond, not, ◌&&◌, ◌||◌, nat_lt}
+use Rattle.std.proofs.Common.{nat_le}
 use Rattle.std.proofs.Common.{Option, None, refl, arith, sym, ap, ◌∙◌, inl, inr, ◌⊎◌, subst}
 use Rattle.std.proofs.lemmas.Bool.Decides.{nat_tests}
 use Rattle.std.proofs.lemmas.Bool.{cases_Bool, both_ways, and_parts, and_from, eqb-true, leb-true, ltb-true, false≢true}
@@ -20,7 +21,8 @@ use Rattle.vt100_redraw.specs.RowWriter.{last_cell, unflag, print_last, mend, ow
 use Rattle.vt100_redraw.specs.RowWriter.{row_difference}
 use Rattle.vt100_redraw.specs.Scene.{Scene, IsScene, IsReady, size_of, with_row}
 use Rattle.vt100_redraw.proofs.Lines.{Line, line-begun, spaced-half}
-use Rattle.vt100_redraw.proofs.Steps.{Takes, takes-then, takes-as, takes-skip, pen, takes-goto, takes-colour, takes-turn}
+use Rattle.vt100_redraw.proofs.Steps.{Takes, takes-then, takes-as, takes-skip, pen, takes-goto, takes-colour}
+use Rattle.vt100_redraw.proofs.Steps.{takes-turn}
 use Rattle.vt100_redraw.proofs.Steps.{takes-back, takes-erasing, takes-space_below, kept_or_off}
 use Rattle.vt100_redraw.proofs.RowLeads.{At, WrapsNow, wraps-now}
 use Rattle.vt100_redraw.proofs.Columns.{empty-is, sends, room-for, span-wide, span-narrow, columns-lead}
@@ -158,7 +160,8 @@ opening-within : (s : Scene) (C : ℕ → Type 0) (S : ℕ → ℕ → Type 0) (
 opening-within s C S p h ready o first =
     let t = with_row s s.job.old s.flags p.pos.row p.pos.col p.attrs in
     let base = opening-at_within s C S p.pos.row p.pos.col p.attrs p.lost h ready.proper o first in
-    subst (λ e. Stays S (size_of s) (opening s.job) (pen p.pos.row p.pos.col p.attrs e p.lost) t) (sym ready.closed) base
+    subst (λ e. Stays S (size_of s) (opening s.job) (pen p.pos.row p.pos.col p.attrs e p.lost) t) (sym ready.closed)
+    base
 
 -- nothing waits to be erased after it
 reprint-marked : (j : Job) (x : CellView) (p : Pen) → p.erase ≡ None → IsMarked j (reprint j x p).pen.erase
@@ -213,7 +216,8 @@ end-room s C S h o last =
           let is : j.cols - 1 ≡ c + 1 = omega (arith, two, l.up_to) in
           let half : (j.new (c + 1)).continuation ≡ true = h.new.paired.next c ∙ wide in
           record {
-            here = o.first c (omega (arith, two, l.up_to)) (subst C is last) (or-later (j.old (c + 1)).continuation _ half);
+            here = o.first c (omega (arith, two, l.up_to)) (subst C is last)
+                (or-later (j.old (c + 1)).continuation _ half);
             next = λ _. subst (S j.row) is (o.close (j.cols - 1) end last);
           })
     ]
@@ -352,7 +356,8 @@ mend-within s S F a lost h ha room =
             | inr empty ↦ stays-idle S z (unflag x) (print_last x) p t
                 (stays-as S z (colour x.attrs >> erasing 1 true) (unflag x) p t (unflag-empty x p empty)
                 (stays-then S z (colour x.attrs) (erasing 1 true) p t _ _
-                (takes-colour z s.term (update s.cells j.row j.new) F j.row c a j.row c None lost x.attrs ha (h.proper c))
+                (takes-colour z s.term (update s.cells j.row j.new) F j.row c a j.row c None lost x.attrs ha
+                (h.proper c))
                 (stays-colour S z x.attrs p t)
                 (stays-erasing S z s.term s.cells F j.row c 1 (c + 1) x.attrs j.new true _ refl fits
                 (wipe-end s S h room))))

@@ -16,7 +16,8 @@ use Rattle.vt100_redraw.specs.declared.pen.Erase.{Erase}
 use Rattle.vt100_redraw.specs.declared.pen.Pen.{Pen}
 use Rattle.vt100_redraw.specs.Writer.{Drawn, Writer, ◌>>◌, skip, goto, turn, colour, print, space, back, erasing}
 use Rattle.vt100_redraw.specs.Writer.{clearing, marking}
-use Rattle.vt100_redraw.specs.RowWriter.{Job, is_same, wraps, to_erase, is_end, flush_of, flush, finish_of, finish, arrive}
+use Rattle.vt100_redraw.specs.RowWriter.{Job, is_same, wraps, to_erase, is_end, flush_of, flush, finish_of, finish}
+use Rattle.vt100_redraw.specs.RowWriter.{arrive}
 use Rattle.vt100_redraw.specs.RowWriter.{mark_of, mark, draw, column, columns}
 use Rattle.vt100_redraw.specs.Scene.{Scene, IsScene, size_of, with_row}
 use Rattle.vt100_redraw.proofs.Lines.{Line}

@@ -20,7 +20,8 @@ use Rattle.vt100_redraw.specs.RowWriter.{finish, arrive, draw, column, columns, 
 use Rattle.vt100_redraw.specs.RowWriter.{row_redraw, row_difference}
 use Rattle.vt100_redraw.specs.Scene.{Scene, IsScene, IsReady, size_of, with_row}
 use Rattle.vt100_redraw.proofs.Lines.{Line}
-use Rattle.vt100_redraw.proofs.Steps.{Takes, takes-then, takes-as, takes-skip, pen, takes-goto, takes-colour, takes-turn}
+use Rattle.vt100_redraw.proofs.Steps.{Takes, takes-then, takes-as, takes-skip, pen, takes-goto, takes-colour}
+use Rattle.vt100_redraw.proofs.Steps.{takes-turn}
 use Rattle.vt100_redraw.proofs.RowLeads.{past, edge, Opens, Standing, At, WrapsNow, wraps-now, arrive-turn, arrive-goto}
 use Rattle.vt100_redraw.proofs.Columns.{sends, room-for, erase-turn, erase-goto}
 use Rattle.vt100_redraw.proofs.Touches.{Stays, stays-then, stays-as, stays-skip, stays-turn, stays-goto, stays-colour}
@@ -153,7 +154,8 @@ pub draws-within : (s : Scene) (C : ℕ → Type 0) (S : ℕ → ℕ → Type 0)
     (a : Attrs) (lost b : Bool) (n : ℕ) → IsScene s → IsRoom s C S → IsProper a
     → has_text (s.job.new n) ≡ true → (s.job.new n).continuation ≡ false → n < s.job.cols → C n
     → Line s.job.old s.job.new n f
-    → Stays S (size_of s) (arrive s.job n (span_of (s.job.new n)) >> colour (s.job.new n).attrs >> print (s.job.new n) b)
+    → Stays S (size_of s)
+    (arrive s.job n (span_of (s.job.new n)) >> colour (s.job.new n).attrs >> print (s.job.new n) b)
     (pen r k a None lost) (with_row s f F r k a)
 draws-within s C S F f r k a lost b n h o ha full single inside here l =
     let j = s.job in
@@ -168,7 +170,8 @@ draws-within s C S F f r k a lost b n h o ha full single inside here l =
       | inr stays ↦
           (let goes = takes-as z (goto j.row n) (arrive j n (span_of x)) p t _ _ (arrive-goto j n (span_of x) p stays)
           (takes-goto z s.term (update s.cells j.row f) F r k a None lost j.row n h.row_in inside) in
-          let dyes = takes-colour z s.term (update s.cells j.row f) F j.row n a j.row n None lost x.attrs ha (h.proper n)
+          let dyes = takes-colour z s.term (update s.cells j.row f) F j.row n a j.row n None lost x.attrs ha
+          (h.proper n)
           in
           stays-then S z (arrive j n (span_of x) >> colour x.attrs) (print x b) p t _ _
           (takes-then z _ _ _ _ _ _ _ _ goes dyes)
@@ -189,7 +192,8 @@ draws-within s C S F f r k a lost b n h o ha full single inside here l =
           let Q : ℕ → Type 0 = λ i. Stays S z (print x b) (pen j.row 0 x.attrs None lost)
           (record (s.term) { cell = update s.cells i f; wrapped = F; row = r; col = k; attrs = x.attrs }) in
           let prints : Q j.row = subst Q now.row
-          (stays-print_below S z s.term s.cells F r k x.attrs f x b _ send (omega (arith, room)) now.over below full_above
+          (stays-print_below S z s.term s.cells F r k x.attrs f x b _ send (omega (arith, room)) now.over below
+          full_above
           touched_first) in
           stays-then S z (arrive j n (span_of x) >> colour x.attrs) (print x b) p t _ _
           (takes-then z _ _ _ _ _ _ _ _ goes dyes)

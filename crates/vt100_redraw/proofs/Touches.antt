@@ -1,5 +1,6 @@
 -- The cells that single writers touch.
-use Rattle.std.proofs.Common.{◌≡◌, ℕ, suc, ◌+◌, ◌-◌, ◌<◌, ◌≤◌, ◌==◌, Bool, true, false, cond, ◌&&◌, ◌||◌, nat_lt, nat_le}
+use Rattle.std.proofs.Common.{◌≡◌, ℕ, suc, ◌+◌, ◌-◌, ◌<◌, ◌≤◌, ◌==◌, Bool, true, false, cond, ◌&&◌, ◌||◌, nat_lt}
+use Rattle.std.proofs.Common.{nat_le}
 use Rattle.std.proofs.Common.{List, [], ◌∷◌, length, min, Option, refl, arith, sym, ap, ◌∙◌, inl, inr, ◌⊎◌, subst}
 use Rattle.std.specs.Prelude.{Contains, All}
 use Rattle.std.proofs.lemmas.Bool.{both_ways, cond_both, and_parts, eqb-true, eq-eqb, ne_eqb, le-ltb, le-leb, or_left}
@@ -8,15 +9,18 @@ use Rattle.std.proofs.lemmas.Bool.Decides.{nat_tests}
 use Rattle.vt100_forms.specs.declared.attrs.Attrs.{Attrs}
 use Rattle.vt100_forms.specs.declared.position.Pos.{Pos}
 use Rattle.vt100_forms.specs.Attrs.{attrs_eq, default_attrs}
-use Rattle.vt100_forms.specs.Form.{Form, Text, MoveTo, MoveRight, EraseChar, ClearRowForward, ClearAttrs, Crlf, Backspace}
+use Rattle.vt100_forms.specs.Form.{Form, Text, MoveTo, MoveRight, EraseChar, ClearRowForward, ClearAttrs, Crlf}
+use Rattle.vt100_forms.specs.Form.{Backspace}
 use Rattle.vt100_forms.specs.Form.{Sgr, changed_attrs, moves}
-use Rattle.vt100_cells.specs.Cell.{CellView, IsCell, IsCellText, IsWideAs, cell_of, columns_of, appended_plain, is_filled}
+use Rattle.vt100_cells.specs.Cell.{CellView, IsCell, IsCellText, IsWideAs, cell_of, columns_of, appended_plain}
+use Rattle.vt100_cells.specs.Cell.{is_filled}
 use Rattle.vt100_cells.specs.Cell.{is_undrawable}
 use Rattle.vt100_cells.specs.Line.{span_of, put, base_col}
 use Rattle.vt100_cells.proofs.JoinedCells.{plain-continuation}
 use Rattle.vt100_picture.specs.Position.{update}
 use Rattle.vt100_picture.specs.Term.{Size, Term}
-use Rattle.vt100_picture.specs.Apply.{with_line, print as printed_cell, join, made_to_fit, is_dropped, input, apply, run}
+use Rattle.vt100_picture.specs.Apply.{with_line, print as printed_cell, join, made_to_fit, is_dropped, input, apply}
+use Rattle.vt100_picture.specs.Apply.{run}
 use Rattle.vt100_picture.specs.Touch.{put_touches, wipe_touches, is_last_row, input_touches, inputs_touch, form_touches}
 use Rattle.vt100_picture.specs.Touch.{touches, Within}
 use Rattle.vt100_picture.proofs.Positions.{update-same, update-other}
