@@ -1,15 +1,15 @@
 -- The cells that the difference of a row touches.
 use Rattle.std.proofs.Common.{◌≡◌, ℕ, ◌+◌, ◌-◌, ◌<◌, ◌≤◌, ◌==◌, Bool, true, false, cond, not, ◌&&◌, ◌||◌, nat_lt}
 use Rattle.std.proofs.Common.{nat_le}
-use Rattle.std.proofs.Common.{Option, None, refl, arith, sym, ap, ◌∙◌, inl, inr, ◌⊎◌, subst}
+use Rattle.std.proofs.Common.{None, refl, arith, sym, ap, ◌∙◌, inl, inr, subst}
 use Rattle.std.proofs.lemmas.Bool.Decides.{nat_tests}
-use Rattle.std.proofs.lemmas.Bool.{cases_Bool, both_ways, and_parts, and_from, eqb-true, leb-true, ltb-true, false≢true}
+use Rattle.std.proofs.lemmas.Bool.{cases_Bool, both_ways, and_parts, and_from, eqb-true, leb-true, ltb-true}
 use Rattle.std.proofs.lemmas.Bool.{cond_both}
 use Rattle.vt100_forms.specs.declared.attrs.Attrs.{Attrs}
 use Rattle.vt100_forms.specs.Attrs.{IsProper}
 use Rattle.vt100_cells.specs.CellEq.{cell_eq-true}
 use Rattle.vt100_cells.specs.Cell.{CellView, empty_cell, cell_of, has_text, is_filled}
-use Rattle.vt100_cells.specs.Line.{span_of, put, put_unflags, wiped, wipe_unflags}
+use Rattle.vt100_cells.specs.Line.{span_of, put, wiped, wipe_unflags}
 use Rattle.vt100_picture.specs.Position.{update}
 use Rattle.vt100_picture.specs.Term.{Size, Term}
 use Rattle.vt100_picture.specs.Apply.{run}
@@ -20,13 +20,13 @@ use Rattle.vt100_redraw.specs.RowWriter.{Job, is_same, wraps, owes_flag, reprint
 use Rattle.vt100_redraw.specs.RowWriter.{last_cell, unflag, print_last, mend, owes_end, closing, row_redraw}
 use Rattle.vt100_redraw.specs.RowWriter.{row_difference}
 use Rattle.vt100_redraw.specs.Scene.{Scene, IsScene, IsReady, size_of, with_row}
-use Rattle.vt100_redraw.proofs.Lines.{Line, line-begun, spaced-half}
-use Rattle.vt100_redraw.proofs.Steps.{Takes, takes-then, takes-as, takes-skip, pen, takes-goto, takes-colour}
+use Rattle.vt100_redraw.proofs.Lines.{line-begun, spaced-half}
+use Rattle.vt100_redraw.proofs.Steps.{Takes, takes-then, takes-as, pen, takes-goto, takes-colour}
 use Rattle.vt100_redraw.proofs.Steps.{takes-turn}
 use Rattle.vt100_redraw.proofs.Steps.{takes-back, takes-erasing, takes-space_below, kept_or_off}
-use Rattle.vt100_redraw.proofs.RowLeads.{At, WrapsNow, wraps-now}
+use Rattle.vt100_redraw.proofs.RowLeads.{At, wraps-now}
 use Rattle.vt100_redraw.proofs.Columns.{empty-is, sends, room-for, span-wide, span-narrow, columns-lead}
-use Rattle.vt100_redraw.proofs.RowEnd.{IsFilled, IsLast, last-is, span-few, print-last_is, print-last_none, unflag-full}
+use Rattle.vt100_redraw.proofs.RowEnd.{IsFilled, last-is, span-few, print-last_is, print-last_none, unflag-full}
 use Rattle.vt100_redraw.proofs.RowEnd.{unflag-empty, mend-wraps, mend-ends, closing-none, closing-some}
 use Rattle.vt100_redraw.proofs.RowStart.{first-whole, opening-none, opening-some, reprint-wide, reprint-narrow}
 use Rattle.vt100_redraw.proofs.RowStart.{reprint-empty, opening-leads, redraw-filled}

@@ -1,21 +1,20 @@
 -- A row's difference touches local cells.
-use Rattle.std.proofs.Common.{◌≡◌, ℕ, zero, suc, ◌+◌, ◌-◌, ◌<◌, ◌≤◌, ◌==◌, Bool, true, false, cond, not, ◌&&◌, ◌||◌}
-use Rattle.std.proofs.Common.{Option, Some, None, refl, arith, sym, ap, ◌∙◌, inl, inr, ◌⊎◌, subst}
+use Rattle.std.proofs.Common.{◌≡◌, ℕ, zero, suc, ◌+◌, ◌-◌, ◌<◌, ◌≤◌, ◌==◌, Bool, true, false, not, ◌&&◌, ◌||◌}
+use Rattle.std.proofs.Common.{Option, Some, None, refl, arith, sym, ap, ◌∙◌, inl, inr, subst}
 use Rattle.std.proofs.lemmas.Bool.{cases_lt, both_ways, cond_both, and_parts, not-true, false≢true}
-use Rattle.vt100_cells.specs.Cell.{CellView, has_text, is_filled, bool_eq}
+use Rattle.vt100_cells.specs.Cell.{is_filled, bool_eq}
 use Rattle.vt100_cells.specs.CellEq.{cell_eq-of_same}
-use Rattle.vt100_cells.specs.Line.{span_of, put_unflags, wipe_unflags}
-use Rattle.vt100_picture.specs.Term.{Size, Shown}
-use Rattle.vt100_picture.specs.Local.{DiffersIn, IsNear, IsCloseCell, IsLocal}
+use Rattle.vt100_picture.specs.Term.{Shown}
+use Rattle.vt100_picture.specs.Local.{IsNear, IsCloseCell, IsLocal}
 use Rattle.vt100_redraw.specs.declared.pen.Erase.{Erase}
 use Rattle.vt100_redraw.specs.declared.pen.Pen.{Pen}
-use Rattle.vt100_redraw.specs.Writer.{Drawn, Writer, ◌>>◌, skip, goto, turn, colour, print, erasing, clearing}
-use Rattle.vt100_redraw.specs.RowWriter.{Job, is_same, owes_flag, reprint, opening, to_erase, is_end, flush_of, flush}
-use Rattle.vt100_redraw.specs.RowWriter.{finish_of, finish, arrive, mark, draw, column, columns, owes_end, row_redraw}
+use Rattle.vt100_redraw.specs.Writer.{Drawn, Writer, ◌>>◌, skip}
+use Rattle.vt100_redraw.specs.RowWriter.{Job, is_same, owes_flag, opening, is_end, flush_of, flush}
+use Rattle.vt100_redraw.specs.RowWriter.{finish_of, finish, draw, column, columns, owes_end, row_redraw}
 use Rattle.vt100_redraw.specs.Scene.{Scene, IsScene, IsReady, size_of}
 use Rattle.vt100_redraw.specs.Laws.{IsPictured, EachDifferenceIsLocal}
 use Rattle.vt100_redraw.proofs.LocalRow.{IsRoom, or-split}
-use Rattle.vt100_redraw.proofs.LocalColumns.{IsMarked, columns-marked, column-marked, flush_of-marked}
+use Rattle.vt100_redraw.proofs.LocalColumns.{IsMarked, columns-marked}
 use Rattle.vt100_redraw.proofs.Local.{difference-within, opening-marked}
 
 -- ---- why a row may lose its flag

@@ -1,36 +1,36 @@
 -- The cells that the columns of a row's difference touch.
 use Rattle.std.proofs.Common.{◌≡◌, ℕ, zero, suc, ◌+◌, ◌-◌, ◌<◌, ◌≤◌, ◌==◌, Bool, true, false, cond, not, ◌&&◌, ◌||◌}
-use Rattle.std.proofs.Common.{nat_lt, nat_le, Option, Some, None, refl, arith, sym, ap, ◌∙◌, inl, inr, ◌⊎◌, subst}
-use Rattle.std.proofs.lemmas.Bool.{cases_Bool, both_ways, and_parts, or_left, or_right, eqb-true, false≢true}
+use Rattle.std.proofs.Common.{Option, Some, None, refl, arith, sym, ap, ◌∙◌, inl, inr, subst}
+use Rattle.std.proofs.lemmas.Bool.{cases_Bool, and_parts, or_left, eqb-true, false≢true}
 use Rattle.std.proofs.lemmas.Bool.{cond_both}
 use Rattle.unicode_width.specs.Width.{char_width}
 use Rattle.vt100_forms.specs.declared.attrs.Attrs.{Attrs}
 use Rattle.vt100_forms.specs.Attrs.{IsProper}
-use Rattle.vt100_cells.specs.Cell.{CellView, empty_cell, cell_of, has_text, is_filled}
-use Rattle.vt100_cells.specs.Line.{span_of, put, put_unflags, wiped, wipe_unflags}
+use Rattle.vt100_cells.specs.Cell.{CellView, cell_of, has_text, is_filled}
+use Rattle.vt100_cells.specs.Line.{span_of, put, put_unflags, wipe_unflags}
 use Rattle.vt100_picture.specs.Position.{update}
 use Rattle.vt100_picture.specs.Term.{Term}
 use Rattle.vt100_picture.specs.Apply.{run}
-use Rattle.vt100_picture.specs.Touch.{put_touches, wipe_touches, Within}
+use Rattle.vt100_picture.specs.Touch.{put_touches}
 use Rattle.vt100_redraw.specs.declared.pen.Erase.{Erase}
 use Rattle.vt100_redraw.specs.declared.pen.Pen.{Pen}
 use Rattle.vt100_redraw.specs.Writer.{Drawn, Writer, ◌>>◌, skip, goto, turn, colour, print, space, back, erasing}
 use Rattle.vt100_redraw.specs.Writer.{clearing, marking}
-use Rattle.vt100_redraw.specs.RowWriter.{Job, is_same, wraps, to_erase, is_end, flush_of, flush, finish_of, finish}
+use Rattle.vt100_redraw.specs.RowWriter.{Job, is_same, wraps, to_erase, is_end, flush_of, flush, finish}
 use Rattle.vt100_redraw.specs.RowWriter.{arrive}
 use Rattle.vt100_redraw.specs.RowWriter.{mark_of, mark, draw, column, columns}
 use Rattle.vt100_redraw.specs.Scene.{Scene, IsScene, size_of, with_row}
 use Rattle.vt100_redraw.proofs.Lines.{Line}
-use Rattle.vt100_redraw.proofs.Steps.{Takes, takes-then, takes-as, takes-to, takes-skip, pen, takes-goto, takes-colour}
-use Rattle.vt100_redraw.proofs.Steps.{takes-turn, takes-back, takes-space_below, takes-marking, span-space}
-use Rattle.vt100_redraw.proofs.RowLeads.{past, edge, Opens, Standing, At, wraps-now, arrive-turn, arrive-goto}
+use Rattle.vt100_redraw.proofs.Steps.{Takes, takes-then, takes-as, takes-skip, pen, takes-goto}
+use Rattle.vt100_redraw.proofs.Steps.{takes-turn, takes-back, takes-space_below}
+use Rattle.vt100_redraw.proofs.RowLeads.{past, edge, Opens, Standing, At, wraps-now}
 use Rattle.vt100_redraw.proofs.Columns.{erase-turn, erase-goto, arrives, erases, flush-none, flush-some, flush-not}
 use Rattle.vt100_redraw.proofs.Columns.{draw-is_same, draw-full, draw-empty, draw-empty_more, column-half, column-whole}
 use Rattle.vt100_redraw.proofs.Columns.{columns-lead, not-first, open-on, past-whole}
 use Rattle.vt100_redraw.proofs.RowEnd.{finish-none, finish-some}
 use Rattle.vt100_redraw.proofs.Touches.{Stays, stays-then, stays-as, stays-skip, stays-turn, stays-goto, stays-colour}
 use Rattle.vt100_redraw.proofs.Touches.{stays-marking, stays-back, stays-space_below, stays-erasing, stays-clearing}
-use Rattle.vt100_redraw.proofs.LocalRow.{IsRoom, or-four, or-split, wide-there, wipe-room, draws-within}
+use Rattle.vt100_redraw.proofs.LocalRow.{IsRoom, or-four, wide-there, wipe-room, draws-within}
 
 -- ---- what waits to be erased begins with a column that differs
 

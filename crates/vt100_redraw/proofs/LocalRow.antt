@@ -1,30 +1,24 @@
 -- The cells that a row's difference touches.
-use Rattle.std.proofs.Common.{◌≡◌, ℕ, zero, suc, ◌+◌, ◌-◌, ◌<◌, ◌≤◌, ◌==◌, Bool, true, false, cond, not, ◌&&◌, ◌||◌}
-use Rattle.std.proofs.Common.{nat_lt, nat_le, Option, Some, None, refl, arith, sym, ap, ◌∙◌, inl, inr, ◌⊎◌, subst}
+use Rattle.std.proofs.Common.{◌≡◌, ℕ, ◌+◌, ◌-◌, ◌<◌, ◌≤◌, ◌==◌, Bool, true, false, ◌&&◌, ◌||◌}
+use Rattle.std.proofs.Common.{nat_lt, nat_le, None, refl, arith, sym, ap, ◌∙◌, inl, inr, ◌⊎◌, subst}
 use Rattle.std.proofs.lemmas.Bool.{cases_Bool, both_ways, and_parts, or_left, or_right, eqb-true, leb-true, ltb-true}
 use Rattle.vt100_forms.specs.declared.attrs.Attrs.{Attrs}
 use Rattle.vt100_forms.specs.Attrs.{IsProper}
-use Rattle.vt100_cells.specs.Cell.{CellView, empty_cell, cell_of, has_text, is_filled}
-use Rattle.vt100_cells.specs.Line.{span_of, put, put_unflags, wiped, wipe_unflags}
+use Rattle.vt100_cells.specs.Cell.{CellView, empty_cell, has_text, is_filled}
+use Rattle.vt100_cells.specs.Line.{span_of}
 use Rattle.vt100_cells.specs.CellEq.{cell_eq-true}
 use Rattle.vt100_picture.specs.Position.{update}
-use Rattle.vt100_picture.specs.Term.{Term}
-use Rattle.vt100_picture.specs.Apply.{run}
 use Rattle.vt100_picture.specs.Touch.{put_touches, wipe_touches}
-use Rattle.vt100_redraw.specs.declared.pen.Erase.{Erase}
-use Rattle.vt100_redraw.specs.declared.pen.Pen.{Pen}
-use Rattle.vt100_redraw.specs.Writer.{Writer, ◌>>◌, skip, goto, turn, colour, print, space, back, erasing, clearing}
-use Rattle.vt100_redraw.specs.Writer.{marking}
-use Rattle.vt100_redraw.specs.RowWriter.{Job, is_same, wraps, owes_flag, reprint, opening, to_erase, is_end, flush}
-use Rattle.vt100_redraw.specs.RowWriter.{finish, arrive, draw, column, columns, last_col, last_cell, closing}
-use Rattle.vt100_redraw.specs.RowWriter.{row_redraw, row_difference}
-use Rattle.vt100_redraw.specs.Scene.{Scene, IsScene, IsReady, size_of, with_row}
+use Rattle.vt100_redraw.specs.Writer.{◌>>◌, goto, turn, colour, print}
+use Rattle.vt100_redraw.specs.RowWriter.{is_same, wraps}
+use Rattle.vt100_redraw.specs.RowWriter.{arrive}
+use Rattle.vt100_redraw.specs.Scene.{Scene, IsScene, size_of, with_row}
 use Rattle.vt100_redraw.proofs.Lines.{Line}
-use Rattle.vt100_redraw.proofs.Steps.{Takes, takes-then, takes-as, takes-skip, pen, takes-goto, takes-colour}
+use Rattle.vt100_redraw.proofs.Steps.{takes-then, takes-as, pen, takes-goto, takes-colour}
 use Rattle.vt100_redraw.proofs.Steps.{takes-turn}
-use Rattle.vt100_redraw.proofs.RowLeads.{past, edge, Opens, Standing, At, WrapsNow, wraps-now, arrive-turn, arrive-goto}
-use Rattle.vt100_redraw.proofs.Columns.{sends, room-for, erase-turn, erase-goto}
-use Rattle.vt100_redraw.proofs.Touches.{Stays, stays-then, stays-as, stays-skip, stays-turn, stays-goto, stays-colour}
+use Rattle.vt100_redraw.proofs.RowLeads.{wraps-now, arrive-turn, arrive-goto}
+use Rattle.vt100_redraw.proofs.Columns.{sends, room-for}
+use Rattle.vt100_redraw.proofs.Touches.{Stays, stays-then, stays-as, stays-turn, stays-goto, stays-colour}
 use Rattle.vt100_redraw.proofs.Touches.{stays-print, stays-print_below}
 
 -- ---- what may be touched

@@ -1,7 +1,7 @@
 -- The cells that single writers touch.
 use Rattle.std.proofs.Common.{◌≡◌, ℕ, suc, ◌+◌, ◌-◌, ◌<◌, ◌≤◌, ◌==◌, Bool, true, false, cond, ◌&&◌, ◌||◌, nat_lt}
 use Rattle.std.proofs.Common.{nat_le}
-use Rattle.std.proofs.Common.{List, [], ◌∷◌, length, min, Option, refl, arith, sym, ap, ◌∙◌, inl, inr, ◌⊎◌, subst}
+use Rattle.std.proofs.Common.{List, [], ◌∷◌, min, refl, arith, sym, ap, ◌∙◌, inl, inr, ◌⊎◌, subst}
 use Rattle.std.specs.Prelude.{Contains, All}
 use Rattle.std.proofs.lemmas.Bool.{both_ways, cond_both, and_parts, eqb-true, eq-eqb, ne_eqb, le-ltb, le-leb, or_left}
 use Rattle.std.proofs.lemmas.Bool.{false≢true, ltb-true}
@@ -19,9 +19,9 @@ use Rattle.vt100_cells.specs.Line.{span_of, put, base_col}
 use Rattle.vt100_cells.proofs.JoinedCells.{plain-continuation}
 use Rattle.vt100_picture.specs.Position.{update}
 use Rattle.vt100_picture.specs.Term.{Size, Term}
-use Rattle.vt100_picture.specs.Apply.{with_line, print as printed_cell, join, made_to_fit, is_dropped, input, apply}
+use Rattle.vt100_picture.specs.Apply.{with_line, print as printed_cell, join, is_dropped, input}
 use Rattle.vt100_picture.specs.Apply.{run}
-use Rattle.vt100_picture.specs.Touch.{put_touches, wipe_touches, is_last_row, input_touches, inputs_touch, form_touches}
+use Rattle.vt100_picture.specs.Touch.{put_touches, wipe_touches, input_touches, inputs_touch, form_touches}
 use Rattle.vt100_picture.specs.Touch.{touches, Within}
 use Rattle.vt100_picture.proofs.Positions.{update-same, update-other}
 use Rattle.vt100_picture.proofs.TermLemmas.{span-columns, columns-few}
