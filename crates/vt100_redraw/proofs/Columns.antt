@@ -74,15 +74,16 @@ pub wipe-loses : (n : ℕ) (f g : ℕ → CellView) (s e : ℕ) → ((g e).conti
 wipe-loses n f g s e half h = grind (arith, nat_tests, half)
 
 -- the cursor is at the first of the columns that are to be erased, and draws with their attributes
-record Arrives (s : Scene) (e : Erase) (p : Pen) (t : Term) : Type 0 where
-  line : ℕ → CellView
-  flags : ℕ → Bool
-  kept : Flags flags (flags_above s) s.job.row p.lost
-  takes : Takes (size_of s) (to_erase s.job e) p t (pen s.job.row e.from e.attrs (Some e) p.lost)
+pub record Arrives (s : Scene) (e : Erase) (p : Pen) (t : Term) : Type 0 where
+  pub line : ℕ → CellView
+  pub flags : ℕ → Bool
+  pub kept : Flags flags (flags_above s) s.job.row p.lost
+  pub takes : Takes (size_of s) (to_erase s.job e) p t (pen s.job.row e.from e.attrs (Some e) p.lost)
       (with_row s line flags s.job.row e.from e.attrs)
-  lines : (m : ℕ) → e.from < m → ((k : ℕ) → e.from ≤ k → k < m → s.job.new k ≡ empty_cell e.attrs)
+  pub lines : (m : ℕ) → e.from < m → ((k : ℕ) → e.from ≤ k → k < m → s.job.new k ≡ empty_cell e.attrs)
       → Line s.job.old s.job.new m (wiped line e.from m e.attrs)
-  half : (m : ℕ) → e.from < m → (line m).continuation ≡ true → (s.job.old m).continuation ≡ true
+  pub half : (m : ℕ) → e.from < m → (line m).continuation ≡ true → (s.job.old m).continuation ≡ true
+  pub written : (k : ℕ) → k < e.from → line k ≡ s.job.new k
 
 pub erase-turn : (j : Job) (e : Erase) (p : Pen) → (wraps j 1 p && (e.from == 0)) ≡ true
     → to_erase j e p ≡ (turn j.row >> space >> back >> colour e.attrs) p
@@ -94,7 +95,7 @@ pub erase-goto : (j : Job) (e : Erase) (p : Pen) → (wraps j 1 p && (e.from == 
 unfolding to_erase
 erase-goto j e p h = rw h refl
 
-arrives : (s : Scene) (F : ℕ → Bool) (f : ℕ → CellView) (r k : ℕ) (a : Attrs) (e : Erase) (lost : Bool) → IsScene s
+pub arrives : (s : Scene) (F : ℕ → Bool) (f : ℕ → CellView) (r k : ℕ) (a : Attrs) (e : Erase) (lost : Bool) → IsScene s
     → IsProper a → IsProper e.attrs → e.from < s.job.cols → Line s.job.old s.job.new e.from f
     → Standing s F (pen r k a (Some e) lost) e.from → Arrives s e (pen r k a (Some e) lost) (with_row s f F r k a)
 arrives s F f r k a e lost h ha he inside l standing =
@@ -113,6 +114,7 @@ arrives s F f r k a e lost h ha he inside l standing =
             (takes-colour z s.term (update s.cells j.row f) F j.row e.from a j.row e.from (Some e) lost e.attrs ha he));
         lines = λ m some blank. line-erased j.old j.new e.from m e.attrs f h.old.paired h.new.paired l some blank;
         half = λ m some q. ap (λ (x : CellView). x.continuation) (sym (l.rest m some)) ∙ q;
+        written = l.written;
       }
       | inl turns ↦
           (let now = wraps-now s 1 p e.from turns in
@@ -144,6 +146,7 @@ arrives s F f r k a e lost h ha he inside l standing =
                 (line-spaced j.old j.new m a e.attrs f h.old.paired begun (omega arith)
                 (λ i low high. blank i (omega (arith, now.first)) high));
             half = λ m some q. spaced-half j.old j.new m a f h.old.paired begun (omega arith) q;
+            written = λ i low. absurd (omega (arith, now.first));
           })
     ]
 
@@ -157,7 +160,7 @@ pub record Erased (s : Scene) (g : Writer) (p : Pen) (t : Term) (e : Erase) (n :
       (with_row s line flags s.job.row e.from e.attrs)
   pub lines : Line s.job.old s.job.new n line
 
-erases : (s : Scene) (F : ℕ → Bool) (f : ℕ → CellView) (r k : ℕ) (a : Attrs) (e : Erase) (lost : Bool) (n : ℕ)
+pub erases : (s : Scene) (F : ℕ → Bool) (f : ℕ → CellView) (r k : ℕ) (a : Attrs) (e : Erase) (lost : Bool) (n : ℕ)
     → IsScene s → IsProper a → Line s.job.old s.job.new e.from f → Opens s.job n (Some e) → n ≤ s.job.cols
     → Standing s F (pen r k a (Some e) lost) e.from
     → Erased s (to_erase s.job e >> erasing (n - e.from) (wipe_unflags s.job.cols s.job.old e.from n))
@@ -207,7 +210,7 @@ clears s F f r k a e lost h ha l opens standing =
 
 -- ---- one column where nothing is to be erased
 
-past-whole : (j : Job) (n : ℕ) → (j.new n).continuation ≡ false → past j n ≡ n
+pub past-whole : (j : Job) (n : ℕ) → (j.new n).continuation ≡ false → past j n ≡ n
 past-whole j n h = rw h refl
 
 past-half : (j : Job) (n : ℕ) → (j.new n).continuation ≡ true → past j n ≡ n + 1
@@ -234,12 +237,12 @@ pub draw-full : (j : Job) (n : ℕ) (p : Pen) → is_same j n ≡ false → has_
 unfolding draw
 draw-full j n p h g = rw (h, g) refl
 
-draw-empty : (j : Job) (n r k : ℕ) (a : Attrs) (b : Bool) → is_same j n ≡ false → has_text (j.new n) ≡ false
+pub draw-empty : (j : Job) (n r k : ℕ) (a : Attrs) (b : Bool) → is_same j n ≡ false → has_text (j.new n) ≡ false
     → draw j n (pen r k a None b) ≡ marking n (j.new n).attrs (pen r k a None b)
 unfolding draw mark mark_of
 draw-empty j n r k a b h g = rw (h, g) refl
 
-draw-empty_more : (j : Job) (n r k : ℕ) (a : Attrs) (e : Erase) (b : Bool) → is_same j n ≡ false
+pub draw-empty_more : (j : Job) (n r k : ℕ) (a : Attrs) (e : Erase) (b : Bool) → is_same j n ≡ false
     → has_text (j.new n) ≡ false → draw j n (pen r k a (Some e) b) ≡ skip (pen r k a (Some e) b)
 unfolding draw mark mark_of
 draw-empty_more j n r k a e b h g = rw (h, g) refl
@@ -367,12 +370,12 @@ pub flush-some : (j : Job) (n r k : ℕ) (a : Attrs) (e : Erase) (b : Bool) → 
 unfolding flush flush_of
 flush-some j n r k a e b h = rw h refl
 
-flush-not : (j : Job) (n r k : ℕ) (a : Attrs) (e : Erase) (b : Bool) → is_end (j.new n) e.attrs ≡ false
+pub flush-not : (j : Job) (n r k : ℕ) (a : Attrs) (e : Erase) (b : Bool) → is_end (j.new n) e.attrs ≡ false
     → flush j n (pen r k a (Some e) b) ≡ skip (pen r k a (Some e) b)
 unfolding flush flush_of
 flush-not j n r k a e b h = rw h refl
 
-open-on : (x : CellView) (a : Attrs) → is_end x a ≡ false → (has_text x ≡ false) × (x.attrs ≡ a)
+pub open-on : (x : CellView) (a : Attrs) → is_end x a ≡ false → (has_text x ≡ false) × (x.attrs ≡ a)
 open-on x a h =
     elim (cases_Bool (has_text x)) [
       | inl full ↦ absurd (both_ways (is_end x a) h (or_left (has_text x) (not (attrs_eq x.attrs a)) full))

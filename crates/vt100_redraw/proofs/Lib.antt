@@ -4,6 +4,10 @@ pub mod ColumnsWrites
 pub mod Examples
 pub mod KeptRows
 pub mod Lines
+pub mod Local
+pub mod LocalCells
+pub mod LocalColumns
+pub mod LocalRow
 pub mod OpeningWrites
 pub mod RowEnd
 pub mod RowLeads
@@ -12,4 +16,5 @@ pub mod RowStart
 pub mod RowWrites
 pub mod Steps
 pub mod Texts
+pub mod Touches
 pub mod WritesLemmas

@@ -41,11 +41,11 @@ filled-takes s f p t q u k h =
     let first : IsFilled s (f p).pen u = subst (λ (x : Pen). IsFilled s x u) (sym k.pen_is) h in
     subst (λ (x : Term). IsFilled s (f p).pen x) (sym k.term_is) first
 
-finish-none : (j : Job) (r k : ℕ) (a : Attrs) (b : Bool) → finish j (pen r k a None b) ≡ skip (pen r k a None b)
+pub finish-none : (j : Job) (r k : ℕ) (a : Attrs) (b : Bool) → finish j (pen r k a None b) ≡ skip (pen r k a None b)
 unfolding finish finish_of
 finish-none j r k a b = refl
 
-finish-some : (j : Job) (r k : ℕ) (a : Attrs) (e : Erase) (b : Bool)
+pub finish-some : (j : Job) (r k : ℕ) (a : Attrs) (e : Erase) (b : Bool)
     → finish j (pen r k a (Some e) b) ≡ (to_erase j e >> clearing) (pen r k a (Some e) b)
 unfolding finish finish_of
 finish-some j r k a e b = refl

@@ -117,7 +117,7 @@ record Reprints (s : Scene) (p : Pen) (t : Term) (g : Writer) : Type 0 where
       (with_row s line flags s.job.row 0 (s.job.new 0).attrs)
   lines : Line s.job.old s.job.new 0 line
 
-first-whole : (s : Scene) → IsScene s → (s.job.old 0).continuation ≡ false
+pub first-whole : (s : Scene) → IsScene s → (s.job.old 0).continuation ≡ false
 first-whole s h = h.old.paired.first
 
 and_none : (a : Bool) → (a && false) ≡ false

@@ -136,7 +136,8 @@ draws-to_erase P j e h p =
     (draws-colour P e.attrs))
     (draws-then P (goto j.row e.from) (colour e.attrs) (draws-goto P j.row e.from) (draws-colour P e.attrs))
 
-draws-flush_of : (P : List ℕ → Type 0) (j : Job) (c : ℕ) (e : Option Erase) → AreTexts P j.new → Draws P (flush_of j c e)
+draws-flush_of : (P : List ℕ → Type 0) (j : Job) (c : ℕ) (e : Option Erase) → AreTexts P j.new
+    → Draws P (flush_of j c e)
 unfolding flush_of
 draws-flush_of P j c None h = draws-skip P
 draws-flush_of P j c (Some e) h =

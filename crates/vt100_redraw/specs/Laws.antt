@@ -1,7 +1,10 @@
 -- Where the redraw and the difference of a row lead.
-use Rattle.std.specs.Prelude.{ℕ, ◌≡◌, false}
+use Rattle.std.specs.Prelude.{ℕ, ◌≡◌, true, false}
 use Rattle.vt100_cells.specs.Cell.{default_cell}
+use Rattle.vt100_picture.specs.Term.{Shown}
 use Rattle.vt100_picture.specs.Apply.{run}
+use Rattle.vt100_picture.specs.Touch.{Within}
+use Rattle.vt100_picture.specs.Local.{IsNear, IsLocal}
 use Rattle.vt100_redraw.specs.declared.pen.Pen.{Pen}
 use Rattle.vt100_redraw.specs.Writer.{skip}
 use Rattle.vt100_redraw.specs.RowWriter.{Job, IsKept, row_redraw, row_difference}
@@ -31,3 +34,18 @@ EachKeptRowIsLeft = (j : Job) (n : ℕ) (p : Pen) → IsKept j p → row_differe
 abbrev pub EachTextIsDrawn : Type 0
 EachTextIsDrawn = (j : Job) (n : ℕ) (p : Pen) → AllDrawing (IsTextOf j.new) (row_redraw j n p).forms
     × AllDrawing (IsTextOf j.new) (row_difference j n p).forms
+
+-- The row of the job is one of two pictures of the screen, an earlier and a present one. Where the row above goes on in
+-- it and has no flag in the terminal, one of the two rows differs.
+pub record IsPictured (s : Scene) (old new : Shown) : Type 0 where
+  pub old_cells : old.cell s.job.row ≡ s.job.old
+  pub new_cells : new.cell s.job.row ≡ s.job.new
+  pub old_flag : old.wrapped s.job.row ≡ s.job.was_wrapped
+  pub new_flag : new.wrapped s.job.row ≡ s.job.wrapped
+  pub above : s.job.above ≡ true → s.job.was_above ≡ false → IsNear (size_of s) old new s.job.row
+
+-- the difference touches no cells but local ones
+abbrev pub EachDifferenceIsLocal : Type 0
+EachDifferenceIsLocal = (s : Scene) (old new : Shown) (p : Pen) → IsScene s → IsReady s p → IsPictured s old new
+    → Within (IsLocal (size_of s) old new) (size_of s) (row_difference s.job s.job.cols p).forms
+    (with_row s s.job.old s.flags p.pos.row p.pos.col p.attrs)

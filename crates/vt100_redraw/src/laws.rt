@@ -1,6 +1,7 @@
 //! Facts about redraws and differences of rows. Each function does nothing: its contract is the fact.
 ghost use Rattle.vt100_redraw.specs.Examples.{EachExampleIsWritten};
 ghost use Rattle.vt100_redraw.specs.Laws.{EachDifferenceLeads, EachRedrawLeads, EachKeptRowIsLeft, EachTextIsDrawn};
+ghost use Rattle.vt100_redraw.specs.Laws.{EachDifferenceIsLocal};
 
 /// A terminal that shows an earlier row, and reads the difference, shows the present one. It has the row's flag, or the
 /// cursor waits at the row's end and the next row sets it; the flag of the row above is set if that one goes on.
@@ -16,6 +17,11 @@ pub fn redraws_lead()
 /// Nothing is written for a row that the terminal shows already, and the pen stays as it is.
 pub fn kept_rows_are_left()
     ensures { EachKeptRowIsLeft }
+{}
+
+/// A difference touches the cells that differ, and near them empty cells and those of the first and the last column.
+pub fn differences_are_local()
+    ensures { EachDifferenceIsLocal }
 {}
 
 /// Redraws and differences set no mode and no style, and their texts are spaces and texts of the row's cells.

@@ -1,5 +1,6 @@
 -- What the forms of a whole row do to a terminal.
-use Rattle.std.proofs.Common.{◌≡◌, ℕ, ◌-◌, ◌<◌, ◌≤◌, Bool, true, false, List, [], length, min, Option, None, refl, arith}
+use Rattle.std.proofs.Common.{◌≡◌, ℕ, ◌-◌, ◌<◌, ◌≤◌, Bool, true, false, List, [], length, min, Option, None, refl}
+use Rattle.std.proofs.Common.{arith}
 use Rattle.std.proofs.Common.{sym, ap, ◌∙◌, subst, cond, inl, inr, ◌⊎◌}
 use Rattle.std.specs.Prelude.{unwrap_or}
 use Rattle.std.proofs.lemmas.Bool.{false≢true, lt-ltb}

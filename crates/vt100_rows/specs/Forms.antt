@@ -33,7 +33,7 @@ redraw v start width row above =
     else skip
 
 -- Before that the cursor stands at `pos` and the terminal draws with `attrs`. Where these aren't given, the attributes
--- are the default ones, and the cursor stands at the column `start`, or at the end of the row above if that one goes on.
+-- are the default ones, and the cursor stands at column `start`, or at the end of the row above if that one goes on.
 abbrev pub pen_at : RowView → ℕ → ℕ → Bool → Option Pos → Option Attrs → Pen
 pen_at v start row above pos attrs = record {
   pos = unwrap_or pos (if above then record { row = row - 1; col = length v.cells }
@@ -64,7 +64,8 @@ difference_job v earlier start row above was_above = record {
   was_above = was_above;
 }
 
--- `width` columns of it, or as many as both rows have, and the row's flag; nothing where one of them ends before `start`
+-- `width` columns of it, or as many as both rows have, and the row's flag; nothing where one of them ends before
+-- `start`
 abbrev pub difference : RowView → RowView → ℕ → ℕ → ℕ → Bool → Bool → Writer
 difference v earlier start width row above was_above =
     let cols = min (length v.cells) (length earlier.cells) in
@@ -75,4 +76,5 @@ difference v earlier start width row above was_above =
 -- what `write_contents_diff` appends, and the pen after it
 abbrev pub differing : RowView → RowView → ℕ → ℕ → ℕ → Bool → Bool → Pos → Attrs → Drawn
 differing v earlier start width row above was_above pos attrs =
-    difference v earlier start width row above was_above (record { pos = pos; attrs = attrs; erase = None; lost = false })
+    difference v earlier start width row above was_above
+    (record { pos = pos; attrs = attrs; erase = None; lost = false })

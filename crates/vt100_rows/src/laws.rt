@@ -4,8 +4,8 @@ ghost use Rattle.vt100_rows.specs.Laws.{EachRowIsDrawn, EachDifferenceIsDrawn, E
 ghost use Rattle.vt100_rows.specs.Laws.{EachTextIsAForm, EachHasNoMark};
 
 /// A terminal whose cursor stands at the start of a blank row, and that reads what
-/// [`write_contents_formatted`](crate::Row::write_contents_formatted) appends for a whole row, shows this row there; its
-/// other rows stay.
+/// [`write_contents_formatted`](crate::Row::write_contents_formatted) appends for a whole row, shows this row there;
+/// its other rows stay.
 pub fn rows_are_drawn()
     ensures { EachRowIsDrawn }
 {}
@@ -15,8 +15,8 @@ pub fn differences_are_drawn()
     ensures { EachDifferenceIsDrawn }
 {}
 
-/// The forms of any part of a row set no mode and no style; what they print are texts of cells, if no cell of the row has
-/// U+FFFD.
+/// The forms of any part of a row set no mode and no style; what they print are texts of cells, if no cell of the row
+/// has U+FFFD.
 pub fn texts_are_sent()
     ensures { EachTextIsSent }
 {}
