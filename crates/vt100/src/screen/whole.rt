@@ -12,7 +12,10 @@ use std::num::NonZeroU16;
 use vt100_core::Size;
 
 impl Screen {
-    /// Gives the screen another size, and tells no callbacks of the rows that leave it.
+    /// Gives the screen another size, and tells no callbacks of the rows that leave it. The same size changes nothing.
+    ///
+    /// Where memory is refused the answer is [`ScreenError::Memory`], the screen has failed, and which size each sheet
+    /// has is open. On a failed screen nothing is done, and the answer is [`ScreenError::Failed`].
     #[tactic(auto, using(crate::proofs::SizeLemmas::resized_height, crate::proofs::SizeLemmas::resized_width))]
     pub fn set_size(&mut self, rows: NonZeroU16, cols: NonZeroU16) -> Result<(), ScreenError>
         ensures { TriesAlone (λ s. (resized_to rows.value cols.value s).state) self.old result self.new }
@@ -34,6 +37,9 @@ impl Screen {
 
     /// Shows the newest `rows` of the kept rows above the others, or all of them if there are fewer. What the screen
     /// answers then, and what [`cell`](Self::cell) and the texts show, is read there.
+    ///
+    /// Where memory is refused the answer is [`ScreenError::Memory`], and the screen has failed, with its size. On a
+    /// failed screen nothing is done, and the answer is [`ScreenError::Failed`].
     pub fn set_scrollback(&mut self, rows: usize) -> Result<(), ScreenError>
         ensures tries { TriesAlone (kept_shown rows) self.old result self.new }
         ensures bounds { SameBounds self.old.state self.new.state }
@@ -71,7 +77,7 @@ impl Screen {
         }
     }
 
-    /// An equal screen.
+    /// An equal screen, also of one that has failed.
     pub fn clone(&self) -> Result<Screen, ScreenError>
         ensures screen { IfOk result (λ screen. screen ≡ self.now) }
         ensures memory { OnErr result (result ≡ Err Memory) }
