@@ -33,9 +33,8 @@ Appends fs s false t = IsBegun s (spell fs) t
 abbrev pub drawn_on : GridView → Shown
 drawn_on g = record blank_shown { cell = lines_of g.rows; wrapped = wraps_of g.rows; row = g.row; col = g.col }
 
--- from p, if it is known, to the grid's cursor, where the terminal draws with the attributes a, the default ones if
--- none
--- are given
+-- from p, if it is known, to the grid's cursor, where the terminal draws with the attributes a, the default
+-- ones if none are given
 abbrev pub cursor_position_formatted : GridView → Option Pos → Option Attrs → List Form
 cursor_position_formatted g p a =
     cursor.cursor_position_formatted (size_of g) (drawn_on g) p (unwrap_or a default_attrs)
