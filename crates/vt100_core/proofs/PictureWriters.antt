@@ -21,7 +21,8 @@ use Rattle.vt100_redraw.specs.declared.pen.Pen.{Pen}
 use Rattle.vt100_redraw.specs.Writer.{Drawn, Writer, ◌>>◌, skip}
 use Rattle.vt100_redraw.specs.RowWriter.{row_redraw, row_difference}
 use Rattle.vt100_writers.specs.Cursor as cursor
-use Rattle.vt100_writers.specs.Cursor.{place, is_at, arriving, last_cell, row_with_end, wait, wait_behind, wait_on_empty}
+use Rattle.vt100_writers.specs.Cursor.{place, is_at, arriving, last_cell, row_with_end, wait}
+use Rattle.vt100_writers.specs.Cursor.{wait_behind, wait_on_empty}
 use Rattle.vt100_writers.specs.Rows.{pen_at, afresh, is_continued, next_redraw, rows_redraw, next_difference}
 use Rattle.vt100_writers.specs.Rows.{rows_difference}
 use Rattle.vt100_writers.specs.Screen.{cursor_placed, grid_redraw, grid_contents_formatted, grid_difference}
@@ -48,7 +49,8 @@ end-same : (g : GridView) (x : Extras) (r : ℕ)
     → row_with_end (size_of g) (drawn_on g) r ≡ row_with_end (size_of g) (picture_of g x) r
 end-same g x zero = refl
 end-same g x (suc r) =
-    ap (λ (e : Option ℕ). cond (has_text (last_cell (size_of g) (drawn_on g) (suc r))) (Some (suc r)) e) (end-same g x r)
+    ap (λ (e : Option ℕ). cond (has_text (last_cell (size_of g) (drawn_on g) (suc r))) (Some (suc r)) e) (end-same g
+    x r)
 
 wait-same : (g : GridView) (x : Extras) (p : Option Pos) (a : Attrs) (e : Option ℕ)
     → wait (size_of g) (drawn_on g) p a e ≡ wait (size_of g) (picture_of g x) p a e

@@ -7,7 +7,8 @@ use Rattle.std.specs.Prelude.{Option, unwrap_or}
 use Rattle.vt100_forms.specs.declared.attrs.Attrs.{Attrs}
 use Rattle.vt100_forms.specs.declared.position.Pos.{Pos}
 use Rattle.vt100_forms.specs.Attrs.{default_attrs}
-use Rattle.vt100_forms.specs.Form.{Form, ClearAttrs, ClearScreen, EraseChar, Backspace, SaveCursor, RestoreCursor, change}
+use Rattle.vt100_forms.specs.Form.{Form, ClearAttrs, ClearScreen, EraseChar, Backspace, SaveCursor}
+use Rattle.vt100_forms.specs.Form.{RestoreCursor, change}
 use Rattle.vt100_forms.specs.Form.{spell}
 use Rattle.vt100_picture.specs.Term.{Shown, blank_shown}
 use Rattle.vt100_redraw.specs.Writer.{Drawn, Writer, ◌>>◌, skip}
@@ -32,8 +33,8 @@ Appends fs s false t = IsBegun s (spell fs) t
 abbrev pub drawn_on : GridView → Shown
 drawn_on g = record blank_shown { cell = lines_of g.rows; wrapped = wraps_of g.rows; row = g.row; col = g.col }
 
--- from p, if it is known, to the grid's cursor, where the terminal draws with the attributes a, the default ones if none
--- are given
+-- from p, if it is known, to the grid's cursor, where the terminal draws with the attributes a, the default
+-- ones if none are given
 abbrev pub cursor_position_formatted : GridView → Option Pos → Option Attrs → List Form
 cursor_position_formatted g p a =
     cursor.cursor_position_formatted (size_of g) (drawn_on g) p (unwrap_or a default_attrs)

@@ -51,7 +51,8 @@ pub fn grids_are_drawable()
     ensures { EachGridIsDrawable }
 {}
 
-/// What [`Grid::write_contents_formatted`](crate::Grid::write_contents_formatted) appends leads from any terminal to the
+/// What [`Grid::write_contents_formatted`](crate::Grid::write_contents_formatted) appends leads from any terminal to
+/// the
 /// grid's cells, flags and cursor, and to the attributes that it answers.
 pub fn redraws_lead()
     ensures { EachRedrawIsDrawn }

@@ -8,6 +8,7 @@ mod edits;
 mod refusals;
 mod resize;
 mod text;
+mod writers;
 
 use crate::shown::shown;
 use cursor::{Move, go};

@@ -17,6 +17,8 @@ impl Grid {
     /// placed as [`write_cursor_position_formatted`](Self::write_cursor_position_formatted) does. Answers the
     /// attributes with which the terminal draws afterwards.
     ///
+    /// Kept rows that are shown are drawn in the screen's columns; the cursor is that of the rows that are drawn on.
+    ///
     /// On an error a part of the forms may have been appended.
     pub fn write_contents_formatted(&self, contents: &mut String) -> Result<Attrs, GridError>
         ensures text { Appends (contents_formatted self.now) (string_bytes contents.old) (is_ok result)
@@ -71,7 +73,8 @@ impl Grid {
 
     /// Draws the rows that are shown over those that `prev` shows.
     fn rows_diff(&self, contents: &mut String, pen: &mut Pen, prev: &Self) -> Result<(), GridError>
-        ensures { Writes (lines_difference self.now prev.now (min (length self.now.rows) (length prev.now.rows))) pen.old
+        ensures { Writes (lines_difference self.now prev.now (min (length self.now.rows) (length prev.now.rows)))
+        pen.old
             (string_bytes contents.old) (is_ok result) pen.new (string_bytes contents.new) }
     {
         let mut wrapping = false;

@@ -22,7 +22,8 @@ returns-in_err-difference c =
     let inside : c.loop-i.i < n = omega (arith, count, others) in
     on_err c.from_residual.result (lines_difference g h n) p s c.difference.new.pen t c.from_residual.ensures.0
     (changed-begun g h c.loop-i.i n c.cols.result c.shown_row-row.result.now c.shown_row-prev_row.result.now
-    c.loop-i.wrapping c.loop-i.prev_wrapping c.has_flag-flagged.result p s c.loop-i.pen (string_bytes c.loop-i.contents) t inside
+    c.loop-i.wrapping c.loop-i.prev_wrapping c.has_flag-flagged.result p s c.loop-i.pen (string_bytes
+    c.loop-i.contents) t inside
     (record {
       wide = c.cols.ensures ∙ ap (λ (x : GridView). x.width) c.self.view_is;
       row = c.shown_row-row.ensures;
@@ -37,7 +38,8 @@ loop-i-preserved c =
     let p = c.args.pen.now in
     let s = string_bytes c.args.contents.now in
     changed-next g h c.loop-i.i _ c.cols.result c.shown_row-row.result.now c.shown_row-prev_row.result.now
-    c.loop-i.wrapping c.loop-i.prev_wrapping c.has_flag-flagged.result c.wrapped-wrapping.result c.wrapped-prev_wrapping.result p s
+    c.loop-i.wrapping c.loop-i.prev_wrapping c.has_flag-flagged.result c.wrapped-wrapping.result
+    c.wrapped-prev_wrapping.result p s
     c.loop-i.pen (string_bytes c.loop-i.contents) c.difference.new.pen (string_bytes c.difference.new.contents)
     (omega arith) c.wrapped-wrapping.ensures c.wrapped-prev_wrapping.ensures
     (record {

@@ -92,7 +92,8 @@ returns-in_err-write_buf-4 c =
     (begun_rest (change a b) r1 s t1 t5 c.in_ok-write_escape_code_diff.ensures.bytes
     (begun_rest (SaveCursor ∷ []) r2 t1 t2 t5 c.in_ok-write_buf.ensures.bytes
     (begun_rest (Backspace ∷ []) r3 t2 t3 t5 c.in_ok-write_buf-2.ensures.bytes
-    (begun_rest (EraseChar 1 ∷ []) r4 t3 t4 t5 (c.in_ok-write_buf-3.ensures.bytes ∙ ap (λ f. t3 ++ spell (f ∷ [])) c.new.ensures)
+    (begun_rest (EraseChar 1 ∷ []) r4 t3 t4 t5 (c.in_ok-write_buf-3.ensures.bytes ∙ ap (λ f. t3 ++ spell (f ∷ []))
+    c.new.ensures)
     (begun_none r4 t4 t5 c.in_err-write_buf-4.ensures.bytes)))))
 
 pub returns : goal.returns
@@ -115,6 +116,7 @@ returns c =
     appends_rest (change a b) r1 (replaced a b) s t1 ok u refl c.in_ok-write_escape_code_diff.ensures.bytes
     (appends_rest (SaveCursor ∷ []) r2 r1 t1 t2 ok u refl c.in_ok-write_buf.ensures.bytes
     (appends_rest (Backspace ∷ []) r3 r2 t2 t3 ok u refl c.in_ok-write_buf-2.ensures.bytes
-    (appends_rest (EraseChar 1 ∷ []) r4 r3 t3 t4 ok u refl (c.in_ok-write_buf-3.ensures.bytes ∙ ap (λ f. t3 ++ spell (f ∷ [])) c.new.ensures)
+    (appends_rest (EraseChar 1 ∷ []) r4 r3 t3 t4 ok u refl (c.in_ok-write_buf-3.ensures.bytes ∙ ap (λ f. t3 ++ spell
+    (f ∷ [])) c.new.ensures)
     (appends_rest (RestoreCursor ∷ []) r5 r4 t4 t5 ok u refl c.in_ok-write_buf-4.ensures.bytes
     (last_appends r5 t5 ok u c.write_escape_code_diff-2.ensures.bytes)))))
