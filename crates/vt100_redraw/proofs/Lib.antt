@@ -12,4 +12,5 @@ pub mod RowStart
 pub mod RowWrites
 pub mod Steps
 pub mod Texts
+pub mod Touches
 pub mod WritesLemmas

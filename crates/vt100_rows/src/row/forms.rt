@@ -52,7 +52,7 @@ impl Row {
     /// from the first character, if the cursor waits at its end.
     ///
     /// `prev_pos` is where the terminal's cursor stands before, and `prev_attrs` are the attributes that it draws with.
-    /// Both are answered as they are afterwards. Rows of different lengths differ in the columns that both have; where
+    /// Both are answered as they are afterwards. Of rows of different lengths the columns that both have are compared; where
     /// one of them ends before `start` nothing is appended.
     ///
     /// On an error a part of the forms may have been appended.
