@@ -1,12 +1,10 @@
 pub mod EventLemmas
 pub mod HearLemmas
-pub mod ProperLemmas
 pub mod RepeatLemmas
 pub mod PlayLemmas
 pub mod PrintableLemmas
 pub mod ResizeLemmas
 pub mod RunLemmas
 pub mod SizeLemmas
-pub mod StateLemmas
 pub mod TextLemmas
 pub mod BetweenLemmas

@@ -19,7 +19,7 @@ use Rattle.vt100.specs.declared.error.ScreenError.{ScreenError}
 use Rattle.vt100.specs.Tries.{Tries, alive}
 use Rattle.vt100.specs.Goes.{Either, Tells, Goes, GoesThrough}
 use Rattle.vt100.specs.Parsing.{ParserView, StandsAt, KeepsScreens}
-use Rattle.vt100.specs.Laws.{PlaysEvents, FeedsMake, FeedsJoin, FeedsNothing, ActsFollow}
+use Rattle.vt100.specs.Laws.{PlaysEvents, FeedsMake, FeedsJoin, FeedsNothing, ActsFollow, ResizedScreensArePutIn}
 use Rattle.vt100.proofs.EventLemmas.{is_alive}
 
 both : (b : Bool) → (b ≡ true) ⊎ (b ≡ false)
@@ -187,3 +187,7 @@ pub resized_stands : {C : Type 0} (scrolls : C → RowView → Bool → C → Ty
 resized_stands scrolls p q height width (Ok u) reader t rows cols capacity acts at =
     stands_resized p q height width reader t.screen rows cols capacity acts at
 resized_stands scrolls p q height width (Err e) reader t rows cols capacity acts at = tt
+
+pub put_in : ResizedScreensArePutIn
+put_in p w height width rows cols capacity acts at screen =
+    stands_resized p (record p { screen = w }) height width refl screen rows cols capacity acts at

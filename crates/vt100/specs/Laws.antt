@@ -3,9 +3,11 @@ use Rattle.std.specs.Prelude.{◌≡◌, ℕ, false, List, [], ◌∷◌, ◌++�
 use Rattle.vte_core.specs.Event.{Event}
 use Rattle.vt100_state.specs.State.{State}
 use Rattle.vt100_state.specs.Call.{ScreenView}
-use Rattle.vt100_state.specs.Made.{Act, Fed, played, events_added, bytes_fed, made_on, made}
+use Rattle.vt100_state.specs.Step.{resized_to}
+use Rattle.vt100_state.specs.Made.{Act, Fed, Resized, played, events_added, bytes_fed, made_on, made}
 use Rattle.vt100.specs.Tries.{alive}
 use Rattle.vt100.specs.Goes.{GoesThrough}
+use Rattle.vt100.specs.Parsing.{ParserView, StandsAt}
 
 -- the callbacks that do nothing
 abbrev pub GoesAlone : List Event → ScreenView → ScreenView → Type 0
@@ -34,3 +36,11 @@ FeedsNothing = (past : List ℕ) (s : State) (acts : List Act) → made_on past 
 abbrev pub ActsFollow : Type 0
 ActsFollow = (rows cols capacity : ℕ) (acts more : List Act)
     → made rows cols capacity (acts ++ more) ≡ made_on (bytes_fed acts) (made rows cols capacity acts) more
+
+-- a parser into which its screen at another size is put stands where a resize of its own would have left it: a sequence
+-- or a character that its bytes leave unfinished goes on
+abbrev pub ResizedScreensArePutIn : Type 0
+ResizedScreensArePutIn = (p : ParserView (Unit {0})) (w : ScreenView) (height width rows cols capacity : ℕ)
+    (acts : List Act) → StandsAt p rows cols capacity acts
+    → w ≡ alive (resized_to height width p.screen.state).state
+    → StandsAt (record p { screen = w }) rows cols capacity (acts ++ Resized height width ∷ [])

@@ -50,7 +50,7 @@ impl Model for Grid {
 }
 
 impl Grid {
-    ghost use Rattle.vt100_core.specs.Grid.{GridView, new_grid, allocated, cleared, is_in_region, IsAllocated};
+    ghost use Rattle.vt100_core.specs.Grid.{GridView, IsGrid, new_grid, allocated, cleared, is_in_region, IsAllocated};
     ghost use Rattle.vt100_core.specs.Cursor.{cursor_at, with_origin, cursor_saved, cursor_restored, with_region};
     ghost use Rattle.vt100_core.specs.Cursor.{moved_rows_down, moved_rows_up, tab_stop};
 
@@ -87,6 +87,15 @@ impl Grid {
         ensures cols { result.cols.value ≡ self.now.width }
     {
         self.size
+    }
+
+    /// Whether the grid has its rows, as most calls ask. What is true of every grid holds either way.
+    pub fn is_allocated(&self) -> bool
+        ensures yes { result ≡ true → IsAllocated self.now }
+        ensures no { result ≡ false → self.now.rows ≡ [] }
+        ensures valid { IsGrid self.now }
+    {
+        !self.rows.is_empty()
     }
 
     /// Makes the rows, if the grid has none yet. Where there isn't memory for them nothing is changed.

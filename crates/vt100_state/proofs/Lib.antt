@@ -1,0 +1,11 @@
+pub mod CleanRows
+pub mod FineGrids
+pub mod FineSizes
+pub mod FineTexts
+pub mod ProperLemmas
+pub mod StateLemmas
+pub mod FineStates
+pub mod ScalarEvents
+pub mod FineEvents
+pub mod MadeLemmas
+pub mod ShownLemmas

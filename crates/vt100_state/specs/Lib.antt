@@ -6,4 +6,6 @@ pub mod Sgr
 pub mod PrivateModes
 pub mod Effect
 pub mod Made
+pub mod Holds
+pub mod Shown
 pub mod Rows

@@ -1,4 +1,5 @@
 //! What a terminal is, and what a program's bytes make of it.
 #![tactic(auto)]
 
+pub mod holds;
 pub mod laws;

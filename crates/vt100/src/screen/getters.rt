@@ -17,13 +17,15 @@ impl Screen {
         self.failed
     }
 
-    /// Whether no call found no memory: the sheets of such a screen have one size, the main one alone keeps rows, and
-    /// its attributes are proper.
+    /// Whether no call found no memory. Such a screen is in a state of a terminal: its sheets are grids of one size, the
+    /// main one alone keeps rows, and its attributes are proper.
     pub fn is_live(&self) -> bool
         ensures answer { result ≡ not self.now.failed }
-        ensures live { self.now.failed ≡ false → IsGrid self.now.state.shown → IsGrid self.now.state.other
-            → IsState self.now.state }
+        ensures live { self.now.failed ≡ false → IsState self.now.state }
+        ensures sheets { IsGrid self.now.state.shown × IsGrid self.now.state.other }
     {
+        prove!(self.grid.is_allocated());
+        prove!(self.other_grid.is_allocated() || !self.alternate_screen);
         !self.failed
     }
 

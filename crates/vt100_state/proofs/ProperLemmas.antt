@@ -8,7 +8,8 @@ use Rattle.vt100_forms.specs.declared.attrs.Color.{Color}
 use Rattle.vt100_forms.specs.declared.attrs.Color.TheVariants.{Default, Idx, Rgb}
 use Rattle.vt100_forms.proofs.AttrsLemmas.{setters_keep_proper}
 use Rattle.vt100_state.specs.Lookup.{lookup}
-use Rattle.vt100_state.specs.Sgr.{coloured, flag_rows, code_row, target_of, Awaits, nothing, kind, index, red, green, blue}
+use Rattle.vt100_state.specs.Sgr.{coloured, flag_rows, code_row, target_of, Awaits, nothing, kind, index, red, green}
+use Rattle.vt100_state.specs.Sgr.{blue}
 use Rattle.vt100_state.specs.Sgr.{Next, goes_on, passed_over, ends, ends_unhandled, rgb_next, index_next, colour_next}
 use Rattle.vt100_state.specs.Sgr.{target_next, code_next, single_next, first_next, kind_next, value_next, next, Read}
 use Rattle.vt100_state.specs.Sgr.{read_on, read_groups, sgr_read}
@@ -35,7 +36,7 @@ coloured-proper : (t : Bool) (x : Color) (a : Attrs) → IsProper a → IsProper
 coloured-proper true x a h = record { small = h.small; one = h.one }
 coloured-proper false x a h = record { small = h.small; one = h.one }
 
-default-proper : IsProper default_attrs
+pub default-proper : IsProper default_attrs
 default-proper = record { small = omega arith; one = refl }
 
 row-cond : (b : Bool) (o p : Option (Attrs → Attrs)) → RowKeeps o → RowKeeps p → RowKeeps (if b then o else p)
