@@ -10,6 +10,7 @@ pub mod Resize
 pub mod Scroll
 pub mod Text
 pub mod Picture
+pub mod Writers
 pub use Rattle.vt100_forms.specs.Attrs
 pub use Rattle.vt100_cells.specs.Cell
 pub use Rattle.vt100_cells.specs.Cells

@@ -8,10 +8,12 @@ mod cursor;
 mod erase;
 mod lengthen;
 mod lines;
+mod placing;
 mod resize;
 mod scroll;
 mod show;
 mod text;
+mod writers;
 
 use crate::scrollback::{Scrollback, ScrollbackState};
 use std::alloc::Global;

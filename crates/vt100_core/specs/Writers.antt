@@ -1,0 +1,61 @@
+-- What a grid appends as forms.
+--
+-- Rows are drawn as they are shown; the cursor is that of the rows that are drawn on, which are shown where no kept row
+-- is.
+use Rattle.std.specs.Prelude.{ℕ, zero, suc, ◌≡◌, Bool, true, false, List, ◌∷◌, ◌++◌, length}
+use Rattle.std.specs.Prelude.{Option, unwrap_or}
+use Rattle.vt100_forms.specs.declared.attrs.Attrs.{Attrs}
+use Rattle.vt100_forms.specs.declared.position.Pos.{Pos}
+use Rattle.vt100_forms.specs.Attrs.{default_attrs}
+use Rattle.vt100_forms.specs.Form.{Form, ClearAttrs, ClearScreen, EraseChar, Backspace, SaveCursor, RestoreCursor, change}
+use Rattle.vt100_forms.specs.Form.{spell}
+use Rattle.vt100_picture.specs.Term.{Shown, blank_shown}
+use Rattle.vt100_redraw.specs.Writer.{Drawn, Writer, ◌>>◌, skip}
+use Rattle.vt100_redraw.specs.Writes.{IsBegun}
+use Rattle.vt100_writers.specs.Rows.{pen_at, afresh}
+use Rattle.vt100_writers.specs.Screen.{cursor_placed}
+use Rattle.vt100_writers.specs.Cursor as cursor
+use Rattle.vt100_rows.specs.Forms.{redraw}
+use Rattle.vt100_sheet.specs.Picture.{lines_of, wraps_of}
+use Rattle.vt100_core.specs.Grid.{GridView, visible_at}
+use Rattle.vt100_core.specs.Contents.{is_below_wrapped}
+use Rattle.vt100_core.specs.Picture.{size_of}
+
+-- The text s becomes t: these forms are appended, or where the call is refused, a part of them may have been.
+abbrev pub Appends : List Form → List ℕ → Bool → List ℕ → Type 0
+Appends fs s true t = t ≡ s ++ spell fs
+Appends fs s false t = IsBegun s (spell fs) t
+
+-- ---- the cursor
+
+-- the cells and flags of the rows that are drawn on, and the cursor
+abbrev pub drawn_on : GridView → Shown
+drawn_on g = record blank_shown { cell = lines_of g.rows; wrapped = wraps_of g.rows; row = g.row; col = g.col }
+
+-- from p, if it is known, to the grid's cursor, where the terminal draws with the attributes a, the default ones if none
+-- are given
+abbrev pub cursor_position_formatted : GridView → Option Pos → Option Attrs → List Form
+cursor_position_formatted g p a =
+    cursor.cursor_position_formatted (size_of g) (drawn_on g) p (unwrap_or a default_attrs)
+
+-- what follows the space on which the cursor waits: it is erased with the attributes b, and the attributes a come back
+abbrev pub replaced : Attrs → Attrs → List Form
+replaced a b = change a b ++ SaveCursor ∷ Backspace ∷ EraseChar 1 ∷ RestoreCursor ∷ change b a
+
+-- ---- redraws
+
+-- the row that is shown at i, on a row of default cells
+unfoldable pub line_redraw : GridView → ℕ → Writer
+line_redraw g i p = redraw (visible_at g i) 0 g.width i (is_below_wrapped g i) (afresh p)
+
+-- the first n rows that are shown
+unfoldable pub lines_redraw : GridView → ℕ → Writer
+lines_redraw g zero = skip
+lines_redraw g (suc n) = lines_redraw g n >> line_redraw g n
+
+-- on a terminal that is cleared
+unfoldable pub redrawn : GridView → Drawn
+redrawn g = (lines_redraw g (length g.rows) >> cursor_placed (size_of g) (drawn_on g)) (pen_at 0 0 default_attrs)
+
+abbrev pub contents_formatted : GridView → List Form
+contents_formatted g = ClearAttrs ∷ ClearScreen ∷ (redrawn g).forms

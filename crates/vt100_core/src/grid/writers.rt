@@ -1,0 +1,59 @@
+//! What a grid shows, as forms.
+ghost use Rattle.std.specs.Prelude.{◌≡◌, length, is_ok, IfOk, string_bytes};
+ghost use Rattle.vt100_redraw.specs.Writes.{Writes};
+ghost use Rattle.vt100_writers.specs.Rows.{pen_at};
+ghost use Rattle.vt100_core.specs.Writers.{Appends, contents_formatted, redrawn, lines_redraw};
+
+use crate::grid::Grid;
+use vt100_forms::attrs::Attrs;
+use vt100_forms::term::{BufWrite, ClearAttrs, ClearScreen};
+use vt100_forms::{GridError, Pos};
+use vt100_redraw::Pen;
+
+impl Grid {
+    /// Appends the forms by which a terminal comes to show what the grid shows, whatever it showed before, and the
+    /// terminal's cursor comes to the grid's: attributes and screen are cleared, each row is drawn, and the cursor is
+    /// placed as [`write_cursor_position_formatted`](Self::write_cursor_position_formatted) does. Answers the
+    /// attributes with which the terminal draws afterwards.
+    ///
+    /// On an error a part of the forms may have been appended.
+    pub fn write_contents_formatted(&self, contents: &mut String) -> Result<Attrs, GridError>
+        ensures text { Appends (contents_formatted self.now) (string_bytes contents.old) (is_ok result)
+            (string_bytes contents.new) }
+        ensures attrs { IfOk result (λ answer. answer ≡ (redrawn self.now).pen.attrs) }
+    {
+        ClearAttrs.write_buf(contents)?;
+        ClearScreen.write_buf(contents)?;
+        let mut pen = pen_at(Pos { row: 0, col: 0 }, Attrs::new());
+        self.redraw_rows(contents, &mut pen)?;
+        self.write_cursor_position_formatted(contents, Some(pen.pos), Some(pen.attrs))?;
+        Ok(pen.attrs)
+    }
+
+    /// Draws the rows that are shown, on a cleared screen.
+    fn redraw_rows(&self, contents: &mut String, pen: &mut Pen) -> Result<(), GridError>
+        ensures { Writes (lines_redraw self.now (length self.now.rows)) pen.old (string_bytes contents.old)
+            (is_ok result) pen.new (string_bytes contents.new) }
+    {
+        let mut wrapping = false;
+        for i in 0..self.rows.len() as u16 {
+            let row = self.shown_row(i);
+            pen.lost = false;
+            row.redraw(contents, pen, 0, self.size.cols(), i, wrapping)?;
+            wrapping = row.wrapped();
+        }
+        Ok(())
+    }
+}
+
+/// What is known of a terminal whose cursor stands here and which draws with these attributes.
+fn pen_at(pos: Pos, attrs: Attrs) -> Pen
+    ensures { result ≡ pen_at pos.row pos.col attrs }
+{
+    Pen {
+        pos,
+        attrs,
+        erase: None,
+        lost: false,
+    }
+}
