@@ -4,6 +4,7 @@ pub mod ColumnsWrites
 pub mod Examples
 pub mod KeptRows
 pub mod Lines
+pub mod LocalRow
 pub mod OpeningWrites
 pub mod RowEnd
 pub mod RowLeads

@@ -3,10 +3,13 @@ use Rattle.std.proofs.Common.{◌≡◌, ℕ, suc, ◌+◌, ◌-◌, ◌<◌, �
 use Rattle.std.proofs.Common.{List, [], ◌∷◌, length, min, Option, refl, arith, sym, ap, ◌∙◌, inl, inr, ◌⊎◌, subst}
 use Rattle.std.specs.Prelude.{Contains, All}
 use Rattle.std.proofs.lemmas.Bool.{both_ways, cond_both, and_parts, eqb-true, eq-eqb, ne_eqb, le-ltb, le-leb, or_left}
-use Rattle.std.proofs.lemmas.Bool.{false≢true}
+use Rattle.std.proofs.lemmas.Bool.{false≢true, ltb-true}
 use Rattle.std.proofs.lemmas.Bool.Decides.{nat_tests}
 use Rattle.vt100_forms.specs.declared.attrs.Attrs.{Attrs}
-use Rattle.vt100_forms.specs.Form.{Form, Text}
+use Rattle.vt100_forms.specs.declared.position.Pos.{Pos}
+use Rattle.vt100_forms.specs.Attrs.{attrs_eq, default_attrs}
+use Rattle.vt100_forms.specs.Form.{Form, Text, MoveTo, MoveRight, EraseChar, ClearRowForward, ClearAttrs, Crlf, Backspace}
+use Rattle.vt100_forms.specs.Form.{Sgr, changed_attrs, moves}
 use Rattle.vt100_cells.specs.Cell.{CellView, IsCell, IsCellText, IsWideAs, cell_of, columns_of, appended_plain, is_filled}
 use Rattle.vt100_cells.specs.Cell.{is_undrawable}
 use Rattle.vt100_cells.specs.Line.{span_of, put, base_col}
@@ -16,9 +19,13 @@ use Rattle.vt100_picture.specs.Term.{Size, Term}
 use Rattle.vt100_picture.specs.Apply.{with_line, print as printed_cell, join, made_to_fit, is_dropped, input, apply, run}
 use Rattle.vt100_picture.specs.Touch.{put_touches, wipe_touches, is_last_row, input_touches, inputs_touch, form_touches}
 use Rattle.vt100_picture.specs.Touch.{touches, Within}
-use Rattle.vt100_picture.proofs.Positions.{update-same}
+use Rattle.vt100_picture.proofs.Positions.{update-same, update-other}
 use Rattle.vt100_picture.proofs.TermLemmas.{span-columns, columns-few}
-use Rattle.vt100_redraw.proofs.Steps.{IsSendable, at, fits-here, fits-below}
+use Rattle.vt100_picture.proofs.TouchLemmas.{within-joined}
+use Rattle.vt100_redraw.specs.declared.pen.Pen.{Pen}
+use Rattle.vt100_redraw.specs.Writer.{Drawn, Writer, ◌>>◌, skip, goto, turn, colour, print, space, back, erasing}
+use Rattle.vt100_redraw.specs.Writer.{clearing, marking}
+use Rattle.vt100_redraw.proofs.Steps.{Takes, IsSendable, at, fits-here, fits-below, span-space, sends-space}
 
 -- ---- zero-width characters
 
@@ -191,3 +198,184 @@ first-here z x c cs t h room =
       behind = subst (IsBehind t.row t.col) (sym (rw (kept, some) (ap (printed_cell z (cell_of c t.attrs))
           (fits-here z (columns_of c) t fits)))) (print-behind z (cell_of c t.attrs) t refl);
     }
+
+leb-off : (m n : ℕ) → n < m → nat_le m n ≡ false
+leb-off m n l = grind (arith, nat_tests)
+
+first-below : (z : Size) (x : CellView) (c : ℕ) (cs : List ℕ) (t : Term) (C : ℕ → ℕ → CellView) (W : ℕ → Bool)
+    (r n : ℕ) (a : Attrs) → IsHead x c cs → span_of x ≤ z.cols → z.cols < n + span_of x → r + 1 < z.rows
+    → is_filled (C r (z.cols - 1)) ≡ true → IsFirst z x c (at t C W r n a) (r + 1) 0 (C (r + 1))
+unfolding input input_touches
+first-below z x c cs t C W r n a h l over room full =
+    let u = at t C W r n a in
+    let past : z.cols < n + columns_of c = omega (arith, over, h.span) in
+    let kept = kept_first z c u h.drawn h.some (omega (arith, l, h.span)) in
+    let some = h.some in
+    let off = leb-off (n + columns_of c) z.cols past in
+    let inner : nat_le z.rows (r + 1) ≡ false = leb-off z.rows (r + 1) room in
+    record {
+      touched = λ i k q.
+          let both = and_parts (i == (r + 1)) _ ((rw (kept, some, off, inner) refl) ∙ q) in
+          (eqb-true i (r + 1) both.0, put_touches-like (C (r + 1)) 0 x (cell_of c a) k h.wide both.1);
+      behind = subst (IsBehind (r + 1) 0) (sym (rw (kept, some) (ap (printed_cell z (cell_of c a))
+          (fits-below z (columns_of c) t C W r n a past room full))))
+          (print-behind z (cell_of c a) (at t C (update W r true) (r + 1) 0 a) refl);
+    }
+
+text-from : (z : Size) (x : CellView) (t : Term) (i n : ℕ) (f : ℕ → CellView) → IsSendable x
+    → ((c : ℕ) (cs : List ℕ) → IsHead x c cs → IsFirst z x c t i n f) → (r k : ℕ)
+    → form_touches z (Text x.text) t r k ≡ true → (r ≡ i) × (put_touches f n x k ≡ true)
+unfolding form_touches
+text-from z x t i n f send begins r k =
+    (elim x.text as (λ ts. x.text ≡ ts → inputs_touch z ts t r k ≡ true → (r ≡ i) × (put_touches f n x k ≡ true)) [
+      | [] ↦ λ e q. absurd (false≢true q)
+      | c ∷ cs ↦ λ e q.
+          let head = head-is x c cs e send.cell send.plain in
+          first-text z x c cs t i n f r k (begins c cs head) head.zero q
+    ]) refl
+
+-- ---- writers
+
+-- a writer's forms, which t reads, touch cells of S alone
+abbrev pub Stays : (ℕ → ℕ → Type 0) → Size → Writer → Pen → Term → Type 0
+Stays S z f p t = Within S z (f p).forms t
+
+pub stays-then : (S : ℕ → ℕ → Type 0) (z : Size) (f g : Writer) (p : Pen) (t : Term) (q : Pen) (u : Term)
+    → Takes z f p t q u → Stays S z f p t → Stays S z g q u → Stays S z (f >> g) p t
+unfolding ◌>>◌
+stays-then S z f g p t q u k a b =
+    within-joined S z (f p).forms (g (f p).pen).forms t a
+    (subst (λ (x : Pen). Within S z (g x).forms (run z (f p).forms t)) (sym k.pen_is)
+    (subst (λ (v : Term). Within S z (g q).forms v) (sym k.term_is) b))
+
+pub stays-as : (S : ℕ → ℕ → Type 0) (z : Size) (f g : Writer) (p : Pen) (t : Term) → g p ≡ f p → Stays S z f p t
+    → Stays S z g p t
+stays-as S z f g p t e a = subst (λ (d : Drawn). Within S z d.forms t) (sym e) a
+
+pub stays-skip : (S : ℕ → ℕ → Type 0) (z : Size) (p : Pen) (t : Term) → Stays S z skip p t
+unfolding skip
+stays-skip S z p t = tt
+
+pub stays-turn : (S : ℕ → ℕ → Type 0) (z : Size) (row : ℕ) (p : Pen) (t : Term) → Stays S z (turn row) p t
+unfolding turn
+stays-turn S z row p t = tt
+
+pub stays-marking : (S : ℕ → ℕ → Type 0) (z : Size) (n : ℕ) (a : Attrs) (p : Pen) (t : Term)
+    → Stays S z (marking n a) p t
+unfolding marking
+stays-marking S z n a p t = tt
+
+form-within : (S : ℕ → ℕ → Type 0) (z : Size) (f : Form) (t : Term)
+    → ((r k : ℕ) → k < z.cols → form_touches z f t r k ≡ true → S r k) → Within S z (f ∷ []) t
+unfolding touches
+form-within S z f t h = (
+  λ r k e.
+      let both = and_parts (nat_lt r z.rows && nat_lt k z.cols) (form_touches z f t r k) e in
+      h r k (ltb-true k z.cols (and_parts (nat_lt r z.rows) (nat_lt k z.cols) both.0).1) both.1,
+  tt,
+)
+
+form-idle : (S : ℕ → ℕ → Type 0) (z : Size) (f : Form) (t : Term) → ((r k : ℕ) → form_touches z f t r k ≡ false)
+    → Within S z (f ∷ []) t
+form-idle S z f t h = form-within S z f t (λ r k l e. absurd (both_ways (form_touches z f t r k) (h r k) e))
+
+moves-idle : (S : ℕ → ℕ → Type 0) (z : Size) (p q : Pos) (t : Term) → t.row ≡ p.row → q.row < z.rows
+    → Within S z (moves p q) t
+unfolding form_touches
+moves-idle S z p q t here room =
+    let P : List Form → Type 0 = λ fs. Within S z fs t in
+    cond_both ((q.row == p.row + 1) && (q.col == 0)) (Crlf ∷ []) _ P
+    (λ h.
+    let next : q.row ≡ p.row + 1 = eqb-true q.row (p.row + 1) (and_parts (q.row == p.row + 1) (q.col == 0) h).0 in
+    form-idle S z Crlf t (λ r k. leb-off z.rows (t.row + 1) (omega (arith, next, here))))
+    (λ _. cond_both ((p.row == q.row) && (p.col == q.col)) [] _ P (λ _. tt)
+    (λ _. cond_both ((p.row == q.row) && nat_lt p.col q.col) (MoveRight (q.col - p.col) ∷ [])
+    (MoveTo q.row q.col ∷ []) P (λ _. form-idle S z (MoveRight (q.col - p.col)) t (λ r k. refl))
+    (λ _. form-idle S z (MoveTo q.row q.col) t (λ r k. refl))))
+
+pub stays-goto : (S : ℕ → ℕ → Type 0) (z : Size) (row col : ℕ) (p : Pen) (t : Term) → t.row ≡ p.pos.row → row < z.rows
+    → Stays S z (goto row col) p t
+unfolding goto
+stays-goto S z row col p t here room = moves-idle S z p.pos (record { row = row; col = col }) t here room
+
+pub stays-colour : (S : ℕ → ℕ → Type 0) (z : Size) (a : Attrs) (p : Pen) (t : Term) → Stays S z (colour a) p t
+unfolding colour form_touches
+stays-colour S z a p t =
+    let P : List Form → Type 0 = λ fs. Within S z fs t in
+    cond_both (attrs_eq a p.attrs) [] _ P (λ _. tt)
+    (λ _. cond_both (attrs_eq a default_attrs) (ClearAttrs ∷ []) (Sgr (changed_attrs p.attrs a) ∷ []) P
+    (λ _. form-idle S z ClearAttrs t (λ r k. refl)) (λ _. form-idle S z (Sgr (changed_attrs p.attrs a)) t
+    (λ r k. refl)))
+
+pub stays-back : (S : ℕ → ℕ → Type 0) (z : Size) (p : Pen) (t : Term) → Stays S z back p t
+unfolding back form_touches
+stays-back S z p t = form-idle S z Backspace t (λ r k. refl)
+
+pub stays-print : (S : ℕ → ℕ → Type 0) (z : Size) (t : Term) (C : ℕ → ℕ → CellView) (W : ℕ → Bool) (i c : ℕ) (a : Attrs)
+    (f : ℕ → CellView) (x : CellView) (loses : Bool) (p : Pen) → IsSendable x → c + span_of x ≤ z.cols
+    → ((k : ℕ) → k < z.cols → put_touches f c x k ≡ true → S i k)
+    → Stays S z (print x loses) p (at t (update C i f) W i c a)
+unfolding print
+stays-print S z t C W i c a f x loses p send room h =
+    let u = at t (update C i f) W i c a in
+    form-within S z (Text x.text) u (λ r k l e.
+    let there = text-from z x u i c (update C i f i) send
+    (λ d ds head. first-here z x d ds u head room) r k e in
+    subst (λ j. S j k) (sym there.0) (h k l
+    (ap (λ g. put_touches g c x k) (sym (update-same C i f)) ∙ there.1)))
+
+pub stays-print_below : (S : ℕ → ℕ → Type 0) (z : Size) (t : Term) (C : ℕ → ℕ → CellView) (W : ℕ → Bool) (i c : ℕ)
+    (a : Attrs) (f : ℕ → CellView) (x : CellView) (loses : Bool) (p : Pen) → IsSendable x → span_of x ≤ z.cols
+    → z.cols < c + span_of x → i + 1 < z.rows → is_filled (C i (z.cols - 1)) ≡ true
+    → ((k : ℕ) → k < z.cols → put_touches f 0 x k ≡ true → S (i + 1) k)
+    → Stays S z (print x loses) p (at t (update C (i + 1) f) W i c a)
+unfolding print
+stays-print_below S z t C W i c a f x loses p send l over room full h =
+    let D : ℕ → ℕ → CellView = update C (i + 1) f in
+    let u = at t D W i c a in
+    let kept : D i ≡ C i = update-other C (i + 1) i f (λ q. absurd (omega (arith, q))) in
+    let shown = ap (λ (g : ℕ → CellView). is_filled (g (z.cols - 1))) kept ∙ full in
+    form-within S z (Text x.text) u (λ r k m e.
+    let there = text-from z x u (i + 1) 0 (D (i + 1)) send
+    (λ d ds head. first-below z x d ds t D W i c a head l over room shown) r k e in
+    subst (λ j. S j k) (sym there.0) (h k m
+    (ap (λ g. put_touches g 0 x k) (sym (update-same C (i + 1) f)) ∙ there.1)))
+
+pub stays-space_below : (S : ℕ → ℕ → Type 0) (z : Size) (t : Term) (C : ℕ → ℕ → CellView) (W : ℕ → Bool) (i c : ℕ)
+    (a : Attrs) (f : ℕ → CellView) (p : Pen) → 0 < z.cols → z.cols < c + 1 → i + 1 < z.rows
+    → is_filled (C i (z.cols - 1)) ≡ true
+    → ((k : ℕ) → k < z.cols → put_touches f 0 (cell_of 32 a) k ≡ true → S (i + 1) k)
+    → Stays S z space p (at t (update C (i + 1) f) W i c a)
+unfolding space print
+stays-space_below S z t C W i c a f p some over room full h =
+    let one = span-space a in
+    stays-print_below S z t C W i c a f (cell_of 32 a) false p (sends-space a) (omega (arith, one, some))
+    (omega (arith, one, over)) room full h
+
+erase-within : (S : ℕ → ℕ → Type 0) (z : Size) (g : Form) (t : Term) (C : ℕ → ℕ → CellView) (W : ℕ → Bool) (i c e : ℕ)
+    (a : Attrs) (f : ℕ → CellView)
+    → ((r k : ℕ) → form_touches z g (at t (update C i f) W i c a) r k
+    ≡ ((r == i) && wipe_touches (update C i f i) c e k))
+    → ((k : ℕ) → k < z.cols → wipe_touches f c e k ≡ true → S i k) → Within S z (g ∷ []) (at t (update C i f) W i c a)
+erase-within S z g t C W i c e a f is h =
+    form-within S z g (at t (update C i f) W i c a) (λ r k l q.
+    let both = and_parts (r == i) _ (sym (is r k) ∙ q) in
+    subst (λ j. S j k) (sym (eqb-true r i both.0)) (h k l
+    (ap (λ (v : ℕ → CellView). wipe_touches v c e k) (sym (update-same C i f)) ∙ both.1)))
+
+pub stays-erasing : (S : ℕ → ℕ → Type 0) (z : Size) (t : Term) (C : ℕ → ℕ → CellView) (W : ℕ → Bool) (i c m e : ℕ)
+    (a : Attrs) (f : ℕ → CellView) (loses : Bool) (p : Pen) → c + m ≡ e → e ≤ z.cols
+    → ((k : ℕ) → k < z.cols → wipe_touches f c e k ≡ true → S i k)
+    → Stays S z (erasing m loses) p (at t (update C i f) W i c a)
+unfolding erasing form_touches
+stays-erasing S z t C W i c m e a f loses p whole l h =
+    let up_to : min (c + m) z.cols ≡ e = omega (arith, whole, l) in
+    erase-within S z (EraseChar m) t C W i c e a f
+    (λ r k. ap (λ n. (r == i) && wipe_touches (update C i f i) c n k) up_to) h
+
+pub stays-clearing : (S : ℕ → ℕ → Type 0) (z : Size) (t : Term) (C : ℕ → ℕ → CellView) (W : ℕ → Bool) (i c : ℕ)
+    (a : Attrs) (f : ℕ → CellView) (p : Pen) → ((k : ℕ) → k < z.cols → wipe_touches f c z.cols k ≡ true → S i k)
+    → Stays S z clearing p (at t (update C i f) W i c a)
+unfolding clearing form_touches
+stays-clearing S z t C W i c a f p h =
+    erase-within S z ClearRowForward t C W i c z.cols a f (λ r k. refl) h
