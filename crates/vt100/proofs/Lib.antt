@@ -8,3 +8,4 @@ pub mod RunLemmas
 pub mod SizeLemmas
 pub mod TextLemmas
 pub mod BetweenLemmas
+pub mod BoundsLemmas

@@ -1,7 +1,8 @@
 -- What calls do to a screen, and how they are refused.
 use Rattle.std.specs.Prelude.{◌≡◌, ℕ, Bool, true, false, Result, Err, OnOk, IfOk, if◌then◌else◌}
 use Rattle.vt100_rows.specs.Row.{RowView}
-use Rattle.vt100_state.specs.State.{State}
+use Rattle.vt100_core.specs.Grid.{SameLimits}
+use Rattle.vt100_state.specs.State.{State, main_sheet, alternate_sheet}
 use Rattle.vt100_state.specs.Step.{Stepped, Partly}
 use Rattle.vt100_state.specs.Call.{ScreenView, Hears}
 use Rattle.vt100.specs.declared.error.ScreenError.{ScreenError}
@@ -14,6 +15,11 @@ alive s = record { state = s; failed = false }
 -- f changes the state; a failed screen stays as it is
 abbrev pub unless_failed : (State → State) → ScreenView → ScreenView
 unless_failed f v = if v.failed then v else alive (f v.state)
+
+-- two states of which each sheet has one size, and keeps as many rows at most
+pub record SameBounds (s t : State) : Type 0 where
+  pub main : SameLimits (main_sheet s) (main_sheet t)
+  pub alternate : SameLimits (alternate_sheet s) (alternate_sheet t)
 
 -- A call that may be refused, of a screen v and callbacks c that are then w and d. It does f, and the callbacks are
 -- told of the rows that leave. Without memory the screen has failed; one that has failed refuses, and nothing changes.

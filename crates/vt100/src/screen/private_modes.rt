@@ -3,7 +3,7 @@ ghost use Rattle.std.specs.Prelude.{◌≡◌, OnOk, OnErr, IfOk, Err, is_some, 
 ghost use Rattle.vt100_state.specs.Step.{alternate_shown, alternate_cleared, main_shown, saved, restored};
 ghost use Rattle.vt100_state.specs.PrivateModes.{modes_set, modes_reset, row_of, row_state, set_rows, reset_rows};
 ghost use Rattle.vt100_state.specs.PrivateModes.{mouse_reset, encoding_reset};
-ghost use Rattle.vt100.specs.Tries.{TriesParts, Counts, alive};
+ghost use Rattle.vt100.specs.Tries.{TriesParts, Counts, SameBounds, alive};
 ghost use Rattle.vt100.specs.declared.error.ScreenError.TheVariants.{Memory};
 
 use crate::callbacks::Callbacks;
@@ -18,8 +18,9 @@ impl<CB: Callbacks> WrappedScreen<CB> {
     ///
     /// Refused for memory is only the alternate sheet's showing for the first time.
     pub fn decset(&mut self, params: &Params) -> Result<usize, ScreenError>
-        ensures { TriesParts CB.scrolls (modes_set params.now) self.old.screen self.old.callbacks result
+        ensures tries { TriesParts CB.scrolls (modes_set params.now) self.old.screen self.old.callbacks result
             self.new.screen self.new.callbacks }
+        ensures bounds { SameBounds self.old.screen.state self.new.screen.state }
     {
         if self.screen.failed {
             return Err(ScreenError::Failed);
@@ -60,6 +61,7 @@ impl Screen {
         ensures screen { OnOk result (self.new ≡ alive (row_state (row_of set_rows group.now) self.old.state)) }
         ensures known { IfOk result (λ known. known ≡ is_some (row_of set_rows group.now)) }
         ensures memory { OnErr result ((result ≡ Err Memory) × (self.new.failed ≡ true)) }
+        ensures bounds { SameBounds self.old.state self.new.state }
     {
         match group {
             [1] => self.application_cursor = true,
@@ -160,9 +162,11 @@ impl Screen {
         requires { self.old.failed ≡ false }
         ensures screen { OnOk result (self.new ≡ alive (alternate_shown self.old.state)) }
         ensures memory { OnErr result ((result ≡ Err Memory) × (self.new.failed ≡ true)) }
+        ensures bounds { SameBounds self.old.state self.new.state }
     {
         if self.grid.set_scrollback(0).is_err() || self.other_grid.allocate_rows().is_err() {
-            return Err(self.fail());
+            self.failed = true;
+            return Err(ScreenError::Memory);
         }
         if !self.alternate_screen {
             std::mem::swap(&mut self.grid, &mut self.other_grid);

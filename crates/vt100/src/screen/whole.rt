@@ -1,7 +1,7 @@
 //! Calls on a whole screen.
 ghost use Rattle.std.specs.Prelude.{◌≡◌, OnErr, IfOk, Err, true, false};
 ghost use Rattle.vt100_state.specs.Step.{kept_shown, kept_dropped, resized_to, made_anew, quietly};
-ghost use Rattle.vt100.specs.Tries.{Tries, TriesAlone, alive, unless_failed};
+ghost use Rattle.vt100.specs.Tries.{Tries, TriesAlone, SameBounds, alive, unless_failed};
 ghost use Rattle.vt100.specs.declared.error.ScreenError.TheVariants.{Memory};
 
 use crate::callbacks::Callbacks;
@@ -108,8 +108,9 @@ impl Screen {
 impl<CB: Callbacks> WrappedScreen<CB> {
     /// Makes everything as at first, at this size and capacity (RIS). The callbacks are told of no row.
     pub fn ris(&mut self) -> Result<(), ScreenError>
-        ensures { Tries CB.scrolls (λ s. quietly (made_anew s)) self.old.screen self.old.callbacks result
+        ensures tries { Tries CB.scrolls (λ s. quietly (made_anew s)) self.old.screen self.old.callbacks result
             self.new.screen self.new.callbacks }
+        ensures bounds { OnErr result (SameBounds self.old.screen.state self.new.screen.state) }
     {
         if self.screen.failed {
             return Err(ScreenError::Failed);
@@ -119,7 +120,10 @@ impl<CB: Callbacks> WrappedScreen<CB> {
                 self.screen = screen;
                 Ok(())
             }
-            Err(_) => Err(self.screen.fail()),
+            Err(_) => {
+                self.screen.failed = true;
+                Err(ScreenError::Memory)
+            }
         }
     }
 

@@ -2,7 +2,7 @@
 ghost use Rattle.std.specs.Prelude.{◌≡◌, OnOk, OnErr, IfOk, Err, All, true, false};
 ghost use Rattle.vt100_cells.specs.Cell.{IsPrintable};
 ghost use Rattle.vt100.specs.Runs.{typed_all, last_of};
-ghost use Rattle.vt100.specs.Tries.{Tries};
+ghost use Rattle.vt100.specs.Tries.{Tries, SameBounds};
 ghost use Rattle.vt100_state.specs.Step.{typed, repeated, line_fed, region_up, last_after};
 ghost use Rattle.vt100.specs.declared.error.ScreenError.TheVariants.{Memory};
 
@@ -22,8 +22,9 @@ pub struct WrappedScreen<CB> {
 impl<CB: Callbacks> WrappedScreen<CB> {
     /// Prints a character at the cursor, with the drawing attributes.
     pub fn text(&mut self, c: char) -> Result<(), ScreenError>
-        ensures { Tries CB.scrolls (typed c) self.old.screen self.old.callbacks result self.new.screen
+        ensures tries { Tries CB.scrolls (typed c) self.old.screen self.old.callbacks result self.new.screen
             self.new.callbacks }
+        ensures bounds { SameBounds self.old.screen.state self.new.screen.state }
     {
         if self.screen.failed {
             return Err(ScreenError::Failed);
@@ -46,8 +47,9 @@ impl<CB: Callbacks> WrappedScreen<CB> {
     /// Prints printable ASCII as [`text`](Self::text) of each character in turn does.
     pub(crate) fn text_run(&mut self, text: &[u8]) -> Result<(), ScreenError>
         requires { All IsPrintable text.now }
-        ensures { Tries CB.scrolls (typed_all text.now) self.old.screen self.old.callbacks result self.new.screen
+        ensures tries { Tries CB.scrolls (typed_all text.now) self.old.screen self.old.callbacks result self.new.screen
             self.new.callbacks }
+        ensures bounds { SameBounds self.old.screen.state self.new.screen.state }
     {
         if self.screen.failed {
             return Err(ScreenError::Failed);
@@ -69,8 +71,9 @@ impl<CB: Callbacks> WrappedScreen<CB> {
 
     /// Moves the cursor a row down, where the scroll region moves up at its last row (LF).
     pub fn lf(&mut self) -> Result<(), ScreenError>
-        ensures { Tries CB.scrolls line_fed self.old.screen self.old.callbacks result self.new.screen
+        ensures tries { Tries CB.scrolls line_fed self.old.screen self.old.callbacks result self.new.screen
             self.new.callbacks }
+        ensures bounds { SameBounds self.old.screen.state self.new.screen.state }
     {
         if self.screen.failed {
             return Err(ScreenError::Failed);
@@ -88,24 +91,27 @@ impl<CB: Callbacks> WrappedScreen<CB> {
 
     /// The same (VT).
     pub fn vt(&mut self) -> Result<(), ScreenError>
-        ensures { Tries CB.scrolls line_fed self.old.screen self.old.callbacks result self.new.screen
+        ensures tries { Tries CB.scrolls line_fed self.old.screen self.old.callbacks result self.new.screen
             self.new.callbacks }
+        ensures bounds { SameBounds self.old.screen.state self.new.screen.state }
     {
         self.lf()
     }
 
     /// The same (FF).
     pub fn ff(&mut self) -> Result<(), ScreenError>
-        ensures { Tries CB.scrolls line_fed self.old.screen self.old.callbacks result self.new.screen
+        ensures tries { Tries CB.scrolls line_fed self.old.screen self.old.callbacks result self.new.screen
             self.new.callbacks }
+        ensures bounds { SameBounds self.old.screen.state self.new.screen.state }
     {
         self.lf()
     }
 
     /// Moves the lines of the scroll region up; blank ones come in at its bottom (SU).
     pub fn su(&mut self, count: u16) -> Result<(), ScreenError>
-        ensures { Tries CB.scrolls (region_up count) self.old.screen self.old.callbacks result self.new.screen
+        ensures tries { Tries CB.scrolls (region_up count) self.old.screen self.old.callbacks result self.new.screen
             self.new.callbacks }
+        ensures bounds { SameBounds self.old.screen.state self.new.screen.state }
     {
         if self.screen.failed {
             return Err(ScreenError::Failed);
@@ -123,8 +129,9 @@ impl<CB: Callbacks> WrappedScreen<CB> {
 
     /// Prints the last character that was drawn in a cell of its own, so many times more, if there is one (REP).
     pub(crate) fn rep(&mut self, count: u16) -> Result<(), ScreenError>
-        ensures { Tries CB.scrolls (repeated count) self.old.screen self.old.callbacks result self.new.screen
+        ensures tries { Tries CB.scrolls (repeated count) self.old.screen self.old.callbacks result self.new.screen
             self.new.callbacks }
+        ensures bounds { SameBounds self.old.screen.state self.new.screen.state }
     {
         if self.screen.failed {
             return Err(ScreenError::Failed);

@@ -24,15 +24,15 @@ returns-in-9 g c = rw c.in-9.is
 
 pub returns-in-10 : goal.returns-in-10
 returns-in-10 g c = rw c.in-10.is
-    (does_steps g.CB.Callbacks.step g.CB.Callbacks.scrolls line_fed _ _ _ _ _ c.lf.ensures)
+    (does_steps g.CB.Callbacks.step g.CB.Callbacks.scrolls line_fed _ _ _ _ _ c.lf.ensures.tries)
 
 pub returns-in-11 : goal.returns-in-11
 returns-in-11 g c = rw c.in-11.is
-    (does_steps g.CB.Callbacks.step g.CB.Callbacks.scrolls line_fed _ _ _ _ _ c.vt.ensures)
+    (does_steps g.CB.Callbacks.step g.CB.Callbacks.scrolls line_fed _ _ _ _ _ c.vt.ensures.tries)
 
 pub returns-in-12 : goal.returns-in-12
 returns-in-12 g c = rw c.in-12.is
-    (does_steps g.CB.Callbacks.step g.CB.Callbacks.scrolls line_fed _ _ _ _ _ c.ff.ensures)
+    (does_steps g.CB.Callbacks.step g.CB.Callbacks.scrolls line_fed _ _ _ _ _ c.ff.ensures.tries)
 
 pub returns-in-13 : goal.returns-in-13
 returns-in-13 g c = rw c.in-13.is (does_change g.CB.Callbacks.step g.CB.Callbacks.scrolls

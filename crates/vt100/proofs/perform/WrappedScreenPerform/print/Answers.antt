@@ -23,4 +23,4 @@ returns-else-is_unhandled g c =
     let is : is_unhandled ch ≡ false = sym c.is_unhandled.ensures ∙ c.if-is_unhandled.false in
     does_as g.CB.Callbacks.step g.CB.Callbacks.scrolls (λ t. steps (typed ch t)) _ _ _ _ _
     (ap (λ (b : Bool). cond b (calling (said.unhandled_char ch ∷ []) s) (steps (typed ch s))) (sym is))
-    (does_steps g.CB.Callbacks.step g.CB.Callbacks.scrolls (typed ch) _ _ _ _ _ c.text.ensures)
+    (does_steps g.CB.Callbacks.step g.CB.Callbacks.scrolls (typed ch) _ _ _ _ _ c.text.ensures.tries)

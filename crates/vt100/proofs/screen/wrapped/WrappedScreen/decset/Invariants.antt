@@ -1,6 +1,7 @@
 -- Invariants of screen::wrapped::WrappedScreen::decset.
 use Rattle.std.proofs.Common.{◌≡◌, ◌+◌, ◌≤◌, [], length, false}
 use Rattle.vt100_state.specs.PrivateModes.{modes_from, modes_set, set_rows}
+use Rattle.vt100.specs.Tries.{SameBounds}
 use Rattle.vt100.proofs.screen.wrapped.WrappedScreen.decset.Given as goal
 
 -- what the groups that are left lead to, all lead to from the start
@@ -11,6 +12,7 @@ invariant-loop-group g l = record {
   few : l.unhandled + length l.groups ≤ 32;
   modes : modes_from set_rows (record { state = l.self.screen.state; reports = []; unhandled = l.unhandled }) l.groups
       ≡ modes_set l.fn.params l.fn.self.screen.state;
+  bounds : SameBounds l.fn.self.screen.state l.self.screen.state;
 }
 
 abbrev pub decreases-loop-group : goal.decreases-loop-group

@@ -65,7 +65,7 @@ returns-in-P g c = plain_does g.CB.Callbacks.step g.CB.Callbacks.scrolls _ _ _ _
 pub returns-in-S : goal.returns-in-S
 returns-in-S g c = plain_does g.CB.Callbacks.step g.CB.Callbacks.scrolls _ _ _ _ _ _ _ c.in-S.is
     (does_steps g.CB.Callbacks.step g.CB.Callbacks.scrolls (region_up (count c.args.params.now)) _ _ _ _ _
-    (rw c.canonicalize_params_1-in-S.ensures at c.su.ensures))
+    (rw c.canonicalize_params_1-in-S.ensures at c.su.ensures.tries))
 
 pub returns-in-T : goal.returns-in-T
 returns-in-T g c = plain_does g.CB.Callbacks.step g.CB.Callbacks.scrolls _ _ _ _ _ _ _ c.in-T.is
@@ -85,7 +85,7 @@ returns-in-96 g c = plain_does g.CB.Callbacks.step g.CB.Callbacks.scrolls _ _ _ 
 pub returns-in-b : goal.returns-in-b
 returns-in-b g c = plain_does g.CB.Callbacks.step g.CB.Callbacks.scrolls _ _ _ _ _ _ _ c.in-b.is
     (does_steps g.CB.Callbacks.step g.CB.Callbacks.scrolls (repeated (count c.args.params.now)) _ _ _ _ _
-    (rw c.canonicalize_params_1-in-b.ensures at c.rep.ensures))
+    (rw c.canonicalize_params_1-in-b.ensures at c.rep.ensures.tries))
 
 pub returns-in-d : goal.returns-in-d
 returns-in-d g c = plain_does g.CB.Callbacks.step g.CB.Callbacks.scrolls _ _ _ _ _ _ _ c.in-d.is

@@ -35,7 +35,7 @@ returns-in-77 g c = rw c.in-77.is
 
 pub returns-in-99 : goal.returns-in-99
 returns-in-99 g c = rw c.in-99.is (does_steps g.CB.Callbacks.step g.CB.Callbacks.scrolls (λ s. quietly
-    (made_anew s)) _ _ _ _ _ c.ris.ensures)
+    (made_anew s)) _ _ _ _ _ c.ris.ensures.tries)
 
 pub returns-in-103 : goal.returns-in-103
 returns-in-103 g c = rw c.in-103.is (does_call g.CB.Callbacks.step g.CB.Callbacks.scrolls said.visual_bell _ _ _ _

@@ -30,7 +30,7 @@ returns-then-len-gt0-clause-printed g c =
     let printable : All IsPrintable (take n c.args.text.now) =
     subst (λ (xs : List ℕ). All IsPrintable (take n xs)) same c.printable_len-len.ensures.printable in
     let tries = subst (λ (xs : List ℕ). Tries g.CB.Callbacks.scrolls (typed_all (take n xs)) p.screen p.callbacks
-    c.text_run.result q.screen q.callbacks) c.as_bytes-then-len-gt0.ensures.value c.text_run.ensures in
+    c.text_run.result q.screen q.callbacks) c.as_bytes-then-len-gt0.ensures.value c.text_run.ensures.tries in
     subst (λ (left : List ℕ). PrintsFront g.CB.Callbacks.step g.CB.Callbacks.scrolls c.args.text.now left p.callbacks
     p.screen q.callbacks q.screen) (sym c.range_from.ensures.value)
     (front-run g.CB.Callbacks.step g.CB.Callbacks.scrolls c.args.text.now n p.callbacks p.screen c.text_run.result

@@ -24,4 +24,4 @@ returns-in-l g c = row_does g.CB.Callbacks.step g.CB.Callbacks.scrolls private_r
 pub returns-in-Ok : goal.returns-in-Ok
 returns-in-Ok g c = row_does g.CB.Callbacks.step g.CB.Callbacks.scrolls private_rows _ _ _ _ _ _ _ _ c.in-h.is
     (does_parts g.CB.Callbacks.step g.CB.Callbacks.scrolls (modes_set c.args.params.now) _ _ _ _ _ _ _ _ c.requires
-    c.in-Ok.ensures c.unhandled_groups-in-Ok.ensures)
+    c.in-Ok.ensures.tries c.unhandled_groups-in-Ok.ensures)

@@ -3,6 +3,7 @@ use Rattle.std.proofs.Common.{◌≡◌, false, Some, Err, ap, arith, rules}
 use Rattle.vt100_state.specs.Call.{ScreenView, Hears}
 use Rattle.vt100_state.specs.Step.{typed_times}
 use Rattle.vt100.specs.Tries.{alive}
+use Rattle.vt100.proofs.BoundsLemmas.{bounds_trans}
 use Rattle.vt100.proofs.RepeatLemmas.{typed_more, repeated_tries, repeated_refused}
 use Rattle.vt100.proofs.screen.wrapped.WrappedScreen.rep.Goals as goal
 
@@ -10,20 +11,25 @@ pub loop-i-preserved : goal.loop-i-preserved
 loop-i-preserved g c =
     let both = typed_more g.CB.Callbacks.scrolls c.loop-i._i c.in-Some.c c.args.self.now.screen.state
     c.args.self.now.callbacks c.loop-i.self.callbacks c.text.new.self.callbacks c.loop-i.self.screen
-    c.text.new.self.screen c.loop-i.invariant.screen c.loop-i.invariant.hears c.in_ok-text.ensures.screen
-    c.in_ok-text.ensures.hears in
-    record { screen = both.0; hears = both.1 }
+    c.text.new.self.screen c.loop-i.invariant.screen c.loop-i.invariant.hears c.in_ok-text.ensures.tries.screen
+    c.in_ok-text.ensures.tries.hears in
+    record {
+      screen = both.0;
+      hears = both.1;
+      bounds = bounds_trans c.args.self.now.screen.state c.loop-i.self.screen.state c.text.new.self.screen.state
+          c.loop-i.invariant.bounds c.text.ensures.bounds;
+    }
 
-pub returns-in_err-text : goal.returns-in_err-text
-returns-in_err-text g c =
+pub returns-in_err-text-clause-tries : goal.returns-in_err-text-clause-tries
+returns-in_err-text-clause-tries g c =
     let is : c.from_residual.result ≡ Err c.in_err-text.field-0.0 = search rules in
     let live : c.args.self.now.screen.failed ≡ false = search rules in
     rw is (repeated_refused g.CB.Callbacks.scrolls c.args.count c.in-Some.c c.args.self.now.screen c.loop-i.self.screen
     c.text.new.self.screen c.args.self.now.callbacks c.loop-i.self.callbacks c.text.new.self.callbacks
-    c.in_err-text.field-0.0 live (ap (λ (x : ScreenView). x.failed) c.loop-i.invariant.screen) c.in_err-text.ensures)
+    c.in_err-text.field-0.0 live (ap (λ (x : ScreenView). x.failed) c.loop-i.invariant.screen) c.in_err-text.ensures.tries)
 
-pub returns-after-loop-i : goal.returns-after-loop-i
-returns-after-loop-i g c =
+pub returns-after-loop-i-clause-tries : goal.returns-after-loop-i-clause-tries
+returns-after-loop-i-clause-tries g c =
     let n : c.loop-i._i ≡ c.args.count = omega arith in
     let live : c.args.self.now.screen.failed ≡ false = search rules in
     let last : c.args.self.now.screen.state.last ≡ Some c.in-Some.c = search rules in
@@ -34,3 +40,8 @@ returns-after-loop-i g c =
     rw (← n) c.loop-i.invariant.hears in
     repeated_tries g.CB.Callbacks.scrolls c.args.count c.in-Some.c c.args.self.now.screen c.loop-i.self.screen
     c.args.self.now.callbacks c.loop-i.self.callbacks live last screen hears
+
+pub returns-in_err-text-clause-bounds : goal.returns-in_err-text-clause-bounds
+returns-in_err-text-clause-bounds g c =
+    bounds_trans c.args.self.now.screen.state c.loop-i.self.screen.state c.text.new.self.screen.state
+    c.loop-i.invariant.bounds c.text.ensures.bounds

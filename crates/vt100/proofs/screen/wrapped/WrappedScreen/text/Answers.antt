@@ -4,8 +4,8 @@ use Rattle.vt100_state.specs.Step.{last_after}
 use Rattle.vt100.proofs.TextLemmas.{typed_tries}
 use Rattle.vt100.proofs.screen.wrapped.WrappedScreen.text.Goals as goal
 
-pub returns : goal.returns
-returns g c = rw (← c.self.view_is)
+pub returns-clause-tries : goal.returns-clause-tries
+returns-clause-tries g c = rw (← c.self.view_is)
     (typed_tries g.CB.Callbacks.scrolls c.args.c _ _ _ _ _ c.if-self.false c.in-Ok.ensures.grid
     (c.last_after-self-inside.ensures ∙ ap (λ p. last_after p c.args.c c.self.inside.0.0.last_char)
     c.in-Ok.ensures.answer) c.print.ensures.hears)
