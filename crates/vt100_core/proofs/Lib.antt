@@ -15,3 +15,4 @@ pub mod RunLemmas
 pub mod InputLemmas
 pub mod BasicLemmas
 pub mod InputTexts
+pub mod WriterLemmas
