@@ -16,3 +16,4 @@ pub mod InputLemmas
 pub mod BasicLemmas
 pub mod InputTexts
 pub mod WriterLemmas
+pub mod PictureWriters
