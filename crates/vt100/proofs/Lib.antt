@@ -9,3 +9,5 @@ pub mod SizeLemmas
 pub mod TextLemmas
 pub mod BetweenLemmas
 pub mod BoundsLemmas
+pub mod ShownLemmas
+pub mod WriteLemmas

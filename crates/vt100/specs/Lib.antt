@@ -8,3 +8,5 @@ pub mod ScreenFields
 pub mod SgrReading
 pub mod Texts
 pub mod Tries
+pub mod WriterLaws
+pub mod Writers

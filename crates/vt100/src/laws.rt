@@ -1,6 +1,8 @@
 //! Laws of what events and bytes make of a screen, each the contract of a function that does nothing.
 ghost use Rattle.vt100.specs.Laws.{PlaysEvents, FeedsMake, FeedsJoin, FeedsNothing, ActsFollow};
 ghost use Rattle.vt100.specs.Laws.{ResizedScreensArePutIn};
+ghost use Rattle.vt100.specs.WriterLaws.{EachRedrawIsOfShown, EachDifferenceIsOfShown, EachScreenIsDrawable};
+ghost use Rattle.vt100.specs.WriterLaws.{EachRedrawLeads, EachDifferenceLeads};
 
 /// With callbacks that do nothing, a screen that goes through events and doesn't fail is in the state that these events
 /// make; so a parser that was fed bytes, in whatever pieces, shows what the joined bytes make.
@@ -21,4 +23,32 @@ pub fn feeds_are_joined()
 /// [`Parser::set_size`](crate::Parser::set_size) would have left it, with what is unfinished.
 pub fn screens_are_put_in()
     ensures { ResizedScreensArePutIn }
+{}
+
+/// Where a live screen shows no kept row, the forms that [`Screen`](crate::Screen) writes of itself are those of what it
+/// shows: equal pictures give equal texts.
+pub fn redraws_are_of_what_is_shown()
+    ensures { EachRedrawIsOfShown }
+{}
+
+/// And where two of one size show none, the forms that lead from one to the other are those of what both show.
+pub fn differences_are_of_what_is_shown()
+    ensures { EachDifferenceIsOfShown }
+{}
+
+/// What such a screen shows can be drawn, unless a cell has U+FE0F.
+pub fn screens_are_drawable()
+    ensures { EachScreenIsDrawable }
+{}
+
+/// The redraws of such a screen lead from any picture to what it shows: of the contents alone, with the modes where the
+/// mouse's and the cursor's style are as they are at first, and of the cursor on the screen's own cells.
+pub fn redraws_lead()
+    ensures { EachRedrawLeads }
+{}
+
+/// The differences from an earlier screen of one size lead from what that one shows to what such a screen shows, whatever
+/// the earlier one shows.
+pub fn differences_lead()
+    ensures { EachDifferenceLeads }
 {}

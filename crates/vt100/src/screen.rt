@@ -15,6 +15,7 @@ mod rows;
 mod sgr;
 mod whole;
 mod wrapped;
+mod writers;
 
 use crate::error::ScreenError;
 pub use rows::Rows;

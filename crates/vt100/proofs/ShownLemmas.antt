@@ -1,0 +1,179 @@
+-- A screen's forms are those of what it shows.
+use Rattle.std.proofs.Common.{◌≡◌, ◌∙◌, ℕ, List, ◌∷◌, ◌++◌, Contains, None, sym, ap, subst, arith}
+use Rattle.vt100_forms.specs.Attrs.{IsProper, default_attrs}
+use Rattle.vt100_forms.specs.Form.{Form, HideCursor, ClearAttrs, ClearScreen, change, spell}
+use Rattle.vt100_cells.specs.Cell.{CellView}
+use Rattle.vt100_picture.specs.Term.{Size, Shown, IsShown}
+use Rattle.vt100_picture.specs.Leads.{Leads}
+use Rattle.vt100_redraw.specs.Writer.{Drawn}
+use Rattle.vt100_writers.specs.Modes.{switch, input_mode_formatted, input_mode_diff}
+use Rattle.vt100_writers.specs.Cursor as cursor
+use Rattle.vt100_writers.specs.Laws.{IsDrawable, with_modes}
+use Rattle.vt100_writers.proofs.Screens.{redraw_leads, state-redraw_leads, difference_leads, state-difference_leads}
+use Rattle.vt100_writers.proofs.Cursor.{cursor-state_set}
+use Rattle.vt100_writers.specs.Screen as picture
+use Rattle.vt100_writers.specs.Screen.{grid_redraw, grid_contents_formatted, grid_difference}
+use Rattle.vt100_core.specs.Picture.{size_of, Extras, shown_lines}
+use Rattle.vt100_core.specs.WriterLaws as core
+use Rattle.vt100_core.specs.WriterLaws.{picture_of}
+use Rattle.vt100_core.specs.Writers.{redrawn, differing}
+use Rattle.vt100_core.proofs.PictureLemmas.{shown_lines-drawn, shown_wraps-drawn, IsTerm-grid}
+use Rattle.vt100_core.proofs.PictureWriters.{cursor-of_picture, redrawn-of_picture, differing-of_pictures, grid-drawable}
+use Rattle.vt100_sheet.specs.Picture.{lines_of}
+use Rattle.vt100_state.specs.State.{State}
+use Rattle.vt100_state.specs.Shown.{shown_state}
+use Rattle.vt100.specs.Writers.{contents_formatted, state_formatted, contents_diff, state_diff, cursor_state_formatted}
+use Rattle.vt100.specs.WriterLaws.{IsUnscrolled, AreOfShown, EachRedrawIsOfShown, DifferencesAreOfShown}
+use Rattle.vt100.specs.WriterLaws.{EachDifferenceIsOfShown, EachScreenIsDrawable, EachRedrawLeads}
+use Rattle.vt100.specs.WriterLaws.{EachDifferenceLeads}
+
+abbrev extras_of : State → Extras
+extras_of s = record {
+  hidden = s.hidden;
+  attrs = s.attrs;
+  saved_attrs = s.saved_attrs;
+  modes = s.modes;
+  style = s.style;
+}
+
+grid-unscrolled : (s : State) → IsUnscrolled s → core.IsUnscrolled s.shown
+grid-unscrolled s h = record { grid = h.state.shown; some = h.state.drawn; offset = h.offset }
+
+cells-are : (s : State) → IsUnscrolled s → shown_lines s.shown ≡ lines_of s.shown.rows
+cells-are s h = shown_lines-drawn s.shown h.state.shown h.state.drawn h.offset
+
+picture-is : (s : State) → IsUnscrolled s → shown_state s ≡ picture_of s.shown (extras_of s)
+picture-is s h =
+    let cells = cells-are s h in
+    let wraps = shown_wraps-drawn s.shown h.state.shown h.state.drawn h.offset in
+    λ i. record {
+      cell = cells i;
+      wrapped = wraps i;
+      row = s.shown.row;
+      col = s.shown.col;
+      hidden = s.hidden;
+      attrs = s.attrs;
+      modes = s.modes;
+      style = s.style;
+    }
+
+-- ---- redraws
+
+redrawn-is : (s : State) → IsUnscrolled s → redrawn s.shown ≡ grid_redraw (size_of s.shown) (shown_state s)
+redrawn-is s h =
+    redrawn-of_picture s.shown (extras_of s) (grid-unscrolled s h)
+    ∙ ap (grid_redraw (size_of s.shown)) (sym (picture-is s h))
+
+contents-is : (s : State) → IsUnscrolled s
+    → contents_formatted s ≡ picture.contents_formatted (size_of s.shown) (shown_state s)
+unfolding picture.contents_formatted grid_contents_formatted
+contents-is s h =
+    ap (λ (d : Drawn). HideCursor s.hidden ∷ ((ClearAttrs ∷ ClearScreen ∷ d.forms) ++ change d.pen.attrs s.attrs))
+    (redrawn-is s h)
+
+state-is : (s : State) → IsUnscrolled s
+    → state_formatted s ≡ picture.state_formatted (size_of s.shown) (shown_state s)
+unfolding picture.state_formatted
+state-is s h = ap (λ (fs : List Form). fs ++ input_mode_formatted (shown_state s)) (contents-is s h)
+
+cursor-is : (s : State) → IsUnscrolled s
+    → cursor_state_formatted s ≡ picture.cursor_state_formatted (size_of s.shown) (shown_state s)
+unfolding picture.cursor_state_formatted
+cursor-is s h =
+    let z = size_of s.shown in
+    ap (λ (fs : List Form). HideCursor s.hidden ∷ fs)
+    (cursor-of_picture s.shown (extras_of s) None None
+    ∙ ap (λ (x : Shown). cursor.cursor_position_formatted z x None default_attrs) (sym (picture-is s h)))
+
+pub redraw-of_shown : EachRedrawIsOfShown
+redraw-of_shown s h = record { contents = contents-is s h; state = state-is s h; cursor = cursor-is s h }
+
+-- ---- differences
+
+differing-is : (old new : State) → IsUnscrolled old → IsUnscrolled new → size_of old.shown ≡ size_of new.shown
+    → differing new.shown old.shown old.attrs
+    ≡ grid_difference (size_of new.shown) (shown_state old) (shown_state new)
+differing-is old new o h e =
+    let z = size_of new.shown in
+    differing-of_pictures new.shown old.shown (extras_of new) (extras_of old) (grid-unscrolled new h)
+    (grid-unscrolled old o) e
+    ∙ ap (λ (x : Shown). grid_difference z x (picture_of new.shown (extras_of new))) (sym (picture-is old o))
+    ∙ ap (λ (x : Shown). grid_difference z (shown_state old) x) (sym (picture-is new h))
+
+changed-is : (old new : State) → IsUnscrolled old → IsUnscrolled new → size_of old.shown ≡ size_of new.shown
+    → contents_diff old new ≡ picture.contents_diff (size_of new.shown) (shown_state old) (shown_state new)
+unfolding picture.contents_diff
+changed-is old new o h e =
+    ap (λ (d : Drawn). switch HideCursor old.hidden new.hidden ++ d.forms ++ change d.pen.attrs new.attrs)
+    (differing-is old new o h e)
+
+all-changed_is : (old new : State) → IsUnscrolled old → IsUnscrolled new → size_of old.shown ≡ size_of new.shown
+    → state_diff old new ≡ picture.state_diff (size_of new.shown) (shown_state old) (shown_state new)
+unfolding picture.state_diff
+all-changed_is old new o h e =
+    ap (λ (fs : List Form). fs ++ input_mode_diff (shown_state old) (shown_state new)) (changed-is old new o h e)
+
+pub difference-of_shown : EachDifferenceIsOfShown
+difference-of_shown old new o h e = record { contents = changed-is old new o h e; state = all-changed_is old new o h e }
+
+-- ---- what can be drawn
+
+pub screen-drawable : EachScreenIsDrawable
+screen-drawable s h p =
+    let z = size_of s.shown in
+    let same : (r k : ℕ) → shown_lines s.shown r k ≡ lines_of s.shown.rows r k = λ r k. ap (λ f. f r k) (cells-are s h) in
+    record {
+      drawable = subst (λ (x : Shown). IsDrawable z x) (sym (picture-is s h)) (grid-drawable s.shown (extras_of s) (record {
+        shown = grid-unscrolled s h;
+        plain = λ r k. subst (λ (x : CellView). Contains x.text 0xFE0F → ⊥) (same r k) (p.plain r k);
+        proper = λ r k. subst (λ (x : CellView). IsProper x.attrs) (same r k) (p.proper r k);
+      }));
+      attrs = h.state.attrs;
+    }
+
+-- ---- where they lead
+
+shown-is : (s : State) → IsUnscrolled s → IsShown (size_of s.shown) (shown_state s)
+shown-is s h =
+    let t = IsTerm-grid s.shown (extras_of s) h.state.shown h.state.drawn in
+    subst (IsShown (size_of s.shown)) (sym (picture-is s h)) (record {
+      some_row = t.some_row;
+      some_col = t.some_col;
+      paired = t.paired;
+      beyond = t.beyond;
+      below = t.below;
+      below_flag = t.below_flag;
+      filled = t.filled;
+      last = t.last;
+      in_rows = t.in_rows;
+      in_cols = t.in_cols;
+      saved_in_rows = t.some_row;
+      saved_in_cols = omega arith;
+    })
+
+pub redraws-lead : EachRedrawLeads
+redraws-lead s from h p =
+    let z = size_of s.shown in
+    let x = shown_state s in
+    let d = screen-drawable s h p in
+    record {
+      contents = subst (λ fs. Leads z fs from (with_modes from.modes from.style x)) (sym (contents-is s h))
+          (redraw_leads z x from d);
+      state = λ m e y. subst (λ fs. Leads z fs from x) (sym (state-is s h)) (state-redraw_leads z x from d m e y);
+      cursor = λ a c w. subst (λ fs. Leads z fs from (record from { row = x.row; col = x.col; hidden = x.hidden }))
+          (sym (cursor-is s h)) (cursor-state_set z x from d.drawable a c w);
+    }
+
+pub differences-lead : EachDifferenceLeads
+differences-lead old new o h e p =
+    let z = size_of new.shown in
+    let x = shown_state old in
+    let y = shown_state new in
+    let d = screen-drawable new h p in
+    let start = subst (λ (k : Size). IsShown k x) e (shown-is old o) in
+    record {
+      contents = λ m k. subst (λ fs. Leads z fs (with_modes m k x) (with_modes m k y)) (sym (changed-is old new o h e))
+          (difference_leads z x y m k start o.state.attrs d);
+      state = subst (λ fs. Leads z fs x y) (sym (all-changed_is old new o h e))
+          (state-difference_leads z x y start o.state.attrs d);
+    }

@@ -1,0 +1,217 @@
+//! What a screen shows, as forms for a terminal.
+ghost use Rattle.std.specs.Prelude.{◌≡◌, [], ◌++◌, OnOk, OnErr, IfOk, Err, string_bytes, if◌then◌else◌};
+ghost use Rattle.vt100_forms.specs.Form.{spell};
+ghost use Rattle.vt100_cells.specs.Cell.{bool_eq};
+ghost use Rattle.vt100_writers.specs.Modes.{input_mode_formatted, input_mode_diff, attributes_formatted};
+ghost use Rattle.vt100_state.specs.Shown.{shown_state};
+ghost use Rattle.vt100.specs.Writers.{contents_formatted, state_formatted, contents_diff, state_diff};
+ghost use Rattle.vt100.specs.Writers.{cursor_state_formatted};
+ghost use Rattle.vt100.specs.declared.error.ScreenError.TheVariants.{Memory};
+
+use crate::error::ScreenError;
+use crate::screen::Screen;
+use vt100_core::attrs::Attrs;
+use vt100_core::term::{ApplicationCursor, ApplicationKeypad, BracketedPaste};
+use vt100_core::term::{BufWrite, ClearAttrs, HideCursor};
+use vt100_core::{CursorStyle, GridError, MouseProtocolEncoding, MouseProtocolMode, term};
+
+impl Screen {
+    /// The forms that take a terminal to all that the screen shows, whatever it showed before, if its mouse mode and
+    /// encoding and its cursor's style are as they are at first: [`contents_formatted`](Self::contents_formatted), and
+    /// [`input_mode_formatted`](Self::input_mode_formatted) after it.
+    pub fn state_formatted(&self) -> Result<String, ScreenError>
+        ensures text { IfOk result (λ contents. string_bytes contents ≡ spell (state_formatted self.now.state)) }
+        ensures memory { OnErr result (result ≡ Err Memory) }
+    {
+        let mut contents = String::new(self.alloc);
+        self.write_contents_formatted(&mut contents)?;
+        self.write_input_mode_formatted(&mut contents)?;
+        Ok(contents)
+    }
+
+    /// The forms that take a terminal from all that `prev` shows to all that the screen shows:
+    /// [`contents_diff`](Self::contents_diff), and [`input_mode_diff`](Self::input_mode_diff) after it. Both screens
+    /// have one size.
+    pub fn state_diff(&self, prev: &Self) -> Result<String, ScreenError>
+        ensures text { IfOk result (λ contents. string_bytes contents
+            ≡ spell (state_diff prev.now.state self.now.state)) }
+        ensures memory { OnErr result (result ≡ Err Memory) }
+    {
+        let mut contents = String::new(self.alloc);
+        self.write_contents_diff(&mut contents, prev)?;
+        self.write_input_mode_diff(&mut contents, prev)?;
+        Ok(contents)
+    }
+
+    /// The forms that take a terminal to the picture that the screen shows, whatever it showed before: whether the
+    /// cursor is hidden, the rows, the cursor, and the attributes that are drawn with. Rows are drawn as they are
+    /// shown; the cursor is that of the rows that are drawn on.
+    pub fn contents_formatted(&self) -> Result<String, ScreenError>
+        ensures text { IfOk result (λ contents. string_bytes contents ≡ spell (contents_formatted self.now.state)) }
+        ensures memory { OnErr result (result ≡ Err Memory) }
+    {
+        let mut contents = String::new(self.alloc);
+        self.write_contents_formatted(&mut contents)?;
+        Ok(contents)
+    }
+
+    fn write_contents_formatted(&self, contents: &mut String) -> Result<(), GridError>
+        ensures { OnOk result (string_bytes contents.new
+            ≡ string_bytes contents.old ++ spell (contents_formatted self.now.state)) }
+    {
+        HideCursor::new(self.hide_cursor).write_buf(contents)?;
+        let prev_attrs = self.grid.write_contents_formatted(contents)?;
+        self.attrs.write_escape_code_diff(contents, &prev_attrs)
+    }
+
+    /// The forms that take a terminal from the picture that `prev` shows to the one that the screen shows. What is
+    /// alike isn't drawn again. Both screens have one size: of others, the rows and columns that both have are
+    /// compared.
+    pub fn contents_diff(&self, prev: &Self) -> Result<String, ScreenError>
+        ensures text { IfOk result (λ contents. string_bytes contents
+            ≡ spell (contents_diff prev.now.state self.now.state)) }
+        ensures memory { OnErr result (result ≡ Err Memory) }
+    {
+        let mut contents = String::new(self.alloc);
+        self.write_contents_diff(&mut contents, prev)?;
+        Ok(contents)
+    }
+
+    fn write_contents_diff(&self, contents: &mut String, prev: &Self) -> Result<(), GridError>
+        ensures { OnOk result (string_bytes contents.new
+            ≡ string_bytes contents.old ++ spell (contents_diff prev.now.state self.now.state)) }
+    {
+        let hiding = HideCursor::new(self.hide_cursor);
+        write_change(contents, prev.hide_cursor, self.hide_cursor, &hiding)?;
+        let prev_attrs = self
+            .grid
+            .write_contents_diff(contents, &prev.grid, prev.attrs)?;
+        self.attrs.write_escape_code_diff(contents, &prev_attrs)
+    }
+
+    /// The forms that set a terminal's modes: the keypad's and the cursor keys' application mode and bracketed paste;
+    /// and where they aren't as at first, the mouse's mode and encoding and the cursor's style.
+    pub fn input_mode_formatted(&self) -> Result<String, ScreenError>
+        ensures text { IfOk result (λ contents. string_bytes contents
+            ≡ spell (input_mode_formatted (shown_state self.now.state))) }
+        ensures memory { OnErr result (result ≡ Err Memory) }
+    {
+        let mut contents = String::new(self.alloc);
+        self.write_input_mode_formatted(&mut contents)?;
+        Ok(contents)
+    }
+
+    fn write_input_mode_formatted(&self, contents: &mut String) -> Result<(), GridError>
+        ensures { OnOk result (string_bytes contents.new
+            ≡ string_bytes contents.old ++ spell (input_mode_formatted (shown_state self.now.state))) }
+    {
+        ApplicationKeypad::new(self.application_keypad).write_buf(contents)?;
+        ApplicationCursor::new(self.application_cursor).write_buf(contents)?;
+        BracketedPaste::new(self.bracketed_paste).write_buf(contents)?;
+        term::MouseProtocolMode::new(self.mouse_protocol_mode, MouseProtocolMode::None).write_buf(
+            contents,
+        )?;
+        term::MouseProtocolEncoding::new(
+            self.mouse_protocol_encoding,
+            MouseProtocolEncoding::Default,
+        ).write_buf(contents)?;
+        term::CursorStyle::new(self.cursor_style, CursorStyle::Default).write_buf(contents)
+    }
+
+    /// The forms that change the modes of a terminal from those of `prev` to those of the screen.
+    pub fn input_mode_diff(&self, prev: &Self) -> Result<String, ScreenError>
+        ensures text { IfOk result (λ contents. string_bytes contents
+            ≡ spell (input_mode_diff (shown_state prev.now.state) (shown_state self.now.state))) }
+        ensures memory { OnErr result (result ≡ Err Memory) }
+    {
+        let mut contents = String::new(self.alloc);
+        self.write_input_mode_diff(&mut contents, prev)?;
+        Ok(contents)
+    }
+
+    fn write_input_mode_diff(&self, contents: &mut String, prev: &Self) -> Result<(), GridError>
+        ensures { OnOk result (string_bytes contents.new ≡ string_bytes contents.old
+            ++ spell (input_mode_diff (shown_state prev.now.state) (shown_state self.now.state))) }
+    {
+        let keypad = ApplicationKeypad::new(self.application_keypad);
+        write_change(
+            contents,
+            prev.application_keypad,
+            self.application_keypad,
+            &keypad,
+        )?;
+        let cursor_keys = ApplicationCursor::new(self.application_cursor);
+        write_change(
+            contents,
+            prev.application_cursor,
+            self.application_cursor,
+            &cursor_keys,
+        )?;
+        let paste = BracketedPaste::new(self.bracketed_paste);
+        write_change(contents, prev.bracketed_paste, self.bracketed_paste, &paste)?;
+        term::MouseProtocolMode::new(self.mouse_protocol_mode, prev.mouse_protocol_mode).write_buf(
+            contents,
+        )?;
+        term::MouseProtocolEncoding::new(
+            self.mouse_protocol_encoding,
+            prev.mouse_protocol_encoding,
+        ).write_buf(contents)?;
+        term::CursorStyle::new(self.cursor_style, prev.cursor_style).write_buf(contents)
+    }
+
+    /// The forms that set the attributes with which a terminal draws, whatever they were before.
+    pub fn attributes_formatted(&self) -> Result<String, ScreenError>
+        ensures text { IfOk result (λ contents. string_bytes contents
+            ≡ spell (attributes_formatted (shown_state self.now.state))) }
+        ensures memory { OnErr result (result ≡ Err Memory) }
+    {
+        let mut contents = String::new(self.alloc);
+        self.write_attributes_formatted(&mut contents)?;
+        Ok(contents)
+    }
+
+    fn write_attributes_formatted(&self, contents: &mut String) -> Result<(), GridError>
+        ensures { OnOk result (string_bytes contents.new
+            ≡ string_bytes contents.old ++ spell (attributes_formatted (shown_state self.now.state))) }
+    {
+        ClearAttrs.write_buf(contents)?;
+        self.attrs.write_escape_code_diff(contents, &Attrs::new())
+    }
+
+    /// The forms that bring a terminal's cursor, which may stand anywhere, to the screen's, and hide or show it. The
+    /// terminal shows the rows that are drawn on, and draws with the default attributes, before and afterwards.
+    pub fn cursor_state_formatted(&self) -> Result<String, ScreenError>
+        ensures text { IfOk result (λ contents. string_bytes contents
+            ≡ spell (cursor_state_formatted self.now.state)) }
+        ensures memory { OnErr result (result ≡ Err Memory) }
+    {
+        let mut contents = String::new(self.alloc);
+        self.write_cursor_state_formatted(&mut contents)?;
+        Ok(contents)
+    }
+
+    fn write_cursor_state_formatted(&self, contents: &mut String) -> Result<(), GridError>
+        ensures { OnOk result (string_bytes contents.new
+            ≡ string_bytes contents.old ++ spell (cursor_state_formatted self.now.state)) }
+    {
+        HideCursor::new(self.hide_cursor).write_buf(contents)?;
+        self.grid
+            .write_cursor_position_formatted(contents, None, None)
+    }
+}
+
+/// Appends a form, where a switch changes.
+fn write_change<F: BufWrite>(
+    contents: &mut String,
+    prev: bool,
+    now: bool,
+    form: &F,
+) -> Result<(), GridError>
+    ensures { OnOk result (string_bytes contents.new ≡ string_bytes contents.old
+        ++ spell (if bool_eq now prev then [] else F.forms form.now)) }
+{
+    if now == prev {
+        return Ok(());
+    }
+    form.write_buf(contents)
+}
