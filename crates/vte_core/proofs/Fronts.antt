@@ -8,7 +8,7 @@ use Rattle.std.specs.Int.{is_in_range}
 use Rattle.vte_core.specs.Event.{Event, Performs, Print, Execute}
 use Rattle.vte_core.specs.Bytes.{is_esc}
 use Rattle.vte_core.specs.Text.{char_len, second_min, second_max, first_bits, char_event, malformed_event}
-use Rattle.vte_core.specs.Pending.{goes_on, text_told, text_rest, IsWhole, code_of}
+use Rattle.vte_core.specs.Pending.{goes_on, text_told, text_rest, IsUnfinished, IsWhole, code_of}
 use Rattle.vte_core.specs.Shapes.{before}
 use Rattle.vte_core.specs.Runs.{ReadsText, run_told, run_rest, has_no_esc}
 use Rattle.vte_core.proofs.Characters.{bool_cases, lead-high, malformed-high, tail_first}
@@ -233,6 +233,50 @@ of_three a long least = grind (arith, nat_tests)
 pub of_four : (a : ℕ) → 1 < char_len a → 0xF0 ≤ a → 3 < char_len a
 of_four a long least = grind (arith, nat_tests)
 
+at_most_four : (a : ℕ) → char_len a ≤ 4
+at_most_four a =
+    elim (bool_cases (nat_lt a 0x80)) [
+      | inl e ↦ rw e (omega arith)
+      | inr e ↦ rw e (elim (bool_cases (is_in_range 0xC2 0xDF a)) [
+        | inl f ↦ rw f (omega arith)
+        | inr f ↦ rw f (elim (bool_cases (is_in_range 0xE0 0xEF a)) [
+          | inl g ↦ rw g (omega arith)
+          | inr g ↦ rw g (elim (bool_cases (is_in_range 0xF0 0xF4 a)) [
+            | inl h ↦ rw h (omega arith)
+            | inr h ↦ rw h (omega arith)
+          ])
+        ])
+      ])
+    ]
+
+lead-no_esc : (a : ℕ) → 1 < char_len a → is_esc a ≡ false
+lead-no_esc a long = grind (arith, nat_tests)
+
+second-no_esc : (a b : ℕ) → is_in_range (second_min a) (second_max a) b ≡ true → is_esc b ≡ false
+second-no_esc a b h = grind (arith, nat_tests)
+
+tail-no_esc : (b : ℕ) → is_in_range 0x80 0xBF b ≡ true → is_esc b ≡ false
+tail-no_esc b h = grind (arith, nat_tests)
+
+-- three bytes of a character of four
+pub kept_three : (bs : List ℕ) → 2 < length bs → 3 < char_len (get_or bs 0 0)
+    → goes_on (get_or bs 0 0) [] (get_or bs 1 0) ≡ true → is_in_range 0x80 0xBF (get_or bs 2 0) ≡ true
+    → IsUnfinished (take 3 bs) × (run_told [] (take 3 bs) ≡ []) × (run_rest [] (take 3 bs) ≡ take 3 bs)
+    × (has_no_esc (take 3 bs) ≡ true)
+kept_three [] some long begun third = absurd (omega (arith, some))
+kept_three (a ∷ []) some long begun third = absurd (omega (arith, some))
+kept_three (a ∷ b ∷ []) some long begun third = absurd (omega (arith, some))
+kept_three (a ∷ b ∷ c ∷ s) some long begun third =
+    let n : char_len a ≡ 4 = omega (arith, long, at_most_four a) in
+    let e = lead-no_esc a (omega (arith, long)) in
+    let f = second-no_esc a b begun in
+    let g = tail-no_esc c third in (
+      rw (n, begun, third) (refl, omega arith),
+      rw (n, begun, n, third, n) refl,
+      rw (n, begun, n, third, n) refl,
+      rw (e, f, g) refl,
+    )
+
 -- whole characters
 
 pub whole_two : (bs : List ℕ) → 1 < length bs → 1 < char_len (get_or bs 0 0)
@@ -260,31 +304,6 @@ whole_four (a ∷ b ∷ []) some long begun third fourth least = absurd (omega (
 whole_four (a ∷ b ∷ c ∷ []) some long begun third fourth least = absurd (omega (arith, some))
 whole_four (a ∷ b ∷ c ∷ d ∷ s) some long begun third fourth least =
     let n : char_len a ≡ 4 = grind (arith, nat_tests) in rw (n, begun, third, fourth) (refl, refl)
-
-at_most_four : (a : ℕ) → char_len a ≤ 4
-at_most_four a =
-    elim (bool_cases (nat_lt a 0x80)) [
-      | inl e ↦ rw e (omega arith)
-      | inr e ↦ rw e (elim (bool_cases (is_in_range 0xC2 0xDF a)) [
-        | inl f ↦ rw f (omega arith)
-        | inr f ↦ rw f (elim (bool_cases (is_in_range 0xE0 0xEF a)) [
-          | inl g ↦ rw g (omega arith)
-          | inr g ↦ rw g (elim (bool_cases (is_in_range 0xF0 0xF4 a)) [
-            | inl h ↦ rw h (omega arith)
-            | inr h ↦ rw h (omega arith)
-          ])
-        ])
-      ])
-    ]
-
-lead-no_esc : (a : ℕ) → 1 < char_len a → is_esc a ≡ false
-lead-no_esc a long = grind (arith, nat_tests)
-
-second-no_esc : (a b : ℕ) → is_in_range (second_min a) (second_max a) b ≡ true → is_esc b ≡ false
-second-no_esc a b h = grind (arith, nat_tests)
-
-tail-no_esc : (b : ℕ) → is_in_range 0x80 0xBF b ≡ true → is_esc b ≡ false
-tail-no_esc b h = grind (arith, nat_tests)
 
 -- a whole character of more than one byte
 pub whole-told : (bs : List ℕ) → IsWhole bs → 1 < length bs

@@ -520,6 +520,20 @@ impl Unfinished {
         self.mixed(performer, bytes)
     }
 
+    /// Keeps the bytes of a character that isn't whole.
+    #[inline(always)]
+    fn keep(&mut self, bytes: &[u8])
+        requires begun { IsUnfinished bytes.now }
+        requires few { length bytes.now ≤ 3 }
+        ensures { self.new ≡ bytes.now }
+    {
+        let mut kept: ArrayVec<u8, 4> = ArrayVec::new();
+        for byte in bytes {
+            kept.push(*byte);
+        }
+        self.bytes = kept;
+    }
+
     /// Reads the malformed sequence of two or three bytes at the front, or else one byte, and returns how many bytes it
     /// read.
     #[inline(always)]
@@ -538,6 +552,10 @@ impl Unfinished {
             [first, _, third, fourth, ..]
                 if *first >= 0xF0 && is_tail(*third) && !is_tail(*fourth) && *fourth != 0x1B => {
                 performer.print('\u{FFFD}');
+                3
+            }
+            [first, _, third, 0x1B, ..] if *first >= 0xF0 && is_tail(*third) => {
+                self.keep(&bytes[..3]);
                 3
             }
             _ => {
