@@ -5,3 +5,5 @@ pub mod KeptPictures
 pub mod CallSteps
 pub mod WriteLemmas
 pub mod PictureSteps
+pub mod LawLemmas
+pub mod KeptTerms

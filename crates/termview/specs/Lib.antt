@@ -5,3 +5,4 @@ pub mod PictureFields
 pub mod Timeout
 pub mod Standing
 pub mod Writing
+pub mod Laws

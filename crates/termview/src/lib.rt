@@ -7,6 +7,7 @@
 mod attributes;
 mod error;
 mod handler;
+pub mod laws;
 mod modes;
 mod picture;
 mod text;

@@ -1,5 +1,6 @@
 //! A timeout without a clock.
 ghost use Rattle.std.specs.Prelude.{◌≡◌, true, false};
+ghost use Rattle.vte.specs.Timeout.{IsExact};
 
 use std::time::Duration;
 use vte::ansi::Timeout;
@@ -42,3 +43,10 @@ impl Timeout for UntilCleared {
         self.pending
     }
 }
+
+/// It is pending exactly from setting to clearing.
+pub fn until_cleared_is_exact()
+    ensures { IsExact ⟦<UntilCleared as Timeout>⟧.sets
+        ⟦<UntilCleared as Timeout>⟧.clears
+        ⟦<UntilCleared as Timeout>⟧.answers }
+{}

@@ -1,8 +1,8 @@
-use Rattle.std.proofs.Common.{◌≡◌, ◌≤◌, ◌+◌, ◌==◌, arith, refl, ap, ◌∙◌, length}
+use Rattle.std.proofs.Common.{◌≡◌, ◌+◌, ◌==◌, arith, refl, ap, ◌∙◌, length}
 use Rattle.std.specs.Prelude.{encode_utf8_all}
 use Rattle.vt100_cells.specs.Cell.{CellView}
 use Rattle.vt100_cells.specs.Cells.{cell_at}
-use Rattle.vt100_rows.specs.Text.{columns_text, line_text}
+use Rattle.vt100_rows.specs.Text.{line_text}
 use Rattle.termview.specs.Writing.{cell_text}
 use Rattle.termview.proofs.WriteLemmas.{written-more, front-more, front-whole}
 use Rattle.termview.proofs.text.write_cells.Goals as goal
