@@ -7,3 +7,4 @@ pub mod WriteLemmas
 pub mod PictureSteps
 pub mod LawLemmas
 pub mod KeptTerms
+pub mod FormLemmas

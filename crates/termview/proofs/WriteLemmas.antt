@@ -1,10 +1,10 @@
 -- Writes one after another, and the texts of columns.
 use Rattle.std.proofs.Common.{◌≡◌, ◌≤◌, ◌<◌, ◌+◌, ◌-◌, ◌==◌, ℕ, zero, suc, List, [], ◌∷◌, ◌++◌, length, take, drop, min}
 use Rattle.std.proofs.Common.{Option, Some, None, Bool, true, false, cond, sym, refl, ap, ◌∙◌, append_assoc, arith}
-use Rattle.std.proofs.Common.{length-drop}
+use Rattle.std.proofs.Common.{length-drop, length-append}
 use Rattle.std.proofs.lemmas.List.{append-nil, take_all, take-append-le}
 use Rattle.std.proofs.Math.Seq.{take-add, take-append-add, take-append_seam}
-use Rattle.std.specs.Io.KnownBytes.{Appends}
+use Rattle.std.specs.Io.KnownBytes.{Appends, Keeps}
 use Rattle.vt100_cells.specs.Cell.{CellView, has_text, default_cell}
 use Rattle.vt100_rows.specs.Row.{RowView}
 use Rattle.vt100_sheet.specs.Picture.{lines_of}
@@ -12,7 +12,7 @@ use Rattle.vt100_sheet.proofs.PictureLemmas.{lines-past}
 use Rattle.vt100_rows.specs.Text.{column_text, columns_text, line_text}
 use Rattle.std.specs.Prelude.{encode_utf8_all}
 use Rattle.std.proofs.lemmas.Str.{encodes-append}
-use Rattle.termview.specs.Writing.{TakesFront, cell_text}
+use Rattle.termview.specs.Writing.{TakesPart, cell_text}
 
 pub Appends-more : (a b c : Option (List ℕ)) (xs ys : List ℕ) → Appends a b xs → Appends b c ys → Appends a c (xs ++ ys)
 Appends-more None b c xs ys h k = tt
@@ -32,19 +32,23 @@ Appends-next a b c text s n k before more fits =
     let next : Appends b c (take n (drop s text)) = rw whole at more in
     rw (take-add s n text) (Appends-more a b c (take s text) (take n (drop s text)) before next)
 
--- a text was taken whole, and a front of the one after it
-pub TakesFront-after : (a b c : Option (List ℕ)) (xs ys zs : List ℕ) → Appends a b xs → TakesFront b c ys
-    → TakesFront a c (xs ++ (ys ++ zs))
-TakesFront-after a b c xs ys zs whole (n, front) =
-    let m : ℕ = min n (length ys) in
-    let same : take n ys ≡ take m (ys ++ zs) = grind (arith, take-append-le, take_all) in (
-      length xs + m,
-      rw (take-append-add xs (ys ++ zs) m)
-          (Appends-more a b c xs (take m (ys ++ zs)) whole (rw same at front)),
+-- a text was taken whole, and a part of the one after it
+pub TakesPart-after : (a b c : Option (List ℕ)) (xs ys zs : List ℕ) → Appends a b xs → TakesPart b c ys
+    → TakesPart a c (xs ++ (ys ++ zs))
+TakesPart-after a b c xs ys zs whole (n, less, part) =
+    let same : take n ys ≡ take n (ys ++ zs) = sym (take-append-le n ys zs (omega arith)) in (
+      length xs + n,
+      omega (arith, length-append xs (ys ++ zs), length-append ys zs),
+      rw (take-append-add xs (ys ++ zs) n)
+          (Appends-more a b c xs (take n (ys ++ zs)) whole (rw same at part)),
     )
 
-pub TakesFront-whole : (a b : Option (List ℕ)) (xs : List ℕ) → Appends a b xs → TakesFront a b xs
-TakesFront-whole a b xs h = (length xs, rw (take_all (length xs) xs (omega arith)) h)
+-- a write that failed kept what was there
+pub Appends-kept : (a b c : Option (List ℕ)) (xs : List ℕ) → Appends a b xs → Keeps b c → Appends a c xs
+Appends-kept None b c xs h k = tt
+Appends-kept (Some a) None c xs h k = absurd h
+Appends-kept (Some a) (Some b) None xs h k = absurd k
+Appends-kept (Some a) (Some b) (Some c) xs h k = k ∙ h
 
 -- ---- columns
 
@@ -87,11 +91,11 @@ written-more a b c f n m text e et before more =
     ∙ ap (λ bs. encode_utf8_all (columns_text f 0 n) ++ bs) (sym et) in
     rw whole (Appends-more a b c (encode_utf8_all (columns_text f 0 n)) text before more)
 
-pub front-more : (a b c : Option (List ℕ)) (f : ℕ → CellView) (n len : ℕ) (text whole : List ℕ) → n < len
+pub part-more : (a b c : Option (List ℕ)) (f : ℕ → CellView) (n len : ℕ) (text whole : List ℕ) → n < len
     → text ≡ encode_utf8_all (cell_text (f n) (n == 0)) → columns_text f 0 len ≡ whole
-    → Appends a b (encode_utf8_all (columns_text f 0 n)) → TakesFront b c text
-    → TakesFront a c (encode_utf8_all whole)
-front-more a b c f n len text whole h et ew before front =
+    → Appends a b (encode_utf8_all (columns_text f 0 n)) → TakesPart b c text
+    → TakesPart a c (encode_utf8_all whole)
+part-more a b c f n len text whole h et ew before part =
     let k = len - (n + 1) in
     let split = columns-split f (n + 1) k in
     let at : n + 1 + k ≡ len = omega arith in
@@ -104,12 +108,4 @@ front-more a b c f n len text whole h et ew before front =
     ∙ append_assoc (encode_utf8_all (columns_text f 0 n)) (encode_utf8_all (cell_text (f n) (n == 0)))
     (encode_utf8_all split.0)
     ∙ ap (λ bs. encode_utf8_all (columns_text f 0 n) ++ (bs ++ encode_utf8_all split.0)) (sym et) in
-    rw all (TakesFront-after a b c (encode_utf8_all (columns_text f 0 n)) text (encode_utf8_all split.0) before front)
-
-pub front-whole : (a b : Option (List ℕ)) (f : ℕ → CellView) (n len : ℕ) (whole : List ℕ) → n ≡ len
-    → columns_text f 0 len ≡ whole → Appends a b (encode_utf8_all (columns_text f 0 n))
-    → TakesFront a b (encode_utf8_all whole)
-front-whole a b f n len whole e ew h =
-    let same : encode_utf8_all whole ≡ encode_utf8_all (columns_text f 0 n) =
-    ap encode_utf8_all (sym ew ∙ ap (columns_text f 0) (sym e)) in
-    rw same (TakesFront-whole a b (encode_utf8_all (columns_text f 0 n)) h)
+    rw all (TakesPart-after a b c (encode_utf8_all (columns_text f 0 n)) text (encode_utf8_all split.0) before part)

@@ -1,4 +1,5 @@
 //! Laws of what a view shows, each as the contract of a function that does nothing.
+ghost use Rattle.termview.specs.Forms.{EachFormIsItsCalls};
 ghost use Rattle.termview.specs.Laws.{MoreBytesStep, MarksShowNothing, FramesShowTheirBodies, WholeFramesAreShown};
 ghost use Rattle.termview.specs.Laws.{NoFrameIsTorn, EachCallKeepsTerminals, EachStreamShowsATerminal};
 
@@ -32,4 +33,9 @@ pub fn no_frame_is_torn()
 pub fn views_show_terminals()
     ensures calls { EachCallKeepsTerminals }
     ensures streams { EachStreamShowsATerminal }
+{}
+
+/// The calls that a screen's form is read as do what the form does, on every screen of at most 65,535 rows and columns.
+pub fn forms_are_their_calls()
+    ensures { EachFormIsItsCalls }
 {}

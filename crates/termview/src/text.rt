@@ -1,9 +1,9 @@
 //! Writing the text of a row.
-ghost use Rattle.std.specs.Prelude.{◌≡◌, ◌≤◌, ◌+◌, ℕ, List, length, OnOk, encode_utf8_all};
+ghost use Rattle.std.specs.Prelude.{◌≡◌, ◌≤◌, ◌+◌, ℕ, List, length, OnOk, OnErr, encode_utf8_all};
 ghost use Rattle.std.specs.Io.KnownBytes.{Appends};
 ghost use Rattle.vt100_cells.specs.Cells.{cell_at};
 ghost use Rattle.vt100_rows.specs.Text.{column_text, columns_text, line_text};
-ghost use Rattle.termview.specs.Writing.{TakesFront, cell_text};
+ghost use Rattle.termview.specs.Writing.{TakesPart, cell_text};
 
 use std::io;
 use std::io::{ErrorKind, Write};
@@ -14,8 +14,8 @@ use vt100_cells::line::at;
 pub(crate) fn write_cells<W: Write>(cells: &[Cell], to: &mut W) -> io::Result<()>
     ensures whole { OnOk result (Appends (W.contents to.old) (W.contents to.new)
         (encode_utf8_all (line_text (cell_at cells.now) 0 (length cells.now)))) }
-    ensures front { TakesFront (W.contents to.old) (W.contents to.new)
-        (encode_utf8_all (line_text (cell_at cells.now) 0 (length cells.now))) }
+    ensures part { OnErr result (TakesPart (W.contents to.old) (W.contents to.new)
+        (encode_utf8_all (line_text (cell_at cells.now) 0 (length cells.now)))) }
 {
     for col in 0..text_len(cells) {
         write_whole(to, cell_text(at(cells, col), col == 0).as_bytes())?;
@@ -55,7 +55,7 @@ fn cell_text(cell: &Cell, is_first: bool) -> &str
 /// taken by then stays written.
 fn write_whole<W: Write>(to: &mut W, text: &[u8]) -> io::Result<()>
     ensures whole { OnOk result (Appends (W.contents to.old) (W.contents to.new) text.now) }
-    ensures front { TakesFront (W.contents to.old) (W.contents to.new) text.now }
+    ensures part { OnErr result (TakesPart (W.contents to.old) (W.contents to.new) text.now) }
 {
     let mut sent = 0;
     while sent < text.len() {

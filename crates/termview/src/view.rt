@@ -5,7 +5,7 @@ ghost use Rattle.std.specs.Option.{option_copied};
 ghost use Rattle.std.specs.Io.KnownBytes.{Appends};
 ghost use Rattle.vt100_forms.specs.Attrs.{is_bold, is_dim, is_italic, is_underlined, is_inverse};
 ghost use Rattle.termview.specs.Seen.{cell_shown, text_shown};
-ghost use Rattle.termview.specs.Writing.{TakesFront};
+ghost use Rattle.termview.specs.Writing.{TakesPart};
 ghost use Rattle.termview.specs.declared.error.ViewError.TheVariants.{Memory};
 
 use crate::error::ViewError;
@@ -126,8 +126,8 @@ impl<T: Timeout> View<T> {
     pub fn row_text<W: Write>(&self, row: u16, to: &mut W) -> io::Result<()>
         ensures whole { OnOk result (Appends (W.contents to.old) (W.contents to.new)
             (encode_utf8_all (text_shown (size_of self.now) (shown_by self.now) row))) }
-        ensures front { TakesFront (W.contents to.old) (W.contents to.new)
-            (encode_utf8_all (text_shown (size_of self.now) (shown_by self.now) row)) }
+        ensures part { OnErr result (TakesPart (W.contents to.old) (W.contents to.new)
+            (encode_utf8_all (text_shown (size_of self.now) (shown_by self.now) row))) }
     {
         write_cells(self.picture.row_cells(row), to)
     }
