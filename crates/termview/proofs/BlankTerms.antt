@@ -1,5 +1,6 @@
 -- Blank rows, and rows that were erased up to the screen's end, as the lines of a terminal.
-use Rattle.std.proofs.Common.{◌≡◌, ℕ, ◌+◌, ◌-◌, ◌<◌, ◌≤◌, ◌==◌, Bool, true, false, cond, not, ◌&&◌, nat_lt, List, length}
+use Rattle.std.proofs.Common.{◌≡◌, ℕ, ◌+◌, ◌-◌, ◌<◌, ◌≤◌, ◌==◌, Bool}
+use Rattle.std.proofs.Common.{true, false, cond, not, ◌&&◌, nat_lt, List, length}
 use Rattle.std.proofs.Common.{set, replicate, sym, refl, ap, ◌∙◌, arith, ⊎_elim, length-set}
 use Rattle.std.proofs.lemmas.Bool.{cond_both, cond-true, cond-false, lt-ltb, le-ltb, eqb-true, cases_lt}
 use Rattle.std.proofs.lemmas.List.{get_or-replicate, length-replicate}

@@ -1,5 +1,6 @@
 -- What is true of a picture stays true.
-use Rattle.std.proofs.Common.{◌≡◌, ℕ, ◌+◌, ◌-◌, ◌<◌, ◌≤◌, ◌==◌, Bool, true, false, cond, not, ◌&&◌, nat_lt, List, length}
+use Rattle.std.proofs.Common.{◌≡◌, ℕ, ◌+◌, ◌-◌, ◌<◌, ◌≤◌, ◌==◌, Bool}
+use Rattle.std.proofs.Common.{true, false, cond, not, ◌&&◌, nat_lt, List, length}
 use Rattle.std.proofs.Common.{set, Some, sym, refl, ap, ◌∙◌, arith, ⊎_elim, length-set}
 use Rattle.std.specs.Char.{IsScalar}
 use Rattle.vt100_forms.specs.declared.attrs.Attrs.{Attrs}

@@ -1,5 +1,6 @@
 -- Changed rows as the lines of a terminal.
-use Rattle.std.proofs.Common.{◌≡◌, ℕ, ◌+◌, ◌-◌, ◌<◌, ◌≤◌, ◌==◌, Bool, true, false, cond, not, ◌&&◌, nat_lt, List, length}
+use Rattle.std.proofs.Common.{◌≡◌, ℕ, ◌+◌, ◌-◌, ◌<◌, ◌≤◌, ◌==◌, Bool}
+use Rattle.std.proofs.Common.{true, false, cond, not, ◌&&◌, nat_lt, List, length}
 use Rattle.std.specs.Prelude.{unwrap_or}
 use Rattle.unicode_width.specs.Width.{char_width}
 use Rattle.std.proofs.lemmas.Bool.Decides.{nat_tests}

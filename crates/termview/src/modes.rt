@@ -1,6 +1,7 @@
 //! Modes, and the cursor's style.
 ghost use Rattle.std.specs.Prelude.{◌≡◌, true, false};
-ghost use Rattle.termview.specs.Step.{mode_set, mode_reset, mouse_reset, encoding_reset, with_style, style_of, style_by};
+ghost use Rattle.termview.specs.Step.{mode_set, mode_reset, mouse_reset};
+ghost use Rattle.termview.specs.Step.{encoding_reset, with_style, style_of, style_by};
 ghost use Rattle.termview.specs.Step.{with_attr, with_keypad};
 ghost use Rattle.termview.specs.Picture.{term_of, Becomes};
 

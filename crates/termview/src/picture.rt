@@ -204,7 +204,10 @@ impl Picture {
 
     /// Moves the cursor to the right, at most to the last column.
     pub(crate) fn move_forward(&mut self, count: usize)
-        ensures { Becomes self.old self.new (record (term_of self.old) { col = min (self.old.col + count) (self.old.size.cols - 1) }) }
+        ensures { Becomes self.old self.new (record (term_of self.old) {
+          col = min
+              (self.old.col + count) (self.old.size.cols - 1);
+        }) }
     {
         let col = usize::from(self.pos.col).saturating_add(count);
         self.pos.col = at_most(col, self.size.cols() - 1);
@@ -212,7 +215,8 @@ impl Picture {
 
     /// Empties cells from the cursor on, as many as there are up to the row's end.
     pub(crate) fn erase_chars(&mut self, count: usize)
-        ensures { Becomes self.old self.new (erase self.old.size (min (self.old.col + count) self.old.size.cols) (term_of self.old)) }
+        ensures { Becomes self.old self.new (erase self.old.size (min
+            (self.old.col + count) self.old.size.cols) (term_of self.old)) }
     {
         let end = usize::from(self.pos.col).saturating_add(count);
         self.erase_up_to(at_most(end, self.size.cols()));
@@ -295,7 +299,8 @@ impl Picture {
 
     /// The cells of a row; none past the last.
     pub(crate) fn row_cells(&self, row: u16) -> &[Cell]
-        ensures { line_text (cell_at result.now) 0 (length result.now) ≡ text_shown self.now.size (term_of self.now) row }
+        ensures { line_text (cell_at result.now) 0 (length result.now) ≡ text_shown self.now.size
+            (term_of self.now) row }
     {
         match self.rows.get(usize::from(row)) {
             Some(row) => row.cells(),

@@ -82,7 +82,8 @@ impl Eq for Cell {
 impl Cell {
     ghost use Rattle.std.specs.Prelude.{Some};
     ghost use Rattle.vt100_cells.specs.Cell.{empty_cell, default_cell, continuation_cell, cell_of, appended};
-    ghost use Rattle.vt100_cells.specs.Cell.{appended_plain, drawn_columns, has_room, has_text, is_default, IsPrintable};
+    ghost use Rattle.vt100_cells.specs.Cell.{appended_plain, drawn_columns, has_room};
+    ghost use Rattle.vt100_cells.specs.Cell.{has_text, is_default, IsPrintable};
 
     /// A cell that shows nothing, with default attributes.
     pub fn new() -> Self
