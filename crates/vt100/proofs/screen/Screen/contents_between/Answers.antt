@@ -1,5 +1,5 @@
 use Rattle.std.proofs.Common.{◌≡◌, ◌≤◌, ◌+◌, ◌-◌, sym, ap, ◌∙◌, arith}
-use Rattle.std.specs.Prelude.{string_bytes, Some, None}
+use Rattle.std.specs.Prelude.{string_bytes}
 use Rattle.vt100_core.specs.Grid.{GridView, visible_row_at}
 use Rattle.vt100_state.specs.Call.{ScreenView}
 use Rattle.vt100.proofs.BetweenLemmas.{IsBetween-next, between-on, between-past, some-row, no-row}
