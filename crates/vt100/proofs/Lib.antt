@@ -11,3 +11,4 @@ pub mod BetweenLemmas
 pub mod BoundsLemmas
 pub mod ShownLemmas
 pub mod WriteLemmas
+pub mod RowsLemmas

@@ -55,3 +55,7 @@ changes-are old new a b c d e f ea eb ec ed ee ef =
     sym (λ i. keypad (ea i) ++ cursor_keys (eb i) ++ paste (ec i) ++ (ed i ∷ ee i ∷ ef i ∷ []))
     ∙ append_assoc (keypad a ++ cursor_keys b) (paste c) rest
     ∙ append_assoc (keypad a) (cursor_keys b) (paste c ++ rest)
+
+-- a text that begins empty
+pub as_shown : (fs gs : List Form) (s t : List ℕ) → s ≡ [] → t ≡ s ++ spell fs → fs ≡ gs → t ≡ spell gs
+as_shown fs gs s t e a h = a ∙ ap (λ (xs : List ℕ). xs ++ spell fs) e ∙ ap spell h

@@ -12,6 +12,8 @@ mod private_modes;
 mod readers;
 mod reported;
 mod rows;
+mod rows_diff;
+mod rows_formatted;
 mod sgr;
 mod whole;
 mod wrapped;
@@ -19,6 +21,8 @@ mod writers;
 
 use crate::error::ScreenError;
 pub use rows::Rows;
+pub use rows_diff::RowsDiff;
+pub use rows_formatted::RowsFormatted;
 use std::alloc::Global;
 use std::marker::Model;
 use vt100_core::attrs::Attrs;

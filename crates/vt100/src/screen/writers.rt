@@ -3,16 +3,22 @@ ghost use Rattle.std.specs.Prelude.{◌≡◌, [], ◌++◌, OnOk, OnErr, IfOk, 
 ghost use Rattle.vt100_forms.specs.Form.{spell};
 ghost use Rattle.vt100_cells.specs.Cell.{bool_eq};
 ghost use Rattle.vt100_writers.specs.Modes.{input_mode_formatted, input_mode_diff, attributes_formatted};
+ghost use Rattle.vt100_writers.specs.Screen as picture;
+ghost use Rattle.vt100_core.specs.Picture.{size_of};
 ghost use Rattle.vt100_state.specs.Shown.{shown_state};
 ghost use Rattle.vt100.specs.Writers.{contents_formatted, state_formatted, contents_diff, state_diff};
-ghost use Rattle.vt100.specs.Writers.{cursor_state_formatted};
+ghost use Rattle.vt100.specs.Writers.{cursor_state_formatted, rows_formatted, rows_diff};
+ghost use Rattle.vt100.specs.WriterLaws.{IsUnscrolled};
 ghost use Rattle.vt100.specs.declared.error.ScreenError.TheVariants.{Memory};
 
 use crate::error::ScreenError;
 use crate::screen::Screen;
+use crate::screen::rows_diff::RowsDiff;
+use crate::screen::rows_formatted::RowsFormatted;
 use vt100_core::attrs::Attrs;
-use vt100_core::term::{ApplicationCursor, ApplicationKeypad, BracketedPaste};
-use vt100_core::term::{BufWrite, ClearAttrs, HideCursor};
+use vt100_core::term::{
+    ApplicationCursor, ApplicationKeypad, BracketedPaste, BufWrite, ClearAttrs, HideCursor,
+};
 use vt100_core::{CursorStyle, GridError, MouseProtocolEncoding, MouseProtocolMode, term};
 
 impl Screen {
@@ -21,6 +27,8 @@ impl Screen {
     /// [`input_mode_formatted`](Self::input_mode_formatted) after it.
     pub fn state_formatted(&self) -> Result<String, ScreenError>
         ensures text { IfOk result (λ contents. string_bytes contents ≡ spell (state_formatted self.now.state)) }
+        ensures shown { IsUnscrolled self.now.state → IfOk result (λ contents. string_bytes contents
+            ≡ spell (picture.state_formatted (size_of self.now.state.shown) (shown_state self.now.state))) }
         ensures memory { OnErr result (result ≡ Err Memory) }
     {
         let mut contents = String::new(self.alloc);
@@ -35,6 +43,10 @@ impl Screen {
     pub fn state_diff(&self, prev: &Self) -> Result<String, ScreenError>
         ensures text { IfOk result (λ contents. string_bytes contents
             ≡ spell (state_diff prev.now.state self.now.state)) }
+        ensures shown { IsUnscrolled prev.now.state → IsUnscrolled self.now.state
+            → size_of prev.now.state.shown ≡ size_of self.now.state.shown
+            → IfOk result (λ contents. string_bytes contents ≡ spell (picture.state_diff
+            (size_of self.now.state.shown) (shown_state prev.now.state) (shown_state self.now.state))) }
         ensures memory { OnErr result (result ≡ Err Memory) }
     {
         let mut contents = String::new(self.alloc);
@@ -48,6 +60,8 @@ impl Screen {
     /// shown; the cursor is that of the rows that are drawn on.
     pub fn contents_formatted(&self) -> Result<String, ScreenError>
         ensures text { IfOk result (λ contents. string_bytes contents ≡ spell (contents_formatted self.now.state)) }
+        ensures shown { IsUnscrolled self.now.state → IfOk result (λ contents. string_bytes contents
+            ≡ spell (picture.contents_formatted (size_of self.now.state.shown) (shown_state self.now.state))) }
         ensures memory { OnErr result (result ≡ Err Memory) }
     {
         let mut contents = String::new(self.alloc);
@@ -64,12 +78,29 @@ impl Screen {
         self.attrs.write_escape_code_diff(contents, &prev_attrs)
     }
 
+    /// The forms that draw each row that is shown, from the top, on a row of default cells: `width` columns from column
+    /// `start` on, or as many as the row has. A row that ends before `start` has none.
+    ///
+    /// Before each row the cursor is brought to the row's column `start`, and the attributes are the default ones. Where
+    /// whole rows are asked for, a row that goes on from the one above is drawn with the cursor at the end of that one.
+    pub fn rows_formatted(&self, start: u16, width: u16) -> RowsFormatted<'_>
+        ensures { result ≡ rows_formatted self.now.state.shown start width }
+    {
+        prove!(self.grid.is_allocated());
+        let whole = start == 0 && width == self.grid.size().cols();
+        RowsFormatted::new(self.alloc, self.grid.visible_rows(), start, width, whole)
+    }
+
     /// The forms that take a terminal from the picture that `prev` shows to the one that the screen shows. What is
     /// alike isn't drawn again. Both screens have one size: of others, the rows and columns that both have are
     /// compared.
     pub fn contents_diff(&self, prev: &Self) -> Result<String, ScreenError>
         ensures text { IfOk result (λ contents. string_bytes contents
             ≡ spell (contents_diff prev.now.state self.now.state)) }
+        ensures shown { IsUnscrolled prev.now.state → IsUnscrolled self.now.state
+            → size_of prev.now.state.shown ≡ size_of self.now.state.shown
+            → IfOk result (λ contents. string_bytes contents ≡ spell (picture.contents_diff
+            (size_of self.now.state.shown) (shown_state prev.now.state) (shown_state self.now.state))) }
         ensures memory { OnErr result (result ≡ Err Memory) }
     {
         let mut contents = String::new(self.alloc);
@@ -87,6 +118,18 @@ impl Screen {
             .grid
             .write_contents_diff(contents, &prev.grid, prev.attrs)?;
         self.attrs.write_escape_code_diff(contents, &prev_attrs)
+    }
+
+    /// The forms that draw each row that is shown over the one that `prev` shows there, from the top, where they differ:
+    /// `width` columns from column `start` on, or as many as both rows have. Rows of one screen alone have no item.
+    ///
+    /// Before each row the cursor is brought to the row's column `start`, and the attributes are the default ones.
+    pub fn rows_diff<'a>(&'a self, prev: &'a Self, start: u16, width: u16) -> RowsDiff<'a>
+        ensures { result ≡ rows_diff prev.now.state.shown self.now.state.shown start width }
+    {
+        prove!(self.grid.is_allocated());
+        let rows = self.grid.visible_rows();
+        RowsDiff::new(self.alloc, rows, prev.grid.visible_rows(), start, width)
     }
 
     /// The forms that set a terminal's modes: the keypad's and the cursor keys' application mode and bracketed paste;
@@ -183,6 +226,8 @@ impl Screen {
     pub fn cursor_state_formatted(&self) -> Result<String, ScreenError>
         ensures text { IfOk result (λ contents. string_bytes contents
             ≡ spell (cursor_state_formatted self.now.state)) }
+        ensures shown { IsUnscrolled self.now.state → IfOk result (λ contents. string_bytes contents
+            ≡ spell (picture.cursor_state_formatted (size_of self.now.state.shown) (shown_state self.now.state))) }
         ensures memory { OnErr result (result ≡ Err Memory) }
     {
         let mut contents = String::new(self.alloc);

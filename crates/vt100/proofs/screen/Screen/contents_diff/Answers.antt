@@ -1,0 +1,16 @@
+use Rattle.std.specs.Prelude.{string_bytes}
+use Rattle.vt100_writers.specs.Screen as picture
+use Rattle.vt100_core.specs.Picture.{size_of}
+use Rattle.vt100_state.specs.Shown.{shown_state}
+use Rattle.vt100.specs.Writers.{contents_diff}
+use Rattle.vt100.proofs.ShownLemmas.{difference-of_shown}
+use Rattle.vt100.proofs.WriteLemmas.{as_shown}
+use Rattle.vt100.proofs.screen.Screen.contents_diff.Goals as goal
+
+pub returns-clause-shown : goal.returns-clause-shown
+returns-clause-shown c o h e =
+    let old = c.args.prev.now.state in
+    let new = c.args.self.now.state in
+    as_shown (contents_diff old new) (picture.contents_diff (size_of new.shown) (shown_state old) (shown_state new))
+    (string_bytes c.new-contents.result) (string_bytes c.write_contents_diff.new.contents) c.new-contents.ensures.bytes
+    c.in_ok-write_contents_diff.ensures (difference-of_shown old new o h e).contents

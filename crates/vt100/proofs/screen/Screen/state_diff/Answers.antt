@@ -1,0 +1,23 @@
+use Rattle.std.specs.Prelude.{string_bytes}
+use Rattle.vt100_writers.specs.Screen as picture
+use Rattle.vt100_core.specs.Picture.{size_of}
+use Rattle.vt100_state.specs.Shown.{shown_state}
+use Rattle.vt100.specs.Writers.{contents_diff, state_diff}
+use Rattle.vt100.proofs.ShownLemmas.{difference-of_shown}
+use Rattle.vt100.proofs.WriteLemmas.{as_shown}
+use Rattle.vt100_writers.specs.Modes.{input_mode_diff}
+use Rattle.vt100_core.proofs.WriterLemmas.{appended_then}
+use Rattle.vt100.proofs.screen.Screen.state_diff.Goals as goal
+
+pub returns-clause-shown : goal.returns-clause-shown
+returns-clause-shown c o h e =
+    let old = c.args.prev.now.state in
+    let new = c.args.self.now.state in
+    let x = shown_state old in
+    let y = shown_state new in
+    let start = string_bytes c.new-contents.result in
+    let end = string_bytes c.write_input_mode_diff.new.contents in
+    as_shown (state_diff old new) (picture.state_diff (size_of new.shown) x y) start end c.new-contents.ensures.bytes
+    (appended_then (contents_diff old new) (input_mode_diff x y) start (string_bytes c.write_contents_diff.new.contents)
+    end c.in_ok-write_contents_diff.ensures c.in_ok-write_input_mode_diff.ensures)
+    (difference-of_shown old new o h e).state
