@@ -111,7 +111,7 @@ last-kept Joined c last s k h d e = h d e
 pub well-typed : (c : ℕ) → IsScalar c → IsKnown c → KeepsStepped (typed c)
 well-typed c scalar known b s w = record {
   bounds = w.bounds;
-  shown = drawn-printed (limits b s.alternate) s.shown c s.attrs w.shown scalar known;
+  shown = drawn-printed (limits b s.alternate) s.shown c s.attrs w.shown scalar known w.attrs;
   other = w.other;
   main = w.main;
   attrs = w.attrs;
@@ -205,13 +205,15 @@ well-restored b s w = record {
 -- ---- erasing, and cells and lines that come in and go
 
 pub well-erased_below : Keeps erased_below
-well-erased_below b s w = well-shown b s _ w (drawn-all_erased_forward (limits b s.alternate) s.shown s.attrs w.shown)
+well-erased_below b s w =
+    well-shown b s _ w (drawn-all_erased_forward (limits b s.alternate) s.shown s.attrs w.attrs w.shown)
 
 pub well-erased_above : Keeps erased_above
-well-erased_above b s w = well-shown b s _ w (drawn-all_erased_backward (limits b s.alternate) s.shown s.attrs w.shown)
+well-erased_above b s w =
+    well-shown b s _ w (drawn-all_erased_backward (limits b s.alternate) s.shown s.attrs w.attrs w.shown)
 
 pub well-erased_all : Keeps erased_all
-well-erased_all b s w = well-shown b s _ w (drawn-all_erased (limits b s.alternate) s.shown s.attrs w.shown)
+well-erased_all b s w = well-shown b s _ w (drawn-all_erased (limits b s.alternate) s.shown s.attrs w.attrs w.shown)
 
 pub well-erased_kept : KeepsStepped erased_kept
 well-erased_kept b s w = well-shown b s _ w (drawn-none_kept (limits b s.alternate) s.shown w.shown)
@@ -219,20 +221,20 @@ well-erased_kept b s w = well-shown b s _ w (drawn-none_kept (limits b s.alterna
 pub well-erased_right : Keeps erased_right
 well-erased_right b s w =
     well-shown b s _ w (drawn-columns_erased (limits b s.alternate) s.shown s.shown.col s.shown.width s.attrs
-    (omega arith) w.shown)
+    w.attrs (omega arith) w.shown)
 
 pub well-erased_left : Keeps erased_left
 well-erased_left b s w =
-    well-shown b s _ w (drawn-columns_erased (limits b s.alternate) s.shown 0 _ s.attrs
+    well-shown b s _ w (drawn-columns_erased (limits b s.alternate) s.shown 0 _ s.attrs w.attrs
     (columns_to_cursor-fit s.shown w.shown.fine.grid) w.shown)
 
 pub well-erased_row : Keeps erased_row
-well-erased_row b s w = well-shown b s _ w (drawn-row_erased (limits b s.alternate) s.shown s.attrs w.shown)
+well-erased_row b s w = well-shown b s _ w (drawn-row_erased (limits b s.alternate) s.shown s.attrs w.attrs w.shown)
 
 pub well-cells_erased : (n : ℕ) → Keeps (cells_erased n)
 well-cells_erased n b s w =
     well-shown b s _ w (drawn-columns_erased (limits b s.alternate) s.shown s.shown.col
-    (min (s.shown.col + n) s.shown.width) s.attrs (omega arith) w.shown)
+    (min (s.shown.col + n) s.shown.width) s.attrs w.attrs (omega arith) w.shown)
 
 pub well-cells_added : (n : ℕ) → Keeps (cells_added n)
 well-cells_added n b s w = well-shown b s _ w (drawn-cells_inserted (limits b s.alternate) s.shown n w.shown)

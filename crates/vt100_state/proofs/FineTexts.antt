@@ -6,6 +6,7 @@ use Rattle.std.specs.Char.{IsScalar}
 use Rattle.std.proofs.lemmas.Bool.{cond_both, cases_Bool, cases_lt}
 use Rattle.std.proofs.lemmas.Bool.Decides.{nat_tests}
 use Rattle.vt100_forms.specs.declared.attrs.Attrs.{Attrs}
+use Rattle.vt100_forms.specs.Attrs.{IsProper}
 use Rattle.vt100_cells.specs.Cell.{CellView, IsCell, cell_of, columns_of, has_text, drawn_columns}
 use Rattle.vt100_cells.specs.Line.{span_of}
 use Rattle.vt100_cells.proofs.CellLemmas.{IsCell-of, IsCell-with_attrs}
@@ -61,38 +62,38 @@ room-right : (col n width : ℕ) → nat_lt col n ≡ true → n ≡ width → c
 room-right col n width e w = grind (arith, nat_tests)
 
 drawn-put_at : (l : Limits) (g : GridView) (x : CellView) (a : Attrs) (n : ℕ) → IsDrawn l g → IsCell x
-    → has_text x ≡ true → n ≡ span_of x → g.col + n ≤ g.width → IsClean x → IsDrawn l (put_at g x a n)
-drawn-put_at l g x a n d cell text e h clean =
+    → has_text x ≡ true → n ≡ span_of x → g.col + n ≤ g.width → IsClean x → IsProper a → IsDrawn l (put_at g x a n)
+drawn-put_at l g x a n d cell text e h clean p =
     let v = placed (row_of_cursor g) g.col x a in
     let i = d.fine.grid in
     let w = with_cursor_row g v in
     let back = IsGrid-rows g w.rows i (length-set g.rows g.row v)
     (IsGrid-put_at g x a n i d.some cell text e h).sheet in
     drawn-col l w (g.col + n) h (row-drawn l g g.row v d back
-    (clean-placed (row_of_cursor g) g.col x a (clean-row g.rows d.fine.rows g.row) clean))
+    (clean-placed (row_of_cursor g) g.col x a p (clean-row g.rows d.fine.rows g.row) clean))
 
 drawn-spaced : (l : Limits) (g : GridView) (c : ℕ) (a : Attrs) → IsDrawn l g → IsScalar c → IsKnown c
-    → is_dropped g.width g.col c ≡ false → 0 < columns_of c → IsDrawn l (spaced g c a).grid
-drawn-spaced l g c a d s known kept some =
+    → IsProper a → is_dropped g.width g.col c ≡ false → 0 < columns_of c → IsDrawn l (spaced g c a).grid
+drawn-spaced l g c a d s known p kept some =
     let is = IsDrawn-here g c (columns_of c) kept refl in
     let u = drawn-is c (columns_of c) is.drawn in
     let h = (made_to_fit g (columns_of c) true).grid in
     let m = IsMade-made g (columns_of c) true is.fits in
     drawn-put_at l h (cell_of c a) a (columns_of c) (drawn-made l g (columns_of c) true d) (IsCell-of c a s u.0 some)
-    refl (span_of-cell c (columns_of c) a refl some) m.fits (clean-of c a known)
+    refl (span_of-cell c (columns_of c) a refl some) m.fits (clean-of c a known p) p
 
 -- ---- a zero-width character
 
-with-attrs : (x : CellView) (a : Attrs) → IsClean x → IsClean (record x { attrs = a })
-with-attrs x a h = record { text = h.text }
+with-attrs : (x : CellView) (a : Attrs) → IsClean x → IsProper a → IsClean (record x { attrs = a })
+with-attrs x a h p = record { text = h.text; attrs = p }
 
 two-columns : (n : ℕ) → (n == 1) ≡ false → 0 < n → 2 ≤ n
 two-columns n e h = grind (arith, nat_tests)
 
 drawn-carried : (l : Limits) (g : GridView) (c : ℕ) (a : Attrs) → IsDrawn l g → IsScalar c → IsKnown c
-    → drawn_columns c ≡ Some 0 → is_widening (row_of_cursor g) g.col c ≡ true → (g.width == 1) ≡ false
+    → IsProper a → drawn_columns c ≡ Some 0 → is_widening (row_of_cursor g) g.col c ≡ true → (g.width == 1) ≡ false
     → IsDrawn l (carried g c a).grid
-drawn-carried l g c a d s known zero wide one =
+drawn-carried l g c a d s known p zero wide one =
     let i = d.fine.grid in
     let v = row_of_cursor g in
     let r = cursor_row_of g i d.some in
@@ -103,22 +104,22 @@ drawn-carried l g c a d s known zero wide one =
     let sized = IsSized-wrapped w false in
     let wiped = row-drawn l g g.row (wiped_row v (g.col - 1) g.col a) d
     (IsGrid-columns_erased g (g.col - 1) g.col a i d.some i.cursor_col)
-    (clean-wiped v (g.col - 1) g.col a (clean-row g.rows d.fine.rows g.row)) in
+    (clean-wiped v (g.col - 1) g.col a p (clean-row g.rows d.fine.rows g.row)) in
     drawn-put_at l h x a 2 (drawn-wrapped l w false wiped)
     (IsCell-with_attrs (joined_cell v g.col c) a (IsCell-joined v g.col c r.row s zero)) is.1 (span_of-wide x is.0)
     (omega (arith, sized.col, sized.width, two-columns g.width one i.some_cols))
-    (with-attrs (joined_cell v g.col c) a (clean-joined_cell v g.col c (clean-row g.rows d.fine.rows g.row) known))
+    (with-attrs (joined_cell v g.col c) a (clean-joined_cell v g.col c (clean-row g.rows d.fine.rows g.row) known) p) p
 
 drawn-joined : (l : Limits) (g : GridView) (c : ℕ) (a : Attrs) → IsDrawn l g → IsScalar c → IsKnown c
-    → drawn_columns c ≡ Some 0 → 0 < g.col → IsDrawn l (joined g c a).grid
-drawn-joined l g c a d s known zero after =
+    → IsProper a → drawn_columns c ≡ Some 0 → 0 < g.col → IsDrawn l (joined g c a).grid
+drawn-joined l g c a d s known p zero after =
     let i = d.fine.grid in
     let v = row_of_cursor g in
     let r = cursor_row_of g i d.some in
     let h = with_cursor_row g (join_row v g.col c a) in
     let in_row : IsDrawn l h = row-drawn l g g.row (join_row v g.col c a) d
     (IsGrid-join g c a i d.some s zero after)
-    (clean-join v g.col c a (clean-row g.rows d.fine.rows g.row) known) in
+    (clean-join v g.col c a p (clean-row g.rows d.fine.rows g.row) known) in
     ⊎_elim
     (λ (wide : is_widening v g.col c ≡ true).
     ⊎_elim
@@ -131,7 +132,7 @@ drawn-joined l g c a d s known zero after =
     (drawn-col l h (g.col + 1) (room-right g.col (length v.cells) g.width room r.wide) in_row))
     (λ (room : nat_lt g.col (length v.cells) ≡ false).
     subst (λ (x : Drawn). IsDrawn l x.grid) (sym (carries g c a h r.wide refl wide one room).1)
-    (drawn-carried l g c a d s known zero wide (ap (λ n. n == 1) (sym r.wide) ∙ one)))
+    (drawn-carried l g c a d s known p zero wide (ap (λ n. n == 1) (sym r.wide) ∙ one)))
     (cases_Bool (nat_lt g.col (length v.cells))))
     (cases_Bool (length v.cells == 1)))
     (λ (wide : is_widening v g.col c ≡ false).
@@ -139,8 +140,8 @@ drawn-joined l g c a d s known zero after =
     (cases_Bool (is_widening v g.col c))
 
 pub drawn-printed : (l : Limits) (g : GridView) (c : ℕ) (a : Attrs) → IsDrawn l g → IsScalar c → IsKnown c
-    → IsDrawn l (printed g c a).grid
-drawn-printed l g c a d s known =
+    → IsProper a → IsDrawn l (printed g c a).grid
+drawn-printed l g c a d s known p =
     ⊎_elim
     (λ (e : is_dropped g.width g.col c ≡ true).
     subst (λ (x : Drawn). IsDrawn l x.grid) (sym (printed-dropped g c a e)) d)
@@ -148,10 +149,11 @@ drawn-printed l g c a d s known =
     let is = IsDrawn-here g c (columns_of c) e refl in
     ⊎_elim
     (λ (some : 0 < columns_of c).
-    subst (λ (x : Drawn). IsDrawn l x.grid) (sym (printed-spaced g c a e some)) (drawn-spaced l g c a d s known e some))
+    subst (λ (x : Drawn). IsDrawn l x.grid) (sym (printed-spaced g c a e some))
+    (drawn-spaced l g c a d s known p e some))
     (λ (none : columns_of c ≤ 0).
     let zero : columns_of c ≡ 0 = omega arith in
     subst (λ (x : Drawn). IsDrawn l x.grid) (sym (printed-joined g c a e zero))
-    (drawn-joined l g c a d s known (is.drawn ∙ ap Some zero) (is.after zero)))
+    (drawn-joined l g c a d s known p (is.drawn ∙ ap Some zero) (is.after zero)))
     (cases_lt 0 (columns_of c)))
     (cases_Bool (is_dropped g.width g.col c))

@@ -18,7 +18,7 @@ use Rattle.vt100_state.specs.Step.{reports_of, resized_to}
 use Rattle.vt100_state.specs.Effect.{effect}
 use Rattle.vt100_state.specs.Made.{Act, Fed, Resized, played, events_added, made_on, made}
 use Rattle.vt100_state.specs.Holds.{IsAct, AreActs, last_rows, last_cols, MakesStates, MakesLastSize}
-use Rattle.vt100_state.specs.Holds.{MakesCapacity, MakesNoOffset, MakesCells}
+use Rattle.vt100_state.specs.Holds.{MakesCapacity, MakesNoOffset, MakesCells, MakesProperCells}
 use Rattle.vt100_state.specs.Holds.{KeepsAtSameSize}
 use Rattle.vt100_state.proofs.CleanRows.{IsKnown, IsClean, IsCleanRow, clean-row, clean-cell}
 use Rattle.vt100_state.proofs.FineGrids.{Limits, IsFine}
@@ -110,6 +110,12 @@ makes-cells rows cols capacity acts h r c =
     let w = made-well rows cols capacity acts h in
     let row = shown-row _ s.shown w.shown.fine r in
     (row.0.cells c, known (cell_at (visible_at s.shown r).cells c) (clean-cell (visible_at s.shown r) row.1 c))
+
+pub makes-proper_cells : MakesProperCells
+makes-proper_cells rows cols capacity acts h r c =
+    let s = made rows cols capacity acts in
+    let w = made-well rows cols capacity acts h in
+    (clean-cell (visible_at s.shown r) (shown-row _ s.shown w.shown.fine r).1 c).attrs
 
 -- ---- the same size
 

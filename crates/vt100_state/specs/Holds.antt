@@ -1,5 +1,6 @@
 -- What is true of every terminal that bytes and resizes have made.
 use Rattle.std.specs.Prelude.{ℕ, ◌^◌, ◌<◌, ◌≡◌, List, [], ◌∷◌, All, Contains}
+use Rattle.vt100_forms.specs.Attrs.{IsProper}
 use Rattle.vt100_cells.specs.Cell.{IsCell}
 use Rattle.vt100_cells.specs.Cells.{cell_at}
 use Rattle.vt100_core.specs.Grid.{visible_at}
@@ -71,6 +72,14 @@ ShowsCells s = (r c : ℕ) → IsCell (cell_at (visible_at s.shown r).cells c)
 abbrev pub MakesCells : Type 0
 MakesCells = (rows cols capacity : ℕ) (acts : List Act) → AreActs rows cols capacity acts
     → ShowsCells (made rows cols capacity acts)
+
+-- each cell that is shown has proper attributes
+abbrev pub ShowsProperCells : State → Type 0
+ShowsProperCells s = (r c : ℕ) → IsProper (cell_at (visible_at s.shown r).cells c).attrs
+
+abbrev pub MakesProperCells : Type 0
+MakesProperCells = (rows cols capacity : ℕ) (acts : List Act) → AreActs rows cols capacity acts
+    → ShowsProperCells (made rows cols capacity acts)
 
 -- the size that a terminal has already changes nothing, and no row leaves
 abbrev pub KeepsAtSameSize : Type 0

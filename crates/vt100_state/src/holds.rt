@@ -3,7 +3,7 @@
 //!
 //! Sizes are from 1 to 65,535, and fewer than 2^64 rows are kept, as the types of the calls say.
 ghost use Rattle.vt100_state.specs.Holds.{MakesStates, MakesLastSize, MakesCapacity, MakesNoOffset, MakesCells};
-ghost use Rattle.vt100_state.specs.Holds.{KeepsAtSameSize};
+ghost use Rattle.vt100_state.specs.Holds.{MakesProperCells, KeepsAtSameSize};
 ghost use Rattle.vt100_state.specs.Shown.{EachCellIsTold, EachWrapIsTold, AlikeShowTheSame};
 
 /// It is a state of a terminal: its sheets are grids of one size, the shown one and the main one have their rows, the
@@ -27,6 +27,12 @@ pub fn no_offsets()
 /// Each cell that is shown has a cell's text, in which U+FFFD doesn't stand.
 pub fn shown_cells()
     ensures { MakesCells }
+{}
+
+/// The attributes of each cell that is shown are proper: no bit of the mode without a meaning is set, and bold and dim
+/// aren't both.
+pub fn proper_cells()
+    ensures { MakesProperCells }
 {}
 
 /// A resize to the size that the terminal has already changes nothing, and no row leaves.
