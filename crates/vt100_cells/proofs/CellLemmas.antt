@@ -1,6 +1,7 @@
 -- Every cell that an edit makes is one that a cell can be.
 use Rattle.std.proofs.Common.{◌≡◌, ℕ, zero, suc, ◌<◌, ◌≤◌, ◌==◌, inl, inr, ⊎_elim, Bool, true, false, ◌||◌, List, []}
-use Rattle.std.proofs.Common.{◌∷◌, ◌++◌, length, Some, nat_lt, sym, refl, ap, ◌∙◌, arith, rules, length-append}
+use Rattle.std.proofs.Common.{◌∷◌, ◌++◌, length, Some, nat_lt, sym, refl, ap, subst, ◌∙◌, arith, rules}
+use Rattle.std.proofs.Common.{length-append}
 use Rattle.std.specs.Prelude.{All, Contains}
 use Rattle.std.specs.Char.{IsScalar}
 use Rattle.std.proofs.lemmas.Bool.{cases_lt, false≢true, eqb-true, and_parts, cond_both}
@@ -13,7 +14,7 @@ use Rattle.vt100_forms.specs.declared.attrs.Attrs.{Attrs}
 use Rattle.vt100_cells.proofs.WidthLemmas.{space_is_narrow, space_is_drawn, drawn-is, printable-is}
 use Rattle.vt100_cells.specs.Cell.{CellView, IsCell, IsCellText, IsShort, IsWideAs, columns_of, is_undrawable}
 use Rattle.vt100_cells.specs.Cell.{drawn_columns, has_room, empty_cell, continuation_cell, cell_of, text_with}
-use Rattle.vt100_cells.specs.Cell.{is_widened_by, appended, IsPrintable}
+use Rattle.vt100_cells.specs.Cell.{is_widened_by, appended, appended_plain, IsPrintable}
 
 -- ---- each kind of cell
 
@@ -142,12 +143,41 @@ pub IsCell-appended : (x : CellView) (c : ℕ) → IsCell x → IsScalar c → d
     → x.continuation ≡ false → IsCell (appended x c)
 IsCell-appended x c h s z n = cond_both (has_room x.text) _ x IsCell (λ r. IsCell-with x c h s z n r) (λ _. h)
 
+-- the same where U+FE0F widens nothing
+pub IsCell-with_plain : (x : CellView) (c : ℕ) → IsCell x → IsScalar c → drawn_columns c ≡ Some 0
+    → x.continuation ≡ false → has_room x.text ≡ true
+    → IsCell (record {
+      text = text_with x.text c;
+      wide = x.wide;
+      continuation = x.continuation;
+      attrs = x.attrs;
+    })
+IsCell-with_plain x c h s z n r =
+    let with = IsCell-with x c h s z n r in
+    record {
+      characters = with.characters;
+      short = with.short;
+      scalars = with.scalars;
+      wide = subst (IsWideAs (text_with x.text c)) (or-false x.wide)
+          (wide-with x.text c x.wide false h.wide (λ e. absurd (false≢true e)));
+      blank = with.blank;
+    }
+
+pub IsCell-plain : (x : CellView) (c : ℕ) → IsCell x → IsScalar c → drawn_columns c ≡ Some 0
+    → x.continuation ≡ false → IsCell (appended_plain x c)
+IsCell-plain x c h s z n = cond_both (has_room x.text) _ x IsCell (λ r. IsCell-with_plain x c h s z n r) (λ _. h)
+
 -- the same for the fields that the code has made
 pub IsCell-made : (x : CellView) (c : ℕ) (t : List ℕ) (w q : Bool) → IsCell x → IsScalar c → drawn_columns c ≡ Some 0
     → x.continuation ≡ false → has_room x.text ≡ true
     → t ≡ text_with x.text c → w ≡ (x.wide || is_widened_by x.text c) → q ≡ x.continuation
     → IsCell (record { text = t; wide = w; continuation = q; attrs = x.attrs })
 IsCell-made x c t w q h s z n r et ew eq = rw (et, ew, eq) (IsCell-with x c h s z n r)
+
+pub IsCell-made_plain : (x : CellView) (c : ℕ) (t : List ℕ) → IsCell x → IsScalar c → drawn_columns c ≡ Some 0
+    → x.continuation ≡ false → has_room x.text ≡ true → t ≡ text_with x.text c
+    → IsCell (record { text = t; wide = x.wide; continuation = x.continuation; attrs = x.attrs })
+IsCell-made_plain x c t h s z n r e = rw e (IsCell-with_plain x c h s z n r)
 
 -- ---- printable ASCII characters
 

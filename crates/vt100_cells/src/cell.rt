@@ -82,7 +82,7 @@ impl Eq for Cell {
 impl Cell {
     ghost use Rattle.std.specs.Prelude.{Some};
     ghost use Rattle.vt100_cells.specs.Cell.{empty_cell, default_cell, continuation_cell, cell_of, appended};
-    ghost use Rattle.vt100_cells.specs.Cell.{drawn_columns, has_room, has_text, is_default, IsPrintable};
+    ghost use Rattle.vt100_cells.specs.Cell.{appended_plain, drawn_columns, has_room, has_text, is_default, IsPrintable};
 
     /// A cell that shows nothing, with default attributes.
     pub fn new() -> Self
@@ -174,6 +174,25 @@ impl Cell {
         Cell {
             text,
             span,
+            attrs: self.attrs,
+        }
+    }
+
+    /// The same, where U+FE0F makes no cell wide. For rows alone.
+    #[doc(hidden)]
+    pub fn joined_plain(self, c: char) -> Self
+        requires zero_width { drawn_columns c ≡ Some 0 }
+        requires no_half { self.continuation ≡ false }
+        ensures { result ≡ appended_plain self c }
+    {
+        if !self.text.has_room() {
+            return self;
+        }
+        let mut text = self.text;
+        text.join(c);
+        Cell {
+            text,
+            span: self.span,
             attrs: self.attrs,
         }
     }

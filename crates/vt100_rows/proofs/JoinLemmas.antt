@@ -7,14 +7,16 @@ use Rattle.std.proofs.lemmas.Bool.{false≢true, cases_eq, eq-eqb, ne_eqb, and_p
 use Rattle.std.proofs.lemmas.Bool.Decides.{nat_tests}
 use Rattle.vt100_forms.specs.declared.attrs.Attrs.{Attrs}
 use Rattle.vt100_cells.specs.Cell.{CellView, IsCell, IsWideAs, has_text, is_filled, has_room, text_with, is_widened_by}
-use Rattle.vt100_cells.specs.Cell.{appended, drawn_columns, default_cell}
+use Rattle.vt100_cells.specs.Cell.{appended, appended_plain, drawn_columns, default_cell}
 use Rattle.vt100_cells.specs.Line.{IsPaired, Bounded, span_of, update, put, base_col}
 use Rattle.vt100_cells.specs.Cells.{cell_at, by_position}
 use Rattle.vt100_rows.specs.Row.{RowView, IsRow, joined_cell, is_widening, joined_row, join_row, placed, wiped_row}
-use Rattle.vt100_cells.proofs.CellLemmas.{IsCell-appended}
+use Rattle.vt100_rows.specs.Row.{joined_plain}
+use Rattle.vt100_cells.proofs.CellLemmas.{IsCell-appended, IsCell-plain}
 use Rattle.vt100_cells.proofs.ListLemmas.{not_first, Bounded-row, set-by_position, length-by_position}
 use Rattle.vt100_cells.proofs.JoinedCells.{base_col-whole, base_col-within, filled-appended, appended-continuation}
 use Rattle.vt100_cells.proofs.JoinedCells.{appended-wide, same-width, appended-has_text, Bounded-update, update-last}
+use Rattle.vt100_cells.proofs.JoinedCells.{plain-wide, plain-continuation, plain-filled}
 use Rattle.vt100_cells.proofs.LineLemmas.{put-same, IsPaired-put}
 use Rattle.vt100_cells.proofs.EditedCells.{IsCell-update}
 use Rattle.vt100_cells.proofs.TrimLemmas.{not-false}
@@ -142,3 +144,36 @@ joins-full v xs ys col n i c y a exs eys en ei ey full h l =
     (λ k. record { cells = sym same k; wrapped = v.wrapped })
     ∙ joins-in_place v xs ys col n i c y y a exs eys en ei ey (sym (appended-full y c full)) (same-width-twice y.wide)
     h l
+
+-- ---- where U+FE0F makes no cell wide
+
+pub IsRow-joined_plain : (v : RowView) (col c : ℕ) → IsRow v → IsScalar c → drawn_columns c ≡ Some 0 → 0 < col
+    → col ≤ length v.cells → IsRow (joined_plain v col c)
+IsRow-joined_plain v col c r s z h l =
+    let f = cell_at v.cells in
+    let n = length v.cells in
+    let i = base_col f col in
+    let x = appended_plain (f i) c in
+    let whole = base_col-whole f col r.paired in
+    IsRow-by_position n (update f i x) v.wrapped r.narrow
+    (IsPaired-like (update f i x) (put f i x (f i).attrs)
+    (λ k. sym (put-same f i x (f i).attrs k r.paired whole (plain-wide (f i) c)))
+    (IsPaired-put f i x (f i).attrs r.paired (plain-continuation (f i) c ∙ whole)))
+    (Bounded-update n f i x (Bounded-row v.cells) (base_col-within f n col h l))
+    (IsCell-update f i x r.cells (IsCell-plain (f i) c (r.cells i) s z whole))
+    (λ w. update-last f i (n - 1) x (plain-filled (f i) c) (r.filled w))
+
+pub joins-plain : (v : RowView) (xs ys : List CellView) (col n i c : ℕ) (x y : CellView) → xs ≡ v.cells
+    → ys ≡ v.cells → n ≡ col → i ≡ base_col (cell_at xs) n → y ≡ cell_at ys i → x ≡ appended_plain y c → 0 < col
+    → col ≤ length v.cells → record { cells = set v.cells i x; wrapped = v.wrapped } ≡ joined_plain v col c
+joins-plain v xs ys col n i c x y exs eys en ei ey ex h l =
+    let f = cell_at v.cells in
+    let j = base_col f col in
+    let at_j : i ≡ j = ei ∙ ap (λ (zs : List CellView). base_col (cell_at zs) n) exs ∙ ap (base_col f) en in
+    let old : y ≡ f j = ey ∙ ap (λ (zs : List CellView). cell_at zs i) eys ∙ ap f at_j in
+    let new : x ≡ appended_plain (f j) c = ex ∙ ap (λ z. appended_plain z c) old in
+    let cells : set v.cells i x ≡ by_position (length v.cells) (update f j (appended_plain (f j) c)) =
+    ap (λ m. set v.cells m x) at_j ∙ ap (set v.cells j) new
+    ∙ set-by_position v.cells j (appended_plain (f j) c) (update f j (appended_plain (f j) c))
+    (base_col-within f (length v.cells) col h l) (λ k. refl) in
+    λ k. record { cells = cells k; wrapped = v.wrapped }

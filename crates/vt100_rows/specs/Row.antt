@@ -5,6 +5,7 @@ use Rattle.vt100_forms.specs.declared.attrs.Attrs.{Attrs}
 use Rattle.vt100_rows.specs.declared.join.Join.{Join}
 use Rattle.vt100_rows.specs.declared.join.Join.TheVariants.{InPlace, Ignored, Widened, Carried}
 use Rattle.vt100_cells.specs.Cell.{CellView, IsCell, default_cell, empty_cell, cell_of, is_filled, is_default, appended}
+use Rattle.vt100_cells.specs.Cell.{appended_plain}
 use Rattle.vt100_cells.specs.Cells.{cell_at, by_position, last_cell, inserted_cells, trimmed_len}
 use Rattle.vt100_cells.specs.Line.{IsPaired, update, put, put_unflags, base_col, pair_wiped, wiped, wipe_unflags, cut}
 use Rattle.vt100_cells.specs.Line.{opened, closed, extended, run}
@@ -87,6 +88,15 @@ joined_row v col c = record {
       (joined_cell v col c));
   wrapped = v.wrapped;
 }
+
+-- the same where U+FE0F makes no cell wide
+abbrev pub joined_plain : RowView → ℕ → ℕ → RowView
+joined_plain v col c =
+    let i = base_col (cell_at v.cells) col in
+    record {
+      cells = by_position (length v.cells) (update (cell_at v.cells) i (appended_plain (cell_at v.cells i) c));
+      wrapped = v.wrapped;
+    }
 
 -- ---- insertion and removal
 

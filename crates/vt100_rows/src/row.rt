@@ -6,7 +6,7 @@ ghost use Rattle.vt100_cells.specs.Cell.{cell_of, has_text, drawn_columns, IsPri
 ghost use Rattle.vt100_cells.specs.Line.{span_of};
 ghost use Rattle.vt100_rows.specs.Row.{blank_row, cleared_row, with_wrap, placed, wiped_row, pair_cleared, join_row};
 ghost use Rattle.vt100_rows.specs.Row.{join_answer, inserted, removed, truncated, grown, resized_row, trimmed, run_row};
-ghost use Rattle.vt100_rows.specs.Row.{placed_each};
+ghost use Rattle.vt100_rows.specs.Row.{placed_each, joined_plain};
 ghost use Rattle.vt100_rows.specs.Text.{written_text, IsBegun};
 
 mod forms;
@@ -312,6 +312,19 @@ impl Row {
             self.erase(col - 1, attrs);
             Join::Carried(joined.with_attrs(attrs))
         }
+    }
+
+    /// Puts the zero-width character `c` where [`join`](Self::join) puts it, but U+FE0F makes no cell wide.
+    #[doc(hidden)]
+    pub fn join_plain(&mut self, col: u16, c: char)
+        requires zero_width { drawn_columns c ≡ Some 0 }
+        requires after_some { 0 < col }
+        requires in_row { col ≤ length self.old.cells }
+        ensures { self.new ≡ joined_plain self.old col c }
+    {
+        let base = base_col(&self.cells, usize::from(col));
+        let cell = *at(&self.cells, base);
+        self.cells[base] = cell.joined_plain(c);
     }
 }
 

@@ -1,0 +1,10 @@
+pub mod RowTerms
+pub mod TermSteps
+pub mod BlankTerms
+pub mod KeptPictures
+pub mod CallSteps
+pub mod WriteLemmas
+pub mod PictureSteps
+pub mod LawLemmas
+pub mod KeptTerms
+pub mod FormLemmas

@@ -1,0 +1,41 @@
+use Rattle.std.proofs.Common.{false}
+use Rattle.vte.specs.Closings.{clearings}
+use Rattle.vte.proofs.ClosingLemmas.{advanced_parsed, taken_parsed}
+use Rattle.termview.proofs.CallSteps.{goes-on}
+use Rattle.termview.proofs.view.View.advance.Goals as goal
+
+pub returns-clause-advanced : goal.returns-clause-advanced
+returns-clause-advanced g c = λ parsed held s.
+    let a = c.advance.ensures.advanced parsed held s.reads in
+    let p = advanced_parsed g.T.Timeout.sets g.T.Timeout.clears g.T.Timeout.answers false _ parsed held _ _ a.parsed'
+    a.held' a.calls a.advances in
+    let n = goes-on c.args.self.now.picture c.advance.new.handler parsed a.parsed' (clearings p.0) a.calls s.shows p.2
+    a.goes in
+    record {
+      parsed' = a.parsed';
+      held' = a.held';
+      calls = a.calls;
+      advances = a.advances;
+      stands = record { reads = a.stands; shows = n.1 };
+      size = n.0;
+    }
+
+pub returns-clause-exact : goal.returns-clause-exact
+returns-clause-exact g c = λ parsed hold exact h.
+    let a = c.advance.ensures.exact parsed hold exact (record { stands = h.stands.reads; awaits = h.awaits }) in
+    let p = taken_parsed parsed hold _ a.parsed' a.hold' a.calls a.ticks a.takes in
+    let n = goes-on c.args.self.now.picture c.advance.new.handler parsed a.parsed' (clearings a.ticks) a.calls
+    h.stands.shows p a.goes in
+    record {
+      parsed' = a.parsed';
+      hold' = a.hold';
+      calls = a.calls;
+      ticks = a.ticks;
+      takes = a.takes;
+      stands = record {
+        stands = record { reads = a.stands.stands; shows = n.1 };
+        awaits = a.stands.awaits;
+      };
+      ticked = a.ticked;
+      size = n.0;
+    }

@@ -1,0 +1,65 @@
+-- Laws of what a view shows.
+use Rattle.std.specs.Prelude.{◌≡◌, ℕ, ◌<◌, ◌≤◌, List, ◌++◌, Option, None, map, take, length}
+use Rattle.std.specs.List.{All, concat}
+use Rattle.vte_core.specs.Shapes.{events}
+use Rattle.vte_core.specs.Ground.{AtGround}
+use Rattle.vte_types.specs.Call.{Call}
+use Rattle.vte.specs.Performed.{calls_of_all}
+use Rattle.vte.specs.Stretch.{last_of, calls_from}
+use Rattle.vte.specs.Marks.{start_mark, end_mark}
+use Rattle.vte.specs.Hold.{limit}
+use Rattle.vte.specs.Moves.{Move, Gives, given}
+use Rattle.vte.specs.Frames.{IsFrame, IsPart, Leads}
+use Rattle.vt100_picture.specs.Term.{Size, Term, IsTerm}
+use Rattle.termview.specs.Step.{view_step, view_steps}
+use Rattle.termview.specs.Seen.{seen}
+
+-- more bytes do what their calls do
+abbrev pub MoreBytesStep : Type 0
+MoreBytesStep = (z : Size) (past bytes : List ℕ)
+    → seen z (past ++ bytes) ≡ view_steps z (calls_from past bytes) (seen z past)
+
+-- where nothing is unfinished, a start mark, whole or begun, changes nothing, and neither does an end mark
+abbrev pub MarksShowNothing : Type 0
+MarksShowNothing = (z : Size) (past : List ℕ) → AtGround 1024 past
+    → ((count : ℕ) → count ≤ 8 → seen z (past ++ take count start_mark) ≡ seen z past)
+    × (seen z (past ++ end_mark) ≡ seen z past)
+
+-- and what stands between the marks does what it does alone, where it leaves nothing unfinished
+abbrev pub FramesShowTheirBodies : Type 0
+FramesShowTheirBodies = (z : Size) (past body : List ℕ) → AtGround 1024 past → AtGround 1024 body
+    → seen z (past ++ (start_mark ++ (body ++ end_mark)))
+    ≡ view_steps z (calls_of_all (last_of past) (events 1024 body)) (seen z past)
+
+-- whole frames are shown, in whatever pieces they come and wherever the update is stopped by hand; nothing is held, and
+-- nothing is unfinished
+abbrev pub WholeFramesAreShown : Type 0
+WholeFramesAreShown = (z : Size) (frames : List (List ℕ)) (moves : List Move) (past parsed : List ℕ)
+    (hold : Option (List ℕ)) → AtGround 1024 past → All IsFrame frames → given moves ≡ concat frames
+    → Leads moves past None parsed hold
+    → (seen z parsed ≡ seen z (past ++ concat frames)) × (hold ≡ None) × AtGround 1024 parsed
+
+-- of the frames just those that were given whole are shown
+pub record ShowsWhole (z : Size) (frames : List (List ℕ)) (past bytes parsed : List ℕ) : Type 0 where
+  pub whole : List (List ℕ)
+  pub rest : List (List ℕ)
+  pub part : List ℕ
+  pub frames_are : frames ≡ whole ++ rest
+  pub bytes_are : bytes ≡ concat whole ++ part
+  pub is_part : IsPart part rest
+  pub shows : seen z parsed ≡ seen z (past ++ concat whole)
+
+-- frames below the hold's limit are never shown in part, in whatever pieces the beginning of them comes
+abbrev pub NoFrameIsTorn : Type 0
+NoFrameIsTorn = (z : Size) (frames pieces : List (List ℕ)) (beyond past parsed : List ℕ) (hold : Option (List ℕ))
+    → AtGround 1024 past → All IsFrame frames → All (λ frame. length frame < limit) frames
+    → concat pieces ++ beyond ≡ concat frames → Leads (map Gives pieces) past None parsed hold
+    → ShowsWhole z frames past (concat pieces) parsed
+
+-- what is true of every terminal stays true under every call
+abbrev pub EachCallKeepsTerminals : Type 0
+EachCallKeepsTerminals = (z : Size) (c : Call) (t : Term) → IsTerm z t → IsTerm z (view_step z c t)
+
+-- and is true whatever a stream holds
+abbrev pub EachStreamShowsATerminal : Type 0
+EachStreamShowsATerminal = (z : Size) (bytes : List ℕ) → 0 < z.rows → 0 < z.cols → IsTerm z (seen z bytes)

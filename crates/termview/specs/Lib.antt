@@ -1,0 +1,9 @@
+pub mod Step
+pub mod Seen
+pub mod Picture
+pub mod PictureFields
+pub mod Timeout
+pub mod Standing
+pub mod Writing
+pub mod Laws
+pub mod Forms

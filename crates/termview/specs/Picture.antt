@@ -1,0 +1,56 @@
+-- What a contract sees of a picture, and what is true of each.
+use Rattle.std.specs.Prelude.{ℕ, ◌<◌, ◌≤◌, ◌≡◌, ◌^◌, Bool, List, length}
+use Rattle.vt100_forms.specs.declared.attrs.Attrs.{Attrs}
+use Rattle.vt100_forms.specs.declared.modes.CursorStyle.{CursorStyle}
+use Rattle.vt100_rows.specs.Row.{RowView}
+use Rattle.vt100_picture.specs.Term.{Size, Modes, Term}
+use Rattle.vt100_sheet.specs.Sheet.{IsSheet}
+use Rattle.vt100_sheet.specs.Picture.{lines_of, wraps_of}
+
+pub record PictureView : Type 0 where
+  pub size : Size
+  -- the rows from the top
+  pub rows : List RowView
+  pub row : ℕ
+  pub col : ℕ
+  pub hidden : Bool
+  pub attrs : Attrs
+  pub modes : Modes
+  pub style : CursorStyle
+  pub saved_row : ℕ
+  pub saved_col : ℕ
+  pub saved_attrs : Attrs
+
+-- the terminal that shows it
+abbrev pub term_of : PictureView → Term
+term_of p = record {
+  cell = lines_of p.rows;
+  wrapped = wraps_of p.rows;
+  row = p.row;
+  col = p.col;
+  hidden = p.hidden;
+  attrs = p.attrs;
+  modes = p.modes;
+  style = p.style;
+  saved_row = p.saved_row;
+  saved_col = p.saved_col;
+  saved_attrs = p.saved_attrs;
+}
+
+-- there is a row for each line, and both cursors are on the screen
+pub record IsPicture (p : PictureView) : Type 0 where
+  pub sheet : IsSheet p.size.rows p.size.cols p.rows
+  pub full : length p.rows ≡ p.size.rows
+  pub some_rows : 0 < p.size.rows
+  pub some_cols : 0 < p.size.cols
+  pub few_rows : p.size.rows < 2 ^ 16
+  pub few_cols : p.size.cols < 2 ^ 16
+  pub in_rows : p.row < p.size.rows
+  pub in_cols : p.col ≤ p.size.cols
+  pub saved_in_rows : p.saved_row < p.size.rows
+  pub saved_in_cols : p.saved_col ≤ p.size.cols
+
+-- a picture has become one of the same size that shows this
+pub record Becomes (p q : PictureView) (t : Term) : Type 0 where
+  pub size : q.size ≡ p.size
+  pub shows : term_of q ≡ t

@@ -1,0 +1,66 @@
+//! Drawing attributes (SGR).
+ghost use Rattle.std.specs.Prelude.{◌≡◌};
+ghost use Rattle.termview.specs.Step.{with_attr, colour_of, named_colour};
+
+use vt100_forms::attrs::{Attrs, Color};
+use vte_types::attr::Attr;
+use vte_types::color::{Color as AnsiColor, NamedColor};
+
+/// Changes one attribute. Those that a screen doesn't have change nothing, and neither do colours that it doesn't have.
+pub(crate) fn set_attribute(attrs: &mut Attrs, attr: Attr)
+    ensures { attrs.new ≡ with_attr attr attrs.old }
+{
+    match attr {
+        Attr::Reset => *attrs = Attrs::new(),
+        Attr::Bold => attrs.set_bold(),
+        Attr::Dim => attrs.set_dim(),
+        Attr::CancelBoldDim => attrs.set_normal_intensity(),
+        Attr::Italic => attrs.set_italic(true),
+        Attr::CancelItalic => attrs.set_italic(false),
+        Attr::Underline => attrs.set_underline(true),
+        Attr::CancelUnderline => attrs.set_underline(false),
+        Attr::Reverse => attrs.set_inverse(true),
+        Attr::CancelReverse => attrs.set_inverse(false),
+        Attr::Foreground(color) => attrs.fgcolor = color_of(color).unwrap_or(attrs.fgcolor),
+        Attr::Background(color) => attrs.bgcolor = color_of(color).unwrap_or(attrs.bgcolor),
+        _ => {}
+    }
+}
+
+/// The colour on the screen, if it has it.
+fn color_of(color: AnsiColor) -> Option<Color>
+    ensures { result ≡ colour_of color }
+{
+    match color {
+        AnsiColor::Named(named) => named_color(named),
+        AnsiColor::Spec(rgb) => Some(Color::Rgb(rgb.r, rgb.g, rgb.b)),
+        AnsiColor::Indexed(index) => Some(Color::Idx(index)),
+    }
+}
+
+/// One of the 16 colours that have numbers, or the terminal's own.
+fn named_color(named: NamedColor) -> Option<Color>
+    ensures { result ≡ named_colour named }
+{
+    let index = match named {
+        NamedColor::Black => 0,
+        NamedColor::Red => 1,
+        NamedColor::Green => 2,
+        NamedColor::Yellow => 3,
+        NamedColor::Blue => 4,
+        NamedColor::Magenta => 5,
+        NamedColor::Cyan => 6,
+        NamedColor::White => 7,
+        NamedColor::BrightBlack => 8,
+        NamedColor::BrightRed => 9,
+        NamedColor::BrightGreen => 10,
+        NamedColor::BrightYellow => 11,
+        NamedColor::BrightBlue => 12,
+        NamedColor::BrightMagenta => 13,
+        NamedColor::BrightCyan => 14,
+        NamedColor::BrightWhite => 15,
+        NamedColor::Foreground | NamedColor::Background => return Some(Color::Default),
+        _ => return None,
+    };
+    Some(Color::Idx(index))
+}

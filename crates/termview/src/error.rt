@@ -1,0 +1,31 @@
+//! The refusal of what allocates.
+ghost use Rattle.std.specs.Prelude.{◌≡◌};
+ghost use Rattle.termview.specs.declared.error.ViewError.TheVariants.{Memory};
+
+use thiserror::Error;
+use vt100_forms::GridError;
+use vte::ansi::OutOfMemory;
+
+/// Why a view wasn't made.
+#[derive(Clone, Copy, Debug, Eq, Error, PartialEq)]
+pub enum ViewError {
+    /// There was no memory for its cells, or for the bytes that it may have to hold.
+    #[error("out of memory")]
+    Memory,
+}
+
+impl From<GridError> for ViewError {
+    ghost from_gives = { λ _ e. e ≡ Memory };
+
+    fn from(_: GridError) -> ViewError {
+        ViewError::Memory
+    }
+}
+
+impl From<OutOfMemory> for ViewError {
+    ghost from_gives = { λ _ e. e ≡ Memory };
+
+    fn from(_: OutOfMemory) -> ViewError {
+        ViewError::Memory
+    }
+}

@@ -1,0 +1,45 @@
+//! What each call does to a picture.
+ghost use Rattle.std.specs.Prelude.{◌≡◌};
+ghost use Rattle.termview.specs.Picture.{term_of, Becomes};
+ghost use Rattle.termview.specs.Step.{view_step, line_of};
+
+use crate::picture::Picture;
+use vte_types::call::Call;
+use vte_types::clear::{ClearMode, LineClearMode};
+use vte_types::handler::Handler;
+
+/// The calls that a screen's forms are read as do what the forms do. Every other call does nothing.
+impl Handler for Picture {
+    ghost step = { λ p call q. Becomes p q (view_step p.size call (term_of p)) };
+
+    #[tactic(auto, unfolding(crate::specs::Step::view_step))]
+    fn call(&mut self, call: Call<'_>) {
+        match call {
+            Call::Input(c) => self.input(c),
+            Call::Backspace => self.backspace(),
+            Call::CarriageReturn => self.carriage_return(),
+            Call::Linefeed => self.linefeed(),
+            Call::Goto(line, col) => self.goto(row_at(line), col),
+            Call::MoveForward(cols) => self.move_forward(cols),
+            Call::EraseChars(count) => self.erase_chars(count),
+            Call::ClearLine(LineClearMode::Right) => self.erase_right(),
+            Call::ClearScreen(ClearMode::Below) => self.erase_below(),
+            Call::SaveCursorPosition => self.save_cursor(),
+            Call::RestoreCursorPosition => self.restore_cursor(),
+            Call::SetKeypadApplicationMode => self.set_keypad(true),
+            Call::UnsetKeypadApplicationMode => self.set_keypad(false),
+            Call::SetCursorStyle(style) => self.set_style(style),
+            Call::SetPrivateMode(mode) => self.set_private_mode(mode.raw()),
+            Call::UnsetPrivateMode(mode) => self.reset_private_mode(mode.raw()),
+            Call::TerminalAttribute(attr) => self.set_attribute(attr),
+            _ => {}
+        }
+    }
+}
+
+/// The row of a line. A line above the first one counts as the first.
+fn row_at(line: i32) -> usize
+    ensures { result ≡ line_of line }
+{
+    line.max(0) as usize
+}

@@ -1,0 +1,312 @@
+//! The picture of a terminal.
+ghost use Rattle.std.specs.Prelude.{◌≡◌, ℕ, ◌+◌, ◌-◌, ◌<◌, ◌≤◌, ◌==◌, Some, true, false, min, length, IfOk};
+ghost use Rattle.vt100_cells.specs.Cell.{cell_of, drawn_columns};
+ghost use Rattle.std.specs.Option.{option_copied};
+ghost use Rattle.vt100_cells.specs.Cells.{cell_at};
+ghost use Rattle.vt100_rows.specs.Text.{line_text};
+ghost use Rattle.vt100_picture.specs.Term.{blank_term};
+ghost use Rattle.vt100_picture.specs.Apply.{erase, input, print, join, down, wrap, made_to_fit};
+ghost use Rattle.termview.specs.Step.{printed, erase_below, cursor_saved, cursor_restored, flag_above};
+ghost use Rattle.termview.specs.Picture.{term_of, Becomes};
+ghost use Rattle.termview.specs.Seen.{cell_shown, text_shown};
+
+use crate::error::ViewError;
+use std::alloc::Global;
+use std::marker::Model;
+use vt100_cells::{Cell, columns};
+use vt100_forms::attrs::Attrs;
+use vt100_forms::{CursorStyle, MouseProtocolEncoding, MouseProtocolMode, Pos};
+use vt100_rows::Row;
+use vt100_sheet::Size;
+use vt100_sheet::rows_edit::{blank_rows, erase_forward, move_up};
+
+/// What a terminal shows, and what it has saved.
+#[derive(Drop)]
+pub struct Picture {
+    pub(crate) size: Size,
+    pub(crate) rows: Vec<Row>,
+    pub(crate) pos: Pos,
+    pub(crate) saved_pos: Pos,
+    pub(crate) attrs: Attrs,
+    pub(crate) saved_attrs: Attrs,
+    pub(crate) hide_cursor: bool,
+    pub(crate) application_keypad: bool,
+    pub(crate) application_cursor: bool,
+    pub(crate) bracketed_paste: bool,
+    pub(crate) mouse_protocol_mode: MouseProtocolMode,
+    pub(crate) mouse_protocol_encoding: MouseProtocolEncoding,
+    pub(crate) cursor_style: CursorStyle,
+}
+
+impl Model for Picture {
+    ghost use Rattle.termview.specs.Picture.{PictureView};
+    ghost use Rattle.termview.specs.PictureFields.{picture_of, IsPictureFields};
+
+    ghost Value = { PictureView };
+
+    ghost view = { picture_of };
+
+    ghost invariant = { IsPictureFields };
+}
+
+impl Picture {
+    /// A blank one.
+    pub(crate) fn new(alloc: Global, size: Size) -> Result<Self, ViewError>
+        ensures rows { IfOk result (λ p. p.size.rows ≡ size.rows.value) }
+        ensures cols { IfOk result (λ p. p.size.cols ≡ size.cols.value) }
+        ensures blank { IfOk result (λ p. term_of p ≡ blank_term) }
+    {
+        Ok(Picture {
+            size,
+            rows: blank_rows(alloc, size)?,
+            pos: Pos { row: 0, col: 0 },
+            saved_pos: Pos { row: 0, col: 0 },
+            attrs: Attrs::new(),
+            saved_attrs: Attrs::new(),
+            hide_cursor: false,
+            application_keypad: false,
+            application_cursor: false,
+            bracketed_paste: false,
+            mouse_protocol_mode: MouseProtocolMode::None,
+            mouse_protocol_encoding: MouseProtocolEncoding::Default,
+            cursor_style: CursorStyle::Default,
+        })
+    }
+
+    /// Shows one character at the cursor, with the drawing attributes.
+    ///
+    /// It takes as many columns as its Unicode width says (UAX #11), but at most two. Where too few are left it goes to
+    /// the next row. One that takes no column joins the cell to the cursor's left, which never becomes wide by it.
+    /// Dropped are control characters, U+FFFD, what is wider than the screen, and zero-width characters at the first
+    /// column.
+    pub(crate) fn input(&mut self, c: char)
+        ensures { Becomes self.old self.new (printed self.old.size c (term_of self.old)) }
+    {
+        if c == char::REPLACEMENT_CHARACTER {
+            return;
+        }
+        match columns(c) {
+            None => {}
+            Some(0) => self.join(c),
+            Some(columns) => self.print(c, columns),
+        }
+    }
+
+    /// Has a zero-width character join the cell to the cursor's left, if there is one.
+    fn join(&mut self, c: char)
+        requires { drawn_columns c ≡ Some 0 }
+        ensures { Becomes self.old self.new (input self.old.size c (term_of self.old)) }
+    {
+        if self.pos.col > 0 {
+            self.join_left(c);
+        }
+    }
+
+    /// Shows a character of one or two columns, if the screen is as wide.
+    fn print(&mut self, c: char, columns: u16)
+        requires drawn { drawn_columns c ≡ Some columns }
+        requires spacing { 0 < columns }
+        ensures { Becomes self.old self.new (input self.old.size c (term_of self.old)) }
+    {
+        if columns <= self.size.cols() {
+            self.make_room(columns);
+            self.put(c, columns);
+        }
+    }
+
+    /// Puts a zero-width character on the cell to the cursor's left.
+    fn join_left(&mut self, c: char)
+        requires zero_width { drawn_columns c ≡ Some 0 }
+        requires after_some { 0 < self.old.col }
+        ensures { Becomes self.old self.new (join c (term_of self.old)) }
+    {
+        let col = self.pos.col;
+        self.rows[usize::from(self.pos.row)].join_plain(col, c);
+    }
+
+    /// Puts a character of one or two columns at the cursor.
+    fn put(&mut self, c: char, columns: u16)
+        requires drawn { drawn_columns c ≡ Some columns }
+        requires spacing { 0 < columns }
+        requires fits { self.old.col + columns ≤ self.old.size.cols }
+        ensures { Becomes self.old self.new (print self.old.size (cell_of c self.old.attrs) (term_of self.old)) }
+    {
+        let col = self.pos.col;
+        self.rows[usize::from(self.pos.row)].put(col, c, columns, self.attrs);
+        self.pos.col = col + columns;
+    }
+
+    /// Has the cursor stand where so many columns are left.
+    fn make_room(&mut self, columns: u16)
+        requires { columns ≤ self.old.size.cols }
+        ensures picture { Becomes self.old self.new (made_to_fit self.old.size columns (term_of self.old)) }
+        ensures fits { self.new.col + columns ≤ self.old.size.cols }
+    {
+        if self.pos.col > self.size.cols() - columns {
+            self.wrap();
+        }
+    }
+
+    /// Moves the cursor to the start of the next row. The row that it leaves goes on there if it shows something in its
+    /// last column.
+    fn wrap(&mut self)
+        ensures picture { Becomes self.old self.new (wrap self.old.size (term_of self.old)) }
+        ensures start { self.new.col ≡ 0 }
+    {
+        self.pos.col = 0;
+        self.linefeed();
+        // On a screen of one row the row that the cursor left is gone.
+        if self.pos.row > 0 {
+            self.flag_row_above();
+        }
+    }
+
+    /// Has the row above the cursor go on in the cursor's row if it shows something in its last column.
+    fn flag_row_above(&mut self)
+        requires { 0 < self.old.row }
+        ensures { Becomes self.old self.new (flag_above self.old.size (term_of self.old)) }
+    {
+        self.rows[usize::from(self.pos.row) - 1].wrap(true);
+    }
+
+    /// Moves the cursor down a row. In the last one the rows go up instead, and a blank one comes.
+    pub(crate) fn linefeed(&mut self)
+        ensures { Becomes self.old self.new (down self.old.size (term_of self.old)) }
+    {
+        if self.pos.row + 1 < self.size.rows() {
+            self.pos.row += 1;
+        } else {
+            self.scroll();
+        }
+    }
+
+    /// Moves the rows up by one, and makes the last one blank.
+    fn scroll(&mut self)
+        requires { self.old.size.rows ≤ self.old.row + 1 }
+        ensures { Becomes self.old self.new (down self.old.size (term_of self.old)) }
+    {
+        let end = self.rows.len();
+        move_up(&mut self.rows, 0, end, 1, self.size.cols());
+    }
+
+    /// Moves the cursor to a place, kept on the screen.
+    pub(crate) fn goto(&mut self, row: usize, col: usize)
+        ensures { Becomes self.old self.new (record (term_of self.old) {
+          row = min row (self.old.size.rows - 1);
+          col = min col (self.old.size.cols - 1);
+        }) }
+    {
+        self.pos = Pos {
+            row: at_most(row, self.size.rows() - 1),
+            col: at_most(col, self.size.cols() - 1),
+        };
+    }
+
+    /// Moves the cursor to the right, at most to the last column.
+    pub(crate) fn move_forward(&mut self, count: usize)
+        ensures { Becomes self.old self.new (record (term_of self.old) { col = min (self.old.col + count) (self.old.size.cols - 1) }) }
+    {
+        let col = usize::from(self.pos.col).saturating_add(count);
+        self.pos.col = at_most(col, self.size.cols() - 1);
+    }
+
+    /// Empties cells from the cursor on, as many as there are up to the row's end.
+    pub(crate) fn erase_chars(&mut self, count: usize)
+        ensures { Becomes self.old self.new (erase self.old.size (min (self.old.col + count) self.old.size.cols) (term_of self.old)) }
+    {
+        let end = usize::from(self.pos.col).saturating_add(count);
+        self.erase_up_to(at_most(end, self.size.cols()));
+    }
+
+    /// Empties the columns from the cursor up to `end`.
+    fn erase_up_to(&mut self, end: u16)
+        requires { end ≤ self.old.size.cols }
+        ensures { Becomes self.old self.new (erase self.old.size end (term_of self.old)) }
+    {
+        let start = self.pos.col;
+        self.rows[usize::from(self.pos.row)].erase_range(start..end, self.attrs);
+    }
+
+    /// Empties the cursor's row from the cursor on.
+    pub(crate) fn erase_right(&mut self)
+        ensures { Becomes self.old self.new (erase self.old.size self.old.size.cols (term_of self.old)) }
+    {
+        self.erase_up_to(self.size.cols());
+    }
+
+    /// The same, and empties every row below.
+    pub(crate) fn erase_below(&mut self)
+        ensures { Becomes self.old self.new (erase_below self.old.size (term_of self.old)) }
+    {
+        let row = usize::from(self.pos.row);
+        let width = self.size.cols();
+        erase_forward(&mut self.rows, row, self.pos.col, width, self.attrs);
+    }
+
+    /// Moves the cursor to the left.
+    pub(crate) fn backspace(&mut self)
+        ensures { Becomes self.old self.new (record (term_of self.old) { col = self.old.col - 1 }) }
+    {
+        self.pos.col = self.pos.col.saturating_sub(1);
+    }
+
+    /// Moves the cursor to the first column.
+    pub(crate) fn carriage_return(&mut self)
+        ensures { Becomes self.old self.new (record (term_of self.old) { col = 0 }) }
+    {
+        self.pos.col = 0;
+    }
+
+    /// Saves the cursor and the drawing attributes.
+    pub(crate) fn save_cursor(&mut self)
+        ensures { Becomes self.old self.new (cursor_saved (term_of self.old)) }
+    {
+        self.saved_pos = self.pos;
+        self.saved_attrs = self.attrs;
+    }
+
+    /// Brings back what was saved last.
+    pub(crate) fn restore_cursor(&mut self)
+        ensures { Becomes self.old self.new (cursor_restored (term_of self.old)) }
+    {
+        self.pos = self.saved_pos;
+        self.attrs = self.saved_attrs;
+    }
+}
+
+/// What it shows.
+impl Picture {
+    /// The cell at a place, if there is one.
+    pub(crate) fn cell(&self, row: u16, col: u16) -> Option<&Cell>
+        ensures { option_copied result ≡ cell_shown self.now.size (term_of self.now) row col }
+    {
+        self.rows.get(usize::from(row))?.get(col)
+    }
+
+    /// Whether the text of a row goes on in the next one.
+    pub(crate) fn row_wrapped(&self, row: u16) -> bool
+        ensures { result ≡ (term_of self.now).wrapped row }
+    {
+        match self.rows.get(usize::from(row)) {
+            Some(row) => row.wrapped(),
+            None => false,
+        }
+    }
+
+    /// The cells of a row; none past the last.
+    pub(crate) fn row_cells(&self, row: u16) -> &[Cell]
+        ensures { line_text (cell_at result.now) 0 (length result.now) ≡ text_shown self.now.size (term_of self.now) row }
+    {
+        match self.rows.get(usize::from(row)) {
+            Some(row) => row.cells(),
+            None => &[],
+        }
+    }
+}
+
+/// The number, or the bound where it is greater.
+fn at_most(n: usize, bound: u16) -> u16
+    ensures { result ≡ min n bound }
+{
+    n.min(usize::from(bound)) as u16
+}

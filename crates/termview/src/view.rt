@@ -1,0 +1,232 @@
+//! A far terminal.
+ghost use Rattle.std.specs.Prelude.{◌≡◌, ℕ, List, [], Option, Some, None, false, length, IfOk, OnErr, OnOk, Err};
+ghost use Rattle.std.specs.Prelude.{encode_utf8_all, ◌++◌, ◌≤◌};
+ghost use Rattle.std.specs.Option.{option_copied};
+ghost use Rattle.std.specs.Io.KnownBytes.{Appends};
+ghost use Rattle.vt100_forms.specs.Attrs.{is_bold, is_dim, is_italic, is_underlined, is_inverse};
+ghost use Rattle.termview.specs.Seen.{cell_shown, text_shown};
+ghost use Rattle.termview.specs.Writing.{TakesPart};
+ghost use Rattle.termview.specs.declared.error.ViewError.TheVariants.{Memory};
+
+use crate::error::ViewError;
+use crate::picture::Picture;
+use crate::text::write_cells;
+use std::alloc::Global;
+use std::io;
+use std::io::Write;
+use std::num::NonZeroU16;
+use vt100_cells::Cell;
+use vt100_forms::{Color, CursorStyle, MouseProtocolEncoding, MouseProtocolMode};
+use vt100_sheet::Size;
+use vte::ansi::{Processor, Timeout};
+
+/// A terminal at the far end of a line: it reads what a screen's writers send, in any pieces, and shows the picture that
+/// they meant.
+///
+/// The contracts speak of every past: the bytes that the view has parsed and those that it holds.
+#[derive(Drop)]
+pub struct View<T: Timeout> {
+    processor: Processor<T, Global>,
+    picture: Picture,
+}
+
+impl<T: Timeout + Drop> View<T> {
+    ghost use Rattle.vte.specs.Timeout.{IsExact, Awaits};
+    ghost use Rattle.vte.specs.Hold.{held_of};
+    ghost use Rattle.termview.specs.Standing.{size_of, shown_by, timeout_of, StandsAt, HoldsAt, Advanced, Emptied};
+    ghost use Rattle.termview.specs.Standing.{Taken};
+
+    /// A view of this size that shows nothing. All that it will need is reserved, so no later call is refused for
+    /// memory. The timeout says whether an update is open, so it is not to be pending yet.
+    pub fn new(
+        alloc: Global,
+        rows: NonZeroU16,
+        cols: NonZeroU16,
+        timeout: T,
+    ) -> Result<Self, ViewError>
+        ensures stands { IfOk result (λ v. StandsAt v [] []) }
+        ensures exact { IfOk result (λ v. Awaits T.answers timeout false → HoldsAt T.answers v [] None) }
+        ensures rows { IfOk result (λ v. (size_of v).rows ≡ rows.value) }
+        ensures cols { IfOk result (λ v. (size_of v).cols ≡ cols.value) }
+        ensures timeout { IfOk result (λ v. timeout_of v ≡ timeout) }
+        ensures memory { OnErr result (result ≡ Err Memory) }
+    {
+        let processor = Processor::new(alloc, timeout)?;
+        let picture = Picture::new(alloc, Size { rows, cols })?;
+        Ok(View { processor, picture })
+    }
+
+    /// Reads the next piece of the stream.
+    pub fn advance(&mut self, bytes: &[u8])
+        ensures advanced { (parsed held : List ℕ) → StandsAt self.old parsed held
+            → Advanced T.sets T.clears T.answers self.old parsed held bytes.now self.new }
+        ensures exact { (parsed : List ℕ) (hold : Option (List ℕ)) → IsExact T.sets T.clears T.answers
+            → HoldsAt T.answers self.old parsed hold
+            → Taken T.sets T.clears T.answers self.old parsed hold bytes.now self.new }
+    {
+        self.processor.advance(&mut self.picture, bytes);
+    }
+
+    /// Parses what is held, and closes the update.
+    pub fn stop_sync(&mut self)
+        ensures emptied { (parsed held : List ℕ) → StandsAt self.old parsed held
+            → Emptied T.sets T.clears self.old parsed held self.new }
+        ensures exact { (parsed : List ℕ) (hold : Option (List ℕ)) → IsExact T.sets T.clears T.answers
+            → HoldsAt T.answers self.old parsed hold
+            → HoldsAt T.answers self.new (parsed ++ held_of hold) None }
+    {
+        self.processor.stop_sync(&mut self.picture);
+    }
+
+    /// How many bytes are held: at most 2,097,150.
+    pub fn sync_bytes_count(&self) -> usize
+        ensures count { (parsed held : List ℕ) → StandsAt self.now parsed held → result ≡ length held }
+        ensures most { result ≤ 2_097_150 }
+    {
+        self.processor.sync_bytes_count()
+    }
+}
+
+/// What the view shows.
+impl<T: Timeout> View<T> {
+    ghost use Rattle.termview.specs.Standing.{size_of, shown_by};
+
+    /// How many rows and columns it has.
+    pub fn size(&self) -> (NonZeroU16, NonZeroU16)
+        ensures rows { result.0.value ≡ (size_of self.now).rows }
+        ensures cols { result.1.value ≡ (size_of self.now).cols }
+    {
+        (self.picture.size.rows, self.picture.size.cols)
+    }
+
+    /// The cell at a place, counted from 0, if there is one.
+    pub fn cell(&self, row: u16, col: u16) -> Option<&Cell>
+        ensures { option_copied result ≡ cell_shown (size_of self.now) (shown_by self.now) row col }
+    {
+        self.picture.cell(row, col)
+    }
+
+    /// Whether the text of the row, counted from 0, goes on in the next one.
+    pub fn row_wrapped(&self, row: u16) -> bool
+        ensures { result ≡ (shown_by self.now).wrapped row }
+    {
+        self.picture.row_wrapped(row)
+    }
+
+    /// The cursor's row and column, counted from 0. The column is the number of columns where the next character goes to
+    /// the next row.
+    pub fn cursor_position(&self) -> (u16, u16)
+        ensures { result ≡ ((shown_by self.now).row, (shown_by self.now).col) }
+    {
+        (self.picture.pos.row, self.picture.pos.col)
+    }
+
+    /// Writes the row's text, as UTF-8 and without the empty columns at its end; nothing past the last row. Any fault of
+    /// a write ends it, and so does a write that takes nothing; what was taken by then stays written.
+    pub fn row_text<W: Write>(&self, row: u16, to: &mut W) -> io::Result<()>
+        ensures whole { OnOk result (Appends (W.contents to.old) (W.contents to.new)
+            (encode_utf8_all (text_shown (size_of self.now) (shown_by self.now) row))) }
+        ensures part { OnErr result (TakesPart (W.contents to.old) (W.contents to.new)
+            (encode_utf8_all (text_shown (size_of self.now) (shown_by self.now) row))) }
+    {
+        write_cells(self.picture.row_cells(row), to)
+    }
+
+    /// Whether the cursor is hidden.
+    pub fn hide_cursor(&self) -> bool
+        ensures { result ≡ (shown_by self.now).hidden }
+    {
+        self.picture.hide_cursor
+    }
+
+    /// Whether the keypad sends application sequences.
+    pub fn application_keypad(&self) -> bool
+        ensures { result ≡ (shown_by self.now).modes.keypad }
+    {
+        self.picture.application_keypad
+    }
+
+    /// Whether the cursor keys send application sequences.
+    pub fn application_cursor(&self) -> bool
+        ensures { result ≡ (shown_by self.now).modes.cursor_keys }
+    {
+        self.picture.application_cursor
+    }
+
+    /// Whether pasted text is marked as such.
+    pub fn bracketed_paste(&self) -> bool
+        ensures { result ≡ (shown_by self.now).modes.paste }
+    {
+        self.picture.bracketed_paste
+    }
+
+    /// Which events of the mouse a program is told of.
+    pub fn mouse_protocol_mode(&self) -> MouseProtocolMode
+        ensures { result ≡ (shown_by self.now).modes.mouse }
+    {
+        self.picture.mouse_protocol_mode
+    }
+
+    /// How they are told.
+    pub fn mouse_protocol_encoding(&self) -> MouseProtocolEncoding
+        ensures { result ≡ (shown_by self.now).modes.encoding }
+    {
+        self.picture.mouse_protocol_encoding
+    }
+
+    /// How the cursor looks.
+    pub fn cursor_style(&self) -> CursorStyle
+        ensures { result ≡ (shown_by self.now).style }
+    {
+        self.picture.cursor_style
+    }
+
+    /// The colour of the text that comes next.
+    pub fn fgcolor(&self) -> Color
+        ensures { result ≡ (shown_by self.now).attrs.fgcolor }
+    {
+        self.picture.attrs.fgcolor
+    }
+
+    /// The colour of the background of the text that comes next.
+    pub fn bgcolor(&self) -> Color
+        ensures { result ≡ (shown_by self.now).attrs.bgcolor }
+    {
+        self.picture.attrs.bgcolor
+    }
+
+    /// Whether the text that comes next is bold.
+    pub fn bold(&self) -> bool
+        ensures { result ≡ is_bold (shown_by self.now).attrs }
+    {
+        self.picture.attrs.bold()
+    }
+
+    /// Whether it is dim.
+    pub fn dim(&self) -> bool
+        ensures { result ≡ is_dim (shown_by self.now).attrs }
+    {
+        self.picture.attrs.dim()
+    }
+
+    /// Whether it is italic.
+    pub fn italic(&self) -> bool
+        ensures { result ≡ is_italic (shown_by self.now).attrs }
+    {
+        self.picture.attrs.italic()
+    }
+
+    /// Whether it is underlined.
+    pub fn underline(&self) -> bool
+        ensures { result ≡ is_underlined (shown_by self.now).attrs }
+    {
+        self.picture.attrs.underline()
+    }
+
+    /// Whether its foreground and background are exchanged.
+    pub fn inverse(&self) -> bool
+        ensures { result ≡ is_inverse (shown_by self.now).attrs }
+    {
+        self.picture.attrs.inverse()
+    }
+}
