@@ -15,7 +15,6 @@ use Rattle.vt100_picture.specs.Term.{Size, Modes, Term}
 use Rattle.vt100_picture.specs.Apply.{with_line, erase, print, join, down, wrap, made_to_fit, is_dropped, input, inputs}
 use Rattle.vt100_picture.specs.Apply.{switched, apply, run}
 use Rattle.vt100_read.specs.Events.{events_of, events_of_all}
-use Rattle.vt100_read.specs.Laws.{IsReadable}
 use Rattle.vt100_read.proofs.ReadForms.{list-read}
 use Rattle.vt100_read.specs.Laws.{IsSentForm}
 use Rattle.vt100_read.proofs.SentTexts.{forms-readable}
