@@ -114,7 +114,7 @@ alike z (Style to from) t u h = record {
 }
 alike z (Sgr c) t u h = record { modes = h.modes; style = h.style }
 
-run-alike : (z : Size) (fs : List Form) (t u : Term) → SameModes t u → SameModes (run z fs t) (run z fs u)
+pub run-alike : (z : Size) (fs : List Form) (t u : Term) → SameModes t u → SameModes (run z fs t) (run z fs u)
 run-alike z [] t u h = h
 run-alike z (f ∷ fs) t u h = run-alike z fs (apply z f t) (apply z f u) (alike z f t u h)
 
