@@ -1,16 +1,13 @@
 -- Blank rows, and rows that were erased up to the screen's end, as the lines of a terminal.
-use Rattle.std.proofs.Common.{◌≡◌, ℕ, ◌+◌, ◌-◌, ◌<◌, ◌≤◌, ◌==◌, Bool}
-use Rattle.std.proofs.Common.{true, false, cond, not, ◌&&◌, nat_lt, List, length}
-use Rattle.std.proofs.Common.{set, replicate, sym, refl, ap, ◌∙◌, arith, ⊎_elim, length-set}
+use Rattle.std.proofs.Common.{◌≡◌, ℕ, ◌<◌, ◌≤◌, ◌==◌, false, cond, ◌&&◌, nat_lt, List, length}
+use Rattle.std.proofs.Common.{set, replicate, sym, ap, ◌∙◌, arith, ⊎_elim}
 use Rattle.std.proofs.lemmas.Bool.{cond_both, cond-true, cond-false, lt-ltb, le-ltb, eqb-true, cases_lt}
 use Rattle.std.proofs.lemmas.List.{get_or-replicate, length-replicate}
 use mathlib.Core.Path.{fun_ext}
-use Rattle.vt100_forms.specs.declared.attrs.Attrs.{Attrs}
-use Rattle.vt100_cells.specs.Cell.{CellView, default_cell, empty_cell}
+use Rattle.vt100_cells.specs.Cell.{default_cell, empty_cell}
 use Rattle.vt100_cells.specs.Cells.{cell_at}
 use Rattle.vt100_cells.proofs.ListLemmas.{cell_at_past, cell_at-replicate}
 use Rattle.vt100_rows.specs.Row.{RowView, blank_row, cleared_row, wiped_row}
-use Rattle.vt100_picture.specs.Position.{update}
 use Rattle.vt100_picture.specs.Term.{Size, Term}
 use Rattle.vt100_picture.specs.Apply.{with_line, erase}
 use Rattle.vt100_sheet.specs.Sheet.{row_at, rows_by_position, erased_forward_at}

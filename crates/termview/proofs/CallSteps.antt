@@ -1,5 +1,5 @@
 -- A view's calls as steps of a terminal.
-use Rattle.std.proofs.Common.{◌≡◌, ℕ, List, [], ◌∷◌, ◌++◌, None, sym, refl, ap, subst, ◌∙◌}
+use Rattle.std.proofs.Common.{◌≡◌, ℕ, List, [], ◌∷◌, ◌++◌, None, sym, refl, ap, ◌∙◌}
 use Rattle.vte_core.specs.Shapes.{events}
 use Rattle.vte_core.proofs.AddedLemmas.{added-first}
 use Rattle.vte_types.specs.Call.{Call, Calls}

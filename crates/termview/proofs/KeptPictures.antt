@@ -1,7 +1,6 @@
 -- What is true of a picture stays true.
-use Rattle.std.proofs.Common.{◌≡◌, ℕ, ◌+◌, ◌-◌, ◌<◌, ◌≤◌, ◌==◌, Bool}
-use Rattle.std.proofs.Common.{true, false, cond, not, ◌&&◌, nat_lt, List, length}
-use Rattle.std.proofs.Common.{set, Some, sym, refl, ap, ◌∙◌, arith, ⊎_elim, length-set}
+use Rattle.std.proofs.Common.{◌≡◌, ℕ, ◌+◌, ◌-◌, ◌<◌, ◌≤◌, ◌==◌, true, false, cond, not, ◌&&◌, nat_lt, List, length}
+use Rattle.std.proofs.Common.{set, Some, refl, ap, ◌∙◌, arith, length-set}
 use Rattle.std.specs.Char.{IsScalar}
 use Rattle.vt100_forms.specs.declared.attrs.Attrs.{Attrs}
 use Rattle.std.proofs.lemmas.List.{length-replicate}
@@ -17,7 +16,7 @@ use Rattle.vt100_sheet.specs.Sheet.{row_at, rows_by_position, moved_up, IsRowOf,
 use Rattle.vt100_sheet.proofs.SheetLemmas.{IsSheet-with_row, IsSheet-by_position, IsRowOf-cond, wrapped-cond}
 use Rattle.vt100_sheet.proofs.SheetLemmas.{length-rows_by_position}
 use Rattle.vt100_sheet.proofs.MoveLemmas.{IsSheet-moved_up}
-use Rattle.termview.specs.Picture.{PictureView, term_of, IsPicture, Becomes}
+use Rattle.termview.specs.Picture.{PictureView, IsPicture, Becomes}
 use Rattle.termview.proofs.RowTerms.{cursor_row, cursor_row-is, here}
 
 pub IsPicture-at : (p q : PictureView) → p ≡ q → IsPicture q → IsPicture p

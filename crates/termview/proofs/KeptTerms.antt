@@ -24,7 +24,6 @@ use Rattle.vt100_picture.proofs.TermLemmas.{IsTerm-moved, IsTerm-set, IsTerm-dow
 use Rattle.vt100_picture.proofs.TermLemmas.{IsTerm-apply}
 use Rattle.termview.specs.Step.{printed, erase_below, with_style, style_of, with_attr, by_row, set_rows, reset_rows}
 use Rattle.termview.specs.Step.{line_of, view_step, view_steps}
-use Rattle.termview.specs.Seen.{seen}
 use Rattle.termview.specs.Laws.{EachCallKeepsTerminals, EachStreamShowsATerminal}
 
 -- ---- erasing up to the screen's end

@@ -1,20 +1,16 @@
 -- What a view shows of marks and frames.
-use Rattle.std.proofs.Common.{◌≡◌, ℕ, ◌+◌, ◌<◌, ◌≤◌, List, [], ◌∷◌, ◌++◌, Option, None, map, take, length, sym, refl}
+use Rattle.std.proofs.Common.{◌≡◌, ℕ, ◌<◌, ◌≤◌, List, [], ◌∷◌, ◌++◌, take, sym}
 use Rattle.std.proofs.Common.{ap, subst, ◌∙◌, arith, ⊎_elim, append_assoc}
-use Rattle.std.specs.List.{All, AllByRecursion, concat}
+use Rattle.std.specs.List.{AllByRecursion, concat}
 use Rattle.std.proofs.lemmas.Bool.{cases_lt}
-use Rattle.std.proofs.lemmas.List.{append-nil}
 use Rattle.std.proofs.lemmas.List.Elements.{recursion_from_All}
 use Rattle.vte_core.specs.Shapes.{events}
 use Rattle.vte_core.specs.Ground.{AtGround}
 use Rattle.vte_core.proofs.GroundLemmas.{ground-added, ground-joins}
-use Rattle.vte_types.specs.Call.{Call}
 use Rattle.vte.specs.Performed.{calls_of_all, last_after_all}
 use Rattle.vte.specs.Stretch.{last_of, calls_from}
 use Rattle.vte.specs.Marks.{start_mark, end_mark}
-use Rattle.vte.specs.Hold.{limit}
-use Rattle.vte.specs.Moves.{Move, Gives, given}
-use Rattle.vte.specs.Frames.{IsFrame, IsPart, Leads}
+use Rattle.vte.specs.Frames.{IsFrame}
 use Rattle.vte.proofs.HoldLemmas.{last_of-append}
 use Rattle.vte.proofs.FrameMarks.{begun_calls, start_calls, end_calls, ground_start}
 use Rattle.vte.proofs.FrameMoves.{whole_are_parsed, never_torn, mark_begun, frames_ground}
@@ -22,7 +18,7 @@ use Rattle.vt100_picture.specs.Term.{Size}
 use Rattle.termview.specs.Step.{view_step, view_steps}
 use Rattle.termview.specs.Seen.{seen}
 use Rattle.termview.specs.Laws.{MoreBytesStep, MarksShowNothing, FramesShowTheirBodies, WholeFramesAreShown}
-use Rattle.termview.specs.Laws.{ShowsWhole, NoFrameIsTorn}
+use Rattle.termview.specs.Laws.{NoFrameIsTorn}
 use Rattle.termview.proofs.CallSteps.{seen-append}
 
 pub more_bytes : MoreBytesStep

@@ -7,4 +7,5 @@ pub mod WriteLemmas
 pub mod PictureSteps
 pub mod LawLemmas
 pub mod KeptTerms
-pub mod FormLemmas
+pub mod ViewReads
+pub mod Spellings

@@ -1,9 +1,7 @@
 -- A picture's steps, put together.
-use Rattle.std.proofs.Common.{◌≡◌, ℕ, ◌+◌, ◌-◌, ◌<◌, ◌≤◌, ◌==◌, Bool}
-use Rattle.std.proofs.Common.{true, false, cond, not, ◌&&◌, ◌||◌, nat_lt, nat_le}
-use Rattle.std.proofs.Common.{Option, Some, None, sym, refl, ap, ◌∙◌, arith, ⊎_elim}
-use Rattle.std.proofs.lemmas.Bool.{cond_both, cond-true, cond-false, lt-ltb, le-ltb, ne_eqb, eq-eqb, false≢true}
-use Rattle.vt100_forms.specs.declared.attrs.Attrs.{Attrs}
+use Rattle.std.proofs.Common.{◌≡◌, ℕ, ◌+◌, ◌<◌, ◌≤◌, ◌==◌, Bool, true, false, cond, ◌&&◌, ◌||◌, nat_lt, nat_le}
+use Rattle.std.proofs.Common.{Some, None, sym, refl, ap, ◌∙◌, arith}
+use Rattle.std.proofs.lemmas.Bool.{cond_both, cond-true, cond-false, lt-ltb, le-ltb, ne_eqb, eq-eqb}
 use Rattle.vt100_cells.specs.Cell.{cell_of, columns_of, is_undrawable, drawn_columns}
 use Rattle.vt100_cells.proofs.WidthLemmas.{drawn-is}
 use Rattle.vt100_picture.specs.Term.{Size, Term}

@@ -1,17 +1,15 @@
 -- Changed rows as the lines of a terminal.
-use Rattle.std.proofs.Common.{◌≡◌, ℕ, ◌+◌, ◌-◌, ◌<◌, ◌≤◌, ◌==◌, Bool}
-use Rattle.std.proofs.Common.{true, false, cond, not, ◌&&◌, nat_lt, List, length}
+use Rattle.std.proofs.Common.{◌≡◌, ℕ, ◌+◌, ◌-◌, ◌<◌, ◌≤◌, ◌==◌, Bool, true, false, cond, not, ◌&&◌, nat_lt, length}
 use Rattle.std.specs.Prelude.{unwrap_or}
 use Rattle.unicode_width.specs.Width.{char_width}
 use Rattle.std.proofs.lemmas.Bool.Decides.{nat_tests}
-use Rattle.std.proofs.Common.{min, set, sym, refl, ap, ◌∙◌, arith, ⊎_elim, length-set}
-use Rattle.std.proofs.lemmas.Bool.{cond_both, cond-true, cond-false, lt-ltb, le-ltb, ne_eqb, eqb-true, eq-eqb}
-use Rattle.std.proofs.lemmas.Bool.{cases_eq, cases_lt}
+use Rattle.std.proofs.Common.{min, set, sym, refl, ap, ◌∙◌, arith}
+use Rattle.std.proofs.lemmas.Bool.{cond_both, cond-true, cond-false, lt-ltb, le-ltb, eqb-true}
 use mathlib.Core.Path.{fun_ext}
 use Rattle.vt100_forms.specs.declared.attrs.Attrs.{Attrs}
 use Rattle.vt100_cells.specs.Cell.{CellView, appended_plain, default_cell, is_filled, cell_of, columns_of}
 use Rattle.vt100_cells.specs.Cells.{cell_at}
-use Rattle.vt100_cells.specs.Line.{span_of, put, put_unflags, base_col, wiped, wipe_unflags}
+use Rattle.vt100_cells.specs.Line.{span_of, put, put_unflags, base_col, wipe_unflags}
 use Rattle.vt100_cells.specs.Line.{update as changed}
 use Rattle.vt100_cells.proofs.ListLemmas.{Bounded-row, cell_at-whole}
 use Rattle.vt100_cells.proofs.JoinedCells.{base_col-within, Bounded-update}
@@ -23,7 +21,7 @@ use Rattle.vt100_picture.specs.Apply.{with_line, print, join, erase, down}
 use Rattle.vt100_sheet.specs.Sheet.{row_at, rows_by_position, moved_up, IsRowOf}
 use Rattle.vt100_sheet.specs.Picture.{lines_of, wraps_of}
 use Rattle.vt100_sheet.proofs.PictureLemmas.{lines-set, wraps-set, lines-up, wraps-up}
-use Rattle.termview.specs.Picture.{PictureView, term_of, IsPicture, Becomes}
+use Rattle.termview.specs.Picture.{PictureView, term_of, IsPicture}
 use Rattle.termview.specs.Step.{flag_above}
 
 -- ---- another row at the cursor

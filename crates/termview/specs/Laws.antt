@@ -1,6 +1,6 @@
 -- Laws of what a view shows.
 use Rattle.std.specs.Prelude.{◌≡◌, ℕ, ◌<◌, ◌≤◌, List, ◌++◌, Option, None, map, take, length}
-use Rattle.std.specs.List.{All, concat}
+use Rattle.std.specs.List.{All, AllByRecursion, concat}
 use Rattle.vte_core.specs.Shapes.{events}
 use Rattle.vte_core.specs.Ground.{AtGround}
 use Rattle.vte_types.specs.Call.{Call}
@@ -10,7 +10,11 @@ use Rattle.vte.specs.Marks.{start_mark, end_mark}
 use Rattle.vte.specs.Hold.{limit}
 use Rattle.vte.specs.Moves.{Move, Gives, given}
 use Rattle.vte.specs.Frames.{IsFrame, IsPart, Leads}
+use Rattle.vt100_forms.specs.Form.{Form, spell}
 use Rattle.vt100_picture.specs.Term.{Size, Term, IsTerm}
+use Rattle.vt100_picture.specs.Apply.{run}
+use Rattle.vt100_read.specs.Laws.{IsSentForm}
+use Rattle.vte_read.specs.Terminals.{IsSmall}
 use Rattle.termview.specs.Step.{view_step, view_steps}
 use Rattle.termview.specs.Seen.{seen}
 
@@ -63,3 +67,10 @@ EachCallKeepsTerminals = (z : Size) (c : Call) (t : Term) → IsTerm z t → IsT
 -- and is true whatever a stream holds
 abbrev pub EachStreamShowsATerminal : Type 0
 EachStreamShowsATerminal = (z : Size) (bytes : List ℕ) → 0 < z.rows → 0 < z.cols → IsTerm z (seen z bytes)
+
+-- the bytes of forms do what the forms do, U+FE0F in their texts included, after any past that ends at ground; and it
+-- ends at ground again
+abbrev pub EachSpellingIsShown : Type 0
+EachSpellingIsShown = (z : Size) (past : List ℕ) (fs : List Form) → 0 < z.rows → 0 < z.cols → IsSmall z
+    → AtGround 1024 past → AllByRecursion IsSentForm fs
+    → (seen z (past ++ spell fs) ≡ run z fs (seen z past)) × AtGround 1024 (past ++ spell fs)

@@ -6,4 +6,3 @@ pub mod Timeout
 pub mod Standing
 pub mod Writing
 pub mod Laws
-pub mod Forms

@@ -13,7 +13,6 @@ use Rattle.vte_types.specs.declared.color.NamedColor.TheVariants as n
 use Rattle.vte_types.specs.declared.cursor.CursorShape.{CursorShape}
 use Rattle.vte_types.specs.declared.cursor.CursorShape.TheVariants as shape
 use Rattle.vte_types.specs.declared.cursor.CursorStyle.{CursorStyle as ShapeAndBlink}
-use Rattle.vte_types.specs.declared.mode.PrivateMode.{PrivateMode}
 use Rattle.vte_types.specs.Call as call
 use Rattle.vte_types.specs.Call.{Call}
 use Rattle.vte_types.specs.Lookup.{lookup}

@@ -1,7 +1,7 @@
 //! Laws of what a view shows, each as the contract of a function that does nothing.
-ghost use Rattle.termview.specs.Forms.{EachFormIsItsCalls};
 ghost use Rattle.termview.specs.Laws.{MoreBytesStep, MarksShowNothing, FramesShowTheirBodies, WholeFramesAreShown};
 ghost use Rattle.termview.specs.Laws.{NoFrameIsTorn, EachCallKeepsTerminals, EachStreamShowsATerminal};
+ghost use Rattle.termview.specs.Laws.{EachSpellingIsShown};
 
 pub use crate::until_cleared::until_cleared_is_exact;
 
@@ -36,7 +36,8 @@ pub fn views_show_terminals()
     ensures streams { EachStreamShowsATerminal }
 {}
 
-/// The calls that a screen's form is read as do what the form does, on every screen of at most 65,535 rows and columns.
-pub fn forms_are_their_calls()
-    ensures { EachFormIsItsCalls }
+/// After any bytes that leave nothing unfinished, the bytes of forms do what the forms do, on every screen of at most
+/// 65,535 rows and columns; and they leave nothing unfinished.
+pub fn spellings_are_shown()
+    ensures { EachSpellingIsShown }
 {}

@@ -8,3 +8,4 @@ pub mod Texts
 pub mod Playing
 pub mod SentTexts
 pub mod SentPlaying
+pub mod FreshStates

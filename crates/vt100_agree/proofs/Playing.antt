@@ -86,7 +86,7 @@ form-sent (Encoding to from) h = h
 form-sent (Style to from) h = h
 form-sent (Sgr c) h = h
 
-forms-sent : (fs : List Form) → AllByRecursion IsForm fs → AllByRecursion IsSentForm fs
+pub forms-sent : (fs : List Form) → AllByRecursion IsForm fs → AllByRecursion IsSentForm fs
 forms-sent [] h = tt
 forms-sent (f ∷ fs) h = (form-sent f h.0, forms-sent fs h.1)
 

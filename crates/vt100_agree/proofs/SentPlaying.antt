@@ -15,7 +15,6 @@ use Rattle.vt100_picture.specs.Term.{Size, Modes, Term}
 use Rattle.vt100_picture.specs.Apply.{with_line, erase, print, join, down, wrap, made_to_fit, is_dropped, input, inputs}
 use Rattle.vt100_picture.specs.Apply.{switched, apply, run}
 use Rattle.vt100_read.specs.Events.{events_of, events_of_all}
-use Rattle.vt100_read.specs.Laws.{IsReadable}
 use Rattle.vt100_read.proofs.ReadForms.{list-read}
 use Rattle.vt100_read.specs.Laws.{IsSentForm}
 use Rattle.vt100_read.proofs.SentTexts.{forms-readable}
@@ -115,7 +114,7 @@ alike z (Style to from) t u h = record {
 }
 alike z (Sgr c) t u h = record { modes = h.modes; style = h.style }
 
-run-alike : (z : Size) (fs : List Form) (t u : Term) → SameModes t u → SameModes (run z fs t) (run z fs u)
+pub run-alike : (z : Size) (fs : List Form) (t u : Term) → SameModes t u → SameModes (run z fs t) (run z fs u)
 run-alike z [] t u h = h
 run-alike z (f ∷ fs) t u h = run-alike z fs (apply z f t) (apply z f u) (alike z f t u h)
 

@@ -1,15 +1,15 @@
 -- What forms make of a terminal's state.
-use Rattle.std.specs.Prelude.{ℕ, ◌≡◌, true, List, [], ◌∷◌, ◌++◌}
+use Rattle.std.specs.Prelude.{ℕ, ◌≡◌, ◌<◌, ◌^◌, true, List, [], ◌∷◌, ◌++◌}
 use Rattle.std.specs.List.{AllByRecursion}
 use Rattle.vte_core.specs.Ground.{AtGround}
 use Rattle.vt100_forms.specs.Form.{Form, Text, spell}
 use Rattle.vt100_forms.specs.Length.{HasSmallNumbers}
 use Rattle.vt100_picture.specs.FormText.{IsFormText}
-use Rattle.vt100_picture.specs.Term.{Term}
+use Rattle.vt100_picture.specs.Term.{Term, blank_term}
 use Rattle.vt100_picture.specs.Apply.{apply, run}
 use Rattle.vt100_read.specs.Events.{events_of, events_of_all}
 use Rattle.vt100_read.specs.Laws.{IsSentForm}
-use Rattle.vt100_state.specs.State.{State, IsState, is_plain}
+use Rattle.vt100_state.specs.State.{State, IsState, is_plain, fresh_state}
 use Rattle.vt100_state.specs.Made.{Fed, played, made_on}
 use Rattle.vt100_agree.specs.Plain.{terminal_of, screen_of, IsPlainState}
 
@@ -30,6 +30,11 @@ pub record Shows (s : State) (t : Term) (u : State) : Type 0 where
 abbrev pub EachPlainStateIsRead : Type 0
 EachPlainStateIsRead = (s : State) → (IsState s → is_plain s ≡ true → IsPlainState s)
     × (IsPlainState s → is_plain s ≡ true)
+
+-- a new state is plain, and shows a blank terminal
+abbrev pub EachFreshStateIsBlank : Type 0
+EachFreshStateIsBlank = (rows cols capacity : ℕ) → 0 < rows → rows < 2 ^ 16 → 0 < cols → cols < 2 ^ 16
+    → IsPlainState (fresh_state rows cols capacity) × (terminal_of (fresh_state rows cols capacity) ≡ blank_term)
 
 abbrev pub EachFormIsPlayed : Type 0
 EachFormIsPlayed = (s : State) (f : Form) → IsPlainState s → IsForm f

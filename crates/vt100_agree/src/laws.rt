@@ -1,10 +1,15 @@
 //! Facts about forms and states. Each function does nothing: its contract is the fact.
 ghost use Rattle.vt100_agree.specs.Laws.{EachFormIsPlayed, EachListIsPlayed, EachSpellingIsMade, EachPlainStateIsRead};
-ghost use Rattle.vt100_agree.specs.Laws.{EachSentListIsPlayed, EachSentSpellingIsMade};
+ghost use Rattle.vt100_agree.specs.Laws.{EachSentListIsPlayed, EachSentSpellingIsMade, EachFreshStateIsBlank};
 
 /// A state of a terminal that is plain can be read as forms mean it, and one that can is plain.
 pub fn plain_states_are_read()
     ensures { EachPlainStateIsRead }
+{}
+
+/// A new state is plain, and shows a blank terminal.
+pub fn fresh_states_are_blank()
+    ensures { EachFreshStateIsBlank }
 {}
 
 /// A plain state that goes through the events of a form shows what the form makes of the terminal that it showed, is

@@ -141,7 +141,7 @@ module _ (step : Size → Call → Term → Term) (f : Attr → Attrs → Attrs)
   step-text : (cs : List ℕ) (t : Term) → (Contains cs 0xFFFD → ⊥) → stepped step z (map call.input cs) t ≡ inputs z cs t
   step-text [] t h = refl
   step-text (c ∷ cs) t h =
-      ap (stepped step z (map call.input cs)) (s.input c t (λ e. h (0, omega arith, e)))
+      ap (stepped step z (map call.input cs)) (s.prints c t (λ e. h (0, omega arith, e)))
       ∙ step-text cs (input z c t) (λ q. h (suc q.0, (let l = q.1 in omega arith), q.2))
 
   place : (r m : ℕ) → m < 2 ^ 16 → min (place_told r) (m - 1) ≡ min r (m - 1)

@@ -51,12 +51,11 @@ single-told k x h gs = rw (h.asks, h.ends) refl
 
 -- ---- colours with names
 
-Below : (ℕ → Type 0) → ℕ → Type 0
+abbrev pub Below : (ℕ → Type 0) → ℕ → Type 0
 Below P zero = Unit {0}
 Below P (suc k) = P k × Below P k
 
-each-below : (P : ℕ → Type 0) (k i : ℕ) → Below P k → i < k → P i
-unfolding Below
+pub each-below : (P : ℕ → Type 0) (k i : ℕ) → Below P k → i < k → P i
 each-below P zero i h l = absurd (omega (arith, l))
 each-below P (suc k) i h l =
     ⊎_elim (λ (m : i < k). each-below P k i h.1 m)
@@ -72,7 +71,6 @@ abbrev back_named : ℕ → Attr
 back_named i = a.Background (Named (name_of i))
 
 fore-low : Below (λ i. IsSingle (30 + i) (fore_named i)) 8
-unfolding Below
 fore-low = (
   is refl refl,
   (
@@ -97,7 +95,6 @@ fore-low = (
 )
 
 back-low : Below (λ i. IsSingle (40 + i) (back_named i)) 8
-unfolding Below
 back-low = (
   is refl refl,
   (
@@ -122,7 +119,6 @@ back-low = (
 )
 
 fore-bright : Below (λ j. IsSingle (30 + 52 + (8 + j)) (fore_named (8 + j))) 8
-unfolding Below
 fore-bright = (
   is refl refl,
   (
@@ -147,7 +143,6 @@ fore-bright = (
 )
 
 back-bright : Below (λ j. IsSingle (40 + 52 + (8 + j)) (back_named (8 + j))) 8
-unfolding Below
 back-bright = (
   is refl refl,
   (

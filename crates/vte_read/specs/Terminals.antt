@@ -51,7 +51,7 @@ pub record ReadsAttributes (attribute : Attr → Attrs → Attrs) : Type 0 where
 
 -- what each call that forms make does to a terminal of this size
 pub record ReadsCalls (step : Size → Call → Term → Term) (attribute : Attr → Attrs → Attrs) (z : Size) : Type 0 where
-  pub input : (c : ℕ) (t : Term) → (c ≡ 0xFFFD → ⊥) → step z (call.input c) t ≡ input z c t
+  pub prints : (c : ℕ) (t : Term) → (c ≡ 0xFFFD → ⊥) → step z (call.input c) t ≡ input z c t
   pub goto : (r k : ℕ) (t : Term) → step z (call.goto (pos r) k) t ≡ record t {
     row = min r (z.rows - 1);
     col = min k (z.cols - 1);

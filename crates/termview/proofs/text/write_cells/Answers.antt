@@ -1,4 +1,4 @@
-use Rattle.std.proofs.Common.{◌≡◌, ◌≤◌, ◌+◌, ◌==◌, arith, refl, ap, ◌∙◌, length}
+use Rattle.std.proofs.Common.{◌+◌, ◌==◌, arith, refl, ap, ◌∙◌, length}
 use Rattle.std.specs.Prelude.{encode_utf8_all}
 use Rattle.vt100_cells.specs.Cell.{CellView}
 use Rattle.vt100_cells.specs.Cells.{cell_at}

@@ -1,0 +1,30 @@
+-- What a view shows of the bytes of forms.
+use Rattle.std.proofs.Common.{◌≡◌, List, [], ◌∷◌, refl, ◌∙◌}
+use Rattle.vte_types.specs.Call.{Call}
+use Rattle.vte.specs.Stretch.{last_of, calls_from}
+use Rattle.vt100_forms.specs.Form.{spell}
+use Rattle.vt100_picture.specs.Term.{Size, Term}
+use Rattle.vt100_read.proofs.ReadForms.{list-read}
+use Rattle.vt100_read.proofs.SentTexts.{forms-readable}
+use Rattle.vte_read.specs.Terminals.{stepped}
+use Rattle.vte_read.proofs.Stepping.{spelling_is_stepped}
+use Rattle.termview.specs.Step.{view_step, view_steps, with_attr}
+use Rattle.termview.specs.Seen.{seen}
+use Rattle.termview.specs.Laws.{EachSpellingIsShown}
+use Rattle.termview.proofs.CallSteps.{seen-append}
+use Rattle.termview.proofs.KeptTerms.{streams-show}
+use Rattle.termview.proofs.ViewReads.{attributes-read, calls-read}
+
+as-stepped : (z : Size) (cs : List Call) (t : Term) → view_steps z cs t ≡ stepped view_step z cs t
+as-stepped z [] t = refl
+as-stepped z (c ∷ cs) t = as-stepped z cs (view_step z c t)
+
+pub spelling-shown : EachSpellingIsShown
+spelling-shown z past fs some_row some_col small g k =
+    let t = seen z past in (
+      seen-append z past (spell fs)
+          ∙ as-stepped z (calls_from past (spell fs)) t
+          ∙ spelling_is_stepped view_step with_attr z (calls-read z) attributes-read small 1024 past (last_of past) fs t
+          g (streams-show z past some_row some_col) k,
+      (list-read 1024 past fs g (forms-readable fs k)).1,
+    )
