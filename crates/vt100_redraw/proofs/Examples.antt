@@ -20,4 +20,6 @@ examples = record {
   flagged_erased = refl;
   wraps = refl;
   ends = refl;
+  lost_by_erase = refl;
+  lost_by_print = refl;
 }

@@ -4,7 +4,7 @@ use Rattle.vt100_forms.specs.declared.attrs.Color.TheVariants.{Default, Idx}
 use Rattle.vt100_forms.specs.Attrs.{default_attrs}
 use Rattle.vt100_forms.specs.Form.{Form, Text, MoveTo, MoveRight, EraseChar, ClearRowForward, ClearAttrs, Backspace}
 use Rattle.vt100_forms.specs.Form.{Sgr, no_change}
-use Rattle.vt100_cells.specs.Cell.{CellView, empty_cell, default_cell, cell_of}
+use Rattle.vt100_cells.specs.Cell.{CellView, empty_cell, default_cell, continuation_cell, cell_of}
 use Rattle.vt100_cells.specs.Cells.{cell_at}
 use Rattle.vt100_redraw.specs.declared.pen.Pen.{Pen}
 use Rattle.vt100_redraw.specs.RowWriter.{Job, row_redraw, row_difference}
@@ -36,11 +36,19 @@ blank = default_cell
 abbrev pub red : CellView
 red = empty_cell (record { fgcolor = Default; bgcolor = Idx 1; mode = 0 })
 
+-- 中, which takes two columns
+abbrev pub wide : List CellView
+wide = record { text = 0x4E2D ∷ []; wide = true; continuation = false; attrs = default_attrs } ∷ continuation_cell ∷ []
+
 abbrev pub text : List ℕ → List Form
 text cs = map (λ c. Text (c ∷ [])) cs
 
 abbrev pub reddened : Form
 reddened = Sgr (record no_change { bgcolor = Some (Idx 1) })
+
+-- a row of four columns that goes on in the next one, and did
+abbrev pub goes_on : List CellView → List CellView → Job
+goes_on old new = record (row_job 4 old new) { wrapped = true; was_wrapped = true }
 
 -- a row that stays
 abbrev pub kept : Job
@@ -72,3 +80,11 @@ pub record EachExampleIsWritten : Type 0 where
   -- it doesn't any more
   pub ends : (row_difference (record kept { was_wrapped = true }) 3 (at_start 1 0)).forms ≡ MoveRight 2 ∷ EraseChar 1
       ∷ text (codes "c")
+  -- the wide character goes, and with it the flag: the last cell is printed once more
+  pub lost_by_erase : (row_difference (goes_on (letters (codes "ab") ++ wide)
+      (letters (codes "ab") ++ blank ∷ letters (codes "d"))) 4 (at_start 2 1)).forms
+      ≡ MoveTo 1 2 ∷ EraseChar 1 ∷ MoveRight 1 ∷ text (codes "d") ++ MoveTo 1 3 ∷ text (codes "d")
+  -- the same where another one stands over its first half
+  pub lost_by_print : (row_difference (goes_on (letters (codes "an") ++ wide)
+      (letters (codes "a") ++ wide ++ letters (codes "x"))) 4 (at_start 2 1)).forms
+      ≡ MoveTo 1 1 ∷ text (0x4E2D ∷ codes "x") ++ MoveTo 1 3 ∷ text (codes "x")

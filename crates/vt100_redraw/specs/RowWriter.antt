@@ -141,7 +141,7 @@ owes_end j p = not (bool_eq j.wrapped j.was_wrapped) || (j.wrapped && p.lost)
 unfoldable pub closing : Job → Writer
 closing j p = if owes_end j p then (goto j.row (last_col j) >> mend j (last_cell j)) p else skip p
 
--- The row is drawn, and has the flag that it had before: what the next row is told of this one, where this one goes on.
+-- The row had its flag, and can't have lost it while it was drawn. Where it goes on, the next row is told so.
 abbrev pub keeps_flag : Job → Pen → Bool
 keeps_flag j p = j.was_wrapped && not p.lost
 

@@ -61,8 +61,8 @@ pub record IsReady (s : Scene) (p : Pen) : Type 0 where
   pub waits : s.job.above ≡ true → s.job.was_above ≡ false → (p.pos.row + 1 ≡ s.job.row) × (p.pos.col ≡ s.job.cols)
 
 -- The row is drawn, and the pen is right. The row has its flag; or it goes on in the next one, and its flag may be
--- missing, and then the cursor waits at its end. What the next row is told of this one is true: where this one kept its
--- flag it has it, and where it didn't the cursor waits.
+-- missing, and then the cursor waits at its end. So what the next row is told of one that goes on is true: if it kept
+-- its flag the terminal has it, and if it didn't the cursor waits.
 pub record IsDrawn (s : Scene) (p : Pen) (t : Term) : Type 0 where
   pub flags : ℕ → Bool
   pub stands : t ≡ with_row s s.job.new flags p.pos.row p.pos.col p.attrs
