@@ -64,7 +64,7 @@ some-left rows left n v e = let l = ap (λ (xs : List RowView). length xs) e in 
 below-some : (n : ℕ) → nat_lt 0 (suc n) ≡ true
 below-some n = grind (arith, nat_tests)
 
-below-next : (g : GridView) (n : ℕ) → (visible_at g n).wrapped ≡ is_below_wrapped g (suc n)
+pub below-next : (g : GridView) (n : ℕ) → (visible_at g n).wrapped ≡ is_below_wrapped g (suc n)
 below-next g n =
     let e : suc n - 1 ≡ n = omega arith in
     ap (λ k. (visible_at g k).wrapped) (sym e) ∙ ap (λ b. b && (visible_at g (suc n - 1)).wrapped) (sym (below-some n))

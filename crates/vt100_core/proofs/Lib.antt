@@ -15,3 +15,5 @@ pub mod RunLemmas
 pub mod InputLemmas
 pub mod BasicLemmas
 pub mod InputTexts
+pub mod WriterLemmas
+pub mod PictureWriters

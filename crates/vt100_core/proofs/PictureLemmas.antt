@@ -1,16 +1,15 @@
 -- What a grid shows, by position.
-use Rattle.std.proofs.Common.{◌≡◌, ℕ, ◌+◌, ◌-◌, ◌<◌, ◌≤◌, ◌==◌, Bool, true, false, cond, ◌&&◌, nat_lt, List, length}
+use Rattle.std.proofs.Common.{◌≡◌, ℕ, ◌-◌, ◌<◌, ◌≤◌, true, false, nat_lt, List, length}
 use Rattle.std.proofs.Common.{sym, refl, ap, ◌∙◌, arith, ⊎_elim}
-use Rattle.std.proofs.lemmas.Bool.{false≢true, cond_both, cases_lt, le-ltb, lt-ltb}
-use Rattle.std.proofs.lemmas.Bool.Decides.{nat_tests}
+use Rattle.std.proofs.lemmas.Bool.{false≢true, cases_lt, le-ltb, lt-ltb}
 use mathlib.Core.Path.{fun_ext}
-use Rattle.vt100_cells.specs.Cell.{CellView, default_cell, is_filled}
+use Rattle.vt100_cells.specs.Cell.{default_cell, is_filled}
 use Rattle.vt100_cells.specs.Cells.{cell_at}
 use Rattle.vt100_cells.specs.Line.{IsPaired, Bounded}
 use Rattle.vt100_cells.proofs.ListLemmas.{cell_at_past}
 use Rattle.vt100_picture.specs.Term.{IsTerm}
 use Rattle.vt100_rows.specs.Row.{RowView}
-use Rattle.vt100_sheet.specs.Sheet.{row_at, rows_by_position, IsRowOf, IsSheet}
+use Rattle.vt100_sheet.specs.Sheet.{row_at, IsSheet}
 use Rattle.vt100_sheet.specs.Picture.{lines_of, wraps_of}
 use Rattle.vt100_sheet.proofs.SheetLemmas.{rows_equal, row_at-by_position, length-rows_by_position}
 use Rattle.vt100_sheet.proofs.PictureLemmas.{lines-past, wraps-past}

@@ -11,6 +11,7 @@ pub mod Scroll
 pub mod Text
 pub mod Picture
 pub mod Writers
+pub mod WriterLaws
 pub use Rattle.vt100_forms.specs.Attrs
 pub use Rattle.vt100_cells.specs.Cell
 pub use Rattle.vt100_cells.specs.Cells

@@ -2,7 +2,7 @@
 --
 -- Rows are drawn as they are shown; the cursor is that of the rows that are drawn on, which are shown where no kept row
 -- is.
-use Rattle.std.specs.Prelude.{ℕ, zero, suc, ◌≡◌, Bool, true, false, List, ◌∷◌, ◌++◌, length}
+use Rattle.std.specs.Prelude.{ℕ, zero, suc, ◌≡◌, Bool, true, false, not, ◌&&◌, min, List, ◌∷◌, ◌++◌, length}
 use Rattle.std.specs.Prelude.{Option, unwrap_or}
 use Rattle.vt100_forms.specs.declared.attrs.Attrs.{Attrs}
 use Rattle.vt100_forms.specs.declared.position.Pos.{Pos}
@@ -15,7 +15,7 @@ use Rattle.vt100_redraw.specs.Writes.{IsBegun}
 use Rattle.vt100_writers.specs.Rows.{pen_at, afresh}
 use Rattle.vt100_writers.specs.Screen.{cursor_placed}
 use Rattle.vt100_writers.specs.Cursor as cursor
-use Rattle.vt100_rows.specs.Forms.{redraw}
+use Rattle.vt100_rows.specs.Forms.{redraw, difference}
 use Rattle.vt100_sheet.specs.Picture.{lines_of, wraps_of}
 use Rattle.vt100_core.specs.Grid.{GridView, visible_at}
 use Rattle.vt100_core.specs.Contents.{is_below_wrapped}
@@ -59,3 +59,23 @@ redrawn g = (lines_redraw g (length g.rows) >> cursor_placed (size_of g) (drawn_
 
 abbrev pub contents_formatted : GridView → List Form
 contents_formatted g = ClearAttrs ∷ ClearScreen ∷ (redrawn g).forms
+
+-- ---- differences
+
+-- the row that is shown at i, over the one of the earlier grid; the row above has its flag if it had one, and didn't
+-- lose it when it was drawn
+unfoldable pub line_difference : GridView → GridView → ℕ → Writer
+line_difference g earlier i p =
+    difference (visible_at g i) (visible_at earlier i) 0 g.width i (is_below_wrapped g i)
+    (is_below_wrapped earlier i && not p.lost) (afresh p)
+
+-- the first n rows that are shown
+unfoldable pub lines_difference : GridView → GridView → ℕ → Writer
+lines_difference g earlier zero = skip
+lines_difference g earlier (suc n) = lines_difference g earlier n >> line_difference g earlier n
+
+-- over what the earlier grid shows, with its cursor, where the terminal draws with the attributes a
+unfoldable pub differing : GridView → GridView → Attrs → Drawn
+differing g earlier a =
+    (lines_difference g earlier (min (length g.rows) (length earlier.rows)) >> cursor_placed (size_of g) (drawn_on g))
+    (pen_at earlier.row earlier.col a)

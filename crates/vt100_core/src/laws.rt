@@ -1,6 +1,9 @@
 //! Facts about grids as wholes. Each function does nothing: its contract is the fact.
 ghost use Rattle.vt100_core.specs.Resize.{EachResizePlacesRows, EachResizeKeepsRows};
 ghost use Rattle.vt100_core.specs.Picture.{EachPrintIsInput, EachTextIsInput};
+ghost use Rattle.vt100_core.specs.WriterLaws.{EachCursorIsOfPicture, EachRedrawIsOfPicture, EachDifferenceIsOfPictures};
+ghost use Rattle.vt100_core.specs.WriterLaws.{EachGridIsDrawable, EachRedrawIsDrawn, EachDifferenceIsDrawn};
+ghost use Rattle.vt100_core.specs.WriterLaws.{EachCursorIsDrawn};
 
 /// Which row stands where after [`Grid::set_size`](crate::Grid::set_size), counted from the top: rows that come back,
 /// blank ones above them where they weren't kept, then the rows that stood on the screen and stay, and blank ones
@@ -23,4 +26,46 @@ pub fn printing_is_input()
 /// The same of a text without U+FE0F, which a terminal reads as a form.
 pub fn texts_are_input()
     ensures { EachTextIsInput }
+{}
+
+/// [`Grid::write_cursor_position_formatted`](crate::Grid::write_cursor_position_formatted) appends the forms that bring
+/// the cursor to its place in the grid's picture.
+pub fn cursors_are_of_pictures()
+    ensures { EachCursorIsOfPicture }
+{}
+
+/// Where no kept row is shown, [`Grid::write_contents_formatted`](crate::Grid::write_contents_formatted) appends the
+/// redraw of the grid's picture.
+pub fn redraws_are_of_pictures()
+    ensures { EachRedrawIsOfPicture }
+{}
+
+/// Where neither grid shows a kept row, [`Grid::write_contents_diff`](crate::Grid::write_contents_diff) of two grids of
+/// one size appends the difference of their pictures.
+pub fn differences_are_of_pictures()
+    ensures { EachDifferenceIsOfPictures }
+{}
+
+/// The picture of a grid can be drawn.
+pub fn grids_are_drawable()
+    ensures { EachGridIsDrawable }
+{}
+
+/// What [`Grid::write_contents_formatted`](crate::Grid::write_contents_formatted) appends leads from any terminal to the
+/// grid's cells, flags and cursor, and to the attributes that it answers.
+pub fn redraws_lead()
+    ensures { EachRedrawIsDrawn }
+{}
+
+/// What [`Grid::write_contents_diff`](crate::Grid::write_contents_diff) appends leads from the earlier grid's cells,
+/// flags and cursor, and the attributes that it is given, to those of the grid, and to the attributes that it answers.
+pub fn differences_lead()
+    ensures { EachDifferenceIsDrawn }
+{}
+
+/// What [`Grid::write_cursor_position_formatted`](crate::Grid::write_cursor_position_formatted) appends leads from the
+/// grid's cells and flags, with the cursor and attributes that it is given, to the grid's cursor, and changes nothing
+/// else.
+pub fn cursors_lead()
+    ensures { EachCursorIsDrawn }
 {}

@@ -9,7 +9,9 @@ ghost use Rattle.vt100_core.specs.Writers.{Appends, drawn_on, cursor_position_fo
 use crate::grid::Grid;
 use vt100_cells::line;
 use vt100_forms::attrs::Attrs;
-use vt100_forms::term::{Backspace, BufWrite, EraseChar, MoveFromTo, MoveTo, RestoreCursor, SaveCursor};
+use vt100_forms::term::{
+    Backspace, BufWrite, EraseChar, MoveFromTo, MoveTo, RestoreCursor, SaveCursor,
+};
 use vt100_forms::{GridError, Pos};
 use vt100_rows::Cell;
 use vt100_sheet::rows_edit::at;
@@ -139,8 +141,16 @@ impl Grid {
         };
         arrive(contents, prev_pos, pos)?;
         contents.push(' ')?;
-        let cells = at(&self.rows, usize::from(pos.row)).cells();
-        replace_space(contents, attrs, line::at(cells, usize::from(pos.col)).attrs())
+        replace_space(contents, attrs, self.end_attrs())
+    }
+
+    /// The attributes in the last column of the cursor's row.
+    fn end_attrs(&self) -> Attrs
+        requires { self.now.row < length self.now.rows }
+        ensures { result ≡ ((drawn_on self.now).cell self.now.row (self.now.width - 1)).attrs }
+    {
+        let cells = at(&self.rows, usize::from(self.pos.row)).cells();
+        line::at(cells, usize::from(self.size.cols() - 1)).attrs()
     }
 }
 
@@ -190,7 +200,7 @@ fn replace_space(contents: &mut String, attrs: Attrs, own: Attrs) -> Result<(), 
 fn push_line_feeds(contents: &mut String, count: u16) -> Result<(), GridError>
     ensures { Appends (replicate count Lf) (string_bytes contents.old) (is_ok result) (string_bytes contents.new) }
 {
-    for _ in 0..count {
+    for _n in 0..count {
         contents.push('\n')?;
     }
     Ok(())

@@ -1,8 +1,9 @@
 //! What a grid shows, as forms.
-ghost use Rattle.std.specs.Prelude.{◌≡◌, length, is_ok, IfOk, string_bytes};
+ghost use Rattle.std.specs.Prelude.{◌≡◌, ◌&&◌, not, length, min, is_ok, IfOk, string_bytes};
 ghost use Rattle.vt100_redraw.specs.Writes.{Writes};
 ghost use Rattle.vt100_writers.specs.Rows.{pen_at};
-ghost use Rattle.vt100_core.specs.Writers.{Appends, contents_formatted, redrawn, lines_redraw};
+ghost use Rattle.vt100_core.specs.Writers.{Appends, contents_formatted, redrawn, lines_redraw, differing};
+ghost use Rattle.vt100_core.specs.Writers.{lines_difference};
 
 use crate::grid::Grid;
 use vt100_forms::attrs::Attrs;
@@ -30,6 +31,29 @@ impl Grid {
         Ok(pen.attrs)
     }
 
+    /// Appends the forms by which a terminal that shows what `prev` shows, and whose cursor is that of `prev`, comes to
+    /// show what the grid shows: where rows differ they are drawn, and the cursor is placed as
+    /// [`write_cursor_position_formatted`](Self::write_cursor_position_formatted) does. `prev_attrs` are the attributes
+    /// with which the terminal draws; answers those with which it draws afterwards. Both grids have one size: of
+    /// others, the rows and columns that both have are compared.
+    ///
+    /// On an error a part of the forms may have been appended.
+    pub fn write_contents_diff(
+        &self,
+        contents: &mut String,
+        prev: &Self,
+        prev_attrs: Attrs,
+    ) -> Result<Attrs, GridError>
+        ensures text { Appends (differing self.now prev.now prev_attrs).forms (string_bytes contents.old) (is_ok result)
+            (string_bytes contents.new) }
+        ensures attrs { IfOk result (λ answer. answer ≡ (differing self.now prev.now prev_attrs).pen.attrs) }
+    {
+        let mut pen = pen_at(prev.pos, prev_attrs);
+        self.rows_diff(contents, &mut pen, prev)?;
+        self.write_cursor_position_formatted(contents, Some(pen.pos), Some(pen.attrs))?;
+        Ok(pen.attrs)
+    }
+
     /// Draws the rows that are shown, on a cleared screen.
     fn redraw_rows(&self, contents: &mut String, pen: &mut Pen) -> Result<(), GridError>
         ensures { Writes (lines_redraw self.now (length self.now.rows)) pen.old (string_bytes contents.old)
@@ -44,6 +68,41 @@ impl Grid {
         }
         Ok(())
     }
+
+    /// Draws the rows that are shown over those that `prev` shows.
+    fn rows_diff(&self, contents: &mut String, pen: &mut Pen, prev: &Self) -> Result<(), GridError>
+        ensures { Writes (lines_difference self.now prev.now (min (length self.now.rows) (length prev.now.rows))) pen.old
+            (string_bytes contents.old) (is_ok result) pen.new (string_bytes contents.new) }
+    {
+        let mut wrapping = false;
+        let mut prev_wrapping = false;
+        for i in 0..self.rows.len().min(prev.rows.len()) as u16 {
+            let row = self.shown_row(i);
+            let prev_row = prev.shown_row(i);
+            let flagged = has_flag(prev_wrapping, pen);
+            pen.lost = false;
+            row.difference(
+                contents,
+                pen,
+                prev_row,
+                0,
+                self.size.cols(),
+                i,
+                wrapping,
+                flagged,
+            )?;
+            wrapping = row.wrapped();
+            prev_wrapping = prev_row.wrapped();
+        }
+        Ok(())
+    }
+}
+
+/// Whether the row above still has the flag that it had.
+fn has_flag(prev_wrapping: bool, pen: &Pen) -> bool
+    ensures { result ≡ (prev_wrapping && not pen.now.lost) }
+{
+    prev_wrapping && !pen.lost
 }
 
 /// What is known of a terminal whose cursor stands here and which draws with these attributes.

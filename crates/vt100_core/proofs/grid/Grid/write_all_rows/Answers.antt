@@ -1,4 +1,4 @@
-use Rattle.std.proofs.Common.{◌≡◌, ◌++◌, List, sym, ap, subst, ◌∙◌}
+use Rattle.std.proofs.Common.{◌≡◌, ◌++◌, List, ap, subst, ◌∙◌}
 use Rattle.std.specs.Fmt.{WritesInCalls}
 use Rattle.vt100_rows.specs.Row.{RowView}
 use Rattle.vt100_rows.proofs.BasicLemmas.{on-ok}
