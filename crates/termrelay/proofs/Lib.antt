@@ -1,0 +1,4 @@
+pub mod PumpLemmas
+pub mod FrameLemmas
+pub mod Marks
+pub mod SureLemmas

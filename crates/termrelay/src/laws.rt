@@ -1,0 +1,25 @@
+//! Facts about frames. Each function does nothing: its contract is the fact.
+ghost use Rattle.termrelay.specs.Frame.{EachSureIsPlain, EachFrameIsMarked, EachFrameLeads, EachFrameSetsModes};
+
+/// A screen is unsure wherever one of its cells has U+FE0F.
+pub fn sure_screens_are_plain()
+    ensures { EachSureIsPlain }
+{}
+
+/// A frame is the start mark, a body and the end mark, and each mark stands in its own place alone; so where no cell
+/// shows U+FFFD, which a screen never does.
+pub fn frames_are_marked()
+    ensures { EachFrameIsMarked }
+{}
+
+/// A frame's body leads a client that has had all earlier frames to the present screen, where no cell shows U+FE0F: from
+/// a blank screen the first one, later ones from what was shown at the last frame, and where that wasn't sure from any
+/// picture with its modes and style.
+pub fn frames_lead()
+    ensures { EachFrameLeads }
+{}
+
+/// Also where U+FE0F is shown, the input modes and the cursor's style come out as they are.
+pub fn frames_set_modes()
+    ensures { EachFrameSetsModes }
+{}

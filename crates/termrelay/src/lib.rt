@@ -1,0 +1,7 @@
+//! A hub: one program's screen, and clients that are sent frames of it.
+#![tactic(auto)]
+
+pub mod laws;
+pub mod pump;
+
+pub use pump::Taker;
