@@ -1,5 +1,6 @@
 -- The marks of a frame stand at its ends alone.
-use Rattle.std.proofs.Common.{◌≡◌, ℕ, ◌<◌, Bool, true, false, ◌||◌, List, [], ◌∷◌, ◌++◌, drop, length, Option, Some, None}
+use Rattle.std.proofs.Common.{◌≡◌, ℕ, ◌<◌, Bool, true, false, ◌||◌, List, [], ◌∷◌, ◌++◌, drop, length, Option, Some}
+use Rattle.std.proofs.Common.{None}
 use Rattle.std.proofs.Common.{refl, ap, sym, ◌∙◌, arith, append_assoc, length-append, if◌then◌else◌}
 use Rattle.std.specs.List.{AllByRecursion}
 use Rattle.std.proofs.lemmas.List.{append_cancel_left}
@@ -91,7 +92,8 @@ at-end : (zs ys : List ℕ) → end_mark ≡ zs ++ (mark_head ++ ys) → ys ≡ 
 unfolding end-tail
 at-end [] ys e = sym (append_cancel_left mark_head (108 ∷ []) ys e)
 at-end (z ∷ zs) ys e =
-    let (ws, is, left) = behind-bytes end-tail end-plain [] zs ys (same-rest 27 z end-tail (zs ++ (mark_head ++ ys)) e) in
+    let (ws, is, left) = behind-bytes end-tail end-plain [] zs ys
+    (same-rest 27 z end-tail (zs ++ (mark_head ++ ys)) e) in
     absurd (none-in_nil ws ys left)
 
 -- a mark behind the first byte of a frame is the end mark
@@ -132,7 +134,8 @@ body-plain z (Some base) now h =
     let each = texts-plain z base now h in
     chosen-plain (is_unsure z base || is_unsure z now) (contents_formatted z now ++ input_mode_diff base now)
     (state_diff z base now)
-    (all-join HasPlainText (contents_formatted z now) (input_mode_diff base now) each.contents_formatted each.input_mode_diff)
+    (all-join HasPlainText (contents_formatted z now) (input_mode_diff base now) each.contents_formatted
+    each.input_mode_diff)
     each.state_diff
 
 pub frame-marked : EachFrameIsMarked

@@ -12,9 +12,9 @@ pub fn frames_are_marked()
     ensures { EachFrameIsMarked }
 {}
 
-/// A frame's body leads a client that has had all earlier frames to the present screen, where no cell shows U+FE0F: from
-/// a blank screen the first one, later ones from what was shown at the last frame, and where that wasn't sure from any
-/// picture with its modes and style.
+/// A frame's body leads a client that has had all earlier frames to the present screen, where no cell shows U+FE0F:
+/// the first one from a blank screen, later ones from what was shown at the last frame, and where that wasn't sure from
+/// any picture with its modes and style.
 pub fn frames_lead()
     ensures { EachFrameLeads }
 {}
