@@ -2,3 +2,4 @@ pub mod PumpLemmas
 pub mod FrameLemmas
 pub mod Marks
 pub mod SureLemmas
+pub mod SameLemmas

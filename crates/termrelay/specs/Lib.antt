@@ -1,2 +1,3 @@
 pub mod Pump
 pub mod Frame
+pub mod Answers

@@ -1,4 +1,5 @@
 //! Facts about frames. Each function does nothing: its contract is the fact.
+ghost use Rattle.termrelay.specs.Answers.{EachSameIsOne};
 ghost use Rattle.termrelay.specs.Frame.{EachSureIsPlain, EachFrameIsMarked, EachFrameLeads, EachFrameSetsModes};
 
 /// A screen is unsure wherever one of its cells has U+FE0F.
@@ -22,4 +23,10 @@ pub fn frames_lead()
 /// Also where U+FE0F is shown, the input modes and the cursor's style come out as they are.
 pub fn frames_set_modes()
     ensures { EachFrameSetsModes }
+{}
+
+/// Screens of one size that the test takes for the same show the same, so that a client that is answered `Unchanged`
+/// misses nothing.
+pub fn same_screens_are_one()
+    ensures { EachSameIsOne }
 {}
