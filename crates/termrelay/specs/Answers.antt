@@ -3,8 +3,8 @@ use Rattle.std.specs.Prelude.{◌≡◌, ℕ, zero, suc, ◌==◌, ◌&&◌, Boo
 use Rattle.std.specs.Prelude.{if◌then◌else◌}
 use Rattle.vt100_forms.specs.Attrs.{attrs_eq}
 use Rattle.vt100_forms.specs.Form.{mouse_number, encoding_number, style_number}
-use Rattle.vt100_cells.specs.Cell.{bool_eq, cell_eq}
-use Rattle.vt100_picture.specs.Term.{Size, Modes, Shown, IsShown}
+use Rattle.vt100_cells.specs.Cell.{bool_eq, cell_eq, default_cell}
+use Rattle.vt100_picture.specs.Term.{Size, Modes, Shown, IsShown, blank_shown}
 use Rattle.termrelay.specs.Frame.{is_unsure, frame_text}
 use Rattle.termrelay.specs.declared.answer.Answer.{Answer}
 use Rattle.termrelay.specs.declared.answer.Answer.TheVariants.{Full, Difference, Unsure, Unchanged, Behind}
@@ -70,3 +70,27 @@ answer_of z now c = answer_to z now c.base c.owed
 abbrev pub after_answer : Size → Shown → ClientState → Answer → ClientState
 after_answer z now c answer =
     if is_frame answer then record { owed = c.owed ++ frame_text z c.base now; base = Some now } else c
+
+-- ---- examples, of one cell
+
+abbrev pub one_cell : Size
+one_cell = record { rows = 1; cols = 1 }
+
+-- a cell that asks for an emoji
+abbrev pub emoji : Shown
+emoji = record blank_shown { cell = λ r k. record default_cell { text = 0x2764 ∷ 0xFE0F ∷ [] } }
+
+abbrev pub moved : Shown
+moved = record blank_shown { col = 1 }
+
+abbrev pub answer_after : Option Shown → Shown → Answer
+answer_after base now = answer_of one_cell now (record { owed = []; base = base })
+
+pub record EachExampleIsAnswered : Type 0 where
+  pub first : answer_after None blank_shown ≡ Full
+  pub same : answer_after (Some blank_shown) blank_shown ≡ Unchanged
+  pub changed : answer_after (Some blank_shown) moved ≡ Difference
+  pub unsure : answer_after (Some blank_shown) emoji ≡ Unsure
+  pub again : answer_after (Some emoji) emoji ≡ Unsure
+  pub sure_again : answer_after (Some emoji) moved ≡ Full
+  pub owed : answer_of one_cell emoji (record { owed = 0 ∷ []; base = None }) ≡ Behind

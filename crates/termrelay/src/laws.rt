@@ -1,5 +1,5 @@
 //! Facts about frames. Each function does nothing: its contract is the fact.
-ghost use Rattle.termrelay.specs.Answers.{EachSameIsOne};
+ghost use Rattle.termrelay.specs.Answers.{EachSameIsOne, EachExampleIsAnswered};
 ghost use Rattle.termrelay.specs.Frame.{EachSureIsPlain, EachFrameIsMarked, EachFrameLeads, EachFrameSetsModes};
 
 /// A screen is unsure wherever one of its cells has U+FE0F.
@@ -29,4 +29,9 @@ pub fn frames_set_modes()
 /// misses nothing.
 pub fn same_screens_are_one()
     ensures { EachSameIsOne }
+{}
+
+/// What is answered on some screens of one cell.
+pub fn examples_are_answered()
+    ensures { EachExampleIsAnswered }
 {}
