@@ -1,0 +1,5 @@
+pub mod PumpLemmas
+pub mod FrameLemmas
+pub mod Marks
+pub mod SureLemmas
+pub mod SameLemmas

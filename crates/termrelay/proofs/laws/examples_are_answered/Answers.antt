@@ -1,0 +1,16 @@
+use Rattle.std.proofs.Common.{refl}
+use Rattle.termrelay.specs.Frame.{is_unsure}
+use Rattle.termrelay.specs.Answers.{same_shown}
+use Rattle.termrelay.proofs.laws.examples_are_answered.Goals as goal
+
+pub returns : goal.returns
+unfolding is_unsure same_shown
+returns c = record {
+  first = refl;
+  same = refl;
+  changed = refl;
+  unsure = refl;
+  again = refl;
+  sure_again = refl;
+  owed = refl;
+}

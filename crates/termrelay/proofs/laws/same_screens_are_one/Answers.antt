@@ -1,0 +1,5 @@
+use Rattle.termrelay.proofs.SameLemmas.{same-one}
+use Rattle.termrelay.proofs.laws.same_screens_are_one.Goals as goal
+
+pub returns : goal.returns
+returns c = same-one

@@ -1,0 +1,96 @@
+-- What a request for a frame is answered.
+use Rattle.std.specs.Prelude.{◌≡◌, ℕ, zero, suc, ◌==◌, ◌&&◌, Bool, true, false, List, [], ◌∷◌, ◌++◌, Option, Some, None}
+use Rattle.std.specs.Prelude.{if◌then◌else◌}
+use Rattle.vt100_forms.specs.Attrs.{attrs_eq}
+use Rattle.vt100_forms.specs.Form.{mouse_number, encoding_number, style_number}
+use Rattle.vt100_cells.specs.Cell.{bool_eq, cell_eq, default_cell}
+use Rattle.vt100_picture.specs.Term.{Size, Modes, Shown, IsShown, blank_shown}
+use Rattle.termrelay.specs.Frame.{is_unsure, frame_text}
+use Rattle.termrelay.specs.declared.answer.Answer.{Answer}
+use Rattle.termrelay.specs.declared.answer.Answer.TheVariants.{Full, Difference, Unsure, Unchanged, Behind}
+
+-- ---- two screens of one size that show the same
+
+-- whether p holds of all numbers below n
+abbrev pub all_below : ℕ → (ℕ → Bool) → Bool
+all_below zero p = true
+all_below (suc n) p = all_below n p && p n
+
+abbrev pub modes_eq : Modes → Modes → Bool
+modes_eq m n =
+    bool_eq m.keypad n.keypad && (bool_eq m.cursor_keys n.cursor_keys && (bool_eq m.paste n.paste
+    && ((mouse_number m.mouse == mouse_number n.mouse) && (encoding_number m.encoding == encoding_number n.encoding))))
+
+unfoldable pub same_shown : Size → Shown → Shown → Bool
+same_shown z s t =
+    all_below z.rows (λ r. all_below z.cols (λ k. cell_eq (s.cell r k) (t.cell r k)))
+    && (all_below z.rows (λ r. bool_eq (s.wrapped r) (t.wrapped r))
+    && ((s.row == t.row) && ((s.col == t.col) && (bool_eq s.hidden t.hidden && (attrs_eq s.attrs t.attrs
+    && (modes_eq s.modes t.modes && (style_number s.style == style_number t.style)))))))
+
+-- so that they are one
+abbrev pub EachSameIsOne : Type 0
+EachSameIsOne = (z : Size) (s t : Shown) → IsShown z s → IsShown z t → same_shown z s t ≡ true → s ≡ t
+
+-- ---- answers
+
+-- a client: the bytes that it is owed, and what was shown at its last frame
+pub record ClientState : Type 0 where
+  pub owed : List ℕ
+  pub base : Option Shown
+
+-- whether the answer brings a frame
+abbrev pub is_frame : Answer → Bool
+is_frame Full = true
+is_frame Difference = true
+is_frame Unsure = true
+is_frame Unchanged = false
+is_frame Behind = false
+
+-- where the present screen is sure
+abbrev pub due_from : Size → Shown → Option Shown → Answer
+due_from z now None = Full
+due_from z now (Some base) =
+    if is_unsure z base then Full
+    else if same_shown z base now then Unchanged
+    else Difference
+
+-- where nothing is owed
+abbrev pub due : Size → Shown → Option Shown → Answer
+due z now base = if is_unsure z now then Unsure else due_from z now base
+
+abbrev pub answer_to : Size → Shown → Option Shown → List ℕ → Answer
+answer_to z now base [] = due z now base
+answer_to z now base (b ∷ bs) = Behind
+
+abbrev pub answer_of : Size → Shown → ClientState → Answer
+answer_of z now c = answer_to z now c.base c.owed
+
+-- the client after that answer
+abbrev pub after_answer : Size → Shown → ClientState → Answer → ClientState
+after_answer z now c answer =
+    if is_frame answer then record { owed = c.owed ++ frame_text z c.base now; base = Some now } else c
+
+-- ---- examples, of one cell
+
+abbrev pub one_cell : Size
+one_cell = record { rows = 1; cols = 1 }
+
+-- a cell that asks for an emoji
+abbrev pub emoji : Shown
+emoji = record blank_shown { cell = λ r k. record default_cell { text = 0x2764 ∷ 0xFE0F ∷ [] } }
+
+abbrev pub moved : Shown
+moved = record blank_shown { col = 1 }
+
+abbrev pub answer_after : Option Shown → Shown → Answer
+answer_after base now = answer_of one_cell now (record { owed = []; base = base })
+
+pub record EachExampleIsAnswered : Type 0 where
+  pub first : answer_after None blank_shown ≡ Full
+  pub same : answer_after (Some blank_shown) blank_shown ≡ Unchanged
+  pub changed : answer_after (Some blank_shown) moved ≡ Difference
+  pub unsure : answer_after (Some blank_shown) emoji ≡ Unsure
+  pub again : answer_after (Some emoji) emoji ≡ Unsure
+  pub sure_again : answer_after (Some emoji) moved ≡ Full
+  pub owed : answer_of one_cell emoji (record { owed = 0 ∷ []; base = None }) ≡ Behind

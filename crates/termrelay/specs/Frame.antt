@@ -1,0 +1,94 @@
+-- What a frame is made of: the marks of a synchronized update, and between them what leads a client from what it shows
+-- to the screen.
+use Rattle.std.specs.Prelude.{◌≡◌, ℕ, zero, suc, ◌==◌, ◌||◌, Bool, true, false, List, [], ◌++◌, codes, Option, Some}
+use Rattle.std.specs.Prelude.{None}
+use Rattle.std.specs.Prelude.{if◌then◌else◌, Contains}
+use Rattle.std.specs.List.{list_any}
+use Rattle.vt100_forms.specs.Attrs.{IsProper}
+use Rattle.vt100_forms.specs.Form.{Form, spell}
+use Rattle.vt100_forms.specs.Mark.{mark_head}
+use Rattle.vt100_cells.specs.Cell.{CellView}
+use Rattle.vt100_picture.specs.Term.{Size, Shown, Term, IsShown, blank_shown, shown_of}
+use Rattle.vt100_picture.specs.Apply.{run}
+use Rattle.vt100_picture.specs.Leads.{Leads}
+use Rattle.vt100_writers.specs.Modes.{input_mode_diff}
+use Rattle.vt100_writers.specs.Screen.{contents_formatted, state_formatted, state_diff}
+use Rattle.vt100_writers.specs.Laws.{IsScreen, IsKnown}
+
+-- ---- the text
+
+-- whether p holds of a number below n
+abbrev pub any_below : ℕ → (ℕ → Bool) → Bool
+any_below zero p = false
+any_below (suc n) p = any_below n p || p n
+
+-- private mode 2026 set, and reset
+abbrev pub start_mark : List ℕ
+start_mark = mark_head ++ codes "h"
+
+abbrev pub end_mark : List ℕ
+end_mark = mark_head ++ codes "l"
+
+-- the text has U+FE0F, which asks for an emoji, and by which a terminal may make the cell wide
+abbrev pub asks_for_emoji : CellView → Bool
+asks_for_emoji x = list_any (λ c. c == 0xFE0F) x.text
+
+-- so it isn't sure what another terminal shows
+unfoldable pub is_unsure : Size → Shown → Bool
+is_unsure z s = any_below z.rows (λ r. any_below z.cols (λ k. asks_for_emoji (s.cell r k)))
+
+-- from the last frame's screen, if there was a frame, to the present one
+unfoldable pub body_forms : Size → Option Shown → Shown → List Form
+body_forms z None now = state_formatted z now
+body_forms z (Some base) now =
+    if is_unsure z base || is_unsure z now
+    then contents_formatted z now ++ input_mode_diff base now
+    else state_diff z base now
+
+abbrev pub frame_text : Size → Option Shown → Shown → List ℕ
+frame_text z base now = start_mark ++ (spell (body_forms z base now) ++ end_mark)
+
+-- where a screen is sure, no text has U+FE0F
+abbrev pub EachSureIsPlain : Type 0
+EachSureIsPlain = (z : Size) (s : Shown) → IsShown z s → is_unsure z s ≡ false → (r k : ℕ)
+    → Contains (s.cell r k).text 0xFE0F → ⊥
+
+-- ---- where it leads
+
+-- a start mark stands at the start alone, and an end mark at the end alone
+pub record IsMarked (text : List ℕ) : Type 0 where
+  pub body : List ℕ
+  pub parts : text ≡ start_mark ++ (body ++ end_mark)
+  pub starts : (xs ys : List ℕ) → text ≡ xs ++ (start_mark ++ ys) → xs ≡ []
+  pub ends : (xs ys : List ℕ) → text ≡ xs ++ (end_mark ++ ys) → ys ≡ []
+
+abbrev pub EachFrameIsMarked : Type 0
+EachFrameIsMarked = (z : Size) (base : Option Shown) (now : Shown) → IsKnown now → IsMarked (frame_text z base now)
+
+-- the modes and the style of another screen
+abbrev pub HasModesOf : Shown → Shown → Type 0
+HasModesOf s t = (t.modes ≡ s.modes) × (t.style ≡ s.style)
+
+abbrev pub ShowsUnless : Bool → Shown → Shown → Type 0
+ShowsUnless true s t = HasModesOf s t
+ShowsUnless false s t = t ≡ s
+
+-- what a client shows that has had all frames: a blank screen before the first, then what was shown at the last one, of
+-- which only modes and style are sure where it wasn't sure
+abbrev pub Agrees : Size → Option Shown → Shown → Type 0
+Agrees z None t = t ≡ blank_shown
+Agrees z (Some base) t = ShowsUnless (is_unsure z base) base t
+
+abbrev pub IsBase : Size → Option Shown → Type 0
+IsBase z None = Unit {0}
+IsBase z (Some base) = IsShown z base × IsProper base.attrs
+
+-- a client that has had all frames comes to show the present screen
+abbrev pub EachFrameLeads : Type 0
+EachFrameLeads = (z : Size) (base : Option Shown) (now from : Shown) → IsBase z base → IsScreen z now
+    → Agrees z base from → Leads z (body_forms z base now) from now
+
+-- also where the present screen isn't sure, modes and style come out
+abbrev pub EachFrameSetsModes : Type 0
+EachFrameSetsModes = (z : Size) (base : Option Shown) (now : Shown) (t : Term) → Agrees z base (shown_of t)
+    → HasModesOf now (shown_of (run z (body_forms z base now) t))

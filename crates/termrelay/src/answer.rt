@@ -1,0 +1,16 @@
+//! What a request for a frame is answered.
+
+/// What a client that asks for a frame is answered.
+#[derive(Clone, Copy, Debug, Eq, PartialEq)]
+pub enum Answer {
+    /// A frame that leads from any picture: the client's first one, or the first after an unsure one.
+    Full,
+    /// A frame of what changed since the last one.
+    Difference,
+    /// A frame of a screen that shows U+FE0F, of which another terminal may make something else.
+    Unsure,
+    /// No frame: what is shown is what was shown at the last one.
+    Unchanged,
+    /// No frame: bytes of an earlier one are still owed.
+    Behind,
+}

@@ -1,0 +1,37 @@
+//! Facts about frames. Each function does nothing: its contract is the fact.
+ghost use Rattle.termrelay.specs.Answers.{EachSameIsOne, EachExampleIsAnswered};
+ghost use Rattle.termrelay.specs.Frame.{EachSureIsPlain, EachFrameIsMarked, EachFrameLeads, EachFrameSetsModes};
+
+/// A screen is unsure wherever one of its cells has U+FE0F.
+pub fn sure_screens_are_plain()
+    ensures { EachSureIsPlain }
+{}
+
+/// A frame is the start mark, a body and the end mark, and each mark stands in its own place alone; so where no cell
+/// shows U+FFFD, which a screen never does.
+pub fn frames_are_marked()
+    ensures { EachFrameIsMarked }
+{}
+
+/// A frame's body leads a client that has had all earlier frames to the present screen, where no cell shows U+FE0F:
+/// the first one from a blank screen, later ones from what was shown at the last frame, and where that wasn't sure from
+/// any picture with its modes and style.
+pub fn frames_lead()
+    ensures { EachFrameLeads }
+{}
+
+/// Also where U+FE0F is shown, the input modes and the cursor's style come out as they are.
+pub fn frames_set_modes()
+    ensures { EachFrameSetsModes }
+{}
+
+/// Screens of one size that the test takes for the same show the same, so that a client that is answered `Unchanged`
+/// misses nothing.
+pub fn same_screens_are_one()
+    ensures { EachSameIsOne }
+{}
+
+/// What is answered on some screens of one cell.
+pub fn examples_are_answered()
+    ensures { EachExampleIsAnswered }
+{}
