@@ -10,8 +10,8 @@ pub fn bytes_are_shown_in_turn()
     ensures { MoreBytesStep }
 {}
 
-/// Where nothing is unfinished the marks of an update change nothing that is shown, and neither does a begun start mark;
-/// between them a body does what it does alone.
+/// Where nothing is unfinished the marks of an update change nothing that is shown, and neither does a begun start
+/// mark; between them a body does what it does alone.
 pub fn marks_show_nothing()
     ensures marks { MarksShowNothing }
     ensures bodies { FramesShowTheirBodies }
