@@ -136,7 +136,8 @@ wiped-out f s e x k l d =
     let past : (nat_le s k && nat_lt k e) ≡ false = grind (arith, nat_tests) in
     let of : Bool → CellView → CellView = λ b y. cond b (empty_cell x)
     (cond (nat_lt s e && ((((k + 1) == s) && y.wide) || ((k == e) && y.continuation))) (empty_cell y.attrs) y) in
-    (λ i. of (past i) (d i)) ∙ half-none (nat_lt s e) ((k + 1) == s) (k == e) (empty_cell default_cell.attrs) default_cell
+    (λ i. of (past i) (d i))
+    ∙ half-none (nat_lt s e) ((k + 1) == s) (k == e) (empty_cell default_cell.attrs) default_cell
 
 all-unflags : (f : ℕ → CellView) (cols s : ℕ) → s ≡ 0 → 0 < cols → wipe_unflags cols f s cols ≡ true
 all-unflags f cols s z some = grind (arith, nat_tests)

@@ -29,8 +29,8 @@ use Rattle.vt100_agree.proofs.SentTexts.{like-text}
 
 -- the same modes, and the same style
 pub record SameModes (t u : Term) : Type 0 where
-  modes : u.modes ≡ t.modes
-  style : u.style ≡ t.style
+  pub modes : u.modes ≡ t.modes
+  pub style : u.style ≡ t.style
 
 same : (t : Term) → SameModes t t
 same t = record { modes = refl; style = refl }
