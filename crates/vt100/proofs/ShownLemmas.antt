@@ -18,7 +18,8 @@ use Rattle.vt100_core.specs.WriterLaws as core
 use Rattle.vt100_core.specs.WriterLaws.{picture_of}
 use Rattle.vt100_core.specs.Writers.{redrawn, differing}
 use Rattle.vt100_core.proofs.PictureLemmas.{shown_lines-drawn, shown_wraps-drawn, IsTerm-grid}
-use Rattle.vt100_core.proofs.PictureWriters.{cursor-of_picture, redrawn-of_picture, differing-of_pictures, grid-drawable}
+use Rattle.vt100_core.proofs.PictureWriters.{cursor-of_picture, redrawn-of_picture, differing-of_pictures}
+use Rattle.vt100_core.proofs.PictureWriters.{grid-drawable}
 use Rattle.vt100_sheet.specs.Picture.{lines_of}
 use Rattle.vt100_state.specs.State.{State}
 use Rattle.vt100_state.specs.Shown.{shown_state}
@@ -121,13 +122,15 @@ difference-of_shown old new o h e = record { contents = changed-is old new o h e
 pub screen-drawable : EachScreenIsDrawable
 screen-drawable s h p =
     let z = size_of s.shown in
-    let same : (r k : ℕ) → shown_lines s.shown r k ≡ lines_of s.shown.rows r k = λ r k. ap (λ f. f r k) (cells-are s h) in
+    let same : (r k : ℕ) → shown_lines s.shown r k ≡ lines_of s.shown.rows r k =
+    λ r k. ap (λ f. f r k) (cells-are s h) in
     record {
-      drawable = subst (λ (x : Shown). IsDrawable z x) (sym (picture-is s h)) (grid-drawable s.shown (extras_of s) (record {
-        shown = grid-unscrolled s h;
-        plain = λ r k. subst (λ (x : CellView). Contains x.text 0xFE0F → ⊥) (same r k) (p.plain r k);
-        proper = λ r k. subst (λ (x : CellView). IsProper x.attrs) (same r k) (p.proper r k);
-      }));
+      drawable = subst (λ (x : Shown). IsDrawable z x) (sym (picture-is s h))
+          (grid-drawable s.shown (extras_of s) (record {
+            shown = grid-unscrolled s h;
+            plain = λ r k. subst (λ (x : CellView). Contains x.text 0xFE0F → ⊥) (same r k) (p.plain r k);
+            proper = λ r k. subst (λ (x : CellView). IsProper x.attrs) (same r k) (p.proper r k);
+          }));
       attrs = h.state.attrs;
     }
 

@@ -18,8 +18,8 @@ pub written_then : {T E : Type 0} (r : Result T E) (fs gs all : List Form) (s t 
 written_then (Ok x) fs gs all s t u e a b = appended_then fs gs s t u a b ∙ ap (λ hs. s ++ spell hs) (sym e)
 written_then (Err x) fs gs all s t u e a b = tt
 
-pub last_written : {T E : Type 0} (r : Result T E) (fs : List Form) (s t : List ℕ) → t ≡ cond (is_ok r) (s ++ spell fs) s
-    → OnOk r (t ≡ s ++ spell fs)
+pub last_written : {T E : Type 0} (r : Result T E) (fs : List Form) (s t : List ℕ)
+    → t ≡ cond (is_ok r) (s ++ spell fs) s → OnOk r (t ≡ s ++ spell fs)
 last_written (Ok x) fs s t e = e
 last_written (Err x) fs s t e = tt
 

@@ -54,8 +54,9 @@ abbrev pub rows_formatted : GridView → ℕ → ℕ → List (List ℕ)
 rows_formatted g start width =
     each_formatted start width ((start == 0) && (width == g.width)) 0 false (visible g)
 
--- The same columns of each row over those of an earlier one, of which the first ones are row i: drawn from the cursor at
--- the row's column `start` and with the default attributes, as rows that don't go on. There are as many as both have.
+-- The same columns of each row over those of an earlier one, of which the first ones are row i: drawn from the cursor
+-- at the row's column `start` and with the default attributes, as rows that don't go on. There are as many as both
+-- have.
 abbrev pub each_diff : ℕ → ℕ → ℕ → List RowView → List RowView → List (List ℕ)
 each_diff start width i [] _ = []
 each_diff start width i (v ∷ vs) [] = []

@@ -25,8 +25,8 @@ pub fn screens_are_put_in()
     ensures { ResizedScreensArePutIn }
 {}
 
-/// Where a live screen shows no kept row, the forms that [`Screen`](crate::Screen) writes of itself are those of what it
-/// shows: equal pictures give equal texts.
+/// Where a live screen shows no kept row, the forms that [`Screen`](crate::Screen) writes of itself are those of what
+/// it shows: equal pictures give equal texts.
 pub fn redraws_are_of_what_is_shown()
     ensures { EachRedrawIsOfShown }
 {}
@@ -47,8 +47,8 @@ pub fn redraws_lead()
     ensures { EachRedrawLeads }
 {}
 
-/// The differences from an earlier screen of one size lead from what that one shows to what such a screen shows, whatever
-/// the earlier one shows.
+/// The differences from an earlier screen of one size lead from what that one shows to what such a screen shows,
+/// whatever the earlier one shows.
 pub fn differences_lead()
     ensures { EachDifferenceLeads }
 {}

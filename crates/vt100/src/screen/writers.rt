@@ -81,8 +81,9 @@ impl Screen {
     /// The forms that draw each row that is shown, from the top, on a row of default cells: `width` columns from column
     /// `start` on, or as many as the row has. A row that ends before `start` has none.
     ///
-    /// Before each row the cursor is brought to the row's column `start`, and the attributes are the default ones. Where
-    /// whole rows are asked for, a row that goes on from the one above is drawn with the cursor at the end of that one.
+    /// Before each row the cursor is brought to the row's column `start`, and the attributes are the default ones.
+    /// Where whole rows are asked for, a row that goes on from the one above is drawn with the cursor at the end of
+    /// that one.
     pub fn rows_formatted(&self, start: u16, width: u16) -> RowsFormatted<'_>
         ensures { result ≡ rows_formatted self.now.state.shown start width }
     {
@@ -120,8 +121,9 @@ impl Screen {
         self.attrs.write_escape_code_diff(contents, &prev_attrs)
     }
 
-    /// The forms that draw each row that is shown over the one that `prev` shows there, from the top, where they differ:
-    /// `width` columns from column `start` on, or as many as both rows have. Rows of one screen alone have no item.
+    /// The forms that draw each row that is shown over the one that `prev` shows there, from the top, where they
+    /// differ: `width` columns from column `start` on, or as many as both rows have. Rows that one of the screens alone
+    /// has have no item.
     ///
     /// Before each row the cursor is brought to the row's column `start`, and the attributes are the default ones.
     pub fn rows_diff<'a>(&'a self, prev: &'a Self, start: u16, width: u16) -> RowsDiff<'a>

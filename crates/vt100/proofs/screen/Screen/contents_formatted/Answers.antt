@@ -10,6 +10,7 @@ use Rattle.vt100.proofs.screen.Screen.contents_formatted.Goals as goal
 pub returns-clause-shown : goal.returns-clause-shown
 returns-clause-shown c h =
     let s = c.args.self.now.state in
-    as_shown (contents_formatted s) (picture.contents_formatted (size_of s.shown) (shown_state s)) (string_bytes c.new-contents.result)
-    (string_bytes c.write_contents_formatted.new.contents) c.new-contents.ensures.bytes c.in_ok-write_contents_formatted.ensures
+    as_shown (contents_formatted s) (picture.contents_formatted (size_of s.shown) (shown_state s))
+    (string_bytes c.new-contents.result) (string_bytes c.write_contents_formatted.new.contents)
+    c.new-contents.ensures.bytes c.in_ok-write_contents_formatted.ensures
     (redraw-of_shown s h).contents

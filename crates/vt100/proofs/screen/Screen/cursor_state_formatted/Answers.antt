@@ -10,6 +10,7 @@ use Rattle.vt100.proofs.screen.Screen.cursor_state_formatted.Goals as goal
 pub returns-clause-shown : goal.returns-clause-shown
 returns-clause-shown c h =
     let s = c.args.self.now.state in
-    as_shown (cursor_state_formatted s) (picture.cursor_state_formatted (size_of s.shown) (shown_state s)) (string_bytes c.new-contents.result)
-    (string_bytes c.write_cursor_state_formatted.new.contents) c.new-contents.ensures.bytes c.in_ok-write_cursor_state_formatted.ensures
+    as_shown (cursor_state_formatted s) (picture.cursor_state_formatted (size_of s.shown) (shown_state s))
+    (string_bytes c.new-contents.result) (string_bytes c.write_cursor_state_formatted.new.contents)
+    c.new-contents.ensures.bytes c.in_ok-write_cursor_state_formatted.ensures
     (redraw-of_shown s h).cursor
