@@ -8,6 +8,7 @@ mod script;
 mod stream;
 #[cfg(test)]
 mod tests;
+mod texts;
 mod words;
 
 use command::{command, report_fault};

@@ -5,6 +5,9 @@ ghost use Rattle.std.specs.Prelude.{◌<◌, IfOk};
 use crate::dump::{push_hex, push_screen};
 use crate::error::DumpError;
 use crate::stream::{flush, read_all, write_text};
+use crate::texts::{
+    push_check, push_diffs, push_rows, push_rows_diff, push_rows_formatted, push_texts,
+};
 use std::alloc::Global;
 use std::io::{Read, Write};
 use std::num::NonZeroU16;
@@ -28,10 +31,29 @@ enum Step {
     SetScrollback(usize),
     /// `clear_scrollback`.
     ClearScrollback,
+    /// `base`: the screen as it is now is kept, and differences are told from it. A fresh parser's screen is kept too.
+    Base,
+    /// A question.
+    Ask(Question),
+}
+
+/// What a line asks of the screen.
+#[derive(Clone, Copy, Debug)]
+enum Question {
     /// `dump`.
     Dump,
+    /// `texts`.
+    Texts,
+    /// `diffs`.
+    Diffs,
+    /// `check`.
+    Check,
     /// `rows START WIDTH`.
     Rows(u16, u16),
+    /// `rows_formatted START WIDTH`.
+    RowsFormatted(u16, u16),
+    /// `rows_diff START WIDTH`.
+    RowsDiff(u16, u16),
     /// `between START_ROW START_COL END_ROW END_COL`.
     Between(u16, u16, u16, u16),
 }
@@ -61,9 +83,27 @@ fn parse_call(name: &str, words: &mut SplitWhitespace<'_>) -> Result<Step, DumpE
         "screen_resize" => Ok(Step::ScreenResize(size(words)?, size(words)?)),
         "set_scrollback" => Ok(Step::SetScrollback(number(words)?)),
         "clear_scrollback" => Ok(Step::ClearScrollback),
-        "dump" => Ok(Step::Dump),
-        "rows" => Ok(Step::Rows(place(words)?, place(words)?)),
-        "between" => Ok(Step::Between(place(words)?, place(words)?, place(words)?, place(words)?)),
+        "base" => Ok(Step::Base),
+        _ => Ok(Step::Ask(parse_question(name, words)?)),
+    }
+}
+
+// A question, and the numbers that follow it.
+fn parse_question(name: &str, words: &mut SplitWhitespace<'_>) -> Result<Question, DumpError> {
+    match name {
+        "dump" => Ok(Question::Dump),
+        "texts" => Ok(Question::Texts),
+        "diffs" => Ok(Question::Diffs),
+        "check" => Ok(Question::Check),
+        "rows" => Ok(Question::Rows(place(words)?, place(words)?)),
+        "rows_formatted" => Ok(Question::RowsFormatted(place(words)?, place(words)?)),
+        "rows_diff" => Ok(Question::RowsDiff(place(words)?, place(words)?)),
+        "between" => Ok(Question::Between(
+            place(words)?,
+            place(words)?,
+            place(words)?,
+            place(words)?,
+        )),
         _ => Err(DumpError::Script),
     }
 }
@@ -125,11 +165,12 @@ pub(crate) fn run<R: Read, W: Write>(
         return Err(DumpError::Script);
     };
     let mut parser = Parser::new_default(alloc)?;
+    let mut base = parser.screen().clone()?;
     let mut answer = String::new(alloc);
     for line in script.lines() {
         let step = parse_step(alloc, line)?;
         answer.clear();
-        take_step(alloc, step, &mut parser, &mut answer)?;
+        take_step(alloc, step, &mut parser, &mut base, &mut answer)?;
         write_text(output, &answer)?;
     }
     flush(output)
@@ -140,12 +181,14 @@ fn take_step(
     alloc: Global,
     step: Step,
     parser: &mut Parser<()>,
+    base: &mut Screen,
     answer: &mut String,
 ) -> Result<(), DumpError> {
     match step {
         Step::Nothing => {}
         Step::New(rows, cols, capacity) => {
             *parser = Parser::new(alloc, rows, cols, capacity)?;
+            *base = parser.screen().clone()?;
             answer.push_str("new\n")?;
         }
         Step::Feed(bytes) => parser.process(&bytes)?,
@@ -153,36 +196,34 @@ fn take_step(
         Step::ScreenResize(rows, cols) => parser.screen_mut().set_size(rows, cols)?,
         Step::SetScrollback(rows) => parser.screen_mut().set_scrollback(rows)?,
         Step::ClearScrollback => parser.screen_mut().clear_scrollback(),
-        Step::Dump => push_screen(answer, parser.screen())?,
-        Step::Rows(start, width) => push_rows(answer, parser.screen(), start, width)?,
-        Step::Between(start_row, start_col, end_row, end_col) => {
-            let screen = parser.screen();
+        Step::Base => *base = parser.screen().clone()?,
+        Step::Ask(question) => tell(alloc, question, parser.screen(), base, answer)?,
+    }
+    Ok(())
+}
+
+// Appends the answer to a question.
+fn tell(
+    alloc: Global,
+    question: Question,
+    screen: &Screen,
+    base: &Screen,
+    answer: &mut String,
+) -> Result<(), DumpError> {
+    match question {
+        Question::Dump => push_screen(answer, screen)?,
+        Question::Texts => push_texts(answer, screen)?,
+        Question::Diffs => push_diffs(answer, screen, base)?,
+        Question::Check => push_check(alloc, answer, screen, base)?,
+        Question::Rows(start, width) => push_rows(answer, screen, start, width)?,
+        Question::RowsFormatted(start, width) => push_rows_formatted(answer, screen, start, width)?,
+        Question::RowsDiff(start, width) => push_rows_diff(answer, screen, base, start, width)?,
+        Question::Between(start_row, start_col, end_row, end_col) => {
             let text = screen.contents_between(start_row, start_col, end_row, end_col)?;
             answer.push_str("between ")?;
             push_hex(answer, text.as_bytes())?;
             answer.push('\n')?;
         }
-    }
-    Ok(())
-}
-
-// A line for each row that is shown: its text from a column on.
-fn push_rows(
-    answer: &mut String,
-    screen: &Screen,
-    start: u16,
-    width: u16,
-) -> Result<(), DumpError> {
-    let (height, _) = screen.size();
-    let mut rows = screen.rows(start, width);
-    for i in 0..height.get() {
-        let Some(row) = rows.next() else {
-            break;
-        };
-        let row = row?;
-        write!(answer, "row {i} ")?;
-        push_hex(answer, row.as_bytes())?;
-        answer.push('\n')?;
     }
     Ok(())
 }
