@@ -74,8 +74,7 @@ impl Grid {
     /// Draws the rows that are shown over those that `prev` shows.
     fn rows_diff(&self, contents: &mut String, pen: &mut Pen, prev: &Self) -> Result<(), GridError>
         ensures { Writes (lines_difference self.now prev.now (min (length self.now.rows) (length prev.now.rows)))
-            pen.old
-            (string_bytes contents.old) (is_ok result) pen.new (string_bytes contents.new) }
+            pen.old (string_bytes contents.old) (is_ok result) pen.new (string_bytes contents.new) }
     {
         let mut wrapping = false;
         let mut prev_wrapping = false;
