@@ -2,13 +2,12 @@
 use Rattle.std.proofs.Common.{◌≡◌, ℕ, zero, suc, ◌+◌, ◌-◌, ◌*◌, ◌<◌, ◌≤◌, true, false, List, [], ◌∷◌, ◌++◌, length, take, drop}
 use Rattle.std.proofs.Common.{get_or, nat_lt, ◌==◌, refl, sym, ◌∙◌, ap, arith, inl, inr, append_assoc}
 use Rattle.std.proofs.lemmas.Bool.Decides.{nat_tests}
-use Rattle.std.proofs.lemmas.Bool.{eqb-true}
 use Rattle.std.proofs.lemmas.List.{drop-drop, drop_all, append-nil}
 use Rattle.std.specs.Int.{is_in_range}
 use Rattle.vte_core.specs.Event.{Event, Performs, Print, Execute}
 use Rattle.vte_core.specs.Bytes.{is_esc}
-use Rattle.vte_core.specs.Text.{char_len, second_min, second_max, first_bits, char_event, malformed_event}
-use Rattle.vte_core.specs.Pending.{goes_on, text_told, text_rest, IsUnfinished, IsWhole, code_of}
+use Rattle.vte_core.specs.Text.{char_len, second_min, second_max, char_event, malformed_event}
+use Rattle.vte_core.specs.Pending.{goes_on, whole_goes_on, text_told, text_rest, IsUnfinished, IsWhole, code_of}
 use Rattle.vte_core.specs.Shapes.{before}
 use Rattle.vte_core.specs.Runs.{ReadsText, run_told, run_rest, has_no_esc}
 use Rattle.vte_core.proofs.Characters.{bool_cases, lead-high, malformed-high, tail_first}
@@ -68,6 +67,33 @@ reads_byte step u old (b ∷ s) new v some e p r =
       performed = p;
       added = rw f (ap (λ (w : List ℕ). text_told u b ++ run_told w (before is_esc s)) (sym r));
       rest = rw f (ap (λ (w : List ℕ). run_rest w (before is_esc s)) (sym r));
+    }
+
+-- a byte that doesn't go on the character that was begun: what is read after that character's U+FFFD
+cut-anew : (a : ℕ) (t : List ℕ) (b : ℕ) (s : List ℕ) → goes_on a t b ≡ false
+    → (run_told (a ∷ t) (b ∷ s) ≡ Print 0xFFFD ∷ run_told [] (b ∷ s)) × (run_rest (a ∷ t) (b ∷ s) ≡ run_rest [] (b ∷ s))
+cut-anew a t b s off = (rw off refl, rw off refl)
+
+pub reads_cut : {S : Type 0} (step : S → Event → S → Type 0) (u : List ℕ) (old : S) (bs : List ℕ) (mid : S)
+    (w : List ℕ) (k : ℕ) (new : S) (v : List ℕ) → 0 < length u → is_esc (get_or bs 0 0) ≡ false
+    → whole_goes_on u (get_or bs 0 0) ≡ false → step old (Print 0xFFFD) mid → w ≡ []
+    → ReadsText step w mid bs k new v → ReadsText step u old bs k new v
+reads_cut step [] old bs mid w k new v begun e off p none r = absurd (omega (arith, begun))
+reads_cut step (a ∷ t) old [] mid w k new v begun e off p none r = absurd (omega (arith, r.some, r.within))
+reads_cut step (a ∷ t) old (b ∷ s) mid w k new v begun e off p none r =
+    let f : is_esc b ≡ false = e in
+    let text : before is_esc (b ∷ s) ≡ b ∷ before is_esc s = rw f refl in
+    let cut = cut-anew a t b (before is_esc s) off in
+    record {
+      some = r.some;
+      within = r.within;
+      no_esc = r.no_esc;
+      told = Print 0xFFFD ∷ r.told;
+      performed = (mid, p, r.performed);
+      added = ap (run_told (a ∷ t)) text ∙ (cut.0 ∙ ap (λ (es : List Event). Print 0xFFFD ∷ es)
+          (ap (run_told []) (sym text) ∙ (ap (λ (x : List ℕ). run_told x (before is_esc (b ∷ s))) (sym none) ∙ r.added)));
+      rest = ap (run_rest (a ∷ t)) text ∙ (cut.1
+          ∙ (ap (run_rest []) (sym text) ∙ (ap (λ (x : List ℕ). run_rest x (before is_esc (b ∷ s))) (sym none) ∙ r.rest)));
     }
 
 -- a malformed sequence of one byte, of two and three

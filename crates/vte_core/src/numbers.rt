@@ -1,7 +1,7 @@
 //! The numbers of a header, digit by digit: 32 are kept, in their groups.
 
 ghost use Rattle.std.specs.Prelude.{◌≡◌, ◌+◌, ◌-◌, ◌*◌, ◌<◌, ◌≤◌, ◌^◌, ℕ, List, [], ◌∷◌, ◌++◌, length, take, true};
-ghost use Rattle.std.specs.Prelude.{IsTrue};
+ghost use Rattle.std.specs.Prelude.{IsTrue, false, slice_index};
 ghost use Rattle.vte_core.specs.Bytes.{each, is_numeric};
 ghost use Rattle.vte_core.specs.Store.{total};
 
@@ -115,6 +115,7 @@ impl Numbers {
     pub fn read(&mut self, bytes: &[u8]) -> usize
         ensures within { result ≤ length bytes.now }
         ensures numeric { each is_numeric (take result bytes.now) ≡ true }
+        ensures ended { result < length bytes.now → is_numeric (slice_index bytes.now result) ≡ false }
         ensures reads { (m : List ℕ) → ReadsNumbers self.old m → ReadsNumbers self.new (m ++ take result bytes.now) }
     {
         let mut number = self.number;

@@ -1,6 +1,7 @@
 //! The data of an operating system command, byte by byte: the first N bytes, in the first 16 pieces.
 
 ghost use Rattle.std.specs.Prelude.{◌≡◌, ◌+◌, ◌<◌, ◌≤◌, ℕ, List, [], ◌∷◌, ◌++◌, length, take, map, IsTrue, true};
+ghost use Rattle.std.specs.Prelude.{false, slice_index};
 ghost use Rattle.vte_core.specs.Event.{Osc as OscEvent};
 ghost use Rattle.vte_core.specs.Bytes.{each, is_data};
 ghost use Rattle.vte_core.specs.Heard.{osc_event};
@@ -82,6 +83,7 @@ impl<const N: usize> OscData<N> {
     pub fn read(&mut self, bytes: &[u8]) -> usize
         ensures within { result ≤ length bytes.now }
         ensures all_data { each is_data (take result bytes.now) ≡ true }
+        ensures ended { result < length bytes.now → is_data (slice_index bytes.now result) ≡ false }
         ensures reads { (s : List ℕ) → ReadsOsc N self.old s → ReadsOsc N self.new (s ++ take result bytes.now) }
     {
         let mut read = 0;

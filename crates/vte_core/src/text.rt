@@ -31,6 +31,9 @@ const BLOCK_LEN: usize = 16;
 /// How many bytes are tested at once where fewer are left.
 const SHORT_LEN: usize = 8;
 
+/// Where a control follows within so many bytes, it's cheap to look for it once more after a malformed sequence.
+const LINE_LEN: usize = 48;
+
 /// How many bytes a character with this first byte has, 0 where none has it.
 fn char_len(first: u8) -> usize
     ensures { result ≡ char_len first }
@@ -481,8 +484,8 @@ impl Unfinished {
         }
     }
 
-    /// Reads ground text after whole characters up to the next control, or else one byte, and returns how many bytes
-    /// it read.
+    /// Reads ground text after whole characters, at most up to the next control, or else one byte, and returns how many
+    /// bytes it read.
     fn mixed<P: Perform>(&mut self, performer: &mut P, bytes: &[u8]) -> usize
         requires some { 0 < length bytes.now }
         requires text { is_esc (slice_index bytes.now 0) ≡ false }
@@ -490,12 +493,15 @@ impl Unfinished {
         ensures { ReadsText P.step self.old performer.old bytes.now result performer.new self.new }
     {
         let len = text_len(bytes);
-        if len > 0 {
-            self.printed(performer, &bytes[..len]);
-            return len;
+        if len == 0 {
+            self.byte(performer, bytes[0]);
+            return 1;
         }
-        self.byte(performer, bytes[0]);
-        1
+        if len <= LINE_LEN {
+            return self.text(performer, &bytes[..len]);
+        }
+        self.printed(performer, &bytes[..len]);
+        len
     }
 
     /// Reads the characters of ASCII at the front, and with them the text after them, and returns how many bytes it
@@ -612,17 +618,14 @@ impl Unfinished {
         }
     }
 
-    /// Reads some ground text before the next ESC, and returns how many bytes it read.
+    /// Reads some ground text before the next ESC, after whole characters, and returns how many bytes it read.
     #[inline(always)]
-    fn some<P: Perform>(&mut self, performer: &mut P, bytes: &[u8]) -> usize
+    fn anew<P: Perform>(&mut self, performer: &mut P, bytes: &[u8]) -> usize
         requires some { 0 < length bytes.now }
         requires text { is_esc (slice_index bytes.now 0) ≡ false }
+        requires none { self.old ≡ [] }
         ensures { ReadsText P.step self.old performer.old bytes.now result performer.new self.new }
     {
-        if !self.is_empty() {
-            self.byte(performer, bytes[0]);
-            return 1;
-        }
         if bytes[0] < 0x20 {
             performer.execute(bytes[0]);
             return 1 + execute_controls(performer, &bytes[1..]);
@@ -631,6 +634,37 @@ impl Unfinished {
             self.plain(performer, bytes)
         } else {
             self.high(performer, bytes)
+        }
+    }
+
+    /// Reads a byte that goes on the character that was begun, or else some ground text after the U+FFFD of that
+    /// character, and returns how many bytes it read.
+    fn resume<P: Perform>(&mut self, performer: &mut P, bytes: &[u8]) -> usize
+        requires some { 0 < length bytes.now }
+        requires text { is_esc (slice_index bytes.now 0) ≡ false }
+        requires begun { 0 < length self.old }
+        ensures { ReadsText P.step self.old performer.old bytes.now result performer.new self.new }
+    {
+        if goes_on(self.bytes.as_slice(), bytes[0]) {
+            self.byte(performer, bytes[0]);
+            return 1;
+        }
+        self.clear();
+        performer.print('\u{FFFD}');
+        self.anew(performer, bytes)
+    }
+
+    /// Reads some ground text before the next ESC, and returns how many bytes it read.
+    #[inline(always)]
+    fn some<P: Perform>(&mut self, performer: &mut P, bytes: &[u8]) -> usize
+        requires some { 0 < length bytes.now }
+        requires text { is_esc (slice_index bytes.now 0) ≡ false }
+        ensures { ReadsText P.step self.old performer.old bytes.now result performer.new self.new }
+    {
+        if self.is_empty() {
+            self.anew(performer, bytes)
+        } else {
+            self.resume(performer, bytes)
         }
     }
 

@@ -1,6 +1,6 @@
-use Rattle.std.proofs.Common.{◌+◌, ◌-◌, ◌++◌, ◌∙◌, [], sym, subst, length, take, drop, rules}
+use Rattle.std.proofs.Common.{◌+◌, ◌-◌, ◌++◌, ◌∙◌, sym, subst, length, take, drop, rules}
 use Rattle.vte_core.specs.Heard.{closed_heard}
-use Rattle.vte_core.specs.Pending.{Pending, InEscape, after_bytes}
+use Rattle.vte_core.specs.Pending.{Pending, after_bytes}
 use Rattle.vte_core.specs.Standing.{IsAt}
 use Rattle.vte_core.proofs.Runs.{read_more, one_more_step}
 use Rattle.vte_core.proofs.Quiet.{escape-at}

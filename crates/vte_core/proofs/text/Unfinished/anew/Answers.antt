@@ -1,19 +1,15 @@
 use Rattle.std.proofs.Common.{◌≡◌, ◌∙◌, ◌+◌, ◌-◌, ◌++◌, ◌∷◌, sym, ap, arith, List, ℕ, [], true, false, map, take, drop}
-use Rattle.std.proofs.Common.{get_or, length, length-take, length-drop, rules}
+use Rattle.std.proofs.Common.{get_or, length, length-take, length-drop}
 use Rattle.std.proofs.lemmas.Bool.Decides.{nat_tests}
 use Rattle.std.proofs.lemmas.List.{take_more}
-use Rattle.vte_core.specs.Bytes.{is_esc, is_c0, is_plain}
+use Rattle.vte_core.specs.Bytes.{is_esc, is_c0}
 use Rattle.vte_core.specs.Event.{Execute}
 use Rattle.vte_core.specs.Runs.{run_told, run_rest, has_no_esc}
-use Rattle.vte_core.proofs.Fronts.{reads_front, reads_byte}
-use Rattle.vte_core.proofs.Runs.{nil_of_len, read_more}
+use Rattle.vte_core.proofs.Fronts.{reads_front}
+use Rattle.vte_core.proofs.Runs.{read_more}
 use Rattle.vte_core.proofs.Ground.{c0-run}
 use Rattle.vte_core.proofs.Telling.{same_events}
-use Rattle.vte_core.proofs.text.Unfinished.some.Goals as goal
-
-pub returns-then-not-is_empty : goal.returns-then-not-is_empty
-returns-then-not-is_empty g c = reads_byte g.P.Perform.step c.args.self.now c.args.performer.now c.args.bytes.now
-    c.byte.new.performer c.byte.new.self c.requires.some c.requires.text c.byte.ensures.told c.byte.ensures.rest
+use Rattle.vte_core.proofs.text.Unfinished.anew.Goals as goal
 
 pub returns-then-bytes-lt32 : goal.returns-then-bytes-lt32
 returns-then-bytes-lt32 g c =
@@ -21,7 +17,7 @@ returns-then-bytes-lt32 g c =
     let b = get_or bs 0 0 in
     let k = c.execute_controls.result in
     let rest : List ℕ = take k (take (length bs - 1) (drop 1 bs)) in
-    let none : c.args.self.now ≡ [] = nil_of_len c.args.self.now (sym c.is_empty.ensures ∙ c.if-not-is_empty.false) in
+    let none : c.args.self.now ≡ [] = c.requires.none in
     let one : take 1 bs ≡ b ∷ [] = take_more bs 0 0 c.requires.some in
     let front : take (1 + k) bs ≡ b ∷ rest = read_more bs 1 k ∙ ap (λ (xs : List ℕ). xs ++ rest) one in
     let esc : is_esc b ≡ false = c.requires.text in
