@@ -1,8 +1,8 @@
 -- A text with one more character.
-use Rattle.std.proofs.Common.{◌≡◌, ℕ, zero, suc, ◌+◌, ◌-◌, ◌<◌, ◌≤◌, true, ◌&&◌, List, [], ◌∷◌, ◌++◌, length, take}
-use Rattle.std.proofs.Common.{drop, set, replicate, sym, refl, ap, ◌∙◌, arith, length-append, length-take, length-drop}
+use Rattle.std.proofs.Common.{◌≡◌, ℕ, zero, suc, ◌+◌, ◌-◌, ◌<◌, ◌≤◌, Bool, true, false, ◌&&◌, List, [], ◌∷◌, ◌++◌, length, take}
+use Rattle.std.proofs.Common.{take_all, drop, set, replicate, sym, refl, ap, ◌∙◌, arith, length-append, length-take, length-drop}
 use Rattle.std.proofs.Common.{nat_eq, rules, append-nil}
-use Rattle.std.specs.Prelude.{encode_utf8_all, encode_utf8, chars, IsUtf8}
+use Rattle.std.specs.Prelude.{encode_utf8_all, encode_utf8, chars, IsUtf8, slice_index}
 use Rattle.std.specs.Char.{IsScalar}
 use Rattle.std.specs.Str.{IsAscii}
 use Rattle.std.proofs.lemmas.Bool.{ltb-true, and_parts, eqb-true, eq-eqb}
@@ -116,3 +116,35 @@ same-fields t u ht hu = both_ways (nat_eq t.len u.len && text_eq t.bytes u.bytes
     ∙ fields_of-text_of u hu in
     ap (λ (w : Inside). nat_eq t.len w.len && text_eq t.bytes w.bytes) (sym e)
     ∙ rw (eq-eqb t.len t.len refl) (nat_list_eq_equiv.refl t.bytes))
+
+-- ---- texts that are compared byte by byte
+
+and-last : (b : Bool) → (b && true) ≡ b
+and-last true = refl
+and-last false = refl
+
+and-moved : (a b c : Bool) → (a && (b && c)) ≡ ((a && b) && c)
+and-moved true b c = refl
+and-moved false b c = refl
+
+text_eq-step : (xs ys : List ℕ) (i : ℕ) → i < length xs → i < length ys
+    → text_eq (take (suc i) xs) (take (suc i) ys) ≡ (text_eq (take i xs) (take i ys)
+    && nat_eq (slice_index xs i) (slice_index ys i))
+text_eq-step [] ys i h k = absurd (omega (arith, h))
+text_eq-step (x ∷ xs) [] i h k = absurd (omega (arith, k))
+text_eq-step (x ∷ xs) (y ∷ ys) zero h k = and-last (nat_eq x y)
+text_eq-step (x ∷ xs) (y ∷ ys) (suc i) h k =
+    ap (λ b. nat_eq x y && b) (text_eq-step xs ys i (omega (arith, h)) (omega (arith, k)))
+    ∙ and-moved (nat_eq x y) (text_eq (take i xs) (take i ys)) (nat_eq (slice_index xs i) (slice_index ys i))
+
+-- one byte more
+pub text_eq-next : (xs ys : List ℕ) (i : ℕ) → i < length xs → i < length ys
+    → (text_eq (take i xs) (take i ys) && nat_eq (slice_index xs i) (slice_index ys i))
+    ≡ text_eq (take (i + 1) xs) (take (i + 1) ys)
+text_eq-next xs ys i h k =
+    let next : suc i ≡ i + 1 = omega arith in
+    sym (text_eq-step xs ys i h k) ∙ ap (λ n. text_eq (take n xs) (take n ys)) next
+
+pub text_eq-all : (xs ys : List ℕ) (n : ℕ) → length xs ≡ n → length ys ≡ n
+    → text_eq (take n xs) (take n ys) ≡ text_eq xs ys
+text_eq-all xs ys n h k = λ i. text_eq (take_all n xs (omega (arith, h)) i) (take_all n ys (omega (arith, k)) i)

@@ -7,7 +7,7 @@ use Rattle.std.proofs.lemmas.Bool.Decides.{nat_tests}
 use Rattle.std.proofs.lemmas.List.{places}
 use borrow.Rule.Slice.PartMut.{put_mid}
 use Rattle.vt100_forms.specs.declared.attrs.Attrs.{Attrs}
-use Rattle.vt100_cells.specs.Cell.{CellView, empty_cell, cell_of}
+use Rattle.vt100_cells.specs.Cell.{CellView, cell_of}
 use Rattle.vt100_cells.specs.Cells.{cell_at, by_position}
 use Rattle.vt100_cells.specs.Line.{IsPaired, put, run, left_cleared}
 use Rattle.vt100_cells.proofs.ListLemmas.{by_position_is, same-by_position, set-by_position, reads, reads_len}

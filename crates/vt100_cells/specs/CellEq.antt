@@ -10,9 +10,6 @@ use Rattle.vt100_forms.specs.declared.attrs.Color.TheVariants.{Default, Idx, Rgb
 use Rattle.vt100_forms.specs.Attrs.{color_eq, attrs_eq}
 use Rattle.vt100_cells.specs.Cell.{CellView, text_eq, bool_eq, cell_eq}
 
-pub text_eq-per : IsPartialEquivalence text_eq
-text_eq-per = partial_equiv_from_equiv nat_list_eq_equiv
-
 pub text_eq-true : (xs ys : List ℕ) → text_eq xs ys ≡ true → xs ≡ ys
 text_eq-true xs ys h = (bytes_decides xs ys).0 h
 
@@ -56,7 +53,7 @@ attrs_eq-true a b h =
     let m = eqb-true a.mode b.mode q.1 in
     λ i. record { fgcolor = f i; bgcolor = g i; mode = m i }
 
-attrs_eq-refl : (a : Attrs) → attrs_eq a a ≡ true
+pub attrs_eq-refl : (a : Attrs) → attrs_eq a a ≡ true
 attrs_eq-refl a = rw (color_eq-refl a.fgcolor, color_eq-refl a.bgcolor) (eq-eqb a.mode a.mode refl)
 
 -- a test on cells answers true exactly for one cell twice

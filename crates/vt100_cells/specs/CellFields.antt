@@ -73,11 +73,23 @@ view_of c = record {
   text = c.text;
   wide = is_wide_span c.span;
   continuation = is_continuation_span c.span;
-  attrs = c.attrs;
+  attrs = record { fgcolor = c.fgcolor; bgcolor = c.bgcolor; mode = c.mode };
 }
 
 abbrev pub inside_of : CellView → CellInside
-inside_of x = record { text = x.text; span = span_from x.wide x.continuation; attrs = x.attrs }
+inside_of x = record {
+  text = x.text;
+  span = span_from x.wide x.continuation;
+  fgcolor = x.attrs.fgcolor;
+  bgcolor = x.attrs.bgcolor;
+  mode = x.attrs.mode;
+}
 
 pub inside_of-view_of : (c : CellInside) → IsCell (view_of c) → inside_of (view_of c) ≡ c
-inside_of-view_of c h = λ i. record { text = c.text; span = span_from-span c.span i; attrs = c.attrs }
+inside_of-view_of c h = λ i. record {
+  text = c.text;
+  span = span_from-span c.span i;
+  fgcolor = c.fgcolor;
+  bgcolor = c.bgcolor;
+  mode = c.mode;
+}

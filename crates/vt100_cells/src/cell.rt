@@ -4,6 +4,7 @@ ghost use Rattle.std.specs.Prelude.{false, not, nat_eq, nat_lt, encode_utf8_all,
 ghost use Rattle.vt100_forms.specs.Attrs.{is_bold, is_dim, is_italic, is_underlined, is_inverse};
 ghost use Rattle.vt100_cells.specs.Cell.{IsCell, cell_eq};
 
+use crate::cell_color::CellColor;
 use crate::cell_text::CellText;
 use std::marker::Model;
 use std::mem::size_of;
@@ -29,7 +30,9 @@ pub(crate) enum Span {
 pub struct Cell {
     text: CellText,
     span: Span,
-    attrs: Attrs,
+    fgcolor: CellColor,
+    bgcolor: CellColor,
+    mode: u8,
 }
 
 const _: () = prove!(size_of::<Cell>() <= 32);
@@ -66,11 +69,16 @@ impl PartialEq for Cell {
 }
 
 /// Whether two cells have the same text, columns and attributes.
-#[inline]
-fn is_same(cell: &Cell, other: &Cell) -> bool
+// Every byte of the cells is compared, with no early exit: LLVM makes two comparisons of 16 bytes of it.
+#[inline(always)]
+pub(crate) fn is_same(cell: &Cell, other: &Cell) -> bool
     ensures { result ≡ cell_eq cell.now other.now }
 {
-    cell.text == other.text && cell.span == other.span && cell.attrs == other.attrs
+    cell.text.is_same(&other.text)
+        & (cell.span == other.span)
+        & cell.fgcolor.is_same(&other.fgcolor)
+        & cell.bgcolor.is_same(&other.bgcolor)
+        & (cell.mode == other.mode)
 }
 
 impl Eq for Cell {
@@ -100,7 +108,9 @@ impl Cell {
         Cell {
             text: CellText::new(),
             span: Span::Narrow,
-            attrs,
+            fgcolor: CellColor::new(attrs.fgcolor),
+            bgcolor: CellColor::new(attrs.bgcolor),
+            mode: attrs.mode,
         }
     }
 
@@ -112,7 +122,9 @@ impl Cell {
         Cell {
             text: CellText::new(),
             span: Span::Continuation,
-            attrs: Attrs::new(),
+            fgcolor: CellColor::new(Color::Default),
+            bgcolor: CellColor::new(Color::Default),
+            mode: 0,
         }
     }
 
@@ -131,7 +143,9 @@ impl Cell {
             } else {
                 Span::Narrow
             },
-            attrs,
+            fgcolor: CellColor::new(attrs.fgcolor),
+            bgcolor: CellColor::new(attrs.bgcolor),
+            mode: attrs.mode,
         }
     }
 
@@ -175,7 +189,9 @@ impl Cell {
         Cell {
             text,
             span,
-            attrs: self.attrs,
+            fgcolor: self.fgcolor,
+            bgcolor: self.bgcolor,
+            mode: self.mode,
         }
     }
 
@@ -194,7 +210,9 @@ impl Cell {
         Cell {
             text,
             span: self.span,
-            attrs: self.attrs,
+            fgcolor: self.fgcolor,
+            bgcolor: self.bgcolor,
+            mode: self.mode,
         }
     }
 
@@ -207,7 +225,9 @@ impl Cell {
         Cell {
             text: self.text,
             span: self.span,
-            attrs,
+            fgcolor: CellColor::new(attrs.fgcolor),
+            bgcolor: CellColor::new(attrs.bgcolor),
+            mode: attrs.mode,
         }
     }
 
@@ -246,62 +266,67 @@ impl Cell {
     pub fn is_default(&self) -> bool
         ensures { result ≡ is_default self.now }
     {
-        self.text.is_empty() && self.span == Span::Narrow && self.attrs == Attrs::new()
+        self.text.is_empty() && self.span == Span::Narrow && self.attrs() == Attrs::new()
     }
 
     /// How the cell is drawn.
+    #[inline]
     pub fn attrs(&self) -> Attrs
         ensures { result ≡ self.now.attrs }
     {
-        self.attrs
+        Attrs {
+            fgcolor: self.fgcolor.color(),
+            bgcolor: self.bgcolor.color(),
+            mode: self.mode,
+        }
     }
 
     /// The colour of the text.
     pub fn fgcolor(&self) -> Color
         ensures { result ≡ self.now.attrs.fgcolor }
     {
-        self.attrs.fgcolor
+        self.fgcolor.color()
     }
 
     /// The colour of the background.
     pub fn bgcolor(&self) -> Color
         ensures { result ≡ self.now.attrs.bgcolor }
     {
-        self.attrs.bgcolor
+        self.bgcolor.color()
     }
 
     /// Whether the text is bold.
     pub fn bold(&self) -> bool
         ensures { result ≡ is_bold self.now.attrs }
     {
-        self.attrs.bold()
+        self.attrs().bold()
     }
 
     /// Whether the text is dim.
     pub fn dim(&self) -> bool
         ensures { result ≡ is_dim self.now.attrs }
     {
-        self.attrs.dim()
+        self.attrs().dim()
     }
 
     /// Whether the text is italic.
     pub fn italic(&self) -> bool
         ensures { result ≡ is_italic self.now.attrs }
     {
-        self.attrs.italic()
+        self.attrs().italic()
     }
 
     /// Whether the text is underlined.
     pub fn underline(&self) -> bool
         ensures { result ≡ is_underlined self.now.attrs }
     {
-        self.attrs.underline()
+        self.attrs().underline()
     }
 
     /// Whether foreground and background are exchanged.
     pub fn inverse(&self) -> bool
         ensures { result ≡ is_inverse self.now.attrs }
     {
-        self.attrs.inverse()
+        self.attrs().inverse()
     }
 }

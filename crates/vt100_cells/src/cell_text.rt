@@ -4,6 +4,7 @@ ghost use Rattle.std.specs.Prelude.{encode_utf8_all, chars, slice_set, slice_ind
 ghost use Rattle.std.specs.Prelude.{◌&&◌};
 ghost use Rattle.std.specs.Char.{IsScalar};
 ghost use Rattle.unicode_width.specs.Width.{str_width};
+ghost use Rattle.vt100_cells.specs.Cell.{text_eq};
 
 use std::marker::Model;
 use std::str;
@@ -39,21 +40,16 @@ impl Model for CellText {
     ghost inverse_ok = { fields_of-text_of };
 }
 
-impl PartialEq for CellText {
-    ghost use Rattle.vt100_cells.specs.Cell.{text_eq};
-    ghost use Rattle.vt100_cells.specs.CellEq.{text_eq-per};
-
-    ghost eq = { text_eq };
-
-    ghost laws = { text_eq-per };
-
-    fn eq(&self, other: &Self) -> bool {
-        self.len == other.len && self.bytes == other.bytes
-    }
-}
-
 impl CellText {
     ghost use Rattle.vt100_cells.specs.Cell.{text_with, has_room, is_widened_by};
+
+    /// Whether the texts are the same.
+    #[inline(always)]
+    pub(crate) fn is_same(&self, other: &Self) -> bool
+        ensures { result ≡ text_eq self.now other.now }
+    {
+        (self.len == other.len) & have_same_bytes(&self.bytes, &other.bytes)
+    }
 
     pub(crate) const fn new() -> Self
         ensures { result ≡ [] }
@@ -148,6 +144,18 @@ impl CellText {
         copy_up_to_four(&mut self.bytes[start..end], encoded.as_bytes());
         self.len = end as u8;
     }
+}
+
+/// Whether two texts have the same bytes, with no early exit.
+#[inline(always)]
+fn have_same_bytes(bytes: &[u8; CONTENT_BYTES], others: &[u8; CONTENT_BYTES]) -> bool
+    ensures { result ≡ text_eq bytes.now others.now }
+{
+    let mut same = true;
+    for i in 0..CONTENT_BYTES {
+        same &= bytes[i] == others[i];
+    }
+    same
 }
 
 /// Copies at most four bytes.

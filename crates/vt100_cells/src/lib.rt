@@ -8,6 +8,7 @@
 #![tactic(auto)]
 
 mod cell;
+mod cell_color;
 mod cell_text;
 pub mod laws;
 pub mod line;

@@ -1,6 +1,6 @@
 //! Edits of the cells of one line.
 ghost use Rattle.std.specs.Prelude.{◌≡◌, ℕ, ◌+◌, ◌-◌, ◌<◌, ◌≤◌, ◌==◌, List, length, Some, true, false, not, ◌&&◌};
-ghost use Rattle.std.specs.Prelude.{slice_set, All, slice_index};
+ghost use Rattle.std.specs.Prelude.{slice_set, All, slice_index, Decides};
 ghost use Rattle.vt100_cells.specs.Cell.{CellView, IsCell, has_text, is_filled, drawn_columns, cell_of, empty_cell};
 ghost use Rattle.vt100_cells.specs.Cell.{default_cell, IsPrintable};
 ghost use Rattle.vt100_cells.specs.Line.{IsPaired, span_of, update, put, put_unflags, base_col, pair_wiped, wiped};
@@ -8,7 +8,7 @@ ghost use Rattle.vt100_cells.specs.Line.{wipe_unflags, cut, opened, closed, left
 ghost use Rattle.vt100_cells.specs.Line.{mended, shifted_left, run};
 ghost use Rattle.vt100_cells.specs.Cells.{cell_at, by_position, last_cell, inserted_cells, trimmed_len};
 
-use crate::cell::Cell;
+use crate::cell::{Cell, is_same};
 use vt100_forms::attrs::Attrs;
 
 /// The cell at column `i`.
@@ -42,6 +42,22 @@ pub fn is_continuation_at(cells: &[Cell], i: usize) -> bool
     } else {
         false
     }
+}
+
+/// Whether two lines have the same cells.
+// One tight loop over the pairs of cells; `==` of slices calls a search of four pairs at a time.
+pub fn have_same_cells(cells: &[Cell], others: &[Cell]) -> bool
+    ensures { Decides result (cells.now ≡ others.now) }
+{
+    if cells.len() != others.len() {
+        return false;
+    }
+    for i in 0..cells.len() {
+        if !is_same(&cells[i], &others[i]) {
+            return false;
+        }
+    }
+    true
 }
 
 /// Writes `cell` at column `i`, if the line goes that far.

@@ -1,5 +1,5 @@
 use Rattle.std.proofs.Common.{arith, ◌≡◌, ◌-◌, ◌∙◌, true, false, not, sym}
-use Rattle.vt100_cells.specs.Cell.{cell_eq, default_cell, is_default}
+use Rattle.vt100_cells.specs.Cell.{is_default}
 use Rattle.vt100_cells.specs.Cells.{cell_at}
 use Rattle.std.proofs.lemmas.Bool.{not-true}
 use Rattle.vt100_cells.proofs.TrimLemmas.{trimmed_len-step, trimmed_len-stop, not-false}

@@ -1,5 +1,4 @@
 use Rattle.std.proofs.Common.{◌≡◌, ◌≤◌, length, take}
-use Rattle.vt100_cells.specs.Cell.{default_cell}
 use Rattle.vt100_cells.specs.Cells.{trimmed_len}
 use Rattle.vt100_cells.proofs.line.trimmed_len.Given as goal
 

@@ -1,0 +1,14 @@
+use Rattle.std.proofs.Common.{◌∙◌, ◌≡◌, ◌&&◌, nat_eq, ap}
+use Rattle.vt100_cells.specs.Cell.{text_eq}
+use Rattle.vt100_cells.specs.CellFields.{text_of}
+use Rattle.vt100_cells.proofs.CellTextLemmas.{same-fields}
+use Rattle.vt100_cells.proofs.cell_text.CellText.is_same.Goals as goal
+
+pub returns : goal.returns
+returns c =
+    let t = c.self.inside in
+    let u = c.other.inside in
+    let views : text_eq (text_of t) (text_of u) ≡ text_eq c.args.self.now c.args.other.now =
+    λ i. text_eq (c.self.view_is i) (c.other.view_is i) in
+    ap (λ b. nat_eq t.len u.len && b) c.have_same_bytes.ensures ∙ same-fields t u c.self.invariant c.other.invariant
+    ∙ views
