@@ -1,10 +1,14 @@
 -- What calls write, one after the other.
-use Rattle.std.proofs.Common.{◌≡◌, ℕ, ◌+◌, ◌-◌, Bool, true, ◌||◌, List, [], ◌∷◌, ◌++◌, refl, sym, ap, ◌∙◌}
-use Rattle.std.proofs.Common.{append-nil, append_assoc, subst, None}
+use Rattle.std.proofs.Common.{◌≡◌, ℕ, ◌+◌, ◌-◌, ◌==◌, ◌&&◌, Bool, true, ◌||◌, List, [], ◌∷◌, ◌++◌, refl, sym, ap, ◌∙◌}
+use Rattle.std.proofs.Common.{append-nil, append_assoc, subst, None, arith}
 use Rattle.std.specs.Prelude.{encode_utf8_all}
 use Rattle.vt100_forms.specs.declared.attrs.Attrs.{Attrs}
+use Rattle.vt100_forms.specs.Attrs.{attrs_eq}
 use Rattle.vt100_forms.specs.Form.{Form, EraseChar, ClearRowForward, Backspace, spell, spelling, moves, change}
 use Rattle.vt100_cells.specs.Cell.{CellView}
+use Rattle.vt100_cells.specs.CellEq.{attrs_eq-refl, attrs_eq-true}
+use Rattle.vt100_forms.specs.declared.position.Pos.{Pos}
+use Rattle.std.proofs.lemmas.Bool.{and_parts, eqb-true, ne_eqb, eq-eqb}
 use Rattle.vt100_cells.specs.Line.{span_of}
 use Rattle.vt100_redraw.specs.declared.pen.Pen.{Pen}
 use Rattle.vt100_redraw.specs.Writer.{Drawn, Writer, ◌>>◌, skip, goto, colour, print, space, back, erasing}
@@ -90,10 +94,43 @@ pub wrote_goto : (row col : ℕ) (p : Pen) (s t : List ℕ)
 unfolding goto
 wrote_goto row col p s t h = record { pen_is = refl; text_is = h }
 
+stays : (q : Pos) → moves q q ≡ []
+stays q = rw (ne_eqb q.row (q.row + 1) (λ e. omega (arith, e)), eq-eqb q.row q.row refl, eq-eqb q.col q.col refl) refl
+
+unchanged : (a : Attrs) → change a a ≡ []
+unchanged a = rw (attrs_eq-refl a) refl
+
+-- the cursor stands there
+goto_here : (p : Pen) (pos : Pos) (s : List ℕ) → p.pos ≡ pos → Wrote (goto pos.row pos.col) p s p s
+unfolding goto
+goto_here p pos s e = record {
+  pen_is = λ i. record p { pos = sym e i };
+  text_is = sym (append-nil s) ∙ ap (λ fs. s ++ spell fs) (sym (stays p.pos) ∙ ap (moves p.pos) e);
+}
+
+pub wrote_goto_here : (p : Pen) (pos : Pos) (s : List ℕ) → ((p.pos.row == pos.row) && (p.pos.col == pos.col)) ≡ true
+    → Wrote (goto pos.row pos.col) p s p s
+wrote_goto_here p pos s h =
+    let both = and_parts (p.pos.row == pos.row) (p.pos.col == pos.col) h in
+    let rows = eqb-true p.pos.row pos.row both.0 in
+    let cols = eqb-true p.pos.col pos.col both.1 in
+    goto_here p pos s (λ i. record { row = rows i; col = cols i })
+
 pub wrote_colour : (a : Attrs) (p : Pen) (s t : List ℕ) → t ≡ s ++ spell (change p.attrs a)
     → Wrote (colour a) p s (record p { attrs = a }) t
 unfolding colour
 wrote_colour a p s t h = record { pen_is = refl; text_is = h }
+
+-- the terminal draws with these attributes already
+colour_same : (p : Pen) (a : Attrs) (s : List ℕ) → p.attrs ≡ a → Wrote (colour a) p s p s
+unfolding colour
+colour_same p a s e = record {
+  pen_is = λ i. record p { attrs = sym e i };
+  text_is = sym (append-nil s) ∙ ap (λ fs. s ++ spell fs) (sym (unchanged p.attrs) ∙ ap (change p.attrs) e);
+}
+
+pub wrote_colour_same : (p : Pen) (a : Attrs) (s : List ℕ) → attrs_eq p.attrs a ≡ true → Wrote (colour a) p s p s
+wrote_colour_same p a s h = colour_same p a s (attrs_eq-true p.attrs a h)
 
 pub wrote_print : (x : CellView) (loses : Bool) (p : Pen) (s t : List ℕ) (col : ℕ) (lost : Bool)
     → t ≡ s ++ encode_utf8_all x.text → col ≡ p.pos.col + span_of x → lost ≡ (p.lost || loses)

@@ -9,7 +9,7 @@ ghost use Rattle.vt100_redraw.specs.Writes.{Writes};
 use crate::drawing::Drawing;
 use crate::pen::Pen;
 use vt100_cells::Cell;
-use vt100_cells::line::{at, is_continuation_at};
+use vt100_cells::line::{at, have_same_cells, is_continuation_at};
 use vt100_forms::GridError;
 use vt100_forms::position::Pos;
 
@@ -70,7 +70,7 @@ impl<'a> Drawing<'a> {
     fn shows_all(&self) -> bool
         ensures { Decides result (self.now.cells.now ≡ self.now.earlier.now) }
     {
-        self.cells == self.earlier
+        have_same_cells(self.cells, self.earlier)
     }
 
     /// Whether the terminal shows the row already, and nothing is owed to it or to the row above.

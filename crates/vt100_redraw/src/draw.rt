@@ -1,5 +1,5 @@
 //! How a row is drawn on a terminal that shows an earlier one, column by column.
-ghost use Rattle.std.specs.Prelude.{◌≡◌, ◌+◌, ◌<◌, ◌≤◌, ◌^◌, ◌-◌, ◌==◌, ◌&&◌, not, length, is_ok, string_bytes};
+ghost use Rattle.std.specs.Prelude.{◌≡◌, ◌+◌, ◌<◌, ◌≤◌, ◌^◌, ◌-◌, ◌==◌, ◌&&◌, not, false, length, is_ok, string_bytes};
 ghost use Rattle.vt100_cells.specs.Cell.{has_text};
 ghost use Rattle.vt100_cells.specs.Cells.{cell_at};
 ghost use Rattle.vt100_cells.specs.Line.{put_unflags, wipe_unflags};
@@ -24,6 +24,7 @@ impl<'a> Drawing<'a> {
     }
 
     /// Whether the terminal shows the cell already.
+    #[inline]
     pub(crate) fn is_same(&self, col: u16) -> bool
         requires { col < length self.now.cells.now }
         ensures { result ≡ is_same (job_of self.now) col }
@@ -128,15 +129,13 @@ impl<'a> Drawing<'a> {
         Ok(())
     }
 
-    /// Draws the cell at `col` if the terminal shows another one there. An empty cell is erased later.
+    /// Draws the cell at `col`, since the terminal shows another one there. An empty cell is erased later.
     fn draw(&self, pen: &mut Pen, contents: &mut String, col: u16) -> Result<(), GridError>
-        requires { col < length self.now.cells.now }
+        requires in_row { col < length self.now.cells.now }
+        requires other { is_same (job_of self.now) col ≡ false }
         ensures { Writes (draw (job_of self.now) col) pen.old (string_bytes contents.old) (is_ok result) pen.new
             (string_bytes contents.new) }
     {
-        if self.is_same(col) {
-            return Ok(());
-        }
         let cell = at(self.cells, usize::from(col));
         if cell.has_contents() {
             self.arrive(pen, contents, col, span(cell))?;
@@ -159,16 +158,24 @@ impl<'a> Drawing<'a> {
         at(self.cells, usize::from(col)).is_wide_continuation() && col != self.start
     }
 
-    /// Draws one column. The second half of a wide character comes with the first.
+    /// Draws one column. The second half of a wide character comes with the first. Where the terminal shows the cell
+    /// already, and nothing is to be erased before it, that is a comparison.
     fn column(&self, pen: &mut Pen, contents: &mut String, col: u16) -> Result<(), GridError>
         requires { col < length self.now.cells.now }
         ensures { Writes (column (job_of self.now) col) pen.old (string_bytes contents.old) (is_ok result) pen.new
             (string_bytes contents.new) }
     {
+        let same = self.is_same(col);
+        if same && pen.erase.is_none() {
+            return Ok(());
+        }
         if self.is_half(col) {
             return Ok(());
         }
         self.flush(pen, contents, col)?;
+        if same {
+            return Ok(());
+        }
         self.draw(pen, contents, col)?;
         Ok(())
     }

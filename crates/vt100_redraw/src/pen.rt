@@ -1,5 +1,6 @@
 //! What a writer keeps between forms.
 ghost use Rattle.std.specs.Prelude.{◌≡◌, ◌+◌, ◌<◌, ◌^◌, is_ok, string_bytes};
+ghost use Rattle.vt100_forms.specs.Attrs.{attrs_eq};
 ghost use Rattle.vt100_cells.specs.Line.{span_of};
 ghost use Rattle.vt100_redraw.specs.Writer.{goto, turn, colour, print, space, back, erasing, clearing, marking};
 ghost use Rattle.vt100_redraw.specs.Writes.{Writes};
@@ -36,7 +37,19 @@ pub struct Pen {
 
 impl Pen {
     /// Moves the cursor.
+    // Mostly it stands there already: this test is to cost no call.
+    #[inline(always)]
     pub fn goto(&mut self, contents: &mut String, pos: Pos) -> Result<(), GridError>
+        ensures { Writes (goto pos.row pos.col) self.old (string_bytes contents.old) (is_ok result) self.new
+            (string_bytes contents.new) }
+    {
+        if self.pos == pos {
+            return Ok(());
+        }
+        self.travel(contents, pos)
+    }
+
+    fn travel(&mut self, contents: &mut String, pos: Pos) -> Result<(), GridError>
         ensures { Writes (goto pos.row pos.col) self.old (string_bytes contents.old) (is_ok result) self.new
             (string_bytes contents.new) }
     {
@@ -62,7 +75,25 @@ impl Pen {
     }
 
     /// Sets the attributes.
+    #[inline(always)]
     pub fn colour(&mut self, contents: &mut String, attrs: Attrs) -> Result<(), GridError>
+        ensures { Writes (colour attrs) self.old (string_bytes contents.old) (is_ok result) self.new
+            (string_bytes contents.new) }
+    {
+        if self.draws_with(attrs) {
+            return Ok(());
+        }
+        self.recolour(contents, attrs)
+    }
+
+    #[inline(always)]
+    fn draws_with(&self, attrs: Attrs) -> bool
+        ensures { result ≡ attrs_eq self.now.attrs attrs }
+    {
+        self.attrs == attrs
+    }
+
+    fn recolour(&mut self, contents: &mut String, attrs: Attrs) -> Result<(), GridError>
         ensures { Writes (colour attrs) self.old (string_bytes contents.old) (is_ok result) self.new
             (string_bytes contents.new) }
     {

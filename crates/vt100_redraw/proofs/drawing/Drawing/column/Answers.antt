@@ -3,8 +3,25 @@ use Rattle.std.specs.Prelude.{string_bytes}
 use Rattle.vt100_redraw.specs.Drawing.{job_of}
 use Rattle.vt100_redraw.specs.RowWriter.{column}
 use Rattle.vt100_redraw.proofs.RowWrites.{begun_column_draw, begun_column_flush, on_err, wrote_column}
-use Rattle.vt100_redraw.proofs.RowWrites.{wrote_column_half}
+use Rattle.vt100_redraw.proofs.RowWrites.{wrote_column_half, wrote_draw_same}
+use Rattle.vt100_redraw.proofs.KeptRows.{none_of, wrote_column_settled}
 use Rattle.vt100_redraw.proofs.drawing.Drawing.column.Goals as goal
+
+pub returns-then-is_none : goal.returns-then-is_none
+returns-then-is_none c =
+    wrote_column_settled (job_of c.args.self.now) c.args.col c.args.pen.now (string_bytes c.args.contents.now)
+    (none_of c.args.pen.now.erase c.if-is_none.ensures) (sym c.is_same-same.ensures ∙ c.if-same.true)
+
+pub returns-then-same-2 : goal.returns-then-same-2
+returns-then-same-2 c =
+    let j = job_of c.args.self.now in
+    let t = string_bytes c.flush.new.contents in
+    wrote_column j c.args.col c.args.pen.now (string_bytes c.args.contents.now) c.flush.new.pen t c.flush.new.pen t
+    (sym c.is_half.ensures ∙ c.if-is_half.false) c.in_ok-flush.ensures
+    (wrote_draw_same j c.args.col c.flush.new.pen t (sym c.is_same-same.ensures ∙ c.if-same-2.true))
+
+pub draw-requires : goal.draw-requires
+draw-requires c = record { in_row = c.requires; other = sym c.is_same-same.ensures ∙ c.if-same-2.false }
 
 pub returns-then-is_half : goal.returns-then-is_half
 returns-then-is_half c =

@@ -6,12 +6,7 @@ use Rattle.vt100_redraw.specs.Drawing.{job_of}
 use Rattle.vt100_redraw.specs.RowWriter.{draw}
 use Rattle.vt100_redraw.proofs.RowWrites.{begun_draw_arrive, begun_draw_colour, begun_draw_print, drawn_col, full_draw}
 use Rattle.vt100_redraw.proofs.RowWrites.{on_err, span_fits, wrote_draw_full, wrote_draw_marked, wrote_draw_passed}
-use Rattle.vt100_redraw.proofs.RowWrites.{wrote_draw_same}
 use Rattle.vt100_redraw.proofs.drawing.Drawing.draw.Goals as goal
-
-pub returns-then-is_same : goal.returns-then-is_same
-returns-then-is_same c =
-    wrote_draw_same _ _ _ _ (sym c.is_same.ensures ∙ c.if-is_same.true)
 
 pub print-requires : goal.print-requires
 print-requires c =
@@ -21,7 +16,7 @@ print-requires c =
     c.arrive.new.pen (string_bytes c.arrive.new.contents) c.colour.new.self (string_bytes c.colour.new.contents)
     c.in_ok-arrive.ensures c.in_ok-colour.ensures in
     span_fits c.args.self.now.cells.now c.args.col c.at-cell.result.now c.colour.new.self.pos.col here
-    c.args.self.now.few c.args.self.now.paired c.requires col
+    c.args.self.now.few c.args.self.now.paired c.requires.in_row col
 
 pub returns-then-has_contents : goal.returns-then-has_contents
 returns-then-has_contents c =
@@ -33,7 +28,7 @@ returns-then-has_contents c =
     let w = string_bytes c.print.new.contents in
     let here = c.at-cell.ensures ∙ ap (cell_at c.args.self.now.cells.now) c.from.ensures in
     let full = full_draw j c.args.col p c.at-cell.result.now c.span.result c.attrs.result c.loses_by_print.result here
-    (sym c.is_same.ensures ∙ c.if-is_same.false) (sym c.has_contents.ensures ∙ c.if-has_contents.true) c.span.ensures
+    c.requires.other (sym c.has_contents.ensures ∙ c.if-has_contents.true) c.span.ensures
     c.attrs.ensures c.loses_by_print.ensures in
     wrote_draw_full j c.args.col p s c.arrive.new.pen t c.colour.new.self u c.print.new.self w c.at-cell.result.now
     c.span.result c.attrs.result c.loses_by_print.result full c.in_ok-arrive.ensures c.in_ok-colour.ensures
@@ -49,7 +44,7 @@ returns-in_err-print c =
     let w = string_bytes c.print.new.contents in
     let here = c.at-cell.ensures ∙ ap (cell_at c.args.self.now.cells.now) c.from.ensures in
     let full = full_draw j c.args.col p c.at-cell.result.now c.span.result c.attrs.result c.loses_by_print.result here
-    (sym c.is_same.ensures ∙ c.if-is_same.false) (sym c.has_contents.ensures ∙ c.if-has_contents.true) c.span.ensures
+    c.requires.other (sym c.has_contents.ensures ∙ c.if-has_contents.true) c.span.ensures
     c.attrs.ensures c.loses_by_print.ensures in
     on_err c.from_residual-in_err-print.result (draw j c.args.col) p s c.print.new.self w
     c.from_residual-in_err-print.ensures.0
@@ -68,7 +63,7 @@ returns-in_err-arrive c =
     (full_draw j c.args.col p c.at-cell.result.now c.span.result c.at-cell.result.now.attrs
     (put_unflags j.cols j.old c.args.col (j.new c.args.col))
     (c.at-cell.ensures ∙ ap (cell_at c.args.self.now.cells.now) c.from.ensures)
-    (sym c.is_same.ensures ∙ c.if-is_same.false) (sym c.has_contents.ensures ∙ c.if-has_contents.true)
+    c.requires.other (sym c.has_contents.ensures ∙ c.if-has_contents.true)
     c.span.ensures refl refl) c.in_err-arrive.ensures)
 
 pub returns-in_err-colour : goal.returns-in_err-colour
@@ -81,7 +76,7 @@ returns-in_err-colour c =
     let unflags = put_unflags j.cols j.old c.args.col (j.new c.args.col) in
     let here = c.at-cell.ensures ∙ ap (cell_at c.args.self.now.cells.now) c.from.ensures in
     let full = full_draw j c.args.col p c.at-cell.result.now c.span.result c.attrs.result unflags here
-    (sym c.is_same.ensures ∙ c.if-is_same.false) (sym c.has_contents.ensures ∙ c.if-has_contents.true) c.span.ensures
+    c.requires.other (sym c.has_contents.ensures ∙ c.if-has_contents.true) c.span.ensures
     c.attrs.ensures refl in
     on_err c.from_residual-in_err-colour.result (draw j c.args.col) p s c.colour.new.self u
     c.from_residual-in_err-colour.ensures.0
@@ -92,12 +87,12 @@ pub returns-in-None : goal.returns-in-None
 returns-in-None c =
     let here = c.at-cell.ensures ∙ ap (cell_at c.args.self.now.cells.now) c.from.ensures in
     wrote_draw_marked (job_of c.args.self.now) c.args.col c.args.pen.now (string_bytes c.args.contents.now)
-    c.at-cell.result.now c.attrs-in-None.result c.mark.new.self here (sym c.is_same.ensures ∙ c.if-is_same.false)
+    c.at-cell.result.now c.attrs-in-None.result c.mark.new.self here c.requires.other
     (sym c.has_contents.ensures ∙ c.if-has_contents.false) c.in-None.is c.attrs-in-None.ensures c.mark.ensures
 
 pub returns-in-Some : goal.returns-in-Some
 returns-in-Some c =
     let here = c.at-cell.ensures ∙ ap (cell_at c.args.self.now.cells.now) c.from.ensures in
     wrote_draw_passed (job_of c.args.self.now) c.args.col c.args.pen.now (string_bytes c.args.contents.now)
-    c.at-cell.result.now c.in-Some.field-0 here (sym c.is_same.ensures ∙ c.if-is_same.false)
+    c.at-cell.result.now c.in-Some.field-0 here c.requires.other
     (sym c.has_contents.ensures ∙ c.if-has_contents.false) c.in-Some.is

@@ -1,5 +1,8 @@
-use Rattle.vt100_redraw.proofs.WritesLemmas.{wrote_colour}
+use Rattle.std.proofs.Common.{sym, ◌∙◌}
+use Rattle.std.specs.Prelude.{string_bytes}
+use Rattle.vt100_redraw.proofs.WritesLemmas.{wrote_colour_same}
 use Rattle.vt100_redraw.proofs.pen.Pen.colour.Goals as goal
 
-pub returns : goal.returns
-returns c = wrote_colour _ _ _ _ c.in_ok-write_escape_code_diff.ensures.bytes
+pub returns-then-draws_with : goal.returns-then-draws_with
+returns-then-draws_with c = wrote_colour_same c.args.self.now c.args.attrs (string_bytes c.args.contents.now)
+    (sym c.draws_with.ensures ∙ c.if-draws_with.true)

@@ -1,9 +1,8 @@
-use Rattle.std.proofs.Common.{◌++◌, ap, ◌∙◌}
+use Rattle.std.proofs.Common.{sym, ◌∙◌}
 use Rattle.std.specs.Prelude.{string_bytes}
-use Rattle.vt100_forms.specs.Form.{spell}
-use Rattle.vt100_redraw.proofs.WritesLemmas.{wrote_goto}
+use Rattle.vt100_redraw.proofs.WritesLemmas.{wrote_goto_here}
 use Rattle.vt100_redraw.proofs.pen.Pen.goto.Goals as goal
 
-pub returns : goal.returns
-returns c = wrote_goto _ _ _ _ _ (c.in_ok-write_buf.ensures.bytes ∙ ap
-    (λ fs. string_bytes c.args.contents.now ++ spell fs) c.new.ensures)
+pub returns-then-eq : goal.returns-then-eq
+returns-then-eq c = wrote_goto_here c.args.self.now c.args.pos (string_bytes c.args.contents.now) (sym c.eq.ensures
+    ∙ c.if-eq.true)
