@@ -1,4 +1,4 @@
--- No edit of a row puts U+FFFD into it, where none was put in, and its attributes stay proper, where proper ones are
+-- No edit of a row puts U+FFFD into it, where none was put in, and its attributes stay sound, where sound ones are
 -- drawn with.
 use Rattle.std.proofs.Common.{◌≡◌, ℕ, ◌+◌, ◌-◌, ◌<◌, ◌≤◌, ◌==◌, Bool, cond, not, List, [], ◌∷◌}
 use Rattle.std.proofs.Common.{length, min, arith, sym, subst, nat_lt, All}
@@ -7,7 +7,7 @@ use Rattle.std.specs.List.{range_with_len}
 use Rattle.std.proofs.lemmas.Bool.{cases_lt, cond_both}
 use Rattle.std.proofs.lemmas.List.Elements.{All-nil, All-cons, All-push, All-map, All-replicate, All-take}
 use Rattle.vt100_forms.specs.declared.attrs.Attrs.{Attrs}
-use Rattle.vt100_forms.specs.Attrs.{default_attrs, IsProper}
+use Rattle.vt100_forms.specs.Attrs.{default_attrs}
 use Rattle.vt100_cells.specs.Cell.{CellView, default_cell, empty_cell, continuation_cell, cell_of, text_with, has_room}
 use Rattle.vt100_cells.specs.Cell.{appended}
 use Rattle.vt100_cells.specs.Cells.{cell_at, by_position, trimmed_len}
@@ -19,7 +19,7 @@ use Rattle.vt100_rows.specs.Row.{trimmed}
 use Rattle.vt100_sheet.specs.Sheet.{row_at, rows_by_position, moved_up, moved_down, opened_line}
 use Rattle.vt100_sheet.specs.Sheet.{erased_forward_at, erased_backward_at, first_rows}
 use Rattle.vt100_sheet.proofs.SheetLemmas.{row_at_past}
-use Rattle.vt100_state.proofs.ProperLemmas.{default-proper}
+use Rattle.vt100_state.proofs.ColourLemmas.{IsSound, default-sound}
 
 -- ---- cells
 
@@ -29,30 +29,30 @@ IsKnown c = c ≡ 0xFFFD → ⊥
 
 pub record IsClean (x : CellView) : Type 0 where
   pub text : All IsKnown x.text
-  pub attrs : IsProper x.attrs
+  pub attrs : IsSound x.attrs
 
 either : (b : Bool) (x y : CellView) → IsClean x → IsClean y → IsClean (cond b x y)
 either b x y p q = cond_both b x y IsClean (λ _. p) (λ _. q)
 
-clean-empty : (a : Attrs) → IsProper a → IsClean (empty_cell a)
+clean-empty : (a : Attrs) → IsSound a → IsClean (empty_cell a)
 clean-empty a p = record { text = All-nil IsKnown; attrs = p }
 
 clean-default : IsClean default_cell
-clean-default = clean-empty default_attrs default-proper
+clean-default = clean-empty default_attrs default-sound
 
 clean-emptied : (x : CellView) → IsClean x → IsClean (empty_cell x.attrs)
 clean-emptied x h = clean-empty x.attrs h.attrs
 
 clean-continuation : IsClean continuation_cell
-clean-continuation = record { text = All-nil IsKnown; attrs = default-proper }
+clean-continuation = record { text = All-nil IsKnown; attrs = default-sound }
 
-pub clean-of : (c : ℕ) (a : Attrs) → IsKnown c → IsProper a → IsClean (cell_of c a)
+pub clean-of : (c : ℕ) (a : Attrs) → IsKnown c → IsSound a → IsClean (cell_of c a)
 clean-of c a h p = record { text = All-cons IsKnown c [] h (All-nil IsKnown); attrs = p }
 
 space-known : IsKnown 32
 space-known = λ e. omega (arith, e)
 
-clean-space : (a : Attrs) → IsProper a → IsClean (cell_of 32 a)
+clean-space : (a : Attrs) → IsSound a → IsClean (cell_of 32 a)
 clean-space a p = clean-of 32 a space-known p
 
 text-with : (cs : List ℕ) (c : ℕ) → All IsKnown cs → IsKnown c → All IsKnown (text_with cs c)
@@ -80,14 +80,14 @@ Line f = (k : ℕ) → IsClean (f k)
 line-update : (f : ℕ → CellView) (i : ℕ) (x : CellView) → Line f → IsClean x → Line (update f i x)
 line-update f i x h y k = either _ _ _ y (h k)
 
-line-put : (f : ℕ → CellView) (i : ℕ) (x : CellView) (a : Attrs) → IsProper a → Line f → IsClean x
+line-put : (f : ℕ → CellView) (i : ℕ) (x : CellView) (a : Attrs) → IsSound a → Line f → IsClean x
     → Line (put f i x a)
 line-put f i x a p h y k =
     either _ _ _ y (either _ _ _ clean-continuation
     (either _ _ _ (clean-space a p) (either _ _ _ (clean-emptied (f k) (h k))
     (either _ _ _ (clean-empty a p) (h k)))))
 
-line-wiped : (f : ℕ → CellView) (s e : ℕ) (a : Attrs) → IsProper a → Line f → Line (wiped f s e a)
+line-wiped : (f : ℕ → CellView) (s e : ℕ) (a : Attrs) → IsSound a → Line f → Line (wiped f s e a)
 line-wiped f s e a p h k = either _ _ _ (clean-empty a p) (either _ _ _ (clean-emptied (f k) (h k)) (h k))
 
 line-cut : (n : ℕ) (f : ℕ → CellView) → Line f → Line (cut n f)
@@ -119,7 +119,7 @@ clean-either b v w p q = cond_both b v w IsCleanRow (λ _. p) (λ _. q)
 pub clean-blank : (n : ℕ) → IsCleanRow (blank_row n)
 clean-blank n = record { cells = All-replicate IsClean n default_cell clean-default }
 
-pub clean-cleared : (v : RowView) (a : Attrs) → IsProper a → IsCleanRow (cleared_row v a)
+pub clean-cleared : (v : RowView) (a : Attrs) → IsSound a → IsCleanRow (cleared_row v a)
 clean-cleared v a p = record { cells = All-replicate IsClean (length v.cells) (empty_cell a) (clean-empty a p) }
 
 pub clean-with_wrap : (v : RowView) (b : Bool) → IsCleanRow v → IsCleanRow (with_wrap v b)
@@ -128,7 +128,7 @@ clean-with_wrap v b h = record { cells = h.cells }
 pub clean-unwrapped : (v : RowView) → IsCleanRow v → IsCleanRow (unwrapped v)
 clean-unwrapped v h = record { cells = h.cells }
 
-pub clean-placed : (v : RowView) (i : ℕ) (x : CellView) (a : Attrs) → IsProper a → IsCleanRow v → IsClean x
+pub clean-placed : (v : RowView) (i : ℕ) (x : CellView) (a : Attrs) → IsSound a → IsCleanRow v → IsClean x
     → IsCleanRow (placed v i x a)
 clean-placed v i x a p h y =
     record {
@@ -136,7 +136,7 @@ clean-placed v i x a p h y =
           (line-put (cell_at v.cells) i x a p (clean-at v.cells h.cells) y);
     }
 
-pub clean-wiped : (v : RowView) (s e : ℕ) (a : Attrs) → IsProper a → IsCleanRow v → IsCleanRow (wiped_row v s e a)
+pub clean-wiped : (v : RowView) (s e : ℕ) (a : Attrs) → IsSound a → IsCleanRow v → IsCleanRow (wiped_row v s e a)
 clean-wiped v s e a p h =
     record {
       cells = cells-by (length v.cells) (wiped (cell_at v.cells) s e a)
@@ -157,7 +157,7 @@ clean-joined v col c h k =
           (clean-joined_cell v col c h k));
     }
 
-pub clean-join : (v : RowView) (col c : ℕ) (a : Attrs) → IsProper a → IsCleanRow v → IsKnown c
+pub clean-join : (v : RowView) (col c : ℕ) (a : Attrs) → IsSound a → IsCleanRow v → IsKnown c
     → IsCleanRow (join_row v col c a)
 clean-join v col c a p h k =
     clean-either (not (is_widening v col c)) (joined_row v col c) _ (clean-joined v col c h k)
@@ -234,13 +234,13 @@ clean-opened_line rows first end n width h r =
     let down = clean-moved_down rows first end n width h r in
     clean-either _ _ _ (clean-unwrapped (moved_down rows first end n width r) down) down
 
-pub clean-erased_forward : (rows : List RowView) (row col width : ℕ) (a : Attrs) → IsProper a → All IsCleanRow rows
+pub clean-erased_forward : (rows : List RowView) (row col width : ℕ) (a : Attrs) → IsSound a → All IsCleanRow rows
     → (r : ℕ) → IsCleanRow (erased_forward_at rows row col width a r)
 clean-erased_forward rows row col width a p h r =
     clean-either _ _ _ (clean-cleared (row_at rows r) a p)
     (clean-either _ _ _ (clean-wiped (row_at rows r) col width a p (clean-row rows h r)) (clean-row rows h r))
 
-pub clean-erased_backward : (rows : List RowView) (row end : ℕ) (a : Attrs) → IsProper a → All IsCleanRow rows → (r : ℕ)
+pub clean-erased_backward : (rows : List RowView) (row end : ℕ) (a : Attrs) → IsSound a → All IsCleanRow rows → (r : ℕ)
     → IsCleanRow (erased_backward_at rows row end a r)
 clean-erased_backward rows row end a p h r =
     clean-either _ _ _ (clean-cleared (row_at rows r) a p)

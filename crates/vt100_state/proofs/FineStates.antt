@@ -3,7 +3,6 @@ use Rattle.std.proofs.Common.{◌≡◌, ◌∙◌, ℕ, zero, suc, ◌+◌, ◌
 use Rattle.std.proofs.Common.{Some, None, min, ap, arith, refl, sym, subst, if◌then◌else◌}
 use Rattle.std.specs.Char.{IsScalar}
 use Rattle.std.proofs.lemmas.Bool.{cond_both, false≢true}
-use Rattle.vt100_forms.specs.Attrs.{IsProper}
 use Rattle.vt100_core.specs.Grid.{GridView, IsAllocated, new_grid, allocated, cleared}
 use Rattle.vt100_core.specs.declared.scrollback.Scrollback.TheVariants.{Disabled, Enabled}
 use Rattle.vt100_core.specs.declared.printed.Printed.{Printed}
@@ -31,7 +30,7 @@ use Rattle.vt100_state.proofs.FineGrids.{drawn-lines_inserted, drawn-lines_delet
 use Rattle.vt100_state.proofs.FineTexts.{drawn-printed}
 use Rattle.vt100_state.proofs.FineSizes.{new-fine, drawn-allocated, fine-cleared, drawn-cleared, none-shown}
 use Rattle.vt100_state.proofs.FineSizes.{drawn-none_kept, fine-resized, some-resized}
-use Rattle.vt100_state.proofs.ProperLemmas.{default-proper}
+use Rattle.vt100_state.proofs.ColourLemmas.{IsSound, default-sound}
 use Rattle.vt100_state.proofs.StateLemmas.{state_whole}
 
 -- a terminal's size, and how many rows it keeps
@@ -61,8 +60,8 @@ pub record IsWell (b : Bounds) (s : State) : Type 0 where
   pub shown : IsDrawn (limits b s.alternate) s.shown
   pub other : IsFine (limits b (not s.alternate)) s.other
   pub main : s.alternate ≡ true → IsAllocated s.other
-  pub attrs : IsProper s.attrs
-  pub saved_attrs : IsProper s.saved_attrs
+  pub attrs : IsSound s.attrs
+  pub saved_attrs : IsSound s.saved_attrs
   pub last : (c : ℕ) → s.last ≡ Some c → IsScalar c × IsKnown c
 
 not-not : (b c : Bool) → b ≡ not c → not b ≡ c
@@ -74,7 +73,7 @@ is-state b s w =
     state_whole s w.shown.some w.main (w.other.height ∙ sym w.shown.fine.height)
     (w.other.width ∙ sym w.shown.fine.width) w.shown.fine.keeps (w.other.keeps ∙ not-not
     (not s.alternate) s.alternate refl)
-    w.attrs w.saved_attrs w.shown.fine.grid w.other.grid
+    w.attrs.proper w.saved_attrs.proper w.shown.fine.grid w.other.grid
 
 -- ---- the shown sheet
 
@@ -327,8 +326,8 @@ well-fresh b a = record {
       (new-fine b.height b.width (Enabled b.capacity) a.some_rows a.few_rows a.some_cols a.few_cols a.few);
   other = new-fine b.height b.width Disabled a.some_rows a.few_rows a.some_cols a.few_cols (omega arith);
   main = λ e. absurd (false≢true e);
-  attrs = default-proper;
-  saved_attrs = default-proper;
+  attrs = default-sound;
+  saved_attrs = default-sound;
   last = λ c e. absurd (none-some c e);
 }
 

@@ -18,7 +18,7 @@ use Rattle.vt100_state.specs.Step.{reports_of, resized_to}
 use Rattle.vt100_state.specs.Effect.{effect}
 use Rattle.vt100_state.specs.Made.{Act, Fed, Resized, played, events_added, made_on, made}
 use Rattle.vt100_state.specs.Holds.{IsAct, AreActs, last_rows, last_cols, MakesStates, MakesLastSize}
-use Rattle.vt100_state.specs.Holds.{MakesCapacity, MakesNoOffset, MakesCells, MakesProperCells}
+use Rattle.vt100_state.specs.Holds.{MakesCapacity, MakesNoOffset, MakesCells, MakesProperCells, MakesByteColours}
 use Rattle.vt100_state.specs.Holds.{KeepsAtSameSize}
 use Rattle.vt100_state.proofs.CleanRows.{IsKnown, IsClean, IsCleanRow, clean-row, clean-cell}
 use Rattle.vt100_state.proofs.FineGrids.{Limits, IsFine}
@@ -115,7 +115,16 @@ pub makes-proper_cells : MakesProperCells
 makes-proper_cells rows cols capacity acts h r c =
     let s = made rows cols capacity acts in
     let w = made-well rows cols capacity acts h in
-    (clean-cell (visible_at s.shown r) (shown-row _ s.shown w.shown.fine r).1 c).attrs
+    (clean-cell (visible_at s.shown r) (shown-row _ s.shown w.shown.fine r).1 c).attrs.proper
+
+pub makes-byte_colours : MakesByteColours
+makes-byte_colours rows cols capacity acts h =
+    let s = made rows cols capacity acts in
+    let w = made-well rows cols capacity acts h in
+    record {
+      cells = λ r c. (clean-cell (visible_at s.shown r) (shown-row _ s.shown w.shown.fine r).1 c).attrs.colours;
+      drawn = w.attrs.colours;
+    }
 
 -- ---- the same size
 

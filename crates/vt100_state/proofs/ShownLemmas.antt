@@ -1,11 +1,13 @@
 -- What a terminal shows is what its screen tells.
 use Rattle.std.proofs.Common.{◌≡◌, ◌∙◌, ℕ, ◌+◌, ◌-◌, ◌<◌, ◌≤◌, ◌==◌, Bool, true, false, cond, ◌&&◌, List, [], ◌∷◌}
-use Rattle.std.proofs.Common.{zero, suc, length, refl, sym, ap, arith, ⊎_elim, nat_lt, Some, None, Option}
+use Rattle.std.proofs.Common.{zero, suc, length, refl, sym, ap, arith, ⊎_elim, nat_lt, Some, None, Option, subst}
+use Rattle.std.proofs.Common.{Contains}
 use Rattle.std.specs.Prelude.{unwrap_or}
 use Rattle.std.specs.Option.{option_map}
 use Rattle.std.proofs.lemmas.Bool.{cond_both, cases_lt, eqb-true, and_parts}
 use Rattle.std.proofs.lemmas.Bool.Decides.{nat_tests}
 use Rattle.std.proofs.lemmas.Option.{slice_get-get_or}
+use Rattle.std.proofs.lemmas.List.Elements.{All-nil, All-contains}
 use Rattle.vt100_forms.specs.declared.attrs.Attrs.{Attrs}
 use Rattle.vt100_forms.specs.Attrs.{flags_of, IsProper, with_mode, default_attrs}
 use Rattle.vt100_cells.specs.Cell.{CellView, default_cell}
@@ -16,7 +18,7 @@ use Rattle.vt100_core.specs.Grid.{GridView, IsGrid, IsAllocated, visible_at, vis
 use Rattle.vt100_core.specs.Picture.{shown_lines}
 use Rattle.vt100_state.specs.State.{State, IsState}
 use Rattle.vt100_state.specs.Shown.{shown_state, EachCellIsTold, EachWrapIsTold, AreToldAlike}
-use Rattle.vt100_state.specs.Shown.{AlikeShowTheSame}
+use Rattle.vt100_state.specs.Shown.{AlikeShowTheSame, IsShownSomewhere, IsToldSomewhere, EachCharacterIsTold}
 
 -- ---- rows and cells
 
@@ -89,6 +91,47 @@ each-wrap_is_told s i r =
     ∙ ap (λ b. b && v.wrapped) (sym (lt-false r g.height h)))
     (cases_lt r g.height)
 
+-- ---- characters
+
+some-same : (x y : CellView) → Some x ≡ Some y → x ≡ y
+some-same x y e = ap (λ o. unwrap_or o x) e
+
+none-stands : (x : CellView) (c : ℕ) → x ≡ default_cell → Contains x.text c → ⊥
+none-stands x c e h =
+    All-contains (λ _. ⊥) [] c (All-nil (λ _. ⊥)) (subst (λ (y : CellView). Contains y.text c) e h)
+
+stands-told : (s : State) → IsState s → (c : ℕ) → IsShownSomewhere s c → IsToldSomewhere s c
+stands-told s i c h =
+    let x = (shown_state s).cell h.0 h.1 in
+    ⊎_elim
+    (λ (l : h.0 < s.shown.height). ⊎_elim
+    (λ (w : h.1 < s.shown.width). record {
+      row = h.0;
+      col = h.1;
+      in_rows = l;
+      in_cols = w;
+      cell = x;
+      told = each-cell_is_told s i h.0 h.1 l w;
+      stands = h.2;
+    })
+    (λ (w : s.shown.width ≤ h.1). absurd (none-stands x c
+    (outside s.shown h.0 h.1 (wide-out h.0 h.1 s.shown.height s.shown.width w)) h.2))
+    (cases_lt h.1 s.shown.width))
+    (λ (l : s.shown.height ≤ h.0). absurd (none-stands x c
+    (outside s.shown h.0 h.1 (high-out h.0 h.1 s.shown.height s.shown.width l)) h.2))
+    (cases_lt h.0 s.shown.height)
+
+pub each-character_is_told : EachCharacterIsTold
+each-character_is_told s i c = record {
+  told = stands-told s i c;
+  shown = λ h. let e = each-cell_is_told s i h.row h.col h.in_rows h.in_cols in (
+    h.row,
+    h.col,
+    subst (λ (y : CellView). Contains y.text c)
+        (some-same h.cell ((shown_state s).cell h.row h.col) (sym h.told ∙ e)) h.stands,
+  );
+}
+
 -- ---- attributes by what is asked of them
 
 abbrev bit : Bool → ℕ → ℕ
@@ -126,9 +169,6 @@ same-attrs a b p q fg bg flags =
     λ i. record { fgcolor = fg i; bgcolor = bg i; mode = mode i }
 
 -- ---- two screens
-
-some-same : (x y : CellView) → Some x ≡ Some y → x ≡ y
-some-same x y e = ap (λ o. unwrap_or o x) e
 
 cells-same : (s t : State) → IsState s → IsState t → AreToldAlike s t → (r c : ℕ)
     → (shown_state s).cell r c ≡ (shown_state t).cell r c

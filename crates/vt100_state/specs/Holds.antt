@@ -1,6 +1,7 @@
 -- What is true of every terminal that bytes and resizes have made.
 use Rattle.std.specs.Prelude.{ℕ, ◌^◌, ◌<◌, ◌≡◌, List, [], ◌∷◌, All, Contains}
 use Rattle.vt100_forms.specs.Attrs.{IsProper}
+use Rattle.vt100_forms.specs.Length.{HasByteColors}
 use Rattle.vt100_cells.specs.Cell.{IsCell}
 use Rattle.vt100_cells.specs.Cells.{cell_at}
 use Rattle.vt100_core.specs.Grid.{visible_at}
@@ -80,6 +81,15 @@ ShowsProperCells s = (r c : ℕ) → IsProper (cell_at (visible_at s.shown r).ce
 abbrev pub MakesProperCells : Type 0
 MakesProperCells = (rows cols capacity : ℕ) (acts : List Act) → AreActs rows cols capacity acts
     → ShowsProperCells (made rows cols capacity acts)
+
+-- the colours of each cell that is shown, and those that are drawn with, are numbered from 0 to 255
+pub record ShowsByteColours (s : State) : Type 0 where
+  pub cells : (r c : ℕ) → HasByteColors (cell_at (visible_at s.shown r).cells c).attrs
+  pub drawn : HasByteColors s.attrs
+
+abbrev pub MakesByteColours : Type 0
+MakesByteColours = (rows cols capacity : ℕ) (acts : List Act) → AreActs rows cols capacity acts
+    → ShowsByteColours (made rows cols capacity acts)
 
 -- the size that a terminal has already changes nothing, and no row leaves
 abbrev pub KeepsAtSameSize : Type 0

@@ -1,5 +1,5 @@
 -- What a terminal shows, and how the calls that ask a screen about it tell that.
-use Rattle.std.specs.Prelude.{ℕ, ◌<◌, ◌≡◌, Bool, false, Option, Some, unwrap_or}
+use Rattle.std.specs.Prelude.{ℕ, ◌<◌, ◌≡◌, Bool, false, Option, Some, unwrap_or, Contains}
 use Rattle.std.specs.Option.{option_map}
 use Rattle.vt100_forms.specs.Attrs.{flags_of}
 use Rattle.vt100_cells.specs.Cell.{CellView}
@@ -35,6 +35,28 @@ EachCellIsTold = (s : State) → IsState s → (r c : ℕ) → r < s.shown.heigh
 
 abbrev pub EachWrapIsTold : Type 0
 EachWrapIsTold = (s : State) → IsState s → (r : ℕ) → told_wrap s r ≡ (shown_state s).wrapped r
+
+-- a character stands in the text of a cell that is shown
+abbrev pub IsShownSomewhere : State → ℕ → Type 0
+IsShownSomewhere s c = (row : ℕ) × (col : ℕ) × Contains ((shown_state s).cell row col).text c
+
+-- and in the text of a cell that is told at a place of the screen
+pub record IsToldSomewhere (s : State) (c : ℕ) : Type 0 where
+  pub row : ℕ
+  pub col : ℕ
+  pub in_rows : row < s.shown.height
+  pub in_cols : col < s.shown.width
+  pub cell : CellView
+  pub told : told_cell s row col ≡ Some cell
+  pub stands : Contains cell.text c
+
+-- the one is so exactly where the other is
+pub record IsToldWhereShown (s : State) (c : ℕ) : Type 0 where
+  pub told : IsShownSomewhere s c → IsToldSomewhere s c
+  pub shown : IsToldSomewhere s c → IsShownSomewhere s c
+
+abbrev pub EachCharacterIsTold : Type 0
+EachCharacterIsTold = (s : State) → IsState s → (c : ℕ) → IsToldWhereShown s c
 
 -- two screens of one size of which all these calls tell the same
 pub record AreToldAlike (s t : State) : Type 0 where

@@ -3,8 +3,8 @@
 //!
 //! Sizes are from 1 to 65,535, and fewer than 2^64 rows are kept, as the types of the calls say.
 ghost use Rattle.vt100_state.specs.Holds.{MakesStates, MakesLastSize, MakesCapacity, MakesNoOffset, MakesCells};
-ghost use Rattle.vt100_state.specs.Holds.{MakesProperCells, KeepsAtSameSize};
-ghost use Rattle.vt100_state.specs.Shown.{EachCellIsTold, EachWrapIsTold, AlikeShowTheSame};
+ghost use Rattle.vt100_state.specs.Holds.{MakesProperCells, MakesByteColours, KeepsAtSameSize};
+ghost use Rattle.vt100_state.specs.Shown.{EachCellIsTold, EachWrapIsTold, AlikeShowTheSame, EachCharacterIsTold};
 
 /// It is a state of a terminal: its sheets are grids of one size, the shown one and the main one have their rows, the
 /// main one alone keeps rows, and the drawing and the saved attributes are proper.
@@ -35,15 +35,22 @@ pub fn proper_cells()
     ensures { MakesProperCells }
 {}
 
+/// The colours of each cell that is shown, and those that are drawn with, have numbers from 0 to 255.
+pub fn byte_colours()
+    ensures { MakesByteColours }
+{}
+
 /// A resize to the size that the terminal has already changes nothing, and no row leaves.
 pub fn same_sizes()
     ensures { KeepsAtSameSize }
 {}
 
 /// At each place of the screen `Screen::cell` tells a cell, and it is the one that is shown; `Screen::row_wrapped`
-/// tells each row's flag. So two terminals of one size of which the calls that ask tell the same show the same.
+/// tells each row's flag. So two terminals of one size of which the calls that ask tell the same show the same, and a
+/// character, as U+FE0F, stands somewhere in what is shown exactly where it stands in a cell that is told.
 pub fn shown_is_told()
     ensures cells { EachCellIsTold }
     ensures wraps { EachWrapIsTold }
     ensures alike { AlikeShowTheSame }
+    ensures characters { EachCharacterIsTold }
 {}

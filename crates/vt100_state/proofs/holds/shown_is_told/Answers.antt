@@ -1,5 +1,6 @@
 -- Answers for holds::shown_is_told.
 use Rattle.vt100_state.proofs.ShownLemmas.{each-cell_is_told, each-wrap_is_told, alike-show_the_same}
+use Rattle.vt100_state.proofs.ShownLemmas.{each-character_is_told}
 use Rattle.vt100_state.proofs.holds.shown_is_told.Goals as goal
 
 pub returns-clause-cells : goal.returns-clause-cells
@@ -10,3 +11,6 @@ returns-clause-wraps c = each-wrap_is_told
 
 pub returns-clause-alike : goal.returns-clause-alike
 returns-clause-alike c = alike-show_the_same
+
+pub returns-clause-characters : goal.returns-clause-characters
+returns-clause-characters c = each-character_is_told
