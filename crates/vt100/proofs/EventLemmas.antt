@@ -56,7 +56,7 @@ does_steps step scrolls f c v (Ok a) d w t k = record {
 }
 does_steps step scrolls f c v (Err Memory) d w t k = record {
   dead = λ e. ((t.dead e).2, (t.dead e).1);
-  live = λ e. inr (t.memory refl, k);
+  live = λ e. inr (t.memory refl, k, t.told);
 }
 does_steps step scrolls f c v (Err Failed) d w t k = record {
   dead = λ e. ((t.dead e).2, (t.dead e).1);
@@ -113,7 +113,7 @@ pub does_refused : {C : Type 0} (step : C → ScreenView → Call → C → Scre
     → Does step scrolls (λ s. partly (f s) k) c v d w
 does_refused step scrolls f k c v Memory d w h x bounds = record {
   dead = λ e. absurd (false≢true (sym h ∙ e));
-  live = λ e. inr (x.tries.memory refl, bounds);
+  live = λ e. inr (x.tries.memory refl, bounds, x.tries.told);
 }
 does_refused step scrolls f k c v Failed d w h x bounds = record {
   dead = λ e. absurd (false≢true (sym h ∙ e));

@@ -1,5 +1,6 @@
 pub mod EventLemmas
 pub mod HearLemmas
+pub mod RefusedLemmas
 pub mod RepeatLemmas
 pub mod PlayLemmas
 pub mod PrintableLemmas
@@ -12,3 +13,4 @@ pub mod BoundsLemmas
 pub mod ShownLemmas
 pub mod WriteLemmas
 pub mod RowsLemmas
+pub mod RowTexts

@@ -1,5 +1,5 @@
 -- A character that is printed again and again.
-use Rattle.std.proofs.Common.{◌≡◌, ◌∙◌, ◌+◌, ℕ, Bool, false, Option, Some, Ok, Err, add-one, ap, sym, subst}
+use Rattle.std.proofs.Common.{◌≡◌, ◌∙◌, ◌+◌, ◌++◌, ℕ, Bool, false, Option, Some, Ok, Err, add-one, ap, sym, subst}
 use Rattle.std.proofs.lemmas.Bool.{false≢true}
 use Rattle.vt100_rows.specs.Row.{RowView}
 use Rattle.vt100_state.specs.State.{State}
@@ -35,20 +35,25 @@ repeated_tries scrolls n ch v w c d live is_last is_w hears = record {
   screen = subst (λ (o : Option ℕ). w ≡ alive (repeated_last o n v.state).state) (sym is_last) is_w;
   hears = subst (λ (o : Option ℕ). Hears scrolls c (repeated_last o n v.state).reports d) (sym is_last) hears;
   memory = λ e. cc;
+  told = tt;
   refused = λ e. cc;
   dead = λ e. absurd (false≢true (sym live ∙ e));
 }
 
 -- a refusal on the way, of a screen u that hadn't failed
-pub repeated_refused : {C : Type 0} (scrolls : C → RowView → Bool → C → Type 0) (n ch : ℕ) (v u w : ScreenView)
-    (c b d : C) (e : ScreenError) → v.failed ≡ false → u.failed ≡ false
-    → Tries {A = Unit {0}} scrolls (typed ch) u b (Err e) w d
+pub repeated_refused : {C : Type 0} (scrolls : C → RowView → Bool → C → Type 0) (n i ch : ℕ) (s : State)
+    (v u w : ScreenView) (c b d : C) (e : ScreenError) → v.failed ≡ false → u.failed ≡ false
+    → Hears scrolls c (typed_times i ch s).reports b → Tries {A = Unit {0}} scrolls (typed ch) u b (Err e) w d
     → Tries {A = Unit {0}} scrolls (repeated n) v c (Err e) w d
-repeated_refused scrolls n ch v u w c b d e live lives h = record {
+repeated_refused scrolls n i ch s v u w c b d e live lives heard h = record {
   live = tt;
   screen = tt;
   hears = tt;
   memory = h.memory;
+  told = (
+    (typed_times i ch s).reports ++ h.told.0,
+    hears_append scrolls c (typed_times i ch s).reports h.told.0 b d heard h.told.1,
+  );
   refused = λ x. absurd (false≢true (sym lives ∙ h.refused x));
   dead = λ x. absurd (false≢true (sym live ∙ x));
 }

@@ -30,7 +30,7 @@ use Rattle.vte_core.specs.Event.{Event, Print, Performs}
 use Rattle.vt100.specs.declared.error.ScreenError.{ScreenError}
 use Rattle.vt100.specs.declared.error.ScreenError.TheVariants.{Memory, Failed}
 use Rattle.vt100.specs.declared.screen.wrapped.WrappedScreen.{WrappedScreen}
-use Rattle.vt100.specs.Tries.{Tries, SameBounds, alive}
+use Rattle.vt100.specs.Tries.{Tries, SameBounds, HearsRows, alive}
 use Rattle.vt100.specs.Goes.{Goes, GoesThrough}
 use Rattle.vt100.specs.Runs.{typed_all, last_of, PrintsFront}
 use Rattle.vt100.proofs.HearLemmas.{hears_all}
@@ -123,6 +123,7 @@ run_tries scrolls xs v c d g last live p w is_grid is_last hears =
           ∙ ap (λ (t : Stepped). alive t.state) (sym is);
       hears = subst (λ (t : Stepped). Hears scrolls c t.reports d) (sym is) hears;
       memory = λ e. cc;
+      told = tt;
       refused = λ e. cc;
       dead = λ e. absurd (false≢true (sym live ∙ e));
     }
@@ -138,6 +139,19 @@ pub run_heard : {S C N E : Type 0} (scrolls : C → RowView → Bool → C → T
 run_heard scrolls takes callbacks alternate name each (Ok u) s rows t h =
     (hears_all scrolls takes callbacks alternate name each s rows t h).0
 run_heard scrolls takes callbacks alternate name each (Err e) s rows t h = tt
+
+-- at a refusal they heard of the rows that left while a front was printed
+pub front_heard : {S C N E : Type 0} (scrolls : C → RowView → Bool → C → Type 0) (takes : S → RowView → S → Type 0)
+    (callbacks : S → C) (alternate : S → Bool) (name : S → N)
+    → ((s : S) (v : RowView) (t : S) → takes s v t → scrolls (callbacks s) v (alternate s) (callbacks t)
+    × (alternate t ≡ alternate s) × (name t ≡ name s))
+    → (result : Result (Unit {0}) E) (s : S) (g : GridView) (xs : List ℕ) (a : Attrs) (t : S)
+    → OnErr result (TakesFront takes s g xs a t) → OnErr result (HearsRows scrolls (callbacks s) (callbacks t))
+front_heard scrolls takes callbacks alternate name each (Ok u) s g xs a t h = tt
+front_heard scrolls takes callbacks alternate name each (Err e) s g xs a t h = (
+  reports_of (alternate s) (printed_all g h.0 a).sunk,
+  (hears_all scrolls takes callbacks alternate name each s (printed_all g h.0 a).sunk t h.3).0,
+)
 
 pub run_same : {S C N E : Type 0} (scrolls : C → RowView → Bool → C → Type 0) (takes : S → RowView → S → Type 0)
     (callbacks : S → C) (alternate : S → Bool) (name : S → N)
@@ -168,7 +182,8 @@ printable-handled c p = grind (arith, nat_tests)
 goes-typed : {C : Type 0} (step : C → ScreenView → Call → C → ScreenView → Type 0)
     (scrolls : C → RowView → Bool → C → Type 0) (ch : ℕ) (c : C) (v : ScreenView) (d : C) (w : ScreenView)
     → IsPrintable ch → v.failed ≡ false → (Hears scrolls c (typed ch v.state).reports d
-    × (w ≡ alive (typed ch v.state).state)) ⊎ ((w.failed ≡ true) × SameBounds v.state w.state)
+    × (w ≡ alive (typed ch v.state).state))
+    ⊎ ((w.failed ≡ true) × SameBounds v.state w.state × HearsRows scrolls c d)
     → Goes step scrolls (Print ch) c v d w
 goes-typed step scrolls ch c v d w p live h =
     does_as step scrolls (λ t. steps (typed ch t)) _ c v d w
@@ -207,12 +222,12 @@ goes-run step scrolls (x ∷ xs) c v d w p live hears screen =
 goes-refused : {C : Type 0} (step : C → ScreenView → Call → C → ScreenView → Type 0)
     (scrolls : C → RowView → Bool → C → Type 0) (xs : List ℕ) (c : C) (v : ScreenView) (d : C) (w : ScreenView)
     → 0 < length xs → All IsPrintable xs → v.failed ≡ false → w.failed ≡ true → SameBounds v.state w.state
-    → GoesThrough step scrolls (map Print xs) c v d w
-goes-refused step scrolls [] c v d w some p live failed bounds = absurd (omega arith)
-goes-refused step scrolls (x ∷ xs) c v d w some p live failed bounds = (
+    → HearsRows scrolls c d → GoesThrough step scrolls (map Print xs) c v d w
+goes-refused step scrolls [] c v d w some p live failed bounds told = absurd (omega arith)
+goes-refused step scrolls (x ∷ xs) c v d w some p live failed bounds told = (
   d,
   w,
-  goes-typed step scrolls x c v d w (p zero 0 (omega arith)) live (inr (failed, bounds)),
+  goes-typed step scrolls x c v d w (p zero 0 (omega arith)) live (inr (failed, bounds, told)),
   goes-failed step scrolls xs d w failed,
 )
 
@@ -232,7 +247,7 @@ goes-tries step scrolls xs c v (Ok a) d w some p t k = goes-run step scrolls xs 
 goes-tries {C} {A} step scrolls xs c v (Err Memory) d w some p t k =
     elim (either-failed v.failed) [
       | inl f ↦ absurd (false≢true (memory-failed {A = A} (Err Memory) (Err Failed) refl refl (t.dead f).0))
-      | inr f ↦ goes-refused step scrolls xs c v d w some p f (t.memory refl) k
+      | inr f ↦ goes-refused step scrolls xs c v d w some p f (t.memory refl) k t.told
     ]
 goes-tries {C} step scrolls xs c v (Err Failed) d w some p t k =
     let f = t.refused refl in

@@ -40,7 +40,7 @@ extras_of s = record {
 grid-unscrolled : (s : State) → IsUnscrolled s → core.IsUnscrolled s.shown
 grid-unscrolled s h = record { grid = h.state.shown; some = h.state.drawn; offset = h.offset }
 
-cells-are : (s : State) → IsUnscrolled s → shown_lines s.shown ≡ lines_of s.shown.rows
+pub cells-are : (s : State) → IsUnscrolled s → shown_lines s.shown ≡ lines_of s.shown.rows
 cells-are s h = shown_lines-drawn s.shown h.state.shown h.state.drawn h.offset
 
 picture-is : (s : State) → IsUnscrolled s → shown_state s ≡ picture_of s.shown (extras_of s)

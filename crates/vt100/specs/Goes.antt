@@ -5,7 +5,7 @@ use Rattle.vt100_rows.specs.Row.{RowView}
 use Rattle.vt100_state.specs.State.{State}
 use Rattle.vt100_state.specs.Call.{Call, ScreenView, Hears}
 use Rattle.vt100_state.specs.Effect.{Effect, effect}
-use Rattle.vt100.specs.Tries.{SameBounds, alive}
+use Rattle.vt100.specs.Tries.{SameBounds, HearsRows, alive}
 
 -- P where it is so, else Q
 abbrev pub Either : Bool → Type 0 → Type 0 → Type 0
@@ -27,13 +27,14 @@ abbrev pub Acts : {C : Type 0} → (C → ScreenView → Call → C → ScreenVi
 Acts {C} step scrolls c x d w = (b : C) × Hears scrolls c x.reports b × Tells step b (alive x.state) x.calls d w
 
 -- What brings about the effect f does to callbacks c and a screen v, which are then d and w. On a failed screen nothing
--- is done. Else f comes about, or the change finds no memory, and the screen has failed, with sheets of the same size.
+-- is done. Else f comes about, or the change finds no memory: the screen has failed, with sheets of the same size, and
+-- the callbacks were told of rows alone.
 pub record Does {C : Type 0} (step : C → ScreenView → Call → C → ScreenView → Type 0)
     (scrolls : C → RowView → Bool → C → Type 0) (f : State → Effect) (c : C) (v : ScreenView) (d : C)
     (w : ScreenView) : Type 0 where
   pub dead : v.failed ≡ true → (d ≡ c) × (w ≡ v)
   pub live : v.failed ≡ false → Acts step scrolls c (f v.state) d w
-      ⊎ ((w.failed ≡ true) × SameBounds v.state w.state)
+      ⊎ ((w.failed ≡ true) × SameBounds v.state w.state × HearsRows scrolls c d)
 
 -- an event
 abbrev pub Goes : {C : Type 0} → (C → ScreenView → Call → C → ScreenView → Type 0) → (C → RowView → Bool → C → Type 0)

@@ -1,18 +1,25 @@
 -- What a screen's calls write, and where it leads.
-use Rattle.std.specs.Prelude.{ℕ, ◌≡◌, Contains}
+use Rattle.std.specs.Prelude.{ℕ, ◌<◌, ◌≤◌, ◌≡◌, false, List, [], length, get_or, Contains, None}
 use Rattle.vt100_forms.specs.Attrs.{IsProper, default_attrs}
+use Rattle.vt100_forms.specs.Form.{Form, spell}
 use Rattle.vt100_forms.specs.declared.modes.MouseProtocolMode.TheVariants as mouse
 use Rattle.vt100_forms.specs.declared.modes.MouseProtocolEncoding.TheVariants as encoding
 use Rattle.vt100_forms.specs.declared.modes.CursorStyle.TheVariants as style
 use Rattle.vt100_forms.specs.declared.modes.CursorStyle.{CursorStyle}
-use Rattle.vt100_picture.specs.Term.{Modes, Shown}
+use Rattle.vt100_cells.specs.Cell.{CellView, default_cell}
+use Rattle.vt100_picture.specs.Term.{Size, Modes, Shown, Term}
+use Rattle.vt100_picture.specs.Apply.{run}
 use Rattle.vt100_picture.specs.Leads.{Leads}
+use Rattle.vt100_redraw.specs.declared.pen.Pen.{Pen}
+use Rattle.vt100_rows.specs.Laws.{IsAtRow, IsRowDrawn}
+use Rattle.vt100_writers.specs.Rows.{is_continued}
 use Rattle.vt100_writers.specs.Laws.{IsScreen, with_modes}
 use Rattle.vt100_writers.specs.Screen as picture
 use Rattle.vt100_core.specs.Picture.{size_of}
 use Rattle.vt100_state.specs.State.{State, IsState}
 use Rattle.vt100_state.specs.Shown.{shown_state}
 use Rattle.vt100.specs.Writers.{contents_formatted, state_formatted, contents_diff, state_diff, cursor_state_formatted}
+use Rattle.vt100.specs.Writers.{rows_formatted, rows_diff}
 
 -- a state in which no kept row is shown
 pub record IsUnscrolled (s : State) : Type 0 where
@@ -75,3 +82,46 @@ pub record DifferencesLead (old new : State) : Type 0 where
 abbrev pub EachDifferenceLeads : Type 0
 EachDifferenceLeads = (old new : State) → IsUnscrolled old → IsUnscrolled new
     → size_of old.shown ≡ size_of new.shown → IsPlainlyShown (shown_state new) → DifferencesLead old new
+
+-- ---- row by row
+
+-- the same of the cells of one row
+pub record IsPlainLine (f : ℕ → CellView) : Type 0 where
+  pub plain : (k : ℕ) → Contains (f k).text 0xFE0F → ⊥
+  pub proper : (k : ℕ) → IsProper (f k).attrs
+
+-- this text is that of forms by which a terminal t comes to show these cells in row i, and nothing else changes but
+-- cursor, attributes and that row's flag
+pub record DrawsRow (z : Size) (text : List ℕ) (cells : ℕ → CellView) (i : ℕ) (t : Term) : Type 0 where
+  pub forms : List Form
+  pub spelled : text ≡ spell forms
+  pub pen : Pen
+  pub drawn : IsRowDrawn i cells pen t (run z forms t)
+
+-- text i of those for rows, where there are so many
+abbrev pub text_at : List (List ℕ) → ℕ → List ℕ
+text_at texts i = get_or texts i []
+
+-- for whole rows there is one text for each row. That of a row, of which the one above doesn't go on in it, leads from
+-- default cells there to what the screen shows in it, with the cursor at the row's start and the default attributes.
+pub record RowTextsLead (s : State) (width : ℕ) : Type 0 where
+  pub count : length (rows_formatted s.shown 0 width) ≡ s.shown.height
+  pub each : (i : ℕ) (t : Term) → i < s.shown.height → is_continued (shown_state s).wrapped i ≡ false
+      → IsPlainLine ((shown_state s).cell i)
+      → IsAtRow i (λ k. default_cell) false None None t
+      → DrawsRow (size_of s.shown) (text_at (rows_formatted s.shown 0 width) i) ((shown_state s).cell i) i t
+
+abbrev pub EachRowTextLeads : Type 0
+EachRowTextLeads = (s : State) (width : ℕ) → IsUnscrolled s → s.shown.width ≤ width → RowTextsLead s width
+
+-- and of two screens of one size: from what the earlier one shows in the row, whatever stands above
+pub record RowDifferencesLead (old new : State) (width : ℕ) : Type 0 where
+  pub count : length (rows_diff old.shown new.shown 0 width) ≡ new.shown.height
+  pub each : (i : ℕ) (t : Term) → i < new.shown.height
+      → IsPlainLine ((shown_state new).cell i)
+      → IsAtRow i ((shown_state old).cell i) ((shown_state old).wrapped i) None None t
+      → DrawsRow (size_of new.shown) (text_at (rows_diff old.shown new.shown 0 width) i) ((shown_state new).cell i) i t
+
+abbrev pub EachRowDifferenceLeads : Type 0
+EachRowDifferenceLeads = (old new : State) (width : ℕ) → IsUnscrolled old → IsUnscrolled new
+    → size_of old.shown ≡ size_of new.shown → new.shown.width ≤ width → RowDifferencesLead old new width

@@ -2,7 +2,8 @@
 ghost use Rattle.vt100.specs.Laws.{PlaysEvents, FeedsMake, FeedsJoin, FeedsNothing, ActsFollow};
 ghost use Rattle.vt100.specs.Laws.{ResizedScreensArePutIn};
 ghost use Rattle.vt100.specs.WriterLaws.{EachRedrawIsOfShown, EachDifferenceIsOfShown, EachScreenIsDrawable};
-ghost use Rattle.vt100.specs.WriterLaws.{EachRedrawLeads, EachDifferenceLeads};
+ghost use Rattle.vt100.specs.WriterLaws.{EachRedrawLeads, EachDifferenceLeads, EachRowTextLeads};
+ghost use Rattle.vt100.specs.WriterLaws.{EachRowDifferenceLeads};
 
 /// With callbacks that do nothing, a screen that goes through events and doesn't fail is in the state that these events
 /// make; so a parser that was fed bytes, in whatever pieces, shows what the joined bytes make.
@@ -51,4 +52,17 @@ pub fn redraws_lead()
 /// whatever the earlier one shows.
 pub fn differences_lead()
     ensures { EachDifferenceLeads }
+{}
+
+/// The texts of [`rows_formatted`](crate::Screen::rows_formatted) for whole rows, where such a row has no U+FE0F:
+/// each leads from a row of default cells, with the cursor at its start and the default attributes, to the cells that
+/// the screen shows in that row, and every other row stays. Of rows that the one above goes on in this isn't said.
+pub fn texts_of_rows_lead()
+    ensures { EachRowTextLeads }
+{}
+
+/// Those of [`rows_diff`](crate::Screen::rows_diff) from an earlier screen of one size: each leads so from the row that
+/// the earlier one shows, whatever the rows above are.
+pub fn differences_of_rows_lead()
+    ensures { EachRowDifferenceLeads }
 {}

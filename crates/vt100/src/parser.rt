@@ -105,7 +105,8 @@ impl<CB: Callbacks> Parser<CB> {
     ///
     /// Where memory is refused, and where a call of the callbacks left a screen that has failed, the later events do
     /// nothing, and the answer is [`ScreenError::Memory`]; but for what the callbacks change, the screen keeps its size
-    /// and its capacity. On a screen that had failed before nothing is done.
+    /// and its capacity. Of the event that found no memory the callbacks were told of rows alone. On a screen that had
+    /// failed before nothing is done.
     pub fn process(&mut self, bytes: &[u8]) -> Result<(), ScreenError>
         ensures alive { OnOk result (self.new.screen.failed ≡ false) }
         ensures memory { result ≡ Err Memory → (self.old.screen.failed ≡ false) × (self.new.screen.failed ≡ true) }
@@ -188,7 +189,7 @@ impl<CB: Callbacks> Parser<CB> {
 }
 
 /// Writing is feeding. It answers the whole length; else an error of kind `OutOfMemory` where memory was refused, and
-/// of kind `Other` where the screen had failed.
+/// of kind `Other` where the screen had failed. The screen has failed then.
 impl Write for Parser<()> {
     ghost use Rattle.vt100.specs.Parsing.{StandsAt};
 
@@ -198,6 +199,7 @@ impl Write for Parser<()> {
         ensures whole { IfOk result (λ n. n ≡ length buf.now) }
         ensures memory { IfErr result (λ e. self.old.screen.failed ≡ false → error_kind e ≡ OutOfMemory) }
         ensures failed { IfErr result (λ e. self.old.screen.failed ≡ true → error_kind e ≡ Other) }
+        ensures fails { OnErr result (self.new.screen.failed ≡ true) }
         ensures dead { self.old.screen.failed ≡ true → self.new ≡ self.old }
         ensures made { (rows cols capacity : ℕ) (acts : List Act) → StandsAt self.old rows cols capacity acts
             → OnOk result (StandsAt self.new rows cols capacity (acts ++ Fed buf.now ∷ [])) }

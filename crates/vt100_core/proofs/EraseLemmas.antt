@@ -22,7 +22,7 @@ use Rattle.vt100_core.proofs.GridLemmas.{IsGrid-rows, IsGrid-with_row}
 
 -- ---- rows stay what they are
 
-IsRowOf-cleared : (width : ℕ) (v : RowView) (a : Attrs) → IsRowOf width v → IsRowOf width (cleared_row v a)
+pub IsRowOf-cleared : (width : ℕ) (v : RowView) (a : Attrs) → IsRowOf width v → IsRowOf width (cleared_row v a)
 IsRowOf-cleared width v a r = record {
   row = IsRow-cleared v a r.row;
   wide = length-replicate (length v.cells) (empty_cell a) ∙ r.wide;

@@ -82,7 +82,7 @@ flags-stay : (w : ℕ → Bool) (i : ℕ) (b stays : Bool) → b ≡ (w i && sta
 flags-stay w i b true e = update-same w i b (e ∙ both-true (w i))
 flags-stay w i b false e = ap (update w i) (e ∙ both-false (w i))
 
-with_line-is : (g : GridView) (x : Extras) (v : RowView) (stays : Bool) → g.row < length g.rows
+pub with_line-is : (g : GridView) (x : Extras) (v : RowView) (stays : Bool) → g.row < length g.rows
     → v.wrapped ≡ ((row_of_cursor g).wrapped && stays)
     → term_of (with_cursor_row g v) x ≡ with_line (term_of g x) (cell_at v.cells) stays
 unfolding with_line
@@ -127,7 +127,7 @@ moves-none : (rows : List RowView) (end width k : ℕ) → k < end → row_at ro
 moves-none rows end width k h = grind (arith, nat_tests)
 
 -- the rows after a line feed, where n rows go at the top
-abbrev fed_rows : GridView → ℕ → List RowView
+abbrev pub fed_rows : GridView → ℕ → List RowView
 fed_rows g n = rows_by_position (length g.rows) (moved_up g.rows 0 (length g.rows) n g.width)
 
 fed-same : (g : GridView) (n count : ℕ) → IsDrawable g → count ≡ n
@@ -139,7 +139,7 @@ fed-same g n count d e =
     ∙ ap (λ m. rows_by_position (length g.rows) (moved_up g.rows 0 (length g.rows) m g.width)) e
 
 -- but for what is kept
-fed-is : (g : GridView) (n m : ℕ) → IsDrawable g
+pub fed-is : (g : GridView) (n m : ℕ) → IsDrawable g
     → min (min (g.row + 1) 65535 - g.bottom) (g.bottom + 1 - g.top) ≡ n → min (g.row + 1) g.bottom ≡ m
     → record ((fed g 1).grid) { kept = g.kept } ≡ record g { rows = fed_rows g n; row = m }
 unfolding scrolled_up
@@ -148,7 +148,7 @@ fed-is g n m d en em =
     ap (λ (s : Scrolled). record (s.grid) { kept = g.kept }) (feeds g (in-region g d))
     ∙ (λ i. record g { rows = rows i; row = em i })
 
-fed_rows-none : (g : GridView) → fed_rows g 0 ≡ g.rows
+pub fed_rows-none : (g : GridView) → fed_rows g 0 ≡ g.rows
 fed_rows-none g = sym (rows_by_position_is (length g.rows) (moved_up g.rows 0 (length g.rows) 0 g.width) g.rows refl
     (λ k h. moves-none g.rows (length g.rows) g.width k h))
 
@@ -254,11 +254,11 @@ flagged-only g d z e =
 
 -- ---- what that is in the picture
 
-down-stays : (z : Size) (t : Term) → t.row + 1 < z.rows → down z t ≡ record t { row = t.row + 1 }
+pub down-stays : (z : Size) (t : Term) → t.row + 1 < z.rows → down z t ≡ record t { row = t.row + 1 }
 unfolding down
 down-stays z t h = cond-true (nat_lt (t.row + 1) z.rows) _ _ (lt-ltb (t.row + 1) z.rows h)
 
-down-up : (z : Size) (t : Term) → z.rows ≤ t.row + 1 → down z t ≡ record t {
+pub down-up : (z : Size) (t : Term) → z.rows ≤ t.row + 1 → down z t ≡ record t {
   cell = (λ r. cond (nat_lt (r + 1) z.rows) (t.cell (r + 1)) (λ k. default_cell));
   wrapped = (λ r. nat_lt (r + 1) z.rows && t.wrapped (r + 1));
 }
@@ -304,13 +304,13 @@ term-middle g x d l =
     }) l)
 
 -- the lines and flags of the rows that went up by one
-lines-fed : (g : GridView) → IsDrawable g → lines_of (fed_rows g 1)
+pub lines-fed : (g : GridView) → IsDrawable g → lines_of (fed_rows g 1)
     ≡ (λ r. cond (nat_lt (r + 1) g.height) (lines_of g.rows (r + 1)) (λ k. default_cell))
 lines-fed g d =
     lines-up g.rows g.width
     ∙ ap (λ n r. cond (nat_lt (r + 1) n) (lines_of g.rows (r + 1)) (λ k. default_cell)) (d.sheet.count d.some)
 
-wraps-fed : (g : GridView) → IsDrawable g
+pub wraps-fed : (g : GridView) → IsDrawable g
     → wraps_of (fed_rows g 1) ≡ (λ r. nat_lt (r + 1) g.height && wraps_of g.rows (r + 1))
 wraps-fed g d =
     wraps-up g.rows g.width ∙ ap (λ n r. nat_lt (r + 1) n && wraps_of g.rows (r + 1)) (d.sheet.count d.some)

@@ -44,7 +44,7 @@ plain-narrow y c e =
     ∙ none-more y.wide)
     (λ _. and-not y.wide)
 
-narrow-plain : (v : RowView) (col c : ℕ) → (c ≡ 0xFE0F → ⊥) → is_widening v col c ≡ false
+pub narrow-plain : (v : RowView) (col c : ℕ) → (c ≡ 0xFE0F → ⊥) → is_widening v col c ≡ false
 narrow-plain v col c ne = plain-narrow (cell_at v.cells (base_col (cell_at v.cells) col)) c (ne_eqb c 0xFE0F ne)
 
 -- ---- the grid after a character

@@ -1,5 +1,5 @@
 //! Calls on a sheet that tell callbacks of the rows that leave it.
-ghost use Rattle.std.specs.Prelude.{◌≡◌, ◌<◌, ◌++◌, OnOk, IfOk, All, true, false};
+ghost use Rattle.std.specs.Prelude.{◌≡◌, ◌<◌, ◌++◌, OnOk, OnErr, IfOk, All, true, false};
 ghost use Rattle.vt100_cells.specs.Cell.{IsPrintable};
 ghost use Rattle.vt100_core.specs.Grid.{IsAllocated, SameLimits};
 ghost use Rattle.vt100_core.specs.Scroll.{fed, scrolled_up, scrollback_erased};
@@ -7,6 +7,7 @@ ghost use Rattle.vt100_core.specs.Resize.{resized};
 ghost use Rattle.vt100_core.specs.Text.{printed, printed_all};
 ghost use Rattle.vt100_state.specs.Step.{reports_of};
 ghost use Rattle.vt100_state.specs.Call.{Hears};
+ghost use Rattle.vt100.specs.Tries.{HearsRows};
 
 use crate::callbacks::Callbacks;
 use vt100_core::attrs::Attrs;
@@ -66,6 +67,7 @@ pub(super) fn print_run<CB: Callbacks>(
     ensures hears { OnOk result (Hears CB.scrolls reporter.old.callbacks.now
         (reports_of reporter.old.alternate_screen (printed_all grid.old text.now attrs).sunk)
         reporter.new.callbacks.now) }
+    ensures told { OnErr result (HearsRows CB.scrolls reporter.old.callbacks.now reporter.new.callbacks.now) }
     ensures limits { SameLimits grid.old grid.new }
     ensures allocated { IsAllocated grid.new }
 {
@@ -154,6 +156,7 @@ pub(super) fn resize_both<CB: Callbacks>(
         (reports_of false (resized main.old size.rows.value size.cols.value).sunk
         ++ reports_of true (resized alternate.old size.rows.value size.cols.value).sunk)
         callbacks.new) }
+    ensures told { OnErr result (HearsRows CB.scrolls callbacks.old callbacks.new) }
     ensures rows { OnOk result (alternate.new.height ≡ main.new.height) }
     ensures cols { OnOk result (alternate.new.width ≡ main.new.width) }
     ensures main_keeps { main.new.kept.keeps ≡ main.old.kept.keeps }

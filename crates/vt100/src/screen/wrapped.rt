@@ -15,8 +15,8 @@ use vt100_core::Printed;
 /// A screen with the callbacks that it tells of its events.
 ///
 /// A call that finds no memory answers [`ScreenError::Memory`] and marks the screen as failed: what it shows is open,
-/// but its sheets keep their sizes, unless another size was asked for. On a failed screen no call does anything; those
-/// that answer a `Result` answer [`ScreenError::Failed`].
+/// but its sheets keep their sizes, unless another size was asked for, and the callbacks were told of rows alone. On a
+/// failed screen no call does anything; those that answer a `Result` answer [`ScreenError::Failed`].
 #[derive(Drop)]
 pub struct WrappedScreen<CB> {
     /// The screen. It can be read and changed here, and the callbacks aren't told of that.

@@ -24,10 +24,11 @@ pub returns-in_err-text-clause-tries : goal.returns-in_err-text-clause-tries
 returns-in_err-text-clause-tries g c =
     let is : c.from_residual.result ≡ Err c.in_err-text.field-0.0 = search rules in
     let live : c.args.self.now.screen.failed ≡ false = search rules in
-    rw is (repeated_refused g.CB.Callbacks.scrolls c.args.count c.in-Some.c c.args.self.now.screen c.loop-i.self.screen
+    rw is (repeated_refused g.CB.Callbacks.scrolls c.args.count c.loop-i._i c.in-Some.c c.args.self.now.screen.state
+    c.args.self.now.screen c.loop-i.self.screen
     c.text.new.self.screen c.args.self.now.callbacks c.loop-i.self.callbacks c.text.new.self.callbacks
     c.in_err-text.field-0.0 live (ap (λ (x : ScreenView). x.failed) c.loop-i.invariant.screen)
-    c.in_err-text.ensures.tries)
+    c.loop-i.invariant.hears c.in_err-text.ensures.tries)
 
 pub returns-after-loop-i-clause-tries : goal.returns-after-loop-i-clause-tries
 returns-after-loop-i-clause-tries g c =

@@ -1,6 +1,7 @@
 -- Answers for screen::wrapped::WrappedScreen::text.
-use Rattle.std.proofs.Common.{◌∙◌, ap}
+use Rattle.std.proofs.Common.{◌∙◌, ap, refl}
 use Rattle.vt100_state.specs.Step.{last_after}
+use Rattle.vt100.proofs.RefusedLemmas.{tries_refused}
 use Rattle.vt100.proofs.TextLemmas.{typed_tries}
 use Rattle.vt100.proofs.screen.wrapped.WrappedScreen.text.Goals as goal
 
@@ -9,3 +10,7 @@ returns-clause-tries g c = rw (← c.self.view_is)
     (typed_tries g.CB.Callbacks.scrolls c.args.c _ _ _ _ _ c.if-self.false c.in-Ok.ensures.grid
     (c.last_after-self-inside.ensures ∙ ap (λ p. last_after p c.args.c c.self.inside.0.0.last_char)
     c.in-Ok.ensures.answer) c.print.ensures.hears)
+
+pub returns-in-Err-clause-tries : goal.returns-in-Err-clause-tries
+returns-in-Err-clause-tries g c = rw (← c.self.view_is)
+    (tries_refused g.CB.Callbacks.scrolls _ _ _ _ _ _ c.if-self.false refl c.print.ensures.hears)
