@@ -9,3 +9,4 @@ pub mod LawLemmas
 pub mod KeptTerms
 pub mod ViewReads
 pub mod Spellings
+pub mod FramedForms

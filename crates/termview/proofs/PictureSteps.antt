@@ -2,6 +2,7 @@
 use Rattle.std.proofs.Common.{◌≡◌, ℕ, ◌+◌, ◌<◌, ◌≤◌, ◌==◌, Bool, true, false, cond, ◌&&◌, ◌||◌, nat_lt, nat_le}
 use Rattle.std.proofs.Common.{Some, None, sym, refl, ap, ◌∙◌, arith}
 use Rattle.std.proofs.lemmas.Bool.{cond_both, cond-true, cond-false, lt-ltb, le-ltb, ne_eqb, eq-eqb}
+use Rattle.std.proofs.Math.Bool.{or-true}
 use Rattle.vt100_cells.specs.Cell.{cell_of, columns_of, is_undrawable, drawn_columns}
 use Rattle.vt100_cells.proofs.WidthLemmas.{drawn-is}
 use Rattle.vt100_picture.specs.Term.{Size, Term}
@@ -51,10 +52,6 @@ pub room-made : (p q : PictureView) (n : ℕ) → p.size.cols < p.col + n → Be
 room-made p q n h b = record { size = b.size; shows = b.shows ∙ wraps-here p.size n (term_of p) h }
 
 -- ---- characters
-
-or-true : (b : Bool) → (b || true) ≡ true
-or-true true = refl
-or-true false = refl
 
 input-dropped : (z : Size) (c : ℕ) (t : Term) → is_dropped z.cols t.col c ≡ true → t ≡ input z c t
 unfolding input

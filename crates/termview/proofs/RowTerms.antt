@@ -5,6 +5,7 @@ use Rattle.unicode_width.specs.Width.{char_width}
 use Rattle.std.proofs.lemmas.Bool.Decides.{nat_tests}
 use Rattle.std.proofs.Common.{min, set, sym, refl, ap, ◌∙◌, arith}
 use Rattle.std.proofs.lemmas.Bool.{cond_both, cond-true, cond-false, lt-ltb, le-ltb, eqb-true}
+use Rattle.std.proofs.Math.Bool.{and-true, and-false}
 use mathlib.Core.Path.{fun_ext}
 use Rattle.vt100_forms.specs.declared.attrs.Attrs.{Attrs}
 use Rattle.vt100_cells.specs.Cell.{CellView, appended_plain, default_cell, is_filled, cell_of, columns_of}
@@ -26,14 +27,6 @@ use Rattle.termview.specs.Step.{flag_above}
 
 -- ---- another row at the cursor
 
-both-true : (b : Bool) → (b && true) ≡ b
-both-true true = refl
-both-true false = refl
-
-both-false : (b : Bool) → (b && false) ≡ false
-both-false true = refl
-both-false false = refl
-
 pub update-same : {A : Type 0} (f : ℕ → A) (i : ℕ) (v : A) → v ≡ f i → update f i v ≡ f
 unfolding update
 update-same f i v e = fun_ext (λ k. cond_both (k == i) v (f k) (λ w. w ≡ f k)
@@ -41,8 +34,8 @@ update-same f i v e = fun_ext (λ k. cond_both (k == i) v (f k) (λ w. w ≡ f k
 
 flags-stay : (w : ℕ → Bool) (i : ℕ) (b stays : Bool) → b ≡ (w i && stays)
     → update w i b ≡ cond stays w (update w i false)
-flags-stay w i b true e = update-same w i b (e ∙ both-true (w i))
-flags-stay w i b false e = ap (update w i) (e ∙ both-false (w i))
+flags-stay w i b true e = update-same w i b (e ∙ and-true (w i))
+flags-stay w i b false e = ap (update w i) (e ∙ and-false (w i))
 
 pub here : (p : PictureView) → IsPicture p → p.row < length p.rows
 here p i = omega (arith, i.full, i.in_rows)
@@ -100,7 +93,7 @@ joined-is p c i h =
     let line = cell_at-whole n (changed f j (appended_plain (f j) c))
     (Bounded-update n f j (appended_plain (f j) c) (Bounded-row v.cells)
     (base_col-within f n p.col h (omega (arith, r.wide, i.in_cols)))) in
-    with_line-is p (joined_plain v p.col c) true (here p i) (sym (both-true v.wrapped))
+    with_line-is p (joined_plain v p.col c) true (here p i) (sym (and-true v.wrapped))
     ∙ ap (λ l. with_line (term_of p) l true) line
 
 -- columns are erased

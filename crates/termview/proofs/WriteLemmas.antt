@@ -53,8 +53,10 @@ Appends-kept (Some a) (Some b) (Some c) xs h k = k ∙ h
 -- ---- columns
 
 -- what stands in further columns
-pub columns-split : (f : ℕ → CellView) (m k : ℕ) → (rest : List ℕ) × (columns_text f 0 (m + k) ≡ columns_text f 0 m ++ rest)
-columns-split f m zero = ([], ap (columns_text f 0) (let e : m + 0 ≡ m = omega arith in e) ∙ sym (append-nil (columns_text f 0 m)))
+pub columns-split : (f : ℕ → CellView) (m k : ℕ)
+    → (rest : List ℕ) × (columns_text f 0 (m + k) ≡ columns_text f 0 m ++ rest)
+columns-split f m zero =
+    ([], ap (columns_text f 0) (let e : m + 0 ≡ m = omega arith in e) ∙ sym (append-nil (columns_text f 0 m)))
 columns-split f m (suc k) =
     let before = columns-split f m k in
     let e : m + suc k ≡ suc (m + k) = omega arith in (

@@ -6,3 +6,4 @@ pub mod Timeout
 pub mod Standing
 pub mod Writing
 pub mod Laws
+pub mod FormFrames

@@ -2,8 +2,11 @@
 ghost use Rattle.termview.specs.Laws.{MoreBytesStep, MarksShowNothing, FramesShowTheirBodies, WholeFramesAreShown};
 ghost use Rattle.termview.specs.Laws.{NoFrameIsTorn, EachCallKeepsTerminals, EachStreamShowsATerminal};
 ghost use Rattle.termview.specs.Laws.{EachSpellingIsShown};
+ghost use Rattle.termview.specs.FormFrames.{FormsMakeFrames, FramesOpenOnce, FramesFinish, FramesShowForms};
+ghost use Rattle.termview.specs.FormFrames.{SpellingsAreParsed, SpellingsAreTaken};
 
 pub use crate::until_cleared::until_cleared_is_exact;
+use vte::ansi::Timeout;
 
 /// What a view shows of some bytes and then others is what the calls of the others make of what it shows of the first.
 pub fn bytes_are_shown_in_turn()
@@ -39,4 +42,21 @@ pub fn views_show_terminals()
 /// 65,535 rows and columns; and they leave nothing unfinished.
 pub fn spellings_are_shown()
     ensures { EachSpellingIsShown }
+{}
+
+/// The bytes of forms between the marks of an update are a frame. Whatever came before it, it opens an update at its
+/// eighth byte and at none before or after, and nothing is unfinished after it; where nothing was unfinished before it,
+/// what is shown after it is what the forms make.
+pub fn forms_are_framed()
+    ensures frames { FormsMakeFrames }
+    ensures opens { FramesOpenOnce }
+    ensures finished { FramesFinish }
+    ensures shown { FramesShowForms }
+{}
+
+/// Where no update is open and nothing is unfinished, all bytes of forms are parsed and none is held, in whatever
+/// pieces they come.
+pub fn spellings_are_read<T: Timeout>()
+    ensures pieces { SpellingsAreParsed }
+    ensures views { SpellingsAreTaken T.sets T.clears T.answers }
 {}

@@ -21,8 +21,7 @@ use vt100_sheet::Size;
 use vte::ansi::{Processor, Timeout};
 
 /// A terminal at the far end of a line: it reads what a screen's writers send, in any pieces, and shows the picture
-/// that
-/// they meant.
+/// that they meant.
 ///
 /// The contracts speak of every past: the bytes that the view has parsed and those that it holds.
 #[derive(Drop)]
@@ -114,18 +113,16 @@ impl<T: Timeout> View<T> {
         self.picture.row_wrapped(row)
     }
 
-    /// The cursor's row and column, counted from 0. The column is the number of columns where the next character
-    /// goes to
-    /// the next row.
+    /// The cursor's row and column, counted from 0. The column is the number of columns where the next character goes
+    /// to the next row.
     pub fn cursor_position(&self) -> (u16, u16)
         ensures { result ≡ ((shown_by self.now).row, (shown_by self.now).col) }
     {
         (self.picture.pos.row, self.picture.pos.col)
     }
 
-    /// Writes the row's text, as UTF-8 and without the empty columns at its end; nothing past the last row. Any
-    /// fault of
-    /// a write ends it, and so does a write that takes nothing; what was taken by then stays written.
+    /// Writes the row's text, as UTF-8 and without the empty columns at its end; nothing past the last row. Any fault
+    /// of a write ends it, and so does a write that takes nothing; what was taken by then stays written.
     pub fn row_text<W: Write>(&self, row: u16, to: &mut W) -> io::Result<()>
         ensures whole { OnOk result (Appends (W.contents to.old) (W.contents to.new)
             (encode_utf8_all (text_shown (size_of self.now) (shown_by self.now) row))) }

@@ -1,9 +1,10 @@
 -- Forms that erase.
-use Rattle.std.proofs.Common.{◌≡◌, ℕ, ◌+◌, ◌-◌, ◌<◌, ◌≤◌, ◌==◌, Bool, true, false, cond, not, ◌&&◌, nat_lt}
+use Rattle.std.proofs.Common.{◌≡◌, ℕ, ◌+◌, ◌-◌, ◌<◌, ◌≤◌, ◌==◌, true, false, cond, not, ◌&&◌, nat_lt}
 use Rattle.std.proofs.Common.{nat_eq, List, [], ◌∷◌, length, set, min, refl, sym, ap, ◌∙◌, arith, length-set, ⊎_elim}
 use Rattle.std.proofs.lemmas.Bool.{cond_both, cases_lt, lt-ltb, le-ltb, eqb-true}
 use Rattle.std.proofs.lemmas.Bool.Decides.{nat_tests}
 use Rattle.std.proofs.lemmas.List.{length-replicate}
+use Rattle.std.proofs.Math.Bool.{and-false}
 use mathlib.Core.Path.{fun_ext}
 use Rattle.vt100_forms.specs.declared.attrs.Attrs.{Attrs}
 use Rattle.vt100_forms.specs.Form.{EraseChar, ClearRowForward, ClearScreen}
@@ -11,21 +12,19 @@ use Rattle.vt100_cells.specs.Cell.{CellView, empty_cell, default_cell}
 use Rattle.vt100_cells.specs.Cells.{cell_at}
 use Rattle.vt100_cells.specs.Line.{wiped, wipe_unflags}
 use Rattle.vt100_cells.proofs.ListLemmas.{cell_at_past, cell_at-replicate}
-use Rattle.vt100_picture.specs.Position.{update}
 use Rattle.vt100_picture.specs.Apply.{with_line, erase, apply}
 use Rattle.vt100_picture.proofs.FormLemmas.{erase-none}
 use Rattle.vt100_rows.specs.Row.{RowView, wiped_row, cleared_row}
-use Rattle.vt100_rows.proofs.RowLemmas.{line-wiped, IsRow-cleared}
+use Rattle.vt100_rows.proofs.RowLemmas.{line-wiped}
 use Rattle.vt100_sheet.specs.Sheet.{row_at, rows_by_position, erased_forward_at, IsRowOf, IsSheet}
 use Rattle.vt100_sheet.specs.Picture.{lines_of, wraps_of}
 use Rattle.vt100_sheet.proofs.SheetLemmas.{row_at-by_position, length-rows_by_position, IsRowOf-cond}
 use Rattle.vt100_sheet.proofs.SheetLemmas.{IsSheet-with_row, IsSheet-by_position}
-use Rattle.vt100_sheet.proofs.PictureLemmas.{lines-set, wraps-set, lines-past, wraps-past}
+use Rattle.vt100_sheet.proofs.PictureLemmas.{lines-past, wraps-past}
 use Rattle.vt100_core.specs.Grid.{GridView, row_of_cursor, with_cursor_row}
 use Rattle.vt100_core.specs.Erase.{columns_erased}
-use Rattle.vt100_core.specs.Picture.{Extras, term_of}
-use Rattle.vt100_core.proofs.EraseLemmas.{IsRowOf-wiped}
-use Rattle.vt100_core.proofs.InputLemmas.{here, cursor_row}
+use Rattle.vt100_core.proofs.EraseLemmas.{IsRowOf-cleared, IsRowOf-wiped}
+use Rattle.vt100_core.proofs.InputLemmas.{here, cursor_row, with_line-is}
 use Rattle.vt100_read.specs.Events.{kept_number, sequence, bare, events_of}
 use Rattle.vt100_state.specs.State.{State}
 use Rattle.vt100_state.specs.Step.{with_shown, cells_erased, erased_below}
@@ -36,33 +35,6 @@ use Rattle.vt100_agree.proofs.PlainStates.{drawable, shows-at, shows-same}
 use Rattle.vt100_agree.proofs.Cursors.{plain-moved, placed-at, read-count, nonzero}
 
 -- ---- another row at the cursor
-
-both-true : (b : Bool) → (b && true) ≡ b
-both-true true = refl
-both-true false = refl
-
-both-false : (b : Bool) → (b && false) ≡ false
-both-false true = refl
-both-false false = refl
-
-update-same : {A : Type 0} (f : ℕ → A) (i : ℕ) (v : A) → v ≡ f i → update f i v ≡ f
-unfolding update
-update-same f i v e = fun_ext (λ k. cond_both (k == i) v (f k) (λ w. w ≡ f k)
-    (λ h. e ∙ ap f (sym (eqb-true k i h))) (λ _. refl))
-
-flags-stay : (w : ℕ → Bool) (i : ℕ) (b stays : Bool) → b ≡ (w i && stays)
-    → update w i b ≡ cond stays w (update w i false)
-flags-stay w i b true e = update-same w i b (e ∙ both-true (w i))
-flags-stay w i b false e = ap (update w i) (e ∙ both-false (w i))
-
-line-is : (g : GridView) (x : Extras) (v : RowView) (stays : Bool) → g.row < length g.rows
-    → v.wrapped ≡ ((row_of_cursor g).wrapped && stays)
-    → term_of (with_cursor_row g v) x ≡ with_line (term_of g x) (cell_at v.cells) stays
-unfolding with_line
-line-is g x v stays l e =
-    let lines = lines-set g.rows g.row v l in
-    let flags = wraps-set g.rows g.row v l ∙ flags-stay (wraps_of g.rows) g.row v.wrapped stays e in
-    λ i. record (term_of g x) { cell = lines i; wrapped = flags i }
 
 pub plain-rows : (g : GridView) (rows : List RowView) → IsPlainGrid g → IsSheet g.height g.width rows
     → length rows ≡ length g.rows → IsPlainGrid (record g { rows = rows })
@@ -107,7 +79,7 @@ erased-shows s e h l =
     let w = wiped_row v g.col e a in
     record {
       shows =
-          line-is g (extras_of s) w (not (wipe_unflags g.width f g.col e)) (here g (drawable g p))
+          with_line-is g (extras_of s) w (not (wipe_unflags g.width f g.col e)) (here g (drawable g p))
           (ap (λ n. v.wrapped && not (wipe_unflags n f g.col e)) r.wide)
           ∙ ap (λ c. with_line (terminal_of s) c (not (wipe_unflags g.width f g.col e)))
           (line-wiped v g.col e a (omega (arith, r.wide, l)));
@@ -152,12 +124,6 @@ unfolding apply
 shows-ClearRowForward s h = erased-shows s s.shown.width h (omega arith)
 
 -- ---- the screen
-
-IsRowOf-cleared : (width : ℕ) (v : RowView) (a : Attrs) → IsRowOf width v → IsRowOf width (cleared_row v a)
-IsRowOf-cleared width v a r = record {
-  row = IsRow-cleared v a r.row;
-  wide = length-replicate (length v.cells) (empty_cell a) ∙ r.wide;
-}
 
 -- a row that is empty from its first column on
 abbrev emptied : List RowView → ℕ → Attrs → ℕ → RowView
@@ -206,7 +172,7 @@ wiped-flag : (width : ℕ) (v : RowView) (a : Attrs) → 0 < width → IsRowOf w
 wiped-flag width v a some i =
     let goes : wipe_unflags width (cell_at v.cells) 0 width ≡ true = grind (arith, nat_tests, some) in
     ap (λ n. v.wrapped && not (wipe_unflags n (cell_at v.cells) 0 width)) i.wide
-    ∙ ap (λ b. v.wrapped && not b) goes ∙ both-false v.wrapped
+    ∙ ap (λ b. v.wrapped && not b) goes ∙ and-false v.wrapped
 
 empty-flag : (rows : List RowView) (width : ℕ) (a : Attrs) (r : ℕ) → 0 < width → IsRowOf width (row_at rows r)
     → (emptied rows width a r).wrapped ≡ false

@@ -1,25 +1,21 @@
 -- Forms that go to the next row.
-use Rattle.std.proofs.Common.{◌≡◌, ℕ, ◌+◌, ◌-◌, ◌<◌, ◌≤◌, ◌==◌, Bool, true, false, cond, ◌&&◌, nat_lt, List, []}
+use Rattle.std.proofs.Common.{◌≡◌, ℕ, ◌+◌, ◌-◌, ◌<◌, ◌≤◌, ◌==◌, Bool, true, false, cond, List, []}
 use Rattle.std.proofs.Common.{length, min}
 use Rattle.std.proofs.Common.{refl, sym, ap, subst, ◌∙◌, arith, ⊎_elim}
-use Rattle.std.proofs.lemmas.Bool.{cond_both, cond-true, cond-false, lt-ltb, le-ltb, eq-eqb, cases_lt}
-use Rattle.std.proofs.lemmas.Bool.Decides.{nat_tests}
+use Rattle.std.proofs.lemmas.Bool.{cond_both, cond-true, eq-eqb, cases_lt}
 use Rattle.vt100_forms.specs.Form.{Crlf, Lf}
-use Rattle.vt100_cells.specs.Cell.{default_cell}
-use Rattle.vt100_picture.specs.Term.{Size, Term}
+use Rattle.vt100_picture.specs.Term.{Term}
 use Rattle.vt100_picture.specs.Apply.{down, apply}
 use Rattle.vt100_rows.specs.Row.{RowView}
-use Rattle.vt100_sheet.specs.Sheet.{row_at, rows_by_position, moved_up}
-use Rattle.vt100_sheet.specs.Picture.{lines_of, wraps_of}
-use Rattle.vt100_sheet.proofs.SheetLemmas.{length-rows_by_position, rows_by_position_is}
+use Rattle.vt100_sheet.specs.Sheet.{moved_up}
+use Rattle.vt100_sheet.proofs.SheetLemmas.{length-rows_by_position}
 use Rattle.vt100_sheet.proofs.MoveLemmas.{IsSheet-moved_up}
-use Rattle.vt100_sheet.proofs.PictureLemmas.{lines-up, wraps-up}
 use Rattle.vt100_core.specs.Grid.{KeptPart, GridView, is_in_region}
 use Rattle.vt100_core.specs.Cursor.{moved_rows_down}
 use Rattle.vt100_core.specs.Picture.{size_of}
 use Rattle.vt100_core.specs.Scroll.{Scrolled, kept_after, widened, is_kept_from, left_rows, scrolled_up, fed}
 use Rattle.vt100_core.specs.Scroll.{rows_past_bottom}
-use Rattle.vt100_core.proofs.InputLemmas.{IsDrawable}
+use Rattle.vt100_core.proofs.InputLemmas.{fed_rows, fed-is, fed_rows-none, lines-fed, wraps-fed, down-stays, down-up}
 use Rattle.vt100_read.specs.Events.{events_of}
 use Rattle.vt100_state.specs.State.{State}
 use Rattle.vt100_state.specs.Step.{with_shown, line_fed}
@@ -88,72 +84,6 @@ aside-fed g n =
     (λ _. aside-down g n)
 
 -- ---- a line feed
-
-in-region : (g : GridView) → IsDrawable g → is_in_region g ≡ true
-in-region g d = grind (arith, nat_tests, d.top, d.bottom, d.row)
-
-feeds : (g : GridView) → is_in_region g ≡ true
-    → fed g 1 ≡ scrolled_up (record g { row = min (g.row + 1) g.bottom }) (min (g.row + 1) 65535 - g.bottom)
-unfolding fed
-feeds g e =
-    ap (λ b. cond b (scrolled_up (record g { row = min (g.row + 1) (cond b g.bottom (g.height - 1)) }) (cond b
-    (min (g.row + 1) 65535 - g.bottom) 0)) (let s : Scrolled = record {
-      grid = record g { row = min (g.row + 1) (cond b g.bottom (g.height - 1)) };
-      sunk = [];
-    } in s)) e
-
-moves-none : (rows : List RowView) (end width k : ℕ) → k < end → row_at rows k ≡ moved_up rows 0 end 0 width k
-moves-none rows end width k h = grind (arith, nat_tests)
-
--- the rows after it, where n rows go at the top
-abbrev fed_rows : GridView → ℕ → List RowView
-fed_rows g n = rows_by_position (length g.rows) (moved_up g.rows 0 (length g.rows) n g.width)
-
-fed-same : (g : GridView) (n count : ℕ) → IsDrawable g → count ≡ n
-    → rows_by_position (length g.rows) (moved_up g.rows g.top (g.bottom + 1) count g.width) ≡ fed_rows g n
-fed-same g n count d e =
-    let end : g.bottom + 1 ≡ length g.rows = d.bottom ∙ sym (d.sheet.count d.some) in
-    ap (λ m. rows_by_position (length g.rows) (moved_up g.rows m (g.bottom + 1) count g.width)) d.top
-    ∙ ap (λ m. rows_by_position (length g.rows) (moved_up g.rows 0 m count g.width)) end
-    ∙ ap (λ m. rows_by_position (length g.rows) (moved_up g.rows 0 (length g.rows) m g.width)) e
-
--- but for what is kept
-fed-is : (g : GridView) (n m : ℕ) → IsDrawable g
-    → min (min (g.row + 1) 65535 - g.bottom) (g.bottom + 1 - g.top) ≡ n → min (g.row + 1) g.bottom ≡ m
-    → record ((fed g 1).grid) { kept = g.kept } ≡ record g { rows = fed_rows g n; row = m }
-unfolding scrolled_up
-fed-is g n m d en em =
-    let rows = fed-same g n (min (min (g.row + 1) 65535 - g.bottom) (g.bottom + 1 - g.top)) d en in
-    ap (λ (s : Scrolled). record (s.grid) { kept = g.kept }) (feeds g (in-region g d))
-    ∙ (λ i. record g { rows = rows i; row = em i })
-
-fed_rows-none : (g : GridView) → fed_rows g 0 ≡ g.rows
-fed_rows-none g = sym (rows_by_position_is (length g.rows) (moved_up g.rows 0 (length g.rows) 0 g.width) g.rows refl
-    (λ k h. moves-none g.rows (length g.rows) g.width k h))
-
-lines-fed : (g : GridView) → IsDrawable g → lines_of (fed_rows g 1)
-    ≡ (λ r. cond (nat_lt (r + 1) g.height) (lines_of g.rows (r + 1)) (λ k. default_cell))
-lines-fed g d =
-    lines-up g.rows g.width
-    ∙ ap (λ n r. cond (nat_lt (r + 1) n) (lines_of g.rows (r + 1)) (λ k. default_cell)) (d.sheet.count d.some)
-
-wraps-fed : (g : GridView) → IsDrawable g
-    → wraps_of (fed_rows g 1) ≡ (λ r. nat_lt (r + 1) g.height && wraps_of g.rows (r + 1))
-wraps-fed g d =
-    wraps-up g.rows g.width ∙ ap (λ n r. nat_lt (r + 1) n && wraps_of g.rows (r + 1)) (d.sheet.count d.some)
-
-down-stays : (z : Size) (t : Term) → t.row + 1 < z.rows → down z t ≡ record t { row = t.row + 1 }
-unfolding down
-down-stays z t h = cond-true (nat_lt (t.row + 1) z.rows) _ _ (lt-ltb (t.row + 1) z.rows h)
-
-down-up : (z : Size) (t : Term) → z.rows ≤ t.row + 1 → down z t ≡ record t {
-  cell = (λ r. cond (nat_lt (r + 1) z.rows) (t.cell (r + 1)) (λ k. default_cell));
-  wrapped = (λ r. nat_lt (r + 1) z.rows && t.wrapped (r + 1));
-}
-unfolding down
-down-up z t h = cond-false (nat_lt (t.row + 1) z.rows) _ _ (le-ltb (t.row + 1) z.rows h)
-
--- ---- the state
 
 plain-kept : (k : KeptPart) (h : GridView) → IsPlainGrid (record h { kept = k }) → h.kept.offset ≡ 0 → IsPlainGrid h
 plain-kept k h p e = record {

@@ -1,5 +1,5 @@
 -- The texts of cells.
-use Rattle.std.proofs.Common.{◌≡◌, ℕ, suc, ◌+◌, ◌<◌, ◌≤◌, ◌==◌, Bool, true, false, not, ◌&&◌, ◌||◌, nat_lt}
+use Rattle.std.proofs.Common.{◌≡◌, ℕ, suc, ◌+◌, ◌<◌, ◌≤◌, ◌==◌, Bool, true, false, not, ◌&&◌}
 use Rattle.std.proofs.Common.{nat_le, List, [], ◌∷◌, length, map, Some, refl, sym, ap, subst, ◌∙◌, arith, ⊎_elim}
 use Rattle.std.specs.Prelude.{Contains}
 use Rattle.std.specs.Char.{IsScalar}
@@ -8,13 +8,12 @@ use Rattle.std.proofs.lemmas.Bool.{cond_both, ne_eqb, cases_lt, cases_Bool}
 use Rattle.vte_core.specs.Event.{Print}
 use Rattle.vt100_forms.specs.declared.attrs.Attrs.{Attrs}
 use Rattle.vt100_forms.specs.Form.{Text}
-use Rattle.vt100_cells.specs.Cell.{CellView, IsCell, cell_of, columns_of, has_room, has_text, text_with, appended}
+use Rattle.vt100_cells.specs.Cell.{CellView, IsCell, cell_of, columns_of, has_text}
 use Rattle.vt100_cells.specs.Cells.{cell_at}
-use Rattle.vt100_cells.specs.Line.{span_of, put, put_unflags, base_col}
-use Rattle.unicode_width.specs.Width.{str_width}
+use Rattle.vt100_cells.specs.Line.{span_of, put, put_unflags}
 use Rattle.vt100_cells.proofs.CellLemmas.{IsCell-of}
 use Rattle.vt100_cells.proofs.ListLemmas.{length-by_position}
-use Rattle.vt100_rows.specs.Row.{RowView, placed, joined_row, is_widening}
+use Rattle.vt100_rows.specs.Row.{RowView, placed, joined_row}
 use Rattle.vt100_rows.proofs.RowLemmas.{IsRow-placed}
 use Rattle.vt100_rows.proofs.JoinLemmas.{IsRow-joined}
 use Rattle.vt100_picture.specs.FormText.{IsFormText}
@@ -27,6 +26,7 @@ use Rattle.vt100_core.proofs.TextLemmas.{printed-dropped, printed-joined, printe
 use Rattle.vt100_core.proofs.TextLemmas.{span_of-cell, IsMade-made, or-false}
 use Rattle.vt100_core.proofs.InputLemmas.{IsNext-made, cursor_row, spaced-is, joined-plain}
 use Rattle.vt100_core.proofs.InputLemmas.{joined-is, input-dropped, input-joined, input-spaced}
+use Rattle.vt100_core.proofs.InputTexts.{narrow-plain}
 use Rattle.vt100_read.specs.Events.{events_of}
 use Rattle.vt100_read.specs.Laws.{IsPrinted}
 use Rattle.vt100_read.proofs.SentTexts.{sent-printed}
@@ -123,26 +123,6 @@ plain-put g x a n p cell text e l =
     })
     (λ q. ap (λ b. b && not (put_unflags (length v.cells) (cell_at v.cells) g.col x)) q))
     p.cursor_row l
-
--- ---- only U+FE0F makes a cell wide
-
-none-more : (p : Bool) → ((p || false) && not p) ≡ false
-none-more true = refl
-none-more false = refl
-
-and-not : (p : Bool) → (p && not p) ≡ false
-and-not true = refl
-and-not false = refl
-
-plain-narrow : (y : CellView) (c : ℕ) → (c == 0xFE0F) ≡ false → ((appended y c).wide && not y.wide) ≡ false
-plain-narrow y c e =
-    cond_both (has_room y.text) _ y (λ (w : CellView). (w.wide && not y.wide) ≡ false)
-    (λ _. ap (λ b. (y.wide || (b && nat_lt 1 (str_width false (text_with y.text c)))) && not y.wide) e
-    ∙ none-more y.wide)
-    (λ _. and-not y.wide)
-
-narrow-plain : (v : RowView) (col c : ℕ) → (c ≡ 0xFE0F → ⊥) → is_widening v col c ≡ false
-narrow-plain v col c ne = plain-narrow (cell_at v.cells (base_col (cell_at v.cells) col)) c (ne_eqb c 0xFE0F ne)
 
 -- ---- one character
 

@@ -1,0 +1,51 @@
+-- Frames of forms, and forms in pieces.
+use Rattle.std.specs.Prelude.{◌≡◌, ℕ, ◌<◌, Bool, false, List, ◌++◌, Option, None}
+use Rattle.std.specs.List.{AllByRecursion}
+use Rattle.vte_core.specs.Ground.{AtGround}
+use Rattle.vte.specs.Marks.{start_mark, end_mark}
+use Rattle.vte.specs.Stretch.{opens_in, OpensAt}
+use Rattle.vte.specs.Moves.{Move, given}
+use Rattle.vte.specs.Frames.{IsFrame, Leads}
+use Rattle.vt100_forms.specs.Form.{Form, spell}
+use Rattle.vt100_picture.specs.Term.{Size}
+use Rattle.vt100_picture.specs.Apply.{run}
+use Rattle.vt100_read.specs.Laws.{IsSentForm}
+use Rattle.vte_read.specs.Terminals.{IsSmall}
+use Rattle.termview.specs.Seen.{seen}
+use Rattle.termview.specs.Standing.{size_of, HoldsAt, Taken}
+use Rattle.termview.specs.declared.view.View.{View}
+
+-- the marks of an update around the bytes of forms
+abbrev pub framed : List Form → List ℕ
+framed fs = start_mark ++ (spell fs ++ end_mark)
+
+-- they are a frame
+abbrev pub FormsMakeFrames : Type 0
+FormsMakeFrames = (fs : List Form) → AllByRecursion IsSentForm fs → IsFrame (framed fs)
+
+-- whatever came before, it opens an update at its eighth byte, and at none before or after it
+abbrev pub FramesOpenOnce : Type 0
+FramesOpenOnce = (past : List ℕ) (fs : List Form) → AllByRecursion IsSentForm fs
+    → OpensAt past (framed fs) 8 × (opens_in (past ++ start_mark) (spell fs ++ end_mark) ≡ false)
+
+-- and nothing is unfinished after it
+abbrev pub FramesFinish : Type 0
+FramesFinish = (past : List ℕ) (fs : List Form) → AtGround 1024 (past ++ framed fs)
+
+-- it does what the forms do
+abbrev pub FramesShowForms : Type 0
+FramesShowForms = (z : Size) (past : List ℕ) (fs : List Form) → 0 < z.rows → 0 < z.cols → IsSmall z
+    → AtGround 1024 past → AllByRecursion IsSentForm fs → seen z (past ++ framed fs) ≡ run z fs (seen z past)
+
+-- where no update is open and nothing is unfinished, the bytes of forms are all parsed and none is held, in whatever
+-- pieces they come and wherever updates are stopped by hand
+abbrev pub SpellingsAreParsed : Type 0
+SpellingsAreParsed = (fs : List Form) (moves : List Move) (past parsed : List ℕ) (hold : Option (List ℕ))
+    → AtGround 1024 past → AllByRecursion IsSentForm fs → given moves ≡ spell fs → Leads moves past None parsed hold
+    → (parsed ≡ past ++ spell fs) × (hold ≡ None)
+
+-- so a view that holds nothing reads them
+abbrev pub SpellingsAreTaken : {T : Type 0} → (T → ℕ → T → Type 0) → (T → T → Type 0) → (T → Bool → Type 0) → Type 0
+SpellingsAreTaken {T} sets clears answers = (fs : List Form) (past : List ℕ) (old new : View T)
+    → AtGround 1024 past → AllByRecursion IsSentForm fs → Taken sets clears answers old past None (spell fs) new
+    → HoldsAt answers new (past ++ spell fs) None × (size_of new ≡ size_of old)
