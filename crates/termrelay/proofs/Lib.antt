@@ -3,3 +3,10 @@ pub mod FrameLemmas
 pub mod Marks
 pub mod SureLemmas
 pub mod SameLemmas
+pub mod BelowLemmas
+pub mod ShownLemmas
+pub mod MadeLemmas
+pub mod HubLemmas
+pub mod PumpLaws
+pub mod DueLemmas
+pub mod FeedLaws

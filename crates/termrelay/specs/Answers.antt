@@ -5,6 +5,9 @@ use Rattle.vt100_forms.specs.Attrs.{attrs_eq}
 use Rattle.vt100_forms.specs.Form.{mouse_number, encoding_number, style_number}
 use Rattle.vt100_cells.specs.Cell.{bool_eq, cell_eq, default_cell}
 use Rattle.vt100_picture.specs.Term.{Size, Modes, Shown, IsShown, blank_shown}
+use Rattle.vt100_core.specs.Picture.{size_of}
+use Rattle.vt100_state.specs.State.{State}
+use Rattle.vt100_state.specs.Shown.{shown_state}
 use Rattle.termrelay.specs.Frame.{is_unsure, frame_text}
 use Rattle.termrelay.specs.declared.answer.Answer.{Answer}
 use Rattle.termrelay.specs.declared.answer.Answer.TheVariants.{Full, Difference, Unsure, Unchanged, Behind}
@@ -31,6 +34,10 @@ same_shown z s t =
 -- so that they are one
 abbrev pub EachSameIsOne : Type 0
 EachSameIsOne = (z : Size) (s t : Shown) → IsShown z s → IsShown z t → same_shown z s t ≡ true → s ≡ t
+
+-- and what is shown is the same as itself
+abbrev pub EachOneIsSame : Type 0
+EachOneIsSame = (z : Size) (s : Shown) → same_shown z s s ≡ true
 
 -- ---- answers
 
@@ -59,12 +66,27 @@ due_from z now (Some base) =
 abbrev pub due : Size → Shown → Option Shown → Answer
 due z now base = if is_unsure z now then Unsure else due_from z now base
 
-abbrev pub answer_to : Size → Shown → Option Shown → List ℕ → Answer
-answer_to z now base [] = due z now base
-answer_to z now base (b ∷ bs) = Behind
+-- while a program is in an update of its own a frame would have to wait; the screen doesn't tell of that
+abbrev pub unless_updating : State → Answer → Answer
+unless_updating now answer = answer
 
-abbrev pub answer_of : Size → Shown → ClientState → Answer
-answer_of z now c = answer_to z now c.base c.owed
+-- a frame of any length is taken
+abbrev pub unless_too_long : Size → Shown → Option Shown → Answer → Answer
+unless_too_long z now base answer = answer
+
+abbrev pub answer_to : State → Option Shown → List ℕ → Answer
+answer_to now base [] =
+    unless_updating now (unless_too_long (size_of now.shown) (shown_state now) base
+    (due (size_of now.shown) (shown_state now) base))
+answer_to now base (b ∷ bs) = Behind
+
+-- where the program's screen is in this state
+abbrev pub answer_of : State → ClientState → Answer
+answer_of now c = answer_to now c.base c.owed
+
+-- whether memory is taken on the way to the answer
+abbrev pub may_take_memory : Answer → Bool
+may_take_memory answer = is_frame answer
 
 -- the client after that answer
 abbrev pub after_answer : Size → Shown → ClientState → Answer → ClientState
@@ -84,7 +106,7 @@ abbrev pub moved : Shown
 moved = record blank_shown { col = 1 }
 
 abbrev pub answer_after : Option Shown → Shown → Answer
-answer_after base now = answer_of one_cell now (record { owed = []; base = base })
+answer_after base now = due one_cell now base
 
 pub record EachExampleIsAnswered : Type 0 where
   pub first : answer_after None blank_shown ≡ Full
@@ -93,4 +115,6 @@ pub record EachExampleIsAnswered : Type 0 where
   pub unsure : answer_after (Some blank_shown) emoji ≡ Unsure
   pub again : answer_after (Some emoji) emoji ≡ Unsure
   pub sure_again : answer_after (Some emoji) moved ≡ Full
-  pub owed : answer_of one_cell emoji (record { owed = 0 ∷ []; base = None }) ≡ Behind
+  pub owed : (now : State) (base : Option Shown) → answer_of now (record { owed = 0 ∷ []; base = base }) ≡ Behind
+  pub none_owed : (now : State) (base : Option Shown)
+      → answer_of now (record { owed = []; base = base }) ≡ due (size_of now.shown) (shown_state now) base

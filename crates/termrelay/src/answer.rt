@@ -1,4 +1,6 @@
 //! What a request for a frame is answered.
+ghost use Rattle.std.specs.Prelude.{◌≡◌};
+ghost use Rattle.termrelay.specs.Answers.{is_frame};
 
 /// What a client that asks for a frame is answered.
 #[derive(Clone, Copy, Debug, Eq, PartialEq)]
@@ -13,4 +15,16 @@ pub enum Answer {
     Unchanged,
     /// No frame: bytes of an earlier one are still owed.
     Behind,
+}
+
+impl Answer {
+    /// Whether it brings a frame.
+    pub fn is_frame(self) -> bool
+        ensures { result ≡ is_frame self }
+    {
+        match self {
+            Answer::Full | Answer::Difference | Answer::Unsure => true,
+            Answer::Unchanged | Answer::Behind => false,
+        }
+    }
 }

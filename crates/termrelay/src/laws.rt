@@ -1,6 +1,10 @@
 //! Facts about frames. Each function does nothing: its contract is the fact.
-ghost use Rattle.termrelay.specs.Answers.{EachSameIsOne, EachExampleIsAnswered};
+ghost use Rattle.termrelay.specs.Answers.{EachSameIsOne, EachOneIsSame, EachExampleIsAnswered};
 ghost use Rattle.termrelay.specs.Frame.{EachSureIsPlain, EachFrameIsMarked, EachFrameLeads, EachFrameSetsModes};
+ghost use Rattle.termrelay.specs.Laws.{TwoFeedsAreOne, TakesAll, WritesNothing, AppendsFront};
+
+use crate::pump::Taker;
+use std::io::Write;
 
 /// A screen is unsure wherever one of its cells has U+FE0F.
 pub fn sure_screens_are_plain()
@@ -26,12 +30,30 @@ pub fn frames_set_modes()
 {}
 
 /// Screens of one size that the test takes for the same show the same, so that a client that is answered `Unchanged`
-/// misses nothing.
+/// misses nothing. And the test takes each screen for the same as one that shows the same, so that no frame is made of
+/// what the client has already.
 pub fn same_screens_are_one()
-    ensures { EachSameIsOne }
+    ensures one { EachSameIsOne }
+    ensures same { EachOneIsSame }
 {}
 
 /// What is answered on some screens of one cell.
 pub fn examples_are_answered()
     ensures { EachExampleIsAnswered }
+{}
+
+/// Two feeds are one feed of the joined bytes, memory aside.
+pub fn feeds_are_joined()
+    ensures { TwoFeedsAreOne }
+{}
+
+/// A pump that ends well leaves nothing owed, and where nothing is owed nothing is written, whatever takes the bytes.
+pub fn pumps_take_all<T: Taker>()
+    ensures all { TakesAll T.takes }
+    ensures nothing { WritesNothing T.takes }
+{}
+
+/// Where the bytes that a writer holds are known, a pump adds the front of what was owed, and the rest is owed then.
+pub fn pumps_append_the_front<W: Write>()
+    ensures { AppendsFront W.contents }
 {}

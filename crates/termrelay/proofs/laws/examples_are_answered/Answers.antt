@@ -12,5 +12,6 @@ returns c = record {
   unsure = refl;
   again = refl;
   sure_again = refl;
-  owed = refl;
+  owed = λ now base. refl;
+  none_owed = λ now base. refl;
 }

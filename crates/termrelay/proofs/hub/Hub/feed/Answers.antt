@@ -1,0 +1,35 @@
+use Rattle.std.proofs.Common.{◌≡◌, ℕ, List, [], ◌∷◌, length, ap, sym, ◌∙◌, refl, arith, false}
+use Rattle.std.proofs.lemmas.Bool.{eqb-true}
+use Rattle.slab.specs.Slab.{get}
+use Rattle.vt100_state.specs.Made.{Fed}
+use Rattle.termrelay.specs.Hub.{HubValue, GoesOn}
+use Rattle.termrelay.proofs.MadeLemmas.{fed-made, fed-size, nothing-fed}
+use Rattle.termrelay.proofs.HubLemmas.{served-still}
+use Rattle.termrelay.proofs.hub.Hub.feed.Goals as goal
+
+no-bytes : (xs : List ℕ) → length xs ≡ 0 → xs ≡ []
+no-bytes [] e = refl
+no-bytes (x ∷ xs) e = absurd (omega (arith, e))
+
+pub returns-then-is_empty : goal.returns-then-is_empty
+returns-then-is_empty c =
+    let live = sym c.has_failed.ensures ∙ c.if-has_failed.false in
+    let none = no-bytes c.args.bytes.now
+    (eqb-true (length c.args.bytes.now) 0 (sym c.is_empty.ensures ∙ c.if-is_empty.true)) in
+    (live, live, refl, nothing-fed c.args.self.now.parser c.args.bytes.now none)
+
+pub invariant_of-self-2 : goal.invariant_of-self-2
+invariant_of-self-2 c =
+    let p = c.self.inside.parser in
+    let q = c.process.new.self in
+    let live : p.screen.failed ≡ false =
+    ap (λ (v : HubValue). v.parser.screen.failed) c.self.view_is ∙ sym c.has_failed.ensures ∙ c.if-has_failed.false in
+    let step : GoesOn p (Fed c.args.bytes.now) q =
+    λ rows cols capacity acts at. c.in_ok-process.ensures.made (λ a v k b w e. sym e) rows cols capacity acts at in
+    let made = c.self.invariant.made live in
+    record {
+      made = λ alive. fed-made p q c.args.bytes.now made step;
+      bases = λ alive key. served-still p.screen q.screen (get c.self.inside.clients key)
+          (fed-size p q c.args.bytes.now made step) (c.self.invariant.bases live key);
+      present = tt;
+    }

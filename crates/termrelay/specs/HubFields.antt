@@ -1,0 +1,28 @@
+-- How a hub's fields give what a contract sees of it, and what is true of them.
+use Rattle.std.specs.Prelude.{◌≡◌, ℕ, false, List, Option, IfSome}
+use Rattle.slab.specs.Slab.{get}
+use Rattle.vt100_state.specs.Made.{Act}
+use Rattle.vt100_state.specs.Holds.{AreActs}
+use Rattle.vt100.specs.Parsing.{ParserView, StandsAt}
+use Rattle.termrelay.specs.Hub.{HubValue}
+use Rattle.termrelay.specs.Record.{IsServed}
+use Rattle.termrelay.specs.declared.hub.Hub.TheInside.{Inside}
+
+abbrev pub hub_of : Inside → HubValue
+hub_of h = record { parser = h.parser; records = h.clients.slots }
+
+-- acts have made the parser of a new one
+pub record IsMade (p : ParserView (Unit {0})) : Type 0 where
+  pub rows : ℕ
+  pub cols : ℕ
+  pub capacity : ℕ
+  pub acts : List Act
+  pub are : AreActs rows cols capacity acts
+  pub stands : StandsAt p rows cols capacity acts
+
+-- the parser was made, each base has the screen's size, and the hub's own one is the present screen
+pub record IsHub (h : Inside) : Type 0 where
+  pub made : h.parser.screen.failed ≡ false → IsMade h.parser
+  pub bases : h.parser.screen.failed ≡ false → (key : ℕ)
+      → IfSome (get h.clients key) (IsServed h.parser.screen)
+  pub present : IfSome h.present (λ base. base.value ≡ h.parser.screen)

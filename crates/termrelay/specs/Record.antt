@@ -1,0 +1,25 @@
+-- What a hub keeps of a client.
+use Rattle.std.specs.Prelude.{◌≡◌, ℕ, List, Option, IfSome}
+use Rattle.std.specs.Option.{option_map}
+use Rattle.vt100_core.specs.Picture.{size_of}
+use Rattle.vt100_state.specs.Call.{ScreenView}
+use Rattle.vt100_state.specs.Shown.{shown_state}
+use Rattle.vt100.specs.WriterLaws.{IsUnscrolled}
+use Rattle.termrelay.specs.Answers.{ClientState}
+
+-- the bytes that it is owed, and the screen at its last frame
+pub record RecordView : Type 0 where
+  pub owed : List ℕ
+  pub base : Option ScreenView
+
+abbrev pub client_of : RecordView → ClientState
+client_of s = record { owed = s.owed; base = option_map (λ v. shown_state v.state) s.base }
+
+-- a base of a screen: no kept row is shown, and the size is the same
+pub record IsBaseOf (now base : ScreenView) : Type 0 where
+  pub unscrolled : IsUnscrolled base.state
+  pub size : size_of base.state.shown ≡ size_of now.state.shown
+
+-- the client's base, if it has one, is one of this screen
+abbrev pub IsServed : ScreenView → RecordView → Type 0
+IsServed now s = IfSome s.base (IsBaseOf now)

@@ -1,0 +1,36 @@
+//! The key of a client.
+ghost use Rattle.std.specs.Prelude.{◌≡◌};
+
+use std::marker::Model;
+
+/// A client of a hub, by its key. The key of a client that has ended is unknown until another one gets it.
+#[derive(Clone, Copy, Debug, Eq, PartialEq)]
+pub struct Client {
+    key: usize,
+}
+
+impl Model for Client {
+    ghost use Rattle.std.specs.Prelude.{ℕ};
+
+    ghost Value = { ℕ };
+
+    ghost view = { λ c. c.key };
+
+    ghost inverse = { λ key. record { key = key } };
+}
+
+impl Client {
+    /// The client with this key, if there is one.
+    pub fn from_key(key: usize) -> Self
+        ensures { result ≡ key }
+    {
+        Client { key }
+    }
+
+    /// Its key.
+    pub fn key(self) -> usize
+        ensures { result ≡ self }
+    {
+        self.key
+    }
+}

@@ -1,0 +1,205 @@
+//! The hub.
+ghost use Rattle.std.specs.Prelude.{◌≡◌, IfOk, OnErr, Err, Some, None, MatchOption, IsSome, slice_index_or};
+ghost use Rattle.termrelay.specs.declared.error.HubError.TheVariants.{Memory, UnknownClient};
+
+use crate::answer::Answer;
+use crate::client::Client;
+use crate::error::HubError;
+use crate::pump::Taker;
+use crate::record::Record;
+use slab::Slab;
+use std::alloc::Global;
+use std::marker::Model;
+use std::num::NonZeroU16;
+use std::rc::Rc;
+use vt100::{Parser, Screen};
+
+/// One program's screen, and clients that are sent frames of it.
+///
+/// A client's frames, joined, make a terminal of the screen's size show what the screen shows. Each leads on from the
+/// one before, so that a client keeps the screen at its last frame. Of several refusals an unknown client comes first,
+/// then a failed hub, then want of memory.
+#[derive(Drop)]
+pub struct Hub {
+    parser: Parser<()>,
+    clients: Slab<Record>,
+    /// The base that was made of the present screen.
+    present: Option<Rc<Screen>>,
+    alloc: Global,
+}
+
+impl Model for Hub {
+    ghost use Rattle.termrelay.specs.Hub.{HubValue};
+
+    ghost Value = { HubValue };
+
+    ghost use Rattle.termrelay.specs.HubFields.{hub_of, IsHub};
+
+    ghost view = { hub_of };
+
+    ghost invariant = { IsHub };
+}
+
+impl Hub {
+    ghost use Rattle.termrelay.specs.Hub.{state_of, shown_in, with_client, IsNewHub, Feeds, Resizes, Attaches, Detaches, Frames, PumpsClient};
+
+    /// A hub with a blank screen of this size, which keeps no rows, and without clients.
+    pub fn new(alloc: Global, rows: NonZeroU16, cols: NonZeroU16) -> Result<Self, HubError>
+        ensures new { IfOk result (λ hub. IsNewHub rows.value cols.value (state_of hub)) }
+        ensures memory { OnErr result (result ≡ Err Memory) }
+    {
+        Ok(Hub {
+            parser: Parser::new(alloc, rows, cols, 0)?,
+            clients: Slab::new(alloc),
+            present: None,
+            alloc,
+        })
+    }
+
+    /// The program's screen. The hub has failed where the screen has.
+    pub fn screen(&self) -> &Screen
+        ensures { result.now ≡ self.now.parser.screen }
+    {
+        self.parser.screen()
+    }
+
+    fn has_failed(&self) -> bool
+        ensures { result ≡ self.now.parser.screen.failed }
+    {
+        self.parser.screen().failed()
+    }
+
+    /// Gives the program's next bytes to the screen. They may be cut anywhere.
+    ///
+    /// Without memory the hub has failed: no frame is made any more, but what is owed can be pumped.
+    pub fn feed(&mut self, bytes: &[u8]) -> Result<(), HubError>
+        ensures { Feeds (state_of self.old) bytes.now result (state_of self.new) }
+    {
+        if self.has_failed() {
+            return Err(HubError::Failed);
+        }
+        if bytes.is_empty() {
+            return Ok(());
+        }
+        self.present = None;
+        self.parser.process(bytes)?;
+        Ok(())
+    }
+
+    /// Gives the screen another size. Every client ends, also where the size stays. Refused, nothing has changed.
+    pub fn resize(&mut self, rows: NonZeroU16, cols: NonZeroU16) -> Result<(), HubError>
+        ensures { Resizes (state_of self.old) rows.value cols.value result (state_of self.new) }
+    {
+        if self.has_failed() {
+            return Err(HubError::Failed);
+        }
+        let mut screen = self.parser.screen().clone()?;
+        screen.set_size(rows, cols)?;
+        self.present = None;
+        self.clients.clear();
+        *self.parser.screen_mut() = screen;
+        Ok(())
+    }
+
+    /// A new client, which has had no frame. Refused, nothing has changed.
+    pub fn attach(&mut self) -> Result<Client, HubError>
+        ensures { Attaches (state_of self.old) result (state_of self.new) }
+    {
+        if self.has_failed() {
+            return Err(HubError::Failed);
+        }
+        match self.clients.insert(Record::new(self.alloc)) {
+            Ok(key) => Ok(Client::from_key(key)),
+            Err(_) => Err(HubError::Memory),
+        }
+    }
+
+    /// The client ends, and what it is owed is gone.
+    pub fn detach(&mut self, client: Client) -> Result<(), HubError>
+        ensures { Detaches (state_of self.old) client result (state_of self.new) }
+    {
+        match self.clients.try_remove(client.key()) {
+            Some(_) => Ok(()),
+            None => Err(HubError::UnknownClient),
+        }
+    }
+
+    /// The bytes of the client's last frame that haven't been pumped yet.
+    pub fn owed(&self, client: Client) -> Result<&[u8], HubError>
+        ensures { MatchOption ((state_of self.now).client client) (result ≡ Err UnknownClient)
+            (λ c. IfOk result (λ bytes. bytes.now ≡ c.owed)) }
+    {
+        match self.clients.get(client.key()) {
+            Some(record) => Ok(record.owed()),
+            None => Err(HubError::UnknownClient),
+        }
+    }
+
+    /// Hands what the client is owed to a writer, by writes alone: nothing is flushed, and where nothing is owed
+    /// nothing is written.
+    ///
+    /// Any fault ends the call and is handed back, an interrupted write too; a write that takes nothing is a fault of
+    /// kind `WriteZero`. What was taken is no longer owed. A write that answers more than it was offered has taken what
+    /// it was offered.
+    pub fn pump<T: Taker>(&mut self, client: Client, to: &mut T) -> Result<(), HubError>
+        ensures { PumpsClient T.takes (state_of self.old) client to.old result to.new (state_of self.new) }
+    {
+        match self.clients.get_mut(client.key()) {
+            Some(record) => match record.pump(to) {
+                Ok(()) => Ok(()),
+                Err(error) => Err(HubError::Write(error)),
+            },
+            None => Err(HubError::UnknownClient),
+        }
+    }
+
+    /// A base of the present screen. One that was made of it before is shared.
+    fn present_base(&self) -> Result<Rc<Screen>, HubError>
+        ensures base { IfOk result (λ base. base.value ≡ self.now.parser.screen) }
+        ensures memory { OnErr result (result ≡ Err Memory) }
+    {
+        if let Some(base) = &self.present {
+            return Ok(base.clone()?);
+        }
+        let screen = self.parser.screen().clone()?;
+        match Rc::new(self.alloc, screen) {
+            Ok(base) => Ok(base),
+            Err(_) => Err(HubError::Memory),
+        }
+    }
+
+    /// Asks for a frame for the client. Where the answer brings one, its text is owed from now on, and the present
+    /// screen is the client's base. Refused, nothing has changed.
+    pub fn frame(&mut self, client: Client) -> Result<Answer, HubError>
+        ensures { Frames (state_of self.old) client result (state_of self.new) }
+    {
+        let Some(record) = self.clients.get(client.key()) else {
+            return Err(HubError::UnknownClient);
+        };
+        let screen = self.parser.screen();
+        if screen.failed() {
+            return Err(HubError::Failed);
+        }
+        let answer = record.answer(screen);
+        if !answer.is_frame() {
+            return Ok(answer);
+        }
+        let text = record.frame_text(self.alloc, screen, answer)?;
+        let base = self.present_base()?;
+        self.present = Some(base.clone()?);
+        self.owe(client, text, base);
+        Ok(answer)
+    }
+
+    /// From now on the client is owed a frame's text, and `base` is the screen at it.
+    fn owe(&mut self, client: Client, text: Vec<u8>, base: Rc<Screen>)
+        requires known { IsSome (slice_index_or self.old.records client None) }
+        requires present { base.value ≡ self.old.parser.screen }
+        ensures { state_of self.new ≡ with_client (state_of self.old) client
+            (Some (record { owed = text.items; base = Some (shown_in (state_of self.old)) })) }
+    {
+        if let Some(record) = self.clients.get_mut(client.key()) {
+            record.owe(text, base);
+        }
+    }
+}

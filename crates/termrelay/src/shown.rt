@@ -1,0 +1,148 @@
+//! What screens show, by the calls that ask them about it.
+ghost use Rattle.std.specs.Prelude.{◌≡◌, ◌<◌};
+ghost use Rattle.vt100_forms.specs.Attrs.{attrs_eq};
+ghost use Rattle.vt100_cells.specs.Cell.{bool_eq, cell_eq};
+ghost use Rattle.vt100_core.specs.Picture.{size_of};
+ghost use Rattle.vt100_state.specs.State.{IsState};
+ghost use Rattle.vt100_state.specs.Shown.{shown_state};
+ghost use Rattle.termrelay.specs.Answers.{all_below, modes_eq, same_shown};
+ghost use Rattle.termrelay.specs.Frame.{any_below, asks_for_emoji, is_unsure};
+
+use vt100::{Cell, Screen};
+
+/// The character that asks for an emoji, by which a terminal may make a cell wide.
+const EMOJI_SELECTOR: char = '\u{fe0f}';
+
+/// Whether a terminal may make something else of the cell. Most texts are shorter than that character.
+fn asks_for_emoji(cell: &Cell) -> bool
+    ensures { result ≡ asks_for_emoji cell.now }
+{
+    let text = cell.contents();
+    text.len() >= EMOJI_SELECTOR.len_utf8() && text.chars().any(|c| c == EMOJI_SELECTOR)
+}
+
+/// Whether one of a row's cells asks for an emoji.
+fn is_row_unsure(screen: &Screen, row: u16) -> bool
+    requires state { IsState screen.now.state }
+    requires inside { row < screen.now.state.shown.height }
+    ensures { result ≡ any_below screen.now.state.shown.width
+        (λ k. asks_for_emoji ((shown_state screen.now.state).cell row k)) }
+{
+    let (_, cols) = screen.size();
+    for col in 0..cols.get() {
+        if let Some(cell) = screen.cell(row, col) {
+            if asks_for_emoji(cell) {
+                return true;
+            }
+        }
+    }
+    false
+}
+
+/// Whether it isn't sure what another terminal makes of the screen: a cell asks for an emoji.
+pub(crate) fn is_unsure(screen: &Screen) -> bool
+    requires { IsState screen.now.state }
+    ensures { result ≡ is_unsure (size_of screen.now.state.shown) (shown_state screen.now.state) }
+{
+    let (rows, _) = screen.size();
+    for row in 0..rows.get() {
+        if is_row_unsure(screen, row) {
+            return true;
+        }
+    }
+    false
+}
+
+/// Whether two screens of one size show the same cells in a row.
+fn has_same_cells(screen: &Screen, other: &Screen, row: u16) -> bool
+    requires state { IsState screen.now.state }
+    requires other_state { IsState other.now.state }
+    requires size { size_of screen.now.state.shown ≡ size_of other.now.state.shown }
+    requires inside { row < screen.now.state.shown.height }
+    ensures { result ≡ all_below screen.now.state.shown.width (λ k. cell_eq
+        ((shown_state screen.now.state).cell row k) ((shown_state other.now.state).cell row k)) }
+{
+    let (_, cols) = screen.size();
+    for col in 0..cols.get() {
+        if screen.cell(row, col) != other.cell(row, col) {
+            return false;
+        }
+    }
+    true
+}
+
+/// Whether two screens of one size show the same cells.
+fn same_cells(screen: &Screen, other: &Screen) -> bool
+    requires state { IsState screen.now.state }
+    requires other_state { IsState other.now.state }
+    requires size { size_of screen.now.state.shown ≡ size_of other.now.state.shown }
+    ensures { result ≡ all_below screen.now.state.shown.height (λ r. all_below screen.now.state.shown.width
+        (λ k. cell_eq ((shown_state screen.now.state).cell r k) ((shown_state other.now.state).cell r k))) }
+{
+    let (rows, _) = screen.size();
+    for row in 0..rows.get() {
+        if !has_same_cells(screen, other, row) {
+            return false;
+        }
+    }
+    true
+}
+
+/// Whether the same rows of both go on in the next one.
+fn same_wraps(screen: &Screen, other: &Screen) -> bool
+    requires state { IsState screen.now.state }
+    requires other_state { IsState other.now.state }
+    ensures { result ≡ all_below screen.now.state.shown.height (λ r. bool_eq
+        ((shown_state screen.now.state).wrapped r) ((shown_state other.now.state).wrapped r)) }
+{
+    let (rows, _) = screen.size();
+    for row in 0..rows.get() {
+        if screen.row_wrapped(row) != other.row_wrapped(row) {
+            return false;
+        }
+    }
+    true
+}
+
+/// Whether both draw with the same attributes.
+fn same_attributes(screen: &Screen, other: &Screen) -> bool
+    requires state { IsState screen.now.state }
+    requires other_state { IsState other.now.state }
+    ensures { result ≡ attrs_eq screen.now.state.attrs other.now.state.attrs }
+{
+    screen.fgcolor() == other.fgcolor()
+        && screen.bgcolor() == other.bgcolor()
+        && screen.bold() == other.bold()
+        && screen.dim() == other.dim()
+        && screen.italic() == other.italic()
+        && screen.underline() == other.underline()
+        && screen.inverse() == other.inverse()
+}
+
+/// Whether both have the same modes of the keys, of pasting and of the mouse.
+fn same_modes(screen: &Screen, other: &Screen) -> bool
+    ensures { result ≡ modes_eq screen.now.state.modes other.now.state.modes }
+{
+    screen.application_keypad() == other.application_keypad()
+        && screen.application_cursor() == other.application_cursor()
+        && screen.bracketed_paste() == other.bracketed_paste()
+        && screen.mouse_protocol_mode() == other.mouse_protocol_mode()
+        && screen.mouse_protocol_encoding() == other.mouse_protocol_encoding()
+}
+
+/// Whether two screens of one size show the same. It stops at the first difference.
+pub(crate) fn same_shown(screen: &Screen, other: &Screen) -> bool
+    requires state { IsState screen.now.state }
+    requires other_state { IsState other.now.state }
+    requires size { size_of screen.now.state.shown ≡ size_of other.now.state.shown }
+    ensures { result ≡ same_shown (size_of screen.now.state.shown) (shown_state screen.now.state)
+        (shown_state other.now.state) }
+{
+    screen.cursor_position() == other.cursor_position()
+        && screen.hide_cursor() == other.hide_cursor()
+        && screen.cursor_style() == other.cursor_style()
+        && same_modes(screen, other)
+        && same_attributes(screen, other)
+        && same_wraps(screen, other)
+        && same_cells(screen, other)
+}
