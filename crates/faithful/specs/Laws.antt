@@ -1,0 +1,65 @@
+-- Laws of histories: what is true of every session, whatever calls came and whatever they were answered.
+use Rattle.std.specs.Prelude.{◌≡◌, ℕ, true, List, [], ◌∷◌, ◌++◌, Option, Some, None, slice_get, if◌then◌else◌}
+use Rattle.vt100_picture.specs.Term.{Size, Shown}
+use Rattle.vt100_state.specs.Holds.{IsSide, AreActs}
+use Rattle.termrelay.specs.Frame.{frame_text}
+use Rattle.termrelay.specs.Answers.{is_frame}
+use Rattle.faithful.specs.History.{Call, Reply, Entry, Story, fresh, answer_by, CanRun, books_after}
+use Rattle.faithful.specs.Judge.{state_at, size_at, shown_at, texts}
+
+-- what was shown at the last frame, where there was one, and the frame's text
+abbrev pub base_then : ℕ → ℕ → Option Shown → Entry → Option Shown
+base_then rows cols base e = if is_frame e.answer then Some (shown_at rows cols e) else base
+
+abbrev pub base_after : ℕ → ℕ → Option Shown → List Entry → Option Shown
+base_after rows cols base [] = base
+base_after rows cols base (e ∷ es) = base_after rows cols (base_then rows cols base e) es
+
+abbrev pub last_text : List ℕ → List Entry → List ℕ
+last_text text [] = text
+last_text text (e ∷ es) = last_text (if is_frame e.answer then e.text else text) es
+
+-- An answer to a session of this size, whose last frame was of this base, on a hub that was first of rows and cols: the
+-- screen had the session's size; what was shown, the base and the bytes then owed decide the answer; and a frame is
+-- made of the base and of what was shown.
+pub record IsAnswered (rows cols : ℕ) (z : Size) (base : Option Shown) (e : Entry) : Type 0 where
+  pub acts : AreActs rows cols 0 e.moment
+  pub size : size_at rows cols e ≡ z
+  pub owed : List ℕ
+  pub answer : e.answer ≡ answer_by (state_at rows cols e) (record { owed = owed; base = base })
+  pub text : e.text ≡ (if is_frame e.answer then frame_text z base (shown_at rows cols e) else [])
+
+-- one after another: each frame leads on from the one before it
+abbrev pub AreAnswered : ℕ → ℕ → Size → Option Shown → List Entry → Type 0
+AreAnswered rows cols z base [] = Unit {0}
+AreAnswered rows cols z base (e ∷ es) =
+    IsAnswered rows cols z base e × AreAnswered rows cols z (base_then rows cols base e) es
+
+-- the bytes taken and those owed are the frames' texts; what is owed is an end of the last frame, so at most one is;
+-- and the hub keeps what was shown at that one
+pub record IsServed (rows cols : ℕ) (t : Story) : Type 0 where
+  pub bytes : t.pumped ++ t.kept.owed ≡ texts t.entries
+  pub read : List ℕ
+  pub owed : read ++ t.kept.owed ≡ last_text [] t.entries
+  pub base : t.kept.base ≡ base_after rows cols None t.entries
+
+pub record IsTold (rows cols : ℕ) (t : Story) : Type 0 where
+  pub height : IsSide t.size.rows
+  pub width : IsSide t.size.cols
+  pub entries : AreAnswered rows cols t.size None t.entries
+  -- while it hasn't ended
+  pub served : t.live ≡ true → IsServed rows cols t
+  -- and ever after the bytes taken are a front of the frames' texts
+  pub left : List ℕ
+  pub front : t.pumped ++ left ≡ texts t.entries
+
+-- the n-th session of a hub that was first of rows and cols, after calls that got these replies
+pub record IsSession (rows cols : ℕ) (calls : List Call) (replies : List Reply) (n : ℕ) (t : Story) : Type 0 where
+  pub height : IsSide rows
+  pub width : IsSide cols
+  pub ran : CanRun (fresh rows cols) calls replies
+  pub is : slice_get (books_after (fresh rows cols) calls replies).stories n ≡ Some t
+
+abbrev pub EachSessionIsTold : Type 0
+EachSessionIsTold = (rows cols : ℕ) (calls : List Call) (replies : List Reply) (n : ℕ) (t : Story)
+    → IsSession rows cols calls replies n t → IsTold rows cols t

@@ -1,0 +1,6 @@
+pub mod History
+pub mod Judge
+pub mod Laws
+pub mod Headline
+pub mod Examples
+pub mod Clients
