@@ -4,8 +4,9 @@ use Rattle.std.proofs.Common.{sym, ap, ◌∙◌, append_assoc, arith, length-dr
 use Rattle.std.proofs.lemmas.List.{append-nil, take_all, take-append-le}
 use Rattle.std.proofs.Math.Seq.{take-add, take-append-add, take-append_seam}
 use Rattle.std.specs.Io.KnownBytes.{Appends}
+use Rattle.vt100_picture.specs.Term.{Size, Term}
 use Rattle.screenrelay.specs.Output.{TakesFront}
-use Rattle.screenrelay.specs.Sheet.{row_text, rows_text}
+use Rattle.screenrelay.specs.Shown.{row_line, rows_text, screen_text}
 
 pub Appends-more : (a b c : Option (List ℕ)) (xs ys : List ℕ) → Appends a b xs → Appends b c ys → Appends a c (xs ++ ys)
 Appends-more None b c xs ys h k = tt
@@ -42,8 +43,7 @@ TakesFront-none a text = (0, Appends-none a)
 pub TakesFront-part : (a b : Option (List ℕ)) (xs ys : List ℕ) → Appends a b xs → TakesFront a b (xs ++ ys)
 TakesFront-part a b xs ys whole = (length xs, rw (take-append_seam xs ys) whole)
 
-pub rows_text-next : (page written : List ℕ) (n m cols : ℕ) (cells : List (Option ℕ))
-    → page ≡ written ++ rows_text n cols cells → n ≡ suc m
-    → page ≡ (written ++ (row_text (take cols cells) ++ (0x0A ∷ []))) ++ rows_text m cols (drop cols cells)
-rows_text-next page written n m cols cells e k =
-    e ∙ ap (λ j. written ++ rows_text j cols cells) k ∙ simp append_assoc
+-- rows after one another
+pub rows-next : (z : Size) (t : Term) (written : List ℕ) (row n m : ℕ) → screen_text z t ≡ written ++ rows_text z t row n
+    → n ≡ suc m → screen_text z t ≡ written ++ (row_line z t row ++ rows_text z t (row + 1) m)
+rows-next z t written row n m e k = e ∙ ap (λ j. written ++ rows_text z t row j) k

@@ -3,8 +3,8 @@ use Rattle.std.proofs.Common.{◌≡◌, ℕ, List, [], ◌∷◌, ◌++◌, Opt
 use Rattle.std.specs.Io.KnownBytes.{Consumes, Keeps}
 use Rattle.vte_core.specs.Event.{Event, Performs}
 use Rattle.vte_core.specs.Shapes.{events}
-use Rattle.screenrelay.specs.Sheet.{Page, blank}
-use Rattle.screenrelay.specs.Reading.{stepped, stepped_through, made}
+use Rattle.screenrelay.specs.Sheet.{Page}
+use Rattle.screenrelay.specs.Reading.{stepped, stepped_through}
 
 pub stepped_through-append : (p : Page) (es fs : List Event)
     → stepped_through p (es ++ fs) ≡ stepped_through (stepped_through p es) fs
@@ -17,12 +17,13 @@ pub performs-is : (p : Page) (es : List Event) (q : Page)
 performs-is p [] q e = e
 performs-is p (e ∷ es) q (mid, step, rest) = performs-is mid es q rest ∙ ap (λ s. stepped_through s es) step
 
-pub made-more : (rows cols : ℕ) (past bytes : List ℕ) (told : List Event) (q : Page)
+pub through-more : (s : Page) (past bytes : List ℕ) (told : List Event) (p q : Page)
     → events 1024 (past ++ bytes) ≡ events 1024 past ++ told
-    → q ≡ stepped_through (made rows cols past) told → q ≡ made rows cols (past ++ bytes)
-made-more rows cols past bytes told q e s =
-    s ∙ sym (ap (stepped_through (blank rows cols)) e
-    ∙ stepped_through-append (blank rows cols) (events 1024 past) told)
+    → p ≡ stepped_through s (events 1024 past) → q ≡ stepped_through p told
+    → q ≡ stepped_through s (events 1024 (past ++ bytes))
+through-more s past bytes told p q e was now =
+    now ∙ ap (λ r. stepped_through r told) was ∙ sym (ap (stepped_through s) e
+    ∙ stepped_through-append s (events 1024 past) told)
 
 pub Consumes-more : (a b c : Option (List ℕ)) (xs ys : List ℕ) → Consumes a b xs → Consumes b c ys
     → Consumes a c (xs ++ ys)

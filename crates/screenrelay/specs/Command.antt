@@ -1,28 +1,56 @@
--- What a command writes and says.
-use Rattle.std.specs.Prelude.{◌≡◌, ℕ, zero, suc, List, [], ◌∷◌, ◌++◌, ◌⊎◌, codes}
-use Rattle.screenrelay.specs.Frame.{frame}
-use Rattle.screenrelay.specs.Reading.{made}
-use Rattle.screenrelay.specs.Sheet.{page_text}
-use Rattle.screenrelay.specs.Words.{Order}
+-- What a command answers, reads, writes and says.
+use Rattle.std.specs.Prelude.{◌≡◌, ℕ, List, [], ◌∷◌, ◌++◌, Option, Ok, Err, Result, codes}
+use Rattle.std.specs.declared.io.Error.{Error}
+use Rattle.screenrelay.specs.declared.error.RelayError.{RelayError}
+use Rattle.screenrelay.specs.declared.error.RelayError.TheVariants.{Read, Write, Memory, TooManyReads}
 use Rattle.screenrelay.specs.declared.words.Job.{Job}
 use Rattle.screenrelay.specs.declared.words.Job.TheVariants.{Relay, Show}
+use Rattle.screenrelay.specs.Frame.{frame}
+use Rattle.screenrelay.specs.Output.{TakesFront}
+use Rattle.screenrelay.specs.Pieces.{pieces_of}
+use Rattle.screenrelay.specs.Reading.{made}
+use Rattle.screenrelay.specs.Relayed.{Relays}
+use Rattle.screenrelay.specs.Shown.{IsShown, Shows, sized}
+use Rattle.screenrelay.specs.Words.{Order}
 
-abbrev pub wanted_by : Job → ℕ → ℕ → List ℕ → List ℕ
-wanted_by Relay rows cols bytes = frame (made rows cols bytes)
-wanted_by Show rows cols bytes = page_text (made rows cols bytes)
+abbrev pub WantsBy : Job → ℕ → ℕ → List ℕ → List ℕ → Type 0
+WantsBy Relay rows cols bytes text = text ≡ frame (made rows cols bytes)
+WantsBy Show rows cols bytes text = IsShown (sized rows cols) (pieces_of bytes) text
 
--- what an order writes where the input is these bytes
-abbrev pub wanted : Order → List ℕ → List ℕ
-wanted order bytes = wanted_by order.job order.rows order.cols bytes
+-- an order writes this text where the input is these bytes
+abbrev pub Wants : Order → List ℕ → List ℕ → Type 0
+Wants order bytes text = WantsBy order.job order.rows order.cols bytes text
 
--- these characters and a newline
+abbrev pub DoesBy : {S W : Type 0} → (S → ℕ → Result (List ℕ) Error → S → Type 0) → (W → Option (List ℕ)) → Job → ℕ → ℕ
+    → S → W → Result (Unit {0}) RelayError → S → W → Type 0
+DoesBy gives contents Relay rows cols s w answer t v = Relays gives contents rows cols s w answer t v
+DoesBy gives contents Show rows cols s w answer t v =
+    Shows gives contents (sized rows cols) s w answer t v
+
+-- a line of these characters
 abbrev pub line : List ℕ → List ℕ
 line cs = cs ++ (0x0A ∷ [])
 
--- the message that goes with an exit status
-abbrev pub Reports : ℕ → List ℕ → Type 0
-Reports zero message = message ≡ []
-Reports (suc zero) message = (message ≡ line (codes "screenrelay: read"))
-    ⊎ ((message ≡ line (codes "screenrelay: write"))
-    ⊎ ((message ≡ line (codes "screenrelay: memory")) ⊎ (message ≡ line (codes "screenrelay: too many reads"))))
-Reports (suc (suc n)) message = message ≡ line (codes "usage: screenrelay relay|show ROWS COLS")
+abbrev pub usage_line : List ℕ
+usage_line = line (codes "usage: screenrelay relay|show ROWS COLS")
+
+-- the line that names a fault
+abbrev pub fault_line : RelayError → List ℕ
+fault_line Read = line (codes "screenrelay: read")
+fault_line Write = line (codes "screenrelay: write")
+fault_line Memory = line (codes "screenrelay: memory")
+fault_line TooManyReads = line (codes "screenrelay: too many reads")
+
+-- the exit status that goes with an answer, and what is told of it on the error output, as far as that takes it
+abbrev pub Reports : {V : Type 0} → (V → Option (List ℕ)) → Result (Unit {0}) RelayError → V → ℕ → V → Type 0
+Reports told (Ok u) e status f = (status ≡ 0) × (f ≡ e)
+Reports told (Err fault) e status f = (status ≡ 1) × TakesFront (told e) (told f) (fault_line fault)
+
+-- An order was carried out, from a source, a writer and an error output: what was answered, and so what was read,
+-- written and told.
+pub record Does {S W V : Type 0} (gives : S → ℕ → Result (List ℕ) Error → S → Type 0) (contents : W → Option (List ℕ))
+    (told : V → Option (List ℕ)) (order : Order) (s : S) (w : W) (e : V) (status : ℕ) (t : S) (v : W) (f : V)
+    : Type 0 where
+  pub answer : Result (Unit {0}) RelayError
+  pub does : DoesBy gives contents order.job order.rows order.cols s w answer t v
+  pub reports : Reports told answer e status f

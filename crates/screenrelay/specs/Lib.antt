@@ -1,6 +1,12 @@
 pub mod Command
+pub mod Fill
 pub mod Frame
+pub mod Laws
+pub mod Led
 pub mod Output
+pub mod Pieces
 pub mod Reading
+pub mod Relayed
 pub mod Sheet
+pub mod Shown
 pub mod Words

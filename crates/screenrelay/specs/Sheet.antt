@@ -49,19 +49,3 @@ moved_right n p = record p { col = min (p.col + n) (p.cols - 1) }
 -- all from the cursor on is empty
 abbrev pub erased : Page → Page
 erased p = record p { cells = take (place p) p.cells ++ replicate (length p.cells - place p) None }
-
--- the cells of a row up to the last one with a character
-abbrev pub trimmed : List (Option ℕ) → List (Option ℕ)
-trimmed cells = take (length cells - suffix_len is_none cells) cells
-
--- the text of a row: an empty cell left of a character is a space
-abbrev pub row_text : List (Option ℕ) → List ℕ
-row_text cells = map (λ c. unwrap_or c 0x20) (trimmed cells)
-
--- the text of the first rows, each with a newline
-abbrev pub rows_text : ℕ → ℕ → List (Option ℕ) → List ℕ
-rows_text zero cols cells = []
-rows_text (suc n) cols cells = row_text (take cols cells) ++ (0x0A ∷ rows_text n cols (drop cols cells))
-
-abbrev pub page_text : Page → List ℕ
-page_text p = rows_text p.rows p.cols p.cells

@@ -1,17 +1,19 @@
 //! The command line.
 
-ghost use Rattle.std.specs.Prelude.{◌≡◌, ◌≤◌, ◌∷◌, ◌++◌, [], ℕ, List, map, None, IfSome, MatchOption};
+ghost use Rattle.std.specs.Prelude.{◌≡◌, ℕ, List, map, None, IfSome};
 ghost use Rattle.std.specs.Io.KnownBytes.{Appends};
-ghost use Rattle.screenrelay.specs.Command.{Reports, wanted};
+ghost use Rattle.screenrelay.specs.Command.{Does, DoesBy, Wants, fault_line, usage_line};
 ghost use Rattle.screenrelay.specs.Output.{TakesFront};
 ghost use Rattle.screenrelay.specs.Words.{order_of};
 
 use crate::error::RelayError;
 use crate::output::write_whole;
-use crate::relay::{relay, show};
-use crate::words::{Job, parse};
+use crate::relay::relay;
+use crate::show::show;
+use crate::source::Source;
+use crate::words::{Job, Order, parse};
 use std::alloc::Global;
-use std::io::{Read, Write};
+use std::io::Write;
 
 /// The exit status of a command that did its work.
 pub const SUCCESS: u8 = 0;
@@ -27,48 +29,58 @@ pub const USAGE: u8 = 2;
 /// A fault is told in a line on `errors`: `screenrelay: read`, `write`, `memory` or `too many reads`. Any other
 /// command line than `relay ROWS COLS` and `show ROWS COLS` gets the usage line there, and then nothing is read
 /// or written. A fault of `errors` changes nothing.
-pub fn command<R: Read, W: Write, V: Write>(
+pub fn command<S: Source, W: Write, V: Write>(
     alloc: Global,
     words: &[&str],
-    input: &mut R,
+    input: &mut S,
     output: &mut W,
     errors: &mut V,
 ) -> u8
     ensures usage { order_of (map (λ w. w.now) words.now) ≡ None → (result ≡ 2) × (input.new ≡ input.old)
-        × (output.new ≡ output.old) }
-    ensures fault { IfSome (order_of (map (λ w. w.now) words.now)) (λ order. result ≤ 1) }
+        × (output.new ≡ output.old) × TakesFront (V.contents errors.old) (V.contents errors.new) usage_line }
+    ensures does { IfSome (order_of (map (λ w. w.now) words.now)) (λ order. Does S.gives W.contents V.contents order
+        input.old output.old errors.old result input.new output.new errors.new) }
     ensures done { result ≡ 0 → IfSome (order_of (map (λ w. w.now) words.now))
-        (λ order. IfSome (R.remaining input.old) (λ bytes.
-        Appends (W.contents output.old) (W.contents output.new) (wanted order bytes))) }
-    ensures reports { (message : List ℕ) × Reports result message
-        × TakesFront (V.contents errors.old) (V.contents errors.new) message }
+        (λ order. IfSome (S.left input.old) (λ bytes. (text : List ℕ) × Wants order bytes text
+        × Appends (W.contents output.old) (W.contents output.new) text)) }
 {
     let Some(order) = parse(words) else {
         report(errors, b"usage: screenrelay relay|show ROWS COLS\n");
         return USAGE;
     };
-    let outcome = match order.job {
-        Job::Relay => relay(alloc, order.rows, order.cols, input, output),
-        Job::Show => show(alloc, order.rows, order.cols, input, output),
-    };
-    match outcome {
+    match carry_out(alloc, order, input, output) {
         Ok(()) => SUCCESS,
         Err(error) => report_fault(errors, error),
+    }
+}
+
+// Does what is asked for.
+fn carry_out<S: Source, W: Write>(
+    alloc: Global,
+    order: Order,
+    input: &mut S,
+    output: &mut W,
+) -> Result<(), RelayError>
+    ensures { DoesBy S.gives W.contents order.job order.rows.value order.cols.value input.old output.old result
+        input.new output.new }
+{
+    match order.job {
+        Job::Relay => relay(alloc, order.rows, order.cols, input, output),
+        Job::Show => show(alloc, order.rows, order.cols, input, output),
     }
 }
 
 /// Tells a fault in a line on `errors`, and answers the exit status that goes with it.
 pub(crate) fn report_fault<V: Write>(errors: &mut V, error: RelayError) -> u8
     ensures status { result ≡ 1 }
-    ensures reports { (message : List ℕ) × Reports 1 message
-        × TakesFront (V.contents errors.old) (V.contents errors.new) message }
+    ensures reports { TakesFront (V.contents errors.old) (V.contents errors.new) (fault_line error) }
 {
     report(errors, fault_line(error));
     FAULT
 }
 
 fn fault_line(error: RelayError) -> &'static [u8]
-    ensures { Reports 1 result.now }
+    ensures { result.now ≡ fault_line error }
 {
     match error {
         RelayError::Read => b"screenrelay: read\n",

@@ -4,6 +4,7 @@ ghost use Rattle.std.specs.Prelude.{◌≡◌};
 ghost use Rattle.screenrelay.specs.declared.error.RelayError.TheVariants.{Memory};
 
 use std::alloc::{AllocError, AllocFailed};
+use termview::ViewError;
 use thiserror::Error;
 
 /// Why `relay` or `show` ended early. What was written by then stays written.
@@ -35,6 +36,14 @@ impl<T: Drop> From<AllocFailed<T>> for RelayError {
     ghost from_gives = { λ _ e. e ≡ Memory };
 
     fn from(_error: AllocFailed<T>) -> Self {
+        RelayError::Memory
+    }
+}
+
+impl From<ViewError> for RelayError {
+    ghost from_gives = { λ _ e. e ≡ Memory };
+
+    fn from(_error: ViewError) -> Self {
         RelayError::Memory
     }
 }

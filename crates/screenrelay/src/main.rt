@@ -3,11 +3,14 @@
 
 mod command;
 mod error;
+mod far;
 mod frame;
+mod laws;
 mod output;
 mod relay;
 mod sheet;
 mod show;
+mod source;
 #[cfg(test)]
 mod tests;
 mod words;

@@ -3,7 +3,7 @@
 ghost use Rattle.std.specs.Prelude.{◌≡◌, ℕ, ◌+◌, ◌*◌, ◌<◌, ◌≤◌, ◌^◌, IfOk, OnOk, length, ◌++◌, drop, take, replicate};
 ghost use Rattle.std.specs.Prelude.{None, List, map};
 ghost use Rattle.screenrelay.specs.Sheet.{blank, place, down, fitted, put, printed, returned, moved_to, moved_right};
-ghost use Rattle.screenrelay.specs.Sheet.{erased, row_text, rows_text, trimmed};
+ghost use Rattle.screenrelay.specs.Sheet.{erased};
 ghost use Rattle.screenrelay.specs.Reading.{stepped, controlled, first_number, next_groups, count};
 ghost use Rattle.std.specs.Prelude.{false};
 
@@ -142,27 +142,6 @@ fn scroll(cells: &mut [Option<u8>], n: usize)
     cells.rotate_left(n);
     let kept = cells.len() - n;
     cells[kept..].fill(None);
-}
-
-/// Appends the text of a row: up to its last character, with a space for each empty cell left of it.
-pub(crate) fn push_row(line: &mut Vec<u8>, cells: &[Option<u8>]) -> Result<(), AllocError>
-    ensures { OnOk result (line.new.items ≡ line.old.items ++ row_text cells.now) }
-{
-    for cell in trim(cells) {
-        line.push(cell.unwrap_or(b' '))?;
-    }
-    Ok(())
-}
-
-// The cells up to the last one with a character.
-fn trim(cells: &[Option<u8>]) -> &[Option<u8>]
-    ensures { result.now ≡ trimmed cells.now }
-{
-    let mut len = cells.len();
-    while len > 0 && cells[len - 1].is_none() {
-        len -= 1;
-    }
-    &cells[..len]
 }
 
 impl Perform for Sheet {

@@ -1,13 +1,19 @@
 //! Whole commands, byte for byte, and faults of readers and writers in mid-stream.
 
 use crate::command::command;
+use crate::far::view_of;
 use std::io;
 use std::io::{ErrorKind, Read, Write};
+use std::num::NonZeroU16;
 use std::test::Fail;
 
 const BLANK: &[u8] = b"\x1b[?2026h\x1b[?25h\x1b[m\x1b[H\x1b[J\x1b>\x1b[?1l\x1b[?2004l\x1b[?2026l";
 
 const HI: &[u8] = b"\x1b[?2026h\x1b[?25h\x1b[m\x1b[H\x1b[Jhi\x1b>\x1b[?1l\x1b[?2004l\x1b[?2026l";
+
+const BEGUN: &[u8] = b"\x1b[?2026h\x1b[?25h\x1b[m\x1b[H\x1b[Jhi\x1b>\x1b[?1l\x1b[?2004l\x1b[?2026";
+
+const START: &[u8] = b"\x1b[?2026h";
 
 const USAGE: &[u8] = b"usage: screenrelay relay|show ROWS COLS\n";
 
@@ -72,9 +78,10 @@ impl Write for Narrow {
 
 #[test]
 fn commands(rt: HostRuntime) -> Result<(), Fail> {
-    let rows: [(&[&str], &[u8], u8, &[u8], &[u8]); 15] = [
+    let rows: [(&[&str], &[u8], u8, &[u8], &[u8]); 16] = [
         (&["relay", "2", "4"], b"hi", 0, HI, b""),
         (&["show", "2", "4"], HI, 0, b"hi\n\n", b""),
+        (&["show", "2", "4"], BEGUN, 0, b"\n\n", b""),
         (&["relay", "2", "4"], b"", 0, BLANK, b""),
         (&["relay", "1", "1"], b"", 0, BLANK, b""),
         (&["relay", "24", "80"], b"", 0, BLANK, b""),
@@ -124,8 +131,9 @@ fn commands(rt: HostRuntime) -> Result<(), Fail> {
 
 #[test]
 fn readers(rt: HostRuntime) -> Result<(), Fail> {
-    let rows: [(&'static [Step], u8, &[u8], &[u8]); 3] = [
+    let rows: [(&str, &'static [Step], u8, &[u8], &[u8]); 5] = [
         (
+            "relay",
             &[
                 Step::Give(b"hi"),
                 Step::Fail(ErrorKind::BrokenPipe),
@@ -136,12 +144,14 @@ fn readers(rt: HostRuntime) -> Result<(), Fail> {
             b"screenrelay: read\n",
         ),
         (
+            "relay",
             &[Step::Fail(ErrorKind::Interrupted), Step::Give(b"hi")],
             0,
             HI,
             b"",
         ),
         (
+            "relay",
             &[
                 Step::Give(b"h"),
                 Step::Fail(ErrorKind::Interrupted),
@@ -151,14 +161,32 @@ fn readers(rt: HostRuntime) -> Result<(), Fail> {
             HI,
             b"",
         ),
+        (
+            "show",
+            &[
+                Step::Give(b"h"),
+                Step::Fail(ErrorKind::Interrupted),
+                Step::Give(b"i"),
+            ],
+            0,
+            b"hi\n\n",
+            b"",
+        ),
+        (
+            "show",
+            &[Step::Give(b"hi"), Step::Fail(ErrorKind::BrokenPipe)],
+            1,
+            b"",
+            b"screenrelay: read\n",
+        ),
     ];
-    for (steps, status, output, errors) in rows {
+    for (job, steps, status, output, errors) in rows {
         let mut written = Vec::new(rt.alloc());
         let mut told = Vec::new(rt.alloc());
         let mut input = Steps { steps };
         let answer = command(
             rt.alloc(),
-            &["relay", "2", "4"],
+            &[job, "2", "4"],
             &mut input,
             &mut written,
             &mut told,
@@ -166,6 +194,62 @@ fn readers(rt: HostRuntime) -> Result<(), Fail> {
         assert_eq!(rt; answer, status);
         assert_eq!(rt; written.as_slice(), output);
         assert_eq!(rt; told.as_slice(), errors);
+    }
+    Ok(())
+}
+
+/// A reader that gives at most 14 bytes a read.
+#[derive(Drop)]
+struct AFew<'a> {
+    left: &'a [u8],
+}
+
+impl Read for AFew<'_> {
+    fn read(&mut self, buf: &mut [u8]) -> io::Result<usize> {
+        let n = self.left.len().min(buf.len()).min(14);
+        buf[..n].copy_from_slice(&self.left[..n]);
+        self.left = &self.left[n..];
+        Ok(n)
+    }
+}
+
+// A held update that is emptied in the last piece, for want of room: the second start mark ends in that piece, and
+// opens an update there. Cut as the reader gives it, the mark would be held, and the last byte shown.
+#[test]
+fn pieces(rt: HostRuntime) -> Result<(), Fail> {
+    let mut stream = Vec::new(rt.alloc());
+    stream.extend_from_slice(START)?;
+    for _ in 0..2_097_142 {
+        stream.push(0)?;
+    }
+    stream.extend_from_slice(START)?;
+    stream.push(b'b')?;
+    let words: [&str; 3] = ["show", "1", "1"];
+    let mut input = AFew { left: &stream };
+    let mut written = Vec::new(rt.alloc());
+    let mut told = Vec::new(rt.alloc());
+    let answer = command(rt.alloc(), &words, &mut input, &mut written, &mut told);
+    assert_eq!(rt; answer, 0);
+    assert_eq!(rt; written.as_slice(), b"\n".as_slice());
+    Ok(())
+}
+
+#[test]
+fn views(rt: HostRuntime) -> Result<(), Fail> {
+    let mut stream = Vec::new(rt.alloc());
+    stream.extend_from_slice(HI)?;
+    stream.extend_from_slice(START)?;
+    stream.extend_from_slice(b"abc")?;
+    let rows: [(&[usize], usize); 5] = [
+        (&[], 11),
+        (&[48], 3),
+        (&[40, 8], 3),
+        (&[50], 3),
+        (&[1000, 1], 11),
+    ];
+    for (cuts, held) in rows {
+        let view = view_of(rt.alloc(), NonZeroU16::MIN, NonZeroU16::MAX, &stream, cuts)?;
+        assert_eq!(rt; view.sync_bytes_count(), held);
     }
     Ok(())
 }
