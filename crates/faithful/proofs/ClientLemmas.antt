@@ -110,7 +110,7 @@ module _ (key : ℕ) (f : Story → Story) where
 
 -- ---- no two live sessions have one key
 
-abbrev IsOnce : List Story → Type 0
+abbrev pub IsOnce : List Story → Type 0
 IsOnce [] = Unit {0}
 IsOnce (t ∷ ts) = (t.live ≡ true → found t.client ts ≡ None) × IsOnce ts
 
@@ -178,7 +178,7 @@ all-ended key (t ∷ ts) = ap (λ q. found_or q None) (all-ended key ts)
 
 -- ---- runs
 
-call-once : (b : Book) (call : Call) (reply : Reply) → CanReply b call reply → IsOnce b.stories
+pub call-once : (b : Book) (call : Call) (reply : Reply) → CanReply b call reply → IsOnce b.stories
     → IsOnce (book_after b call reply).stories
 call-once b (Feed bytes) Done can h = h
 call-once b (Feed bytes) (Attached key) can h = h
@@ -263,7 +263,7 @@ kept-by : (b : Bool) (t : Story) (o : Option Story)
 kept-by true t o = refl
 kept-by false t o = refl
 
-call-clients : (b : Book) (call : Call) (reply : Reply) (key : ℕ) → IsOnce b.stories
+pub call-clients : (b : Book) (call : Call) (reply : Reply) (key : ℕ) → IsOnce b.stories
     → client_in (book_after b call reply) key ≡ clients_after b call reply key
 call-clients b (Feed bytes) Done key h = refl
 call-clients b (Feed bytes) (Attached other) key h = refl

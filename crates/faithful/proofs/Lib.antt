@@ -6,3 +6,4 @@ pub mod ScreenLemmas
 pub mod FrameSteps
 pub mod HeadlineLemmas
 pub mod ClientLemmas
+pub mod ServesLemmas

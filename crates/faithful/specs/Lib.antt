@@ -4,3 +4,4 @@ pub mod Laws
 pub mod Headline
 pub mod Examples
 pub mod Clients
+pub mod Serves

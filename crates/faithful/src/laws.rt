@@ -4,6 +4,7 @@ ghost use Rattle.faithful.specs.Examples.{ExampleIsTold};
 ghost use Rattle.faithful.specs.Laws.{EachSessionIsTold};
 ghost use Rattle.faithful.specs.Headline.{EachTextIsAFrame, WholeFramesAreShown, LastWholeFrameIsShown, NoFrameIsTorn};
 ghost use Rattle.faithful.specs.Headline.{OneMomentShowsTheSame};
+ghost use Rattle.faithful.specs.Serves.{EachRunHasAHistory};
 
 /// Whatever calls a new hub gets and whatever they are answered, of each session: while it hasn't ended, the bytes that
 /// its writers took followed by those that are owed are its frames' texts, at most one frame is owed, and the hub keeps
@@ -52,4 +53,11 @@ pub fn example_is_told()
 /// resize takes all, a frame and a pump change the one that they are on, and nothing else changes.
 pub fn clients_are_kept()
     ensures { EachCallKeepsClients }
+{}
+
+/// Whatever calls a new hub gets, their replies are those of a history, and the hub keeps at each key what the history
+/// says; so all laws of histories hold of its clients. Unless it has failed, its parser stands where the history's bytes
+/// and resizes have led.
+pub fn runs_have_histories()
+    ensures { EachRunHasAHistory }
 {}
