@@ -12,8 +12,8 @@ use Rattle.vt100_state.specs.Shown.{shown_state}
 use Rattle.vt100.specs.Tries.{alive}
 use Rattle.termrelay.specs.Pump.{Pumps, all, nothing, fault, some}
 use Rattle.termrelay.specs.Answers.{ClientState, is_frame, answer_of, after_answer}
-use Rattle.termrelay.specs.Hub.{HubState, is_failed, with_client, new_client, size_in, shown_in, IsNewHub, Feeds, Resizes}
-use Rattle.termrelay.specs.Hub.{Attaches, DetachesFrom, framed, pump_answer, PumpsFrom}
+use Rattle.termrelay.specs.Hub.{HubState, is_failed, with_client, new_client, size_in, shown_in, IsNewHub, Feeds}
+use Rattle.termrelay.specs.Hub.{Resizes, Attaches, DetachesFrom, framed, pump_answer, PumpsFrom}
 use Rattle.termrelay.specs.Hub.{CanFrame as HubCanFrame}
 use Rattle.termrelay.specs.declared.answer.Answer.{Answer}
 use Rattle.termrelay.specs.declared.error.HubError.{HubError}
@@ -21,10 +21,12 @@ use Rattle.termrelay.specs.declared.error.HubError.TheVariants as hub
 use Rattle.faithful.specs.History.{Take, Bytes, Fault, Call, Feed, Resize, Attach, Detach, Frame, Pump}
 use Rattle.faithful.specs.History.{UnknownClient, Write, Reply, Done, Attached, Answered, Refused}
 use Rattle.faithful.specs.History.{taken_by, Story, Book, fresh, state_now, size_now, shown_now, found, changed, ended}
-use Rattle.faithful.specs.History.{begun, answered, pumped_by, book_after, CanFrame, CanPump, pump_reply, CanReply, CanRun}
-use Rattle.faithful.specs.History.{CanDetach, books_after}
+use Rattle.faithful.specs.History.{begun, answered, pumped_by, book_after, CanFrame, CanPump, pump_reply, CanReply}
+use Rattle.faithful.specs.History.{CanRun, CanDetach, books_after}
 use Rattle.faithful.specs.Clients.{client_in, with_slot, left_by}
 use Rattle.faithful.specs.Serves.{replied, done, WritesAsTold, Serves, Runs, Matches, EachRunHasAHistory}
+use Rattle.faithful.specs.Serves.{EachPumpIsServed}
+use Rattle.termrelay.proofs.PumpLemmas.{drop-least}
 use Rattle.faithful.proofs.ClientLemmas.{IsOnce, call-once, call-clients}
 
 -- ---- keys
@@ -237,6 +239,9 @@ some-owed (x ∷ xs) h = omega arith
 ok-same : (m n : ℕ) → (let left : Result ℕ Error = Ok m in left) ≡ Ok n → m ≡ n
 ok-same m n h = cc
 
+ok-number : (m n : ℕ) → m ≡ n → (let left : Result ℕ Error = Ok m in left) ≡ Ok n
+ok-number m n h = ap (λ k. Ok k) h
+
 first-none : (takes rest : List Take) (owed : List ℕ) → owed ≢ [] → WritesAsTold takes owed (Ok 0) rest
     → taken_by takes (length owed) ≡ 0
 first-none [] rest owed owes told =
@@ -405,3 +410,41 @@ new-matches rows cols h new = record {
 pub runs-follow : EachRunHasAHistory
 runs-follow rows cols calls replies h g new run =
     run-follows h g (fresh rows cols) calls replies (new-matches rows cols h new) tt run
+
+-- ---- any writer, told of
+
+module _ (S : Type 0) (step : S → List ℕ → Result ℕ Error → S → Type 0) where
+  abbrev Told : List ℕ → Result (Unit {0}) Error → ℕ → Type 0
+  Told owed end n = (takes : List Take) × Pumps WritesAsTold takes owed end n []
+
+  told-of : (s t : S) (owed : List ℕ) (end : Result (Unit {0}) Error) (n : ℕ) → Pumps step s owed end n t
+      → Told owed end n
+  told-of s t owed end n all = ([], all)
+  told-of s t owed end n (nothing owes takes kind) =
+      let none : 0 ≡ min 0 (length owed) = omega arith in
+      (Bytes 0 ∷ [], nothing owes (ok-number 0 (min 0 (length owed)) none, refl) kind)
+  told-of s t owed end n (fault {e = e} owes takes) = (Fault ∷ [], fault owes ((e, refl), refl))
+  told-of s t owed end n (some m first k owes pos takes rest) =
+      let later = told-of m t (drop first owed) end k rest in
+      let j = min first (length owed) in
+      let after : Pumps WritesAsTold later.0 (drop j owed) end k [] =
+      subst (λ bytes. Pumps WritesAsTold later.0 bytes end k []) (drop-least first owed) later.1 in
+      let more : 0 < j = omega (arith, some-owed owed owes) in
+      let same : min j (length owed) ≡ j = omega arith in (
+        Bytes first ∷ later.0,
+        subst (λ c. Pumps WritesAsTold (Bytes first ∷ later.0) owed end (c + k) []) same
+        (some later.0 j k owes more (refl, refl) after),
+      )
+
+  told-from : (h g : HubState) (key : ℕ) (o : Option ClientState) (s t : S) (result : Result (Unit {0}) HubError)
+      → PumpsFrom step h key o s result t g
+      → (takes : List Take) × PumpsFrom WritesAsTold h key o takes result [] g
+  told-from h g key None s t result f = ([], (f.0, refl, f.2))
+  told-from h g key (Some c) s t result (end, n, pumps, is, after) =
+      let told = told-of s t c.owed end n pumps in
+      (told.0, (end, n, told.1, is, after))
+
+  pub pumps-served : EachPumpIsServed step
+  pumps-served h g key s t result f =
+      let told = told-from h g key (h.client key) s t result f in
+      (told.0, (result, [], told.1, refl))

@@ -7,8 +7,8 @@ use Rattle.termrelay.specs.declared.answer.Answer.{Answer}
 use Rattle.termrelay.specs.declared.error.HubError.{HubError}
 use Rattle.termrelay.specs.declared.error.HubError.TheVariants as hub
 use Rattle.faithful.specs.History.{Take, Bytes, Fault, Call, Feed, Resize, Attach, Detach, Frame, Pump, IsCall}
-use Rattle.faithful.specs.History.{Refusal, Memory, Failed, UnknownClient, Write, Reply, Done, Attached, Answered, Refused}
-use Rattle.faithful.specs.History.{Book, fresh, CanRun, books_after}
+use Rattle.faithful.specs.History.{Refusal, Memory, Failed, UnknownClient, Write, Reply, Done, Attached, Answered}
+use Rattle.faithful.specs.History.{Refused, Book, fresh, CanRun, books_after}
 use Rattle.faithful.specs.Clients.{client_in}
 
 -- ---- replies
@@ -73,3 +73,8 @@ abbrev pub EachRunHasAHistory : Type 0
 EachRunHasAHistory = (rows cols : ℕ) (calls : List Call) (replies : List Reply) (h g : HubState)
     → IsNewHub rows cols h → Runs h calls replies g
     → CanRun (fresh rows cols) calls replies × Matches g (books_after (fresh rows cols) calls replies)
+
+-- whatever takes the bytes of a pump, a writer can be told of to which the same is pumped: each pump is a call of a run
+abbrev pub EachPumpIsServed : {S : Type 0} → (S → List ℕ → Result ℕ Error → S → Type 0) → Type 0
+EachPumpIsServed {S} step = (h g : HubState) (key : ℕ) (s t : S) (result : Result (Unit {0}) HubError)
+    → PumpsClient step h key s result t g → (takes : List Take) × Serves h (Pump key takes) (done result) g

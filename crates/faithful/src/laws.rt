@@ -4,7 +4,9 @@ ghost use Rattle.faithful.specs.Examples.{ExampleIsTold};
 ghost use Rattle.faithful.specs.Laws.{EachSessionIsTold};
 ghost use Rattle.faithful.specs.Headline.{EachTextIsAFrame, WholeFramesAreShown, LastWholeFrameIsShown, NoFrameIsTorn};
 ghost use Rattle.faithful.specs.Headline.{OneMomentShowsTheSame};
-ghost use Rattle.faithful.specs.Serves.{EachRunHasAHistory};
+ghost use Rattle.faithful.specs.Serves.{EachRunHasAHistory, EachPumpIsServed};
+
+use termrelay::pump::Taker;
 
 /// Whatever calls a new hub gets and whatever they are answered, of each session: while it hasn't ended, the bytes that
 /// its writers took followed by those that are owed are its frames' texts, at most one frame is owed, and the hub keeps
@@ -56,8 +58,13 @@ pub fn clients_are_kept()
 {}
 
 /// Whatever calls a new hub gets, their replies are those of a history, and the hub keeps at each key what the history
-/// says; so all laws of histories hold of its clients. Unless it has failed, its parser stands where the history's bytes
-/// and resizes have led.
+/// says; so all laws of histories hold of its clients. Unless it has failed, its parser stands where the history's
+/// bytes and resizes have led.
 pub fn runs_have_histories()
     ensures { EachRunHasAHistory }
+{}
+
+/// Whatever takes the bytes of a pump, what it takes can be told beforehand: each pump of a hub is a call of such a run.
+pub fn pumps_are_served<T: Taker>()
+    ensures { EachPumpIsServed T.takes }
 {}
