@@ -433,7 +433,7 @@ module _ (S : Type 0) (step : S → List ℕ → Result ℕ Error → S → Type
       let same : min j (length owed) ≡ j = omega arith in (
         Bytes first ∷ later.0,
         subst (λ c. Pumps WritesAsTold (Bytes first ∷ later.0) owed end (c + k) []) same
-        (some later.0 j k owes more (refl, refl) after),
+            (some later.0 j k owes more (refl, refl) after),
       )
 
   told-from : (h g : HubState) (key : ℕ) (o : Option ClientState) (s t : S) (result : Result (Unit {0}) HubError)

@@ -64,7 +64,8 @@ pub fn runs_have_histories()
     ensures { EachRunHasAHistory }
 {}
 
-/// Whatever takes the bytes of a pump, what it takes can be told beforehand: each pump of a hub is a call of such a run.
+/// Whatever takes the bytes of a pump, what it took can be told as such a call's writes: each pump of a hub is a call of
+/// such a run.
 pub fn pumps_are_served<T: Taker>()
     ensures { EachPumpIsServed T.takes }
 {}
