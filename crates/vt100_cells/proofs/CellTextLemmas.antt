@@ -1,6 +1,8 @@
 -- A text with one more character.
-use Rattle.std.proofs.Common.{◌≡◌, ℕ, zero, suc, ◌+◌, ◌-◌, ◌<◌, ◌≤◌, Bool, true, false, ◌&&◌, List, [], ◌∷◌, ◌++◌, length, take}
-use Rattle.std.proofs.Common.{take_all, drop, set, replicate, sym, refl, ap, ◌∙◌, arith, length-append, length-take, length-drop}
+use Rattle.std.proofs.Common.{◌≡◌, ℕ, zero, suc, ◌+◌, ◌-◌, ◌<◌, ◌≤◌, Bool, true, false, ◌&&◌, List, [], ◌∷◌, ◌++◌}
+use Rattle.std.proofs.Common.{length, take}
+use Rattle.std.proofs.Common.{take_all, drop, set, replicate, sym, refl, ap, ◌∙◌, arith, length-append, length-take}
+use Rattle.std.proofs.Common.{length-drop}
 use Rattle.std.proofs.Common.{nat_eq, rules, append-nil}
 use Rattle.std.specs.Prelude.{encode_utf8_all, encode_utf8, chars, IsUtf8, slice_index}
 use Rattle.std.specs.Char.{IsScalar}

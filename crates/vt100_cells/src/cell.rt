@@ -1,7 +1,7 @@
 //! One cell of a terminal.
 ghost use Rattle.std.specs.Prelude.{◌≡◌, ℕ, ◌+◌, ◌-◌, ◌<◌, ◌≤◌, ◌↔◌, ◌==◌, List, [], ◌∷◌, ◌++◌, length, IsTrue, true};
 ghost use Rattle.std.specs.Prelude.{false, not, nat_eq, nat_lt, encode_utf8_all, chars};
-ghost use Rattle.vt100_forms.specs.Attrs.{is_bold, is_dim, is_italic, is_underlined, is_inverse};
+ghost use Rattle.vt100_forms.specs.Attrs.{attrs_eq, is_bold, is_dim, is_italic, is_underlined, is_inverse};
 ghost use Rattle.vt100_cells.specs.Cell.{IsCell, cell_eq};
 
 use crate::cell_color::CellColor;
@@ -266,7 +266,22 @@ impl Cell {
     pub fn is_default(&self) -> bool
         ensures { result ≡ is_default self.now }
     {
-        self.text.is_empty() && self.span == Span::Narrow && self.attrs() == Attrs::new()
+        self.text.is_empty()
+            & (self.span == Span::Narrow)
+            & self.fgcolor.is_default()
+            & self.bgcolor.is_default()
+            & (self.mode == 0)
+    }
+
+    /// Whether the cells are drawn alike. For rows alone.
+    #[doc(hidden)]
+    #[inline(always)]
+    pub fn has_attrs_of(&self, other: &Self) -> bool
+        ensures { result ≡ attrs_eq self.now.attrs other.now.attrs }
+    {
+        self.fgcolor.is_same(&other.fgcolor)
+            & self.bgcolor.is_same(&other.bgcolor)
+            & (self.mode == other.mode)
     }
 
     /// How the cell is drawn.

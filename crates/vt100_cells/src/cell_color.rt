@@ -82,4 +82,12 @@ impl CellColor {
             & (self.green == other.green)
             & (self.blue == other.blue)
     }
+
+    /// Whether it is the terminal's own. Then all four bytes are 0.
+    #[inline(always)]
+    pub(crate) fn is_default(&self) -> bool
+        ensures { result ≡ color_eq self.now Color.Default }
+    {
+        (self.kind == ColorKind::Default) & (self.first == 0) & (self.green == 0) & (self.blue == 0)
+    }
 }

@@ -1,4 +1,5 @@
 pub mod AttrsLemmas
 pub mod ChangeLemmas
+pub mod DigitLemmas
 pub mod Lengths
 pub mod Marks

@@ -287,13 +287,14 @@ impl Attrs {
         }
     }
 
-    // The SGR parameters.
-    fn numbers(&self) -> Numbers
-        ensures { result.items ≡ sgr_numbers self.now }
+    // Appends the SGR parameters.
+    #[inline(always)]
+    fn push_numbers(&self, numbers: &mut Numbers)
+        requires { array_vec_len numbers.old ≡ 0 }
+        ensures { numbers.new.items ≡ numbers.old.items ++ sgr_numbers self.now }
     {
-        let mut numbers = Numbers::new();
-        push_color(&mut numbers, 30, self.fgcolor);
-        push_color(&mut numbers, 40, self.bgcolor);
+        push_color(numbers, 30, self.fgcolor);
+        push_color(numbers, 40, self.bgcolor);
         if let Some(intensity) = self.intensity {
             numbers.push(match intensity {
                 Intensity::Normal => 22,
@@ -301,10 +302,9 @@ impl Attrs {
                 Intensity::Dim => 2,
             });
         }
-        push_flag(&mut numbers, 3, 23, self.italic);
-        push_flag(&mut numbers, 4, 24, self.underline);
-        push_flag(&mut numbers, 7, 27, self.inverse);
-        numbers
+        push_flag(numbers, 3, 23, self.italic);
+        push_flag(numbers, 4, 24, self.underline);
+        push_flag(numbers, 7, 27, self.inverse);
     }
 }
 
@@ -376,7 +376,8 @@ impl BufWrite for Attrs {
     ghost forms = { λ a. Form.Sgr a ∷ [] };
 
     fn as_text<'a>(&self, room: &'a mut FormText) -> &'a str {
-        let numbers = self.numbers();
+        let mut numbers = Numbers::new();
+        self.push_numbers(&mut numbers);
         let [first, rest @ ..] = numbers.as_slice() else {
             return "";
         };
@@ -393,7 +394,25 @@ fn push_number(room: &mut FormText, n: u8)
     ensures bytes { room.new.bytes ≡ room.old.bytes ++ decimal n }
     ensures len { length room.new.bytes ≤ length room.old.bytes + 3 }
 {
-    room.push_str(Buffer::new().format(n));
+    if n < 10 {
+        push_digit(room, n);
+    } else if n < 100 {
+        push_digit(room, n / 10);
+        push_digit(room, n % 10);
+    } else {
+        push_digit(room, n / 100);
+        push_digit(room, n / 10 % 10);
+        push_digit(room, n % 10);
+    }
+}
+
+fn push_digit(room: &mut FormText, n: u8)
+    requires room { length room.old.bytes < 64 }
+    requires digit { n < 10 }
+    ensures bytes { room.new.bytes ≡ room.old.bytes ++ (48 + n) ∷ [] }
+    ensures len { length room.new.bytes ≡ length room.old.bytes + 1 }
+{
+    room.push(char::from(b'0' + n));
 }
 
 fn push_further(room: &mut FormText, numbers: &[u8])

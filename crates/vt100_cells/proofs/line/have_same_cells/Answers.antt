@@ -10,7 +10,8 @@ pub loop-i-preserved : goal.loop-i-preserved
 loop-i-preserved c =
     let x = c.index-cells-i in
     let y = c.index-others-i in
-    let in_others : c.loop-i.i < length c.args.others.now = omega (arith, c.loop-i-test.true, c.if-cells-others.false) in
+    let in_others : c.loop-i.i < length c.args.others.now =
+    omega (arith, c.loop-i-test.true, c.if-cells-others.false) in
     same-next c.args.cells.now c.args.others.now c.loop-i.i x.result y.result c.loop-i-test.true in_others x.is y.is
     (cell_eq-true x.result y.result (sym c.is_same.ensures ∙ c.if-not-is_same.false)) c.loop-i.invariant
 
