@@ -2,6 +2,7 @@ pub mod ClosingWrites
 pub mod Columns
 pub mod ColumnsWrites
 pub mod Examples
+pub mod GoesOnWrites
 pub mod KeptRows
 pub mod Lines
 pub mod Local

@@ -122,7 +122,7 @@ unfolding colour
 wrote_colour a p s t h = record { pen_is = refl; text_is = h }
 
 -- the terminal draws with these attributes already
-colour_same : (p : Pen) (a : Attrs) (s : List ℕ) → p.attrs ≡ a → Wrote (colour a) p s p s
+pub colour_same : (p : Pen) (a : Attrs) (s : List ℕ) → p.attrs ≡ a → Wrote (colour a) p s p s
 unfolding colour
 colour_same p a s e = record {
   pen_is = λ i. record p { attrs = sym e i };

@@ -1,9 +1,10 @@
 //! How a row is drawn on a terminal that shows an earlier one, column by column.
 ghost use Rattle.std.specs.Prelude.{◌≡◌, ◌+◌, ◌<◌, ◌≤◌, ◌^◌, ◌-◌, ◌==◌, ◌&&◌, not, false, length, is_ok, string_bytes};
+ghost use Rattle.std.specs.Prelude.{IsTrue, OnOk};
 ghost use Rattle.vt100_cells.specs.Cell.{has_text};
 ghost use Rattle.vt100_cells.specs.Cells.{cell_at};
 ghost use Rattle.vt100_cells.specs.Line.{put_unflags, wipe_unflags};
-ghost use Rattle.vt100_redraw.specs.Drawing.{job_of};
+ghost use Rattle.vt100_redraw.specs.Drawing.{job_of, GoesOn};
 ghost use Rattle.vt100_redraw.specs.RowWriter.{is_same, wraps, is_end, to_erase, flush, finish, arrive, draw, column};
 ghost use Rattle.vt100_redraw.specs.RowWriter.{columns};
 ghost use Rattle.vt100_redraw.specs.Writes.{Writes};
@@ -24,7 +25,7 @@ impl<'a> Drawing<'a> {
     }
 
     /// Whether the terminal shows the cell already.
-    #[inline]
+    #[inline(always)]
     pub(crate) fn is_same(&self, col: u16) -> bool
         requires { col < length self.now.cells.now }
         ensures { result ≡ is_same (job_of self.now) col }
@@ -151,6 +152,7 @@ impl<'a> Drawing<'a> {
     }
 
     /// Whether the cell at `col` is a second half, which comes with the first one.
+    #[inline]
     fn is_half(&self, col: u16) -> bool
         requires { col < length self.now.cells.now }
         ensures { result ≡ (((job_of self.now).new col).continuation && not (col == self.now.start)) }
@@ -158,22 +160,66 @@ impl<'a> Drawing<'a> {
         at(self.cells, usize::from(col)).is_wide_continuation() && col != self.start
     }
 
-    /// Draws one column. The second half of a wide character comes with the first. Where the terminal shows the cell
-    /// already, and nothing is to be erased before it, that is a comparison.
-    fn column(&self, pen: &mut Pen, contents: &mut String, col: u16) -> Result<(), GridError>
+    /// Whether the cell at `col` has a text that differs, and the cursor stands there.
+    #[inline(always)]
+    fn goes_on(&self, pen: &Pen, col: u16) -> bool
         requires { col < length self.now.cells.now }
-        ensures { Writes (column (job_of self.now) col) pen.old (string_bytes contents.old) (is_ok result) pen.new
-            (string_bytes contents.new) }
+        ensures { IsTrue result → GoesOn (job_of self.now) col pen.now }
     {
-        let same = self.is_same(col);
-        if same && pen.erase.is_none() {
+        let cell = at(self.cells, usize::from(col));
+        cell.has_contents()
+            && pen.erase.is_none()
+            && pen.pos == (Pos { row: self.row, col })
+            && !self.is_half(col)
+            && !self.is_same(col)
+    }
+
+    /// Draws one column. Where a text goes on, its attributes and the text are appended; where the terminal shows the
+    /// cell already, and nothing is to be erased before it, that is a comparison.
+    // `like` is a cell with the attributes with which the terminal draws.
+    #[inline(always)]
+    fn column(
+        &self,
+        pen: &mut Pen,
+        contents: &mut String,
+        like: &mut Cell,
+        col: u16,
+    ) -> Result<(), GridError>
+        requires in_row { col < length self.now.cells.now }
+        requires like { like.old.attrs ≡ pen.old.attrs }
+        ensures written { Writes (column (job_of self.now) col) pen.old (string_bytes contents.old) (is_ok result)
+            pen.new (string_bytes contents.new) }
+        ensures like { OnOk result (like.new.attrs ≡ pen.new.attrs) }
+    {
+        if self.goes_on(pen, col) {
+            let cell = at(self.cells, usize::from(col));
+            pen.colour_as(contents, cell, like)?;
+            return pen.print(contents, cell, self.loses_by_print(col));
+        }
+        if pen.erase.is_none() && self.is_same(col) {
             return Ok(());
         }
         if self.is_half(col) {
             return Ok(());
         }
+        self.change(pen, contents, col)?;
+        *like = Cell::empty(pen.attrs);
+        Ok(())
+    }
+
+    /// Draws one column, whatever stands there. The second half of a wide character comes with the first.
+    // Apart from the other columns, which are the most: what they need stays in registers.
+    #[inline(never)]
+    fn change(&self, pen: &mut Pen, contents: &mut String, col: u16) -> Result<(), GridError>
+        requires { col < length self.now.cells.now }
+        ensures { Writes (column (job_of self.now) col) pen.old (string_bytes contents.old) (is_ok result) pen.new
+            (string_bytes contents.new) }
+    {
+        if self.is_half(col) {
+            return Ok(());
+        }
         self.flush(pen, contents, col)?;
-        if same {
+        if self.is_same(col) {
             return Ok(());
         }
         self.draw(pen, contents, col)?;
@@ -191,8 +237,9 @@ impl<'a> Drawing<'a> {
         ensures { Writes (columns (job_of self.now) count) pen.old (string_bytes contents.old) (is_ok result) pen.new
             (string_bytes contents.new) }
     {
+        let mut like = Cell::empty(pen.attrs);
         for n in 0..count {
-            self.column(pen, contents, self.start + n)?;
+            self.column(pen, contents, &mut like, self.start + n)?;
         }
         Ok(())
     }
@@ -211,6 +258,7 @@ impl<'a> Drawing<'a> {
     }
 
     /// Whether the terminal loses it where the cell at `col` is printed.
+    #[inline]
     fn loses_by_print(&self, col: u16) -> bool
         requires { col < length self.now.cells.now }
         ensures { result ≡ put_unflags (job_of self.now).cols (job_of self.now).old col ((job_of self.now).new col) }

@@ -1,10 +1,12 @@
 //! What a writer keeps between forms.
-ghost use Rattle.std.specs.Prelude.{◌≡◌, ◌+◌, ◌<◌, ◌^◌, is_ok, string_bytes};
+ghost use Rattle.std.specs.Prelude.{◌≡◌, ◌+◌, ◌<◌, ◌^◌, ◌++◌, is_ok, OnOk, string_bytes};
+ghost use Rattle.std.specs.Prelude.{if◌then◌else◌};
 ghost use Rattle.vt100_forms.specs.Attrs.{attrs_eq};
 ghost use Rattle.vt100_cells.specs.Line.{span_of};
 ghost use Rattle.vt100_redraw.specs.Writer.{goto, turn, colour, print, space, back, erasing, clearing, marking};
 ghost use Rattle.vt100_redraw.specs.Writes.{Writes};
 
+use std::alloc::AllocError;
 use vt100_cells::Cell;
 use vt100_forms::GridError;
 use vt100_forms::attrs::Attrs;
@@ -93,6 +95,29 @@ impl Pen {
         self.attrs == attrs
     }
 
+    /// Sets the attributes of a cell, where `like` is one that has those with which the terminal draws.
+    // Two cells are compared: so no colour has to be put together first.
+    #[inline(always)]
+    pub(crate) fn colour_as(
+        &mut self,
+        contents: &mut String,
+        cell: &Cell,
+        like: &mut Cell,
+    ) -> Result<(), GridError>
+        requires { like.old.attrs ≡ self.old.attrs }
+        ensures written { Writes (colour cell.now.attrs) self.old (string_bytes contents.old) (is_ok result) self.new
+            (string_bytes contents.new) }
+        ensures like { OnOk result (like.new.attrs ≡ cell.now.attrs) }
+    {
+        if cell.has_attrs_of(like) {
+            return Ok(());
+        }
+        self.recolour(contents, cell.attrs())?;
+        *like = *cell;
+        Ok(())
+    }
+
+    #[inline(never)]
     fn recolour(&mut self, contents: &mut String, attrs: Attrs) -> Result<(), GridError>
         ensures { Writes (colour attrs) self.old (string_bytes contents.old) (is_ok result) self.new
             (string_bytes contents.new) }
@@ -103,6 +128,7 @@ impl Pen {
     }
 
     /// Prints the text of a cell. The row loses its flag where `loses` is set.
+    #[inline(always)]
     pub fn print(
         &mut self,
         contents: &mut String,
@@ -113,7 +139,7 @@ impl Pen {
         ensures { Writes (print cell.now loses) self.old (string_bytes contents.old) (is_ok result) self.new
             (string_bytes contents.new) }
     {
-        contents.push_str(cell.contents())?;
+        push_text(contents, cell.contents())?;
         self.pos.col += span(cell);
         self.lost = self.lost || loses;
         Ok(())
@@ -169,4 +195,19 @@ pub(crate) fn span(cell: &Cell) -> u16
     ensures { result ≡ span_of cell.now }
 {
     if cell.is_wide() { 2 } else { 1 }
+}
+
+/// Appends a text.
+// Mostly it is one byte, and then this costs no call of `memmove`.
+#[inline(always)]
+fn push_text(contents: &mut String, text: &str) -> Result<(), AllocError>
+    ensures { string_bytes contents.new ≡ (if is_ok result then string_bytes contents.old ++ text.now
+        else string_bytes contents.old) }
+{
+    if let [byte] = text.as_bytes() {
+        if byte.is_ascii() {
+            return contents.push(char::from(*byte));
+        }
+    }
+    contents.push_str(text)
 }
