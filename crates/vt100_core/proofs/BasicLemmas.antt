@@ -7,7 +7,8 @@ use Rattle.vt100_capture.specs.Capture.{CaptureView, captured, after_rows}
 use Rattle.vt100_capture.proofs.CaptureLemmas.{captured-append, after_rows-append}
 
 module _ (s t : CaptureView) (xs ys : List RowView) (e : t ≡ after_rows s xs) where
-  pub both-written : {W : Type 0} (gives : W → List ℕ → W → Type 0) (w u v : W) → WritesInCalls gives w (captured s xs) u
+  pub both-written : {W : Type 0} (gives : W → List ℕ → W → Type 0) (w u v : W)
+      → WritesInCalls gives w (captured s xs) u
       → WritesInCalls gives u (captured t ys) v → WritesInCalls gives w (captured s (xs ++ ys)) v
   both-written gives w u v first second =
       subst (λ bs. WritesInCalls gives w bs v) (sym (captured-append s xs ys))

@@ -1,26 +1,24 @@
 -- Where each row stands after another size.
-use Rattle.std.proofs.Common.{◌≡◌, ℕ, ◌+◌, ◌-◌, ◌<◌, ◌≤◌, ◌==◌, Bool, true, false, cond, ◌&&◌, ◌||◌, List, [], ◌++◌}
+use Rattle.std.proofs.Common.{◌≡◌, ℕ, ◌+◌, ◌-◌, ◌<◌, ◌≤◌, ◌==◌, Bool, true, false, cond, ◌&&◌, List, [], ◌++◌}
 use Rattle.std.proofs.Common.{length, take, drop, map, min, refl, sym, ap, ◌∙◌, arith, length-append, length-drop}
-use Rattle.std.proofs.Common.{replicate, nat_lt, nat_le, ⊎_elim}
+use Rattle.std.proofs.Common.{replicate, nat_lt, ⊎_elim}
 use Rattle.std.proofs.lemmas.Bool.{cases_lt, cond_both, eqb-true, and_parts}
 use Rattle.std.proofs.lemmas.Bool.Decides.{nat_tests}
 use Rattle.std.proofs.lemmas.List.{length-replicate, length-map, get_or-replicate, get_or-append_right, get_or-map}
 use Rattle.std.proofs.lemmas.List.{get_or-drop, take_all, drop_all}
 use Rattle.std.proofs.Math.ListN.{get_or-append}
-use Rattle.std.proofs.Math.Seq.{drop-nil, take-nil}
 use Rattle.vt100_cells.specs.Cell.{default_cell}
-use Rattle.vt100_rows.specs.Row.{RowView, blank_row, truncated, grown, resized_row, trimmed, unwrapped}
-use Rattle.vt100_sheet.specs.Sheet.{row_at, rows_by_position, IsRowOf, moved_up, first_rows}
+use Rattle.vt100_rows.specs.Row.{RowView, blank_row, resized_row, trimmed, unwrapped}
+use Rattle.vt100_sheet.specs.Sheet.{row_at, rows_by_position, moved_up, first_rows}
 use Rattle.vt100_sheet.proofs.KeptLemmas.{grown-longer}
-use Rattle.vt100_sheet.proofs.SheetLemmas.{row_at-by_position, length-rows_by_position, IsRowOf-blank}
+use Rattle.vt100_sheet.proofs.SheetLemmas.{row_at-by_position, length-rows_by_position}
 use Rattle.vt100_sheet.proofs.WidthLemmas.{resized-longer}
-use Rattle.vt100_core.specs.Grid.{KeptPart, IsKept, GridView, IsGrid, IsAllocated}
-use Rattle.vt100_core.specs.Scroll.{Scrolled, widened, overflow, kept_after, up_count, left_rows, is_kept_from}
+use Rattle.vt100_core.specs.Grid.{KeptPart, GridView, IsGrid, IsAllocated}
+use Rattle.vt100_core.specs.Scroll.{Scrolled, widened, overflow, kept_after, up_count, left_rows}
 use Rattle.vt100_core.specs.Scroll.{scrolled_up}
-use Rattle.vt100_core.specs.Resize.{whole_screen, up_rows, shortened, with_width, down_rows, rows_back, lengthened}
+use Rattle.vt100_core.specs.Resize.{whole_screen, up_rows, shortened, with_width, down_rows, lengthened}
 use Rattle.vt100_core.specs.Resize.{resized, row_coming_to, resized_row_at, kept_rows_left}
 use Rattle.vt100_core.proofs.GridLemmas.{no-rows}
-use Rattle.vt100_core.proofs.LengthenLemmas.{length-back}
 use Rattle.vt100_core.proofs.StayLemmas.{widened-none, kept_after-none}
 
 -- ---- a row of its width

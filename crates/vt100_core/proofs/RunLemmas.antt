@@ -45,7 +45,7 @@ printed-printable g c a p w =
     printed-spaced g c a (not-dropped (is_undrawable c) (columns_of c) g.width g.col d.0 d.1 w) (omega (arith, d.1))
     ∙ ap (λ n. drawn_at (made_to_fit g n true) c a n) d.1
 
-fits-true : (m n : ℕ) → m ≤ n → nat_le m n ≡ true
+pub fits-true : (m n : ℕ) → m ≤ n → nat_le m n ≡ true
 fits-true m n h = grind (arith, nat_tests)
 
 pub made-here : (g : GridView) → g.col + 1 ≤ g.width → made_to_fit g 1 true ≡ record { grid = g; sunk = [] }
@@ -71,7 +71,7 @@ run_at-none g a =
     λ i. record g { rows = r i; col = n i }
 
 -- what is printed after a first character
-abbrev after_first : Drawn → List ℕ → Attrs → Scrolled
+abbrev pub after_first : Drawn → List ℕ → Attrs → Scrolled
 after_first d xs a = record { grid = (printed_all d.grid xs a).grid; sunk = d.sunk ++ (printed_all d.grid xs a).sunk }
 
 printed_all-here : (xs : List ℕ) (g : GridView) (a : Attrs) → All IsPrintable xs → g.col + length xs ≤ g.width

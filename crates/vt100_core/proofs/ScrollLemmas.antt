@@ -7,8 +7,8 @@ use Rattle.vt100_rows.specs.Row.{RowView, with_wrap}
 use Rattle.vt100_rows.proofs.RowLemmas.{IsRow-with_wrap}
 use Rattle.vt100_sheet.specs.Sheet.{row_at, rows_by_position, IsSheet, moved_up}
 use Rattle.vt100_core.specs.Grid.{KeptPart, GridView, IsGrid, IsShownWide, with_row, with_rows}
-use Rattle.vt100_core.specs.Scroll.{widened, kept_after, pushed_out, up_count, left_rows, is_kept_from, Scrolled}
-use Rattle.vt100_core.specs.Scroll.{scrolled_up, fed, left_row, wrapped_on, made_to_fit}
+use Rattle.vt100_core.specs.Scroll.{widened, kept_after, pushed_out, up_count, left_rows, is_kept_from}
+use Rattle.vt100_core.specs.Scroll.{scrolled_up}
 use Rattle.vt100_core.proofs.GridLemmas.{IsGrid-with_row}
 use Rattle.vt100_core.proofs.KeepLemmas.{IsShownWide-widened}
 

@@ -13,6 +13,7 @@ mod resize;
 mod scroll;
 mod show;
 mod text;
+mod wide;
 mod writers;
 
 use crate::scrollback::{Scrollback, ScrollbackState};

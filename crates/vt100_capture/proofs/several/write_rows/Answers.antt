@@ -14,5 +14,6 @@ loop-row-preserved g c =
     ∙ ap (λ (y : RowView). y ∷ drop (suc i) rows) (sym c.row-item.is ∙ sym c.new.ensures)
     ∙ ap (λ k. x ∷ drop k rows) next in
     IsCaptured-next g.W.Write.write_str_gives c.args.state.now rows c.args.writer.now (drop i rows)
-    (drop (i + 1) rows) x c.loop-row.state c.write_formatted_basic.new.state c.loop-row.writer c.write_formatted_basic.new.writer cut
+    (drop (i + 1) rows) x c.loop-row.state c.write_formatted_basic.new.state c.loop-row.writer
+    c.write_formatted_basic.new.writer cut
     c.loop-row.invariant c.in_ok-write_formatted_basic.ensures.text c.in_ok-write_formatted_basic.ensures.state

@@ -18,7 +18,8 @@ returns-then-has_contents-clause-text g c =
     (sym c.is_wide_continuation.ensures ∙ c.if-is_wide_continuation.false) true c.attrs-attrs.result
     c.write_escape_code_diff_fmt.new.writer c.write_str.new.self c.contents.result.now
     (sym c.is_default.ensures ∙ c.if-is_default.false) (sym c.has_contents.ensures ∙ c.if-has_contents.true)
-    c.attrs-attrs.ensures c.in_ok-write_escape_code_diff_fmt.ensures.written c.contents.ensures.bytes (c.write_str.ensures.ok ok))
+    c.attrs-attrs.ensures c.in_ok-write_escape_code_diff_fmt.ensures.written c.contents.ensures.bytes
+    (c.write_str.ensures.ok ok))
 
 pub returns-else-has_contents-clause-text : goal.returns-else-has_contents-clause-text
 returns-else-has_contents-clause-text g c =
