@@ -1,5 +1,6 @@
 -- Ground text, front by front.
-use Rattle.std.proofs.Common.{◌≡◌, ℕ, zero, suc, ◌+◌, ◌-◌, ◌*◌, ◌<◌, ◌≤◌, true, false, List, [], ◌∷◌, ◌++◌, length, take, drop}
+use Rattle.std.proofs.Common.{◌≡◌, ℕ, zero, suc, ◌+◌, ◌-◌, ◌*◌, ◌<◌, ◌≤◌, true, false, List, [], ◌∷◌, ◌++◌, length}
+use Rattle.std.proofs.Common.{take, drop}
 use Rattle.std.proofs.Common.{get_or, nat_lt, ◌==◌, refl, sym, ◌∙◌, ap, arith, inl, inr, append_assoc}
 use Rattle.std.proofs.lemmas.Bool.Decides.{nat_tests}
 use Rattle.std.proofs.lemmas.List.{drop-drop, drop_all, append-nil}
@@ -53,7 +54,8 @@ reads_front step u old bs k new v s l h p r =
     }
 
 -- one byte
-pub reads_byte : {S : Type 0} (step : S → Event → S → Type 0) (u : List ℕ) (old : S) (bs : List ℕ) (new : S) (v : List ℕ)
+pub reads_byte : {S : Type 0} (step : S → Event → S → Type 0) (u : List ℕ) (old : S) (bs : List ℕ) (new : S)
+    (v : List ℕ)
     → 0 < length bs → is_esc (get_or bs 0 0) ≡ false → Performs step old (text_told u (get_or bs 0 0)) new
     → v ≡ text_rest u (get_or bs 0 0) → ReadsText step u old bs 1 new v
 reads_byte step u old [] new v some e p r = absurd (omega (arith, some))
@@ -91,9 +93,11 @@ reads_cut step (a ∷ t) old (b ∷ s) mid w k new v begun e off p none r =
       told = Print 0xFFFD ∷ r.told;
       performed = (mid, p, r.performed);
       added = ap (run_told (a ∷ t)) text ∙ (cut.0 ∙ ap (λ (es : List Event). Print 0xFFFD ∷ es)
-          (ap (run_told []) (sym text) ∙ (ap (λ (x : List ℕ). run_told x (before is_esc (b ∷ s))) (sym none) ∙ r.added)));
+          (ap (run_told []) (sym text)
+          ∙ (ap (λ (x : List ℕ). run_told x (before is_esc (b ∷ s))) (sym none) ∙ r.added)));
       rest = ap (run_rest (a ∷ t)) text ∙ (cut.1
-          ∙ (ap (run_rest []) (sym text) ∙ (ap (λ (x : List ℕ). run_rest x (before is_esc (b ∷ s))) (sym none) ∙ r.rest)));
+          ∙ (ap (run_rest []) (sym text)
+          ∙ (ap (λ (x : List ℕ). run_rest x (before is_esc (b ∷ s))) (sym none) ∙ r.rest)));
     }
 
 -- a malformed sequence of one byte, of two and three

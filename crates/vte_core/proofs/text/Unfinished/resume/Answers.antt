@@ -10,5 +10,6 @@ returns-then-goes_on g c = reads_byte g.P.Perform.step c.args.self.now c.args.pe
 pub returns : goal.returns
 returns g c = reads_cut g.P.Perform.step c.args.self.now c.args.performer.now c.args.bytes.now c.print.new.self
     c.clear.new.self c.anew.result c.anew.new.performer c.anew.new.self c.requires.begun c.requires.text
-    (ap (λ (u : List ℕ). whole_goes_on u (get_or c.args.bytes.now 0 0)) (sym c.self.view_is ∙ sym c.as_slice.ensures.value)
+    (ap (λ (u : List ℕ). whole_goes_on u (get_or c.args.bytes.now 0 0))
+    (sym c.self.view_is ∙ sym c.as_slice.ensures.value)
     ∙ (sym c.goes_on.ensures ∙ c.if-goes_on.false)) c.print.ensures c.clear.ensures c.anew.ensures
