@@ -7,6 +7,7 @@ pub mod PrintableLemmas
 pub mod ResizeLemmas
 pub mod RunLemmas
 pub mod SizeLemmas
+pub mod ProperScreens
 pub mod TextLemmas
 pub mod BetweenLemmas
 pub mod BoundsLemmas
@@ -14,3 +15,5 @@ pub mod ShownLemmas
 pub mod WriteLemmas
 pub mod RowsLemmas
 pub mod RowTexts
+mod LendTwo
+mod ParserParts

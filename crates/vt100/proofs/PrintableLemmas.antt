@@ -36,14 +36,18 @@ printable-chars bs n p =
     ap chars (sym (take-append-drop n bs)) ∙ chars-append (take n bs) (drop n bs) (IsUtf8-from_ascii (take n bs) ascii)
     ∙ ap (λ (xs : List ℕ). xs ++ chars (drop n bs)) (chars-IsAscii (take n bs) ascii)
 
-pub last_of-is : (xs : List ℕ) (last : Option ℕ) → 0 < length xs → last_of xs last ≡ Some (get_or xs (length xs - 1) 0)
-last_of-is [] last some = absurd (omega arith)
-last_of-is (x ∷ []) last some = refl
-last_of-is (x ∷ y ∷ ys) last some =
+pub last_of-at : (xs : List ℕ) (last : Option ℕ) (d : ℕ) → 0 < length xs
+    → last_of xs last ≡ Some (get_or xs (length xs - 1) d)
+last_of-at [] last d some = absurd (omega arith)
+last_of-at (x ∷ []) last d some = refl
+last_of-at (x ∷ y ∷ ys) last d some =
     let e : length (y ∷ ys) - 1 ≡ length ys = omega arith in
     let f : length (x ∷ y ∷ ys) - 1 ≡ suc (length ys) = omega arith in
-    last_of-is (y ∷ ys) (Some x) (omega arith) ∙ ap (λ n. Some (get_or (y ∷ ys) n 0)) e
-    ∙ sym (ap (λ n. Some (get_or (x ∷ y ∷ ys) n 0)) f)
+    last_of-at (y ∷ ys) (Some x) d (omega arith) ∙ ap (λ n. Some (get_or (y ∷ ys) n d)) e
+    ∙ sym (ap (λ n. Some (get_or (x ∷ y ∷ ys) n d)) f)
+
+pub last_of-is : (xs : List ℕ) (last : Option ℕ) → 0 < length xs → last_of xs last ≡ Some (get_or xs (length xs - 1) 0)
+last_of-is xs last some = last_of-at xs last 0 some
 
 pub last_of-none : (xs : List ℕ) (last : Option ℕ) → length xs ≡ 0 → last_of xs last ≡ last
 last_of-none [] last none = refl

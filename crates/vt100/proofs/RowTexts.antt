@@ -3,7 +3,7 @@ use Rattle.std.proofs.Common.{◌≡◌, ◌∙◌, ℕ, zero, suc, ◌+◌, ◌
 use Rattle.std.proofs.Common.{length, get_or, Contains, None, refl, sym, ap, subst, arith, nat_lt}
 use Rattle.std.proofs.lemmas.Bool.{false≢true}
 use Rattle.std.proofs.lemmas.Bool.Decides.{nat_tests}
-use Rattle.vt100_forms.specs.Attrs.{IsProper, default_attrs}
+use Rattle.vt100_forms.specs.Attrs.{default_attrs}
 use Rattle.vt100_forms.specs.Form.{spell}
 use Rattle.vt100_cells.specs.Cell.{CellView}
 use Rattle.vt100_cells.specs.Cells.{cell_at}
@@ -134,8 +134,8 @@ cells-of s h i = ap (λ (f : ℕ → ℕ → CellView). f i) (cells-are s h)
 plain-row : (s : State) → IsUnscrolled s → (i : ℕ)
     → IsPlainLine ((shown_state s).cell i) → IsPlainRow (row_at s.shown.rows i)
 plain-row s h i p = record {
-  plain = λ k. subst (λ (f : ℕ → CellView). Contains (f k).text 0xFE0F → ⊥) (cells-of s h i) (p.plain k);
-  proper = λ k. subst (λ (f : ℕ → CellView). IsProper (f k).attrs) (cells-of s h i) (p.proper k);
+  plain = λ k. subst (λ (f : ℕ → CellView). Contains (f k).text 0xFE0F → ⊥) (cells-of s h i) (p k);
+  proper = h.state.proper.drawn i;
 }
 
 -- ---- where they lead

@@ -1,7 +1,7 @@
--- Printable ASCII that is printed at once, as event by event.
+-- Characters that are printed at once, as event by event.
 use Rattle.std.proofs.Common.{◌≡◌, ◌∙◌, ◌<◌, ◌==◌, ℕ, zero, Bool, true, false, cond, List, [], ◌∷◌, ◌++◌, ap, sym}
 use Rattle.std.proofs.Common.{Option, Some, Result, Ok, Err, OnOk, OnErr, length, map, refl, subst, inl, inr, arith}
-use Rattle.std.proofs.Common.{if◌then◌else◌, nat_le, take, drop, ◌+◌, ◌⊎◌, ◌&&◌, ◌≤◌}
+use Rattle.std.proofs.Common.{nat_lt, get_or, take, drop, ◌⊎◌, ◌&&◌, ◌||◌, ◌≤◌}
 use Rattle.std.specs.Prelude.{All}
 use Rattle.std.specs.Char.{encode_utf8}
 use Rattle.std.specs.Str.{IsUtf8, chars}
@@ -11,16 +11,15 @@ use Rattle.vte_core.proofs.Telling.{performs-append, same_events}
 use Rattle.std.proofs.lemmas.Bool.{false≢true}
 use Rattle.std.proofs.lemmas.Bool.Decides.{nat_tests}
 use Rattle.std.proofs.lemmas.List.Elements.{All-drop}
-use Rattle.vt100_cells.specs.Cell.{IsPrintable}
+use Rattle.vt100_cells.specs.Cell.{IsPrintable, columns_of, is_undrawable}
+use Rattle.vt100_cells.proofs.WidthLemmas.{drawn-is, printable-is}
 use Rattle.vt100_forms.specs.declared.attrs.Attrs.{Attrs}
 use Rattle.vt100_rows.specs.Row.{RowView}
 use Rattle.vt100_sheet.specs.Sink.{TakesAll}
-use Rattle.vt100_core.specs.Grid.{GridView, is_in_region}
-use Rattle.vt100_core.specs.Cursor.{moved_rows_down}
-use Rattle.vt100_core.specs.Scroll.{Scrolled, scrolled_up, fed, wrapped_on, rows_past_bottom}
-use Rattle.vt100_core.specs.Text.{Drawn, printed, printed_all, TakesFront}
+use Rattle.vt100_core.specs.Grid.{GridView}
+use Rattle.vt100_core.specs.Text.{Drawn, IsWide, printed, spaced, printed_all, TakesFront}
 use Rattle.vt100_core.specs.declared.printed.Printed.{Printed}
-use Rattle.vt100_core.proofs.RunLemmas.{printed-printable}
+use Rattle.vt100_core.proofs.TextLemmas.{IsMade-made, printed-spaced}
 use Rattle.vt100_state.specs.State.{State}
 use Rattle.vt100_state.specs.Step.{Report, Stepped, reports_of, typed, last_after}
 use Rattle.vt100_state.specs.Call as said
@@ -32,39 +31,53 @@ use Rattle.vt100.specs.declared.error.ScreenError.TheVariants.{Memory, Failed}
 use Rattle.vt100.specs.declared.screen.wrapped.WrappedScreen.{WrappedScreen}
 use Rattle.vt100.specs.Tries.{Tries, SameBounds, HearsRows, alive}
 use Rattle.vt100.specs.Goes.{Goes, GoesThrough}
-use Rattle.vt100.specs.Runs.{typed_all, last_of, PrintsFront}
+use Rattle.vt100.specs.Runs.{IsHandled, typed_all, last_of, PrintsFront}
 use Rattle.vt100.proofs.HearLemmas.{hears_all}
 use Rattle.vt100.proofs.PrintableLemmas.{printable-chars}
 use Rattle.vt100.proofs.EventLemmas.{is_alive, does_as, does_none}
 use Rattle.vt100.proofs.PlayLemmas.{Steps}
 
--- ---- a sheet stays as wide
+-- ---- a character that stands in a cell of its own
 
-width-cond : (b : Bool) (w : ℕ) (x y : Scrolled) → x.grid.width ≡ w → y.grid.width ≡ w
-    → (if b then x else y).grid.width ≡ w
-width-cond true w x y p q = p
-width-cond false w x y p q = q
+-- on a sheet of w columns
+pub record IsSpacing (w c : ℕ) : Type 0 where
+  pub drawn : is_undrawable c ≡ false
+  pub some : 0 < columns_of c
+  pub fits : columns_of c ≤ w
 
-width-grid : (b : Bool) (w : ℕ) (x y : GridView) → x.width ≡ w → y.width ≡ w → (if b then x else y).width ≡ w
-width-grid true w x y p q = p
-width-grid false w x y p q = q
+pub printable-spacing : (w : ℕ) → 0 < w → (xs : List ℕ) → All IsPrintable xs → All (IsSpacing w) xs
+printable-spacing w h xs p k d l =
+    let c = get_or xs k d in
+    let one = printable-is c (p k d l) in
+    record {
+      drawn = one.0;
+      some = omega (arith, one.1);
+      fits = omega (arith, one.1);
+    }
 
-width-fed : (g : GridView) (n : ℕ) → (fed g n).grid.width ≡ g.width
-unfolding fed scrolled_up
-width-fed g n = width-cond (is_in_region g) g.width (scrolled_up (moved_rows_down g n) (rows_past_bottom g n))
-    (record { grid = moved_rows_down g n; sunk = [] }) refl refl
+pub wide-spacing : (w : ℕ) → 2 ≤ w → (xs : List ℕ) → All IsWide xs → All (IsSpacing w) xs
+wide-spacing w h xs p k d l =
+    let c = get_or xs k d in
+    let one = drawn-is c 2 (p k d l) in
+    record {
+      drawn = one.0;
+      some = omega (arith, one.1);
+      fits = omega (arith, one.1);
+    }
 
-width-wrapped_on : (g : GridView) (b : Bool) → (wrapped_on g b).grid.width ≡ g.width
-unfolding wrapped_on
-width-wrapped_on g b =
-    let e = width-fed (record g { col = 0 }) 1 in
-    width-grid ((g.row == g.bottom) && (g.row == 0)) g.width (fed (record g { col = 0 }) 1).grid _ e e
+not-dropped : (u : Bool) (k w col : ℕ) → u ≡ false → 0 < k → k ≤ w
+    → (u || (nat_lt w k || ((k == 0) && (col == 0)))) ≡ false
+not-dropped u k w col eu some fits = grind (arith, nat_tests)
 
-width-printed : (g : GridView) (c : ℕ) (a : Attrs) → IsPrintable c → 0 < g.width → (printed g c a).grid.width ≡ g.width
-width-printed g c a p w =
-    ap (λ (d : Drawn). d.grid.width) (printed-printable g c a p w)
-    ∙ width-cond (nat_le (g.col + 1) g.width) g.width (record { grid = g; sunk = [] }) (wrapped_on g true) refl
-    (width-wrapped_on g true)
+printed-spacing : (g : GridView) (c : ℕ) (a : Attrs) → IsSpacing g.width c → printed g c a ≡ spaced g c a
+printed-spacing g c a s =
+    let kept = not-dropped (is_undrawable c) (columns_of c) g.width g.col s.drawn s.some s.fits in
+    printed-spaced g c a kept s.some
+
+-- a sheet stays as wide
+width-printed : (g : GridView) (c : ℕ) (a : Attrs) → IsSpacing g.width c → (printed g c a).grid.width ≡ g.width
+width-printed g c a s =
+    ap (λ (d : Drawn). d.grid.width) (printed-spacing g c a s) ∙ (IsMade-made g (columns_of c) true s.fits).width
 
 -- ---- a run, as characters that are typed
 
@@ -75,12 +88,12 @@ drawn_as s g last sunk = record {
   reports = reports_of s.alternate sunk;
 }
 
-typed-printable : (c : ℕ) (s : State) → IsPrintable c → 0 < s.shown.width
+typed-spacing : (c : ℕ) (s : State) → IsSpacing s.shown.width c
     → typed c s ≡ drawn_as s (printed s.shown c s.attrs).grid (Some c) (printed s.shown c s.attrs).sunk
-typed-printable c s p w =
+typed-spacing c s p =
     let d = printed s.shown c s.attrs in
     ap (λ (q : Printed). drawn_as s d.grid (last_after q c s.last) d.sunk)
-    (ap (λ (x : Drawn). x.printed) (printed-printable s.shown c s.attrs p w))
+    (ap (λ (x : Drawn). x.printed) (printed-spacing s.shown c s.attrs p))
 
 reports-append : (b : Bool) (xs ys : List RowView) → reports_of b xs ++ reports_of b ys ≡ reports_of b (xs ++ ys)
 reports-append b [] ys = refl
@@ -90,17 +103,18 @@ reports-append b (x ∷ xs) ys =
 abbrev then_typed : Stepped → List ℕ → Stepped
 then_typed t xs = record { state = (typed_all xs t.state).state; reports = t.reports ++ (typed_all xs t.state).reports }
 
-pub typed_all-is : (xs : List ℕ) (s : State) → All IsPrintable xs → 0 < s.shown.width
+pub typed_all-is : (xs : List ℕ) (s : State) → All (IsSpacing s.shown.width) xs
     → typed_all xs s ≡ drawn_as s (printed_all s.shown xs s.attrs).grid (last_of xs s.last)
     (printed_all s.shown xs s.attrs).sunk
-typed_all-is [] s p w = refl
-typed_all-is (x ∷ xs) s p w =
+typed_all-is [] s p = refl
+typed_all-is (x ∷ xs) s p =
     let d = printed s.shown x s.attrs in
     let o = printed_all d.grid xs s.attrs in
     let one = drawn_as s d.grid (Some x) d.sunk in
-    let wide : d.grid.width ≡ s.shown.width = width-printed s.shown x s.attrs (p zero 0 (omega arith)) w in
-    let more = typed_all-is xs one.state (All-drop IsPrintable 1 (x ∷ xs) p) (rw wide w) in
-    ap (λ (t : Stepped). then_typed t xs) (typed-printable x s (p zero 0 (omega arith)) w)
+    let wide : d.grid.width ≡ s.shown.width = width-printed s.shown x s.attrs (p zero 0 (omega arith)) in
+    let more = typed_all-is xs one.state
+    (subst (λ w. All (IsSpacing w) xs) (sym wide) (All-drop (IsSpacing s.shown.width) 1 (x ∷ xs) p)) in
+    ap (λ (t : Stepped). then_typed t xs) (typed-spacing x s (p zero 0 (omega arith)))
     ∙ ap (λ (t : Stepped). let u : Stepped = record { state = t.state; reports = one.reports ++ t.reports } in u) more
     ∙ (λ i. record {
       state = record s { shown = o.grid; last = last_of xs (Some x) };
@@ -109,14 +123,14 @@ typed_all-is (x ∷ xs) s p w =
 
 pub run_tries : {C : Type 0} (scrolls : C → RowView → Bool → C
     → Type 0) (xs : List ℕ) (v : ScreenView) (c d : C) (g : GridView) (last : Option ℕ)
-    → v.failed ≡ false → All IsPrintable xs → 0 < v.state.shown.width
+    → v.failed ≡ false → All (IsSpacing v.state.shown.width) xs
     → g ≡ (printed_all v.state.shown xs v.state.attrs).grid
     → last ≡ last_of xs v.state.last
     → Hears scrolls c (reports_of v.state.alternate (printed_all v.state.shown xs v.state.attrs).sunk) d
     → Tries {A = Unit {0}} scrolls (typed_all xs) v c (Ok tt)
     (record { state = record (v.state) { shown = g; last = last }; failed = v.failed }) d
-run_tries scrolls xs v c d g last live p w is_grid is_last hears =
-    let is = typed_all-is xs v.state p w in
+run_tries scrolls xs v c d g last live p is_grid is_last hears =
+    let is = typed_all-is xs v.state p in
     record {
       live = live;
       screen = (λ i. record { state = record (v.state) { shown = is_grid i; last = is_last i }; failed = live i })
@@ -167,6 +181,9 @@ run_same scrolls takes callbacks alternate name each (Err e) s g xs a t h k =
 
 -- ---- a run, event by event
 
+printable-handled : (c : ℕ) → IsPrintable c → IsHandled c
+printable-handled c p = grind (arith, nat_tests)
+
 -- reports of two changes are told of, one change after the other
 hears-split : {C : Type 0} (scrolls : C → RowView → Bool → C → Type 0) (c : C) (xs ys : List Report) (d : C)
     → Hears scrolls c (xs ++ ys) d → (b : C) × Hears scrolls c xs b × Hears scrolls b ys d
@@ -175,20 +192,17 @@ hears-split scrolls c (x ∷ xs) ys d h =
     let r = hears-split scrolls h.0 xs ys d h.2 in
     (r.0, (h.0, h.1, r.1), r.2)
 
-printable-handled : (c : ℕ) → IsPrintable c → is_unhandled c ≡ false
-printable-handled c p = grind (arith, nat_tests)
-
 -- one character of a run
 goes-typed : {C : Type 0} (step : C → ScreenView → Call → C → ScreenView → Type 0)
     (scrolls : C → RowView → Bool → C → Type 0) (ch : ℕ) (c : C) (v : ScreenView) (d : C) (w : ScreenView)
-    → IsPrintable ch → v.failed ≡ false → (Hears scrolls c (typed ch v.state).reports d
+    → is_unhandled ch ≡ false → v.failed ≡ false → (Hears scrolls c (typed ch v.state).reports d
     × (w ≡ alive (typed ch v.state).state))
     ⊎ ((w.failed ≡ true) × SameBounds v.state w.state × HearsRows scrolls c d)
     → Goes step scrolls (Print ch) c v d w
 goes-typed step scrolls ch c v d w p live h =
     does_as step scrolls (λ t. steps (typed ch t)) _ c v d w
     (ap (λ (b : Bool). cond b (calling (said.unhandled_char ch ∷ []) v.state) (steps (typed ch v.state)))
-    (sym (printable-handled ch p)))
+    (sym p))
     (record {
       dead = λ e. absurd (false≢true (sym live ∙ e));
       live = λ e. elim h [
@@ -206,7 +220,7 @@ goes-failed step scrolls (x ∷ xs) c v h =
 
 goes-run : {C : Type 0} (step : C → ScreenView → Call → C → ScreenView → Type 0)
     (scrolls : C → RowView → Bool → C → Type 0) (xs : List ℕ) (c : C) (v : ScreenView) (d : C) (w : ScreenView)
-    → All IsPrintable xs → v.failed ≡ false → Hears scrolls c (typed_all xs v.state).reports d
+    → All IsHandled xs → v.failed ≡ false → Hears scrolls c (typed_all xs v.state).reports d
     → w ≡ alive (typed_all xs v.state).state → GoesThrough step scrolls (map Print xs) c v d w
 goes-run step scrolls [] c v d w p live hears screen = (sym hears, screen ∙ sym (is_alive v live))
 goes-run step scrolls (x ∷ xs) c v d w p live hears screen =
@@ -215,13 +229,13 @@ goes-run step scrolls (x ∷ xs) c v d w p live hears screen =
       s.0,
       alive t.state,
       goes-typed step scrolls x c v s.0 (alive t.state) (p zero 0 (omega arith)) live (inl (s.1, refl)),
-      goes-run step scrolls xs s.0 (alive t.state) d w (All-drop IsPrintable 1 (x ∷ xs) p) refl s.2 screen,
+      goes-run step scrolls xs s.0 (alive t.state) d w (All-drop IsHandled 1 (x ∷ xs) p) refl s.2 screen,
     )
 
 -- the screen fails at the first of some characters, where it is w then
 goes-refused : {C : Type 0} (step : C → ScreenView → Call → C → ScreenView → Type 0)
     (scrolls : C → RowView → Bool → C → Type 0) (xs : List ℕ) (c : C) (v : ScreenView) (d : C) (w : ScreenView)
-    → 0 < length xs → All IsPrintable xs → v.failed ≡ false → w.failed ≡ true → SameBounds v.state w.state
+    → 0 < length xs → All IsHandled xs → v.failed ≡ false → w.failed ≡ true → SameBounds v.state w.state
     → HearsRows scrolls c d → GoesThrough step scrolls (map Print xs) c v d w
 goes-refused step scrolls [] c v d w some p live failed bounds told = absurd (omega arith)
 goes-refused step scrolls (x ∷ xs) c v d w some p live failed bounds told = (
@@ -240,7 +254,7 @@ memory-failed x y p q e = cc
 
 pub goes-tries : {C A : Type 0} (step : C → ScreenView → Call → C → ScreenView → Type 0)
     (scrolls : C → RowView → Bool → C → Type 0) (xs : List ℕ) (c : C) (v : ScreenView)
-    (result : Result A ScreenError) (d : C) (w : ScreenView) → 0 < length xs → All IsPrintable xs
+    (result : Result A ScreenError) (d : C) (w : ScreenView) → 0 < length xs → All IsHandled xs
     → Tries scrolls (typed_all xs) v c result w d → SameBounds v.state w.state
     → GoesThrough step scrolls (map Print xs) c v d w
 goes-tries step scrolls xs c v (Ok a) d w some p t k = goes-run step scrolls xs c v d w p t.live t.hears t.screen
@@ -275,8 +289,22 @@ pub front-run : {C A : Type 0} (step : C → ScreenView → Call → C → Scree
     → Tries scrolls (typed_all (take n bs)) v c result w d → SameBounds v.state w.state
     → PrintsFront step scrolls bs (drop n bs) c v d w
 front-run step scrolls bs n c v result d w pos within p t k =
-    let some : 0 < length (take n bs) = grind (arith, common_steps) in
-    (take n bs, printable-chars bs n p, goes-tries step scrolls (take n bs) c v result d w some p t k)
+    let some : 0 < length (take n bs) = grind (arith, common_steps) in (
+      take n bs,
+      printable-chars bs n p,
+      goes-tries step scrolls (take n bs) c v result d w some
+          (λ i e l. printable-handled (get_or (take n bs) i e) (p i e l)) t k,
+    )
+
+-- some characters
+pub front-some : {C A : Type 0} (step : C → ScreenView → Call → C → ScreenView → Type 0)
+    (scrolls : C → RowView → Bool → C → Type 0) (bs rest front : List ℕ) (c : C) (v : ScreenView)
+    (result : Result A ScreenError) (d : C) (w : ScreenView) → 0 < length front → All IsHandled front
+    → chars bs ≡ front ++ chars rest
+    → Tries scrolls (typed_all front) v c result w d → SameBounds v.state w.state
+    → PrintsFront step scrolls bs rest c v d w
+front-some step scrolls bs rest front c v result d w some p e t k =
+    (front, e, goes-tries step scrolls front c v result d w some p t k)
 
 -- a character
 pub front-char : {C : Type 0} (step : C → ScreenView → Call → C → ScreenView → Type 0)

@@ -1,7 +1,7 @@
 -- A screen's forms are those of what it shows.
 use Rattle.std.proofs.Common.{◌≡◌, ◌∙◌, ℕ, List, ◌∷◌, ◌++◌, Contains, None, sym, ap, subst, arith}
-use Rattle.vt100_forms.specs.Attrs.{IsProper, default_attrs}
-use Rattle.vt100_forms.specs.Form.{Form, HideCursor, ClearAttrs, ClearScreen, change, spell}
+use Rattle.vt100_forms.specs.Attrs.{default_attrs}
+use Rattle.vt100_forms.specs.Form.{Form, HideCursor, ClearAttrs, ClearScreen, change}
 use Rattle.vt100_cells.specs.Cell.{CellView}
 use Rattle.vt100_picture.specs.Term.{Size, Shown, IsShown}
 use Rattle.vt100_picture.specs.Leads.{Leads}
@@ -24,7 +24,7 @@ use Rattle.vt100_sheet.specs.Picture.{lines_of}
 use Rattle.vt100_state.specs.State.{State}
 use Rattle.vt100_state.specs.Shown.{shown_state}
 use Rattle.vt100.specs.Writers.{contents_formatted, state_formatted, contents_diff, state_diff, cursor_state_formatted}
-use Rattle.vt100.specs.WriterLaws.{IsUnscrolled, AreOfShown, EachRedrawIsOfShown, DifferencesAreOfShown}
+use Rattle.vt100.specs.WriterLaws.{IsUnscrolled, EachRedrawIsOfShown}
 use Rattle.vt100.specs.WriterLaws.{EachDifferenceIsOfShown, EachScreenIsDrawable, EachRedrawLeads}
 use Rattle.vt100.specs.WriterLaws.{EachDifferenceLeads}
 
@@ -128,8 +128,8 @@ screen-drawable s h p =
       drawable = subst (λ (x : Shown). IsDrawable z x) (sym (picture-is s h))
           (grid-drawable s.shown (extras_of s) (record {
             shown = grid-unscrolled s h;
-            plain = λ r k. subst (λ (x : CellView). Contains x.text 0xFE0F → ⊥) (same r k) (p.plain r k);
-            proper = λ r k. subst (λ (x : CellView). IsProper x.attrs) (same r k) (p.proper r k);
+            plain = λ r k. subst (λ (x : CellView). Contains x.text 0xFE0F → ⊥) (same r k) (p r k);
+            proper = h.state.proper.drawn;
           }));
       attrs = h.state.attrs;
     }

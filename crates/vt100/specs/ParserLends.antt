@@ -1,5 +1,5 @@
 -- What a parser ends as, where a part of it was lent.
-use Rattle.std.specs.Borrow.{Lends, RattleType, MutBor, Fml}
+use Rattle.std.specs.Borrow.{Lends, LendsBoth, RattleType, MutBor, Fml}
 use Rattle.vt100_state.specs.Call.{ScreenView}
 use Rattle.vt100.specs.Parsing.{ParserView}
 use Rattle.vt100.specs.contracts.parser.Parser.{the_row}
@@ -13,3 +13,7 @@ module _ (CB : RattleType) (p : MutBor (ParserView CB.Denot)) where
   -- with the callbacks that were left
   abbrev pub lends_callbacks : MutBor CB.Denot → Fml
   lends_callbacks r = Lends (the_row CB) CB p r (λ d. record (p.now) { callbacks = d })
+
+  -- with both that were left
+  abbrev pub lends_both : MutBor ScreenView × MutBor CB.Denot → Fml
+  lends_both r = LendsBoth (the_row CB) screen_row CB p r (λ w d. record (p.now) { screen = w; callbacks = d })

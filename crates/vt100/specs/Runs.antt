@@ -1,11 +1,12 @@
 -- Characters that are printed one after another.
-use Rattle.std.specs.Prelude.{◌≡◌, ℕ, Bool, List, [], ◌∷◌, ◌++◌, map, Option, Some}
+use Rattle.std.specs.Prelude.{◌≡◌, ℕ, Bool, false, List, [], ◌∷◌, ◌++◌, map, Option, Some}
 use Rattle.std.specs.Str.{chars}
 use Rattle.vte_core.specs.Event.{Print}
 use Rattle.vt100_rows.specs.Row.{RowView}
 use Rattle.vt100_state.specs.State.{State}
 use Rattle.vt100_state.specs.Step.{Stepped, quietly, typed}
 use Rattle.vt100_state.specs.Call.{Call, ScreenView}
+use Rattle.vt100_state.specs.Effect.{is_unhandled}
 use Rattle.vt100.specs.Goes.{GoesThrough}
 
 -- characters, one after another
@@ -20,6 +21,10 @@ typed_all (c ∷ cs) s =
 abbrev pub last_of : List ℕ → Option ℕ → Option ℕ
 last_of [] last = last
 last_of (c ∷ cs) last = last_of cs (Some c)
+
+-- a character that is printed, and not told of
+abbrev pub IsHandled : ℕ → Type 0
+IsHandled c = is_unhandled c ≡ false
 
 -- callbacks c and a screen v have gone through the printing of the characters at the front of a text, of which these
 -- bytes are left, and are d and w

@@ -2,6 +2,7 @@
 use Rattle.std.specs.Prelude.{◌≡◌, true, false, not}
 use Rattle.vt100_forms.specs.Attrs.{IsProper}
 use Rattle.vt100_core.specs.Grid.{IsAllocated}
+use Rattle.vt100_state.specs.State.{IsProperSheet}
 use Rattle.vt100_state.specs.Call.{ScreenView}
 use Rattle.vt100.specs.declared.screen.Screen.TheInside.{Inside}
 
@@ -28,7 +29,8 @@ screen_of s = record {
 }
 
 -- the shown sheet has rows, and so has the main one; on a screen that hasn't failed both have one size; the main one
--- alone keeps rows; the attributes are such as a terminal's own calls make
+-- alone keeps rows; the attributes are such as a terminal's own calls make, and so are those of the cells, on a screen
+-- that hasn't failed
 pub record IsScreen (s : Inside) : Type 0 where
   pub shown : IsAllocated s.grid
   pub main : s.alternate_screen ≡ true → IsAllocated s.other_grid
@@ -38,3 +40,5 @@ pub record IsScreen (s : Inside) : Type 0 where
   pub other_keeps : s.other_grid.kept.keeps ≡ s.alternate_screen
   pub attrs : IsProper s.attrs
   pub saved_attrs : IsProper s.saved_attrs
+  pub proper : s.failed ≡ false → IsProperSheet s.grid
+  pub other_proper : s.failed ≡ false → IsProperSheet s.other_grid

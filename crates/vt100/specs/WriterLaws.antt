@@ -1,6 +1,6 @@
 -- What a screen's calls write, and where it leads.
 use Rattle.std.specs.Prelude.{ℕ, ◌<◌, ◌≤◌, ◌≡◌, false, List, [], length, get_or, Contains, None}
-use Rattle.vt100_forms.specs.Attrs.{IsProper, default_attrs}
+use Rattle.vt100_forms.specs.Attrs.{default_attrs}
 use Rattle.vt100_forms.specs.Form.{Form, spell}
 use Rattle.vt100_forms.specs.declared.modes.MouseProtocolMode.TheVariants as mouse
 use Rattle.vt100_forms.specs.declared.modes.MouseProtocolEncoding.TheVariants as encoding
@@ -48,10 +48,9 @@ EachDifferenceIsOfShown = (old new : State) → IsUnscrolled old → IsUnscrolle
 
 -- ---- what is shown can be drawn
 
--- no cell that is shown has U+FE0F, and each has such attributes as control sequences can set
-pub record IsPlainlyShown (s : Shown) : Type 0 where
-  pub plain : (r k : ℕ) → Contains (s.cell r k).text 0xFE0F → ⊥
-  pub proper : (r k : ℕ) → IsProper (s.cell r k).attrs
+-- no cell that is shown has U+FE0F
+abbrev pub IsPlainlyShown : Shown → Type 0
+IsPlainlyShown s = (r k : ℕ) → Contains (s.cell r k).text 0xFE0F → ⊥
 
 abbrev pub EachScreenIsDrawable : Type 0
 EachScreenIsDrawable = (s : State) → IsUnscrolled s → IsPlainlyShown (shown_state s)
@@ -86,9 +85,8 @@ EachDifferenceLeads = (old new : State) → IsUnscrolled old → IsUnscrolled ne
 -- ---- row by row
 
 -- the same of the cells of one row
-pub record IsPlainLine (f : ℕ → CellView) : Type 0 where
-  pub plain : (k : ℕ) → Contains (f k).text 0xFE0F → ⊥
-  pub proper : (k : ℕ) → IsProper (f k).attrs
+abbrev pub IsPlainLine : (ℕ → CellView) → Type 0
+IsPlainLine f = (k : ℕ) → Contains (f k).text 0xFE0F → ⊥
 
 -- this text is that of forms by which a terminal t comes to show these cells in row i, and nothing else changes but
 -- cursor, attributes and that row's flag

@@ -1,8 +1,7 @@
 -- What a screen's calls write as forms: its whole picture, its modes, and its rows one by one.
 --
 -- The rows are drawn as they are shown. Where no kept row is, these are the forms for what the screen shows.
-use Rattle.std.specs.Prelude.{ℕ, ◌+◌, ◌≡◌, ◌==◌, Bool, false, ◌&&◌, List, [], ◌∷◌, ◌++◌, None}
-use Rattle.vt100_forms.specs.declared.attrs.Attrs.{Attrs}
+use Rattle.std.specs.Prelude.{ℕ, ◌+◌, ◌==◌, Bool, false, ◌&&◌, List, [], ◌∷◌, ◌++◌, None}
 use Rattle.vt100_forms.specs.Attrs.{default_attrs}
 use Rattle.vt100_forms.specs.Form.{Form, HideCursor, change, spell}
 use Rattle.vt100_redraw.specs.Writer.{Drawn}

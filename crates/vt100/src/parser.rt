@@ -77,7 +77,7 @@ impl Parser<()> {
 impl<CB: Callbacks> Parser<CB> {
     ghost use Rattle.vt100.specs.Goes.{GoesThrough};
     ghost use Rattle.vt100.specs.Parsing.{HasRead, StandsAt, KeepsScreens};
-    ghost use Rattle.vt100.specs.ParserLends.{lends_screen, lends_callbacks};
+    ghost use Rattle.vt100.specs.ParserLends.{lends_screen, lends_callbacks, lends_both};
 
     /// A parser of this size that keeps so many rows, and tells these callbacks of its events.
     pub fn new_with_callbacks(
@@ -180,6 +180,7 @@ impl<CB: Callbacks> Parser<CB> {
 
     /// Both, to be changed.
     pub fn screen_and_callbacks_mut(&mut self) -> (&mut Screen, &mut CB)
+        ensures* writes_back { sem 𝓛 (lends_both CB.row self.entry result) }
         ensures screen { result.0.now ≡ self.old.screen }
         ensures callbacks { result.1.now ≡ self.old.callbacks }
     {

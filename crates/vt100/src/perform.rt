@@ -137,7 +137,8 @@ impl<CB: Callbacks> Perform for WrappedScreen<CB> {
 }
 
 impl<CB: Callbacks> WrappedScreen<CB> {
-    /// Prints the printable ASCII at the front of a text at once, or else its first character; returns what is left.
+    /// Prints the printable ASCII at the front of a text at once, or the wide characters there, or else its first
+    /// character; returns what is left.
     fn print_some<'a>(&mut self, text: &'a str) -> &'a str
         requires { 0 < length text.now }
         ensures shorter { length result.now < length text.now }
@@ -148,6 +149,9 @@ impl<CB: Callbacks> WrappedScreen<CB> {
         if len > 0 {
             let _ = self.text_run(&text.as_bytes()[..len]);
             return &text[len..];
+        }
+        if let Some(rest) = self.print_wide(text) {
+            return rest;
         }
         let mut chars = text.chars();
         if let Some(c) = chars.next() {

@@ -16,6 +16,7 @@ mod rows_diff;
 mod rows_formatted;
 mod sgr;
 mod whole;
+mod wide;
 mod wrapped;
 mod writers;
 

@@ -34,7 +34,7 @@ use Rattle.vt100_core.proofs.EraseLemmas.{IsGrid-row_erased, IsGrid-columns_eras
 use Rattle.vt100_core.proofs.EraseLemmas.{IsGrid-cells_deleted, IsGrid-all_erased, IsGrid-all_erased_forward}
 use Rattle.vt100_core.proofs.EraseLemmas.{IsGrid-all_erased_backward}
 use Rattle.vt100_state.proofs.ColourLemmas.{IsSound}
-use Rattle.vt100_state.proofs.CleanRows.{IsCleanRow, clean-cleared}
+use Rattle.vt100_state.proofs.CleanRows.{IsCleanRow, sound, clean-cleared}
 use Rattle.vt100_state.proofs.CleanRows.{clean-wiped, clean-inserted, clean-removed, clean-trimmed, clean-row}
 use Rattle.vt100_state.proofs.CleanRows.{clean-rows}
 use Rattle.vt100_state.proofs.CleanRows.{clean-moved_up, clean-opened_line, clean-erased_forward, clean-erased_backward}
@@ -54,8 +54,8 @@ pub record IsFine (l : Limits) (g : GridView) : Type 0 where
   pub capacity : g.kept.capacity ≡ l.capacity
   pub few : l.capacity < 2 ^ 64
   pub hidden : g.kept.offset ≡ 0
-  pub rows : All IsCleanRow g.rows
-  pub kept : All IsCleanRow g.kept.rows
+  pub rows : All (IsCleanRow sound) g.rows
+  pub kept : All (IsCleanRow sound) g.kept.rows
 
 -- the same of a sheet with its rows
 pub record IsDrawn (l : Limits) (g : GridView) : Type 0 where
@@ -68,7 +68,7 @@ drawn-if l b g h p q = cond_both b g h (λ x. IsDrawn l x) (λ _. p) (λ _. q)
 -- ---- other rows
 
 rows-drawn : (l : Limits) (g : GridView) (rows : List RowView) → IsDrawn l g → IsGrid (record g { rows = rows })
-    → All IsCleanRow rows → length rows ≡ length g.rows → IsDrawn l (record g { rows = rows })
+    → All (IsCleanRow sound) rows → length rows ≡ length g.rows → IsDrawn l (record g { rows = rows })
 rows-drawn l g rows d i clean n = record {
   fine = record {
     grid = i;
@@ -85,64 +85,65 @@ rows-drawn l g rows d i clean n = record {
 }
 
 positions-drawn : (l : Limits) (g : GridView) (f : ℕ → RowView) → IsDrawn l g → IsGrid (with_rows g f)
-    → ((r : ℕ) → IsCleanRow (f r)) → IsDrawn l (with_rows g f)
+    → ((r : ℕ) → IsCleanRow sound (f r)) → IsDrawn l (with_rows g f)
 positions-drawn l g f d i clean =
-    rows-drawn l g (rows_by_position (length g.rows) f) d i (clean-rows (length g.rows) f clean)
+    rows-drawn l g (rows_by_position (length g.rows) f) d i (clean-rows sound (length g.rows) f clean)
     (length-rows_by_position (length g.rows) f)
 
 pub row-drawn : (l : Limits) (g : GridView) (r : ℕ) (v : RowView) → IsDrawn l g → IsGrid (with_row g r v)
-    → IsCleanRow v → IsDrawn l (with_row g r v)
+    → IsCleanRow sound v → IsDrawn l (with_row g r v)
 row-drawn l g r v d i clean =
-    rows-drawn l g (set g.rows r v) d i (All-set IsCleanRow g.rows r v clean d.fine.rows) (length-set g.rows r v)
+    rows-drawn l g (set g.rows r v) d i (All-set (IsCleanRow sound) g.rows r v clean d.fine.rows)
+    (length-set g.rows r v)
 
 -- ---- erasing, and cells and lines that come in and go
 
 pub drawn-all_erased : (l : Limits) (g : GridView) (a : Attrs) → IsSound a → IsDrawn l g → IsDrawn l (all_erased g a)
 drawn-all_erased l g a p d =
     positions-drawn l g (λ r. cleared_row (row_at g.rows r) a) d (IsGrid-all_erased g a d.fine.grid d.some)
-    (λ r. clean-cleared (row_at g.rows r) a p)
+    (λ r. clean-cleared sound (row_at g.rows r) a p)
 
 pub drawn-all_erased_forward : (l : Limits) (g : GridView) (a : Attrs) → IsSound a → IsDrawn l g
     → IsDrawn l (all_erased_forward g a)
 drawn-all_erased_forward l g a p d =
     positions-drawn l g (erased_forward_at g.rows g.row g.col g.width a) d
     (IsGrid-all_erased_forward g a d.fine.grid d.some)
-    (clean-erased_forward g.rows g.row g.col g.width a p d.fine.rows)
+    (clean-erased_forward sound g.rows g.row g.col g.width a p d.fine.rows)
 
 pub drawn-all_erased_backward : (l : Limits) (g : GridView) (a : Attrs) → IsSound a → IsDrawn l g
     → IsDrawn l (all_erased_backward g a)
 drawn-all_erased_backward l g a p d =
     positions-drawn l g (erased_backward_at g.rows g.row (columns_to_cursor g) a) d
     (IsGrid-all_erased_backward g a d.fine.grid d.some)
-    (clean-erased_backward g.rows g.row (columns_to_cursor g) a p d.fine.rows)
+    (clean-erased_backward sound g.rows g.row (columns_to_cursor g) a p d.fine.rows)
 
 pub drawn-row_erased : (l : Limits) (g : GridView) (a : Attrs) → IsSound a → IsDrawn l g → IsDrawn l (row_erased g a)
 drawn-row_erased l g a p d =
     row-drawn l g g.row (cleared_row (row_of_cursor g) a) d (IsGrid-row_erased g a d.fine.grid d.some)
-    (clean-cleared (row_of_cursor g) a p)
+    (clean-cleared sound (row_of_cursor g) a p)
 
 pub drawn-columns_erased : (l : Limits) (g : GridView) (s e : ℕ) (a : Attrs) → IsSound a → e ≤ g.width → IsDrawn l g
     → IsDrawn l (columns_erased g s e a)
 drawn-columns_erased l g s e a p h d =
     row-drawn l g g.row (wiped_row (row_of_cursor g) s e a) d (IsGrid-columns_erased g s e a d.fine.grid d.some h)
-    (clean-wiped (row_of_cursor g) s e a p (clean-row g.rows d.fine.rows g.row))
+    (clean-wiped sound (row_of_cursor g) s e a p (clean-row sound g.rows d.fine.rows g.row))
 
 pub drawn-cells_inserted : (l : Limits) (g : GridView) (n : ℕ) → IsDrawn l g → IsDrawn l (cells_inserted g n)
 drawn-cells_inserted l g n d =
     row-drawn l g g.row (inserted (row_of_cursor g) g.col n) d (IsGrid-cells_inserted g n d.fine.grid d.some)
-    (clean-inserted (row_of_cursor g) g.col n (clean-row g.rows d.fine.rows g.row))
+    (clean-inserted sound (row_of_cursor g) g.col n (clean-row sound g.rows d.fine.rows g.row))
 
 pub drawn-cells_deleted : (l : Limits) (g : GridView) (n : ℕ) → IsDrawn l g → IsDrawn l (cells_deleted g n)
 drawn-cells_deleted l g n d =
     row-drawn l g g.row (removed (row_of_cursor g) g.col (min (g.col + n) g.width)) d
     (IsGrid-cells_deleted g n d.fine.grid d.some)
-    (clean-removed (row_of_cursor g) g.col (min (g.col + n) g.width) (clean-row g.rows d.fine.rows g.row))
+    (clean-removed sound (row_of_cursor g) g.col (min (g.col + n) g.width) (clean-row sound g.rows d.fine.rows g.row))
 
 drawn-lines_opened : (l : Limits) (g : GridView) (first n : ℕ) → IsDrawn l g → IsDrawn l (lines_opened g first n)
 drawn-lines_opened l g first n d =
     positions-drawn l g (opened_line g.rows first (g.bottom + 1) (min n (g.bottom + 1 - first)) g.width) d
     (IsGrid-lines_opened g first n d.fine.grid d.some)
-    (clean-opened_line g.rows first (g.bottom + 1) (min n (g.bottom + 1 - first)) g.width d.fine.rows)
+    (clean-opened_line sound g.rows first (g.bottom + 1) (min n (g.bottom + 1 - first)) g.width d.fine.rows)
 
 pub drawn-lines_inserted : (l : Limits) (g : GridView) (n : ℕ) → IsDrawn l g → IsDrawn l (lines_inserted g n)
 drawn-lines_inserted l g n d =
@@ -156,7 +157,7 @@ moved-drawn : (l : Limits) (g : GridView) (first n : ℕ) → IsDrawn l g
 moved-drawn l g first n d =
     positions-drawn l g (moved_up g.rows first (g.bottom + 1) n g.width) d
     (IsGrid-moved_up g first (g.bottom + 1) n d.fine.grid (region_rows g d.fine.grid d.some))
-    (clean-moved_up g.rows first (g.bottom + 1) n g.width d.fine.rows)
+    (clean-moved_up sound g.rows first (g.bottom + 1) n g.width d.fine.rows)
 
 pub drawn-lines_deleted : (l : Limits) (g : GridView) (n : ℕ) → IsDrawn l g → IsDrawn l (lines_deleted g n)
 drawn-lines_deleted l g n d =
@@ -423,7 +424,7 @@ kept-after k left i rows few hidden keeps =
 
 kept-drawn : (l : Limits) (g : GridView) (rows : List RowView) (k : KeptPart) → IsDrawn l g
     → IsGrid (record g { rows = rows; kept = k })
-    → All IsCleanRow rows → All IsCleanRow k.rows → length rows ≡ length g.rows → k.keeps ≡ g.kept.keeps
+    → All (IsCleanRow sound) rows → All (IsCleanRow sound) k.rows → length rows ≡ length g.rows → k.keeps ≡ g.kept.keeps
     → k.capacity ≡ g.kept.capacity → k.offset ≡ 0 → IsDrawn l (record g { rows = rows; kept = k })
 kept-drawn l g rows k d i clean clean_kept n keeps capacity hidden = record {
   fine = record {
@@ -457,15 +458,15 @@ drawn-scrolled_up l g n d =
     let f = moved_up g.rows g.top (g.bottom + 1) (up_count g n) g.width in
     let rows = rows_by_position (length g.rows) f in
     let m = length-rows_by_position (length g.rows) f in
-    let clean = clean-rows (length g.rows) f (clean-moved_up g.rows g.top (g.bottom
+    let clean = clean-rows sound (length g.rows) f (clean-moved_up sound g.rows g.top (g.bottom
     + 1) (up_count g n) g.width d.fine.rows) in
     let k = kept_after g.kept left in
     cond_both (is_kept_from g) (widened k g.height g.width) g.kept
     (λ (x : KeptPart). IsDrawn l (record g { rows = rows; kept = x }))
     (λ e. let off = kept-hidden g.kept left d.fine.hidden in
     let all_left = All-take IsRow (up_count g n) (drop g.top g.rows) (All-drop IsRow g.top g.rows (sheet-rows g i)) in
-    let clean_left = All-take IsCleanRow (up_count g n) (drop g.top g.rows)
-    (All-drop IsCleanRow g.top g.rows d.fine.rows) in
+    let clean_left = All-take (IsCleanRow sound) (up_count g n) (drop g.top g.rows)
+    (All-drop (IsCleanRow sound) g.top g.rows d.fine.rows) in
     let valid = kept-after g.kept left i.kept all_left (omega (arith, d.fine.capacity, d.fine.few)) d.fine.hidden
     (both-are (g.top == 0) g.kept.keeps e) in
     let narrow = IsShownWide-none k g.height g.width off in
@@ -475,7 +476,7 @@ drawn-scrolled_up l g n d =
     (IsGrid-scrolled g rows k i d.some m
     (IsSheet-moved_up g.height g.width g.rows g.top (g.bottom + 1) (up_count g n) i.sheet i.some_rows i.few_cols
     (region_rows g i d.some)) valid narrow)
-    clean (kept-all IsCleanRow clean-trimmed g.kept left d.fine.kept clean_left) m refl refl off))
+    clean (kept-all (IsCleanRow sound) (clean-trimmed sound) g.kept left d.fine.kept clean_left) m refl refl off))
     (λ _. moved-drawn l g g.top (up_count g n) d)
 
 pub drawn-fed : (l : Limits) (g : GridView) (n : ℕ) → IsDrawn l g → IsDrawn l (fed g n).grid

@@ -23,7 +23,8 @@ use Rattle.vt100_core.proofs.StayLemmas.{widened-none, scrolls-none}
 use Rattle.vt100_core.proofs.ResizeLemmas.{IsGrid-whole_screen, IsGrid-shortened, IsGrid-with_width, some-shortened}
 use Rattle.vt100_core.proofs.ResizeLemmas.{some-lengthened}
 use Rattle.vt100_core.proofs.LengthenLemmas.{IsGrid-lengthened}
-use Rattle.vt100_state.proofs.CleanRows.{IsCleanRow, clean-blank, clean-resized, clean-first, clean-row, clean-rows}
+use Rattle.vt100_state.proofs.CleanRows.{IsCleanRow, sound, clean-blank, clean-resized, clean-first, clean-row}
+use Rattle.vt100_state.proofs.CleanRows.{clean-rows}
 use Rattle.vt100_state.proofs.FineGrids.{Limits, IsFine, IsDrawn, drawn-scrolled_up}
 
 -- ---- a new sheet
@@ -89,8 +90,8 @@ new-fine height width s some_rows few_rows some_cols few_cols few =
       capacity = refl;
       few = few;
       hidden = refl;
-      rows = All-nil IsCleanRow;
-      kept = All-nil IsCleanRow;
+      rows = All-nil (IsCleanRow sound);
+      kept = All-nil (IsCleanRow sound);
     }
 
 -- ---- rows for it
@@ -125,7 +126,7 @@ blank-rows l g d =
         capacity = d.capacity;
         few = d.few;
         hidden = d.hidden;
-        rows = All-replicate IsCleanRow g.height (blank_row g.width) (clean-blank g.width);
+        rows = All-replicate (IsCleanRow sound) g.height (blank_row g.width) (clean-blank sound g.width);
         kept = d.kept;
       };
       some = omega (arith, n, i.some_rows);
@@ -181,7 +182,7 @@ fine-cleared l g d =
       capacity = d.capacity;
       few = d.few;
       hidden = d.hidden;
-      rows = All-replicate IsCleanRow (length g.rows) (blank_row g.width) (clean-blank g.width);
+      rows = All-replicate (IsCleanRow sound) (length g.rows) (blank_row g.width) (clean-blank sound g.width);
       kept = d.kept;
     }
 
@@ -240,7 +241,7 @@ drawn-none_kept l g d =
         few = d.fine.few;
         hidden = refl;
         rows = d.fine.rows;
-        kept = All-nil IsCleanRow;
+        kept = All-nil (IsCleanRow sound);
       };
       some = d.some;
     }
@@ -275,7 +276,8 @@ width-fine l g width d some small =
       capacity = d.capacity;
       few = d.few;
       hidden = d.hidden;
-      rows = clean-rows (length g.rows) f (λ r. clean-resized (row_at g.rows r) width (clean-row g.rows d.rows r));
+      rows = clean-rows sound (length g.rows) f
+          (λ r. clean-resized sound (row_at g.rows r) width (clean-row sound g.rows d.rows r));
       kept = d.kept;
     }
 
@@ -289,7 +291,8 @@ shorter-fine l g up height d some lower above top = record {
   capacity = d.capacity;
   few = d.few;
   hidden = d.hidden;
-  rows = clean-rows (min height (length g.rows)) (first_rows g.rows height) (clean-first g.rows height d.rows);
+  rows = clean-rows sound (min height (length g.rows)) (first_rows g.rows height)
+      (clean-first sound g.rows height d.rows);
   kept = d.kept;
 }
 
@@ -300,12 +303,12 @@ longer-fine l g height d higher small top =
     let f : RowView → RowView = λ v. resized_row v g.width default_cell in
     let newest = drop (length g.kept.rows - down) g.kept.rows in
     let below = replicate (height - g.height - down) (blank_row g.width) in
-    let back : All IsCleanRow (rows_back g down) = All-append IsCleanRow
+    let back : All (IsCleanRow sound) (rows_back g down) = All-append (IsCleanRow sound)
     (replicate (down - length g.kept.rows) (blank_row g.width)) (map f newest)
-    (All-replicate IsCleanRow (down - length g.kept.rows) (blank_row g.width) (clean-blank g.width))
-    (All-map IsCleanRow f newest (All-weaker IsCleanRow (λ v. IsCleanRow (f v))
-    (λ v h. clean-resized v g.width h) newest
-    (All-drop IsCleanRow (length g.kept.rows - down) g.kept.rows d.kept))) in
+    (All-replicate (IsCleanRow sound) (down - length g.kept.rows) (blank_row g.width) (clean-blank sound g.width))
+    (All-map (IsCleanRow sound) f newest (All-weaker (IsCleanRow sound) (λ v. IsCleanRow sound (f v))
+    (λ v h. clean-resized sound v g.width h) newest
+    (All-drop (IsCleanRow sound) (length g.kept.rows - down) g.kept.rows d.kept))) in
     record {
       grid = IsGrid-lengthened g height d.grid higher small top d.hidden;
       height = refl;
@@ -315,11 +318,12 @@ longer-fine l g height d higher small top =
       few = d.few;
       hidden = d.hidden;
       rows = cond_both (length g.rows == 0) [] (rows_back g down ++ g.rows ++ below)
-          (λ (xs : List RowView). All IsCleanRow xs) (λ _. All-nil IsCleanRow)
-          (λ _. All-append IsCleanRow (rows_back g down ++ g.rows) below
-          (All-append IsCleanRow (rows_back g down) g.rows back d.rows)
-          (All-replicate IsCleanRow (height - g.height - down) (blank_row g.width) (clean-blank g.width)));
-      kept = All-take IsCleanRow (length g.kept.rows - down) g.kept.rows d.kept;
+          (λ (xs : List RowView). All (IsCleanRow sound) xs) (λ _. All-nil (IsCleanRow sound))
+          (λ _. All-append (IsCleanRow sound) (rows_back g down ++ g.rows) below
+          (All-append (IsCleanRow sound) (rows_back g down) g.rows back d.rows)
+          (All-replicate (IsCleanRow sound) (height - g.height - down) (blank_row g.width)
+          (clean-blank sound g.width)));
+      kept = All-take (IsCleanRow sound) (length g.kept.rows - down) g.kept.rows d.kept;
     }
 
 both-are : (p q : Bool) → (p && q) ≡ true → (p ≡ true) × (q ≡ true)

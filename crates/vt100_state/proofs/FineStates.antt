@@ -3,6 +3,7 @@ use Rattle.std.proofs.Common.{◌≡◌, ◌∙◌, ℕ, zero, suc, ◌+◌, ◌
 use Rattle.std.proofs.Common.{Some, None, min, ap, arith, refl, sym, subst, if◌then◌else◌}
 use Rattle.std.specs.Char.{IsScalar}
 use Rattle.std.proofs.lemmas.Bool.{cond_both, false≢true}
+use Rattle.vt100_sheet.specs.Sheet.{row_at}
 use Rattle.vt100_core.specs.Grid.{GridView, IsAllocated, new_grid, allocated, cleared}
 use Rattle.vt100_core.specs.declared.scrollback.Scrollback.TheVariants.{Disabled, Enabled}
 use Rattle.vt100_core.specs.declared.printed.Printed.{Printed}
@@ -11,7 +12,7 @@ use Rattle.vt100_core.specs.Cursor.{tab_stop}
 use Rattle.vt100_core.specs.Scroll.{scrollback_shown}
 use Rattle.vt100_core.specs.Text.{printed}
 use Rattle.vt100_core.proofs.EraseLemmas.{columns_to_cursor-fit}
-use Rattle.vt100_state.specs.State.{State, IsState, main_sheet, alternate_sheet, fresh_state}
+use Rattle.vt100_state.specs.State.{State, IsState, IsProperSheet, main_sheet, alternate_sheet, fresh_state}
 use Rattle.vt100_state.specs.Step.{Stepped, with_shown, last_after, typed, typed_times}
 use Rattle.vt100_state.specs.Step.{repeated_last, repeated, moved_left, moved_right, tabbed, at_column, at_row}
 use Rattle.vt100_state.specs.Step.{at_place}
@@ -20,7 +21,7 @@ use Rattle.vt100_state.specs.Step.{saved, restored, erased_below, erased_above, 
 use Rattle.vt100_state.specs.Step.{erased_left, erased_row, cells_erased, cells_added, cells_taken, lines_added}
 use Rattle.vt100_state.specs.Step.{lines_taken, region_up, region_down, with_origin_mode, alternate_shown, main_shown}
 use Rattle.vt100_state.specs.Step.{alternate_cleared, alternate_entered, alternate_left, made_anew, resized_to}
-use Rattle.vt100_state.proofs.CleanRows.{IsKnown}
+use Rattle.vt100_state.proofs.CleanRows.{IsKnown, sound, clean-cell, clean-row}
 use Rattle.vt100_state.proofs.FineGrids.{Limits, IsFine, IsDrawn, drawn-col, drawn-row, drawn-cursor_at}
 use Rattle.vt100_state.proofs.FineGrids.{drawn-origin, drawn-saved, drawn-restored, drawn-region, drawn-down, drawn-up}
 use Rattle.vt100_state.proofs.FineGrids.{drawn-fed_up, drawn-fed, drawn-scrolled_up, drawn-all_erased}
@@ -68,12 +69,19 @@ not-not : (b c : Bool) → b ≡ not c → not b ≡ c
 not-not b true e = ap not e
 not-not b false e = ap not e
 
+fine-proper : (l : Limits) (g : GridView) → IsFine l g → IsProperSheet g
+fine-proper l g d = record {
+  drawn = λ r k. (clean-cell sound (row_at g.rows r) (clean-row sound g.rows d.rows r) k).attrs.proper;
+  kept = λ r k. (clean-cell sound (row_at g.kept.rows r) (clean-row sound g.kept.rows d.kept r) k).attrs.proper;
+}
+
 pub is-state : (b : Bounds) (s : State) → IsWell b s → IsState s
 is-state b s w =
     state_whole s w.shown.some w.main (w.other.height ∙ sym w.shown.fine.height)
     (w.other.width ∙ sym w.shown.fine.width) w.shown.fine.keeps (w.other.keeps ∙ not-not
     (not s.alternate) s.alternate refl)
-    w.attrs.proper w.saved_attrs.proper w.shown.fine.grid w.other.grid
+    w.attrs.proper w.saved_attrs.proper (fine-proper _ s.shown w.shown.fine) (fine-proper _ s.other w.other)
+    w.shown.fine.grid w.other.grid
 
 -- ---- the shown sheet
 

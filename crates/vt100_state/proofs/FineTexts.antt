@@ -24,7 +24,7 @@ use Rattle.vt100_core.proofs.TextLemmas.{IsSized-fed, IsSized-wrapped, IsMade-ma
 use Rattle.vt100_core.proofs.TextLemmas.{span_of-wide, IsGrid-join, in-place, ignored, widens, carries}
 use Rattle.vt100_core.proofs.TextLemmas.{IsDrawn-here, printed-dropped, printed-joined, printed-spaced}
 use Rattle.vt100_state.proofs.ColourLemmas.{IsSound}
-use Rattle.vt100_state.proofs.CleanRows.{IsKnown, IsClean, clean-of, clean-with_wrap, clean-placed, clean-wiped}
+use Rattle.vt100_state.proofs.CleanRows.{IsKnown, IsClean, sound, clean-of, clean-with_wrap, clean-placed, clean-wiped}
 use Rattle.vt100_state.proofs.CleanRows.{clean-joined_cell, clean-join, clean-row}
 use Rattle.vt100_state.proofs.FineGrids.{Limits, IsDrawn, row-drawn, drawn-col, drawn-fed}
 
@@ -48,7 +48,7 @@ drawn-wrapped l g wrap d =
     (λ _. row-drawn l h r v next
     (IsGrid-wrap_row h r wraps next.fine.grid (omega (arith, left-within g i d.some, (IsSized-fed g0 1).count))
     (λ e. above-last h r wrap next.fine.grid e))
-    (clean-with_wrap (row_at h.rows r) wraps (clean-row h.rows next.fine.rows r)))
+    (clean-with_wrap sound (row_at h.rows r) wraps (clean-row sound h.rows next.fine.rows r)))
 
 drawn-made : (l : Limits) (g : GridView) (columns : ℕ) (wrap : Bool) → IsDrawn l g
     → IsDrawn l (made_to_fit g columns wrap).grid
@@ -62,7 +62,7 @@ room-right : (col n width : ℕ) → nat_lt col n ≡ true → n ≡ width → c
 room-right col n width e w = grind (arith, nat_tests)
 
 drawn-put_at : (l : Limits) (g : GridView) (x : CellView) (a : Attrs) (n : ℕ) → IsDrawn l g → IsCell x
-    → has_text x ≡ true → n ≡ span_of x → g.col + n ≤ g.width → IsClean x → IsSound a → IsDrawn l (put_at g x a n)
+    → has_text x ≡ true → n ≡ span_of x → g.col + n ≤ g.width → IsClean sound x → IsSound a → IsDrawn l (put_at g x a n)
 drawn-put_at l g x a n d cell text e h clean p =
     let v = placed (row_of_cursor g) g.col x a in
     let i = d.fine.grid in
@@ -70,7 +70,7 @@ drawn-put_at l g x a n d cell text e h clean p =
     let back = IsGrid-rows g w.rows i (length-set g.rows g.row v)
     (IsGrid-put_at g x a n i d.some cell text e h).sheet in
     drawn-col l w (g.col + n) h (row-drawn l g g.row v d back
-    (clean-placed (row_of_cursor g) g.col x a p (clean-row g.rows d.fine.rows g.row) clean))
+    (clean-placed sound (row_of_cursor g) g.col x a p (clean-row sound g.rows d.fine.rows g.row) clean))
 
 drawn-spaced : (l : Limits) (g : GridView) (c : ℕ) (a : Attrs) → IsDrawn l g → IsScalar c → IsKnown c
     → IsSound a → is_dropped g.width g.col c ≡ false → 0 < columns_of c → IsDrawn l (spaced g c a).grid
@@ -80,11 +80,11 @@ drawn-spaced l g c a d s known p kept some =
     let h = (made_to_fit g (columns_of c) true).grid in
     let m = IsMade-made g (columns_of c) true is.fits in
     drawn-put_at l h (cell_of c a) a (columns_of c) (drawn-made l g (columns_of c) true d) (IsCell-of c a s u.0 some)
-    refl (span_of-cell c (columns_of c) a refl some) m.fits (clean-of c a known p) p
+    refl (span_of-cell c (columns_of c) a refl some) m.fits (clean-of sound c a known p) p
 
 -- ---- a zero-width character
 
-with-attrs : (x : CellView) (a : Attrs) → IsClean x → IsSound a → IsClean (record x { attrs = a })
+with-attrs : (x : CellView) (a : Attrs) → IsClean sound x → IsSound a → IsClean sound (record x { attrs = a })
 with-attrs x a h p = record { text = h.text; attrs = p }
 
 two-columns : (n : ℕ) → (n == 1) ≡ false → 0 < n → 2 ≤ n
@@ -104,11 +104,12 @@ drawn-carried l g c a d s known p zero wide one =
     let sized = IsSized-wrapped w false in
     let wiped = row-drawn l g g.row (wiped_row v (g.col - 1) g.col a) d
     (IsGrid-columns_erased g (g.col - 1) g.col a i d.some i.cursor_col)
-    (clean-wiped v (g.col - 1) g.col a p (clean-row g.rows d.fine.rows g.row)) in
+    (clean-wiped sound v (g.col - 1) g.col a p (clean-row sound g.rows d.fine.rows g.row)) in
     drawn-put_at l h x a 2 (drawn-wrapped l w false wiped)
     (IsCell-with_attrs (joined_cell v g.col c) a (IsCell-joined v g.col c r.row s zero)) is.1 (span_of-wide x is.0)
     (omega (arith, sized.col, sized.width, two-columns g.width one i.some_cols))
-    (with-attrs (joined_cell v g.col c) a (clean-joined_cell v g.col c (clean-row g.rows d.fine.rows g.row) known) p) p
+    (with-attrs (joined_cell v g.col c) a
+    (clean-joined_cell sound v g.col c (clean-row sound g.rows d.fine.rows g.row) known) p) p
 
 drawn-joined : (l : Limits) (g : GridView) (c : ℕ) (a : Attrs) → IsDrawn l g → IsScalar c → IsKnown c
     → IsSound a → drawn_columns c ≡ Some 0 → 0 < g.col → IsDrawn l (joined g c a).grid
@@ -119,7 +120,7 @@ drawn-joined l g c a d s known p zero after =
     let h = with_cursor_row g (join_row v g.col c a) in
     let in_row : IsDrawn l h = row-drawn l g g.row (join_row v g.col c a) d
     (IsGrid-join g c a i d.some s zero after)
-    (clean-join v g.col c a p (clean-row g.rows d.fine.rows g.row) known) in
+    (clean-join sound v g.col c a p (clean-row sound g.rows d.fine.rows g.row) known) in
     ⊎_elim
     (λ (wide : is_widening v g.col c ≡ true).
     ⊎_elim

@@ -1,4 +1,6 @@
 pub mod CleanRows
+pub mod CleanSheets
+pub mod ProperSheets
 pub mod FineGrids
 pub mod FineSizes
 pub mod FineTexts

@@ -20,7 +20,7 @@ use Rattle.vt100_state.specs.Made.{Act, Fed, Resized, played, events_added, made
 use Rattle.vt100_state.specs.Holds.{IsAct, AreActs, last_rows, last_cols, MakesStates, MakesLastSize}
 use Rattle.vt100_state.specs.Holds.{MakesCapacity, MakesNoOffset, MakesCells, MakesProperCells, MakesByteColours}
 use Rattle.vt100_state.specs.Holds.{KeepsAtSameSize}
-use Rattle.vt100_state.proofs.CleanRows.{IsKnown, IsClean, IsCleanRow, clean-row, clean-cell}
+use Rattle.vt100_state.proofs.CleanRows.{IsKnown, IsClean, IsCleanRow, sound, clean-row, clean-cell}
 use Rattle.vt100_state.proofs.FineGrids.{Limits, IsFine}
 use Rattle.vt100_state.proofs.FineSizes.{resized-same}
 use Rattle.vt100_state.proofs.FineStates.{Bounds, IsWell, is-state, well-fresh, well-resized, main-fine}
@@ -92,16 +92,17 @@ rows-are rows h r =
     (λ (l : length rows ≤ r). subst IsRow (sym (row_at_past rows r l)) (IsRow-blank 0 (omega arith)))
     (cases_lt r (length rows))
 
-shown-row : (l : Limits) (g : GridView) → IsFine l g → (r : ℕ) → IsRow (visible_at g r) × IsCleanRow (visible_at g r)
+shown-row : (l : Limits) (g : GridView) → IsFine l g → (r : ℕ)
+    → IsRow (visible_at g r) × IsCleanRow sound (visible_at g r)
 shown-row l g d r =
     let kept = length g.kept.rows - g.kept.offset + r in
     let drawn = r - g.kept.offset in
     cond_both (nat_lt r g.kept.offset) (row_at g.kept.rows kept) (row_at g.rows drawn)
-    (λ v. IsRow v × IsCleanRow v)
-    (λ _. (rows-are g.kept.rows d.grid.kept.each kept, clean-row g.kept.rows d.kept kept))
-    (λ _. (rows-are g.rows (λ k h. (d.grid.sheet.each k h).row) drawn, clean-row g.rows d.rows drawn))
+    (λ v. IsRow v × IsCleanRow sound v)
+    (λ _. (rows-are g.kept.rows d.grid.kept.each kept, clean-row sound g.kept.rows d.kept kept))
+    (λ _. (rows-are g.rows (λ k h. (d.grid.sheet.each k h).row) drawn, clean-row sound g.rows d.rows drawn))
 
-known : (x : CellView) → IsClean x → Contains x.text 0xFFFD → ⊥
+known : (x : CellView) → IsClean sound x → Contains x.text 0xFFFD → ⊥
 known x h c = All-contains IsKnown x.text 0xFFFD h.text c refl
 
 pub makes-cells : MakesCells
@@ -109,20 +110,20 @@ makes-cells rows cols capacity acts h r c =
     let s = made rows cols capacity acts in
     let w = made-well rows cols capacity acts h in
     let row = shown-row _ s.shown w.shown.fine r in
-    (row.0.cells c, known (cell_at (visible_at s.shown r).cells c) (clean-cell (visible_at s.shown r) row.1 c))
+    (row.0.cells c, known (cell_at (visible_at s.shown r).cells c) (clean-cell sound (visible_at s.shown r) row.1 c))
 
 pub makes-proper_cells : MakesProperCells
 makes-proper_cells rows cols capacity acts h r c =
     let s = made rows cols capacity acts in
     let w = made-well rows cols capacity acts h in
-    (clean-cell (visible_at s.shown r) (shown-row _ s.shown w.shown.fine r).1 c).attrs.proper
+    (clean-cell sound (visible_at s.shown r) (shown-row _ s.shown w.shown.fine r).1 c).attrs.proper
 
 pub makes-byte_colours : MakesByteColours
 makes-byte_colours rows cols capacity acts h =
     let s = made rows cols capacity acts in
     let w = made-well rows cols capacity acts h in
     record {
-      cells = λ r c. (clean-cell (visible_at s.shown r) (shown-row _ s.shown w.shown.fine r).1 c).attrs.colours;
+      cells = λ r c. (clean-cell sound (visible_at s.shown r) (shown-row _ s.shown w.shown.fine r).1 c).attrs.colours;
       drawn = w.attrs.colours;
     }
 

@@ -1,10 +1,13 @@
 -- The state of a terminal: two sheets, and what they share.
-use Rattle.std.specs.Prelude.{ℕ, ◌+◌, ◌≡◌, ◌==◌, Bool, true, false, not, ◌&&◌, Option, None, if◌then◌else◌}
+use Rattle.std.specs.Prelude.{ℕ, ◌+◌, ◌≡◌, ◌==◌, Bool, true, false, not, ◌&&◌, List, Option, None, if◌then◌else◌}
 use Rattle.vt100_forms.specs.Attrs.{default_attrs, IsProper}
 use Rattle.vt100_forms.specs.declared.attrs.Attrs.{Attrs}
 use Rattle.vt100_forms.specs.declared.modes.CursorStyle.{CursorStyle}
 use Rattle.vt100_forms.specs.declared.modes.CursorStyle.TheVariants as style
+use Rattle.vt100_cells.specs.Cells.{cell_at}
 use Rattle.vt100_picture.specs.Term.{Modes, default_modes}
+use Rattle.vt100_rows.specs.Row.{RowView}
+use Rattle.vt100_sheet.specs.Sheet.{row_at}
 use Rattle.vt100_core.specs.Grid.{GridView, IsGrid, IsAllocated, new_grid, allocated}
 use Rattle.vt100_core.specs.declared.scrollback.Scrollback.TheVariants.{Disabled, Enabled}
 
@@ -48,6 +51,14 @@ fresh_state height width capacity = record {
 
 -- ---- what is true of every state
 
+-- the attributes of each cell are such as control sequences can set, in the rows that are drawn on and in the kept ones
+pub record HasProperCells (rows kept_rows : List RowView) : Type 0 where
+  pub drawn : (r k : ℕ) → IsProper (cell_at (row_at rows r).cells k).attrs
+  pub kept : (r k : ℕ) → IsProper (cell_at (row_at kept_rows r).cells k).attrs
+
+abbrev pub IsProperSheet : GridView → Type 0
+IsProperSheet g = HasProperCells g.rows g.kept.rows
+
 pub record IsState (s : State) : Type 0 where
   pub shown : IsGrid s.shown
   pub other : IsGrid s.other
@@ -60,6 +71,8 @@ pub record IsState (s : State) : Type 0 where
   pub alternate_keeps : (alternate_sheet s).kept.keeps ≡ false
   pub attrs : IsProper s.attrs
   pub saved_attrs : IsProper s.saved_attrs
+  pub proper : IsProperSheet s.shown
+  pub other_proper : IsProperSheet s.other
 
 -- the main sheet is shown, with no kept row, one region and places counted from the screen's top: where a redraw is
 -- read as it was meant

@@ -7,7 +7,7 @@ ghost use Rattle.vt100_state.specs.Holds.{MakesProperCells, MakesByteColours, Ke
 ghost use Rattle.vt100_state.specs.Shown.{EachCellIsTold, EachWrapIsTold, AlikeShowTheSame, EachCharacterIsTold};
 
 /// It is a state of a terminal: its sheets are grids of one size, the shown one and the main one have their rows, the
-/// main one alone keeps rows, and the drawing and the saved attributes are proper.
+/// main one alone keeps rows, and the drawing and the saved attributes are proper, and so are those of the cells.
 pub fn made_states()
     ensures { MakesStates }
 {}

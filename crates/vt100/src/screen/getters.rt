@@ -18,7 +18,8 @@ impl Screen {
     }
 
     /// Whether no call found no memory. Such a screen is in a state of a terminal: its sheets are grids of one size,
-    /// the main one alone keeps rows, and its attributes are proper. The sheets of a failed one are grids too.
+    /// the main one alone keeps rows, and its attributes are proper, those of the cells too. The sheets of a failed one
+    /// are grids too.
     pub fn is_live(&self) -> bool
         ensures answer { result ≡ not self.now.failed }
         ensures live { self.now.failed ≡ false → IsState self.now.state }

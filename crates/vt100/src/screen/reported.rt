@@ -80,7 +80,7 @@ pub(super) fn print_run<CB: Callbacks>(
 pub(super) fn line_feed<CB: Callbacks>(
     grid: &mut Grid,
     reporter: &mut Reporter<'_, CB>,
-) -> Result<u16, GridError>
+) -> Result<(), GridError>
     requires { IsAllocated grid.old }
     ensures grid { OnOk result (grid.new ≡ (fed grid.old 1).grid) }
     ensures same { reporter.new.callbacks.ghost_name ≡ reporter.old.callbacks.ghost_name }
@@ -89,7 +89,8 @@ pub(super) fn line_feed<CB: Callbacks>(
     ensures limits { SameLimits grid.old grid.new }
     ensures allocated { IsAllocated grid.new }
 {
-    grid.row_inc_scroll(1, reporter)
+    grid.row_inc_scroll(1, reporter)?;
+    Ok(())
 }
 
 /// The scroll region moves up.

@@ -1,4 +1,4 @@
-use Rattle.std.proofs.Common.{[], ap, ◌∙◌, sym}
+use Rattle.std.proofs.Common.{ap, ◌∙◌, sym}
 use Rattle.std.specs.Prelude.{string_bytes}
 use Rattle.vt100.specs.Writers.{each_diff}
 use Rattle.vt100.proofs.RowsLemmas.{none_left, yields_none}

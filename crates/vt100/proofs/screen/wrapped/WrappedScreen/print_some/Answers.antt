@@ -1,13 +1,14 @@
 -- Answers for perform::WrappedScreen::print_some.
-use Rattle.std.proofs.Common.{◌∙◌, ◌≤◌, ℕ, List, length, take, sym, subst, arith}
+use Rattle.std.proofs.Common.{◌≡◌, ◌∙◌, ◌≤◌, ℕ, List, length, take, sym, subst, arith}
 use Rattle.std.specs.Prelude.{All}
 use Rattle.vt100_cells.specs.Cell.{IsPrintable}
+use Rattle.vt100.specs.declared.screen.wrapped.WrappedScreen.{WrappedScreen}
 use Rattle.vt100.specs.Tries.{Tries}
 use Rattle.vt100.specs.Runs.{typed_all, PrintsFront}
 use Rattle.vt100.proofs.PrintableLemmas.{printable-boundary}
 use Rattle.vt100.proofs.RunLemmas.{front-run, front-char}
 use Rattle.vt100.proofs.screen.wrapped.WrappedScreen.print_some.Goals as goal
-use Rattle.vt100.proofs.screen.wrapped.WrappedScreen.print_some.Goals.{in-Some, in_default}
+use Rattle.vt100.proofs.screen.wrapped.WrappedScreen.print_some.Goals.{in-Some-next, in_default-next}
 
 pub range_from-requires : goal.range_from-requires
 range_from-requires g c =
@@ -40,14 +41,18 @@ returns-then-len-gt0-clause-printed g c =
 pub returns-clause-printed : goal.returns-clause-printed
 returns-clause-printed g c =
     let p = c.args.self.now in
+    let m = c.print_wide.new.self in
+    let same : m ≡ p = c.in_default.ensures.none in
     elim c.match-next.branch [
-      | in-Some w ↦
+      | in-Some-next w ↦
           let q = w.print.new.self in
           rw w.self-is (subst (λ (left : List ℕ). PrintsFront g.CB.Callbacks.step g.CB.Callbacks.scrolls
           c.args.text.now left p.callbacks p.screen q.callbacks q.screen) (sym c.as_str.ensures)
-          (front-char g.CB.Callbacks.step g.CB.Callbacks.scrolls c.args.text.now c.next.new.self.rest.now w.in-Some.c
-          p.callbacks p.screen q.callbacks q.screen c.utf8.text
-          (sym c.chars-chars.ensures.rest ∙ w.in-Some.ensures.steps.0) w.print.ensures))
-      | in_default w ↦
-          absurd (omega (arith, w.in_default.ensures.steps.0, c.chars-chars.ensures.len, c.requires))
+          (subst (λ (o : WrappedScreen _). PrintsFront g.CB.Callbacks.step g.CB.Callbacks.scrolls
+          c.args.text.now c.next.new.self.rest.now o.callbacks o.screen q.callbacks q.screen) same
+          (front-char g.CB.Callbacks.step g.CB.Callbacks.scrolls c.args.text.now c.next.new.self.rest.now
+          w.in-Some-next.c m.callbacks m.screen q.callbacks q.screen c.utf8.text
+          (sym c.chars-chars.ensures.rest ∙ w.in-Some-next.ensures.steps.0) w.print.ensures)))
+      | in_default-next w ↦
+          absurd (omega (arith, w.in_default-next.ensures.steps.0, c.chars-chars.ensures.len, c.requires))
     ]

@@ -15,4 +15,6 @@ invariant_of-self-2 g c = record {
   attrs = rw (ap (λ (x : Read). x.attrs) c.read_groups.ensures)
       (read_groups-proper c.args.params.now nothing c.self.inside.0.0.attrs c.self.invariant.attrs);
   saved_attrs = c.self.invariant.saved_attrs;
+  proper = c.self.invariant.proper;
+  other_proper = c.self.invariant.other_proper;
 }

@@ -1,0 +1,26 @@
+use Rattle.std.proofs.Common.{rules, ◌∙◌, ◌++◌, ◌∷◌, [], ℕ, List, length, append_assoc, length-append, ap, sym}
+use Rattle.std.proofs.Common.{subst, arith}
+use Rattle.std.specs.Prelude.{All}
+use Rattle.std.specs.Str.{chars}
+use Rattle.std.proofs.lemmas.List.Elements.{All-push}
+use Rattle.vt100_core.specs.Text.{IsWide}
+use Rattle.vt100.specs.Runs.{IsHandled}
+use Rattle.vt100.proofs.screen.wide.take_wide.Goals as goal
+
+pub loop-rest-preserved : goal.loop-rest-preserved
+loop-rest-preserved c =
+    let xs = c.loop-rest.run.items in
+    let x = c.in-Some.c in
+    let left = c.in-Some.left.now in
+    let pushed = c.push.ensures.items in
+    let count = ap length pushed ∙ length-append xs (x ∷ []) in
+    record {
+      text = search rules;
+      parts = c.loop-rest.invariant.parts ∙ ap (λ (ys : List ℕ). xs ++ ys) c.in-Some.ensures.parts
+          ∙ sym (append_assoc xs (x ∷ []) (chars left)) ∙ ap (λ (ys : List ℕ). ys ++ chars left) (sym pushed);
+      shorter = omega (arith, count, c.in-Some.ensures.shorter, c.loop-rest.invariant.shorter);
+      wide = subst (All IsWide) (sym pushed)
+          (All-push IsWide xs x c.loop-rest.invariant.wide c.in-Some.ensures.wide);
+      handled = subst (All IsHandled) (sym pushed)
+          (All-push IsHandled xs x c.loop-rest.invariant.handled c.in-Some.ensures.handled);
+    }
