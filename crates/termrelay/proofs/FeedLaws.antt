@@ -1,12 +1,16 @@
 -- Feeds one after another.
-use Rattle.std.proofs.Common.{◌≡◌, ℕ, List, [], ◌∷◌, ◌++◌, append-nil, append_assoc, ap, sym, ◌∙◌, subst}
+use Rattle.std.proofs.Common.{◌≡◌, ℕ, List, [], ◌∷◌, ◌++◌, append-nil, append_assoc, ap, sym, ◌∙◌, subst, refl}
+use Rattle.std.proofs.Common.{Result, Ok, Err}
 use Rattle.vte_core.specs.Standing.{Stands}
-use Rattle.vt100_state.specs.Made.{Act, Fed, Resized, bytes_fed, made, made_on}
-use Rattle.vt100.specs.Parsing.{ParserView, StandsAt}
+use Rattle.vt100_state.specs.Made.{Act, Fed, Resized, bytes_fed, made}
+use Rattle.vt100.specs.Parsing.{ParserView}
 use Rattle.vt100.specs.Tries.{alive}
 use Rattle.vt100.proofs.PlayLemmas.{feeds_join, acts_follow}
-use Rattle.termrelay.specs.Hub.{GoesOn}
-use Rattle.termrelay.specs.Laws.{TwoFeedsAreOne}
+use Rattle.termrelay.specs.Hub.{GoesOn, Feeds}
+use Rattle.termrelay.specs.Calls.{done}
+use Rattle.termrelay.specs.Laws.{TwoFeedsAreOne, TwoFeedsRunAsOne}
+use Rattle.termrelay.specs.declared.call.Reply.TheVariants.{Done, Refused}
+use Rattle.termrelay.specs.declared.error.HubError.{HubError}
 
 bytes-more : (acts : List Act) (a : List ℕ) → bytes_fed (acts ++ Fed a ∷ []) ≡ bytes_fed acts ++ a
 bytes-more [] a = append-nil a
@@ -39,3 +43,13 @@ goes-on p q r a b one two rows cols capacity acts at =
 pub feeds-joined : TwoFeedsAreOne
 feeds-joined h g k a b one two =
     (one.0, two.1, two.2 ∙ one.2, goes-on h.parser g.parser k.parser a b one.3 two.3)
+
+done-ok : (result : Result (Unit {0}) HubError) → Done ≡ done result → result ≡ Ok tt
+done-ok (Ok u) e = refl
+done-ok (Err error) e = absurd (let no : Done ≡ Refused error = e in cc)
+
+pub feeds-run : TwoFeedsRunAsOne
+feeds-run h k ss ts a b calls replies (g, is, (first, fed, e), (m, also, (second, more, f), later)) =
+    let one : Feeds h a (Ok tt) g = subst (λ r. Feeds h a r g) (done-ok first e) fed in
+    let two : Feeds g b (Ok tt) m = subst (λ r. Feeds g b r m) (done-ok second f) more in
+    (m, tt, (Ok tt, feeds-joined h g m a b one two, refl), later)

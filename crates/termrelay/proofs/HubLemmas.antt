@@ -1,18 +1,16 @@
 -- What is kept of a hub's clients, and what contracts see of it.
-use Rattle.std.proofs.Common.{◌≡◌, ◌≢◌, ℕ, ◌<◌, ◌≤◌, ◌==◌, Bool, true, false, List, [], ◌∷◌, length, Option, Some, None}
-use Rattle.std.proofs.Common.{ap, sym, ◌∙◌, refl, arith, subst, slice_index_or, slice_set, if◌then◌else◌}
+use Rattle.std.proofs.Common.{◌≡◌, ℕ, ◌<◌, ◌≤◌, ◌==◌, Bool, true, false, List, [], length, Option, Some, None}
+use Rattle.std.proofs.Common.{ap, sym, ◌∙◌, refl, subst, slice_index_or, slice_set, if◌then◌else◌}
 use mathlib.Core.Logic.{⊎_elim}
-use Rattle.std.specs.Prelude.{is_some}
 use Rattle.std.specs.Option.{option_map, IfSome}
 use Rattle.std.proofs.lemmas.Bool.{cases_lt, eqb-true, eq-eqb}
 use Rattle.std.proofs.lemmas.List.{get_or_past, get_or-set_same, get_or-set_other}
-use Rattle.slab.specs.Slab.{Slab, get, with_value, Updates}
+use Rattle.slab.specs.Slab.{Slab, get, Updates}
 use Rattle.vt100_core.specs.Picture.{size_of}
 use Rattle.vt100_state.specs.Call.{ScreenView}
 use Rattle.vt100.specs.Parsing.{ParserView}
-use Rattle.termrelay.specs.Answers.{ClientState}
 use Rattle.termrelay.specs.Record.{RecordView, client_of, IsBaseOf, IsServed}
-use Rattle.termrelay.specs.Hub.{HubValue, HubState, state_of, with_client, no_clients}
+use Rattle.termrelay.specs.Hub.{HubValue, state_of, with_client, no_clients}
 use Rattle.termrelay.specs.HubFields.{IsMade}
 use Rattle.termrelay.proofs.MadeLemmas.{made-unscrolled}
 

@@ -10,3 +10,6 @@ pub mod HubLemmas
 pub mod PumpLaws
 pub mod DueLemmas
 pub mod FeedLaws
+pub mod LogLemmas
+pub mod ScriptLemmas
+pub mod RunLemmas

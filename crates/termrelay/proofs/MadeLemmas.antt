@@ -1,16 +1,11 @@
 -- Parsers that acts have made of new ones.
-use Rattle.std.proofs.Common.{◌≡◌, ℕ, ◌<◌, ◌^◌, false, List, [], ◌∷◌, ◌++◌, ap, sym, ◌∙◌, refl, subst, append-nil}
-use Rattle.std.specs.Prelude.{All, Option, Some, None}
-use Rattle.std.specs.Option.{IfSome}
+use Rattle.std.proofs.Common.{◌≡◌, ℕ, List, [], ◌∷◌, ◌++◌, ap, sym, ◌∙◌, refl, subst}
 use Rattle.std.proofs.lemmas.List.Elements.{All-push}
-use Rattle.vte_core.specs.declared.Parser.{Parser}
 use Rattle.vte_core.specs.Standing.{Stands}
 use Rattle.vt100_picture.specs.Term.{Size}
 use Rattle.vt100_core.specs.Picture.{size_of}
-use Rattle.vt100_state.specs.State.{State, IsState}
 use Rattle.vt100_state.specs.Call.{ScreenView}
-use Rattle.vt100_state.specs.Step.{resized_to}
-use Rattle.vt100_state.specs.Made.{Act, Fed, Resized, bytes_fed, made, made_on}
+use Rattle.vt100_state.specs.Made.{Act, Fed, Resized, bytes_fed, made}
 use Rattle.vt100_state.specs.Holds.{IsSide, IsAct, AreActs, last_rows, last_cols}
 use Rattle.vt100_state.proofs.MadeLemmas.{makes-states, makes-last_size, makes-no_offset}
 use Rattle.vt100.specs.Parsing.{ParserView, StandsAt}

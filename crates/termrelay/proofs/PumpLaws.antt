@@ -1,8 +1,9 @@
 -- What a pump leaves.
-use Rattle.std.proofs.Common.{◌≡◌, ◌≢◌, ℕ, List, [], ◌++◌, take, drop, length, min, Option, Ok, Err, Result, ◌+◌, ◌≤◌}
-use Rattle.std.proofs.Common.{refl, ap, sym, ◌∙◌, subst, arith, length-drop, take-append-drop, append-nil, append_assoc, Some, None, ◌<◌}
+use Rattle.std.proofs.Common.{◌≡◌, ℕ, List, [], ◌++◌, take, drop, length, min, Option, Ok, Err, Result, ◌≤◌}
+use Rattle.std.proofs.Common.{refl, ap, sym, ◌∙◌, subst, arith, take-append-drop, append-nil, append_assoc, Some}
+use Rattle.std.proofs.Common.{None, ◌<◌}
 use Rattle.std.proofs.Math.Seq.{take-add}
-use Rattle.std.proofs.lemmas.List.{drop_all, drop-drop, take_all}
+use Rattle.std.proofs.lemmas.List.{drop-drop, take_all}
 use mathlib.Core.Logic.{⊎_elim}
 use Rattle.std.proofs.lemmas.Bool.{cases_lt}
 use Rattle.std.specs.Io.KnownBytes.{Appends, Keeps}

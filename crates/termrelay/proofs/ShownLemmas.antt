@@ -124,6 +124,8 @@ attrs-alike s a i p fg bg flags =
       alternate_keeps = i.alternate_keeps;
       attrs = p;
       saved_attrs = i.saved_attrs;
+      proper = i.proper;
+      other_proper = i.other_proper;
     } in
     ap (λ x. x.attrs) (alike-show_the_same s t i j (record {
       height = refl;

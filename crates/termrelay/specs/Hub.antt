@@ -1,7 +1,8 @@
 -- A hub: one program's screen, and clients that are sent frames of it. What each call does, and how it is refused.
 --
 -- Of several refusals an unknown client comes first, then a failed hub, then want of memory.
-use Rattle.std.specs.Prelude.{◌≡◌, ℕ, ◌==◌, Bool, true, false, List, [], ◌∷◌, ◌++◌, drop, Option, Some, None, Result, Ok}
+use Rattle.std.specs.Prelude.{◌≡◌, ℕ, ◌==◌, Bool, true, false, List, [], ◌∷◌, ◌++◌, drop, Option, Some, None, Result}
+use Rattle.std.specs.Prelude.{Ok}
 use Rattle.std.specs.Prelude.{Err, slice_index_or, if◌then◌else◌}
 use Rattle.std.specs.Option.{option_map}
 use Rattle.std.specs.declared.io.Error.{Error}
@@ -20,8 +21,8 @@ use Rattle.termrelay.specs.declared.answer.Answer.{Answer}
 use Rattle.termrelay.specs.declared.error.HubError.{HubError}
 use Rattle.termrelay.specs.declared.error.HubError.TheVariants.{Memory, Failed, UnknownClient, Write}
 
--- what a hub holds: what reads the program's bytes, with what they leave unfinished, and the screen; and what is kept of
--- the client at each key
+-- what a hub holds: what reads the program's bytes, with what they leave unfinished, and the screen; and what is kept
+-- of the client at each key
 pub record HubValue : Type 0 where
   pub parser : ParserView (Unit {0})
   pub records : List (Option RecordView)

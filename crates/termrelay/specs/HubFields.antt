@@ -1,5 +1,5 @@
 -- How a hub's fields give what a contract sees of it, and what is true of them.
-use Rattle.std.specs.Prelude.{◌≡◌, ℕ, false, List, Option, IfSome}
+use Rattle.std.specs.Prelude.{◌≡◌, ℕ, false, List, IfSome}
 use Rattle.slab.specs.Slab.{get}
 use Rattle.vt100_state.specs.Made.{Act}
 use Rattle.vt100_state.specs.Holds.{AreActs}

@@ -5,3 +5,5 @@ pub mod Hub
 pub mod Record
 pub mod HubFields
 pub mod Laws
+pub mod Calls
+pub mod Log

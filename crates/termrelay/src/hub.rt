@@ -1,5 +1,5 @@
 //! The hub.
-ghost use Rattle.std.specs.Prelude.{◌≡◌, IfOk, OnErr, Err, Some, None, MatchOption, IsSome, slice_index_or};
+ghost use Rattle.std.specs.Prelude.{◌≡◌, IfOk, IsOkAnd, OnErr, Err, Some, None, MatchOption, IsSome, slice_index_or};
 ghost use Rattle.termrelay.specs.declared.error.HubError.TheVariants.{Memory, UnknownClient};
 
 use crate::answer::Answer;
@@ -41,7 +41,8 @@ impl Model for Hub {
 }
 
 impl Hub {
-    ghost use Rattle.termrelay.specs.Hub.{state_of, shown_in, with_client, IsNewHub, Feeds, Resizes, Attaches, Detaches, Frames, PumpsClient};
+    ghost use Rattle.termrelay.specs.Hub.{state_of, shown_in, with_client, IsNewHub, Feeds, Resizes, Attaches};
+    ghost use Rattle.termrelay.specs.Hub.{Detaches, Frames, PumpsClient};
 
     /// A hub with a blank screen of this size, which keeps no rows, and without clients.
     pub fn new(alloc: Global, rows: NonZeroU16, cols: NonZeroU16) -> Result<Self, HubError>
@@ -127,7 +128,7 @@ impl Hub {
     /// The bytes of the client's last frame that haven't been pumped yet.
     pub fn owed(&self, client: Client) -> Result<&[u8], HubError>
         ensures { MatchOption ((state_of self.now).client client) (result ≡ Err UnknownClient)
-            (λ c. IfOk result (λ bytes. bytes.now ≡ c.owed)) }
+            (λ c. IsOkAnd result (λ bytes. bytes.now ≡ c.owed)) }
     {
         match self.clients.get(client.key()) {
             Some(record) => Ok(record.owed()),

@@ -1,7 +1,7 @@
 //! Facts about frames. Each function does nothing: its contract is the fact.
 ghost use Rattle.termrelay.specs.Answers.{EachSameIsOne, EachOneIsSame, EachExampleIsAnswered};
 ghost use Rattle.termrelay.specs.Frame.{EachSureIsPlain, EachFrameIsMarked, EachFrameLeads, EachFrameSetsModes};
-ghost use Rattle.termrelay.specs.Laws.{TwoFeedsAreOne, TakesAll, WritesNothing, AppendsFront};
+ghost use Rattle.termrelay.specs.Laws.{TwoFeedsAreOne, TwoFeedsRunAsOne, TakesAll, WritesNothing, AppendsFront};
 
 use crate::pump::Taker;
 use std::io::Write;
@@ -42,9 +42,10 @@ pub fn examples_are_answered()
     ensures { EachExampleIsAnswered }
 {}
 
-/// Two feeds are one feed of the joined bytes, memory aside.
+/// Two feeds are one feed of the joined bytes, memory aside; so in a run, whose log has one reply less.
 pub fn feeds_are_joined()
-    ensures { TwoFeedsAreOne }
+    ensures one { TwoFeedsAreOne }
+    ensures run { TwoFeedsRunAsOne }
 {}
 
 /// A pump that ends well leaves nothing owed, and where nothing is owed nothing is written, whatever takes the bytes.

@@ -1,17 +1,24 @@
-//! A hub: one program's screen, and clients that are sent frames of it.
+//! A hub: one program's screen, and clients that are sent frames of it. Runs of calls on it, and logs of them.
 #![tactic(auto)]
 
 pub mod answer;
+pub mod call;
 pub mod client;
 pub mod error;
 pub mod hub;
 pub mod laws;
+pub mod log;
 pub mod pump;
 mod record;
+mod script;
+pub mod session;
 mod shown;
 
 pub use answer::Answer;
+pub use call::{Call, Reply, Take};
 pub use client::Client;
 pub use error::HubError;
 pub use hub::Hub;
+pub use log::{Log, run};
 pub use pump::Taker;
+pub use session::Session;

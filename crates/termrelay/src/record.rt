@@ -109,7 +109,8 @@ impl Record {
     ) -> Result<Vec<u8>, HubError>
         requires unscrolled { IsUnscrolled now.now.state }
         requires served { IsServed now.now self.now }
-        requires due { answer ≡ due (size_of now.now.state.shown) (shown_state now.now.state) (client_of self.now).base }
+        requires due { answer ≡ due (size_of now.now.state.shown) (shown_state now.now.state)
+            (client_of self.now).base }
         requires frame { is_frame answer ≡ true }
         ensures text { IfOk result (λ text. text.items ≡ text_of_frame (size_of now.now.state.shown)
             (client_of self.now).base (shown_state now.now.state)) }

@@ -1,4 +1,4 @@
-use Rattle.std.proofs.Common.{◌≡◌, ◌≢◌, ℕ, List, [], ◌∷◌, ◌++◌, ap, sym, ◌∙◌, refl, subst, true, false, if◌then◌else◌}
+use Rattle.std.proofs.Common.{◌≡◌, ℕ, List, [], ◌∷◌, ◌++◌, ap, sym, ◌∙◌, refl, subst, true, false, if◌then◌else◌}
 use Rattle.std.proofs.Common.{Option, Some, None, Ok, slice_index_or}
 use Rattle.std.proofs.lemmas.Bool.{false≢true}
 use Rattle.std.specs.Option.{option_map, option_copied}
@@ -7,9 +7,7 @@ use Rattle.vt100_picture.specs.Term.{Shown}
 use Rattle.vt100_state.specs.State.{State}
 use Rattle.vt100_state.specs.Call.{ScreenView}
 use Rattle.vt100_state.specs.Shown.{shown_state}
-use Rattle.vt100.specs.Parsing.{ParserView}
 use Rattle.vt100.specs.WriterLaws.{IsUnscrolled}
-use Rattle.slab.specs.Slab.{get}
 use Rattle.termrelay.specs.declared.answer.Answer.{Answer}
 use Rattle.termrelay.specs.Frame.{frame_text}
 use Rattle.termrelay.specs.Answers.{ClientState, answer_to, answer_of, is_frame, after_answer}

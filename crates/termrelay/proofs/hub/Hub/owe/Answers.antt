@@ -1,11 +1,9 @@
-use Rattle.std.proofs.Common.{◌≡◌, ℕ, List, ap, sym, ◌∙◌, refl, subst, false, Option, Some, None, IsSome, slice_index_or}
+use Rattle.std.proofs.Common.{◌≡◌, ℕ, ap, sym, ◌∙◌, subst, Option, Some, None, IsSome, slice_index_or}
 use Rattle.std.specs.Option.{option_copied_mut}
 use Rattle.std.proofs.lemmas.Bool.{false≢true}
-use Rattle.slab.specs.Slab.{Slab, get, with_value}
+use Rattle.slab.specs.Slab.{get}
 use Rattle.vt100_state.specs.Call.{ScreenView}
 use Rattle.vt100_state.specs.Shown.{shown_state}
-use Rattle.vt100.specs.Parsing.{ParserView}
-use Rattle.termrelay.specs.Answers.{ClientState}
 use Rattle.termrelay.specs.Record.{RecordView, client_of, IsServed}
 use Rattle.termrelay.specs.HubFields.{hub_of, IsHub}
 use Rattle.termrelay.specs.Hub.{HubValue, state_of, with_client}
@@ -34,7 +32,8 @@ invariant_of-self c =
           sym c.get_mut.ensures.value ∙ ap option_copied_mut w.in-Some.is in
           subst IsHub (sym w.self-inside-is) (record {
             made = i.made;
-            bases = λ live. put-served s.slots c.key.result w.in-Some.record.now w.owe.new.self p.screen at (i.bases live)
+            bases = λ live. put-served s.slots c.key.result w.in-Some.record.now w.owe.new.self
+                p.screen at (i.bases live)
                 (subst (λ (r : RecordView). IsServed p.screen r) (sym w.owe.ensures)
                 (present-served p c.args.text.items c.args.base.value (i.made live) is_base));
             present = i.present;
@@ -52,7 +51,8 @@ returns c = elim c.match-get_mut.branch [
       sym c.get_mut.ensures.value ∙ ap option_copied_mut w.in-Some.is in
       ap (λ (h : Inside). state_of (hub_of h)) w.self-inside-is
       ∙ put-client p rs c.key.result w.in-Some.record.now w.owe.new.self at
-      ∙ ap (λ k. with_client (state_of (record { parser = p; records = rs })) k (Some (client_of w.owe.new.self))) is_key
+      ∙ ap (λ k. with_client (state_of (record { parser = p; records = rs })) k (Some (client_of w.owe.new.self)))
+      is_key
       ∙ ap (λ (r : RecordView). with_client (state_of (record { parser = p; records = rs })) c.args.client
       (Some (client_of r))) w.owe.ensures
       ∙ ap (λ (v : ScreenView). with_client (state_of (record { parser = p; records = rs })) c.args.client

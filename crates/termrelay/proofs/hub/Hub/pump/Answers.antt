@@ -1,4 +1,4 @@
-use Rattle.std.proofs.Common.{◌≡◌, ℕ, List, drop, ap, sym, ◌∙◌, refl, subst, Option, Some, None, Ok, Err, Result, slice_set}
+use Rattle.std.proofs.Common.{◌≡◌, ℕ, List, drop, ap, sym, ◌∙◌, refl, subst, Option, Some, None, Ok, Err, Result}
 use Rattle.std.specs.Option.{option_map, option_copied_mut}
 use Rattle.std.specs.declared.io.Error.{Error}
 use Rattle.slab.specs.Slab.{Slab, get, with_value}
@@ -18,7 +18,8 @@ module _ {S : Type 0} (step : S → List ℕ → Result ℕ Error → S → Type
   client-pumped : (p : ParserView (Unit {0})) (s : Slab RecordView) (key : ℕ) (old new : RecordView) (from to : S)
       (end : Result (Unit {0}) Error) (n : ℕ) → get s key ≡ Some old → Pumps step from old.owed end n to
       → new ≡ record old { owed = drop n old.owed }
-      → PumpsClient step (state_of (holding p s)) key from (pump_answer end) to (state_of (holding p (with_value s key new)))
+      → PumpsClient step (state_of (holding p s)) key from (pump_answer end) to
+      (state_of (holding p (with_value s key new)))
   client-pumped p s key old new from to end n found pumps is =
       subst (λ (o : Option RecordView). PumpsFrom step (state_of (holding p s)) key (option_map client_of o) from
       (pump_answer end) to (state_of (holding p (with_value s key new)))) (sym found) (
@@ -58,7 +59,8 @@ returns g c =
     let key = c.key.result in
     let from = c.args.to.now in
     let seen = λ (to : g.row.T.Denot) (answer : Result (Unit {0}) HubError).
-    as-seen step (holding p s) c.args.self.now c.args.client key from to c.match-get_mut.to c.match-get_mut.result answer
+    as-seen step (holding p s) c.args.self.now c.args.client key from to c.match-get_mut.to c.match-get_mut.result
+    answer
     (left-in c.match-get_mut.self-inside) in
     elim c.match-get_mut.branch [
       | in-Some+in-Ok w ↦
@@ -76,7 +78,8 @@ returns g c =
           let new = w.pump.new.self in
           let to = w.pump.new.to in
           let found : get s key ≡ Some old = sym c.get_mut.ensures.value ∙ ap option_copied_mut w.in-Some.is in
-          seen to (Err (Write w.in-Err.error)) (state_of (holding p (with_value s key new))) c.self.view_is c.key.ensures
+          seen to (Err (Write w.in-Err.error)) (state_of (holding p (with_value s key new)))
+          c.self.view_is c.key.ensures
           w.to-is w.result-is (ap left-in w.self-inside-is)
           (client-pumped step p s key old new from to (Err w.in-Err.error) w.pump.ensures.0 found
           (subst (λ (r : Result (Unit {0}) Error). Pumps step from old.owed r w.pump.ensures.0 to) w.in-Err.is

@@ -26,7 +26,8 @@ invariant_of-self c =
     let is : w ≡ alive (resized_to rows cols p.screen.state).state =
     c.in_ok-set_size.ensures.screen ∙ ap (λ (v : ScreenView). alive (resized_to rows cols v.state).state) copy in
     record {
-      made = λ alive. resized-made p (record p { screen = w }) rows cols (c.args.rows.ok, omega arith) (c.args.cols.ok, omega arith) (c.self.invariant.made live)
+      made = λ alive. resized-made p (record p { screen = w }) rows cols (c.args.rows.ok, omega arith)
+          (c.args.cols.ok, omega arith) (c.self.invariant.made live)
           (put-in-step p w rows cols is);
       bases = λ alive key. none-served c.clear.new.self w key c.clear.ensures.empty;
       present = tt;

@@ -1,4 +1,4 @@
-use Rattle.std.proofs.Common.{◌≡◌, ℕ, List, ◌++◌, Bool, true, false, ap, sym, ◌∙◌, subst, Option, Some, None}
+use Rattle.std.proofs.Common.{◌≡◌, ℕ, List, ◌++◌, true, false, ap, sym, ◌∙◌, subst, Option, Some, None}
 use denote.Enum.Bare.{sameb}
 use Rattle.std.specs.Option.{option_copied, option_map, IfSome}
 use Rattle.vt100_forms.specs.Form.{spell}
@@ -15,7 +15,9 @@ use Rattle.termrelay.specs.declared.answer.Answer.{Answer}
 use Rattle.termrelay.specs.declared.answer.Answer.TheVariants.{Full, Difference, Unsure, Unchanged, Behind}
 use Rattle.termrelay.proofs.DueLemmas.{full-text, difference-text, redraw-text, text-joined, two-joined}
 use Rattle.termrelay.proofs.record.Record.frame_text.Goals as goal
-use Rattle.termrelay.proofs.record.Record.frame_text.Goals.{in-None+in_ok-state_formatted-in-None+in_ok-extend_from_slice-in-None, in-Some+in_ok-state_diff-in-Some+in_ok-extend_from_slice-in-Some, in-Some-2+in_ok-contents_formatted-in-Some-2+in_ok-extend_from_slice-in-Some-2+in_ok-input_mode_diff-in-Some-2+in_ok-extend_from_slice-in-Some-2-2}
+use Rattle.termrelay.proofs.record.Record.frame_text.Goals.{in-None+in_ok-state_formatted-in-None+in_ok-extend_from_slice-in-None}
+use Rattle.termrelay.proofs.record.Record.frame_text.Goals.{in-Some+in_ok-state_diff-in-Some+in_ok-extend_from_slice-in-Some}
+use Rattle.termrelay.proofs.record.Record.frame_text.Goals.{in-Some-2+in_ok-contents_formatted-in-Some-2+in_ok-extend_from_slice-in-Some-2+in_ok-input_mode_diff-in-Some-2+in_ok-extend_from_slice-in-Some-2-2}
 
 is-difference : (a : Answer) → sameb the_type a Difference ≡ true → a ≡ Difference
 is-difference Full h = cc
@@ -56,19 +58,22 @@ returns-clause-text c =
       | in-Some+in_ok-state_diff-in-Some+in_ok-extend_from_slice-in-Some w ↦
           let v = w.in-Some.base.now in
           let found : c.args.self.now.base ≡ Some v = sym c.base.ensures ∙ ap option_copied w.in-Some.is in
-          let of : IsBaseOf c.args.now.now v = subst (λ o. IfSome o (IsBaseOf c.args.now.now)) found c.requires.served in
+          let of : IsBaseOf c.args.now.now v =
+          subst (λ o. IfSome o (IsBaseOf c.args.now.now)) found c.requires.served in
           let text : w.as_bytes-in-Some.result.now ≡ spell (state_diff z (shown_state v.state) now) =
           w.as_bytes-in-Some.ensures.value
           ∙ w.in_ok-state_diff-in-Some.ensures.shown of.unscrolled c.requires.unscrolled of.size in
           let answered = is-difference c.args.answer (sym w.eq.ensures ∙ w.if-eq.true) in
-          rw (difference-text z (shown_state v.state) now last c.args.answer (ap shown-of found) c.requires.due answered)
+          rw (difference-text z (shown_state v.state) now last c.args.answer (ap shown-of found)
+          c.requires.due answered)
           (joined _ (ap (λ t. t.items) w.text-is ∙ w.in_ok-extend_from_slice-in-Some.ensures.items
           ∙ ap (λ b. c.extend_from_slice.new.self.items ++ b) text))
       | in-Some-2+in_ok-contents_formatted-in-Some-2+in_ok-extend_from_slice-in-Some-2+in_ok-input_mode_diff-in-Some-2+in_ok-extend_from_slice-in-Some-2-2 w ↦
           let v = w.in-Some.base.now in
           let found : c.args.self.now.base ≡ Some v = sym c.base.ensures ∙ ap option_copied w.in-Some.is in
           let drawn : w.as_bytes-in-Some-2.result.now ≡ spell (contents_formatted z now) =
-          w.as_bytes-in-Some-2.ensures.value ∙ w.in_ok-contents_formatted-in-Some-2.ensures.shown c.requires.unscrolled in
+          w.as_bytes-in-Some-2.ensures.value ∙ w.in_ok-contents_formatted-in-Some-2.ensures.shown
+          c.requires.unscrolled in
           let modes : w.as_bytes-in-Some-2-2.result.now ≡ spell (input_mode_diff (shown_state v.state) now) =
           w.as_bytes-in-Some-2-2.ensures.value ∙ w.in_ok-input_mode_diff-in-Some-2.ensures.text in
           let other = not-difference c.args.answer (sym w.eq.ensures ∙ w.if-eq.false) in

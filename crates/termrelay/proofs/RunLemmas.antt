@@ -1,0 +1,64 @@
+-- One call more.
+use Rattle.std.proofs.Common.{◌≡◌, ◌∙◌, ℕ, ◌+◌, ◌<◌, ◌≤◌, List, [], ◌∷◌, ◌++◌, map, take, length, Result, Err}
+use Rattle.std.proofs.Common.{refl, sym, ap, subst, arith, append-nil, append_assoc, get_or}
+use Rattle.std.proofs.lemmas.List.{take-map, take_more, take_all, length-map, map-append}
+use Rattle.termrelay.specs.declared.call.Reply.{Reply}
+use Rattle.termrelay.specs.declared.call.Call.{Call as Given}
+use Rattle.termrelay.specs.declared.error.HubError.{HubError}
+use Rattle.termrelay.specs.declared.error.HubError.TheVariants.{Memory}
+use Rattle.termrelay.specs.Hub.{HubState}
+use Rattle.termrelay.specs.Calls.{Call, call_of, IsCall, Serves}
+use Rattle.termrelay.specs.Log.{SessionView, LogView, sessions_after, RunsLogged, ServesLogged, MadeAll, RunsCalls}
+
+runs-more : (h g k : HubState) (ss ts us : List SessionView) (calls : List Call) (replies : List Reply) (call : Call)
+    (reply : Reply) → RunsLogged h ss calls replies g ts → IsCall call → Serves g call reply k
+    → us ≡ sessions_after g call reply ts → RunsLogged h ss (calls ++ call ∷ []) (replies ++ reply ∷ []) k us
+runs-more h g k ss ts us [] [] call reply run is serves e = (
+  k,
+  is,
+  subst (λ x. Serves x call reply k) run.0 serves,
+  (refl, e ∙ ap (λ x. sessions_after x call reply ts) run.0 ∙ ap (sessions_after h call reply) run.1),
+)
+runs-more h g k ss ts us [] (r ∷ rs) call reply run is serves e = absurd run
+runs-more h g k ss ts us (c ∷ cs) [] call reply run is serves e = absurd run
+runs-more h g k ss ts us (c ∷ cs) (r ∷ rs) call reply (m, first, served, later) is serves e =
+    (m, first, served, runs-more m g k (sessions_after h c r ss) ts us cs rs call reply later is serves e)
+
+pub made-none : (h : HubState) (l : LogView) → MadeAll h l [] h l
+made-none h l = ([], sym (append-nil l.replies), (refl, refl))
+
+made-one : (h g k : HubState) (l m o : LogView) (calls : List Call) (call : Call) → MadeAll h l calls g m
+    → ServesLogged g call k m o → MadeAll h l (calls ++ call ∷ []) k o
+made-one h g k l m o calls call (replies, are, runs) (reply, is, serves, told, kept) = (
+  replies ++ reply ∷ [],
+  told ∙ ap (λ xs. xs ++ reply ∷ []) are ∙ append_assoc l.replies replies (reply ∷ []),
+  runs-more h g k l.sessions m.sessions o.sessions calls replies call reply runs is serves kept,
+)
+
+pub made-more : (h g k : HubState) (l m o : LogView) (calls : List Given) (n : ℕ) (call : Given) → n < length calls
+    → call ≡ get_or calls n call → MadeAll h l (map call_of (take n calls)) g m → ServesLogged g (call_of call) k m o
+    → MadeAll h l (map call_of (take (n + 1) calls)) k o
+made-more h g k l m o calls n call lt is made serves =
+    let one : map call_of (take (n + 1) calls) ≡ map call_of (take n calls) ++ call_of call ∷ [] =
+    ap (map call_of) (take_more calls n call lt) ∙ map-append call_of (take n calls) (get_or calls n call ∷ [])
+    ∙ ap (λ c. map call_of (take n calls) ++ call_of c ∷ []) (sym is) in
+    subst (λ cs. MadeAll h l cs k o) (sym one)
+    (made-one h g k l m o (map call_of (take n calls)) (call_of call) made serves)
+
+pub made-all : (h g : HubState) (l m : LogView) (calls : List Given) (n : ℕ) → length calls ≤ n
+    → MadeAll h l (map call_of (take n calls)) g m → MadeAll h l (map call_of calls) g m
+made-all h g l m calls n le made = subst (λ cs. MadeAll h l (map call_of cs) g m) (take_all n calls le) made
+
+-- there was no memory for what is kept of a call
+pub made-some : (h g k : HubState) (l m o : LogView) (calls : List Given) (n : ℕ) (result : Result (Unit {0}) HubError)
+    → n < length calls → MadeAll h l (map call_of (take n calls)) g m → k ≡ g → o ≡ m → result ≡ Err Memory
+    → RunsCalls h l (map call_of calls) result k o
+made-some h g k l m o calls n result lt made same kept e =
+    let stays : MadeAll h l (map call_of (take n calls)) k o =
+    subst (λ x. MadeAll h l (map call_of (take n calls)) x o) (sym same)
+    (subst (λ x. MadeAll h l (map call_of (take n calls)) g x) (sym kept) made) in
+    subst (λ r. RunsCalls h l (map call_of calls) r k o) (sym e) (
+      n,
+      omega (arith, lt, length-map calls call_of),
+      subst (λ cs. MadeAll h l cs k o) (sym (take-map call_of n calls)) stays,
+    )

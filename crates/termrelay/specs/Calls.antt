@@ -1,0 +1,90 @@
+-- Calls on a hub, one after another: what each is answered, and the hub after it.
+use Rattle.std.specs.Prelude.{◌≡◌, ℕ, ◌+◌, ◌-◌, ◌==◌, nat_le, List, [], ◌∷◌, length, min, Result, Ok, Err}
+use Rattle.std.specs.Prelude.{if◌then◌else◌}
+use Rattle.std.specs.declared.io.Error.{Error}
+use Rattle.vt100_state.specs.Holds.{IsSide}
+use Rattle.termrelay.specs.Hub.{HubState, Feeds, Resizes, Attaches, Detaches, Frames, PumpsClient}
+use Rattle.termrelay.specs.declared.answer.Answer.{Answer}
+use Rattle.termrelay.specs.declared.error.HubError.{HubError}
+use Rattle.termrelay.specs.declared.call.Take.{Take}
+use Rattle.termrelay.specs.declared.call.Take.TheVariants.{Bytes, Fault}
+use Rattle.termrelay.specs.declared.call.Reply.{Reply}
+use Rattle.termrelay.specs.declared.call.Reply.TheVariants.{Done, Attached, Answered, Refused}
+use Rattle.termrelay.specs.declared.call.Call.{Call as Given}
+use Rattle.termrelay.specs.declared.call.Call.TheVariants as given
+
+-- ---- writers that are told of
+
+-- One write of these bytes to a writer whose next writes are told: it answers so, and these are told after it. Past the
+-- last one all bytes are taken.
+abbrev pub WritesAsTold : List Take → List ℕ → Result ℕ Error → List Take → Type 0
+WritesAsTold [] bytes answer rest = (answer ≡ Ok (length bytes)) × (rest ≡ [])
+WritesAsTold (Bytes n ∷ takes) bytes answer rest = (answer ≡ Ok (min n (length bytes))) × (rest ≡ takes)
+WritesAsTold (Fault ∷ takes) bytes answer rest = ((e : Error) × (answer ≡ Err e)) × (rest ≡ takes)
+
+-- how many of n bytes such a writer takes
+unfoldable pub taken_by : List Take → ℕ → ℕ
+taken_by [] n = n
+taken_by (Fault ∷ takes) n = 0
+taken_by (Bytes m ∷ takes) n =
+    if m == 0 then 0
+    else if nat_le n m then n
+    else m + taken_by takes (n - m)
+
+-- ---- calls
+
+-- a call by its values
+pub data Call : Type 0 where
+  Feed : List ℕ → Call
+  Resize : (rows cols : ℕ) → Call
+  Attach : Call
+  -- these three are on the client of a key
+  Detach : ℕ → Call
+  Frame : ℕ → Call
+  -- to a writer whose first writes are these; each further one takes all
+  Pump : ℕ → List Take → Call
+
+abbrev pub call_of : Given → Call
+call_of (given.Feed bytes) = Feed bytes.now
+call_of (given.Resize rows cols) = Resize rows.value cols.value
+call_of given.Attach = Attach
+call_of (given.Detach client) = Detach client
+call_of (given.Frame client) = Frame client
+call_of (given.Pump client takes) = Pump client takes.now
+
+-- its numbers are of the code's types
+abbrev pub IsCall : Call → Type 0
+IsCall (Resize rows cols) = IsSide rows × IsSide cols
+IsCall call = Unit {0}
+
+-- ---- replies
+
+abbrev pub replied : {A : Type 0} → (A → Reply) → Result A HubError → Reply
+replied reply (Ok x) = reply x
+replied reply (Err e) = Refused e
+
+abbrev pub done : Result (Unit {0}) HubError → Reply
+done result = replied (λ u. Done) result
+
+-- a hub h gets a call and gives a reply, and is g
+abbrev pub Serves : HubState → Call → Reply → HubState → Type 0
+Serves h (Feed bytes) reply g =
+    (result : Result (Unit {0}) HubError) × Feeds h bytes result g × (reply ≡ done result)
+Serves h (Resize rows cols) reply g =
+    (result : Result (Unit {0}) HubError) × Resizes h rows cols result g × (reply ≡ done result)
+Serves h Attach reply g = (result : Result ℕ HubError) × Attaches h result g × (reply ≡ replied Attached result)
+Serves h (Detach key) reply g =
+    (result : Result (Unit {0}) HubError) × Detaches h key result g × (reply ≡ done result)
+Serves h (Frame key) reply g =
+    (result : Result Answer HubError) × Frames h key result g × (reply ≡ replied Answered result)
+Serves h (Pump key takes) reply g =
+    (result : Result (Unit {0}) HubError) × (rest : List Take)
+    × PumpsClient WritesAsTold h key takes result rest g × (reply ≡ done result)
+
+-- one call after another, with numbers of the code's types
+abbrev pub Runs : HubState → List Call → List Reply → HubState → Type 0
+Runs h [] [] k = k ≡ h
+Runs h (call ∷ calls) (reply ∷ replies) k =
+    (g : HubState) × IsCall call × Serves h call reply g × Runs g calls replies k
+Runs h [] (reply ∷ replies) k = ⊥
+Runs h (call ∷ calls) [] k = ⊥

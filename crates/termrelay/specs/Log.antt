@@ -1,0 +1,107 @@
+-- What is kept of a run of calls: their replies, and the sessions that they began.
+use Rattle.std.specs.Prelude.{◌≡◌, ℕ, ◌<◌, ◌==◌, ◌&&◌, Bool, true, false, not, List, [], ◌∷◌, ◌++◌, map, length, take}
+use Rattle.std.specs.Prelude.{Option, Some, None, Result, Ok, Err, if◌then◌else◌}
+use Rattle.std.specs.List.{list_any}
+use Rattle.termrelay.specs.Answers.{ClientState}
+use Rattle.termrelay.specs.Hub.{HubState, size_in}
+use Rattle.termrelay.specs.Calls.{Call, Resize, Attach, Detach, Pump, taken_by, IsCall, Serves}
+use Rattle.termrelay.specs.declared.call.Take.{Take}
+use Rattle.termrelay.specs.declared.call.Reply.{Reply}
+use Rattle.termrelay.specs.declared.call.Reply.TheVariants.{Done, Attached}
+use Rattle.termrelay.specs.declared.error.HubError.{HubError}
+use Rattle.termrelay.specs.declared.error.HubError.TheVariants.{Memory, Failed, UnknownClient, Write}
+
+-- a session: the key of its client, the screen's size at its attach, the bytes that its pumps' writers took, and
+-- whether it has ended
+pub record SessionView : Type 0 where
+  pub client : ℕ
+  pub rows : ℕ
+  pub cols : ℕ
+  pub pumped : List ℕ
+  pub ended : Bool
+
+-- a log: a reply for each call, and the sessions in the order of their attaches
+pub record LogView : Type 0 where
+  pub replies : List Reply
+  pub sessions : List SessionView
+
+abbrev pub empty_log : LogView
+empty_log = record { replies = []; sessions = [] }
+
+-- ---- sessions
+
+-- it is of this key, and hasn't ended
+abbrev pub is_of : ℕ → SessionView → Bool
+is_of key s = not s.ended && (s.client == key)
+
+-- the last one of which the test is true is changed so
+abbrev pub change_last : {A : Type 0} → (A → Bool) → (A → A) → List A → List A
+change_last test f [] = []
+change_last test f (x ∷ xs) =
+    if list_any test xs then x ∷ change_last test f xs
+    else if test x then f x ∷ xs
+    else x ∷ xs
+
+-- it stands there
+pub record IsLast {A : Type 0} (test : A → Bool) (xs : List A) (at : ℕ) : Type 0 where
+  pub front : List A
+  pub last : A
+  pub back : List A
+  pub parts : xs ≡ front ++ last ∷ back
+  pub place : length front ≡ at
+  pub is : test last ≡ true
+  pub none : list_any test back ≡ false
+
+abbrev pub begun : HubState → ℕ → SessionView
+begun h key = record { client = key; rows = (size_in h).rows; cols = (size_in h).cols; pumped = []; ended = false }
+
+abbrev pub ended : SessionView → SessionView
+ended s = record s { ended = true }
+
+abbrev pub grown : List ℕ → SessionView → SessionView
+grown bytes s = record s { pumped = s.pumped ++ bytes }
+
+-- the bytes that such a writer takes of what the client that may be at a key is owed
+abbrev pub bytes_taken : List Take → Option ClientState → List ℕ
+bytes_taken takes None = []
+bytes_taken takes (Some c) = take (taken_by takes (length c.owed)) c.owed
+
+-- The sessions after a call on a hub h that gets this reply. An attach begins one; a detach ends the last one of its
+-- key that hasn't ended, and a resize ends all; to that last one of its key go a pump's bytes.
+abbrev pub sessions_after : HubState → Call → Reply → List SessionView → List SessionView
+sessions_after h (Resize rows cols) Done ss = map ended ss
+sessions_after h Attach (Attached key) ss = ss ++ begun h key ∷ []
+sessions_after h (Detach key) Done ss = change_last (is_of key) ended ss
+sessions_after h (Pump key takes) reply ss = change_last (is_of key) (grown (bytes_taken takes (h.client key))) ss
+sessions_after h call reply ss = ss
+
+-- a hub h gets a call and is g, and a log l of it is m
+abbrev pub ServesLogged : HubState → Call → HubState → LogView → LogView → Type 0
+ServesLogged h call g l m =
+    (reply : Reply) × IsCall call × Serves h call reply g × (m.replies ≡ l.replies ++ reply ∷ [])
+    × (m.sessions ≡ sessions_after h call reply l.sessions)
+
+-- ---- runs
+
+-- one call after another, with numbers of the code's types: from a hub h and sessions ss to k and ts
+abbrev pub RunsLogged : HubState → List SessionView → List Call → List Reply → HubState → List SessionView → Type 0
+RunsLogged h ss [] [] k ts = (k ≡ h) × (ts ≡ ss)
+RunsLogged h ss (call ∷ calls) (reply ∷ replies) k ts =
+    (g : HubState) × IsCall call × Serves h call reply g
+    × RunsLogged g (sessions_after h call reply ss) calls replies k ts
+RunsLogged h ss [] (reply ∷ replies) k ts = ⊥
+RunsLogged h ss (call ∷ calls) [] k ts = ⊥
+
+-- all the calls were made: the log gets their replies, and its sessions are those after them
+abbrev pub MadeAll : HubState → LogView → List Call → HubState → LogView → Type 0
+MadeAll h l calls g m =
+    (replies : List Reply) × (m.replies ≡ l.replies ++ replies) × RunsLogged h l.sessions calls replies g m.sessions
+
+-- A run of calls on a hub h with a log l, which are g and m then: all were made, or, where there was no memory for what
+-- the log keeps of a call, those before it.
+abbrev pub RunsCalls : HubState → LogView → List Call → Result (Unit {0}) HubError → HubState → LogView → Type 0
+RunsCalls h l calls (Ok u) g m = MadeAll h l calls g m
+RunsCalls h l calls (Err Memory) g m = (n : ℕ) × (n < length calls) × MadeAll h l (take n calls) g m
+RunsCalls h l calls (Err Failed) g m = ⊥
+RunsCalls h l calls (Err UnknownClient) g m = ⊥
+RunsCalls h l calls (Err (Write e)) g m = ⊥

@@ -1,0 +1,201 @@
+//! Runs of calls, and what is kept of them.
+ghost use Rattle.std.specs.Prelude.{◌≡◌, map, OnOk, OnErr, IfOk};
+ghost use Rattle.termrelay.specs.Calls.{Feed, Resize, Attach, Detach, Frame, Pump, Serves, IsCall, call_of};
+ghost use Rattle.termrelay.specs.Hub.{state_of};
+ghost use Rattle.termrelay.specs.Log.{empty_log, sessions_after, ServesLogged, RunsCalls};
+
+use crate::call::{Call, Reply, Take};
+use crate::client::Client;
+use crate::error::HubError;
+use crate::hub::Hub;
+use crate::session::{Session, end_all, end_last, last_of, pump};
+use std::alloc::{AllocError, Global};
+use std::marker::Model;
+use std::num::NonZeroU16;
+
+/// What is kept of runs: what each call was answered, and what was pumped to each client that they attached.
+#[derive(Drop)]
+pub struct Log {
+    replies: Vec<Reply>,
+    sessions: Vec<Session>,
+    alloc: Global,
+}
+
+impl Model for Log {
+    ghost use Rattle.termrelay.specs.Log.{LogView};
+
+    ghost Value = { LogView };
+
+    ghost view = { λ l. record { replies = l.replies.items; sessions = l.sessions.items } };
+}
+
+impl Log {
+    /// Of no calls.
+    pub fn new(alloc: Global) -> Self
+        ensures { result ≡ empty_log }
+    {
+        Log {
+            replies: Vec::new(alloc),
+            sessions: Vec::new(alloc),
+            alloc,
+        }
+    }
+
+    /// What the calls were answered, in order.
+    pub fn replies(&self) -> &[Reply]
+        ensures { result.now ≡ self.now.replies }
+    {
+        &self.replies
+    }
+
+    /// A session for each client that was attached, in order.
+    pub fn sessions(&self) -> &[Session]
+        ensures { result.now ≡ self.now.sessions }
+    {
+        &self.sessions
+    }
+
+    /// Makes a call on a hub, and keeps its reply. Where there is no memory for what is kept, nothing is done.
+    fn serve(&mut self, hub: &mut Hub, call: &Call<'_>) -> Result<(), AllocError>
+        ensures served { OnOk result (ServesLogged (state_of hub.old) (call_of call.now) (state_of hub.new) self.old
+            self.new) }
+        ensures hub { OnErr result (state_of hub.new ≡ state_of hub.old) }
+        ensures same { OnErr result (self.new ≡ self.old) }
+    {
+        self.replies.reserve(1)?;
+        let reply = serve(hub, self.alloc, call, &mut self.sessions)?;
+        self.replies.push_reserved(reply);
+        Ok(())
+    }
+}
+
+/// Makes a call on a hub. Where there is no memory for what is kept of it, nothing is done.
+fn serve(
+    hub: &mut Hub,
+    alloc: Global,
+    call: &Call<'_>,
+    sessions: &mut Vec<Session>,
+) -> Result<Reply, AllocError>
+    ensures call { OnOk result (IsCall (call_of call.now)) }
+    ensures served { IfOk result (λ reply. Serves (state_of hub.old) (call_of call.now) reply (state_of hub.new)) }
+    ensures sessions { IfOk result (λ reply. sessions.new.items
+        ≡ sessions_after (state_of hub.old) (call_of call.now) reply sessions.old.items) }
+    ensures hub { OnErr result (state_of hub.new ≡ state_of hub.old) }
+    ensures same { OnErr result (sessions.new.items ≡ sessions.old.items) }
+{
+    match call {
+        Call::Feed(bytes) => Ok(feed(hub, bytes)),
+        Call::Resize(rows, cols) => Ok(resize(hub, *rows, *cols, sessions)),
+        Call::Attach => attach(hub, alloc, sessions),
+        Call::Detach(client) => Ok(detach(hub, *client, sessions)),
+        Call::Frame(client) => Ok(frame(hub, *client)),
+        Call::Pump(client, takes) => pump_kept(hub, *client, takes, sessions),
+    }
+}
+
+/// Feeds a hub.
+fn feed(hub: &mut Hub, bytes: &[u8]) -> Reply
+    ensures { Serves (state_of hub.old) (Feed bytes.now) result (state_of hub.new) }
+{
+    match hub.feed(bytes) {
+        Ok(()) => Reply::Done,
+        Err(error) => Reply::Refused(error),
+    }
+}
+
+/// Gives a hub's screen another size. Then every session ends.
+fn resize(hub: &mut Hub, rows: NonZeroU16, cols: NonZeroU16, sessions: &mut [Session]) -> Reply
+    ensures call { IsCall (Resize rows.value cols.value) }
+    ensures served { Serves (state_of hub.old) (Resize rows.value cols.value) result (state_of hub.new) }
+    ensures sessions { sessions.new
+        ≡ sessions_after (state_of hub.old) (Resize rows.value cols.value) result sessions.old }
+{
+    match hub.resize(rows, cols) {
+        Ok(()) => {
+            end_all(sessions);
+            Reply::Done
+        }
+        Err(error) => Reply::Refused(error),
+    }
+}
+
+/// Attaches a client to a hub, and begins a session of it. The room for that is made first.
+fn attach(hub: &mut Hub, alloc: Global, sessions: &mut Vec<Session>) -> Result<Reply, AllocError>
+    ensures served { IfOk result (λ reply. Serves (state_of hub.old) Attach reply (state_of hub.new)) }
+    ensures sessions { IfOk result (λ reply. sessions.new.items
+        ≡ sessions_after (state_of hub.old) Attach reply sessions.old.items) }
+    ensures hub { OnErr result (state_of hub.new ≡ state_of hub.old) }
+    ensures same { OnErr result (sessions.new.items ≡ sessions.old.items) }
+{
+    sessions.reserve(1)?;
+    match hub.attach() {
+        Ok(client) => {
+            let (rows, cols) = hub.screen().size();
+            sessions.push_reserved(Session::new(alloc, client, rows, cols));
+            Ok(Reply::Attached(client))
+        }
+        Err(error) => Ok(Reply::Refused(error)),
+    }
+}
+
+/// Ends a client of a hub, and the last session of it that hasn't ended.
+fn detach(hub: &mut Hub, client: Client, sessions: &mut [Session]) -> Reply
+    ensures served { Serves (state_of hub.old) (Detach client) result (state_of hub.new) }
+    ensures sessions { sessions.new ≡ sessions_after (state_of hub.old) (Detach client) result sessions.old }
+{
+    match hub.detach(client) {
+        Ok(()) => {
+            end_last(sessions, client);
+            Reply::Done
+        }
+        Err(error) => Reply::Refused(error),
+    }
+}
+
+/// Asks a hub for a frame for a client.
+fn frame(hub: &mut Hub, client: Client) -> Reply
+    ensures { Serves (state_of hub.old) (Frame client) result (state_of hub.new) }
+{
+    match hub.frame(client) {
+        Ok(answer) => Reply::Answered(answer),
+        Err(error) => Reply::Refused(error),
+    }
+}
+
+/// Pumps a client of a hub to a writer that is told of. What it takes goes to the last session of the client that
+/// hasn't ended, if there is one.
+fn pump_kept(
+    hub: &mut Hub,
+    client: Client,
+    takes: &[Take],
+    sessions: &mut [Session],
+) -> Result<Reply, AllocError>
+    ensures served { IfOk result (λ reply. Serves (state_of hub.old) (Pump client takes.now) reply
+        (state_of hub.new)) }
+    ensures sessions { IfOk result (λ reply. sessions.new
+        ≡ sessions_after (state_of hub.old) (Pump client takes.now) reply sessions.old) }
+    ensures hub { OnErr result (state_of hub.new ≡ state_of hub.old) }
+    ensures same { OnErr result (sessions.new ≡ sessions.old) }
+{
+    match last_of(sessions, client) {
+        Some(at) => sessions[at].pump(hub, takes),
+        None => Ok(pump(hub, client, takes)),
+    }
+}
+
+/// Makes the calls in order, and keeps in the log what each is answered, and what is pumped.
+///
+/// An attach begins a session. A pump's bytes go to the last session of its key that hasn't ended; where there is none,
+/// as for a client that was attached outside, no session changes. A detach ends the last session of its key that hasn't
+/// ended, and a resize ends all. A refusal of a call is its reply, and the run goes on.
+///
+/// Where there is no memory for what the log keeps of a call, the run ends before that call. Room for all that is owed
+/// is made before a pump.
+pub fn run(hub: &mut Hub, calls: &[Call<'_>], log: &mut Log) -> Result<(), HubError>
+    ensures { RunsCalls (state_of hub.old) log.old (map call_of calls.now) result (state_of hub.new) log.new }
+{
+    for call in calls {
+        log.serve(hub, call)?;
+    }
+    Ok(())
+}

@@ -1,0 +1,49 @@
+//! A writer that does what it is told.
+ghost use Rattle.std.specs.Prelude.{List};
+ghost use Rattle.termrelay.specs.Calls.{WritesAsTold};
+
+use crate::call::Take;
+use crate::pump::Taker;
+use std::io;
+use std::io::ErrorKind;
+use std::marker::Model;
+
+/// A writer of which it is told what its next writes do. Past the last one each write takes all.
+#[derive(Drop)]
+pub(crate) struct Script<'a> {
+    takes: &'a [Take],
+}
+
+impl<'a> Model for Script<'a> {
+    ghost use Rattle.std.specs.Prelude.{List};
+    ghost use Rattle.termrelay.specs.declared.call.Take.{Take};
+
+    ghost Value = { List Take };
+
+    ghost view = { λ s. s.takes.now };
+}
+
+impl<'a> Script<'a> {
+    ghost use Rattle.std.specs.Prelude.{◌≡◌};
+
+    pub(crate) fn new(takes: &'a [Take]) -> Self
+        ensures { result ≡ takes.now }
+    {
+        Script { takes }
+    }
+}
+
+impl Taker for Script<'_> {
+    ghost takes = { WritesAsTold };
+
+    fn offer(&mut self, bytes: &[u8]) -> io::Result<usize> {
+        let Some((take, rest)) = self.takes.split_first() else {
+            return Ok(bytes.len());
+        };
+        self.takes = rest;
+        match take {
+            Take::Bytes(n) => Ok((*n).min(bytes.len())),
+            Take::Fault => Err(io::Error::from(ErrorKind::Other)),
+        }
+    }
+}

@@ -1,0 +1,197 @@
+//! What is kept of a client of a run.
+ghost use Rattle.std.specs.Prelude.{◌≡◌, ◌++◌, false, [], length, map, IfOk, OnOk, OnErr, MatchOption};
+ghost use Rattle.std.specs.List.{list_any};
+ghost use Rattle.termrelay.specs.Calls.{Pump, Serves};
+ghost use Rattle.termrelay.specs.Hub.{state_of};
+ghost use Rattle.termrelay.specs.Log.{is_of, change_last, bytes_taken, grown, ended as ended_now, IsLast};
+
+use crate::call::{Reply, Take};
+use crate::client::Client;
+use crate::hub::Hub;
+use crate::script::Script;
+use std::alloc::{AllocError, Global};
+use std::marker::Model;
+use std::num::NonZeroU16;
+
+/// What an attach of a run began.
+#[derive(Drop)]
+pub struct Session {
+    client: Client,
+    rows: NonZeroU16,
+    cols: NonZeroU16,
+    pumped: Vec<u8>,
+    ended: bool,
+}
+
+impl Model for Session {
+    ghost use Rattle.termrelay.specs.Log.{SessionView};
+
+    ghost Value = { SessionView };
+
+    ghost view = { λ s. record {
+      client = s.client;
+      rows = s.rows.value;
+      cols = s.cols.value;
+      pumped = s.pumped.items;
+      ended = s.ended;
+    } };
+}
+
+impl Session {
+    /// Of a client that was attached to a screen of this size.
+    pub(crate) fn new(alloc: Global, client: Client, rows: NonZeroU16, cols: NonZeroU16) -> Self
+        ensures { result ≡ record {
+          client = client;
+          rows = rows.value;
+          cols = cols.value;
+          pumped = [];
+          ended = false;
+        } }
+    {
+        Session {
+            client,
+            rows,
+            cols,
+            pumped: Vec::new(alloc),
+            ended: false,
+        }
+    }
+
+    /// Its client. The key of one that has ended may be another's by now.
+    pub fn client(&self) -> Client
+        ensures { result ≡ self.now.client }
+    {
+        self.client
+    }
+
+    /// How many rows the hub's screen had when the client was attached.
+    pub fn rows(&self) -> NonZeroU16
+        ensures { result.value ≡ self.now.rows }
+    {
+        self.rows
+    }
+
+    /// How many columns it had.
+    pub fn cols(&self) -> NonZeroU16
+        ensures { result.value ≡ self.now.cols }
+    {
+        self.cols
+    }
+
+    /// The bytes that its pumps' writers took.
+    pub fn pumped(&self) -> &[u8]
+        ensures { result.now ≡ self.now.pumped }
+    {
+        &self.pumped
+    }
+
+    /// Whether a later call of a run with its log ended it.
+    pub fn ended(&self) -> bool
+        ensures { result ≡ self.now.ended }
+    {
+        self.ended
+    }
+
+    /// Whether it is of this client, and hasn't ended.
+    pub(crate) fn is_of(&self, client: Client) -> bool
+        ensures { result ≡ is_of client self.now }
+    {
+        !self.ended && self.client == client
+    }
+
+    /// From now on it has ended.
+    pub(crate) fn end(&mut self)
+        ensures { self.new ≡ ended_now self.old }
+    {
+        self.ended = true;
+    }
+
+    /// Pumps its client to a writer that is told of, and keeps the bytes that it takes. Where there is no room for all
+    /// that is owed, nothing is pumped.
+    pub(crate) fn pump(&mut self, hub: &mut Hub, takes: &[Take]) -> Result<Reply, AllocError>
+        ensures served { IfOk result (λ reply. Serves (state_of hub.old) (Pump self.old.client takes.now) reply
+            (state_of hub.new)) }
+        ensures grown { OnOk result (self.new
+            ≡ grown (bytes_taken takes.now ((state_of hub.old).client self.old.client)) self.old) }
+        ensures hub { OnErr result (state_of hub.new ≡ state_of hub.old) }
+        ensures same { OnErr result (self.new ≡ self.old) }
+    {
+        pump_into(hub, self.client, takes, &mut self.pumped)
+    }
+}
+
+/// Pumps a client to a writer that is told of, and puts the bytes that it takes behind others. Where there is no room
+/// for all that is owed, nothing is pumped.
+fn pump_into(
+    hub: &mut Hub,
+    client: Client,
+    takes: &[Take],
+    bytes: &mut Vec<u8>,
+) -> Result<Reply, AllocError>
+    ensures served { IfOk result (λ reply. Serves (state_of hub.old) (Pump client takes.now) reply
+        (state_of hub.new)) }
+    ensures bytes { OnOk result (bytes.new.items
+        ≡ bytes.old.items ++ bytes_taken takes.now ((state_of hub.old).client client)) }
+    ensures hub { OnErr result (state_of hub.new ≡ state_of hub.old) }
+    ensures same { OnErr result (bytes.new.items ≡ bytes.old.items) }
+{
+    let Ok(owed) = hub.owed(client) else {
+        return Ok(pump(hub, client, takes));
+    };
+    bytes.extend_from_slice(owed)?;
+    let reply = pump(hub, client, takes);
+    bytes.truncate(bytes.len() - owed_count(hub, client));
+    Ok(reply)
+}
+
+/// Pumps a client to a writer that is told of.
+pub(crate) fn pump(hub: &mut Hub, client: Client, takes: &[Take]) -> Reply
+    ensures { Serves (state_of hub.old) (Pump client takes.now) result (state_of hub.new) }
+{
+    match hub.pump(client, &mut Script::new(takes)) {
+        Ok(()) => Reply::Done,
+        Err(error) => Reply::Refused(error),
+    }
+}
+
+/// How many bytes the client is owed.
+fn owed_count(hub: &Hub, client: Client) -> usize
+    ensures { MatchOption ((state_of hub.now).client client) (result ≡ 0) (λ c. result ≡ length c.owed) }
+{
+    match hub.owed(client) {
+        Ok(owed) => owed.len(),
+        Err(_) => 0,
+    }
+}
+
+/// Where the last session of the client that hasn't ended stands, if there is one.
+pub(crate) fn last_of(sessions: &[Session], client: Client) -> Option<usize>
+    ensures { MatchOption result (list_any (is_of client) sessions.now ≡ false) (IsLast (is_of client) sessions.now) }
+{
+    let mut at = sessions.len();
+    while at > 0 {
+        at -= 1;
+        if sessions[at].is_of(client) {
+            return Some(at);
+        }
+    }
+    None
+}
+
+/// Ends the last session of the client that hasn't ended, if there is one.
+pub(crate) fn end_last(sessions: &mut [Session], client: Client)
+    ensures { sessions.new ≡ change_last (is_of client) ended_now sessions.old }
+{
+    if let Some(at) = last_of(sessions, client) {
+        sessions[at].end();
+    }
+}
+
+/// Ends every session.
+pub(crate) fn end_all(sessions: &mut [Session])
+    ensures { sessions.new ≡ map ended_now sessions.old }
+{
+    for session in sessions.iter_mut() {
+        session.end();
+    }
+}
