@@ -5,7 +5,8 @@ use Rattle.std.specs.Prelude.{is_some}
 use Rattle.std.specs.Option.{option_map}
 use Rattle.std.proofs.lemmas.Bool.Decides.{nat_tests}
 use Rattle.termrelay.specs.Answers.{ClientState, after_answer}
-use Rattle.faithful.specs.History.{Call, Feed, Resize, Attach, Detach, Frame, Pump, Memory, Failed}
+use Rattle.termrelay.specs.Calls.{Call, Feed, Resize, Attach, Detach, Frame, Pump}
+use Rattle.faithful.specs.History.{Memory, Failed}
 use Rattle.faithful.specs.History.{UnknownClient, Write, Reply, Done, Attached, Answered, Refused, Story, Book}
 use Rattle.faithful.specs.History.{fresh, size_now, shown_now, has_key, found_or, found, changed, begun, ended}
 use Rattle.faithful.specs.History.{answered, pumped_by, book_after, CanReply, CanRun, books_after}

@@ -28,7 +28,8 @@ use Rattle.termview.proofs.KeptTerms.{streams-show}
 use Rattle.faithful.proofs.SmallRows.{AreSmall}
 use Rattle.faithful.proofs.SmallScreens.{HasByteBase, body-small}
 use Rattle.faithful.proofs.ScreenLemmas.{IsShot, shot-screen, IsShotBase, base-is}
-use Rattle.faithful.proofs.FramedForms.{framed, forms-framed, frame-shows, frame-finishes}
+use Rattle.termview.specs.FormFrames.{framed}
+use Rattle.termview.proofs.FramedForms.{forms-framed, frame-shows, frame-finishes}
 
 -- ---- the forms of a frame can be sent
 

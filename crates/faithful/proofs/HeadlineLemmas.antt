@@ -22,7 +22,8 @@ use Rattle.termrelay.specs.Answers.{is_frame, due_from}
 use Rattle.termrelay.specs.declared.answer.Answer.TheVariants.{Unsure}
 use Rattle.termview.specs.Seen.{seen}
 use Rattle.termview.proofs.LawLemmas.{whole_shown, none_torn}
-use Rattle.faithful.specs.History.{Call, Reply, Entry, Story, answer_by}
+use Rattle.termrelay.specs.Calls.{Call}
+use Rattle.faithful.specs.History.{Reply, Entry, Story, answer_by}
 use Rattle.faithful.specs.Judge.{state_at, size_at, shown_at, texts, frame_or, last_frame, last_whole, judged, IsSure}
 use Rattle.faithful.specs.Laws.{base_then, IsAnswered, AreAnswered, IsTold}
 use Rattle.faithful.specs.Headline.{EachTextIsAFrame, WholeFramesAreShown, LastWholeFrameIsShown, NoFrameIsTorn}

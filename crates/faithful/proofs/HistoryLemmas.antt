@@ -15,9 +15,11 @@ use Rattle.vt100_state.proofs.MadeLemmas.{makes-last_size}
 use Rattle.termrelay.specs.Frame.{frame_text}
 use Rattle.termrelay.specs.Answers.{ClientState, is_frame}
 use Rattle.termrelay.specs.declared.answer.Answer.{Answer}
-use Rattle.faithful.specs.History.{Take, Call, Feed, Resize, Attach, Detach, Frame, Pump, Memory, Failed}
+use Rattle.termrelay.specs.declared.call.Take.{Take}
+use Rattle.termrelay.specs.Calls.{Call, Feed, Resize, Attach, Detach, Frame, Pump, IsCall, taken_by}
+use Rattle.faithful.specs.History.{Memory, Failed}
 use Rattle.faithful.specs.History.{UnknownClient, Write, Reply, Done, Attached, Answered, Refused, Entry, Story, Book}
-use Rattle.faithful.specs.History.{IsCall, taken_by, fresh, size_now, shown_now, has_key, found_or, found}
+use Rattle.faithful.specs.History.{fresh, size_now, shown_now, has_key, found_or, found}
 use Rattle.faithful.specs.History.{changed, begun, ended, entry_of, answered, pumped_by, book_after}
 use Rattle.faithful.specs.History.{state_now, answer_by, answer_now, CanFrame, CanReply, CanRun, books_after}
 use Rattle.faithful.specs.Judge.{texts}

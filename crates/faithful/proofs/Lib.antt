@@ -1,9 +1,10 @@
 pub mod SmallRows
 pub mod SmallScreens
 pub mod HistoryLemmas
-pub mod FramedForms
 pub mod ScreenLemmas
 pub mod FrameSteps
 pub mod HeadlineLemmas
 pub mod ClientLemmas
+pub mod LogLemmas
 pub mod ServesLemmas
+pub mod LoggedLemmas

@@ -1,7 +1,7 @@
 -- Runs of a hub are histories.
-use Rattle.std.proofs.Common.{◌≡◌, ◌∙◌, ◌≢◌, ℕ, ◌+◌, ◌-◌, ◌<◌, nat_eq, nat_le, Bool, true, false, List, [], ◌∷◌, ◌++◌}
+use Rattle.std.proofs.Common.{◌≡◌, ◌∙◌, ℕ, ◌+◌, ◌-◌, ◌<◌, nat_eq, Bool, true, false, List, [], ◌∷◌, ◌++◌}
 use Rattle.std.proofs.Common.{drop, length, min, Option, Some, None, Result, Ok, Err, refl, sym, ap, subst, arith}
-use Rattle.std.proofs.Common.{if◌then◌else◌, length-drop}
+use Rattle.std.proofs.Common.{if◌then◌else◌, length-drop, map}
 use Rattle.std.specs.Prelude.{◌==◌}
 use Rattle.std.specs.Option.{option_map}
 use Rattle.std.proofs.lemmas.Bool.Decides.{nat_tests}
@@ -18,16 +18,47 @@ use Rattle.termrelay.specs.Hub.{CanFrame as HubCanFrame}
 use Rattle.termrelay.specs.declared.answer.Answer.{Answer}
 use Rattle.termrelay.specs.declared.error.HubError.{HubError}
 use Rattle.termrelay.specs.declared.error.HubError.TheVariants as hub
-use Rattle.faithful.specs.History.{Take, Bytes, Fault, Call, Feed, Resize, Attach, Detach, Frame, Pump}
+use Rattle.termrelay.specs.declared.call.Take.{Take}
+use Rattle.termrelay.specs.declared.call.Take.TheVariants.{Bytes, Fault}
+use Rattle.termrelay.specs.declared.call.Reply.{Reply as Given}
+use Rattle.termrelay.specs.declared.call.Reply.TheVariants as given
+use Rattle.termrelay.specs.Calls.{Call, Feed, Resize, Attach, Detach, Frame, Pump, taken_by, WritesAsTold, Serves, Runs}
+use Rattle.termrelay.specs.Calls.{done as given-done, replied as given-replied}
+use Rattle.termrelay.specs.Log.{SessionView, sessions_after, RunsLogged}
 use Rattle.faithful.specs.History.{UnknownClient, Write, Reply, Done, Attached, Answered, Refused}
-use Rattle.faithful.specs.History.{taken_by, Story, Book, fresh, state_now, size_now, shown_now, found, changed, ended}
+use Rattle.faithful.specs.History.{Story, Book, fresh, state_now, size_now, shown_now, found, changed, ended}
 use Rattle.faithful.specs.History.{begun, answered, pumped_by, book_after, CanFrame, CanPump, pump_reply, CanReply}
 use Rattle.faithful.specs.History.{CanRun, CanDetach, books_after}
 use Rattle.faithful.specs.Clients.{client_in, with_slot, left_by}
-use Rattle.faithful.specs.Serves.{replied, done, WritesAsTold, Serves, Runs, Matches, EachRunHasAHistory}
-use Rattle.faithful.specs.Serves.{EachPumpIsServed}
+use Rattle.faithful.specs.Serves.{refused, told, Matches, AreLogged, EachRunHasAHistory, EachPumpIsServed}
+use Rattle.faithful.specs.Serves.{EachLogHasAHistory}
 use Rattle.termrelay.proofs.PumpLemmas.{drop-least}
+use Rattle.termrelay.proofs.ScriptLemmas.{takes-nothing, some-owed, first-none, first-fault, first-some, ok-number}
 use Rattle.faithful.proofs.ClientLemmas.{IsOnce, call-once, call-clients}
+use Rattle.faithful.proofs.LogLemmas.{call-logged}
+
+-- ---- replies
+
+-- a call's result, as a history tells it
+abbrev replied : {A : Type 0} → (A → Reply) → Result A HubError → Reply
+replied reply (Ok x) = reply x
+replied reply (Err e) = Refused (refused e)
+
+abbrev done : Result (Unit {0}) HubError → Reply
+done result = replied (λ u. Done) result
+
+done-told : (result : Result (Unit {0}) HubError) → told (given-done result) ≡ done result
+done-told (Ok u) = refl
+done-told (Err e) = refl
+
+attached-told : (result : Result ℕ HubError) → told (given-replied given.Attached result) ≡ replied Attached result
+attached-told (Ok key) = refl
+attached-told (Err e) = refl
+
+answered-told : (result : Result Answer HubError)
+    → told (given-replied given.Answered result) ≡ replied Answered result
+answered-told (Ok answer) = refl
+answered-told (Err e) = refl
 
 -- ---- keys
 
@@ -197,101 +228,6 @@ module _ (h : HubState) (b : Book) (m : Matches h b) where
 
 -- ---- pumps
 
--- how many bytes a first write takes, where it takes them
-bytes-few : (j n : ℕ) (takes : List Take) → nat_eq j 0 ≡ false → nat_le n j ≡ true → taken_by (Bytes j ∷ takes) n ≡ n
-unfolding taken_by
-bytes-few j n takes h k =
-    ap (λ b. if b then 0 else if nat_le n j then n else j + taken_by takes (n - j)) h
-    ∙ ap (λ b. if b then n else j + taken_by takes (n - j)) k
-
-bytes-many : (j n : ℕ) (takes : List Take) → nat_eq j 0 ≡ false → nat_le n j ≡ false
-    → taken_by (Bytes j ∷ takes) n ≡ j + taken_by takes (n - j)
-unfolding taken_by
-bytes-many j n takes h k =
-    ap (λ b. if b then 0 else if nat_le n j then n else j + taken_by takes (n - j)) h
-    ∙ ap (λ b. if b then n else j + taken_by takes (n - j)) k
-
-bytes-none : (j n : ℕ) (takes : List Take) → nat_eq j 0 ≡ true → taken_by (Bytes j ∷ takes) n ≡ 0
-unfolding taken_by
-bytes-none j n takes h = ap (λ b. if b then 0 else if nat_le n j then n else j + taken_by takes (n - j)) h
-
-fault-none : (n : ℕ) (takes : List Take) → taken_by (Fault ∷ takes) n ≡ 0
-unfolding taken_by
-fault-none n takes = refl
-
-told-all : (n : ℕ) → taken_by [] n ≡ n
-unfolding taken_by
-told-all n = refl
-
-nothing-by : (j : ℕ) (takes : List Take) (b : Bool) → nat_eq j 0 ≡ b → taken_by (Bytes j ∷ takes) 0 ≡ 0
-nothing-by j takes true e = bytes-none j 0 takes e
-nothing-by j takes false e = bytes-few j 0 takes e (grind (arith, nat_tests))
-
-takes-nothing : (takes : List Take) → taken_by takes 0 ≡ 0
-takes-nothing [] = told-all 0
-takes-nothing (Bytes j ∷ takes) = nothing-by j takes (nat_eq j 0) refl
-takes-nothing (Fault ∷ takes) = fault-none 0 takes
-
-some-owed : (owed : List ℕ) → owed ≢ [] → 0 < length owed
-some-owed [] h = absurd (h refl)
-some-owed (x ∷ xs) h = omega arith
-
-ok-same : (m n : ℕ) → (let left : Result ℕ Error = Ok m in left) ≡ Ok n → m ≡ n
-ok-same m n h = cc
-
-ok-number : (m n : ℕ) → m ≡ n → (let left : Result ℕ Error = Ok m in left) ≡ Ok n
-ok-number m n h = ap (λ k. Ok k) h
-
-first-none : (takes rest : List Take) (owed : List ℕ) → owed ≢ [] → WritesAsTold takes owed (Ok 0) rest
-    → taken_by takes (length owed) ≡ 0
-first-none [] rest owed owes told =
-    told-all (length owed) ∙ sym (ok-same 0 (length owed) told.0)
-first-none (Bytes j ∷ takes) rest owed owes told =
-    let zero : 0 ≡ min j (length owed) = ok-same 0 (min j (length owed)) told.0 in
-    let more = some-owed owed owes in
-    bytes-none j (length owed) takes (grind (arith, nat_tests))
-first-none (Fault ∷ takes) rest owed owes told = fault-none (length owed) takes
-
-first-fault : (takes rest : List Take) (owed : List ℕ) (e : Error) → WritesAsTold takes owed (Err e) rest
-    → taken_by takes (length owed) ≡ 0
-first-fault [] rest owed e told = absurd (let no : Err e ≡ Ok (length owed) = told.0 in cc)
-first-fault (Bytes j ∷ takes) rest owed e told = absurd (let no : Err e ≡ Ok (min j (length owed)) = told.0 in cc)
-first-fault (Fault ∷ takes) rest owed e told = fault-none (length owed) takes
-
-first-by : (j n first : ℕ) (takes : List Take) (b : Bool) → nat_le n j ≡ b → 0 < first → first ≡ min j n
-    → taken_by (Bytes j ∷ takes) n ≡ min first n + taken_by takes (n - first)
-first-by j n first takes true e pos is =
-    let whole : n - first ≡ 0 = grind (arith, nat_tests) in
-    bytes-few j n takes (grind (arith, nat_tests)) e
-    ∙ (let same : n ≡ min first n + 0 = grind (arith, nat_tests) in same)
-    ∙ sym (ap (λ k. min first n + k) (ap (taken_by takes) whole ∙ takes-nothing takes))
-first-by j n first takes false e pos is =
-    let one : first ≡ j = grind (arith, nat_tests) in
-    let least : j ≡ min first n = grind (arith, nat_tests) in
-    bytes-many j n takes (grind (arith, nat_tests)) e
-    ∙ ap (λ k. k + taken_by takes (n - j)) least
-    ∙ sym (ap (λ k. min first n + taken_by takes (n - k)) one)
-
-first-some : (takes rest : List Take) (owed : List ℕ) (first : ℕ) → 0 < first → WritesAsTold takes owed (Ok first) rest
-    → (taken_by takes (length owed) ≡ min first (length owed) + taken_by rest (length owed - first))
-    × (first ≡ min first (length owed))
-first-some [] rest owed first pos told =
-    let one = ok-same first (length owed) told.0 in
-    let whole : length owed - first ≡ 0 = omega arith in (
-      told-all (length owed)
-          ∙ (let same : length owed ≡ min first (length owed) + 0 = omega arith in same)
-          ∙ sym (ap (λ k. min first (length owed) + k) (ap (taken_by rest) whole ∙ takes-nothing rest)),
-      omega arith,
-    )
-first-some (Bytes j ∷ takes) rest owed first pos told =
-    let is = ok-same first (min j (length owed)) told.0 in (
-      first-by j (length owed) first takes (nat_le (length owed) j) refl pos is
-          ∙ ap (λ ts. min first (length owed) + taken_by ts (length owed - first)) (sym told.1),
-      omega arith,
-    )
-first-some (Fault ∷ takes) rest owed first pos told =
-    absurd (let no : Ok first ≡ Err told.0.0 = told.0.1 in cc)
-
 -- how a pump that takes so many of n bytes is answered
 abbrev ends : ℕ → ℕ → Reply
 ends taken n = if taken == n then Done else Refused Write
@@ -365,40 +301,62 @@ module _ (h : HubState) (b : Book) (m : Matches h b) where
       → Follows b call g reply
   follows call g reply told e f = subst (λ r. Follows b call g r) (sym e) f
 
-  served-follows : (call : Call) (reply : Reply) (g : HubState) → IsOnce b.stories → Serves h call reply g
-      → Follows b call g reply
+  served-follows : (call : Call) (reply : Given) (g : HubState) → IsOnce b.stories → Serves h call reply g
+      → Follows b call g (told reply)
   served-follows (Feed bytes) reply g once (result, f, is) =
-      follows (Feed bytes) g reply (done result) is (fed-follows h b m bytes result g f)
+      follows (Feed bytes) g (told reply) (done result) (ap told is ∙ done-told result)
+      (fed-follows h b m bytes result g f)
   served-follows (Resize rows cols) reply g once (result, f, is) =
-      follows (Resize rows cols) g reply (done result) is (resized-follows h b m rows cols result g once f)
+      follows (Resize rows cols) g (told reply) (done result) (ap told is ∙ done-told result)
+      (resized-follows h b m rows cols result g once f)
   served-follows Attach reply g once (result, f, is) =
-      follows Attach g reply (replied Attached result) is (attached-follows h b m result g once f)
+      follows Attach g (told reply) (replied Attached result) (ap told is ∙ attached-told result)
+      (attached-follows h b m result g once f)
   served-follows (Detach key) reply g once (result, f, is) =
-      follows (Detach key) g reply (done result) is
+      follows (Detach key) g (told reply) (done result) (ap told is ∙ done-told result)
       (detached-follows h b m key result g (found key b.stories) once refl
       (subst (λ c. DetachesFrom h key c result g) (m.clients key) f))
   served-follows (Frame key) reply g once (result, f, is) =
-      follows (Frame key) g reply (replied Answered result) is
+      follows (Frame key) g (told reply) (replied Answered result) (ap told is ∙ answered-told result)
       (framed-follows h b m key result g (found key b.stories) once refl
       (subst (λ c. HubCanFrame h.parser.screen c result) (m.clients key) f.0)
       (f.1 ∙ ap (λ c. framed h key c result) (m.clients key)))
   served-follows (Pump key takes) reply g once (result, rest, f, is) =
-      follows (Pump key takes) g reply (done result) is
+      follows (Pump key takes) g (told reply) (done result) (ap told is ∙ done-told result)
       (pumped-follows key takes rest result g (found key b.stories) once refl
       (subst (λ c. PumpsFrom WritesAsTold h key c takes result rest g) (m.clients key) f))
 
 -- ---- runs
 
-run-follows : (h g : HubState) (b : Book) (calls : List Call) (replies : List Reply) → Matches h b → IsOnce b.stories
-    → Runs h calls replies g → CanRun b calls replies × Matches g (books_after b calls replies)
+run-follows : (h g : HubState) (b : Book) (calls : List Call) (replies : List Given) → Matches h b → IsOnce b.stories
+    → Runs h calls replies g
+    → CanRun b calls (map told replies) × Matches g (books_after b calls (map told replies))
 run-follows h g b [] [] m once run = (tt, subst (λ x. Matches x b) (sym run) m)
 run-follows h g b [] (reply ∷ replies) m once run = absurd run
 run-follows h g b (call ∷ calls) [] m once run = absurd run
 run-follows h g b (call ∷ calls) (reply ∷ replies) m once (k, is, serves, later) =
     let first = served-follows h b m call reply k once serves in
-    let rest = run-follows k g (book_after b call reply) calls replies first.1
-    (call-once b call reply first.0 once) later in
+    let rest = run-follows k g (book_after b call (told reply)) calls replies first.1
+    (call-once b call (told reply) first.0 once) later in
     ((is, first.0, rest.0), rest.1)
+
+-- and what a log keeps of them
+log-follows : (h g : HubState) (b : Book) (calls : List Call) (replies : List Given) (ss ts : List SessionView)
+    → Matches h b → IsOnce b.stories → AreLogged ss b.stories → RunsLogged h ss calls replies g ts
+    → CanRun b calls (map told replies) × Matches g (books_after b calls (map told replies))
+    × AreLogged ts (books_after b calls (map told replies)).stories
+log-follows h g b [] [] ss ts m once logged run = (
+  tt,
+  subst (λ x. Matches x b) (sym run.0) m,
+  subst (λ xs. AreLogged xs b.stories) (sym run.1) logged,
+)
+log-follows h g b [] (reply ∷ replies) ss ts m once logged run = absurd run
+log-follows h g b (call ∷ calls) [] ss ts m once logged run = absurd run
+log-follows h g b (call ∷ calls) (reply ∷ replies) ss ts m once logged (k, is, serves, later) =
+    let first = served-follows h b m call reply k once serves in
+    let rest = log-follows k g (book_after b call (told reply)) calls replies (sessions_after h call reply ss) ts
+    first.1 (call-once b call (told reply) first.0 once) (call-logged h b m ss logged call reply first.0) later in
+    ((is, first.0, rest.0), rest.1, rest.2)
 
 new-matches : (rows cols : ℕ) (h : HubState) → IsNewHub rows cols h → Matches h (fresh rows cols)
 new-matches rows cols h new = record {
@@ -410,6 +368,10 @@ new-matches rows cols h new = record {
 pub runs-follow : EachRunHasAHistory
 runs-follow rows cols calls replies h g new run =
     run-follows h g (fresh rows cols) calls replies (new-matches rows cols h new) tt run
+
+pub logs-follow : EachLogHasAHistory
+logs-follow rows cols calls replies h g ss new run =
+    log-follows h g (fresh rows cols) calls replies [] ss (new-matches rows cols h new) tt tt run
 
 -- ---- any writer, told of
 

@@ -2,8 +2,10 @@
 use Rattle.std.specs.Prelude.{◌≡◌, ℕ, nat_eq, List, length, drop, Option, Some, None, if◌then◌else◌}
 use Rattle.std.specs.Option.{option_map}
 use Rattle.termrelay.specs.Answers.{ClientState, after_answer}
-use Rattle.faithful.specs.History.{Take, Call, Resize, Attach, Detach, Frame, Pump, Reply, Done, Attached, Answered}
-use Rattle.faithful.specs.History.{Book, taken_by, fresh, size_now, shown_now, found, nothing_kept, book_after}
+use Rattle.termrelay.specs.declared.call.Take.{Take}
+use Rattle.termrelay.specs.Calls.{Call, Resize, Attach, Detach, Frame, Pump, taken_by}
+use Rattle.faithful.specs.History.{Reply, Done, Attached, Answered}
+use Rattle.faithful.specs.History.{Book, fresh, size_now, shown_now, found, nothing_kept, book_after}
 use Rattle.faithful.specs.History.{CanReply, CanRun, books_after}
 
 abbrev pub client_in : Book → ℕ → Option ClientState

@@ -3,7 +3,9 @@ use Rattle.std.specs.Prelude.{◌≡◌, ℕ, List, [], ◌∷◌, codes, length
 use Rattle.vt100_state.specs.Made.{Fed, Resized}
 use Rattle.termrelay.specs.declared.answer.Answer.{Answer}
 use Rattle.termrelay.specs.declared.answer.Answer.TheVariants.{Full, Unchanged, Behind}
-use Rattle.faithful.specs.History.{Bytes, Fault, Call, Feed, Resize, Attach, Frame, Pump, UnknownClient, Write, Reply}
+use Rattle.termrelay.specs.declared.call.Take.TheVariants.{Bytes, Fault}
+use Rattle.termrelay.specs.Calls.{Call, Feed, Resize, Attach, Frame, Pump}
+use Rattle.faithful.specs.History.{UnknownClient, Write, Reply}
 use Rattle.faithful.specs.History.{Done, Attached, Answered, Refused, Entry, Story, Book, fresh, CanRun, books_after}
 use Rattle.faithful.specs.Judge.{last_whole}
 

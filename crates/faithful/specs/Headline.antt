@@ -8,7 +8,8 @@ use Rattle.vt100_picture.specs.Term.{shown_of}
 use Rattle.termrelay.specs.Answers.{is_frame}
 use Rattle.termrelay.specs.declared.answer.Answer.TheVariants.{Unsure}
 use Rattle.termview.specs.Seen.{seen}
-use Rattle.faithful.specs.History.{Call, Reply, Entry, Story}
+use Rattle.termrelay.specs.Calls.{Call}
+use Rattle.faithful.specs.History.{Reply, Entry, Story}
 use Rattle.faithful.specs.Judge.{texts, last_frame, last_whole, judged, IsSure}
 use Rattle.faithful.specs.Laws.{IsSession}
 

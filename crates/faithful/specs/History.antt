@@ -1,32 +1,18 @@
 -- What happens to a hub and its clients, as the calls and their replies tell it.
-use Rattle.std.specs.Prelude.{◌≡◌, ℕ, ◌+◌, ◌-◌, ◌==◌, nat_eq, nat_le, Bool, true, false, ◌&&◌, List, [], ◌∷◌, ◌++◌, map}
+use Rattle.std.specs.Prelude.{◌≡◌, ℕ, ◌==◌, nat_eq, Bool, true, false, ◌&&◌, List, [], ◌∷◌, ◌++◌, map}
 use Rattle.std.specs.Prelude.{length, take, drop, Option, Some, None, is_some, if◌then◌else◌}
 use Rattle.vt100_picture.specs.Term.{Size, Shown}
 use Rattle.vt100_core.specs.Picture.{size_of}
 use Rattle.vt100_state.specs.State.{State}
 use Rattle.vt100_state.specs.Shown.{shown_state}
 use Rattle.vt100_state.specs.Made.{Act, Fed, Resized, made}
-use Rattle.vt100_state.specs.Holds.{IsSide}
 use Rattle.termrelay.specs.Frame.{frame_text}
 use Rattle.termrelay.specs.Answers.{ClientState, is_frame, answer_of, after_answer}
 use Rattle.termrelay.specs.declared.answer.Answer.{Answer}
+use Rattle.termrelay.specs.declared.call.Take.{Take}
+use Rattle.termrelay.specs.Calls.{Call, Feed, Resize, Attach, Detach, Frame, Pump, taken_by, IsCall}
 
--- ---- calls and replies
-
--- one write of a pump's writer: it takes so many bytes at most, or fails
-pub data Take : Type 0 where
-  Bytes : ℕ → Take
-  Fault : Take
-
-pub data Call : Type 0 where
-  Feed : List ℕ → Call
-  Resize : (rows cols : ℕ) → Call
-  Attach : Call
-  -- these three are on the client of a key
-  Detach : ℕ → Call
-  Frame : ℕ → Call
-  -- to a writer whose first writes are these; each further one takes all
-  Pump : ℕ → List Take → Call
+-- ---- replies
 
 -- there is no memory, the hub has failed, no client has the key, or the writer failed or took nothing
 pub data Refusal : Type 0 where
@@ -40,20 +26,6 @@ pub data Reply : Type 0 where
   Attached : ℕ → Reply
   Answered : Answer → Reply
   Refused : Refusal → Reply
-
--- its numbers are of the code's types
-abbrev pub IsCall : Call → Type 0
-IsCall (Resize rows cols) = IsSide rows × IsSide cols
-IsCall call = Unit {0}
-
--- how many of n bytes a writer takes
-unfoldable pub taken_by : List Take → ℕ → ℕ
-taken_by [] n = n
-taken_by (Fault ∷ takes) n = 0
-taken_by (Bytes m ∷ takes) n =
-    if m == 0 then 0
-    else if nat_le n m then n
-    else m + taken_by takes (n - m)
 
 -- ---- histories
 

@@ -4,7 +4,8 @@ use Rattle.vt100_picture.specs.Term.{Size, Shown}
 use Rattle.vt100_state.specs.Holds.{IsSide, AreActs}
 use Rattle.termrelay.specs.Frame.{frame_text}
 use Rattle.termrelay.specs.Answers.{is_frame}
-use Rattle.faithful.specs.History.{Call, Reply, Entry, Story, fresh, answer_by, CanRun, books_after}
+use Rattle.termrelay.specs.Calls.{Call}
+use Rattle.faithful.specs.History.{Reply, Entry, Story, fresh, answer_by, CanRun, books_after}
 use Rattle.faithful.specs.Judge.{state_at, size_at, shown_at, texts}
 
 -- what was shown at the last frame, where there was one, and the frame's text

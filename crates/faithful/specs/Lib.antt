@@ -5,3 +5,4 @@ pub mod Headline
 pub mod Examples
 pub mod Clients
 pub mod Serves
+pub mod Logged

@@ -1,14 +1,17 @@
--- The calls of a hub, with their replies: which of them are served, and what is then held.
-use Rattle.std.specs.Prelude.{◌≡◌, ℕ, false, List, [], ◌∷◌, length, min, Result, Ok, Err}
+-- The calls of a hub, with their replies, as a history tells them.
+use Rattle.std.specs.Prelude.{◌≡◌, ℕ, false, not, List, [], ◌∷◌, map, Result}
 use Rattle.std.specs.declared.io.Error.{Error}
 use Rattle.vt100.specs.Parsing.{StandsAt}
-use Rattle.termrelay.specs.Hub.{HubState, is_failed, IsNewHub, Feeds, Resizes, Attaches, Detaches, Frames, PumpsClient}
-use Rattle.termrelay.specs.declared.answer.Answer.{Answer}
+use Rattle.termrelay.specs.Hub.{HubState, is_failed, IsNewHub, PumpsClient}
+use Rattle.termrelay.specs.Calls.{Call, Pump, done, Serves, Runs}
+use Rattle.termrelay.specs.Log.{SessionView, RunsLogged}
+use Rattle.termrelay.specs.declared.call.Take.{Take}
+use Rattle.termrelay.specs.declared.call.Reply.{Reply as Given}
+use Rattle.termrelay.specs.declared.call.Reply.TheVariants as given
 use Rattle.termrelay.specs.declared.error.HubError.{HubError}
 use Rattle.termrelay.specs.declared.error.HubError.TheVariants as hub
-use Rattle.faithful.specs.History.{Take, Bytes, Fault, Call, Feed, Resize, Attach, Detach, Frame, Pump, IsCall}
 use Rattle.faithful.specs.History.{Refusal, Memory, Failed, UnknownClient, Write, Reply, Done, Attached, Answered}
-use Rattle.faithful.specs.History.{Refused, Book, fresh, CanRun, books_after}
+use Rattle.faithful.specs.History.{Refused, Story, Book, fresh, CanRun, books_after}
 use Rattle.faithful.specs.Clients.{client_in}
 
 -- ---- replies
@@ -20,44 +23,11 @@ refused hub.Failed = Failed
 refused hub.UnknownClient = UnknownClient
 refused (hub.Write e) = Write
 
-abbrev pub replied : {A : Type 0} → (A → Reply) → Result A HubError → Reply
-replied reply (Ok x) = reply x
-replied reply (Err e) = Refused (refused e)
-
-abbrev pub done : Result (Unit {0}) HubError → Reply
-done result = replied (λ u. Done) result
-
--- ---- calls
-
--- One write of these bytes to a writer whose next writes are told: it answers so, and these are told after it. Past the
--- last one all bytes are taken.
-abbrev pub WritesAsTold : List Take → List ℕ → Result ℕ Error → List Take → Type 0
-WritesAsTold [] bytes answer rest = (answer ≡ Ok (length bytes)) × (rest ≡ [])
-WritesAsTold (Bytes n ∷ takes) bytes answer rest = (answer ≡ Ok (min n (length bytes))) × (rest ≡ takes)
-WritesAsTold (Fault ∷ takes) bytes answer rest = ((e : Error) × (answer ≡ Err e)) × (rest ≡ takes)
-
--- a hub h gets a call and gives a reply, and is g
-abbrev pub Serves : HubState → Call → Reply → HubState → Type 0
-Serves h (Feed bytes) reply g =
-    (result : Result (Unit {0}) HubError) × Feeds h bytes result g × (reply ≡ done result)
-Serves h (Resize rows cols) reply g =
-    (result : Result (Unit {0}) HubError) × Resizes h rows cols result g × (reply ≡ done result)
-Serves h Attach reply g = (result : Result ℕ HubError) × Attaches h result g × (reply ≡ replied Attached result)
-Serves h (Detach key) reply g =
-    (result : Result (Unit {0}) HubError) × Detaches h key result g × (reply ≡ done result)
-Serves h (Frame key) reply g =
-    (result : Result Answer HubError) × Frames h key result g × (reply ≡ replied Answered result)
-Serves h (Pump key takes) reply g =
-    (result : Result (Unit {0}) HubError) × (rest : List Take)
-    × PumpsClient WritesAsTold h key takes result rest g × (reply ≡ done result)
-
--- one call after another, with numbers of the code's types
-abbrev pub Runs : HubState → List Call → List Reply → HubState → Type 0
-Runs h [] [] k = k ≡ h
-Runs h (call ∷ calls) (reply ∷ replies) k =
-    (g : HubState) × IsCall call × Serves h call reply g × Runs g calls replies k
-Runs h [] (reply ∷ replies) k = ⊥
-Runs h (call ∷ calls) [] k = ⊥
+abbrev pub told : Given → Reply
+told given.Done = Done
+told (given.Attached key) = Attached key
+told (given.Answered answer) = Answered answer
+told (given.Refused e) = Refused (refused e)
 
 -- ---- hubs and histories
 
@@ -70,11 +40,37 @@ pub record Matches (h : HubState) (b : Book) : Type 0 where
 
 -- whatever calls a new hub gets
 abbrev pub EachRunHasAHistory : Type 0
-EachRunHasAHistory = (rows cols : ℕ) (calls : List Call) (replies : List Reply) (h g : HubState)
+EachRunHasAHistory = (rows cols : ℕ) (calls : List Call) (replies : List Given) (h g : HubState)
     → IsNewHub rows cols h → Runs h calls replies g
-    → CanRun (fresh rows cols) calls replies × Matches g (books_after (fresh rows cols) calls replies)
+    → CanRun (fresh rows cols) calls (map told replies)
+    × Matches g (books_after (fresh rows cols) calls (map told replies))
 
 -- whatever takes the bytes of a pump, a writer can be told of to which the same is pumped: each pump is a call of a run
 abbrev pub EachPumpIsServed : {S : Type 0} → (S → List ℕ → Result ℕ Error → S → Type 0) → Type 0
 EachPumpIsServed {S} step = (h g : HubState) (key : ℕ) (s t : S) (result : Result (Unit {0}) HubError)
     → PumpsClient step h key s result t g → (takes : List Take) × Serves h (Pump key takes) (done result) g
+
+-- ---- logs and histories
+
+-- a session of a log is as its story tells
+pub record IsLogged (s : SessionView) (t : Story) : Type 0 where
+  pub client : s.client ≡ t.client
+  pub rows : s.rows ≡ t.size.rows
+  pub cols : s.cols ≡ t.size.cols
+  pub pumped : s.pumped ≡ t.pumped
+  pub ended : s.ended ≡ not t.live
+
+-- one after another
+abbrev pub AreLogged : List SessionView → List Story → Type 0
+AreLogged [] [] = Unit {0}
+AreLogged (s ∷ ss) (t ∷ ts) = IsLogged s t × AreLogged ss ts
+AreLogged [] (t ∷ ts) = ⊥
+AreLogged (s ∷ ss) [] = ⊥
+
+-- whatever calls a run makes on a new hub with an empty log
+abbrev pub EachLogHasAHistory : Type 0
+EachLogHasAHistory = (rows cols : ℕ) (calls : List Call) (replies : List Given) (h g : HubState)
+    (ss : List SessionView) → IsNewHub rows cols h → RunsLogged h [] calls replies g ss
+    → CanRun (fresh rows cols) calls (map told replies)
+    × Matches g (books_after (fresh rows cols) calls (map told replies))
+    × AreLogged ss (books_after (fresh rows cols) calls (map told replies)).stories

@@ -4,7 +4,8 @@ ghost use Rattle.faithful.specs.Examples.{ExampleIsTold};
 ghost use Rattle.faithful.specs.Laws.{EachSessionIsTold};
 ghost use Rattle.faithful.specs.Headline.{EachTextIsAFrame, WholeFramesAreShown, LastWholeFrameIsShown, NoFrameIsTorn};
 ghost use Rattle.faithful.specs.Headline.{OneMomentShowsTheSame};
-ghost use Rattle.faithful.specs.Serves.{EachRunHasAHistory, EachPumpIsServed};
+ghost use Rattle.faithful.specs.Serves.{EachRunHasAHistory, EachPumpIsServed, EachLogHasAHistory};
+ghost use Rattle.faithful.specs.Logged.{EachLoggedReadIsARead, LoggedFramesAreShown};
 
 use termrelay::pump::Taker;
 
@@ -64,8 +65,28 @@ pub fn runs_have_histories()
     ensures { EachRunHasAHistory }
 {}
 
-/// Whatever takes the bytes of a pump, what it took can be told as such a call's writes: each pump of a hub is a call of
-/// such a run.
+/// Whatever takes the bytes of a pump, what it took can be told as such a call's writes: each pump of a hub is a call
+/// of such a run.
 pub fn pumps_are_served<T: Taker>()
     ensures { EachPumpIsServed T.takes }
+{}
+
+/// Whatever calls a run makes on a new hub with an empty log, the log's replies are those of a history, and session by
+/// session client, size, pumped bytes and end are as the history tells; so all laws of histories hold of the log's
+/// sessions. Where a run ends for want of memory, these are the calls before that one.
+pub fn logs_have_histories()
+    ensures { EachLogHasAHistory }
+{}
+
+/// A view that reads a beginning of the bytes pumped to a session of a run on a new hub reads a session of the history
+/// that the run's calls and replies tell; so the laws on such a view are laws on it.
+pub fn logged_reads_are_reads()
+    ensures { EachLoggedReadIsARead }
+{}
+
+/// Whatever beginning of the bytes pumped to a session of a run on a new hub a new view of its size reads, in whatever
+/// pieces, it shows what the program's bytes and the resizes had made at the moment of the last frame that lies wholly
+/// in it, or a blank screen; so where each frame is below the hold's limit and that screen showed no U+FE0F.
+pub fn logged_frames_are_shown()
+    ensures { LoggedFramesAreShown }
 {}

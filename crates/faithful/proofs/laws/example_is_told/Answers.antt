@@ -16,7 +16,7 @@ use Rattle.vt100_core.specs.Scroll.{scrolled_up, fed, wrapped_on}
 use Rattle.vt100_core.specs.Text.{printed}
 use Rattle.termrelay.specs.Frame.{is_unsure, body_forms}
 use Rattle.termrelay.specs.Answers.{same_shown}
-use Rattle.faithful.specs.History.{taken_by}
+use Rattle.termrelay.specs.Calls.{taken_by}
 use Rattle.faithful.proofs.laws.example_is_told.Goals as goal
 
 pub returns : goal.returns
