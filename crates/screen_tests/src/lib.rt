@@ -1,17 +1,13 @@
-//! Tests of `vt100`: streams on a screen, direct calls, texts and captures, callbacks, and refusals.
+//! Tests of `vt100`: callbacks and captures, direct calls, and refusals.
 #![tactic(auto)]
 
 #[cfg(test)]
-mod captures;
-#[cfg(test)]
-mod events;
+mod calls;
 #[cfg(test)]
 mod log;
 #[cfg(test)]
 mod refusals;
 #[cfg(test)]
-mod shown;
-#[cfg(test)]
-mod texts;
+mod start;
 #[cfg(test)]
 mod told;

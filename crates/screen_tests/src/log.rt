@@ -2,7 +2,7 @@
 
 ghost use Rattle.std.specs.Prelude.{⊤};
 
-use crate::shown::{Start, count};
+use crate::start::{Start, count};
 use std::alloc::Global;
 use std::str;
 use vt100::capture::{BasicFormattedCaptureState, RowContents};

@@ -1,7 +1,7 @@
 //! Calls that find no memory. They are refused where the tests run with allocations that fail; else each succeeds at
 //! once.
 
-use crate::shown::{Start, count};
+use crate::start::{Start, count};
 use std::alloc::Global;
 use std::io::Write;
 use std::process::Abort;

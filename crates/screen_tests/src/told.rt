@@ -1,8 +1,9 @@
-//! What callbacks are told, in order, each call after its event's change.
+//! What callbacks are told, in order, each call after its event's change, and captures of what they keep.
 
 use crate::log::logging_parser;
-use crate::shown::{Start, count};
+use crate::start::{Start, count};
 use std::test::Fail;
+use vt100::capture::BasicFormattedCaptureRange;
 
 /// A size, a stream, and what it tells.
 const TOLD: &[(Start, &[u8], &str)] = &[
@@ -111,5 +112,26 @@ fn sizes_are_told(rt: HostRuntime) -> Result<(), Fail> {
     let (rows, cols) = parser.screen().size();
     let told = parser.callbacks().text.as_str();
     assert_eq!(rt; (rows.get(), cols.get(), told), (1, 3, "row abcd; row e; "));
+    Ok(())
+}
+
+/// Rows that left, and then the kept ones and those that are drawn on, are one capture.
+#[test]
+fn captures_go_on(rt: HostRuntime) -> Result<(), Fail> {
+    let mut parser = logging_parser(rt.alloc(), (2, 2, 1))?;
+    parser.process("ab\x1b[31mcdef\x1b[m\r\n中\r\n\x1b[1;4mg".as_bytes())?;
+    parser.screen_mut().set_scrollback(1)?;
+    let (screen, log) = parser.screen_and_callbacks_mut();
+    let range = BasicFormattedCaptureRange::Full(&mut log.state);
+    screen.write_contents_formatted_basic(&mut log.capture, range)?;
+    log.word("then");
+    screen.write_contents_formatted_basic(&mut log.text, BasicFormattedCaptureRange::Visible)?;
+    assert_eq!(rt;
+        (log.capture.as_str(), log.text.as_str()),
+        (
+            "ab\x1b[31mcdef\n\x1b[m中\n\x1b[1;4mg",
+            "row ab; row \x1b[31mcd; then \x1b[31mef\n\x1b[m中"
+        )
+    );
     Ok(())
 }

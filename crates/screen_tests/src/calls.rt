@@ -1,0 +1,40 @@
+//! Direct calls that may be refused, and writing to a parser. Memory is found here.
+
+use crate::start::count;
+use std::io::Write;
+use std::test::Fail;
+use vt100::{Parser, WrappedScreen};
+
+#[test]
+fn calls_on_a_screen(rt: HostRuntime) -> Result<(), Fail> {
+    let parser = Parser::new(rt.alloc(), count(2), count(3), 1)?;
+    let screen = parser.screen().clone()?;
+    let mut wrapped = WrappedScreen {
+        screen,
+        callbacks: (),
+    };
+    let answers = [
+        wrapped.text('a'),
+        wrapped.lf(),
+        wrapped.vt(),
+        wrapped.ff(),
+        wrapped.su(1),
+        wrapped.ris(),
+        wrapped.set_size_with_cb(count(1), count(2)),
+        wrapped.text('b'),
+    ];
+    assert_eq!(rt;
+        (answers, wrapped.screen.contents()?.as_str()),
+        ([Ok(()); 8], "b")
+    );
+    Ok(())
+}
+
+#[test]
+fn writing_feeds(rt: HostRuntime) -> Result<(), Fail> {
+    let mut parser = Parser::new_default(rt.alloc())?;
+    let written = parser.write(b"hi")?;
+    parser.flush()?;
+    assert_eq!(rt; (written, parser.screen().contents()?.as_str()), (2, "hi"));
+    Ok(())
+}
