@@ -1,25 +1,25 @@
 -- What is shown of pieces.
 use Rattle.std.proofs.Common.{◌≡◌, ℕ, ◌/◌, List, [], ◌∷◌, ◌++◌, length, replicate, map, refl, sym, ap, ◌∙◌}
-use Rattle.std.specs.List.{All, concat}
+use Rattle.std.specs.List.{concat}
 use Rattle.vte_core.proofs.GroundLemmas.{ground-nothing}
 use Rattle.vte.specs.Moves.{Gives, given}
-use Rattle.vt100_picture.specs.Term.{Size}
+use Rattle.vt100_picture.specs.Term.{Term}
 use Rattle.termview.specs.Seen.{seen}
 use Rattle.termview.proofs.LawLemmas.{whole_shown}
 use Rattle.screenrelay.specs.Pieces.{pieces_of, piece_len}
-use Rattle.screenrelay.specs.Shown.{IsShown, screen_text}
+use Rattle.screenrelay.specs.Shown.{screen_text}
 use Rattle.screenrelay.specs.Laws.{TextsAreOne, WholeFramesArePrinted}
 use Rattle.screenrelay.proofs.PieceLemmas.{concat-cut_by}
 use Rattle.screenrelay.proofs.TakesLemmas.{one_leading}
 
-given-Gives : (pieces : List (List ℕ)) → given (map Gives pieces) ≡ concat pieces
+pub given-Gives : (pieces : List (List ℕ)) → given (map Gives pieces) ≡ concat pieces
 given-Gives [] = refl
 given-Gives (p ∷ ps) = ap (λ zs. p ++ zs) (given-Gives ps)
 
 pub texts_are_one : TextsAreOne
 texts_are_one z pieces a b s t =
     let same = one_leading (map Gives pieces) [] _ s.parsed t.parsed s.hold t.hold s.leads t.leads in
-    s.text_is ∙ ap (λ bytes. screen_text z (seen z bytes)) same.0 ∙ sym t.text_is
+    s.text_is ∙ ap (λ bytes. screen_text z (seen z bytes).cell) same.0 ∙ sym t.text_is
 
 pub frames_printed : WholeFramesArePrinted
 frames_printed z frames text all s =
@@ -28,4 +28,4 @@ frames_printed z frames text all s =
     given-Gives (pieces_of bytes) ∙ concat-cut_by (replicate (length bytes / piece_len) piece_len) bytes in
     let shown = whole_shown z frames (map Gives (pieces_of bytes)) [] s.parsed s.hold (ground-nothing 1024) all
     all_given s.leads in
-    s.text_is ∙ ap (screen_text z) shown.0
+    s.text_is ∙ ap (λ (t : Term). screen_text z t.cell) shown.0

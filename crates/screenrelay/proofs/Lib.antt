@@ -1,8 +1,13 @@
+pub mod FarLemmas
 pub mod FillLemmas
+pub mod FrameLists
 pub mod LawLemmas
 pub mod OutcomeLemmas
 pub mod OutputLemmas
 pub mod PieceLemmas
-pub mod ReadingLemmas
+pub mod RelayedLemmas
+pub mod SendLemmas
+pub mod StreamLemmas
 pub mod TakesLemmas
+pub mod TurnLemmas
 pub mod ViewLemmas

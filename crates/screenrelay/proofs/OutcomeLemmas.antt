@@ -1,5 +1,6 @@
 -- What commands leave, where the source and the writer tell their bytes.
-use Rattle.std.proofs.Common.{◌≡◌, ℕ, List, [], Option, None, Some, Ok, Err, Result, OnOk, IfSome, length, take, refl, sym}
+use Rattle.std.proofs.Common.{◌≡◌, ℕ, List, [], ◌∷◌, ◌++◌, append_assoc, append-nil, Option, None, Some, Ok, Err}
+use Rattle.std.proofs.Common.{Result, OnOk, IfSome, length, take, refl, sym}
 use Rattle.std.proofs.Common.{ap, ◌∙◌, subst, arith, IfErr}
 use Rattle.std.proofs.lemmas.List.{take_all}
 use Rattle.std.specs.List.{concat}
@@ -12,16 +13,19 @@ use Rattle.screenrelay.specs.declared.words.Job.{Job}
 use Rattle.screenrelay.specs.declared.words.Job.TheVariants.{Relay, Show}
 use Rattle.screenrelay.specs.Command.{DoesBy, WantsBy}
 use Rattle.screenrelay.specs.Fill.{Reads}
-use Rattle.screenrelay.specs.Frame.{frame}
+use Rattle.screenrelay.specs.Frames.{frames_of, frames_from, base_of, relay_text}
 use Rattle.screenrelay.specs.Output.{TakesFront}
 use Rattle.screenrelay.specs.Pieces.{pieces_of, piece_len, Drained}
-use Rattle.screenrelay.specs.Reading.{made}
 use Rattle.screenrelay.specs.Relayed as relayed
-use Rattle.screenrelay.specs.Relayed.{Relays}
+use Rattle.screenrelay.specs.Relayed.{Streams, Relays}
+use Rattle.screenrelay.specs.Sent.{Sends, Flushes}
+use Rattle.termrelay.specs.Pump.{Writes}
 use Rattle.screenrelay.specs.Shown as shown
 use Rattle.screenrelay.specs.Shown.{IsShown, Shows, sized}
-use Rattle.screenrelay.proofs.OutputLemmas.{TakesFront-none}
-use Rattle.screenrelay.proofs.PieceLemmas.{drained-pieces, concat-pieces}
+use Rattle.screenrelay.proofs.OutputLemmas.{TakesFront-none, TakesFront-longer}
+use Rattle.screenrelay.proofs.PieceLemmas.{drained-pieces, drained-front, begun-front, begun-well}
+use Rattle.screenrelay.proofs.FrameLists.{frames-more}
+use Rattle.screenrelay.proofs.SendLemmas.{sends-appends, sends-front}
 
 if_known : (known : Option (List ℕ)) (P : List ℕ → Type 0) → ((bytes : List ℕ) → known ≡ Some bytes → P bytes)
     → IfSome known P
@@ -39,17 +43,6 @@ Appends-kept (Some a) (Some b) (Some c) xs h k = k ∙ h
 
 module _ (S W : Type 0) (gives : S → ℕ → Result (List ℕ) Error → S → Type 0) (contents : W → Option (List ℕ)) where
   -- all was written, and then the writer was flushed
-  pub relays_flushed : (rows cols : ℕ) (s : S) (w u : W) (answer : Result (Unit {0}) RelayError) (t : S) (v : W)
-      (pieces : List (List ℕ)) → Drained gives piece_len s pieces (Ok tt) t
-      → Appends (contents w) (contents u) (frame (made rows cols (concat pieces))) → Keeps (contents u) (contents v)
-      → IfErr answer (λ e. e ≡ Write) → Relays gives contents rows cols s w answer t v
-  relays_flushed rows cols s w u (Ok done) t v pieces d took kept fault =
-      relayed.written pieces d (Appends-kept (contents w) (contents u) (contents v) _ took kept)
-  relays_flushed rows cols s w u (Err e) t v pieces d took kept fault =
-      subst (λ (f : RelayError). Relays gives contents rows cols s w (Err f) t v) (sym fault)
-      (relayed.stopped pieces d
-      (TakesFront-all (contents w) (contents v) _ (Appends-kept (contents w) (contents u) (contents v) _ took kept)))
-
   pub shows_flushed : (z : Size) (s : S) (w u : W) (answer : Result (Unit {0}) RelayError) (t : S) (v : W)
       (pieces : List (List ℕ)) (text : List ℕ) → Drained gives piece_len s pieces (Ok tt) t → IsShown z pieces text
       → Appends (contents w) (contents u) text → Keeps (contents u) (contents v)
@@ -66,43 +59,90 @@ known_if : (known : Option (List ℕ)) (bytes : List ℕ) (P : List ℕ → Type
     → P bytes
 known_if known bytes P is h = let all : IfSome (Some bytes) P = subst (λ (o : Option (List ℕ)). IfSome o P) is h in all
 
+Keeps-front : (a b c : Option (List ℕ)) (xs : List ℕ) → TakesFront a b xs → Keeps b c → TakesFront a c xs
+Keeps-front a b c xs (n, took) k = (n, Appends-kept a b c (take n xs) took k)
+
+concat-more : (xs ys : List (List ℕ)) → concat (xs ++ ys) ≡ concat xs ++ concat ys
+concat-more [] ys = refl
+concat-more (x ∷ xs) ys = ap (λ zs. x ++ zs) (concat-more xs ys) ∙ sym (append_assoc x (concat xs) (concat ys))
+
+module _ (S W : Type 0) (gives : S → ℕ → Result (List ℕ) Error → S → Type 0)
+    (takes : W → List ℕ → Result ℕ Error → W → Type 0) (flushes : W → Result (Unit {0}) Error → W → Type 0)
+    (contents : W → Option (List ℕ)) (left : S → Option (List ℕ))
+    (gave : (s : S) (room : ℕ) (answer : Result (List ℕ) Error) (t : S) → gives s room answer t
+    → Reads left s room answer t)
+    (took : (w : W) (bytes : List ℕ) (answer : Result ℕ Error) (v : W) → takes w bytes answer v
+    → Writes contents w bytes answer v)
+    (flushed : (w : W) (answer : Result (Unit {0}) Error) (v : W) → flushes w answer v
+    → Keeps (contents w) (contents v))
+  where
+    -- the frames of the first pieces are the first ones
+    front-of : (rows cols : ℕ) (w v : W) (pieces : List (List ℕ)) (answer : Result (Unit {0}) Error) (bytes : List ℕ)
+        → Sends takes w (frames_of rows cols pieces) answer v
+        → (more : List (List ℕ)) × (pieces_of bytes ≡ pieces ++ more)
+        → TakesFront (contents w) (contents v) (relay_text rows cols bytes)
+    front-of rows cols w v pieces answer bytes sends (more, are) =
+        let rest = frames_from rows cols (concat pieces) (base_of rows cols pieces) more in
+        let whole : concat (frames_of rows cols pieces) ++ concat rest ≡ relay_text rows cols bytes =
+        sym (concat-more (frames_of rows cols pieces) rest) ∙ ap concat (sym (frames-more rows cols pieces more))
+        ∙ ap (λ (ps : List (List ℕ)). concat (frames_of rows cols ps)) (sym are) in
+        subst (TakesFront (contents w) (contents v)) whole
+        (TakesFront-longer (contents w) (contents v) (concat (frames_of rows cols pieces)) (concat rest)
+        (sends-front W takes contents took w v (frames_of rows cols pieces) answer sends))
+
+    streams-front : (rows cols : ℕ) (s : S) (w : W) (answer : Result (Unit {0}) RelayError) (t : S) (v : W)
+        (bytes : List ℕ) → Streams gives takes rows cols s w answer t v → left s ≡ Some bytes
+        → TakesFront (contents w) (contents v) (relay_text rows cols bytes)
+    streams-front rows cols s w answer t v bytes (relayed.unread pieces rest e d sends) is =
+        front-of rows cols w v pieces (Ok tt) bytes sends
+        (drained-front S gives left gave s pieces rest (Err e) t bytes d is)
+    streams-front rows cols s w answer t v bytes (relayed.unmade pieces piece b sends) is =
+        front-of rows cols w v pieces (Ok tt) bytes sends (begun-front S gives left gave s pieces piece t bytes b is)
+    streams-front rows cols s w answer t v bytes (relayed.stopped pieces e b sends) is =
+        front-of rows cols w v pieces (Err e) bytes sends (begun-well S gives left gave s pieces t bytes b is)
+    streams-front rows cols s w answer t v bytes (relayed.sent pieces d sends) is =
+        front-of rows cols w v pieces (Ok tt) bytes sends
+        ([], sym (drained-pieces S gives left gave s pieces t bytes d is) ∙ sym (append-nil pieces))
+
+    streams-whole : (rows cols : ℕ) (s : S) (w : W) (answer : Result (Unit {0}) RelayError) (t : S) (v : W)
+        (bytes : List ℕ) → Streams gives takes rows cols s w answer t v → answer ≡ Ok tt → left s ≡ Some bytes
+        → Appends (contents w) (contents v) (relay_text rows cols bytes)
+    streams-whole rows cols s w answer t v bytes (relayed.unread pieces rest e d sends) ok is = absurd (cc)
+    streams-whole rows cols s w answer t v bytes (relayed.unmade pieces piece b sends) ok is = absurd (cc)
+    streams-whole rows cols s w answer t v bytes (relayed.stopped pieces e b sends) ok is = absurd (cc)
+    streams-whole rows cols s w answer t v bytes (relayed.sent pieces d sends) ok is =
+        subst (λ (ps : List (List ℕ)). Appends (contents w) (contents v) (concat (frames_of rows cols ps)))
+        (drained-pieces S gives left gave s pieces t bytes d is)
+        (sends-appends W takes contents took w v (frames_of rows cols pieces) (Ok tt) sends refl)
+
+    pub relays-text : (rows cols : ℕ) (s : S) (w : W) (answer : Result (Unit {0}) RelayError) (t : S) (v : W)
+        → Relays gives takes flushes rows cols s w answer t v
+        → OnOk answer (IfSome (left s) (λ bytes. Appends (contents w) (contents v) (relay_text rows cols bytes)))
+    relays-text rows cols s w answer t v relayed.refused = tt
+    relays-text rows cols s w answer t v (relayed.broken e stream) = tt
+    relays-text rows cols s w answer t v (relayed.unflushed m e stream flush) = tt
+    relays-text rows cols s w answer t v (relayed.written m stream flush) =
+        if_known (left s) _ (λ bytes is.
+        Appends-kept (contents w) (contents m) (contents v) (relay_text rows cols bytes)
+        (streams-whole rows cols s w (Ok tt) t m bytes stream refl is) (flushed m (Ok tt) v flush))
+
+    pub relays-front : (rows cols : ℕ) (s : S) (w : W) (answer : Result (Unit {0}) RelayError) (t : S) (v : W)
+        → Relays gives takes flushes rows cols s w answer t v
+        → IfSome (left s) (λ bytes. TakesFront (contents w) (contents v) (relay_text rows cols bytes))
+    relays-front rows cols s w answer t v relayed.refused =
+        if_known (left s) _ (λ bytes is. TakesFront-none (contents w) (relay_text rows cols bytes))
+    relays-front rows cols s w answer t v (relayed.broken e stream) =
+        if_known (left s) _ (λ bytes is. streams-front rows cols s w (Err e) t v bytes stream is)
+    relays-front rows cols s w answer t v (relayed.unflushed m e stream flush) =
+        if_known (left s) _ (λ bytes is. Keeps-front (contents w) (contents m) (contents v) (relay_text rows cols bytes)
+        (streams-front rows cols s w (Ok tt) t m bytes stream is) (flushed m (Err e) v flush))
+    relays-front rows cols s w answer t v (relayed.written m stream flush) =
+        if_known (left s) _ (λ bytes is. Keeps-front (contents w) (contents m) (contents v) (relay_text rows cols bytes)
+        (streams-front rows cols s w (Ok tt) t m bytes stream is) (flushed m (Ok tt) v flush))
+
 module _ (S W : Type 0) (gives : S → ℕ → Result (List ℕ) Error → S → Type 0) (contents : W → Option (List ℕ))
     (left : S → Option (List ℕ)) (tells : (s : S) (room : ℕ) (answer : Result (List ℕ) Error) (t : S)
     → gives s room answer t → Reads left s room answer t) where
-  pub relays-frame : (rows cols : ℕ) (s : S) (w : W) (answer : Result (Unit {0}) RelayError) (t : S) (v : W)
-      → Relays gives contents rows cols s w answer t v
-      → OnOk answer (IfSome (left s) (λ bytes. Appends (contents w) (contents v) (frame (made rows cols bytes))))
-  relays-frame rows cols s w answer t v relayed.refused = tt
-  relays-frame rows cols s w answer t v (relayed.unread pieces e d) = tt
-  relays-frame rows cols s w answer t v (relayed.unmade pieces d) = tt
-  relays-frame rows cols s w answer t v (relayed.written pieces d took) =
-      if_known (left s) _ (λ bytes is.
-      let all : concat pieces ≡ bytes =
-      ap concat (drained-pieces S gives left tells s pieces t bytes d is) ∙ concat-pieces bytes in
-      subst (λ (xs : List ℕ). Appends (contents w) (contents v) (frame (made rows cols xs))) all took)
-  relays-frame rows cols s w answer t v (relayed.stopped pieces d took) = tt
-
-  pub relays-front : (rows cols : ℕ) (s : S) (w : W) (answer : Result (Unit {0}) RelayError) (t : S) (v : W)
-      → Relays gives contents rows cols s w answer t v
-      → IfSome (left s) (λ bytes. TakesFront (contents w) (contents v) (frame (made rows cols bytes)))
-  relays-front rows cols s w answer t v relayed.refused =
-      if_known (left s) _ (λ bytes is. TakesFront-none (contents w) (frame (made rows cols bytes)))
-  relays-front rows cols s w answer t v (relayed.unread pieces e d) =
-      if_known (left s) _ (λ bytes is. TakesFront-none (contents w) (frame (made rows cols bytes)))
-  relays-front rows cols s w answer t v (relayed.unmade pieces d) =
-      if_known (left s) _ (λ bytes is. TakesFront-none (contents w) (frame (made rows cols bytes)))
-  relays-front rows cols s w answer t v (relayed.written pieces d took) =
-      if_known (left s) _ (λ bytes is.
-      let all : concat pieces ≡ bytes =
-      ap concat (drained-pieces S gives left tells s pieces t bytes d is) ∙ concat-pieces bytes in
-      subst (λ (xs : List ℕ). TakesFront (contents w) (contents v) (frame (made rows cols xs))) all
-      (TakesFront-all (contents w) (contents v) _ took))
-  relays-front rows cols s w answer t v (relayed.stopped pieces d took) =
-      if_known (left s) _ (λ bytes is.
-      let all : concat pieces ≡ bytes =
-      ap concat (drained-pieces S gives left tells s pieces t bytes d is) ∙ concat-pieces bytes in
-      subst (λ (xs : List ℕ). TakesFront (contents w) (contents v) (frame (made rows cols xs))) all took)
-
   pub shows-text : (z : Size) (s : S) (w : W) (answer : Result (Unit {0}) RelayError) (t : S) (v : W)
       → Shows gives contents z s w answer t v
       → OnOk answer (IfSome (left s) (λ bytes. (text : List ℕ) × IsShown z (pieces_of bytes) text
@@ -125,9 +165,10 @@ module _ (S W : Type 0) (gives : S → ℕ → Result (List ℕ) Error → S →
       × Appends (contents w) (contents v) text))
   does-text Relay rows cols s w (Ok done) t v r =
       if_known (left s) _ (λ bytes is. (
-        frame (made rows cols bytes),
+        relay_text rows cols bytes,
         refl,
-        known_if (left s) bytes _ is (relays-frame rows cols s w (Ok done) t v r),
+        known_if (left s) bytes _ is (relays-text S W gives (Writes contents) (Flushes contents) contents left tells
+            (λ x xs a y told. told) (λ x a y told. told) rows cols s w (Ok done) t v r),
       ))
   does-text Relay rows cols s w (Err e) t v r = tt
   does-text Show rows cols s w answer t v r = shows-text (sized rows cols) s w answer t v r

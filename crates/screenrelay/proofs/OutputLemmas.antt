@@ -1,10 +1,11 @@
 -- Writes one after another.
-use Rattle.std.proofs.Common.{◌≡◌, ◌≤◌, ◌+◌, ℕ, suc, List, [], ◌∷◌, ◌++◌, length, take, drop, min, Option, Some, None}
-use Rattle.std.proofs.Common.{sym, ap, ◌∙◌, append_assoc, arith, length-drop}
+use Rattle.std.proofs.Common.{◌≡◌, ◌≤◌, ◌+◌, ℕ, suc, List, [], ◌++◌, length, take, drop, min, Option, Some, None}
+use Rattle.std.proofs.Common.{sym, ap, ◌∙◌, append_assoc, arith, length-drop, subst}
 use Rattle.std.proofs.lemmas.List.{append-nil, take_all, take-append-le}
 use Rattle.std.proofs.Math.Seq.{take-add, take-append-add, take-append_seam}
 use Rattle.std.specs.Io.KnownBytes.{Appends}
-use Rattle.vt100_picture.specs.Term.{Size, Term}
+use Rattle.vt100_cells.specs.Cell.{CellView}
+use Rattle.vt100_picture.specs.Term.{Size}
 use Rattle.screenrelay.specs.Output.{TakesFront}
 use Rattle.screenrelay.specs.Shown.{row_line, rows_text, screen_text}
 
@@ -44,6 +45,15 @@ pub TakesFront-part : (a b : Option (List ℕ)) (xs ys : List ℕ) → Appends a
 TakesFront-part a b xs ys whole = (length xs, rw (take-append_seam xs ys) whole)
 
 -- rows after one another
-pub rows-next : (z : Size) (t : Term) (written : List ℕ) (row n m : ℕ) → screen_text z t ≡ written ++ rows_text z t row n
-    → n ≡ suc m → screen_text z t ≡ written ++ (row_line z t row ++ rows_text z t (row + 1) m)
+pub rows-next : (z : Size) (t : ℕ → ℕ → CellView) (written : List ℕ) (row n m : ℕ)
+    → screen_text z t ≡ written ++ rows_text z t row n → n ≡ suc m
+    → screen_text z t ≡ written ++ (row_line z t row ++ rows_text z t (row + 1) m)
 rows-next z t written row n m e k = e ∙ ap (λ j. written ++ rows_text z t row j) k
+
+pub TakesFront-longer : (a b : Option (List ℕ)) (xs ys : List ℕ) → TakesFront a b xs → TakesFront a b (xs ++ ys)
+TakesFront-longer a b xs ys front = TakesFront-after a a b [] xs ys (Appends-none a) front
+
+pub TakesFront-then : (a b c : Option (List ℕ)) (xs ys : List ℕ) → Appends a b xs → TakesFront b c ys
+    → TakesFront a c (xs ++ ys)
+TakesFront-then a b c xs ys whole front =
+    subst (λ (zs : List ℕ). TakesFront a c (xs ++ zs)) (append-nil ys) (TakesFront-after a b c xs ys [] whole front)

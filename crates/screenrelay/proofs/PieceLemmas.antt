@@ -10,11 +10,17 @@ use Rattle.std.specs.List.{concat}
 use Rattle.std.specs.Io.KnownBytes.{Consumes, IsAtEnd, Keeps}
 use Rattle.std.specs.declared.io.Error.{Error}
 use Rattle.screenrelay.specs.declared.error.RelayError.{RelayError}
-use Rattle.screenrelay.specs.Fill.{FillEnd, Full, Ended, Failed, TooMany, Fills, full, stopped, ended, failed, again, more}
+use Rattle.screenrelay.specs.Fill.{FillEnd, Full, Ended, Failed, TooMany, Fills, full, stopped, ended, failed, again}
+use Rattle.screenrelay.specs.Fill.{more}
 use Rattle.screenrelay.specs.Fill.{Reads, CountsTo, answer_of, max_reads, Filled}
-use Rattle.screenrelay.specs.declared.error.RelayError.TheVariants.{Read, TooManyReads}
-use Rattle.screenrelay.specs.Pieces.{cut_by, piece_len, pieces_of, Drains, last, next, outcome_of, Drained}
-use Rattle.screenrelay.proofs.ReadingLemmas.{Consumes-more}
+use Rattle.screenrelay.specs.Pieces.{cut_by, piece_len, pieces_of, Drains, last, next, outcome_of, Drained, Begun}
+use Rattle.std.proofs.Math.Nat.{add-div_left}
+
+Consumes-more : (a b c : Option (List ℕ)) (xs ys : List ℕ) → Consumes a b xs → Consumes b c ys → Consumes a c (xs ++ ys)
+Consumes-more None b c xs ys h k = tt
+Consumes-more (Some a) None c xs ys h k = absurd h
+Consumes-more (Some a) (Some b) None xs ys h k = absurd k
+Consumes-more (Some a) (Some b) (Some c) xs ys h k = h ∙ ap (λ zs. xs ++ zs) k ∙ sym (append_assoc xs ys c)
 
 pub concat-cut_by : (ns bytes : List ℕ) → concat (cut_by ns bytes) ≡ bytes
 concat-cut_by [] bytes = append-nil bytes
@@ -25,7 +31,7 @@ pub concat-pieces : (bytes : List ℕ) → concat (pieces_of bytes) ≡ bytes
 concat-pieces bytes = concat-cut_by (replicate (length bytes / piece_len) piece_len) bytes
 
 -- a length that is cut to what is left
-take_least : (n : ℕ) (xs : List ℕ) → take n xs ≡ take (min n (length xs)) xs
+pub take_least : (n : ℕ) (xs : List ℕ) → take n xs ≡ take (min n (length xs)) xs
 take_least n xs =
     let l : (n < length xs) ⊎ (length xs ≤ n) = cases_lt n (length xs) in
     ⊎_elim (λ a. let same : n ≡ min n (length xs) = omega (arith, a) in ap (λ j. take j xs) same)
@@ -54,6 +60,14 @@ cut-next k room bytes rest is =
     ap (λ (zs : List ℕ). zs ∷ cut_by (replicate k room) (drop room (bytes ++ rest))) (take_at bytes rest room is)
     ∙ ap (λ (zs : List ℕ). bytes ∷ cut_by (replicate k room) zs) (drop_at bytes rest room is)
 
+pieces-more : (bytes rest : List ℕ) → length bytes ≡ piece_len → pieces_of (bytes ++ rest) ≡ bytes ∷ pieces_of rest
+pieces-more bytes rest is =
+    let count : length (bytes ++ rest) / piece_len ≡ suc (length rest / piece_len) =
+    ap (λ (k : ℕ). k / piece_len) (length-append bytes rest ∙ ap (λ (k : ℕ). k + length rest) is)
+    ∙ add-div_left (length rest) (omega arith) ∙ omega arith in
+    ap (λ (k : ℕ). cut_by (replicate k piece_len) (bytes ++ rest)) count
+    ∙ cut-next (length rest / piece_len) piece_len bytes rest is
+
 Consumes-none : (a : Option (List ℕ)) → Consumes a a []
 Consumes-none None = tt
 Consumes-none (Some a) = refl
@@ -63,6 +77,13 @@ kept-Consumes None b c xs h k = tt
 kept-Consumes (Some a) None c xs h k = absurd h
 kept-Consumes (Some a) (Some b) None xs h k = absurd k
 kept-Consumes (Some a) (Some b) (Some c) xs h k = sym h ∙ k
+
+-- what is known after some bytes were taken
+left-known : (a b : Option (List ℕ)) (xs ys : List ℕ) → a ≡ Some xs → Consumes a b ys
+    → (rest : List ℕ) × (b ≡ Some rest) × (xs ≡ ys ++ rest)
+left-known None b xs ys e h = absurd (cc)
+left-known (Some a) None xs ys e h = absurd h
+left-known (Some a) (Some b) xs ys e h = (b, refl, let same : a ≡ xs = cc in sym same ∙ h)
 
 -- all that was known was taken
 all-taken : (a b : Option (List ℕ)) (xs ys : List ℕ) → a ≡ Some xs → Consumes a b ys → IsAtEnd b → ys ≡ xs
@@ -82,6 +103,10 @@ ok_end Full is short = absurd (short refl)
 ok_end Ended is short = refl
 ok_end Failed is short = absurd (cc)
 ok_end TooMany is short = absurd (cc)
+
+not-one : (bytes p : List ℕ) (ps : List (List ℕ)) (rest : List ℕ) → bytes ∷ [] ≡ p ∷ (ps ++ rest ∷ []) → ⊥
+not-one bytes p [] rest e = cc
+not-one bytes p (q ∷ ps) rest e = cc
 
 -- full pieces, and then a shorter one
 record Cut (room : ℕ) (pieces : List (List ℕ)) : Type 0 where
@@ -169,7 +194,7 @@ module _ (S : Type 0) (step : S → ℕ → Result (List ℕ) Error → S → Ty
 
     drains-taken : (room : ℕ) (s : S) (n : ℕ) (pieces : List (List ℕ)) (end : FillEnd) (t : S)
         → Drains step room s n pieces end t → Consumes (left s) (left t) (concat pieces)
-    drains-taken room s n pieces end t (last {bytes = bytes} fills short) =
+    drains-taken room s n pieces end t (last {bytes = bytes} fills) =
         rw (append-nil bytes) (fills-taken s room n bytes end t fills)
     drains-taken room s n pieces end t (next {bytes = bytes} m fills rest) =
         Consumes-more (left s) (left m) (left t) bytes _ (fills-taken s room _ bytes Full m fills)
@@ -177,39 +202,98 @@ module _ (S : Type 0) (step : S → ℕ → Result (List ℕ) Error → S → Ty
 
     drains-ended : (room : ℕ) (s : S) (n : ℕ) (pieces : List (List ℕ)) (end : FillEnd) (t : S)
         → Drains step room s n pieces end t → end ≡ Ended → IsAtEnd (left t)
-    drains-ended room s n pieces end t (last {bytes = bytes} fills short) e = fills-ended s room n bytes end t fills e
+    drains-ended room s n pieces end t (last {bytes = bytes} fills) e = fills-ended s room n bytes end t fills e
     drains-ended room s n pieces end t (next m fills rest) e = drains-ended room m _ _ end t rest e
 
     drains-cut : (room : ℕ) (s : S) (n : ℕ) (pieces : List (List ℕ)) (end : FillEnd) (t : S)
-        → Drains step room s n pieces end t → Cut room pieces
-    drains-cut room s n pieces end t (last {bytes = bytes} fills short) =
+        → Drains step room s n pieces end t → end ≢ Full → Cut room pieces
+    drains-cut room s n pieces end t (last {bytes = bytes} fills) short =
         cut-last room bytes (fills-short s room n bytes end t fills short)
-    drains-cut room s n pieces end t (next {bytes = bytes} {pieces = rest} m fills drains) =
-        cut-more room bytes rest (fills-full s room _ bytes Full m fills refl) (drains-cut room m _ rest end t drains)
+    drains-cut room s n pieces end t (next {bytes = bytes} {pieces = rest} m fills drains) short =
+        cut-more room bytes rest (fills-full s room _ bytes Full m fills refl)
+        (drains-cut room m _ rest end t drains short)
 
     drains-pieces : (s : S) (n : ℕ) (pieces : List (List ℕ)) (t : S) (input : List ℕ)
         → Drains step piece_len s n pieces Ended t → left s ≡ Some input → pieces ≡ pieces_of input
     drains-pieces s n pieces t input d is =
         let whole : concat pieces ≡ input = all-taken (left s) (left t) input (concat pieces) is
         (drains-taken piece_len s n pieces Ended t d) (drains-ended piece_len s n pieces Ended t d refl) in
-        let cut = drains-cut piece_len s n pieces Ended t d in
+        let cut = drains-cut piece_len s n pieces Ended t d (λ no. absurd (cc)) in
         let count : length (concat pieces) / piece_len ≡ cut.count =
         ap (λ (k : ℕ). k / piece_len) cut.length_is ∙ div-mul-add cut.count piece_len cut.rest cut.short in
         cut.pieces_are ∙ ap (λ (k : ℕ). cut_by (replicate k piece_len) (concat pieces)) (sym count)
         ∙ ap pieces_of whole
 
-    drains-short : (room : ℕ) (s : S) (n : ℕ) (pieces : List (List ℕ)) (end : FillEnd) (t : S)
-        → Drains step room s n pieces end t → end ≢ Full
-    drains-short room s n pieces end t (last fills short) = short
-    drains-short room s n pieces end t (next m fills rest) = drains-short room m _ _ end t rest
-
     -- where the input was read to its end, the pieces that were read are those of the input
     pub drained-pieces : (s : S) (pieces : List (List ℕ)) (t : S) (input : List ℕ)
         → Drained step piece_len s pieces (Ok tt) t → left s ≡ Some input → pieces ≡ pieces_of input
     drained-pieces s pieces t input d is =
-        let end = ok_end d.end d.answered (drains-short piece_len s d.made pieces d.end t d.drains) in
+        let end = ok_end d.end d.answered d.short in
         drains-pieces s d.made pieces t input
         (subst (λ (e : FillEnd). Drains step piece_len s d.made pieces e t) end d.drains) is
+
+    -- the pieces before the last one are the first ones of the input
+    drains-front : (s : S) (n : ℕ) (all : List (List ℕ)) (end : FillEnd) (t : S) (input : List ℕ)
+        → Drains step piece_len s n all end t → left s ≡ Some input → (pieces : List (List ℕ)) (rest : List ℕ)
+        → all ≡ pieces ++ rest ∷ [] → (more : List (List ℕ)) × (pieces_of input ≡ pieces ++ more)
+    drains-front s n all end t input d is [] rest e = (pieces_of input, refl)
+    drains-front s n all end t input (last {bytes = bytes} fills) is (p ∷ ps) rest e =
+        absurd (not-one bytes p ps rest e)
+    drains-front s n all end t input (next {bytes = bytes} {pieces = others} m fills drains) is (p ∷ ps) rest e =
+        let known = left-known (left s) (left m) input bytes is (fills-taken s piece_len _ bytes Full m fills) in
+        let same : bytes ≡ p = cc in
+        let tail : others ≡ ps ++ rest ∷ [] = cc in
+        let later = drains-front m _ others end t known.0 drains known.1 ps rest tail in (
+          later.0,
+          ap pieces_of known.2
+              ∙ pieces-more bytes known.0 (fills-full s piece_len _ bytes Full m fills refl)
+              ∙ ap (λ (zs : List (List ℕ)). bytes ∷ zs) later.1
+              ∙ ap (λ (x : List ℕ). x ∷ (ps ++ later.0)) same,
+        )
+
+    pub drained-front : (s : S) (pieces : List (List ℕ)) (rest : List ℕ) (answer : Result (Unit {0}) RelayError) (t : S)
+        (input : List ℕ) → Drained step piece_len s (pieces ++ rest ∷ []) answer t → left s ≡ Some input
+        → (more : List (List ℕ)) × (pieces_of input ≡ pieces ++ more)
+    drained-front s pieces rest answer t input d is =
+        drains-front s d.made (pieces ++ rest ∷ []) d.end t input d.drains is pieces rest refl
+
+    pub begun-front : (s : S) (pieces : List (List ℕ)) (piece : List ℕ) (t : S) (input : List ℕ)
+        → Begun step piece_len s (pieces ++ piece ∷ []) t → left s ≡ Some input
+        → (more : List (List ℕ)) × (pieces_of input ≡ pieces ++ more)
+    begun-front s pieces piece t input b is =
+        drains-front s b.made (pieces ++ piece ∷ []) b.end t input b.drains is pieces piece refl
+
+    -- where no read failed, so is the last one
+    last-well : (s : S) (n : ℕ) (bytes : List ℕ) (end : FillEnd) (t : S) (input : List ℕ)
+        → Fills step s piece_len n bytes end t → left s ≡ Some input → outcome_of end ≡ done
+        → (more : List (List ℕ)) × (pieces_of input ≡ bytes ∷ more)
+    last-well s n bytes Full t input fills is well =
+        let known = left-known (left s) (left t) input bytes is (fills-taken s piece_len n bytes Full t fills) in (
+          pieces_of known.0,
+          ap pieces_of known.2 ∙ pieces-more bytes known.0 (fills-full s piece_len n bytes Full t fills refl),
+        )
+    last-well s n bytes Ended t input fills is well =
+        ([], sym (drains-pieces s n (bytes ∷ []) t input (last fills) is))
+    last-well s n bytes Failed t input fills is well = absurd (cc)
+    last-well s n bytes TooMany t input fills is well = absurd (cc)
+
+    drains-well : (s : S) (n : ℕ) (pieces : List (List ℕ)) (end : FillEnd) (t : S) (input : List ℕ)
+        → Drains step piece_len s n pieces end t → left s ≡ Some input → outcome_of end ≡ done
+        → (more : List (List ℕ)) × (pieces_of input ≡ pieces ++ more)
+    drains-well s n pieces end t input (last {bytes = bytes} fills) is well =
+        last-well s n bytes end t input fills is well
+    drains-well s n pieces end t input (next {bytes = bytes} {pieces = others} m fills drains) is well =
+        let known = left-known (left s) (left m) input bytes is (fills-taken s piece_len _ bytes Full m fills) in
+        let later = drains-well m _ others end t known.0 drains known.1 well in (
+          later.0,
+          ap pieces_of known.2
+              ∙ pieces-more bytes known.0 (fills-full s piece_len _ bytes Full m fills refl)
+              ∙ ap (λ (zs : List (List ℕ)). bytes ∷ zs) later.1,
+        )
+
+    pub begun-well : (s : S) (pieces : List (List ℕ)) (t : S) (input : List ℕ) → Begun step piece_len s pieces t
+        → left s ≡ Some input → (more : List (List ℕ)) × (pieces_of input ≡ pieces ++ more)
+    begun-well s pieces t input b is = drains-well s b.made pieces b.end t input b.drains is b.well
 
 -- some pieces were read in full: whatever the others are completes the whole
 pub record DrainsOn {S : Type 0} (step : S → ℕ → Result (List ℕ) Error → S → Type 0) (room : ℕ) (old now : S) (made : ℕ)
@@ -231,13 +315,15 @@ module _ (S : Type 0) (step : S → ℕ → Result (List ℕ) Error → S → Ty
   }
 
   pub drained : (now new : S) (made n : ℕ) (pieces : List (List ℕ)) (bytes : List ℕ) (end : FillEnd)
-      (answer : Result (Unit {0}) RelayError) → DrainsOn step room old now made pieces → Fills step now room n bytes end new
+      (answer : Result (Unit {0}) RelayError) → DrainsOn step room old now made pieces
+      → Fills step now room n bytes end new
       → end ≢ Full → CountsTo end (made + n) → answer ≡ outcome_of end
       → Drained step room old (pieces ++ bytes ∷ []) answer new
   drained now new made n pieces bytes end answer d fills short most is = record {
     made = made + n;
     end = end;
-    drains = d.further n (bytes ∷ []) end new (last fills short);
+    drains = d.further n (bytes ∷ []) end new (last fills);
+    short = short;
     most = most;
     answered = is;
   }
@@ -263,6 +349,13 @@ short_end Ended answer len n room is ok all low =
     (refl, let e = sym is ∙ ok in cc)
 short_end Failed answer len n room is ok all low = absurd (let e = sym is ∙ ok in cc)
 short_end TooMany answer len n room is ok all low = absurd (let e = sym is ∙ ok in cc)
+
+well_end : (end : FillEnd) (answer : Result ℕ RelayError) (len n : ℕ) → answer ≡ answer_of end len → answer ≡ Ok n
+    → (outcome_of end ≡ done) × (n ≡ len)
+well_end Full answer len n is ok = (refl, let e = sym is ∙ ok in cc)
+well_end Ended answer len n is ok = (refl, let e = sym is ∙ ok in cc)
+well_end Failed answer len n is ok = absurd (let e = sym is ∙ ok in cc)
+well_end TooMany answer len n is ok = absurd (let e = sym is ∙ ok in cc)
 
 fault_end : (end : FillEnd) (answer : Result ℕ RelayError) (len : ℕ) (fault : RelayError) → answer ≡ answer_of end len
     → answer ≡ Err fault → (end ≢ Full) × (stop fault ≡ outcome_of end)
@@ -316,6 +409,22 @@ module _ (S : Type 0) (step : S → ℕ → Result (List ℕ) Error → S → Ty
       let most = counted_end f.end answer (length f.bytes) n after f.answered ok f.most in
       drained S step room old now new before f.made past (take n piece) Ended (Ok tt) d fills (λ no. absurd (cc))
       (omega (arith, most.1, f.counted)) refl
+
+  -- one that was read well, full or not
+  pub filled_begun : (n : ℕ) → answer ≡ Ok n → DrainsOn step room old now before past
+      → Begun step room old (past ++ take n piece ∷ []) new
+  filled_begun n ok d =
+      let end = well_end f.end answer (length f.bytes) n f.answered ok in
+      let same : f.bytes ≡ take n piece = sym f.front ∙ ap (λ (k : ℕ). take k piece) (sym end.1) in
+      let fills : Fills step now room f.made (take n piece) f.end new =
+      subst (λ (bytes : List ℕ). Fills step now room f.made bytes f.end new) same f.fills in
+      record {
+        made = before + f.made;
+        end = f.end;
+        drains = d.further f.made (take n piece ∷ []) f.end new (last fills);
+        most = subst (λ (k : ℕ). CountsTo f.end k) f.counted f.most;
+        well = end.0;
+      }
 
   -- one at which the reading stopped
   pub filled_fault : (fault : RelayError) → answer ≡ Err fault → DrainsOn step room old now before past

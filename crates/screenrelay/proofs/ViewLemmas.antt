@@ -1,7 +1,6 @@
 -- Pieces that are given to a view one after another.
-use Rattle.std.proofs.Common.{◌≡◌, ℕ, Bool, List, [], ◌∷◌, ◌++◌, Option, None, map, refl, sym, ap, ◌∙◌, subst}
+use Rattle.std.proofs.Common.{◌≡◌, ℕ, List, [], ◌∷◌, ◌++◌, Option, None, map, refl, sym, ap, ◌∙◌, subst}
 use Rattle.std.proofs.lemmas.List.{map-append}
-use Rattle.vte.specs.Hold.{Takes}
 use Rattle.vte.specs.Moves.{Move, Gives}
 use Rattle.vte.specs.Frames.{Leads, ends, gives}
 use Rattle.vte.proofs.FrameMoves.{moves_follow}
@@ -11,7 +10,7 @@ use Rattle.vt100_picture.specs.Term.{Size, Term}
 use Rattle.termview.specs.Seen.{seen}
 use Rattle.termview.specs.Standing.{HoldsAt, Taken, size_of, shown_by}
 use Rattle.screenrelay.specs.Shown.{IsShown, screen_text, sized}
-use Rattle.screenrelay.specs.Led.{answers, Led, LedTo}
+use Rattle.screenrelay.specs.Led.{answers, Led}
 
 pub not_led : (view : View UntilCleared) → Led view [] view
 not_led view = record {
@@ -51,17 +50,18 @@ led_on sets clears old now new pieces piece led take = record {
 
 -- what a fresh view shows once it has read pieces
 pub shown_so : (fresh now : View UntilCleared) (z : Size) (pieces : List (List ℕ)) → HoldsAt answers fresh [] None
-    → size_of fresh ≡ z → Led fresh pieces now → IsShown z pieces (screen_text (size_of now) (shown_by now))
+    → size_of fresh ≡ z → Led fresh pieces now → IsShown z pieces (screen_text (size_of now) (shown_by now).cell)
 shown_so fresh now z pieces at is led =
     let l = led.goes [] None at in
-    let text : screen_text (size_of now) (shown_by now) ≡ screen_text (size_of now) (seen (size_of now) l.parsed') =
-    ap (λ (t : Term). screen_text (size_of now) t) l.holds.stands.shows in
+    let text : screen_text (size_of now) (shown_by now).cell
+    ≡ screen_text (size_of now) (seen (size_of now) l.parsed').cell =
+    ap (λ (t : Term). screen_text (size_of now) t.cell) l.holds.stands.shows in
     let sized_so : size_of now ≡ z = l.size ∙ is in
     record {
       parsed = l.parsed';
       hold = l.hold';
       leads = l.leads;
-      text_is = text ∙ ap (λ (y : Size). screen_text y (seen y l.parsed')) sized_so;
+      text_is = text ∙ ap (λ (y : Size). screen_text y (seen y l.parsed').cell) sized_so;
     }
 
 pub size_is : (z : Size) (rows cols : ℕ) → z.rows ≡ rows → z.cols ≡ cols → z ≡ sized rows cols

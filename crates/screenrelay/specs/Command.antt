@@ -1,20 +1,21 @@
 -- What a command answers, reads, writes and says.
 use Rattle.std.specs.Prelude.{◌≡◌, ℕ, List, [], ◌∷◌, ◌++◌, Option, Ok, Err, Result, codes}
 use Rattle.std.specs.declared.io.Error.{Error}
+use Rattle.termrelay.specs.Pump.{Writes}
 use Rattle.screenrelay.specs.declared.error.RelayError.{RelayError}
 use Rattle.screenrelay.specs.declared.error.RelayError.TheVariants.{Read, Write, Memory, TooManyReads}
 use Rattle.screenrelay.specs.declared.words.Job.{Job}
 use Rattle.screenrelay.specs.declared.words.Job.TheVariants.{Relay, Show}
-use Rattle.screenrelay.specs.Frame.{frame}
+use Rattle.screenrelay.specs.Frames.{relay_text}
 use Rattle.screenrelay.specs.Output.{TakesFront}
 use Rattle.screenrelay.specs.Pieces.{pieces_of}
-use Rattle.screenrelay.specs.Reading.{made}
 use Rattle.screenrelay.specs.Relayed.{Relays}
+use Rattle.screenrelay.specs.Sent.{Flushes}
 use Rattle.screenrelay.specs.Shown.{IsShown, Shows, sized}
 use Rattle.screenrelay.specs.Words.{Order}
 
 abbrev pub WantsBy : Job → ℕ → ℕ → List ℕ → List ℕ → Type 0
-WantsBy Relay rows cols bytes text = text ≡ frame (made rows cols bytes)
+WantsBy Relay rows cols bytes text = text ≡ relay_text rows cols bytes
 WantsBy Show rows cols bytes text = IsShown (sized rows cols) (pieces_of bytes) text
 
 -- an order writes this text where the input is these bytes
@@ -23,7 +24,8 @@ Wants order bytes text = WantsBy order.job order.rows order.cols bytes text
 
 abbrev pub DoesBy : {S W : Type 0} → (S → ℕ → Result (List ℕ) Error → S → Type 0) → (W → Option (List ℕ)) → Job → ℕ → ℕ
     → S → W → Result (Unit {0}) RelayError → S → W → Type 0
-DoesBy gives contents Relay rows cols s w answer t v = Relays gives contents rows cols s w answer t v
+DoesBy gives contents Relay rows cols s w answer t v =
+    Relays gives (Writes contents) (Flushes contents) rows cols s w answer t v
 DoesBy gives contents Show rows cols s w answer t v =
     Shows gives contents (sized rows cols) s w answer t v
 

@@ -1,11 +1,15 @@
 -- Laws of what is shown.
-use Rattle.std.specs.Prelude.{◌≡◌, ℕ, List}
+use Rattle.std.specs.Prelude.{◌≡◌, ℕ, false, List}
 use Rattle.std.specs.List.{All, concat}
 use Rattle.vte.specs.Frames.{IsFrame}
 use Rattle.vt100_picture.specs.Term.{Size}
+use Rattle.vt100_state.specs.Shown.{shown_state}
+use Rattle.vt100_state.specs.Holds.{IsSide}
+use Rattle.termrelay.specs.Frame.{is_unsure}
 use Rattle.termview.specs.Seen.{seen}
+use Rattle.screenrelay.specs.Frames.{state_after, relay_text}
 use Rattle.screenrelay.specs.Pieces.{pieces_of}
-use Rattle.screenrelay.specs.Shown.{IsShown, screen_text}
+use Rattle.screenrelay.specs.Shown.{IsShown, screen_text, sized}
 
 -- pieces have one text: it is a function of the size and the pieces
 abbrev pub TextsAreOne : Type 0
@@ -15,4 +19,11 @@ TextsAreOne = (z : Size) (pieces : List (List ℕ)) (a b : List ℕ) → IsShown
 abbrev pub WholeFramesArePrinted : Type 0
 WholeFramesArePrinted = (z : Size) (frames : List (List ℕ)) (text : List ℕ)
     → All IsFrame frames → IsShown z (pieces_of (concat frames)) text
-    → text ≡ screen_text z (seen z (concat frames))
+    → text ≡ screen_text z (seen z (concat frames)).cell
+
+-- what is relayed is printed as the text of the screen that the whole input makes, unless that shows U+FE0F
+abbrev pub RelayedIsShown : Type 0
+RelayedIsShown = (rows cols : ℕ) (input text : List ℕ) → IsSide rows → IsSide cols
+    → is_unsure (sized rows cols) (shown_state (state_after rows cols input)) ≡ false
+    → IsShown (sized rows cols) (pieces_of (relay_text rows cols input)) text
+    → text ≡ screen_text (sized rows cols) (shown_state (state_after rows cols input)).cell

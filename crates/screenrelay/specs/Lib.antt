@@ -1,12 +1,13 @@
 pub mod Command
+pub mod Far
 pub mod Fill
-pub mod Frame
+pub mod Frames
 pub mod Laws
 pub mod Led
 pub mod Output
 pub mod Pieces
-pub mod Reading
 pub mod Relayed
-pub mod Sheet
+pub mod Sent
 pub mod Shown
+pub mod Turns
 pub mod Words

@@ -18,11 +18,11 @@ piece_len = 4096
 abbrev pub pieces_of : List ℕ → List (List ℕ)
 pieces_of bytes = cut_by (replicate (length bytes / piece_len) piece_len) bytes
 
--- From a source, so many reads fill these pieces, each with so much room, until one isn't full. They end as its reads
--- do, and leave the source so.
+-- From a source, so many reads fill these pieces, each with so much room; all but the last one are full. They end as
+-- its reads do, and leave the source so.
 pub data Drains {S : Type 0} (step : S → ℕ → Result (List ℕ) Error → S → Type 0) (room : ℕ)
     : S → ℕ → List (List ℕ) → FillEnd → S → Type 0 where
-  last : {s t : S} {n : ℕ} {bytes : List ℕ} {end : FillEnd} → Fills step s room n bytes end t → end ≢ Full
+  last : {s t : S} {n : ℕ} {bytes : List ℕ} {end : FillEnd} → Fills step s room n bytes end t
       → Drains step room s n (bytes ∷ []) end t
   next : {s t : S} {n k : ℕ} {bytes : List ℕ} {pieces : List (List ℕ)} {end : FillEnd} (m : S)
       → Fills step s room n bytes Full m → Drains step room m k pieces end t
@@ -42,5 +42,15 @@ pub record Drained {S : Type 0} (step : S → ℕ → Result (List ℕ) Error �
   pub made : ℕ
   pub end : FillEnd
   pub drains : Drains step room old made pieces end new
+  pub short : end ≢ Full
   pub most : CountsTo end made
   pub answered : answer ≡ outcome_of end
+
+-- Some pieces of an input were read, all full but perhaps the last one, and no read failed.
+pub record Begun {S : Type 0} (step : S → ℕ → Result (List ℕ) Error → S → Type 0) (room : ℕ) (old : S)
+    (pieces : List (List ℕ)) (new : S) : Type 0 where
+  pub made : ℕ
+  pub end : FillEnd
+  pub drains : Drains step room old made pieces end new
+  pub most : CountsTo end made
+  pub well : outcome_of end ≡ Ok tt

@@ -5,8 +5,10 @@ use Rattle.std.specs.Io.KnownBytes.{Appends}
 use Rattle.std.specs.declared.io.Error.{Error}
 use Rattle.vte.specs.Moves.{Gives}
 use Rattle.vte.specs.Frames.{Leads}
-use Rattle.vt100_picture.specs.Term.{Size, Term}
-use Rattle.termview.specs.Seen.{seen, text_shown}
+use Rattle.vt100_cells.specs.Cell.{CellView}
+use Rattle.vt100_rows.specs.Text.{line_text}
+use Rattle.vt100_picture.specs.Term.{Size}
+use Rattle.termview.specs.Seen.{seen}
 use Rattle.screenrelay.specs.declared.error.RelayError.{RelayError}
 use Rattle.screenrelay.specs.declared.error.RelayError.TheVariants.{Write, Memory}
 use Rattle.screenrelay.specs.Output.{TakesFront}
@@ -15,17 +17,17 @@ use Rattle.screenrelay.specs.Pieces.{piece_len, Drained}
 abbrev pub sized : ℕ → ℕ → Size
 sized rows cols = record { rows = rows; cols = cols }
 
--- the text of a row as UTF-8, without the empty columns at its end, and a newline
-abbrev pub row_line : Size → Term → ℕ → List ℕ
-row_line z t row = encode_utf8_all (text_shown z t row) ++ (0x0A ∷ [])
+-- the text of a row of these cells as UTF-8, without the empty columns at its end, and a newline
+abbrev pub row_line : Size → (ℕ → ℕ → CellView) → ℕ → List ℕ
+row_line z cell row = encode_utf8_all (line_text (cell row) 0 z.cols) ++ (0x0A ∷ [])
 
 -- the same of n rows from a row on
-abbrev pub rows_text : Size → Term → ℕ → ℕ → List ℕ
-rows_text z t row n = concat (map (row_line z t) (range_with_len row n))
+abbrev pub rows_text : Size → (ℕ → ℕ → CellView) → ℕ → ℕ → List ℕ
+rows_text z cell row n = concat (map (row_line z cell) (range_with_len row n))
 
 -- the text of a screen
-abbrev pub screen_text : Size → Term → List ℕ
-screen_text z t = rows_text z t 0 z.rows
+abbrev pub screen_text : Size → (ℕ → ℕ → CellView) → List ℕ
+screen_text z cell = rows_text z cell 0 z.rows
 
 -- A fresh view of this size was given these pieces, one after another, and this is the text of what it shows: what it
 -- has parsed, and not what it holds.
@@ -33,7 +35,7 @@ pub record IsShown (z : Size) (pieces : List (List ℕ)) (text : List ℕ) : Typ
   pub parsed : List ℕ
   pub hold : Option (List ℕ)
   pub leads : Leads (map Gives pieces) [] None parsed hold
-  pub text_is : text ≡ screen_text z (seen z parsed)
+  pub text_is : text ≡ screen_text z (seen z parsed).cell
 
 -- From a source and a writer it answers so, and leaves both so.
 pub data Shows {S W : Type 0} (gives : S → ℕ → Result (List ℕ) Error → S → Type 0) (contents : W → Option (List ℕ))

@@ -1,9 +1,11 @@
 //! Why a command ended before its work was done.
 
 ghost use Rattle.std.specs.Prelude.{◌≡◌};
+ghost use Rattle.screenrelay.specs.Turns.{fault_of};
 ghost use Rattle.screenrelay.specs.declared.error.RelayError.TheVariants.{Memory};
 
 use std::alloc::{AllocError, AllocFailed};
+use termrelay::HubError;
 use termview::ViewError;
 use thiserror::Error;
 
@@ -45,5 +47,17 @@ impl From<ViewError> for RelayError {
 
     fn from(_error: ViewError) -> Self {
         RelayError::Memory
+    }
+}
+
+/// Only a writer's fault is one of writing: a hub that has failed found no memory.
+impl From<HubError> for RelayError {
+    ghost from_gives = { λ refusal e. e ≡ fault_of refusal };
+
+    fn from(refusal: HubError) -> Self {
+        match refusal {
+            HubError::Memory | HubError::Failed | HubError::UnknownClient => RelayError::Memory,
+            HubError::Write(_) => RelayError::Write,
+        }
     }
 }

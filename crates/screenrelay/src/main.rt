@@ -4,11 +4,9 @@
 mod command;
 mod error;
 mod far;
-mod frame;
 mod laws;
 mod output;
 mod relay;
-mod sheet;
 mod show;
 mod source;
 #[cfg(test)]

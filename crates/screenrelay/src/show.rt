@@ -60,11 +60,14 @@ fn read_view<S: Source>(view: &mut View<UntilCleared>, input: &mut S) -> Result<
 }
 
 // Writes the text of each row of what the view shows, and a newline after it.
-fn write_view<W: Write>(view: &View<UntilCleared>, output: &mut W) -> Result<(), RelayError>
+pub(crate) fn write_view<W: Write>(
+    view: &View<UntilCleared>,
+    output: &mut W,
+) -> Result<(), RelayError>
     ensures whole { OnOk result (Appends (W.contents output.old) (W.contents output.new)
-        (screen_text (size_of view.now) (shown_by view.now))) }
+        (screen_text (size_of view.now) (shown_by view.now).cell)) }
     ensures front { TakesFront (W.contents output.old) (W.contents output.new)
-        (screen_text (size_of view.now) (shown_by view.now)) }
+        (screen_text (size_of view.now) (shown_by view.now).cell) }
     ensures fault { IfErr result (λ e. e ≡ RelayError.Write) }
 {
     let (rows, _) = view.size();
@@ -81,9 +84,9 @@ fn write_row<W: Write>(
     output: &mut W,
 ) -> Result<(), RelayError>
     ensures whole { OnOk result (Appends (W.contents output.old) (W.contents output.new)
-        (row_line (size_of view.now) (shown_by view.now) row)) }
+        (row_line (size_of view.now) (shown_by view.now).cell row)) }
     ensures front { TakesFront (W.contents output.old) (W.contents output.new)
-        (row_line (size_of view.now) (shown_by view.now) row) }
+        (row_line (size_of view.now) (shown_by view.now).cell row) }
     ensures fault { IfErr result (λ e. e ≡ RelayError.Write) }
 {
     match view.row_text(row, output) {

@@ -1,11 +1,14 @@
 //! Whole commands, byte for byte, and faults of readers and writers in mid-stream.
 
 use crate::command::command;
-use crate::far::view_of;
+use crate::far::{far_view, view_of};
+use crate::show::write_view;
 use std::io;
 use std::io::{ErrorKind, Read, Write};
 use std::num::NonZeroU16;
 use std::test::Fail;
+use termrelay::{Call, Client, Hub, Log, Take, run};
+use vt100_forms::{Color, CursorStyle, MouseProtocolEncoding, MouseProtocolMode};
 
 const BLANK: &[u8] = b"\x1b[?2026h\x1b[?25h\x1b[m\x1b[H\x1b[J\x1b>\x1b[?1l\x1b[?2004l\x1b[?2026l";
 
@@ -14,6 +17,26 @@ const HI: &[u8] = b"\x1b[?2026h\x1b[?25h\x1b[m\x1b[H\x1b[Jhi\x1b>\x1b[?1l\x1b[?2
 const BEGUN: &[u8] = b"\x1b[?2026h\x1b[?25h\x1b[m\x1b[H\x1b[Jhi\x1b>\x1b[?1l\x1b[?2004l\x1b[?2026";
 
 const START: &[u8] = b"\x1b[?2026h";
+
+/// The bytes of `examples/editor.session`, and of `examples/editor.screen`.
+const EDITOR: &[u8] =
+    b"$ edit notes.txt\r\n\x1b[?1049h\x1b[?1h\x1b=\x1b[?25l\x1b[2J\x1b[1;1H\x1b[7m notes.txt\
+    \x1b[1;35H 1:1  \x1b[m\x1b[2;1H\x1b[1;33m# Shopping\x1b[m\x1b[3;1H\x1b[32m-\x1b[m bread\x1b[4;1H\x1b[32m-\x1b[m\
+    \x20milk\x1b[5;1H\x1b[94m~\r\n~\r\n~\x1b[m\x1b[8;1H\x1b[1m-- INSERT --\x1b[m\x1b[4;7H\x1b[?25h, th\xc3\xa9\
+    \x1b[D\x1b[P\xc3\xa9 and \xe7\xb1\xb3\x1b[1;35H\x1b[7m 3:15\x1b[m\x1b[4;17H";
+
+const EDITOR_SCREEN: &[u8] = b" notes.txt                         3:15 \n# Shopping\n- bread\n\
+    - milk, th\xc3\xa9 and \xe7\xb1\xb3\n~\n~\n~\n-- INSERT --\n";
+
+/// Those of `examples/build.session`, and of `examples/build.screen`.
+const BUILD: &[u8] =
+    b"\x1b[H\x1b[Jmake: entering directory\r\ncompiling parser\r\ncompiling screen\r\n\
+    [          ]   0%\r[#####     ]  50%\r[##########] 100%\r\n\r\nlinked 2 objects\x1b[1;7Hleft    \
+    \x1b[9;1Hdone\x1b[3C[exit 0]";
+
+const BUILD_SCREEN: &[u8] =
+    b"make: left     directory\ncompiling parser\ncompiling screen\n[##########] 100%\n\n\
+    linked 2 objects\n\n\ndone   [exit 0]\n\n\n\n";
 
 const USAGE: &[u8] = b"usage: screenrelay relay|show ROWS COLS\n";
 
@@ -104,7 +127,7 @@ fn commands(rt: HostRuntime) -> Result<(), Fail> {
             &["relay", "2", "4"],
             b"abcdxyz",
             0,
-            b"\x1b[?2026h\x1b[?25h\x1b[m\x1b[H\x1b[Jabcd\r\nxyz\x1b>\x1b[?1l\x1b[?2004l\x1b[?2026l",
+            b"\x1b[?2026h\x1b[?25h\x1b[m\x1b[H\x1b[Jabcdxyz\x1b>\x1b[?1l\x1b[?2004l\x1b[?2026l",
             b"",
         ),
         (&["relay", "0", "80"], b"hi", 2, b"", USAGE),
@@ -213,6 +236,67 @@ impl Read for AFew<'_> {
     }
 }
 
+// What `show` prints of what `relay` wrote of a session.
+#[test]
+fn examples(rt: HostRuntime) -> Result<(), Fail> {
+    let rows: [(&str, &str, &[u8], &[u8]); 2] = [
+        ("8", "40", EDITOR, EDITOR_SCREEN),
+        ("12", "40", BUILD, BUILD_SCREEN),
+    ];
+    for (height, width, session, screen) in rows {
+        let mut stream = Vec::new(rt.alloc());
+        let mut shown = Vec::new(rt.alloc());
+        let mut told = Vec::new(rt.alloc());
+        let mut left = session;
+        let status = command(
+            rt.alloc(),
+            &["relay", height, width],
+            &mut left,
+            &mut stream,
+            &mut told,
+        );
+        assert_eq!(rt; status, 0);
+        let mut left = stream.as_slice();
+        let status = command(
+            rt.alloc(),
+            &["show", height, width],
+            &mut left,
+            &mut shown,
+            &mut told,
+        );
+        assert_eq!(rt; status, 0);
+        assert_eq!(rt; shown.as_slice(), screen);
+    }
+    Ok(())
+}
+
+// A frame comes after each full piece, and one at the end where more has come since.
+#[test]
+fn frames(rt: HostRuntime) -> Result<(), Fail> {
+    let mut input = Vec::new(rt.alloc());
+    for _ in 0..4097 {
+        input.push(b'a')?;
+    }
+    let mut frames = Vec::new(rt.alloc());
+    frames.extend_from_slice(b"\x1b[?2026h\x1b[?25h\x1b[m\x1b[H\x1b[J")?;
+    for _ in 0..1856 {
+        frames.push(b'a')?;
+    }
+    frames.extend_from_slice(b"\x1b>\x1b[?1l\x1b[?2004l\x1b[?2026l")?;
+    let first = frames.len();
+    frames.extend_from_slice(b"\x1b[?2026ha\x1b[?2026l")?;
+    for (given, wanted) in [(4096, first), (4097, frames.len())] {
+        let mut left = &input[..given.min(input.len())];
+        let mut written = Vec::new(rt.alloc());
+        let mut told = Vec::new(rt.alloc());
+        let words: [&str; 3] = ["relay", "24", "80"];
+        let status = command(rt.alloc(), &words, &mut left, &mut written, &mut told);
+        assert_eq!(rt; status, 0);
+        assert_eq!(rt; written.as_slice(), &frames[..wanted.min(frames.len())]);
+    }
+    Ok(())
+}
+
 // A held update that is emptied in the last piece, for want of room: the second start mark ends in that piece, and
 // opens an update there. Cut as the reader gives it, the mark would be held, and the last byte shown.
 #[test]
@@ -251,6 +335,160 @@ fn views(rt: HostRuntime) -> Result<(), Fail> {
         let view = view_of(rt.alloc(), NonZeroU16::MIN, NonZeroU16::MAX, &stream, cuts)?;
         assert_eq!(rt; view.sync_bytes_count(), held);
     }
+    Ok(())
+}
+
+/// The key that a new hub gives its first client.
+fn first_key(rt: &HostRuntime, rows: NonZeroU16, cols: NonZeroU16) -> Result<Client, Fail> {
+    let mut hub = Hub::new(rt.alloc(), rows, cols)?;
+    let mut log = Log::new(rt.alloc());
+    run(&mut hub, &[Call::Attach], &mut log)?;
+    match log.sessions() {
+        [session, ..] => Ok(session.client()),
+        [] => Ok(Client::from_key(0)),
+    }
+}
+
+fn side(n: u16) -> NonZeroU16 {
+    NonZeroU16::new(n).unwrap_or(NonZeroU16::MIN)
+}
+
+// What a far view shows after two frames: the rows' text, the cursor, and whether the first row goes on in the second.
+#[test]
+fn far_views(rt: HostRuntime) -> Result<(), Fail> {
+    let rows: [(u16, u16, &[u8], &[u8], &[u8], (u16, u16), bool); 5] = [
+        (
+            2,
+            4,
+            b"abcdxyz",
+            b"\x1b[1;4He\x1b[2;2H\x1b[X",
+            b"abce\nx z\n",
+            (1, 1),
+            true,
+        ),
+        (
+            2,
+            4,
+            b"ab\xe4\xb8\xadx",
+            b"\x1b[1;4Hd",
+            b"ab d\nx\n",
+            (0, 4),
+            true,
+        ),
+        (
+            2,
+            4,
+            b"an\xe4\xb8\xady",
+            b"\x1b[1;2H\xe4\xb8\xadxy",
+            b"a\xe4\xb8\xadx\ny\n",
+            (1, 1),
+            true,
+        ),
+        (2, 2, b"ab", b"\x1b[2K", b"\n\n", (0, 2), false),
+        (
+            2,
+            4,
+            b"\xe4\xb8",
+            b"\xad",
+            b"\xe4\xb8\xad\n\n",
+            (0, 2),
+            false,
+        ),
+    ];
+    for (height, width, first, second, text, cursor, wraps) in rows {
+        let (height, width) = (side(height), side(width));
+        let key = first_key(&rt, height, width)?;
+        let calls: [Call<'_>; 7] = [
+            Call::Attach,
+            Call::Feed(first),
+            Call::Frame(key),
+            Call::Pump(key, &[]),
+            Call::Feed(second),
+            Call::Frame(key),
+            Call::Pump(key, &[]),
+        ];
+        let found = far_view(rt.alloc(), height, width, &calls, 0, usize::MAX, &[])?;
+        let view = found.ok_or("no view")?;
+        let mut shown = Vec::new(rt.alloc());
+        write_view(&view, &mut shown)?;
+        assert_eq!(rt; shown.as_slice(), text);
+        assert_eq!(rt; view.cursor_position(), cursor);
+        assert_eq!(rt; view.row_wrapped(0), wraps);
+    }
+    Ok(())
+}
+
+// All bytes but the last one of two frames show the first of them, wherever they are cut; all of them show the second.
+#[test]
+fn far_cuts(rt: HostRuntime) -> Result<(), Fail> {
+    let (height, width) = (side(24), side(80));
+    let key = first_key(&rt, height, width)?;
+    let calls: [Call<'_>; 8] = [
+        Call::Attach,
+        Call::Feed(b"this text is \x1b[31mRED\x1b[m"),
+        Call::Frame(key),
+        Call::Pump(key, &[Take::Bytes(10), Take::Fault]),
+        Call::Pump(key, &[]),
+        Call::Feed(b"\x1b[3D\x1b[32mGREEN"),
+        Call::Frame(key),
+        Call::Pump(key, &[]),
+    ];
+    for cut in 0..104 {
+        let take = if cut == 103 { 103 } else { 102 };
+        let found = far_view(rt.alloc(), height, width, &calls, 0, take, &[cut])?;
+        let view = found.ok_or("no view")?;
+        let cell = view.cell(0, 13).ok_or("no cell")?;
+        if take == 103 {
+            assert_eq!(rt; (cell.contents(), cell.fgcolor()), ("G", Color::Idx(2)));
+            assert_eq!(rt; view.cursor_position(), (0, 18));
+        } else {
+            assert_eq!(rt;
+                (cell.contents(), cell.fgcolor()),
+                ("R", Color::Idx(1)),
+                "{cut}"
+            );
+            assert_eq!(rt; view.cursor_position(), (0, 16));
+        }
+    }
+    let blank = far_view(rt.alloc(), height, width, &calls, 0, 0, &[])?;
+    assert_eq!(rt; blank.ok_or("no view")?.cursor_position(), (0, 0));
+    let none = far_view(rt.alloc(), height, width, &calls, 1, 0, &[])?;
+    assert!(rt; none.is_none());
+    Ok(())
+}
+
+// A client that was attached after a resize, and modes, colours and a style.
+#[test]
+fn far_screens(rt: HostRuntime) -> Result<(), Fail> {
+    let (height, width) = (side(2), side(4));
+    let key = first_key(&rt, height, width)?;
+    let calls: [Call<'_>; 5] = [
+        Call::Feed(b"a\r\nb\r\nc"),
+        Call::Resize(side(4), side(4)),
+        Call::Attach,
+        Call::Frame(key),
+        Call::Pump(key, &[]),
+    ];
+    let found = far_view(rt.alloc(), height, width, &calls, 0, usize::MAX, &[])?;
+    let view = found.ok_or("no view")?;
+    let mut shown = Vec::new(rt.alloc());
+    write_view(&view, &mut shown)?;
+    assert_eq!(rt; shown.as_slice(), b"\nb\nc\n\n".as_slice());
+    assert_eq!(rt; view.cursor_position(), (2, 1));
+    let calls: [Call<'_>; 4] = [
+        Call::Attach,
+        Call::Feed(b"\x1b[?1000h\x1b[?1006h\x1b[4 q\x1b=\x1b[?1h\x1b[91mA"),
+        Call::Frame(key),
+        Call::Pump(key, &[]),
+    ];
+    let found = far_view(rt.alloc(), side(1), side(3), &calls, 0, usize::MAX, &[])?;
+    let view = found.ok_or("no view")?;
+    let cell = view.cell(0, 0).ok_or("no cell")?;
+    assert_eq!(rt; (cell.contents(), cell.fgcolor()), ("A", Color::Idx(9)));
+    assert_eq!(rt; view.mouse_protocol_mode(), MouseProtocolMode::PressRelease);
+    assert_eq!(rt; view.mouse_protocol_encoding(), MouseProtocolEncoding::Sgr);
+    assert_eq!(rt; view.cursor_style(), CursorStyle::SteadyUnderline);
+    assert!(rt; view.application_keypad() && view.application_cursor());
     Ok(())
 }
 

@@ -1,4 +1,5 @@
-use Rattle.std.proofs.Common.{◌≡◌, ℕ, ◌+◌, ◌≤◌, ◌<◌, List, [], ◌∷◌, ◌++◌, Option, take, length, sym, ap, ◌∙◌, arith, subst, rules, Err}
+use Rattle.std.proofs.Common.{◌≡◌, ℕ, List, [], ◌∷◌, ◌++◌, take, length, arith}
+use Rattle.std.proofs.Common.{rules, Err}
 use Rattle.screenrelay.specs.Led.{Led}
 use Rattle.screenrelay.specs.Pieces.{piece_len}
 use Rattle.screenrelay.proofs.PieceLemmas.{none_read, filled_most, filled_on, filled_last, filled_fault}

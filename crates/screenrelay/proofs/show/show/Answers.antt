@@ -1,6 +1,6 @@
-use Rattle.std.proofs.Common.{◌≡◌, List, ℕ, Err, ◌∙◌, rules}
+use Rattle.std.proofs.Common.{◌≡◌, Err, ◌∙◌, rules}
 use Rattle.screenrelay.specs.declared.error.RelayError.TheVariants.{Memory, Write}
-use Rattle.screenrelay.specs.Shown.{Shows, IsShown, sized, screen_text, refused, unread, stopped}
+use Rattle.screenrelay.specs.Shown.{Shows, sized, refused, unread, stopped}
 use Rattle.screenrelay.proofs.OutcomeLemmas.{shows-text, shows_flushed}
 use Rattle.screenrelay.proofs.ViewLemmas.{shown_so, size_is}
 use Rattle.screenrelay.proofs.show.show.Goals as goal

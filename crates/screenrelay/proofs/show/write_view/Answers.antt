@@ -1,4 +1,4 @@
-use Rattle.std.proofs.Common.{◌≡◌, ℕ, List, ◌++◌, ◌+◌, ◌-◌, ◌∙◌, append_assoc, arith, sym}
+use Rattle.std.proofs.Common.{◌++◌, ◌+◌, ◌-◌, ◌∙◌, append_assoc, arith, sym}
 use Rattle.termview.specs.Standing.{shown_by, size_of}
 use Rattle.screenrelay.specs.Shown.{row_line, rows_text}
 use Rattle.screenrelay.proofs.OutputLemmas.{TakesFront-after, TakesFront-part, Appends-more, rows-next}
@@ -8,7 +8,7 @@ pub returns-in_err-write_row-clause-front : goal.returns-in_err-write_row-clause
 returns-in_err-write_row-clause-front g c =
     let so_far = c.loop-row.invariant in
     let z = size_of c.args.view.now in
-    let t = shown_by c.args.view.now in
+    let t = (shown_by c.args.view.now).cell in
     let row = c.loop-row.row in
     let end = c.get-row-end.result in
     let next = rows-next z t so_far.written row (end - row) (end - (row + 1)) so_far.follows (omega arith) in
@@ -19,7 +19,7 @@ pub loop-row-preserved : goal.loop-row-preserved
 loop-row-preserved g c =
     let so_far = c.loop-row.invariant in
     let z = size_of c.args.view.now in
-    let t = shown_by c.args.view.now in
+    let t = (shown_by c.args.view.now).cell in
     let row = c.loop-row.row in
     let end = c.get-row-end.result in
     let next = rows-next z t so_far.written row (end - row) (end - (row + 1)) so_far.follows (omega arith) in

@@ -9,6 +9,6 @@ abbrev pub invariant-loop-row : goal.invariant-loop-row
 invariant-loop-row g l = record {
   written : List ℕ;
   took : Appends (g.W.Write.contents l.fn.output) (g.W.Write.contents l.output) written;
-  follows : screen_text (size_of l.view) (shown_by l.view) ≡ written
-      ++ rows_text (size_of l.view) (shown_by l.view) l.row (l.row-end - l.row);
+  follows : screen_text (size_of l.view) (shown_by l.view).cell ≡ written
+      ++ rows_text (size_of l.view) (shown_by l.view).cell l.row (l.row-end - l.row);
 }

@@ -1,11 +1,12 @@
-use Rattle.std.proofs.Common.{◌≡◌, ◌≢◌, ℕ, List, [], Ok, Err, ◌+◌, ◌-◌, ◌≤◌, take, drop, length, sym, ap, ◌∙◌, arith}
-use Rattle.std.proofs.Common.{length-drop, refl, rules, ◌<◌}
+use Rattle.std.proofs.Common.{◌≡◌, ◌≢◌, [], Ok, ◌+◌, ◌-◌, take, length, sym, ap, arith}
+use Rattle.std.proofs.Common.{refl, rules}
 use Rattle.std.specs.IoError.{error_kind}
 use Rattle.std.specs.declared.io.ErrorKind.TheVariants.{Interrupted}
 use borrow.Rule.Slice.PartMut.{same_len_mid}
 use Rattle.std.proofs.lemmas.List.{length-take-le}
 use Rattle.screenrelay.specs.Fill.{Fills, Full, Ended, Failed, TooMany, full, stopped, ended, failed}
-use Rattle.screenrelay.proofs.FillLemmas.{take_put, front_put, front_put-len, front_is, window, begun, once_more, some_more, filled}
+use Rattle.screenrelay.proofs.FillLemmas.{take_put, front_put, front_put-len, front_is, window, begun, once_more}
+use Rattle.screenrelay.proofs.FillLemmas.{some_more, filled}
 use Rattle.screenrelay.proofs.source.fill.Goals as goal
 
 pub reading-init : goal.reading-init
@@ -69,8 +70,8 @@ returns-then-ne g c =
     let read = rw (window piece len) at c.in-Err.ensures.gives in
     filled g.row.S.Denot g.S.Source.gives c.args.input.now (length c.args.piece.now) c.reading.input c.give.new.self
     (length piece - len) inv.made 1 c.args.reads.now (c.reading.reads + 1) (take len piece) _ Failed _ inv.goes_on
-    (failed (omega arith) read (search rules)) (front_put piece c.give.new.room len _) (omega (arith, inv.counted)) (omega arith)
-    refl
+    (failed (omega arith) read (search rules)) (front_put piece c.give.new.room len _) (omega (arith, inv.counted))
+    (omega arith) refl
 
 pub reading-preserved : goal.reading-preserved
 reading-preserved g c =
