@@ -1,0 +1,268 @@
+//! Runs of a hub.
+use crate::play::Step::{
+    Attach, Color, Detach, Feed, Frame, NoFrame, Pump, Resize, Shows, Unknown,
+};
+use crate::play::play;
+use std::test::Fail;
+use termrelay::Answer::{Behind, Difference, Full, Unchanged, Unsure};
+
+/// The first frame of a blank screen.
+pub const BLANK: &[u8] =
+    b"\x1b[?2026h\x1b[?25h\x1b[m\x1b[H\x1b[J\x1b>\x1b[?1l\x1b[?2004l\x1b[?2026l";
+
+/// What a writer takes that takes all.
+const ALL: usize = usize::MAX;
+
+/// A word is drawn over, and a second client comes late.
+#[test]
+fn a_word_is_drawn_over(rt: HostRuntime) -> Result<(), Fail> {
+    let steps = &[
+        Attach,
+        Feed(b"this text is \x1b[31mRED\x1b[m"),
+        Frame(
+            0,
+            Full,
+            b"\x1b[?2026h\x1b[?25h\x1b[m\x1b[H\x1b[Jthis text is \x1b[31mRED\x1b[m\x1b>\x1b[?1l\x1b[?2004l\x1b[?2026l",
+        ),
+        Pump(0, ALL),
+        Color(0, 13, 1),
+        Feed(b"\x1b[3D\x1b[32mGREEN"),
+        Frame(
+            0,
+            Difference,
+            b"\x1b[?2026h\x1b[1;14H\x1b[32mGREEN\x1b[?2026l",
+        ),
+        Color(0, 13, 2),
+        Attach,
+        Frame(
+            1,
+            Full,
+            b"\x1b[?2026h\x1b[?25h\x1b[m\x1b[H\x1b[Jthis text is \x1b[32mGREEN\x1b>\x1b[?1l\x1b[?2004l\x1b[?2026l",
+        ),
+    ];
+    play(&rt, (24, 80), steps)
+}
+
+/// A size, a stream and the first frame, and then another stream and the next frame.
+type Case = (
+    (u16, u16),
+    &'static [u8],
+    &'static [u8],
+    &'static [u8],
+    &'static [u8],
+);
+
+const DIFFERENCES: &[Case] = &[
+    (
+        (2, 4),
+        b"abcdxyz",
+        b"\x1b[?2026h\x1b[?25h\x1b[m\x1b[H\x1b[Jabcdxyz\x1b>\x1b[?1l\x1b[?2004l\x1b[?2026l",
+        b"\x1b[1;4He\x1b[2;2H\x1b[X",
+        b"\x1b[?2026h\x1b[1;4He\x1b[2;2H\x1b[X\x1b[?2026l",
+    ),
+    (
+        (2, 4),
+        b"ab\xE4\xB8\xADx",
+        b"\x1b[?2026h\x1b[?25h\x1b[m\x1b[H\x1b[Jab\xE4\xB8\xADx\x1b>\x1b[?1l\x1b[?2004l\x1b[?2026l",
+        b"\x1b[1;4Hd",
+        b"\x1b[?2026h\x1b[1;3H\x1b[X\x1b[Cd\x1b[1;4Hdx\x08\x1b[1;4Hd\x1b[?2026l",
+    ),
+    (
+        (2, 4),
+        b"an\xE4\xB8\xADy",
+        b"\x1b[?2026h\x1b[?25h\x1b[m\x1b[H\x1b[Jan\xE4\xB8\xADy\x1b>\x1b[?1l\x1b[?2004l\x1b[?2026l",
+        b"\x1b[1;2H\xE4\xB8\xADxy",
+        b"\x1b[?2026h\x1b[1;2H\xE4\xB8\xADx\x1b[1;4Hxy\x08\x1b[C\x1b[?2026l",
+    ),
+    (
+        (2, 2),
+        b"ab",
+        b"\x1b[?2026h\x1b[?25h\x1b[m\x1b[H\x1b[Jab\x1b>\x1b[?1l\x1b[?2004l\x1b[?2026l",
+        b"\x1b[2K",
+        b"\x1b[?2026h\x1b[H\x1b[K\x1b[C \x1b7\x08\x1b[X\x1b8\x1b[?2026l",
+    ),
+];
+
+#[test]
+fn differences(rt: HostRuntime) -> Result<(), Fail> {
+    for (size, first, full, second, difference) in DIFFERENCES {
+        let steps = &[
+            Attach,
+            Feed(first),
+            Frame(0, Full, full),
+            Pump(0, ALL),
+            Feed(second),
+            Frame(0, Difference, difference),
+            Pump(0, ALL),
+            NoFrame(0, Unchanged),
+        ];
+        play(&rt, *size, steps)?;
+    }
+    Ok(())
+}
+
+/// Half a character shows nothing, and a frame doesn't end it.
+#[test]
+fn half_a_character(rt: HostRuntime) -> Result<(), Fail> {
+    let steps = &[
+        Attach,
+        Frame(0, Full, BLANK),
+        Pump(0, ALL),
+        Feed(b"\xE4\xB8"),
+        NoFrame(0, Unchanged),
+        Pump(0, 0),
+        Feed(b"\xAD"),
+        Frame(0, Difference, b"\x1b[?2026h\xE4\xB8\xAD\x1b[?2026l"),
+        Pump(0, ALL),
+        Feed(b"a\xC3"),
+        Frame(0, Difference, b"\x1b[?2026ha\x1b[?2026l"),
+        Pump(0, ALL),
+        Feed(b"\xA9"),
+        Frame(0, Difference, b"\x1b[?2026h\xC3\xA9\x1b[?2026l"),
+    ];
+    play(&rt, (2, 4), steps)
+}
+
+/// A screen that asks for an emoji, and one that doesn't any more.
+#[test]
+fn an_emoji_comes_and_goes(rt: HostRuntime) -> Result<(), Fail> {
+    let steps = &[
+        Attach,
+        Feed(b"\xE2\x9D\xA4\xEF\xB8\x8F"),
+        Frame(
+            0,
+            Unsure,
+            b"\x1b[?2026h\x1b[?25h\x1b[m\x1b[H\x1b[J\xE2\x9D\xA4\xEF\xB8\x8F\x1b>\x1b[?1l\x1b[?2004l\x1b[?2026l",
+        ),
+        Pump(0, ALL),
+        Feed(b"\x1b[2J"),
+        Frame(
+            0,
+            Full,
+            b"\x1b[?2026h\x1b[?25h\x1b[m\x1b[H\x1b[J\x1b[2C\x1b[?2026l",
+        ),
+    ];
+    play(&rt, (2, 4), steps)
+}
+
+/// A size, a stream, what is shown then, and the first frame.
+const FIRST_FRAMES: &[((u16, u16), &[u8], &str, (u16, u16), &[u8])] = &[
+    (
+        (2, 1),
+        b"\xE2\x9D\xA4\xEF\xB8\x8F",
+        "\u{2764}",
+        (0, 1),
+        b"\x1b[?2026h\x1b[?25h\x1b[m\x1b[H\x1b[J\xE2\x9D\xA4\x1b>\x1b[?1l\x1b[?2004l\x1b[?2026l",
+    ),
+    (
+        (1, 3),
+        b"\x1b[?1000h\x1b[?1006h\x1b[4 q\x1b=\x1b[?1h\x1b[91mA",
+        "A",
+        (0, 1),
+        b"\x1b[?2026h\x1b[?25h\x1b[m\x1b[H\x1b[J\x1b[91mA\x1b=\x1b[?1h\x1b[?2004l\x1b[?1000h\x1b[?1006h\
+        \x1b[4 q\x1b[?2026l",
+    ),
+    (
+        (1, 65_535),
+        b"\x1b[1;65535Hab",
+        "b",
+        (0, 1),
+        b"\x1b[?2026h\x1b[?25h\x1b[m\x1b[H\x1b[Jb\x1b>\x1b[?1l\x1b[?2004l\x1b[?2026l",
+    ),
+];
+
+#[test]
+fn first_frames(rt: HostRuntime) -> Result<(), Fail> {
+    for (size, stream, text, cursor, frame) in FIRST_FRAMES {
+        let steps = &[
+            Feed(stream),
+            Shows(text, *cursor),
+            Attach,
+            Frame(0, Full, frame),
+        ];
+        play(&rt, *size, steps)?;
+    }
+    Ok(())
+}
+
+/// The writer fails in mid-frame, and the next one gets the rest.
+#[test]
+fn a_writer_fails(rt: HostRuntime) -> Result<(), Fail> {
+    let steps = &[
+        Attach,
+        Frame(0, Full, BLANK),
+        Pump(0, 10),
+        Feed(b"x"),
+        NoFrame(0, Behind),
+        Pump(0, 36),
+        Frame(0, Difference, b"\x1b[?2026hx\x1b[?2026l"),
+    ];
+    play(&rt, (24, 80), steps)
+}
+
+/// Every client ends, also where the size stays.
+#[test]
+fn sizes(rt: HostRuntime) -> Result<(), Fail> {
+    let same = &[
+        Attach,
+        Resize(24, 80),
+        Unknown(0),
+        Attach,
+        Frame(1, Full, BLANK),
+    ];
+    play(&rt, (24, 80), same)?;
+    let higher = &[
+        Feed(b"a\r\nb\r\nc"),
+        Resize(4, 4),
+        Shows("\nb\nc", (2, 1)),
+        Attach,
+        Frame(
+            0,
+            Full,
+            b"\x1b[?2026h\x1b[?25h\x1b[m\x1b[H\x1b[J\r\nb\r\nc\x1b>\x1b[?1l\x1b[?2004l\x1b[?2026l",
+        ),
+    ];
+    play(&rt, (2, 4), higher)
+}
+
+/// Clients that never came or have ended are unknown.
+#[test]
+fn clients_end(rt: HostRuntime) -> Result<(), Fail> {
+    let steps = &[
+        Unknown(7),
+        Attach,
+        Frame(0, Full, BLANK),
+        Detach(0),
+        Unknown(0),
+        Attach,
+        Frame(1, Full, BLANK),
+        Pump(1, ALL),
+        NoFrame(1, Unchanged),
+        Pump(1, 0),
+    ];
+    play(&rt, (24, 80), steps)
+}
+
+/// Each client's frames lead on from its own last one, however many were made at one moment.
+#[test]
+fn bases_are_each_clients_own(rt: HostRuntime) -> Result<(), Fail> {
+    let steps = &[
+        Attach,
+        Attach,
+        Attach,
+        Frame(0, Full, BLANK),
+        Frame(1, Full, BLANK),
+        Frame(2, Full, BLANK),
+        Pump(0, ALL),
+        Pump(1, ALL),
+        Pump(2, ALL),
+        Feed(b"x"),
+        Frame(0, Difference, b"\x1b[?2026hx\x1b[?2026l"),
+        Feed(b"y"),
+        Frame(1, Difference, b"\x1b[?2026hxy\x1b[?2026l"),
+        Pump(0, ALL),
+        Frame(0, Difference, b"\x1b[?2026hy\x1b[?2026l"),
+        Frame(2, Difference, b"\x1b[?2026hxy\x1b[?2026l"),
+    ];
+    play(&rt, (24, 80), steps)
+}
