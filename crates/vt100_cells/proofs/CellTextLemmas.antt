@@ -3,7 +3,7 @@ use Rattle.std.proofs.Common.{◌≡◌, ℕ, zero, suc, ◌+◌, ◌-◌, ◌<�
 use Rattle.std.proofs.Common.{length, take}
 use Rattle.std.proofs.Common.{take_all, drop, set, replicate, sym, refl, ap, ◌∙◌, arith, length-append, length-take}
 use Rattle.std.proofs.Common.{length-drop}
-use Rattle.std.proofs.Common.{nat_eq, rules, append-nil}
+use Rattle.std.proofs.Common.{nat_eq, nat_lt, rules, append-nil}
 use Rattle.std.specs.Prelude.{encode_utf8_all, encode_utf8, chars, IsUtf8, slice_index}
 use Rattle.std.specs.Char.{IsScalar}
 use Rattle.std.specs.Str.{IsAscii}
@@ -12,7 +12,7 @@ use Rattle.std.proofs.lemmas.Cmp.{nat_list_eq_equiv}
 use Rattle.std.specs.Cmp.{both_ways}
 use Rattle.vt100_cells.specs.CellEq.{text_eq-true}
 use Rattle.std.proofs.lemmas.Bool.Decides.{nat_tests}
-use Rattle.std.proofs.lemmas.List.{drop-drop, drop-replicate}
+use Rattle.std.proofs.lemmas.List.{drop-drop, drop-replicate, take-take}
 use Rattle.std.proofs.lemmas.Str.{IsUtf8-had, chars-append, IsUtf8-append, chars-encodes, length-encode}
 use Rattle.std.proofs.lemmas.Str.{len_utf8_bounds, IsUtf8-from_ascii, chars-IsAscii, encode_ascii}
 use Rattle.std.proofs.lemmas.Slice.{take-put_mid, drop-put_mid}
@@ -20,6 +20,7 @@ use borrow.Rule.Slice.PartMut.{put_mid}
 use Rattle.vt100_cells.specs.declared.cell_text.CellText.TheInside.{Inside}
 use Rattle.vt100_cells.specs.Cell.{has_room, text_eq}
 use Rattle.vt100_cells.specs.CellFields.{IsText, text_of, length-text_of, fields_of, fields_of-text_of}
+use Rattle.vt100_cells.specs.CellFields.{padded, start_eq, is_short}
 
 pub len-text_of : (t : Inside) (cs : List ℕ) → IsText t → text_of t ≡ cs → t.len ≡ length (encode_utf8_all cs)
 len-text_of t cs h e = sym (length-text_of t h) ∙ ap (λ x. length (encode_utf8_all x)) e
@@ -118,6 +119,53 @@ same-fields t u ht hu = both_ways (nat_eq t.len u.len && text_eq t.bytes u.bytes
     ∙ fields_of-text_of u hu in
     ap (λ (w : Inside). nat_eq t.len w.len && text_eq t.bytes w.bytes) (sym e)
     ∙ rw (eq-eqb t.len t.len refl) (nat_list_eq_equiv.refl t.bytes))
+
+-- ---- starts and rests
+
+pub start-fields : (t u : Inside) → IsText t → IsText u
+    → (nat_eq t.len u.len && text_eq (take 5 t.bytes) (take 5 u.bytes)) ≡ start_eq (text_of t) (text_of u)
+start-fields t u ht hu =
+    let m = length-text_of t ht in
+    let n = length-text_of u hu in
+    let p = fields_of-text_of t ht in
+    let q = fields_of-text_of u hu in
+    λ i. nat_eq (sym m i) (sym n i) && text_eq (take 5 (sym p i).bytes) (take 5 (sym q i).bytes)
+
+pub short-fields : (t : Inside) → IsText t → nat_lt t.len 6 ≡ is_short (text_of t)
+short-fields t h = ap (λ n. nat_lt n 6) (sym (length-text_of t h))
+
+take-short : (n : ℕ) (xs : List ℕ) → n ≤ 5 → take n (take 5 xs) ≡ take n xs
+take-short n xs h = take-take n 5 xs h
+
+-- short texts with the same start are the same
+pub short-same : (t u : Inside) → IsText t → IsText u → nat_lt t.len 6 ≡ true
+    → (nat_eq t.len u.len && text_eq (take 5 t.bytes) (take 5 u.bytes)) ≡ true
+    → true ≡ text_eq (text_of t) (text_of u)
+short-same t u ht hu short h =
+    let p = and_parts (nat_eq t.len u.len) (text_eq (take 5 t.bytes) (take 5 u.bytes)) h in
+    let n = eqb-true t.len u.len p.0 in
+    let bs = text_eq-true (take 5 t.bytes) (take 5 u.bytes) p.1 in
+    let less : t.len < 6 = ltb-true t.len 6 short in
+    let le : t.len ≤ 5 = omega (arith, less) in
+    let e : text_of t ≡ text_of u =
+    ap chars (sym (take-short t.len t.bytes le) ∙ ap (take t.len) bs ∙ take-short t.len u.bytes le
+    ∙ ap (λ k. take k u.bytes) n) in
+    sym (ap (text_eq (text_of t)) (sym e) ∙ nat_list_eq_equiv.refl (text_of t))
+
+-- where the starts are the same, texts are the same where all bytes are
+pub rest-same : (t u : Inside) → IsText t → IsText u
+    → (nat_eq t.len u.len && text_eq (take 5 t.bytes) (take 5 u.bytes)) ≡ true
+    → text_eq t.bytes u.bytes ≡ text_eq (text_of t) (text_of u)
+rest-same t u ht hu h =
+    let p = and_parts (nat_eq t.len u.len) (text_eq (take 5 t.bytes) (take 5 u.bytes)) h in
+    ap (λ b. b && text_eq t.bytes u.bytes) (sym p.0) ∙ same-fields t u ht hu
+
+-- the same texts have the same start
+pub start_eq-of_same : (x y : List ℕ) → text_eq x y ≡ true → start_eq x y ≡ true
+start_eq-of_same x y h =
+    let e = text_eq-true x y h in
+    ap (start_eq x) (sym e) ∙ rw (eq-eqb (length (encode_utf8_all x)) (length (encode_utf8_all x)) refl)
+    (nat_list_eq_equiv.refl (take 5 (padded x)))
 
 -- ---- texts that are compared byte by byte
 

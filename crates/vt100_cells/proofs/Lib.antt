@@ -1,8 +1,10 @@
 pub mod CellTextLemmas
+pub mod CellStarts
 pub mod WidthLemmas
 pub mod CellLemmas
 pub mod ListLemmas
 pub mod LineLemmas
+pub mod SameCells
 pub mod MoveLemmas
 pub mod EditedCells
 pub mod EditLemmas
@@ -11,3 +13,4 @@ pub mod TrimLemmas
 pub mod JoinedCells
 pub mod CellTexts
 pub mod RunLemmas
+pub mod TextRunLemmas

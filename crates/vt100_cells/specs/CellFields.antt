@@ -1,10 +1,11 @@
 -- The fields of a cell and of its text, and what a contract sees of them.
 use Rattle.std.specs.Prelude.{ℕ, ◌-◌, ◌≡◌, ◌≤◌, Bool, true, false, List, ◌++◌, length, take, drop, replicate, chars}
-use Rattle.std.specs.Prelude.{encode_utf8_all, IsUtf8, refl}
+use Rattle.std.specs.Prelude.{encode_utf8_all, IsUtf8, refl, ◌==◌, ◌&&◌, nat_lt}
 use Rattle.std.proofs.Common.{arith, take-append-drop, length-take-le, sym, ap, ◌∙◌}
 use Rattle.std.proofs.lemmas.Str.{IsUtf8-had, encodes-chars}
 use Rattle.vt100_cells.specs.declared.cell_text.CellText.TheInside.{Inside as TextInside}
-use Rattle.vt100_cells.specs.Cell.{CellView, IsCell}
+use Rattle.vt100_forms.specs.Attrs.{attrs_eq}
+use Rattle.vt100_cells.specs.Cell.{CellView, IsCell, text_eq, bool_eq}
 use Rattle.vt100_cells.specs.declared.cell.Cell.TheInside.{Inside as CellInside}
 use Rattle.vt100_cells.specs.declared.cell.Span.{Span}
 use Rattle.vt100_cells.specs.declared.cell.Span.TheVariants.{Narrow, Wide, Continuation}
@@ -43,6 +44,21 @@ fields_of-text_of t h =
     let both : encode_utf8_all (text_of t) ++ replicate (21 - length (encode_utf8_all (text_of t))) 0 ≡ t.bytes =
     rw (n, e) whole in
     λ i. record { bytes = both i; len = n i }
+
+-- ---- how texts are compared
+
+-- the bytes of the field
+abbrev pub padded : List ℕ → List ℕ
+padded cs = (fields_of cs).bytes
+
+-- as many bytes, and the same first five
+abbrev pub start_eq : List ℕ → List ℕ → Bool
+start_eq x y = (length (encode_utf8_all x) == length (encode_utf8_all y))
+    && text_eq (take 5 (padded x)) (take 5 (padded y))
+
+-- the first five bytes are all
+abbrev pub is_short : List ℕ → Bool
+is_short x = nat_lt (length (encode_utf8_all x)) 6
 
 -- ---- the columns
 
@@ -93,3 +109,8 @@ inside_of-view_of c h = λ i. record {
   bgcolor = c.bgcolor;
   mode = c.mode;
 }
+
+-- all but the rest of the text
+abbrev pub cell_start_eq : CellView → CellView → Bool
+cell_start_eq x y = (attrs_eq x.attrs y.attrs && (bool_eq x.wide y.wide && bool_eq x.continuation y.continuation))
+    && start_eq x.text y.text

@@ -1,5 +1,5 @@
 -- Lists of cells, and the lines that they are.
-use Rattle.std.specs.Prelude.{ℕ, suc, ◌-◌, ◌==◌, ◌&&◌, nat_lt, min, List, [], ◌∷◌, length, map, slice_index_or}
+use Rattle.std.specs.Prelude.{ℕ, ◌≡◌, ◌≤◌, ◌<◌, suc, ◌-◌, ◌==◌, ◌&&◌, nat_lt, min, List, [], ◌∷◌, length, map, slice_index_or}
 use Rattle.std.specs.Prelude.{if◌then◌else◌}
 use Rattle.std.specs.List.{range_with_len}
 use Rattle.vt100_cells.specs.Cell.{CellView, default_cell, is_default}
@@ -8,6 +8,10 @@ use Rattle.vt100_cells.specs.Line.{cut, opened}
 -- the line of these cells: the cell at column k, and a default cell past the last column
 abbrev pub cell_at : List CellView → ℕ → CellView
 cell_at cells k = slice_index_or cells k default_cell
+
+-- two lines have the same cells in the columns from `from` up to `to`
+abbrev pub AreSame : (ℕ → CellView) → (ℕ → CellView) → ℕ → ℕ → Type 0
+AreSame f g from to = (k : ℕ) → from ≤ k → k < to → f k ≡ g k
 
 -- n cells, where the one at column k is f k
 abbrev pub by_position : ℕ → (ℕ → CellView) → List CellView

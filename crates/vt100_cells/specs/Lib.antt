@@ -1,6 +1,7 @@
 pub mod Cell
 pub mod CellEq
 pub mod CellFields
+pub mod TextRunFields
 pub mod ColorFields
 pub mod Cells
 pub mod Line

@@ -5,7 +5,7 @@ ghost use Rattle.vt100_forms.specs.Attrs.{attrs_eq, is_bold, is_dim, is_italic, 
 ghost use Rattle.vt100_cells.specs.Cell.{IsCell, cell_eq};
 
 use crate::cell_color::CellColor;
-use crate::cell_text::CellText;
+use crate::cell_text::{CellText, SHORT_BYTES};
 use std::marker::Model;
 use std::mem::size_of;
 use vt100_forms::Color;
@@ -28,11 +28,12 @@ pub(crate) enum Span {
 /// zero-width ones, each of which was put on while there were fewer than 18 bytes: 21 bytes at most.
 #[derive(Clone, Copy, Debug)]
 pub struct Cell {
-    text: CellText,
-    span: Span,
+    // In this order the attributes, the span and the start of the text are the first 16 bytes.
     fgcolor: CellColor,
     bgcolor: CellColor,
     mode: u8,
+    span: Span,
+    text: CellText,
 }
 
 const _: () = prove!(size_of::<Cell>() <= 32);
@@ -69,16 +70,11 @@ impl PartialEq for Cell {
 }
 
 /// Whether two cells have the same text, columns and attributes.
-// Every byte of the cells is compared, with no early exit: LLVM makes two comparisons of 16 bytes of it.
 #[inline(always)]
 pub(crate) fn is_same(cell: &Cell, other: &Cell) -> bool
     ensures { result ≡ cell_eq cell.now other.now }
 {
-    cell.text.is_same(&other.text)
-        & (cell.span == other.span)
-        & cell.fgcolor.is_same(&other.fgcolor)
-        & cell.bgcolor.is_same(&other.bgcolor)
-        & (cell.mode == other.mode)
+    cell.has_start_of(other) && cell.has_rest_of(other)
 }
 
 impl Eq for Cell {
@@ -92,6 +88,7 @@ impl Cell {
     ghost use Rattle.vt100_cells.specs.Cell.{empty_cell, default_cell, continuation_cell, cell_of, appended};
     ghost use Rattle.vt100_cells.specs.Cell.{appended_plain, drawn_columns, has_room};
     ghost use Rattle.vt100_cells.specs.Cell.{has_text, is_default, IsPrintable};
+    ghost use Rattle.vt100_cells.specs.CellFields.{cell_start_eq};
 
     /// A cell that shows nothing, with default attributes.
     pub fn new() -> Self
@@ -246,6 +243,24 @@ impl Cell {
         !self.text.is_empty()
     }
 
+    /// Whether the cell has a text, and one of at most four bytes. For redraws alone.
+    #[doc(hidden)]
+    #[inline(always)]
+    pub fn has_short_text(&self) -> bool
+        ensures { IsTrue result ↔ ((has_text self.now ≡ true) × (length (encode_utf8_all self.now.text) ≤ 4)) }
+    {
+        let len = self.text.len();
+        (len != 0) & (len <= SHORT_BYTES)
+    }
+
+    /// The text.
+    #[inline(always)]
+    pub(crate) fn text(&self) -> &CellText
+        ensures { result.now ≡ self.now.text }
+    {
+        &self.text
+    }
+
     /// Whether the cell takes the next column too.
     pub fn is_wide(&self) -> bool
         ensures value { result ≡ self.now.wide }
@@ -282,6 +297,23 @@ impl Cell {
         self.fgcolor.is_same(&other.fgcolor)
             & self.bgcolor.is_same(&other.bgcolor)
             & (self.mode == other.mode)
+    }
+
+    /// Whether the cells are the same but for what comes after the first bytes of their texts.
+    // These are the first 16 bytes of a cell, and LLVM makes one comparison of them.
+    #[inline(always)]
+    pub(crate) fn has_start_of(&self, other: &Self) -> bool
+        ensures { result ≡ cell_start_eq self.now other.now }
+    {
+        self.has_attrs_of(other) & (self.span == other.span) & self.text.has_start_of(&other.text)
+    }
+
+    /// Whether cells with the same start are the same.
+    #[inline(always)]
+    pub(crate) fn has_rest_of(&self, other: &Self) -> bool
+        ensures { cell_start_eq self.now other.now ≡ true → result ≡ cell_eq self.now other.now }
+    {
+        self.text.has_rest_of(&other.text)
     }
 
     /// How the cell is drawn.

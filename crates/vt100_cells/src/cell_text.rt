@@ -1,7 +1,7 @@
 //! The text of a cell, which lies in the cell itself.
 ghost use Rattle.std.specs.Prelude.{◌≡◌, ℕ, ◌+◌, ◌-◌, ◌<◌, ◌≤◌, ◌==◌, List, [], ◌∷◌, ◌++◌, length, IsTrue};
 ghost use Rattle.std.specs.Prelude.{encode_utf8_all, chars, slice_set, slice_index, nat_eq, nat_lt, not, true, false};
-ghost use Rattle.std.specs.Prelude.{◌&&◌};
+ghost use Rattle.std.specs.Prelude.{◌&&◌, take, IsUtf8};
 ghost use Rattle.std.specs.Char.{IsScalar};
 ghost use Rattle.unicode_width.specs.Width.{str_width};
 ghost use Rattle.vt100_cells.specs.Cell.{text_eq};
@@ -13,15 +13,22 @@ use unicode_width::UnicodeWidthStr;
 /// How many bytes a text has at most: 17, and a character of 4.
 const CONTENT_BYTES: usize = 21;
 
+/// How many of them are compared first. Most texts have no more.
+const START_BYTES: usize = 5;
+
 /// A text with this many bytes takes no further character.
 const FULL_BYTES: usize = 18;
+
+/// How many bytes a short text has at most: those of one character.
+pub(crate) const SHORT_BYTES: usize = 4;
 
 /// A UTF-8 text of at most 21 bytes.
 #[derive(Clone, Copy, Debug)]
 pub(crate) struct CellText {
+    // Before the bytes: so the length, the first bytes and what else a cell has lie in 16 bytes.
+    len: u8,
     // The bytes past `len` are 0, so that equal texts have equal fields.
     bytes: [u8; CONTENT_BYTES],
-    len: u8,
 }
 
 impl Model for CellText {
@@ -42,13 +49,30 @@ impl Model for CellText {
 
 impl CellText {
     ghost use Rattle.vt100_cells.specs.Cell.{text_with, has_room, is_widened_by};
+    ghost use Rattle.vt100_cells.specs.CellFields.{start_eq, is_short};
 
-    /// Whether the texts are the same.
+    /// Whether the texts have the same length and the same first bytes.
     #[inline(always)]
-    pub(crate) fn is_same(&self, other: &Self) -> bool
-        ensures { result ≡ text_eq self.now other.now }
+    pub(crate) fn has_start_of(&self, other: &Self) -> bool
+        ensures { result ≡ start_eq self.now other.now }
     {
-        (self.len == other.len) & have_same_bytes(&self.bytes, &other.bytes)
+        (self.len == other.len) & have_same_start(&self.bytes, &other.bytes)
+    }
+
+    /// Whether texts with the same start are the same: where they are short, they have no other bytes.
+    #[inline(always)]
+    pub(crate) fn has_rest_of(&self, other: &Self) -> bool
+        ensures { start_eq self.now other.now ≡ true → result ≡ text_eq self.now other.now }
+    {
+        self.is_short() || have_same_rest(&self.bytes, &other.bytes)
+    }
+
+    /// Whether the first bytes are the whole text.
+    #[inline(always)]
+    pub(crate) fn is_short(&self) -> bool
+        ensures { result ≡ is_short self.now }
+    {
+        usize::from(self.len) < START_BYTES + 1
     }
 
     pub(crate) const fn new() -> Self
@@ -99,6 +123,24 @@ impl CellText {
         self.len == 0
     }
 
+    /// How many bytes the text has.
+    #[inline(always)]
+    pub(crate) fn len(&self) -> usize
+        ensures { result ≡ length (encode_utf8_all self.now) }
+    {
+        usize::from(self.len)
+    }
+
+    /// The first four bytes, of which those past the text are 0.
+    #[inline(always)]
+    pub(crate) fn first_bytes(&self) -> &[u8]
+        ensures size { length result.now ≡ 4 }
+        ensures text { let bs = encode_utf8_all self.now in length bs ≤ 4 → take (length bs) result.now ≡ bs }
+        ensures utf8 { IsUtf8 (encode_utf8_all self.now) }
+    {
+        &self.bytes[..SHORT_BYTES]
+    }
+
     pub(crate) fn has_room(&self) -> bool
         ensures { result ≡ has_room self.now }
     {
@@ -146,13 +188,25 @@ impl CellText {
     }
 }
 
-/// Whether two texts have the same bytes, with no early exit.
+/// Whether two texts have the same first bytes, with no early exit.
 #[inline(always)]
-fn have_same_bytes(bytes: &[u8; CONTENT_BYTES], others: &[u8; CONTENT_BYTES]) -> bool
-    ensures { result ≡ text_eq bytes.now others.now }
+fn have_same_start(bytes: &[u8; CONTENT_BYTES], others: &[u8; CONTENT_BYTES]) -> bool
+    ensures { result ≡ text_eq (take 5 bytes.now) (take 5 others.now) }
 {
     let mut same = true;
-    for i in 0..CONTENT_BYTES {
+    for i in 0..START_BYTES {
+        same &= bytes[i] == others[i];
+    }
+    same
+}
+
+/// Whether two texts with the same first bytes are the same, with no early exit.
+#[inline(always)]
+fn have_same_rest(bytes: &[u8; CONTENT_BYTES], others: &[u8; CONTENT_BYTES]) -> bool
+    ensures { text_eq (take 5 bytes.now) (take 5 others.now) ≡ true → result ≡ text_eq bytes.now others.now }
+{
+    let mut same = true;
+    for i in START_BYTES..CONTENT_BYTES {
         same &= bytes[i] == others[i];
     }
     same

@@ -2,11 +2,11 @@
 ghost use Rattle.std.specs.Prelude.{◌≡◌, ℕ, ◌+◌, ◌-◌, ◌<◌, ◌≤◌, ◌==◌, List, length, Some, true, false, not, ◌&&◌};
 ghost use Rattle.std.specs.Prelude.{slice_set, All, slice_index, Decides};
 ghost use Rattle.vt100_cells.specs.Cell.{CellView, IsCell, has_text, is_filled, drawn_columns, cell_of, empty_cell};
-ghost use Rattle.vt100_cells.specs.Cell.{default_cell, IsPrintable};
+ghost use Rattle.vt100_cells.specs.Cell.{IsPrintable, cell_eq};
 ghost use Rattle.vt100_cells.specs.Line.{IsPaired, span_of, update, put, put_unflags, base_col, pair_wiped, wiped};
 ghost use Rattle.vt100_cells.specs.Line.{wipe_unflags, cut, opened, closed, left_cleared, right_cleared, shifted_right};
 ghost use Rattle.vt100_cells.specs.Line.{mended, shifted_left, run};
-ghost use Rattle.vt100_cells.specs.Cells.{cell_at, by_position, last_cell, inserted_cells, trimmed_len};
+ghost use Rattle.vt100_cells.specs.Cells.{AreSame, cell_at, by_position, last_cell, inserted_cells, trimmed_len};
 
 use crate::cell::{Cell, is_same};
 use vt100_forms::attrs::Attrs;
@@ -44,20 +44,72 @@ pub fn is_continuation_at(cells: &[Cell], i: usize) -> bool
     }
 }
 
+/// Whether the same cell stands at column `i` of both lines.
+#[inline(always)]
+pub fn is_same_at(cells: &[Cell], others: &[Cell], i: usize) -> bool
+    requires in_line { i < length cells.now }
+    requires in_other { i < length others.now }
+    ensures { result ≡ cell_eq (cell_at cells.now i) (cell_at others.now i) }
+{
+    is_same(at(cells, i), at(others, i))
+}
+
 /// Whether two lines have the same cells.
-// One tight loop over the pairs of cells; `==` of slices calls a search of four pairs at a time.
 pub fn have_same_cells(cells: &[Cell], others: &[Cell]) -> bool
     ensures { Decides result (cells.now ≡ others.now) }
 {
-    if cells.len() != others.len() {
+    cells.len() == others.len() && same_to(cells, others, 0, cells.len()) == cells.len()
+}
+
+/// Whether the two cells from column `i` on are the same in both lines.
+// The starts of both are compared before the branch: so a line costs little more than the reading of it.
+#[inline(always)]
+fn have_same_pair(cells: &[Cell], others: &[Cell], i: usize) -> bool
+    requires in_line { i + 1 < length cells.now }
+    requires in_other { i + 1 < length others.now }
+    ensures { result ≡ (cell_eq (cell_at cells.now i) (cell_at others.now i)
+        && cell_eq (cell_at cells.now (i + 1)) (cell_at others.now (i + 1))) }
+{
+    let (first, second) = (at(cells, i), at(cells, i + 1));
+    let (other_first, other_second) = (at(others, i), at(others, i + 1));
+    if !(first.has_start_of(other_first) & second.has_start_of(other_second)) {
         return false;
     }
-    for i in 0..cells.len() {
-        if !is_same(&cells[i], &others[i]) {
-            return false;
-        }
+    first.has_rest_of(other_first) && second.has_rest_of(other_second)
+}
+
+/// The first column from `from` on at which the lines differ, or `to` if there is none before it.
+pub fn same_to(cells: &[Cell], others: &[Cell], from: usize, to: usize) -> usize
+    requires some { from ≤ to }
+    requires in_line { to ≤ length cells.now }
+    requires in_other { to ≤ length others.now }
+    ensures within { from ≤ result × result ≤ to }
+    ensures same { AreSame (cell_at cells.now) (cell_at others.now) from result }
+    ensures differs { result < to → cell_eq (cell_at cells.now result) (cell_at others.now result) ≡ false }
+{
+    let mut n = from;
+    while to - n > 1 && have_same_pair(cells, others, n) {
+        n += 2;
     }
-    true
+    if n < to && is_same_at(cells, others, n) {
+        n += 1;
+    }
+    n
+}
+
+/// The first column from `from` on at which another cell than `cell` stands, or `to` if there is none before it.
+pub fn alike_to(cells: &[Cell], cell: &Cell, from: usize, to: usize) -> usize
+    requires some { from ≤ to }
+    requires in_line { to ≤ length cells.now }
+    ensures within { from ≤ result × result ≤ to }
+    ensures alike { AreSame (cell_at cells.now) (λ _. cell.now) from result }
+    ensures differs { result < to → cell_eq cell.now (cell_at cells.now result) ≡ false }
+{
+    let mut n = from;
+    while n < to && is_same(cell, at(cells, n)) {
+        n += 1;
+    }
+    n
 }
 
 /// Writes `cell` at column `i`, if the line goes that far.

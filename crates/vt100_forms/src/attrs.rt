@@ -188,7 +188,7 @@ impl Attrs {
         ensures full { OnErr result
             (string_capacity contents.old < string_len contents.old + length (spell (change other.now self.now))) }
     {
-        if self == other {
+        if *self == *other {
             Ok(())
         } else if *self == Self::default() {
             term::ClearAttrs.write_buf(contents)
@@ -207,7 +207,7 @@ impl Attrs {
             (HandsOver W.write_str_gives writer.old (spell (change other.now self.now)) writer.new) }
         ensures empty { spell (change other.now self.now) ≡ [] → IsOk result }
     {
-        if self == other {
+        if *self == *other {
             Ok(())
         } else if *self == Self::default() {
             term::ClearAttrs.write_fmt(writer)

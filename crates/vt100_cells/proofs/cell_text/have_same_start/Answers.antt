@@ -1,8 +1,8 @@
 use Rattle.std.proofs.Common.{◌≡◌, ◌<◌, ◌&&◌, ap, arith, length, nat_eq, refl, take, ◌∙◌}
 use Rattle.std.specs.Prelude.{slice_index}
 use Rattle.vt100_cells.specs.Cell.{text_eq}
-use Rattle.vt100_cells.proofs.CellTextLemmas.{text_eq-all, text_eq-next}
-use Rattle.vt100_cells.proofs.cell_text.have_same_bytes.Goals as goal
+use Rattle.vt100_cells.proofs.CellTextLemmas.{text_eq-next}
+use Rattle.vt100_cells.proofs.cell_text.have_same_start.Goals as goal
 
 pub loop-i-init : goal.loop-i-init
 loop-i-init c = refl
@@ -20,6 +20,5 @@ pub returns : goal.returns
 returns c =
     let xs = c.args.bytes.now in
     let ys = c.args.others.now in
-    let all : c.loop-i.i ≡ 21 = omega arith in
+    let all : c.loop-i.i ≡ 5 = omega arith in
     c.loop-i.invariant ∙ ap (λ n. text_eq (take n xs) (take n ys)) all
-    ∙ text_eq-all xs ys 21 c.told-bytes c.told-others

@@ -1,0 +1,41 @@
+-- Columns in which two lines are the same.
+use Rattle.std.proofs.Common.{◌≡◌, ℕ, ◌+◌, ◌<◌, ◌≤◌, false, List, length, sym, ap, ◌∙◌, arith, inl, inr}
+use Rattle.std.proofs.lemmas.Bool.{cases_lt, false≢true}
+use Rattle.vt100_cells.specs.Cell.{CellView, cell_eq}
+use Rattle.vt100_cells.specs.CellEq.{cell_eq-of_same}
+use Rattle.vt100_cells.specs.Cells.{AreSame, cell_at}
+use Rattle.vt100_cells.proofs.ListLemmas.{by_position_is}
+
+pub same-none : (f g : ℕ → CellView) (n : ℕ) → AreSame f g n n
+same-none f g n k h l = absurd (omega (arith, h, l))
+
+-- one column more
+pub same-more : (f g : ℕ → CellView) (from n : ℕ) → AreSame f g from n → f n ≡ g n → AreSame f g from (n + 1)
+same-more f g from n h e k a b =
+    elim (cases_lt k n) [
+      | inl before ↦ h k a before
+      | inr after ↦ (let last : n ≡ k = omega (arith, b, after) in
+          ap f (sym last) ∙ e ∙ ap g last)
+    ]
+
+pub same-two : (f g : ℕ → CellView) (from n : ℕ) → AreSame f g from n → f n ≡ g n → f (n + 1) ≡ g (n + 1)
+    → AreSame f g from (n + 2)
+same-two f g from n h e d k a b =
+    same-more f g from (n + 1) (same-more f g from n h e) d k a (omega (arith, b))
+
+-- lines of one length that are the same in all columns
+pub same-lines : (xs ys : List CellView) (n : ℕ) → length xs ≡ n → length ys ≡ n
+    → AreSame (cell_at xs) (cell_at ys) 0 n → xs ≡ ys
+same-lines xs ys n h k same =
+    by_position_is n (cell_at ys) xs h (λ i l. same i (omega arith) l)
+    ∙ sym (by_position_is n (cell_at ys) ys k (λ i l. λ _. cell_at ys i))
+
+-- between lines that are the same no column differs
+pub same-stop : (xs ys : List CellView) (n : ℕ) → xs ≡ ys → n ≤ length xs
+    → (n < length xs → cell_eq (cell_at xs n) (cell_at ys n) ≡ false) → n ≡ length xs
+same-stop xs ys n e h differs =
+    elim (cases_lt n (length xs)) [
+      | inl before ↦ absurd (false≢true (sym (differs before)
+          ∙ cell_eq-of_same (cell_at xs n) (cell_at ys n) (ap (λ zs. cell_at zs n) e)))
+      | inr after ↦ omega (arith, h, after)
+    ]

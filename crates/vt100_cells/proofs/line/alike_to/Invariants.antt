@@ -1,0 +1,14 @@
+use Rattle.std.proofs.Common.{◌≤◌, ◌-◌}
+use Rattle.vt100_cells.specs.Cells.{AreSame, cell_at}
+use Rattle.vt100_cells.proofs.line.alike_to.Given as goal
+
+-- in the columns so far stands this cell
+abbrev pub invariant-loop-n : goal.invariant-loop-n
+invariant-loop-n l = record {
+  begun : l.from ≤ l.n;
+  within : l.n ≤ l.to;
+  same : AreSame (cell_at l.cells) (λ _. l.cell) l.from l.n;
+}
+
+abbrev pub decreases-loop-n : goal.decreases-loop-n
+decreases-loop-n l = l.to - l.n

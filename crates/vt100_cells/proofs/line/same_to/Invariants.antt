@@ -1,0 +1,14 @@
+use Rattle.std.proofs.Common.{◌≤◌, ◌-◌}
+use Rattle.vt100_cells.specs.Cells.{AreSame, cell_at}
+use Rattle.vt100_cells.proofs.line.same_to.Given as goal
+
+-- the columns so far are the same
+abbrev pub invariant-loop-n : goal.invariant-loop-n
+invariant-loop-n l = record {
+  begun : l.from ≤ l.n;
+  within : l.n ≤ l.to;
+  same : AreSame (cell_at l.cells) (cell_at l.others) l.from l.n;
+}
+
+abbrev pub decreases-loop-n : goal.decreases-loop-n
+decreases-loop-n l = l.to - l.n
