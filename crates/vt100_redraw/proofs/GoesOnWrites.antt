@@ -1,7 +1,6 @@
 -- Where a text goes on, a column's writer sets its attributes and prints it.
 use Rattle.std.proofs.Common.{◌≡◌, ℕ, ◌+◌, ◌==◌, Bool, true, false, ◌&&◌, List, refl, sym, ap, ◌∙◌}
-use Rattle.std.proofs.Common.{arith, inl, inr, Result, Ok, Err}
-use Rattle.std.specs.Prelude.{is_ok, OnOk}
+use Rattle.std.proofs.Common.{arith, inl, inr}
 use Rattle.std.proofs.lemmas.Bool.{cases_Bool, and_parts, eqb-true, ne_eqb}
 use Rattle.vt100_forms.specs.declared.attrs.Attrs.{Attrs}
 use Rattle.vt100_forms.specs.Form.{spell}
@@ -67,15 +66,5 @@ colour-attrs : (a : Attrs) (p : Pen) → (colour a p).pen.attrs ≡ a
 unfolding colour
 colour-attrs a p = refl
 
-print-attrs : (x : CellView) (b : Bool) (p : Pen) → (print x b p).pen.attrs ≡ p.attrs
-unfolding print
-print-attrs x b p = refl
-
--- and the terminal draws with the cell's attributes
-pub like_on : {T E : Type 0} (done : Result T E) (x : CellView) (b : Bool) (p : Pen) (s : List ℕ) (r : Pen) (u : List ℕ)
-    (q : Pen) (t : List ℕ) (a like : Attrs) → like ≡ a → Wrote (colour a) p s r u
-    → Writes (print x b) r u (is_ok done) q t → OnOk done (like ≡ q.attrs)
-like_on (Ok _) x b p s r u q t a like e coloured h =
-    e ∙ sym (colour-attrs a p) ∙ ap (λ (y : Pen). y.attrs) coloured.pen_is ∙ sym (print-attrs x b r)
-    ∙ ap (λ (y : Pen). y.attrs) h.pen_is
-like_on (Err _) x b p s r u q t a like e coloured h = tt
+pub coloured_attrs : (a : Attrs) (p : Pen) (s : List ℕ) (r : Pen) (u : List ℕ) → Wrote (colour a) p s r u → r.attrs ≡ a
+coloured_attrs a p s r u h = sym (ap (λ (y : Pen). y.attrs) h.pen_is) ∙ colour-attrs a p

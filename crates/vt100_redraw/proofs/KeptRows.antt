@@ -1,10 +1,8 @@
 -- Nothing is written for a row that stays.
 use Rattle.std.proofs.Common.{◌≡◌, ℕ, zero, suc, ◌+◌, Bool, true, false, not, ◌&&◌, ◌||◌, List, ◌++◌, ◌==◌, refl}
-use Rattle.std.proofs.Common.{sym, ap, ◌∙◌, inl, inr, Option, Some, None}
+use Rattle.std.proofs.Common.{sym, ap, ◌∙◌, inl, inr, None}
 use Rattle.std.proofs.lemmas.Bool.{cases_Bool, false≢true}
 use Rattle.std.specs.Prelude.{Decides}
-use Rattle.std.specs.Option.{is_some}
-use Rattle.vt100_redraw.specs.declared.pen.Erase.{Erase}
 use Rattle.vt100_forms.specs.Form.{spell}
 use Rattle.vt100_cells.specs.CellEq.{cell_eq-refl, cell_eq-true}
 use Rattle.vt100_cells.specs.Cell.{CellView, cell_eq, bool_eq}
@@ -31,17 +29,13 @@ cell_eq-Decides x y = (
 )
 
 -- two writers that write nothing
-skips-then : (f g : Writer) (p : Pen) → f p ≡ skip p → g p ≡ skip p → (f >> g) p ≡ skip p
+pub skips-then : (f g : Writer) (p : Pen) → f p ≡ skip p → g p ≡ skip p → (f >> g) p ≡ skip p
 unfolding ◌>>◌ skip
 skips-then f g p e h =
     ap (λ (d : Drawn). record { pen = (g d.pen).pen; forms = d.forms ++ (g d.pen).forms }) e ∙ h
 
-pub none_of : (e : Option Erase) → is_some e ≡ false → e ≡ None
-none_of None h = refl
-none_of (Some e) h = absurd (false≢true (sym h))
-
 -- a column that the terminal shows already
-column-settled : (j : Job) (c : ℕ) (p : Pen) → p.erase ≡ None → is_same j c ≡ true → column j c p ≡ skip p
+pub column-settled : (j : Job) (c : ℕ) (p : Pen) → p.erase ≡ None → is_same j c ≡ true → column j c p ≡ skip p
 column-settled j c p closed same =
     elim (cases_Bool ((j.new c).continuation && not (c == j.start))) [
       | inl half ↦ column-is_half j c p half
@@ -49,11 +43,6 @@ column-settled j c p closed same =
           (column-is_whole j c p whole
           ∙ skips-then (flush j c) (draw j c) p (flush-is_none j c p closed) (draw-is_same j c p same))
     ]
-
-pub wrote_column_settled : (j : Job) (c : ℕ) (p : Pen) (s : List ℕ) → p.erase ≡ None → is_same j c ≡ true
-    → Wrote (column j c) p s p s
-wrote_column_settled j c p s closed same =
-    wrote_as skip (column j c) p s p s (column-settled j c p closed same) (wrote_skip p s)
 
 column-kept : (j : Job) (c : ℕ) (p : Pen) → IsKept j p → column j c p ≡ skip p
 column-kept j c p h =

@@ -1,6 +1,7 @@
 pub mod ClosingWrites
 pub mod Columns
 pub mod ColumnsWrites
+pub mod QuietColumns
 pub mod Examples
 pub mod GoesOnWrites
 pub mod KeptRows
@@ -15,6 +16,7 @@ pub mod RowLeads
 pub mod RowRedraw
 pub mod RowStart
 pub mod RowWrites
+pub mod RunWrites
 pub mod Steps
 pub mod Texts
 pub mod Touches

@@ -111,7 +111,7 @@ pub flush-is_none : (j : Job) (n : ℕ) (p : Pen) → p.erase ≡ None → flush
 unfolding flush flush_of
 flush-is_none j n p e = ap (λ o. flush_of j n o p) e
 
-flush-is_kept : (j : Job) (n : ℕ) (p : Pen) (e : Erase) → p.erase ≡ Some e → is_end (j.new n) e.attrs ≡ false
+pub flush-is_kept : (j : Job) (n : ℕ) (p : Pen) (e : Erase) → p.erase ≡ Some e → is_end (j.new n) e.attrs ≡ false
     → flush j n p ≡ skip p
 unfolding flush flush_of
 flush-is_kept j n p e h g = ap (λ o. flush_of j n o p) h ∙ rw g refl

@@ -1,10 +1,15 @@
 -- A row that is drawn, as the code holds it.
-use Rattle.std.specs.Prelude.{ℕ, ◌≡◌, ◌==◌, ◌&&◌, true, false, not, length, None}
+use Rattle.std.specs.Prelude.{ℕ, ◌≡◌, ◌==◌, ◌&&◌, ◌≤◌, ◌<◌, true, false, not, List, length, None, encode_utf8_all}
+use Rattle.vt100_forms.specs.declared.attrs.Attrs.{Attrs}
+use Rattle.vt100_forms.specs.Attrs.{attrs_eq}
+use Rattle.vt100_cells.specs.Line.{put_unflags}
 use Rattle.vt100_cells.specs.Cell.{has_text}
 use Rattle.vt100_cells.specs.Cells.{cell_at}
 use Rattle.vt100_redraw.specs.declared.drawing.Drawing.{Drawing}
 use Rattle.vt100_redraw.specs.declared.pen.Pen.{Pen}
-use Rattle.vt100_redraw.specs.RowWriter.{Job, is_same}
+use Rattle.vt100_redraw.specs.RowWriter.{Job, is_same, column, columns}
+use Rattle.vt100_redraw.specs.Writer.{skip}
+use Rattle.vt100_redraw.specs.Writes.{Wrote}
 
 abbrev pub job_of : Drawing → Job
 job_of d = record {
@@ -35,3 +40,24 @@ pub record GoesOn (j : Job) (c : ℕ) (p : Pen) : Type 0 where
   pub here : ((p.pos.row == j.row) && (p.pos.col == c)) ≡ true
   pub whole : ((j.new c).continuation && not (c == j.start)) ≡ false
   pub other : is_same j c ≡ false
+
+-- nothing is written for the columns from a up to b: the terminal shows their cells already, or they are erased later,
+-- together with those before them
+abbrev pub AreQuiet : Job → Pen → ℕ → ℕ → Type 0
+AreQuiet j p a b = (c : ℕ) → a ≤ c → c < b → column j c p ≡ skip p
+
+-- where the first n columns are drawn, and left the pen p and the text s, the first m are once the pen is q and the
+-- text t
+abbrev pub GoesTo : Job → ℕ → ℕ → Pen → List ℕ → Pen → List ℕ → Type 0
+GoesTo j n m p s q t = (p0 : Pen) (s0 : List ℕ) → Wrote (columns j n) p0 s0 p s → Wrote (columns j m) p0 s0 q t
+
+-- The cell at column c is such a text, it takes at most four bytes, and it takes no flag away.
+pub record BeginsRun (j : Job) (c : ℕ) (p : Pen) : Type 0 where
+  pub on : GoesOn j c p
+  pub short : length (encode_utf8_all (j.new c).text) ≤ 4
+  pub keeps : put_unflags j.cols j.old c (j.new c) ≡ false
+
+-- and it is drawn with these attributes
+pub record JoinsRun (j : Job) (c : ℕ) (p : Pen) (a : Attrs) : Type 0 where
+  pub begins : BeginsRun j c p
+  pub attrs : attrs_eq (j.new c).attrs a ≡ true

@@ -1,18 +1,16 @@
-//! How a row is drawn on a terminal that shows an earlier one, column by column.
+//! How one column of a row is drawn on a terminal that shows an earlier one.
 ghost use Rattle.std.specs.Prelude.{◌≡◌, ◌+◌, ◌<◌, ◌≤◌, ◌^◌, ◌-◌, ◌==◌, ◌&&◌, not, false, length, is_ok, string_bytes};
-ghost use Rattle.std.specs.Prelude.{IsTrue, OnOk};
 ghost use Rattle.vt100_cells.specs.Cell.{has_text};
 ghost use Rattle.vt100_cells.specs.Cells.{cell_at};
 ghost use Rattle.vt100_cells.specs.Line.{put_unflags, wipe_unflags};
-ghost use Rattle.vt100_redraw.specs.Drawing.{job_of, GoesOn};
+ghost use Rattle.vt100_redraw.specs.Drawing.{job_of};
 ghost use Rattle.vt100_redraw.specs.RowWriter.{is_same, wraps, is_end, to_erase, flush, finish, arrive, draw, column};
-ghost use Rattle.vt100_redraw.specs.RowWriter.{columns};
 ghost use Rattle.vt100_redraw.specs.Writes.{Writes};
 
 use crate::drawing::Drawing;
 use crate::pen::{Erase, Pen, span};
 use vt100_cells::Cell;
-use vt100_cells::line::{at, is_continuation_at, is_wide_at};
+use vt100_cells::line::{at, is_continuation_at, is_same_at, is_wide_at};
 use vt100_forms::GridError;
 use vt100_forms::attrs::Attrs;
 use vt100_forms::position::Pos;
@@ -31,11 +29,10 @@ impl<'a> Drawing<'a> {
         ensures { result ≡ is_same (job_of self.now) col }
     {
         let col = usize::from(col);
-        let cell = at(self.cells, col);
         if col < self.earlier.len() {
-            cell == at(self.earlier, col)
+            is_same_at(self.cells, self.earlier, col)
         } else {
-            cell.is_default()
+            at(self.cells, col).is_default()
         }
     }
 
@@ -153,64 +150,22 @@ impl<'a> Drawing<'a> {
 
     /// Whether the cell at `col` is a second half, which comes with the first one.
     #[inline]
-    fn is_half(&self, col: u16) -> bool
+    pub(crate) fn is_half(&self, col: u16) -> bool
         requires { col < length self.now.cells.now }
         ensures { result ≡ (((job_of self.now).new col).continuation && not (col == self.now.start)) }
     {
         at(self.cells, usize::from(col)).is_wide_continuation() && col != self.start
     }
 
-    /// Whether the cell at `col` has a text that differs, and the cursor stands there.
-    #[inline(always)]
-    fn goes_on(&self, pen: &Pen, col: u16) -> bool
-        requires { col < length self.now.cells.now }
-        ensures { IsTrue result → GoesOn (job_of self.now) col pen.now }
-    {
-        let cell = at(self.cells, usize::from(col));
-        cell.has_contents()
-            && pen.erase.is_none()
-            && pen.pos == (Pos { row: self.row, col })
-            && !self.is_half(col)
-            && !self.is_same(col)
-    }
-
-    /// Draws one column. Where a text goes on, its attributes and the text are appended; where the terminal shows the
-    /// cell already, and nothing is to be erased before it, that is a comparison.
-    // `like` is a cell with the attributes with which the terminal draws.
-    #[inline(always)]
-    fn column(
-        &self,
-        pen: &mut Pen,
-        contents: &mut String,
-        like: &mut Cell,
-        col: u16,
-    ) -> Result<(), GridError>
-        requires in_row { col < length self.now.cells.now }
-        requires like { like.old.attrs ≡ pen.old.attrs }
-        ensures written { Writes (column (job_of self.now) col) pen.old (string_bytes contents.old) (is_ok result)
-            pen.new (string_bytes contents.new) }
-        ensures like { OnOk result (like.new.attrs ≡ pen.new.attrs) }
-    {
-        if self.goes_on(pen, col) {
-            let cell = at(self.cells, usize::from(col));
-            pen.colour_as(contents, cell, like)?;
-            return pen.print(contents, cell, self.loses_by_print(col));
-        }
-        if pen.erase.is_none() && self.is_same(col) {
-            return Ok(());
-        }
-        if self.is_half(col) {
-            return Ok(());
-        }
-        self.change(pen, contents, col)?;
-        *like = Cell::empty(pen.attrs);
-        Ok(())
-    }
-
     /// Draws one column, whatever stands there. The second half of a wide character comes with the first.
     // Apart from the other columns, which are the most: what they need stays in registers.
     #[inline(never)]
-    fn change(&self, pen: &mut Pen, contents: &mut String, col: u16) -> Result<(), GridError>
+    pub(crate) fn change(
+        &self,
+        pen: &mut Pen,
+        contents: &mut String,
+        col: u16,
+    ) -> Result<(), GridError>
         requires { col < length self.now.cells.now }
         ensures { Writes (column (job_of self.now) col) pen.old (string_bytes contents.old) (is_ok result) pen.new
             (string_bytes contents.new) }
@@ -223,24 +178,6 @@ impl<'a> Drawing<'a> {
             return Ok(());
         }
         self.draw(pen, contents, col)?;
-        Ok(())
-    }
-
-    /// Draws `count` columns, from the first that is drawn on.
-    pub(crate) fn columns(
-        &self,
-        pen: &mut Pen,
-        contents: &mut String,
-        count: u16,
-    ) -> Result<(), GridError>
-        requires { self.now.start + count ≤ length self.now.cells.now }
-        ensures { Writes (columns (job_of self.now) count) pen.old (string_bytes contents.old) (is_ok result) pen.new
-            (string_bytes contents.new) }
-    {
-        let mut like = Cell::empty(pen.attrs);
-        for n in 0..count {
-            self.column(pen, contents, &mut like, self.start + n)?;
-        }
         Ok(())
     }
 }
@@ -259,7 +196,7 @@ impl<'a> Drawing<'a> {
 
     /// Whether the terminal loses it where the cell at `col` is printed.
     #[inline]
-    fn loses_by_print(&self, col: u16) -> bool
+    pub(crate) fn loses_by_print(&self, col: u16) -> bool
         requires { col < length self.now.cells.now }
         ensures { result ≡ put_unflags (job_of self.now).cols (job_of self.now).old col ((job_of self.now).new col) }
     {

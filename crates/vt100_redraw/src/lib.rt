@@ -10,6 +10,7 @@ pub mod drawing;
 pub mod laws;
 mod opening;
 pub mod pen;
+mod runs;
 
 pub use drawing::Drawing;
 pub use pen::{Erase, Pen};

@@ -1,6 +1,6 @@
 //! What a writer keeps between forms.
 ghost use Rattle.std.specs.Prelude.{◌≡◌, ◌+◌, ◌<◌, ◌^◌, ◌++◌, is_ok, OnOk, string_bytes};
-ghost use Rattle.std.specs.Prelude.{if◌then◌else◌};
+ghost use Rattle.std.specs.Prelude.{if◌then◌else◌, false};
 ghost use Rattle.vt100_forms.specs.Attrs.{attrs_eq};
 ghost use Rattle.vt100_cells.specs.Line.{span_of};
 ghost use Rattle.vt100_redraw.specs.Writer.{goto, turn, colour, print, space, back, erasing, clearing, marking};
@@ -143,6 +143,15 @@ impl Pen {
         self.pos.col += span(cell);
         self.lost = self.lost || loses;
         Ok(())
+    }
+
+    /// Goes on as after the text of a cell, which is printed later, together with others.
+    #[inline(always)]
+    pub(crate) fn pass(&mut self, cell: &Cell)
+        requires { self.old.pos.col + span_of cell.now < 2 ^ 16 }
+        ensures { self.new ≡ (print cell.now false self.old).pen }
+    {
+        self.pos.col += span(cell);
     }
 
     /// Prints a space.
