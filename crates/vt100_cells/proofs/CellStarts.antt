@@ -1,8 +1,10 @@
 -- Cells that are compared in two steps.
 use Rattle.std.proofs.Common.{◌≡◌, ◌&&◌, Bool, true, false, sym, ap, ◌∙◌, refl, inl, inr}
 use Rattle.std.proofs.lemmas.Bool.{and_parts, cases_Bool, false≢true}
+use Rattle.std.proofs.lemmas.Cmp.{nat_list_eq_equiv}
 use Rattle.vt100_forms.specs.Attrs.{attrs_eq}
 use Rattle.vt100_cells.specs.Cell.{CellView, text_eq, bool_eq, cell_eq}
+use Rattle.vt100_cells.specs.CellEq.{cell_eq-true}
 use Rattle.vt100_cells.specs.CellFields.{start_eq, cell_start_eq}
 use Rattle.vt100_cells.proofs.CellTextLemmas.{start_eq-of_same}
 
@@ -16,6 +18,16 @@ cell_eq-of_start x y h =
       | inl same ↦ rw (same, q.0, q.1) refl
       | inr other ↦ rw other refl
     ]
+
+-- cells with the same start and the same text are the same
+pub same-of_start : (x y : CellView) → cell_start_eq x y ≡ true → x.text ≡ y.text → x ≡ y
+same-of_start x y h e =
+    cell_eq-true x y (sym (cell_eq-of_start x y h) ∙ ap (text_eq x.text) (sym e) ∙ nat_list_eq_equiv.refl x.text)
+
+pub text_start-of_start : (x y : CellView) → cell_start_eq x y ≡ true → start_eq x.text y.text ≡ true
+text_start-of_start x y h =
+    (and_parts (attrs_eq x.attrs y.attrs && (bool_eq x.wide y.wide && bool_eq x.continuation y.continuation))
+    (start_eq x.text y.text) h).1
 
 and-false : (b : Bool) → (b && false) ≡ false
 and-false true = refl
@@ -35,14 +47,4 @@ cell_eq-other_start x y h =
     elim (cases_Bool (cell_eq x y)) [
       | inl same ↦ absurd (false≢true (sym h ∙ start-of_cell_eq x y same))
       | inr other ↦ other
-    ]
-
--- one of two starts is another
-pub pair-other_start : (x y u v : CellView) → (cell_start_eq x y && cell_start_eq u v) ≡ false
-    → (cell_eq x y && cell_eq u v) ≡ false
-pair-other_start x y u v h =
-    elim (cases_Bool (cell_start_eq x y)) [
-      | inl same ↦ (let other : cell_start_eq u v ≡ false = ap (λ b. b && cell_start_eq u v) (sym same) ∙ h in
-          ap (λ b. cell_eq x y && b) (cell_eq-other_start u v other) ∙ and-false (cell_eq x y))
-      | inr other ↦ ap (λ b. b && cell_eq u v) (cell_eq-other_start x y other)
     ]

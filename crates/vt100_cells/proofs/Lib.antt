@@ -9,8 +9,8 @@ pub mod MoveLemmas
 pub mod EditedCells
 pub mod EditLemmas
 pub mod ShiftLemmas
+pub mod ShortTexts
 pub mod TrimLemmas
 pub mod JoinedCells
 pub mod CellTexts
 pub mod RunLemmas
-pub mod TextRunLemmas

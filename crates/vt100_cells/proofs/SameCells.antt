@@ -18,11 +18,6 @@ same-more f g from n h e k a b =
           ap f (sym last) ∙ e ∙ ap g last)
     ]
 
-pub same-two : (f g : ℕ → CellView) (from n : ℕ) → AreSame f g from n → f n ≡ g n → f (n + 1) ≡ g (n + 1)
-    → AreSame f g from (n + 2)
-same-two f g from n h e d k a b =
-    same-more f g from (n + 1) (same-more f g from n h e) d k a (omega (arith, b))
-
 -- lines of one length that are the same in all columns
 pub same-lines : (xs ys : List CellView) (n : ℕ) → length xs ≡ n → length ys ≡ n
     → AreSame (cell_at xs) (cell_at ys) 0 n → xs ≡ ys

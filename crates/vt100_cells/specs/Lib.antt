@@ -1,7 +1,6 @@
 pub mod Cell
 pub mod CellEq
 pub mod CellFields
-pub mod TextRunFields
 pub mod ColorFields
 pub mod Cells
 pub mod Line

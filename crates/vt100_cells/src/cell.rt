@@ -8,8 +8,8 @@ use crate::cell_color::CellColor;
 use crate::cell_text::{CellText, SHORT_BYTES};
 use std::marker::Model;
 use std::mem::size_of;
-use vt100_forms::Color;
 use vt100_forms::attrs::Attrs;
+use vt100_forms::{Color, TextRun};
 
 /// How a cell stands in its row.
 #[derive(Clone, Copy, Debug, Eq, PartialEq)]
@@ -88,7 +88,7 @@ impl Cell {
     ghost use Rattle.vt100_cells.specs.Cell.{empty_cell, default_cell, continuation_cell, cell_of, appended};
     ghost use Rattle.vt100_cells.specs.Cell.{appended_plain, drawn_columns, has_room};
     ghost use Rattle.vt100_cells.specs.Cell.{has_text, is_default, IsPrintable};
-    ghost use Rattle.vt100_cells.specs.CellFields.{cell_start_eq};
+    ghost use Rattle.vt100_cells.specs.CellFields.{cell_start_eq, is_short};
 
     /// A cell that shows nothing, with default attributes.
     pub fn new() -> Self
@@ -253,6 +253,17 @@ impl Cell {
         (len != 0) & (len <= SHORT_BYTES)
     }
 
+    /// Puts a short text at the end of `run`. For redraws alone.
+    #[doc(hidden)]
+    #[inline(always)]
+    pub fn push_text(&self, run: &mut TextRun)
+        requires room { length run.old + 4 ≤ 128 }
+        requires short { length (encode_utf8_all self.now.text) ≤ 4 }
+        ensures { run.new ≡ run.old ++ encode_utf8_all self.now.text }
+    {
+        run.push_short(self.text.first_bytes(), self.text.len());
+    }
+
     /// The text.
     #[inline(always)]
     pub(crate) fn text(&self) -> &CellText
@@ -299,11 +310,13 @@ impl Cell {
             & (self.mode == other.mode)
     }
 
-    /// Whether the cells are the same but for what comes after the first bytes of their texts.
+    /// Whether the cells are the same but for what comes after the first bytes of their texts: cells with short texts
+    /// are the same then.
     // These are the first 16 bytes of a cell, and LLVM makes one comparison of them.
     #[inline(always)]
     pub(crate) fn has_start_of(&self, other: &Self) -> bool
-        ensures { result ≡ cell_start_eq self.now other.now }
+        ensures value { result ≡ cell_start_eq self.now other.now }
+        ensures short { cell_start_eq self.now other.now ≡ true → is_short self.now.text ≡ true → self.now ≡ other.now }
     {
         self.has_attrs_of(other) & (self.span == other.span) & self.text.has_start_of(&other.text)
     }

@@ -14,7 +14,7 @@ use unicode_width::UnicodeWidthStr;
 const CONTENT_BYTES: usize = 21;
 
 /// How many of them are compared first. Most texts have no more.
-const START_BYTES: usize = 5;
+pub(crate) const START_BYTES: usize = 5;
 
 /// A text with this many bytes takes no further character.
 const FULL_BYTES: usize = 18;
@@ -51,10 +51,11 @@ impl CellText {
     ghost use Rattle.vt100_cells.specs.Cell.{text_with, has_room, is_widened_by};
     ghost use Rattle.vt100_cells.specs.CellFields.{start_eq, is_short};
 
-    /// Whether the texts have the same length and the same first bytes.
+    /// Whether the texts have the same length and the same first bytes: short texts are the same then.
     #[inline(always)]
     pub(crate) fn has_start_of(&self, other: &Self) -> bool
-        ensures { result ≡ start_eq self.now other.now }
+        ensures value { result ≡ start_eq self.now other.now }
+        ensures short { start_eq self.now other.now ≡ true → is_short self.now ≡ true → self.now ≡ other.now }
     {
         (self.len == other.len) & have_same_start(&self.bytes, &other.bytes)
     }

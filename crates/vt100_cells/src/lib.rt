@@ -12,10 +12,7 @@ mod cell_color;
 mod cell_text;
 pub mod laws;
 pub mod line;
-mod text_run;
 mod width;
 
 pub use cell::Cell;
-#[doc(hidden)]
-pub use text_run::TextRun;
 pub use width::columns;

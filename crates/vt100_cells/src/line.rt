@@ -1,6 +1,6 @@
 //! Edits of the cells of one line.
 ghost use Rattle.std.specs.Prelude.{◌≡◌, ℕ, ◌+◌, ◌-◌, ◌<◌, ◌≤◌, ◌==◌, List, length, Some, true, false, not, ◌&&◌};
-ghost use Rattle.std.specs.Prelude.{slice_set, All, slice_index, Decides};
+ghost use Rattle.std.specs.Prelude.{slice_set, All, slice_index, Decides, IsTrue};
 ghost use Rattle.vt100_cells.specs.Cell.{CellView, IsCell, has_text, is_filled, drawn_columns, cell_of, empty_cell};
 ghost use Rattle.vt100_cells.specs.Cell.{IsPrintable, cell_eq};
 ghost use Rattle.vt100_cells.specs.Line.{IsPaired, span_of, update, put, put_unflags, base_col, pair_wiped, wiped};
@@ -9,6 +9,7 @@ ghost use Rattle.vt100_cells.specs.Line.{mended, shifted_left, run};
 ghost use Rattle.vt100_cells.specs.Cells.{AreSame, cell_at, by_position, last_cell, inserted_cells, trimmed_len};
 
 use crate::cell::{Cell, is_same};
+use crate::cell_text::START_BYTES;
 use vt100_forms::attrs::Attrs;
 
 /// The cell at column `i`.
@@ -61,21 +62,23 @@ pub fn have_same_cells(cells: &[Cell], others: &[Cell]) -> bool
     cells.len() == others.len() && same_to(cells, others, 0, cells.len()) == cells.len()
 }
 
-/// Whether the two cells from column `i` on are the same in both lines.
-// The starts of both are compared before the branch: so a line costs little more than the reading of it.
+/// Whether the eight cells from column `i` on are found to be the same in both lines: the starts of their texts are
+/// compared, which is all of a short text, and longer ones are left to [`is_same_at`].
+// One branch for eight cells: so a line costs little more than the reading of it.
 #[inline(always)]
-fn have_same_pair(cells: &[Cell], others: &[Cell], i: usize) -> bool
-    requires in_line { i + 1 < length cells.now }
-    requires in_other { i + 1 < length others.now }
-    ensures { result ≡ (cell_eq (cell_at cells.now i) (cell_at others.now i)
-        && cell_eq (cell_at cells.now (i + 1)) (cell_at others.now (i + 1))) }
+fn have_same_eight(cells: &[Cell], others: &[Cell], i: usize) -> bool
+    requires in_line { i + 8 ≤ length cells.now }
+    requires in_other { i + 8 ≤ length others.now }
+    ensures { IsTrue result → AreSame (cell_at cells.now) (cell_at others.now) i (i + 8) }
 {
-    let (first, second) = (at(cells, i), at(cells, i + 1));
-    let (other_first, other_second) = (at(others, i), at(others, i + 1));
-    if !(first.has_start_of(other_first) & second.has_start_of(other_second)) {
-        return false;
+    let mut same = true;
+    let mut longest = 0;
+    for k in i..i + 8 {
+        let cell = at(cells, k);
+        same &= cell.has_start_of(at(others, k));
+        longest |= cell.text().len();
     }
-    first.has_rest_of(other_first) && second.has_rest_of(other_second)
+    same & (longest < START_BYTES + 1)
 }
 
 /// The first column from `from` on at which the lines differ, or `to` if there is none before it.
@@ -88,13 +91,25 @@ pub fn same_to(cells: &[Cell], others: &[Cell], from: usize, to: usize) -> usize
     ensures differs { result < to → cell_eq (cell_at cells.now result) (cell_at others.now result) ≡ false }
 {
     let mut n = from;
-    while to - n > 1 && have_same_pair(cells, others, n) {
-        n += 2;
+    while to - n >= 8 && have_same_eight(cells, others, n) {
+        n += 8;
     }
-    if n < to && is_same_at(cells, others, n) {
+    while n < to && is_same_at(cells, others, n) {
         n += 1;
     }
     n
+}
+
+/// Whether the two cells from column `i` on are found to be like `cell`: the starts of the texts are compared, which is
+/// all of a short text.
+// Its length is asked for last: LLVM would else keep it apart, and put the 16 bytes together for each comparison.
+#[inline(always)]
+fn is_alike_pair(cells: &[Cell], cell: &Cell, i: usize) -> bool
+    requires in_line { i + 2 ≤ length cells.now }
+    ensures { IsTrue result → AreSame (cell_at cells.now) (λ _. cell.now) i (i + 2) }
+{
+    let (first, second) = (at(cells, i), at(cells, i + 1));
+    (cell.has_start_of(first) & cell.has_start_of(second)) && cell.text().is_short()
 }
 
 /// The first column from `from` on at which another cell than `cell` stands, or `to` if there is none before it.
@@ -106,6 +121,9 @@ pub fn alike_to(cells: &[Cell], cell: &Cell, from: usize, to: usize) -> usize
     ensures differs { result < to → cell_eq cell.now (cell_at cells.now result) ≡ false }
 {
     let mut n = from;
+    while to - n >= 2 && is_alike_pair(cells, cell, n) {
+        n += 2;
+    }
     while n < to && is_same(cell, at(cells, n)) {
         n += 1;
     }

@@ -3,3 +3,4 @@ pub mod ChangeLemmas
 pub mod DigitLemmas
 pub mod Lengths
 pub mod Marks
+pub mod TextRunLemmas

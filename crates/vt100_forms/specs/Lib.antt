@@ -3,3 +3,4 @@ pub mod Form
 pub mod Length
 pub mod Mark
 pub mod Writer
+pub mod TextRunFields

@@ -1,10 +1,11 @@
 //! The colours and attributes with which a character is drawn.
-ghost use Rattle.std.specs.Prelude.{◌≡◌, ◌<◌, ◌+◌, ◌++◌, [], length, IsOk, OnOk, OnErr, is_ok, if◌then◌else◌};
+ghost use Rattle.std.specs.Prelude.{◌≡◌, ◌<◌, ◌≤◌, ◌+◌, ◌++◌, [], length, IsOk, OnOk, OnErr, is_ok, if◌then◌else◌};
 ghost use Rattle.std.specs.Prelude.{string_bytes, string_len, string_capacity};
 
 use crate::error::GridError;
 use crate::term;
 use crate::term::{BufWrite, Intensity};
+use crate::text_run::TextRun;
 use std::fmt;
 
 /// A foreground or background colour.
@@ -194,6 +195,25 @@ impl Attrs {
             term::ClearAttrs.write_buf(contents)
         } else {
             term::Attrs::of_change(other, self).write_buf(contents)
+        }
+    }
+
+    /// Puts the same bytes at the end of `run`: 58 at most.
+    #[doc(hidden)]
+    pub fn push_escape_code_diff(&self, run: &mut TextRun, other: &Self)
+        requires { length run.old + 58 ≤ 128 }
+        ensures bytes { run.new ≡ run.old ++ spell (change other.now self.now) }
+        ensures len { length run.new ≤ length run.old + 58 }
+    {
+        if *self == *other {
+            return;
+        }
+        if *self == Self::default() {
+            run.push_ascii(b'\x1b');
+            run.push_ascii(b'[');
+            run.push_ascii(b'm');
+        } else {
+            term::Attrs::of_change(other, self).push_to(run);
         }
     }
 

@@ -7,8 +7,11 @@ pub mod laws;
 pub mod modes;
 pub mod position;
 pub mod term;
+mod text_run;
 
 pub use attrs::Color;
 pub use error::GridError;
 pub use modes::{CursorStyle, MouseProtocolEncoding, MouseProtocolMode};
 pub use position::Pos;
+#[doc(hidden)]
+pub use text_run::TextRun;

@@ -12,6 +12,7 @@ use crate::attrs;
 use crate::attrs::Color;
 use crate::error::GridError;
 use crate::position::Pos;
+use crate::text_run::TextRun;
 use arrayvec::{ArrayString, ArrayVec};
 use itoa::Buffer;
 use std::fmt;
@@ -274,6 +275,7 @@ impl Attrs {
     }
 
     // What of `new` differs from `old`.
+    #[inline(always)]
     pub(crate) fn of_change(old: &attrs::Attrs, new: &attrs::Attrs) -> Self
         ensures { result ≡ changed_attrs old.now new.now }
     {
@@ -372,57 +374,80 @@ fn push_flag(numbers: &mut Numbers, on: u8, off: u8, flag: Option<bool>)
     }
 }
 
+impl Attrs {
+    /// Puts the form's bytes at the end of `run`.
+    // Inlined, like `of_change`: so what differs needn't be kept before it is written.
+    #[inline(always)]
+    pub(crate) fn push_to(&self, run: &mut TextRun)
+        requires { length run.old + 58 ≤ 128 }
+        ensures bytes { run.new ≡ run.old ++ spell (Form.Sgr self.now ∷ []) }
+        ensures len { length run.new ≤ length run.old + 58 }
+    {
+        let mut numbers = Numbers::new();
+        self.push_numbers(&mut numbers);
+        let [first, rest @ ..] = numbers.as_slice() else {
+            return;
+        };
+        run.push_ascii(b'\x1b');
+        run.push_ascii(b'[');
+        push_number(run, *first);
+        push_further(run, rest);
+        run.push_ascii(b'm');
+    }
+}
+
 impl BufWrite for Attrs {
     ghost forms = { λ a. Form.Sgr a ∷ [] };
 
     fn as_text<'a>(&self, room: &'a mut FormText) -> &'a str {
-        let mut numbers = Numbers::new();
-        self.push_numbers(&mut numbers);
-        let [first, rest @ ..] = numbers.as_slice() else {
-            return "";
-        };
-        room.push_str("\x1b[");
-        push_number(room, *first);
-        push_further(room, rest);
-        room.push_str("m");
+        let mut run = TextRun::new();
+        self.push_to(&mut run);
+        room.push_str(run.as_str());
         room.as_str()
     }
-}
 
-fn push_number(room: &mut FormText, n: u8)
-    requires { length room.old.bytes ≤ 61 }
-    ensures bytes { room.new.bytes ≡ room.old.bytes ++ decimal n }
-    ensures len { length room.new.bytes ≤ length room.old.bytes + 3 }
-{
-    if n < 10 {
-        push_digit(room, n);
-    } else if n < 100 {
-        push_digit(room, n / 10);
-        push_digit(room, n % 10);
-    } else {
-        push_digit(room, n / 100);
-        push_digit(room, n / 10 % 10);
-        push_digit(room, n % 10);
+    fn write_buf(&self, buf: &mut String) -> Result<(), GridError> {
+        let mut run = TextRun::new();
+        self.push_to(&mut run);
+        run.move_to(buf)?;
+        Ok(())
     }
 }
 
-fn push_digit(room: &mut FormText, n: u8)
-    requires room { length room.old.bytes < 64 }
-    requires digit { n < 10 }
-    ensures bytes { room.new.bytes ≡ room.old.bytes ++ (48 + n) ∷ [] }
-    ensures len { length room.new.bytes ≡ length room.old.bytes + 1 }
+fn push_number(run: &mut TextRun, n: u8)
+    requires { length run.old + 3 ≤ 128 }
+    ensures bytes { run.new ≡ run.old ++ decimal n }
+    ensures len { length run.new ≤ length run.old + 3 }
 {
-    room.push(char::from(b'0' + n));
+    if n < 10 {
+        push_digit(run, n);
+    } else if n < 100 {
+        push_digit(run, n / 10);
+        push_digit(run, n % 10);
+    } else {
+        push_digit(run, n / 100);
+        push_digit(run, n / 10 % 10);
+        push_digit(run, n % 10);
+    }
 }
 
-fn push_further(room: &mut FormText, numbers: &[u8])
-    requires { length room.old.bytes + 4 * length numbers.now ≤ 64 }
-    ensures bytes { room.new.bytes ≡ room.old.bytes ++ further_numbers numbers.now }
-    ensures len { length room.new.bytes ≤ length room.old.bytes + 4 * length numbers.now }
+fn push_digit(run: &mut TextRun, n: u8)
+    requires room { length run.old < 128 }
+    requires digit { n < 10 }
+    ensures bytes { run.new ≡ run.old ++ (48 + n) ∷ [] }
+    ensures len { length run.new ≡ length run.old + 1 }
+{
+    run.push_ascii(b'0' + n);
+}
+
+fn push_further(run: &mut TextRun, numbers: &[u8])
+    requires { length run.old + 4 * length numbers.now ≤ 128 }
+    ensures bytes { run.new ≡ run.old ++ further_numbers numbers.now }
+    ensures len { length run.new ≤ length run.old + 4 * length numbers.now }
 {
     for n in numbers {
-        room.push_str(";");
-        push_number(room, *n);
+        run.push_ascii(b';');
+        push_number(run, *n);
     }
 }
 
@@ -833,8 +858,9 @@ impl BufWrite for CursorStyle {
         if self.style == self.prev {
             return "";
         }
+        let mut number = Buffer::new();
         room.push_str("\x1b[");
-        push_number(room, style_number(self.style));
+        room.push_str(number.format(u32::from(style_number(self.style))));
         room.push_str(" q");
         room.as_str()
     }

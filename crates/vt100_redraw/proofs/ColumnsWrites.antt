@@ -1,11 +1,11 @@
 -- Several columns' writer, as the code appends it.
-use Rattle.std.proofs.Common.{◌≡◌, ℕ, zero, suc, ◌+◌, ◌<◌, ◌≤◌, List, arith, subst, inl, inr}
+use Rattle.std.proofs.Common.{◌≡◌, ℕ, zero, suc, ◌+◌, ◌<◌, ◌≤◌, ◌⊎◌, List, ◌++◌, arith, subst, sym, ◌∙◌, inl, inr}
 use Rattle.std.proofs.lemmas.Bool.{cases_lt}
 use Rattle.vt100_forms.specs.Form.{spell}
 use Rattle.vt100_redraw.specs.declared.pen.Pen.{Pen}
 use Rattle.vt100_redraw.specs.RowWriter.{Job, column, columns}
 use Rattle.vt100_redraw.specs.Writes.{IsBegun, Wrote}
-use Rattle.vt100_redraw.proofs.WritesLemmas.{wrote_then, begun_first, begun_then, wrote_skip}
+use Rattle.vt100_redraw.proofs.WritesLemmas.{begun-all, wrote_then, begun_first, begun_then, wrote_skip}
 
 pub wrote_columns_none : (j : Job) (p : Pen) (s : List ℕ) → Wrote (columns j 0) p s p s
 unfolding columns
@@ -51,3 +51,13 @@ pub begun_columns_at : (j : Job) (n m : ℕ) (p : Pen) (s : List ℕ) (q : Pen) 
     → IsBegun s (spell (columns j m p).forms) u
 begun_columns_at j n m p s q t u inside a b =
     begun_columns_up j (suc n) m p s u (omega (arith, inside)) (begun_columns_suc j n p s q t u a b)
+
+-- the bytes of the columns so far are appended, or none of those that were still to come
+pub begun_columns_moved : (j : Job) (n m : ℕ) (p : Pen) (s : List ℕ) (q : Pen) (t r u : List ℕ) → n ≤ m
+    → Wrote (columns j n) p s q (t ++ r) → IsBegun s (spell (columns j m p).forms) t → (u ≡ t) ⊎ (u ≡ t ++ r)
+    → IsBegun s (spell (columns j m p).forms) u
+begun_columns_moved j n m p s q t r u le h begun moved =
+    elim moved [
+      | inl none ↦ subst (λ v. IsBegun s (spell (columns j m p).forms) v) (sym none) begun
+      | inr all ↦ begun_columns_up j n m p s u le (begun-all s (spell (columns j n p).forms) u (all ∙ h.text_is))
+    ]

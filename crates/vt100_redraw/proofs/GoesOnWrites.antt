@@ -3,16 +3,15 @@ use Rattle.std.proofs.Common.{◌≡◌, ℕ, ◌+◌, ◌==◌, Bool, true, fal
 use Rattle.std.proofs.Common.{arith, inl, inr}
 use Rattle.std.proofs.lemmas.Bool.{cases_Bool, and_parts, eqb-true, ne_eqb}
 use Rattle.vt100_forms.specs.declared.attrs.Attrs.{Attrs}
-use Rattle.vt100_forms.specs.Form.{spell}
 use Rattle.vt100_cells.specs.Cell.{CellView, has_text}
 use Rattle.vt100_cells.specs.Line.{span_of, put_unflags}
 use Rattle.vt100_redraw.specs.declared.pen.Pen.{Pen}
 use Rattle.vt100_redraw.specs.Drawing.{GoesOn}
 use Rattle.vt100_redraw.specs.Writer.{◌>>◌, colour, print}
 use Rattle.vt100_redraw.specs.RowWriter.{Job, wraps, arrive, draw, column}
-use Rattle.vt100_redraw.specs.Writes.{IsBegun, Wrote, Writes}
+use Rattle.vt100_redraw.specs.Writes.{Wrote, Writes}
 use Rattle.vt100_redraw.proofs.RowWrites.{full_draw, wrote_arrive_goto, wrote_flush_none, wrote_draw_full, wrote_column}
-use Rattle.vt100_redraw.proofs.RowWrites.{begun_draw_colour, begun_draw_print, begun_column_draw, drawn_col}
+use Rattle.vt100_redraw.proofs.RowWrites.{begun_draw_print, begun_column_draw, drawn_col}
 use Rattle.vt100_redraw.proofs.WritesLemmas.{wrote_goto_here}
 
 -- the cursor stands in this row, and not in the one above
@@ -36,15 +35,7 @@ drawn_on : (j : Job) (c : ℕ) (p : Pen) (x : CellView) (b : Bool) → x ≡ j.n
 drawn_on j c p x b is eb on =
     full_draw j c p x (span_of x) x.attrs b is on.other (ap has_text is ∙ on.filled) refl refl eb
 
--- the attributes are refused
-pub begun_column_colour : (j : Job) (c : ℕ) (p : Pen) (s t : List ℕ) (x : CellView) → x ≡ j.new c → GoesOn j c p
-    → IsBegun s (spell (colour x.attrs p).forms) t → IsBegun s (spell (column j c p).forms) t
-begun_column_colour j c p s t x is on h =
-    begun_column_draw j c p s p s t on.whole (wrote_flush_none j c p s on.closed)
-    (begun_draw_colour j c p s p s t x (span_of x) x.attrs (put_unflags j.cols j.old c (j.new c))
-    (drawn_on j c p x (put_unflags j.cols j.old c (j.new c)) is refl on) (wrote_arrive_here j c (span_of x) p s on) h)
-
--- and then the text is printed, or refused
+-- the attributes are set, and then the text is printed, or refused
 pub writes_column_on : (j : Job) (c : ℕ) (p : Pen) (s : List ℕ) (r : Pen) (u : List ℕ) (done : Bool) (q : Pen)
     (t : List ℕ) (x : CellView) (b : Bool) → x ≡ j.new c → b ≡ put_unflags j.cols j.old c (j.new c) → GoesOn j c p
     → Wrote (colour x.attrs) p s r u → Writes (print x b) r u done q t → Writes (column j c) p s done q t

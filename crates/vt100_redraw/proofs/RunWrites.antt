@@ -1,10 +1,9 @@
 -- Texts that are gathered, and then appended together.
 use Rattle.std.proofs.Common.{◌≡◌, ℕ, ◌+◌, ◌==◌, Bool, true, false, ◌&&◌, ◌||◌, not, List, ◌++◌, refl, sym, ap, ◌∙◌}
-use Rattle.std.proofs.Common.{append-nil, append_assoc, subst, Result, Ok, Err}
-use Rattle.std.specs.Prelude.{encode_utf8_all, OnErr}
+use Rattle.std.proofs.Common.{append-nil, append_assoc, subst}
+use Rattle.std.specs.Prelude.{encode_utf8_all}
 use Rattle.std.proofs.lemmas.Bool.{and_parts, eqb-true}
 use Rattle.vt100_forms.specs.declared.attrs.Attrs.{Attrs}
-use Rattle.vt100_forms.specs.Form.{spell}
 use Rattle.vt100_cells.specs.Cell.{CellView}
 use Rattle.vt100_cells.specs.CellEq.{attrs_eq-true}
 use Rattle.vt100_cells.specs.Line.{span_of}
@@ -12,11 +11,11 @@ use Rattle.vt100_redraw.specs.declared.pen.Pen.{Pen}
 use Rattle.vt100_redraw.specs.Drawing.{BeginsRun, GoesOn, GoesTo, JoinsRun}
 use Rattle.vt100_redraw.specs.Writer.{colour, print}
 use Rattle.vt100_redraw.specs.RowWriter.{Job, column, columns}
-use Rattle.vt100_redraw.specs.Writes.{IsBegun, Wrote}
+use Rattle.vt100_redraw.specs.Writes.{Wrote}
 use Rattle.vt100_redraw.proofs.ColumnsWrites.{wrote_columns_next}
-use Rattle.vt100_redraw.proofs.GoesOnWrites.{begun_column_colour, writes_column_on}
+use Rattle.vt100_redraw.proofs.GoesOnWrites.{writes_column_on}
 use Rattle.vt100_redraw.proofs.RowWrites.{wrote_column_half}
-use Rattle.vt100_redraw.proofs.WritesLemmas.{begun-all, colour_same}
+use Rattle.vt100_redraw.proofs.WritesLemmas.{colour_same}
 
 -- the text of one cell
 wrote_text : (x : CellView) (p : Pen) (t : List ℕ) → Wrote (print x false) p t (print x false p).pen (t
@@ -87,19 +86,3 @@ goes_half j n m p t q u half h p0 s0 w =
 -- the cursor stands at the cell
 pub here_col : (j : Job) (c : ℕ) (p : Pen) → GoesOn j c p → p.pos.col ≡ c
 here_col j c p on = eqb-true p.pos.col c (and_parts (p.pos.row == j.row) (p.pos.col == c) on.here).1
-
--- ---- the run is appended
-
-pub goes_joined : (j : Job) (n m : ℕ) (p : Pen) (s : List ℕ) (q : Pen) (t r u : List ℕ) → u ≡ t ++ r
-    → GoesTo j n m p s q (t ++ r) → GoesTo j n m p s q u
-goes_joined j n m p s q t r u e h = subst (λ bs. GoesTo j n m p s q bs) (sym e) h
-
--- the attributes are set, and the run is refused
-pub begun_text : (j : Job) (c : ℕ) (p : Pen) (s : List ℕ) (r : Pen) (u v : List ℕ) (x : CellView) → x ≡ j.new c
-    → BeginsRun j c p → Wrote (colour x.attrs) p s r u → v ≡ u → IsBegun s (spell (column j c p).forms) v
-begun_text j c p s r u v x is h coloured e =
-    begun_column_colour j c p s v x is h.on (begun-all s (spell (colour x.attrs p).forms) v (e ∙ coloured.text_is))
-
-pub on_err : {T E : Type 0} (r : Result T E) (B : Type 0) → B → OnErr r B
-on_err (Ok x) B h = tt
-on_err (Err x) B h = h

@@ -1,17 +1,17 @@
 //! What a writer keeps between forms.
-ghost use Rattle.std.specs.Prelude.{◌≡◌, ◌+◌, ◌<◌, ◌^◌, ◌++◌, is_ok, OnOk, string_bytes};
+ghost use Rattle.std.specs.Prelude.{ℕ, ◌≡◌, ◌+◌, ◌<◌, ◌≤◌, ◌^◌, List, ◌++◌, length, is_ok, IfSome, string_bytes};
 ghost use Rattle.std.specs.Prelude.{if◌then◌else◌, false};
 ghost use Rattle.vt100_forms.specs.Attrs.{attrs_eq};
 ghost use Rattle.vt100_cells.specs.Line.{span_of};
 ghost use Rattle.vt100_redraw.specs.Writer.{goto, turn, colour, print, space, back, erasing, clearing, marking};
-ghost use Rattle.vt100_redraw.specs.Writes.{Writes};
+ghost use Rattle.vt100_redraw.specs.Writes.{Writes, Wrote};
 
 use std::alloc::AllocError;
 use vt100_cells::Cell;
-use vt100_forms::GridError;
 use vt100_forms::attrs::Attrs;
 use vt100_forms::position::Pos;
 use vt100_forms::term::{Backspace, BufWrite, ClearRowForward, EraseChar, MoveFromTo};
+use vt100_forms::{GridError, TextRun};
 
 /// Columns of a row that are still to be erased: from one on.
 #[derive(Clone, Copy, Debug, Eq, PartialEq)]
@@ -95,26 +95,34 @@ impl Pen {
         self.attrs == attrs
     }
 
-    /// Sets the attributes of a cell, where `like` is one that has those with which the terminal draws.
+    /// Sets the attributes of a cell by bytes that are put into `run`. If `like` is there, it is a cell with those with
+    /// which the terminal draws.
     // Two cells are compared: so no colour has to be put together first.
     #[inline(always)]
-    pub(crate) fn colour_as(
-        &mut self,
-        contents: &mut String,
-        cell: &Cell,
-        like: &mut Cell,
-    ) -> Result<(), GridError>
-        requires { like.old.attrs ≡ self.old.attrs }
-        ensures written { Writes (colour cell.now.attrs) self.old (string_bytes contents.old) (is_ok result) self.new
-            (string_bytes contents.new) }
-        ensures like { OnOk result (like.new.attrs ≡ cell.now.attrs) }
+    pub(crate) fn colour_in(&mut self, run: &mut TextRun, cell: &Cell, like: Option<&Cell>)
+        requires room { length run.old + 58 ≤ 128 }
+        requires like { IfSome like (λ x. x.now.attrs ≡ self.old.attrs) }
+        ensures written { (t : List ℕ) → Wrote (colour cell.now.attrs) self.old (t ++ run.old) self.new (t ++ run.new) }
+        ensures room { length run.new ≤ length run.old + 58 }
     {
-        if cell.has_attrs_of(like) {
-            return Ok(());
+        if let Some(like) = like {
+            if cell.has_attrs_of(like) {
+                return;
+            }
         }
-        self.recolour(contents, cell.attrs())?;
-        *like = *cell;
-        Ok(())
+        self.recolour_in(run, cell);
+    }
+
+    // Apart, and given the whole cell: so its attributes aren't taken apart where they are only compared.
+    #[inline(never)]
+    fn recolour_in(&mut self, run: &mut TextRun, cell: &Cell)
+        requires { length run.old + 58 ≤ 128 }
+        ensures written { (t : List ℕ) → Wrote (colour cell.now.attrs) self.old (t ++ run.old) self.new (t ++ run.new) }
+        ensures room { length run.new ≤ length run.old + 58 }
+    {
+        let attrs = cell.attrs();
+        attrs.push_escape_code_diff(run, &self.attrs);
+        self.attrs = attrs;
     }
 
     #[inline(never)]

@@ -1,17 +1,22 @@
 //! Several columns of a row: what needs nothing is passed over, and texts that go on are printed together.
 ghost use Rattle.std.specs.Prelude.{ℕ, ◌≡◌, ◌+◌, ◌<◌, ◌≤◌, List, ◌++◌, length, is_ok, string_bytes};
-ghost use Rattle.std.specs.Prelude.{IsTrue, OnOk, OnErr, IfOk};
-ghost use Rattle.vt100_forms.specs.Form.{spell};
+ghost use Rattle.std.specs.Prelude.{IfSome, IsTrue};
 ghost use Rattle.vt100_redraw.specs.Drawing.{job_of, AreQuiet, BeginsRun, GoesOn, GoesTo, JoinsRun};
-ghost use Rattle.vt100_redraw.specs.RowWriter.{column, columns};
-ghost use Rattle.vt100_redraw.specs.Writes.{IsBegun, Writes};
+ghost use Rattle.vt100_redraw.specs.RowWriter.{columns};
+ghost use Rattle.vt100_redraw.specs.Writes.{Writes};
 
 use crate::drawing::Drawing;
 use crate::pen::Pen;
+use vt100_cells::Cell;
 use vt100_cells::line::{alike_to, at, same_to};
-use vt100_cells::{Cell, TextRun};
-use vt100_forms::GridError;
 use vt100_forms::position::Pos;
+use vt100_forms::{GridError, TextRun};
+
+/// How many bytes a short text takes at most.
+const TEXT_BYTES: usize = 4;
+
+/// How many bytes a change of attributes and a short text take at most.
+const CHANGE_AND_TEXT_BYTES: usize = 58 + TEXT_BYTES;
 
 impl<'a> Drawing<'a> {
     /// The first column from `from` on, up to `to`, for which something may have to be written: what the terminal shows
@@ -53,24 +58,27 @@ impl<'a> Drawing<'a> {
         ensures { Writes (columns (job_of self.now) count) pen.old (string_bytes contents.old) (is_ok result) pen.new
             (string_bytes contents.new) }
     {
-        let mut like = Cell::empty(pen.attrs);
+        // A cell with the attributes with which the terminal draws.
+        let mut like = None;
         let mut run = TextRun::new();
         let mut n = 0;
         while n < count {
             let col = self.start + n;
             if self.begins_run(pen, col) {
-                n = self.texts(pen, contents, &mut run, &mut like, n, count)?;
+                run.make_room(CHANGE_AND_TEXT_BYTES, contents)?;
+                n = self.texts(pen, &mut run, like, n, count);
+                like = Some(at(self.cells, usize::from(col)));
                 continue;
             }
-            let quiet = self.after_quiet(pen, n, count);
-            if quiet > n {
-                n = quiet;
-                continue;
+            n = self.after_quiet(pen, n, count);
+            if n < count {
+                run.move_to(contents)?;
+                self.change(pen, contents, self.start + n)?;
+                like = None;
+                n += 1;
             }
-            self.change(pen, contents, col)?;
-            like = Cell::empty(pen.attrs);
-            n += 1;
         }
+        run.move_to(contents)?;
         Ok(())
     }
 }
@@ -125,14 +133,14 @@ impl<'a> Drawing<'a> {
     {
         let mut alike = like;
         let mut m = n;
-        while m < count && run.has_room() {
+        while m < count && run.has_room(TEXT_BYTES) {
             let col = self.start + m;
             if !self.is_half(col) {
                 if !self.joins_run(pen, alike, col) {
                     break;
                 }
                 let cell = at(self.cells, usize::from(col));
-                run.push(cell);
+                cell.push_text(run);
                 pen.pass(cell);
                 alike = cell;
             }
@@ -141,36 +149,32 @@ impl<'a> Drawing<'a> {
         m
     }
 
-    /// Sets the attributes of the `n`-th of `count` columns, and prints its text and those after it, as long as the
-    /// cursor stands at each of them and they are drawn alike. Answers the first column that was not printed.
-    // `like` is a cell with the attributes with which the terminal draws.
+    /// Puts what sets the attributes of the `n`-th of `count` columns into the run, its text, and the texts after it,
+    /// as long as the cursor stands at each of them and they are drawn alike. Answers the first column that was not
+    /// gathered.
+    // If `like` is there, it is a cell with the attributes with which the terminal draws.
     fn texts(
         &self,
         pen: &mut Pen,
-        contents: &mut String,
         run: &mut TextRun,
-        like: &mut Cell,
+        like: Option<&Cell>,
         n: u16,
         count: u16,
-    ) -> Result<u16, GridError>
+    ) -> u16
         requires some { n < count }
         requires in_row { self.now.start + count ≤ length self.now.cells.now }
-        requires like { like.old.attrs ≡ pen.old.attrs }
+        requires room { length run.old + 62 ≤ 128 }
+        requires like { IfSome like (λ x. x.now.attrs ≡ pen.old.attrs) }
         requires begins { BeginsRun (job_of self.now) (self.now.start + n) pen.old }
-        ensures within { IfOk result (λ m. n < m × m ≤ count) }
-        ensures written { IfOk result (λ m. GoesTo (job_of self.now) n m pen.old (string_bytes contents.old) pen.new
-            (string_bytes contents.new)) }
-        ensures begun { OnErr result (IsBegun (string_bytes contents.old)
-            (spell (column (job_of self.now) (self.now.start + n) pen.old).forms) (string_bytes contents.new)) }
-        ensures like { OnOk result (like.new.attrs ≡ pen.new.attrs) }
+        ensures within { n < result × result ≤ count }
+        ensures written { (t : List ℕ) → GoesTo (job_of self.now) n result pen.old (t ++ run.old) pen.new
+            (t ++ run.new) }
+        ensures like { ((job_of self.now).new (self.now.start + n)).attrs ≡ pen.new.attrs }
     {
         let cell = at(self.cells, usize::from(self.start + n));
-        pen.colour_as(contents, cell, like)?;
-        run.clear();
-        run.push(cell);
+        pen.colour_in(run, cell, like);
+        cell.push_text(run);
         pen.pass(cell);
-        let m = self.gather(pen, run, cell, n + 1, count);
-        contents.push_str(run.as_str())?;
-        Ok(m)
+        self.gather(pen, run, cell, n + 1, count)
     }
 }

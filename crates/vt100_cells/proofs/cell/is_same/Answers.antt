@@ -6,4 +6,4 @@ pub returns-else-has_start_of : goal.returns-else-has_start_of
 returns-else-has_start_of c =
     let x = c.args.cell.now in
     let y = c.args.other.now in
-    c.if-has_start_of.false ∙ sym (cell_eq-other_start x y (sym c.has_start_of.ensures ∙ c.if-has_start_of.false))
+    c.if-has_start_of.false ∙ sym (cell_eq-other_start x y (sym c.has_start_of.ensures.value ∙ c.if-has_start_of.false))

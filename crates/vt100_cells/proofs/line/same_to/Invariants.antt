@@ -12,3 +12,13 @@ invariant-loop-n l = record {
 
 abbrev pub decreases-loop-n : goal.decreases-loop-n
 decreases-loop-n l = l.to - l.n
+
+abbrev pub invariant-loop-n-2 : goal.invariant-loop-n-2
+invariant-loop-n-2 l = record {
+  begun : l.from ≤ l.n;
+  within : l.n ≤ l.to;
+  same : AreSame (cell_at l.cells) (cell_at l.others) l.from l.n;
+}
+
+abbrev pub decreases-loop-n-2 : goal.decreases-loop-n-2
+decreases-loop-n-2 l = l.to - l.n

@@ -1,7 +1,7 @@
 use Rattle.std.proofs.Common.{ap, ◌∙◌}
 use Rattle.std.specs.Prelude.{length, encode_utf8_all}
 use Rattle.vt100_cells.specs.Cell.{CellView}
-use Rattle.vt100_cells.proofs.TextRunLemmas.{short-tests}
+use Rattle.vt100_cells.proofs.ShortTexts.{short-tests}
 use Rattle.vt100_cells.proofs.cell.Cell.has_short_text.Goals as goal
 
 pub returns : goal.returns

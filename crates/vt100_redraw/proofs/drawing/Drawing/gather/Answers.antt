@@ -33,13 +33,15 @@ loop-m-preserved c =
           let joins = w.joins_run.ensures w.if-not-joins_run.false in
           let here = w.at-cell.ensures ∙ ap (cell_at c.args.self.now.cells.now) w.from.ensures in
           let pen = w.pen-is ∙ w.pass.ensures in
-          let run = w.run-is ∙ w.push.ensures in
+          let run = w.run-is ∙ w.push_text.ensures in
           record {
             begun = omega (arith, c.loop-m.invariant.begun);
             within = omega (arith, c.loop-m-test.true);
-            gathered = λ t. subst (λ (r : Pen). GoesTo j n (m + 1) p (t ++ c.args.run.now) r (t ++ c.if-not-is_half.run)) (sym pen)
+            gathered = λ t. subst (λ (r : Pen). GoesTo j n (m + 1) p (t ++ c.args.run.now) r
+                (t ++ c.if-not-is_half.run)) (sym pen)
                 (subst (λ bs. GoesTo j n (m + 1) p (t ++ c.args.run.now) (print x false q).pen (t ++ bs)) (sym run)
-                (goes_text j n m p (t ++ c.args.run.now) t q c.loop-m.run a x here drawn joins (c.loop-m.invariant.gathered t)));
+                (goes_text j n m p (t ++ c.args.run.now) t q c.loop-m.run a x here drawn joins
+                (c.loop-m.invariant.gathered t)));
             attrs = ap (λ (r : Pen). r.attrs) pen ∙ pass-attrs x q ∙ c.loop-m.invariant.attrs;
             alike = ap (λ (r : Pen). r.attrs) pen ∙ pass-attrs x q ∙ drawn ∙ joined_attrs j (j.start + m) q a x here joins
                 ∙ ap (λ (y : Bor CellView). y.now.attrs) (sym w.alike-is);
@@ -49,7 +51,8 @@ loop-m-preserved c =
           record {
             begun = omega (arith, c.loop-m.invariant.begun);
             within = omega (arith, c.loop-m-test.true);
-            gathered = λ t. subst (λ (r : Pen). GoesTo j n (m + 1) p (t ++ c.args.run.now) r (t ++ c.if-not-is_half.run)) (sym w.pen-is)
+            gathered = λ t. subst (λ (r : Pen). GoesTo j n (m + 1) p (t ++ c.args.run.now) r
+                (t ++ c.if-not-is_half.run)) (sym w.pen-is)
                 (subst (λ bs. GoesTo j n (m + 1) p (t ++ c.args.run.now) q (t ++ bs)) (sym w.run-is)
                 (goes_half j n m p (t ++ c.args.run.now) q (t ++ c.loop-m.run) half (c.loop-m.invariant.gathered t)));
             attrs = ap (λ (r : Pen). r.attrs) w.pen-is ∙ c.loop-m.invariant.attrs;

@@ -1,5 +1,5 @@
 use Rattle.std.proofs.lemmas.Str.{IsUtf8-had}
-use Rattle.vt100_cells.proofs.text_run.TextRun.as_str.Goals as goal
+use Rattle.vt100_forms.proofs.text_run.TextRun.as_str.Goals as goal
 
 pub from_utf8_unchecked-requires : goal.from_utf8_unchecked-requires
 from_utf8_unchecked-requires c = IsUtf8-had _ c.self.invariant.utf8

@@ -1,0 +1,123 @@
+//! Bytes that are written to a string in one piece.
+ghost use Rattle.std.specs.Prelude.{◌≡◌, ℕ, ◌+◌, ◌<◌, ◌≤◌, ◌↔◌, List, [], ◌∷◌, ◌++◌, length, take, IsTrue, IsUtf8};
+ghost use Rattle.std.specs.Prelude.{◌⊎◌, OnOk, OnErr, string_bytes, string_len, string_capacity, is_ok, if◌then◌else◌};
+
+use std::alloc::AllocError;
+use std::marker::Model;
+use std::str;
+
+/// How many bytes a run has at most.
+const RUN_BYTES: usize = 128;
+
+/// How many bytes [`TextRun::push_short`] puts in at most.
+const SHORT_BYTES: usize = 4;
+
+/// UTF-8 bytes on the stack, at most 128 of them, that are to be appended to a string in one call.
+#[derive(Debug, Drop)]
+pub struct TextRun {
+    // A byte, and before the others: so LLVM sees that a write of one of these never changes it, and keeps it in a
+    // register.
+    len: u8,
+    // The bytes past `len` are whatever was left there.
+    bytes: [u8; RUN_BYTES],
+}
+
+impl Model for TextRun {
+    ghost use Rattle.std.specs.Prelude.{List, ℕ};
+
+    ghost Value = { List ℕ };
+
+    ghost use Rattle.vt100_forms.specs.TextRunFields.{bytes_of, IsRun};
+
+    ghost view = { bytes_of };
+
+    ghost invariant = { IsRun };
+}
+
+impl TextRun {
+    /// No bytes yet.
+    pub const fn new() -> Self
+        ensures { result ≡ [] }
+    {
+        TextRun {
+            len: 0,
+            bytes: [0; RUN_BYTES],
+        }
+    }
+
+    /// Whether `count` bytes more fit.
+    #[inline(always)]
+    pub fn has_room(&self, count: usize) -> bool
+        requires { count ≤ 128 }
+        ensures { IsTrue result ↔ (length self.now + count ≤ 128) }
+    {
+        self.len as usize <= RUN_BYTES - count
+    }
+
+    /// Puts an ASCII character at the end.
+    #[inline(always)]
+    pub fn push_ascii(&mut self, c: u8)
+        requires room { length self.old < 128 }
+        requires ascii { c < 128 }
+        ensures bytes { self.new ≡ self.old ++ c ∷ [] }
+        ensures len { length self.new ≡ length self.old + 1 }
+    {
+        self.bytes[self.len as usize] = c;
+        self.len += 1;
+    }
+
+    /// Puts the first `len` of these four bytes at the end.
+    // All four are copied, which is one move and no branch.
+    #[inline(always)]
+    pub fn push_short(&mut self, bytes: &[u8], len: usize)
+        requires room { length self.old + 4 ≤ 128 }
+        requires four { length bytes.now ≡ 4 }
+        requires short { len ≤ 4 }
+        requires utf8 { IsUtf8 (take len bytes.now) }
+        ensures { self.new ≡ self.old ++ take len bytes.now }
+    {
+        let start = self.len as usize;
+        self.bytes[start..start + SHORT_BYTES].copy_from_slice(bytes);
+        self.len = (start + len) as u8;
+    }
+
+    /// The bytes.
+    #[inline]
+    pub fn as_str(&self) -> &str
+        ensures { result.now ≡ self.now }
+    {
+        unsafe { str::from_utf8_unchecked(&self.bytes[..self.len as usize]) }
+    }
+
+    /// Appends the bytes to `contents`, and takes them out of the run. Where `contents` has to grow and there is no
+    /// memory, it stays as it was.
+    #[inline]
+    pub fn move_to(&mut self, contents: &mut String) -> Result<(), AllocError>
+        ensures bytes { string_bytes contents.new ≡
+            (if is_ok result then string_bytes contents.old ++ self.old else string_bytes contents.old) }
+        ensures empty { self.new ≡ [] }
+        ensures full { OnErr result (string_capacity contents.old < string_len contents.old + length self.old) }
+    {
+        if self.len == 0 {
+            return Ok(());
+        }
+        let moved = contents.push_str(self.as_str());
+        self.len = 0;
+        moved
+    }
+
+    /// Moves the bytes to `contents` where `count` bytes more don't fit.
+    #[inline]
+    pub fn make_room(&mut self, count: usize, contents: &mut String) -> Result<(), AllocError>
+        requires { count ≤ 128 }
+        ensures room { OnOk result (length self.new + count ≤ 128) }
+        ensures kept { OnOk result (string_bytes contents.new ++ self.new ≡ string_bytes contents.old ++ self.old) }
+        ensures moved { (string_bytes contents.new ≡ string_bytes contents.old)
+            ⊎ (string_bytes contents.new ≡ string_bytes contents.old ++ self.old) }
+    {
+        if self.has_room(count) {
+            return Ok(());
+        }
+        self.move_to(contents)
+    }
+}
