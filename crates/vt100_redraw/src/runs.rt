@@ -70,13 +70,15 @@ impl<'a> Drawing<'a> {
                 like = Some(at(self.cells, usize::from(col)));
                 continue;
             }
-            n = self.after_quiet(pen, n, count);
-            if n < count {
-                run.move_to(contents)?;
-                self.change(pen, contents, self.start + n)?;
-                like = None;
-                n += 1;
+            let quiet = self.after_quiet(pen, n, count);
+            if quiet > n {
+                n = quiet;
+                continue;
             }
+            run.move_to(contents)?;
+            self.change(pen, contents, col)?;
+            like = None;
+            n += 1;
         }
         run.move_to(contents)?;
         Ok(())

@@ -52,52 +52,49 @@ loop-n-preserved-then-begins_run c =
           ∙ c.texts-n.ensures.like;
     }
 
+pub loop-n-preserved-then-quiet-n : goal.loop-n-preserved-then-quiet-n
+loop-n-preserved-then-quiet-n c =
+    let j = job_of c.args.self.now in
+    record {
+      within = c.after_quiet-quiet.ensures.within.1;
+      drawn = wrote_columns_quiet j c.loop-n.n c.after_quiet-quiet.result c.args.pen.now
+          (string_bytes c.args.contents.now) c.loop-n.pen (string_bytes c.loop-n.contents ++ c.loop-n.run)
+          c.after_quiet-quiet.ensures.within.0 c.after_quiet-quiet.ensures.quiet c.loop-n.invariant.drawn;
+      begun = c.loop-n.invariant.begun;
+      like = c.loop-n.invariant.like;
+    }
+
 pub returns-in_err-change : goal.returns-in_err-change
 returns-in_err-change c =
     let j = job_of c.args.self.now in
-    let m = c.after_quiet-n.result in
     let p = c.args.pen.now in
     let s = string_bytes c.args.contents.now in
     let t = string_bytes c.move_to.new.contents in
     let u = string_bytes c.change.new.contents in
-    let quiet = wrote_columns_quiet j c.loop-n.n m p s c.loop-n.pen (string_bytes c.loop-n.contents ++ c.loop-n.run)
-    c.after_quiet-n.ensures.within.0 c.after_quiet-n.ensures.quiet c.loop-n.invariant.drawn in
-    let drawn = subst (λ bs. Wrote (columns j m) p s c.loop-n.pen bs) (sym c.in_ok-move_to.ensures.bytes) quiet in
+    let drawn = subst (λ bs. Wrote (columns j c.loop-n.n) p s c.loop-n.pen bs) (sym c.in_ok-move_to.ensures.bytes)
+    c.loop-n.invariant.drawn in
     on_err c.from_residual-in_err-change.result (columns j c.args.count) p s c.change.new.pen u
     c.from_residual-in_err-change.ensures.0
-    (begun_columns_at j m c.args.count p s c.loop-n.pen t u c.if-n-count.true drawn c.in_err-change.ensures)
+    (begun_columns_at j c.loop-n.n c.args.count p s c.loop-n.pen t u c.loop-n-test.true drawn c.in_err-change.ensures)
 
-pub loop-n-preserved-then-n-count : goal.loop-n-preserved-then-n-count
-loop-n-preserved-then-n-count c =
+pub loop-n-preserved : goal.loop-n-preserved
+loop-n-preserved c =
     let j = job_of c.args.self.now in
-    let m = c.after_quiet-n.result in
+    let n = c.loop-n.n in
     let p = c.args.pen.now in
     let q = c.change.new.pen in
     let s = string_bytes c.args.contents.now in
     let t = string_bytes c.move_to.new.contents in
     let u = string_bytes c.change.new.contents in
-    let quiet = wrote_columns_quiet j c.loop-n.n m p s c.loop-n.pen (string_bytes c.loop-n.contents ++ c.loop-n.run)
-    c.after_quiet-n.ensures.within.0 c.after_quiet-n.ensures.quiet c.loop-n.invariant.drawn in
-    let drawn = subst (λ bs. Wrote (columns j m) p s c.loop-n.pen bs) (sym c.in_ok-move_to.ensures.bytes) quiet in
-    let next = wrote_columns_next j m p s c.loop-n.pen t q u drawn c.in_ok-change.ensures in
+    let drawn = subst (λ bs. Wrote (columns j n) p s c.loop-n.pen bs) (sym c.in_ok-move_to.ensures.bytes)
+    c.loop-n.invariant.drawn in
+    let next = wrote_columns_next j n p s c.loop-n.pen t q u drawn c.in_ok-change.ensures in
     let all = ap (λ bs. u ++ bs) c.in_ok-move_to.ensures.empty ∙ append-nil u in
     record {
-      within = omega (arith, c.if-n-count.true);
-      drawn = subst (λ bs. Wrote (columns j (m + 1)) p s q bs) (sym all) next;
-      begun = begun_columns_moved j (m + 1) c.args.count p s q s (spell (columns j (m + 1) p).forms) u
-          (omega (arith, c.if-n-count.true)) (subst (λ bs. Wrote (columns j (m + 1)) p s q bs) next.text_is next)
+      within = omega (arith, c.loop-n-test.true);
+      drawn = subst (λ bs. Wrote (columns j (n + 1)) p s q bs) (sym all) next;
+      begun = begun_columns_moved j (n + 1) c.args.count p s q s (spell (columns j (n + 1) p).forms) u
+          (omega (arith, c.loop-n-test.true)) (subst (λ bs. Wrote (columns j (n + 1)) p s q bs) next.text_is next)
           (begun-none s (spell (columns j c.args.count p).forms)) (inr next.text_is);
       like = tt;
-    }
-
-pub loop-n-preserved : goal.loop-n-preserved
-loop-n-preserved c =
-    let j = job_of c.args.self.now in
-    record {
-      within = c.after_quiet-n.ensures.within.1;
-      drawn = wrote_columns_quiet j c.loop-n.n c.after_quiet-n.result c.args.pen.now
-          (string_bytes c.args.contents.now) c.loop-n.pen (string_bytes c.loop-n.contents ++ c.loop-n.run)
-          c.after_quiet-n.ensures.within.0 c.after_quiet-n.ensures.quiet c.loop-n.invariant.drawn;
-      begun = c.loop-n.invariant.begun;
-      like = c.loop-n.invariant.like;
     }
