@@ -1,8 +1,7 @@
 -- Columns in which two lines are the same.
-use Rattle.std.proofs.Common.{◌≡◌, ℕ, ◌+◌, ◌<◌, ◌≤◌, false, List, length, sym, ap, ◌∙◌, arith, inl, inr}
-use Rattle.std.proofs.lemmas.Bool.{cases_lt, false≢true}
-use Rattle.vt100_cells.specs.Cell.{CellView, cell_eq}
-use Rattle.vt100_cells.specs.CellEq.{cell_eq-of_same}
+use Rattle.std.proofs.Common.{◌≡◌, ℕ, ◌+◌, List, length, sym, ap, ◌∙◌, arith, inl, inr}
+use Rattle.std.proofs.lemmas.Bool.{cases_lt}
+use Rattle.vt100_cells.specs.Cell.{CellView}
 use Rattle.vt100_cells.specs.Cells.{AreSame, cell_at}
 use Rattle.vt100_cells.proofs.ListLemmas.{by_position_is}
 
@@ -24,13 +23,3 @@ pub same-lines : (xs ys : List CellView) (n : ℕ) → length xs ≡ n → lengt
 same-lines xs ys n h k same =
     by_position_is n (cell_at ys) xs h (λ i l. same i (omega arith) l)
     ∙ sym (by_position_is n (cell_at ys) ys k (λ i l. λ _. cell_at ys i))
-
--- between lines that are the same no column differs
-pub same-stop : (xs ys : List CellView) (n : ℕ) → xs ≡ ys → n ≤ length xs
-    → (n < length xs → cell_eq (cell_at xs n) (cell_at ys n) ≡ false) → n ≡ length xs
-same-stop xs ys n e h differs =
-    elim (cases_lt n (length xs)) [
-      | inl before ↦ absurd (false≢true (sym (differs before)
-          ∙ cell_eq-of_same (cell_at xs n) (cell_at ys n) (ap (λ zs. cell_at zs n) e)))
-      | inr after ↦ omega (arith, h, after)
-    ]

@@ -5,11 +5,11 @@ ghost use Rattle.vt100_forms.specs.Attrs.{attrs_eq, is_bold, is_dim, is_italic, 
 ghost use Rattle.vt100_cells.specs.Cell.{IsCell, cell_eq};
 
 use crate::cell_color::CellColor;
-use crate::cell_text::{CellText, SHORT_BYTES};
+use crate::cell_text::CellText;
 use std::marker::Model;
 use std::mem::size_of;
 use vt100_forms::attrs::Attrs;
-use vt100_forms::{Color, TextRun};
+use vt100_forms::{Color, SHORT_BYTES, TextRun};
 
 /// How a cell stands in its row.
 #[derive(Clone, Copy, Debug, Eq, PartialEq)]

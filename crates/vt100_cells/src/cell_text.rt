@@ -9,6 +9,7 @@ ghost use Rattle.vt100_cells.specs.Cell.{text_eq};
 use std::marker::Model;
 use std::str;
 use unicode_width::UnicodeWidthStr;
+use vt100_forms::SHORT_BYTES;
 
 /// How many bytes a text has at most: 17, and a character of 4.
 const CONTENT_BYTES: usize = 21;
@@ -18,9 +19,6 @@ pub(crate) const START_BYTES: usize = 5;
 
 /// A text with this many bytes takes no further character.
 const FULL_BYTES: usize = 18;
-
-/// How many bytes a short text has at most: those of one character.
-pub(crate) const SHORT_BYTES: usize = 4;
 
 /// A UTF-8 text of at most 21 bytes.
 #[derive(Clone, Copy, Debug)]

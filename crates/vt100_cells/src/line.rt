@@ -1,6 +1,6 @@
 //! Edits of the cells of one line.
 ghost use Rattle.std.specs.Prelude.{◌≡◌, ℕ, ◌+◌, ◌-◌, ◌<◌, ◌≤◌, ◌==◌, List, length, Some, true, false, not, ◌&&◌};
-ghost use Rattle.std.specs.Prelude.{slice_set, All, slice_index, Decides, IsTrue};
+ghost use Rattle.std.specs.Prelude.{slice_set, All, slice_index, IsTrue};
 ghost use Rattle.vt100_cells.specs.Cell.{CellView, IsCell, has_text, is_filled, drawn_columns, cell_of, empty_cell};
 ghost use Rattle.vt100_cells.specs.Cell.{IsPrintable, cell_eq};
 ghost use Rattle.vt100_cells.specs.Line.{IsPaired, span_of, update, put, put_unflags, base_col, pair_wiped, wiped};
@@ -55,13 +55,6 @@ pub fn is_same_at(cells: &[Cell], others: &[Cell], i: usize) -> bool
     is_same(at(cells, i), at(others, i))
 }
 
-/// Whether two lines have the same cells.
-pub fn have_same_cells(cells: &[Cell], others: &[Cell]) -> bool
-    ensures { Decides result (cells.now ≡ others.now) }
-{
-    cells.len() == others.len() && same_to(cells, others, 0, cells.len()) == cells.len()
-}
-
 /// Whether the eight cells from column `i` on are found to be the same in both lines: the starts of their texts are
 /// compared, which is all of a short text, and longer ones are left to [`is_same_at`].
 // One branch for eight cells: so a line costs little more than the reading of it.
@@ -73,9 +66,9 @@ fn have_same_eight(cells: &[Cell], others: &[Cell], i: usize) -> bool
 {
     let mut same = true;
     let mut longest = 0;
-    for k in i..i + 8 {
-        let cell = at(cells, k);
-        same &= cell.has_start_of(at(others, k));
+    for k in 0..8 {
+        let cell = at(cells, i + k);
+        same &= cell.has_start_of(at(others, i + k));
         longest |= cell.text().len();
     }
     same & (longest < START_BYTES + 1)

@@ -4,7 +4,7 @@ ghost use Rattle.std.specs.Prelude.{string_bytes, string_len, string_capacity};
 
 use crate::error::GridError;
 use crate::term;
-use crate::term::{BufWrite, Intensity};
+use crate::term::Intensity;
 use crate::text_run::TextRun;
 use std::fmt;
 
@@ -189,17 +189,15 @@ impl Attrs {
         ensures full { OnErr result
             (string_capacity contents.old < string_len contents.old + length (spell (change other.now self.now))) }
     {
-        if *self == *other {
-            Ok(())
-        } else if *self == Self::default() {
-            term::ClearAttrs.write_buf(contents)
-        } else {
-            term::Attrs::of_change(other, self).write_buf(contents)
-        }
+        let mut run = TextRun::new();
+        self.push_escape_code_diff(&mut run, other);
+        run.move_to(contents)?;
+        Ok(())
     }
 
     /// Puts the same bytes at the end of `run`: 58 at most.
     #[doc(hidden)]
+    #[inline(always)]
     pub fn push_escape_code_diff(&self, run: &mut TextRun, other: &Self)
         requires { length run.old + 58 ≤ 128 }
         ensures bytes { run.new ≡ run.old ++ spell (change other.now self.now) }
@@ -227,12 +225,12 @@ impl Attrs {
             (HandsOver W.write_str_gives writer.old (spell (change other.now self.now)) writer.new) }
         ensures empty { spell (change other.now self.now) ≡ [] → IsOk result }
     {
-        if *self == *other {
-            Ok(())
-        } else if *self == Self::default() {
-            term::ClearAttrs.write_fmt(writer)
-        } else {
-            term::Attrs::of_change(other, self).write_fmt(writer)
+        let mut run = TextRun::new();
+        self.push_escape_code_diff(&mut run, other);
+        let text = run.as_str();
+        if text.is_empty() {
+            return Ok(());
         }
+        writer.write_str(text)
     }
 }

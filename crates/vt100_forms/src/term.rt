@@ -1,5 +1,5 @@
 //! The forms that a writer sends to a terminal (ECMA-48, the VT100's and xterm's control sequences).
-ghost use Rattle.std.specs.Prelude.{◌≡◌, ◌≤◌, ◌<◌, ◌+◌, ◌*◌, length, decimal, List, [], ◌∷◌, ◌++◌, Some, None};
+ghost use Rattle.std.specs.Prelude.{◌≡◌, ◌≤◌, ◌<◌, ◌+◌, ◌*◌, ◌^◌, length, decimal, List, [], ◌∷◌, ◌++◌, Some, None};
 ghost use Rattle.std.specs.Prelude.{string_bytes, string_len, string_capacity, is_ok, IsOk, OnOk, OnErr, if◌then◌else◌};
 ghost use Rattle.vt100_forms.specs.Form.{Form, spell};
 ghost use Rattle.vt100_forms.specs.Form.{changed_color, changed_intensity, changed_flag, color_part, flag_part};
@@ -155,21 +155,31 @@ impl MoveTo {
             col: pos.col,
         }
     }
+
+    /// Puts the form's bytes at the end of `run`.
+    fn push_to(&self, run: &mut TextRun)
+        requires { length run.old + 14 ≤ 128 }
+        ensures bytes { run.new ≡ run.old ++ spell (self.now ∷ []) }
+        ensures len { length run.new ≤ length run.old + 14 }
+    {
+        run.push_ascii(b'\x1b');
+        run.push_ascii(b'[');
+        if self.row != 0 || self.col != 0 {
+            push_count(run, u32::from(self.row) + 1);
+            run.push_ascii(b';');
+            push_count(run, u32::from(self.col) + 1);
+        }
+        run.push_ascii(b'H');
+    }
 }
 
 impl BufWrite for MoveTo {
     ghost forms = { λ m. m ∷ [] };
 
     fn as_text<'a>(&self, room: &'a mut FormText) -> &'a str {
-        if self.row == 0 && self.col == 0 {
-            return "\x1b[H";
-        }
-        let mut number = Buffer::new();
-        room.push_str("\x1b[");
-        room.push_str(number.format(u32::from(self.row) + 1));
-        room.push_str(";");
-        room.push_str(number.format(u32::from(self.col) + 1));
-        room.push_str("H");
+        let mut run = TextRun::new();
+        self.push_to(&mut run);
+        room.push_str(run.as_str());
         room.as_str()
     }
 }
@@ -390,7 +400,7 @@ impl Attrs {
         };
         run.push_ascii(b'\x1b');
         run.push_ascii(b'[');
-        push_number(run, *first);
+        push_number(run, u32::from(*first));
         push_further(run, rest);
         run.push_ascii(b'm');
     }
@@ -414,10 +424,29 @@ impl BufWrite for Attrs {
     }
 }
 
-fn push_number(run: &mut TextRun, n: u8)
-    requires { length run.old + 3 ≤ 128 }
+// Puts the decimal digits of a number at the end: 5 at most.
+fn push_count(run: &mut TextRun, n: u32)
+    requires room { length run.old + 5 ≤ 128 }
+    requires few { n ≤ 2 ^ 16 }
+    ensures bytes { run.new ≡ run.old ++ decimal n }
+    ensures len { length run.new ≤ length run.old + 5 }
+{
+    if n < 1000 {
+        push_number(run, n);
+        return;
+    }
+    push_number(run, n / 1000);
+    push_digit(run, n / 100 % 10);
+    push_digit(run, n / 10 % 10);
+    push_digit(run, n % 10);
+}
+
+fn push_number(run: &mut TextRun, n: u32)
+    requires room { length run.old + 3 ≤ 128 }
+    requires few { n < 1000 }
     ensures bytes { run.new ≡ run.old ++ decimal n }
     ensures len { length run.new ≤ length run.old + 3 }
+    ensures short { n < 100 → length run.new ≤ length run.old + 2 }
 {
     if n < 10 {
         push_digit(run, n);
@@ -431,13 +460,13 @@ fn push_number(run: &mut TextRun, n: u8)
     }
 }
 
-fn push_digit(run: &mut TextRun, n: u8)
+fn push_digit(run: &mut TextRun, n: u32)
     requires room { length run.old < 128 }
     requires digit { n < 10 }
     ensures bytes { run.new ≡ run.old ++ (48 + n) ∷ [] }
     ensures len { length run.new ≡ length run.old + 1 }
 {
-    run.push_ascii(b'0' + n);
+    run.push_ascii(b'0' + n as u8);
 }
 
 fn push_further(run: &mut TextRun, numbers: &[u8])
@@ -447,7 +476,7 @@ fn push_further(run: &mut TextRun, numbers: &[u8])
 {
     for n in numbers {
         run.push_ascii(b';');
-        push_number(run, *n);
+        push_number(run, u32::from(*n));
     }
 }
 
@@ -486,7 +515,7 @@ impl BufWrite for MoveRight {
     ghost forms = { λ m. m ∷ [] };
 
     fn as_text<'a>(&self, room: &'a mut FormText) -> &'a str {
-        counted(room, self.count, "C")
+        counted(room, self.count, b'C')
     }
 }
 
@@ -525,24 +554,37 @@ impl BufWrite for EraseChar {
     ghost forms = { λ m. m ∷ [] };
 
     fn as_text<'a>(&self, room: &'a mut FormText) -> &'a str {
-        counted(room, self.count, "X")
+        counted(room, self.count, b'X')
     }
 }
 
 // A count that is left out where it is 1; nothing where it is 0.
-fn counted<'a>(room: &'a mut FormText, count: u16, letter: &str) -> &'a str
-    requires empty { room.old.bytes ≡ [] }
-    requires letter { length letter.now ≡ 1 }
-    ensures { result.now ≡ counted count letter.now }
+fn push_counted(run: &mut TextRun, count: u16, letter: u8)
+    requires room { length run.old + 8 ≤ 128 }
+    requires ascii { letter < 128 }
+    ensures bytes { run.new ≡ run.old ++ counted count (letter ∷ []) }
+    ensures len { length run.new ≤ length run.old + 8 }
 {
     if count == 0 {
-        return "";
+        return;
     }
-    room.push_str("\x1b[");
+    run.push_ascii(b'\x1b');
+    run.push_ascii(b'[');
     if count > 1 {
-        room.push_str(Buffer::new().format(count));
+        push_count(run, u32::from(count));
     }
-    room.push_str(letter);
+    run.push_ascii(letter);
+}
+
+// The same in `room`.
+fn counted<'a>(room: &'a mut FormText, count: u16, letter: u8) -> &'a str
+    requires empty { room.old.bytes ≡ [] }
+    requires ascii { letter < 128 }
+    ensures { result.now ≡ counted count (letter ∷ []) }
+{
+    let mut run = TextRun::new();
+    push_counted(&mut run, count, letter);
+    room.push_str(run.as_str());
     room.as_str()
 }
 
@@ -603,21 +645,40 @@ impl MoveFromTo {
     {
         MoveFromTo { from, to }
     }
+
+    /// Puts the form's bytes at the end of `run`: 14 at most.
+    #[doc(hidden)]
+    pub fn push_to(&self, run: &mut TextRun)
+        requires { length run.old + 14 ≤ 128 }
+        ensures bytes { run.new ≡ run.old ++ spell self.now }
+        ensures len { length run.new ≤ length run.old + 14 }
+    {
+        if u32::from(self.to.row) == u32::from(self.from.row) + 1 && self.to.col == 0 {
+            run.push_ascii(b'\r');
+            run.push_ascii(b'\n');
+        } else if self.from.row == self.to.row && self.from.col < self.to.col {
+            push_counted(run, self.to.col - self.from.col, b'C');
+        } else if self.to != self.from {
+            MoveTo::new(self.to).push_to(run);
+        }
+    }
 }
 
 impl BufWrite for MoveFromTo {
     ghost forms = { λ m. m };
 
     fn as_text<'a>(&self, room: &'a mut FormText) -> &'a str {
-        if u32::from(self.to.row) == u32::from(self.from.row) + 1 && self.to.col == 0 {
-            Crlf.as_text(room)
-        } else if self.from.row == self.to.row && self.from.col < self.to.col {
-            MoveRight::new(self.to.col - self.from.col).as_text(room)
-        } else if self.to != self.from {
-            MoveTo::new(self.to).as_text(room)
-        } else {
-            ""
-        }
+        let mut run = TextRun::new();
+        self.push_to(&mut run);
+        room.push_str(run.as_str());
+        room.as_str()
+    }
+
+    fn write_buf(&self, buf: &mut String) -> Result<(), GridError> {
+        let mut run = TextRun::new();
+        self.push_to(&mut run);
+        run.move_to(buf)?;
+        Ok(())
     }
 }
 

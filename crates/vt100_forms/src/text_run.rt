@@ -9,8 +9,9 @@ use std::str;
 /// How many bytes a run has at most.
 const RUN_BYTES: usize = 128;
 
-/// How many bytes [`TextRun::push_short`] puts in at most.
-const SHORT_BYTES: usize = 4;
+/// How many bytes a short text has at most: those of one character.
+#[doc(hidden)]
+pub const SHORT_BYTES: usize = 4;
 
 /// UTF-8 bytes on the stack, at most 128 of them, that are to be appended to a string in one call.
 #[derive(Debug, Drop)]
@@ -66,7 +67,7 @@ impl TextRun {
         self.len += 1;
     }
 
-    /// Puts the first `len` of these four bytes at the end.
+    /// Puts a short text at the end: the first `len` of these four bytes.
     // All four are copied, which is one move and no branch.
     #[inline(always)]
     pub fn push_short(&mut self, bytes: &[u8], len: usize)

@@ -3,7 +3,7 @@ pub mod Columns
 pub mod ColumnsWrites
 pub mod QuietColumns
 pub mod Examples
-pub mod GoesOnWrites
+pub mod RunColumn
 pub mod KeptRows
 pub mod Lines
 pub mod Local

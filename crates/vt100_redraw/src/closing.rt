@@ -1,5 +1,6 @@
 //! How a row ends, and the difference of a whole row. Where the row's flag changes its last cell is drawn again.
-ghost use Rattle.std.specs.Prelude.{◌≡◌, ◌+◌, ◌<◌, ◌≤◌, ◌^◌, length, is_ok, string_bytes, Decides};
+ghost use Rattle.std.specs.Prelude.{◌≡◌, ◌+◌, ◌<◌, ◌≤◌, ◌^◌, length, is_ok, string_bytes, IsTrue};
+ghost use Rattle.vt100_cells.specs.Cells.{AreSame, cell_at};
 ghost use Rattle.vt100_cells.specs.Line.{span_of};
 ghost use Rattle.vt100_redraw.specs.Drawing.{job_of, IsSettled};
 ghost use Rattle.vt100_redraw.specs.RowWriter.{last_col, unflag, print_last, mend, owes_end, closing};
@@ -9,7 +10,7 @@ ghost use Rattle.vt100_redraw.specs.Writes.{Writes};
 use crate::drawing::Drawing;
 use crate::pen::Pen;
 use vt100_cells::Cell;
-use vt100_cells::line::{at, have_same_cells, is_continuation_at};
+use vt100_cells::line::{at, is_continuation_at, same_to};
 use vt100_forms::GridError;
 use vt100_forms::position::Pos;
 
@@ -66,22 +67,38 @@ impl<'a> Drawing<'a> {
         Ok(())
     }
 
-    /// Whether the terminal shows all of the cells already.
-    fn shows_all(&self) -> bool
-        ensures { Decides result (self.now.cells.now ≡ self.now.earlier.now) }
+    /// How many cells from the left the terminal shows already.
+    fn same(&self) -> usize
+        ensures within { result ≤ length self.now.cells.now }
+        ensures same { AreSame (cell_at self.now.cells.now) (cell_at self.now.earlier.now) 0 result }
     {
-        have_same_cells(self.cells, self.earlier)
+        same_to(
+            self.cells,
+            self.earlier,
+            0,
+            self.cells.len().min(self.earlier.len()),
+        )
     }
 
-    /// Whether the terminal shows the row already, and nothing is owed to it or to the row above.
-    fn is_settled(&self, pen: &Pen) -> bool
-        ensures { Decides result (IsSettled self.now pen.now) }
+    /// Whether the terminal, which shows the first `same` cells already, shows all of them.
+    fn shows_all(&self, same: usize) -> bool
+        requires { AreSame (cell_at self.now.cells.now) (cell_at self.now.earlier.now) 0 same }
+        ensures { IsTrue result → self.now.cells.now ≡ self.now.earlier.now }
+    {
+        same == self.cells.len() && same == self.earlier.len()
+    }
+
+    /// Whether the terminal, which shows the first `same` cells already, shows the whole row, and nothing is owed to it
+    /// or to the row above.
+    fn is_settled(&self, pen: &Pen, same: usize) -> bool
+        requires { AreSame (cell_at self.now.cells.now) (cell_at self.now.earlier.now) 0 same }
+        ensures { IsTrue result → IsSettled self.now pen.now }
     {
         self.wrapped == self.was_wrapped
             && (!self.above || self.was_above)
             && pen.erase.is_none()
             && !pen.lost
-            && self.shows_all()
+            && self.shows_all(same)
     }
 
     /// Draws `count` columns, from the first that is drawn on, where the terminal shows others, and sets the row's flag
@@ -99,10 +116,11 @@ impl<'a> Drawing<'a> {
         ensures { Writes (row_difference (job_of self.now) count) pen.old (string_bytes contents.old) (is_ok result)
             pen.new (string_bytes contents.new) }
     {
-        if self.is_settled(pen) {
+        let same = self.same();
+        if self.is_settled(pen, same) {
             return Ok(());
         }
-        self.redraw(pen, contents, count)?;
+        self.redraw_behind(pen, contents, same, count)?;
         self.closing(pen, contents)?;
         Ok(())
     }

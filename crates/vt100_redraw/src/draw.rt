@@ -1,19 +1,20 @@
 //! How one column of a row is drawn on a terminal that shows an earlier one.
-ghost use Rattle.std.specs.Prelude.{◌≡◌, ◌+◌, ◌<◌, ◌≤◌, ◌^◌, ◌-◌, ◌==◌, ◌&&◌, not, false, length, is_ok, string_bytes};
+ghost use Rattle.std.specs.Prelude.{ℕ, ◌≡◌, ◌+◌, ◌<◌, ◌≤◌, ◌^◌, ◌-◌, ◌==◌, ◌&&◌, not, false, List, ◌++◌, length};
+ghost use Rattle.std.specs.Prelude.{is_ok, string_bytes};
 ghost use Rattle.vt100_cells.specs.Cell.{has_text};
 ghost use Rattle.vt100_cells.specs.Cells.{cell_at};
 ghost use Rattle.vt100_cells.specs.Line.{put_unflags, wipe_unflags};
 ghost use Rattle.vt100_redraw.specs.Drawing.{job_of};
 ghost use Rattle.vt100_redraw.specs.RowWriter.{is_same, wraps, is_end, to_erase, flush, finish, arrive, draw, column};
-ghost use Rattle.vt100_redraw.specs.Writes.{Writes};
+ghost use Rattle.vt100_redraw.specs.Writes.{Writes, Wrote};
 
 use crate::drawing::Drawing;
 use crate::pen::{Erase, Pen, span};
 use vt100_cells::Cell;
 use vt100_cells::line::{at, is_continuation_at, is_same_at, is_wide_at};
-use vt100_forms::GridError;
 use vt100_forms::attrs::Attrs;
 use vt100_forms::position::Pos;
+use vt100_forms::{GridError, TextRun};
 
 impl<'a> Drawing<'a> {
     pub(crate) fn cols(&self) -> u16
@@ -32,7 +33,8 @@ impl<'a> Drawing<'a> {
         if col < self.earlier.len() {
             is_same_at(self.cells, self.earlier, col)
         } else {
-            at(self.cells, col).is_default()
+            let cell = at(self.cells, col);
+            !cell.has_contents() && cell.is_default()
         }
     }
 
@@ -70,6 +72,21 @@ impl<'a> Drawing<'a> {
         }
         pen.goto(contents, Pos { row: self.row, col })?;
         Ok(())
+    }
+
+    /// The same by bytes that are put into `run`.
+    pub(crate) fn arrive_in(&self, pen: &mut Pen, run: &mut TextRun, col: u16, columns: u16)
+        requires { length run.old + 14 ≤ 128 }
+        ensures written { (t : List ℕ) → Wrote (arrive (job_of self.now) col columns) pen.old (t ++ run.old) pen.new
+            (t ++ run.new) }
+        ensures room { length run.new ≤ length run.old + 14 }
+    {
+        if self.is_wrapping(pen, columns, col) {
+            pen.turn(self.row);
+            return;
+        }
+        let pos = Pos { row: self.row, col };
+        pen.goto_in(run, pos);
     }
 
     /// Brings the cursor to the first of the columns that are to be erased, and sets their attributes.
@@ -150,7 +167,7 @@ impl<'a> Drawing<'a> {
 
     /// Whether the cell at `col` is a second half, which comes with the first one.
     #[inline]
-    pub(crate) fn is_half(&self, col: u16) -> bool
+    fn is_half(&self, col: u16) -> bool
         requires { col < length self.now.cells.now }
         ensures { result ≡ (((job_of self.now).new col).continuation && not (col == self.now.start)) }
     {

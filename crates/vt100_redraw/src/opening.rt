@@ -1,5 +1,6 @@
 //! How a row begins, and how it is drawn whole.
 ghost use Rattle.std.specs.Prelude.{◌≡◌, ◌+◌, ◌<◌, ◌≤◌, ◌^◌, length, is_ok, string_bytes};
+ghost use Rattle.vt100_cells.specs.Cells.{AreSame, cell_at};
 ghost use Rattle.vt100_redraw.specs.Drawing.{job_of};
 ghost use Rattle.vt100_redraw.specs.RowWriter.{owes_flag, reprint, opening, row_redraw};
 ghost use Rattle.vt100_redraw.specs.Writes.{Writes};
@@ -69,8 +70,25 @@ impl<'a> Drawing<'a> {
         ensures { Writes (row_redraw (job_of self.now) count) pen.old (string_bytes contents.old) (is_ok result)
             pen.new (string_bytes contents.new) }
     {
+        self.redraw_behind(pen, contents, 0, count)
+    }
+
+    /// The same where the terminal shows the first `same` cells of the row already.
+    pub(crate) fn redraw_behind(
+        &self,
+        pen: &mut Pen,
+        contents: &mut String,
+        same: usize,
+        count: u16,
+    ) -> Result<(), GridError>
+        requires starts_inside { self.now.start < length self.now.cells.now }
+        requires ends_inside { self.now.start + count ≤ length self.now.cells.now }
+        requires same { AreSame (cell_at self.now.cells.now) (cell_at self.now.earlier.now) 0 same }
+        ensures { Writes (row_redraw (job_of self.now) count) pen.old (string_bytes contents.old) (is_ok result)
+            pen.new (string_bytes contents.new) }
+    {
         self.opening(pen, contents)?;
-        self.columns(pen, contents, count)?;
+        self.columns(pen, contents, same, count)?;
         self.finish(pen, contents)?;
         Ok(())
     }

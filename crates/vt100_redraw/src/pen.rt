@@ -60,6 +60,29 @@ impl Pen {
         Ok(())
     }
 
+    /// Moves the cursor by bytes that are put into `run`.
+    #[inline(always)]
+    pub(crate) fn goto_in(&mut self, run: &mut TextRun, pos: Pos)
+        requires { length run.old + 14 ≤ 128 }
+        ensures written { (t : List ℕ) → Wrote (goto pos.row pos.col) self.old (t ++ run.old) self.new (t ++ run.new) }
+        ensures room { length run.new ≤ length run.old + 14 }
+    {
+        if self.pos == pos {
+            return;
+        }
+        self.travel_in(run, pos);
+    }
+
+    #[inline(never)]
+    fn travel_in(&mut self, run: &mut TextRun, pos: Pos)
+        requires { length run.old + 14 ≤ 128 }
+        ensures written { (t : List ℕ) → Wrote (goto pos.row pos.col) self.old (t ++ run.old) self.new (t ++ run.new) }
+        ensures room { length run.new ≤ length run.old + 14 }
+    {
+        MoveFromTo::new(self.pos, pos).push_to(run);
+        self.pos = pos;
+    }
+
     /// The next character is printed at the start of this row: it doesn't fit in the row above.
     #[tactic(auto, unfolding(crate::specs::Writer::turn))]
     pub fn turn(&mut self, row: u16)

@@ -1,4 +1,4 @@
-use Rattle.std.proofs.Common.{◌∙◌, ◌≡◌, ◌≤◌, ap, arith, bit_or, length, sym, true, inl, inr}
+use Rattle.std.proofs.Common.{◌∙◌, ◌+◌, ◌≡◌, ◌≤◌, ap, arith, bit_or, length, sym, true, inl, inr}
 use Rattle.std.specs.Prelude.{encode_utf8_all}
 use Rattle.std.proofs.lemmas.Bool.{and_parts, cases_lt}
 use Rattle.std.proofs.lemmas.Nat.{le_or_l, le_or_r}
@@ -10,7 +10,7 @@ pub loop-k-preserved : goal.loop-k-preserved
 loop-k-preserved c =
     let f = cell_at c.args.cells.now in
     let g = cell_at c.args.others.now in
-    let k = c.loop-k.k in
+    let k = c.args.i + c.loop-k.k in
     let longer = bit_or c.loop-k.longest c.len-longest.result in
     record {
       same = λ h j a b s. let p = and_parts c.loop-k.same c.has_start_of-same.result h in

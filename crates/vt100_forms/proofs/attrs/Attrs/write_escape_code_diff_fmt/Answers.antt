@@ -1,11 +1,15 @@
-use Rattle.std.proofs.Common.{◌≡◌, sym, ◌∙◌, rules}
-use Rattle.vt100_forms.specs.Attrs.{attrs_eq, default_attrs}
-use Rattle.vt100_forms.proofs.ChangeLemmas.{change_sgr}
+use Rattle.std.proofs.Common.{◌≡◌, ◌++◌, List, ℕ, ap, subst, sym, ◌∙◌}
+use Rattle.vt100_forms.specs.Form.{spell, change}
+use Rattle.vt100_forms.specs.Writer.{HandsOver}
+use Rattle.vt100_forms.proofs.ChangeLemmas.{handed_over, on_ok}
 use Rattle.vt100_forms.proofs.attrs.Attrs.write_escape_code_diff_fmt.Goals as goal
 
-pub returns-else-eq-2 : goal.returns-else-eq-2
-returns-else-eq-2 g c =
-    let same : c.eq.result ≡ attrs_eq c.args.self.now c.args.other.now = search rules in
-    let plain : c.eq-else-eq.result ≡ attrs_eq c.args.self.now default_attrs = search rules in
-    rw (change_sgr c.args.other.now c.args.self.now (sym same ∙ c.if-eq.false) (sym plain ∙ c.if-eq-2.false))
-    (rw c.of_change.ensures at c.write_fmt-else-eq-2.ensures)
+pub returns-clause-written : goal.returns-clause-written
+returns-clause-written g c =
+    let text : c.as_str-text.result.now ≡ spell (change c.args.other.now c.args.self.now) =
+    c.as_str-text.ensures ∙ c.push_escape_code_diff.ensures.bytes
+    ∙ ap (λ (xs : List ℕ). xs ++ spell (change c.args.other.now c.args.self.now)) c.new-run.ensures in
+    on_ok c.write_str.result
+    (λ ok. subst (λ bs. HandsOver g.W.Write.write_str_gives c.args.writer.now bs c.write_str.new.self) text
+    (handed_over g.W.Write.write_str_gives c.args.writer.now c.as_str-text.result.now c.write_str.new.self
+    (sym c.is_empty.ensures ∙ c.if-is_empty.false) (c.write_str.ensures.ok ok)))

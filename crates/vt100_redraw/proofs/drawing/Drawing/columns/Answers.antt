@@ -1,9 +1,9 @@
-use Rattle.std.proofs.Common.{◌+◌, ap, arith, append-nil, inr, subst, sym, ◌∙◌, ◌++◌}
+use Rattle.std.proofs.Common.{◌≡◌, ◌+◌, ap, arith, append-nil, inr, subst, sym, ◌∙◌, ◌++◌}
 use Rattle.std.specs.Prelude.{string_bytes}
 use Rattle.vt100_cells.specs.Cell.{CellView}
 use Rattle.vt100_cells.specs.Cells.{cell_at}
 use Rattle.vt100_forms.specs.Form.{spell}
-use Rattle.vt100_redraw.specs.Drawing.{job_of}
+use Rattle.vt100_redraw.specs.Drawing.{job_of, AreQuiet}
 use Rattle.vt100_redraw.specs.RowWriter.{columns}
 use Rattle.vt100_redraw.specs.Writes.{Wrote}
 use Rattle.vt100_redraw.proofs.ColumnsWrites.{begun_columns_at, begun_columns_moved, wrote_columns_next}
@@ -18,10 +18,13 @@ loop-n-init c =
     let j = job_of c.args.self.now in
     let p = c.args.pen.now in
     let s = string_bytes c.args.contents.now in
+    let n = c.same_columns-n.result in
+    let start : j.start + 0 ≡ j.start = omega arith in
+    let quiet = subst (λ k. AreQuiet j p k (j.start + n)) (sym start) c.same_columns-n.ensures.quiet in
     record {
-      within = omega arith;
-      drawn = subst (λ bs. Wrote (columns j 0) p s p bs) (sym (ap (λ bs. s ++ bs) c.new-run.ensures ∙ append-nil s))
-          (wrote_columns_none j p s);
+      within = c.same_columns-n.ensures.within;
+      drawn = subst (λ bs. Wrote (columns j n) p s p bs) (sym (ap (λ bs. s ++ bs) c.new-run.ensures ∙ append-nil s))
+          (wrote_columns_quiet j 0 n p s p s (omega arith) quiet (wrote_columns_none j p s));
       begun = begun-none s (spell (columns j c.args.count p).forms);
       like = tt;
     }

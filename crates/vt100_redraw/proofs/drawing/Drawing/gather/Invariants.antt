@@ -1,5 +1,5 @@
-use Rattle.std.specs.Prelude.{ℕ, ◌≡◌, ◌≤◌, ◌-◌, List, ◌++◌}
-use Rattle.vt100_redraw.specs.Drawing.{job_of, GoesTo}
+use Rattle.std.specs.Prelude.{ℕ, ◌≡◌, ◌+◌, ◌<◌, ◌≤◌, ◌-◌, List, ◌++◌}
+use Rattle.vt100_redraw.specs.Drawing.{job_of, GoesTo, IsAt}
 use Rattle.vt100_redraw.proofs.drawing.Drawing.gather.Given as goal
 
 -- the texts of the columns so far are in the run, and the pen is past them
@@ -11,6 +11,7 @@ invariant-loop-m l = record {
       ++ l.run);
   attrs : l.pen.attrs ≡ l.initial.pen.attrs;
   alike : l.pen.attrs ≡ l.alike.attrs;
+  here : l.m < l.count → IsAt (job_of l.self) (l.self.start + l.m) l.pen;
 }
 
 abbrev pub decreases-loop-m : goal.decreases-loop-m

@@ -4,7 +4,7 @@ use Rattle.vt100_redraw.specs.RowWriter.{row_redraw}
 use Rattle.vt100_redraw.proofs.OpeningWrites.{begun_redraw_columns, begun_redraw_finish, begun_redraw_opening}
 use Rattle.vt100_redraw.proofs.OpeningWrites.{wrote_redraw}
 use Rattle.vt100_redraw.proofs.RowWrites.{on_err}
-use Rattle.vt100_redraw.proofs.drawing.Drawing.redraw.Goals as goal
+use Rattle.vt100_redraw.proofs.drawing.Drawing.redraw_behind.Goals as goal
 
 pub returns-in_err-opening : goal.returns-in_err-opening
 returns-in_err-opening c =
