@@ -1,11 +1,11 @@
 -- A text that is gathered is what its column's writer prints.
-use Rattle.std.proofs.Common.{◌≡◌, ℕ, ◌+◌, ◌==◌, Bool, true, false, ◌&&◌, List, refl, sym, ap, ◌∙◌}
+use Rattle.std.proofs.Common.{◌≡◌, ℕ, ◌+◌, ◌==◌, true, false, ◌&&◌, List, refl, sym, ap, ◌∙◌}
 use Rattle.std.proofs.Common.{arith, inl, inr, subst}
-use Rattle.std.proofs.lemmas.Bool.{cases_Bool, and_parts, eq-eqb, eqb-true, false≢true, ne_eqb}
+use Rattle.std.proofs.lemmas.Bool.{cases_Bool, and_parts, eq-eqb, eqb-true, ne_eqb}
 use Rattle.vt100_forms.specs.declared.attrs.Attrs.{Attrs}
 use Rattle.vt100_forms.specs.declared.position.Pos.{Pos}
 use Rattle.vt100_cells.specs.Cell.{CellView, has_text}
-use Rattle.vt100_cells.specs.Line.{IsPaired, span_of}
+use Rattle.vt100_cells.specs.Line.{span_of}
 use Rattle.vt100_redraw.specs.declared.pen.Pen.{Pen}
 use Rattle.vt100_redraw.specs.Drawing.{BeginsRun, IsAt}
 use Rattle.vt100_redraw.specs.Writer.{Drawn, ◌>>◌, turn, goto, colour, print}
@@ -14,15 +14,6 @@ use Rattle.vt100_redraw.specs.Writes.{Wrote}
 use Rattle.vt100_redraw.proofs.RowLeads.{arrive-turn, arrive-goto}
 use Rattle.vt100_redraw.proofs.RowWrites.{full_draw, wrote_arrive_goto, wrote_flush_none, wrote_draw_full, wrote_column}
 use Rattle.vt100_redraw.proofs.WritesLemmas.{wrote_goto_here}
-
--- a cell with a text is no second half
-pub text_is_whole : (f : ℕ → CellView) (c : ℕ) (b : Bool) → IsPaired f → has_text (f c) ≡ true
-    → ((f c).continuation && b) ≡ false
-text_is_whole f c b paired some =
-    elim (cases_Bool (f c).continuation) [
-      | inl half ↦ absurd (false≢true (sym (ap has_text (paired.blank c half)) ∙ some))
-      | inr whole ↦ rw whole refl
-    ]
 
 -- the cursor stands in this row, and not in the one above
 stays_below : (j : Job) (n c : ℕ) (p : Pen) → p.pos.row ≡ j.row → (wraps j n p && (c == 0)) ≡ false
