@@ -10,7 +10,7 @@ use Rattle.vt100_core.specs.Picture.{size_of}
 use Rattle.vt100_state.specs.Call.{ScreenView}
 use Rattle.vt100_state.specs.Shown.{shown_state}
 use Rattle.vt100.specs.Tries.{alive}
-use Rattle.termrelay.specs.Pump.{Pumps, all, nothing, fault, some}
+use Rattle.takers.specs.Pump.{Pumps, all, nothing, fault, some}
 use Rattle.termrelay.specs.Answers.{ClientState, is_frame, answer_of, after_answer}
 use Rattle.termrelay.specs.Hub.{HubState, is_failed, with_client, new_client, size_in, shown_in, IsNewHub, Feeds}
 use Rattle.termrelay.specs.Hub.{Resizes, Attaches, DetachesFrom, framed, pump_answer, PumpsFrom}
@@ -32,7 +32,7 @@ use Rattle.faithful.specs.History.{CanRun, CanDetach, books_after}
 use Rattle.faithful.specs.Clients.{client_in, with_slot, left_by}
 use Rattle.faithful.specs.Serves.{refused, told, Matches, AreLogged, EachRunHasAHistory, EachPumpIsServed}
 use Rattle.faithful.specs.Serves.{EachLogHasAHistory}
-use Rattle.termrelay.proofs.PumpLemmas.{drop-least}
+use Rattle.takers.proofs.PumpLemmas.{drop-least}
 use Rattle.termrelay.proofs.ScriptLemmas.{takes-nothing, some-owed, first-none, first-fault, first-some, ok-number}
 use Rattle.faithful.proofs.ClientLemmas.{IsOnce, call-once, call-clients}
 use Rattle.faithful.proofs.LogLemmas.{call-logged}

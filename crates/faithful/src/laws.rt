@@ -7,7 +7,7 @@ ghost use Rattle.faithful.specs.Headline.{OneMomentShowsTheSame};
 ghost use Rattle.faithful.specs.Serves.{EachRunHasAHistory, EachPumpIsServed, EachLogHasAHistory};
 ghost use Rattle.faithful.specs.Logged.{EachLoggedReadIsARead, LoggedFramesAreShown};
 
-use termrelay::pump::Taker;
+use termrelay::Taker;
 
 /// Whatever calls a new hub gets and whatever they are answered, of each session: while it hasn't ended, the bytes that
 /// its writers took followed by those that are owed are its frames' texts, at most one frame is owed, and the hub keeps

@@ -1,13 +1,1 @@
-pub mod FarLemmas
-pub mod FillLemmas
-pub mod FrameLists
-pub mod LawLemmas
-pub mod OutcomeLemmas
-pub mod OutputLemmas
-pub mod PieceLemmas
-pub mod RelayedLemmas
-pub mod SendLemmas
-pub mod StreamLemmas
-pub mod TakesLemmas
-pub mod TurnLemmas
-pub mod ViewLemmas
+pub mod CommandLemmas

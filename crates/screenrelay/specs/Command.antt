@@ -1,17 +1,17 @@
 -- What a command answers, reads, writes and says.
 use Rattle.std.specs.Prelude.{◌≡◌, ℕ, List, [], ◌∷◌, ◌++◌, Option, Ok, Err, Result, codes}
 use Rattle.std.specs.declared.io.Error.{Error}
-use Rattle.termrelay.specs.Pump.{Writes}
-use Rattle.screenrelay.specs.declared.error.RelayError.{RelayError}
-use Rattle.screenrelay.specs.declared.error.RelayError.TheVariants.{Read, Write, Memory, TooManyReads}
+use Rattle.takers.specs.Pump.{Writes}
+use Rattle.relay_streams.specs.declared.error.RelayError.{RelayError}
+use Rattle.relay_streams.specs.declared.error.RelayError.TheVariants.{Read, Write, Memory, TooManyReads}
 use Rattle.screenrelay.specs.declared.words.Job.{Job}
 use Rattle.screenrelay.specs.declared.words.Job.TheVariants.{Relay, Show}
-use Rattle.screenrelay.specs.Frames.{relay_text}
-use Rattle.screenrelay.specs.Output.{TakesFront}
-use Rattle.screenrelay.specs.Pieces.{pieces_of}
-use Rattle.screenrelay.specs.Relayed.{Relays}
-use Rattle.screenrelay.specs.Sent.{Flushes}
-use Rattle.screenrelay.specs.Shown.{IsShown, Shows, sized}
+use Rattle.relay_streams.specs.Frames.{relay_text}
+use Rattle.takers.specs.Output.{TakesFront}
+use Rattle.relay_streams.specs.Pieces.{pieces_of}
+use Rattle.relay_streams.specs.Relayed.{Relays}
+use Rattle.takers.specs.Sent.{Flushes}
+use Rattle.relay_streams.specs.Shown.{IsShown, Shows, sized}
 use Rattle.screenrelay.specs.Words.{Order}
 
 abbrev pub WantsBy : Job → ℕ → ℕ → List ℕ → List ℕ → Type 0

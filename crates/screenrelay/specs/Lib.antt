@@ -1,13 +1,2 @@
 pub mod Command
-pub mod Far
-pub mod Fill
-pub mod Frames
-pub mod Laws
-pub mod Led
-pub mod Output
-pub mod Pieces
-pub mod Relayed
-pub mod Sent
-pub mod Shown
-pub mod Turns
 pub mod Words

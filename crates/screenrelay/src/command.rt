@@ -3,15 +3,11 @@
 ghost use Rattle.std.specs.Prelude.{◌≡◌, ℕ, List, map, None, IfSome};
 ghost use Rattle.std.specs.Io.KnownBytes.{Appends};
 ghost use Rattle.screenrelay.specs.Command.{Does, DoesBy, Wants, fault_line, usage_line};
-ghost use Rattle.screenrelay.specs.Output.{TakesFront};
+ghost use Rattle.takers.specs.Output.{TakesFront};
 ghost use Rattle.screenrelay.specs.Words.{order_of};
 
-use crate::error::RelayError;
-use crate::output::write_whole;
-use crate::relay::relay;
-use crate::show::show;
-use crate::source::Source;
 use crate::words::{Job, Order, parse};
+use relay_streams::{RelayError, Source, relay, show, write_whole};
 use std::alloc::Global;
 use std::io::Write;
 

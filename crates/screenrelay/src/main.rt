@@ -2,19 +2,12 @@
 #![tactic(auto)]
 
 mod command;
-mod error;
-mod far;
-mod laws;
-mod output;
-mod relay;
-mod show;
-mod source;
 #[cfg(test)]
 mod tests;
 mod words;
 
 use command::{command, report_fault};
-use error::RelayError;
+use relay_streams::RelayError;
 use std::process::ExitCode;
 use std::{env, io};
 

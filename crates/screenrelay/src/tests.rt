@@ -1,8 +1,7 @@
 //! Whole commands, byte for byte, and faults of readers and writers in mid-stream.
 
 use crate::command::command;
-use crate::far::{far_view, view_of};
-use crate::show::write_view;
+use relay_streams::{far_view, view_of, write_view};
 use std::io;
 use std::io::{ErrorKind, Read, Write};
 use std::num::NonZeroU16;

@@ -1,4 +1,3 @@
-pub mod PumpLemmas
 pub mod FrameLemmas
 pub mod Marks
 pub mod SureLemmas
@@ -7,7 +6,6 @@ pub mod BelowLemmas
 pub mod ShownLemmas
 pub mod MadeLemmas
 pub mod HubLemmas
-pub mod PumpLaws
 pub mod DueLemmas
 pub mod FeedLaws
 pub mod LogLemmas

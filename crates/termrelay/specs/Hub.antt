@@ -14,7 +14,7 @@ use Rattle.vt100_state.specs.Shown.{shown_state}
 use Rattle.vt100.specs.Parsing.{ParserView, StandsAt}
 use Rattle.vt100.specs.declared.error.ScreenError.{ScreenError}
 use Rattle.vt100.specs.declared.error.ScreenError.TheVariants as screen
-use Rattle.termrelay.specs.Pump.{Pumps}
+use Rattle.takers.specs.Pump.{Pumps}
 use Rattle.termrelay.specs.Answers.{ClientState, answer_of, after_answer, may_take_memory}
 use Rattle.termrelay.specs.Record.{RecordView, client_of}
 use Rattle.termrelay.specs.declared.answer.Answer.{Answer}

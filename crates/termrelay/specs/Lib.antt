@@ -1,4 +1,3 @@
-pub mod Pump
 pub mod Frame
 pub mod Answers
 pub mod Hub

@@ -5,13 +5,13 @@ ghost use Rattle.termrelay.specs.declared.error.HubError.TheVariants.{Memory, Un
 use crate::answer::Answer;
 use crate::client::Client;
 use crate::error::HubError;
-use crate::pump::Taker;
 use crate::record::Record;
 use slab::Slab;
 use std::alloc::Global;
 use std::marker::Model;
 use std::num::NonZeroU16;
 use std::rc::Rc;
+use takers::Taker;
 use vt100::{Parser, Screen};
 
 /// One program's screen, and clients that are sent frames of it.

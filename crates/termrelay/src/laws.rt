@@ -1,10 +1,7 @@
 //! Facts about frames. Each function does nothing: its contract is the fact.
 ghost use Rattle.termrelay.specs.Answers.{EachSameIsOne, EachOneIsSame, EachExampleIsAnswered};
 ghost use Rattle.termrelay.specs.Frame.{EachSureIsPlain, EachFrameIsMarked, EachFrameLeads, EachFrameSetsModes};
-ghost use Rattle.termrelay.specs.Laws.{TwoFeedsAreOne, TwoFeedsRunAsOne, TakesAll, WritesNothing, AppendsFront};
-
-use crate::pump::Taker;
-use std::io::Write;
+ghost use Rattle.termrelay.specs.Laws.{TwoFeedsAreOne, TwoFeedsRunAsOne};
 
 /// A screen is unsure wherever one of its cells has U+FE0F.
 pub fn sure_screens_are_plain()
@@ -46,15 +43,4 @@ pub fn examples_are_answered()
 pub fn feeds_are_joined()
     ensures one { TwoFeedsAreOne }
     ensures run { TwoFeedsRunAsOne }
-{}
-
-/// A pump that ends well leaves nothing owed, and where nothing is owed nothing is written, whatever takes the bytes.
-pub fn pumps_take_all<T: Taker>()
-    ensures all { TakesAll T.takes }
-    ensures nothing { WritesNothing T.takes }
-{}
-
-/// Where the bytes that a writer holds are known, a pump adds the front of what was owed, and the rest is owed then.
-pub fn pumps_append_the_front<W: Write>()
-    ensures { AppendsFront W.contents }
 {}

@@ -6,18 +6,18 @@ ghost use Rattle.vt100_state.specs.Shown.{shown_state};
 ghost use Rattle.vt100.specs.WriterLaws.{IsUnscrolled};
 ghost use Rattle.termrelay.specs.Frame.{frame_text as text_of_frame, body_forms};
 ghost use Rattle.termrelay.specs.Answers.{answer_of, due, is_frame};
-ghost use Rattle.termrelay.specs.Pump.{Pumps};
+ghost use Rattle.takers.specs.Pump.{Pumps};
 ghost use Rattle.termrelay.specs.Record.{RecordView, client_of, IsServed, IsBaseOf};
 ghost use Rattle.termrelay.specs.declared.error.HubError.TheVariants.{Memory};
 
 use crate::answer::Answer;
 use crate::error::HubError;
-use crate::pump::{Taker, pump};
 use crate::shown::{is_unsure, same_shown};
 use std::alloc::Global;
 use std::io;
 use std::marker::Model;
 use std::rc::Rc;
+use takers::{Taker, pump};
 use vt100::Screen;
 
 /// What begins a synchronized update, and what ends it.

@@ -3,10 +3,10 @@ ghost use Rattle.std.specs.Prelude.{List};
 ghost use Rattle.termrelay.specs.Calls.{WritesAsTold};
 
 use crate::call::Take;
-use crate::pump::Taker;
 use std::io;
 use std::io::ErrorKind;
 use std::marker::Model;
+use takers::Taker;
 
 /// A writer of which it is told what its next writes do. Past the last one each write takes all.
 #[derive(Drop)]

@@ -2,7 +2,7 @@ use Rattle.std.proofs.Common.{ℕ, List, Option, Ok, IfSome, subst}
 use Rattle.std.specs.Io.KnownBytes.{Appends}
 use Rattle.screenrelay.specs.Command.{Wants}
 use Rattle.screenrelay.specs.Words.{Order}
-use Rattle.screenrelay.proofs.OutcomeLemmas.{does-text}
+use Rattle.screenrelay.proofs.CommandLemmas.{does-text}
 use Rattle.screenrelay.proofs.command.command.Goals as goal
 
 pub returns-in-Ok-clause-done : goal.returns-in-Ok-clause-done

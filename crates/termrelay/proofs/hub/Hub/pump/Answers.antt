@@ -5,7 +5,7 @@ use Rattle.slab.specs.Slab.{Slab, get, with_value}
 use Rattle.vt100.specs.Parsing.{ParserView}
 use Rattle.termrelay.specs.declared.error.HubError.{HubError}
 use Rattle.termrelay.specs.declared.error.HubError.TheVariants.{UnknownClient, Write}
-use Rattle.termrelay.specs.Pump.{Pumps}
+use Rattle.takers.specs.Pump.{Pumps}
 use Rattle.termrelay.specs.Record.{RecordView, client_of}
 use Rattle.termrelay.specs.Hub.{HubValue, HubState, state_of, PumpsClient, PumpsFrom, pump_answer, with_client}
 use Rattle.termrelay.specs.HubFields.{hub_of}

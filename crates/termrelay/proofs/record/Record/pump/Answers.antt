@@ -1,6 +1,6 @@
 use Rattle.std.proofs.Common.{◌≡◌, ◌∙◌, ap, sym, arith, drop, length, length-drop}
 use Rattle.termrelay.specs.Record.{RecordView}
-use Rattle.termrelay.proofs.PumpLemmas.{pumps-within}
+use Rattle.takers.proofs.PumpLemmas.{pumps-within}
 use Rattle.termrelay.proofs.record.Record.pump.Goals as goal
 
 pub overflow_add-self : goal.overflow_add-self

@@ -1,0 +1,12 @@
+pub mod FarLemmas
+pub mod FillLemmas
+pub mod FrameLists
+pub mod LawLemmas
+pub mod OutcomeLemmas
+pub mod OutputLemmas
+pub mod PieceLemmas
+pub mod RelayedLemmas
+pub mod StreamLemmas
+pub mod TakesLemmas
+pub mod TurnLemmas
+pub mod ViewLemmas

@@ -1,0 +1,67 @@
+-- Turns after turns.
+use Rattle.std.proofs.Common.{◌≡◌, ℕ, List, [], ◌∷◌, ◌++◌, Option, Ok, Err, Result, refl, sym, subst}
+use Rattle.std.specs.List.{concat}
+use Rattle.std.specs.declared.io.Error.{Error}
+use Rattle.vt100_picture.specs.Term.{Shown}
+use Rattle.termrelay.specs.Hub.{HubState, Attaches}
+use Rattle.termrelay.specs.declared.error.HubError.{HubError}
+use Rattle.termrelay.specs.declared.error.HubError.TheVariants as hub
+use Rattle.relay_streams.specs.declared.error.RelayError.{RelayError}
+use Rattle.relay_streams.specs.declared.error.RelayError.TheVariants.{Read, Write, Memory, TooManyReads}
+use Rattle.relay_streams.specs.Frames.{asked, frames_of, base_of}
+use Rattle.relay_streams.specs.Pieces.{piece_len, Begun}
+use Rattle.relay_streams.specs.Relayed.{Streams, unmade, stopped}
+use Rattle.takers.specs.Sent as sent
+use Rattle.takers.specs.Sent.{Sends}
+use Rattle.relay_streams.specs.Turns.{Relaying, Turned, fault_of}
+use Rattle.relay_streams.proofs.FrameLists.{frames-push, base-push}
+use Rattle.relay_streams.proofs.PieceLemmas.{concat-push}
+use Rattle.takers.proofs.SendLemmas.{sends-more}
+
+-- a hub has refused a client for want of memory
+pub attach-refused : (h g : HubState) (e : HubError) → Attaches h (Err e) g → fault_of e ≡ Memory
+attach-refused h g hub.Memory a = refl
+attach-refused h g hub.Failed a = refl
+attach-refused h g hub.UnknownClient a = refl
+attach-refused h g (hub.Write e) a = absurd a
+
+module _ (S W : Type 0) (gives : S → ℕ → Result (List ℕ) Error → S → Type 0)
+    (takes : W → List ℕ → Result ℕ Error → W → Type 0) (rows cols : ℕ) (past : List (List ℕ)) (piece : List ℕ)
+    (key : ℕ) (g : HubState) where
+  abbrev pieces : List (List ℕ)
+  pieces = past ++ piece ∷ []
+
+  abbrev base : Option Shown
+  base = base_of rows cols past
+
+  frames-are : frames_of rows cols pieces ≡ frames_of rows cols past ++ (asked rows cols (concat pieces) base).owed ∷ []
+  frames-are = frames-push rows cols past piece (concat pieces) (concat-push past piece)
+
+  -- a turn at which a fault came
+  pub turn-faults : (s t : S) (w m v : W) (e : RelayError) → Begun gives piece_len s pieces t
+      → Sends takes w (frames_of rows cols past) (Ok tt) m → Turned takes rows cols pieces base key m (Err e) v g
+      → Streams gives takes rows cols s w (Err e) t v
+  turn-faults s t w m v Read b sends turned = absurd turned
+  turn-faults s t w m v Write b sends (x, n, pumps) =
+      let all : Sends takes w (frames_of rows cols pieces) (Err x) v =
+      subst (λ (texts : List (List ℕ)). Sends takes w texts (Err x) v) (sym frames-are)
+      (sends-more W takes w m v (frames_of rows cols past) ((asked rows cols (concat pieces) base).owed ∷ []) (Ok tt)
+      (Err x) sends refl (sent.fault pumps)) in
+      stopped pieces x b all
+  turn-faults s t w m v Memory b sends turned =
+      unmade past piece b (subst (λ (u : W). Sends takes w (frames_of rows cols past) (Ok tt) u) (sym turned) sends)
+  turn-faults s t w m v TooManyReads b sends turned = absurd turned
+
+  -- one that went well
+  pub turn-sent : (w m v : W) → Sends takes w (frames_of rows cols past) (Ok tt) m
+      → Turned takes rows cols pieces base key m (Ok tt) v g → Sends takes w (frames_of rows cols pieces) (Ok tt) v
+  turn-sent w m v sends turned =
+      subst (λ (texts : List (List ℕ)). Sends takes w texts (Ok tt) v) (sym frames-are)
+      (sends-more W takes w m v (frames_of rows cols past) ((asked rows cols (concat pieces) base).owed ∷ []) (Ok tt)
+      (Ok tt) sends refl (sent.next v turned.0.1 sent.none))
+
+  pub turn-stands : (m v : W) → Turned takes rows cols pieces base key m (Ok tt) v g
+      → Relaying rows cols pieces (base_of rows cols pieces) g key
+  turn-stands m v turned =
+      subst (λ (b : Option Shown). Relaying rows cols pieces b g key)
+      (sym (base-push rows cols past piece (concat pieces) (concat-push past piece))) turned.1

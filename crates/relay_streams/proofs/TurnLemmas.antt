@@ -1,0 +1,120 @@
+-- A turn: what feeding a piece, asking for a frame and pumping leave.
+use Rattle.std.proofs.Common.{◌≡◌, ◌∙◌, ℕ, List, [], ◌∷◌, ◌++◌, map, drop, Option, Some, None, Ok}
+use Rattle.std.proofs.Common.{Err}
+use Rattle.std.proofs.Common.{Result, refl, sym, ap, subst, if◌then◌else◌}
+use Rattle.std.specs.List.{concat}
+use Rattle.std.proofs.lemmas.Bool.{eq-eqb}
+use Rattle.std.proofs.lemmas.List.{map-append}
+use Rattle.std.specs.declared.io.Error.{Error}
+use Rattle.vt100_picture.specs.Term.{Shown}
+use Rattle.vt100_state.specs.State.{State}
+use Rattle.vt100_state.specs.Call.{ScreenView}
+use Rattle.vt100_state.specs.Made.{Act, Fed}
+use Rattle.vt100.specs.Parsing.{StandsAt}
+use Rattle.termrelay.specs.Answers.{ClientState, after_answer}
+use Rattle.takers.specs.Pump.{Pumps}
+use Rattle.termrelay.specs.Hub.{HubState, with_client, new_client, size_in, shown_in, IsNewHub, Attaches}
+use Rattle.termrelay.specs.Hub.{Feeds, CanFrame, framed, Frames, pump_answer, PumpsFrom, PumpsClient}
+use Rattle.termrelay.specs.declared.answer.Answer.{Answer}
+use Rattle.termrelay.specs.declared.error.HubError.{HubError}
+use Rattle.termrelay.specs.declared.error.HubError.TheVariants as hub
+use Rattle.takers.proofs.PumpLaws.{takes-all}
+use Rattle.relay_streams.specs.Frames.{idle, asked, asked_on, state_after}
+use Rattle.relay_streams.specs.Turns.{Relaying, fault_of, Turned}
+use Rattle.relay_streams.proofs.FrameLists.{pieces-make}
+
+abbrev pub over : Result (Unit {0}) HubError
+over = Ok tt
+
+at-key : (h : HubState) (key : ℕ) (slot : Option ClientState) → (with_client h key slot).client key ≡ slot
+at-key h key slot = ap (λ b. if b then slot else h.client key) (eq-eqb key key refl)
+
+-- the first client of a new hub
+pub first-attached : (rows cols key : ℕ) (h g : HubState) → IsNewHub rows cols h → Attaches h (Ok key) g
+    → Relaying rows cols [] None g key
+first-attached rows cols key h g new at =
+    subst (λ (x : HubState). Relaying rows cols [] None x key) (sym at.2)
+    (record { parser = new.parser; client = at-key h key (Some new_client) })
+
+-- a piece was fed
+pub piece-fed : (rows cols : ℕ) (pieces : List (List ℕ)) (piece : List ℕ) (base : Option Shown) (h g : HubState)
+    (key : ℕ) → Relaying rows cols pieces base h key → Feeds h piece over g
+    → Relaying rows cols (pieces ++ piece ∷ []) base g key
+piece-fed rows cols pieces piece base h g key r f = record {
+  parser = subst (λ (acts : List Act). StandsAt g.parser rows cols 0 acts) (sym (map-append Fed pieces (piece ∷ [])))
+      (f.3 rows cols 0 (map Fed pieces) r.parser);
+  client = ap (λ c. c key) f.2 ∙ r.client;
+}
+
+-- a frame was asked for
+abbrev Asked : ℕ → ℕ → List (List ℕ) → Option Shown → HubState → HubState → ℕ → Type 0
+Asked rows cols pieces base h g key =
+    (g.parser ≡ h.parser) × (g.client key ≡ Some (asked rows cols (concat pieces) base))
+
+pub frame-asked : (rows cols : ℕ) (pieces : List (List ℕ)) (base : Option Shown) (h g : HubState) (key : ℕ)
+    (answer : Answer) → Relaying rows cols pieces base h key → Frames h key (Ok answer) g
+    → Asked rows cols pieces base h g key
+unfolding asked
+frame-asked rows cols pieces base h g key answer r f =
+    let can : CanFrame h.parser.screen (Some (idle base)) (Ok answer) =
+    subst (λ (o : Option ClientState). CanFrame h.parser.screen o (Ok answer)) r.client f.0 in
+    let is : g ≡ with_client h key (Some (after_answer (size_in h) (shown_in h) (idle base) answer)) =
+    f.1 ∙ ap (λ (o : Option ClientState). framed h key o (Ok answer)) r.client in
+    let state : h.parser.screen.state ≡ state_after rows cols (concat pieces) =
+    ap (λ (v : ScreenView). v.state) r.parser.screen ∙ pieces-make rows cols pieces in
+    let client : after_answer (size_in h) (shown_in h) (idle base) answer
+    ≡ asked_on (state_after rows cols (concat pieces)) base =
+    ap (after_answer (size_in h) (shown_in h) (idle base)) can.1 ∙ ap (λ (s : State). asked_on s base) state in (
+      ap (λ (x : HubState). x.parser) is,
+      ap (λ (x : HubState). x.client key) is
+          ∙ at-key h key (Some (after_answer (size_in h) (shown_in h) (idle base) answer))
+          ∙ ap (λ (c : ClientState). Some c) client,
+    )
+
+module _ (W : Type 0) (takes : W → List ℕ → Result ℕ Error → W → Type 0) where
+  -- what was owed was pumped whole
+  pumped-by : (h g : HubState) (key : ℕ) (c : ClientState) (w v : W) (end : Result (Unit {0}) Error) (n : ℕ)
+      → Pumps takes w c.owed end n v → over ≡ pump_answer end
+      → g ≡ with_client h key (Some (record c { owed = drop n c.owed }))
+      → ((k : ℕ) × Pumps takes w c.owed (Ok tt) k v) × (g.parser ≡ h.parser) × (g.client key ≡ Some (idle c.base))
+  pumped-by h g key c w v (Ok u) n pumps is after = (
+    (n, pumps),
+    ap (λ (x : HubState). x.parser) after,
+    ap (λ (x : HubState). x.client key) after ∙ at-key h key (Some (record c { owed = drop n c.owed }))
+        ∙ ap (λ (xs : List ℕ). Some (record c { owed = xs })) (takes-all W takes w v c.owed n pumps),
+  )
+  pumped-by h g key c w v (Err e) n pumps is after = absurd (cc)
+
+  pub turn-ends : (rows cols : ℕ) (pieces : List (List ℕ)) (base : Option Shown) (h k g : HubState) (key : ℕ)
+      (w v : W) → Relaying rows cols pieces base h key → Asked rows cols pieces base h k key
+      → PumpsClient takes k key w over v g → Turned takes rows cols pieces base key w (Ok tt) v g
+  turn-ends rows cols pieces base h k g key w v r a p =
+      let c = asked rows cols (concat pieces) base in
+      let q : PumpsFrom takes k key (Some c) w over v g =
+      subst (λ (o : Option ClientState). PumpsFrom takes k key o w over v g) a.1 p in
+      let end = pumped-by k g key c w v q.0 q.1 q.2 q.3 q.4 in (
+        end.0,
+        record {
+          parser = subst (λ p. StandsAt p rows cols 0 (map Fed pieces)) (sym (end.1 ∙ a.0)) r.parser;
+          client = end.2;
+        },
+      )
+
+  -- the writer failed
+  broken-by : (rows cols : ℕ) (pieces : List (List ℕ)) (base : Option Shown) (key : ℕ) (w v : W) (g : HubState)
+      (e : HubError) (end : Result (Unit {0}) Error) (n : ℕ)
+      → Pumps takes w (asked rows cols (concat pieces) base).owed end n v → Err e ≡ pump_answer end
+      → Turned takes rows cols pieces base key w (Err (fault_of e)) v g
+  broken-by rows cols pieces base key w v g e (Ok u) n pumps is = absurd (let no : Err e ≡ over = is in cc)
+  broken-by rows cols pieces base key w v g hub.Memory (Err x) n pumps is = absurd (cc)
+  broken-by rows cols pieces base key w v g hub.Failed (Err x) n pumps is = absurd (cc)
+  broken-by rows cols pieces base key w v g hub.UnknownClient (Err x) n pumps is = absurd (cc)
+  broken-by rows cols pieces base key w v g (hub.Write y) (Err x) n pumps is = (x, n, pumps)
+
+  pub turn-breaks : (rows cols : ℕ) (pieces : List (List ℕ)) (base : Option Shown) (h k g : HubState) (key : ℕ)
+      (w v : W) (e : HubError) → Asked rows cols pieces base h k key → PumpsClient takes k key w (Err e) v g
+      → Turned takes rows cols pieces base key w (Err (fault_of e)) v g
+  turn-breaks rows cols pieces base h k g key w v e a p =
+      let q : PumpsFrom takes k key (Some (asked rows cols (concat pieces) base)) w (Err e) v g =
+      subst (λ (o : Option ClientState). PumpsFrom takes k key o w (Err e) v g) a.1 p in
+      broken-by rows cols pieces base key w v g e q.0 q.1 q.2 q.3

@@ -1,0 +1,68 @@
+-- Pieces that are given to a view one after another.
+use Rattle.std.proofs.Common.{◌≡◌, ℕ, List, [], ◌∷◌, ◌++◌, Option, None, map, refl, sym, ap, ◌∙◌, subst}
+use Rattle.std.proofs.lemmas.List.{map-append}
+use Rattle.vte.specs.Moves.{Move, Gives}
+use Rattle.vte.specs.Frames.{Leads, ends, gives}
+use Rattle.vte.proofs.FrameMoves.{moves_follow}
+use Rattle.termview.specs.declared.view.View.{View}
+use Rattle.termview.specs.declared.until_cleared.UntilCleared.{UntilCleared}
+use Rattle.vt100_picture.specs.Term.{Size, Term}
+use Rattle.termview.specs.Seen.{seen}
+use Rattle.termview.specs.Standing.{HoldsAt, Taken, size_of, shown_by}
+use Rattle.relay_streams.specs.Shown.{IsShown, screen_text, sized}
+use Rattle.relay_streams.specs.Led.{answers, Led}
+
+pub not_led : (view : View UntilCleared) → Led view [] view
+not_led view = record {
+  goes = λ parsed hold at. record {
+    parsed' = parsed;
+    hold' = hold;
+    leads = ends parsed hold;
+    holds = at;
+    size = refl;
+  };
+}
+
+-- one piece more
+pub led_on : (sets : UntilCleared → ℕ → UntilCleared → Type 0) (clears : UntilCleared → UntilCleared → Type 0)
+    (old now new : View UntilCleared) (pieces : List (List ℕ)) (piece : List ℕ) → Led old pieces now
+    → ((parsed : List ℕ) (hold : Option (List ℕ)) → HoldsAt answers now parsed hold
+    → Taken sets clears answers now parsed hold piece new)
+    → Led old (pieces ++ piece ∷ []) new
+led_on sets clears old now new pieces piece led take = record {
+  goes = λ parsed hold at.
+      let l = led.goes parsed hold at in
+      let t = take l.parsed' l.hold' l.holds in
+      let one : Leads (Gives piece ∷ []) l.parsed' l.hold' t.parsed' t.hold' =
+      gives piece [] l.parsed' l.hold' t.parsed' t.hold' t.calls t.ticks t.parsed' t.hold' t.takes
+      (ends t.parsed' t.hold') in
+      record {
+        parsed' = t.parsed';
+        hold' = t.hold';
+        leads = subst (λ (ms : List Move). Leads ms parsed hold t.parsed' t.hold')
+            (sym (map-append Gives pieces (piece ∷ [])))
+            (moves_follow (map Gives pieces) (Gives piece ∷ []) parsed hold l.parsed' l.hold' t.parsed' t.hold' l.leads
+            one);
+        holds = t.stands;
+        size = t.size ∙ l.size;
+      };
+}
+
+-- what a fresh view shows once it has read pieces
+pub shown_so : (fresh now : View UntilCleared) (z : Size) (pieces : List (List ℕ)) → HoldsAt answers fresh [] None
+    → size_of fresh ≡ z → Led fresh pieces now → IsShown z pieces (screen_text (size_of now) (shown_by now).cell)
+shown_so fresh now z pieces at is led =
+    let l = led.goes [] None at in
+    let text : screen_text (size_of now) (shown_by now).cell
+    ≡ screen_text (size_of now) (seen (size_of now) l.parsed').cell =
+    ap (λ (t : Term). screen_text (size_of now) t.cell) l.holds.stands.shows in
+    let sized_so : size_of now ≡ z = l.size ∙ is in
+    record {
+      parsed = l.parsed';
+      hold = l.hold';
+      leads = l.leads;
+      text_is = text ∙ ap (λ (y : Size). screen_text y (seen y l.parsed').cell) sized_so;
+    }
+
+pub size_is : (z : Size) (rows cols : ℕ) → z.rows ≡ rows → z.cols ≡ cols → z ≡ sized rows cols
+size_is z rows cols e f = ap (λ n. sized n z.cols) e ∙ ap (λ n. sized rows n) f

@@ -1,0 +1,96 @@
+use Rattle.std.proofs.Common.{◌≡◌, ℕ, List, [], ◌∷◌, ◌++◌, take, length, arith, Err, rules}
+use Rattle.termrelay.specs.Hub.{state_of}
+use Rattle.relay_streams.specs.Frames.{base_of}
+use Rattle.relay_streams.specs.Pieces.{piece_len}
+use Rattle.relay_streams.specs.Relayed.{unread, sent}
+use Rattle.takers.specs.Sent.{none}
+use Rattle.relay_streams.proofs.PieceLemmas.{none_read, filled_most, filled_on, filled_last, filled_fault, filled_begun}
+use Rattle.relay_streams.proofs.StreamLemmas.{turn-faults, turn-sent, turn-stands}
+use Rattle.relay_streams.proofs.relaying.relay_pieces.Goals as goal
+
+pub pieces-init : goal.pieces-init
+pieces-init g c = record {
+  most = omega arith;
+  past = [];
+  read = none_read g.row.S.Denot g.S.Source.gives piece_len c.args.input.now;
+  at = λ rows cols at. at;
+  sent = λ rows cols at. none;
+}
+
+pub returns-in_err-n : goal.returns-in_err-n
+returns-in_err-n g c = λ rows cols at.
+    let so_far = c.pieces.invariant in
+    let whole : length c.pieces.piece ≡ piece_len = omega (arith, c.fill.auto.piece) in
+    let f = rw whole at c.fill.ensures in
+    let fault = c.in_err-n.field-0.0 in
+    let is : c.from_residual.result ≡ Err fault = search rules in
+    rw is (unread so_far.past f.bytes fault
+    (filled_fault g.row.S.Denot g.S.Source.gives piece_len c.args.input.now c.pieces.input c.fill.new.input
+    c.pieces.reads c.fill.new.reads so_far.past c.fill.new.piece c.fill.result f fault c.in_err-n.was
+    so_far.read) (so_far.sent rows cols at))
+
+pub returns-in_err-turn : goal.returns-in_err-turn
+returns-in_err-turn g c = λ rows cols at.
+    let so_far = c.pieces.invariant in
+    let whole : length c.pieces.piece ≡ piece_len = omega (arith, c.fill.auto.piece) in
+    let f = rw whole at c.fill.ensures in
+    let n = c.in_ok-n.n in
+    let piece : List ℕ = take n c.fill.new.piece in
+    let fault = c.in_err-turn.field-0.0 in
+    let is : c.from_residual-in_err-turn.result ≡ Err fault = search rules in
+    let begun = filled_begun g.row.S.Denot g.S.Source.gives piece_len c.args.input.now c.pieces.input c.fill.new.input
+    c.pieces.reads c.fill.new.reads so_far.past c.fill.new.piece c.fill.result f n c.in_ok-n.was so_far.read in
+    rw is (turn-faults g.row.S.Denot g.row.W.Denot g.S.Source.gives g.W.Taker.takes rows cols so_far.past piece
+    c.args.client (state_of c.turn.new.hub) c.args.input.now c.fill.new.input c.args.output.now c.pieces.output
+    c.turn.new.output fault begun (so_far.sent rows cols at)
+    (c.in_err-turn.ensures rows cols so_far.past (base_of rows cols so_far.past) (so_far.at rows cols at)))
+
+pub returns-then-n-lt-PIECE_LEN : goal.returns-then-n-lt-PIECE_LEN
+returns-then-n-lt-PIECE_LEN g c = λ rows cols at.
+    let so_far = c.pieces.invariant in
+    let whole : length c.pieces.piece ≡ piece_len = omega (arith, c.fill.auto.piece) in
+    let f = rw whole at c.fill.ensures in
+    let n = c.in_ok-n.n in
+    let piece : List ℕ = take n c.fill.new.piece in
+    let turned = c.in_ok-turn.ensures rows cols so_far.past (base_of rows cols so_far.past) (so_far.at rows cols at) in
+    sent (so_far.past ++ piece ∷ [])
+    (filled_last g.row.S.Denot g.S.Source.gives piece_len c.args.input.now c.pieces.input c.fill.new.input
+    c.pieces.reads c.fill.new.reads so_far.past c.fill.new.piece c.fill.result f n c.in_ok-n.was
+    (omega arith) so_far.read)
+    (turn-sent g.row.S.Denot g.row.W.Denot g.S.Source.gives g.W.Taker.takes rows cols so_far.past piece c.args.client
+    (state_of c.turn.new.hub) c.args.output.now c.pieces.output c.turn.new.output (so_far.sent rows cols at) turned)
+
+pub pieces-preserved : goal.pieces-preserved
+pieces-preserved g c =
+    let so_far = c.pieces.invariant in
+    let whole : length c.pieces.piece ≡ piece_len = omega (arith, c.fill.auto.piece) in
+    let f = rw whole at c.fill.ensures in
+    let n = c.in_ok-n.n in
+    let piece : List ℕ = take n c.fill.new.piece in
+    let most = filled_most g.row.S.Denot g.S.Source.gives piece_len c.args.input.now c.pieces.input c.fill.new.input
+    c.pieces.reads c.fill.new.reads so_far.past c.fill.new.piece c.fill.result f n c.in_ok-n.was
+    (omega arith) in
+    record {
+      most = most.0;
+      past = so_far.past ++ piece ∷ [];
+      read = filled_on g.row.S.Denot g.S.Source.gives piece_len c.args.input.now c.pieces.input c.fill.new.input
+          c.pieces.reads c.fill.new.reads so_far.past c.fill.new.piece c.fill.result f n c.in_ok-n.was
+          (omega arith) so_far.read;
+      at = λ rows cols at. turn-stands g.row.S.Denot g.row.W.Denot g.S.Source.gives g.W.Taker.takes rows cols
+          so_far.past piece c.args.client (state_of c.turn.new.hub) c.pieces.output c.turn.new.output
+          (c.in_ok-turn.ensures rows cols so_far.past (base_of rows cols so_far.past) (so_far.at rows cols at));
+      sent = λ rows cols at. turn-sent g.row.S.Denot g.row.W.Denot g.S.Source.gives g.W.Taker.takes rows cols
+          so_far.past piece c.args.client (state_of c.turn.new.hub) c.args.output.now c.pieces.output
+          c.turn.new.output (so_far.sent rows cols at)
+          (c.in_ok-turn.ensures rows cols so_far.past (base_of rows cols so_far.past) (so_far.at rows cols at));
+    }
+
+pub pieces-smaller : goal.pieces-smaller
+pieces-smaller g c =
+    let so_far = c.pieces.invariant in
+    let whole : length c.pieces.piece ≡ piece_len = omega (arith, c.fill.auto.piece) in
+    let f = rw whole at c.fill.ensures in
+    let most = filled_most g.row.S.Denot g.S.Source.gives piece_len c.args.input.now c.pieces.input c.fill.new.input
+    c.pieces.reads c.fill.new.reads so_far.past c.fill.new.piece c.fill.result f c.in_ok-n.n c.in_ok-n.was
+    (omega arith) in
+    omega (arith, most.0, most.1)

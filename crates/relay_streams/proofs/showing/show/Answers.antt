@@ -1,0 +1,57 @@
+use Rattle.std.proofs.Common.{◌≡◌, Err, ◌∙◌, rules}
+use Rattle.relay_streams.specs.declared.error.RelayError.TheVariants.{Memory, Write}
+use Rattle.relay_streams.specs.Shown.{Shows, sized, refused, unread, stopped}
+use Rattle.relay_streams.proofs.OutcomeLemmas.{shows-text, shows_flushed}
+use Rattle.relay_streams.proofs.ViewLemmas.{shown_so, size_is}
+use Rattle.relay_streams.proofs.showing.show.Goals as goal
+
+pub returns-in_err-view-clause-shows : goal.returns-in_err-view-clause-shows
+returns-in_err-view-clause-shows g c =
+    let is : c.from_residual.result ≡ Err Memory = search rules in
+    rw is refused
+
+pub returns-in_err-read_view : goal.returns-in_err-read_view
+returns-in_err-read_view g c =
+    let fault = c.in_err-read_view.field-0.0 in
+    let is : c.from_residual-in_err-read_view.result ≡ Err fault = search rules in
+    let read = c.in_err-read_view.ensures in
+    let r : Shows g.S.Source.gives g.W.Write.contents (sized c.args.rows.value c.args.cols.value) c.args.input.now
+    c.args.output.now c.from_residual-in_err-read_view.result c.read_view.new.input c.args.output.now =
+    rw is (unread read.0 fault read.1) in
+    record {
+      shows = r;
+      text = shows-text g.row.S.Denot g.row.W.Denot g.S.Source.gives g.W.Write.contents g.S.Source.left
+          g.met.S.Source.tells _ _ _ _ _ _ r;
+    }
+
+pub returns-in_err-write_view : goal.returns-in_err-write_view
+returns-in_err-write_view g c =
+    let is : c.from_residual-in_err-write_view.result ≡ Err Write = search rules in
+    let read = c.in_ok-read_view.ensures in
+    let fresh = c.in_ok-view.ensures.exact (λ b e. e ∙ c.new.ensures) in
+    let size = size_is _ _ _ c.in_ok-view.ensures.rows c.in_ok-view.ensures.cols in
+    let shown = shown_so _ _ _ read.0 fresh size read.2 in
+    let r : Shows g.S.Source.gives g.W.Write.contents (sized c.args.rows.value c.args.cols.value) c.args.input.now
+    c.args.output.now c.from_residual-in_err-write_view.result c.read_view.new.input c.write_view.new.output =
+    rw is (stopped read.0 _ read.1 shown c.write_view.ensures.front) in
+    record {
+      shows = r;
+      text = shows-text g.row.S.Denot g.row.W.Denot g.S.Source.gives g.W.Write.contents g.S.Source.left
+          g.met.S.Source.tells _ _ _ _ _ _ r;
+    }
+
+pub returns : goal.returns
+returns g c =
+    let read = c.in_ok-read_view.ensures in
+    let fresh = c.in_ok-view.ensures.exact (λ b e. e ∙ c.new.ensures) in
+    let size = size_is _ _ _ c.in_ok-view.ensures.rows c.in_ok-view.ensures.cols in
+    let shown = shown_so _ _ _ read.0 fresh size read.2 in
+    let r = shows_flushed g.row.S.Denot g.row.W.Denot g.S.Source.gives g.W.Write.contents
+    (sized c.args.rows.value c.args.cols.value) c.args.input.now c.args.output.now c.write_view.new.output
+    c.flush.result c.read_view.new.input c.flush.new.output read.0 _ read.1 shown
+    c.in_ok-write_view.ensures.whole c.flush.ensures.keeps c.flush.ensures.fault in
+    record {
+      shows = r;
+      text = shows-text g.row.S.Denot g.row.W.Denot g.S.Source.gives g.W.Write.contents g.S.Source.left
+          g.met.S.Source.tells _ _ _ _ _ _ r;
+    }

@@ -1,0 +1,106 @@
+use Rattle.std.proofs.Common.{◌≡◌, ◌≢◌, [], Ok, ◌+◌, ◌-◌, take, length, sym, ap, arith}
+use Rattle.std.proofs.Common.{refl, rules}
+use Rattle.std.specs.IoError.{error_kind}
+use Rattle.std.specs.declared.io.ErrorKind.TheVariants.{Interrupted}
+use borrow.Rule.Slice.PartMut.{same_len_mid}
+use Rattle.std.proofs.lemmas.List.{length-take-le}
+use Rattle.relay_streams.specs.Fill.{Fills, Full, Ended, Failed, TooMany, full, stopped, ended, failed}
+use Rattle.relay_streams.proofs.FillLemmas.{take_put, front_put, front_put-len, front_is, window, begun, once_more}
+use Rattle.relay_streams.proofs.FillLemmas.{some_more, filled}
+use Rattle.relay_streams.proofs.source.fill.Goals as goal
+
+pub reading-init : goal.reading-init
+reading-init g c = record {
+  within = omega arith;
+  most = c.requires;
+  made = 0;
+  counted = omega arith;
+  goes_on = begun g.row.S.Denot g.S.Source.gives c.args.input.now (length c.args.piece.now)
+      (length c.args.piece.now - 0) (omega arith);
+}
+
+pub returns-then-reads-ge-MAX_READS : goal.returns-then-reads-ge-MAX_READS
+returns-then-reads-ge-MAX_READS g c =
+    let inv = c.reading.invariant in
+    let piece = c.reading.piece in
+    filled g.row.S.Denot g.S.Source.gives c.args.input.now (length c.args.piece.now) c.reading.input c.reading.input
+    (length piece - c.reading.len) inv.made 0 c.args.reads.now c.reading.reads (take c.reading.len piece) piece TooMany
+    _ inv.goes_on (stopped (omega arith)) (front_is piece c.reading.len inv.within) (omega (arith, inv.counted))
+    (omega (arith, inv.most)) refl
+
+pub returns-in-Ok-eq0 : goal.returns-in-Ok-eq0
+returns-in-Ok-eq0 g c =
+    let inv = c.reading.invariant in
+    let piece = c.reading.piece in
+    let len = c.reading.len in
+    let read = rw (window piece len, c.in-Ok-eq0.field-0-test) at c.in-Ok-eq0.ensures.gives in
+    filled g.row.S.Denot g.S.Source.gives c.args.input.now (length c.args.piece.now) c.reading.input c.give.new.self
+    (length piece - len) inv.made 1 c.args.reads.now (c.reading.reads + 1) (take len piece) _ Ended _ inv.goes_on
+    (ended (omega arith) read) (front_put piece c.give.new.room len _) (omega (arith, inv.counted)) (omega arith)
+    (ap Ok (sym (length-take-le len piece inv.within)))
+
+pub reading-preserved-in-Ok : goal.reading-preserved-in-Ok
+reading-preserved-in-Ok g c =
+    let inv = c.reading.invariant in
+    let piece = c.reading.piece in
+    let len = c.reading.len in
+    let n = c.in-Ok.n in
+    let room = c.give.new.room in
+    let read = rw (window piece len) at c.in-Ok.ensures.gives in
+    let bound = c.in-Ok.ensures.bound in
+    let whole : length room ≡ length piece - len = omega (arith, c.give.auto.room, window piece len) in
+    let got = take_put piece room len (length piece - len) n inv.within bound.0 in
+    let same = same_len_mid len (length piece - len) piece room c.give.auto.room in
+    let some : take n room ≢ [] = λ none. absurd (omega (arith, bound.1, ap length none, c.in-Ok.n-test)) in
+    record {
+      within = omega (arith, same, bound.0, whole);
+      most = omega arith;
+      made = inv.made + 1;
+      counted = omega (arith, inv.counted);
+      goes_on = rw got (some_more g.row.S.Denot g.S.Source.gives c.args.input.now (length c.args.piece.now)
+          c.reading.input c.give.new.self (length piece - len) _ inv.made (take len piece) (take n room) some
+          (omega (arith, bound.0, bound.1, whole)) (omega (arith, same, bound.1)) read inv.goes_on);
+    }
+
+pub returns-then-ne : goal.returns-then-ne
+returns-then-ne g c =
+    let inv = c.reading.invariant in
+    let piece = c.reading.piece in
+    let len = c.reading.len in
+    let read = rw (window piece len) at c.in-Err.ensures.gives in
+    filled g.row.S.Denot g.S.Source.gives c.args.input.now (length c.args.piece.now) c.reading.input c.give.new.self
+    (length piece - len) inv.made 1 c.args.reads.now (c.reading.reads + 1) (take len piece) _ Failed _ inv.goes_on
+    (failed (omega arith) read (search rules)) (front_put piece c.give.new.room len _) (omega (arith, inv.counted))
+    (omega arith) refl
+
+pub reading-preserved : goal.reading-preserved
+reading-preserved g c =
+    let inv = c.reading.invariant in
+    let piece = c.reading.piece in
+    let len = c.reading.len in
+    let read = rw (window piece len) at c.in-Err.ensures.gives in
+    let room = c.give.new.room in
+    let same = same_len_mid len (length piece - len) piece room c.give.auto.room in
+    let is : error_kind c.in-Err.error ≡ Interrupted = search rules in
+    record {
+      within = omega (arith, same, inv.within);
+      most = omega arith;
+      made = inv.made + 1;
+      counted = omega (arith, inv.counted);
+      goes_on = rw (same, front_put-len piece room len (length piece - len) inv.within)
+          (once_more g.row.S.Denot g.S.Source.gives c.args.input.now (length c.args.piece.now) c.reading.input
+          c.give.new.self (length piece - len) inv.made (take len piece) c.in-Err.error (omega arith) read is
+          inv.goes_on);
+    }
+
+pub returns : goal.returns
+returns g c =
+    let inv = c.reading.invariant in
+    let piece = c.reading.piece in
+    let len = c.reading.len in
+    let none : length piece - len ≡ 0 = omega arith in
+    let last : Fills g.S.Source.gives c.reading.input (length piece - len) 0 [] Full c.reading.input = rw none full in
+    filled g.row.S.Denot g.S.Source.gives c.args.input.now (length c.args.piece.now) c.reading.input c.reading.input
+    (length piece - len) inv.made 0 c.args.reads.now c.reading.reads (take len piece) piece Full _ inv.goes_on last
+    (front_is piece len inv.within) (omega (arith, inv.counted)) (omega (arith, inv.most))
+    (ap Ok (sym (length-take-le len piece inv.within)))

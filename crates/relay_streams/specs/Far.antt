@@ -1,0 +1,56 @@
+-- What a far terminal makes of a session of a run.
+use Rattle.std.specs.Prelude.{◌≡◌, ℕ, ◌<◌, ◌≤◌, Bool, true, false, List, [], length, take, map, Option, None, Some}
+use Rattle.std.specs.List.{AllByRecursion, list_any, slice_get}
+use Rattle.vte.specs.Hold.{limit}
+use Rattle.vte.specs.Moves.{Gives}
+use Rattle.vte.specs.Frames.{Leads}
+use Rattle.vt100_picture.specs.Term.{shown_of}
+use Rattle.termrelay.specs.Calls.{Call}
+use Rattle.termview.specs.Standing.{HoldsAt, size_of, shown_by}
+use Rattle.termview.specs.declared.view.View.{View}
+use Rattle.termview.specs.declared.until_cleared.UntilCleared.{UntilCleared}
+use Rattle.faithful.specs.History.{Reply, Refused, Memory, Entry, Story, fresh, CanRun, books_after}
+use Rattle.faithful.specs.Judge.{last_whole, judged, IsSure}
+use Rattle.faithful.specs.Laws.{IsSession}
+use Rattle.relay_streams.specs.Led.{answers}
+use Rattle.relay_streams.specs.Pieces.{cut_by}
+
+-- there was no memory for the call
+abbrev pub is_starved : Reply → Bool
+is_starved (Refused Memory) = true
+is_starved reply = false
+
+-- a view of a session's size stands where the first bytes that were pumped to it, in pieces of these lengths, lead a
+-- new one
+pub record ReadsStory (t : Story) (most : ℕ) (cuts : List ℕ) (v : View UntilCleared) : Type 0 where
+  pub parsed : List ℕ
+  pub hold : Option (List ℕ)
+  pub leads : Leads (map Gives (cut_by cuts (take most t.pumped))) [] None parsed hold
+  pub holds : HoldsAt answers v parsed hold
+  pub size : size_of v ≡ t.size
+
+-- of these sessions there is no n-th one, or the view has read it
+abbrev pub FoundIn : List Story → ℕ → ℕ → List ℕ → Option (View UntilCleared) → Type 0
+FoundIn ts n most cuts None = length ts ≤ n
+FoundIn ts n most cuts (Some v) = (t : Story) × (slice_get ts n ≡ Some t) × ReadsStory t most cuts v
+
+-- These calls can get such replies on a new hub, none of which is a refusal for want of memory, and of the sessions
+-- that they then have this view was found.
+pub record IsFarView (rows cols : ℕ) (calls : List Call) (n most : ℕ) (cuts : List ℕ)
+    (found : Option (View UntilCleared)) : Type 0 where
+  pub replies : List Reply
+  pub ran : CanRun (fresh rows cols) calls replies
+  pub fed : list_any is_starved replies ≡ false
+  pub is : FoundIn (books_after (fresh rows cols) calls replies).stories n most cuts found
+
+-- the last frame that lies wholly in the bytes that are given
+abbrev pub last_given : Story → ℕ → Option Entry
+last_given t most = last_whole None t.entries (length (take most t.pumped))
+
+-- such a view shows what the judge says of the last frame that lies wholly in the bytes that it was given: where each
+-- frame of the session is below the hold's limit, unless that one wasn't sure
+abbrev pub FarViewsShow : Type 0
+FarViewsShow = (rows cols : ℕ) (calls : List Call) (replies : List Reply) (n most : ℕ) (cuts : List ℕ) (t : Story)
+    (v : View UntilCleared) → IsSession rows cols calls replies n t → ReadsStory t most cuts v
+    → AllByRecursion (λ e. length e.text < limit) t.entries → IsSure (last_given t most)
+    → shown_of (shown_by v) ≡ judged rows cols (last_given t most)

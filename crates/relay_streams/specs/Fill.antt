@@ -1,0 +1,71 @@
+-- Reads that fill a piece: what they make of a source, the bytes that they give, and how they end.
+use Rattle.std.specs.Prelude.{◌≡◌, ◌≢◌, ℕ, ◌+◌, ◌-◌, ◌^◌, ◌<◌, ◌≤◌, List, [], ◌++◌, length, take, Option, Ok, Err}
+use Rattle.std.specs.Prelude.{Result}
+use Rattle.std.specs.Io.KnownBytes.{Consumes, IsAtEnd, Keeps}
+use Rattle.std.specs.IoError.{error_kind}
+use Rattle.std.specs.declared.io.Error.{Error}
+use Rattle.std.specs.declared.io.ErrorKind.TheVariants.{Interrupted}
+use Rattle.relay_streams.specs.declared.error.RelayError.{RelayError}
+use Rattle.relay_streams.specs.declared.error.RelayError.TheVariants.{Read, TooManyReads}
+
+-- the bytes that a read gave, where it answered so and left its room so
+abbrev pub given : Result ℕ Error → List ℕ → Result (List ℕ) Error
+given (Ok n) room = Ok (take n room)
+given (Err e) room = Err e
+
+-- what std promises of one read with so much room, of a reader whose known bytes are these
+abbrev pub Reads : {R : Type 0} → (R → Option (List ℕ)) → R → ℕ → Result (List ℕ) Error → R → Type 0
+Reads left s room (Ok bytes) t = Consumes (left s) (left t) bytes × (bytes ≡ [] → 0 < room → IsAtEnd (left t))
+Reads left s room (Err e) t = Keeps (left s) (left t)
+
+-- how the reads end: there is no room left, the input has ended, a read failed, or no more reads may be made
+pub data FillEnd : Type 0 where
+  Full : FillEnd
+  Ended : FillEnd
+  Failed : FillEnd
+  TooMany : FillEnd
+
+-- From a source, with so much room, so many reads give these bytes, end so, and leave the source so. A step is what one
+-- read with so much room answers and leaves. An interrupted read gives nothing, and is followed by another one.
+pub data Fills {S : Type 0} (step : S → ℕ → Result (List ℕ) Error → S → Type 0) : S → ℕ → ℕ → List ℕ → FillEnd → S
+    → Type 0 where
+  full : {s : S} → Fills step s 0 0 [] Full s
+  stopped : {s : S} {room : ℕ} → 0 < room → Fills step s room 0 [] TooMany s
+  ended : {s t : S} {room : ℕ} → 0 < room → step s room (Ok []) t → Fills step s room 1 [] Ended t
+  failed : {s t : S} {room : ℕ} {e : Error} → 0 < room → step s room (Err e) t → error_kind e ≢ Interrupted
+      → Fills step s room 1 [] Failed t
+  again : {s t : S} {room n : ℕ} {bytes : List ℕ} {end : FillEnd} (m : S) (e : Error) → 0 < room
+      → step s room (Err e) m → error_kind e ≡ Interrupted → Fills step m room n bytes end t
+      → Fills step s room (1 + n) bytes end t
+  more : {s t : S} {room n : ℕ} {bytes : List ℕ} {end : FillEnd} (m : S) (some : List ℕ) → some ≢ []
+      → length some ≤ room → step s room (Ok some) m → Fills step m (room - length some) n bytes end t
+      → Fills step s room (1 + n) (some ++ bytes) end t
+
+-- as many reads as may be made in all
+abbrev pub max_reads : ℕ
+max_reads = 2 ^ 40
+
+-- the reads made in all, where they end so
+abbrev pub CountsTo : FillEnd → ℕ → Type 0
+CountsTo TooMany count = count ≡ max_reads
+CountsTo end count = count ≤ max_reads
+
+-- what is answered, where the reads gave so many bytes and end so
+abbrev pub answer_of : FillEnd → ℕ → Result ℕ RelayError
+answer_of Full n = Ok n
+answer_of Ended n = Ok n
+answer_of Failed n = Err Read
+answer_of TooMany n = Err TooManyReads
+
+-- A piece of so much room was filled, after so many reads before: the reads that were made, the bytes that they gave,
+-- and how they ended.
+pub record Filled {S : Type 0} (step : S → ℕ → Result (List ℕ) Error → S → Type 0) (old : S) (room before : ℕ)
+    (answer : Result ℕ RelayError) (new : S) (piece : List ℕ) (after : ℕ) : Type 0 where
+  pub made : ℕ
+  pub bytes : List ℕ
+  pub end : FillEnd
+  pub fills : Fills step old room made bytes end new
+  pub front : take (length bytes) piece ≡ bytes
+  pub counted : after ≡ before + made
+  pub most : CountsTo end after
+  pub answered : answer ≡ answer_of end (length bytes)

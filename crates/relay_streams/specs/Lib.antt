@@ -1,0 +1,9 @@
+pub mod Far
+pub mod Fill
+pub mod Frames
+pub mod Laws
+pub mod Led
+pub mod Pieces
+pub mod Relayed
+pub mod Shown
+pub mod Turns

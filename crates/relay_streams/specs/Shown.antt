@@ -1,0 +1,54 @@
+-- What `show` answers, reads and writes.
+use Rattle.std.specs.Prelude.{◌≡◌, ℕ, List, [], ◌∷◌, ◌++◌, map, Option, None, Ok, Err, Result, encode_utf8_all}
+use Rattle.std.specs.List.{concat, range_with_len}
+use Rattle.std.specs.Io.KnownBytes.{Appends}
+use Rattle.std.specs.declared.io.Error.{Error}
+use Rattle.vte.specs.Moves.{Gives}
+use Rattle.vte.specs.Frames.{Leads}
+use Rattle.vt100_cells.specs.Cell.{CellView}
+use Rattle.vt100_rows.specs.Text.{line_text}
+use Rattle.vt100_picture.specs.Term.{Size}
+use Rattle.termview.specs.Seen.{seen}
+use Rattle.relay_streams.specs.declared.error.RelayError.{RelayError}
+use Rattle.relay_streams.specs.declared.error.RelayError.TheVariants.{Write, Memory}
+use Rattle.takers.specs.Output.{TakesFront}
+use Rattle.relay_streams.specs.Pieces.{piece_len, Drained}
+
+abbrev pub sized : ℕ → ℕ → Size
+sized rows cols = record { rows = rows; cols = cols }
+
+-- the text of a row of these cells as UTF-8, without the empty columns at its end, and a newline
+abbrev pub row_line : Size → (ℕ → ℕ → CellView) → ℕ → List ℕ
+row_line z cell row = encode_utf8_all (line_text (cell row) 0 z.cols) ++ (0x0A ∷ [])
+
+-- the same of n rows from a row on
+abbrev pub rows_text : Size → (ℕ → ℕ → CellView) → ℕ → ℕ → List ℕ
+rows_text z cell row n = concat (map (row_line z cell) (range_with_len row n))
+
+-- the text of a screen
+abbrev pub screen_text : Size → (ℕ → ℕ → CellView) → List ℕ
+screen_text z cell = rows_text z cell 0 z.rows
+
+-- A fresh view of this size was given these pieces, one after another, and this is the text of what it shows: what it
+-- has parsed, and not what it holds.
+pub record IsShown (z : Size) (pieces : List (List ℕ)) (text : List ℕ) : Type 0 where
+  pub parsed : List ℕ
+  pub hold : Option (List ℕ)
+  pub leads : Leads (map Gives pieces) [] None parsed hold
+  pub text_is : text ≡ screen_text z (seen z parsed).cell
+
+-- From a source and a writer it answers so, and leaves both so.
+pub data Shows {S W : Type 0} (gives : S → ℕ → Result (List ℕ) Error → S → Type 0) (contents : W → Option (List ℕ))
+    (z : Size) (s : S) (w : W) : Result (Unit {0}) RelayError → S → W → Type 0 where
+  -- there was no memory for the view: nothing is read or written
+  refused : Shows gives contents z s w (Err Memory) s w
+  -- a read failed, or as many were made as may be: nothing is written
+  unread : {t : S} (pieces : List (List ℕ)) (e : RelayError) → Drained gives piece_len s pieces (Err e) t
+      → Shows gives contents z s w (Err e) t w
+  -- the input was read to its end, and what a view shows of it was written
+  written : {t : S} {v : W} (pieces : List (List ℕ)) (text : List ℕ) → Drained gives piece_len s pieces (Ok tt) t
+      → IsShown z pieces text → Appends (contents w) (contents v) text → Shows gives contents z s w (Ok tt) t v
+  -- a write or the flush failed: a front of that was written
+  stopped : {t : S} {v : W} (pieces : List (List ℕ)) (text : List ℕ) → Drained gives piece_len s pieces (Ok tt) t
+      → IsShown z pieces text → TakesFront (contents w) (contents v) text
+      → Shows gives contents z s w (Err Write) t v

@@ -1,0 +1,127 @@
+//! What a far terminal makes of a run's bytes, which reach it in pieces.
+
+ghost use Rattle.std.specs.Prelude.{◌≡◌, ℕ, List, [], Option, None, Err, map, take, IfOk, OnErr};
+ghost use Rattle.std.specs.List.{list_any};
+ghost use Rattle.vte.specs.Moves.{Gives};
+ghost use Rattle.vte.specs.Frames.{Leads};
+ghost use Rattle.termrelay.specs.Calls.{call_of};
+ghost use Rattle.termview.specs.Standing.{HoldsAt, size_of};
+ghost use Rattle.faithful.specs.Serves.{told};
+ghost use Rattle.relay_streams.specs.Far.{IsFarView, is_starved as starved};
+ghost use Rattle.relay_streams.specs.Led.{Led, answers};
+ghost use Rattle.relay_streams.specs.Pieces.{cut_by};
+ghost use Rattle.relay_streams.specs.declared.error.RelayError.TheVariants.{Memory};
+
+use crate::error::RelayError;
+use std::alloc::Global;
+use std::num::NonZeroU16;
+use termrelay::{Call, Hub, HubError, Log, Reply, Session, run};
+use termview::laws::until_cleared_is_exact;
+use termview::{UntilCleared, View};
+
+/// What a far terminal makes of a session of a run.
+///
+/// The calls are made in order on a new hub of this size. A fresh view of the session's size is given the first `take`
+/// bytes that were pumped to the session, or all where there are fewer, in pieces of the lengths `cuts`, each cut to
+/// what is left, and then the rest. There is none where the run began no such session. It is refused only for memory,
+/// also where a call of the run was.
+pub fn far_view(
+    alloc: Global,
+    rows: NonZeroU16,
+    cols: NonZeroU16,
+    calls: &[Call<'_>],
+    session: usize,
+    take: usize,
+    cuts: &[usize],
+) -> Result<Option<View<UntilCleared>>, RelayError>
+    ensures view { IfOk result (λ found. IsFarView rows.value cols.value (map call_of calls.now) session take cuts.now
+        found) }
+    ensures memory { OnErr result (result ≡ Err Memory) }
+{
+    let mut hub = Hub::new(alloc, rows, cols)?;
+    let mut log = Log::new(alloc);
+    run(&mut hub, calls, &mut log)?;
+    if has_starved(log.replies()) {
+        return Err(RelayError::Memory);
+    }
+    match log.sessions().get(session) {
+        Some(session) => Ok(Some(view_session(alloc, session, take, cuts)?)),
+        None => Ok(None),
+    }
+}
+
+// A fresh view of a session's size that was given the first bytes that were pumped to it, in such pieces.
+fn view_session(
+    alloc: Global,
+    session: &Session,
+    most: usize,
+    cuts: &[usize],
+) -> Result<View<UntilCleared>, RelayError>
+    ensures stands { IfOk result (λ v. (parsed : List ℕ) × (hold : Option (List ℕ))
+        × Leads (map Gives (cut_by cuts.now (take most session.now.pumped))) [] None parsed hold
+        × HoldsAt answers v parsed hold) }
+    ensures rows { IfOk result (λ v. (size_of v).rows ≡ session.now.rows) }
+    ensures cols { IfOk result (λ v. (size_of v).cols ≡ session.now.cols) }
+    ensures memory { OnErr result (result ≡ Err Memory) }
+{
+    let pumped = session.pumped();
+    let given = &pumped[..most.min(pumped.len())];
+    view_of(alloc, session.rows(), session.cols(), given, cuts)
+}
+
+// Whether there was no memory for one of the calls.
+fn has_starved(replies: &[Reply]) -> bool
+    ensures { result ≡ list_any (λ r. starved (told r)) replies.now }
+{
+    for reply in replies {
+        if is_starved(reply) {
+            return true;
+        }
+    }
+    false
+}
+
+fn is_starved(reply: &Reply) -> bool
+    ensures { result ≡ starved (told reply.now) }
+{
+    match reply {
+        Reply::Refused(HubError::Memory) => true,
+        Reply::Refused(HubError::Failed | HubError::UnknownClient | HubError::Write(_)) => false,
+        Reply::Done | Reply::Attached(_) | Reply::Answered(_) => false,
+    }
+}
+
+/// A fresh view of this size that was given these bytes, in pieces of the lengths `cuts`, each cut to what is left, and
+/// then the rest. It is refused only for memory.
+pub fn view_of(
+    alloc: Global,
+    rows: NonZeroU16,
+    cols: NonZeroU16,
+    bytes: &[u8],
+    cuts: &[usize],
+) -> Result<View<UntilCleared>, RelayError>
+    ensures stands { IfOk result (λ v. (parsed : List ℕ) × (hold : Option (List ℕ))
+        × Leads (map Gives (cut_by cuts.now bytes.now)) [] None parsed hold
+        × HoldsAt answers v parsed hold) }
+    ensures rows { IfOk result (λ v. (size_of v).rows ≡ rows.value) }
+    ensures cols { IfOk result (λ v. (size_of v).cols ≡ cols.value) }
+    ensures memory { OnErr result (result ≡ Err Memory) }
+{
+    let mut view = View::new(alloc, rows, cols, UntilCleared::new())?;
+    give_pieces(&mut view, bytes, cuts);
+    Ok(view)
+}
+
+// Gives a view the bytes in these pieces, and then the rest.
+fn give_pieces(view: &mut View<UntilCleared>, bytes: &[u8], cuts: &[usize])
+    ensures { Led view.old (cut_by cuts.now bytes.now) view.new }
+{
+    until_cleared_is_exact();
+    let mut left = bytes;
+    for cut in cuts {
+        let (piece, rest) = left.split_at((*cut).min(left.len()));
+        view.advance(piece);
+        left = rest;
+    }
+    view.advance(left);
+}

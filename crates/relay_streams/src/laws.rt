@@ -1,0 +1,26 @@
+//! Laws of what is shown, each as the contract of a function that does nothing.
+ghost use Rattle.relay_streams.specs.Far.{FarViewsShow};
+ghost use Rattle.relay_streams.specs.Laws.{RelayedIsShown, TextsAreOne, WholeFramesArePrinted};
+
+/// What `show` writes is a function of the size and of what it reads.
+pub fn shown_texts_are_one()
+    ensures { TextsAreOne }
+{}
+
+/// Of joined whole frames `show` prints the rows of the screen that they leave.
+pub fn whole_frames_are_printed()
+    ensures { WholeFramesArePrinted }
+{}
+
+/// What `relay` writes of an input `show` prints as the rows of the screen that the input makes, unless that screen
+/// shows U+FE0F.
+pub fn relayed_is_shown()
+    ensures { RelayedIsShown }
+{}
+
+/// What a view of `far_view` shows is what the judge says of the calls and their replies: what the program's bytes and
+/// the resizes had made when the last frame was taken that lies wholly in the bytes given, or a blank screen. So where
+/// each frame of the session is below the hold's limit, and that screen showed no U+FE0F.
+pub fn far_views_show()
+    ensures { FarViewsShow }
+{}

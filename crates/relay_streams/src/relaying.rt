@@ -1,0 +1,84 @@
+//! A program's output as frames of its screen.
+
+ghost use Rattle.std.specs.Prelude.{◌≡◌, ℕ, ◌++◌, ◌∷◌, [], List, None, OnOk, Option, IfSome};
+ghost use Rattle.std.specs.Io.KnownBytes.{Appends};
+ghost use Rattle.vt100_picture.specs.Term.{Shown};
+ghost use Rattle.termrelay.specs.Hub.{state_of};
+ghost use Rattle.relay_streams.specs.Frames.{relay_text};
+ghost use Rattle.takers.specs.Output.{TakesFront};
+ghost use Rattle.relay_streams.specs.Relayed.{Relays, Streams};
+ghost use Rattle.relay_streams.specs.Turns.{Relaying, Turned};
+
+use crate::error::RelayError;
+use crate::source::{PIECE_LEN, Source, fill};
+use std::alloc::Global;
+use std::num::NonZeroU16;
+use takers::Sink;
+use termrelay::{Client, Hub};
+
+/// Reads a program's output to its end, and writes frames of the screen of this size that it makes: after each full
+/// piece of 4,096 bytes, and at the end, the frame that is then due, if there is one. Then the output is flushed.
+///
+/// Pieces are full however the reader cuts, and are read by at most 2^40 reads; an interrupted read is tried again and
+/// counted. A fault ends it. What was written by then stays written.
+pub fn relay<S: Source, W: Sink>(
+    alloc: Global,
+    rows: NonZeroU16,
+    cols: NonZeroU16,
+    input: &mut S,
+    output: &mut W,
+) -> Result<(), RelayError>
+    ensures relays { Relays S.gives W.takes W.flushes rows.value cols.value input.old output.old result input.new
+        output.new }
+    ensures text { OnOk result (IfSome (S.left input.old)
+        (λ bytes. Appends (W.contents output.old) (W.contents output.new) (relay_text rows.value cols.value bytes))) }
+    ensures front { IfSome (S.left input.old)
+        (λ bytes. TakesFront (W.contents output.old) (W.contents output.new) (relay_text rows.value cols.value bytes)) }
+{
+    let mut hub = Hub::new(alloc, rows, cols)?;
+    let client = hub.attach()?;
+    relay_pieces(&mut hub, client, input, output)?;
+    match output.finish() {
+        Ok(()) => Ok(()),
+        Err(_) => Err(RelayError::Write),
+    }
+}
+
+// Reads the whole input in full pieces, and has a turn with each.
+fn relay_pieces<S: Source, W: Sink>(
+    hub: &mut Hub,
+    client: Client,
+    input: &mut S,
+    output: &mut W,
+) -> Result<(), RelayError>
+    ensures { (rows cols : ℕ) → Relaying rows cols [] None (state_of hub.old) client
+        → Streams S.gives W.takes rows cols input.old output.old result input.new output.new }
+{
+    let mut piece = [0; PIECE_LEN];
+    let mut reads = 0;
+    'pieces: loop {
+        let n = fill(input, &mut piece, &mut reads)?;
+        turn(hub, client, &piece[..n], output)?;
+        if n < PIECE_LEN {
+            return Ok(());
+        }
+    }
+}
+
+// Feeds a piece, and sends the frame that is then due.
+fn turn<W: Sink>(
+    hub: &mut Hub,
+    client: Client,
+    piece: &[u8],
+    output: &mut W,
+) -> Result<(), RelayError>
+    ensures { (rows cols : ℕ) (past : List (List ℕ)) (base : Option Shown)
+        → Relaying rows cols past base (state_of hub.old) client
+        → Turned W.takes rows cols (past ++ piece.now ∷ []) base client output.old result output.new
+        (state_of hub.new) }
+{
+    hub.feed(piece)?;
+    hub.frame(client)?;
+    hub.pump(client, output)?;
+    Ok(())
+}

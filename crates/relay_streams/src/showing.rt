@@ -1,0 +1,93 @@
+//! A relayed stream as text.
+
+ghost use Rattle.std.specs.Prelude.{◌≡◌, ℕ, List, OnOk, IfErr, IfSome};
+ghost use Rattle.std.specs.Io.KnownBytes.{Appends};
+ghost use Rattle.termview.specs.Standing.{shown_by, size_of};
+ghost use Rattle.relay_streams.specs.Led.{Led};
+ghost use Rattle.takers.specs.Output.{TakesFront};
+ghost use Rattle.relay_streams.specs.Pieces.{Drained, piece_len, pieces_of};
+ghost use Rattle.relay_streams.specs.Shown.{IsShown, Shows, row_line, screen_text, sized};
+
+use crate::error::RelayError;
+use crate::output::{flush, write_whole};
+use crate::source::{PIECE_LEN, Source, fill};
+use std::alloc::Global;
+use std::io::Write;
+use std::num::NonZeroU16;
+use termview::laws::until_cleared_is_exact;
+use termview::{UntilCleared, View};
+
+/// Reads a relayed stream to its end, and writes the text of each row of what a far terminal of this size shows of it,
+/// with a newline each. Then the output is flushed. An update that isn't closed at the end is held back, and so isn't
+/// shown.
+///
+/// The input is read in full pieces of 4,096 bytes, by at most 2^40 reads; an interrupted read is tried again and
+/// counted. A fault ends it. What was written by then stays written, and nothing is written before the input has ended.
+pub fn show<S: Source, W: Write>(
+    alloc: Global,
+    rows: NonZeroU16,
+    cols: NonZeroU16,
+    input: &mut S,
+    output: &mut W,
+) -> Result<(), RelayError>
+    ensures shows { Shows S.gives W.contents (sized rows.value cols.value) input.old output.old result input.new
+        output.new }
+    ensures text { OnOk result (IfSome (S.left input.old) (λ bytes. (text : List ℕ)
+        × IsShown (sized rows.value cols.value) (pieces_of bytes) text
+        × Appends (W.contents output.old) (W.contents output.new) text)) }
+{
+    let mut view = View::new(alloc, rows, cols, UntilCleared::new())?;
+    read_view(&mut view, input)?;
+    write_view(&view, output)?;
+    flush(output)
+}
+
+// Gives the view the whole input, in full pieces and then the rest.
+fn read_view<S: Source>(view: &mut View<UntilCleared>, input: &mut S) -> Result<(), RelayError>
+    ensures { (pieces : List (List ℕ)) × Drained S.gives piece_len input.old pieces result input.new
+        × OnOk result (Led view.old pieces view.new) }
+{
+    until_cleared_is_exact();
+    let mut piece = [0; PIECE_LEN];
+    let mut reads = 0;
+    'pieces: loop {
+        let n = fill(input, &mut piece, &mut reads)?;
+        view.advance(&piece[..n]);
+        if n < PIECE_LEN {
+            return Ok(());
+        }
+    }
+}
+
+/// Writes the text of each row of what the view shows, and a newline after it.
+pub fn write_view<W: Write>(view: &View<UntilCleared>, output: &mut W) -> Result<(), RelayError>
+    ensures whole { OnOk result (Appends (W.contents output.old) (W.contents output.new)
+        (screen_text (size_of view.now) (shown_by view.now).cell)) }
+    ensures front { TakesFront (W.contents output.old) (W.contents output.new)
+        (screen_text (size_of view.now) (shown_by view.now).cell) }
+    ensures fault { IfErr result (λ e. e ≡ RelayError.Write) }
+{
+    let (rows, _) = view.size();
+    for row in 0..rows.get() {
+        write_row(view, row, output)?;
+    }
+    Ok(())
+}
+
+// Writes the text of a row and a newline.
+fn write_row<W: Write>(
+    view: &View<UntilCleared>,
+    row: u16,
+    output: &mut W,
+) -> Result<(), RelayError>
+    ensures whole { OnOk result (Appends (W.contents output.old) (W.contents output.new)
+        (row_line (size_of view.now) (shown_by view.now).cell row)) }
+    ensures front { TakesFront (W.contents output.old) (W.contents output.new)
+        (row_line (size_of view.now) (shown_by view.now).cell row) }
+    ensures fault { IfErr result (λ e. e ≡ RelayError.Write) }
+{
+    match view.row_text(row, output) {
+        Ok(()) => write_whole(output, b"\n"),
+        Err(_) => Err(RelayError::Write),
+    }
+}

@@ -1,5 +1,0 @@
-use Rattle.screenrelay.proofs.LawLemmas.{texts_are_one}
-use Rattle.screenrelay.proofs.laws.shown_texts_are_one.Goals as goal
-
-pub returns : goal.returns
-returns c = texts_are_one

@@ -1,0 +1,4 @@
+pub mod AppendLemmas
+pub mod PumpLemmas
+pub mod PumpLaws
+pub mod SendLemmas

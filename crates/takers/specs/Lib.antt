@@ -1,0 +1,4 @@
+pub mod Laws
+pub mod Output
+pub mod Pump
+pub mod Sent
