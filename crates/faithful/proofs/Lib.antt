@@ -1,5 +1,3 @@
-pub mod SmallRows
-pub mod SmallScreens
 pub mod HistoryLemmas
 pub mod ScreenLemmas
 pub mod FrameSteps

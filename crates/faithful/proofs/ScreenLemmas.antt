@@ -3,8 +3,7 @@ use Rattle.std.proofs.Common.{◌≡◌, ℕ, false, ◌&&◌, nat_lt, List, [],
 use Rattle.std.proofs.Common.{None}
 use Rattle.std.specs.Prelude.{Contains}
 use Rattle.std.proofs.lemmas.Bool.{cond_both}
-use Rattle.vt100_forms.specs.Attrs.{default_attrs, IsProper}
-use Rattle.vt100_forms.specs.Length.{HasByteColors}
+use Rattle.vt100_forms.specs.Attrs.{default_attrs, IsProper, HasByteColors}
 use Rattle.vt100_cells.specs.Cell.{CellView, IsCell, default_cell}
 use Rattle.vt100_cells.specs.Cells.{cell_at}
 use Rattle.vt100_cells.proofs.CellLemmas.{IsCell-empty}
@@ -19,7 +18,7 @@ use Rattle.vt100_state.specs.State.{State, IsState}
 use Rattle.vt100_state.specs.Shown.{shown_state}
 use Rattle.vt100_state.specs.Made.{Act, made}
 use Rattle.vt100_state.specs.Holds.{IsSide, AreActs}
-use Rattle.vt100_state.proofs.ProperLemmas.{default-proper}
+use Rattle.vt100_forms.proofs.AttrsLemmas.{default-proper}
 use Rattle.vt100_state.proofs.MadeLemmas.{makes-states, makes-no_offset, makes-cells, makes-proper_cells}
 use Rattle.vt100_state.proofs.MadeLemmas.{makes-byte_colours}
 use Rattle.termrelay.specs.Frame.{is_unsure, IsBase}

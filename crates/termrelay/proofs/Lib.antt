@@ -11,3 +11,4 @@ pub mod FeedLaws
 pub mod LogLemmas
 pub mod ScriptLemmas
 pub mod RunLemmas
+pub mod BodyForms

@@ -145,7 +145,7 @@ attrs-alike s a i p fg bg flags =
 modes-alike : (s : State) (a : Attrs) → IsState s → IsProper a → flags_of s.attrs ≡ flags_of a → s.attrs.mode ≡ a.mode
 modes-alike s a i p flags =
     let x : Attrs = record a { fgcolor = s.attrs.fgcolor; bgcolor = s.attrs.bgcolor } in
-    let q : IsProper x = record { small = p.small; one = p.one } in
+    let q : IsProper x = record { small = p.small; one = p.one; colors = i.attrs.colors } in
     ap (λ y. y.mode) (attrs-alike s x i q refl refl flags)
 
 attrs-refl : (a : Attrs) → attrs_eq a a ≡ true

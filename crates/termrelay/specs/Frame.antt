@@ -4,16 +4,18 @@ use Rattle.std.specs.Prelude.{◌≡◌, ℕ, zero, suc, ◌==◌, ◌||◌, Boo
 use Rattle.std.specs.Prelude.{None}
 use Rattle.std.specs.Prelude.{if◌then◌else◌, Contains}
 use Rattle.std.specs.List.{list_any}
-use Rattle.vt100_forms.specs.Attrs.{IsProper}
+use Rattle.vt100_forms.specs.Attrs.{IsProper, HasByteColors}
 use Rattle.vt100_forms.specs.Form.{Form, spell}
 use Rattle.vt100_forms.specs.Mark.{mark_head}
 use Rattle.vt100_cells.specs.Cell.{CellView}
 use Rattle.vt100_picture.specs.Term.{Size, Shown, Term, IsShown, blank_shown, shown_of}
 use Rattle.vt100_picture.specs.Apply.{run}
 use Rattle.vt100_picture.specs.Leads.{Leads}
+use Rattle.vt100_picture.specs.FormText.{AreForms, AreSentForms}
 use Rattle.vt100_writers.specs.Modes.{input_mode_diff}
 use Rattle.vt100_writers.specs.Screen.{contents_formatted, state_formatted, state_diff}
 use Rattle.vt100_writers.specs.Laws.{IsScreen, IsKnown}
+use Rattle.vt100_writers.specs.Length.{IsSmallScreen}
 
 -- ---- the text
 
@@ -92,3 +94,20 @@ EachFrameLeads = (z : Size) (base : Option Shown) (now from : Shown) → IsBase 
 abbrev pub EachFrameSetsModes : Type 0
 EachFrameSetsModes = (z : Size) (base : Option Shown) (now : Shown) (t : Term) → Agrees z base (shown_of t)
     → HasModesOf now (shown_of (run z (body_forms z base now) t))
+
+-- ---- what it is made of
+
+-- the last frame's screen, if there was a frame, draws with colours of bytes
+abbrev pub HasByteBase : Option Shown → Type 0
+HasByteBase None = Unit {0}
+HasByteBase (Some base) = HasByteColors base.attrs
+
+-- the body is a list of forms that writers send
+abbrev pub EachBodyIsSent : Type 0
+EachBodyIsSent = (z : Size) (base : Option Shown) (now : Shown) → HasByteBase base → IsSmallScreen z now → IsKnown now
+    → AreSentForms (body_forms z base now)
+
+-- and where the present screen is sure, of forms that a screen and a view read alike
+abbrev pub EachBodyIsOfForms : Type 0
+EachBodyIsOfForms = (z : Size) (base : Option Shown) (now : Shown) → HasByteBase base → IsSmallScreen z now
+    → IsKnown now → is_unsure z now ≡ false → AreForms (body_forms z base now)

@@ -1,6 +1,7 @@
 //! Facts about frames. Each function does nothing: its contract is the fact.
 ghost use Rattle.termrelay.specs.Answers.{EachSameIsOne, EachOneIsSame, EachExampleIsAnswered};
 ghost use Rattle.termrelay.specs.Frame.{EachSureIsPlain, EachFrameIsMarked, EachFrameLeads, EachFrameSetsModes};
+ghost use Rattle.termrelay.specs.Frame.{EachBodyIsSent, EachBodyIsOfForms};
 ghost use Rattle.termrelay.specs.Laws.{TwoFeedsAreOne, TwoFeedsRunAsOne};
 
 /// A screen is unsure wherever one of its cells has U+FE0F.
@@ -24,6 +25,13 @@ pub fn frames_lead()
 /// Also where U+FE0F is shown, the input modes and the cursor's style come out as they are.
 pub fn frames_set_modes()
     ensures { EachFrameSetsModes }
+{}
+
+/// What a frame has between its marks is spelled by forms that writers send; unless the present screen is unsure, by
+/// forms that a screen and a view read alike.
+pub fn bodies_are_of_forms()
+    ensures sent { EachBodyIsSent }
+    ensures forms { EachBodyIsOfForms }
 {}
 
 /// Screens of one size that the test takes for the same show the same, so that a client that is answered `Unchanged`

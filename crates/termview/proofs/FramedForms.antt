@@ -39,7 +39,7 @@ use Rattle.vt100_picture.specs.Apply.{run}
 use Rattle.vt100_picture.proofs.TermLemmas.{neither}
 use Rattle.vt100_read.specs.Events.{kept_number, sequence, bare, counted_events, mode_events}
 use Rattle.vt100_read.specs.Events.{sgr_events, events_of, events_of_all}
-use Rattle.vt100_read.specs.Laws.{IsSentForm}
+use Rattle.vt100_picture.specs.FormText.{IsSentForm}
 use Rattle.vt100_read.proofs.ReadForms.{list-read}
 use Rattle.vt100_read.proofs.SentTexts.{forms-readable}
 use Rattle.termview.specs.Seen.{seen}

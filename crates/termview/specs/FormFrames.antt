@@ -9,7 +9,7 @@ use Rattle.vte.specs.Frames.{IsFrame, Leads}
 use Rattle.vt100_forms.specs.Form.{Form, spell}
 use Rattle.vt100_picture.specs.Term.{Size}
 use Rattle.vt100_picture.specs.Apply.{run}
-use Rattle.vt100_read.specs.Laws.{IsSentForm}
+use Rattle.vt100_picture.specs.FormText.{IsSentForm}
 use Rattle.vte_read.specs.Terminals.{IsSmall}
 use Rattle.termview.specs.Seen.{seen}
 use Rattle.termview.specs.Standing.{size_of, HoldsAt, Taken}

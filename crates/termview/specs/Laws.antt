@@ -13,7 +13,7 @@ use Rattle.vte.specs.Frames.{IsFrame, IsPart, Leads}
 use Rattle.vt100_forms.specs.Form.{Form, spell}
 use Rattle.vt100_picture.specs.Term.{Size, Term, IsTerm}
 use Rattle.vt100_picture.specs.Apply.{run}
-use Rattle.vt100_read.specs.Laws.{IsSentForm}
+use Rattle.vt100_picture.specs.FormText.{IsSentForm}
 use Rattle.vte_read.specs.Terminals.{IsSmall}
 use Rattle.termview.specs.Step.{view_step, view_steps}
 use Rattle.termview.specs.Seen.{seen}

@@ -15,5 +15,6 @@ pub mod ShownLemmas
 pub mod WriteLemmas
 pub mod RowsLemmas
 pub mod RowTexts
+pub mod FormLists
 mod LendTwo
 mod ParserParts

@@ -9,10 +9,12 @@ use Rattle.vt100_cells.specs.Cell.{CellView}
 use Rattle.vt100_cells.specs.Cells.{cell_at}
 use Rattle.vt100_picture.specs.Term.{Size}
 use Rattle.vt100_picture.specs.Apply.{run}
-use Rattle.vt100_rows.specs.Row.{RowView}
+use Rattle.vt100_rows.specs.Row.{RowView, IsRow}
 use Rattle.vt100_rows.specs.Forms.{formatted, differing}
-use Rattle.vt100_rows.specs.Laws.{IsPlainRow, IsRowDrawn, screen_of}
+use Rattle.vt100_rows.specs.Laws.{IsPlainRow, IsKnownRow, IsSmallRow, IsRowDrawn, screen_of}
+use Rattle.vt100_redraw.specs.Small.{SmallErase, IsSmallPen}
 use Rattle.vt100_rows.proofs.DrawnRows.{row-drawn, difference-drawn}
+use Rattle.vt100_rows.proofs.SentTexts.{lists-forms}
 use Rattle.vt100_sheet.specs.Sheet.{row_at, IsRowOf}
 use Rattle.vt100_sheet.proofs.SheetLemmas.{row_at-by_position, length-rows_by_position}
 use Rattle.vt100_writers.specs.Rows.{is_continued}
@@ -22,7 +24,7 @@ use Rattle.vt100_core.proofs.PictureLemmas.{visible_at-drawn, shown_wraps-drawn}
 use Rattle.vt100_state.specs.State.{State}
 use Rattle.vt100_state.specs.Shown.{shown_state}
 use Rattle.vt100.specs.Writers.{each_formatted, each_diff, rows_formatted, rows_diff}
-use Rattle.vt100.specs.WriterLaws.{IsUnscrolled, IsPlainLine, text_at, EachRowTextLeads, EachRowDifferenceLeads}
+use Rattle.vt100.specs.WriterLaws.{IsUnscrolled, IsPlainLine, IsKnownLine, text_at, EachRowTextLeads, EachRowDifferenceLeads}
 use Rattle.vt100.proofs.ShownLemmas.{cells-are}
 
 -- ---- the text of each row
@@ -103,10 +105,10 @@ and-none false b e = refl
 many : (s : State) → IsUnscrolled s → length s.shown.rows ≡ s.shown.height
 many s h = h.state.shown.sheet.count h.state.drawn
 
-shown-many : (s : State) → IsUnscrolled s → length (visible s.shown) ≡ s.shown.height
+pub shown-many : (s : State) → IsUnscrolled s → length (visible s.shown) ≡ s.shown.height
 shown-many s h = length-rows_by_position (length s.shown.rows) (visible_at s.shown) ∙ many s h
 
-row-is : (s : State) → IsUnscrolled s → (i : ℕ) → i < s.shown.height
+pub row-is : (s : State) → IsUnscrolled s → (i : ℕ) → i < s.shown.height
     → row_at (visible s.shown) i ≡ row_at s.shown.rows i
 row-is s h i l =
     row_at-by_position (length s.shown.rows) (visible_at s.shown) i (omega (arith, l, many s h))
@@ -116,7 +118,7 @@ wraps-are : (s : State) → IsUnscrolled s → (i : ℕ)
     → (shown_state s).wrapped i ≡ (row_at s.shown.rows i).wrapped
 wraps-are s h i = ap (λ (f : ℕ → Bool). f i) (shown_wraps-drawn s.shown h.state.shown h.state.drawn h.offset)
 
-row-of : (s : State) → IsUnscrolled s → (i : ℕ) → i < s.shown.height → IsRowOf s.shown.width (row_at s.shown.rows i)
+pub row-of : (s : State) → IsUnscrolled s → (i : ℕ) → i < s.shown.height → IsRowOf s.shown.width (row_at s.shown.rows i)
 row-of s h i l = h.state.shown.sheet.each i (omega (arith, l, many s h))
 
 not-before : (s : State) → IsUnscrolled s → (whole : Bool) (i : ℕ) → i < s.shown.height
@@ -138,6 +140,25 @@ plain-row s h i p = record {
   proper = h.state.proper.drawn i;
 }
 
+-- a row of which the forms are known
+pub record IsReadyRow (v : RowView) : Type 0 where
+  pub row : IsRow v
+  pub small : IsSmallRow v
+  pub known : IsKnownRow v
+
+pub ready-row : (s : State) → IsUnscrolled s → (i : ℕ) → i < s.shown.height → IsKnownLine ((shown_state s).cell i)
+    → IsReadyRow (row_at s.shown.rows i)
+ready-row s h i l known =
+    let r = row-of s h i l in
+    record {
+      row = r.row;
+      small = record {
+        cols = omega (arith, r.wide, h.state.shown.few_cols);
+        colors = λ k. (h.state.proper.drawn i k).colors;
+      };
+      known = subst (λ (f : ℕ → CellView). (k : ℕ) → Contains (f k).text 0xFFFD → ⊥) (cells-of s h i) known;
+    }
+
 -- ---- where they lead
 
 text-is : (s : State) → IsUnscrolled s → (width i : ℕ) → i < s.shown.height
@@ -153,6 +174,7 @@ text-is s h width i l c =
     ∙ ap (λ x. formatted_text (row_at s.shown.rows i) width i x) (not-before s h whole i l c)
 
 pub row-texts_lead : EachRowTextLeads
+unfolding IsSmallPen SmallErase
 row-texts_lead s width h wide = record {
   count = length-formatted width 0 ((0 == 0) && (width == s.shown.width)) false (visible s.shown) ∙ shown-many s h;
   each = λ i t l c plain at.
@@ -166,6 +188,10 @@ row-texts_lead s width h wide = record {
       record {
         forms = d.forms;
         spelled = text-is s h width i l c;
+        are_forms = λ known.
+            let y = ready-row s h i l known in
+            (lists-forms v y.row y.small y.known (plain-row s h i plain).plain v 0 width i false false _
+            (omega (arith, l, h.state.shown.few_rows)) ((tt, tt), tt)).0;
         pen = d.pen;
         drawn = subst (λ (z : Size). IsRowDrawn i ((shown_state s).cell i) d.pen t (run z d.forms t)) size
             (subst (λ (f : ℕ → CellView). IsRowDrawn i f d.pen t (run (screen_of s.shown.height v) d.forms t))
@@ -187,6 +213,7 @@ difference-is old new o h e width i l =
     ∙ ap (λ n. differing_text (row_at new.shown.rows i) (row_at old.shown.rows i) width n) start
 
 pub row-differences_lead : EachRowDifferenceLeads
+unfolding IsSmallPen SmallErase
 row-differences_lead old new width o h same wide =
     let high : old.shown.height ≡ new.shown.height = ap (λ (z : Size). z.rows) same in
     let broad : old.shown.width ≡ new.shown.width = ap (λ (z : Size). z.cols) same in
@@ -216,6 +243,10 @@ row-differences_lead old new width o h same wide =
           record {
             forms = d.forms;
             spelled = difference-is old new o h high width i l;
+            are_forms = λ known.
+                let y = ready-row new h i l known in
+                (lists-forms v y.row y.small y.known (plain-row new h i plain).plain x 0 width i false false _
+                (omega (arith, l, h.state.shown.few_rows)) ((tt, tt), tt)).1;
             pen = d.pen;
             drawn = subst (λ (z : Size). IsRowDrawn i ((shown_state new).cell i) d.pen t (run z d.forms t)) size
                 (subst (λ (f : ℕ → CellView). IsRowDrawn i f d.pen t (run (screen_of new.shown.height v) d.forms t))

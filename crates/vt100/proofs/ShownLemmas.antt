@@ -65,19 +65,19 @@ redrawn-is s h =
     redrawn-of_picture s.shown (extras_of s) (grid-unscrolled s h)
     ∙ ap (grid_redraw (size_of s.shown)) (sym (picture-is s h))
 
-contents-is : (s : State) → IsUnscrolled s
+pub contents-is : (s : State) → IsUnscrolled s
     → contents_formatted s ≡ picture.contents_formatted (size_of s.shown) (shown_state s)
 unfolding picture.contents_formatted grid_contents_formatted
 contents-is s h =
     ap (λ (d : Drawn). HideCursor s.hidden ∷ ((ClearAttrs ∷ ClearScreen ∷ d.forms) ++ change d.pen.attrs s.attrs))
     (redrawn-is s h)
 
-state-is : (s : State) → IsUnscrolled s
+pub state-is : (s : State) → IsUnscrolled s
     → state_formatted s ≡ picture.state_formatted (size_of s.shown) (shown_state s)
 unfolding picture.state_formatted
 state-is s h = ap (λ (fs : List Form). fs ++ input_mode_formatted (shown_state s)) (contents-is s h)
 
-cursor-is : (s : State) → IsUnscrolled s
+pub cursor-is : (s : State) → IsUnscrolled s
     → cursor_state_formatted s ≡ picture.cursor_state_formatted (size_of s.shown) (shown_state s)
 unfolding picture.cursor_state_formatted
 cursor-is s h =
@@ -101,14 +101,14 @@ differing-is old new o h e =
     ∙ ap (λ (x : Shown). grid_difference z x (picture_of new.shown (extras_of new))) (sym (picture-is old o))
     ∙ ap (λ (x : Shown). grid_difference z (shown_state old) x) (sym (picture-is new h))
 
-changed-is : (old new : State) → IsUnscrolled old → IsUnscrolled new → size_of old.shown ≡ size_of new.shown
+pub changed-is : (old new : State) → IsUnscrolled old → IsUnscrolled new → size_of old.shown ≡ size_of new.shown
     → contents_diff old new ≡ picture.contents_diff (size_of new.shown) (shown_state old) (shown_state new)
 unfolding picture.contents_diff
 changed-is old new o h e =
     ap (λ (d : Drawn). switch HideCursor old.hidden new.hidden ++ d.forms ++ change d.pen.attrs new.attrs)
     (differing-is old new o h e)
 
-all-changed_is : (old new : State) → IsUnscrolled old → IsUnscrolled new → size_of old.shown ≡ size_of new.shown
+pub all-changed_is : (old new : State) → IsUnscrolled old → IsUnscrolled new → size_of old.shown ≡ size_of new.shown
     → state_diff old new ≡ picture.state_diff (size_of new.shown) (shown_state old) (shown_state new)
 unfolding picture.state_diff
 all-changed_is old new o h e =
@@ -136,7 +136,7 @@ screen-drawable s h p =
 
 -- ---- where they lead
 
-shown-is : (s : State) → IsUnscrolled s → IsShown (size_of s.shown) (shown_state s)
+pub shown-is : (s : State) → IsUnscrolled s → IsShown (size_of s.shown) (shown_state s)
 shown-is s h =
     let t = IsTerm-grid s.shown (extras_of s) h.state.shown h.state.drawn in
     subst (IsShown (size_of s.shown)) (sym (picture-is s h)) (record {

@@ -9,4 +9,5 @@ pub mod SgrReading
 pub mod Texts
 pub mod Tries
 pub mod WriterLaws
+pub mod FormLists
 pub mod Writers

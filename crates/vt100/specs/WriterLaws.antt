@@ -10,6 +10,7 @@ use Rattle.vt100_cells.specs.Cell.{CellView, default_cell}
 use Rattle.vt100_picture.specs.Term.{Size, Modes, Shown, Term}
 use Rattle.vt100_picture.specs.Apply.{run}
 use Rattle.vt100_picture.specs.Leads.{Leads}
+use Rattle.vt100_picture.specs.FormText.{AreForms}
 use Rattle.vt100_redraw.specs.declared.pen.Pen.{Pen}
 use Rattle.vt100_rows.specs.Laws.{IsAtRow, IsRowDrawn}
 use Rattle.vt100_writers.specs.Rows.{is_continued}
@@ -88,11 +89,16 @@ EachDifferenceLeads = (old new : State) → IsUnscrolled old → IsUnscrolled ne
 abbrev pub IsPlainLine : (ℕ → CellView) → Type 0
 IsPlainLine f = (k : ℕ) → Contains (f k).text 0xFE0F → ⊥
 
+-- no character of it is U+FFFD, which a terminal doesn't draw
+abbrev pub IsKnownLine : (ℕ → CellView) → Type 0
+IsKnownLine f = (k : ℕ) → Contains (f k).text 0xFFFD → ⊥
+
 -- this text is that of forms by which a terminal t comes to show these cells in row i, and nothing else changes but
 -- cursor, attributes and that row's flag
 pub record DrawsRow (z : Size) (text : List ℕ) (cells : ℕ → CellView) (i : ℕ) (t : Term) : Type 0 where
   pub forms : List Form
   pub spelled : text ≡ spell forms
+  pub are_forms : IsKnownLine cells → AreForms forms
   pub pen : Pen
   pub drawn : IsRowDrawn i cells pen t (run z forms t)
 

@@ -4,6 +4,9 @@ ghost use Rattle.vt100.specs.Laws.{ResizedScreensArePutIn};
 ghost use Rattle.vt100.specs.WriterLaws.{EachRedrawIsOfShown, EachDifferenceIsOfShown, EachScreenIsDrawable};
 ghost use Rattle.vt100.specs.WriterLaws.{EachRedrawLeads, EachDifferenceLeads, EachRowTextLeads};
 ghost use Rattle.vt100.specs.WriterLaws.{EachRowDifferenceLeads};
+ghost use Rattle.vt100.specs.FormLists.{EachModeLeads, EachModeChangeLeads, EachAttributeLeads, EachScreenIsKnown};
+ghost use Rattle.vt100.specs.FormLists.{EachMadeScreenIsKnown, EachListIsSent, EachListIsOfForms, EachRowIsSent};
+ghost use Rattle.vt100.specs.FormLists.{EachRowIsOfForms, EachListIsShort};
 
 /// With callbacks that do nothing, a screen that goes through events and doesn't fail is in the state that these events
 /// make; so a parser that was fed bytes, in whatever pieces, shows what the joined bytes make.
@@ -65,4 +68,37 @@ pub fn texts_of_rows_lead()
 /// the earlier one shows, whatever the rows above are.
 pub fn differences_of_rows_lead()
     ensures { EachRowDifferenceLeads }
+{}
+
+/// What [`input_mode_formatted`](crate::Screen::input_mode_formatted), [`input_mode_diff`](crate::Screen::input_mode_diff)
+/// and [`attributes_formatted`](crate::Screen::attributes_formatted) write leads, from any picture, to the screen's modes
+/// and cursor's style, or to the attributes that are drawn with; and nothing else changes. The first one asks for a mouse
+/// and a style as they are at first, the second one for the modes and the style of the earlier screen.
+pub fn modes_lead()
+    ensures set { EachModeLeads }
+    ensures changed { EachModeChangeLeads }
+    ensures attributes { EachAttributeLeads }
+{}
+
+/// What a live screen without kept rows shows are cells, and so what can be sent, unless U+FFFD stands in one; in those
+/// that bytes and resizes have made it stands in none.
+pub fn screens_are_known()
+    ensures shown { EachScreenIsKnown }
+    ensures made { EachMadeScreenIsKnown }
+{}
+
+/// What each call writes of a screen that is known, or of what differs from an earlier one of its size, is spelled by
+/// forms that writers send: their texts are those of cells, and their numbers are of the code's types. Where no cell
+/// shows U+FE0F they are forms that a screen and a view read alike. So is the text of each row, of whichever columns.
+pub fn lists_are_of_forms()
+    ensures sent { EachListIsSent }
+    ensures forms { EachListIsOfForms }
+    ensures rows_sent { EachRowIsSent }
+    ensures rows { EachRowIsOfForms }
+{}
+
+/// How many bytes the calls write at most: 1,024 for each cell of the screen, and 512 more, with the modes 1,008 more;
+/// and 128 for the modes alone.
+pub fn lists_are_short()
+    ensures { EachListIsShort }
 {}

@@ -10,10 +10,10 @@ use Rattle.vt100_forms.specs.declared.attrs.Color.{Color}
 use Rattle.vt100_forms.specs.declared.attrs.Color.TheVariants.{Default, Idx, Rgb}
 use Rattle.vt100_forms.specs.declared.term.Intensity.{Intensity}
 use Rattle.vt100_forms.specs.declared.term.Intensity.TheVariants.{Normal, Bold, Dim}
-use Rattle.vt100_forms.specs.Attrs.{with_mode}
+use Rattle.vt100_forms.specs.Attrs.{with_mode, IsByteColor}
 use Rattle.vt100_forms.specs.Form.{ClearAttrs, Sgr, Change, color_numbers, color_part, intensity_part, flag_part}
 use Rattle.vt100_forms.specs.Form.{sgr_numbers, with_change, intensity_set, flag_set}
-use Rattle.vt100_forms.specs.Length.{IsByteColor, IsByteOption}
+use Rattle.vt100_forms.specs.Length.{IsByteOption}
 use Rattle.vt100_picture.specs.Apply.{apply}
 use Rattle.vt100_read.specs.Events.{kept_number, sgr_events, events_of}
 use Rattle.vt100_state.specs.State.{State}

@@ -1,21 +1,20 @@
 -- Forms, lists of forms, and their bytes, played.
 use Rattle.std.proofs.Common.{◌≡◌, List, [], ◌∷◌, ◌++◌, refl, sym, ap}
-use Rattle.std.specs.List.{AllByRecursion}
 use Rattle.vte_core.specs.Event.{Event}
 use Rattle.vte_core.specs.Added.{added}
 use Rattle.vt100_forms.specs.Form.{Form, Text, MoveTo, MoveRight, EraseChar, ClearRowForward, ClearScreen, ClearAttrs}
 use Rattle.vt100_forms.specs.Form.{Crlf, Lf, Backspace, SaveCursor, RestoreCursor, HideCursor, Keypad, CursorKeys}
 use Rattle.vt100_forms.specs.Form.{Paste, Mouse, Encoding, Style, Sgr, spell}
 use Rattle.vt100_picture.specs.Apply.{apply, run}
+use Rattle.vt100_picture.proofs.FormTexts.{forms-sent}
 use Rattle.vt100_read.specs.Events.{events_of, events_of_all}
-use Rattle.vt100_read.specs.Laws.{IsSentForm}
 use Rattle.vt100_read.proofs.ReadForms.{list-read}
 use Rattle.vt100_read.proofs.SentTexts.{forms-readable}
 use Rattle.vt100_state.specs.State.{State}
 use Rattle.vt100_state.specs.Effect.{effect}
 use Rattle.vt100_state.specs.Made.{played, events_added}
 use Rattle.vt100_agree.specs.Plain.{terminal_of, screen_of}
-use Rattle.vt100_agree.specs.Laws.{IsForm, EachFormIsPlayed, EachListIsPlayed, EachSpellingIsMade}
+use Rattle.vt100_agree.specs.Laws.{EachFormIsPlayed, EachListIsPlayed, EachSpellingIsMade}
 use Rattle.vt100_agree.proofs.PlainStates.{shows-at, shows-same, shows-then}
 use Rattle.vt100_agree.proofs.Cursors.{shows-MoveTo, shows-MoveRight, shows-Backspace, shows-SaveCursor}
 use Rattle.vt100_agree.proofs.Cursors.{shows-RestoreCursor}
@@ -63,32 +62,6 @@ list-played s (x ∷ fs) h f =
     shows-at s (played (events_of x ++ events_of_all fs) s) v t w (played-joined (events_of x) (events_of_all fs) s)
     (sym (λ i. run (one.size i) fs (one.shows i)))
     (shows-then s u v (apply (screen_of s) x (terminal_of s)) w one (list-played u fs one.plain f.1))
-
-form-sent : (f : Form) → IsForm f → IsSentForm f
-form-sent (Text cs) h = (h.0.sent, h.1)
-form-sent (MoveTo r c) h = h
-form-sent (MoveRight n) h = h
-form-sent (EraseChar n) h = h
-form-sent ClearRowForward h = h
-form-sent ClearScreen h = h
-form-sent ClearAttrs h = h
-form-sent Crlf h = h
-form-sent Lf h = h
-form-sent Backspace h = h
-form-sent SaveCursor h = h
-form-sent RestoreCursor h = h
-form-sent (HideCursor b) h = h
-form-sent (Keypad b) h = h
-form-sent (CursorKeys b) h = h
-form-sent (Paste b) h = h
-form-sent (Mouse to from) h = h
-form-sent (Encoding to from) h = h
-form-sent (Style to from) h = h
-form-sent (Sgr c) h = h
-
-pub forms-sent : (fs : List Form) → AllByRecursion IsForm fs → AllByRecursion IsSentForm fs
-forms-sent [] h = tt
-forms-sent (f ∷ fs) h = (form-sent f h.0, forms-sent fs h.1)
 
 pub spelling-made : EachSpellingIsMade
 unfolding added

@@ -16,7 +16,7 @@ use Rattle.vt100_picture.specs.Apply.{with_line, erase, print, join, down, wrap,
 use Rattle.vt100_picture.specs.Apply.{switched, apply, run}
 use Rattle.vt100_read.specs.Events.{events_of, events_of_all}
 use Rattle.vt100_read.proofs.ReadForms.{list-read}
-use Rattle.vt100_read.specs.Laws.{IsSentForm}
+use Rattle.vt100_picture.specs.FormText.{IsSentForm}
 use Rattle.vt100_read.proofs.SentTexts.{forms-readable}
 use Rattle.vt100_state.specs.State.{State}
 use Rattle.vt100_state.specs.Made.{played}

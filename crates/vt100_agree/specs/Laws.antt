@@ -2,24 +2,14 @@
 use Rattle.std.specs.Prelude.{ℕ, ◌≡◌, ◌<◌, ◌^◌, true, List, [], ◌∷◌, ◌++◌}
 use Rattle.std.specs.List.{AllByRecursion}
 use Rattle.vte_core.specs.Ground.{AtGround}
-use Rattle.vt100_forms.specs.Form.{Form, Text, spell}
-use Rattle.vt100_forms.specs.Length.{HasSmallNumbers}
-use Rattle.vt100_picture.specs.FormText.{IsFormText}
+use Rattle.vt100_forms.specs.Form.{Form, spell}
+use Rattle.vt100_picture.specs.FormText.{IsForm, IsSentForm}
 use Rattle.vt100_picture.specs.Term.{Term, blank_term}
 use Rattle.vt100_picture.specs.Apply.{apply, run}
 use Rattle.vt100_read.specs.Events.{events_of, events_of_all}
-use Rattle.vt100_read.specs.Laws.{IsSentForm}
 use Rattle.vt100_state.specs.State.{State, IsState, is_plain, fresh_state}
 use Rattle.vt100_state.specs.Made.{Fed, played, made_on}
 use Rattle.vt100_agree.specs.Plain.{terminal_of, screen_of, IsPlainState}
-
-abbrev pub HasFormText : Form → Type 0
-HasFormText (Text cs) = IsFormText cs
-HasFormText _ = Unit {0}
-
--- its text is a form text, and its numbers are of the code's types
-abbrev pub IsForm : Form → Type 0
-IsForm f = HasFormText f × HasSmallNumbers f
 
 -- u is a plain state, as large as s, that shows t
 pub record Shows (s : State) (t : Term) (u : State) : Type 0 where

@@ -18,3 +18,4 @@ pub mod BasicLemmas
 pub mod InputTexts
 pub mod WriterLemmas
 pub mod PictureWriters
+pub mod FormLists

@@ -221,7 +221,7 @@ differing-of_pictures g old x y h o e =
 
 -- ---- where they lead
 
-shown-grid : (g : GridView) (x : Extras) → IsUnscrolled g → IsShown (size_of g) (picture_of g x)
+pub shown-grid : (g : GridView) (x : Extras) → IsUnscrolled g → IsShown (size_of g) (picture_of g x)
 shown-grid g x h =
     let t = IsTerm-grid g x h.grid h.some in
     record {
@@ -239,7 +239,7 @@ shown-grid g x h =
       saved_in_cols = omega arith;
     }
 
-lines-cells : (g : GridView) (r k : ℕ) → IsGrid g → IsCell (lines_of g.rows r k)
+pub lines-cells : (g : GridView) (r k : ℕ) → IsGrid g → IsCell (lines_of g.rows r k)
 lines-cells g r k h =
     elim (cases_lt r (length g.rows)) [
       | inl l ↦ (h.sheet.each r l).row.cells k
@@ -255,7 +255,7 @@ grid-drawable g x h = record {
 }
 
 -- nothing beside the grid
-abbrev plain_extras : Extras
+abbrev pub plain_extras : Extras
 plain_extras = record {
   hidden = false;
   attrs = default_attrs;
@@ -264,7 +264,7 @@ plain_extras = record {
   style = blank_shown.style;
 }
 
-contents-is : (g : GridView) → redrawn g ≡ grid_redraw (size_of g) (drawn_on g)
+pub contents-is : (g : GridView) → redrawn g ≡ grid_redraw (size_of g) (drawn_on g)
     → contents_formatted g ≡ grid_contents_formatted (size_of g) (drawn_on g)
 unfolding grid_contents_formatted
 contents-is g e = ap (λ (d : Drawn). ClearAttrs ∷ ClearScreen ∷ d.forms) e

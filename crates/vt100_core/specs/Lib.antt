@@ -12,6 +12,7 @@ pub mod Text
 pub mod Picture
 pub mod Writers
 pub mod WriterLaws
+pub mod FormLists
 pub use Rattle.vt100_forms.specs.Attrs
 pub use Rattle.vt100_cells.specs.Cell
 pub use Rattle.vt100_cells.specs.Cells

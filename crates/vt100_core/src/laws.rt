@@ -4,6 +4,7 @@ ghost use Rattle.vt100_core.specs.Picture.{EachPrintIsInput, EachTextIsInput};
 ghost use Rattle.vt100_core.specs.WriterLaws.{EachCursorIsOfPicture, EachRedrawIsOfPicture, EachDifferenceIsOfPictures};
 ghost use Rattle.vt100_core.specs.WriterLaws.{EachGridIsDrawable, EachRedrawIsDrawn, EachDifferenceIsDrawn};
 ghost use Rattle.vt100_core.specs.WriterLaws.{EachCursorIsDrawn};
+ghost use Rattle.vt100_core.specs.FormLists.{EachListIsSent, EachListIsOfForms, EachListIsShort};
 
 /// Which row stands where after [`Grid::set_size`](crate::Grid::set_size), counted from the top: rows that come back,
 /// blank ones above them where they weren't kept, then the rows that stood on the screen and stay, and blank ones
@@ -69,4 +70,17 @@ pub fn differences_lead()
 /// else.
 pub fn cursors_lead()
     ensures { EachCursorIsDrawn }
+{}
+
+/// What the three calls append for a grid that shows no kept row and no U+FFFD are lists of forms that writers send:
+/// their texts are those of cells, and their numbers are of the code's types. Where no cell shows U+FE0F they are forms
+/// that a screen and a view read alike.
+pub fn lists_are_of_forms()
+    ensures sent { EachListIsSent }
+    ensures forms { EachListIsOfForms }
+{}
+
+/// A redraw and a difference take at most 1,024 bytes for each cell of the screen, and 256 more.
+pub fn lists_are_short()
+    ensures { EachListIsShort }
 {}

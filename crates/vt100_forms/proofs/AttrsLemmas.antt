@@ -139,6 +139,9 @@ setters_are_read a h = record {
   inverse = λ b. inverse_flags b a h;
 }
 
+pub default-proper : IsProper default_attrs
+default-proper = record { small = omega arith; one = refl; colors = (tt, tt) }
+
 -- bold and dim at once
 strong : List Bool → Bool
 strong (b ∷ d ∷ _) = b && d
@@ -185,10 +188,12 @@ unfolding of_mode strong
 italic-proper true a h = record {
   small = ltb-true _ _ (all_below-at 32 _ small_italic_true a.mode h.small);
   one = ap strong (italic_flags true a (omega (arith, h.small))) ∙ h.one;
+  colors = h.colors;
 }
 italic-proper false a h = record {
   small = ltb-true _ _ (all_below-at 32 _ small_italic_false a.mode h.small);
   one = ap strong (italic_flags false a (omega (arith, h.small))) ∙ h.one;
+  colors = h.colors;
 }
 
 underline-proper : (b : Bool) (a : Attrs) → IsProper a → IsProper (with_underline b a)
@@ -196,10 +201,12 @@ unfolding of_mode strong
 underline-proper true a h = record {
   small = ltb-true _ _ (all_below-at 32 _ small_underline_true a.mode h.small);
   one = ap strong (underline_flags true a (omega (arith, h.small))) ∙ h.one;
+  colors = h.colors;
 }
 underline-proper false a h = record {
   small = ltb-true _ _ (all_below-at 32 _ small_underline_false a.mode h.small);
   one = ap strong (underline_flags false a (omega (arith, h.small))) ∙ h.one;
+  colors = h.colors;
 }
 
 inverse-proper : (b : Bool) (a : Attrs) → IsProper a → IsProper (with_inverse b a)
@@ -207,10 +214,12 @@ unfolding of_mode strong
 inverse-proper true a h = record {
   small = ltb-true _ _ (all_below-at 32 _ small_inverse_true a.mode h.small);
   one = ap strong (inverse_flags true a (omega (arith, h.small))) ∙ h.one;
+  colors = h.colors;
 }
 inverse-proper false a h = record {
   small = ltb-true _ _ (all_below-at 32 _ small_inverse_false a.mode h.small);
   one = ap strong (inverse_flags false a (omega (arith, h.small))) ∙ h.one;
+  colors = h.colors;
 }
 
 pub setters_keep_proper : EachSetterKeepsProper
@@ -218,11 +227,20 @@ unfolding of_mode strong
 setters_keep_proper a h =
     let read : SettersAreRead a = setters_are_read a (omega (arith, h.small)) in
     record {
-      bold = record { small = ltb-true _ _ (all_below-at 32 _ small_bold a.mode h.small); one = ap strong read.bold };
-      dim = record { small = ltb-true _ _ (all_below-at 32 _ small_dim a.mode h.small); one = ap strong read.dim };
+      bold = record {
+        small = ltb-true _ _ (all_below-at 32 _ small_bold a.mode h.small);
+        one = ap strong read.bold;
+        colors = h.colors;
+      };
+      dim = record {
+        small = ltb-true _ _ (all_below-at 32 _ small_dim a.mode h.small);
+        one = ap strong read.dim;
+        colors = h.colors;
+      };
       normal = record {
         small = ltb-true _ _ (all_below-at 32 _ small_normal a.mode h.small);
         one = ap strong read.normal;
+        colors = h.colors;
       };
       italic = λ b. italic-proper b a h;
       underline = λ b. underline-proper b a h;

@@ -14,14 +14,14 @@ use Rattle.vt100_forms.specs.declared.modes.MouseProtocolEncoding.{MouseProtocol
 use Rattle.vt100_forms.specs.declared.modes.MouseProtocolEncoding.TheVariants as encoding
 use Rattle.vt100_forms.specs.declared.modes.CursorStyle.{CursorStyle}
 use Rattle.vt100_forms.specs.declared.modes.CursorStyle.TheVariants as style
-use Rattle.vt100_forms.specs.Attrs.{default_attrs, color_eq, attrs_eq}
+use Rattle.vt100_forms.specs.Attrs.{default_attrs, color_eq, attrs_eq, IsByteColor}
 use Rattle.vt100_forms.specs.Form.{Form, Text, MoveTo, MoveRight, EraseChar, ClearRowForward, ClearScreen, ClearAttrs}
 use Rattle.vt100_forms.specs.Form.{Crlf, Lf, Backspace, SaveCursor, RestoreCursor, HideCursor, Keypad, CursorKeys}
 use Rattle.vt100_forms.specs.Form.{Paste, Mouse, Encoding, Style, Sgr, Change, spelling, spell, changed_attrs}
 use Rattle.vt100_forms.specs.Form.{changed_color, counted, mode_change, mouse_number, encoding_number, style_number}
 use Rattle.vt100_forms.specs.Form.{color_numbers, color_part, intensity_part, flag_part, sgr_numbers, sgr_text}
 use Rattle.vt100_forms.specs.Form.{further_numbers}
-use Rattle.vt100_forms.specs.Length.{IsByteColor, IsByteOption, EachSpellingIsShort, EachMoveIsShort, EachChangeIsShort}
+use Rattle.vt100_forms.specs.Length.{IsByteOption, EachSpellingIsShort, EachMoveIsShort, EachChangeIsShort}
 
 digits-1 : (n : ℕ) → n < 10 → length (decimal n) ≤ 1
 digits-1 n h = length-decimal-le 1 n (omega arith) h (omega arith)

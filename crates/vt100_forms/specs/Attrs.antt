@@ -61,10 +61,20 @@ abbrev pub with_inverse : Bool → Attrs → Attrs
 with_inverse true a = with_mode a (bit_or a.mode 16)
 with_inverse false a = with_mode a (bit_and a.mode 239)
 
--- attributes as a terminal's own calls make them: no bit without a meaning, and not both bold and dim
+-- the numbers of a colour are bytes
+abbrev pub IsByteColor : Color → Type 0
+IsByteColor Default = Unit {0}
+IsByteColor (Idx i) = i < 2 ^ 8
+IsByteColor (Rgb r g b) = (r < 2 ^ 8) × (g < 2 ^ 8) × (b < 2 ^ 8)
+
+abbrev pub HasByteColors : Attrs → Type 0
+HasByteColors a = IsByteColor a.fgcolor × IsByteColor a.bgcolor
+
+-- attributes as a terminal's own calls make them: no bit without a meaning, not both bold and dim, and colours of bytes
 pub record IsProper (a : Attrs) : Type 0 where
   pub small : a.mode < 32
   pub one : (is_bold a && is_dim a) ≡ false
+  pub colors : HasByteColors a
 
 -- bold, dim, italic, underlined and inverse
 abbrev pub flags_of : Attrs → List Bool

@@ -1,22 +1,14 @@
 -- How long the spelling of a form can be.
 use Rattle.std.specs.Prelude.{ℕ, ◌^◌, ◌<◌, ◌≤◌, length, encode_utf8_all, Option, Some, None}
 use Rattle.vt100_forms.specs.declared.attrs.Color.{Color}
-use Rattle.vt100_forms.specs.declared.attrs.Color.TheVariants.{Default, Idx, Rgb}
 use Rattle.vt100_forms.specs.declared.attrs.Attrs.{Attrs}
 use Rattle.vt100_forms.specs.declared.position.Pos.{Pos}
+use Rattle.vt100_forms.specs.Attrs.{IsByteColor, HasByteColors}
 use Rattle.vt100_forms.specs.Form.{Form, Text, MoveTo, MoveRight, EraseChar, ClearRowForward, ClearScreen, ClearAttrs}
 use Rattle.vt100_forms.specs.Form.{Crlf, Lf, Backspace, SaveCursor, RestoreCursor, HideCursor, Keypad, CursorKeys}
 use Rattle.vt100_forms.specs.Form.{Paste, Mouse, Encoding, Style, Sgr, spelling, spell, change, moves}
 
--- the numbers are those of a `Color`, an `Attrs` or a `Pos`
-abbrev pub IsByteColor : Color → Type 0
-IsByteColor Default = Unit {0}
-IsByteColor (Idx i) = i < 2 ^ 8
-IsByteColor (Rgb r g b) = (r < 2 ^ 8) × (g < 2 ^ 8) × (b < 2 ^ 8)
-
-abbrev pub HasByteColors : Attrs → Type 0
-HasByteColors a = IsByteColor a.fgcolor × IsByteColor a.bgcolor
-
+-- the numbers are those of a `Pos`
 abbrev pub IsShortPos : Pos → Type 0
 IsShortPos p = (p.row < 2 ^ 16) × (p.col < 2 ^ 16)
 

@@ -9,7 +9,7 @@ pub fn setters_are_read()
     ensures { EachSetterIsRead }
 {}
 
-/// The setters keep attributes proper: with no bit that has no meaning, and not both bold and dim.
+/// The setters keep attributes proper: with no bit that has no meaning, not both bold and dim, and with colours of bytes.
 pub fn setters_keep_proper()
     ensures { EachSetterKeepsProper }
 {}

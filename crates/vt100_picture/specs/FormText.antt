@@ -1,9 +1,13 @@
--- The texts of cells that writers send.
+-- What a form may be: which texts of cells writers send, and which numbers.
 use Rattle.std.specs.Prelude.{ℕ, ◌<◌, List, length, All, Contains}
 use Rattle.std.specs.Char.{IsScalar}
-use Rattle.vt100_forms.specs.Form.{Text}
+use Rattle.std.specs.List.{AllByRecursion}
+use Rattle.vt100_forms.specs.Form.{Form, Text}
+use Rattle.vt100_forms.specs.Length.{HasSmallNumbers}
 use Rattle.vt100_forms.specs.Mark.{HasPlainText}
 use Rattle.vt100_cells.specs.Cell.{CellView, IsCell, IsCellText, IsShort}
+
+-- ---- texts
 
 -- a drawn character of one or two columns, which isn't U+FFFD, and then zero-width ones, each put on while there were
 -- fewer than 18 bytes
@@ -19,6 +23,32 @@ pub record IsFormText (cs : List ℕ) : Type 0 where
   pub sent : IsSentText cs
   pub plain : Contains cs 0xFE0F → ⊥
 
+-- ---- forms
+
+-- a form whose text, if it has one, is as P says
+abbrev pub HasText : (List ℕ → Type 0) → Form → Type 0
+HasText P (Text cs) = P cs
+HasText P _ = Unit {0}
+
+abbrev pub AllTexts : (List ℕ → Type 0) → List Form → Type 0
+AllTexts P fs = AllByRecursion (HasText P) fs
+
+-- what writers send: a text that a cell can show, and numbers of the code's types
+abbrev pub IsSentForm : Form → Type 0
+IsSentForm f = HasText IsSentText f × HasSmallNumbers f
+
+-- the same without U+FE0F
+abbrev pub IsForm : Form → Type 0
+IsForm f = HasText IsFormText f × HasSmallNumbers f
+
+abbrev pub AreSentForms : List Form → Type 0
+AreSentForms fs = AllByRecursion IsSentForm fs
+
+abbrev pub AreForms : List Form → Type 0
+AreForms fs = AllByRecursion IsForm fs
+
+-- ---- what is true of them
+
 -- such a text holds no ESC
 abbrev pub EachTextIsPlain : Type 0
 EachTextIsPlain = (cs : List ℕ) → IsSentText cs → HasPlainText (Text cs)
@@ -26,3 +56,10 @@ EachTextIsPlain = (cs : List ℕ) → IsSentText cs → HasPlainText (Text cs)
 -- what a cell shows is such a text, but for U+FFFD
 abbrev pub EachCellIsSent : Type 0
 EachCellIsSent = (x : CellView) → IsCell x → 0 < length x.text → (Contains x.text 0xFFFD → ⊥) → IsSentText x.text
+
+-- a form is one that writers send, and the text in one of those holds no ESC
+abbrev pub EachFormIsSent : Type 0
+EachFormIsSent = (f : Form) → IsForm f → IsSentForm f
+
+abbrev pub EachSentFormIsPlain : Type 0
+EachSentFormIsPlain = (f : Form) → IsSentForm f → HasPlainText f

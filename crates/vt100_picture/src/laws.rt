@@ -1,6 +1,6 @@
 //! Facts about forms and pictures as wholes. Each function does nothing: its contract is the fact.
 ghost use Rattle.vt100_picture.specs.Examples.{EachExampleHolds};
-ghost use Rattle.vt100_picture.specs.FormText.{EachCellIsSent, EachTextIsPlain};
+ghost use Rattle.vt100_picture.specs.FormText.{EachCellIsSent, EachTextIsPlain, EachFormIsSent, EachSentFormIsPlain};
 ghost use Rattle.vt100_picture.specs.Laws.{EachEmptyFormIsIdle, EachFormKeepsTerminals, EachListJoins, EachPathJoins};
 ghost use Rattle.vt100_picture.specs.Laws.{EachMoveLeads, EachChangeIsRead, EachCellIsPrinted, EachUntouchedCellStays};
 
@@ -53,6 +53,12 @@ pub fn cells_are_sent()
 /// The text of a cell holds no ESC.
 pub fn texts_are_plain()
     ensures { EachTextIsPlain }
+{}
+
+/// A form whose text has no U+FE0F is one that writers send, and the text in one of those holds no ESC.
+pub fn forms_are_sent()
+    ensures sent { EachFormIsSent }
+    ensures plain { EachSentFormIsPlain }
 {}
 
 /// What some lists of forms make of small screens.

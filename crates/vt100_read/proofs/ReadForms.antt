@@ -30,7 +30,8 @@ use Rattle.vt100_forms.specs.Form.{Crlf, Lf, Backspace, SaveCursor, RestoreCurso
 use Rattle.vt100_forms.specs.Form.{Paste, Mouse, Encoding, Style, Sgr, Change, csi, counted}
 use Rattle.vt100_forms.specs.Form.{mode_change, mouse_number, encoding_number, style_number, color_numbers, color_part}
 use Rattle.vt100_forms.specs.Form.{intensity_part, flag_part, sgr_numbers, sgr_text, further_numbers, spelling, spell}
-use Rattle.vt100_forms.specs.Length.{IsByteColor, IsByteOption}
+use Rattle.vt100_forms.specs.Attrs.{IsByteColor}
+use Rattle.vt100_forms.specs.Length.{IsByteOption}
 use Rattle.vt100_read.specs.Events.{sequence, bare, counted_events, mode_events, sgr_events}
 use Rattle.vt100_read.specs.Events.{events_of, events_of_all}
 use Rattle.vt100_read.specs.Laws.{IsPrinted, IsReadable, IsReadAs, EachFormIsRead, EachListIsRead}

@@ -12,7 +12,8 @@ use Rattle.vt100_cells.specs.Cell.{columns_of, is_undrawable, IsCellText}
 use Rattle.vt100_forms.specs.Form.{Form, Text, MoveTo, MoveRight, EraseChar, ClearRowForward, ClearScreen, ClearAttrs}
 use Rattle.vt100_forms.specs.Form.{Crlf, Lf, Backspace, SaveCursor, RestoreCursor, HideCursor, Keypad, CursorKeys}
 use Rattle.vt100_forms.specs.Form.{Paste, Mouse, Encoding, Style, Sgr}
-use Rattle.vt100_read.specs.Laws.{IsPrinted, IsReadable, IsSentForm, EachSentTextIsPrinted, EachSentFormIsReadable}
+use Rattle.vt100_picture.specs.FormText.{IsSentForm}
+use Rattle.vt100_read.specs.Laws.{IsPrinted, IsReadable, EachSentTextIsPrinted, EachSentFormIsReadable}
 
 control_width : (c : ℕ) → (nat_lt c 0x20 || is_in_range 0x80 0x9F c) ≡ true → char_width false c ≡ None
 unfolding char_width

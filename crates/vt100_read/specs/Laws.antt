@@ -9,7 +9,7 @@ use Rattle.vte_core.specs.Added.{added}
 use Rattle.vte_core.specs.Ground.{AtGround}
 use Rattle.vt100_forms.specs.Form.{Form, Text, spelling, spell}
 use Rattle.vt100_forms.specs.Length.{HasSmallNumbers}
-use Rattle.vt100_picture.specs.FormText.{IsSentText}
+use Rattle.vt100_picture.specs.FormText.{IsSentText, IsSentForm}
 use Rattle.vt100_read.specs.Events.{events_of, events_of_all}
 
 -- a parser prints the character: it is no control, in ASCII or from U+0080 to U+009F
@@ -23,16 +23,6 @@ HasPrintedText _ = Unit {0}
 -- its text is printed, and its numbers are of the code's types
 abbrev pub IsReadable : Form → Type 0
 IsReadable f = HasPrintedText f × HasSmallNumbers f
-
--- ---- what writers send
-
-abbrev pub HasSentText : Form → Type 0
-HasSentText (Text cs) = IsSentText cs
-HasSentText _ = Unit {0}
-
--- its text is one that a cell can show, and its numbers are of the code's types
-abbrev pub IsSentForm : Form → Type 0
-IsSentForm f = HasSentText f × HasSmallNumbers f
 
 -- ---- what a parser makes of it
 

@@ -2,6 +2,7 @@ pub mod ClosingWrites
 pub mod Columns
 pub mod ColumnsWrites
 pub mod QuietColumns
+pub mod DrawnTexts
 pub mod Examples
 pub mod RunColumn
 pub mod KeptRows
@@ -17,6 +18,7 @@ pub mod RowRedraw
 pub mod RowStart
 pub mod RowWrites
 pub mod RunWrites
+pub mod SmallRows
 pub mod Steps
 pub mod Texts
 pub mod Touches

@@ -3,6 +3,7 @@ pub mod Examples
 pub mod Laws
 pub mod RowWriter
 pub mod Scene
+pub mod Small
 pub mod Texts
 pub mod Writer
 pub mod Writes

@@ -2,6 +2,7 @@
 ghost use Rattle.vt100_redraw.specs.Examples.{EachExampleIsWritten};
 ghost use Rattle.vt100_redraw.specs.Laws.{EachDifferenceLeads, EachRedrawLeads, EachKeptRowIsLeft, EachTextIsDrawn};
 ghost use Rattle.vt100_redraw.specs.Laws.{EachDifferenceIsLocal};
+ghost use Rattle.vt100_redraw.specs.Small.{EachNumberIsSmall};
 
 /// A terminal that shows an earlier row, and reads the difference, shows the present one. It has the row's flag, or the
 /// cursor waits at the row's end and the next row sets it; the flag of the row above is set if that one goes on.
@@ -27,6 +28,12 @@ pub fn differences_are_local()
 /// Redraws and differences set no mode and no style, and their texts are spaces and texts of the row's cells.
 pub fn texts_are_drawn()
     ensures { EachTextIsDrawn }
+{}
+
+/// The numbers of the forms are of the code's types where those of the row and of the pen are, and so are the pen's
+/// then.
+pub fn numbers_are_small()
+    ensures { EachNumberIsSmall }
 {}
 
 /// What is written for some small rows.

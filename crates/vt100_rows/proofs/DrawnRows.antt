@@ -1,18 +1,19 @@
 -- What the forms of a whole row do to a terminal.
-use Rattle.std.proofs.Common.{◌≡◌, ℕ, ◌-◌, ◌<◌, ◌≤◌, Bool, true, false, List, [], length, min, Option, None, refl}
+use Rattle.std.proofs.Common.{◌≡◌, ℕ, ◌-◌, ◌<◌, ◌≤◌, Bool, true, false, [], length, min, Option, None, refl}
 use Rattle.std.proofs.Common.{arith}
-use Rattle.std.proofs.Common.{sym, ap, ◌∙◌, subst, cond, inl, inr, ◌⊎◌}
+use Rattle.std.proofs.Common.{sym, ap, ◌∙◌, subst, cond, inl, inr}
 use Rattle.std.specs.Prelude.{unwrap_or}
 use Rattle.std.proofs.lemmas.Bool.{false≢true, lt-ltb}
 use mathlib.Core.Path.{fun_ext}
 use Rattle.vt100_forms.specs.declared.attrs.Attrs.{Attrs}
 use Rattle.vt100_forms.specs.declared.position.Pos.{Pos}
-use Rattle.vt100_forms.specs.Attrs.{IsProper, default_attrs}
-use Rattle.vt100_cells.specs.Cell.{CellView, default_cell}
+use Rattle.vt100_forms.specs.Attrs.{default_attrs}
+use Rattle.vt100_forms.proofs.AttrsLemmas.{default-proper}
+use Rattle.vt100_cells.specs.Cell.{CellView}
 use Rattle.vt100_cells.specs.Cells.{cell_at}
 use Rattle.vt100_cells.proofs.ListLemmas.{Bounded-row}
 use Rattle.vt100_picture.specs.Position.{update}
-use Rattle.vt100_picture.specs.Term.{Size, Term}
+use Rattle.vt100_picture.specs.Term.{Term}
 use Rattle.vt100_picture.specs.Apply.{run}
 use Rattle.vt100_picture.proofs.Positions.{update-same, update-other, update-kept}
 use Rattle.vt100_redraw.specs.declared.pen.Pen.{Pen}
@@ -23,10 +24,7 @@ use Rattle.vt100_redraw.proofs.RowRedraw.{redraw-leads}
 use Rattle.vt100_redraw.proofs.RowStart.{difference-leads}
 use Rattle.vt100_rows.specs.Row.{RowView, IsRow}
 use Rattle.vt100_rows.specs.Forms.{redraw_job, redraw, pen_at, formatted, difference_job, difference, differing}
-use Rattle.vt100_rows.specs.Laws.{screen_of, IsPlainRow, IsAtRow, IsRowDrawn, EachRowIsDrawn, EachDifferenceIsDrawn}
-
-default-proper : IsProper default_attrs
-default-proper = record { small = omega arith; one = refl }
+use Rattle.vt100_rows.specs.Laws.{screen_of, IsPlainRow, IsRowDrawn, EachRowIsDrawn, EachDifferenceIsDrawn}
 
 -- the pen at the start of a row
 abbrev starting : ℕ → Pen

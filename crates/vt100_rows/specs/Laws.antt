@@ -1,16 +1,17 @@
 -- What the forms of a whole row do to a terminal.
-use Rattle.std.specs.Prelude.{ℕ, ◌≡◌, ◌<◌, ◌≤◌, Bool, false, List, ◌++◌, length, Contains, Option, Some, unwrap_or}
+use Rattle.std.specs.Prelude.{ℕ, ◌≡◌, ◌^◌, ◌<◌, ◌≤◌, Bool, false, List, ◌++◌, length, Contains, Option, Some, unwrap_or}
 use Rattle.vt100_forms.specs.declared.attrs.Attrs.{Attrs}
 use Rattle.vt100_forms.specs.declared.position.Pos.{Pos}
-use Rattle.vt100_forms.specs.Attrs.{IsProper, default_attrs}
+use Rattle.vt100_forms.specs.Attrs.{IsProper, HasByteColors, default_attrs}
 use Rattle.vt100_forms.specs.Form.{Form, spell}
 use Rattle.vt100_forms.specs.Mark.{mark_head}
 use Rattle.vt100_cells.specs.Cell.{CellView, default_cell}
 use Rattle.vt100_cells.specs.Cells.{cell_at}
 use Rattle.vt100_picture.specs.Term.{Size, Term}
 use Rattle.vt100_picture.specs.Apply.{run}
-use Rattle.vt100_picture.specs.FormText.{IsSentText, IsFormText}
+use Rattle.vt100_picture.specs.FormText.{IsSentText, IsFormText, AreForms, AreSentForms}
 use Rattle.vt100_redraw.specs.declared.pen.Pen.{Pen}
+use Rattle.vt100_redraw.specs.Small.{IsSmallPen}
 use Rattle.vt100_redraw.specs.Texts.{AllDrawing}
 use Rattle.vt100_rows.specs.Row.{RowView, IsRow}
 use Rattle.vt100_rows.specs.Forms.{redraw, formatted, difference, differing}
@@ -95,3 +96,24 @@ HasNoMark fs = (xs ys : List ℕ) → spell fs ≡ xs ++ (mark_head ++ ys) → �
 
 abbrev pub EachHasNoMark : Type 0
 EachHasNoMark = (v : RowView) → IsRow v → IsKnownRow v → IsTrueOfForms HasNoMark v
+
+-- ---- lists of forms
+
+-- a row whose numbers are of the code's types
+pub record IsSmallRow (v : RowView) : Type 0 where
+  pub cols : length v.cells < 2 ^ 16
+  pub colors : (k : ℕ) → HasByteColors (cell_at v.cells k).attrs
+
+-- the same of Q, where those of the place and of the pen are, too
+abbrev pub IsTrueOfSmallForms : (List Form → Type 0) → RowView → Type 0
+IsTrueOfSmallForms Q v = (earlier : RowView) (start width row : ℕ) (above was_above : Bool) (p : Pen) → row < 2 ^ 16
+    → IsSmallPen p
+    → Q (redraw v start width row above p).forms × Q (difference v earlier start width row above was_above p).forms
+
+-- then they are forms that writers send; and where no cell has U+FE0F, such as every reader takes alike
+abbrev pub EachListIsSent : Type 0
+EachListIsSent = (v : RowView) → IsRow v → IsSmallRow v → IsKnownRow v → IsTrueOfSmallForms AreSentForms v
+
+abbrev pub EachListIsOfForms : Type 0
+EachListIsOfForms = (v : RowView) → IsRow v → IsSmallRow v → IsKnownRow v
+    → ((k : ℕ) → Contains (cell_at v.cells k).text 0xFE0F → ⊥) → IsTrueOfSmallForms AreForms v

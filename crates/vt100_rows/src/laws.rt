@@ -1,7 +1,7 @@
 //! Facts about rows. Each function does nothing: its contract is the fact.
 ghost use Rattle.vt100_rows.specs.Examples.{EachExampleIsWritten};
 ghost use Rattle.vt100_rows.specs.Laws.{EachRowIsDrawn, EachDifferenceIsDrawn, EachTextIsSent};
-ghost use Rattle.vt100_rows.specs.Laws.{EachTextIsAForm, EachHasNoMark};
+ghost use Rattle.vt100_rows.specs.Laws.{EachTextIsAForm, EachHasNoMark, EachListIsSent, EachListIsOfForms};
 
 /// A terminal whose cursor stands at the start of a blank row, and that reads what
 /// [`write_contents_formatted`](crate::Row::write_contents_formatted) appends for a whole row, shows this row there;
@@ -24,6 +24,13 @@ pub fn texts_are_sent()
 /// If no cell has U+FE0F either, no text that is printed has it.
 pub fn texts_are_forms()
     ensures { EachTextIsAForm }
+{}
+
+/// With numbers of the code's types, the forms of any part of a row are such as writers send; if no cell has U+FE0F,
+/// such as a screen and a view read alike.
+pub fn lists_are_of_forms()
+    ensures sent { EachListIsSent }
+    ensures forms { EachListIsOfForms }
 {}
 
 /// No mark of a synchronized update stands in what is appended.

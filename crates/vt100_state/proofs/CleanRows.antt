@@ -19,8 +19,7 @@ use Rattle.vt100_rows.specs.Row.{trimmed}
 use Rattle.vt100_sheet.specs.Sheet.{row_at, rows_by_position, moved_up, moved_down, opened_line}
 use Rattle.vt100_sheet.specs.Sheet.{erased_forward_at, erased_backward_at, first_rows}
 use Rattle.vt100_sheet.proofs.SheetLemmas.{row_at_past}
-use Rattle.vt100_state.proofs.ProperLemmas.{default-proper}
-use Rattle.vt100_state.proofs.ColourLemmas.{IsSound, default-sound}
+use Rattle.vt100_forms.proofs.AttrsLemmas.{default-proper}
 
 -- what is true of each character and of the attributes
 pub record Traits : Type 1 where
@@ -38,7 +37,7 @@ space-known = λ e. omega (arith, e)
 
 -- those of a terminal that bytes made
 abbrev pub sound : Traits
-sound = record { of_char = IsKnown; of_attrs = IsSound; space = space-known; default = default-sound }
+sound = record { of_char = IsKnown; of_attrs = IsProper; space = space-known; default = default-proper }
 
 -- and of each screen
 abbrev pub proper : Traits

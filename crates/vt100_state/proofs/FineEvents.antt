@@ -39,7 +39,7 @@ use Rattle.vt100_state.proofs.FineStates.{well-erased_right, well-erased_left, w
 use Rattle.vt100_state.proofs.FineStates.{well-cells_added, well-cells_taken, well-lines_added, well-lines_taken}
 use Rattle.vt100_state.proofs.FineStates.{well-region_up, well-region_down, well-origin, well-alternate_shown}
 use Rattle.vt100_state.proofs.FineStates.{well-main_shown, well-alternate_entered, well-alternate_left, well-made_anew}
-use Rattle.vt100_state.proofs.ColourLemmas.{sgr_read-sound}
+use Rattle.vt100_state.proofs.ProperLemmas.{sgr_read-proper}
 use Rattle.vt100_state.proofs.ScalarEvents.{IsTold}
 
 -- ---- tables
@@ -105,7 +105,7 @@ attrs-well gs b s w = record {
   shown = w.shown;
   other = w.other;
   main = w.main;
-  attrs = sgr_read-sound gs s.attrs w.attrs;
+  attrs = sgr_read-proper gs s.attrs w.attrs;
   saved_attrs = w.saved_attrs;
   last = w.last;
 }

@@ -9,6 +9,7 @@ use Rattle.std.proofs.Common.{length-drop}
 use Rattle.std.proofs.lemmas.List.Elements.{All-set, All-drop, All-take, All-append, All-map, All-weaker}
 use Rattle.std.proofs.lemmas.List.Elements.{All-from_get_or}
 use Rattle.vt100_forms.specs.declared.attrs.Attrs.{Attrs}
+use Rattle.vt100_forms.specs.Attrs.{IsProper}
 use Rattle.vt100_rows.specs.Row.{RowView, IsRow, blank_row, trimmed, cleared_row, wiped_row, inserted, removed}
 use Rattle.vt100_rows.proofs.TrimLemmas.{IsRow-trimmed}
 use Rattle.vt100_sheet.specs.Sheet.{row_at, rows_by_position, moved_up, opened_line, erased_forward_at}
@@ -33,7 +34,6 @@ use Rattle.vt100_core.proofs.StayLemmas.{widened-none}
 use Rattle.vt100_core.proofs.EraseLemmas.{IsGrid-row_erased, IsGrid-columns_erased, IsGrid-cells_inserted}
 use Rattle.vt100_core.proofs.EraseLemmas.{IsGrid-cells_deleted, IsGrid-all_erased, IsGrid-all_erased_forward}
 use Rattle.vt100_core.proofs.EraseLemmas.{IsGrid-all_erased_backward}
-use Rattle.vt100_state.proofs.ColourLemmas.{IsSound}
 use Rattle.vt100_state.proofs.CleanRows.{IsCleanRow, sound, clean-cleared}
 use Rattle.vt100_state.proofs.CleanRows.{clean-wiped, clean-inserted, clean-removed, clean-trimmed, clean-row}
 use Rattle.vt100_state.proofs.CleanRows.{clean-rows}
@@ -98,31 +98,31 @@ row-drawn l g r v d i clean =
 
 -- ---- erasing, and cells and lines that come in and go
 
-pub drawn-all_erased : (l : Limits) (g : GridView) (a : Attrs) → IsSound a → IsDrawn l g → IsDrawn l (all_erased g a)
+pub drawn-all_erased : (l : Limits) (g : GridView) (a : Attrs) → IsProper a → IsDrawn l g → IsDrawn l (all_erased g a)
 drawn-all_erased l g a p d =
     positions-drawn l g (λ r. cleared_row (row_at g.rows r) a) d (IsGrid-all_erased g a d.fine.grid d.some)
     (λ r. clean-cleared sound (row_at g.rows r) a p)
 
-pub drawn-all_erased_forward : (l : Limits) (g : GridView) (a : Attrs) → IsSound a → IsDrawn l g
+pub drawn-all_erased_forward : (l : Limits) (g : GridView) (a : Attrs) → IsProper a → IsDrawn l g
     → IsDrawn l (all_erased_forward g a)
 drawn-all_erased_forward l g a p d =
     positions-drawn l g (erased_forward_at g.rows g.row g.col g.width a) d
     (IsGrid-all_erased_forward g a d.fine.grid d.some)
     (clean-erased_forward sound g.rows g.row g.col g.width a p d.fine.rows)
 
-pub drawn-all_erased_backward : (l : Limits) (g : GridView) (a : Attrs) → IsSound a → IsDrawn l g
+pub drawn-all_erased_backward : (l : Limits) (g : GridView) (a : Attrs) → IsProper a → IsDrawn l g
     → IsDrawn l (all_erased_backward g a)
 drawn-all_erased_backward l g a p d =
     positions-drawn l g (erased_backward_at g.rows g.row (columns_to_cursor g) a) d
     (IsGrid-all_erased_backward g a d.fine.grid d.some)
     (clean-erased_backward sound g.rows g.row (columns_to_cursor g) a p d.fine.rows)
 
-pub drawn-row_erased : (l : Limits) (g : GridView) (a : Attrs) → IsSound a → IsDrawn l g → IsDrawn l (row_erased g a)
+pub drawn-row_erased : (l : Limits) (g : GridView) (a : Attrs) → IsProper a → IsDrawn l g → IsDrawn l (row_erased g a)
 drawn-row_erased l g a p d =
     row-drawn l g g.row (cleared_row (row_of_cursor g) a) d (IsGrid-row_erased g a d.fine.grid d.some)
     (clean-cleared sound (row_of_cursor g) a p)
 
-pub drawn-columns_erased : (l : Limits) (g : GridView) (s e : ℕ) (a : Attrs) → IsSound a → e ≤ g.width → IsDrawn l g
+pub drawn-columns_erased : (l : Limits) (g : GridView) (s e : ℕ) (a : Attrs) → IsProper a → e ≤ g.width → IsDrawn l g
     → IsDrawn l (columns_erased g s e a)
 drawn-columns_erased l g s e a p h d =
     row-drawn l g g.row (wiped_row (row_of_cursor g) s e a) d (IsGrid-columns_erased g s e a d.fine.grid d.some h)

@@ -3,6 +3,8 @@ use Rattle.std.proofs.Common.{◌≡◌, ◌∙◌, ℕ, zero, suc, ◌+◌, ◌
 use Rattle.std.proofs.Common.{Some, None, min, ap, arith, refl, sym, subst, if◌then◌else◌}
 use Rattle.std.specs.Char.{IsScalar}
 use Rattle.std.proofs.lemmas.Bool.{cond_both, false≢true}
+use Rattle.vt100_forms.specs.Attrs.{IsProper}
+use Rattle.vt100_forms.proofs.AttrsLemmas.{default-proper}
 use Rattle.vt100_sheet.specs.Sheet.{row_at}
 use Rattle.vt100_core.specs.Grid.{GridView, IsAllocated, new_grid, allocated, cleared}
 use Rattle.vt100_core.specs.declared.scrollback.Scrollback.TheVariants.{Disabled, Enabled}
@@ -31,7 +33,6 @@ use Rattle.vt100_state.proofs.FineGrids.{drawn-lines_inserted, drawn-lines_delet
 use Rattle.vt100_state.proofs.FineTexts.{drawn-printed}
 use Rattle.vt100_state.proofs.FineSizes.{new-fine, drawn-allocated, fine-cleared, drawn-cleared, none-shown}
 use Rattle.vt100_state.proofs.FineSizes.{drawn-none_kept, fine-resized, some-resized}
-use Rattle.vt100_state.proofs.ColourLemmas.{IsSound, default-sound}
 use Rattle.vt100_state.proofs.StateLemmas.{state_whole}
 
 -- a terminal's size, and how many rows it keeps
@@ -61,8 +62,8 @@ pub record IsWell (b : Bounds) (s : State) : Type 0 where
   pub shown : IsDrawn (limits b s.alternate) s.shown
   pub other : IsFine (limits b (not s.alternate)) s.other
   pub main : s.alternate ≡ true → IsAllocated s.other
-  pub attrs : IsSound s.attrs
-  pub saved_attrs : IsSound s.saved_attrs
+  pub attrs : IsProper s.attrs
+  pub saved_attrs : IsProper s.saved_attrs
   pub last : (c : ℕ) → s.last ≡ Some c → IsScalar c × IsKnown c
 
 not-not : (b c : Bool) → b ≡ not c → not b ≡ c
@@ -71,8 +72,8 @@ not-not b false e = ap not e
 
 fine-proper : (l : Limits) (g : GridView) → IsFine l g → IsProperSheet g
 fine-proper l g d = record {
-  drawn = λ r k. (clean-cell sound (row_at g.rows r) (clean-row sound g.rows d.rows r) k).attrs.proper;
-  kept = λ r k. (clean-cell sound (row_at g.kept.rows r) (clean-row sound g.kept.rows d.kept r) k).attrs.proper;
+  drawn = λ r k. (clean-cell sound (row_at g.rows r) (clean-row sound g.rows d.rows r) k).attrs;
+  kept = λ r k. (clean-cell sound (row_at g.kept.rows r) (clean-row sound g.kept.rows d.kept r) k).attrs;
 }
 
 pub is-state : (b : Bounds) (s : State) → IsWell b s → IsState s
@@ -80,7 +81,7 @@ is-state b s w =
     state_whole s w.shown.some w.main (w.other.height ∙ sym w.shown.fine.height)
     (w.other.width ∙ sym w.shown.fine.width) w.shown.fine.keeps (w.other.keeps ∙ not-not
     (not s.alternate) s.alternate refl)
-    w.attrs.proper w.saved_attrs.proper (fine-proper _ s.shown w.shown.fine) (fine-proper _ s.other w.other)
+    w.attrs w.saved_attrs (fine-proper _ s.shown w.shown.fine) (fine-proper _ s.other w.other)
     w.shown.fine.grid w.other.grid
 
 -- ---- the shown sheet
@@ -334,8 +335,8 @@ well-fresh b a = record {
       (new-fine b.height b.width (Enabled b.capacity) a.some_rows a.few_rows a.some_cols a.few_cols a.few);
   other = new-fine b.height b.width Disabled a.some_rows a.few_rows a.some_cols a.few_cols (omega arith);
   main = λ e. absurd (false≢true e);
-  attrs = default-sound;
-  saved_attrs = default-sound;
+  attrs = default-proper;
+  saved_attrs = default-proper;
   last = λ c e. absurd (none-some c e);
 }
 

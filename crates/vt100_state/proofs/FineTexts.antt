@@ -6,6 +6,7 @@ use Rattle.std.specs.Char.{IsScalar}
 use Rattle.std.proofs.lemmas.Bool.{cond_both, cases_Bool, cases_lt}
 use Rattle.std.proofs.lemmas.Bool.Decides.{nat_tests}
 use Rattle.vt100_forms.specs.declared.attrs.Attrs.{Attrs}
+use Rattle.vt100_forms.specs.Attrs.{IsProper}
 use Rattle.vt100_cells.specs.Cell.{CellView, IsCell, cell_of, columns_of, has_text, drawn_columns}
 use Rattle.vt100_cells.specs.Line.{span_of}
 use Rattle.vt100_cells.proofs.CellLemmas.{IsCell-of, IsCell-with_attrs}
@@ -23,7 +24,6 @@ use Rattle.vt100_core.proofs.EraseLemmas.{cursor_row_of, IsGrid-columns_erased}
 use Rattle.vt100_core.proofs.TextLemmas.{IsSized-fed, IsSized-wrapped, IsMade-made, IsGrid-put_at, span_of-cell}
 use Rattle.vt100_core.proofs.TextLemmas.{span_of-wide, IsGrid-join, in-place, ignored, widens, carries}
 use Rattle.vt100_core.proofs.TextLemmas.{IsDrawn-here, printed-dropped, printed-joined, printed-spaced}
-use Rattle.vt100_state.proofs.ColourLemmas.{IsSound}
 use Rattle.vt100_state.proofs.CleanRows.{IsKnown, IsClean, sound, clean-of, clean-with_wrap, clean-placed, clean-wiped}
 use Rattle.vt100_state.proofs.CleanRows.{clean-joined_cell, clean-join, clean-row}
 use Rattle.vt100_state.proofs.FineGrids.{Limits, IsDrawn, row-drawn, drawn-col, drawn-fed}
@@ -62,7 +62,7 @@ room-right : (col n width : ℕ) → nat_lt col n ≡ true → n ≡ width → c
 room-right col n width e w = grind (arith, nat_tests)
 
 drawn-put_at : (l : Limits) (g : GridView) (x : CellView) (a : Attrs) (n : ℕ) → IsDrawn l g → IsCell x
-    → has_text x ≡ true → n ≡ span_of x → g.col + n ≤ g.width → IsClean sound x → IsSound a → IsDrawn l (put_at g x a n)
+    → has_text x ≡ true → n ≡ span_of x → g.col + n ≤ g.width → IsClean sound x → IsProper a → IsDrawn l (put_at g x a n)
 drawn-put_at l g x a n d cell text e h clean p =
     let v = placed (row_of_cursor g) g.col x a in
     let i = d.fine.grid in
@@ -73,7 +73,7 @@ drawn-put_at l g x a n d cell text e h clean p =
     (clean-placed sound (row_of_cursor g) g.col x a p (clean-row sound g.rows d.fine.rows g.row) clean))
 
 drawn-spaced : (l : Limits) (g : GridView) (c : ℕ) (a : Attrs) → IsDrawn l g → IsScalar c → IsKnown c
-    → IsSound a → is_dropped g.width g.col c ≡ false → 0 < columns_of c → IsDrawn l (spaced g c a).grid
+    → IsProper a → is_dropped g.width g.col c ≡ false → 0 < columns_of c → IsDrawn l (spaced g c a).grid
 drawn-spaced l g c a d s known p kept some =
     let is = IsDrawn-here g c (columns_of c) kept refl in
     let u = drawn-is c (columns_of c) is.drawn in
@@ -84,14 +84,14 @@ drawn-spaced l g c a d s known p kept some =
 
 -- ---- a zero-width character
 
-with-attrs : (x : CellView) (a : Attrs) → IsClean sound x → IsSound a → IsClean sound (record x { attrs = a })
+with-attrs : (x : CellView) (a : Attrs) → IsClean sound x → IsProper a → IsClean sound (record x { attrs = a })
 with-attrs x a h p = record { text = h.text; attrs = p }
 
 two-columns : (n : ℕ) → (n == 1) ≡ false → 0 < n → 2 ≤ n
 two-columns n e h = grind (arith, nat_tests)
 
 drawn-carried : (l : Limits) (g : GridView) (c : ℕ) (a : Attrs) → IsDrawn l g → IsScalar c → IsKnown c
-    → IsSound a → drawn_columns c ≡ Some 0 → is_widening (row_of_cursor g) g.col c ≡ true → (g.width == 1) ≡ false
+    → IsProper a → drawn_columns c ≡ Some 0 → is_widening (row_of_cursor g) g.col c ≡ true → (g.width == 1) ≡ false
     → IsDrawn l (carried g c a).grid
 drawn-carried l g c a d s known p zero wide one =
     let i = d.fine.grid in
@@ -112,7 +112,7 @@ drawn-carried l g c a d s known p zero wide one =
     (clean-joined_cell sound v g.col c (clean-row sound g.rows d.fine.rows g.row) known) p) p
 
 drawn-joined : (l : Limits) (g : GridView) (c : ℕ) (a : Attrs) → IsDrawn l g → IsScalar c → IsKnown c
-    → IsSound a → drawn_columns c ≡ Some 0 → 0 < g.col → IsDrawn l (joined g c a).grid
+    → IsProper a → drawn_columns c ≡ Some 0 → 0 < g.col → IsDrawn l (joined g c a).grid
 drawn-joined l g c a d s known p zero after =
     let i = d.fine.grid in
     let v = row_of_cursor g in
@@ -141,7 +141,7 @@ drawn-joined l g c a d s known p zero after =
     (cases_Bool (is_widening v g.col c))
 
 pub drawn-printed : (l : Limits) (g : GridView) (c : ℕ) (a : Attrs) → IsDrawn l g → IsScalar c → IsKnown c
-    → IsSound a → IsDrawn l (printed g c a).grid
+    → IsProper a → IsDrawn l (printed g c a).grid
 drawn-printed l g c a d s known p =
     ⊎_elim
     (λ (e : is_dropped g.width g.col c ≡ true).

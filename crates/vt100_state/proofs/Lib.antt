@@ -5,7 +5,6 @@ pub mod FineGrids
 pub mod FineSizes
 pub mod FineTexts
 pub mod ProperLemmas
-pub mod ColourLemmas
 pub mod StateLemmas
 pub mod FineStates
 pub mod ScalarEvents

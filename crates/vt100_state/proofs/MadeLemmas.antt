@@ -116,16 +116,12 @@ pub makes-proper_cells : MakesProperCells
 makes-proper_cells rows cols capacity acts h r c =
     let s = made rows cols capacity acts in
     let w = made-well rows cols capacity acts h in
-    (clean-cell sound (visible_at s.shown r) (shown-row _ s.shown w.shown.fine r).1 c).attrs.proper
+    (clean-cell sound (visible_at s.shown r) (shown-row _ s.shown w.shown.fine r).1 c).attrs
 
 pub makes-byte_colours : MakesByteColours
 makes-byte_colours rows cols capacity acts h =
-    let s = made rows cols capacity acts in
     let w = made-well rows cols capacity acts h in
-    record {
-      cells = λ r c. (clean-cell sound (visible_at s.shown r) (shown-row _ s.shown w.shown.fine r).1 c).attrs.colours;
-      drawn = w.attrs.colours;
-    }
+    record { cells = λ r c. (makes-proper_cells rows cols capacity acts h r c).colors; drawn = w.attrs.colors }
 
 -- ---- the same size
 

@@ -1,7 +1,6 @@
 -- What is true of every terminal that bytes and resizes have made.
 use Rattle.std.specs.Prelude.{ℕ, ◌^◌, ◌<◌, ◌≡◌, List, [], ◌∷◌, All, Contains}
-use Rattle.vt100_forms.specs.Attrs.{IsProper}
-use Rattle.vt100_forms.specs.Length.{HasByteColors}
+use Rattle.vt100_forms.specs.Attrs.{IsProper, HasByteColors}
 use Rattle.vt100_cells.specs.Cell.{IsCell}
 use Rattle.vt100_cells.specs.Cells.{cell_at}
 use Rattle.vt100_core.specs.Grid.{visible_at}

@@ -9,13 +9,15 @@ use Rattle.vt100_forms.specs.declared.position.Pos.{Pos}
 use Rattle.vt100_forms.specs.Form.{Form, Text, MoveTo, MoveRight, EraseChar}
 use Rattle.vt100_forms.specs.Form.{Crlf, moves}
 use Rattle.vt100_forms.specs.Form.{spelling, spell}
-use Rattle.vt100_forms.specs.Length.{HasByteColors, HasSmallNumbers, longest}
+use Rattle.vt100_forms.specs.Attrs.{HasByteColors}
+use Rattle.vt100_forms.specs.Length.{HasSmallNumbers, longest}
 use Rattle.vt100_forms.proofs.Lengths.{length-spelling, length-change}
 use Rattle.vt100_cells.specs.Cell.{CellView, IsCell, has_text, bool_eq}
 use Rattle.vt100_cells.specs.Line.{span_of, put_unflags, wipe_unflags}
 use Rattle.vt100_cells.proofs.CellTexts.{text-short}
 use Rattle.vt100_redraw.specs.declared.pen.Erase.{Erase}
 use Rattle.vt100_redraw.specs.declared.pen.Pen.{Pen}
+use Rattle.vt100_redraw.specs.Small.{SmallErase, IsSmallPen, IsSmallJob}
 use Rattle.vt100_redraw.specs.Writer.{Drawn, Writer, ◌>>◌, skip, goto, turn, colour, print, space, back, erasing}
 use Rattle.vt100_redraw.specs.Writer.{clearing, marking}
 use Rattle.vt100_redraw.specs.RowWriter.{Job, is_same, wraps, owes_flag, reprint, opening, to_erase, is_end, flush_of}
@@ -52,14 +54,6 @@ moves-length p q hr hc =
     (λ _. form-length (MoveTo q.row q.col) 14 (hr, hc) (omega arith))))
 
 -- ---- writers
-
-unfoldable pub SmallErase : Option Erase → Type 0
-SmallErase None = Unit {0}
-SmallErase (Some e) = (e.from < 2 ^ 16) × HasByteColors e.attrs
-
--- the numbers of the pen are small
-unfoldable pub IsSmallPen : Pen → Type 0
-IsSmallPen p = HasByteColors p.attrs × SmallErase p.erase
 
 -- at most so many bytes
 pub record Spends (n : ℕ) (d : Drawn) : Type 0 where
@@ -139,15 +133,14 @@ costs-marking n a h k p s = record { bytes = omega arith; small = (s.0, (h, k)) 
 
 -- ---- a row
 
-pub record IsSmallJob (j : Job) : Type 0 where
+-- a whole row
+pub record IsRowJob (j : Job) : Type 0 where
   pub start : j.start ≡ 0
   pub some : 0 < j.cols
-  pub cols : j.cols < 2 ^ 16
-  pub row : j.row < 2 ^ 16
   pub cells : (k : ℕ) → IsCell (j.new k)
-  pub colours : (k : ℕ) → HasByteColors (j.new k).attrs
+  pub small : IsSmallJob j
 
-costs-reprint : (j : Job) (k : ℕ) → IsSmallJob j → Costs (reprint j (j.new k)) 23
+costs-reprint : (j : Job) (k : ℕ) → IsRowJob j → Costs (reprint j (j.new k)) 23
 unfolding reprint
 costs-reprint j k h =
     let x = j.new k in
@@ -160,16 +153,16 @@ costs-reprint j k h =
     (costs-then (space >> back) (erasing 1 w) 2 8 (costs-then space back 1 1 costs-space costs-back)
     (costs-erasing 1 w (omega arith))))
 
-costs-opening : (j : Job) → IsSmallJob j → Costs (opening j) 71
+costs-opening : (j : Job) → IsRowJob j → Costs (opening j) 71
 unfolding opening
 costs-opening j h p s =
     let x = j.new j.start in
     costs-here (owes_flag j p) (turn j.row >> colour x.attrs >> reprint j x) skip 71 p s
     (costs-then (turn j.row >> colour x.attrs) (reprint j x) 48 23
-    (costs-then (turn j.row) (colour x.attrs) 0 48 (costs-turn j.row) (costs-colour x.attrs (h.colours j.start)))
+    (costs-then (turn j.row) (colour x.attrs) 0 48 (costs-turn j.row) (costs-colour x.attrs (h.small.colors j.start)))
     (costs-reprint j j.start h)) (costs-skip 71)
 
-costs-to_erase : (j : Job) (e : Erase) → IsSmallJob j → e.from < 2 ^ 16 → HasByteColors e.attrs
+costs-to_erase : (j : Job) (e : Erase) → IsRowJob j → e.from < 2 ^ 16 → HasByteColors e.attrs
     → Costs (to_erase j e) 62
 unfolding to_erase
 costs-to_erase j e h l k p s =
@@ -180,9 +173,9 @@ costs-to_erase j e h l k p s =
     (costs-then (turn j.row >> space) back 1 1
     (costs-then (turn j.row) space 0 1 (costs-turn j.row) costs-space) costs-back)
     (costs-colour e.attrs k)))
-    (costs-then (goto j.row e.from) (colour e.attrs) 14 48 (costs-goto j.row e.from h.row l) (costs-colour e.attrs k))
+    (costs-then (goto j.row e.from) (colour e.attrs) 14 48 (costs-goto j.row e.from h.small.row l) (costs-colour e.attrs k))
 
-costs-flush_of : (j : Job) (c : ℕ) (e : Option Erase) → IsSmallJob j → c < j.cols → SmallErase e
+costs-flush_of : (j : Job) (c : ℕ) (e : Option Erase) → IsRowJob j → c < j.cols → SmallErase e
     → Costs (flush_of j c e) 70
 unfolding flush_of SmallErase
 costs-flush_of j c None h l s = costs-skip 70
@@ -190,39 +183,39 @@ costs-flush_of j c (Some e) h l s =
     let w = wipe_unflags j.cols j.old e.from c in
     costs-either (is_end (j.new c) e.attrs) (to_erase j e >> erasing (c - e.from) w) skip 70
     (λ _. costs-then (to_erase j e) (erasing (c - e.from) w) 62 8 (costs-to_erase j e h s.0 s.1)
-    (costs-erasing (c - e.from) w (omega (arith, l, h.cols)))) (λ _. costs-skip 70)
+    (costs-erasing (c - e.from) w (omega (arith, l, h.small.cols)))) (λ _. costs-skip 70)
 
-costs-flush : (j : Job) (c : ℕ) → IsSmallJob j → c < j.cols → Costs (flush j c) 70
+costs-flush : (j : Job) (c : ℕ) → IsRowJob j → c < j.cols → Costs (flush j c) 70
 unfolding flush IsSmallPen
 costs-flush j c h l p s = costs-flush_of j c p.erase h l s.1 p s
 
-costs-finish_of : (j : Job) (e : Option Erase) → IsSmallJob j → SmallErase e → Costs (finish_of j e) 65
+costs-finish_of : (j : Job) (e : Option Erase) → IsRowJob j → SmallErase e → Costs (finish_of j e) 65
 unfolding finish_of SmallErase
 costs-finish_of j None h s = costs-skip 65
 costs-finish_of j (Some e) h s =
     costs-then (to_erase j e) clearing 62 3 (costs-to_erase j e h s.0 s.1) costs-clearing
 
-costs-finish : (j : Job) → IsSmallJob j → Costs (finish j) 65
+costs-finish : (j : Job) → IsRowJob j → Costs (finish j) 65
 unfolding finish IsSmallPen
 costs-finish j h p s = costs-finish_of j p.erase h s.1 p s
 
-costs-arrive : (j : Job) (c n : ℕ) → IsSmallJob j → c < j.cols → Costs (arrive j c n) 14
+costs-arrive : (j : Job) (c n : ℕ) → IsRowJob j → c < j.cols → Costs (arrive j c n) 14
 unfolding arrive
 costs-arrive j c n h l p s =
     costs-here (wraps j n p && (c == 0)) (turn j.row) (goto j.row c) 14 p s
     (costs-more (turn j.row) 0 14 (omega arith) (costs-turn j.row))
-    (costs-goto j.row c h.row (omega (arith, l, h.cols)))
+    (costs-goto j.row c h.small.row (omega (arith, l, h.small.cols)))
 
-costs-mark_of : (j : Job) (c : ℕ) (e : Option Erase) → IsSmallJob j → c < j.cols → Costs (mark_of j c e) 0
+costs-mark_of : (j : Job) (c : ℕ) (e : Option Erase) → IsRowJob j → c < j.cols → Costs (mark_of j c e) 0
 unfolding mark_of
-costs-mark_of j c None h l = costs-marking c (j.new c).attrs (omega (arith, l, h.cols)) (h.colours c)
+costs-mark_of j c None h l = costs-marking c (j.new c).attrs (omega (arith, l, h.small.cols)) (h.small.colors c)
 costs-mark_of j c (Some e) h l = costs-skip 0
 
-costs-mark : (j : Job) (c : ℕ) → IsSmallJob j → c < j.cols → Costs (mark j c) 0
+costs-mark : (j : Job) (c : ℕ) → IsRowJob j → c < j.cols → Costs (mark j c) 0
 unfolding mark
 costs-mark j c h l p s = costs-mark_of j c p.erase h l p s
 
-costs-draw : (j : Job) (c : ℕ) → IsSmallJob j → c < j.cols → Costs (draw j c) 83
+costs-draw : (j : Job) (c : ℕ) → IsRowJob j → c < j.cols → Costs (draw j c) 83
 unfolding draw
 costs-draw j c h l =
     let x = j.new c in
@@ -231,16 +224,16 @@ costs-draw j c h l =
     (λ _. costs-either (has_text x) (arrive j c (span_of x) >> colour x.attrs >> print x b) (mark j c) 83
     (λ _. costs-then (arrive j c (span_of x) >> colour x.attrs) (print x b) 62 21
     (costs-then (arrive j c (span_of x)) (colour x.attrs) 14 48 (costs-arrive j c (span_of x) h l)
-    (costs-colour x.attrs (h.colours c))) (costs-print x b (h.cells c)))
+    (costs-colour x.attrs (h.small.colors c))) (costs-print x b (h.cells c)))
     (λ _. costs-more (mark j c) 0 83 (omega arith) (costs-mark j c h l)))
 
-costs-column : (j : Job) (c : ℕ) → IsSmallJob j → c < j.cols → Costs (column j c) 153
+costs-column : (j : Job) (c : ℕ) → IsRowJob j → c < j.cols → Costs (column j c) 153
 unfolding column
 costs-column j c h l =
     costs-either ((j.new c).continuation && not (c == j.start)) skip (flush j c >> draw j c) 153 (λ _. costs-skip 153)
     (λ _. costs-then (flush j c) (draw j c) 70 83 (costs-flush j c h l) (costs-draw j c h l))
 
-costs-columns : (j : Job) (n : ℕ) → IsSmallJob j → n ≤ j.cols → Costs (columns j n) (153 * n)
+costs-columns : (j : Job) (n : ℕ) → IsRowJob j → n ≤ j.cols → Costs (columns j n) (153 * n)
 unfolding columns
 costs-columns j zero h l = costs-skip (153 * 0)
 costs-columns j (suc n) h l =
@@ -248,24 +241,24 @@ costs-columns j (suc n) h l =
     (costs-then (columns j n) (column j (j.start + n)) (153 * n) 153 (costs-columns j n h (omega arith))
     (costs-column j (j.start + n) h (omega (arith, h.start, l))))
 
-costs-print_last : (j : Job) (k : ℕ) → IsSmallJob j → Costs (print_last (j.new k)) 69
+costs-print_last : (j : Job) (k : ℕ) → IsRowJob j → Costs (print_last (j.new k)) 69
 unfolding print_last
 costs-print_last j k h =
     let x = j.new k in
     costs-either (has_text x) (colour x.attrs >> print x false) skip 69
-    (λ _. costs-then (colour x.attrs) (print x false) 48 21 (costs-colour x.attrs (h.colours k))
+    (λ _. costs-then (colour x.attrs) (print x false) 48 21 (costs-colour x.attrs (h.small.colors k))
     (costs-print x false (h.cells k))) (λ _. costs-skip 69)
 
-costs-unflag : (j : Job) (k : ℕ) → IsSmallJob j → Costs (unflag (j.new k)) 56
+costs-unflag : (j : Job) (k : ℕ) → IsRowJob j → Costs (unflag (j.new k)) 56
 unfolding unflag
 costs-unflag j k h =
     let x = j.new k in
     costs-either (has_text x) (erasing 1 true) (colour x.attrs >> erasing 1 true) 56
     (λ _. costs-more (erasing 1 true) 8 56 (omega arith) (costs-erasing 1 true (omega arith)))
-    (λ _. costs-then (colour x.attrs) (erasing 1 true) 48 8 (costs-colour x.attrs (h.colours k))
+    (λ _. costs-then (colour x.attrs) (erasing 1 true) 48 8 (costs-colour x.attrs (h.small.colors k))
     (costs-erasing 1 true (omega arith)))
 
-costs-mend : (j : Job) (k : ℕ) → IsSmallJob j → Costs (mend j (j.new k)) 125
+costs-mend : (j : Job) (k : ℕ) → IsRowJob j → Costs (mend j (j.new k)) 125
 unfolding mend
 costs-mend j k h =
     let x = j.new k in
@@ -273,20 +266,20 @@ costs-mend j k h =
     (λ _. costs-more (print_last x) 69 125 (omega arith) (costs-print_last j k h))
     (λ _. costs-then (unflag x) (print_last x) 56 69 (costs-unflag j k h) (costs-print_last j k h))
 
-last-within : (j : Job) → IsSmallJob j → last_col j < 2 ^ 16
+last-within : (j : Job) → IsRowJob j → last_col j < 2 ^ 16
 last-within j h =
     cond_both (j.new (j.cols - 1)).continuation (j.cols - 2) (j.cols - 1) (λ c. c < 2 ^ 16)
-    (λ _. omega (arith, h.cols)) (λ _. omega (arith, h.cols))
+    (λ _. omega (arith, h.small.cols)) (λ _. omega (arith, h.small.cols))
 
-costs-closing : (j : Job) → IsSmallJob j → Costs (closing j) 139
+costs-closing : (j : Job) → IsRowJob j → Costs (closing j) 139
 unfolding closing
 costs-closing j h p s =
     costs-here (not (bool_eq j.wrapped j.was_wrapped) || (j.wrapped && p.lost))
     (goto j.row (last_col j) >> mend j (last_cell j)) skip 139 p s
     (costs-then (goto j.row (last_col j)) (mend j (last_cell j)) 14 125
-    (costs-goto j.row (last_col j) h.row (last-within j h)) (costs-mend j (last_col j) h)) (costs-skip 139)
+    (costs-goto j.row (last_col j) h.small.row (last-within j h)) (costs-mend j (last_col j) h)) (costs-skip 139)
 
-costs-redraw : (j : Job) → IsSmallJob j → Costs (row_redraw j j.cols) (153 * j.cols + 136)
+costs-redraw : (j : Job) → IsRowJob j → Costs (row_redraw j j.cols) (153 * j.cols + 136)
 unfolding row_redraw
 costs-redraw j h =
     let f = opening j >> columns j j.cols in
@@ -296,11 +289,11 @@ costs-redraw j h =
     (costs-columns j j.cols h (omega arith))) (costs-finish j h))
 
 -- 428 bytes a column
-pub costs-row_redraw : (j : Job) → IsSmallJob j → Costs (row_redraw j j.cols) (428 * j.cols)
+pub costs-row_redraw : (j : Job) → IsRowJob j → Costs (row_redraw j j.cols) (428 * j.cols)
 costs-row_redraw j h =
     costs-more (row_redraw j j.cols) (153 * j.cols + 136) (428 * j.cols) (omega (arith, h.some)) (costs-redraw j h)
 
-pub costs-row_difference : (j : Job) → IsSmallJob j → Costs (row_difference j j.cols) (428 * j.cols)
+pub costs-row_difference : (j : Job) → IsRowJob j → Costs (row_difference j j.cols) (428 * j.cols)
 unfolding row_difference
 costs-row_difference j h =
     costs-more (row_redraw j j.cols >> closing j) (153 * j.cols + 136 + 139) (428 * j.cols) (omega (arith, h.some))

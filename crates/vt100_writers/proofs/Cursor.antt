@@ -28,7 +28,7 @@ use Rattle.vt100_writers.specs.Cursor.{place, arriving, is_at, last_col, last_ce
 use Rattle.vt100_writers.specs.Cursor.{wait_behind, wait_on_empty, wait, cursor_position_formatted}
 use Rattle.vt100_writers.specs.Screen.{cursor_state_formatted}
 use Rattle.vt100_writers.specs.Laws.{IsDrawable, StandsAt, EachCursorIsPlaced, EachCursorStateIsSet}
-use Rattle.vt100_writers.proofs.Modes.{default-proper}
+use Rattle.vt100_forms.proofs.AttrsLemmas.{default-proper}
 
 -- ---- a row that is drawn, as a scene
 

@@ -9,15 +9,14 @@ use Rattle.vt100_forms.specs.declared.position.Pos.{Pos}
 use Rattle.vt100_forms.specs.declared.modes.MouseProtocolMode.TheVariants as mouse
 use Rattle.vt100_forms.specs.declared.modes.MouseProtocolEncoding.TheVariants as encoding
 use Rattle.vt100_forms.specs.declared.modes.CursorStyle.TheVariants as style
-use Rattle.vt100_forms.specs.Attrs.{default_attrs}
+use Rattle.vt100_forms.specs.Attrs.{default_attrs, HasByteColors}
 use Rattle.vt100_forms.specs.Form.{Form, Text, MoveTo, EraseChar, ClearScreen, ClearAttrs, Lf, Backspace, SaveCursor}
 use Rattle.vt100_forms.specs.Form.{RestoreCursor, HideCursor, Keypad, CursorKeys, Paste, Mouse, Encoding, Style, change}
 use Rattle.vt100_forms.specs.Form.{spelling, spell}
-use Rattle.vt100_forms.specs.Length.{HasByteColors}
 use Rattle.vt100_forms.proofs.Lengths.{length-spelling, length-change}
 use Rattle.vt100_cells.specs.Cell.{CellView, IsCell, bool_eq}
 use Rattle.vt100_picture.specs.Term.{Size, Shown, blank_shown}
-use Rattle.vt100_redraw.specs.declared.pen.Pen.{Pen}
+use Rattle.vt100_redraw.specs.Small.{IsSmallPen}
 use Rattle.vt100_redraw.specs.Writer.{◌>>◌}
 use Rattle.vt100_writers.specs.Rows.{afresh, pen_at, is_continued, job_of, next_redraw, rows_redraw, next_difference}
 use Rattle.vt100_writers.specs.Rows.{rows_difference}
@@ -27,34 +26,29 @@ use Rattle.vt100_writers.specs.Modes.{switch, input_mode_formatted, input_mode_d
 use Rattle.vt100_writers.specs.Screen.{cursor_placed, grid_redraw, grid_contents_formatted, grid_difference}
 use Rattle.vt100_writers.specs.Screen.{contents_formatted, state_formatted, contents_diff, state_diff}
 use Rattle.vt100_writers.specs.Length.{IsSmallScreen, EachIsShort}
-use Rattle.vt100_writers.proofs.Costs.{join-length, more-length, form-length, moves-length, IsSmallPen, SmallErase}
-use Rattle.vt100_writers.proofs.Costs.{Costs, costs-then, costs-more, costs-skip, space-length, IsSmallJob}
+use Rattle.vt100_writers.proofs.Costs.{join-length, more-length, form-length, moves-length}
+use Rattle.vt100_writers.proofs.Costs.{Costs, costs-then, costs-more, costs-skip, space-length, IsRowJob}
 use Rattle.vt100_writers.proofs.Costs.{costs-row_redraw, costs-row_difference}
 use Rattle.vt100_writers.proofs.Cursor.{Ends, ends}
+use Rattle.vt100_writers.proofs.SmallScreens.{small-job, small-afresh, last-small, pen-small}
 use Rattle.vt100_cells.proofs.CellTexts.{text-short}
 
 -- ---- rows
 
-small-job : (z : Size) (old s : Shown) (i : ℕ) (flagged : Bool) → IsSmallScreen z s → i < z.rows
-    → IsSmallJob (job_of z old s i flagged)
-small-job z old s i flagged h l = record {
+row-job : (z : Size) (old s : Shown) (i : ℕ) (flagged : Bool) → IsSmallScreen z s → i < z.rows
+    → IsRowJob (job_of z old s i flagged)
+row-job z old s i flagged h l = record {
   start = refl;
   some = h.shown.some_col;
-  cols = h.cols;
-  row = omega (arith, l, h.rows);
   cells = h.cells i;
-  colours = h.colours i;
+  small = small-job z old s i flagged h l;
 }
-
-small-afresh : (p : Pen) → IsSmallPen p → IsSmallPen (afresh p)
-unfolding IsSmallPen
-small-afresh p s = s
 
 costs-next_redraw : (z : Size) (s : Shown) (i : ℕ) → IsSmallScreen z s → i < z.rows
     → Costs (next_redraw z s i) (428 * z.cols)
 unfolding next_redraw
 costs-next_redraw z s i h l p small =
-    costs-row_redraw (job_of z blank_shown s i false) (small-job z blank_shown s i false h l) (afresh p)
+    costs-row_redraw (job_of z blank_shown s i false) (row-job z blank_shown s i false h l) (afresh p)
     (small-afresh p small)
 
 costs-redraws : (z : Size) (s : Shown) (n : ℕ) → IsSmallScreen z s → n ≤ z.rows
@@ -72,7 +66,7 @@ costs-next_difference : (z : Size) (old new : Shown) (i : ℕ) → IsSmallScreen
 unfolding next_difference
 costs-next_difference z old new i h l p small =
     let flagged = is_continued old.wrapped i && not p.lost in
-    costs-row_difference (job_of z old new i flagged) (small-job z old new i flagged h l) (afresh p)
+    costs-row_difference (job_of z old new i flagged) (row-job z old new i flagged h l) (afresh p)
     (small-afresh p small)
 
 costs-differences : (z : Size) (old new : Shown) (n : ℕ) → IsSmallScreen z new → n ≤ z.rows
@@ -107,11 +101,6 @@ printed-length a x ha hx h =
       text-short x h,
       length-change x.attrs a ha,
     )
-
-last-small : (z : Size) (s : Shown) (r : ℕ) → IsSmallScreen z s → last_col z s r < 2 ^ 16
-last-small z s r h =
-    cond_both (s.cell r (z.cols - 1)).continuation (z.cols - 2) (z.cols - 1) (λ c. c < 2 ^ 16)
-    (λ _. omega (arith, h.cols)) (λ _. omega (arith, h.cols))
 
 behind-length : (z : Size) (s : Shown) (p : Option Pos) (a : Attrs) (r : ℕ) → IsSmallScreen z s → HasByteColors a
     → r < 2 ^ 16 → length (spell (wait_behind z s p a r)) ≤ 131
@@ -196,10 +185,6 @@ costs-cursor z s h p small = record {
 le-times : (n m : ℕ) → 0 < m → n ≤ n * m
 le-times n zero h = absurd (omega (arith, h))
 le-times n (suc k) h = omega (arith, mul-suc n k)
-
-pen-small : (row col : ℕ) (a : Attrs) → HasByteColors a → IsSmallPen (pen_at row col a)
-unfolding IsSmallPen SmallErase
-pen-small row col a h = (h, tt)
 
 grid-redraw_length : (z : Size) (s : Shown) → IsSmallScreen z s
     → length (spell (grid_contents_formatted z s)) ≤ 429 * (z.rows * z.cols) + 140

@@ -5,5 +5,6 @@ pub mod Screens
 pub mod Drawing
 pub mod Texts
 pub mod Examples
+pub mod SmallScreens
 pub mod Costs
 pub mod Lengths

@@ -1,5 +1,5 @@
 -- Modes, the style of the cursor, and attributes that are set.
-use Rattle.std.proofs.Common.{◌≡◌, Bool, true, false, cond, [], ◌∷◌, ◌++◌, refl, sym, ap, ◌∙◌, arith}
+use Rattle.std.proofs.Common.{◌≡◌, Bool, true, false, cond, [], ◌∷◌, ◌++◌, refl, sym, ap, ◌∙◌}
 use Rattle.std.proofs.lemmas.Bool.{cond_both, eqb-true, false≢true}
 use Rattle.std.specs.Prelude.{ℕ, ◌==◌}
 use Rattle.vt100_forms.specs.declared.modes.MouseProtocolMode.{MouseProtocolMode}
@@ -15,7 +15,7 @@ use Rattle.vt100_cells.specs.Cell.{bool_eq}
 use Rattle.vt100_picture.specs.Term.{Size, Modes, Shown, Term, shown_of, term_of}
 use Rattle.vt100_picture.specs.Apply.{apply, run, switched}
 use Rattle.vt100_picture.proofs.FormLemmas.{run-joined, change-read}
-use Rattle.vt100_forms.specs.Attrs.{IsProper}
+use Rattle.vt100_forms.proofs.AttrsLemmas.{default-proper}
 use Rattle.vt100_writers.specs.Modes.{switch, input_mode_formatted, input_mode_diff, attributes_formatted}
 use Rattle.vt100_writers.specs.Laws.{EachModeIsSet, EachModeIsChanged, EachAttributeIsSet}
 
@@ -180,9 +180,6 @@ pub modes-changed : EachModeIsChanged
 modes-changed z old new from em es v h = ap shown_of (modes-run_changed z (term_of from v) old new em es)
 
 -- ---- attributes
-
-pub default-proper : IsProper default_attrs
-default-proper = record { small = omega arith; one = refl }
 
 pub attributes-set : EachAttributeIsSet
 unfolding attributes_formatted apply

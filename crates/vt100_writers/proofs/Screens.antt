@@ -25,7 +25,8 @@ use Rattle.vt100_writers.specs.Laws.{IsDrawable, IsScreen, showing, with_modes, 
 use Rattle.vt100_writers.specs.Laws.{EachGridDifferenceLeads, EachRedrawLeads, EachStateRedrawLeads}
 use Rattle.vt100_writers.specs.Laws.{EachDifferenceLeads, EachStateDifferenceLeads, EachChainLeads}
 use Rattle.vt100_writers.specs.Laws.{EachLaterRedrawLeads}
-use Rattle.vt100_writers.proofs.Modes.{default-proper, hide-switched, modes-run, modes-run_changed}
+use Rattle.vt100_forms.proofs.AttrsLemmas.{default-proper}
+use Rattle.vt100_writers.proofs.Modes.{hide-switched, modes-run, modes-run_changed}
 use Rattle.vt100_writers.proofs.Cursor.{cursor-run, known-some}
 use Rattle.vt100_writers.proofs.Rows.{IsDone, redraw-done, difference-done}
 

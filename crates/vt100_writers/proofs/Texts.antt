@@ -1,31 +1,29 @@
 -- The texts that are written, and the modes that stay.
-use Rattle.std.proofs.Common.{◌≡◌, ℕ, ◌+◌, ◌-◌, ◌<◌, ◌==◌, Bool, true, nat_lt, nat_le, List, []}
-use Rattle.std.proofs.Common.{◌∷◌, ◌++◌, length, min, refl, arith, sym, ap, ◌∙◌}
-use Rattle.std.specs.Prelude.{Contains, slice_index_or}
+use Rattle.std.proofs.Common.{◌≡◌, ℕ, ◌+◌, ◌-◌, ◌==◌, Bool, nat_lt, nat_le, List, []}
+use Rattle.std.proofs.Common.{◌∷◌, ◌++◌, min, refl, ap, ◌∙◌}
 use Rattle.std.specs.List.{AllByRecursion}
 use Rattle.std.proofs.lemmas.Bool.{cond_both}
-use Rattle.std.proofs.lemmas.Bool.Decides.{nat_tests}
 use Rattle.vt100_forms.specs.Attrs.{default_attrs}
 use Rattle.vt100_forms.specs.Form.{Form, Text, MoveTo, MoveRight, EraseChar, ClearRowForward, ClearScreen, ClearAttrs}
 use Rattle.vt100_forms.specs.Form.{Crlf, Lf, Backspace, SaveCursor, RestoreCursor, HideCursor, Keypad, CursorKeys}
 use Rattle.vt100_forms.specs.Form.{Paste, Mouse, Encoding, Style, Sgr, change}
 use Rattle.vt100_forms.specs.Mark.{HasPlainText}
 use Rattle.vt100_forms.proofs.Marks.{no_mark}
-use Rattle.vt100_cells.specs.Cell.{CellView, has_text, cell_of, columns_of, bool_eq}
-use Rattle.vt100_cells.proofs.CellLemmas.{IsCell-space}
+use Rattle.vt100_cells.specs.Cell.{CellView, cell_of, columns_of, bool_eq}
 use Rattle.vt100_picture.specs.Term.{Size, Modes, Shown, Term}
 use Rattle.vt100_picture.specs.Apply.{with_line, erase, print, join, down, wrap, made_to_fit, is_dropped, input, inputs}
 use Rattle.vt100_picture.specs.Apply.{apply, run}
-use Rattle.vt100_picture.specs.FormText.{IsSentText, IsFormText}
+use Rattle.vt100_picture.specs.FormText.{IsSentText, IsFormText, HasText, AllTexts}
 use Rattle.vt100_picture.proofs.FormLemmas.{run-joined}
-use Rattle.vt100_picture.proofs.PlainText.{text-plain, cell-sent}
+use Rattle.vt100_picture.proofs.PlainText.{cell-sent}
+use Rattle.vt100_picture.proofs.FormTexts.{all-each, space-sent, space-form, some-text, text-is_plain}
 use Rattle.vt100_writers.specs.Cursor.{cursor_position_formatted}
 use Rattle.vt100_writers.specs.Modes.{switch, input_mode_formatted, input_mode_diff, attributes_formatted}
 use Rattle.vt100_writers.specs.Screen.{grid_contents_formatted, grid_difference, contents_formatted, state_formatted}
 use Rattle.vt100_writers.specs.Screen.{contents_diff, state_diff, cursor_state_formatted}
-use Rattle.vt100_writers.specs.Texts.{HasText, AllTexts}
 use Rattle.vt100_redraw.specs.Texts.{IsDrawing, AllDrawing}
 use Rattle.vt100_redraw.proofs.Texts.{all-join, change-drawing}
+use Rattle.vt100_redraw.proofs.DrawnTexts.{texts}
 use Rattle.vt100_writers.specs.Laws.{IsKnown, IsTrueOfEach, HasNoMark, EachTextIsSent, EachIsPlain, EachHasNoMark}
 use Rattle.vt100_writers.specs.Laws.{EachTextIsAForm, EachModeComesOut}
 use Rattle.vt100_writers.proofs.Modes.{modes-run, modes-run_changed}
@@ -33,36 +31,6 @@ use Rattle.vt100_writers.proofs.Drawing.{TextsAre, cursor-drawing, grid-drawing,
 use Rattle.vt100_writers.proofs.Drawing.{contents-drawing, contents_diff-drawing, cursor_state-drawing}
 
 -- ---- texts
-
-drawing-text : (P : List ℕ → Type 0) (f : Form) → IsDrawing P f → HasText P f
-drawing-text P (Text cs) h = h
-drawing-text P (MoveTo r c) h = tt
-drawing-text P (MoveRight n) h = tt
-drawing-text P (EraseChar n) h = tt
-drawing-text P ClearRowForward h = tt
-drawing-text P ClearScreen h = tt
-drawing-text P ClearAttrs h = tt
-drawing-text P Crlf h = tt
-drawing-text P Lf h = tt
-drawing-text P Backspace h = tt
-drawing-text P SaveCursor h = tt
-drawing-text P RestoreCursor h = tt
-drawing-text P (HideCursor b) h = tt
-drawing-text P (Keypad b) h = tt
-drawing-text P (CursorKeys b) h = tt
-drawing-text P (Paste b) h = tt
-drawing-text P (Mouse to from) h = tt
-drawing-text P (Encoding to from) h = tt
-drawing-text P (Style to from) h = tt
-drawing-text P (Sgr c) h = tt
-
-all-each : {X : Type 0} (Q R : X → Type 0) → ((x : X) → Q x → R x) → (xs : List X) → AllByRecursion Q xs
-    → AllByRecursion R xs
-all-each Q R f [] h = tt
-all-each Q R f (x ∷ xs) h = (f x h.0, all-each Q R f xs h.1)
-
-texts : (P : List ℕ → Type 0) (fs : List Form) → AllDrawing P fs → AllTexts P fs
-texts P fs h = all-each (IsDrawing P) (HasText P) (drawing-text P) fs h
 
 mode-texts : (P : List ℕ → Type 0) (s : Shown) → AllTexts P (input_mode_formatted s)
 unfolding input_mode_formatted
@@ -110,7 +78,7 @@ each-text P z old new h =
       attributes_formatted = attrs-texts P new;
       grid_formatted = texts P (grid_contents_formatted z new) (grid-drawing P z new h);
       grid_diff = texts P (grid_difference z old new).forms (grid_diff-drawing P z old new h);
-      cursor = λ p a. texts P (cursor_position_formatted z new p a) (cursor-drawing P z new p a h);
+      cursor = λ p a _. texts P (cursor_position_formatted z new p a) (cursor-drawing P z new p a h);
     }
 
 each-map : (Q R : List Form → Type 0) (z : Size) (old new : Shown) → ((fs : List Form) → Q fs → R fs)
@@ -126,22 +94,10 @@ each-map Q R z old new f h = record {
   attributes_formatted = f (attributes_formatted new) h.attributes_formatted;
   grid_formatted = f (grid_contents_formatted z new) h.grid_formatted;
   grid_diff = f (grid_difference z old new).forms h.grid_diff;
-  cursor = λ p a. f (cursor_position_formatted z new p a) (h.cursor p a);
+  cursor = λ p a _. f (cursor_position_formatted z new p a) (h.cursor p a tt);
 }
 
--- ---- a space, and the texts of cells
-
-no-other : (c : ℕ) → (32 ≡ c → ⊥) → Contains {X = ℕ} (32 ∷ []) c → ⊥
-no-other c differs h =
-    let zero : h.0 ≡ 0 = omega (arith, h.1) in
-    differs (ap (λ k. slice_index_or (32 ∷ []) k c) (sym zero) ∙ h.2)
-
-space-sent : IsSentText (32 ∷ [])
-space-sent = cell-sent (cell_of 32 default_attrs) (IsCell-space default_attrs) (omega arith) (λ h. no-other 0xFFFD
-    (λ e. absurd (omega (arith, e))) h)
-
-some-text : (x : CellView) → has_text x ≡ true → 0 < length x.text
-some-text x h = grind (arith, nat_tests)
+-- ---- the texts of cells
 
 sent-texts : (s : Shown) → IsKnown s → TextsAre IsSentText s
 sent-texts s h = record {
@@ -156,31 +112,9 @@ pub texts-forms : EachTextIsAForm
 texts-forms z old new h plain =
     let sent = sent-texts new h in
     each-text IsFormText z old new (record {
-      space = record { sent = space-sent; plain = λ e. no-other 0xFE0F (λ q. absurd (omega (arith, q))) e };
+      space = space-form;
       cells = λ r k some. record { sent = sent.cells r k some; plain = plain r k };
     })
-
-text-is_plain : (f : Form) → HasText IsSentText f → HasPlainText f
-text-is_plain (Text cs) h = text-plain cs h
-text-is_plain (MoveTo r c) h = tt
-text-is_plain (MoveRight n) h = tt
-text-is_plain (EraseChar n) h = tt
-text-is_plain ClearRowForward h = tt
-text-is_plain ClearScreen h = tt
-text-is_plain ClearAttrs h = tt
-text-is_plain Crlf h = tt
-text-is_plain Lf h = tt
-text-is_plain Backspace h = tt
-text-is_plain SaveCursor h = tt
-text-is_plain RestoreCursor h = tt
-text-is_plain (HideCursor b) h = tt
-text-is_plain (Keypad b) h = tt
-text-is_plain (CursorKeys b) h = tt
-text-is_plain (Paste b) h = tt
-text-is_plain (Mouse to from) h = tt
-text-is_plain (Encoding to from) h = tt
-text-is_plain (Style to from) h = tt
-text-is_plain (Sgr c) h = tt
 
 pub texts-plain : EachIsPlain
 texts-plain z old new h =
@@ -285,6 +219,7 @@ modes-come_out z old new t =
     let gs = contents_diff z old new in
     let a = run-keeps z fs t (contents-drawing Any z new (any-texts new)) in
     let b = run-keeps z gs t (contents_diff-drawing Any z old new (any-texts new)) in
+    let c = run-keeps z (cursor_state_formatted z new) t (cursor_state-drawing Any z new (any-texts new)) in
     record {
       redrawn = λ em ee es.
           let is = run-joined z fs (input_mode_formatted new) t ∙ modes-run z (run z fs t) new
@@ -296,4 +231,5 @@ modes-come_out z old new t =
           (ap (λ (u : Term). u.modes) is, ap (λ (u : Term). u.style) is);
       contents_redrawn = (a.modes, a.style);
       contents_changed = (b.modes, b.style);
+      cursor_set = (c.modes, c.style);
     }

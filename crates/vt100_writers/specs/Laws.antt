@@ -7,14 +7,14 @@ use Rattle.vt100_forms.specs.declared.modes.MouseProtocolMode.TheVariants as mou
 use Rattle.vt100_forms.specs.declared.modes.MouseProtocolEncoding.TheVariants as encoding
 use Rattle.vt100_forms.specs.declared.modes.CursorStyle.TheVariants as style
 use Rattle.vt100_forms.specs.declared.modes.CursorStyle.{CursorStyle}
-use Rattle.vt100_forms.specs.Attrs.{IsProper, default_attrs}
+use Rattle.vt100_forms.specs.Attrs.{IsProper, HasByteColors, default_attrs}
 use Rattle.vt100_forms.specs.Form.{Form, spell}
 use Rattle.vt100_forms.specs.Mark.{mark_head, HasPlainText}
 use Rattle.vt100_cells.specs.Cell.{IsCell}
 use Rattle.vt100_picture.specs.Term.{Size, Modes, Shown, Term, IsShown, blank_shown}
 use Rattle.vt100_picture.specs.Apply.{run}
 use Rattle.vt100_picture.specs.Leads.{Leads}
-use Rattle.vt100_picture.specs.FormText.{IsSentText, IsFormText}
+use Rattle.vt100_picture.specs.FormText.{IsSentText, IsFormText, AllTexts, AreForms, AreSentForms}
 use Rattle.vt100_redraw.specs.declared.pen.Pen.{Pen}
 use Rattle.vt100_writers.specs.Rows.{rows_redraw, rows_difference}
 use Rattle.vt100_writers.specs.Cursor.{cursor_position_formatted}
@@ -22,7 +22,7 @@ use Rattle.vt100_writers.specs.Modes.{input_mode_formatted, input_mode_diff, att
 use Rattle.vt100_writers.specs.Screen.{grid_redraw, grid_contents_formatted, grid_difference, contents_formatted}
 use Rattle.vt100_writers.specs.Screen.{state_formatted, contents_diff, state_diff, cursor_state_formatted}
 use Rattle.vt100_writers.specs.Screen.{contents_diffs, last_shown}
-use Rattle.vt100_writers.specs.Texts.{AllTexts}
+use Rattle.vt100_writers.specs.Length.{IsSmallScreen}
 
 -- What can be drawn: a screen's cells, flags and cursor. No text has U+FE0F, by which a terminal may make a cell wide.
 pub record IsDrawable (z : Size) (s : Shown) : Type 0 where
@@ -157,12 +157,17 @@ pub record ModesAreSet (z : Size) (old new : Shown) (t : Term) : Type 0 where
       × ((run z (contents_formatted z new) t).style ≡ t.style)
   pub contents_changed : ((run z (contents_diff z old new) t).modes ≡ t.modes)
       × ((run z (contents_diff z old new) t).style ≡ t.style)
+  pub cursor_set : ((run z (cursor_state_formatted z new) t).modes ≡ t.modes)
+      × ((run z (cursor_state_formatted z new) t).style ≡ t.style)
 
 abbrev pub EachModeComesOut : Type 0
 EachModeComesOut = (z : Size) (old new : Shown) (t : Term) → ModesAreSet z old new t
 
--- what is true of each list of forms that is written for these states
-pub record IsTrueOfEach (Q : List Form → Type 0) (z : Size) (old new : Shown) : Type 0 where
+-- ---- every list
+
+-- what is true of each list of forms that is written for these states; the cursor's may be asked for with any
+-- attributes that are as A says
+pub record IsTrueOfLists (Q : List Form → Type 0) (A : Attrs → Type 0) (z : Size) (old new : Shown) : Type 0 where
   pub state_formatted : Q (state_formatted z new)
   pub contents_formatted : Q (contents_formatted z new)
   pub state_diff : Q (state_diff z old new)
@@ -173,7 +178,10 @@ pub record IsTrueOfEach (Q : List Form → Type 0) (z : Size) (old new : Shown) 
   pub attributes_formatted : Q (attributes_formatted new)
   pub grid_formatted : Q (grid_contents_formatted z new)
   pub grid_diff : Q (grid_difference z old new).forms
-  pub cursor : (p : Option Pos) (a : Attrs) → Q (cursor_position_formatted z new p a)
+  pub cursor : (p : Option Pos) (a : Attrs) → A a → Q (cursor_position_formatted z new p a)
+
+abbrev pub IsTrueOfEach : (List Form → Type 0) → Size → Shown → Shown → Type 0
+IsTrueOfEach Q z old new = IsTrueOfLists Q (λ a. Unit {0}) z old new
 
 -- cells of which none shows U+FFFD
 pub record IsKnown (s : Shown) : Type 0 where
@@ -199,3 +207,13 @@ EachHasNoMark = (z : Size) (old new : Shown) → IsKnown new → IsTrueOfEach Ha
 abbrev pub EachTextIsAForm : Type 0
 EachTextIsAForm = (z : Size) (old new : Shown) → IsKnown new
     → ((r k : ℕ) → Contains (new.cell r k).text 0xFE0F → ⊥) → IsTrueOfEach (AllTexts IsFormText) z old new
+
+-- With numbers of the code's types, too, each list is one of forms that writers send, whatever the old screen shows; and
+-- where no cell shows U+FE0F, of forms that every reader takes alike.
+abbrev pub EachListIsSent : Type 0
+EachListIsSent = (z : Size) (old new : Shown) → HasByteColors old.attrs → IsSmallScreen z new → IsKnown new
+    → IsTrueOfLists AreSentForms HasByteColors z old new
+
+abbrev pub EachListIsOfForms : Type 0
+EachListIsOfForms = (z : Size) (old new : Shown) → HasByteColors old.attrs → IsSmallScreen z new → IsKnown new
+    → ((r k : ℕ) → Contains (new.cell r k).text 0xFE0F → ⊥) → IsTrueOfLists AreForms HasByteColors z old new

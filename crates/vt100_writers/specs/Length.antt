@@ -1,7 +1,7 @@
 -- How long redraws and differences of screens can be.
 use Rattle.std.specs.Prelude.{ℕ, ◌+◌, ◌*◌, ◌^◌, ◌<◌, ◌≤◌, List, length}
 use Rattle.vt100_forms.specs.Form.{Form, spell}
-use Rattle.vt100_forms.specs.Length.{HasByteColors}
+use Rattle.vt100_forms.specs.Attrs.{HasByteColors}
 use Rattle.vt100_cells.specs.Cell.{IsCell}
 use Rattle.vt100_picture.specs.Term.{Size, Shown, IsShown}
 use Rattle.vt100_writers.specs.Modes.{input_mode_formatted, input_mode_diff}

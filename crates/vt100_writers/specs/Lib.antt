@@ -5,7 +5,6 @@ pub mod Length
 pub mod Modes
 pub mod Rows
 pub mod Screen
-pub mod Texts
 pub use Rattle.vt100_forms.specs.Attrs
 pub use Rattle.vt100_forms.specs.Form
 pub use Rattle.vt100_forms.specs.Mark

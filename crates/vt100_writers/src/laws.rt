@@ -8,7 +8,7 @@ ghost use Rattle.vt100_writers.specs.Laws.{EachGridRedrawLeads, EachGridDifferen
 ghost use Rattle.vt100_writers.specs.Laws.{EachStateRedrawLeads, EachDifferenceLeads, EachStateDifferenceLeads};
 ghost use Rattle.vt100_writers.specs.Laws.{EachChainLeads, EachLaterRedrawLeads};
 ghost use Rattle.vt100_writers.specs.Laws.{EachModeComesOut, EachTextIsSent, EachTextIsAForm, EachIsPlain};
-ghost use Rattle.vt100_writers.specs.Laws.{EachHasNoMark};
+ghost use Rattle.vt100_writers.specs.Laws.{EachHasNoMark, EachListIsSent, EachListIsOfForms};
 
 /// From the cells and flags of a screen the cursor comes to its place, and nothing else changes.
 pub fn cursors_are_placed()
@@ -113,6 +113,13 @@ pub fn texts_are_plain()
 /// So no mark of a synchronized update stands in the bytes.
 pub fn no_mark_is_written()
     ensures { EachHasNoMark }
+{}
+
+/// Every list is one of forms that writers send: its texts are those of cells, and its numbers are of the code's types.
+/// Where no cell shows U+FE0F it is one of forms that a screen and a view read alike.
+pub fn lists_are_of_forms()
+    ensures sent { EachListIsSent }
+    ensures forms { EachListIsOfForms }
 {}
 
 /// How many bytes are written at most: 1,024 for each cell of the screen, and 256, 512 or 1,008 more; 128 for the modes

@@ -29,7 +29,7 @@ use Rattle.vt100_picture.specs.Apply.{erase, input, inputs, switched, apply, run
 use Rattle.vt100_picture.proofs.FormLemmas.{erase-none}
 use Rattle.vt100_picture.proofs.TermLemmas.{IsTerm-apply}
 use Rattle.vt100_read.specs.Events.{kept_number}
-use Rattle.vt100_read.specs.Laws.{IsSentForm}
+use Rattle.vt100_picture.specs.FormText.{IsSentForm}
 use Rattle.vt100_read.proofs.SentTexts.{forms-readable}
 use Rattle.vte_read.specs.Calls.{place_told, foreground_told, background_told, intensity_told, flag_told, change_told}
 use Rattle.vte_read.specs.Calls.{style_told, set_call, reset_call, form_calls, form_calls_all}

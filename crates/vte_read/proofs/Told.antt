@@ -16,7 +16,8 @@ use Rattle.vt100_forms.specs.declared.attrs.Color.TheVariants.{Default, Idx, Rgb
 use Rattle.vt100_forms.specs.declared.term.Intensity.{Intensity}
 use Rattle.vt100_forms.specs.declared.term.Intensity.TheVariants.{Normal, Bold, Dim}
 use Rattle.vt100_forms.specs.Form.{Change, color_numbers, color_part, intensity_part, flag_part, sgr_numbers}
-use Rattle.vt100_forms.specs.Length.{IsByteColor, IsByteOption}
+use Rattle.vt100_forms.specs.Attrs.{IsByteColor}
+use Rattle.vt100_forms.specs.Length.{IsByteOption}
 use Rattle.vt100_read.specs.Events.{kept_number}
 use Rattle.vte_read.specs.Calls.{name_of, colour_told, foreground_told, background_told, intensity_told, flag_told}
 use Rattle.vte_read.specs.Calls.{change_told}

@@ -18,13 +18,12 @@ use Rattle.vt100_forms.specs.declared.modes.MouseProtocolEncoding.{MouseProtocol
 use Rattle.vt100_forms.specs.declared.modes.MouseProtocolEncoding.TheVariants as encoding
 use Rattle.vt100_forms.specs.declared.modes.MouseProtocolMode.{MouseProtocolMode}
 use Rattle.vt100_forms.specs.declared.modes.MouseProtocolMode.TheVariants as mouse
-use Rattle.vt100_forms.specs.Attrs.{default_attrs, with_bold, with_dim, with_normal_intensity, with_italic}
+use Rattle.vt100_forms.specs.Attrs.{default_attrs, with_bold, with_dim, with_normal_intensity, with_italic, IsByteColor}
 use Rattle.vt100_forms.specs.Attrs.{with_underline, with_inverse}
 use Rattle.vt100_forms.specs.Form.{Form, ClearScreen, mouse_number, encoding_number, spell}
-use Rattle.vt100_forms.specs.Length.{IsByteColor}
 use Rattle.vt100_picture.specs.Term.{Size, Term, IsTerm}
 use Rattle.vt100_picture.specs.Apply.{erase, input, down, switched, apply, run}
-use Rattle.vt100_read.specs.Laws.{IsSentForm}
+use Rattle.vt100_picture.specs.FormText.{IsSentForm}
 use Rattle.vte_read.specs.Calls.{colour_told, style_told, set_call, reset_call, form_calls, form_calls_all}
 
 -- one call after the other

@@ -1,6 +1,6 @@
 -- Answers for screen::wrapped::WrappedScreen::el.
 use Rattle.std.proofs.Common.{rules}
-use Rattle.vt100_state.proofs.ProperSheets.{proper_columns_erased}
+use Rattle.vt100_state.proofs.ProperSheets.{proper_columns_erased, proper_row_erased}
 use Rattle.vt100.proofs.ProperScreens.{drawn_screen}
 use Rattle.vt100.proofs.screen.wrapped.WrappedScreen.el.Goals as goal
 
@@ -15,3 +15,8 @@ invariant_of-self-in-1 g c = drawn_screen _ _ _ c.self.invariant c.erase_row_bac
     (search rules) (search rules)
     (rw c.erase_row_backward.ensures.grid
     (proper_columns_erased c.self.inside.0.0.grid _ _ _ c.self.invariant.attrs))
+
+pub invariant_of-self-in-2 : goal.invariant_of-self-in-2
+invariant_of-self-in-2 g c = drawn_screen _ _ _ c.self.invariant c.erase_row.ensures.allocated (search rules)
+    (search rules) (search rules)
+    (rw c.erase_row.ensures.grid (proper_row_erased c.self.inside.0.0.grid _ c.self.invariant.attrs))

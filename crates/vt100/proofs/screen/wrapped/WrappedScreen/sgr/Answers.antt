@@ -13,7 +13,7 @@ invariant_of-self-2 g c = record {
   shown_keeps = c.self.invariant.shown_keeps;
   other_keeps = c.self.invariant.other_keeps;
   attrs = rw (ap (λ (x : Read). x.attrs) c.read_groups.ensures)
-      (read_groups-proper c.args.params.now nothing c.self.inside.0.0.attrs c.self.invariant.attrs);
+      (read_groups-proper c.args.params.now nothing c.self.inside.0.0.attrs tt c.self.invariant.attrs);
   saved_attrs = c.self.invariant.saved_attrs;
   proper = c.self.invariant.proper;
   other_proper = c.self.invariant.other_proper;

@@ -1,31 +1,27 @@
 -- The numbers of the forms that draw a row are of the code's types.
 use Rattle.std.proofs.Common.{ℕ, zero, suc, ◌+◌, ◌-◌, ◌<◌, ◌≤◌, ◌==◌, Bool, true, false, cond, not, ◌&&◌}
-use Rattle.std.proofs.Common.{nat_lt, List, [], ◌∷◌, Option, Some, None, arith}
+use Rattle.std.proofs.Common.{nat_lt, [], ◌∷◌, Option, Some, None, arith}
 use Rattle.std.specs.Prelude.{◌^◌}
-use Rattle.std.specs.List.{AllByRecursion}
 use Rattle.std.proofs.lemmas.Bool.{cond_both}
 use Rattle.vt100_forms.specs.declared.attrs.Attrs.{Attrs}
 use Rattle.vt100_forms.specs.declared.attrs.Color.{Color}
 use Rattle.vt100_forms.specs.declared.position.Pos.{Pos}
-use Rattle.vt100_forms.specs.Attrs.{color_eq, attrs_eq, default_attrs}
-use Rattle.vt100_forms.specs.Form.{Form, MoveTo, MoveRight, ClearAttrs, Crlf, Sgr, changed_color, changed_attrs, change}
+use Rattle.vt100_forms.specs.Attrs.{color_eq, attrs_eq, default_attrs, IsByteColor, HasByteColors}
+use Rattle.vt100_forms.specs.Form.{MoveTo, MoveRight, ClearAttrs, Crlf, Sgr, changed_color, changed_attrs, change}
 use Rattle.vt100_forms.specs.Form.{moves}
-use Rattle.vt100_forms.specs.Length.{IsByteColor, IsByteOption, HasByteColors, HasSmallNumbers}
+use Rattle.vt100_forms.specs.Length.{IsByteOption, HasSmallNumbers}
 use Rattle.vt100_cells.specs.Cell.{CellView, has_text}
 use Rattle.vt100_cells.specs.Line.{span_of, put_unflags, wipe_unflags}
 use Rattle.vt100_redraw.specs.declared.pen.Erase.{Erase}
 use Rattle.vt100_redraw.specs.declared.pen.Pen.{Pen}
-use Rattle.vt100_redraw.specs.Writer.{Drawn, Writer, ◌>>◌, skip, goto, turn, colour, print, space, back, erasing}
+use Rattle.vt100_redraw.specs.Writer.{Writer, ◌>>◌, skip, goto, turn, colour, print, space, back, erasing}
 use Rattle.vt100_redraw.specs.Writer.{clearing, marking}
 use Rattle.vt100_redraw.specs.RowWriter.{Job, is_same, wraps, owes_flag, reprint, opening, to_erase, is_end, flush_of}
 use Rattle.vt100_redraw.specs.RowWriter.{flush, finish_of, finish, arrive, mark_of, mark, draw, column, columns}
 use Rattle.vt100_redraw.specs.RowWriter.{last_col, last_cell, unflag, print_last, mend, owes_end, closing, row_redraw}
 use Rattle.vt100_redraw.specs.RowWriter.{row_difference}
 use Rattle.vt100_redraw.proofs.Texts.{all-join}
-use Rattle.vt100_writers.proofs.Costs.{SmallErase, IsSmallPen, IsSmallJob}
-
-abbrev pub AreSmall : List Form → Type 0
-AreSmall fs = AllByRecursion HasSmallNumbers fs
+use Rattle.vt100_redraw.specs.Small.{AreSmall, SmallErase, IsSmallPen, IsSmallJob, IsSmallDrawn, EachNumberIsSmall}
 
 pub moves-small : (p q : Pos) → q.row < 2 ^ 16 → q.col < 2 ^ 16 → AreSmall (moves p q)
 moves-small p q hr hc =
@@ -45,10 +41,6 @@ change-small old new h =
     (λ _. ((changed-small old.fgcolor new.fgcolor h.0, changed-small old.bgcolor new.bgcolor h.1), tt)))
 
 -- ---- writers
-
-pub record IsSmallDrawn (d : Drawn) : Type 0 where
-  pub forms : AreSmall d.forms
-  pub pen : IsSmallPen d.pen
 
 abbrev pub Small : Writer → Type 0
 Small f = (p : Pen) → IsSmallPen p → IsSmallDrawn (f p)
@@ -125,7 +117,7 @@ small-opening j h p s =
     let x = j.new j.start in
     small-here (owes_flag j p) (turn j.row >> colour x.attrs >> reprint j x) skip p s
     (small-then (turn j.row >> colour x.attrs) (reprint j x)
-    (small-then (turn j.row) (colour x.attrs) (small-turn j.row) (small-colour x.attrs (h.colours j.start)))
+    (small-then (turn j.row) (colour x.attrs) (small-turn j.row) (small-colour x.attrs (h.colors j.start)))
     (small-reprint j j.start)) small-skip
 
 small-to_erase : (j : Job) (e : Erase) → IsSmallJob j → e.from < 2 ^ 16 → HasByteColors e.attrs → Small (to_erase j e)
@@ -170,7 +162,7 @@ small-arrive j c n h l p s =
 
 small-mark_of : (j : Job) (c : ℕ) (e : Option Erase) → IsSmallJob j → c < j.cols → Small (mark_of j c e)
 unfolding mark_of
-small-mark_of j c None h l = small-marking c (j.new c).attrs (omega (arith, l, h.cols)) (h.colours c)
+small-mark_of j c None h l = small-marking c (j.new c).attrs (omega (arith, l, h.cols)) (h.colors c)
 small-mark_of j c (Some e) h l = small-skip
 
 small-mark : (j : Job) (c : ℕ) → IsSmallJob j → c < j.cols → Small (mark j c)
@@ -186,7 +178,7 @@ small-draw j c h l =
     (small-either (has_text x) (arrive j c (span_of x) >> colour x.attrs >> print x b) (mark j c)
     (small-then (arrive j c (span_of x) >> colour x.attrs) (print x b)
     (small-then (arrive j c (span_of x)) (colour x.attrs) (small-arrive j c (span_of x) h l)
-    (small-colour x.attrs (h.colours c))) (small-print x b)) (small-mark j c h l))
+    (small-colour x.attrs (h.colors c))) (small-print x b)) (small-mark j c h l))
 
 small-column : (j : Job) (c : ℕ) → IsSmallJob j → c < j.cols → Small (column j c)
 unfolding column
@@ -194,26 +186,26 @@ small-column j c h l =
     small-either ((j.new c).continuation && not (c == j.start)) skip (flush j c >> draw j c) small-skip
     (small-then (flush j c) (draw j c) (small-flush j c h l) (small-draw j c h l))
 
-small-columns : (j : Job) (n : ℕ) → IsSmallJob j → n ≤ j.cols → Small (columns j n)
+small-columns : (j : Job) (n : ℕ) → IsSmallJob j → j.start + n ≤ j.cols → Small (columns j n)
 unfolding columns
 small-columns j zero h l = small-skip
 small-columns j (suc n) h l =
-    small-then (columns j n) (column j (j.start + n)) (small-columns j n h (omega arith))
-    (small-column j (j.start + n) h (omega (arith, h.start, l)))
+    small-then (columns j n) (column j (j.start + n)) (small-columns j n h (omega (arith, l)))
+    (small-column j (j.start + n) h (omega (arith, l)))
 
 small-print_last : (j : Job) (k : ℕ) → IsSmallJob j → Small (print_last (j.new k))
 unfolding print_last
 small-print_last j k h =
     let x = j.new k in
     small-either (has_text x) (colour x.attrs >> print x false) skip
-    (small-then (colour x.attrs) (print x false) (small-colour x.attrs (h.colours k)) (small-print x false)) small-skip
+    (small-then (colour x.attrs) (print x false) (small-colour x.attrs (h.colors k)) (small-print x false)) small-skip
 
 small-unflag : (j : Job) (k : ℕ) → IsSmallJob j → Small (unflag (j.new k))
 unfolding unflag
 small-unflag j k h =
     let x = j.new k in
     small-either (has_text x) (erasing 1 true) (colour x.attrs >> erasing 1 true) (small-erasing 1 true (omega arith))
-    (small-then (colour x.attrs) (erasing 1 true) (small-colour x.attrs (h.colours k))
+    (small-then (colour x.attrs) (erasing 1 true) (small-colour x.attrs (h.colors k))
     (small-erasing 1 true (omega arith)))
 
 small-mend : (j : Job) (k : ℕ) → IsSmallJob j → Small (mend j (j.new k))
@@ -235,14 +227,16 @@ small-closing j h p s =
     (small-then (goto j.row (last_col j)) (mend j (last_cell j))
     (small-goto j.row (last_col j) h.row (last-within j h)) (small-mend j (last_col j) h)) small-skip
 
-pub small-row_redraw : (j : Job) → IsSmallJob j → Small (row_redraw j j.cols)
+pub small-row_redraw : (j : Job) (n : ℕ) → IsSmallJob j → j.start + n ≤ j.cols → Small (row_redraw j n)
 unfolding row_redraw
-small-row_redraw j h =
-    small-then (opening j >> columns j j.cols) (finish j)
-    (small-then (opening j) (columns j j.cols) (small-opening j h) (small-columns j j.cols h (omega arith)))
-    (small-finish j h)
+small-row_redraw j n h l =
+    small-then (opening j >> columns j n) (finish j)
+    (small-then (opening j) (columns j n) (small-opening j h) (small-columns j n h l)) (small-finish j h)
 
-pub small-row_difference : (j : Job) → IsSmallJob j → Small (row_difference j j.cols)
+pub small-row_difference : (j : Job) (n : ℕ) → IsSmallJob j → j.start + n ≤ j.cols → Small (row_difference j n)
 unfolding row_difference
-small-row_difference j h =
-    small-then (row_redraw j j.cols) (closing j) (small-row_redraw j h) (small-closing j h)
+small-row_difference j n h l =
+    small-then (row_redraw j n) (closing j) (small-row_redraw j n h l) (small-closing j h)
+
+pub numbers-small : EachNumberIsSmall
+numbers-small j n p h l s = (small-row_redraw j n h l p s, small-row_difference j n h l p s)

@@ -1,53 +1,56 @@
 -- The numbers of the forms that redraw a screen, or lead to it from another one, are of the code's types.
-use Rattle.std.proofs.Common.{ℕ, zero, suc, ◌-◌, ◌<◌, ◌≤◌, Bool, false, not, ◌&&◌, ◌||◌}
-use Rattle.std.proofs.Common.{nat_lt, [], ◌∷◌, ◌++◌, Option, Some, None, refl, arith}
+use Rattle.std.proofs.Common.{ℕ, zero, suc, ◌-◌, ◌<◌, ◌≤◌, Bool, false, not, ◌&&◌}
+use Rattle.std.proofs.Common.{nat_lt, List, [], ◌∷◌, ◌++◌, Option, Some, None, arith}
 use Rattle.std.specs.Prelude.{◌^◌, replicate}
+use Rattle.std.specs.List.{AllByRecursion}
 use Rattle.std.proofs.lemmas.Bool.{cond_both}
 use Rattle.vt100_forms.specs.declared.attrs.Attrs.{Attrs}
 use Rattle.vt100_forms.specs.declared.position.Pos.{Pos}
-use Rattle.vt100_forms.specs.Attrs.{default_attrs}
+use Rattle.vt100_forms.specs.Attrs.{default_attrs, HasByteColors}
 use Rattle.vt100_forms.specs.Form.{Form, Text, EraseChar, Lf, Backspace, SaveCursor}
 use Rattle.vt100_forms.specs.Form.{RestoreCursor, HideCursor, Keypad, CursorKeys, Paste, Mouse, Encoding, Style, change}
-use Rattle.vt100_forms.specs.Length.{HasByteColors, HasSmallNumbers}
+use Rattle.vt100_forms.specs.Length.{HasSmallNumbers}
 use Rattle.vt100_cells.specs.Cell.{CellView, bool_eq}
 use Rattle.vt100_picture.specs.Term.{Size, Shown, blank_shown}
+use Rattle.vt100_picture.specs.FormText.{IsSentText, IsFormText, HasText, AllTexts}
+use Rattle.vt100_picture.proofs.FormTexts.{all-both}
 use Rattle.vt100_redraw.specs.declared.pen.Pen.{Pen}
+use Rattle.vt100_redraw.specs.Small.{AreSmall, SmallErase, IsSmallPen, IsSmallJob, IsSmallDrawn}
 use Rattle.vt100_redraw.proofs.Texts.{all-join}
+use Rattle.vt100_redraw.proofs.SmallRows.{moves-small, change-small, Small, small-then, small-skip, small-row_redraw}
+use Rattle.vt100_redraw.proofs.SmallRows.{small-row_difference}
 use Rattle.vt100_writers.specs.Rows.{afresh, pen_at, is_continued, job_of, next_redraw, rows_redraw, next_difference}
 use Rattle.vt100_writers.specs.Rows.{rows_difference}
 use Rattle.vt100_writers.specs.Cursor.{place, arriving, is_at, last_col, last_cell, row_with_end, printed_with}
 use Rattle.vt100_writers.specs.Cursor.{wait_behind, wait_on_empty, wait, cursor_position_formatted}
-use Rattle.vt100_writers.specs.Modes.{switch, input_mode_formatted, input_mode_diff}
+use Rattle.vt100_writers.specs.Modes.{switch, input_mode_formatted, input_mode_diff, attributes_formatted}
 use Rattle.vt100_writers.specs.Screen.{cursor_placed, grid_redraw, grid_contents_formatted, grid_difference}
 use Rattle.vt100_writers.specs.Screen.{contents_formatted, state_formatted, contents_diff, state_diff}
+use Rattle.vt100_writers.specs.Screen.{cursor_state_formatted}
 use Rattle.vt100_writers.specs.Length.{IsSmallScreen}
-use Rattle.vt100_writers.proofs.Costs.{IsSmallPen, SmallErase, IsSmallJob}
+use Rattle.vt100_writers.specs.Laws.{IsTrueOfLists, IsTrueOfEach, EachListIsSent, EachListIsOfForms}
 use Rattle.vt100_writers.proofs.Cursor.{Ends, ends}
-use Rattle.termrelay.specs.Frame.{is_unsure, body_forms}
-use Rattle.faithful.proofs.SmallRows.{AreSmall, moves-small, change-small, IsSmallDrawn, Small, small-then, small-skip}
-use Rattle.faithful.proofs.SmallRows.{small-row_redraw, small-row_difference}
+use Rattle.vt100_writers.proofs.Texts.{texts-sent, texts-forms}
 
 -- ---- rows
 
-small-job : (z : Size) (old s : Shown) (i : ℕ) (flagged : Bool) → IsSmallScreen z s → i < z.rows
+pub small-job : (z : Size) (old s : Shown) (i : ℕ) (flagged : Bool) → IsSmallScreen z s → i < z.rows
     → IsSmallJob (job_of z old s i flagged)
 small-job z old s i flagged h l = record {
-  start = refl;
-  some = h.shown.some_col;
   cols = h.cols;
   row = omega (arith, l, h.rows);
-  cells = h.cells i;
-  colours = h.colours i;
+  colors = h.colours i;
 }
 
-small-afresh : (p : Pen) → IsSmallPen p → IsSmallPen (afresh p)
+pub small-afresh : (p : Pen) → IsSmallPen p → IsSmallPen (afresh p)
 unfolding IsSmallPen
 small-afresh p s = s
 
 small-next_redraw : (z : Size) (s : Shown) (i : ℕ) → IsSmallScreen z s → i < z.rows → Small (next_redraw z s i)
 unfolding next_redraw
 small-next_redraw z s i h l p small =
-    small-row_redraw (job_of z blank_shown s i false) (small-job z blank_shown s i false h l) (afresh p)
+    small-row_redraw (job_of z blank_shown s i false) z.cols (small-job z blank_shown s i false h l) (omega arith)
+    (afresh p)
     (small-afresh p small)
 
 small-redraws : (z : Size) (s : Shown) (n : ℕ) → IsSmallScreen z s → n ≤ z.rows → Small (rows_redraw z s n)
@@ -62,7 +65,8 @@ small-next_difference : (z : Size) (old new : Shown) (i : ℕ) → IsSmallScreen
 unfolding next_difference
 small-next_difference z old new i h l p small =
     let flagged = is_continued old.wrapped i && not p.lost in
-    small-row_difference (job_of z old new i flagged) (small-job z old new i flagged h l) (afresh p)
+    small-row_difference (job_of z old new i flagged) z.cols (small-job z old new i flagged h l) (omega arith)
+    (afresh p)
     (small-afresh p small)
 
 small-differences : (z : Size) (old new : Shown) (n : ℕ) → IsSmallScreen z new → n ≤ z.rows
@@ -83,7 +87,7 @@ feeds-small : (n : ℕ) → AreSmall (replicate n Lf)
 feeds-small zero = tt
 feeds-small (suc n) = (tt, feeds-small n)
 
-last-small : (z : Size) (s : Shown) (r : ℕ) → IsSmallScreen z s → last_col z s r < 2 ^ 16
+pub last-small : (z : Size) (s : Shown) (r : ℕ) → IsSmallScreen z s → last_col z s r < 2 ^ 16
 last-small z s r h =
     cond_both (s.cell r (z.cols - 1)).continuation (z.cols - 2) (z.cols - 1) (λ c. c < 2 ^ 16)
     (λ _. omega (arith, h.cols)) (λ _. omega (arith, h.cols))
@@ -139,7 +143,7 @@ small-cursor z s h p small = record { forms = cursor-small z s (Some p.pos) p.at
 
 -- ---- grids
 
-pen-small : (row col : ℕ) (a : Attrs) → HasByteColors a → IsSmallPen (pen_at row col a)
+pub pen-small : (row col : ℕ) (a : Attrs) → HasByteColors a → IsSmallPen (pen_at row col a)
 unfolding IsSmallPen SmallErase
 pen-small row col a h = (h, tt)
 
@@ -215,18 +219,56 @@ state_diff-small z old new ha h =
     all-join HasSmallNumbers (contents_diff z old new) (input_mode_diff old new) (contents_diff-small z old new ha h)
     (modes_diff-small old new)
 
--- ---- frames
+cursor_state-small : (z : Size) (s : Shown) → IsSmallScreen z s → AreSmall (cursor_state_formatted z s)
+unfolding cursor_state_formatted
+cursor_state-small z s h = (tt, cursor-small z s None default_attrs h (tt, tt))
 
-abbrev pub HasByteBase : Option Shown → Type 0
-HasByteBase None = Unit {0}
-HasByteBase (Some base) = HasByteColors base.attrs
+attributes-small : (s : Shown) → HasByteColors s.attrs → AreSmall (attributes_formatted s)
+unfolding attributes_formatted
+attributes-small s h = (tt, change-small default_attrs s.attrs h)
 
-pub body-small : (z : Size) (base : Option Shown) (now : Shown) → HasByteBase base → IsSmallScreen z now
-    → AreSmall (body_forms z base now)
-unfolding body_forms
-body-small z None now hb h = state-small z now h
-body-small z (Some base) now hb h =
-    cond_both (is_unsure z base || is_unsure z now) (contents_formatted z now ++ input_mode_diff base now)
-    (state_diff z base now) AreSmall
-    (λ _. all-join HasSmallNumbers (contents_formatted z now) (input_mode_diff base now) (contents-small z now h)
-    (modes_diff-small base now)) (λ _. state_diff-small z base now hb h)
+-- ---- all of them
+
+each-small : (z : Size) (old new : Shown) → HasByteColors old.attrs → IsSmallScreen z new
+    → IsTrueOfLists AreSmall HasByteColors z old new
+each-small z old new ha h = record {
+  state_formatted = state-small z new h;
+  contents_formatted = contents-small z new h;
+  state_diff = state_diff-small z old new ha h;
+  contents_diff = contents_diff-small z old new ha h;
+  cursor_state_formatted = cursor_state-small z new h;
+  input_mode_formatted = modes-small new;
+  input_mode_diff = modes_diff-small old new;
+  attributes_formatted = attributes-small new h.attrs;
+  grid_formatted = grid-small z new h;
+  grid_diff = (difference-small z old new ha h).forms;
+  cursor = λ p a k. cursor-small z new p a h k;
+}
+
+-- lists of forms whose texts are as P says
+with-numbers : (P : List ℕ → Type 0) (z : Size) (old new : Shown) → HasByteColors old.attrs → IsSmallScreen z new
+    → IsTrueOfEach (AllTexts P) z old new
+    → IsTrueOfLists (AllByRecursion (λ f. HasText P f × HasSmallNumbers f)) HasByteColors z old new
+with-numbers P z old new ha h t =
+    let s = each-small z old new ha h in
+    let both : (fs : List Form) → AllTexts P fs → AreSmall fs → AllByRecursion (λ f. HasText P f × HasSmallNumbers f) fs =
+    λ fs a b. all-both (HasText P) HasSmallNumbers fs a b in
+    record {
+      state_formatted = both (state_formatted z new) t.state_formatted s.state_formatted;
+      contents_formatted = both (contents_formatted z new) t.contents_formatted s.contents_formatted;
+      state_diff = both (state_diff z old new) t.state_diff s.state_diff;
+      contents_diff = both (contents_diff z old new) t.contents_diff s.contents_diff;
+      cursor_state_formatted = both (cursor_state_formatted z new) t.cursor_state_formatted s.cursor_state_formatted;
+      input_mode_formatted = both (input_mode_formatted new) t.input_mode_formatted s.input_mode_formatted;
+      input_mode_diff = both (input_mode_diff old new) t.input_mode_diff s.input_mode_diff;
+      attributes_formatted = both (attributes_formatted new) t.attributes_formatted s.attributes_formatted;
+      grid_formatted = both (grid_contents_formatted z new) t.grid_formatted s.grid_formatted;
+      grid_diff = both (grid_difference z old new).forms t.grid_diff s.grid_diff;
+      cursor = λ p a k. both (cursor_position_formatted z new p a) (t.cursor p a tt) (s.cursor p a k);
+    }
+
+pub lists-sent : EachListIsSent
+lists-sent z old new ha h known = with-numbers IsSentText z old new ha h (texts-sent z old new known)
+
+pub lists-forms : EachListIsOfForms
+lists-forms z old new ha h known plain = with-numbers IsFormText z old new ha h (texts-forms z old new known plain)

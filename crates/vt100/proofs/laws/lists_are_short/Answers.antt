@@ -1,0 +1,5 @@
+use Rattle.vt100.proofs.FormLists.{screen-short}
+use Rattle.vt100.proofs.laws.lists_are_short.Goals as goal
+
+pub returns : goal.returns
+returns c = screen-short

@@ -1,0 +1,87 @@
+-- A grid's lists are those of its picture, whose forms and lengths are known.
+use Rattle.std.proofs.Common.{◌≡◌, ℕ, List, Contains, sym, subst, Option}
+use Rattle.std.specs.Prelude.{unwrap_or}
+use Rattle.vt100_forms.specs.declared.attrs.Attrs.{Attrs}
+use Rattle.vt100_forms.specs.Attrs.{HasByteColors, default_attrs}
+use Rattle.vt100_forms.specs.Form.{Form}
+use Rattle.vt100_picture.specs.FormText.{AreForms, AreSentForms}
+use Rattle.vt100_picture.specs.Term.{Shown}
+use Rattle.vt100_redraw.specs.Writer.{Drawn}
+use Rattle.vt100_sheet.specs.Picture.{lines_of}
+use Rattle.vt100_writers.specs.Laws as writers
+use Rattle.vt100_writers.specs.Screen as picture
+use Rattle.vt100_writers.specs.Laws.{IsKnown}
+use Rattle.vt100_writers.specs.Length as writers_length
+use Rattle.vt100_writers.specs.Length.{IsSmallScreen, IsWithin}
+use Rattle.vt100_writers.proofs.Lengths.{each-short}
+use Rattle.vt100_writers.proofs.SmallScreens.{lists-sent, lists-forms}
+use Rattle.vt100_core.specs.Grid.{GridView}
+use Rattle.vt100_core.specs.Picture.{size_of, Extras}
+use Rattle.vt100_core.specs.Writers.{drawn_on, redrawn, contents_formatted, differing}
+use Rattle.vt100_core.specs.WriterLaws.{IsUnscrolled, picture_of}
+use Rattle.vt100_core.specs.FormLists.{IsProperGrid, HasNo, IsTrueOfLists, EachListIsSent, EachListIsOfForms, AreShort}
+use Rattle.vt100_core.specs.FormLists.{EachListIsShort}
+use Rattle.vt100_core.proofs.PictureWriters.{plain_extras, shown-grid, lines-cells, contents-is, redrawn-of_picture}
+use Rattle.vt100_core.proofs.PictureWriters.{differing-of_pictures}
+
+pub small-grid : (g : GridView) → IsProperGrid g → IsSmallScreen (size_of g) (drawn_on g)
+small-grid g h = record {
+  shown = shown-grid g plain_extras h.shown;
+  cells = λ r k. lines-cells g r k h.shown.grid;
+  rows = h.shown.grid.few_rows;
+  cols = h.shown.grid.few_cols;
+  colours = λ r k. (h.proper r k).colors;
+  attrs = (tt, tt);
+}
+
+known-grid : (g : GridView) → IsProperGrid g → HasNo 0xFFFD g → IsKnown (drawn_on g)
+known-grid g h clean = record { cells = λ r k. lines-cells g r k h.shown.grid; known = clean }
+
+-- beside the earlier grid: what the terminal draws with
+with_attrs : Attrs → Extras
+with_attrs a = record plain_extras { attrs = a }
+
+contents-of : (Q : List Form → Type 0) (g : GridView) → IsProperGrid g
+    → Q (picture.grid_contents_formatted (size_of g) (drawn_on g)) → Q (contents_formatted g)
+contents-of Q g h q = subst Q (sym (contents-is g (redrawn-of_picture g plain_extras h.shown))) q
+
+difference-of : (Q : List Form → Type 0) (g old : GridView) (a : Attrs) → IsProperGrid g → IsUnscrolled old
+    → size_of old ≡ size_of g
+    → Q (picture.grid_difference (size_of g) (picture_of old (with_attrs a)) (drawn_on g)).forms
+    → Q (differing g old a).forms
+unfolding with_attrs
+difference-of Q g old a h o e q =
+    subst (λ (d : Drawn). Q d.forms) (sym (differing-of_pictures g old plain_extras (with_attrs a) h.shown o e)) q
+
+-- what is true of the lists of pictures is true of those of grids
+of-pictures : (Q : List Form → Type 0) (g : GridView) → IsProperGrid g
+    → ((old : Shown) → HasByteColors old.attrs
+    → writers.IsTrueOfLists Q HasByteColors (size_of g) old (drawn_on g)) → IsTrueOfLists Q g
+unfolding with_attrs
+of-pictures Q g h q = record {
+  contents = contents-of Q g h (q (drawn_on g) (tt, tt)).grid_formatted;
+  difference = λ old a o e k. difference-of Q g old a h o e (q (picture_of old (with_attrs a)) k).grid_diff;
+  cursor = λ p a k. (q (drawn_on g) (tt, tt)).cursor p (unwrap_or a default_attrs) k;
+}
+
+pub grid-sent : EachListIsSent
+grid-sent g h clean =
+    of-pictures AreSentForms g h
+    (λ old k. lists-sent (size_of g) old (drawn_on g) k (small-grid g h) (known-grid g h clean))
+
+pub grid-forms : EachListIsOfForms
+grid-forms g h clean plain =
+    of-pictures AreForms g h
+    (λ old k. lists-forms (size_of g) old (drawn_on g) k (small-grid g h) (known-grid g h clean) plain)
+
+pub grid-short : EachListIsShort
+unfolding with_attrs
+grid-short g h =
+    let z = size_of g in
+    let short : (old : Shown) → HasByteColors old.attrs → writers_length.AreShort z old (drawn_on g) =
+    λ old k. each-short z old (drawn_on g) k (small-grid g h) in
+    record {
+      contents = contents-of (IsWithin z 256) g h (short (drawn_on g) (tt, tt)).grid_formatted;
+      difference = λ old a o e k. difference-of (IsWithin z 256) g old a h o e
+          (short (picture_of old (with_attrs a)) k).grid_diff;
+    }

@@ -1,0 +1,5 @@
+use Rattle.vt100_core.proofs.FormLists.{grid-short}
+use Rattle.vt100_core.proofs.laws.lists_are_short.Goals as goal
+
+pub returns : goal.returns
+returns c = grid-short

@@ -1,0 +1,47 @@
+-- What a grid appends are lists of forms that writers send, and how long they can be.
+use Rattle.std.specs.Prelude.{ℕ, ◌≡◌, List, Contains, Option, unwrap_or}
+use Rattle.vt100_forms.specs.declared.attrs.Attrs.{Attrs}
+use Rattle.vt100_forms.specs.declared.position.Pos.{Pos}
+use Rattle.vt100_forms.specs.Attrs.{IsProper, HasByteColors, default_attrs}
+use Rattle.vt100_forms.specs.Form.{Form}
+use Rattle.vt100_picture.specs.FormText.{AreForms, AreSentForms}
+use Rattle.vt100_sheet.specs.Picture.{lines_of}
+use Rattle.vt100_writers.specs.Length.{IsWithin}
+use Rattle.vt100_core.specs.Grid.{GridView}
+use Rattle.vt100_core.specs.Picture.{size_of}
+use Rattle.vt100_core.specs.Writers.{cursor_position_formatted, contents_formatted, differing}
+use Rattle.vt100_core.specs.WriterLaws.{IsUnscrolled}
+
+-- a grid with its rows, which shows no kept row, with attributes such as control sequences can set
+pub record IsProperGrid (g : GridView) : Type 0 where
+  pub shown : IsUnscrolled g
+  pub proper : (r k : ℕ) → IsProper (lines_of g.rows r k).attrs
+
+-- the character c stands in no cell
+abbrev pub HasNo : ℕ → GridView → Type 0
+HasNo c g = (r k : ℕ) → Contains (lines_of g.rows r k).text c → ⊥
+
+-- what is true of each list of forms that is appended: over any earlier grid of the size, and for a cursor and
+-- attributes as they are given
+pub record IsTrueOfLists (Q : List Form → Type 0) (g : GridView) : Type 0 where
+  pub contents : Q (contents_formatted g)
+  pub difference : (old : GridView) (a : Attrs) → IsUnscrolled old → size_of old ≡ size_of g → HasByteColors a
+      → Q (differing g old a).forms
+  pub cursor : (p : Option Pos) (a : Option Attrs) → HasByteColors (unwrap_or a default_attrs)
+      → Q (cursor_position_formatted g p a)
+
+abbrev pub EachListIsSent : Type 0
+EachListIsSent = (g : GridView) → IsProperGrid g → HasNo 0xFFFD g → IsTrueOfLists AreSentForms g
+
+-- where no cell has U+FE0F, they are forms that a screen and a view read alike
+abbrev pub EachListIsOfForms : Type 0
+EachListIsOfForms = (g : GridView) → IsProperGrid g → HasNo 0xFFFD g → HasNo 0xFE0F g → IsTrueOfLists AreForms g
+
+-- at most 1,024 bytes a cell, and 256 more
+pub record AreShort (g : GridView) : Type 0 where
+  pub contents : IsWithin (size_of g) 256 (contents_formatted g)
+  pub difference : (old : GridView) (a : Attrs) → IsUnscrolled old → size_of old ≡ size_of g → HasByteColors a
+      → IsWithin (size_of g) 256 (differing g old a).forms
+
+abbrev pub EachListIsShort : Type 0
+EachListIsShort = (g : GridView) → IsProperGrid g → AreShort g
