@@ -7,7 +7,7 @@ use Rattle.std.proofs.lemmas.Str.{encode_ascii}
 use Rattle.vt100_forms.specs.declared.attrs.Attrs.{Attrs}
 use Rattle.vt100_rows.specs.Row.{RowView}
 use Rattle.vt100_rows.specs.Basic.{basic_text}
-use Rattle.vt100_rows.proofs.BasicLemmas.{writes-one, writes-append, writes-nothing}
+use Rattle.vt100_rows.proofs.BasicLemmas.{writes-one, writes-append, writes-nothing, nil-left, nil-right}
 use Rattle.vt100_capture.specs.Capture.{CaptureView, captured_row, after_row, captured, after_rows}
 
 module _ {W : Type 0} (gives : W → List ℕ → W → Type 0) (s : CaptureView) (v : RowView) (a : Attrs) (w u x : W)
@@ -78,3 +78,13 @@ pub after_rows-append : (s : CaptureView) (xs ys : List RowView)
     → after_rows s (xs ++ ys) ≡ after_rows (after_rows s xs) ys
 after_rows-append s [] ys = refl
 after_rows-append s (x ∷ xs) ys = after_rows-append (after_row s x) xs ys
+
+-- ---- where nothing is to be written
+
+-- the first of the rows that are left writes nothing
+pub left-none : {W : Type 0} (gives : W → List ℕ → W → Type 0) (s : CaptureView) (rows : List RowView) (w : W)
+    (from left : List RowView) (x : RowView) (t : CaptureView) (v : W) → from ≡ x ∷ left
+    → IsCaptured gives s rows w from t v → captured s rows ≡ [] → captured_row t x ≡ []
+left-none gives s rows w from left x t v e h none =
+    nil-left (captured_row t x) (captured (after_row t x) left)
+    (nil-right h.text (captured t (x ∷ left)) (ap (λ xs. h.text ++ captured t xs) (sym e) ∙ sym h.whole ∙ none))

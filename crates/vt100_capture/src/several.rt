@@ -1,5 +1,5 @@
 //! Several rows of a capture.
-ghost use Rattle.std.specs.Prelude.{◌≡◌, OnOk};
+ghost use Rattle.std.specs.Prelude.{◌≡◌, [], OnOk, IsOk};
 ghost use Rattle.std.specs.Fmt.{WritesInCalls};
 ghost use Rattle.vt100_capture.specs.Capture.{captured, after_rows};
 
@@ -16,6 +16,7 @@ pub fn write_rows<W: fmt::Write>(
 ) -> fmt::Result
     ensures text { OnOk result (WritesInCalls W.write_str_gives writer.old (captured state.old rows.now) writer.new) }
     ensures state { OnOk result (state.new ≡ after_rows state.old rows.now) }
+    ensures empty { captured state.old rows.now ≡ [] → IsOk result }
 {
     for row in rows {
         RowContents::new(row).write_formatted_basic(writer, state)?;

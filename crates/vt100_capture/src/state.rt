@@ -70,7 +70,7 @@ impl<'a> Model for RowContents<'a> {
 }
 
 impl<'a> RowContents<'a> {
-    ghost use Rattle.std.specs.Prelude.{◌≡◌, OnOk};
+    ghost use Rattle.std.specs.Prelude.{◌≡◌, [], OnOk, IsOk};
     ghost use Rattle.std.specs.Fmt.{WritesInCalls};
     ghost use Rattle.vt100_capture.specs.Capture.{captured_row, after_row};
 
@@ -83,7 +83,7 @@ impl<'a> RowContents<'a> {
 
     /// Writes the row's text with its attributes, as a part of the capture that goes on at `state`: before it the
     /// newline that ends the row before, where that one isn't wrapped, and after it none. The only error is the
-    /// writer's, after which the state is open.
+    /// writer's, after which the state is open; there is none where there is nothing to write.
     pub fn write_formatted_basic<W: fmt::Write>(
         &self,
         writer: &mut W,
@@ -92,6 +92,7 @@ impl<'a> RowContents<'a> {
         ensures text { OnOk result (WritesInCalls W.write_str_gives writer.old
             (captured_row state.old self.now) writer.new) }
         ensures state { OnOk result (state.new ≡ after_row state.old self.now) }
+        ensures empty { captured_row state.old self.now ≡ [] → IsOk result }
     {
         if state.newline_pending {
             writer.write_char('\n')?;

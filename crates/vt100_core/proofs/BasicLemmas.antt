@@ -1,8 +1,8 @@
 -- A capture of some rows, and then of others.
-use Rattle.std.proofs.Common.{◌≡◌, ℕ, List, ◌++◌, sym, ap, subst, ◌∙◌}
+use Rattle.std.proofs.Common.{◌≡◌, ℕ, List, [], ◌++◌, sym, ap, subst, ◌∙◌}
 use Rattle.std.specs.Fmt.{WritesInCalls}
 use Rattle.vt100_rows.specs.Row.{RowView}
-use Rattle.vt100_rows.proofs.BasicLemmas.{writes-append}
+use Rattle.vt100_rows.proofs.BasicLemmas.{writes-append, nil-left, nil-right}
 use Rattle.vt100_capture.specs.Capture.{CaptureView, captured, after_rows}
 use Rattle.vt100_capture.proofs.CaptureLemmas.{captured-append, after_rows-append}
 
@@ -17,3 +17,12 @@ module _ (s t : CaptureView) (xs ys : List RowView) (e : t ≡ after_rows s xs) 
 
   pub both-after : (u : CaptureView) → u ≡ after_rows t ys → u ≡ after_rows s (xs ++ ys)
   both-after u h = h ∙ ap (λ z. after_rows z ys) e ∙ sym (after_rows-append s xs ys)
+
+  -- where nothing is to be written, the others write nothing
+  pub second-none : captured s (xs ++ ys) ≡ [] → captured t ys ≡ []
+  second-none h = ap (λ z. captured z ys) e
+      ∙ nil-right (captured s xs) (captured (after_rows s xs) ys) (sym (captured-append s xs ys) ∙ h)
+
+-- nor do the first ones
+pub first-none : (s : CaptureView) (xs ys : List RowView) → captured s (xs ++ ys) ≡ [] → captured s xs ≡ []
+first-none s xs ys h = nil-left (captured s xs) (captured (after_rows s xs) ys) (sym (captured-append s xs ys) ∙ h)

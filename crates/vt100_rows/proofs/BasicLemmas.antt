@@ -1,11 +1,12 @@
 -- Writing one text after another, and what a cell writes.
-use Rattle.std.proofs.Common.{◌≡◌, ℕ, suc, List, [], ◌∷◌, ◌++◌, append-nil, refl, sym, ap, subst, ◌∙◌, Bool, true}
-use Rattle.std.proofs.Common.{false, cond, arith}
+use Rattle.std.proofs.Common.{◌≡◌, ◌<◌, ◌==◌, nat_lt, ℕ, zero, suc, List, [], ◌∷◌, ◌++◌, append-nil, refl, sym, ap}
+use Rattle.std.proofs.Common.{subst, ◌∙◌, Bool, true, false, cond, not, arith, length, ◌⊎◌, inl, inr}
 use Rattle.std.specs.Prelude.{encode_utf8_all, encode_utf8, Result, Ok, Err, OnOk, IsOk}
 use Rattle.std.specs.List.{FoldsTo, concat}
 use Rattle.std.specs.Fmt.{WritesInCalls}
 use Rattle.std.proofs.lemmas.List.Folds.{concat-append}
-use Rattle.std.proofs.lemmas.Str.{encode_ascii}
+use Rattle.std.proofs.lemmas.Str.{encode_ascii, length-le-encodes}
+use Rattle.std.proofs.lemmas.Bool.Decides.{nat_tests}
 use Rattle.vt100_forms.specs.declared.attrs.Attrs.{Attrs}
 use Rattle.vt100_forms.specs.Form.{spell, change}
 use Rattle.vt100_forms.specs.Writer.{HandsOver}
@@ -60,6 +61,38 @@ basic_cell-own a x b h d t =
     ap (λ q. cond q [] (cond (is_default x) (32 ∷ []) (shown (has_text x)))) h
     ∙ ap (λ q. cond q (32 ∷ []) (shown (has_text x))) d ∙ ap shown t
 
+-- the parts of an empty list are empty
+pub nil-left : (xs ys : List ℕ) → xs ++ ys ≡ [] → xs ≡ []
+nil-left [] ys e = refl
+nil-left (x ∷ xs) ys e = cc
+
+pub nil-right : (xs ys : List ℕ) → xs ++ ys ≡ [] → ys ≡ []
+nil-right [] ys e = e
+nil-right (x ∷ xs) ys e = cc
+
+some-text : (b : Bool) (xs : List ℕ) → not (length xs == 0) ≡ b → 0 < length (cond b xs (32 ∷ []))
+some-text true xs e = grind (arith, nat_tests)
+some-text false xs e = omega arith
+
+either : (b : Bool) → (b ≡ true) ⊎ (b ≡ false)
+either true = inl refl
+either false = inr refl
+
+-- a cell that isn't the second half of a wide character writes something
+pub basic_cell-some : (a : Attrs) (x : CellView) → x.continuation ≡ false → basic_cell a x ≡ [] → ⊥
+basic_cell-some a x h e =
+    elim (either (is_default x)) [
+      | inl d ↦
+          let none : 1 ≡ 0 = ap length (sym (basic_cell-default a x h d) ∙ e) in
+          omega (arith, none)
+      | inr d ↦
+          let text = cond (has_text x) x.text (32 ∷ []) in
+          let shown = encode_utf8_all text in
+          let none : length shown ≡ 0 = ap length (nil-right (spell (change a x.attrs)) shown
+          (sym (basic_cell-own a x (has_text x) h d refl) ∙ e)) in
+          omega (arith, none, length-le-encodes text, some-text (has_text x) x.text refl)
+    ]
+
 module _ {W : Type 0} (gives : W → List ℕ → W → Type 0) (w : W) (a : Attrs) (x : CellView)
     (whole : x.continuation ≡ false) where
   pub writes-default : (v : W) → is_default x ≡ true → gives w (encode_utf8 32) v
@@ -97,3 +130,25 @@ module _ {W : Type 0} (gives : W → List ℕ → W → Type 0) (f : ℕ → Cel
         ∙ ap (basic_cell (basic_attrs f a n)) ex) t);
     attrs = ec ∙ ap (λ y. attrs_after y x) h.attrs ∙ ap (attrs_after (basic_attrs f a n)) ex;
   })
+
+near : (i n : ℕ) → i < suc n → (i < n) ⊎ (i ≡ n)
+near i n h = elim (either (nat_lt i n)) [
+  | inl e ↦ inl (grind (arith, nat_tests))
+  | inr e ↦ inr (grind (arith, nat_tests))
+]
+
+-- where the first columns write nothing, none of them does
+columns-none : (f : ℕ → CellView) (a : Attrs) (i n : ℕ) → i < n → basic_columns f a n ≡ []
+    → basic_cell (basic_attrs f a i) (f i) ≡ []
+columns-none f a i zero h e = absurd (omega (arith, h))
+columns-none f a i (suc n) h e =
+    let last = basic_cell (basic_attrs f a n) (f n) in
+    elim (near i n h) [
+      | inl l ↦ columns-none f a i n l (nil-left (basic_columns f a n) last e)
+      | inr is ↦ rw is (nil-right (basic_columns f a n) last e)
+    ]
+
+pub no-column : (f : ℕ → CellView) (a : Attrs) (i n : ℕ) (x : CellView) (b : Attrs) → i < n → x ≡ f i
+    → b ≡ basic_attrs f a i → basic_columns f a n ≡ [] → basic_cell b x ≡ []
+no-column f a i n x b h ex eb e =
+    ap (λ y. basic_cell y x) eb ∙ ap (basic_cell (basic_attrs f a i)) ex ∙ columns-none f a i n h e

@@ -1,5 +1,5 @@
 //! A row's text with its attributes.
-ghost use Rattle.std.specs.Prelude.{◌≡◌, OnOk};
+ghost use Rattle.std.specs.Prelude.{◌≡◌, [], OnOk, IsOk};
 ghost use Rattle.std.specs.Fmt.{WritesInCalls};
 ghost use Rattle.vt100_rows.specs.Basic.{basic_text, attrs_after_row, basic_cell, attrs_after};
 
@@ -15,7 +15,7 @@ impl Row {
     /// other empty cells spaces in their own.
     ///
     /// `current_attrs` are the attributes that are set before the text; then they are those that are set after it. The
-    /// only error is the writer's, after which they are open.
+    /// only error is the writer's, after which they are open; there is none where there is no text.
     pub fn write_contents_formatted_basic<W: fmt::Write>(
         &self,
         writer: &mut W,
@@ -24,6 +24,7 @@ impl Row {
         ensures text { OnOk result (WritesInCalls W.write_str_gives writer.old
             (basic_text self.now current_attrs.old) writer.new) }
         ensures attrs { OnOk result (current_attrs.new ≡ attrs_after_row self.now current_attrs.old) }
+        ensures empty { basic_text self.now current_attrs.old ≡ [] → IsOk result }
     {
         let cells = self.cells();
         for col in 0..trimmed_len(cells) {
@@ -39,6 +40,7 @@ fn write_cell<W: fmt::Write>(cell: &Cell, writer: &mut W, current_attrs: &mut At
     ensures text { OnOk result (WritesInCalls W.write_str_gives writer.old
         (basic_cell current_attrs.old cell.now) writer.new) }
     ensures attrs { OnOk result (current_attrs.new ≡ attrs_after current_attrs.old cell.now) }
+    ensures empty { basic_cell current_attrs.old cell.now ≡ [] → IsOk result }
 {
     if cell.is_wide_continuation() {
         return Ok(());

@@ -1,5 +1,5 @@
 //! The rows of a grid as a capture.
-ghost use Rattle.std.specs.Prelude.{◌≡◌, ◌++◌, OnOk};
+ghost use Rattle.std.specs.Prelude.{◌≡◌, ◌++◌, [], OnOk, IsOk};
 ghost use Rattle.std.specs.Fmt.{WritesInCalls};
 ghost use Rattle.vt100_capture.specs.Capture.{captured, after_rows, new_capture};
 ghost use Rattle.vt100_capture.specs.Range.{start_of, LeavesState};
@@ -17,7 +17,8 @@ use vt100_sheet::kept_rows::kept_at;
 impl Grid {
     /// Writes the rows of a range with their attributes: no control sequences but SGR, and no control characters but a
     /// newline before each row whose predecessor isn't wrapped. Attributes run on from row to row, and aren't reset at
-    /// the end. The only error is the writer's, after which the state that was handed in is open.
+    /// the end. The only error is the writer's, after which the state that was handed in is open; there is none where
+    /// there is nothing to write.
     pub fn write_contents_formatted_basic<W: fmt::Write>(
         &self,
         writer: &mut W,
@@ -27,6 +28,7 @@ impl Grid {
             (captured (start_of range.entry) (rows_in self.now range.entry)) writer.new) }
         ensures state { OnOk result (LeavesState
             (after_rows (start_of range.entry) (rows_in self.now range.entry)) range.entry range.exit) }
+        ensures empty { captured (start_of range.entry) (rows_in self.now range.entry) ≡ [] → IsOk result }
     {
         match range {
             BasicFormattedCaptureRange::Full(state) => self.write_all_rows(writer, state),
@@ -44,6 +46,7 @@ impl Grid {
         ensures text { OnOk result (WritesInCalls W.write_str_gives writer.old
             (captured state.old (self.now.kept.rows ++ self.now.rows)) writer.new) }
         ensures state { OnOk result (state.new ≡ after_rows state.old (self.now.kept.rows ++ self.now.rows)) }
+        ensures empty { captured state.old (self.now.kept.rows ++ self.now.rows) ≡ [] → IsOk result }
     {
         write_kept_rows(&self.scrollback.rows, writer, state)?;
         write_rows(&self.rows, writer, state)
@@ -52,8 +55,9 @@ impl Grid {
     /// Writes the rows that are shown. For the screen alone.
     #[doc(hidden)]
     pub fn write_visible_rows<W: fmt::Write>(&self, writer: &mut W) -> fmt::Result
-        ensures { OnOk result (WritesInCalls W.write_str_gives writer.old
+        ensures text { OnOk result (WritesInCalls W.write_str_gives writer.old
             (captured new_capture (visible self.now)) writer.new) }
+        ensures empty { captured new_capture (visible self.now) ≡ [] → IsOk result }
     {
         let mut state = BasicFormattedCaptureState::new();
         for row in self.visible_rows() {
@@ -72,6 +76,7 @@ fn write_kept_rows<W: fmt::Write>(
     ensures text { OnOk result (WritesInCalls W.write_str_gives writer.old
         (captured state.old rows.now.items) writer.new) }
     ensures state { OnOk result (state.new ≡ after_rows state.old rows.now.items) }
+    ensures empty { captured state.old rows.now.items ≡ [] → IsOk result }
 {
     for j in 0..rows.len() {
         RowContents::new(kept_at(rows, j)).write_formatted_basic(writer, state)?;

@@ -1,6 +1,7 @@
 use Rattle.std.proofs.Common.{true, false, sym, ◌∙◌, append-nil}
 use Rattle.std.specs.Prelude.{encode_utf8}
 use Rattle.vt100_rows.proofs.BasicLemmas.{on-ok, from-ok, writes-default, writes-own}
+use Rattle.vt100_rows.proofs.BasicLemmas.{basic_cell-some}
 use Rattle.vt100_rows.proofs.basic.write_cell.Goals as goal
 
 pub returns-then-is_default-clause-text : goal.returns-then-is_default-clause-text
@@ -30,3 +31,7 @@ returns-else-has_contents-clause-text g c =
     (sym c.is_default.ensures ∙ c.if-is_default.false) (sym c.has_contents.ensures ∙ c.if-has_contents.false)
     c.attrs-attrs.ensures c.in_ok-write_escape_code_diff_fmt.ensures.written (sym (append-nil (encode_utf8 32))))
     c.write_char-else-has_contents.ensures.writes
+
+pub returns-then-has_contents-clause-empty : goal.returns-then-has_contents-clause-empty
+returns-then-has_contents-clause-empty g c e = absurd (basic_cell-some c.args.current_attrs.now c.args.cell.now
+    (sym c.is_wide_continuation.ensures ∙ c.if-is_wide_continuation.false) e)
