@@ -18,12 +18,12 @@ use Rattle.vt100_state.specs.Made.{made}
 use Rattle.vt100_state.specs.Holds.{IsSide}
 use Rattle.vte_read.specs.Terminals.{IsSmall}
 use Rattle.termrelay.specs.Frame.{is_unsure, frame_text, ShowsUnless, Agrees}
-use Rattle.termrelay.specs.Answers.{is_frame, due_from}
+use Rattle.termrelay.specs.Answers.{is_frame, answer_of, due_from}
 use Rattle.termrelay.specs.declared.answer.Answer.TheVariants.{Unsure}
 use Rattle.termview.specs.Seen.{seen}
 use Rattle.termview.proofs.LawLemmas.{whole_shown, none_torn}
 use Rattle.termrelay.specs.Calls.{Call}
-use Rattle.faithful.specs.History.{Reply, Entry, Story, answer_by}
+use Rattle.faithful.specs.History.{Reply, Entry, Story}
 use Rattle.faithful.specs.Judge.{state_at, size_at, shown_at, texts, frame_or, last_frame, last_whole, judged, IsSure}
 use Rattle.faithful.specs.Laws.{base_then, IsAnswered, AreAnswered, IsTold}
 use Rattle.faithful.specs.Headline.{EachTextIsAFrame, WholeFramesAreShown, LastWholeFrameIsShown, NoFrameIsTorn}
@@ -53,8 +53,8 @@ due-unsure z now base true h = refl
 due-unsure z now base false h = absurd (let no : false ≡ true = h in cc)
 
 answer-unsure : (s : State) (z : Size) (base : Option Shown) (owed : List ℕ) → size_of s.shown ≡ z
-    → is_frame (answer_by s (record { owed = owed; base = base })) ≡ true → is_unsure z (shown_state s) ≡ true
-    → answer_by s (record { owed = owed; base = base }) ≡ Unsure
+    → is_frame (answer_of s (record { owed = owed; base = base })) ≡ true → is_unsure z (shown_state s) ≡ true
+    → answer_of s (record { owed = owed; base = base }) ≡ Unsure
 answer-unsure s z base [] same f h =
     due-unsure (size_of s.shown) (shown_state s) base (is_unsure (size_of s.shown) (shown_state s))
     (ap (λ k. is_unsure k (shown_state s)) same ∙ h)

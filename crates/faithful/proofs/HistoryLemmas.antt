@@ -13,7 +13,7 @@ use Rattle.vt100_state.specs.Made.{Act, Fed, Resized, made}
 use Rattle.vt100_state.specs.Holds.{IsSide, IsAct, AreActs, last_rows, last_cols}
 use Rattle.vt100_state.proofs.MadeLemmas.{makes-last_size}
 use Rattle.termrelay.specs.Frame.{frame_text}
-use Rattle.termrelay.specs.Answers.{ClientState, is_frame}
+use Rattle.termrelay.specs.Answers.{ClientState, is_frame, answer_of}
 use Rattle.termrelay.specs.declared.answer.Answer.{Answer}
 use Rattle.termrelay.specs.declared.call.Take.{Take}
 use Rattle.termrelay.specs.Calls.{Call, Feed, Resize, Attach, Detach, Frame, Pump, IsCall, taken_by}
@@ -21,7 +21,7 @@ use Rattle.faithful.specs.History.{Memory, Failed}
 use Rattle.faithful.specs.History.{UnknownClient, Write, Reply, Done, Attached, Answered, Refused, Entry, Story, Book}
 use Rattle.faithful.specs.History.{fresh, size_now, shown_now, has_key, found_or, found}
 use Rattle.faithful.specs.History.{changed, begun, ended, entry_of, answered, pumped_by, book_after}
-use Rattle.faithful.specs.History.{state_now, answer_by, answer_now, CanFrame, CanReply, CanRun, books_after}
+use Rattle.faithful.specs.History.{state_now, answer_now, CanFrame, CanReply, CanRun, books_after}
 use Rattle.faithful.specs.Judge.{texts}
 use Rattle.faithful.specs.Laws.{base_then, base_after, last_text, IsAnswered, AreAnswered, IsTold}
 use Rattle.faithful.specs.Laws.{EachSessionIsTold}
@@ -172,7 +172,7 @@ abbrev pub IsIn : Book → Story → Type 0
 IsIn b t = IsBeside b.rows b.cols b.acts t
 
 pub none-owed : (s : State) (base : Option Shown) (owed : List ℕ)
-    → is_frame (answer_by s (record { owed = owed; base = base })) ≡ true → owed ≡ []
+    → is_frame (answer_of s (record { owed = owed; base = base })) ≡ true → owed ≡ []
 none-owed s base [] h = refl
 none-owed s base (x ∷ owed) h = absurd (let no : false ≡ true = h in cc)
 

@@ -68,10 +68,6 @@ size_now b = size_of (state_now b).shown
 abbrev pub shown_now : Book → Shown
 shown_now b = shown_state (state_now b)
 
--- what a client is answered, where the program's screen is in this state
-abbrev pub answer_by : State → ClientState → Answer
-answer_by s c = answer_of s c
-
 -- ---- the session of a key
 
 abbrev pub has_key : ℕ → Story → Bool
@@ -165,7 +161,7 @@ CanDetach None reply = reply ≡ Refused UnknownClient
 CanDetach (Some t) reply = reply ≡ Done
 
 abbrev pub answer_now : Book → Story → Answer
-answer_now b t = answer_by (state_now b) t.kept
+answer_now b t = answer_of (state_now b) t.kept
 
 abbrev pub CanFrame : Book → Option Story → Reply → Type 0
 CanFrame b None reply = reply ≡ Refused UnknownClient

@@ -3,9 +3,9 @@ use Rattle.std.specs.Prelude.{◌≡◌, ℕ, true, List, [], ◌∷◌, ◌++�
 use Rattle.vt100_picture.specs.Term.{Size, Shown}
 use Rattle.vt100_state.specs.Holds.{IsSide, AreActs}
 use Rattle.termrelay.specs.Frame.{frame_text}
-use Rattle.termrelay.specs.Answers.{is_frame}
+use Rattle.termrelay.specs.Answers.{is_frame, answer_of}
 use Rattle.termrelay.specs.Calls.{Call}
-use Rattle.faithful.specs.History.{Reply, Entry, Story, fresh, answer_by, CanRun, books_after}
+use Rattle.faithful.specs.History.{Reply, Entry, Story, fresh, CanRun, books_after}
 use Rattle.faithful.specs.Judge.{state_at, size_at, shown_at, texts}
 
 -- what was shown at the last frame, where there was one, and the frame's text
@@ -27,7 +27,7 @@ pub record IsAnswered (rows cols : ℕ) (z : Size) (base : Option Shown) (e : En
   pub acts : AreActs rows cols 0 e.moment
   pub size : size_at rows cols e ≡ z
   pub owed : List ℕ
-  pub answer : e.answer ≡ answer_by (state_at rows cols e) (record { owed = owed; base = base })
+  pub answer : e.answer ≡ answer_of (state_at rows cols e) (record { owed = owed; base = base })
   pub text : e.text ≡ (if is_frame e.answer then frame_text z base (shown_at rows cols e) else [])
 
 -- one after another: each frame leads on from the one before it

@@ -1,7 +1,9 @@
-//! Tests of `termrelay`: what a hub answers and owes at each step of some runs, writers that fail, refusals, and what a
-//! run logs.
+//! Tests of `termrelay`: what a hub answers and owes at each step of some runs, writers that fail, refusals and their
+//! texts, and what a run logs.
 #![tactic(auto)]
 
+#[cfg(test)]
+mod errors;
 #[cfg(test)]
 mod logs;
 #[cfg(test)]

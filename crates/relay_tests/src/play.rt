@@ -69,11 +69,14 @@ fn fault_of(answer: &Result<(), HubError>) -> Option<ErrorKind> {
     }
 }
 
-/// Room for some clients.
+/// How many clients come at most.
+const MAX_CLIENTS: usize = 66;
+
+/// Room for so many clients.
 fn no_places(alloc: Global) -> Result<Vec<Place>, AllocError> {
-    match Vec::with_capacity(alloc, 4) {
+    match Vec::with_capacity(alloc, MAX_CLIENTS) {
         Ok(places) => Ok(places),
-        Err(_) => Vec::with_capacity(alloc, 4),
+        Err(_) => Vec::with_capacity(alloc, MAX_CLIENTS),
     }
 }
 

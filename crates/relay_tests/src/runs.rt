@@ -266,3 +266,20 @@ fn bases_are_each_clients_own(rt: HostRuntime) -> Result<(), Fail> {
     ];
     play(&rt, (24, 80), steps)
 }
+
+/// Client number 65 is one like the others: it gets frames of its own, ends alone, and another one comes after it.
+#[test]
+fn client_number_65(rt: HostRuntime) -> Result<(), Fail> {
+    const X: &[u8] = b"\x1b[?2026h\x1b[?25h\x1b[m\x1b[H\x1b[Jx\x1b>\x1b[?1l\x1b[?2004l\x1b[?2026l";
+    let mut steps = [Attach; 75];
+    steps[65] = Frame(64, Full, BLANK);
+    steps[66] = Pump(64, ALL);
+    steps[67] = Feed(b"x");
+    steps[68] = Frame(64, Difference, b"\x1b[?2026hx\x1b[?2026l");
+    steps[69] = Frame(0, Full, X);
+    steps[70] = Frame(63, Full, X);
+    steps[71] = Detach(64);
+    steps[72] = Unknown(64);
+    steps[74] = Frame(65, Full, X);
+    play(&rt, (24, 80), &steps)
+}
