@@ -37,13 +37,7 @@ fn run(rt: &HostRuntime) -> Result<ExitCode, RelayError> {
         let _ = rt.eprintln("usage: screencat ROWS COLS");
         return Ok(ExitCode::from(USAGE));
     };
-    print_far_screen(
-        rt.alloc(),
-        rows,
-        cols,
-        &mut rt.stdin(),
-        &mut rt.stdout(),
-    )?;
+    print_far_screen(rt.alloc(), rows, cols, &mut rt.stdin(), &mut rt.stdout())?;
     Ok(ExitCode::SUCCESS)
 }
 

@@ -22,7 +22,7 @@ returns g c =
     let fresh = c.in_ok-view.ensures.exact (λ b e. e ∙ c.new-2.ensures) in
     let size = size_is _ _ _ c.in_ok-view.ensures.rows c.in_ok-view.ensures.cols in
     let view = c.carry_frames.new.view in
-    printed c.flush.result (g.S.Source.left c.args.input.now) (IsFarText rows cols)
+    record { text = printed c.flush.result (g.S.Source.left c.args.input.now) (IsFarText rows cols)
     (screen_text (size_of view) (shown_by view).cell) _ _ _
     (λ bytes known. record {
       pieces = carried.pieces;
@@ -31,4 +31,4 @@ returns g c =
           c.carry_frames.new.input bytes read.1 known);
       shown = shown_so _ _ _ carried.pieces fresh size carried.led;
     })
-    c.in_ok-write_view.ensures.whole c.flush.ensures.keeps
+    c.in_ok-write_view.ensures.whole c.flush.ensures.keeps }
