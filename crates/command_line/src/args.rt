@@ -16,7 +16,7 @@ use std::io::ErrorKind;
 ///
 /// A word that isn't UTF-8 leaves none, so that no command line with one is understood. Memory may be refused; any
 /// other fault is handed back.
-pub fn words(alloc: Global, args: io::Result<Args>) -> io::Result<Vec<String>>
+pub fn words_of(alloc: Global, args: io::Result<Args>) -> io::Result<Vec<String>>
     ensures words { IfOk args (λ all. IfOk result (λ words. vec_items words ≡ drop 1 (into_iter_items all))) }
     ensures not_text { IfErr args (λ e. error_kind e ≡ InvalidData → IfOk result (λ words. vec_items words ≡ [])) }
     ensures other { IfErr args (λ e. error_kind e ≢ InvalidData → result ≡ Err e) }

@@ -7,18 +7,10 @@ ghost use Rattle.screenrelay.specs.Command.{Does, DoesBy, Wants, fault_line, usa
 ghost use Rattle.screenrelay.specs.Words.{order_of};
 
 use crate::words::{Job, Order, parse};
+use command_line::{FAULT, SUCCESS, USAGE, report};
 use relay_streams::{RelayError, Source, relay, show};
 use std::alloc::Global;
-use takers::{Sink, Taker, pump};
-
-/// The exit status of a command that did its work.
-pub const SUCCESS: u8 = 0;
-
-/// The exit status of a command that ended at a fault.
-pub const FAULT: u8 = 1;
-
-/// The exit status of a command line that isn't understood.
-pub const USAGE: u8 = 2;
+use takers::{Sink, Taker};
 
 /// Runs the program on the words after its name, and answers its exit status.
 ///
@@ -84,11 +76,4 @@ fn fault_line(error: RelayError) -> &'static [u8]
         RelayError::Memory => b"screenrelay: memory\n",
         RelayError::TooManyReads => b"screenrelay: too many reads\n",
     }
-}
-
-// Writes a line: all of it, unless a write fails or takes nothing.
-fn report<V: Taker>(errors: &mut V, line: &[u8])
-    ensures { Tells V.takes errors.old line.now errors.new }
-{
-    let _ = pump(line, errors);
 }
