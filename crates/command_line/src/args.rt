@@ -1,6 +1,6 @@
 //! The words after a program's name.
 
-ghost use Rattle.std.specs.Prelude.{◌≡◌, ◌≢◌, [], map, drop, IfOk, IfErr, Err};
+ghost use Rattle.std.specs.Prelude.{◌≡◌, ◌≢◌, [], map, drop, IfOk, IfErr, OnErr, Err};
 ghost use Rattle.std.specs.IoError.{error_kind};
 ghost use Rattle.std.specs.String.{string_bytes};
 ghost use Rattle.std.specs.Vec.{vec_items};
@@ -18,7 +18,8 @@ use std::io::ErrorKind;
 /// other fault is handed back.
 pub fn words_of(alloc: Global, args: io::Result<Args>) -> io::Result<Vec<String>>
     ensures words { IfOk args (λ all. IfOk result (λ words. vec_items words ≡ drop 1 (into_iter_items all))) }
-    ensures not_text { IfErr args (λ e. error_kind e ≡ InvalidData → IfOk result (λ words. vec_items words ≡ [])) }
+    ensures not_text { IfErr args (λ e. error_kind e ≡ InvalidData → IfOk result (λ words. vec_items words ≡ [])
+        × OnErr result ⊥) }
     ensures other { IfErr args (λ e. error_kind e ≢ InvalidData → result ≡ Err e) }
 {
     match args {

@@ -12,6 +12,7 @@ use std::alloc::Global;
 use std::io::Read;
 use std::num::NonZeroU16;
 use std::str::SplitWhitespace;
+use takers::Sink;
 use vt100::{Parser, Screen};
 
 /// One line of a script.
