@@ -18,7 +18,7 @@ use Rattle.relay_streams.specs.Relayed.{Streams, Relays}
 use Rattle.takers.specs.Sent.{Sends, Flushes}
 use Rattle.takers.specs.Pump.{Writes}
 use Rattle.relay_streams.specs.Shown as shown
-use Rattle.relay_streams.specs.Shown.{IsShown, Shows, sized}
+use Rattle.relay_streams.specs.Shown.{IsShown, Prints, Shows, sized}
 use Rattle.takers.proofs.AppendLemmas.{TakesFront-none, TakesFront-longer}
 use Rattle.relay_streams.proofs.PieceLemmas.{drained-pieces, drained-front, begun-front, begun-well}
 use Rattle.relay_streams.proofs.FrameLists.{frames-more}
@@ -121,33 +121,45 @@ module _ (S W : Type 0) (gives : S → ℕ → Result (List ℕ) Error → S →
         if_known (left s) _ (λ bytes is. Keeps-front (contents w) (contents m) (contents v) (relay_text rows cols bytes)
         (streams-front rows cols s w (Ok tt) t m bytes stream is) (flushed m (Ok tt) v flush))
 
+    pub prints-text : (w : W) (text : List ℕ) (answer : Result (Unit {0}) RelayError) (v : W)
+        → Prints takes flushes w text answer v → OnOk answer (Appends (contents w) (contents v) text)
+    prints-text w text answer v (shown.stopped e sends) = tt
+    prints-text w text answer v (shown.unflushed m e sends flush) = tt
+    prints-text w text answer v (shown.printed m sends flush) =
+        Appends-kept (contents w) (contents m) (contents v) text
+        (text-appends W takes contents took w m text (Ok tt) sends refl) (flushed m (Ok tt) v flush)
+
+    pub prints-front : (w : W) (text : List ℕ) (answer : Result (Unit {0}) RelayError) (v : W)
+        → Prints takes flushes w text answer v → TakesFront (contents w) (contents v) text
+    prints-front w text answer v (shown.stopped e sends) = text-front W takes contents took w v text (Err e) sends
+    prints-front w text answer v (shown.unflushed m e sends flush) =
+        Keeps-front (contents w) (contents m) (contents v) text
+        (text-front W takes contents took w m text (Ok tt) sends) (flushed m (Err e) v flush)
+    prints-front w text answer v (shown.printed m sends flush) =
+        Keeps-front (contents w) (contents m) (contents v) text
+        (text-front W takes contents took w m text (Ok tt) sends) (flushed m (Ok tt) v flush)
+
+    -- the text of the pieces that were read is one of the whole input
+    whole-shown : (z : Size) (s t : S) (pieces : List (List ℕ)) (text bytes : List ℕ)
+        → Drained gives piece_len s pieces (Ok tt) t → left s ≡ Some bytes → IsShown z pieces text
+        → IsShown z (pieces_of bytes) text
+    whole-shown z s t pieces text bytes d known is =
+        subst (λ (ps : List (List ℕ)). IsShown z ps text) (drained-pieces S gives left gave s pieces t bytes d known) is
+
+    on-ok : (answer : Result (Unit {0}) RelayError) (known : Option (List ℕ)) (P : List ℕ → Type 0) (A : Type 0)
+        → OnOk answer A → ((bytes : List ℕ) → known ≡ Some bytes → A → P bytes) → OnOk answer (IfSome known P)
+    on-ok (Ok done) known P A h all = if_known known P (λ bytes is. all bytes is h)
+    on-ok (Err e) known P A h all = tt
+
     pub shows-text : (z : Size) (s : S) (w : W) (answer : Result (Unit {0}) RelayError) (t : S) (v : W)
         → Shows gives takes flushes z s w answer t v
         → OnOk answer (IfSome (left s) (λ bytes. (text : List ℕ) × IsShown z (pieces_of bytes) text
         × Appends (contents w) (contents v) text))
     shows-text z s w answer t v shown.refused = tt
     shows-text z s w answer t v (shown.unread pieces e d) = tt
-    shows-text z s w answer t v (shown.stopped pieces text e d is sends) = tt
-    shows-text z s w answer t v (shown.unflushed pieces text m e d is sends flush) = tt
-    shows-text z s w answer t v (shown.written pieces text m d is sends flush) =
-        if_known (left s) _ (λ bytes known. (
-          text,
-          subst (λ (ps : List (List ℕ)). IsShown z ps text) (drained-pieces S gives left gave s pieces t bytes d known)
-              is,
-          Appends-kept (contents w) (contents m) (contents v) text
-              (text-appends W takes contents took w m text (Ok tt) sends refl) (flushed m (Ok tt) v flush),
-        ))
-
-    -- a front of the text of these pieces was sent, which is the one text that the whole input has
-    sent-front : (z : Size) (s : S) (t : S) (w v : W) (pieces : List (List ℕ)) (text other bytes : List ℕ)
-        → Drained gives piece_len s pieces (Ok tt) t → left s ≡ Some bytes → IsShown z pieces text
-        → IsShown z (pieces_of bytes) other → TakesFront (contents w) (contents v) text
-        → TakesFront (contents w) (contents v) other
-    sent-front z s t w v pieces text other bytes d known is so front =
-        let same : IsShown z (pieces_of bytes) text =
-        subst (λ (ps : List (List ℕ)). IsShown z ps text) (drained-pieces S gives left gave s pieces t bytes d known) is
-        in
-        subst (TakesFront (contents w) (contents v)) (texts_are_one z (pieces_of bytes) text other same so) front
+    shows-text z s w answer t v (shown.shown pieces text d is prints) =
+        on-ok answer (left s) _ (Appends (contents w) (contents v) text) (prints-text w text answer v prints)
+        (λ bytes known took. (text, whole-shown z s t pieces text bytes d known is, took))
 
     pub shows-front : (z : Size) (s : S) (w : W) (answer : Result (Unit {0}) RelayError) (t : S) (v : W)
         → Shows gives takes flushes z s w answer t v
@@ -157,14 +169,8 @@ module _ (S W : Type 0) (gives : S → ℕ → Result (List ℕ) Error → S →
         if_known (left s) _ (λ bytes known text is. TakesFront-none (contents w) text)
     shows-front z s w answer t v (shown.unread pieces e d) =
         if_known (left s) _ (λ bytes known text is. TakesFront-none (contents w) text)
-    shows-front z s w answer t v (shown.stopped pieces text e d is sends) =
-        if_known (left s) _ (λ bytes known other so. sent-front z s t w v pieces text other bytes d known is so
-        (text-front W takes contents took w v text (Err e) sends))
-    shows-front z s w answer t v (shown.unflushed pieces text m e d is sends flush) =
-        if_known (left s) _ (λ bytes known other so. sent-front z s t w v pieces text other bytes d known is so
-        (Keeps-front (contents w) (contents m) (contents v) text
-        (text-front W takes contents took w m text (Ok tt) sends) (flushed m (Err e) v flush)))
-    shows-front z s w answer t v (shown.written pieces text m d is sends flush) =
-        if_known (left s) _ (λ bytes known other so. sent-front z s t w v pieces text other bytes d known is so
-        (Keeps-front (contents w) (contents m) (contents v) text
-        (text-front W takes contents took w m text (Ok tt) sends) (flushed m (Ok tt) v flush)))
+    shows-front z s w answer t v (shown.shown pieces text d is prints) =
+        if_known (left s) _ (λ bytes known other so.
+        subst (TakesFront (contents w) (contents v))
+        (texts_are_one z (pieces_of bytes) text other (whole-shown z s t pieces text bytes d known is) so)
+        (prints-front w text answer v prints))

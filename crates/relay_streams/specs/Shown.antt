@@ -36,6 +36,19 @@ pub record IsShown (z : Size) (pieces : List (List ℕ)) (text : List ℕ) : Typ
   pub leads : Leads (map Gives pieces) [] None parsed hold
   pub text_is : text ≡ screen_text z (seen z parsed).cell
 
+-- A text was sent to a writer, which was then flushed: so it is answered, and so the writer is left.
+pub data Prints {W : Type 0} (takes : W → List ℕ → Result ℕ Error → W → Type 0)
+    (flushes : W → Result (Unit {0}) Error → W → Type 0) (w : W) (text : List ℕ) : Result (Unit {0}) RelayError → W
+    → Type 0 where
+  -- a write failed or took nothing
+  stopped : {v : W} (e : Error) → SendsText takes w text (Err e) v → Prints takes flushes w text (Err Write) v
+  -- all was written, and the flush failed
+  unflushed : {v : W} (m : W) (e : Error) → SendsText takes w text (Ok tt) m → flushes m (Err e) v
+      → Prints takes flushes w text (Err Write) v
+  -- all went well
+  printed : {v : W} (m : W) → SendsText takes w text (Ok tt) m → flushes m (Ok tt) v
+      → Prints takes flushes w text (Ok tt) v
+
 -- From a source and a writer it answers so, and leaves both so.
 pub data Shows {S W : Type 0} (gives : S → ℕ → Result (List ℕ) Error → S → Type 0)
     (takes : W → List ℕ → Result ℕ Error → W → Type 0) (flushes : W → Result (Unit {0}) Error → W → Type 0) (z : Size)
@@ -45,15 +58,7 @@ pub data Shows {S W : Type 0} (gives : S → ℕ → Result (List ℕ) Error →
   -- a read failed, or as many were made as may be: nothing is written
   unread : {t : S} (pieces : List (List ℕ)) (e : RelayError) → Drained gives piece_len s pieces (Err e) t
       → Shows gives takes flushes z s w (Err e) t w
-  -- the input was read to its end, and a write of what a view shows of it failed or took nothing
-  stopped : {t : S} {v : W} (pieces : List (List ℕ)) (text : List ℕ) (e : Error)
-      → Drained gives piece_len s pieces (Ok tt) t → IsShown z pieces text → SendsText takes w text (Err e) v
-      → Shows gives takes flushes z s w (Err Write) t v
-  -- all of that was written, and the flush failed
-  unflushed : {t : S} {v : W} (pieces : List (List ℕ)) (text : List ℕ) (m : W) (e : Error)
-      → Drained gives piece_len s pieces (Ok tt) t → IsShown z pieces text → SendsText takes w text (Ok tt) m
-      → flushes m (Err e) v → Shows gives takes flushes z s w (Err Write) t v
-  -- all went well
-  written : {t : S} {v : W} (pieces : List (List ℕ)) (text : List ℕ) (m : W)
-      → Drained gives piece_len s pieces (Ok tt) t → IsShown z pieces text → SendsText takes w text (Ok tt) m
-      → flushes m (Ok tt) v → Shows gives takes flushes z s w (Ok tt) t v
+  -- the input was read to its end, and what a view shows of it was printed
+  shown : {t : S} {v : W} {answer : Result (Unit {0}) RelayError} (pieces : List (List ℕ)) (text : List ℕ)
+      → Drained gives piece_len s pieces (Ok tt) t → IsShown z pieces text → Prints takes flushes w text answer v
+      → Shows gives takes flushes z s w answer t v

@@ -7,7 +7,7 @@ ghost use Rattle.takers.specs.Sent.{SendsText};
 ghost use Rattle.termview.specs.Standing.{shown_by, size_of};
 ghost use Rattle.relay_streams.specs.Led.{Led};
 ghost use Rattle.relay_streams.specs.Pieces.{Drained, piece_len, pieces_of};
-ghost use Rattle.relay_streams.specs.Shown.{IsShown, Shows, row_line, screen_text, sized};
+ghost use Rattle.relay_streams.specs.Shown.{IsShown, Prints, Shows, row_line, screen_text, sized};
 
 use crate::error::RelayError;
 use crate::source::{PIECE_LEN, Source, fill};
@@ -42,13 +42,7 @@ pub fn show<S: Source, W: Sink>(
 {
     let mut view = View::new(alloc, rows, cols, UntilCleared::new())?;
     read_view(&mut view, input)?;
-    if write_view(&view, output).is_err() {
-        return Err(RelayError::Write);
-    }
-    match output.finish() {
-        Ok(()) => Ok(()),
-        Err(_) => Err(RelayError::Write),
-    }
+    print_view(&view, output)
 }
 
 // Gives the view the whole input, in full pieces and then the rest.
@@ -65,6 +59,22 @@ fn read_view<S: Source>(view: &mut View<UntilCleared>, input: &mut S) -> Result<
         if n < PIECE_LEN {
             return Ok(());
         }
+    }
+}
+
+/// Writes the text of each row of what the view shows, with a newline each, and flushes the output. A write that fails
+/// or takes nothing ends it, and what was taken by then stays written.
+pub fn print_view<W: Sink>(view: &View<UntilCleared>, output: &mut W) -> Result<(), RelayError>
+    ensures { Prints W.takes W.flushes output.old (screen_text (size_of view.now) (shown_by view.now).cell) result
+        output.new }
+{
+    match write_view(view, output) {
+        Ok(()) => (),
+        Err(_) => return Err(RelayError::Write),
+    }
+    match output.finish() {
+        Ok(()) => Ok(()),
+        Err(_) => Err(RelayError::Write),
     }
 }
 

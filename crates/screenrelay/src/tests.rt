@@ -1,7 +1,7 @@
 //! Whole commands, byte for byte, and faults of readers and writers in mid-stream.
 
 use crate::command::command;
-use relay_streams::{far_view, view_of, write_view};
+use relay_streams::{RelayError, far_view, view_of, write_view};
 use scripted_io::{Few, Narrow, Script, Step};
 use std::io::ErrorKind;
 use std::num::NonZeroU16;
@@ -474,6 +474,21 @@ fn writers(rt: HostRuntime) -> Result<(), Fail> {
             b"screenrelay: write\n"
         };
         assert_eq!(rt; told.as_slice(), line);
+    }
+    Ok(())
+}
+
+#[test]
+fn texts_of_faults(rt: HostRuntime) -> Result<(), Fail> {
+    let faults = [
+        (RelayError::Read, "read"),
+        (RelayError::Write, "write"),
+        (RelayError::Memory, "memory"),
+        (RelayError::TooManyReads, "too many reads"),
+    ];
+    for (fault, want) in faults {
+        let text = format!(in rt.alloc(); "{fault}")?;
+        assert_eq!(rt; text.as_str(), want);
     }
     Ok(())
 }
