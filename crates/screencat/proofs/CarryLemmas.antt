@@ -4,7 +4,7 @@ use Rattle.std.proofs.Common.{subst, append-nil, take-append-drop, Result, Err, 
 use Rattle.std.proofs.lemmas.List.{map-append}
 use Rattle.std.proofs.lemmas.List.Folds.{concat-append}
 use Rattle.std.specs.List.{concat}
-use Rattle.std.specs.Io.KnownBytes.{Appends, Keeps}
+use Rattle.std.specs.Io.KnownBytes.{Appends}
 use Rattle.std.specs.declared.io.Error.{Error}
 use Rattle.vte.specs.Moves.{Move, Gives}
 use Rattle.vte.specs.Frames.{Leads}
@@ -39,20 +39,14 @@ led_more a b c ps qs first then = record {
       };
 }
 
-Appends-kept : (a b c : Option (List ℕ)) (xs : List ℕ) → Appends a b xs → Keeps b c → Appends a c xs
-Appends-kept None b c xs h k = tt
-Appends-kept (Some a) None c xs h k = absurd h
-Appends-kept (Some a) (Some b) None xs h k = absurd k
-Appends-kept (Some a) (Some b) (Some c) xs h k = k ∙ h
-
--- all was written, and then the writer was flushed
+-- all was written
 pub printed : {E : Type 0} (answer : Result (Unit {0}) E) (known : Option (List ℕ)) (P : List ℕ → List ℕ → Type 0)
-    (text : List ℕ) (a b c : Option (List ℕ)) → ((bytes : List ℕ) → known ≡ Some bytes → P bytes text)
-    → Appends a b text → Keeps b c
-    → OnOk answer (IfSome known (λ bytes. (text : List ℕ) × P bytes text × Appends a c text))
-printed (Err e) known P text a b c is took kept = tt
-printed (Ok u) None P text a b c is took kept = tt
-printed (Ok u) (Some bytes) P text a b c is took kept = (text, is bytes refl, Appends-kept a b c text took kept)
+    (text : List ℕ) (a b : Option (List ℕ)) → ((bytes : List ℕ) → known ≡ Some bytes → P bytes text)
+    → OnOk answer (Appends a b text)
+    → OnOk answer (IfSome known (λ bytes. (text : List ℕ) × P bytes text × Appends a b text))
+printed (Err e) known P text a b is took = tt
+printed (Ok u) None P text a b is took = tt
+printed (Ok u) (Some bytes) P text a b is took = (text, is bytes refl, took)
 
 pub carries-none : (view : View UntilCleared) → Carries view [] view
 carries-none view = record { pieces = []; joined = refl; led = not_led view }

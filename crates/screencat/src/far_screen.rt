@@ -1,8 +1,8 @@
 //! A program's screen, carried to a far terminal and printed there.
 
-ghost use Rattle.std.specs.Prelude.{◌≡◌, ℕ, ◌++◌, ◌∷◌, [], List, Option, None, OnOk, IfErr, IfSome};
+ghost use Rattle.std.specs.Prelude.{ℕ, ◌++◌, ◌∷◌, [], List, Option, None, OnOk, IfSome};
 ghost use Rattle.std.specs.List.{concat};
-ghost use Rattle.std.specs.Io.KnownBytes.{Appends, Keeps};
+ghost use Rattle.std.specs.Io.KnownBytes.{Appends};
 ghost use Rattle.vt100_picture.specs.Term.{Shown};
 ghost use Rattle.termrelay.specs.Hub.{state_of};
 ghost use Rattle.relay_streams.specs.Frames.{asked, frames_of};
@@ -10,9 +10,8 @@ ghost use Rattle.relay_streams.specs.Pieces.{Drained, piece_len};
 ghost use Rattle.relay_streams.specs.Turns.{Relaying};
 ghost use Rattle.screencat.specs.Carried.{Carries, IsFarText};
 
-use relay_streams::{PIECE_LEN, RelayError, Source, fill, write_view};
+use relay_streams::{PIECE_LEN, RelayError, Sink, Source, fill, print_view};
 use std::alloc::Global;
-use std::io::Write;
 use std::num::NonZeroU16;
 use termrelay::{Client, Hub};
 use termview::laws::until_cleared_is_exact;
@@ -25,7 +24,7 @@ const STEP: usize = 7;
 /// shows them, with a newline each. Then the output is flushed.
 ///
 /// Nothing is written before the input has ended. What was written when a fault came stays written.
-pub(crate) fn print_far_screen<S: Source, W: Write>(
+pub(crate) fn print_far_screen<S: Source, W: Sink>(
     alloc: Global,
     rows: NonZeroU16,
     cols: NonZeroU16,
@@ -39,8 +38,7 @@ pub(crate) fn print_far_screen<S: Source, W: Write>(
     let client = hub.attach()?;
     let mut view = View::new(alloc, rows, cols, UntilCleared::new())?;
     carry_frames(alloc, &mut hub, client, input, &mut view)?;
-    write_view(&view, output)?;
-    flush(output)
+    print_view(&view, output)
 }
 
 // Reads the whole input in full pieces, and brings the view the frame that is due after each.
@@ -95,15 +93,5 @@ fn read_line(view: &mut View<UntilCleared>, line: &[u8])
     until_cleared_is_exact();
     for bytes in line.chunks(STEP) {
         view.advance(bytes);
-    }
-}
-
-fn flush<W: Write>(output: &mut W) -> Result<(), RelayError>
-    ensures keeps { Keeps (W.contents output.old) (W.contents output.new) }
-    ensures fault { IfErr result (λ e. e ≡ RelayError.Write) }
-{
-    match output.flush() {
-        Ok(()) => Ok(()),
-        Err(_) => Err(RelayError::Write),
     }
 }

@@ -8,45 +8,35 @@
 mod far_screen;
 mod words;
 
+use command_line::{FAULT, SUCCESS, USAGE, lend, report, words_of};
 use far_screen::print_far_screen;
 use relay_streams::RelayError;
-use std::io::ErrorKind;
+use std::env;
 use std::process::ExitCode;
-use std::{env, io};
 use words::{Size, parse};
 
-/// The exit status of a command line that isn't understood.
-const USAGE: u8 = 2;
-
 fn main(rt: HostRuntime) -> ExitCode {
-    match run(&rt) {
+    let status = match run(&rt) {
         Ok(status) => status,
         Err(error) => {
             let _ = eprintln!(rt; "screencat: {error}");
-            ExitCode::FAILURE
+            FAULT
         }
-    }
+    };
+    ExitCode::from(status)
 }
 
 // Does what the command line asks for, and answers the exit status.
-fn run(rt: &HostRuntime) -> Result<ExitCode, RelayError> {
-    let Ok(wanted) = wanted_size(rt) else {
+fn run(rt: &HostRuntime) -> Result<u8, RelayError> {
+    let alloc = rt.alloc();
+    let Ok(words) = words_of(alloc, env::args(rt)) else {
         return Err(RelayError::Memory);
     };
-    let Some(Size { rows, cols }) = wanted else {
-        let _ = rt.eprintln("usage: screencat ROWS COLS");
-        return Ok(ExitCode::from(USAGE));
+    let words = lend(alloc, &words)?;
+    let Some(Size { rows, cols }) = parse(&words) else {
+        report(&mut rt.stderr(), b"usage: screencat ROWS COLS\n");
+        return Ok(USAGE);
     };
-    print_far_screen(rt.alloc(), rows, cols, &mut rt.stdin(), &mut rt.stdout())?;
-    Ok(ExitCode::SUCCESS)
-}
-
-// The size on the command line. A word that isn't UTF-8 makes it one that isn't understood.
-fn wanted_size(rt: &HostRuntime) -> io::Result<Option<Size>> {
-    let words: Vec<String> = match env::args(rt) {
-        Ok(args) => args.skip(1).collect(rt.alloc())?,
-        Err(error) if error.kind() == ErrorKind::InvalidData => return Ok(None),
-        Err(error) => return Err(error),
-    };
-    Ok(parse(&words))
+    print_far_screen(alloc, rows, cols, &mut rt.stdin(), &mut rt.stdout())?;
+    Ok(SUCCESS)
 }

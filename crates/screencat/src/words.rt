@@ -1,9 +1,10 @@
 //! The words of the command line.
 
-ghost use Rattle.std.specs.Prelude.{map, string_bytes};
+ghost use Rattle.std.specs.Prelude.{◌≡◌, map};
 ghost use Rattle.std.specs.Option.{option_map};
-ghost use Rattle.screencat.specs.Words.{ReadsSide, ReadsWords};
+ghost use Rattle.screencat.specs.Words.{sides_of};
 
+use command_line::parse_size;
 use std::num::NonZeroU16;
 
 /// The size of a screen.
@@ -14,24 +15,15 @@ pub(crate) struct Size {
 }
 
 /// Reads `ROWS COLS`, each of 1 to 5 digits with a value of 1 to 65,535.
-pub(crate) fn parse(words: &[String]) -> Option<Size>
-    ensures { ReadsWords (map string_bytes words.now)
-        (option_map (λ z. record { rows = z.rows.value; cols = z.cols.value }) result) }
+pub(crate) fn parse(words: &[&str]) -> Option<Size>
+    ensures { option_map (λ z. record { rows = z.rows.value; cols = z.cols.value }) result
+        ≡ sides_of (map (λ w. w.now) words.now) }
 {
     let [rows, cols] = words else {
         return None;
     };
     Some(Size {
-        rows: parse_side(rows)?,
-        cols: parse_side(cols)?,
+        rows: parse_size(rows)?,
+        cols: parse_size(cols)?,
     })
-}
-
-fn parse_side(word: &str) -> Option<NonZeroU16>
-    ensures { ReadsSide word.now (option_map (λ side. side.value) result) }
-{
-    if word.len() > 5 || word.as_bytes().first() == Some(&b'+') {
-        return None;
-    }
-    word.parse().ok()
 }

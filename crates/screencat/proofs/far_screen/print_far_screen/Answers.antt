@@ -4,6 +4,7 @@ use Rattle.termrelay.specs.Hub.{state_of}
 use Rattle.termview.specs.Standing.{shown_by, size_of}
 use Rattle.relay_streams.specs.Frames.{frames_of}
 use Rattle.relay_streams.specs.Shown.{screen_text}
+use Rattle.relay_streams.proofs.OutcomeLemmas.{prints-text}
 use Rattle.relay_streams.proofs.PieceLemmas.{drained-pieces}
 use Rattle.relay_streams.proofs.TurnLemmas.{first-attached}
 use Rattle.relay_streams.proofs.ViewLemmas.{shown_so, size_is}
@@ -22,8 +23,8 @@ returns g c =
     let fresh = c.in_ok-view.ensures.exact (λ b e. e ∙ c.new-2.ensures) in
     let size = size_is _ _ _ c.in_ok-view.ensures.rows c.in_ok-view.ensures.cols in
     let view = c.carry_frames.new.view in
-    record { text = printed c.flush.result (g.S.Source.left c.args.input.now) (IsFarText rows cols)
-    (screen_text (size_of view) (shown_by view).cell) _ _ _
+    record { text = printed c.print_view.result (g.S.Source.left c.args.input.now) (IsFarText rows cols)
+    (screen_text (size_of view) (shown_by view).cell) _ _
     (λ bytes known. record {
       pieces = carried.pieces;
       joined = carried.joined ∙ ap (λ (ps : List (List ℕ)). concat (frames_of rows cols ps))
@@ -31,4 +32,6 @@ returns g c =
           c.carry_frames.new.input bytes read.1 known);
       shown = shown_so _ _ _ carried.pieces fresh size carried.led;
     })
-    c.in_ok-write_view.ensures.whole c.flush.ensures.keeps }
+    (prints-text g.row.S.Denot g.row.W.Denot g.S.Source.gives g.W.Taker.takes g.W.Sink.flushes g.W.Sink.contents
+    g.S.Source.left g.met.S.Source.tells g.met.W.Sink.tells g.met.W.Sink.keeps c.args.output.now
+    (screen_text (size_of view) (shown_by view).cell) c.print_view.result c.print_view.new.output c.print_view.ensures) }

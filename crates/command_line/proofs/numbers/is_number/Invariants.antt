@@ -1,6 +1,6 @@
 use Rattle.std.proofs.Common.{◌≡◌, drop}
 use Rattle.std.specs.Str.{all_ascii_digits}
-use Rattle.screenrelay.proofs.words.is_short_number.Given as goal
+use Rattle.command_line.proofs.numbers.is_number.Given as goal
 
 -- whether all are digits depends on the bytes that are left
 abbrev pub invariant-loop-b : goal.invariant-loop-b

@@ -2,8 +2,8 @@ use Rattle.std.proofs.Common.{◌≡◌, ℕ, List, length, ◌<◌, ◌^◌, �
 use Rattle.std.proofs.lemmas.Str.Parse.{IsNumeralModel, numerals_by_fold, parse_digits}
 use Rattle.std.specs.Str.{all_ascii_digits}
 use Rattle.std.specs.Str.Parse.{digits_value, digits_value_after}
-use Rattle.screendump.specs.Words.{size_of}
-use Rattle.screendump.proofs.words.parse_size.Goals as goal
+use Rattle.command_line.specs.Numbers.{size_of}
+use Rattle.command_line.proofs.numbers.parse_size.Goals as goal
 
 own : IsNumeralModel (λ ds. all_ascii_digits ds ≡ true) (digits_value 10)
 own = numerals_by_fold _ (search rules) (digits_value_after 10) (search rules)

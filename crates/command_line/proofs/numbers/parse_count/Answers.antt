@@ -1,10 +1,10 @@
-use Rattle.std.proofs.Common.{◌≡◌, ℕ, List, length, ◌<◌, ◌≤◌, ◌^◌, ◌&&◌, Bool, true, None, Err, nat_le, arith, rules}
+use Rattle.std.proofs.Common.{◌≡◌, ℕ, List, length, ◌<◌, ◌&&◌, Bool, true, None, Err, nat_le, arith, rules}
 use Rattle.std.proofs.lemmas.Bool.{leb-true}
 use Rattle.std.proofs.lemmas.Str.Parse.{IsNumeralModel, numerals_by_fold, parse_digits, digits_value_short}
 use Rattle.std.specs.Str.{all_ascii_digits}
 use Rattle.std.specs.Str.Parse.{digits_value, digits_value_after}
-use Rattle.screendump.specs.Words.{count_of}
-use Rattle.screendump.proofs.words.parse_count.Goals as goal
+use Rattle.command_line.specs.Numbers.{count_of}
+use Rattle.command_line.proofs.numbers.parse_count.Goals as goal
 
 own : IsNumeralModel (λ ds. all_ascii_digits ds ≡ true) (digits_value 10)
 own = numerals_by_fold _ (search rules) (digits_value_after 10) (search rules)
