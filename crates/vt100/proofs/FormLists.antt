@@ -18,7 +18,7 @@ use Rattle.vt100_rows.proofs.SentTexts as rows
 use Rattle.vt100_sheet.specs.Sheet.{row_at}
 use Rattle.vt100_writers.specs.Laws as writers
 use Rattle.vt100_writers.specs.Laws.{IsKnown}
-use Rattle.vt100_writers.specs.Length.{IsSmallScreen, IsWithin}
+use Rattle.vt100_writers.specs.Length.{IsWithin}
 use Rattle.vt100_writers.specs.Length as writers_length
 use Rattle.vt100_writers.specs.Screen as picture
 use Rattle.vt100_writers.proofs.Modes.{modes-set, modes-changed, attributes-set}
@@ -36,7 +36,7 @@ use Rattle.vt100.specs.Writers.{each_formatted, each_diff}
 use Rattle.vt100.specs.WriterLaws.{IsUnscrolled, IsPlainlyShown}
 use Rattle.vt100.specs.FormLists.{EachModeLeads, EachModeChangeLeads, EachAttributeLeads, EachScreenIsKnown}
 use Rattle.vt100.specs.FormLists.{EachMadeScreenIsKnown, IsTrueOfLists, EachListIsSent, EachListIsOfForms, IsSpelled}
-use Rattle.vt100.specs.FormLists.{IsTrueOfRows, EachRowIsSent, EachRowIsOfForms, EachListIsShort}
+use Rattle.vt100.specs.FormLists.{IsTrueOfRows, EachRowIsSent, EachRowIsOfForms, EachListIsShort, EachScreenIsSmall}
 use Rattle.vt100.proofs.ShownLemmas.{cells-are, shown-is, contents-is, state-is, cursor-is, changed-is, all-changed_is}
 use Rattle.vt100.proofs.RowTexts.{row-is, row-of, shown-many, IsReadyRow, ready-row}
 
@@ -82,7 +82,7 @@ made-known rows cols capacity acts h =
           (λ r k. (makes-cells rows cols capacity acts h r k).1);
     }
 
-pub small-screen : (s : State) → IsUnscrolled s → IsSmallScreen (size_of s.shown) (shown_state s)
+pub small-screen : EachScreenIsSmall
 small-screen s h = record {
   shown = shown-is s h;
   cells = shown-cells s h;
