@@ -70,10 +70,11 @@ pub fn differences_of_rows_lead()
     ensures { EachRowDifferenceLeads }
 {}
 
-/// What [`input_mode_formatted`](crate::Screen::input_mode_formatted), [`input_mode_diff`](crate::Screen::input_mode_diff)
-/// and [`attributes_formatted`](crate::Screen::attributes_formatted) write leads, from any picture, to the screen's modes
-/// and cursor's style, or to the attributes that are drawn with; and nothing else changes. The first one asks for a mouse
-/// and a style as they are at first, the second one for the modes and the style of the earlier screen.
+/// What [`input_mode_formatted`](crate::Screen::input_mode_formatted) and
+/// [`input_mode_diff`](crate::Screen::input_mode_diff) write leads, from any picture, to the screen's modes and cursor's
+/// style; what [`attributes_formatted`](crate::Screen::attributes_formatted) writes to the attributes that are drawn
+/// with; and nothing else changes. The first one asks for a mouse and a style as they are at first, the second one for
+/// the modes and the style of the earlier screen.
 pub fn modes_lead()
     ensures set { EachModeLeads }
     ensures changed { EachModeChangeLeads }
