@@ -3,7 +3,7 @@ use Rattle.std.proofs.Common.{◌≡◌, ℕ, suc, ◌+◌, ◌<◌, ◌≤◌, 
 use Rattle.std.proofs.Common.{sym, ap, subst, arith, Contains, nat_lt}
 use Rattle.std.specs.List.{AllByRecursion}
 use Rattle.std.proofs.lemmas.Bool.{cond_both}
-use Rattle.vt100_forms.specs.Attrs.{default_attrs, HasByteColors}
+use Rattle.vt100_forms.specs.Attrs.{default_attrs, IsProper, HasByteColors}
 use Rattle.vt100_forms.specs.Form.{Form}
 use Rattle.vt100_cells.specs.Cell.{CellView, IsCell, default_cell}
 use Rattle.vt100_cells.specs.Cells.{cell_at}
@@ -80,14 +80,17 @@ made-known rows cols capacity acts h =
           (λ r k. (makes-cells rows cols capacity acts h r k).1);
     }
 
+pub shown-proper : (s : State) → IsUnscrolled s → (r k : ℕ) → IsProper ((shown_state s).cell r k).attrs
+shown-proper s h =
+    subst (λ (f : ℕ → ℕ → CellView). (r k : ℕ) → IsProper (f r k).attrs) (sym (cells-are s h)) h.state.proper.drawn
+
 pub small-screen : EachScreenIsSmall
 small-screen s h = record {
   shown = shown-is s h;
   cells = shown-cells s h;
   rows = h.state.shown.few_rows;
   cols = h.state.shown.few_cols;
-  colours = subst (λ (f : ℕ → ℕ → CellView). (r k : ℕ) → HasByteColors (f r k).attrs) (sym (cells-are s h))
-      (λ r k. (h.state.proper.drawn r k).colors);
+  colours = λ r k. (shown-proper s h r k).colors;
   attrs = h.state.attrs.colors;
 }
 
