@@ -1,5 +1,5 @@
 -- The body of a frame is a list of forms.
-use Rattle.std.proofs.Common.{◌≡◌, Bool, ◌||◌, List, ◌++◌, Option, Some, None}
+use Rattle.std.proofs.Common.{◌||◌, ◌++◌, Option, Some, None}
 use Rattle.std.specs.List.{AllByRecursion}
 use Rattle.std.proofs.lemmas.Bool.{cond_both}
 use Rattle.vt100_forms.specs.Attrs.{HasByteColors}

@@ -3,29 +3,27 @@ use Rattle.std.proofs.Common.{◌≡◌, ℕ, suc, ◌+◌, ◌<◌, ◌≤◌, 
 use Rattle.std.proofs.Common.{sym, ap, subst, arith, Contains, nat_lt}
 use Rattle.std.specs.List.{AllByRecursion}
 use Rattle.std.proofs.lemmas.Bool.{cond_both}
-use Rattle.vt100_forms.specs.Attrs.{default_attrs, HasByteColors}
-use Rattle.vt100_forms.specs.Form.{Form, spell}
+use Rattle.vt100_forms.specs.Attrs.{default_attrs, IsProper, HasByteColors}
+use Rattle.vt100_forms.specs.Form.{Form}
 use Rattle.vt100_cells.specs.Cell.{CellView, IsCell, default_cell}
 use Rattle.vt100_cells.specs.Cells.{cell_at}
 use Rattle.vt100_cells.proofs.CellLemmas.{IsCell-empty}
 use Rattle.vt100_picture.specs.FormText.{AreForms, AreSentForms}
-use Rattle.vt100_picture.specs.Term.{Size, Shown}
 use Rattle.vt100_redraw.specs.Small.{SmallErase, IsSmallPen}
-use Rattle.vt100_rows.specs.Row.{RowView, IsRow}
+use Rattle.vt100_rows.specs.Row.{RowView}
 use Rattle.vt100_rows.specs.Forms.{formatted, differing}
-use Rattle.vt100_rows.specs.Laws.{IsKnownRow, IsSmallRow, IsTrueOfSmallForms}
+use Rattle.vt100_rows.specs.Laws.{IsTrueOfSmallForms}
 use Rattle.vt100_rows.proofs.SentTexts as rows
 use Rattle.vt100_sheet.specs.Sheet.{row_at}
 use Rattle.vt100_writers.specs.Laws as writers
-use Rattle.vt100_writers.specs.Laws.{IsKnown}
-use Rattle.vt100_writers.specs.Length.{IsSmallScreen, IsWithin}
+use Rattle.vt100_writers.specs.Length.{IsWithin}
 use Rattle.vt100_writers.specs.Length as writers_length
 use Rattle.vt100_writers.specs.Screen as picture
 use Rattle.vt100_writers.proofs.Modes.{modes-set, modes-changed, attributes-set}
 use Rattle.vt100_writers.proofs.SmallScreens.{lists-sent, lists-forms}
 use Rattle.vt100_writers.proofs.Lengths.{each-short}
 use Rattle.vt100_core.specs.Grid.{visible, visible_at}
-use Rattle.vt100_core.specs.Picture.{size_of, shown_lines}
+use Rattle.vt100_core.specs.Picture.{size_of}
 use Rattle.vt100_core.proofs.PictureWriters.{lines-cells}
 use Rattle.vt100_state.specs.State.{State}
 use Rattle.vt100_state.specs.Shown.{shown_state}
@@ -33,12 +31,12 @@ use Rattle.vt100_state.specs.Made.{made}
 use Rattle.vt100_state.proofs.MadeLemmas.{makes-cells}
 use Rattle.vt100.specs.Writers.{contents_formatted, state_formatted, contents_diff, state_diff, cursor_state_formatted}
 use Rattle.vt100.specs.Writers.{each_formatted, each_diff}
-use Rattle.vt100.specs.WriterLaws.{IsUnscrolled, IsPlainlyShown}
+use Rattle.vt100.specs.WriterLaws.{IsUnscrolled}
 use Rattle.vt100.specs.FormLists.{EachModeLeads, EachModeChangeLeads, EachAttributeLeads, EachScreenIsKnown}
 use Rattle.vt100.specs.FormLists.{EachMadeScreenIsKnown, IsTrueOfLists, EachListIsSent, EachListIsOfForms, IsSpelled}
-use Rattle.vt100.specs.FormLists.{IsTrueOfRows, EachRowIsSent, EachRowIsOfForms, EachListIsShort}
+use Rattle.vt100.specs.FormLists.{IsTrueOfRows, EachRowIsSent, EachRowIsOfForms, EachListIsShort, EachScreenIsSmall}
 use Rattle.vt100.proofs.ShownLemmas.{cells-are, shown-is, contents-is, state-is, cursor-is, changed-is, all-changed_is}
-use Rattle.vt100.proofs.RowTexts.{row-is, row-of, shown-many, IsReadyRow, ready-row}
+use Rattle.vt100.proofs.RowTexts.{row-is, shown-many, IsReadyRow, ready-row}
 
 -- ---- modes and attributes
 
@@ -82,14 +80,17 @@ made-known rows cols capacity acts h =
           (λ r k. (makes-cells rows cols capacity acts h r k).1);
     }
 
-pub small-screen : (s : State) → IsUnscrolled s → IsSmallScreen (size_of s.shown) (shown_state s)
+pub shown-proper : (s : State) → IsUnscrolled s → (r k : ℕ) → IsProper ((shown_state s).cell r k).attrs
+shown-proper s h =
+    subst (λ (f : ℕ → ℕ → CellView). (r k : ℕ) → IsProper (f r k).attrs) (sym (cells-are s h)) h.state.proper.drawn
+
+pub small-screen : EachScreenIsSmall
 small-screen s h = record {
   shown = shown-is s h;
   cells = shown-cells s h;
   rows = h.state.shown.few_rows;
   cols = h.state.shown.few_cols;
-  colours = subst (λ (f : ℕ → ℕ → CellView). (r k : ℕ) → HasByteColors (f r k).attrs) (sym (cells-are s h))
-      (λ r k. (h.state.proper.drawn r k).colors);
+  colours = λ r k. (shown-proper s h r k).colors;
   attrs = h.state.attrs.colors;
 }
 

@@ -11,7 +11,7 @@ use Rattle.vt100_picture.specs.Term.{Size, Shown}
 use Rattle.vt100_picture.specs.Leads.{Leads}
 use Rattle.vt100_writers.specs.Modes.{input_mode_formatted, input_mode_diff, attributes_formatted}
 use Rattle.vt100_writers.specs.Laws.{IsKnown, with_modes}
-use Rattle.vt100_writers.specs.Length.{IsWithin}
+use Rattle.vt100_writers.specs.Length.{IsSmallScreen, IsWithin}
 use Rattle.vt100_core.specs.Picture.{size_of}
 use Rattle.vt100_state.specs.State.{State, IsState}
 use Rattle.vt100_state.specs.Shown.{shown_state}
@@ -51,6 +51,10 @@ EachScreenIsKnown = (s : State) → IsUnscrolled s
 abbrev pub EachMadeScreenIsKnown : Type 0
 EachMadeScreenIsKnown = (rows cols capacity : ℕ) (acts : List Act) → AreActs rows cols capacity acts
     → IsKnown (shown_state (made rows cols capacity acts))
+
+-- its numbers are of the code's types
+abbrev pub EachScreenIsSmall : Type 0
+EachScreenIsSmall = (s : State) → IsUnscrolled s → IsSmallScreen (size_of s.shown) (shown_state s)
 
 -- ---- which forms they are
 

@@ -6,7 +6,7 @@ ghost use Rattle.vt100.specs.WriterLaws.{EachRedrawLeads, EachDifferenceLeads, E
 ghost use Rattle.vt100.specs.WriterLaws.{EachRowDifferenceLeads};
 ghost use Rattle.vt100.specs.FormLists.{EachModeLeads, EachModeChangeLeads, EachAttributeLeads, EachScreenIsKnown};
 ghost use Rattle.vt100.specs.FormLists.{EachMadeScreenIsKnown, EachListIsSent, EachListIsOfForms, EachRowIsSent};
-ghost use Rattle.vt100.specs.FormLists.{EachRowIsOfForms, EachListIsShort};
+ghost use Rattle.vt100.specs.FormLists.{EachRowIsOfForms, EachListIsShort, EachScreenIsSmall};
 
 /// With callbacks that do nothing, a screen that goes through events and doesn't fail is in the state that these events
 /// make; so a parser that was fed bytes, in whatever pieces, shows what the joined bytes make.
@@ -70,10 +70,11 @@ pub fn differences_of_rows_lead()
     ensures { EachRowDifferenceLeads }
 {}
 
-/// What [`input_mode_formatted`](crate::Screen::input_mode_formatted), [`input_mode_diff`](crate::Screen::input_mode_diff)
-/// and [`attributes_formatted`](crate::Screen::attributes_formatted) write leads, from any picture, to the screen's modes
-/// and cursor's style, or to the attributes that are drawn with; and nothing else changes. The first one asks for a mouse
-/// and a style as they are at first, the second one for the modes and the style of the earlier screen.
+/// What [`input_mode_formatted`](crate::Screen::input_mode_formatted) and
+/// [`input_mode_diff`](crate::Screen::input_mode_diff) write leads, from any picture, to the screen's modes and cursor's
+/// style; what [`attributes_formatted`](crate::Screen::attributes_formatted) writes to the attributes that are drawn
+/// with; and nothing else changes. The first one asks for a mouse and a style as they are at first, the second one for
+/// the modes and the style of the earlier screen.
 pub fn modes_lead()
     ensures set { EachModeLeads }
     ensures changed { EachModeChangeLeads }
@@ -81,10 +82,11 @@ pub fn modes_lead()
 {}
 
 /// What a live screen without kept rows shows are cells, and so what can be sent, unless U+FFFD stands in one; in those
-/// that bytes and resizes have made it stands in none.
+/// that bytes and resizes have made it stands in none. The numbers of what is shown are of the code's types.
 pub fn screens_are_known()
     ensures shown { EachScreenIsKnown }
     ensures made { EachMadeScreenIsKnown }
+    ensures small { EachScreenIsSmall }
 {}
 
 /// What each call writes of a screen that is known, or of what differs from an earlier one of its size, is spelled by

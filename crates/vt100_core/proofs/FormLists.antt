@@ -1,5 +1,5 @@
 -- A grid's lists are those of its picture, whose forms and lengths are known.
-use Rattle.std.proofs.Common.{◌≡◌, ℕ, List, Contains, sym, subst, Option}
+use Rattle.std.proofs.Common.{◌≡◌, List, sym, subst}
 use Rattle.std.specs.Prelude.{unwrap_or}
 use Rattle.vt100_forms.specs.declared.attrs.Attrs.{Attrs}
 use Rattle.vt100_forms.specs.Attrs.{HasByteColors, default_attrs}
@@ -7,7 +7,6 @@ use Rattle.vt100_forms.specs.Form.{Form}
 use Rattle.vt100_picture.specs.FormText.{AreForms, AreSentForms}
 use Rattle.vt100_picture.specs.Term.{Shown}
 use Rattle.vt100_redraw.specs.Writer.{Drawn}
-use Rattle.vt100_sheet.specs.Picture.{lines_of}
 use Rattle.vt100_writers.specs.Laws as writers
 use Rattle.vt100_writers.specs.Screen as picture
 use Rattle.vt100_writers.specs.Laws.{IsKnown}

@@ -29,8 +29,8 @@ pub fn shown_cells()
     ensures { MakesCells }
 {}
 
-/// The attributes of each cell that is shown are proper: no bit of the mode without a meaning is set, and bold and dim
-/// aren't both.
+/// The attributes of each cell that is shown are proper: no bit of the mode without a meaning is set, bold and dim
+/// aren't both, and colours have numbers from 0 to 255.
 pub fn proper_cells()
     ensures { MakesProperCells }
 {}
