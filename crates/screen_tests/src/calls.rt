@@ -3,7 +3,7 @@
 use crate::start::count;
 use std::io::Write;
 use std::test::Fail;
-use vt100::{Parser, WrappedScreen};
+use vt100::{GridError, Parser, ScreenError, WrappedScreen};
 
 #[test]
 fn calls_on_a_screen(rt: HostRuntime) -> Result<(), Fail> {
@@ -36,5 +36,26 @@ fn writing_feeds(rt: HostRuntime) -> Result<(), Fail> {
     let written = parser.write(b"hi")?;
     parser.flush()?;
     assert_eq!(rt; (written, parser.screen().contents()?.as_str()), (2, "hi"));
+    Ok(())
+}
+
+#[test]
+fn errors_have_texts(rt: HostRuntime) -> Result<(), Fail> {
+    let text = format!(in rt.alloc();
+        "{}; {}; {}",
+        ScreenError::Memory,
+        ScreenError::Failed,
+        GridError::Memory
+    )?;
+    assert_eq!(rt; text.as_str(), "out of memory; the screen has failed; out of memory");
+    Ok(())
+}
+
+#[test]
+fn a_default_parser_has_the_default_size(rt: HostRuntime) -> Result<(), Fail> {
+    let parser = Parser::new_default(rt.alloc())?;
+    let size = (Parser::<()>::DEFAULT_ROWS, Parser::<()>::DEFAULT_COLS);
+    assert_eq!(rt; (size.0.get(), size.1.get()), (24, 80));
+    assert_eq!(rt; parser.screen().size(), size);
     Ok(())
 }

@@ -66,6 +66,11 @@ const TOLD: &[(Start, &[u8], &str)] = &[
     ),
     (
         (2, 8, 0),
+        b"\x1b[38;5:1;1mA\x07\x1b[38:5;1mB\x07",
+        "csi None None [[38], [5, 1], [1]] m at 0 0; bell at 0 1; csi None None [[38, 5], [1]] m at 0 1b; bell at 0 2b; ",
+    ),
+    (
+        (2, 8, 0),
         b"\n\x1b[2;2r\x1b[2;3H\x1b[?6;7h",
         "csi Some(63) None [[6], [7]] h at 0 0; ",
     ),

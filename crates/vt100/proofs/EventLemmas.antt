@@ -13,8 +13,9 @@ use Rattle.vt100_state.specs.Call.{unhandled_escape}
 use Rattle.vt100_state.specs.Lookup.{lookup}
 use Rattle.vt100.specs.declared.error.ScreenError.{ScreenError}
 use Rattle.vt100.specs.declared.error.ScreenError.TheVariants.{Memory, Failed}
-use Rattle.vt100.specs.Tries.{Tries, TriesParts, Counts, SameBounds, alive, unless_failed}
-use Rattle.vt100.specs.Goes.{Either, Tells, Acts, Does}
+use Rattle.vt100.specs.Memory.{plain_may_take}
+use Rattle.vt100.specs.Tries.{Tries, TriesParts, Counts, SameBounds, HearsFront, alive, unless_failed}
+use Rattle.vt100.specs.Goes.{Either, Tells, Acts, Fails, Does}
 
 pub is_alive : (v : ScreenView) → v.failed ≡ false → v ≡ alive v.state
 is_alive v h = λ i. record { state = v.state; failed = h i }
@@ -22,23 +23,23 @@ is_alive v h = λ i. record { state = v.state; failed = h i }
 -- ---- what is done at once
 
 -- a call that changes the state
-pub does_change : {C : Type 0} (step : C → ScreenView → Call → C → ScreenView → Type 0)
+pub does_change : {C : Type 0} {t : Bool} (step : C → ScreenView → Call → C → ScreenView → Type 0)
     (scrolls : C → RowView → Bool → C → Type 0) (f : State → State) (c : C) (v : ScreenView) (d : C) (w : ScreenView)
-    → w ≡ unless_failed f v → d ≡ c → Does step scrolls (λ s. changes (f s)) c v d w
+    → w ≡ unless_failed f v → d ≡ c → Does step scrolls (λ s. changes (f s)) t c v d w
 does_change step scrolls f c v d w screen callbacks = record {
   dead = λ e. (callbacks, screen ∙ ap (λ (b : Bool). cond b v (alive (f v.state))) e);
   live = λ e. inl (c, refl, (callbacks, screen ∙ ap (λ (b : Bool). cond b v (alive (f v.state))) e));
 }
 
 -- nothing
-pub does_nothing : {C : Type 0} (step : C → ScreenView → Call → C → ScreenView → Type 0)
-    (scrolls : C → RowView → Bool → C → Type 0) (c : C) (v : ScreenView) → Does step scrolls changes c v c v
+pub does_nothing : {C : Type 0} {t : Bool} (step : C → ScreenView → Call → C → ScreenView → Type 0)
+    (scrolls : C → RowView → Bool → C → Type 0) (c : C) (v : ScreenView) → Does step scrolls changes t c v c v
 does_nothing step scrolls c v = record { dead = λ e. (refl, refl); live = λ e. inl (c, refl, (refl, is_alive v e)) }
 
 -- anything, on a failed screen
-pub does_none : {C : Type 0} (step : C → ScreenView → Call → C → ScreenView → Type 0)
+pub does_none : {C : Type 0} {t : Bool} (step : C → ScreenView → Call → C → ScreenView → Type 0)
     (scrolls : C → RowView → Bool → C → Type 0) (f : State → Effect) (c : C) (v : ScreenView) → v.failed ≡ true
-    → Does step scrolls f c v c v
+    → Does step scrolls f t c v c v
 does_none step scrolls f c v h = record {
   dead = λ e. (refl, refl);
   live = λ e. absurd (false≢true (sym e ∙ h));
@@ -46,40 +47,46 @@ does_none step scrolls f c v h = record {
 
 -- ---- calls that may be refused
 
-pub does_steps : {C A : Type 0} (step : C → ScreenView → Call → C → ScreenView → Type 0)
+pub does_steps : {C A : Type 0} {t : Bool} (step : C → ScreenView → Call → C → ScreenView → Type 0)
     (scrolls : C → RowView → Bool → C → Type 0) (f : State → Stepped) (c : C) (v : ScreenView)
     (result : Result A ScreenError) (d : C) (w : ScreenView) → Tries scrolls f v c result w d
-    → OnErr result (SameBounds v.state w.state) → Does step scrolls (λ s. steps (f s)) c v d w
-does_steps step scrolls f c v (Ok a) d w t k = record {
-  dead = λ e. ((t.dead e).2, (t.dead e).1);
-  live = λ e. inl (d, t.hears, (refl, t.screen));
+    → OnErr result (SameBounds v.state w.state) → (v.failed ≡ false → result ≡ Err Memory → t ≡ true)
+    → Does step scrolls (λ s. steps (f s)) t c v d w
+does_steps step scrolls f c v (Ok a) d w x k takes = record {
+  dead = λ e. ((x.dead e).2, (x.dead e).1);
+  live = λ e. inl (d, x.hears, (refl, x.screen));
 }
-does_steps step scrolls f c v (Err Memory) d w t k = record {
-  dead = λ e. ((t.dead e).2, (t.dead e).1);
-  live = λ e. inr (t.memory refl, k, t.told);
+does_steps step scrolls f c v (Err Memory) d w x k takes = record {
+  dead = λ e. ((x.dead e).2, (x.dead e).1);
+  live = λ e. inr (record {
+    may_take = takes e refl;
+    failed = x.memory refl;
+    bounds = k;
+    told = x.told refl;
+  });
 }
-does_steps step scrolls f c v (Err Failed) d w t k = record {
-  dead = λ e. ((t.dead e).2, (t.dead e).1);
-  live = λ e. absurd (false≢true (sym e ∙ t.refused refl));
+does_steps step scrolls f c v (Err Failed) d w x k takes = record {
+  dead = λ e. ((x.dead e).2, (x.dead e).1);
+  live = λ e. absurd (false≢true (sym e ∙ x.refused refl));
 }
 
 -- ---- calls
 
 -- one call
-pub does_call : {C : Type 0} (step : C → ScreenView → Call → C → ScreenView → Type 0)
+pub does_call : {C : Type 0} {t : Bool} (step : C → ScreenView → Call → C → ScreenView → Type 0)
     (scrolls : C → RowView → Bool → C → Type 0) (k : Call) (c : C) (v : ScreenView) (d : C) (w : ScreenView)
-    → v.failed ≡ false → step c v k d w → Does step scrolls (calling (k ∷ [])) c v d w
+    → v.failed ≡ false → step c v k d w → Does step scrolls (calling (k ∷ [])) t c v d w
 does_call {C} step scrolls k c v d w h one = record {
   dead = λ e. absurd (false≢true (sym h ∙ e));
   live = λ e. inl (c, refl, (d, w, subst (λ (u : ScreenView). step c u k d w) (is_alive v h) one, (refl, refl)));
 }
 
 -- a call of which parts can be unknown, and then the calls that tell of these
-pub does_counts : {C : Type 0} (step : C → ScreenView → Call → C → ScreenView → Type 0)
+pub does_counts : {C : Type 0} {t : Bool} (step : C → ScreenView → Call → C → ScreenView → Type 0)
     (scrolls : C → RowView → Bool → C → Type 0) (f : State → Partly) (k : Call) (c : C) (v : ScreenView) (n : ℕ)
     (b : C) (u : ScreenView) (d : C) (w : ScreenView)
     → v.failed ≡ false → Counts scrolls f v c n u b → Tells step b u (replicate n k) d w
-    → Does step scrolls (λ s. partly (f s) k) c v d w
+    → Does step scrolls (λ s. partly (f s) k) t c v d w
 does_counts {C} step scrolls f k c v n b u d w h x calls = record {
   dead = λ e. absurd (false≢true (sym h ∙ e));
   live = λ e. inl (
@@ -90,11 +97,11 @@ does_counts {C} step scrolls f k c v n b u d w h x calls = record {
   );
 }
 
-pub does_parts : {C : Type 0} (step : C → ScreenView → Call → C → ScreenView → Type 0)
+pub does_parts : {C : Type 0} {t : Bool} (step : C → ScreenView → Call → C → ScreenView → Type 0)
     (scrolls : C → RowView → Bool → C → Type 0) (f : State → Partly) (k : Call) (c : C) (v : ScreenView) (n : ℕ)
     (b : C) (u : ScreenView) (d : C) (w : ScreenView)
     → v.failed ≡ false → TriesParts scrolls f v c (Ok n) u b → Tells step b u (replicate n k) d w
-    → Does step scrolls (λ s. partly (f s) k) c v d w
+    → Does step scrolls (λ s. partly (f s) k) t c v d w
 does_parts {C} step scrolls f k c v n b u d w h x calls = record {
   dead = λ e. absurd (false≢true (sym h ∙ e));
   live = λ e. inl (
@@ -106,38 +113,54 @@ does_parts {C} step scrolls f k c v n b u d w h x calls = record {
 }
 
 -- such a call that was refused
-pub does_refused : {C : Type 0} (step : C → ScreenView → Call → C → ScreenView → Type 0)
+pub does_refused : {C : Type 0} {t : Bool} (step : C → ScreenView → Call → C → ScreenView → Type 0)
     (scrolls : C → RowView → Bool → C → Type 0) (f : State → Partly) (k : Call) (c : C) (v : ScreenView)
     (e : ScreenError) (d : C) (w : ScreenView)
     → v.failed ≡ false → TriesParts scrolls f v c (Err e) w d → SameBounds v.state w.state
-    → Does step scrolls (λ s. partly (f s) k) c v d w
-does_refused step scrolls f k c v Memory d w h x bounds = record {
+    → (e ≡ Memory → t ≡ true) → Does step scrolls (λ s. partly (f s) k) t c v d w
+does_refused step scrolls f k c v Memory d w h x bounds takes = record {
   dead = λ e. absurd (false≢true (sym h ∙ e));
-  live = λ e. inr (x.tries.memory refl, bounds, x.tries.told);
+  live = λ e. inr (record {
+    may_take = takes refl;
+    failed = x.tries.memory refl;
+    bounds = bounds;
+    told = x.tries.told refl;
+  });
 }
-does_refused step scrolls f k c v Failed d w h x bounds = record {
+does_refused step scrolls f k c v Failed d w h x bounds takes = record {
   dead = λ e. absurd (false≢true (sym h ∙ e));
   live = λ e. absurd (false≢true (sym h ∙ x.tries.refused refl));
 }
 
 -- the same effect, in other words
-pub does_as : {C : Type 0} (step : C → ScreenView → Call → C → ScreenView → Type 0)
+pub does_as : {C : Type 0} {t : Bool} (step : C → ScreenView → Call → C → ScreenView → Type 0)
     (scrolls : C → RowView → Bool → C → Type 0) (f h : State → Effect) (c : C) (v : ScreenView) (d : C) (w : ScreenView)
-    → f v.state ≡ h v.state → Does step scrolls f c v d w → Does step scrolls h c v d w
+    → f v.state ≡ h v.state → Does step scrolls f t c v d w → Does step scrolls h t c v d w
 does_as step scrolls f h c v d w same x = record {
   dead = x.dead;
   live = λ e. elim (x.live e) [
     | inl a ↦ inl (subst (λ (y : Effect). Acts step scrolls c y d w) same a)
-    | inr e ↦ inr e
+    | inr x ↦ inr (record {
+      may_take = x.may_take;
+      failed = x.failed;
+      bounds = x.bounds;
+      told = subst (λ (y : Effect). HearsFront scrolls c y.reports d) same x.told;
+    })
   ];
 }
 
+-- the same, where memory may be taken alike
+pub does_where : {C : Type 0} {t u : Bool} (step : C → ScreenView → Call → C → ScreenView → Type 0)
+    (scrolls : C → RowView → Bool → C → Type 0) (f : State → Effect) (c : C) (v : ScreenView) (d : C) (w : ScreenView)
+    → t ≡ u → Does step scrolls f t c v d w → Does step scrolls f u c v d w
+does_where step scrolls f c v d w e x = subst (λ (b : Bool). Does step scrolls f b c v d w) e x
+
 -- two calls, the second unless the screen has failed by then
-pub does_calls : {C : Type 0} (step : C → ScreenView → Call → C → ScreenView → Type 0)
+pub does_calls : {C : Type 0} {t : Bool} (step : C → ScreenView → Call → C → ScreenView → Type 0)
     (scrolls : C → RowView → Bool → C → Type 0) (k l : Call) (c : C) (v : ScreenView) (b : C) (u : ScreenView) (d : C)
     (w : ScreenView)
     → v.failed ≡ false → step c v k b u → u.failed ≡ false → step b u l d w
-    → Does step scrolls (calling (k ∷ l ∷ [])) c v d w
+    → Does step scrolls (calling (k ∷ l ∷ [])) t c v d w
 does_calls {C} step scrolls k l c v b u d w h one live two = record {
   dead = λ e. absurd (false≢true (sym h ∙ e));
   live = λ e. inl (
@@ -153,9 +176,9 @@ does_calls {C} step scrolls k l c v b u d w h one live two = record {
   );
 }
 
-pub does_first_call : {C : Type 0} (step : C → ScreenView → Call → C → ScreenView → Type 0)
+pub does_first_call : {C : Type 0} {t : Bool} (step : C → ScreenView → Call → C → ScreenView → Type 0)
     (scrolls : C → RowView → Bool → C → Type 0) (k l : Call) (c : C) (v : ScreenView) (b : C) (u : ScreenView)
-    → v.failed ≡ false → step c v k b u → u.failed ≡ true → Does step scrolls (calling (k ∷ l ∷ [])) c v b u
+    → v.failed ≡ false → step c v k b u → u.failed ≡ true → Does step scrolls (calling (k ∷ l ∷ [])) t c v b u
 does_first_call {C} step scrolls k l c v b u h one dead = record {
   dead = λ e. absurd (false≢true (sym h ∙ e));
   live = λ e. inl (
@@ -191,19 +214,21 @@ tells_more {C} step c v k ks b u d w h one more =
 -- ---- rows of tables
 
 pub row_does : {C : Type 0} (step : C → ScreenView → Call → C → ScreenView → Type 0)
-    (scrolls : C → RowView → Bool → C → Type 0) (rows : List (ℕ × (List (List ℕ) → Call → State → Effect))) (a b : ℕ)
-    (gs : List (List ℕ)) (k : Call) (c : C) (v : ScreenView) (d : C) (w : ScreenView) → a ≡ b
-    → Does step scrolls (row_effect (lookup b rows) gs k) c v d w → Does step scrolls (row_effect
-    (lookup a rows) gs k) c v d w
-row_does step scrolls rows a b gs k c v d w e x =
-    subst (λ (n : ℕ). Does step scrolls (row_effect (lookup n rows) gs k) c v d w) (sym e) x
+    (scrolls : C → RowView → Bool → C → Type 0) (rows : List (ℕ × (List (List ℕ) → Call → State → Effect)))
+    (t : ℕ → Bool) (a b : ℕ) (gs : List (List ℕ)) (k : Call) (c : C) (v : ScreenView) (d : C) (w : ScreenView) → a ≡ b
+    → Does step scrolls (row_effect (lookup b rows) gs k) (t b) c v d w
+    → Does step scrolls (row_effect (lookup a rows) gs k) (t a) c v d w
+row_does step scrolls rows t a b gs k c v d w e x =
+    subst (λ (n : ℕ). Does step scrolls (row_effect (lookup n rows) gs k) (t n) c v d w) (sym e) x
 
 pub plain_does : {C : Type 0} (step : C → ScreenView → Call → C → ScreenView → Type 0)
     (scrolls : C → RowView → Bool → C → Type 0) (a b : ℕ) (gs : List (List ℕ)) (c : C) (v : ScreenView) (d : C)
-    (w : ScreenView) → a ≡ b → Does step scrolls (plain_effect (lookup b plain_rows) gs b) c v d w
-    → Does step scrolls (plain_effect (lookup a plain_rows) gs a) c v d w
+    (w : ScreenView) → a ≡ b
+    → Does step scrolls (plain_effect (lookup b plain_rows) gs b) (plain_may_take b v.state) c v d w
+    → Does step scrolls (plain_effect (lookup a plain_rows) gs a) (plain_may_take a v.state) c v d w
 plain_does step scrolls a b gs c v d w e x =
-    subst (λ (n : ℕ). Does step scrolls (plain_effect (lookup n plain_rows) gs n) c v d w) (sym e) x
+    subst (λ (n : ℕ). Does step scrolls (plain_effect (lookup n plain_rows) gs n) (plain_may_take n v.state) c v d w)
+    (sym e) x
 
 pub escape_more : (ms : List ℕ) (b : ℕ) (s : State) → 0 < length ms
     → calling (unhandled_escape (first ms) (second ms) b ∷ []) s ≡ escape_effect ms b s

@@ -1,9 +1,10 @@
 -- Callbacks behind a sink of rows.
-use Rattle.std.proofs.Common.{◌≡◌, ◌∙◌, Bool, List, [], ◌∷◌, ◌++◌, ap, sym, subst}
+use Rattle.std.proofs.Common.{◌≡◌, ◌∙◌, Bool, List, [], ◌∷◌, ◌++◌, ap, refl, sym, subst, append-nil}
 use Rattle.vt100_rows.specs.Row.{RowView}
 use Rattle.vt100_sheet.specs.Sink.{TakesAll}
 use Rattle.vt100_state.specs.Step.{Report, reports_of}
 use Rattle.vt100_state.specs.Call.{Hears}
+use Rattle.vt100.specs.Tries.{HearsFront}
 
 -- a sink whose takings are the callbacks' hearings, and which keeps its flag and the place of the callbacks
 pub hears_all : {S C N : Type 0} (scrolls : C → RowView → Bool → C → Type 0) (takes : S → RowView → S → Type 0)
@@ -25,3 +26,13 @@ pub hears_append : {C : Type 0} (scrolls : C → RowView → Bool → C → Type
     → Hears scrolls c xs b → Hears scrolls b ys d → Hears scrolls c (xs ++ ys) d
 hears_append {C} scrolls c [] ys b d h k = subst (λ (x : C). Hears scrolls x ys d) (sym h) k
 hears_append scrolls c (x ∷ xs) ys b d h k = (h.0, h.1, hears_append scrolls h.0 xs ys b d h.2 k)
+
+-- all of some rows
+pub hears_whole : {C : Type 0} (scrolls : C → RowView → Bool → C → Type 0) (c : C) (xs : List Report) (d : C)
+    → Hears scrolls c xs d → HearsFront scrolls c xs d
+hears_whole scrolls c xs d h = (xs, [], sym (append-nil xs), h)
+
+-- the first part of them
+pub hears_part : {C : Type 0} (scrolls : C → RowView → Bool → C → Type 0) (c : C) (xs ys : List Report) (d : C)
+    → Hears scrolls c xs d → HearsFront scrolls c (xs ++ ys) d
+hears_part scrolls c xs ys d h = (xs, ys, refl, h)

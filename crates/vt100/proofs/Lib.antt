@@ -1,6 +1,7 @@
 pub mod EventLemmas
 pub mod HearLemmas
 pub mod RefusedLemmas
+pub mod SettledLemmas
 pub mod RepeatLemmas
 pub mod PlayLemmas
 pub mod PrintableLemmas
@@ -11,6 +12,8 @@ pub mod ProperScreens
 pub mod TextLemmas
 pub mod BetweenLemmas
 pub mod BoundsLemmas
+pub mod LimitsLemmas
+pub mod MemoryLemmas
 pub mod ShownLemmas
 pub mod WriteLemmas
 pub mod RowsLemmas

@@ -1,6 +1,6 @@
 -- Events that a screen has gone through, and what acts make.
 use Rattle.std.proofs.Common.{◌≡◌, ◌∙◌, ◌⊎◌, ℕ, Bool, true, false, List, [], ◌∷◌, ◌++◌, ap, refl, sym, subst}
-use Rattle.std.proofs.Common.{inl, inr, append_assoc, append-nil, Ok, Err, Result, OnOk, All}
+use Rattle.std.proofs.Common.{inl, inr, append_assoc, append-nil, Ok, Err, Result, OnOk, All, ◌||◌}
 use Rattle.std.proofs.lemmas.List.Elements.{All-head, All-tail}
 use Rattle.std.proofs.lemmas.Bool.{false≢true}
 use Rattle.vte_core.specs.Event.{Event, Performs}
@@ -19,6 +19,7 @@ use Rattle.vt100.specs.declared.screen.wrapped.WrappedScreen.{WrappedScreen}
 use Rattle.vt100.specs.declared.error.ScreenError.{ScreenError}
 use Rattle.vt100.specs.Tries.{Tries, SameBounds, alive}
 use Rattle.vt100.specs.Goes.{Either, Tells, Goes, GoesThrough}
+use Rattle.vt100.specs.Memory.{may_take_memory, some_may_take}
 use Rattle.vt100.specs.Parsing.{ParserView, StandsAt, KeepsScreens}
 use Rattle.vt100.specs.Laws.{PlaysEvents, FeedsMake, FeedsJoin, FeedsNothing, ActsFollow, ResizedScreensArePutIn}
 use Rattle.vt100_state.specs.State.{main_sheet, alternate_sheet}
@@ -79,7 +80,7 @@ one_played : {C : Type 0} (step : C → ScreenView → Call → C → ScreenView
 one_played step scrolls keeps e c v d w h g live =
     elim (g.live h) [
       | inl a ↦ tells_keeps step keeps a.0 (alive (effect e v.state).state) (effect e v.state).calls d w a.2
-      | inr f ↦ absurd (false≢true (sym live ∙ f.0))
+      | inr x ↦ absurd (false≢true (sym live ∙ x.failed))
     ]
 
 failed_stays : {C : Type 0} (step : C → ScreenView → Call → C → ScreenView → Type 0)
@@ -234,7 +235,7 @@ one_bounded step scrolls keeps e c v d w h g failed =
       | inl a ↦
           let is = tells_keeps step keeps a.0 (alive (effect e v.state).state) (effect e v.state).calls d w a.2 in
           absurd (false≢true (sym (ap (λ (x : ScreenView). x.failed) is) ∙ failed))
-      | inr f ↦ f.1
+      | inr x ↦ x.bounds
     ]
 
 events_bounded : {C : Type 0} (step : C → ScreenView → Call → C → ScreenView → Type 0)
@@ -271,3 +272,42 @@ fed_bounded step scrolls keeps p q bytes goes rows cols capacity acts are at =
     (made-well rows cols capacity acts are) in
     events_bounded step scrolls keeps b (events_added past bytes) (added-told past bytes) p.callbacks p.screen
     q.callbacks q.screen (ap (λ (x : ScreenView). x.failed) at.screen) well (goes past at.has_read)
+
+-- ---- where memory may be taken
+
+first-or : (a b : Bool) → a ≡ true → (a || b) ≡ true
+first-or true b e = refl
+first-or false b e = absurd (false≢true e)
+
+second-or : (a b : Bool) → b ≡ true → (a || b) ≡ true
+second-or true b e = refl
+second-or false b e = e
+
+-- an event after which the screen has failed
+one_taken : {C : Type 0} (step : C → ScreenView → Call → C → ScreenView → Type 0)
+    (scrolls : C → RowView → Bool → C → Type 0) → KeepsScreens step → (e : Event) (c : C) (v : ScreenView) (d : C)
+    (w : ScreenView) → v.failed ≡ false → Goes step scrolls e c v d w → w.failed ≡ true
+    → may_take_memory e v.state ≡ true
+one_taken step scrolls keeps e c v d w h g failed =
+    elim (g.live h) [
+      | inl a ↦
+          let is = tells_keeps step keeps a.0 (alive (effect e v.state).state) (effect e v.state).calls d w a.2 in
+          absurd (false≢true (sym (ap (λ (x : ScreenView). x.failed) is) ∙ failed))
+      | inr x ↦ x.may_take
+    ]
+
+pub some_taken : {C : Type 0} (step : C → ScreenView → Call → C → ScreenView → Type 0)
+    (scrolls : C → RowView → Bool → C → Type 0) → KeepsScreens step → (es : List Event) (c : C) (v : ScreenView) (d : C)
+    (w : ScreenView) → v.failed ≡ false → GoesThrough step scrolls es c v d w → w.failed ≡ true
+    → some_may_take es v.state ≡ true
+some_taken step scrolls keeps [] c v d w h g failed =
+    absurd (false≢true (sym h ∙ sym (ap (λ (x : ScreenView). x.failed) g.1) ∙ failed))
+some_taken step scrolls keeps (e ∷ es) c v d w h (b, u, one, more) failed =
+    let rest = some_may_take es (effect e v.state).state in
+    elim (both u.failed) [
+      | inl f ↦ first-or (may_take_memory e v.state) rest (one_taken step scrolls keeps e c v b u h one f)
+      | inr f ↦
+          let is = ap (λ (x : ScreenView). x.state) (one_played step scrolls keeps e c v b u h one f) in
+          second-or (may_take_memory e v.state) rest (ap (some_may_take es) (sym is)
+          ∙ some_taken step scrolls keeps es b u d w f more failed)
+    ]

@@ -32,7 +32,7 @@ resized_tells scrolls rows cols v c d g h live is_shown is_other hears = record 
   screen = λ i. record { state = record (v.state) { shown = is_shown i; other = is_other i }; failed = live i };
   hears = hears;
   memory = λ e. cc;
-  told = tt;
+  told = λ e. cc;
   refused = λ e. cc;
   dead = λ e. absurd (false≢true (sym live ∙ e));
 }

@@ -1,8 +1,8 @@
 -- Characters that are printed at once, as event by event.
 use Rattle.std.proofs.Common.{◌≡◌, ◌∙◌, ◌<◌, ◌==◌, ℕ, zero, Bool, true, false, cond, List, [], ◌∷◌, ◌++◌, ap, sym}
 use Rattle.std.proofs.Common.{Option, Some, Result, Ok, Err, OnOk, OnErr, length, map, refl, subst, inl, inr, arith}
-use Rattle.std.proofs.Common.{nat_lt, get_or, take, drop, ◌⊎◌, ◌&&◌, ◌||◌, ◌≤◌}
-use Rattle.std.specs.Prelude.{All}
+use Rattle.std.proofs.Common.{nat_lt, get_or, take, drop, ◌⊎◌, ◌&&◌, ◌||◌, ◌≤◌, not, append_assoc, append-nil}
+use Rattle.std.specs.Prelude.{All, IsOk}
 use Rattle.std.specs.Char.{encode_utf8}
 use Rattle.std.specs.Str.{IsUtf8, chars}
 use Rattle.std.proofs.lemmas.Grind.{common_steps}
@@ -29,12 +29,15 @@ use Rattle.vte_core.specs.Event.{Event, Print, Performs}
 use Rattle.vt100.specs.declared.error.ScreenError.{ScreenError}
 use Rattle.vt100.specs.declared.error.ScreenError.TheVariants.{Memory, Failed}
 use Rattle.vt100.specs.declared.screen.wrapped.WrappedScreen.{WrappedScreen}
-use Rattle.vt100.specs.Tries.{Tries, SameBounds, HearsRows, alive}
-use Rattle.vt100.specs.Goes.{Goes, GoesThrough}
+use Rattle.vt100.specs.Memory.{keeps_rows}
+use Rattle.vt100.specs.Tries.{Tries, SameBounds, HearsFront, alive}
+use Rattle.vt100.specs.Goes.{Fails, Goes, GoesThrough}
 use Rattle.vt100.specs.Runs.{IsHandled, typed_all, last_of, PrintsFront}
 use Rattle.vt100.proofs.HearLemmas.{hears_all}
 use Rattle.vt100.proofs.PrintableLemmas.{printable-chars}
-use Rattle.vt100.proofs.EventLemmas.{is_alive, does_as, does_none}
+use Rattle.vt100.proofs.EventLemmas.{is_alive, does_as, does_none, does_where}
+use Rattle.vt100.proofs.LimitsLemmas.{bounds_typed, bounds_back, keeps_typed}
+use Rattle.vt100.proofs.RefusedLemmas.{tries_front, refused_keeps}
 use Rattle.vt100.proofs.PlayLemmas.{Steps}
 
 -- ---- a character that stands in a cell of its own
@@ -137,10 +140,20 @@ run_tries scrolls xs v c d g last live p is_grid is_last hears =
           ∙ ap (λ (t : Stepped). alive t.state) (sym is);
       hears = subst (λ (t : Stepped). Hears scrolls c t.reports d) (sym is) hears;
       memory = λ e. cc;
-      told = tt;
+      told = λ e. cc;
       refused = λ e. cc;
       dead = λ e. absurd (false≢true (sym live ∙ e));
     }
+
+-- and one that was refused
+pub run_refused : {C : Type 0} (scrolls : C → RowView → Bool → C
+    → Type 0) (xs : List ℕ) (v : ScreenView) (c d : C) (w : ScreenView)
+    → v.failed ≡ false → All (IsSpacing v.state.shown.width) xs → w.failed ≡ true
+    → HearsFront scrolls c (reports_of v.state.alternate (printed_all v.state.shown xs v.state.attrs).sunk) d
+    → Tries {A = Unit {0}} scrolls (typed_all xs) v c (Err Memory) w d
+run_refused scrolls xs v c d w live p failed told =
+    tries_front scrolls (typed_all xs) v c w d live failed
+    (subst (λ (t : Stepped). HearsFront scrolls c t.reports d) (sym (typed_all-is xs v.state p)) told)
 
 -- ---- what the callbacks heard of a run, and that they stay where they are
 
@@ -154,18 +167,35 @@ run_heard scrolls takes callbacks alternate name each (Ok u) s rows t h =
     (hears_all scrolls takes callbacks alternate name each s rows t h).0
 run_heard scrolls takes callbacks alternate name each (Err e) s rows t h = tt
 
+-- the rows that leave while some characters are printed, and then others
+sunk-append : (g : GridView) (xs ys : List ℕ) (a : Attrs) → (printed_all g (xs ++ ys) a).sunk
+    ≡ (printed_all g xs a).sunk ++ (printed_all (printed_all g xs a).grid ys a).sunk
+sunk-append g [] ys a = refl
+sunk-append g (x ∷ xs) ys a =
+    let first = printed g x a in
+    let others = printed_all first.grid xs a in
+    ap (λ (rows : List RowView). first.sunk ++ rows) (sunk-append first.grid xs ys a)
+    ∙ sym (append_assoc first.sunk others.sunk (printed_all others.grid ys a).sunk)
+
 -- at a refusal they heard of the rows that left while a front was printed
 pub front_heard : {S C N E : Type 0} (scrolls : C → RowView → Bool → C → Type 0) (takes : S → RowView → S → Type 0)
     (callbacks : S → C) (alternate : S → Bool) (name : S → N)
     → ((s : S) (v : RowView) (t : S) → takes s v t → scrolls (callbacks s) v (alternate s) (callbacks t)
     × (alternate t ≡ alternate s) × (name t ≡ name s))
     → (result : Result (Unit {0}) E) (s : S) (g : GridView) (xs : List ℕ) (a : Attrs) (t : S)
-    → OnErr result (TakesFront takes s g xs a t) → OnErr result (HearsRows scrolls (callbacks s) (callbacks t))
+    → OnErr result (TakesFront takes s g xs a t)
+    → OnErr result (HearsFront scrolls (callbacks s) (reports_of (alternate s) (printed_all g xs a).sunk) (callbacks t))
 front_heard scrolls takes callbacks alternate name each (Ok u) s g xs a t h = tt
-front_heard scrolls takes callbacks alternate name each (Err e) s g xs a t h = (
-  reports_of (alternate s) (printed_all g h.0 a).sunk,
-  (hears_all scrolls takes callbacks alternate name each s (printed_all g h.0 a).sunk t h.3).0,
-)
+front_heard scrolls takes callbacks alternate name each (Err e) s g xs a t h =
+    let front = printed_all g h.0 a in
+    let rest = printed_all front.grid h.1 a in (
+      reports_of (alternate s) front.sunk,
+      reports_of (alternate s) rest.sunk,
+      ap (λ (ys : List ℕ). reports_of (alternate s) (printed_all g ys a).sunk) h.2
+          ∙ ap (reports_of (alternate s)) (sunk-append g h.0 h.1 a)
+          ∙ sym (reports-append (alternate s) front.sunk rest.sunk),
+      (hears_all scrolls takes callbacks alternate name each s front.sunk t h.3).0,
+    )
 
 pub run_same : {S C N E : Type 0} (scrolls : C → RowView → Bool → C → Type 0) (takes : S → RowView → S → Type 0)
     (callbacks : S → C) (alternate : S → Bool) (name : S → N)
@@ -196,11 +226,11 @@ hears-split scrolls c (x ∷ xs) ys d h =
 goes-typed : {C : Type 0} (step : C → ScreenView → Call → C → ScreenView → Type 0)
     (scrolls : C → RowView → Bool → C → Type 0) (ch : ℕ) (c : C) (v : ScreenView) (d : C) (w : ScreenView)
     → is_unhandled ch ≡ false → v.failed ≡ false → (Hears scrolls c (typed ch v.state).reports d
-    × (w ≡ alive (typed ch v.state).state))
-    ⊎ ((w.failed ≡ true) × SameBounds v.state w.state × HearsRows scrolls c d)
+    × (w ≡ alive (typed ch v.state).state)) ⊎ Fails scrolls (keeps_rows v.state) (typed ch v.state).reports c v d w
     → Goes step scrolls (Print ch) c v d w
 goes-typed step scrolls ch c v d w p live h =
-    does_as step scrolls (λ t. steps (typed ch t)) _ c v d w
+    does_where step scrolls _ c v d w (ap (λ (b : Bool). not b && keeps_rows v.state) (sym p))
+    (does_as step scrolls (λ t. steps (typed ch t)) _ c v d w
     (ap (λ (b : Bool). cond b (calling (said.unhandled_char ch ∷ []) v.state) (steps (typed ch v.state)))
     (sym p))
     (record {
@@ -209,7 +239,7 @@ goes-typed step scrolls ch c v d w p live h =
         | inl a ↦ inl (d, a.0, (refl, a.1))
         | inr f ↦ inr f
       ];
-    })
+    }))
 
 goes-failed : {C : Type 0} (step : C → ScreenView → Call → C → ScreenView → Type 0)
     (scrolls : C → RowView → Bool → C → Type 0) (xs : List ℕ) (c : C) (v : ScreenView) → v.failed ≡ true
@@ -232,18 +262,66 @@ goes-run step scrolls (x ∷ xs) c v d w p live hears screen =
       goes-run step scrolls xs s.0 (alive t.state) d w (All-drop IsHandled 1 (x ∷ xs) p) refl s.2 screen,
     )
 
--- the screen fails at the first of some characters, where it is w then
+-- a front of two lists ends in the first of them, or has all of it
+abbrev Parts : List Report → List Report → List Report → List Report → Type 0
+Parts xs ys front rest =
+    ((more : List Report) × (xs ≡ front ++ more)) ⊎ ((other : List Report) × (front ≡ xs ++ other) × (ys ≡ other ++ rest))
+
+parts : (xs ys front rest : List Report) → xs ++ ys ≡ front ++ rest → Parts xs ys front rest
+parts xs ys [] rest e = inl (xs, refl)
+parts [] ys (f ∷ front) rest e = inr (f ∷ front, refl, e)
+parts (x ∷ xs) ys (f ∷ front) rest e =
+    let heads : x ≡ f = cc in
+    let tails : xs ++ ys ≡ front ++ rest = cc in
+    elim (parts xs ys front rest tails) [
+      | inl p ↦ inl (p.0, (λ i. heads i ∷ p.1 i))
+      | inr p ↦ inr (p.0, (λ i. sym heads i ∷ p.1 i), p.2)
+    ]
+
+-- the screen fails at one of some characters, where it is w then
 goes-refused : {C : Type 0} (step : C → ScreenView → Call → C → ScreenView → Type 0)
-    (scrolls : C → RowView → Bool → C → Type 0) (xs : List ℕ) (c : C) (v : ScreenView) (d : C) (w : ScreenView)
-    → 0 < length xs → All IsHandled xs → v.failed ≡ false → w.failed ≡ true → SameBounds v.state w.state
-    → HearsRows scrolls c d → GoesThrough step scrolls (map Print xs) c v d w
-goes-refused step scrolls [] c v d w some p live failed bounds told = absurd (omega arith)
-goes-refused step scrolls (x ∷ xs) c v d w some p live failed bounds told = (
+    (scrolls : C → RowView → Bool → C → Type 0) (x : ℕ) (xs : List ℕ) (c : C) (v : ScreenView) (d : C) (w : ScreenView)
+    → All IsHandled (x ∷ xs) → v.failed ≡ false → w.failed ≡ true → keeps_rows v.state ≡ true
+    → SameBounds v.state w.state → HearsFront scrolls c (typed_all (x ∷ xs) v.state).reports d
+    → GoesThrough step scrolls (map Print (x ∷ xs)) c v d w
+goes-refused step scrolls x [] c v d w p live failed keeps bounds told = (
   d,
   w,
-  goes-typed step scrolls x c v d w (p zero 0 (omega arith)) live (inr (failed, bounds, told)),
-  goes-failed step scrolls xs d w failed,
+  goes-typed step scrolls x c v d w (p zero 0 (omega arith)) live (inr (record {
+    may_take = keeps;
+    failed = failed;
+    bounds = bounds;
+    told = (told.0, told.1, sym (append-nil (typed x v.state).reports) ∙ told.2, told.3);
+  })),
+  goes-failed step scrolls [] d w failed,
 )
+goes-refused step scrolls x (y ∷ ys) c v d w p live failed keeps bounds told =
+    let t = typed x v.state in
+    let handled = p zero 0 (omega arith) in
+    elim (parts t.reports (typed_all (y ∷ ys) t.state).reports told.0 told.1 told.2) [
+      | inl here ↦ (
+        d,
+        w,
+        goes-typed step scrolls x c v d w handled live (inr (record {
+          may_take = keeps;
+          failed = failed;
+          bounds = bounds;
+          told = (told.0, here.0, here.1, told.3);
+        })),
+        goes-failed step scrolls (y ∷ ys) d w failed,
+      )
+      | inr later ↦
+          let s = hears-split scrolls c t.reports later.0 d
+          (subst (λ (rs : List Report). Hears scrolls c rs d) later.1 told.3) in (
+            s.0,
+            alive t.state,
+            goes-typed step scrolls x c v s.0 (alive t.state) handled live (inl (s.1, refl)),
+            goes-refused step scrolls y ys s.0 (alive t.state) d w (All-drop IsHandled 1 (x ∷ y ∷ ys) p) refl failed
+                (keeps_typed x v.state ∙ keeps)
+                (bounds_back v.state t.state w.state (bounds_typed x v.state) bounds)
+                (later.0, told.1, later.2, s.2),
+          )
+    ]
 
 either-failed : (b : Bool) → (b ≡ true) ⊎ (b ≡ false)
 either-failed true = inl refl
@@ -252,18 +330,22 @@ either-failed false = inr refl
 memory-failed : {A : Type 0} (x y : Result A ScreenError) → x ≡ Err Memory → y ≡ Err Failed → x ≡ y → false ≡ true
 memory-failed x y p q e = cc
 
-pub goes-tries : {C A : Type 0} (step : C → ScreenView → Call → C → ScreenView → Type 0)
+pub goes-tries : {C : Type 0} (step : C → ScreenView → Call → C → ScreenView → Type 0)
     (scrolls : C → RowView → Bool → C → Type 0) (xs : List ℕ) (c : C) (v : ScreenView)
-    (result : Result A ScreenError) (d : C) (w : ScreenView) → 0 < length xs → All IsHandled xs
+    (result : Result (Unit {0}) ScreenError) (d : C) (w : ScreenView) → 0 < length xs → All IsHandled xs
     → Tries scrolls (typed_all xs) v c result w d → SameBounds v.state w.state
+    → (v.failed ≡ false → v.state.shown.kept.capacity ≡ 0 → IsOk result)
     → GoesThrough step scrolls (map Print xs) c v d w
-goes-tries step scrolls xs c v (Ok a) d w some p t k = goes-run step scrolls xs c v d w p t.live t.hears t.screen
-goes-tries {C} {A} step scrolls xs c v (Err Memory) d w some p t k =
+goes-tries step scrolls xs c v (Ok a) d w some p t k keeps =
+    goes-run step scrolls xs c v d w p t.live t.hears t.screen
+goes-tries step scrolls [] c v (Err Memory) d w some p t k keeps = absurd (omega arith)
+goes-tries step scrolls (x ∷ xs) c v (Err Memory) d w some p t k keeps =
     elim (either-failed v.failed) [
-      | inl f ↦ absurd (false≢true (memory-failed {A = A} (Err Memory) (Err Failed) refl refl (t.dead f).0))
-      | inr f ↦ goes-refused step scrolls xs c v d w some p f (t.memory refl) k t.told
+      | inl f ↦ absurd (false≢true (memory-failed {A = Unit {0}} (Err Memory) (Err Failed) refl refl (t.dead f).0))
+      | inr f ↦ goes-refused step scrolls x xs c v d w p f (t.memory refl)
+          (refused_keeps {A = Unit {0}} v.state.shown.kept.capacity (Err Memory) keeps f refl) k (t.told refl)
     ]
-goes-tries {C} step scrolls xs c v (Err Failed) d w some p t k =
+goes-tries {C} step scrolls xs c v (Err Failed) d w some p t k keeps =
     let f = t.refused refl in
     let same = t.dead f in
     subst (λ (x : C). GoesThrough step scrolls (map Print xs) c v x w) (sym same.2)
@@ -283,28 +365,30 @@ performs-goes {C} step scrolls (e ∷ es) p q h =
 -- ---- the front of a text
 
 -- printable ASCII
-pub front-run : {C A : Type 0} (step : C → ScreenView → Call → C → ScreenView → Type 0)
+pub front-run : {C : Type 0} (step : C → ScreenView → Call → C → ScreenView → Type 0)
     (scrolls : C → RowView → Bool → C → Type 0) (bs : List ℕ) (n : ℕ) (c : C) (v : ScreenView)
-    (result : Result A ScreenError) (d : C) (w : ScreenView) → 0 < n → n ≤ length bs → All IsPrintable (take n bs)
-    → Tries scrolls (typed_all (take n bs)) v c result w d → SameBounds v.state w.state
+    (result : Result (Unit {0}) ScreenError) (d : C) (w : ScreenView) → 0 < n → n ≤ length bs
+    → All IsPrintable (take n bs) → Tries scrolls (typed_all (take n bs)) v c result w d → SameBounds v.state w.state
+    → (v.failed ≡ false → v.state.shown.kept.capacity ≡ 0 → IsOk result)
     → PrintsFront step scrolls bs (drop n bs) c v d w
-front-run step scrolls bs n c v result d w pos within p t k =
+front-run step scrolls bs n c v result d w pos within p t k keeps =
     let some : 0 < length (take n bs) = grind (arith, common_steps) in (
       take n bs,
       printable-chars bs n p,
       goes-tries step scrolls (take n bs) c v result d w some
-          (λ i e l. printable-handled (get_or (take n bs) i e) (p i e l)) t k,
+          (λ i e l. printable-handled (get_or (take n bs) i e) (p i e l)) t k keeps,
     )
 
 -- some characters
-pub front-some : {C A : Type 0} (step : C → ScreenView → Call → C → ScreenView → Type 0)
+pub front-some : {C : Type 0} (step : C → ScreenView → Call → C → ScreenView → Type 0)
     (scrolls : C → RowView → Bool → C → Type 0) (bs rest front : List ℕ) (c : C) (v : ScreenView)
-    (result : Result A ScreenError) (d : C) (w : ScreenView) → 0 < length front → All IsHandled front
+    (result : Result (Unit {0}) ScreenError) (d : C) (w : ScreenView) → 0 < length front → All IsHandled front
     → chars bs ≡ front ++ chars rest
     → Tries scrolls (typed_all front) v c result w d → SameBounds v.state w.state
+    → (v.failed ≡ false → v.state.shown.kept.capacity ≡ 0 → IsOk result)
     → PrintsFront step scrolls bs rest c v d w
-front-some step scrolls bs rest front c v result d w some p e t k =
-    (front, e, goes-tries step scrolls front c v result d w some p t k)
+front-some step scrolls bs rest front c v result d w some p e t k keeps =
+    (front, e, goes-tries step scrolls front c v result d w some p t k keeps)
 
 -- a character
 pub front-char : {C : Type 0} (step : C → ScreenView → Call → C → ScreenView → Type 0)

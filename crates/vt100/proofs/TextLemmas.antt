@@ -21,7 +21,7 @@ typed_tries scrolls ch v c d g last live is_grid is_last hears = record {
   screen = λ i. record { state = record (v.state) { shown = is_grid i; last = is_last i }; failed = live i };
   hears = hears;
   memory = λ e. cc;
-  told = tt;
+  told = λ e. cc;
   refused = λ e. cc;
   dead = λ e. absurd (false≢true (sym live ∙ e));
 }

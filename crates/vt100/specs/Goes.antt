@@ -3,9 +3,11 @@ use Rattle.std.specs.Prelude.{◌≡◌, ◌⊎◌, Bool, true, false, List, [],
 use Rattle.vte_core.specs.Event.{Event}
 use Rattle.vt100_rows.specs.Row.{RowView}
 use Rattle.vt100_state.specs.State.{State}
+use Rattle.vt100_state.specs.Step.{Report}
 use Rattle.vt100_state.specs.Call.{Call, ScreenView, Hears}
 use Rattle.vt100_state.specs.Effect.{Effect, effect}
-use Rattle.vt100.specs.Tries.{SameBounds, HearsRows, alive}
+use Rattle.vt100.specs.Memory.{may_take_memory}
+use Rattle.vt100.specs.Tries.{SameBounds, HearsFront, alive}
 
 -- P where it is so, else Q
 abbrev pub Either : Bool → Type 0 → Type 0 → Type 0
@@ -26,20 +28,27 @@ abbrev pub Acts : {C : Type 0} → (C → ScreenView → Call → C → ScreenVi
     → C → Effect → C → ScreenView → Type 0
 Acts {C} step scrolls c x d w = (b : C) × Hears scrolls c x.reports b × Tells step b (alive x.state) x.calls d w
 
--- What brings about the effect f does to callbacks c and a screen v, which are then d and w. On a failed screen nothing
--- is done. Else f comes about, or the change finds no memory: the screen has failed, with sheets of the same size, and
--- the callbacks were told of rows alone.
+-- A change of a screen v and callbacks c that finds no memory, where it may take some: the screen is then w, which has
+-- failed, with sheets of the same size, and the callbacks d were told of the first of these rows alone.
+pub record Fails {C : Type 0} (scrolls : C → RowView → Bool → C → Type 0) (takes : Bool) (rows : List Report) (c : C)
+    (v : ScreenView) (d : C) (w : ScreenView) : Type 0 where
+  pub may_take : takes ≡ true
+  pub failed : w.failed ≡ true
+  pub bounds : SameBounds v.state w.state
+  pub told : HearsFront scrolls c rows d
+
+-- What brings about the effect f does to callbacks c and a screen v, which are then d and w; it may take memory where
+-- `takes` says so. On a failed screen nothing is done. Else f comes about, or the change finds no memory.
 pub record Does {C : Type 0} (step : C → ScreenView → Call → C → ScreenView → Type 0)
-    (scrolls : C → RowView → Bool → C → Type 0) (f : State → Effect) (c : C) (v : ScreenView) (d : C)
+    (scrolls : C → RowView → Bool → C → Type 0) (f : State → Effect) (takes : Bool) (c : C) (v : ScreenView) (d : C)
     (w : ScreenView) : Type 0 where
   pub dead : v.failed ≡ true → (d ≡ c) × (w ≡ v)
-  pub live : v.failed ≡ false → Acts step scrolls c (f v.state) d w
-      ⊎ ((w.failed ≡ true) × SameBounds v.state w.state × HearsRows scrolls c d)
+  pub live : v.failed ≡ false → Acts step scrolls c (f v.state) d w ⊎ Fails scrolls takes (f v.state).reports c v d w
 
 -- an event
 abbrev pub Goes : {C : Type 0} → (C → ScreenView → Call → C → ScreenView → Type 0) → (C → RowView → Bool → C → Type 0)
     → Event → C → ScreenView → C → ScreenView → Type 0
-Goes step scrolls e c v d w = Does step scrolls (effect e) c v d w
+Goes step scrolls e c v d w = Does step scrolls (effect e) (may_take_memory e v.state) c v d w
 
 -- events, one after another
 abbrev pub GoesThrough : {C : Type 0} → (C → ScreenView → Call → C → ScreenView → Type 0)

@@ -1,6 +1,7 @@
 pub mod CallOf
 pub mod Goes
 pub mod Laws
+pub mod Memory
 pub mod ParserLends
 pub mod Parsing
 pub mod Runs

@@ -1,7 +1,8 @@
 -- What calls do to a screen, and how they are refused.
-use Rattle.std.specs.Prelude.{◌≡◌, ℕ, Bool, true, false, List, Result, Err, OnOk, OnErr, IfOk, if◌then◌else◌}
+use Rattle.std.specs.Prelude.{◌≡◌, ◌⊎◌, ℕ, Bool, true, false, List, ◌++◌, Result, Err, OnOk, IfOk, if◌then◌else◌}
 use Rattle.vt100_rows.specs.Row.{RowView}
 use Rattle.vt100_core.specs.Grid.{SameLimits}
+use Rattle.vt100_core.specs.Resize.{resized}
 use Rattle.vt100_state.specs.State.{State, main_sheet, alternate_sheet}
 use Rattle.vt100_state.specs.Step.{Stepped, Partly, Report}
 use Rattle.vt100_state.specs.Call.{ScreenView, Hears}
@@ -21,20 +22,27 @@ pub record SameBounds (s t : State) : Type 0 where
   pub main : SameLimits (main_sheet s) (main_sheet t)
   pub alternate : SameLimits (alternate_sheet s) (alternate_sheet t)
 
--- callbacks c have been told of rows alone, and are d
-abbrev pub HearsRows : {C : Type 0} → (C → RowView → Bool → C → Type 0) → C → C → Type 0
-HearsRows scrolls c d = (rows : List Report) × Hears scrolls c rows d
+-- callbacks c have been told of the first of these rows, all of them or fewer, and of nothing else, and are d
+abbrev pub HearsFront : {C : Type 0} → (C → RowView → Bool → C → Type 0) → C → List Report → C → Type 0
+HearsFront scrolls c rows d =
+    (front : List Report) × (rest : List Report) × (rows ≡ front ++ rest) × Hears scrolls c front d
+
+-- A refused resize of a state s, which is then t, has stopped at the sheet that found no memory: the main one, and the
+-- alternate one is as it was; or the alternate one, and the main one has the new size.
+abbrev pub Stops : ℕ → ℕ → State → State → Type 0
+Stops rows cols s t =
+    (alternate_sheet t ≡ alternate_sheet s) ⊎ (main_sheet t ≡ (resized (main_sheet s) rows cols).grid)
 
 -- A call that may be refused, of a screen v and callbacks c that are then w and d. It does f, and the callbacks are
--- told of the rows that leave. Without memory the screen has failed, and they were told of rows alone; one that has
--- failed refuses, and nothing changes.
+-- told of the rows that leave. Without memory the screen has failed, and they were told of the first of these rows
+-- alone; one that has failed refuses, and nothing changes.
 pub record Tries {C A : Type 0} (scrolls : C → RowView → Bool → C → Type 0) (f : State → Stepped)
     (v : ScreenView) (c : C) (result : Result A ScreenError) (w : ScreenView) (d : C) : Type 0 where
   pub live : OnOk result (v.failed ≡ false)
   pub screen : OnOk result (w ≡ alive (f v.state).state)
   pub hears : OnOk result (Hears scrolls c (f v.state).reports d)
   pub memory : result ≡ Err Memory → w.failed ≡ true
-  pub told : OnErr result (HearsRows scrolls c d)
+  pub told : result ≡ Err Memory → HearsFront scrolls c (f v.state).reports d
   pub refused : result ≡ Err Failed → v.failed ≡ true
   pub dead : v.failed ≡ true → (result ≡ Err Failed) × (w ≡ v) × (d ≡ c)
 

@@ -14,5 +14,8 @@ pub use error::ScreenError;
 pub use parser::Parser;
 pub use screen::{Rows, RowsDiff, RowsFormatted, Screen, WrappedScreen};
 pub use vt100_core::{
-    Cell, Color, CursorStyle, MouseProtocolEncoding, MouseProtocolMode, attrs, capture,
+    Cell, Color, CursorStyle, DrawingRows, Grid, GridError, MouseProtocolEncoding,
+    MouseProtocolMode, Pos, Printed, Row, RowSink, Scrollback, Size, VisibleRows, attrs, capture,
+    term,
 };
+pub use vte_core::{Event, Params, ParamsIter, Perform};

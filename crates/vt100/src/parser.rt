@@ -10,7 +10,8 @@ ghost use Rattle.vt100_state.specs.State.{fresh_state};
 ghost use Rattle.vt100_state.specs.Step.{resized_to};
 ghost use Rattle.vt100_state.specs.Made.{Act, Fed, Resized, events_added};
 ghost use Rattle.vt100_state.specs.Holds.{AreActs};
-ghost use Rattle.vt100.specs.Tries.{Tries, SameBounds, alive};
+ghost use Rattle.vt100.specs.Memory.{some_may_take};
+ghost use Rattle.vt100.specs.Tries.{Tries, SameBounds, Stops, alive};
 ghost use Rattle.vt100.specs.declared.error.ScreenError.TheVariants.{Memory, Failed};
 
 use crate::callbacks::Callbacks;
@@ -41,14 +42,27 @@ impl<CB> Model for Parser<CB> {
     ghost view = { λ p. record { reader = p.parser; screen = p.screen.screen; callbacks = p.screen.callbacks } };
 }
 
-impl Parser<()> {
-    ghost use Rattle.vt100.specs.Parsing.{StandsAt};
+/// The size of a parser of [`new_default`](Parser::new_default).
+const ROWS: u16 = 24;
 
+const COLS: u16 = 80;
+
+impl<CB> Parser<CB> {
     /// How many rows a parser of [`new_default`](Parser::new_default) has.
-    pub const DEFAULT_ROWS: u16 = 24;
+    pub const DEFAULT_ROWS: NonZeroU16 = match NonZeroU16::new(ROWS) {
+        Some(rows) => rows,
+        None => NonZeroU16::MIN,
+    };
 
     /// How many columns it has.
-    pub const DEFAULT_COLS: u16 = 80;
+    pub const DEFAULT_COLS: NonZeroU16 = match NonZeroU16::new(COLS) {
+        Some(cols) => cols,
+        None => NonZeroU16::MIN,
+    };
+}
+
+impl Parser<()> {
+    ghost use Rattle.vt100.specs.Parsing.{StandsAt};
 
     /// A parser of this size that keeps so many rows, and tells nobody of anything.
     pub fn new(
@@ -68,8 +82,8 @@ impl Parser<()> {
         ensures stands { IfOk result (λ p. StandsAt p 24 80 0 []) }
         ensures memory { OnErr result (result ≡ Err Memory) }
     {
-        let rows = NonZeroU16::new(Self::DEFAULT_ROWS).unwrap();
-        let cols = NonZeroU16::new(Self::DEFAULT_COLS).unwrap();
+        let rows = NonZeroU16::new(ROWS).unwrap();
+        let cols = NonZeroU16::new(COLS).unwrap();
         Parser::new(alloc, rows, cols, 0)
     }
 }
@@ -105,8 +119,9 @@ impl<CB: Callbacks> Parser<CB> {
     ///
     /// Where memory is refused, and where a call of the callbacks left a screen that has failed, the later events do
     /// nothing, and the answer is [`ScreenError::Memory`]; but for what the callbacks change, the screen keeps its size
-    /// and its capacity. Of the event that found no memory the callbacks were told of rows alone. On a screen that had
-    /// failed before nothing is done.
+    /// and its capacity. Of the event that found no memory the callbacks were told of rows alone, the first of those that
+    /// leave; and it is one that may take memory, so that bytes without such an event aren't refused (`takes`). On a
+    /// screen that had failed before nothing is done.
     pub fn process(&mut self, bytes: &[u8]) -> Result<(), ScreenError>
         ensures alive { OnOk result (self.new.screen.failed ≡ false) }
         ensures memory { result ≡ Err Memory → (self.old.screen.failed ≡ false) × (self.new.screen.failed ≡ true) }
@@ -123,6 +138,8 @@ impl<CB: Callbacks> Parser<CB> {
         ensures bounds { KeepsScreens CB.step → (rows cols capacity : ℕ) (acts : List Act)
             → AreActs rows cols capacity acts → StandsAt self.old rows cols capacity acts
             → SameBounds self.old.screen.state self.new.screen.state }
+        ensures takes { KeepsScreens CB.step → result ≡ Err Memory → (past : List ℕ) → HasRead self.old past
+            → some_may_take (events_added past bytes.now) self.old.screen.state ≡ true }
     {
         if self.screen.screen.failed() {
             return Err(ScreenError::Failed);
@@ -134,13 +151,19 @@ impl<CB: Callbacks> Parser<CB> {
         Ok(())
     }
 
-    /// Gives the screen another size, and tells the callbacks of the rows that leave it. The same size changes nothing.
+    /// Gives the screen another size, and tells the callbacks of the rows that leave it. The same size changes nothing,
+    /// and isn't refused.
     ///
     /// A screen that becomes lower first loses the rows under the cursor, and then lets its top rows scroll off. One
-    /// that becomes higher gets as many rows back at its top as have scrolled off, blank where they weren't kept.
+    /// that becomes higher gets as many rows back at its top as have scrolled off, blank where they weren't kept. Where
+    /// memory is refused the call has stopped at the sheet that found none, whose size is open; the main one comes first.
     pub fn set_size(&mut self, rows: NonZeroU16, cols: NonZeroU16) -> Result<(), ScreenError>
         ensures screen { Tries CB.scrolls (resized_to rows.value cols.value) self.old.screen self.old.callbacks
             result self.new.screen self.new.callbacks }
+        ensures stops { result ≡ Err Memory
+            → Stops rows.value cols.value self.old.screen.state self.new.screen.state }
+        ensures same { self.old.screen.failed ≡ false → rows.value ≡ self.old.screen.state.shown.height
+            → cols.value ≡ self.old.screen.state.shown.width → IsOk result }
         ensures reader { self.new.reader ≡ self.old.reader }
         ensures made { (height width capacity : ℕ) (acts : List Act) → StandsAt self.old height width capacity acts
             → OnOk result (StandsAt self.new height width capacity (acts ++ Resized rows.value cols.value ∷ [])) }
@@ -190,9 +213,10 @@ impl<CB: Callbacks> Parser<CB> {
 }
 
 /// Writing is feeding. It answers the whole length; else an error of kind `OutOfMemory` where memory was refused, and
-/// of kind `Other` where the screen had failed. The screen has failed then.
+/// of kind `Other` where the screen had failed. The screen has failed then; bytes without an event that may take memory
+/// aren't refused (`takes`).
 impl Write for Parser<()> {
-    ghost use Rattle.vt100.specs.Parsing.{StandsAt};
+    ghost use Rattle.vt100.specs.Parsing.{HasRead, StandsAt};
 
     fn write(&mut self, buf: &[u8]) -> io::Result<usize>
         ensures bound { WritesAtMost result buf.now }
@@ -206,6 +230,8 @@ impl Write for Parser<()> {
             → OnOk result (StandsAt self.new rows cols capacity (acts ++ Fed buf.now ∷ [])) }
         ensures bounds { (rows cols capacity : ℕ) (acts : List Act) → AreActs rows cols capacity acts
             → StandsAt self.old rows cols capacity acts → SameBounds self.old.screen.state self.new.screen.state }
+        ensures takes { IfErr result (λ e. self.old.screen.failed ≡ false → (past : List ℕ) → HasRead self.old past
+            → some_may_take (events_added past buf.now) self.old.screen.state ≡ true) }
     {
         match self.process(buf) {
             Ok(()) => Ok(buf.len()),

@@ -10,6 +10,7 @@ ghost use Rattle.vt100_state.specs.Effect.{is_selector, is_question, is_base64};
 ghost use Rattle.vt100_state.specs.Lookup.{lookup};
 ghost use Rattle.vt100_state.specs.Call as said;
 ghost use Rattle.vt100.specs.Goes.{Does, Tells};
+ghost use Rattle.vt100.specs.Memory.{escape_may_take, plain_may_take, private_may_take};
 ghost use Rattle.vt100.specs.Runs.{PrintsFront};
 
 use crate::callbacks::Callbacks;
@@ -164,7 +165,7 @@ impl<CB: Callbacks> WrappedScreen<CB> {
     fn plain_esc(&mut self, byte: u8)
         requires { self.old.screen.failed ≡ false }
         ensures { Does CB.step CB.scrolls (effect_or (lookup byte escape_rows) (said.unhandled_escape None None byte))
-            self.old.callbacks self.old.screen self.new.callbacks self.new.screen }
+            (escape_may_take [] byte) self.old.callbacks self.old.screen self.new.callbacks self.new.screen }
     {
         match byte {
             b'7' => self.decsc(),
@@ -186,7 +187,7 @@ impl<CB: Callbacks> WrappedScreen<CB> {
     fn plain_csi(&mut self, params: &Params, action: char)
         requires { self.old.screen.failed ≡ false }
         ensures { Does CB.step CB.scrolls (plain_effect (lookup action plain_rows) params.now action)
-            self.old.callbacks self.old.screen self.new.callbacks self.new.screen }
+            (plain_may_take action self.old.screen.state) self.old.callbacks self.old.screen self.new.callbacks self.new.screen }
     {
         match action {
             '@' => self.ich(canonicalize_params_1(params, 1)),
@@ -223,7 +224,7 @@ impl<CB: Callbacks> WrappedScreen<CB> {
     fn other_csi(&mut self, params: &Params, action: char)
         requires { self.old.screen.failed ≡ false }
         ensures { Does CB.step CB.scrolls (row_effect (lookup action other_rows) params.now
-            (csi_call [] params.now action)) self.old.callbacks self.old.screen self.new.callbacks self.new.screen }
+            (csi_call [] params.now action)) false self.old.callbacks self.old.screen self.new.callbacks self.new.screen }
     {
         match action {
             'J' => {
@@ -247,7 +248,7 @@ impl<CB: Callbacks> WrappedScreen<CB> {
     fn window(&mut self, params: &Params, action: char)
         requires { self.old.screen.failed ≡ false }
         ensures { Does CB.step CB.scrolls (window_effect params.now (csi_call [] params.now action))
-            self.old.callbacks self.old.screen self.new.callbacks self.new.screen }
+            false self.old.callbacks self.old.screen self.new.callbacks self.new.screen }
     {
         let mut groups = params.iter();
         let operation = next_number(&mut groups).unwrap_or(0);
@@ -266,7 +267,7 @@ impl<CB: Callbacks> WrappedScreen<CB> {
         ensures { Does CB.step CB.scrolls (λ s. if nat_eq action 0x71
             then partly (styled (number_or 0 params.now) s) (csi_call intermediates.now params.now action)
             else calling (csi_call [] params.now action ∷ []) s)
-            self.old.callbacks self.old.screen self.new.callbacks self.new.screen }
+            false self.old.callbacks self.old.screen self.new.callbacks self.new.screen }
     {
         match action {
             'q' => {
@@ -281,7 +282,8 @@ impl<CB: Callbacks> WrappedScreen<CB> {
     fn private_csi(&mut self, params: &Params, intermediates: &[u8], action: char)
         requires { self.old.screen.failed ≡ false }
         ensures { Does CB.step CB.scrolls (row_effect (lookup action private_rows) params.now
-            (csi_call intermediates.now params.now action)) self.old.callbacks self.old.screen self.new.callbacks
+            (csi_call intermediates.now params.now action))
+            (private_may_take params.now action self.old.screen.state) self.old.callbacks self.old.screen self.new.callbacks
             self.new.screen }
     {
         match action {
@@ -329,7 +331,7 @@ impl<CB: Callbacks> WrappedScreen<CB> {
     fn unhandled_csi(&mut self, params: &Params, intermediates: &[u8], action: char)
         requires { self.old.screen.failed ≡ false }
         ensures { Does CB.step CB.scrolls (calling (csi_call intermediates.now params.now action ∷ []))
-            self.old.callbacks self.old.screen self.new.callbacks self.new.screen }
+            false self.old.callbacks self.old.screen self.new.callbacks self.new.screen }
     {
         self.tell_csi(params, intermediates, action);
     }
@@ -358,7 +360,7 @@ impl<CB: Callbacks> WrappedScreen<CB> {
         requires live { self.old.screen.failed ≡ false }
         requires pieces { map (λ p. p.now) params.now ≡ command.now ∷ text.now ∷ [] }
         ensures { Does CB.step CB.scrolls (calling (osc_calls (map (λ p. p.now) params.now)))
-            self.old.callbacks self.old.screen self.new.callbacks self.new.screen }
+            false self.old.callbacks self.old.screen self.new.callbacks self.new.screen }
     {
         match command {
             [b'0'] => self.icon_and_title(text),
@@ -373,7 +375,7 @@ impl<CB: Callbacks> WrappedScreen<CB> {
         requires { self.old.screen.failed ≡ false }
         ensures { Does CB.step CB.scrolls (calling (said.set_window_icon_name text.now
             ∷ said.set_window_title text.now ∷ []))
-            self.old.callbacks self.old.screen self.new.callbacks self.new.screen }
+            false self.old.callbacks self.old.screen self.new.callbacks self.new.screen }
     {
         self.callbacks.set_window_icon_name(&mut self.screen, text);
         if !self.screen.failed() {
@@ -386,7 +388,7 @@ impl<CB: Callbacks> WrappedScreen<CB> {
         requires live { self.old.screen.failed ≡ false }
         requires pieces { map (λ p. p.now) params.now ≡ command.now ∷ selectors.now ∷ bytes.now ∷ [] }
         ensures { Does CB.step CB.scrolls (calling (osc_calls (map (λ p. p.now) params.now)))
-            self.old.callbacks self.old.screen self.new.callbacks self.new.screen }
+            false self.old.callbacks self.old.screen self.new.callbacks self.new.screen }
     {
         if !is_clipboard(command) || !are_selectors(selectors) {
             self.callbacks.unhandled_osc(&mut self.screen, params);

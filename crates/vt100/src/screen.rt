@@ -1,5 +1,5 @@
 //! The screen of a terminal.
-ghost use Rattle.std.specs.Prelude.{◌≡◌, OnErr, IfOk, Err};
+ghost use Rattle.std.specs.Prelude.{◌≡◌, Ok, Err, IsErr, IfOk, OnOk, OnErr, true};
 ghost use Rattle.vt100_state.specs.State.{fresh_state};
 ghost use Rattle.vt100.specs.Tries.{alive};
 ghost use Rattle.vt100.specs.declared.error.ScreenError.TheVariants.{Memory};
@@ -105,5 +105,22 @@ impl Screen {
             alloc,
             failed: false,
         })
+    }
+}
+
+/// Marks a screen as failed where a change of it has found no memory, and hands the answer on.
+fn settle<T, E: Drop>(failed: &mut bool, answer: Result<T, E>) -> Result<T, ScreenError>
+    ensures done { IfOk result (λ x. answer ≡ Ok x) }
+    ensures same { OnOk result (failed.new ≡ failed.old) }
+    ensures refused { OnErr result (IsErr answer) }
+    ensures memory { OnErr result (result ≡ Err Memory) }
+    ensures failed { OnErr result (failed.new ≡ true) }
+{
+    match answer {
+        Ok(done) => Ok(done),
+        Err(_) => {
+            *failed = true;
+            Err(ScreenError::Memory)
+        }
     }
 }

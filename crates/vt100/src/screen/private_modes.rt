@@ -3,12 +3,13 @@ ghost use Rattle.std.specs.Prelude.{◌≡◌, OnOk, OnErr, IfOk, Err, is_some, 
 ghost use Rattle.vt100_state.specs.Step.{alternate_shown, alternate_cleared, main_shown, saved, restored};
 ghost use Rattle.vt100_state.specs.PrivateModes.{modes_set, modes_reset, row_of, row_state, set_rows, reset_rows};
 ghost use Rattle.vt100_state.specs.PrivateModes.{mouse_reset, encoding_reset};
+ghost use Rattle.vt100.specs.Memory.{modes_may_take, shows_alternate, is_unused};
 ghost use Rattle.vt100.specs.Tries.{TriesParts, Counts, SameBounds, alive};
 ghost use Rattle.vt100.specs.declared.error.ScreenError.TheVariants.{Memory};
 
 use crate::callbacks::Callbacks;
 use crate::error::ScreenError;
-use crate::screen::{Screen, WrappedScreen};
+use crate::screen::{Screen, WrappedScreen, settle};
 use vt100_core::{MouseProtocolEncoding, MouseProtocolMode};
 use vte_core::Params;
 
@@ -16,11 +17,12 @@ impl<CB: Callbacks> WrappedScreen<CB> {
     /// Sets private modes (DECSET): 1, 6, 9, 25, 47, 1000, 1002, 1003, 1005, 1006, 1049, 2004, each in a group of its
     /// own. Answers how many groups were unhandled: those of other numbers, and of more numbers than one.
     ///
-    /// Refused for memory is only the alternate sheet's showing for the first time.
+    /// Refused for memory is only the alternate sheet's showing for the first time (clause `takes`).
     pub fn decset(&mut self, params: &Params) -> Result<usize, ScreenError>
         ensures tries { TriesParts CB.scrolls (modes_set params.now) self.old.screen self.old.callbacks result
             self.new.screen self.new.callbacks }
         ensures bounds { SameBounds self.old.screen.state self.new.screen.state }
+        ensures takes { result ≡ Err Memory → modes_may_take params.now self.old.screen.state ≡ true }
     {
         if self.screen.failed {
             return Err(ScreenError::Failed);
@@ -62,6 +64,8 @@ impl Screen {
         ensures known { IfOk result (λ known. known ≡ is_some (row_of set_rows group.now)) }
         ensures memory { OnErr result ((result ≡ Err Memory) × (self.new.failed ≡ true)) }
         ensures bounds { SameBounds self.old.state self.new.state }
+        ensures shows { OnErr result (shows_alternate group.now ≡ true) }
+        ensures unused { OnErr result (is_unused self.old.state ≡ true) }
     {
         match group {
             [1] => self.application_cursor = true,
@@ -163,11 +167,10 @@ impl Screen {
         ensures screen { OnOk result (self.new ≡ alive (alternate_shown self.old.state)) }
         ensures memory { OnErr result ((result ≡ Err Memory) × (self.new.failed ≡ true)) }
         ensures bounds { SameBounds self.old.state self.new.state }
+        ensures unused { OnErr result (is_unused self.old.state ≡ true) }
     {
-        if self.grid.set_scrollback(0).is_err() || self.other_grid.allocate_rows().is_err() {
-            self.failed = true;
-            return Err(ScreenError::Memory);
-        }
+        settle(&mut self.failed, self.grid.set_scrollback(0))?;
+        settle(&mut self.failed, self.other_grid.allocate_rows())?;
         if !self.alternate_screen {
             std::mem::swap(&mut self.grid, &mut self.other_grid);
             self.alternate_screen = true;

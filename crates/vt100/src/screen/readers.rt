@@ -1,6 +1,6 @@
 //! The texts that a screen shows.
 ghost use Rattle.std.specs.Prelude.{◌≡◌, ◌++◌, OnOk, OnErr, IfOk, Err, length, string_bytes};
-ghost use Rattle.std.specs.Prelude.{encode_utf8_all};
+ghost use Rattle.std.specs.Prelude.{encode_utf8_all, [], IsOk};
 ghost use Rattle.std.specs.Fmt.{WritesInCalls};
 ghost use Rattle.vt100_capture.specs.Capture.{captured, after_rows, new_capture};
 ghost use Rattle.vt100_capture.specs.Range.{start_of, LeavesState};
@@ -94,7 +94,7 @@ impl Screen {
 
     /// Writes the rows of a range in that format: those that are shown, as [`contents_formatted_basic`] does, or the
     /// kept rows and those that are drawn on, from the state that is handed in. The only error is the writer's, after
-    /// which that state is open.
+    /// which that state is open; there is none where there is nothing to write.
     ///
     /// [`contents_formatted_basic`]: Self::contents_formatted_basic
     pub fn write_contents_formatted_basic<W: fmt::Write>(
@@ -106,6 +106,7 @@ impl Screen {
             (captured (start_of range.entry) (rows_in self.now.state.shown range.entry)) writer.new) }
         ensures state { OnOk result (LeavesState
             (after_rows (start_of range.entry) (rows_in self.now.state.shown range.entry)) range.entry range.exit) }
+        ensures empty { captured (start_of range.entry) (rows_in self.now.state.shown range.entry) ≡ [] → IsOk result }
     {
         match range {
             BasicFormattedCaptureRange::Full(state) => self.grid.write_all_rows(writer, state),

@@ -1,5 +1,5 @@
 //! Calls on a sheet that tell callbacks of the rows that leave it.
-ghost use Rattle.std.specs.Prelude.{◌≡◌, ◌<◌, ◌++◌, OnOk, OnErr, IfOk, All, true, false};
+ghost use Rattle.std.specs.Prelude.{◌≡◌, ◌⊎◌, ◌<◌, ◌++◌, OnOk, OnErr, IfOk, IsOk, All, true, false};
 ghost use Rattle.vt100_cells.specs.Cell.{IsPrintable};
 ghost use Rattle.vt100_core.specs.Grid.{IsAllocated, SameLimits};
 ghost use Rattle.vt100_core.specs.Scroll.{fed, scrolled_up, scrollback_erased};
@@ -7,7 +7,7 @@ ghost use Rattle.vt100_core.specs.Resize.{resized};
 ghost use Rattle.vt100_core.specs.Text.{printed, printed_all};
 ghost use Rattle.vt100_state.specs.Step.{reports_of};
 ghost use Rattle.vt100_state.specs.Call.{Hears};
-ghost use Rattle.vt100.specs.Tries.{HearsRows};
+ghost use Rattle.vt100.specs.Tries.{HearsFront};
 
 use crate::callbacks::Callbacks;
 use vt100_core::attrs::Attrs;
@@ -46,6 +46,7 @@ pub(super) fn print<CB: Callbacks>(
     ensures hears { Hears CB.scrolls reporter.old.callbacks.now
         (reports_of reporter.old.alternate_screen (printed grid.old c attrs).sunk) reporter.new.callbacks.now }
     ensures limits { SameLimits grid.old grid.new }
+    ensures keeps_none { grid.old.kept.capacity ≡ 0 → IsOk result }
     ensures allocated { IsAllocated grid.new }
 {
     grid.text(c, attrs, reporter)
@@ -67,8 +68,11 @@ pub(super) fn print_run<CB: Callbacks>(
     ensures hears { OnOk result (Hears CB.scrolls reporter.old.callbacks.now
         (reports_of reporter.old.alternate_screen (printed_all grid.old text.now attrs).sunk)
         reporter.new.callbacks.now) }
-    ensures told { OnErr result (HearsRows CB.scrolls reporter.old.callbacks.now reporter.new.callbacks.now) }
+    ensures told { OnErr result (HearsFront CB.scrolls reporter.old.callbacks.now
+        (reports_of reporter.old.alternate_screen (printed_all grid.old text.now attrs).sunk)
+        reporter.new.callbacks.now) }
     ensures limits { SameLimits grid.old grid.new }
+    ensures keeps_none { grid.old.kept.capacity ≡ 0 → IsOk result }
     ensures allocated { IsAllocated grid.new }
 {
     prove!(grid.size().cols.get() > 0);
@@ -87,6 +91,7 @@ pub(super) fn line_feed<CB: Callbacks>(
     ensures hears { Hears CB.scrolls reporter.old.callbacks.now
         (reports_of reporter.old.alternate_screen (fed grid.old 1).sunk) reporter.new.callbacks.now }
     ensures limits { SameLimits grid.old grid.new }
+    ensures keeps_none { grid.old.kept.capacity ≡ 0 → IsOk result }
     ensures allocated { IsAllocated grid.new }
 {
     grid.row_inc_scroll(1, reporter)?;
@@ -106,6 +111,7 @@ pub(super) fn scroll_up<CB: Callbacks>(
     ensures hears { Hears CB.scrolls reporter.old.callbacks.now
         (reports_of reporter.old.alternate_screen (scrolled_up grid.old count).sunk) reporter.new.callbacks.now }
     ensures limits { SameLimits grid.old grid.new }
+    ensures keeps_none { grid.old.kept.capacity ≡ 0 → IsOk result }
     ensures allocated { IsAllocated grid.new }
 {
     grid.scroll_up(count, reporter)
@@ -138,6 +144,7 @@ fn resize<CB: Callbacks>(
     ensures rows { OnOk result (grid.new.height ≡ size.rows.value) }
     ensures cols { OnOk result (grid.new.width ≡ size.cols.value) }
     ensures keeps { grid.new.kept.keeps ≡ grid.old.kept.keeps }
+    ensures unchanged { size.rows.value ≡ grid.old.height → size.cols.value ≡ grid.old.width → IsOk result }
     ensures allocated { IsAllocated grid.old → IsAllocated grid.new }
 {
     grid.set_size(size, reporter)
@@ -157,7 +164,14 @@ pub(super) fn resize_both<CB: Callbacks>(
         (reports_of false (resized main.old size.rows.value size.cols.value).sunk
         ++ reports_of true (resized alternate.old size.rows.value size.cols.value).sunk)
         callbacks.new) }
-    ensures told { OnErr result (HearsRows CB.scrolls callbacks.old callbacks.new) }
+    ensures told { OnErr result (HearsFront CB.scrolls callbacks.old
+        (reports_of false (resized main.old size.rows.value size.cols.value).sunk
+        ++ reports_of true (resized alternate.old size.rows.value size.cols.value).sunk)
+        callbacks.new) }
+    ensures stops { OnErr result ((alternate.new ≡ alternate.old)
+        ⊎ (main.new ≡ (resized main.old size.rows.value size.cols.value).grid)) }
+    ensures unchanged { size.rows.value ≡ main.old.height → size.cols.value ≡ main.old.width
+        → size.rows.value ≡ alternate.old.height → size.cols.value ≡ alternate.old.width → IsOk result }
     ensures rows { OnOk result (alternate.new.height ≡ main.new.height) }
     ensures cols { OnOk result (alternate.new.width ≡ main.new.width) }
     ensures main_keeps { main.new.kept.keeps ≡ main.old.kept.keeps }

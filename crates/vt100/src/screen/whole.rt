@@ -1,56 +1,74 @@
 //! Calls on a whole screen.
-ghost use Rattle.std.specs.Prelude.{◌≡◌, OnErr, IfOk, Err, true, false};
+ghost use Rattle.std.specs.Prelude.{◌≡◌, min, length, OnErr, IfOk, IsOk, Err, true, false};
+ghost use Rattle.vt100_state.specs.State.{main_sheet};
+ghost use Rattle.vt100_core.specs.Grid.{IsShownWide};
 ghost use Rattle.vt100_state.specs.Step.{kept_shown, kept_dropped, resized_to, made_anew, quietly};
-ghost use Rattle.vt100.specs.Tries.{Tries, TriesAlone, SameBounds, alive, unless_failed};
+ghost use Rattle.vt100.specs.Tries.{Tries, TriesAlone, SameBounds, Stops, alive, unless_failed};
 ghost use Rattle.vt100.specs.declared.error.ScreenError.TheVariants.{Memory};
 
 use crate::callbacks::Callbacks;
 use crate::error::ScreenError;
 use crate::screen::reported::resize_both;
-use crate::screen::{Screen, WrappedScreen};
+use crate::screen::{Screen, WrappedScreen, settle};
 use std::num::NonZeroU16;
-use vt100_core::Size;
+use vt100_core::{Grid, Size};
 
 impl Screen {
-    /// Gives the screen another size, and tells no callbacks of the rows that leave it. The same size changes nothing.
+    /// Gives the screen another size, and tells no callbacks of the rows that leave it. The same size changes nothing,
+    /// and isn't refused.
     ///
-    /// Where memory is refused the answer is [`ScreenError::Memory`], the screen has failed, and which size each sheet
-    /// has is open. On a failed screen nothing is done, and the answer is [`ScreenError::Failed`].
-    #[tactic(auto, using(crate::proofs::SizeLemmas::resized_height, crate::proofs::SizeLemmas::resized_width))]
+    /// Where memory is refused the answer is [`ScreenError::Memory`], the screen has failed, and the call has stopped at
+    /// the sheet that found no memory, whose size is open; the main sheet comes first. On a failed screen nothing is
+    /// done, and the answer is [`ScreenError::Failed`].
     pub fn set_size(&mut self, rows: NonZeroU16, cols: NonZeroU16) -> Result<(), ScreenError>
-        ensures { TriesAlone (λ s. (resized_to rows.value cols.value s).state) self.old result self.new }
+        ensures tries { TriesAlone (λ s. (resized_to rows.value cols.value s).state) self.old result self.new }
+        ensures stops { result ≡ Err Memory → Stops rows.value cols.value self.old.state self.new.state }
+        ensures same { self.old.failed ≡ false → rows.value ≡ self.old.state.shown.height
+            → cols.value ≡ self.old.state.shown.width → IsOk result }
+    {
+        self.resize(&mut (), Size { rows, cols })
+    }
+
+    /// Gives both sheets another size, the main one first, and tells callbacks of the rows that leave them.
+    fn resize<CB: Callbacks>(&mut self, callbacks: &mut CB, size: Size) -> Result<(), ScreenError>
+        ensures tries { Tries CB.scrolls (resized_to size.rows.value size.cols.value) self.old callbacks.old result
+            self.new callbacks.new }
+        ensures stops { result ≡ Err Memory → Stops size.rows.value size.cols.value self.old.state self.new.state }
+        ensures same { self.old.failed ≡ false → size.rows.value ≡ self.old.state.shown.height
+            → size.cols.value ≡ self.old.state.shown.width → IsOk result }
     {
         if self.failed {
             return Err(ScreenError::Failed);
         }
-        let size = Size { rows, cols };
-        if self.grid.set_size(size, &mut ()).is_err() {
-            self.failed = true;
-            return Err(ScreenError::Memory);
+        if self.alternate_screen {
+            let resized = resize_both(&mut self.other_grid, &mut self.grid, callbacks, size);
+            return settle(&mut self.failed, resized);
         }
-        if self.other_grid.set_size(size, &mut ()).is_err() {
-            self.failed = true;
-            return Err(ScreenError::Memory);
-        }
-        Ok(())
+        let resized = resize_both(&mut self.grid, &mut self.other_grid, callbacks, size);
+        settle(&mut self.failed, resized)
     }
 
     /// Shows the newest `rows` of the kept rows above the others, or all of them if there are fewer. What the screen
     /// answers then, and what [`cell`](Self::cell) and the texts show, is read there.
     ///
-    /// Where memory is refused the answer is [`ScreenError::Memory`], and the screen has failed, with its size. On a
-    /// failed screen nothing is done, and the answer is [`ScreenError::Failed`].
+    /// Where memory is refused the answer is [`ScreenError::Memory`], and the screen has failed, with its size; refused
+    /// is only what makes a kept row wider. On a failed screen nothing is done, and the answer is
+    /// [`ScreenError::Failed`].
     pub fn set_scrollback(&mut self, rows: usize) -> Result<(), ScreenError>
         ensures tries { TriesAlone (kept_shown rows) self.old result self.new }
         ensures bounds { SameBounds self.old.state self.new.state }
+        ensures hidden { self.old.failed ≡ false → rows ≡ 0 → IsOk result }
+        ensures wide { self.old.failed ≡ false
+            → IsShownWide (record (self.old.state.shown.kept) {
+              offset =
+                  min rows (length self.old.state.shown.kept.rows);
+            }) self.old.state.shown.height
+            self.old.state.shown.width → IsOk result }
     {
         if self.failed {
             return Err(ScreenError::Failed);
         }
-        if self.grid.set_scrollback(rows).is_err() {
-            self.failed = true;
-            return Err(ScreenError::Memory);
-        }
+        settle(&mut self.failed, self.grid.set_scrollback(rows))?;
         Ok(())
     }
 
@@ -63,18 +81,24 @@ impl Screen {
         }
     }
 
+    /// The main sheet, shown or not.
+    fn main_grid(&self) -> &Grid
+        ensures { result.now ≡ main_sheet self.now.state }
+    {
+        if self.alternate_screen {
+            &self.other_grid
+        } else {
+            &self.grid
+        }
+    }
+
     /// A screen as at first, of the size and the capacity of the main sheet.
     fn renewed(&self) -> Result<Screen, ScreenError>
         ensures screen { IfOk result (λ screen. screen ≡ alive (made_anew self.now.state)) }
         ensures memory { OnErr result (result ≡ Err Memory) }
     {
-        if self.alternate_screen {
-            let capacity = self.other_grid.scrollback_capacity();
-            Screen::new(self.alloc, self.other_grid.size(), capacity)
-        } else {
-            let capacity = self.grid.scrollback_capacity();
-            Screen::new(self.alloc, self.grid.size(), capacity)
-        }
+        let main = self.main_grid();
+        Screen::new(self.alloc, main.size(), main.scrollback_capacity())
     }
 
     /// An equal screen, also of one that has failed.
@@ -114,56 +138,27 @@ impl<CB: Callbacks> WrappedScreen<CB> {
         if self.screen.failed {
             return Err(ScreenError::Failed);
         }
-        match self.screen.renewed() {
-            Ok(screen) => {
-                self.screen = screen;
-                Ok(())
-            }
-            Err(_) => {
-                self.screen.failed = true;
-                Err(ScreenError::Memory)
-            }
-        }
+        let renewed = self.screen.renewed();
+        self.screen = settle(&mut self.screen.failed, renewed)?;
+        Ok(())
     }
 
     /// Gives the screen another size, and tells the callbacks of the rows that leave it: those of the main sheet first.
+    /// The same size changes nothing, and isn't refused.
+    ///
+    /// Where memory is refused the call has stopped at the sheet that found none, whose size is open.
     pub fn set_size_with_cb(
         &mut self,
         rows: NonZeroU16,
         cols: NonZeroU16,
     ) -> Result<(), ScreenError>
-        ensures { Tries CB.scrolls (resized_to rows.value cols.value) self.old.screen self.old.callbacks result
+        ensures tries { Tries CB.scrolls (resized_to rows.value cols.value) self.old.screen self.old.callbacks result
             self.new.screen self.new.callbacks }
+        ensures stops { result ≡ Err Memory
+            → Stops rows.value cols.value self.old.screen.state self.new.screen.state }
+        ensures same { self.old.screen.failed ≡ false → rows.value ≡ self.old.screen.state.shown.height
+            → cols.value ≡ self.old.screen.state.shown.width → IsOk result }
     {
-        if self.screen.failed {
-            return Err(ScreenError::Failed);
-        }
-        let size = Size { rows, cols };
-        if self.screen.alternate_screen {
-            if resize_both(
-                &mut self.screen.other_grid,
-                &mut self.screen.grid,
-                &mut self.callbacks,
-                size,
-            )
-            .is_err()
-            {
-                self.screen.failed = true;
-                return Err(ScreenError::Memory);
-            }
-            return Ok(());
-        }
-        if resize_both(
-            &mut self.screen.grid,
-            &mut self.screen.other_grid,
-            &mut self.callbacks,
-            size,
-        )
-        .is_err()
-        {
-            self.screen.failed = true;
-            return Err(ScreenError::Memory);
-        }
-        Ok(())
+        self.screen.resize(&mut self.callbacks, Size { rows, cols })
     }
 }

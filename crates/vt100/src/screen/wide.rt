@@ -1,18 +1,18 @@
 //! Wide characters, printed at once.
-ghost use Rattle.std.specs.Prelude.{◌≡◌, ◌<◌, ◌≤◌, ◌+◌, ◌++◌, ◌∷◌, [], OnOk, OnErr, IfSome, IfNone, IsTrue, All};
-ghost use Rattle.std.specs.Prelude.{length};
+ghost use Rattle.std.specs.Prelude.{◌≡◌, ◌<◌, ◌≤◌, ◌+◌, ◌++◌, ◌∷◌, [], OnOk, OnErr, IsOk, IfSome, IfNone, IsTrue};
+ghost use Rattle.std.specs.Prelude.{All, false, length};
 ghost use Rattle.std.specs.Str.{chars};
 ghost use Rattle.vt100_core.specs.Grid.{IsAllocated, SameLimits};
 ghost use Rattle.vt100_core.specs.Text.{IsWide, printed_all};
 ghost use Rattle.vt100_state.specs.Step.{reports_of};
 ghost use Rattle.vt100_state.specs.Call.{Hears};
 ghost use Rattle.vt100.specs.Runs.{IsHandled, PrintsFront, typed_all, last_of};
-ghost use Rattle.vt100.specs.Tries.{HearsRows, Tries, SameBounds};
+ghost use Rattle.vt100.specs.Tries.{HearsFront, Tries, SameBounds};
 
 use crate::callbacks::Callbacks;
 use crate::error::ScreenError;
-use crate::screen::WrappedScreen;
 use crate::screen::reported::Reporter;
+use crate::screen::{WrappedScreen, settle};
 use arrayvec::ArrayVec;
 use vt100_cells::columns;
 use vt100_core::attrs::Attrs;
@@ -50,6 +50,8 @@ impl<CB: Callbacks> WrappedScreen<CB> {
         ensures tries { Tries CB.scrolls (typed_all text.now) self.old.screen self.old.callbacks result self.new.screen
             self.new.callbacks }
         ensures bounds { SameBounds self.old.screen.state self.new.screen.state }
+        ensures keeps_none { self.old.screen.failed ≡ false → self.old.screen.state.shown.kept.capacity ≡ 0
+            → IsOk result }
     {
         if self.screen.failed {
             return Err(ScreenError::Failed);
@@ -59,13 +61,9 @@ impl<CB: Callbacks> WrappedScreen<CB> {
             callbacks: &mut self.callbacks,
             alternate_screen: self.screen.alternate_screen,
         };
-        match print_wide_run(&mut self.screen.grid, &mut reporter, text, attrs) {
-            Ok(()) => self.screen.last_char = last_of(text, self.screen.last_char),
-            Err(_) => {
-                self.screen.failed = true;
-                return Err(ScreenError::Memory);
-            }
-        }
+        let printed = print_wide_run(&mut self.screen.grid, &mut reporter, text, attrs);
+        settle(&mut self.screen.failed, printed)?;
+        self.screen.last_char = last_of(text, self.screen.last_char);
         Ok(())
     }
 }
@@ -86,8 +84,11 @@ fn print_wide_run<CB: Callbacks>(
     ensures hears { OnOk result (Hears CB.scrolls reporter.old.callbacks.now
         (reports_of reporter.old.alternate_screen (printed_all grid.old text.now attrs).sunk)
         reporter.new.callbacks.now) }
-    ensures told { OnErr result (HearsRows CB.scrolls reporter.old.callbacks.now reporter.new.callbacks.now) }
+    ensures told { OnErr result (HearsFront CB.scrolls reporter.old.callbacks.now
+        (reports_of reporter.old.alternate_screen (printed_all grid.old text.now attrs).sunk)
+        reporter.new.callbacks.now) }
     ensures limits { SameLimits grid.old grid.new }
+    ensures keeps_none { grid.old.kept.capacity ≡ 0 → IsOk result }
     ensures allocated { IsAllocated grid.new }
 {
     grid.wide_run(text, attrs, reporter)

@@ -1,5 +1,5 @@
 //! A screen with its callbacks.
-ghost use Rattle.std.specs.Prelude.{◌≡◌, OnOk, OnErr, IfOk, Err, All, true, false};
+ghost use Rattle.std.specs.Prelude.{◌≡◌, OnOk, OnErr, IfOk, IsOk, Err, All, true, false};
 ghost use Rattle.vt100_cells.specs.Cell.{IsPrintable};
 ghost use Rattle.vt100.specs.Runs.{typed_all, last_of};
 ghost use Rattle.vt100.specs.Tries.{Tries, SameBounds};
@@ -8,15 +8,16 @@ ghost use Rattle.vt100.specs.declared.error.ScreenError.TheVariants.{Memory};
 
 use crate::callbacks::Callbacks;
 use crate::error::ScreenError;
-use crate::screen::Screen;
 use crate::screen::reported::{Reporter, line_feed, print, print_run, scroll_up};
+use crate::screen::{Screen, settle};
 use vt100_core::Printed;
 
 /// A screen with the callbacks that it tells of its events.
 ///
 /// A call that finds no memory answers [`ScreenError::Memory`] and marks the screen as failed: what it shows is open,
-/// but its sheets keep their sizes, unless another size was asked for, and the callbacks were told of rows alone. On a
-/// failed screen no call does anything; those that answer a `Result` answer [`ScreenError::Failed`].
+/// but its sheets keep their sizes, unless another size was asked for, and the callbacks were told of rows alone, the
+/// first of those that the call tells of. On a failed screen no call does anything; those that answer a `Result` answer
+/// [`ScreenError::Failed`].
 #[derive(Drop)]
 pub struct WrappedScreen<CB> {
     /// The screen. It can be read and changed here, and the callbacks aren't told of that.
@@ -31,6 +32,8 @@ impl<CB: Callbacks> WrappedScreen<CB> {
         ensures tries { Tries CB.scrolls (typed c) self.old.screen self.old.callbacks result self.new.screen
             self.new.callbacks }
         ensures bounds { SameBounds self.old.screen.state self.new.screen.state }
+        ensures keeps_none { self.old.screen.failed ≡ false → self.old.screen.state.shown.kept.capacity ≡ 0
+            → IsOk result }
     {
         if self.screen.failed {
             return Err(ScreenError::Failed);
@@ -40,13 +43,9 @@ impl<CB: Callbacks> WrappedScreen<CB> {
             callbacks: &mut self.callbacks,
             alternate_screen: self.screen.alternate_screen,
         };
-        match print(&mut self.screen.grid, &mut reporter, c, attrs) {
-            Ok(printed) => self.screen.last_char = last_after(printed, c, self.screen.last_char),
-            Err(_) => {
-                self.screen.failed = true;
-                return Err(ScreenError::Memory);
-            }
-        }
+        let printed = print(&mut self.screen.grid, &mut reporter, c, attrs);
+        let printed = settle(&mut self.screen.failed, printed)?;
+        self.screen.last_char = last_after(printed, c, self.screen.last_char);
         Ok(())
     }
 
@@ -56,6 +55,8 @@ impl<CB: Callbacks> WrappedScreen<CB> {
         ensures tries { Tries CB.scrolls (typed_all text.now) self.old.screen self.old.callbacks result self.new.screen
             self.new.callbacks }
         ensures bounds { SameBounds self.old.screen.state self.new.screen.state }
+        ensures keeps_none { self.old.screen.failed ≡ false → self.old.screen.state.shown.kept.capacity ≡ 0
+            → IsOk result }
     {
         if self.screen.failed {
             return Err(ScreenError::Failed);
@@ -65,13 +66,9 @@ impl<CB: Callbacks> WrappedScreen<CB> {
             callbacks: &mut self.callbacks,
             alternate_screen: self.screen.alternate_screen,
         };
-        match print_run(&mut self.screen.grid, &mut reporter, text, attrs) {
-            Ok(()) => self.screen.last_char = last_of(text, self.screen.last_char),
-            Err(_) => {
-                self.screen.failed = true;
-                return Err(ScreenError::Memory);
-            }
-        }
+        let printed = print_run(&mut self.screen.grid, &mut reporter, text, attrs);
+        settle(&mut self.screen.failed, printed)?;
+        self.screen.last_char = last_of(text, self.screen.last_char);
         Ok(())
     }
 
@@ -80,6 +77,8 @@ impl<CB: Callbacks> WrappedScreen<CB> {
         ensures tries { Tries CB.scrolls line_fed self.old.screen self.old.callbacks result self.new.screen
             self.new.callbacks }
         ensures bounds { SameBounds self.old.screen.state self.new.screen.state }
+        ensures keeps_none { self.old.screen.failed ≡ false → self.old.screen.state.shown.kept.capacity ≡ 0
+            → IsOk result }
     {
         if self.screen.failed {
             return Err(ScreenError::Failed);
@@ -88,10 +87,8 @@ impl<CB: Callbacks> WrappedScreen<CB> {
             callbacks: &mut self.callbacks,
             alternate_screen: self.screen.alternate_screen,
         };
-        if line_feed(&mut self.screen.grid, &mut reporter).is_err() {
-            self.screen.failed = true;
-            return Err(ScreenError::Memory);
-        }
+        let fed = line_feed(&mut self.screen.grid, &mut reporter);
+        settle(&mut self.screen.failed, fed)?;
         Ok(())
     }
 
@@ -100,6 +97,8 @@ impl<CB: Callbacks> WrappedScreen<CB> {
         ensures tries { Tries CB.scrolls line_fed self.old.screen self.old.callbacks result self.new.screen
             self.new.callbacks }
         ensures bounds { SameBounds self.old.screen.state self.new.screen.state }
+        ensures keeps_none { self.old.screen.failed ≡ false → self.old.screen.state.shown.kept.capacity ≡ 0
+            → IsOk result }
     {
         self.lf()
     }
@@ -109,6 +108,8 @@ impl<CB: Callbacks> WrappedScreen<CB> {
         ensures tries { Tries CB.scrolls line_fed self.old.screen self.old.callbacks result self.new.screen
             self.new.callbacks }
         ensures bounds { SameBounds self.old.screen.state self.new.screen.state }
+        ensures keeps_none { self.old.screen.failed ≡ false → self.old.screen.state.shown.kept.capacity ≡ 0
+            → IsOk result }
     {
         self.lf()
     }
@@ -118,6 +119,8 @@ impl<CB: Callbacks> WrappedScreen<CB> {
         ensures tries { Tries CB.scrolls (region_up count) self.old.screen self.old.callbacks result self.new.screen
             self.new.callbacks }
         ensures bounds { SameBounds self.old.screen.state self.new.screen.state }
+        ensures keeps_none { self.old.screen.failed ≡ false → self.old.screen.state.shown.kept.capacity ≡ 0
+            → IsOk result }
     {
         if self.screen.failed {
             return Err(ScreenError::Failed);
@@ -126,10 +129,8 @@ impl<CB: Callbacks> WrappedScreen<CB> {
             callbacks: &mut self.callbacks,
             alternate_screen: self.screen.alternate_screen,
         };
-        if scroll_up(&mut self.screen.grid, &mut reporter, count).is_err() {
-            self.screen.failed = true;
-            return Err(ScreenError::Memory);
-        }
+        let scrolled = scroll_up(&mut self.screen.grid, &mut reporter, count);
+        settle(&mut self.screen.failed, scrolled)?;
         Ok(())
     }
 
@@ -138,6 +139,8 @@ impl<CB: Callbacks> WrappedScreen<CB> {
         ensures tries { Tries CB.scrolls (repeated count) self.old.screen self.old.callbacks result self.new.screen
             self.new.callbacks }
         ensures bounds { SameBounds self.old.screen.state self.new.screen.state }
+        ensures keeps_none { self.old.screen.failed ≡ false → self.old.screen.state.shown.kept.capacity ≡ 0
+            → IsOk result }
     {
         if self.screen.failed {
             return Err(ScreenError::Failed);

@@ -1,6 +1,6 @@
 -- Answers for parser::Parser::process.
-use Rattle.std.proofs.Common.{◌≡◌, false, arith}
-use Rattle.vt100.proofs.PlayLemmas.{goes_told, stands_fed, fed_bounded}
+use Rattle.std.proofs.Common.{◌≡◌, ◌∙◌, false, sym, arith}
+use Rattle.vt100.proofs.PlayLemmas.{goes_told, stands_fed, fed_bounded, some_taken}
 use Rattle.vt100.specs.Parsing.{ParserView}
 use Rattle.vt100.proofs.parser.Parser.process.Goals as goal
 
@@ -41,3 +41,10 @@ returns-clause-bounds g c = rw (← c.self.view_is) (λ keeps rows cols capacity
     fed_bounded g.CB.Callbacks.step g.CB.Callbacks.scrolls keeps _ after c.args.bytes.now
     (λ past read. goes_told g.CB.Callbacks.step g.CB.Callbacks.scrolls _ _ _ _ c.advance.ensures.told past read)
     rows cols capacity acts are at)
+
+pub returns-then-failed-2-clause-takes : goal.returns-then-failed-2-clause-takes
+returns-then-failed-2-clause-takes g c = rw (← c.self.view_is) (λ keeps _ past read.
+    some_taken g.CB.Callbacks.step g.CB.Callbacks.scrolls keeps _ _ _ _ _
+    (sym c.failed.ensures ∙ c.if-failed.false)
+    (goes_told g.CB.Callbacks.step g.CB.Callbacks.scrolls _ _ _ _ c.advance.ensures.told past read)
+    (sym c.failed-2.ensures ∙ c.if-failed-2.true))

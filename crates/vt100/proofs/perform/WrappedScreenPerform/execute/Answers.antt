@@ -7,6 +7,7 @@ use Rattle.vt100_state.specs.Effect.{control_rows, calling, effect_or}
 use Rattle.vt100_state.specs.Step.{moved_left, tabbed, at_column, line_fed}
 use Rattle.vt100_rows.proofs.TextLemmas.{on-err}
 use Rattle.vt100.proofs.EventLemmas.{does_as, does_change, does_nothing, does_steps, does_call}
+use Rattle.vt100.proofs.RefusedLemmas.{refused_keeps}
 use Rattle.vt100.proofs.perform.WrappedScreenPerform.execute.Goals as goal
 
 pub returns-in-7 : goal.returns-in-7
@@ -26,17 +27,17 @@ returns-in-9 g c = rw c.in-9.is
 pub returns-in-10 : goal.returns-in-10
 returns-in-10 g c = rw c.in-10.is
     (does_steps g.CB.Callbacks.step g.CB.Callbacks.scrolls line_fed _ _ _ _ _ c.lf.ensures.tries
-    (on-err c.lf.result c.lf.ensures.bounds))
+    (on-err c.lf.result c.lf.ensures.bounds) (refused_keeps _ _ c.lf.ensures.keeps_none))
 
 pub returns-in-11 : goal.returns-in-11
 returns-in-11 g c = rw c.in-11.is
     (does_steps g.CB.Callbacks.step g.CB.Callbacks.scrolls line_fed _ _ _ _ _ c.vt.ensures.tries
-    (on-err c.vt.result c.vt.ensures.bounds))
+    (on-err c.vt.result c.vt.ensures.bounds) (refused_keeps _ _ c.vt.ensures.keeps_none))
 
 pub returns-in-12 : goal.returns-in-12
 returns-in-12 g c = rw c.in-12.is
     (does_steps g.CB.Callbacks.step g.CB.Callbacks.scrolls line_fed _ _ _ _ _ c.ff.ensures.tries
-    (on-err c.ff.result c.ff.ensures.bounds))
+    (on-err c.ff.result c.ff.ensures.bounds) (refused_keeps _ _ c.ff.ensures.keeps_none))
 
 pub returns-in-13 : goal.returns-in-13
 returns-in-13 g c = rw c.in-13.is (does_change g.CB.Callbacks.step g.CB.Callbacks.scrolls

@@ -1,10 +1,12 @@
 -- Answers for perform::WrappedScreenPerform::print.
-use Rattle.std.proofs.Common.{◌≡◌, ◌∙◌, [], ◌∷◌, Bool, true, false, cond, ap, sym}
+use Rattle.std.proofs.Common.{◌≡◌, ◌∙◌, [], ◌∷◌, Bool, true, false, cond, not, ◌&&◌, ap, sym}
 use Rattle.vt100_state.specs.Call as said
 use Rattle.vt100_state.specs.Effect.{is_unhandled, calling, steps}
 use Rattle.vt100_state.specs.Step.{typed}
 use Rattle.vt100_rows.proofs.TextLemmas.{on-err}
-use Rattle.vt100.proofs.EventLemmas.{does_as, does_call, does_steps}
+use Rattle.vt100.specs.Memory.{keeps_rows}
+use Rattle.vt100.proofs.EventLemmas.{does_as, does_call, does_steps, does_where}
+use Rattle.vt100.proofs.RefusedLemmas.{refused_keeps}
 use Rattle.vt100.proofs.perform.WrappedScreenPerform.print.Goals as goal
 
 pub returns-then-is_unhandled : goal.returns-then-is_unhandled
@@ -22,7 +24,9 @@ returns-else-is_unhandled g c =
     let ch = c.args.c in
     let s = c.args.self.now.screen.state in
     let is : is_unhandled ch ≡ false = sym c.is_unhandled.ensures ∙ c.if-is_unhandled.false in
-    does_as g.CB.Callbacks.step g.CB.Callbacks.scrolls (λ t. steps (typed ch t)) _ _ _ _ _
+    does_where g.CB.Callbacks.step g.CB.Callbacks.scrolls _ _ _ _ _
+    (ap (λ (b : Bool). not b && keeps_rows s) (sym is))
+    (does_as g.CB.Callbacks.step g.CB.Callbacks.scrolls (λ t. steps (typed ch t)) _ _ _ _ _
     (ap (λ (b : Bool). cond b (calling (said.unhandled_char ch ∷ []) s) (steps (typed ch s))) (sym is))
     (does_steps g.CB.Callbacks.step g.CB.Callbacks.scrolls (typed ch) _ _ _ _ _ c.text.ensures.tries
-    (on-err c.text.result c.text.ensures.bounds))
+    (on-err c.text.result c.text.ensures.bounds) (refused_keeps _ _ c.text.ensures.keeps_none)))

@@ -6,6 +6,7 @@ use Rattle.vt100_state.specs.Step.{at_column, at_row, at_place, lines_added, lin
 use Rattle.vt100_state.specs.Step.{region_down, cells_erased, repeated, in_region}
 use Rattle.vt100_rows.proofs.TextLemmas.{on-err}
 use Rattle.vt100.proofs.EventLemmas.{does_as, does_change, does_steps, plain_does}
+use Rattle.vt100.proofs.RefusedLemmas.{refused_keeps}
 use Rattle.vt100.proofs.screen.wrapped.WrappedScreen.plain_csi.Goals as goal
 
 pub returns-in-64 : goal.returns-in-64
@@ -66,7 +67,8 @@ returns-in-P g c = plain_does g.CB.Callbacks.step g.CB.Callbacks.scrolls _ _ _ _
 pub returns-in-S : goal.returns-in-S
 returns-in-S g c = plain_does g.CB.Callbacks.step g.CB.Callbacks.scrolls _ _ _ _ _ _ _ c.in-S.is
     (does_steps g.CB.Callbacks.step g.CB.Callbacks.scrolls (region_up (count c.args.params.now)) _ _ _ _ _
-    (rw c.canonicalize_params_1-in-S.ensures at c.su.ensures.tries) (on-err c.su.result c.su.ensures.bounds))
+    (rw c.canonicalize_params_1-in-S.ensures at c.su.ensures.tries) (on-err c.su.result c.su.ensures.bounds)
+    (refused_keeps _ _ c.su.ensures.keeps_none))
 
 pub returns-in-T : goal.returns-in-T
 returns-in-T g c = plain_does g.CB.Callbacks.step g.CB.Callbacks.scrolls _ _ _ _ _ _ _ c.in-T.is
@@ -86,7 +88,8 @@ returns-in-96 g c = plain_does g.CB.Callbacks.step g.CB.Callbacks.scrolls _ _ _ 
 pub returns-in-b : goal.returns-in-b
 returns-in-b g c = plain_does g.CB.Callbacks.step g.CB.Callbacks.scrolls _ _ _ _ _ _ _ c.in-b.is
     (does_steps g.CB.Callbacks.step g.CB.Callbacks.scrolls (repeated (count c.args.params.now)) _ _ _ _ _
-    (rw c.canonicalize_params_1-in-b.ensures at c.rep.ensures.tries) (on-err c.rep.result c.rep.ensures.bounds))
+    (rw c.canonicalize_params_1-in-b.ensures at c.rep.ensures.tries) (on-err c.rep.result c.rep.ensures.bounds)
+    (refused_keeps _ _ c.rep.ensures.keeps_none))
 
 pub returns-in-d : goal.returns-in-d
 returns-in-d g c = plain_does g.CB.Callbacks.step g.CB.Callbacks.scrolls _ _ _ _ _ _ _ c.in-d.is

@@ -1,5 +1,5 @@
 -- Answers for perform::WrappedScreen::plain_esc.
-use Rattle.std.proofs.Common.{◌≡◌, [], ◌∷◌, sym, ap, arith, true, false, None}
+use Rattle.std.proofs.Common.{◌≡◌, [], ◌∷◌, refl, sym, ap, arith, true, false, None}
 use Rattle.std.proofs.lemmas.Bool.Decides.{nat_tests}
 use Rattle.vt100_state.specs.Lookup.{lookup}
 use Rattle.vt100_state.specs.Call as said
@@ -35,7 +35,7 @@ returns-in-77 g c = rw c.in-77.is
 
 pub returns-in-99 : goal.returns-in-99
 returns-in-99 g c = rw c.in-99.is (does_steps g.CB.Callbacks.step g.CB.Callbacks.scrolls (λ s. quietly
-    (made_anew s)) _ _ _ _ _ c.ris.ensures.tries c.ris.ensures.bounds)
+    (made_anew s)) _ _ _ _ _ c.ris.ensures.tries c.ris.ensures.bounds (λ live e. refl))
 
 pub returns-in-103 : goal.returns-in-103
 returns-in-103 g c = rw c.in-103.is (does_call g.CB.Callbacks.step g.CB.Callbacks.scrolls said.visual_bell _ _ _ _

@@ -36,7 +36,7 @@ returns-then-len-gt0-clause-printed g c =
     p.screen q.callbacks q.screen) (sym c.range_from.ensures.value)
     (front-run g.CB.Callbacks.step g.CB.Callbacks.scrolls c.args.text.now n p.callbacks p.screen c.text_run.result
     q.callbacks q.screen c.if-len-gt0.true within printable tries
-    c.text_run.ensures.bounds)
+    c.text_run.ensures.bounds c.text_run.ensures.keeps_none)
 
 pub returns-clause-printed : goal.returns-clause-printed
 returns-clause-printed g c =

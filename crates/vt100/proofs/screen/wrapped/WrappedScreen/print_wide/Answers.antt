@@ -15,4 +15,4 @@ returns-clause-printed g c =
     p.screen c.wide_run.result q.callbacks q.screen some c.take_wide-rest.ensures.handled
     c.take_wide-rest.ensures.parts
     (subst (λ (ys : List ℕ). Tries g.CB.Callbacks.scrolls (typed_all ys) p.screen p.callbacks c.wide_run.result q.screen
-    q.callbacks) c.as_slice.ensures.value c.wide_run.ensures.tries) c.wide_run.ensures.bounds
+    q.callbacks) c.as_slice.ensures.value c.wide_run.ensures.tries) c.wide_run.ensures.bounds c.wide_run.ensures.keeps_none

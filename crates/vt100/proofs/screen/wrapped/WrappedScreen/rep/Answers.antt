@@ -1,9 +1,11 @@
 -- Answers for screen::wrapped::WrappedScreen::rep.
-use Rattle.std.proofs.Common.{◌≡◌, false, Some, Err, ap, arith, rules}
+use Rattle.std.proofs.Common.{◌≡◌, ◌∙◌, false, Some, Err, ap, arith, rules}
+use Rattle.std.proofs.lemmas.Bool.{false≢true}
 use Rattle.vt100_state.specs.Call.{ScreenView, Hears}
 use Rattle.vt100_state.specs.Step.{typed_times}
 use Rattle.vt100.specs.Tries.{alive}
 use Rattle.vt100.proofs.BoundsLemmas.{bounds_trans}
+use Rattle.vt100.proofs.LimitsLemmas.{capacity_times}
 use Rattle.vt100.proofs.RepeatLemmas.{typed_more, repeated_tries, repeated_refused}
 use Rattle.vt100.proofs.screen.wrapped.WrappedScreen.rep.Goals as goal
 
@@ -24,11 +26,19 @@ pub returns-in_err-text-clause-tries : goal.returns-in_err-text-clause-tries
 returns-in_err-text-clause-tries g c =
     let is : c.from_residual.result ≡ Err c.in_err-text.field-0.0 = search rules in
     let live : c.args.self.now.screen.failed ≡ false = search rules in
-    rw is (repeated_refused g.CB.Callbacks.scrolls c.args.count c.loop-i._i c.in-Some.c c.args.self.now.screen.state
-    c.args.self.now.screen c.loop-i.self.screen
-    c.text.new.self.screen c.args.self.now.callbacks c.loop-i.self.callbacks c.text.new.self.callbacks
-    c.in_err-text.field-0.0 live (ap (λ (x : ScreenView). x.failed) c.loop-i.invariant.screen)
+    let last : c.args.self.now.screen.state.last ≡ Some c.in-Some.c = search rules in
+    rw is (repeated_refused g.CB.Callbacks.scrolls c.args.count c.loop-i._i c.in-Some.c c.args.self.now.screen
+    c.loop-i.self.screen c.text.new.self.screen c.args.self.now.callbacks c.loop-i.self.callbacks
+    c.text.new.self.callbacks c.in_err-text.field-0.0 live c.loop-i-test.true last c.loop-i.invariant.screen
     c.loop-i.invariant.hears c.in_err-text.ensures.tries)
+
+pub returns-in_err-text-clause-keeps_none : goal.returns-in_err-text-clause-keeps_none
+returns-in_err-text-clause-keeps_none g c live none =
+    let v = c.loop-i.self.screen in
+    let lives : v.failed ≡ false = ap (λ (x : ScreenView). x.failed) c.loop-i.invariant.screen in
+    let same = ap (λ (x : ScreenView). x.state.shown.kept.capacity) c.loop-i.invariant.screen
+    ∙ capacity_times c.loop-i._i c.in-Some.c c.args.self.now.screen.state in
+    absurd (false≢true (c.in_err-text.ensures.keeps_none lives (same ∙ none)))
 
 pub returns-after-loop-i-clause-tries : goal.returns-after-loop-i-clause-tries
 returns-after-loop-i-clause-tries g c =

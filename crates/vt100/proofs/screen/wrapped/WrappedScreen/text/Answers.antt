@@ -1,24 +1,23 @@
 -- Answers for screen::wrapped::WrappedScreen::text.
-use Rattle.std.proofs.Common.{◌∙◌, ap, refl}
-use Rattle.vt100_state.specs.Step.{last_after}
-use Rattle.vt100.proofs.RefusedLemmas.{tries_refused}
-use Rattle.vt100.proofs.TextLemmas.{typed_tries}
+use Rattle.std.proofs.Common.{◌≡◌, Err, rules}
+use Rattle.vt100_core.specs.Text.{printed}
 use Rattle.vt100_state.proofs.ProperSheets.{proper_printed}
+use Rattle.vt100.specs.declared.error.ScreenError.TheVariants.{Memory}
+use Rattle.vt100.proofs.RefusedLemmas.{tries_refused}
 use Rattle.vt100.proofs.ProperScreens.{drawn_screen}
 use Rattle.vt100.proofs.screen.wrapped.WrappedScreen.text.Goals as goal
 
-pub returns-clause-tries : goal.returns-clause-tries
-returns-clause-tries g c = rw (← c.self.view_is)
-    (typed_tries g.CB.Callbacks.scrolls c.args.c _ _ _ _ _ c.if-self.false c.in-Ok.ensures.grid
-    (c.last_after-self-inside.ensures ∙ ap (λ p. last_after p c.args.c c.self.inside.0.0.last_char)
-    c.in-Ok.ensures.answer) c.print.ensures.hears)
+pub returns-in_err-printed-clause-tries : goal.returns-in_err-printed-clause-tries
+returns-in_err-printed-clause-tries g c =
+    let is : c.from_residual.result ≡ Err Memory = search rules in
+    rw is (rw (← c.self.view_is) (tries_refused g.CB.Callbacks.scrolls _ _ _ _ _ c.if-self.false
+    c.in_err-printed.ensures.failed c.print-printed.ensures.hears))
 
-pub returns-in-Err-clause-tries : goal.returns-in-Err-clause-tries
-returns-in-Err-clause-tries g c = rw (← c.self.view_is)
-    (tries_refused g.CB.Callbacks.scrolls _ _ _ _ _ _ c.if-self.false refl c.print.ensures.hears)
-
-pub invariant_of-self : goal.invariant_of-self
-invariant_of-self g c =
-    let limits = c.print.ensures.limits in
-    drawn_screen _ _ _ c.self.invariant c.print.ensures.allocated limits.height limits.width limits.kept.keeps
-    (rw c.in-Ok.ensures.grid (proper_printed c.self.inside.0.0.grid c.args.c _ c.self.invariant.attrs))
+pub invariant_of-self-2 : goal.invariant_of-self-2
+invariant_of-self-2 g c =
+    let is : c.print-printed.new.grid
+    ≡ (printed c.self.inside.0.0.grid c.args.c c.self.inside.0.0.attrs).grid = search rules in
+    let limits = c.print-printed.ensures.limits in
+    rw c.in_ok-printed.ensures.same
+    (drawn_screen _ _ _ c.self.invariant c.print-printed.ensures.allocated limits.height limits.width limits.kept.keeps
+    (rw is (proper_printed c.self.inside.0.0.grid c.args.c _ c.self.invariant.attrs)))

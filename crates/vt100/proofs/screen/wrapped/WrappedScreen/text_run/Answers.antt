@@ -1,17 +1,34 @@
 -- Answers for screen::wrapped::WrappedScreen::text_run.
-use Rattle.vt100.proofs.RunLemmas.{run_tries, printable-spacing}
+use Rattle.std.proofs.Common.{◌≡◌, ◌∙◌, Err, rules}
+use Rattle.vt100_core.specs.Text.{printed_all}
 use Rattle.vt100_state.proofs.ProperSheets.{proper_printed_all}
+use Rattle.vt100.specs.declared.error.ScreenError.TheVariants.{Memory}
 use Rattle.vt100.proofs.ProperScreens.{drawn_screen}
+use Rattle.vt100.proofs.RunLemmas.{run_tries, run_refused, printable-spacing}
+use Rattle.vt100.proofs.SettledLemmas.{at-ok, at-err}
 use Rattle.vt100.proofs.screen.wrapped.WrappedScreen.text_run.Goals as goal
 
-pub returns-clause-tries : goal.returns-clause-tries
-returns-clause-tries g c = rw (← c.self.view_is)
-    (run_tries g.CB.Callbacks.scrolls c.args.text.now _ _ _ _ _ c.if-self.false
-    (printable-spacing _ c.print_run.ensures.some_columns _ c.requires) c.in-Ok.ensures.grid
-    c.last_of-self-inside.ensures c.in-Ok.ensures.hears)
+pub returns-in_err-settle-clause-tries : goal.returns-in_err-settle-clause-tries
+returns-in_err-settle-clause-tries g c =
+    let is : c.from_residual.result ≡ Err Memory = search rules in
+    rw is (rw (← c.self.view_is) (run_refused g.CB.Callbacks.scrolls c.args.text.now _ _ _ _ c.if-self.false
+    (printable-spacing _ c.print_run-printed.ensures.some_columns _ c.requires) c.in_err-settle.ensures.failed
+    (at-err c.print_run-printed.result c.in_err-settle.ensures.refused c.print_run-printed.ensures.told)))
 
-pub invariant_of-self : goal.invariant_of-self
-invariant_of-self g c =
-    let limits = c.print_run.ensures.limits in
-    drawn_screen _ _ _ c.self.invariant c.print_run.ensures.allocated limits.height limits.width limits.kept.keeps
-    (rw c.in-Ok.ensures.grid (proper_printed_all c.self.inside.0.0.grid c.args.text.now _ c.self.invariant.attrs))
+pub returns-clause-tries : goal.returns-clause-tries
+returns-clause-tries g c =
+    let run = c.print_run-printed in
+    let is = c.in_ok-settle.ensures.done in
+    rw (← c.self.view_is) (rw c.in_ok-settle.ensures.same
+    (run_tries g.CB.Callbacks.scrolls c.args.text.now _ _ _ _ _ c.if-self.false
+    (printable-spacing _ run.ensures.some_columns _ c.requires) (at-ok run.result _ is run.ensures.grid)
+    c.last_of-self-inside.ensures (at-ok run.result _ is run.ensures.hears)))
+
+pub invariant_of-self-2 : goal.invariant_of-self-2
+invariant_of-self-2 g c =
+    let is = at-ok c.print_run-printed.result _ c.in_ok-settle.ensures.done c.print_run-printed.ensures.grid in
+    let limits = c.print_run-printed.ensures.limits in
+    rw c.in_ok-settle.ensures.same
+    (drawn_screen _ _ _ c.self.invariant c.print_run-printed.ensures.allocated limits.height limits.width
+    limits.kept.keeps
+    (rw is (proper_printed_all c.self.inside.0.0.grid c.args.text.now _ c.self.invariant.attrs)))

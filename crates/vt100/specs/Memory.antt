@@ -1,0 +1,60 @@
+-- Where an event may take memory. Nowhere else a screen may fail.
+use Rattle.std.specs.Prelude.{ℕ, ◌==◌, Bool, false, not, ◌&&◌, ◌||◌, nat_lt, nat_eq, List, [], ◌∷◌, length}
+use Rattle.std.specs.Int.{is_in_range}
+use Rattle.std.specs.List.{list_any}
+use Rattle.vte_core.specs.Event.{Event, Print, Execute, Hook, Put, Unhook, Osc, Csi, Esc}
+use Rattle.vt100_state.specs.State.{State, alternate_sheet}
+use Rattle.vt100_state.specs.Effect.{effect, is_unhandled}
+
+-- rows that leave the shown sheet at its top are kept
+abbrev pub keeps_rows : State → Bool
+keeps_rows s = nat_lt 0 s.shown.kept.capacity
+
+-- the alternate sheet, which gets its rows when it is first shown, has none yet
+abbrev pub is_unused : State → Bool
+is_unused s = length (alternate_sheet s).rows == 0
+
+-- the private modes that show it: 47 and 1049
+abbrev pub shows_alternate : List ℕ → Bool
+shows_alternate (n ∷ []) = nat_eq n 47 || nat_eq n 1049
+shows_alternate ns = false
+
+-- private modes are set
+abbrev pub modes_may_take : List (List ℕ) → State → Bool
+modes_may_take gs s = list_any shows_alternate gs && is_unused s
+
+-- LF, VT, FF
+abbrev pub control_may_take : ℕ → State → Bool
+control_may_take b s = is_in_range 10 12 b && keeps_rows s
+
+-- RIS
+abbrev pub escape_may_take : List ℕ → ℕ → Bool
+escape_may_take [] b = nat_eq b 0x63
+escape_may_take (i ∷ is) b = false
+
+-- SU and REP; after `?` the setting of modes
+abbrev pub plain_may_take : ℕ → State → Bool
+plain_may_take b s = (nat_eq b 0x53 || nat_eq b 0x62) && keeps_rows s
+
+abbrev pub private_may_take : List (List ℕ) → ℕ → State → Bool
+private_may_take gs b s = nat_eq b 0x68 && modes_may_take gs s
+
+abbrev pub csi_may_take : List (List ℕ) → List ℕ → ℕ → State → Bool
+csi_may_take gs [] b s = plain_may_take b s
+csi_may_take gs (m ∷ ms) b s = nat_eq m 0x3F && private_may_take gs b s
+
+-- an event, in this state
+abbrev pub may_take_memory : Event → State → Bool
+may_take_memory (Print c) s = not (is_unhandled c) && keeps_rows s
+may_take_memory (Execute b) s = control_may_take b s
+may_take_memory (Hook gs ms ignore b) s = false
+may_take_memory (Put b) s = false
+may_take_memory Unhook s = false
+may_take_memory (Osc ps bell) s = false
+may_take_memory (Csi gs ms ignore b) s = csi_may_take gs ms b s
+may_take_memory (Esc ms ignore b) s = escape_may_take ms b
+
+-- one of some events, each in the state that those before it make
+abbrev pub some_may_take : List Event → State → Bool
+some_may_take [] s = false
+some_may_take (e ∷ es) s = may_take_memory e s || some_may_take es (effect e s).state
