@@ -18,39 +18,23 @@ use Rattle.relay_streams.specs.Relayed.{Streams, Relays}
 use Rattle.takers.specs.Sent.{Sends}
 use Rattle.takers.specs.Pump.{Writes}
 use Rattle.relay_streams.specs.Shown as shown
-use Rattle.relay_streams.specs.Shown.{IsShown, Shows, sized}
+use Rattle.relay_streams.specs.Shown.{IsShown, Prints, Shows, sized}
 use Rattle.takers.proofs.AppendLemmas.{TakesFront-none, TakesFront-longer}
 use Rattle.relay_streams.proofs.PieceLemmas.{drained-pieces, drained-front, begun-front, begun-well}
 use Rattle.relay_streams.proofs.FrameLists.{frames-more}
-use Rattle.takers.proofs.SendLemmas.{sends-appends, sends-front}
+use Rattle.takers.proofs.SendLemmas.{sends-appends, sends-front, text-appends, text-front}
+use Rattle.relay_streams.proofs.LawLemmas.{texts_are_one}
 
 pub if_known : (known : Option (List ℕ)) (P : List ℕ → Type 0) → ((bytes : List ℕ) → known ≡ Some bytes → P bytes)
     → IfSome known P
 if_known None P all = tt
 if_known (Some bytes) P all = all bytes refl
 
-TakesFront-all : (a b : Option (List ℕ)) (xs : List ℕ) → Appends a b xs → TakesFront a b xs
-TakesFront-all a b xs h = (length xs, rw (take_all (length xs) xs (omega arith)) h)
-
 Appends-kept : (a b c : Option (List ℕ)) (xs : List ℕ) → Appends a b xs → Keeps b c → Appends a c xs
 Appends-kept None b c xs h k = tt
 Appends-kept (Some a) None c xs h k = absurd h
 Appends-kept (Some a) (Some b) None xs h k = absurd k
 Appends-kept (Some a) (Some b) (Some c) xs h k = k ∙ h
-
-module _ (S W : Type 0) (gives : S → ℕ → Result (List ℕ) Error → S → Type 0) (contents : W → Option (List ℕ)) where
-  -- all was written, and then the writer was flushed
-  pub shows_flushed : (z : Size) (s : S) (w u : W) (answer : Result (Unit {0}) RelayError) (t : S) (v : W)
-      (pieces : List (List ℕ)) (text : List ℕ) → Drained gives piece_len s pieces (Ok tt) t → IsShown z pieces text
-      → Appends (contents w) (contents u) text → Keeps (contents u) (contents v)
-      → IfErr answer (λ e. e ≡ Write) → Shows gives contents z s w answer t v
-  shows_flushed z s w u (Ok done) t v pieces text d is took kept fault =
-      shown.written pieces text d is (Appends-kept (contents w) (contents u) (contents v) text took kept)
-  shows_flushed z s w u (Err e) t v pieces text d is took kept fault =
-      subst (λ (f : RelayError). Shows gives contents z s w (Err f) t v) (sym fault)
-      (shown.stopped pieces text d is
-      (TakesFront-all (contents w) (contents v) text (Appends-kept (contents w) (contents u) (contents v) text took
-      kept)))
 
 pub known_if : (known : Option (List ℕ)) (bytes : List ℕ) (P : List ℕ → Type 0) → known ≡ Some bytes → IfSome known P
     → P bytes
@@ -137,20 +121,56 @@ module _ (S W : Type 0) (gives : S → ℕ → Result (List ℕ) Error → S →
         if_known (left s) _ (λ bytes is. Keeps-front (contents w) (contents m) (contents v) (relay_text rows cols bytes)
         (streams-front rows cols s w (Ok tt) t m bytes stream is) (flushed m (Ok tt) v flush))
 
-module _ (S W : Type 0) (gives : S → ℕ → Result (List ℕ) Error → S → Type 0) (contents : W → Option (List ℕ))
-    (left : S → Option (List ℕ)) (tells : (s : S) (room : ℕ) (answer : Result (List ℕ) Error) (t : S)
-    → gives s room answer t → Reads left s room answer t) where
-  pub shows-text : (z : Size) (s : S) (w : W) (answer : Result (Unit {0}) RelayError) (t : S) (v : W)
-      → Shows gives contents z s w answer t v
-      → OnOk answer (IfSome (left s) (λ bytes. (text : List ℕ) × IsShown z (pieces_of bytes) text
-      × Appends (contents w) (contents v) text))
-  shows-text z s w answer t v shown.refused = tt
-  shows-text z s w answer t v (shown.unread pieces e d) = tt
-  shows-text z s w answer t v (shown.written pieces text d is took) =
-      if_known (left s) _ (λ bytes known. (
-        text,
-        subst (λ (ps : List (List ℕ)). IsShown z ps text) (drained-pieces S gives left tells s pieces t bytes d known)
-            is,
-        took,
-      ))
-  shows-text z s w answer t v (shown.stopped pieces text d is took) = tt
+    pub prints-text : (w : W) (text : List ℕ) (answer : Result (Unit {0}) RelayError) (v : W)
+        → Prints takes flushes w text answer v → OnOk answer (Appends (contents w) (contents v) text)
+    prints-text w text answer v (shown.stopped e sends) = tt
+    prints-text w text answer v (shown.unflushed m e sends flush) = tt
+    prints-text w text answer v (shown.printed m sends flush) =
+        Appends-kept (contents w) (contents m) (contents v) text
+        (text-appends W takes contents took w m text (Ok tt) sends refl) (flushed m (Ok tt) v flush)
+
+    pub prints-front : (w : W) (text : List ℕ) (answer : Result (Unit {0}) RelayError) (v : W)
+        → Prints takes flushes w text answer v → TakesFront (contents w) (contents v) text
+    prints-front w text answer v (shown.stopped e sends) = text-front W takes contents took w v text (Err e) sends
+    prints-front w text answer v (shown.unflushed m e sends flush) =
+        Keeps-front (contents w) (contents m) (contents v) text
+        (text-front W takes contents took w m text (Ok tt) sends) (flushed m (Err e) v flush)
+    prints-front w text answer v (shown.printed m sends flush) =
+        Keeps-front (contents w) (contents m) (contents v) text
+        (text-front W takes contents took w m text (Ok tt) sends) (flushed m (Ok tt) v flush)
+
+    -- the text of the pieces that were read is one of the whole input
+    whole-shown : (z : Size) (s t : S) (pieces : List (List ℕ)) (text bytes : List ℕ)
+        → Drained gives piece_len s pieces (Ok tt) t → left s ≡ Some bytes → IsShown z pieces text
+        → IsShown z (pieces_of bytes) text
+    whole-shown z s t pieces text bytes d known is =
+        subst (λ (ps : List (List ℕ)). IsShown z ps text) (drained-pieces S gives left gave s pieces t bytes d known) is
+
+    on-ok : (answer : Result (Unit {0}) RelayError) (known : Option (List ℕ)) (P : List ℕ → Type 0) (A : Type 0)
+        → OnOk answer A → ((bytes : List ℕ) → known ≡ Some bytes → A → P bytes) → OnOk answer (IfSome known P)
+    on-ok (Ok done) known P A h all = if_known known P (λ bytes is. all bytes is h)
+    on-ok (Err e) known P A h all = tt
+
+    pub shows-text : (z : Size) (s : S) (w : W) (answer : Result (Unit {0}) RelayError) (t : S) (v : W)
+        → Shows gives takes flushes z s w answer t v
+        → OnOk answer (IfSome (left s) (λ bytes. (text : List ℕ) × IsShown z (pieces_of bytes) text
+        × Appends (contents w) (contents v) text))
+    shows-text z s w answer t v shown.refused = tt
+    shows-text z s w answer t v (shown.unread pieces e d) = tt
+    shows-text z s w answer t v (shown.shown pieces text d is prints) =
+        on-ok answer (left s) _ (Appends (contents w) (contents v) text) (prints-text w text answer v prints)
+        (λ bytes known took. (text, whole-shown z s t pieces text bytes d known is, took))
+
+    pub shows-front : (z : Size) (s : S) (w : W) (answer : Result (Unit {0}) RelayError) (t : S) (v : W)
+        → Shows gives takes flushes z s w answer t v
+        → IfSome (left s) (λ bytes. (text : List ℕ) → IsShown z (pieces_of bytes) text
+        → TakesFront (contents w) (contents v) text)
+    shows-front z s w answer t v shown.refused =
+        if_known (left s) _ (λ bytes known text is. TakesFront-none (contents w) text)
+    shows-front z s w answer t v (shown.unread pieces e d) =
+        if_known (left s) _ (λ bytes known text is. TakesFront-none (contents w) text)
+    shows-front z s w answer t v (shown.shown pieces text d is prints) =
+        if_known (left s) _ (λ bytes known other so.
+        subst (TakesFront (contents w) (contents v))
+        (texts_are_one z (pieces_of bytes) text other (whole-shown z s t pieces text bytes d known is) so)
+        (prints-front w text answer v prints))

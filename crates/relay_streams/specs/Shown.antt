@@ -1,7 +1,6 @@
 -- What `show` answers, reads and writes.
 use Rattle.std.specs.Prelude.{◌≡◌, ℕ, List, [], ◌∷◌, ◌++◌, map, Option, None, Ok, Err, Result, encode_utf8_all}
 use Rattle.std.specs.List.{concat, range_with_len}
-use Rattle.std.specs.Io.KnownBytes.{Appends}
 use Rattle.std.specs.declared.io.Error.{Error}
 use Rattle.vte.specs.Moves.{Gives}
 use Rattle.vte.specs.Frames.{Leads}
@@ -11,7 +10,7 @@ use Rattle.vt100_picture.specs.Term.{Size}
 use Rattle.termview.specs.Seen.{seen}
 use Rattle.relay_streams.specs.declared.error.RelayError.{RelayError}
 use Rattle.relay_streams.specs.declared.error.RelayError.TheVariants.{Write, Memory}
-use Rattle.takers.specs.Output.{TakesFront}
+use Rattle.takers.specs.Sent.{SendsText}
 use Rattle.relay_streams.specs.Pieces.{piece_len, Drained}
 
 abbrev pub sized : ℕ → ℕ → Size
@@ -37,18 +36,29 @@ pub record IsShown (z : Size) (pieces : List (List ℕ)) (text : List ℕ) : Typ
   pub leads : Leads (map Gives pieces) [] None parsed hold
   pub text_is : text ≡ screen_text z (seen z parsed).cell
 
+-- A text was sent to a writer, which was then flushed: so it is answered, and so the writer is left.
+pub data Prints {W : Type 0} (takes : W → List ℕ → Result ℕ Error → W → Type 0)
+    (flushes : W → Result (Unit {0}) Error → W → Type 0) (w : W) (text : List ℕ) : Result (Unit {0}) RelayError → W
+    → Type 0 where
+  -- a write failed or took nothing
+  stopped : {v : W} (e : Error) → SendsText takes w text (Err e) v → Prints takes flushes w text (Err Write) v
+  -- all was written, and the flush failed
+  unflushed : {v : W} (m : W) (e : Error) → SendsText takes w text (Ok tt) m → flushes m (Err e) v
+      → Prints takes flushes w text (Err Write) v
+  -- all went well
+  printed : {v : W} (m : W) → SendsText takes w text (Ok tt) m → flushes m (Ok tt) v
+      → Prints takes flushes w text (Ok tt) v
+
 -- From a source and a writer it answers so, and leaves both so.
-pub data Shows {S W : Type 0} (gives : S → ℕ → Result (List ℕ) Error → S → Type 0) (contents : W → Option (List ℕ))
-    (z : Size) (s : S) (w : W) : Result (Unit {0}) RelayError → S → W → Type 0 where
+pub data Shows {S W : Type 0} (gives : S → ℕ → Result (List ℕ) Error → S → Type 0)
+    (takes : W → List ℕ → Result ℕ Error → W → Type 0) (flushes : W → Result (Unit {0}) Error → W → Type 0) (z : Size)
+    (s : S) (w : W) : Result (Unit {0}) RelayError → S → W → Type 0 where
   -- there was no memory for the view: nothing is read or written
-  refused : Shows gives contents z s w (Err Memory) s w
+  refused : Shows gives takes flushes z s w (Err Memory) s w
   -- a read failed, or as many were made as may be: nothing is written
   unread : {t : S} (pieces : List (List ℕ)) (e : RelayError) → Drained gives piece_len s pieces (Err e) t
-      → Shows gives contents z s w (Err e) t w
-  -- the input was read to its end, and what a view shows of it was written
-  written : {t : S} {v : W} (pieces : List (List ℕ)) (text : List ℕ) → Drained gives piece_len s pieces (Ok tt) t
-      → IsShown z pieces text → Appends (contents w) (contents v) text → Shows gives contents z s w (Ok tt) t v
-  -- a write or the flush failed: a front of that was written
-  stopped : {t : S} {v : W} (pieces : List (List ℕ)) (text : List ℕ) → Drained gives piece_len s pieces (Ok tt) t
-      → IsShown z pieces text → TakesFront (contents w) (contents v) text
-      → Shows gives contents z s w (Err Write) t v
+      → Shows gives takes flushes z s w (Err e) t w
+  -- the input was read to its end, and what a view shows of it was printed
+  shown : {t : S} {v : W} {answer : Result (Unit {0}) RelayError} (pieces : List (List ℕ)) (text : List ℕ)
+      → Drained gives piece_len s pieces (Ok tt) t → IsShown z pieces text → Prints takes flushes w text answer v
+      → Shows gives takes flushes z s w answer t v

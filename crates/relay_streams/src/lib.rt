@@ -8,14 +8,15 @@
 mod error;
 mod far;
 pub mod laws;
-mod output;
 mod relaying;
 mod showing;
 mod source;
 
 pub use error::RelayError;
 pub use far::{far_view, view_of};
-pub use output::write_whole;
 pub use relaying::relay;
-pub use showing::{show, write_view};
+pub use showing::{print_view, show, write_view};
 pub use source::{PIECE_LEN, Source, fill};
+pub use takers::{Sink, Taker};
+pub use termrelay::{Call, Client, Take};
+pub use termview::{UntilCleared, View};

@@ -1,19 +1,20 @@
 //! A relayed stream as text.
 
-ghost use Rattle.std.specs.Prelude.{◌≡◌, ℕ, List, OnOk, IfErr, IfSome};
+ghost use Rattle.std.specs.Prelude.{◌≡◌, ℕ, List, OnOk, IfSome};
 ghost use Rattle.std.specs.Io.KnownBytes.{Appends};
+ghost use Rattle.takers.specs.Output.{TakesFront};
+ghost use Rattle.takers.specs.Sent.{SendsText};
 ghost use Rattle.termview.specs.Standing.{shown_by, size_of};
 ghost use Rattle.relay_streams.specs.Led.{Led};
-ghost use Rattle.takers.specs.Output.{TakesFront};
 ghost use Rattle.relay_streams.specs.Pieces.{Drained, piece_len, pieces_of};
-ghost use Rattle.relay_streams.specs.Shown.{IsShown, Shows, row_line, screen_text, sized};
+ghost use Rattle.relay_streams.specs.Shown.{IsShown, Prints, Shows, row_line, screen_text, sized};
 
 use crate::error::RelayError;
-use crate::output::{flush, write_whole};
 use crate::source::{PIECE_LEN, Source, fill};
 use std::alloc::Global;
-use std::io::Write;
+use std::io;
 use std::num::NonZeroU16;
+use takers::{Sink, Taker, pump};
 use termview::laws::until_cleared_is_exact;
 use termview::{UntilCleared, View};
 
@@ -23,23 +24,25 @@ use termview::{UntilCleared, View};
 ///
 /// The input is read in full pieces of 4,096 bytes, by at most 2^40 reads; an interrupted read is tried again and
 /// counted. A fault ends it. What was written by then stays written, and nothing is written before the input has ended.
-pub fn show<S: Source, W: Write>(
+pub fn show<S: Source, W: Sink>(
     alloc: Global,
     rows: NonZeroU16,
     cols: NonZeroU16,
     input: &mut S,
     output: &mut W,
 ) -> Result<(), RelayError>
-    ensures shows { Shows S.gives W.contents (sized rows.value cols.value) input.old output.old result input.new
+    ensures shows { Shows S.gives W.takes W.flushes (sized rows.value cols.value) input.old output.old result input.new
         output.new }
     ensures text { OnOk result (IfSome (S.left input.old) (λ bytes. (text : List ℕ)
         × IsShown (sized rows.value cols.value) (pieces_of bytes) text
         × Appends (W.contents output.old) (W.contents output.new) text)) }
+    ensures front { IfSome (S.left input.old) (λ bytes. (text : List ℕ)
+        → IsShown (sized rows.value cols.value) (pieces_of bytes) text
+        → TakesFront (W.contents output.old) (W.contents output.new) text) }
 {
     let mut view = View::new(alloc, rows, cols, UntilCleared::new())?;
     read_view(&mut view, input)?;
-    write_view(&view, output)?;
-    flush(output)
+    print_view(&view, output)
 }
 
 // Gives the view the whole input, in full pieces and then the rest.
@@ -59,13 +62,27 @@ fn read_view<S: Source>(view: &mut View<UntilCleared>, input: &mut S) -> Result<
     }
 }
 
-/// Writes the text of each row of what the view shows, and a newline after it.
-pub fn write_view<W: Write>(view: &View<UntilCleared>, output: &mut W) -> Result<(), RelayError>
-    ensures whole { OnOk result (Appends (W.contents output.old) (W.contents output.new)
-        (screen_text (size_of view.now) (shown_by view.now).cell)) }
-    ensures front { TakesFront (W.contents output.old) (W.contents output.new)
-        (screen_text (size_of view.now) (shown_by view.now).cell) }
-    ensures fault { IfErr result (λ e. e ≡ RelayError.Write) }
+/// Writes the text of each row of what the view shows, with a newline each, and flushes the output. A write that fails
+/// or takes nothing ends it, and what was taken by then stays written.
+pub fn print_view<W: Sink>(view: &View<UntilCleared>, output: &mut W) -> Result<(), RelayError>
+    ensures { Prints W.takes W.flushes output.old (screen_text (size_of view.now) (shown_by view.now).cell) result
+        output.new }
+{
+    match write_view(view, output) {
+        Ok(()) => (),
+        Err(_) => return Err(RelayError::Write),
+    }
+    match output.finish() {
+        Ok(()) => Ok(()),
+        Err(_) => Err(RelayError::Write),
+    }
+}
+
+/// Writes the text of each row of what the view shows, and a newline after it. Any fault of a write ends it, and so does
+/// a write that takes nothing; what was taken by then stays written.
+pub fn write_view<T: Taker>(view: &View<UntilCleared>, output: &mut T) -> io::Result<()>
+    ensures { SendsText T.takes output.old (screen_text (size_of view.now) (shown_by view.now).cell) result
+        output.new }
 {
     let (rows, _) = view.size();
     for row in 0..rows.get() {
@@ -75,19 +92,10 @@ pub fn write_view<W: Write>(view: &View<UntilCleared>, output: &mut W) -> Result
 }
 
 // Writes the text of a row and a newline.
-fn write_row<W: Write>(
-    view: &View<UntilCleared>,
-    row: u16,
-    output: &mut W,
-) -> Result<(), RelayError>
-    ensures whole { OnOk result (Appends (W.contents output.old) (W.contents output.new)
-        (row_line (size_of view.now) (shown_by view.now).cell row)) }
-    ensures front { TakesFront (W.contents output.old) (W.contents output.new)
-        (row_line (size_of view.now) (shown_by view.now).cell row) }
-    ensures fault { IfErr result (λ e. e ≡ RelayError.Write) }
+fn write_row<T: Taker>(view: &View<UntilCleared>, row: u16, output: &mut T) -> io::Result<()>
+    ensures { SendsText T.takes output.old (row_line (size_of view.now) (shown_by view.now).cell row) result
+        output.new }
 {
-    match view.row_text(row, output) {
-        Ok(()) => write_whole(output, b"\n"),
-        Err(_) => Err(RelayError::Write),
-    }
+    view.row_text(row, output)?;
+    pump(b"\n", output).1
 }

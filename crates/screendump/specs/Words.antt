@@ -1,26 +1,7 @@
 -- The words of the command line.
-use Rattle.std.specs.Prelude.{ℕ, Bool, false, nat_le, ◌&&◌, List, [], ◌∷◌, length, Option, Some, None, codes}
-use Rattle.std.specs.Prelude.{if◌then◌else◌}
-use Rattle.std.specs.Str.{all_ascii_digits, bytes_eq}
-use Rattle.std.specs.Str.Parse.{digits_value}
-
--- 1 to n ASCII digits
-abbrev pub is_number : ℕ → List ℕ → Bool
-is_number n word = (nat_le 1 (length word) && nat_le (length word) n) && all_ascii_digits word
-
--- 1 to 5 digits with a value of 1 to 65,535
-abbrev pub is_size : List ℕ → Bool
-is_size word = is_number 5 word && (nat_le 1 (digits_value 10 word) && nat_le (digits_value 10 word) 65535)
-
-abbrev pub size_of : List ℕ → Option ℕ
-size_of word = if is_size word then Some (digits_value 10 word) else None
-
--- 1 to 9 digits
-abbrev pub is_count : List ℕ → Bool
-is_count = is_number 9
-
-abbrev pub count_of : List ℕ → Option ℕ
-count_of word = if is_count word then Some (digits_value 10 word) else None
+use Rattle.std.specs.Prelude.{ℕ, Bool, false, ◌&&◌, List, [], ◌∷◌, ◌++◌, codes}
+use Rattle.std.specs.Str.{bytes_eq}
+use Rattle.command_line.specs.Numbers.{is_size, is_count}
 
 -- `run` or `ROWS COLS [CAPACITY [TIMES]]`
 abbrev pub is_order : List (List ℕ) → Bool
@@ -29,3 +10,7 @@ is_order (rows ∷ cols ∷ []) = is_size rows && is_size cols
 is_order (rows ∷ cols ∷ capacity ∷ []) = is_size rows && (is_size cols && is_count capacity)
 is_order (rows ∷ cols ∷ capacity ∷ times ∷ []) = is_size rows && (is_size cols && (is_count capacity && is_count times))
 is_order _ = false
+
+-- what any other command line is told
+abbrev pub usage_line : List ℕ
+usage_line = codes "usage: screendump run|ROWS COLS [CAPACITY [TIMES]]" ++ (0x0A ∷ [])

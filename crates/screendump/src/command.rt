@@ -1,35 +1,29 @@
 //! The command line.
 
-ghost use Rattle.std.specs.Prelude.{◌≡◌, ◌≤◌, ℕ, map, true, false, IfErr};
-ghost use Rattle.screendump.specs.Words.{is_order};
+ghost use Rattle.std.specs.Prelude.{◌≡◌, ◌≤◌, map, true, false};
+ghost use Rattle.takers.specs.Pump.{Tells};
+ghost use Rattle.screendump.specs.Words.{is_order, usage_line};
 
 use crate::dump::push_screen;
 use crate::error::DumpError;
 use crate::script;
 use crate::stream::{flush, read_all, write_text};
 use crate::words::{Dump, Order, parse};
+use command_line::{FAULT, SUCCESS, USAGE, report};
 use std::alloc::Global;
-use std::io::{Read, Write};
+use std::io::Read;
+use takers::{Sink, Taker};
 use vt100::Parser;
 
 /// Bytes that are processed at once.
 const PIECE_LEN: usize = 4096;
 
-/// The exit status of a command that did its work.
-pub const SUCCESS: u8 = 0;
-
-/// The exit status of a command that ended at a fault.
-pub const FAULT: u8 = 1;
-
-/// The exit status of a command line that isn't understood.
-pub const USAGE: u8 = 2;
-
 /// Runs the program on the words after its name, and answers its exit status.
 ///
 /// A fault is told in a line on `errors`: `screendump: read`, `write`, `memory` or `script`. Any other command line
-/// than `ROWS COLS [CAPACITY [TIMES]]` and `run` gets the usage line there, and then nothing is read or written. A
-/// fault of `errors` changes nothing.
-pub fn command<R: Read, W: Write, V: Write>(
+/// than `ROWS COLS [CAPACITY [TIMES]]` and `run` gets the usage line there, and then nothing is read or written. Such a
+/// line is written whole, unless a write of it fails or takes nothing; that changes nothing else.
+pub fn command<R: Read, W: Sink, V: Taker>(
     alloc: Global,
     words: &[&str],
     input: &mut R,
@@ -37,13 +31,13 @@ pub fn command<R: Read, W: Write, V: Write>(
     errors: &mut V,
 ) -> u8
     ensures usage { is_order (map (λ w. w.now) words.now) ≡ false → (result ≡ 2) × (input.new ≡ input.old)
-        × (output.new ≡ output.old) }
+        × (output.new ≡ output.old) × Tells V.takes errors.old usage_line errors.new }
     ensures understood { is_order (map (λ w. w.now) words.now) ≡ true → result ≤ 1 }
 {
     let Some(order) = parse(words) else {
         report(
             errors,
-            "usage: screendump run|ROWS COLS [CAPACITY [TIMES]]\n",
+            b"usage: screendump run|ROWS COLS [CAPACITY [TIMES]]\n",
         );
         return USAGE;
     };
@@ -58,29 +52,24 @@ pub fn command<R: Read, W: Write, V: Write>(
 }
 
 /// Tells a fault in a line on `errors`, and answers the exit status that goes with it.
-pub(crate) fn report_fault<V: Write>(errors: &mut V, error: DumpError) -> u8
+pub(crate) fn report_fault<V: Taker>(errors: &mut V, error: DumpError) -> u8
     ensures { result ≡ 1 }
 {
     report(
         errors,
         match error {
-            DumpError::Read => "screendump: read\n",
-            DumpError::Write => "screendump: write\n",
-            DumpError::Memory => "screendump: memory\n",
-            DumpError::Script => "screendump: script\n",
+            DumpError::Read => b"screendump: read\n",
+            DumpError::Write => b"screendump: write\n",
+            DumpError::Memory => b"screendump: memory\n",
+            DumpError::Script => b"screendump: script\n",
         },
     );
     FAULT
 }
 
-// Writes a line as far as the writer takes it.
-fn report<V: Write>(errors: &mut V, line: &str) {
-    let _ = write_text(errors, line);
-}
-
 // Reads a stream to its end, processes it as often as is asked for, each time on a fresh screen, and writes the state
 // that it leaves.
-fn dump_stream<R: Read, W: Write>(
+fn dump_stream<R: Read, W: Sink>(
     alloc: Global,
     dump: Dump,
     input: &mut R,

@@ -12,6 +12,7 @@ mod texts;
 mod words;
 
 use command::{command, report_fault};
+use command_line::{lend, words_of};
 use error::DumpError;
 use std::process::ExitCode;
 use std::{env, io};
@@ -24,21 +25,14 @@ fn main(rt: HostRuntime) -> ExitCode {
     ExitCode::from(status)
 }
 
-// Runs the command line. A word that isn't UTF-8 makes it one that isn't understood.
+// Runs the command line.
 fn run(rt: &HostRuntime) -> io::Result<u8> {
     let alloc = rt.alloc();
-    let words = match env::args(rt) {
-        Ok(args) => args.skip(1).collect(alloc)?,
-        Err(error) if error.kind() == io::ErrorKind::InvalidData => Vec::new(alloc),
-        Err(error) => return Err(error),
-    };
-    let mut lent = Vec::new(alloc);
-    for word in &words {
-        lent.push(word.as_str())?;
-    }
+    let words = words_of(alloc, env::args(rt))?;
+    let words = lend(alloc, &words)?;
     Ok(command(
         alloc,
-        &lent,
+        &words,
         &mut rt.stdin(),
         &mut rt.stdout(),
         &mut rt.stderr(),

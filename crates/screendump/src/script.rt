@@ -9,9 +9,10 @@ use crate::texts::{
     push_check, push_diffs, push_rows, push_rows_diff, push_rows_formatted, push_texts,
 };
 use std::alloc::Global;
-use std::io::{Read, Write};
+use std::io::Read;
 use std::num::NonZeroU16;
 use std::str::SplitWhitespace;
+use takers::Sink;
 use vt100::{Parser, Screen};
 
 /// One line of a script.
@@ -155,7 +156,7 @@ fn digit(byte: u8) -> Result<u8, DumpError>
 /// columns that keeps no rows.
 ///
 /// A fault ends it. What was written by then stays written.
-pub(crate) fn run<R: Read, W: Write>(
+pub(crate) fn run<R: Read, W: Sink>(
     alloc: Global,
     input: &mut R,
     output: &mut W,

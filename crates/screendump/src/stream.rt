@@ -5,7 +5,8 @@ ghost use Rattle.screendump.specs.declared.error.DumpError.TheVariants as error;
 
 use crate::error::DumpError;
 use std::alloc::Global;
-use std::io::{ErrorKind, Read, Write};
+use std::io::{ErrorKind, Read};
+use takers::{Sink, pump};
 
 /// Reads to the end of the input.
 pub(crate) fn read_all<R: Read>(alloc: Global, input: &mut R) -> Result<Vec<u8>, DumpError>
@@ -20,19 +21,19 @@ pub(crate) fn read_all<R: Read>(alloc: Global, input: &mut R) -> Result<Vec<u8>,
 }
 
 /// Writes the whole text.
-pub(crate) fn write_text<W: Write>(output: &mut W, text: &str) -> Result<(), DumpError>
+pub(crate) fn write_text<W: Sink>(output: &mut W, text: &str) -> Result<(), DumpError>
     ensures fault { IfErr result (λ e. e ≡ error.Write) }
 {
-    match output.write_all(text.as_bytes()) {
+    match pump(text.as_bytes(), output).1 {
         Ok(()) => Ok(()),
         Err(_) => Err(DumpError::Write),
     }
 }
 
-pub(crate) fn flush<W: Write>(output: &mut W) -> Result<(), DumpError>
+pub(crate) fn flush<W: Sink>(output: &mut W) -> Result<(), DumpError>
     ensures fault { IfErr result (λ e. e ≡ error.Write) }
 {
-    match output.flush() {
+    match output.finish() {
         Ok(()) => Ok(()),
         Err(_) => Err(DumpError::Write),
     }

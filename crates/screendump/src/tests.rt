@@ -1,8 +1,8 @@
 //! Whole commands, byte for byte, and faults of readers and writers.
 
 use crate::command::command;
-use std::io;
-use std::io::{ErrorKind, Read, Write};
+use scripted_io::{Narrow, Script, Step};
+use std::io::ErrorKind;
 use std::test::Fail;
 
 const USAGE: &[u8] = b"usage: screendump run|ROWS COLS [CAPACITY [TIMES]]\n";
@@ -19,47 +19,6 @@ modes keypad=0 cursor_keys=0 paste=0 mouse=None encoding=Default style=Default a
 attrs i1 d b----\n\
 scrollback len=1 offset=0 capacity=3\n\
 cell 0 0 63 w=0 c=0 i1 d b----\n";
-
-/// A reader that fails.
-#[derive(Drop)]
-struct Broken {
-    kind: ErrorKind,
-}
-
-impl Read for Broken {
-    fn read(&mut self, _buf: &mut [u8]) -> io::Result<usize> {
-        Err(io::Error::from(self.kind))
-    }
-}
-
-/// A writer that keeps what it takes, and fails once its room is used up.
-#[derive(Drop)]
-struct Narrow {
-    kept: Vec<u8>,
-    room: usize,
-    flushes: bool,
-}
-
-impl Write for Narrow {
-    fn write(&mut self, buf: &[u8]) -> io::Result<usize> {
-        let [first, ..] = buf else {
-            return Ok(0);
-        };
-        if self.kept.len() >= self.room {
-            return Err(io::Error::from(ErrorKind::BrokenPipe));
-        }
-        self.kept.push(*first)?;
-        Ok(1)
-    }
-
-    fn flush(&mut self) -> io::Result<()> {
-        if self.flushes {
-            Ok(())
-        } else {
-            Err(io::Error::from(ErrorKind::BrokenPipe))
-        }
-    }
-}
 
 #[test]
 fn commands(rt: HostRuntime) -> Result<(), Fail> {
@@ -116,18 +75,21 @@ fn commands(rt: HostRuntime) -> Result<(), Fail> {
 
 #[test]
 fn faults(rt: HostRuntime) -> Result<(), Fail> {
-    let reads: [(ErrorKind, &[u8]); 2] = [
-        (ErrorKind::BrokenPipe, b"screendump: read\n"),
-        (ErrorKind::OutOfMemory, b"screendump: memory\n"),
+    let reads: [(&'static [Step], &[u8]); 2] = [
+        (&[Step::Fail(ErrorKind::BrokenPipe)], b"screendump: read\n"),
+        (
+            &[Step::Fail(ErrorKind::OutOfMemory)],
+            b"screendump: memory\n",
+        ),
     ];
-    for (kind, told) in reads {
+    for (steps, told) in reads {
         for words in [["1", "2"].as_slice(), ["run"].as_slice()] {
             let mut written = Vec::new(rt.alloc());
             let mut errors = Vec::new(rt.alloc());
             let answer = command(
                 rt.alloc(),
                 words,
-                &mut Broken { kind },
+                &mut Script::new(steps),
                 &mut written,
                 &mut errors,
             );
@@ -141,11 +103,8 @@ fn faults(rt: HostRuntime) -> Result<(), Fail> {
             (["1", "2"].as_slice(), b"ab".as_slice()),
             (["run"].as_slice(), b"new 1 2 0\ndump".as_slice()),
         ] {
-            let mut output = Narrow {
-                kept: Vec::new(rt.alloc()),
-                room,
-                flushes,
-            };
+            let mut output = Narrow::new(rt.alloc(), room);
+            output.flushes = flushes;
             let mut errors = Vec::new(rt.alloc());
             let mut left = input;
             let answer = command(rt.alloc(), words, &mut left, &mut output, &mut errors);

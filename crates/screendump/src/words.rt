@@ -1,10 +1,12 @@
 //! The words of the command line.
 
-ghost use Rattle.std.specs.Prelude.{◌≡◌, ◌&&◌, ℕ, map, Option, None, Some, nat_le, length, codes};
-ghost use Rattle.std.specs.Option.{is_some, option_map};
-ghost use Rattle.std.specs.Str.{all_ascii_digits, bytes_eq};
-ghost use Rattle.screendump.specs.Words.{is_order, is_size, is_count, size_of, count_of};
+ghost use Rattle.std.specs.Prelude.{◌≡◌, ◌&&◌, map, codes};
+ghost use Rattle.std.specs.Option.{is_some};
+ghost use Rattle.std.specs.Str.{bytes_eq};
+ghost use Rattle.command_line.specs.Numbers.{is_size, is_count};
+ghost use Rattle.screendump.specs.Words.{is_order};
 
+use command_line::{parse_count, parse_size};
 use std::num::NonZeroU16;
 
 /// What the program is asked to do.
@@ -58,45 +60,4 @@ fn parse_dump(rows: &str, cols: &str, capacity: &str, times: &str) -> Option<Ord
         capacity: parse_count(capacity)?,
         times: parse_count(times)?,
     }))
-}
-
-// 1 to 5 ASCII digits whose value is 1 to 65,535.
-fn parse_size(word: &str) -> Option<NonZeroU16>
-    ensures { option_map (λ n. n.value) result ≡ size_of word.now }
-{
-    if !is_number(word, 5) {
-        return None;
-    }
-    match word.parse::<u16>() {
-        Ok(value) => NonZeroU16::new(value),
-        Err(_) => None,
-    }
-}
-
-// 1 to 9 ASCII digits.
-fn parse_count(word: &str) -> Option<usize>
-    ensures { result ≡ count_of word.now }
-{
-    if !is_number(word, 9) {
-        return None;
-    }
-    match word.parse::<usize>() {
-        Ok(value) => Some(value),
-        Err(_) => None,
-    }
-}
-
-// At most so many ASCII digits.
-fn is_number(word: &str, digits: usize) -> bool
-    ensures { result ≡ (nat_le (length word.now) digits && all_ascii_digits word.now) }
-{
-    if word.len() > digits {
-        return false;
-    }
-    for b in word.as_bytes() {
-        if !b.is_ascii_digit() {
-            return false;
-        }
-    }
-    true
 }

@@ -1,9 +1,8 @@
 -- What an order writes, where the source and the writer tell their bytes.
 use Rattle.std.proofs.Common.{ℕ, List, Option, Ok, Err, Result, OnOk, IfSome, refl}
-use Rattle.std.specs.Io.KnownBytes.{Appends}
 use Rattle.std.specs.declared.io.Error.{Error}
+use Rattle.std.specs.Io.KnownBytes.{Appends, Keeps}
 use Rattle.takers.specs.Pump.{Writes}
-use Rattle.takers.specs.Sent.{Flushes}
 use Rattle.relay_streams.specs.declared.error.RelayError.{RelayError}
 use Rattle.relay_streams.specs.Fill.{Reads}
 use Rattle.relay_streams.specs.Frames.{relay_text}
@@ -13,20 +12,28 @@ use Rattle.screenrelay.specs.declared.words.Job.{Job}
 use Rattle.screenrelay.specs.declared.words.Job.TheVariants.{Relay, Show}
 use Rattle.screenrelay.specs.Command.{DoesBy, WantsBy}
 
-module _ (S W : Type 0) (gives : S → ℕ → Result (List ℕ) Error → S → Type 0) (contents : W → Option (List ℕ))
-    (left : S → Option (List ℕ)) (tells : (s : S) (room : ℕ) (answer : Result (List ℕ) Error) (t : S)
-    → gives s room answer t → Reads left s room answer t) where
-  -- an order that was carried out
-  pub does-text : (job : Job) (rows cols : ℕ) (s : S) (w : W) (answer : Result (Unit {0}) RelayError) (t : S) (v : W)
-      → DoesBy gives contents job rows cols s w answer t v
-      → OnOk answer (IfSome (left s) (λ bytes. (text : List ℕ) × WantsBy job rows cols bytes text
-      × Appends (contents w) (contents v) text))
-  does-text Relay rows cols s w (Ok done) t v r =
-      if_known (left s) _ (λ bytes is. (
-        relay_text rows cols bytes,
-        refl,
-        known_if (left s) bytes _ is (relays-text S W gives (Writes contents) (Flushes contents) contents left tells
-            (λ x xs a y told. told) (λ x a y told. told) rows cols s w (Ok done) t v r),
-      ))
-  does-text Relay rows cols s w (Err e) t v r = tt
-  does-text Show rows cols s w answer t v r = shows-text S W gives contents left tells (sized rows cols) s w answer t v r
+module _ (S W : Type 0) (gives : S → ℕ → Result (List ℕ) Error → S → Type 0)
+    (takes : W → List ℕ → Result ℕ Error → W → Type 0) (flushes : W → Result (Unit {0}) Error → W → Type 0)
+    (contents : W → Option (List ℕ)) (left : S → Option (List ℕ))
+    (gave : (s : S) (room : ℕ) (answer : Result (List ℕ) Error) (t : S) → gives s room answer t
+    → Reads left s room answer t)
+    (took : (w : W) (bytes : List ℕ) (answer : Result ℕ Error) (v : W) → takes w bytes answer v
+    → Writes contents w bytes answer v)
+    (flushed : (w : W) (answer : Result (Unit {0}) Error) (v : W) → flushes w answer v
+    → Keeps (contents w) (contents v))
+  where
+    -- an order that was carried out
+    pub does-text : (job : Job) (rows cols : ℕ) (s : S) (w : W) (answer : Result (Unit {0}) RelayError) (t : S) (v : W)
+        → DoesBy gives takes flushes job rows cols s w answer t v
+        → OnOk answer (IfSome (left s) (λ bytes. (text : List ℕ) × WantsBy job rows cols bytes text
+        × Appends (contents w) (contents v) text))
+    does-text Relay rows cols s w (Ok done) t v r =
+        if_known (left s) _ (λ bytes is. (
+          relay_text rows cols bytes,
+          refl,
+          known_if (left s) bytes _ is (relays-text S W gives takes flushes contents left gave took flushed rows cols
+              s w (Ok done) t v r),
+        ))
+    does-text Relay rows cols s w (Err e) t v r = tt
+    does-text Show rows cols s w answer t v r =
+        shows-text S W gives takes flushes contents left gave took flushed (sized rows cols) s w answer t v r

@@ -1,16 +1,14 @@
 -- What a command answers, reads, writes and says.
-use Rattle.std.specs.Prelude.{◌≡◌, ℕ, List, [], ◌∷◌, ◌++◌, Option, Ok, Err, Result, codes}
+use Rattle.std.specs.Prelude.{◌≡◌, ℕ, List, [], ◌∷◌, ◌++◌, Ok, Err, Result, codes}
 use Rattle.std.specs.declared.io.Error.{Error}
-use Rattle.takers.specs.Pump.{Writes}
+use Rattle.takers.specs.Pump.{Tells}
 use Rattle.relay_streams.specs.declared.error.RelayError.{RelayError}
 use Rattle.relay_streams.specs.declared.error.RelayError.TheVariants.{Read, Write, Memory, TooManyReads}
 use Rattle.screenrelay.specs.declared.words.Job.{Job}
 use Rattle.screenrelay.specs.declared.words.Job.TheVariants.{Relay, Show}
 use Rattle.relay_streams.specs.Frames.{relay_text}
-use Rattle.takers.specs.Output.{TakesFront}
 use Rattle.relay_streams.specs.Pieces.{pieces_of}
 use Rattle.relay_streams.specs.Relayed.{Relays}
-use Rattle.takers.specs.Sent.{Flushes}
 use Rattle.relay_streams.specs.Shown.{IsShown, Shows, sized}
 use Rattle.screenrelay.specs.Words.{Order}
 
@@ -22,12 +20,11 @@ WantsBy Show rows cols bytes text = IsShown (sized rows cols) (pieces_of bytes) 
 abbrev pub Wants : Order → List ℕ → List ℕ → Type 0
 Wants order bytes text = WantsBy order.job order.rows order.cols bytes text
 
-abbrev pub DoesBy : {S W : Type 0} → (S → ℕ → Result (List ℕ) Error → S → Type 0) → (W → Option (List ℕ)) → Job → ℕ → ℕ
-    → S → W → Result (Unit {0}) RelayError → S → W → Type 0
-DoesBy gives contents Relay rows cols s w answer t v =
-    Relays gives (Writes contents) (Flushes contents) rows cols s w answer t v
-DoesBy gives contents Show rows cols s w answer t v =
-    Shows gives contents (sized rows cols) s w answer t v
+abbrev pub DoesBy : {S W : Type 0} → (S → ℕ → Result (List ℕ) Error → S → Type 0)
+    → (W → List ℕ → Result ℕ Error → W → Type 0) → (W → Result (Unit {0}) Error → W → Type 0) → Job → ℕ → ℕ → S → W
+    → Result (Unit {0}) RelayError → S → W → Type 0
+DoesBy gives takes flushes Relay rows cols s w answer t v = Relays gives takes flushes rows cols s w answer t v
+DoesBy gives takes flushes Show rows cols s w answer t v = Shows gives takes flushes (sized rows cols) s w answer t v
 
 -- a line of these characters
 abbrev pub line : List ℕ → List ℕ
@@ -43,16 +40,18 @@ fault_line Write = line (codes "screenrelay: write")
 fault_line Memory = line (codes "screenrelay: memory")
 fault_line TooManyReads = line (codes "screenrelay: too many reads")
 
--- the exit status that goes with an answer, and what is told of it on the error output, as far as that takes it
-abbrev pub Reports : {V : Type 0} → (V → Option (List ℕ)) → Result (Unit {0}) RelayError → V → ℕ → V → Type 0
+-- the exit status that goes with an answer, and what is told of it on the error output
+abbrev pub Reports : {V : Type 0} → (V → List ℕ → Result ℕ Error → V → Type 0) → Result (Unit {0}) RelayError → V → ℕ → V
+    → Type 0
 Reports told (Ok u) e status f = (status ≡ 0) × (f ≡ e)
-Reports told (Err fault) e status f = (status ≡ 1) × TakesFront (told e) (told f) (fault_line fault)
+Reports told (Err fault) e status f = (status ≡ 1) × Tells told e (fault_line fault) f
 
 -- An order was carried out, from a source, a writer and an error output: what was answered, and so what was read,
 -- written and told.
-pub record Does {S W V : Type 0} (gives : S → ℕ → Result (List ℕ) Error → S → Type 0) (contents : W → Option (List ℕ))
-    (told : V → Option (List ℕ)) (order : Order) (s : S) (w : W) (e : V) (status : ℕ) (t : S) (v : W) (f : V)
-    : Type 0 where
+pub record Does {S W V : Type 0} (gives : S → ℕ → Result (List ℕ) Error → S → Type 0)
+    (takes : W → List ℕ → Result ℕ Error → W → Type 0) (flushes : W → Result (Unit {0}) Error → W → Type 0)
+    (told : V → List ℕ → Result ℕ Error → V → Type 0) (order : Order) (s : S) (w : W) (e : V) (status : ℕ) (t : S)
+    (v : W) (f : V) : Type 0 where
   pub answer : Result (Unit {0}) RelayError
-  pub does : DoesBy gives contents order.job order.rows order.cols s w answer t v
+  pub does : DoesBy gives takes flushes order.job order.rows order.cols s w answer t v
   pub reports : Reports told answer e status f

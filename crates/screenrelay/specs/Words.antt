@@ -1,7 +1,7 @@
 -- The words of the command line.
-use Rattle.std.specs.Prelude.{ℕ, Bool, nat_le, ◌&&◌, List, [], ◌∷◌, length, Option, Some, None, codes, if◌then◌else◌}
-use Rattle.std.specs.Str.{all_ascii_digits, bytes_eq}
-use Rattle.std.specs.Str.Parse.{digits_value}
+use Rattle.std.specs.Prelude.{ℕ, List, [], ◌∷◌, Option, Some, None, codes, if◌then◌else◌}
+use Rattle.std.specs.Str.{bytes_eq}
+use Rattle.command_line.specs.Numbers.{size_of}
 use Rattle.screenrelay.specs.declared.words.Job.{Job}
 use Rattle.screenrelay.specs.declared.words.Job.TheVariants.{Relay, Show}
 
@@ -10,14 +10,6 @@ pub record Order : Type 0 where
   pub job : Job
   pub rows : ℕ
   pub cols : ℕ
-
--- 1 to 5 ASCII digits whose value is 1 to 65,535
-abbrev pub is_size : List ℕ → Bool
-is_size word = (nat_le 1 (length word) && nat_le (length word) 5)
-    && (all_ascii_digits word && (nat_le 1 (digits_value 10 word) && nat_le (digits_value 10 word) 65535))
-
-abbrev pub size_of : List ℕ → Option ℕ
-size_of word = if is_size word then Some (digits_value 10 word) else None
 
 abbrev pub job_of : List ℕ → Option Job
 job_of word = if bytes_eq word (codes "relay") then Some Relay

@@ -2,30 +2,22 @@
 
 ghost use Rattle.std.specs.Prelude.{◌≡◌, ℕ, List, map, None, IfSome};
 ghost use Rattle.std.specs.Io.KnownBytes.{Appends};
+ghost use Rattle.takers.specs.Pump.{Tells};
 ghost use Rattle.screenrelay.specs.Command.{Does, DoesBy, Wants, fault_line, usage_line};
-ghost use Rattle.takers.specs.Output.{TakesFront};
 ghost use Rattle.screenrelay.specs.Words.{order_of};
 
 use crate::words::{Job, Order, parse};
-use relay_streams::{RelayError, Source, relay, show, write_whole};
+use command_line::{FAULT, SUCCESS, USAGE, report};
+use relay_streams::{RelayError, Source, relay, show};
 use std::alloc::Global;
-use std::io::Write;
-
-/// The exit status of a command that did its work.
-pub const SUCCESS: u8 = 0;
-
-/// The exit status of a command that ended at a fault.
-pub const FAULT: u8 = 1;
-
-/// The exit status of a command line that isn't understood.
-pub const USAGE: u8 = 2;
+use takers::{Sink, Taker};
 
 /// Runs the program on the words after its name, and answers its exit status.
 ///
 /// A fault is told in a line on `errors`: `screenrelay: read`, `write`, `memory` or `too many reads`. Any other
 /// command line than `relay ROWS COLS` and `show ROWS COLS` gets the usage line there, and then nothing is read
-/// or written. A fault of `errors` changes nothing.
-pub fn command<S: Source, W: Write, V: Write>(
+/// or written. Such a line is written whole, unless a write of it fails or takes nothing; that changes nothing else.
+pub fn command<S: Source, W: Sink, V: Taker>(
     alloc: Global,
     words: &[&str],
     input: &mut S,
@@ -33,8 +25,8 @@ pub fn command<S: Source, W: Write, V: Write>(
     errors: &mut V,
 ) -> u8
     ensures usage { order_of (map (λ w. w.now) words.now) ≡ None → (result ≡ 2) × (input.new ≡ input.old)
-        × (output.new ≡ output.old) × TakesFront (V.contents errors.old) (V.contents errors.new) usage_line }
-    ensures does { IfSome (order_of (map (λ w. w.now) words.now)) (λ order. Does S.gives W.contents V.contents order
+        × (output.new ≡ output.old) × Tells V.takes errors.old usage_line errors.new }
+    ensures does { IfSome (order_of (map (λ w. w.now) words.now)) (λ order. Does S.gives W.takes W.flushes V.takes order
         input.old output.old errors.old result input.new output.new errors.new) }
     ensures done { result ≡ 0 → IfSome (order_of (map (λ w. w.now) words.now))
         (λ order. IfSome (S.left input.old) (λ bytes. (text : List ℕ) × Wants order bytes text
@@ -51,13 +43,13 @@ pub fn command<S: Source, W: Write, V: Write>(
 }
 
 // Does what is asked for.
-fn carry_out<S: Source, W: Write>(
+fn carry_out<S: Source, W: Sink>(
     alloc: Global,
     order: Order,
     input: &mut S,
     output: &mut W,
 ) -> Result<(), RelayError>
-    ensures { DoesBy S.gives W.contents order.job order.rows.value order.cols.value input.old output.old result
+    ensures { DoesBy S.gives W.takes W.flushes order.job order.rows.value order.cols.value input.old output.old result
         input.new output.new }
 {
     match order.job {
@@ -67,9 +59,9 @@ fn carry_out<S: Source, W: Write>(
 }
 
 /// Tells a fault in a line on `errors`, and answers the exit status that goes with it.
-pub(crate) fn report_fault<V: Write>(errors: &mut V, error: RelayError) -> u8
+pub(crate) fn report_fault<V: Taker>(errors: &mut V, error: RelayError) -> u8
     ensures status { result ≡ 1 }
-    ensures reports { TakesFront (V.contents errors.old) (V.contents errors.new) (fault_line error) }
+    ensures reports { Tells V.takes errors.old (fault_line error) errors.new }
 {
     report(errors, fault_line(error));
     FAULT
@@ -84,11 +76,4 @@ fn fault_line(error: RelayError) -> &'static [u8]
         RelayError::Memory => b"screenrelay: memory\n",
         RelayError::TooManyReads => b"screenrelay: too many reads\n",
     }
-}
-
-// Writes a line as far as the writer takes it.
-fn report<V: Write>(errors: &mut V, line: &[u8])
-    ensures { TakesFront (V.contents errors.old) (V.contents errors.new) line.now }
-{
-    let _ = write_whole(errors, line);
 }

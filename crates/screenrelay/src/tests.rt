@@ -1,9 +1,9 @@
 //! Whole commands, byte for byte, and faults of readers and writers in mid-stream.
 
 use crate::command::command;
-use relay_streams::{far_view, view_of, write_view};
-use std::io;
-use std::io::{ErrorKind, Read, Write};
+use relay_streams::{RelayError, far_view, view_of, write_view};
+use scripted_io::{Few, Narrow, Script, Step};
+use std::io::ErrorKind;
 use std::num::NonZeroU16;
 use std::test::Fail;
 use termrelay::{Call, Client, Hub, Log, Take, run};
@@ -38,65 +38,6 @@ const BUILD_SCREEN: &[u8] =
     linked 2 objects\n\n\ndone   [exit 0]\n\n\n\n";
 
 const USAGE: &[u8] = b"usage: screenrelay relay|show ROWS COLS\n";
-
-/// What one read does.
-#[derive(Clone, Copy)]
-enum Step {
-    Give(&'static [u8]),
-    Fail(ErrorKind),
-}
-
-/// A reader that goes through the steps, and then is at its end.
-#[derive(Drop)]
-struct Steps {
-    steps: &'static [Step],
-}
-
-impl Read for Steps {
-    fn read(&mut self, buf: &mut [u8]) -> io::Result<usize> {
-        let [step, rest @ ..] = self.steps else {
-            return Ok(0);
-        };
-        self.steps = rest;
-        match step {
-            Step::Give(bytes) => {
-                let n = bytes.len().min(buf.len());
-                buf[..n].copy_from_slice(&bytes[..n]);
-                Ok(n)
-            }
-            Step::Fail(kind) => Err(io::Error::from(*kind)),
-        }
-    }
-}
-
-/// A writer that keeps what it takes, one byte a write, and fails once its room is used up.
-#[derive(Drop)]
-struct Narrow {
-    kept: Vec<u8>,
-    room: usize,
-    flushes: bool,
-}
-
-impl Write for Narrow {
-    fn write(&mut self, buf: &[u8]) -> io::Result<usize> {
-        let [first, ..] = buf else {
-            return Ok(0);
-        };
-        if self.kept.len() >= self.room {
-            return Err(io::Error::from(ErrorKind::BrokenPipe));
-        }
-        self.kept.push(*first)?;
-        Ok(1)
-    }
-
-    fn flush(&mut self) -> io::Result<()> {
-        if self.flushes {
-            Ok(())
-        } else {
-            Err(io::Error::from(ErrorKind::BrokenPipe))
-        }
-    }
-}
 
 #[test]
 fn commands(rt: HostRuntime) -> Result<(), Fail> {
@@ -153,7 +94,7 @@ fn commands(rt: HostRuntime) -> Result<(), Fail> {
 
 #[test]
 fn readers(rt: HostRuntime) -> Result<(), Fail> {
-    let rows: [(&str, &'static [Step], u8, &[u8], &[u8]); 5] = [
+    let rows: [(&str, &'static [Step], u8, &[u8], &[u8], u64); 5] = [
         (
             "relay",
             &[
@@ -164,6 +105,7 @@ fn readers(rt: HostRuntime) -> Result<(), Fail> {
             1,
             b"",
             b"screenrelay: read\n",
+            2,
         ),
         (
             "relay",
@@ -171,6 +113,7 @@ fn readers(rt: HostRuntime) -> Result<(), Fail> {
             0,
             HI,
             b"",
+            3,
         ),
         (
             "relay",
@@ -182,6 +125,7 @@ fn readers(rt: HostRuntime) -> Result<(), Fail> {
             0,
             HI,
             b"",
+            4,
         ),
         (
             "show",
@@ -193,6 +137,7 @@ fn readers(rt: HostRuntime) -> Result<(), Fail> {
             0,
             b"hi\n\n",
             b"",
+            4,
         ),
         (
             "show",
@@ -200,12 +145,13 @@ fn readers(rt: HostRuntime) -> Result<(), Fail> {
             1,
             b"",
             b"screenrelay: read\n",
+            2,
         ),
     ];
-    for (job, steps, status, output, errors) in rows {
+    for (job, steps, status, output, errors, reads) in rows {
         let mut written = Vec::new(rt.alloc());
         let mut told = Vec::new(rt.alloc());
-        let mut input = Steps { steps };
+        let mut input = Script::new(steps);
         let answer = command(
             rt.alloc(),
             &[job, "2", "4"],
@@ -216,23 +162,29 @@ fn readers(rt: HostRuntime) -> Result<(), Fail> {
         assert_eq!(rt; answer, status);
         assert_eq!(rt; written.as_slice(), output);
         assert_eq!(rt; told.as_slice(), errors);
+        assert_eq!(rt; input.reads, reads);
     }
     Ok(())
 }
 
-/// A reader that gives at most 14 bytes a read.
-#[derive(Drop)]
-struct AFew<'a> {
-    left: &'a [u8],
-}
-
-impl Read for AFew<'_> {
-    fn read(&mut self, buf: &mut [u8]) -> io::Result<usize> {
-        let n = self.left.len().min(buf.len()).min(14);
-        buf[..n].copy_from_slice(&self.left[..n]);
-        self.left = &self.left[n..];
-        Ok(n)
+// A line on the error output, one byte a write, up to a write that fails. It is not flushed.
+#[test]
+fn errors(rt: HostRuntime) -> Result<(), Fail> {
+    for (room, kept) in [(100, USAGE), (10, &USAGE[..10])] {
+        let mut told = Narrow::new(rt.alloc(), room);
+        let mut written = Vec::new(rt.alloc());
+        let answer = command(
+            rt.alloc(),
+            &[],
+            &mut b"".as_slice(),
+            &mut written,
+            &mut told,
+        );
+        assert_eq!(rt; answer, 2);
+        assert_eq!(rt; told.kept.as_slice(), kept);
+        assert_eq!(rt; told.flushed, 0);
     }
+    Ok(())
 }
 
 // What `show` prints of what `relay` wrote of a session.
@@ -308,7 +260,7 @@ fn pieces(rt: HostRuntime) -> Result<(), Fail> {
     stream.extend_from_slice(START)?;
     stream.push(b'b')?;
     let words: [&str; 3] = ["show", "1", "1"];
-    let mut input = AFew { left: &stream };
+    let mut input = Few::new(&stream, 14);
     let mut written = Vec::new(rt.alloc());
     let mut told = Vec::new(rt.alloc());
     let answer = command(rt.alloc(), &words, &mut input, &mut written, &mut told);
@@ -493,19 +445,17 @@ fn far_screens(rt: HostRuntime) -> Result<(), Fail> {
 
 #[test]
 fn writers(rt: HostRuntime) -> Result<(), Fail> {
-    let rows: [(&str, &[u8], usize, bool, u8, usize); 5] = [
-        ("relay", b"hi", 100, true, 0, 48),
-        ("relay", b"hi", 10, true, 1, 10),
-        ("relay", b"hi", 100, false, 1, 48),
-        ("show", HI, 1, true, 1, 1),
-        ("show", HI, 100, true, 0, 4),
+    let rows: [(&str, &[u8], usize, bool, u8, usize, u64); 6] = [
+        ("relay", b"hi", 100, true, 0, 48, 1),
+        ("relay", b"hi", 10, true, 1, 10, 0),
+        ("relay", b"hi", 100, false, 1, 48, 1),
+        ("show", HI, 1, true, 1, 1, 0),
+        ("show", HI, 100, true, 0, 4, 1),
+        ("show", HI, 100, false, 1, 4, 1),
     ];
-    for (job, input, room, flushes, status, taken) in rows {
-        let mut written = Narrow {
-            kept: Vec::new(rt.alloc()),
-            room,
-            flushes,
-        };
+    for (job, input, room, flushes, status, taken, flushed) in rows {
+        let mut written = Narrow::new(rt.alloc(), room);
+        written.flushes = flushes;
         let mut told = Vec::new(rt.alloc());
         let mut left = input;
         let answer = command(
@@ -517,12 +467,28 @@ fn writers(rt: HostRuntime) -> Result<(), Fail> {
         );
         assert_eq!(rt; answer, status);
         assert_eq!(rt; written.kept.len(), taken);
+        assert_eq!(rt; written.flushed, flushed);
         let line: &[u8] = if status == 0 {
             b""
         } else {
             b"screenrelay: write\n"
         };
         assert_eq!(rt; told.as_slice(), line);
+    }
+    Ok(())
+}
+
+#[test]
+fn texts_of_faults(rt: HostRuntime) -> Result<(), Fail> {
+    let faults = [
+        (RelayError::Read, "read"),
+        (RelayError::Write, "write"),
+        (RelayError::Memory, "memory"),
+        (RelayError::TooManyReads, "too many reads"),
+    ];
+    for (fault, want) in faults {
+        let text = format!(in rt.alloc(); "{fault}")?;
+        assert_eq!(rt; text.as_str(), want);
     }
     Ok(())
 }

@@ -1,10 +1,10 @@
 //! The words of the command line.
 
-ghost use Rattle.std.specs.Prelude.{◌≡◌, ◌&&◌, ℕ, map, Option, None, Some, nat_le, length};
+ghost use Rattle.std.specs.Prelude.{◌≡◌, map};
 ghost use Rattle.std.specs.Option.{option_map};
-ghost use Rattle.std.specs.Str.{all_ascii_digits};
-ghost use Rattle.screenrelay.specs.Words.{Order as OrderView, job_of, size_of, order_of};
+ghost use Rattle.screenrelay.specs.Words.{job_of, order_of};
 
+use command_line::parse_size;
 use std::num::NonZeroU16;
 
 /// What the program is asked to do.
@@ -49,31 +49,4 @@ fn parse_job(word: &str) -> Option<Job>
     } else {
         None
     }
-}
-
-// 1 to 5 ASCII digits whose value is 1 to 65,535.
-fn parse_size(word: &str) -> Option<NonZeroU16>
-    ensures { option_map (λ n. n.value) result ≡ size_of word.now }
-{
-    if !is_short_number(word) {
-        return None;
-    }
-    match word.parse::<u16>() {
-        Ok(value) => NonZeroU16::new(value),
-        Err(_) => None,
-    }
-}
-
-fn is_short_number(word: &str) -> bool
-    ensures { result ≡ (nat_le (length word.now) 5 && all_ascii_digits word.now) }
-{
-    if word.len() > 5 {
-        return false;
-    }
-    for b in word.as_bytes() {
-        if !b.is_ascii_digit() {
-            return false;
-        }
-    }
-    true
 }

@@ -1,10 +1,10 @@
 -- Texts that a writer takes one after another.
-use Rattle.std.proofs.Common.{◌≡◌, ◌≤◌, ◌+◌, ℕ, List, [], ◌++◌, length, take, drop, min, Option, Some, None}
-use Rattle.std.proofs.Common.{sym, ap, ◌∙◌, append_assoc, arith, length-drop, subst}
+use Rattle.std.proofs.Common.{◌≡◌, ◌≤◌, ◌<◌, ◌+◌, ℕ, List, [], ◌++◌, length, take, drop, min, Option, Some, None}
+use Rattle.std.proofs.Common.{sym, ap, ◌∙◌, append_assoc, arith, length-drop, length-append, subst}
 use Rattle.std.proofs.lemmas.List.{append-nil, take_all, take-append-le}
 use Rattle.std.proofs.Math.Seq.{take-add, take-append-add, take-append_seam}
 use Rattle.std.specs.Io.KnownBytes.{Appends}
-use Rattle.takers.specs.Output.{TakesFront}
+use Rattle.takers.specs.Output.{TakesFront, TakesPart}
 
 pub Appends-more : (a b c : Option (List ℕ)) (xs ys : List ℕ) → Appends a b xs → Appends b c ys → Appends a c (xs ++ ys)
 Appends-more None b c xs ys h k = tt
@@ -48,3 +48,18 @@ pub TakesFront-then : (a b c : Option (List ℕ)) (xs ys : List ℕ) → Appends
     → TakesFront a c (xs ++ ys)
 TakesFront-then a b c xs ys whole front =
     subst (λ (zs : List ℕ). TakesFront a c (xs ++ zs)) (append-nil ys) (TakesFront-after a b c xs ys [] whole front)
+
+-- a part of a text is one of a longer text
+pub TakesPart-longer : (a b : Option (List ℕ)) (xs ys : List ℕ) → TakesPart a b xs → TakesPart a b (xs ++ ys)
+TakesPart-longer a b xs ys (n, less, part) =
+    let same : take n xs ≡ take n (xs ++ ys) = sym (take-append-le n xs ys (omega arith)) in
+    (n, omega (arith, length-append xs ys), rw same at part)
+
+-- a text was taken whole, and a part of the one after it
+pub TakesPart-then : (a b c : Option (List ℕ)) (xs ys : List ℕ) → Appends a b xs → TakesPart b c ys
+    → TakesPart a c (xs ++ ys)
+TakesPart-then a b c xs ys whole (n, less, part) = (
+  length xs + n,
+  omega (arith, length-append xs ys),
+  rw (take-append-add xs ys n) (Appends-more a b c xs (take n ys) whole part),
+)

@@ -1,15 +1,24 @@
 -- Texts that are pumped one after another.
-use Rattle.std.proofs.Common.{◌≡◌, ◌∙◌, ℕ, List, [], ◌++◌, take, drop, Option, Ok, Err, Result, sym, ap}
+use Rattle.std.proofs.Common.{◌≡◌, ◌≢◌, ◌∙◌, ◌∷◌, refl, ℕ, ◌+◌, ◌-◌, ◌<◌, List, [], ◌++◌, take, drop, length, min, Option, Ok, Err}
+use Rattle.std.proofs.Common.{Result, sym, ap, append_assoc, arith, length-append, length-drop}
 use Rattle.std.proofs.Common.{subst, append-nil, take-append-drop}
 use Rattle.std.specs.List.{concat}
 use Rattle.std.specs.Io.KnownBytes.{Appends}
 use Rattle.std.specs.declared.io.Error.{Error}
 use Rattle.takers.specs.Pump.{Pumps, Writes, all, nothing, fault, some}
 use Rattle.takers.proofs.PumpLaws.{takes-all, appends-front}
-use Rattle.takers.specs.Output.{TakesFront}
+use Rattle.takers.specs.Output.{TakesFront, TakesPart}
 use Rattle.takers.specs.Sent as sent
-use Rattle.takers.specs.Sent.{Sends}
+use Rattle.takers.specs.Sent.{Sends, SendsText, done, part, broken}
 use Rattle.takers.proofs.AppendLemmas.{Appends-more, Appends-none, TakesFront-none, TakesFront-then}
+use Rattle.takers.proofs.AppendLemmas.{TakesPart-longer, TakesPart-then, TakesFront-longer}
+
+some-length : (xs : List ℕ) → xs ≢ [] → 0 < length xs
+some-length [] ne = absurd (ne refl)
+some-length (x ∷ xs) ne = omega arith
+
+abbrev pub bad : Error → Result (Unit {0}) Error
+bad e = Err e
 
 abbrev pub well : Result (Unit {0}) Error
 well = Ok tt
@@ -23,6 +32,45 @@ module _ (W : Type 0) (takes : W → List ℕ → Result ℕ Error → W → Typ
   sends-more w m v texts more first answer (sent.next {texts = others} k pumps rest) is after =
       sent.next k pumps (sends-more k m v others more first answer rest is after)
   sends-more w m v texts more first answer (sent.fault pumps) is after = absurd (cc)
+
+  -- a text after one that was sent whole
+  pub text-more : (w m v : W) (text more : List ℕ) (first answer : Result (Unit {0}) Error)
+      → SendsText takes w text first m → first ≡ well → SendsText takes m more answer v
+      → SendsText takes w (text ++ more) answer v
+  text-more w m v text more first answer done is after = after
+  text-more w m v text more first answer (part {text = one} {rest = others} k pumps rest) is after =
+      subst (λ (xs : List ℕ). SendsText takes w xs answer v) (sym (append_assoc one others more))
+      (part k pumps (text-more k m v others more first answer rest is after))
+  text-more w m v text more first answer (broken others pumps) is after = absurd (cc)
+
+  -- where a pump failed there may be more of the text
+  pub text-broken : (w v : W) (text more : List ℕ) (answer : Result (Unit {0}) Error) (e : Error)
+      → SendsText takes w text answer v → answer ≡ bad e → SendsText takes w (text ++ more) answer v
+  text-broken w v text more answer e done is = absurd (cc)
+  text-broken w v text more answer e (part {text = one} {rest = others} k pumps rest) is =
+      subst (λ (xs : List ℕ). SendsText takes w xs answer v) (sym (append_assoc one others more))
+      (part k pumps (text-broken k v others more answer e rest is))
+  text-broken w v text more answer e (broken {text = one} {e = f} others pumps) is =
+      subst (λ (xs : List ℕ). SendsText takes w xs (Err f) v) (sym (append_assoc one others more)) (broken (others ++ more) pumps)
+
+  -- one pump
+  pub text-pumped : (w v : W) (text : List ℕ) (n : ℕ) → Pumps takes w text well n v → SendsText takes w text well v
+  text-pumped w v text n pumps =
+      subst (λ (xs : List ℕ). SendsText takes w xs well v) (append-nil text) (part v pumps done)
+
+  pub text-failed : (w v : W) (text : List ℕ) (e : Error) (n : ℕ) → Pumps takes w text (bad e) n v
+      → SendsText takes w text (bad e) v
+  text-failed w v text e n pumps =
+      subst (λ (xs : List ℕ). SendsText takes w xs (bad e) v) (append-nil text) (broken [] pumps)
+
+  -- a pump that fails has not taken all
+  failed-part : (s : W) (owed : List ℕ) (answer : Result (Unit {0}) Error) (e : Error) (n : ℕ) (t : W)
+      → Pumps takes s owed answer n t → answer ≡ bad e → n < length owed
+  failed-part s owed answer e n t all is = absurd (cc)
+  failed-part s owed answer e n t (nothing ne step kind) is = some-length owed ne
+  failed-part s owed answer e n t (fault ne step) is = some-length owed ne
+  failed-part s owed answer e n t (some m k j ne pos step rest) is =
+      omega (arith, failed-part m (drop k owed) answer e j t rest is, length-drop k owed)
 
   module _ (contents : W → Option (List ℕ)) (tells : (s : W) (bytes : List ℕ) (answer : Result ℕ Error) (t : W)
       → takes s bytes answer t → Writes contents s bytes answer t) where
@@ -64,3 +112,30 @@ module _ (W : Type 0) (takes : W → List ℕ → Result ℕ Error → W → Typ
     sends-front w v texts answer (sent.fault {text = text} {e = e} {n = n} pumps) =
         subst (TakesFront (contents w) (contents v)) (sym (append-nil text))
         (n, pumped-front w text (Err e) n v pumps)
+
+    pub text-appends : (w v : W) (text : List ℕ) (answer : Result (Unit {0}) Error)
+        → SendsText takes w text answer v → answer ≡ well → Appends (contents w) (contents v) text
+    text-appends w v text answer done is = Appends-none (contents w)
+    text-appends w v text answer (part {text = one} {rest = others} {n = n} m pumps rest) is =
+        Appends-more (contents w) (contents m) (contents v) one others (pumped-whole w one n m pumps)
+        (text-appends m v others answer rest is)
+    text-appends w v text answer (broken others pumps) is = absurd (cc)
+
+    pub text-part : (w v : W) (text : List ℕ) (answer : Result (Unit {0}) Error) (e : Error)
+        → SendsText takes w text answer v → answer ≡ bad e → TakesPart (contents w) (contents v) text
+    text-part w v text answer e done is = absurd (cc)
+    text-part w v text answer e (part {text = one} {rest = others} {n = n} m pumps rest) is =
+        TakesPart-then (contents w) (contents m) (contents v) one others (pumped-whole w one n m pumps)
+        (text-part m v others answer e rest is)
+    text-part w v text answer e (broken {text = one} {e = f} {n = n} others pumps) is =
+        TakesPart-longer (contents w) (contents v) one others
+        (n, failed-part w one (bad f) f n v pumps refl, pumped-front w one (bad f) n v pumps)
+
+    pub text-front : (w v : W) (text : List ℕ) (answer : Result (Unit {0}) Error)
+        → SendsText takes w text answer v → TakesFront (contents w) (contents v) text
+    text-front w v text answer done = TakesFront-none (contents w) []
+    text-front w v text answer (part {text = one} {rest = others} {n = n} m pumps rest) =
+        TakesFront-then (contents w) (contents m) (contents v) one others (pumped-whole w one n m pumps)
+        (text-front m v others answer rest)
+    text-front w v text answer (broken {text = one} {e = f} {n = n} others pumps) =
+        TakesFront-longer (contents w) (contents v) one others (n, pumped-front w one (bad f) n v pumps)

@@ -21,3 +21,7 @@ pub data Pumps {S : Type 0} (step : S → List ℕ → Result ℕ Error → S �
 -- what std promises of one write of a writer whose known bytes are these
 abbrev pub Writes : {W : Type 0} → (W → Option (List ℕ)) → W → List ℕ → Result ℕ Error → W → Type 0
 Writes contents s bytes answer t = WriteAppends (contents s) (contents t) answer bytes
+
+-- a line was pumped, whatever the pump answered: all of it was taken, unless a write failed or took nothing
+abbrev pub Tells : {S : Type 0} → (S → List ℕ → Result ℕ Error → S → Type 0) → S → List ℕ → S → Type 0
+Tells step s line t = (answer : Result (Unit {0}) Error) × (n : ℕ) × Pumps step s line answer n t

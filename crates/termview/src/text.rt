@@ -1,24 +1,22 @@
 //! Writing the text of a row.
-ghost use Rattle.std.specs.Prelude.{◌≡◌, ◌≤◌, ◌+◌, ℕ, List, length, OnOk, OnErr, encode_utf8_all};
-ghost use Rattle.std.specs.Io.KnownBytes.{Appends};
+ghost use Rattle.std.specs.Prelude.{◌≡◌, ◌≤◌, ℕ, List, length, encode_utf8_all};
+ghost use Rattle.takers.specs.Sent.{SendsText};
 ghost use Rattle.vt100_cells.specs.Cells.{cell_at};
 ghost use Rattle.vt100_rows.specs.Text.{column_text, columns_text, line_text};
-ghost use Rattle.termview.specs.Writing.{TakesPart, cell_text};
+ghost use Rattle.termview.specs.Writing.{cell_text};
 
 use std::io;
-use std::io::{ErrorKind, Write};
+use takers::{Taker, pump};
 use vt100_cells::Cell;
 use vt100_cells::line::at;
 
-/// Writes what the cells show, without the empty ones at their end. Any fault of a write ends it.
-pub(crate) fn write_cells<W: Write>(cells: &[Cell], to: &mut W) -> io::Result<()>
-    ensures whole { OnOk result (Appends (W.contents to.old) (W.contents to.new)
-        (encode_utf8_all (line_text (cell_at cells.now) 0 (length cells.now)))) }
-    ensures part { OnErr result (TakesPart (W.contents to.old) (W.contents to.new)
-        (encode_utf8_all (line_text (cell_at cells.now) 0 (length cells.now)))) }
+/// Writes what the cells show, without the empty ones at their end: a pump for each cell. Any fault of a write ends it.
+pub(crate) fn write_cells<T: Taker>(cells: &[Cell], to: &mut T) -> io::Result<()>
+    ensures { SendsText T.takes to.old (encode_utf8_all (line_text (cell_at cells.now) 0 (length cells.now))) result
+        to.new }
 {
     for col in 0..text_len(cells) {
-        write_whole(to, cell_text(at(cells, col), col == 0).as_bytes())?;
+        pump(cell_text(at(cells, col), col == 0).as_bytes(), to).1?;
     }
     Ok(())
 }
@@ -49,20 +47,4 @@ fn cell_text(cell: &Cell, is_first: bool) -> &str
     } else {
         " "
     }
-}
-
-/// Writes the text. Any failed write ends it, an interrupted one too, and so does a write that takes nothing; what was
-/// taken by then stays written.
-fn write_whole<W: Write>(to: &mut W, text: &[u8]) -> io::Result<()>
-    ensures whole { OnOk result (Appends (W.contents to.old) (W.contents to.new) text.now) }
-    ensures part { OnErr result (TakesPart (W.contents to.old) (W.contents to.new) text.now) }
-{
-    let mut sent = 0;
-    while sent < text.len() {
-        match to.write(&text[sent..])? {
-            0 => return Err(ErrorKind::WriteZero.into()),
-            n => sent += n,
-        }
-    }
-    Ok(())
 }

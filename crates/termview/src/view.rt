@@ -1,11 +1,10 @@
 //! A far terminal.
-ghost use Rattle.std.specs.Prelude.{◌≡◌, ℕ, List, [], Option, Some, None, false, length, IfOk, OnErr, OnOk, Err};
+ghost use Rattle.std.specs.Prelude.{◌≡◌, ℕ, List, [], Option, Some, None, false, length, IfOk, OnErr, Err};
 ghost use Rattle.std.specs.Prelude.{encode_utf8_all, ◌++◌, ◌≤◌};
 ghost use Rattle.std.specs.Option.{option_copied};
-ghost use Rattle.std.specs.Io.KnownBytes.{Appends};
+ghost use Rattle.takers.specs.Sent.{SendsText};
 ghost use Rattle.vt100_forms.specs.Attrs.{is_bold, is_dim, is_italic, is_underlined, is_inverse};
 ghost use Rattle.termview.specs.Seen.{cell_shown, text_shown};
-ghost use Rattle.termview.specs.Writing.{TakesPart};
 ghost use Rattle.termview.specs.declared.error.ViewError.TheVariants.{Memory};
 
 use crate::error::ViewError;
@@ -13,8 +12,8 @@ use crate::picture::Picture;
 use crate::text::write_cells;
 use std::alloc::Global;
 use std::io;
-use std::io::Write;
 use std::num::NonZeroU16;
+use takers::Taker;
 use vt100_cells::Cell;
 use vt100_forms::{Color, CursorStyle, MouseProtocolEncoding, MouseProtocolMode};
 use vt100_sheet::Size;
@@ -122,12 +121,11 @@ impl<T: Timeout> View<T> {
     }
 
     /// Writes the row's text, as UTF-8 and without the empty columns at its end; nothing past the last row. Any fault
-    /// of a write ends it, and so does a write that takes nothing; what was taken by then stays written.
-    pub fn row_text<W: Write>(&self, row: u16, to: &mut W) -> io::Result<()>
-        ensures whole { OnOk result (Appends (W.contents to.old) (W.contents to.new)
-            (encode_utf8_all (text_shown (size_of self.now) (shown_by self.now) row))) }
-        ensures part { OnErr result (TakesPart (W.contents to.old) (W.contents to.new)
-            (encode_utf8_all (text_shown (size_of self.now) (shown_by self.now) row))) }
+    /// of a write ends it, and so does a write that takes nothing, and nothing else does; what was taken by then stays
+    /// written.
+    pub fn row_text<W: Taker>(&self, row: u16, to: &mut W) -> io::Result<()>
+        ensures { SendsText W.takes to.old (encode_utf8_all (text_shown (size_of self.now) (shown_by self.now) row))
+            result to.new }
     {
         write_cells(self.picture.row_cells(row), to)
     }

@@ -4,6 +4,7 @@ use std::alloc::Global;
 use std::io;
 use std::io::{ErrorKind, Write};
 use std::test::Fail;
+use termview::ViewError;
 
 /// A writer that keeps what it takes, a byte at a time, and fails so once its room is used up.
 #[derive(Drop)]
@@ -85,5 +86,12 @@ fn faults_of_writers(rt: HostRuntime) -> Result<(), Fail> {
         let kept = to.kept.as_slice();
         assert_eq!(rt; (kind, kept), (*wanted, &b"hi"[..*room]), "{room}");
     }
+    Ok(())
+}
+
+#[test]
+fn text_of_the_refusal(rt: HostRuntime) -> Result<(), Fail> {
+    let text = format!(in rt.alloc(); "{}", ViewError::Memory)?;
+    assert_eq!(rt; text.as_str(), "out of memory");
     Ok(())
 }

@@ -1,20 +1,28 @@
-use Rattle.std.proofs.Common.{◌++◌, ◌+◌, ◌-◌, ◌∙◌, append_assoc, arith, sym}
+use Rattle.std.proofs.Common.{◌≡◌, ◌++◌, ◌+◌, ◌-◌, ◌∙◌, [], Ok, Err, append_assoc, append-nil, arith, sym, refl, rules}
+use Rattle.takers.specs.Sent.{done}
+use Rattle.takers.proofs.SendLemmas.{text-more, text-broken}
 use Rattle.termview.specs.Standing.{shown_by, size_of}
 use Rattle.relay_streams.specs.Shown.{row_line, rows_text}
-use Rattle.takers.proofs.AppendLemmas.{TakesFront-after, TakesFront-part, Appends-more}
 use Rattle.relay_streams.proofs.OutputLemmas.{rows-next}
 use Rattle.relay_streams.proofs.showing.write_view.Goals as goal
 
-pub returns-in_err-write_row-clause-front : goal.returns-in_err-write_row-clause-front
-returns-in_err-write_row-clause-front g c =
+pub loop-row-init : goal.loop-row-init
+loop-row-init g c = record { written = []; sent = done; follows = search rules }
+
+pub returns-in_err-write_row : goal.returns-in_err-write_row
+returns-in_err-write_row g c =
     let so_far = c.loop-row.invariant in
     let z = size_of c.args.view.now in
     let t = (shown_by c.args.view.now).cell in
     let row = c.loop-row.row in
     let end = c.get-row-end.result in
     let next = rows-next z t so_far.written row (end - row) (end - (row + 1)) so_far.follows (omega arith) in
-    rw next (TakesFront-after _ _ _ so_far.written (row_line z t row) (rows_text z t (row + 1) (end - (row + 1)))
-    so_far.took c.write_row.ensures.front)
+    let e = c.in_err-write_row.field-0.0 in
+    let is : c.from_residual.result ≡ Err e = search rules in
+    rw (next, is) (text-more g.row.T.Denot g.T.Taker.takes _ _ _ so_far.written
+    (row_line z t row ++ rows_text z t (row + 1) (end - (row + 1))) (Ok tt) (Err e) so_far.sent refl
+    (text-broken g.row.T.Denot g.T.Taker.takes _ _ (row_line z t row) (rows_text z t (row + 1) (end - (row + 1)))
+    (Err e) e c.in_err-write_row.ensures refl))
 
 pub loop-row-preserved : goal.loop-row-preserved
 loop-row-preserved g c =
@@ -26,11 +34,12 @@ loop-row-preserved g c =
     let next = rows-next z t so_far.written row (end - row) (end - (row + 1)) so_far.follows (omega arith) in
     record {
       written = so_far.written ++ row_line z t row;
-      took = Appends-more _ _ _ so_far.written (row_line z t row) so_far.took c.in_ok-write_row.ensures.whole;
+      sent = text-more g.row.T.Denot g.T.Taker.takes _ _ _ so_far.written (row_line z t row) (Ok tt) (Ok tt)
+          so_far.sent refl c.in_ok-write_row.ensures;
       follows = next ∙ sym (append_assoc so_far.written (row_line z t row) (rows_text z t (row + 1) (end - (row + 1))));
     }
 
-pub returns-clause-front : goal.returns-clause-front
-returns-clause-front g c =
+pub returns : goal.returns
+returns g c =
     let so_far = c.loop-row.invariant in
-    rw so_far.follows (TakesFront-part _ _ so_far.written _ so_far.took)
+    rw (so_far.follows, append-nil so_far.written) so_far.sent

@@ -1,0 +1,48 @@
+//! The words after a program's name.
+
+ghost use Rattle.std.specs.Prelude.{◌≡◌, ◌≢◌, [], map, drop, IfOk, IfErr, OnErr, Err};
+ghost use Rattle.std.specs.IoError.{error_kind};
+ghost use Rattle.std.specs.String.{string_bytes};
+ghost use Rattle.std.specs.Vec.{vec_items};
+ghost use Rattle.std.specs.Vec.Iter.{into_iter_items};
+ghost use Rattle.std.specs.declared.io.ErrorKind.TheVariants.{InvalidData};
+
+use std::alloc::{AllocError, Global};
+use std::env::Args;
+use std::io;
+use std::io::ErrorKind;
+
+/// The words after a program's name, from what [`args`](std::env::args) answers.
+///
+/// A word that isn't UTF-8 leaves none, so that no command line with one is understood. Memory may be refused; any
+/// other fault is handed back.
+pub fn words_of(alloc: Global, args: io::Result<Args>) -> io::Result<Vec<String>>
+    ensures words { IfOk args (λ all. IfOk result (λ words. vec_items words ≡ drop 1 (into_iter_items all))) }
+    ensures not_text { IfErr args (λ e. error_kind e ≡ InvalidData → IfOk result (λ words. vec_items words ≡ [])
+        × OnErr result ⊥) }
+    ensures other { IfErr args (λ e. error_kind e ≢ InvalidData → result ≡ Err e) }
+{
+    match args {
+        Ok(args) => Ok(after_first(alloc, args)?),
+        Err(error) if error.kind() == ErrorKind::InvalidData => Ok(Vec::new(alloc)),
+        Err(error) => Err(error),
+    }
+}
+
+// All but the first one.
+fn after_first(alloc: Global, args: Args) -> Result<Vec<String>, AllocError>
+    ensures { IfOk result (λ words. vec_items words ≡ drop 1 (into_iter_items args)) }
+{
+    args.skip(1).collect(alloc)
+}
+
+/// The words, lent.
+pub fn lend<'a>(alloc: Global, words: &'a [String]) -> Result<Vec<&'a str>, AllocError>
+    ensures { IfOk result (λ lent. map (λ w. w.now) (vec_items lent) ≡ map string_bytes words.now) }
+{
+    let mut lent = Vec::new(alloc);
+    for word in words {
+        lent.push(word.as_str())?;
+    }
+    Ok(lent)
+}

@@ -1,0 +1,11 @@
+//! What the command lines of this repository's programs have in common: their words, the numbers among them, the exit
+//! statuses, and the line on the error output.
+#![tactic(auto)]
+
+mod args;
+mod numbers;
+mod reporting;
+
+pub use args::{lend, words_of};
+pub use numbers::{parse_count, parse_size};
+pub use reporting::{FAULT, SUCCESS, USAGE, report};

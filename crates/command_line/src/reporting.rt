@@ -1,0 +1,21 @@
+//! Exit statuses, and what is told on the error output.
+
+ghost use Rattle.takers.specs.Pump.{Tells};
+
+use takers::{Taker, pump};
+
+/// The exit status of a command that did its work.
+pub const SUCCESS: u8 = 0;
+
+/// The exit status of a command that ended at a fault.
+pub const FAULT: u8 = 1;
+
+/// The exit status of a command line that isn't understood.
+pub const USAGE: u8 = 2;
+
+/// Writes a line: all of it, unless a write of it fails or takes nothing.
+pub fn report<T: Taker>(errors: &mut T, line: &[u8])
+    ensures { Tells T.takes errors.old line.now errors.new }
+{
+    let _ = pump(line, errors);
+}

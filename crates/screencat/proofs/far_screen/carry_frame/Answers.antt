@@ -1,0 +1,26 @@
+use Rattle.std.proofs.Common.{◌≡◌, ℕ, List, [], ◌∷◌, ◌++◌, Some, ap, subst, sym}
+use Rattle.std.specs.List.{concat}
+use Rattle.takers.specs.Pump.{Writes}
+use Rattle.relay_streams.specs.Frames.{asked}
+use Rattle.relay_streams.proofs.TurnLemmas.{piece-fed, frame-asked, turn-ends}
+use Rattle.screencat.specs.Carried.{Carries}
+use Rattle.screencat.proofs.CarryLemmas.{holds-all}
+use Rattle.screencat.proofs.far_screen.carry_frame.Goals as goal
+
+pub returns : goal.returns
+returns c = λ rows cols past base at.
+    let piece = c.args.piece.now in
+    let pieces : List (List ℕ) = past ++ piece ∷ [] in
+    let h = c.feed.new.self in
+    let k = c.frame.new.self in
+    let g = c.pump.new.self in
+    let key = c.args.client in
+    let line = c.pump.new.to in
+    let owed = (asked rows cols (concat pieces) base).owed in
+    let fed = piece-fed rows cols past piece base c.args.hub.now h key at c.in_ok-feed.ensures in
+    let made = frame-asked rows cols pieces base h k key c.in_ok-frame.field-0 fed c.in_ok-frame.ensures in
+    let turned = turn-ends _ _ rows cols pieces base h k g key c.new.result line fed made c.in_ok-pump.ensures in
+    let whole : line.items ≡ owed =
+    holds-all _ (λ v. Some v.items) c.new.result line owed line.items turned.0.0 turned.0.1
+    (ap (λ xs. Some xs) c.new.ensures.items) refl in
+    (subst (λ (xs : List ℕ). Carries c.args.view.now xs c.read_line.new.view) whole c.read_line.ensures, turned.1)

@@ -1,0 +1,70 @@
+use Rattle.std.proofs.Common.{◌≡◌, ℕ, List, [], ◌∷◌, ◌++◌, take, length, arith}
+use Rattle.relay_streams.specs.Frames.{base_of}
+use Rattle.relay_streams.specs.Pieces.{piece_len}
+use Rattle.relay_streams.proofs.PieceLemmas.{none_read, filled_most, filled_on, filled_last}
+use Rattle.screencat.proofs.CarryLemmas.{carries-none, carries-on, relays-on}
+use Rattle.screencat.proofs.far_screen.carry_frames.Goals as goal
+
+pub pieces-init : goal.pieces-init
+pieces-init g c = record {
+  most = omega arith;
+  past = [];
+  read = none_read g.row.S.Denot g.S.Source.gives piece_len c.args.input.now;
+  at = λ rows cols at. at;
+  carried = λ rows cols at. carries-none c.args.view.now;
+}
+
+pub returns-then-n-lt-PIECE_LEN : goal.returns-then-n-lt-PIECE_LEN
+returns-then-n-lt-PIECE_LEN g c =
+    let so_far = c.pieces.invariant in
+    let whole : length c.pieces.piece ≡ piece_len = omega (arith, c.fill.auto.piece) in
+    let f = rw whole at c.fill.ensures in
+    let n = c.in_ok-n.n in
+    let piece : List ℕ = take n c.fill.new.piece in (
+      so_far.past ++ piece ∷ [],
+      filled_last g.row.S.Denot g.S.Source.gives piece_len c.args.input.now c.pieces.input c.fill.new.input
+          c.pieces.reads c.fill.new.reads so_far.past c.fill.new.piece c.fill.result f n c.in_ok-n.was
+          (omega arith) so_far.read,
+      λ rows cols at.
+          let brought = c.in_ok-carry_frame.ensures rows cols so_far.past (base_of rows cols so_far.past)
+          (so_far.at rows cols at) in
+          carries-on rows cols so_far.past piece c.args.view.now c.pieces.view c.carry_frame.new.view
+          (so_far.carried rows cols at) brought.0,
+    )
+
+pub pieces-preserved : goal.pieces-preserved
+pieces-preserved g c =
+    let so_far = c.pieces.invariant in
+    let whole : length c.pieces.piece ≡ piece_len = omega (arith, c.fill.auto.piece) in
+    let f = rw whole at c.fill.ensures in
+    let n = c.in_ok-n.n in
+    let piece : List ℕ = take n c.fill.new.piece in
+    let most = filled_most g.row.S.Denot g.S.Source.gives piece_len c.args.input.now c.pieces.input c.fill.new.input
+    c.pieces.reads c.fill.new.reads so_far.past c.fill.new.piece c.fill.result f n c.in_ok-n.was
+    (omega arith) in
+    record {
+      most = most.0;
+      past = so_far.past ++ piece ∷ [];
+      read = filled_on g.row.S.Denot g.S.Source.gives piece_len c.args.input.now c.pieces.input c.fill.new.input
+          c.pieces.reads c.fill.new.reads so_far.past c.fill.new.piece c.fill.result f n c.in_ok-n.was
+          (omega arith) so_far.read;
+      at = λ rows cols at.
+          let brought = c.in_ok-carry_frame.ensures rows cols so_far.past (base_of rows cols so_far.past)
+          (so_far.at rows cols at) in
+          relays-on rows cols so_far.past piece c.carry_frame.new.hub c.args.client brought.1;
+      carried = λ rows cols at.
+          let brought = c.in_ok-carry_frame.ensures rows cols so_far.past (base_of rows cols so_far.past)
+          (so_far.at rows cols at) in
+          carries-on rows cols so_far.past piece c.args.view.now c.pieces.view c.carry_frame.new.view
+          (so_far.carried rows cols at) brought.0;
+    }
+
+pub pieces-smaller : goal.pieces-smaller
+pieces-smaller g c =
+    let so_far = c.pieces.invariant in
+    let whole : length c.pieces.piece ≡ piece_len = omega (arith, c.fill.auto.piece) in
+    let f = rw whole at c.fill.ensures in
+    let most = filled_most g.row.S.Denot g.S.Source.gives piece_len c.args.input.now c.pieces.input c.fill.new.input
+    c.pieces.reads c.fill.new.reads so_far.past c.fill.new.piece c.fill.result f c.in_ok-n.n c.in_ok-n.was
+    (omega arith) in
+    omega (arith, most.0, most.1)

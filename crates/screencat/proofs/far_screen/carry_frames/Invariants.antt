@@ -1,0 +1,24 @@
+use Rattle.std.proofs.Common.{◌≤◌, ◌-◌, List, [], ℕ, None}
+use Rattle.std.specs.List.{concat}
+use Rattle.relay_streams.specs.Fill.{max_reads}
+use Rattle.relay_streams.specs.Frames.{frames_of, base_of}
+use Rattle.relay_streams.specs.Pieces.{piece_len}
+use Rattle.relay_streams.specs.Turns.{Relaying}
+use Rattle.relay_streams.proofs.PieceLemmas.{DrainsOn}
+use Rattle.screencat.specs.Carried.{Carries}
+use Rattle.screencat.proofs.far_screen.carry_frames.Given as goal
+
+-- the pieces that were read so far were fed, and their frames reached the view
+abbrev pub invariant-pieces : goal.invariant-pieces
+invariant-pieces g l = record {
+  most : l.reads ≤ max_reads;
+  past : List (List ℕ);
+  read : DrainsOn g.S.Source.gives piece_len l.fn.input l.input l.reads past;
+  at : (rows cols : ℕ) → Relaying rows cols [] None l.fn.hub l.fn.client
+      → Relaying rows cols past (base_of rows cols past) l.hub l.fn.client;
+  carried : (rows cols : ℕ) → Relaying rows cols [] None l.fn.hub l.fn.client
+      → Carries l.fn.view (concat (frames_of rows cols past)) l.view;
+}
+
+abbrev pub decreases-pieces : goal.decreases-pieces
+decreases-pieces g l = max_reads - l.reads

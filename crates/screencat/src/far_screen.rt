@@ -1,0 +1,96 @@
+//! A program's screen, carried to a far terminal and printed there.
+
+ghost use Rattle.std.specs.Prelude.{ℕ, ◌++◌, ◌∷◌, [], List, Option, None, OnOk, IfSome};
+ghost use Rattle.std.specs.List.{concat};
+ghost use Rattle.std.specs.Io.KnownBytes.{Appends};
+ghost use Rattle.vt100_picture.specs.Term.{Shown};
+ghost use Rattle.relay_streams.specs.Frames.{asked, frames_of};
+ghost use Rattle.relay_streams.specs.Pieces.{Drained, piece_len};
+ghost use Rattle.relay_streams.specs.Turns.{Relaying};
+ghost use Rattle.screencat.specs.Carried.{Carries, IsFarText};
+
+use relay_streams::{PIECE_LEN, RelayError, Sink, Source, fill, print_view};
+use std::alloc::Global;
+use std::num::NonZeroU16;
+use termrelay::{Client, Hub};
+use termview::laws::until_cleared_is_exact;
+use termview::{UntilCleared, View};
+
+/// How many bytes of a frame reach the far terminal at a time: few, so that every form is cut somewhere.
+const STEP: usize = 7;
+
+/// Reads a program's output to its end, and writes the rows of the screen that it makes, as a far terminal of this size
+/// shows them, with a newline each. Then the output is flushed.
+///
+/// Nothing is written before the input has ended. What was written when a fault came stays written.
+pub(crate) fn print_far_screen<S: Source, W: Sink>(
+    alloc: Global,
+    rows: NonZeroU16,
+    cols: NonZeroU16,
+    input: &mut S,
+    output: &mut W,
+) -> Result<(), RelayError>
+    ensures text { OnOk result (IfSome (S.left input.old) (λ bytes. (text : List ℕ)
+        × IsFarText rows.value cols.value bytes text × Appends (W.contents output.old) (W.contents output.new) text)) }
+{
+    let mut hub = Hub::new(alloc, rows, cols)?;
+    let client = hub.attach()?;
+    let mut view = View::new(alloc, rows, cols, UntilCleared::new())?;
+    carry_frames(alloc, &mut hub, client, input, &mut view)?;
+    print_view(&view, output)
+}
+
+// Reads the whole input in full pieces, and brings the view the frame that is due after each.
+fn carry_frames<S: Source>(
+    alloc: Global,
+    hub: &mut Hub,
+    client: Client,
+    input: &mut S,
+    view: &mut View<UntilCleared>,
+) -> Result<(), RelayError>
+    ensures { OnOk result ((pieces : List (List ℕ)) × Drained S.gives piece_len input.old pieces result input.new
+        × ((rows cols : ℕ) → Relaying rows cols [] None hub.old client
+        → Carries view.old (concat (frames_of rows cols pieces)) view.new)) }
+{
+    let mut piece = [0; PIECE_LEN];
+    let mut reads = 0;
+    'pieces: loop {
+        let n = fill(input, &mut piece, &mut reads)?;
+        carry_frame(alloc, hub, client, &piece[..n], view)?;
+        if n < PIECE_LEN {
+            return Ok(());
+        }
+    }
+}
+
+// Feeds a piece to the hub, and brings the view the client's frame that is then due.
+fn carry_frame(
+    alloc: Global,
+    hub: &mut Hub,
+    client: Client,
+    piece: &[u8],
+    view: &mut View<UntilCleared>,
+) -> Result<(), RelayError>
+    ensures { OnOk result ((rows cols : ℕ) (past : List (List ℕ)) (base : Option Shown)
+        → Relaying rows cols past base hub.old client
+        → Carries view.old (asked rows cols (concat (past ++ piece.now ∷ [])) base).owed view.new
+        × Relaying rows cols (past ++ piece.now ∷ []) (asked rows cols (concat (past ++ piece.now ∷ [])) base).base hub.new
+        client) }
+{
+    hub.feed(piece)?;
+    hub.frame(client)?;
+    let mut line = Vec::new(alloc);
+    hub.pump(client, &mut line)?;
+    read_line(view, &line);
+    Ok(())
+}
+
+// Gives the view what comes over a line, a few bytes at a time.
+fn read_line(view: &mut View<UntilCleared>, line: &[u8])
+    ensures { Carries view.old line.now view.new }
+{
+    until_cleared_is_exact();
+    for bytes in line.chunks(STEP) {
+        view.advance(bytes);
+    }
+}
