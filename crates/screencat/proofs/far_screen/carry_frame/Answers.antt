@@ -1,7 +1,6 @@
 use Rattle.std.proofs.Common.{◌≡◌, ℕ, List, [], ◌∷◌, ◌++◌, ◌∙◌, Some, ap, refl, subst}
 use Rattle.std.specs.List.{concat}
 use Rattle.termrelay.specs.Hub.{state_of}
-use Rattle.takers.specs.Pump.{Writes}
 use Rattle.relay_streams.specs.Frames.{asked}
 use Rattle.relay_streams.proofs.TurnLemmas.{piece-fed, frame-asked, turn-ends}
 use Rattle.screencat.specs.Carried.{Carries}

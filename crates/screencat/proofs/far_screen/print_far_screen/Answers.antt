@@ -1,4 +1,4 @@
-use Rattle.std.proofs.Common.{◌≡◌, ◌∙◌, ℕ, List, ap}
+use Rattle.std.proofs.Common.{◌∙◌, ℕ, List, ap}
 use Rattle.std.specs.List.{concat}
 use Rattle.termrelay.specs.Hub.{state_of}
 use Rattle.termview.specs.Standing.{shown_by, size_of}
@@ -22,13 +22,15 @@ returns g c =
     let fresh = c.in_ok-view.ensures.exact (λ b e. e ∙ c.new-2.ensures) in
     let size = size_is _ _ _ c.in_ok-view.ensures.rows c.in_ok-view.ensures.cols in
     let view = c.carry_frames.new.view in
-    record { text = printed c.flush.result (g.S.Source.left c.args.input.now) (IsFarText rows cols)
-    (screen_text (size_of view) (shown_by view).cell) _ _ _
-    (λ bytes known. record {
-      pieces = carried.pieces;
-      joined = carried.joined ∙ ap (λ (ps : List (List ℕ)). concat (frames_of rows cols ps))
-          (drained-pieces g.row.S.Denot g.S.Source.gives g.S.Source.left g.met.S.Source.tells c.args.input.now read.0
-          c.carry_frames.new.input bytes read.1 known);
-      shown = shown_so _ _ _ carried.pieces fresh size carried.led;
-    })
-    c.in_ok-write_view.ensures.whole c.flush.ensures.keeps }
+    record {
+      text = printed c.flush.result (g.S.Source.left c.args.input.now) (IsFarText rows cols)
+          (screen_text (size_of view) (shown_by view).cell) _ _ _
+          (λ bytes known. record {
+            pieces = carried.pieces;
+            joined = carried.joined ∙ ap (λ (ps : List (List ℕ)). concat (frames_of rows cols ps))
+                (drained-pieces g.row.S.Denot g.S.Source.gives g.S.Source.left g.met.S.Source.tells c.args.input.now read.0
+                c.carry_frames.new.input bytes read.1 known);
+            shown = shown_so _ _ _ carried.pieces fresh size carried.led;
+          })
+          c.in_ok-write_view.ensures.whole c.flush.ensures.keeps;
+    }
