@@ -1,11 +1,10 @@
 -- What is carried to a view.
 use Rattle.std.proofs.Common.{◌≡◌, ◌∙◌, ℕ, List, [], ◌∷◌, ◌++◌, map, take, drop, Option, None, Some, Ok, refl, sym, ap}
-use Rattle.std.proofs.Common.{subst, append-nil, take-append-drop, Result, Err, OnOk, IfSome}
+use Rattle.std.proofs.Common.{subst, append-nil, Result, Err, OnOk, IfSome}
 use Rattle.std.proofs.lemmas.List.{map-append}
 use Rattle.std.proofs.lemmas.List.Folds.{concat-append}
 use Rattle.std.specs.List.{concat}
 use Rattle.std.specs.Io.KnownBytes.{Appends}
-use Rattle.std.specs.declared.io.Error.{Error}
 use Rattle.vte.specs.Moves.{Move, Gives}
 use Rattle.vte.specs.Frames.{Leads}
 use Rattle.vte.proofs.FrameMoves.{moves_follow}

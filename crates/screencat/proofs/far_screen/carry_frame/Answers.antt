@@ -1,6 +1,5 @@
-use Rattle.std.proofs.Common.{◌≡◌, ℕ, List, [], ◌∷◌, ◌++◌, Some, ap, subst, sym}
+use Rattle.std.proofs.Common.{◌≡◌, ℕ, List, [], ◌∷◌, ◌++◌, ◌∙◌, Some, ap, refl, subst}
 use Rattle.std.specs.List.{concat}
-use Rattle.takers.specs.Pump.{Writes}
 use Rattle.relay_streams.specs.Frames.{asked}
 use Rattle.relay_streams.proofs.TurnLemmas.{piece-fed, frame-asked, turn-ends}
 use Rattle.screencat.specs.Carried.{Carries}
@@ -19,8 +18,9 @@ returns c = λ rows cols past base at.
     let owed = (asked rows cols (concat pieces) base).owed in
     let fed = piece-fed rows cols past piece base c.args.hub.now h key at c.in_ok-feed.ensures in
     let made = frame-asked rows cols pieces base h k key c.in_ok-frame.field-0 fed c.in_ok-frame.ensures in
-    let turned = turn-ends _ _ rows cols pieces base h k g key c.new.result line fed made c.in_ok-pump.ensures in
-    let whole : line.items ≡ owed =
-    holds-all _ (λ v. Some v.items) c.new.result line owed line.items turned.0.0 turned.0.1
-    (ap (λ xs. Some xs) c.new.ensures.items) refl in
+    let turned = turn-ends _ _ rows cols pieces base h k g key c.new-line.result line fed made c.in_ok-pump.ensures in
+    let whole : c.deref.result.now ≡ owed =
+    c.deref.ensures.value
+    ∙ holds-all _ (λ v. Some v.items) c.new-line.result line owed line.items turned.0.0 turned.0.1
+    (ap (λ xs. Some xs) c.new-line.ensures.items) refl in
     (subst (λ (xs : List ℕ). Carries c.args.view.now xs c.read_line.new.view) whole c.read_line.ensures, turned.1)
