@@ -45,7 +45,7 @@ run_unproved() {
     name=$1
     why=$2
     shift 2
-    echo "$name: $why: running it unproved, by rt try, in about a minute; ./build proves and builds it" >&2
+    echo "$name: $why: running it unproved, by rt try, which takes most of a minute; ./build proves and builds it" >&2
     if ! command -v rt > /dev/null; then
         echo "$name: there is no rt on the path, the command of the Rattle toolchain" >&2
         exit 127

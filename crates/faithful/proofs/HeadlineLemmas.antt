@@ -18,12 +18,14 @@ use Rattle.vt100_state.specs.Made.{made}
 use Rattle.vt100_state.specs.Holds.{IsSide}
 use Rattle.vte_read.specs.Terminals.{IsSmall}
 use Rattle.termrelay.specs.Frame.{is_unsure, frame_text, ShowsUnless, Agrees}
-use Rattle.termrelay.specs.Answers.{is_frame, answer_of, due_from}
+use Rattle.termrelay.specs.Answers.{ClientState, is_frame, answer_of, due_from}
 use Rattle.termrelay.specs.declared.answer.Answer.TheVariants.{Unsure}
 use Rattle.termview.specs.Seen.{seen}
 use Rattle.termview.proofs.LawLemmas.{whole_shown, none_torn}
 use Rattle.termrelay.specs.Calls.{Call}
-use Rattle.faithful.specs.History.{Reply, Entry, Story}
+use Rattle.termrelay.specs.declared.call.Reply.{Reply}
+use Rattle.termrelay.specs.Hub.{clients_in}
+use Rattle.faithful.specs.History.{Entry, Story, size_of_story}
 use Rattle.faithful.specs.Judge.{state_at, size_at, shown_at, texts, frame_or, last_frame, last_whole, judged, IsSure}
 use Rattle.faithful.specs.Laws.{base_then, IsAnswered, AreAnswered, IsTold}
 use Rattle.faithful.specs.Headline.{EachTextIsAFrame, WholeFramesAreShown, LastWholeFrameIsShown, NoFrameIsTorn}
@@ -354,37 +356,37 @@ answered-front rows cols z base (e ∷ front) back h =
 pub texts-frames : EachTextIsAFrame
 texts-frames rows cols calls replies n t s =
     let h = sessions-told rows cols calls replies n t s in
-    entries-frames rows cols t.size h.height h.width None t.entries tt h.entries
+    entries-frames rows cols (size_of_story t) h.height h.width None t.entries tt h.entries
 
 pub wholes-shown : WholeFramesAreShown
 wholes-shown rows cols calls replies n t front back moves parsed hold s e given_is leads =
     let h = sessions-told rows cols calls replies n t s in
-    let entries = answered-front rows cols t.size None front back
-    (subst (AreAnswered rows cols t.size None) e h.entries) in
-    whole-shown rows cols t.size h.height h.width front moves parsed hold entries given_is leads
+    let entries = answered-front rows cols (size_of_story t) None front back
+    (subst (AreAnswered rows cols (size_of_story t) None) e h.entries) in
+    whole-shown rows cols (size_of_story t) h.height h.width front moves parsed hold entries given_is leads
 
 front-of : (rows cols : ℕ) (calls : List Call) (replies : List Reply) (n : ℕ) (t : Story) (pieces : List (List ℕ))
-    (parsed : List ℕ) → Reads rows cols calls replies n t pieces parsed → (h : IsTold rows cols t)
-    → IsFront rows cols t.size h.height h.width (last_read t pieces) parsed
-front-of rows cols calls replies n t pieces parsed r h =
+    (parsed : List ℕ) (clients : ℕ → Option ClientState) → Reads rows cols calls replies n t pieces parsed
+    → (h : IsTold rows cols clients t) → IsFront rows cols (size_of_story t) h.height h.width (last_read t pieces) parsed
+front-of rows cols calls replies n t pieces parsed clients r h =
     let all : concat pieces ++ (r.beyond ++ h.left) ≡ texts t.entries =
     sym (append_assoc (concat pieces) r.beyond h.left) ∙ ap (λ xs. xs ++ h.left) r.pumped ∙ h.front in
-    front-read rows cols t.size h.height h.width t.entries pieces (r.beyond ++ h.left) parsed r.hold h.entries all
+    front-read rows cols (size_of_story t) h.height h.width t.entries pieces (r.beyond ++ h.left) parsed r.hold h.entries all
     r.short r.leads
 
 pub last-shown : LastWholeFrameIsShown
 last-shown rows cols calls replies n t pieces parsed r sure =
     let h = sessions-told rows cols calls replies n t r.session in
-    front-shown rows cols t.size h.height h.width (last_read t pieces) parsed
-    (front-of rows cols calls replies n t pieces parsed r h) sure
+    front-shown rows cols (size_of_story t) h.height h.width (last_read t pieces) parsed
+    (front-of rows cols calls replies n t pieces parsed (clients_in r.session.hub) r h) sure
 
 size-then : (rows cols : ℕ) (calls : List Call) (replies : List Reply) (n : ℕ) (t : Story) (pieces : List (List ℕ))
     (parsed : List ℕ) (e : Entry) → Reads rows cols calls replies n t pieces parsed → last_read t pieces ≡ Some e
-    → size_at rows cols e ≡ t.size
+    → size_at rows cols e ≡ size_of_story t
 size-then rows cols calls replies n t pieces parsed e r is =
     let h = sessions-told rows cols calls replies n t r.session in
-    front-size rows cols t.size h.height h.width (last_read t pieces) e parsed
-    (front-of rows cols calls replies n t pieces parsed r h) is
+    front-size rows cols (size_of_story t) h.height h.width (last_read t pieces) e parsed
+    (front-of rows cols calls replies n t pieces parsed (clients_in r.session.hub) r h) is
 
 pub none-torn : NoFrameIsTorn
 none-torn rows cols calls replies n t pieces more parsed parsed' r q same sure =

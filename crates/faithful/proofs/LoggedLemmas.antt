@@ -1,51 +1,63 @@
 -- What a far terminal shows of a log's session.
-use Rattle.std.proofs.Common.{◌≡◌, ◌∙◌, ℕ, List, map, sym, ap, subst}
-use Rattle.vt100_picture.specs.Term.{Size, shown_of}
+use Rattle.std.proofs.Common.{◌≡◌, ◌∙◌, ℕ, zero, suc, List, [], ◌∷◌, map, Some, None, sym, ap, subst, refl}
+use Rattle.std.specs.Prelude.{slice_get}
+use Rattle.vt100_picture.specs.Term.{shown_of}
 use Rattle.termview.specs.Seen.{seen}
-use Rattle.termrelay.specs.declared.call.Reply.{Reply as Given}
+use Rattle.termrelay.specs.declared.call.Reply.{Reply}
 use Rattle.termrelay.specs.Calls.{Call}
-use Rattle.termrelay.specs.Hub.{HubState}
+use Rattle.termrelay.specs.Hub.{HubState, as_kept}
 use Rattle.termrelay.specs.Log.{SessionView, LogView}
-use Rattle.faithful.specs.History.{Story, fresh, CanRun, books_after}
+use Rattle.faithful.specs.History.{as_told, Story, fresh, size_of_session, RunsTold}
 use Rattle.faithful.specs.Laws.{IsSession}
 use Rattle.faithful.specs.Headline.{Reads}
-use Rattle.faithful.specs.Serves.{told, IsLogged, AreLogged, Matches}
-use Rattle.faithful.specs.Logged.{size_of_session, HasStory, AreShort, EachLoggedReadIsARead}
-use Rattle.faithful.specs.Logged.{LoggedFramesAreShown}
+use Rattle.faithful.specs.Serves.{Matches}
+use Rattle.faithful.specs.Logged.{HasStory, AreShort, EachLoggedReadIsARead, LoggedFramesAreShown}
 use Rattle.faithful.proofs.HeadlineLemmas.{last-shown}
 use Rattle.faithful.proofs.ServesLemmas.{logs-follow}
-use Rattle.faithful.proofs.LogLemmas.{story-at}
+
+-- a session of a log, and its story
+pub record FoundStory (s : SessionView) (ts : List Story) (n : ℕ) : Type 0 where
+  pub story : Story
+  pub is : slice_get ts n ≡ Some story
+  pub logged : story.session ≡ s
+
+found-at : (ts : List Story) (n : ℕ) (s : SessionView) → slice_get (map (λ t. t.session) ts) n ≡ Some s
+    → FoundStory s ts n
+found-at [] n s e = absurd (let no : None ≡ Some s = e in cc)
+found-at (t ∷ ts) zero s e = record { story = t; is = refl; logged = cc }
+found-at (t ∷ ts) (suc n) s e =
+    let later = found-at ts n s e in
+    record { story = later.story; is = later.is; logged = later.logged }
+
+pub story-at : (ss : List SessionView) (ts : List Story) (n : ℕ) (s : SessionView) → map (λ t. t.session) ts ≡ ss
+    → slice_get ss n ≡ Some s → FoundStory s ts n
+story-at ss ts n s are e = found-at ts n s (ap (λ xs. slice_get xs n) are ∙ e)
 
 -- the log's sessions are those of a history of its replies
-abbrev IsTold : ℕ → ℕ → List Call → List Given → HubState → List SessionView → Type 0
-IsTold rows cols calls replies g ss =
-    CanRun (fresh rows cols) calls (map told replies)
-    × Matches g (books_after (fresh rows cols) calls (map told replies))
-    × AreLogged ss (books_after (fresh rows cols) calls (map told replies)).stories
-
-same-size : (s : SessionView) (t : Story) → IsLogged s t → t.size ≡ size_of_session s
-same-size s t h = sym (λ i. record { rows = h.rows i; cols = h.cols i })
+abbrev IsHistory : ℕ → ℕ → List Call → List Reply → HubState as_kept → List SessionView → Type 0
+IsHistory rows cols calls replies g ss =
+    (u : HubState as_told) × (ts : List Story) × RunsTold (fresh rows cols) [] calls replies u ts × Matches g u
+    × (map (λ t. t.session) ts ≡ ss)
 
 abbrev IsRead : ℕ → ℕ → List Call → LogView → ℕ → SessionView → List (List ℕ) → List ℕ → Type 0
 IsRead rows cols calls l n s pieces parsed =
-    (t : Story) × HasStory rows cols calls l n s t
-    × (AreShort t → Reads rows cols calls (map told l.replies) n t pieces parsed)
+    (t : Story) × HasStory rows cols calls l n s t × (AreShort t → Reads rows cols calls l.replies n t pieces parsed)
 
 pub logged-reads : EachLoggedReadIsARead
 logged-reads rows cols calls l n s pieces parsed r =
-    let all : IsTold rows cols calls l.replies r.after l.sessions =
-    subst (λ replies. IsTold rows cols calls replies r.after l.sessions) (sym r.ran.1)
+    let all : IsHistory rows cols calls l.replies r.after l.sessions =
+    subst (λ replies. IsHistory rows cols calls replies r.after l.sessions) (sym r.ran.1)
     (logs-follow rows cols calls r.ran.0 r.hub r.after l.sessions r.new r.ran.2) in
-    let found = story-at l.sessions (books_after (fresh rows cols) calls (map told l.replies)).stories n s all.2 r.is in
+    let found = story-at l.sessions all.1 n s all.4 r.is in
     let t = found.story in
-    let session : IsSession rows cols calls (map told l.replies) n t =
-    record { height = r.height; width = r.width; ran = all.0; is = found.is } in (
+    let session : IsSession rows cols calls l.replies n t =
+    record { height = r.height; width = r.width; hub = all.0; stories = all.1; ran = all.2; is = found.is } in (
       t,
       record { session = session; logged = found.logged },
       λ short. record {
         session = session;
         beyond = r.beyond;
-        pumped = r.pumped ∙ found.logged.pumped;
+        pumped = r.pumped ∙ ap (λ (x : SessionView). x.pumped) (sym found.logged);
         short = short;
         hold = r.hold;
         leads = r.leads;
@@ -59,6 +71,6 @@ logged-shown rows cols calls l n s pieces parsed r =
       t,
       read.1,
       λ short sure.
-          ap (λ (z : Size). shown_of (seen z parsed)) (sym (same-size s t read.1.logged))
-          ∙ last-shown rows cols calls (map told l.replies) n t pieces parsed (read.2 short) sure,
+          ap (λ (x : SessionView). shown_of (seen (size_of_session x) parsed)) (sym read.1.logged)
+          ∙ last-shown rows cols calls l.replies n t pieces parsed (read.2 short) sure,
     )

@@ -1,377 +1,351 @@
 -- Runs of a hub are histories.
-use Rattle.std.proofs.Common.{◌≡◌, ◌∙◌, ℕ, ◌+◌, ◌-◌, ◌<◌, nat_eq, Bool, true, false, List, [], ◌∷◌, ◌++◌}
-use Rattle.std.proofs.Common.{drop, length, min, Option, Some, None, Result, Ok, Err, refl, sym, ap, subst, arith}
-use Rattle.std.proofs.Common.{if◌then◌else◌, length-drop, map}
+use Rattle.std.proofs.Common.{◌≡◌, ◌∙◌, ℕ, ◌+◌, ◌-◌, ◌<◌, true, false, List, [], ◌∷◌, ◌++◌, drop, length, min}
+use Rattle.std.proofs.Common.{map, Option, Some, None, Result, Ok, Err, refl, sym, ap, subst, arith}
+use Rattle.std.proofs.Common.{length-drop}
 use Rattle.std.specs.Prelude.{◌==◌}
-use Rattle.std.specs.Option.{option_map}
 use Rattle.std.proofs.lemmas.Bool.Decides.{nat_tests}
+use Rattle.std.proofs.lemmas.List.{map-append}
 use Rattle.std.specs.declared.io.Error.{Error}
 use Rattle.vt100_core.specs.Picture.{size_of}
 use Rattle.vt100_state.specs.Call.{ScreenView}
 use Rattle.vt100_state.specs.Shown.{shown_state}
-use Rattle.vt100.specs.Tries.{alive}
+use Rattle.vt100_state.specs.Made.{Fed, Resized, made}
+use Rattle.vt100.specs.Parsing.{ParserView, StandsAt}
 use Rattle.takers.specs.Pump.{Pumps, all, nothing, fault, some}
-use Rattle.termrelay.specs.Answers.{ClientState, is_frame, answer_of, after_answer}
-use Rattle.termrelay.specs.Hub.{HubState, is_failed, with_client, new_client, size_in, shown_in, IsNewHub, Feeds}
-use Rattle.termrelay.specs.Hub.{Resizes, Attaches, DetachesFrom, framed, pump_answer, PumpsFrom}
-use Rattle.termrelay.specs.Hub.{CanFrame as HubCanFrame}
+use Rattle.termrelay.specs.Answers.{ClientState, answer_of, after_answer, may_take_memory}
+use Rattle.termrelay.specs.Hub.{Telling, HubState, as_kept, is_failed, screen_in, clients_in}
+use Rattle.termrelay.specs.Hub.{with_client, new_client, no_clients, Puts, IsNewHub, Feeds, Resizes, Attaches}
+use Rattle.termrelay.specs.Hub.{DetachesFrom, CanFrame, Framed, pump_answer, PumpsFrom}
 use Rattle.termrelay.specs.declared.answer.Answer.{Answer}
 use Rattle.termrelay.specs.declared.error.HubError.{HubError}
 use Rattle.termrelay.specs.declared.error.HubError.TheVariants as hub
 use Rattle.termrelay.specs.declared.call.Take.{Take}
 use Rattle.termrelay.specs.declared.call.Take.TheVariants.{Bytes, Fault}
-use Rattle.termrelay.specs.declared.call.Reply.{Reply as Given}
-use Rattle.termrelay.specs.declared.call.Reply.TheVariants as given
+use Rattle.termrelay.specs.declared.call.Reply.{Reply}
+use Rattle.termrelay.specs.declared.call.Reply.TheVariants.{Done, Attached, Answered, Refused}
 use Rattle.termrelay.specs.Calls.{Call, Feed, Resize, Attach, Detach, Frame, Pump, taken_by, WritesAsTold, Serves, Runs}
-use Rattle.termrelay.specs.Calls.{done as given-done, replied as given-replied}
-use Rattle.termrelay.specs.Log.{SessionView, sessions_after, RunsLogged}
-use Rattle.faithful.specs.History.{UnknownClient, Write, Reply, Done, Attached, Answered, Refused}
-use Rattle.faithful.specs.History.{Story, Book, fresh, state_now, size_now, shown_now, found, changed, ended}
-use Rattle.faithful.specs.History.{begun, answered, pumped_by, book_after, CanFrame, CanPump, pump_reply, CanReply}
-use Rattle.faithful.specs.History.{CanRun, CanDetach, books_after}
-use Rattle.faithful.specs.Clients.{client_in, with_slot, left_by}
-use Rattle.faithful.specs.Serves.{refused, told, Matches, AreLogged, EachRunHasAHistory, EachPumpIsServed}
-use Rattle.faithful.specs.Serves.{EachLogHasAHistory}
+use Rattle.termrelay.specs.Calls.{done, replied}
+use Rattle.termrelay.specs.Log.{SessionView, is_of, change_last, begun, ended, grown, bytes_taken, sessions_after}
+use Rattle.termrelay.specs.Log.{RunsLogged}
 use Rattle.takers.proofs.PumpLemmas.{drop-least}
 use Rattle.termrelay.proofs.ScriptLemmas.{takes-nothing, some-owed, first-none, first-fault, first-some, ok-number}
-use Rattle.faithful.proofs.ClientLemmas.{IsOnce, call-once, call-clients}
-use Rattle.faithful.proofs.LogLemmas.{call-logged}
+use Rattle.termrelay.proofs.ScriptLemmas.{pumped-left}
+use Rattle.faithful.specs.History.{as_told, fresh, Story, is_on, with_session, with_entries, entries_of}
+use Rattle.faithful.specs.History.{stories_after, RunsTold}
+use Rattle.faithful.specs.Serves.{IsPumpReply, EachPumpTakesAsTold, EachPumpIsServed, Matches, EachRunHasAHistory}
+use Rattle.faithful.specs.Serves.{EachLogHasAHistory}
+use Rattle.faithful.proofs.StoryLemmas.{shown-changed, unchanged}
 
--- ---- replies
+-- ---- a call on a hub, and on what is told of it
 
--- a call's result, as a history tells it
-abbrev replied : {A : Type 0} → (A → Reply) → Result A HubError → Reply
-replied reply (Ok x) = reply x
-replied reply (Err e) = Refused (refused e)
+-- what is told after a call on a hub that is then g
+pub record Follows (u : HubState as_told) (call : Call) (reply : Reply) (g : HubState as_kept) : Type 0 where
+  pub after : HubState as_told
+  pub serves : Serves u call reply after
+  pub matches : Matches g after
 
-abbrev done : Result (Unit {0}) HubError → Reply
-done result = replied (λ u. Done) result
+-- another client at a key
+abbrev put : HubState as_told → ℕ → Option ClientState → HubState as_told
+put u key slot = record u { clients = with_client u.clients key slot }
 
-done-told : (result : Result (Unit {0}) HubError) → told (given-done result) ≡ done result
-done-told (Ok u) = refl
-done-told (Err e) = refl
-
-attached-told : (result : Result ℕ HubError) → told (given-replied given.Attached result) ≡ replied Attached result
-attached-told (Ok key) = refl
-attached-told (Err e) = refl
-
-answered-told : (result : Result Answer HubError)
-    → told (given-replied given.Answered result) ≡ replied Answered result
-answered-told (Ok answer) = refl
-answered-told (Err e) = refl
-
--- ---- keys
-
-same-test : (key other : ℕ) → (other == key) ≡ nat_eq key other
-same-test key other = grind (arith, nat_tests)
-
-abbrev kept : Option Story → Option ClientState
-kept o = option_map (λ t. t.kept) o
-
-none-kept : (o : Option Story) → kept o ≡ None → o ≡ None
-none-kept None h = refl
-none-kept (Some t) h = absurd (let no : Some t.kept ≡ None = h in cc)
-
--- what is at a key may be put there
-kept-by-test : (h : HubState) (key : ℕ) (slot : Option ClientState) → h.client key ≡ slot → (other : ℕ) (t : Bool)
-    → nat_eq key other ≡ t → h.client other ≡ (if t then slot else h.client other)
-kept-by-test h key slot e other true same =
-    subst (λ k. h.client k ≡ slot) (let one : key ≡ other = grind (arith, nat_tests) in one) e
-kept-by-test h key slot e other false same = refl
-
-kept-slot : (h : HubState) (key : ℕ) (slot : Option ClientState) → h.client key ≡ slot → h ≡ with_client h key slot
-kept-slot h key slot e =
-    let same : h.client ≡ (with_client h key slot).client =
-    (λ i other. (kept-by-test h key slot e other (nat_eq key other) refl
-    ∙ ap (λ t. if t then slot else h.client other) (sym (same-test key other))) i) in
-    λ i. record h { client = same i }
-
--- ---- a hub and its book
-
-abbrev with-stories : Book → List Story → Book
-with-stories b ts = record b { stories = ts }
-
--- one call answered so
-abbrev Follows : Book → Call → HubState → Reply → Type 0
-Follows b call g reply = CanReply b call reply × Matches g (book_after b call reply)
-
-module _ (h : HubState) (b : Book) (m : Matches h b) where
-  unchanged : (g : HubState) → g ≡ h → Matches g b
-  unchanged g e = subst (λ x. Matches x b) (sym e) m
-
-  live : is_failed h ≡ false → b.failed ≡ false
+module _ (h : HubState as_kept) (u : HubState as_told) (m : Matches h u) where
+  live : is_failed h ≡ false → is_failed u ≡ false
   live e = sym m.failed ∙ e
 
-  dead : is_failed h ≡ true → b.failed ≡ true
+  dead : is_failed h ≡ true → is_failed u ≡ true
   dead e = sym m.failed ∙ e
 
-  -- another client at a key
-  slotted : (ts : List Story) (key : ℕ) (slot : Option ClientState) (g : HubState) → g ≡ with_client h key slot
-      → ((other : ℕ) → client_in (with-stories b ts) other ≡ with_slot (client_in b) key slot other)
-      → Matches g (with-stories b ts)
-  slotted ts key slot g e told =
-      subst (λ x. Matches x (with-stories b ts)) (sym e) (record {
-        failed = m.failed;
-        parser = m.parser;
-        clients = λ other.
-            ap (λ t. if t then slot else h.client other) (same-test key other)
-            ∙ ap (λ c. if nat_eq key other then slot else c) (m.clients other)
-            ∙ sym (told other);
-      })
+  unchanged-matches : (g : HubState as_kept) → g ≡ h → Matches g u
+  unchanged-matches g e = subst (λ x. Matches x u) (sym e) m
 
-  fed-follows : (bytes : List ℕ) (result : Result (Unit {0}) HubError) (g : HubState) → Feeds h bytes result g
-      → Follows b (Feed bytes) g (done result)
-  fed-follows bytes (Ok u) g f =
-      let stays = live f.0 in (
-        stays,
+  put-matches : (key : ℕ) (slot : Option ClientState) (g : HubState as_kept) → Puts h key slot g
+      → Matches g (put u key slot)
+  put-matches key slot g puts = record {
+    failed = ap (λ (p : ParserView (Unit {0})). p.screen.failed) puts.0 ∙ m.failed;
+    parser = λ e. subst (λ p. StandsAt p u.parser.rows u.parser.cols 0 u.parser.acts) (sym puts.0) (m.parser e);
+    clients = puts.1 ∙ ap (λ clients. with_client clients key slot) m.clients;
+  }
+
+  -- what is shown is what is told
+  screen-now : is_failed u ≡ false → screen_in h ≡ screen_in u
+  screen-now e =
+      (m.parser e).screen
+      ∙ (λ i. record { state = made u.parser.rows u.parser.cols 0 u.parser.acts; failed = sym e i })
+
+  feed-follows : (bytes : List ℕ) (result : Result (Unit {0}) HubError) (g : HubState as_kept) → Feeds h bytes result g
+      → (v : HubState as_told) × Feeds u bytes result v × Matches g v
+  feed-follows bytes (Ok x) g f =
+      let p = u.parser in
+      let on = live f.0 in (
+        record u { parser = record p { acts = p.acts ++ Fed bytes ∷ [] } },
+        (on, on, refl, refl),
         record {
-          failed = f.1 ∙ sym stays;
-          parser = λ e. f.3 b.rows b.cols 0 b.acts (m.parser e);
-          clients = λ key. ap (λ c. c key) f.2 ∙ m.clients key;
+          failed = f.1 ∙ sym on;
+          parser = λ e. f.3 p.rows p.cols 0 p.acts (m.parser e);
+          clients = f.2 ∙ m.clients;
         },
       )
-  fed-follows bytes (Err hub.Memory) g f = (
-    live f.0,
+  feed-follows bytes (Err hub.Memory) g f = (
+    record u { parser = record (u.parser) { failed = true } },
+    (live f.0, refl, refl),
     record {
       failed = f.1;
       parser = λ e. absurd (let no : true ≡ false = e in cc);
-      clients = λ key. ap (λ c. c key) f.2 ∙ m.clients key;
+      clients = f.2 ∙ m.clients;
     },
   )
-  fed-follows bytes (Err hub.Failed) g f = (dead f.0, unchanged g f.1)
-  fed-follows bytes (Err hub.UnknownClient) g f = absurd f
-  fed-follows bytes (Err (hub.Write e)) g f = absurd f
+  feed-follows bytes (Err hub.Failed) g f = (u, (dead f.0, refl), unchanged-matches g f.1)
+  feed-follows bytes (Err hub.UnknownClient) g f = absurd f
+  feed-follows bytes (Err (hub.Write e)) g f = absurd f
 
-  resized-follows : (rows cols : ℕ) (result : Result (Unit {0}) HubError) (g : HubState) → IsOnce b.stories
-      → Resizes h rows cols result g → Follows b (Resize rows cols) g (done result)
-  resized-follows rows cols (Ok u) g once f =
-      let stays = live f.0 in (
-        stays,
+  resize-follows : (rows cols : ℕ) (result : Result (Unit {0}) HubError) (g : HubState as_kept)
+      → Resizes h rows cols result g → (v : HubState as_told) × Resizes u rows cols result v × Matches g v
+  resize-follows rows cols (Ok x) g f =
+      let p = u.parser in
+      let on = live f.0 in (
+        record { parser = record p { acts = p.acts ++ Resized rows cols ∷ [] }; clients = no_clients },
+        (on, on, refl, refl),
         record {
-          failed = f.1 ∙ sym stays;
-          parser = λ e. f.3 b.rows b.cols 0 b.acts (m.parser e);
-          clients = λ key. ap (λ c. c key) f.2 ∙ sym (call-clients b (Resize rows cols) Done key once);
+          failed = f.1 ∙ sym on;
+          parser = λ e. f.3 p.rows p.cols 0 p.acts (m.parser e);
+          clients = f.2;
         },
       )
-  resized-follows rows cols (Err hub.Memory) g once f = (live f.0, unchanged g f.1)
-  resized-follows rows cols (Err hub.Failed) g once f = (dead f.0, unchanged g f.1)
-  resized-follows rows cols (Err hub.UnknownClient) g once f = absurd f
-  resized-follows rows cols (Err (hub.Write e)) g once f = absurd f
+  resize-follows rows cols (Err hub.Memory) g f = (u, (live f.0, refl), unchanged-matches g f.1)
+  resize-follows rows cols (Err hub.Failed) g f = (u, (dead f.0, refl), unchanged-matches g f.1)
+  resize-follows rows cols (Err hub.UnknownClient) g f = absurd f
+  resize-follows rows cols (Err (hub.Write e)) g f = absurd f
 
-  attached-follows : (result : Result ℕ HubError) (g : HubState) → IsOnce b.stories → Attaches h result g
-      → Follows b Attach g (replied Attached result)
-  attached-follows (Ok key) g once f = (
-    (live f.0, none-kept (found key b.stories) (sym (m.clients key) ∙ f.1)),
-    slotted (b.stories ++ begun b key ∷ []) key (Some new_client) g f.2
-        (λ other. call-clients b Attach (Attached key) other once),
+  attach-follows : (result : Result ℕ HubError) (g : HubState as_kept) → Attaches h result g
+      → (v : HubState as_told) × Attaches u result v × Matches g v
+  attach-follows (Ok key) g f = (
+    put u key (Some new_client),
+    (live f.0, ap (λ clients. clients key) (sym m.clients) ∙ f.1, (refl, refl)),
+    put-matches key (Some new_client) g f.2,
   )
-  attached-follows (Err hub.Memory) g once f = (live f.0, unchanged g f.1)
-  attached-follows (Err hub.Failed) g once f = (dead f.0, unchanged g f.1)
-  attached-follows (Err hub.UnknownClient) g once f = absurd f
-  attached-follows (Err (hub.Write e)) g once f = absurd f
+  attach-follows (Err hub.Memory) g f = (u, (live f.0, refl), unchanged-matches g f.1)
+  attach-follows (Err hub.Failed) g f = (u, (dead f.0, refl), unchanged-matches g f.1)
+  attach-follows (Err hub.UnknownClient) g f = absurd f
+  attach-follows (Err (hub.Write e)) g f = absurd f
 
-  detached-follows : (key : ℕ) (result : Result (Unit {0}) HubError) (g : HubState) (o : Option Story)
-      → IsOnce b.stories → found key b.stories ≡ o → DetachesFrom h key (kept o) result g
-      → CanDetach o (done result) × Matches g (book_after b (Detach key) (done result))
-  detached-follows key result g None once e f =
-      let same : done result ≡ Refused UnknownClient = ap done f.0 in (
-        same,
-        subst (λ r. Matches g (book_after b (Detach key) r)) (sym same) (unchanged g f.1),
+  detach-follows : (key : ℕ) (o : Option ClientState) (result : Result (Unit {0}) HubError) (g : HubState as_kept)
+      → DetachesFrom h key o result g → (v : HubState as_told) × DetachesFrom u key o result v × Matches g v
+  detach-follows key None result g f = (u, (f.0, refl), unchanged-matches g f.1)
+  detach-follows key (Some c) result g f = (put u key None, (f.0, (refl, refl)), put-matches key None g f.1)
+
+  frame-follows : (key : ℕ) (o : Option ClientState) (result : Result Answer HubError) (g : HubState as_kept)
+      → CanFrame (screen_in h) o result → Framed h key o result g
+      → (v : HubState as_told) × (CanFrame (screen_in u) o result × Framed u key o result v) × Matches g v
+  frame-follows key None result g can f = (u, (can, refl), unchanged-matches g f)
+  frame-follows key (Some c) (Ok answer) g can f =
+      let on = live can.0 in
+      let same = screen-now on in
+      let after = λ (v : ScreenView). after_answer (size_of v.state.shown) (shown_state v.state) c answer in (
+        put u key (Some (after (screen_in u))),
+        ((on, can.1 ∙ ap (λ (v : ScreenView). answer_of v.state c) same), (refl, refl)),
+        put-matches key (Some (after (screen_in u))) g
+            (f.0, f.1 ∙ ap (λ v. with_client (clients_in h) key (Some (after v))) same),
       )
-  detached-follows key result g (Some t) once e f =
-      let same : done result ≡ Done = ap done f.0 in (
-        same,
-        subst (λ r. Matches g (book_after b (Detach key) r)) (sym same)
-            (slotted (changed key ended b.stories) key None g f.1
-            (λ other. call-clients b (Detach key) Done other once)),
-      )
+  frame-follows key (Some c) (Err hub.Memory) g can f =
+      let on = live can.0 in
+      let due = ap (λ (v : ScreenView). may_take_memory (answer_of v.state c)) (sym (screen-now on)) ∙ can.1 in
+      (u, ((on, due), refl), unchanged-matches g f)
+  frame-follows key (Some c) (Err hub.Failed) g can f = (u, (dead can, refl), unchanged-matches g f)
+  frame-follows key (Some c) (Err hub.UnknownClient) g can f = absurd can
+  frame-follows key (Some c) (Err (hub.Write e)) g can f = absurd can
 
-  -- ---- frames
-
-  screen-now : b.failed ≡ false → h.parser.screen ≡ alive (state_now b)
-  screen-now e = (m.parser e).screen
-
-  framed-follows : (key : ℕ) (result : Result Answer HubError) (g : HubState) (o : Option Story)
-      → IsOnce b.stories → found key b.stories ≡ o → HubCanFrame h.parser.screen (kept o) result
-      → g ≡ framed h key (kept o) result
-      → CanFrame b o (replied Answered result) × Matches g (book_after b (Frame key) (replied Answered result))
-  framed-follows key (Ok answer) g None once e can is = absurd (let no : Ok answer ≡ Err hub.UnknownClient = can in cc)
-  framed-follows key (Err error) g None once e can is =
-      let same : replied Answered (Err error) ≡ Refused UnknownClient = ap (replied Answered) can in
-      (same, unchanged g is)
-  framed-follows key (Ok answer) g (Some t) once e can is =
-      let stays = live can.0 in
-      let screen = screen-now stays in
-      let now : answer_of h.parser.screen.state t.kept ≡ answer_of (state_now b) t.kept =
-      ap (λ (v : ScreenView). answer_of v.state t.kept) screen in
-      let after : after_answer (size_in h) (shown_in h) t.kept answer
-      ≡ after_answer (size_now b) (shown_now b) t.kept answer =
-      ap (λ (v : ScreenView). after_answer (size_of v.state.shown) (shown_state v.state) t.kept answer) screen in
-      let slot : option_map (λ c. after_answer (size_now b) (shown_now b) c answer) (client_in b key)
-      ≡ Some (after_answer (size_in h) (shown_in h) t.kept answer) =
-      ap (λ p. option_map (λ c. after_answer (size_now b) (shown_now b) c answer) (kept p)) e
-      ∙ ap (λ c. Some c) (sym after) in (
-        (stays, can.1 ∙ now),
-        slotted (changed key (answered b answer) b.stories) key
-            (Some (after_answer (size_in h) (shown_in h) t.kept answer)) g is
-            (λ other. call-clients b (Frame key) (Answered answer) other once
-            ∙ ap (λ s. with_slot (client_in b) key s other) slot),
-      )
-  framed-follows key (Err hub.Memory) g (Some t) once e can is =
-      let stays = live can.0 in (
-        (stays, sym (ap (λ (v : ScreenView). is_frame (answer_of v.state t.kept)) (screen-now stays)) ∙ can.1),
-        unchanged g is,
-      )
-  framed-follows key (Err hub.Failed) g (Some t) once e can is = (dead can, unchanged g is)
-  framed-follows key (Err hub.UnknownClient) g (Some t) once e can is = absurd can
-  framed-follows key (Err (hub.Write error)) g (Some t) once e can is = absurd can
-
--- ---- pumps
-
--- how a pump that takes so many of n bytes is answered
-abbrev ends : ℕ → ℕ → Reply
-ends taken n = if taken == n then Done else Refused Write
-
-ends-short : (taken n : ℕ) → taken ≡ 0 → 0 < n → ends taken n ≡ Refused Write
-ends-short taken n h k =
-    ap (λ b. if b then Done else Refused Write) (let no : (taken == n) ≡ false = grind (arith, nat_tests) in no)
-
-ends-later : (first k n : ℕ) → first ≡ min first n → ends (min first n + k) n ≡ ends k (n - first)
-ends-later first k n h =
-    ap (λ b. if b then Done else Refused Write)
-    (let same : (min first n + k == n) ≡ (k == n - first) = grind (arith, nat_tests) in same)
-
--- a pump to a writer that is told of takes what is told, and is answered by that
-abbrev IsTaken : List Take → List ℕ → Result (Unit {0}) Error → ℕ → Type 0
-IsTaken takes owed end n =
-    (n ≡ taken_by takes (length owed)) × (done (pump_answer end) ≡ pump_reply takes (length owed))
-
-pumped-as-told : (takes rest : List Take) (owed : List ℕ) (end : Result (Unit {0}) Error) (n : ℕ)
-    → Pumps WritesAsTold takes owed end n rest → IsTaken takes owed end n
-pumped-as-told takes rest owed end n all =
-    (sym (takes-nothing takes), sym (ap (λ k. ends k 0) (takes-nothing takes)))
-pumped-as-told takes rest owed end n (nothing owes told kind) =
-    let none = first-none takes rest owed owes told in
-    (sym none, sym (ends-short (taken_by takes (length owed)) (length owed) none (some-owed owed owes)))
-pumped-as-told takes rest owed end n (fault {e = e} owes told) =
-    let none = first-fault takes rest owed e told in
-    (sym none, sym (ends-short (taken_by takes (length owed)) (length owed) none (some-owed owed owes)))
-pumped-as-told takes rest owed end n (some middle first k more pos told later) =
-    let h = first-some takes middle owed first pos told in
-    let left = length-drop first owed in
-    let further = pumped-as-told middle rest (drop first owed) end k later in
-    let counts : k ≡ taken_by middle (length owed - first) = further.0 ∙ ap (taken_by middle) left in
-    let total : min first (length owed) + k ≡ taken_by takes (length owed) =
-    ap (λ c. min first (length owed) + c) counts ∙ sym h.0 in (
-      total,
-      further.1
-          ∙ ap (λ c. ends (taken_by middle c) c) left
-          ∙ ap (λ c. ends c (length owed - first)) (sym counts)
-          ∙ sym (ends-later first k (length owed) h.1)
-          ∙ ap (λ c. ends c (length owed)) total,
-    )
-
-module _ (h : HubState) (b : Book) (m : Matches h b) where
-  pumped-follows : (key : ℕ) (takes rest : List Take) (result : Result (Unit {0}) HubError) (g : HubState)
-      (o : Option Story) → IsOnce b.stories → found key b.stories ≡ o
-      → PumpsFrom WritesAsTold h key (kept o) takes result rest g
-      → CanPump takes o (done result) × Matches g (book_after b (Pump key takes) (done result))
-  pumped-follows key takes rest result g None once e f = (
-    ap done f.0,
-    slotted h b m (changed key (pumped_by takes) b.stories) key None g
-        (f.2 ∙ (let same : h ≡ with_client h key None = kept-slot h key None (m.clients key ∙ ap kept e) in same))
-        (λ other. call-clients b (Pump key takes) (done result) other once
-        ∙ ap (λ s. with_slot (client_in b) key s other) (ap (λ p. option_map (left_by takes) (kept p)) e)),
+  pump-follows : (key : ℕ) (takes rest : List Take) (o : Option ClientState) (result : Result (Unit {0}) HubError)
+      (g : HubState as_kept) → PumpsFrom WritesAsTold h key o takes result rest g
+      → (v : HubState as_told) × PumpsFrom WritesAsTold u key o takes result rest v × Matches g v
+  pump-follows key takes rest None result g f = (u, (f.0, f.1, refl), unchanged-matches g f.2)
+  pump-follows key takes rest (Some c) result g (end, n, pumps, is, puts) = (
+    put u key (Some (record c { owed = drop n c.owed })),
+    (end, n, pumps, is, (refl, refl)),
+    put-matches key (Some (record c { owed = drop n c.owed })) g puts,
   )
-  pumped-follows key takes rest result g (Some t) once e (end, n, pumps, is, after) =
-      let taken = pumped-as-told takes rest t.kept.owed end n pumps in
-      let slot : Option ClientState = Some (record (t.kept) { owed = drop n t.kept.owed }) in
-      let same : option_map (left_by takes) (client_in b key) ≡ slot =
-      ap (λ p. option_map (left_by takes) (kept p)) e
-      ∙ ap (λ k. Some (record (t.kept) { owed = drop k t.kept.owed })) (sym taken.0) in (
-        ap done is ∙ taken.1,
-        slotted h b m (changed key (pumped_by takes) b.stories) key slot g after
-            (λ other. call-clients b (Pump key takes) (done result) other once
-            ∙ ap (λ s. with_slot (client_in b) key s other) same),
-      )
 
-  -- ---- calls
+  client-now : (key : ℕ) → clients_in h key ≡ clients_in u key
+  client-now key = ap (λ clients. clients key) m.clients
 
-  follows : (call : Call) (g : HubState) (reply told : Reply) → reply ≡ told → Follows b call g told
-      → Follows b call g reply
-  follows call g reply told e f = subst (λ r. Follows b call g r) (sym e) f
+  call-follows : (call : Call) (reply : Reply) (g : HubState as_kept) → Serves h call reply g → Follows u call reply g
+  call-follows (Feed bytes) reply g (result, f, e) =
+      let x = feed-follows bytes result g f in record { after = x.0; serves = (result, x.1, e); matches = x.2 }
+  call-follows (Resize rows cols) reply g (result, f, e) =
+      let x = resize-follows rows cols result g f in
+      record { after = x.0; serves = (result, x.1, e); matches = x.2 }
+  call-follows Attach reply g (result, f, e) =
+      let x = attach-follows result g f in record { after = x.0; serves = (result, x.1, e); matches = x.2 }
+  call-follows (Detach key) reply g (result, f, e) =
+      let x = detach-follows key (clients_in u key) result g
+      (subst (λ o. DetachesFrom h key o result g) (client-now key) f) in
+      record { after = x.0; serves = (result, x.1, e); matches = x.2 }
+  call-follows (Frame key) reply g (result, f, e) =
+      let x = frame-follows key (clients_in u key) result g
+      (subst (λ o. CanFrame (screen_in h) o result) (client-now key) f.0)
+      (subst (λ o. Framed h key o result g) (client-now key) f.1) in
+      record { after = x.0; serves = (result, x.1, e); matches = x.2 }
+  call-follows (Pump key takes) reply g (result, rest, f, e) =
+      let x = pump-follows key takes rest (clients_in u key) result g
+      (subst (λ o. PumpsFrom WritesAsTold h key o takes result rest g) (client-now key) f) in
+      record { after = x.0; serves = (result, rest, x.1, e); matches = x.2 }
 
-  served-follows : (call : Call) (reply : Given) (g : HubState) → IsOnce b.stories → Serves h call reply g
-      → Follows b call g (told reply)
-  served-follows (Feed bytes) reply g once (result, f, is) =
-      follows (Feed bytes) g (told reply) (done result) (ap told is ∙ done-told result)
-      (fed-follows h b m bytes result g f)
-  served-follows (Resize rows cols) reply g once (result, f, is) =
-      follows (Resize rows cols) g (told reply) (done result) (ap told is ∙ done-told result)
-      (resized-follows h b m rows cols result g once f)
-  served-follows Attach reply g once (result, f, is) =
-      follows Attach g (told reply) (replied Attached result) (ap told is ∙ attached-told result)
-      (attached-follows h b m result g once f)
-  served-follows (Detach key) reply g once (result, f, is) =
-      follows (Detach key) g (told reply) (done result) (ap told is ∙ done-told result)
-      (detached-follows h b m key result g (found key b.stories) once refl
-      (subst (λ c. DetachesFrom h key c result g) (m.clients key) f))
-  served-follows (Frame key) reply g once (result, f, is) =
-      follows (Frame key) g (told reply) (replied Answered result) (ap told is ∙ answered-told result)
-      (framed-follows h b m key result g (found key b.stories) once refl
-      (subst (λ c. HubCanFrame h.parser.screen c result) (m.clients key) f.0)
-      (f.1 ∙ ap (λ c. framed h key c result) (m.clients key)))
-  served-follows (Pump key takes) reply g once (result, rest, f, is) =
-      follows (Pump key takes) g (told reply) (done result) (ap told is ∙ done-told result)
-      (pumped-follows key takes rest result g (found key b.stories) once refl
-      (subst (λ c. PumpsFrom WritesAsTold h key c takes result rest g) (m.clients key) f))
+  -- ---- sessions
+
+  abbrev shown : List Story → List SessionView
+  shown ts = map (λ t. t.session) ts
+
+  ended-shown : (ts : List Story) → shown (map (with_session ended) ts) ≡ map ended (shown ts)
+  ended-shown [] = refl
+  ended-shown (t ∷ ts) = ap (λ ss. ended t.session ∷ ss) (ended-shown ts)
+
+  -- what an attach begins, on a hub that attaches
+  attached-live : (result : Result ℕ HubError) (key : ℕ) (g : HubState as_kept) → Attaches h result g
+      → Attached key ≡ replied Attached result → is_failed h ≡ false
+  attached-live (Ok other) key g f e = f.0
+  attached-live (Err x) key g f e = absurd (let no : Attached key ≡ Refused x = e in cc)
+
+  same-begun : (key : ℕ) → is_failed h ≡ false → begun u key ≡ begun h key
+  same-begun key e =
+      ap (λ (v : ScreenView). record {
+        client = key;
+        rows = (size_of v.state.shown).rows;
+        cols = (size_of v.state.shown).cols;
+        pumped = [];
+        ended = false;
+      }) (sym (screen-now (live e)))
+
+  same-taken : (key : ℕ) (takes : List Take)
+      → bytes_taken takes (clients_in u key) ≡ bytes_taken takes (clients_in h key)
+  same-taken key takes = ap (bytes_taken takes) (sym (client-now key))
+
+  call-shown : (call : Call) (reply : Reply) (g : HubState as_kept) (ts : List Story) → Serves h call reply g
+      → shown (stories_after u call reply ts) ≡ sessions_after h call reply (shown ts)
+  call-shown (Feed bytes) reply g ts s = refl
+  call-shown (Resize rows cols) Done g ts s = ended-shown ts
+  call-shown (Resize rows cols) (Attached key) g ts s = refl
+  call-shown (Resize rows cols) (Answered answer) g ts s = refl
+  call-shown (Resize rows cols) (Refused e) g ts s = refl
+  call-shown Attach Done g ts s = refl
+  call-shown Attach (Attached key) g ts (result, f, e) =
+      map-append (λ (t : Story). t.session) ts (record { session = begun u key; entries = [] } ∷ [])
+      ∙ ap (λ s. shown ts ++ s ∷ []) (same-begun key (attached-live result key g f e))
+  call-shown Attach (Answered answer) g ts s = refl
+  call-shown Attach (Refused e) g ts s = refl
+  call-shown (Detach key) Done g ts s =
+      shown-changed (is_on key) (is_of key) (with_session ended) ended (λ t. t.session) (λ t. refl) (λ t. refl) ts
+  call-shown (Detach key) (Attached other) g ts s = refl
+  call-shown (Detach key) (Answered answer) g ts s = refl
+  call-shown (Detach key) (Refused e) g ts s = refl
+  call-shown (Frame key) Done g ts s = refl
+  call-shown (Frame key) (Attached other) g ts s = refl
+  call-shown (Frame key) (Answered answer) g ts s =
+      shown-changed (is_on key) (is_of key) (with_entries (entries_of u (clients_in u key) answer)) (λ x. x)
+      (λ t. t.session) (λ t. refl) (λ t. refl) ts
+      ∙ unchanged (is_of key) (λ x. x) (λ x. refl) (shown ts)
+  call-shown (Frame key) (Refused e) g ts s = refl
+  call-shown (Pump key takes) reply g ts s =
+      let bytes = bytes_taken takes (clients_in u key) in
+      shown-changed (is_on key) (is_of key) (with_session (grown bytes)) (grown bytes) (λ t. t.session) (λ t. refl)
+      (λ t. refl) ts
+      ∙ ap (λ bs. change_last (is_of key) (grown bs) (shown ts)) (same-taken key takes)
 
 -- ---- runs
 
-run-follows : (h g : HubState) (b : Book) (calls : List Call) (replies : List Given) → Matches h b → IsOnce b.stories
-    → Runs h calls replies g
-    → CanRun b calls (map told replies) × Matches g (books_after b calls (map told replies))
-run-follows h g b [] [] m once run = (tt, subst (λ x. Matches x b) (sym run) m)
-run-follows h g b [] (reply ∷ replies) m once run = absurd run
-run-follows h g b (call ∷ calls) [] m once run = absurd run
-run-follows h g b (call ∷ calls) (reply ∷ replies) m once (k, is, serves, later) =
-    let first = served-follows h b m call reply k once serves in
-    let rest = run-follows k g (book_after b call (told reply)) calls replies first.1
-    (call-once b call (told reply) first.0 once) later in
-    ((is, first.0, rest.0), rest.1)
+run-follows : (h g : HubState as_kept) (u : HubState as_told) (calls : List Call) (replies : List Reply)
+    → Matches h u → Runs h calls replies g → (v : HubState as_told) × Runs u calls replies v × Matches g v
+run-follows h g u [] [] m run = (u, refl, subst (λ x. Matches x u) (sym run) m)
+run-follows h g u [] (reply ∷ replies) m run = absurd run
+run-follows h g u (call ∷ calls) [] m run = absurd run
+run-follows h g u (call ∷ calls) (reply ∷ replies) m (k, is, serves, later) =
+    let first = call-follows h u m call reply k serves in
+    let rest = run-follows k g first.after calls replies first.matches later in
+    (rest.0, (first.after, is, first.serves, rest.1), rest.2)
 
 -- and what a log keeps of them
-log-follows : (h g : HubState) (b : Book) (calls : List Call) (replies : List Given) (ss ts : List SessionView)
-    → Matches h b → IsOnce b.stories → AreLogged ss b.stories → RunsLogged h ss calls replies g ts
-    → CanRun b calls (map told replies) × Matches g (books_after b calls (map told replies))
-    × AreLogged ts (books_after b calls (map told replies)).stories
-log-follows h g b [] [] ss ts m once logged run = (
-  tt,
-  subst (λ x. Matches x b) (sym run.0) m,
-  subst (λ xs. AreLogged xs b.stories) (sym run.1) logged,
-)
-log-follows h g b [] (reply ∷ replies) ss ts m once logged run = absurd run
-log-follows h g b (call ∷ calls) [] ss ts m once logged run = absurd run
-log-follows h g b (call ∷ calls) (reply ∷ replies) ss ts m once logged (k, is, serves, later) =
-    let first = served-follows h b m call reply k once serves in
-    let rest = log-follows k g (book_after b call (told reply)) calls replies (sessions_after h call reply ss) ts
-    first.1 (call-once b call (told reply) first.0 once) (call-logged h b m ss logged call reply first.0) later in
-    ((is, first.0, rest.0), rest.1, rest.2)
+log-follows : (h g : HubState as_kept) (u : HubState as_told) (calls : List Call) (replies : List Reply)
+    (ts : List Story) (ss ss' : List SessionView) → Matches h u → map (λ t. t.session) ts ≡ ss
+    → RunsLogged h ss calls replies g ss'
+    → (v : HubState as_told) × (us : List Story) × RunsTold u ts calls replies v us × Matches g v
+    × (map (λ t. t.session) us ≡ ss')
+log-follows h g u [] [] ts ss ss' m logged run =
+    (u, ts, (refl, refl), subst (λ x. Matches x u) (sym run.0) m, logged ∙ sym run.1)
+log-follows h g u [] (reply ∷ replies) ts ss ss' m logged run = absurd run
+log-follows h g u (call ∷ calls) [] ts ss ss' m logged run = absurd run
+log-follows h g u (call ∷ calls) (reply ∷ replies) ts ss ss' m logged (k, is, serves, later) =
+    let first = call-follows h u m call reply k serves in
+    let shows = call-shown h u m call reply k ts serves ∙ ap (sessions_after h call reply) logged in
+    let rest = log-follows k g first.after calls replies (stories_after u call reply ts) (sessions_after h call reply ss)
+    ss' first.matches shows later in
+    (rest.0, rest.1, (first.after, is, first.serves, rest.2), rest.3, rest.4)
 
-new-matches : (rows cols : ℕ) (h : HubState) → IsNewHub rows cols h → Matches h (fresh rows cols)
+new-matches : (rows cols : ℕ) (h : HubState as_kept) → IsNewHub rows cols h → Matches h (fresh rows cols)
 new-matches rows cols h new = record {
   failed = ap (λ (v : ScreenView). v.failed) new.parser.screen;
   parser = λ e. new.parser;
-  clients = λ key. ap (λ c. c key) new.clients;
+  clients = new.clients;
 }
 
 pub runs-follow : EachRunHasAHistory
 runs-follow rows cols calls replies h g new run =
-    run-follows h g (fresh rows cols) calls replies (new-matches rows cols h new) tt run
+    run-follows h g (fresh rows cols) calls replies (new-matches rows cols h new) run
 
 pub logs-follow : EachLogHasAHistory
 logs-follow rows cols calls replies h g ss new run =
-    log-follows h g (fresh rows cols) calls replies [] ss (new-matches rows cols h new) tt tt run
+    log-follows h g (fresh rows cols) calls replies [] [] ss (new-matches rows cols h new) refl run
+
+-- ---- pumps
+
+-- how a pump that takes so many of n bytes is answered
+abbrev Ends : ℕ → ℕ → Result (Unit {0}) Error → Type 0
+Ends taken n end = IsPumpReply (taken == n) (done (pump_answer end))
+
+ends-none : (taken n : ℕ) (e : Error) → taken ≡ 0 → 0 < n → Ends taken n (Err e)
+ends-none taken n e h k =
+    subst (λ b. IsPumpReply b (Refused (hub.Write e)))
+    (let same : false ≡ (taken == n) = grind (arith, nat_tests) in same) (e, refl)
+
+ends-all : (taken n : ℕ) → taken ≡ 0 → n ≡ 0 → Ends taken n (Ok tt)
+ends-all taken n h k =
+    subst (λ b. IsPumpReply b Done) (let same : true ≡ (taken == n) = grind (arith, nat_tests) in same) refl
+
+ends-later : (first k n : ℕ) (end : Result (Unit {0}) Error) → first ≡ min first n → Ends k (n - first) end
+    → Ends (min first n + k) n end
+ends-later first k n end h later =
+    subst (λ b. IsPumpReply b (done (pump_answer end)))
+    (let same : (k == n - first) ≡ (min first n + k == n) = grind (arith, nat_tests) in same) later
+
+-- a pump to a writer that is told of is answered by what is told
+pump-ends : (takes rest : List Take) (owed : List ℕ) (end : Result (Unit {0}) Error) (n : ℕ)
+    → Pumps WritesAsTold takes owed end n rest → Ends (taken_by takes (length owed)) (length owed) end
+pump-ends takes rest owed end n all = ends-all (taken_by takes 0) 0 (takes-nothing takes) refl
+pump-ends takes rest owed end n (nothing owes told kind) =
+    ends-none (taken_by takes (length owed)) (length owed) _ (first-none takes rest owed owes told)
+    (some-owed owed owes)
+pump-ends takes rest owed end n (fault {e = e} owes told) =
+    ends-none (taken_by takes (length owed)) (length owed) e (first-fault takes rest owed e told) (some-owed owed owes)
+pump-ends takes rest owed end n (some middle first k more pos told later) =
+    let h = first-some takes middle owed first pos told in
+    let further = pump-ends middle rest (drop first owed) end k later in
+    let left = length-drop first owed in
+    let after : Ends (taken_by middle (length owed - first)) (length owed - first) end =
+    subst (λ c. Ends (taken_by middle c) c end) left further in
+    subst (λ c. Ends c (length owed) end) (sym h.0)
+    (ends-later first (taken_by middle (length owed - first)) (length owed) end h.1 after)
+
+module _ (way : Telling) where
+  pumps-take-by : (h g : HubState way) (key : ℕ) (takes rest : List Take) (reply : Reply) (c : ClientState)
+      (result : Result (Unit {0}) HubError) → PumpsFrom WritesAsTold h key (Some c) takes result rest g
+      → reply ≡ done result → IsPumpReply (taken_by takes (length c.owed) == length c.owed) reply
+  pumps-take-by h g key takes rest reply c result (end, n, pumps, is, puts) e =
+      subst (λ r. IsPumpReply (taken_by takes (length c.owed) == length c.owed) r) (sym (e ∙ ap done is))
+      (pump-ends takes rest c.owed end n pumps)
+
+  pub pumps-take : EachPumpTakesAsTold way
+  pumps-take h g key takes reply c at (result, rest, f, e) = (
+    pumps-take-by h g key takes rest reply c result
+        (subst (λ o. PumpsFrom WritesAsTold h key o takes result rest g) at f) e,
+    pumped-left h g key takes reply c at (result, rest, f, e),
+  )
 
 -- ---- any writer, told of
 
@@ -398,7 +372,7 @@ module _ (S : Type 0) (step : S → List ℕ → Result ℕ Error → S → Type
             (some later.0 j k owes more (refl, refl) after),
       )
 
-  told-from : (h g : HubState) (key : ℕ) (o : Option ClientState) (s t : S) (result : Result (Unit {0}) HubError)
+  told-from : (h g : HubState as_kept) (key : ℕ) (o : Option ClientState) (s t : S) (result : Result (Unit {0}) HubError)
       → PumpsFrom step h key o s result t g
       → (takes : List Take) × PumpsFrom WritesAsTold h key o takes result [] g
   told-from h g key None s t result f = ([], (f.0, refl, f.2))
@@ -408,5 +382,5 @@ module _ (S : Type 0) (step : S → List ℕ → Result ℕ Error → S → Type
 
   pub pumps-served : EachPumpIsServed step
   pumps-served h g key s t result f =
-      let told = told-from h g key (h.client key) s t result f in
+      let told = told-from h g key (clients_in h key) s t result f in
       (told.0, (result, [], told.1, refl))

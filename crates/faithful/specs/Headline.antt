@@ -9,7 +9,8 @@ use Rattle.termrelay.specs.Answers.{is_frame}
 use Rattle.termrelay.specs.declared.answer.Answer.TheVariants.{Unsure}
 use Rattle.termview.specs.Seen.{seen}
 use Rattle.termrelay.specs.Calls.{Call}
-use Rattle.faithful.specs.History.{Reply, Entry, Story}
+use Rattle.termrelay.specs.declared.call.Reply.{Reply}
+use Rattle.faithful.specs.History.{Entry, Story, size_of_story}
 use Rattle.faithful.specs.Judge.{texts, last_frame, last_whole, judged, IsSure}
 use Rattle.faithful.specs.Laws.{IsSession}
 
@@ -28,7 +29,7 @@ WholeFramesAreShown = (rows cols : ℕ) (calls : List Call) (replies : List Repl
     → IsSession rows cols calls replies n t → t.entries ≡ front ++ back → given moves ≡ texts front
     → Leads moves [] None parsed hold
     → (hold ≡ None)
-    × (IsSure (last_frame None front) → shown_of (seen t.size parsed) ≡ judged rows cols (last_frame None front))
+    × (IsSure (last_frame None front) → shown_of (seen (size_of_story t) parsed) ≡ judged rows cols (last_frame None front))
 
 -- A new view of a session's size has parsed so much of these pieces, which are a beginning of what was pumped to the
 -- session; each of its frames is below the hold's limit.
@@ -36,7 +37,7 @@ pub record Reads (rows cols : ℕ) (calls : List Call) (replies : List Reply) (n
     (pieces : List (List ℕ)) (parsed : List ℕ) : Type 0 where
   pub session : IsSession rows cols calls replies n t
   pub beyond : List ℕ
-  pub pumped : concat pieces ++ beyond ≡ t.pumped
+  pub pumped : concat pieces ++ beyond ≡ t.session.pumped
   pub short : AllByRecursion (λ e. length e.text < limit) t.entries
   pub hold : Option (List ℕ)
   pub leads : Leads (map Gives pieces) [] None parsed hold
@@ -49,14 +50,14 @@ last_read t pieces = last_whole None t.entries (length (concat pieces))
 abbrev pub LastWholeFrameIsShown : Type 0
 LastWholeFrameIsShown = (rows cols : ℕ) (calls : List Call) (replies : List Reply) (n : ℕ) (t : Story)
     (pieces : List (List ℕ)) (parsed : List ℕ) → Reads rows cols calls replies n t pieces parsed
-    → IsSure (last_read t pieces) → shown_of (seen t.size parsed) ≡ judged rows cols (last_read t pieces)
+    → IsSure (last_read t pieces) → shown_of (seen (size_of_story t) parsed) ≡ judged rows cols (last_read t pieces)
 
 -- so a view that reads more, but no whole frame more, shows the same
 abbrev pub NoFrameIsTorn : Type 0
 NoFrameIsTorn = (rows cols : ℕ) (calls : List Call) (replies : List Reply) (n : ℕ) (t : Story)
     (pieces more : List (List ℕ)) (parsed parsed' : List ℕ) → Reads rows cols calls replies n t pieces parsed
     → Reads rows cols calls replies n t (pieces ++ more) parsed' → last_read t (pieces ++ more) ≡ last_read t pieces
-    → IsSure (last_read t pieces) → shown_of (seen t.size parsed') ≡ shown_of (seen t.size parsed)
+    → IsSure (last_read t pieces) → shown_of (seen (size_of_story t) parsed') ≡ shown_of (seen (size_of_story t) parsed)
 
 -- and views of two sessions whose last frames were taken at one moment show the same
 abbrev pub OneMomentShowsTheSame : Type 0
@@ -65,4 +66,5 @@ OneMomentShowsTheSame = (rows cols : ℕ) (calls : List Call) (replies : List Re
     → Reads rows cols calls replies n t pieces parsed → Reads rows cols calls replies m u others parsed'
     → last_read t pieces ≡ Some e → last_read u others ≡ Some f → e.moment ≡ f.moment
     → (e.answer ≡ Unsure → ⊥) → (f.answer ≡ Unsure → ⊥)
-    → (t.size ≡ u.size) × (shown_of (seen t.size parsed) ≡ shown_of (seen u.size parsed'))
+    → (size_of_story t ≡ size_of_story u)
+    × (shown_of (seen (size_of_story t) parsed) ≡ shown_of (seen (size_of_story u) parsed'))

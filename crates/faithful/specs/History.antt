@@ -1,33 +1,44 @@
 -- What happens to a hub and its clients, as the calls and their replies tell it.
-use Rattle.std.specs.Prelude.{◌≡◌, ℕ, ◌==◌, nat_eq, Bool, true, false, ◌&&◌, List, [], ◌∷◌, ◌++◌, map}
-use Rattle.std.specs.Prelude.{length, take, drop, Option, Some, None, is_some, if◌then◌else◌}
-use Rattle.vt100_picture.specs.Term.{Size, Shown}
-use Rattle.vt100_core.specs.Picture.{size_of}
-use Rattle.vt100_state.specs.State.{State}
-use Rattle.vt100_state.specs.Shown.{shown_state}
-use Rattle.vt100_state.specs.Made.{Act, Fed, Resized, made}
+use Rattle.std.specs.Prelude.{◌≡◌, ℕ, Bool, true, false, List, [], ◌∷◌, ◌++◌, map, Option, Some, None, if◌then◌else◌}
+use Rattle.vt100_picture.specs.Term.{Size}
+use Rattle.vt100_state.specs.Made.{Act, made}
 use Rattle.termrelay.specs.Frame.{frame_text}
-use Rattle.termrelay.specs.Answers.{ClientState, is_frame, answer_of, after_answer}
+use Rattle.termrelay.specs.Answers.{ClientState, is_frame}
+use Rattle.termrelay.specs.Hub.{Telling, HubState, size_in, shown_in, clients_in, no_clients}
 use Rattle.termrelay.specs.declared.answer.Answer.{Answer}
-use Rattle.termrelay.specs.declared.call.Take.{Take}
-use Rattle.termrelay.specs.Calls.{Call, Feed, Resize, Attach, Detach, Frame, Pump, taken_by, IsCall}
+use Rattle.termrelay.specs.declared.call.Reply.{Reply}
+use Rattle.termrelay.specs.declared.call.Reply.TheVariants.{Done, Attached, Answered}
+use Rattle.termrelay.specs.Calls.{Call, Resize, Attach, Detach, Frame, Pump, IsCall, Serves}
+use Rattle.termrelay.specs.Log.{SessionView, is_of, change_last, begun, ended, grown, bytes_taken}
 
--- ---- replies
+-- ---- hubs
 
--- there is no memory, the hub has failed, no client has the key, or the writer failed or took nothing
-pub data Refusal : Type 0 where
-  Memory : Refusal
-  Failed : Refusal
-  UnknownClient : Refusal
-  Write : Refusal
+-- a hub's first size, what was fed and resized since, and whether it has failed
+pub record Past : Type 0 where
+  pub rows : ℕ
+  pub cols : ℕ
+  pub acts : List Act
+  pub failed : Bool
 
-pub data Reply : Type 0 where
-  Done : Reply
-  Attached : ℕ → Reply
-  Answered : Answer → Reply
-  Refused : Refusal → Reply
+-- a hub is told of by its past, and its clients by what is at each key
+abbrev pub as_told : Telling
+as_told = record {
+  Parser = Past;
+  screen = λ p. record { state = made p.rows p.cols 0 p.acts; failed = p.failed };
+  goes = λ p act q. q ≡ record p { acts = p.acts ++ act ∷ [] };
+  fails = λ p q. q ≡ record p { failed = true };
+  Clients = ℕ → Option ClientState;
+  client = λ clients. clients;
+}
 
--- ---- histories
+-- a new one
+abbrev pub fresh : ℕ → ℕ → HubState as_told
+fresh rows cols = record {
+  parser = record { rows = rows; cols = cols; acts = []; failed = false };
+  clients = no_clients;
+}
+
+-- ---- sessions
 
 -- an answer to a client's request for a frame: all that was fed and resized before it, and the frame's text
 pub record Entry : Type 0 where
@@ -35,166 +46,56 @@ pub record Entry : Type 0 where
   pub answer : Answer
   pub text : List ℕ
 
--- a session: the key of its client, the screen's size, whether it hasn't ended, what it was answered, the bytes that
--- its writers took, and the client as the hub keeps it
+-- a session of a log, with what it was answered
 pub record Story : Type 0 where
-  pub client : ℕ
-  pub size : Size
-  pub live : Bool
+  pub session : SessionView
   pub entries : List Entry
-  pub pumped : List ℕ
-  pub kept : ClientState
 
--- a hub: its first size, what was fed and resized since, whether it has failed, and the sessions in the order of their
--- attaches
-pub record Book : Type 0 where
-  pub rows : ℕ
-  pub cols : ℕ
-  pub acts : List Act
-  pub failed : Bool
-  pub stories : List Story
+abbrev pub size_of_session : SessionView → Size
+size_of_session s = record { rows = s.rows; cols = s.cols }
 
--- a new one
-abbrev pub fresh : ℕ → ℕ → Book
-fresh rows cols = record { rows = rows; cols = cols; acts = []; failed = false; stories = [] }
+abbrev pub size_of_story : Story → Size
+size_of_story t = size_of_session t.session
 
--- what the program's bytes and the resizes have made
-abbrev pub state_now : Book → State
-state_now b = made b.rows b.cols 0 b.acts
+-- it is of this key, and hasn't ended
+abbrev pub is_on : ℕ → Story → Bool
+is_on key t = is_of key t.session
 
-abbrev pub size_now : Book → Size
-size_now b = size_of (state_now b).shown
+-- its session is changed so
+abbrev pub with_session : (SessionView → SessionView) → Story → Story
+with_session f t = record t { session = f t.session }
 
-abbrev pub shown_now : Book → Shown
-shown_now b = shown_state (state_now b)
+abbrev pub with_entries : List Entry → Story → Story
+with_entries es t = record t { entries = t.entries ++ es }
 
--- ---- the session of a key
-
-abbrev pub has_key : ℕ → Story → Bool
-has_key key t = t.live && nat_eq t.client key
-
-abbrev pub found_or : Option Story → Option Story → Option Story
-found_or None t = t
-found_or (Some u) t = Some u
-
--- the last one of this key that hasn't ended
-abbrev pub found : ℕ → List Story → Option Story
-found key [] = None
-found key (t ∷ ts) = found_or (found key ts) (if has_key key t then Some t else None)
-
--- it is changed so
-abbrev pub changed : ℕ → (Story → Story) → List Story → List Story
-changed key f [] = []
-changed key f (t ∷ ts) =
-    if is_some (found key ts) then t ∷ changed key f ts
-    else if has_key key t then f t ∷ ts
-    else t ∷ ts
-
--- ---- what a call does
-
-abbrev pub nothing_kept : ClientState
-nothing_kept = record { owed = []; base = None }
-
-abbrev pub begun : Book → ℕ → Story
-begun b key = record {
-  client = key;
-  size = size_now b;
-  live = true;
-  entries = [];
-  pumped = [];
-  kept = nothing_kept;
-}
-
-abbrev pub ended : Story → Story
-ended t = record t { live = false; kept = nothing_kept }
-
-abbrev pub entry_of : Book → ClientState → Answer → Entry
-entry_of b c answer = record {
-  moment = b.acts;
+-- an answer to the client that may be at a key
+abbrev pub entries_of : HubState as_told → Option ClientState → Answer → List Entry
+entries_of h None answer = []
+entries_of h (Some c) answer = record {
+  moment = h.parser.acts;
   answer = answer;
-  text = if is_frame answer then frame_text (size_now b) c.base (shown_now b) else [];
-}
+  text = if is_frame answer then frame_text (size_in h) c.base (shown_in h) else [];
+} ∷ []
 
-abbrev pub answered : Book → Answer → Story → Story
-answered b answer t = record t {
-  entries = t.entries ++ entry_of b t.kept answer ∷ [];
-  kept = after_answer (size_now b) (shown_now b) t.kept answer;
-}
-
-abbrev pub pumped_by : List Take → Story → Story
-pumped_by takes t = record t {
-  pumped = t.pumped ++ take (taken_by takes (length t.kept.owed)) t.kept.owed;
-  kept = record (t.kept) { owed = drop (taken_by takes (length t.kept.owed)) t.kept.owed };
-}
-
--- a call that gets another reply changes nothing
-abbrev pub book_after : Book → Call → Reply → Book
-book_after b (Feed bytes) Done = record b { acts = b.acts ++ Fed bytes ∷ [] }
-book_after b (Feed bytes) (Refused Memory) = record b { failed = true }
-book_after b (Resize rows cols) Done = record b {
-  acts = b.acts ++ Resized rows cols ∷ [];
-  stories = map ended b.stories;
-}
-book_after b Attach (Attached key) = record b { stories = b.stories ++ begun b key ∷ [] }
-book_after b (Detach key) Done = record b { stories = changed key ended b.stories }
-book_after b (Frame key) (Answered answer) = record b { stories = changed key (answered b answer) b.stories }
-book_after b (Pump key takes) reply = record b { stories = changed key (pumped_by takes) b.stories }
-book_after b call reply = b
-
--- ---- which reply can come
-
--- to a call that may find no memory
-abbrev pub CanDo : Bool → Reply → Type 0
-CanDo failed Done = failed ≡ false
-CanDo failed (Refused Memory) = failed ≡ false
-CanDo failed (Refused Failed) = failed ≡ true
-CanDo failed reply = ⊥
-
-abbrev pub CanAttach : Book → Reply → Type 0
-CanAttach b (Attached key) = (b.failed ≡ false) × (found key b.stories ≡ None)
-CanAttach b (Refused Memory) = b.failed ≡ false
-CanAttach b (Refused Failed) = b.failed ≡ true
-CanAttach b reply = ⊥
-
-abbrev pub CanDetach : Option Story → Reply → Type 0
-CanDetach None reply = reply ≡ Refused UnknownClient
-CanDetach (Some t) reply = reply ≡ Done
-
-abbrev pub answer_now : Book → Story → Answer
-answer_now b t = answer_of (state_now b) t.kept
-
-abbrev pub CanFrame : Book → Option Story → Reply → Type 0
-CanFrame b None reply = reply ≡ Refused UnknownClient
-CanFrame b (Some t) (Answered answer) = (b.failed ≡ false) × (answer ≡ answer_now b t)
-CanFrame b (Some t) (Refused Memory) = (b.failed ≡ false) × (is_frame (answer_now b t) ≡ true)
-CanFrame b (Some t) (Refused Failed) = b.failed ≡ true
-CanFrame b (Some t) reply = ⊥
-
-abbrev pub pump_reply : List Take → ℕ → Reply
-pump_reply takes n = if taken_by takes n == n then Done else Refused Write
-
-abbrev pub CanPump : List Take → Option Story → Reply → Type 0
-CanPump takes None reply = reply ≡ Refused UnknownClient
-CanPump takes (Some t) reply = reply ≡ pump_reply takes (length t.kept.owed)
-
-abbrev pub CanReply : Book → Call → Reply → Type 0
-CanReply b (Feed bytes) reply = CanDo b.failed reply
-CanReply b (Resize rows cols) reply = CanDo b.failed reply
-CanReply b Attach reply = CanAttach b reply
-CanReply b (Detach key) reply = CanDetach (found key b.stories) reply
-CanReply b (Frame key) reply = CanFrame b (found key b.stories) reply
-CanReply b (Pump key takes) reply = CanPump takes (found key b.stories) reply
+-- The stories after a call on a hub h that gets this reply: their sessions change as those of a log, and an answer goes
+-- to the last one of its key that hasn't ended.
+abbrev pub stories_after : HubState as_told → Call → Reply → List Story → List Story
+stories_after h (Resize rows cols) Done ts = map (with_session ended) ts
+stories_after h Attach (Attached key) ts = ts ++ record { session = begun h key; entries = [] } ∷ []
+stories_after h (Detach key) Done ts = change_last (is_on key) (with_session ended) ts
+stories_after h (Frame key) (Answered answer) ts =
+    change_last (is_on key) (with_entries (entries_of h (clients_in h key) answer)) ts
+stories_after h (Pump key takes) reply ts =
+    change_last (is_on key) (with_session (grown (bytes_taken takes (clients_in h key)))) ts
+stories_after h call reply ts = ts
 
 -- ---- runs
 
--- these calls can get these replies
-abbrev pub CanRun : Book → List Call → List Reply → Type 0
-CanRun b [] [] = Unit {0}
-CanRun b (call ∷ calls) (reply ∷ replies) =
-    IsCall call × CanReply b call reply × CanRun (book_after b call reply) calls replies
-CanRun b [] (reply ∷ replies) = ⊥
-CanRun b (call ∷ calls) [] = ⊥
-
-abbrev pub books_after : Book → List Call → List Reply → Book
-books_after b (call ∷ calls) (reply ∷ replies) = books_after (book_after b call reply) calls replies
-books_after b calls replies = b
+-- one call after another, with numbers of the code's types: from a hub h and stories ts to k and us
+abbrev pub RunsTold : HubState as_told → List Story → List Call → List Reply → HubState as_told → List Story → Type 0
+RunsTold h ts [] [] k us = (k ≡ h) × (us ≡ ts)
+RunsTold h ts (call ∷ calls) (reply ∷ replies) k us =
+    (g : HubState as_told) × IsCall call × Serves h call reply g
+    × RunsTold g (stories_after h call reply ts) calls replies k us
+RunsTold h ts [] (reply ∷ replies) k us = ⊥
+RunsTold h ts (call ∷ calls) [] k us = ⊥

@@ -3,6 +3,5 @@ pub mod Judge
 pub mod Laws
 pub mod Headline
 pub mod Examples
-pub mod Clients
 pub mod Serves
 pub mod Logged

@@ -4,20 +4,16 @@ use Rattle.std.specs.List.{AllByRecursion, concat}
 use Rattle.vte.specs.Hold.{limit}
 use Rattle.vte.specs.Moves.{Gives}
 use Rattle.vte.specs.Frames.{Leads}
-use Rattle.vt100_picture.specs.Term.{Size, shown_of}
+use Rattle.vt100_picture.specs.Term.{shown_of}
 use Rattle.vt100_state.specs.Holds.{IsSide}
-use Rattle.termrelay.specs.Hub.{HubState, IsNewHub}
+use Rattle.termrelay.specs.Hub.{HubState, as_kept, IsNewHub}
 use Rattle.termrelay.specs.Calls.{Call}
 use Rattle.termrelay.specs.Log.{SessionView, LogView, empty_log, MadeAll}
 use Rattle.termview.specs.Seen.{seen}
-use Rattle.faithful.specs.History.{Story}
+use Rattle.faithful.specs.History.{Story, size_of_session}
 use Rattle.faithful.specs.Judge.{judged, IsSure}
 use Rattle.faithful.specs.Laws.{IsSession}
 use Rattle.faithful.specs.Headline.{Reads, last_read}
-use Rattle.faithful.specs.Serves.{told, IsLogged}
-
-abbrev pub size_of_session : SessionView → Size
-size_of_session s = record { rows = s.rows; cols = s.cols }
 
 -- A run on a new hub with an empty log has made these calls and left this log, of which this is the n-th session. A new
 -- view of the session's size has parsed so much of these pieces, which are a beginning of what was pumped to it.
@@ -25,9 +21,9 @@ pub record ReadsLog (rows cols : ℕ) (calls : List Call) (l : LogView) (n : ℕ
     (pieces : List (List ℕ)) (parsed : List ℕ) : Type 0 where
   pub height : IsSide rows
   pub width : IsSide cols
-  pub hub : HubState
+  pub hub : HubState as_kept
   pub new : IsNewHub rows cols hub
-  pub after : HubState
+  pub after : HubState as_kept
   pub ran : MadeAll hub empty_log calls after l
   pub is : slice_get l.sessions n ≡ Some s
   pub beyond : List ℕ
@@ -38,8 +34,8 @@ pub record ReadsLog (rows cols : ℕ) (calls : List Call) (l : LogView) (n : ℕ
 -- the story of a log's session, by the history that the calls and the log's replies tell
 pub record HasStory (rows cols : ℕ) (calls : List Call) (l : LogView) (n : ℕ) (s : SessionView) (t : Story)
     : Type 0 where
-  pub session : IsSession rows cols calls (map told l.replies) n t
-  pub logged : IsLogged s t
+  pub session : IsSession rows cols calls l.replies n t
+  pub logged : t.session ≡ s
 
 -- each of its frames is below the hold's limit
 abbrev pub AreShort : Story → Type 0
@@ -50,7 +46,7 @@ abbrev pub EachLoggedReadIsARead : Type 0
 EachLoggedReadIsARead = (rows cols : ℕ) (calls : List Call) (l : LogView) (n : ℕ) (s : SessionView)
     (pieces : List (List ℕ)) (parsed : List ℕ) → ReadsLog rows cols calls l n s pieces parsed
     → (t : Story) × HasStory rows cols calls l n s t
-    × (AreShort t → Reads rows cols calls (map told l.replies) n t pieces parsed)
+    × (AreShort t → Reads rows cols calls l.replies n t pieces parsed)
 
 -- The view shows what the judge says of the last frame that lies wholly in the pieces, unless that one wasn't sure.
 abbrev pub LoggedFramesAreShown : Type 0

@@ -1,10 +1,11 @@
 //! Facts about histories and far terminals. Each function does nothing: its contract is the fact.
-ghost use Rattle.faithful.specs.Clients.{EachCallKeepsClients};
-ghost use Rattle.faithful.specs.Examples.{ExampleIsTold};
-ghost use Rattle.faithful.specs.Laws.{EachSessionIsTold};
+ghost use Rattle.termrelay.specs.Hub.{as_kept};
+ghost use Rattle.faithful.specs.Examples.{EachExampleIsTold};
+ghost use Rattle.faithful.specs.History.{as_told};
+ghost use Rattle.faithful.specs.Laws.{EachSessionIsTold, EachClientHasASession};
 ghost use Rattle.faithful.specs.Headline.{EachTextIsAFrame, WholeFramesAreShown, LastWholeFrameIsShown, NoFrameIsTorn};
 ghost use Rattle.faithful.specs.Headline.{OneMomentShowsTheSame};
-ghost use Rattle.faithful.specs.Serves.{EachRunHasAHistory, EachPumpIsServed, EachLogHasAHistory};
+ghost use Rattle.faithful.specs.Serves.{EachPumpTakesAsTold, EachPumpIsServed, EachRunHasAHistory, EachLogHasAHistory};
 ghost use Rattle.faithful.specs.Logged.{EachLoggedReadIsARead, LoggedFramesAreShown};
 
 use termrelay::Taker;
@@ -47,20 +48,27 @@ pub fn one_moment_shows_the_same()
     ensures { OneMomentShowsTheSame }
 {}
 
-/// A short history, and where the judge says that its one frame is whole.
+/// A short history, whatever fault its writer has, and where the judge says that its one frame is whole.
 pub fn example_is_told()
-    ensures { ExampleIsTold }
+    ensures { EachExampleIsTold }
 {}
 
-/// What the hub keeps at each key, call by call: an attach puts a new client at a key, a detach takes one away, a
-/// resize takes all, a frame and a pump change the one that they are on, and nothing else changes.
-pub fn clients_are_kept()
-    ensures { EachCallKeepsClients }
+/// Whatever calls a new hub gets, it keeps a client at a key where a session of the key hasn't ended, and only there;
+/// and no two such sessions have one key.
+pub fn clients_have_sessions()
+    ensures { EachClientHasASession }
 {}
 
-/// Whatever calls a new hub gets, their replies are those of a history, and the hub keeps at each key what the history
-/// says; so all laws of histories hold of its clients. Unless it has failed, its parser stands where the history's
-/// bytes and resizes have led.
+/// A pump to a writer that is told of takes what is told and leaves the rest, and its reply says whether that was all:
+/// so of a hub by what the code keeps, and by what a history tells.
+pub fn pumps_take_as_told()
+    ensures kept { EachPumpTakesAsTold as_kept }
+    ensures told { EachPumpTakesAsTold as_told }
+{}
+
+/// Whatever calls a new hub gets, they are a history with the same replies, and the hub keeps at each key what the
+/// history says; so all laws of histories hold of its clients. Unless it has failed, its parser stands where the
+/// history's bytes and resizes have led.
 pub fn runs_have_histories()
     ensures { EachRunHasAHistory }
 {}
@@ -71,9 +79,9 @@ pub fn pumps_are_served<T: Taker>()
     ensures { EachPumpIsServed T.takes }
 {}
 
-/// Whatever calls a run makes on a new hub with an empty log, the log's replies are those of a history, and session by
-/// session client, size, pumped bytes and end are as the history tells; so all laws of histories hold of the log's
-/// sessions. Where a run ends for want of memory, these are the calls before that one.
+/// Whatever calls a run makes on a new hub with an empty log, they are a history with the log's replies, whose stories
+/// tell of the log's sessions; so all laws of histories hold of these. Where a run ends for want of memory, these are
+/// the calls before that one.
 pub fn logs_have_histories()
     ensures { EachLogHasAHistory }
 {}

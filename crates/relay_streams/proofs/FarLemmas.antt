@@ -1,5 +1,5 @@
 -- Views of a run's sessions.
-use Rattle.std.proofs.Common.{◌≡◌, ◌∙◌, ℕ, zero, suc, ◌≤◌, ◌<◌, ◌||◌, Bool, false, List, [], ◌∷◌, ◌++◌, length, take}
+use Rattle.std.proofs.Common.{◌≡◌, ◌∙◌, ℕ, zero, suc, ◌≤◌, ◌<◌, false, List, [], ◌∷◌, ◌++◌, length, take}
 use Rattle.std.proofs.Common.{drop, map}
 use Rattle.std.proofs.Common.{Option, None, Some, refl, sym, ap, subst, arith, take-append-drop}
 use Rattle.std.specs.Prelude.{slice_index_or}
@@ -7,21 +7,19 @@ use Rattle.std.specs.List.{list_any, slice_get, concat}
 use Rattle.vte.specs.Moves.{Gives}
 use Rattle.vte.specs.Frames.{Leads}
 use Rattle.vt100_picture.specs.Term.{Size, Term, shown_of}
-use Rattle.termrelay.specs.Hub.{HubState, IsNewHub}
+use Rattle.termrelay.specs.Hub.{HubState, as_kept, IsNewHub}
 use Rattle.termrelay.specs.Calls.{Call}
 use Rattle.termrelay.specs.Log.{SessionView, LogView, empty_log, MadeAll}
-use Rattle.termrelay.specs.declared.call.Reply.{Reply as Given}
 use Rattle.termview.specs.Seen.{seen}
 use Rattle.termview.specs.Standing.{HoldsAt, size_of}
 use Rattle.termview.specs.declared.view.View.{View}
 use Rattle.termview.specs.declared.until_cleared.UntilCleared.{UntilCleared}
-use Rattle.faithful.specs.History.{Reply, Story, fresh, books_after}
+use Rattle.faithful.specs.History.{Story}
 use Rattle.faithful.specs.Judge.{last_whole, judged, IsSure}
 use Rattle.faithful.specs.Headline.{last_read}
-use Rattle.faithful.specs.Serves.{told, AreLogged}
 use Rattle.faithful.proofs.HeadlineLemmas.{last-shown}
 use Rattle.faithful.proofs.ServesLemmas.{logs-follow}
-use Rattle.faithful.proofs.LogLemmas.{story-at}
+use Rattle.faithful.proofs.LoggedLemmas.{story-at}
 use Rattle.relay_streams.specs.Led.{answers}
 use Rattle.relay_streams.specs.Pieces.{cut_by}
 use Rattle.relay_streams.specs.Far.{IsFarView, FarViewsShow, is_starved, last_given}
@@ -40,79 +38,75 @@ past-get [] n h = refl
 past-get (x ∷ xs) zero h = absurd (omega (arith, h))
 past-get (x ∷ xs) (suc n) h = past-get xs n (omega (arith, h))
 
-told-any : (p : Reply → Bool) (rs : List Given) → list_any (λ r. p (told r)) rs ≡ list_any p (map told rs)
-told-any p [] = refl
-told-any p (r ∷ rs) = ap (λ b. p (told r) || b) (told-any p rs)
+none-logged : (ts : List Story) (n : ℕ) → slice_get (map (λ t. t.session) ts) n ≡ None → length ts ≤ n
+none-logged [] n is = omega arith
+none-logged (t ∷ ts) zero is = absurd (let no : Some t.session ≡ None = is in cc)
+none-logged (t ∷ ts) (suc n) is = omega (arith, none-logged ts n is)
 
-none-logged : (ss : List SessionView) (ts : List Story) (n : ℕ) → AreLogged ss ts → slice_get ss n ≡ None
-    → length ts ≤ n
-none-logged [] [] n are is = omega arith
-none-logged [] (t ∷ ts) n are is = absurd are
-none-logged (x ∷ ss) [] n are is = absurd are
-none-logged (x ∷ ss) (t ∷ ts) zero are is = absurd (let no : Some x ≡ None = is in cc)
-none-logged (x ∷ ss) (t ∷ ts) (suc n) are is = omega (arith, none-logged ss ts n are.1 is)
+module _ (rows cols : ℕ) (calls : List Call) (h g : HubState as_kept) (m : LogView) (new : IsNewHub rows cols h)
+    (ran : MadeAll h empty_log calls g m) (fed : list_any is_starved m.replies ≡ false) (n most : ℕ) (cuts : List ℕ)
+  where
+    fed-all : list_any is_starved ran.0 ≡ false
+    fed-all = ap (list_any is_starved) (sym ran.1) ∙ fed
 
-module _ (rows cols : ℕ) (calls : List Call) (h g : HubState) (m : LogView) (new : IsNewHub rows cols h)
-    (ran : MadeAll h empty_log calls g m) (fed : list_any (λ r. is_starved (told r)) m.replies ≡ false) (n most : ℕ)
-    (cuts : List ℕ) where
-  fed-all : list_any is_starved (map told ran.0) ≡ false
-  fed-all =
-      sym (told-any is_starved ran.0) ∙ ap (λ (rs : List Given). list_any (λ r. is_starved (told r)) rs) (sym ran.1)
-      ∙ fed
+    -- there is no such session
+    pub none-found : slice_get m.sessions n ≡ None → IsFarView rows cols calls n most cuts None
+    none-found is =
+        let all = logs-follow rows cols calls ran.0 h g m.sessions new ran.2 in
+        record {
+          replies = ran.0;
+          hub = all.0;
+          stories = all.1;
+          ran = all.2;
+          fed = fed-all;
+          is = none-logged all.1 n (ap (λ xs. slice_get xs n) all.4 ∙ is);
+        }
 
-  -- there is no such session
-  pub none-found : slice_get m.sessions n ≡ None → IsFarView rows cols calls n most cuts None
-  none-found is =
-      let all = logs-follow rows cols calls ran.0 h g m.sessions new ran.2 in
-      record {
-        replies = map told ran.0;
-        ran = all.0;
-        fed = fed-all;
-        is = none-logged m.sessions (books_after (fresh rows cols) calls (map told ran.0)).stories n all.2 is;
-      }
-
-  -- a view has read it
-  pub one-found : (s : SessionView) (v : View UntilCleared) (parsed : List ℕ) (hold : Option (List ℕ))
-      → slice_get m.sessions n ≡ Some s
-      → Leads (map Gives (cut_by cuts (take most s.pumped))) [] None parsed hold → HoldsAt answers v parsed hold
-      → (size_of v).rows ≡ s.rows → (size_of v).cols ≡ s.cols → IsFarView rows cols calls n most cuts (Some v)
-  one-found s v parsed hold is leads holds high wide =
-      let all = logs-follow rows cols calls ran.0 h g m.sessions new ran.2 in
-      let found = story-at m.sessions (books_after (fresh rows cols) calls (map told ran.0)).stories n s all.2 is in
-      let given : take most s.pumped ≡ take most found.story.pumped =
-      ap (λ (xs : List ℕ). take most xs) found.logged.pumped in
-      let rows_are = high ∙ found.logged.rows in
-      let cols_are = wide ∙ found.logged.cols in
-      record {
-        replies = map told ran.0;
-        ran = all.0;
-        fed = fed-all;
-        is = (
-          found.story,
-          found.is,
-          record {
-            parsed = parsed;
-            hold = hold;
-            leads = subst (λ (xs : List ℕ). Leads (map Gives (cut_by cuts xs)) [] None parsed hold) given leads;
-            holds = holds;
-            size = λ i. record { rows = rows_are i; cols = cols_are i };
-          },
-        );
-      }
+    -- a view has read it
+    pub one-found : (s : SessionView) (v : View UntilCleared) (parsed : List ℕ) (hold : Option (List ℕ))
+        → slice_get m.sessions n ≡ Some s
+        → Leads (map Gives (cut_by cuts (take most s.pumped))) [] None parsed hold → HoldsAt answers v parsed hold
+        → (size_of v).rows ≡ s.rows → (size_of v).cols ≡ s.cols → IsFarView rows cols calls n most cuts (Some v)
+    one-found s v parsed hold is leads holds high wide =
+        let all = logs-follow rows cols calls ran.0 h g m.sessions new ran.2 in
+        let found = story-at m.sessions all.1 n s all.4 is in
+        let same = sym found.logged in
+        let given : take most s.pumped ≡ take most found.story.session.pumped =
+        ap (λ (x : SessionView). take most x.pumped) same in
+        let rows_are = high ∙ ap (λ (x : SessionView). x.rows) same in
+        let cols_are = wide ∙ ap (λ (x : SessionView). x.cols) same in
+        record {
+          replies = ran.0;
+          hub = all.0;
+          stories = all.1;
+          ran = all.2;
+          fed = fed-all;
+          is = (
+            found.story,
+            found.is,
+            record {
+              parsed = parsed;
+              hold = hold;
+              leads = subst (λ (xs : List ℕ). Leads (map Gives (cut_by cuts xs)) [] None parsed hold) given leads;
+              holds = holds;
+              size = λ i. record { rows = rows_are i; cols = cols_are i };
+            },
+          );
+        }
 
 -- ---- what is shown
 
 pub far-shown : FarViewsShow
 far-shown rows cols calls replies n most cuts t v session r short sure =
-    let given = take most t.pumped in
+    let given = take most t.session.pumped in
     let pieces = cut_by cuts given in
     let joined : concat pieces ≡ given = concat-cut_by cuts given in
     let same : last_given t most ≡ last_read t pieces =
     ap (λ (xs : List ℕ). last_whole None t.entries (length xs)) (sym joined) in
     let shown = last-shown rows cols calls replies n t pieces r.parsed (record {
       session = session;
-      beyond = drop most t.pumped;
-      pumped = ap (λ xs. xs ++ drop most t.pumped) joined ∙ take-append-drop most t.pumped;
+      beyond = drop most t.session.pumped;
+      pumped = ap (λ xs. xs ++ drop most t.session.pumped) joined ∙ take-append-drop most t.session.pumped;
       short = short;
       hold = r.hold;
       leads = r.leads;

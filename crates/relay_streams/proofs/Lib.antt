@@ -6,6 +6,7 @@ pub mod OutcomeLemmas
 pub mod OutputLemmas
 pub mod PieceLemmas
 pub mod RelayedLemmas
+pub mod SessionLemmas
 pub mod StreamLemmas
 pub mod TakesLemmas
 pub mod TurnLemmas

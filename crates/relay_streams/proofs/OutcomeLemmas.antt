@@ -15,7 +15,7 @@ use Rattle.takers.specs.Output.{TakesFront}
 use Rattle.relay_streams.specs.Pieces.{pieces_of, piece_len, Drained}
 use Rattle.relay_streams.specs.Relayed as relayed
 use Rattle.relay_streams.specs.Relayed.{Streams, Relays}
-use Rattle.takers.specs.Sent.{Sends, Flushes}
+use Rattle.takers.specs.Sent.{Sends}
 use Rattle.takers.specs.Pump.{Writes}
 use Rattle.relay_streams.specs.Shown as shown
 use Rattle.relay_streams.specs.Shown.{IsShown, Prints, Shows, sized}

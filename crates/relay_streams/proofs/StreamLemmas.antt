@@ -3,7 +3,7 @@ use Rattle.std.proofs.Common.{◌≡◌, ℕ, List, [], ◌∷◌, ◌++◌, Opt
 use Rattle.std.specs.List.{concat}
 use Rattle.std.specs.declared.io.Error.{Error}
 use Rattle.vt100_picture.specs.Term.{Shown}
-use Rattle.termrelay.specs.Hub.{HubState, Attaches}
+use Rattle.termrelay.specs.Hub.{HubState, as_kept, Attaches}
 use Rattle.termrelay.specs.declared.error.HubError.{HubError}
 use Rattle.termrelay.specs.declared.error.HubError.TheVariants as hub
 use Rattle.relay_streams.specs.declared.error.RelayError.{RelayError}
@@ -19,7 +19,7 @@ use Rattle.relay_streams.proofs.PieceLemmas.{concat-push}
 use Rattle.takers.proofs.SendLemmas.{sends-more}
 
 -- a hub has refused a client for want of memory
-pub attach-refused : (h g : HubState) (e : HubError) → Attaches h (Err e) g → fault_of e ≡ Memory
+pub attach-refused : (h g : HubState as_kept) (e : HubError) → Attaches h (Err e) g → fault_of e ≡ Memory
 attach-refused h g hub.Memory a = refl
 attach-refused h g hub.Failed a = refl
 attach-refused h g hub.UnknownClient a = refl
@@ -27,7 +27,7 @@ attach-refused h g (hub.Write e) a = absurd a
 
 module _ (S W : Type 0) (gives : S → ℕ → Result (List ℕ) Error → S → Type 0)
     (takes : W → List ℕ → Result ℕ Error → W → Type 0) (rows cols : ℕ) (past : List (List ℕ)) (piece : List ℕ)
-    (key : ℕ) (g : HubState) where
+    (key : ℕ) (g : HubState as_kept) where
   abbrev pieces : List (List ℕ)
   pieces = past ++ piece ∷ []
 

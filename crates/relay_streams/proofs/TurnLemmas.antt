@@ -13,8 +13,8 @@ use Rattle.vt100_state.specs.Made.{Act, Fed}
 use Rattle.vt100.specs.Parsing.{StandsAt}
 use Rattle.termrelay.specs.Answers.{ClientState, after_answer}
 use Rattle.takers.specs.Pump.{Pumps}
-use Rattle.termrelay.specs.Hub.{HubState, with_client, new_client, size_in, shown_in, IsNewHub, Attaches}
-use Rattle.termrelay.specs.Hub.{Feeds, CanFrame, framed, Frames, pump_answer, PumpsFrom, PumpsClient}
+use Rattle.termrelay.specs.Hub.{HubState, as_kept, clients_in, new_client, size_in, shown_in, Puts}
+use Rattle.termrelay.specs.Hub.{IsNewHub, Attaches, Feeds, CanFrame, Framed, Frames, pump_answer, PumpsFrom, PumpsClient}
 use Rattle.termrelay.specs.declared.answer.Answer.{Answer}
 use Rattle.termrelay.specs.declared.error.HubError.{HubError}
 use Rattle.termrelay.specs.declared.error.HubError.TheVariants as hub
@@ -26,66 +26,68 @@ use Rattle.relay_streams.proofs.FrameLists.{pieces-make}
 abbrev pub over : Result (Unit {0}) HubError
 over = Ok tt
 
-at-key : (h : HubState) (key : ℕ) (slot : Option ClientState) → (with_client h key slot).client key ≡ slot
-at-key h key slot = ap (λ b. if b then slot else h.client key) (eq-eqb key key refl)
+at-key : (h g : HubState as_kept) (key : ℕ) (slot : Option ClientState) → Puts h key slot g → clients_in g key ≡ slot
+at-key h g key slot puts =
+    ap (λ (clients : ℕ → Option ClientState). clients key) puts.1
+    ∙ ap (λ b. if b then slot else clients_in h key) (eq-eqb key key refl)
 
 -- the first client of a new hub
-pub first-attached : (rows cols key : ℕ) (h g : HubState) → IsNewHub rows cols h → Attaches h (Ok key) g
+pub first-attached : (rows cols key : ℕ) (h g : HubState as_kept) → IsNewHub rows cols h → Attaches h (Ok key) g
     → Relaying rows cols [] None g key
-first-attached rows cols key h g new at =
-    subst (λ (x : HubState). Relaying rows cols [] None x key) (sym at.2)
-    (record { parser = new.parser; client = at-key h key (Some new_client) })
+first-attached rows cols key h g new at = record {
+  parser = subst (λ p. StandsAt p rows cols 0 []) (sym at.2.0) new.parser;
+  client = at-key h g key (Some new_client) at.2;
+}
 
 -- a piece was fed
-pub piece-fed : (rows cols : ℕ) (pieces : List (List ℕ)) (piece : List ℕ) (base : Option Shown) (h g : HubState)
+pub piece-fed : (rows cols : ℕ) (pieces : List (List ℕ)) (piece : List ℕ) (base : Option Shown) (h g : HubState as_kept)
     (key : ℕ) → Relaying rows cols pieces base h key → Feeds h piece over g
     → Relaying rows cols (pieces ++ piece ∷ []) base g key
 piece-fed rows cols pieces piece base h g key r f = record {
   parser = subst (λ (acts : List Act). StandsAt g.parser rows cols 0 acts) (sym (map-append Fed pieces (piece ∷ [])))
       (f.3 rows cols 0 (map Fed pieces) r.parser);
-  client = ap (λ c. c key) f.2 ∙ r.client;
+  client = ap (λ (c : ℕ → Option ClientState). c key) f.2 ∙ r.client;
 }
 
 -- a frame was asked for
-abbrev Asked : ℕ → ℕ → List (List ℕ) → Option Shown → HubState → HubState → ℕ → Type 0
+abbrev Asked : ℕ → ℕ → List (List ℕ) → Option Shown → HubState as_kept → HubState as_kept → ℕ → Type 0
 Asked rows cols pieces base h g key =
-    (g.parser ≡ h.parser) × (g.client key ≡ Some (asked rows cols (concat pieces) base))
+    (g.parser ≡ h.parser) × (clients_in g key ≡ Some (asked rows cols (concat pieces) base))
 
-pub frame-asked : (rows cols : ℕ) (pieces : List (List ℕ)) (base : Option Shown) (h g : HubState) (key : ℕ)
+pub frame-asked : (rows cols : ℕ) (pieces : List (List ℕ)) (base : Option Shown) (h g : HubState as_kept) (key : ℕ)
     (answer : Answer) → Relaying rows cols pieces base h key → Frames h key (Ok answer) g
     → Asked rows cols pieces base h g key
 unfolding asked
 frame-asked rows cols pieces base h g key answer r f =
     let can : CanFrame h.parser.screen (Some (idle base)) (Ok answer) =
     subst (λ (o : Option ClientState). CanFrame h.parser.screen o (Ok answer)) r.client f.0 in
-    let is : g ≡ with_client h key (Some (after_answer (size_in h) (shown_in h) (idle base) answer)) =
-    f.1 ∙ ap (λ (o : Option ClientState). framed h key o (Ok answer)) r.client in
+    let is : Puts h key (Some (after_answer (size_in h) (shown_in h) (idle base) answer)) g =
+    subst (λ (o : Option ClientState). Framed h key o (Ok answer) g) r.client f.1 in
     let state : h.parser.screen.state ≡ state_after rows cols (concat pieces) =
     ap (λ (v : ScreenView). v.state) r.parser.screen ∙ pieces-make rows cols pieces in
     let client : after_answer (size_in h) (shown_in h) (idle base) answer
     ≡ asked_on (state_after rows cols (concat pieces)) base =
     ap (after_answer (size_in h) (shown_in h) (idle base)) can.1 ∙ ap (λ (s : State). asked_on s base) state in (
-      ap (λ (x : HubState). x.parser) is,
-      ap (λ (x : HubState). x.client key) is
-          ∙ at-key h key (Some (after_answer (size_in h) (shown_in h) (idle base) answer))
+      is.0,
+      at-key h g key (Some (after_answer (size_in h) (shown_in h) (idle base) answer)) is
           ∙ ap (λ (c : ClientState). Some c) client,
     )
 
 module _ (W : Type 0) (takes : W → List ℕ → Result ℕ Error → W → Type 0) where
   -- what was owed was pumped whole
-  pumped-by : (h g : HubState) (key : ℕ) (c : ClientState) (w v : W) (end : Result (Unit {0}) Error) (n : ℕ)
+  pumped-by : (h g : HubState as_kept) (key : ℕ) (c : ClientState) (w v : W) (end : Result (Unit {0}) Error) (n : ℕ)
       → Pumps takes w c.owed end n v → over ≡ pump_answer end
-      → g ≡ with_client h key (Some (record c { owed = drop n c.owed }))
-      → ((k : ℕ) × Pumps takes w c.owed (Ok tt) k v) × (g.parser ≡ h.parser) × (g.client key ≡ Some (idle c.base))
+      → Puts h key (Some (record c { owed = drop n c.owed })) g
+      → ((k : ℕ) × Pumps takes w c.owed (Ok tt) k v) × (g.parser ≡ h.parser) × (clients_in g key ≡ Some (idle c.base))
   pumped-by h g key c w v (Ok u) n pumps is after = (
     (n, pumps),
-    ap (λ (x : HubState). x.parser) after,
-    ap (λ (x : HubState). x.client key) after ∙ at-key h key (Some (record c { owed = drop n c.owed }))
+    after.0,
+    at-key h g key (Some (record c { owed = drop n c.owed })) after
         ∙ ap (λ (xs : List ℕ). Some (record c { owed = xs })) (takes-all W takes w v c.owed n pumps),
   )
   pumped-by h g key c w v (Err e) n pumps is after = absurd (cc)
 
-  pub turn-ends : (rows cols : ℕ) (pieces : List (List ℕ)) (base : Option Shown) (h k g : HubState) (key : ℕ)
+  pub turn-ends : (rows cols : ℕ) (pieces : List (List ℕ)) (base : Option Shown) (h k g : HubState as_kept) (key : ℕ)
       (w v : W) → Relaying rows cols pieces base h key → Asked rows cols pieces base h k key
       → PumpsClient takes k key w over v g → Turned takes rows cols pieces base key w (Ok tt) v g
   turn-ends rows cols pieces base h k g key w v r a p =
@@ -101,7 +103,7 @@ module _ (W : Type 0) (takes : W → List ℕ → Result ℕ Error → W → Typ
       )
 
   -- the writer failed
-  broken-by : (rows cols : ℕ) (pieces : List (List ℕ)) (base : Option Shown) (key : ℕ) (w v : W) (g : HubState)
+  broken-by : (rows cols : ℕ) (pieces : List (List ℕ)) (base : Option Shown) (key : ℕ) (w v : W) (g : HubState as_kept)
       (e : HubError) (end : Result (Unit {0}) Error) (n : ℕ)
       → Pumps takes w (asked rows cols (concat pieces) base).owed end n v → Err e ≡ pump_answer end
       → Turned takes rows cols pieces base key w (Err (fault_of e)) v g
@@ -111,7 +113,7 @@ module _ (W : Type 0) (takes : W → List ℕ → Result ℕ Error → W → Typ
   broken-by rows cols pieces base key w v g hub.UnknownClient (Err x) n pumps is = absurd (cc)
   broken-by rows cols pieces base key w v g (hub.Write y) (Err x) n pumps is = (x, n, pumps)
 
-  pub turn-breaks : (rows cols : ℕ) (pieces : List (List ℕ)) (base : Option Shown) (h k g : HubState) (key : ℕ)
+  pub turn-breaks : (rows cols : ℕ) (pieces : List (List ℕ)) (base : Option Shown) (h k g : HubState as_kept) (key : ℕ)
       (w v : W) (e : HubError) → Asked rows cols pieces base h k key → PumpsClient takes k key w (Err e) v g
       → Turned takes rows cols pieces base key w (Err (fault_of e)) v g
   turn-breaks rows cols pieces base h k g key w v e a p =

@@ -9,7 +9,11 @@ use Rattle.termrelay.specs.Calls.{Call}
 use Rattle.termview.specs.Standing.{HoldsAt, size_of, shown_by}
 use Rattle.termview.specs.declared.view.View.{View}
 use Rattle.termview.specs.declared.until_cleared.UntilCleared.{UntilCleared}
-use Rattle.faithful.specs.History.{Reply, Refused, Memory, Entry, Story, fresh, CanRun, books_after}
+use Rattle.termrelay.specs.Hub.{HubState}
+use Rattle.termrelay.specs.declared.call.Reply.{Reply}
+use Rattle.termrelay.specs.declared.call.Reply.TheVariants.{Refused}
+use Rattle.termrelay.specs.declared.error.HubError.TheVariants.{Memory}
+use Rattle.faithful.specs.History.{as_told, Entry, Story, size_of_story, fresh, RunsTold}
 use Rattle.faithful.specs.Judge.{last_whole, judged, IsSure}
 use Rattle.faithful.specs.Laws.{IsSession}
 use Rattle.relay_streams.specs.Led.{answers}
@@ -25,9 +29,9 @@ is_starved reply = false
 pub record ReadsStory (t : Story) (most : ℕ) (cuts : List ℕ) (v : View UntilCleared) : Type 0 where
   pub parsed : List ℕ
   pub hold : Option (List ℕ)
-  pub leads : Leads (map Gives (cut_by cuts (take most t.pumped))) [] None parsed hold
+  pub leads : Leads (map Gives (cut_by cuts (take most t.session.pumped))) [] None parsed hold
   pub holds : HoldsAt answers v parsed hold
-  pub size : size_of v ≡ t.size
+  pub size : size_of v ≡ size_of_story t
 
 -- of these sessions there is no n-th one, or the view has read it
 abbrev pub FoundIn : List Story → ℕ → ℕ → List ℕ → Option (View UntilCleared) → Type 0
@@ -39,13 +43,15 @@ FoundIn ts n most cuts (Some v) = (t : Story) × (slice_get ts n ≡ Some t) × 
 pub record IsFarView (rows cols : ℕ) (calls : List Call) (n most : ℕ) (cuts : List ℕ)
     (found : Option (View UntilCleared)) : Type 0 where
   pub replies : List Reply
-  pub ran : CanRun (fresh rows cols) calls replies
+  pub hub : HubState as_told
+  pub stories : List Story
+  pub ran : RunsTold (fresh rows cols) [] calls replies hub stories
   pub fed : list_any is_starved replies ≡ false
-  pub is : FoundIn (books_after (fresh rows cols) calls replies).stories n most cuts found
+  pub is : FoundIn stories n most cuts found
 
 -- the last frame that lies wholly in the bytes that are given
 abbrev pub last_given : Story → ℕ → Option Entry
-last_given t most = last_whole None t.entries (length (take most t.pumped))
+last_given t most = last_whole None t.entries (length (take most t.session.pumped))
 
 -- such a view shows what the judge says of the last frame that lies wholly in the bytes that it was given: where each
 -- frame of the session is below the hold's limit, unless that one wasn't sure

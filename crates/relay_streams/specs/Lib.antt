@@ -5,5 +5,6 @@ pub mod Laws
 pub mod Led
 pub mod Pieces
 pub mod Relayed
+pub mod Sessions
 pub mod Shown
 pub mod Turns

@@ -5,7 +5,7 @@ use Rattle.std.specs.declared.io.Error.{Error}
 use Rattle.vt100_state.specs.Made.{Fed}
 use Rattle.vt100_picture.specs.Term.{Shown}
 use Rattle.vt100.specs.Parsing.{StandsAt}
-use Rattle.termrelay.specs.Hub.{HubState}
+use Rattle.termrelay.specs.Hub.{HubState, as_kept, clients_in}
 use Rattle.takers.specs.Pump.{Pumps}
 use Rattle.termrelay.specs.declared.error.HubError.{HubError}
 use Rattle.termrelay.specs.declared.error.HubError.TheVariants as hub
@@ -14,10 +14,11 @@ use Rattle.relay_streams.specs.declared.error.RelayError.TheVariants.{Read, Writ
 use Rattle.relay_streams.specs.Frames.{idle, asked}
 
 -- these pieces were fed to a new hub of this size, and the client at the key is owed nothing and has this base
-pub record Relaying (rows cols : ℕ) (pieces : List (List ℕ)) (base : Option Shown) (h : HubState) (key : ℕ)
+pub record Relaying (rows cols : ℕ) (pieces : List (List ℕ)) (base : Option Shown) (h : HubState as_kept)
+    (key : ℕ)
     : Type 0 where
   pub parser : StandsAt h.parser rows cols 0 (map Fed pieces)
-  pub client : h.client key ≡ Some (idle base)
+  pub client : clients_in h key ≡ Some (idle base)
 
 -- a hub's refusal, as a fault of the program: all but those of a writer are for want of memory
 abbrev pub fault_of : HubError → RelayError
@@ -29,7 +30,7 @@ fault_of (hub.Write e) = Write
 -- These pieces have been fed, the last one by this turn, and the client had this base and a writer w: the turn is
 -- answered so, the writer is then v, and the hub g.
 abbrev pub Turned : {W : Type 0} → (W → List ℕ → Result ℕ Error → W → Type 0) → ℕ → ℕ → List (List ℕ) → Option Shown → ℕ
-    → W → Result (Unit {0}) RelayError → W → HubState → Type 0
+    → W → Result (Unit {0}) RelayError → W → HubState as_kept → Type 0
 Turned takes rows cols pieces base key w (Ok u) v g =
     ((n : ℕ) × Pumps takes w (asked rows cols (concat pieces) base).owed (Ok tt) n v)
     × Relaying rows cols pieces (asked rows cols (concat pieces) base).base g key

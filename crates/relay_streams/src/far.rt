@@ -6,7 +6,6 @@ ghost use Rattle.vte.specs.Moves.{Gives};
 ghost use Rattle.vte.specs.Frames.{Leads};
 ghost use Rattle.termrelay.specs.Calls.{call_of};
 ghost use Rattle.termview.specs.Standing.{HoldsAt, size_of};
-ghost use Rattle.faithful.specs.Serves.{told};
 ghost use Rattle.relay_streams.specs.Far.{IsFarView, is_starved as starved};
 ghost use Rattle.relay_streams.specs.Led.{Led, answers};
 ghost use Rattle.relay_streams.specs.Pieces.{cut_by};
@@ -71,7 +70,7 @@ fn view_session(
 
 // Whether there was no memory for one of the calls.
 fn has_starved(replies: &[Reply]) -> bool
-    ensures { result ≡ list_any (λ r. starved (told r)) replies.now }
+    ensures { result ≡ list_any starved replies.now }
 {
     for reply in replies {
         if is_starved(reply) {
@@ -82,7 +81,7 @@ fn has_starved(replies: &[Reply]) -> bool
 }
 
 fn is_starved(reply: &Reply) -> bool
-    ensures { result ≡ starved (told reply.now) }
+    ensures { result ≡ starved reply.now }
 {
     match reply {
         Reply::Refused(HubError::Memory) => true,

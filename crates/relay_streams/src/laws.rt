@@ -1,6 +1,7 @@
 //! Laws of what is shown, each as the contract of a function that does nothing.
 ghost use Rattle.relay_streams.specs.Far.{FarViewsShow};
 ghost use Rattle.relay_streams.specs.Laws.{RelayedIsShown, TextsAreOne, WholeFramesArePrinted};
+ghost use Rattle.relay_streams.specs.Sessions.{EachRelayIsASession, EachSessionIsRelayed};
 
 /// What `show` writes is a function of the size and of what it reads.
 pub fn shown_texts_are_one()
@@ -23,4 +24,12 @@ pub fn relayed_is_shown()
 /// each frame of the session is below the hold's limit, and that screen showed no U+FE0F.
 pub fn far_views_show()
     ensures { FarViewsShow }
+{}
+
+/// What `relay` writes is what is pumped to a session of a history, in which a client comes, and after each piece asks
+/// for a frame and gets what it is owed: there is one for all pieces, and its answers bring just the frames that are
+/// relayed. So all laws of sessions hold of what `relay` writes, also of a beginning of it.
+pub fn relays_are_sessions()
+    ensures is { EachRelayIsASession }
+    ensures one { EachSessionIsRelayed }
 {}

@@ -3,7 +3,6 @@
 ghost use Rattle.std.specs.Prelude.{◌≡◌, ℕ, ◌++◌, ◌∷◌, [], List, None, OnOk, Option, IfSome};
 ghost use Rattle.std.specs.Io.KnownBytes.{Appends};
 ghost use Rattle.vt100_picture.specs.Term.{Shown};
-ghost use Rattle.termrelay.specs.Hub.{state_of};
 ghost use Rattle.relay_streams.specs.Frames.{relay_text};
 ghost use Rattle.takers.specs.Output.{TakesFront};
 ghost use Rattle.relay_streams.specs.Relayed.{Relays, Streams};
@@ -51,7 +50,7 @@ fn relay_pieces<S: Source, W: Sink>(
     input: &mut S,
     output: &mut W,
 ) -> Result<(), RelayError>
-    ensures { (rows cols : ℕ) → Relaying rows cols [] None (state_of hub.old) client
+    ensures { (rows cols : ℕ) → Relaying rows cols [] None hub.old client
         → Streams S.gives W.takes rows cols input.old output.old result input.new output.new }
 {
     let mut piece = [0; PIECE_LEN];
@@ -73,9 +72,8 @@ fn turn<W: Sink>(
     output: &mut W,
 ) -> Result<(), RelayError>
     ensures { (rows cols : ℕ) (past : List (List ℕ)) (base : Option Shown)
-        → Relaying rows cols past base (state_of hub.old) client
-        → Turned W.takes rows cols (past ++ piece.now ∷ []) base client output.old result output.new
-        (state_of hub.new) }
+        → Relaying rows cols past base hub.old client
+        → Turned W.takes rows cols (past ++ piece.now ∷ []) base client output.old result output.new hub.new }
 {
     hub.feed(piece)?;
     hub.frame(client)?;

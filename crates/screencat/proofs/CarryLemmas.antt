@@ -1,18 +1,17 @@
 -- What is carried to a view.
 use Rattle.std.proofs.Common.{◌≡◌, ◌∙◌, ℕ, List, [], ◌∷◌, ◌++◌, map, take, drop, Option, None, Some, Ok, refl, sym, ap}
-use Rattle.std.proofs.Common.{subst, append-nil, take-append-drop, Result, Err, OnOk, IfSome}
+use Rattle.std.proofs.Common.{subst, append-nil, Result, Err, OnOk, IfSome}
 use Rattle.std.proofs.lemmas.List.{map-append}
 use Rattle.std.proofs.lemmas.List.Folds.{concat-append}
 use Rattle.std.specs.List.{concat}
 use Rattle.std.specs.Io.KnownBytes.{Appends}
-use Rattle.std.specs.declared.io.Error.{Error}
 use Rattle.vte.specs.Moves.{Move, Gives}
 use Rattle.vte.specs.Frames.{Leads}
 use Rattle.vte.proofs.FrameMoves.{moves_follow}
 use Rattle.vt100_picture.specs.Term.{Shown}
 use Rattle.termview.specs.declared.view.View.{View}
 use Rattle.termview.specs.declared.until_cleared.UntilCleared.{UntilCleared}
-use Rattle.termrelay.specs.Hub.{HubState}
+use Rattle.termrelay.specs.Hub.{HubState, as_kept}
 use Rattle.takers.specs.Pump.{Pumps, Writes}
 use Rattle.takers.proofs.PumpLaws.{takes-all, appends-front}
 use Rattle.relay_streams.specs.Frames.{asked, frames_of, base_of}
@@ -90,7 +89,7 @@ module _ (rows cols : ℕ) (past : List (List ℕ)) (piece : List ℕ) where
       subst (λ (xs : List ℕ). Carries a xs c) (sym is)
       (carries-more a b c (concat (frames_of rows cols past)) owed first then)
 
-  pub relays-on : (g : HubState) (key : ℕ) → Relaying rows cols pieces (asked rows cols (concat pieces) base).base g key
+  pub relays-on : (g : HubState as_kept) (key : ℕ) → Relaying rows cols pieces (asked rows cols (concat pieces) base).base g key
       → Relaying rows cols pieces (base_of rows cols pieces) g key
   relays-on g key r =
       subst (λ (b : Option Shown). Relaying rows cols pieces b g key)

@@ -4,7 +4,6 @@ ghost use Rattle.std.specs.Prelude.{ℕ, ◌++◌, ◌∷◌, [], List, Option, 
 ghost use Rattle.std.specs.List.{concat};
 ghost use Rattle.std.specs.Io.KnownBytes.{Appends};
 ghost use Rattle.vt100_picture.specs.Term.{Shown};
-ghost use Rattle.termrelay.specs.Hub.{state_of};
 ghost use Rattle.relay_streams.specs.Frames.{asked, frames_of};
 ghost use Rattle.relay_streams.specs.Pieces.{Drained, piece_len};
 ghost use Rattle.relay_streams.specs.Turns.{Relaying};
@@ -50,7 +49,7 @@ fn carry_frames<S: Source>(
     view: &mut View<UntilCleared>,
 ) -> Result<(), RelayError>
     ensures { OnOk result ((pieces : List (List ℕ)) × Drained S.gives piece_len input.old pieces result input.new
-        × ((rows cols : ℕ) → Relaying rows cols [] None (state_of hub.old) client
+        × ((rows cols : ℕ) → Relaying rows cols [] None hub.old client
         → Carries view.old (concat (frames_of rows cols pieces)) view.new)) }
 {
     let mut piece = [0; PIECE_LEN];
@@ -73,10 +72,10 @@ fn carry_frame(
     view: &mut View<UntilCleared>,
 ) -> Result<(), RelayError>
     ensures { OnOk result ((rows cols : ℕ) (past : List (List ℕ)) (base : Option Shown)
-        → Relaying rows cols past base (state_of hub.old) client
+        → Relaying rows cols past base hub.old client
         → Carries view.old (asked rows cols (concat (past ++ piece.now ∷ [])) base).owed view.new
-        × Relaying rows cols (past ++ piece.now ∷ []) (asked rows cols (concat (past ++ piece.now ∷ [])) base).base
-        (state_of hub.new) client) }
+        × Relaying rows cols (past ++ piece.now ∷ []) (asked rows cols (concat (past ++ piece.now ∷ [])) base).base hub.new
+        client) }
 {
     hub.feed(piece)?;
     hub.frame(client)?;

@@ -10,7 +10,8 @@ use Rattle.vt100_core.specs.Picture.{size_of}
 use Rattle.vt100_state.specs.Call.{ScreenView}
 use Rattle.vt100.specs.Parsing.{ParserView}
 use Rattle.termrelay.specs.Record.{RecordView, client_of, IsBaseOf, IsServed}
-use Rattle.termrelay.specs.Hub.{HubValue, state_of, with_client, no_clients}
+use Rattle.termrelay.specs.Answers.{ClientState}
+use Rattle.termrelay.specs.Hub.{HubState, as_kept, Puts, no_clients}
 use Rattle.termrelay.specs.HubFields.{IsMade}
 use Rattle.termrelay.proofs.MadeLemmas.{made-unscrolled}
 
@@ -40,12 +41,15 @@ none-served s now key none = rw none tt
 -- ---- clients
 
 -- a hub with this parser and these clients
-abbrev pub holding : ParserView (Unit {0}) → Slab RecordView → HubValue
-holding p s = record { parser = p; records = s.slots }
+abbrev pub holding : ParserView (Unit {0}) → Slab RecordView → HubState as_kept
+holding p s = record { parser = p; clients = s.slots }
 
-pub no-clients : (p : ParserView (Unit {0})) (rs : List (Option RecordView)) → rs ≡ []
-    → (state_of (record { parser = p; records = rs })).client ≡ no_clients
-no-clients p rs none = ap (λ xs. (state_of (record { parser = p; records = xs })).client) none
+-- the client at each key of these records
+abbrev pub kept_at : List (Option RecordView) → ℕ → Option ClientState
+kept_at rs key = option_map client_of (slice_index_or rs key None)
+
+pub no-clients : (rs : List (Option RecordView)) → rs ≡ [] → kept_at rs ≡ no_clients
+no-clients rs none = ap kept_at none
 
 some-none : (r : RecordView) → None ≡ Some r → ⊥
 some-none r e = absurd cc
@@ -82,19 +86,17 @@ updated-at false s t key other slot e u =
 
 -- this is at the key from now on
 pub updated-client : (p : ParserView (Unit {0})) (s t : Slab RecordView) (key : ℕ) (slot : Option RecordView)
-    → Updates s t key slot
-    → state_of (holding p t) ≡ with_client (state_of (holding p s)) key (option_map client_of slot)
-updated-client p s t key slot u =
-    λ i. record { parser = p; client = λ other. updated-at (other == key) s t key other slot refl u i }
+    → Updates s t key slot → Puts (holding p s) key (option_map client_of slot) (holding p t)
+updated-client p s t key slot u = (refl, λ i other. updated-at (other == key) s t key other slot refl u i)
 
 -- another record stands at a client's key
 pub put-client : (p : ParserView (Unit {0})) (rs : List (Option RecordView)) (key : ℕ) (old new : RecordView)
     → slice_index_or rs key None ≡ Some old
-    → state_of (record { parser = p; records = slice_set rs key (Some new) })
-    ≡ with_client (state_of (record { parser = p; records = rs })) key (Some (client_of new))
+    → Puts {way = as_kept} (record { parser = p; clients = rs }) key (Some (client_of new))
+    (record { parser = p; clients = slice_set rs key (Some new) })
 put-client p rs key old new found =
     let lt = inside rs key old found in
-    λ i. record { parser = p; client = λ other. put-at (other == key) rs key other new refl lt i }
+    (refl, λ i other. put-at (other == key) rs key other new refl lt i)
 
 served-at : (b : Bool) (rs : List (Option RecordView)) (key other : ℕ) (r : RecordView) (now : ScreenView)
     → (other == key) ≡ b → key < length rs → IfSome (slice_index_or rs other None) (IsServed now) → IsServed now r

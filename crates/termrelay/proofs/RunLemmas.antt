@@ -6,11 +6,11 @@ use Rattle.termrelay.specs.declared.call.Reply.{Reply}
 use Rattle.termrelay.specs.declared.call.Call.{Call as Given}
 use Rattle.termrelay.specs.declared.error.HubError.{HubError}
 use Rattle.termrelay.specs.declared.error.HubError.TheVariants.{Memory}
-use Rattle.termrelay.specs.Hub.{HubState}
+use Rattle.termrelay.specs.Hub.{HubState, as_kept}
 use Rattle.termrelay.specs.Calls.{Call, call_of, IsCall, Serves}
 use Rattle.termrelay.specs.Log.{SessionView, LogView, sessions_after, RunsLogged, ServesLogged, MadeAll, RunsCalls}
 
-runs-more : (h g k : HubState) (ss ts us : List SessionView) (calls : List Call) (replies : List Reply) (call : Call)
+runs-more : (h g k : HubState as_kept) (ss ts us : List SessionView) (calls : List Call) (replies : List Reply) (call : Call)
     (reply : Reply) → RunsLogged h ss calls replies g ts → IsCall call → Serves g call reply k
     → us ≡ sessions_after g call reply ts → RunsLogged h ss (calls ++ call ∷ []) (replies ++ reply ∷ []) k us
 runs-more h g k ss ts us [] [] call reply run is serves e = (
@@ -24,10 +24,10 @@ runs-more h g k ss ts us (c ∷ cs) [] call reply run is serves e = absurd run
 runs-more h g k ss ts us (c ∷ cs) (r ∷ rs) call reply (m, first, served, later) is serves e =
     (m, first, served, runs-more m g k (sessions_after h c r ss) ts us cs rs call reply later is serves e)
 
-pub made-none : (h : HubState) (l : LogView) → MadeAll h l [] h l
+pub made-none : (h : HubState as_kept) (l : LogView) → MadeAll h l [] h l
 made-none h l = ([], sym (append-nil l.replies), (refl, refl))
 
-made-one : (h g k : HubState) (l m o : LogView) (calls : List Call) (call : Call) → MadeAll h l calls g m
+made-one : (h g k : HubState as_kept) (l m o : LogView) (calls : List Call) (call : Call) → MadeAll h l calls g m
     → ServesLogged g call k m o → MadeAll h l (calls ++ call ∷ []) k o
 made-one h g k l m o calls call (replies, are, runs) (reply, is, serves, told, kept) = (
   replies ++ reply ∷ [],
@@ -35,7 +35,7 @@ made-one h g k l m o calls call (replies, are, runs) (reply, is, serves, told, k
   runs-more h g k l.sessions m.sessions o.sessions calls replies call reply runs is serves kept,
 )
 
-pub made-more : (h g k : HubState) (l m o : LogView) (calls : List Given) (n : ℕ) (call : Given) → n < length calls
+pub made-more : (h g k : HubState as_kept) (l m o : LogView) (calls : List Given) (n : ℕ) (call : Given) → n < length calls
     → call ≡ get_or calls n call → MadeAll h l (map call_of (take n calls)) g m → ServesLogged g (call_of call) k m o
     → MadeAll h l (map call_of (take (n + 1) calls)) k o
 made-more h g k l m o calls n call lt is made serves =
@@ -45,12 +45,12 @@ made-more h g k l m o calls n call lt is made serves =
     subst (λ cs. MadeAll h l cs k o) (sym one)
     (made-one h g k l m o (map call_of (take n calls)) (call_of call) made serves)
 
-pub made-all : (h g : HubState) (l m : LogView) (calls : List Given) (n : ℕ) → length calls ≤ n
+pub made-all : (h g : HubState as_kept) (l m : LogView) (calls : List Given) (n : ℕ) → length calls ≤ n
     → MadeAll h l (map call_of (take n calls)) g m → MadeAll h l (map call_of calls) g m
 made-all h g l m calls n le made = subst (λ cs. MadeAll h l (map call_of cs) g m) (take_all n calls le) made
 
 -- there was no memory for what is kept of a call
-pub made-some : (h g k : HubState) (l m o : LogView) (calls : List Given) (n : ℕ) (result : Result (Unit {0}) HubError)
+pub made-some : (h g k : HubState as_kept) (l m o : LogView) (calls : List Given) (n : ℕ) (result : Result (Unit {0}) HubError)
     → n < length calls → MadeAll h l (map call_of (take n calls)) g m → k ≡ g → o ≡ m → result ≡ Err Memory
     → RunsCalls h l (map call_of calls) result k o
 made-some h g k l m o calls n result lt made same kept e =

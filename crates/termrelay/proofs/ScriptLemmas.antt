@@ -9,7 +9,7 @@ use Rattle.std.proofs.lemmas.Bool.Decides.{nat_tests}
 use Rattle.std.specs.declared.io.Error.{Error}
 use Rattle.takers.specs.Pump.{Pumps, all, nothing, fault, some}
 use Rattle.termrelay.specs.Answers.{ClientState}
-use Rattle.termrelay.specs.Hub.{HubState, with_client, PumpsFrom}
+use Rattle.termrelay.specs.Hub.{Telling, HubState, clients_in, with_client, PumpsFrom}
 use Rattle.termrelay.specs.Calls.{WritesAsTold, taken_by, Pump, Serves}
 use Rattle.termrelay.specs.Log.{bytes_taken}
 use Rattle.termrelay.specs.declared.call.Take.{Take}
@@ -126,19 +126,21 @@ taken-as-told takes rest owed end n (some middle first k more pos told later) =
 
 -- ---- what it leaves
 
-client-put : (h : HubState) (key : ℕ) (slot : Option ClientState) → (with_client h key slot).client key ≡ slot
-client-put h key slot = ap (λ b. if b then slot else h.client key) (eq-eqb key key refl)
+client-put : (clients : ℕ → Option ClientState) (key : ℕ) (slot : Option ClientState)
+    → with_client clients key slot key ≡ slot
+client-put clients key slot = ap (λ b. if b then slot else clients key) (eq-eqb key key refl)
 
-pub pumped-left : (h g : HubState) (key : ℕ) (takes : List Take) (reply : Reply) (c : ClientState)
-    → h.client key ≡ Some c → Serves h (Pump key takes) reply g
-    → g.client key ≡ Some (record c { owed = drop (taken_by takes (length c.owed)) c.owed })
-pumped-left h g key takes reply c found (result, rest, f, is) =
-    let at : PumpsFrom WritesAsTold h key (Some c) takes result rest g =
-    subst (λ o. PumpsFrom WritesAsTold h key o takes result rest g) found f in
-    let n = at.1 in
-    ap (λ (x : HubState). x.client key) at.4
-    ∙ client-put h key (Some (record c { owed = drop n c.owed }))
-    ∙ ap (λ k. Some (record c { owed = drop k c.owed })) (taken-as-told takes rest c.owed at.0 n at.2)
+module _ {way : Telling} where
+  pub pumped-left : (h g : HubState way) (key : ℕ) (takes : List Take) (reply : Reply) (c : ClientState)
+      → clients_in h key ≡ Some c → Serves h (Pump key takes) reply g
+      → clients_in g key ≡ Some (record c { owed = drop (taken_by takes (length c.owed)) c.owed })
+  pumped-left h g key takes reply c found (result, rest, f, is) =
+      let at : PumpsFrom WritesAsTold h key (Some c) takes result rest g =
+      subst (λ o. PumpsFrom WritesAsTold h key o takes result rest g) found f in
+      let n = at.1 in
+      ap (λ (clients : ℕ → Option ClientState). clients key) at.4.1
+      ∙ client-put (clients_in h) key (Some (record c { owed = drop n c.owed }))
+      ∙ ap (λ k. Some (record c { owed = drop k c.owed })) (taken-as-told takes rest c.owed at.0 n at.2)
 
 -- bytes behind others, of which those that are left are cut off
 pub front-kept : (bytes owed : List ℕ) (n left : ℕ) → left ≡ length (drop n owed)
@@ -153,15 +155,16 @@ front-kept bytes owed n left is =
     ∙ take-append_seam (bytes ++ take n owed) (drop n owed)
 
 -- how many of the bytes a client was owed are left after a pump, and which were taken
-pub record IsPumped (h : HubState) (key : ℕ) (takes : List Take) (owed : List ℕ) (left : ℕ) : Type 0 where
+pub record IsPumped {way : Telling} (h : HubState way) (key : ℕ) (takes : List Take) (owed : List ℕ) (left : ℕ) : Type 0 where
   pub count : ℕ
   pub rest : left ≡ length (drop count owed)
-  pub bytes : bytes_taken takes (h.client key) ≡ take count owed
+  pub bytes : bytes_taken takes (clients_in h key) ≡ take count owed
 
-pub pumped-by : (h g : HubState) (key : ℕ) (takes : List Take) (reply : Reply) (owed : List ℕ) (left : ℕ)
-    (unknown : Type 0) → (unknown → ⊥) → (o : Option ClientState) → h.client key ≡ o
-    → MatchOption o unknown (λ c. owed ≡ c.owed) → MatchOption (g.client key) (left ≡ 0) (λ c. left ≡ length c.owed)
-    → Serves h (Pump key takes) reply g → IsPumped h key takes owed left
+pub pumped-by : {way : Telling} (h g : HubState way) (key : ℕ) (takes : List Take) (reply : Reply) (owed : List ℕ)
+    (left : ℕ) (unknown : Type 0) → (unknown → ⊥) → (o : Option ClientState) → clients_in h key ≡ o
+    → MatchOption o unknown (λ c. owed ≡ c.owed)
+    → MatchOption (clients_in g key) (left ≡ 0) (λ c. left ≡ length c.owed) → Serves h (Pump key takes) reply g
+    → IsPumped h key takes owed left
 pumped-by h g key takes reply owed left unknown known None e is after serves = absurd (known is)
 pumped-by h g key takes reply owed left unknown known (Some c) e is after serves =
     let n = taken_by takes (length c.owed) in

@@ -3,7 +3,7 @@ use Rattle.std.specs.Prelude.{◌≡◌, ℕ, ◌+◌, ◌-◌, ◌==◌, nat_le
 use Rattle.std.specs.Prelude.{if◌then◌else◌}
 use Rattle.std.specs.declared.io.Error.{Error}
 use Rattle.vt100_state.specs.Holds.{IsSide}
-use Rattle.termrelay.specs.Hub.{HubState, Feeds, Resizes, Attaches, Detaches, Frames, PumpsClient}
+use Rattle.termrelay.specs.Hub.{Telling, HubState, Feeds, Resizes, Attaches, Detaches, Frames, PumpsClient}
 use Rattle.termrelay.specs.declared.answer.Answer.{Answer}
 use Rattle.termrelay.specs.declared.error.HubError.{HubError}
 use Rattle.termrelay.specs.declared.call.Take.{Take}
@@ -66,25 +66,27 @@ replied reply (Err e) = Refused e
 abbrev pub done : Result (Unit {0}) HubError → Reply
 done result = replied (λ u. Done) result
 
--- a hub h gets a call and gives a reply, and is g
-abbrev pub Serves : HubState → Call → Reply → HubState → Type 0
-Serves h (Feed bytes) reply g =
-    (result : Result (Unit {0}) HubError) × Feeds h bytes result g × (reply ≡ done result)
-Serves h (Resize rows cols) reply g =
-    (result : Result (Unit {0}) HubError) × Resizes h rows cols result g × (reply ≡ done result)
-Serves h Attach reply g = (result : Result ℕ HubError) × Attaches h result g × (reply ≡ replied Attached result)
-Serves h (Detach key) reply g =
-    (result : Result (Unit {0}) HubError) × Detaches h key result g × (reply ≡ done result)
-Serves h (Frame key) reply g =
-    (result : Result Answer HubError) × Frames h key result g × (reply ≡ replied Answered result)
-Serves h (Pump key takes) reply g =
-    (result : Result (Unit {0}) HubError) × (rest : List Take)
-    × PumpsClient WritesAsTold h key takes result rest g × (reply ≡ done result)
+-- However it is told of:
+module _ {way : Telling} where
+  -- a hub h gets a call and gives a reply, and is g
+  abbrev pub Serves : HubState way → Call → Reply → HubState way → Type 0
+  Serves h (Feed bytes) reply g =
+      (result : Result (Unit {0}) HubError) × Feeds h bytes result g × (reply ≡ done result)
+  Serves h (Resize rows cols) reply g =
+      (result : Result (Unit {0}) HubError) × Resizes h rows cols result g × (reply ≡ done result)
+  Serves h Attach reply g = (result : Result ℕ HubError) × Attaches h result g × (reply ≡ replied Attached result)
+  Serves h (Detach key) reply g =
+      (result : Result (Unit {0}) HubError) × Detaches h key result g × (reply ≡ done result)
+  Serves h (Frame key) reply g =
+      (result : Result Answer HubError) × Frames h key result g × (reply ≡ replied Answered result)
+  Serves h (Pump key takes) reply g =
+      (result : Result (Unit {0}) HubError) × (rest : List Take)
+      × PumpsClient WritesAsTold h key takes result rest g × (reply ≡ done result)
 
--- one call after another, with numbers of the code's types
-abbrev pub Runs : HubState → List Call → List Reply → HubState → Type 0
-Runs h [] [] k = k ≡ h
-Runs h (call ∷ calls) (reply ∷ replies) k =
-    (g : HubState) × IsCall call × Serves h call reply g × Runs g calls replies k
-Runs h [] (reply ∷ replies) k = ⊥
-Runs h (call ∷ calls) [] k = ⊥
+  -- one call after another, with numbers of the code's types
+  abbrev pub Runs : HubState way → List Call → List Reply → HubState way → Type 0
+  Runs h [] [] k = k ≡ h
+  Runs h (call ∷ calls) (reply ∷ replies) k =
+      (g : HubState way) × IsCall call × Serves h call reply g × Runs g calls replies k
+  Runs h [] (reply ∷ replies) k = ⊥
+  Runs h (call ∷ calls) [] k = ⊥

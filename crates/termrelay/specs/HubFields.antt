@@ -4,12 +4,12 @@ use Rattle.slab.specs.Slab.{get}
 use Rattle.vt100_state.specs.Made.{Act}
 use Rattle.vt100_state.specs.Holds.{AreActs}
 use Rattle.vt100.specs.Parsing.{ParserView, StandsAt}
-use Rattle.termrelay.specs.Hub.{HubValue}
+use Rattle.termrelay.specs.Hub.{HubState, as_kept}
 use Rattle.termrelay.specs.Record.{IsServed}
 use Rattle.termrelay.specs.declared.hub.Hub.TheInside.{Inside}
 
-abbrev pub hub_of : Inside → HubValue
-hub_of h = record { parser = h.parser; records = h.clients.slots }
+abbrev pub hub_of : Inside → HubState as_kept
+hub_of h = record { parser = h.parser; clients = h.clients.slots }
 
 -- acts have made the parser of a new one
 pub record IsMade (p : ParserView (Unit {0})) : Type 0 where

@@ -1,6 +1,6 @@
 -- Laws of a hub's calls.
-use Rattle.std.specs.Prelude.{ℕ, ◌≡◌, List, ◌∷◌, ◌++◌, Ok}
-use Rattle.termrelay.specs.Hub.{HubState, Feeds}
+use Rattle.std.specs.Prelude.{ℕ, List, ◌∷◌, ◌++◌, Ok}
+use Rattle.termrelay.specs.Hub.{HubState, as_kept, Feeds}
 use Rattle.termrelay.specs.Calls.{Call, Feed}
 use Rattle.termrelay.specs.Log.{SessionView, RunsLogged}
 use Rattle.termrelay.specs.declared.call.Reply.{Reply}
@@ -8,11 +8,11 @@ use Rattle.termrelay.specs.declared.call.Reply.TheVariants.{Done}
 
 -- feeding in two pieces is feeding the joined bytes
 abbrev pub TwoFeedsAreOne : Type 0
-TwoFeedsAreOne = (h g k : HubState) (a b : List ℕ) → Feeds h a (Ok tt) g → Feeds g b (Ok tt) k
+TwoFeedsAreOne = (h g k : HubState as_kept) (a b : List ℕ) → Feeds h a (Ok tt) g → Feeds g b (Ok tt) k
     → Feeds h (a ++ b) (Ok tt) k
 
 -- so it is in a run, and in what a log keeps of it but for one reply
 abbrev pub TwoFeedsRunAsOne : Type 0
-TwoFeedsRunAsOne = (h k : HubState) (ss ts : List SessionView) (a b : List ℕ) (calls : List Call) (replies : List Reply)
+TwoFeedsRunAsOne = (h k : HubState as_kept) (ss ts : List SessionView) (a b : List ℕ) (calls : List Call) (replies : List Reply)
     → RunsLogged h ss (Feed a ∷ Feed b ∷ calls) (Done ∷ Done ∷ replies) k ts
     → RunsLogged h ss (Feed (a ++ b) ∷ calls) (Done ∷ replies) k ts

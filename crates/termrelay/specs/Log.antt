@@ -3,7 +3,7 @@ use Rattle.std.specs.Prelude.{◌≡◌, ℕ, ◌<◌, ◌==◌, ◌&&◌, Bool,
 use Rattle.std.specs.Prelude.{Option, Some, None, Result, Ok, Err, if◌then◌else◌}
 use Rattle.std.specs.List.{list_any}
 use Rattle.termrelay.specs.Answers.{ClientState}
-use Rattle.termrelay.specs.Hub.{HubState, size_in}
+use Rattle.termrelay.specs.Hub.{Telling, HubState, as_kept, size_in, clients_in}
 use Rattle.termrelay.specs.Calls.{Call, Resize, Attach, Detach, Pump, taken_by, IsCall, Serves}
 use Rattle.termrelay.specs.declared.call.Take.{Take}
 use Rattle.termrelay.specs.declared.call.Reply.{Reply}
@@ -52,7 +52,7 @@ pub record IsLast {A : Type 0} (test : A → Bool) (xs : List A) (at : ℕ) : Ty
   pub is : test last ≡ true
   pub none : list_any test back ≡ false
 
-abbrev pub begun : HubState → ℕ → SessionView
+abbrev pub begun : {way : Telling} → HubState way → ℕ → SessionView
 begun h key = record { client = key; rows = (size_in h).rows; cols = (size_in h).cols; pumped = []; ended = false }
 
 abbrev pub ended : SessionView → SessionView
@@ -68,15 +68,15 @@ bytes_taken takes (Some c) = take (taken_by takes (length c.owed)) c.owed
 
 -- The sessions after a call on a hub h that gets this reply. An attach begins one; a detach ends the last one of its
 -- key that hasn't ended, and a resize ends all; to that last one of its key go a pump's bytes.
-abbrev pub sessions_after : HubState → Call → Reply → List SessionView → List SessionView
+abbrev pub sessions_after : {way : Telling} → HubState way → Call → Reply → List SessionView → List SessionView
 sessions_after h (Resize rows cols) Done ss = map ended ss
 sessions_after h Attach (Attached key) ss = ss ++ begun h key ∷ []
 sessions_after h (Detach key) Done ss = change_last (is_of key) ended ss
-sessions_after h (Pump key takes) reply ss = change_last (is_of key) (grown (bytes_taken takes (h.client key))) ss
+sessions_after h (Pump key takes) reply ss = change_last (is_of key) (grown (bytes_taken takes (clients_in h key))) ss
 sessions_after h call reply ss = ss
 
 -- a hub h gets a call and is g, and a log l of it is m
-abbrev pub ServesLogged : HubState → Call → HubState → LogView → LogView → Type 0
+abbrev pub ServesLogged : HubState as_kept → Call → HubState as_kept → LogView → LogView → Type 0
 ServesLogged h call g l m =
     (reply : Reply) × IsCall call × Serves h call reply g × (m.replies ≡ l.replies ++ reply ∷ [])
     × (m.sessions ≡ sessions_after h call reply l.sessions)
@@ -84,22 +84,24 @@ ServesLogged h call g l m =
 -- ---- runs
 
 -- one call after another, with numbers of the code's types: from a hub h and sessions ss to k and ts
-abbrev pub RunsLogged : HubState → List SessionView → List Call → List Reply → HubState → List SessionView → Type 0
+abbrev pub RunsLogged : HubState as_kept → List SessionView → List Call → List Reply → HubState as_kept
+    → List SessionView → Type 0
 RunsLogged h ss [] [] k ts = (k ≡ h) × (ts ≡ ss)
 RunsLogged h ss (call ∷ calls) (reply ∷ replies) k ts =
-    (g : HubState) × IsCall call × Serves h call reply g
+    (g : HubState as_kept) × IsCall call × Serves h call reply g
     × RunsLogged g (sessions_after h call reply ss) calls replies k ts
 RunsLogged h ss [] (reply ∷ replies) k ts = ⊥
 RunsLogged h ss (call ∷ calls) [] k ts = ⊥
 
 -- all the calls were made: the log gets their replies, and its sessions are those after them
-abbrev pub MadeAll : HubState → LogView → List Call → HubState → LogView → Type 0
+abbrev pub MadeAll : HubState as_kept → LogView → List Call → HubState as_kept → LogView → Type 0
 MadeAll h l calls g m =
     (replies : List Reply) × (m.replies ≡ l.replies ++ replies) × RunsLogged h l.sessions calls replies g m.sessions
 
 -- A run of calls on a hub h with a log l, which are g and m then: all were made, or, where there was no memory for what
 -- the log keeps of a call, those before it.
-abbrev pub RunsCalls : HubState → LogView → List Call → Result (Unit {0}) HubError → HubState → LogView → Type 0
+abbrev pub RunsCalls : HubState as_kept → LogView → List Call → Result (Unit {0}) HubError → HubState as_kept → LogView
+    → Type 0
 RunsCalls h l calls (Ok u) g m = MadeAll h l calls g m
 RunsCalls h l calls (Err Memory) g m = (n : ℕ) × (n < length calls) × MadeAll h l (take n calls) g m
 RunsCalls h l calls (Err Failed) g m = ⊥

@@ -29,9 +29,9 @@ pub struct Hub {
 }
 
 impl Model for Hub {
-    ghost use Rattle.termrelay.specs.Hub.{HubValue};
+    ghost use Rattle.termrelay.specs.Hub.{HubState, as_kept};
 
-    ghost Value = { HubValue };
+    ghost Value = { HubState as_kept };
 
     ghost use Rattle.termrelay.specs.HubFields.{hub_of, IsHub};
 
@@ -41,12 +41,12 @@ impl Model for Hub {
 }
 
 impl Hub {
-    ghost use Rattle.termrelay.specs.Hub.{state_of, shown_in, with_client, IsNewHub, Feeds, Resizes, Attaches};
-    ghost use Rattle.termrelay.specs.Hub.{Detaches, Frames, PumpsClient};
+    ghost use Rattle.termrelay.specs.Hub.{clients_in, shown_in, Puts, IsNewHub, Feeds, Resizes, Attaches, Detaches};
+    ghost use Rattle.termrelay.specs.Hub.{Frames, PumpsClient};
 
     /// A hub with a blank screen of this size, which keeps no rows, and without clients.
     pub fn new(alloc: Global, rows: NonZeroU16, cols: NonZeroU16) -> Result<Self, HubError>
-        ensures new { IfOk result (λ hub. IsNewHub rows.value cols.value (state_of hub)) }
+        ensures new { IfOk result (λ hub. IsNewHub rows.value cols.value hub) }
         ensures memory { OnErr result (result ≡ Err Memory) }
     {
         Ok(Hub {
@@ -74,7 +74,7 @@ impl Hub {
     ///
     /// Without memory the hub has failed: no frame is made any more, but what is owed can be pumped.
     pub fn feed(&mut self, bytes: &[u8]) -> Result<(), HubError>
-        ensures { Feeds (state_of self.old) bytes.now result (state_of self.new) }
+        ensures { Feeds self.old bytes.now result self.new }
     {
         if self.has_failed() {
             return Err(HubError::Failed);
@@ -89,7 +89,7 @@ impl Hub {
 
     /// Gives the screen another size. Every client ends, also where the size stays. Refused, nothing has changed.
     pub fn resize(&mut self, rows: NonZeroU16, cols: NonZeroU16) -> Result<(), HubError>
-        ensures { Resizes (state_of self.old) rows.value cols.value result (state_of self.new) }
+        ensures { Resizes self.old rows.value cols.value result self.new }
     {
         if self.has_failed() {
             return Err(HubError::Failed);
@@ -104,7 +104,7 @@ impl Hub {
 
     /// A new client, which has had no frame. Refused, nothing has changed.
     pub fn attach(&mut self) -> Result<Client, HubError>
-        ensures { Attaches (state_of self.old) result (state_of self.new) }
+        ensures { Attaches self.old result self.new }
     {
         if self.has_failed() {
             return Err(HubError::Failed);
@@ -117,7 +117,7 @@ impl Hub {
 
     /// The client ends, and what it is owed is gone.
     pub fn detach(&mut self, client: Client) -> Result<(), HubError>
-        ensures { Detaches (state_of self.old) client result (state_of self.new) }
+        ensures { Detaches self.old client result self.new }
     {
         match self.clients.try_remove(client.key()) {
             Some(_) => Ok(()),
@@ -127,7 +127,7 @@ impl Hub {
 
     /// The bytes of the client's last frame that haven't been pumped yet.
     pub fn owed(&self, client: Client) -> Result<&[u8], HubError>
-        ensures { MatchOption ((state_of self.now).client client) (result ≡ Err UnknownClient)
+        ensures { MatchOption (clients_in self.now client) (result ≡ Err UnknownClient)
             (λ c. IsOkAnd result (λ bytes. bytes.now ≡ c.owed)) }
     {
         match self.clients.get(client.key()) {
@@ -143,7 +143,7 @@ impl Hub {
     /// kind `WriteZero`. What was taken is no longer owed. A write that answers more than it was offered has taken what
     /// it was offered.
     pub fn pump<T: Taker>(&mut self, client: Client, to: &mut T) -> Result<(), HubError>
-        ensures { PumpsClient T.takes (state_of self.old) client to.old result to.new (state_of self.new) }
+        ensures { PumpsClient T.takes self.old client to.old result to.new self.new }
     {
         match self.clients.get_mut(client.key()) {
             Some(record) => match record.pump(to) {
@@ -172,7 +172,7 @@ impl Hub {
     /// Asks for a frame for the client. Where the answer brings one, its text is owed from now on, and the present
     /// screen is the client's base. Refused, nothing has changed.
     pub fn frame(&mut self, client: Client) -> Result<Answer, HubError>
-        ensures { Frames (state_of self.old) client result (state_of self.new) }
+        ensures { Frames self.old client result self.new }
     {
         let Some(record) = self.clients.get(client.key()) else {
             return Err(HubError::UnknownClient);
@@ -194,10 +194,9 @@ impl Hub {
 
     /// From now on the client is owed a frame's text, and `base` is the screen at it.
     fn owe(&mut self, client: Client, text: Vec<u8>, base: Rc<Screen>)
-        requires known { IsSome (slice_index_or self.old.records client None) }
+        requires known { IsSome (slice_index_or self.old.clients client None) }
         requires present { base.value ≡ self.old.parser.screen }
-        ensures { state_of self.new ≡ with_client (state_of self.old) client
-            (Some (record { owed = text.items; base = Some (shown_in (state_of self.old)) })) }
+        ensures { Puts self.old client (Some (record { owed = text.items; base = Some (shown_in self.old) })) self.new }
     {
         if let Some(record) = self.clients.get_mut(client.key()) {
             record.owe(text, base);

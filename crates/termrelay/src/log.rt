@@ -1,7 +1,6 @@
 //! Runs of calls, and what is kept of them.
 ghost use Rattle.std.specs.Prelude.{◌≡◌, map, OnOk, OnErr, IfOk};
 ghost use Rattle.termrelay.specs.Calls.{Feed, Resize, Attach, Detach, Frame, Pump, Serves, IsCall, call_of};
-ghost use Rattle.termrelay.specs.Hub.{state_of};
 ghost use Rattle.termrelay.specs.Log.{empty_log, sessions_after, ServesLogged, RunsCalls};
 
 use crate::call::{Call, Reply, Take};
@@ -57,9 +56,8 @@ impl Log {
 
     /// Makes a call on a hub, and keeps its reply. Where there is no memory for what is kept, nothing is done.
     fn serve(&mut self, hub: &mut Hub, call: &Call<'_>) -> Result<(), AllocError>
-        ensures served { OnOk result (ServesLogged (state_of hub.old) (call_of call.now) (state_of hub.new) self.old
-            self.new) }
-        ensures hub { OnErr result (state_of hub.new ≡ state_of hub.old) }
+        ensures served { OnOk result (ServesLogged hub.old (call_of call.now) hub.new self.old self.new) }
+        ensures hub { OnErr result (hub.new ≡ hub.old) }
         ensures same { OnErr result (self.new ≡ self.old) }
     {
         self.replies.reserve(1)?;
@@ -77,10 +75,10 @@ fn serve(
     sessions: &mut Vec<Session>,
 ) -> Result<Reply, AllocError>
     ensures call { OnOk result (IsCall (call_of call.now)) }
-    ensures served { IfOk result (λ reply. Serves (state_of hub.old) (call_of call.now) reply (state_of hub.new)) }
+    ensures served { IfOk result (λ reply. Serves hub.old (call_of call.now) reply hub.new) }
     ensures sessions { IfOk result (λ reply. sessions.new.items
-        ≡ sessions_after (state_of hub.old) (call_of call.now) reply sessions.old.items) }
-    ensures hub { OnErr result (state_of hub.new ≡ state_of hub.old) }
+        ≡ sessions_after hub.old (call_of call.now) reply sessions.old.items) }
+    ensures hub { OnErr result (hub.new ≡ hub.old) }
     ensures same { OnErr result (sessions.new.items ≡ sessions.old.items) }
 {
     match call {
@@ -95,7 +93,7 @@ fn serve(
 
 /// Feeds a hub.
 fn feed(hub: &mut Hub, bytes: &[u8]) -> Reply
-    ensures { Serves (state_of hub.old) (Feed bytes.now) result (state_of hub.new) }
+    ensures { Serves hub.old (Feed bytes.now) result hub.new }
 {
     match hub.feed(bytes) {
         Ok(()) => Reply::Done,
@@ -106,9 +104,9 @@ fn feed(hub: &mut Hub, bytes: &[u8]) -> Reply
 /// Gives a hub's screen another size. Then every session ends.
 fn resize(hub: &mut Hub, rows: NonZeroU16, cols: NonZeroU16, sessions: &mut [Session]) -> Reply
     ensures call { IsCall (Resize rows.value cols.value) }
-    ensures served { Serves (state_of hub.old) (Resize rows.value cols.value) result (state_of hub.new) }
+    ensures served { Serves hub.old (Resize rows.value cols.value) result hub.new }
     ensures sessions { sessions.new
-        ≡ sessions_after (state_of hub.old) (Resize rows.value cols.value) result sessions.old }
+        ≡ sessions_after hub.old (Resize rows.value cols.value) result sessions.old }
 {
     match hub.resize(rows, cols) {
         Ok(()) => {
@@ -121,10 +119,10 @@ fn resize(hub: &mut Hub, rows: NonZeroU16, cols: NonZeroU16, sessions: &mut [Ses
 
 /// Attaches a client to a hub, and begins a session of it. The room for that is made first.
 fn attach(hub: &mut Hub, alloc: Global, sessions: &mut Vec<Session>) -> Result<Reply, AllocError>
-    ensures served { IfOk result (λ reply. Serves (state_of hub.old) Attach reply (state_of hub.new)) }
+    ensures served { IfOk result (λ reply. Serves hub.old Attach reply hub.new) }
     ensures sessions { IfOk result (λ reply. sessions.new.items
-        ≡ sessions_after (state_of hub.old) Attach reply sessions.old.items) }
-    ensures hub { OnErr result (state_of hub.new ≡ state_of hub.old) }
+        ≡ sessions_after hub.old Attach reply sessions.old.items) }
+    ensures hub { OnErr result (hub.new ≡ hub.old) }
     ensures same { OnErr result (sessions.new.items ≡ sessions.old.items) }
 {
     sessions.reserve(1)?;
@@ -140,8 +138,8 @@ fn attach(hub: &mut Hub, alloc: Global, sessions: &mut Vec<Session>) -> Result<R
 
 /// Ends a client of a hub, and the last session of it that hasn't ended.
 fn detach(hub: &mut Hub, client: Client, sessions: &mut [Session]) -> Reply
-    ensures served { Serves (state_of hub.old) (Detach client) result (state_of hub.new) }
-    ensures sessions { sessions.new ≡ sessions_after (state_of hub.old) (Detach client) result sessions.old }
+    ensures served { Serves hub.old (Detach client) result hub.new }
+    ensures sessions { sessions.new ≡ sessions_after hub.old (Detach client) result sessions.old }
 {
     match hub.detach(client) {
         Ok(()) => {
@@ -154,7 +152,7 @@ fn detach(hub: &mut Hub, client: Client, sessions: &mut [Session]) -> Reply
 
 /// Asks a hub for a frame for a client.
 fn frame(hub: &mut Hub, client: Client) -> Reply
-    ensures { Serves (state_of hub.old) (Frame client) result (state_of hub.new) }
+    ensures { Serves hub.old (Frame client) result hub.new }
 {
     match hub.frame(client) {
         Ok(answer) => Reply::Answered(answer),
@@ -170,11 +168,10 @@ fn pump_kept(
     takes: &[Take],
     sessions: &mut [Session],
 ) -> Result<Reply, AllocError>
-    ensures served { IfOk result (λ reply. Serves (state_of hub.old) (Pump client takes.now) reply
-        (state_of hub.new)) }
+    ensures served { IfOk result (λ reply. Serves hub.old (Pump client takes.now) reply hub.new) }
     ensures sessions { IfOk result (λ reply. sessions.new
-        ≡ sessions_after (state_of hub.old) (Pump client takes.now) reply sessions.old) }
-    ensures hub { OnErr result (state_of hub.new ≡ state_of hub.old) }
+        ≡ sessions_after hub.old (Pump client takes.now) reply sessions.old) }
+    ensures hub { OnErr result (hub.new ≡ hub.old) }
     ensures same { OnErr result (sessions.new ≡ sessions.old) }
 {
     match last_of(sessions, client) {
@@ -192,7 +189,7 @@ fn pump_kept(
 /// Where there is no memory for what the log keeps of a call, the run ends before that call. Room for all that is owed
 /// is made before a pump.
 pub fn run(hub: &mut Hub, calls: &[Call<'_>], log: &mut Log) -> Result<(), HubError>
-    ensures { RunsCalls (state_of hub.old) log.old (map call_of calls.now) result (state_of hub.new) log.new }
+    ensures { RunsCalls hub.old log.old (map call_of calls.now) result hub.new log.new }
 {
     for call in calls {
         log.serve(hub, call)?;

@@ -2,7 +2,7 @@
 ghost use Rattle.std.specs.Prelude.{◌≡◌, ◌++◌, false, [], length, map, IfOk, OnOk, OnErr, MatchOption};
 ghost use Rattle.std.specs.List.{list_any};
 ghost use Rattle.termrelay.specs.Calls.{Pump, Serves};
-ghost use Rattle.termrelay.specs.Hub.{state_of};
+ghost use Rattle.termrelay.specs.Hub.{clients_in};
 ghost use Rattle.termrelay.specs.Log.{is_of, change_last, bytes_taken, grown, ended as ended_now, IsLast};
 
 use crate::call::{Reply, Take};
@@ -109,11 +109,10 @@ impl Session {
     /// Pumps its client to a writer that is told of, and keeps the bytes that it takes. Where there is no room for all
     /// that is owed, nothing is pumped.
     pub(crate) fn pump(&mut self, hub: &mut Hub, takes: &[Take]) -> Result<Reply, AllocError>
-        ensures served { IfOk result (λ reply. Serves (state_of hub.old) (Pump self.old.client takes.now) reply
-            (state_of hub.new)) }
+        ensures served { IfOk result (λ reply. Serves hub.old (Pump self.old.client takes.now) reply hub.new) }
         ensures grown { OnOk result (self.new
-            ≡ grown (bytes_taken takes.now ((state_of hub.old).client self.old.client)) self.old) }
-        ensures hub { OnErr result (state_of hub.new ≡ state_of hub.old) }
+            ≡ grown (bytes_taken takes.now (clients_in hub.old self.old.client)) self.old) }
+        ensures hub { OnErr result (hub.new ≡ hub.old) }
         ensures same { OnErr result (self.new ≡ self.old) }
     {
         pump_into(hub, self.client, takes, &mut self.pumped)
@@ -128,11 +127,10 @@ fn pump_into(
     takes: &[Take],
     bytes: &mut Vec<u8>,
 ) -> Result<Reply, AllocError>
-    ensures served { IfOk result (λ reply. Serves (state_of hub.old) (Pump client takes.now) reply
-        (state_of hub.new)) }
+    ensures served { IfOk result (λ reply. Serves hub.old (Pump client takes.now) reply hub.new) }
     ensures bytes { OnOk result (bytes.new.items
-        ≡ bytes.old.items ++ bytes_taken takes.now ((state_of hub.old).client client)) }
-    ensures hub { OnErr result (state_of hub.new ≡ state_of hub.old) }
+        ≡ bytes.old.items ++ bytes_taken takes.now (clients_in hub.old client)) }
+    ensures hub { OnErr result (hub.new ≡ hub.old) }
     ensures same { OnErr result (bytes.new.items ≡ bytes.old.items) }
 {
     let Ok(owed) = hub.owed(client) else {
@@ -146,7 +144,7 @@ fn pump_into(
 
 /// Pumps a client to a writer that is told of.
 pub(crate) fn pump(hub: &mut Hub, client: Client, takes: &[Take]) -> Reply
-    ensures { Serves (state_of hub.old) (Pump client takes.now) result (state_of hub.new) }
+    ensures { Serves hub.old (Pump client takes.now) result hub.new }
 {
     match hub.pump(client, &mut Script::new(takes)) {
         Ok(()) => Reply::Done,
@@ -156,7 +154,7 @@ pub(crate) fn pump(hub: &mut Hub, client: Client, takes: &[Take]) -> Reply
 
 /// How many bytes the client is owed.
 fn owed_count(hub: &Hub, client: Client) -> usize
-    ensures { MatchOption ((state_of hub.now).client client) (result ≡ 0) (λ c. result ≡ length c.owed) }
+    ensures { MatchOption (clients_in hub.now client) (result ≡ 0) (λ c. result ≡ length c.owed) }
 {
     match hub.owed(client) {
         Ok(owed) => owed.len(),

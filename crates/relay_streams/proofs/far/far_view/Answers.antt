@@ -1,10 +1,8 @@
 use Rattle.std.proofs.Common.{◌≡◌, ◌∙◌, List, false, None, Some, map, ap, sym, subst}
 use Rattle.std.specs.List.{list_any, slice_get}
 use Rattle.termrelay.specs.Calls.{call_of}
-use Rattle.termrelay.specs.Hub.{state_of}
 use Rattle.termrelay.specs.Log.{LogView, SessionView, MadeAll, empty_log}
 use Rattle.termrelay.specs.declared.call.Reply.{Reply}
-use Rattle.faithful.specs.Serves.{told}
 use Rattle.relay_streams.specs.Far.{is_starved}
 use Rattle.relay_streams.proofs.FarLemmas.{at-get, past-get, none-found, one-found}
 use Rattle.relay_streams.proofs.far.far_view.Goals as goal
@@ -12,13 +10,13 @@ use Rattle.relay_streams.proofs.far.far_view.Goals as goal
 pub returns-clause-view : goal.returns-clause-view
 returns-clause-view c =
     let m = c.run.new.log in
-    let h = state_of c.in_ok-hub.hub in
-    let g = state_of c.run.new.hub in
+    let h = c.in_ok-hub.hub in
+    let g = c.run.new.hub in
     let calls = map call_of c.args.calls.now in
     let ran : MadeAll h empty_log calls g m =
     subst (λ (l : LogView). MadeAll h l calls g m) c.new-log.ensures c.in_ok-run.ensures in
-    let fed : list_any (λ r. is_starved (told r)) m.replies ≡ false =
-    ap (λ (rs : List Reply). list_any (λ r. is_starved (told r)) rs) (sym c.replies.ensures)
+    let fed : list_any is_starved m.replies ≡ false =
+    ap (λ (rs : List Reply). list_any is_starved rs) (sym c.replies.ensures)
     ∙ sym c.has_starved.ensures ∙ c.if-has_starved.false in
     let is : slice_get m.sessions c.args.session ≡ None =
     ap (λ (xs : List SessionView). slice_get xs c.args.session) (sym c.sessions.ensures)
@@ -29,15 +27,15 @@ returns-clause-view c =
 pub returns-in-Some-clause-view : goal.returns-in-Some-clause-view
 returns-in-Some-clause-view c =
     let m = c.run.new.log in
-    let h = state_of c.in_ok-hub.hub in
-    let g = state_of c.run.new.hub in
+    let h = c.in_ok-hub.hub in
+    let g = c.run.new.hub in
     let calls = map call_of c.args.calls.now in
     let s = c.in-Some.session.now in
     let v = c.in_ok-view_session-in-Some.field-0 in
     let ran : MadeAll h empty_log calls g m =
     subst (λ (l : LogView). MadeAll h l calls g m) c.new-log.ensures c.in_ok-run.ensures in
-    let fed : list_any (λ r. is_starved (told r)) m.replies ≡ false =
-    ap (λ (rs : List Reply). list_any (λ r. is_starved (told r)) rs) (sym c.replies.ensures)
+    let fed : list_any is_starved m.replies ≡ false =
+    ap (λ (rs : List Reply). list_any is_starved rs) (sym c.replies.ensures)
     ∙ sym c.has_starved.ensures ∙ c.if-has_starved.false in
     let lookup = c.in-Some.ensures.lookup in
     let is : slice_get m.sessions c.args.session ≡ Some s =

@@ -1,10 +1,9 @@
 use Rattle.std.proofs.Common.{◌≡◌, drop}
 use Rattle.std.specs.List.{list_any}
-use Rattle.faithful.specs.Serves.{told}
 use Rattle.relay_streams.specs.Far.{is_starved}
 use Rattle.relay_streams.proofs.far.has_starved.Given as goal
 
 -- whether there was one depends on the replies that are left
 abbrev pub invariant-loop-reply : goal.invariant-loop-reply
-invariant-loop-reply l = list_any (λ r. is_starved (told r)) (drop l.reply-index l.replies)
-    ≡ list_any (λ r. is_starved (told r)) l.replies
+invariant-loop-reply l = list_any is_starved (drop l.reply-index l.replies)
+    ≡ list_any is_starved l.replies

@@ -1,5 +1,4 @@
 use Rattle.std.proofs.Common.{◌≡◌, Ok, Err, ap, ◌∙◌, rules}
-use Rattle.termrelay.specs.Hub.{state_of}
 use Rattle.relay_streams.specs.declared.error.RelayError.TheVariants.{Memory}
 use Rattle.relay_streams.specs.Relayed.{Relays, refused, broken, unflushed, written}
 use Rattle.relay_streams.specs.Turns.{fault_of}
@@ -16,7 +15,7 @@ returns-in_err-hub-clause-relays g c =
 pub returns-in_err-client : goal.returns-in_err-client
 returns-in_err-client g c =
     let e = c.in_err-client.field-0.0 in
-    let none = attach-refused (state_of c.in_ok-hub.hub) (state_of c.attach.new.self) e c.in_err-client.ensures in
+    let none = attach-refused c.in_ok-hub.hub c.attach.new.self e c.in_err-client.ensures in
     let told : c.from_residual-in_err-client.result ≡ Err (fault_of e) = search rules in
     let is : c.from_residual-in_err-client.result ≡ Err Memory = told ∙ ap Err none in
     let r : Relays g.S.Source.gives g.W.Taker.takes g.W.Sink.flushes c.args.rows.value c.args.cols.value
@@ -33,8 +32,8 @@ returns-in_err-client g c =
 pub returns-in_err-relay_pieces : goal.returns-in_err-relay_pieces
 returns-in_err-relay_pieces g c =
     let e = c.in_err-relay_pieces.field-0.0 in
-    let at = first-attached c.args.rows.value c.args.cols.value c.in_ok-client.client (state_of c.in_ok-hub.hub)
-    (state_of c.attach.new.self) c.in_ok-hub.ensures.new c.in_ok-client.ensures in
+    let at = first-attached c.args.rows.value c.args.cols.value c.in_ok-client.client c.in_ok-hub.hub
+    c.attach.new.self c.in_ok-hub.ensures.new c.in_ok-client.ensures in
     let is : c.from_residual-in_err-relay_pieces.result ≡ Err e = search rules in
     let r : Relays g.S.Source.gives g.W.Taker.takes g.W.Sink.flushes c.args.rows.value c.args.cols.value
     c.args.input.now c.args.output.now c.from_residual-in_err-relay_pieces.result c.relay_pieces.new.input
@@ -50,8 +49,8 @@ returns-in_err-relay_pieces g c =
 
 pub returns-in-Ok : goal.returns-in-Ok
 returns-in-Ok g c =
-    let at = first-attached c.args.rows.value c.args.cols.value c.in_ok-client.client (state_of c.in_ok-hub.hub)
-    (state_of c.attach.new.self) c.in_ok-hub.ensures.new c.in_ok-client.ensures in
+    let at = first-attached c.args.rows.value c.args.cols.value c.in_ok-client.client c.in_ok-hub.hub
+    c.attach.new.self c.in_ok-hub.ensures.new c.in_ok-client.ensures in
     let r : Relays g.S.Source.gives g.W.Taker.takes g.W.Sink.flushes c.args.rows.value c.args.cols.value
     c.args.input.now c.args.output.now (Ok tt) c.relay_pieces.new.input c.finish.new.self =
     written c.relay_pieces.new.output
@@ -66,8 +65,8 @@ returns-in-Ok g c =
 
 pub returns : goal.returns
 returns g c =
-    let at = first-attached c.args.rows.value c.args.cols.value c.in_ok-client.client (state_of c.in_ok-hub.hub)
-    (state_of c.attach.new.self) c.in_ok-hub.ensures.new c.in_ok-client.ensures in
+    let at = first-attached c.args.rows.value c.args.cols.value c.in_ok-client.client c.in_ok-hub.hub
+    c.attach.new.self c.in_ok-hub.ensures.new c.in_ok-client.ensures in
     let r =
     unflushed c.relay_pieces.new.output c.in-Err.field-0
     (c.in_ok-relay_pieces.ensures c.args.rows.value c.args.cols.value at) c.in-Err.ensures.flushes in

@@ -1,5 +1,4 @@
 use Rattle.std.proofs.Common.{◌≡◌, ℕ, List, [], ◌∷◌, ◌++◌, take, length, arith, Err, rules}
-use Rattle.termrelay.specs.Hub.{state_of}
 use Rattle.relay_streams.specs.Frames.{base_of}
 use Rattle.relay_streams.specs.Pieces.{piece_len}
 use Rattle.relay_streams.specs.Relayed.{unread, sent}
@@ -41,7 +40,7 @@ returns-in_err-turn g c = λ rows cols at.
     let begun = filled_begun g.row.S.Denot g.S.Source.gives piece_len c.args.input.now c.pieces.input c.fill.new.input
     c.pieces.reads c.fill.new.reads so_far.past c.fill.new.piece c.fill.result f n c.in_ok-n.was so_far.read in
     rw is (turn-faults g.row.S.Denot g.row.W.Denot g.S.Source.gives g.W.Taker.takes rows cols so_far.past piece
-    c.args.client (state_of c.turn.new.hub) c.args.input.now c.fill.new.input c.args.output.now c.pieces.output
+    c.args.client c.turn.new.hub c.args.input.now c.fill.new.input c.args.output.now c.pieces.output
     c.turn.new.output fault begun (so_far.sent rows cols at)
     (c.in_err-turn.ensures rows cols so_far.past (base_of rows cols so_far.past) (so_far.at rows cols at)))
 
@@ -58,7 +57,7 @@ returns-then-n-lt-PIECE_LEN g c = λ rows cols at.
     c.pieces.reads c.fill.new.reads so_far.past c.fill.new.piece c.fill.result f n c.in_ok-n.was
     (omega arith) so_far.read)
     (turn-sent g.row.S.Denot g.row.W.Denot g.S.Source.gives g.W.Taker.takes rows cols so_far.past piece c.args.client
-    (state_of c.turn.new.hub) c.args.output.now c.pieces.output c.turn.new.output (so_far.sent rows cols at) turned)
+    c.turn.new.hub c.args.output.now c.pieces.output c.turn.new.output (so_far.sent rows cols at) turned)
 
 pub pieces-preserved : goal.pieces-preserved
 pieces-preserved g c =
@@ -77,10 +76,10 @@ pieces-preserved g c =
           c.pieces.reads c.fill.new.reads so_far.past c.fill.new.piece c.fill.result f n c.in_ok-n.was
           (omega arith) so_far.read;
       at = λ rows cols at. turn-stands g.row.S.Denot g.row.W.Denot g.S.Source.gives g.W.Taker.takes rows cols
-          so_far.past piece c.args.client (state_of c.turn.new.hub) c.pieces.output c.turn.new.output
+          so_far.past piece c.args.client c.turn.new.hub c.pieces.output c.turn.new.output
           (c.in_ok-turn.ensures rows cols so_far.past (base_of rows cols so_far.past) (so_far.at rows cols at));
       sent = λ rows cols at. turn-sent g.row.S.Denot g.row.W.Denot g.S.Source.gives g.W.Taker.takes rows cols
-          so_far.past piece c.args.client (state_of c.turn.new.hub) c.args.output.now c.pieces.output
+          so_far.past piece c.args.client c.turn.new.hub c.args.output.now c.pieces.output
           c.turn.new.output (so_far.sent rows cols at)
           (c.in_ok-turn.ensures rows cols so_far.past (base_of rows cols so_far.past) (so_far.at rows cols at));
     }

@@ -1,5 +1,4 @@
 use Rattle.std.proofs.Common.{◌≤◌, ◌-◌, List, [], ℕ, None, Ok}
-use Rattle.termrelay.specs.Hub.{state_of}
 use Rattle.relay_streams.specs.Fill.{max_reads}
 use Rattle.relay_streams.specs.Frames.{frames_of, base_of}
 use Rattle.relay_streams.specs.Pieces.{piece_len}
@@ -14,9 +13,9 @@ invariant-pieces g l = record {
   most : l.reads ≤ max_reads;
   past : List (List ℕ);
   read : DrainsOn g.S.Source.gives piece_len l.fn.input l.input l.reads past;
-  at : (rows cols : ℕ) → Relaying rows cols [] None (state_of l.fn.hub) l.fn.client
-      → Relaying rows cols past (base_of rows cols past) (state_of l.hub) l.fn.client;
-  sent : (rows cols : ℕ) → Relaying rows cols [] None (state_of l.fn.hub) l.fn.client
+  at : (rows cols : ℕ) → Relaying rows cols [] None l.fn.hub l.fn.client
+      → Relaying rows cols past (base_of rows cols past) l.hub l.fn.client;
+  sent : (rows cols : ℕ) → Relaying rows cols [] None l.fn.hub l.fn.client
       → Sends g.W.Taker.takes l.fn.output (frames_of rows cols past) (Ok tt) l.output;
 }
 

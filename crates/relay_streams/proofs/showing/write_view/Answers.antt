@@ -7,7 +7,7 @@ use Rattle.relay_streams.proofs.OutputLemmas.{rows-next}
 use Rattle.relay_streams.proofs.showing.write_view.Goals as goal
 
 pub loop-row-init : goal.loop-row-init
-loop-row-init g c = record { written = []; sent = done; follows = search rules; }
+loop-row-init g c = record { written = []; sent = done; follows = search rules }
 
 pub returns-in_err-write_row : goal.returns-in_err-write_row
 returns-in_err-write_row g c =

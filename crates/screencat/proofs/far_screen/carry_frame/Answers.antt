@@ -1,7 +1,5 @@
 use Rattle.std.proofs.Common.{◌≡◌, ℕ, List, [], ◌∷◌, ◌++◌, ◌∙◌, Some, ap, refl, subst}
 use Rattle.std.specs.List.{concat}
-use Rattle.termrelay.specs.Hub.{state_of}
-use Rattle.takers.specs.Pump.{Writes}
 use Rattle.relay_streams.specs.Frames.{asked}
 use Rattle.relay_streams.proofs.TurnLemmas.{piece-fed, frame-asked, turn-ends}
 use Rattle.screencat.specs.Carried.{Carries}
@@ -12,13 +10,13 @@ pub returns : goal.returns
 returns c = λ rows cols past base at.
     let piece = c.args.piece.now in
     let pieces : List (List ℕ) = past ++ piece ∷ [] in
-    let h = state_of c.feed.new.self in
-    let k = state_of c.frame.new.self in
-    let g = state_of c.pump.new.self in
+    let h = c.feed.new.self in
+    let k = c.frame.new.self in
+    let g = c.pump.new.self in
     let key = c.args.client in
     let line = c.pump.new.to in
     let owed = (asked rows cols (concat pieces) base).owed in
-    let fed = piece-fed rows cols past piece base (state_of c.args.hub.now) h key at c.in_ok-feed.ensures in
+    let fed = piece-fed rows cols past piece base c.args.hub.now h key at c.in_ok-feed.ensures in
     let made = frame-asked rows cols pieces base h k key c.in_ok-frame.field-0 fed c.in_ok-frame.ensures in
     let turned = turn-ends _ _ rows cols pieces base h k g key c.new-line.result line fed made c.in_ok-pump.ensures in
     let whole : c.deref.result.now ≡ owed =

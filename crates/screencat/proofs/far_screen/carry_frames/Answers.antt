@@ -1,5 +1,4 @@
 use Rattle.std.proofs.Common.{◌≡◌, ℕ, List, [], ◌∷◌, ◌++◌, take, length, arith}
-use Rattle.termrelay.specs.Hub.{state_of}
 use Rattle.relay_streams.specs.Frames.{base_of}
 use Rattle.relay_streams.specs.Pieces.{piece_len}
 use Rattle.relay_streams.proofs.PieceLemmas.{none_read, filled_most, filled_on, filled_last}
@@ -52,7 +51,7 @@ pieces-preserved g c =
       at = λ rows cols at.
           let brought = c.in_ok-carry_frame.ensures rows cols so_far.past (base_of rows cols so_far.past)
           (so_far.at rows cols at) in
-          relays-on rows cols so_far.past piece (state_of c.carry_frame.new.hub) c.args.client brought.1;
+          relays-on rows cols so_far.past piece c.carry_frame.new.hub c.args.client brought.1;
       carried = λ rows cols at.
           let brought = c.in_ok-carry_frame.ensures rows cols so_far.past (base_of rows cols so_far.past)
           (so_far.at rows cols at) in

@@ -1,6 +1,5 @@
-use Rattle.std.proofs.Common.{◌≡◌, ◌∙◌, ℕ, List, ap}
+use Rattle.std.proofs.Common.{◌∙◌, ℕ, List, ap}
 use Rattle.std.specs.List.{concat}
-use Rattle.termrelay.specs.Hub.{state_of}
 use Rattle.termview.specs.Standing.{shown_by, size_of}
 use Rattle.relay_streams.specs.Frames.{frames_of}
 use Rattle.relay_streams.specs.Shown.{screen_text}
@@ -17,13 +16,14 @@ returns g c =
     let rows = c.args.rows.value in
     let cols = c.args.cols.value in
     let read = c.in_ok-carry_frames.ensures in
-    let at = first-attached rows cols c.in_ok-client.client (state_of c.in_ok-hub.hub)
-    (state_of c.attach.new.self) c.in_ok-hub.ensures.new c.in_ok-client.ensures in
+    let at = first-attached rows cols c.in_ok-client.client c.in_ok-hub.hub
+    c.attach.new.self c.in_ok-hub.ensures.new c.in_ok-client.ensures in
     let carried = read.2 rows cols at in
     let fresh = c.in_ok-view.ensures.exact (λ b e. e ∙ c.new-2.ensures) in
     let size = size_is _ _ _ c.in_ok-view.ensures.rows c.in_ok-view.ensures.cols in
     let view = c.carry_frames.new.view in
-    record { text = printed c.print_view.result (g.S.Source.left c.args.input.now) (IsFarText rows cols)
+    record {
+      text = printed c.print_view.result (g.S.Source.left c.args.input.now) (IsFarText rows cols)
     (screen_text (size_of view) (shown_by view).cell) _ _
     (λ bytes known. record {
       pieces = carried.pieces;
@@ -34,4 +34,5 @@ returns g c =
     })
     (prints-text g.row.S.Denot g.row.W.Denot g.S.Source.gives g.W.Taker.takes g.W.Sink.flushes g.W.Sink.contents
     g.S.Source.left g.met.S.Source.tells g.met.W.Sink.tells g.met.W.Sink.keeps c.args.output.now
-    (screen_text (size_of view) (shown_by view).cell) c.print_view.result c.print_view.new.output c.print_view.ensures) }
+    (screen_text (size_of view) (shown_by view).cell) c.print_view.result c.print_view.new.output c.print_view.ensures);
+    }

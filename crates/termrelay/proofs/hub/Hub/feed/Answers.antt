@@ -2,7 +2,7 @@ use Rattle.std.proofs.Common.{◌≡◌, ℕ, List, [], ◌∷◌, length, ap, s
 use Rattle.std.proofs.lemmas.Bool.{eqb-true}
 use Rattle.slab.specs.Slab.{get}
 use Rattle.vt100_state.specs.Made.{Fed}
-use Rattle.termrelay.specs.Hub.{HubValue, GoesOn}
+use Rattle.termrelay.specs.Hub.{HubState, as_kept, GoesOn}
 use Rattle.termrelay.proofs.MadeLemmas.{fed-made, fed-size, nothing-fed}
 use Rattle.termrelay.proofs.HubLemmas.{served-still}
 use Rattle.termrelay.proofs.hub.Hub.feed.Goals as goal
@@ -23,7 +23,7 @@ invariant_of-self-2 c =
     let p = c.self.inside.parser in
     let q = c.process.new.self in
     let live : p.screen.failed ≡ false =
-    ap (λ (v : HubValue). v.parser.screen.failed) c.self.view_is ∙ sym c.has_failed.ensures ∙ c.if-has_failed.false in
+    ap (λ (v : HubState as_kept). v.parser.screen.failed) c.self.view_is ∙ sym c.has_failed.ensures ∙ c.if-has_failed.false in
     let step : GoesOn p (Fed c.args.bytes.now) q =
     λ rows cols capacity acts at. c.in_ok-process.ensures.made (λ a v k b w e. sym e) rows cols capacity acts at in
     let made = c.self.invariant.made live in

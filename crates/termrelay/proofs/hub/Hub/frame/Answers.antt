@@ -13,7 +13,7 @@ use Rattle.termrelay.specs.Frame.{frame_text}
 use Rattle.termrelay.specs.Answers.{ClientState, answer_to, answer_of, is_frame, after_answer}
 use Rattle.termrelay.specs.Record.{RecordView, client_of}
 use Rattle.termrelay.specs.HubFields.{hub_of}
-use Rattle.termrelay.specs.Hub.{HubValue, HubState, state_of, with_client, CanFrame, framed, Frames, size_in, shown_in}
+use Rattle.termrelay.specs.Hub.{HubState, as_kept, Puts, CanFrame, Framed, Frames, size_in, shown_in}
 use Rattle.termrelay.proofs.MadeLemmas.{made-unscrolled}
 use Rattle.termrelay.proofs.hub.Hub.frame.Goals as goal
 
@@ -36,18 +36,17 @@ after-frame now c answer text is frame is_text =
     (is_text ∙ ap (λ (ys : List ℕ). ys ++ frame_text (size_of now.shown) c.base (shown_state now)) (sym none))
     ∙ ap (λ b. if b then framing else c) (sym frame)
 
-frames : (h : HubValue) (key : ℕ) (r : RecordView) (answer : Answer) (text : List ℕ) (g : HubState)
-    → slice_index_or h.records key None ≡ Some r → h.parser.screen.failed ≡ false
+frames : (h : HubState as_kept) (key : ℕ) (r : RecordView) (answer : Answer) (text : List ℕ) (g : HubState as_kept)
+    → slice_index_or h.clients key None ≡ Some r → h.parser.screen.failed ≡ false
     → answer ≡ answer_of h.parser.screen.state (client_of r) → is_frame answer ≡ true
-    → text ≡ frame_text (size_in (state_of h)) (client_of r).base (shown_in (state_of h))
-    → g ≡ with_client (state_of h) key (Some (record { owed = text; base = Some (shown_in (state_of h)) }))
-    → Frames (state_of h) key (Ok answer) g
-frames h key r answer text g found live is frame is_text is_g =
+    → text ≡ frame_text (size_in h) (client_of r).base (shown_in h)
+    → Puts h key (Some (record { owed = text; base = Some (shown_in h) })) g → Frames h key (Ok answer) g
+frames h key r answer text g found live is frame is_text put =
     subst (λ (o : Option RecordView). CanFrame h.parser.screen (option_map client_of o) (Ok answer)
-    × (g ≡ framed (state_of h) key (option_map client_of o) (Ok answer))) (sym found) (
+    × Framed h key (option_map client_of o) (Ok answer) g) (sym found) (
       (live, is),
-      is_g ∙ ap (λ (c : ClientState). with_client (state_of h) key (Some c))
-          (after-frame h.parser.screen.state (client_of r) answer text is frame is_text),
+      subst (λ (c : ClientState). Puts h key (Some c) g)
+          (after-frame h.parser.screen.state (client_of r) answer text is frame is_text) put,
     )
 
 pub answer-answer-requires-clause-unscrolled : goal.answer-answer-requires-clause-unscrolled
@@ -73,8 +72,8 @@ returns c =
     let r = c.in-Some.record.now in
     let answer = c.answer-answer.result in
     let text = c.in_ok-text.text.items in
-    let found : slice_index_or h.records c.args.client None ≡ Some r =
-    ap (λ k. slice_index_or h.records k None) (sym c.key.ensures) ∙ sym c.get.ensures
+    let found : slice_index_or h.clients c.args.client None ≡ Some r =
+    ap (λ k. slice_index_or h.clients k None) (sym c.key.ensures) ∙ sym c.get.ensures
     ∙ ap option_copied c.in-Some.is in
     let is_screen = c.screen-screen.ensures in
     let live : p.screen.failed ≡ false =
@@ -85,5 +84,5 @@ returns c =
     let is_text : text ≡ frame_text (size_of p.screen.state.shown) (client_of r).base (shown_state p.screen.state) =
     c.in_ok-text.ensures.text ∙ ap (λ (v : ScreenView). frame_text (size_of v.state.shown) (client_of r).base
     (shown_state v.state)) is_screen in
-    subst (λ (v : HubValue). Frames (state_of v) c.args.client (Ok answer) (state_of c.owe.new.self)) c.self.view_is
-    (frames h c.args.client r answer text (state_of c.owe.new.self) found live is frame is_text c.owe.ensures)
+    subst (λ (v : HubState as_kept). Frames v c.args.client (Ok answer) c.owe.new.self) c.self.view_is
+    (frames h c.args.client r answer text c.owe.new.self found live is frame is_text c.owe.ensures)

@@ -1,23 +1,23 @@
-use Rattle.std.proofs.Common.{◌≡◌, ℕ, ap, sym, ◌∙◌, subst, Option, Some, None, IsSome, slice_index_or}
+use Rattle.std.proofs.Common.{◌≡◌, ℕ, List, ap, sym, ◌∙◌, subst, Option, Some, None, IsSome, slice_index_or, slice_set}
 use Rattle.std.specs.Option.{option_copied_mut}
 use Rattle.std.proofs.lemmas.Bool.{false≢true}
 use Rattle.slab.specs.Slab.{get}
 use Rattle.vt100_state.specs.Call.{ScreenView}
 use Rattle.vt100_state.specs.Shown.{shown_state}
+use Rattle.termrelay.specs.Answers.{ClientState}
 use Rattle.termrelay.specs.Record.{RecordView, client_of, IsServed}
 use Rattle.termrelay.specs.HubFields.{hub_of, IsHub}
-use Rattle.termrelay.specs.Hub.{HubValue, state_of, with_client}
-use Rattle.termrelay.specs.declared.hub.Hub.TheInside.{Inside}
+use Rattle.termrelay.specs.Hub.{HubState, as_kept, Puts}
 use Rattle.termrelay.proofs.HubLemmas.{put-client, put-served, present-served}
 use Rattle.termrelay.proofs.hub.Hub.owe.Goals as goal
 use Rattle.termrelay.proofs.hub.Hub.owe.Goals.{in-Some, in_default}
 
-is-known : (h k : HubValue) (key at : ℕ) → h ≡ k → at ≡ key → IsSome (slice_index_or k.records key None)
-    → slice_index_or h.records at None ≡ None → ⊥
+is-known : (h k : HubState as_kept) (key at : ℕ) → h ≡ k → at ≡ key → IsSome (slice_index_or k.clients key None)
+    → slice_index_or h.clients at None ≡ None → ⊥
 is-known h k key at same is_key known none =
     false≢true (subst (λ (o : Option RecordView). IsSome o) none
-    (subst (λ (v : HubValue). IsSome (slice_index_or v.records at None)) (sym same)
-    (subst (λ (n : ℕ). IsSome (slice_index_or k.records n None)) (sym is_key) known)))
+    (subst (λ (v : HubState as_kept). IsSome (slice_index_or v.clients at None)) (sym same)
+    (subst (λ (n : ℕ). IsSome (slice_index_or k.clients n None)) (sym is_key) known)))
 
 pub invariant_of-self : goal.invariant_of-self
 invariant_of-self c =
@@ -25,7 +25,7 @@ invariant_of-self c =
     let s = c.self.inside.clients in
     let i = c.self.invariant in
     let is_base : c.args.base.value ≡ p.screen =
-    c.requires.present ∙ ap (λ (h : HubValue). h.parser.screen) (sym c.self.view_is) in
+    c.requires.present ∙ ap (λ (h : HubState as_kept). h.parser.screen) (sym c.self.view_is) in
     elim c.match-get_mut.branch [
       | in-Some w ↦
           let at : get s c.key.result ≡ Some w.in-Some.record.now =
@@ -41,26 +41,30 @@ invariant_of-self c =
       | in_default w ↦ subst IsHub (sym w.self-inside-is) i
     ]
 
+owing : List ℕ → ScreenView → ClientState
+owing owed v = record { owed = owed; base = Some (shown_state v.state) }
+
 pub returns : goal.returns
+unfolding owing
 returns c = elim c.match-get_mut.branch [
   | in-Some w ↦
       let p = c.self.inside.parser in
       let rs = c.self.inside.clients.slots in
-      let is_key : c.key.result ≡ c.args.client = c.key.ensures in
+      let text = c.args.text.items in
+      let new = w.owe.new.self in
       let at : slice_index_or rs c.key.result None ≡ Some w.in-Some.record.now =
       sym c.get_mut.ensures.value ∙ ap option_copied_mut w.in-Some.is in
-      ap (λ (h : Inside). state_of (hub_of h)) w.self-inside-is
-      ∙ put-client p rs c.key.result w.in-Some.record.now w.owe.new.self at
-      ∙ ap (λ k. with_client (state_of (record { parser = p; records = rs })) k (Some (client_of w.owe.new.self)))
-      is_key
-      ∙ ap (λ (r : RecordView). with_client (state_of (record { parser = p; records = rs })) c.args.client
-      (Some (client_of r))) w.owe.ensures
-      ∙ ap (λ (v : ScreenView). with_client (state_of (record { parser = p; records = rs })) c.args.client
-      (Some (record { owed = c.args.text.items; base = Some (shown_state v.state) }))) c.requires.present
-      ∙ ap (λ (h : HubValue). with_client (state_of h) c.args.client (Some (record {
-        owed = c.args.text.items;
-        base = Some (shown_state c.args.self.now.parser.screen.state);
-      }))) c.self.view_is
+      let put = put-client p rs c.key.result w.in-Some.record.now new at in
+      let client : client_of new ≡ owing text c.args.self.now.parser.screen =
+      ap client_of w.owe.ensures ∙ ap (owing text) c.requires.present in
+      subst (λ (g : HubState as_kept). Puts c.args.self.now c.args.client
+      (Some (owing text c.args.self.now.parser.screen)) g) (sym (ap hub_of w.self-inside-is))
+      (subst (λ (h : HubState as_kept). Puts h c.args.client (Some (owing text c.args.self.now.parser.screen))
+      (record { parser = p; clients = slice_set rs c.key.result (Some new) })) c.self.view_is
+      (subst (λ (k : ClientState). Puts (hub_of c.self.inside) c.args.client (Some k)
+      (record { parser = p; clients = slice_set rs c.key.result (Some new) })) client
+      (subst (λ (n : ℕ). Puts (hub_of c.self.inside) n (Some (client_of new))
+      (record { parser = p; clients = slice_set rs c.key.result (Some new) })) c.key.ensures put)))
   | in_default w ↦
       absurd (is-known (hub_of c.self.inside) c.args.self.now c.args.client c.key.result c.self.view_is c.key.ensures
       c.requires.known (sym c.get_mut.ensures.value ∙ ap option_copied_mut w.in_default.is))

@@ -7,7 +7,7 @@ use Rattle.termrelay.specs.declared.error.HubError.{HubError}
 use Rattle.termrelay.specs.declared.error.HubError.TheVariants.{UnknownClient, Write}
 use Rattle.takers.specs.Pump.{Pumps}
 use Rattle.termrelay.specs.Record.{RecordView, client_of}
-use Rattle.termrelay.specs.Hub.{HubValue, HubState, state_of, PumpsClient, PumpsFrom, pump_answer, with_client}
+use Rattle.termrelay.specs.Hub.{HubState, as_kept, PumpsClient, PumpsFrom, pump_answer, Puts}
 use Rattle.termrelay.specs.HubFields.{hub_of}
 use Rattle.termrelay.specs.declared.hub.Hub.TheInside.{Inside}
 use Rattle.termrelay.proofs.HubLemmas.{holding, put-client}
@@ -18,37 +18,36 @@ module _ {S : Type 0} (step : S → List ℕ → Result ℕ Error → S → Type
   client-pumped : (p : ParserView (Unit {0})) (s : Slab RecordView) (key : ℕ) (old new : RecordView) (from to : S)
       (end : Result (Unit {0}) Error) (n : ℕ) → get s key ≡ Some old → Pumps step from old.owed end n to
       → new ≡ record old { owed = drop n old.owed }
-      → PumpsClient step (state_of (holding p s)) key from (pump_answer end) to
-      (state_of (holding p (with_value s key new)))
+      → PumpsClient step (holding p s) key from (pump_answer end) to (holding p (with_value s key new))
   client-pumped p s key old new from to end n found pumps is =
-      subst (λ (o : Option RecordView). PumpsFrom step (state_of (holding p s)) key (option_map client_of o) from
-      (pump_answer end) to (state_of (holding p (with_value s key new)))) (sym found) (
+      subst (λ (o : Option RecordView). PumpsFrom step (holding p s) key (option_map client_of o) from
+      (pump_answer end) to (holding p (with_value s key new))) (sym found) (
         end,
         n,
         pumps,
         refl,
-        put-client p s.slots key old new found
-            ∙ ap (λ (r : RecordView). with_client (state_of (holding p s)) key (Some (client_of r))) is,
+        subst (λ (r : RecordView). Puts (holding p s) key (Some (client_of r)) (holding p (with_value s key new))) is
+            (put-client p s.slots key old new found),
       )
 
   no-client : (p : ParserView (Unit {0})) (s : Slab RecordView) (key : ℕ) (from : S) → get s key ≡ None
-      → PumpsClient step (state_of (holding p s)) key from (Err UnknownClient) from (state_of (holding p s))
+      → PumpsClient step (holding p s) key from (Err UnknownClient) from (holding p s)
   no-client p s key from none =
-      subst (λ (o : Option RecordView). PumpsFrom step (state_of (holding p s)) key (option_map client_of o) from
-      (Err UnknownClient) from (state_of (holding p s))) (sym none) (refl, refl, refl)
+      subst (λ (o : Option RecordView). PumpsFrom step (holding p s) key (option_map client_of o) from
+      (Err UnknownClient) from (holding p s)) (sym none) (refl, refl, refl)
 
-  as-seen : (h k : HubValue) (key at : ℕ) (from to left : S) (result answer : Result (Unit {0}) HubError)
-      (g f : HubState) → h ≡ k → at ≡ key → left ≡ to → result ≡ answer → g ≡ f
-      → PumpsClient step (state_of h) at from answer to f → PumpsClient step (state_of k) key from result left g
+  as-seen : (h k : HubState as_kept) (key at : ℕ) (from to left : S) (result answer : Result (Unit {0}) HubError)
+      (g f : HubState as_kept) → h ≡ k → at ≡ key → left ≡ to → result ≡ answer → g ≡ f
+      → PumpsClient step h at from answer to f → PumpsClient step k key from result left g
   as-seen h k key at from to left result answer g f same is_key is_to is is_f d =
-      subst (λ (v : HubValue). PumpsClient step (state_of v) key from result left g) same
-      (subst (λ (n : ℕ). PumpsClient step (state_of h) n from result left g) is_key
-      (subst (λ (t : S). PumpsClient step (state_of h) at from result t g) (sym is_to)
-      (subst (λ (a : Result (Unit {0}) HubError). PumpsClient step (state_of h) at from a to g) (sym is)
-      (subst (λ (x : HubState). PumpsClient step (state_of h) at from answer to x) (sym is_f) d))))
+      subst (λ (v : HubState as_kept). PumpsClient step v key from result left g) same
+      (subst (λ (n : ℕ). PumpsClient step h n from result left g) is_key
+      (subst (λ (t : S). PumpsClient step h at from result t g) (sym is_to)
+      (subst (λ (a : Result (Unit {0}) HubError). PumpsClient step h at from a to g) (sym is)
+      (subst (λ (x : HubState as_kept). PumpsClient step h at from answer to x) (sym is_f) d))))
 
-left-in : Inside → HubState
-left-in h = state_of (hub_of h)
+left-in : Inside → HubState as_kept
+left-in h = hub_of h
 
 pub returns : goal.returns
 unfolding left-in
@@ -68,7 +67,7 @@ returns g c =
           let new = w.pump.new.self in
           let to = w.pump.new.to in
           let found : get s key ≡ Some old = sym c.get_mut.ensures.value ∙ ap option_copied_mut w.in-Some.is in
-          seen to (Ok tt) (state_of (holding p (with_value s key new))) c.self.view_is c.key.ensures w.to-is w.result-is
+          seen to (Ok tt) (holding p (with_value s key new)) c.self.view_is c.key.ensures w.to-is w.result-is
           (ap left-in w.self-inside-is)
           (client-pumped step p s key old new from to (Ok tt) w.pump.ensures.0 found
           (subst (λ (r : Result (Unit {0}) Error). Pumps step from old.owed r w.pump.ensures.0 to) w.in-Ok.is
@@ -78,7 +77,7 @@ returns g c =
           let new = w.pump.new.self in
           let to = w.pump.new.to in
           let found : get s key ≡ Some old = sym c.get_mut.ensures.value ∙ ap option_copied_mut w.in-Some.is in
-          seen to (Err (Write w.in-Err.error)) (state_of (holding p (with_value s key new)))
+          seen to (Err (Write w.in-Err.error)) (holding p (with_value s key new))
           c.self.view_is c.key.ensures
           w.to-is w.result-is (ap left-in w.self-inside-is)
           (client-pumped step p s key old new from to (Err w.in-Err.error) w.pump.ensures.0 found
@@ -86,6 +85,6 @@ returns g c =
           w.pump.ensures.1) w.pump.ensures.2)
       | in-None w ↦
           let none : get s key ≡ None = sym c.get_mut.ensures.value ∙ ap option_copied_mut w.in-None.is in
-          seen from (Err UnknownClient) (state_of (holding p s)) c.self.view_is c.key.ensures w.to-is w.result-is
+          seen from (Err UnknownClient) (holding p s) c.self.view_is c.key.ensures w.to-is w.result-is
           (ap left-in w.self-inside-is) (no-client step p s key from none)
     ]

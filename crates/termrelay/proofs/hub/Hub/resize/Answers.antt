@@ -5,7 +5,7 @@ use Rattle.vt100_state.specs.Step.{resized_to}
 use Rattle.vt100.specs.Parsing.{ParserView}
 use Rattle.vt100.specs.Tries.{alive}
 use Rattle.vt100.proofs.PlayLemmas.{put_in}
-use Rattle.termrelay.specs.Hub.{HubValue, GoesOn}
+use Rattle.termrelay.specs.Hub.{HubState, as_kept, GoesOn}
 use Rattle.termrelay.proofs.MadeLemmas.{resized-made}
 use Rattle.termrelay.proofs.HubLemmas.{none-served, no-clients}
 use Rattle.termrelay.proofs.hub.Hub.resize.Goals as goal
@@ -21,7 +21,7 @@ invariant_of-self c =
     let rows = c.args.rows.value in
     let cols = c.args.cols.value in
     let live : p.screen.failed ≡ false =
-    ap (λ (v : HubValue). v.parser.screen.failed) c.self.view_is ∙ sym c.has_failed.ensures ∙ c.if-has_failed.false in
+    ap (λ (v : HubState as_kept). v.parser.screen.failed) c.self.view_is ∙ sym c.has_failed.ensures ∙ c.if-has_failed.false in
     let copy = c.in_ok-screen.ensures.screen ∙ c.screen.ensures in
     let is : w ≡ alive (resized_to rows cols p.screen.state).state =
     c.in_ok-set_size.ensures.screen ∙ ap (λ (v : ScreenView). alive (resized_to rows cols v.state).state) copy in
@@ -44,7 +44,7 @@ returns c =
     c.in_ok-set_size.ensures.screen ∙ ap (λ (v : ScreenView). alive (resized_to rows cols v.state).state) copy in (
       sym c.has_failed.ensures ∙ c.if-has_failed.false,
       ap (λ (v : ScreenView). v.failed) is,
-      no-clients (record p { screen = w }) c.clear.new.self.slots c.clear.ensures.empty,
+      no-clients c.clear.new.self.slots c.clear.ensures.empty,
       subst (λ (q : ParserView (Unit {0})). GoesOn q (Resized rows cols) (record p { screen = w }))
-          (ap (λ (v : HubValue). v.parser) c.self.view_is) (put-in-step p w rows cols is),
+          (ap (λ (v : HubState as_kept). v.parser) c.self.view_is) (put-in-step p w rows cols is),
     )
