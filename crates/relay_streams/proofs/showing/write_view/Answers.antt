@@ -1,8 +1,8 @@
-use Rattle.std.proofs.Common.{◌≡◌, ◌++◌, ◌+◌, ◌-◌, ◌∙◌, [], Ok, Err, append_assoc, append-nil, arith, sym, refl, rules}
-use Rattle.takers.specs.Sent.{done}
+use Rattle.std.proofs.Common.{ℕ, List, ap, subst, ◌≡◌, ◌++◌, ◌+◌, ◌-◌, ◌∙◌, [], Ok, Err, append_assoc, append-nil, arith, sym, refl, rules}
+use Rattle.takers.specs.Sent.{SendsText, done}
 use Rattle.takers.proofs.SendLemmas.{text-more, text-broken}
 use Rattle.termview.specs.Standing.{shown_by, size_of}
-use Rattle.relay_streams.specs.Shown.{row_line, rows_text}
+use Rattle.relay_streams.specs.Shown.{row_line, rows_text, screen_text}
 use Rattle.relay_streams.proofs.OutputLemmas.{rows-next}
 use Rattle.relay_streams.proofs.showing.write_view.Goals as goal
 
@@ -42,4 +42,13 @@ loop-row-preserved g c =
 pub returns : goal.returns
 returns g c =
     let so_far = c.loop-row.invariant in
-    rw (so_far.follows, append-nil so_far.written) so_far.sent
+    let z = size_of c.args.view.now in
+    let t = (shown_by c.args.view.now).cell in
+    let row = c.loop-row.row in
+    let end = c.get-row-end.result in
+    let none : end - row ≡ 0 = omega arith in
+    let empty : rows_text z t row (end - row) ≡ [] = ap (rows_text z t row) none in
+    let whole : screen_text z t ≡ so_far.written =
+    so_far.follows ∙ ap (λ (xs : List ℕ). so_far.written ++ xs) empty ∙ append-nil so_far.written in
+    subst (λ (xs : List ℕ). SendsText g.T.Taker.takes c.args.output.now xs (Ok tt) c.loop-row.output) (sym whole)
+    so_far.sent
