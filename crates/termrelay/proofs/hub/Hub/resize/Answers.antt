@@ -24,7 +24,7 @@ invariant_of-self c =
     ap (λ (v : HubState as_kept). v.parser.screen.failed) c.self.view_is ∙ sym c.has_failed.ensures ∙ c.if-has_failed.false in
     let copy = c.in_ok-screen.ensures.screen ∙ c.screen.ensures in
     let is : w ≡ alive (resized_to rows cols p.screen.state).state =
-    c.in_ok-set_size.ensures.screen ∙ ap (λ (v : ScreenView). alive (resized_to rows cols v.state).state) copy in
+    c.in_ok-set_size.ensures.tries.screen ∙ ap (λ (v : ScreenView). alive (resized_to rows cols v.state).state) copy in
     record {
       made = λ alive. resized-made p (record p { screen = w }) rows cols (c.args.rows.ok, omega arith)
           (c.args.cols.ok, omega arith) (c.self.invariant.made live)
@@ -41,7 +41,7 @@ returns c =
     let cols = c.args.cols.value in
     let copy = c.in_ok-screen.ensures.screen ∙ c.screen.ensures in
     let is : w ≡ alive (resized_to rows cols p.screen.state).state =
-    c.in_ok-set_size.ensures.screen ∙ ap (λ (v : ScreenView). alive (resized_to rows cols v.state).state) copy in (
+    c.in_ok-set_size.ensures.tries.screen ∙ ap (λ (v : ScreenView). alive (resized_to rows cols v.state).state) copy in (
       sym c.has_failed.ensures ∙ c.if-has_failed.false,
       ap (λ (v : ScreenView). v.failed) is,
       no-clients c.clear.new.self.slots c.clear.ensures.empty,
