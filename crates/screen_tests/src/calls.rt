@@ -47,7 +47,10 @@ fn errors_have_texts(rt: HostRuntime) -> Result<(), Fail> {
         ScreenError::Failed,
         GridError::Memory
     )?;
-    assert_eq!(rt; text.as_str(), "out of memory; the screen has failed; out of memory");
+    assert_eq!(rt;
+        text.as_str(),
+        "out of memory; the screen has failed; out of memory"
+    );
     Ok(())
 }
 

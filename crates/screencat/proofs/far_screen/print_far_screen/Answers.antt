@@ -24,15 +24,15 @@ returns g c =
     let view = c.carry_frames.new.view in
     record {
       text = printed c.print_view.result (g.S.Source.left c.args.input.now) (IsFarText rows cols)
-    (screen_text (size_of view) (shown_by view).cell) _ _
-    (λ bytes known. record {
-      pieces = carried.pieces;
-      joined = carried.joined ∙ ap (λ (ps : List (List ℕ)). concat (frames_of rows cols ps))
-          (drained-pieces g.row.S.Denot g.S.Source.gives g.S.Source.left g.met.S.Source.tells c.args.input.now read.0
-          c.carry_frames.new.input bytes read.1 known);
-      shown = shown_so _ _ _ carried.pieces fresh size carried.led;
-    })
-    (prints-text g.row.S.Denot g.row.W.Denot g.S.Source.gives g.W.Taker.takes g.W.Sink.flushes g.W.Sink.contents
-    g.S.Source.left g.met.S.Source.tells g.met.W.Sink.tells g.met.W.Sink.keeps c.args.output.now
-    (screen_text (size_of view) (shown_by view).cell) c.print_view.result c.print_view.new.output c.print_view.ensures);
+          (screen_text (size_of view) (shown_by view).cell) _ _
+          (λ bytes known. record {
+            pieces = carried.pieces;
+            joined = carried.joined ∙ ap (λ (ps : List (List ℕ)). concat (frames_of rows cols ps))
+                (drained-pieces g.row.S.Denot g.S.Source.gives g.S.Source.left g.met.S.Source.tells c.args.input.now read.0
+                c.carry_frames.new.input bytes read.1 known);
+            shown = shown_so _ _ _ carried.pieces fresh size carried.led;
+          })
+          (prints-text g.row.S.Denot g.row.W.Denot g.S.Source.gives g.W.Taker.takes g.W.Sink.flushes g.W.Sink.contents
+          g.S.Source.left g.met.S.Source.tells g.met.W.Sink.tells g.met.W.Sink.keeps c.args.output.now
+          (screen_text (size_of view) (shown_by view).cell) c.print_view.result c.print_view.new.output c.print_view.ensures);
     }
