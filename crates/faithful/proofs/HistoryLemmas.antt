@@ -488,7 +488,7 @@ module _ (h g : HubState as_told) (ts : List Story) (k : IsKept h ts) where
       (λ i. record { parser = f.3 i; clients = f.2 i }) refl (fed-kept h bytes ts k)
   feed-kept bytes (Err hub.Memory) f =
       is-kept g (record h { parser = record (h.parser) { failed = true } }) ts ts
-      (λ i. record { parser = f.1 i; clients = f.2 i }) refl (failed-kept h ts k)
+      (λ i. record { parser = f.1.1 i; clients = f.2 i }) refl (failed-kept h ts k)
   feed-kept bytes (Err hub.Failed) f = is-kept g h ts ts f.1 refl k
   feed-kept bytes (Err hub.UnknownClient) f = absurd f
   feed-kept bytes (Err (hub.Write e)) f = absurd f
@@ -590,7 +590,7 @@ module _ (h g : HubState as_told) where
   feed-stays : (bytes : List ℕ) (result : Result (Unit {0}) HubError) → Feeds h bytes result g → KeepsFirst h g
   feed-stays bytes (Ok u) f =
       same-parser (record (h.parser) { acts = h.parser.acts ++ Fed bytes ∷ [] }) refl refl f.3
-  feed-stays bytes (Err hub.Memory) f = same-parser (record (h.parser) { failed = true }) refl refl f.1
+  feed-stays bytes (Err hub.Memory) f = same-parser (record (h.parser) { failed = true }) refl refl f.1.1
   feed-stays bytes (Err hub.Failed) f = same-hub f.1
   feed-stays bytes (Err hub.UnknownClient) f = absurd f
   feed-stays bytes (Err (hub.Write e)) f = absurd f

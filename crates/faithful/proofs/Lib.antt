@@ -4,4 +4,5 @@ pub mod ScreenLemmas
 pub mod FrameSteps
 pub mod HeadlineLemmas
 pub mod ServesLemmas
+pub mod OneHistory
 pub mod LoggedLemmas

@@ -9,8 +9,9 @@ use Rattle.std.specs.declared.io.Error.{Error}
 use Rattle.vt100_core.specs.Picture.{size_of}
 use Rattle.vt100_state.specs.Call.{ScreenView}
 use Rattle.vt100_state.specs.Shown.{shown_state}
-use Rattle.vt100_state.specs.Made.{Fed, Resized, made}
-use Rattle.vt100.specs.Parsing.{ParserView, StandsAt}
+use Rattle.vt100_state.specs.Made.{Fed, Resized, bytes_fed, events_added, made}
+use Rattle.vt100.specs.Memory.{some_may_take}
+use Rattle.vt100.specs.Parsing.{ParserView, HasRead, StandsAt}
 use Rattle.takers.specs.Pump.{Pumps, all, nothing, fault, some}
 use Rattle.termrelay.specs.Answers.{ClientState, answer_of, after_answer, may_take_memory}
 use Rattle.termrelay.specs.Hub.{Telling, HubState, as_kept, is_failed, screen_in, clients_in}
@@ -72,6 +73,16 @@ module _ (h : HubState as_kept) (u : HubState as_told) (m : Matches h u) where
       (m.parser e).screen
       ∙ (λ i. record { state = made u.parser.rows u.parser.cols 0 u.parser.acts; failed = sym e i })
 
+  -- what may take memory by what has been read, may by what is told
+  may-take : (bytes : List ℕ) → is_failed h ≡ false
+      → ((past : List ℕ) → HasRead h.parser past → some_may_take (events_added past bytes) h.parser.screen.state ≡ true)
+      → some_may_take (events_added (bytes_fed u.parser.acts) bytes)
+      (made u.parser.rows u.parser.cols 0 u.parser.acts) ≡ true
+  may-take bytes e may =
+      let at = m.parser (live e) in
+      let past = bytes_fed u.parser.acts in
+      ap (λ (v : ScreenView). some_may_take (events_added past bytes) v.state) (sym at.screen) ∙ may past at.has_read
+
   feed-follows : (bytes : List ℕ) (result : Result (Unit {0}) HubError) (g : HubState as_kept) → Feeds h bytes result g
       → (v : HubState as_told) × Feeds u bytes result v × Matches g v
   feed-follows bytes (Ok x) g f =
@@ -87,9 +98,9 @@ module _ (h : HubState as_kept) (u : HubState as_told) (m : Matches h u) where
       )
   feed-follows bytes (Err hub.Memory) g f = (
     record u { parser = record (u.parser) { failed = true } },
-    (live f.0, refl, refl),
+    (live f.0, (may-take bytes f.0 f.1.1, refl), refl),
     record {
-      failed = f.1;
+      failed = f.1.0;
       parser = λ e. absurd (let no : true ≡ false = e in cc);
       clients = f.2 ∙ m.clients;
     },

@@ -1,7 +1,8 @@
 -- What happens to a hub and its clients, as the calls and their replies tell it.
 use Rattle.std.specs.Prelude.{◌≡◌, ℕ, Bool, true, false, List, [], ◌∷◌, ◌++◌, map, Option, Some, None, if◌then◌else◌}
 use Rattle.vt100_picture.specs.Term.{Size}
-use Rattle.vt100_state.specs.Made.{Act, made}
+use Rattle.vt100_state.specs.Made.{Act, bytes_fed, events_added, made}
+use Rattle.vt100.specs.Memory.{some_may_take}
 use Rattle.termrelay.specs.Frame.{frame_text}
 use Rattle.termrelay.specs.Answers.{ClientState, is_frame}
 use Rattle.termrelay.specs.Hub.{Telling, HubState, size_in, shown_in, clients_in, no_clients}
@@ -26,7 +27,9 @@ as_told = record {
   Parser = Past;
   screen = λ p. record { state = made p.rows p.cols 0 p.acts; failed = p.failed };
   goes = λ p act q. q ≡ record p { acts = p.acts ++ act ∷ [] };
-  fails = λ p q. q ≡ record p { failed = true };
+  fails = λ p bytes q.
+      (some_may_take (events_added (bytes_fed p.acts) bytes) (made p.rows p.cols 0 p.acts) ≡ true)
+      × (q ≡ record p { failed = true });
   Clients = ℕ → Option ClientState;
   client = λ clients. clients;
 }

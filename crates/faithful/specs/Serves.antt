@@ -48,6 +48,11 @@ EachRunHasAHistory = (rows cols : ℕ) (calls : List Call) (replies : List Reply
     → IsNewHub rows cols h → Runs h calls replies g
     → (u : HubState as_told) × Runs (fresh rows cols) calls replies u × Matches g u
 
+-- the calls and their replies tell it: there is one hub after them, and one list of stories
+abbrev pub EachHistoryIsOne : Type 0
+EachHistoryIsOne = (h g k : HubState as_told) (ts us vs : List Story) (calls : List Call) (replies : List Reply)
+    → RunsTold h ts calls replies g us → RunsTold h ts calls replies k vs → (g ≡ k) × (us ≡ vs)
+
 -- whatever calls a run makes on a new hub with an empty log: the log's sessions are those of the stories
 abbrev pub EachLogHasAHistory : Type 0
 EachLogHasAHistory = (rows cols : ℕ) (calls : List Call) (replies : List Reply) (h g : HubState as_kept)

@@ -6,6 +6,7 @@ ghost use Rattle.faithful.specs.Laws.{EachSessionIsTold, EachClientHasASession};
 ghost use Rattle.faithful.specs.Headline.{EachTextIsAFrame, WholeFramesAreShown, LastWholeFrameIsShown, NoFrameIsTorn};
 ghost use Rattle.faithful.specs.Headline.{OneMomentShowsTheSame};
 ghost use Rattle.faithful.specs.Serves.{EachPumpTakesAsTold, EachPumpIsServed, EachRunHasAHistory, EachLogHasAHistory};
+ghost use Rattle.faithful.specs.Serves.{EachHistoryIsOne};
 ghost use Rattle.faithful.specs.Logged.{EachLoggedReadIsARead, LoggedFramesAreShown};
 
 use termrelay::Taker;
@@ -71,6 +72,11 @@ pub fn pumps_take_as_told()
 /// history's bytes and resizes have led.
 pub fn runs_have_histories()
     ensures { EachRunHasAHistory }
+{}
+
+/// Calls and their replies tell one history: the hub after them, and the stories of its sessions.
+pub fn histories_are_one()
+    ensures { EachHistoryIsOne }
 {}
 
 /// Whatever takes the bytes of a pump, what it took can be told as such a call's writes: each pump of a hub is a call

@@ -6,7 +6,31 @@ use Rattle.vt100_picture.specs.Term.{Shown}
 use Rattle.vt100_state.specs.State.{State, fresh_state}
 use Rattle.vt100_state.specs.Made.{Fed, made, made_on, events_added, played}
 use Rattle.vt100.proofs.PlayLemmas.{feeds_join, feeds_nothing}
-use Rattle.relay_streams.specs.Frames.{state_after, asked, frames_from, base_from, frames_of, base_of}
+use Rattle.relay_streams.specs.Frames.{state_after, asked}
+use Rattle.relay_streams.specs.Pieces.{pieces_of}
+
+-- the client asks after each piece, and gets what it is owed then: these texts, and last this base
+abbrev pub frames_from : ℕ → ℕ → List ℕ → Option Shown → List (List ℕ) → List (List ℕ)
+frames_from rows cols past base [] = []
+frames_from rows cols past base (piece ∷ pieces) =
+    (asked rows cols (past ++ piece) base).owed
+    ∷ frames_from rows cols (past ++ piece) (asked rows cols (past ++ piece) base).base pieces
+
+abbrev pub base_from : ℕ → ℕ → List ℕ → Option Shown → List (List ℕ) → Option Shown
+base_from rows cols past base [] = base
+base_from rows cols past base (piece ∷ pieces) =
+    base_from rows cols (past ++ piece) (asked rows cols (past ++ piece) base).base pieces
+
+-- from a new screen and a new client on
+abbrev pub frames_of : ℕ → ℕ → List (List ℕ) → List (List ℕ)
+frames_of rows cols pieces = frames_from rows cols [] None pieces
+
+abbrev pub base_of : ℕ → ℕ → List (List ℕ) → Option Shown
+base_of rows cols pieces = base_from rows cols [] None pieces
+
+-- the joined frames of an input that is fed in full pieces
+abbrev pub relay_text : ℕ → ℕ → List ℕ → List ℕ
+relay_text rows cols input = concat (frames_of rows cols (pieces_of input))
 
 -- fed in pieces or at once
 pieces-join : (past : List ℕ) (s : State) (pieces : List (List ℕ))

@@ -10,18 +10,20 @@ use Rattle.vt100_picture.specs.Term.{Size}
 use Rattle.relay_streams.specs.declared.error.RelayError.{RelayError}
 use Rattle.relay_streams.specs.declared.error.RelayError.TheVariants.{Write}
 use Rattle.relay_streams.specs.Fill.{Reads}
-use Rattle.relay_streams.specs.Frames.{frames_of, frames_from, base_of, relay_text}
+use Rattle.vt100_state.specs.Holds.{IsSide}
 use Rattle.takers.specs.Output.{TakesFront}
 use Rattle.relay_streams.specs.Pieces.{pieces_of, piece_len, Drained}
 use Rattle.relay_streams.specs.Relayed as relayed
 use Rattle.relay_streams.specs.Relayed.{Streams, Relays}
+use Rattle.relay_streams.specs.Sessions.{AreRelayed, IsRelayText}
 use Rattle.takers.specs.Sent.{Sends}
 use Rattle.takers.specs.Pump.{Writes}
 use Rattle.relay_streams.specs.Shown as shown
 use Rattle.relay_streams.specs.Shown.{IsShown, Prints, Shows, sized}
 use Rattle.takers.proofs.AppendLemmas.{TakesFront-none, TakesFront-longer}
 use Rattle.relay_streams.proofs.PieceLemmas.{drained-pieces, drained-front, begun-front, begun-well}
-use Rattle.relay_streams.proofs.FrameLists.{frames-more}
+use Rattle.relay_streams.proofs.FrameLists.{frames_of, frames_from, base_of, relay_text, frames-more}
+use Rattle.relay_streams.proofs.SessionLemmas.{frames-of, text-is-relayed, text-of}
 use Rattle.takers.proofs.SendLemmas.{sends-appends, sends-front, text-appends, text-front}
 use Rattle.relay_streams.proofs.LawLemmas.{texts_are_one}
 
@@ -58,68 +60,88 @@ module _ (S W : Type 0) (gives : S → ℕ → Result (List ℕ) Error → S →
     → Keeps (contents w) (contents v))
   where
     -- the frames of the first pieces are the first ones
-    front-of : (rows cols : ℕ) (w v : W) (pieces : List (List ℕ)) (answer : Result (Unit {0}) Error) (bytes : List ℕ)
-        → Sends takes w (frames_of rows cols pieces) answer v
+    front-of : (rows cols : ℕ) (w v : W) (pieces frames : List (List ℕ)) (answer : Result (Unit {0}) Error)
+        (bytes : List ℕ) → AreRelayed rows cols pieces frames → Sends takes w frames answer v
         → (more : List (List ℕ)) × (pieces_of bytes ≡ pieces ++ more)
         → TakesFront (contents w) (contents v) (relay_text rows cols bytes)
-    front-of rows cols w v pieces answer bytes sends (more, are) =
+    front-of rows cols w v pieces frames answer bytes relayed sends (more, are) =
         let rest = frames_from rows cols (concat pieces) (base_of rows cols pieces) more in
         let whole : concat (frames_of rows cols pieces) ++ concat rest ≡ relay_text rows cols bytes =
         sym (concat-more (frames_of rows cols pieces) rest) ∙ ap concat (sym (frames-more rows cols pieces more))
         ∙ ap (λ (ps : List (List ℕ)). concat (frames_of rows cols ps)) (sym are) in
         subst (TakesFront (contents w) (contents v)) whole
         (TakesFront-longer (contents w) (contents v) (concat (frames_of rows cols pieces)) (concat rest)
-        (sends-front W takes contents took w v (frames_of rows cols pieces) answer sends))
+        (sends-front W takes contents took w v (frames_of rows cols pieces) answer
+        (subst (λ (fs : List (List ℕ)). Sends takes w fs answer v) (frames-of rows cols pieces frames relayed) sends)))
 
     streams-front : (rows cols : ℕ) (s : S) (w : W) (answer : Result (Unit {0}) RelayError) (t : S) (v : W)
         (bytes : List ℕ) → Streams gives takes rows cols s w answer t v → left s ≡ Some bytes
         → TakesFront (contents w) (contents v) (relay_text rows cols bytes)
-    streams-front rows cols s w answer t v bytes (relayed.unread pieces rest e d sends) is =
-        front-of rows cols w v pieces (Ok tt) bytes sends
+    streams-front rows cols s w answer t v bytes (relayed.unread pieces frames rest e d are sends) is =
+        front-of rows cols w v pieces frames (Ok tt) bytes are sends
         (drained-front S gives left gave s pieces rest (Err e) t bytes d is)
-    streams-front rows cols s w answer t v bytes (relayed.unmade pieces piece b sends) is =
-        front-of rows cols w v pieces (Ok tt) bytes sends (begun-front S gives left gave s pieces piece t bytes b is)
-    streams-front rows cols s w answer t v bytes (relayed.stopped pieces e b sends) is =
-        front-of rows cols w v pieces (Err e) bytes sends (begun-well S gives left gave s pieces t bytes b is)
-    streams-front rows cols s w answer t v bytes (relayed.sent pieces d sends) is =
-        front-of rows cols w v pieces (Ok tt) bytes sends
+    streams-front rows cols s w answer t v bytes (relayed.unmade pieces frames piece b are sends) is =
+        front-of rows cols w v pieces frames (Ok tt) bytes are sends
+        (begun-front S gives left gave s pieces piece t bytes b is)
+    streams-front rows cols s w answer t v bytes (relayed.stopped pieces frames e b are sends) is =
+        front-of rows cols w v pieces frames (Err e) bytes are sends
+        (begun-well S gives left gave s pieces t bytes b is)
+    streams-front rows cols s w answer t v bytes (relayed.sent pieces frames d are sends) is =
+        front-of rows cols w v pieces frames (Ok tt) bytes are sends
         ([], sym (drained-pieces S gives left gave s pieces t bytes d is) ∙ sym (append-nil pieces))
 
     streams-whole : (rows cols : ℕ) (s : S) (w : W) (answer : Result (Unit {0}) RelayError) (t : S) (v : W)
         (bytes : List ℕ) → Streams gives takes rows cols s w answer t v → answer ≡ Ok tt → left s ≡ Some bytes
         → Appends (contents w) (contents v) (relay_text rows cols bytes)
-    streams-whole rows cols s w answer t v bytes (relayed.unread pieces rest e d sends) ok is = absurd (cc)
-    streams-whole rows cols s w answer t v bytes (relayed.unmade pieces piece b sends) ok is = absurd (cc)
-    streams-whole rows cols s w answer t v bytes (relayed.stopped pieces e b sends) ok is = absurd (cc)
-    streams-whole rows cols s w answer t v bytes (relayed.sent pieces d sends) ok is =
-        subst (λ (ps : List (List ℕ)). Appends (contents w) (contents v) (concat (frames_of rows cols ps)))
-        (drained-pieces S gives left gave s pieces t bytes d is)
-        (sends-appends W takes contents took w v (frames_of rows cols pieces) (Ok tt) sends refl)
+    streams-whole rows cols s w answer t v bytes (relayed.unread pieces frames rest e d are sends) ok is = absurd (cc)
+    streams-whole rows cols s w answer t v bytes (relayed.unmade pieces frames piece b are sends) ok is = absurd (cc)
+    streams-whole rows cols s w answer t v bytes (relayed.stopped pieces frames e b are sends) ok is = absurd (cc)
+    streams-whole rows cols s w answer t v bytes (relayed.sent pieces frames d are sends) ok is =
+        let same : concat frames ≡ relay_text rows cols bytes =
+        ap concat (frames-of rows cols pieces frames are)
+        ∙ ap (λ (ps : List (List ℕ)). concat (frames_of rows cols ps))
+        (drained-pieces S gives left gave s pieces t bytes d is) in
+        subst (λ (text : List ℕ). Appends (contents w) (contents v) text) same
+        (sends-appends W takes contents took w v frames (Ok tt) sends refl)
 
     pub relays-text : (rows cols : ℕ) (s : S) (w : W) (answer : Result (Unit {0}) RelayError) (t : S) (v : W)
-        → Relays gives takes flushes rows cols s w answer t v
-        → OnOk answer (IfSome (left s) (λ bytes. Appends (contents w) (contents v) (relay_text rows cols bytes)))
-    relays-text rows cols s w answer t v relayed.refused = tt
-    relays-text rows cols s w answer t v (relayed.broken e stream) = tt
-    relays-text rows cols s w answer t v (relayed.unflushed m e stream flush) = tt
-    relays-text rows cols s w answer t v (relayed.written m stream flush) =
-        if_known (left s) _ (λ bytes is.
-        Appends-kept (contents w) (contents m) (contents v) (relay_text rows cols bytes)
-        (streams-whole rows cols s w (Ok tt) t m bytes stream refl is) (flushed m (Ok tt) v flush))
+        → IsSide rows → IsSide cols → Relays gives takes flushes rows cols s w answer t v
+        → OnOk answer (IfSome (left s) (λ bytes. (text : List ℕ) × IsRelayText rows cols bytes text
+        × Appends (contents w) (contents v) text))
+    relays-text rows cols s w answer t v height width relayed.refused = tt
+    relays-text rows cols s w answer t v height width (relayed.broken e stream) = tt
+    relays-text rows cols s w answer t v height width (relayed.unflushed m e stream flush) = tt
+    relays-text rows cols s w answer t v height width (relayed.written m stream flush) =
+        if_known (left s) _ (λ bytes is. (
+          relay_text rows cols bytes,
+          text-is-relayed rows cols bytes height width,
+          Appends-kept (contents w) (contents m) (contents v) (relay_text rows cols bytes)
+              (streams-whole rows cols s w (Ok tt) t m bytes stream refl is) (flushed m (Ok tt) v flush),
+        ))
+
+    -- what was written is a front of the one text
+    fronts : (rows cols : ℕ) (w v : W) (bytes text : List ℕ) → IsRelayText rows cols bytes text
+        → TakesFront (contents w) (contents v) (relay_text rows cols bytes) → TakesFront (contents w) (contents v) text
+    fronts rows cols w v bytes text is took =
+        subst (TakesFront (contents w) (contents v)) (sym (text-of rows cols bytes text is)) took
 
     pub relays-front : (rows cols : ℕ) (s : S) (w : W) (answer : Result (Unit {0}) RelayError) (t : S) (v : W)
         → Relays gives takes flushes rows cols s w answer t v
-        → IfSome (left s) (λ bytes. TakesFront (contents w) (contents v) (relay_text rows cols bytes))
+        → IfSome (left s) (λ bytes. (text : List ℕ) → IsRelayText rows cols bytes text
+        → TakesFront (contents w) (contents v) text)
     relays-front rows cols s w answer t v relayed.refused =
-        if_known (left s) _ (λ bytes is. TakesFront-none (contents w) (relay_text rows cols bytes))
+        if_known (left s) _ (λ bytes is text so. TakesFront-none (contents w) text)
     relays-front rows cols s w answer t v (relayed.broken e stream) =
-        if_known (left s) _ (λ bytes is. streams-front rows cols s w (Err e) t v bytes stream is)
+        if_known (left s) _ (λ bytes is text so. fronts rows cols w v bytes text so
+        (streams-front rows cols s w (Err e) t v bytes stream is))
     relays-front rows cols s w answer t v (relayed.unflushed m e stream flush) =
-        if_known (left s) _ (λ bytes is. Keeps-front (contents w) (contents m) (contents v) (relay_text rows cols bytes)
-        (streams-front rows cols s w (Ok tt) t m bytes stream is) (flushed m (Err e) v flush))
+        if_known (left s) _ (λ bytes is text so. fronts rows cols w v bytes text so
+        (Keeps-front (contents w) (contents m) (contents v) (relay_text rows cols bytes)
+        (streams-front rows cols s w (Ok tt) t m bytes stream is) (flushed m (Err e) v flush)))
     relays-front rows cols s w answer t v (relayed.written m stream flush) =
-        if_known (left s) _ (λ bytes is. Keeps-front (contents w) (contents m) (contents v) (relay_text rows cols bytes)
-        (streams-front rows cols s w (Ok tt) t m bytes stream is) (flushed m (Ok tt) v flush))
+        if_known (left s) _ (λ bytes is text so. fronts rows cols w v bytes text so
+        (Keeps-front (contents w) (contents m) (contents v) (relay_text rows cols bytes)
+        (streams-front rows cols s w (Ok tt) t m bytes stream is) (flushed m (Ok tt) v flush)))
 
     pub prints-text : (w : W) (text : List ℕ) (answer : Result (Unit {0}) RelayError) (v : W)
         → Prints takes flushes w text answer v → OnOk answer (Appends (contents w) (contents v) text)

@@ -22,12 +22,14 @@ use Rattle.termview.specs.Seen.{seen}
 use Rattle.termview.proofs.LawLemmas.{whole_shown}
 use Rattle.faithful.proofs.ScreenLemmas.{IsShot, shot-made, IsShotBase}
 use Rattle.faithful.proofs.FrameSteps.{text-frame, frame-read, frame-ends}
-use Rattle.relay_streams.specs.Frames.{state_after, idle, asked, frames_from, base_from, relay_text}
+use Rattle.relay_streams.specs.Frames.{state_after, idle, asked}
 use Rattle.relay_streams.specs.Pieces.{cut_by, piece_len, pieces_of}
 use Rattle.relay_streams.specs.Shown.{IsShown, screen_text, sized}
 use Rattle.relay_streams.specs.Laws.{RelayedIsShown}
+use Rattle.relay_streams.proofs.FrameLists.{frames_from, base_from, relay_text}
 use Rattle.relay_streams.proofs.LawLemmas.{given-Gives}
-use Rattle.relay_streams.proofs.PieceLemmas.{concat-cut_by, concat-pieces}
+use Rattle.relay_streams.proofs.PieceLemmas.{concat-pieces}
+use Rattle.relay_streams.proofs.SessionLemmas.{text-of}
 
 -- what an answer leaves, by whether it brings a frame
 abbrev kept_by : Size → Shown → Option Shown → Bool → ClientState
@@ -199,17 +201,15 @@ module _ (rows cols : ℕ) (height : IsSide rows) (width : IsSide cols) where
   agreed now t true sure h = absurd (let no : true ≡ false = sure in cc)
   agreed now t false sure h = h
 
-  pub shown-so : (input text : List ℕ) → is_unsure z (shown_state (state_after rows cols input)) ≡ false
-      → IsShown z (pieces_of (relay_text rows cols input)) text
+  pub shown-so : (input text : List ℕ) (pieces : List (List ℕ)) → concat pieces ≡ relay_text rows cols input
+      → is_unsure z (shown_state (state_after rows cols input)) ≡ false → IsShown z pieces text
       → text ≡ screen_text z (shown_state (state_after rows cols input)).cell
-  shown-so input text sure s =
+  shown-so input text pieces joined sure s =
       let now = shown_state (state_after rows cols input) in
       let stream = relay_text rows cols input in
       let all = from-leaves [] [] None (pieces_of input) nothing-read in
-      let given_all =
-      given-Gives (pieces_of stream) ∙ concat-cut_by (replicate (length stream / piece_len) piece_len) stream
-      ∙ sym all.joined in
-      let shown = whole_shown z all.frames (map Gives (pieces_of stream)) [] s.parsed s.hold (ground-nothing 1024)
+      let given_all = given-Gives pieces ∙ joined ∙ sym all.joined in
+      let shown = whole_shown z all.frames (map Gives pieces) [] s.parsed s.hold (ground-nothing 1024)
       (All-from_recursion IsFrame all.frames all.each) given_all s.leads in
       let agrees : Agrees z (Some now) (shown_of (seen z stream)) =
       subst (λ (b : Option Shown). Agrees z b (shown_of (seen z stream))) (last-base input sure) all.read.agrees in
@@ -219,4 +219,6 @@ module _ (rows cols : ℕ) (height : IsSide rows) (width : IsSide cols) where
       s.text_is ∙ ap (λ (t : Shown). screen_text z t.cell) same
 
 pub relayed-shown : RelayedIsShown
-relayed-shown rows cols input text height width sure s = shown-so rows cols height width input text sure s
+relayed-shown rows cols input relayed text pieces is joined sure s =
+    shown-so rows cols is.is.session.height is.is.session.width input text pieces
+    (joined ∙ text-of rows cols input relayed is) sure s

@@ -2,7 +2,7 @@
 use Rattle.std.proofs.Common.{◌≡◌, ◌∙◌, ℕ, ◌+◌, ◌<◌, Bool, true, false, ◌||◌, List, [], ◌∷◌, ◌++◌, map, take, drop}
 use Rattle.std.proofs.Common.{length, min, Option, Some, None, Result, Ok, Err, refl, sym, ap, subst, arith}
 use Rattle.std.proofs.Common.{if◌then◌else◌, append_assoc, append-nil}
-use Rattle.std.proofs.lemmas.List.{drop_all, take_all, map-append}
+use Rattle.std.proofs.lemmas.List.{drop_all, take_all, map-append, length-map}
 use Rattle.std.proofs.lemmas.Bool.{eq-eqb}
 use Rattle.std.proofs.lemmas.List.Elements.{All-nil}
 use Rattle.std.specs.List.{concat, list_any}
@@ -32,11 +32,14 @@ use Rattle.termrelay.proofs.ScriptLemmas.{pumped-left}
 use Rattle.faithful.specs.History.{Past, as_told, fresh, Entry, Story, size_of_story, is_on, with_session, with_entries}
 use Rattle.faithful.specs.History.{entries_of, stories_after, RunsTold}
 use Rattle.faithful.specs.Laws.{IsSession}
-use Rattle.relay_streams.specs.Frames.{state_after, idle, asked, asked_on, frames_from, frames_of}
+use Rattle.faithful.specs.Judge.{texts}
+use Rattle.relay_streams.specs.Frames.{state_after, idle, asked, asked_on}
+use Rattle.relay_streams.specs.Pieces.{pieces_of}
 use Rattle.relay_streams.specs.Shown.{sized}
-use Rattle.relay_streams.specs.Sessions.{turn_calls, relay_calls, is_refused, IsRelayed, EachRelayIsASession}
-use Rattle.relay_streams.specs.Sessions.{EachSessionIsRelayed}
-use Rattle.relay_streams.proofs.FrameLists.{pieces-make}
+use Rattle.relay_streams.specs.Sessions.{turn_calls, relay_calls, is_refused, IsRelayed, texts_of, AreRelayed}
+use Rattle.relay_streams.specs.Sessions.{IsRelayText, EachRelayIsASession, EachRelayIsPumped, RelayedAreOne}
+use Rattle.relay_streams.specs.Sessions.{RelayTextsAreOne}
+use Rattle.relay_streams.proofs.FrameLists.{frames_from, frames_of, relay_text, pieces-make}
 use Rattle.relay_streams.proofs.PieceLemmas.{concat-push}
 
 -- ---- replies
@@ -53,9 +56,6 @@ not-refused : (r : Reply) (e : HubError) → r ≡ Refused e → is_refused r �
 not-refused r e is h = let no : true ≡ false = ap is_refused (sym is) ∙ h in absurd (cc)
 
 -- ---- the hub after some pieces
-
-abbrev texts_in : Story → List (List ℕ)
-texts_in t = map (λ e. e.text) t.entries
 
 abbrev put : HubState as_told → ℕ → Option ClientState → HubState as_told
 put h key slot = record h { clients = with_client h.clients key slot }
@@ -130,7 +130,7 @@ module _ (rows cols key : ℕ) where
 
   -- what a turn makes of the story
   pub record HasTurned (t u : Story) (c : ClientState) : Type 0 where
-    pub texts : texts_in u ≡ texts_in t ++ c.owed ∷ []
+    pub texts : texts_of u ≡ texts_of t ++ c.owed ∷ []
     pub pumped : u.session.pumped ≡ t.session.pumped ++ c.owed
     pub high : u.session.rows ≡ t.session.rows
     pub wide : u.session.cols ≡ t.session.cols
@@ -141,7 +141,7 @@ module _ (rows cols key : ℕ) where
 
   has-turned : (t : Story) (e : Entry) (c : ClientState) → e.text ≡ c.owed → HasTurned t (turned e c t) c
   has-turned t e c is = record {
-    texts = map-append (λ (x : Entry). x.text) t.entries (e ∷ []) ∙ ap (λ xs. texts_in t ++ xs ∷ []) is;
+    texts = map-append (λ (x : Entry). x.text) t.entries (e ∷ []) ∙ ap (λ xs. texts_of t ++ xs ∷ []) is;
     pumped = refl;
     high = refl;
     wide = refl;
@@ -266,7 +266,7 @@ module _ (rows cols key : ℕ) where
       : Type 0 where
     pub story : Story
     pub are : us ≡ story ∷ []
-    pub texts : texts_in story ≡ texts_in t ++ frames_from rows cols (concat past) base pieces
+    pub texts : texts_of story ≡ texts_of t ++ frames_from rows cols (concat past) base pieces
     pub pumped : story.session.pumped ≡ t.session.pumped ++ concat (frames_from rows cols (concat past) base pieces)
     pub high : story.session.rows ≡ t.session.rows
     pub wide : story.session.cols ≡ t.session.cols
@@ -281,8 +281,8 @@ module _ (rows cols key : ℕ) where
       record {
         story = r.story;
         are = r.are;
-        texts = r.texts ∙ ap (λ fs. texts_in u ++ fs) same ∙ ap (λ xs. xs ++ rest (concat past ++ p)) h.texts
-            ∙ append_assoc (texts_in t) (c.owed ∷ []) (rest (concat past ++ p));
+        texts = r.texts ∙ ap (λ fs. texts_of u ++ fs) same ∙ ap (λ xs. xs ++ rest (concat past ++ p)) h.texts
+            ∙ append_assoc (texts_of t) (c.owed ∷ []) (rest (concat past ++ p));
         pumped = r.pumped ∙ ap (λ fs. u.session.pumped ++ concat fs) same
             ∙ ap (λ xs. xs ++ concat (rest (concat past ++ p))) h.pumped
             ∙ append_assoc t.session.pumped c.owed (concat (rest (concat past ++ p)));
@@ -297,7 +297,7 @@ module _ (rows cols key : ℕ) where
   ran-by past base t [] h k ts us [] at are ok run = record {
     story = t;
     are = run.1 ∙ are;
-    texts = sym (append-nil (texts_in t));
+    texts = sym (append-nil (texts_of t));
     pumped = sym (append-nil t.session.pumped);
     high = refl;
     wide = refl;
@@ -349,7 +349,7 @@ module _ (rows cols key : ℕ) where
   told-by : (pieces : List (List ℕ)) (t : Story) (replies : List Reply) (h : HubState as_told) (ts : List Story)
       → IsSide rows → IsSide cols → list_any is_refused replies ≡ false
       → RunsTold (fresh rows cols) [] (relay_calls key pieces) (Attached key ∷ replies) h ts → slice_get ts 0 ≡ Some t
-      → (size_of_story t ≡ sized rows cols) × (texts_in t ≡ frames_of rows cols pieces)
+      → (size_of_story t ≡ sized rows cols) × (texts_of t ≡ frames_of rows cols pieces)
       × (t.session.pumped ≡ concat (frames_of rows cols pieces))
   told-by pieces t replies h ts height width ok (g, is, (result, f, e), run) at =
       let r = ran-by [] None first pieces g h (first ∷ []) ts replies (first-at result g f e) refl ok run in
@@ -357,7 +357,7 @@ module _ (rows cols key : ℕ) where
       let z : size_of_story r.story ≡ size_of_story first =
       λ i. record { rows = r.high i; cols = r.wide i } in (
         ap (λ (u : Story). size_of_story u) same ∙ z ∙ first-size height width,
-        ap (λ (u : Story). texts_in u) same ∙ r.texts,
+        ap (λ (u : Story). texts_of u) same ∙ r.texts,
         ap (λ (u : Story). u.session.pumped) same ∙ r.pumped,
       )
 
@@ -443,7 +443,66 @@ module _ (rows cols key : ℕ) where
 pub relays-are-sessions : EachRelayIsASession
 relays-are-sessions rows cols key pieces height width = one-relayed rows cols key pieces height width
 
-pub sessions-are-relayed : EachSessionIsRelayed
-sessions-are-relayed rows cols key pieces t r =
+-- whichever it is, these are its texts
+relayed-by : (rows cols key : ℕ) (pieces : List (List ℕ)) (t : Story) → IsRelayed rows cols key pieces t
+    → (size_of_story t ≡ sized rows cols) × (texts_of t ≡ frames_of rows cols pieces)
+    × (t.session.pumped ≡ concat (frames_of rows cols pieces))
+relayed-by rows cols key pieces t r =
     let s = r.session in
     told-by rows cols key pieces t r.replies s.hub s.stories s.height s.width r.served s.ran s.is
+
+one-each : (rows cols : ℕ) (past : List ℕ) (base : Option Shown) (pieces : List (List ℕ))
+    → length (frames_from rows cols past base pieces) ≡ length pieces
+one-each rows cols past base [] = refl
+one-each rows cols past base (p ∷ ps) =
+    ap (λ n. n + 1) (one-each rows cols (past ++ p) (asked rows cols (past ++ p) base).base ps)
+
+texts-joined : (es : List Entry) → concat (map (λ e. e.text) es) ≡ texts es
+texts-joined [] = refl
+texts-joined (e ∷ es) = ap (λ xs. e.text ++ xs) (texts-joined es)
+
+pub relays-are-pumped : EachRelayIsPumped
+relays-are-pumped rows cols key pieces t r =
+    let by = relayed-by rows cols key pieces t r in (
+      by.0,
+      sym (length-map t.entries (λ e. e.text)) ∙ ap length by.1 ∙ one-each rows cols [] None pieces,
+      by.2 ∙ ap concat (sym by.1) ∙ texts-joined t.entries,
+    )
+
+pub frames-are-relayed : (rows cols : ℕ) (pieces : List (List ℕ)) → IsSide rows → IsSide cols
+    → AreRelayed rows cols pieces (frames_of rows cols pieces)
+frames-are-relayed rows cols pieces height width =
+    let one = one-relayed rows cols 0 pieces height width in
+    record { key = 0; story = one.0; is = one.1; texts = (relayed-by rows cols 0 pieces one.0 one.1).1 }
+
+pub frames-of : (rows cols : ℕ) (pieces frames : List (List ℕ)) → AreRelayed rows cols pieces frames
+    → frames ≡ frames_of rows cols pieces
+frames-of rows cols pieces frames r = sym r.texts ∙ (relayed-by rows cols r.key pieces r.story r.is).1
+
+pub text-is-relayed : (rows cols : ℕ) (input : List ℕ) → IsSide rows → IsSide cols
+    → IsRelayText rows cols input (relay_text rows cols input)
+text-is-relayed rows cols input height width =
+    let one = one-relayed rows cols 0 (pieces_of input) height width in
+    record { key = 0; story = one.0; is = one.1; pumped = (relayed-by rows cols 0 (pieces_of input) one.0 one.1).2 }
+
+pub text-of : (rows cols : ℕ) (input text : List ℕ) → IsRelayText rows cols input text
+    → text ≡ relay_text rows cols input
+text-of rows cols input text r = sym r.pumped ∙ (relayed-by rows cols r.key (pieces_of input) r.story r.is).2
+
+-- the texts that are relayed of an input's pieces, joined
+pub relayed-as : (rows cols : ℕ) (input : List ℕ) (pieces frames : List (List ℕ)) (text : List ℕ)
+    → AreRelayed rows cols pieces frames → pieces ≡ pieces_of input → text ≡ concat frames
+    → IsRelayText rows cols input text
+relayed-as rows cols input pieces frames text are cut joined =
+    let s = are.is.session in
+    let same : text ≡ relay_text rows cols input =
+    joined ∙ ap concat (frames-of rows cols pieces frames are)
+    ∙ ap (λ (ps : List (List ℕ)). concat (frames_of rows cols ps)) cut in
+    subst (λ (xs : List ℕ). IsRelayText rows cols input xs) (sym same)
+    (text-is-relayed rows cols input s.height s.width)
+
+pub relayed-are-one : RelayedAreOne
+relayed-are-one rows cols pieces fs gs a b = frames-of rows cols pieces fs a ∙ sym (frames-of rows cols pieces gs b)
+
+pub relay-texts-are-one : RelayTextsAreOne
+relay-texts-are-one rows cols input a b r s = text-of rows cols input a r ∙ sym (text-of rows cols input b s)

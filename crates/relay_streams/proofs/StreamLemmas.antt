@@ -8,14 +8,16 @@ use Rattle.termrelay.specs.declared.error.HubError.{HubError}
 use Rattle.termrelay.specs.declared.error.HubError.TheVariants as hub
 use Rattle.relay_streams.specs.declared.error.RelayError.{RelayError}
 use Rattle.relay_streams.specs.declared.error.RelayError.TheVariants.{Read, Write, Memory, TooManyReads}
-use Rattle.relay_streams.specs.Frames.{asked, frames_of, base_of}
+use Rattle.vt100_state.specs.Holds.{IsSide}
+use Rattle.relay_streams.specs.Frames.{asked}
 use Rattle.relay_streams.specs.Pieces.{piece_len, Begun}
 use Rattle.relay_streams.specs.Relayed.{Streams, unmade, stopped}
 use Rattle.takers.specs.Sent as sent
 use Rattle.takers.specs.Sent.{Sends}
 use Rattle.relay_streams.specs.Turns.{Relaying, Turned, fault_of}
-use Rattle.relay_streams.proofs.FrameLists.{frames-push, base-push}
+use Rattle.relay_streams.proofs.FrameLists.{frames_of, base_of, frames-push, base-push}
 use Rattle.relay_streams.proofs.PieceLemmas.{concat-push}
+use Rattle.relay_streams.proofs.SessionLemmas.{frames-are-relayed}
 use Rattle.takers.proofs.SendLemmas.{sends-more}
 
 -- a hub has refused a client for want of memory
@@ -38,19 +40,20 @@ module _ (S W : Type 0) (gives : S → ℕ → Result (List ℕ) Error → S →
   frames-are = frames-push rows cols past piece (concat pieces) (concat-push past piece)
 
   -- a turn at which a fault came
-  pub turn-faults : (s t : S) (w m v : W) (e : RelayError) → Begun gives piece_len s pieces t
+  pub turn-faults : (s t : S) (w m v : W) (e : RelayError) → IsSide rows → IsSide cols → Begun gives piece_len s pieces t
       → Sends takes w (frames_of rows cols past) (Ok tt) m → Turned takes rows cols pieces base key m (Err e) v g
       → Streams gives takes rows cols s w (Err e) t v
-  turn-faults s t w m v Read b sends turned = absurd turned
-  turn-faults s t w m v Write b sends (x, n, pumps) =
+  turn-faults s t w m v Read height width b sends turned = absurd turned
+  turn-faults s t w m v Write height width b sends (x, n, pumps) =
       let all : Sends takes w (frames_of rows cols pieces) (Err x) v =
       subst (λ (texts : List (List ℕ)). Sends takes w texts (Err x) v) (sym frames-are)
       (sends-more W takes w m v (frames_of rows cols past) ((asked rows cols (concat pieces) base).owed ∷ []) (Ok tt)
       (Err x) sends refl (sent.fault pumps)) in
-      stopped pieces x b all
-  turn-faults s t w m v Memory b sends turned =
-      unmade past piece b (subst (λ (u : W). Sends takes w (frames_of rows cols past) (Ok tt) u) (sym turned) sends)
-  turn-faults s t w m v TooManyReads b sends turned = absurd turned
+      stopped pieces (frames_of rows cols pieces) x b (frames-are-relayed rows cols pieces height width) all
+  turn-faults s t w m v Memory height width b sends turned =
+      unmade past (frames_of rows cols past) piece b (frames-are-relayed rows cols past height width)
+      (subst (λ (u : W). Sends takes w (frames_of rows cols past) (Ok tt) u) (sym turned) sends)
+  turn-faults s t w m v TooManyReads height width b sends turned = absurd turned
 
   -- one that went well
   pub turn-sent : (w m v : W) → Sends takes w (frames_of rows cols past) (Ok tt) m

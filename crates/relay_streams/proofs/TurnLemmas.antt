@@ -10,6 +10,7 @@ use Rattle.vt100_picture.specs.Term.{Shown}
 use Rattle.vt100_state.specs.State.{State}
 use Rattle.vt100_state.specs.Call.{ScreenView}
 use Rattle.vt100_state.specs.Made.{Act, Fed}
+use Rattle.vt100_state.specs.Holds.{IsSide}
 use Rattle.vt100.specs.Parsing.{StandsAt}
 use Rattle.termrelay.specs.Answers.{ClientState, after_answer}
 use Rattle.takers.specs.Pump.{Pumps}
@@ -32,9 +33,11 @@ at-key h g key slot puts =
     ∙ ap (λ b. if b then slot else clients_in h key) (eq-eqb key key refl)
 
 -- the first client of a new hub
-pub first-attached : (rows cols key : ℕ) (h g : HubState as_kept) → IsNewHub rows cols h → Attaches h (Ok key) g
-    → Relaying rows cols [] None g key
-first-attached rows cols key h g new at = record {
+pub first-attached : (rows cols key : ℕ) (h g : HubState as_kept) → IsSide rows → IsSide cols → IsNewHub rows cols h
+    → Attaches h (Ok key) g → Relaying rows cols [] None g key
+first-attached rows cols key h g height width new at = record {
+  height = height;
+  width = width;
   parser = subst (λ p. StandsAt p rows cols 0 []) (sym at.2.0) new.parser;
   client = at-key h g key (Some new_client) at.2;
 }
@@ -44,6 +47,8 @@ pub piece-fed : (rows cols : ℕ) (pieces : List (List ℕ)) (piece : List ℕ) 
     (key : ℕ) → Relaying rows cols pieces base h key → Feeds h piece over g
     → Relaying rows cols (pieces ++ piece ∷ []) base g key
 piece-fed rows cols pieces piece base h g key r f = record {
+  height = r.height;
+  width = r.width;
   parser = subst (λ (acts : List Act). StandsAt g.parser rows cols 0 acts) (sym (map-append Fed pieces (piece ∷ [])))
       (f.3 rows cols 0 (map Fed pieces) r.parser);
   client = ap (λ (c : ℕ → Option ClientState). c key) f.2 ∙ r.client;
@@ -97,6 +102,8 @@ module _ (W : Type 0) (takes : W → List ℕ → Result ℕ Error → W → Typ
       let end = pumped-by k g key c w v q.0 q.1 q.2 q.3 q.4 in (
         end.0,
         record {
+          height = r.height;
+          width = r.width;
           parser = subst (λ p. StandsAt p rows cols 0 (map Fed pieces)) (sym (end.1 ∙ a.0)) r.parser;
           client = end.2;
         },

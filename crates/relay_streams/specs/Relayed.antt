@@ -3,8 +3,8 @@ use Rattle.std.specs.Prelude.{ℕ, List, [], ◌∷◌, ◌++◌, Ok, Err, Resul
 use Rattle.std.specs.declared.io.Error.{Error}
 use Rattle.relay_streams.specs.declared.error.RelayError.{RelayError}
 use Rattle.relay_streams.specs.declared.error.RelayError.TheVariants.{Write, Memory}
-use Rattle.relay_streams.specs.Frames.{frames_of}
 use Rattle.relay_streams.specs.Pieces.{piece_len, Begun, Drained}
+use Rattle.relay_streams.specs.Sessions.{AreRelayed}
 use Rattle.takers.specs.Sent.{Sends}
 
 -- From a source and a writer, pieces are read, and the frame that is due after each is sent before the next one is
@@ -13,19 +13,21 @@ pub data Streams {S W : Type 0} (gives : S → ℕ → Result (List ℕ) Error �
     (takes : W → List ℕ → Result ℕ Error → W → Type 0) (rows cols : ℕ) (s : S) (w : W)
     : Result (Unit {0}) RelayError → S → W → Type 0 where
   -- a read failed, or as many were made as may be: the frames of the full pieces were sent
-  unread : {t : S} {v : W} (pieces : List (List ℕ)) (rest : List ℕ) (e : RelayError)
-      → Drained gives piece_len s (pieces ++ rest ∷ []) (Err e) t → Sends takes w (frames_of rows cols pieces) (Ok tt) v
-      → Streams gives takes rows cols s w (Err e) t v
+  unread : {t : S} {v : W} (pieces frames : List (List ℕ)) (rest : List ℕ) (e : RelayError)
+      → Drained gives piece_len s (pieces ++ rest ∷ []) (Err e) t → AreRelayed rows cols pieces frames
+      → Sends takes w frames (Ok tt) v → Streams gives takes rows cols s w (Err e) t v
   -- there was no memory for a piece or its frame: the frames before it were sent
-  unmade : {t : S} {v : W} (pieces : List (List ℕ)) (piece : List ℕ)
-      → Begun gives piece_len s (pieces ++ piece ∷ []) t → Sends takes w (frames_of rows cols pieces) (Ok tt) v
-      → Streams gives takes rows cols s w (Err Memory) t v
+  unmade : {t : S} {v : W} (pieces frames : List (List ℕ)) (piece : List ℕ)
+      → Begun gives piece_len s (pieces ++ piece ∷ []) t → AreRelayed rows cols pieces frames
+      → Sends takes w frames (Ok tt) v → Streams gives takes rows cols s w (Err Memory) t v
   -- a write of the last piece's frame failed or took nothing
-  stopped : {t : S} {v : W} (pieces : List (List ℕ)) (e : Error) → Begun gives piece_len s pieces t
-      → Sends takes w (frames_of rows cols pieces) (Err e) v → Streams gives takes rows cols s w (Err Write) t v
+  stopped : {t : S} {v : W} (pieces frames : List (List ℕ)) (e : Error) → Begun gives piece_len s pieces t
+      → AreRelayed rows cols pieces frames → Sends takes w frames (Err e) v
+      → Streams gives takes rows cols s w (Err Write) t v
   -- the input was read to its end, and all frames were sent
-  sent : {t : S} {v : W} (pieces : List (List ℕ)) → Drained gives piece_len s pieces (Ok tt) t
-      → Sends takes w (frames_of rows cols pieces) (Ok tt) v → Streams gives takes rows cols s w (Ok tt) t v
+  sent : {t : S} {v : W} (pieces frames : List (List ℕ)) → Drained gives piece_len s pieces (Ok tt) t
+      → AreRelayed rows cols pieces frames → Sends takes w frames (Ok tt) v
+      → Streams gives takes rows cols s w (Ok tt) t v
 
 -- From a source and a writer it answers so, and leaves both so.
 pub data Relays {S W : Type 0} (gives : S → ℕ → Result (List ℕ) Error → S → Type 0)

@@ -1,13 +1,14 @@
 -- What is relayed is a session of a history.
-use Rattle.std.specs.Prelude.{◌≡◌, ℕ, Bool, true, false, List, [], ◌∷◌, map}
-use Rattle.std.specs.List.{concat, list_any}
+use Rattle.std.specs.Prelude.{◌≡◌, ℕ, Bool, true, false, List, [], ◌∷◌, map, length}
+use Rattle.std.specs.List.{list_any}
 use Rattle.vt100_state.specs.Holds.{IsSide}
 use Rattle.termrelay.specs.Calls.{Call, Feed, Attach, Frame, Pump}
 use Rattle.termrelay.specs.declared.call.Reply.{Reply}
 use Rattle.termrelay.specs.declared.call.Reply.TheVariants.{Attached, Refused}
 use Rattle.faithful.specs.History.{Story, size_of_story}
+use Rattle.faithful.specs.Judge.{texts}
 use Rattle.faithful.specs.Laws.{IsSession}
-use Rattle.relay_streams.specs.Frames.{frames_of}
+use Rattle.relay_streams.specs.Pieces.{pieces_of}
 use Rattle.relay_streams.specs.Shown.{sized}
 
 -- with each piece: it is fed, the client of a key asks for a frame, and it gets what it is owed then
@@ -29,14 +30,41 @@ pub record IsRelayed (rows cols key : ℕ) (pieces : List (List ℕ)) (t : Story
   pub served : list_any is_refused replies ≡ false
   pub session : IsSession rows cols (relay_calls key pieces) (Attached key ∷ replies) 0 t
 
+-- the texts of its answers, one for each piece: that of the frame, or nothing where none was due
+abbrev pub texts_of : Story → List (List ℕ)
+texts_of t = map (λ e. e.text) t.entries
+
+-- these are the texts that are relayed of some pieces
+pub record AreRelayed (rows cols : ℕ) (pieces frames : List (List ℕ)) : Type 0 where
+  pub key : ℕ
+  pub story : Story
+  pub is : IsRelayed rows cols key pieces story
+  pub texts : texts_of story ≡ frames
+
+-- and this is what is pumped to the client where an input is fed in full pieces
+pub record IsRelayText (rows cols : ℕ) (input text : List ℕ) : Type 0 where
+  pub key : ℕ
+  pub story : Story
+  pub is : IsRelayed rows cols key (pieces_of input) story
+  pub pumped : story.session.pumped ≡ text
+
+-- ---- laws
+
 -- whatever the pieces are, there is one
 abbrev pub EachRelayIsASession : Type 0
 EachRelayIsASession = (rows cols key : ℕ) (pieces : List (List ℕ)) → IsSide rows → IsSide cols
     → (t : Story) × IsRelayed rows cols key pieces t
 
--- and whichever it is, it has the hub's size, its answers bring the frames that are relayed, and these are what is
--- pumped
-abbrev pub EachSessionIsRelayed : Type 0
-EachSessionIsRelayed = (rows cols key : ℕ) (pieces : List (List ℕ)) (t : Story) → IsRelayed rows cols key pieces t
-    → (size_of_story t ≡ sized rows cols) × (map (λ e. e.text) t.entries ≡ frames_of rows cols pieces)
-    × (t.session.pumped ≡ concat (frames_of rows cols pieces))
+-- it has the hub's size and an answer for each piece, and all its frames are pumped
+abbrev pub EachRelayIsPumped : Type 0
+EachRelayIsPumped = (rows cols key : ℕ) (pieces : List (List ℕ)) (t : Story) → IsRelayed rows cols key pieces t
+    → (size_of_story t ≡ sized rows cols) × (length t.entries ≡ length pieces) × (t.session.pumped ≡ texts t.entries)
+
+-- and whichever it is, its texts are the same
+abbrev pub RelayedAreOne : Type 0
+RelayedAreOne = (rows cols : ℕ) (pieces : List (List ℕ)) (fs gs : List (List ℕ)) → AreRelayed rows cols pieces fs
+    → AreRelayed rows cols pieces gs → fs ≡ gs
+
+abbrev pub RelayTextsAreOne : Type 0
+RelayTextsAreOne = (rows cols : ℕ) (input a b : List ℕ) → IsRelayText rows cols input a → IsRelayText rows cols input b
+    → a ≡ b

@@ -3,6 +3,7 @@ use Rattle.std.specs.Prelude.{◌≡◌, ℕ, List, map, Option, Some, Ok, Err, 
 use Rattle.std.specs.List.{concat}
 use Rattle.std.specs.declared.io.Error.{Error}
 use Rattle.vt100_state.specs.Made.{Fed}
+use Rattle.vt100_state.specs.Holds.{IsSide}
 use Rattle.vt100_picture.specs.Term.{Shown}
 use Rattle.vt100.specs.Parsing.{StandsAt}
 use Rattle.termrelay.specs.Hub.{HubState, as_kept, clients_in}
@@ -17,6 +18,8 @@ use Rattle.relay_streams.specs.Frames.{idle, asked}
 pub record Relaying (rows cols : ℕ) (pieces : List (List ℕ)) (base : Option Shown) (h : HubState as_kept)
     (key : ℕ)
     : Type 0 where
+  pub height : IsSide rows
+  pub width : IsSide cols
   pub parser : StandsAt h.parser rows cols 0 (map Fed pieces)
   pub client : clients_in h key ≡ Some (idle base)
 

@@ -1,7 +1,7 @@
 //! Laws of what is shown, each as the contract of a function that does nothing.
 ghost use Rattle.relay_streams.specs.Far.{FarViewsShow};
 ghost use Rattle.relay_streams.specs.Laws.{RelayedIsShown, TextsAreOne, WholeFramesArePrinted};
-ghost use Rattle.relay_streams.specs.Sessions.{EachRelayIsASession, EachSessionIsRelayed};
+ghost use Rattle.relay_streams.specs.Sessions.{EachRelayIsASession, EachRelayIsPumped, RelayedAreOne, RelayTextsAreOne};
 
 /// What `show` writes is a function of the size and of what it reads.
 pub fn shown_texts_are_one()
@@ -13,8 +13,8 @@ pub fn whole_frames_are_printed()
     ensures { WholeFramesArePrinted }
 {}
 
-/// What `relay` writes of an input `show` prints as the rows of the screen that the input makes, unless that screen
-/// shows U+FE0F.
+/// What `relay` writes of an input a view shows, in whatever pieces it comes, and `show` prints as the rows of the screen
+/// that the input makes, unless that screen shows U+FE0F.
 pub fn relayed_is_shown()
     ensures { RelayedIsShown }
 {}
@@ -27,9 +27,11 @@ pub fn far_views_show()
 {}
 
 /// What `relay` writes is what is pumped to a session of a history, in which a client comes, and after each piece asks
-/// for a frame and gets what it is owed: there is one for all pieces, and its answers bring just the frames that are
-/// relayed. So all laws of sessions hold of what `relay` writes, also of a beginning of it.
+/// for a frame and gets what it is owed: there is one for all pieces, all its frames are pumped, and whichever it is, the
+/// texts are the same. So all laws of sessions hold of what `relay` writes, also of a beginning of it.
 pub fn relays_are_sessions()
     ensures is { EachRelayIsASession }
-    ensures one { EachSessionIsRelayed }
+    ensures pumped { EachRelayIsPumped }
+    ensures frames { RelayedAreOne }
+    ensures texts { RelayTextsAreOne }
 {}

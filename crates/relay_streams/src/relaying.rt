@@ -3,9 +3,9 @@
 ghost use Rattle.std.specs.Prelude.{◌≡◌, ℕ, ◌++◌, ◌∷◌, [], List, None, OnOk, Option, IfSome};
 ghost use Rattle.std.specs.Io.KnownBytes.{Appends};
 ghost use Rattle.vt100_picture.specs.Term.{Shown};
-ghost use Rattle.relay_streams.specs.Frames.{relay_text};
 ghost use Rattle.takers.specs.Output.{TakesFront};
 ghost use Rattle.relay_streams.specs.Relayed.{Relays, Streams};
+ghost use Rattle.relay_streams.specs.Sessions.{IsRelayText};
 ghost use Rattle.relay_streams.specs.Turns.{Relaying, Turned};
 
 use crate::error::RelayError;
@@ -16,7 +16,9 @@ use takers::Sink;
 use termrelay::{Client, Hub};
 
 /// Reads a program's output to its end, and writes frames of the screen of this size that it makes: after each full
-/// piece of 4,096 bytes, and at the end, the frame that is then due, if there is one. Then the output is flushed.
+/// piece of 4,096 bytes, and at the end, the frame that is then due, if there is one. Then the output is flushed. So the
+/// text is what is pumped to a client of a hub that comes first, and after each piece asks for a frame and gets what it
+/// is owed.
 ///
 /// Pieces are full however the reader cuts, and are read by at most 2^40 reads; an interrupted read is tried again and
 /// counted. A fault ends it. What was written by then stays written.
@@ -29,10 +31,10 @@ pub fn relay<S: Source, W: Sink>(
 ) -> Result<(), RelayError>
     ensures relays { Relays S.gives W.takes W.flushes rows.value cols.value input.old output.old result input.new
         output.new }
-    ensures text { OnOk result (IfSome (S.left input.old)
-        (λ bytes. Appends (W.contents output.old) (W.contents output.new) (relay_text rows.value cols.value bytes))) }
-    ensures front { IfSome (S.left input.old)
-        (λ bytes. TakesFront (W.contents output.old) (W.contents output.new) (relay_text rows.value cols.value bytes)) }
+    ensures text { OnOk result (IfSome (S.left input.old) (λ bytes. (text : List ℕ)
+        × IsRelayText rows.value cols.value bytes text × Appends (W.contents output.old) (W.contents output.new) text)) }
+    ensures front { IfSome (S.left input.old) (λ bytes. (text : List ℕ) → IsRelayText rows.value cols.value bytes text
+        → TakesFront (W.contents output.old) (W.contents output.new) text) }
 {
     let mut hub = Hub::new(alloc, rows, cols)?;
     let client = hub.attach()?;

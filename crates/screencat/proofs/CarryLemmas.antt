@@ -14,10 +14,10 @@ use Rattle.termview.specs.declared.until_cleared.UntilCleared.{UntilCleared}
 use Rattle.termrelay.specs.Hub.{HubState, as_kept}
 use Rattle.takers.specs.Pump.{Pumps, Writes}
 use Rattle.takers.proofs.PumpLaws.{takes-all, appends-front}
-use Rattle.relay_streams.specs.Frames.{asked, frames_of, base_of}
+use Rattle.relay_streams.specs.Frames.{asked}
 use Rattle.relay_streams.specs.Led.{Led}
 use Rattle.relay_streams.specs.Turns.{Relaying}
-use Rattle.relay_streams.proofs.FrameLists.{frames-push, base-push}
+use Rattle.relay_streams.proofs.FrameLists.{frames_of, base_of, frames-push, base-push}
 use Rattle.relay_streams.proofs.PieceLemmas.{concat-push}
 use Rattle.relay_streams.proofs.ViewLemmas.{not_led}
 use Rattle.screencat.specs.Carried.{Carries}

@@ -4,8 +4,9 @@ ghost use Rattle.std.specs.Prelude.{ℕ, ◌++◌, ◌∷◌, [], List, Option, 
 ghost use Rattle.std.specs.List.{concat};
 ghost use Rattle.std.specs.Io.KnownBytes.{Appends};
 ghost use Rattle.vt100_picture.specs.Term.{Shown};
-ghost use Rattle.relay_streams.specs.Frames.{asked, frames_of};
+ghost use Rattle.relay_streams.specs.Frames.{asked};
 ghost use Rattle.relay_streams.specs.Pieces.{Drained, piece_len};
+ghost use Rattle.relay_streams.specs.Sessions.{AreRelayed};
 ghost use Rattle.relay_streams.specs.Turns.{Relaying};
 ghost use Rattle.screencat.specs.Carried.{Carries, IsFarText};
 
@@ -49,8 +50,8 @@ fn carry_frames<S: Source>(
     view: &mut View<UntilCleared>,
 ) -> Result<(), RelayError>
     ensures { OnOk result ((pieces : List (List ℕ)) × Drained S.gives piece_len input.old pieces result input.new
-        × ((rows cols : ℕ) → Relaying rows cols [] None hub.old client
-        → Carries view.old (concat (frames_of rows cols pieces)) view.new)) }
+        × ((rows cols : ℕ) → Relaying rows cols [] None hub.old client → (frames : List (List ℕ))
+        × AreRelayed rows cols pieces frames × Carries view.old (concat frames) view.new)) }
 {
     let mut piece = [0; PIECE_LEN];
     let mut reads = 0;

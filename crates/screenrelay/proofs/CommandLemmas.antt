@@ -5,7 +5,7 @@ use Rattle.std.specs.Io.KnownBytes.{Appends, Keeps}
 use Rattle.takers.specs.Pump.{Writes}
 use Rattle.relay_streams.specs.declared.error.RelayError.{RelayError}
 use Rattle.relay_streams.specs.Fill.{Reads}
-use Rattle.relay_streams.specs.Frames.{relay_text}
+use Rattle.vt100_state.specs.Holds.{IsSide}
 use Rattle.relay_streams.specs.Shown.{sized}
 use Rattle.relay_streams.proofs.OutcomeLemmas.{if_known, known_if, relays-text, shows-text}
 use Rattle.screenrelay.specs.declared.words.Job.{Job}
@@ -24,16 +24,10 @@ module _ (S W : Type 0) (gives : S → ℕ → Result (List ℕ) Error → S →
   where
     -- an order that was carried out
     pub does-text : (job : Job) (rows cols : ℕ) (s : S) (w : W) (answer : Result (Unit {0}) RelayError) (t : S) (v : W)
-        → DoesBy gives takes flushes job rows cols s w answer t v
+        → IsSide rows → IsSide cols → DoesBy gives takes flushes job rows cols s w answer t v
         → OnOk answer (IfSome (left s) (λ bytes. (text : List ℕ) × WantsBy job rows cols bytes text
         × Appends (contents w) (contents v) text))
-    does-text Relay rows cols s w (Ok done) t v r =
-        if_known (left s) _ (λ bytes is. (
-          relay_text rows cols bytes,
-          refl,
-          known_if (left s) bytes _ is (relays-text S W gives takes flushes contents left gave took flushed rows cols
-              s w (Ok done) t v r),
-        ))
-    does-text Relay rows cols s w (Err e) t v r = tt
-    does-text Show rows cols s w answer t v r =
+    does-text Relay rows cols s w answer t v height width r =
+        relays-text S W gives takes flushes contents left gave took flushed rows cols s w answer t v height width r
+    does-text Show rows cols s w answer t v height width r =
         shows-text S W gives takes flushes contents left gave took flushed (sized rows cols) s w answer t v r

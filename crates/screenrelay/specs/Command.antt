@@ -6,14 +6,14 @@ use Rattle.relay_streams.specs.declared.error.RelayError.{RelayError}
 use Rattle.relay_streams.specs.declared.error.RelayError.TheVariants.{Read, Write, Memory, TooManyReads}
 use Rattle.screenrelay.specs.declared.words.Job.{Job}
 use Rattle.screenrelay.specs.declared.words.Job.TheVariants.{Relay, Show}
-use Rattle.relay_streams.specs.Frames.{relay_text}
 use Rattle.relay_streams.specs.Pieces.{pieces_of}
 use Rattle.relay_streams.specs.Relayed.{Relays}
+use Rattle.relay_streams.specs.Sessions.{IsRelayText}
 use Rattle.relay_streams.specs.Shown.{IsShown, Shows, sized}
 use Rattle.screenrelay.specs.Words.{Order}
 
 abbrev pub WantsBy : Job → ℕ → ℕ → List ℕ → List ℕ → Type 0
-WantsBy Relay rows cols bytes text = text ≡ relay_text rows cols bytes
+WantsBy Relay rows cols bytes text = IsRelayText rows cols bytes text
 WantsBy Show rows cols bytes text = IsShown (sized rows cols) (pieces_of bytes) text
 
 -- an order writes this text where the input is these bytes

@@ -9,9 +9,10 @@ use Rattle.std.specs.declared.io.Error.{Error}
 use Rattle.vt100_picture.specs.Term.{Size, Shown}
 use Rattle.vt100_core.specs.Picture.{size_of}
 use Rattle.vt100_state.specs.Call.{ScreenView}
-use Rattle.vt100_state.specs.Made.{Act, Fed, Resized}
+use Rattle.vt100_state.specs.Made.{Act, Fed, Resized, events_added}
 use Rattle.vt100_state.specs.Shown.{shown_state}
-use Rattle.vt100.specs.Parsing.{ParserView, StandsAt}
+use Rattle.vt100.specs.Memory.{some_may_take}
+use Rattle.vt100.specs.Parsing.{ParserView, HasRead, StandsAt}
 use Rattle.vt100.specs.declared.error.ScreenError.{ScreenError}
 use Rattle.vt100.specs.declared.error.ScreenError.TheVariants as screen
 use Rattle.takers.specs.Pump.{Pumps}
@@ -23,13 +24,13 @@ use Rattle.termrelay.specs.declared.error.HubError.TheVariants.{Memory, Failed, 
 
 -- ---- what is told of a hub
 
--- A way to tell of hubs: what stands for a parser, its screen, how it goes on by an act, and how it fails; and what
--- stands for the clients, and the one at each key.
+-- A way to tell of hubs: what stands for a parser, its screen, how it goes on by an act, and how it fails at bytes; and
+-- what stands for the clients, and the one at each key.
 pub record Telling : Type 1 where
   pub Parser : Type 0
   pub screen : Parser → ScreenView
   pub goes : Parser → Act → Parser → Type 0
-  pub fails : Parser → Parser → Type 0
+  pub fails : Parser → List ℕ → Parser → Type 0
   pub Clients : Type 0
   pub client : Clients → ℕ → Option ClientState
 
@@ -44,13 +45,19 @@ GoesOn p act q =
     (rows cols capacity : ℕ) (acts : List Act) → StandsAt p rows cols capacity acts
     → StandsAt q rows cols capacity (acts ++ act ∷ [])
 
+-- it has failed at these bytes: whatever has been read before, one of their events may take memory
+abbrev pub FailsAt : ParserView (Unit {0}) → List ℕ → ParserView (Unit {0}) → Type 0
+FailsAt p bytes q =
+    (q.screen.failed ≡ true)
+    × ((past : List ℕ) → HasRead p past → some_may_take (events_added past bytes) p.screen.state ≡ true)
+
 -- by what the code keeps: the parser, with what the bytes leave unfinished, and a record at each key
 abbrev pub as_kept : Telling
 as_kept = record {
   Parser = ParserView (Unit {0});
   screen = λ p. p.screen;
   goes = GoesOn;
-  fails = λ p q. q.screen.failed ≡ true;
+  fails = FailsAt;
   Clients = List (Option RecordView);
   client = λ records key. option_map client_of (slice_index_or records key None);
 }
@@ -111,13 +118,13 @@ module _ {way : Telling} where
 
   -- ---- feed
 
-  -- a hub h is fed bytes, and is g: without memory it has failed
+  -- a hub h is fed bytes, and is g: without memory it has failed, and only bytes that may take memory can fail it
   abbrev pub Feeds : HubState way → List ℕ → Result (Unit {0}) HubError → HubState way → Type 0
   Feeds h bytes (Ok u) g =
       (is_failed h ≡ false) × (is_failed g ≡ false) × (clients_in g ≡ clients_in h)
       × way.goes h.parser (Fed bytes) g.parser
   Feeds h bytes (Err Memory) g =
-      (is_failed h ≡ false) × way.fails h.parser g.parser × (clients_in g ≡ clients_in h)
+      (is_failed h ≡ false) × way.fails h.parser bytes g.parser × (clients_in g ≡ clients_in h)
   Feeds h bytes (Err Failed) g = (is_failed h ≡ true) × (g ≡ h)
   Feeds h bytes (Err UnknownClient) g = ⊥
   Feeds h bytes (Err (Write e)) g = ⊥

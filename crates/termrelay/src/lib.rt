@@ -21,3 +21,4 @@ pub use hub::Hub;
 pub use log::{Log, run};
 pub use session::Session;
 pub use takers::Taker;
+pub use vt100::Screen;

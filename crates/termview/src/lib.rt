@@ -15,6 +15,9 @@ mod until_cleared;
 mod view;
 
 pub use error::ViewError;
+pub use takers::Taker;
 pub use until_cleared::UntilCleared;
 pub use view::View;
 pub use vt100_cells::Cell as ViewCell;
+pub use vt100_forms::{Color, CursorStyle, MouseProtocolEncoding, MouseProtocolMode};
+pub use vte::ansi::Timeout;

@@ -1,4 +1,4 @@
-use Rattle.std.proofs.Common.{◌≡◌, Ok, Err, ap, ◌∙◌, rules}
+use Rattle.std.proofs.Common.{◌≡◌, Ok, Err, ap, ◌∙◌, rules, arith}
 use Rattle.relay_streams.specs.declared.error.RelayError.TheVariants.{Memory}
 use Rattle.relay_streams.specs.Relayed.{Relays, refused, broken, unflushed, written}
 use Rattle.relay_streams.specs.Turns.{fault_of}
@@ -24,7 +24,8 @@ returns-in_err-client g c =
     record {
       relays = r;
       text = relays-text g.row.S.Denot g.row.W.Denot g.S.Source.gives g.W.Taker.takes g.W.Sink.flushes
-          g.W.Sink.contents g.S.Source.left g.met.S.Source.tells g.met.W.Sink.tells g.met.W.Sink.keeps _ _ _ _ _ _ _ r;
+          g.W.Sink.contents g.S.Source.left g.met.S.Source.tells g.met.W.Sink.tells g.met.W.Sink.keeps _ _ _ _ _ _ _
+          (c.args.rows.ok, omega arith) (c.args.cols.ok, omega arith) r;
       front = relays-front g.row.S.Denot g.row.W.Denot g.S.Source.gives g.W.Taker.takes g.W.Sink.flushes
           g.W.Sink.contents g.S.Source.left g.met.S.Source.tells g.met.W.Sink.tells g.met.W.Sink.keeps _ _ _ _ _ _ _ r;
     }
@@ -33,7 +34,8 @@ pub returns-in_err-relay_pieces : goal.returns-in_err-relay_pieces
 returns-in_err-relay_pieces g c =
     let e = c.in_err-relay_pieces.field-0.0 in
     let at = first-attached c.args.rows.value c.args.cols.value c.in_ok-client.client c.in_ok-hub.hub
-    c.attach.new.self c.in_ok-hub.ensures.new c.in_ok-client.ensures in
+    c.attach.new.self (c.args.rows.ok, omega arith) (c.args.cols.ok, omega arith) c.in_ok-hub.ensures.new
+    c.in_ok-client.ensures in
     let is : c.from_residual-in_err-relay_pieces.result ≡ Err e = search rules in
     let r : Relays g.S.Source.gives g.W.Taker.takes g.W.Sink.flushes c.args.rows.value c.args.cols.value
     c.args.input.now c.args.output.now c.from_residual-in_err-relay_pieces.result c.relay_pieces.new.input
@@ -42,7 +44,8 @@ returns-in_err-relay_pieces g c =
     record {
       relays = r;
       text = relays-text g.row.S.Denot g.row.W.Denot g.S.Source.gives g.W.Taker.takes g.W.Sink.flushes
-          g.W.Sink.contents g.S.Source.left g.met.S.Source.tells g.met.W.Sink.tells g.met.W.Sink.keeps _ _ _ _ _ _ _ r;
+          g.W.Sink.contents g.S.Source.left g.met.S.Source.tells g.met.W.Sink.tells g.met.W.Sink.keeps _ _ _ _ _ _ _
+          (c.args.rows.ok, omega arith) (c.args.cols.ok, omega arith) r;
       front = relays-front g.row.S.Denot g.row.W.Denot g.S.Source.gives g.W.Taker.takes g.W.Sink.flushes
           g.W.Sink.contents g.S.Source.left g.met.S.Source.tells g.met.W.Sink.tells g.met.W.Sink.keeps _ _ _ _ _ _ _ r;
     }
@@ -50,7 +53,8 @@ returns-in_err-relay_pieces g c =
 pub returns-in-Ok : goal.returns-in-Ok
 returns-in-Ok g c =
     let at = first-attached c.args.rows.value c.args.cols.value c.in_ok-client.client c.in_ok-hub.hub
-    c.attach.new.self c.in_ok-hub.ensures.new c.in_ok-client.ensures in
+    c.attach.new.self (c.args.rows.ok, omega arith) (c.args.cols.ok, omega arith) c.in_ok-hub.ensures.new
+    c.in_ok-client.ensures in
     let r : Relays g.S.Source.gives g.W.Taker.takes g.W.Sink.flushes c.args.rows.value c.args.cols.value
     c.args.input.now c.args.output.now (Ok tt) c.relay_pieces.new.input c.finish.new.self =
     written c.relay_pieces.new.output
@@ -58,7 +62,8 @@ returns-in-Ok g c =
     record {
       relays = r;
       text = relays-text g.row.S.Denot g.row.W.Denot g.S.Source.gives g.W.Taker.takes g.W.Sink.flushes
-          g.W.Sink.contents g.S.Source.left g.met.S.Source.tells g.met.W.Sink.tells g.met.W.Sink.keeps _ _ _ _ _ _ _ r;
+          g.W.Sink.contents g.S.Source.left g.met.S.Source.tells g.met.W.Sink.tells g.met.W.Sink.keeps _ _ _ _ _ _ _
+          (c.args.rows.ok, omega arith) (c.args.cols.ok, omega arith) r;
       front = relays-front g.row.S.Denot g.row.W.Denot g.S.Source.gives g.W.Taker.takes g.W.Sink.flushes
           g.W.Sink.contents g.S.Source.left g.met.S.Source.tells g.met.W.Sink.tells g.met.W.Sink.keeps _ _ _ _ _ _ _ r;
     }
@@ -66,7 +71,8 @@ returns-in-Ok g c =
 pub returns : goal.returns
 returns g c =
     let at = first-attached c.args.rows.value c.args.cols.value c.in_ok-client.client c.in_ok-hub.hub
-    c.attach.new.self c.in_ok-hub.ensures.new c.in_ok-client.ensures in
+    c.attach.new.self (c.args.rows.ok, omega arith) (c.args.cols.ok, omega arith) c.in_ok-hub.ensures.new
+    c.in_ok-client.ensures in
     let r =
     unflushed c.relay_pieces.new.output c.in-Err.field-0
     (c.in_ok-relay_pieces.ensures c.args.rows.value c.args.cols.value at) c.in-Err.ensures.flushes in

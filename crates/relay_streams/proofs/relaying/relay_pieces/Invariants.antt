@@ -1,9 +1,9 @@
 use Rattle.std.proofs.Common.{◌≤◌, ◌-◌, List, [], ℕ, None, Ok}
 use Rattle.relay_streams.specs.Fill.{max_reads}
-use Rattle.relay_streams.specs.Frames.{frames_of, base_of}
 use Rattle.relay_streams.specs.Pieces.{piece_len}
 use Rattle.takers.specs.Sent.{Sends}
 use Rattle.relay_streams.specs.Turns.{Relaying}
+use Rattle.relay_streams.proofs.FrameLists.{frames_of, base_of}
 use Rattle.relay_streams.proofs.PieceLemmas.{DrainsOn}
 use Rattle.relay_streams.proofs.relaying.relay_pieces.Given as goal
 

@@ -1,7 +1,8 @@
 use Rattle.std.proofs.Common.{◌≡◌, ℕ, List, [], ◌∷◌, ◌++◌, take, length, arith}
-use Rattle.relay_streams.specs.Frames.{base_of}
 use Rattle.relay_streams.specs.Pieces.{piece_len}
+use Rattle.relay_streams.proofs.FrameLists.{frames_of, base_of}
 use Rattle.relay_streams.proofs.PieceLemmas.{none_read, filled_most, filled_on, filled_last}
+use Rattle.relay_streams.proofs.SessionLemmas.{frames-are-relayed}
 use Rattle.screencat.proofs.CarryLemmas.{carries-none, carries-on, relays-on}
 use Rattle.screencat.proofs.far_screen.carry_frames.Goals as goal
 
@@ -20,16 +21,20 @@ returns-then-n-lt-PIECE_LEN g c =
     let whole : length c.pieces.piece ≡ piece_len = omega (arith, c.fill.auto.piece) in
     let f = rw whole at c.fill.ensures in
     let n = c.in_ok-n.n in
-    let piece : List ℕ = take n c.fill.new.piece in (
-      so_far.past ++ piece ∷ [],
+    let piece : List ℕ = take n c.fill.new.piece in
+    let pieces : List (List ℕ) = so_far.past ++ piece ∷ [] in (
+      pieces,
       filled_last g.row.S.Denot g.S.Source.gives piece_len c.args.input.now c.pieces.input c.fill.new.input
           c.pieces.reads c.fill.new.reads so_far.past c.fill.new.piece c.fill.result f n c.in_ok-n.was
           (omega arith) so_far.read,
       λ rows cols at.
           let brought = c.in_ok-carry_frame.ensures rows cols so_far.past (base_of rows cols so_far.past)
-          (so_far.at rows cols at) in
-          carries-on rows cols so_far.past piece c.args.view.now c.pieces.view c.carry_frame.new.view
-          (so_far.carried rows cols at) brought.0,
+          (so_far.at rows cols at) in (
+            frames_of rows cols pieces,
+            frames-are-relayed rows cols pieces at.height at.width,
+            carries-on rows cols so_far.past piece c.args.view.now c.pieces.view c.carry_frame.new.view
+                (so_far.carried rows cols at) brought.0,
+          ),
     )
 
 pub pieces-preserved : goal.pieces-preserved

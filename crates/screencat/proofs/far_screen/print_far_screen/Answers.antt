@@ -1,10 +1,10 @@
-use Rattle.std.proofs.Common.{◌∙◌, ℕ, List, ap}
+use Rattle.std.proofs.Common.{◌∙◌, ℕ, List, arith}
 use Rattle.std.specs.List.{concat}
 use Rattle.termview.specs.Standing.{shown_by, size_of}
-use Rattle.relay_streams.specs.Frames.{frames_of}
 use Rattle.relay_streams.specs.Shown.{screen_text}
 use Rattle.relay_streams.proofs.OutcomeLemmas.{prints-text}
 use Rattle.relay_streams.proofs.PieceLemmas.{drained-pieces}
+use Rattle.relay_streams.proofs.SessionLemmas.{relayed-as}
 use Rattle.relay_streams.proofs.TurnLemmas.{first-attached}
 use Rattle.relay_streams.proofs.ViewLemmas.{shown_so, size_is}
 use Rattle.screencat.specs.Carried.{IsFarText}
@@ -17,8 +17,10 @@ returns g c =
     let cols = c.args.cols.value in
     let read = c.in_ok-carry_frames.ensures in
     let at = first-attached rows cols c.in_ok-client.client c.in_ok-hub.hub
-    c.attach.new.self c.in_ok-hub.ensures.new c.in_ok-client.ensures in
-    let carried = read.2 rows cols at in
+    c.attach.new.self (c.args.rows.ok, omega arith) (c.args.cols.ok, omega arith) c.in_ok-hub.ensures.new
+    c.in_ok-client.ensures in
+    let brought = read.2 rows cols at in
+    let carried = brought.2 in
     let fresh = c.in_ok-view.ensures.exact (λ b e. e ∙ c.new-2.ensures) in
     let size = size_is _ _ _ c.in_ok-view.ensures.rows c.in_ok-view.ensures.cols in
     let view = c.carry_frames.new.view in
@@ -27,9 +29,9 @@ returns g c =
           (screen_text (size_of view) (shown_by view).cell) _ _
           (λ bytes known. record {
             pieces = carried.pieces;
-            joined = carried.joined ∙ ap (λ (ps : List (List ℕ)). concat (frames_of rows cols ps))
+            relayed = relayed-as rows cols bytes read.0 brought.0 (concat carried.pieces) brought.1
                 (drained-pieces g.row.S.Denot g.S.Source.gives g.S.Source.left g.met.S.Source.tells c.args.input.now read.0
-                c.carry_frames.new.input bytes read.1 known);
+                c.carry_frames.new.input bytes read.1 known) carried.joined;
             shown = shown_so _ _ _ carried.pieces fresh size carried.led;
           })
           (prints-text g.row.S.Denot g.row.W.Denot g.S.Source.gives g.W.Taker.takes g.W.Sink.flushes g.W.Sink.contents
