@@ -72,7 +72,8 @@ impl Hub {
 
     /// Gives the program's next bytes to the screen. They may be cut anywhere.
     ///
-    /// Without memory the hub has failed: no frame is made any more, but what is owed can be pumped.
+    /// Without memory the hub has failed: no frame is made any more, but what is owed can be pumped. Only a full reset and
+    /// the alternate sheet's first showing take memory; bytes without them aren't refused.
     pub fn feed(&mut self, bytes: &[u8]) -> Result<(), HubError>
         ensures { Feeds self.old bytes.now result self.new }
     {
