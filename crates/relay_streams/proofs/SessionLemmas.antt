@@ -1,11 +1,12 @@
 -- What is relayed is a session of a history.
-use Rattle.std.proofs.Common.{◌≡◌, ◌∙◌, ℕ, ◌+◌, ◌<◌, Bool, true, false, ◌||◌, List, [], ◌∷◌, ◌++◌, map, take, drop}
+use Rattle.std.proofs.Common.{◌≡◌, ◌∙◌, ℕ, zero, suc, ◌+◌, ◌<◌, Bool, true, false, ◌||◌, List, [], ◌∷◌, ◌++◌, map, take, drop}
 use Rattle.std.proofs.Common.{length, min, Option, Some, None, Result, Ok, Err, refl, sym, ap, subst, arith}
 use Rattle.std.proofs.Common.{if◌then◌else◌, append_assoc, append-nil}
 use Rattle.std.proofs.lemmas.List.{drop_all, take_all, map-append, length-map}
 use Rattle.std.proofs.lemmas.Bool.{eq-eqb}
 use Rattle.std.proofs.lemmas.List.Elements.{All-nil}
 use Rattle.std.specs.List.{concat, list_any}
+use Rattle.std.specs.Option.{option_map}
 use Rattle.std.specs.Prelude.{slice_get}
 use Rattle.std.specs.declared.io.Error.{Error}
 use Rattle.vt100_picture.specs.Term.{Size, Shown}
@@ -56,6 +57,14 @@ not-refused : (r : Reply) (e : HubError) → r ≡ Refused e → is_refused r �
 not-refused r e is h = let no : true ≡ false = ap is_refused (sym is) ∙ h in absurd (cc)
 
 -- ---- the hub after some pieces
+
+-- when a story's answers were given, and when those to a client are that asks after each piece
+abbrev moments_of : Story → List (List Act)
+moments_of t = map (λ e. e.moment) t.entries
+
+abbrev moments_from : List (List ℕ) → List (List ℕ) → List (List Act)
+moments_from past [] = []
+moments_from past (p ∷ ps) = map Fed (past ++ p ∷ []) ∷ moments_from (past ++ p ∷ []) ps
 
 abbrev put : HubState as_told → ℕ → Option ClientState → HubState as_told
 put h key slot = record h { clients = with_client h.clients key slot }
@@ -129,8 +138,9 @@ module _ (rows cols key : ℕ) where
   -- ---- a turn
 
   -- what a turn makes of the story
-  pub record HasTurned (t u : Story) (c : ClientState) : Type 0 where
+  pub record HasTurned (t u : Story) (c : ClientState) (moment : List Act) : Type 0 where
     pub texts : texts_of u ≡ texts_of t ++ c.owed ∷ []
+    pub moments : moments_of u ≡ moments_of t ++ moment ∷ []
     pub pumped : u.session.pumped ≡ t.session.pumped ++ c.owed
     pub high : u.session.rows ≡ t.session.rows
     pub wide : u.session.cols ≡ t.session.cols
@@ -139,9 +149,10 @@ module _ (rows cols key : ℕ) where
   abbrev turned : Entry → ClientState → Story → Story
   turned e c t = with_session (grown c.owed) (with_entries (e ∷ []) t)
 
-  has-turned : (t : Story) (e : Entry) (c : ClientState) → e.text ≡ c.owed → HasTurned t (turned e c t) c
+  has-turned : (t : Story) (e : Entry) (c : ClientState) → e.text ≡ c.owed → HasTurned t (turned e c t) c e.moment
   has-turned t e c is = record {
     texts = map-append (λ (x : Entry). x.text) t.entries (e ∷ []) ∙ ap (λ xs. texts_of t ++ xs ∷ []) is;
+    moments = map-append (λ (x : Entry). x.moment) t.entries (e ∷ []);
     pumped = refl;
     high = refl;
     wide = refl;
@@ -153,7 +164,7 @@ module _ (rows cols key : ℕ) where
     pub story : Story
     pub are : us ≡ story ∷ []
     pub at : IsAt (past ++ p ∷ []) (next past p base).base g story
-    pub has : HasTurned t story (next past p base)
+    pub has : HasTurned t story (next past p base) (map Fed (past ++ p ∷ []))
 
   module _ (past : List (List ℕ)) (p : List ℕ) (base : Option Shown) (t : Story) (on : is_on key t ≡ true)
       (g k l : HubState as_told) (fed : g.parser ≡ past_of (past ++ p ∷ [])) (client : g.clients key ≡ Some (idle base))
@@ -177,6 +188,10 @@ module _ (rows cols key : ℕ) where
     text : e.text ≡ c.owed
     unfolding c e
     text = owed-text (size_in g) (shown_in g) base (is_frame answer)
+
+    moment : e.moment ≡ map Fed (past ++ p ∷ [])
+    unfolding e
+    moment = ap (λ (q : Past). q.acts) fed
 
     at-frame : k.clients key ≡ Some c
     unfolding c
@@ -224,7 +239,8 @@ module _ (rows cols key : ℕ) where
         client = at-pump ∙ ap (λ (d : ClientState). Some (idle d.base)) after;
         on = on;
       };
-      has = subst (HasTurned t (turned e c t)) after (has-turned t e c text);
+      has = subst (λ (d : ClientState). HasTurned t (turned e c t) d (map Fed (past ++ p ∷ []))) after
+          (subst (λ (acts : List Act). HasTurned t (turned e c t) c acts) moment (has-turned t e c text));
     }
 
   -- whatever a turn's calls are answered, where none is refused
@@ -267,12 +283,13 @@ module _ (rows cols key : ℕ) where
     pub story : Story
     pub are : us ≡ story ∷ []
     pub texts : texts_of story ≡ texts_of t ++ frames_from rows cols (concat past) base pieces
+    pub moments : moments_of story ≡ moments_of t ++ moments_from past pieces
     pub pumped : story.session.pumped ≡ t.session.pumped ++ concat (frames_from rows cols (concat past) base pieces)
     pub high : story.session.rows ≡ t.session.rows
     pub wide : story.session.cols ≡ t.session.cols
 
   ran-more : (past : List (List ℕ)) (p : List ℕ) (base : Option Shown) (t u : Story) (pieces : List (List ℕ))
-      (us : List Story) → HasTurned t u (next past p base) → Ran (past ++ p ∷ []) (next past p base).base u pieces us
+      (us : List Story) → HasTurned t u (next past p base) (map Fed (past ++ p ∷ [])) → Ran (past ++ p ∷ []) (next past p base).base u pieces us
       → Ran past base t (p ∷ pieces) us
   ran-more past p base t u pieces us h r =
       let c = next past p base in
@@ -283,6 +300,8 @@ module _ (rows cols key : ℕ) where
         are = r.are;
         texts = r.texts ∙ ap (λ fs. texts_of u ++ fs) same ∙ ap (λ xs. xs ++ rest (concat past ++ p)) h.texts
             ∙ append_assoc (texts_of t) (c.owed ∷ []) (rest (concat past ++ p));
+        moments = r.moments ∙ ap (λ xs. xs ++ moments_from (past ++ p ∷ []) pieces) h.moments
+            ∙ append_assoc (moments_of t) (map Fed (past ++ p ∷ []) ∷ []) (moments_from (past ++ p ∷ []) pieces);
         pumped = r.pumped ∙ ap (λ fs. u.session.pumped ++ concat fs) same
             ∙ ap (λ xs. xs ++ concat (rest (concat past ++ p))) h.pumped
             ∙ append_assoc t.session.pumped c.owed (concat (rest (concat past ++ p)));
@@ -298,6 +317,7 @@ module _ (rows cols key : ℕ) where
     story = t;
     are = run.1 ∙ are;
     texts = sym (append-nil (texts_of t));
+    moments = sym (append-nil (moments_of t));
     pumped = sym (append-nil t.session.pumped);
     high = refl;
     wide = refl;
@@ -350,7 +370,7 @@ module _ (rows cols key : ℕ) where
       → IsSide rows → IsSide cols → list_any is_refused replies ≡ false
       → RunsTold (fresh rows cols) [] (relay_calls key pieces) (Attached key ∷ replies) h ts → slice_get ts 0 ≡ Some t
       → (size_of_story t ≡ sized rows cols) × (texts_of t ≡ frames_of rows cols pieces)
-      × (t.session.pumped ≡ concat (frames_of rows cols pieces))
+      × (t.session.pumped ≡ concat (frames_of rows cols pieces)) × (moments_of t ≡ moments_from [] pieces)
   told-by pieces t replies h ts height width ok (g, is, (result, f, e), run) at =
       let r = ran-by [] None first pieces g h (first ∷ []) ts replies (first-at result g f e) refl ok run in
       let same = only ts t r.story r.are at in
@@ -359,6 +379,7 @@ module _ (rows cols key : ℕ) where
         ap (λ (u : Story). size_of_story u) same ∙ z ∙ first-size height width,
         ap (λ (u : Story). texts_of u) same ∙ r.texts,
         ap (λ (u : Story). u.session.pumped) same ∙ r.pumped,
+        ap (λ (u : Story). moments_of u) same ∙ r.moments,
       )
 
   -- ---- there is one
@@ -446,7 +467,7 @@ relays-are-sessions rows cols key pieces height width = one-relayed rows cols ke
 -- whichever it is, these are its texts
 relayed-by : (rows cols key : ℕ) (pieces : List (List ℕ)) (t : Story) → IsRelayed rows cols key pieces t
     → (size_of_story t ≡ sized rows cols) × (texts_of t ≡ frames_of rows cols pieces)
-    × (t.session.pumped ≡ concat (frames_of rows cols pieces))
+    × (t.session.pumped ≡ concat (frames_of rows cols pieces)) × (moments_of t ≡ moments_from [] pieces)
 relayed-by rows cols key pieces t r =
     let s = r.session in
     told-by rows cols key pieces t r.replies s.hub s.stories s.height s.width r.served s.ran s.is
@@ -461,13 +482,29 @@ texts-joined : (es : List Entry) → concat (map (λ e. e.text) es) ≡ texts es
 texts-joined [] = refl
 texts-joined (e ∷ es) = ap (λ xs. e.text ++ xs) (texts-joined es)
 
+moment-at : (past pieces : List (List ℕ)) (n : ℕ) (m : List Act) → slice_get (moments_from past pieces) n ≡ Some m
+    → m ≡ map Fed (past ++ take (n + 1) pieces)
+moment-at past [] n m is = absurd (let no : None ≡ Some m = is in cc)
+moment-at past (p ∷ ps) zero m is = let same : map Fed (past ++ p ∷ []) ≡ m = cc in sym same
+moment-at past (p ∷ ps) (suc n) m is =
+    moment-at (past ++ p ∷ []) ps n m is
+    ∙ ap (λ (xs : List (List ℕ)). map Fed xs) (append_assoc past (p ∷ []) (take (n + 1) ps))
+
+entry-moment : (es : List Entry) (n : ℕ) (e : Entry) → slice_get es n ≡ Some e
+    → slice_get (map (λ x. x.moment) es) n ≡ Some e.moment
+entry-moment [] n e is = absurd (let no : None ≡ Some e = is in cc)
+entry-moment (x ∷ es) zero e is = ap (λ (o : Option Entry). option_map (λ (y : Entry). y.moment) o) is
+entry-moment (x ∷ es) (suc n) e is = entry-moment es n e is
+
 pub relays-are-pumped : EachRelayIsPumped
 relays-are-pumped rows cols key pieces t r =
-    let by = relayed-by rows cols key pieces t r in (
-      by.0,
-      sym (length-map t.entries (λ e. e.text)) ∙ ap length by.1 ∙ one-each rows cols [] None pieces,
-      by.2 ∙ ap concat (sym by.1) ∙ texts-joined t.entries,
-    )
+    let by = relayed-by rows cols key pieces t r in record {
+      size = by.0;
+      each = sym (length-map t.entries (λ e. e.text)) ∙ ap length by.1 ∙ one-each rows cols [] None pieces;
+      moments = λ n e at. moment-at [] pieces n e.moment
+          (sym (ap (λ xs. slice_get xs n) by.3) ∙ entry-moment t.entries n e at);
+      pumped = by.2 ∙ ap concat (sym by.1) ∙ texts-joined t.entries;
+    }
 
 pub frames-are-relayed : (rows cols : ℕ) (pieces : List (List ℕ)) → IsSide rows → IsSide cols
     → AreRelayed rows cols pieces (frames_of rows cols pieces)

@@ -1,11 +1,12 @@
 -- What is relayed is a session of a history.
-use Rattle.std.specs.Prelude.{◌≡◌, ℕ, Bool, true, false, List, [], ◌∷◌, map, length}
+use Rattle.std.specs.Prelude.{◌≡◌, ℕ, ◌+◌, Bool, true, false, List, [], ◌∷◌, map, length, take, Some, slice_get}
 use Rattle.std.specs.List.{list_any}
+use Rattle.vt100_state.specs.Made.{Fed}
 use Rattle.vt100_state.specs.Holds.{IsSide}
 use Rattle.termrelay.specs.Calls.{Call, Feed, Attach, Frame, Pump}
 use Rattle.termrelay.specs.declared.call.Reply.{Reply}
 use Rattle.termrelay.specs.declared.call.Reply.TheVariants.{Attached, Refused}
-use Rattle.faithful.specs.History.{Story, size_of_story}
+use Rattle.faithful.specs.History.{Entry, Story, size_of_story}
 use Rattle.faithful.specs.Judge.{texts}
 use Rattle.faithful.specs.Laws.{IsSession}
 use Rattle.relay_streams.specs.Pieces.{pieces_of}
@@ -55,10 +56,17 @@ abbrev pub EachRelayIsASession : Type 0
 EachRelayIsASession = (rows cols key : ℕ) (pieces : List (List ℕ)) → IsSide rows → IsSide cols
     → (t : Story) × IsRelayed rows cols key pieces t
 
--- it has the hub's size and an answer for each piece, and all its frames are pumped
+-- It has the hub's size and an answer for each piece, given when just the pieces up to it had been fed; and all its
+-- frames are pumped.
+pub record AnswersEach (rows cols : ℕ) (pieces : List (List ℕ)) (t : Story) : Type 0 where
+  pub size : size_of_story t ≡ sized rows cols
+  pub each : length t.entries ≡ length pieces
+  pub moments : (n : ℕ) (e : Entry) → slice_get t.entries n ≡ Some e → e.moment ≡ map Fed (take (n + 1) pieces)
+  pub pumped : t.session.pumped ≡ texts t.entries
+
 abbrev pub EachRelayIsPumped : Type 0
 EachRelayIsPumped = (rows cols key : ℕ) (pieces : List (List ℕ)) (t : Story) → IsRelayed rows cols key pieces t
-    → (size_of_story t ≡ sized rows cols) × (length t.entries ≡ length pieces) × (t.session.pumped ≡ texts t.entries)
+    → AnswersEach rows cols pieces t
 
 -- and whichever it is, its texts are the same
 abbrev pub RelayedAreOne : Type 0
