@@ -476,19 +476,19 @@ one-each : (rows cols : ℕ) (past : List ℕ) (base : Option Shown) (pieces : L
     → length (frames_from rows cols past base pieces) ≡ length pieces
 one-each rows cols past base [] = refl
 one-each rows cols past base (p ∷ ps) =
-    ap (λ n. n + 1) (one-each rows cols (past ++ p) (asked rows cols (past ++ p) base).base ps)
+    ap suc (one-each rows cols (past ++ p) (asked rows cols (past ++ p) base).base ps)
 
 texts-joined : (es : List Entry) → concat (map (λ e. e.text) es) ≡ texts es
 texts-joined [] = refl
 texts-joined (e ∷ es) = ap (λ xs. e.text ++ xs) (texts-joined es)
 
 moment-at : (past pieces : List (List ℕ)) (n : ℕ) (m : List Act) → slice_get (moments_from past pieces) n ≡ Some m
-    → m ≡ map Fed (past ++ take (n + 1) pieces)
+    → m ≡ map Fed (past ++ take (suc n) pieces)
 moment-at past [] n m is = absurd (let no : None ≡ Some m = is in cc)
 moment-at past (p ∷ ps) zero m is = let same : map Fed (past ++ p ∷ []) ≡ m = cc in sym same
 moment-at past (p ∷ ps) (suc n) m is =
     moment-at (past ++ p ∷ []) ps n m is
-    ∙ ap (λ (xs : List (List ℕ)). map Fed xs) (append_assoc past (p ∷ []) (take (n + 1) ps))
+    ∙ ap (λ (xs : List (List ℕ)). map Fed xs) (append_assoc past (p ∷ []) (take (suc n) ps))
 
 entry-moment : (es : List Entry) (n : ℕ) (e : Entry) → slice_get es n ≡ Some e
     → slice_get (map (λ x. x.moment) es) n ≡ Some e.moment

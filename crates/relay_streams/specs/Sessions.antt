@@ -1,5 +1,5 @@
 -- What is relayed is a session of a history.
-use Rattle.std.specs.Prelude.{◌≡◌, ℕ, ◌+◌, Bool, true, false, List, [], ◌∷◌, map, length, take, Some, slice_get}
+use Rattle.std.specs.Prelude.{◌≡◌, ℕ, suc, Bool, true, false, List, [], ◌∷◌, map, length, take, Some, slice_get}
 use Rattle.std.specs.List.{list_any}
 use Rattle.vt100_state.specs.Made.{Fed}
 use Rattle.vt100_state.specs.Holds.{IsSide}
@@ -61,7 +61,7 @@ EachRelayIsASession = (rows cols key : ℕ) (pieces : List (List ℕ)) → IsSid
 pub record AnswersEach (rows cols : ℕ) (pieces : List (List ℕ)) (t : Story) : Type 0 where
   pub size : size_of_story t ≡ sized rows cols
   pub each : length t.entries ≡ length pieces
-  pub moments : (n : ℕ) (e : Entry) → slice_get t.entries n ≡ Some e → e.moment ≡ map Fed (take (n + 1) pieces)
+  pub moments : (n : ℕ) (e : Entry) → slice_get t.entries n ≡ Some e → e.moment ≡ map Fed (take (suc n) pieces)
   pub pumped : t.session.pumped ≡ texts t.entries
 
 abbrev pub EachRelayIsPumped : Type 0
