@@ -9,20 +9,24 @@ use Rattle.vte.specs.Frames.{Leads}
 use Rattle.vt100_picture.specs.Term.{Size, Term, shown_of}
 use Rattle.termrelay.specs.Hub.{HubState, as_kept, IsNewHub}
 use Rattle.termrelay.specs.Calls.{Call}
+use Rattle.termrelay.specs.declared.call.Reply.{Reply}
 use Rattle.termrelay.specs.Log.{SessionView, LogView, empty_log, MadeAll}
 use Rattle.termview.specs.Seen.{seen}
-use Rattle.termview.specs.Standing.{HoldsAt, size_of}
+use Rattle.termview.specs.Standing.{HoldsAt, size_of, shown_by}
 use Rattle.termview.specs.declared.view.View.{View}
 use Rattle.termview.specs.declared.until_cleared.UntilCleared.{UntilCleared}
-use Rattle.faithful.specs.History.{Story}
-use Rattle.faithful.specs.Judge.{last_whole, judged, IsSure}
+use Rattle.vt100_state.specs.Holds.{IsSide}
+use Rattle.faithful.specs.History.{Entry, Story}
+use Rattle.faithful.specs.Judge.{texts, last_frame, last_whole, judged, IsSure}
+use Rattle.faithful.specs.Laws.{IsSession}
 use Rattle.faithful.specs.Headline.{last_read}
-use Rattle.faithful.proofs.HeadlineLemmas.{last-shown}
+use Rattle.faithful.proofs.HeadlineLemmas.{last-shown, wholes-shown}
 use Rattle.faithful.proofs.ServesLemmas.{logs-follow}
 use Rattle.faithful.proofs.LoggedLemmas.{story-at}
 use Rattle.relay_streams.specs.Led.{answers}
 use Rattle.relay_streams.specs.Pieces.{cut_by}
-use Rattle.relay_streams.specs.Far.{IsFarView, FarViewsShow, is_starved, last_given}
+use Rattle.relay_streams.specs.Far.{IsFarView, ReadsStory, ShowsJudged, FarViewsShow, is_starved, last_given}
+use Rattle.relay_streams.proofs.LawLemmas.{given-Gives}
 use Rattle.relay_streams.proofs.PieceLemmas.{concat-cut_by}
 
 -- ---- logs
@@ -115,3 +119,34 @@ far-shown rows cols calls replies n most cuts t v session r short sure =
     ∙ ap (λ (z : Size). shown_of (seen z r.parsed)) r.size
     ∙ shown (subst IsSure same sure)
     ∙ ap (judged rows cols) (sym same)
+
+-- where the bytes given end with a frame
+whole-given : (rows cols : ℕ) (calls : List Call) (replies : List Reply) (n most : ℕ) (cuts : List ℕ) (t : Story)
+    (v : View UntilCleared) (front back : List Entry) → IsSession rows cols calls replies n t → ReadsStory t most cuts v
+    → t.entries ≡ front ++ back → take most t.session.pumped ≡ texts front → IsSure (last_frame None front)
+    → shown_of (shown_by v) ≡ judged rows cols (last_frame None front)
+whole-given rows cols calls replies n most cuts t v front back session r are given sure =
+    let bytes = take most t.session.pumped in
+    let pieces = cut_by cuts bytes in
+    let shown = wholes-shown rows cols calls replies n t front back (map Gives pieces) r.parsed r.hold session are
+    (given-Gives pieces ∙ concat-cut_by cuts bytes ∙ given) r.leads in
+    ap (λ (x : Term). shown_of x) r.holds.stands.shows
+    ∙ ap (λ (z : Size). shown_of (seen z r.parsed)) r.size
+    ∙ shown.1 sure
+
+pub shows-judged : (rows cols : ℕ) (calls : List Call) (n most : ℕ) (cuts : List ℕ) (v : View UntilCleared)
+    → IsSide rows → IsSide cols → IsFarView rows cols calls n most cuts (Some v) → ShowsJudged rows cols calls n most v
+shows-judged rows cols calls n most cuts v height width f =
+    let t = f.is.0 in
+    let session : IsSession rows cols calls f.replies n t =
+    record { height = height; width = width; hub = f.hub; stories = f.stories; ran = f.ran; is = f.is.1 } in
+    record {
+      replies = f.replies;
+      story = t;
+      session = session;
+      fed = f.fed;
+      size = f.is.2.size;
+      shows = far-shown rows cols calls f.replies n most cuts t v session f.is.2;
+      whole = λ front back are given sure.
+          whole-given rows cols calls f.replies n most cuts t v front back session f.is.2 are given sure;
+    }

@@ -9,7 +9,7 @@ use Rattle.std.specs.List.{concat, list_any}
 use Rattle.std.specs.Option.{option_map}
 use Rattle.std.specs.Prelude.{slice_get}
 use Rattle.std.specs.declared.io.Error.{Error}
-use Rattle.vt100_picture.specs.Term.{Size, Shown}
+use Rattle.vt100_picture.specs.Term.{Size, Shown, shown_of}
 use Rattle.vt100_core.specs.Picture.{size_of}
 use Rattle.vt100_state.specs.State.{State}
 use Rattle.vt100_state.specs.Shown.{shown_state}
@@ -34,6 +34,9 @@ use Rattle.faithful.specs.History.{Past, as_told, fresh, Entry, Story, size_of_s
 use Rattle.faithful.specs.History.{entries_of, stories_after, RunsTold}
 use Rattle.faithful.specs.Laws.{IsSession}
 use Rattle.faithful.specs.Judge.{texts}
+use Rattle.faithful.proofs.HeadlineLemmas.{last-shown}
+use Rattle.termview.specs.Seen.{seen}
+use Rattle.relay_streams.specs.Laws.{RelayedFrontsAreShown}
 use Rattle.relay_streams.specs.Frames.{state_after, idle, asked, asked_on}
 use Rattle.relay_streams.specs.Pieces.{pieces_of}
 use Rattle.relay_streams.specs.Shown.{sized}
@@ -543,3 +546,19 @@ relayed-are-one rows cols pieces fs gs a b = frames-of rows cols pieces fs a ∙
 
 pub relay-texts-are-one : RelayTextsAreOne
 relay-texts-are-one rows cols input a b r s = text-of rows cols input a r ∙ sym (text-of rows cols input b s)
+
+-- ---- any front of it
+
+pub fronts-shown : RelayedFrontsAreShown
+fronts-shown rows cols input relayed beyond parsed pieces hold r joined leads short sure =
+    let cut = pieces_of input in
+    let size = (relayed-by rows cols r.key cut r.story r.is).0 in
+    ap (λ (z : Size). shown_of (seen z parsed)) (sym size)
+    ∙ last-shown rows cols (relay_calls r.key cut) (Attached r.key ∷ r.is.replies) 0 r.story pieces parsed (record {
+      session = r.is.session;
+      beyond = beyond;
+      pumped = joined ∙ sym r.pumped;
+      short = short;
+      hold = hold;
+      leads = leads;
+    }) sure

@@ -1,11 +1,15 @@
 -- Laws of what is shown.
-use Rattle.std.specs.Prelude.{◌≡◌, ℕ, false, List}
+use Rattle.std.specs.Prelude.{◌≡◌, ℕ, false, List, [], ◌++◌, map, Option, None}
 use Rattle.std.specs.List.{All, concat}
-use Rattle.vte.specs.Frames.{IsFrame}
-use Rattle.vt100_picture.specs.Term.{Size}
+use Rattle.vte.specs.Moves.{Gives}
+use Rattle.vte.specs.Frames.{IsFrame, Leads}
+use Rattle.vt100_picture.specs.Term.{Size, shown_of}
 use Rattle.vt100_state.specs.Shown.{shown_state}
 use Rattle.termrelay.specs.Frame.{is_unsure}
 use Rattle.termview.specs.Seen.{seen}
+use Rattle.faithful.specs.Judge.{judged, IsSure}
+use Rattle.faithful.specs.Headline.{last_read}
+use Rattle.faithful.specs.Logged.{AreShort}
 use Rattle.relay_streams.specs.Frames.{state_after}
 use Rattle.relay_streams.specs.Pieces.{pieces_of}
 use Rattle.relay_streams.specs.Sessions.{IsRelayText}
@@ -20,6 +24,15 @@ abbrev pub WholeFramesArePrinted : Type 0
 WholeFramesArePrinted = (z : Size) (frames : List (List ℕ)) (text : List ℕ)
     → All IsFrame frames → IsShown z (pieces_of (concat frames)) text
     → text ≡ screen_text z (seen z (concat frames)).cell
+
+-- Any front of what is relayed, in whatever pieces it comes: a new view of the size, which has parsed so much of it,
+-- shows what the judge says of the last frame that lies wholly in it; where each frame is below the hold's limit, unless
+-- that one wasn't sure.
+abbrev pub RelayedFrontsAreShown : Type 0
+RelayedFrontsAreShown = (rows cols : ℕ) (input relayed beyond parsed : List ℕ) (pieces : List (List ℕ))
+    (hold : Option (List ℕ)) (r : IsRelayText rows cols input relayed) → concat pieces ++ beyond ≡ relayed
+    → Leads (map Gives pieces) [] None parsed hold → AreShort r.story → IsSure (last_read r.story pieces)
+    → shown_of (seen (sized rows cols) parsed) ≡ judged rows cols (last_read r.story pieces)
 
 -- what is relayed is printed, in whatever pieces it comes, as the text of the screen that the whole input makes, unless
 -- that shows U+FE0F

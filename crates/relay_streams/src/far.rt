@@ -1,12 +1,12 @@
 //! What a far terminal makes of a run's bytes, which reach it in pieces.
 
-ghost use Rattle.std.specs.Prelude.{◌≡◌, ℕ, List, [], Option, None, Err, map, take, IfOk, OnErr};
+ghost use Rattle.std.specs.Prelude.{◌≡◌, ℕ, List, [], Option, None, Err, map, take, IfOk, IfSome, OnErr};
 ghost use Rattle.std.specs.List.{list_any};
 ghost use Rattle.vte.specs.Moves.{Gives};
 ghost use Rattle.vte.specs.Frames.{Leads};
 ghost use Rattle.termrelay.specs.Calls.{call_of};
 ghost use Rattle.termview.specs.Standing.{HoldsAt, size_of};
-ghost use Rattle.relay_streams.specs.Far.{IsFarView, is_starved as starved};
+ghost use Rattle.relay_streams.specs.Far.{IsFarView, ShowsJudged, is_starved as starved};
 ghost use Rattle.relay_streams.specs.Led.{Led, answers};
 ghost use Rattle.relay_streams.specs.Pieces.{cut_by};
 ghost use Rattle.relay_streams.specs.declared.error.RelayError.TheVariants.{Memory};
@@ -24,6 +24,10 @@ use termview::{UntilCleared, View};
 /// bytes that were pumped to the session, or all where there are fewer, in pieces of the lengths `cuts`, each cut to
 /// what is left, and then the rest. There is none where the run began no such session. It is refused only for memory,
 /// also where a call of the run was.
+///
+/// The view shows what the program's bytes and the resizes had made when the last frame was taken that lies wholly in
+/// the bytes given, else a blank screen (`shows`): so where each frame of the session is below 2,097,151 bytes, or the
+/// bytes end with a frame, unless that frame's screen showed U+FE0F.
 pub fn far_view(
     alloc: Global,
     rows: NonZeroU16,
@@ -35,6 +39,8 @@ pub fn far_view(
 ) -> Result<Option<View<UntilCleared>>, RelayError>
     ensures view { IfOk result (λ found. IsFarView rows.value cols.value (map call_of calls.now) session take cuts.now
         found) }
+    ensures shows { IfOk result (λ found. IfSome found (ShowsJudged rows.value cols.value (map call_of calls.now) session
+        take)) }
     ensures memory { OnErr result (result ≡ Err Memory) }
 {
     let mut hub = Hub::new(alloc, rows, cols)?;

@@ -1,6 +1,6 @@
 //! Laws of what is shown, each as the contract of a function that does nothing.
 ghost use Rattle.relay_streams.specs.Far.{FarViewsShow};
-ghost use Rattle.relay_streams.specs.Laws.{RelayedIsShown, TextsAreOne, WholeFramesArePrinted};
+ghost use Rattle.relay_streams.specs.Laws.{RelayedFrontsAreShown, RelayedIsShown, TextsAreOne, WholeFramesArePrinted};
 ghost use Rattle.relay_streams.specs.Sessions.{EachRelayIsASession, EachRelayIsPumped, RelayedAreOne, RelayTextsAreOne};
 
 /// What `show` writes is a function of the size and of what it reads.
@@ -17,6 +17,13 @@ pub fn whole_frames_are_printed()
 /// that the input makes, unless that screen shows U+FE0F.
 pub fn relayed_is_shown()
     ensures { RelayedIsShown }
+{}
+
+/// Of any front of what `relay` writes, in whatever pieces it comes, a view shows what the input's first pieces had made
+/// when the last frame was taken that lies wholly in it, or a blank screen: so where each frame is below the hold's
+/// limit, and that screen showed no U+FE0F.
+pub fn relayed_fronts_are_shown()
+    ensures { RelayedFrontsAreShown }
 {}
 
 /// What a view of `far_view` shows is what the judge says of the calls and their replies: what the program's bytes and

@@ -1,10 +1,10 @@
-use Rattle.std.proofs.Common.{◌≡◌, ◌∙◌, List, false, None, Some, map, ap, sym, subst}
+use Rattle.std.proofs.Common.{◌≡◌, ◌∙◌, List, false, None, Some, map, ap, sym, subst, arith}
 use Rattle.std.specs.List.{list_any, slice_get}
 use Rattle.termrelay.specs.Calls.{call_of}
 use Rattle.termrelay.specs.Log.{LogView, SessionView, MadeAll, empty_log}
 use Rattle.termrelay.specs.declared.call.Reply.{Reply}
 use Rattle.relay_streams.specs.Far.{is_starved}
-use Rattle.relay_streams.proofs.FarLemmas.{at-get, past-get, none-found, one-found}
+use Rattle.relay_streams.proofs.FarLemmas.{at-get, past-get, none-found, one-found, shows-judged}
 use Rattle.relay_streams.proofs.far.far_view.Goals as goal
 
 pub returns-clause-view : goal.returns-clause-view
@@ -24,8 +24,8 @@ returns-clause-view c =
     none-found c.args.rows.value c.args.cols.value calls h g m c.in_ok-hub.ensures.new ran fed c.args.session
     c.args.take c.args.cuts.now is
 
-pub returns-in-Some-clause-view : goal.returns-in-Some-clause-view
-returns-in-Some-clause-view c =
+pub returns-in-Some : goal.returns-in-Some
+returns-in-Some c =
     let m = c.run.new.log in
     let h = c.in_ok-hub.hub in
     let g = c.run.new.hub in
@@ -42,6 +42,14 @@ returns-in-Some-clause-view c =
     ap (λ (xs : List SessionView). slice_get xs c.args.session) (sym c.sessions.ensures)
     ∙ at-get c.sessions.result.now c.args.session s lookup.3.0 ∙ ap (λ (x : SessionView). Some x) (sym lookup.1) in
     let stands = c.in_ok-view_session-in-Some.ensures.stands in
-    one-found c.args.rows.value c.args.cols.value calls h g m c.in_ok-hub.ensures.new ran fed c.args.session
-    c.args.take c.args.cuts.now s v stands.0 stands.1 is stands.2 stands.3 c.in_ok-view_session-in-Some.ensures.rows
-    c.in_ok-view_session-in-Some.ensures.cols
+    let rows = c.args.rows.value in
+    let cols = c.args.cols.value in
+    let found = one-found rows cols calls h g m c.in_ok-hub.ensures.new ran fed c.args.session c.args.take
+    c.args.cuts.now s v stands.0 stands.1 is stands.2 stands.3 c.in_ok-view_session-in-Some.ensures.rows
+    c.in_ok-view_session-in-Some.ensures.cols in
+    record {
+      view = found;
+      shows = shows-judged rows cols calls c.args.session c.args.take c.args.cuts.now v (c.args.rows.ok, omega arith)
+          (c.args.cols.ok, omega arith) found;
+      memory = tt;
+    }
