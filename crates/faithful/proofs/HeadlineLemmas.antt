@@ -26,10 +26,12 @@ use Rattle.termrelay.specs.Calls.{Call}
 use Rattle.termrelay.specs.declared.call.Reply.{Reply}
 use Rattle.termrelay.specs.Hub.{clients_in}
 use Rattle.faithful.specs.History.{Entry, Story, size_of_story}
-use Rattle.faithful.specs.Judge.{state_at, size_at, shown_at, texts, frame_or, last_frame, last_whole, judged, IsSure}
+use Rattle.faithful.specs.Judge.{state_at, size_at, shown_at, texts, frame_or, last_frame, whole_in, last_whole}
+use Rattle.faithful.specs.Judge.{judged, IsSure}
 use Rattle.faithful.specs.Laws.{base_then, IsAnswered, AreAnswered, IsTold}
 use Rattle.faithful.specs.Headline.{EachTextIsAFrame, WholeFramesAreShown, LastWholeFrameIsShown, NoFrameIsTorn}
-use Rattle.faithful.specs.Headline.{Reads, last_read, OneMomentShowsTheSame}
+use Rattle.faithful.specs.Headline.{Reads, last_read, whole_read, ReadsWhole, OneMomentShowsTheSame}
+use Rattle.faithful.specs.Headline.{OneMomentShowsTheSameWhole}
 use Rattle.faithful.proofs.HistoryLemmas.{sessions-told}
 use Rattle.faithful.proofs.ScreenLemmas.{IsShot, shot-made, IsShotBase}
 use Rattle.faithful.proofs.FrameSteps.{text-frame, frame-read, frame-ends}
@@ -241,6 +243,18 @@ module _ (rows cols : ℕ) (z : Size) (height : IsSide z.rows) (width : IsSide z
       let t : nat_le (length e.text) k ≡ false = le-false (length e.text) k h in
       rw t refl
 
+  in-more : (e : Entry) (es : List Entry) (k more : ℕ) → k ≡ length e.text + more
+      → whole_in (e ∷ es) k ≡ e ∷ whole_in es more
+  in-more e es k more h =
+      let t : nat_le (length e.text) k ≡ true = le-true (length e.text) k (omega (arith, h)) in
+      let m : k - length e.text ≡ more = omega (arith, h) in
+      rw (t, m) refl
+
+  in-stops : (e : Entry) (es : List Entry) (k : ℕ) → k < length e.text → whole_in (e ∷ es) k ≡ []
+  in-stops e es k h =
+      let t : nat_le (length e.text) k ≡ false = le-false (length e.text) k h in
+      rw t refl
+
   abbrev Goes : List Entry → Type 0
   Goes es = (last : Option Entry) (past : List ℕ) (whole rest : List (List ℕ)) (p : List ℕ) → HasRead last past
       → AreAnswered rows cols z (base_of last) es → frame_texts es ≡ whole ++ rest → IsPart p rest
@@ -291,6 +305,46 @@ module _ (rows cols : ℕ) (z : Size) (height : IsSide z.rows) (width : IsSide z
   read-front (e ∷ es) last past whole rest p h k cut part =
       front-by (is_frame e.answer) e es (read-front es) refl last past whole rest p h k cut part
 
+  -- the whole frames' texts are those of the entries that lie wholly in the bytes
+  abbrev Covers : List Entry → Type 0
+  Covers es = (last : Option Entry) (whole rest : List (List ℕ)) (p : List ℕ) → AreAnswered rows cols z (base_of last) es
+      → frame_texts es ≡ whole ++ rest → IsPart p rest → texts (whole_in es (length (concat whole ++ p))) ≡ concat whole
+
+  covers-by : (frame : Bool) (e : Entry) (es : List Entry) → Covers es → is_frame e.answer ≡ frame
+      → (last : Option Entry) (whole rest : List (List ℕ)) (p : List ℕ)
+      → AreAnswered rows cols z (base_of last) (e ∷ es) → frames_by frame e (frame_texts es) ≡ whole ++ rest
+      → IsPart p rest → texts (whole_in (e ∷ es) (length (concat whole ++ p))) ≡ concat whole
+  covers-by false e es go f last whole rest p k cut part =
+      let none = entry-none last e k.0 f in
+      let n = length (concat whole ++ p) in
+      ap texts (in-more e es n n (omega (arith, ap length none)))
+      ∙ ap (λ xs. xs ++ texts (whole_in es n)) none
+      ∙ go (frame_or last e) whole rest p (later last e es k) cut part
+  covers-by true e es go f last [] rest p k cut part =
+      let begun : IsPart p (e.text ∷ frame_texts es) = subst (λ r. IsPart p r) (sym cut) part in
+      ap texts (in-stops e es (length p) (not-whole p e.text begun.0 begun.1 begun.2))
+  covers-by true e es go f last (w ∷ whole) rest p k cut part =
+      let head : e.text ≡ w = cc in
+      let tails : frame_texts es ≡ whole ++ rest = cc in
+      let n = length (concat whole ++ p) in
+      let count : length ((w ++ concat whole) ++ p) ≡ length e.text + n =
+      omega (
+        arith,
+        ap length head,
+        length-append (w ++ concat whole) p,
+        length-append w (concat whole),
+        length-append (concat whole) p,
+      ) in
+      ap texts (in-more e es (length ((w ++ concat whole) ++ p)) n count)
+      ∙ ap (λ xs. e.text ++ xs) (go (frame_or last e) whole rest p (later last e es k) tails part)
+      ∙ ap (λ xs. xs ++ concat whole) head
+
+  covers : (es : List Entry) → Covers es
+  covers [] last [] rest p k cut part = refl
+  covers [] last (w ∷ whole) rest p k cut part = absurd (cc)
+  covers (e ∷ es) last whole rest p k cut part =
+      covers-by (is_frame e.answer) e es (covers es) refl last whole rest p k cut part
+
   -- ---- in pieces
 
   each-short : (es : List Entry) → AllByRecursion (λ e. length e.text < limit) es
@@ -337,9 +391,28 @@ module _ (rows cols : ℕ) (z : Size) (height : IsSide z.rows) (width : IsSide z
         shows = out.shows;
       }
 
+  -- the view shows just these entries' texts
+  pub front-seen : (es : List Entry) (pieces : List (List ℕ)) (beyond parsed : List ℕ) (hold : Option (List ℕ))
+      → AreAnswered rows cols z None es → concat pieces ++ beyond ≡ texts es
+      → AllByRecursion (λ e. length e.text < limit) es → Leads (map Gives pieces) [] None parsed hold
+      → seen z parsed ≡ seen z (texts (whole_in es (length (concat pieces))))
+  front-seen es pieces beyond parsed hold k e short leads =
+      let joined = frames-joined None es k in
+      let all-short = frames-all (λ text. length text < limit) es (each-short es short) in
+      let out = none_torn z (frame_texts es) pieces beyond [] parsed hold (ground-nothing 1024)
+      (All-from_recursion IsFrame (frame_texts es) (frames-are es k))
+      (All-from_recursion (λ text. length text < limit) (frame_texts es) all-short) (e ∙ sym joined) leads in
+      out.shows
+      ∙ ap (seen z) (sym (covers es None out.whole out.rest out.part k out.frames_are out.is_part))
+      ∙ ap (λ bytes. seen z (texts (whole_in es (length bytes)))) (sym out.bytes_are)
+
   pub front-shown : (last : Option Entry) (parsed : List ℕ) → IsFront last parsed → IsSure last
       → shown_of (seen z parsed) ≡ judged rows cols last
   front-shown last parsed h sure = ap shown_of h.shows ∙ judged-shown last h.whole h.read sure
+
+  pub last-size : (es : List Entry) (e : Entry) → AreAnswered rows cols z None es → last_frame None es ≡ Some e
+      → size_at rows cols e ≡ z
+  last-size es e k is = (subst Known is (read-all None es [] read-nothing k).known).2
 
   pub front-size : (last : Option Entry) (e : Entry) (parsed : List ℕ) → IsFront last parsed → last ≡ Some e
       → size_at rows cols e ≡ z
@@ -388,10 +461,21 @@ size-then rows cols calls replies n t pieces parsed e r is =
     front-size rows cols (size_of_story t) h.height h.width (last_read t pieces) e parsed
     (front-of rows cols calls replies n t pieces parsed (clients_in r.session.hub) r h) is
 
+seen-then : (rows cols : ℕ) (calls : List Call) (replies : List Reply) (n : ℕ) (t : Story) (pieces : List (List ℕ))
+    (parsed : List ℕ) → Reads rows cols calls replies n t pieces parsed
+    → seen (size_of_story t) parsed ≡ seen (size_of_story t) (texts (whole_read t pieces))
+seen-then rows cols calls replies n t pieces parsed r =
+    let h = sessions-told rows cols calls replies n t r.session in
+    let all : concat pieces ++ (r.beyond ++ h.left) ≡ texts t.entries =
+    sym (append_assoc (concat pieces) r.beyond h.left) ∙ ap (λ xs. xs ++ h.left) r.pumped ∙ h.front in
+    front-seen rows cols (size_of_story t) h.height h.width t.entries pieces (r.beyond ++ h.left) parsed r.hold h.entries all
+    r.short r.leads
+
 pub none-torn : NoFrameIsTorn
-none-torn rows cols calls replies n t pieces more parsed parsed' r q same sure =
-    last-shown rows cols calls replies n t (pieces ++ more) parsed' q (subst IsSure (sym same) sure)
-    ∙ ap (judged rows cols) same ∙ sym (last-shown rows cols calls replies n t pieces parsed r sure)
+none-torn rows cols calls replies n t pieces more parsed parsed' r q same =
+    ap shown_of (seen-then rows cols calls replies n t (pieces ++ more) parsed' q
+    ∙ ap (λ es. seen (size_of_story t) (texts es)) same
+    ∙ sym (seen-then rows cols calls replies n t pieces parsed r))
 
 pub moments-same : OneMomentShowsTheSame
 moments-same rows cols calls replies n m t u pieces others parsed parsed' e f r q is are same sure sure' = (
@@ -403,4 +487,33 @@ moments-same rows cols calls replies n m t u pieces others parsed parsed' e f r 
       ∙ ap (λ acts. shown_state (made rows cols 0 acts)) same
       ∙ ap (judged rows cols) (sym are)
       ∙ sym (last-shown rows cols calls replies m u others parsed' q (subst IsSure (sym are) sure')),
+)
+
+-- ---- whole frames alone
+
+whole-size : (rows cols : ℕ) (calls : List Call) (replies : List Reply) (n : ℕ) (t : Story) (front : List Entry)
+    (parsed : List ℕ) (e : Entry) → ReadsWhole rows cols calls replies n t front parsed → last_frame None front ≡ Some e
+    → size_at rows cols e ≡ size_of_story t
+whole-size rows cols calls replies n t front parsed e r is =
+    let h = sessions-told rows cols calls replies n t r.session in
+    let entries = answered-front rows cols (size_of_story t) None front r.back
+    (subst (AreAnswered rows cols (size_of_story t) None) r.parts h.entries) in
+    last-size rows cols (size_of_story t) h.height h.width front e entries is
+
+whole-judged : (rows cols : ℕ) (calls : List Call) (replies : List Reply) (n : ℕ) (t : Story) (front : List Entry)
+    (parsed : List ℕ) → ReadsWhole rows cols calls replies n t front parsed → IsSure (last_frame None front)
+    → shown_of (seen (size_of_story t) parsed) ≡ judged rows cols (last_frame None front)
+whole-judged rows cols calls replies n t front parsed r sure =
+    (wholes-shown rows cols calls replies n t front r.back r.moves parsed r.hold r.session r.parts r.given r.leads).1 sure
+
+pub moments-whole : OneMomentShowsTheSameWhole
+moments-whole rows cols calls replies n m t u front others parsed parsed' e f r q is are same sure sure' = (
+  sym (whole-size rows cols calls replies n t front parsed e r is)
+      ∙ ap (λ acts. size_of (made rows cols 0 acts).shown) same
+      ∙ whole-size rows cols calls replies m u others parsed' f q are,
+  whole-judged rows cols calls replies n t front parsed r (subst IsSure (sym is) sure)
+      ∙ ap (judged rows cols) is
+      ∙ ap (λ acts. shown_state (made rows cols 0 acts)) same
+      ∙ ap (judged rows cols) (sym are)
+      ∙ sym (whole-judged rows cols calls replies m u others parsed' q (subst IsSure (sym are) sure')),
 )

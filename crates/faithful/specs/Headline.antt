@@ -11,7 +11,7 @@ use Rattle.termview.specs.Seen.{seen}
 use Rattle.termrelay.specs.Calls.{Call}
 use Rattle.termrelay.specs.declared.call.Reply.{Reply}
 use Rattle.faithful.specs.History.{Entry, Story, size_of_story}
-use Rattle.faithful.specs.Judge.{texts, last_frame, last_whole, judged, IsSure}
+use Rattle.faithful.specs.Judge.{texts, last_frame, whole_in, last_whole, judged, IsSure}
 use Rattle.faithful.specs.Laws.{IsSession}
 
 -- each text of a session's frames is a frame to whoever reads it
@@ -52,19 +52,43 @@ LastWholeFrameIsShown = (rows cols : ℕ) (calls : List Call) (replies : List Re
     (pieces : List (List ℕ)) (parsed : List ℕ) → Reads rows cols calls replies n t pieces parsed
     → IsSure (last_read t pieces) → shown_of (seen (size_of_story t) parsed) ≡ judged rows cols (last_read t pieces)
 
--- so a view that reads more, but no whole frame more, shows the same
+-- the entries that lie wholly in the pieces
+abbrev pub whole_read : Story → List (List ℕ) → List Entry
+whole_read t pieces = whole_in t.entries (length (concat pieces))
+
+-- A view that reads more, but no whole frame more, shows the same; also where the last one wasn't sure.
 abbrev pub NoFrameIsTorn : Type 0
 NoFrameIsTorn = (rows cols : ℕ) (calls : List Call) (replies : List Reply) (n : ℕ) (t : Story)
     (pieces more : List (List ℕ)) (parsed parsed' : List ℕ) → Reads rows cols calls replies n t pieces parsed
-    → Reads rows cols calls replies n t (pieces ++ more) parsed' → last_read t (pieces ++ more) ≡ last_read t pieces
-    → IsSure (last_read t pieces) → shown_of (seen (size_of_story t) parsed') ≡ shown_of (seen (size_of_story t) parsed)
+    → Reads rows cols calls replies n t (pieces ++ more) parsed' → whole_read t (pieces ++ more) ≡ whole_read t pieces
+    → shown_of (seen (size_of_story t) parsed') ≡ shown_of (seen (size_of_story t) parsed)
 
--- and views of two sessions whose last frames were taken at one moment show the same
+-- Views of two sessions whose last whole frames were taken at one moment show the same.
 abbrev pub OneMomentShowsTheSame : Type 0
 OneMomentShowsTheSame = (rows cols : ℕ) (calls : List Call) (replies : List Reply) (n m : ℕ) (t u : Story)
     (pieces others : List (List ℕ)) (parsed parsed' : List ℕ) (e f : Entry)
     → Reads rows cols calls replies n t pieces parsed → Reads rows cols calls replies m u others parsed'
     → last_read t pieces ≡ Some e → last_read u others ≡ Some f → e.moment ≡ f.moment
+    → (e.answer ≡ Unsure → ⊥) → (f.answer ≡ Unsure → ⊥)
+    → (size_of_story t ≡ size_of_story u)
+    × (shown_of (seen (size_of_story t) parsed) ≡ shown_of (seen (size_of_story u) parsed'))
+
+-- So do views that have read whole frames alone, whatever their lengths and wherever updates were stopped by hand.
+pub record ReadsWhole (rows cols : ℕ) (calls : List Call) (replies : List Reply) (n : ℕ) (t : Story)
+    (front : List Entry) (parsed : List ℕ) : Type 0 where
+  pub session : IsSession rows cols calls replies n t
+  pub back : List Entry
+  pub parts : t.entries ≡ front ++ back
+  pub moves : List Move
+  pub given : given moves ≡ texts front
+  pub hold : Option (List ℕ)
+  pub leads : Leads moves [] None parsed hold
+
+abbrev pub OneMomentShowsTheSameWhole : Type 0
+OneMomentShowsTheSameWhole = (rows cols : ℕ) (calls : List Call) (replies : List Reply) (n m : ℕ) (t u : Story)
+    (front others : List Entry) (parsed parsed' : List ℕ) (e f : Entry)
+    → ReadsWhole rows cols calls replies n t front parsed → ReadsWhole rows cols calls replies m u others parsed'
+    → last_frame None front ≡ Some e → last_frame None others ≡ Some f → e.moment ≡ f.moment
     → (e.answer ≡ Unsure → ⊥) → (f.answer ≡ Unsure → ⊥)
     → (size_of_story t ≡ size_of_story u)
     × (shown_of (seen (size_of_story t) parsed) ≡ shown_of (seen (size_of_story u) parsed'))

@@ -32,11 +32,14 @@ abbrev pub last_frame : Option Entry → List Entry → Option Entry
 last_frame last [] = last
 last_frame last (e ∷ es) = last_frame (frame_or last e) es
 
--- the last one that lies wholly in the first k bytes
+-- the entries whose texts lie wholly in the first k bytes
+abbrev pub whole_in : List Entry → ℕ → List Entry
+whole_in [] k = []
+whole_in (e ∷ es) k = if nat_le (length e.text) k then e ∷ whole_in es (k - length e.text) else []
+
+-- the last frame of these
 abbrev pub last_whole : Option Entry → List Entry → ℕ → Option Entry
-last_whole last [] k = last
-last_whole last (e ∷ es) k =
-    if nat_le (length e.text) k then last_whole (frame_or last e) es (k - length e.text) else last
+last_whole last es k = last_frame last (whole_in es k)
 
 -- what was shown at its moment, or a blank screen
 abbrev pub judged : ℕ → ℕ → Option Entry → Shown

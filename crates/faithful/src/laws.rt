@@ -4,7 +4,7 @@ ghost use Rattle.faithful.specs.Examples.{EachExampleIsTold};
 ghost use Rattle.faithful.specs.History.{as_told};
 ghost use Rattle.faithful.specs.Laws.{EachSessionIsTold, EachClientHasASession};
 ghost use Rattle.faithful.specs.Headline.{EachTextIsAFrame, WholeFramesAreShown, LastWholeFrameIsShown, NoFrameIsTorn};
-ghost use Rattle.faithful.specs.Headline.{OneMomentShowsTheSame};
+ghost use Rattle.faithful.specs.Headline.{OneMomentShowsTheSame, OneMomentShowsTheSameWhole};
 ghost use Rattle.faithful.specs.Serves.{EachPumpTakesAsTold, EachPumpIsServed, EachRunHasAHistory, EachLogHasAHistory};
 ghost use Rattle.faithful.specs.Serves.{EachHistoryIsOne};
 ghost use Rattle.faithful.specs.Logged.{EachLoggedReadIsARead, LoggedFramesAreShown};
@@ -40,13 +40,16 @@ pub fn last_whole_frames_are_shown()
 {}
 
 /// A view that reads more of the bytes, but no whole frame more, goes on showing the same: no frame is shown in part.
+/// So also where the last whole frame showed U+FE0F.
 pub fn no_frame_is_torn()
     ensures { NoFrameIsTorn }
 {}
 
-/// Views of two sessions whose last whole frames were taken at one moment show the same.
+/// Views of two sessions whose last whole frames were taken at one moment show the same: where each frame is below the
+/// hold's limit, and where whole frames alone were read, whatever their lengths.
 pub fn one_moment_shows_the_same()
-    ensures { OneMomentShowsTheSame }
+    ensures pieces { OneMomentShowsTheSame }
+    ensures whole { OneMomentShowsTheSameWhole }
 {}
 
 /// A short history, whatever fault its writer has, and where the judge says that its one frame is whole.
