@@ -1,13 +1,12 @@
 -- What an order writes, where the source and the writer tell their bytes.
-use Rattle.std.proofs.Common.{ℕ, List, Option, Ok, Err, Result, OnOk, IfSome, refl}
+use Rattle.std.proofs.Common.{ℕ, ◌<◌, ◌^◌, List, Option, Ok, Err, Result, OnOk, IfSome}
 use Rattle.std.specs.declared.io.Error.{Error}
 use Rattle.std.specs.Io.KnownBytes.{Appends, Keeps}
 use Rattle.takers.specs.Pump.{Writes}
 use Rattle.relay_streams.specs.declared.error.RelayError.{RelayError}
 use Rattle.relay_streams.specs.Fill.{Reads}
-use Rattle.vt100_state.specs.Holds.{IsSide}
 use Rattle.relay_streams.specs.Shown.{sized}
-use Rattle.relay_streams.proofs.OutcomeLemmas.{if_known, known_if, relays-text, shows-text}
+use Rattle.relay_streams.proofs.OutcomeLemmas.{relays-text, shows-text}
 use Rattle.screenrelay.specs.declared.words.Job.{Job}
 use Rattle.screenrelay.specs.declared.words.Job.TheVariants.{Relay, Show}
 use Rattle.screenrelay.specs.Command.{DoesBy, WantsBy}
@@ -24,7 +23,8 @@ module _ (S W : Type 0) (gives : S → ℕ → Result (List ℕ) Error → S →
   where
     -- an order that was carried out
     pub does-text : (job : Job) (rows cols : ℕ) (s : S) (w : W) (answer : Result (Unit {0}) RelayError) (t : S) (v : W)
-        → IsSide rows → IsSide cols → DoesBy gives takes flushes job rows cols s w answer t v
+        → (0 < rows) × (rows < 2 ^ 16) → (0 < cols) × (cols < 2 ^ 16)
+        → DoesBy gives takes flushes job rows cols s w answer t v
         → OnOk answer (IfSome (left s) (λ bytes. (text : List ℕ) × WantsBy job rows cols bytes text
         × Appends (contents w) (contents v) text))
     does-text Relay rows cols s w answer t v height width r =
