@@ -6,3 +6,4 @@ pub mod HeadlineLemmas
 pub mod ServesLemmas
 pub mod OneHistory
 pub mod LoggedLemmas
+pub mod IsolationLemmas

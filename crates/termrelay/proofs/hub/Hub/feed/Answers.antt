@@ -1,10 +1,8 @@
-use Rattle.std.proofs.Common.{◌≡◌, ℕ, List, [], ◌∷◌, length, ap, sym, ◌∙◌, refl, arith, true, false, Err}
+use Rattle.std.proofs.Common.{◌≡◌, ℕ, List, [], ◌∷◌, length, ap, sym, ◌∙◌, refl, arith, false}
 use Rattle.std.proofs.lemmas.Bool.{eqb-true}
 use Rattle.slab.specs.Slab.{get}
 use Rattle.vt100_state.specs.Made.{Fed}
-use Rattle.vt100.specs.declared.error.ScreenError.{ScreenError}
-use Rattle.vt100.specs.declared.error.ScreenError.TheVariants as screen
-use Rattle.termrelay.specs.Hub.{HubState, as_kept, GoesOn, FailsAt, Feeds, is_failed, clients_in, refusal_of}
+use Rattle.termrelay.specs.Hub.{HubState, as_kept, GoesOn}
 use Rattle.termrelay.proofs.MadeLemmas.{fed-made, fed-size, nothing-fed}
 use Rattle.termrelay.proofs.HubLemmas.{served-still}
 use Rattle.termrelay.proofs.hub.Hub.feed.Goals as goal
@@ -19,12 +17,6 @@ returns-then-is_empty c =
     let none = no-bytes c.args.bytes.now
     (eqb-true (length c.args.bytes.now) 0 (sym c.is_empty.ensures ∙ c.if-is_empty.true)) in
     (live, live, refl, nothing-fed c.args.self.now.parser c.args.bytes.now none)
-
-refused-feed : (h g : HubState as_kept) (bytes : List ℕ) (e : ScreenError) → is_failed h ≡ false
-    → clients_in g ≡ clients_in h → (e ≡ screen.Memory → FailsAt h.parser bytes g.parser)
-    → (e ≡ screen.Failed → is_failed h ≡ true) → Feeds h bytes (Err (refusal_of e)) g
-refused-feed h g bytes screen.Memory live same fails dead = (live, fails refl, same)
-refused-feed h g bytes screen.Failed live same fails dead = absurd (let no : false ≡ true = sym live ∙ dead refl in cc)
 
 pub invariant_of-self-2 : goal.invariant_of-self-2
 invariant_of-self-2 c =
