@@ -25,16 +25,18 @@ use Rattle.termrelay.specs.Hub.{HubState, screen_in, size_in, shown_in, with_cli
 use Rattle.termrelay.specs.Hub.{Feeds, Resizes, Attaches, DetachesFrom, CanFrame, Framed, PumpsFrom, clients_in}
 use Rattle.termrelay.specs.Calls.{Call, Feed, Resize, Attach, Detach, Frame, Pump, IsCall, taken_by, WritesAsTold}
 use Rattle.termrelay.specs.Calls.{done, replied, Serves}
-use Rattle.termrelay.specs.Log.{change_last, begun, ended, grown, bytes_taken}
+use Rattle.termrelay.specs.Log.{SessionView, LogView, change_last, begun, ended, grown, bytes_taken}
 use Rattle.termrelay.proofs.ScriptLemmas.{taken-as-told}
 use Rattle.faithful.specs.History.{Past, as_told, fresh, Entry, Story, is_on, with_session, with_entries}
 use Rattle.faithful.specs.History.{entries_of, stories_after, RunsTold}
 use Rattle.faithful.specs.Laws.{AtMostOne, IsSession}
 use Rattle.faithful.specs.Isolation.{is_starved, Own, Acts, Comes, Asks, Pumped, Leaves, acts_of, own_at, ends}
-use Rattle.faithful.specs.Isolation.{own_then, own_of, own_calls, alone, AreAlike, SessionsAreIsolated, StandsAlone}
-use Rattle.faithful.specs.Isolation.{EachSessionStandsAlone}
+use Rattle.faithful.specs.Isolation.{own_then, own_of, own_calls, AreAlike, SessionsAreIsolated, IsLogged}
+use Rattle.faithful.specs.Isolation.{LoggedSessionsAreIsolated}
 use Rattle.faithful.proofs.StoryLemmas.{pick, only-changed, other-key, at-key, at-other, at-known}
 use Rattle.faithful.proofs.HistoryLemmas.{IsKept, call-kept, fresh-kept}
+use Rattle.faithful.proofs.ServesLemmas.{logs-follow}
+use Rattle.faithful.proofs.LoggedLemmas.{IsHistory, story-at}
 
 -- ---- lists
 
@@ -79,23 +81,23 @@ pub record Life : Type 0 where
   pub entries : List Entry
 
 -- a writer that is told of so can end a pump of these bytes
-abbrev CanPump : List Take → List ℕ → Type 0
+abbrev pub CanPump : List Take → List ℕ → Type 0
 CanPump takes owed =
     (end : Result (Unit {0}) Error) × (n : ℕ) × (rest : List Take) × Pumps WritesAsTold takes owed end n rest
 
 -- on a hub that was first of this size
 module _ (rows cols : ℕ) where
-  abbrev past : List Act → Past
+  abbrev pub past : List Act → Past
   past acts = record { rows = rows; cols = cols; acts = acts; failed = false }
 
-  abbrev story_of : ℕ → Bool → Life → Story
+  abbrev pub story_of : ℕ → Bool → Life → Story
   story_of key gone l = record {
     session = record { client = key; rows = l.rows; cols = l.cols; pumped = l.pumped; ended = gone };
     entries = l.entries;
   }
 
   -- it has just come
-  abbrev born : List Act → Life
+  abbrev pub born : List Act → Life
   born acts = record {
     acts = acts;
     client = new_client;
@@ -105,14 +107,14 @@ module _ (rows cols : ℕ) where
     entries = [];
   }
 
-  abbrev answer_now : Life → Answer
+  abbrev pub answer_now : Life → Answer
   answer_now l = answer_of (made rows cols 0 l.acts) l.client
 
-  abbrev client_by : Life → Answer → ClientState
+  abbrev pub client_by : Life → Answer → ClientState
   client_by l answer =
       after_answer (size_of (made rows cols 0 l.acts).shown) (shown_state (made rows cols 0 l.acts)) l.client answer
 
-  abbrev entry_by : Life → Answer → Entry
+  abbrev pub entry_by : Life → Answer → Entry
   entry_by l answer = record {
     moment = l.acts;
     answer = answer;
@@ -121,17 +123,17 @@ module _ (rows cols : ℕ) where
         else [];
   }
 
-  abbrev asked : Life → Answer → Life
+  abbrev pub asked : Life → Answer → Life
   asked l answer = record l { client = client_by l answer; entries = l.entries ++ entry_by l answer ∷ [] }
 
-  abbrev left_by : Life → ℕ → ClientState
+  abbrev pub left_by : Life → ℕ → ClientState
   left_by l n = record (l.client) { owed = drop n l.client.owed }
 
-  abbrev taken : Life → List Take → ℕ
+  abbrev pub taken : Life → List Take → ℕ
   taken l takes = taken_by takes (length l.client.owed)
 
   -- what it has after one of its own
-  abbrev lives : Life → Own → Life
+  abbrev pub lives : Life → Own → Life
   lives l (Acts act) = record l { acts = l.acts ++ act ∷ [] }
   lives l Comes = l
   lives l Asks = asked l (answer_now l)
@@ -140,18 +142,18 @@ module _ (rows cols : ℕ) where
   lives l Leaves = l
 
   -- after all of them, and whether it has ended
-  abbrev tell_on : Life → List Own → Life × Bool
+  abbrev pub tell_on : Life → List Own → Life × Bool
   tell_on l [] = (l, false)
   tell_on l (own ∷ owns) = if ends own then (lives l own, true) else tell_on (lives l own) owns
 
-  abbrev tell : List Act → List Own → Option (Life × Bool)
+  abbrev pub tell : List Act → List Own → Option (Life × Bool)
   tell acts [] = None
   tell acts (Acts act ∷ owns) = tell (acts ++ act ∷ []) owns
   tell acts (Comes ∷ owns) = Some (tell_on (born acts) owns)
   tell acts (own ∷ owns) = None
 
   -- all of them can be done
-  abbrev CanLive : Life → List Own → Type 0
+  abbrev pub CanLive : Life → List Own → Type 0
   CanLive l [] = Unit {0}
   CanLive l (Acts (Fed bytes) ∷ owns) = CanLive (lives l (Acts (Fed bytes))) owns
   CanLive l (Acts (Resized height width) ∷ owns) = (IsSide height × IsSide width) × (owns ≡ [])
@@ -160,7 +162,7 @@ module _ (rows cols : ℕ) where
   CanLive l (Pumped takes ∷ owns) = CanPump takes l.client.owed × CanLive (lives l (Pumped takes)) owns
   CanLive l (Leaves ∷ owns) = owns ≡ []
 
-  abbrev CanCome : List Act → List Own → Type 0
+  abbrev pub CanCome : List Act → List Own → Type 0
   CanCome acts [] = ⊥
   CanCome acts (Acts act ∷ owns) = IsAct act × CanCome (acts ++ act ∷ []) owns
   CanCome acts (Comes ∷ owns) = CanLive (born acts) owns
@@ -481,7 +483,7 @@ module _ (rows cols : ℕ) where
       can = refl;
     }
 
-  lives-run : (key n : ℕ) (l : Life) (h k : HubState as_told) (ts us : List Story) (calls : List Call)
+  pub lives-run : (key n : ℕ) (l : Life) (h k : HubState as_told) (ts us : List Story) (calls : List Call)
       (replies : List Reply) → IsKept h ts → Lives key n h ts l → list_any is_starved replies ≡ false
       → RunsTold h ts calls replies k us → EndsAs key n k us l (own_of key calls replies)
   lives-run key n l h k ts us [] [] kept s fed run = record {
@@ -787,10 +789,89 @@ module _ (rows cols : ℕ) where
       tt is serves first at
 
   -- the session of a run
-  session-found : (calls : List Call) (replies : List Reply) (n : ℕ) (t : Story)
+  pub session-found : (calls : List Call) (replies : List Reply) (n : ℕ) (t : Story)
       → (s : IsSession rows cols calls replies n t) → list_any is_starved replies ≡ false
       → Found [] (own_calls n calls replies) s.hub t
   session-found calls replies n t s fed =
       let place : 0 + n ≡ n = omega arith in
       come-run [] (fresh rows cols) s.hub [] s.stories calls replies n t
       (fresh-kept rows cols s.height s.width) refl fed s.ran (ap (λ i. slice_get s.stories i) place ∙ s.is)
+
+-- ---- two runs
+
+module _ (rows cols : ℕ) (t u : Story) (h k : HubState as_told) (owns : List Own) (a : Found rows cols [] owns h t)
+    (b : Found rows cols [] owns k u) where
+  abbrev these : Life × Bool
+  these = (a.life, a.gone)
+
+  abbrev those : Life × Bool
+  those = (b.life, b.gone)
+
+  same-lives : these ≡ those
+  same-lives = let both : Some these ≡ Some those = sym a.told ∙ b.told in cc
+
+  same-by : {A : Type 0} (f : Story → A) (part : Life × Bool → A)
+      → ((key : ℕ) (l : Life × Bool) → f (story_of rows cols key l.1 l.0) ≡ part l) → f t ≡ f u
+  same-by f part is = ap f a.is ∙ is a.key these ∙ ap part same-lives ∙ sym (is b.key those) ∙ sym (ap f b.is)
+
+  found-alike : AreAlike t.session u.session (clients_in h) (clients_in k)
+  found-alike = record {
+    rows = same-by (λ x. x.session.rows) (λ l. l.0.rows) (λ key l. refl);
+    cols = same-by (λ x. x.session.cols) (λ l. l.0.cols) (λ key l. refl);
+    pumped = same-by (λ x. x.session.pumped) (λ l. l.0.pumped) (λ key l. refl);
+    ended = same-by (λ x. x.session.ended) (λ l. l.1) (λ key l. refl);
+    clients = λ live.
+        let on : a.gone ≡ false = sym (ap (λ (x : Story). x.session.ended) a.is) ∙ live in
+        let also : b.gone ≡ false = sym (ap (λ l. l.1) same-lives) ∙ on in
+        ap (λ (x : Story). h.clients x.session.client) a.is ∙ a.client on
+        ∙ ap (λ l. Some (l.0.client)) same-lives
+        ∙ sym (ap (λ (x : Story). k.clients x.session.client) b.is ∙ b.client also);
+  }
+
+  found-answered : t.entries ≡ u.entries
+  found-answered = same-by (λ x. x.entries) (λ l. l.0.entries) (λ key l. refl)
+
+pub sessions-isolated : SessionsAreIsolated
+sessions-isolated rows cols calls others replies answers n m t u s z fed also same =
+    let owns = own_calls m others answers in
+    let a : Found rows cols [] owns s.hub t =
+    subst (λ own. Found rows cols [] own s.hub t) same (session-found rows cols calls replies n t s fed) in
+    let b = session-found rows cols others answers m u z also in
+    (found-alike rows cols t u s.hub z.hub owns a b, found-answered rows cols t u s.hub z.hub owns a b)
+
+-- ---- two logs
+
+-- a log's session, and its story
+pub record LoggedStory (rows cols : ℕ) (calls : List Call) (l : LogView) (n : ℕ) (s : SessionView)
+    (clients : ℕ → Option ClientState) : Type 0 where
+  pub story : Story
+  pub session : IsSession rows cols calls l.replies n story
+  pub logged : story.session ≡ s
+  pub kept : clients ≡ clients_in session.hub
+
+logged-story : (rows cols : ℕ) (calls : List Call) (l : LogView) (n : ℕ) (s : SessionView)
+    → (a : IsLogged rows cols calls l n s) → LoggedStory rows cols calls l n s (clients_in a.after)
+logged-story rows cols calls l n s a =
+    let all : IsHistory rows cols calls l.replies a.after l.sessions =
+    subst (λ replies. IsHistory rows cols calls replies a.after l.sessions) (sym a.ran.1)
+    (logs-follow rows cols calls a.ran.0 a.hub a.after l.sessions a.new a.ran.2) in
+    let found = story-at l.sessions all.1 n s all.4 a.is in
+    record {
+      story = found.story;
+      session =
+          record { height = a.height; width = a.width; hub = all.0; stories = all.1; ran = all.2; is = found.is };
+      logged = found.logged;
+      kept = all.3.clients;
+    }
+
+pub logged-isolated : LoggedSessionsAreIsolated
+logged-isolated rows cols calls others l k n m s z a b fed also same =
+    let x = logged-story rows cols calls l n s a in
+    let y = logged-story rows cols others k m z b in
+    let alike = (sessions-isolated rows cols calls others l.replies k.replies n m x.story y.story x.session y.session fed
+    also same).0 in
+    let these : AreAlike x.story.session y.story.session (clients_in a.after) (clients_in b.after) =
+    subst (λ c. AreAlike x.story.session y.story.session c (clients_in b.after)) (sym x.kept)
+    (subst (λ c. AreAlike x.story.session y.story.session (clients_in x.session.hub) c) (sym y.kept) alike) in
+    subst (λ v. AreAlike v z (clients_in a.after) (clients_in b.after)) x.logged
+    (subst (λ v. AreAlike x.story.session v (clients_in a.after) (clients_in b.after)) y.logged these)

@@ -7,3 +7,4 @@ pub mod ServesLemmas
 pub mod OneHistory
 pub mod LoggedLemmas
 pub mod IsolationLemmas
+pub mod AloneLemmas
