@@ -1,5 +1,5 @@
 -- A session's own calls can be made alone.
-use Rattle.std.proofs.Common.{◌≡◌, ◌∙◌, ℕ, Bool, true, false, ◌||◌, List, [], ◌∷◌, ◌++◌, map, Option, Some, None}
+use Rattle.std.proofs.Common.{◌≡◌, ◌∙◌, ℕ, false, ◌||◌, List, [], ◌∷◌, ◌++◌, map, Option, Some, None}
 use Rattle.std.proofs.Common.{Result, Ok, Err, refl, sym, ap, subst, if◌then◌else◌}
 use Rattle.std.specs.Prelude.{◌==◌, slice_get}
 use Rattle.std.specs.List.{list_any}
@@ -19,8 +19,9 @@ use Rattle.faithful.specs.Isolation.{is_starved, Own, Acts, Comes, Asks, Pumped,
 use Rattle.faithful.specs.Isolation.{alone, EachSessionStandsAlone}
 use Rattle.faithful.proofs.StoryLemmas.{at-key}
 use Rattle.faithful.proofs.HistoryLemmas.{IsKept, call-kept, fresh-kept}
-use Rattle.faithful.proofs.IsolationLemmas.{Life, past, story_of, born, answer_now, client_by, left_by, taken, lives}
-use Rattle.faithful.proofs.IsolationLemmas.{tell_on, CanLive, CanCome, Lives, EndsAs, lives-run, session-found}
+use Rattle.faithful.proofs.OwnLemmas.{Life, past, story_of, born, answer_now, client_by, left_by, taken, lives}
+use Rattle.faithful.proofs.OwnLemmas.{tell_on, CanLive, CanCome, Lives}
+use Rattle.faithful.proofs.OwnRunLemmas.{EndsAs, lives-run, session-found}
 
 -- however a pump ends, it wasn't refused for want of memory
 pump-fed : (end : Result (Unit {0}) Error) → is_starved (done (pump_answer end)) ≡ false
@@ -122,7 +123,8 @@ module _ (rows cols key : ℕ) where
       let after : now key ≡ Some (left (taken rows cols l takes)) =
       at-key clients key (Some (left m))
       ∙ ap (λ i. Some (left i)) (taken-as-told takes rest l.client.owed end m pumps) in
-      let r = goes-on (lives rows cols l (Pumped takes)) owns now (stories_after h (Pump key takes) reply ts) can after in
+      let us = stories_after h (Pump key takes) reply ts in
+      let r = goes-on (lives rows cols l (Pumped takes)) owns now us can after in
       record {
         replies = reply ∷ r.replies;
         hub = r.hub;

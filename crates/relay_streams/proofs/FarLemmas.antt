@@ -17,12 +17,13 @@ use Rattle.termview.specs.declared.until_cleared.UntilCleared.{UntilCleared}
 use Rattle.faithful.specs.History.{Story}
 use Rattle.faithful.specs.Judge.{last_whole, judged, IsSure}
 use Rattle.faithful.specs.Headline.{last_read}
+use Rattle.faithful.specs.Isolation.{is_starved}
 use Rattle.faithful.proofs.HeadlineLemmas.{last-shown}
 use Rattle.faithful.proofs.ServesLemmas.{logs-follow}
 use Rattle.faithful.proofs.LoggedLemmas.{story-at}
 use Rattle.relay_streams.specs.Led.{answers}
 use Rattle.relay_streams.specs.Pieces.{cut_by}
-use Rattle.relay_streams.specs.Far.{IsFarView, FarViewsShow, is_starved, last_given}
+use Rattle.relay_streams.specs.Far.{IsFarView, FarViewsShow, last_given}
 use Rattle.relay_streams.proofs.PieceLemmas.{concat-cut_by}
 
 -- ---- logs
