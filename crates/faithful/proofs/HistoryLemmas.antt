@@ -560,7 +560,7 @@ module _ (h g : HubState as_told) (ts : List Story) (k : IsKept h ts) where
       (slot-kept h key c (record c { owed = drop n c.owed }) (with_session (grown (take n c.owed))) at (λ m t. refl)
       (λ t i on. pumped-in h key c n t at i on) ts k)
 
-  call-kept : (call : Call) (reply : Reply) → IsCall call → Serves h call reply g → After call reply
+  pub call-kept : (call : Call) (reply : Reply) → IsCall call → Serves h call reply g → After call reply
   call-kept (Feed bytes) reply is (result, f, e) = feed-kept bytes result f
   call-kept (Resize rows cols) reply is (result, f, e) =
       subst (After (Resize rows cols)) (sym e) (resize-kept rows cols result is f)
@@ -648,7 +648,7 @@ run-kept h k ts us (call ∷ calls) (reply ∷ replies) kept (g, is, serves, lat
     (call-kept h g ts kept call reply is serves) later in
     (rest.0, rest.1 ∙ first.0, rest.2 ∙ first.1)
 
-fresh-kept : (rows cols : ℕ) → IsSide rows → IsSide cols → IsKept (fresh rows cols) []
+pub fresh-kept : (rows cols : ℕ) → IsSide rows → IsSide cols → IsKept (fresh rows cols) []
 fresh-kept rows cols height width = record {
   acts = record { height = height; width = width; few = omega arith; each = All-nil IsAct };
   each = tt;

@@ -6,3 +6,7 @@ pub mod HeadlineLemmas
 pub mod ServesLemmas
 pub mod OneHistory
 pub mod LoggedLemmas
+pub mod OwnLemmas
+pub mod OwnRunLemmas
+pub mod IsolationLemmas
+pub mod AloneLemmas

@@ -34,7 +34,7 @@ pub story-at : (ss : List SessionView) (ts : List Story) (n : ℕ) (s : SessionV
 story-at ss ts n s are e = found-at ts n s (ap (λ xs. slice_get xs n) are ∙ e)
 
 -- the log's sessions are those of a history of its replies
-abbrev IsHistory : ℕ → ℕ → List Call → List Reply → HubState as_kept → List SessionView → Type 0
+abbrev pub IsHistory : ℕ → ℕ → List Call → List Reply → HubState as_kept → List SessionView → Type 0
 IsHistory rows cols calls replies g ss =
     (u : HubState as_told) × (ts : List Story) × RunsTold (fresh rows cols) [] calls replies u ts × Matches g u
     × (map (λ t. t.session) ts ≡ ss)

@@ -5,3 +5,4 @@ pub mod Headline
 pub mod Examples
 pub mod Serves
 pub mod Logged
+pub mod Isolation

@@ -8,6 +8,7 @@ ghost use Rattle.faithful.specs.Headline.{OneMomentShowsTheSame, OneMomentShowsT
 ghost use Rattle.faithful.specs.Serves.{EachPumpTakesAsTold, EachPumpIsServed, EachRunHasAHistory, EachLogHasAHistory};
 ghost use Rattle.faithful.specs.Serves.{EachHistoryIsOne};
 ghost use Rattle.faithful.specs.Logged.{EachLoggedReadIsARead, LoggedFramesAreShown};
+ghost use Rattle.faithful.specs.Isolation.{SessionsAreIsolated, LoggedSessionsAreIsolated, EachSessionStandsAlone};
 
 use termrelay::Taker;
 
@@ -106,4 +107,21 @@ pub fn logged_reads_are_reads()
 /// in it, or a blank screen; so where each frame is below the hold's limit and that screen showed no U+FE0F.
 pub fn logged_frames_are_shown()
     ensures { LoggedFramesAreShown }
+{}
+
+/// What a session has depends on its own calls alone: the feeds and resizes, also those before it came, its attach, and
+/// the calls on its key while it lives, with what its writers were told to take. Two sessions of which these are the
+/// same are pumped the same bytes, get the same answers at the same moments, have the same size and have both ended or
+/// not; while they haven't, their clients are owed the same and were last shown the same. So whatever the other calls
+/// of the two runs were and whichever keys were given, where no call was refused for want of memory; and so of the
+/// sessions of two logs.
+pub fn sessions_are_isolated()
+    ensures told { SessionsAreIsolated }
+    ensures logged { LoggedSessionsAreIsolated }
+{}
+
+/// A session's own calls can be made on a new hub without any others, at any key, and are then those of its one
+/// session: so each session has what it would have, were the others left out.
+pub fn sessions_stand_alone()
+    ensures { EachSessionStandsAlone }
 {}

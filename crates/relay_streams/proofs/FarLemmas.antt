@@ -20,12 +20,13 @@ use Rattle.faithful.specs.History.{Entry, Story}
 use Rattle.faithful.specs.Judge.{texts, last_frame, last_whole, judged, IsSure}
 use Rattle.faithful.specs.Laws.{IsSession}
 use Rattle.faithful.specs.Headline.{last_read}
+use Rattle.faithful.specs.Isolation.{is_starved}
 use Rattle.faithful.proofs.HeadlineLemmas.{last-shown, wholes-shown}
 use Rattle.faithful.proofs.ServesLemmas.{logs-follow}
 use Rattle.faithful.proofs.LoggedLemmas.{story-at}
 use Rattle.relay_streams.specs.Led.{answers}
 use Rattle.relay_streams.specs.Pieces.{cut_by}
-use Rattle.relay_streams.specs.Far.{IsFarView, ReadsStory, ShowsJudged, FarViewsShow, is_starved, last_given}
+use Rattle.relay_streams.specs.Far.{IsFarView, ReadsStory, ShowsJudged, FarViewsShow, last_given}
 use Rattle.relay_streams.proofs.LawLemmas.{given-Gives}
 use Rattle.relay_streams.proofs.PieceLemmas.{concat-cut_by}
 

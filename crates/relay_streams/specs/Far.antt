@@ -1,5 +1,5 @@
 -- What a far terminal makes of a session of a run.
-use Rattle.std.specs.Prelude.{◌≡◌, ℕ, ◌≤◌, Bool, true, false, List, [], ◌++◌, length, take, map, Option, None, Some}
+use Rattle.std.specs.Prelude.{◌≡◌, ℕ, ◌≤◌, false, List, [], ◌++◌, length, take, map, Option, None, Some}
 use Rattle.std.specs.List.{list_any, slice_get}
 use Rattle.vte.specs.Moves.{Gives}
 use Rattle.vte.specs.Frames.{Leads}
@@ -10,19 +10,13 @@ use Rattle.termview.specs.declared.view.View.{View}
 use Rattle.termview.specs.declared.until_cleared.UntilCleared.{UntilCleared}
 use Rattle.termrelay.specs.Hub.{HubState}
 use Rattle.termrelay.specs.declared.call.Reply.{Reply}
-use Rattle.termrelay.specs.declared.call.Reply.TheVariants.{Refused}
-use Rattle.termrelay.specs.declared.error.HubError.TheVariants.{Memory}
 use Rattle.faithful.specs.History.{as_told, Entry, Story, size_of_story, fresh, RunsTold}
 use Rattle.faithful.specs.Judge.{texts, last_frame, last_whole, judged, IsSure}
 use Rattle.faithful.specs.Logged.{AreShort}
 use Rattle.faithful.specs.Laws.{IsSession}
+use Rattle.faithful.specs.Isolation.{is_starved}
 use Rattle.relay_streams.specs.Led.{answers}
 use Rattle.relay_streams.specs.Pieces.{cut_by}
-
--- there was no memory for the call
-abbrev pub is_starved : Reply → Bool
-is_starved (Refused Memory) = true
-is_starved reply = false
 
 -- a view of a session's size stands where the first bytes that were pumped to it, in pieces of these lengths, lead a
 -- new one
