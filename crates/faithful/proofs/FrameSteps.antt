@@ -19,7 +19,7 @@ use Rattle.termview.proofs.FramedForms.{forms-framed, frame-shows, frame-finishe
 
 -- ---- the forms of a frame can be sent
 
-byte-base : (z : Size) (base : Option Shown) → IsShotBase z base → HasByteBase base
+pub byte-base : (z : Size) (base : Option Shown) → IsShotBase z base → HasByteBase base
 byte-base z None h = tt
 byte-base z (Some base) h = h.small.attrs
 

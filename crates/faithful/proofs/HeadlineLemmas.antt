@@ -34,7 +34,9 @@ use Rattle.faithful.specs.Headline.{Reads, last_read, whole_read, ReadsWhole, On
 use Rattle.faithful.specs.Headline.{OneMomentShowsTheSameWhole}
 use Rattle.faithful.proofs.HistoryLemmas.{sessions-told}
 use Rattle.faithful.proofs.ScreenLemmas.{IsShot, shot-made, IsShotBase}
-use Rattle.faithful.proofs.FrameSteps.{text-frame, frame-read, frame-ends}
+use Rattle.faithful.proofs.FrameSteps.{byte-base, text-frame, frame-read, frame-ends}
+use Rattle.termrelay.specs.Frame.{IsShortFrame}
+use Rattle.termrelay.proofs.FrameLengths.{frame-short}
 
 -- ---- the frames among the entries
 
@@ -149,6 +151,25 @@ module _ (rows cols : ℕ) (z : Size) (height : IsSide z.rows) (width : IsSide z
   entries-frames last (e ∷ es) h k = (
     λ f. entry-frame last e h k.0 f,
     entries-frames (frame_or last e) es (known-next last e h k.0) (later last e es k),
+  )
+
+  -- ---- and short
+
+  entry-short : (frame : Bool) (last : Option Entry) (e : Entry) → Known last → IsAnswered rows cols z (base_of last) e
+      → is_frame e.answer ≡ frame → IsShortFrame z e.text
+  entry-short true last e h k f =
+      subst (IsShortFrame z) (sym (entry-some last e k f))
+      (frame-short z (base_of last) (shown_at rows cols e) (byte-base z (base_of last) (known-base last h))
+      (entry-shot (base_of last) e k).small)
+  entry-short false last e h k f =
+      subst (IsShortFrame z) (sym (entry-none last e k f)) (omega arith)
+
+  pub entries-short : (last : Option Entry) (es : List Entry) → Known last → AreAnswered rows cols z (base_of last) es
+      → AllByRecursion (λ e. IsShortFrame z e.text) es
+  entries-short last [] h k = tt
+  entries-short last (e ∷ es) h k = (
+    entry-short (is_frame e.answer) last e h k.0 refl,
+    entries-short (frame_or last e) es (known-next last e h k.0) (later last e es k),
   )
 
   all-by : (P : List ℕ → Type 0) (frame : Bool) (e : Entry) (rest : List (List ℕ)) → (frame ≡ true → P e.text)

@@ -10,3 +10,4 @@ pub mod OwnLemmas
 pub mod OwnRunLemmas
 pub mod IsolationLemmas
 pub mod AloneLemmas
+pub mod BoundLemmas

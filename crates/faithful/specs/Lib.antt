@@ -6,3 +6,4 @@ pub mod Examples
 pub mod Serves
 pub mod Logged
 pub mod Isolation
+pub mod Bounds

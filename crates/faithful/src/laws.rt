@@ -1,5 +1,6 @@
 //! Facts about histories and far terminals. Each function does nothing: its contract is the fact.
 ghost use Rattle.termrelay.specs.Hub.{as_kept};
+ghost use Rattle.faithful.specs.Bounds.{EachSessionIsBounded, EachSmallSessionIsShort, SmallLoggedFramesAreShown};
 ghost use Rattle.faithful.specs.Examples.{EachExampleIsTold};
 ghost use Rattle.faithful.specs.History.{as_told};
 ghost use Rattle.faithful.specs.Laws.{EachSessionIsTold, EachClientHasASession};
@@ -124,4 +125,18 @@ pub fn sessions_are_isolated()
 /// session: so each session has what it would have, were the others left out.
 pub fn sessions_stand_alone()
     ensures { EachSessionStandsAlone }
+{}
+
+/// Each frame of a session has at most 1,024 bytes a cell, and 1,024 more, and so has what its client is owed.
+pub fn sessions_are_bounded()
+    ensures { EachSessionIsBounded }
+{}
+
+/// So with at most 2,000 cells, such as 24 rows of 80 columns, each frame is below the hold's limit, and whatever
+/// beginning of the bytes pumped to a session of a run on a new hub a new view of its size reads, in whatever pieces, it
+/// shows what the program's bytes and the resizes had made at the moment of the last frame that lies wholly in it, or a
+/// blank screen; so where that screen showed no U+FE0F.
+pub fn small_sessions_are_shown()
+    ensures short { EachSmallSessionIsShort }
+    ensures shown { SmallLoggedFramesAreShown }
 {}

@@ -12,3 +12,4 @@ pub mod LogLemmas
 pub mod ScriptLemmas
 pub mod RunLemmas
 pub mod BodyForms
+pub mod FrameLengths

@@ -1,6 +1,6 @@
 -- What a frame is made of: the marks of a synchronized update, and between them what leads a client from what it shows
 -- to the screen.
-use Rattle.std.specs.Prelude.{◌≡◌, ℕ, zero, suc, ◌==◌, ◌||◌, Bool, true, false, List, [], ◌++◌, codes, Option, Some}
+use Rattle.std.specs.Prelude.{◌≡◌, ℕ, zero, suc, ◌+◌, ◌*◌, ◌≤◌, ◌==◌, ◌||◌, length, Bool, true, false, List, [], ◌++◌, codes, Option, Some}
 use Rattle.std.specs.Prelude.{None}
 use Rattle.std.specs.Prelude.{if◌then◌else◌, Contains}
 use Rattle.std.specs.List.{list_any}
@@ -111,3 +111,13 @@ EachBodyIsSent = (z : Size) (base : Option Shown) (now : Shown) → HasByteBase 
 abbrev pub EachBodyIsOfForms : Type 0
 EachBodyIsOfForms = (z : Size) (base : Option Shown) (now : Shown) → HasByteBase base → IsSmallScreen z now
     → IsKnown now → is_unsure z now ≡ false → AreForms (body_forms z base now)
+
+-- ---- how long it is
+
+-- at most 1,024 bytes a cell, and 1,024 more
+abbrev pub IsShortFrame : Size → List ℕ → Type 0
+IsShortFrame z text = length text ≤ 1024 * (z.rows * z.cols) + 1024
+
+abbrev pub EachFrameIsShort : Type 0
+EachFrameIsShort = (z : Size) (base : Option Shown) (now : Shown) → HasByteBase base → IsSmallScreen z now
+    → IsShortFrame z (frame_text z base now)

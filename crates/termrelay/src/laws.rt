@@ -1,7 +1,7 @@
 //! Facts about frames. Each function does nothing: its contract is the fact.
 ghost use Rattle.termrelay.specs.Answers.{EachSameIsOne, EachOneIsSame, EachExampleIsAnswered};
 ghost use Rattle.termrelay.specs.Frame.{EachSureIsPlain, EachFrameIsMarked, EachFrameLeads, EachFrameSetsModes};
-ghost use Rattle.termrelay.specs.Frame.{EachBodyIsSent, EachBodyIsOfForms};
+ghost use Rattle.termrelay.specs.Frame.{EachBodyIsSent, EachBodyIsOfForms, EachFrameIsShort};
 ghost use Rattle.termrelay.specs.Laws.{TwoFeedsAreOne, TwoFeedsRunAsOne};
 
 /// A screen is unsure wherever one of its cells has U+FE0F.
@@ -32,6 +32,11 @@ pub fn frames_set_modes()
 pub fn bodies_are_of_forms()
     ensures sent { EachBodyIsSent }
     ensures forms { EachBodyIsOfForms }
+{}
+
+/// A frame is at most 1,024 bytes a cell long, and 1,024 more; also where U+FE0F is shown.
+pub fn frames_are_short()
+    ensures { EachFrameIsShort }
 {}
 
 /// Screens of one size that the test takes for the same show the same, so that a client that is answered `Unchanged`

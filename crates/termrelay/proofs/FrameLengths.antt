@@ -1,0 +1,37 @@
+-- How long a frame can be.
+use Rattle.std.proofs.Common.{◌≡◌, ℕ, ◌+◌, ◌*◌, ◌≤◌, ◌||◌, List, ◌++◌, length, Option, Some, None, refl, arith}
+use Rattle.std.proofs.Common.{length-append}
+use Rattle.std.proofs.lemmas.Bool.{cond_both}
+use Rattle.vt100_forms.specs.Form.{Form, spell}
+use Rattle.vt100_picture.specs.Term.{Size, Shown}
+use Rattle.vt100_writers.specs.Length.{IsSmallScreen, IsWithin}
+use Rattle.vt100_writers.specs.Modes.{input_mode_diff}
+use Rattle.vt100_writers.specs.Screen.{contents_formatted, state_diff}
+use Rattle.vt100_writers.proofs.Costs.{join-length}
+use Rattle.vt100_writers.proofs.Lengths.{each-short}
+use Rattle.termrelay.specs.Frame.{start_mark, end_mark, is_unsure, body_forms, HasByteBase, EachFrameIsShort}
+
+body-short : (z : Size) (base : Option Shown) (now : Shown) → HasByteBase base → IsSmallScreen z now
+    → IsWithin z 1008 (body_forms z base now)
+unfolding body_forms
+body-short z None now h small = (each-short z now now small.attrs small).state_formatted
+body-short z (Some base) now h small =
+    let each = each-short z base now h small in
+    let contents = contents_formatted z now in
+    let modes = input_mode_diff base now in
+    cond_both (is_unsure z base || is_unsure z now) (contents ++ modes) (state_diff z base now) (IsWithin z 1008)
+    (λ _. omega (arith, join-length contents modes, each.contents_formatted, each.input_mode_diff)) (λ _. each.state_diff)
+
+pub frame-short : EachFrameIsShort
+frame-short z base now h small =
+    let body = spell (body_forms z base now) in
+    let start : length start_mark ≡ 8 = refl in
+    let end : length end_mark ≡ 8 = refl in
+    omega (
+      arith,
+      length-append start_mark (body ++ end_mark),
+      length-append body end_mark,
+      start,
+      end,
+      body-short z base now h small,
+    )
