@@ -8,3 +8,5 @@ pub mod Examples
 pub mod SmallScreens
 pub mod Costs
 pub mod Lengths
+pub mod LostFlags
+pub mod LocalRows

@@ -2,6 +2,7 @@ pub mod Cursor
 pub mod Examples
 pub mod Laws
 pub mod Length
+pub mod Local
 pub mod Modes
 pub mod Rows
 pub mod Screen

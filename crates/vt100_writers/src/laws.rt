@@ -1,5 +1,6 @@
 //! Facts about redraws and differences of screens. Each function does nothing: its contract is the fact.
 ghost use Rattle.vt100_writers.specs.Length.{EachIsShort};
+ghost use Rattle.vt100_writers.specs.Local.{EachRowsDifferenceIsLocal};
 ghost use Rattle.vt100_writers.specs.Examples.{EachExampleIsWritten};
 ghost use Rattle.vt100_writers.specs.Laws.{EachModeIsSet, EachModeIsChanged, EachAttributeIsSet};
 ghost use Rattle.vt100_writers.specs.Laws.{EachCursorIsPlaced, EachCursorStateIsSet};
@@ -44,6 +45,11 @@ pub fn redraws_of_rows_lead()
 /// The differences of all rows lead from an earlier screen's cells and flags to those of the present one.
 pub fn differences_of_rows_lead()
     ensures { EachRowsDifferenceLeads }
+{}
+
+/// The differences of all rows touch local cells alone.
+pub fn differences_of_rows_are_local()
+    ensures { EachRowsDifferenceIsLocal }
 {}
 
 /// The redraw of a grid leads from any terminal to the grid's cells, flags and cursor.
