@@ -10,3 +10,5 @@ pub mod Costs
 pub mod Lengths
 pub mod LostFlags
 pub mod LocalRows
+pub mod LocalCursor
+pub mod LocalScreens

@@ -1,6 +1,7 @@
 //! Facts about redraws and differences of screens. Each function does nothing: its contract is the fact.
 ghost use Rattle.vt100_writers.specs.Length.{EachIsShort};
-ghost use Rattle.vt100_writers.specs.Local.{EachRowsDifferenceIsLocal};
+ghost use Rattle.vt100_writers.specs.Local.{EachRowsDifferenceIsLocal, EachGridDifferenceIsLocal};
+ghost use Rattle.vt100_writers.specs.Local.{EachContentsDifferenceIsLocal, EachDifferenceIsLocal};
 ghost use Rattle.vt100_writers.specs.Examples.{EachExampleIsWritten};
 ghost use Rattle.vt100_writers.specs.Laws.{EachModeIsSet, EachModeIsChanged, EachAttributeIsSet};
 ghost use Rattle.vt100_writers.specs.Laws.{EachCursorIsPlaced, EachCursorStateIsSet};
@@ -82,6 +83,16 @@ pub fn differences_lead()
 /// shows.
 pub fn state_differences_lead()
     ensures { EachStateDifferenceLeads }
+{}
+
+/// The differences of grids, of screens' contents, and of screens with their modes touch local cells alone: those that
+/// differ, and, in rows that differ and right below them, empty ones and those of the first and the last column; each
+/// with its other half. Where the present cursor waits at the end of a row, they may also touch the last cell of one
+/// row.
+pub fn differences_touch_local_cells()
+    ensures grids { EachGridDifferenceIsLocal }
+    ensures contents { EachContentsDifferenceIsLocal }
+    ensures states { EachDifferenceIsLocal }
 {}
 
 /// A redraw followed by what differs in the modes leads from any picture, with the modes and the style of an earlier
