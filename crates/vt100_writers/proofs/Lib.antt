@@ -12,3 +12,4 @@ pub mod LostFlags
 pub mod LocalRows
 pub mod LocalCursor
 pub mod LocalScreens
+pub mod LocalExamples

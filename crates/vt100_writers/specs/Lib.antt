@@ -3,6 +3,7 @@ pub mod Examples
 pub mod Laws
 pub mod Length
 pub mod Local
+pub mod LocalExamples
 pub mod Modes
 pub mod Rows
 pub mod Screen

@@ -2,6 +2,7 @@
 ghost use Rattle.vt100_writers.specs.Length.{EachIsShort};
 ghost use Rattle.vt100_writers.specs.Local.{EachRowsDifferenceIsLocal, EachGridDifferenceIsLocal};
 ghost use Rattle.vt100_writers.specs.Local.{EachContentsDifferenceIsLocal, EachDifferenceIsLocal};
+ghost use Rattle.vt100_writers.specs.LocalExamples.{EachDifferenceTouches};
 ghost use Rattle.vt100_writers.specs.Examples.{EachExampleIsWritten};
 ghost use Rattle.vt100_writers.specs.Laws.{EachModeIsSet, EachModeIsChanged, EachAttributeIsSet};
 ghost use Rattle.vt100_writers.specs.Laws.{EachCursorIsPlaced, EachCursorStateIsSet};
@@ -148,4 +149,9 @@ pub fn redraws_and_differences_are_short()
 /// What is written for some small screens.
 pub fn examples_are_written()
     ensures { EachExampleIsWritten }
+{}
+
+/// Which cells the differences of some small screens touch.
+pub fn examples_touch_few_cells()
+    ensures { EachDifferenceTouches }
 {}
