@@ -75,12 +75,12 @@ still-scene z t s r h l = record {
   above_flag = λ e _. absurd (false≢true e);
 }
 
-record IsLast (z : Size) (s : Shown) (r : ℕ) : Type 0 where
-  up_to : last_col z s r + span_of (last_cell z s r) ≡ z.cols
-  whole : (last_cell z s r).continuation ≡ false
-  sent : has_text (last_cell z s r) ≡ true → IsSendable (last_cell z s r)
+pub record IsLast (z : Size) (s : Shown) (r : ℕ) : Type 0 where
+  pub up_to : last_col z s r + span_of (last_cell z s r) ≡ z.cols
+  pub whole : (last_cell z s r).continuation ≡ false
+  pub sent : has_text (last_cell z s r) ≡ true → IsSendable (last_cell z s r)
 
-last-of : (z : Size) (t : Term) (s : Shown) (r : ℕ) → IsDrawable z s → r < z.rows → IsLast z s r
+pub last-of : (z : Size) (t : Term) (s : Shown) (r : ℕ) → IsDrawable z s → r < z.rows → IsLast z s r
 unfolding still
 last-of z t s r h l =
     let k = still z t s r in
@@ -90,7 +90,7 @@ last-of z t s r h l =
 
 -- ---- the cursor goes to a place
 
-pub Known : Option Pos → ℕ → ℕ → Type 0
+unfoldable pub Known : Option Pos → ℕ → ℕ → Type 0
 Known None r c = Unit {0}
 Known (Some p) r c = (r ≡ p.row) × (c ≡ p.col)
 
@@ -98,7 +98,7 @@ moved-at : (t : Term) (C : ℕ → ℕ → CellView) (W : ℕ → Bool) (a : Att
     → at t C W r c a ≡ at t C W s d a
 moved-at t C W a r s c d e f = λ i. at t C W (e i) (f i) a
 
-arrives : (z : Size) (t : Term) (C : ℕ → ℕ → CellView) (W : ℕ → Bool) (a : Attrs) (p : Option Pos) (r c row col : ℕ)
+pub arrives : (z : Size) (t : Term) (C : ℕ → ℕ → CellView) (W : ℕ → Bool) (a : Attrs) (p : Option Pos) (r c row col : ℕ)
     → Known p r c → row < z.rows → col < z.cols
     → run z (arriving p (place row col)) (at t C W r c a) ≡ at t C W row col a
 unfolding apply Known
@@ -170,7 +170,7 @@ reprinted z t s a r h ha l some =
     ∙ ap (run z back) (printed-again z t s r h l some)
     ∙ change-read z (at t s.cell s.wrapped r z.cols x.attrs) x.attrs a refl hx ha
 
-waits-behind : (z : Size) (t : Term) (s : Shown) (p : Option Pos) (a : Attrs) (r c row : ℕ) → IsDrawable z s
+pub waits-behind : (z : Size) (t : Term) (s : Shown) (p : Option Pos) (a : Attrs) (r c row : ℕ) → IsDrawable z s
     → IsProper a → Known p r c → row < z.rows → has_text (last_cell z s row) ≡ true
     → run z (wait_behind z s p a row) (at t s.cell s.wrapped r c a) ≡ at t s.cell s.wrapped row z.cols a
 unfolding wait_behind
@@ -198,7 +198,7 @@ kept-off : (b : Bool) (W : ℕ → Bool) (r : ℕ) → W r ≡ false → kept_or
 kept-off true W r e = update-kept W r false (sym e)
 kept-off false W r e = refl
 
-no-text_end : (z : Size) (t : Term) (s : Shown) (r : ℕ) → IsDrawable z s → r < z.rows
+pub no-text_end : (z : Size) (t : Term) (s : Shown) (r : ℕ) → IsDrawable z s → r < z.rows
     → has_text (last_cell z s r) ≡ false
     → s.cell r (z.cols - 1) ≡ empty_cell (s.cell r (z.cols - 1)).attrs
 no-text_end z t s r h l none =
@@ -210,7 +210,7 @@ no-text_end z t s r h l none =
     let here : c ≡ z.cols - 1 = omega (arith, last.up_to, narrow) in
     subst (λ k. s.cell r k ≡ empty_cell (s.cell r k).attrs) here is
 
-space-printed : (z : Size) (t : Term) (C : ℕ → ℕ → CellView) (W : ℕ → Bool) (r n : ℕ) (a : Attrs) → n + 1 ≤ z.cols
+pub space-printed : (z : Size) (t : Term) (C : ℕ → ℕ → CellView) (W : ℕ → Bool) (r n : ℕ) (a : Attrs) → n + 1 ≤ z.cols
     → run z (Text (32 ∷ []) ∷ []) (at t C W r n a)
     ≡ at t (update C r (put (C r) n (cell_of 32 a) a)) W r (n + 1) a
 unfolding print char_width
@@ -219,7 +219,7 @@ space-printed z t C W r n a l =
     takes-print z t C W r n (C r) (cell_of 32 a) None false false (sends-space a) l in
     ap (λ D. run z (Text (32 ∷ []) ∷ []) (at t D W r n a)) (sym (update-kept C r (C r) refl)) ∙ k.term_is
 
-narrow-space : (a : Attrs) → (cell_of 32 a).wide ≡ false
+pub narrow-space : (a : Attrs) → (cell_of 32 a).wide ≡ false
 unfolding char_width
 narrow-space a = refl
 

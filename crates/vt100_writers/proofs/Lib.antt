@@ -8,3 +8,8 @@ pub mod Examples
 pub mod SmallScreens
 pub mod Costs
 pub mod Lengths
+pub mod LostFlags
+pub mod LocalRows
+pub mod LocalCursor
+pub mod LocalScreens
+pub mod LocalExamples

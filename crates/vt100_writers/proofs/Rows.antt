@@ -25,7 +25,7 @@ use Rattle.vt100_writers.specs.Laws.{IsDrawable, showing, EachRowsRedrawLeads, E
 
 -- ---- the row above
 
-continued-later : (W : ℕ → Bool) (i : ℕ) → is_continued W i ≡ true → 0 < i
+pub continued-later : (W : ℕ → Bool) (i : ℕ) → is_continued W i ≡ true → 0 < i
 continued-later W zero h = absurd (false≢true h)
 continued-later W (suc i) h = omega arith
 
@@ -37,15 +37,15 @@ continued-is W (suc i) h = let back : i ≡ suc i - 1 = omega arith in ap W back
 
 -- The rows before i are drawn, and those from i on are as before. The last one that is drawn may lack its flag, where
 -- it goes on; then the cursor waits at its end.
-record Between (z : Size) (t : Term) (old new : Shown) (i : ℕ) (p : Pen) (u : Term) : Type 0 where
-  flags : ℕ → Bool
-  stands : u ≡ at t (splice old.cell 0 i new.cell) flags p.pos.row p.pos.col p.attrs
-  proper : IsProper p.attrs
-  closed : p.erase ≡ None
-  flagged : cond (is_continued new.wrapped i) (update flags (i - 1) true) flags ≡ splice old.wrapped 0 i new.wrapped
-  keeps : is_continued new.wrapped i ≡ true → (is_continued old.wrapped i && not p.lost) ≡ true
+pub record Between (z : Size) (t : Term) (old new : Shown) (i : ℕ) (p : Pen) (u : Term) : Type 0 where
+  pub flags : ℕ → Bool
+  pub stands : u ≡ at t (splice old.cell 0 i new.cell) flags p.pos.row p.pos.col p.attrs
+  pub proper : IsProper p.attrs
+  pub closed : p.erase ≡ None
+  pub flagged : cond (is_continued new.wrapped i) (update flags (i - 1) true) flags ≡ splice old.wrapped 0 i new.wrapped
+  pub keeps : is_continued new.wrapped i ≡ true → (is_continued old.wrapped i && not p.lost) ≡ true
       → flags (i - 1) ≡ true
-  waits : is_continued new.wrapped i ≡ true → (is_continued old.wrapped i && not p.lost) ≡ false
+  pub waits : is_continued new.wrapped i ≡ true → (is_continued old.wrapped i && not p.lost) ≡ false
       → (p.pos.row + 1 ≡ i) × (p.pos.col ≡ z.cols)
 
 begun : (z : Size) (t : Term) (old new : Shown) (p : Pen) → IsProper p.attrs → p.erase ≡ None
@@ -60,7 +60,7 @@ begun z t old new p ha closed = record {
   waits = λ e _. absurd (false≢true e);
 }
 
-abbrev scene_of : Size → Term → Shown → Shown → ℕ → Bool → (ℕ → Bool) → Scene
+abbrev pub scene_of : Size → Term → Shown → Shown → ℕ → Bool → (ℕ → Bool) → Scene
 scene_of z t old new i flagged F = record {
   rows = z.rows;
   job = job_of z old new i flagged;
@@ -87,7 +87,7 @@ own-flag z t old new i p u b =
       | inr off ↦ ap (λ c. cond c (update b.flags (i - 1) true) b.flags i) (sym off) ∙ all
     ]
 
-scene-is : (z : Size) (t : Term) (old new : Shown) (i : ℕ) (flagged : Bool) (p : Pen) (u : Term)
+pub scene-is : (z : Size) (t : Term) (old new : Shown) (i : ℕ) (flagged : Bool) (p : Pen) (u : Term)
     (b : Between z t old new i p u) → IsShown z old → IsDrawable z new → i < z.rows
     → flagged ≡ (is_continued old.wrapped i && not p.lost) → IsScene (scene_of z t old new i flagged b.flags)
 scene-is z t old new i flagged p u b ho hn l e = record {
@@ -109,7 +109,7 @@ scene-is z t old new i flagged p u b ho hn l e = record {
   above_flag = λ on k. b.keeps on (sym e ∙ k);
 }
 
-ready-is : (z : Size) (t : Term) (old new : Shown) (i : ℕ) (flagged : Bool) (p : Pen) (u : Term)
+pub ready-is : (z : Size) (t : Term) (old new : Shown) (i : ℕ) (flagged : Bool) (p : Pen) (u : Term)
     (b : Between z t old new i p u) → flagged ≡ (is_continued old.wrapped i && not p.lost)
     → IsReady (scene_of z t old new i flagged b.flags) (afresh p)
 ready-is z t old new i flagged p u b e = record {
@@ -120,7 +120,7 @@ ready-is z t old new i flagged p u b e = record {
 }
 
 -- the terminal before row i, as the row's laws see it
-here-is : (z : Size) (t : Term) (old new : Shown) (i : ℕ) (flagged : Bool) (p : Pen) (u : Term)
+pub here-is : (z : Size) (t : Term) (old new : Shown) (i : ℕ) (flagged : Bool) (p : Pen) (u : Term)
     (b : Between z t old new i p u)
     → u ≡ with_row (scene_of z t old new i flagged b.flags) (old.cell i) b.flags p.pos.row p.pos.col p.attrs
 here-is z t old new i flagged p u b =
@@ -184,7 +184,7 @@ difference-next z t old new i p u ho hn l b =
     (difference-leads s (afresh p) (scene-is z t old new i flagged p u b ho hn l refl)
     (ready-is z t old new i flagged p u b refl)))
 
-differences : (z : Size) (t : Term) (old new : Shown) (p : Pen) (n : ℕ) → IsShown z old → IsDrawable z new
+pub differences : (z : Size) (t : Term) (old new : Shown) (p : Pen) (n : ℕ) → IsShown z old → IsDrawable z new
     → IsProper p.attrs → p.erase ≡ None → n ≤ z.rows
     → Between z t old new n (rows_difference z old new n p).pen
     (run z (rows_difference z old new n p).forms (showing t old p))

@@ -2,6 +2,8 @@ pub mod Cursor
 pub mod Examples
 pub mod Laws
 pub mod Length
+pub mod Local
+pub mod LocalExamples
 pub mod Modes
 pub mod Rows
 pub mod Screen

@@ -1,5 +1,8 @@
 //! Facts about redraws and differences of screens. Each function does nothing: its contract is the fact.
 ghost use Rattle.vt100_writers.specs.Length.{EachIsShort};
+ghost use Rattle.vt100_writers.specs.Local.{EachRowsDifferenceIsLocal, EachGridDifferenceIsLocal};
+ghost use Rattle.vt100_writers.specs.Local.{EachContentsDifferenceIsLocal, EachDifferenceIsLocal};
+ghost use Rattle.vt100_writers.specs.LocalExamples.{EachDifferenceTouches};
 ghost use Rattle.vt100_writers.specs.Examples.{EachExampleIsWritten};
 ghost use Rattle.vt100_writers.specs.Laws.{EachModeIsSet, EachModeIsChanged, EachAttributeIsSet};
 ghost use Rattle.vt100_writers.specs.Laws.{EachCursorIsPlaced, EachCursorStateIsSet};
@@ -46,6 +49,11 @@ pub fn differences_of_rows_lead()
     ensures { EachRowsDifferenceLeads }
 {}
 
+/// The differences of all rows touch local cells alone.
+pub fn differences_of_rows_are_local()
+    ensures { EachRowsDifferenceIsLocal }
+{}
+
 /// The redraw of a grid leads from any terminal to the grid's cells, flags and cursor.
 pub fn grid_redraws_lead()
     ensures { EachGridRedrawLeads }
@@ -76,6 +84,16 @@ pub fn differences_lead()
 /// shows.
 pub fn state_differences_lead()
     ensures { EachStateDifferenceLeads }
+{}
+
+/// The differences of grids, of screens' contents, and of screens with their modes touch local cells alone: those that
+/// differ, and, in rows that differ and right below them, empty ones and those of the first and the last column; each
+/// with its other half. Where the present cursor waits at the end of a row, they may also touch the last cell of one
+/// row.
+pub fn differences_touch_local_cells()
+    ensures grids { EachGridDifferenceIsLocal }
+    ensures contents { EachContentsDifferenceIsLocal }
+    ensures states { EachDifferenceIsLocal }
 {}
 
 /// A redraw followed by what differs in the modes leads from any picture, with the modes and the style of an earlier
@@ -131,4 +149,9 @@ pub fn redraws_and_differences_are_short()
 /// What is written for some small screens.
 pub fn examples_are_written()
     ensures { EachExampleIsWritten }
+{}
+
+/// Which cells the differences of some small screens touch.
+pub fn examples_touch_few_cells()
+    ensures { EachDifferenceTouches }
 {}
