@@ -6,7 +6,8 @@ use Rattle.termrelay.specs.Calls.{Call}
 use Rattle.termrelay.specs.Log.{SessionView, LogView}
 use Rattle.faithful.specs.History.{as_told, Story}
 use Rattle.faithful.specs.Laws.{IsSession}
-use Rattle.faithful.specs.Isolation.{Own, own_calls, AreAlike, SessionsAreIsolated, IsLogged}
+use Rattle.faithful.specs.Isolation.{Own, own_calls, AreAlike, SessionsAreIsolated}
+use Rattle.faithful.specs.Logged.{IsLogged}
 use Rattle.faithful.specs.Isolation.{LoggedSessionsAreIsolated}
 use Rattle.faithful.proofs.ServesLemmas.{logs-follow}
 use Rattle.faithful.proofs.LoggedLemmas.{IsHistory, story-at}

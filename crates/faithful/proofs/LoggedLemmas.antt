@@ -11,8 +11,9 @@ use Rattle.faithful.specs.History.{as_told, Story, fresh, size_of_session, RunsT
 use Rattle.faithful.specs.Laws.{IsSession}
 use Rattle.faithful.specs.Headline.{Reads}
 use Rattle.faithful.specs.Serves.{Matches}
-use Rattle.faithful.specs.Logged.{HasStory, AreShort, EachLoggedReadIsARead, LoggedFramesAreShown}
-use Rattle.faithful.proofs.HeadlineLemmas.{last-shown}
+use Rattle.faithful.specs.Logged.{IsLogged, HasStory, AreShort, EachLoggedReadIsARead, LoggedFramesAreShown}
+use Rattle.faithful.specs.Logged.{WholeLoggedFramesAreShown}
+use Rattle.faithful.proofs.HeadlineLemmas.{last-shown, wholes-shown}
 use Rattle.faithful.proofs.ServesLemmas.{logs-follow}
 
 -- a session of a log, and its story
@@ -43,25 +44,46 @@ abbrev IsRead : ℕ → ℕ → List Call → LogView → ℕ → SessionView �
 IsRead rows cols calls l n s pieces parsed =
     (t : Story) × HasStory rows cols calls l n s t × (AreShort t → Reads rows cols calls l.replies n t pieces parsed)
 
-pub logged-reads : EachLoggedReadIsARead
-logged-reads rows cols calls l n s pieces parsed r =
+abbrev IsTold : ℕ → ℕ → List Call → LogView → ℕ → SessionView → Type 0
+IsTold rows cols calls l n s = (t : Story) × HasStory rows cols calls l n s t
+
+story-of : (rows cols : ℕ) (calls : List Call) (l : LogView) (n : ℕ) (s : SessionView) → IsLogged rows cols calls l n s
+    → IsTold rows cols calls l n s
+story-of rows cols calls l n s r =
     let all : IsHistory rows cols calls l.replies r.after l.sessions =
     subst (λ replies. IsHistory rows cols calls replies r.after l.sessions) (sym r.ran.1)
     (logs-follow rows cols calls r.ran.0 r.hub r.after l.sessions r.new r.ran.2) in
     let found = story-at l.sessions all.1 n s all.4 r.is in
-    let t = found.story in
-    let session : IsSession rows cols calls l.replies n t =
-    record { height = r.height; width = r.width; hub = all.0; stories = all.1; ran = all.2; is = found.is } in (
-      t,
-      record { session = session; logged = found.logged },
+    let session : IsSession rows cols calls l.replies n found.story =
+    record { height = r.height; width = r.width; hub = all.0; stories = all.1; ran = all.2; is = found.is } in
+    (found.story, record { session = session; logged = found.logged })
+
+pub logged-reads : EachLoggedReadIsARead
+logged-reads rows cols calls l n s pieces parsed r =
+    let told : IsTold rows cols calls l n s = story-of rows cols calls l n s r.session in (
+      told.0,
+      told.1,
       λ short. record {
-        session = session;
+        session = told.1.session;
         beyond = r.beyond;
-        pumped = r.pumped ∙ ap (λ (x : SessionView). x.pumped) (sym found.logged);
+        pumped = r.pumped ∙ ap (λ (x : SessionView). x.pumped) (sym told.1.logged);
         short = short;
         hold = r.hold;
         leads = r.leads;
       },
+    )
+
+pub logged-whole : WholeLoggedFramesAreShown
+logged-whole rows cols calls l n s r =
+    let told : IsTold rows cols calls l n s = story-of rows cols calls l n s r in (
+      told.0,
+      told.1,
+      λ front back moves parsed hold are is leads.
+          let out = wholes-shown rows cols calls l.replies n told.0 front back moves parsed hold told.1.session are is
+          leads in (
+            out.0,
+            λ sure. ap (λ (x : SessionView). shown_of (seen (size_of_session x) parsed)) (sym told.1.logged) ∙ out.1 sure,
+          ),
     )
 
 pub logged-shown : LoggedFramesAreShown

@@ -1,19 +1,19 @@
 -- What a session has depends on its own calls alone.
 use Rattle.std.specs.Prelude.{◌≡◌, ℕ, ◌-◌, ◌==◌, Bool, true, false, List, [], ◌∷◌, ◌++◌, map, Option, Some, None}
-use Rattle.std.specs.Prelude.{slice_get, if◌then◌else◌}
+use Rattle.std.specs.Prelude.{if◌then◌else◌}
 use Rattle.std.specs.List.{list_any}
 use Rattle.vt100_state.specs.Made.{Act, Fed, Resized}
-use Rattle.vt100_state.specs.Holds.{IsSide}
 use Rattle.termrelay.specs.Answers.{ClientState}
-use Rattle.termrelay.specs.Hub.{HubState, as_kept, clients_in, IsNewHub}
+use Rattle.termrelay.specs.Hub.{clients_in}
 use Rattle.termrelay.specs.Calls.{Call, Feed, Resize, Attach, Detach, Frame, Pump}
-use Rattle.termrelay.specs.Log.{SessionView, LogView, empty_log, MadeAll}
+use Rattle.termrelay.specs.Log.{SessionView, LogView}
 use Rattle.termrelay.specs.declared.call.Take.{Take}
 use Rattle.termrelay.specs.declared.call.Reply.{Reply}
 use Rattle.termrelay.specs.declared.call.Reply.TheVariants.{Done, Attached, Refused}
 use Rattle.termrelay.specs.declared.error.HubError.TheVariants.{Memory}
 use Rattle.faithful.specs.History.{Story}
 use Rattle.faithful.specs.Laws.{IsSession}
+use Rattle.faithful.specs.Logged.{IsLogged}
 
 -- there was no memory for the call
 abbrev pub is_starved : Reply → Bool
@@ -109,16 +109,6 @@ abbrev pub EachSessionStandsAlone : Type 0
 EachSessionStandsAlone = (rows cols : ℕ) (calls : List Call) (replies : List Reply) (n : ℕ) (t : Story) (key : ℕ)
     → IsSession rows cols calls replies n t → list_any is_starved replies ≡ false
     → StandsAlone rows cols key (own_calls n calls replies)
-
--- the n-th session of the log that these calls have left, where a run has made them all on a new hub
-pub record IsLogged (rows cols : ℕ) (calls : List Call) (l : LogView) (n : ℕ) (s : SessionView) : Type 0 where
-  pub height : IsSide rows
-  pub width : IsSide cols
-  pub hub : HubState as_kept
-  pub new : IsNewHub rows cols hub
-  pub after : HubState as_kept
-  pub ran : MadeAll hub empty_log calls after l
-  pub is : slice_get l.sessions n ≡ Some s
 
 -- so are sessions of two logs
 abbrev pub LoggedSessionsAreIsolated : Type 0

@@ -2,7 +2,7 @@
 use Rattle.std.specs.Prelude.{◌≡◌, ℕ, ◌<◌, List, [], ◌++◌, Option, Some, None, map, length, slice_get}
 use Rattle.std.specs.List.{AllByRecursion, concat}
 use Rattle.vte.specs.Hold.{limit}
-use Rattle.vte.specs.Moves.{Gives}
+use Rattle.vte.specs.Moves.{Move, Gives, given}
 use Rattle.vte.specs.Frames.{Leads}
 use Rattle.vt100_picture.specs.Term.{shown_of}
 use Rattle.vt100_state.specs.Holds.{IsSide}
@@ -10,15 +10,13 @@ use Rattle.termrelay.specs.Hub.{HubState, as_kept, IsNewHub}
 use Rattle.termrelay.specs.Calls.{Call}
 use Rattle.termrelay.specs.Log.{SessionView, LogView, empty_log, MadeAll}
 use Rattle.termview.specs.Seen.{seen}
-use Rattle.faithful.specs.History.{Story, size_of_session}
-use Rattle.faithful.specs.Judge.{judged, IsSure}
+use Rattle.faithful.specs.History.{Entry, Story, size_of_session}
+use Rattle.faithful.specs.Judge.{texts, last_frame, judged, IsSure}
 use Rattle.faithful.specs.Laws.{IsSession}
 use Rattle.faithful.specs.Headline.{Reads, last_read}
 
--- A run on a new hub with an empty log has made these calls and left this log, of which this is the n-th session. A new
--- view of the session's size has parsed so much of these pieces, which are a beginning of what was pumped to it.
-pub record ReadsLog (rows cols : ℕ) (calls : List Call) (l : LogView) (n : ℕ) (s : SessionView)
-    (pieces : List (List ℕ)) (parsed : List ℕ) : Type 0 where
+-- a run on a new hub with an empty log has made these calls and left this log, of which this is the n-th session
+pub record IsLogged (rows cols : ℕ) (calls : List Call) (l : LogView) (n : ℕ) (s : SessionView) : Type 0 where
   pub height : IsSide rows
   pub width : IsSide cols
   pub hub : HubState as_kept
@@ -26,6 +24,11 @@ pub record ReadsLog (rows cols : ℕ) (calls : List Call) (l : LogView) (n : ℕ
   pub after : HubState as_kept
   pub ran : MadeAll hub empty_log calls after l
   pub is : slice_get l.sessions n ≡ Some s
+
+-- A new view of such a session's size has parsed so much of these pieces, which are a beginning of what was pumped to it.
+pub record ReadsLog (rows cols : ℕ) (calls : List Call) (l : LogView) (n : ℕ) (s : SessionView)
+    (pieces : List (List ℕ)) (parsed : List ℕ) : Type 0 where
+  pub session : IsLogged rows cols calls l n s
   pub beyond : List ℕ
   pub pumped : concat pieces ++ beyond ≡ s.pumped
   pub hold : Option (List ℕ)
@@ -55,3 +58,14 @@ LoggedFramesAreShown = (rows cols : ℕ) (calls : List Call) (l : LogView) (n : 
     → (t : Story) × HasStory rows cols calls l n s t
     × (AreShort t → IsSure (last_read t pieces)
     → shown_of (seen (size_of_session s) parsed) ≡ judged rows cols (last_read t pieces))
+
+-- Frames that come whole, in whatever pieces and wherever an update is stopped by hand: a new view of the session's
+-- size, which these moves lead to what is parsed and held, holds nothing and shows what the judge says of the last one,
+-- unless that wasn't sure; whatever their lengths.
+abbrev pub WholeLoggedFramesAreShown : Type 0
+WholeLoggedFramesAreShown = (rows cols : ℕ) (calls : List Call) (l : LogView) (n : ℕ) (s : SessionView)
+    → IsLogged rows cols calls l n s → (t : Story) × HasStory rows cols calls l n s t
+    × ((front back : List Entry) (moves : List Move) (parsed : List ℕ) (hold : Option (List ℕ))
+    → t.entries ≡ front ++ back → given moves ≡ texts front → Leads moves [] None parsed hold
+    → (hold ≡ None) × (IsSure (last_frame None front)
+    → shown_of (seen (size_of_session s) parsed) ≡ judged rows cols (last_frame None front)))

@@ -8,7 +8,7 @@ ghost use Rattle.faithful.specs.Headline.{EachTextIsAFrame, WholeFramesAreShown,
 ghost use Rattle.faithful.specs.Headline.{OneMomentShowsTheSame, OneMomentShowsTheSameWhole};
 ghost use Rattle.faithful.specs.Serves.{EachPumpTakesAsTold, EachPumpIsServed, EachRunHasAHistory, EachLogHasAHistory};
 ghost use Rattle.faithful.specs.Serves.{EachHistoryIsOne};
-ghost use Rattle.faithful.specs.Logged.{EachLoggedReadIsARead, LoggedFramesAreShown};
+ghost use Rattle.faithful.specs.Logged.{EachLoggedReadIsARead, LoggedFramesAreShown, WholeLoggedFramesAreShown};
 ghost use Rattle.faithful.specs.Isolation.{SessionsAreIsolated, LoggedSessionsAreIsolated, EachSessionStandsAlone};
 
 use termrelay::Taker;
@@ -139,4 +139,11 @@ pub fn sessions_are_bounded()
 pub fn small_sessions_are_shown()
     ensures short { EachSmallSessionIsShort }
     ensures shown { SmallLoggedFramesAreShown }
+{}
+
+/// Frames of a log's session that come whole are shown, in whatever pieces they come, wherever a synchronized update is
+/// stopped by hand, and whatever their lengths: a new view of its size shows what the program's bytes and the resizes had
+/// made at the last one's moment, unless that screen showed U+FE0F, and holds nothing.
+pub fn whole_logged_frames_are_shown()
+    ensures { WholeLoggedFramesAreShown }
 {}
