@@ -1,14 +1,17 @@
 -- What is kept of a hub's clients, and what contracts see of it.
-use Rattle.std.proofs.Common.{◌≡◌, ℕ, ◌<◌, ◌≤◌, ◌==◌, Bool, true, false, List, [], length, Option, Some, None}
+use Rattle.std.proofs.Common.{◌≡◌, ℕ, ◌<◌, ◌≤◌, ◌==◌, Bool, true, false, List, [], length, Option, Some, None, arith}
+use Rattle.std.proofs.Common.{drop, length-drop}
 use Rattle.std.proofs.Common.{ap, sym, ◌∙◌, refl, subst, slice_index_or, slice_set, if◌then◌else◌}
 use mathlib.Core.Logic.{⊎_elim}
 use Rattle.std.specs.Option.{option_map, IfSome}
 use Rattle.std.proofs.lemmas.Bool.{cases_lt, eqb-true, eq-eqb}
 use Rattle.std.proofs.lemmas.List.{get_or_past, get_or-set_same, get_or-set_other}
 use Rattle.slab.specs.Slab.{Slab, get, Updates}
+use Rattle.vt100_picture.specs.Term.{Size, Shown}
 use Rattle.vt100_core.specs.Picture.{size_of}
 use Rattle.vt100_state.specs.Call.{ScreenView}
 use Rattle.vt100.specs.Parsing.{ParserView}
+use Rattle.termrelay.specs.Frame.{IsShortFrame}
 use Rattle.termrelay.specs.Record.{RecordView, client_of, IsBaseOf, IsServed}
 use Rattle.termrelay.specs.Answers.{ClientState}
 use Rattle.termrelay.specs.Hub.{HubState, as_kept, Puts, no_clients}
@@ -22,17 +25,38 @@ base-kept : (now next : ScreenView) (base : Option ScreenView) → size_of now.s
 base-kept now next None same h = tt
 base-kept now next (Some v) same h = record { unscrolled = h.unscrolled; size = h.size ∙ same }
 
--- where the size stays, bases stay bases
+-- where the size stays, bases stay bases, and a frame is as long as it was
 pub served-still : (now next : ScreenView) (r : Option RecordView)
     → size_of now.state.shown ≡ size_of next.state.shown → IfSome r (IsServed now) → IfSome r (IsServed next)
 served-still now next None same h = tt
-served-still now next (Some r) same h = base-kept now next r.base same h
+served-still now next (Some r) same h = record {
+  base = base-kept now next r.base same h.base;
+  short = subst (λ (z : Size). IsShortFrame z r.owed) same h.short;
+}
+
+-- a client that has had no frame
+pub new-served : (now : ScreenView) → IsServed now (record { owed = []; base = None })
+new-served now = record { base = tt; short = omega arith }
+
+-- less is owed than before
+pub left-served : (now : ScreenView) (r : RecordView) (n : ℕ) → IsServed now r
+    → IsServed now (record r { owed = drop n r.owed })
+left-served now r n h = record { base = h.base; short = omega (arith, h.short, length-drop n r.owed) }
+
+-- what a client is owed that has this record
+pub owes-one : (now : ScreenView) (o : Option RecordView) → IfSome o (IsServed now)
+    → IfSome (option_map client_of o) (λ c. IsShortFrame (size_of now.state.shown) c.owed)
+owes-one now None h = tt
+owes-one now (Some r) h = h.short
 
 -- the present screen is a base of itself
 pub present-served : (p : ParserView (Unit {0})) (owed : List ℕ) (base : ScreenView) → IsMade p → base ≡ p.screen
-    → IsServed p.screen (record { owed = owed; base = Some base })
-present-served p owed base m is =
-    subst (λ (v : ScreenView). IsBaseOf p.screen v) (sym is) (record { unscrolled = made-unscrolled p m; size = refl })
+    → IsShortFrame (size_of p.screen.state.shown) owed → IsServed p.screen (record { owed = owed; base = Some base })
+present-served p owed base m is few = record {
+  base = subst (λ (v : ScreenView). IsBaseOf p.screen v) (sym is)
+      (record { unscrolled = made-unscrolled p m; size = refl });
+  short = few;
+}
 
 pub none-served : (s : Slab RecordView) (now : ScreenView) (key : ℕ) → s.slots ≡ []
     → IfSome (get s key) (IsServed now)

@@ -8,6 +8,7 @@ pub mod MadeLemmas
 pub mod HubLemmas
 pub mod DueLemmas
 pub mod FeedLaws
+pub mod LocalFrames
 pub mod LogLemmas
 pub mod ScriptLemmas
 pub mod RunLemmas

@@ -16,6 +16,7 @@ use Rattle.vt100_writers.specs.Modes.{input_mode_diff}
 use Rattle.vt100_writers.specs.Screen.{contents_formatted, state_formatted, state_diff}
 use Rattle.vt100_writers.specs.Laws.{IsScreen, IsKnown}
 use Rattle.vt100_writers.specs.Length.{IsSmallScreen}
+use Rattle.vt100_writers.specs.Local.{IsLocalList}
 
 -- ---- the text
 
@@ -121,3 +122,11 @@ IsShortFrame z text = length text ≤ 1024 * (z.rows * z.cols) + 1024
 abbrev pub EachFrameIsShort : Type 0
 EachFrameIsShort = (z : Size) (base : Option Shown) (now : Shown) → HasByteBase base → IsSmallScreen z now
     → IsShortFrame z (frame_text z base now)
+
+-- ---- which cells it touches
+
+-- The text is a frame of forms. Read by a client that shows `base`, they touch local cells of the two pictures alone; but
+-- where the cursor of `now` waits, also the last cell of one row.
+abbrev pub IsLocalFrame : Size → Shown → Shown → List ℕ → Type 0
+IsLocalFrame z base now text =
+    (forms : List Form) × (text ≡ start_mark ++ (spell forms ++ end_mark)) × IsLocalList z base now forms

@@ -3,7 +3,7 @@
 -- Of several refusals an unknown client comes first, then a failed hub, then want of memory.
 use Rattle.std.specs.Prelude.{◌≡◌, ℕ, ◌==◌, Bool, true, false, List, [], ◌∷◌, ◌++◌, drop, Option, Some, None, Result}
 use Rattle.std.specs.Prelude.{Ok}
-use Rattle.std.specs.Prelude.{Err, slice_index_or, if◌then◌else◌}
+use Rattle.std.specs.Prelude.{Err, slice_index_or, if◌then◌else◌, IfSome}
 use Rattle.std.specs.Option.{option_map}
 use Rattle.std.specs.declared.io.Error.{Error}
 use Rattle.vt100_picture.specs.Term.{Size, Shown}
@@ -17,6 +17,7 @@ use Rattle.vt100.specs.declared.error.ScreenError.{ScreenError}
 use Rattle.vt100.specs.declared.error.ScreenError.TheVariants as screen
 use Rattle.takers.specs.Pump.{Pumps}
 use Rattle.termrelay.specs.Answers.{ClientState, answer_of, after_answer, may_take_memory}
+use Rattle.termrelay.specs.Frame.{IsShortFrame, IsLocalFrame}
 use Rattle.termrelay.specs.Record.{RecordView, client_of}
 use Rattle.termrelay.specs.declared.answer.Answer.{Answer}
 use Rattle.termrelay.specs.declared.error.HubError.{HubError}
@@ -171,6 +172,19 @@ module _ {way : Telling} where
   -- a frame is asked for the client at a key
   abbrev pub Frames : HubState way → ℕ → Result Answer HubError → HubState way → Type 0
   Frames h key result g = CanFrame (screen_in h) (clients_in h key) result × Framed h key (clients_in h key) result g
+
+  -- the client at a key, if there is one, is owed no more than the longest frame of a screen of this size
+  abbrev pub OwesOneFrame : HubState way → ℕ → Type 0
+  OwesOneFrame h key = IfSome (clients_in h key) (λ c. IsShortFrame (size_in h) c.owed)
+
+  -- the client at a key was owed nothing, and is now owed a frame whose forms touch local cells of its base's picture and
+  -- the screen's
+  pub record OwesLocalFrame (h : HubState way) (key : ℕ) (g : HubState way) : Type 0 where
+    pub base : Shown
+    pub text : List ℕ
+    pub was : clients_in h key ≡ Some (record { owed = []; base = Some base })
+    pub is : clients_in g key ≡ Some (record { owed = text; base = Some (shown_in h) })
+    pub local : IsLocalFrame (size_in h) base (shown_in h) text
 
   -- ---- pump
 

@@ -20,9 +20,10 @@ pub record IsMade (p : ParserView (Unit {0})) : Type 0 where
   pub are : AreActs rows cols capacity acts
   pub stands : StandsAt p rows cols capacity acts
 
--- the parser was made, each base has the screen's size, and the hub's own one is the present screen
+-- the parser was made, each base has the screen's size, each client is owed at most one frame, and the hub's own base is
+-- the present screen
 pub record IsHub (h : Inside) : Type 0 where
   pub made : h.parser.screen.failed ≡ false → IsMade h.parser
-  pub bases : h.parser.screen.failed ≡ false → (key : ℕ)
+  pub served : h.parser.screen.failed ≡ false → (key : ℕ)
       → IfSome (get h.clients key) (IsServed h.parser.screen)
   pub present : IfSome h.present (λ base. base.value ≡ h.parser.screen)

@@ -5,6 +5,7 @@ use Rattle.vt100_core.specs.Picture.{size_of}
 use Rattle.vt100_state.specs.Call.{ScreenView}
 use Rattle.vt100_state.specs.Shown.{shown_state}
 use Rattle.vt100.specs.WriterLaws.{IsUnscrolled}
+use Rattle.termrelay.specs.Frame.{IsShortFrame}
 use Rattle.termrelay.specs.Answers.{ClientState}
 
 -- the bytes that it is owed, and the screen at its last frame
@@ -20,6 +21,7 @@ pub record IsBaseOf (now base : ScreenView) : Type 0 where
   pub unscrolled : IsUnscrolled base.state
   pub size : size_of base.state.shown ≡ size_of now.state.shown
 
--- the client's base, if it has one, is one of this screen
-abbrev pub IsServed : ScreenView → RecordView → Type 0
-IsServed now s = IfSome s.base (IsBaseOf now)
+-- the client's base, if it has one, is one of this screen, and the client is owed at most one frame
+pub record IsServed (now : ScreenView) (s : RecordView) : Type 0 where
+  pub base : IfSome s.base (IsBaseOf now)
+  pub short : IsShortFrame (size_of now.state.shown) s.owed

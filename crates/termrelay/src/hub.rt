@@ -1,5 +1,8 @@
 //! The hub.
-ghost use Rattle.std.specs.Prelude.{◌≡◌, IfOk, IsOkAnd, OnErr, Err, Some, None, MatchOption, IsSome, slice_index_or};
+ghost use Rattle.std.specs.Prelude.{◌≡◌, false, IfOk, IsOkAnd, OnOk, OnErr, Err, Some, None, MatchOption, IsSome};
+ghost use Rattle.std.specs.Prelude.{slice_index_or};
+ghost use Rattle.termrelay.specs.Frame.{IsShortFrame};
+ghost use Rattle.termrelay.specs.declared.answer.Answer.TheVariants.{Difference};
 ghost use Rattle.termrelay.specs.declared.error.HubError.TheVariants.{Memory, UnknownClient};
 
 use crate::answer::Answer;
@@ -42,7 +45,7 @@ impl Model for Hub {
 
 impl Hub {
     ghost use Rattle.termrelay.specs.Hub.{clients_in, shown_in, Puts, IsNewHub, Feeds, Resizes, Attaches, Detaches};
-    ghost use Rattle.termrelay.specs.Hub.{Frames, PumpsClient};
+    ghost use Rattle.termrelay.specs.Hub.{Frames, OwesOneFrame, OwesLocalFrame, PumpsClient, size_in, is_failed};
 
     /// A hub with a blank screen of this size, which keeps no rows, and without clients.
     pub fn new(alloc: Global, rows: NonZeroU16, cols: NonZeroU16) -> Result<Self, HubError>
@@ -126,10 +129,12 @@ impl Hub {
         }
     }
 
-    /// The bytes of the client's last frame that haven't been pumped yet.
+    /// The bytes of the client's last frame that haven't been pumped yet: at most 1,024 for each cell of the screen, and
+    /// 1,024 more, as long as the hub hasn't failed (`short`). A failed hub's clients are owed what they were before.
     pub fn owed(&self, client: Client) -> Result<&[u8], HubError>
-        ensures { MatchOption (clients_in self.now client) (result ≡ Err UnknownClient)
+        ensures owed { MatchOption (clients_in self.now client) (result ≡ Err UnknownClient)
             (λ c. IsOkAnd result (λ bytes. bytes.now ≡ c.owed)) }
+        ensures short { is_failed self.now ≡ false → IfOk result (λ bytes. IsShortFrame (size_in self.now) bytes.now) }
     {
         match self.clients.get(client.key()) {
             Some(record) => Ok(record.owed()),
@@ -172,8 +177,15 @@ impl Hub {
 
     /// Asks for a frame for the client. Where the answer brings one, its text is owed from now on, and the present
     /// screen is the client's base. Refused, nothing has changed.
+    ///
+    /// Whatever the answer is, the client is owed at most 1,024 bytes for each cell of the screen, and 1,024 more
+    /// (`short`). The forms of a difference touch local cells alone: those that differ, and, in rows that differ and right
+    /// below them, empty ones and those of the first and the last column; each with its other half. Where the cursor waits
+    /// at the end of a row, they may also touch the last cell of one row (`local`).
     pub fn frame(&mut self, client: Client) -> Result<Answer, HubError>
-        ensures { Frames self.old client result self.new }
+        ensures frames { Frames self.old client result self.new }
+        ensures short { OnOk result (OwesOneFrame self.new client) }
+        ensures local { IfOk result (λ answer. answer ≡ Difference → OwesLocalFrame self.old client self.new) }
     {
         let Some(record) = self.clients.get(client.key()) else {
             return Err(HubError::UnknownClient);
@@ -197,6 +209,7 @@ impl Hub {
     fn owe(&mut self, client: Client, text: Vec<u8>, base: Rc<Screen>)
         requires known { IsSome (slice_index_or self.old.clients client None) }
         requires present { base.value ≡ self.old.parser.screen }
+        requires short { IsShortFrame (size_in self.old) text.items }
         ensures { Puts self.old client (Some (record { owed = text.items; base = Some (shown_in self.old) })) self.new }
     {
         if let Some(record) = self.clients.get_mut(client.key()) {

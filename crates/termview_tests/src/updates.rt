@@ -96,21 +96,40 @@ fn an_update_is_held(rt: HostRuntime) -> Result<(), Fail> {
     Ok(())
 }
 
+/// A first frame, of two characters.
+const FRAME: &[u8] =
+    b"\x1b[?2026h\x1b[?25h\x1b[m\x1b[H\x1b[Jhi\x1b>\x1b[?1l\x1b[?2004l\x1b[?2026l";
+
 /// A frame that is cut anywhere shows at its last byte, and not before.
 #[test]
 fn a_frame_is_never_torn(rt: HostRuntime) -> Result<(), Fail> {
-    let frame = b"\x1b[?2026h\x1b[?25h\x1b[m\x1b[H\x1b[Jhi\x1b[?2026l";
-    for cut in 0..frame.len() {
+    for cut in 0..FRAME.len() {
         let mut view = blank(rt.alloc(), (2, 4))?;
-        view.advance(&frame[..cut]);
+        view.advance(&FRAME[..cut]);
         let before = shown(rt.alloc(), &view)?;
-        view.advance(&frame[cut..]);
+        view.advance(&FRAME[cut..]);
         let after = shown(rt.alloc(), &view)?;
         assert_eq!(rt;
             (before.as_str(), after.as_str()),
             ("..../..../ 0 0", "hi../..../ 0 2"),
             "{cut}"
         );
+    }
+    Ok(())
+}
+
+/// Wherever its update is stopped, a whole frame shows in the end, and nothing is held.
+#[test]
+fn a_stop_after_any_byte(rt: HostRuntime) -> Result<(), Fail> {
+    for cut in 0..FRAME.len() {
+        let (front, rest) = FRAME.split_at(cut + 1);
+        let mut view = blank(rt.alloc(), (2, 4))?;
+        view.advance(front);
+        view.stop_sync();
+        view.advance(rest);
+        let text = shown(rt.alloc(), &view)?;
+        let count = view.sync_bytes_count();
+        assert_eq!(rt; (text.as_str(), count), ("hi../..../ 0 2", 0), "{cut}");
     }
     Ok(())
 }

@@ -1,14 +1,15 @@
--- A screen's lists are those of what it shows, whose forms and lengths are known.
-use Rattle.std.proofs.Common.{◌≡◌, ℕ, suc, ◌+◌, ◌<◌, ◌≤◌, ◌^◌, Bool, false, ◌&&◌, ◌==◌, List, [], ◌∷◌, length, None, refl}
+-- A screen's lists are those of what it shows, whose forms, lengths and cells are known.
+use Rattle.std.proofs.Common.{◌≡◌, ℕ, suc, ◌+◌, ◌*◌, ◌<◌, ◌≤◌, ◌^◌, Bool, false, ◌&&◌, ◌==◌, List, [], ◌∷◌, ◌++◌, length, None, refl}
 use Rattle.std.proofs.Common.{sym, ap, subst, arith, Contains, nat_lt}
 use Rattle.std.specs.List.{AllByRecursion}
 use Rattle.std.proofs.lemmas.Bool.{cond_both}
 use Rattle.vt100_forms.specs.Attrs.{default_attrs, IsProper, HasByteColors}
-use Rattle.vt100_forms.specs.Form.{Form}
+use Rattle.vt100_forms.specs.Form.{Form, spell}
 use Rattle.vt100_cells.specs.Cell.{CellView, IsCell, default_cell}
 use Rattle.vt100_cells.specs.Cells.{cell_at}
 use Rattle.vt100_cells.proofs.CellLemmas.{IsCell-empty}
 use Rattle.vt100_picture.specs.FormText.{AreForms, AreSentForms}
+use Rattle.vt100_picture.specs.Term.{Size, Shown, IsShown}
 use Rattle.vt100_redraw.specs.Small.{SmallErase, IsSmallPen}
 use Rattle.vt100_rows.specs.Row.{RowView}
 use Rattle.vt100_rows.specs.Forms.{formatted, differing}
@@ -21,7 +22,9 @@ use Rattle.vt100_writers.specs.Length as writers_length
 use Rattle.vt100_writers.specs.Screen as picture
 use Rattle.vt100_writers.proofs.Modes.{modes-set, modes-changed, attributes-set}
 use Rattle.vt100_writers.proofs.SmallScreens.{lists-sent, lists-forms}
+use Rattle.vt100_writers.specs.Local.{IsLocalList}
 use Rattle.vt100_writers.proofs.Lengths.{each-short}
+use Rattle.vt100_writers.proofs.LocalScreens.{contents-local, difference-local}
 use Rattle.vt100_core.specs.Grid.{visible, visible_at}
 use Rattle.vt100_core.specs.Picture.{size_of}
 use Rattle.vt100_core.proofs.PictureWriters.{lines-cells}
@@ -31,11 +34,14 @@ use Rattle.vt100_state.specs.Made.{made}
 use Rattle.vt100_state.proofs.MadeLemmas.{makes-cells}
 use Rattle.vt100.specs.Writers.{contents_formatted, state_formatted, contents_diff, state_diff, cursor_state_formatted}
 use Rattle.vt100.specs.Writers.{each_formatted, each_diff}
-use Rattle.vt100.specs.WriterLaws.{IsUnscrolled}
+use Rattle.vt100.specs.WriterLaws.{IsUnscrolled, IsPlainlyShown}
 use Rattle.vt100.specs.FormLists.{EachModeLeads, EachModeChangeLeads, EachAttributeLeads, EachScreenIsKnown}
 use Rattle.vt100.specs.FormLists.{EachMadeScreenIsKnown, IsTrueOfLists, EachListIsSent, EachListIsOfForms, IsSpelled}
 use Rattle.vt100.specs.FormLists.{IsTrueOfRows, EachRowIsSent, EachRowIsOfForms, EachListIsShort, EachScreenIsSmall}
+use Rattle.vt100.specs.FormLists.{IsShortText, IsLocalText}
 use Rattle.vt100.proofs.ShownLemmas.{cells-are, shown-is, contents-is, state-is, cursor-is, changed-is, all-changed_is}
+use Rattle.vt100.proofs.ShownLemmas.{screen-drawable}
+use Rattle.vt100.proofs.WriteLemmas.{as_shown}
 use Rattle.vt100.proofs.RowTexts.{row-is, shown-many, IsReadyRow, ready-row}
 
 -- ---- modes and attributes
@@ -134,6 +140,39 @@ screen-short old new o h e =
       input_mode_formatted = all.input_mode_formatted;
       input_mode_diff = all.input_mode_diff;
     }
+
+-- a text that begins empty
+pub text-short : (z : Size) (more : ℕ) (fs : List Form) (s t : List ℕ) → s ≡ [] → t ≡ s ++ spell fs → IsWithin z more fs
+    → IsShortText z more t
+text-short z more fs s t e a w = subst (IsShortText z more) (sym (as_shown fs fs s t e a refl)) w
+
+pub text-local : (z : Size) (old new : Shown) (fs : List Form) (s t : List ℕ) → s ≡ [] → t ≡ s ++ spell fs
+    → IsLocalList z old new fs → IsLocalText z old new t
+text-local z old new fs s t e a l = (fs, as_shown fs fs s t e a refl, l)
+
+-- ---- which cells they touch
+
+old-shown : (old new : State) → IsUnscrolled old → size_of old.shown ≡ size_of new.shown
+    → IsShown (size_of new.shown) (shown_state old)
+old-shown old new o e = subst (λ (z : Size). IsShown z (shown_state old)) e (shown-is old o)
+
+pub contents_diff-local : (old new : State) → IsUnscrolled old → IsUnscrolled new
+    → size_of old.shown ≡ size_of new.shown → IsPlainlyShown (shown_state new)
+    → IsLocalList (size_of new.shown) (shown_state old) (shown_state new) (contents_diff old new)
+contents_diff-local old new o h e plain =
+    let z = size_of new.shown in
+    subst (IsLocalList z (shown_state old) (shown_state new)) (sym (changed-is old new o h e))
+    (contents-local z (shown_state old) (shown_state new) (old-shown old new o e) o.state.attrs
+    (screen-drawable new h plain))
+
+pub state_diff-local : (old new : State) → IsUnscrolled old → IsUnscrolled new
+    → size_of old.shown ≡ size_of new.shown → IsPlainlyShown (shown_state new)
+    → IsLocalList (size_of new.shown) (shown_state old) (shown_state new) (state_diff old new)
+state_diff-local old new o h e plain =
+    let z = size_of new.shown in
+    subst (IsLocalList z (shown_state old) (shown_state new)) (sym (all-changed_is old new o h e))
+    (difference-local z (shown_state old) (shown_state new) (old-shown old new o e) o.state.attrs
+    (screen-drawable new h plain))
 
 -- ---- rows
 

@@ -1,6 +1,6 @@
--- What a screen's calls write are lists of forms: where those of modes and attributes lead, which forms they are, and how
--- many bytes they take.
-use Rattle.std.specs.Prelude.{ℕ, ◌≡◌, ◌≤◌, List, length, Contains}
+-- What a screen's calls write are lists of forms: where those of modes and attributes lead, which forms they are, how many
+-- bytes they take, and which cells those of differences touch.
+use Rattle.std.specs.Prelude.{ℕ, ◌≡◌, ◌+◌, ◌*◌, ◌≤◌, List, length, Contains}
 use Rattle.std.specs.List.{AllByRecursion}
 use Rattle.vt100_forms.specs.Form.{Form, spell}
 use Rattle.vt100_forms.specs.declared.modes.MouseProtocolMode.TheVariants as mouse
@@ -12,6 +12,7 @@ use Rattle.vt100_picture.specs.Leads.{Leads}
 use Rattle.vt100_writers.specs.Modes.{input_mode_formatted, input_mode_diff, attributes_formatted}
 use Rattle.vt100_writers.specs.Laws.{IsKnown, with_modes}
 use Rattle.vt100_writers.specs.Length.{IsSmallScreen, IsWithin}
+use Rattle.vt100_writers.specs.Local.{IsLocalList}
 use Rattle.vt100_core.specs.Picture.{size_of}
 use Rattle.vt100_state.specs.State.{State, IsState}
 use Rattle.vt100_state.specs.Shown.{shown_state}
@@ -111,3 +112,14 @@ pub record AreShort (old new : State) : Type 0 where
 abbrev pub EachListIsShort : Type 0
 EachListIsShort = (old new : State) → IsUnscrolled old → IsUnscrolled new → size_of old.shown ≡ size_of new.shown
     → AreShort old new
+
+-- a text of at most 1,024 bytes a cell, and so many more
+abbrev pub IsShortText : Size → ℕ → List ℕ → Type 0
+IsShortText z more text = length text ≤ 1024 * (z.rows * z.cols) + more
+
+-- ---- which cells they touch
+
+-- The text is one of forms. Read by a terminal that shows `old`, they touch local cells of the two pictures alone; but
+-- where the cursor of `new` waits, also the last cell of one row.
+abbrev pub IsLocalText : Size → Shown → Shown → List ℕ → Type 0
+IsLocalText z old new text = (forms : List Form) × (text ≡ spell forms) × IsLocalList z old new forms

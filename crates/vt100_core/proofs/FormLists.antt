@@ -1,27 +1,29 @@
--- A grid's lists are those of its picture, whose forms and lengths are known.
-use Rattle.std.proofs.Common.{◌≡◌, List, sym, subst}
+-- A grid's lists are those of its picture, whose forms, lengths and cells are known.
+use Rattle.std.proofs.Common.{◌≡◌, ℕ, List, ◌++◌, length, length-append, arith, ap, ◌∙◌, sym, subst}
 use Rattle.std.specs.Prelude.{unwrap_or}
 use Rattle.vt100_forms.specs.declared.attrs.Attrs.{Attrs}
-use Rattle.vt100_forms.specs.Attrs.{HasByteColors, default_attrs}
-use Rattle.vt100_forms.specs.Form.{Form}
+use Rattle.vt100_forms.specs.Attrs.{IsProper, HasByteColors, default_attrs}
+use Rattle.vt100_forms.specs.Form.{Form, spell}
 use Rattle.vt100_picture.specs.FormText.{AreForms, AreSentForms}
-use Rattle.vt100_picture.specs.Term.{Shown}
+use Rattle.vt100_picture.specs.Term.{Size, Shown, IsShown}
 use Rattle.vt100_redraw.specs.Writer.{Drawn}
 use Rattle.vt100_writers.specs.Laws as writers
 use Rattle.vt100_writers.specs.Screen as picture
 use Rattle.vt100_writers.specs.Laws.{IsKnown}
 use Rattle.vt100_writers.specs.Length as writers_length
 use Rattle.vt100_writers.specs.Length.{IsSmallScreen, IsWithin}
+use Rattle.vt100_writers.specs.Local.{IsLocalList}
 use Rattle.vt100_writers.proofs.Lengths.{each-short}
+use Rattle.vt100_writers.proofs.LocalScreens.{grid-local}
 use Rattle.vt100_writers.proofs.SmallScreens.{lists-sent, lists-forms}
 use Rattle.vt100_core.specs.Grid.{GridView}
 use Rattle.vt100_core.specs.Picture.{size_of, Extras}
 use Rattle.vt100_core.specs.Writers.{drawn_on, redrawn, contents_formatted, differing}
-use Rattle.vt100_core.specs.WriterLaws.{IsUnscrolled, picture_of}
+use Rattle.vt100_core.specs.WriterLaws.{IsUnscrolled, IsDrawableGrid, picture_of}
 use Rattle.vt100_core.specs.FormLists.{IsProperGrid, HasNo, IsTrueOfLists, EachListIsSent, EachListIsOfForms, AreShort}
-use Rattle.vt100_core.specs.FormLists.{EachListIsShort}
+use Rattle.vt100_core.specs.FormLists.{EachListIsShort, IsShortGrowth, AppendsLocal}
 use Rattle.vt100_core.proofs.PictureWriters.{plain_extras, shown-grid, lines-cells, contents-is, redrawn-of_picture}
-use Rattle.vt100_core.proofs.PictureWriters.{differing-of_pictures}
+use Rattle.vt100_core.proofs.PictureWriters.{differing-of_pictures, grid-drawable}
 
 pub small-grid : (g : GridView) → IsProperGrid g → IsSmallScreen (size_of g) (drawn_on g)
 small-grid g h = record {
@@ -84,3 +86,25 @@ grid-short g h =
       difference = λ old a o e k. difference-of (IsWithin z 256) g old a h o e
           (short (picture_of old (with_attrs a)) k).grid_diff;
     }
+
+-- ---- what is appended
+
+pub grown-short : (g : GridView) (fs : List Form) (s t : List ℕ) → IsWithin (size_of g) 256 fs → t ≡ s ++ spell fs
+    → IsShortGrowth g s t
+grown-short g fs s t h is = omega (arith, h, ap length is, length-append s (spell fs))
+
+-- which cells a difference touches
+pub appends-local : (g old : GridView) (a : Attrs) (s t : List ℕ) → IsDrawableGrid g → IsUnscrolled old
+    → size_of old ≡ size_of g → IsProper a → t ≡ s ++ spell (differing g old a).forms → AppendsLocal g old a s t
+appends-local g old a s t h o e proper is = (
+  (differing g old a).forms,
+  is,
+  λ x same.
+      let z = size_of g in
+      let made : differing g old a ≡ picture.grid_difference z (picture_of old x) (drawn_on g) =
+      ap (λ (b : Attrs). differing g old b) (sym same) ∙ differing-of_pictures g old plain_extras x h.shown o e in
+      subst (λ (d : Drawn). IsLocalList z (picture_of old x) (drawn_on g) d.forms) (sym made)
+      (grid-local z (picture_of old x) (drawn_on g)
+      (subst (λ (y : Size). IsShown y (picture_of old x)) e (shown-grid old x o))
+      (subst IsProper (sym same) proper) (grid-drawable g plain_extras h)),
+)

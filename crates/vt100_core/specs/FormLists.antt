@@ -1,16 +1,17 @@
--- What a grid appends are lists of forms that writers send, and how long they can be.
-use Rattle.std.specs.Prelude.{ℕ, ◌≡◌, List, Contains, Option, unwrap_or}
+-- What a grid appends are lists of forms that writers send, how long they can be, and which cells differences touch.
+use Rattle.std.specs.Prelude.{ℕ, ◌+◌, ◌*◌, ◌≤◌, ◌≡◌, List, ◌++◌, length, Contains, Option, unwrap_or}
 use Rattle.vt100_forms.specs.declared.attrs.Attrs.{Attrs}
 use Rattle.vt100_forms.specs.declared.position.Pos.{Pos}
 use Rattle.vt100_forms.specs.Attrs.{IsProper, HasByteColors, default_attrs}
-use Rattle.vt100_forms.specs.Form.{Form}
+use Rattle.vt100_forms.specs.Form.{Form, spell}
 use Rattle.vt100_picture.specs.FormText.{AreForms, AreSentForms}
 use Rattle.vt100_sheet.specs.Picture.{lines_of}
 use Rattle.vt100_writers.specs.Length.{IsWithin}
+use Rattle.vt100_writers.specs.Local.{IsLocalList}
 use Rattle.vt100_core.specs.Grid.{GridView}
-use Rattle.vt100_core.specs.Picture.{size_of}
-use Rattle.vt100_core.specs.Writers.{cursor_position_formatted, contents_formatted, differing}
-use Rattle.vt100_core.specs.WriterLaws.{IsUnscrolled}
+use Rattle.vt100_core.specs.Picture.{size_of, Extras}
+use Rattle.vt100_core.specs.Writers.{drawn_on, cursor_position_formatted, contents_formatted, differing}
+use Rattle.vt100_core.specs.WriterLaws.{IsUnscrolled, picture_of}
 
 -- a grid with its rows, which shows no kept row, with attributes such as control sequences can set
 pub record IsProperGrid (g : GridView) : Type 0 where
@@ -45,3 +46,16 @@ pub record AreShort (g : GridView) : Type 0 where
 
 abbrev pub EachListIsShort : Type 0
 EachListIsShort = (g : GridView) → IsProperGrid g → AreShort g
+
+-- a text has grown by no more than that
+abbrev pub IsShortGrowth : GridView → List ℕ → List ℕ → Type 0
+IsShortGrowth g old new = length new ≤ length old + (1024 * (g.height * g.width) + 256)
+
+-- ---- which cells they touch
+
+-- The text s becomes t by forms. Read by a terminal that shows the earlier grid, and draws with the attributes a, they
+-- touch local cells of the two pictures alone; but where the cursor waits, also the last cell of one row.
+abbrev pub AppendsLocal : GridView → GridView → Attrs → List ℕ → List ℕ → Type 0
+AppendsLocal g old a s t =
+    (forms : List Form) × (t ≡ s ++ spell forms)
+    × ((x : Extras) → x.attrs ≡ a → IsLocalList (size_of g) (picture_of old x) (drawn_on g) forms)

@@ -255,7 +255,7 @@ diff-length z old new ha h =
       length-change a new.attrs h.attrs,
     )
 
-modes-length : (s : Shown) → length (spell (input_mode_formatted s)) ≤ 36
+pub modes-length : (s : Shown) → length (spell (input_mode_formatted s)) ≤ 36
 unfolding input_mode_formatted
 modes-length s =
     let m = s.modes in
@@ -276,7 +276,7 @@ modes-length s =
       form-length (Style s.style style.Default) 5 tt (omega arith),
     )
 
-modes_diff-length : (old new : Shown) → length (spell (input_mode_diff old new)) ≤ 36
+pub modes_diff-length : (old new : Shown) → length (spell (input_mode_diff old new)) ≤ 36
 unfolding input_mode_diff
 modes_diff-length old new =
     let m = old.modes in

@@ -1,5 +1,5 @@
 //! What a screen shows, as forms for a terminal.
-ghost use Rattle.std.specs.Prelude.{◌≡◌, [], ◌++◌, OnOk, OnErr, IfOk, Err, string_bytes, if◌then◌else◌};
+ghost use Rattle.std.specs.Prelude.{◌≡◌, ◌≤◌, [], ◌++◌, length, OnOk, OnErr, IfOk, Err, string_bytes, if◌then◌else◌};
 ghost use Rattle.vt100_forms.specs.Form.{spell};
 ghost use Rattle.vt100_cells.specs.Cell.{bool_eq};
 ghost use Rattle.vt100_writers.specs.Modes.{input_mode_formatted, input_mode_diff, attributes_formatted};
@@ -8,7 +8,8 @@ ghost use Rattle.vt100_core.specs.Picture.{size_of};
 ghost use Rattle.vt100_state.specs.Shown.{shown_state};
 ghost use Rattle.vt100.specs.Writers.{contents_formatted, state_formatted, contents_diff, state_diff};
 ghost use Rattle.vt100.specs.Writers.{cursor_state_formatted, rows_formatted, rows_diff};
-ghost use Rattle.vt100.specs.WriterLaws.{IsUnscrolled};
+ghost use Rattle.vt100.specs.WriterLaws.{IsUnscrolled, IsPlainlyShown};
+ghost use Rattle.vt100.specs.FormLists.{IsShortText, IsLocalText};
 ghost use Rattle.vt100.specs.declared.error.ScreenError.TheVariants.{Memory};
 
 use crate::error::ScreenError;
@@ -24,11 +25,14 @@ use vt100_core::{CursorStyle, GridError, MouseProtocolEncoding, MouseProtocolMod
 impl Screen {
     /// The forms that take a terminal to all that the screen shows, whatever it showed before, if its mouse mode and
     /// encoding and its cursor's style are as they are at first: [`contents_formatted`](Self::contents_formatted), and
-    /// [`input_mode_formatted`](Self::input_mode_formatted) after it.
+    /// [`input_mode_formatted`](Self::input_mode_formatted) after it. Where no kept row is shown they are at most 1,024
+    /// bytes for each cell, and 1,008 more (`short`).
     pub fn state_formatted(&self) -> Result<String, ScreenError>
         ensures text { IfOk result (λ contents. string_bytes contents ≡ spell (state_formatted self.now.state)) }
         ensures shown { IsUnscrolled self.now.state → IfOk result (λ contents. string_bytes contents
             ≡ spell (picture.state_formatted (size_of self.now.state.shown) (shown_state self.now.state))) }
+        ensures short { IsUnscrolled self.now.state → IfOk result (λ contents.
+            IsShortText (size_of self.now.state.shown) 1008 (string_bytes contents)) }
         ensures memory { OnErr result (result ≡ Err Memory) }
     {
         let mut contents = String::new(self.alloc);
@@ -40,6 +44,11 @@ impl Screen {
     /// The forms that take a terminal from all that `prev` shows to all that the screen shows:
     /// [`contents_diff`](Self::contents_diff), and [`input_mode_diff`](Self::input_mode_diff) after it. Both screens
     /// have one size.
+    ///
+    /// Where neither shows a kept row they are at most 1,024 bytes for each cell, and 1,008 more (`short`). Where no cell
+    /// shows U+FE0F either, they touch local cells alone: those that differ, and, in rows that differ and right below
+    /// them, empty ones and those of the first and the last column; each with its other half. Where the cursor waits at
+    /// the end of a row, they may also touch the last cell of one row (`local`).
     pub fn state_diff(&self, prev: &Self) -> Result<String, ScreenError>
         ensures text { IfOk result (λ contents. string_bytes contents
             ≡ spell (state_diff prev.now.state self.now.state)) }
@@ -47,6 +56,14 @@ impl Screen {
             → size_of prev.now.state.shown ≡ size_of self.now.state.shown
             → IfOk result (λ contents. string_bytes contents ≡ spell (picture.state_diff
             (size_of self.now.state.shown) (shown_state prev.now.state) (shown_state self.now.state))) }
+        ensures short { IsUnscrolled prev.now.state → IsUnscrolled self.now.state
+            → size_of prev.now.state.shown ≡ size_of self.now.state.shown
+            → IfOk result (λ contents. IsShortText (size_of self.now.state.shown) 1008 (string_bytes contents)) }
+        ensures local { IsUnscrolled prev.now.state → IsUnscrolled self.now.state
+            → size_of prev.now.state.shown ≡ size_of self.now.state.shown
+            → IsPlainlyShown (shown_state self.now.state)
+            → IfOk result (λ contents. IsLocalText (size_of self.now.state.shown) (shown_state prev.now.state)
+            (shown_state self.now.state) (string_bytes contents)) }
         ensures memory { OnErr result (result ≡ Err Memory) }
     {
         let mut contents = String::new(self.alloc);
@@ -57,11 +74,14 @@ impl Screen {
 
     /// The forms that take a terminal to the picture that the screen shows, whatever it showed before: whether the
     /// cursor is hidden, the rows, the cursor, and the attributes that are drawn with. Rows are drawn as they are
-    /// shown; the cursor is that of the rows that are drawn on.
+    /// shown; the cursor is that of the rows that are drawn on. Where no kept row is shown they are at most 1,024 bytes
+    /// for each cell, and 512 more (`short`).
     pub fn contents_formatted(&self) -> Result<String, ScreenError>
         ensures text { IfOk result (λ contents. string_bytes contents ≡ spell (contents_formatted self.now.state)) }
         ensures shown { IsUnscrolled self.now.state → IfOk result (λ contents. string_bytes contents
             ≡ spell (picture.contents_formatted (size_of self.now.state.shown) (shown_state self.now.state))) }
+        ensures short { IsUnscrolled self.now.state → IfOk result (λ contents.
+            IsShortText (size_of self.now.state.shown) 512 (string_bytes contents)) }
         ensures memory { OnErr result (result ≡ Err Memory) }
     {
         let mut contents = String::new(self.alloc);
@@ -95,6 +115,9 @@ impl Screen {
     /// The forms that take a terminal from the picture that `prev` shows to the one that the screen shows. What is
     /// alike isn't drawn again. Both screens have one size: of others, the rows and columns that both have are
     /// compared.
+    ///
+    /// Where neither shows a kept row they are at most 1,024 bytes for each cell, and 512 more (`short`), and touch the
+    /// cells that [`state_diff`](Self::state_diff) says (`local`).
     pub fn contents_diff(&self, prev: &Self) -> Result<String, ScreenError>
         ensures text { IfOk result (λ contents. string_bytes contents
             ≡ spell (contents_diff prev.now.state self.now.state)) }
@@ -102,6 +125,14 @@ impl Screen {
             → size_of prev.now.state.shown ≡ size_of self.now.state.shown
             → IfOk result (λ contents. string_bytes contents ≡ spell (picture.contents_diff
             (size_of self.now.state.shown) (shown_state prev.now.state) (shown_state self.now.state))) }
+        ensures short { IsUnscrolled prev.now.state → IsUnscrolled self.now.state
+            → size_of prev.now.state.shown ≡ size_of self.now.state.shown
+            → IfOk result (λ contents. IsShortText (size_of self.now.state.shown) 512 (string_bytes contents)) }
+        ensures local { IsUnscrolled prev.now.state → IsUnscrolled self.now.state
+            → size_of prev.now.state.shown ≡ size_of self.now.state.shown
+            → IsPlainlyShown (shown_state self.now.state)
+            → IfOk result (λ contents. IsLocalText (size_of self.now.state.shown) (shown_state prev.now.state)
+            (shown_state self.now.state) (string_bytes contents)) }
         ensures memory { OnErr result (result ≡ Err Memory) }
     {
         let mut contents = String::new(self.alloc);
@@ -135,10 +166,12 @@ impl Screen {
     }
 
     /// The forms that set a terminal's modes: the keypad's and the cursor keys' application mode and bracketed paste;
-    /// and where they aren't as at first, the mouse's mode and encoding and the cursor's style.
+    /// and where they aren't as at first, the mouse's mode and encoding and the cursor's style. They are at most 128 bytes
+    /// (`short`).
     pub fn input_mode_formatted(&self) -> Result<String, ScreenError>
         ensures text { IfOk result (λ contents. string_bytes contents
             ≡ spell (input_mode_formatted (shown_state self.now.state))) }
+        ensures short { IfOk result (λ contents. length (string_bytes contents) ≤ 128) }
         ensures memory { OnErr result (result ≡ Err Memory) }
     {
         let mut contents = String::new(self.alloc);
@@ -163,10 +196,12 @@ impl Screen {
         term::CursorStyle::new(self.cursor_style, CursorStyle::Default).write_buf(contents)
     }
 
-    /// The forms that change the modes of a terminal from those of `prev` to those of the screen.
+    /// The forms that change the modes of a terminal from those of `prev` to those of the screen: at most 128 bytes
+    /// (`short`).
     pub fn input_mode_diff(&self, prev: &Self) -> Result<String, ScreenError>
         ensures text { IfOk result (λ contents. string_bytes contents
             ≡ spell (input_mode_diff (shown_state prev.now.state) (shown_state self.now.state))) }
+        ensures short { IfOk result (λ contents. length (string_bytes contents) ≤ 128) }
         ensures memory { OnErr result (result ≡ Err Memory) }
     {
         let mut contents = String::new(self.alloc);

@@ -1,9 +1,13 @@
 //! What a grid shows, as forms.
 ghost use Rattle.std.specs.Prelude.{◌≡◌, ◌&&◌, not, length, min, is_ok, IfOk, string_bytes};
+ghost use Rattle.vt100_forms.specs.Attrs.{IsProper, HasByteColors};
 ghost use Rattle.vt100_redraw.specs.Writes.{Writes};
 ghost use Rattle.vt100_writers.specs.Rows.{pen_at};
 ghost use Rattle.vt100_core.specs.Writers.{Appends, contents_formatted, redrawn, lines_redraw, differing};
 ghost use Rattle.vt100_core.specs.Writers.{lines_difference};
+ghost use Rattle.vt100_core.specs.Picture.{size_of};
+ghost use Rattle.vt100_core.specs.WriterLaws.{IsUnscrolled, IsDrawableGrid};
+ghost use Rattle.vt100_core.specs.FormLists.{IsProperGrid, IsShortGrowth, AppendsLocal};
 
 use crate::grid::Grid;
 use vt100_forms::attrs::Attrs;
@@ -19,11 +23,15 @@ impl Grid {
     ///
     /// Kept rows that are shown are drawn in the screen's columns; the cursor is that of the rows that are drawn on.
     ///
+    /// Where no kept row is shown, they are at most 1,024 bytes for each cell, and 256 more (`short`).
+    ///
     /// On an error a part of the forms may have been appended.
     pub fn write_contents_formatted(&self, contents: &mut String) -> Result<Attrs, GridError>
         ensures text { Appends (contents_formatted self.now) (string_bytes contents.old) (is_ok result)
             (string_bytes contents.new) }
         ensures attrs { IfOk result (λ answer. answer ≡ (redrawn self.now).pen.attrs) }
+        ensures short { IsProperGrid self.now → IfOk result (λ answer.
+            IsShortGrowth self.now (string_bytes contents.old) (string_bytes contents.new)) }
     {
         ClearAttrs.write_buf(contents)?;
         ClearScreen.write_buf(contents)?;
@@ -39,6 +47,11 @@ impl Grid {
     /// with which the terminal draws; answers those with which it draws afterwards. Both grids have one size: of
     /// others, the rows and columns that both have are compared.
     ///
+    /// Where no kept row is shown, they are at most 1,024 bytes for each cell, and 256 more (`short`), and touch local
+    /// cells alone: those that differ, and, in rows that differ and right below them, empty ones and those of the first
+    /// and the last column; each with its other half. Where the cursor waits at the end of a row, they may also touch the
+    /// last cell of one row (`local`).
+    ///
     /// On an error a part of the forms may have been appended.
     pub fn write_contents_diff(
         &self,
@@ -49,6 +62,12 @@ impl Grid {
         ensures text { Appends (differing self.now prev.now prev_attrs).forms (string_bytes contents.old) (is_ok result)
             (string_bytes contents.new) }
         ensures attrs { IfOk result (λ answer. answer ≡ (differing self.now prev.now prev_attrs).pen.attrs) }
+        ensures short { IsProperGrid self.now → IsUnscrolled prev.now → size_of prev.now ≡ size_of self.now
+            → HasByteColors prev_attrs → IfOk result (λ answer.
+            IsShortGrowth self.now (string_bytes contents.old) (string_bytes contents.new)) }
+        ensures local { IsDrawableGrid self.now → IsUnscrolled prev.now → size_of prev.now ≡ size_of self.now
+            → IsProper prev_attrs → IfOk result (λ answer.
+            AppendsLocal self.now prev.now prev_attrs (string_bytes contents.old) (string_bytes contents.new)) }
     {
         let mut pen = pen_at(prev.pos, prev_attrs);
         self.rows_diff(contents, &mut pen, prev)?;

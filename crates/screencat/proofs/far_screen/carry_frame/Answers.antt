@@ -17,7 +17,7 @@ returns c = λ rows cols past base at.
     let line = c.pump.new.to in
     let owed = (asked rows cols (concat pieces) base).owed in
     let fed = piece-fed rows cols past piece base c.args.hub.now h key at c.in_ok-feed.ensures in
-    let made = frame-asked rows cols pieces base h k key c.in_ok-frame.field-0 fed c.in_ok-frame.ensures in
+    let made = frame-asked rows cols pieces base h k key c.in_ok-frame.field-0 fed c.in_ok-frame.ensures.frames in
     let turned = turn-ends _ _ rows cols pieces base h k g key c.new-line.result line fed made c.in_ok-pump.ensures in
     let whole : c.deref.result.now ≡ owed =
     c.deref.ensures.value

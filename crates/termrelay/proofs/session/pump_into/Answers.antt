@@ -9,7 +9,7 @@ overflow_sub-len c =
     let h = c.args.hub.now in
     let p : IsPumped h c.args.client c.args.takes.now owed c.owed_count.result =
     pumped-by h c.pump-reply.new.hub c.args.client c.args.takes.now c.pump-reply.result owed
-    c.owed_count.result _ (λ no. absurd cc) (clients_in h c.args.client) refl c.in-Ok.ensures c.owed_count.ensures
+    c.owed_count.result _ (λ no. absurd cc) (clients_in h c.args.client) refl c.in-Ok.ensures.owed c.owed_count.ensures
     c.pump-reply.ensures in
     omega (arith, p.rest, length-drop p.count owed, c.len.ensures, c.in_ok-extend_from_slice.ensures.len)
 
@@ -21,7 +21,7 @@ returns-clause-bytes c =
     let h = c.args.hub.now in
     let p : IsPumped h c.args.client c.args.takes.now owed left =
     pumped-by h c.pump-reply.new.hub c.args.client c.args.takes.now c.pump-reply.result owed left _
-    (λ no. absurd cc) (clients_in h c.args.client) refl c.in-Ok.ensures c.owed_count.ensures c.pump-reply.ensures in
+    (λ no. absurd cc) (clients_in h c.args.client) refl c.in-Ok.ensures.owed c.owed_count.ensures c.pump-reply.ensures in
     let both = c.extend_from_slice.new.self in
     let whole : both.items ≡ bytes ++ owed = c.in_ok-extend_from_slice.ensures.items in
     let count : c.len.result ≡ length (bytes ++ owed) = omega (arith, c.len.ensures, both.ok.0, ap length whole) in

@@ -29,7 +29,7 @@ invariant_of-self-2 c =
     let made = c.self.invariant.made live in
     record {
       made = λ alive. fed-made p q c.args.bytes.now made step;
-      bases = λ alive key. served-still p.screen q.screen (get c.self.inside.clients key)
-          (fed-size p q c.args.bytes.now made step) (c.self.invariant.bases live key);
+      served = λ alive key. served-still p.screen q.screen (get c.self.inside.clients key)
+          (fed-size p q c.args.bytes.now made step) (c.self.invariant.served live key);
       present = tt;
     }

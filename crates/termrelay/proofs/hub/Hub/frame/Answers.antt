@@ -1,20 +1,25 @@
 use Rattle.std.proofs.Common.{◌≡◌, ℕ, List, [], ◌∷◌, ◌++◌, ap, sym, ◌∙◌, refl, subst, true, false, if◌then◌else◌}
 use Rattle.std.proofs.Common.{Option, Some, None, Ok, slice_index_or}
-use Rattle.std.proofs.lemmas.Bool.{false≢true}
-use Rattle.std.specs.Option.{option_map, option_copied}
+use Rattle.std.proofs.lemmas.Bool.{false≢true, eq-eqb}
+use Rattle.std.specs.Option.{option_map, option_copied, IfSome}
 use Rattle.vt100_core.specs.Picture.{size_of}
 use Rattle.vt100_picture.specs.Term.{Shown}
 use Rattle.vt100_state.specs.State.{State}
 use Rattle.vt100_state.specs.Call.{ScreenView}
 use Rattle.vt100_state.specs.Shown.{shown_state}
+use Rattle.vt100.specs.Parsing.{ParserView}
 use Rattle.vt100.specs.WriterLaws.{IsUnscrolled}
 use Rattle.termrelay.specs.declared.answer.Answer.{Answer}
-use Rattle.termrelay.specs.Frame.{frame_text}
-use Rattle.termrelay.specs.Answers.{ClientState, answer_to, answer_of, is_frame, after_answer}
-use Rattle.termrelay.specs.Record.{RecordView, client_of}
+use Rattle.termrelay.specs.declared.answer.Answer.TheVariants.{Difference}
+use Rattle.termrelay.specs.Frame.{frame_text, IsShortFrame}
+use Rattle.termrelay.specs.Answers.{ClientState, due, answer_to, answer_of, is_frame, after_answer}
+use Rattle.termrelay.specs.Record.{RecordView, client_of, IsServed}
 use Rattle.termrelay.specs.HubFields.{hub_of}
-use Rattle.termrelay.specs.Hub.{HubState, as_kept, Puts, CanFrame, Framed, Frames, size_in, shown_in}
+use Rattle.termrelay.specs.Hub.{HubState, as_kept, clients_in, Puts, CanFrame, Framed, Frames, size_in, shown_in}
+use Rattle.termrelay.specs.Hub.{OwesOneFrame, OwesLocalFrame}
 use Rattle.termrelay.proofs.MadeLemmas.{made-unscrolled}
+use Rattle.termrelay.proofs.HubLemmas.{found-served, owes-one}
+use Rattle.termrelay.proofs.LocalFrames.{due-short, due-local}
 use Rattle.termrelay.proofs.hub.Hub.frame.Goals as goal
 
 -- where an answer brings a frame, nothing was owed
@@ -49,6 +54,42 @@ frames h key r answer text g found live is frame is_text put =
           (after-frame h.parser.screen.state (client_of r) answer text is frame is_text) put,
     )
 
+abbrev owing : List ℕ → Shown → ClientState
+owing text now = record { owed = text; base = Some now }
+
+-- what stands at a key after it was put there
+put-there : (h g : HubState as_kept) (key : ℕ) (slot : Option ClientState) → Puts h key slot g
+    → clients_in g key ≡ slot
+put-there h g key slot put =
+    ap (λ (f : ℕ → Option ClientState). f key) put.1
+    ∙ ap (λ b. if b then slot else clients_in h key) (eq-eqb key key refl)
+
+put-short : (h : HubState as_kept) (key : ℕ) (text : List ℕ) (now : Shown) (g : HubState as_kept)
+    → Puts h key (Some (owing text now)) g → IsShortFrame (size_in h) text → OwesOneFrame g key
+put-short h key text now g put few =
+    subst (λ (o : Option ClientState). IfSome o (λ c. IsShortFrame (size_in g) c.owed))
+    (sym (put-there h g key (Some (owing text now)) put))
+    (subst (λ (p : ParserView (Unit {0})). IsShortFrame (size_of p.screen.state.shown) text) (sym put.0) few)
+
+put-local : (h : HubState as_kept) (key : ℕ) (r : RecordView) (text : List ℕ) (g : HubState as_kept)
+    → slice_index_or h.clients key None ≡ Some r → IsUnscrolled h.parser.screen.state → IsServed h.parser.screen r
+    → answer_of h.parser.screen.state (client_of r) ≡ Difference
+    → text ≡ frame_text (size_in h) (client_of r).base (shown_in h)
+    → Puts h key (Some (owing text (shown_in h))) g → OwesLocalFrame h key g
+put-local h key r text g found u served answer is put =
+    let s = h.parser.screen.state in
+    let none : r.owed ≡ [] = none-owed s (client_of r).base r.owed (ap is_frame answer) in
+    let due_is : due (size_in h) (shown_in h) (client_of r).base ≡ Difference =
+    ap (answer_to s (client_of r).base) (sym none) ∙ answer in
+    let d = due-local h.parser.screen r text u served due_is is in
+    record {
+      base = d.shown;
+      text = text;
+      was = ap (option_map client_of) found ∙ (λ i. Some (record { owed = none i; base = d.is i }));
+      is = put-there h g key (Some (owing text (shown_in h))) put;
+      local = d.local;
+    }
+
 pub answer-answer-requires-clause-unscrolled : goal.answer-answer-requires-clause-unscrolled
 answer-answer-requires-clause-unscrolled c =
     let p = c.self.inside.parser in
@@ -65,8 +106,8 @@ frame_text-requires-clause-unscrolled c =
     subst (λ (v : ScreenView). IsUnscrolled v.state) (sym c.screen-screen.ensures)
     (made-unscrolled p (c.self.invariant.made live))
 
-pub returns : goal.returns
-returns c =
+pub returns-clause-frames : goal.returns-clause-frames
+returns-clause-frames c =
     let p = c.self.inside.parser in
     let h = hub_of c.self.inside in
     let r = c.in-Some.record.now in
@@ -86,3 +127,69 @@ returns c =
     (shown_state v.state)) is_screen in
     subst (λ (v : HubState as_kept). Frames v c.args.client (Ok answer) c.owe.new.self) c.self.view_is
     (frames h c.args.client r answer text c.owe.new.self found live is frame is_text c.owe.ensures)
+
+pub owe-requires-clause-short : goal.owe-requires-clause-short
+owe-requires-clause-short c =
+    let p = c.self.inside.parser in
+    let r = c.in-Some.record.now in
+    let is_screen = c.screen-screen.ensures in
+    let live : p.screen.failed ≡ false =
+    ap (λ (v : ScreenView). v.failed) (sym is_screen) ∙ sym c.failed.ensures ∙ c.if-failed.false in
+    let found = sym c.get.ensures ∙ ap option_copied c.in-Some.is in
+    let is_text = c.in_ok-text.ensures.text ∙ ap (λ (v : ScreenView). frame_text (size_of v.state.shown)
+    (client_of r).base (shown_state v.state)) is_screen in
+    due-short p.screen r c.in_ok-text.text.items (made-unscrolled p (c.self.invariant.made live))
+    (found-served c.self.inside.clients.slots c.key.result r p.screen found (c.self.invariant.served live)) is_text
+
+-- the hub as it is seen, where nothing has changed
+pub returns-then-not-is_frame-clause-short : goal.returns-then-not-is_frame-clause-short
+returns-then-not-is_frame-clause-short c =
+    let p = c.self.inside.parser in
+    let live : p.screen.failed ≡ false =
+    ap (λ (v : ScreenView). v.failed) (sym c.screen-screen.ensures) ∙ sym c.failed.ensures ∙ c.if-failed.false in
+    subst (λ (h : HubState as_kept). OwesOneFrame h c.args.client) c.self.view_is
+    (owes-one p.screen (slice_index_or c.self.inside.clients.slots c.args.client None)
+    (c.self.invariant.served live c.args.client))
+
+pub returns-then-not-is_frame-clause-local : goal.returns-then-not-is_frame-clause-local
+returns-then-not-is_frame-clause-local c e =
+    absurd (false≢true (sym (sym c.is_frame.ensures ∙ c.if-not-is_frame.true) ∙ ap is_frame e))
+
+pub returns-clause-short : goal.returns-clause-short
+returns-clause-short c =
+    let p = c.self.inside.parser in
+    let h = hub_of c.self.inside in
+    let g = c.owe.new.self in
+    let r = c.in-Some.record.now in
+    let is_screen = c.screen-screen.ensures in
+    let live : p.screen.failed ≡ false =
+    ap (λ (v : ScreenView). v.failed) (sym is_screen) ∙ sym c.failed.ensures ∙ c.if-failed.false in
+    let found = sym c.get.ensures ∙ ap option_copied c.in-Some.is in
+    let is_text = c.in_ok-text.ensures.text ∙ ap (λ (v : ScreenView). frame_text (size_of v.state.shown)
+    (client_of r).base (shown_state v.state)) is_screen in
+    let few = due-short p.screen r c.in_ok-text.text.items (made-unscrolled p (c.self.invariant.made live))
+    (found-served c.self.inside.clients.slots c.key.result r p.screen found (c.self.invariant.served live)) is_text in
+    put-short h c.args.client c.in_ok-text.text.items (shown_in h) g c.owe.ensures few
+
+pub returns-clause-local : goal.returns-clause-local
+returns-clause-local c e =
+    let p = c.self.inside.parser in
+    let h = hub_of c.self.inside in
+    let g = c.owe.new.self in
+    let r = c.in-Some.record.now in
+    let answer = c.answer-answer.result in
+    let text = c.in_ok-text.text.items in
+    let is_screen = c.screen-screen.ensures in
+    let live : p.screen.failed ≡ false =
+    ap (λ (v : ScreenView). v.failed) (sym is_screen) ∙ sym c.failed.ensures ∙ c.if-failed.false in
+    let unscrolled = made-unscrolled p (c.self.invariant.made live) in
+    let found = sym c.get.ensures ∙ ap option_copied c.in-Some.is in
+    let at : slice_index_or h.clients c.args.client None ≡ Some r =
+    ap (λ k. slice_index_or h.clients k None) (sym c.key.ensures) ∙ found in
+    let served = found-served c.self.inside.clients.slots c.key.result r p.screen found (c.self.invariant.served live) in
+    let is_text = c.in_ok-text.ensures.text ∙ ap (λ (v : ScreenView). frame_text (size_of v.state.shown)
+    (client_of r).base (shown_state v.state)) is_screen in
+    let is : answer ≡ answer_of p.screen.state (client_of r) =
+    c.answer-answer.ensures ∙ ap (λ (v : ScreenView). answer_of v.state (client_of r)) is_screen in
+    subst (λ (v : HubState as_kept). OwesLocalFrame v c.args.client g) c.self.view_is
+    (put-local h c.args.client r text g at unscrolled served (sym is ∙ e) is_text c.owe.ensures)

@@ -2,12 +2,14 @@ use Rattle.std.proofs.Common.{◌≡◌, ℕ, List, ap, sym, ◌∙◌, subst, O
 use Rattle.std.specs.Option.{option_copied_mut}
 use Rattle.std.proofs.lemmas.Bool.{false≢true}
 use Rattle.slab.specs.Slab.{get}
+use Rattle.vt100_core.specs.Picture.{size_of}
 use Rattle.vt100_state.specs.Call.{ScreenView}
 use Rattle.vt100_state.specs.Shown.{shown_state}
 use Rattle.termrelay.specs.Answers.{ClientState}
 use Rattle.termrelay.specs.Record.{RecordView, client_of, IsServed}
 use Rattle.termrelay.specs.HubFields.{hub_of, IsHub}
-use Rattle.termrelay.specs.Hub.{HubState, as_kept, Puts}
+use Rattle.termrelay.specs.Frame.{IsShortFrame}
+use Rattle.termrelay.specs.Hub.{HubState, as_kept, Puts, size_in}
 use Rattle.termrelay.proofs.HubLemmas.{put-client, put-served, present-served}
 use Rattle.termrelay.proofs.hub.Hub.owe.Goals as goal
 use Rattle.termrelay.proofs.hub.Hub.owe.Goals.{in-Some, in_default}
@@ -26,16 +28,18 @@ invariant_of-self c =
     let i = c.self.invariant in
     let is_base : c.args.base.value ≡ p.screen =
     c.requires.present ∙ ap (λ (h : HubState as_kept). h.parser.screen) (sym c.self.view_is) in
+    let few : IsShortFrame (size_of p.screen.state.shown) c.args.text.items =
+    subst (λ (h : HubState as_kept). IsShortFrame (size_in h) c.args.text.items) (sym c.self.view_is) c.requires.short in
     elim c.match-get_mut.branch [
       | in-Some w ↦
           let at : get s c.key.result ≡ Some w.in-Some.record.now =
           sym c.get_mut.ensures.value ∙ ap option_copied_mut w.in-Some.is in
           subst IsHub (sym w.self-inside-is) (record {
             made = i.made;
-            bases = λ live. put-served s.slots c.key.result w.in-Some.record.now w.owe.new.self
-                p.screen at (i.bases live)
+            served = λ live. put-served s.slots c.key.result w.in-Some.record.now w.owe.new.self
+                p.screen at (i.served live)
                 (subst (λ (r : RecordView). IsServed p.screen r) (sym w.owe.ensures)
-                (present-served p c.args.text.items c.args.base.value (i.made live) is_base));
+                (present-served p c.args.text.items c.args.base.value (i.made live) is_base few));
             present = i.present;
           })
       | in_default w ↦ subst IsHub (sym w.self-inside-is) i

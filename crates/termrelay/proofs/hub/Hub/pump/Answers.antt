@@ -1,16 +1,16 @@
 use Rattle.std.proofs.Common.{◌≡◌, ℕ, List, drop, ap, sym, ◌∙◌, refl, subst, Option, Some, None, Ok, Err, Result}
-use Rattle.std.specs.Option.{option_map, option_copied_mut}
+use Rattle.std.specs.Option.{option_map, option_copied_mut, IfSome}
 use Rattle.std.specs.declared.io.Error.{Error}
 use Rattle.slab.specs.Slab.{Slab, get, with_value}
 use Rattle.vt100.specs.Parsing.{ParserView}
 use Rattle.termrelay.specs.declared.error.HubError.{HubError}
 use Rattle.termrelay.specs.declared.error.HubError.TheVariants.{UnknownClient, Write}
 use Rattle.takers.specs.Pump.{Pumps}
-use Rattle.termrelay.specs.Record.{RecordView, client_of}
+use Rattle.termrelay.specs.Record.{RecordView, client_of, IsServed}
 use Rattle.termrelay.specs.Hub.{HubState, as_kept, PumpsClient, PumpsFrom, pump_answer, Puts}
-use Rattle.termrelay.specs.HubFields.{hub_of}
+use Rattle.termrelay.specs.HubFields.{hub_of, IsHub}
 use Rattle.termrelay.specs.declared.hub.Hub.TheInside.{Inside}
-use Rattle.termrelay.proofs.HubLemmas.{holding, put-client}
+use Rattle.termrelay.proofs.HubLemmas.{holding, put-client, put-served, found-served, left-served}
 use Rattle.termrelay.proofs.hub.Hub.pump.Goals as goal
 use Rattle.termrelay.proofs.hub.Hub.pump.Goals.{in-Some+in-Ok, in-Some+in-Err, in-None}
 
@@ -87,4 +87,38 @@ returns g c =
           let none : get s key ≡ None = sym c.get_mut.ensures.value ∙ ap option_copied_mut w.in-None.is in
           seen from (Err UnknownClient) (holding p s) c.self.view_is c.key.ensures w.to-is w.result-is
           (ap left-in w.self-inside-is) (no-client step p s key from none)
+    ]
+
+pumped-served : (p : ParserView (Unit {0})) (s : Slab RecordView) (key : ℕ) (old new : RecordView) (n : ℕ)
+    → get s key ≡ Some old → ((k : ℕ) → IfSome (get s k) (IsServed p.screen))
+    → new ≡ record old { owed = drop n old.owed }
+    → (k : ℕ) → IfSome (get (with_value s key new) k) (IsServed p.screen)
+pumped-served p s key old new n found each is =
+    put-served s.slots key old new p.screen found each
+    (subst (IsServed p.screen) (sym is) (left-served p.screen old n (found-served s.slots key old p.screen found each)))
+
+pub invariant_of-self : goal.invariant_of-self
+invariant_of-self g c =
+    let i = c.self.invariant in
+    let p = c.self.inside.parser in
+    let s = c.self.inside.clients in
+    let key = c.key.result in
+    elim c.match-get_mut.branch [
+      | in-Some+in-Ok w ↦
+          let old = w.in-Some.record.now in
+          let found : get s key ≡ Some old = sym c.get_mut.ensures.value ∙ ap option_copied_mut w.in-Some.is in
+          subst IsHub (sym w.self-inside-is) (record {
+            made = i.made;
+            served = λ live. pumped-served p s key old w.pump.new.self w.pump.ensures.0 found (i.served live) w.pump.ensures.2;
+            present = i.present;
+          })
+      | in-Some+in-Err w ↦
+          let old = w.in-Some.record.now in
+          let found : get s key ≡ Some old = sym c.get_mut.ensures.value ∙ ap option_copied_mut w.in-Some.is in
+          subst IsHub (sym w.self-inside-is) (record {
+            made = i.made;
+            served = λ live. pumped-served p s key old w.pump.new.self w.pump.ensures.0 found (i.served live) w.pump.ensures.2;
+            present = i.present;
+          })
+      | in-None w ↦ subst IsHub (sym w.self-inside-is) i
     ]

@@ -29,7 +29,7 @@ invariant_of-self c =
       made = λ alive. resized-made p (record p { screen = w }) rows cols (c.args.rows.ok, omega arith)
           (c.args.cols.ok, omega arith) (c.self.invariant.made live)
           (put-in-step p w rows cols is);
-      bases = λ alive key. none-served c.clear.new.self w key c.clear.ensures.empty;
+      served = λ alive key. none-served c.clear.new.self w key c.clear.ensures.empty;
       present = tt;
     }
 

@@ -59,7 +59,7 @@ returns-clause-text c =
           let v = w.in-Some.base.now in
           let found : c.args.self.now.base ≡ Some v = sym c.base.ensures ∙ ap option_copied w.in-Some.is in
           let of : IsBaseOf c.args.now.now v =
-          subst (λ o. IfSome o (IsBaseOf c.args.now.now)) found c.requires.served in
+          subst (λ o. IfSome o (IsBaseOf c.args.now.now)) found c.requires.served.base in
           let text : w.as_bytes-in-Some.result.now ≡ spell (state_diff z (shown_state v.state) now) =
           w.as_bytes-in-Some.ensures.value
           ∙ w.in_ok-state_diff-in-Some.ensures.shown of.unscrolled c.requires.unscrolled of.size in

@@ -5,6 +5,7 @@ use Rattle.vt100_state.specs.Shown.{shown_state}
 use Rattle.vt100.specs.Writers.{contents_diff, state_diff}
 use Rattle.vt100.proofs.ShownLemmas.{difference-of_shown}
 use Rattle.vt100.proofs.WriteLemmas.{as_shown}
+use Rattle.vt100.proofs.FormLists.{screen-short, text-short, text-local, state_diff-local}
 use Rattle.vt100_writers.specs.Modes.{input_mode_diff}
 use Rattle.vt100_core.proofs.WriterLemmas.{appended_then}
 use Rattle.vt100.proofs.screen.Screen.state_diff.Goals as goal
@@ -21,3 +22,26 @@ returns-clause-shown c o h e =
     (appended_then (contents_diff old new) (input_mode_diff x y) start (string_bytes c.write_contents_diff.new.contents)
     end c.in_ok-write_contents_diff.ensures c.in_ok-write_input_mode_diff.ensures)
     (difference-of_shown old new o h e).state
+
+pub returns-clause-short : goal.returns-clause-short
+returns-clause-short c o h e =
+    let old = c.args.prev.now.state in
+    let new = c.args.self.now.state in
+    let start = string_bytes c.new-contents.result in
+    let end = string_bytes c.write_input_mode_diff.new.contents in
+    text-short (size_of new.shown) 1008 (state_diff old new) start end c.new-contents.ensures.bytes
+    (appended_then (contents_diff old new) (input_mode_diff (shown_state old) (shown_state new)) start
+    (string_bytes c.write_contents_diff.new.contents) end c.in_ok-write_contents_diff.ensures
+    c.in_ok-write_input_mode_diff.ensures) (screen-short old new o h e).state_diff
+
+pub returns-clause-local : goal.returns-clause-local
+returns-clause-local c o h e plain =
+    let old = c.args.prev.now.state in
+    let new = c.args.self.now.state in
+    let start = string_bytes c.new-contents.result in
+    let end = string_bytes c.write_input_mode_diff.new.contents in
+    text-local (size_of new.shown) (shown_state old) (shown_state new) (state_diff old new) start end
+    c.new-contents.ensures.bytes
+    (appended_then (contents_diff old new) (input_mode_diff (shown_state old) (shown_state new)) start
+    (string_bytes c.write_contents_diff.new.contents) end c.in_ok-write_contents_diff.ensures
+    c.in_ok-write_input_mode_diff.ensures) (state_diff-local old new o h e plain)

@@ -1,3 +1,4 @@
+use Rattle.std.proofs.Common.{refl}
 use Rattle.std.specs.Prelude.{string_bytes}
 use Rattle.vt100_writers.specs.Screen as picture
 use Rattle.vt100_core.specs.Picture.{size_of}
@@ -5,6 +6,7 @@ use Rattle.vt100_state.specs.Shown.{shown_state}
 use Rattle.vt100.specs.Writers.{contents_formatted, state_formatted}
 use Rattle.vt100.proofs.ShownLemmas.{redraw-of_shown}
 use Rattle.vt100.proofs.WriteLemmas.{as_shown}
+use Rattle.vt100.proofs.FormLists.{screen-short, text-short}
 use Rattle.vt100_writers.specs.Modes.{input_mode_formatted}
 use Rattle.vt100_core.proofs.WriterLemmas.{appended_then}
 use Rattle.vt100.proofs.screen.Screen.state_formatted.Goals as goal
@@ -19,3 +21,13 @@ returns-clause-shown c h =
     (appended_then (contents_formatted s) (input_mode_formatted x) start
     (string_bytes c.write_contents_formatted.new.contents) end c.in_ok-write_contents_formatted.ensures
     c.in_ok-write_input_mode_formatted.ensures) (redraw-of_shown s h).state
+
+pub returns-clause-short : goal.returns-clause-short
+returns-clause-short c h =
+    let s = c.args.self.now.state in
+    let start = string_bytes c.new-contents.result in
+    let end = string_bytes c.write_input_mode_formatted.new.contents in
+    text-short (size_of s.shown) 1008 (state_formatted s) start end c.new-contents.ensures.bytes
+    (appended_then (contents_formatted s) (input_mode_formatted (shown_state s)) start
+    (string_bytes c.write_contents_formatted.new.contents) end c.in_ok-write_contents_formatted.ensures
+    c.in_ok-write_input_mode_formatted.ensures) (screen-short s s h h refl).state_formatted

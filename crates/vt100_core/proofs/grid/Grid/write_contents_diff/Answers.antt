@@ -6,6 +6,7 @@ use Rattle.vt100_writers.specs.Rows.{pen_at}
 use Rattle.vt100_core.specs.Grid.{GridView}
 use Rattle.vt100_core.specs.Writers.{differing, lines_difference}
 use Rattle.vt100_core.proofs.WriterLemmas.{differing-attrs, differing-cursor, differing-rows, refused}
+use Rattle.vt100_core.proofs.FormLists.{grid-short, grown-short, appends-local}
 use Rattle.vt100_core.proofs.grid.Grid.write_contents_diff.Goals as goal
 
 pub returns-in_err-rows_diff-clause-text : goal.returns-in_err-rows_diff-clause-text
@@ -57,3 +58,29 @@ returns-clause-attrs c =
     let f = lines_difference g h (min (length g.rows) (length h.rows)) in
     let pen = c.pen_at-pen.ensures ∙ ap (λ (v : GridView). pen_at v.row v.col a) c.prev.view_is in
     differing-attrs g h a s q t (subst (λ (x : Pen). Wrote f x s q t) pen c.in_ok-rows_diff.ensures)
+
+pub returns-clause-short : goal.returns-clause-short
+returns-clause-short c i o e k =
+    let g = c.args.self.now in
+    let h = c.args.prev.now in
+    let a = c.args.prev_attrs in
+    let s = string_bytes c.args.contents.now in
+    let t = string_bytes c.rows_diff.new.contents in
+    let u = string_bytes c.write_cursor_position_formatted.new.contents in
+    let pen = c.pen_at-pen.ensures ∙ ap (λ (v : GridView). pen_at v.row v.col a) c.prev.view_is in
+    grown-short g (differing g h a).forms s u ((grid-short g i).difference h a o e k)
+    (differing-cursor g h a c.pen_at-pen.result s c.rows_diff.new.pen t true u pen c.in_ok-rows_diff.ensures
+    c.in_ok-write_cursor_position_formatted.ensures)
+
+pub returns-clause-local : goal.returns-clause-local
+returns-clause-local c i o e k =
+    let g = c.args.self.now in
+    let h = c.args.prev.now in
+    let a = c.args.prev_attrs in
+    let s = string_bytes c.args.contents.now in
+    let t = string_bytes c.rows_diff.new.contents in
+    let u = string_bytes c.write_cursor_position_formatted.new.contents in
+    let pen = c.pen_at-pen.ensures ∙ ap (λ (v : GridView). pen_at v.row v.col a) c.prev.view_is in
+    appends-local g h a s u i o e k
+    (differing-cursor g h a c.pen_at-pen.result s c.rows_diff.new.pen t true u pen c.in_ok-rows_diff.ensures
+    c.in_ok-write_cursor_position_formatted.ensures)

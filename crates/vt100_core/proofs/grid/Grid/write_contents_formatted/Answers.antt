@@ -7,6 +7,7 @@ use Rattle.vt100_writers.specs.Rows.{pen_at}
 use Rattle.vt100_core.specs.Writers.{contents_formatted, lines_redraw, redrawn}
 use Rattle.vt100_core.proofs.WriterLemmas.{appended_then, begun_rest, redrawn-attrs, redrawn-cursor, redrawn-rows}
 use Rattle.vt100_core.proofs.WriterLemmas.{refused}
+use Rattle.vt100_core.proofs.FormLists.{grid-short, grown-short}
 use Rattle.vt100_core.proofs.grid.Grid.write_contents_formatted.Goals as goal
 
 pub returns-in_err-redraw_rows-clause-text : goal.returns-in_err-redraw_rows-clause-text
@@ -66,3 +67,19 @@ returns-clause-attrs c =
     let pen = c.pen_at-pen.ensures ∙ ap (pen_at 0 0) c.new.ensures in
     redrawn-attrs g u q v
     (subst (λ (x : Pen). Wrote (lines_redraw g (length g.rows)) x u q v) pen c.in_ok-redraw_rows.ensures)
+
+pub returns-clause-short : goal.returns-clause-short
+returns-clause-short c h =
+    let g = c.args.self.now in
+    let fs = (redrawn g).forms in
+    let s = string_bytes c.args.contents.now in
+    let t = string_bytes c.write_buf.new.buf in
+    let u = string_bytes c.write_buf-2.new.buf in
+    let v = string_bytes c.redraw_rows.new.contents in
+    let w = string_bytes c.write_cursor_position_formatted.new.contents in
+    let pen = c.pen_at-pen.ensures ∙ ap (pen_at 0 0) c.new.ensures in
+    grown-short g (contents_formatted g) s w (grid-short g h).contents
+    (appended_then (ClearAttrs ∷ []) (ClearScreen ∷ fs) s t w c.in_ok-write_buf.ensures.bytes
+    (appended_then (ClearScreen ∷ []) fs t u w c.in_ok-write_buf-2.ensures.bytes
+    (redrawn-cursor g c.pen_at-pen.result u c.redraw_rows.new.pen v true w pen c.in_ok-redraw_rows.ensures
+    c.in_ok-write_cursor_position_formatted.ensures)))

@@ -1,0 +1,17 @@
+use Rattle.std.proofs.Common.{◌≡◌, ℕ, List, ap, sym, ◌∙◌, subst, false, Some}
+use Rattle.std.specs.Option.{option_copied}
+use Rattle.vt100_core.specs.Picture.{size_of}
+use Rattle.termrelay.specs.Frame.{IsShortFrame}
+use Rattle.termrelay.specs.Hub.{HubState, as_kept, size_in}
+use Rattle.termrelay.proofs.HubLemmas.{found-served}
+use Rattle.termrelay.proofs.hub.Hub.owed.Goals as goal
+
+pub returns-in-Some-clause-short : goal.returns-in-Some-clause-short
+returns-in-Some-clause-short c alive =
+    let p = c.self.inside.parser in
+    let r = c.in-Some.record.now in
+    let live : p.screen.failed ≡ false = ap (λ (v : HubState as_kept). v.parser.screen.failed) c.self.view_is ∙ alive in
+    let found = sym c.get.ensures ∙ ap option_copied c.in-Some.is in
+    let served = found-served c.self.inside.clients.slots c.key.result r p.screen found (c.self.invariant.served live) in
+    subst (λ (h : HubState as_kept). IsShortFrame (size_in h) c.owed.result.now) c.self.view_is
+    (subst (IsShortFrame (size_of p.screen.state.shown)) (sym c.owed.ensures) served.short)
