@@ -97,8 +97,7 @@ fn an_update_is_held(rt: HostRuntime) -> Result<(), Fail> {
 }
 
 /// A first frame, of two characters.
-const FRAME: &[u8] =
-    b"\x1b[?2026h\x1b[?25h\x1b[m\x1b[H\x1b[Jhi\x1b>\x1b[?1l\x1b[?2004l\x1b[?2026l";
+const FRAME: &[u8] = b"\x1b[?2026h\x1b[?25h\x1b[m\x1b[H\x1b[Jhi\x1b>\x1b[?1l\x1b[?2004l\x1b[?2026l";
 
 /// A frame that is cut anywhere shows at its last byte, and not before.
 #[test]
