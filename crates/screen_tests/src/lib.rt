@@ -8,6 +8,8 @@ mod log;
 #[cfg(test)]
 mod refusals;
 #[cfg(test)]
+mod report;
+#[cfg(test)]
 mod start;
 #[cfg(test)]
 mod told;
