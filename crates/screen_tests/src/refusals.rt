@@ -1,27 +1,45 @@
 //! Calls that find no memory. They are refused where the tests run with allocations that fail; else each succeeds at
 //! once.
+ghost use Rattle.std.specs.Iterator.{IsFinite};
 
+use crate::report::{Text, places, report, text_of};
 use crate::start::{Start, count};
 use std::alloc::Global;
-use std::io::Write;
+use std::io::{ErrorKind, Write};
 use std::process::Abort;
 use std::test::Fail;
-use vt100::{Parser, Screen, ScreenError};
+use vt100::{Parser, Screen, ScreenError, WrappedScreen};
 
 /// A parser, made at the second try if the first was refused.
 fn retried_parser(alloc: Global, start: Start) -> Result<Parser<()>, ScreenError> {
     let (rows, cols, capacity) = start;
     match Parser::new(alloc, count(rows), count(cols), capacity) {
         Ok(parser) => Ok(parser),
-        Err(_) => Parser::new(alloc, count(rows), count(cols), capacity),
+        Err(ScreenError::Memory) => Parser::new(alloc, count(rows), count(cols), capacity),
+        Err(error) => Err(error),
     }
 }
 
-/// The text of a screen, at the second try if the first was refused.
+/// A text of a screen, at the second try if the first was refused.
+fn retried_text(
+    screen: &Screen,
+    prev: &Screen,
+    alloc: Global,
+    text: Text,
+) -> Result<String, ScreenError> {
+    match text_of(screen, prev, alloc, text) {
+        Ok(text) => Ok(text),
+        Err(ScreenError::Memory) => text_of(screen, prev, alloc, text),
+        Err(error) => Err(error),
+    }
+}
+
+/// The text of a screen's rows, at the second try if the first was refused.
 fn retried_contents(screen: &Screen) -> Result<String, ScreenError> {
     match screen.contents() {
         Ok(contents) => Ok(contents),
-        Err(_) => screen.contents(),
+        Err(ScreenError::Memory) => screen.contents(),
+        Err(error) => Err(error),
     }
 }
 
@@ -29,39 +47,68 @@ fn retried_contents(screen: &Screen) -> Result<String, ScreenError> {
 fn retried_clone(screen: &Screen) -> Result<Screen, ScreenError> {
     match screen.clone() {
         Ok(screen) => Ok(screen),
-        Err(_) => screen.clone(),
+        Err(ScreenError::Memory) => screen.clone(),
+        Err(error) => Err(error),
     }
 }
 
-/// A screen that has failed does nothing more, and can still be read.
-fn check_failed(rt: &impl Abort, parser: &mut Parser<()>) -> Result<(), Fail> {
-    let refused = Err(ScreenError::Failed);
+/// Everything that a screen tells, at the second try if the first was refused.
+fn retried_report(screen: &Screen, prev: &Screen, alloc: Global) -> Result<String, ScreenError> {
+    match report(screen, prev, alloc) {
+        Ok(told) => Ok(told),
+        Err(ScreenError::Memory) => report(screen, prev, alloc),
+        Err(error) => Err(error),
+    }
+}
+
+/// Everything is read of a screen, whether it has failed or not, and of its copy, which tells the same.
+fn read_all(rt: &(impl Abort + AllocGlobal), screen: &Screen) -> Result<(), Fail> {
+    let copy = retried_clone(screen)?;
+    let told = retried_report(screen, &copy, rt.alloc())?;
+    let told_by_copy = retried_report(&copy, screen, rt.alloc())?;
+    assert_eq!(rt; told.as_str(), told_by_copy.as_str());
+    Ok(())
+}
+
+/// A screen that has failed does nothing more.
+fn check_dead(rt: &impl Abort, parser: &mut Parser<()>) -> Result<(), Fail> {
+    let before = places(parser.screen());
     let answers = [
         parser.process(b"\x1bc"),
+        parser.process(b""),
         parser.set_size(count(9), count(9)),
+        parser.screen_mut().set_size(count(9), count(9)),
         parser.screen_mut().set_scrollback(1),
     ];
-    assert_eq!(rt; answers, [refused; 3]);
-    assert!(rt; parser.write(b"x").is_err());
-    let screen = retried_clone(parser.screen())?;
-    let (rows, cols) = screen.size();
-    let (row, col) = screen.cursor_position();
+    assert_eq!(rt; answers, [Err(ScreenError::Failed); 5]);
     assert_eq!(rt;
-        (
-            screen.failed(),
-            row < rows.get(),
-            col <= cols.get(),
-            screen.cell(row, 0).is_some()
-        ),
-        (true, true, true, true)
+        (parser.screen().failed(), places(parser.screen())),
+        (true, before)
     );
-    retried_contents(&screen)?;
     Ok(())
+}
+
+/// A screen that has failed can still be read.
+fn check_readable(rt: &(impl Abort + AllocGlobal), screen: &Screen) -> Result<(), Fail> {
+    let ((rows, cols), (row, col), kept) = places(screen);
+    let [len, capacity, offset] = kept;
+    assert_eq!(rt;
+        [
+            row < rows,
+            col <= cols,
+            len <= capacity,
+            offset <= len,
+            screen.cell(row, 0).is_some(),
+            screen.is_live()
+        ],
+        [true, true, true, true, true, false]
+    );
+    read_all(rt, screen)
 }
 
 /// A call succeeded, or memory was refused and the screen has failed.
 fn check_answer(
-    rt: &impl Abort,
+    rt: &(impl Abort + AllocGlobal),
     parser: &mut Parser<()>,
     answer: Result<(), ScreenError>,
 ) -> Result<(), Fail> {
@@ -71,26 +118,264 @@ fn check_answer(
         (has_failed, false)
     );
     if has_failed {
-        check_failed(rt, parser)?;
+        check_dead(rt, parser)?;
+        check_readable(rt, parser.screen())?;
     }
     Ok(())
 }
 
-/// Rows that wrap, are kept and leave, both sheets, and a new screen.
-const STREAM: &[u8] =
-    b"abcd\r\ne\r\nf\r\n\x1b[2Sg\x1b[?1049hh\r\ni\r\nj\x1b[?1049l\x1b[L\x1bck\r\nl\r\nm";
+/// Feeds a parser, of which the main sheet is shown, and answers whether memory was found. Else the screen has failed,
+/// with its size and with its capacity; the alternate sheet's is 0.
+fn check_process(
+    rt: &(impl Abort + AllocGlobal),
+    parser: &mut Parser<()>,
+    stream: &[u8],
+) -> Result<bool, Fail> {
+    let (size, _, [_, capacity, _]) = places(parser.screen());
+    let answer = parser.process(stream);
+    check_answer(rt, parser, answer)?;
+    if answer.is_err() {
+        let (size_then, _, [_, capacity_then, _]) = places(parser.screen());
+        let capacity = if parser.screen().alternate_screen() {
+            0
+        } else {
+            capacity
+        };
+        assert_eq!(rt; (size_then, capacity_then), (size, capacity));
+    }
+    Ok(answer.is_ok())
+}
+
+/// A size and how many rows are kept at most, a stream, and then: what is shown, and how many rows are kept.
+const STREAMS: &[(Start, &[u8], &str, usize)] = &[
+    ((2, 2, 3), b"a\r\nb\r\nc\r\nd\r\ne\r\nf\r\ng", "f\ng", 3),
+    ((1, 2, 3), b"abcd", "cd", 1),
+    ((2, 2, 3), b"a\r\nb\x1b[2S", "", 2),
+    ((2, 2, 3), b"a\r\nb\r\nc\x1bcd", "d", 0),
+    // The alternate sheet keeps no rows, and the main one is as it was when it is shown again.
+    ((2, 2, 3), b"ab\x1b[?1049h", "", 0),
+    ((2, 2, 3), b"a\r\nb\r\nc\x1b[?47hx\r\ny\r\nz", "y\nz", 0),
+    ((2, 2, 3), b"a\r\nb\r\nc\x1b[?1049hx\x1b[?1049l", "b\nc", 1),
+    // Rows that wrap, are kept and leave, both sheets, and a new screen.
+    (
+        (2, 2, 3),
+        b"abcd\r\ne\r\nf\r\n\x1b[2Sg\x1b[?1049hh\r\ni\r\nj\x1b[?1049l\x1b[L\x1bck\r\nl\r\nm",
+        "l\nm",
+        1,
+    ),
+];
 
 #[test]
-fn a_stream(rt: HostRuntime) -> Result<(), Fail> {
-    let mut parser = retried_parser(rt.alloc(), (2, 2, 3))?;
-    let answer = parser.process(STREAM);
-    check_answer(&rt, &mut parser, answer)?;
-    if answer.is_ok() {
-        assert_eq!(rt; retried_contents(parser.screen())?.as_str(), "l\nm");
+fn streams(rt: HostRuntime) -> Result<(), Fail> {
+    for (start, stream, want, kept) in STREAMS {
+        let mut parser = retried_parser(rt.alloc(), *start)?;
+        if check_process(&rt, &mut parser, stream)? {
+            let screen = parser.screen();
+            let contents = retried_contents(screen)?;
+            assert_eq!(rt;
+                (contents.as_str(), screen.scrollback_len()),
+                (*want, *kept)
+            );
+        }
     }
     Ok(())
 }
 
+/// Sizes and capacities.
+const STARTS: &[Start] = &[
+    (1, 1, 0),
+    (1, 1, usize::MAX),
+    (3, 4, 1_000_000),
+    (2, 3, 1_000_001),
+    (24, 80, 3),
+    (1, 65_535, 9),
+];
+
+#[test]
+fn parsers_of_any_capacity(rt: HostRuntime) -> Result<(), Fail> {
+    for start in STARTS {
+        let parser = retried_parser(rt.alloc(), *start)?;
+        let (rows, cols, capacity) = *start;
+        assert_eq!(rt;
+            places(parser.screen()),
+            ((rows, cols), (0, 0), [0, capacity, 0])
+        );
+    }
+    Ok(())
+}
+
+#[test]
+fn default_parsers(rt: HostRuntime) -> Result<(), Fail> {
+    let parser = match Parser::new_default(rt.alloc()) {
+        Ok(parser) => parser,
+        Err(_) => Parser::new_default(rt.alloc())?,
+    };
+    assert_eq!(rt; places(parser.screen()), ((24, 80), (0, 0), [0, 0, 0]));
+    Ok(())
+}
+
+/// Screens of which everything is read.
+const READ: &[(Start, &[u8])] = &[
+    ((2, 3, 3), b"a\r\nb\xCC\x81\r\n\x1b[1;31m\xE4\xB8\xADd\r\n"),
+    ((2, 2, 3), b"a\r\nb\r\nc\x1b[?25l\x1b[?1049h\x1b=\x1b[7mxy"),
+];
+
+#[test]
+fn everything_is_read(rt: HostRuntime) -> Result<(), Fail> {
+    for (start, stream) in READ {
+        let mut parser = retried_parser(rt.alloc(), *start)?;
+        let answer = parser.process(stream);
+        assert_eq!(rt; answer.is_err(), parser.screen().failed());
+        read_all(&rt, parser.screen())?;
+    }
+    Ok(())
+}
+
+/// The texts of two rows, the second in bold, and what differs from the first row alone.
+const TWO_ROWS: &[(Text, &str)] = &[
+    (Text::Contents, "ab\nc"),
+    (Text::ContentsBetween(0, 1, 1, 1), "b\nc"),
+    (Text::ContentsFormattedBasic, "ab\n\x1b[1mc"),
+    (Text::AllRowsBasic, "ab\n\x1b[1mc"),
+    (
+        Text::ContentsFormatted,
+        "\x1b[?25h\x1b[m\x1b[H\x1b[Jab\r\n\x1b[1mc",
+    ),
+    (Text::ContentsDiff, "\r\n\x1b[1mc"),
+    (
+        Text::StateFormatted,
+        "\x1b[?25h\x1b[m\x1b[H\x1b[Jab\r\n\x1b[1mc\x1b>\x1b[?1l\x1b[?2004l",
+    ),
+    (Text::StateDiff, "\r\n\x1b[1mc"),
+    (Text::InputModeFormatted, "\x1b>\x1b[?1l\x1b[?2004l"),
+    (Text::InputModeDiff, ""),
+    (Text::AttributesFormatted, "\x1b[m\x1b[1m"),
+    (Text::CursorStateFormatted, "\x1b[?25h\x1b[2;2H"),
+    (Text::Rows(0, 4), "ab/c/"),
+    (Text::Rows(1, 2), "b//"),
+    (Text::RowsFormatted(0, 4), "ab/\x1b[1mc/"),
+    (Text::RowsDiff(0, 4), "/\x1b[1mc/"),
+];
+
+/// Each of these texts is made of a screen, against another one.
+fn check_texts(
+    rt: &(impl Abort + AllocGlobal),
+    screen: &Screen,
+    prev: &Screen,
+    texts: &[(Text, &str)],
+) -> Result<(), Fail> {
+    for (text, want) in texts {
+        let told = retried_text(screen, prev, rt.alloc(), *text)?;
+        assert_eq!(rt; told.as_str(), *want, "{text:?}");
+    }
+    Ok(())
+}
+
+#[test]
+fn texts(rt: HostRuntime) -> Result<(), Fail> {
+    let mut parser = retried_parser(rt.alloc(), (2, 4, 0))?;
+    parser.process(b"ab")?;
+    let prev = retried_clone(parser.screen())?;
+    parser.process(b"\r\n\x1b[1mc")?;
+    check_texts(&rt, parser.screen(), &prev, TWO_ROWS)
+}
+
+/// The texts of a kept row that is shown, and what differs from the row that is drawn on.
+const KEPT_ROW: &[(Text, &str)] = &[
+    (Text::Contents, "a"),
+    (Text::AllRowsBasic, "a\nb"),
+    (Text::ContentsFormatted, "\x1b[?25h\x1b[m\x1b[H\x1b[Ja"),
+    (Text::ContentsDiff, "\x1b[Ha"),
+    (Text::Rows(0, 2), "a/"),
+    (Text::RowsDiff(0, 2), "a/"),
+];
+
+#[test]
+fn texts_with_a_kept_row(rt: HostRuntime) -> Result<(), Fail> {
+    let mut parser = retried_parser(rt.alloc(), (1, 2, 3))?;
+    if !check_process(&rt, &mut parser, b"a\r\nb")? {
+        return Ok(());
+    }
+    let prev = retried_clone(parser.screen())?;
+    let answer = parser.screen_mut().set_scrollback(1);
+    check_answer(&rt, &mut parser, answer)?;
+    if answer.is_ok() {
+        check_texts(&rt, parser.screen(), &prev, KEPT_ROW)?;
+    }
+    Ok(())
+}
+
+/// Each row has its item. One that is refused is refused alone: how many were.
+fn check_items<I: Iterator<Item = Result<String, ScreenError>> + Drop>(
+    rt: &impl Abort,
+    mut texts: I,
+    wants: [&str; 3],
+) -> Result<u32, Fail>
+    requires { I.can_next texts × IsFinite (I.remaining texts) }
+{
+    let mut refused = 0_u32;
+    for want in wants {
+        match texts.next() {
+            Some(Ok(text)) => assert_eq!(rt; text.as_str(), want),
+            Some(Err(error)) => {
+                assert_eq!(rt; error, ScreenError::Memory);
+                refused = refused.saturating_add(1);
+            }
+            None => assert!(rt; false),
+        }
+    }
+    Ok(refused)
+}
+
+#[test]
+fn items_of_rows(rt: HostRuntime) -> Result<(), Fail> {
+    let mut parser = retried_parser(rt.alloc(), (3, 8, 0))?;
+    parser.process(b"one\r\ntwo\r\nthree")?;
+    let screen = parser.screen();
+    let wants = ["one", "two", "three"];
+    if check_items(&rt, screen.rows(0, 8), wants)? != 0 {
+        assert_eq!(rt; check_items(&rt, screen.rows(0, 8), wants)?, 0);
+    }
+    if check_items(&rt, screen.rows_formatted(0, 8), wants)? != 0 {
+        assert_eq!(rt; check_items(&rt, screen.rows_formatted(0, 8), wants)?, 0);
+    }
+    Ok(())
+}
+
+#[test]
+fn items_of_differences(rt: HostRuntime) -> Result<(), Fail> {
+    let mut parser = retried_parser(rt.alloc(), (3, 8, 0))?;
+    let prev = retried_clone(parser.screen())?;
+    parser.process(b"one\r\ntwo\r\nthree")?;
+    let screen = parser.screen();
+    let wants = ["one", "two", "three"];
+    if check_items(&rt, screen.rows_diff(&prev, 0, 8), wants)? != 0 {
+        assert_eq!(rt; check_items(&rt, screen.rows_diff(&prev, 0, 8), wants)?, 0);
+    }
+    Ok(())
+}
+
+#[test]
+fn copies(rt: HostRuntime) -> Result<(), Fail> {
+    let mut parser = retried_parser(rt.alloc(), (2, 2, 3))?;
+    if check_process(&rt, &mut parser, b"a\r\nb\r\nc\x1b[?47hx")? {
+        let copy = retried_clone(parser.screen())?;
+        let contents = retried_contents(&copy)?;
+        assert_eq!(rt;
+            (
+                contents.as_str(),
+                copy.alternate_screen(),
+                copy.failed(),
+                places(&copy)
+            ),
+            ("x", true, false, places(parser.screen()))
+        );
+    }
+    Ok(())
+}
+
+/// Sizes of both sheets: first higher, where the kept row comes back, then lower, where the rows under the cursor are
+/// lost and those at the top are kept.
 #[test]
 fn sizes(rt: HostRuntime) -> Result<(), Fail> {
     let mut parser = retried_parser(rt.alloc(), (2, 2, 3))?;
@@ -101,7 +386,14 @@ fn sizes(rt: HostRuntime) -> Result<(), Fail> {
     if answer.is_ok() {
         answer = parser.screen_mut().set_size(count(1), count(5));
     }
-    check_answer(&rt, &mut parser, answer)
+    check_answer(&rt, &mut parser, answer)?;
+    if answer.is_ok() {
+        parser.process(b"\x1b[?47l")?;
+        let contents = retried_contents(parser.screen())?;
+        let (size, _, kept) = places(parser.screen());
+        assert_eq!(rt; (contents.as_str(), size, kept), ("c", (1, 5), [2, 3, 0]));
+    }
+    Ok(())
 }
 
 #[test]
@@ -111,5 +403,110 @@ fn kept_rows(rt: HostRuntime) -> Result<(), Fail> {
     if answer.is_ok() {
         answer = parser.screen_mut().set_scrollback(2);
     }
-    check_answer(&rt, &mut parser, answer)
+    check_answer(&rt, &mut parser, answer)?;
+    if answer.is_ok() {
+        let contents = retried_contents(parser.screen())?;
+        assert_eq!(rt; (contents.as_str(), parser.screen().scrollback()), ("b", 2));
+    }
+    Ok(())
+}
+
+/// A call that prints, scrolls, makes a new screen or gives it another size.
+#[derive(Clone, Copy, Debug)]
+enum Direct {
+    Text(char),
+    Lf,
+    Vt,
+    Ff,
+    Su(u16),
+    Ris,
+    Size(u16, u16),
+}
+
+fn call(wrapped: &mut WrappedScreen<()>, direct: Direct) -> Result<(), ScreenError> {
+    match direct {
+        Direct::Text(c) => wrapped.text(c),
+        Direct::Lf => wrapped.lf(),
+        Direct::Vt => wrapped.vt(),
+        Direct::Ff => wrapped.ff(),
+        Direct::Su(count) => wrapped.su(count),
+        Direct::Ris => wrapped.ris(),
+        Direct::Size(rows, cols) => wrapped.set_size_with_cb(count(rows), count(cols)),
+    }
+}
+
+/// A call on a screen of two rows, `a` and below it `bc`, with the cursor behind the `c`; what is shown then, and how
+/// many rows are kept.
+const DIRECT: &[(Direct, &str, usize)] = &[
+    (Direct::Text('x'), "bcx", 1),
+    (Direct::Lf, "bc", 1),
+    (Direct::Vt, "bc", 1),
+    (Direct::Ff, "bc", 1),
+    (Direct::Su(1), "bc", 1),
+    (Direct::Ris, "", 0),
+    (Direct::Size(1, 2), "bc", 1),
+    (Direct::Size(3, 5), "a\nbc", 0),
+];
+
+/// A screen with callbacks that do nothing, after a stream that takes no memory.
+fn wrapped_screen(alloc: Global) -> Result<WrappedScreen<()>, Fail> {
+    let mut parser = retried_parser(alloc, (2, 2, 3))?;
+    parser.process(b"a\r\nbc")?;
+    Ok(WrappedScreen {
+        screen: retried_clone(parser.screen())?,
+        callbacks: (),
+    })
+}
+
+fn check_direct(
+    rt: &(impl Abort + AllocGlobal),
+    wrapped: &mut WrappedScreen<()>,
+    direct: Direct,
+    want: (&str, usize),
+) -> Result<(), Fail> {
+    if let Err(error) = call(wrapped, direct) {
+        let again = call(wrapped, direct);
+        assert_eq!(rt;
+            (error, wrapped.screen.failed(), again),
+            (ScreenError::Memory, true, Err(ScreenError::Failed))
+        );
+        return read_all(rt, &wrapped.screen);
+    }
+    let contents = retried_contents(&wrapped.screen)?;
+    assert_eq!(rt; (contents.as_str(), wrapped.screen.scrollback_len()), want);
+    Ok(())
+}
+
+#[test]
+fn direct_calls(rt: HostRuntime) -> Result<(), Fail> {
+    for (direct, contents, kept) in DIRECT {
+        let mut wrapped = wrapped_screen(rt.alloc())?;
+        check_direct(&rt, &mut wrapped, *direct, (contents, *kept))?;
+    }
+    Ok(())
+}
+
+#[test]
+fn writing(rt: HostRuntime) -> Result<(), Fail> {
+    let mut parser = retried_parser(rt.alloc(), (2, 2, 3))?;
+    match parser.write(b"a\r\nb\r\nc") {
+        Ok(len) => assert_eq!(rt; (len, parser.screen().failed()), (7, false)),
+        Err(error) => {
+            assert_eq!(rt;
+                (error.kind(), parser.screen().failed()),
+                (ErrorKind::OutOfMemory, true)
+            );
+            check_write_refused(&rt, &mut parser);
+        }
+    }
+    Ok(())
+}
+
+/// A screen that has failed takes no bytes.
+fn check_write_refused(rt: &impl Abort, parser: &mut Parser<()>) {
+    let kind = match parser.write(b"x") {
+        Ok(_) => None,
+        Err(error) => Some(error.kind()),
+    };
+    assert_eq!(rt; kind, Some(ErrorKind::Other));
 }

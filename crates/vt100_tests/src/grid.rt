@@ -122,7 +122,7 @@ fn run(alloc: Global, start: Start, steps: &[Step]) -> Result<(Grid, u64), Fail>
 }
 
 /// All rows that are drawn on, with a `/` after each.
-fn drawn(alloc: Global, grid: &Grid) -> Result<String, Fail> {
+fn drawn(alloc: Global, grid: &Grid) -> Result<String, GridError> {
     let mut text = String::new(alloc);
     for row in grid.drawing_rows() {
         text.push_str(shown(alloc, row)?.as_str())?;

@@ -1,4 +1,6 @@
 //! Rows at work.
+mod refusals;
+
 use crate::shown::shown;
 use std::alloc::Global;
 use std::process::Abort;

@@ -1,7 +1,6 @@
 //! Rows as texts.
 use std::alloc::Global;
-use std::test::Fail;
-use vt100_core::{Cell, Row};
+use vt100_core::{Cell, GridError, Row};
 
 fn text_of(cell: Option<&Cell>) -> &str {
     match cell {
@@ -12,7 +11,7 @@ fn text_of(cell: Option<&Cell>) -> &str {
 }
 
 /// A row's cells, `.` for an empty one and `_` for the second half of a wide one, and `>` where the row is wrapped.
-pub fn shown(alloc: Global, row: &Row) -> Result<String, Fail> {
+pub fn shown(alloc: Global, row: &Row) -> Result<String, GridError> {
     let mut text = String::new(alloc);
     for col in 0..row.cols() {
         text.push_str(text_of(row.get(col)))?;

@@ -64,10 +64,50 @@ fn retried_print<R: Abort>(rt: &R, grid: &mut Grid, text: &str) -> Result<(), Fa
     Ok(())
 }
 
+/// A grid's rows as text, written at the second try if the first was refused.
+fn retried_drawn(alloc: Global, grid: &Grid) -> Result<String, GridError> {
+    match drawn(alloc, grid) {
+        Ok(text) => Ok(text),
+        Err(_) => drawn(alloc, grid),
+    }
+}
+
+/// A grid's rows are these, and its cursor stands at this row and column.
+fn check_again(
+    rt: &(impl Abort + AllocGlobal),
+    grid: &Grid,
+    want: (&str, u16, u16),
+) -> Result<(), Fail> {
+    let text = retried_drawn(rt.alloc(), grid)?;
+    let Pos { row, col } = grid.pos();
+    assert_eq!(rt; (text.as_str(), row, col), want);
+    Ok(())
+}
+
 #[test]
 fn rows_are_allocated_or_none(rt: HostRuntime) -> Result<(), Fail> {
     let grid = retried_grid(rt.alloc(), (2, 3, None))?;
     check_grid(&rt, &grid, 2, 3);
+    Ok(())
+}
+
+/// Rows, columns and capacities that take no more memory than the rows do.
+const ROOMY: &[Start] = &[
+    (1, 1, Some(0)),
+    (1, 1, Some(usize::MAX)),
+    (2, 3, Some(1_000_000)),
+    (24, 80, Some(1_000_001)),
+    (1, 65_535, Some(9)),
+];
+
+#[test]
+fn rows_are_allocated_at_any_capacity(rt: HostRuntime) -> Result<(), Fail> {
+    for start in ROOMY {
+        let grid = retried_grid(rt.alloc(), *start)?;
+        let (rows, cols, capacity) = *start;
+        check_grid(&rt, &grid, rows, cols);
+        assert_eq!(rt; Some(grid.scrollback_capacity()), capacity);
+    }
     Ok(())
 }
 
@@ -76,7 +116,7 @@ fn text_that_wraps_and_widens(rt: HostRuntime) -> Result<(), Fail> {
     let mut grid = retried_grid(rt.alloc(), (2, 2, Some(3)))?;
     retried_print(&rt, &mut grid, "abcd\u{2764}\u{fe0f}x")?;
     check_grid(&rt, &grid, 2, 2);
-    check(&rt, &grid, "\u{2764}\u{fe0f}_>/x./ 1 1")
+    check_again(&rt, &grid, ("\u{2764}\u{fe0f}_>/x./", 1, 1))
 }
 
 #[test]
@@ -153,5 +193,185 @@ fn sizes(rt: HostRuntime) -> Result<(), Fail> {
     retried_size(&rt, &mut grid, 4, 3)?;
     retried_size(&rt, &mut grid, 1, 2)?;
     retried_size(&rt, &mut grid, 3, 4)?;
+    Ok(())
+}
+
+/// Prints a text on a new grid, scrolls it up, and does both once more on an empty one if that was refused.
+fn scrolled_grid<R: Abort>(rt: &R, grid: &mut Grid, text: &str, count: u16) -> Result<(), Fail>
+    requires { IsAllocated grid.old }
+    ensures { IsAllocated grid.new }
+{
+    let size = grid.size();
+    retried_print(rt, grid, text)?;
+    if grid.scroll_up(count, &mut ()).is_err() {
+        check_grid(rt, grid, size.rows(), size.cols());
+        grid.clear();
+        grid.erase_all_scrollback(&mut ());
+        retried_print(rt, grid, text)?;
+        grid.scroll_up(count, &mut ())?;
+    }
+    Ok(())
+}
+
+/// Rows, columns and capacity, a text that is printed, by how many lines it scrolls up, the grid then, and how many
+/// rows it keeps.
+const SCROLLED: &[(Start, &str, u16, (&str, u16, u16), usize)] = &[
+    ((3, 2, Some(3)), "a\r\nb\r\nc", 2, ("c./../../", 2, 1), 2),
+    ((3, 2, Some(1)), "a\r\nb\r\nc", 2, ("c./../../", 2, 1), 1),
+    ((2, 2, Some(9)), "ab\r\nc", 9, ("../../", 1, 1), 2),
+    ((2, 2, Some(0)), "ab\r\nc", 1, ("c./../", 1, 1), 0),
+];
+
+#[test]
+fn lines_that_scroll_up(rt: HostRuntime) -> Result<(), Fail> {
+    for (start, text, count, want, kept) in SCROLLED {
+        let mut grid = retried_grid(rt.alloc(), *start)?;
+        scrolled_grid(&rt, &mut grid, text, *count)?;
+        check_again(&rt, &grid, *want)?;
+        assert_eq!(rt; grid.scrollback_len(), *kept);
+    }
+    Ok(())
+}
+
+/// Goes to the next row where there is no room for a column more, and does so again if that was refused.
+fn retried_wrap<R: Abort>(rt: &R, grid: &mut Grid, text: &str) -> Result<(), Fail>
+    requires { IsAllocated grid.old }
+    ensures { IsAllocated grid.new }
+{
+    retried_print(rt, grid, text)?;
+    if grid.size().cols() < 1 {
+        return Ok(());
+    }
+    if grid.col_wrap(1, true, &mut ()).is_err() {
+        check_grid(rt, grid, grid.size().rows(), grid.size().cols());
+        grid.clear();
+        print(grid, text, &mut Counter::default())?;
+        if 1 <= grid.size().cols() {
+            grid.col_wrap(1, true, &mut ())?;
+        }
+    }
+    Ok(())
+}
+
+#[test]
+fn a_full_row_that_wraps(rt: HostRuntime) -> Result<(), Fail> {
+    let mut grid = retried_grid(rt.alloc(), (2, 2, Some(3)))?;
+    retried_wrap(&rt, &mut grid, "a\r\nbc")?;
+    check_again(&rt, &grid, ("bc>/../", 1, 0))?;
+    assert_eq!(rt; grid.scrollback_len(), 1);
+    Ok(())
+}
+
+/// What a text holds before more is appended.
+const BEGUN: &str = "begun:";
+
+fn begun_text(alloc: Global) -> Result<String, GridError> {
+    let mut text = String::new(alloc);
+    text.push_str(BEGUN)?;
+    Ok(text)
+}
+
+/// A text that holds so much, begun at the second try if the first was refused.
+fn retried_text(alloc: Global) -> Result<String, GridError> {
+    match begun_text(alloc) {
+        Ok(text) => Ok(text),
+        Err(_) => begun_text(alloc),
+    }
+}
+
+/// After a refusal a text holds what it held before, and a front of what was to be appended. Then it is begun anew.
+fn check_refused(
+    rt: &impl Abort,
+    text: &mut String,
+    error: GridError,
+    want: &str,
+) -> Result<(), Fail> {
+    assert_eq!(rt; error, GridError::Memory);
+    let is_front = match text.as_str().strip_prefix(BEGUN) {
+        Some(front) => want.starts_with(front),
+        None => false,
+    };
+    assert!(rt; is_front);
+    text.clear();
+    text.push_str(BEGUN)?;
+    Ok(())
+}
+
+/// A grid with a text printed on it, each made at the second try if the first was refused.
+fn printed_grid<R: Abort>(rt: &R, alloc: Global, start: Start, text: &str) -> Result<Grid, Fail>
+    ensures { IfOk result (λ g. IsAllocated g) }
+{
+    let mut grid = retried_grid(alloc, start)?;
+    retried_print(rt, &mut grid, text)?;
+    Ok(grid)
+}
+
+/// Rows, columns and capacity, a text that is printed, the redraw, and how a cursor at a place that isn't known comes to
+/// its place.
+const REDRAWS: &[(Start, &str, &str, &str)] = &[
+    ((2, 4, None), "", "\x1b[m\x1b[H\x1b[J", "\x1b[H"),
+    (
+        (2, 4, None),
+        "abcdxyz",
+        "\x1b[m\x1b[H\x1b[Jabcdxyz",
+        "\x1b[2;4H",
+    ),
+    (
+        (3, 4, Some(3)),
+        "ab\r\n\r\nc",
+        "\x1b[m\x1b[H\x1b[Jab\x1b[3;1Hc",
+        "\x1b[3;2H",
+    ),
+    ((2, 4, None), "abcd", "\x1b[m\x1b[H\x1b[Jabcd", "\x1b[1;4Hd"),
+];
+
+#[test]
+fn redraws(rt: HostRuntime) -> Result<(), Fail> {
+    for (start, printed, want, _) in REDRAWS {
+        let grid = printed_grid(&rt, rt.alloc(), *start, printed)?;
+        let mut text = retried_text(rt.alloc())?;
+        if let Err(error) = grid.write_contents_formatted(&mut text) {
+            check_refused(&rt, &mut text, error, want)?;
+            grid.write_contents_formatted(&mut text)?;
+        }
+        assert_eq!(rt; text.as_str().strip_prefix(BEGUN), Some(*want));
+    }
+    Ok(())
+}
+
+#[test]
+fn places_of_the_cursor(rt: HostRuntime) -> Result<(), Fail> {
+    for (start, printed, _, want) in REDRAWS {
+        let grid = printed_grid(&rt, rt.alloc(), *start, printed)?;
+        let mut text = retried_text(rt.alloc())?;
+        if let Err(error) = grid.write_cursor_position_formatted(&mut text, None, None) {
+            check_refused(&rt, &mut text, error, want)?;
+            grid.write_cursor_position_formatted(&mut text, None, None)?;
+        }
+        assert_eq!(rt; text.as_str().strip_prefix(BEGUN), Some(*want));
+    }
+    Ok(())
+}
+
+/// Rows and columns, what is printed on the earlier grid and on the later one, and the difference.
+const DIFFERENCES: &[(Start, &str, &str, &str)] = &[
+    ((2, 4, None), "abcd", "abcd", ""),
+    ((2, 4, None), "abcd", "abcd\rxyz", "\x1b[Hxyz"),
+    ((2, 4, None), "abcd", "abcdx", "\x1b[1;4Hdx"),
+    ((2, 4, None), "ab", "ab中", "中"),
+];
+
+#[test]
+fn differences(rt: HostRuntime) -> Result<(), Fail> {
+    for (start, earlier, later, want) in DIFFERENCES {
+        let prev = printed_grid(&rt, rt.alloc(), *start, earlier)?;
+        let grid = printed_grid(&rt, rt.alloc(), *start, later)?;
+        let mut text = retried_text(rt.alloc())?;
+        if let Err(error) = grid.write_contents_diff(&mut text, &prev, Attrs::new()) {
+            check_refused(&rt, &mut text, error, want)?;
+            grid.write_contents_diff(&mut text, &prev, Attrs::new())?;
+        }
+        assert_eq!(rt; text.as_str().strip_prefix(BEGUN), Some(*want));
+    }
     Ok(())
 }

@@ -1,0 +1,250 @@
+//! Calls that may be refused, where there is memory: on odd screens and large ones each of them succeeds.
+
+use crate::report::{Text, places, report, text_of};
+use crate::start::{Start, count};
+use std::alloc::Global;
+use std::process::Abort;
+use std::test::Fail;
+use vt100::{Parser, Screen};
+
+/// A parser of this size that has read a stream.
+fn fed(alloc: Global, start: Start, stream: &[u8]) -> Result<Parser<()>, Fail> {
+    let (rows, cols, capacity) = start;
+    let mut parser = Parser::new(alloc, count(rows), count(cols), capacity)?;
+    parser.process(stream)?;
+    Ok(parser)
+}
+
+/// Each of these texts is made of a screen, against another one.
+fn check_texts(
+    rt: &(impl Abort + AllocGlobal),
+    screen: &Screen,
+    prev: &Screen,
+    texts: &[(Text, &str)],
+) -> Result<(), Fail> {
+    for (text, want) in texts {
+        let told = text_of(screen, prev, rt.alloc(), *text)?;
+        assert_eq!(rt; told.as_str(), *want, "{text:?}");
+    }
+    Ok(())
+}
+
+/// The alternate sheet, which shows nothing yet, after the main one.
+const TO_ALTERNATE: &[(Text, &str)] = &[
+    (Text::ContentsDiff, "\x1b[H\x1b[K"),
+    (Text::StateDiff, "\x1b[H\x1b[K"),
+    (Text::InputModeDiff, ""),
+    (Text::RowsDiff(0, 4), "\x1b[K//"),
+];
+
+/// The main sheet after it.
+const TO_MAIN: &[(Text, &str)] = &[
+    (Text::ContentsDiff, "ab"),
+    (Text::StateDiff, "ab"),
+    (Text::RowsDiff(0, 4), "ab//"),
+];
+
+#[test]
+fn differences_across_the_sheets(rt: HostRuntime) -> Result<(), Fail> {
+    let main = fed(rt.alloc(), (2, 4, 3), b"ab")?;
+    let alternate = fed(rt.alloc(), (2, 4, 3), b"ab\x1b[?47h")?;
+    check_texts(&rt, alternate.screen(), main.screen(), TO_ALTERNATE)?;
+    check_texts(&rt, main.screen(), alternate.screen(), TO_MAIN)
+}
+
+/// A kept row that is shown, after the row that is drawn on.
+const TO_KEPT: &[(Text, &str)] = &[
+    (Text::ContentsDiff, "\x1b[Ha"),
+    (Text::StateDiff, "\x1b[Ha"),
+    (Text::RowsDiff(0, 2), "a/"),
+];
+
+/// The row that is drawn on, after it.
+const FROM_KEPT: &[(Text, &str)] = &[
+    (Text::ContentsDiff, "\x1b[Hb"),
+    (Text::StateDiff, "\x1b[Hb"),
+    (Text::RowsDiff(0, 2), "b/"),
+];
+
+#[test]
+fn differences_of_kept_rows(rt: HostRuntime) -> Result<(), Fail> {
+    let drawn = fed(rt.alloc(), (1, 2, 3), b"a\r\nb")?;
+    let mut kept = drawn.screen().clone()?;
+    kept.set_scrollback(1)?;
+    check_texts(&rt, &kept, drawn.screen(), TO_KEPT)?;
+    check_texts(&rt, drawn.screen(), &kept, FROM_KEPT)
+}
+
+/// Screens of which everything is read: small ones, both sheets, and kept rows.
+const READ: &[(Start, &[u8])] = &[
+    ((1, 1, 0), b""),
+    ((1, 1, 9), b"abc"),
+    ((1, 1, 9), b"\xE4\xB8\xADa\xCC\x81"),
+    ((2, 3, 9), b"ab\r\ncd\r\nef\x1b[?47hgh\x1b[?25l"),
+    ((2, 3, 9), b"ab\r\ncd\r\nef\x1b[?1049hgh\x1b[?1049l\x1b[?6h"),
+    (
+        (3, 2, 1_000_000),
+        b"a\r\nb\r\nc\r\nd\x1b=\x1b[?1;9;1006;2004h\x1b[5 q",
+    ),
+    ((2, 2, usize::MAX), b"a\r\nb\r\nc\x1b[1;2;3;4;7;31;42m"),
+];
+
+/// A copy of a screen tells what the screen tells.
+fn check_copy(rt: &(impl Abort + AllocGlobal), screen: &Screen) -> Result<(), Fail> {
+    let copy = screen.clone()?;
+    let told = report(screen, &copy, rt.alloc())?;
+    let told_by_copy = report(&copy, screen, rt.alloc())?;
+    assert_eq!(rt; told.as_str(), told_by_copy.as_str());
+    Ok(())
+}
+
+#[test]
+fn everything_is_read(rt: HostRuntime) -> Result<(), Fail> {
+    for (start, stream) in READ {
+        let mut parser = fed(rt.alloc(), *start, stream)?;
+        check_copy(&rt, parser.screen())?;
+        parser.screen_mut().set_scrollback(usize::MAX)?;
+        check_copy(&rt, parser.screen())?;
+    }
+    Ok(())
+}
+
+/// Large capacities: how many rows are kept then of those that left.
+const CAPACITIES: &[(usize, usize)] = &[
+    (0, 0),
+    (1, 1),
+    (5, 4),
+    (65_536, 4),
+    (1_000_000, 4),
+    (1_000_001, 4),
+    (usize::MAX, 4),
+];
+
+#[test]
+fn large_capacities(rt: HostRuntime) -> Result<(), Fail> {
+    for (capacity, len) in CAPACITIES {
+        let mut parser = fed(rt.alloc(), (1, 2, *capacity), b"a\r\nb\r\nc\r\nd\r\ne")?;
+        assert_eq!(rt;
+            places(parser.screen()),
+            ((1, 2), (0, 1), [*len, *capacity, 0])
+        );
+        parser.screen_mut().set_scrollback(usize::MAX)?;
+        assert_eq!(rt; parser.screen().scrollback(), *len);
+    }
+    Ok(())
+}
+
+/// The texts of one row of 65,535 columns, whose last character stands in the last column.
+const WIDE: &[(Text, &str)] = &[
+    (Text::ContentsBetween(0, 65_533, 0, 65_535), " b"),
+    (
+        Text::ContentsFormatted,
+        "\x1b[?25h\x1b[m\x1b[H\x1b[Ja\x1b[65533Cb",
+    ),
+    (
+        Text::StateFormatted,
+        "\x1b[?25h\x1b[m\x1b[H\x1b[Ja\x1b[65533Cb\x1b>\x1b[?1l\x1b[?2004l",
+    ),
+    (Text::RowsFormatted(0, 65_535), "a\x1b[65533Cb/"),
+    (Text::StateDiff, ""),
+];
+
+#[test]
+fn one_row_of_65535_columns(rt: HostRuntime) -> Result<(), Fail> {
+    let parser = fed(rt.alloc(), (1, 65_535, 3), b"a\x1b[65535Gb")?;
+    let copy = parser.screen().clone()?;
+    check_texts(&rt, &copy, parser.screen(), WIDE)?;
+    let contents = copy.contents()?;
+    let is_whole = contents.as_str().starts_with("a ") && contents.as_str().ends_with(" b");
+    assert_eq!(rt; (contents.len(), is_whole), (65_535, true));
+    Ok(())
+}
+
+/// The texts of 65,535 rows of one column, of which the last one alone shows a character.
+const HIGH: &[(Text, &str)] = &[
+    (Text::ContentsBetween(65_533, 0, 65_534, 1), "\na"),
+    (
+        Text::ContentsFormatted,
+        "\x1b[?25h\x1b[m\x1b[H\x1b[J\x1b[65535;1Ha",
+    ),
+    (
+        Text::StateFormatted,
+        "\x1b[?25h\x1b[m\x1b[H\x1b[J\x1b[65535;1Ha\x1b>\x1b[?1l\x1b[?2004l",
+    ),
+    (Text::StateDiff, ""),
+];
+
+#[test]
+fn rows_of_one_column(rt: HostRuntime) -> Result<(), Fail> {
+    let parser = fed(rt.alloc(), (65_535, 1, 3), b"\x1b[65535Ha")?;
+    let copy = parser.screen().clone()?;
+    check_texts(&rt, &copy, parser.screen(), HIGH)?;
+    let contents = copy.contents()?;
+    let is_whole = contents.as_str().starts_with("\n") && contents.as_str().ends_with("\na");
+    assert_eq!(rt; (contents.len(), is_whole), (65_535, true));
+    Ok(())
+}
+
+/// Gives a screen each of these sizes in turn.
+const SIZES: &[(u16, u16)] = &[(1, 1), (1, 65_535), (300, 2), (65_535, 1), (24, 80), (1, 1)];
+
+#[test]
+fn sizes(rt: HostRuntime) -> Result<(), Fail> {
+    let mut parser = fed(rt.alloc(), (2, 2, 3), b"a\r\nb\r\nc\x1b[?47h")?;
+    for (rows, cols) in SIZES {
+        parser.set_size(count(*rows), count(*cols))?;
+        let (size, _, _) = places(parser.screen());
+        assert_eq!(rt; size, (*rows, *cols));
+    }
+    Ok(())
+}
+
+/// The longest text of a cell: 21 bytes.
+const CELL: &str = "e\u{E0100}\u{E0100}\u{E0100}\u{E0100}\u{E0100}";
+
+/// How many cells 24 rows of 80 columns have.
+const CELLS: usize = 1_920;
+
+/// A screen whose cells all have the longest text. Each row goes on in the next.
+fn full_screen(alloc: Global) -> Result<Parser<()>, Fail> {
+    let mut parser = Parser::new_default(alloc)?;
+    for _ in 0..CELLS {
+        parser.process(CELL.as_bytes())?;
+    }
+    Ok(parser)
+}
+
+/// The texts are those of the cells, and before the redraw come the forms that hide or show the cursor, take the
+/// attributes back and clear the screen: 15 bytes. The forms of the modes are 15.
+const FULL: &[(Text, usize)] = &[
+    (Text::Contents, 40_320),
+    (Text::ContentsBetween(0, 0, 23, 80), 40_320),
+    (Text::ContentsFormattedBasic, 40_320),
+    (Text::AllRowsBasic, 40_320),
+    (Text::ContentsFormatted, 40_335),
+    (Text::StateFormatted, 40_350),
+    (Text::ContentsDiff, 0),
+    (Text::StateDiff, 0),
+    (Text::Rows(0, 80), 40_344),
+];
+
+#[test]
+fn the_largest_texts(rt: HostRuntime) -> Result<(), Fail> {
+    let parser = full_screen(rt.alloc())?;
+    let copy = parser.screen().clone()?;
+    for (text, len) in FULL {
+        let told = text_of(&copy, parser.screen(), rt.alloc(), *text)?;
+        assert_eq!(rt; told.len(), *len, "{text:?}");
+    }
+    Ok(())
+}
+
+#[test]
+fn the_largest_redraw_is_drawn_again(rt: HostRuntime) -> Result<(), Fail> {
+    let parser = full_screen(rt.alloc())?;
+    let mut again = Parser::new_default(rt.alloc())?;
+    again.process(parser.screen().state_formatted()?.as_bytes())?;
+    let difference = again.screen().state_diff(parser.screen())?;
+    assert_eq!(rt; difference.as_str(), "");
+    Ok(())
+}
