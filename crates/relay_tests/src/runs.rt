@@ -81,6 +81,20 @@ const DIFFERENCES: &[Case] = &[
         b"\x1b[2K",
         b"\x1b[?2026h\x1b[H\x1b[K\x1b[C \x1b7\x08\x1b[X\x1b8\x1b[?2026l",
     ),
+    (
+        (1, 1),
+        b"ab",
+        b"\x1b[?2026h\x1b[?25h\x1b[m\x1b[H\x1b[Jb\x1b>\x1b[?1l\x1b[?2004l\x1b[?2026l",
+        b"\x1b[2K",
+        b"\x1b[?2026h\x1b[H\x1b[K \x1b7\x08\x1b[X\x1b8\x1b[?2026l",
+    ),
+    (
+        (2, 2),
+        b"a\r\nb",
+        b"\x1b[?2026h\x1b[?25h\x1b[m\x1b[H\x1b[Ja\r\nb\x1b>\x1b[?1l\x1b[?2004l\x1b[?2026l",
+        b"\x1b[HA",
+        b"\x1b[?2026h\x1b[HA\x1b[?2026l",
+    ),
 ];
 
 #[test]
@@ -123,6 +137,19 @@ fn half_a_character(rt: HostRuntime) -> Result<(), Fail> {
     play(&rt, (2, 4), steps)
 }
 
+/// A wide character has no room on one column.
+#[test]
+fn no_room_for_a_wide_character(rt: HostRuntime) -> Result<(), Fail> {
+    let steps = &[
+        Attach,
+        Frame(0, Full, BLANK),
+        Pump(0, ALL),
+        Feed(b"\xE4\xB8\xAD"),
+        NoFrame(0, Unchanged),
+    ];
+    play(&rt, (2, 1), steps)
+}
+
 /// A screen that asks for an emoji, and one that doesn't any more.
 #[test]
 fn an_emoji_comes_and_goes(rt: HostRuntime) -> Result<(), Fail> {
@@ -161,6 +188,13 @@ const FIRST_FRAMES: &[((u16, u16), &[u8], &str, (u16, u16), &[u8])] = &[
         (0, 1),
         b"\x1b[?2026h\x1b[?25h\x1b[m\x1b[H\x1b[J\x1b[91mA\x1b=\x1b[?1h\x1b[?2004l\x1b[?1000h\x1b[?1006h\
         \x1b[4 q\x1b[?2026l",
+    ),
+    (
+        (1, 1),
+        b"ab",
+        "b",
+        (0, 1),
+        b"\x1b[?2026h\x1b[?25h\x1b[m\x1b[H\x1b[Jb\x1b>\x1b[?1l\x1b[?2004l\x1b[?2026l",
     ),
     (
         (1, 65_535),

@@ -1,0 +1,135 @@
+//! The longest frame that is never shown in part, and a stream that is longer than what a view can hold.
+use crate::seen::{blank, cell_of, count, text_of};
+use std::alloc::{AllocError, Global};
+use std::process::Abort;
+use std::test::Fail;
+use termrelay::{Answer, Client, Hub};
+use termview::{Color, UntilCleared, View};
+
+const DARK: &[u8] = b"\x1b[38;2;100;100;100;48;2;100;100;100mx";
+
+const LIGHT: &[u8] = b"\x1b[38;2;101;101;101;48;2;101;101;101mx";
+
+const LAST: &[u8] = b"\x1b[38;2;100;100;9;48;2;101;101;101mx";
+
+/// How many pairs of a dark and a light cell stand before the last cell.
+const PAIRS: u16 = 28_339;
+
+/// How many cells there are.
+const CELLS: u16 = 2 * PAIRS + 1;
+
+/// How many bytes the frame has.
+const FRAME_LEN: usize = 2_097_150;
+
+/// A line in which hardly a cell is drawn as the one before it.
+fn line(alloc: Global) -> Result<Vec<u8>, AllocError> {
+    let mut line = Vec::with_capacity(alloc, FRAME_LEN)?;
+    for _ in 0..PAIRS {
+        line.extend_from_slice(DARK)?;
+        line.extend_from_slice(LIGHT)?;
+    }
+    line.extend_from_slice(LAST)?;
+    Ok(line)
+}
+
+/// What a client that comes now is sent.
+fn first_frame(alloc: Global, hub: &mut Hub) -> Result<(Answer, Vec<u8>), Fail> {
+    let client = hub.attach()?;
+    let answer = hub.frame(client)?;
+    let mut frame = Vec::with_capacity(alloc, FRAME_LEN)?;
+    hub.pump(client, &mut frame)?;
+    Ok((answer, frame))
+}
+
+/// A cell's column, and its two colours' parts.
+const COLORS: &[(u16, [u8; 3], [u8; 3])] = &[
+    (0, [100, 100, 100], [100, 100, 100]),
+    (1, [101, 101, 101], [101, 101, 101]),
+    (28_338, [100, 100, 100], [100, 100, 100]),
+    (56_676, [100, 100, 100], [100, 100, 100]),
+    (56_677, [101, 101, 101], [101, 101, 101]),
+    (56_678, [100, 100, 9], [101, 101, 101]),
+];
+
+fn check_colors(rt: &impl Abort, view: &View<UntilCleared>) {
+    for (col, [r, g, b], [red, green, blue]) in COLORS {
+        let wanted = ("x", Color::Rgb(*r, *g, *b), Color::Rgb(*red, *green, *blue));
+        assert_eq!(rt; cell_of(view, 0, *col), wanted, "{col}");
+    }
+}
+
+/// The view shows so many characters `x`, and the cursor is after them.
+fn check_line(
+    rt: &(impl Abort + AllocGlobal),
+    view: &View<UntilCleared>,
+    number: u16,
+) -> Result<(), Fail> {
+    let text = text_of(rt.alloc(), view)?;
+    let shown = text.iter().take_while(|byte| **byte == b'x').count();
+    let number = usize::from(number);
+    assert_eq!(rt;
+        (text.len(), shown, view.cursor_position()),
+        (number + 1, number, (0, number as u16))
+    );
+    Ok(())
+}
+
+/// A view holds the whole frame but its last byte.
+#[test]
+fn the_longest_frame(rt: HostRuntime) -> Result<(), Fail> {
+    let mut hub = Hub::new(rt.alloc(), count(1), count(CELLS))?;
+    hub.feed(&line(rt.alloc())?)?;
+    let (answer, frame) = first_frame(rt.alloc(), &mut hub)?;
+    assert_eq!(rt; (answer, frame.len()), (Answer::Full, FRAME_LEN));
+    let mut view = blank(rt.alloc(), (1, CELLS))?;
+    view.advance(&frame[..FRAME_LEN - 1]);
+    assert_eq!(rt; view.sync_bytes_count(), 2_097_141);
+    check_line(&rt, &view, 0)?;
+    view.advance(&frame[FRAME_LEN - 1..]);
+    assert_eq!(rt; view.sync_bytes_count(), 0);
+    check_line(&rt, &view, CELLS)?;
+    check_colors(&rt, &view);
+    Ok(())
+}
+
+/// The letter at this place of the alphabet, which goes on from its start.
+fn letter(index: u16) -> u8 {
+    b'a' + (index % 26) as u8
+}
+
+/// Feeds a line of 80 letters and asks for a frame, for so many lines, and sends all frames to one buffer.
+fn lines(hub: &mut Hub, client: Client, number: u16, frames: &mut Vec<u8>) -> Result<(), Fail> {
+    for index in 0..number {
+        hub.feed(&[letter(index); 80])?;
+        hub.frame(client)?;
+        hub.pump(client, frames)?;
+    }
+    Ok(())
+}
+
+/// Rows of 80 letters, with a newline after each, from this letter on.
+fn rows_from(alloc: Global, first: u16) -> Result<Vec<u8>, AllocError> {
+    let mut rows = Vec::new(alloc);
+    for row in first..first.saturating_add(24) {
+        rows.extend_from_slice(&[letter(row); 80])?;
+        rows.push(b'\n')?;
+    }
+    Ok(rows)
+}
+
+/// Two thousand frames in one piece, which lacks only its last byte, show the last of them but one.
+#[test]
+fn many_frames(rt: HostRuntime) -> Result<(), Fail> {
+    let mut hub = Hub::new(rt.alloc(), count(24), count(80))?;
+    let client = hub.attach()?;
+    let mut frames = Vec::new(rt.alloc());
+    lines(&mut hub, client, 2_000, &mut frames)?;
+    assert_eq!(rt; frames.len() > 3_800_000, true);
+    let mut view = blank(rt.alloc(), (24, 80))?;
+    view.advance(&frames[..frames.len() - 1]);
+    let text = text_of(rt.alloc(), &view)?;
+    let wanted = rows_from(rt.alloc(), 1_975)?;
+    assert_eq!(rt; text.as_slice(), wanted.as_slice());
+    assert_eq!(rt; view.cursor_position(), (23, 80));
+    Ok(())
+}

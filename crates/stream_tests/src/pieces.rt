@@ -1,0 +1,30 @@
+//! Two frames in three pieces.
+use crate::seen::{blank, cell_of};
+use std::test::Fail;
+use termview::Color;
+
+/// Two frames of a screen of 24 by 80. In the second one a word is drawn over.
+pub const FRAMES: &[u8] =
+    b"\x1b[?2026h\x1b[?25h\x1b[m\x1b[H\x1b[Jthis text is \x1b[31mRED\x1b[m\x1b>\x1b[?1l\x1b[?2004l\x1b[?2026l\
+    \x1b[?2026h\x1b[1;14H\x1b[32mGREEN\x1b[?2026l";
+
+/// All bytes but the last show the first frame, wherever they are cut.
+#[test]
+fn two_frames(rt: HostRuntime) -> Result<(), Fail> {
+    let last = FRAMES.len() - 1;
+    for second_cut in 0..last + 1 {
+        for first_cut in 0..second_cut + 1 {
+            let mut view = blank(rt.alloc(), (24, 80))?;
+            view.advance(&FRAMES[..first_cut]);
+            view.advance(&FRAMES[first_cut..second_cut]);
+            view.advance(&FRAMES[second_cut..last]);
+            let red = ("R", Color::Idx(1), Color::Default);
+            assert_eq!(rt;
+                (cell_of(&view, 0, 13), view.cursor_position()),
+                (red, (0, 16)),
+                "{first_cut}, {second_cut}"
+            );
+        }
+    }
+    Ok(())
+}
