@@ -74,6 +74,24 @@ fn check_line(
     Ok(())
 }
 
+/// The view holds so many bytes, and shows so many characters `x`.
+fn check_held(
+    rt: &(impl Abort + AllocGlobal),
+    view: &View<UntilCleared>,
+    held: usize,
+    number: u16,
+) -> Result<(), Fail> {
+    assert_eq!(rt; view.sync_bytes_count(), held);
+    check_line(rt, view, number)
+}
+
+/// Gives a view all but the last byte, which is answered.
+fn read_front<'a>(view: &mut View<UntilCleared>, frames: &'a [u8]) -> &'a [u8] {
+    let (front, last) = frames.split_at(frames.len().saturating_sub(1));
+    view.advance(front);
+    last
+}
+
 /// A view holds the whole frame but its last byte.
 #[test]
 fn the_longest_frame(rt: HostRuntime) -> Result<(), Fail> {
@@ -82,12 +100,10 @@ fn the_longest_frame(rt: HostRuntime) -> Result<(), Fail> {
     let (answer, frame) = first_frame(rt.alloc(), &mut hub)?;
     assert_eq!(rt; (answer, frame.len()), (Answer::Full, FRAME_LEN));
     let mut view = blank(rt.alloc(), (1, CELLS))?;
-    view.advance(&frame[..FRAME_LEN - 1]);
-    assert_eq!(rt; view.sync_bytes_count(), 2_097_141);
-    check_line(&rt, &view, 0)?;
-    view.advance(&frame[FRAME_LEN - 1..]);
-    assert_eq!(rt; view.sync_bytes_count(), 0);
-    check_line(&rt, &view, CELLS)?;
+    let last = read_front(&mut view, &frame);
+    check_held(&rt, &view, 2_097_141, 0)?;
+    view.advance(last);
+    check_held(&rt, &view, 0, CELLS)?;
     check_colors(&rt, &view);
     Ok(())
 }
@@ -126,10 +142,20 @@ fn many_frames(rt: HostRuntime) -> Result<(), Fail> {
     lines(&mut hub, client, 2_000, &mut frames)?;
     assert_eq!(rt; frames.len() > 3_800_000, true);
     let mut view = blank(rt.alloc(), (24, 80))?;
-    view.advance(&frames[..frames.len() - 1]);
+    read_front(&mut view, &frames);
     let text = text_of(rt.alloc(), &view)?;
     let wanted = rows_from(rt.alloc(), 1_975)?;
     assert_eq!(rt; text.as_slice(), wanted.as_slice());
     assert_eq!(rt; view.cursor_position(), (23, 80));
+    Ok(())
+}
+
+/// A screen of more than a million cells.
+#[test]
+fn many_cells(rt: HostRuntime) -> Result<(), Fail> {
+    let mut view = blank(rt.alloc(), (1_100, 1_000))?;
+    view.advance(b"\x1b[1100;1000Hx");
+    let wanted = ("x", Color::Default, Color::Default);
+    assert_eq!(rt; cell_of(&view, 1_099, 999), wanted);
     Ok(())
 }
