@@ -7,6 +7,8 @@ mod cuttings;
 #[cfg(test)]
 mod errors;
 #[cfg(test)]
+mod logged;
+#[cfg(test)]
 mod logs;
 #[cfg(test)]
 mod many;
@@ -14,6 +16,8 @@ mod many;
 mod others;
 #[cfg(test)]
 mod play;
+#[cfg(test)]
+mod refusals;
 #[cfg(test)]
 mod runs;
 #[cfg(test)]
