@@ -7,4 +7,6 @@ mod long;
 #[cfg(test)]
 mod pieces;
 #[cfg(test)]
+mod refusals;
+#[cfg(test)]
 mod seen;
