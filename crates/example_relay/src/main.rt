@@ -4,9 +4,15 @@
 use std::alloc::Global;
 use std::num::NonZeroU16;
 use termrelay::{Client, Hub, HubError};
-use termview::{UntilCleared, View};
+use termview::{UntilCleared, View, ViewError};
 
-/// Asks for the frame that is due, and carries it to the view, five bytes at a time; the last pieces may get lost.
+/// A number of rows or columns, at least one.
+fn count(number: u16) -> NonZeroU16 {
+    NonZeroU16::new(number).unwrap_or(NonZeroU16::MIN)
+}
+
+/// Asks for the frame that is due, and brings it to the view, five bytes at a time; what comes after so many pieces gets
+/// lost.
 fn carry(
     alloc: Global,
     hub: &mut Hub,
@@ -24,21 +30,24 @@ fn carry(
     Ok(())
 }
 
-fn main(rt: HostRuntime) -> anyhow::Result<()> {
-    let (rows, cols) = (
-        NonZeroU16::MIN,
-        NonZeroU16::new(20).unwrap_or(NonZeroU16::MIN),
-    );
-    let mut hub = Hub::new(rt.alloc(), rows, cols)?;
+/// Two frames. The line ends in the middle of the second one, so that the view shows the first, which came whole.
+fn relay(alloc: Global, view: &mut View<UntilCleared>) -> Result<(), HubError> {
+    let (rows, cols) = view.size();
+    let mut hub = Hub::new(alloc, rows, cols)?;
     let client = hub.attach()?;
-    let mut view = View::new(rt.alloc(), rows, cols, UntilCleared::new())?;
     hub.feed(b"[####      ]  40%")?;
-    carry(rt.alloc(), &mut hub, client, &mut view, usize::MAX)?;
-    view.row_text(0, &mut rt.stdout())?;
-    println!(rt; "")?;
-    // The line ends in the middle of the next frame: the view shows the last one that came whole.
+    carry(alloc, &mut hub, client, view, usize::MAX)?;
     hub.feed(b"\r[########  ]  80%")?;
-    carry(rt.alloc(), &mut hub, client, &mut view, 3)?;
+    carry(alloc, &mut hub, client, view, 3)
+}
+
+fn new_view(alloc: Global) -> Result<View<UntilCleared>, ViewError> {
+    View::new(alloc, count(1), count(20), UntilCleared::new())
+}
+
+fn main(rt: HostRuntime) -> anyhow::Result<()> {
+    let mut view = new_view(rt.alloc())?;
+    relay(rt.alloc(), &mut view)?;
     view.row_text(0, &mut rt.stdout())?;
     println!(rt; "")?;
     Ok(())
