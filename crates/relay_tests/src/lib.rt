@@ -7,8 +7,6 @@ mod cuttings;
 #[cfg(test)]
 mod errors;
 #[cfg(test)]
-mod logged;
-#[cfg(test)]
 mod logs;
 #[cfg(test)]
 mod many;
@@ -16,8 +14,6 @@ mod many;
 mod others;
 #[cfg(test)]
 mod play;
-#[cfg(test)]
-mod refusals;
 #[cfg(test)]
 mod runs;
 #[cfg(test)]

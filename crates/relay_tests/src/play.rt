@@ -23,7 +23,7 @@ pub enum Step {
     NoFrame(usize, Answer),
     /// A client is pumped to a writer that takes so many bytes and then fails.
     Pump(usize, usize),
-    /// No client has this one's key. One that never came has its number as key.
+    /// No client has this one's key.
     Unknown(usize),
     /// The screen shows this text, and the cursor is at this row and column.
     Shows(&'static str, (u16, u16)),
@@ -53,8 +53,7 @@ pub fn count(number: u16) -> NonZeroU16 {
     NonZeroU16::new(number).unwrap_or(NonZeroU16::MIN)
 }
 
-/// A hub, made at the second try if the first was refused.
-pub fn new_hub(alloc: Global, rows: u16, cols: u16) -> Result<Hub, HubError> {
+fn new_hub(alloc: Global, rows: u16, cols: u16) -> Result<Hub, HubError> {
     match Hub::new(alloc, count(rows), count(cols)) {
         Err(HubError::Memory) => Hub::new(alloc, count(rows), count(cols)),
         answer => answer,
@@ -71,7 +70,7 @@ fn fault_of(answer: &Result<(), HubError>) -> Option<ErrorKind> {
 }
 
 /// How many clients come at most.
-pub const MAX_CLIENTS: usize = 66;
+const MAX_CLIENTS: usize = 66;
 
 /// Room for so many clients.
 fn no_places(alloc: Global) -> Result<Vec<Place>, AllocError> {

@@ -2,7 +2,7 @@
 use crate::play::Step::{
     Attach, Color, Detach, Feed, Frame, NoFrame, Pump, Resize, Shows, Unknown,
 };
-use crate::play::{Step, play};
+use crate::play::play;
 use std::test::Fail;
 use termrelay::Answer::{Behind, Difference, Full, Unchanged, Unsure};
 
@@ -13,40 +13,38 @@ pub const BLANK: &[u8] =
 /// What a writer takes that takes all.
 const ALL: usize = usize::MAX;
 
-/// A word is drawn over, and a second client comes late. On 24 by 80.
-pub const WORD: &[Step] = &[
-    Attach,
-    Feed(b"this text is \x1b[31mRED\x1b[m"),
-    Frame(
-        0,
-        Full,
-        b"\x1b[?2026h\x1b[?25h\x1b[m\x1b[H\x1b[Jthis text is \x1b[31mRED\x1b[m\x1b>\x1b[?1l\x1b[?2004l\x1b[?2026l",
-    ),
-    Pump(0, ALL),
-    Color(0, 13, 1),
-    Feed(b"\x1b[3D\x1b[32mGREEN"),
-    Frame(
-        0,
-        Difference,
-        b"\x1b[?2026h\x1b[1;14H\x1b[32mGREEN\x1b[?2026l",
-    ),
-    Color(0, 13, 2),
-    Attach,
-    Frame(
-        1,
-        Full,
-        b"\x1b[?2026h\x1b[?25h\x1b[m\x1b[H\x1b[Jthis text is \x1b[32mGREEN\x1b>\x1b[?1l\x1b[?2004l\x1b[?2026l",
-    ),
-];
-
 /// A word is drawn over, and a second client comes late.
 #[test]
 fn a_word_is_drawn_over(rt: HostRuntime) -> Result<(), Fail> {
-    play(&rt, (24, 80), WORD)
+    let steps = &[
+        Attach,
+        Feed(b"this text is \x1b[31mRED\x1b[m"),
+        Frame(
+            0,
+            Full,
+            b"\x1b[?2026h\x1b[?25h\x1b[m\x1b[H\x1b[Jthis text is \x1b[31mRED\x1b[m\x1b>\x1b[?1l\x1b[?2004l\x1b[?2026l",
+        ),
+        Pump(0, ALL),
+        Color(0, 13, 1),
+        Feed(b"\x1b[3D\x1b[32mGREEN"),
+        Frame(
+            0,
+            Difference,
+            b"\x1b[?2026h\x1b[1;14H\x1b[32mGREEN\x1b[?2026l",
+        ),
+        Color(0, 13, 2),
+        Attach,
+        Frame(
+            1,
+            Full,
+            b"\x1b[?2026h\x1b[?25h\x1b[m\x1b[H\x1b[Jthis text is \x1b[32mGREEN\x1b>\x1b[?1l\x1b[?2004l\x1b[?2026l",
+        ),
+    ];
+    play(&rt, (24, 80), steps)
 }
 
 /// A size, a stream and the first frame, and then another stream and the next frame.
-pub type Case = (
+type Case = (
     (u16, u16),
     &'static [u8],
     &'static [u8],
@@ -54,7 +52,7 @@ pub type Case = (
     &'static [u8],
 );
 
-pub const DIFFERENCES: &[Case] = &[
+const DIFFERENCES: &[Case] = &[
     (
         (2, 4),
         b"abcdxyz",
@@ -99,52 +97,44 @@ pub const DIFFERENCES: &[Case] = &[
     ),
 ];
 
-/// A frame and the next one, and then there is nothing new.
-pub fn steps_of(case: &Case) -> [Step; 8] {
-    let (_, first, full, second, difference) = case;
-    [
-        Attach,
-        Feed(first),
-        Frame(0, Full, full),
-        Pump(0, ALL),
-        Feed(second),
-        Frame(0, Difference, difference),
-        Pump(0, ALL),
-        NoFrame(0, Unchanged),
-    ]
-}
-
 #[test]
 fn differences(rt: HostRuntime) -> Result<(), Fail> {
-    for case in DIFFERENCES {
-        let (size, ..) = case;
-        play(&rt, *size, &steps_of(case))?;
+    for (size, first, full, second, difference) in DIFFERENCES {
+        let steps = &[
+            Attach,
+            Feed(first),
+            Frame(0, Full, full),
+            Pump(0, ALL),
+            Feed(second),
+            Frame(0, Difference, difference),
+            Pump(0, ALL),
+            NoFrame(0, Unchanged),
+        ];
+        play(&rt, *size, steps)?;
     }
     Ok(())
 }
 
-/// Halves of characters. On 2 by 4.
-pub const HALF: &[Step] = &[
-    Attach,
-    Frame(0, Full, BLANK),
-    Pump(0, ALL),
-    Feed(b"\xE4\xB8"),
-    NoFrame(0, Unchanged),
-    Pump(0, 0),
-    Feed(b"\xAD"),
-    Frame(0, Difference, b"\x1b[?2026h\xE4\xB8\xAD\x1b[?2026l"),
-    Pump(0, ALL),
-    Feed(b"a\xC3"),
-    Frame(0, Difference, b"\x1b[?2026ha\x1b[?2026l"),
-    Pump(0, ALL),
-    Feed(b"\xA9"),
-    Frame(0, Difference, b"\x1b[?2026h\xC3\xA9\x1b[?2026l"),
-];
-
 /// Half a character shows nothing, and a frame doesn't end it.
 #[test]
 fn half_a_character(rt: HostRuntime) -> Result<(), Fail> {
-    play(&rt, (2, 4), HALF)
+    let steps = &[
+        Attach,
+        Frame(0, Full, BLANK),
+        Pump(0, ALL),
+        Feed(b"\xE4\xB8"),
+        NoFrame(0, Unchanged),
+        Pump(0, 0),
+        Feed(b"\xAD"),
+        Frame(0, Difference, b"\x1b[?2026h\xE4\xB8\xAD\x1b[?2026l"),
+        Pump(0, ALL),
+        Feed(b"a\xC3"),
+        Frame(0, Difference, b"\x1b[?2026ha\x1b[?2026l"),
+        Pump(0, ALL),
+        Feed(b"\xA9"),
+        Frame(0, Difference, b"\x1b[?2026h\xC3\xA9\x1b[?2026l"),
+    ];
+    play(&rt, (2, 4), steps)
 }
 
 /// A wide character has no room on one column.
@@ -160,32 +150,30 @@ fn no_room_for_a_wide_character(rt: HostRuntime) -> Result<(), Fail> {
     play(&rt, (2, 1), steps)
 }
 
-/// An emoji that comes and goes. On 2 by 4.
-pub const EMOJI: &[Step] = &[
-    Attach,
-    Feed(b"\xE2\x9D\xA4\xEF\xB8\x8F"),
-    Frame(
-        0,
-        Unsure,
-        b"\x1b[?2026h\x1b[?25h\x1b[m\x1b[H\x1b[J\xE2\x9D\xA4\xEF\xB8\x8F\x1b>\x1b[?1l\x1b[?2004l\x1b[?2026l",
-    ),
-    Pump(0, ALL),
-    Feed(b"\x1b[2J"),
-    Frame(
-        0,
-        Full,
-        b"\x1b[?2026h\x1b[?25h\x1b[m\x1b[H\x1b[J\x1b[2C\x1b[?2026l",
-    ),
-];
-
 /// A screen that asks for an emoji, and one that doesn't any more.
 #[test]
 fn an_emoji_comes_and_goes(rt: HostRuntime) -> Result<(), Fail> {
-    play(&rt, (2, 4), EMOJI)
+    let steps = &[
+        Attach,
+        Feed(b"\xE2\x9D\xA4\xEF\xB8\x8F"),
+        Frame(
+            0,
+            Unsure,
+            b"\x1b[?2026h\x1b[?25h\x1b[m\x1b[H\x1b[J\xE2\x9D\xA4\xEF\xB8\x8F\x1b>\x1b[?1l\x1b[?2004l\x1b[?2026l",
+        ),
+        Pump(0, ALL),
+        Feed(b"\x1b[2J"),
+        Frame(
+            0,
+            Full,
+            b"\x1b[?2026h\x1b[?25h\x1b[m\x1b[H\x1b[J\x1b[2C\x1b[?2026l",
+        ),
+    ];
+    play(&rt, (2, 4), steps)
 }
 
 /// A size, a stream, what is shown then, and the first frame.
-pub const FIRST_FRAMES: &[((u16, u16), &[u8], &str, (u16, u16), &[u8])] = &[
+const FIRST_FRAMES: &[((u16, u16), &[u8], &str, (u16, u16), &[u8])] = &[
     (
         (2, 1),
         b"\xE2\x9D\xA4\xEF\xB8\x8F",
@@ -231,50 +219,44 @@ fn first_frames(rt: HostRuntime) -> Result<(), Fail> {
     Ok(())
 }
 
-/// A writer that fails in mid-frame. On 24 by 80.
-pub const FAULT: &[Step] = &[
-    Attach,
-    Frame(0, Full, BLANK),
-    Pump(0, 10),
-    Feed(b"x"),
-    NoFrame(0, Behind),
-    Pump(0, 36),
-    Frame(0, Difference, b"\x1b[?2026hx\x1b[?2026l"),
-];
-
 /// The writer fails in mid-frame, and the next one gets the rest.
 #[test]
 fn a_writer_fails(rt: HostRuntime) -> Result<(), Fail> {
-    play(&rt, (24, 80), FAULT)
+    let steps = &[
+        Attach,
+        Frame(0, Full, BLANK),
+        Pump(0, 10),
+        Feed(b"x"),
+        NoFrame(0, Behind),
+        Pump(0, 36),
+        Frame(0, Difference, b"\x1b[?2026hx\x1b[?2026l"),
+    ];
+    play(&rt, (24, 80), steps)
 }
-
-/// A size that stays. On 24 by 80.
-pub const SAME_SIZE: &[Step] = &[
-    Attach,
-    Resize(24, 80),
-    Unknown(0),
-    Attach,
-    Frame(1, Full, BLANK),
-];
-
-/// More rows. On 2 by 4.
-pub const HIGHER: &[Step] = &[
-    Feed(b"a\r\nb\r\nc"),
-    Resize(4, 4),
-    Shows("\nb\nc", (2, 1)),
-    Attach,
-    Frame(
-        0,
-        Full,
-        b"\x1b[?2026h\x1b[?25h\x1b[m\x1b[H\x1b[J\r\nb\r\nc\x1b>\x1b[?1l\x1b[?2004l\x1b[?2026l",
-    ),
-];
 
 /// Every client ends, also where the size stays.
 #[test]
 fn sizes(rt: HostRuntime) -> Result<(), Fail> {
-    play(&rt, (24, 80), SAME_SIZE)?;
-    play(&rt, (2, 4), HIGHER)
+    let same = &[
+        Attach,
+        Resize(24, 80),
+        Unknown(0),
+        Attach,
+        Frame(1, Full, BLANK),
+    ];
+    play(&rt, (24, 80), same)?;
+    let higher = &[
+        Feed(b"a\r\nb\r\nc"),
+        Resize(4, 4),
+        Shows("\nb\nc", (2, 1)),
+        Attach,
+        Frame(
+            0,
+            Full,
+            b"\x1b[?2026h\x1b[?25h\x1b[m\x1b[H\x1b[J\r\nb\r\nc\x1b>\x1b[?1l\x1b[?2004l\x1b[?2026l",
+        ),
+    ];
+    play(&rt, (2, 4), higher)
 }
 
 /// Clients that never came or have ended are unknown.
