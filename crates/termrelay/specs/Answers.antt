@@ -1,6 +1,6 @@
 -- What a request for a frame is answered.
 use Rattle.std.specs.Prelude.{◌≡◌, ℕ, zero, suc, ◌==◌, ◌&&◌, Bool, true, false, List, [], ◌∷◌, ◌++◌, Option, Some, None}
-use Rattle.std.specs.Prelude.{if◌then◌else◌}
+use Rattle.std.specs.Prelude.{if◌then◌else◌, length, nat_lt}
 use Rattle.vt100_forms.specs.Attrs.{attrs_eq}
 use Rattle.vt100_forms.specs.Form.{mouse_number, encoding_number, style_number}
 use Rattle.vt100_cells.specs.Cell.{bool_eq, cell_eq, default_cell}
@@ -10,7 +10,7 @@ use Rattle.vt100_state.specs.State.{State}
 use Rattle.vt100_state.specs.Shown.{shown_state}
 use Rattle.termrelay.specs.Frame.{is_unsure, frame_text}
 use Rattle.termrelay.specs.declared.answer.Answer.{Answer}
-use Rattle.termrelay.specs.declared.answer.Answer.TheVariants.{Full, Difference, Unsure, Unchanged, Behind}
+use Rattle.termrelay.specs.declared.answer.Answer.TheVariants.{Full, Difference, Unsure, Unchanged, Behind, Held, TooLong}
 
 -- ---- two screens of one size that show the same
 
@@ -53,6 +53,8 @@ is_frame Difference = true
 is_frame Unsure = true
 is_frame Unchanged = false
 is_frame Behind = false
+is_frame Held = false
+is_frame TooLong = false
 
 -- where the present screen is sure
 abbrev pub due_from : Size → Shown → Option Shown → Answer
@@ -66,13 +68,21 @@ due_from z now (Some base) =
 abbrev pub due : Size → Shown → Option Shown → Answer
 due z now base = if is_unsure z now then Unsure else due_from z now base
 
--- while a program is in an update of its own a frame would have to wait; the screen doesn't tell of that
+-- while the program is in a synchronized update of its own, frames wait
 abbrev pub unless_updating : State → Answer → Answer
-unless_updating now answer = answer
+unless_updating now answer = if now.updating then Held else answer
 
--- a frame of any length is taken
+-- the longest text of a frame, in bytes: what a terminal holds of an update, and then parses as a whole
+abbrev pub longest_frame : ℕ
+longest_frame = 2097150
+
+-- whether a frame's text is longer than that
+abbrev pub is_too_long : Size → Shown → Option Shown → Bool
+is_too_long z now base = nat_lt longest_frame (length (frame_text z base now))
+
+-- a frame that is too long isn't made
 abbrev pub unless_too_long : Size → Shown → Option Shown → Answer → Answer
-unless_too_long z now base answer = answer
+unless_too_long z now base answer = if is_frame answer && is_too_long z now base then TooLong else answer
 
 abbrev pub answer_to : State → Option Shown → List ℕ → Answer
 answer_to now base [] =
@@ -84,8 +94,9 @@ answer_to now base (b ∷ bs) = Behind
 abbrev pub answer_of : State → ClientState → Answer
 answer_of now c = answer_to now c.base c.owed
 
--- whether memory is taken on the way to the answer
+-- whether memory is taken on the way to the answer: for a frame's text, also where it is too long then
 abbrev pub may_take_memory : Answer → Bool
+may_take_memory TooLong = true
 may_take_memory answer = is_frame answer
 
 -- the client after that answer

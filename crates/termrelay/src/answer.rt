@@ -15,6 +15,11 @@ pub enum Answer {
     Unchanged,
     /// No frame: bytes of an earlier one are still owed.
     Behind,
+    /// No frame: the program is in a synchronized update of its own (private mode 2026), which has to end first. A full
+    /// reset ends it too, and so does a resize.
+    Held,
+    /// No frame: its text would be longer than 2,097,150 bytes, which is what a terminal holds of an update.
+    TooLong,
 }
 
 impl Answer {
@@ -24,7 +29,7 @@ impl Answer {
     {
         match self {
             Answer::Full | Answer::Difference | Answer::Unsure => true,
-            Answer::Unchanged | Answer::Behind => false,
+            Answer::Unchanged | Answer::Behind | Answer::Held | Answer::TooLong => false,
         }
     }
 }

@@ -5,7 +5,7 @@ use Rattle.vt100_cells.specs.Cell.{IsCell}
 use Rattle.vt100_cells.specs.Cells.{cell_at}
 use Rattle.vt100_core.specs.Grid.{visible_at}
 use Rattle.vt100_state.specs.State.{State, IsState, main_sheet}
-use Rattle.vt100_state.specs.Step.{resized_to}
+use Rattle.vt100_state.specs.Step.{resized_to, with_updating}
 use Rattle.vt100_state.specs.Made.{Act, Fed, Resized, made}
 
 -- how many rows, and columns, a screen can have
@@ -90,7 +90,7 @@ abbrev pub MakesByteColours : Type 0
 MakesByteColours = (rows cols capacity : ℕ) (acts : List Act) → AreActs rows cols capacity acts
     → ShowsByteColours (made rows cols capacity acts)
 
--- the size that a terminal has already changes nothing, and no row leaves
+-- the size that a terminal has already changes nothing but that the program's update ends, and no row leaves
 abbrev pub KeepsAtSameSize : Type 0
 KeepsAtSameSize = (s : State) → IsState s
-    → resized_to s.shown.height s.shown.width s ≡ record { state = s; reports = [] }
+    → resized_to s.shown.height s.shown.width s ≡ record { state = with_updating false s; reports = [] }

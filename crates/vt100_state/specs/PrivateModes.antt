@@ -6,7 +6,8 @@ use Rattle.vt100_forms.specs.declared.modes.MouseProtocolEncoding.{MouseProtocol
 use Rattle.vt100_forms.specs.declared.modes.MouseProtocolEncoding.TheVariants as encoding
 use Rattle.vt100_state.specs.Lookup.{lookup}
 use Rattle.vt100_state.specs.State.{State}
-use Rattle.vt100_state.specs.Step.{Partly, with_modes, with_cursor_keys, with_paste, with_hidden, with_origin_mode}
+use Rattle.vt100_state.specs.Step.{Partly, with_modes, with_cursor_keys, with_paste, with_hidden, with_updating}
+use Rattle.vt100_state.specs.Step.{with_origin_mode}
 use Rattle.vt100_state.specs.Step.{alternate_shown, main_shown, alternate_entered, alternate_left}
 
 abbrev pub is_mouse : MouseProtocolMode → MouseProtocolMode → Bool
@@ -42,7 +43,7 @@ set_rows =
     ∷ (47, alternate_shown)
     ∷ (1000, mouse_set mouse.PressRelease) ∷ (1002, mouse_set mouse.ButtonMotion) ∷ (1003, mouse_set mouse.AnyMotion)
     ∷ (1005, encoding_set encoding.Utf8) ∷ (1006, encoding_set encoding.Sgr) ∷ (1049, alternate_entered)
-    ∷ (2004, with_paste true) ∷ []
+    ∷ (2004, with_paste true) ∷ (2026, with_updating true) ∷ []
 
 abbrev pub reset_rows : List (ℕ × (State → State))
 reset_rows =
@@ -51,7 +52,7 @@ reset_rows =
     ∷ (1000, mouse_reset mouse.PressRelease) ∷ (1002, mouse_reset mouse.ButtonMotion)
     ∷ (1003, mouse_reset mouse.AnyMotion)
     ∷ (1005, encoding_reset encoding.Utf8) ∷ (1006, encoding_reset encoding.Sgr) ∷ (1049, alternate_left)
-    ∷ (2004, with_paste false) ∷ []
+    ∷ (2004, with_paste false) ∷ (2026, with_updating false) ∷ []
 
 -- what stands in a table for a group; a group of more numbers than one is in no row
 abbrev pub row_of : List (ℕ × (State → State)) → List ℕ → Option (State → State)

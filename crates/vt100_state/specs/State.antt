@@ -23,6 +23,8 @@ pub record State : Type 0 where
   -- whether the cursor is hidden
   pub hidden : Bool
   pub modes : Modes
+  -- whether the program is in a synchronized update of its own
+  pub updating : Bool
   pub style : CursorStyle
   -- the last character that was drawn in a cell of its own
   pub last : Option ℕ
@@ -45,6 +47,7 @@ fresh_state height width capacity = record {
   saved_attrs = default_attrs;
   hidden = false;
   modes = default_modes;
+  updating = false;
   style = style.Default;
   last = None;
 }

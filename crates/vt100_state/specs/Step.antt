@@ -204,6 +204,10 @@ with_paste b s = with_modes s (record (s.modes) { paste = b })
 abbrev pub with_hidden : Bool → State → State
 with_hidden b s = record s { hidden = b }
 
+-- a synchronized update of the program's own begins, or ends
+abbrev pub with_updating : Bool → State → State
+with_updating b s = record s { updating = b }
+
 abbrev pub with_style : CursorStyle → State → State
 with_style x s = record s { style = x }
 
@@ -240,12 +244,19 @@ abbrev pub made_anew : State → State
 made_anew s = fresh_state (main_sheet s).height (main_sheet s).width (main_sheet s).kept.capacity
 
 -- both sheets get another size; the rows of the main one are reported first
-abbrev pub resized_to : ℕ → ℕ → State → Stepped
-resized_to height width s = record {
+abbrev pub sheets_resized : ℕ → ℕ → State → Stepped
+sheets_resized height width s = record {
   state = record s { shown = (resized s.shown height width).grid; other = (resized s.other height width).grid };
   reports =
       reports_of false (resized (main_sheet s) height width).sunk
       ++ reports_of true (resized (alternate_sheet s) height width).sunk;
+}
+
+-- and the program's update ends, also where the size stays
+abbrev pub resized_to : ℕ → ℕ → State → Stepped
+resized_to height width s = record {
+  state = with_updating false (sheets_resized height width s).state;
+  reports = (sheets_resized height width s).reports;
 }
 
 -- n of the kept rows are shown, and they go unreported: two calls of the screen's own

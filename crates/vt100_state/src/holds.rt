@@ -40,7 +40,8 @@ pub fn byte_colours()
     ensures { MakesByteColours }
 {}
 
-/// A resize to the size that the terminal has already changes nothing, and no row leaves.
+/// A resize to the size that the terminal has already changes nothing but that the program's synchronized update ends,
+/// and no row leaves.
 pub fn same_sizes()
     ensures { KeepsAtSameSize }
 {}
