@@ -75,7 +75,7 @@ lookup-keeps n ((k, f) ∷ rows) p s =
 
 set-rows-keep : EachKeeps set_rows
 set-rows-keep =
-    (λ s h. h, (keeps-origin true, (λ s h. h, (λ s h. h, (keeps-shown, (λ s h. h, (λ s h. h, (λ s h. h, (λ s h. h, (λ s h. h, (keeps-entered, (λ s h. h, tt))))))))))))
+    (λ s h. h, (keeps-origin true, (λ s h. h, (λ s h. h, (keeps-shown, (λ s h. h, (λ s h. h, (λ s h. h, (λ s h. h, (λ s h. h, (keeps-entered, (λ s h. h, (λ s h. h, tt)))))))))))))
 
 pub unused_row : (ns : List ℕ) (s : State) → is_unused (row_state (row_of set_rows ns) s) ≡ true → is_unused s ≡ true
 unused_row [] s h = h

@@ -6,7 +6,7 @@ use Rattle.vt100_core.specs.Grid.{GridView, IsAllocated}
 use Rattle.vt100_core.specs.Resize.{resized}
 use Rattle.vt100_rows.specs.Row.{RowView}
 use Rattle.vt100_state.specs.State.{State}
-use Rattle.vt100_state.specs.Step.{Stepped, resized_to}
+use Rattle.vt100_state.specs.Step.{Stepped, sheets_resized}
 use Rattle.vt100_state.specs.Call.{ScreenView, Hears}
 use Rattle.vt100.specs.ScreenFields.{IsScreen}
 use Rattle.vt100.specs.Tries.{Tries, TriesAlone, HearsFront}
@@ -48,9 +48,9 @@ pub settled_tries : {C E : Type 0} (scrolls : C → RowView → Bool → C → T
     → OnErr result (IsErr answer) → OnErr result (result ≡ Err Memory) → OnErr result (failed ≡ true)
     → OnOk answer (g ≡ (resized v.state.shown rows cols).grid)
     → OnOk answer (h ≡ (resized v.state.other rows cols).grid)
-    → OnOk answer (Hears scrolls c (resized_to rows cols v.state).reports d)
-    → OnErr answer (HearsFront scrolls c (resized_to rows cols v.state).reports d)
-    → Tries scrolls (resized_to rows cols) v c result
+    → OnOk answer (Hears scrolls c (sheets_resized rows cols v.state).reports d)
+    → OnErr answer (HearsFront scrolls c (sheets_resized rows cols v.state).reports d)
+    → Tries scrolls (sheets_resized rows cols) v c result
     (record { state = record (v.state) { shown = g; other = h }; failed = failed }) d
 settled_tries scrolls rows cols v c d g h answer (Ok u) failed live done same err memory marked is_shown is_other hears
     told =
@@ -68,7 +68,7 @@ settled_tries scrolls rows cols v c d g h answer (Ok u) failed live done same er
     }
 settled_tries scrolls rows cols v c d g h answer (Err Memory) failed live done same err memory marked is_shown is_other
     hears told =
-    tries_front scrolls (resized_to rows cols) v c
+    tries_front scrolls (sheets_resized rows cols) v c
     (record { state = record (v.state) { shown = g; other = h }; failed = failed }) d live marked
     (at-err answer err told)
 settled_tries scrolls rows cols v c d g h answer (Err Failed) failed live done same err memory marked is_shown is_other

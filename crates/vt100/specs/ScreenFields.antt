@@ -22,6 +22,7 @@ screen_of s = record {
       mouse = s.mouse_protocol_mode;
       encoding = s.mouse_protocol_encoding;
     };
+    updating = s.synchronized_update;
     style = s.cursor_style;
     last = s.last_char;
   };

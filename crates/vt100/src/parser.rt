@@ -151,8 +151,8 @@ impl<CB: Callbacks> Parser<CB> {
         Ok(())
     }
 
-    /// Gives the screen another size, and tells the callbacks of the rows that leave it. The same size changes nothing,
-    /// and isn't refused.
+    /// Gives the screen another size, and tells the callbacks of the rows that leave it. A synchronized update of the
+    /// program's ends. The same size changes nothing else, and isn't refused.
     ///
     /// A screen that becomes lower first loses the rows under the cursor, and then lets its top rows scroll off. One
     /// that becomes higher gets as many rows back at its top as have scrolled off, blank where they weren't kept. Where

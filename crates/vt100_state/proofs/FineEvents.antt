@@ -20,7 +20,7 @@ use Rattle.vt100_state.specs.Call.{Call}
 use Rattle.vt100_state.specs.Sgr.{sgr_read}
 use Rattle.vt100_state.specs.PrivateModes.{is_mouse, is_encoding, mouse_set, encoding_set, mouse_reset, encoding_reset}
 use Rattle.vt100_state.specs.PrivateModes.{set_rows, reset_rows, row_of, row_state, partly_on, modes_from}
-use Rattle.vt100_state.specs.Step.{Stepped, Partly, quietly, with_style, with_modes, typed}
+use Rattle.vt100_state.specs.Step.{Stepped, Partly, quietly, with_style, with_modes, with_updating, typed}
 use Rattle.vt100_state.specs.Effect.{Effect, effect_or, is_unhandled, control_rows, escape_rows, count, later}
 use Rattle.vt100_state.specs.Effect.{number_or}
 use Rattle.vt100_state.specs.Effect.{display_rows, line_rows, style_rows, row_partly, display_erased, line_erased}
@@ -88,6 +88,17 @@ hidden-well x b s w = record {
   last = w.last;
 }
 
+updating-well : (x : Bool) → Keeps (with_updating x)
+updating-well x b s w = record {
+  bounds = w.bounds;
+  shown = w.shown;
+  other = w.other;
+  main = w.main;
+  attrs = w.attrs;
+  saved_attrs = w.saved_attrs;
+  last = w.last;
+}
+
 style-well : (x : CursorStyle) → Keeps (with_style x)
 style-well x b s w = record {
   bounds = w.bounds;
@@ -140,7 +151,10 @@ sets-keep = (
             modes-well _,
             (
               modes-well _,
-              (modes-well _, (modes-well _, (modes-well _, (well-alternate_entered, (modes-well _, tt))))),
+              (
+                modes-well _,
+                (modes-well _, (modes-well _, (well-alternate_entered, (modes-well _, (updating-well true, tt))))),
+              ),
             ),
           ),
         ),
@@ -164,7 +178,13 @@ resets-keep = (
             mouse-reset _,
             (
               mouse-reset _,
-              (mouse-reset _, (encoding-reset _, (encoding-reset _, (well-alternate_left, (modes-well _, tt))))),
+              (
+                mouse-reset _,
+                (
+                  encoding-reset _,
+                  (encoding-reset _, (well-alternate_left, (modes-well _, (updating-well false, tt)))),
+                ),
+              ),
             ),
           ),
         ),

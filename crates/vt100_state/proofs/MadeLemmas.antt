@@ -150,6 +150,6 @@ keeps-at_same_size s i =
     (sunk-if s.alternate s.other g g.height g.width other_sunk shown_sunk)
     (sunk-if s.alternate g s.other g.height g.width shown_sunk other_sunk) in
     λ j. record {
-      state = record s { shown = (shown j).grid; other = (other j).grid };
+      state = record s { shown = (shown j).grid; other = (other j).grid; updating = false };
       reports = reports j;
     }

@@ -121,6 +121,15 @@ impl Screen {
         self.bracketed_paste
     }
 
+    /// Whether the program is in a synchronized update: it is drawing, and asks that nothing be shown until it has
+    /// ended (mode 2026). A full reset ends it too, and so does another size, or the same one set again; no text of the
+    /// screen tells of it.
+    pub fn synchronized_update(&self) -> bool
+        ensures { result ≡ self.now.state.updating }
+    {
+        self.synchronized_update
+    }
+
     /// Which events of the mouse the program is told of.
     pub fn mouse_protocol_mode(&self) -> MouseProtocolMode
         ensures { result ≡ self.now.state.modes.mouse }

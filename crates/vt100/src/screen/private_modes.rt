@@ -14,8 +14,8 @@ use vt100_core::{MouseProtocolEncoding, MouseProtocolMode};
 use vte_core::Params;
 
 impl<CB: Callbacks> WrappedScreen<CB> {
-    /// Sets private modes (DECSET): 1, 6, 9, 25, 47, 1000, 1002, 1003, 1005, 1006, 1049, 2004, each in a group of its
-    /// own. Answers how many groups were unhandled: those of other numbers, and of more numbers than one.
+    /// Sets private modes (DECSET): 1, 6, 9, 25, 47, 1000, 1002, 1003, 1005, 1006, 1049, 2004, 2026, each in a group of
+    /// its own. Answers how many groups were unhandled: those of other numbers, and of more numbers than one.
     ///
     /// Refused for memory is only the alternate sheet's showing for the first time (clause `takes`).
     pub fn decset(&mut self, params: &Params) -> Result<usize, ScreenError>
@@ -84,6 +84,7 @@ impl Screen {
                 self.enter_alternate_grid()?;
             }
             [2004] => self.bracketed_paste = true,
+            [2026] => self.synchronized_update = true,
             _ => return Ok(false),
         }
         Ok(true)
@@ -111,6 +112,7 @@ impl Screen {
                 self.restore_cursor();
             }
             [2004] => self.bracketed_paste = false,
+            [2026] => self.synchronized_update = false,
             _ => return false,
         }
         true

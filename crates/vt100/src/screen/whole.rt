@@ -2,7 +2,7 @@
 ghost use Rattle.std.specs.Prelude.{◌≡◌, min, length, OnErr, IfOk, IsOk, Err, true, false};
 ghost use Rattle.vt100_state.specs.State.{main_sheet};
 ghost use Rattle.vt100_core.specs.Grid.{IsShownWide};
-ghost use Rattle.vt100_state.specs.Step.{kept_shown, kept_dropped, resized_to, made_anew, quietly};
+ghost use Rattle.vt100_state.specs.Step.{kept_shown, kept_dropped, resized_to, sheets_resized, made_anew, quietly};
 ghost use Rattle.vt100.specs.Tries.{Tries, TriesAlone, SameBounds, Stops, alive, unless_failed};
 ghost use Rattle.vt100.specs.declared.error.ScreenError.TheVariants.{Memory};
 
@@ -14,8 +14,8 @@ use std::num::NonZeroU16;
 use vt100_core::{Grid, Size};
 
 impl Screen {
-    /// Gives the screen another size, and tells no callbacks of the rows that leave it. The same size changes nothing,
-    /// and isn't refused.
+    /// Gives the screen another size, and tells no callbacks of the rows that leave it. A synchronized update of the
+    /// program's ends. The same size changes nothing else, and isn't refused.
     ///
     /// Where memory is refused the answer is [`ScreenError::Memory`], the screen has failed, and the call has stopped at
     /// the sheet that found no memory, whose size is open; the main sheet comes first. On a failed screen nothing is
@@ -29,9 +29,26 @@ impl Screen {
         self.resize(&mut (), Size { rows, cols })
     }
 
-    /// Gives both sheets another size, the main one first, and tells callbacks of the rows that leave them.
+    /// Gives both sheets another size, tells callbacks of the rows that leave them, and ends the program's update.
     fn resize<CB: Callbacks>(&mut self, callbacks: &mut CB, size: Size) -> Result<(), ScreenError>
         ensures tries { Tries CB.scrolls (resized_to size.rows.value size.cols.value) self.old callbacks.old result
+            self.new callbacks.new }
+        ensures stops { result ≡ Err Memory → Stops size.rows.value size.cols.value self.old.state self.new.state }
+        ensures same { self.old.failed ≡ false → size.rows.value ≡ self.old.state.shown.height
+            → size.cols.value ≡ self.old.state.shown.width → IsOk result }
+    {
+        self.resize_sheets(callbacks, size)?;
+        self.synchronized_update = false;
+        Ok(())
+    }
+
+    /// Gives both sheets another size, the main one first, and tells callbacks of the rows that leave them.
+    fn resize_sheets<CB: Callbacks>(
+        &mut self,
+        callbacks: &mut CB,
+        size: Size,
+    ) -> Result<(), ScreenError>
+        ensures tries { Tries CB.scrolls (sheets_resized size.rows.value size.cols.value) self.old callbacks.old result
             self.new callbacks.new }
         ensures stops { result ≡ Err Memory → Stops size.rows.value size.cols.value self.old.state self.new.state }
         ensures same { self.old.failed ≡ false → size.rows.value ≡ self.old.state.shown.height
@@ -118,6 +135,7 @@ impl Screen {
             application_cursor: self.application_cursor,
             hide_cursor: self.hide_cursor,
             bracketed_paste: self.bracketed_paste,
+            synchronized_update: self.synchronized_update,
             mouse_protocol_mode: self.mouse_protocol_mode,
             mouse_protocol_encoding: self.mouse_protocol_encoding,
             cursor_style: self.cursor_style,
@@ -144,7 +162,7 @@ impl<CB: Callbacks> WrappedScreen<CB> {
     }
 
     /// Gives the screen another size, and tells the callbacks of the rows that leave it: those of the main sheet first.
-    /// The same size changes nothing, and isn't refused.
+    /// A synchronized update of the program's ends. The same size changes nothing else, and isn't refused.
     ///
     /// Where memory is refused the call has stopped at the sheet that found none, whose size is open.
     pub fn set_size_with_cb(

@@ -1,6 +1,6 @@
--- Answers for screen::Screen::resize.
+-- Answers for screen::Screen::resize_sheets.
 use Rattle.vt100.proofs.SettledLemmas.{settled_screen}
-use Rattle.vt100.proofs.screen.Screen.resize.Goals as goal
+use Rattle.vt100.proofs.screen.Screen.resize_sheets.Goals as goal
 
 pub invariant_of-self : goal.invariant_of-self
 invariant_of-self g c =
