@@ -15,3 +15,5 @@ mod report;
 mod start;
 #[cfg(test)]
 mod told;
+#[cfg(test)]
+mod updates;

@@ -43,6 +43,11 @@ const TOLD: &[(Start, &[u8], &str)] = &[
     ),
     (
         (2, 8, 0),
+        b"\x1b[?2026h\x1b[?25;2026l\x1b[?2026:1h",
+        "csi Some(63) None [[2026, 1]] h at 0 0; ",
+    ),
+    (
+        (2, 8, 0),
         b"\x1b[8;30;90t\x1b[8;;4t\x1b[8t\x1b[9t",
         "resize 30 90 at 0 0; resize 0 4 at 0 0; resize 1 4 at 0 0; csi None None [[9]] t at 0 0; ",
     ),

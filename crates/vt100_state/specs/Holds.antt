@@ -1,5 +1,5 @@
 -- What is true of every terminal that bytes and resizes have made.
-use Rattle.std.specs.Prelude.{ℕ, ◌^◌, ◌<◌, ◌≡◌, List, [], ◌∷◌, All, Contains}
+use Rattle.std.specs.Prelude.{ℕ, ◌^◌, ◌<◌, ◌≡◌, List, [], ◌∷◌, All, Contains, false}
 use Rattle.vt100_forms.specs.Attrs.{IsProper, HasByteColors}
 use Rattle.vt100_cells.specs.Cell.{IsCell}
 use Rattle.vt100_cells.specs.Cells.{cell_at}

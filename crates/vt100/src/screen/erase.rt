@@ -98,7 +98,8 @@ impl<CB: Callbacks> WrappedScreen<CB> {
         0
     }
 
-    /// The same (DECSED): no cell is protected from being erased.
+    /// Empties what [`ed`](Self::ed) empties (DECSED), since no cell is protected from being erased. Answers how many
+    /// sequences were unhandled, as it does.
     pub fn decsed(&mut self, mode: u16) -> usize
         ensures { Counts CB.scrolls (display_erased mode) self.old.screen self.old.callbacks result self.new.screen
             self.new.callbacks }
@@ -125,7 +126,8 @@ impl<CB: Callbacks> WrappedScreen<CB> {
         0
     }
 
-    /// The same (DECSEL): no cell is protected from being erased.
+    /// Empties what [`el`](Self::el) empties (DECSEL), since no cell is protected from being erased. Answers how many
+    /// sequences were unhandled, as it does.
     pub fn decsel(&mut self, mode: u16) -> usize
         ensures { Counts CB.scrolls (line_erased mode) self.old.screen self.old.callbacks result self.new.screen
             self.new.callbacks }

@@ -81,7 +81,7 @@ impl<CB: Callbacks> WrappedScreen<CB> {
         }
     }
 
-    /// The same as [`cha`](Self::cha) (HPA).
+    /// Moves the cursor to a column, or to the last one, as [`cha`](Self::cha) does (HPA).
     pub(crate) fn hpa(&mut self, col: u16)
         ensures screen { self.new.screen ≡ unless_failed (at_column (col - 1)) self.old.screen }
         ensures callbacks { self.new.callbacks ≡ self.old.callbacks }

@@ -14,8 +14,9 @@ use std::marker::Model;
 use vt100_core::attrs::Attrs;
 use vt100_core::{Pos, Row, VisibleRows};
 
-/// An iterator over the rows that are shown, from the top, as forms that draw each over the one that an earlier screen
-/// shows. Where there was no memory for a row's text, the item is that error, and the next item is the next row's.
+/// An iterator over the rows that are shown, from the top, as escape sequences that draw each over the one that an
+/// earlier screen shows. Where there was no memory for a row's text, the item is that error, and the next item is the
+/// next row's.
 #[derive(Debug, Drop)]
 pub struct RowsDiff<'a> {
     rows: VisibleRows<'a>,

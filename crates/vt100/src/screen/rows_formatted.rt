@@ -13,8 +13,8 @@ use std::alloc::Global;
 use std::marker::Model;
 use vt100_core::{Row, VisibleRows};
 
-/// An iterator over the rows that are shown, from the top, as forms that draw each on a row of default cells. Where
-/// there was no memory for a row's text, the item is that error, and the next item is the next row's.
+/// An iterator over the rows that are shown, from the top, as escape sequences that draw each on a row of default
+/// cells. Where there was no memory for a row's text, the item is that error, and the next item is the next row's.
 #[derive(Debug, Drop)]
 pub struct RowsFormatted<'a> {
     rows: VisibleRows<'a>,

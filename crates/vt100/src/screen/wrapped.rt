@@ -92,7 +92,7 @@ impl<CB: Callbacks> WrappedScreen<CB> {
         Ok(())
     }
 
-    /// The same (VT).
+    /// Moves the cursor down one row, as [`lf`](Self::lf) does (VT).
     pub fn vt(&mut self) -> Result<(), ScreenError>
         ensures tries { Tries CB.scrolls line_fed self.old.screen self.old.callbacks result self.new.screen
             self.new.callbacks }
@@ -103,7 +103,7 @@ impl<CB: Callbacks> WrappedScreen<CB> {
         self.lf()
     }
 
-    /// The same (FF).
+    /// Moves the cursor down one row, as [`lf`](Self::lf) does (FF).
     pub fn ff(&mut self) -> Result<(), ScreenError>
         ensures tries { Tries CB.scrolls line_fed self.old.screen self.old.callbacks result self.new.screen
             self.new.callbacks }

@@ -23,10 +23,10 @@ use vt100_core::term::{
 use vt100_core::{CursorStyle, GridError, MouseProtocolEncoding, MouseProtocolMode, term};
 
 impl Screen {
-    /// The forms that take a terminal to all that the screen shows, whatever it showed before, if its mouse mode and
-    /// encoding and its cursor's style are as they are at first: [`contents_formatted`](Self::contents_formatted), and
-    /// [`input_mode_formatted`](Self::input_mode_formatted) after it. Where no kept row is shown they are at most 1,024
-    /// bytes for each cell, and 1,008 more (`short`).
+    /// The escape sequences that take a terminal to all that the screen shows, whatever it showed before, if its
+    /// mouse mode and encoding and its cursor's style are as they are at first:
+    /// [`contents_formatted`](Self::contents_formatted), and [`input_mode_formatted`](Self::input_mode_formatted)
+    /// after it. Where no kept row is shown they are at most 1,024 bytes for each cell, and 1,008 more (`short`).
     pub fn state_formatted(&self) -> Result<String, ScreenError>
         ensures text { IfOk result (λ contents. string_bytes contents ≡ spell (state_formatted self.now.state)) }
         ensures shown { IsUnscrolled self.now.state → IfOk result (λ contents. string_bytes contents
@@ -41,7 +41,7 @@ impl Screen {
         Ok(contents)
     }
 
-    /// The forms that take a terminal from all that `prev` shows to all that the screen shows:
+    /// The escape sequences that take a terminal from all that `prev` shows to all that the screen shows:
     /// [`contents_diff`](Self::contents_diff), and [`input_mode_diff`](Self::input_mode_diff) after it. Both screens
     /// have one size.
     ///
@@ -72,10 +72,10 @@ impl Screen {
         Ok(contents)
     }
 
-    /// The forms that take a terminal to the picture that the screen shows, whatever it showed before: whether the
-    /// cursor is hidden, the rows, the cursor, and the attributes that are drawn with. Rows are drawn as they are
-    /// shown; the cursor is that of the rows that are drawn on. Where no kept row is shown they are at most 1,024 bytes
-    /// for each cell, and 512 more (`short`).
+    /// The escape sequences that take a terminal to the picture that the screen shows, whatever it showed before:
+    /// whether the cursor is hidden, the rows, the cursor, and the attributes that are drawn with. Rows are drawn as
+    /// they are shown; the cursor is that of the rows that are drawn on. Where no kept row is shown they are at most
+    /// 1,024 bytes for each cell, and 512 more (`short`).
     pub fn contents_formatted(&self) -> Result<String, ScreenError>
         ensures text { IfOk result (λ contents. string_bytes contents ≡ spell (contents_formatted self.now.state)) }
         ensures shown { IsUnscrolled self.now.state → IfOk result (λ contents. string_bytes contents
@@ -98,8 +98,8 @@ impl Screen {
         self.attrs.write_escape_code_diff(contents, &prev_attrs)
     }
 
-    /// The forms that draw each row that is shown, from the top, on a row of default cells: `width` columns from column
-    /// `start` on, or as many as the row has. A row that ends before `start` has none.
+    /// The escape sequences that draw each row that is shown, from the top, on a row of default cells: `width`
+    /// columns from column `start` on, or as many as the row has. A row that ends before `start` has none.
     ///
     /// Before each row the cursor is brought to the row's column `start`, and the attributes are the default ones.
     /// Where whole rows are asked for, a row that goes on from the one above is drawn with the cursor at the end of
@@ -112,9 +112,9 @@ impl Screen {
         RowsFormatted::new(self.alloc, self.grid.visible_rows(), start, width, whole)
     }
 
-    /// The forms that take a terminal from the picture that `prev` shows to the one that the screen shows. What is
-    /// alike isn't drawn again. Both screens have one size: of others, the rows and columns that both have are
-    /// compared.
+    /// The escape sequences that take a terminal from the picture that `prev` shows to the one that the screen shows.
+    /// What is alike isn't drawn again. Both screens have one size: of others, the rows and columns that both have
+    /// are compared.
     ///
     /// Where neither shows a kept row they are at most 1,024 bytes for each cell, and 512 more (`short`), and touch the
     /// cells that [`state_diff`](Self::state_diff) says (`local`).
@@ -152,9 +152,9 @@ impl Screen {
         self.attrs.write_escape_code_diff(contents, &prev_attrs)
     }
 
-    /// The forms that draw each row that is shown over the one that `prev` shows there, from the top, where they
-    /// differ: `width` columns from column `start` on, or as many as both rows have. Rows that one of the screens alone
-    /// has have no item.
+    /// The escape sequences that draw each row that is shown over the one that `prev` shows there, from the top,
+    /// where they differ: `width` columns from column `start` on, or as many as both rows have. Rows that one of the
+    /// screens alone has have no item.
     ///
     /// Before each row the cursor is brought to the row's column `start`, and the attributes are the default ones.
     pub fn rows_diff<'a>(&'a self, prev: &'a Self, start: u16, width: u16) -> RowsDiff<'a>
@@ -165,9 +165,9 @@ impl Screen {
         RowsDiff::new(self.alloc, rows, prev.grid.visible_rows(), start, width)
     }
 
-    /// The forms that set a terminal's modes: the keypad's and the cursor keys' application mode and bracketed paste;
-    /// and where they aren't as at first, the mouse's mode and encoding and the cursor's style. They are at most 128 bytes
-    /// (`short`).
+    /// The escape sequences that set a terminal's modes: the keypad's and the cursor keys' application mode and
+    /// bracketed paste; and where they aren't as at first, the mouse's mode and encoding and the cursor's style. They
+    /// are at most 128 bytes (`short`).
     pub fn input_mode_formatted(&self) -> Result<String, ScreenError>
         ensures text { IfOk result (λ contents. string_bytes contents
             ≡ spell (input_mode_formatted (shown_state self.now.state))) }
@@ -196,8 +196,8 @@ impl Screen {
         term::CursorStyle::new(self.cursor_style, CursorStyle::Default).write_buf(contents)
     }
 
-    /// The forms that change the modes of a terminal from those of `prev` to those of the screen: at most 128 bytes
-    /// (`short`).
+    /// The escape sequences that change the modes of a terminal from those of `prev` to those of the screen: at most
+    /// 128 bytes (`short`).
     pub fn input_mode_diff(&self, prev: &Self) -> Result<String, ScreenError>
         ensures text { IfOk result (λ contents. string_bytes contents
             ≡ spell (input_mode_diff (shown_state prev.now.state) (shown_state self.now.state))) }
@@ -239,7 +239,7 @@ impl Screen {
         term::CursorStyle::new(self.cursor_style, prev.cursor_style).write_buf(contents)
     }
 
-    /// The forms that set the attributes with which a terminal draws, whatever they were before.
+    /// The escape sequences that set the attributes with which a terminal draws, whatever they were before.
     pub fn attributes_formatted(&self) -> Result<String, ScreenError>
         ensures text { IfOk result (λ contents. string_bytes contents
             ≡ spell (attributes_formatted (shown_state self.now.state))) }
@@ -258,8 +258,9 @@ impl Screen {
         self.attrs.write_escape_code_diff(contents, &Attrs::new())
     }
 
-    /// The forms that bring a terminal's cursor, which may stand anywhere, to the screen's, and hide or show it. The
-    /// terminal shows the rows that are drawn on, and draws with the default attributes, before and afterwards.
+    /// The escape sequences that bring a terminal's cursor, which may stand anywhere, to the screen's, and hide or
+    /// show it. The terminal shows the rows that are drawn on, and draws with the default attributes, before and
+    /// afterwards.
     pub fn cursor_state_formatted(&self) -> Result<String, ScreenError>
         ensures text { IfOk result (λ contents. string_bytes contents
             ≡ spell (cursor_state_formatted self.now.state)) }

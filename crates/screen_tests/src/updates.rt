@@ -1,0 +1,58 @@
+//! The program's own synchronized updates (private mode 2026).
+
+use crate::start::count;
+use std::test::Fail;
+use vt100::Parser;
+
+/// A stream, and whether the program is in an update after it.
+const STREAMS: &[(&[u8], bool)] = &[
+    (b"a", false),
+    (b"\x1b[?2026h", true),
+    (b"\x1b[?2026hab\x1b[?2026h", true),
+    (b"\x1b[?2026hab\x1b[?2026l", false),
+    (b"\x1b[?2026l", false),
+    (b"\x1b[?25;2026;7l\x1b[?7;2026;25h", true),
+    (b"\x1b[?2026;2004h\x1b[?2004;2026l", false),
+    (b"\x1b[2026h\x1b[?2026:1h", false),
+    (b"\x1b[?2026h\x1b[?47h\x1b[?47l\x1b[?1049h", true),
+    (b"\x1b[?1049h\x1b[?2026h\x1b[?1049l", true),
+    (b"\x1b[?2026h\x1b7\x1b[?2026l\x1b8", false),
+    (b"\x1b[?2026h\x1b[!p\x1b[2J\x1b[r", true),
+    (b"\x1b[?2026h\x1bc", false),
+];
+
+#[test]
+fn updates(rt: HostRuntime) -> Result<(), Fail> {
+    for (stream, is_updating) in STREAMS {
+        let mut parser = Parser::new(rt.alloc(), count(2), count(3), 1)?;
+        parser.process(stream)?;
+        let copy = parser.screen().clone()?;
+        assert_eq!(rt;
+            (
+                parser.screen().synchronized_update(),
+                copy.synchronized_update()
+            ),
+            (*is_updating, *is_updating),
+            "{stream:?}"
+        );
+    }
+    Ok(())
+}
+
+/// Another size ends an update, and so does the same size. No text of the screen tells of one.
+#[test]
+fn sizes_end_updates(rt: HostRuntime) -> Result<(), Fail> {
+    let mut parser = Parser::new(rt.alloc(), count(2), count(3), 1)?;
+    for rows in [2, 1] {
+        parser.process(b"\x1b[?2026ha")?;
+        let held = parser.screen().state_formatted()?;
+        let was = parser.screen().synchronized_update();
+        parser.set_size(count(rows), count(3))?;
+        let is = parser.screen().synchronized_update();
+        assert_eq!(rt;
+            (was, is, held.as_str().contains("2026")),
+            (true, false, false)
+        );
+    }
+    Ok(())
+}
