@@ -70,7 +70,7 @@ overlong-is Behind h = absurd (let no : false ≡ true = h in cc)
 overlong-is Held h = absurd (let no : false ≡ true = h in cc)
 overlong-is TooLong h = refl
 
-pub none-more : (xs : List Answer) (a : Answer) → list_any is_overlong xs ≡ false → is_overlong a ≡ false
+none-more : (xs : List Answer) (a : Answer) → list_any is_overlong xs ≡ false → is_overlong a ≡ false
     → list_any is_overlong (xs ++ a ∷ []) ≡ false
 none-more [] a h k = or-none (is_overlong a) false k refl
 none-more (x ∷ xs) a h k =
@@ -154,6 +154,15 @@ module _ (rows cols : ℕ) where
   answers-push pieces piece bytes is =
       answers-more pieces (piece ∷ [])
       ∙ ap (λ xs. answers_of rows cols pieces ++ answered rows cols xs (base_of rows cols pieces) ∷ []) (sym is)
+
+  -- where no frame is too long, and neither is that of one piece more
+  pub fits-push : (pieces : List (List ℕ)) (piece : List ℕ) (bytes : List ℕ) → bytes ≡ concat pieces ++ piece
+      → list_any is_overlong (answers_of rows cols pieces) ≡ false
+      → is_overlong (answered rows cols bytes (base_of rows cols pieces)) ≡ false
+      → list_any is_overlong (answers_of rows cols (pieces ++ piece ∷ [])) ≡ false
+  fits-push pieces piece bytes is fits last =
+      ap (λ (xs : List Answer). list_any is_overlong xs) (answers-push pieces piece bytes is)
+      ∙ none-more (answers_of rows cols pieces) (answered rows cols bytes (base_of rows cols pieces)) fits last
 
   pub base-push : (pieces : List (List ℕ)) (piece : List ℕ) (bytes : List ℕ)
       → bytes ≡ concat pieces ++ piece → base_of rows cols (pieces ++ piece ∷ [])

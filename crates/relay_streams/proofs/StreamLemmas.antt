@@ -1,5 +1,5 @@
 -- Turns after turns.
-use Rattle.std.proofs.Common.{◌≡◌, ◌∙◌, ℕ, false, List, [], ◌∷◌, ◌++◌, Option, Ok, Err, Result, refl, sym, ap, subst}
+use Rattle.std.proofs.Common.{◌≡◌, ℕ, false, List, [], ◌∷◌, ◌++◌, Option, Ok, Err, Result, refl, sym, subst}
 use Rattle.std.specs.List.{concat, list_any}
 use Rattle.std.specs.declared.io.Error.{Error}
 use Rattle.vt100_picture.specs.Term.{Shown}
@@ -7,7 +7,6 @@ use Rattle.termrelay.specs.Hub.{HubState, as_kept, Attaches}
 use Rattle.termrelay.specs.declared.error.HubError.{HubError}
 use Rattle.termrelay.specs.declared.error.HubError.TheVariants as hub
 use Rattle.relay_streams.specs.declared.error.RelayError.{RelayError}
-use Rattle.termrelay.specs.declared.answer.Answer.{Answer}
 use Rattle.relay_streams.specs.declared.error.RelayError.TheVariants.{Read, Write, Memory, TooManyReads, FrameTooLong}
 use Rattle.vt100_state.specs.Holds.{IsSide}
 use Rattle.relay_streams.specs.Frames.{asked, answered, is_overlong}
@@ -16,8 +15,7 @@ use Rattle.relay_streams.specs.Relayed.{Streams, unmade, overlong, stopped}
 use Rattle.takers.specs.Sent as sent
 use Rattle.takers.specs.Sent.{Sends}
 use Rattle.relay_streams.specs.Turns.{Relaying, Turned, fault_of}
-use Rattle.relay_streams.proofs.FrameLists.{frames_of, answers_of, base_of, frames-push, answers-push, base-push}
-use Rattle.relay_streams.proofs.FrameLists.{none-more}
+use Rattle.relay_streams.proofs.FrameLists.{frames_of, answers_of, base_of, frames-push, fits-push, base-push}
 use Rattle.relay_streams.proofs.PieceLemmas.{concat-push}
 use Rattle.relay_streams.proofs.SessionLemmas.{frames-are-relayed, ends-overlong}
 use Rattle.takers.proofs.SendLemmas.{sends-more}
@@ -47,9 +45,7 @@ module _ (S W : Type 0) (gives : S → ℕ → Result (List ℕ) Error → S →
 
   fits-on : is_overlong (answered rows cols (concat pieces) base) ≡ false → Fit past → Fit pieces
   fits-on last fit =
-      ap (λ (xs : List Answer). list_any is_overlong xs)
-      (answers-push rows cols past piece (concat pieces) (concat-push past piece))
-      ∙ none-more (answers_of rows cols past) (answered rows cols (concat pieces) base) fit last
+      fits-push rows cols past piece (concat pieces) (concat-push past piece) fit last
 
   -- a turn at which a fault came
   pub turn-faults : (s t : S) (w m v : W) (e : RelayError) → IsSide rows → IsSide cols → Begun gives piece_len s pieces t
