@@ -86,6 +86,14 @@ unframed h key r answer found live is none =
           (put-same h key (Some (client_of r)) (ap (option_map client_of) found)),
     )
 
+unmade : (h : HubState as_kept) (key : ℕ) (r : RecordView) (result : Result Answer HubError)
+    → slice_index_or h.clients key None ≡ Some r → h.parser.screen.failed ≡ false
+    → may_take_memory (answer_of h.parser.screen.state (client_of r)) ≡ true → result ≡ Err Memory → Frames h key result h
+unmade h key r result found live takes is =
+    subst (λ (a : Result Answer HubError). Frames h key a h) (sym is)
+    (subst (λ (o : Option RecordView). CanFrame h.parser.screen (option_map client_of o) (Err Memory)
+    × Framed h key (option_map client_of o) (Err Memory) h) (sym found) ((live, takes), refl))
+
 -- ---- where a frame is owed
 
 abbrev owing : List ℕ → Shown → ClientState
