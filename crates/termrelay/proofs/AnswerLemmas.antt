@@ -190,15 +190,19 @@ never-wanted now base [] e =
     never-held now.updating (due z s base) (never-due z s base) e
 never-wanted now base (b ∷ bs) e = cc
 
-pub never-long : (z : Size) (text : List ℕ) → IsShortFrame z text → z.rows * z.cols ≤ 2000
+never-long : (z : Size) (text : List ℕ) → IsShortFrame z text → z.rows * z.cols ≤ 2000
     → nat_lt longest_frame (length text) ≡ false
 never-long z text short few = le-ltb longest_frame (length text) (omega (arith, short, few))
+
+pub text-fits : (z : Size) (base : Option Shown) (now : Shown) (text : List ℕ) → text ≡ frame_text z base now
+    → IsShortFrame z text → z.rows * z.cols ≤ 2000 → is_too_long z now base ≡ false
+text-fits z base now text is short few =
+    ap (λ (xs : List ℕ). nat_lt longest_frame (length xs)) (sym is) ∙ never-long z text short few
 
 pub small-fits : EachSmallScreenFits
 small-fits now c bytes small few e =
     let z = size_of now.shown in
     let s = shown_state now in
-    let short : is_too_long z s c.base ≡ false =
-    never-long z (frame_text z c.base s) (frame-short z c.base s bytes small) few in
+    let short = text-fits z c.base s (frame_text z c.base s) refl (frame-short z c.base s bytes small) few in
     never-wanted now c.base c.owed
     (sym (answer-capped now c.base c.owed ∙ short-capped (is_too_long z s c.base) (wanted_of now c) short) ∙ e)
