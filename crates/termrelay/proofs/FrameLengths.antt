@@ -1,8 +1,8 @@
 -- How long a frame can be.
-use Rattle.std.proofs.Common.{◌≡◌, ℕ, ◌+◌, ◌*◌, ◌≤◌, ◌||◌, List, ◌++◌, length, Option, Some, None, refl, arith}
+use Rattle.std.proofs.Common.{◌≡◌, ◌||◌, ◌++◌, length, Option, Some, None, refl, arith}
 use Rattle.std.proofs.Common.{length-append}
 use Rattle.std.proofs.lemmas.Bool.{cond_both}
-use Rattle.vt100_forms.specs.Form.{Form, spell}
+use Rattle.vt100_forms.specs.Form.{spell}
 use Rattle.vt100_picture.specs.Term.{Size, Shown}
 use Rattle.vt100_writers.specs.Length.{IsSmallScreen, IsWithin}
 use Rattle.vt100_writers.specs.Modes.{input_mode_diff}

@@ -1,5 +1,5 @@
 -- Which cells the forms of a difference touch, and how long a frame is that a hub makes.
-use Rattle.std.proofs.Common.{◌≡◌, ℕ, Bool, true, false, List, [], ◌++◌, Option, Some, None, refl, ap, sym, ◌∙◌, subst}
+use Rattle.std.proofs.Common.{◌≡◌, ℕ, Bool, true, false, List, ◌++◌, Option, Some, None, refl, ap, sym, ◌∙◌, subst}
 use Rattle.std.proofs.Common.{if◌then◌else◌}
 use Rattle.std.specs.Option.{option_map, IfSome}
 use Rattle.vt100_forms.specs.Form.{Form, spell}
@@ -16,7 +16,6 @@ use Rattle.vt100.proofs.FormLists.{small-screen}
 use Rattle.termrelay.specs.Frame.{start_mark, end_mark, is_unsure, frame_text, HasByteBase, IsShortFrame, IsLocalFrame}
 use Rattle.termrelay.specs.Answers.{due, same_shown}
 use Rattle.termrelay.specs.Record.{RecordView, client_of, IsBaseOf, IsServed}
-use Rattle.termrelay.specs.declared.answer.Answer.{Answer}
 use Rattle.termrelay.specs.declared.answer.Answer.TheVariants.{Full, Difference, Unsure, Unchanged}
 use Rattle.termrelay.proofs.DueLemmas.{difference-body}
 use Rattle.termrelay.proofs.SureLemmas.{sure-plain}

@@ -1,4 +1,4 @@
-use Rattle.std.proofs.Common.{◌≡◌, ℕ, List, ap, sym, ◌∙◌, subst, false, Some}
+use Rattle.std.proofs.Common.{◌≡◌, ap, sym, ◌∙◌, subst, false}
 use Rattle.std.specs.Option.{option_copied}
 use Rattle.vt100_core.specs.Picture.{size_of}
 use Rattle.termrelay.specs.Frame.{IsShortFrame}
