@@ -1,14 +1,13 @@
 -- What commands leave, where the source and the writer tell their bytes.
 use Rattle.std.proofs.Common.{◌≡◌, ℕ, true, List, [], ◌∷◌, ◌++◌, append_assoc, append-nil, Option, None, Some, Ok, Err}
-use Rattle.std.proofs.Common.{Result, OnOk, IfSome, length, take, refl, sym}
-use Rattle.std.proofs.Common.{ap, ◌∙◌, subst, arith, IfErr}
-use Rattle.std.proofs.lemmas.List.{take_all}
+use Rattle.std.proofs.Common.{Result, OnOk, IfSome, take, refl, sym}
+use Rattle.std.proofs.Common.{ap, ◌∙◌, subst}
 use Rattle.std.specs.List.{concat, list_any}
 use Rattle.std.specs.Io.KnownBytes.{Appends, Keeps}
 use Rattle.std.specs.declared.io.Error.{Error}
 use Rattle.vt100_picture.specs.Term.{Size}
 use Rattle.relay_streams.specs.declared.error.RelayError.{RelayError}
-use Rattle.relay_streams.specs.declared.error.RelayError.TheVariants.{Read, Write, TooManyReads, FrameTooLong}
+use Rattle.relay_streams.specs.declared.error.RelayError.TheVariants.{Read, TooManyReads, FrameTooLong}
 use Rattle.relay_streams.specs.Fill.{Reads, FillEnd, Full, Ended, Failed, TooMany}
 use Rattle.relay_streams.specs.Frames.{is_overlong}
 use Rattle.termrelay.specs.declared.answer.Answer.{Answer}

@@ -1,5 +1,5 @@
 -- What is relayed is a session of a history.
-use Rattle.std.proofs.Common.{◌≡◌, ◌∙◌, ℕ, zero, suc, ◌+◌, ◌<◌, Bool, true, false, List, [], ◌∷◌, ◌++◌, map, take, drop}
+use Rattle.std.proofs.Common.{◌≡◌, ◌∙◌, ℕ, zero, suc, ◌+◌, Bool, true, false, List, [], ◌∷◌, ◌++◌, map, take, drop}
 use Rattle.std.proofs.Common.{length, min, Option, Some, None, Result, Ok, Err, refl, sym, ap, subst, arith}
 use Rattle.std.proofs.Common.{if◌then◌else◌, append_assoc, append-nil}
 use Rattle.std.proofs.lemmas.List.{drop_all, take_all, map-append, length-map}
@@ -8,31 +8,27 @@ use Rattle.std.proofs.lemmas.List.Elements.{All-nil}
 use Rattle.std.specs.List.{concat, list_any}
 use Rattle.std.specs.Option.{option_map}
 use Rattle.std.specs.Prelude.{slice_get}
-use Rattle.std.specs.declared.io.Error.{Error}
 use Rattle.vt100_picture.specs.Term.{Size, Shown, shown_of}
-use Rattle.vt100_core.specs.Picture.{size_of}
 use Rattle.vt100_state.specs.State.{State}
-use Rattle.vt100_state.specs.Shown.{shown_state}
 use Rattle.vt100_state.specs.Made.{Act, Fed, made}
-use Rattle.vt100_state.specs.Holds.{IsSide, IsAct, AreActs}
+use Rattle.vt100_state.specs.Holds.{IsSide, IsAct}
 use Rattle.vt100_state.proofs.MadeLemmas.{makes-last_size}
 use Rattle.takers.specs.Pump.{Pumps, all, some}
 use Rattle.takers.proofs.PumpLaws.{takes-all}
 use Rattle.termrelay.specs.Frame.{frame_text}
 use Rattle.termrelay.specs.Answers.{ClientState, answer_of, after_answer, is_frame}
-use Rattle.termrelay.specs.Hub.{HubState, screen_in, size_in, shown_in, is_failed, clients_in, with_client, new_client}
-use Rattle.termrelay.specs.Hub.{Feeds, Attaches, CanFrame, Framed, Frames, PumpsFrom, PumpsClient, Puts}
+use Rattle.termrelay.specs.Hub.{HubState, screen_in, size_in, shown_in, is_failed, with_client, new_client}
+use Rattle.termrelay.specs.Hub.{Feeds, Attaches, CanFrame, Framed, PumpsFrom, Puts}
 use Rattle.termrelay.specs.declared.answer.Answer.{Answer}
 use Rattle.termrelay.specs.declared.call.Take.{Take}
 use Rattle.termrelay.specs.declared.call.Reply.{Reply}
 use Rattle.termrelay.specs.declared.call.Reply.TheVariants.{Done, Attached, Answered, Refused}
 use Rattle.termrelay.specs.declared.error.HubError.{HubError}
-use Rattle.termrelay.specs.Calls.{Call, Feed, Attach, Frame, Pump, WritesAsTold, taken_by, done, replied, Serves}
+use Rattle.termrelay.specs.Calls.{Feed, Attach, Frame, Pump, WritesAsTold, taken_by, done, replied, Serves}
 use Rattle.termrelay.specs.Log.{change_last, begun, grown, bytes_taken}
 use Rattle.termrelay.proofs.ScriptLemmas.{pumped-left}
 use Rattle.faithful.specs.History.{Past, as_told, fresh, Entry, Story, size_of_story, is_on, with_session, with_entries}
 use Rattle.faithful.specs.History.{entries_of, stories_after, RunsTold}
-use Rattle.faithful.specs.Laws.{IsSession}
 use Rattle.faithful.specs.Judge.{texts}
 use Rattle.faithful.proofs.HeadlineLemmas.{last-shown}
 use Rattle.termview.specs.Seen.{seen}

@@ -1,4 +1,4 @@
-use Rattle.std.proofs.Common.{◌≡◌, ℕ, Bool, true, false, List, [], ◌∷◌, ◌++◌, Err, sym, ◌∙◌, refl, rules}
+use Rattle.std.proofs.Common.{◌≡◌, ℕ, true, false, List, [], ◌∷◌, ◌++◌, Err, sym, ◌∙◌, refl, rules}
 use Rattle.relay_streams.specs.Turns.{fault_of}
 use Rattle.relay_streams.proofs.TurnLemmas.{piece-fed, frame-asked, frame-answered, turn-ends, turn-breaks}
 use Rattle.relay_streams.proofs.relaying.turn.Goals as goal
