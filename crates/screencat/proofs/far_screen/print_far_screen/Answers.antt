@@ -1,4 +1,4 @@
-use Rattle.std.proofs.Common.{◌∙◌, ℕ, List, arith}
+use Rattle.std.proofs.Common.{◌∙◌, arith}
 use Rattle.std.specs.List.{concat}
 use Rattle.termview.specs.Standing.{shown_by, size_of}
 use Rattle.relay_streams.specs.Shown.{screen_text}
