@@ -1,6 +1,7 @@
 //! Calls that may be refused, where there is memory: on odd screens and large ones each of them succeeds.
 
 use crate::report::{Text, places, report, text_of};
+use crate::same::{same, same_for};
 use crate::start::{Start, count};
 use std::alloc::Global;
 use std::process::Abort;
@@ -24,7 +25,7 @@ fn check_texts(
 ) -> Result<(), Fail> {
     for (text, want) in texts {
         let told = text_of(screen, prev, rt.alloc(), *text)?;
-        assert_eq!(rt; told.as_str(), *want, "{text:?}");
+        same_for(rt, text, &told.as_str(), want);
     }
     Ok(())
 }
@@ -94,7 +95,7 @@ fn check_copy(rt: &(impl Abort + AllocGlobal), screen: &Screen) -> Result<(), Fa
     let copy = screen.clone()?;
     let told = report(screen, &copy, rt.alloc())?;
     let told_by_copy = report(&copy, screen, rt.alloc())?;
-    assert_eq!(rt; told.as_str(), told_by_copy.as_str());
+    same(rt, &told.as_str(), &told_by_copy.as_str());
     Ok(())
 }
 
@@ -124,12 +125,13 @@ const CAPACITIES: &[(usize, usize)] = &[
 fn large_capacities(rt: HostRuntime) -> Result<(), Fail> {
     for (capacity, len) in CAPACITIES {
         let mut parser = fed(rt.alloc(), (1, 2, *capacity), b"a\r\nb\r\nc\r\nd\r\ne")?;
-        assert_eq!(rt;
-            places(parser.screen()),
-            ((1, 2), (0, 1), [*len, *capacity, 0])
+        same(
+            &rt,
+            &places(parser.screen()),
+            &((1, 2), (0, 1), [*len, *capacity, 0]),
         );
         parser.screen_mut().set_scrollback(usize::MAX)?;
-        assert_eq!(rt; parser.screen().scrollback(), *len);
+        same(&rt, &parser.screen().scrollback(), len);
     }
     Ok(())
 }
@@ -156,7 +158,7 @@ fn one_row_of_65535_columns(rt: HostRuntime) -> Result<(), Fail> {
     check_texts(&rt, &copy, parser.screen(), WIDE)?;
     let contents = copy.contents()?;
     let is_whole = contents.as_str().starts_with("a ") && contents.as_str().ends_with(" b");
-    assert_eq!(rt; (contents.len(), is_whole), (65_535, true));
+    same(&rt, &(contents.len(), is_whole), &(65_535, true));
     Ok(())
 }
 
@@ -181,7 +183,7 @@ fn rows_of_one_column(rt: HostRuntime) -> Result<(), Fail> {
     check_texts(&rt, &copy, parser.screen(), HIGH)?;
     let contents = copy.contents()?;
     let is_whole = contents.as_str().starts_with("\n") && contents.as_str().ends_with("\na");
-    assert_eq!(rt; (contents.len(), is_whole), (65_535, true));
+    same(&rt, &(contents.len(), is_whole), &(65_535, true));
     Ok(())
 }
 
@@ -194,7 +196,7 @@ fn sizes(rt: HostRuntime) -> Result<(), Fail> {
     for (rows, cols) in SIZES {
         parser.set_size(count(*rows), count(*cols))?;
         let (size, _, _) = places(parser.screen());
-        assert_eq!(rt; size, (*rows, *cols));
+        same(&rt, &size, &(*rows, *cols));
     }
     Ok(())
 }
@@ -234,7 +236,7 @@ fn the_largest_texts(rt: HostRuntime) -> Result<(), Fail> {
     let copy = parser.screen().clone()?;
     for (text, len) in FULL {
         let told = text_of(&copy, parser.screen(), rt.alloc(), *text)?;
-        assert_eq!(rt; told.len(), *len, "{text:?}");
+        same_for(&rt, text, &told.len(), len);
     }
     Ok(())
 }
@@ -245,6 +247,6 @@ fn the_largest_redraw_is_drawn_again(rt: HostRuntime) -> Result<(), Fail> {
     let mut again = Parser::new_default(rt.alloc())?;
     again.process(parser.screen().state_formatted()?.as_bytes())?;
     let difference = again.screen().state_diff(parser.screen())?;
-    assert_eq!(rt; difference.as_str(), "");
+    same(&rt, &difference.as_str(), &"");
     Ok(())
 }

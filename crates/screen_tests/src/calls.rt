@@ -1,5 +1,6 @@
 //! Direct calls that may be refused, and writing to a parser. Memory is found here.
 
+use crate::same::same;
 use crate::start::count;
 use std::io::Write;
 use std::test::Fail;
@@ -23,9 +24,10 @@ fn calls_on_a_screen(rt: HostRuntime) -> Result<(), Fail> {
         wrapped.set_size_with_cb(count(1), count(2)),
         wrapped.text('b'),
     ];
-    assert_eq!(rt;
-        (answers, wrapped.screen.contents()?.as_str()),
-        ([Ok(()); 8], "b")
+    same(
+        &rt,
+        &(answers, wrapped.screen.contents()?.as_str()),
+        &([Ok(()); 8], "b"),
     );
     Ok(())
 }
@@ -35,7 +37,11 @@ fn writing_feeds(rt: HostRuntime) -> Result<(), Fail> {
     let mut parser = Parser::new_default(rt.alloc())?;
     let written = parser.write(b"hi")?;
     parser.flush()?;
-    assert_eq!(rt; (written, parser.screen().contents()?.as_str()), (2, "hi"));
+    same(
+        &rt,
+        &(written, parser.screen().contents()?.as_str()),
+        &(2, "hi"),
+    );
     Ok(())
 }
 
@@ -47,9 +53,10 @@ fn errors_have_texts(rt: HostRuntime) -> Result<(), Fail> {
         ScreenError::Failed,
         GridError::Memory
     )?;
-    assert_eq!(rt;
-        text.as_str(),
-        "out of memory; the screen has failed; out of memory"
+    same(
+        &rt,
+        &text.as_str(),
+        &"out of memory; the screen has failed; out of memory",
     );
     Ok(())
 }
@@ -58,7 +65,7 @@ fn errors_have_texts(rt: HostRuntime) -> Result<(), Fail> {
 fn a_default_parser_has_the_default_size(rt: HostRuntime) -> Result<(), Fail> {
     let parser = Parser::new_default(rt.alloc())?;
     let size = (Parser::<()>::DEFAULT_ROWS, Parser::<()>::DEFAULT_COLS);
-    assert_eq!(rt; (size.0.get(), size.1.get()), (24, 80));
-    assert_eq!(rt; parser.screen().size(), size);
+    same(&rt, &(size.0.get(), size.1.get()), &(24, 80));
+    same(&rt, &parser.screen().size(), &size);
     Ok(())
 }

@@ -3,6 +3,7 @@
 ghost use Rattle.std.specs.Iterator.{IsFinite};
 
 use crate::report::{Text, places, report, text_of};
+use crate::same::{same, same_for};
 use crate::start::{Start, count};
 use std::alloc::Global;
 use std::io::{ErrorKind, Write};
@@ -66,7 +67,7 @@ fn read_all(rt: &(impl Abort + AllocGlobal), screen: &Screen) -> Result<(), Fail
     let copy = retried_clone(screen)?;
     let told = retried_report(screen, &copy, rt.alloc())?;
     let told_by_copy = retried_report(&copy, screen, rt.alloc())?;
-    assert_eq!(rt; told.as_str(), told_by_copy.as_str());
+    same(rt, &told.as_str(), &told_by_copy.as_str());
     Ok(())
 }
 
@@ -80,10 +81,11 @@ fn check_dead(rt: &impl Abort, parser: &mut Parser<()>) -> Result<(), Fail> {
         parser.screen_mut().set_size(count(9), count(9)),
         parser.screen_mut().set_scrollback(1),
     ];
-    assert_eq!(rt; answers, [Err(ScreenError::Failed); 5]);
-    assert_eq!(rt;
-        (parser.screen().failed(), places(parser.screen())),
-        (true, before)
+    same(rt, &answers, &[Err(ScreenError::Failed); 5]);
+    same(
+        rt,
+        &(parser.screen().failed(), places(parser.screen())),
+        &(true, before),
     );
     Ok(())
 }
@@ -92,16 +94,17 @@ fn check_dead(rt: &impl Abort, parser: &mut Parser<()>) -> Result<(), Fail> {
 fn check_readable(rt: &(impl Abort + AllocGlobal), screen: &Screen) -> Result<(), Fail> {
     let ((rows, cols), (row, col), kept) = places(screen);
     let [len, capacity, offset] = kept;
-    assert_eq!(rt;
-        [
+    same(
+        rt,
+        &[
             row < rows,
             col <= cols,
             len <= capacity,
             offset <= len,
             screen.cell(row, 0).is_some(),
-            screen.is_live()
+            screen.is_live(),
         ],
-        [true, true, true, true, true, false]
+        &[true, true, true, true, true, false],
     );
     read_all(rt, screen)
 }
@@ -113,15 +116,27 @@ fn check_answer(
     answer: Result<(), ScreenError>,
 ) -> Result<(), Fail> {
     let has_failed = parser.screen().failed();
-    assert_eq!(rt;
-        (answer.is_err(), answer == Err(ScreenError::Failed)),
-        (has_failed, false)
+    same(
+        rt,
+        &(answer.is_err(), answer == Err(ScreenError::Failed)),
+        &(has_failed, false),
     );
     if has_failed {
         check_dead(rt, parser)?;
         check_readable(rt, parser.screen())?;
     }
     Ok(())
+}
+
+/// A screen has this size, and its main sheet this capacity.
+fn check_places(rt: &impl Abort, screen: &Screen, size: (u16, u16), capacity: usize) {
+    let (size_then, _, [_, capacity_then, _]) = places(screen);
+    let capacity = if screen.alternate_screen() {
+        0
+    } else {
+        capacity
+    };
+    same(rt, &(size_then, capacity_then), &(size, capacity));
 }
 
 /// Feeds a parser, of which the main sheet is shown, and answers whether memory was found. Else the screen has failed,
@@ -135,13 +150,7 @@ fn check_process(
     let answer = parser.process(stream);
     check_answer(rt, parser, answer)?;
     if answer.is_err() {
-        let (size_then, _, [_, capacity_then, _]) = places(parser.screen());
-        let capacity = if parser.screen().alternate_screen() {
-            0
-        } else {
-            capacity
-        };
-        assert_eq!(rt; (size_then, capacity_then), (size, capacity));
+        check_places(rt, parser.screen(), size, capacity);
     }
     Ok(answer.is_ok())
 }
@@ -165,17 +174,19 @@ const STREAMS: &[(Start, &[u8], &str, usize)] = &[
     ),
 ];
 
+/// A screen shows this text, and keeps so many rows.
+fn check_shown(rt: &impl Abort, screen: &Screen, want: (&str, usize)) -> Result<(), Fail> {
+    let contents = retried_contents(screen)?;
+    same(rt, &(contents.as_str(), screen.scrollback_len()), &want);
+    Ok(())
+}
+
 #[test]
 fn streams(rt: HostRuntime) -> Result<(), Fail> {
     for (start, stream, want, kept) in STREAMS {
         let mut parser = retried_parser(rt.alloc(), *start)?;
         if check_process(&rt, &mut parser, stream)? {
-            let screen = parser.screen();
-            let contents = retried_contents(screen)?;
-            assert_eq!(rt;
-                (contents.as_str(), screen.scrollback_len()),
-                (*want, *kept)
-            );
+            check_shown(&rt, parser.screen(), (want, *kept))?;
         }
     }
     Ok(())
@@ -196,9 +207,10 @@ fn parsers_of_any_capacity(rt: HostRuntime) -> Result<(), Fail> {
     for start in STARTS {
         let parser = retried_parser(rt.alloc(), *start)?;
         let (rows, cols, capacity) = *start;
-        assert_eq!(rt;
-            places(parser.screen()),
-            ((rows, cols), (0, 0), [0, capacity, 0])
+        same(
+            &rt,
+            &places(parser.screen()),
+            &((rows, cols), (0, 0), [0, capacity, 0]),
         );
     }
     Ok(())
@@ -210,7 +222,11 @@ fn default_parsers(rt: HostRuntime) -> Result<(), Fail> {
         Ok(parser) => parser,
         Err(_) => Parser::new_default(rt.alloc())?,
     };
-    assert_eq!(rt; places(parser.screen()), ((24, 80), (0, 0), [0, 0, 0]));
+    same(
+        &rt,
+        &places(parser.screen()),
+        &((24, 80), (0, 0), [0, 0, 0]),
+    );
     Ok(())
 }
 
@@ -225,7 +241,7 @@ fn everything_is_read(rt: HostRuntime) -> Result<(), Fail> {
     for (start, stream) in READ {
         let mut parser = retried_parser(rt.alloc(), *start)?;
         let answer = parser.process(stream);
-        assert_eq!(rt; answer.is_err(), parser.screen().failed());
+        same(&rt, &answer.is_err(), &parser.screen().failed());
         read_all(&rt, parser.screen())?;
     }
     Ok(())
@@ -247,6 +263,10 @@ const TWO_ROWS: &[(Text, &str)] = &[
         "\x1b[?25h\x1b[m\x1b[H\x1b[Jab\r\n\x1b[1mc\x1b>\x1b[?1l\x1b[?2004l",
     ),
     (Text::StateDiff, "\r\n\x1b[1mc"),
+];
+
+/// Texts of its modes, and of each row.
+const MODES_AND_ROWS: &[(Text, &str)] = &[
     (Text::InputModeFormatted, "\x1b>\x1b[?1l\x1b[?2004l"),
     (Text::InputModeDiff, ""),
     (Text::AttributesFormatted, "\x1b[m\x1b[1m"),
@@ -266,7 +286,7 @@ fn check_texts(
 ) -> Result<(), Fail> {
     for (text, want) in texts {
         let told = retried_text(screen, prev, rt.alloc(), *text)?;
-        assert_eq!(rt; told.as_str(), *want, "{text:?}");
+        same_for(rt, text, &told.as_str(), want);
     }
     Ok(())
 }
@@ -277,7 +297,8 @@ fn texts(rt: HostRuntime) -> Result<(), Fail> {
     parser.process(b"ab")?;
     let prev = retried_clone(parser.screen())?;
     parser.process(b"\r\n\x1b[1mc")?;
-    check_texts(&rt, parser.screen(), &prev, TWO_ROWS)
+    check_texts(&rt, parser.screen(), &prev, TWO_ROWS)?;
+    check_texts(&rt, parser.screen(), &prev, MODES_AND_ROWS)
 }
 
 /// The texts of a kept row that is shown, and what differs from the row that is drawn on.
@@ -316,9 +337,9 @@ fn check_items<I: Iterator<Item = Result<String, ScreenError>> + Drop>(
     let mut refused = 0_u32;
     for want in wants {
         match texts.next() {
-            Some(Ok(text)) => assert_eq!(rt; text.as_str(), want),
+            Some(Ok(text)) => same(rt, &text.as_str(), &want),
             Some(Err(error)) => {
-                assert_eq!(rt; error, ScreenError::Memory);
+                same(rt, &error, &ScreenError::Memory);
                 refused = refused.saturating_add(1);
             }
             None => assert!(rt; false),
@@ -334,10 +355,14 @@ fn items_of_rows(rt: HostRuntime) -> Result<(), Fail> {
     let screen = parser.screen();
     let wants = ["one", "two", "three"];
     if check_items(&rt, screen.rows(0, 8), wants)? != 0 {
-        assert_eq!(rt; check_items(&rt, screen.rows(0, 8), wants)?, 0);
+        same(&rt, &check_items(&rt, screen.rows(0, 8), wants)?, &0);
     }
     if check_items(&rt, screen.rows_formatted(0, 8), wants)? != 0 {
-        assert_eq!(rt; check_items(&rt, screen.rows_formatted(0, 8), wants)?, 0);
+        same(
+            &rt,
+            &check_items(&rt, screen.rows_formatted(0, 8), wants)?,
+            &0,
+        );
     }
     Ok(())
 }
@@ -350,7 +375,11 @@ fn items_of_differences(rt: HostRuntime) -> Result<(), Fail> {
     let screen = parser.screen();
     let wants = ["one", "two", "three"];
     if check_items(&rt, screen.rows_diff(&prev, 0, 8), wants)? != 0 {
-        assert_eq!(rt; check_items(&rt, screen.rows_diff(&prev, 0, 8), wants)?, 0);
+        same(
+            &rt,
+            &check_items(&rt, screen.rows_diff(&prev, 0, 8), wants)?,
+            &0,
+        );
     }
     Ok(())
 }
@@ -361,14 +390,15 @@ fn copies(rt: HostRuntime) -> Result<(), Fail> {
     if check_process(&rt, &mut parser, b"a\r\nb\r\nc\x1b[?47hx")? {
         let copy = retried_clone(parser.screen())?;
         let contents = retried_contents(&copy)?;
-        assert_eq!(rt;
-            (
+        same(
+            &rt,
+            &(
                 contents.as_str(),
                 copy.alternate_screen(),
                 copy.failed(),
-                places(&copy)
+                places(&copy),
             ),
-            ("x", true, false, places(parser.screen()))
+            &("x", true, false, places(parser.screen())),
         );
     }
     Ok(())
@@ -391,7 +421,11 @@ fn sizes(rt: HostRuntime) -> Result<(), Fail> {
         parser.process(b"\x1b[?47l")?;
         let contents = retried_contents(parser.screen())?;
         let (size, _, kept) = places(parser.screen());
-        assert_eq!(rt; (contents.as_str(), size, kept), ("c", (1, 5), [2, 3, 0]));
+        same(
+            &rt,
+            &(contents.as_str(), size, kept),
+            &("c", (1, 5), [2, 3, 0]),
+        );
     }
     Ok(())
 }
@@ -406,7 +440,11 @@ fn kept_rows(rt: HostRuntime) -> Result<(), Fail> {
     check_answer(&rt, &mut parser, answer)?;
     if answer.is_ok() {
         let contents = retried_contents(parser.screen())?;
-        assert_eq!(rt; (contents.as_str(), parser.screen().scrollback()), ("b", 2));
+        same(
+            &rt,
+            &(contents.as_str(), parser.screen().scrollback()),
+            &("b", 2),
+        );
     }
     Ok(())
 }
@@ -466,15 +504,14 @@ fn check_direct(
 ) -> Result<(), Fail> {
     if let Err(error) = call(wrapped, direct) {
         let again = call(wrapped, direct);
-        assert_eq!(rt;
-            (error, wrapped.screen.failed(), again),
-            (ScreenError::Memory, true, Err(ScreenError::Failed))
+        same(
+            rt,
+            &(error, wrapped.screen.failed(), again),
+            &(ScreenError::Memory, true, Err(ScreenError::Failed)),
         );
         return read_all(rt, &wrapped.screen);
     }
-    let contents = retried_contents(&wrapped.screen)?;
-    assert_eq!(rt; (contents.as_str(), wrapped.screen.scrollback_len()), want);
-    Ok(())
+    check_shown(rt, &wrapped.screen, want)
 }
 
 #[test]
@@ -490,11 +527,12 @@ fn direct_calls(rt: HostRuntime) -> Result<(), Fail> {
 fn writing(rt: HostRuntime) -> Result<(), Fail> {
     let mut parser = retried_parser(rt.alloc(), (2, 2, 3))?;
     match parser.write(b"a\r\nb\r\nc") {
-        Ok(len) => assert_eq!(rt; (len, parser.screen().failed()), (7, false)),
+        Ok(len) => same(&rt, &(len, parser.screen().failed()), &(7, false)),
         Err(error) => {
-            assert_eq!(rt;
-                (error.kind(), parser.screen().failed()),
-                (ErrorKind::OutOfMemory, true)
+            same(
+                &rt,
+                &(error.kind(), parser.screen().failed()),
+                &(ErrorKind::OutOfMemory, true),
             );
             check_write_refused(&rt, &mut parser);
         }
@@ -508,5 +546,5 @@ fn check_write_refused(rt: &impl Abort, parser: &mut Parser<()>) {
         Ok(_) => None,
         Err(error) => Some(error.kind()),
     };
-    assert_eq!(rt; kind, Some(ErrorKind::Other));
+    same(rt, &kind, &Some(ErrorKind::Other));
 }

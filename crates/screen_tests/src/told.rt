@@ -1,12 +1,31 @@
 //! What callbacks are told, in order, each call after its event's change, and captures of what they keep.
 
 use crate::log::logging_parser;
+use crate::same::{same, same_for};
 use crate::start::{Start, count};
+use std::process::Abort;
 use std::test::Fail;
 use vt100::capture::BasicFormattedCaptureRange;
 
 /// A size, a stream, and what it tells.
-const TOLD: &[(Start, &[u8], &str)] = &[
+type Told = (Start, &'static [u8], &'static str);
+
+fn check_told(rt: &(impl Abort + AllocGlobal), cases: &[Told]) -> Result<(), Fail> {
+    for (start, stream, told) in cases {
+        let mut parser = logging_parser(rt.alloc(), *start)?;
+        parser.process(stream)?;
+        let log = parser.callbacks();
+        same_for(
+            rt,
+            stream,
+            &(log.failed, log.text.as_str()),
+            &(false, *told),
+        );
+    }
+    Ok(())
+}
+
+const STRINGS_AND_CONTROLS: &[Told] = &[
     ((2, 8, 0), b"a\x07b\x1bg", "bell at 0 1; flash at 0 2; "),
     ((2, 8, 0), b"\x1b]2;a;b\x07", "osc 2 a b at 0 0; "),
     (
@@ -35,6 +54,14 @@ const TOLD: &[(Start, &[u8], &str)] = &[
         "escape Some(40) None 66 at 0 0; escape Some(35) Some(33) 56 at 0 0; escape Some(40) Some(32) 48 at 0 0; \
          escape None None 90 at 0 0; ",
     ),
+];
+
+#[test]
+fn strings_and_controls_are_told(rt: HostRuntime) -> Result<(), Fail> {
+    check_told(&rt, STRINGS_AND_CONTROLS)
+}
+
+const SEQUENCES: &[Told] = &[
     (
         (2, 8, 0),
         b"\x1b[?7h\x1b[?25;7;1:2;8l",
@@ -79,6 +106,14 @@ const TOLD: &[(Start, &[u8], &str)] = &[
         b"\n\x1b[2;2r\x1b[2;3H\x1b[?6;7h",
         "csi Some(63) None [[6], [7]] h at 0 0; ",
     ),
+];
+
+#[test]
+fn sequences_are_told(rt: HostRuntime) -> Result<(), Fail> {
+    check_told(&rt, SEQUENCES)
+}
+
+const ROWS: &[Told] = &[
     ((1, 2, 0), b"abcd", "row ab; "),
     (
         (2, 2, 1),
@@ -98,18 +133,8 @@ const TOLD: &[(Start, &[u8], &str)] = &[
 ];
 
 #[test]
-fn calls_are_told(rt: HostRuntime) -> Result<(), Fail> {
-    for (start, stream, told) in TOLD {
-        let mut parser = logging_parser(rt.alloc(), *start)?;
-        parser.process(stream)?;
-        let log = parser.callbacks();
-        assert_eq!(rt;
-            (log.failed, log.text.as_str()),
-            (false, *told),
-            "{stream:?}"
-        );
-    }
-    Ok(())
+fn rows_are_told(rt: HostRuntime) -> Result<(), Fail> {
+    check_told(&rt, ROWS)
 }
 
 /// A request for a size comes to callbacks that grant it, and a lower screen tells of the rows that leave.
@@ -121,7 +146,11 @@ fn sizes_are_told(rt: HostRuntime) -> Result<(), Fail> {
     parser.set_size(count(1), count(3))?;
     let (rows, cols) = parser.screen().size();
     let told = parser.callbacks().text.as_str();
-    assert_eq!(rt; (rows.get(), cols.get(), told), (1, 3, "row abcd; row e; "));
+    same(
+        &rt,
+        &(rows.get(), cols.get(), told),
+        &(1, 3, "row abcd; row e; "),
+    );
     Ok(())
 }
 
@@ -136,12 +165,13 @@ fn captures_go_on(rt: HostRuntime) -> Result<(), Fail> {
     screen.write_contents_formatted_basic(&mut log.capture, range)?;
     log.word("then");
     screen.write_contents_formatted_basic(&mut log.text, BasicFormattedCaptureRange::Visible)?;
-    assert_eq!(rt;
-        (log.capture.as_str(), log.text.as_str()),
-        (
+    same(
+        &rt,
+        &(log.capture.as_str(), log.text.as_str()),
+        &(
             "ab\x1b[31mcdef\n\x1b[m中\n\x1b[1;4mg",
-            "row ab; row \x1b[31mcd; then \x1b[31mef\n\x1b[m中"
-        )
+            "row ab; row \x1b[31mcd; then \x1b[31mef\n\x1b[m中",
+        ),
     );
     Ok(())
 }

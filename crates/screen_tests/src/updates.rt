@@ -1,5 +1,6 @@
 //! The program's own synchronized updates (private mode 2026).
 
+use crate::same::{same, same_for};
 use crate::start::count;
 use std::test::Fail;
 use vt100::Parser;
@@ -27,14 +28,11 @@ fn updates(rt: HostRuntime) -> Result<(), Fail> {
         let mut parser = Parser::new(rt.alloc(), count(2), count(3), 1)?;
         parser.process(stream)?;
         let copy = parser.screen().clone()?;
-        assert_eq!(rt;
-            (
-                parser.screen().synchronized_update(),
-                copy.synchronized_update()
-            ),
-            (*is_updating, *is_updating),
-            "{stream:?}"
+        let told = (
+            parser.screen().synchronized_update(),
+            copy.synchronized_update(),
         );
+        same_for(&rt, stream, &told, &(*is_updating, *is_updating));
     }
     Ok(())
 }
@@ -49,9 +47,10 @@ fn sizes_end_updates(rt: HostRuntime) -> Result<(), Fail> {
         let was = parser.screen().synchronized_update();
         parser.set_size(count(rows), count(3))?;
         let is = parser.screen().synchronized_update();
-        assert_eq!(rt;
-            (was, is, held.as_str().contains("2026")),
-            (true, false, false)
+        same(
+            &rt,
+            &(was, is, held.as_str().contains("2026")),
+            &(true, false, false),
         );
     }
     Ok(())

@@ -1,4 +1,5 @@
 //! Each form byte for byte, and the forms that lead from attributes to others.
+use crate::same::same;
 use std::alloc::Global;
 use std::fmt;
 use std::process::Abort;
@@ -58,12 +59,16 @@ fn told<'a>(want: &'a str) -> (fmt::Result, usize, fmt::Result, &'a str) {
 
 fn check<R: Abort, B: BufWrite>(rt: &R, alloc: Global, form: &B, want: &str) -> Result<(), Fail> {
     let text = appended(alloc, form)?;
-    assert_eq!(rt; text.as_str().strip_prefix("x"), Some(want));
+    same(rt, &text.as_str().strip_prefix("x"), &Some(want));
     let mut limited = writer_with_room(alloc, want.len())?;
     let first = form.write_fmt(&mut limited);
     let calls = limited.calls;
     let second = form.write_fmt(&mut limited);
-    assert_eq!(rt; (first, calls, second, limited.taken.as_str()), told(want));
+    same(
+        rt,
+        &(first, calls, second, limited.taken.as_str()),
+        &told(want),
+    );
     Ok(())
 }
 
@@ -388,12 +393,16 @@ fn check_change<R: Abort>(
     want: &str,
 ) -> Result<(), Fail> {
     let text = appended_change(alloc, &old, &new)?;
-    assert_eq!(rt; text.as_str().strip_prefix("x"), Some(want));
+    same(rt, &text.as_str().strip_prefix("x"), &Some(want));
     let mut limited = writer_with_room(alloc, want.len())?;
     let first = new.write_escape_code_diff_fmt(&mut limited, &old);
     let calls = limited.calls;
     let second = new.write_escape_code_diff_fmt(&mut limited, &old);
-    assert_eq!(rt; (first, calls, second, limited.taken.as_str()), told(want));
+    same(
+        rt,
+        &(first, calls, second, limited.taken.as_str()),
+        &told(want),
+    );
     Ok(())
 }
 
@@ -552,35 +561,51 @@ fn flags(attrs: &Attrs) -> (u8, [bool; 5]) {
 fn sets_and_gets(rt: HostRuntime) {
     let mut attrs = Attrs::new();
     attrs.set_bold();
-    assert_eq!(rt; flags(&attrs), (1, [true, false, false, false, false]));
+    same(
+        &rt,
+        &flags(&attrs),
+        &(1, [true, false, false, false, false]),
+    );
     attrs.set_dim();
     attrs.set_italic(true);
     attrs.set_underline(true);
     attrs.set_inverse(true);
-    assert_eq!(rt; flags(&attrs), (30, [false, true, true, true, true]));
+    same(&rt, &flags(&attrs), &(30, [false, true, true, true, true]));
     attrs.set_normal_intensity();
     attrs.set_italic(false);
-    assert_eq!(rt; flags(&attrs), (24, [false, false, false, true, true]));
+    same(
+        &rt,
+        &flags(&attrs),
+        &(24, [false, false, false, true, true]),
+    );
     attrs.set_underline(false);
     attrs.set_inverse(false);
-    assert_eq!(rt; attrs, Attrs::default());
+    same(&rt, &attrs, &Attrs::default());
 }
 
 #[test]
 fn prints_debug_texts(rt: HostRuntime) -> Result<(), Fail> {
     let moved = term::MoveTo::new(Pos { row: 1, col: 2 });
     let mode = term::MouseProtocolMode::default();
+    let text = format!(in rt.alloc(); "{moved:?} {mode:?} {:?}", term::ClearScreen)?;
+    same(
+        &rt,
+        &text.as_str(),
+        &"MoveTo { row: 1, col: 2 } MouseProtocolMode { mode: None, prev: None } ClearScreen",
+    );
+    Ok(())
+}
+
+#[test]
+fn prints_texts_of_attributes_and_errors(rt: HostRuntime) -> Result<(), Fail> {
     let italic = term::Attrs::default().italic(true);
     let error = GridError::Memory;
-    let text = format!(in rt.alloc();
-        "{moved:?} {mode:?} {:?} {italic:?} {error} {error:?}",
-        term::ClearScreen
-    )?;
-    assert_eq!(rt;
-        text.as_str(),
-        "MoveTo { row: 1, col: 2 } MouseProtocolMode { mode: None, prev: None } ClearScreen Attrs \
-         { fgcolor: None, bgcolor: None, intensity: None, italic: Some(true), underline: None, inverse: None } out \
-         of memory Memory"
+    let text = format!(in rt.alloc(); "{italic:?} {error} {error:?}")?;
+    same(
+        &rt,
+        &text.as_str(),
+        &"Attrs { fgcolor: None, bgcolor: None, intensity: None, italic: Some(true), underline: None, inverse: None } \
+          out of memory Memory",
     );
     Ok(())
 }

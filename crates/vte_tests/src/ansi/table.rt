@@ -3,6 +3,7 @@
 ghost use Rattle.std.specs.Prelude.{◌<◌};
 
 use super::log::{Log, UntilCleared};
+use crate::same::same;
 use std::process::Abort;
 use std::test::Fail;
 use vte::ansi::{Processor, Timeout};
@@ -27,10 +28,10 @@ fn gives(
         processor.advance(&mut log, piece);
     }
     let held = processor.sync_bytes_count();
-    assert_eq!(rt;
-        (log.failed, held, log.text.as_str()),
-        (false, 0, wanted),
-        "{front:?} {rest:?}"
+    same(
+        rt,
+        &(front, rest, log.failed, held, log.text.as_str()),
+        &(front, rest, false, 0, wanted),
     );
     Ok(())
 }
@@ -51,13 +52,22 @@ fn all(rt: &(impl Abort + AllocGlobal), rows: &[Row]) -> Result<(), Fail> {
     Ok(())
 }
 
-const CONTROLS_AND_ESCAPES: &[Row] = &[
+const CONTROLS: &[Row] = &[
     (b"\t\x08\r", "PutTab(1) Backspace CarriageReturn "),
     (b"\n\x0b\x0c", "Linefeed Linefeed Linefeed "),
     (b"\x07\x1a", "Bell Substitute "),
     (b"\x0f\x0e", "SetActiveCharset(G0) SetActiveCharset(G1) "),
     (b"\x00\x18\x7f", "Input('\\u{7f}') "),
     (b"\x01\x05\x10\x1f\xc2\x85\x9b", ""),
+    (b"\xe4\xb8\xad\xff", "Input('中') Input('\u{fffd}') "),
+];
+
+#[test]
+fn controls(rt: HostRuntime) -> Result<(), Fail> {
+    all(&rt, CONTROLS)
+}
+
+const ESCAPES: &[Row] = &[
     (b"\x1bD\x1bE", "Linefeed Linefeed CarriageReturn "),
     (b"\x1bH\x1bM", "SetHorizontalTabstop ReverseIndex "),
     (b"\x1bZ", "IdentifyTerminal(None) "),
@@ -88,15 +98,14 @@ const CONTROLS_AND_ESCAPES: &[Row] = &[
     (b"\x1bP1q12\x1b\\", ""),
     (b"\x1b_ab\x1b\\\x1b^ab\x1b\\", ""),
     (b"\x1bXab\x1b\\", ""),
-    (b"\xe4\xb8\xad\xff", "Input('中') Input('\u{fffd}') "),
 ];
 
 #[test]
-fn controls_and_escapes(rt: HostRuntime) -> Result<(), Fail> {
-    all(&rt, CONTROLS_AND_ESCAPES)
+fn escapes(rt: HostRuntime) -> Result<(), Fail> {
+    all(&rt, ESCAPES)
 }
 
-const CONTROL_SEQUENCES: &[Row] = &[
+const OF_THE_CURSOR: &[Row] = &[
     (
         b"\x1b[@\x1b[2P\x1b[0X",
         "InsertBlank(1) DeleteChars(2) EraseChars(1) ",
@@ -131,6 +140,14 @@ const CONTROL_SEQUENCES: &[Row] = &[
         b"\x1b[g\x1b[3g\x1b[1g",
         "ClearTabs(Current) ClearTabs(All) ",
     ),
+];
+
+#[test]
+fn sequences_of_the_cursor(rt: HostRuntime) -> Result<(), Fail> {
+    all(&rt, OF_THE_CURSOR)
+}
+
+const OF_THE_SCREEN: &[Row] = &[
     (
         b"\x1b[4;20:1h",
         "SetMode(Named(Insert)) SetMode(Named(LineFeedNewLine)) ",
@@ -161,6 +178,14 @@ const CONTROL_SEQUENCES: &[Row] = &[
         b"\x1b[14t\x1b[18t\x1b[22t\x1b[23t\x1b[t",
         "TextAreaSizePixels TextAreaSizeChars PushTitle PopTitle ",
     ),
+];
+
+#[test]
+fn sequences_of_the_screen(rt: HostRuntime) -> Result<(), Fail> {
+    all(&rt, OF_THE_SCREEN)
+}
+
+const PRIVATE_MODES_AND_STYLES: &[Row] = &[
     (
         b"\x1b[?1;3;6;7;12;25h",
         "SetPrivateMode(Named(CursorKeys)) SetPrivateMode(Named(ColumnMode)) SetPrivateMode(Named(Origin)) \
@@ -207,6 +232,14 @@ const CONTROL_SEQUENCES: &[Row] = &[
         "SetModifyOtherKeys(Reset) SetModifyOtherKeys(EnableExceptWellDefined) SetModifyOtherKeys(EnableAll) ",
     ),
     (b"\x1b[?4m\x1b[?4:1m\x1b[?5m", "ReportModifyOtherKeys "),
+];
+
+#[test]
+fn private_modes_and_styles(rt: HostRuntime) -> Result<(), Fail> {
+    all(&rt, PRIVATE_MODES_AND_STYLES)
+}
+
+const REPORTS_AND_KEYBOARD_MODES: &[Row] = &[
     (
         b"\x1b[4$p\x1b[$p",
         "ReportMode(Named(Insert)) ReportMode(Unknown(0)) ",
@@ -237,11 +270,11 @@ const CONTROL_SEQUENCES: &[Row] = &[
 ];
 
 #[test]
-fn control_sequences(rt: HostRuntime) -> Result<(), Fail> {
-    all(&rt, CONTROL_SEQUENCES)
+fn reports_and_keyboard_modes(rt: HostRuntime) -> Result<(), Fail> {
+    all(&rt, REPORTS_AND_KEYBOARD_MODES)
 }
 
-const ATTRIBUTES: &[Row] = &[
+const STYLES: &[Row] = &[
     (b"\x1b[0m", "TerminalAttribute(Reset) "),
     (b"\x1b[1m", "TerminalAttribute(Bold) "),
     (b"\x1b[2m", "TerminalAttribute(Dim) "),
@@ -252,6 +285,14 @@ const ATTRIBUTES: &[Row] = &[
     (b"\x1b[7m", "TerminalAttribute(Reverse) "),
     (b"\x1b[8m", "TerminalAttribute(Hidden) "),
     (b"\x1b[9m", "TerminalAttribute(Strike) "),
+];
+
+#[test]
+fn styles(rt: HostRuntime) -> Result<(), Fail> {
+    all(&rt, STYLES)
+}
+
+const ENDED_STYLES: &[Row] = &[
     (b"\x1b[21m", "TerminalAttribute(CancelBold) "),
     (b"\x1b[22m", "TerminalAttribute(CancelBoldDim) "),
     (b"\x1b[23m", "TerminalAttribute(CancelItalic) "),
@@ -260,6 +301,14 @@ const ATTRIBUTES: &[Row] = &[
     (b"\x1b[27m", "TerminalAttribute(CancelReverse) "),
     (b"\x1b[28m", "TerminalAttribute(CancelHidden) "),
     (b"\x1b[29m", "TerminalAttribute(CancelStrike) "),
+];
+
+#[test]
+fn ended_styles(rt: HostRuntime) -> Result<(), Fail> {
+    all(&rt, ENDED_STYLES)
+}
+
+const BLACK_TO_GREEN: &[Row] = &[
     (b"\x1b[30m", "TerminalAttribute(Foreground(Named(Black))) "),
     (b"\x1b[40m", "TerminalAttribute(Background(Named(Black))) "),
     (
@@ -290,6 +339,14 @@ const ATTRIBUTES: &[Row] = &[
         b"\x1b[102m",
         "TerminalAttribute(Background(Named(BrightGreen))) ",
     ),
+];
+
+#[test]
+fn colours_from_black_to_green(rt: HostRuntime) -> Result<(), Fail> {
+    all(&rt, BLACK_TO_GREEN)
+}
+
+const YELLOW_TO_MAGENTA: &[Row] = &[
     (b"\x1b[33m", "TerminalAttribute(Foreground(Named(Yellow))) "),
     (b"\x1b[43m", "TerminalAttribute(Background(Named(Yellow))) "),
     (
@@ -326,6 +383,14 @@ const ATTRIBUTES: &[Row] = &[
         b"\x1b[105m",
         "TerminalAttribute(Background(Named(BrightMagenta))) ",
     ),
+];
+
+#[test]
+fn colours_from_yellow_to_magenta(rt: HostRuntime) -> Result<(), Fail> {
+    all(&rt, YELLOW_TO_MAGENTA)
+}
+
+const CYAN_TO_DEFAULT: &[Row] = &[
     (b"\x1b[36m", "TerminalAttribute(Foreground(Named(Cyan))) "),
     (b"\x1b[46m", "TerminalAttribute(Background(Named(Cyan))) "),
     (
@@ -355,6 +420,14 @@ const ATTRIBUTES: &[Row] = &[
         "TerminalAttribute(Background(Named(Background))) ",
     ),
     (b"\x1b[59m", "TerminalAttribute(UnderlineColor(None)) "),
+];
+
+#[test]
+fn colours_from_cyan_to_default(rt: HostRuntime) -> Result<(), Fail> {
+    all(&rt, CYAN_TO_DEFAULT)
+}
+
+const UNDERLINES_AND_LISTS: &[Row] = &[
     (b"\x1b[4:0m", "TerminalAttribute(CancelUnderline) "),
     (b"\x1b[4:1m", "TerminalAttribute(Underline) "),
     (b"\x1b[4:2m", "TerminalAttribute(DoubleUnderline) "),
@@ -371,8 +444,8 @@ const ATTRIBUTES: &[Row] = &[
 ];
 
 #[test]
-fn attributes(rt: HostRuntime) -> Result<(), Fail> {
-    all(&rt, ATTRIBUTES)
+fn underlines_and_lists(rt: HostRuntime) -> Result<(), Fail> {
+    all(&rt, UNDERLINES_AND_LISTS)
 }
 
 const COLOURS: &[Row] = &[
@@ -427,7 +500,7 @@ fn colours(rt: HostRuntime) -> Result<(), Fail> {
     all(&rt, COLOURS)
 }
 
-const COMMANDS: &[Row] = &[
+const TITLES_AND_PALETTE: &[Row] = &[
     (b"\x1b]2;a;b\x07", "SetTitle(Some(\"a;b\")) "),
     (b"\x1b]0; t \x07", "SetTitle(Some(\"t\")) "),
     (b"\x1b]2;\x07", "SetTitle(Some(\"\")) "),
@@ -449,6 +522,14 @@ const COMMANDS: &[Row] = &[
     (b"\x1b]4;7\x07", ""),
     (b"\x1b]4;1;#abc;2\x07", ""),
     (b"\x1b]4;1;red;;#abc\x07", ""),
+];
+
+#[test]
+fn titles_and_palette(rt: HostRuntime) -> Result<(), Fail> {
+    all(&rt, TITLES_AND_PALETTE)
+}
+
+const LINKS_AND_COLOURS: &[Row] = &[
     (
         b"\x1b]8;;http://a;b\x07",
         "SetHyperlink(Some(Hyperlink { id: None, uri: \"http://a;b\" })) ",
@@ -484,6 +565,14 @@ const COMMANDS: &[Row] = &[
         b"\x1b]10;rgb:800/fff/0;#ABCDEF\x07",
         "SetColor(256, Rgb { r: 127, g: 255, b: 0 }) SetColor(257, Rgb { r: 171, g: 205, b: 239 }) ",
     ),
+];
+
+#[test]
+fn links_and_colours(rt: HostRuntime) -> Result<(), Fail> {
+    all(&rt, LINKS_AND_COLOURS)
+}
+
+const SHAPES_AND_CLIPBOARD: &[Row] = &[
     (b"\x1b]50;CursorShape=0\x07", "SetCursorShape(Block) "),
     (b"\x1b]50;CursorShape=1\x07", "SetCursorShape(Beam) "),
     (b"\x1b]50;CursorShape=2\x07", "SetCursorShape(Underline) "),
@@ -498,6 +587,14 @@ const COMMANDS: &[Row] = &[
     ),
     (b"\x1b]52;ps;\x07", "ClipboardStore(112, []) "),
     (b"\x1b]52;c\x07", ""),
+];
+
+#[test]
+fn shapes_and_clipboard(rt: HostRuntime) -> Result<(), Fail> {
+    all(&rt, SHAPES_AND_CLIPBOARD)
+}
+
+const RESETS: &[Row] = &[
     (b"\x1b]104;1;x;3\x07", "ResetColor(1) ResetColor(3) "),
     (b"\x1b]110\x07", "ResetColor(256) "),
     (b"\x1b]111\x07", "ResetColor(257) "),
@@ -506,8 +603,8 @@ const COMMANDS: &[Row] = &[
 ];
 
 #[test]
-fn operating_system_commands(rt: HostRuntime) -> Result<(), Fail> {
-    all(&rt, COMMANDS)
+fn resets(rt: HostRuntime) -> Result<(), Fail> {
+    all(&rt, RESETS)
 }
 
 const POINTERS: &[Row] = &[
@@ -529,6 +626,14 @@ const POINTERS: &[Row] = &[
         b"\x1b]22;vertical-text\x07",
         "SetMouseCursorIcon(VerticalText) ",
     ),
+];
+
+#[test]
+fn pointers(rt: HostRuntime) -> Result<(), Fail> {
+    all(&rt, POINTERS)
+}
+
+const POINTERS_OF_DRAGS: &[Row] = &[
     (b"\x1b]22;alias\x07", "SetMouseCursorIcon(Alias) "),
     (b"\x1b]22;copy\x07", "SetMouseCursorIcon(Copy) "),
     (b"\x1b]22;move\x07", "SetMouseCursorIcon(Move) "),
@@ -545,6 +650,14 @@ const POINTERS: &[Row] = &[
     (b"\x1b]22;nw-resize\x07", "SetMouseCursorIcon(NwResize) "),
     (b"\x1b]22;s-resize\x07", "SetMouseCursorIcon(SResize) "),
     (b"\x1b]22;se-resize\x07", "SetMouseCursorIcon(SeResize) "),
+];
+
+#[test]
+fn pointers_of_drags(rt: HostRuntime) -> Result<(), Fail> {
+    all(&rt, POINTERS_OF_DRAGS)
+}
+
+const POINTERS_OF_SIZES: &[Row] = &[
     (b"\x1b]22;sw-resize\x07", "SetMouseCursorIcon(SwResize) "),
     (b"\x1b]22;w-resize\x07", "SetMouseCursorIcon(WResize) "),
     (b"\x1b]22;ew-resize\x07", "SetMouseCursorIcon(EwResize) "),
@@ -565,8 +678,8 @@ const POINTERS: &[Row] = &[
 ];
 
 #[test]
-fn pointers(rt: HostRuntime) -> Result<(), Fail> {
-    all(&rt, POINTERS)
+fn pointers_of_sizes(rt: HostRuntime) -> Result<(), Fail> {
+    all(&rt, POINTERS_OF_SIZES)
 }
 
 /// All colours of the palette are reset where none is named.
