@@ -1,26 +1,17 @@
 -- How long frames are, and what is owed.
-use Rattle.std.proofs.Common.{◌≡◌, ℕ, ◌*◌, ◌≤◌, ◌<◌, Bool, true, false, List, [], ◌∷◌, ◌++◌, length, Option, None}
+use Rattle.std.proofs.Common.{◌≡◌, ℕ, Bool, true, false, List, [], ◌∷◌, ◌++◌, length, Option, None}
 use Rattle.std.proofs.Common.{IfSome, sym, ap, subst, arith, length-append}
 use Rattle.std.specs.List.{AllByRecursion}
 use Rattle.std.specs.Prelude.{if◌then◌else◌}
-use Rattle.vte.specs.Hold.{limit}
-use Rattle.vt100_picture.specs.Term.{Size, shown_of}
-use Rattle.termview.specs.Seen.{seen}
+use Rattle.vt100_picture.specs.Term.{Size}
 use Rattle.termrelay.specs.Frame.{IsShortFrame}
 use Rattle.termrelay.specs.Answers.{ClientState, is_frame}
 use Rattle.termrelay.specs.Hub.{clients_in}
-use Rattle.termrelay.specs.Calls.{Call}
-use Rattle.termrelay.specs.Log.{SessionView, LogView}
-use Rattle.termrelay.specs.declared.call.Reply.{Reply}
-use Rattle.faithful.specs.History.{Entry, Story, size_of_session, size_of_story}
-use Rattle.faithful.specs.Judge.{judged, IsSure}
-use Rattle.faithful.specs.Laws.{last_text, IsTold, IsSession}
-use Rattle.faithful.specs.Headline.{last_read}
-use Rattle.faithful.specs.Logged.{ReadsLog, AreShort}
-use Rattle.faithful.specs.Bounds.{EachSessionIsBounded, EachSmallSessionIsShort, SmallLoggedFramesAreShown}
+use Rattle.faithful.specs.History.{Entry, Story, size_of_story}
+use Rattle.faithful.specs.Laws.{last_text, IsTold}
+use Rattle.faithful.specs.Bounds.{EachSessionIsBounded, EachFrameFitsTheHold, NoSmallFrameIsTooLong}
 use Rattle.faithful.proofs.HistoryLemmas.{sessions-told}
-use Rattle.faithful.proofs.HeadlineLemmas.{entries-short}
-use Rattle.faithful.proofs.LoggedLemmas.{logged-shown}
+use Rattle.faithful.proofs.HeadlineLemmas.{entries-short, entries-fit, entries-made}
 
 -- what is owed is an end of the last frame's text
 text-short : (z : Size) (frame : Bool) (text : List ℕ) (e : Entry) → IsShortFrame z text → IsShortFrame z e.text
@@ -55,22 +46,14 @@ sessions-bounded rows cols calls replies n t s =
     let short = entries-short rows cols (size_of_story t) h.height h.width None t.entries tt h.entries in
     (short, client-short rows cols (clients_in s.hub) t h short)
 
--- ---- small screens
+-- ---- the hold
 
-below-limit : (z : Size) (es : List Entry) → z.rows * z.cols ≤ 2000 → AllByRecursion (λ e. IsShortFrame z e.text) es
-    → AllByRecursion (λ e. length e.text < limit) es
-below-limit z [] few h = tt
-below-limit z (e ∷ es) few h = (omega (arith, few, h.0), below-limit z es few h.1)
+pub frames-fit : EachFrameFitsTheHold
+frames-fit rows cols calls replies n t s =
+    let h = sessions-told rows cols calls replies n t s in
+    entries-fit rows cols (size_of_story t) h.height h.width None t.entries h.entries
 
-pub small-short : EachSmallSessionIsShort
-small-short rows cols calls replies n t s few =
-    below-limit (size_of_story t) t.entries few (sessions-bounded rows cols calls replies n t s).0
-
-pub small-shown : SmallLoggedFramesAreShown
-small-shown rows cols calls l n s pieces parsed r few =
-    let read = logged-shown rows cols calls l n s pieces parsed r in
-    let t = read.0 in
-    let logged = read.1.logged in
-    let cells : t.session.rows * t.session.cols ≤ 2000 =
-    subst (λ (x : SessionView). x.rows * x.cols ≤ 2000) (sym logged) few in
-    (t, read.1, λ sure. read.2 (small-short rows cols calls l.replies n t read.1.session cells) sure)
+pub small-made : NoSmallFrameIsTooLong
+small-made rows cols calls replies n t s few =
+    let h = sessions-told rows cols calls replies n t s in
+    entries-made rows cols (size_of_story t) h.height h.width few None t.entries tt h.entries

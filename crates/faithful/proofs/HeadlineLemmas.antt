@@ -1,8 +1,10 @@
 -- From a session's frames to what is shown.
-use Rattle.std.proofs.Common.{◌≡◌, ◌≢◌, ◌∙◌, ℕ, ◌+◌, ◌-◌, ◌<◌, ◌≤◌, nat_le, Bool, true, false, List, [], ◌∷◌, ◌++◌}
+use Rattle.std.proofs.Common.{◌≡◌, ◌≢◌, ◌∙◌, ℕ, suc, ◌+◌, ◌-◌, ◌<◌, ◌≤◌, nat_le, Bool, true, false, List, [], ◌∷◌, ◌++◌}
 use Rattle.std.proofs.Common.{length, map, Option, Some, None, refl, sym, ap, subst, arith, append_assoc, append-nil}
-use Rattle.std.proofs.Common.{length-append, if◌then◌else◌}
+use Rattle.std.proofs.Common.{length-append, if◌then◌else◌, ◌&&◌, ◌*◌, ltb-false}
+use Rattle.std.specs.Prelude.{nat_lt}
 use Rattle.std.specs.List.{AllByRecursion, concat}
+use Rattle.std.proofs.lemmas.Bool.{lt-leb}
 use Rattle.std.proofs.lemmas.Bool.Decides.{nat_tests}
 use Rattle.std.proofs.lemmas.List.Elements.{All-from_recursion}
 use Rattle.vte_core.specs.Ground.{AtGround}
@@ -18,8 +20,11 @@ use Rattle.vt100_state.specs.Made.{made}
 use Rattle.vt100_state.specs.Holds.{IsSide}
 use Rattle.vte_read.specs.Terminals.{IsSmall}
 use Rattle.termrelay.specs.Frame.{is_unsure, frame_text, ShowsUnless, Agrees}
-use Rattle.termrelay.specs.Answers.{ClientState, is_frame, answer_of, due_from}
-use Rattle.termrelay.specs.declared.answer.Answer.TheVariants.{Unsure}
+use Rattle.termrelay.specs.Answers.{ClientState, is_frame, same_shown, answer_of, due_from, due, is_too_long}
+use Rattle.termrelay.specs.Answers.{longest_frame}
+use Rattle.termrelay.specs.declared.answer.Answer.{Answer}
+use Rattle.termrelay.specs.declared.answer.Answer.TheVariants.{Full, Difference, Unsure, Unchanged, Behind, Held}
+use Rattle.termrelay.specs.declared.answer.Answer.TheVariants.{TooLong}
 use Rattle.termview.specs.Seen.{seen}
 use Rattle.termview.proofs.LawLemmas.{whole_shown, none_torn}
 use Rattle.termrelay.specs.Calls.{Call}
@@ -58,13 +63,78 @@ due-unsure : (z : Size) (now : Shown) (base : Option Shown) (unsure : Bool) → 
 due-unsure z now base true h = refl
 due-unsure z now base false h = absurd (let no : false ≡ true = h in cc)
 
+-- a frame is what is due where no update is open and it isn't too long
+frame-due : (updating frame long : Bool) (a : Answer)
+    → is_frame (if updating then Held else if frame && long then TooLong else a) ≡ true
+    → (if updating then Held else if frame && long then TooLong else a) ≡ a
+frame-due true frame long a h = absurd (let no : false ≡ true = h in cc)
+frame-due false true true a h = absurd (let no : false ≡ true = h in cc)
+frame-due false true false a h = refl
+frame-due false false long a h = refl
+
+frame-fits : (updating frame long : Bool) (a : Answer) → is_frame a ≡ frame
+    → is_frame (if updating then Held else if frame && long then TooLong else a) ≡ true → long ≡ false
+frame-fits true frame long a e h = absurd (let no : false ≡ true = h in cc)
+frame-fits false true true a e h = absurd (let no : false ≡ true = h in cc)
+frame-fits false true false a e h = refl
+frame-fits false false long a e h = absurd (let no : false ≡ true = sym e ∙ h in cc)
+
+short-made : (updating frame long : Bool) (a : Answer) → long ≡ false → (a ≡ TooLong → ⊥)
+    → (if updating then Held else if frame && long then TooLong else a) ≡ TooLong → ⊥
+short-made true frame long a short other e = absurd (let no : Held ≡ TooLong = e in cc)
+short-made false true true a short other e = absurd (let no : true ≡ false = short in cc)
+short-made false true false a short other e = other e
+short-made false false long a short other e = other e
+
+due-by : (unsure again same : Bool)
+    → (if unsure then Unsure else if again then Full else if same then Unchanged else Difference) ≡ TooLong → ⊥
+due-by true again same e = absurd (let no : Unsure ≡ TooLong = e in cc)
+due-by false true same e = absurd (let no : Full ≡ TooLong = e in cc)
+due-by false false true e = absurd (let no : Unchanged ≡ TooLong = e in cc)
+due-by false false false e = absurd (let no : Difference ≡ TooLong = e in cc)
+
+due-made : (z : Size) (now : Shown) (base : Option Shown) → due z now base ≡ TooLong → ⊥
+due-made z now None e = due-by (is_unsure z now) true true e
+due-made z now (Some base) e = due-by (is_unsure z now) (is_unsure z base) (same_shown z base now) e
+
 answer-unsure : (s : State) (z : Size) (base : Option Shown) (owed : List ℕ) → size_of s.shown ≡ z
     → is_frame (answer_of s (record { owed = owed; base = base })) ≡ true → is_unsure z (shown_state s) ≡ true
     → answer_of s (record { owed = owed; base = base }) ≡ Unsure
 answer-unsure s z base [] same f h =
-    due-unsure (size_of s.shown) (shown_state s) base (is_unsure (size_of s.shown) (shown_state s))
-    (ap (λ k. is_unsure k (shown_state s)) same ∙ h)
+    let k = size_of s.shown in
+    let now = shown_state s in
+    frame-due s.updating (is_frame (due k now base)) (is_too_long k now base) (due k now base) f
+    ∙ due-unsure k now base (is_unsure k now) (ap (λ y. is_unsure y now) same ∙ h)
 answer-unsure s z base (x ∷ owed) same f h = absurd (let no : false ≡ true = f in cc)
+
+-- and none is too long
+answer-fits : (s : State) (z : Size) (base : Option Shown) (owed : List ℕ) → size_of s.shown ≡ z
+    → is_frame (answer_of s (record { owed = owed; base = base })) ≡ true → is_too_long z (shown_state s) base ≡ false
+answer-fits s z base [] same f =
+    let k = size_of s.shown in
+    let now = shown_state s in
+    ap (λ y. is_too_long y now base) (sym same)
+    ∙ frame-fits s.updating (is_frame (due k now base)) (is_too_long k now base) (due k now base) refl f
+answer-fits s z base (x ∷ owed) same f = absurd (let no : false ≡ true = f in cc)
+
+-- where none would be too long, none is said to be
+answer-made : (s : State) (z : Size) (base : Option Shown) (owed : List ℕ) → size_of s.shown ≡ z
+    → is_too_long z (shown_state s) base ≡ false → answer_of s (record { owed = owed; base = base }) ≡ TooLong → ⊥
+answer-made s z base [] same fits e =
+    let k = size_of s.shown in
+    let now = shown_state s in
+    short-made s.updating (is_frame (due k now base)) (is_too_long k now base) (due k now base)
+    (ap (λ y. is_too_long y now base) same ∙ fits) (due-made k now base) e
+answer-made s z base (x ∷ owed) same fits e = absurd (let no : Behind ≡ TooLong = e in cc)
+
+-- ---- lengths
+
+below-limit : (text : List ℕ) → nat_lt longest_frame (length text) ≡ false → length text < limit
+below-limit text h = omega (arith, ltb-false longest_frame (length text) h)
+
+few-cells : (z : Size) (text : List ℕ) → z.rows * z.cols ≤ 2000 → IsShortFrame z text
+    → nat_lt longest_frame (length text) ≡ false
+few-cells z text few short = lt-leb (suc longest_frame) (length text) (omega (arith, few, short))
 
 text-none : (z : Size) (base : Option Shown) (now : Shown) (frame : Bool) (text : List ℕ)
     → text ≡ (if frame then frame_text z base now else []) → frame ≡ false → text ≡ []
@@ -170,6 +240,44 @@ module _ (rows cols : ℕ) (z : Size) (height : IsSide z.rows) (width : IsSide z
   entries-short last (e ∷ es) h k = (
     entry-short (is_frame e.answer) last e h k.0 refl,
     entries-short (frame_or last e) es (known-next last e h k.0) (later last e es k),
+  )
+
+  -- ---- below the hold's limit
+
+  entry-fits : (frame : Bool) (last : Option Entry) (e : Entry) → IsAnswered rows cols z (base_of last) e
+      → is_frame e.answer ≡ frame → length e.text < limit
+  entry-fits true last e h f =
+      let now = shown_at rows cols e in
+      subst (λ (xs : List ℕ). length xs < limit) (sym (entry-some last e h f))
+      (below-limit (frame_text z (base_of last) now)
+      (answer-fits (state_at rows cols e) z (base_of last) h.owed h.size (ap is_frame (sym h.answer) ∙ f)))
+  entry-fits false last e h f =
+      subst (λ (xs : List ℕ). length xs < limit) (sym (entry-none last e h f)) (omega arith)
+
+  pub entries-fit : (last : Option Entry) (es : List Entry) → AreAnswered rows cols z (base_of last) es
+      → AllByRecursion (λ e. length e.text < limit) es
+  entries-fit last [] h = tt
+  entries-fit last (e ∷ es) h = (
+    entry-fits (is_frame e.answer) last e h.0 refl,
+    entries-fit (frame_or last e) es (later last e es h),
+  )
+
+  -- a frame of few cells is made
+  entry-made : z.rows * z.cols ≤ 2000 → (last : Option Entry) (e : Entry) → Known last
+      → IsAnswered rows cols z (base_of last) e → e.answer ≡ TooLong → ⊥
+  entry-made few last e h k is =
+      let now = shown_at rows cols e in
+      answer-made (state_at rows cols e) z (base_of last) k.owed k.size
+      (few-cells z (frame_text z (base_of last) now) few
+      (frame-short z (base_of last) now (byte-base z (base_of last) (known-base last h))
+      (entry-shot (base_of last) e k).small)) (sym k.answer ∙ is)
+
+  pub entries-made : z.rows * z.cols ≤ 2000 → (last : Option Entry) (es : List Entry) → Known last
+      → AreAnswered rows cols z (base_of last) es → AllByRecursion (λ e. e.answer ≡ TooLong → ⊥) es
+  entries-made few last [] h k = tt
+  entries-made few last (e ∷ es) h k = (
+    λ is. entry-made few last e h k.0 is,
+    entries-made few (frame_or last e) es (known-next last e h k.0) (later last e es k),
   )
 
   all-by : (P : List ℕ → Type 0) (frame : Bool) (e : Entry) (rest : List (List ℕ)) → (frame ≡ true → P e.text)
@@ -396,11 +504,10 @@ module _ (rows cols : ℕ) (z : Size) (height : IsSide z.rows) (width : IsSide z
 
   pub front-read : (es : List Entry) (pieces : List (List ℕ)) (beyond parsed : List ℕ) (hold : Option (List ℕ))
       → AreAnswered rows cols z None es → concat pieces ++ beyond ≡ texts es
-      → AllByRecursion (λ e. length e.text < limit) es → Leads (map Gives pieces) [] None parsed hold
-      → IsFront (last_whole None es (length (concat pieces))) parsed
-  front-read es pieces beyond parsed hold k e short leads =
+      → Leads (map Gives pieces) [] None parsed hold → IsFront (last_whole None es (length (concat pieces))) parsed
+  front-read es pieces beyond parsed hold k e leads =
       let joined = frames-joined None es k in
-      let all-short = frames-all (λ text. length text < limit) es (each-short es short) in
+      let all-short = frames-all (λ text. length text < limit) es (each-short es (entries-fit None es k)) in
       let out = none_torn z (frame_texts es) pieces beyond [] parsed hold (ground-nothing 1024)
       (All-from_recursion IsFrame (frame_texts es) (frames-are es k))
       (All-from_recursion (λ text. length text < limit) (frame_texts es) all-short) (e ∙ sym joined) leads in
@@ -415,11 +522,11 @@ module _ (rows cols : ℕ) (z : Size) (height : IsSide z.rows) (width : IsSide z
   -- the view shows just these entries' texts
   pub front-seen : (es : List Entry) (pieces : List (List ℕ)) (beyond parsed : List ℕ) (hold : Option (List ℕ))
       → AreAnswered rows cols z None es → concat pieces ++ beyond ≡ texts es
-      → AllByRecursion (λ e. length e.text < limit) es → Leads (map Gives pieces) [] None parsed hold
+      → Leads (map Gives pieces) [] None parsed hold
       → seen z parsed ≡ seen z (texts (whole_in es (length (concat pieces))))
-  front-seen es pieces beyond parsed hold k e short leads =
+  front-seen es pieces beyond parsed hold k e leads =
       let joined = frames-joined None es k in
-      let all-short = frames-all (λ text. length text < limit) es (each-short es short) in
+      let all-short = frames-all (λ text. length text < limit) es (each-short es (entries-fit None es k)) in
       let out = none_torn z (frame_texts es) pieces beyond [] parsed hold (ground-nothing 1024)
       (All-from_recursion IsFrame (frame_texts es) (frames-are es k))
       (All-from_recursion (λ text. length text < limit) (frame_texts es) all-short) (e ∙ sym joined) leads in
@@ -466,7 +573,7 @@ front-of rows cols calls replies n t pieces parsed clients r h =
     let all : concat pieces ++ (r.beyond ++ h.left) ≡ texts t.entries =
     sym (append_assoc (concat pieces) r.beyond h.left) ∙ ap (λ xs. xs ++ h.left) r.pumped ∙ h.front in
     front-read rows cols (size_of_story t) h.height h.width t.entries pieces (r.beyond ++ h.left) parsed r.hold h.entries all
-    r.short r.leads
+    r.leads
 
 pub last-shown : LastWholeFrameIsShown
 last-shown rows cols calls replies n t pieces parsed r sure =
@@ -490,7 +597,7 @@ seen-then rows cols calls replies n t pieces parsed r =
     let all : concat pieces ++ (r.beyond ++ h.left) ≡ texts t.entries =
     sym (append_assoc (concat pieces) r.beyond h.left) ∙ ap (λ xs. xs ++ h.left) r.pumped ∙ h.front in
     front-seen rows cols (size_of_story t) h.height h.width t.entries pieces (r.beyond ++ h.left) parsed r.hold h.entries all
-    r.short r.leads
+    r.leads
 
 pub none-torn : NoFrameIsTorn
 none-torn rows cols calls replies n t pieces more parsed parsed' r q same =

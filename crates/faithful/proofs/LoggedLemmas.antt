@@ -11,7 +11,7 @@ use Rattle.faithful.specs.History.{as_told, Story, fresh, size_of_session, RunsT
 use Rattle.faithful.specs.Laws.{IsSession}
 use Rattle.faithful.specs.Headline.{Reads}
 use Rattle.faithful.specs.Serves.{Matches}
-use Rattle.faithful.specs.Logged.{IsLogged, HasStory, AreShort, EachLoggedReadIsARead, LoggedFramesAreShown}
+use Rattle.faithful.specs.Logged.{IsLogged, HasStory, EachLoggedReadIsARead, LoggedFramesAreShown}
 use Rattle.faithful.specs.Logged.{WholeLoggedFramesAreShown}
 use Rattle.faithful.proofs.HeadlineLemmas.{last-shown, wholes-shown}
 use Rattle.faithful.proofs.ServesLemmas.{logs-follow}
@@ -42,7 +42,7 @@ IsHistory rows cols calls replies g ss =
 
 abbrev IsRead : ℕ → ℕ → List Call → LogView → ℕ → SessionView → List (List ℕ) → List ℕ → Type 0
 IsRead rows cols calls l n s pieces parsed =
-    (t : Story) × HasStory rows cols calls l n s t × (AreShort t → Reads rows cols calls l.replies n t pieces parsed)
+    (t : Story) × HasStory rows cols calls l n s t × Reads rows cols calls l.replies n t pieces parsed
 
 abbrev IsTold : ℕ → ℕ → List Call → LogView → ℕ → SessionView → Type 0
 IsTold rows cols calls l n s = (t : Story) × HasStory rows cols calls l n s t
@@ -63,11 +63,10 @@ logged-reads rows cols calls l n s pieces parsed r =
     let told : IsTold rows cols calls l n s = story-of rows cols calls l n s r.session in (
       told.0,
       told.1,
-      λ short. record {
+      record {
         session = told.1.session;
         beyond = r.beyond;
         pumped = r.pumped ∙ ap (λ (x : SessionView). x.pumped) (sym told.1.logged);
-        short = short;
         hold = r.hold;
         leads = r.leads;
       },
@@ -92,7 +91,7 @@ logged-shown rows cols calls l n s pieces parsed r =
     let t = read.0 in (
       t,
       read.1,
-      λ short sure.
+      λ sure.
           ap (λ (x : SessionView). shown_of (seen (size_of_session x) parsed)) (sym read.1.logged)
-          ∙ last-shown rows cols calls l.replies n t pieces parsed (read.2 short) sure,
+          ∙ last-shown rows cols calls l.replies n t pieces parsed read.2 sure,
     )

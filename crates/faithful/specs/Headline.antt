@@ -1,7 +1,6 @@
 -- What a far terminal shows: what the judge says.
-use Rattle.std.specs.Prelude.{◌≡◌, ℕ, ◌<◌, true, List, [], ◌++◌, Option, Some, None, map, length}
+use Rattle.std.specs.Prelude.{◌≡◌, ℕ, true, List, [], ◌++◌, Option, Some, None, map, length}
 use Rattle.std.specs.List.{AllByRecursion, concat}
-use Rattle.vte.specs.Hold.{limit}
 use Rattle.vte.specs.Moves.{Move, Gives, given}
 use Rattle.vte.specs.Frames.{IsFrame, Leads}
 use Rattle.vt100_picture.specs.Term.{shown_of}
@@ -32,13 +31,12 @@ WholeFramesAreShown = (rows cols : ℕ) (calls : List Call) (replies : List Repl
     × (IsSure (last_frame None front) → shown_of (seen (size_of_story t) parsed) ≡ judged rows cols (last_frame None front))
 
 -- A new view of a session's size has parsed so much of these pieces, which are a beginning of what was pumped to the
--- session; each of its frames is below the hold's limit.
+-- session.
 pub record Reads (rows cols : ℕ) (calls : List Call) (replies : List Reply) (n : ℕ) (t : Story)
     (pieces : List (List ℕ)) (parsed : List ℕ) : Type 0 where
   pub session : IsSession rows cols calls replies n t
   pub beyond : List ℕ
   pub pumped : concat pieces ++ beyond ≡ t.session.pumped
-  pub short : AllByRecursion (λ e. length e.text < limit) t.entries
   pub hold : Option (List ℕ)
   pub leads : Leads (map Gives pieces) [] None parsed hold
 
@@ -73,7 +71,7 @@ OneMomentShowsTheSame = (rows cols : ℕ) (calls : List Call) (replies : List Re
     → (size_of_story t ≡ size_of_story u)
     × (shown_of (seen (size_of_story t) parsed) ≡ shown_of (seen (size_of_story u) parsed'))
 
--- So do views that have read whole frames alone, whatever their lengths and wherever updates were stopped by hand.
+-- So do views that have read whole frames alone, wherever updates were stopped by hand.
 pub record ReadsWhole (rows cols : ℕ) (calls : List Call) (replies : List Reply) (n : ℕ) (t : Story)
     (front : List Entry) (parsed : List ℕ) : Type 0 where
   pub session : IsSession rows cols calls replies n t

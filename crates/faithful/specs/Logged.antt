@@ -1,7 +1,6 @@
 -- What a far terminal shows of a log's session: what the judge says.
-use Rattle.std.specs.Prelude.{◌≡◌, ℕ, ◌<◌, List, [], ◌++◌, Option, Some, None, map, length, slice_get}
-use Rattle.std.specs.List.{AllByRecursion, concat}
-use Rattle.vte.specs.Hold.{limit}
+use Rattle.std.specs.Prelude.{◌≡◌, ℕ, List, [], ◌++◌, Option, Some, None, map, slice_get}
+use Rattle.std.specs.List.{concat}
 use Rattle.vte.specs.Moves.{Move, Gives, given}
 use Rattle.vte.specs.Frames.{Leads}
 use Rattle.vt100_picture.specs.Term.{shown_of}
@@ -40,28 +39,23 @@ pub record HasStory (rows cols : ℕ) (calls : List Call) (l : LogView) (n : ℕ
   pub session : IsSession rows cols calls l.replies n t
   pub logged : t.session ≡ s
 
--- each of its frames is below the hold's limit
-abbrev pub AreShort : Story → Type 0
-AreShort t = AllByRecursion (λ e. length e.text < limit) t.entries
-
 -- So the view reads a session of that history, and the laws on such views are laws on it.
 abbrev pub EachLoggedReadIsARead : Type 0
 EachLoggedReadIsARead = (rows cols : ℕ) (calls : List Call) (l : LogView) (n : ℕ) (s : SessionView)
     (pieces : List (List ℕ)) (parsed : List ℕ) → ReadsLog rows cols calls l n s pieces parsed
-    → (t : Story) × HasStory rows cols calls l n s t
-    × (AreShort t → Reads rows cols calls l.replies n t pieces parsed)
+    → (t : Story) × HasStory rows cols calls l n s t × Reads rows cols calls l.replies n t pieces parsed
 
 -- The view shows what the judge says of the last frame that lies wholly in the pieces, unless that one wasn't sure.
 abbrev pub LoggedFramesAreShown : Type 0
 LoggedFramesAreShown = (rows cols : ℕ) (calls : List Call) (l : LogView) (n : ℕ) (s : SessionView)
     (pieces : List (List ℕ)) (parsed : List ℕ) → ReadsLog rows cols calls l n s pieces parsed
     → (t : Story) × HasStory rows cols calls l n s t
-    × (AreShort t → IsSure (last_read t pieces)
+    × (IsSure (last_read t pieces)
     → shown_of (seen (size_of_session s) parsed) ≡ judged rows cols (last_read t pieces))
 
 -- Frames that come whole, in whatever pieces and wherever an update is stopped by hand: a new view of the session's
 -- size, which these moves lead to what is parsed and held, holds nothing and shows what the judge says of the last one,
--- unless that wasn't sure; whatever their lengths.
+-- unless that wasn't sure.
 abbrev pub WholeLoggedFramesAreShown : Type 0
 WholeLoggedFramesAreShown = (rows cols : ℕ) (calls : List Call) (l : LogView) (n : ℕ) (s : SessionView)
     → IsLogged rows cols calls l n s → (t : Story) × HasStory rows cols calls l n s t

@@ -1,6 +1,6 @@
 //! Facts about histories and far terminals. Each function does nothing: its contract is the fact.
 ghost use Rattle.termrelay.specs.Hub.{as_kept};
-ghost use Rattle.faithful.specs.Bounds.{EachSessionIsBounded, EachSmallSessionIsShort, SmallLoggedFramesAreShown};
+ghost use Rattle.faithful.specs.Bounds.{EachSessionIsBounded, EachFrameFitsTheHold, NoSmallFrameIsTooLong};
 ghost use Rattle.faithful.specs.Examples.{EachExampleIsTold};
 ghost use Rattle.faithful.specs.History.{as_told};
 ghost use Rattle.faithful.specs.Laws.{EachSessionIsTold, EachClientHasASession};
@@ -29,14 +29,14 @@ pub fn texts_are_frames()
 
 /// Frames that come whole are shown, in whatever pieces they come and wherever a synchronized update is stopped by
 /// hand: a new view of the session's size shows what the program's bytes and the resizes had made at the last one's
-/// moment, unless that screen showed U+FE0F. Nothing is held after them, whatever their lengths.
+/// moment, unless that screen showed U+FE0F. Nothing is held after them.
 pub fn whole_frames_are_shown()
     ensures { WholeFramesAreShown }
 {}
 
 /// Whatever beginning of a session's bytes a new view of its size reads, in whatever pieces, it shows what the
 /// program's bytes and the resizes had made at the moment of the last frame that lies wholly in it, or a blank screen;
-/// so where each frame is below the hold's limit and that screen showed no U+FE0F.
+/// so where that screen showed no U+FE0F.
 pub fn last_whole_frames_are_shown()
     ensures { LastWholeFrameIsShown }
 {}
@@ -47,8 +47,9 @@ pub fn no_frame_is_torn()
     ensures { NoFrameIsTorn }
 {}
 
-/// Views of two sessions whose last whole frames were taken at one moment show the same: where each frame is below the
-/// hold's limit, and where whole frames alone were read, whatever their lengths.
+/// Views of two sessions whose last whole frames were taken at one moment show the same, unless their screen showed
+/// U+FE0F: whatever beginnings of the sessions' bytes they read, and, wherever synchronized updates are stopped by hand,
+/// where whole frames alone were read.
 pub fn one_moment_shows_the_same()
     ensures pieces { OneMomentShowsTheSame }
     ensures whole { OneMomentShowsTheSameWhole }
@@ -105,7 +106,7 @@ pub fn logged_reads_are_reads()
 
 /// Whatever beginning of the bytes pumped to a session of a run on a new hub a new view of its size reads, in whatever
 /// pieces, it shows what the program's bytes and the resizes had made at the moment of the last frame that lies wholly
-/// in it, or a blank screen; so where each frame is below the hold's limit and that screen showed no U+FE0F.
+/// in it, or a blank screen; so where that screen showed no U+FE0F.
 pub fn logged_frames_are_shown()
     ensures { LoggedFramesAreShown }
 {}
@@ -132,18 +133,17 @@ pub fn sessions_are_bounded()
     ensures { EachSessionIsBounded }
 {}
 
-/// So with at most 2,000 cells, such as 24 rows of 80 columns, each frame is below the hold's limit, and whatever
-/// beginning of the bytes pumped to a session of a run on a new hub a new view of its size reads, in whatever pieces, it
-/// shows what the program's bytes and the resizes had made at the moment of the last frame that lies wholly in it, or a
-/// blank screen; so where that screen showed no U+FE0F.
-pub fn small_sessions_are_shown()
-    ensures short { EachSmallSessionIsShort }
-    ensures shown { SmallLoggedFramesAreShown }
+/// Each frame of a session is below the hold's limit, whatever its size, so that a terminal can hold it until it is whole:
+/// one that would be longer isn't made, and the request is answered `TooLong`. With at most 2,000 cells, such as 24 rows
+/// of 80 columns, none would be, and no request is answered so.
+pub fn frames_fit_the_hold()
+    ensures fits { EachFrameFitsTheHold }
+    ensures small { NoSmallFrameIsTooLong }
 {}
 
 /// Frames of a log's session that come whole are shown, in whatever pieces they come, wherever a synchronized update is
-/// stopped by hand, and whatever their lengths: a new view of its size shows what the program's bytes and the resizes had
-/// made at the last one's moment, unless that screen showed U+FE0F, and holds nothing.
+/// stopped by hand: a new view of its size shows what the program's bytes and the resizes had made at the last one's
+/// moment, unless that screen showed U+FE0F, and holds nothing.
 pub fn whole_logged_frames_are_shown()
     ensures { WholeLoggedFramesAreShown }
 {}

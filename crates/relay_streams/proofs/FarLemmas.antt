@@ -102,7 +102,7 @@ module _ (rows cols : ℕ) (calls : List Call) (h g : HubState as_kept) (m : Log
 -- ---- what is shown
 
 pub far-shown : FarViewsShow
-far-shown rows cols calls replies n most cuts t v session r short sure =
+far-shown rows cols calls replies n most cuts t v session r sure =
     let given = take most t.session.pumped in
     let pieces = cut_by cuts given in
     let joined : concat pieces ≡ given = concat-cut_by cuts given in
@@ -112,7 +112,6 @@ far-shown rows cols calls replies n most cuts t v session r short sure =
       session = session;
       beyond = drop most t.session.pumped;
       pumped = ap (λ xs. xs ++ drop most t.session.pumped) joined ∙ take-append-drop most t.session.pumped;
-      short = short;
       hold = r.hold;
       leads = r.leads;
     }) in

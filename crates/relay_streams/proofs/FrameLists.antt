@@ -1,20 +1,28 @@
 -- The frames of pieces after pieces.
-use Rattle.std.proofs.Common.{◌≡◌, ◌∙◌, ℕ, List, [], ◌∷◌, ◌++◌, map, Option, None, sym, ap, append_assoc}
-use Rattle.std.proofs.Common.{append-nil}
-use Rattle.std.specs.List.{concat}
+use Rattle.std.proofs.Common.{◌≡◌, ◌∙◌, ℕ, Bool, true, false, ◌||◌, List, [], ◌∷◌, ◌++◌, map, Option, None, refl, sym, ap}
+use Rattle.std.proofs.Common.{append_assoc, append-nil}
+use Rattle.std.specs.List.{concat, list_any}
 use Rattle.vt100_picture.specs.Term.{Shown}
 use Rattle.vt100_state.specs.State.{State, fresh_state}
 use Rattle.vt100_state.specs.Made.{Fed, made, made_on, events_added, played}
 use Rattle.vt100.proofs.PlayLemmas.{feeds_join, feeds_nothing}
-use Rattle.relay_streams.specs.Frames.{state_after, asked}
+use Rattle.termrelay.specs.declared.answer.Answer.{Answer}
+use Rattle.termrelay.specs.declared.answer.Answer.TheVariants.{Full, Difference, Unsure, Unchanged, Behind, Held, TooLong}
+use Rattle.relay_streams.specs.Frames.{state_after, asked, answered, is_overlong}
 use Rattle.relay_streams.specs.Pieces.{pieces_of}
 
--- the client asks after each piece, and gets what it is owed then: these texts, and last this base
+-- the client asks after each piece, and gets what it is owed then: these texts, these answers, and last this base
 abbrev pub frames_from : ℕ → ℕ → List ℕ → Option Shown → List (List ℕ) → List (List ℕ)
 frames_from rows cols past base [] = []
 frames_from rows cols past base (piece ∷ pieces) =
     (asked rows cols (past ++ piece) base).owed
     ∷ frames_from rows cols (past ++ piece) (asked rows cols (past ++ piece) base).base pieces
+
+abbrev pub answers_from : ℕ → ℕ → List ℕ → Option Shown → List (List ℕ) → List Answer
+answers_from rows cols past base [] = []
+answers_from rows cols past base (piece ∷ pieces) =
+    answered rows cols (past ++ piece) base
+    ∷ answers_from rows cols (past ++ piece) (asked rows cols (past ++ piece) base).base pieces
 
 abbrev pub base_from : ℕ → ℕ → List ℕ → Option Shown → List (List ℕ) → Option Shown
 base_from rows cols past base [] = base
@@ -25,12 +33,57 @@ base_from rows cols past base (piece ∷ pieces) =
 abbrev pub frames_of : ℕ → ℕ → List (List ℕ) → List (List ℕ)
 frames_of rows cols pieces = frames_from rows cols [] None pieces
 
+abbrev pub answers_of : ℕ → ℕ → List (List ℕ) → List Answer
+answers_of rows cols pieces = answers_from rows cols [] None pieces
+
 abbrev pub base_of : ℕ → ℕ → List (List ℕ) → Option Shown
 base_of rows cols pieces = base_from rows cols [] None pieces
 
 -- the joined frames of an input that is fed in full pieces
 abbrev pub relay_text : ℕ → ℕ → List ℕ → List ℕ
 relay_text rows cols input = concat (frames_of rows cols (pieces_of input))
+
+-- ---- whether one of the answers is that the frame would be too long
+
+pub or-first : (a b : Bool) → (a || b) ≡ false → a ≡ false
+or-first true b h = absurd (let no : true ≡ false = h in cc)
+or-first false b h = refl
+
+pub or-rest : (a b : Bool) → (a || b) ≡ false → b ≡ false
+or-rest true b h = absurd (let no : true ≡ false = h in cc)
+or-rest false b h = h
+
+or-none : (a b : Bool) → a ≡ false → b ≡ false → (a || b) ≡ false
+or-none true b h k = h
+or-none false b h k = k
+
+or-last : (a b : Bool) → b ≡ true → (a || b) ≡ true
+or-last true b h = refl
+or-last false b h = h
+
+pub overlong-is : (a : Answer) → is_overlong a ≡ true → a ≡ TooLong
+overlong-is Full h = absurd (let no : false ≡ true = h in cc)
+overlong-is Difference h = absurd (let no : false ≡ true = h in cc)
+overlong-is Unsure h = absurd (let no : false ≡ true = h in cc)
+overlong-is Unchanged h = absurd (let no : false ≡ true = h in cc)
+overlong-is Behind h = absurd (let no : false ≡ true = h in cc)
+overlong-is Held h = absurd (let no : false ≡ true = h in cc)
+overlong-is TooLong h = refl
+
+none-more : (xs : List Answer) (a : Answer) → list_any is_overlong xs ≡ false → is_overlong a ≡ false
+    → list_any is_overlong (xs ++ a ∷ []) ≡ false
+none-more [] a h k = or-none (is_overlong a) false k refl
+none-more (x ∷ xs) a h k =
+    or-none (is_overlong x) (list_any is_overlong (xs ++ a ∷ []))
+    (or-first (is_overlong x) (list_any is_overlong xs) h)
+    (none-more xs a (or-rest (is_overlong x) (list_any is_overlong xs) h) k)
+
+pub one-there : (front more : List Answer) → list_any is_overlong ((front ++ TooLong ∷ []) ++ more) ≡ true
+one-there [] more = refl
+one-there (x ∷ front) more =
+    or-last (is_overlong x) (list_any is_overlong ((front ++ TooLong ∷ []) ++ more)) (one-there front more)
+
+-- ---- pieces
 
 -- fed in pieces or at once
 pieces-join : (past : List ℕ) (s : State) (pieces : List (List ℕ))
@@ -56,6 +109,18 @@ module _ (rows cols : ℕ) where
       ∙ ap (λ xs. frames_from rows cols (past ++ p) next ps
       ++ frames_from rows cols xs (base_from rows cols (past ++ p) next ps) more) (append_assoc past p (concat ps)))
 
+  answers-later : (past : List ℕ) (base : Option Shown) (pieces more : List (List ℕ))
+      → answers_from rows cols past base (pieces ++ more)
+      ≡ answers_from rows cols past base pieces
+      ++ answers_from rows cols (past ++ concat pieces) (base_from rows cols past base pieces) more
+  answers-later past base [] more = ap (λ xs. answers_from rows cols xs base more) (sym (append-nil past))
+  answers-later past base (p ∷ ps) more =
+      let next = (asked rows cols (past ++ p) base).base in
+      ap (λ xs. answered rows cols (past ++ p) base ∷ xs)
+      (answers-later (past ++ p) next ps more
+      ∙ ap (λ xs. answers_from rows cols (past ++ p) next ps
+      ++ answers_from rows cols xs (base_from rows cols (past ++ p) next ps) more) (append_assoc past p (concat ps)))
+
   base-more : (past : List ℕ) (base : Option Shown) (pieces more : List (List ℕ))
       → base_from rows cols past base (pieces ++ more)
       ≡ base_from rows cols (past ++ concat pieces) (base_from rows cols past base pieces) more
@@ -71,6 +136,10 @@ module _ (rows cols : ℕ) where
       ≡ frames_of rows cols pieces ++ frames_from rows cols (concat pieces) (base_of rows cols pieces) more
   frames-more pieces more = from-more [] None pieces more
 
+  pub answers-more : (pieces more : List (List ℕ)) → answers_of rows cols (pieces ++ more)
+      ≡ answers_of rows cols pieces ++ answers_from rows cols (concat pieces) (base_of rows cols pieces) more
+  answers-more pieces more = answers-later [] None pieces more
+
   -- one piece more
   pub frames-push : (pieces : List (List ℕ)) (piece : List ℕ) (bytes : List ℕ)
       → bytes ≡ concat pieces ++ piece → frames_of rows cols (pieces ++ piece ∷ [])
@@ -78,6 +147,22 @@ module _ (rows cols : ℕ) where
   frames-push pieces piece bytes is =
       frames-more pieces (piece ∷ [])
       ∙ ap (λ xs. frames_of rows cols pieces ++ (asked rows cols xs (base_of rows cols pieces)).owed ∷ []) (sym is)
+
+  pub answers-push : (pieces : List (List ℕ)) (piece : List ℕ) (bytes : List ℕ)
+      → bytes ≡ concat pieces ++ piece → answers_of rows cols (pieces ++ piece ∷ [])
+      ≡ answers_of rows cols pieces ++ answered rows cols bytes (base_of rows cols pieces) ∷ []
+  answers-push pieces piece bytes is =
+      answers-more pieces (piece ∷ [])
+      ∙ ap (λ xs. answers_of rows cols pieces ++ answered rows cols xs (base_of rows cols pieces) ∷ []) (sym is)
+
+  -- where no frame is too long, and neither is that of one piece more
+  pub fits-push : (pieces : List (List ℕ)) (piece : List ℕ) (bytes : List ℕ) → bytes ≡ concat pieces ++ piece
+      → list_any is_overlong (answers_of rows cols pieces) ≡ false
+      → is_overlong (answered rows cols bytes (base_of rows cols pieces)) ≡ false
+      → list_any is_overlong (answers_of rows cols (pieces ++ piece ∷ [])) ≡ false
+  fits-push pieces piece bytes is fits last =
+      ap (λ (xs : List Answer). list_any is_overlong xs) (answers-push pieces piece bytes is)
+      ∙ none-more (answers_of rows cols pieces) (answered rows cols bytes (base_of rows cols pieces)) fits last
 
   pub base-push : (pieces : List (List ℕ)) (piece : List ℕ) (bytes : List ℕ)
       → bytes ≡ concat pieces ++ piece → base_of rows cols (pieces ++ piece ∷ [])

@@ -1,29 +1,33 @@
 -- What commands leave, where the source and the writer tell their bytes.
-use Rattle.std.proofs.Common.{◌≡◌, ℕ, List, [], ◌∷◌, ◌++◌, append_assoc, append-nil, Option, None, Some, Ok, Err}
+use Rattle.std.proofs.Common.{◌≡◌, ℕ, true, List, [], ◌∷◌, ◌++◌, append_assoc, append-nil, Option, None, Some, Ok, Err}
 use Rattle.std.proofs.Common.{Result, OnOk, IfSome, length, take, refl, sym}
 use Rattle.std.proofs.Common.{ap, ◌∙◌, subst, arith, IfErr}
 use Rattle.std.proofs.lemmas.List.{take_all}
-use Rattle.std.specs.List.{concat}
+use Rattle.std.specs.List.{concat, list_any}
 use Rattle.std.specs.Io.KnownBytes.{Appends, Keeps}
 use Rattle.std.specs.declared.io.Error.{Error}
 use Rattle.vt100_picture.specs.Term.{Size}
 use Rattle.relay_streams.specs.declared.error.RelayError.{RelayError}
-use Rattle.relay_streams.specs.declared.error.RelayError.TheVariants.{Write}
-use Rattle.relay_streams.specs.Fill.{Reads}
-use Rattle.vt100_state.specs.Holds.{IsSide}
+use Rattle.relay_streams.specs.declared.error.RelayError.TheVariants.{Read, Write, TooManyReads, FrameTooLong}
+use Rattle.relay_streams.specs.Fill.{Reads, FillEnd, Full, Ended, Failed, TooMany}
+use Rattle.relay_streams.specs.Frames.{is_overlong}
+use Rattle.termrelay.specs.declared.answer.Answer.{Answer}
+use Rattle.termrelay.specs.declared.answer.Answer.TheVariants.{TooLong}
+use Rattle.faithful.specs.History.{Story}
 use Rattle.takers.specs.Output.{TakesFront}
-use Rattle.relay_streams.specs.Pieces.{pieces_of, piece_len, Drained}
+use Rattle.relay_streams.specs.Pieces.{pieces_of, piece_len, outcome_of, Drained}
 use Rattle.relay_streams.specs.Relayed as relayed
 use Rattle.relay_streams.specs.Relayed.{Streams, Relays}
-use Rattle.relay_streams.specs.Sessions.{AreRelayed, IsRelayText}
+use Rattle.relay_streams.specs.Sessions.{IsRelayed, has_overlong, AreRelayed, EndsOverlong, IsRelayText}
 use Rattle.takers.specs.Sent.{Sends}
 use Rattle.takers.specs.Pump.{Writes}
 use Rattle.relay_streams.specs.Shown as shown
 use Rattle.relay_streams.specs.Shown.{IsShown, Prints, Shows, sized}
 use Rattle.takers.proofs.AppendLemmas.{TakesFront-none, TakesFront-longer}
 use Rattle.relay_streams.proofs.PieceLemmas.{drained-pieces, drained-front, begun-front, begun-well}
-use Rattle.relay_streams.proofs.FrameLists.{frames_of, frames_from, base_of, relay_text, frames-more}
-use Rattle.relay_streams.proofs.SessionLemmas.{frames-of, text-is-relayed, text-of}
+use Rattle.relay_streams.proofs.FrameLists.{frames_of, frames_from, answers_of, answers_from, base_of, relay_text}
+use Rattle.relay_streams.proofs.FrameLists.{frames-more, answers-more, one-there}
+use Rattle.relay_streams.proofs.SessionLemmas.{relayed-answers, frames-of, pumped-of, overlong-of, relayed-as}
 use Rattle.takers.proofs.SendLemmas.{sends-appends, sends-front, text-appends, text-front}
 use Rattle.relay_streams.proofs.LawLemmas.{texts_are_one}
 
@@ -48,6 +52,16 @@ Keeps-front a b c xs (n, took) k = (n, Appends-kept a b c (take n xs) took k)
 concat-more : (xs ys : List (List ℕ)) → concat (xs ++ ys) ≡ concat xs ++ concat ys
 concat-more [] ys = refl
 concat-more (x ∷ xs) ys = ap (λ zs. x ++ zs) (concat-more xs ys) ∙ sym (append_assoc x (concat xs) (concat ys))
+
+abbrev stop : RelayError → Result (Unit {0}) RelayError
+stop e = Err e
+
+-- a fault of reading is no other one
+no-read : (end : FillEnd) (e : RelayError) → stop e ≡ outcome_of end → stop e ≡ stop FrameTooLong → ⊥
+no-read Full e is long = absurd (cc)
+no-read Ended e is long = absurd (cc)
+no-read Failed e is long = absurd (let no : stop Read ≡ stop FrameTooLong = sym is ∙ long in cc)
+no-read TooMany e is long = absurd (let no : stop TooManyReads ≡ stop FrameTooLong = sym is ∙ long in cc)
 
 module _ (S W : Type 0) (gives : S → ℕ → Result (List ℕ) Error → S → Type 0)
     (takes : W → List ℕ → Result ℕ Error → W → Type 0) (flushes : W → Result (Unit {0}) Error → W → Type 0)
@@ -83,6 +97,9 @@ module _ (S W : Type 0) (gives : S → ℕ → Result (List ℕ) Error → S →
     streams-front rows cols s w answer t v bytes (relayed.unmade pieces frames piece b are sends) is =
         front-of rows cols w v pieces frames (Ok tt) bytes are sends
         (begun-front S gives left gave s pieces piece t bytes b is)
+    streams-front rows cols s w answer t v bytes (relayed.overlong pieces frames piece b are ends sends) is =
+        front-of rows cols w v pieces frames (Ok tt) bytes are sends
+        (begun-front S gives left gave s pieces piece t bytes b is)
     streams-front rows cols s w answer t v bytes (relayed.stopped pieces frames e b are sends) is =
         front-of rows cols w v pieces frames (Err e) bytes are sends
         (begun-well S gives left gave s pieces t bytes b is)
@@ -92,56 +109,96 @@ module _ (S W : Type 0) (gives : S → ℕ → Result (List ℕ) Error → S →
 
     streams-whole : (rows cols : ℕ) (s : S) (w : W) (answer : Result (Unit {0}) RelayError) (t : S) (v : W)
         (bytes : List ℕ) → Streams gives takes rows cols s w answer t v → answer ≡ Ok tt → left s ≡ Some bytes
-        → Appends (contents w) (contents v) (relay_text rows cols bytes)
+        → (text : List ℕ) × IsRelayText rows cols bytes text × Appends (contents w) (contents v) text
     streams-whole rows cols s w answer t v bytes (relayed.unread pieces frames rest e d are sends) ok is = absurd (cc)
     streams-whole rows cols s w answer t v bytes (relayed.unmade pieces frames piece b are sends) ok is = absurd (cc)
+    streams-whole rows cols s w answer t v bytes (relayed.overlong pieces frames piece b are ends sends) ok is =
+        absurd (cc)
     streams-whole rows cols s w answer t v bytes (relayed.stopped pieces frames e b are sends) ok is = absurd (cc)
-    streams-whole rows cols s w answer t v bytes (relayed.sent pieces frames d are sends) ok is =
-        let same : concat frames ≡ relay_text rows cols bytes =
-        ap concat (frames-of rows cols pieces frames are)
-        ∙ ap (λ (ps : List (List ℕ)). concat (frames_of rows cols ps))
-        (drained-pieces S gives left gave s pieces t bytes d is) in
-        subst (λ (text : List ℕ). Appends (contents w) (contents v) text) same
-        (sends-appends W takes contents took w v frames (Ok tt) sends refl)
+    streams-whole rows cols s w answer t v bytes (relayed.sent pieces frames d are sends) ok is = (
+      concat frames,
+      relayed-as rows cols bytes pieces frames (concat frames) are
+          (drained-pieces S gives left gave s pieces t bytes d is) refl,
+      sends-appends W takes contents took w v frames (Ok tt) sends refl,
+    )
 
     pub relays-text : (rows cols : ℕ) (s : S) (w : W) (answer : Result (Unit {0}) RelayError) (t : S) (v : W)
-        → IsSide rows → IsSide cols → Relays gives takes flushes rows cols s w answer t v
+        → Relays gives takes flushes rows cols s w answer t v
         → OnOk answer (IfSome (left s) (λ bytes. (text : List ℕ) × IsRelayText rows cols bytes text
         × Appends (contents w) (contents v) text))
-    relays-text rows cols s w answer t v height width relayed.refused = tt
-    relays-text rows cols s w answer t v height width (relayed.broken e stream) = tt
-    relays-text rows cols s w answer t v height width (relayed.unflushed m e stream flush) = tt
-    relays-text rows cols s w answer t v height width (relayed.written m stream flush) =
-        if_known (left s) _ (λ bytes is. (
-          relay_text rows cols bytes,
-          text-is-relayed rows cols bytes height width,
-          Appends-kept (contents w) (contents m) (contents v) (relay_text rows cols bytes)
-              (streams-whole rows cols s w (Ok tt) t m bytes stream refl is) (flushed m (Ok tt) v flush),
+    relays-text rows cols s w answer t v relayed.refused = tt
+    relays-text rows cols s w answer t v (relayed.broken e stream) = tt
+    relays-text rows cols s w answer t v (relayed.unflushed m e stream flush) = tt
+    relays-text rows cols s w answer t v (relayed.written m stream flush) =
+        if_known (left s) _ (λ bytes is.
+        let whole = streams-whole rows cols s w (Ok tt) t m bytes stream refl is in (
+          whole.0,
+          whole.1,
+          Appends-kept (contents w) (contents m) (contents v) whole.0 whole.2 (flushed m (Ok tt) v flush),
         ))
 
     -- what was written is a front of the one text
-    fronts : (rows cols : ℕ) (w v : W) (bytes text : List ℕ) → IsRelayText rows cols bytes text
-        → TakesFront (contents w) (contents v) (relay_text rows cols bytes) → TakesFront (contents w) (contents v) text
-    fronts rows cols w v bytes text is took =
-        subst (TakesFront (contents w) (contents v)) (sym (text-of rows cols bytes text is)) took
+    fronts : (rows cols key : ℕ) (w v : W) (bytes : List ℕ) (t : Story) → IsRelayed rows cols key (pieces_of bytes) t
+        → TakesFront (contents w) (contents v) (relay_text rows cols bytes)
+        → TakesFront (contents w) (contents v) t.session.pumped
+    fronts rows cols key w v bytes t is took =
+        subst (TakesFront (contents w) (contents v)) (sym (pumped-of rows cols key bytes t is)) took
 
     pub relays-front : (rows cols : ℕ) (s : S) (w : W) (answer : Result (Unit {0}) RelayError) (t : S) (v : W)
         → Relays gives takes flushes rows cols s w answer t v
-        → IfSome (left s) (λ bytes. (text : List ℕ) → IsRelayText rows cols bytes text
-        → TakesFront (contents w) (contents v) text)
+        → IfSome (left s) (λ bytes. (key : ℕ) (u : Story) → IsRelayed rows cols key (pieces_of bytes) u
+        → TakesFront (contents w) (contents v) u.session.pumped)
     relays-front rows cols s w answer t v relayed.refused =
-        if_known (left s) _ (λ bytes is text so. TakesFront-none (contents w) text)
+        if_known (left s) _ (λ bytes is key u so. TakesFront-none (contents w) u.session.pumped)
     relays-front rows cols s w answer t v (relayed.broken e stream) =
-        if_known (left s) _ (λ bytes is text so. fronts rows cols w v bytes text so
+        if_known (left s) _ (λ bytes is key u so. fronts rows cols key w v bytes u so
         (streams-front rows cols s w (Err e) t v bytes stream is))
     relays-front rows cols s w answer t v (relayed.unflushed m e stream flush) =
-        if_known (left s) _ (λ bytes is text so. fronts rows cols w v bytes text so
+        if_known (left s) _ (λ bytes is key u so. fronts rows cols key w v bytes u so
         (Keeps-front (contents w) (contents m) (contents v) (relay_text rows cols bytes)
         (streams-front rows cols s w (Ok tt) t m bytes stream is) (flushed m (Err e) v flush)))
     relays-front rows cols s w answer t v (relayed.written m stream flush) =
-        if_known (left s) _ (λ bytes is text so. fronts rows cols w v bytes text so
+        if_known (left s) _ (λ bytes is key u so. fronts rows cols key w v bytes u so
         (Keeps-front (contents w) (contents m) (contents v) (relay_text rows cols bytes)
         (streams-front rows cols s w (Ok tt) t m bytes stream is) (flushed m (Ok tt) v flush)))
+
+    -- where the frame of one of the first pieces would be too long, one of the whole input's would be
+    long-front : (rows cols key : ℕ) (pieces more all : List (List ℕ)) (u : Story) → EndsOverlong rows cols pieces
+        → all ≡ pieces ++ more → IsRelayed rows cols key all u → has_overlong u ≡ true
+    long-front rows cols key pieces more all u ends are is =
+        let rest = answers_from rows cols (concat pieces) (base_of rows cols pieces) more in
+        let first : answers_of rows cols pieces ≡ ends.front ++ TooLong ∷ [] =
+        sym (relayed-answers rows cols ends.key pieces ends.story ends.is) ∙ ends.answers in
+        let whole : answers_of rows cols all ≡ (ends.front ++ TooLong ∷ []) ++ rest =
+        ap (answers_of rows cols) are ∙ answers-more rows cols pieces more
+        ∙ ap (λ (xs : List Answer). xs ++ rest) first in
+        overlong-of rows cols key all u is ∙ ap (λ (xs : List Answer). list_any is_overlong xs) whole
+        ∙ one-there ends.front rest
+
+    streams-long : (rows cols : ℕ) (s : S) (w : W) (answer : Result (Unit {0}) RelayError) (t : S) (v : W)
+        (bytes : List ℕ) → Streams gives takes rows cols s w answer t v → answer ≡ Err FrameTooLong
+        → left s ≡ Some bytes → (key : ℕ) (u : Story) → IsRelayed rows cols key (pieces_of bytes) u
+        → has_overlong u ≡ true
+    streams-long rows cols s w answer t v bytes (relayed.unread pieces frames rest e d are sends) long is key u so =
+        absurd (no-read d.end e d.answered long)
+    streams-long rows cols s w answer t v bytes (relayed.unmade pieces frames piece b are sends) long is key u so =
+        absurd (cc)
+    streams-long rows cols s w answer t v bytes (relayed.overlong pieces frames piece b are ends sends) long is key u so =
+        let more = begun-well S gives left gave s (pieces ++ piece ∷ []) t bytes b is in
+        long-front rows cols key (pieces ++ piece ∷ []) more.0 (pieces_of bytes) u ends more.1 so
+    streams-long rows cols s w answer t v bytes (relayed.stopped pieces frames e b are sends) long is key u so =
+        absurd (cc)
+    streams-long rows cols s w answer t v bytes (relayed.sent pieces frames d are sends) long is key u so = absurd (cc)
+
+    pub relays-long : (rows cols : ℕ) (s : S) (w : W) (answer : Result (Unit {0}) RelayError) (t : S) (v : W)
+        → Relays gives takes flushes rows cols s w answer t v → answer ≡ Err FrameTooLong
+        → IfSome (left s) (λ bytes. (key : ℕ) (u : Story) → IsRelayed rows cols key (pieces_of bytes) u
+        → has_overlong u ≡ true)
+    relays-long rows cols s w answer t v relayed.refused long = absurd (cc)
+    relays-long rows cols s w answer t v (relayed.broken e stream) long =
+        if_known (left s) _ (λ bytes is key u so. streams-long rows cols s w (Err e) t v bytes stream long is key u so)
+    relays-long rows cols s w answer t v (relayed.unflushed m e stream flush) long = absurd (cc)
+    relays-long rows cols s w answer t v (relayed.written m stream flush) long = absurd (cc)
 
     pub prints-text : (w : W) (text : List ℕ) (answer : Result (Unit {0}) RelayError) (v : W)
         → Prints takes flushes w text answer v → OnOk answer (Appends (contents w) (contents v) text)

@@ -1,5 +1,5 @@
 -- What is relayed is a session of a history.
-use Rattle.std.proofs.Common.{◌≡◌, ◌∙◌, ℕ, zero, suc, ◌+◌, ◌<◌, Bool, true, false, ◌||◌, List, [], ◌∷◌, ◌++◌, map, take, drop}
+use Rattle.std.proofs.Common.{◌≡◌, ◌∙◌, ℕ, zero, suc, ◌+◌, ◌<◌, Bool, true, false, List, [], ◌∷◌, ◌++◌, map, take, drop}
 use Rattle.std.proofs.Common.{length, min, Option, Some, None, Result, Ok, Err, refl, sym, ap, subst, arith}
 use Rattle.std.proofs.Common.{if◌then◌else◌, append_assoc, append-nil}
 use Rattle.std.proofs.lemmas.List.{drop_all, take_all, map-append, length-map}
@@ -37,24 +37,17 @@ use Rattle.faithful.specs.Judge.{texts}
 use Rattle.faithful.proofs.HeadlineLemmas.{last-shown}
 use Rattle.termview.specs.Seen.{seen}
 use Rattle.relay_streams.specs.Laws.{RelayedFrontsAreShown}
-use Rattle.relay_streams.specs.Frames.{state_after, idle, asked, asked_on}
+use Rattle.relay_streams.specs.Frames.{state_after, idle, answered, answer_on, asked, asked_on, is_overlong}
 use Rattle.relay_streams.specs.Pieces.{pieces_of}
 use Rattle.relay_streams.specs.Shown.{sized}
-use Rattle.relay_streams.specs.Sessions.{turn_calls, relay_calls, is_refused, IsRelayed, texts_of, AreRelayed}
-use Rattle.relay_streams.specs.Sessions.{IsRelayText, EachRelayIsASession, EachRelayIsPumped, RelayedAreOne}
-use Rattle.relay_streams.specs.Sessions.{RelayTextsAreOne}
-use Rattle.relay_streams.proofs.FrameLists.{frames_from, frames_of, relay_text, pieces-make}
+use Rattle.relay_streams.specs.Sessions.{turn_calls, relay_calls, is_refused, IsRelayed, answers_in, texts_of, AreRelayed}
+use Rattle.relay_streams.specs.Sessions.{has_overlong, IsRelayText, EndsOverlong, EachRelayIsASession, EachRelayIsPumped}
+use Rattle.relay_streams.specs.Sessions.{RelayedAreOne, RelayTextsAreOne}
+use Rattle.relay_streams.proofs.FrameLists.{frames_from, frames_of, answers_from, answers_of, base_of, relay_text}
+use Rattle.relay_streams.proofs.FrameLists.{answers-push, overlong-is, or-first, or-rest, pieces-make}
 use Rattle.relay_streams.proofs.PieceLemmas.{concat-push}
 
 -- ---- replies
-
-or-first : (a b : Bool) → (a || b) ≡ false → a ≡ false
-or-first true b h = absurd (let no : true ≡ false = h in cc)
-or-first false b h = refl
-
-or-rest : (a b : Bool) → (a || b) ≡ false → b ≡ false
-or-rest true b h = absurd (let no : true ≡ false = h in cc)
-or-rest false b h = h
 
 not-refused : (r : Reply) (e : HubError) → r ≡ Refused e → is_refused r ≡ false → ⊥
 not-refused r e is h = let no : true ≡ false = ap is_refused (sym is) ∙ h in absurd (cc)
@@ -120,9 +113,12 @@ module _ (rows cols key : ℕ) where
   state-at past h e =
       ap (λ (p : Past). made p.rows p.cols 0 p.acts) e ∙ pieces-make rows cols past
 
-  -- the client once it has asked
+  -- the client once it has asked, and what it is answered
   abbrev next : List (List ℕ) → List ℕ → Option Shown → ClientState
   next past p base = asked rows cols (concat past ++ p) base
+
+  abbrev said : List (List ℕ) → List ℕ → Option Shown → Answer
+  said past p base = answered rows cols (concat past ++ p) base
 
   -- a piece more is fed
   fed-at : (past : List (List ℕ)) (p : List ℕ) (h g : HubState as_told) → h.parser ≡ past_of past
@@ -131,18 +127,26 @@ module _ (rows cols key : ℕ) where
       f ∙ ap (λ (q : Past). record q { acts = q.acts ++ Fed p ∷ [] }) e
       ∙ ap (λ (acts : List Act). record (past_of past) { acts = acts }) (sym (map-append Fed past (p ∷ [])))
 
+  state-next : (past : List (List ℕ)) (p : List ℕ) (g : HubState as_told) → g.parser ≡ past_of (past ++ p ∷ [])
+      → (screen_in g).state ≡ state_after rows cols (concat past ++ p)
+  state-next past p g e = state-at (past ++ p ∷ []) g e ∙ ap (state_after rows cols) (concat-push past p)
+
   asked-at : (past : List (List ℕ)) (p : List ℕ) (base : Option Shown) (g : HubState as_told)
       → g.parser ≡ past_of (past ++ p ∷ []) → asked_on (screen_in g).state base ≡ next past p base
   unfolding asked
-  asked-at past p base g e =
-      ap (λ (s : State). asked_on s base)
-      (state-at (past ++ p ∷ []) g e ∙ ap (state_after rows cols) (concat-push past p))
+  asked-at past p base g e = ap (λ (s : State). asked_on s base) (state-next past p g e)
+
+  answered-at : (past : List (List ℕ)) (p : List ℕ) (base : Option Shown) (g : HubState as_told)
+      → g.parser ≡ past_of (past ++ p ∷ []) → answer_on (screen_in g).state base ≡ said past p base
+  unfolding answered
+  answered-at past p base g e = ap (λ (s : State). answer_on s base) (state-next past p g e)
 
   -- ---- a turn
 
   -- what a turn makes of the story
-  pub record HasTurned (t u : Story) (c : ClientState) (moment : List Act) : Type 0 where
+  pub record HasTurned (t u : Story) (c : ClientState) (moment : List Act) (answer : Answer) : Type 0 where
     pub texts : texts_of u ≡ texts_of t ++ c.owed ∷ []
+    pub answers : answers_in u ≡ answers_in t ++ answer ∷ []
     pub moments : moments_of u ≡ moments_of t ++ moment ∷ []
     pub pumped : u.session.pumped ≡ t.session.pumped ++ c.owed
     pub high : u.session.rows ≡ t.session.rows
@@ -152,9 +156,11 @@ module _ (rows cols key : ℕ) where
   abbrev turned : Entry → ClientState → Story → Story
   turned e c t = with_session (grown c.owed) (with_entries (e ∷ []) t)
 
-  has-turned : (t : Story) (e : Entry) (c : ClientState) → e.text ≡ c.owed → HasTurned t (turned e c t) c e.moment
+  has-turned : (t : Story) (e : Entry) (c : ClientState) → e.text ≡ c.owed
+      → HasTurned t (turned e c t) c e.moment e.answer
   has-turned t e c is = record {
     texts = map-append (λ (x : Entry). x.text) t.entries (e ∷ []) ∙ ap (λ xs. texts_of t ++ xs ∷ []) is;
+    answers = map-append (λ (x : Entry). x.answer) t.entries (e ∷ []);
     moments = map-append (λ (x : Entry). x.moment) t.entries (e ∷ []);
     pumped = refl;
     high = refl;
@@ -167,7 +173,7 @@ module _ (rows cols key : ℕ) where
     pub story : Story
     pub are : us ≡ story ∷ []
     pub at : IsAt (past ++ p ∷ []) (next past p base).base g story
-    pub has : HasTurned t story (next past p base) (map Fed (past ++ p ∷ []))
+    pub has : HasTurned t story (next past p base) (map Fed (past ++ p ∷ [])) (said past p base)
 
   module _ (past : List (List ℕ)) (p : List ℕ) (base : Option Shown) (t : Story) (on : is_on key t ≡ true)
       (g k l : HubState as_told) (fed : g.parser ≡ past_of (past ++ p ∷ [])) (client : g.clients key ≡ Some (idle base))
@@ -191,6 +197,10 @@ module _ (rows cols key : ℕ) where
     text : e.text ≡ c.owed
     unfolding c e
     text = owed-text (size_in g) (shown_in g) base (is_frame answer)
+
+    told : e.answer ≡ said past p base
+    unfolding e
+    told = is ∙ answered-at past p base g fed
 
     moment : e.moment ≡ map Fed (past ++ p ∷ [])
     unfolding e
@@ -242,8 +252,9 @@ module _ (rows cols key : ℕ) where
         client = at-pump ∙ ap (λ (d : ClientState). Some (idle d.base)) after;
         on = on;
       };
-      has = subst (λ (d : ClientState). HasTurned t (turned e c t) d (map Fed (past ++ p ∷ []))) after
-          (subst (λ (acts : List Act). HasTurned t (turned e c t) c acts) moment (has-turned t e c text));
+      has = subst (λ (d : ClientState). HasTurned t (turned e c t) d (map Fed (past ++ p ∷ [])) (said past p base)) after
+          (subst (λ (acts : List Act). HasTurned t (turned e c t) c acts (said past p base)) moment
+          (subst (λ (a : Answer). HasTurned t (turned e c t) c e.moment a) told (has-turned t e c text)));
     }
 
   -- whatever a turn's calls are answered, where none is refused
@@ -286,23 +297,28 @@ module _ (rows cols key : ℕ) where
     pub story : Story
     pub are : us ≡ story ∷ []
     pub texts : texts_of story ≡ texts_of t ++ frames_from rows cols (concat past) base pieces
+    pub answers : answers_in story ≡ answers_in t ++ answers_from rows cols (concat past) base pieces
     pub moments : moments_of story ≡ moments_of t ++ moments_from past pieces
     pub pumped : story.session.pumped ≡ t.session.pumped ++ concat (frames_from rows cols (concat past) base pieces)
     pub high : story.session.rows ≡ t.session.rows
     pub wide : story.session.cols ≡ t.session.cols
 
   ran-more : (past : List (List ℕ)) (p : List ℕ) (base : Option Shown) (t u : Story) (pieces : List (List ℕ))
-      (us : List Story) → HasTurned t u (next past p base) (map Fed (past ++ p ∷ [])) → Ran (past ++ p ∷ []) (next past p base).base u pieces us
-      → Ran past base t (p ∷ pieces) us
+      (us : List Story) → HasTurned t u (next past p base) (map Fed (past ++ p ∷ [])) (said past p base)
+      → Ran (past ++ p ∷ []) (next past p base).base u pieces us → Ran past base t (p ∷ pieces) us
   ran-more past p base t u pieces us h r =
       let c = next past p base in
       let rest = λ (bytes : List ℕ). frames_from rows cols bytes c.base pieces in
       let same : rest (concat (past ++ p ∷ [])) ≡ rest (concat past ++ p) = ap rest (concat-push past p) in
+      let more = λ (bytes : List ℕ). answers_from rows cols bytes c.base pieces in
+      let told : more (concat (past ++ p ∷ [])) ≡ more (concat past ++ p) = ap more (concat-push past p) in
       record {
         story = r.story;
         are = r.are;
         texts = r.texts ∙ ap (λ fs. texts_of u ++ fs) same ∙ ap (λ xs. xs ++ rest (concat past ++ p)) h.texts
             ∙ append_assoc (texts_of t) (c.owed ∷ []) (rest (concat past ++ p));
+        answers = r.answers ∙ ap (λ xs. answers_in u ++ xs) told ∙ ap (λ xs. xs ++ more (concat past ++ p)) h.answers
+            ∙ append_assoc (answers_in t) (said past p base ∷ []) (more (concat past ++ p));
         moments = r.moments ∙ ap (λ xs. xs ++ moments_from (past ++ p ∷ []) pieces) h.moments
             ∙ append_assoc (moments_of t) (map Fed (past ++ p ∷ []) ∷ []) (moments_from (past ++ p ∷ []) pieces);
         pumped = r.pumped ∙ ap (λ fs. u.session.pumped ++ concat fs) same
@@ -320,6 +336,7 @@ module _ (rows cols key : ℕ) where
     story = t;
     are = run.1 ∙ are;
     texts = sym (append-nil (texts_of t));
+    answers = sym (append-nil (answers_in t));
     moments = sym (append-nil (moments_of t));
     pumped = sym (append-nil t.session.pumped);
     high = refl;
@@ -374,6 +391,7 @@ module _ (rows cols key : ℕ) where
       → RunsTold (fresh rows cols) [] (relay_calls key pieces) (Attached key ∷ replies) h ts → slice_get ts 0 ≡ Some t
       → (size_of_story t ≡ sized rows cols) × (texts_of t ≡ frames_of rows cols pieces)
       × (t.session.pumped ≡ concat (frames_of rows cols pieces)) × (moments_of t ≡ moments_from [] pieces)
+      × (answers_in t ≡ answers_of rows cols pieces)
   told-by pieces t replies h ts height width ok (g, is, (result, f, e), run) at =
       let r = ran-by [] None first pieces g h (first ∷ []) ts replies (first-at result g f e) refl ok run in
       let same = only ts t r.story r.are at in
@@ -383,6 +401,7 @@ module _ (rows cols key : ℕ) where
         ap (λ (u : Story). texts_of u) same ∙ r.texts,
         ap (λ (u : Story). u.session.pumped) same ∙ r.pumped,
         ap (λ (u : Story). moments_of u) same ∙ r.moments,
+        ap (λ (u : Story). answers_in u) same ∙ r.answers,
       )
 
   -- ---- there is one
@@ -471,6 +490,7 @@ relays-are-sessions rows cols key pieces height width = one-relayed rows cols ke
 relayed-by : (rows cols key : ℕ) (pieces : List (List ℕ)) (t : Story) → IsRelayed rows cols key pieces t
     → (size_of_story t ≡ sized rows cols) × (texts_of t ≡ frames_of rows cols pieces)
     × (t.session.pumped ≡ concat (frames_of rows cols pieces)) × (moments_of t ≡ moments_from [] pieces)
+    × (answers_in t ≡ answers_of rows cols pieces)
 relayed-by rows cols key pieces t r =
     let s = r.session in
     told-by rows cols key pieces t r.replies s.hub s.stories s.height s.width r.served s.ran s.is
@@ -509,40 +529,91 @@ relays-are-pumped rows cols key pieces t r =
       pumped = by.2 ∙ ap concat (sym by.1) ∙ texts-joined t.entries;
     }
 
+pub relayed-answers : (rows cols key : ℕ) (pieces : List (List ℕ)) (t : Story) → IsRelayed rows cols key pieces t
+    → answers_in t ≡ answers_of rows cols pieces
+relayed-answers rows cols key pieces t r = (relayed-by rows cols key pieces t r).4
+
+-- whether a frame would be too long
+pub overlong-of : (rows cols key : ℕ) (pieces : List (List ℕ)) (t : Story) → IsRelayed rows cols key pieces t
+    → has_overlong t ≡ list_any is_overlong (answers_of rows cols pieces)
+overlong-of rows cols key pieces t r =
+    ap (λ (xs : List Answer). list_any is_overlong xs) (relayed-answers rows cols key pieces t r)
+
 pub frames-are-relayed : (rows cols : ℕ) (pieces : List (List ℕ)) → IsSide rows → IsSide cols
+    → list_any is_overlong (answers_of rows cols pieces) ≡ false
     → AreRelayed rows cols pieces (frames_of rows cols pieces)
-frames-are-relayed rows cols pieces height width =
+frames-are-relayed rows cols pieces height width fit =
     let one = one-relayed rows cols 0 pieces height width in
-    record { key = 0; story = one.0; is = one.1; texts = (relayed-by rows cols 0 pieces one.0 one.1).1 }
+    record {
+      key = 0;
+      story = one.0;
+      is = one.1;
+      fits = overlong-of rows cols 0 pieces one.0 one.1 ∙ fit;
+      texts = (relayed-by rows cols 0 pieces one.0 one.1).1;
+    }
+
+pub ends-overlong : (rows cols : ℕ) (pieces : List (List ℕ)) (piece bytes : List ℕ) → IsSide rows → IsSide cols
+    → bytes ≡ concat pieces ++ piece → is_overlong (answered rows cols bytes (base_of rows cols pieces)) ≡ true
+    → EndsOverlong rows cols (pieces ++ piece ∷ [])
+ends-overlong rows cols pieces piece bytes height width is long =
+    let all = pieces ++ piece ∷ [] in
+    let one = one-relayed rows cols 0 all height width in
+    record {
+      key = 0;
+      story = one.0;
+      is = one.1;
+      front = answers_of rows cols pieces;
+      answers = relayed-answers rows cols 0 all one.0 one.1 ∙ answers-push rows cols pieces piece bytes is
+          ∙ ap (λ (a : Answer). answers_of rows cols pieces ++ a ∷ [])
+          (overlong-is (answered rows cols bytes (base_of rows cols pieces)) long);
+    }
 
 pub frames-of : (rows cols : ℕ) (pieces frames : List (List ℕ)) → AreRelayed rows cols pieces frames
     → frames ≡ frames_of rows cols pieces
 frames-of rows cols pieces frames r = sym r.texts ∙ (relayed-by rows cols r.key pieces r.story r.is).1
 
-pub text-is-relayed : (rows cols : ℕ) (input : List ℕ) → IsSide rows → IsSide cols
-    → IsRelayText rows cols input (relay_text rows cols input)
-text-is-relayed rows cols input height width =
-    let one = one-relayed rows cols 0 (pieces_of input) height width in
-    record { key = 0; story = one.0; is = one.1; pumped = (relayed-by rows cols 0 (pieces_of input) one.0 one.1).2 }
+pub pumped-of : (rows cols key : ℕ) (input : List ℕ) (t : Story) → IsRelayed rows cols key (pieces_of input) t
+    → t.session.pumped ≡ relay_text rows cols input
+pumped-of rows cols key input t r = (relayed-by rows cols key (pieces_of input) t r).2
 
 pub text-of : (rows cols : ℕ) (input text : List ℕ) → IsRelayText rows cols input text
     → text ≡ relay_text rows cols input
-text-of rows cols input text r = sym r.pumped ∙ (relayed-by rows cols r.key (pieces_of input) r.story r.is).2
+text-of rows cols input text r = sym r.pumped ∙ pumped-of rows cols r.key input r.story r.is
 
 -- the texts that are relayed of an input's pieces, joined
 pub relayed-as : (rows cols : ℕ) (input : List ℕ) (pieces frames : List (List ℕ)) (text : List ℕ)
     → AreRelayed rows cols pieces frames → pieces ≡ pieces_of input → text ≡ concat frames
     → IsRelayText rows cols input text
 relayed-as rows cols input pieces frames text are cut joined =
-    let s = are.is.session in
-    let same : text ≡ relay_text rows cols input =
-    joined ∙ ap concat (frames-of rows cols pieces frames are)
-    ∙ ap (λ (ps : List (List ℕ)). concat (frames_of rows cols ps)) cut in
-    subst (λ (xs : List ℕ). IsRelayText rows cols input xs) (sym same)
-    (text-is-relayed rows cols input s.height s.width)
+    let by = relayed-by rows cols are.key pieces are.story are.is in
+    record {
+      key = are.key;
+      story = are.story;
+      is = subst (λ (ps : List (List ℕ)). IsRelayed rows cols are.key ps are.story) cut are.is;
+      fits = are.fits;
+      pumped = by.2 ∙ ap concat (sym by.1 ∙ are.texts) ∙ sym joined;
+    }
+
+entries-same : (es fs : List Entry) → map (λ e. e.moment) es ≡ map (λ e. e.moment) fs
+    → map (λ e. e.answer) es ≡ map (λ e. e.answer) fs → map (λ e. e.text) es ≡ map (λ e. e.text) fs → es ≡ fs
+entries-same [] [] m a t = refl
+entries-same [] (f ∷ fs) m a t = absurd (cc)
+entries-same (e ∷ es) [] m a t = absurd (cc)
+entries-same (e ∷ es) (f ∷ fs) m a t =
+    let moment : e.moment ≡ f.moment = cc in
+    let answer : e.answer ≡ f.answer = cc in
+    let text : e.text ≡ f.text = cc in
+    let moments : map (λ (x : Entry). x.moment) es ≡ map (λ (x : Entry). x.moment) fs = cc in
+    let answers : map (λ (x : Entry). x.answer) es ≡ map (λ (x : Entry). x.answer) fs = cc in
+    let texts : map (λ (x : Entry). x.text) es ≡ map (λ (x : Entry). x.text) fs = cc in
+    let one : e ≡ f = λ i. record { moment = moment i; answer = answer i; text = text i } in
+    ap (λ x. x ∷ es) one ∙ ap (λ xs. f ∷ xs) (entries-same es fs moments answers texts)
 
 pub relayed-are-one : RelayedAreOne
-relayed-are-one rows cols pieces fs gs a b = frames-of rows cols pieces fs a ∙ sym (frames-of rows cols pieces gs b)
+relayed-are-one rows cols key other pieces t u r s =
+    let a = relayed-by rows cols key pieces t r in
+    let b = relayed-by rows cols other pieces u s in
+    (entries-same t.entries u.entries (a.3 ∙ sym b.3) (a.4 ∙ sym b.4) (a.1 ∙ sym b.1), a.2 ∙ sym b.2)
 
 pub relay-texts-are-one : RelayTextsAreOne
 relay-texts-are-one rows cols input a b r s = text-of rows cols input a r ∙ sym (text-of rows cols input b s)
@@ -550,15 +621,14 @@ relay-texts-are-one rows cols input a b r s = text-of rows cols input a r ∙ sy
 -- ---- any front of it
 
 pub fronts-shown : RelayedFrontsAreShown
-fronts-shown rows cols input relayed beyond parsed pieces hold r joined leads short sure =
+fronts-shown rows cols key input beyond parsed pieces hold t r joined leads sure =
     let cut = pieces_of input in
-    let size = (relayed-by rows cols r.key cut r.story r.is).0 in
+    let size = (relayed-by rows cols key cut t r).0 in
     ap (λ (z : Size). shown_of (seen z parsed)) (sym size)
-    ∙ last-shown rows cols (relay_calls r.key cut) (Attached r.key ∷ r.is.replies) 0 r.story pieces parsed (record {
-      session = r.is.session;
+    ∙ last-shown rows cols (relay_calls key cut) (Attached key ∷ r.replies) 0 t pieces parsed (record {
+      session = r.session;
       beyond = beyond;
-      pumped = joined ∙ sym r.pumped;
-      short = short;
+      pumped = joined;
       hold = hold;
       leads = leads;
     }) sure

@@ -1,23 +1,23 @@
 -- Turns after turns.
-use Rattle.std.proofs.Common.{◌≡◌, ℕ, List, [], ◌∷◌, ◌++◌, Option, Ok, Err, Result, refl, sym, subst}
-use Rattle.std.specs.List.{concat}
+use Rattle.std.proofs.Common.{◌≡◌, ℕ, false, List, [], ◌∷◌, ◌++◌, Option, Ok, Err, Result, refl, sym, subst}
+use Rattle.std.specs.List.{concat, list_any}
 use Rattle.std.specs.declared.io.Error.{Error}
 use Rattle.vt100_picture.specs.Term.{Shown}
 use Rattle.termrelay.specs.Hub.{HubState, as_kept, Attaches}
 use Rattle.termrelay.specs.declared.error.HubError.{HubError}
 use Rattle.termrelay.specs.declared.error.HubError.TheVariants as hub
 use Rattle.relay_streams.specs.declared.error.RelayError.{RelayError}
-use Rattle.relay_streams.specs.declared.error.RelayError.TheVariants.{Read, Write, Memory, TooManyReads}
+use Rattle.relay_streams.specs.declared.error.RelayError.TheVariants.{Read, Write, Memory, TooManyReads, FrameTooLong}
 use Rattle.vt100_state.specs.Holds.{IsSide}
-use Rattle.relay_streams.specs.Frames.{asked}
+use Rattle.relay_streams.specs.Frames.{asked, answered, is_overlong}
 use Rattle.relay_streams.specs.Pieces.{piece_len, Begun}
-use Rattle.relay_streams.specs.Relayed.{Streams, unmade, stopped}
+use Rattle.relay_streams.specs.Relayed.{Streams, unmade, overlong, stopped}
 use Rattle.takers.specs.Sent as sent
 use Rattle.takers.specs.Sent.{Sends}
 use Rattle.relay_streams.specs.Turns.{Relaying, Turned, fault_of}
-use Rattle.relay_streams.proofs.FrameLists.{frames_of, base_of, frames-push, base-push}
+use Rattle.relay_streams.proofs.FrameLists.{frames_of, answers_of, base_of, frames-push, fits-push, base-push}
 use Rattle.relay_streams.proofs.PieceLemmas.{concat-push}
-use Rattle.relay_streams.proofs.SessionLemmas.{frames-are-relayed}
+use Rattle.relay_streams.proofs.SessionLemmas.{frames-are-relayed, ends-overlong}
 use Rattle.takers.proofs.SendLemmas.{sends-more}
 
 -- a hub has refused a client for want of memory
@@ -39,32 +39,48 @@ module _ (S W : Type 0) (gives : S → ℕ → Result (List ℕ) Error → S →
   frames-are : frames_of rows cols pieces ≡ frames_of rows cols past ++ (asked rows cols (concat pieces) base).owed ∷ []
   frames-are = frames-push rows cols past piece (concat pieces) (concat-push past piece)
 
+  -- no frame is too long
+  abbrev Fit : List (List ℕ) → Type 0
+  Fit ps = list_any is_overlong (answers_of rows cols ps) ≡ false
+
+  fits-on : is_overlong (answered rows cols (concat pieces) base) ≡ false → Fit past → Fit pieces
+  fits-on last fit =
+      fits-push rows cols past piece (concat pieces) (concat-push past piece) fit last
+
   -- a turn at which a fault came
   pub turn-faults : (s t : S) (w m v : W) (e : RelayError) → IsSide rows → IsSide cols → Begun gives piece_len s pieces t
-      → Sends takes w (frames_of rows cols past) (Ok tt) m → Turned takes rows cols pieces base key m (Err e) v g
-      → Streams gives takes rows cols s w (Err e) t v
-  turn-faults s t w m v Read height width b sends turned = absurd turned
-  turn-faults s t w m v Write height width b sends (x, n, pumps) =
+      → Fit past → Sends takes w (frames_of rows cols past) (Ok tt) m
+      → Turned takes rows cols pieces base key m (Err e) v g → Streams gives takes rows cols s w (Err e) t v
+  turn-faults s t w m v Read height width b fit sends turned = absurd turned
+  turn-faults s t w m v Write height width b fit sends (last, x, n, pumps) =
       let all : Sends takes w (frames_of rows cols pieces) (Err x) v =
       subst (λ (texts : List (List ℕ)). Sends takes w texts (Err x) v) (sym frames-are)
       (sends-more W takes w m v (frames_of rows cols past) ((asked rows cols (concat pieces) base).owed ∷ []) (Ok tt)
       (Err x) sends refl (sent.fault pumps)) in
-      stopped pieces (frames_of rows cols pieces) x b (frames-are-relayed rows cols pieces height width) all
-  turn-faults s t w m v Memory height width b sends turned =
-      unmade past (frames_of rows cols past) piece b (frames-are-relayed rows cols past height width)
+      stopped pieces (frames_of rows cols pieces) x b (frames-are-relayed rows cols pieces height width (fits-on last fit))
+      all
+  turn-faults s t w m v Memory height width b fit sends turned =
+      unmade past (frames_of rows cols past) piece b (frames-are-relayed rows cols past height width fit)
       (subst (λ (u : W). Sends takes w (frames_of rows cols past) (Ok tt) u) (sym turned) sends)
-  turn-faults s t w m v TooManyReads height width b sends turned = absurd turned
+  turn-faults s t w m v FrameTooLong height width b fit sends (long, stays) =
+      overlong past (frames_of rows cols past) piece b (frames-are-relayed rows cols past height width fit)
+      (ends-overlong rows cols past piece (concat pieces) height width (concat-push past piece) long)
+      (subst (λ (u : W). Sends takes w (frames_of rows cols past) (Ok tt) u) (sym stays) sends)
+  turn-faults s t w m v TooManyReads height width b fit sends turned = absurd turned
 
   -- one that went well
+  pub turn-fits : (m v : W) → Fit past → Turned takes rows cols pieces base key m (Ok tt) v g → Fit pieces
+  turn-fits m v fit turned = fits-on turned.0 fit
+
   pub turn-sent : (w m v : W) → Sends takes w (frames_of rows cols past) (Ok tt) m
       → Turned takes rows cols pieces base key m (Ok tt) v g → Sends takes w (frames_of rows cols pieces) (Ok tt) v
   turn-sent w m v sends turned =
       subst (λ (texts : List (List ℕ)). Sends takes w texts (Ok tt) v) (sym frames-are)
       (sends-more W takes w m v (frames_of rows cols past) ((asked rows cols (concat pieces) base).owed ∷ []) (Ok tt)
-      (Ok tt) sends refl (sent.next v turned.0.1 sent.none))
+      (Ok tt) sends refl (sent.next v turned.1.1 sent.none))
 
   pub turn-stands : (m v : W) → Turned takes rows cols pieces base key m (Ok tt) v g
       → Relaying rows cols pieces (base_of rows cols pieces) g key
   turn-stands m v turned =
       subst (λ (b : Option Shown). Relaying rows cols pieces b g key)
-      (sym (base-push rows cols past piece (concat pieces) (concat-push past piece))) turned.1
+      (sym (base-push rows cols past piece (concat pieces) (concat-push past piece))) turned.2

@@ -1,5 +1,5 @@
 -- A turn: what feeding a piece, asking for a frame and pumping leave.
-use Rattle.std.proofs.Common.{◌≡◌, ◌∙◌, ℕ, List, [], ◌∷◌, ◌++◌, map, drop, Option, Some, None, Ok}
+use Rattle.std.proofs.Common.{◌≡◌, ◌∙◌, ℕ, Bool, false, List, [], ◌∷◌, ◌++◌, map, drop, Option, Some, None, Ok}
 use Rattle.std.proofs.Common.{Err}
 use Rattle.std.proofs.Common.{Result, refl, sym, ap, subst, if◌then◌else◌}
 use Rattle.std.specs.List.{concat}
@@ -20,7 +20,7 @@ use Rattle.termrelay.specs.declared.answer.Answer.{Answer}
 use Rattle.termrelay.specs.declared.error.HubError.{HubError}
 use Rattle.termrelay.specs.declared.error.HubError.TheVariants as hub
 use Rattle.takers.proofs.PumpLaws.{takes-all}
-use Rattle.relay_streams.specs.Frames.{idle, asked, asked_on, state_after}
+use Rattle.relay_streams.specs.Frames.{idle, answered, answer_on, asked, asked_on, is_overlong, state_after}
 use Rattle.relay_streams.specs.Turns.{Relaying, fault_of, Turned}
 use Rattle.relay_streams.proofs.FrameLists.{pieces-make}
 
@@ -59,6 +59,11 @@ abbrev Asked : ℕ → ℕ → List (List ℕ) → Option Shown → HubState as_
 Asked rows cols pieces base h g key =
     (g.parser ≡ h.parser) × (clients_in g key ≡ Some (asked rows cols (concat pieces) base))
 
+state-now : (rows cols : ℕ) (pieces : List (List ℕ)) (base : Option Shown) (h : HubState as_kept) (key : ℕ)
+    → Relaying rows cols pieces base h key → h.parser.screen.state ≡ state_after rows cols (concat pieces)
+state-now rows cols pieces base h key r =
+    ap (λ (v : ScreenView). v.state) r.parser.screen ∙ pieces-make rows cols pieces
+
 pub frame-asked : (rows cols : ℕ) (pieces : List (List ℕ)) (base : Option Shown) (h g : HubState as_kept) (key : ℕ)
     (answer : Answer) → Relaying rows cols pieces base h key → Frames h key (Ok answer) g
     → Asked rows cols pieces base h g key
@@ -68,8 +73,7 @@ frame-asked rows cols pieces base h g key answer r f =
     subst (λ (o : Option ClientState). CanFrame h.parser.screen o (Ok answer)) r.client f.0 in
     let is : Puts h key (Some (after_answer (size_in h) (shown_in h) (idle base) answer)) g =
     subst (λ (o : Option ClientState). Framed h key o (Ok answer) g) r.client f.1 in
-    let state : h.parser.screen.state ≡ state_after rows cols (concat pieces) =
-    ap (λ (v : ScreenView). v.state) r.parser.screen ∙ pieces-make rows cols pieces in
+    let state = state-now rows cols pieces base h key r in
     let client : after_answer (size_in h) (shown_in h) (idle base) answer
     ≡ asked_on (state_after rows cols (concat pieces)) base =
     ap (after_answer (size_in h) (shown_in h) (idle base)) can.1 ∙ ap (λ (s : State). asked_on s base) state in (
@@ -77,6 +81,16 @@ frame-asked rows cols pieces base h g key answer r f =
       at-key h g key (Some (after_answer (size_in h) (shown_in h) (idle base) answer)) is
           ∙ ap (λ (c : ClientState). Some c) client,
     )
+
+-- and was answered so
+pub frame-answered : (rows cols : ℕ) (pieces : List (List ℕ)) (base : Option Shown) (h g : HubState as_kept) (key : ℕ)
+    (answer : Answer) (overlong : Bool) → Relaying rows cols pieces base h key → Frames h key (Ok answer) g
+    → is_overlong answer ≡ overlong → is_overlong (answered rows cols (concat pieces) base) ≡ overlong
+unfolding answered
+frame-answered rows cols pieces base h g key answer overlong r f is =
+    let can : CanFrame h.parser.screen (Some (idle base)) (Ok answer) =
+    subst (λ (o : Option ClientState). CanFrame h.parser.screen o (Ok answer)) r.client f.0 in
+    ap is_overlong (sym (can.1 ∙ ap (λ (s : State). answer_on s base) (state-now rows cols pieces base h key r))) ∙ is
 
 module _ (W : Type 0) (takes : W → List ℕ → Result ℕ Error → W → Type 0) where
   -- what was owed was pumped whole
@@ -94,12 +108,14 @@ module _ (W : Type 0) (takes : W → List ℕ → Result ℕ Error → W → Typ
 
   pub turn-ends : (rows cols : ℕ) (pieces : List (List ℕ)) (base : Option Shown) (h k g : HubState as_kept) (key : ℕ)
       (w v : W) → Relaying rows cols pieces base h key → Asked rows cols pieces base h k key
+      → is_overlong (answered rows cols (concat pieces) base) ≡ false
       → PumpsClient takes k key w over v g → Turned takes rows cols pieces base key w (Ok tt) v g
-  turn-ends rows cols pieces base h k g key w v r a p =
+  turn-ends rows cols pieces base h k g key w v r a fits p =
       let c = asked rows cols (concat pieces) base in
       let q : PumpsFrom takes k key (Some c) w over v g =
       subst (λ (o : Option ClientState). PumpsFrom takes k key o w over v g) a.1 p in
       let end = pumped-by k g key c w v q.0 q.1 q.2 q.3 q.4 in (
+        fits,
         end.0,
         record {
           height = r.height;
@@ -112,18 +128,20 @@ module _ (W : Type 0) (takes : W → List ℕ → Result ℕ Error → W → Typ
   -- the writer failed
   broken-by : (rows cols : ℕ) (pieces : List (List ℕ)) (base : Option Shown) (key : ℕ) (w v : W) (g : HubState as_kept)
       (e : HubError) (end : Result (Unit {0}) Error) (n : ℕ)
+      → is_overlong (answered rows cols (concat pieces) base) ≡ false
       → Pumps takes w (asked rows cols (concat pieces) base).owed end n v → Err e ≡ pump_answer end
       → Turned takes rows cols pieces base key w (Err (fault_of e)) v g
-  broken-by rows cols pieces base key w v g e (Ok u) n pumps is = absurd (let no : Err e ≡ over = is in cc)
-  broken-by rows cols pieces base key w v g hub.Memory (Err x) n pumps is = absurd (cc)
-  broken-by rows cols pieces base key w v g hub.Failed (Err x) n pumps is = absurd (cc)
-  broken-by rows cols pieces base key w v g hub.UnknownClient (Err x) n pumps is = absurd (cc)
-  broken-by rows cols pieces base key w v g (hub.Write y) (Err x) n pumps is = (x, n, pumps)
+  broken-by rows cols pieces base key w v g e (Ok u) n fits pumps is = absurd (let no : Err e ≡ over = is in cc)
+  broken-by rows cols pieces base key w v g hub.Memory (Err x) n fits pumps is = absurd (cc)
+  broken-by rows cols pieces base key w v g hub.Failed (Err x) n fits pumps is = absurd (cc)
+  broken-by rows cols pieces base key w v g hub.UnknownClient (Err x) n fits pumps is = absurd (cc)
+  broken-by rows cols pieces base key w v g (hub.Write y) (Err x) n fits pumps is = (fits, x, n, pumps)
 
   pub turn-breaks : (rows cols : ℕ) (pieces : List (List ℕ)) (base : Option Shown) (h k g : HubState as_kept) (key : ℕ)
-      (w v : W) (e : HubError) → Asked rows cols pieces base h k key → PumpsClient takes k key w (Err e) v g
+      (w v : W) (e : HubError) → Asked rows cols pieces base h k key
+      → is_overlong (answered rows cols (concat pieces) base) ≡ false → PumpsClient takes k key w (Err e) v g
       → Turned takes rows cols pieces base key w (Err (fault_of e)) v g
-  turn-breaks rows cols pieces base h k g key w v e a p =
+  turn-breaks rows cols pieces base h k g key w v e a fits p =
       let q : PumpsFrom takes k key (Some (asked rows cols (concat pieces) base)) w (Err e) v g =
       subst (λ (o : Option ClientState). PumpsFrom takes k key o w (Err e) v g) a.1 p in
-      broken-by rows cols pieces base key w v g e q.0 q.1 q.2 q.3
+      broken-by rows cols pieces base key w v g e q.0 q.1 fits q.2 q.3

@@ -12,7 +12,6 @@ use Rattle.termrelay.specs.Hub.{HubState}
 use Rattle.termrelay.specs.declared.call.Reply.{Reply}
 use Rattle.faithful.specs.History.{as_told, Entry, Story, size_of_story, fresh, RunsTold}
 use Rattle.faithful.specs.Judge.{texts, last_frame, last_whole, judged, IsSure}
-use Rattle.faithful.specs.Logged.{AreShort}
 use Rattle.faithful.specs.Laws.{IsSession}
 use Rattle.faithful.specs.Isolation.{is_starved}
 use Rattle.relay_streams.specs.Led.{answers}
@@ -49,23 +48,22 @@ last_given t most = last_whole None t.entries (length (take most t.session.pumpe
 
 -- These calls can get such replies on a new hub, none of which is a refusal for want of memory, that the view, of the
 -- size of the n-th session that they then have, shows what the judge says of the last frame that lies wholly in the bytes
--- that it was given: where each frame of the session is below the hold's limit, unless that one wasn't sure. Where the
--- bytes end with a frame, its length and those before it don't matter.
+-- that it was given, unless that one wasn't sure; and so of the last one of some frames that make up these bytes.
 pub record ShowsJudged (rows cols : ℕ) (calls : List Call) (n most : ℕ) (v : View UntilCleared) : Type 0 where
   pub replies : List Reply
   pub story : Story
   pub session : IsSession rows cols calls replies n story
   pub fed : list_any is_starved replies ≡ false
   pub size : size_of v ≡ size_of_story story
-  pub shows : AreShort story → IsSure (last_given story most)
+  pub shows : IsSure (last_given story most)
       → shown_of (shown_by v) ≡ judged rows cols (last_given story most)
   pub whole : (front back : List Entry) → story.entries ≡ front ++ back → take most story.session.pumped ≡ texts front
       → IsSure (last_frame None front) → shown_of (shown_by v) ≡ judged rows cols (last_frame None front)
 
--- such a view shows what the judge says of the last frame that lies wholly in the bytes that it was given: where each
--- frame of the session is below the hold's limit, unless that one wasn't sure
+-- such a view shows what the judge says of the last frame that lies wholly in the bytes that it was given, unless that
+-- one wasn't sure
 abbrev pub FarViewsShow : Type 0
 FarViewsShow = (rows cols : ℕ) (calls : List Call) (replies : List Reply) (n most : ℕ) (cuts : List ℕ) (t : Story)
     (v : View UntilCleared) → IsSession rows cols calls replies n t → ReadsStory t most cuts v
-    → AreShort t → IsSure (last_given t most)
+    → IsSure (last_given t most)
     → shown_of (shown_by v) ≡ judged rows cols (last_given t most)

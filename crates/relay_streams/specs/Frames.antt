@@ -1,11 +1,13 @@
 -- The frame of a client that gets each as soon as it is made.
-use Rattle.std.specs.Prelude.{ℕ, List, [], ◌∷◌, Option}
+use Rattle.std.specs.Prelude.{ℕ, Bool, true, false, List, [], ◌∷◌, Option}
 use Rattle.vt100_picture.specs.Term.{Shown}
 use Rattle.vt100_core.specs.Picture.{size_of}
 use Rattle.vt100_state.specs.State.{State}
 use Rattle.vt100_state.specs.Shown.{shown_state}
 use Rattle.vt100_state.specs.Made.{Fed, made}
 use Rattle.termrelay.specs.Answers.{ClientState, answer_of, after_answer}
+use Rattle.termrelay.specs.declared.answer.Answer.{Answer}
+use Rattle.termrelay.specs.declared.answer.Answer.TheVariants.{TooLong}
 
 -- what a program's bytes make of a new screen that keeps no rows
 abbrev pub state_after : ℕ → ℕ → List ℕ → State
@@ -15,10 +17,22 @@ state_after rows cols bytes = made rows cols 0 (Fed bytes ∷ [])
 abbrev pub idle : Option Shown → ClientState
 idle base = record { owed = []; base = base }
 
--- once it has asked for a frame of this screen
-abbrev pub asked_on : State → Option Shown → ClientState
-asked_on now base = after_answer (size_of now.shown) (shown_state now) (idle base) (answer_of now (idle base))
+-- what it is answered where it asks for a frame of this screen
+abbrev pub answer_on : State → Option Shown → Answer
+answer_on now base = answer_of now (idle base)
 
--- once it has asked for one of the screen that these bytes make
+-- and the client then
+abbrev pub asked_on : State → Option Shown → ClientState
+asked_on now base = after_answer (size_of now.shown) (shown_state now) (idle base) (answer_on now base)
+
+-- the same where it asks for one of the screen that these bytes make
+unfoldable pub answered : ℕ → ℕ → List ℕ → Option Shown → Answer
+answered rows cols bytes base = answer_on (state_after rows cols bytes) base
+
 unfoldable pub asked : ℕ → ℕ → List ℕ → Option Shown → ClientState
 asked rows cols bytes base = asked_on (state_after rows cols bytes) base
+
+-- the frame would be too long
+abbrev pub is_overlong : Answer → Bool
+is_overlong TooLong = true
+is_overlong answer = false

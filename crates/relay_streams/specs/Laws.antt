@@ -7,12 +7,12 @@ use Rattle.vt100_picture.specs.Term.{Size, shown_of}
 use Rattle.vt100_state.specs.Shown.{shown_state}
 use Rattle.termrelay.specs.Frame.{is_unsure}
 use Rattle.termview.specs.Seen.{seen}
+use Rattle.faithful.specs.History.{Story}
 use Rattle.faithful.specs.Judge.{judged, IsSure}
 use Rattle.faithful.specs.Headline.{last_read}
-use Rattle.faithful.specs.Logged.{AreShort}
 use Rattle.relay_streams.specs.Frames.{state_after}
 use Rattle.relay_streams.specs.Pieces.{pieces_of}
-use Rattle.relay_streams.specs.Sessions.{IsRelayText}
+use Rattle.relay_streams.specs.Sessions.{IsRelayed, IsRelayText}
 use Rattle.relay_streams.specs.Shown.{IsShown, screen_text, sized}
 
 -- pieces have one text: it is a function of the size and the pieces
@@ -26,19 +26,20 @@ WholeFramesArePrinted = (z : Size) (frames : List (List ℕ)) (text : List ℕ)
     → text ≡ screen_text z (seen z (concat frames)).cell
 
 -- Any front of what is relayed, in whatever pieces it comes: a new view of the size, which has parsed so much of it,
--- shows what the judge says of the last frame that lies wholly in it; where each frame is below the hold's limit, unless
--- that one wasn't sure.
+-- shows what the judge says of the last frame that lies wholly in it, unless that one wasn't sure.
 abbrev pub RelayedFrontsAreShown : Type 0
-RelayedFrontsAreShown = (rows cols : ℕ) (input relayed beyond parsed : List ℕ) (pieces : List (List ℕ))
-    (hold : Option (List ℕ)) (r : IsRelayText rows cols input relayed) → concat pieces ++ beyond ≡ relayed
-    → Leads (map Gives pieces) [] None parsed hold → AreShort r.story → IsSure (last_read r.story pieces)
-    → shown_of (seen (sized rows cols) parsed) ≡ judged rows cols (last_read r.story pieces)
+RelayedFrontsAreShown = (rows cols key : ℕ) (input beyond parsed : List ℕ) (pieces : List (List ℕ))
+    (hold : Option (List ℕ)) (t : Story) → IsRelayed rows cols key (pieces_of input) t
+    → concat pieces ++ beyond ≡ t.session.pumped → Leads (map Gives pieces) [] None parsed hold
+    → IsSure (last_read t pieces)
+    → shown_of (seen (sized rows cols) parsed) ≡ judged rows cols (last_read t pieces)
 
 -- what is relayed is printed, in whatever pieces it comes, as the text of the screen that the whole input makes, unless
--- that shows U+FE0F
+-- that shows U+FE0F or the input ends inside an update of its own
 abbrev pub RelayedIsShown : Type 0
 RelayedIsShown = (rows cols : ℕ) (input relayed text : List ℕ) (pieces : List (List ℕ))
     → IsRelayText rows cols input relayed → concat pieces ≡ relayed
     → is_unsure (sized rows cols) (shown_state (state_after rows cols input)) ≡ false
+    → (state_after rows cols input).updating ≡ false
     → IsShown (sized rows cols) pieces text
     → text ≡ screen_text (sized rows cols) (shown_state (state_after rows cols input)).cell

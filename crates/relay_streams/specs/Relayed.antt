@@ -2,9 +2,9 @@
 use Rattle.std.specs.Prelude.{ℕ, List, [], ◌∷◌, ◌++◌, Ok, Err, Result}
 use Rattle.std.specs.declared.io.Error.{Error}
 use Rattle.relay_streams.specs.declared.error.RelayError.{RelayError}
-use Rattle.relay_streams.specs.declared.error.RelayError.TheVariants.{Write, Memory}
+use Rattle.relay_streams.specs.declared.error.RelayError.TheVariants.{Write, Memory, FrameTooLong}
 use Rattle.relay_streams.specs.Pieces.{piece_len, Begun, Drained}
-use Rattle.relay_streams.specs.Sessions.{AreRelayed}
+use Rattle.relay_streams.specs.Sessions.{AreRelayed, EndsOverlong}
 use Rattle.takers.specs.Sent.{Sends}
 
 -- From a source and a writer, pieces are read, and the frame that is due after each is sent before the next one is
@@ -20,6 +20,11 @@ pub data Streams {S W : Type 0} (gives : S → ℕ → Result (List ℕ) Error �
   unmade : {t : S} {v : W} (pieces frames : List (List ℕ)) (piece : List ℕ)
       → Begun gives piece_len s (pieces ++ piece ∷ []) t → AreRelayed rows cols pieces frames
       → Sends takes w frames (Ok tt) v → Streams gives takes rows cols s w (Err Memory) t v
+  -- the frame of the last piece would be too long: the frames before it were sent
+  overlong : {t : S} {v : W} (pieces frames : List (List ℕ)) (piece : List ℕ)
+      → Begun gives piece_len s (pieces ++ piece ∷ []) t → AreRelayed rows cols pieces frames
+      → EndsOverlong rows cols (pieces ++ piece ∷ []) → Sends takes w frames (Ok tt) v
+      → Streams gives takes rows cols s w (Err FrameTooLong) t v
   -- a write of the last piece's frame failed or took nothing
   stopped : {t : S} {v : W} (pieces frames : List (List ℕ)) (e : Error) → Begun gives piece_len s pieces t
       → AreRelayed rows cols pieces frames → Sends takes w frames (Err e) v

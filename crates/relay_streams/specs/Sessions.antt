@@ -1,14 +1,17 @@
 -- What is relayed is a session of a history.
-use Rattle.std.specs.Prelude.{◌≡◌, ℕ, suc, Bool, true, false, List, [], ◌∷◌, map, length, take, Some, slice_get}
+use Rattle.std.specs.Prelude.{◌≡◌, ℕ, suc, Bool, true, false, List, [], ◌∷◌, ◌++◌, map, length, take, Some, slice_get}
 use Rattle.std.specs.List.{list_any}
 use Rattle.vt100_state.specs.Made.{Fed}
 use Rattle.vt100_state.specs.Holds.{IsSide}
 use Rattle.termrelay.specs.Calls.{Call, Feed, Attach, Frame, Pump}
+use Rattle.termrelay.specs.declared.answer.Answer.{Answer}
+use Rattle.termrelay.specs.declared.answer.Answer.TheVariants.{TooLong}
 use Rattle.termrelay.specs.declared.call.Reply.{Reply}
 use Rattle.termrelay.specs.declared.call.Reply.TheVariants.{Attached, Refused}
 use Rattle.faithful.specs.History.{Entry, Story, size_of_story}
 use Rattle.faithful.specs.Judge.{texts}
 use Rattle.faithful.specs.Laws.{IsSession}
+use Rattle.relay_streams.specs.Frames.{is_overlong}
 use Rattle.relay_streams.specs.Pieces.{pieces_of}
 use Rattle.relay_streams.specs.Shown.{sized}
 
@@ -31,15 +34,24 @@ pub record IsRelayed (rows cols key : ℕ) (pieces : List (List ℕ)) (t : Story
   pub served : list_any is_refused replies ≡ false
   pub session : IsSession rows cols (relay_calls key pieces) (Attached key ∷ replies) 0 t
 
--- the texts of its answers, one for each piece: that of the frame, or nothing where none was due
+-- its answers, one for each piece
+abbrev pub answers_in : Story → List Answer
+answers_in t = map (λ e. e.answer) t.entries
+
+-- and their texts: that of the frame, or nothing where none was made
 abbrev pub texts_of : Story → List (List ℕ)
 texts_of t = map (λ e. e.text) t.entries
 
--- these are the texts that are relayed of some pieces
+-- a frame would have been too long
+abbrev pub has_overlong : Story → Bool
+has_overlong t = list_any is_overlong (answers_in t)
+
+-- these are the texts that are relayed of some pieces, where no frame would be too long
 pub record AreRelayed (rows cols : ℕ) (pieces frames : List (List ℕ)) : Type 0 where
   pub key : ℕ
   pub story : Story
   pub is : IsRelayed rows cols key pieces story
+  pub fits : has_overlong story ≡ false
   pub texts : texts_of story ≡ frames
 
 -- and this is what is pumped to the client where an input is fed in full pieces
@@ -47,7 +59,16 @@ pub record IsRelayText (rows cols : ℕ) (input text : List ℕ) : Type 0 where
   pub key : ℕ
   pub story : Story
   pub is : IsRelayed rows cols key (pieces_of input) story
+  pub fits : has_overlong story ≡ false
   pub pumped : story.session.pumped ≡ text
+
+-- after the last one of these pieces the frame would be too long
+pub record EndsOverlong (rows cols : ℕ) (pieces : List (List ℕ)) : Type 0 where
+  pub key : ℕ
+  pub story : Story
+  pub is : IsRelayed rows cols key pieces story
+  pub front : List Answer
+  pub answers : answers_in story ≡ front ++ TooLong ∷ []
 
 -- ---- laws
 
@@ -68,10 +89,10 @@ abbrev pub EachRelayIsPumped : Type 0
 EachRelayIsPumped = (rows cols key : ℕ) (pieces : List (List ℕ)) (t : Story) → IsRelayed rows cols key pieces t
     → AnswersEach rows cols pieces t
 
--- and whichever it is, its texts are the same
+-- and whichever it is, its answers, with their texts, and what is pumped are the same
 abbrev pub RelayedAreOne : Type 0
-RelayedAreOne = (rows cols : ℕ) (pieces : List (List ℕ)) (fs gs : List (List ℕ)) → AreRelayed rows cols pieces fs
-    → AreRelayed rows cols pieces gs → fs ≡ gs
+RelayedAreOne = (rows cols key other : ℕ) (pieces : List (List ℕ)) (t u : Story) → IsRelayed rows cols key pieces t
+    → IsRelayed rows cols other pieces u → (t.entries ≡ u.entries) × (t.session.pumped ≡ u.session.pumped)
 
 abbrev pub RelayTextsAreOne : Type 0
 RelayTextsAreOne = (rows cols : ℕ) (input a b : List ℕ) → IsRelayText rows cols input a → IsRelayText rows cols input b

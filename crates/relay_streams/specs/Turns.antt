@@ -1,5 +1,5 @@
 -- A turn of `relay`: a piece is fed, a frame asked for, and what is owed is pumped.
-use Rattle.std.specs.Prelude.{◌≡◌, ℕ, List, map, Option, Some, Ok, Err, Result}
+use Rattle.std.specs.Prelude.{◌≡◌, ℕ, true, false, List, map, Option, Some, Ok, Err, Result}
 use Rattle.std.specs.List.{concat}
 use Rattle.std.specs.declared.io.Error.{Error}
 use Rattle.vt100_state.specs.Made.{Fed}
@@ -11,8 +11,8 @@ use Rattle.takers.specs.Pump.{Pumps}
 use Rattle.termrelay.specs.declared.error.HubError.{HubError}
 use Rattle.termrelay.specs.declared.error.HubError.TheVariants as hub
 use Rattle.relay_streams.specs.declared.error.RelayError.{RelayError}
-use Rattle.relay_streams.specs.declared.error.RelayError.TheVariants.{Read, Write, Memory, TooManyReads}
-use Rattle.relay_streams.specs.Frames.{idle, asked}
+use Rattle.relay_streams.specs.declared.error.RelayError.TheVariants.{Read, Write, Memory, TooManyReads, FrameTooLong}
+use Rattle.relay_streams.specs.Frames.{idle, asked, answered, is_overlong}
 
 -- these pieces were fed to a new hub of this size, and the client at the key is owed nothing and has this base
 pub record Relaying (rows cols : ℕ) (pieces : List (List ℕ)) (base : Option Shown) (h : HubState as_kept)
@@ -31,14 +31,19 @@ fault_of hub.UnknownClient = Memory
 fault_of (hub.Write e) = Write
 
 -- These pieces have been fed, the last one by this turn, and the client had this base and a writer w: the turn is
--- answered so, the writer is then v, and the hub g.
+-- answered so, the writer is then v, and the hub g. Nothing is pumped where the frame would be too long, and then, and
+-- only then, that is the fault.
 abbrev pub Turned : {W : Type 0} → (W → List ℕ → Result ℕ Error → W → Type 0) → ℕ → ℕ → List (List ℕ) → Option Shown → ℕ
     → W → Result (Unit {0}) RelayError → W → HubState as_kept → Type 0
 Turned takes rows cols pieces base key w (Ok u) v g =
-    ((n : ℕ) × Pumps takes w (asked rows cols (concat pieces) base).owed (Ok tt) n v)
+    (is_overlong (answered rows cols (concat pieces) base) ≡ false)
+    × ((n : ℕ) × Pumps takes w (asked rows cols (concat pieces) base).owed (Ok tt) n v)
     × Relaying rows cols pieces (asked rows cols (concat pieces) base).base g key
 Turned takes rows cols pieces base key w (Err Memory) v g = v ≡ w
+Turned takes rows cols pieces base key w (Err FrameTooLong) v g =
+    (is_overlong (answered rows cols (concat pieces) base) ≡ true) × (v ≡ w)
 Turned takes rows cols pieces base key w (Err Write) v g =
-    (e : Error) × (n : ℕ) × Pumps takes w (asked rows cols (concat pieces) base).owed (Err e) n v
+    (is_overlong (answered rows cols (concat pieces) base) ≡ false)
+    × (e : Error) × (n : ℕ) × Pumps takes w (asked rows cols (concat pieces) base).owed (Err e) n v
 Turned takes rows cols pieces base key w (Err Read) v g = ⊥
 Turned takes rows cols pieces base key w (Err TooManyReads) v g = ⊥

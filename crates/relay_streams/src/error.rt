@@ -24,6 +24,9 @@ pub enum RelayError {
     /// The input didn't end within 2^40 reads.
     #[error("too many reads")]
     TooManyReads,
+    /// A frame would be longer than 2,097,150 bytes, which is what a terminal holds of an update.
+    #[error("frame too long")]
+    FrameTooLong,
 }
 
 impl From<AllocError> for RelayError {

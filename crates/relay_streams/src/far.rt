@@ -27,8 +27,7 @@ use termview::{UntilCleared, View};
 /// also where a call of the run was.
 ///
 /// The view shows what the program's bytes and the resizes had made when the last frame was taken that lies wholly in
-/// the bytes given, else a blank screen (`shows`): so where each frame of the session is below 2,097,151 bytes, or the
-/// bytes end with a frame, unless that frame's screen showed U+FE0F.
+/// the bytes given, else a blank screen (`shows`): unless that frame's screen showed U+FE0F.
 pub fn far_view(
     alloc: Global,
     rows: NonZeroU16,

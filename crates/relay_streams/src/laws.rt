@@ -14,28 +14,28 @@ pub fn whole_frames_are_printed()
 {}
 
 /// What `relay` writes of an input a view shows, in whatever pieces it comes, and `show` prints as the rows of the screen
-/// that the input makes, unless that screen shows U+FE0F.
+/// that the input makes, unless that screen shows U+FE0F, or the input ends inside a synchronized update of its own.
 pub fn relayed_is_shown()
     ensures { RelayedIsShown }
 {}
 
 /// Of any front of what `relay` writes, in whatever pieces it comes, a view shows what the input's first pieces had made
-/// when the last frame was taken that lies wholly in it, or a blank screen: so where each frame is below the hold's
-/// limit, and that screen showed no U+FE0F.
+/// when the last frame was taken that lies wholly in it, or a blank screen: so where that screen showed no U+FE0F. So
+/// also where `relay` ended since a frame would be too long.
 pub fn relayed_fronts_are_shown()
     ensures { RelayedFrontsAreShown }
 {}
 
 /// What a view of `far_view` shows is what the judge says of the calls and their replies: what the program's bytes and
 /// the resizes had made when the last frame was taken that lies wholly in the bytes given, or a blank screen. So where
-/// each frame of the session is below the hold's limit, and that screen showed no U+FE0F.
+/// that screen showed no U+FE0F.
 pub fn far_views_show()
     ensures { FarViewsShow }
 {}
 
 /// What `relay` writes is what is pumped to a session of a history, in which a client comes, and after each piece asks
 /// for a frame and gets what it is owed: there is one for all pieces, all its frames are pumped, and whichever it is, the
-/// texts are the same. So all laws of sessions hold of what `relay` writes, also of a beginning of it.
+/// answers and their texts are the same. So all laws of sessions hold of what `relay` writes, also of a beginning of it.
 pub fn relays_are_sessions()
     ensures is { EachRelayIsASession }
     ensures pumped { EachRelayIsPumped }

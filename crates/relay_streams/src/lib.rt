@@ -14,7 +14,7 @@ mod source;
 
 pub use error::RelayError;
 pub use far::{far_view, view_of};
-pub use relaying::relay;
+pub use relaying::{is_overlong, relay};
 pub use showing::{print_view, show, write_view};
 pub use source::{PIECE_LEN, Source, fill};
 pub use takers::{Sink, Taker};

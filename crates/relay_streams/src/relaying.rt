@@ -1,24 +1,31 @@
 //! A program's output as frames of its screen.
 
-ghost use Rattle.std.specs.Prelude.{◌≡◌, ℕ, ◌++◌, ◌∷◌, [], List, None, OnOk, Option, IfSome};
+ghost use Rattle.std.specs.Prelude.{◌≡◌, ℕ, ◌++◌, ◌∷◌, [], List, true, Err, None, OnOk, Option, IfSome};
 ghost use Rattle.std.specs.Io.KnownBytes.{Appends};
 ghost use Rattle.vt100_picture.specs.Term.{Shown};
 ghost use Rattle.takers.specs.Output.{TakesFront};
+ghost use Rattle.faithful.specs.History.{Story};
+ghost use Rattle.relay_streams.specs.Frames.{is_overlong as overlong};
+ghost use Rattle.relay_streams.specs.Pieces.{pieces_of};
 ghost use Rattle.relay_streams.specs.Relayed.{Relays, Streams};
-ghost use Rattle.relay_streams.specs.Sessions.{IsRelayText};
+ghost use Rattle.relay_streams.specs.Sessions.{IsRelayed, IsRelayText, has_overlong};
 ghost use Rattle.relay_streams.specs.Turns.{Relaying, Turned};
+ghost use Rattle.relay_streams.specs.declared.error.RelayError.TheVariants.{FrameTooLong};
 
 use crate::error::RelayError;
 use crate::source::{PIECE_LEN, Source, fill};
 use std::alloc::Global;
 use std::num::NonZeroU16;
 use takers::Sink;
-use termrelay::{Client, Hub};
+use termrelay::{Answer, Client, Hub};
 
 /// Reads a program's output to its end, and writes frames of the screen of this size that it makes: after each full
 /// piece of 4,096 bytes, and at the end, the frame that is then due, if there is one. Then the output is flushed. So the
 /// text is what is pumped to a client of a hub that comes first, and after each piece asks for a frame and gets what it
 /// is owed.
+///
+/// No frame is due while the program is in a synchronized update of its own. A frame that would be longer than 2,097,150
+/// bytes is a fault, [`RelayError::FrameTooLong`], and nothing of it is written.
 ///
 /// Pieces are full however the reader cuts, and are read by at most 2^40 reads; an interrupted read is tried again and
 /// counted. A fault ends it. What was written by then stays written.
@@ -33,8 +40,11 @@ pub fn relay<S: Source, W: Sink>(
         output.new }
     ensures text { OnOk result (IfSome (S.left input.old) (λ bytes. (text : List ℕ)
         × IsRelayText rows.value cols.value bytes text × Appends (W.contents output.old) (W.contents output.new) text)) }
-    ensures front { IfSome (S.left input.old) (λ bytes. (text : List ℕ) → IsRelayText rows.value cols.value bytes text
-        → TakesFront (W.contents output.old) (W.contents output.new) text) }
+    ensures front { IfSome (S.left input.old) (λ bytes. (key : ℕ) (t : Story)
+        → IsRelayed rows.value cols.value key (pieces_of bytes) t
+        → TakesFront (W.contents output.old) (W.contents output.new) t.session.pumped) }
+    ensures too_long { result ≡ Err FrameTooLong → IfSome (S.left input.old) (λ bytes. (key : ℕ) (t : Story)
+        → IsRelayed rows.value cols.value key (pieces_of bytes) t → has_overlong t ≡ true) }
 {
     let mut hub = Hub::new(alloc, rows, cols)?;
     let client = hub.attach()?;
@@ -78,7 +88,21 @@ fn turn<W: Sink>(
         → Turned W.takes rows cols (past ++ piece.now ∷ []) base client output.old result output.new hub.new }
 {
     hub.feed(piece)?;
-    hub.frame(client)?;
+    let answer = hub.frame(client)?;
+    if is_overlong(answer) {
+        return Err(RelayError::FrameTooLong);
+    }
     hub.pump(client, output)?;
     Ok(())
+}
+
+/// Whether a client that asked for a frame gets none since it would be too long.
+pub fn is_overlong(answer: Answer) -> bool
+    ensures { result ≡ overlong answer }
+{
+    match answer {
+        Answer::TooLong => true,
+        Answer::Full | Answer::Difference | Answer::Unsure => false,
+        Answer::Unchanged | Answer::Behind | Answer::Held => false,
+    }
 }

@@ -1,16 +1,16 @@
 //! A program's screen, carried to a far terminal and printed there.
 
-ghost use Rattle.std.specs.Prelude.{ℕ, ◌++◌, ◌∷◌, [], List, Option, None, OnOk, IfSome};
+ghost use Rattle.std.specs.Prelude.{◌≡◌, ℕ, ◌++◌, ◌∷◌, [], List, false, Option, None, OnOk, IfSome};
 ghost use Rattle.std.specs.List.{concat};
 ghost use Rattle.std.specs.Io.KnownBytes.{Appends};
 ghost use Rattle.vt100_picture.specs.Term.{Shown};
-ghost use Rattle.relay_streams.specs.Frames.{asked};
+ghost use Rattle.relay_streams.specs.Frames.{answered, asked, is_overlong as overlong};
 ghost use Rattle.relay_streams.specs.Pieces.{Drained, piece_len};
 ghost use Rattle.relay_streams.specs.Sessions.{AreRelayed};
 ghost use Rattle.relay_streams.specs.Turns.{Relaying};
 ghost use Rattle.screencat.specs.Carried.{Carries, IsFarText};
 
-use relay_streams::{PIECE_LEN, RelayError, Sink, Source, fill, print_view};
+use relay_streams::{PIECE_LEN, RelayError, Sink, Source, fill, is_overlong, print_view};
 use std::alloc::Global;
 use std::num::NonZeroU16;
 use termrelay::{Client, Hub};
@@ -23,7 +23,8 @@ const STEP: usize = 7;
 /// Reads a program's output to its end, and writes the rows of the screen that it makes, as a far terminal of this size
 /// shows them, with a newline each. Then the output is flushed.
 ///
-/// Nothing is written before the input has ended. What was written when a fault came stays written.
+/// A frame that would be longer than 2,097,150 bytes is a fault. Nothing is written before the input has ended. What was
+/// written when a fault came stays written.
 pub(crate) fn print_far_screen<S: Source, W: Sink>(
     alloc: Global,
     rows: NonZeroU16,
@@ -74,12 +75,16 @@ fn carry_frame(
 ) -> Result<(), RelayError>
     ensures { OnOk result ((rows cols : ℕ) (past : List (List ℕ)) (base : Option Shown)
         → Relaying rows cols past base hub.old client
-        → Carries view.old (asked rows cols (concat (past ++ piece.now ∷ [])) base).owed view.new
+        → (overlong (answered rows cols (concat (past ++ piece.now ∷ [])) base) ≡ false)
+        × Carries view.old (asked rows cols (concat (past ++ piece.now ∷ [])) base).owed view.new
         × Relaying rows cols (past ++ piece.now ∷ []) (asked rows cols (concat (past ++ piece.now ∷ [])) base).base hub.new
         client) }
 {
     hub.feed(piece)?;
-    hub.frame(client)?;
+    let answer = hub.frame(client)?;
+    if is_overlong(answer) {
+        return Err(RelayError::FrameTooLong);
+    }
     let mut line = Vec::new(alloc);
     hub.pump(client, &mut line)?;
     read_line(view, &line);

@@ -11,16 +11,18 @@ use vt100::{Cell, Color, Screen};
 /// size ROWS COLS
 /// cursor ROW COL hide=0|1
 /// modes keypad=0|1 cursor_keys=0|1 paste=0|1 mouse=NAME encoding=NAME style=NAME alternate=0|1
+/// updating
 /// attrs FG BG FLAGS
 /// scrollback len=N offset=N capacity=N
 /// cell ROW COL TEXT w=0|1 c=0|1 FG BG FLAGS
 /// wrapped ROW
 /// ```
 ///
-/// The lines of a row's cells that aren't default ones come before its wrapped line. A text is its UTF-8 in hexadecimal
-/// digits, or `-` where it is empty; `w` is a wide cell, `c` the second column of one. A colour is `d` by default, `i`
-/// and its number, or `r` and six hexadecimal digits. The flags are `bdiuv` for bold, dim, italic, underlined and
-/// inverse, each with `-` in its place where it is off.
+/// The line `updating` is there only while the program is in a synchronized update of its own. The lines of a row's cells
+/// that aren't default ones come before its wrapped line. A text is its UTF-8 in hexadecimal digits, or `-` where it is
+/// empty; `w` is a wide cell, `c` the second column of one. A colour is `d` by default, `i` and its number, or `r` and six
+/// hexadecimal digits. The flags are `bdiuv` for bold, dim, italic, underlined and inverse, each with `-` in its place
+/// where it is off.
 pub(crate) fn push_screen(out: &mut String, screen: &Screen) -> Result<(), AllocError> {
     let (rows, cols) = screen.size();
     let (height, width) = (rows.get(), cols.get());
@@ -37,21 +39,7 @@ fn push_state(out: &mut String, screen: &Screen) -> Result<(), AllocError> {
     let (row, col) = screen.cursor_position();
     let hide = Bit(screen.hide_cursor());
     writeln!(out, "cursor {row} {col} hide={hide}")?;
-    let keypad = Bit(screen.application_keypad());
-    let cursor_keys = Bit(screen.application_cursor());
-    let paste = Bit(screen.bracketed_paste());
-    let mouse = screen.mouse_protocol_mode();
-    let encoding = screen.mouse_protocol_encoding();
-    let style = screen.cursor_style();
-    let alternate = Bit(screen.alternate_screen());
-    write!(
-        out,
-        "modes keypad={keypad} cursor_keys={cursor_keys} paste={paste} mouse={mouse:?}"
-    )?;
-    writeln!(
-        out,
-        " encoding={encoding:?} style={style:?} alternate={alternate}"
-    )?;
+    push_modes(out, screen)?;
     let fgcolor = Shade(screen.fgcolor());
     let bgcolor = Shade(screen.bgcolor());
     write!(out, "attrs {fgcolor} {bgcolor} ")?;
@@ -70,6 +58,28 @@ fn push_state(out: &mut String, screen: &Screen) -> Result<(), AllocError> {
         out,
         "scrollback len={len} offset={offset} capacity={capacity}"
     )
+}
+
+fn push_modes(out: &mut String, screen: &Screen) -> Result<(), AllocError> {
+    let keypad = Bit(screen.application_keypad());
+    let cursor_keys = Bit(screen.application_cursor());
+    let paste = Bit(screen.bracketed_paste());
+    let mouse = screen.mouse_protocol_mode();
+    let encoding = screen.mouse_protocol_encoding();
+    let style = screen.cursor_style();
+    let alternate = Bit(screen.alternate_screen());
+    write!(
+        out,
+        "modes keypad={keypad} cursor_keys={cursor_keys} paste={paste} mouse={mouse:?}"
+    )?;
+    writeln!(
+        out,
+        " encoding={encoding:?} style={style:?} alternate={alternate}"
+    )?;
+    if screen.synchronized_update() {
+        out.push_str("updating\n")?;
+    }
+    Ok(())
 }
 
 fn push_row(out: &mut String, screen: &Screen, row: u16, cols: u16) -> Result<(), AllocError> {

@@ -13,6 +13,13 @@ modes keypad=0 cursor_keys=0 paste=0 mouse=None encoding=Default style=Default a
 attrs d d -----\n\
 scrollback len=0 offset=0 capacity=0\n";
 
+const UPDATING: &[u8] = b"size 1 2\n\
+cursor 0 0 hide=0\n\
+modes keypad=0 cursor_keys=0 paste=0 mouse=None encoding=Default style=Default alternate=0\n\
+updating\n\
+attrs d d -----\n\
+scrollback len=0 offset=0 capacity=0\n";
+
 const AB_OF_ABC: &[u8] = b"size 1 2\n\
 cursor 0 1 hide=0\n\
 modes keypad=0 cursor_keys=0 paste=0 mouse=None encoding=Default style=Default alternate=0\n\
@@ -22,8 +29,9 @@ cell 0 0 63 w=0 c=0 i1 d b----\n";
 
 #[test]
 fn commands(rt: HostRuntime) -> Result<(), Fail> {
-    let rows: [(&[&str], &[u8], u8, &[u8], &[u8]); 22] = [
+    let rows: [(&[&str], &[u8], u8, &[u8], &[u8]); 23] = [
         (&["1", "2"], b"", 0, BLANK, b""),
+        (&["1", "2"], b"\x1b[?2026h", 0, UPDATING, b""),
         (&["1", "2", "0", "0"], b"ab", 0, BLANK, b""),
         (&["1", "2", "3"], b"ab\x1b[1;31mc", 0, AB_OF_ABC, b""),
         (&["1", "2", "3", "7"], b"ab\x1b[1;31mc", 0, AB_OF_ABC, b""),

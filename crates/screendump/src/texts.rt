@@ -186,7 +186,7 @@ fn picture_of(alloc: Global, screen: &Screen) -> Result<String, DumpError> {
     push_screen(&mut dump, screen)?;
     let mut picture = String::new(alloc);
     for line in dump.lines() {
-        if !line.starts_with("scrollback") && !line.starts_with("modes") {
+        if !line.starts_with("scrollback") && !line.starts_with("modes") && line != "updating" {
             writeln!(picture, "{line}")?;
         }
     }

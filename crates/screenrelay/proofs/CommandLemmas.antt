@@ -1,5 +1,5 @@
 -- What an order writes, where the source and the writer tell their bytes.
-use Rattle.std.proofs.Common.{ℕ, ◌<◌, ◌^◌, List, Option, Ok, Err, Result, OnOk, IfSome}
+use Rattle.std.proofs.Common.{ℕ, List, Option, Ok, Err, Result, OnOk, IfSome}
 use Rattle.std.specs.declared.io.Error.{Error}
 use Rattle.std.specs.Io.KnownBytes.{Appends, Keeps}
 use Rattle.takers.specs.Pump.{Writes}
@@ -23,11 +23,10 @@ module _ (S W : Type 0) (gives : S → ℕ → Result (List ℕ) Error → S →
   where
     -- an order that was carried out
     pub does-text : (job : Job) (rows cols : ℕ) (s : S) (w : W) (answer : Result (Unit {0}) RelayError) (t : S) (v : W)
-        → (0 < rows) × (rows < 2 ^ 16) → (0 < cols) × (cols < 2 ^ 16)
         → DoesBy gives takes flushes job rows cols s w answer t v
         → OnOk answer (IfSome (left s) (λ bytes. (text : List ℕ) × WantsBy job rows cols bytes text
         × Appends (contents w) (contents v) text))
-    does-text Relay rows cols s w answer t v height width r =
-        relays-text S W gives takes flushes contents left gave took flushed rows cols s w answer t v height width r
-    does-text Show rows cols s w answer t v height width r =
+    does-text Relay rows cols s w answer t v r =
+        relays-text S W gives takes flushes contents left gave took flushed rows cols s w answer t v r
+    does-text Show rows cols s w answer t v r =
         shows-text S W gives takes flushes contents left gave took flushed (sized rows cols) s w answer t v r

@@ -3,7 +3,7 @@ use Rattle.std.specs.Prelude.{◌≡◌, ℕ, List, [], ◌∷◌, ◌++◌, Ok,
 use Rattle.std.specs.declared.io.Error.{Error}
 use Rattle.takers.specs.Pump.{Tells}
 use Rattle.relay_streams.specs.declared.error.RelayError.{RelayError}
-use Rattle.relay_streams.specs.declared.error.RelayError.TheVariants.{Read, Write, Memory, TooManyReads}
+use Rattle.relay_streams.specs.declared.error.RelayError.TheVariants.{Read, Write, Memory, TooManyReads, FrameTooLong}
 use Rattle.screenrelay.specs.declared.words.Job.{Job}
 use Rattle.screenrelay.specs.declared.words.Job.TheVariants.{Relay, Show}
 use Rattle.relay_streams.specs.Pieces.{pieces_of}
@@ -39,6 +39,7 @@ fault_line Read = line (codes "screenrelay: read")
 fault_line Write = line (codes "screenrelay: write")
 fault_line Memory = line (codes "screenrelay: memory")
 fault_line TooManyReads = line (codes "screenrelay: too many reads")
+fault_line FrameTooLong = line (codes "screenrelay: frame too long")
 
 -- the exit status that goes with an answer, and what is told of it on the error output
 abbrev pub Reports : {V : Type 0} → (V → List ℕ → Result ℕ Error → V → Type 0) → Result (Unit {0}) RelayError → V → ℕ → V

@@ -14,8 +14,8 @@ use takers::{Sink, Taker};
 
 /// Runs the program on the words after its name, and answers its exit status.
 ///
-/// A fault is told in a line on `errors`: `screenrelay: read`, `write`, `memory` or `too many reads`. Any other
-/// command line than `relay ROWS COLS` and `show ROWS COLS` gets the usage line there, and then nothing is read
+/// A fault is told in a line on `errors`: `screenrelay: read`, `write`, `memory`, `too many reads` or `frame too long`. Any
+/// other command line than `relay ROWS COLS` and `show ROWS COLS` gets the usage line there, and then nothing is read
 /// or written. Such a line is written whole, unless a write of it fails or takes nothing; that changes nothing else.
 pub fn command<S: Source, W: Sink, V: Taker>(
     alloc: Global,
@@ -75,5 +75,6 @@ fn fault_line(error: RelayError) -> &'static [u8]
         RelayError::Write => b"screenrelay: write\n",
         RelayError::Memory => b"screenrelay: memory\n",
         RelayError::TooManyReads => b"screenrelay: too many reads\n",
+        RelayError::FrameTooLong => b"screenrelay: frame too long\n",
     }
 }

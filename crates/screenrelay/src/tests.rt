@@ -41,8 +41,16 @@ const USAGE: &[u8] = b"usage: screenrelay relay|show ROWS COLS\n";
 
 #[test]
 fn commands(rt: HostRuntime) -> Result<(), Fail> {
-    let rows: [(&[&str], &[u8], u8, &[u8], &[u8]); 16] = [
+    let rows: [(&[&str], &[u8], u8, &[u8], &[u8]); 18] = [
         (&["relay", "2", "4"], b"hi", 0, HI, b""),
+        (&["relay", "2", "4"], b"\x1b[?2026hhi", 0, b"", b""),
+        (
+            &["relay", "2", "4"],
+            b"\x1b[?2026hhi\x1b[?2026l",
+            0,
+            HI,
+            b"",
+        ),
         (&["show", "2", "4"], HI, 0, b"hi\n\n", b""),
         (&["show", "2", "4"], BEGUN, 0, b"\n\n", b""),
         (&["relay", "2", "4"], b"", 0, BLANK, b""),
@@ -485,6 +493,7 @@ fn texts_of_faults(rt: HostRuntime) -> Result<(), Fail> {
         (RelayError::Write, "write"),
         (RelayError::Memory, "memory"),
         (RelayError::TooManyReads, "too many reads"),
+        (RelayError::FrameTooLong, "frame too long"),
     ];
     for (fault, want) in faults {
         let text = format!(in rt.alloc(); "{fault}")?;

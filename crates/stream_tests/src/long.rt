@@ -1,5 +1,6 @@
-//! The longest frame that is never shown in part, and a stream that is longer than what a view can hold.
+//! The longest frame that is made, frames that would be longer, and a stream that is longer than what a view can hold.
 use crate::seen::{blank, cell_of, count, text_of};
+use relay_streams::{RelayError, relay, show};
 use std::alloc::{AllocError, Global};
 use std::process::Abort;
 use std::test::Fail;
@@ -12,6 +13,8 @@ const LIGHT: &[u8] = b"\x1b[38;2;101;101;101;48;2;101;101;101mx";
 
 const LAST: &[u8] = b"\x1b[38;2;100;100;9;48;2;101;101;101mx";
 
+const LONGER_LAST: &[u8] = b"\x1b[38;2;100;100;10;48;2;101;101;101mx";
+
 /// How many pairs of a dark and a light cell stand before the last cell.
 const PAIRS: u16 = 28_339;
 
@@ -21,20 +24,26 @@ const CELLS: u16 = 2 * PAIRS + 1;
 /// How many bytes the frame has.
 const FRAME_LEN: usize = 2_097_150;
 
-/// A line in which hardly a cell is drawn as the one before it.
-fn line(alloc: Global) -> Result<Vec<u8>, AllocError> {
-    let mut line = Vec::with_capacity(alloc, FRAME_LEN)?;
-    for _ in 0..PAIRS {
-        line.extend_from_slice(DARK)?;
-        line.extend_from_slice(LIGHT)?;
+/// So many pairs of a dark and a light cell, in which hardly one is drawn as the one before it.
+fn cells(alloc: Global, pairs: u16) -> Result<Vec<u8>, AllocError> {
+    let mut cells = Vec::with_capacity(alloc, FRAME_LEN)?;
+    for _ in 0..pairs {
+        cells.extend_from_slice(DARK)?;
+        cells.extend_from_slice(LIGHT)?;
     }
-    line.extend_from_slice(LAST)?;
-    Ok(line)
+    Ok(cells)
 }
 
-/// What a client that comes now is sent.
-fn first_frame(alloc: Global, hub: &mut Hub) -> Result<(Answer, Vec<u8>), Fail> {
-    let client = hub.attach()?;
+/// A hub whose screen is one row of such cells, and of this last one.
+fn hub_of(alloc: Global, last: &[u8]) -> Result<Hub, Fail> {
+    let mut hub = Hub::new(alloc, count(1), count(CELLS))?;
+    hub.feed(&cells(alloc, PAIRS)?)?;
+    hub.feed(last)?;
+    Ok(hub)
+}
+
+/// What a client that asks for a frame is answered and sent.
+fn frame_of(alloc: Global, hub: &mut Hub, client: Client) -> Result<(Answer, Vec<u8>), Fail> {
     let answer = hub.frame(client)?;
     let mut frame = Vec::with_capacity(alloc, FRAME_LEN)?;
     hub.pump(client, &mut frame)?;
@@ -95,9 +104,9 @@ fn read_front<'a>(view: &mut View<UntilCleared>, frames: &'a [u8]) -> &'a [u8] {
 /// A view holds the whole frame but its last byte.
 #[test]
 fn the_longest_frame(rt: HostRuntime) -> Result<(), Fail> {
-    let mut hub = Hub::new(rt.alloc(), count(1), count(CELLS))?;
-    hub.feed(&line(rt.alloc())?)?;
-    let (answer, frame) = first_frame(rt.alloc(), &mut hub)?;
+    let mut hub = hub_of(rt.alloc(), LAST)?;
+    let client = hub.attach()?;
+    let (answer, frame) = frame_of(rt.alloc(), &mut hub, client)?;
     assert_eq!(rt; (answer, frame.len()), (Answer::Full, FRAME_LEN));
     let mut view = blank(rt.alloc(), (1, CELLS))?;
     let last = read_front(&mut view, &frame);
@@ -105,6 +114,51 @@ fn the_longest_frame(rt: HostRuntime) -> Result<(), Fail> {
     view.advance(last);
     check_held(&rt, &view, 0, CELLS)?;
     check_colors(&rt, &view);
+    Ok(())
+}
+
+/// A frame of one byte more isn't made, and the client's first one comes when it fits.
+#[test]
+fn a_longer_frame(rt: HostRuntime) -> Result<(), Fail> {
+    let mut hub = hub_of(rt.alloc(), LONGER_LAST)?;
+    let client = hub.attach()?;
+    let (answer, frame) = frame_of(rt.alloc(), &mut hub, client)?;
+    assert_eq!(rt; (answer, frame.len()), (Answer::TooLong, 0));
+    hub.feed(b"\x1b[m\x1b[2K")?;
+    let (answer, _) = frame_of(rt.alloc(), &mut hub, client)?;
+    assert_eq!(rt; answer, Answer::Full);
+    Ok(())
+}
+
+/// The other sheet is shown for a while, and the frame that would lead back from it is too long: what was relayed shows
+/// that sheet.
+#[test]
+fn a_relay_that_ends(rt: HostRuntime) -> Result<(), Fail> {
+    let mut input = cells(rt.alloc(), 30_000)?;
+    input.extend_from_slice(b"\x1b[?47h")?;
+    for _ in 0..8_192 {
+        input.push(0)?;
+    }
+    input.extend_from_slice(b"\x1b[?47l")?;
+    let (height, width) = (count(1), count(60_000));
+    let mut relayed = Vec::new(rt.alloc());
+    let answer = relay(
+        rt.alloc(),
+        height,
+        width,
+        &mut input.as_slice(),
+        &mut relayed,
+    );
+    assert_eq!(rt; answer, Err(RelayError::FrameTooLong));
+    let mut shown = Vec::new(rt.alloc());
+    show(
+        rt.alloc(),
+        height,
+        width,
+        &mut relayed.as_slice(),
+        &mut shown,
+    )?;
+    assert_eq!(rt; shown.as_slice(), b"\n".as_slice());
     Ok(())
 }
 

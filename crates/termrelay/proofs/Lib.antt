@@ -14,3 +14,4 @@ pub mod ScriptLemmas
 pub mod RunLemmas
 pub mod BodyForms
 pub mod FrameLengths
+pub mod AnswerLemmas

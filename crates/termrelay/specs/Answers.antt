@@ -1,14 +1,15 @@
 -- What a request for a frame is answered.
-use Rattle.std.specs.Prelude.{◌≡◌, ℕ, zero, suc, ◌==◌, ◌&&◌, Bool, true, false, List, [], ◌∷◌, ◌++◌, Option, Some, None}
-use Rattle.std.specs.Prelude.{if◌then◌else◌, length, nat_lt}
+use Rattle.std.specs.Prelude.{◌≡◌, ◌≢◌, ℕ, zero, suc, ◌*◌, ◌≤◌, ◌==◌, ◌&&◌, Bool, true, false, List, [], ◌∷◌, ◌++◌}
+use Rattle.std.specs.Prelude.{Option, Some, None, if◌then◌else◌, length, nat_lt}
 use Rattle.vt100_forms.specs.Attrs.{attrs_eq}
 use Rattle.vt100_forms.specs.Form.{mouse_number, encoding_number, style_number}
 use Rattle.vt100_cells.specs.Cell.{bool_eq, cell_eq, default_cell}
 use Rattle.vt100_picture.specs.Term.{Size, Modes, Shown, IsShown, blank_shown}
+use Rattle.vt100_writers.specs.Length.{IsSmallScreen}
 use Rattle.vt100_core.specs.Picture.{size_of}
 use Rattle.vt100_state.specs.State.{State}
 use Rattle.vt100_state.specs.Shown.{shown_state}
-use Rattle.termrelay.specs.Frame.{is_unsure, frame_text}
+use Rattle.termrelay.specs.Frame.{is_unsure, frame_text, HasByteBase}
 use Rattle.termrelay.specs.declared.answer.Answer.{Answer}
 use Rattle.termrelay.specs.declared.answer.Answer.TheVariants.{Full, Difference, Unsure, Unchanged, Behind, Held, TooLong}
 
@@ -72,6 +73,14 @@ due z now base = if is_unsure z now then Unsure else due_from z now base
 abbrev pub unless_updating : State → Answer → Answer
 unless_updating now answer = if now.updating then Held else answer
 
+-- what would be answered to a client that is owed these bytes if a frame could have any length
+abbrev pub wanted_to : State → Option Shown → List ℕ → Answer
+wanted_to now base [] = unless_updating now (due (size_of now.shown) (shown_state now) base)
+wanted_to now base (b ∷ bs) = Behind
+
+abbrev pub wanted_of : State → ClientState → Answer
+wanted_of now c = wanted_to now c.base c.owed
+
 -- the longest text of a frame, in bytes: what a terminal holds of an update, and then parses as a whole
 abbrev pub longest_frame : ℕ
 longest_frame = 2097150
@@ -126,6 +135,27 @@ pub record EachExampleIsAnswered : Type 0 where
   pub unsure : answer_after (Some blank_shown) emoji ≡ Unsure
   pub again : answer_after (Some emoji) emoji ≡ Unsure
   pub sure_again : answer_after (Some emoji) moved ≡ Full
+  -- bytes that are owed come first, then the program's update, then what is due, unless it is too long
   pub owed : (now : State) (base : Option Shown) → answer_of now (record { owed = 0 ∷ []; base = base }) ≡ Behind
-  pub none_owed : (now : State) (base : Option Shown)
+  pub held : (now : State) (base : Option Shown) → now.updating ≡ true
+      → answer_of now (record { owed = []; base = base }) ≡ Held
+  pub none_owed : (now : State) (base : Option Shown) → now.updating ≡ false
+      → is_too_long (size_of now.shown) (shown_state now) base ≡ false
       → answer_of now (record { owed = []; base = base }) ≡ due (size_of now.shown) (shown_state now) base
+  pub none_due : (now : State) (base : Option Shown) → now.updating ≡ false
+      → is_frame (due (size_of now.shown) (shown_state now) base) ≡ false
+      → answer_of now (record { owed = []; base = base }) ≡ due (size_of now.shown) (shown_state now) base
+  pub too_long : (now : State) (base : Option Shown) → now.updating ≡ false
+      → is_frame (due (size_of now.shown) (shown_state now) base) ≡ true
+      → is_too_long (size_of now.shown) (shown_state now) base ≡ true
+      → answer_of now (record { owed = []; base = base }) ≡ TooLong
+  pub held_takes_none : may_take_memory Held ≡ false
+  pub too_long_takes : may_take_memory TooLong ≡ true
+
+-- ---- small screens
+
+-- no frame of a screen of at most 2,000 cells is too long
+abbrev pub EachSmallScreenFits : Type 0
+EachSmallScreenFits = (now : State) (c : ClientState) → HasByteBase c.base
+    → IsSmallScreen (size_of now.shown) (shown_state now)
+    → (size_of now.shown).rows * (size_of now.shown).cols ≤ 2000 → answer_of now c ≢ TooLong

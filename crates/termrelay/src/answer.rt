@@ -15,10 +15,11 @@ pub enum Answer {
     Unchanged,
     /// No frame: bytes of an earlier one are still owed.
     Behind,
-    /// No frame: the program is in a synchronized update of its own (private mode 2026), which has to end first. A full
-    /// reset ends it too, and so does a resize.
+    /// No frame: the program is in a synchronized update of its own (private mode 2026), which has to end first. There is
+    /// no timeout; a full reset ends it too, and so does a resize.
     Held,
-    /// No frame: its text would be longer than 2,097,150 bytes, which is what a terminal holds of an update.
+    /// No frame: its text, with the marks, would be longer than 2,097,150 bytes. A terminal doesn't hold back a longer
+    /// update as a whole, so that it would show a part of it. A screen of at most 2,000 cells has no such frame.
     TooLong,
 }
 

@@ -1,14 +1,14 @@
 //! The hub.
-ghost use Rattle.std.specs.Prelude.{◌≡◌, false, IfOk, IsOkAnd, OnOk, OnErr, Err, Some, None, MatchOption, IsSome};
-ghost use Rattle.std.specs.Prelude.{slice_index_or};
+ghost use Rattle.std.specs.Prelude.{◌≡◌, ◌≢◌, ◌*◌, ◌≤◌, false, IfOk, IsOkAnd, OnOk, OnErr, Err, Some, None, MatchOption};
+ghost use Rattle.std.specs.Prelude.{IsSome, slice_index_or};
 ghost use Rattle.termrelay.specs.Frame.{IsShortFrame};
-ghost use Rattle.termrelay.specs.declared.answer.Answer.TheVariants.{Difference};
+ghost use Rattle.termrelay.specs.declared.answer.Answer.TheVariants.{Difference, TooLong};
 ghost use Rattle.termrelay.specs.declared.error.HubError.TheVariants.{Memory, UnknownClient};
 
 use crate::answer::Answer;
 use crate::client::Client;
 use crate::error::HubError;
-use crate::record::Record;
+use crate::record::{Record, is_too_long};
 use slab::Slab;
 use std::alloc::Global;
 use std::marker::Model;
@@ -176,7 +176,16 @@ impl Hub {
     }
 
     /// Asks for a frame for the client. Where the answer brings one, its text is owed from now on, and the present
-    /// screen is the client's base. Refused, nothing has changed.
+    /// screen is the client's base. Refused, or with another answer, nothing has changed.
+    ///
+    /// `Held` is answered, and no memory is taken, while the program is in a synchronized update of its own: it has set
+    /// private mode 2026, as it does where a terminal is to show a change at once, and hasn't reset it. There is no
+    /// timeout: a program that never ends its update is held until a full reset or a resize. Till then a host can go on
+    /// showing the last frame, or resize to the same size, which ends the update and every client, and attach again.
+    ///
+    /// `TooLong` is answered where a frame is due whose text, with the marks, would be longer than 2,097,150 bytes. The
+    /// text is made first, so that memory may be wanted on the way. It doesn't come where the screen has at most 2,000
+    /// cells (`small`). A later frame may be shorter; else a host can resize to fewer cells.
     ///
     /// Whatever the answer is, the client is owed at most 1,024 bytes for each cell of the screen, and 1,024 more
     /// (`short`). The forms of a difference touch local cells alone: those that differ, and, in rows that differ and right
@@ -186,6 +195,8 @@ impl Hub {
         ensures frames { Frames self.old client result self.new }
         ensures short { OnOk result (OwesOneFrame self.new client) }
         ensures local { IfOk result (λ answer. answer ≡ Difference → OwesLocalFrame self.old client self.new) }
+        ensures small { IfOk result (λ answer. (size_in self.old).rows * (size_in self.old).cols ≤ 2000
+            → answer ≢ TooLong) }
     {
         let Some(record) = self.clients.get(client.key()) else {
             return Err(HubError::UnknownClient);
@@ -199,6 +210,9 @@ impl Hub {
             return Ok(answer);
         }
         let text = record.frame_text(self.alloc, screen, answer)?;
+        if is_too_long(&text) {
+            return Ok(Answer::TooLong);
+        }
         let base = self.present_base()?;
         self.present = Some(base.clone()?);
         self.owe(client, text, base);

@@ -1,5 +1,5 @@
 //! Facts about frames. Each function does nothing: its contract is the fact.
-ghost use Rattle.termrelay.specs.Answers.{EachSameIsOne, EachOneIsSame, EachExampleIsAnswered};
+ghost use Rattle.termrelay.specs.Answers.{EachSameIsOne, EachOneIsSame, EachExampleIsAnswered, EachSmallScreenFits};
 ghost use Rattle.termrelay.specs.Frame.{EachSureIsPlain, EachFrameIsMarked, EachFrameLeads, EachFrameSetsModes};
 ghost use Rattle.termrelay.specs.Frame.{EachBodyIsSent, EachBodyIsOfForms, EachFrameIsShort};
 ghost use Rattle.termrelay.specs.Laws.{TwoFeedsAreOne, TwoFeedsRunAsOne};
@@ -39,6 +39,11 @@ pub fn frames_are_short()
     ensures { EachFrameIsShort }
 {}
 
+/// On a screen of at most 2,000 cells no frame is too long, so that `TooLong` never comes.
+pub fn small_frames_are_not_too_long()
+    ensures { EachSmallScreenFits }
+{}
+
 /// Screens of one size that the test takes for the same show the same, so that a client that is answered `Unchanged`
 /// misses nothing. And the test takes each screen for the same as one that shows the same, so that no frame is made of
 /// what the client has already.
@@ -47,7 +52,8 @@ pub fn same_screens_are_one()
     ensures same { EachOneIsSame }
 {}
 
-/// What is answered on some screens of one cell.
+/// What is answered on some screens of one cell; and on any screen: bytes that are owed come first, then the program's
+/// own update, then what is due, unless it is too long.
 pub fn examples_are_answered()
     ensures { EachExampleIsAnswered }
 {}

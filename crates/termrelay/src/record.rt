@@ -1,11 +1,11 @@
 //! What a hub keeps of a client.
-ghost use Rattle.std.specs.Prelude.{◌≡◌, ℕ, ◌++◌, [], true, drop, Some, None, IfOk, OnErr, Err};
+ghost use Rattle.std.specs.Prelude.{◌≡◌, ℕ, ◌++◌, [], true, drop, length, nat_lt, Some, None, IfOk, OnErr, Err};
 ghost use Rattle.std.specs.Option.{option_copied, option_map};
 ghost use Rattle.vt100_core.specs.Picture.{size_of};
 ghost use Rattle.vt100_state.specs.Shown.{shown_state};
 ghost use Rattle.vt100.specs.WriterLaws.{IsUnscrolled};
 ghost use Rattle.termrelay.specs.Frame.{frame_text as text_of_frame, body_forms};
-ghost use Rattle.termrelay.specs.Answers.{answer_of, due, is_frame};
+ghost use Rattle.termrelay.specs.Answers.{wanted_of, due, is_frame, longest_frame};
 ghost use Rattle.takers.specs.Pump.{Pumps};
 ghost use Rattle.termrelay.specs.Record.{RecordView, client_of, IsServed, IsBaseOf};
 ghost use Rattle.termrelay.specs.declared.error.HubError.TheVariants.{Memory};
@@ -24,6 +24,16 @@ use vt100::Screen;
 const START_MARK: &[u8; 8] = b"\x1b[?2026h";
 
 const END_MARK: &[u8; 8] = b"\x1b[?2026l";
+
+/// How many bytes of a frame a terminal holds back at most, and then parses as a whole.
+const LONGEST_FRAME: usize = 2_097_150;
+
+/// Whether a frame's text is longer than what a terminal holds back.
+pub(crate) fn is_too_long(text: &[u8]) -> bool
+    ensures { result ≡ nat_lt longest_frame (length text.now) }
+{
+    text.len() > LONGEST_FRAME
+}
 
 /// What a hub keeps of a client.
 #[derive(Drop)]
@@ -80,14 +90,17 @@ impl Record {
         }
     }
 
-    /// What a request for a frame is answered.
+    /// What a request for a frame is answered, unless the frame is too long.
     pub(crate) fn answer(&self, now: &Screen) -> Answer
         requires unscrolled { IsUnscrolled now.now.state }
         requires served { IsServed now.now self.now }
-        ensures { result ≡ answer_of now.now.state (client_of self.now) }
+        ensures { result ≡ wanted_of now.now.state (client_of self.now) }
     {
         if !self.owed().is_empty() {
             return Answer::Behind;
+        }
+        if now.synchronized_update() {
+            return Answer::Held;
         }
         if is_unsure(now) {
             return Answer::Unsure;

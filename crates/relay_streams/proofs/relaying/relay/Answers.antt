@@ -2,7 +2,7 @@ use Rattle.std.proofs.Common.{◌≡◌, Ok, Err, ap, ◌∙◌, rules, arith}
 use Rattle.relay_streams.specs.declared.error.RelayError.TheVariants.{Memory}
 use Rattle.relay_streams.specs.Relayed.{Relays, refused, broken, unflushed, written}
 use Rattle.relay_streams.specs.Turns.{fault_of}
-use Rattle.relay_streams.proofs.OutcomeLemmas.{relays-text, relays-front}
+use Rattle.relay_streams.proofs.OutcomeLemmas.{relays-text, relays-front, relays-long}
 use Rattle.relay_streams.proofs.StreamLemmas.{attach-refused}
 use Rattle.relay_streams.proofs.TurnLemmas.{first-attached}
 use Rattle.relay_streams.proofs.relaying.relay.Goals as goal
@@ -24,9 +24,10 @@ returns-in_err-client g c =
     record {
       relays = r;
       text = relays-text g.row.S.Denot g.row.W.Denot g.S.Source.gives g.W.Taker.takes g.W.Sink.flushes
-          g.W.Sink.contents g.S.Source.left g.met.S.Source.tells g.met.W.Sink.tells g.met.W.Sink.keeps _ _ _ _ _ _ _
-          (c.args.rows.ok, omega arith) (c.args.cols.ok, omega arith) r;
+          g.W.Sink.contents g.S.Source.left g.met.S.Source.tells g.met.W.Sink.tells g.met.W.Sink.keeps _ _ _ _ _ _ _ r;
       front = relays-front g.row.S.Denot g.row.W.Denot g.S.Source.gives g.W.Taker.takes g.W.Sink.flushes
+          g.W.Sink.contents g.S.Source.left g.met.S.Source.tells g.met.W.Sink.tells g.met.W.Sink.keeps _ _ _ _ _ _ _ r;
+      too_long = relays-long g.row.S.Denot g.row.W.Denot g.S.Source.gives g.W.Taker.takes g.W.Sink.flushes
           g.W.Sink.contents g.S.Source.left g.met.S.Source.tells g.met.W.Sink.tells g.met.W.Sink.keeps _ _ _ _ _ _ _ r;
     }
 
@@ -44,9 +45,10 @@ returns-in_err-relay_pieces g c =
     record {
       relays = r;
       text = relays-text g.row.S.Denot g.row.W.Denot g.S.Source.gives g.W.Taker.takes g.W.Sink.flushes
-          g.W.Sink.contents g.S.Source.left g.met.S.Source.tells g.met.W.Sink.tells g.met.W.Sink.keeps _ _ _ _ _ _ _
-          (c.args.rows.ok, omega arith) (c.args.cols.ok, omega arith) r;
+          g.W.Sink.contents g.S.Source.left g.met.S.Source.tells g.met.W.Sink.tells g.met.W.Sink.keeps _ _ _ _ _ _ _ r;
       front = relays-front g.row.S.Denot g.row.W.Denot g.S.Source.gives g.W.Taker.takes g.W.Sink.flushes
+          g.W.Sink.contents g.S.Source.left g.met.S.Source.tells g.met.W.Sink.tells g.met.W.Sink.keeps _ _ _ _ _ _ _ r;
+      too_long = relays-long g.row.S.Denot g.row.W.Denot g.S.Source.gives g.W.Taker.takes g.W.Sink.flushes
           g.W.Sink.contents g.S.Source.left g.met.S.Source.tells g.met.W.Sink.tells g.met.W.Sink.keeps _ _ _ _ _ _ _ r;
     }
 
@@ -62,9 +64,10 @@ returns-in-Ok g c =
     record {
       relays = r;
       text = relays-text g.row.S.Denot g.row.W.Denot g.S.Source.gives g.W.Taker.takes g.W.Sink.flushes
-          g.W.Sink.contents g.S.Source.left g.met.S.Source.tells g.met.W.Sink.tells g.met.W.Sink.keeps _ _ _ _ _ _ _
-          (c.args.rows.ok, omega arith) (c.args.cols.ok, omega arith) r;
+          g.W.Sink.contents g.S.Source.left g.met.S.Source.tells g.met.W.Sink.tells g.met.W.Sink.keeps _ _ _ _ _ _ _ r;
       front = relays-front g.row.S.Denot g.row.W.Denot g.S.Source.gives g.W.Taker.takes g.W.Sink.flushes
+          g.W.Sink.contents g.S.Source.left g.met.S.Source.tells g.met.W.Sink.tells g.met.W.Sink.keeps _ _ _ _ _ _ _ r;
+      too_long = relays-long g.row.S.Denot g.row.W.Denot g.S.Source.gives g.W.Taker.takes g.W.Sink.flushes
           g.W.Sink.contents g.S.Source.left g.met.S.Source.tells g.met.W.Sink.tells g.met.W.Sink.keeps _ _ _ _ _ _ _ r;
     }
 
@@ -80,5 +83,7 @@ returns g c =
       relays = r;
       text = tt;
       front = relays-front g.row.S.Denot g.row.W.Denot g.S.Source.gives g.W.Taker.takes g.W.Sink.flushes
+          g.W.Sink.contents g.S.Source.left g.met.S.Source.tells g.met.W.Sink.tells g.met.W.Sink.keeps _ _ _ _ _ _ _ r;
+      too_long = relays-long g.row.S.Denot g.row.W.Denot g.S.Source.gives g.W.Taker.takes g.W.Sink.flushes
           g.W.Sink.contents g.S.Source.left g.met.S.Source.tells g.met.W.Sink.tells g.met.W.Sink.keeps _ _ _ _ _ _ _ r;
     }

@@ -1,11 +1,11 @@
-use Rattle.std.proofs.Common.{◌≡◌, ℕ, List, [], ◌∷◌, ◌++◌, take, length, arith, Err, rules}
+use Rattle.std.proofs.Common.{◌≡◌, ℕ, List, [], ◌∷◌, ◌++◌, take, length, arith, refl, Err, rules}
 use Rattle.relay_streams.specs.Pieces.{piece_len}
 use Rattle.relay_streams.specs.Relayed.{unread, sent}
 use Rattle.takers.specs.Sent.{none}
 use Rattle.relay_streams.proofs.FrameLists.{frames_of, base_of}
 use Rattle.relay_streams.proofs.SessionLemmas.{frames-are-relayed}
 use Rattle.relay_streams.proofs.PieceLemmas.{none_read, filled_most, filled_on, filled_last, filled_fault, filled_begun}
-use Rattle.relay_streams.proofs.StreamLemmas.{turn-faults, turn-sent, turn-stands}
+use Rattle.relay_streams.proofs.StreamLemmas.{turn-faults, turn-fits, turn-sent, turn-stands}
 use Rattle.relay_streams.proofs.relaying.relay_pieces.Goals as goal
 
 pub pieces-init : goal.pieces-init
@@ -14,6 +14,7 @@ pieces-init g c = record {
   past = [];
   read = none_read g.row.S.Denot g.S.Source.gives piece_len c.args.input.now;
   at = λ rows cols at. at;
+  fits = λ rows cols at. refl;
   sent = λ rows cols at. none;
 }
 
@@ -27,7 +28,8 @@ returns-in_err-n g c = λ rows cols at.
     rw is (unread so_far.past (frames_of rows cols so_far.past) f.bytes fault
     (filled_fault g.row.S.Denot g.S.Source.gives piece_len c.args.input.now c.pieces.input c.fill.new.input
     c.pieces.reads c.fill.new.reads so_far.past c.fill.new.piece c.fill.result f fault c.in_err-n.was
-    so_far.read) (frames-are-relayed rows cols so_far.past at.height at.width) (so_far.sent rows cols at))
+    so_far.read) (frames-are-relayed rows cols so_far.past at.height at.width (so_far.fits rows cols at))
+    (so_far.sent rows cols at))
 
 pub returns-in_err-turn : goal.returns-in_err-turn
 returns-in_err-turn g c = λ rows cols at.
@@ -42,7 +44,7 @@ returns-in_err-turn g c = λ rows cols at.
     c.pieces.reads c.fill.new.reads so_far.past c.fill.new.piece c.fill.result f n c.in_ok-n.was so_far.read in
     rw is (turn-faults g.row.S.Denot g.row.W.Denot g.S.Source.gives g.W.Taker.takes rows cols so_far.past piece
     c.args.client c.turn.new.hub c.args.input.now c.fill.new.input c.args.output.now c.pieces.output
-    c.turn.new.output fault at.height at.width begun (so_far.sent rows cols at)
+    c.turn.new.output fault at.height at.width begun (so_far.fits rows cols at) (so_far.sent rows cols at)
     (c.in_err-turn.ensures rows cols so_far.past (base_of rows cols so_far.past) (so_far.at rows cols at)))
 
 pub returns-then-n-lt-PIECE_LEN : goal.returns-then-n-lt-PIECE_LEN
@@ -58,7 +60,9 @@ returns-then-n-lt-PIECE_LEN g c = λ rows cols at.
     (filled_last g.row.S.Denot g.S.Source.gives piece_len c.args.input.now c.pieces.input c.fill.new.input
     c.pieces.reads c.fill.new.reads so_far.past c.fill.new.piece c.fill.result f n c.in_ok-n.was
     (omega arith) so_far.read)
-    (frames-are-relayed rows cols pieces at.height at.width)
+    (frames-are-relayed rows cols pieces at.height at.width
+    (turn-fits g.row.S.Denot g.row.W.Denot g.S.Source.gives g.W.Taker.takes rows cols so_far.past piece c.args.client
+    c.turn.new.hub c.pieces.output c.turn.new.output (so_far.fits rows cols at) turned))
     (turn-sent g.row.S.Denot g.row.W.Denot g.S.Source.gives g.W.Taker.takes rows cols so_far.past piece c.args.client
     c.turn.new.hub c.args.output.now c.pieces.output c.turn.new.output (so_far.sent rows cols at) turned)
 
@@ -80,6 +84,9 @@ pieces-preserved g c =
           (omega arith) so_far.read;
       at = λ rows cols at. turn-stands g.row.S.Denot g.row.W.Denot g.S.Source.gives g.W.Taker.takes rows cols
           so_far.past piece c.args.client c.turn.new.hub c.pieces.output c.turn.new.output
+          (c.in_ok-turn.ensures rows cols so_far.past (base_of rows cols so_far.past) (so_far.at rows cols at));
+      fits = λ rows cols at. turn-fits g.row.S.Denot g.row.W.Denot g.S.Source.gives g.W.Taker.takes rows cols
+          so_far.past piece c.args.client c.turn.new.hub c.pieces.output c.turn.new.output (so_far.fits rows cols at)
           (c.in_ok-turn.ensures rows cols so_far.past (base_of rows cols so_far.past) (so_far.at rows cols at));
       sent = λ rows cols at. turn-sent g.row.S.Denot g.row.W.Denot g.S.Source.gives g.W.Taker.takes rows cols
           so_far.past piece c.args.client c.turn.new.hub c.args.output.now c.pieces.output

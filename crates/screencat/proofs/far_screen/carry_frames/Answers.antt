@@ -1,7 +1,8 @@
-use Rattle.std.proofs.Common.{◌≡◌, ℕ, List, [], ◌∷◌, ◌++◌, take, length, arith}
+use Rattle.std.proofs.Common.{◌≡◌, ℕ, List, [], ◌∷◌, ◌++◌, take, length, refl, arith}
+use Rattle.std.specs.List.{concat}
 use Rattle.relay_streams.specs.Pieces.{piece_len}
-use Rattle.relay_streams.proofs.FrameLists.{frames_of, base_of}
-use Rattle.relay_streams.proofs.PieceLemmas.{none_read, filled_most, filled_on, filled_last}
+use Rattle.relay_streams.proofs.FrameLists.{frames_of, base_of, fits-push}
+use Rattle.relay_streams.proofs.PieceLemmas.{none_read, filled_most, filled_on, filled_last, concat-push}
 use Rattle.relay_streams.proofs.SessionLemmas.{frames-are-relayed}
 use Rattle.screencat.proofs.CarryLemmas.{carries-none, carries-on, relays-on}
 use Rattle.screencat.proofs.far_screen.carry_frames.Goals as goal
@@ -12,6 +13,7 @@ pieces-init g c = record {
   past = [];
   read = none_read g.row.S.Denot g.S.Source.gives piece_len c.args.input.now;
   at = λ rows cols at. at;
+  fits = λ rows cols at. refl;
   carried = λ rows cols at. carries-none c.args.view.now;
 }
 
@@ -31,9 +33,11 @@ returns-then-n-lt-PIECE_LEN g c =
           let brought = c.in_ok-carry_frame.ensures rows cols so_far.past (base_of rows cols so_far.past)
           (so_far.at rows cols at) in (
             frames_of rows cols pieces,
-            frames-are-relayed rows cols pieces at.height at.width,
+            frames-are-relayed rows cols pieces at.height at.width
+                (fits-push rows cols so_far.past piece (concat pieces) (concat-push so_far.past piece)
+                (so_far.fits rows cols at) brought.0),
             carries-on rows cols so_far.past piece c.args.view.now c.pieces.view c.carry_frame.new.view
-                (so_far.carried rows cols at) brought.0,
+                (so_far.carried rows cols at) brought.1,
           ),
     )
 
@@ -56,12 +60,18 @@ pieces-preserved g c =
       at = λ rows cols at.
           let brought = c.in_ok-carry_frame.ensures rows cols so_far.past (base_of rows cols so_far.past)
           (so_far.at rows cols at) in
-          relays-on rows cols so_far.past piece c.carry_frame.new.hub c.args.client brought.1;
+          relays-on rows cols so_far.past piece c.carry_frame.new.hub c.args.client brought.2;
+      fits = λ rows cols at.
+          let brought = c.in_ok-carry_frame.ensures rows cols so_far.past (base_of rows cols so_far.past)
+          (so_far.at rows cols at) in
+          let pieces : List (List ℕ) = so_far.past ++ piece ∷ [] in
+          fits-push rows cols so_far.past piece (concat pieces) (concat-push so_far.past piece)
+          (so_far.fits rows cols at) brought.0;
       carried = λ rows cols at.
           let brought = c.in_ok-carry_frame.ensures rows cols so_far.past (base_of rows cols so_far.past)
           (so_far.at rows cols at) in
           carries-on rows cols so_far.past piece c.args.view.now c.pieces.view c.carry_frame.new.view
-          (so_far.carried rows cols at) brought.0;
+          (so_far.carried rows cols at) brought.1;
     }
 
 pub pieces-smaller : goal.pieces-smaller

@@ -1,14 +1,15 @@
-use Rattle.std.proofs.Common.{◌≤◌, ◌-◌, List, [], ℕ, None}
-use Rattle.std.specs.List.{concat}
+use Rattle.std.proofs.Common.{◌≡◌, ◌≤◌, ◌-◌, List, [], ℕ, false, None}
+use Rattle.std.specs.List.{concat, list_any}
 use Rattle.relay_streams.specs.Fill.{max_reads}
+use Rattle.relay_streams.specs.Frames.{is_overlong}
 use Rattle.relay_streams.specs.Pieces.{piece_len}
 use Rattle.relay_streams.specs.Turns.{Relaying}
-use Rattle.relay_streams.proofs.FrameLists.{frames_of, base_of}
+use Rattle.relay_streams.proofs.FrameLists.{frames_of, answers_of, base_of}
 use Rattle.relay_streams.proofs.PieceLemmas.{DrainsOn}
 use Rattle.screencat.specs.Carried.{Carries}
 use Rattle.screencat.proofs.far_screen.carry_frames.Given as goal
 
--- the pieces that were read so far were fed, and their frames reached the view
+-- the pieces that were read so far were fed, and their frames, of which none was too long, reached the view
 abbrev pub invariant-pieces : goal.invariant-pieces
 invariant-pieces g l = record {
   most : l.reads ≤ max_reads;
@@ -16,6 +17,8 @@ invariant-pieces g l = record {
   read : DrainsOn g.S.Source.gives piece_len l.fn.input l.input l.reads past;
   at : (rows cols : ℕ) → Relaying rows cols [] None l.fn.hub l.fn.client
       → Relaying rows cols past (base_of rows cols past) l.hub l.fn.client;
+  fits : (rows cols : ℕ) → Relaying rows cols [] None l.fn.hub l.fn.client
+      → list_any is_overlong (answers_of rows cols past) ≡ false;
   carried : (rows cols : ℕ) → Relaying rows cols [] None l.fn.hub l.fn.client
       → Carries l.fn.view (concat (frames_of rows cols past)) l.view;
 }

@@ -1,4 +1,4 @@
-use Rattle.std.proofs.Common.{ℕ, List, Option, Ok, IfSome, subst, arith}
+use Rattle.std.proofs.Common.{ℕ, List, Option, Ok, IfSome, subst}
 use Rattle.std.specs.Io.KnownBytes.{Appends}
 use Rattle.screenrelay.specs.Command.{Wants}
 use Rattle.screenrelay.specs.Words.{Order}
@@ -15,4 +15,4 @@ returns-in-Ok-clause-done g c = λ is.
     (does-text g.row.S.Denot g.row.W.Denot g.S.Source.gives g.W.Taker.takes g.W.Sink.flushes g.W.Sink.contents
     g.S.Source.left g.met.S.Source.tells g.met.W.Sink.tells g.met.W.Sink.keeps
     order.job order.rows.value order.cols.value c.args.input.now c.args.output.now (Ok tt) c.carry_out.new.input
-    c.carry_out.new.output (order.rows.ok, omega arith) (order.cols.ok, omega arith) c.in-Ok.ensures)
+    c.carry_out.new.output c.in-Ok.ensures)

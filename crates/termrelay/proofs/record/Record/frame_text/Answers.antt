@@ -12,7 +12,7 @@ use Rattle.termrelay.specs.Frame.{start_mark, end_mark}
 use Rattle.termrelay.specs.Record.{IsBaseOf}
 use Rattle.termrelay.specs.contracts.answer.Answer.{the_type}
 use Rattle.termrelay.specs.declared.answer.Answer.{Answer}
-use Rattle.termrelay.specs.declared.answer.Answer.TheVariants.{Full, Difference, Unsure, Unchanged, Behind}
+use Rattle.termrelay.specs.declared.answer.Answer.TheVariants.{Full, Difference, Unsure, Unchanged, Behind, Held, TooLong}
 use Rattle.termrelay.proofs.DueLemmas.{full-text, difference-text, redraw-text, text-joined, two-joined}
 use Rattle.termrelay.proofs.record.Record.frame_text.Goals as goal
 use Rattle.termrelay.proofs.record.Record.frame_text.Goals.{in-None+in_ok-state_formatted-in-None+in_ok-extend_from_slice-in-None}
@@ -25,6 +25,8 @@ is-difference Difference h = cc
 is-difference Unsure h = cc
 is-difference Unchanged h = cc
 is-difference Behind h = cc
+is-difference Held h = cc
+is-difference TooLong h = cc
 
 not-difference : (a : Answer) → sameb the_type a Difference ≡ false → a ≡ Difference → ⊥
 not-difference Full h e = cc
@@ -32,6 +34,8 @@ not-difference Difference h e = cc
 not-difference Unsure h e = cc
 not-difference Unchanged h e = cc
 not-difference Behind h e = cc
+not-difference Held h e = cc
+not-difference TooLong h e = cc
 
 shown-of : Option ScreenView → Option Shown
 shown-of base = option_map (λ v. shown_state v.state) base
