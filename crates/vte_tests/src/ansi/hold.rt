@@ -1,6 +1,6 @@
 //! Synchronized updates.
 
-use super::log::{Flagged, Log, UntilCleared};
+use super::log::{Flagged, Log, Processor, feed, processor};
 use super::table::calls;
 use crate::same::same;
 use std::alloc::Global;
@@ -8,8 +8,6 @@ use std::cell::Cell;
 use std::process::Abort;
 use std::test::Fail;
 use vte::ansi::{self, Handler, Timeout};
-
-type Processor = ansi::Processor<UntilCleared, Global>;
 
 /// A piece, the calls so far after it, and how many bytes are held then.
 type Piece = (&'static [u8], &'static str, usize);
@@ -22,7 +20,7 @@ fn takes(
     piece: Piece,
 ) -> usize {
     let (bytes, wanted, count) = piece;
-    processor.advance(log, bytes);
+    feed(processor, log, bytes);
     let held = processor.sync_bytes_count();
     same(
         rt,
@@ -65,7 +63,7 @@ const HELD: &[Piece] = &[
 #[test]
 fn holds_until_the_end_mark(rt: HostRuntime) -> Result<(), Fail> {
     let mut log = Log::new(&rt);
-    let mut processor = Processor::new(rt.alloc(), UntilCleared::new())?;
+    let mut processor = processor(rt.alloc())?;
     let pending = takes_all(&rt, &mut processor, &mut log, HELD);
     same(&rt, &pending, &false);
     Ok(())
@@ -76,7 +74,7 @@ const BEGUN: &[Piece] = &[(b"\x1b[?20", "", 0), (b"26h\x1b[1m", OPENED, 4)];
 #[test]
 fn begins_and_stops(rt: HostRuntime) -> Result<(), Fail> {
     let mut log = Log::new(&rt);
-    let mut processor = Processor::new(rt.alloc(), UntilCleared::new())?;
+    let mut processor = processor(rt.alloc())?;
     takes_all(&rt, &mut processor, &mut log, BEGUN);
     processor.stop_sync(&mut log);
     let pending = takes_all(&rt, &mut processor, &mut log, &[(b"", BOLD, 0)]);
@@ -101,7 +99,7 @@ const AMONG_OTHERS: &[Piece] = &[
 #[test]
 fn opens_among_other_modes(rt: HostRuntime) -> Result<(), Fail> {
     let mut log = Log::new(&rt);
-    let mut processor = Processor::new(rt.alloc(), UntilCleared::new())?;
+    let mut processor = processor(rt.alloc())?;
     takes_all(&rt, &mut processor, &mut log, AMONG_OTHERS);
     Ok(())
 }
@@ -136,7 +134,7 @@ const SET_AGAIN: &[(Piece, usize)] = &[
 #[test]
 fn sets_the_timeout_again(rt: HostRuntime) -> Result<(), Fail> {
     let mut log = Log::new(&rt);
-    let mut processor = Processor::new(rt.alloc(), UntilCleared::new())?;
+    let mut processor = processor(rt.alloc())?;
     for (piece, sets) in SET_AGAIN {
         let told = takes(&rt, &mut processor, &mut log, *piece);
         same(&rt, &told, sets);
@@ -145,20 +143,28 @@ fn sets_the_timeout_again(rt: HostRuntime) -> Result<(), Fail> {
     Ok(())
 }
 
+/// Hands a piece over. How many bytes are held then.
+fn held_after(
+    processor: &mut ansi::Processor<Flagged<'_>, Global>,
+    log: &mut Log,
+    piece: &[u8],
+) -> usize {
+    processor.advance(log, piece);
+    processor.sync_bytes_count()
+}
+
 /// Held bytes are parsed before later ones, also where the timeout isn't pending any more.
 #[test]
 fn parses_held_bytes_first(rt: HostRuntime) -> Result<(), Fail> {
     let pending = Cell::new(false);
     let mut log = Log::new(&rt);
     let mut processor = ansi::Processor::new(rt.alloc(), Flagged(&pending))?;
-    processor.advance(&mut log, b"\x1b[?2026hab");
-    let held = processor.sync_bytes_count();
+    let held = held_after(&mut processor, &mut log, b"\x1b[?2026hab");
     pending.set(false);
-    processor.advance(&mut log, b"cd");
+    let after = held_after(&mut processor, &mut log, b"cd");
     let all =
         "SetPrivateMode(Named(SyncUpdate)) Input('a') Input('b') UnsetPrivateMode(Named(SyncUpdate)) Input('c') \
          Input('d') ";
-    let after = processor.sync_bytes_count();
     same(&rt, &(held, after, log.text.as_str()), &(2, 0, all));
     Ok(())
 }
@@ -166,7 +172,7 @@ fn parses_held_bytes_first(rt: HostRuntime) -> Result<(), Fail> {
 /// Fills the hold up to two bytes.
 fn fill(processor: &mut Processor, log: &mut Log) {
     for _ in 0..1_048_573 {
-        processor.advance(log, b"aa");
+        feed(processor, log, b"aa");
     }
 }
 
@@ -175,7 +181,7 @@ const FILLED: &[Piece] = &[(b"\x1b[?2026h", OPENED, 0), (b"\x1b[1m", OPENED, 4)]
 #[test]
 fn empties_a_full_hold(rt: HostRuntime) -> Result<(), Fail> {
     let mut log = Log::with_count(&rt);
-    let mut processor = Processor::new(rt.alloc(), UntilCleared::new())?;
+    let mut processor = processor(rt.alloc())?;
     takes_all(&rt, &mut processor, &mut log, FILLED);
     fill(&mut processor, &mut log);
     takes(&rt, &mut processor, &mut log, (b"", OPENED, 2_097_150));
