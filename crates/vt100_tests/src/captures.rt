@@ -48,7 +48,7 @@ const RED: Attrs = Attrs {
     mode: 0,
 };
 
-/// Prints two characters with attributes.
+/// Prints two characters, the second with these attributes.
 fn print(
     grid: &mut Grid,
     text: (char, char),
