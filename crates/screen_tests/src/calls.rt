@@ -6,15 +6,9 @@ use std::io::Write;
 use std::test::Fail;
 use vt100::{GridError, Parser, ScreenError, WrappedScreen};
 
-#[test]
-fn calls_on_a_screen(rt: HostRuntime) -> Result<(), Fail> {
-    let parser = Parser::new(rt.alloc(), count(2), count(3), 1)?;
-    let screen = parser.screen().clone()?;
-    let mut wrapped = WrappedScreen {
-        screen,
-        callbacks: (),
-    };
-    let answers = [
+/// What each call answers.
+fn answers(wrapped: &mut WrappedScreen<()>) -> [Result<(), ScreenError>; 8] {
+    [
         wrapped.text('a'),
         wrapped.lf(),
         wrapped.vt(),
@@ -23,25 +17,35 @@ fn calls_on_a_screen(rt: HostRuntime) -> Result<(), Fail> {
         wrapped.ris(),
         wrapped.set_size_with_cb(count(1), count(2)),
         wrapped.text('b'),
-    ];
-    same(
-        &rt,
-        &(answers, wrapped.screen.contents()?.as_str()),
-        &([Ok(()); 8], "b"),
-    );
+    ]
+}
+
+#[test]
+fn calls_on_a_screen(rt: HostRuntime) -> Result<(), Fail> {
+    let parser = Parser::new(rt.alloc(), count(2), count(3), 1)?;
+    let screen = parser.screen().clone()?;
+    let mut wrapped = WrappedScreen {
+        screen,
+        callbacks: (),
+    };
+    let answers = answers(&mut wrapped);
+    let contents = wrapped.screen.contents()?;
+    same(&rt, &(answers, contents.as_str()), &([Ok(()); 8], "b"));
     Ok(())
+}
+
+/// How much was written, and what is shown then.
+fn written(parser: &mut Parser<()>) -> Result<(usize, String), Fail> {
+    let written = parser.write(b"hi")?;
+    parser.flush()?;
+    Ok((written, parser.screen().contents()?))
 }
 
 #[test]
 fn writing_feeds(rt: HostRuntime) -> Result<(), Fail> {
     let mut parser = Parser::new_default(rt.alloc())?;
-    let written = parser.write(b"hi")?;
-    parser.flush()?;
-    same(
-        &rt,
-        &(written, parser.screen().contents()?.as_str()),
-        &(2, "hi"),
-    );
+    let (written, contents) = written(&mut parser)?;
+    same(&rt, &(written, contents.as_str()), &(2, "hi"));
     Ok(())
 }
 

@@ -62,13 +62,22 @@ fn retried_report(screen: &Screen, prev: &Screen, alloc: Global) -> Result<Strin
     }
 }
 
+/// Two screens tell the same.
+fn check_alike(
+    rt: &(impl Abort + AllocGlobal),
+    screen: &Screen,
+    copy: &Screen,
+) -> Result<(), Fail> {
+    let told = retried_report(screen, copy, rt.alloc())?;
+    let told_by_copy = retried_report(copy, screen, rt.alloc())?;
+    same(rt, &told.as_str(), &told_by_copy.as_str());
+    Ok(())
+}
+
 /// Everything is read of a screen, whether it has failed or not, and of its copy, which tells the same.
 fn read_all(rt: &(impl Abort + AllocGlobal), screen: &Screen) -> Result<(), Fail> {
     let copy = retried_clone(screen)?;
-    let told = retried_report(screen, &copy, rt.alloc())?;
-    let told_by_copy = retried_report(&copy, screen, rt.alloc())?;
-    same(rt, &told.as_str(), &told_by_copy.as_str());
-    Ok(())
+    check_alike(rt, screen, &copy)
 }
 
 /// A screen that has failed does nothing more.
@@ -181,13 +190,24 @@ fn check_shown(rt: &impl Abort, screen: &Screen, want: (&str, usize)) -> Result<
     Ok(())
 }
 
+/// After a stream a screen shows this, unless memory was refused.
+fn check_stream(
+    rt: &(impl Abort + AllocGlobal),
+    parser: &mut Parser<()>,
+    stream: &[u8],
+    want: (&str, usize),
+) -> Result<(), Fail> {
+    if check_process(rt, parser, stream)? {
+        check_shown(rt, parser.screen(), want)?;
+    }
+    Ok(())
+}
+
 #[test]
 fn streams(rt: HostRuntime) -> Result<(), Fail> {
     for (start, stream, want, kept) in STREAMS {
         let mut parser = retried_parser(rt.alloc(), *start)?;
-        if check_process(&rt, &mut parser, stream)? {
-            check_shown(&rt, parser.screen(), (want, *kept))?;
-        }
+        check_stream(&rt, &mut parser, stream, (want, *kept))?;
     }
     Ok(())
 }
@@ -236,13 +256,21 @@ const READ: &[(Start, &[u8])] = &[
     ((2, 2, 3), b"a\r\nb\r\nc\x1b[?25l\x1b[?1049h\x1b=\x1b[7mxy"),
 ];
 
+fn read_after(
+    rt: &(impl Abort + AllocGlobal),
+    parser: &mut Parser<()>,
+    stream: &[u8],
+) -> Result<(), Fail> {
+    let answer = parser.process(stream);
+    same(rt, &answer.is_err(), &parser.screen().failed());
+    read_all(rt, parser.screen())
+}
+
 #[test]
 fn everything_is_read(rt: HostRuntime) -> Result<(), Fail> {
     for (start, stream) in READ {
         let mut parser = retried_parser(rt.alloc(), *start)?;
-        let answer = parser.process(stream);
-        same(&rt, &answer.is_err(), &parser.screen().failed());
-        read_all(&rt, parser.screen())?;
+        read_after(&rt, &mut parser, stream)?;
     }
     Ok(())
 }
@@ -291,12 +319,18 @@ fn check_texts(
     Ok(())
 }
 
-#[test]
-fn texts(rt: HostRuntime) -> Result<(), Fail> {
-    let mut parser = retried_parser(rt.alloc(), (2, 4, 0))?;
+/// A parser shows one row, which is copied, and then a second one too.
+fn two_rows(parser: &mut Parser<()>) -> Result<Screen, Fail> {
     parser.process(b"ab")?;
     let prev = retried_clone(parser.screen())?;
     parser.process(b"\r\n\x1b[1mc")?;
+    Ok(prev)
+}
+
+#[test]
+fn texts(rt: HostRuntime) -> Result<(), Fail> {
+    let mut parser = retried_parser(rt.alloc(), (2, 4, 0))?;
+    let prev = two_rows(&mut parser)?;
     check_texts(&rt, parser.screen(), &prev, TWO_ROWS)?;
     check_texts(&rt, parser.screen(), &prev, MODES_AND_ROWS)
 }
@@ -311,17 +345,22 @@ const KEPT_ROW: &[(Text, &str)] = &[
     (Text::RowsDiff(0, 2), "a/"),
 ];
 
+/// Shows a kept row, unless memory is refused, and makes its texts.
+fn check_kept_row(rt: &(impl Abort + AllocGlobal), parser: &mut Parser<()>) -> Result<(), Fail> {
+    let prev = retried_clone(parser.screen())?;
+    let answer = parser.screen_mut().set_scrollback(1);
+    check_answer(rt, parser, answer)?;
+    if answer.is_ok() {
+        check_texts(rt, parser.screen(), &prev, KEPT_ROW)?;
+    }
+    Ok(())
+}
+
 #[test]
 fn texts_with_a_kept_row(rt: HostRuntime) -> Result<(), Fail> {
     let mut parser = retried_parser(rt.alloc(), (1, 2, 3))?;
-    if !check_process(&rt, &mut parser, b"a\r\nb")? {
-        return Ok(());
-    }
-    let prev = retried_clone(parser.screen())?;
-    let answer = parser.screen_mut().set_scrollback(1);
-    check_answer(&rt, &mut parser, answer)?;
-    if answer.is_ok() {
-        check_texts(&rt, parser.screen(), &prev, KEPT_ROW)?;
+    if check_process(&rt, &mut parser, b"a\r\nb")? {
+        check_kept_row(&rt, &mut parser)?;
     }
     Ok(())
 }
@@ -348,23 +387,46 @@ fn check_items<I: Iterator<Item = Result<String, ScreenError>> + Drop>(
     Ok(refused)
 }
 
-#[test]
-fn items_of_rows(rt: HostRuntime) -> Result<(), Fail> {
-    let mut parser = retried_parser(rt.alloc(), (3, 8, 0))?;
-    parser.process(b"one\r\ntwo\r\nthree")?;
-    let screen = parser.screen();
-    let wants = ["one", "two", "three"];
-    if check_items(&rt, screen.rows(0, 8), wants)? != 0 {
-        same(&rt, &check_items(&rt, screen.rows(0, 8), wants)?, &0);
+const ITEMS: [&str; 3] = ["one", "two", "three"];
+
+/// Each row has its text. Where one was refused, the second try has them all.
+fn check_rows(rt: &impl Abort, screen: &Screen) -> Result<(), Fail> {
+    if check_items(rt, screen.rows(0, 8), ITEMS)? != 0 {
+        same(rt, &check_items(rt, screen.rows(0, 8), ITEMS)?, &0);
     }
-    if check_items(&rt, screen.rows_formatted(0, 8), wants)? != 0 {
+    Ok(())
+}
+
+/// The same of the forms that draw each row.
+fn check_rows_formatted(rt: &impl Abort, screen: &Screen) -> Result<(), Fail> {
+    if check_items(rt, screen.rows_formatted(0, 8), ITEMS)? != 0 {
         same(
-            &rt,
-            &check_items(&rt, screen.rows_formatted(0, 8), wants)?,
+            rt,
+            &check_items(rt, screen.rows_formatted(0, 8), ITEMS)?,
             &0,
         );
     }
     Ok(())
+}
+
+/// The same of the forms that lead from another screen.
+fn check_rows_diff(rt: &impl Abort, screen: &Screen, prev: &Screen) -> Result<(), Fail> {
+    if check_items(rt, screen.rows_diff(prev, 0, 8), ITEMS)? != 0 {
+        same(
+            rt,
+            &check_items(rt, screen.rows_diff(prev, 0, 8), ITEMS)?,
+            &0,
+        );
+    }
+    Ok(())
+}
+
+#[test]
+fn items_of_rows(rt: HostRuntime) -> Result<(), Fail> {
+    let mut parser = retried_parser(rt.alloc(), (3, 8, 0))?;
+    parser.process(b"one\r\ntwo\r\nthree")?;
+    check_rows(&rt, parser.screen())?;
+    check_rows_formatted(&rt, parser.screen())
 }
 
 #[test]
@@ -372,15 +434,23 @@ fn items_of_differences(rt: HostRuntime) -> Result<(), Fail> {
     let mut parser = retried_parser(rt.alloc(), (3, 8, 0))?;
     let prev = retried_clone(parser.screen())?;
     parser.process(b"one\r\ntwo\r\nthree")?;
-    let screen = parser.screen();
-    let wants = ["one", "two", "three"];
-    if check_items(&rt, screen.rows_diff(&prev, 0, 8), wants)? != 0 {
-        same(
-            &rt,
-            &check_items(&rt, screen.rows_diff(&prev, 0, 8), wants)?,
-            &0,
-        );
-    }
+    check_rows_diff(&rt, parser.screen(), &prev)
+}
+
+/// A copy of a screen that shows its alternate sheet.
+fn check_copy(rt: &impl Abort, screen: &Screen) -> Result<(), Fail> {
+    let copy = retried_clone(screen)?;
+    let contents = retried_contents(&copy)?;
+    same(
+        rt,
+        &(
+            contents.as_str(),
+            copy.alternate_screen(),
+            copy.failed(),
+            places(&copy),
+        ),
+        &("x", true, false, places(screen)),
+    );
     Ok(())
 }
 
@@ -388,19 +458,28 @@ fn items_of_differences(rt: HostRuntime) -> Result<(), Fail> {
 fn copies(rt: HostRuntime) -> Result<(), Fail> {
     let mut parser = retried_parser(rt.alloc(), (2, 2, 3))?;
     if check_process(&rt, &mut parser, b"a\r\nb\r\nc\x1b[?47hx")? {
-        let copy = retried_clone(parser.screen())?;
-        let contents = retried_contents(&copy)?;
-        same(
-            &rt,
-            &(
-                contents.as_str(),
-                copy.alternate_screen(),
-                copy.failed(),
-                places(&copy),
-            ),
-            &("x", true, false, places(parser.screen())),
-        );
+        check_copy(&rt, parser.screen())?;
     }
+    Ok(())
+}
+
+/// A stream, and two sizes one after another. What the last call answers that was made.
+fn two_sizes(parser: &mut Parser<()>) -> Result<(), ScreenError> {
+    parser.process(b"a\r\nb\r\nc\x1b[?47h")?;
+    parser.set_size(count(4), count(3))?;
+    parser.screen_mut().set_size(count(1), count(5))
+}
+
+/// What the main sheet is after these.
+fn check_sized(rt: &impl Abort, parser: &mut Parser<()>) -> Result<(), Fail> {
+    parser.process(b"\x1b[?47l")?;
+    let contents = retried_contents(parser.screen())?;
+    let (size, _, kept) = places(parser.screen());
+    same(
+        rt,
+        &(contents.as_str(), size, kept),
+        &("c", (1, 5), [2, 3, 0]),
+    );
     Ok(())
 }
 
@@ -409,48 +488,39 @@ fn copies(rt: HostRuntime) -> Result<(), Fail> {
 #[test]
 fn sizes(rt: HostRuntime) -> Result<(), Fail> {
     let mut parser = retried_parser(rt.alloc(), (2, 2, 3))?;
-    let mut answer = parser.process(b"a\r\nb\r\nc\x1b[?47h");
-    if answer.is_ok() {
-        answer = parser.set_size(count(4), count(3));
-    }
-    if answer.is_ok() {
-        answer = parser.screen_mut().set_size(count(1), count(5));
-    }
+    let answer = two_sizes(&mut parser);
     check_answer(&rt, &mut parser, answer)?;
     if answer.is_ok() {
-        parser.process(b"\x1b[?47l")?;
-        let contents = retried_contents(parser.screen())?;
-        let (size, _, kept) = places(parser.screen());
-        same(
-            &rt,
-            &(contents.as_str(), size, kept),
-            &("c", (1, 5), [2, 3, 0]),
-        );
+        check_sized(&rt, &mut parser)?;
     }
+    Ok(())
+}
+
+/// A stream, and then a kept row is shown. What the last call answers that was made.
+fn show_kept_rows(parser: &mut Parser<()>) -> Result<(), ScreenError> {
+    parser.process(b"a\r\nb\r\nc\r\nd")?;
+    parser.screen_mut().set_scrollback(2)
+}
+
+fn check_kept(rt: &impl Abort, screen: &Screen) -> Result<(), Fail> {
+    let contents = retried_contents(screen)?;
+    same(rt, &(contents.as_str(), screen.scrollback()), &("b", 2));
     Ok(())
 }
 
 #[test]
 fn kept_rows(rt: HostRuntime) -> Result<(), Fail> {
     let mut parser = retried_parser(rt.alloc(), (1, 2, 3))?;
-    let mut answer = parser.process(b"a\r\nb\r\nc\r\nd");
-    if answer.is_ok() {
-        answer = parser.screen_mut().set_scrollback(2);
-    }
+    let answer = show_kept_rows(&mut parser);
     check_answer(&rt, &mut parser, answer)?;
     if answer.is_ok() {
-        let contents = retried_contents(parser.screen())?;
-        same(
-            &rt,
-            &(contents.as_str(), parser.screen().scrollback()),
-            &("b", 2),
-        );
+        check_kept(&rt, parser.screen())?;
     }
     Ok(())
 }
 
 /// A call that prints, scrolls, makes a new screen or gives it another size.
-#[derive(Clone, Copy, Debug)]
+#[derive(Clone, Copy)]
 enum Direct {
     Text(char),
     Lf,

@@ -1,26 +1,38 @@
 //! What callbacks are told, in order, each call after its event's change, and captures of what they keep.
 
-use crate::log::logging_parser;
+use crate::log::{Log, logging_parser};
 use crate::same::{same, same_for};
 use crate::start::{Start, count};
 use std::process::Abort;
 use std::test::Fail;
+use vt100::Parser;
 use vt100::capture::BasicFormattedCaptureRange;
 
 /// A size, a stream, and what it tells.
 type Told = (Start, &'static [u8], &'static str);
 
+/// A stream tells this.
+fn check_stream(
+    rt: &impl Abort,
+    parser: &mut Parser<Log>,
+    stream: &[u8],
+    told: &str,
+) -> Result<(), Fail> {
+    parser.process(stream)?;
+    let log = parser.callbacks();
+    same_for(
+        rt,
+        &stream,
+        &(log.failed, log.text.as_str()),
+        &(false, told),
+    );
+    Ok(())
+}
+
 fn check_told(rt: &(impl Abort + AllocGlobal), cases: &[Told]) -> Result<(), Fail> {
     for (start, stream, told) in cases {
         let mut parser = logging_parser(rt.alloc(), *start)?;
-        parser.process(stream)?;
-        let log = parser.callbacks();
-        same_for(
-            rt,
-            stream,
-            &(log.failed, log.text.as_str()),
-            &(false, *told),
-        );
+        check_stream(rt, &mut parser, stream, told)?;
     }
     Ok(())
 }
@@ -137,13 +149,18 @@ fn rows_are_told(rt: HostRuntime) -> Result<(), Fail> {
     check_told(&rt, ROWS)
 }
 
+fn two_sizes(parser: &mut Parser<Log>) -> Result<(), Fail> {
+    parser.process(b"\x1b[8;3;4tabcd\r\ne\r\nf")?;
+    parser.callbacks_mut().text.clear();
+    parser.set_size(count(1), count(3))?;
+    Ok(())
+}
+
 /// A request for a size comes to callbacks that grant it, and a lower screen tells of the rows that leave.
 #[test]
 fn sizes_are_told(rt: HostRuntime) -> Result<(), Fail> {
     let mut parser = logging_parser(rt.alloc(), (2, 2, 0))?;
-    parser.process(b"\x1b[8;3;4tabcd\r\ne\r\nf")?;
-    parser.callbacks_mut().text.clear();
-    parser.set_size(count(1), count(3))?;
+    two_sizes(&mut parser)?;
     let (rows, cols) = parser.screen().size();
     let told = parser.callbacks().text.as_str();
     same(
@@ -154,17 +171,28 @@ fn sizes_are_told(rt: HostRuntime) -> Result<(), Fail> {
     Ok(())
 }
 
-/// Rows that left, and then the kept ones and those that are drawn on, are one capture.
-#[test]
-fn captures_go_on(rt: HostRuntime) -> Result<(), Fail> {
-    let mut parser = logging_parser(rt.alloc(), (2, 2, 1))?;
-    parser.process("ab\x1b[31mcdef\x1b[m\r\n中\r\n\x1b[1;4mg".as_bytes())?;
+/// Captures the kept rows and those that are drawn on, and then those that are shown.
+fn capture(parser: &mut Parser<Log>) -> Result<(), Fail> {
     parser.screen_mut().set_scrollback(1)?;
     let (screen, log) = parser.screen_and_callbacks_mut();
     let range = BasicFormattedCaptureRange::Full(&mut log.state);
     screen.write_contents_formatted_basic(&mut log.capture, range)?;
     log.word("then");
     screen.write_contents_formatted_basic(&mut log.text, BasicFormattedCaptureRange::Visible)?;
+    Ok(())
+}
+
+fn feed_and_capture(parser: &mut Parser<Log>) -> Result<(), Fail> {
+    parser.process("ab\x1b[31mcdef\x1b[m\r\n中\r\n\x1b[1;4mg".as_bytes())?;
+    capture(parser)
+}
+
+/// Rows that left, and then the kept ones and those that are drawn on, are one capture.
+#[test]
+fn captures_go_on(rt: HostRuntime) -> Result<(), Fail> {
+    let mut parser = logging_parser(rt.alloc(), (2, 2, 1))?;
+    feed_and_capture(&mut parser)?;
+    let log = parser.callbacks();
     same(
         &rt,
         &(log.capture.as_str(), log.text.as_str()),
