@@ -1,6 +1,7 @@
 //! Calls that may be refused, where there is memory: on odd screens and large ones each of them succeeds.
 
 use crate::report::{Text, places, report, text_of};
+use crate::same::{same, same_for};
 use crate::start::{Start, count};
 use std::alloc::Global;
 use std::process::Abort;
@@ -24,7 +25,7 @@ fn check_texts(
 ) -> Result<(), Fail> {
     for (text, want) in texts {
         let told = text_of(screen, prev, rt.alloc(), *text)?;
-        assert_eq!(rt; told.as_str(), *want, "{text:?}");
+        same_for(rt, text, &told.as_str(), want);
     }
     Ok(())
 }
@@ -44,12 +45,29 @@ const TO_MAIN: &[(Text, &str)] = &[
     (Text::RowsDiff(0, 4), "ab//"),
 ];
 
+/// These texts lead from one screen to another, and those back.
+fn check_both(
+    rt: &(impl Abort + AllocGlobal),
+    to: &Screen,
+    from: &Screen,
+    there: &[(Text, &str)],
+    back: &[(Text, &str)],
+) -> Result<(), Fail> {
+    check_texts(rt, to, from, there)?;
+    check_texts(rt, from, to, back)
+}
+
 #[test]
 fn differences_across_the_sheets(rt: HostRuntime) -> Result<(), Fail> {
     let main = fed(rt.alloc(), (2, 4, 3), b"ab")?;
     let alternate = fed(rt.alloc(), (2, 4, 3), b"ab\x1b[?47h")?;
-    check_texts(&rt, alternate.screen(), main.screen(), TO_ALTERNATE)?;
-    check_texts(&rt, main.screen(), alternate.screen(), TO_MAIN)
+    check_both(
+        &rt,
+        alternate.screen(),
+        main.screen(),
+        TO_ALTERNATE,
+        TO_MAIN,
+    )
 }
 
 /// A kept row that is shown, after the row that is drawn on.
@@ -66,13 +84,18 @@ const FROM_KEPT: &[(Text, &str)] = &[
     (Text::RowsDiff(0, 2), "b/"),
 ];
 
+/// A copy that shows a kept row.
+fn copy_of_a_kept_row(drawn: &Screen) -> Result<Screen, Fail> {
+    let mut kept = drawn.clone()?;
+    kept.set_scrollback(1)?;
+    Ok(kept)
+}
+
 #[test]
 fn differences_of_kept_rows(rt: HostRuntime) -> Result<(), Fail> {
     let drawn = fed(rt.alloc(), (1, 2, 3), b"a\r\nb")?;
-    let mut kept = drawn.screen().clone()?;
-    kept.set_scrollback(1)?;
-    check_texts(&rt, &kept, drawn.screen(), TO_KEPT)?;
-    check_texts(&rt, drawn.screen(), &kept, FROM_KEPT)
+    let kept = copy_of_a_kept_row(drawn.screen())?;
+    check_both(&rt, &kept, drawn.screen(), TO_KEPT, FROM_KEPT)
 }
 
 /// Screens of which everything is read: small ones, both sheets, and kept rows.
@@ -89,22 +112,36 @@ const READ: &[(Start, &[u8])] = &[
     ((2, 2, usize::MAX), b"a\r\nb\r\nc\x1b[1;2;3;4;7;31;42m"),
 ];
 
+/// Two screens tell the same.
+fn check_alike(
+    rt: &(impl Abort + AllocGlobal),
+    screen: &Screen,
+    copy: &Screen,
+) -> Result<(), Fail> {
+    let told = report(screen, copy, rt.alloc())?;
+    let told_by_copy = report(copy, screen, rt.alloc())?;
+    same(rt, &told.as_str(), &told_by_copy.as_str());
+    Ok(())
+}
+
 /// A copy of a screen tells what the screen tells.
 fn check_copy(rt: &(impl Abort + AllocGlobal), screen: &Screen) -> Result<(), Fail> {
     let copy = screen.clone()?;
-    let told = report(screen, &copy, rt.alloc())?;
-    let told_by_copy = report(&copy, screen, rt.alloc())?;
-    assert_eq!(rt; told.as_str(), told_by_copy.as_str());
-    Ok(())
+    check_alike(rt, screen, &copy)
+}
+
+/// The same where the rows that are drawn on are shown, and where the kept ones are.
+fn check_copies(rt: &(impl Abort + AllocGlobal), parser: &mut Parser<()>) -> Result<(), Fail> {
+    check_copy(rt, parser.screen())?;
+    parser.screen_mut().set_scrollback(usize::MAX)?;
+    check_copy(rt, parser.screen())
 }
 
 #[test]
 fn everything_is_read(rt: HostRuntime) -> Result<(), Fail> {
     for (start, stream) in READ {
         let mut parser = fed(rt.alloc(), *start, stream)?;
-        check_copy(&rt, parser.screen())?;
-        parser.screen_mut().set_scrollback(usize::MAX)?;
-        check_copy(&rt, parser.screen())?;
+        check_copies(&rt, &mut parser)?;
     }
     Ok(())
 }
@@ -120,16 +157,28 @@ const CAPACITIES: &[(usize, usize)] = &[
     (usize::MAX, 4),
 ];
 
+/// A parser keeps so many rows of the four that left, and at most so many.
+fn check_capacity(
+    rt: &impl Abort,
+    parser: &mut Parser<()>,
+    capacity: usize,
+    len: usize,
+) -> Result<(), Fail> {
+    same(
+        rt,
+        &places(parser.screen()),
+        &((1, 2), (0, 1), [len, capacity, 0]),
+    );
+    parser.screen_mut().set_scrollback(usize::MAX)?;
+    same(rt, &parser.screen().scrollback(), &len);
+    Ok(())
+}
+
 #[test]
 fn large_capacities(rt: HostRuntime) -> Result<(), Fail> {
     for (capacity, len) in CAPACITIES {
         let mut parser = fed(rt.alloc(), (1, 2, *capacity), b"a\r\nb\r\nc\r\nd\r\ne")?;
-        assert_eq!(rt;
-            places(parser.screen()),
-            ((1, 2), (0, 1), [*len, *capacity, 0])
-        );
-        parser.screen_mut().set_scrollback(usize::MAX)?;
-        assert_eq!(rt; parser.screen().scrollback(), *len);
+        check_capacity(&rt, &mut parser, *capacity, *len)?;
     }
     Ok(())
 }
@@ -149,15 +198,26 @@ const WIDE: &[(Text, &str)] = &[
     (Text::StateDiff, ""),
 ];
 
+/// A screen of which these texts are made, and whose whole text has 65,535 bytes, begins so and ends so.
+fn check_large(
+    rt: &(impl Abort + AllocGlobal),
+    screen: &Screen,
+    prev: &Screen,
+    texts: &[(Text, &str)],
+    (begin, end): (&str, &str),
+) -> Result<(), Fail> {
+    check_texts(rt, screen, prev, texts)?;
+    let contents = screen.contents()?;
+    let is_whole = contents.as_str().starts_with(begin) && contents.as_str().ends_with(end);
+    same(rt, &(contents.len(), is_whole), &(65_535, true));
+    Ok(())
+}
+
 #[test]
 fn one_row_of_65535_columns(rt: HostRuntime) -> Result<(), Fail> {
     let parser = fed(rt.alloc(), (1, 65_535, 3), b"a\x1b[65535Gb")?;
     let copy = parser.screen().clone()?;
-    check_texts(&rt, &copy, parser.screen(), WIDE)?;
-    let contents = copy.contents()?;
-    let is_whole = contents.as_str().starts_with("a ") && contents.as_str().ends_with(" b");
-    assert_eq!(rt; (contents.len(), is_whole), (65_535, true));
-    Ok(())
+    check_large(&rt, &copy, parser.screen(), WIDE, ("a ", " b"))
 }
 
 /// The texts of 65,535 rows of one column, of which the last one alone shows a character.
@@ -178,23 +238,24 @@ const HIGH: &[(Text, &str)] = &[
 fn rows_of_one_column(rt: HostRuntime) -> Result<(), Fail> {
     let parser = fed(rt.alloc(), (65_535, 1, 3), b"\x1b[65535Ha")?;
     let copy = parser.screen().clone()?;
-    check_texts(&rt, &copy, parser.screen(), HIGH)?;
-    let contents = copy.contents()?;
-    let is_whole = contents.as_str().starts_with("\n") && contents.as_str().ends_with("\na");
-    assert_eq!(rt; (contents.len(), is_whole), (65_535, true));
-    Ok(())
+    check_large(&rt, &copy, parser.screen(), HIGH, ("\n", "\na"))
 }
 
 /// Gives a screen each of these sizes in turn.
 const SIZES: &[(u16, u16)] = &[(1, 1), (1, 65_535), (300, 2), (65_535, 1), (24, 80), (1, 1)];
 
+fn check_size(rt: &impl Abort, parser: &mut Parser<()>, rows: u16, cols: u16) -> Result<(), Fail> {
+    parser.set_size(count(rows), count(cols))?;
+    let (size, _, _) = places(parser.screen());
+    same(rt, &size, &(rows, cols));
+    Ok(())
+}
+
 #[test]
 fn sizes(rt: HostRuntime) -> Result<(), Fail> {
     let mut parser = fed(rt.alloc(), (2, 2, 3), b"a\r\nb\r\nc\x1b[?47h")?;
     for (rows, cols) in SIZES {
-        parser.set_size(count(*rows), count(*cols))?;
-        let (size, _, _) = places(parser.screen());
-        assert_eq!(rt; size, (*rows, *cols));
+        check_size(&rt, &mut parser, *rows, *cols)?;
     }
     Ok(())
 }
@@ -228,23 +289,38 @@ const FULL: &[(Text, usize)] = &[
     (Text::Rows(0, 80), 40_344),
 ];
 
+/// Each of these texts is so long.
+fn check_lengths(
+    rt: &(impl Abort + AllocGlobal),
+    screen: &Screen,
+    prev: &Screen,
+) -> Result<(), Fail> {
+    for (text, len) in FULL {
+        let told = text_of(screen, prev, rt.alloc(), *text)?;
+        same_for(rt, text, &told.len(), len);
+    }
+    Ok(())
+}
+
 #[test]
 fn the_largest_texts(rt: HostRuntime) -> Result<(), Fail> {
     let parser = full_screen(rt.alloc())?;
     let copy = parser.screen().clone()?;
-    for (text, len) in FULL {
-        let told = text_of(&copy, parser.screen(), rt.alloc(), *text)?;
-        assert_eq!(rt; told.len(), *len, "{text:?}");
-    }
-    Ok(())
+    check_lengths(&rt, &copy, parser.screen())
+}
+
+/// Draws a screen on another one, and answers what differs then.
+fn difference_once_drawn(screen: &Screen, again: &mut Parser<()>) -> Result<String, Fail> {
+    let state = screen.state_formatted()?;
+    again.process(state.as_bytes())?;
+    Ok(again.screen().state_diff(screen)?)
 }
 
 #[test]
 fn the_largest_redraw_is_drawn_again(rt: HostRuntime) -> Result<(), Fail> {
     let parser = full_screen(rt.alloc())?;
     let mut again = Parser::new_default(rt.alloc())?;
-    again.process(parser.screen().state_formatted()?.as_bytes())?;
-    let difference = again.screen().state_diff(parser.screen())?;
-    assert_eq!(rt; difference.as_str(), "");
+    let difference = difference_once_drawn(parser.screen(), &mut again)?;
+    same(&rt, &difference.as_str(), &"");
     Ok(())
 }

@@ -12,6 +12,8 @@ mod refusals;
 #[cfg(test)]
 mod report;
 #[cfg(test)]
+mod same;
+#[cfg(test)]
 mod start;
 #[cfg(test)]
 mod told;

@@ -3,6 +3,7 @@
 ghost use Rattle.std.specs.Iterator.{IsFinite};
 
 use crate::report::{Text, places, report, text_of};
+use crate::same::{same, same_for};
 use crate::start::{Start, count};
 use std::alloc::Global;
 use std::io::{ErrorKind, Write};
@@ -61,13 +62,22 @@ fn retried_report(screen: &Screen, prev: &Screen, alloc: Global) -> Result<Strin
     }
 }
 
+/// Two screens tell the same.
+fn check_alike(
+    rt: &(impl Abort + AllocGlobal),
+    screen: &Screen,
+    copy: &Screen,
+) -> Result<(), Fail> {
+    let told = retried_report(screen, copy, rt.alloc())?;
+    let told_by_copy = retried_report(copy, screen, rt.alloc())?;
+    same(rt, &told.as_str(), &told_by_copy.as_str());
+    Ok(())
+}
+
 /// Everything is read of a screen, whether it has failed or not, and of its copy, which tells the same.
 fn read_all(rt: &(impl Abort + AllocGlobal), screen: &Screen) -> Result<(), Fail> {
     let copy = retried_clone(screen)?;
-    let told = retried_report(screen, &copy, rt.alloc())?;
-    let told_by_copy = retried_report(&copy, screen, rt.alloc())?;
-    assert_eq!(rt; told.as_str(), told_by_copy.as_str());
-    Ok(())
+    check_alike(rt, screen, &copy)
 }
 
 /// A screen that has failed does nothing more.
@@ -80,10 +90,11 @@ fn check_dead(rt: &impl Abort, parser: &mut Parser<()>) -> Result<(), Fail> {
         parser.screen_mut().set_size(count(9), count(9)),
         parser.screen_mut().set_scrollback(1),
     ];
-    assert_eq!(rt; answers, [Err(ScreenError::Failed); 5]);
-    assert_eq!(rt;
-        (parser.screen().failed(), places(parser.screen())),
-        (true, before)
+    same(rt, &answers, &[Err(ScreenError::Failed); 5]);
+    same(
+        rt,
+        &(parser.screen().failed(), places(parser.screen())),
+        &(true, before),
     );
     Ok(())
 }
@@ -92,16 +103,17 @@ fn check_dead(rt: &impl Abort, parser: &mut Parser<()>) -> Result<(), Fail> {
 fn check_readable(rt: &(impl Abort + AllocGlobal), screen: &Screen) -> Result<(), Fail> {
     let ((rows, cols), (row, col), kept) = places(screen);
     let [len, capacity, offset] = kept;
-    assert_eq!(rt;
-        [
+    same(
+        rt,
+        &[
             row < rows,
             col <= cols,
             len <= capacity,
             offset <= len,
             screen.cell(row, 0).is_some(),
-            screen.is_live()
+            screen.is_live(),
         ],
-        [true, true, true, true, true, false]
+        &[true, true, true, true, true, false],
     );
     read_all(rt, screen)
 }
@@ -113,15 +125,27 @@ fn check_answer(
     answer: Result<(), ScreenError>,
 ) -> Result<(), Fail> {
     let has_failed = parser.screen().failed();
-    assert_eq!(rt;
-        (answer.is_err(), answer == Err(ScreenError::Failed)),
-        (has_failed, false)
+    same(
+        rt,
+        &(answer.is_err(), answer == Err(ScreenError::Failed)),
+        &(has_failed, false),
     );
     if has_failed {
         check_dead(rt, parser)?;
         check_readable(rt, parser.screen())?;
     }
     Ok(())
+}
+
+/// A screen has this size, and its main sheet this capacity.
+fn check_places(rt: &impl Abort, screen: &Screen, size: (u16, u16), capacity: usize) {
+    let (size_then, _, [_, capacity_then, _]) = places(screen);
+    let capacity = if screen.alternate_screen() {
+        0
+    } else {
+        capacity
+    };
+    same(rt, &(size_then, capacity_then), &(size, capacity));
 }
 
 /// Feeds a parser, of which the main sheet is shown, and answers whether memory was found. Else the screen has failed,
@@ -135,13 +159,7 @@ fn check_process(
     let answer = parser.process(stream);
     check_answer(rt, parser, answer)?;
     if answer.is_err() {
-        let (size_then, _, [_, capacity_then, _]) = places(parser.screen());
-        let capacity = if parser.screen().alternate_screen() {
-            0
-        } else {
-            capacity
-        };
-        assert_eq!(rt; (size_then, capacity_then), (size, capacity));
+        check_places(rt, parser.screen(), size, capacity);
     }
     Ok(answer.is_ok())
 }
@@ -165,18 +183,31 @@ const STREAMS: &[(Start, &[u8], &str, usize)] = &[
     ),
 ];
 
+/// A screen shows this text, and keeps so many rows.
+fn check_shown(rt: &impl Abort, screen: &Screen, want: (&str, usize)) -> Result<(), Fail> {
+    let contents = retried_contents(screen)?;
+    same(rt, &(contents.as_str(), screen.scrollback_len()), &want);
+    Ok(())
+}
+
+/// After a stream a screen shows this, unless memory was refused.
+fn check_stream(
+    rt: &(impl Abort + AllocGlobal),
+    parser: &mut Parser<()>,
+    stream: &[u8],
+    want: (&str, usize),
+) -> Result<(), Fail> {
+    if check_process(rt, parser, stream)? {
+        check_shown(rt, parser.screen(), want)?;
+    }
+    Ok(())
+}
+
 #[test]
 fn streams(rt: HostRuntime) -> Result<(), Fail> {
     for (start, stream, want, kept) in STREAMS {
         let mut parser = retried_parser(rt.alloc(), *start)?;
-        if check_process(&rt, &mut parser, stream)? {
-            let screen = parser.screen();
-            let contents = retried_contents(screen)?;
-            assert_eq!(rt;
-                (contents.as_str(), screen.scrollback_len()),
-                (*want, *kept)
-            );
-        }
+        check_stream(&rt, &mut parser, stream, (want, *kept))?;
     }
     Ok(())
 }
@@ -196,9 +227,10 @@ fn parsers_of_any_capacity(rt: HostRuntime) -> Result<(), Fail> {
     for start in STARTS {
         let parser = retried_parser(rt.alloc(), *start)?;
         let (rows, cols, capacity) = *start;
-        assert_eq!(rt;
-            places(parser.screen()),
-            ((rows, cols), (0, 0), [0, capacity, 0])
+        same(
+            &rt,
+            &places(parser.screen()),
+            &((rows, cols), (0, 0), [0, capacity, 0]),
         );
     }
     Ok(())
@@ -210,7 +242,11 @@ fn default_parsers(rt: HostRuntime) -> Result<(), Fail> {
         Ok(parser) => parser,
         Err(_) => Parser::new_default(rt.alloc())?,
     };
-    assert_eq!(rt; places(parser.screen()), ((24, 80), (0, 0), [0, 0, 0]));
+    same(
+        &rt,
+        &places(parser.screen()),
+        &((24, 80), (0, 0), [0, 0, 0]),
+    );
     Ok(())
 }
 
@@ -220,13 +256,21 @@ const READ: &[(Start, &[u8])] = &[
     ((2, 2, 3), b"a\r\nb\r\nc\x1b[?25l\x1b[?1049h\x1b=\x1b[7mxy"),
 ];
 
+fn read_after(
+    rt: &(impl Abort + AllocGlobal),
+    parser: &mut Parser<()>,
+    stream: &[u8],
+) -> Result<(), Fail> {
+    let answer = parser.process(stream);
+    same(rt, &answer.is_err(), &parser.screen().failed());
+    read_all(rt, parser.screen())
+}
+
 #[test]
 fn everything_is_read(rt: HostRuntime) -> Result<(), Fail> {
     for (start, stream) in READ {
         let mut parser = retried_parser(rt.alloc(), *start)?;
-        let answer = parser.process(stream);
-        assert_eq!(rt; answer.is_err(), parser.screen().failed());
-        read_all(&rt, parser.screen())?;
+        read_after(&rt, &mut parser, stream)?;
     }
     Ok(())
 }
@@ -247,6 +291,10 @@ const TWO_ROWS: &[(Text, &str)] = &[
         "\x1b[?25h\x1b[m\x1b[H\x1b[Jab\r\n\x1b[1mc\x1b>\x1b[?1l\x1b[?2004l",
     ),
     (Text::StateDiff, "\r\n\x1b[1mc"),
+];
+
+/// Texts of its modes, and of each row.
+const MODES_AND_ROWS: &[(Text, &str)] = &[
     (Text::InputModeFormatted, "\x1b>\x1b[?1l\x1b[?2004l"),
     (Text::InputModeDiff, ""),
     (Text::AttributesFormatted, "\x1b[m\x1b[1m"),
@@ -266,18 +314,25 @@ fn check_texts(
 ) -> Result<(), Fail> {
     for (text, want) in texts {
         let told = retried_text(screen, prev, rt.alloc(), *text)?;
-        assert_eq!(rt; told.as_str(), *want, "{text:?}");
+        same_for(rt, text, &told.as_str(), want);
     }
     Ok(())
+}
+
+/// A parser shows one row, which is copied, and then a second one too.
+fn two_rows(parser: &mut Parser<()>) -> Result<Screen, Fail> {
+    parser.process(b"ab")?;
+    let prev = retried_clone(parser.screen())?;
+    parser.process(b"\r\n\x1b[1mc")?;
+    Ok(prev)
 }
 
 #[test]
 fn texts(rt: HostRuntime) -> Result<(), Fail> {
     let mut parser = retried_parser(rt.alloc(), (2, 4, 0))?;
-    parser.process(b"ab")?;
-    let prev = retried_clone(parser.screen())?;
-    parser.process(b"\r\n\x1b[1mc")?;
-    check_texts(&rt, parser.screen(), &prev, TWO_ROWS)
+    let prev = two_rows(&mut parser)?;
+    check_texts(&rt, parser.screen(), &prev, TWO_ROWS)?;
+    check_texts(&rt, parser.screen(), &prev, MODES_AND_ROWS)
 }
 
 /// The texts of a kept row that is shown, and what differs from the row that is drawn on.
@@ -290,17 +345,22 @@ const KEPT_ROW: &[(Text, &str)] = &[
     (Text::RowsDiff(0, 2), "a/"),
 ];
 
+/// Shows a kept row, unless memory is refused, and makes its texts.
+fn check_kept_row(rt: &(impl Abort + AllocGlobal), parser: &mut Parser<()>) -> Result<(), Fail> {
+    let prev = retried_clone(parser.screen())?;
+    let answer = parser.screen_mut().set_scrollback(1);
+    check_answer(rt, parser, answer)?;
+    if answer.is_ok() {
+        check_texts(rt, parser.screen(), &prev, KEPT_ROW)?;
+    }
+    Ok(())
+}
+
 #[test]
 fn texts_with_a_kept_row(rt: HostRuntime) -> Result<(), Fail> {
     let mut parser = retried_parser(rt.alloc(), (1, 2, 3))?;
-    if !check_process(&rt, &mut parser, b"a\r\nb")? {
-        return Ok(());
-    }
-    let prev = retried_clone(parser.screen())?;
-    let answer = parser.screen_mut().set_scrollback(1);
-    check_answer(&rt, &mut parser, answer)?;
-    if answer.is_ok() {
-        check_texts(&rt, parser.screen(), &prev, KEPT_ROW)?;
+    if check_process(&rt, &mut parser, b"a\r\nb")? {
+        check_kept_row(&rt, &mut parser)?;
     }
     Ok(())
 }
@@ -316,9 +376,9 @@ fn check_items<I: Iterator<Item = Result<String, ScreenError>> + Drop>(
     let mut refused = 0_u32;
     for want in wants {
         match texts.next() {
-            Some(Ok(text)) => assert_eq!(rt; text.as_str(), want),
+            Some(Ok(text)) => same(rt, &text.as_str(), &want),
             Some(Err(error)) => {
-                assert_eq!(rt; error, ScreenError::Memory);
+                same(rt, &error, &ScreenError::Memory);
                 refused = refused.saturating_add(1);
             }
             None => assert!(rt; false),
@@ -327,19 +387,46 @@ fn check_items<I: Iterator<Item = Result<String, ScreenError>> + Drop>(
     Ok(refused)
 }
 
+const ITEMS: [&str; 3] = ["one", "two", "three"];
+
+/// Each row has its text. Where one was refused, the second try has them all.
+fn check_rows(rt: &impl Abort, screen: &Screen) -> Result<(), Fail> {
+    if check_items(rt, screen.rows(0, 8), ITEMS)? != 0 {
+        same(rt, &check_items(rt, screen.rows(0, 8), ITEMS)?, &0);
+    }
+    Ok(())
+}
+
+/// The same of the forms that draw each row.
+fn check_rows_formatted(rt: &impl Abort, screen: &Screen) -> Result<(), Fail> {
+    if check_items(rt, screen.rows_formatted(0, 8), ITEMS)? != 0 {
+        same(
+            rt,
+            &check_items(rt, screen.rows_formatted(0, 8), ITEMS)?,
+            &0,
+        );
+    }
+    Ok(())
+}
+
+/// The same of the forms that lead from another screen.
+fn check_rows_diff(rt: &impl Abort, screen: &Screen, prev: &Screen) -> Result<(), Fail> {
+    if check_items(rt, screen.rows_diff(prev, 0, 8), ITEMS)? != 0 {
+        same(
+            rt,
+            &check_items(rt, screen.rows_diff(prev, 0, 8), ITEMS)?,
+            &0,
+        );
+    }
+    Ok(())
+}
+
 #[test]
 fn items_of_rows(rt: HostRuntime) -> Result<(), Fail> {
     let mut parser = retried_parser(rt.alloc(), (3, 8, 0))?;
     parser.process(b"one\r\ntwo\r\nthree")?;
-    let screen = parser.screen();
-    let wants = ["one", "two", "three"];
-    if check_items(&rt, screen.rows(0, 8), wants)? != 0 {
-        assert_eq!(rt; check_items(&rt, screen.rows(0, 8), wants)?, 0);
-    }
-    if check_items(&rt, screen.rows_formatted(0, 8), wants)? != 0 {
-        assert_eq!(rt; check_items(&rt, screen.rows_formatted(0, 8), wants)?, 0);
-    }
-    Ok(())
+    check_rows(&rt, parser.screen())?;
+    check_rows_formatted(&rt, parser.screen())
 }
 
 #[test]
@@ -347,11 +434,23 @@ fn items_of_differences(rt: HostRuntime) -> Result<(), Fail> {
     let mut parser = retried_parser(rt.alloc(), (3, 8, 0))?;
     let prev = retried_clone(parser.screen())?;
     parser.process(b"one\r\ntwo\r\nthree")?;
-    let screen = parser.screen();
-    let wants = ["one", "two", "three"];
-    if check_items(&rt, screen.rows_diff(&prev, 0, 8), wants)? != 0 {
-        assert_eq!(rt; check_items(&rt, screen.rows_diff(&prev, 0, 8), wants)?, 0);
-    }
+    check_rows_diff(&rt, parser.screen(), &prev)
+}
+
+/// A copy of a screen that shows its alternate sheet.
+fn check_copy(rt: &impl Abort, screen: &Screen) -> Result<(), Fail> {
+    let copy = retried_clone(screen)?;
+    let contents = retried_contents(&copy)?;
+    same(
+        rt,
+        &(
+            contents.as_str(),
+            copy.alternate_screen(),
+            copy.failed(),
+            places(&copy),
+        ),
+        &("x", true, false, places(screen)),
+    );
     Ok(())
 }
 
@@ -359,18 +458,28 @@ fn items_of_differences(rt: HostRuntime) -> Result<(), Fail> {
 fn copies(rt: HostRuntime) -> Result<(), Fail> {
     let mut parser = retried_parser(rt.alloc(), (2, 2, 3))?;
     if check_process(&rt, &mut parser, b"a\r\nb\r\nc\x1b[?47hx")? {
-        let copy = retried_clone(parser.screen())?;
-        let contents = retried_contents(&copy)?;
-        assert_eq!(rt;
-            (
-                contents.as_str(),
-                copy.alternate_screen(),
-                copy.failed(),
-                places(&copy)
-            ),
-            ("x", true, false, places(parser.screen()))
-        );
+        check_copy(&rt, parser.screen())?;
     }
+    Ok(())
+}
+
+/// A stream, and two sizes one after another. What the last call answers that was made.
+fn two_sizes(parser: &mut Parser<()>) -> Result<(), ScreenError> {
+    parser.process(b"a\r\nb\r\nc\x1b[?47h")?;
+    parser.set_size(count(4), count(3))?;
+    parser.screen_mut().set_size(count(1), count(5))
+}
+
+/// What the main sheet is after these.
+fn check_sized(rt: &impl Abort, parser: &mut Parser<()>) -> Result<(), Fail> {
+    parser.process(b"\x1b[?47l")?;
+    let contents = retried_contents(parser.screen())?;
+    let (size, _, kept) = places(parser.screen());
+    same(
+        rt,
+        &(contents.as_str(), size, kept),
+        &("c", (1, 5), [2, 3, 0]),
+    );
     Ok(())
 }
 
@@ -379,40 +488,39 @@ fn copies(rt: HostRuntime) -> Result<(), Fail> {
 #[test]
 fn sizes(rt: HostRuntime) -> Result<(), Fail> {
     let mut parser = retried_parser(rt.alloc(), (2, 2, 3))?;
-    let mut answer = parser.process(b"a\r\nb\r\nc\x1b[?47h");
-    if answer.is_ok() {
-        answer = parser.set_size(count(4), count(3));
-    }
-    if answer.is_ok() {
-        answer = parser.screen_mut().set_size(count(1), count(5));
-    }
+    let answer = two_sizes(&mut parser);
     check_answer(&rt, &mut parser, answer)?;
     if answer.is_ok() {
-        parser.process(b"\x1b[?47l")?;
-        let contents = retried_contents(parser.screen())?;
-        let (size, _, kept) = places(parser.screen());
-        assert_eq!(rt; (contents.as_str(), size, kept), ("c", (1, 5), [2, 3, 0]));
+        check_sized(&rt, &mut parser)?;
     }
+    Ok(())
+}
+
+/// A stream, and then a kept row is shown. What the last call answers that was made.
+fn show_kept_rows(parser: &mut Parser<()>) -> Result<(), ScreenError> {
+    parser.process(b"a\r\nb\r\nc\r\nd")?;
+    parser.screen_mut().set_scrollback(2)
+}
+
+fn check_kept(rt: &impl Abort, screen: &Screen) -> Result<(), Fail> {
+    let contents = retried_contents(screen)?;
+    same(rt, &(contents.as_str(), screen.scrollback()), &("b", 2));
     Ok(())
 }
 
 #[test]
 fn kept_rows(rt: HostRuntime) -> Result<(), Fail> {
     let mut parser = retried_parser(rt.alloc(), (1, 2, 3))?;
-    let mut answer = parser.process(b"a\r\nb\r\nc\r\nd");
-    if answer.is_ok() {
-        answer = parser.screen_mut().set_scrollback(2);
-    }
+    let answer = show_kept_rows(&mut parser);
     check_answer(&rt, &mut parser, answer)?;
     if answer.is_ok() {
-        let contents = retried_contents(parser.screen())?;
-        assert_eq!(rt; (contents.as_str(), parser.screen().scrollback()), ("b", 2));
+        check_kept(&rt, parser.screen())?;
     }
     Ok(())
 }
 
 /// A call that prints, scrolls, makes a new screen or gives it another size.
-#[derive(Clone, Copy, Debug)]
+#[derive(Clone, Copy)]
 enum Direct {
     Text(char),
     Lf,
@@ -466,15 +574,14 @@ fn check_direct(
 ) -> Result<(), Fail> {
     if let Err(error) = call(wrapped, direct) {
         let again = call(wrapped, direct);
-        assert_eq!(rt;
-            (error, wrapped.screen.failed(), again),
-            (ScreenError::Memory, true, Err(ScreenError::Failed))
+        same(
+            rt,
+            &(error, wrapped.screen.failed(), again),
+            &(ScreenError::Memory, true, Err(ScreenError::Failed)),
         );
         return read_all(rt, &wrapped.screen);
     }
-    let contents = retried_contents(&wrapped.screen)?;
-    assert_eq!(rt; (contents.as_str(), wrapped.screen.scrollback_len()), want);
-    Ok(())
+    check_shown(rt, &wrapped.screen, want)
 }
 
 #[test]
@@ -490,11 +597,12 @@ fn direct_calls(rt: HostRuntime) -> Result<(), Fail> {
 fn writing(rt: HostRuntime) -> Result<(), Fail> {
     let mut parser = retried_parser(rt.alloc(), (2, 2, 3))?;
     match parser.write(b"a\r\nb\r\nc") {
-        Ok(len) => assert_eq!(rt; (len, parser.screen().failed()), (7, false)),
+        Ok(len) => same(&rt, &(len, parser.screen().failed()), &(7, false)),
         Err(error) => {
-            assert_eq!(rt;
-                (error.kind(), parser.screen().failed()),
-                (ErrorKind::OutOfMemory, true)
+            same(
+                &rt,
+                &(error.kind(), parser.screen().failed()),
+                &(ErrorKind::OutOfMemory, true),
             );
             check_write_refused(&rt, &mut parser);
         }
@@ -508,5 +616,5 @@ fn check_write_refused(rt: &impl Abort, parser: &mut Parser<()>) {
         Ok(_) => None,
         Err(error) => Some(error.kind()),
     };
-    assert_eq!(rt; kind, Some(ErrorKind::Other));
+    same(rt, &kind, &Some(ErrorKind::Other));
 }

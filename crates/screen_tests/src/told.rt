@@ -1,12 +1,43 @@
 //! What callbacks are told, in order, each call after its event's change, and captures of what they keep.
 
-use crate::log::logging_parser;
+use crate::log::{Log, logging_parser};
+use crate::same::{same, same_for};
 use crate::start::{Start, count};
+use std::process::Abort;
 use std::test::Fail;
+use vt100::Parser;
 use vt100::capture::BasicFormattedCaptureRange;
 
 /// A size, a stream, and what it tells.
-const TOLD: &[(Start, &[u8], &str)] = &[
+type Told = (Start, &'static [u8], &'static str);
+
+/// A stream tells this.
+fn check_stream(
+    rt: &impl Abort,
+    parser: &mut Parser<Log>,
+    stream: &[u8],
+    told: &str,
+) -> Result<(), Fail> {
+    parser.process(stream)?;
+    let log = parser.callbacks();
+    same_for(
+        rt,
+        &stream,
+        &(log.failed, log.text.as_str()),
+        &(false, told),
+    );
+    Ok(())
+}
+
+fn check_told(rt: &(impl Abort + AllocGlobal), cases: &[Told]) -> Result<(), Fail> {
+    for (start, stream, told) in cases {
+        let mut parser = logging_parser(rt.alloc(), *start)?;
+        check_stream(rt, &mut parser, stream, told)?;
+    }
+    Ok(())
+}
+
+const STRINGS_AND_CONTROLS: &[Told] = &[
     ((2, 8, 0), b"a\x07b\x1bg", "bell at 0 1; flash at 0 2; "),
     ((2, 8, 0), b"\x1b]2;a;b\x07", "osc 2 a b at 0 0; "),
     (
@@ -35,6 +66,14 @@ const TOLD: &[(Start, &[u8], &str)] = &[
         "escape Some(40) None 66 at 0 0; escape Some(35) Some(33) 56 at 0 0; escape Some(40) Some(32) 48 at 0 0; \
          escape None None 90 at 0 0; ",
     ),
+];
+
+#[test]
+fn strings_and_controls_are_told(rt: HostRuntime) -> Result<(), Fail> {
+    check_told(&rt, STRINGS_AND_CONTROLS)
+}
+
+const SEQUENCES: &[Told] = &[
     (
         (2, 8, 0),
         b"\x1b[?7h\x1b[?25;7;1:2;8l",
@@ -79,6 +118,14 @@ const TOLD: &[(Start, &[u8], &str)] = &[
         b"\n\x1b[2;2r\x1b[2;3H\x1b[?6;7h",
         "csi Some(63) None [[6], [7]] h at 0 0; ",
     ),
+];
+
+#[test]
+fn sequences_are_told(rt: HostRuntime) -> Result<(), Fail> {
+    check_told(&rt, SEQUENCES)
+}
+
+const ROWS: &[Told] = &[
     ((1, 2, 0), b"abcd", "row ab; "),
     (
         (2, 2, 1),
@@ -98,17 +145,14 @@ const TOLD: &[(Start, &[u8], &str)] = &[
 ];
 
 #[test]
-fn calls_are_told(rt: HostRuntime) -> Result<(), Fail> {
-    for (start, stream, told) in TOLD {
-        let mut parser = logging_parser(rt.alloc(), *start)?;
-        parser.process(stream)?;
-        let log = parser.callbacks();
-        assert_eq!(rt;
-            (log.failed, log.text.as_str()),
-            (false, *told),
-            "{stream:?}"
-        );
-    }
+fn rows_are_told(rt: HostRuntime) -> Result<(), Fail> {
+    check_told(&rt, ROWS)
+}
+
+fn two_sizes(parser: &mut Parser<Log>) -> Result<(), Fail> {
+    parser.process(b"\x1b[8;3;4tabcd\r\ne\r\nf")?;
+    parser.callbacks_mut().text.clear();
+    parser.set_size(count(1), count(3))?;
     Ok(())
 }
 
@@ -116,32 +160,46 @@ fn calls_are_told(rt: HostRuntime) -> Result<(), Fail> {
 #[test]
 fn sizes_are_told(rt: HostRuntime) -> Result<(), Fail> {
     let mut parser = logging_parser(rt.alloc(), (2, 2, 0))?;
-    parser.process(b"\x1b[8;3;4tabcd\r\ne\r\nf")?;
-    parser.callbacks_mut().text.clear();
-    parser.set_size(count(1), count(3))?;
+    two_sizes(&mut parser)?;
     let (rows, cols) = parser.screen().size();
     let told = parser.callbacks().text.as_str();
-    assert_eq!(rt; (rows.get(), cols.get(), told), (1, 3, "row abcd; row e; "));
+    same(
+        &rt,
+        &(rows.get(), cols.get(), told),
+        &(1, 3, "row abcd; row e; "),
+    );
     Ok(())
 }
 
-/// Rows that left, and then the kept ones and those that are drawn on, are one capture.
-#[test]
-fn captures_go_on(rt: HostRuntime) -> Result<(), Fail> {
-    let mut parser = logging_parser(rt.alloc(), (2, 2, 1))?;
-    parser.process("ab\x1b[31mcdef\x1b[m\r\n中\r\n\x1b[1;4mg".as_bytes())?;
+/// Captures the kept rows and those that are drawn on, and then those that are shown.
+fn capture(parser: &mut Parser<Log>) -> Result<(), Fail> {
     parser.screen_mut().set_scrollback(1)?;
     let (screen, log) = parser.screen_and_callbacks_mut();
     let range = BasicFormattedCaptureRange::Full(&mut log.state);
     screen.write_contents_formatted_basic(&mut log.capture, range)?;
     log.word("then");
     screen.write_contents_formatted_basic(&mut log.text, BasicFormattedCaptureRange::Visible)?;
-    assert_eq!(rt;
-        (log.capture.as_str(), log.text.as_str()),
-        (
+    Ok(())
+}
+
+fn feed_and_capture(parser: &mut Parser<Log>) -> Result<(), Fail> {
+    parser.process("ab\x1b[31mcdef\x1b[m\r\n中\r\n\x1b[1;4mg".as_bytes())?;
+    capture(parser)
+}
+
+/// Rows that left, and then the kept ones and those that are drawn on, are one capture.
+#[test]
+fn captures_go_on(rt: HostRuntime) -> Result<(), Fail> {
+    let mut parser = logging_parser(rt.alloc(), (2, 2, 1))?;
+    feed_and_capture(&mut parser)?;
+    let log = parser.callbacks();
+    same(
+        &rt,
+        &(log.capture.as_str(), log.text.as_str()),
+        &(
             "ab\x1b[31mcdef\n\x1b[m中\n\x1b[1;4mg",
-            "row ab; row \x1b[31mcd; then \x1b[31mef\n\x1b[m中"
-        )
+            "row ab; row \x1b[31mcd; then \x1b[31mef\n\x1b[m中",
+        ),
     );
     Ok(())
 }

@@ -1,5 +1,6 @@
 //! The program's own synchronized updates (private mode 2026).
 
+use crate::same::{same, same_for};
 use crate::start::count;
 use std::test::Fail;
 use vt100::Parser;
@@ -21,22 +22,34 @@ const STREAMS: &[(&[u8], bool)] = &[
     (b"\x1b[?2026h\x1bc", false),
 ];
 
+/// Whether the program is in an update after a stream, as the screen says and as its copy does.
+fn is_updating_after(parser: &mut Parser<()>, stream: &[u8]) -> Result<(bool, bool), Fail> {
+    parser.process(stream)?;
+    let copy = parser.screen().clone()?;
+    Ok((
+        parser.screen().synchronized_update(),
+        copy.synchronized_update(),
+    ))
+}
+
 #[test]
 fn updates(rt: HostRuntime) -> Result<(), Fail> {
     for (stream, is_updating) in STREAMS {
         let mut parser = Parser::new(rt.alloc(), count(2), count(3), 1)?;
-        parser.process(stream)?;
-        let copy = parser.screen().clone()?;
-        assert_eq!(rt;
-            (
-                parser.screen().synchronized_update(),
-                copy.synchronized_update()
-            ),
-            (*is_updating, *is_updating),
-            "{stream:?}"
-        );
+        let told = is_updating_after(&mut parser, stream)?;
+        same_for(&rt, stream, &told, &(*is_updating, *is_updating));
     }
     Ok(())
+}
+
+/// Whether the program is in an update before a size and after it, and whether a text of the screen tells of one.
+fn is_updating_at_a_size(parser: &mut Parser<()>, rows: u16) -> Result<(bool, bool, bool), Fail> {
+    parser.process(b"\x1b[?2026ha")?;
+    let held = parser.screen().state_formatted()?;
+    let was = parser.screen().synchronized_update();
+    parser.set_size(count(rows), count(3))?;
+    let is = parser.screen().synchronized_update();
+    Ok((was, is, held.as_str().contains("2026")))
 }
 
 /// Another size ends an update, and so does the same size. No text of the screen tells of one.
@@ -44,15 +57,8 @@ fn updates(rt: HostRuntime) -> Result<(), Fail> {
 fn sizes_end_updates(rt: HostRuntime) -> Result<(), Fail> {
     let mut parser = Parser::new(rt.alloc(), count(2), count(3), 1)?;
     for rows in [2, 1] {
-        parser.process(b"\x1b[?2026ha")?;
-        let held = parser.screen().state_formatted()?;
-        let was = parser.screen().synchronized_update();
-        parser.set_size(count(rows), count(3))?;
-        let is = parser.screen().synchronized_update();
-        assert_eq!(rt;
-            (was, is, held.as_str().contains("2026")),
-            (true, false, false)
-        );
+        let told = is_updating_at_a_size(&mut parser, rows)?;
+        same(&rt, &told, &(true, false, false));
     }
     Ok(())
 }

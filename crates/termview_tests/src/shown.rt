@@ -17,10 +17,15 @@ pub fn blank(alloc: Global, size: Size) -> Result<View<UntilCleared>, ViewError>
     View::new(alloc, count(size.0), count(size.1), UntilCleared::new())
 }
 
+/// Hands bytes to a view.
+pub fn feed(view: &mut View<UntilCleared>, bytes: &[u8]) {
+    view.advance(bytes);
+}
+
 /// A view of this size that has read a stream.
 pub fn view(alloc: Global, size: Size, stream: &str) -> Result<View<UntilCleared>, ViewError> {
     let mut view = blank(alloc, size)?;
-    view.advance(stream.as_bytes());
+    feed(&mut view, stream.as_bytes());
     Ok(view)
 }
 

@@ -1,4 +1,5 @@
 //! Streams on a view.
+use crate::same::same;
 use crate::shown::{Size, settings, shown, view};
 use std::test::Fail;
 use vt100_forms::Color;
@@ -34,7 +35,7 @@ fn streams(rt: HostRuntime) -> Result<(), Fail> {
     for (size, stream, wanted) in STREAMS {
         let view = view(rt.alloc(), *size, stream)?;
         let text = shown(rt.alloc(), &view)?;
-        assert_eq!(rt; text.as_str(), *wanted, "{stream:?}");
+        same(&rt, &(stream, text.as_str()), &(stream, *wanted));
     }
     Ok(())
 }
@@ -77,7 +78,7 @@ fn modes_and_attributes(rt: HostRuntime) -> Result<(), Fail> {
     for (stream, wanted) in SETTINGS {
         let view = view(rt.alloc(), (2, 4), stream)?;
         let text = settings(rt.alloc(), &view)?;
-        assert_eq!(rt; text.as_str(), *wanted, "{stream:?}");
+        same(&rt, &(stream, text.as_str()), &(stream, *wanted));
     }
     Ok(())
 }
@@ -98,7 +99,7 @@ fn colors(rt: HostRuntime) -> Result<(), Fail> {
         let found = view
             .cell(0, 0)
             .map(|cell| (cell.contents(), cell.fgcolor()));
-        assert_eq!(rt; found, Some(("A", *wanted)), "{stream:?}");
+        same(&rt, &(stream, found), &(stream, Some(("A", *wanted))));
     }
     Ok(())
 }

@@ -1,4 +1,5 @@
 //! The texts of rows, and writers that fail.
+use crate::same::same;
 use crate::shown::view;
 use std::alloc::Global;
 use std::io;
@@ -60,7 +61,11 @@ fn texts_of_rows(rt: HostRuntime) -> Result<(), Fail> {
         let view = view(rt.alloc(), (2, 4), stream)?;
         let mut text = Vec::new(rt.alloc());
         view.row_text(*row, &mut text)?;
-        assert_eq!(rt; text.as_slice(), wanted.as_bytes(), "{stream:?}, {row}");
+        same(
+            &rt,
+            &(stream, row, text.as_slice()),
+            &(stream, row, wanted.as_bytes()),
+        );
     }
     Ok(())
 }
@@ -84,7 +89,7 @@ fn faults_of_writers(rt: HostRuntime) -> Result<(), Fail> {
         let mut to = Narrow::new(rt.alloc(), *room, *fault);
         let kind = view.row_text(0, &mut to).err().map(|error| error.kind());
         let kept = to.kept.as_slice();
-        assert_eq!(rt; (kind, kept), (*wanted, &b"hi"[..*room]), "{room}");
+        same(&rt, &(room, kind, kept), &(room, *wanted, &b"hi"[..*room]));
     }
     Ok(())
 }
@@ -92,6 +97,6 @@ fn faults_of_writers(rt: HostRuntime) -> Result<(), Fail> {
 #[test]
 fn text_of_the_refusal(rt: HostRuntime) -> Result<(), Fail> {
     let text = format!(in rt.alloc(); "{}", ViewError::Memory)?;
-    assert_eq!(rt; text.as_str(), "out of memory");
+    same(&rt, &text.as_str(), &"out of memory");
     Ok(())
 }

@@ -1,5 +1,6 @@
 //! Synchronized updates: the frames of a screen, whole and in part.
-use crate::shown::{Size, blank, settings, shown};
+use crate::same::same;
+use crate::shown::{Size, blank, feed, settings, shown};
 use std::alloc::Global;
 use std::test::Fail;
 use termview::{UntilCleared, View};
@@ -14,11 +15,11 @@ const MODES: &str = "\x1b>\x1b[?1l\x1b[?2004l";
 
 /// Gives a view the parts of a frame.
 fn read(view: &mut View<UntilCleared>, parts: &[&str]) {
-    view.advance(START.as_bytes());
+    feed(view, START.as_bytes());
     for part in parts {
-        view.advance(part.as_bytes());
+        feed(view, part.as_bytes());
     }
-    view.advance(END.as_bytes());
+    feed(view, END.as_bytes());
 }
 
 /// A size, what a first frame draws, the body of the next one, and the view after both.
@@ -57,7 +58,7 @@ fn frames(rt: HostRuntime) -> Result<(), Fail> {
         read(&mut view, &[RESET, first, MODES]);
         read(&mut view, &[next]);
         let text = shown(rt.alloc(), &view)?;
-        assert_eq!(rt; text.as_str(), *wanted, "{first:?}, {next:?}");
+        same(&rt, &(first, next, text.as_str()), &(first, next, *wanted));
     }
     Ok(())
 }
@@ -75,7 +76,7 @@ fn modes_of_a_frame(rt: HostRuntime) -> Result<(), Fail> {
     );
     let text = settings(rt.alloc(), &view)?;
     let wanted = "kc PressRelease Sgr SteadyUnderline Idx(9) Default  ";
-    assert_eq!(rt; text.as_str(), wanted);
+    same(&rt, &text.as_str(), &wanted);
     Ok(())
 }
 
@@ -87,12 +88,12 @@ fn held(alloc: Global, view: &View<UntilCleared>) -> Result<(String, usize), Fai
 #[test]
 fn an_update_is_held(rt: HostRuntime) -> Result<(), Fail> {
     let mut view = blank(rt.alloc(), (2, 4))?;
-    view.advance(b"\x1b[?2026hhi");
+    feed(&mut view, b"\x1b[?2026hhi");
     let (text, count) = held(rt.alloc(), &view)?;
-    assert_eq!(rt; (text.as_str(), count), ("..../..../ 0 0", 2));
+    same(&rt, &(text.as_str(), count), &("..../..../ 0 0", 2));
     view.stop_sync();
     let (text, count) = held(rt.alloc(), &view)?;
-    assert_eq!(rt; (text.as_str(), count), ("hi../..../ 0 2", 0));
+    same(&rt, &(text.as_str(), count), &("hi../..../ 0 2", 0));
     Ok(())
 }
 
@@ -104,14 +105,14 @@ const FRAME: &[u8] = b"\x1b[?2026h\x1b[?25h\x1b[m\x1b[H\x1b[Jhi\x1b>\x1b[?1l\x1b
 fn a_frame_is_never_torn(rt: HostRuntime) -> Result<(), Fail> {
     for cut in 0..FRAME.len() {
         let mut view = blank(rt.alloc(), (2, 4))?;
-        view.advance(&FRAME[..cut]);
+        feed(&mut view, &FRAME[..cut]);
         let before = shown(rt.alloc(), &view)?;
-        view.advance(&FRAME[cut..]);
+        feed(&mut view, &FRAME[cut..]);
         let after = shown(rt.alloc(), &view)?;
-        assert_eq!(rt;
-            (before.as_str(), after.as_str()),
-            ("..../..../ 0 0", "hi../..../ 0 2"),
-            "{cut}"
+        same(
+            &rt,
+            &(cut, before.as_str(), after.as_str()),
+            &(cut, "..../..../ 0 0", "hi../..../ 0 2"),
         );
     }
     Ok(())
@@ -123,12 +124,16 @@ fn a_stop_after_any_byte(rt: HostRuntime) -> Result<(), Fail> {
     for cut in 0..FRAME.len() {
         let (front, rest) = FRAME.split_at(cut + 1);
         let mut view = blank(rt.alloc(), (2, 4))?;
-        view.advance(front);
+        feed(&mut view, front);
         view.stop_sync();
-        view.advance(rest);
+        feed(&mut view, rest);
         let text = shown(rt.alloc(), &view)?;
         let count = view.sync_bytes_count();
-        assert_eq!(rt; (text.as_str(), count), ("hi../..../ 0 2", 0), "{cut}");
+        same(
+            &rt,
+            &(cut, text.as_str(), count),
+            &(cut, "hi../..../ 0 2", 0),
+        );
     }
     Ok(())
 }

@@ -2,6 +2,7 @@
 ghost use Rattle.std.specs.Prelude.{IfOk, ◌<◌, length};
 ghost use Rattle.vt100_core.specs.Grid.{IsAllocated};
 
+use crate::same::same;
 use std::alloc::Global;
 use std::num::NonZeroU16;
 use std::test::Fail;
@@ -41,38 +42,62 @@ fn new_grid(alloc: Global, rows: u16, cols: u16, capacity: usize) -> Result<Grid
     Ok(grid)
 }
 
+const RED: Attrs = Attrs {
+    fgcolor: Color::Idx(1),
+    bgcolor: Color::Default,
+    mode: 0,
+};
+
+/// Prints two characters, the second with these attributes.
+fn print(
+    grid: &mut Grid,
+    text: (char, char),
+    attrs: Attrs,
+    sink: &mut Recorder,
+) -> Result<(), GridError>
+    requires { IsAllocated grid.old }
+    ensures { IsAllocated grid.new }
+{
+    grid.text(text.0, Attrs::new(), sink)?;
+    grid.text(text.1, attrs, sink)?;
+    Ok(())
+}
+
 #[test]
 fn rows_that_leave_go_on_in_the_capture_of_the_others(rt: HostRuntime) -> Result<(), Fail> {
-    let mut red = Attrs::new();
-    red.fgcolor = Color::Idx(1);
     let mut grid = new_grid(rt.alloc(), 1, 2, 0)?;
     let mut sink = Recorder {
         text: String::new(rt.alloc()),
         state: BasicFormattedCaptureState::new(),
         failed: false,
     };
-    grid.text('a', Attrs::new(), &mut sink)?;
-    grid.text('b', Attrs::new(), &mut sink)?;
-    grid.text('c', Attrs::new(), &mut sink)?;
-    grid.text('d', red, &mut sink)?;
-    assert_eq!(rt; (sink.text.as_str(), sink.failed), ("ab", false));
+    print(&mut grid, ('a', 'b'), Attrs::new(), &mut sink)?;
+    print(&mut grid, ('c', 'd'), RED, &mut sink)?;
+    same(&rt, &(sink.text.as_str(), sink.failed), &("ab", false));
     let range = BasicFormattedCaptureRange::Full(&mut sink.state);
-    assert!(rt;
-        grid.write_contents_formatted_basic(&mut sink.text, range)
-            .is_ok()
+    let written = grid.write_contents_formatted_basic(&mut sink.text, range);
+    same(
+        &rt,
+        &(written.is_ok(), sink.text.as_str()),
+        &(true, "ab\nc\u{1b}[31md"),
     );
-    assert_eq!(rt; sink.text.as_str(), "ab\nc\u{1b}[31md");
     Ok(())
 }
 
+/// A capture in two colours.
+const COLOURED: &str = "hello\x1b[31;1mworld";
+
 #[test]
 fn pieces_stand_at_their_places(rt: HostRuntime) {
-    let capture = "hello\x1b[31;1mworld";
-    let mut pieces = basic_formatted_to_plain_indexed(capture);
-    assert_eq!(rt; pieces.next(), Some((0, "hello")));
-    assert_eq!(rt; pieces.next(), Some((12, "world")));
-    assert_eq!(rt; pieces.next(), None);
-    assert!(rt; basic_formatted_to_plain(capture).eq(["hello", "world"]));
+    let mut pieces = basic_formatted_to_plain_indexed(COLOURED);
+    let told = [pieces.next(), pieces.next(), pieces.next()];
+    same(&rt, &told, &[Some((0, "hello")), Some((12, "world")), None]);
+}
+
+#[test]
+fn pieces_are_plain(rt: HostRuntime) {
+    let is_plain = basic_formatted_to_plain(COLOURED).eq(["hello", "world"]);
+    same(&rt, &is_plain, &true);
 }
 
 /// A capture, a width, and its rows.
@@ -90,8 +115,8 @@ fn captures_are_cut_into_rows(rt: HostRuntime) {
     for (capture, width, rows) in ROWS {
         let mut cut = basic_formatted_rows(capture, *width);
         for row in *rows {
-            assert_eq!(rt; cut.next(), Some(*row));
+            same(&rt, &cut.next(), &Some(*row));
         }
-        assert_eq!(rt; (cut.next(), cut.next()), (None, None));
+        same(&rt, &(cut.next(), cut.next()), &(None, None));
     }
 }

@@ -1,4 +1,5 @@
 //! Each form byte for byte, and the forms that lead from attributes to others.
+use crate::same::same;
 use std::alloc::Global;
 use std::fmt;
 use std::process::Abort;
@@ -56,90 +57,80 @@ fn told<'a>(want: &'a str) -> (fmt::Result, usize, fmt::Result, &'a str) {
     }
 }
 
-fn check<R: Abort, B: BufWrite>(rt: &R, alloc: Global, form: &B, want: &str) -> Result<(), Fail> {
+/// A form appends this text, and writes it.
+fn tells<R: Abort, B: BufWrite>(
+    rt: &R,
+    alloc: Global,
+    form: &B,
+    want: &str,
+) -> Result<(), GridError> {
     let text = appended(alloc, form)?;
-    assert_eq!(rt; text.as_str().strip_prefix("x"), Some(want));
+    same(rt, &text.as_str().strip_prefix("x"), &Some(want));
     let mut limited = writer_with_room(alloc, want.len())?;
     let first = form.write_fmt(&mut limited);
     let calls = limited.calls;
     let second = form.write_fmt(&mut limited);
-    assert_eq!(rt; (first, calls, second, limited.taken.as_str()), told(want));
+    same(
+        rt,
+        &(first, calls, second, limited.taken.as_str()),
+        &told(want),
+    );
     Ok(())
 }
 
-#[test]
-fn clears(rt: HostRuntime) -> Result<(), Fail> {
-    check(&rt, rt.alloc(), &term::ClearScreen, "\x1b[H\x1b[J")?;
-    check(&rt, rt.alloc(), &term::ClearRowForward, "\x1b[K")?;
-    check(&rt, rt.alloc(), &term::ClearAttrs, "\x1b[m")?;
-    check(&rt, rt.alloc(), &term::EraseChar::default(), "\x1b[X")
+/// The same, where memory is found.
+fn check<B: BufWrite>(rt: &(impl Abort + AllocGlobal), form: &B, want: &str) {
+    let told = tells(rt, rt.alloc(), form, want);
+    same(rt, &told, &Ok(()));
 }
 
 #[test]
-fn moves_the_cursor(rt: HostRuntime) -> Result<(), Fail> {
-    check(&rt, rt.alloc(), &term::Crlf, "\r\n")?;
-    check(&rt, rt.alloc(), &term::Backspace, "\x08")?;
-    check(&rt, rt.alloc(), &term::SaveCursor, "\x1b7")?;
-    check(&rt, rt.alloc(), &term::RestoreCursor, "\x1b8")?;
-    check(&rt, rt.alloc(), &term::MoveTo::default(), "\x1b[H")?;
-    check(&rt, rt.alloc(), &term::MoveRight::default(), "\x1b[C")
+fn clears(rt: HostRuntime) {
+    check(&rt, &term::ClearScreen, "\x1b[H\x1b[J");
+    check(&rt, &term::ClearRowForward, "\x1b[K");
+    check(&rt, &term::ClearAttrs, "\x1b[m");
+    check(&rt, &term::EraseChar::default(), "\x1b[X");
 }
 
 #[test]
-fn switches_modes(rt: HostRuntime) -> Result<(), Fail> {
+fn moves_the_cursor(rt: HostRuntime) {
+    check(&rt, &term::Crlf, "\r\n");
+    check(&rt, &term::Backspace, "\x08");
+    check(&rt, &term::SaveCursor, "\x1b7");
+    check(&rt, &term::RestoreCursor, "\x1b8");
+    check(&rt, &term::MoveTo::default(), "\x1b[H");
+    check(&rt, &term::MoveRight::default(), "\x1b[C");
+}
+
+#[test]
+fn switches_modes(rt: HostRuntime) {
     for (state, cursor, keypad) in [(true, "\x1b[?25l", "\x1b="), (false, "\x1b[?25h", "\x1b>")] {
-        check(&rt, rt.alloc(), &term::HideCursor::new(state), cursor)?;
-        check(
-            &rt,
-            rt.alloc(),
-            &term::ApplicationKeypad::new(state),
-            keypad,
-        )?;
+        check(&rt, &term::HideCursor::new(state), cursor);
+        check(&rt, &term::ApplicationKeypad::new(state), keypad);
     }
     for (state, cursor, paste) in [
         (true, "\x1b[?1h", "\x1b[?2004h"),
         (false, "\x1b[?1l", "\x1b[?2004l"),
     ] {
-        check(
-            &rt,
-            rt.alloc(),
-            &term::ApplicationCursor::new(state),
-            cursor,
-        )?;
-        check(&rt, rt.alloc(), &term::BracketedPaste::new(state), paste)?;
+        check(&rt, &term::ApplicationCursor::new(state), cursor);
+        check(&rt, &term::BracketedPaste::new(state), paste);
     }
-    Ok(())
 }
 
 #[test]
-fn default_modes_are_off(rt: HostRuntime) -> Result<(), Fail> {
-    check(&rt, rt.alloc(), &term::HideCursor::default(), "\x1b[?25h")?;
-    check(
-        &rt,
-        rt.alloc(),
-        &term::ApplicationKeypad::default(),
-        "\x1b>",
-    )?;
-    check(
-        &rt,
-        rt.alloc(),
-        &term::ApplicationCursor::default(),
-        "\x1b[?1l",
-    )?;
-    check(
-        &rt,
-        rt.alloc(),
-        &term::BracketedPaste::default(),
-        "\x1b[?2004l",
-    )
+fn default_modes_are_off(rt: HostRuntime) {
+    check(&rt, &term::HideCursor::default(), "\x1b[?25h");
+    check(&rt, &term::ApplicationKeypad::default(), "\x1b>");
+    check(&rt, &term::ApplicationCursor::default(), "\x1b[?1l");
+    check(&rt, &term::BracketedPaste::default(), "\x1b[?2004l");
 }
 
 #[test]
-fn default_changes_are_empty(rt: HostRuntime) -> Result<(), Fail> {
-    check(&rt, rt.alloc(), &term::MouseProtocolMode::default(), "")?;
-    check(&rt, rt.alloc(), &term::MouseProtocolEncoding::default(), "")?;
-    check(&rt, rt.alloc(), &term::CursorStyle::default(), "")?;
-    check(&rt, rt.alloc(), &term::Attrs::default(), "")
+fn default_changes_are_empty(rt: HostRuntime) {
+    check(&rt, &term::MouseProtocolMode::default(), "");
+    check(&rt, &term::MouseProtocolEncoding::default(), "");
+    check(&rt, &term::CursorStyle::default(), "");
+    check(&rt, &term::Attrs::default(), "");
 }
 
 const PLACES: &[(u16, u16, &str)] = &[
@@ -154,19 +145,17 @@ const PLACES: &[(u16, u16, &str)] = &[
 ];
 
 #[test]
-fn moves_to_places(rt: HostRuntime) -> Result<(), Fail> {
+fn moves_to_places(rt: HostRuntime) {
     for (row, col, want) in PLACES {
         check(
             &rt,
-            rt.alloc(),
             &term::MoveTo::new(Pos {
                 row: *row,
                 col: *col,
             }),
             want,
-        )?;
+        );
     }
-    Ok(())
 }
 
 const COUNTS: &[(u16, &str, &str)] = &[
@@ -179,12 +168,11 @@ const COUNTS: &[(u16, &str, &str)] = &[
 ];
 
 #[test]
-fn moves_right_and_erases(rt: HostRuntime) -> Result<(), Fail> {
+fn moves_right_and_erases(rt: HostRuntime) {
     for (count, right, erased) in COUNTS {
-        check(&rt, rt.alloc(), &term::MoveRight::new(*count), right)?;
-        check(&rt, rt.alloc(), &term::EraseChar::new(*count), erased)?;
+        check(&rt, &term::MoveRight::new(*count), right);
+        check(&rt, &term::EraseChar::new(*count), erased);
     }
-    Ok(())
 }
 
 fn place((row, col): (u16, u16)) -> Pos {
@@ -208,12 +196,11 @@ const MOVES: &[((u16, u16), (u16, u16), &str)] = &[
 ];
 
 #[test]
-fn moves_from_place_to_place(rt: HostRuntime) -> Result<(), Fail> {
+fn moves_from_place_to_place(rt: HostRuntime) {
     for (from, to, want) in MOVES {
         let (from, to) = (place(*from), place(*to));
-        check(&rt, rt.alloc(), &term::MoveFromTo::new(from, to), want)?;
+        check(&rt, &term::MoveFromTo::new(from, to), want);
     }
-    Ok(())
 }
 
 const MODES: &[(MouseProtocolMode, MouseProtocolMode, &str)] = &[
@@ -265,12 +252,11 @@ const MODES: &[(MouseProtocolMode, MouseProtocolMode, &str)] = &[
 ];
 
 #[test]
-fn changes_mouse_modes(rt: HostRuntime) -> Result<(), Fail> {
+fn changes_mouse_modes(rt: HostRuntime) {
     for (mode, prev, want) in MODES {
         let form = term::MouseProtocolMode::new(*mode, *prev);
-        check(&rt, rt.alloc(), &form, want)?;
+        check(&rt, &form, want);
     }
-    Ok(())
 }
 
 const ENCODINGS: &[(MouseProtocolEncoding, MouseProtocolEncoding, &str)] = &[
@@ -303,12 +289,11 @@ const ENCODINGS: &[(MouseProtocolEncoding, MouseProtocolEncoding, &str)] = &[
 ];
 
 #[test]
-fn changes_mouse_encodings(rt: HostRuntime) -> Result<(), Fail> {
+fn changes_mouse_encodings(rt: HostRuntime) {
     for (encoding, prev, want) in ENCODINGS {
         let form = term::MouseProtocolEncoding::new(*encoding, *prev);
-        check(&rt, rt.alloc(), &form, want)?;
+        check(&rt, &form, want);
     }
-    Ok(())
 }
 
 const STYLES: &[(CursorStyle, CursorStyle, &str)] = &[
@@ -339,16 +324,15 @@ const STYLES: &[(CursorStyle, CursorStyle, &str)] = &[
 ];
 
 #[test]
-fn changes_cursor_styles(rt: HostRuntime) -> Result<(), Fail> {
+fn changes_cursor_styles(rt: HostRuntime) {
     for (style, prev, want) in STYLES {
         let form = term::CursorStyle::new(*style, *prev);
-        check(&rt, rt.alloc(), &form, want)?;
+        check(&rt, &form, want);
     }
-    Ok(())
 }
 
 #[test]
-fn sets_attributes(rt: HostRuntime) -> Result<(), Fail> {
+fn sets_attributes(rt: HostRuntime) {
     let white = Color::Rgb(255, 255, 255);
     let longest = term::Attrs::default()
         .fgcolor(white)
@@ -359,15 +343,14 @@ fn sets_attributes(rt: HostRuntime) -> Result<(), Fail> {
         .inverse(false);
     check(
         &rt,
-        rt.alloc(),
         &longest,
         "\x1b[38;2;255;255;255;48;2;255;255;255;22;23;24;27m",
-    )?;
+    );
     let some = term::Attrs::default()
         .bgcolor(Color::Default)
         .intensity(Intensity::Dim)
         .inverse(true);
-    check(&rt, rt.alloc(), &some, "\x1b[49;2;7m")
+    check(&rt, &some, "\x1b[49;2;7m");
 }
 
 /// The change from `old` to `new`, appended as a form is.
@@ -380,21 +363,31 @@ fn appended_change(alloc: Global, old: &Attrs, new: &Attrs) -> Result<String, Gr
 }
 
 /// The change of attributes from `old` to `new`, by both calls.
-fn check_change<R: Abort>(
+fn tells_change<R: Abort>(
     rt: &R,
     alloc: Global,
     old: Attrs,
     new: Attrs,
     want: &str,
-) -> Result<(), Fail> {
+) -> Result<(), GridError> {
     let text = appended_change(alloc, &old, &new)?;
-    assert_eq!(rt; text.as_str().strip_prefix("x"), Some(want));
+    same(rt, &text.as_str().strip_prefix("x"), &Some(want));
     let mut limited = writer_with_room(alloc, want.len())?;
     let first = new.write_escape_code_diff_fmt(&mut limited, &old);
     let calls = limited.calls;
     let second = new.write_escape_code_diff_fmt(&mut limited, &old);
-    assert_eq!(rt; (first, calls, second, limited.taken.as_str()), told(want));
+    same(
+        rt,
+        &(first, calls, second, limited.taken.as_str()),
+        &told(want),
+    );
     Ok(())
+}
+
+/// The same, where memory is found.
+fn check_change(rt: &(impl Abort + AllocGlobal), old: Attrs, new: Attrs, want: &str) {
+    let told = tells_change(rt, rt.alloc(), old, new, want);
+    same(rt, &told, &Ok(()));
 }
 
 fn colored(fgcolor: Color, bgcolor: Color) -> Attrs {
@@ -430,16 +423,15 @@ const COLORS: &[(Color, &str, &str)] = &[
 ];
 
 #[test]
-fn changes_colors(rt: HostRuntime) -> Result<(), Fail> {
+fn changes_colors(rt: HostRuntime) {
     let plain = Attrs::new();
     for (color, foreground, background) in COLORS {
         let on_text = colored(*color, Color::Default);
         let behind = colored(Color::Default, *color);
-        check_change(&rt, rt.alloc(), plain, on_text, foreground)?;
-        check_change(&rt, rt.alloc(), plain, behind, background)?;
-        check_change(&rt, rt.alloc(), on_text, plain, "\x1b[m")?;
+        check_change(&rt, plain, on_text, foreground);
+        check_change(&rt, plain, behind, background);
+        check_change(&rt, on_text, plain, "\x1b[m");
     }
-    Ok(())
 }
 
 const YELLOW: Color = Color::Idx(3);
@@ -466,17 +458,10 @@ const BOTH: &[((Color, Color), (Color, Color), &str)] = &[
 ];
 
 #[test]
-fn changes_both_colors(rt: HostRuntime) -> Result<(), Fail> {
+fn changes_both_colors(rt: HostRuntime) {
     for (old, new, want) in BOTH {
-        check_change(
-            &rt,
-            rt.alloc(),
-            colored(old.0, old.1),
-            colored(new.0, new.1),
-            want,
-        )?;
+        check_change(&rt, colored(old.0, old.1), colored(new.0, new.1), want);
     }
-    Ok(())
 }
 
 const TEXT_MODES: &[(u8, u8, &str)] = &[
@@ -498,7 +483,7 @@ const TEXT_MODES: &[(u8, u8, &str)] = &[
 ];
 
 #[test]
-fn changes_modes_of_text(rt: HostRuntime) -> Result<(), Fail> {
+fn changes_modes_of_text(rt: HostRuntime) {
     let plain = colored(Color::Idx(1), Color::Default);
     for (old, new, want) in TEXT_MODES {
         let old = Attrs {
@@ -509,13 +494,12 @@ fn changes_modes_of_text(rt: HostRuntime) -> Result<(), Fail> {
             mode: *new,
             ..plain
         };
-        check_change(&rt, rt.alloc(), old, new, want)?;
+        check_change(&rt, old, new, want);
     }
-    Ok(())
 }
 
 #[test]
-fn changes_from_and_to_plain(rt: HostRuntime) -> Result<(), Fail> {
+fn changes_from_and_to_plain(rt: HostRuntime) {
     let plain = Attrs::default();
     let bright = Attrs {
         fgcolor: Color::Idx(9),
@@ -528,9 +512,8 @@ fn changes_from_and_to_plain(rt: HostRuntime) -> Result<(), Fail> {
         (bright, plain, "\x1b[m"),
         (plain, both, "\x1b[1m"),
     ] {
-        check_change(&rt, rt.alloc(), old, new, want)?;
+        check_change(&rt, old, new, want);
     }
-    Ok(())
 }
 
 /// The bits of the mode, and what the getters make of them.
@@ -552,35 +535,51 @@ fn flags(attrs: &Attrs) -> (u8, [bool; 5]) {
 fn sets_and_gets(rt: HostRuntime) {
     let mut attrs = Attrs::new();
     attrs.set_bold();
-    assert_eq!(rt; flags(&attrs), (1, [true, false, false, false, false]));
+    same(
+        &rt,
+        &flags(&attrs),
+        &(1, [true, false, false, false, false]),
+    );
     attrs.set_dim();
     attrs.set_italic(true);
     attrs.set_underline(true);
     attrs.set_inverse(true);
-    assert_eq!(rt; flags(&attrs), (30, [false, true, true, true, true]));
+    same(&rt, &flags(&attrs), &(30, [false, true, true, true, true]));
     attrs.set_normal_intensity();
     attrs.set_italic(false);
-    assert_eq!(rt; flags(&attrs), (24, [false, false, false, true, true]));
+    same(
+        &rt,
+        &flags(&attrs),
+        &(24, [false, false, false, true, true]),
+    );
     attrs.set_underline(false);
     attrs.set_inverse(false);
-    assert_eq!(rt; attrs, Attrs::default());
+    same(&rt, &attrs, &Attrs::default());
 }
 
 #[test]
 fn prints_debug_texts(rt: HostRuntime) -> Result<(), Fail> {
     let moved = term::MoveTo::new(Pos { row: 1, col: 2 });
     let mode = term::MouseProtocolMode::default();
+    let text = format!(in rt.alloc(); "{moved:?} {mode:?} {:?}", term::ClearScreen)?;
+    same(
+        &rt,
+        &text.as_str(),
+        &"MoveTo { row: 1, col: 2 } MouseProtocolMode { mode: None, prev: None } ClearScreen",
+    );
+    Ok(())
+}
+
+#[test]
+fn prints_texts_of_attributes_and_errors(rt: HostRuntime) -> Result<(), Fail> {
     let italic = term::Attrs::default().italic(true);
     let error = GridError::Memory;
-    let text = format!(in rt.alloc();
-        "{moved:?} {mode:?} {:?} {italic:?} {error} {error:?}",
-        term::ClearScreen
-    )?;
-    assert_eq!(rt;
-        text.as_str(),
-        "MoveTo { row: 1, col: 2 } MouseProtocolMode { mode: None, prev: None } ClearScreen Attrs \
-         { fgcolor: None, bgcolor: None, intensity: None, italic: Some(true), underline: None, inverse: None } out \
-         of memory Memory"
+    let text = format!(in rt.alloc(); "{italic:?} {error} {error:?}")?;
+    same(
+        &rt,
+        &text.as_str(),
+        &"Attrs { fgcolor: None, bgcolor: None, intensity: None, italic: Some(true), underline: None, inverse: None } \
+          out of memory Memory",
     );
     Ok(())
 }

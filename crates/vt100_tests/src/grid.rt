@@ -10,6 +10,7 @@ mod resize;
 mod text;
 mod writers;
 
+use crate::same::same;
 use crate::shown::shown;
 use cursor::{Move, go};
 use edits::{Edit, apply};
@@ -136,7 +137,7 @@ fn check(rt: &(impl Abort + AllocGlobal), grid: &Grid, want: &str) -> Result<(),
     let mut text = drawn(rt.alloc(), grid)?;
     let Pos { row, col } = grid.pos();
     write!(text, " {row} {col}")?;
-    assert_eq!(rt; text.as_str(), want);
+    same(rt, &text.as_str(), &want);
     Ok(())
 }
 
@@ -144,7 +145,7 @@ fn check_all(rt: &(impl Abort + AllocGlobal), cases: &[Case]) -> Result<(), Fail
     for (start, steps, want, counts) in cases {
         let (grid, gone) = run(rt.alloc(), *start, steps)?;
         let kept = (grid.scrollback_len(), grid.scrollback(), gone);
-        assert_eq!(rt; kept, *counts, "{want}");
+        same(rt, &(want, kept), &(want, *counts));
         check(rt, &grid, want)?;
     }
     Ok(())

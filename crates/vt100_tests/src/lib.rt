@@ -2,6 +2,8 @@
 #![tactic(auto)]
 
 #[cfg(test)]
+mod begun;
+#[cfg(test)]
 mod captures;
 #[cfg(test)]
 mod forms;
@@ -9,5 +11,7 @@ mod forms;
 mod grid;
 #[cfg(test)]
 mod rows;
+#[cfg(test)]
+mod same;
 #[cfg(test)]
 mod shown;

@@ -1,6 +1,7 @@
 //! Rows at work.
 mod refusals;
 
+use crate::same::same;
 use crate::shown::shown;
 use std::alloc::Global;
 use std::process::Abort;
@@ -38,7 +39,7 @@ fn row_of(alloc: Global, cols: u16, text: &str) -> Result<Row, GridError> {
 /// A row is this one.
 fn check(rt: &(impl Abort + AllocGlobal), row: &Row, want: &str) -> Result<(), Fail> {
     let text = shown(rt.alloc(), row)?;
-    assert_eq!(rt; text.as_str(), want);
+    same(rt, &text.as_str(), &want);
     Ok(())
 }
 
@@ -88,7 +89,19 @@ fn apply(row: &mut Row, edit: Edit) -> Result<(), GridError> {
 }
 
 /// Columns, a text that is printed on a row that is then wrapped, an edit, and the row then.
-const EDITS: &[(u16, &str, Edit, &str)] = &[
+type Edited = (u16, &'static str, Edit, &'static str);
+
+fn check_edits(rt: &(impl Abort + AllocGlobal), cases: &[Edited]) -> Result<(), Fail> {
+    for (cols, text, edit, want) in cases {
+        let mut row = row_of(rt.alloc(), *cols, text)?;
+        row.wrap(true);
+        apply(&mut row, *edit)?;
+        check(rt, &row, want)?;
+    }
+    Ok(())
+}
+
+const MOVED: &[Edited] = &[
     (4, "中文", Edit::Put(1, 'x'), ".x文_>"),
     (4, "中文", Edit::Put(0, 'x'), "x 文_>"),
     (4, "a中b", Edit::Put(0, '文'), "文_.b>"),
@@ -100,6 +113,14 @@ const EDITS: &[(u16, &str, Edit, &str)] = &[
     (4, "中文", Edit::Remove(1, 2), ".文_."),
     (4, "中文", Edit::Remove(0, 1), ".文_."),
     (4, "abcd", Edit::Remove(1, 3), "ad.."),
+];
+
+#[test]
+fn cells_that_come_and_move_keep_wide_characters_whole(rt: HostRuntime) -> Result<(), Fail> {
+    check_edits(&rt, MOVED)
+}
+
+const ERASED: &[Edited] = &[
     (4, "中文", Edit::Erase(0), "..文_>"),
     (4, "中文", Edit::Erase(1), "..文_>"),
     (4, "中文", Edit::Erase(2), "中_.."),
@@ -108,6 +129,14 @@ const EDITS: &[(u16, &str, Edit, &str)] = &[
     (4, "abcd", Edit::EraseRange(3, 1), "abcd>"),
     (4, "中文", Edit::ClearWide(1), "..文_>"),
     (4, "中文", Edit::ClearWide(3), "中_.."),
+];
+
+#[test]
+fn cells_that_are_erased_keep_wide_characters_whole(rt: HostRuntime) -> Result<(), Fail> {
+    check_edits(&rt, ERASED)
+}
+
+const OF_ROWS: &[Edited] = &[
     (4, "ab中", Edit::Truncate(3), "ab."),
     (4, "abcd", Edit::Truncate(9), "abcd"),
     (4, "abcd", Edit::Truncate(0), ""),
@@ -124,14 +153,8 @@ const EDITS: &[(u16, &str, Edit, &str)] = &[
 ];
 
 #[test]
-fn edits_keep_wide_characters_whole(rt: HostRuntime) -> Result<(), Fail> {
-    for (cols, text, edit, want) in EDITS {
-        let mut row = row_of(rt.alloc(), *cols, text)?;
-        row.wrap(true);
-        apply(&mut row, *edit)?;
-        check(&rt, &row, want)?;
-    }
-    Ok(())
+fn edits_of_rows_keep_wide_characters_whole(rt: HostRuntime) -> Result<(), Fail> {
+    check_edits(&rt, OF_ROWS)
 }
 
 /// Columns, a text that is printed, and the row then.
@@ -171,37 +194,45 @@ fn zero_width_characters_join_a_blank(rt: HostRuntime) -> Result<(), Fail> {
     check(&rt, &row, " \u{301}.")
 }
 
+const RED: Attrs = Attrs {
+    fgcolor: Color::Default,
+    bgcolor: Color::Idx(1),
+    mode: 0,
+};
+
+fn background(row: &Row, col: u16) -> Option<Color> {
+    match row.get(col) {
+        Some(cell) => Some(cell.bgcolor()),
+        None => None,
+    }
+}
+
 #[test]
 fn a_widened_cell_keeps_its_attributes(rt: HostRuntime) -> Result<(), Fail> {
-    let red = Attrs {
-        fgcolor: Color::Default,
-        bgcolor: Color::Idx(1),
-        mode: 0,
-    };
     let mut row = row_of(rt.alloc(), 3, "\u{2764}中")?;
-    print(&mut row, 1, "\u{FE0F}", red);
+    print(&mut row, 1, "\u{FE0F}", RED);
     check(&rt, &row, "\u{2764}\u{FE0F}_.")?;
-    for (col, bgcolor) in [(0, Color::Default), (1, Color::Default), (2, Color::Idx(1))] {
-        assert_eq!(rt; row.get(col).map(|cell| cell.bgcolor()), Some(bgcolor));
-    }
+    let told = [
+        background(&row, 0),
+        background(&row, 1),
+        background(&row, 2),
+    ];
+    let default = Some(Color::Default);
+    same(&rt, &told, &[default, default, Some(Color::Idx(1))]);
     Ok(())
 }
 
 #[test]
 fn a_cell_without_room_is_carried(rt: HostRuntime) -> Result<(), Fail> {
-    let red = Attrs {
-        fgcolor: Color::Default,
-        bgcolor: Color::Idx(1),
-        mode: 0,
-    };
     let mut row = row_of(rt.alloc(), 2, "a\u{2764}")?;
     if let (Some(0), 2) = (columns('\u{FE0F}'), row.cols()) {
-        let join = row.join(2, '\u{FE0F}', red);
-        assert!(rt; matches!(join, Join::Carried(_)));
+        let join = row.join(2, '\u{FE0F}', RED);
+        same(&rt, &matches!(join, Join::Carried(_)), &true);
         if let Join::Carried(cell) = join {
-            assert_eq!(rt;
-                (cell.contents(), cell.is_wide(), cell.bgcolor()),
-                ("\u{2764}\u{FE0F}", true, Color::Idx(1))
+            same(
+                &rt,
+                &(cell.contents(), cell.is_wide(), cell.bgcolor()),
+                &("\u{2764}\u{FE0F}", true, Color::Idx(1)),
             );
         }
     }
@@ -213,7 +244,11 @@ fn copies_are_equal(rt: HostRuntime) -> Result<(), Fail> {
     let row = row_of(rt.alloc(), 2, "a")?;
     let copy = row.clone()?;
     let first = copy.get(0);
-    assert_eq!(rt; (first == row.get(0), first == row.get(1)), (true, false));
+    same(
+        &rt,
+        &(first == row.get(0), first == row.get(1)),
+        &(true, false),
+    );
     Ok(())
 }
 
@@ -242,8 +277,8 @@ fn cells_tell_their_attributes(rt: HostRuntime) -> Result<(), Fail> {
     print(&mut row, 0, "a", attrs);
     let cell = *row.get(0).ok_or("no cell")?;
     let told = (cell.attrs(), cell.fgcolor(), cell.bgcolor());
-    assert_eq!(rt; told, (attrs, Color::Idx(9), Color::Rgb(1, 2, 3)));
-    assert_eq!(rt; flags(&cell), [true, false, true, false, true]);
+    same(&rt, &told, &(attrs, Color::Idx(9), Color::Rgb(1, 2, 3)));
+    same(&rt, &flags(&cell), &[true, false, true, false, true]);
     Ok(())
 }
 
@@ -268,7 +303,7 @@ fn writes_the_text_of_columns(rt: HostRuntime) -> Result<(), Fail> {
         let row = row_of(rt.alloc(), *cols, text)?;
         let mut contents = String::new(rt.alloc());
         row.write_contents(&mut contents, *start, *width, *wrapping)?;
-        assert_eq!(rt; contents.as_str(), *want);
+        same(&rt, &contents.as_str(), want);
     }
 
     Ok(())
@@ -280,6 +315,6 @@ fn writes_a_space_between_halves(rt: HostRuntime) -> Result<(), Fail> {
     apply(&mut row, Edit::Insert(1, 1))?;
     let mut contents = String::new(rt.alloc());
     row.write_contents(&mut contents, 0, 4, false)?;
-    assert_eq!(rt; contents.as_str(), "中 x");
+    same(&rt, &contents.as_str(), &"中 x");
     Ok(())
 }

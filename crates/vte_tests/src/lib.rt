@@ -5,3 +5,5 @@
 mod ansi;
 #[cfg(test)]
 mod parser;
+#[cfg(test)]
+mod same;

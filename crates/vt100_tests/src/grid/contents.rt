@@ -2,7 +2,19 @@
 use super::*;
 
 /// A new grid, what is done to it, and its text then.
-const TEXTS: &[(Start, &[Step], &str)] = &[
+type Case = (Start, &'static [Step], &'static str);
+
+fn check_texts(rt: &(impl Abort + AllocGlobal), cases: &[Case]) -> Result<(), Fail> {
+    for (start, steps, want) in cases {
+        let (grid, _) = run(rt.alloc(), *start, steps)?;
+        let mut text = String::new(rt.alloc());
+        grid.write_contents(&mut text)?;
+        same(rt, &text.as_str(), want);
+    }
+    Ok(())
+}
+
+const PRINTED: &[Case] = &[
     ((2, 4, None), &[], ""),
     ((2, 4, None), &[Step::Print("abcdxyz")], "abcdxyz"),
     ((2, 4, None), &[Step::Print("中文x")], "中文x"),
@@ -11,6 +23,14 @@ const TEXTS: &[(Start, &[Step], &str)] = &[
     ((3, 4, None), &[Step::Print("a\r\n\r\nb")], "a\n\nb"),
     ((3, 4, None), &[Step::Print("a\r\nb\r\n")], "a\nb"),
     ((3, 3, None), &[Step::Print("ab中")], "ab\n中"),
+];
+
+#[test]
+fn texts(rt: HostRuntime) -> Result<(), Fail> {
+    check_texts(&rt, PRINTED)
+}
+
+const ERASED_OR_KEPT: &[Case] = &[
     // A row that was erased below one that is wrapped.
     (
         (3, 2, None),
@@ -46,14 +66,8 @@ const TEXTS: &[(Start, &[Step], &str)] = &[
 ];
 
 #[test]
-fn texts(rt: HostRuntime) -> Result<(), Fail> {
-    for (start, steps, want) in TEXTS {
-        let (grid, _) = run(rt.alloc(), *start, steps)?;
-        let mut text = String::new(rt.alloc());
-        grid.write_contents(&mut text)?;
-        assert_eq!(rt; text.as_str(), *want);
-    }
-    Ok(())
+fn texts_of_erased_and_kept_rows(rt: HostRuntime) -> Result<(), Fail> {
+    check_texts(&rt, ERASED_OR_KEPT)
 }
 
 /// What stood in the string stays, but for newlines at its end.
@@ -62,10 +76,10 @@ fn appends(rt: HostRuntime) -> Result<(), Fail> {
     let (mut grid, _) = run(rt.alloc(), (2, 2, None), &[Step::Print("a")])?;
     let mut text = String::from_str(rt.alloc(), "x\n")?;
     grid.write_contents(&mut text)?;
-    assert_eq!(rt; text.as_str(), "x\na");
+    same(&rt, &text.as_str(), &"x\na");
     text.push('\n')?;
     grid.clear();
     grid.write_contents(&mut text)?;
-    assert_eq!(rt; text.as_str(), "x\na");
+    same(&rt, &text.as_str(), &"x\na");
     Ok(())
 }

@@ -53,6 +53,10 @@ const MOVES: &[(Move, (u16, u16))] = &[
     (Move::ColSet(3), (0, 3)),
     (Move::ColInc(4), (0, 7)),
     (Move::Save, (0, 7)),
+];
+
+/// Moves after these, in a region.
+const IN_A_REGION: &[(Move, (u16, u16))] = &[
     (Move::Region(2, 4), (2, 0)),
     (Move::RowInc(65535), (4, 0)),
     (Move::RowDec(65535), (2, 0)),
@@ -67,19 +71,22 @@ const MOVES: &[(Move, (u16, u16))] = &[
     (Move::ColInc(65535), (0, 19)),
 ];
 
+fn follow(rt: &impl Abort, grid: &mut Grid, moves: &[(Move, (u16, u16))])
+    requires { IsAllocated grid.old }
+    ensures { IsAllocated grid.new }
+{
+    for (step, (row, col)) in moves {
+        go(grid, *step);
+        let pos = grid.pos();
+        same(rt, &(pos.row, pos.col), &(*row, *col));
+    }
+}
+
 #[test]
 fn moves(rt: HostRuntime) -> Result<(), Fail> {
     let mut screen = grid(rt.alloc(), (6, 20, None))?;
-    for (step, (row, col)) in MOVES {
-        go(&mut screen, *step);
-        assert_eq!(rt;
-            screen.pos(),
-            Pos {
-                row: *row,
-                col: *col
-            }
-        );
-    }
+    follow(&rt, &mut screen, MOVES);
+    follow(&rt, &mut screen, IN_A_REGION);
     Ok(())
 }
 

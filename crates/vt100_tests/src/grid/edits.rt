@@ -73,7 +73,7 @@ fn edits_around_the_cursor(rt: HostRuntime) -> Result<(), Fail> {
             Step::Edit(*edit),
         ];
         let (grid, _) = run(rt.alloc(), (3, 4, None), &steps)?;
-        assert_eq!(rt; drawn(rt.alloc(), &grid)?.as_str(), *want);
+        same(&rt, &drawn(rt.alloc(), &grid)?.as_str(), want);
     }
     Ok(())
 }

@@ -4,6 +4,7 @@ ghost use Rattle.std.specs.Prelude.{IfOk, ◌<◌, length};
 ghost use Rattle.vt100_core.specs.Grid.{IsAllocated};
 
 use super::*;
+use crate::begun::{check_refused, check_text, retried_text};
 use std::process::Abort;
 
 /// How many rows are drawn on, and whether each has so many columns.
@@ -26,16 +27,28 @@ fn shows_wide_rows(grid: &Grid, cols: u16) -> bool {
     is_wide
 }
 
-/// What every grid keeps to, also after a refusal.
-fn check_grid<R: Abort>(rt: &R, grid: &Grid, rows: u16, cols: u16) {
-    let size = grid.size();
-    assert_eq!(rt; (size.rows(), size.cols()), (rows, cols));
-    assert_eq!(rt; drawn_rows(grid, cols), (u32::from(rows), true));
+/// Whether the cursor, the rows that are kept and those that are shown are within their bounds.
+fn fits(grid: &Grid, rows: u16, cols: u16) -> [bool; 4] {
     let (len, offset) = (grid.scrollback_len(), grid.scrollback());
     let capacity = grid.scrollback_capacity();
     let Pos { row, col } = grid.pos();
-    let fits = [row < rows, col <= cols, len <= capacity, offset <= len];
-    assert_eq!(rt; (shows_wide_rows(grid, cols), fits), (true, [true; 4]));
+    [row < rows, col <= cols, len <= capacity, offset <= len]
+}
+
+/// What every grid keeps to, also after a refusal.
+fn check_grid<R: Abort>(rt: &R, grid: &Grid, rows: u16, cols: u16) {
+    let size = (grid.size().rows(), grid.size().cols());
+    let is_wide = shows_wide_rows(grid, cols);
+    same(
+        rt,
+        &(
+            size,
+            drawn_rows(grid, cols),
+            is_wide,
+            fits(grid, rows, cols),
+        ),
+        &((rows, cols), (u32::from(rows), true), true, [true; 4]),
+    );
 }
 
 /// A grid whose rows were allocated at the second try, if the first was refused.
@@ -80,7 +93,7 @@ fn check_again(
 ) -> Result<(), Fail> {
     let text = retried_drawn(rt.alloc(), grid)?;
     let Pos { row, col } = grid.pos();
-    assert_eq!(rt; (text.as_str(), row, col), want);
+    same(rt, &(text.as_str(), row, col), &want);
     Ok(())
 }
 
@@ -106,7 +119,7 @@ fn rows_are_allocated_at_any_capacity(rt: HostRuntime) -> Result<(), Fail> {
         let grid = retried_grid(rt.alloc(), *start)?;
         let (rows, cols, capacity) = *start;
         check_grid(&rt, &grid, rows, cols);
-        assert_eq!(rt; Some(grid.scrollback_capacity()), capacity);
+        same(&rt, &Some(grid.scrollback_capacity()), &capacity);
     }
     Ok(())
 }
@@ -128,7 +141,7 @@ fn rows_that_are_kept(rt: HostRuntime) -> Result<(), Fail> {
         check_grid(&rt, &grid, 3, 2);
         lines = grid.row_inc_scroll(2, &mut ());
     }
-    assert_eq!(rt; lines, Ok(2));
+    same(&rt, &lines, &Ok(2));
     check_grid(&rt, &grid, 3, 2);
     Ok(())
 }
@@ -142,7 +155,7 @@ fn rows_that_are_shown_again(rt: HostRuntime) -> Result<(), Fail> {
         grid.set_scrollback(3)?;
     }
     check_grid(&rt, &grid, 1, 2);
-    assert!(rt; grid.scrollback() > 0);
+    same(&rt, &(grid.scrollback() > 0), &true);
     Ok(())
 }
 
@@ -158,7 +171,7 @@ fn copies(rt: HostRuntime) -> Result<(), Fail> {
         }
     };
     check_grid(&rt, &copy, 2, 2);
-    assert_eq!(rt; copy.scrollback_len(), grid.scrollback_len());
+    same(&rt, &copy.scrollback_len(), &grid.scrollback_len());
     Ok(())
 }
 
@@ -171,7 +184,7 @@ fn texts(rt: HostRuntime) -> Result<(), Fail> {
         text.clear();
         grid.write_contents(&mut text)?;
     }
-    assert_eq!(rt; text.as_str(), "a line of text\n\nand a third");
+    same(&rt, &text.as_str(), &"a line of text\n\nand a third");
     Ok(())
 }
 
@@ -228,7 +241,7 @@ fn lines_that_scroll_up(rt: HostRuntime) -> Result<(), Fail> {
         let mut grid = retried_grid(rt.alloc(), *start)?;
         scrolled_grid(&rt, &mut grid, text, *count)?;
         check_again(&rt, &grid, *want)?;
-        assert_eq!(rt; grid.scrollback_len(), *kept);
+        same(&rt, &grid.scrollback_len(), kept);
     }
     Ok(())
 }
@@ -258,42 +271,7 @@ fn a_full_row_that_wraps(rt: HostRuntime) -> Result<(), Fail> {
     let mut grid = retried_grid(rt.alloc(), (2, 2, Some(3)))?;
     retried_wrap(&rt, &mut grid, "a\r\nbc")?;
     check_again(&rt, &grid, ("bc>/../", 1, 0))?;
-    assert_eq!(rt; grid.scrollback_len(), 1);
-    Ok(())
-}
-
-/// What a text holds before more is appended.
-const BEGUN: &str = "begun:";
-
-fn begun_text(alloc: Global) -> Result<String, GridError> {
-    let mut text = String::new(alloc);
-    text.push_str(BEGUN)?;
-    Ok(text)
-}
-
-/// A text that holds so much, begun at the second try if the first was refused.
-fn retried_text(alloc: Global) -> Result<String, GridError> {
-    match begun_text(alloc) {
-        Ok(text) => Ok(text),
-        Err(_) => begun_text(alloc),
-    }
-}
-
-/// After a refusal a text holds what it held before, and a front of what was to be appended. Then it is begun anew.
-fn check_refused(
-    rt: &impl Abort,
-    text: &mut String,
-    error: GridError,
-    want: &str,
-) -> Result<(), Fail> {
-    assert_eq!(rt; error, GridError::Memory);
-    let is_front = match text.as_str().strip_prefix(BEGUN) {
-        Some(front) => want.starts_with(front),
-        None => false,
-    };
-    assert!(rt; is_front);
-    text.clear();
-    text.push_str(BEGUN)?;
+    same(&rt, &grid.scrollback_len(), &1);
     Ok(())
 }
 
@@ -325,17 +303,34 @@ const REDRAWS: &[(Start, &str, &str, &str)] = &[
     ((2, 4, None), "abcd", "\x1b[m\x1b[H\x1b[Jabcd", "\x1b[1;4Hd"),
 ];
 
+/// Draws a grid, once more if that was refused.
+fn check_redraw(rt: &(impl Abort + AllocGlobal), grid: &Grid, want: &str) -> Result<(), Fail> {
+    let mut text = retried_text(rt.alloc())?;
+    if let Err(error) = grid.write_contents_formatted(&mut text) {
+        check_refused(rt, &mut text, error, want)?;
+        grid.write_contents_formatted(&mut text)?;
+    }
+    check_text(rt, &text, want);
+    Ok(())
+}
+
 #[test]
 fn redraws(rt: HostRuntime) -> Result<(), Fail> {
     for (start, printed, want, _) in REDRAWS {
         let grid = printed_grid(&rt, rt.alloc(), *start, printed)?;
-        let mut text = retried_text(rt.alloc())?;
-        if let Err(error) = grid.write_contents_formatted(&mut text) {
-            check_refused(&rt, &mut text, error, want)?;
-            grid.write_contents_formatted(&mut text)?;
-        }
-        assert_eq!(rt; text.as_str().strip_prefix(BEGUN), Some(*want));
+        check_redraw(&rt, &grid, want)?;
     }
+    Ok(())
+}
+
+/// Brings the cursor to its place, once more if that was refused.
+fn check_place(rt: &(impl Abort + AllocGlobal), grid: &Grid, want: &str) -> Result<(), Fail> {
+    let mut text = retried_text(rt.alloc())?;
+    if let Err(error) = grid.write_cursor_position_formatted(&mut text, None, None) {
+        check_refused(rt, &mut text, error, want)?;
+        grid.write_cursor_position_formatted(&mut text, None, None)?;
+    }
+    check_text(rt, &text, want);
     Ok(())
 }
 
@@ -343,12 +338,7 @@ fn redraws(rt: HostRuntime) -> Result<(), Fail> {
 fn places_of_the_cursor(rt: HostRuntime) -> Result<(), Fail> {
     for (start, printed, _, want) in REDRAWS {
         let grid = printed_grid(&rt, rt.alloc(), *start, printed)?;
-        let mut text = retried_text(rt.alloc())?;
-        if let Err(error) = grid.write_cursor_position_formatted(&mut text, None, None) {
-            check_refused(&rt, &mut text, error, want)?;
-            grid.write_cursor_position_formatted(&mut text, None, None)?;
-        }
-        assert_eq!(rt; text.as_str().strip_prefix(BEGUN), Some(*want));
+        check_place(&rt, &grid, want)?;
     }
     Ok(())
 }
@@ -361,17 +351,28 @@ const DIFFERENCES: &[(Start, &str, &str, &str)] = &[
     ((2, 4, None), "ab", "ab中", "中"),
 ];
 
+/// Draws the difference of two grids, once more if that was refused.
+fn check_diff(
+    rt: &(impl Abort + AllocGlobal),
+    prev: &Grid,
+    grid: &Grid,
+    want: &str,
+) -> Result<(), Fail> {
+    let mut text = retried_text(rt.alloc())?;
+    if let Err(error) = grid.write_contents_diff(&mut text, prev, Attrs::new()) {
+        check_refused(rt, &mut text, error, want)?;
+        grid.write_contents_diff(&mut text, prev, Attrs::new())?;
+    }
+    check_text(rt, &text, want);
+    Ok(())
+}
+
 #[test]
 fn differences(rt: HostRuntime) -> Result<(), Fail> {
     for (start, earlier, later, want) in DIFFERENCES {
         let prev = printed_grid(&rt, rt.alloc(), *start, earlier)?;
         let grid = printed_grid(&rt, rt.alloc(), *start, later)?;
-        let mut text = retried_text(rt.alloc())?;
-        if let Err(error) = grid.write_contents_diff(&mut text, &prev, Attrs::new()) {
-            check_refused(&rt, &mut text, error, want)?;
-            grid.write_contents_diff(&mut text, &prev, Attrs::new())?;
-        }
-        assert_eq!(rt; text.as_str().strip_prefix(BEGUN), Some(*want));
+        check_diff(&rt, &prev, &grid, want)?;
     }
     Ok(())
 }

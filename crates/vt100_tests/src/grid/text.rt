@@ -51,7 +51,11 @@ fn wraps_at_the_last_of_65535_columns(rt: HostRuntime) -> Result<(), Fail> {
     let (grid, _) = run(rt.alloc(), (1, 65535, None), &steps)?;
     let mut text = String::new(rt.alloc());
     grid.write_contents(&mut text)?;
-    assert_eq!(rt; (text.as_str(), grid.pos()), ("b", Pos { row: 0, col: 1 }));
+    same(
+        &rt,
+        &(text.as_str(), grid.pos()),
+        &("b", Pos { row: 0, col: 1 }),
+    );
     Ok(())
 }
 
@@ -73,9 +77,10 @@ fn tells_what_was_printed(rt: HostRuntime) -> Result<(), Fail> {
         printed(&mut grid, '\u{7f}'),
     ];
     let (nothing, spacing, joined) = (Printed::Nothing, Printed::Spacing, Printed::Joined);
-    assert_eq!(rt;
-        told,
-        [Some(nothing), Some(spacing), Some(joined), Some(nothing)]
+    same(
+        &rt,
+        &told,
+        &[Some(nothing), Some(spacing), Some(joined), Some(nothing)],
     );
     check(&rt, &grid, "e\u{301}../ 0 1")
 }
@@ -94,7 +99,7 @@ fn keeps_rows(rt: HostRuntime) -> Result<(), Fail> {
     let first = grid
         .visible_cell(Pos { row: 0, col: 0 })
         .map(|cell| cell.contents());
-    assert_eq!(rt; (lines, kept, first), (1, (1, 1, 1), Some("a")));
+    same(&rt, &(lines, kept, first), &(1, (1, 1, 1), Some("a")));
     Ok(())
 }
 

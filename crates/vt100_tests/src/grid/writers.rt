@@ -2,7 +2,32 @@
 use super::*;
 
 /// A new grid, what is done to it, its redraw, and how a cursor at a place that isn't known comes to its place.
-const REDRAWS: &[(Start, &[Step], &str, &str)] = &[
+type Redraw = (Start, &'static [Step], &'static str, &'static str);
+
+fn check_redraw(rt: &(impl Abort + AllocGlobal), grid: &Grid, want: &str) -> Result<(), Fail> {
+    let mut text = String::new(rt.alloc());
+    let attrs = grid.write_contents_formatted(&mut text)?;
+    same(rt, &(text.as_str(), attrs), &(want, Attrs::new()));
+    Ok(())
+}
+
+fn check_place(rt: &(impl Abort + AllocGlobal), grid: &Grid, want: &str) -> Result<(), Fail> {
+    let mut text = String::new(rt.alloc());
+    grid.write_cursor_position_formatted(&mut text, None, None)?;
+    same(rt, &text.as_str(), &want);
+    Ok(())
+}
+
+fn check_redraws(rt: &(impl Abort + AllocGlobal), cases: &[Redraw]) -> Result<(), Fail> {
+    for (start, steps, want, cursor) in cases {
+        let (grid, _) = run(rt.alloc(), *start, steps)?;
+        check_redraw(rt, &grid, want)?;
+        check_place(rt, &grid, cursor)?;
+    }
+    Ok(())
+}
+
+const PRINTED: &[Redraw] = &[
     ((2, 4, None), &[], "\x1b[m\x1b[H\x1b[J", "\x1b[H"),
     (
         (2, 4, None),
@@ -41,6 +66,14 @@ const REDRAWS: &[(Start, &[Step], &str, &str)] = &[
         "\x1b[m\x1b[H\x1b[Jab中",
         "\x1b[1;3H中",
     ),
+];
+
+#[test]
+fn redraws(rt: HostRuntime) -> Result<(), Fail> {
+    check_redraws(&rt, PRINTED)
+}
+
+const ERASED_OR_MOVED: &[Redraw] = &[
     // It waits behind an empty cell: no row above has a text at its end, or one has.
     (
         (3, 4, None),
@@ -80,22 +113,35 @@ const REDRAWS: &[(Start, &[Step], &str, &str)] = &[
 ];
 
 #[test]
-fn redraws(rt: HostRuntime) -> Result<(), Fail> {
-    for (start, steps, want, cursor) in REDRAWS {
-        let (grid, _) = run(rt.alloc(), *start, steps)?;
-        let mut text = String::new(rt.alloc());
-        let attrs = grid.write_contents_formatted(&mut text)?;
-        assert_eq!(rt; text.as_str(), *want);
-        assert_eq!(rt; attrs, Attrs::new());
-        let mut text = String::new(rt.alloc());
-        grid.write_cursor_position_formatted(&mut text, None, None)?;
-        assert_eq!(rt; text.as_str(), *cursor);
+fn redraws_of_empty_cells(rt: HostRuntime) -> Result<(), Fail> {
+    check_redraws(&rt, ERASED_OR_MOVED)
+}
+
+/// A new grid, what is done to the earlier one, what to the later one, and the difference.
+type Difference = (Start, &'static [Step], &'static [Step], &'static str);
+
+fn check_diff(
+    rt: &(impl Abort + AllocGlobal),
+    prev: &Grid,
+    grid: &Grid,
+    want: &str,
+) -> Result<(), Fail> {
+    let mut text = String::new(rt.alloc());
+    let attrs = grid.write_contents_diff(&mut text, prev, Attrs::new())?;
+    same(rt, &(text.as_str(), attrs), &(want, Attrs::new()));
+    Ok(())
+}
+
+fn check_differences(rt: &(impl Abort + AllocGlobal), cases: &[Difference]) -> Result<(), Fail> {
+    for (start, earlier, later, want) in cases {
+        let (prev, _) = run(rt.alloc(), *start, earlier)?;
+        let (grid, _) = run(rt.alloc(), *start, later)?;
+        check_diff(rt, &prev, &grid, want)?;
     }
     Ok(())
 }
 
-/// A new grid, what is done to the earlier one, what to the later one, and the difference.
-const DIFFERENCES: &[(Start, &[Step], &[Step], &str)] = &[
+const OF_TEXT: &[Difference] = &[
     (
         (2, 4, None),
         &[Step::Print("abcd")],
@@ -134,6 +180,14 @@ const DIFFERENCES: &[(Start, &[Step], &[Step], &str)] = &[
         ],
         "\x1b[H\x1b[K\x1b[3C\x1b[X\x1b[H",
     ),
+];
+
+#[test]
+fn differences(rt: HostRuntime) -> Result<(), Fail> {
+    check_differences(&rt, OF_TEXT)
+}
+
+const OF_LINES_AND_HALVES: &[Difference] = &[
     (
         (3, 2, None),
         &[Step::Print("ab\r\ncd")],
@@ -179,14 +233,6 @@ const DIFFERENCES: &[(Start, &[Step], &[Step], &str)] = &[
 ];
 
 #[test]
-fn differences(rt: HostRuntime) -> Result<(), Fail> {
-    for (start, earlier, later, want) in DIFFERENCES {
-        let (prev, _) = run(rt.alloc(), *start, earlier)?;
-        let (grid, _) = run(rt.alloc(), *start, later)?;
-        let mut text = String::new(rt.alloc());
-        let attrs = grid.write_contents_diff(&mut text, &prev, Attrs::new())?;
-        assert_eq!(rt; text.as_str(), *want);
-        assert_eq!(rt; attrs, Attrs::new());
-    }
-    Ok(())
+fn differences_of_lines_and_wide_characters(rt: HostRuntime) -> Result<(), Fail> {
+    check_differences(&rt, OF_LINES_AND_HALVES)
 }

@@ -1,6 +1,7 @@
 //! Calls on a row that find no memory. They are refused where the tests run with allocations that fail; else each
 //! succeeds at once.
 use super::*;
+use crate::begun::{check_refused, check_text, retried_text};
 use vt100_forms::Pos;
 
 /// A row, made at the second try if the first was refused.
@@ -29,7 +30,7 @@ fn retried_shown(alloc: Global, row: &Row) -> Result<String, GridError> {
 /// A row is this one.
 fn check_again(rt: &(impl Abort + AllocGlobal), row: &Row, want: &str) -> Result<(), Fail> {
     let text = retried_shown(rt.alloc(), row)?;
-    assert_eq!(rt; text.as_str(), want);
+    same(rt, &text.as_str(), &want);
     Ok(())
 }
 
@@ -50,7 +51,7 @@ fn rows_of_any_width_are_made(rt: HostRuntime) -> Result<(), Fail> {
     for cols in [0, 1, 80, 4_096, 65_535] {
         let row = retried_row(rt.alloc(), cols, "")?;
         let told = (row.cols(), blank_cells(&row), row.wrapped());
-        assert_eq!(rt; told, (cols, u32::from(cols), false));
+        same(&rt, &told, &(cols, u32::from(cols), false));
     }
     Ok(())
 }
@@ -95,10 +96,10 @@ fn retried_edit(
 ) -> Result<(), Fail> {
     let cols = row.cols();
     if let Err(error) = apply(row, edit) {
-        assert_eq!(rt; error, GridError::Memory);
+        same(rt, &error, &GridError::Memory);
         check_again(rt, row, before)?;
         apply(row, edit)?;
-        assert!(rt; cols < row.cols());
+        same(rt, &(cols < row.cols()), &true);
     }
     Ok(())
 }
@@ -150,61 +151,32 @@ fn rows_become_as_long_as_can_be(rt: HostRuntime) -> Result<(), Fail> {
         let mut row = wrapped_row(rt.alloc(), 2, "ab")?;
         retried_edit(&rt, &mut row, edit, "ab>")?;
         let told = (row.cols(), blank_cells(&row), row.wrapped());
-        assert_eq!(rt; told, (65_535, 65_533, false));
+        same(&rt, &told, &(65_535, 65_533, false));
     }
     Ok(())
 }
 
-/// What a text holds before more is appended.
-const BEGUN: &str = "begun:";
-
-fn begun_text(alloc: Global) -> Result<String, GridError> {
-    let mut text = String::new(alloc);
-    text.push_str(BEGUN)?;
-    Ok(text)
-}
-
-/// A text that holds so much, begun at the second try if the first was refused.
-fn retried_text(alloc: Global) -> Result<String, GridError> {
-    match begun_text(alloc) {
-        Ok(text) => Ok(text),
-        Err(_) => begun_text(alloc),
-    }
-}
-
-/// After a refusal a text holds what it held before, and a front of what was to be appended. Then it is begun anew.
-fn check_refused(
-    rt: &impl Abort,
-    text: &mut String,
-    error: GridError,
+/// Appends the text of columns, once more if that was refused.
+fn check_contents(
+    rt: &(impl Abort + AllocGlobal),
+    row: &Row,
+    (start, width, wrapping): (u16, u16, bool),
     want: &str,
 ) -> Result<(), Fail> {
-    assert_eq!(rt; error, GridError::Memory);
-    let is_front = match text.as_str().strip_prefix(BEGUN) {
-        Some(front) => want.starts_with(front),
-        None => false,
-    };
-    assert!(rt; is_front);
-    text.clear();
-    text.push_str(BEGUN)?;
+    let mut text = retried_text(rt.alloc())?;
+    if let Err(error) = row.write_contents(&mut text, start, width, wrapping) {
+        check_refused(rt, &mut text, error, want)?;
+        row.write_contents(&mut text, start, width, wrapping)?;
+    }
+    check_text(rt, &text, want);
     Ok(())
-}
-
-/// A text holds what it held before, and this after it.
-fn check_text(rt: &impl Abort, text: &String, want: &str) {
-    assert_eq!(rt; text.as_str().strip_prefix(BEGUN), Some(want));
 }
 
 #[test]
 fn texts_of_columns(rt: HostRuntime) -> Result<(), Fail> {
     for (cols, printed, start, width, wrapping, want) in WRITTEN {
         let row = retried_row(rt.alloc(), *cols, printed)?;
-        let mut text = retried_text(rt.alloc())?;
-        if let Err(error) = row.write_contents(&mut text, *start, *width, *wrapping) {
-            check_refused(&rt, &mut text, error, want)?;
-            row.write_contents(&mut text, *start, *width, *wrapping)?;
-        }
-        check_text(&rt, &text, want);
+        check_contents(&rt, &row, (*start, *width, *wrapping), want)?;
     }
     Ok(())
 }
@@ -215,13 +187,7 @@ const LONG: &str = "one line of a text, which is rather long";
 #[test]
 fn long_texts(rt: HostRuntime) -> Result<(), Fail> {
     let row = retried_row(rt.alloc(), 50, LONG)?;
-    let mut text = retried_text(rt.alloc())?;
-    if let Err(error) = row.write_contents(&mut text, 0, 50, true) {
-        check_refused(&rt, &mut text, error, LONG)?;
-        row.write_contents(&mut text, 0, 50, true)?;
-    }
-    check_text(&rt, &text, LONG);
-    Ok(())
+    check_contents(&rt, &row, (0, 50, true), LONG)
 }
 
 /// Where a cursor stands that wasn't moved off the row, and what it draws with, after a row's forms.
@@ -264,24 +230,35 @@ const DRAWN: &[(u16, &str, u16, u16, bool, Place, &str, Left)] = &[
     (50, LONG, 0, 50, false, None, LONG, (3, 40, true)),
 ];
 
+/// Draws columns of a row as the fourth one, once more if that was refused.
+fn check_forms(
+    rt: &(impl Abort + AllocGlobal),
+    row: &Row,
+    (start, width, above): (u16, u16, bool),
+    place: Option<Pos>,
+    (want, end): (&str, Left),
+) -> Result<(), Fail> {
+    let mut text = retried_text(rt.alloc())?;
+    let answer = match row.write_contents_formatted(
+        &mut text, start, width, 3, above, place, None,
+    ) {
+        Ok(answer) => answer,
+        Err(error) => {
+            check_refused(rt, &mut text, error, want)?;
+            row.write_contents_formatted(&mut text, start, width, 3, above, place, None)?
+        }
+    };
+    check_text(rt, &text, want);
+    same(rt, &left(answer), &end);
+    Ok(())
+}
+
 #[test]
 fn forms_of_rows(rt: HostRuntime) -> Result<(), Fail> {
     for (cols, printed, start, width, above, place, want, end) in DRAWN {
-        let (start, width, above) = (*start, *width, *above);
         let row = retried_row(rt.alloc(), *cols, printed)?;
         let place = place.map(pos);
-        let mut text = retried_text(rt.alloc())?;
-        let answer = match row.write_contents_formatted(
-            &mut text, start, width, 3, above, place, None,
-        ) {
-            Ok(answer) => answer,
-            Err(error) => {
-                check_refused(&rt, &mut text, error, want)?;
-                row.write_contents_formatted(&mut text, start, width, 3, above, place, None)?
-            }
-        };
-        check_text(&rt, &text, want);
-        assert_eq!(rt; left(answer), *end);
+        check_forms(&rt, &row, (*start, *width, *above), place, (want, *end))?;
     }
     Ok(())
 }
@@ -296,24 +273,35 @@ const CHANGED: &[(u16, &str, &str, &str, Left)] = &[
     (50, "", LONG, LONG, (3, 40, true)),
 ];
 
+/// Draws the difference of two rows, once more if that was refused.
+fn check_diff(
+    rt: &(impl Abort + AllocGlobal),
+    prev: &Row,
+    row: &Row,
+    (want, end): (&str, Left),
+) -> Result<(), Fail> {
+    let (begin, attrs, cols) = (Pos { row: 3, col: 0 }, Attrs::new(), row.cols());
+    let mut text = retried_text(rt.alloc())?;
+    let answer = match row.write_contents_diff(
+        &mut text, prev, 0, cols, 3, false, false, begin, attrs,
+    ) {
+        Ok(answer) => answer,
+        Err(error) => {
+            check_refused(rt, &mut text, error, want)?;
+            row.write_contents_diff(&mut text, prev, 0, cols, 3, false, false, begin, attrs)?
+        }
+    };
+    check_text(rt, &text, want);
+    same(rt, &left(answer), &end);
+    Ok(())
+}
+
 #[test]
 fn differences_of_rows(rt: HostRuntime) -> Result<(), Fail> {
-    let (begin, attrs) = (Pos { row: 3, col: 0 }, Attrs::new());
     for (cols, earlier, later, want, end) in CHANGED {
         let prev = retried_row(rt.alloc(), *cols, earlier)?;
         let row = retried_row(rt.alloc(), *cols, later)?;
-        let mut text = retried_text(rt.alloc())?;
-        let answer = match row.write_contents_diff(
-            &mut text, &prev, 0, *cols, 3, false, false, begin, attrs,
-        ) {
-            Ok(answer) => answer,
-            Err(error) => {
-                check_refused(&rt, &mut text, error, want)?;
-                row.write_contents_diff(&mut text, &prev, 0, *cols, 3, false, false, begin, attrs)?
-            }
-        };
-        check_text(&rt, &text, want);
-        assert_eq!(rt; left(answer), *end);
+        check_diff(&rt, &prev, &row, (want, *end))?;
     }
     Ok(())
 }

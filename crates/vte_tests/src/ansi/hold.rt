@@ -1,94 +1,106 @@
 //! Synchronized updates.
 
-use super::log::{Flagged, Log, UntilCleared};
+use super::log::{Flagged, Log, Processor, feed, processor};
 use super::table::calls;
+use crate::same::same;
 use std::alloc::Global;
 use std::cell::Cell;
 use std::process::Abort;
 use std::test::Fail;
-use vte::ansi::{Handler, Processor, Timeout};
+use vte::ansi::{self, Handler, Timeout};
+
+/// A piece, the calls so far after it, and how many bytes are held then.
+type Piece = (&'static [u8], &'static str, usize);
 
 /// After a piece the calls so far are these, and so many bytes are held. How often the timeout was set.
 fn takes(
     rt: &(impl Abort + AllocGlobal),
-    processor: &mut Processor<UntilCleared, Global>,
+    processor: &mut Processor,
     log: &mut Log,
-    piece: &[u8],
-    wanted: &str,
-    count: usize,
+    piece: Piece,
 ) -> usize {
-    processor.advance(log, piece);
+    let (bytes, wanted, count) = piece;
+    feed(processor, log, bytes);
     let held = processor.sync_bytes_count();
-    assert_eq!(rt;
-        (log.failed, log.text.as_str(), held),
-        (false, wanted, count),
-        "{piece:?}"
+    same(
+        rt,
+        &(bytes, log.failed, log.text.as_str(), held),
+        &(bytes, false, wanted, count),
     );
     processor.sync_timeout().sets
 }
 
+/// The same of pieces one after another. Whether the timeout is pending then.
+fn takes_all(
+    rt: &(impl Abort + AllocGlobal),
+    processor: &mut Processor,
+    log: &mut Log,
+    pieces: &[Piece],
+) -> bool {
+    for piece in pieces {
+        takes(rt, processor, log, *piece);
+    }
+    processor.sync_timeout().pending
+}
+
+const OPENED: &str = "SetPrivateMode(Named(SyncUpdate)) ";
+
+const BOLD: &str =
+    "SetPrivateMode(Named(SyncUpdate)) TerminalAttribute(Bold) UnsetPrivateMode(Named(SyncUpdate)) ";
+
+const HELD: &[Piece] = &[
+    (b"\x1b[?2026h\x1b[1m", OPENED, 4),
+    (b"\x1b[?2026l\x1b[?2026h\x1b[4m", BOLD, 12),
+    (
+        b"\x1b[?2026l",
+        "SetPrivateMode(Named(SyncUpdate)) TerminalAttribute(Bold) UnsetPrivateMode(Named(SyncUpdate)) \
+         SetPrivateMode(Named(SyncUpdate)) TerminalAttribute(Underline) UnsetPrivateMode(Named(SyncUpdate)) \
+         UnsetPrivateMode(Named(SyncUpdate)) ",
+        0,
+    ),
+];
+
 #[test]
 fn holds_until_the_end_mark(rt: HostRuntime) -> Result<(), Fail> {
     let mut log = Log::new(&rt);
-    let mut processor = Processor::new(rt.alloc(), UntilCleared::new())?;
-    let opened = "SetPrivateMode(Named(SyncUpdate)) ";
-    takes(
-        &rt,
-        &mut processor,
-        &mut log,
-        b"\x1b[?2026h\x1b[1m",
-        opened,
-        4,
-    );
-    let bold =
-        "SetPrivateMode(Named(SyncUpdate)) TerminalAttribute(Bold) UnsetPrivateMode(Named(SyncUpdate)) ";
-    takes(
-        &rt,
-        &mut processor,
-        &mut log,
-        b"\x1b[?2026l\x1b[?2026h\x1b[4m",
-        bold,
-        12,
-    );
-    let all =
-        "SetPrivateMode(Named(SyncUpdate)) TerminalAttribute(Bold) UnsetPrivateMode(Named(SyncUpdate)) \
-         SetPrivateMode(Named(SyncUpdate)) TerminalAttribute(Underline) UnsetPrivateMode(Named(SyncUpdate)) \
-         UnsetPrivateMode(Named(SyncUpdate)) ";
-    takes(&rt, &mut processor, &mut log, b"\x1b[?2026l", all, 0);
-    assert!(rt; !processor.sync_timeout().pending);
+    let mut processor = processor(rt.alloc())?;
+    let pending = takes_all(&rt, &mut processor, &mut log, HELD);
+    same(&rt, &pending, &false);
     Ok(())
 }
+
+const BEGUN: &[Piece] = &[(b"\x1b[?20", "", 0), (b"26h\x1b[1m", OPENED, 4)];
 
 #[test]
 fn begins_and_stops(rt: HostRuntime) -> Result<(), Fail> {
     let mut log = Log::new(&rt);
-    let mut processor = Processor::new(rt.alloc(), UntilCleared::new())?;
-    takes(&rt, &mut processor, &mut log, b"\x1b[?20", "", 0);
-    let opened = "SetPrivateMode(Named(SyncUpdate)) ";
-    takes(&rt, &mut processor, &mut log, b"26h\x1b[1m", opened, 4);
+    let mut processor = processor(rt.alloc())?;
+    takes_all(&rt, &mut processor, &mut log, BEGUN);
     processor.stop_sync(&mut log);
-    let closed =
-        "SetPrivateMode(Named(SyncUpdate)) TerminalAttribute(Bold) UnsetPrivateMode(Named(SyncUpdate)) ";
-    takes(&rt, &mut processor, &mut log, b"", closed, 0);
-    assert!(rt; !processor.sync_timeout().pending);
+    let pending = takes_all(&rt, &mut processor, &mut log, &[(b"", BOLD, 0)]);
+    same(&rt, &pending, &false);
     Ok(())
 }
+
+const AMONG_OTHERS: &[Piece] = &[
+    (
+        b"\x1b[?25;2026h\x1b[1m",
+        "SetPrivateMode(Named(ShowCursor)) SetPrivateMode(Named(SyncUpdate)) ",
+        4,
+    ),
+    (
+        b"\x1b[?25;2026l",
+        "SetPrivateMode(Named(ShowCursor)) SetPrivateMode(Named(SyncUpdate)) ",
+        15,
+    ),
+];
 
 /// An update that is opened among other modes is closed only by the end mark.
 #[test]
 fn opens_among_other_modes(rt: HostRuntime) -> Result<(), Fail> {
     let mut log = Log::new(&rt);
-    let mut processor = Processor::new(rt.alloc(), UntilCleared::new())?;
-    let both = "SetPrivateMode(Named(ShowCursor)) SetPrivateMode(Named(SyncUpdate)) ";
-    takes(
-        &rt,
-        &mut processor,
-        &mut log,
-        b"\x1b[?25;2026h\x1b[1m",
-        both,
-        4,
-    );
-    takes(&rt, &mut processor, &mut log, b"\x1b[?25;2026l", both, 15);
+    let mut processor = processor(rt.alloc())?;
+    takes_all(&rt, &mut processor, &mut log, AMONG_OTHERS);
     Ok(())
 }
 
@@ -109,38 +121,36 @@ fn marks_are_cut_anywhere(rt: HostRuntime) -> Result<(), Fail> {
     )
 }
 
+/// Pieces, and how often the timeout was set after each.
+const SET_AGAIN: &[(Piece, usize)] = &[
+    ((b"\x1b[?2026:1ha\x1b[?20", OPENED, 6), 1),
+    ((b"26", OPENED, 8), 1),
+    ((b"h", OPENED, 9), 2),
+    ((b"\x1b[?2026h\x1b", OPENED, 18), 3),
+    ((b"bcd", OPENED, 21), 3),
+];
+
 /// A start mark in the held bytes sets the timeout again, also where a cut goes through it.
 #[test]
 fn sets_the_timeout_again(rt: HostRuntime) -> Result<(), Fail> {
     let mut log = Log::new(&rt);
-    let mut processor = Processor::new(rt.alloc(), UntilCleared::new())?;
-    let opened = "SetPrivateMode(Named(SyncUpdate)) ";
-    let sets = [
-        takes(
-            &rt,
-            &mut processor,
-            &mut log,
-            b"\x1b[?2026:1ha\x1b[?20",
-            opened,
-            6,
-        ),
-        takes(&rt, &mut processor, &mut log, b"26", opened, 8),
-        takes(&rt, &mut processor, &mut log, b"h", opened, 9),
-        takes(
-            &rt,
-            &mut processor,
-            &mut log,
-            b"\x1b[?2026h\x1b",
-            opened,
-            18,
-        ),
-        takes(&rt, &mut processor, &mut log, b"bcd", opened, 21),
-    ];
-    assert_eq!(rt;
-        (sets, processor.sync_timeout().pending),
-        ([1, 1, 2, 3, 3], true)
-    );
+    let mut processor = processor(rt.alloc())?;
+    for (piece, sets) in SET_AGAIN {
+        let told = takes(&rt, &mut processor, &mut log, *piece);
+        same(&rt, &told, sets);
+    }
+    same(&rt, &processor.sync_timeout().pending, &true);
     Ok(())
+}
+
+/// Hands a piece over. How many bytes are held then.
+fn held_after(
+    processor: &mut ansi::Processor<Flagged<'_>, Global>,
+    log: &mut Log,
+    piece: &[u8],
+) -> usize {
+    processor.advance(log, piece);
+    processor.sync_bytes_count()
 }
 
 /// Held bytes are parsed before later ones, also where the timeout isn't pending any more.
@@ -148,34 +158,35 @@ fn sets_the_timeout_again(rt: HostRuntime) -> Result<(), Fail> {
 fn parses_held_bytes_first(rt: HostRuntime) -> Result<(), Fail> {
     let pending = Cell::new(false);
     let mut log = Log::new(&rt);
-    let mut processor = Processor::new(rt.alloc(), Flagged(&pending))?;
-    processor.advance(&mut log, b"\x1b[?2026hab");
-    let held = processor.sync_bytes_count();
+    let mut processor = ansi::Processor::new(rt.alloc(), Flagged(&pending))?;
+    let held = held_after(&mut processor, &mut log, b"\x1b[?2026hab");
     pending.set(false);
-    processor.advance(&mut log, b"cd");
+    let after = held_after(&mut processor, &mut log, b"cd");
     let all =
         "SetPrivateMode(Named(SyncUpdate)) Input('a') Input('b') UnsetPrivateMode(Named(SyncUpdate)) Input('c') \
          Input('d') ";
-    let after = processor.sync_bytes_count();
-    assert_eq!(rt; (held, after, log.text.as_str()), (2, 0, all));
+    same(&rt, &(held, after, log.text.as_str()), &(2, 0, all));
     Ok(())
 }
+
+/// Fills the hold up to two bytes.
+fn fill(processor: &mut Processor, log: &mut Log) {
+    for _ in 0..1_048_573 {
+        feed(processor, log, b"aa");
+    }
+}
+
+const FILLED: &[Piece] = &[(b"\x1b[?2026h", OPENED, 0), (b"\x1b[1m", OPENED, 4)];
 
 #[test]
 fn empties_a_full_hold(rt: HostRuntime) -> Result<(), Fail> {
     let mut log = Log::with_count(&rt);
-    let mut processor = Processor::new(rt.alloc(), UntilCleared::new())?;
-    let opened = "SetPrivateMode(Named(SyncUpdate)) ";
-    takes(&rt, &mut processor, &mut log, b"\x1b[?2026h", opened, 0);
-    takes(&rt, &mut processor, &mut log, b"\x1b[1m", opened, 4);
-    for _ in 0..1_048_573 {
-        processor.advance(&mut log, b"aa");
-    }
-    takes(&rt, &mut processor, &mut log, b"", opened, 2_097_150);
+    let mut processor = processor(rt.alloc())?;
+    takes_all(&rt, &mut processor, &mut log, FILLED);
+    fill(&mut processor, &mut log);
+    takes(&rt, &mut processor, &mut log, (b"", OPENED, 2_097_150));
     let before = log.inputs;
-    let emptied =
-        "SetPrivateMode(Named(SyncUpdate)) TerminalAttribute(Bold) UnsetPrivateMode(Named(SyncUpdate)) ";
-    takes(&rt, &mut processor, &mut log, b"a", emptied, 0);
-    assert_eq!(rt; (before, log.inputs), (Some(0), Some(2_097_147)));
+    takes(&rt, &mut processor, &mut log, (b"a", BOLD, 0));
+    same(&rt, &(before, log.inputs), &(Some(0), Some(2_097_147)));
     Ok(())
 }

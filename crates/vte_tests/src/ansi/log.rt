@@ -2,9 +2,11 @@
 
 ghost use Rattle.std.specs.Prelude.{⊤};
 
+use std::alloc::Global;
 use std::cell::Cell;
+use std::test::Fail;
 use std::time::Duration;
-use vte::ansi::{Call, Clock, Handler, Timeout};
+use vte::ansi::{self, Call, Clock, Handler, Timeout};
 
 /// The calls so far. Where inputs are counted they aren't written down.
 #[derive(Drop)]
@@ -80,6 +82,18 @@ impl Timeout for UntilCleared {
     fn pending_timeout(&self) -> bool {
         self.pending
     }
+}
+
+/// A processor with such a timeout.
+pub type Processor = ansi::Processor<UntilCleared, Global>;
+
+pub fn processor(alloc: Global) -> Result<Processor, Fail> {
+    Ok(ansi::Processor::new(alloc, UntilCleared::new())?)
+}
+
+/// Hands a piece to a processor.
+pub fn feed(processor: &mut Processor, log: &mut Log, piece: &[u8]) {
+    processor.advance(log, piece);
 }
 
 /// A timeout that is pending while the flag beside it is up.

@@ -1,6 +1,7 @@
 //! Values.
 
 use super::log::Still;
+use crate::same::same;
 use std::str::FromStr;
 use std::test::Fail;
 use std::time::Duration;
@@ -17,40 +18,43 @@ fn timeouts(rt: HostRuntime) {
     let set = (timeout.sync_timeout(), timeout.pending_timeout());
     timeout.clear_timeout();
     let end = Some(Duration::from_millis(1150));
-    assert_eq!(rt; (fresh, set), ((None, false), (end, true)));
-    assert_eq!(rt; timeout.sync_timeout(), None);
+    same(&rt, &(fresh, set), &((None, false), (end, true)));
+    same(&rt, &timeout.sync_timeout(), &None);
     let mut last = StdSyncHandler::new(Still(Duration::MAX));
     last.set_timeout(Duration::from_millis(150));
-    assert_eq!(rt; last.sync_timeout(), Some(Duration::MAX));
+    same(&rt, &last.sync_timeout(), &Some(Duration::MAX));
 }
+
+const COLOR: Rgb = Rgb {
+    r: 10,
+    g: 11,
+    b: 12,
+};
 
 #[test]
 fn texts_of_colors(rt: HostRuntime) -> Result<(), Fail> {
-    let color = Rgb {
-        r: 10,
-        g: 11,
-        b: 12,
-    };
-    let text = format!(in rt.alloc(); "{color}, {OutOfMemory}")?;
-    assert_eq!(rt; text.as_str(), "#0a0b0c, out of memory");
-    for (text, want) in [
-        ("#0a0b0c", Ok(color)),
-        ("0x0A0b0c", Ok(color)),
-        ("#0a0b", Err(())),
-        ("#+a0b0c", Err(())),
-    ] {
-        assert_eq!(rt; Rgb::from_str(text), want, "{text}");
-    }
+    let text = format!(in rt.alloc(); "{COLOR}, {OutOfMemory}")?;
+    same(&rt, &text.as_str(), &"#0a0b0c, out of memory");
     Ok(())
+}
+
+/// Texts, and whether they are that colour.
+const READ: &[(&str, Result<Rgb, ()>)] = &[
+    ("#0a0b0c", Ok(COLOR)),
+    ("0x0A0b0c", Ok(COLOR)),
+    ("#0a0b", Err(())),
+    ("#+a0b0c", Err(())),
+];
+
+#[test]
+fn colors_of_texts(rt: HostRuntime) {
+    for (text, want) in READ {
+        same(&rt, &(*text, Rgb::from_str(text)), &(*text, *want));
+    }
 }
 
 #[test]
 fn sums_and_differences_of_colors(rt: HostRuntime) {
-    let color = Rgb {
-        r: 10,
-        g: 11,
-        b: 12,
-    };
     let other = Rgb { r: 250, g: 1, b: 0 };
     let sum = Rgb {
         r: 255,
@@ -58,7 +62,7 @@ fn sums_and_differences_of_colors(rt: HostRuntime) {
         b: 12,
     };
     let difference = Rgb { r: 0, g: 10, b: 12 };
-    assert_eq!(rt; (color + other, color - other), (sum, difference));
+    same(&rt, &(COLOR + other, COLOR - other), &(sum, difference));
 }
 
 const PRIVATE_MODES: &[(NamedPrivateMode, u16)] = &[
@@ -82,16 +86,21 @@ const PRIVATE_MODES: &[(NamedPrivateMode, u16)] = &[
 ];
 
 #[test]
-fn modes(rt: HostRuntime) {
+fn private_modes(rt: HostRuntime) {
     for (mode, raw) in PRIVATE_MODES {
-        assert_eq!(rt; PrivateMode::from(*mode).raw(), *raw);
+        same(&rt, &PrivateMode::from(*mode).raw(), raw);
     }
+}
+
+#[test]
+fn modes(rt: HostRuntime) {
     let insert = Mode::from(NamedMode::Insert).raw();
     let new_line = Mode::from(NamedMode::LineFeedNewLine).raw();
-    assert_eq!(rt; (insert, new_line), (4, 20));
-    assert_eq!(rt;
-        (Mode::Unknown(9).raw(), PrivateMode::Unknown(9).raw()),
-        (9, 9)
+    same(&rt, &(insert, new_line), &(4, 20));
+    same(
+        &rt,
+        &(Mode::Unknown(9).raw(), PrivateMode::Unknown(9).raw()),
+        &(9, 9),
     );
 }
 
@@ -179,10 +188,18 @@ const FORMS: &[(NamedColor, NamedColor, NamedColor)] = &[
 #[test]
 fn numbers_of_colours(rt: HostRuntime) {
     for (number, color) in PLAIN_AND_BRIGHT.iter().enumerate() {
-        assert_eq!(rt; usize::from(*color as u16), number);
+        same(&rt, &usize::from(*color as u16), &number);
     }
+}
+
+#[test]
+fn numbers_of_own_and_dim_colours(rt: HostRuntime) {
     for (number, color) in OWN_AND_DIM.iter().enumerate() {
-        assert_eq!(rt; usize::from(*color as u16), number.saturating_add(256));
+        same(
+            &rt,
+            &usize::from(*color as u16),
+            &number.saturating_add(256),
+        );
     }
 }
 
@@ -190,12 +207,16 @@ fn numbers_of_colours(rt: HostRuntime) {
 fn dim_and_bright_colours(rt: HostRuntime) {
     for (dim, plain, bright) in FORMS {
         let brighter = [dim.to_bright(), plain.to_bright(), bright.to_bright()];
-        assert_eq!(rt; brighter, [*plain, *bright, *bright]);
+        same(&rt, &brighter, &[*plain, *bright, *bright]);
         let dimmer = [dim.to_dim(), plain.to_dim(), bright.to_dim()];
-        assert_eq!(rt; dimmer, [*dim, *dim, *plain]);
+        same(&rt, &dimmer, &[*dim, *dim, *plain]);
     }
+}
+
+#[test]
+fn colours_without_other_forms(rt: HostRuntime) {
     for color in [NamedColor::Background, NamedColor::Cursor] {
-        assert_eq!(rt; [color.to_bright(), color.to_dim()], [color, color]);
+        same(&rt, &[color.to_bright(), color.to_dim()], &[color, color]);
     }
 }
 
@@ -234,6 +255,14 @@ const CONTROLS: &[u8] = &[
     C0::US,
 ];
 
+#[test]
+fn numbers_of_controls(rt: HostRuntime) {
+    same(&rt, &C0::DEL, &0x7F);
+    for (number, control) in CONTROLS.iter().enumerate() {
+        same(&rt, &usize::from(*control), &number);
+    }
+}
+
 const KEYBOARD_MODES: &[(KeyboardModes, u8)] = &[
     (KeyboardModes::NO_MODE, 0),
     (KeyboardModes::DISAMBIGUATE_ESC_CODES, 1),
@@ -244,13 +273,9 @@ const KEYBOARD_MODES: &[(KeyboardModes, u8)] = &[
 ];
 
 #[test]
-fn numbers_of_controls_and_keyboard_modes(rt: HostRuntime) {
-    assert_eq!(rt; C0::DEL, 0x7F);
-    for (number, control) in CONTROLS.iter().enumerate() {
-        assert_eq!(rt; usize::from(*control), number);
-    }
+fn numbers_of_keyboard_modes(rt: HostRuntime) {
     for (modes, bits) in KEYBOARD_MODES {
-        assert_eq!(rt; modes.bits(), *bits);
+        same(&rt, &modes.bits(), bits);
     }
 }
 
@@ -263,11 +288,12 @@ fn line_drawing(rt: HostRuntime) {
     let mut c = b'_';
     for drawn in DRAWN.chars() {
         let plain = char::from(c);
-        assert_eq!(rt;
-            (lines.map(plain), StandardCharset::Ascii.map(plain)),
-            (drawn, plain)
+        same(
+            &rt,
+            &(lines.map(plain), StandardCharset::Ascii.map(plain)),
+            &(drawn, plain),
         );
         c = c.wrapping_add(1);
     }
-    assert_eq!(rt; (c, lines.map('A')), (0x7f, 'A'));
+    same(&rt, &(c, lines.map('A')), &(0x7f, 'A'));
 }

@@ -47,18 +47,23 @@ impl Log {
         self.word("|");
     }
 
-    pub fn ignored(&mut self, ignore: bool) {
-        self.word(if ignore { "ignored" } else { "kept" });
+    /// A word and a number.
+    pub fn tell(&mut self, word: &str, number: u32) {
+        self.word(word);
+        self.number(number);
     }
 
-    fn sequence(&mut self, params: &Params, intermediates: &[u8], ignore: bool, action: char) {
-        self.failed |= write!(self.text, "{params:?} ").is_err();
+    fn ending(&mut self, intermediates: &[u8], ignore: bool, number: u32) {
         self.bytes(intermediates);
-        self.ignored(ignore);
-        self.number(action as u32);
+        self.tell(if ignore { "ignored" } else { "kept" }, number);
     }
 
-    fn pieces(&mut self, pieces: &[&[u8]]) {
+    fn params(&mut self, word: &str, params: &Params) {
+        self.failed |= write!(self.text, "{word} {params:?} ").is_err();
+    }
+
+    fn command(&mut self, bell_terminated: bool, pieces: &[&[u8]]) {
+        self.word(if bell_terminated { "osc bell" } else { "osc" });
         for piece in pieces {
             self.bytes(piece);
         }
@@ -81,43 +86,31 @@ impl Perform for Log {
     fn event(&mut self, event: Event<'_>) {
         self.terminated |= self.meets(event);
         match event {
-            Event::Print(c) => {
-                self.word("print");
-                self.number(c as u32);
-            }
-            Event::Execute(byte) => {
-                self.word("execute");
-                self.number(byte as u32);
-            }
+            Event::Print(c) => self.tell("print", c as u32),
+            Event::Execute(byte) => self.tell("execute", byte as u32),
             Event::Hook {
                 params,
                 intermediates,
                 ignore,
                 action,
             } => {
-                self.word("hook");
-                self.sequence(params, intermediates, ignore, action);
+                self.params("hook", params);
+                self.ending(intermediates, ignore, action as u32);
             }
-            Event::Put(byte) => {
-                self.word("put");
-                self.number(byte as u32);
-            }
+            Event::Put(byte) => self.tell("put", byte as u32),
             Event::Unhook => self.word("unhook"),
             Event::OscDispatch {
                 params,
                 bell_terminated,
-            } => {
-                self.word(if bell_terminated { "osc bell" } else { "osc" });
-                self.pieces(params);
-            }
+            } => self.command(bell_terminated, params),
             Event::CsiDispatch {
                 params,
                 intermediates,
                 ignore,
                 action,
             } => {
-                self.word("csi");
-                self.sequence(params, intermediates, ignore, action);
+                self.params("csi", params);
+                self.ending(intermediates, ignore, action as u32);
             }
             Event::EscDispatch {
                 intermediates,
@@ -125,9 +118,7 @@ impl Perform for Log {
                 byte,
             } => {
                 self.word("esc");
-                self.bytes(intermediates);
-                self.ignored(ignore);
-                self.number(byte as u32);
+                self.ending(intermediates, ignore, byte as u32);
             }
         }
     }

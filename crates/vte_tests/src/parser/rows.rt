@@ -3,6 +3,7 @@
 ghost use Rattle.std.specs.Prelude.{⊤, false};
 
 use super::log::{Log, Until};
+use crate::same::same;
 use std::process::Abort;
 use vte_core::{Event, Params, Parser, Perform};
 
@@ -17,10 +18,10 @@ fn reads<const N: usize>(
     let mut log = Log::new(rt, Until::Never);
     parser.advance(&mut log, front);
     parser.advance(&mut log, back);
-    assert_eq!(rt;
-        (log.failed, log.text.as_str()),
-        (false, wanted),
-        "after {front:?}"
+    same(
+        rt,
+        &(front, log.failed, log.text.as_str()),
+        &(front, false, wanted),
     );
 }
 
@@ -116,6 +117,10 @@ fn strings(rt: HostRuntime) {
     for (bytes, wanted) in rows {
         tells(&rt, bytes, wanted);
     }
+}
+
+#[test]
+fn long_strings(rt: HostRuntime) {
     tells_of_four(&rt, b"\x1b]0;abcdef\x07", "osc bell 48 | 97 98 99 | ");
     tells_of_four(&rt, b"\x1b]0;abcdef;g\x07", "osc bell 48 | 97 98 99 | | ");
 }
@@ -170,7 +175,7 @@ fn stops(rt: HostRuntime) {
         let mut parser: Parser<1024> = Parser::default();
         let read = parser.advance_until_terminated(&mut log, bytes);
         let more = parser.advance_until_terminated(&mut log, &bytes[read..]);
-        assert_eq!(rt; (read, more, log.text.as_str()), (*wanted, 0, *text));
+        same(&rt, &(read, more, log.text.as_str()), &(*wanted, 0, *text));
     }
 }
 
@@ -178,10 +183,18 @@ fn stops(rt: HostRuntime) {
 fn no_params(rt: HostRuntime) {
     let params = Params::default();
     let is_over = params.iter().next().is_none();
-    assert_eq!(rt; (params.len(), params.is_empty(), is_over), (0, true, true));
+    same(
+        &rt,
+        &(params.len(), params.is_empty(), is_over),
+        &(0, true, true),
+    );
+}
+
+#[test]
+fn a_new_parser(rt: HostRuntime) {
     let mut log = Log::new(&rt, Until::Never);
     Parser::new().advance(&mut log, b"a\x1b[1:2;3m");
-    assert_eq!(rt; log.text.as_str(), "print 97 csi [1:2;3] | kept 109 ");
+    same(&rt, &log.text.as_str(), &"print 97 csi [1:2;3] | kept 109 ");
 }
 
 /// Tells where each text begins that it is handed over.
@@ -228,12 +241,17 @@ fn runs_of_text(rt: HostRuntime) {
     };
     let bytes = b"ab\r\n\xE4\xB8\xADc\xC2\xA9\x7F\xC2\x85\xC2d\x1B7\xFFe\xE4";
     Parser::new().advance(&mut texts, bytes);
-    assert_eq!(rt;
-        texts.log.text.as_str(),
-        "text 97 98 execute 13 execute 10 text 20013 99 169 127 execute 133 print 65533 print 100 esc | kept 55 \
-         print 65533 print 101 "
+    same(
+        &rt,
+        &texts.log.text.as_str(),
+        &"text 97 98 execute 13 execute 10 text 20013 99 169 127 execute 133 print 65533 print 100 esc | kept 55 \
+         print 65533 print 101 ",
     );
+}
+
+#[test]
+fn text_without_runs(rt: HostRuntime) {
     let mut log = Log::new(&rt, Until::Never);
     log.print_str("a\u{4E2D}");
-    assert_eq!(rt; log.text.as_str(), "print 97 print 20013 ");
+    same(&rt, &log.text.as_str(), &"print 97 print 20013 ");
 }

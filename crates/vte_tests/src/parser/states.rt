@@ -1,6 +1,7 @@
 //! Each byte in each state, against the table of states written out.
 
 use super::log::{Log, Until};
+use crate::same::same;
 use std::process::Abort;
 use vte_core::Parser;
 
@@ -190,22 +191,16 @@ impl Reading {
         self.log.word(word);
         self.log.failed |= write!(self.log.text, "[{}{}] ", self.numbers, self.number).is_err();
         self.data();
-        self.log.word("kept");
-        self.log.number(byte as u32);
-    }
-
-    fn tell(&mut self, word: &str, number: u32) {
-        self.log.word(word);
-        self.log.number(number);
+        self.log.tell("kept", byte as u32);
     }
 
     fn apply(&mut self, effect: Effect, byte: u8) {
         match effect {
             Effect::Nothing | Effect::Begin => {}
-            Effect::Print => self.tell("print", byte as u32),
-            Effect::Malformed => self.tell("print", 0xFFFD),
-            Effect::Execute => self.tell("execute", byte as u32),
-            Effect::Put => self.tell("put", byte as u32),
+            Effect::Print => self.log.tell("print", byte as u32),
+            Effect::Malformed => self.log.tell("print", 0xFFFD),
+            Effect::Execute => self.log.tell("execute", byte as u32),
+            Effect::Put => self.log.tell("put", byte as u32),
             Effect::Collect => self.content.number(byte as u32),
             Effect::Data => self.separate(byte),
             Effect::Number => self.number(byte),
@@ -214,7 +209,7 @@ impl Reading {
             Effect::EscDispatch => {
                 self.log.word("esc");
                 self.data();
-                self.tell("kept", byte as u32);
+                self.log.tell("kept", byte as u32);
             }
             Effect::OscBell => {
                 self.log.word("osc bell");
@@ -238,7 +233,7 @@ impl Reading {
             0x18 | 0x1A => {
                 self.cut();
                 self.begin(Place::Ground);
-                self.tell("execute", byte as u32);
+                self.log.tell("execute", byte as u32);
             }
             _ => {
                 let (effect, next) = entry(self.place, byte);
@@ -255,20 +250,35 @@ impl Reading {
     }
 }
 
-/// The parser and the table give the same events.
-fn reads_alike(rt: &(impl Abort + AllocGlobal), front: &[u8], byte: u8, end: &[u8]) {
+/// The events that the parser gives.
+fn parsed(rt: &impl AllocGlobal, front: &[u8], byte: u8, end: &[u8]) -> Log {
     let mut log = Log::new(rt, Until::Never);
     let mut parser = Parser::new();
     parser.advance(&mut log, front);
     parser.advance(&mut log, &[byte]);
     parser.advance(&mut log, end);
+    log
+}
+
+/// The events that the table gives.
+fn read(rt: &impl AllocGlobal, front: &[u8], byte: u8, end: &[u8]) -> Log {
     let mut reading = Reading::new(rt);
     reading.bytes(front);
     reading.byte(byte);
     reading.bytes(end);
-    let failed = log.failed || reading.log.failed || reading.content.failed;
-    let wanted = reading.log.text.as_str();
-    assert_eq!(rt; (failed, log.text.as_str()), (false, wanted), "byte {byte}");
+    reading.log.failed |= reading.content.failed;
+    reading.log
+}
+
+/// The parser and the table give the same events.
+fn reads_alike(rt: &(impl Abort + AllocGlobal), front: &[u8], byte: u8, end: &[u8]) {
+    let log = parsed(rt, front, byte, end);
+    let wanted = read(rt, front, byte, end);
+    same(
+        rt,
+        &(byte, log.failed || wanted.failed, log.text.as_str()),
+        &(byte, false, wanted.text.as_str()),
+    );
 }
 
 #[test]

@@ -1,24 +1,24 @@
 //! Malformed text, cut everywhere, against what `str::from_utf8` says of the whole.
 
 use super::log::{Log, Until};
+use crate::same::same;
 use std::process::Abort;
 use std::str;
 use vte_core::Parser;
 
 /// A character, or a control that is executed.
 fn character(log: &mut Log, c: char) {
-    if c < ' ' || ('\u{80}'..='\u{9F}').contains(&c) {
-        log.word("execute");
-    } else {
-        log.word("print");
-    }
-    log.number(c as u32);
+    let word = match c {
+        '\0'..='\u{1F}' | '\u{80}'..='\u{9F}' => "execute",
+        _ => "print",
+    };
+    log.tell(word, c as u32);
 }
 
 /// A malformed sequence.
 fn malformed(log: &mut Log, bytes: &[u8]) {
     match bytes {
-        [byte] if (0x80..=0x9F).contains(byte) => character(log, *byte as char),
+        [byte @ 0x80..=0x9F] => character(log, *byte as char),
         _ => character(log, '\u{FFFD}'),
     }
 }
@@ -46,20 +46,26 @@ fn events(log: &mut Log, bytes: &[u8]) {
     }
 }
 
+/// The events of bytes in two pieces.
+fn parsed(rt: &impl AllocGlobal, front: &[u8], back: &[u8]) -> Log {
+    let mut log = Log::new(rt, Until::Never);
+    let mut parser = Parser::new();
+    parser.advance(&mut log, front);
+    parser.advance(&mut log, back);
+    log
+}
+
 /// The bytes, cut once at each place.
 fn agrees(rt: &(impl Abort + AllocGlobal), bytes: &[u8]) {
     let mut wanted = Log::new(rt, Until::Never);
     events(&mut wanted, bytes);
     for cut in 0..=bytes.len() {
-        let mut log = Log::new(rt, Until::Never);
-        let mut parser = Parser::new();
-        parser.advance(&mut log, &bytes[..cut]);
-        parser.advance(&mut log, &bytes[cut..]);
+        let log = parsed(rt, &bytes[..cut], &bytes[cut..]);
         let failed = log.failed || wanted.failed;
-        assert_eq!(rt;
-            (failed, log.text.as_str()),
-            (false, wanted.text.as_str()),
-            "cut at {cut}"
+        same(
+            rt,
+            &(cut, failed, log.text.as_str()),
+            &(cut, false, wanted.text.as_str()),
         );
     }
 }
