@@ -32,14 +32,14 @@ The recording is an asciicast v2, or the raw bytes of a program's output. ROWS a
 COLS are the size of the screen at first, in place of that in the recording's\n\
 header; a raw stream with none is shown on 24 rows and 80 columns.\n\
 \n\
-  --at SECONDS    the screen at this time of the recording, and not at its end\n\
-  --diff SECONDS  the rows that changed from this time on, before and after\n\
-  --history N     the newest N rows that left at the top, before those of the screen\n\
-  --joined        a row that goes on in the next is one line with it\n\
-  --colours       colours and other attributes, as escape sequences (SGR)\n\
-  --html, --svg   a picture of the screen\n\
-  --help          this text\n\
-  --version       the version\n\
+\x20 --at SECONDS    the screen at this time of the recording, and not at its end\n\
+\x20 --diff SECONDS  the rows that changed from this time on, before and after\n\
+\x20 --history N     the newest N rows that left at the top, before those of the screen\n\
+\x20 --joined        a row that goes on in the next is one line with it\n\
+\x20 --colours       colours and other attributes, as escape sequences (SGR)\n\
+\x20 --html, --svg   a picture of the screen\n\
+\x20 --help          this text\n\
+\x20 --version       the version\n\
 \n\
 The status is 0 at success, 1 at a fault, 2 for words that aren't understood.\n";
 
