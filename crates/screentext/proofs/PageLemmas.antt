@@ -1,7 +1,7 @@
 -- A picture to which a part is added.
-use Rattle.std.proofs.Common.{◌≡◌, ℕ, List, [], ◌∷◌, ◌++◌, Option, Some, None, refl, sym, ap, ◌∙◌, append_assoc}
+use Rattle.std.proofs.Common.{◌≡◌, ℕ, List, [], ◌∷◌, ◌++◌, Some, None, sym, ap, ◌∙◌, append_assoc}
 use Rattle.std.proofs.Common.{append-nil, unwrap_or}
-use Rattle.screentext.specs.Page.{Part, Text, part_bytes, parts_bytes, IsPage, reference, escaped}
+use Rattle.screentext.specs.Page.{Part, Text, part_bytes, parts_bytes, IsPage, reference}
 
 pub parts_bytes-append : (ps : List Part) (p : Part) → parts_bytes (ps ++ p ∷ []) ≡ parts_bytes ps ++ part_bytes p
 parts_bytes-append [] p = append-nil (part_bytes p)

@@ -1,6 +1,6 @@
 //! The screen at a moment of a recording.
 
-ghost use Rattle.std.specs.Prelude.{◌≡◌, ◌++◌, ◌∷◌, [], ℕ, List, IfOk, OnOk, unwrap_or};
+ghost use Rattle.std.specs.Prelude.{◌++◌, ◌∷◌, [], ℕ, List, IfOk, OnOk};
 ghost use Rattle.vt100.specs.Parsing.{StandsAt};
 ghost use Rattle.vt100_state.specs.Made.{Act};
 ghost use Rattle.screentext.specs.Moment.{act_of, acts_until};
