@@ -1,7 +1,6 @@
 //! Cells of a row that are drawn alike.
 
 use crate::style::Style;
-use crate::text::push_cell;
 use std::alloc::{AllocError, Global};
 use vt100::{Cell, Screen};
 
@@ -70,11 +69,11 @@ fn add_cell(
     if let Some(run) = runs.last_mut() {
         if !wide && !run.wide && run.style == style {
             run.cols = run.cols.saturating_add(1);
-            return push_cell(&mut run.text, cell);
+            return push_drawn(&mut run.text, cell);
         }
     }
     let mut text = String::new(alloc);
-    push_cell(&mut text, cell)?;
+    push_drawn(&mut text, cell)?;
     let cols = if wide { 2 } else { 1 };
     let run = Run {
         col,
@@ -84,5 +83,20 @@ fn add_cell(
         style,
     };
     runs.push(run)?;
+    Ok(())
+}
+
+// Appends the text of a cell as a picture has it: a space where it is empty, and U+FFFD for the characters U+FFFE and
+// U+FFFF, which no XML may have.
+fn push_drawn(out: &mut String, cell: &Cell) -> Result<(), AllocError> {
+    if !cell.has_contents() {
+        return out.push(' ');
+    }
+    for c in cell.contents().chars() {
+        out.push(match c {
+            '\u{fffe}' | '\u{ffff}' => '\u{fffd}',
+            c => c,
+        })?;
+    }
     Ok(())
 }

@@ -98,8 +98,8 @@ fn is_shown(cell: &Cell, look: Look) -> bool {
         || (look.colours && Style::of(cell).shows_on_blanks())
 }
 
-/// Appends the text of a cell: a space where it is empty, and nothing for the second column of a wide one.
-pub(crate) fn push_cell(out: &mut String, cell: &Cell) -> Result<(), AllocError> {
+// Appends the text of a cell: a space where it is empty, and nothing for the second column of a wide one.
+fn push_cell(out: &mut String, cell: &Cell) -> Result<(), AllocError> {
     if cell.is_wide_continuation() {
         return Ok(());
     }
