@@ -1,0 +1,2 @@
+mod MomentLemmas
+mod PageLemmas
