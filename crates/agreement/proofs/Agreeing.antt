@@ -5,18 +5,18 @@ use Rattle.std.specs.List.{AllByRecursion}
 use Rattle.std.proofs.lemmas.List.{append-nil}
 use Rattle.vte_core.specs.Ground.{AtGround}
 use Rattle.vt100_forms.specs.Form.{Form, spell}
-use Rattle.vt100_picture.specs.Term.{Size, Term}
-use Rattle.vt100_picture.specs.Apply.{run}
-use Rattle.vt100_picture.specs.FormText.{IsSentForm}
-use Rattle.vt100_state.specs.State.{State, fresh_state}
-use Rattle.vt100_state.specs.Step.{resized_to}
-use Rattle.vt100_state.specs.Made.{Act, Fed, Resized, played, events_added, bytes_fed, made_on, made}
-use Rattle.vte_read.specs.Terminals.{IsSmall}
-use Rattle.vt100_agree.specs.Plain.{terminal_of, screen_of, IsPlainState}
-use Rattle.vt100_agree.proofs.FreshStates.{fresh-blank}
-use Rattle.vt100_picture.proofs.FormTexts.{forms-sent}
-use Rattle.vt100_agree.proofs.Playing.{spelling-made}
-use Rattle.vt100_agree.proofs.SentPlaying.{sent-spelling-made, run-alike}
+use Rattle.terminal_model.specs.Term.{Size, Term}
+use Rattle.terminal_model.specs.Apply.{run}
+use Rattle.terminal_model.specs.FormText.{IsSentForm}
+use Rattle.screen_model.specs.State.{State, fresh_state}
+use Rattle.screen_model.specs.Step.{resized_to}
+use Rattle.screen_model.specs.Made.{Act, Fed, Resized, played, events_added, bytes_fed, made_on, made}
+use Rattle.forms_read.specs.Terminals.{IsSmall}
+use Rattle.agreement.specs.Plain.{terminal_of, screen_of, IsPlainState}
+use Rattle.agreement.proofs.FreshStates.{fresh-blank}
+use Rattle.terminal_model.proofs.FormTexts.{forms-sent}
+use Rattle.agreement.proofs.Playing.{spelling-made}
+use Rattle.agreement.proofs.SentPlaying.{sent-spelling-made, run-alike}
 use Rattle.termview.specs.Seen.{seen}
 use Rattle.termview.proofs.Spellings.{spelling-shown}
 use Rattle.agreement.specs.Laws.{Agrees, NewOnesAgree, EachSpellingIsAgreedOn, AgreeingModes}

@@ -1,1 +1,12 @@
 pub mod Agreeing
+pub mod PlainStates
+pub mod Cursors
+pub mod Modes
+pub mod Attributes
+pub mod Erasures
+pub mod Feeds
+pub mod Texts
+pub mod Playing
+pub mod SentTexts
+pub mod SentPlaying
+pub mod FreshStates

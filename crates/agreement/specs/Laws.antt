@@ -3,11 +3,11 @@ use Rattle.std.specs.Prelude.{ℕ, ◌≡◌, ◌<◌, ◌^◌, List, [], ◌∷
 use Rattle.std.specs.List.{AllByRecursion}
 use Rattle.vte_core.specs.Ground.{AtGround}
 use Rattle.vt100_forms.specs.Form.{Form, spell}
-use Rattle.vt100_picture.specs.Term.{Size}
-use Rattle.vt100_picture.specs.FormText.{IsForm, IsSentForm}
-use Rattle.vt100_state.specs.State.{State, fresh_state}
-use Rattle.vt100_state.specs.Made.{Act, Fed, bytes_fed, made_on, made}
-use Rattle.vt100_agree.specs.Plain.{terminal_of, screen_of, IsPlainState}
+use Rattle.terminal_model.specs.Term.{Size}
+use Rattle.terminal_model.specs.FormText.{IsForm, IsSentForm}
+use Rattle.screen_model.specs.State.{State, fresh_state}
+use Rattle.screen_model.specs.Made.{Act, Fed, bytes_fed, made_on, made}
+use Rattle.agreement.specs.Plain.{terminal_of, screen_of, IsPlainState}
 use Rattle.termview.specs.Seen.{seen}
 
 -- the state is plain, and it shows and has saved what a view of this size shows and has saved after these bytes

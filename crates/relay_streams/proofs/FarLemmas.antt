@@ -6,7 +6,7 @@ use Rattle.std.specs.Prelude.{slice_index_or}
 use Rattle.std.specs.List.{list_any, slice_get, concat}
 use Rattle.vte.specs.Moves.{Gives}
 use Rattle.vte.specs.Frames.{Leads}
-use Rattle.vt100_picture.specs.Term.{Size, Term, shown_of}
+use Rattle.terminal_model.specs.Term.{Size, Term, shown_of}
 use Rattle.termrelay.specs.Hub.{HubState, as_kept, IsNewHub}
 use Rattle.termrelay.specs.Calls.{Call}
 use Rattle.termrelay.specs.declared.call.Reply.{Reply}
@@ -15,15 +15,15 @@ use Rattle.termview.specs.Seen.{seen}
 use Rattle.termview.specs.Standing.{HoldsAt, size_of, shown_by}
 use Rattle.termview.specs.declared.view.View.{View}
 use Rattle.termview.specs.declared.until_cleared.UntilCleared.{UntilCleared}
-use Rattle.vt100_state.specs.Holds.{IsSide}
-use Rattle.faithful.specs.History.{Entry, Story}
-use Rattle.faithful.specs.Judge.{texts, last_frame, last_whole, judged, IsSure}
-use Rattle.faithful.specs.Laws.{IsSession}
-use Rattle.faithful.specs.Headline.{last_read}
-use Rattle.faithful.specs.Isolation.{is_starved}
-use Rattle.faithful.proofs.HeadlineLemmas.{last-shown, wholes-shown}
-use Rattle.faithful.proofs.ServesLemmas.{logs-follow}
-use Rattle.faithful.proofs.LoggedLemmas.{story-at}
+use Rattle.screen_model.specs.Holds.{IsSide}
+use Rattle.relay_theorem.specs.History.{Entry, Story}
+use Rattle.relay_theorem.specs.Judge.{texts, last_frame, last_whole, judged, IsSure}
+use Rattle.relay_theorem.specs.Laws.{IsSession}
+use Rattle.relay_theorem.specs.Headline.{last_read}
+use Rattle.relay_theorem.specs.Isolation.{is_starved}
+use Rattle.relay_theorem.proofs.HeadlineLemmas.{last-shown, wholes-shown}
+use Rattle.relay_theorem.proofs.ServesLemmas.{logs-follow}
+use Rattle.relay_theorem.proofs.LoggedLemmas.{story-at}
 use Rattle.relay_streams.specs.Led.{answers}
 use Rattle.relay_streams.specs.Pieces.{cut_by}
 use Rattle.relay_streams.specs.Far.{IsFarView, ReadsStory, ShowsJudged, FarViewsShow, last_given}

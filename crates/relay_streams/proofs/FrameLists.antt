@@ -2,9 +2,9 @@
 use Rattle.std.proofs.Common.{◌≡◌, ◌∙◌, ℕ, Bool, true, false, ◌||◌, List, [], ◌∷◌, ◌++◌, map, Option, None, refl, sym, ap}
 use Rattle.std.proofs.Common.{append_assoc, append-nil}
 use Rattle.std.specs.List.{concat, list_any}
-use Rattle.vt100_picture.specs.Term.{Shown}
-use Rattle.vt100_state.specs.State.{State, fresh_state}
-use Rattle.vt100_state.specs.Made.{Fed, made, made_on, events_added, played}
+use Rattle.terminal_model.specs.Term.{Shown}
+use Rattle.screen_model.specs.State.{State, fresh_state}
+use Rattle.screen_model.specs.Made.{Fed, made, made_on, events_added, played}
 use Rattle.vt100.proofs.PlayLemmas.{feeds_join, feeds_nothing}
 use Rattle.termrelay.specs.declared.answer.Answer.{Answer}
 use Rattle.termrelay.specs.declared.answer.Answer.TheVariants.{Full, Difference, Unsure, Unchanged, Behind, Held, TooLong}

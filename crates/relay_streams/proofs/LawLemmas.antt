@@ -3,7 +3,7 @@ use Rattle.std.proofs.Common.{◌≡◌, ℕ, ◌/◌, List, [], ◌∷◌, ◌+
 use Rattle.std.specs.List.{concat}
 use Rattle.vte_core.proofs.GroundLemmas.{ground-nothing}
 use Rattle.vte.specs.Moves.{Gives, given}
-use Rattle.vt100_picture.specs.Term.{Term}
+use Rattle.terminal_model.specs.Term.{Term}
 use Rattle.termview.specs.Seen.{seen}
 use Rattle.termview.proofs.LawLemmas.{whole_shown}
 use Rattle.relay_streams.specs.Pieces.{pieces_of, piece_len}

@@ -5,14 +5,14 @@ use Rattle.std.proofs.Common.{ap, ◌∙◌, subst}
 use Rattle.std.specs.List.{concat, list_any}
 use Rattle.std.specs.Io.KnownBytes.{Appends, Keeps}
 use Rattle.std.specs.declared.io.Error.{Error}
-use Rattle.vt100_picture.specs.Term.{Size}
+use Rattle.terminal_model.specs.Term.{Size}
 use Rattle.relay_streams.specs.declared.error.RelayError.{RelayError}
 use Rattle.relay_streams.specs.declared.error.RelayError.TheVariants.{Read, TooManyReads, FrameTooLong}
 use Rattle.relay_streams.specs.Fill.{Reads, FillEnd, Full, Ended, Failed, TooMany}
 use Rattle.relay_streams.specs.Frames.{is_overlong}
 use Rattle.termrelay.specs.declared.answer.Answer.{Answer}
 use Rattle.termrelay.specs.declared.answer.Answer.TheVariants.{TooLong}
-use Rattle.faithful.specs.History.{Story}
+use Rattle.relay_theorem.specs.History.{Story}
 use Rattle.takers.specs.Output.{TakesFront}
 use Rattle.relay_streams.specs.Pieces.{pieces_of, piece_len, outcome_of, Drained}
 use Rattle.relay_streams.specs.Relayed as relayed

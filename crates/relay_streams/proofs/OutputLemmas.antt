@@ -5,7 +5,7 @@ use Rattle.takers.specs.Pump.{Pumps}
 use Rattle.takers.specs.Sent.{SendsText}
 use Rattle.takers.proofs.SendLemmas.{text-pumped, text-failed}
 use Rattle.vt100_cells.specs.Cell.{CellView}
-use Rattle.vt100_picture.specs.Term.{Size}
+use Rattle.terminal_model.specs.Term.{Size}
 use Rattle.relay_streams.specs.Shown.{row_line, rows_text, screen_text}
 
 -- rows after one another

@@ -7,13 +7,13 @@ use Rattle.vte_core.specs.Ground.{AtGround}
 use Rattle.vte_core.proofs.GroundLemmas.{ground-nothing}
 use Rattle.vte.specs.Moves.{Gives}
 use Rattle.vte.specs.Frames.{IsFrame}
-use Rattle.vt100_picture.specs.Term.{Size, Shown, Term, shown_of}
+use Rattle.terminal_model.specs.Term.{Size, Shown, Term, shown_of}
 use Rattle.vt100_core.specs.Picture.{size_of}
-use Rattle.vt100_state.specs.Shown.{shown_state}
-use Rattle.vt100_state.specs.Made.{Fed}
-use Rattle.vt100_state.specs.Holds.{IsSide, IsAct, AreActs}
-use Rattle.vt100_state.proofs.MadeLemmas.{makes-last_size}
-use Rattle.vte_read.specs.Terminals.{IsSmall}
+use Rattle.screen_model.specs.Shown.{shown_state}
+use Rattle.screen_model.specs.Made.{Fed}
+use Rattle.screen_model.specs.Holds.{IsSide, IsAct, AreActs}
+use Rattle.screen_model.proofs.MadeLemmas.{makes-last_size}
+use Rattle.forms_read.specs.Terminals.{IsSmall}
 use Rattle.termrelay.specs.Frame.{is_unsure, frame_text, ShowsUnless, Agrees}
 use Rattle.termrelay.specs.Answers.{ClientState, is_frame, same_shown, due_from, due, is_too_long}
 use Rattle.termrelay.specs.declared.answer.Answer.{Answer}
@@ -21,8 +21,8 @@ use Rattle.termrelay.specs.declared.answer.Answer.TheVariants.{Full, Difference,
 use Rattle.termrelay.proofs.SameLemmas.{same-one}
 use Rattle.termview.specs.Seen.{seen}
 use Rattle.termview.proofs.LawLemmas.{whole_shown}
-use Rattle.faithful.proofs.ScreenLemmas.{IsShot, shot-made, IsShotBase}
-use Rattle.faithful.proofs.FrameSteps.{text-frame, frame-read, frame-ends}
+use Rattle.relay_theorem.proofs.ScreenLemmas.{IsShot, shot-made, IsShotBase}
+use Rattle.relay_theorem.proofs.FrameSteps.{text-frame, frame-read, frame-ends}
 use Rattle.relay_streams.specs.Frames.{state_after, idle, answered, asked, is_overlong}
 use Rattle.relay_streams.specs.Pieces.{cut_by, piece_len, pieces_of}
 use Rattle.relay_streams.specs.Shown.{IsShown, screen_text, sized}

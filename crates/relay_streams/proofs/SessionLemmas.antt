@@ -8,11 +8,11 @@ use Rattle.std.proofs.lemmas.List.Elements.{All-nil}
 use Rattle.std.specs.List.{concat, list_any}
 use Rattle.std.specs.Option.{option_map}
 use Rattle.std.specs.Prelude.{slice_get}
-use Rattle.vt100_picture.specs.Term.{Size, Shown, shown_of}
-use Rattle.vt100_state.specs.State.{State}
-use Rattle.vt100_state.specs.Made.{Act, Fed, made}
-use Rattle.vt100_state.specs.Holds.{IsSide, IsAct}
-use Rattle.vt100_state.proofs.MadeLemmas.{makes-last_size}
+use Rattle.terminal_model.specs.Term.{Size, Shown, shown_of}
+use Rattle.screen_model.specs.State.{State}
+use Rattle.screen_model.specs.Made.{Act, Fed, made}
+use Rattle.screen_model.specs.Holds.{IsSide, IsAct}
+use Rattle.screen_model.proofs.MadeLemmas.{makes-last_size}
 use Rattle.takers.specs.Pump.{Pumps, all, some}
 use Rattle.takers.proofs.PumpLaws.{takes-all}
 use Rattle.termrelay.specs.Frame.{frame_text}
@@ -27,10 +27,10 @@ use Rattle.termrelay.specs.declared.error.HubError.{HubError}
 use Rattle.termrelay.specs.Calls.{Feed, Attach, Frame, Pump, WritesAsTold, taken_by, done, replied, Serves}
 use Rattle.termrelay.specs.Log.{change_last, begun, grown, bytes_taken}
 use Rattle.termrelay.proofs.ScriptLemmas.{pumped-left}
-use Rattle.faithful.specs.History.{Past, as_told, fresh, Entry, Story, size_of_story, is_on, with_session, with_entries}
-use Rattle.faithful.specs.History.{entries_of, stories_after, RunsTold}
-use Rattle.faithful.specs.Judge.{texts}
-use Rattle.faithful.proofs.HeadlineLemmas.{last-shown}
+use Rattle.relay_theorem.specs.History.{Past, as_told, fresh, Entry, Story, size_of_story, is_on, with_session, with_entries}
+use Rattle.relay_theorem.specs.History.{entries_of, stories_after, RunsTold}
+use Rattle.relay_theorem.specs.Judge.{texts}
+use Rattle.relay_theorem.proofs.HeadlineLemmas.{last-shown}
 use Rattle.termview.specs.Seen.{seen}
 use Rattle.relay_streams.specs.Laws.{RelayedFrontsAreShown}
 use Rattle.relay_streams.specs.Frames.{state_after, idle, answered, answer_on, asked, asked_on, is_overlong}

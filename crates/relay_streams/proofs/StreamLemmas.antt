@@ -2,13 +2,13 @@
 use Rattle.std.proofs.Common.{◌≡◌, ℕ, false, List, [], ◌∷◌, ◌++◌, Option, Ok, Err, Result, refl, sym, subst}
 use Rattle.std.specs.List.{concat, list_any}
 use Rattle.std.specs.declared.io.Error.{Error}
-use Rattle.vt100_picture.specs.Term.{Shown}
+use Rattle.terminal_model.specs.Term.{Shown}
 use Rattle.termrelay.specs.Hub.{HubState, as_kept, Attaches}
 use Rattle.termrelay.specs.declared.error.HubError.{HubError}
 use Rattle.termrelay.specs.declared.error.HubError.TheVariants as hub
 use Rattle.relay_streams.specs.declared.error.RelayError.{RelayError}
 use Rattle.relay_streams.specs.declared.error.RelayError.TheVariants.{Read, Write, Memory, TooManyReads, FrameTooLong}
-use Rattle.vt100_state.specs.Holds.{IsSide}
+use Rattle.screen_model.specs.Holds.{IsSide}
 use Rattle.relay_streams.specs.Frames.{asked, answered, is_overlong}
 use Rattle.relay_streams.specs.Pieces.{piece_len, Begun}
 use Rattle.relay_streams.specs.Relayed.{Streams, unmade, overlong, stopped}

@@ -6,11 +6,11 @@ use Rattle.std.specs.List.{concat}
 use Rattle.std.proofs.lemmas.Bool.{eq-eqb}
 use Rattle.std.proofs.lemmas.List.{map-append}
 use Rattle.std.specs.declared.io.Error.{Error}
-use Rattle.vt100_picture.specs.Term.{Shown}
-use Rattle.vt100_state.specs.State.{State}
-use Rattle.vt100_state.specs.Call.{ScreenView}
-use Rattle.vt100_state.specs.Made.{Act, Fed}
-use Rattle.vt100_state.specs.Holds.{IsSide}
+use Rattle.terminal_model.specs.Term.{Shown}
+use Rattle.screen_model.specs.State.{State}
+use Rattle.screen_model.specs.Call.{ScreenView}
+use Rattle.screen_model.specs.Made.{Act, Fed}
+use Rattle.screen_model.specs.Holds.{IsSide}
 use Rattle.vt100.specs.Parsing.{StandsAt}
 use Rattle.termrelay.specs.Answers.{ClientState, after_answer}
 use Rattle.takers.specs.Pump.{Pumps}

@@ -6,7 +6,7 @@ use Rattle.vte.specs.Frames.{Leads, ends, gives}
 use Rattle.vte.proofs.FrameMoves.{moves_follow}
 use Rattle.termview.specs.declared.view.View.{View}
 use Rattle.termview.specs.declared.until_cleared.UntilCleared.{UntilCleared}
-use Rattle.vt100_picture.specs.Term.{Size, Term}
+use Rattle.terminal_model.specs.Term.{Size, Term}
 use Rattle.termview.specs.Seen.{seen}
 use Rattle.termview.specs.Standing.{HoldsAt, Taken, size_of, shown_by}
 use Rattle.relay_streams.specs.Shown.{IsShown, screen_text, sized}

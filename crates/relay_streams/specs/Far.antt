@@ -3,17 +3,17 @@ use Rattle.std.specs.Prelude.{◌≡◌, ℕ, ◌≤◌, false, List, [], ◌++�
 use Rattle.std.specs.List.{list_any, slice_get}
 use Rattle.vte.specs.Moves.{Gives}
 use Rattle.vte.specs.Frames.{Leads}
-use Rattle.vt100_picture.specs.Term.{shown_of}
+use Rattle.terminal_model.specs.Term.{shown_of}
 use Rattle.termrelay.specs.Calls.{Call}
 use Rattle.termview.specs.Standing.{HoldsAt, size_of, shown_by}
 use Rattle.termview.specs.declared.view.View.{View}
 use Rattle.termview.specs.declared.until_cleared.UntilCleared.{UntilCleared}
 use Rattle.termrelay.specs.Hub.{HubState}
 use Rattle.termrelay.specs.declared.call.Reply.{Reply}
-use Rattle.faithful.specs.History.{as_told, Entry, Story, size_of_story, fresh, RunsTold}
-use Rattle.faithful.specs.Judge.{texts, last_frame, last_whole, judged, IsSure}
-use Rattle.faithful.specs.Laws.{IsSession}
-use Rattle.faithful.specs.Isolation.{is_starved}
+use Rattle.relay_theorem.specs.History.{as_told, Entry, Story, size_of_story, fresh, RunsTold}
+use Rattle.relay_theorem.specs.Judge.{texts, last_frame, last_whole, judged, IsSure}
+use Rattle.relay_theorem.specs.Laws.{IsSession}
+use Rattle.relay_theorem.specs.Isolation.{is_starved}
 use Rattle.relay_streams.specs.Led.{answers}
 use Rattle.relay_streams.specs.Pieces.{cut_by}
 

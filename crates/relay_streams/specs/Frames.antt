@@ -1,10 +1,10 @@
 -- The frame of a client that gets each as soon as it is made.
 use Rattle.std.specs.Prelude.{ℕ, Bool, true, false, List, [], ◌∷◌, Option}
-use Rattle.vt100_picture.specs.Term.{Shown}
+use Rattle.terminal_model.specs.Term.{Shown}
 use Rattle.vt100_core.specs.Picture.{size_of}
-use Rattle.vt100_state.specs.State.{State}
-use Rattle.vt100_state.specs.Shown.{shown_state}
-use Rattle.vt100_state.specs.Made.{Fed, made}
+use Rattle.screen_model.specs.State.{State}
+use Rattle.screen_model.specs.Shown.{shown_state}
+use Rattle.screen_model.specs.Made.{Fed, made}
 use Rattle.termrelay.specs.Answers.{ClientState, answer_of, after_answer}
 use Rattle.termrelay.specs.declared.answer.Answer.{Answer}
 use Rattle.termrelay.specs.declared.answer.Answer.TheVariants.{TooLong}

@@ -3,13 +3,13 @@ use Rattle.std.specs.Prelude.{◌≡◌, ℕ, false, List, [], ◌++◌, map, Op
 use Rattle.std.specs.List.{All, concat}
 use Rattle.vte.specs.Moves.{Gives}
 use Rattle.vte.specs.Frames.{IsFrame, Leads}
-use Rattle.vt100_picture.specs.Term.{Size, shown_of}
-use Rattle.vt100_state.specs.Shown.{shown_state}
+use Rattle.terminal_model.specs.Term.{Size, shown_of}
+use Rattle.screen_model.specs.Shown.{shown_state}
 use Rattle.termrelay.specs.Frame.{is_unsure}
 use Rattle.termview.specs.Seen.{seen}
-use Rattle.faithful.specs.History.{Story}
-use Rattle.faithful.specs.Judge.{judged, IsSure}
-use Rattle.faithful.specs.Headline.{last_read}
+use Rattle.relay_theorem.specs.History.{Story}
+use Rattle.relay_theorem.specs.Judge.{judged, IsSure}
+use Rattle.relay_theorem.specs.Headline.{last_read}
 use Rattle.relay_streams.specs.Frames.{state_after}
 use Rattle.relay_streams.specs.Pieces.{pieces_of}
 use Rattle.relay_streams.specs.Sessions.{IsRelayed, IsRelayText}

@@ -1,16 +1,16 @@
 -- What is relayed is a session of a history.
 use Rattle.std.specs.Prelude.{◌≡◌, ℕ, suc, Bool, true, false, List, [], ◌∷◌, ◌++◌, map, length, take, Some, slice_get}
 use Rattle.std.specs.List.{list_any}
-use Rattle.vt100_state.specs.Made.{Fed}
-use Rattle.vt100_state.specs.Holds.{IsSide}
+use Rattle.screen_model.specs.Made.{Fed}
+use Rattle.screen_model.specs.Holds.{IsSide}
 use Rattle.termrelay.specs.Calls.{Call, Feed, Attach, Frame, Pump}
 use Rattle.termrelay.specs.declared.answer.Answer.{Answer}
 use Rattle.termrelay.specs.declared.answer.Answer.TheVariants.{TooLong}
 use Rattle.termrelay.specs.declared.call.Reply.{Reply}
 use Rattle.termrelay.specs.declared.call.Reply.TheVariants.{Attached, Refused}
-use Rattle.faithful.specs.History.{Entry, Story, size_of_story}
-use Rattle.faithful.specs.Judge.{texts}
-use Rattle.faithful.specs.Laws.{IsSession}
+use Rattle.relay_theorem.specs.History.{Entry, Story, size_of_story}
+use Rattle.relay_theorem.specs.Judge.{texts}
+use Rattle.relay_theorem.specs.Laws.{IsSession}
 use Rattle.relay_streams.specs.Frames.{is_overlong}
 use Rattle.relay_streams.specs.Pieces.{pieces_of}
 use Rattle.relay_streams.specs.Shown.{sized}

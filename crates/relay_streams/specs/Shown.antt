@@ -6,7 +6,7 @@ use Rattle.vte.specs.Moves.{Gives}
 use Rattle.vte.specs.Frames.{Leads}
 use Rattle.vt100_cells.specs.Cell.{CellView}
 use Rattle.vt100_rows.specs.Text.{line_text}
-use Rattle.vt100_picture.specs.Term.{Size}
+use Rattle.terminal_model.specs.Term.{Size}
 use Rattle.termview.specs.Seen.{seen}
 use Rattle.relay_streams.specs.declared.error.RelayError.{RelayError}
 use Rattle.relay_streams.specs.declared.error.RelayError.TheVariants.{Write, Memory}

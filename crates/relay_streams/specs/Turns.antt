@@ -2,9 +2,9 @@
 use Rattle.std.specs.Prelude.{◌≡◌, ℕ, true, false, List, map, Option, Some, Ok, Err, Result}
 use Rattle.std.specs.List.{concat}
 use Rattle.std.specs.declared.io.Error.{Error}
-use Rattle.vt100_state.specs.Made.{Fed}
-use Rattle.vt100_state.specs.Holds.{IsSide}
-use Rattle.vt100_picture.specs.Term.{Shown}
+use Rattle.screen_model.specs.Made.{Fed}
+use Rattle.screen_model.specs.Holds.{IsSide}
+use Rattle.terminal_model.specs.Term.{Shown}
 use Rattle.vt100.specs.Parsing.{StandsAt}
 use Rattle.termrelay.specs.Hub.{HubState, as_kept, clients_in}
 use Rattle.takers.specs.Pump.{Pumps}

@@ -6,7 +6,7 @@ ghost use Rattle.vte.specs.Moves.{Gives};
 ghost use Rattle.vte.specs.Frames.{Leads};
 ghost use Rattle.termrelay.specs.Calls.{call_of};
 ghost use Rattle.termview.specs.Standing.{HoldsAt, size_of};
-ghost use Rattle.faithful.specs.Isolation.{is_starved as starved};
+ghost use Rattle.relay_theorem.specs.Isolation.{is_starved as starved};
 ghost use Rattle.relay_streams.specs.Far.{IsFarView, ShowsJudged};
 ghost use Rattle.relay_streams.specs.Led.{Led, answers};
 ghost use Rattle.relay_streams.specs.Pieces.{cut_by};

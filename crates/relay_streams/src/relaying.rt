@@ -2,9 +2,9 @@
 
 ghost use Rattle.std.specs.Prelude.{◌≡◌, ℕ, ◌++◌, ◌∷◌, [], List, true, Err, None, OnOk, Option, IfSome};
 ghost use Rattle.std.specs.Io.KnownBytes.{Appends};
-ghost use Rattle.vt100_picture.specs.Term.{Shown};
+ghost use Rattle.terminal_model.specs.Term.{Shown};
 ghost use Rattle.takers.specs.Output.{TakesFront};
-ghost use Rattle.faithful.specs.History.{Story};
+ghost use Rattle.relay_theorem.specs.History.{Story};
 ghost use Rattle.relay_streams.specs.Frames.{is_overlong as overlong};
 ghost use Rattle.relay_streams.specs.Pieces.{pieces_of};
 ghost use Rattle.relay_streams.specs.Relayed.{Relays, Streams};

@@ -8,7 +8,7 @@ use Rattle.std.specs.Io.KnownBytes.{Appends}
 use Rattle.vte.specs.Moves.{Move, Gives}
 use Rattle.vte.specs.Frames.{Leads}
 use Rattle.vte.proofs.FrameMoves.{moves_follow}
-use Rattle.vt100_picture.specs.Term.{Shown}
+use Rattle.terminal_model.specs.Term.{Shown}
 use Rattle.termview.specs.declared.view.View.{View}
 use Rattle.termview.specs.declared.until_cleared.UntilCleared.{UntilCleared}
 use Rattle.termrelay.specs.Hub.{HubState, as_kept}

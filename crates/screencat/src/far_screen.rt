@@ -3,7 +3,7 @@
 ghost use Rattle.std.specs.Prelude.{◌≡◌, ℕ, ◌++◌, ◌∷◌, [], List, false, Option, None, OnOk, IfSome};
 ghost use Rattle.std.specs.List.{concat};
 ghost use Rattle.std.specs.Io.KnownBytes.{Appends};
-ghost use Rattle.vt100_picture.specs.Term.{Shown};
+ghost use Rattle.terminal_model.specs.Term.{Shown};
 ghost use Rattle.relay_streams.specs.Frames.{answered, asked, is_overlong as overlong};
 ghost use Rattle.relay_streams.specs.Pieces.{Drained, piece_len};
 ghost use Rattle.relay_streams.specs.Sessions.{AreRelayed};

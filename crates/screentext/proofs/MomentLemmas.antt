@@ -1,7 +1,7 @@
 -- What the events up to a moment do, event by event.
 use Rattle.std.proofs.Common.{◌≡◌, ℕ, Bool, List, [], ◌∷◌, ◌++◌, true, false, refl, ap, nat_le}
 use Rattle.std.specs.Prelude.{if◌then◌else◌}
-use Rattle.vt100_state.specs.Made.{Act}
+use Rattle.screen_model.specs.Made.{Act}
 use Rattle.screentext.specs.declared.cast.Event.{Event}
 use Rattle.screentext.specs.Moment.{act_of, acts_until}
 

@@ -1,6 +1,6 @@
 -- What the events of a recording up to a moment do to a screen.
 use Rattle.std.specs.Prelude.{ℕ, List, [], ◌∷◌, nat_le, if◌then◌else◌}
-use Rattle.vt100_state.specs.Made.{Act, Fed, Resized}
+use Rattle.screen_model.specs.Made.{Act, Fed, Resized}
 use Rattle.screentext.specs.declared.cast.Change.{Change}
 use Rattle.screentext.specs.declared.cast.Change.TheVariants.{Output, Resize}
 use Rattle.screentext.specs.declared.cast.Event.{Event}

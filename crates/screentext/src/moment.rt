@@ -2,7 +2,7 @@
 
 ghost use Rattle.std.specs.Prelude.{◌++◌, ◌∷◌, [], ℕ, List, IfOk, OnOk};
 ghost use Rattle.vt100.specs.Parsing.{StandsAt};
-ghost use Rattle.vt100_state.specs.Made.{Act};
+ghost use Rattle.screen_model.specs.Made.{Act};
 ghost use Rattle.screentext.specs.Moment.{act_of, acts_until};
 
 use crate::cast::{Change, Event, Size};

@@ -3,10 +3,10 @@ use Rattle.std.proofs.Common.{◌≡◌, ℕ, ◌*◌, ◌≤◌, ◌&&◌, Bool
 use Rattle.std.proofs.Common.{arith, length, if◌then◌else◌}
 use Rattle.std.specs.Prelude.{nat_lt}
 use Rattle.std.proofs.lemmas.Bool.{false≢true, le-ltb}
-use Rattle.vt100_picture.specs.Term.{Size, Shown}
+use Rattle.terminal_model.specs.Term.{Size, Shown}
 use Rattle.vt100_core.specs.Picture.{size_of}
-use Rattle.vt100_state.specs.State.{State}
-use Rattle.vt100_state.specs.Shown.{shown_state}
+use Rattle.screen_model.specs.State.{State}
+use Rattle.screen_model.specs.Shown.{shown_state}
 use Rattle.termrelay.specs.declared.answer.Answer.{Answer}
 use Rattle.termrelay.specs.declared.answer.Answer.TheVariants.{Full, Difference, Unsure, Unchanged, Behind, Held, TooLong}
 use Rattle.termrelay.specs.Frame.{is_unsure, frame_text, IsShortFrame}

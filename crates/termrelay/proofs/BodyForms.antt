@@ -4,13 +4,13 @@ use Rattle.std.specs.List.{AllByRecursion}
 use Rattle.std.proofs.lemmas.Bool.{cond_both}
 use Rattle.vt100_forms.specs.Attrs.{HasByteColors}
 use Rattle.vt100_forms.specs.Form.{Form}
-use Rattle.vt100_picture.specs.FormText.{IsForm, IsSentForm}
-use Rattle.vt100_picture.specs.Term.{Size, Shown}
-use Rattle.vt100_redraw.proofs.Texts.{all-join}
-use Rattle.vt100_writers.specs.Modes.{input_mode_diff}
-use Rattle.vt100_writers.specs.Screen.{contents_formatted, state_diff}
-use Rattle.vt100_writers.specs.Laws.{IsTrueOfLists}
-use Rattle.vt100_writers.proofs.SmallScreens.{lists-sent, lists-forms}
+use Rattle.terminal_model.specs.FormText.{IsForm, IsSentForm}
+use Rattle.terminal_model.specs.Term.{Size, Shown}
+use Rattle.row_drawing.proofs.Texts.{all-join}
+use Rattle.screen_drawing.specs.Modes.{input_mode_diff}
+use Rattle.screen_drawing.specs.Screen.{contents_formatted, state_diff}
+use Rattle.screen_drawing.specs.Laws.{IsTrueOfLists}
+use Rattle.screen_drawing.proofs.SmallScreens.{lists-sent, lists-forms}
 use Rattle.termrelay.specs.Frame.{is_unsure, body_forms, HasByteBase, EachBodyIsSent, EachBodyIsOfForms}
 use Rattle.termrelay.proofs.SureLemmas.{sure-plain}
 

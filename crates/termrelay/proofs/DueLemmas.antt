@@ -2,10 +2,10 @@
 use Rattle.std.proofs.Common.{◌≡◌, ℕ, Bool, true, false, ◌||◌, List, [], ◌++◌, Option, Some, None, refl, ap, sym, ◌∙◌}
 use Rattle.std.proofs.Common.{append_assoc, if◌then◌else◌}
 use Rattle.vt100_forms.specs.Form.{Form, spell}
-use Rattle.vt100_redraw.proofs.WritesLemmas.{spell-joined}
-use Rattle.vt100_picture.specs.Term.{Size, Shown}
-use Rattle.vt100_writers.specs.Modes.{input_mode_diff}
-use Rattle.vt100_writers.specs.Screen.{contents_formatted, state_formatted, state_diff}
+use Rattle.row_drawing.proofs.WritesLemmas.{spell-joined}
+use Rattle.terminal_model.specs.Term.{Size, Shown}
+use Rattle.screen_drawing.specs.Modes.{input_mode_diff}
+use Rattle.screen_drawing.specs.Screen.{contents_formatted, state_formatted, state_diff}
 use Rattle.termrelay.specs.Frame.{is_unsure, body_forms}
 use Rattle.termrelay.specs.Answers.{due, same_shown, is_frame}
 use Rattle.termrelay.specs.declared.answer.Answer.{Answer}

@@ -2,7 +2,7 @@
 use Rattle.std.proofs.Common.{◌≡◌, ℕ, List, [], ◌∷◌, ◌++◌, append-nil, append_assoc, ap, sym, ◌∙◌, subst, refl}
 use Rattle.std.proofs.Common.{Result, Ok, Err}
 use Rattle.vte_core.specs.Standing.{Stands}
-use Rattle.vt100_state.specs.Made.{Act, Fed, Resized, bytes_fed, made}
+use Rattle.screen_model.specs.Made.{Act, Fed, Resized, bytes_fed, made}
 use Rattle.vt100.specs.Parsing.{ParserView}
 use Rattle.vt100.specs.Tries.{alive}
 use Rattle.vt100.proofs.PlayLemmas.{feeds_join, acts_follow}

@@ -1,16 +1,16 @@
 -- Where the body of a frame leads.
 use Rattle.std.proofs.Common.{Bool, true, false, ◌||◌, List, ◌++◌, Some, None, ap, ◌∙◌, if◌then◌else◌}
 use Rattle.vt100_forms.specs.Form.{Form}
-use Rattle.vt100_picture.specs.Term.{Size, Shown, Term, shown_of}
-use Rattle.vt100_picture.specs.Apply.{run}
-use Rattle.vt100_picture.specs.Leads.{Leads}
-use Rattle.vt100_picture.proofs.FormLemmas.{run-joined}
-use Rattle.vt100_writers.specs.Modes.{input_mode_diff}
-use Rattle.vt100_writers.specs.Screen.{contents_formatted, state_diff}
-use Rattle.vt100_writers.specs.Laws.{IsScreen}
-use Rattle.vt100_writers.proofs.Modes.{modes-run_changed}
-use Rattle.vt100_writers.proofs.Screens.{state-redraw_leads, state-difference_leads, later-redraw_leads}
-use Rattle.vt100_writers.proofs.Texts.{modes-come_out}
+use Rattle.terminal_model.specs.Term.{Size, Shown, Term, shown_of}
+use Rattle.terminal_model.specs.Apply.{run}
+use Rattle.terminal_model.specs.Leads.{Leads}
+use Rattle.terminal_model.proofs.FormLemmas.{run-joined}
+use Rattle.screen_drawing.specs.Modes.{input_mode_diff}
+use Rattle.screen_drawing.specs.Screen.{contents_formatted, state_diff}
+use Rattle.screen_drawing.specs.Laws.{IsScreen}
+use Rattle.screen_drawing.proofs.Modes.{modes-run_changed}
+use Rattle.screen_drawing.proofs.Screens.{state-redraw_leads, state-difference_leads, later-redraw_leads}
+use Rattle.screen_drawing.proofs.Texts.{modes-come_out}
 use Rattle.termrelay.specs.Frame.{is_unsure, body_forms, HasModesOf, ShowsUnless, IsBase, EachFrameLeads}
 use Rattle.termrelay.specs.Frame.{EachFrameSetsModes}
 

@@ -3,12 +3,12 @@ use Rattle.std.proofs.Common.{◌≡◌, ◌||◌, ◌++◌, length, Option, Som
 use Rattle.std.proofs.Common.{length-append}
 use Rattle.std.proofs.lemmas.Bool.{cond_both}
 use Rattle.vt100_forms.specs.Form.{spell}
-use Rattle.vt100_picture.specs.Term.{Size, Shown}
-use Rattle.vt100_writers.specs.Length.{IsSmallScreen, IsWithin}
-use Rattle.vt100_writers.specs.Modes.{input_mode_diff}
-use Rattle.vt100_writers.specs.Screen.{contents_formatted, state_diff}
-use Rattle.vt100_writers.proofs.Costs.{join-length}
-use Rattle.vt100_writers.proofs.Lengths.{each-short}
+use Rattle.terminal_model.specs.Term.{Size, Shown}
+use Rattle.screen_drawing.specs.Length.{IsSmallScreen, IsWithin}
+use Rattle.screen_drawing.specs.Modes.{input_mode_diff}
+use Rattle.screen_drawing.specs.Screen.{contents_formatted, state_diff}
+use Rattle.screen_drawing.proofs.Costs.{join-length}
+use Rattle.screen_drawing.proofs.Lengths.{each-short}
 use Rattle.termrelay.specs.Frame.{start_mark, end_mark, is_unsure, body_forms, HasByteBase, EachFrameIsShort}
 
 body-short : (z : Size) (base : Option Shown) (now : Shown) → HasByteBase base → IsSmallScreen z now

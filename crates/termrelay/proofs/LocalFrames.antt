@@ -3,13 +3,13 @@ use Rattle.std.proofs.Common.{◌≡◌, ℕ, Bool, true, false, List, ◌++◌,
 use Rattle.std.proofs.Common.{if◌then◌else◌}
 use Rattle.std.specs.Option.{option_map, IfSome}
 use Rattle.vt100_forms.specs.Form.{Form, spell}
-use Rattle.vt100_picture.specs.Term.{Size, Shown, IsShown}
-use Rattle.vt100_writers.specs.Laws.{IsScreen}
-use Rattle.vt100_writers.specs.Screen.{state_diff}
-use Rattle.vt100_writers.proofs.LocalScreens.{difference-local}
+use Rattle.terminal_model.specs.Term.{Size, Shown, IsShown}
+use Rattle.screen_drawing.specs.Laws.{IsScreen}
+use Rattle.screen_drawing.specs.Screen.{state_diff}
+use Rattle.screen_drawing.proofs.LocalScreens.{difference-local}
 use Rattle.vt100_core.specs.Picture.{size_of}
-use Rattle.vt100_state.specs.Call.{ScreenView}
-use Rattle.vt100_state.specs.Shown.{shown_state}
+use Rattle.screen_model.specs.Call.{ScreenView}
+use Rattle.screen_model.specs.Shown.{shown_state}
 use Rattle.vt100.specs.WriterLaws.{IsUnscrolled}
 use Rattle.vt100.proofs.ShownLemmas.{shown-is, screen-drawable}
 use Rattle.vt100.proofs.FormLists.{small-screen}

@@ -2,12 +2,12 @@
 use Rattle.std.proofs.Common.{◌≡◌, ℕ, List, [], ◌∷◌, ◌++◌, ap, sym, ◌∙◌, refl, subst}
 use Rattle.std.proofs.lemmas.List.Elements.{All-push}
 use Rattle.vte_core.specs.Standing.{Stands}
-use Rattle.vt100_picture.specs.Term.{Size}
+use Rattle.terminal_model.specs.Term.{Size}
 use Rattle.vt100_core.specs.Picture.{size_of}
-use Rattle.vt100_state.specs.Call.{ScreenView}
-use Rattle.vt100_state.specs.Made.{Act, Fed, Resized, bytes_fed, made}
-use Rattle.vt100_state.specs.Holds.{IsSide, IsAct, AreActs, last_rows, last_cols}
-use Rattle.vt100_state.proofs.MadeLemmas.{makes-states, makes-last_size, makes-no_offset}
+use Rattle.screen_model.specs.Call.{ScreenView}
+use Rattle.screen_model.specs.Made.{Act, Fed, Resized, bytes_fed, made}
+use Rattle.screen_model.specs.Holds.{IsSide, IsAct, AreActs, last_rows, last_cols}
+use Rattle.screen_model.proofs.MadeLemmas.{makes-states, makes-last_size, makes-no_offset}
 use Rattle.vt100.specs.Parsing.{ParserView, StandsAt}
 use Rattle.vt100.specs.Tries.{alive}
 use Rattle.vt100.specs.WriterLaws.{IsUnscrolled}

@@ -7,12 +7,12 @@ use Rattle.std.proofs.lemmas.List.{append_cancel_left}
 use Rattle.vt100_forms.specs.Form.{Form, spell}
 use Rattle.vt100_forms.specs.Mark.{mark_head, HasPlainText}
 use Rattle.vt100_forms.proofs.Marks.{marks_behind}
-use Rattle.vt100_picture.specs.Term.{Size, Shown}
-use Rattle.vt100_redraw.proofs.Texts.{all-join}
-use Rattle.vt100_writers.specs.Modes.{input_mode_diff}
-use Rattle.vt100_writers.specs.Screen.{contents_formatted, state_diff}
-use Rattle.vt100_writers.specs.Laws.{IsKnown}
-use Rattle.vt100_writers.proofs.Texts.{texts-plain}
+use Rattle.terminal_model.specs.Term.{Size, Shown}
+use Rattle.row_drawing.proofs.Texts.{all-join}
+use Rattle.screen_drawing.specs.Modes.{input_mode_diff}
+use Rattle.screen_drawing.specs.Screen.{contents_formatted, state_diff}
+use Rattle.screen_drawing.specs.Laws.{IsKnown}
+use Rattle.screen_drawing.proofs.Texts.{texts-plain}
 use Rattle.termrelay.specs.Frame.{start_mark, end_mark, is_unsure, body_forms, EachFrameIsMarked}
 
 first-of : List ℕ → ℕ

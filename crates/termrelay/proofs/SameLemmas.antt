@@ -13,7 +13,7 @@ use Rattle.vt100_forms.specs.Attrs.{attrs_eq}
 use Rattle.vt100_forms.specs.Form.{mouse_number, encoding_number, style_number}
 use Rattle.vt100_cells.specs.Cell.{bool_eq, cell_eq}
 use Rattle.vt100_cells.specs.CellEq.{cell_eq-true, attrs_eq-true}
-use Rattle.vt100_picture.specs.Term.{Size, Modes, Shown, IsShown}
+use Rattle.terminal_model.specs.Term.{Size, Modes, Shown, IsShown}
 use Rattle.termrelay.specs.Answers.{all_below, modes_eq, same_shown, EachSameIsOne}
 
 all-below : (k : ℕ) (p : ℕ → Bool) → all_below k p ≡ true → (m : ℕ) → m < k → p m ≡ true

@@ -16,11 +16,11 @@ use Rattle.vt100_forms.specs.Attrs.{is_inverse, IsProper}
 use Rattle.vt100_forms.specs.Form.{mouse_number, encoding_number, style_number}
 use Rattle.vt100_cells.specs.Cell.{CellView, bool_eq, text_eq, cell_eq, empty_cell}
 use Rattle.vt100_cells.specs.CellEq.{attrs_eq-true, cell_eq-refl}
-use Rattle.vt100_picture.specs.Term.{Size, Modes, Shown}
+use Rattle.terminal_model.specs.Term.{Size, Modes, Shown}
 use Rattle.vt100_core.specs.Picture.{size_of}
-use Rattle.vt100_state.specs.State.{State, IsState}
-use Rattle.vt100_state.specs.Shown.{shown_state, told_cell, told_wrap}
-use Rattle.vt100_state.proofs.ShownLemmas.{each-cell_is_told, each-wrap_is_told, alike-show_the_same}
+use Rattle.screen_model.specs.State.{State, IsState}
+use Rattle.screen_model.specs.Shown.{shown_state, told_cell, told_wrap}
+use Rattle.screen_model.proofs.ShownLemmas.{each-cell_is_told, each-wrap_is_told, alike-show_the_same}
 use Rattle.termrelay.specs.Answers.{all_below, modes_eq, same_shown, EachOneIsSame}
 
 -- ---- tests

@@ -4,11 +4,11 @@ use Rattle.std.specs.Prelude.{Option, Some, None, if◌then◌else◌, length, n
 use Rattle.vt100_forms.specs.Attrs.{attrs_eq}
 use Rattle.vt100_forms.specs.Form.{mouse_number, encoding_number, style_number}
 use Rattle.vt100_cells.specs.Cell.{bool_eq, cell_eq, default_cell}
-use Rattle.vt100_picture.specs.Term.{Size, Modes, Shown, IsShown, blank_shown}
-use Rattle.vt100_writers.specs.Length.{IsSmallScreen}
+use Rattle.terminal_model.specs.Term.{Size, Modes, Shown, IsShown, blank_shown}
+use Rattle.screen_drawing.specs.Length.{IsSmallScreen}
 use Rattle.vt100_core.specs.Picture.{size_of}
-use Rattle.vt100_state.specs.State.{State}
-use Rattle.vt100_state.specs.Shown.{shown_state}
+use Rattle.screen_model.specs.State.{State}
+use Rattle.screen_model.specs.Shown.{shown_state}
 use Rattle.termrelay.specs.Frame.{is_unsure, frame_text, HasByteBase}
 use Rattle.termrelay.specs.declared.answer.Answer.{Answer}
 use Rattle.termrelay.specs.declared.answer.Answer.TheVariants.{Full, Difference, Unsure, Unchanged, Behind, Held, TooLong}

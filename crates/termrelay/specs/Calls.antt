@@ -2,7 +2,7 @@
 use Rattle.std.specs.Prelude.{◌≡◌, ℕ, ◌+◌, ◌-◌, ◌==◌, nat_le, List, [], ◌∷◌, length, min, Result, Ok, Err}
 use Rattle.std.specs.Prelude.{if◌then◌else◌}
 use Rattle.std.specs.declared.io.Error.{Error}
-use Rattle.vt100_state.specs.Holds.{IsSide}
+use Rattle.screen_model.specs.Holds.{IsSide}
 use Rattle.termrelay.specs.Hub.{Telling, HubState, Feeds, Resizes, Attaches, Detaches, Frames, PumpsClient}
 use Rattle.termrelay.specs.declared.answer.Answer.{Answer}
 use Rattle.termrelay.specs.declared.error.HubError.{HubError}

@@ -8,15 +8,15 @@ use Rattle.vt100_forms.specs.Attrs.{IsProper, HasByteColors}
 use Rattle.vt100_forms.specs.Form.{Form, spell}
 use Rattle.vt100_forms.specs.Mark.{mark_head}
 use Rattle.vt100_cells.specs.Cell.{CellView}
-use Rattle.vt100_picture.specs.Term.{Size, Shown, Term, IsShown, blank_shown, shown_of}
-use Rattle.vt100_picture.specs.Apply.{run}
-use Rattle.vt100_picture.specs.Leads.{Leads}
-use Rattle.vt100_picture.specs.FormText.{AreForms, AreSentForms}
-use Rattle.vt100_writers.specs.Modes.{input_mode_diff}
-use Rattle.vt100_writers.specs.Screen.{contents_formatted, state_formatted, state_diff}
-use Rattle.vt100_writers.specs.Laws.{IsScreen, IsKnown}
-use Rattle.vt100_writers.specs.Length.{IsSmallScreen}
-use Rattle.vt100_writers.specs.Local.{IsLocalList}
+use Rattle.terminal_model.specs.Term.{Size, Shown, Term, IsShown, blank_shown, shown_of}
+use Rattle.terminal_model.specs.Apply.{run}
+use Rattle.terminal_model.specs.Leads.{Leads}
+use Rattle.terminal_model.specs.FormText.{AreForms, AreSentForms}
+use Rattle.screen_drawing.specs.Modes.{input_mode_diff}
+use Rattle.screen_drawing.specs.Screen.{contents_formatted, state_formatted, state_diff}
+use Rattle.screen_drawing.specs.Laws.{IsScreen, IsKnown}
+use Rattle.screen_drawing.specs.Length.{IsSmallScreen}
+use Rattle.screen_drawing.specs.Local.{IsLocalList}
 
 -- ---- the text
 

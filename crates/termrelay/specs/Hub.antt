@@ -6,11 +6,11 @@ use Rattle.std.specs.Prelude.{Ok}
 use Rattle.std.specs.Prelude.{Err, slice_index_or, if◌then◌else◌, IfSome}
 use Rattle.std.specs.Option.{option_map}
 use Rattle.std.specs.declared.io.Error.{Error}
-use Rattle.vt100_picture.specs.Term.{Size, Shown}
+use Rattle.terminal_model.specs.Term.{Size, Shown}
 use Rattle.vt100_core.specs.Picture.{size_of}
-use Rattle.vt100_state.specs.Call.{ScreenView}
-use Rattle.vt100_state.specs.Made.{Act, Fed, Resized, events_added}
-use Rattle.vt100_state.specs.Shown.{shown_state}
+use Rattle.screen_model.specs.Call.{ScreenView}
+use Rattle.screen_model.specs.Made.{Act, Fed, Resized, events_added}
+use Rattle.screen_model.specs.Shown.{shown_state}
 use Rattle.vt100.specs.Memory.{some_may_take}
 use Rattle.vt100.specs.Parsing.{ParserView, HasRead, StandsAt}
 use Rattle.vt100.specs.declared.error.ScreenError.{ScreenError}

@@ -1,8 +1,8 @@
 -- How a hub's fields give what a contract sees of it, and what is true of them.
 use Rattle.std.specs.Prelude.{◌≡◌, ℕ, false, List, IfSome}
 use Rattle.slab.specs.Slab.{get}
-use Rattle.vt100_state.specs.Made.{Act}
-use Rattle.vt100_state.specs.Holds.{AreActs}
+use Rattle.screen_model.specs.Made.{Act}
+use Rattle.screen_model.specs.Holds.{AreActs}
 use Rattle.vt100.specs.Parsing.{ParserView, StandsAt}
 use Rattle.termrelay.specs.Hub.{HubState, as_kept}
 use Rattle.termrelay.specs.Record.{IsServed}

@@ -2,7 +2,7 @@
 ghost use Rattle.std.specs.Prelude.{◌≡◌, ℕ, ◌++◌, [], true, drop, length, nat_lt, Some, None, IfOk, OnErr, Err};
 ghost use Rattle.std.specs.Option.{option_copied, option_map};
 ghost use Rattle.vt100_core.specs.Picture.{size_of};
-ghost use Rattle.vt100_state.specs.Shown.{shown_state};
+ghost use Rattle.screen_model.specs.Shown.{shown_state};
 ghost use Rattle.vt100.specs.WriterLaws.{IsUnscrolled};
 ghost use Rattle.termrelay.specs.Frame.{frame_text as text_of_frame, body_forms};
 ghost use Rattle.termrelay.specs.Answers.{wanted_of, due, is_frame, longest_frame};

@@ -3,8 +3,8 @@ ghost use Rattle.std.specs.Prelude.{◌≡◌, ◌<◌};
 ghost use Rattle.vt100_forms.specs.Attrs.{attrs_eq};
 ghost use Rattle.vt100_cells.specs.Cell.{bool_eq, cell_eq};
 ghost use Rattle.vt100_core.specs.Picture.{size_of};
-ghost use Rattle.vt100_state.specs.State.{IsState};
-ghost use Rattle.vt100_state.specs.Shown.{shown_state};
+ghost use Rattle.screen_model.specs.State.{IsState};
+ghost use Rattle.screen_model.specs.Shown.{shown_state};
 ghost use Rattle.termrelay.specs.Answers.{all_below, modes_eq, same_shown};
 ghost use Rattle.termrelay.specs.Frame.{any_below, asks_for_emoji, is_unsure};
 

@@ -8,12 +8,12 @@ use Rattle.vt100_cells.specs.Cell.{default_cell, empty_cell}
 use Rattle.vt100_cells.specs.Cells.{cell_at}
 use Rattle.vt100_cells.proofs.ListLemmas.{cell_at_past, cell_at-replicate}
 use Rattle.vt100_rows.specs.Row.{RowView, blank_row, cleared_row, wiped_row}
-use Rattle.vt100_picture.specs.Term.{Size, Term}
-use Rattle.vt100_picture.specs.Apply.{with_line, erase}
-use Rattle.vt100_sheet.specs.Sheet.{row_at, rows_by_position, erased_forward_at}
-use Rattle.vt100_sheet.specs.Picture.{lines_of, wraps_of}
-use Rattle.vt100_sheet.proofs.SheetLemmas.{row_at-set, row_at-by_position, length-rows_by_position}
-use Rattle.vt100_sheet.proofs.PictureLemmas.{line-blank, lines-past, wraps-past}
+use Rattle.terminal_model.specs.Term.{Size, Term}
+use Rattle.terminal_model.specs.Apply.{with_line, erase}
+use Rattle.vt100_rows.specs.Sheet.{row_at, rows_by_position, erased_forward_at}
+use Rattle.vt100_rows.specs.Picture.{lines_of, wraps_of}
+use Rattle.vt100_rows.proofs.SheetLemmas.{row_at-set, row_at-by_position, length-rows_by_position}
+use Rattle.vt100_rows.proofs.PictureLemmas.{line-blank, lines-past, wraps-past}
 use Rattle.termview.specs.Picture.{PictureView, term_of, IsPicture}
 use Rattle.termview.specs.Step.{erase_below}
 use Rattle.termview.proofs.RowTerms.{cursor_row, here, erased-is}

@@ -8,7 +8,7 @@ use Rattle.vte.specs.Stretch.{calls_from}
 use Rattle.vte.specs.Hold as hold
 use Rattle.vte.specs.Closings.{WithClosings, none, call, closing, Parses}
 use Rattle.vte.proofs.HoldLemmas.{calls_from-append}
-use Rattle.vt100_picture.specs.Term.{Size, Term, blank_term}
+use Rattle.terminal_model.specs.Term.{Size, Term, blank_term}
 use Rattle.termview.specs.Step.{view_step, view_steps}
 use Rattle.termview.specs.Seen.{seen}
 use Rattle.termview.specs.Picture.{PictureView, term_of, Becomes}

@@ -35,13 +35,13 @@ use Rattle.vt100_forms.specs.Form.{Form, Text, MoveTo, MoveRight, EraseChar, Cle
 use Rattle.vt100_forms.specs.Form.{Crlf, Lf, Backspace, SaveCursor, RestoreCursor, HideCursor, Keypad, CursorKeys}
 use Rattle.vt100_forms.specs.Form.{Paste, Mouse, Encoding, Style, Sgr, mouse_number, encoding_number, style_number}
 use Rattle.vt100_forms.specs.Form.{sgr_numbers, spell}
-use Rattle.vt100_picture.specs.Apply.{run}
-use Rattle.vt100_picture.proofs.TermLemmas.{neither}
-use Rattle.vt100_read.specs.Events.{kept_number, sequence, bare, counted_events, mode_events}
-use Rattle.vt100_read.specs.Events.{sgr_events, events_of, events_of_all}
-use Rattle.vt100_picture.specs.FormText.{IsSentForm}
-use Rattle.vt100_read.proofs.ReadForms.{list-read}
-use Rattle.vt100_read.proofs.SentTexts.{forms-readable}
+use Rattle.terminal_model.specs.Apply.{run}
+use Rattle.terminal_model.proofs.TermLemmas.{neither}
+use Rattle.forms_read.specs.Events.{kept_number, sequence, bare, counted_events, mode_events}
+use Rattle.forms_read.specs.Events.{sgr_events, events_of, events_of_all}
+use Rattle.terminal_model.specs.FormText.{IsSentForm}
+use Rattle.forms_read.proofs.ReadForms.{list-read}
+use Rattle.forms_read.proofs.SentTexts.{forms-readable}
 use Rattle.termview.specs.Seen.{seen}
 use Rattle.termview.specs.Standing.{HoldsAt}
 use Rattle.termview.specs.FormFrames.{FormsMakeFrames, FramesOpenOnce, FramesFinish, FramesShowForms}

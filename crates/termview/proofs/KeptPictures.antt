@@ -11,11 +11,11 @@ use Rattle.vt100_cells.proofs.ListLemmas.{length-by_position}
 use Rattle.vt100_rows.specs.Row.{RowView, placed, joined_plain, wiped_row, with_wrap, cleared_row}
 use Rattle.vt100_rows.proofs.RowLemmas.{IsRow-placed, IsRow-wiped, IsRow-with_wrap, IsRow-cleared}
 use Rattle.vt100_rows.proofs.JoinLemmas.{IsRow-joined_plain}
-use Rattle.vt100_picture.specs.Term.{Term}
-use Rattle.vt100_sheet.specs.Sheet.{row_at, rows_by_position, moved_up, IsRowOf, IsSheet, erased_forward_at}
-use Rattle.vt100_sheet.proofs.SheetLemmas.{IsSheet-with_row, IsSheet-by_position, IsRowOf-cond, wrapped-cond}
-use Rattle.vt100_sheet.proofs.SheetLemmas.{length-rows_by_position}
-use Rattle.vt100_sheet.proofs.MoveLemmas.{IsSheet-moved_up}
+use Rattle.terminal_model.specs.Term.{Term}
+use Rattle.vt100_rows.specs.Sheet.{row_at, rows_by_position, moved_up, IsRowOf, IsSheet, erased_forward_at}
+use Rattle.vt100_rows.proofs.SheetLemmas.{IsSheet-with_row, IsSheet-by_position, IsRowOf-cond, wrapped-cond}
+use Rattle.vt100_rows.proofs.SheetLemmas.{length-rows_by_position}
+use Rattle.vt100_rows.proofs.MoveLemmas.{IsSheet-moved_up}
 use Rattle.termview.specs.Picture.{PictureView, IsPicture, Becomes}
 use Rattle.termview.proofs.RowTerms.{cursor_row, cursor_row-is, here}
 

@@ -18,10 +18,10 @@ use Rattle.vt100_forms.specs.declared.modes.CursorStyle.{CursorStyle}
 use Rattle.vt100_forms.specs.Form.{SaveCursor, RestoreCursor}
 use Rattle.vt100_cells.specs.Cell.{CellView, default_cell, empty_cell, is_filled}
 use Rattle.vt100_cells.specs.Line.{IsPaired, Bounded}
-use Rattle.vt100_picture.specs.Term.{Size, Modes, Term, IsTerm, blank_term}
-use Rattle.vt100_picture.specs.Apply.{erase, input, apply}
-use Rattle.vt100_picture.proofs.TermLemmas.{IsTerm-moved, IsTerm-set, IsTerm-down, IsTerm-erase, IsTerm-input}
-use Rattle.vt100_picture.proofs.TermLemmas.{IsTerm-apply}
+use Rattle.terminal_model.specs.Term.{Size, Modes, Term, IsTerm, blank_term}
+use Rattle.terminal_model.specs.Apply.{erase, input, apply}
+use Rattle.terminal_model.proofs.TermLemmas.{IsTerm-moved, IsTerm-set, IsTerm-down, IsTerm-erase, IsTerm-input}
+use Rattle.terminal_model.proofs.TermLemmas.{IsTerm-apply}
 use Rattle.termview.specs.Step.{printed, erase_below, with_style, style_of, with_attr, by_row, set_rows, reset_rows}
 use Rattle.termview.specs.Step.{line_of, view_step, view_steps}
 use Rattle.termview.specs.Laws.{EachCallKeepsTerminals, EachStreamShowsATerminal}

@@ -14,7 +14,7 @@ use Rattle.vte.specs.Frames.{IsFrame}
 use Rattle.vte.proofs.HoldLemmas.{last_of-append}
 use Rattle.vte.proofs.FrameMarks.{begun_calls, start_calls, end_calls, ground_start}
 use Rattle.vte.proofs.FrameMoves.{whole_are_parsed, never_torn, mark_begun, frames_ground}
-use Rattle.vt100_picture.specs.Term.{Size}
+use Rattle.terminal_model.specs.Term.{Size}
 use Rattle.termview.specs.Step.{view_step, view_steps}
 use Rattle.termview.specs.Seen.{seen}
 use Rattle.termview.specs.Laws.{MoreBytesStep, MarksShowNothing, FramesShowTheirBodies, WholeFramesAreShown}

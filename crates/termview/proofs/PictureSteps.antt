@@ -5,8 +5,8 @@ use Rattle.std.proofs.lemmas.Bool.{cond_both, cond-true, cond-false, lt-ltb, le-
 use Rattle.std.proofs.Math.Bool.{or-true}
 use Rattle.vt100_cells.specs.Cell.{cell_of, columns_of, is_undrawable, drawn_columns}
 use Rattle.vt100_cells.proofs.WidthLemmas.{drawn-is}
-use Rattle.vt100_picture.specs.Term.{Size, Term}
-use Rattle.vt100_picture.specs.Apply.{print, join, down, wrap, made_to_fit, is_dropped, input}
+use Rattle.terminal_model.specs.Term.{Size, Term}
+use Rattle.terminal_model.specs.Apply.{print, join, down, wrap, made_to_fit, is_dropped, input}
 use Rattle.termview.specs.Step.{printed, flag_above}
 use Rattle.termview.specs.Picture.{PictureView, term_of, Becomes}
 use Rattle.termview.proofs.TermSteps.{wraps-flagged, wraps-gone, fits-here, wraps-here}

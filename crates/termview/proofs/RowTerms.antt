@@ -16,12 +16,12 @@ use Rattle.vt100_cells.proofs.ListLemmas.{Bounded-row, cell_at-whole}
 use Rattle.vt100_cells.proofs.JoinedCells.{base_col-within, Bounded-update}
 use Rattle.vt100_rows.specs.Row.{RowView, placed, joined_plain, wiped_row, with_wrap}
 use Rattle.vt100_rows.proofs.RowLemmas.{line-placed, line-wiped}
-use Rattle.vt100_picture.specs.Position.{update}
-use Rattle.vt100_picture.specs.Term.{Size, Term}
-use Rattle.vt100_picture.specs.Apply.{with_line, print, join, erase, down}
-use Rattle.vt100_sheet.specs.Sheet.{row_at, rows_by_position, moved_up, IsRowOf}
-use Rattle.vt100_sheet.specs.Picture.{lines_of, wraps_of}
-use Rattle.vt100_sheet.proofs.PictureLemmas.{lines-set, wraps-set, lines-up, wraps-up}
+use Rattle.terminal_model.specs.Position.{update}
+use Rattle.terminal_model.specs.Term.{Size, Term}
+use Rattle.terminal_model.specs.Apply.{with_line, print, join, erase, down}
+use Rattle.vt100_rows.specs.Sheet.{row_at, rows_by_position, moved_up, IsRowOf}
+use Rattle.vt100_rows.specs.Picture.{lines_of, wraps_of}
+use Rattle.vt100_rows.proofs.PictureLemmas.{lines-set, wraps-set, lines-up, wraps-up}
 use Rattle.termview.specs.Picture.{PictureView, term_of, IsPicture}
 use Rattle.termview.specs.Step.{flag_above}
 

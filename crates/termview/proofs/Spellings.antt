@@ -3,11 +3,11 @@ use Rattle.std.proofs.Common.{◌≡◌, List, [], ◌∷◌, refl, ◌∙◌}
 use Rattle.vte_types.specs.Call.{Call}
 use Rattle.vte.specs.Stretch.{last_of, calls_from}
 use Rattle.vt100_forms.specs.Form.{spell}
-use Rattle.vt100_picture.specs.Term.{Size, Term}
-use Rattle.vt100_read.proofs.ReadForms.{list-read}
-use Rattle.vt100_read.proofs.SentTexts.{forms-readable}
-use Rattle.vte_read.specs.Terminals.{stepped}
-use Rattle.vte_read.proofs.Stepping.{spelling_is_stepped}
+use Rattle.terminal_model.specs.Term.{Size, Term}
+use Rattle.forms_read.proofs.ReadForms.{list-read}
+use Rattle.forms_read.proofs.SentTexts.{forms-readable}
+use Rattle.forms_read.specs.Terminals.{stepped}
+use Rattle.forms_read.proofs.Stepping.{spelling_is_stepped}
 use Rattle.termview.specs.Step.{view_step, view_steps, with_attr}
 use Rattle.termview.specs.Seen.{seen}
 use Rattle.termview.specs.Laws.{EachSpellingIsShown}

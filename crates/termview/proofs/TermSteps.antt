@@ -5,9 +5,9 @@ use Rattle.std.proofs.lemmas.Bool.{cond_both, cond-true, cond-false, lt-ltb, ne_
 use Rattle.std.proofs.lemmas.Bool.Decides.{nat_tests}
 use mathlib.Core.Path.{fun_ext}
 use Rattle.vt100_cells.specs.Cell.{CellView, default_cell, is_filled}
-use Rattle.vt100_picture.specs.Position.{update}
-use Rattle.vt100_picture.specs.Term.{Size, Term}
-use Rattle.vt100_picture.specs.Apply.{down, wrap, made_to_fit}
+use Rattle.terminal_model.specs.Position.{update}
+use Rattle.terminal_model.specs.Term.{Size, Term}
+use Rattle.terminal_model.specs.Apply.{down, wrap, made_to_fit}
 use Rattle.termview.specs.Step.{flag_above}
 use Rattle.termview.proofs.RowTerms.{down-stays, down-up}
 

@@ -20,12 +20,12 @@ use Rattle.vt100_forms.specs.declared.modes.MouseProtocolMode.TheVariants as mou
 use Rattle.vt100_forms.specs.Form.{ClearScreen, mouse_number, encoding_number}
 use Rattle.vt100_cells.specs.Cell.{CellView, default_cell, empty_cell}
 use Rattle.vt100_cells.specs.Line.{wiped, wipe_unflags}
-use Rattle.vt100_picture.specs.Position.{update}
-use Rattle.vt100_picture.specs.Term.{Size, Term, IsTerm}
-use Rattle.vt100_picture.specs.Apply.{input, erase, with_line, apply, switched}
-use Rattle.vte_read.specs.Calls.{name_of, colour_told, style_told, set_call, reset_call}
-use Rattle.vte_read.specs.Terminals.{ReadsAttributes, ReadsCalls}
-use Rattle.vte_read.proofs.Told.{Below, each-below}
+use Rattle.terminal_model.specs.Position.{update}
+use Rattle.terminal_model.specs.Term.{Size, Term, IsTerm}
+use Rattle.terminal_model.specs.Apply.{input, erase, with_line, apply, switched}
+use Rattle.forms_read.specs.Calls.{name_of, colour_told, style_told, set_call, reset_call}
+use Rattle.forms_read.specs.Terminals.{ReadsAttributes, ReadsCalls}
+use Rattle.forms_read.proofs.Told.{Below, each-below}
 use Rattle.termview.specs.Step.{printed, erase_below, named_colour, with_foreground, with_background, with_attr}
 use Rattle.termview.specs.Step.{view_step}
 

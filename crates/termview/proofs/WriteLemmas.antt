@@ -5,8 +5,8 @@ use Rattle.std.proofs.lemmas.List.{append-nil}
 use Rattle.std.specs.declared.io.Error.{Error}
 use Rattle.vt100_cells.specs.Cell.{CellView, default_cell}
 use Rattle.vt100_rows.specs.Row.{RowView}
-use Rattle.vt100_sheet.specs.Picture.{lines_of}
-use Rattle.vt100_sheet.proofs.PictureLemmas.{lines-past}
+use Rattle.vt100_rows.specs.Picture.{lines_of}
+use Rattle.vt100_rows.proofs.PictureLemmas.{lines-past}
 use Rattle.vt100_rows.specs.Text.{column_text, columns_text, line_text}
 use Rattle.std.specs.Prelude.{encode_utf8_all}
 use Rattle.std.proofs.lemmas.Str.{encodes-append}

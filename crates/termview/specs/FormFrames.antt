@@ -7,10 +7,10 @@ use Rattle.vte.specs.Stretch.{opens_in, OpensAt}
 use Rattle.vte.specs.Moves.{Move, given}
 use Rattle.vte.specs.Frames.{IsFrame, Leads}
 use Rattle.vt100_forms.specs.Form.{Form, spell}
-use Rattle.vt100_picture.specs.Term.{Size}
-use Rattle.vt100_picture.specs.Apply.{run}
-use Rattle.vt100_picture.specs.FormText.{IsSentForm}
-use Rattle.vte_read.specs.Terminals.{IsSmall}
+use Rattle.terminal_model.specs.Term.{Size}
+use Rattle.terminal_model.specs.Apply.{run}
+use Rattle.terminal_model.specs.FormText.{IsSentForm}
+use Rattle.forms_read.specs.Terminals.{IsSmall}
 use Rattle.termview.specs.Seen.{seen}
 use Rattle.termview.specs.Standing.{size_of, HoldsAt, Taken}
 use Rattle.termview.specs.declared.view.View.{View}

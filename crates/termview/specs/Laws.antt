@@ -11,10 +11,10 @@ use Rattle.vte.specs.Hold.{limit}
 use Rattle.vte.specs.Moves.{Move, Gives, given}
 use Rattle.vte.specs.Frames.{IsFrame, IsPart, Leads}
 use Rattle.vt100_forms.specs.Form.{Form, spell}
-use Rattle.vt100_picture.specs.Term.{Size, Term, IsTerm}
-use Rattle.vt100_picture.specs.Apply.{run}
-use Rattle.vt100_picture.specs.FormText.{IsSentForm}
-use Rattle.vte_read.specs.Terminals.{IsSmall}
+use Rattle.terminal_model.specs.Term.{Size, Term, IsTerm}
+use Rattle.terminal_model.specs.Apply.{run}
+use Rattle.terminal_model.specs.FormText.{IsSentForm}
+use Rattle.forms_read.specs.Terminals.{IsSmall}
 use Rattle.termview.specs.Step.{view_step, view_steps}
 use Rattle.termview.specs.Seen.{seen}
 

@@ -3,9 +3,9 @@ use Rattle.std.specs.Prelude.{ℕ, ◌<◌, ◌≤◌, ◌≡◌, ◌^◌, Bool,
 use Rattle.vt100_forms.specs.declared.attrs.Attrs.{Attrs}
 use Rattle.vt100_forms.specs.declared.modes.CursorStyle.{CursorStyle}
 use Rattle.vt100_rows.specs.Row.{RowView}
-use Rattle.vt100_picture.specs.Term.{Size, Modes, Term}
-use Rattle.vt100_sheet.specs.Sheet.{IsSheet}
-use Rattle.vt100_sheet.specs.Picture.{lines_of, wraps_of}
+use Rattle.terminal_model.specs.Term.{Size, Modes, Term}
+use Rattle.vt100_rows.specs.Sheet.{IsSheet}
+use Rattle.vt100_rows.specs.Picture.{lines_of, wraps_of}
 
 pub record PictureView : Type 0 where
   pub size : Size

@@ -4,7 +4,7 @@ use Rattle.vte_core.specs.Shapes.{events}
 use Rattle.vte.specs.Performed.{calls_of_all}
 use Rattle.vt100_cells.specs.Cell.{CellView}
 use Rattle.vt100_rows.specs.Text.{line_text}
-use Rattle.vt100_picture.specs.Term.{Size, Term, blank_term}
+use Rattle.terminal_model.specs.Term.{Size, Term, blank_term}
 use Rattle.termview.specs.Step.{view_steps}
 
 -- a blank terminal after the calls of the bytes' events

@@ -6,7 +6,7 @@ use Rattle.vte.specs.Stretch.{ticks_from}
 use Rattle.vte.specs.Hold.{held_of, Takes}
 use Rattle.vte.specs.Advances.{Advances}
 use Rattle.vte.specs.Standing as processor
-use Rattle.vt100_picture.specs.Term.{Size, Term}
+use Rattle.terminal_model.specs.Term.{Size, Term}
 use Rattle.termview.specs.Picture.{term_of}
 use Rattle.termview.specs.Seen.{seen}
 use Rattle.termview.specs.declared.view.View.{View}

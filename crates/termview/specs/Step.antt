@@ -30,9 +30,9 @@ use Rattle.vt100_forms.specs.Attrs.{default_attrs, with_bold, with_dim, with_nor
 use Rattle.vt100_forms.specs.Attrs.{with_underline, with_inverse}
 use Rattle.vt100_forms.specs.Form.{mouse_number, encoding_number}
 use Rattle.vt100_cells.specs.Cell.{default_cell, empty_cell, is_filled}
-use Rattle.vt100_picture.specs.Position.{update}
-use Rattle.vt100_picture.specs.Term.{Size, Modes, Term}
-use Rattle.vt100_picture.specs.Apply.{erase, input, down, switched}
+use Rattle.terminal_model.specs.Position.{update}
+use Rattle.terminal_model.specs.Term.{Size, Modes, Term}
+use Rattle.terminal_model.specs.Apply.{erase, input, down, switched}
 
 -- ---- characters
 

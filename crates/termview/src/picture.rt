@@ -4,8 +4,8 @@ ghost use Rattle.vt100_cells.specs.Cell.{cell_of, drawn_columns};
 ghost use Rattle.std.specs.Option.{option_copied};
 ghost use Rattle.vt100_cells.specs.Cells.{cell_at};
 ghost use Rattle.vt100_rows.specs.Text.{line_text};
-ghost use Rattle.vt100_picture.specs.Term.{blank_term};
-ghost use Rattle.vt100_picture.specs.Apply.{erase, input, print, join, down, wrap, made_to_fit};
+ghost use Rattle.terminal_model.specs.Term.{blank_term};
+ghost use Rattle.terminal_model.specs.Apply.{erase, input, print, join, down, wrap, made_to_fit};
 ghost use Rattle.termview.specs.Step.{printed, erase_below, cursor_saved, cursor_restored, flag_above};
 ghost use Rattle.termview.specs.Picture.{term_of, Becomes};
 ghost use Rattle.termview.specs.Seen.{cell_shown, text_shown};
@@ -16,9 +16,8 @@ use std::marker::Model;
 use vt100_cells::{Cell, columns};
 use vt100_forms::attrs::Attrs;
 use vt100_forms::{CursorStyle, MouseProtocolEncoding, MouseProtocolMode, Pos};
-use vt100_rows::Row;
-use vt100_sheet::Size;
-use vt100_sheet::rows_edit::{blank_rows, erase_forward, move_up};
+use vt100_rows::rows_edit::{blank_rows, erase_forward, move_up};
+use vt100_rows::{Row, Size};
 
 /// What a terminal shows, and what it has saved.
 #[derive(Drop)]

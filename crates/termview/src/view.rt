@@ -16,7 +16,7 @@ use std::num::NonZeroU16;
 use takers::Taker;
 use vt100_cells::Cell;
 use vt100_forms::{Color, CursorStyle, MouseProtocolEncoding, MouseProtocolMode};
-use vt100_sheet::Size;
+use vt100_rows::Size;
 use vte::ansi::{Processor, Timeout};
 
 /// A terminal at the far end of a line: it reads what a screen's writers send, in any pieces, and shows the picture

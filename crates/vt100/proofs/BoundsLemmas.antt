@@ -7,8 +7,8 @@ use Rattle.vt100_core.specs.Cursor.{cursor_saved}
 use Rattle.vt100_core.specs.Scroll.{scrollback_shown}
 use Rattle.vt100_core.proofs.GridLemmas.{SameLimits-trans}
 use Rattle.vt100_rows.specs.Row.{blank_row}
-use Rattle.vt100_state.specs.Step.{with_shown, saved, alternate_shown, alternate_cleared}
-use Rattle.vt100_state.specs.State.{State, main_sheet, alternate_sheet}
+use Rattle.screen_model.specs.Step.{with_shown, saved, alternate_shown, alternate_cleared}
+use Rattle.screen_model.specs.State.{State, main_sheet, alternate_sheet}
 use Rattle.vt100.specs.Tries.{SameBounds}
 
 pub limits_same : (g : GridView) → SameLimits g g

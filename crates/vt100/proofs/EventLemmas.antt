@@ -3,14 +3,14 @@ use Rattle.std.proofs.Common.{◌≡◌, ◌∙◌, ℕ, Bool, true, false, List
 use Rattle.std.proofs.Common.{replicate, cond, inl, inr, subst, length, arith, ◌<◌}
 use Rattle.std.proofs.lemmas.Bool.{false≢true}
 use Rattle.vt100_rows.specs.Row.{RowView}
-use Rattle.vt100_state.specs.State.{State}
-use Rattle.vt100_state.specs.Step.{Stepped, Partly}
-use Rattle.vt100_state.specs.Call.{Call, ScreenView}
-use Rattle.vt100_state.specs.Effect.{Effect, changes, steps, calling, partly, first, second, row_effect, plain_effect}
-use Rattle.vt100_state.specs.Effect.{plain_rows}
-use Rattle.vt100_state.specs.Effect.{escape_effect}
-use Rattle.vt100_state.specs.Call.{unhandled_escape}
-use Rattle.vt100_state.specs.Lookup.{lookup}
+use Rattle.screen_model.specs.State.{State}
+use Rattle.screen_model.specs.Step.{Stepped, Partly}
+use Rattle.screen_model.specs.Call.{Call, ScreenView}
+use Rattle.screen_model.specs.Effect.{Effect, changes, steps, calling, partly, first, second, row_effect, plain_effect}
+use Rattle.screen_model.specs.Effect.{plain_rows}
+use Rattle.screen_model.specs.Effect.{escape_effect}
+use Rattle.screen_model.specs.Call.{unhandled_escape}
+use Rattle.screen_model.specs.Lookup.{lookup}
 use Rattle.vt100.specs.declared.error.ScreenError.{ScreenError}
 use Rattle.vt100.specs.declared.error.ScreenError.TheVariants.{Memory, Failed}
 use Rattle.vt100.specs.Memory.{plain_may_take}

@@ -8,30 +8,30 @@ use Rattle.vt100_forms.specs.Form.{Form, spell}
 use Rattle.vt100_cells.specs.Cell.{CellView, IsCell, default_cell}
 use Rattle.vt100_cells.specs.Cells.{cell_at}
 use Rattle.vt100_cells.proofs.CellLemmas.{IsCell-empty}
-use Rattle.vt100_picture.specs.FormText.{AreForms, AreSentForms}
-use Rattle.vt100_picture.specs.Term.{Size, Shown, IsShown}
-use Rattle.vt100_redraw.specs.Small.{SmallErase, IsSmallPen}
+use Rattle.terminal_model.specs.FormText.{AreForms, AreSentForms}
+use Rattle.terminal_model.specs.Term.{Size, Shown, IsShown}
+use Rattle.row_drawing.specs.Small.{SmallErase, IsSmallPen}
 use Rattle.vt100_rows.specs.Row.{RowView}
 use Rattle.vt100_rows.specs.Forms.{formatted, differing}
 use Rattle.vt100_rows.specs.Laws.{IsTrueOfSmallForms}
 use Rattle.vt100_rows.proofs.SentTexts as rows
-use Rattle.vt100_sheet.specs.Sheet.{row_at}
-use Rattle.vt100_writers.specs.Laws as writers
-use Rattle.vt100_writers.specs.Length.{IsWithin}
-use Rattle.vt100_writers.specs.Length as writers_length
-use Rattle.vt100_writers.specs.Screen as picture
-use Rattle.vt100_writers.proofs.Modes.{modes-set, modes-changed, attributes-set}
-use Rattle.vt100_writers.proofs.SmallScreens.{lists-sent, lists-forms}
-use Rattle.vt100_writers.specs.Local.{IsLocalList}
-use Rattle.vt100_writers.proofs.Lengths.{each-short}
-use Rattle.vt100_writers.proofs.LocalScreens.{contents-local, difference-local}
+use Rattle.vt100_rows.specs.Sheet.{row_at}
+use Rattle.screen_drawing.specs.Laws as writers
+use Rattle.screen_drawing.specs.Length.{IsWithin}
+use Rattle.screen_drawing.specs.Length as writers_length
+use Rattle.screen_drawing.specs.Screen as picture
+use Rattle.screen_drawing.proofs.Modes.{modes-set, modes-changed, attributes-set}
+use Rattle.screen_drawing.proofs.SmallScreens.{lists-sent, lists-forms}
+use Rattle.screen_drawing.specs.Local.{IsLocalList}
+use Rattle.screen_drawing.proofs.Lengths.{each-short}
+use Rattle.screen_drawing.proofs.LocalScreens.{contents-local, difference-local}
 use Rattle.vt100_core.specs.Grid.{visible, visible_at}
 use Rattle.vt100_core.specs.Picture.{size_of}
 use Rattle.vt100_core.proofs.PictureWriters.{lines-cells}
-use Rattle.vt100_state.specs.State.{State}
-use Rattle.vt100_state.specs.Shown.{shown_state}
-use Rattle.vt100_state.specs.Made.{made}
-use Rattle.vt100_state.proofs.MadeLemmas.{makes-cells}
+use Rattle.screen_model.specs.State.{State}
+use Rattle.screen_model.specs.Shown.{shown_state}
+use Rattle.screen_model.specs.Made.{made}
+use Rattle.screen_model.proofs.MadeLemmas.{makes-cells}
 use Rattle.vt100.specs.Writers.{contents_formatted, state_formatted, contents_diff, state_diff, cursor_state_formatted}
 use Rattle.vt100.specs.Writers.{each_formatted, each_diff}
 use Rattle.vt100.specs.WriterLaws.{IsUnscrolled, IsPlainlyShown}

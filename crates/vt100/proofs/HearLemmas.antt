@@ -1,9 +1,9 @@
 -- Callbacks behind a sink of rows.
 use Rattle.std.proofs.Common.{◌≡◌, ◌∙◌, Bool, List, [], ◌∷◌, ◌++◌, ap, refl, sym, subst, append-nil}
 use Rattle.vt100_rows.specs.Row.{RowView}
-use Rattle.vt100_sheet.specs.Sink.{TakesAll}
-use Rattle.vt100_state.specs.Step.{Report, reports_of}
-use Rattle.vt100_state.specs.Call.{Hears}
+use Rattle.vt100_rows.specs.Sink.{TakesAll}
+use Rattle.screen_model.specs.Step.{Report, reports_of}
+use Rattle.screen_model.specs.Call.{Hears}
 use Rattle.vt100.specs.Tries.{HearsFront}
 
 -- a sink whose takings are the callbacks' hearings, and which keeps its flag and the place of the callbacks

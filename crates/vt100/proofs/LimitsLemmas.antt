@@ -4,9 +4,9 @@ use Rattle.std.proofs.Common.{◌-◌, nat_le, nat_lt, []}
 use Rattle.std.proofs.lemmas.Bool.{cond_both}
 use Rattle.vt100_forms.specs.declared.attrs.Attrs.{Attrs}
 use Rattle.vt100_cells.specs.Cell.{columns_of, cell_of}
-use Rattle.vt100_picture.specs.Apply.{is_dropped}
+use Rattle.terminal_model.specs.Apply.{is_dropped}
 use Rattle.vt100_rows.specs.Row.{RowView, placed, wiped_row, joined_cell, joined_row, is_widening, with_wrap}
-use Rattle.vt100_sheet.specs.Sheet.{row_at}
+use Rattle.vt100_rows.specs.Sheet.{row_at}
 use Rattle.vt100_core.specs.Grid.{KeptPart, GridView, SameKeeping, SameLimits, is_in_region, with_row, with_cursor_row}
 use Rattle.vt100_core.specs.Grid.{row_of_cursor}
 use Rattle.vt100_core.specs.Cursor.{moved_rows_down}
@@ -14,8 +14,8 @@ use Rattle.vt100_core.specs.Scroll.{Scrolled, scrolled_up, is_kept_from, widened
 use Rattle.vt100_core.specs.Scroll.{rows_past_bottom, wrapped_on, left_row, made_to_fit}
 use Rattle.vt100_core.specs.Text.{Drawn, printed, spaced, joined, carried}
 use Rattle.vt100_core.specs.declared.printed.Printed.TheVariants.{Nothing, Joined}
-use Rattle.vt100_state.specs.State.{State, main_sheet, alternate_sheet}
-use Rattle.vt100_state.specs.Step.{typed, typed_times}
+use Rattle.screen_model.specs.State.{State, main_sheet, alternate_sheet}
+use Rattle.screen_model.specs.Step.{typed, typed_times}
 use Rattle.vt100.specs.Memory.{keeps_rows}
 use Rattle.vt100.specs.Tries.{SameBounds}
 use Rattle.vt100.proofs.BoundsLemmas.{limits_same}

@@ -9,11 +9,11 @@ use Rattle.vt100_rows.specs.Row.{RowView, blank_row}
 use Rattle.vt100_core.specs.Grid.{GridView, allocated, cleared}
 use Rattle.vt100_core.specs.Cursor.{with_origin, cursor_saved}
 use Rattle.vt100_core.specs.Scroll.{scrollback_shown}
-use Rattle.vt100_state.specs.Lookup.{lookup}
-use Rattle.vt100_state.specs.State.{State, alternate_sheet}
-use Rattle.vt100_state.specs.Step.{alternate_shown, alternate_cleared, alternate_entered, saved, with_shown}
-use Rattle.vt100_state.specs.Step.{with_origin_mode}
-use Rattle.vt100_state.specs.PrivateModes.{set_rows, row_of, row_state}
+use Rattle.screen_model.specs.Lookup.{lookup}
+use Rattle.screen_model.specs.State.{State, alternate_sheet}
+use Rattle.screen_model.specs.Step.{alternate_shown, alternate_cleared, alternate_entered, saved, with_shown}
+use Rattle.screen_model.specs.Step.{with_origin_mode}
+use Rattle.screen_model.specs.PrivateModes.{set_rows, row_of, row_state}
 use Rattle.vt100.specs.Memory.{is_unused, shows_alternate, modes_may_take}
 
 -- where it has no rows afterwards it had none before

@@ -24,7 +24,7 @@ use types.Kit.{‵, ◌⊛◌, raw, ◌$◌, ◌∵◌, !, qed, move, split, fsp
 use types.Kit.{use0, use1, use2, done, keep, by}
 use types.Logic.{Logic, sem}
 use Rattle.vte_core.specs.contracts.Parser as reader
-use Rattle.vt100_state.specs.Call.{ScreenView}
+use Rattle.screen_model.specs.Call.{ScreenView}
 use Rattle.vt100.specs.Parsing.{ParserView}
 use Rattle.vt100.specs.contracts.screen.Screen as screen
 use Rattle.vt100.specs.contracts.screen.wrapped.WrappedScreen as wrapped

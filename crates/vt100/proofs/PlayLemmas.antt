@@ -10,11 +10,11 @@ use Rattle.vte_core.specs.Told.{Told}
 use Rattle.vte_core.specs.Added.{added}
 use Rattle.vte_core.proofs.AddedLemmas.{added-is, added-append, added-none}
 use Rattle.vt100_rows.specs.Row.{RowView}
-use Rattle.vt100_state.specs.State.{State}
-use Rattle.vt100_state.specs.Step.{resized_to}
-use Rattle.vt100_state.specs.Call.{Call, ScreenView}
-use Rattle.vt100_state.specs.Effect.{effect}
-use Rattle.vt100_state.specs.Made.{Act, Fed, Resized, played, events_added, bytes_fed, made_on, made}
+use Rattle.screen_model.specs.State.{State}
+use Rattle.screen_model.specs.Step.{resized_to}
+use Rattle.screen_model.specs.Call.{Call, ScreenView}
+use Rattle.screen_model.specs.Effect.{effect}
+use Rattle.screen_model.specs.Made.{Act, Fed, Resized, played, events_added, bytes_fed, made_on, made}
 use Rattle.vt100.specs.declared.screen.wrapped.WrappedScreen.{WrappedScreen}
 use Rattle.vt100.specs.declared.error.ScreenError.{ScreenError}
 use Rattle.vt100.specs.Tries.{Tries, SameBounds, alive}
@@ -22,14 +22,14 @@ use Rattle.vt100.specs.Goes.{Either, Tells, Goes, GoesThrough}
 use Rattle.vt100.specs.Memory.{may_take_memory, some_may_take}
 use Rattle.vt100.specs.Parsing.{ParserView, StandsAt, KeepsScreens}
 use Rattle.vt100.specs.Laws.{PlaysEvents, FeedsMake, FeedsJoin, FeedsNothing, ActsFollow, ResizedScreensArePutIn}
-use Rattle.vt100_state.specs.State.{main_sheet, alternate_sheet}
-use Rattle.vt100_state.specs.Holds.{AreActs}
+use Rattle.screen_model.specs.State.{main_sheet, alternate_sheet}
+use Rattle.screen_model.specs.Holds.{AreActs}
 use Rattle.vt100_core.specs.Grid.{GridView, SameLimits}
-use Rattle.vt100_state.proofs.FineGrids.{Limits, IsFine}
-use Rattle.vt100_state.proofs.FineStates.{Bounds, IsWell, limits, main-fine, alternate-fine}
-use Rattle.vt100_state.proofs.FineEvents.{effect-well}
-use Rattle.vt100_state.proofs.ScalarEvents.{IsTold, added-told}
-use Rattle.vt100_state.proofs.MadeLemmas.{bounded, first_bounds, made-well}
+use Rattle.screen_model.proofs.FineGrids.{Limits, IsFine}
+use Rattle.screen_model.proofs.FineStates.{Bounds, IsWell, limits, main-fine, alternate-fine}
+use Rattle.screen_model.proofs.FineEvents.{effect-well}
+use Rattle.screen_model.proofs.ScalarEvents.{IsTold, added-told}
+use Rattle.screen_model.proofs.MadeLemmas.{bounded, first_bounds, made-well}
 use Rattle.vt100.proofs.BoundsLemmas.{bounds_same, bounds_is, bounds_trans}
 use Rattle.vt100.proofs.EventLemmas.{is_alive}
 

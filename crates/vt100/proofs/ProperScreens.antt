@@ -7,9 +7,9 @@ use Rattle.vt100_core.specs.Grid.{GridView, IsAllocated, new_grid, allocated}
 use Rattle.vt100_core.specs.declared.scrollback.Scrollback.TheVariants.{Disabled, Enabled}
 use Rattle.vt100_core.specs.Scroll.{scrollback_shown}
 use Rattle.vt100_core.specs.Resize.{resized}
-use Rattle.vt100_state.specs.State.{IsProperSheet}
+use Rattle.screen_model.specs.State.{IsProperSheet}
 use Rattle.vt100_forms.proofs.AttrsLemmas.{default-proper}
-use Rattle.vt100_state.proofs.ProperSheets.{proper_new, proper_resized, proper_allocated, proper_scrollback_shown}
+use Rattle.screen_model.proofs.ProperSheets.{proper_new, proper_resized, proper_allocated, proper_scrollback_shown}
 use Rattle.vt100.specs.ScreenFields.{IsScreen}
 use Rattle.vt100.specs.declared.screen.Screen.TheInside.{Inside}
 use Rattle.vt100.proofs.SizeLemmas.{resized_height, resized_width}

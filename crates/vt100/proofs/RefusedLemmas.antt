@@ -4,9 +4,9 @@ use Rattle.std.specs.Prelude.{IsOk}
 use Rattle.std.proofs.lemmas.Bool.Decides.{nat_tests}
 use Rattle.std.proofs.lemmas.Bool.{false≢true}
 use Rattle.vt100_rows.specs.Row.{RowView}
-use Rattle.vt100_state.specs.State.{State}
-use Rattle.vt100_state.specs.Step.{Stepped, Report}
-use Rattle.vt100_state.specs.Call.{ScreenView, Hears}
+use Rattle.screen_model.specs.State.{State}
+use Rattle.screen_model.specs.Step.{Stepped, Report}
+use Rattle.screen_model.specs.Call.{ScreenView, Hears}
 use Rattle.vt100.specs.Tries.{Tries, HearsFront}
 use Rattle.vt100.specs.declared.error.ScreenError.{ScreenError}
 use Rattle.vt100.specs.declared.error.ScreenError.TheVariants.{Memory}

@@ -4,9 +4,9 @@ use Rattle.std.proofs.Common.{add-one, ap, refl, nat_lt, sym, subst, inl, inr, a
 use Rattle.std.proofs.lemmas.Bool.{false≢true}
 use Rattle.std.proofs.lemmas.Bool.Decides.{nat_tests}
 use Rattle.vt100_rows.specs.Row.{RowView}
-use Rattle.vt100_state.specs.State.{State}
-use Rattle.vt100_state.specs.Step.{Report, typed, typed_times, repeated, repeated_last}
-use Rattle.vt100_state.specs.Call.{ScreenView, Hears}
+use Rattle.screen_model.specs.State.{State}
+use Rattle.screen_model.specs.Step.{Report, typed, typed_times, repeated, repeated_last}
+use Rattle.screen_model.specs.Call.{ScreenView, Hears}
 use Rattle.vt100.specs.Tries.{Tries, HearsFront, alive}
 use Rattle.vt100.specs.declared.error.ScreenError.{ScreenError}
 use Rattle.vt100.proofs.HearLemmas.{hears_append}

@@ -2,8 +2,8 @@
 use Rattle.std.proofs.Common.{◌≡◌, ◌∙◌, ℕ, Bool, true, false, Ok, Err, sym, ap}
 use Rattle.std.proofs.lemmas.Bool.{false≢true}
 use Rattle.vt100_rows.specs.Row.{RowView}
-use Rattle.vt100_state.specs.Step.{sheets_resized, resized_to, with_updating}
-use Rattle.vt100_state.specs.Call.{ScreenView}
+use Rattle.screen_model.specs.Step.{sheets_resized, resized_to, with_updating}
+use Rattle.screen_model.specs.Call.{ScreenView}
 use Rattle.vt100.specs.Tries.{Tries}
 use Rattle.vt100.specs.declared.error.ScreenError.{ScreenError}
 

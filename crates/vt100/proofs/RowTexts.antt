@@ -7,22 +7,22 @@ use Rattle.vt100_forms.specs.Attrs.{default_attrs}
 use Rattle.vt100_forms.specs.Form.{spell}
 use Rattle.vt100_cells.specs.Cell.{CellView}
 use Rattle.vt100_cells.specs.Cells.{cell_at}
-use Rattle.vt100_picture.specs.Term.{Size}
-use Rattle.vt100_picture.specs.Apply.{run}
+use Rattle.terminal_model.specs.Term.{Size}
+use Rattle.terminal_model.specs.Apply.{run}
 use Rattle.vt100_rows.specs.Row.{RowView, IsRow}
 use Rattle.vt100_rows.specs.Forms.{formatted, differing}
 use Rattle.vt100_rows.specs.Laws.{IsPlainRow, IsKnownRow, IsSmallRow, IsRowDrawn, screen_of}
-use Rattle.vt100_redraw.specs.Small.{SmallErase, IsSmallPen}
+use Rattle.row_drawing.specs.Small.{SmallErase, IsSmallPen}
 use Rattle.vt100_rows.proofs.DrawnRows.{row-drawn, difference-drawn}
 use Rattle.vt100_rows.proofs.SentTexts.{lists-forms}
-use Rattle.vt100_sheet.specs.Sheet.{row_at, IsRowOf}
-use Rattle.vt100_sheet.proofs.SheetLemmas.{row_at-by_position, length-rows_by_position}
-use Rattle.vt100_writers.specs.Rows.{is_continued}
+use Rattle.vt100_rows.specs.Sheet.{row_at, IsRowOf}
+use Rattle.vt100_rows.proofs.SheetLemmas.{row_at-by_position, length-rows_by_position}
+use Rattle.screen_drawing.specs.Rows.{is_continued}
 use Rattle.vt100_core.specs.Grid.{visible, visible_at}
 use Rattle.vt100_core.specs.Picture.{size_of}
 use Rattle.vt100_core.proofs.PictureLemmas.{visible_at-drawn, shown_wraps-drawn}
-use Rattle.vt100_state.specs.State.{State}
-use Rattle.vt100_state.specs.Shown.{shown_state}
+use Rattle.screen_model.specs.State.{State}
+use Rattle.screen_model.specs.Shown.{shown_state}
 use Rattle.vt100.specs.Writers.{each_formatted, each_diff, rows_formatted, rows_diff}
 use Rattle.vt100.specs.WriterLaws.{IsUnscrolled, IsPlainLine, IsKnownLine, text_at, EachRowTextLeads, EachRowDifferenceLeads}
 use Rattle.vt100.proofs.ShownLemmas.{cells-are}

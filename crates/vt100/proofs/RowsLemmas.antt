@@ -4,7 +4,7 @@ use Rattle.std.proofs.Common.{sym, ap, ◌∙◌, subst}
 use Rattle.vt100.specs.declared.error.ScreenError.{ScreenError}
 use Rattle.vt100.specs.Texts.{YieldsText}
 use Rattle.vt100_rows.specs.Row.{RowView}
-use Rattle.vt100_sheet.proofs.SheetLemmas.{length-rows_by_position}
+use Rattle.vt100_rows.proofs.SheetLemmas.{length-rows_by_position}
 use Rattle.vt100_core.specs.Grid.{GridView, IsGrid, IsAllocated, visible, visible_at}
 use Rattle.vt100.specs.Writers.{each_diff}
 

@@ -15,16 +15,16 @@ use Rattle.vt100_cells.specs.Cell.{IsPrintable, columns_of, is_undrawable}
 use Rattle.vt100_cells.proofs.WidthLemmas.{drawn-is, printable-is}
 use Rattle.vt100_forms.specs.declared.attrs.Attrs.{Attrs}
 use Rattle.vt100_rows.specs.Row.{RowView}
-use Rattle.vt100_sheet.specs.Sink.{TakesAll}
+use Rattle.vt100_rows.specs.Sink.{TakesAll}
 use Rattle.vt100_core.specs.Grid.{GridView}
 use Rattle.vt100_core.specs.Text.{Drawn, IsWide, printed, spaced, printed_all, TakesFront}
 use Rattle.vt100_core.specs.declared.printed.Printed.{Printed}
 use Rattle.vt100_core.proofs.TextLemmas.{IsMade-made, printed-spaced}
-use Rattle.vt100_state.specs.State.{State}
-use Rattle.vt100_state.specs.Step.{Report, Stepped, reports_of, typed, last_after}
-use Rattle.vt100_state.specs.Call as said
-use Rattle.vt100_state.specs.Call.{Call, ScreenView, Hears}
-use Rattle.vt100_state.specs.Effect.{is_unhandled, calling, steps}
+use Rattle.screen_model.specs.State.{State}
+use Rattle.screen_model.specs.Step.{Report, Stepped, reports_of, typed, last_after}
+use Rattle.screen_model.specs.Call as said
+use Rattle.screen_model.specs.Call.{Call, ScreenView, Hears}
+use Rattle.screen_model.specs.Effect.{is_unhandled, calling, steps}
 use Rattle.vte_core.specs.Event.{Event, Print, Performs}
 use Rattle.vt100.specs.declared.error.ScreenError.{ScreenError}
 use Rattle.vt100.specs.declared.error.ScreenError.TheVariants.{Memory, Failed}

@@ -5,9 +5,9 @@ use Rattle.std.proofs.lemmas.Bool.{false≢true}
 use Rattle.vt100_core.specs.Grid.{GridView, IsAllocated}
 use Rattle.vt100_core.specs.Resize.{resized}
 use Rattle.vt100_rows.specs.Row.{RowView}
-use Rattle.vt100_state.specs.State.{State}
-use Rattle.vt100_state.specs.Step.{Stepped, sheets_resized}
-use Rattle.vt100_state.specs.Call.{ScreenView, Hears}
+use Rattle.screen_model.specs.State.{State}
+use Rattle.screen_model.specs.Step.{Stepped, sheets_resized}
+use Rattle.screen_model.specs.Call.{ScreenView, Hears}
 use Rattle.vt100.specs.ScreenFields.{IsScreen}
 use Rattle.vt100.specs.Tries.{Tries, TriesAlone, HearsFront}
 use Rattle.vt100.specs.declared.error.ScreenError.{ScreenError}

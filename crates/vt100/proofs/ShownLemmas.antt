@@ -3,16 +3,16 @@ use Rattle.std.proofs.Common.{◌≡◌, ◌∙◌, ℕ, List, ◌∷◌, ◌++�
 use Rattle.vt100_forms.specs.Attrs.{default_attrs}
 use Rattle.vt100_forms.specs.Form.{Form, HideCursor, ClearAttrs, ClearScreen, change}
 use Rattle.vt100_cells.specs.Cell.{CellView}
-use Rattle.vt100_picture.specs.Term.{Size, Shown, IsShown}
-use Rattle.vt100_picture.specs.Leads.{Leads}
-use Rattle.vt100_redraw.specs.Writer.{Drawn}
-use Rattle.vt100_writers.specs.Modes.{switch, input_mode_formatted, input_mode_diff}
-use Rattle.vt100_writers.specs.Cursor as cursor
-use Rattle.vt100_writers.specs.Laws.{IsDrawable, with_modes}
-use Rattle.vt100_writers.proofs.Screens.{redraw_leads, state-redraw_leads, difference_leads, state-difference_leads}
-use Rattle.vt100_writers.proofs.Cursor.{cursor-state_set}
-use Rattle.vt100_writers.specs.Screen as picture
-use Rattle.vt100_writers.specs.Screen.{grid_redraw, grid_contents_formatted, grid_difference}
+use Rattle.terminal_model.specs.Term.{Size, Shown, IsShown}
+use Rattle.terminal_model.specs.Leads.{Leads}
+use Rattle.row_drawing.specs.Writer.{Drawn}
+use Rattle.screen_drawing.specs.Modes.{switch, input_mode_formatted, input_mode_diff}
+use Rattle.screen_drawing.specs.Cursor as cursor
+use Rattle.screen_drawing.specs.Laws.{IsDrawable, with_modes}
+use Rattle.screen_drawing.proofs.Screens.{redraw_leads, state-redraw_leads, difference_leads, state-difference_leads}
+use Rattle.screen_drawing.proofs.Cursor.{cursor-state_set}
+use Rattle.screen_drawing.specs.Screen as picture
+use Rattle.screen_drawing.specs.Screen.{grid_redraw, grid_contents_formatted, grid_difference}
 use Rattle.vt100_core.specs.Picture.{size_of, Extras, shown_lines}
 use Rattle.vt100_core.specs.WriterLaws as core
 use Rattle.vt100_core.specs.WriterLaws.{picture_of}
@@ -20,9 +20,9 @@ use Rattle.vt100_core.specs.Writers.{redrawn, differing}
 use Rattle.vt100_core.proofs.PictureLemmas.{shown_lines-drawn, shown_wraps-drawn, IsTerm-grid}
 use Rattle.vt100_core.proofs.PictureWriters.{cursor-of_picture, redrawn-of_picture, differing-of_pictures}
 use Rattle.vt100_core.proofs.PictureWriters.{grid-drawable}
-use Rattle.vt100_sheet.specs.Picture.{lines_of}
-use Rattle.vt100_state.specs.State.{State}
-use Rattle.vt100_state.specs.Shown.{shown_state}
+use Rattle.vt100_rows.specs.Picture.{lines_of}
+use Rattle.screen_model.specs.State.{State}
+use Rattle.screen_model.specs.Shown.{shown_state}
 use Rattle.vt100.specs.Writers.{contents_formatted, state_formatted, contents_diff, state_diff, cursor_state_formatted}
 use Rattle.vt100.specs.WriterLaws.{IsUnscrolled, EachRedrawIsOfShown}
 use Rattle.vt100.specs.WriterLaws.{EachDifferenceIsOfShown, EachScreenIsDrawable, EachRedrawLeads}

@@ -4,8 +4,8 @@ use Rattle.std.proofs.lemmas.Bool.{false≢true}
 use Rattle.vt100_core.specs.Grid.{GridView}
 use Rattle.vt100_core.specs.Text.{printed}
 use Rattle.vt100_rows.specs.Row.{RowView}
-use Rattle.vt100_state.specs.Step.{reports_of, typed, last_after}
-use Rattle.vt100_state.specs.Call.{ScreenView, Hears}
+use Rattle.screen_model.specs.Step.{reports_of, typed, last_after}
+use Rattle.screen_model.specs.Call.{ScreenView, Hears}
 use Rattle.vt100.specs.Tries.{Tries}
 
 pub typed_tries : {C : Type 0} (scrolls : C → RowView → Bool → C

@@ -8,8 +8,8 @@ use Rattle.vt100_forms.specs.declared.modes.MouseProtocolMode.TheVariants as mou
 use Rattle.vt100_forms.specs.declared.modes.MouseProtocolEncoding.TheVariants as encoding
 use Rattle.vt100_forms.specs.declared.modes.CursorStyle.TheVariants as style
 use Rattle.vt100_cells.specs.Cell.{bool_eq}
-use Rattle.vt100_picture.specs.Term.{Shown}
-use Rattle.vt100_writers.specs.Modes.{input_mode_formatted, input_mode_diff, attributes_formatted}
+use Rattle.terminal_model.specs.Term.{Shown}
+use Rattle.screen_drawing.specs.Modes.{input_mode_formatted, input_mode_diff, attributes_formatted}
 use Rattle.vt100_core.proofs.WriterLemmas.{appended_then}
 
 -- some forms are appended, and then the others unless there is no memory

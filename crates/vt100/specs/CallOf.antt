@@ -1,6 +1,6 @@
 -- What a call says.
 use Rattle.std.specs.Prelude.{map}
-use Rattle.vt100_state.specs.Call as said
+use Rattle.screen_model.specs.Call as said
 use Rattle.vt100.specs.declared.callbacks.Call.{Call}
 use Rattle.vt100.specs.declared.callbacks.Call.TheVariants as v
 

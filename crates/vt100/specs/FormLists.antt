@@ -6,18 +6,18 @@ use Rattle.vt100_forms.specs.Form.{Form, spell}
 use Rattle.vt100_forms.specs.declared.modes.MouseProtocolMode.TheVariants as mouse
 use Rattle.vt100_forms.specs.declared.modes.MouseProtocolEncoding.TheVariants as encoding
 use Rattle.vt100_forms.specs.declared.modes.CursorStyle.TheVariants as style
-use Rattle.vt100_picture.specs.FormText.{AreForms, AreSentForms}
-use Rattle.vt100_picture.specs.Term.{Size, Shown}
-use Rattle.vt100_picture.specs.Leads.{Leads}
-use Rattle.vt100_writers.specs.Modes.{input_mode_formatted, input_mode_diff, attributes_formatted}
-use Rattle.vt100_writers.specs.Laws.{IsKnown, with_modes}
-use Rattle.vt100_writers.specs.Length.{IsSmallScreen, IsWithin}
-use Rattle.vt100_writers.specs.Local.{IsLocalList}
+use Rattle.terminal_model.specs.FormText.{AreForms, AreSentForms}
+use Rattle.terminal_model.specs.Term.{Size, Shown}
+use Rattle.terminal_model.specs.Leads.{Leads}
+use Rattle.screen_drawing.specs.Modes.{input_mode_formatted, input_mode_diff, attributes_formatted}
+use Rattle.screen_drawing.specs.Laws.{IsKnown, with_modes}
+use Rattle.screen_drawing.specs.Length.{IsSmallScreen, IsWithin}
+use Rattle.screen_drawing.specs.Local.{IsLocalList}
 use Rattle.vt100_core.specs.Picture.{size_of}
-use Rattle.vt100_state.specs.State.{State, IsState}
-use Rattle.vt100_state.specs.Shown.{shown_state}
-use Rattle.vt100_state.specs.Made.{Act, made}
-use Rattle.vt100_state.specs.Holds.{AreActs}
+use Rattle.screen_model.specs.State.{State, IsState}
+use Rattle.screen_model.specs.Shown.{shown_state}
+use Rattle.screen_model.specs.Made.{Act, made}
+use Rattle.screen_model.specs.Holds.{AreActs}
 use Rattle.vt100.specs.Writers.{contents_formatted, state_formatted, contents_diff, state_diff, cursor_state_formatted}
 use Rattle.vt100.specs.Writers.{rows_formatted, rows_diff}
 use Rattle.vt100.specs.WriterLaws.{IsUnscrolled, IsPlainlyShown}

@@ -2,10 +2,10 @@
 use Rattle.std.specs.Prelude.{◌≡◌, ◌⊎◌, Bool, true, false, List, [], ◌∷◌}
 use Rattle.vte_core.specs.Event.{Event}
 use Rattle.vt100_rows.specs.Row.{RowView}
-use Rattle.vt100_state.specs.State.{State}
-use Rattle.vt100_state.specs.Step.{Report}
-use Rattle.vt100_state.specs.Call.{Call, ScreenView, Hears}
-use Rattle.vt100_state.specs.Effect.{Effect, effect}
+use Rattle.screen_model.specs.State.{State}
+use Rattle.screen_model.specs.Step.{Report}
+use Rattle.screen_model.specs.Call.{Call, ScreenView, Hears}
+use Rattle.screen_model.specs.Effect.{Effect, effect}
 use Rattle.vt100.specs.Memory.{may_take_memory}
 use Rattle.vt100.specs.Tries.{SameBounds, HearsFront, alive}
 

@@ -1,10 +1,10 @@
 -- Laws of what events and acts make of a screen.
 use Rattle.std.specs.Prelude.{◌≡◌, ℕ, false, List, [], ◌∷◌, ◌++◌}
 use Rattle.vte_core.specs.Event.{Event}
-use Rattle.vt100_state.specs.State.{State}
-use Rattle.vt100_state.specs.Call.{ScreenView}
-use Rattle.vt100_state.specs.Step.{resized_to}
-use Rattle.vt100_state.specs.Made.{Act, Fed, Resized, played, events_added, bytes_fed, made_on, made}
+use Rattle.screen_model.specs.State.{State}
+use Rattle.screen_model.specs.Call.{ScreenView}
+use Rattle.screen_model.specs.Step.{resized_to}
+use Rattle.screen_model.specs.Made.{Act, Fed, Resized, played, events_added, bytes_fed, made_on, made}
 use Rattle.vt100.specs.Tries.{alive}
 use Rattle.vt100.specs.Goes.{GoesThrough}
 use Rattle.vt100.specs.Parsing.{ParserView, StandsAt}

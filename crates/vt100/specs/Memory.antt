@@ -3,8 +3,8 @@ use Rattle.std.specs.Prelude.{ℕ, ◌==◌, Bool, false, not, ◌&&◌, ◌||�
 use Rattle.std.specs.Int.{is_in_range}
 use Rattle.std.specs.List.{list_any}
 use Rattle.vte_core.specs.Event.{Event, Print, Execute, Hook, Put, Unhook, Osc, Csi, Esc}
-use Rattle.vt100_state.specs.State.{State, alternate_sheet}
-use Rattle.vt100_state.specs.Effect.{effect, is_unhandled}
+use Rattle.screen_model.specs.State.{State, alternate_sheet}
+use Rattle.screen_model.specs.Effect.{effect, is_unhandled}
 
 -- rows that leave the shown sheet at its top are kept
 abbrev pub keeps_rows : State → Bool

@@ -1,6 +1,6 @@
 -- What a parser ends as, where a part of it was lent.
 use Rattle.std.specs.Borrow.{Lends, LendsBoth, RattleType, MutBor, Fml}
-use Rattle.vt100_state.specs.Call.{ScreenView}
+use Rattle.screen_model.specs.Call.{ScreenView}
 use Rattle.vt100.specs.Parsing.{ParserView}
 use Rattle.vt100.specs.contracts.parser.Parser.{the_row}
 use Rattle.vt100.specs.contracts.screen.Screen.{the_row as screen_row}

@@ -2,8 +2,8 @@
 use Rattle.std.specs.Prelude.{◌≡◌, ℕ, List}
 use Rattle.vte_core.specs.declared.Parser.{Parser}
 use Rattle.vte_core.specs.Standing.{Stands}
-use Rattle.vt100_state.specs.Call.{Call, ScreenView}
-use Rattle.vt100_state.specs.Made.{Act, bytes_fed, made}
+use Rattle.screen_model.specs.Call.{Call, ScreenView}
+use Rattle.screen_model.specs.Made.{Act, bytes_fed, made}
 use Rattle.vt100.specs.Tries.{alive}
 
 -- what reads the bytes, the screen, and the callbacks that are told

@@ -3,10 +3,10 @@ use Rattle.std.specs.Prelude.{◌≡◌, ℕ, Bool, false, List, [], ◌∷◌, 
 use Rattle.std.specs.Str.{chars}
 use Rattle.vte_core.specs.Event.{Print}
 use Rattle.vt100_rows.specs.Row.{RowView}
-use Rattle.vt100_state.specs.State.{State}
-use Rattle.vt100_state.specs.Step.{Stepped, quietly, typed}
-use Rattle.vt100_state.specs.Call.{Call, ScreenView}
-use Rattle.vt100_state.specs.Effect.{is_unhandled}
+use Rattle.screen_model.specs.State.{State}
+use Rattle.screen_model.specs.Step.{Stepped, quietly, typed}
+use Rattle.screen_model.specs.Call.{Call, ScreenView}
+use Rattle.screen_model.specs.Effect.{is_unhandled}
 use Rattle.vt100.specs.Goes.{GoesThrough}
 
 -- characters, one after another

@@ -2,8 +2,8 @@
 use Rattle.std.specs.Prelude.{◌≡◌, true, false, not}
 use Rattle.vt100_forms.specs.Attrs.{IsProper}
 use Rattle.vt100_core.specs.Grid.{IsAllocated}
-use Rattle.vt100_state.specs.State.{IsProperSheet}
-use Rattle.vt100_state.specs.Call.{ScreenView}
+use Rattle.screen_model.specs.State.{IsProperSheet}
+use Rattle.screen_model.specs.Call.{ScreenView}
 use Rattle.vt100.specs.declared.screen.Screen.TheInside.{Inside}
 
 abbrev pub screen_of : Inside → ScreenView

@@ -4,7 +4,7 @@ use Rattle.std.specs.Prelude.{if◌then◌else◌}
 use Rattle.vt100_forms.specs.declared.attrs.Attrs.{Attrs}
 use Rattle.vt100_forms.specs.declared.attrs.Color.{Color}
 use Rattle.vt100_forms.specs.declared.attrs.Color.TheVariants.{Rgb}
-use Rattle.vt100_state.specs.Sgr.{Read, read_groups, one_more, nothing, coloured}
+use Rattle.screen_model.specs.Sgr.{Read, read_groups, one_more, nothing, coloured}
 use Rattle.vt100.specs.declared.screen.sgr.End.{End}
 use Rattle.vt100.specs.declared.screen.sgr.End.TheVariants.{Value, Kind}
 

@@ -3,9 +3,9 @@ use Rattle.std.specs.Prelude.{◌≡◌, ◌⊎◌, ℕ, Bool, true, false, List
 use Rattle.vt100_rows.specs.Row.{RowView}
 use Rattle.vt100_core.specs.Grid.{SameLimits}
 use Rattle.vt100_core.specs.Resize.{resized}
-use Rattle.vt100_state.specs.State.{State, main_sheet, alternate_sheet}
-use Rattle.vt100_state.specs.Step.{Stepped, Partly, Report}
-use Rattle.vt100_state.specs.Call.{ScreenView, Hears}
+use Rattle.screen_model.specs.State.{State, main_sheet, alternate_sheet}
+use Rattle.screen_model.specs.Step.{Stepped, Partly, Report}
+use Rattle.screen_model.specs.Call.{ScreenView, Hears}
 use Rattle.vt100.specs.declared.error.ScreenError.{ScreenError}
 use Rattle.vt100.specs.declared.error.ScreenError.TheVariants.{Memory, Failed}
 

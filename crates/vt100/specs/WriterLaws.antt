@@ -7,18 +7,18 @@ use Rattle.vt100_forms.specs.declared.modes.MouseProtocolEncoding.TheVariants as
 use Rattle.vt100_forms.specs.declared.modes.CursorStyle.TheVariants as style
 use Rattle.vt100_forms.specs.declared.modes.CursorStyle.{CursorStyle}
 use Rattle.vt100_cells.specs.Cell.{CellView, default_cell}
-use Rattle.vt100_picture.specs.Term.{Size, Modes, Shown, Term}
-use Rattle.vt100_picture.specs.Apply.{run}
-use Rattle.vt100_picture.specs.Leads.{Leads}
-use Rattle.vt100_picture.specs.FormText.{AreForms}
-use Rattle.vt100_redraw.specs.declared.pen.Pen.{Pen}
+use Rattle.terminal_model.specs.Term.{Size, Modes, Shown, Term}
+use Rattle.terminal_model.specs.Apply.{run}
+use Rattle.terminal_model.specs.Leads.{Leads}
+use Rattle.terminal_model.specs.FormText.{AreForms}
+use Rattle.row_drawing.specs.declared.pen.Pen.{Pen}
 use Rattle.vt100_rows.specs.Laws.{IsAtRow, IsRowDrawn}
-use Rattle.vt100_writers.specs.Rows.{is_continued}
-use Rattle.vt100_writers.specs.Laws.{IsScreen, with_modes}
-use Rattle.vt100_writers.specs.Screen as picture
+use Rattle.screen_drawing.specs.Rows.{is_continued}
+use Rattle.screen_drawing.specs.Laws.{IsScreen, with_modes}
+use Rattle.screen_drawing.specs.Screen as picture
 use Rattle.vt100_core.specs.Picture.{size_of}
-use Rattle.vt100_state.specs.State.{State, IsState}
-use Rattle.vt100_state.specs.Shown.{shown_state}
+use Rattle.screen_model.specs.State.{State, IsState}
+use Rattle.screen_model.specs.Shown.{shown_state}
 use Rattle.vt100.specs.Writers.{contents_formatted, state_formatted, contents_diff, state_diff, cursor_state_formatted}
 use Rattle.vt100.specs.Writers.{rows_formatted, rows_diff}
 

@@ -4,14 +4,14 @@
 use Rattle.std.specs.Prelude.{ℕ, ◌+◌, ◌==◌, Bool, false, ◌&&◌, List, [], ◌∷◌, ◌++◌, None}
 use Rattle.vt100_forms.specs.Attrs.{default_attrs}
 use Rattle.vt100_forms.specs.Form.{Form, HideCursor, change, spell}
-use Rattle.vt100_redraw.specs.Writer.{Drawn}
+use Rattle.row_drawing.specs.Writer.{Drawn}
 use Rattle.vt100_rows.specs.Row.{RowView}
 use Rattle.vt100_rows.specs.Forms as row
-use Rattle.vt100_writers.specs.Modes.{switch, input_mode_formatted, input_mode_diff}
+use Rattle.screen_drawing.specs.Modes.{switch, input_mode_formatted, input_mode_diff}
 use Rattle.vt100_core.specs.Grid.{GridView, visible}
 use Rattle.vt100_core.specs.Writers as grid
-use Rattle.vt100_state.specs.State.{State}
-use Rattle.vt100_state.specs.Shown.{shown_state}
+use Rattle.screen_model.specs.State.{State}
+use Rattle.screen_model.specs.Shown.{shown_state}
 
 -- ---- the whole screen
 

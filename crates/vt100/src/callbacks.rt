@@ -1,7 +1,7 @@
 //! What a screen tells the program around it.
 ghost use Rattle.std.specs.Prelude.{◌≡◌, map, Bool};
-ghost use Rattle.vt100_state.specs.Call as said;
-ghost use Rattle.vt100_state.specs.Call.{ScreenView};
+ghost use Rattle.screen_model.specs.Call as said;
+ghost use Rattle.screen_model.specs.Call.{ScreenView};
 ghost use Rattle.vt100_rows.specs.Row.{RowView};
 ghost use Rattle.vt100.specs.CallOf.{call_of};
 

@@ -1,6 +1,6 @@
 //! The screen of a terminal.
 ghost use Rattle.std.specs.Prelude.{◌≡◌, Ok, Err, IsErr, IfOk, OnOk, OnErr, true};
-ghost use Rattle.vt100_state.specs.State.{fresh_state};
+ghost use Rattle.screen_model.specs.State.{fresh_state};
 ghost use Rattle.vt100.specs.Tries.{alive};
 ghost use Rattle.vt100.specs.declared.error.ScreenError.TheVariants.{Memory};
 
@@ -60,7 +60,7 @@ pub struct Screen {
 }
 
 impl Model for Screen {
-    ghost use Rattle.vt100_state.specs.Call.{ScreenView};
+    ghost use Rattle.screen_model.specs.Call.{ScreenView};
 
     ghost Value = { ScreenView };
 

@@ -13,7 +13,7 @@ use Rattle.vt100_rows.specs.Text.{written_text, IsBegun}
 use Rattle.vt100_rows.proofs.TextLemmas.{IsBegun-within}
 use Rattle.vt100_core.specs.Grid.{GridView, visible, visible_at}
 use Rattle.vt100_core.specs.Contents.{is_below_wrapped, shown_line, shown_lines, newlines_cut}
-use Rattle.vt100_sheet.proofs.SheetLemmas.{row_at-by_position, length-rows_by_position}
+use Rattle.vt100_rows.proofs.SheetLemmas.{row_at-by_position, length-rows_by_position}
 
 -- ---- the newlines at the end
 

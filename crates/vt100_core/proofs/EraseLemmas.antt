@@ -9,13 +9,13 @@ use Rattle.vt100_cells.specs.Cells.{cell_at, by_position}
 use Rattle.vt100_rows.specs.Row.{RowView, cleared_row, wiped_row, inserted, removed}
 use Rattle.vt100_rows.proofs.RowLemmas.{IsRow-cleared, IsRow-wiped, IsRow-inserted, IsRow-removed}
 use Rattle.vt100_cells.proofs.ListLemmas.{length-by_position}
-use Rattle.vt100_sheet.specs.Sheet.{row_at, rows_by_position, IsRowOf}
+use Rattle.vt100_rows.specs.Sheet.{row_at, rows_by_position, IsRowOf}
 use Rattle.vt100_core.specs.Grid.{GridView, IsGrid, IsAllocated, with_rows, with_cursor_row, row_of_cursor}
 use Rattle.vt100_core.specs.Erase.{all_erased, all_erased_forward, all_erased_backward, columns_to_cursor, row_erased}
 use Rattle.vt100_core.specs.Erase.{columns_erased, cells_inserted, cells_deleted}
-use Rattle.vt100_sheet.specs.Sheet.{erased_forward_at, erased_backward_at}
-use Rattle.vt100_sheet.proofs.SheetLemmas.{length-rows_by_position, IsSheet-by_position}
-use Rattle.vt100_sheet.proofs.SheetLemmas.{IsRowOf-cond, wrapped-cond}
+use Rattle.vt100_rows.specs.Sheet.{erased_forward_at, erased_backward_at}
+use Rattle.vt100_rows.proofs.SheetLemmas.{length-rows_by_position, IsSheet-by_position}
+use Rattle.vt100_rows.proofs.SheetLemmas.{IsRowOf-cond, wrapped-cond}
 use Rattle.vt100_core.proofs.GridLemmas.{IsGrid-rows, IsGrid-with_row}
 
 -- ---- the code

@@ -4,18 +4,18 @@ use Rattle.std.specs.Prelude.{unwrap_or}
 use Rattle.vt100_forms.specs.declared.attrs.Attrs.{Attrs}
 use Rattle.vt100_forms.specs.Attrs.{IsProper, HasByteColors, default_attrs}
 use Rattle.vt100_forms.specs.Form.{Form, spell}
-use Rattle.vt100_picture.specs.FormText.{AreForms, AreSentForms}
-use Rattle.vt100_picture.specs.Term.{Size, Shown, IsShown}
-use Rattle.vt100_redraw.specs.Writer.{Drawn}
-use Rattle.vt100_writers.specs.Laws as writers
-use Rattle.vt100_writers.specs.Screen as picture
-use Rattle.vt100_writers.specs.Laws.{IsKnown}
-use Rattle.vt100_writers.specs.Length as writers_length
-use Rattle.vt100_writers.specs.Length.{IsSmallScreen, IsWithin}
-use Rattle.vt100_writers.specs.Local.{IsLocalList}
-use Rattle.vt100_writers.proofs.Lengths.{each-short}
-use Rattle.vt100_writers.proofs.LocalScreens.{grid-local}
-use Rattle.vt100_writers.proofs.SmallScreens.{lists-sent, lists-forms}
+use Rattle.terminal_model.specs.FormText.{AreForms, AreSentForms}
+use Rattle.terminal_model.specs.Term.{Size, Shown, IsShown}
+use Rattle.row_drawing.specs.Writer.{Drawn}
+use Rattle.screen_drawing.specs.Laws as writers
+use Rattle.screen_drawing.specs.Screen as picture
+use Rattle.screen_drawing.specs.Laws.{IsKnown}
+use Rattle.screen_drawing.specs.Length as writers_length
+use Rattle.screen_drawing.specs.Length.{IsSmallScreen, IsWithin}
+use Rattle.screen_drawing.specs.Local.{IsLocalList}
+use Rattle.screen_drawing.proofs.Lengths.{each-short}
+use Rattle.screen_drawing.proofs.LocalScreens.{grid-local}
+use Rattle.screen_drawing.proofs.SmallScreens.{lists-sent, lists-forms}
 use Rattle.vt100_core.specs.Grid.{GridView}
 use Rattle.vt100_core.specs.Picture.{size_of, Extras}
 use Rattle.vt100_core.specs.Writers.{drawn_on, redrawn, contents_formatted, differing}

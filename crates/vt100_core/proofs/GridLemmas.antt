@@ -2,14 +2,14 @@
 use Rattle.std.proofs.Common.{◌≡◌, ℕ, ◌+◌, ◌-◌, ◌<◌, ◌≤◌, Bool, true, false, cond, ◌&&◌, List, [], ◌∷◌, length, set}
 use Rattle.std.proofs.Common.{min, refl, sym, ap, ◌∙◌, arith, length-set, nat_lt, subst}
 use Rattle.vt100_rows.specs.Row.{RowView}
-use Rattle.vt100_sheet.specs.Sheet.{rows_by_position, IsRowOf, IsSheet, moved_up, opened_line}
+use Rattle.vt100_rows.specs.Sheet.{rows_by_position, IsRowOf, IsSheet, moved_up, opened_line}
 use Rattle.vt100_core.specs.declared.scrollback.Scrollback.{Scrollback}
 use Rattle.vt100_core.specs.declared.scrollback.Scrollback.TheVariants.{Disabled, Enabled}
 use Rattle.vt100_core.specs.Grid.{KeptPart, IsKept, IsShownWide, GridView, IsGrid, IsAllocated, SameLimits, keeps_of}
 use Rattle.vt100_core.specs.Grid.{capacity_of, scrollback_of, new_grid, with_row, with_rows, is_in_region}
 use Rattle.vt100_core.specs.Lines.{lines_opened, lines_inserted, lines_deleted, scrolled_down}
-use Rattle.vt100_sheet.proofs.SheetLemmas.{length-rows_by_position, IsSheet-with_row}
-use Rattle.vt100_sheet.proofs.MoveLemmas.{IsSheet-moved_up, IsSheet-opened_line}
+use Rattle.vt100_rows.proofs.SheetLemmas.{length-rows_by_position, IsSheet-with_row}
+use Rattle.vt100_rows.proofs.MoveLemmas.{IsSheet-moved_up, IsSheet-opened_line}
 
 pub IsGrid-at : (g h : GridView) → g ≡ h → IsGrid h → IsGrid g
 IsGrid-at g h e i = rw e i

@@ -15,16 +15,16 @@ use Rattle.vt100_cells.proofs.ListLemmas.{Bounded-row, cell_at-whole}
 use Rattle.vt100_cells.proofs.JoinedCells.{base_col-within, Bounded-update}
 use Rattle.vt100_rows.specs.Row.{RowView, with_wrap, placed, joined_row, is_widening}
 use Rattle.vt100_rows.proofs.RowLemmas.{line-placed, IsRow-with_wrap}
-use Rattle.vt100_picture.specs.Position.{update}
-use Rattle.vt100_picture.specs.Term.{Size, Term}
-use Rattle.vt100_picture.specs.Apply.{with_line, print, join, down, wrap, is_dropped, input}
-use Rattle.vt100_picture.specs.Apply.{made_to_fit as fitted}
-use Rattle.vt100_sheet.specs.Sheet.{row_at, rows_by_position, moved_up, IsSheet, IsRowOf}
-use Rattle.vt100_sheet.specs.Picture.{lines_of, wraps_of}
-use Rattle.vt100_sheet.proofs.SheetLemmas.{IsSheet-with_row, row_at-by_position, length-rows_by_position}
-use Rattle.vt100_sheet.proofs.SheetLemmas.{rows_by_position_is}
-use Rattle.vt100_sheet.proofs.MoveLemmas.{IsSheet-moved_up}
-use Rattle.vt100_sheet.proofs.PictureLemmas.{lines-set, wraps-set, lines-up, wraps-up}
+use Rattle.terminal_model.specs.Position.{update}
+use Rattle.terminal_model.specs.Term.{Size, Term}
+use Rattle.terminal_model.specs.Apply.{with_line, print, join, down, wrap, is_dropped, input}
+use Rattle.terminal_model.specs.Apply.{made_to_fit as fitted}
+use Rattle.vt100_rows.specs.Sheet.{row_at, rows_by_position, moved_up, IsSheet, IsRowOf}
+use Rattle.vt100_rows.specs.Picture.{lines_of, wraps_of}
+use Rattle.vt100_rows.proofs.SheetLemmas.{IsSheet-with_row, row_at-by_position, length-rows_by_position}
+use Rattle.vt100_rows.proofs.SheetLemmas.{rows_by_position_is}
+use Rattle.vt100_rows.proofs.MoveLemmas.{IsSheet-moved_up}
+use Rattle.vt100_rows.proofs.PictureLemmas.{lines-set, wraps-set, lines-up, wraps-up}
 use Rattle.vt100_core.specs.Grid.{GridView, row_of_cursor, with_cursor_row, with_row, is_in_region}
 use Rattle.vt100_core.specs.Picture.{size_of, Extras, term_of, IsPlain, widens, EachPrintIsInput}
 use Rattle.vt100_core.specs.Scroll.{Scrolled, made_to_fit, wrapped_on, fed, scrolled_up}

@@ -14,9 +14,9 @@ use Rattle.vt100_cells.proofs.ListLemmas.{length-by_position}
 use Rattle.vt100_rows.specs.Row.{RowView, placed, joined_row, is_widening}
 use Rattle.vt100_rows.proofs.RowLemmas.{IsRow-placed}
 use Rattle.vt100_rows.proofs.JoinLemmas.{IsRow-joined}
-use Rattle.vt100_picture.specs.Apply.{is_dropped, input, inputs, apply}
-use Rattle.vt100_sheet.specs.Sheet.{row_at, IsRowOf}
-use Rattle.vt100_sheet.proofs.SheetLemmas.{IsSheet-with_row}
+use Rattle.terminal_model.specs.Apply.{is_dropped, input, inputs, apply}
+use Rattle.vt100_rows.specs.Sheet.{row_at, IsRowOf}
+use Rattle.vt100_rows.proofs.SheetLemmas.{IsSheet-with_row}
 use Rattle.vt100_core.specs.Grid.{GridView, row_of_cursor, with_cursor_row}
 use Rattle.vt100_core.specs.Picture.{size_of, Extras, term_of, EachTextIsInput}
 use Rattle.vt100_core.specs.Scroll.{made_to_fit}

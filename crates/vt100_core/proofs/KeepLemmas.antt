@@ -7,13 +7,13 @@ use Rattle.std.proofs.lemmas.List.{take-take}
 use Rattle.std.proofs.lemmas.Slice.{between_is}
 use Rattle.vt100_cells.specs.Cell.{default_cell}
 use Rattle.vt100_rows.specs.Row.{RowView, blank_row, grown, trimmed}
-use Rattle.vt100_sheet.specs.Sheet.{row_at, rows_by_position, IsRowOf, IsSheet, moved_up, changed_between}
-use Rattle.vt100_sheet.proofs.KeptLemmas.{wide_along, grown-wide}
+use Rattle.vt100_rows.specs.Sheet.{row_at, rows_by_position, IsRowOf, IsSheet, moved_up, changed_between}
+use Rattle.vt100_rows.proofs.KeptLemmas.{wide_along, grown-wide}
 use Rattle.vt100_core.specs.Grid.{KeptPart, IsShownWide}
 use Rattle.vt100_core.specs.Scroll.{widened, overflow, kept_after, pushed_out}
-use Rattle.vt100_sheet.proofs.SheetLemmas.{row_at-by_position, rows_by_position_is, length-rows_by_position}
-use Rattle.vt100_sheet.proofs.SheetLemmas.{IsSheet-blanks, rows_equal}
-use Rattle.vt100_sheet.proofs.MoveLemmas.{IsSheet-moved_up}
+use Rattle.vt100_rows.proofs.SheetLemmas.{row_at-by_position, rows_by_position_is, length-rows_by_position}
+use Rattle.vt100_rows.proofs.SheetLemmas.{IsSheet-blanks, rows_equal}
+use Rattle.vt100_rows.proofs.MoveLemmas.{IsSheet-moved_up}
 
 shown-read : (f : RowView → RowView) (rows : List RowView) (offset height first end k : ℕ) → k < length rows
     → first ≡ length rows - offset → end ≡ min (length rows) (first + height)

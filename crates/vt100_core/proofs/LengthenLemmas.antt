@@ -9,12 +9,12 @@ use Rattle.std.proofs.Math.ListN.{get_or-append}
 use Rattle.std.proofs.Math.Seq.{take-nil}
 use Rattle.vt100_cells.specs.Cell.{default_cell}
 use Rattle.vt100_rows.specs.Row.{RowView, IsRow, blank_row, resized_row}
-use Rattle.vt100_sheet.specs.Sheet.{row_at, IsRowOf, IsSheet}
-use Rattle.vt100_sheet.proofs.BackLemmas.{IsRow-resized_default}
-use Rattle.vt100_sheet.proofs.WidthLemmas.{length-resized}
+use Rattle.vt100_rows.specs.Sheet.{row_at, IsRowOf, IsSheet}
+use Rattle.vt100_rows.proofs.BackLemmas.{IsRow-resized_default}
+use Rattle.vt100_rows.proofs.WidthLemmas.{length-resized}
 use Rattle.vt100_core.specs.Grid.{KeptPart, IsKept, GridView, IsGrid, IsAllocated}
 use Rattle.vt100_core.specs.Resize.{down_rows, rows_back, lengthened}
-use Rattle.vt100_sheet.proofs.SheetLemmas.{IsRowOf-blank, IsSheet-none}
+use Rattle.vt100_rows.proofs.SheetLemmas.{IsRowOf-blank, IsSheet-none}
 use Rattle.vt100_core.proofs.GridLemmas.{IsNew-of, new-again, no-rows}
 use Rattle.vt100_core.proofs.KeepLemmas.{IsShownWide-none}
 

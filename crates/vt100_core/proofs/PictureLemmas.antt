@@ -7,12 +7,12 @@ use Rattle.vt100_cells.specs.Cell.{default_cell, is_filled}
 use Rattle.vt100_cells.specs.Cells.{cell_at}
 use Rattle.vt100_cells.specs.Line.{IsPaired, Bounded}
 use Rattle.vt100_cells.proofs.ListLemmas.{cell_at_past}
-use Rattle.vt100_picture.specs.Term.{IsTerm}
+use Rattle.terminal_model.specs.Term.{IsTerm}
 use Rattle.vt100_rows.specs.Row.{RowView}
-use Rattle.vt100_sheet.specs.Sheet.{row_at, IsSheet}
-use Rattle.vt100_sheet.specs.Picture.{lines_of, wraps_of}
-use Rattle.vt100_sheet.proofs.SheetLemmas.{rows_equal, row_at-by_position, length-rows_by_position}
-use Rattle.vt100_sheet.proofs.PictureLemmas.{lines-past, wraps-past}
+use Rattle.vt100_rows.specs.Sheet.{row_at, IsSheet}
+use Rattle.vt100_rows.specs.Picture.{lines_of, wraps_of}
+use Rattle.vt100_rows.proofs.SheetLemmas.{rows_equal, row_at-by_position, length-rows_by_position}
+use Rattle.vt100_rows.proofs.PictureLemmas.{lines-past, wraps-past}
 use Rattle.vt100_core.specs.Grid.{GridView, IsGrid, IsAllocated, visible_at, visible}
 use Rattle.vt100_core.specs.Picture.{size_of, shown_lines, shown_wraps, Extras, term_of}
 

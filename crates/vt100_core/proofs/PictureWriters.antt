@@ -15,23 +15,23 @@ use Rattle.vt100_cells.proofs.CellLemmas.{IsCell-empty}
 use Rattle.vt100_cells.proofs.ListLemmas.{cell_at_past}
 use Rattle.vt100_rows.specs.Row.{RowView}
 use Rattle.vt100_rows.specs.Forms.{redraw_job, redraw, difference_job, difference}
-use Rattle.vt100_picture.specs.Term.{Size, IsShown, blank_shown}
-use Rattle.vt100_picture.specs.Leads.{Leads}
-use Rattle.vt100_redraw.specs.declared.pen.Pen.{Pen}
-use Rattle.vt100_redraw.specs.Writer.{Drawn, Writer, ◌>>◌, skip}
-use Rattle.vt100_redraw.specs.RowWriter.{row_redraw, row_difference}
-use Rattle.vt100_writers.specs.Cursor as cursor
-use Rattle.vt100_writers.specs.Cursor.{place, is_at, arriving, last_cell, row_with_end, wait}
-use Rattle.vt100_writers.specs.Cursor.{wait_behind, wait_on_empty}
-use Rattle.vt100_writers.specs.Rows.{pen_at, afresh, is_continued, next_redraw, rows_redraw, next_difference}
-use Rattle.vt100_writers.specs.Rows.{rows_difference}
-use Rattle.vt100_writers.specs.Screen.{cursor_placed, grid_redraw, grid_contents_formatted, grid_difference}
-use Rattle.vt100_writers.specs.Laws.{with_grid_of}
-use Rattle.vt100_writers.proofs.Screens.{grid-redraw_leads, grid-difference_leads}
-use Rattle.vt100_writers.proofs.Cursor.{cursor-placed}
-use Rattle.vt100_sheet.specs.Sheet.{row_at}
-use Rattle.vt100_sheet.specs.Picture.{lines_of, wraps_of}
-use Rattle.vt100_sheet.proofs.PictureLemmas.{lines-past}
+use Rattle.terminal_model.specs.Term.{Size, IsShown, blank_shown}
+use Rattle.terminal_model.specs.Leads.{Leads}
+use Rattle.row_drawing.specs.declared.pen.Pen.{Pen}
+use Rattle.row_drawing.specs.Writer.{Drawn, Writer, ◌>>◌, skip}
+use Rattle.row_drawing.specs.RowWriter.{row_redraw, row_difference}
+use Rattle.screen_drawing.specs.Cursor as cursor
+use Rattle.screen_drawing.specs.Cursor.{place, is_at, arriving, last_cell, row_with_end, wait}
+use Rattle.screen_drawing.specs.Cursor.{wait_behind, wait_on_empty}
+use Rattle.screen_drawing.specs.Rows.{pen_at, afresh, is_continued, next_redraw, rows_redraw, next_difference}
+use Rattle.screen_drawing.specs.Rows.{rows_difference}
+use Rattle.screen_drawing.specs.Screen.{cursor_placed, grid_redraw, grid_contents_formatted, grid_difference}
+use Rattle.screen_drawing.specs.Laws.{with_grid_of}
+use Rattle.screen_drawing.proofs.Screens.{grid-redraw_leads, grid-difference_leads}
+use Rattle.screen_drawing.proofs.Cursor.{cursor-placed}
+use Rattle.vt100_rows.specs.Sheet.{row_at}
+use Rattle.vt100_rows.specs.Picture.{lines_of, wraps_of}
+use Rattle.vt100_rows.proofs.PictureLemmas.{lines-past}
 use Rattle.vt100_core.specs.Grid.{GridView, IsGrid, visible_at}
 use Rattle.vt100_core.specs.Contents.{is_below_wrapped}
 use Rattle.vt100_core.specs.Picture.{size_of, Extras}

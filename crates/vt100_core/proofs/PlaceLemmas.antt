@@ -9,10 +9,10 @@ use Rattle.std.proofs.lemmas.List.{get_or-drop, take_all, drop_all}
 use Rattle.std.proofs.Math.ListN.{get_or-append}
 use Rattle.vt100_cells.specs.Cell.{default_cell}
 use Rattle.vt100_rows.specs.Row.{RowView, blank_row, resized_row, trimmed, unwrapped}
-use Rattle.vt100_sheet.specs.Sheet.{row_at, rows_by_position, moved_up, first_rows}
-use Rattle.vt100_sheet.proofs.KeptLemmas.{grown-longer}
-use Rattle.vt100_sheet.proofs.SheetLemmas.{row_at-by_position, length-rows_by_position}
-use Rattle.vt100_sheet.proofs.WidthLemmas.{resized-longer}
+use Rattle.vt100_rows.specs.Sheet.{row_at, rows_by_position, moved_up, first_rows}
+use Rattle.vt100_rows.proofs.KeptLemmas.{grown-longer}
+use Rattle.vt100_rows.proofs.SheetLemmas.{row_at-by_position, length-rows_by_position}
+use Rattle.vt100_rows.proofs.WidthLemmas.{resized-longer}
 use Rattle.vt100_core.specs.Grid.{KeptPart, GridView, IsGrid, IsAllocated}
 use Rattle.vt100_core.specs.Scroll.{Scrolled, widened, overflow, kept_after, up_count, left_rows}
 use Rattle.vt100_core.specs.Scroll.{scrolled_up}

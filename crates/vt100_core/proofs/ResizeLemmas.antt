@@ -8,18 +8,18 @@ use Rattle.vt100_cells.specs.Cell.{default_cell}
 use Rattle.vt100_cells.specs.Line.{extended}
 use Rattle.vt100_cells.specs.Cells.{cell_at, by_position}
 use Rattle.vt100_rows.specs.Row.{RowView, blank_row, truncated, grown, resized_row, unwrapped}
-use Rattle.vt100_sheet.specs.Sheet.{row_at, rows_by_position, IsSheet}
-use Rattle.vt100_sheet.specs.Sheet.{first_rows}
+use Rattle.vt100_rows.specs.Sheet.{row_at, rows_by_position, IsSheet}
+use Rattle.vt100_rows.specs.Sheet.{first_rows}
 use Rattle.vt100_core.specs.Resize.{whole_screen, up_rows, shortened, with_width, down_rows, rows_back, lengthened}
 use Rattle.vt100_core.specs.Resize.{resized}
-use Rattle.vt100_sheet.proofs.WidthLemmas.{lt_ltb, IsRowOf-resized}
-use Rattle.vt100_sheet.specs.Sheet.{first_rows}
+use Rattle.vt100_rows.proofs.WidthLemmas.{lt_ltb, IsRowOf-resized}
+use Rattle.vt100_rows.specs.Sheet.{first_rows}
 use Rattle.vt100_core.specs.Grid.{KeptPart, IsKept, GridView, IsGrid, IsAllocated}
 use Rattle.vt100_core.specs.Scroll.{Scrolled}
 use Rattle.vt100_core.specs.Scroll.{scrolled_up}
-use Rattle.vt100_sheet.proofs.SheetLemmas.{length-rows_by_position, IsSheet-by_position}
-use Rattle.vt100_sheet.proofs.SheetLemmas.{IsRowOf-cond, wrapped-cond, IsSheet-none}
-use Rattle.vt100_sheet.proofs.MoveLemmas.{IsRowOf-unwrapped}
+use Rattle.vt100_rows.proofs.SheetLemmas.{length-rows_by_position, IsSheet-by_position}
+use Rattle.vt100_rows.proofs.SheetLemmas.{IsRowOf-cond, wrapped-cond, IsSheet-none}
+use Rattle.vt100_rows.proofs.MoveLemmas.{IsRowOf-unwrapped}
 use Rattle.vt100_core.proofs.GridLemmas.{IsNew-of, new-again, no-rows}
 use Rattle.vt100_core.proofs.KeepLemmas.{IsShownWide-none}
 

@@ -14,9 +14,9 @@ use Rattle.vt100_cells.proofs.WidthLemmas.{printable-is}
 use Rattle.vt100_cells.proofs.ListLemmas.{length-by_position}
 use Rattle.vt100_rows.specs.Row.{RowView, blank_row, placed, placed_each}
 use Rattle.vt100_rows.proofs.RowRuns.{run_row-each, IsRow-each}
-use Rattle.vt100_sheet.specs.Sheet.{IsRowOf}
-use Rattle.vt100_sheet.specs.Sink.{TakesAll}
-use Rattle.vt100_sheet.proofs.SinkLemmas.{TakesAll-append}
+use Rattle.vt100_rows.specs.Sheet.{IsRowOf}
+use Rattle.vt100_rows.specs.Sink.{TakesAll}
+use Rattle.vt100_rows.proofs.SinkLemmas.{TakesAll-append}
 use Rattle.vt100_core.specs.declared.printed.Printed.TheVariants.{Spacing}
 use Rattle.vt100_core.specs.Grid.{GridView, IsGrid, IsAllocated, row_of_cursor, with_cursor_row}
 use Rattle.vt100_core.specs.Scroll.{Scrolled, wrapped_on, made_to_fit}

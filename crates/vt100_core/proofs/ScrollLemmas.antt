@@ -5,7 +5,7 @@ use Rattle.std.proofs.lemmas.Bool.{eq-eqb, eqb-true, and_parts}
 use Rattle.std.proofs.lemmas.Bool.Decides.{nat_tests}
 use Rattle.vt100_rows.specs.Row.{RowView, with_wrap}
 use Rattle.vt100_rows.proofs.RowLemmas.{IsRow-with_wrap}
-use Rattle.vt100_sheet.specs.Sheet.{row_at, rows_by_position, IsSheet, moved_up}
+use Rattle.vt100_rows.specs.Sheet.{row_at, rows_by_position, IsSheet, moved_up}
 use Rattle.vt100_core.specs.Grid.{KeptPart, GridView, IsGrid, IsShownWide, with_row, with_rows}
 use Rattle.vt100_core.specs.Scroll.{widened, kept_after, pushed_out, up_count, left_rows, is_kept_from}
 use Rattle.vt100_core.specs.Scroll.{scrolled_up}

@@ -6,7 +6,7 @@ use Rattle.std.proofs.lemmas.Bool.Decides.{nat_tests}
 use Rattle.std.proofs.lemmas.List.{drop_all}
 use Rattle.vt100_rows.specs.Row.{RowView, blank_row}
 use Rattle.vt100_core.specs.Grid.{GridView, visible, visible_at, visible_row_at}
-use Rattle.vt100_sheet.proofs.SheetLemmas.{row_at-by_position, length-rows_by_position}
+use Rattle.vt100_rows.proofs.SheetLemmas.{row_at-by_position, length-rows_by_position}
 
 pub shown-some : (g : GridView) (n : ℕ) (v : RowView) → visible_row_at g n ≡ Some v → n < length g.rows
 shown-some g n v e = grind (arith, nat_tests)

@@ -7,9 +7,9 @@ use Rattle.std.proofs.lemmas.List.{append-nil}
 use Rattle.std.proofs.Math.Seq.{drop-nil, take-nil}
 use Rattle.vt100_cells.specs.Cell.{default_cell}
 use Rattle.vt100_rows.specs.Row.{RowView, grown, trimmed}
-use Rattle.vt100_sheet.specs.Sheet.{row_at, rows_by_position, changed_between, moved_up}
-use Rattle.vt100_sheet.proofs.KeptLemmas.{grown-longer}
-use Rattle.vt100_sheet.proofs.SheetLemmas.{rows_by_position_is}
+use Rattle.vt100_rows.specs.Sheet.{row_at, rows_by_position, changed_between, moved_up}
+use Rattle.vt100_rows.proofs.KeptLemmas.{grown-longer}
+use Rattle.vt100_rows.proofs.SheetLemmas.{rows_by_position_is}
 use Rattle.vt100_core.specs.Grid.{KeptPart, IsKept, IsShownWide, GridView, is_in_region}
 use Rattle.vt100_core.specs.Cursor.{moved_rows_down}
 use Rattle.vt100_core.specs.Scroll.{Scrolled, widened, overflow, kept_after, pushed_out, up_count, left_rows}

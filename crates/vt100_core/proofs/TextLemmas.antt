@@ -19,14 +19,14 @@ use Rattle.vt100_rows.proofs.RowLemmas.{IsRow-placed}
 use Rattle.vt100_rows.proofs.JoinLemmas.{IsRow-join, length-join}
 use Rattle.vt100_cells.proofs.ListLemmas.{length-by_position}
 use Rattle.vt100_core.specs.declared.printed.Printed.TheVariants.{Nothing, Joined}
-use Rattle.vt100_sheet.specs.Sheet.{row_at, moved_up}
+use Rattle.vt100_rows.specs.Sheet.{row_at, moved_up}
 use Rattle.vt100_core.specs.Grid.{GridView, IsGrid, IsAllocated, with_row, with_cursor_row, row_of_cursor, is_in_region}
 use Rattle.vt100_core.specs.Cursor.{moved_rows_down}
 use Rattle.vt100_core.specs.Scroll.{Scrolled, scrolled_up, up_count, rows_past_bottom, fed, left_row, wrapped_on}
 use Rattle.vt100_core.specs.Scroll.{made_to_fit}
 use Rattle.vt100_core.specs.Text.{Drawn, put_at, spaced, carried, joined, printed}
-use Rattle.vt100_picture.specs.Apply.{is_dropped}
-use Rattle.vt100_sheet.proofs.SheetLemmas.{length-rows_by_position}
+use Rattle.terminal_model.specs.Apply.{is_dropped}
+use Rattle.vt100_rows.proofs.SheetLemmas.{length-rows_by_position}
 use Rattle.vt100_core.proofs.EraseLemmas.{IsGrid-cursor_row, cursor_row_of}
 use Rattle.vt100_core.proofs.ScrollLemmas.{too-wide}
 

@@ -16,7 +16,7 @@ use Rattle.vt100_cells.proofs.ListLemmas.{length-by_position}
 use Rattle.vt100_cells.proofs.WidthLemmas.{drawn-is}
 use Rattle.vt100_rows.specs.Row.{RowView, blank_row, placed}
 use Rattle.vt100_rows.proofs.RowLemmas.{IsRow-placed}
-use Rattle.vt100_sheet.specs.Sheet.{IsRowOf}
+use Rattle.vt100_rows.specs.Sheet.{IsRowOf}
 use Rattle.vt100_core.specs.Grid.{GridView, IsGrid, IsAllocated, row_of_cursor, with_cursor_row}
 use Rattle.vt100_core.specs.Scroll.{Scrolled, wrapped_on, made_to_fit}
 use Rattle.vt100_core.specs.Text.{Drawn, IsWide, put_at, placed_pairs, printed, printed_all}

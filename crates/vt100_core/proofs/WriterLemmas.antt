@@ -9,17 +9,17 @@ use Rattle.vt100_forms.specs.declared.position.Pos.{Pos}
 use Rattle.vt100_forms.specs.Form.{Form, Text, Lf, spell}
 use Rattle.vt100_forms.specs.Attrs.{default_attrs}
 use Rattle.vt100_cells.specs.Cell.{CellView, has_text}
-use Rattle.vt100_picture.specs.Term.{Size, Shown}
-use Rattle.vt100_redraw.specs.declared.pen.Pen.{Pen}
-use Rattle.vt100_redraw.specs.Writer.{Drawn, ◌>>◌}
-use Rattle.vt100_redraw.specs.Writes.{IsBegun, Wrote}
-use Rattle.vt100_redraw.proofs.WritesLemmas.{spell-joined, begun-more, begun-later, wrote_then, begun_first, begun_then}
-use Rattle.vt100_redraw.proofs.WritesLemmas.{wrote_skip}
-use Rattle.vt100_writers.specs.Rows.{afresh, pen_at}
-use Rattle.vt100_writers.specs.Screen.{cursor_placed}
-use Rattle.vt100_writers.specs.Cursor as cursor
-use Rattle.vt100_writers.specs.Cursor.{place, arriving, is_at, last_col, last_cell, row_with_end, printed_with}
-use Rattle.vt100_writers.specs.Cursor.{wait_behind, wait_on_empty, wait}
+use Rattle.terminal_model.specs.Term.{Size, Shown}
+use Rattle.row_drawing.specs.declared.pen.Pen.{Pen}
+use Rattle.row_drawing.specs.Writer.{Drawn, ◌>>◌}
+use Rattle.row_drawing.specs.Writes.{IsBegun, Wrote}
+use Rattle.row_drawing.proofs.WritesLemmas.{spell-joined, begun-more, begun-later, wrote_then, begun_first, begun_then}
+use Rattle.row_drawing.proofs.WritesLemmas.{wrote_skip}
+use Rattle.screen_drawing.specs.Rows.{afresh, pen_at}
+use Rattle.screen_drawing.specs.Screen.{cursor_placed}
+use Rattle.screen_drawing.specs.Cursor as cursor
+use Rattle.screen_drawing.specs.Cursor.{place, arriving, is_at, last_col, last_cell, row_with_end, printed_with}
+use Rattle.screen_drawing.specs.Cursor.{wait_behind, wait_on_empty, wait}
 use Rattle.vt100_rows.specs.Row.{RowView}
 use Rattle.vt100_rows.specs.Forms.{redraw, difference}
 use Rattle.vt100_core.specs.Grid.{GridView, visible_at}

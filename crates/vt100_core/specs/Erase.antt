@@ -2,7 +2,7 @@
 use Rattle.std.specs.Prelude.{ℕ, ◌+◌, ◌-◌, min}
 use Rattle.vt100_forms.specs.declared.attrs.Attrs.{Attrs}
 use Rattle.vt100_rows.specs.Row.{cleared_row, wiped_row, inserted, removed}
-use Rattle.vt100_sheet.specs.Sheet.{row_at, erased_forward_at, erased_backward_at}
+use Rattle.vt100_rows.specs.Sheet.{row_at, erased_forward_at, erased_backward_at}
 use Rattle.vt100_core.specs.Grid.{GridView, with_rows, with_cursor_row, row_of_cursor}
 
 -- every row is empty

@@ -4,10 +4,10 @@ use Rattle.vt100_forms.specs.declared.attrs.Attrs.{Attrs}
 use Rattle.vt100_forms.specs.declared.position.Pos.{Pos}
 use Rattle.vt100_forms.specs.Attrs.{IsProper, HasByteColors, default_attrs}
 use Rattle.vt100_forms.specs.Form.{Form, spell}
-use Rattle.vt100_picture.specs.FormText.{AreForms, AreSentForms}
-use Rattle.vt100_sheet.specs.Picture.{lines_of}
-use Rattle.vt100_writers.specs.Length.{IsWithin}
-use Rattle.vt100_writers.specs.Local.{IsLocalList}
+use Rattle.terminal_model.specs.FormText.{AreForms, AreSentForms}
+use Rattle.vt100_rows.specs.Picture.{lines_of}
+use Rattle.screen_drawing.specs.Length.{IsWithin}
+use Rattle.screen_drawing.specs.Local.{IsLocalList}
 use Rattle.vt100_core.specs.Grid.{GridView}
 use Rattle.vt100_core.specs.Picture.{size_of, Extras}
 use Rattle.vt100_core.specs.Writers.{drawn_on, cursor_position_formatted, contents_formatted, differing}

@@ -3,7 +3,7 @@ use Rattle.std.specs.Prelude.{ℕ, ◌+◌, ◌-◌, ◌^◌, ◌<◌, ◌≤◌
 use Rattle.std.specs.Prelude.{length, replicate, slice_set, slice_get, Option, Some, None, if◌then◌else◌}
 use Rattle.vt100_cells.specs.Cell.{CellView}
 use Rattle.vt100_rows.specs.Row.{RowView, IsRow, blank_row}
-use Rattle.vt100_sheet.specs.Sheet.{row_at, rows_by_position, IsSheet}
+use Rattle.vt100_rows.specs.Sheet.{row_at, rows_by_position, IsSheet}
 use Rattle.vt100_core.specs.declared.scrollback.Scrollback.{Scrollback}
 use Rattle.vt100_core.specs.declared.scrollback.Scrollback.TheVariants.{Disabled, Enabled}
 

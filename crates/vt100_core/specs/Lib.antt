@@ -19,5 +19,5 @@ pub use Rattle.vt100_cells.specs.Cells
 pub use Rattle.vt100_cells.specs.Line
 pub use Rattle.vt100_rows.specs.Row
 pub use Rattle.vt100_rows.specs.Text as RowText
-pub use Rattle.vt100_sheet.specs.Sheet
-pub use Rattle.vt100_sheet.specs.Sink
+pub use Rattle.vt100_rows.specs.Sheet
+pub use Rattle.vt100_rows.specs.Sink

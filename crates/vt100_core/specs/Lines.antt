@@ -1,6 +1,6 @@
 -- Lines that come in and go.
 use Rattle.std.specs.Prelude.{ℕ, ◌+◌, ◌-◌, ◌&&◌, nat_lt, min, if◌then◌else◌}
-use Rattle.vt100_sheet.specs.Sheet.{moved_up, opened_line}
+use Rattle.vt100_rows.specs.Sheet.{moved_up, opened_line}
 use Rattle.vt100_core.specs.Grid.{GridView, is_in_region, with_rows}
 use Rattle.vt100_core.specs.Cursor.{moved_rows_up}
 

@@ -7,9 +7,9 @@ use Rattle.vt100_forms.specs.Form.{Text}
 use Rattle.vt100_cells.specs.Cell.{CellView, default_cell, columns_of}
 use Rattle.vt100_cells.specs.Cells.{cell_at}
 use Rattle.vt100_rows.specs.Row.{is_widening}
-use Rattle.vt100_picture.specs.Term.{Size, Modes, Term}
-use Rattle.vt100_picture.specs.Apply.{input, apply}
-use Rattle.vt100_sheet.specs.Picture.{lines_of, wraps_of}
+use Rattle.terminal_model.specs.Term.{Size, Modes, Term}
+use Rattle.terminal_model.specs.Apply.{input, apply}
+use Rattle.vt100_rows.specs.Picture.{lines_of, wraps_of}
 use Rattle.vt100_core.specs.Grid.{GridView, IsGrid, IsAllocated, row_of_cursor, visible_at}
 use Rattle.vt100_core.specs.Text.{printed, printed_all}
 

@@ -3,7 +3,7 @@ use Rattle.std.specs.Prelude.{◌≡◌, ℕ, ◌+◌, ◌-◌, ◌<◌, ◌==�
 use Rattle.std.specs.Prelude.{replicate, if◌then◌else◌}
 use Rattle.vt100_cells.specs.Cell.{default_cell}
 use Rattle.vt100_rows.specs.Row.{RowView, blank_row, resized_row, unwrapped}
-use Rattle.vt100_sheet.specs.Sheet.{row_at, rows_by_position, first_rows}
+use Rattle.vt100_rows.specs.Sheet.{row_at, rows_by_position, first_rows}
 use Rattle.vt100_core.specs.Grid.{GridView, IsGrid, IsAllocated}
 use Rattle.vt100_core.specs.Scroll.{Scrolled, kept_after, scrolled_up}
 

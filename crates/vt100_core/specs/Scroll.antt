@@ -4,7 +4,7 @@ use Rattle.std.specs.Prelude.{ℕ, ◌+◌, ◌-◌, ◌^◌, ◌==◌, Bool, no
 use Rattle.std.specs.Prelude.{map, if◌then◌else◌}
 use Rattle.vt100_cells.specs.Cell.{default_cell}
 use Rattle.vt100_rows.specs.Row.{RowView, grown, trimmed, with_wrap}
-use Rattle.vt100_sheet.specs.Sheet.{row_at, rows_by_position, moved_up, changed_between}
+use Rattle.vt100_rows.specs.Sheet.{row_at, rows_by_position, moved_up, changed_between}
 use Rattle.vt100_core.specs.Grid.{KeptPart, GridView, with_row, with_rows, is_in_region}
 use Rattle.vt100_core.specs.Cursor.{moved_rows_down}
 

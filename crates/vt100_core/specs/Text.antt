@@ -4,8 +4,8 @@ use Rattle.std.specs.Prelude.{◌≡◌, Some, if◌then◌else◌}
 use Rattle.vt100_forms.specs.declared.attrs.Attrs.{Attrs}
 use Rattle.vt100_cells.specs.Cell.{CellView, columns_of, drawn_columns, cell_of}
 use Rattle.vt100_rows.specs.Row.{RowView, placed, wiped_row, joined_cell, joined_row, is_widening}
-use Rattle.vt100_picture.specs.Apply.{is_dropped}
-use Rattle.vt100_sheet.specs.Sink.{TakesAll}
+use Rattle.terminal_model.specs.Apply.{is_dropped}
+use Rattle.vt100_rows.specs.Sink.{TakesAll}
 use Rattle.vt100_core.specs.Grid.{GridView, with_cursor_row, row_of_cursor}
 use Rattle.vt100_core.specs.Scroll.{Scrolled, made_to_fit, wrapped_on}
 use Rattle.vt100_core.specs.declared.printed.Printed.{Printed}

@@ -3,12 +3,12 @@ use Rattle.std.specs.Prelude.{ℕ, ◌≡◌, Contains, Option, unwrap_or}
 use Rattle.vt100_forms.specs.declared.attrs.Attrs.{Attrs}
 use Rattle.vt100_forms.specs.declared.position.Pos.{Pos}
 use Rattle.vt100_forms.specs.Attrs.{IsProper, default_attrs}
-use Rattle.vt100_picture.specs.Term.{Shown, shown_of}
-use Rattle.vt100_picture.specs.Leads.{Leads}
-use Rattle.vt100_sheet.specs.Picture.{lines_of, wraps_of}
-use Rattle.vt100_writers.specs.Cursor as cursor
-use Rattle.vt100_writers.specs.Screen.{grid_redraw, grid_difference}
-use Rattle.vt100_writers.specs.Laws.{IsDrawable, StandsAt, with_grid_of}
+use Rattle.terminal_model.specs.Term.{Shown, shown_of}
+use Rattle.terminal_model.specs.Leads.{Leads}
+use Rattle.vt100_rows.specs.Picture.{lines_of, wraps_of}
+use Rattle.screen_drawing.specs.Cursor as cursor
+use Rattle.screen_drawing.specs.Screen.{grid_redraw, grid_difference}
+use Rattle.screen_drawing.specs.Laws.{IsDrawable, StandsAt, with_grid_of}
 use Rattle.vt100_core.specs.Grid.{GridView, IsGrid, IsAllocated}
 use Rattle.vt100_core.specs.Picture.{size_of, Extras, term_of}
 use Rattle.vt100_core.specs.Writers.{drawn_on, cursor_position_formatted, redrawn, contents_formatted, differing}

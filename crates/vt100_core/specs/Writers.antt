@@ -10,14 +10,14 @@ use Rattle.vt100_forms.specs.Attrs.{default_attrs}
 use Rattle.vt100_forms.specs.Form.{Form, ClearAttrs, ClearScreen, EraseChar, Backspace, SaveCursor}
 use Rattle.vt100_forms.specs.Form.{RestoreCursor, change}
 use Rattle.vt100_forms.specs.Form.{spell}
-use Rattle.vt100_picture.specs.Term.{Shown, blank_shown}
-use Rattle.vt100_redraw.specs.Writer.{Drawn, Writer, ◌>>◌, skip}
-use Rattle.vt100_redraw.specs.Writes.{IsBegun}
-use Rattle.vt100_writers.specs.Rows.{pen_at, afresh}
-use Rattle.vt100_writers.specs.Screen.{cursor_placed}
-use Rattle.vt100_writers.specs.Cursor as cursor
+use Rattle.terminal_model.specs.Term.{Shown, blank_shown}
+use Rattle.row_drawing.specs.Writer.{Drawn, Writer, ◌>>◌, skip}
+use Rattle.row_drawing.specs.Writes.{IsBegun}
+use Rattle.screen_drawing.specs.Rows.{pen_at, afresh}
+use Rattle.screen_drawing.specs.Screen.{cursor_placed}
+use Rattle.screen_drawing.specs.Cursor as cursor
 use Rattle.vt100_rows.specs.Forms.{redraw, difference}
-use Rattle.vt100_sheet.specs.Picture.{lines_of, wraps_of}
+use Rattle.vt100_rows.specs.Picture.{lines_of, wraps_of}
 use Rattle.vt100_core.specs.Grid.{GridView, visible_at}
 use Rattle.vt100_core.specs.Contents.{is_below_wrapped}
 use Rattle.vt100_core.specs.Picture.{size_of}

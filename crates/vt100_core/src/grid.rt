@@ -21,10 +21,9 @@ use std::alloc::Global;
 use std::collections::VecDeque;
 use std::marker::Model;
 use vt100_forms::{GridError, Pos};
-use vt100_rows::Row;
-use vt100_sheet::Size;
-use vt100_sheet::kept_rows::clone_kept;
-use vt100_sheet::rows_edit::{blank_rows, clone_rows, reset_all};
+use vt100_rows::kept_rows::clone_kept;
+use vt100_rows::rows_edit::{blank_rows, clone_rows, reset_all};
+use vt100_rows::{Row, Size};
 
 /// The rows of a screen, its cursor, and the rows that scrolled off at its top.
 #[derive(Debug, Drop)]

@@ -17,5 +17,4 @@ pub use visible_rows::VisibleRows;
 pub use vt100_forms::{
     Color, CursorStyle, GridError, MouseProtocolEncoding, MouseProtocolMode, Pos, attrs, term,
 };
-pub use vt100_rows::{Cell, Row};
-pub use vt100_sheet::{RowSink, Size};
+pub use vt100_rows::{Cell, Row, RowSink, Size};

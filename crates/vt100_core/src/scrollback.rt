@@ -1,15 +1,15 @@
 //! The rows that left the screen at its top.
 ghost use Rattle.std.specs.Prelude.{◌≡◌, ◌-◌, ◌<◌, ◌≤◌, ◌==◌, length, take, IsOk, OnOk, OnErr, true};
 ghost use Rattle.vt100_rows.specs.Row.{blank_row};
-ghost use Rattle.vt100_sheet.specs.Sheet.{rows_by_position, IsSheet, changed_between};
-ghost use Rattle.vt100_sheet.specs.Sink.{TakesAll};
+ghost use Rattle.vt100_rows.specs.Sheet.{rows_by_position, IsSheet, changed_between};
+ghost use Rattle.vt100_rows.specs.Sink.{TakesAll};
 
 use std::collections::VecDeque;
 use vt100_forms::GridError;
 use vt100_rows::Row;
-use vt100_sheet::kept_rows::{drop_oldest, keep_rows, widen};
-use vt100_sheet::row_sink::{RowSink, give_rows};
-use vt100_sheet::rows_edit::{reset_between, turn_up};
+use vt100_rows::kept_rows::{drop_oldest, keep_rows, widen};
+use vt100_rows::row_sink::{RowSink, give_rows};
+use vt100_rows::rows_edit::{reset_between, turn_up};
 
 /// Whether a grid keeps rows that scroll off at its top, and how many at most.
 #[derive(Clone, Copy, Debug)]
@@ -36,7 +36,7 @@ impl ScrollbackState {
     ghost use Rattle.vt100_core.specs.Grid.{IsKept, IsShownWide, SameKeeping};
     ghost use Rattle.vt100_core.specs.KeptFields.{kept_of};
     ghost use Rattle.vt100_core.specs.Scroll.{kept_after, pushed_out, widened};
-    ghost use Rattle.vt100_sheet.specs.Sheet.{moved_up};
+    ghost use Rattle.vt100_rows.specs.Sheet.{moved_up};
 
     /// Takes the first `n` rows in, and leaves blank rows in their place. What this pushes out goes to the sink. None
     /// of the kept rows is shown then.

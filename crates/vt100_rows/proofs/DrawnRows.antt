@@ -12,16 +12,16 @@ use Rattle.vt100_forms.proofs.AttrsLemmas.{default-proper}
 use Rattle.vt100_cells.specs.Cell.{CellView}
 use Rattle.vt100_cells.specs.Cells.{cell_at}
 use Rattle.vt100_cells.proofs.ListLemmas.{Bounded-row}
-use Rattle.vt100_picture.specs.Position.{update}
-use Rattle.vt100_picture.specs.Term.{Term}
-use Rattle.vt100_picture.specs.Apply.{run}
-use Rattle.vt100_picture.proofs.Positions.{update-same, update-other, update-kept}
-use Rattle.vt100_redraw.specs.declared.pen.Pen.{Pen}
-use Rattle.vt100_redraw.specs.Writer.{Drawn, skip}
-use Rattle.vt100_redraw.specs.RowWriter.{row_redraw, row_difference}
-use Rattle.vt100_redraw.specs.Scene.{Scene, IsScene, IsLine, IsReady, IsDrawn, size_of, with_row}
-use Rattle.vt100_redraw.proofs.RowRedraw.{redraw-leads}
-use Rattle.vt100_redraw.proofs.RowStart.{difference-leads}
+use Rattle.terminal_model.specs.Position.{update}
+use Rattle.terminal_model.specs.Term.{Term}
+use Rattle.terminal_model.specs.Apply.{run}
+use Rattle.terminal_model.proofs.Positions.{update-same, update-other, update-kept}
+use Rattle.row_drawing.specs.declared.pen.Pen.{Pen}
+use Rattle.row_drawing.specs.Writer.{Drawn, skip}
+use Rattle.row_drawing.specs.RowWriter.{row_redraw, row_difference}
+use Rattle.row_drawing.specs.Scene.{Scene, IsScene, IsLine, IsReady, IsDrawn, size_of, with_row}
+use Rattle.row_drawing.proofs.RowRedraw.{redraw-leads}
+use Rattle.row_drawing.proofs.RowStart.{difference-leads}
 use Rattle.vt100_rows.specs.Row.{RowView, IsRow}
 use Rattle.vt100_rows.specs.Forms.{redraw_job, redraw, pen_at, formatted, difference_job, difference, differing}
 use Rattle.vt100_rows.specs.Laws.{screen_of, IsPlainRow, IsRowDrawn, EachRowIsDrawn, EachDifferenceIsDrawn}

@@ -1,11 +1,11 @@
 -- A row that is drawn.
 use Rattle.std.proofs.Common.{ℕ, ◌-◌, ◌≤◌, Bool, List, length, min, ap, cond}
 use Rattle.std.proofs.lemmas.Bool.{le-ltb}
-use Rattle.vt100_redraw.specs.declared.pen.Pen.{Pen}
-use Rattle.vt100_redraw.specs.Writer.{skip}
-use Rattle.vt100_redraw.specs.RowWriter.{row_redraw, row_difference}
-use Rattle.vt100_redraw.specs.Writes.{Wrote}
-use Rattle.vt100_redraw.proofs.WritesLemmas.{wrote_as, wrote_skip}
+use Rattle.row_drawing.specs.declared.pen.Pen.{Pen}
+use Rattle.row_drawing.specs.Writer.{skip}
+use Rattle.row_drawing.specs.RowWriter.{row_redraw, row_difference}
+use Rattle.row_drawing.specs.Writes.{Wrote}
+use Rattle.row_drawing.proofs.WritesLemmas.{wrote_as, wrote_skip}
 use Rattle.vt100_rows.specs.Row.{RowView}
 use Rattle.vt100_rows.specs.Forms.{redraw_job, redraw, difference_job, difference}
 

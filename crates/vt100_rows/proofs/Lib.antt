@@ -8,3 +8,11 @@ pub mod DrawnRows
 pub mod Examples
 pub mod FormsLemmas
 pub mod SentTexts
+pub mod SheetLemmas
+pub mod MoveLemmas
+pub mod SinkLemmas
+pub mod ClearLemmas
+pub mod KeptLemmas
+pub mod BackLemmas
+pub mod WidthLemmas
+pub mod PictureLemmas

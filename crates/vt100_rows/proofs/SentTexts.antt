@@ -8,16 +8,16 @@ use Rattle.vt100_forms.specs.Length.{HasSmallNumbers}
 use Rattle.vt100_forms.specs.Mark.{HasPlainText}
 use Rattle.vt100_forms.proofs.Marks.{no_mark}
 use Rattle.vt100_cells.specs.Cells.{cell_at}
-use Rattle.vt100_picture.specs.FormText.{IsSentText, IsFormText, HasText}
-use Rattle.vt100_picture.proofs.PlainText.{cell-sent}
-use Rattle.vt100_picture.proofs.FormTexts.{all-each, all-both, space-sent, space-form, some-text, text-is_plain}
-use Rattle.vt100_redraw.specs.Writer.{Writer, skip}
-use Rattle.vt100_redraw.specs.RowWriter.{row_redraw, row_difference}
-use Rattle.vt100_redraw.specs.Small.{AreSmall, IsSmallJob}
-use Rattle.vt100_redraw.specs.Texts.{AllDrawing}
-use Rattle.vt100_redraw.proofs.Texts.{AreTexts, draws-skip, draws-row_redraw, draws-row_difference}
-use Rattle.vt100_redraw.proofs.DrawnTexts.{texts}
-use Rattle.vt100_redraw.proofs.SmallRows.{small-skip, small-row_redraw, small-row_difference}
+use Rattle.terminal_model.specs.FormText.{IsSentText, IsFormText, HasText}
+use Rattle.terminal_model.proofs.PlainText.{cell-sent}
+use Rattle.terminal_model.proofs.FormTexts.{all-each, all-both, space-sent, space-form, some-text, text-is_plain}
+use Rattle.row_drawing.specs.Writer.{Writer, skip}
+use Rattle.row_drawing.specs.RowWriter.{row_redraw, row_difference}
+use Rattle.row_drawing.specs.Small.{AreSmall, IsSmallJob}
+use Rattle.row_drawing.specs.Texts.{AllDrawing}
+use Rattle.row_drawing.proofs.Texts.{AreTexts, draws-skip, draws-row_redraw, draws-row_difference}
+use Rattle.row_drawing.proofs.DrawnTexts.{texts}
+use Rattle.row_drawing.proofs.SmallRows.{small-skip, small-row_redraw, small-row_difference}
 use Rattle.vt100_rows.specs.Row.{RowView, IsRow}
 use Rattle.vt100_rows.specs.Forms.{redraw_job, redraw, difference_job, difference}
 use Rattle.vt100_rows.specs.Laws.{IsKnownRow, IsTrueOfForms, HasNoMark, EachTextIsSent, EachTextIsAForm}

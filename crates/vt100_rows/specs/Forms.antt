@@ -5,9 +5,9 @@ use Rattle.vt100_forms.specs.declared.attrs.Attrs.{Attrs}
 use Rattle.vt100_forms.specs.declared.position.Pos.{Pos}
 use Rattle.vt100_forms.specs.Attrs.{default_attrs}
 use Rattle.vt100_cells.specs.Cells.{cell_at}
-use Rattle.vt100_redraw.specs.declared.pen.Pen.{Pen}
-use Rattle.vt100_redraw.specs.Writer.{Drawn, Writer, skip}
-use Rattle.vt100_redraw.specs.RowWriter.{Job, row_redraw, row_difference}
+use Rattle.row_drawing.specs.declared.pen.Pen.{Pen}
+use Rattle.row_drawing.specs.Writer.{Drawn, Writer, skip}
+use Rattle.row_drawing.specs.RowWriter.{Job, row_redraw, row_difference}
 use Rattle.vt100_rows.specs.Row.{RowView}
 
 -- The row is drawn from column `start` on, as row `row` of a terminal that shows default cells there, and no flag;

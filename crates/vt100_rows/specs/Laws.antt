@@ -7,12 +7,12 @@ use Rattle.vt100_forms.specs.Form.{Form, spell}
 use Rattle.vt100_forms.specs.Mark.{mark_head}
 use Rattle.vt100_cells.specs.Cell.{CellView, default_cell}
 use Rattle.vt100_cells.specs.Cells.{cell_at}
-use Rattle.vt100_picture.specs.Term.{Size, Term}
-use Rattle.vt100_picture.specs.Apply.{run}
-use Rattle.vt100_picture.specs.FormText.{IsSentText, IsFormText, AreForms, AreSentForms}
-use Rattle.vt100_redraw.specs.declared.pen.Pen.{Pen}
-use Rattle.vt100_redraw.specs.Small.{IsSmallPen}
-use Rattle.vt100_redraw.specs.Texts.{AllDrawing}
+use Rattle.terminal_model.specs.Term.{Size, Term}
+use Rattle.terminal_model.specs.Apply.{run}
+use Rattle.terminal_model.specs.FormText.{IsSentText, IsFormText, AreForms, AreSentForms}
+use Rattle.row_drawing.specs.declared.pen.Pen.{Pen}
+use Rattle.row_drawing.specs.Small.{IsSmallPen}
+use Rattle.row_drawing.specs.Texts.{AllDrawing}
 use Rattle.vt100_rows.specs.Row.{RowView, IsRow}
 use Rattle.vt100_rows.specs.Forms.{redraw, formatted, difference, differing}
 

@@ -1,17 +1,21 @@
-//! Tests of `vt100_forms`, `vt100_rows`, `vt100_sheet` and `vt100_core`: forms byte for byte, rows and grids at work.
+//! Tests of `vt100`: callbacks and captures, direct calls, refusals, and odd or large screens.
 #![tactic(auto)]
 
 #[cfg(test)]
-mod begun;
+mod ample;
 #[cfg(test)]
-mod captures;
+mod calls;
 #[cfg(test)]
-mod forms;
+mod log;
 #[cfg(test)]
-mod grid;
+mod refusals;
 #[cfg(test)]
-mod rows;
+mod report;
 #[cfg(test)]
 mod same;
 #[cfg(test)]
-mod shown;
+mod start;
+#[cfg(test)]
+mod told;
+#[cfg(test)]
+mod updates;

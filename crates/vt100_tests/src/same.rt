@@ -7,3 +7,8 @@ use std::process::Abort;
 pub fn same<R: Abort, T: PartialEq + Debug>(rt: &R, told: &T, wanted: &T) {
     assert_eq!(rt; told, wanted);
 }
+
+/// The same, where a failure names what was asked.
+pub fn same_for<R: Abort, A: Debug, T: PartialEq + Debug>(rt: &R, asked: &A, told: &T, wanted: &T) {
+    assert_eq!(rt; told, wanted, "{asked:?}");
+}

@@ -1,7 +1,7 @@
 //! Controls and escape sequences.
 ghost use Rattle.std.specs.Prelude.{◌≡◌, ◌-◌, true, false};
 ghost use Rattle.vt100.specs.Tries.{unless_failed};
-ghost use Rattle.vt100_state.specs.Step.{moved_left, tabbed, at_column, saved, restored, with_keypad, line_fed_back};
+ghost use Rattle.screen_model.specs.Step.{moved_left, tabbed, at_column, saved, restored, with_keypad, line_fed_back};
 
 use crate::callbacks::Callbacks;
 use crate::screen::WrappedScreen;

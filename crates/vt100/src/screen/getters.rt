@@ -3,7 +3,7 @@ ghost use Rattle.std.specs.Prelude.{not, ◌≡◌, length, false, unwrap_or};
 ghost use Rattle.std.specs.Option.{option_copied, option_map};
 ghost use Rattle.vt100_forms.specs.Attrs.{is_bold, is_dim, is_italic, is_underlined, is_inverse};
 ghost use Rattle.vt100_core.specs.Grid.{IsGrid, cell_in, visible_row_at};
-ghost use Rattle.vt100_state.specs.State.{IsState};
+ghost use Rattle.screen_model.specs.State.{IsState};
 
 use crate::screen::Screen;
 use std::num::NonZeroU16;

@@ -1,8 +1,8 @@
 //! Control sequences that move the cursor.
 ghost use Rattle.std.specs.Prelude.{◌≡◌, ◌-◌, true, false};
 ghost use Rattle.vt100.specs.Tries.{unless_failed};
-ghost use Rattle.vt100_state.specs.Step.{moved_up, moved_down, moved_left, moved_right, line_below, line_above};
-ghost use Rattle.vt100_state.specs.Step.{at_column, at_row, at_place, in_region};
+ghost use Rattle.screen_model.specs.Step.{moved_up, moved_down, moved_left, moved_right, line_below, line_above};
+ghost use Rattle.screen_model.specs.Step.{at_column, at_row, at_place, in_region};
 
 use crate::callbacks::Callbacks;
 use crate::screen::WrappedScreen;

@@ -1,8 +1,8 @@
 //! Private modes (DECSET, DECRST; xterm's control sequences), and the two sheets.
 ghost use Rattle.std.specs.Prelude.{◌≡◌, OnOk, OnErr, IfOk, Err, is_some, true, false};
-ghost use Rattle.vt100_state.specs.Step.{alternate_shown, alternate_cleared, main_shown, saved, restored};
-ghost use Rattle.vt100_state.specs.PrivateModes.{modes_set, modes_reset, row_of, row_state, set_rows, reset_rows};
-ghost use Rattle.vt100_state.specs.PrivateModes.{mouse_reset, encoding_reset};
+ghost use Rattle.screen_model.specs.Step.{alternate_shown, alternate_cleared, main_shown, saved, restored};
+ghost use Rattle.screen_model.specs.PrivateModes.{modes_set, modes_reset, row_of, row_state, set_rows, reset_rows};
+ghost use Rattle.screen_model.specs.PrivateModes.{mouse_reset, encoding_reset};
 ghost use Rattle.vt100.specs.Memory.{modes_may_take, shows_alternate, is_unused};
 ghost use Rattle.vt100.specs.Tries.{TriesParts, Counts, SameBounds, alive};
 ghost use Rattle.vt100.specs.declared.error.ScreenError.TheVariants.{Memory};

@@ -5,8 +5,8 @@ ghost use Rattle.vt100_core.specs.Grid.{IsAllocated, SameLimits};
 ghost use Rattle.vt100_core.specs.Scroll.{fed, scrolled_up, scrollback_erased};
 ghost use Rattle.vt100_core.specs.Resize.{resized};
 ghost use Rattle.vt100_core.specs.Text.{printed, printed_all};
-ghost use Rattle.vt100_state.specs.Step.{reports_of};
-ghost use Rattle.vt100_state.specs.Call.{Hears};
+ghost use Rattle.screen_model.specs.Step.{reports_of};
+ghost use Rattle.screen_model.specs.Call.{Hears};
 ghost use Rattle.vt100.specs.Tries.{HearsFront};
 
 use crate::callbacks::Callbacks;

@@ -1,8 +1,8 @@
 //! SGR: the drawing attributes (ECMA-48 8.3.117; colours by ITU-T T.416).
 ghost use Rattle.std.specs.Prelude.{◌≡◌, ◌≤◌, ◌<◌, ◌∷◌, [], ℕ, Bool, List, length, MatchResult, None, is_some};
 ghost use Rattle.vt100_forms.specs.declared.attrs.Attrs.{Attrs};
-ghost use Rattle.vt100_state.specs.Sgr.{read_groups, nothing, kind, red, code_row};
-ghost use Rattle.vt100_state.specs.Effect.{attributes_read};
+ghost use Rattle.screen_model.specs.Sgr.{read_groups, nothing, kind, red, code_row};
+ghost use Rattle.screen_model.specs.Effect.{attributes_read};
 ghost use Rattle.vt100.specs.SgrReading.{first_value, value_read, rgb_read, group_led, colour_led, code_applied};
 ghost use Rattle.vt100.specs.SgrReading.{read_of};
 ghost use Rattle.vt100.specs.Tries.{Counts};

@@ -1,8 +1,8 @@
 //! Calls on a whole screen.
 ghost use Rattle.std.specs.Prelude.{◌≡◌, min, length, OnErr, IfOk, IsOk, Err, true, false};
-ghost use Rattle.vt100_state.specs.State.{main_sheet};
+ghost use Rattle.screen_model.specs.State.{main_sheet};
 ghost use Rattle.vt100_core.specs.Grid.{IsShownWide};
-ghost use Rattle.vt100_state.specs.Step.{kept_shown, kept_dropped, resized_to, sheets_resized, made_anew, quietly};
+ghost use Rattle.screen_model.specs.Step.{kept_shown, kept_dropped, resized_to, sheets_resized, made_anew, quietly};
 ghost use Rattle.vt100.specs.Tries.{Tries, TriesAlone, SameBounds, Stops, alive, unless_failed};
 ghost use Rattle.vt100.specs.declared.error.ScreenError.TheVariants.{Memory};
 

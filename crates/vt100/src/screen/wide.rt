@@ -4,8 +4,8 @@ ghost use Rattle.std.specs.Prelude.{All, false, length};
 ghost use Rattle.std.specs.Str.{chars};
 ghost use Rattle.vt100_core.specs.Grid.{IsAllocated, SameLimits};
 ghost use Rattle.vt100_core.specs.Text.{IsWide, printed_all};
-ghost use Rattle.vt100_state.specs.Step.{reports_of};
-ghost use Rattle.vt100_state.specs.Call.{Hears};
+ghost use Rattle.screen_model.specs.Step.{reports_of};
+ghost use Rattle.screen_model.specs.Call.{Hears};
 ghost use Rattle.vt100.specs.Runs.{IsHandled, PrintsFront, typed_all, last_of};
 ghost use Rattle.vt100.specs.Tries.{HearsFront, Tries, SameBounds};
 

@@ -3,7 +3,7 @@ ghost use Rattle.std.specs.Prelude.{◌≡◌, OnOk, OnErr, IfOk, IsOk, Err, All
 ghost use Rattle.vt100_cells.specs.Cell.{IsPrintable};
 ghost use Rattle.vt100.specs.Runs.{typed_all, last_of};
 ghost use Rattle.vt100.specs.Tries.{Tries, SameBounds};
-ghost use Rattle.vt100_state.specs.Step.{typed, repeated, line_fed, region_up, last_after};
+ghost use Rattle.screen_model.specs.Step.{typed, repeated, line_fed, region_up, last_after};
 ghost use Rattle.vt100.specs.declared.error.ScreenError.TheVariants.{Memory};
 
 use crate::callbacks::Callbacks;

@@ -2,10 +2,10 @@
 ghost use Rattle.std.specs.Prelude.{◌≡◌, ◌≤◌, [], ◌++◌, length, OnOk, OnErr, IfOk, Err, string_bytes, if◌then◌else◌};
 ghost use Rattle.vt100_forms.specs.Form.{spell};
 ghost use Rattle.vt100_cells.specs.Cell.{bool_eq};
-ghost use Rattle.vt100_writers.specs.Modes.{input_mode_formatted, input_mode_diff, attributes_formatted};
-ghost use Rattle.vt100_writers.specs.Screen as picture;
+ghost use Rattle.screen_drawing.specs.Modes.{input_mode_formatted, input_mode_diff, attributes_formatted};
+ghost use Rattle.screen_drawing.specs.Screen as picture;
 ghost use Rattle.vt100_core.specs.Picture.{size_of};
-ghost use Rattle.vt100_state.specs.Shown.{shown_state};
+ghost use Rattle.screen_model.specs.Shown.{shown_state};
 ghost use Rattle.vt100.specs.Writers.{contents_formatted, state_formatted, contents_diff, state_diff};
 ghost use Rattle.vt100.specs.Writers.{cursor_state_formatted, rows_formatted, rows_diff};
 ghost use Rattle.vt100.specs.WriterLaws.{IsUnscrolled, IsPlainlyShown};

@@ -12,7 +12,7 @@ use std::collections::VecDeque;
 use std::fmt;
 use vt100_capture::several::write_rows;
 use vt100_rows::Row;
-use vt100_sheet::kept_rows::kept_at;
+use vt100_rows::kept_rows::kept_at;
 
 impl Grid {
     /// Writes the rows of a range with their attributes: no control sequences but SGR, and no control characters but a

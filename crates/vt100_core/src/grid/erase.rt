@@ -3,7 +3,7 @@ ghost use Rattle.std.specs.Prelude.{◌≡◌, ℕ, ◌+◌, ◌-◌, ◌<◌, �
 
 use crate::grid::Grid;
 use vt100_forms::attrs::Attrs;
-use vt100_sheet::rows_edit::{clear_all, erase_backward, erase_forward};
+use vt100_rows::rows_edit::{clear_all, erase_backward, erase_forward};
 
 impl Grid {
     ghost use Rattle.vt100_core.specs.Grid.{GridView, IsAllocated};

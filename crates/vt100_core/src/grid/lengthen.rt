@@ -4,7 +4,7 @@ ghost use Rattle.std.specs.Prelude.{◌≡◌, ℕ, ◌+◌, ◌-◌, ◌<◌, �
 use crate::grid::Grid;
 use std::num::NonZeroU16;
 use vt100_forms::GridError;
-use vt100_sheet::rows_back::bring_back;
+use vt100_rows::rows_back::bring_back;
 
 impl Grid {
     ghost use Rattle.vt100_core.specs.Grid.{GridView, SameKeeping};

@@ -2,7 +2,7 @@
 ghost use Rattle.std.specs.Prelude.{◌≡◌, ℕ, ◌+◌, ◌-◌, ◌<◌, ◌≤◌, ◌==◌, min, true, false, if◌then◌else◌};
 
 use crate::grid::Grid;
-use vt100_sheet::rows_edit::{move_up, open_lines};
+use vt100_rows::rows_edit::{move_up, open_lines};
 
 impl Grid {
     ghost use Rattle.vt100_core.specs.Grid.{GridView, IsAllocated, is_in_region};

@@ -1,8 +1,8 @@
 //! How a terminal's cursor comes to that of a grid.
 ghost use Rattle.std.specs.Prelude.{◌≡◌, ◌-◌, ◌<◌, ◌≤◌, length, is_ok, replicate, IfSome, string_bytes};
 ghost use Rattle.vt100_forms.specs.Form.{Lf};
-ghost use Rattle.vt100_writers.specs.Cursor.{is_at, arriving, last_col, last_cell, printed_with, row_with_end};
-ghost use Rattle.vt100_writers.specs.Cursor.{wait_behind, wait_on_empty};
+ghost use Rattle.screen_drawing.specs.Cursor.{is_at, arriving, last_col, last_cell, printed_with, row_with_end};
+ghost use Rattle.screen_drawing.specs.Cursor.{wait_behind, wait_on_empty};
 ghost use Rattle.vt100_core.specs.Picture.{size_of};
 ghost use Rattle.vt100_core.specs.Writers.{Appends, drawn_on, cursor_position_formatted, replaced};
 
@@ -14,7 +14,7 @@ use vt100_forms::term::{
 };
 use vt100_forms::{GridError, Pos};
 use vt100_rows::Cell;
-use vt100_sheet::rows_edit::at;
+use vt100_rows::rows_edit::at;
 
 impl Grid {
     /// Appends the forms that bring a terminal's cursor, which stands at `prev_pos` or at a place that isn't known, to

@@ -1,12 +1,12 @@
 //! Another size of the screen.
 ghost use Rattle.std.specs.Prelude.{◌≡◌, ℕ, ◌+◌, ◌-◌, ◌<◌, ◌≤◌, ◌==◌, length, IsOk, OnOk, OnErr, ◌⊎◌};
-ghost use Rattle.vt100_sheet.specs.Sink.{TakesAll};
+ghost use Rattle.vt100_rows.specs.Sink.{TakesAll};
 
 use crate::grid::Grid;
 use std::num::NonZeroU16;
 use vt100_forms::GridError;
-use vt100_sheet::rows_resize::{keep_first, resize_rows};
-use vt100_sheet::{RowSink, Size};
+use vt100_rows::rows_resize::{keep_first, resize_rows};
+use vt100_rows::{RowSink, Size};
 
 impl Grid {
     ghost use Rattle.vt100_core.specs.Grid.{GridView, IsAllocated, SameKeeping};

@@ -1,17 +1,17 @@
 //! Scrolling up, and the rows that leave the screen.
 ghost use Rattle.std.specs.Prelude.{◌≡◌, ℕ, ◌+◌, ◌-◌, ◌<◌, ◌≤◌, ◌==◌, length, min, true, false, ◌&&◌, IsOk, OnOk, IfOk};
 ghost use Rattle.std.specs.Prelude.{if◌then◌else◌};
-ghost use Rattle.vt100_sheet.specs.Sink.{TakesAll};
+ghost use Rattle.vt100_rows.specs.Sink.{TakesAll};
 
 use crate::grid::Grid;
 use vt100_forms::GridError;
-use vt100_sheet::kept_rows::drop_oldest;
-use vt100_sheet::row_sink::{RowSink, give_rows};
-use vt100_sheet::rows_edit::move_up;
+use vt100_rows::kept_rows::drop_oldest;
+use vt100_rows::row_sink::{RowSink, give_rows};
+use vt100_rows::rows_edit::move_up;
 
 impl Grid {
     ghost use Rattle.vt100_core.specs.Grid.{GridView, IsAllocated, IsShownWide, SameLimits, is_in_region, with_row};
-    ghost use Rattle.vt100_sheet.specs.Sheet.{row_at};
+    ghost use Rattle.vt100_rows.specs.Sheet.{row_at};
     ghost use Rattle.vt100_rows.specs.Row.{with_wrap};
     ghost use Rattle.vt100_core.specs.Scroll.{scrolled_up, fed, rows_past_bottom, made_to_fit, scrollback_erased};
     ghost use Rattle.vt100_core.specs.Scroll.{scrollback_shown};

@@ -6,9 +6,9 @@ use crate::drawing_rows::DrawingRows;
 use crate::grid::Grid;
 use crate::visible_rows::VisibleRows;
 use vt100_forms::Pos;
+use vt100_rows::kept_rows::kept_at;
+use vt100_rows::rows_edit::at;
 use vt100_rows::{Cell, Row};
-use vt100_sheet::kept_rows::kept_at;
-use vt100_sheet::rows_edit::at;
 
 impl Grid {
     ghost use Rattle.vt100_core.specs.Grid.{GridView, visible, visible_at, visible_row_at, drawing_row_at, cell_in};

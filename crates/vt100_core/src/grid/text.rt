@@ -4,19 +4,18 @@ ghost use Rattle.std.specs.Prelude.{OnOk, OnErr, IfOk, if◌then◌else◌, All,
 ghost use Rattle.vt100_cells.specs.Cell.{IsCell, cell_of, columns_of, drawn_columns, has_text, IsPrintable};
 ghost use Rattle.vt100_cells.specs.Line.{span_of};
 ghost use Rattle.vt100_rows.specs.Row.{join_row, join_answer, placed_each};
-ghost use Rattle.vt100_sheet.specs.Sink.{TakesAll};
+ghost use Rattle.vt100_rows.specs.Sink.{TakesAll};
 
 use crate::grid::Grid;
 use crate::printed::Printed;
 use vt100_forms::GridError;
 use vt100_forms::attrs::Attrs;
-use vt100_rows::{Cell, Join, columns};
-use vt100_sheet::RowSink;
+use vt100_rows::{Cell, Join, RowSink, columns};
 
 impl Grid {
     ghost use Rattle.vt100_core.specs.Grid.{GridView, IsGrid, IsAllocated, SameLimits, row_of_cursor, with_cursor_row};
     ghost use Rattle.vt100_core.specs.Text.{put_at, spaced, joined, printed};
-    ghost use Rattle.vt100_picture.specs.Apply.{is_dropped};
+    ghost use Rattle.terminal_model.specs.Apply.{is_dropped};
     ghost use Rattle.vt100_core.specs.Scroll.{made_to_fit};
 
     /// Prints one character at the cursor, with these attributes.

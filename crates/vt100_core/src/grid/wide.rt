@@ -4,13 +4,12 @@ ghost use Rattle.std.specs.Char.{IsScalar};
 ghost use Rattle.vt100_cells.specs.Cell.{cell_of};
 ghost use Rattle.vt100_rows.specs.Row.{placed};
 ghost use Rattle.vt100_core.specs.Text.{IsWide, placed_pairs};
-ghost use Rattle.vt100_sheet.specs.Sink.{TakesAll};
+ghost use Rattle.vt100_rows.specs.Sink.{TakesAll};
 
 use crate::grid::Grid;
 use vt100_forms::GridError;
 use vt100_forms::attrs::Attrs;
-use vt100_rows::Row;
-use vt100_sheet::RowSink;
+use vt100_rows::{Row, RowSink};
 
 impl Grid {
     ghost use Rattle.vt100_core.specs.Grid.{IsAllocated, SameLimits, row_of_cursor, with_cursor_row};

@@ -1,8 +1,8 @@
 //! What a grid shows, as forms.
 ghost use Rattle.std.specs.Prelude.{◌≡◌, ◌&&◌, not, length, min, is_ok, IfOk, string_bytes};
 ghost use Rattle.vt100_forms.specs.Attrs.{IsProper, HasByteColors};
-ghost use Rattle.vt100_redraw.specs.Writes.{Writes};
-ghost use Rattle.vt100_writers.specs.Rows.{pen_at};
+ghost use Rattle.row_drawing.specs.Writes.{Writes};
+ghost use Rattle.screen_drawing.specs.Rows.{pen_at};
 ghost use Rattle.vt100_core.specs.Writers.{Appends, contents_formatted, redrawn, lines_redraw, differing};
 ghost use Rattle.vt100_core.specs.Writers.{lines_difference};
 ghost use Rattle.vt100_core.specs.Picture.{size_of};
@@ -10,10 +10,10 @@ ghost use Rattle.vt100_core.specs.WriterLaws.{IsUnscrolled, IsDrawableGrid};
 ghost use Rattle.vt100_core.specs.FormLists.{IsProperGrid, IsShortGrowth, AppendsLocal};
 
 use crate::grid::Grid;
+use row_drawing::Pen;
 use vt100_forms::attrs::Attrs;
 use vt100_forms::term::{BufWrite, ClearAttrs, ClearScreen};
 use vt100_forms::{GridError, Pos};
-use vt100_redraw::Pen;
 
 impl Grid {
     /// Appends the forms by which a terminal comes to show what the grid shows, whatever it showed before, and the

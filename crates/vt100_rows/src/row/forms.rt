@@ -1,15 +1,15 @@
 //! A row as forms.
 ghost use Rattle.std.specs.Prelude.{◌≡◌, ◌++◌, is_ok, OnOk, IfOk, OnErr, string_bytes};
 ghost use Rattle.vt100_forms.specs.Form.{spell};
-ghost use Rattle.vt100_redraw.specs.Writes.{Writes};
+ghost use Rattle.row_drawing.specs.Writes.{Writes};
 ghost use Rattle.vt100_rows.specs.Forms.{redraw, pen_at, formatted, difference, differing};
 ghost use Rattle.vt100_rows.specs.Text.{IsBegun};
 
 use crate::row::Row;
+use row_drawing::{Drawing, Pen};
 use vt100_forms::GridError;
 use vt100_forms::attrs::Attrs;
 use vt100_forms::position::Pos;
-use vt100_redraw::{Drawing, Pen};
 
 impl Row {
     /// Appends the forms that draw `width` columns of the row from column `start` on, as row `row` of a terminal that

@@ -3,7 +3,7 @@ use Rattle.std.specs.List.{list_any, slice_get}
 use Rattle.termrelay.specs.Calls.{call_of}
 use Rattle.termrelay.specs.Log.{LogView, SessionView, MadeAll, empty_log}
 use Rattle.termrelay.specs.declared.call.Reply.{Reply}
-use Rattle.faithful.specs.Isolation.{is_starved}
+use Rattle.relay_theorem.specs.Isolation.{is_starved}
 use Rattle.relay_streams.proofs.FarLemmas.{at-get, past-get, none-found, one-found, shows-judged}
 use Rattle.relay_streams.proofs.far.far_view.Goals as goal
 

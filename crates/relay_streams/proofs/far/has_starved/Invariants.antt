@@ -1,6 +1,6 @@
 use Rattle.std.proofs.Common.{◌≡◌, drop}
 use Rattle.std.specs.List.{list_any}
-use Rattle.faithful.specs.Isolation.{is_starved}
+use Rattle.relay_theorem.specs.Isolation.{is_starved}
 use Rattle.relay_streams.proofs.far.has_starved.Given as goal
 
 -- whether there was one depends on the replies that are left

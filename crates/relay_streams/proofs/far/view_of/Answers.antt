@@ -1,5 +1,5 @@
 use Rattle.std.proofs.Common.{[], None, ap, ◌∙◌}
-use Rattle.vt100_picture.specs.Term.{Size}
+use Rattle.terminal_model.specs.Term.{Size}
 use Rattle.relay_streams.proofs.far.view_of.Goals as goal
 
 pub returns-clause-stands : goal.returns-clause-stands

@@ -1,6 +1,6 @@
 use Rattle.std.proofs.Common.{◌++◌, ℕ, List, take}
 use Rattle.vt100.specs.Parsing.{StandsAt}
-use Rattle.vt100_state.specs.Made.{Act}
+use Rattle.screen_model.specs.Made.{Act}
 use Rattle.screentext.specs.Moment.{acts_until}
 use Rattle.screentext.proofs.moment.play.Given as goal
 

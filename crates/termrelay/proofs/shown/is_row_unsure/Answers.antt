@@ -1,5 +1,5 @@
 use Rattle.std.proofs.Common.{◌≡◌, ◌∙◌, ◌<◌, true, false, arith, sym, ap}
-use Rattle.vt100_state.specs.Shown.{shown_state}
+use Rattle.screen_model.specs.Shown.{shown_state}
 use Rattle.termrelay.specs.Frame.{any_below, asks_for_emoji}
 use Rattle.termrelay.proofs.BelowLemmas.{any-next, any-found}
 use Rattle.termrelay.proofs.ShownLemmas.{cell-here, cell-none}

@@ -1,5 +1,5 @@
 use Rattle.std.proofs.Common.{◌≡◌, false}
-use Rattle.vt100_state.specs.Shown.{shown_state}
+use Rattle.screen_model.specs.Shown.{shown_state}
 use Rattle.termrelay.specs.Frame.{any_below, asks_for_emoji}
 use Rattle.termrelay.proofs.shown.is_unsure.Given as goal
 

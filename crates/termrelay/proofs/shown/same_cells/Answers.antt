@@ -1,6 +1,6 @@
 use Rattle.std.proofs.Common.{◌≡◌, ◌∙◌, ◌<◌, arith, sym, ap}
 use Rattle.vt100_cells.specs.Cell.{cell_eq}
-use Rattle.vt100_state.specs.Shown.{shown_state}
+use Rattle.screen_model.specs.Shown.{shown_state}
 use Rattle.termrelay.specs.Answers.{all_below}
 use Rattle.termrelay.proofs.BelowLemmas.{all-next, all-missed}
 use Rattle.termrelay.proofs.shown.same_cells.Goals as goal

@@ -1,6 +1,6 @@
 use Rattle.std.proofs.Common.{◌≡◌, ◌∙◌, rules}
 use Rattle.vt100_core.specs.Picture.{size_of}
-use Rattle.vt100_state.specs.Shown.{shown_state}
+use Rattle.screen_model.specs.Shown.{shown_state}
 use Rattle.termrelay.proofs.ShownLemmas.{shown_asked, shown-told}
 use Rattle.termrelay.proofs.shown.same_shown.Goals.{then-eq, else-eq, then-hide_cursor, else-hide_cursor}
 use Rattle.termrelay.proofs.shown.same_shown.Goals.{then-eq-2, else-eq-2, then-same_modes, else-same_modes}

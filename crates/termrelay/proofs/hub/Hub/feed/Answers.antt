@@ -1,7 +1,7 @@
 use Rattle.std.proofs.Common.{◌≡◌, ℕ, List, [], ◌∷◌, length, ap, sym, ◌∙◌, refl, arith, false}
 use Rattle.std.proofs.lemmas.Bool.{eqb-true}
 use Rattle.slab.specs.Slab.{get}
-use Rattle.vt100_state.specs.Made.{Fed}
+use Rattle.screen_model.specs.Made.{Fed}
 use Rattle.termrelay.specs.Hub.{HubState, as_kept, GoesOn}
 use Rattle.termrelay.proofs.MadeLemmas.{fed-made, fed-size, nothing-fed}
 use Rattle.termrelay.proofs.HubLemmas.{served-still}

@@ -4,10 +4,10 @@ use Rattle.std.proofs.lemmas.Bool.{false≢true, eqb-true, eq-eqb}
 use Rattle.std.proofs.lemmas.Result.{err_from_is_err_and}
 use Rattle.std.specs.Option.{option_map, option_copied, IfSome}
 use Rattle.vt100_core.specs.Picture.{size_of}
-use Rattle.vt100_picture.specs.Term.{Shown}
-use Rattle.vt100_state.specs.State.{State}
-use Rattle.vt100_state.specs.Call.{ScreenView}
-use Rattle.vt100_state.specs.Shown.{shown_state}
+use Rattle.terminal_model.specs.Term.{Shown}
+use Rattle.screen_model.specs.State.{State}
+use Rattle.screen_model.specs.Call.{ScreenView}
+use Rattle.screen_model.specs.Shown.{shown_state}
 use Rattle.vt100.specs.Parsing.{ParserView}
 use Rattle.vt100.specs.WriterLaws.{IsUnscrolled}
 use Rattle.termrelay.specs.declared.answer.Answer.{Answer}

@@ -3,8 +3,8 @@ use Rattle.std.specs.Option.{option_copied_mut}
 use Rattle.std.proofs.lemmas.Bool.{false≢true}
 use Rattle.slab.specs.Slab.{get}
 use Rattle.vt100_core.specs.Picture.{size_of}
-use Rattle.vt100_state.specs.Call.{ScreenView}
-use Rattle.vt100_state.specs.Shown.{shown_state}
+use Rattle.screen_model.specs.Call.{ScreenView}
+use Rattle.screen_model.specs.Shown.{shown_state}
 use Rattle.termrelay.specs.Answers.{ClientState}
 use Rattle.termrelay.specs.Record.{RecordView, client_of, IsServed}
 use Rattle.termrelay.specs.HubFields.{hub_of, IsHub}

@@ -1,7 +1,7 @@
 use Rattle.std.proofs.Common.{◌≡◌, ℕ, ap, sym, ◌∙◌, subst, false, arith}
-use Rattle.vt100_state.specs.Call.{ScreenView}
-use Rattle.vt100_state.specs.Made.{Resized}
-use Rattle.vt100_state.specs.Step.{resized_to}
+use Rattle.screen_model.specs.Call.{ScreenView}
+use Rattle.screen_model.specs.Made.{Resized}
+use Rattle.screen_model.specs.Step.{resized_to}
 use Rattle.vt100.specs.Parsing.{ParserView}
 use Rattle.vt100.specs.Tries.{alive}
 use Rattle.vt100.proofs.PlayLemmas.{put_in}

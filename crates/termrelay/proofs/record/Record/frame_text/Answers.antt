@@ -3,11 +3,11 @@ use denote.Enum.Bare.{sameb}
 use Rattle.std.specs.Option.{option_copied, option_map, IfSome}
 use Rattle.vt100_forms.specs.Form.{spell}
 use Rattle.vt100_core.specs.Picture.{size_of}
-use Rattle.vt100_picture.specs.Term.{Shown}
-use Rattle.vt100_writers.specs.Modes.{input_mode_diff}
-use Rattle.vt100_writers.specs.Screen.{state_formatted, state_diff, contents_formatted}
-use Rattle.vt100_state.specs.Call.{ScreenView}
-use Rattle.vt100_state.specs.Shown.{shown_state}
+use Rattle.terminal_model.specs.Term.{Shown}
+use Rattle.screen_drawing.specs.Modes.{input_mode_diff}
+use Rattle.screen_drawing.specs.Screen.{state_formatted, state_diff, contents_formatted}
+use Rattle.screen_model.specs.Call.{ScreenView}
+use Rattle.screen_model.specs.Shown.{shown_state}
 use Rattle.termrelay.specs.Frame.{start_mark, end_mark}
 use Rattle.termrelay.specs.Record.{IsBaseOf}
 use Rattle.termrelay.specs.contracts.answer.Answer.{the_type}

@@ -1,6 +1,6 @@
 use Rattle.std.proofs.Common.{arith, ◌≤◌, ◌<◌, subst}
 use Rattle.std.proofs.lemmas.Grind.{common_steps}
-use Rattle.vt100_picture.specs.Apply.{wrap}
+use Rattle.terminal_model.specs.Apply.{wrap}
 use Rattle.termview.specs.Picture.{PictureView, Becomes, term_of}
 use Rattle.termview.specs.PictureFields.{picture_of}
 use Rattle.termview.proofs.PictureSteps.{wraps-to, wraps-alone, starts}

@@ -39,7 +39,7 @@ use types.Kit.{fsplit, fsplit3, fjoin, fpack, feq_i, use3, await, pick, suffices
 use types.Logic.{Logic}
 use types.Part.{agg}
 use types.Run.{addr, and_then, enter, fld, no_more, returns, stop}
-use Rattle.vt100_state.specs.Call.{ScreenView}
+use Rattle.screen_model.specs.Call.{ScreenView}
 use Rattle.vt100.specs.Parsing.{ParserView}
 use Rattle.vt100.specs.declared.callbacks.Callbacks.{Ghosts}
 use Rattle.vt100.specs.contracts.parser.Parser.screen_and_callbacks_mut as both

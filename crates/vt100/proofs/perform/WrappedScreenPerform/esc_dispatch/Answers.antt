@@ -1,7 +1,7 @@
 -- Answers for perform::WrappedScreenPerform::esc_dispatch.
 use Rattle.std.proofs.Common.{◌∙◌, ◌<◌, [], ◌∷◌, length, sym, arith}
-use Rattle.vt100_state.specs.Call as said
-use Rattle.vt100_state.specs.Effect.{first, second, calling}
+use Rattle.screen_model.specs.Call as said
+use Rattle.screen_model.specs.Effect.{first, second, calling}
 use Rattle.vt100.proofs.EventLemmas.{does_as, does_call, escape_more}
 use Rattle.vt100.proofs.perform.WrappedScreenPerform.esc_dispatch.Goals as goal
 

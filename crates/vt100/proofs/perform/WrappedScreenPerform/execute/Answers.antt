@@ -1,10 +1,10 @@
 -- Answers for perform::WrappedScreenPerform::execute.
 use Rattle.std.proofs.Common.{◌≡◌, ◌∙◌, ◌⊎◌, inl, inr, sym, ap, arith, None, [], ◌∷◌}
 use Rattle.std.proofs.lemmas.Bool.Decides.{nat_tests}
-use Rattle.vt100_state.specs.Lookup.{lookup}
-use Rattle.vt100_state.specs.Call as said
-use Rattle.vt100_state.specs.Effect.{control_rows, calling, effect_or}
-use Rattle.vt100_state.specs.Step.{moved_left, tabbed, at_column, line_fed}
+use Rattle.screen_model.specs.Lookup.{lookup}
+use Rattle.screen_model.specs.Call as said
+use Rattle.screen_model.specs.Effect.{control_rows, calling, effect_or}
+use Rattle.screen_model.specs.Step.{moved_left, tabbed, at_column, line_fed}
 use Rattle.vt100_rows.proofs.TextLemmas.{on-err}
 use Rattle.vt100.proofs.EventLemmas.{does_as, does_change, does_nothing, does_steps, does_call}
 use Rattle.vt100.proofs.RefusedLemmas.{refused_keeps}

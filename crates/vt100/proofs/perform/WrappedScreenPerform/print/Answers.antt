@@ -1,8 +1,8 @@
 -- Answers for perform::WrappedScreenPerform::print.
 use Rattle.std.proofs.Common.{◌≡◌, ◌∙◌, [], ◌∷◌, Bool, true, false, cond, not, ◌&&◌, ap, sym}
-use Rattle.vt100_state.specs.Call as said
-use Rattle.vt100_state.specs.Effect.{is_unhandled, calling, steps}
-use Rattle.vt100_state.specs.Step.{typed}
+use Rattle.screen_model.specs.Call as said
+use Rattle.screen_model.specs.Effect.{is_unhandled, calling, steps}
+use Rattle.screen_model.specs.Step.{typed}
 use Rattle.vt100_rows.proofs.TextLemmas.{on-err}
 use Rattle.vt100.specs.Memory.{keeps_rows}
 use Rattle.vt100.proofs.EventLemmas.{does_as, does_call, does_steps, does_where}

@@ -1,7 +1,7 @@
 use Rattle.std.proofs.Common.{◌≡◌, ◌≤◌, ◌+◌, ◌-◌, sym, ap, ◌∙◌, arith}
 use Rattle.std.specs.Prelude.{string_bytes}
 use Rattle.vt100_core.specs.Grid.{GridView, visible_row_at}
-use Rattle.vt100_state.specs.Call.{ScreenView}
+use Rattle.screen_model.specs.Call.{ScreenView}
 use Rattle.vt100.proofs.BetweenLemmas.{IsBetween-next, between-on, between-past, some-row, no-row}
 use Rattle.vt100.proofs.screen.Screen.contents_between.Goals as goal
 use Rattle.vt100.proofs.screen.Screen.contents_between.Goals.{in-Some-visible_row+in_ok-write_contents}

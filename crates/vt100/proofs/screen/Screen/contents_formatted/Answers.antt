@@ -1,8 +1,8 @@
 use Rattle.std.proofs.Common.{refl}
 use Rattle.std.specs.Prelude.{string_bytes}
-use Rattle.vt100_writers.specs.Screen as picture
+use Rattle.screen_drawing.specs.Screen as picture
 use Rattle.vt100_core.specs.Picture.{size_of}
-use Rattle.vt100_state.specs.Shown.{shown_state}
+use Rattle.screen_model.specs.Shown.{shown_state}
 use Rattle.vt100.specs.Writers.{contents_formatted}
 use Rattle.vt100.proofs.ShownLemmas.{redraw-of_shown}
 use Rattle.vt100.proofs.WriteLemmas.{as_shown}

@@ -1,9 +1,9 @@
 use Rattle.std.proofs.Common.{◌≡◌, ℕ, ◌≤◌, List, [], ◌++◌, length, ap, arith, refl}
 use Rattle.std.specs.Prelude.{string_bytes}
 use Rattle.vt100_forms.specs.Form.{spell}
-use Rattle.vt100_writers.specs.Modes.{input_mode_formatted}
-use Rattle.vt100_writers.proofs.Lengths.{modes-length}
-use Rattle.vt100_state.specs.Shown.{shown_state}
+use Rattle.screen_drawing.specs.Modes.{input_mode_formatted}
+use Rattle.screen_drawing.proofs.Lengths.{modes-length}
+use Rattle.screen_model.specs.Shown.{shown_state}
 use Rattle.vt100.proofs.WriteLemmas.{as_shown}
 use Rattle.vt100.proofs.screen.Screen.input_mode_formatted.Goals as goal
 

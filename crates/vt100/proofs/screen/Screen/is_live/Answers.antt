@@ -1,6 +1,6 @@
 -- Answers for screen::Screen::is_live.
 use Rattle.vt100.specs.ScreenFields.{screen_of}
-use Rattle.vt100_state.proofs.StateLemmas.{state_whole}
+use Rattle.screen_model.proofs.StateLemmas.{state_whole}
 use Rattle.vt100.proofs.screen.Screen.is_live.Goals as goal
 
 pub returns-clause-live : goal.returns-clause-live

@@ -1,5 +1,5 @@
 -- Answers for screen::Screen::set_scrollback.
-use Rattle.vt100_state.proofs.ProperSheets.{proper_scrollback_shown}
+use Rattle.screen_model.proofs.ProperSheets.{proper_scrollback_shown}
 use Rattle.vt100.proofs.ProperScreens.{drawn_screen}
 use Rattle.vt100.proofs.SettledLemmas.{at-ok}
 use Rattle.vt100.proofs.screen.Screen.set_scrollback.Goals as goal

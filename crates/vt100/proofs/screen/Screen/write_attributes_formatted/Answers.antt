@@ -1,8 +1,8 @@
 use Rattle.std.proofs.Common.{[], ◌∷◌}
 use Rattle.std.specs.Prelude.{string_bytes}
 use Rattle.vt100_forms.specs.Form.{ClearAttrs, change}
-use Rattle.vt100_writers.specs.Modes.{attributes_formatted}
-use Rattle.vt100_state.specs.Shown.{shown_state}
+use Rattle.screen_drawing.specs.Modes.{attributes_formatted}
+use Rattle.screen_model.specs.Shown.{shown_state}
 use Rattle.vt100.specs.ScreenFields.{screen_of}
 use Rattle.vt100.proofs.WriteLemmas.{written_then, last_written, attributes-are}
 use Rattle.vt100.proofs.screen.Screen.write_attributes_formatted.Goals as goal

@@ -1,7 +1,7 @@
 use Rattle.std.proofs.Common.{refl, [], ◌∷◌, ◌++◌}
 use Rattle.std.specs.Prelude.{string_bytes}
-use Rattle.vt100_writers.specs.Modes.{input_mode_diff}
-use Rattle.vt100_state.specs.Shown.{shown_state}
+use Rattle.screen_drawing.specs.Modes.{input_mode_diff}
+use Rattle.screen_model.specs.Shown.{shown_state}
 use Rattle.vt100.specs.ScreenFields.{screen_of}
 use Rattle.vt100.proofs.WriteLemmas.{written_then, last_written, changes-are, where_changed}
 use Rattle.vt100.proofs.screen.Screen.write_input_mode_diff.Goals as goal

@@ -2,8 +2,8 @@
 use Rattle.std.proofs.Common.{rules, ◌++◌, true, false}
 use Rattle.vt100_rows.proofs.TextLemmas.{on-err}
 use Rattle.vt100_core.specs.Resize.{resized}
-use Rattle.vt100_state.specs.Step.{reports_of}
-use Rattle.vt100_state.specs.Call.{Hears}
+use Rattle.screen_model.specs.Step.{reports_of}
+use Rattle.screen_model.specs.Call.{Hears}
 use Rattle.vt100.proofs.HearLemmas.{hears_append, hears_whole}
 use Rattle.vt100.proofs.screen.reported.resize_both.Goals as goal
 

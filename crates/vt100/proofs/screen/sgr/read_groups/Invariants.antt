@@ -1,6 +1,6 @@
 -- Invariants of screen::sgr::read_groups.
 use Rattle.std.proofs.Common.{◌≡◌, ◌+◌, ◌≤◌, length}
-use Rattle.vt100_state.specs.Sgr.{read_groups, nothing}
+use Rattle.screen_model.specs.Sgr.{read_groups, nothing}
 use Rattle.vt100.proofs.screen.sgr.read_groups.Given as goal
 
 -- what the groups that are left lead to, all lead to from the start

@@ -1,10 +1,10 @@
 use Rattle.std.proofs.Common.{arith, ap, sym, subst, refl, ◌∙◌, ◌≡◌, []}
 use Rattle.std.specs.Prelude.{Some, OnOk, IfOk}
 use Rattle.vt100_cells.specs.Cell.{columns_of}
-use Rattle.vt100_sheet.specs.Sink.{TakesAll}
+use Rattle.vt100_rows.specs.Sink.{TakesAll}
 use Rattle.vt100_core.specs.Text.{Drawn, printed}
-use Rattle.vt100_picture.specs.Apply.{is_dropped}
-use Rattle.vt100_sheet.proofs.SinkLemmas.{TakesAll-list}
+use Rattle.terminal_model.specs.Apply.{is_dropped}
+use Rattle.vt100_rows.proofs.SinkLemmas.{TakesAll-list}
 use Rattle.vt100_core.proofs.TextLemmas.{hidden-is, IsDrawn-shown, printed-dropped, printed-joined}
 use Rattle.vt100_core.proofs.TextLemmas.{printed-spaced}
 use Rattle.vt100_core.proofs.grid.Grid.any_text.Goals as goal

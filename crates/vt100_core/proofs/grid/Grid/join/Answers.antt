@@ -1,10 +1,10 @@
 use Rattle.std.proofs.Common.{arith, ap, sym, subst, refl, ◌∙◌, ◌≡◌, ◌+◌, [], List, length, length-set}
 use Rattle.vt100_rows.specs.Row.{RowView, join_row}
-use Rattle.vt100_sheet.specs.Sink.{TakesAll}
+use Rattle.vt100_rows.specs.Sink.{TakesAll}
 use Rattle.vt100_core.specs.Grid.{GridView, IsAllocated, row_of_cursor}
 use Rattle.vt100_core.specs.GridFields.{grid_of}
 use Rattle.vt100_core.specs.Text.{joined}
-use Rattle.vt100_sheet.proofs.SinkLemmas.{TakesAll-list}
+use Rattle.vt100_rows.proofs.SinkLemmas.{TakesAll-list}
 use Rattle.vt100_core.proofs.TextLemmas.{IsGrid-col}
 use Rattle.vt100_core.proofs.JoinLemmas.{joins-in-place, joins-ignored, joins-widened, joins-carried}
 use Rattle.vt100_core.proofs.grid.Grid.join.Goals as goal

@@ -1,6 +1,6 @@
 use Rattle.std.proofs.Common.{◌<◌, ap, arith, ◌∙◌, length}
 use Rattle.std.specs.Prelude.{string_bytes}
-use Rattle.vt100_redraw.proofs.RowWrites.{on_err}
+use Rattle.row_drawing.proofs.RowWrites.{on_err}
 use Rattle.vt100_core.specs.Grid.{GridView}
 use Rattle.vt100_core.specs.Writers.{lines_redraw}
 use Rattle.vt100_core.proofs.WriterLemmas.{redrawn-start, redrawn-begun, redrawn-next}

@@ -1,6 +1,6 @@
 use Rattle.std.proofs.Common.{arith, refl, [], ◌∙◌, ◌≡◌, true}
 use Rattle.std.proofs.lemmas.Grind.{common_steps}
-use Rattle.vt100_sheet.proofs.SinkLemmas.{TakesAll-list}
+use Rattle.vt100_rows.proofs.SinkLemmas.{TakesAll-list}
 use Rattle.vt100_core.specs.Grid.{IsGrid, is_in_region}
 use Rattle.vt100_core.specs.Scroll.{rows_past_bottom, fed}
 use Rattle.vt100_core.proofs.StayLemmas.{feeds-none, feeds-sunk_none}

@@ -1,5 +1,5 @@
 use Rattle.std.proofs.Common.{◌≡◌, ◌≤◌}
-use Rattle.vt100_writers.specs.Cursor.{row_with_end}
+use Rattle.screen_drawing.specs.Cursor.{row_with_end}
 use Rattle.vt100_core.specs.Picture.{size_of}
 use Rattle.vt100_core.specs.Writers.{drawn_on}
 use Rattle.vt100_core.proofs.grid.Grid.row_with_end.Given as goal

@@ -1,6 +1,6 @@
 use Rattle.std.proofs.Common.{◌<◌, ap, arith, ◌∙◌, length, min}
 use Rattle.std.specs.Prelude.{string_bytes}
-use Rattle.vt100_redraw.proofs.RowWrites.{on_err}
+use Rattle.row_drawing.proofs.RowWrites.{on_err}
 use Rattle.vt100_core.specs.Grid.{GridView}
 use Rattle.vt100_core.specs.Writers.{lines_difference}
 use Rattle.vt100_core.proofs.WriterLemmas.{changed-start, changed-begun, changed-next}

@@ -1,13 +1,13 @@
 use Rattle.std.proofs.Common.{arith, ap, subst, sym, ◌∙◌, ◌≡◌, ◌+◌, List, length, take, min}
 use Rattle.std.proofs.lemmas.Grind.{common_steps}
 use Rattle.vt100_rows.specs.Row.{RowView}
-use Rattle.vt100_sheet.specs.Sheet.{rows_by_position, moved_up}
+use Rattle.vt100_rows.specs.Sheet.{rows_by_position, moved_up}
 use Rattle.vt100_core.specs.Grid.{GridView, IsGrid, IsAllocated, with_rows}
 use Rattle.vt100_core.specs.GridFields.{grid_of}
 use Rattle.vt100_core.specs.KeptFields.{kept_of}
 use Rattle.vt100_core.specs.Scroll.{up_count, widened, kept_after, pushed_out, scrolled_up}
-use Rattle.vt100_sheet.proofs.SheetLemmas.{refilled}
-use Rattle.vt100_sheet.proofs.SinkLemmas.{TakesAll-list}
+use Rattle.vt100_rows.proofs.SheetLemmas.{refilled}
+use Rattle.vt100_rows.proofs.SinkLemmas.{TakesAll-list}
 use Rattle.vt100_core.proofs.GridLemmas.{IsGrid-at, IsGrid-moved_up, IsGrid-scrolled, region_rows}
 use Rattle.vt100_core.proofs.KeepLemmas.{IsShownWide-none}
 use Rattle.vt100_core.proofs.ScrollLemmas.{IsSheet-as, IsShownWide-is, scrolls-off, sunk-kept}

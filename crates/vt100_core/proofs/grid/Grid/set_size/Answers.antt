@@ -4,11 +4,11 @@ use Rattle.std.proofs.lemmas.Grind.{common_steps}
 use Rattle.vt100_core.specs.Grid.{GridView, IsGrid, IsAllocated}
 use Rattle.vt100_core.specs.Resize.{whole_screen, up_rows, resized}
 use Rattle.vt100_core.specs.Scroll.{scrolled_up}
-use Rattle.vt100_sheet.specs.Sink.{TakesAll}
+use Rattle.vt100_rows.specs.Sink.{TakesAll}
 use Rattle.vt100_core.proofs.ResizeLemmas.{IsGrid-whole_screen, lowers, lowers-sunk, some-shortened, some-lengthened}
 use Rattle.vt100_core.proofs.GridLemmas.{IsNew-of}
 use Rattle.vt100_core.proofs.StayLemmas.{scrolls-none, sinks-none}
-use Rattle.vt100_sheet.proofs.SinkLemmas.{TakesAll-list}
+use Rattle.vt100_rows.proofs.SinkLemmas.{TakesAll-list}
 use Rattle.vt100_core.proofs.grid.Grid.set_size.Goals.{then-up-gt0+in_ok-scroll_up, else-up-gt0}
 use Rattle.vt100_core.proofs.grid.Grid.set_size.Goals as goal
 

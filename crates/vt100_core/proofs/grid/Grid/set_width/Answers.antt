@@ -1,10 +1,10 @@
 use Rattle.std.proofs.Common.{arith, ap, sym, subst, ◌∙◌, ◌≡◌, List, length}
 use Rattle.std.proofs.lemmas.Grind.{common_steps}
 use Rattle.vt100_rows.specs.Row.{RowView}
-use Rattle.vt100_sheet.specs.Sheet.{IsSheet}
+use Rattle.vt100_rows.specs.Sheet.{IsSheet}
 use Rattle.vt100_core.specs.GridFields.{grid_of}
 use Rattle.vt100_core.specs.Resize.{with_width}
-use Rattle.vt100_sheet.proofs.SheetLemmas.{refilled}
+use Rattle.vt100_rows.proofs.SheetLemmas.{refilled}
 use Rattle.vt100_core.proofs.GridLemmas.{IsGrid-at, IsGrid-rows}
 use Rattle.vt100_core.proofs.ResizeLemmas.{IsSheet-height_as, IsGrid-with_width}
 use Rattle.vt100_core.proofs.grid.Grid.set_width.Goals as goal

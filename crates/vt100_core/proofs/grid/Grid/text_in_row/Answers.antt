@@ -2,7 +2,7 @@ use Rattle.std.proofs.Common.{arith, ◌∙◌, ◌≡◌, ◌+◌, ◌<◌, ◌
 use Rattle.std.proofs.lemmas.List.Elements.{All-take}
 use Rattle.vt100_cells.specs.Cell.{IsPrintable}
 use Rattle.vt100_rows.proofs.TextLemmas.{on-err}
-use Rattle.vt100_sheet.proofs.SinkLemmas.{TakesAll-list}
+use Rattle.vt100_rows.proofs.SinkLemmas.{TakesAll-list}
 use Rattle.vt100_core.specs.Grid.{GridView, IsGrid}
 use Rattle.vt100_core.specs.Scroll.{made_to_fit}
 use Rattle.vt100_core.specs.Text.{printed_all}

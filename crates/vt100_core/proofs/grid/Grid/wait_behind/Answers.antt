@@ -1,6 +1,6 @@
 use Rattle.std.proofs.Common.{ap, is_ok, refl, sym, ◌∙◌}
 use Rattle.std.specs.Prelude.{string_bytes}
-use Rattle.vt100_writers.specs.Cursor.{arriving, last_cell, place, printed_with, wait_behind}
+use Rattle.screen_drawing.specs.Cursor.{arriving, last_cell, place, printed_with, wait_behind}
 use Rattle.vt100_core.specs.Grid.{GridView}
 use Rattle.vt100_core.specs.Picture.{size_of}
 use Rattle.vt100_core.specs.Writers.{drawn_on}

@@ -1,8 +1,8 @@
 use Rattle.std.proofs.Common.{ap, append-nil, is_ok, refl, subst, sym, ◌∙◌, ◌-◌, [], ◌∷◌, ◌++◌}
 use Rattle.std.specs.Prelude.{encode_utf8, string_bytes}
 use Rattle.vt100_forms.specs.Form.{Text, spell}
-use Rattle.vt100_writers.specs.Cursor.{arriving, place, wait_on_empty}
-use Rattle.vt100_redraw.specs.Writes.{IsBegun}
+use Rattle.screen_drawing.specs.Cursor.{arriving, place, wait_on_empty}
+use Rattle.row_drawing.specs.Writes.{IsBegun}
 use Rattle.vt100_core.specs.Grid.{GridView}
 use Rattle.vt100_core.specs.Picture.{size_of}
 use Rattle.vt100_core.specs.Writers.{drawn_on, replaced}

@@ -1,7 +1,7 @@
 use Rattle.std.proofs.Common.{arith, ◌∙◌, ◌≡◌, ◌+◌, ◌*◌, ◌<◌, ◌≤◌, length, take, subst, sym, ap, length-take, min, true}
 use Rattle.std.proofs.lemmas.List.Elements.{All-take}
 use Rattle.vt100_rows.proofs.TextLemmas.{on-err}
-use Rattle.vt100_sheet.proofs.SinkLemmas.{TakesAll-list}
+use Rattle.vt100_rows.proofs.SinkLemmas.{TakesAll-list}
 use Rattle.vt100_core.specs.Grid.{GridView, IsGrid}
 use Rattle.vt100_core.specs.Scroll.{made_to_fit}
 use Rattle.vt100_core.specs.Text.{IsWide, printed_all}

@@ -1,7 +1,7 @@
 use Rattle.std.proofs.Common.{arith, ◌+◌, ◌==◌, ◌&&◌}
 use Rattle.std.proofs.lemmas.Grind.{common_steps}
 use Rattle.vt100_rows.specs.Row.{with_wrap}
-use Rattle.vt100_sheet.specs.Sheet.{row_at}
+use Rattle.vt100_rows.specs.Sheet.{row_at}
 use Rattle.vt100_core.specs.Grid.{with_row}
 use Rattle.vt100_core.proofs.GridLemmas.{IsGrid-at}
 use Rattle.vt100_core.proofs.ScrollLemmas.{IsGrid-wrap_row, above-last}

@@ -1,8 +1,8 @@
 use Rattle.std.proofs.Common.{ap, length, min, false, subst, true, ◌∙◌}
 use Rattle.std.specs.Prelude.{string_bytes}
-use Rattle.vt100_redraw.specs.declared.pen.Pen.{Pen}
-use Rattle.vt100_redraw.specs.Writes.{Wrote}
-use Rattle.vt100_writers.specs.Rows.{pen_at}
+use Rattle.row_drawing.specs.declared.pen.Pen.{Pen}
+use Rattle.row_drawing.specs.Writes.{Wrote}
+use Rattle.screen_drawing.specs.Rows.{pen_at}
 use Rattle.vt100_core.specs.Grid.{GridView}
 use Rattle.vt100_core.specs.Writers.{differing, lines_difference}
 use Rattle.vt100_core.proofs.WriterLemmas.{differing-attrs, differing-cursor, differing-rows, refused}

@@ -1,9 +1,9 @@
 use Rattle.std.proofs.Common.{ap, false, length, subst, true, ◌∙◌, [], ◌∷◌}
 use Rattle.std.specs.Prelude.{string_bytes}
 use Rattle.vt100_forms.specs.Form.{ClearAttrs, ClearScreen}
-use Rattle.vt100_redraw.specs.declared.pen.Pen.{Pen}
-use Rattle.vt100_redraw.specs.Writes.{Wrote}
-use Rattle.vt100_writers.specs.Rows.{pen_at}
+use Rattle.row_drawing.specs.declared.pen.Pen.{Pen}
+use Rattle.row_drawing.specs.Writes.{Wrote}
+use Rattle.screen_drawing.specs.Rows.{pen_at}
 use Rattle.vt100_core.specs.Writers.{contents_formatted, lines_redraw, redrawn}
 use Rattle.vt100_core.proofs.WriterLemmas.{appended_then, begun_rest, redrawn-attrs, redrawn-cursor, redrawn-rows}
 use Rattle.vt100_core.proofs.WriterLemmas.{refused}

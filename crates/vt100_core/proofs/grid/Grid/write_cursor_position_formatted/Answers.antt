@@ -1,7 +1,7 @@
 use Rattle.std.proofs.Common.{ap, arith, is_ok, replicate, subst, sym, ◌∙◌, ◌-◌, ◌<◌, ◌≤◌}
 use Rattle.std.specs.Prelude.{string_bytes, unwrap_or}
 use Rattle.vt100_forms.specs.Form.{Lf}
-use Rattle.vt100_writers.specs.Cursor.{arriving, is_at, place, wait_behind, wait_on_empty}
+use Rattle.screen_drawing.specs.Cursor.{arriving, is_at, place, wait_behind, wait_on_empty}
 use Rattle.vt100_core.specs.Grid.{GridView}
 use Rattle.vt100_core.specs.Picture.{size_of}
 use Rattle.vt100_core.specs.Writers.{Appends, cursor_position_formatted, drawn_on}

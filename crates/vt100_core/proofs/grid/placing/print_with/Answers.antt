@@ -1,7 +1,7 @@
 use Rattle.std.proofs.Common.{ap, ◌∙◌, ◌∷◌, ◌++◌}
 use Rattle.std.specs.Prelude.{string_bytes}
 use Rattle.vt100_forms.specs.Form.{Text, change, spell}
-use Rattle.vt100_writers.specs.Cursor.{printed_with}
+use Rattle.screen_drawing.specs.Cursor.{printed_with}
 use Rattle.vt100_core.proofs.WriterLemmas.{begun_none, begun_rest, refused}
 use Rattle.vt100_core.proofs.grid.placing.print_with.Goals as goal
 

@@ -3,7 +3,7 @@ use Rattle.vt100_rows.specs.Row.{trimmed}
 use Rattle.vt100_core.specs.KeptFields.{kept_of}
 use Rattle.vt100_core.specs.Scroll.{pushed_out}
 use Rattle.vt100_core.proofs.KeepLemmas.{pushes, pushed, blanks, IsSheet-pushed}
-use Rattle.vt100_sheet.proofs.SinkLemmas.{TakesAll-append, TakesAll-list}
+use Rattle.vt100_rows.proofs.SinkLemmas.{TakesAll-append, TakesAll-list}
 use Rattle.vt100_core.proofs.scrollback.ScrollbackState.push_off.Goals as goal
 
 pub returns-clause-kept : goal.returns-clause-kept

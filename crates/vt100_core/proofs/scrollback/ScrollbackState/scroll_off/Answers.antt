@@ -1,6 +1,6 @@
 use Rattle.std.proofs.Common.{arith}
 use Rattle.vt100_core.proofs.KeepLemmas.{IsSheet-scrolled}
-use Rattle.vt100_sheet.proofs.MoveLemmas.{moves_up_top}
+use Rattle.vt100_rows.proofs.MoveLemmas.{moves_up_top}
 use Rattle.vt100_core.proofs.scrollback.ScrollbackState.scroll_off.Goals as goal
 
 pub returns-clause-rows : goal.returns-clause-rows

@@ -1,6 +1,6 @@
 -- Invariants of screen::wrapped::WrappedScreen::decrst.
 use Rattle.std.proofs.Common.{◌≡◌, ◌+◌, ◌≤◌, [], length, false}
-use Rattle.vt100_state.specs.PrivateModes.{modes_from, modes_reset, reset_rows}
+use Rattle.screen_model.specs.PrivateModes.{modes_from, modes_reset, reset_rows}
 use Rattle.vt100.proofs.screen.wrapped.WrappedScreen.decrst.Given as goal
 
 -- what the groups that are left lead to, all lead to from the start

@@ -1,7 +1,7 @@
 -- Invariants of screen::wrapped::WrappedScreen::decset.
 use Rattle.std.proofs.Common.{◌≡◌, ◌+◌, ◌≤◌, [], length, true, false}
 use Rattle.std.specs.List.{list_any}
-use Rattle.vt100_state.specs.PrivateModes.{modes_from, modes_set, set_rows}
+use Rattle.screen_model.specs.PrivateModes.{modes_from, modes_set, set_rows}
 use Rattle.vt100.specs.Memory.{is_unused, shows_alternate}
 use Rattle.vt100.specs.Tries.{SameBounds}
 use Rattle.vt100.proofs.screen.wrapped.WrappedScreen.decset.Given as goal

@@ -1,6 +1,6 @@
 -- Answers for screen::wrapped::WrappedScreen::ech.
 use Rattle.std.proofs.Common.{rules}
-use Rattle.vt100_state.proofs.ProperSheets.{proper_columns_erased}
+use Rattle.screen_model.proofs.ProperSheets.{proper_columns_erased}
 use Rattle.vt100.proofs.ProperScreens.{drawn_screen}
 use Rattle.vt100.proofs.screen.wrapped.WrappedScreen.ech.Goals as goal
 

@@ -1,6 +1,6 @@
 -- Answers for screen::wrapped::WrappedScreen::ich.
 use Rattle.std.proofs.Common.{rules}
-use Rattle.vt100_state.proofs.ProperSheets.{proper_cells_inserted}
+use Rattle.screen_model.proofs.ProperSheets.{proper_cells_inserted}
 use Rattle.vt100.proofs.ProperScreens.{drawn_screen}
 use Rattle.vt100.proofs.screen.wrapped.WrappedScreen.ich.Goals as goal
 

@@ -1,6 +1,6 @@
 -- Answers for screen::wrapped::WrappedScreen::il.
 use Rattle.std.proofs.Common.{rules}
-use Rattle.vt100_state.proofs.ProperSheets.{proper_lines_inserted}
+use Rattle.screen_model.proofs.ProperSheets.{proper_lines_inserted}
 use Rattle.vt100.proofs.ProperScreens.{drawn_screen}
 use Rattle.vt100.proofs.screen.wrapped.WrappedScreen.il.Goals as goal
 

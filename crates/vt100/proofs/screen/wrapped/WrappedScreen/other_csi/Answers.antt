@@ -1,6 +1,6 @@
 -- Answers for perform::WrappedScreen::other_csi.
 use Rattle.std.proofs.Common.{false}
-use Rattle.vt100_state.specs.Effect.{number_or, display_erased, line_erased, attributes_read, other_rows}
+use Rattle.screen_model.specs.Effect.{number_or, display_erased, line_erased, attributes_read, other_rows}
 use Rattle.vt100.proofs.EventLemmas.{row_does, does_counts}
 use Rattle.vt100.proofs.screen.wrapped.WrappedScreen.other_csi.Goals as goal
 

@@ -1,9 +1,9 @@
 -- Answers for perform::WrappedScreen::plain_csi.
 use Rattle.std.proofs.Common.{◌≡◌, ◌⊎◌, ◌-◌, inl, inr, arith}
-use Rattle.vt100_state.specs.Effect.{changes, count, later, number_or}
-use Rattle.vt100_state.specs.Step.{cells_added, moved_up, moved_down, moved_right, moved_left, line_below, line_above}
-use Rattle.vt100_state.specs.Step.{at_column, at_row, at_place, lines_added, lines_taken, cells_taken, region_up}
-use Rattle.vt100_state.specs.Step.{region_down, cells_erased, repeated, in_region}
+use Rattle.screen_model.specs.Effect.{changes, count, later, number_or}
+use Rattle.screen_model.specs.Step.{cells_added, moved_up, moved_down, moved_right, moved_left, line_below, line_above}
+use Rattle.screen_model.specs.Step.{at_column, at_row, at_place, lines_added, lines_taken, cells_taken, region_up}
+use Rattle.screen_model.specs.Step.{region_down, cells_erased, repeated, in_region}
 use Rattle.vt100_rows.proofs.TextLemmas.{on-err}
 use Rattle.vt100.proofs.EventLemmas.{does_as, does_change, does_steps, plain_does}
 use Rattle.vt100.proofs.RefusedLemmas.{refused_keeps}

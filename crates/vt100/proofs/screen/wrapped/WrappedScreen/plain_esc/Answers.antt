@@ -1,10 +1,10 @@
 -- Answers for perform::WrappedScreen::plain_esc.
 use Rattle.std.proofs.Common.{◌≡◌, [], ◌∷◌, refl, sym, ap, arith, true, false, None}
 use Rattle.std.proofs.lemmas.Bool.Decides.{nat_tests}
-use Rattle.vt100_state.specs.Lookup.{lookup}
-use Rattle.vt100_state.specs.Call as said
-use Rattle.vt100_state.specs.Effect.{escape_rows, effect_or, calling}
-use Rattle.vt100_state.specs.Step.{saved, restored, with_keypad, line_fed_back, quietly, made_anew}
+use Rattle.screen_model.specs.Lookup.{lookup}
+use Rattle.screen_model.specs.Call as said
+use Rattle.screen_model.specs.Effect.{escape_rows, effect_or, calling}
+use Rattle.screen_model.specs.Step.{saved, restored, with_keypad, line_fed_back, quietly, made_anew}
 use Rattle.vt100.proofs.EventLemmas.{does_as, does_change, does_steps, does_call}
 use Rattle.vt100.proofs.screen.wrapped.WrappedScreen.plain_esc.Goals as goal
 

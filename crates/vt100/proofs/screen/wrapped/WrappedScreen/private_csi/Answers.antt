@@ -1,6 +1,6 @@
 -- Answers for perform::WrappedScreen::private_csi.
-use Rattle.vt100_state.specs.Effect.{number_or, display_erased, line_erased, private_rows}
-use Rattle.vt100_state.specs.PrivateModes.{modes_set, modes_reset}
+use Rattle.screen_model.specs.Effect.{number_or, display_erased, line_erased, private_rows}
+use Rattle.screen_model.specs.PrivateModes.{modes_set, modes_reset}
 use Rattle.vt100.specs.Memory.{private_may_take}
 use Rattle.vt100.proofs.EventLemmas.{row_does, does_counts, does_parts}
 use Rattle.vt100.proofs.screen.wrapped.WrappedScreen.private_csi.Goals as goal

@@ -1,8 +1,8 @@
 -- Answers for screen::wrapped::WrappedScreen::rep.
 use Rattle.std.proofs.Common.{◌≡◌, ◌∙◌, false, Some, Err, ap, arith, rules}
 use Rattle.std.proofs.lemmas.Bool.{false≢true}
-use Rattle.vt100_state.specs.Call.{ScreenView, Hears}
-use Rattle.vt100_state.specs.Step.{typed_times}
+use Rattle.screen_model.specs.Call.{ScreenView, Hears}
+use Rattle.screen_model.specs.Step.{typed_times}
 use Rattle.vt100.specs.Tries.{alive}
 use Rattle.vt100.proofs.BoundsLemmas.{bounds_trans}
 use Rattle.vt100.proofs.LimitsLemmas.{capacity_times}

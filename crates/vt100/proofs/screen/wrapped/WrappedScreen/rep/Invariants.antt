@@ -1,7 +1,7 @@
 -- Invariants of screen::wrapped::WrappedScreen::rep.
 use Rattle.std.proofs.Common.{◌≡◌}
-use Rattle.vt100_state.specs.Step.{typed_times}
-use Rattle.vt100_state.specs.Call.{Hears}
+use Rattle.screen_model.specs.Step.{typed_times}
+use Rattle.screen_model.specs.Call.{Hears}
 use Rattle.vt100.specs.Tries.{alive, SameBounds}
 use Rattle.vt100.proofs.screen.wrapped.WrappedScreen.rep.Given as goal
 

@@ -1,7 +1,7 @@
 -- Answers for screen::wrapped::WrappedScreen::sgr.
 use Rattle.std.proofs.Common.{ap}
-use Rattle.vt100_state.specs.Sgr.{Read, nothing}
-use Rattle.vt100_state.proofs.ProperLemmas.{read_groups-proper}
+use Rattle.screen_model.specs.Sgr.{Read, nothing}
+use Rattle.screen_model.proofs.ProperLemmas.{read_groups-proper}
 use Rattle.vt100.proofs.screen.wrapped.WrappedScreen.sgr.Goals as goal
 
 pub invariant_of-self-2 : goal.invariant_of-self-2

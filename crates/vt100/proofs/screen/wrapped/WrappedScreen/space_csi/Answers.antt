@@ -1,6 +1,6 @@
 -- Answers for perform::WrappedScreen::space_csi.
 use Rattle.std.proofs.Common.{ℕ, [], ◌∷◌, nat_eq, cond, ap, sym}
-use Rattle.vt100_state.specs.Effect.{number_or, styled, partly, calling, csi_call}
+use Rattle.screen_model.specs.Effect.{number_or, styled, partly, calling, csi_call}
 use Rattle.vt100.proofs.EventLemmas.{does_as, does_counts}
 use Rattle.vt100.proofs.screen.wrapped.WrappedScreen.space_csi.Goals as goal
 

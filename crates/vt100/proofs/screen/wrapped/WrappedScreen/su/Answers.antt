@@ -1,7 +1,7 @@
 -- Answers for screen::wrapped::WrappedScreen::su.
 use Rattle.std.proofs.Common.{◌≡◌, Err, rules}
 use Rattle.vt100_core.specs.Scroll.{scrolled_up}
-use Rattle.vt100_state.proofs.ProperSheets.{proper_scrolled_up}
+use Rattle.screen_model.proofs.ProperSheets.{proper_scrolled_up}
 use Rattle.vt100.specs.declared.error.ScreenError.TheVariants.{Memory}
 use Rattle.vt100.proofs.RefusedLemmas.{tries_refused}
 use Rattle.vt100.proofs.ProperScreens.{drawn_screen}

@@ -1,7 +1,7 @@
 -- Answers for screen::wrapped::WrappedScreen::text.
 use Rattle.std.proofs.Common.{◌≡◌, Err, rules}
 use Rattle.vt100_core.specs.Text.{printed}
-use Rattle.vt100_state.proofs.ProperSheets.{proper_printed}
+use Rattle.screen_model.proofs.ProperSheets.{proper_printed}
 use Rattle.vt100.specs.declared.error.ScreenError.TheVariants.{Memory}
 use Rattle.vt100.proofs.RefusedLemmas.{tries_refused}
 use Rattle.vt100.proofs.ProperScreens.{drawn_screen}

@@ -1,7 +1,7 @@
 -- Answers for screen::wrapped::WrappedScreen::text_run.
 use Rattle.std.proofs.Common.{◌≡◌, ◌∙◌, Err, rules}
 use Rattle.vt100_core.specs.Text.{printed_all}
-use Rattle.vt100_state.proofs.ProperSheets.{proper_printed_all}
+use Rattle.screen_model.proofs.ProperSheets.{proper_printed_all}
 use Rattle.vt100.specs.declared.error.ScreenError.TheVariants.{Memory}
 use Rattle.vt100.proofs.ProperScreens.{drawn_screen}
 use Rattle.vt100.proofs.RunLemmas.{run_tries, run_refused, printable-spacing}

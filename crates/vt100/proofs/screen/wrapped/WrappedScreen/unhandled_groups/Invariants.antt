@@ -1,5 +1,5 @@
 use Rattle.std.proofs.Common.{◌-◌, replicate}
-use Rattle.vt100_state.specs.Effect.{csi_call}
+use Rattle.screen_model.specs.Effect.{csi_call}
 use Rattle.vt100.specs.Goes.{Tells}
 use Rattle.vt100.proofs.screen.wrapped.WrappedScreen.unhandled_groups.Given as goal
 

@@ -1,6 +1,6 @@
 -- Answers for screen::wide::WrappedScreen::wide_run.
 use Rattle.std.proofs.Common.{◌≡◌, ◌≤◌, Err, rules, subst, sym}
-use Rattle.vt100_state.proofs.ProperSheets.{proper_printed_all}
+use Rattle.screen_model.proofs.ProperSheets.{proper_printed_all}
 use Rattle.vt100.specs.declared.error.ScreenError.TheVariants.{Memory}
 use Rattle.vt100.specs.declared.screen.wrapped.WrappedScreen.{WrappedScreen}
 use Rattle.vt100.proofs.ProperScreens.{drawn_screen}

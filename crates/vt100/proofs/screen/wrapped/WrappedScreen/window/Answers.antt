@@ -1,7 +1,7 @@
 -- Answers for perform::WrappedScreen::window.
 use Rattle.std.proofs.Common.{◌≡◌, ◌∙◌, ℕ, [], ◌∷◌, nat_eq, cond, ap, sym, arith, unwrap_or}
-use Rattle.vt100_state.specs.Call as said
-use Rattle.vt100_state.specs.Effect.{given, later, calling, csi_call}
+use Rattle.screen_model.specs.Call as said
+use Rattle.screen_model.specs.Effect.{given, later, calling, csi_call}
 use Rattle.vt100.proofs.EventLemmas.{does_as, does_call}
 use Rattle.vt100.proofs.screen.wrapped.WrappedScreen.window.Goals as goal
 

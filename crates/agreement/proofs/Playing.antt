@@ -1,0 +1,74 @@
+-- Forms, lists of forms, and their bytes, played.
+use Rattle.std.proofs.Common.{◌≡◌, List, [], ◌∷◌, ◌++◌, refl, sym, ap}
+use Rattle.vte_core.specs.Event.{Event}
+use Rattle.vte_core.specs.Added.{added}
+use Rattle.vt100_forms.specs.Form.{Text, MoveTo, MoveRight, EraseChar, ClearRowForward, ClearScreen, ClearAttrs}
+use Rattle.vt100_forms.specs.Form.{Crlf, Lf, Backspace, SaveCursor, RestoreCursor, HideCursor, Keypad, CursorKeys}
+use Rattle.vt100_forms.specs.Form.{Paste, Mouse, Encoding, Style, Sgr, spell}
+use Rattle.terminal_model.specs.Apply.{apply, run}
+use Rattle.terminal_model.proofs.FormTexts.{forms-sent}
+use Rattle.forms_read.specs.Events.{events_of, events_of_all}
+use Rattle.forms_read.proofs.ReadForms.{list-read}
+use Rattle.forms_read.proofs.SentTexts.{forms-readable}
+use Rattle.screen_model.specs.State.{State}
+use Rattle.screen_model.specs.Effect.{effect}
+use Rattle.screen_model.specs.Made.{played, events_added}
+use Rattle.agreement.specs.Plain.{terminal_of, screen_of}
+use Rattle.agreement.specs.StateLaws.{EachFormIsPlayed, EachListIsPlayed, EachSpellingIsMade}
+use Rattle.agreement.proofs.PlainStates.{shows-at, shows-same, shows-then}
+use Rattle.agreement.proofs.Cursors.{shows-MoveTo, shows-MoveRight, shows-Backspace, shows-SaveCursor}
+use Rattle.agreement.proofs.Cursors.{shows-RestoreCursor}
+use Rattle.agreement.proofs.Modes.{shows-HideCursor, shows-Keypad, shows-CursorKeys, shows-Paste, shows-Mouse}
+use Rattle.agreement.proofs.Modes.{shows-Encoding, shows-Style}
+use Rattle.agreement.proofs.Attributes.{shows-ClearAttrs, shows-Sgr}
+use Rattle.agreement.proofs.Erasures.{shows-EraseChar, shows-ClearRowForward, shows-ClearScreen}
+use Rattle.agreement.proofs.Feeds.{shows-Lf, shows-Crlf}
+use Rattle.agreement.proofs.Texts.{shows-Text}
+
+pub form-played : EachFormIsPlayed
+form-played s (Text cs) h f = shows-Text s cs h f.0
+form-played s (MoveTo r c) h f = shows-MoveTo s r c h
+form-played s (MoveRight n) h f = shows-MoveRight s n h
+form-played s (EraseChar n) h f = shows-EraseChar s n h
+form-played s ClearRowForward h f = shows-ClearRowForward s h
+form-played s ClearScreen h f = shows-ClearScreen s h
+form-played s ClearAttrs h f = shows-ClearAttrs s h
+form-played s Crlf h f = shows-Crlf s h
+form-played s Lf h f = shows-Lf s h
+form-played s Backspace h f = shows-Backspace s h
+form-played s SaveCursor h f = shows-SaveCursor s h
+form-played s RestoreCursor h f = shows-RestoreCursor s h
+form-played s (HideCursor b) h f = shows-HideCursor s b h
+form-played s (Keypad b) h f = shows-Keypad s b h
+form-played s (CursorKeys b) h f = shows-CursorKeys s b h
+form-played s (Paste b) h f = shows-Paste s b h
+form-played s (Mouse to from) h f = shows-Mouse s to from h
+form-played s (Encoding to from) h f = shows-Encoding s to from h
+form-played s (Style to from) h f = shows-Style s to from h
+form-played s (Sgr c) h f = shows-Sgr s c h f.1.0 f.1.1
+
+pub played-joined : (es gs : List Event) (s : State) → played (es ++ gs) s ≡ played gs (played es s)
+played-joined [] gs s = refl
+played-joined (e ∷ es) gs s = played-joined es gs (effect e s).state
+
+pub list-played : EachListIsPlayed
+list-played s [] h f = shows-same s h
+list-played s (x ∷ fs) h f =
+    let u = played (events_of x) s in
+    let one = form-played s x h f.0 in
+    let v = played (events_of_all fs) u in
+    let t = run (screen_of s) fs (apply (screen_of s) x (terminal_of s)) in
+    let w = run (screen_of u) fs (terminal_of u) in
+    shows-at s (played (events_of x ++ events_of_all fs) s) v t w (played-joined (events_of x) (events_of_all fs) s)
+    (sym (λ i. run (one.size i) fs (one.shows i)))
+    (shows-then s u v (apply (screen_of s) x (terminal_of s)) w one (list-played u fs one.plain f.1))
+
+pub spelling-made : EachSpellingIsMade
+unfolding added
+spelling-made past s fs g h f =
+    let r = list-read 1024 past fs g (forms-readable fs (forms-sent fs f)) in
+    let t = run (screen_of s) fs (terminal_of s) in (
+      shows-at s (played (events_added past (spell fs)) s) (played (events_of_all fs) s) t t
+          (ap (λ es. played es s) r.0) refl (list-played s fs h f),
+      r.1,
+    )

@@ -1,0 +1,61 @@
+-- What forms make of a terminal's state.
+use Rattle.std.specs.Prelude.{ℕ, ◌≡◌, ◌<◌, ◌^◌, true, List, [], ◌∷◌, ◌++◌}
+use Rattle.std.specs.List.{AllByRecursion}
+use Rattle.vte_core.specs.Ground.{AtGround}
+use Rattle.vt100_forms.specs.Form.{Form, spell}
+use Rattle.terminal_model.specs.FormText.{IsForm, IsSentForm}
+use Rattle.terminal_model.specs.Term.{Term, blank_term}
+use Rattle.terminal_model.specs.Apply.{apply, run}
+use Rattle.forms_read.specs.Events.{events_of, events_of_all}
+use Rattle.screen_model.specs.State.{State, IsState, is_plain, fresh_state}
+use Rattle.screen_model.specs.Made.{Fed, played, made_on}
+use Rattle.agreement.specs.Plain.{terminal_of, screen_of, IsPlainState}
+
+-- u is a plain state, as large as s, that shows t
+pub record Shows (s : State) (t : Term) (u : State) : Type 0 where
+  pub shows : terminal_of u ≡ t
+  pub size : screen_of u ≡ screen_of s
+  pub plain : IsPlainState u
+
+abbrev pub EachPlainStateIsRead : Type 0
+EachPlainStateIsRead = (s : State) → (IsState s → is_plain s ≡ true → IsPlainState s)
+    × (IsPlainState s → is_plain s ≡ true)
+
+-- a new state is plain, and shows a blank terminal
+abbrev pub EachFreshStateIsBlank : Type 0
+EachFreshStateIsBlank = (rows cols capacity : ℕ) → 0 < rows → rows < 2 ^ 16 → 0 < cols → cols < 2 ^ 16
+    → IsPlainState (fresh_state rows cols capacity) × (terminal_of (fresh_state rows cols capacity) ≡ blank_term)
+
+abbrev pub EachFormIsPlayed : Type 0
+EachFormIsPlayed = (s : State) (f : Form) → IsPlainState s → IsForm f
+    → Shows s (apply (screen_of s) f (terminal_of s)) (played (events_of f) s)
+
+abbrev pub EachListIsPlayed : Type 0
+EachListIsPlayed = (s : State) (fs : List Form) → IsPlainState s → AllByRecursion IsForm fs
+    → Shows s (run (screen_of s) fs (terminal_of s)) (played (events_of_all fs) s)
+
+-- after any past that ends at ground
+abbrev pub EachSpellingIsMade : Type 0
+EachSpellingIsMade = (past : List ℕ) (s : State) (fs : List Form) → AtGround 1024 past → IsPlainState s
+    → AllByRecursion IsForm fs
+    → Shows s (run (screen_of s) fs (terminal_of s)) (made_on past s (Fed (spell fs) ∷ []))
+    × AtGround 1024 (past ++ spell fs)
+
+-- ---- texts with U+FE0F, by which a state may make a cell wide
+
+-- u is a plain state, as large as s, that has the modes and the style of t
+pub record HasModes (s : State) (t : Term) (u : State) : Type 0 where
+  pub modes : u.modes ≡ t.modes
+  pub style : u.style ≡ t.style
+  pub size : screen_of u ≡ screen_of s
+  pub plain : IsPlainState u
+
+abbrev pub EachSentListIsPlayed : Type 0
+EachSentListIsPlayed = (s : State) (fs : List Form) → IsPlainState s → AllByRecursion IsSentForm fs
+    → HasModes s (run (screen_of s) fs (terminal_of s)) (played (events_of_all fs) s)
+
+abbrev pub EachSentSpellingIsMade : Type 0
+EachSentSpellingIsMade = (past : List ℕ) (s : State) (fs : List Form) → AtGround 1024 past → IsPlainState s
+    → AllByRecursion IsSentForm fs
+    → HasModes s (run (screen_of s) fs (terminal_of s)) (made_on past s (Fed (spell fs) ∷ []))
+    × AtGround 1024 (past ++ spell fs)

@@ -1,8 +1,0 @@
-use Rattle.faithful.proofs.BoundLemmas.{frames-fit, small-made}
-use Rattle.faithful.proofs.laws.frames_fit_the_hold.Goals as goal
-
-pub returns-clause-fits : goal.returns-clause-fits
-returns-clause-fits c = frames-fit
-
-pub returns-clause-small : goal.returns-clause-small
-returns-clause-small c = small-made

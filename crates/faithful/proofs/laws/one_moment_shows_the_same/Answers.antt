@@ -1,8 +1,0 @@
-use Rattle.faithful.proofs.HeadlineLemmas.{moments-same, moments-whole}
-use Rattle.faithful.proofs.laws.one_moment_shows_the_same.Goals as goal
-
-pub returns-clause-pieces : goal.returns-clause-pieces
-returns-clause-pieces c = moments-same
-
-pub returns-clause-whole : goal.returns-clause-whole
-returns-clause-whole c = moments-whole

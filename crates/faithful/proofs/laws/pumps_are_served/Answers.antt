@@ -1,5 +1,0 @@
-use Rattle.faithful.proofs.ServesLemmas.{pumps-served}
-use Rattle.faithful.proofs.laws.pumps_are_served.Goals as goal
-
-pub returns : goal.returns
-returns g c = pumps-served g.row.T.Denot g.T.Taker.takes

@@ -1,0 +1,187 @@
+-- The calls of each form.
+use Rattle.std.proofs.Common.{◌≡◌, ℕ, ◌+◌, ◌^◌, ◌<◌, ◌==◌, true, false, cond, ◌&&◌, List, []}
+use Rattle.std.proofs.Common.{◌∷◌, ◌++◌, map, nat_eq, Option, Some, refl, sym, ap, ◌∙◌, arith, append_assoc}
+use Rattle.std.proofs.Common.{append-nil}
+use Rattle.std.specs.List.{AllByRecursion}
+use Rattle.std.proofs.lemmas.Bool.{cond_both, eqb-true, ne_eqb, and_parts}
+use Rattle.std.proofs.lemmas.Bool.Decides.{nat_tests}
+use Rattle.vte_core.specs.Event.{Event, Print}
+use Rattle.vte_types.specs.Call as call
+use Rattle.vte_types.specs.Call.{Call}
+use Rattle.vte_types.specs.declared.attr.Attr.{Attr}
+use Rattle.vte.specs.Sgr.{attributes, nothing}
+use Rattle.vte.specs.Table.{calls_of, last_after}
+use Rattle.vte.specs.Performed.{last_after_all, calls_of_all}
+use Rattle.vt100_forms.specs.declared.modes.MouseProtocolMode.{MouseProtocolMode}
+use Rattle.vt100_forms.specs.declared.modes.MouseProtocolMode.TheVariants as mouse
+use Rattle.vt100_forms.specs.declared.modes.MouseProtocolEncoding.{MouseProtocolEncoding}
+use Rattle.vt100_forms.specs.declared.modes.MouseProtocolEncoding.TheVariants as encoding
+use Rattle.vt100_forms.specs.declared.modes.CursorStyle.{CursorStyle}
+use Rattle.vt100_forms.specs.declared.modes.CursorStyle.TheVariants as style
+use Rattle.vt100_forms.specs.Form.{Form, Text, MoveTo, MoveRight, EraseChar, ClearRowForward, ClearScreen, ClearAttrs}
+use Rattle.vt100_forms.specs.Form.{Crlf, Lf, Backspace, SaveCursor, RestoreCursor, HideCursor, Keypad, CursorKeys}
+use Rattle.vt100_forms.specs.Form.{Paste, Mouse, Encoding, Style, Sgr, mouse_number, encoding_number, style_number}
+use Rattle.vt100_forms.specs.Form.{sgr_numbers}
+use Rattle.vt100_forms.specs.Length.{HasSmallNumbers}
+use Rattle.forms_read.specs.Events.{kept_number, sequence, bare, counted_events, set_event, reset_event, mode_events}
+use Rattle.forms_read.specs.Events.{sgr_events, events_of, events_of_all}
+use Rattle.forms_read.specs.Laws.{IsReadable}
+use Rattle.forms_read.proofs.ReadForms.{list-read}
+use Rattle.forms_read.specs.Calls.{set_call, reset_call, mode_calls, style_told, form_calls}
+use Rattle.forms_read.specs.CallLaws.{EachFormCalls, EachListCalls, EachSpellingCalls}
+use Rattle.forms_read.proofs.Told.{groups_told, IsToldBy, told-change, told-all}
+
+-- ---- text
+
+calls-text : (last : Option ℕ) (cs : List ℕ) → calls_of_all last (map Print cs) ≡ map call.input cs
+calls-text last [] = refl
+calls-text last (c ∷ cs) = ap (λ xs. call.input c ∷ xs) (calls-text (Some c) cs)
+
+-- ---- places and counts
+
+kept-some : (k : ℕ) → 0 < k → nat_eq (kept_number k) 0 ≡ false
+kept-some k h = ne_eqb (kept_number k) 0 (λ e. absurd (omega (arith, e, h)))
+
+calls-MoveTo : (last : Option ℕ) (r c : ℕ) → calls_of_all last (events_of (MoveTo r c)) ≡ form_calls (MoveTo r c)
+calls-MoveTo last r c =
+    cond_both ((r == 0) && (c == 0)) (bare 0x48 ∷ []) (sequence [] ((r + 1) ∷ (c + 1) ∷ []) 0x48 ∷ [])
+    (λ es. calls_of_all last es ≡ form_calls (MoveTo r c))
+    (λ e. let parts = and_parts (r == 0) (c == 0) e in
+    let row = eqb-true r 0 parts.0 in
+    let col = eqb-true c 0 parts.1 in
+    sym (λ i. form_calls (MoveTo (row i) (col i))))
+    (λ _. rw (kept-some (r + 1) (omega arith), kept-some (c + 1) (omega arith)) refl)
+
+nonzero : (k : ℕ) → (k == 0) ≡ false → 0 < k
+nonzero k h = grind (arith, nat_tests)
+
+calls-counted : (last : Option ℕ) (k final : ℕ) (told : ℕ → Call)
+    → calls_of_all last (bare final ∷ []) ≡ told 1 ∷ []
+    → calls_of_all last (sequence [] (k ∷ []) final ∷ [])
+    ≡ told (cond (nat_eq (kept_number k) 0) 1 (kept_number k)) ∷ []
+    → calls_of_all last (counted_events k final) ≡ cond (k == 0) [] (told (kept_number k) ∷ [])
+calls-counted last k final told one many =
+    (elim (k == 0) as (λ b. (k == 0) ≡ b → calls_of_all last (cond b [] (cond (k == 1) (bare final ∷ [])
+    (sequence [] (k ∷ []) final ∷ []))) ≡ cond b [] (told (kept_number k) ∷ [])) [
+      | true ↦ λ _. refl
+      | false ↦ λ e.
+          cond_both (k == 1) (bare final ∷ []) (sequence [] (k ∷ []) final ∷ [])
+          (λ es. calls_of_all last es ≡ told (kept_number k) ∷ [])
+          (λ q. one ∙ ap (λ j. told (kept_number j) ∷ []) (sym (eqb-true k 1 q)))
+          (λ _. many ∙ ap (λ b. told (cond b 1 (kept_number k)) ∷ []) (kept-some k (nonzero k e)))
+    ]) refl
+
+-- ---- modes
+
+calls-set : (last : Option ℕ) (k : ℕ) → k < 2 ^ 16 → calls_of_all last (set_event k ∷ []) ≡ set_call k ∷ []
+calls-set last k h = let kept : kept_number k ≡ k = omega (arith, h) in ap (λ j. set_call j ∷ []) kept
+
+calls-reset : (last : Option ℕ) (k : ℕ) → k < 2 ^ 16 → calls_of_all last (reset_event k ∷ []) ≡ reset_call k ∷ []
+calls-reset last k h = let kept : kept_number k ≡ k = omega (arith, h) in ap (λ j. reset_call j ∷ []) kept
+
+calls-mode : (last : Option ℕ) (to from : ℕ) → to < 2 ^ 16 → from < 2 ^ 16
+    → calls_of_all last (mode_events to from) ≡ mode_calls to from
+calls-mode last to from h k =
+    elim (to == from) as (λ b. calls_of_all last (cond b [] (cond (to == 0) (reset_event from ∷ [])
+    (set_event to ∷ []))) ≡ cond b [] (cond (to == 0) (reset_call from ∷ []) (set_call to ∷ []))) [
+      | true ↦ refl
+      | false ↦
+          elim (to == 0) as (λ b. calls_of_all last (cond b (reset_event from ∷ []) (set_event to ∷ []))
+          ≡ cond b (reset_call from ∷ []) (set_call to ∷ [])) [
+            | true ↦ calls-reset last from k
+            | false ↦ calls-set last to h
+          ]
+    ]
+
+mouse-small : (m : MouseProtocolMode) → mouse_number m < 2 ^ 16
+mouse-small mouse.None = omega arith
+mouse-small mouse.Press = omega arith
+mouse-small mouse.PressRelease = omega arith
+mouse-small mouse.ButtonMotion = omega arith
+mouse-small mouse.AnyMotion = omega arith
+
+encoding-small : (e : MouseProtocolEncoding) → encoding_number e < 2 ^ 16
+encoding-small encoding.Default = omega arith
+encoding-small encoding.Utf8 = omega arith
+encoding-small encoding.Sgr = omega arith
+
+style-called : (last : Option ℕ) (s : CursorStyle)
+    → calls_of_all last (sequence (0x20 ∷ []) (style_number s ∷ []) 0x71 ∷ [])
+    ≡ call.set_cursor_style (style_told s) ∷ []
+style-called last style.Default = refl
+style-called last style.BlinkBlock = refl
+style-called last style.SteadyBlock = refl
+style-called last style.BlinkUnderline = refl
+style-called last style.SteadyUnderline = refl
+style-called last style.BlinkVerticalBar = refl
+style-called last style.SteadyVerticalBar = refl
+
+calls-Style : (last : Option ℕ) (to from : CursorStyle)
+    → calls_of_all last (events_of (Style to from)) ≡ form_calls (Style to from)
+calls-Style last to from =
+    elim (style_number to == style_number from) as (λ b. calls_of_all last (cond b []
+    (sequence (0x20 ∷ []) (style_number to ∷ []) 0x71 ∷ [])) ≡ cond b [] (call.set_cursor_style (style_told to) ∷ [])) [
+      | true ↦ refl
+      | false ↦ style-called last to
+    ]
+
+-- ---- attributes
+
+calls-sgr : (last : Option ℕ) (ns : List ℕ) (xs : List Attr) → IsToldBy ns xs
+    → calls_of_all last (sgr_events ns) ≡ map call.terminal_attribute xs
+calls-sgr last [] xs h = ap (map call.terminal_attribute) (told-all [] xs h)
+calls-sgr last (k ∷ ns) xs h =
+    append-nil (map call.terminal_attribute (attributes nothing (groups_told (k ∷ ns))))
+    ∙ ap (map call.terminal_attribute) (told-all (k ∷ ns) xs h)
+
+-- ---- forms, lists of them, and their bytes
+
+pub form-called : EachFormCalls
+form-called last (Text cs) h = calls-text last cs
+form-called last (MoveTo r c) h = calls-MoveTo last r c
+form-called last (MoveRight k) h = calls-counted last k 0x43 call.move_forward refl refl
+form-called last (EraseChar k) h = calls-counted last k 0x58 call.erase_chars refl refl
+form-called last ClearRowForward h = refl
+form-called last ClearScreen h = refl
+form-called last ClearAttrs h = refl
+form-called last Crlf h = refl
+form-called last Lf h = refl
+form-called last Backspace h = refl
+form-called last SaveCursor h = refl
+form-called last RestoreCursor h = refl
+form-called last (HideCursor true) h = refl
+form-called last (HideCursor false) h = refl
+form-called last (Keypad true) h = refl
+form-called last (Keypad false) h = refl
+form-called last (CursorKeys true) h = refl
+form-called last (CursorKeys false) h = refl
+form-called last (Paste true) h = refl
+form-called last (Paste false) h = refl
+form-called last (Mouse to from) h =
+    calls-mode last (mouse_number to) (mouse_number from) (mouse-small to) (mouse-small from)
+form-called last (Encoding to from) h =
+    calls-mode last (encoding_number to) (encoding_number from) (encoding-small to) (encoding-small from)
+form-called last (Style to from) h = calls-Style last to from
+form-called last (Sgr c) h = calls-sgr last (sgr_numbers c) _ (told-change c h.0 h.1)
+
+calls-joined : (last : Option ℕ) (es gs : List Event)
+    → calls_of_all last (es ++ gs) ≡ calls_of_all last es ++ calls_of_all (last_after_all last es) gs
+calls-joined last [] gs = refl
+calls-joined last (e ∷ es) gs =
+    ap (λ xs. calls_of last e ++ xs) (calls-joined (last_after last e) es gs)
+    ∙ sym (append_assoc (calls_of last e) (calls_of_all (last_after last e) es)
+    (calls_of_all (last_after_all (last_after last e) es) gs))
+
+pub list-called : EachListCalls
+list-called last [] h = refl
+list-called last (f ∷ fs) h =
+    calls-joined last (events_of f) (events_of_all fs)
+    ∙ (λ i. form-called last f h.0 i ++ list-called (last_after_all last (events_of f)) fs h.1 i)
+
+small-of : (fs : List Form) → AllByRecursion IsReadable fs → AllByRecursion HasSmallNumbers fs
+small-of [] h = tt
+small-of (f ∷ fs) h = (h.0.1, small-of fs h.1)
+
+pub spelling-called : EachSpellingCalls
+spelling-called k past last fs g h =
+    ap (calls_of_all last) (list-read k past fs g h).0 ∙ list-called last fs (small-of fs h)

@@ -1,0 +1,7 @@
+pub mod Examples
+pub mod Numbers
+pub mod ReadForms
+pub mod SentTexts
+pub mod Told
+pub mod Calling
+pub mod Stepping

@@ -1,0 +1,135 @@
+-- What a handler is called for each form.
+use Rattle.std.specs.Prelude.{ℕ, pos, ◌+◌, ◌-◌, ◌==◌, Bool, true, false, List, [], ◌∷◌, ◌++◌, map, nat_lt, unwrap_or}
+use Rattle.std.specs.Prelude.{Option, Some, None, if◌then◌else◌}
+use Rattle.std.specs.List.{flat_map}
+use Rattle.vte_types.specs.Call as call
+use Rattle.vte_types.specs.Call.{Call}
+use Rattle.vte_types.specs.Lookup.{lookup}
+use Rattle.vte_types.specs.Mode.{private_mode_of}
+use Rattle.vte_types.specs.declared.attr.Attr.{Attr}
+use Rattle.vte_types.specs.declared.attr.Attr.TheVariants as a
+use Rattle.vte_types.specs.declared.clear.ClearMode.TheVariants as screen
+use Rattle.vte_types.specs.declared.clear.LineClearMode.TheVariants as line
+use Rattle.vte_types.specs.declared.color.Color.{Color as Told}
+use Rattle.vte_types.specs.declared.color.Color.TheVariants.{Named, Spec, Indexed}
+use Rattle.vte_types.specs.declared.color.NamedColor.{NamedColor}
+use Rattle.vte_types.specs.declared.color.NamedColor.TheVariants as n
+use Rattle.vte_types.specs.declared.cursor.CursorShape.TheVariants as shape
+use Rattle.vte_types.specs.declared.cursor.CursorStyle.{CursorStyle as Drawn}
+use Rattle.vt100_forms.specs.declared.attrs.Color.{Color}
+use Rattle.vt100_forms.specs.declared.attrs.Color.TheVariants.{Default, Idx, Rgb}
+use Rattle.vt100_forms.specs.declared.term.Intensity.{Intensity}
+use Rattle.vt100_forms.specs.declared.term.Intensity.TheVariants.{Normal, Bold, Dim}
+use Rattle.vt100_forms.specs.declared.modes.CursorStyle.{CursorStyle}
+use Rattle.vt100_forms.specs.declared.modes.CursorStyle.TheVariants as style
+use Rattle.vt100_forms.specs.Form.{Form, Text, MoveTo, MoveRight, EraseChar, ClearRowForward, ClearScreen, ClearAttrs}
+use Rattle.vt100_forms.specs.Form.{Crlf, Lf, Backspace, SaveCursor, RestoreCursor, HideCursor, Keypad, CursorKeys}
+use Rattle.vt100_forms.specs.Form.{Paste, Mouse, Encoding, Style, Sgr, Change, mouse_number, encoding_number}
+use Rattle.vt100_forms.specs.Form.{style_number}
+use Rattle.forms_read.specs.Events.{kept_number}
+
+-- ---- attributes
+
+-- the 16 colours that have names
+abbrev pub named_rows : List (ℕ × NamedColor)
+named_rows =
+    (0, n.Black) ∷ (1, n.Red) ∷ (2, n.Green) ∷ (3, n.Yellow) ∷ (4, n.Blue) ∷ (5, n.Magenta) ∷ (6, n.Cyan)
+    ∷ (7, n.White)
+    ∷ (8, n.BrightBlack) ∷ (9, n.BrightRed) ∷ (10, n.BrightGreen) ∷ (11, n.BrightYellow) ∷ (12, n.BrightBlue)
+    ∷ (13, n.BrightMagenta) ∷ (14, n.BrightCyan) ∷ (15, n.BrightWhite) ∷ []
+
+abbrev pub name_of : ℕ → NamedColor
+name_of i = unwrap_or (lookup i named_rows) n.Foreground
+
+-- a colour, where `own` is the terminal's own one
+abbrev pub colour_told : NamedColor → Color → Told
+colour_told own Default = Named own
+colour_told own (Idx i) = if nat_lt i 16 then Named (name_of i) else Indexed i
+colour_told own (Rgb r g b) = Spec (record { r = r; g = g; b = b })
+
+abbrev pub foreground_told : Option Color → List Attr
+foreground_told None = []
+foreground_told (Some x) = a.Foreground (colour_told n.Foreground x) ∷ []
+
+abbrev pub background_told : Option Color → List Attr
+background_told None = []
+background_told (Some x) = a.Background (colour_told n.Background x) ∷ []
+
+abbrev pub intensity_told : Option Intensity → List Attr
+intensity_told None = []
+intensity_told (Some Normal) = a.CancelBoldDim ∷ []
+intensity_told (Some Bold) = a.Bold ∷ []
+intensity_told (Some Dim) = a.Dim ∷ []
+
+abbrev pub flag_told : Attr → Attr → Option Bool → List Attr
+flag_told on off None = []
+flag_told on off (Some true) = on ∷ []
+flag_told on off (Some false) = off ∷ []
+
+-- what a change of attributes asks for, in order
+abbrev pub change_told : Change → List Attr
+change_told c =
+    foreground_told c.fgcolor ++ background_told c.bgcolor ++ intensity_told c.intensity
+    ++ flag_told a.Italic a.CancelItalic c.italic
+    ++ flag_told a.Underline a.CancelUnderline c.underline ++ flag_told a.Reverse a.CancelReverse c.inverse
+
+-- ---- modes, and the cursor's style
+
+abbrev pub set_call : ℕ → Call
+set_call number = call.set_private_mode (private_mode_of number)
+
+abbrev pub reset_call : ℕ → Call
+reset_call number = call.unset_private_mode (private_mode_of number)
+
+-- from one mode to another, by their numbers, where 0 is the default
+abbrev pub mode_calls : ℕ → ℕ → List Call
+mode_calls to from =
+    if to == from then []
+    else if to == 0 then reset_call from ∷ []
+    else set_call to ∷ []
+
+abbrev pub style_told : CursorStyle → Option Drawn
+style_told style.Default = None
+style_told style.BlinkBlock = Some (record { shape = shape.Block; blinking = true })
+style_told style.SteadyBlock = Some (record { shape = shape.Block; blinking = false })
+style_told style.BlinkUnderline = Some (record { shape = shape.Underline; blinking = true })
+style_told style.SteadyUnderline = Some (record { shape = shape.Underline; blinking = false })
+style_told style.BlinkVerticalBar = Some (record { shape = shape.Beam; blinking = true })
+style_told style.SteadyVerticalBar = Some (record { shape = shape.Beam; blinking = false })
+
+-- ---- forms
+
+-- a row or a column counted from 1 is spelled, read, and counted from 0 again: 65,535 comes back as 65,534
+abbrev pub place_told : ℕ → ℕ
+place_told r = kept_number (r + 1) - 1
+
+abbrev pub form_calls : Form → List Call
+form_calls (Text cs) = map call.input cs
+form_calls (MoveTo r c) = call.goto (pos (place_told r)) (place_told c) ∷ []
+form_calls (MoveRight count) = if count == 0 then [] else call.move_forward (kept_number count) ∷ []
+form_calls (EraseChar count) = if count == 0 then [] else call.erase_chars (kept_number count) ∷ []
+form_calls ClearRowForward = call.clear_line line.Right ∷ []
+form_calls ClearScreen = call.goto (pos 0) 0 ∷ call.clear_screen screen.Below ∷ []
+form_calls ClearAttrs = call.terminal_attribute a.Reset ∷ []
+form_calls Crlf = call.carriage_return ∷ call.linefeed ∷ []
+form_calls Lf = call.linefeed ∷ []
+form_calls Backspace = call.backspace ∷ []
+form_calls SaveCursor = call.save_cursor_position ∷ []
+form_calls RestoreCursor = call.restore_cursor_position ∷ []
+form_calls (HideCursor true) = reset_call 25 ∷ []
+form_calls (HideCursor false) = set_call 25 ∷ []
+form_calls (Keypad true) = call.set_keypad_application_mode ∷ []
+form_calls (Keypad false) = call.unset_keypad_application_mode ∷ []
+form_calls (CursorKeys true) = set_call 1 ∷ []
+form_calls (CursorKeys false) = reset_call 1 ∷ []
+form_calls (Paste true) = set_call 2004 ∷ []
+form_calls (Paste false) = reset_call 2004 ∷ []
+form_calls (Mouse to from) = mode_calls (mouse_number to) (mouse_number from)
+form_calls (Encoding to from) = mode_calls (encoding_number to) (encoding_number from)
+form_calls (Style to from) = if style_number to == style_number from then [] else call.set_cursor_style (style_told to)
+    ∷ []
+form_calls (Sgr change) = map call.terminal_attribute (change_told change)
+
+-- the calls of a list of forms
+abbrev pub form_calls_all : List Form → List Call
+form_calls_all fs = flat_map form_calls fs

@@ -1,0 +1,47 @@
+-- What is true of the events of forms.
+use Rattle.std.specs.Prelude.{ℕ, ◌≡◌, false, ◌||◌, nat_lt, List, ◌++◌}
+use Rattle.std.specs.Char.{IsScalar}
+use Rattle.std.specs.Int.{is_in_range}
+use Rattle.std.specs.List.{AllByRecursion}
+use Rattle.vte_core.specs.Event.{Event}
+use Rattle.vte_core.specs.Shapes.{events}
+use Rattle.vte_core.specs.Added.{added}
+use Rattle.vte_core.specs.Ground.{AtGround}
+use Rattle.vt100_forms.specs.Form.{Form, Text, spelling, spell}
+use Rattle.vt100_forms.specs.Length.{HasSmallNumbers}
+use Rattle.terminal_model.specs.FormText.{IsSentText, IsSentForm}
+use Rattle.forms_read.specs.Events.{events_of, events_of_all}
+
+-- a parser prints the character: it is no control, in ASCII or from U+0080 to U+009F
+abbrev pub IsPrinted : ℕ → Type 0
+IsPrinted c = IsScalar c × ((nat_lt c 0x20 || is_in_range 0x80 0x9F c) ≡ false)
+
+abbrev pub HasPrintedText : Form → Type 0
+HasPrintedText (Text cs) = AllByRecursion IsPrinted cs
+HasPrintedText _ = Unit {0}
+
+-- its text is printed, and its numbers are of the code's types
+abbrev pub IsReadable : Form → Type 0
+IsReadable f = HasPrintedText f × HasSmallNumbers f
+
+-- ---- what a parser makes of it
+
+-- a parser that keeps n bytes of an operating system command reads these bytes as these events, and is at ground then
+abbrev pub IsReadAs : ℕ → List ℕ → List Event → Type 0
+IsReadAs n bytes es = (events n bytes ≡ es) × AtGround n bytes
+
+abbrev pub EachFormIsRead : Type 0
+EachFormIsRead = (n : ℕ) (f : Form) → IsReadable f → IsReadAs n (spelling f) (events_of f)
+
+-- after any past that ends at ground
+abbrev pub EachListIsRead : Type 0
+EachListIsRead = (n : ℕ) (past : List ℕ) (fs : List Form) → AtGround n past → AllByRecursion IsReadable fs
+    → (added n past (spell fs) ≡ events_of_all fs) × AtGround n (past ++ spell fs)
+
+-- what writers send as the text of a cell, U+FE0F included, is printed
+abbrev pub EachSentTextIsPrinted : Type 0
+EachSentTextIsPrinted = (cs : List ℕ) → IsSentText cs → HasPrintedText (Text cs)
+
+-- so a parser reads each form that writers send
+abbrev pub EachSentFormIsReadable : Type 0
+EachSentFormIsReadable = (f : Form) → IsSentForm f → IsReadable f

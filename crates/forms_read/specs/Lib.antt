@@ -1,0 +1,12 @@
+pub mod Events
+pub mod Examples
+pub mod Laws
+pub mod Calls
+pub mod CallLaws
+pub mod Terminals
+pub use Rattle.terminal_model.specs.FormText
+pub use Rattle.vt100_forms.specs.Attrs
+pub use Rattle.vt100_forms.specs.Form
+pub use Rattle.vte_core.specs.Event
+pub use Rattle.terminal_model.specs.Apply
+pub use Rattle.vte.specs.Performed

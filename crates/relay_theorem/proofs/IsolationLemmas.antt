@@ -1,0 +1,94 @@
+-- Sessions of two runs, or of two logs, with the same own calls.
+use Rattle.std.proofs.Common.{◌≡◌, ◌∙◌, ℕ, Bool, false, List, [], Option, Some, refl, sym, ap, subst}
+use Rattle.termrelay.specs.Answers.{ClientState}
+use Rattle.termrelay.specs.Hub.{HubState, clients_in}
+use Rattle.termrelay.specs.Calls.{Call}
+use Rattle.termrelay.specs.Log.{SessionView, LogView}
+use Rattle.relay_theorem.specs.History.{as_told, Story}
+use Rattle.relay_theorem.specs.Laws.{IsSession}
+use Rattle.relay_theorem.specs.Isolation.{Own, own_calls, AreAlike, SessionsAreIsolated}
+use Rattle.relay_theorem.specs.Logged.{IsLogged}
+use Rattle.relay_theorem.specs.Isolation.{LoggedSessionsAreIsolated}
+use Rattle.relay_theorem.proofs.ServesLemmas.{logs-follow}
+use Rattle.relay_theorem.proofs.LoggedLemmas.{IsHistory, story-at}
+use Rattle.relay_theorem.proofs.OwnLemmas.{Life, story_of}
+use Rattle.relay_theorem.proofs.OwnRunLemmas.{Found, session-found}
+
+-- ---- two runs
+
+module _ (rows cols : ℕ) (t u : Story) (h k : HubState as_told) (owns : List Own) (a : Found rows cols [] owns h t)
+    (b : Found rows cols [] owns k u) where
+  abbrev these : Life × Bool
+  these = (a.life, a.gone)
+
+  abbrev those : Life × Bool
+  those = (b.life, b.gone)
+
+  same-lives : these ≡ those
+  same-lives = let both : Some these ≡ Some those = sym a.told ∙ b.told in cc
+
+  same-by : {A : Type 0} (f : Story → A) (part : Life × Bool → A)
+      → ((key : ℕ) (l : Life × Bool) → f (story_of rows cols key l.1 l.0) ≡ part l) → f t ≡ f u
+  same-by f part is = ap f a.is ∙ is a.key these ∙ ap part same-lives ∙ sym (is b.key those) ∙ sym (ap f b.is)
+
+  found-alike : AreAlike t.session u.session (clients_in h) (clients_in k)
+  found-alike = record {
+    rows = same-by (λ x. x.session.rows) (λ l. l.0.rows) (λ key l. refl);
+    cols = same-by (λ x. x.session.cols) (λ l. l.0.cols) (λ key l. refl);
+    pumped = same-by (λ x. x.session.pumped) (λ l. l.0.pumped) (λ key l. refl);
+    ended = same-by (λ x. x.session.ended) (λ l. l.1) (λ key l. refl);
+    clients = λ live.
+        let on : a.gone ≡ false = sym (ap (λ (x : Story). x.session.ended) a.is) ∙ live in
+        let also : b.gone ≡ false = sym (ap (λ l. l.1) same-lives) ∙ on in
+        ap (λ (x : Story). h.clients x.session.client) a.is ∙ a.client on
+        ∙ ap (λ l. Some (l.0.client)) same-lives
+        ∙ sym (ap (λ (x : Story). k.clients x.session.client) b.is ∙ b.client also);
+  }
+
+  found-answered : t.entries ≡ u.entries
+  found-answered = same-by (λ x. x.entries) (λ l. l.0.entries) (λ key l. refl)
+
+pub sessions-isolated : SessionsAreIsolated
+sessions-isolated rows cols calls others replies answers n m t u s z fed also same =
+    let owns = own_calls m others answers in
+    let a : Found rows cols [] owns s.hub t =
+    subst (λ own. Found rows cols [] own s.hub t) same (session-found rows cols calls replies n t s fed) in
+    let b = session-found rows cols others answers m u z also in
+    (found-alike rows cols t u s.hub z.hub owns a b, found-answered rows cols t u s.hub z.hub owns a b)
+
+-- ---- two logs
+
+-- a log's session, and its story
+pub record LoggedStory (rows cols : ℕ) (calls : List Call) (l : LogView) (n : ℕ) (s : SessionView)
+    (clients : ℕ → Option ClientState) : Type 0 where
+  pub story : Story
+  pub session : IsSession rows cols calls l.replies n story
+  pub logged : story.session ≡ s
+  pub kept : clients ≡ clients_in session.hub
+
+logged-story : (rows cols : ℕ) (calls : List Call) (l : LogView) (n : ℕ) (s : SessionView)
+    → (a : IsLogged rows cols calls l n s) → LoggedStory rows cols calls l n s (clients_in a.after)
+logged-story rows cols calls l n s a =
+    let all : IsHistory rows cols calls l.replies a.after l.sessions =
+    subst (λ replies. IsHistory rows cols calls replies a.after l.sessions) (sym a.ran.1)
+    (logs-follow rows cols calls a.ran.0 a.hub a.after l.sessions a.new a.ran.2) in
+    let found = story-at l.sessions all.1 n s all.4 a.is in
+    record {
+      story = found.story;
+      session =
+          record { height = a.height; width = a.width; hub = all.0; stories = all.1; ran = all.2; is = found.is };
+      logged = found.logged;
+      kept = all.3.clients;
+    }
+
+pub logged-isolated : LoggedSessionsAreIsolated
+logged-isolated rows cols calls others l k n m s z a b fed also same =
+    let x = logged-story rows cols calls l n s a in
+    let y = logged-story rows cols others k m z b in
+    let both = sessions-isolated rows cols calls others l.replies k.replies n m x.story y.story x.session y.session fed
+    also same in
+    let these : AreAlike x.story.session y.story.session (clients_in a.after) (clients_in b.after) =
+    subst (λ c. AreAlike x.story.session y.story.session c (clients_in b.after)) (sym x.kept)
+    (subst (λ c. AreAlike x.story.session y.story.session (clients_in x.session.hub) c) (sym y.kept) both.0) in
+    subst (λ v. AreAlike v z (clients_in a.after) (clients_in b.after)) x.logged
+    (subst (λ v. AreAlike x.story.session v (clients_in a.after) (clients_in b.after)) y.logged these)

@@ -1,0 +1,97 @@
+-- What a far terminal shows of a log's session.
+use Rattle.std.proofs.Common.{◌≡◌, ◌∙◌, ℕ, zero, suc, List, [], ◌∷◌, map, Some, None, sym, ap, subst, refl}
+use Rattle.std.specs.Prelude.{slice_get}
+use Rattle.terminal_model.specs.Term.{shown_of}
+use Rattle.termview.specs.Seen.{seen}
+use Rattle.termrelay.specs.declared.call.Reply.{Reply}
+use Rattle.termrelay.specs.Calls.{Call}
+use Rattle.termrelay.specs.Hub.{HubState, as_kept}
+use Rattle.termrelay.specs.Log.{SessionView, LogView}
+use Rattle.relay_theorem.specs.History.{as_told, Story, fresh, size_of_session, RunsTold}
+use Rattle.relay_theorem.specs.Laws.{IsSession}
+use Rattle.relay_theorem.specs.Headline.{Reads}
+use Rattle.relay_theorem.specs.Serves.{Matches}
+use Rattle.relay_theorem.specs.Logged.{IsLogged, HasStory, EachLoggedReadIsARead, LoggedFramesAreShown}
+use Rattle.relay_theorem.specs.Logged.{WholeLoggedFramesAreShown}
+use Rattle.relay_theorem.proofs.HeadlineLemmas.{last-shown, wholes-shown}
+use Rattle.relay_theorem.proofs.ServesLemmas.{logs-follow}
+
+-- a session of a log, and its story
+pub record FoundStory (s : SessionView) (ts : List Story) (n : ℕ) : Type 0 where
+  pub story : Story
+  pub is : slice_get ts n ≡ Some story
+  pub logged : story.session ≡ s
+
+found-at : (ts : List Story) (n : ℕ) (s : SessionView) → slice_get (map (λ t. t.session) ts) n ≡ Some s
+    → FoundStory s ts n
+found-at [] n s e = absurd (let no : None ≡ Some s = e in cc)
+found-at (t ∷ ts) zero s e = record { story = t; is = refl; logged = cc }
+found-at (t ∷ ts) (suc n) s e =
+    let later = found-at ts n s e in
+    record { story = later.story; is = later.is; logged = later.logged }
+
+pub story-at : (ss : List SessionView) (ts : List Story) (n : ℕ) (s : SessionView) → map (λ t. t.session) ts ≡ ss
+    → slice_get ss n ≡ Some s → FoundStory s ts n
+story-at ss ts n s are e = found-at ts n s (ap (λ xs. slice_get xs n) are ∙ e)
+
+-- the log's sessions are those of a history of its replies
+abbrev pub IsHistory : ℕ → ℕ → List Call → List Reply → HubState as_kept → List SessionView → Type 0
+IsHistory rows cols calls replies g ss =
+    (u : HubState as_told) × (ts : List Story) × RunsTold (fresh rows cols) [] calls replies u ts × Matches g u
+    × (map (λ t. t.session) ts ≡ ss)
+
+abbrev IsRead : ℕ → ℕ → List Call → LogView → ℕ → SessionView → List (List ℕ) → List ℕ → Type 0
+IsRead rows cols calls l n s pieces parsed =
+    (t : Story) × HasStory rows cols calls l n s t × Reads rows cols calls l.replies n t pieces parsed
+
+abbrev IsTold : ℕ → ℕ → List Call → LogView → ℕ → SessionView → Type 0
+IsTold rows cols calls l n s = (t : Story) × HasStory rows cols calls l n s t
+
+story-of : (rows cols : ℕ) (calls : List Call) (l : LogView) (n : ℕ) (s : SessionView) → IsLogged rows cols calls l n s
+    → IsTold rows cols calls l n s
+story-of rows cols calls l n s r =
+    let all : IsHistory rows cols calls l.replies r.after l.sessions =
+    subst (λ replies. IsHistory rows cols calls replies r.after l.sessions) (sym r.ran.1)
+    (logs-follow rows cols calls r.ran.0 r.hub r.after l.sessions r.new r.ran.2) in
+    let found = story-at l.sessions all.1 n s all.4 r.is in
+    let session : IsSession rows cols calls l.replies n found.story =
+    record { height = r.height; width = r.width; hub = all.0; stories = all.1; ran = all.2; is = found.is } in
+    (found.story, record { session = session; logged = found.logged })
+
+pub logged-reads : EachLoggedReadIsARead
+logged-reads rows cols calls l n s pieces parsed r =
+    let told : IsTold rows cols calls l n s = story-of rows cols calls l n s r.session in (
+      told.0,
+      told.1,
+      record {
+        session = told.1.session;
+        beyond = r.beyond;
+        pumped = r.pumped ∙ ap (λ (x : SessionView). x.pumped) (sym told.1.logged);
+        hold = r.hold;
+        leads = r.leads;
+      },
+    )
+
+pub logged-whole : WholeLoggedFramesAreShown
+logged-whole rows cols calls l n s r =
+    let told : IsTold rows cols calls l n s = story-of rows cols calls l n s r in (
+      told.0,
+      told.1,
+      λ front back moves parsed hold are is leads.
+          let out = wholes-shown rows cols calls l.replies n told.0 front back moves parsed hold told.1.session are is
+          leads in (
+            out.0,
+            λ sure. ap (λ (x : SessionView). shown_of (seen (size_of_session x) parsed)) (sym told.1.logged) ∙ out.1 sure,
+          ),
+    )
+
+pub logged-shown : LoggedFramesAreShown
+logged-shown rows cols calls l n s pieces parsed r =
+    let read : IsRead rows cols calls l n s pieces parsed = logged-reads rows cols calls l n s pieces parsed r in
+    let t = read.0 in (
+      t,
+      read.1,
+      λ sure.
+          ap (λ (x : SessionView). shown_of (seen (size_of_session x) parsed)) (sym read.1.logged)
+          ∙ last-shown rows cols calls l.replies n t pieces parsed read.2 sure,
+    )

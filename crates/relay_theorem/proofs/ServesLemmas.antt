@@ -1,0 +1,397 @@
+-- Runs of a hub are histories.
+use Rattle.std.proofs.Common.{◌≡◌, ◌∙◌, ℕ, ◌+◌, ◌-◌, ◌<◌, true, false, List, [], ◌∷◌, ◌++◌, drop, length, min}
+use Rattle.std.proofs.Common.{map, Option, Some, None, Result, Ok, Err, refl, sym, ap, subst, arith}
+use Rattle.std.proofs.Common.{length-drop}
+use Rattle.std.specs.Prelude.{◌==◌}
+use Rattle.std.proofs.lemmas.Bool.Decides.{nat_tests}
+use Rattle.std.proofs.lemmas.List.{map-append}
+use Rattle.std.specs.declared.io.Error.{Error}
+use Rattle.vt100_core.specs.Picture.{size_of}
+use Rattle.screen_model.specs.Call.{ScreenView}
+use Rattle.screen_model.specs.Shown.{shown_state}
+use Rattle.screen_model.specs.Made.{Fed, Resized, bytes_fed, events_added, made}
+use Rattle.vt100.specs.Memory.{some_may_take}
+use Rattle.vt100.specs.Parsing.{ParserView, HasRead, StandsAt}
+use Rattle.takers.specs.Pump.{Pumps, all, nothing, fault, some}
+use Rattle.termrelay.specs.Answers.{ClientState, answer_of, after_answer, may_take_memory}
+use Rattle.termrelay.specs.Hub.{Telling, HubState, as_kept, is_failed, screen_in, clients_in}
+use Rattle.termrelay.specs.Hub.{with_client, new_client, no_clients, Puts, IsNewHub, Feeds, Resizes, Attaches}
+use Rattle.termrelay.specs.Hub.{DetachesFrom, CanFrame, Framed, pump_answer, PumpsFrom}
+use Rattle.termrelay.specs.declared.answer.Answer.{Answer}
+use Rattle.termrelay.specs.declared.error.HubError.{HubError}
+use Rattle.termrelay.specs.declared.error.HubError.TheVariants as hub
+use Rattle.termrelay.specs.declared.call.Take.{Take}
+use Rattle.termrelay.specs.declared.call.Take.TheVariants.{Bytes, Fault}
+use Rattle.termrelay.specs.declared.call.Reply.{Reply}
+use Rattle.termrelay.specs.declared.call.Reply.TheVariants.{Done, Attached, Answered, Refused}
+use Rattle.termrelay.specs.Calls.{Call, Feed, Resize, Attach, Detach, Frame, Pump, taken_by, WritesAsTold, Serves, Runs}
+use Rattle.termrelay.specs.Calls.{done, replied}
+use Rattle.termrelay.specs.Log.{SessionView, is_of, change_last, begun, ended, grown, bytes_taken, sessions_after}
+use Rattle.termrelay.specs.Log.{RunsLogged}
+use Rattle.takers.proofs.PumpLemmas.{drop-least}
+use Rattle.termrelay.proofs.ScriptLemmas.{takes-nothing, some-owed, first-none, first-fault, first-some, ok-number}
+use Rattle.termrelay.proofs.ScriptLemmas.{pumped-left}
+use Rattle.relay_theorem.specs.History.{as_told, fresh, Story, is_on, with_session, with_entries, entries_of}
+use Rattle.relay_theorem.specs.History.{stories_after, RunsTold}
+use Rattle.relay_theorem.specs.Serves.{IsPumpReply, EachPumpTakesAsTold, EachPumpIsServed, Matches, EachRunHasAHistory}
+use Rattle.relay_theorem.specs.Serves.{EachLogHasAHistory}
+use Rattle.relay_theorem.proofs.StoryLemmas.{shown-changed, unchanged}
+
+-- ---- a call on a hub, and on what is told of it
+
+-- what is told after a call on a hub that is then g
+pub record Follows (u : HubState as_told) (call : Call) (reply : Reply) (g : HubState as_kept) : Type 0 where
+  pub after : HubState as_told
+  pub serves : Serves u call reply after
+  pub matches : Matches g after
+
+-- another client at a key
+abbrev put : HubState as_told → ℕ → Option ClientState → HubState as_told
+put u key slot = record u { clients = with_client u.clients key slot }
+
+module _ (h : HubState as_kept) (u : HubState as_told) (m : Matches h u) where
+  live : is_failed h ≡ false → is_failed u ≡ false
+  live e = sym m.failed ∙ e
+
+  dead : is_failed h ≡ true → is_failed u ≡ true
+  dead e = sym m.failed ∙ e
+
+  unchanged-matches : (g : HubState as_kept) → g ≡ h → Matches g u
+  unchanged-matches g e = subst (λ x. Matches x u) (sym e) m
+
+  put-matches : (key : ℕ) (slot : Option ClientState) (g : HubState as_kept) → Puts h key slot g
+      → Matches g (put u key slot)
+  put-matches key slot g puts = record {
+    failed = ap (λ (p : ParserView (Unit {0})). p.screen.failed) puts.0 ∙ m.failed;
+    parser = λ e. subst (λ p. StandsAt p u.parser.rows u.parser.cols 0 u.parser.acts) (sym puts.0) (m.parser e);
+    clients = puts.1 ∙ ap (λ clients. with_client clients key slot) m.clients;
+  }
+
+  -- what is shown is what is told
+  screen-now : is_failed u ≡ false → screen_in h ≡ screen_in u
+  screen-now e =
+      (m.parser e).screen
+      ∙ (λ i. record { state = made u.parser.rows u.parser.cols 0 u.parser.acts; failed = sym e i })
+
+  -- what may take memory by what has been read, may by what is told
+  may-take : (bytes : List ℕ) → is_failed h ≡ false
+      → ((past : List ℕ) → HasRead h.parser past → some_may_take (events_added past bytes) h.parser.screen.state ≡ true)
+      → some_may_take (events_added (bytes_fed u.parser.acts) bytes)
+      (made u.parser.rows u.parser.cols 0 u.parser.acts) ≡ true
+  may-take bytes e may =
+      let at = m.parser (live e) in
+      let past = bytes_fed u.parser.acts in
+      ap (λ (v : ScreenView). some_may_take (events_added past bytes) v.state) (sym at.screen) ∙ may past at.has_read
+
+  feed-follows : (bytes : List ℕ) (result : Result (Unit {0}) HubError) (g : HubState as_kept) → Feeds h bytes result g
+      → (v : HubState as_told) × Feeds u bytes result v × Matches g v
+  feed-follows bytes (Ok x) g f =
+      let p = u.parser in
+      let on = live f.0 in (
+        record u { parser = record p { acts = p.acts ++ Fed bytes ∷ [] } },
+        (on, on, refl, refl),
+        record {
+          failed = f.1 ∙ sym on;
+          parser = λ e. f.3 p.rows p.cols 0 p.acts (m.parser e);
+          clients = f.2 ∙ m.clients;
+        },
+      )
+  feed-follows bytes (Err hub.Memory) g f = (
+    record u { parser = record (u.parser) { failed = true } },
+    (live f.0, (may-take bytes f.0 f.1.1, refl), refl),
+    record {
+      failed = f.1.0;
+      parser = λ e. absurd (let no : true ≡ false = e in cc);
+      clients = f.2 ∙ m.clients;
+    },
+  )
+  feed-follows bytes (Err hub.Failed) g f = (u, (dead f.0, refl), unchanged-matches g f.1)
+  feed-follows bytes (Err hub.UnknownClient) g f = absurd f
+  feed-follows bytes (Err (hub.Write e)) g f = absurd f
+
+  resize-follows : (rows cols : ℕ) (result : Result (Unit {0}) HubError) (g : HubState as_kept)
+      → Resizes h rows cols result g → (v : HubState as_told) × Resizes u rows cols result v × Matches g v
+  resize-follows rows cols (Ok x) g f =
+      let p = u.parser in
+      let on = live f.0 in (
+        record { parser = record p { acts = p.acts ++ Resized rows cols ∷ [] }; clients = no_clients },
+        (on, on, refl, refl),
+        record {
+          failed = f.1 ∙ sym on;
+          parser = λ e. f.3 p.rows p.cols 0 p.acts (m.parser e);
+          clients = f.2;
+        },
+      )
+  resize-follows rows cols (Err hub.Memory) g f = (u, (live f.0, refl), unchanged-matches g f.1)
+  resize-follows rows cols (Err hub.Failed) g f = (u, (dead f.0, refl), unchanged-matches g f.1)
+  resize-follows rows cols (Err hub.UnknownClient) g f = absurd f
+  resize-follows rows cols (Err (hub.Write e)) g f = absurd f
+
+  attach-follows : (result : Result ℕ HubError) (g : HubState as_kept) → Attaches h result g
+      → (v : HubState as_told) × Attaches u result v × Matches g v
+  attach-follows (Ok key) g f = (
+    put u key (Some new_client),
+    (live f.0, ap (λ clients. clients key) (sym m.clients) ∙ f.1, (refl, refl)),
+    put-matches key (Some new_client) g f.2,
+  )
+  attach-follows (Err hub.Memory) g f = (u, (live f.0, refl), unchanged-matches g f.1)
+  attach-follows (Err hub.Failed) g f = (u, (dead f.0, refl), unchanged-matches g f.1)
+  attach-follows (Err hub.UnknownClient) g f = absurd f
+  attach-follows (Err (hub.Write e)) g f = absurd f
+
+  detach-follows : (key : ℕ) (o : Option ClientState) (result : Result (Unit {0}) HubError) (g : HubState as_kept)
+      → DetachesFrom h key o result g → (v : HubState as_told) × DetachesFrom u key o result v × Matches g v
+  detach-follows key None result g f = (u, (f.0, refl), unchanged-matches g f.1)
+  detach-follows key (Some c) result g f = (put u key None, (f.0, (refl, refl)), put-matches key None g f.1)
+
+  frame-follows : (key : ℕ) (o : Option ClientState) (result : Result Answer HubError) (g : HubState as_kept)
+      → CanFrame (screen_in h) o result → Framed h key o result g
+      → (v : HubState as_told) × (CanFrame (screen_in u) o result × Framed u key o result v) × Matches g v
+  frame-follows key None result g can f = (u, (can, refl), unchanged-matches g f)
+  frame-follows key (Some c) (Ok answer) g can f =
+      let on = live can.0 in
+      let same = screen-now on in
+      let after = λ (v : ScreenView). after_answer (size_of v.state.shown) (shown_state v.state) c answer in (
+        put u key (Some (after (screen_in u))),
+        ((on, can.1 ∙ ap (λ (v : ScreenView). answer_of v.state c) same), (refl, refl)),
+        put-matches key (Some (after (screen_in u))) g
+            (f.0, f.1 ∙ ap (λ v. with_client (clients_in h) key (Some (after v))) same),
+      )
+  frame-follows key (Some c) (Err hub.Memory) g can f =
+      let on = live can.0 in
+      let due = ap (λ (v : ScreenView). may_take_memory (answer_of v.state c)) (sym (screen-now on)) ∙ can.1 in
+      (u, ((on, due), refl), unchanged-matches g f)
+  frame-follows key (Some c) (Err hub.Failed) g can f = (u, (dead can, refl), unchanged-matches g f)
+  frame-follows key (Some c) (Err hub.UnknownClient) g can f = absurd can
+  frame-follows key (Some c) (Err (hub.Write e)) g can f = absurd can
+
+  pump-follows : (key : ℕ) (takes rest : List Take) (o : Option ClientState) (result : Result (Unit {0}) HubError)
+      (g : HubState as_kept) → PumpsFrom WritesAsTold h key o takes result rest g
+      → (v : HubState as_told) × PumpsFrom WritesAsTold u key o takes result rest v × Matches g v
+  pump-follows key takes rest None result g f = (u, (f.0, f.1, refl), unchanged-matches g f.2)
+  pump-follows key takes rest (Some c) result g (end, n, pumps, is, puts) = (
+    put u key (Some (record c { owed = drop n c.owed })),
+    (end, n, pumps, is, (refl, refl)),
+    put-matches key (Some (record c { owed = drop n c.owed })) g puts,
+  )
+
+  client-now : (key : ℕ) → clients_in h key ≡ clients_in u key
+  client-now key = ap (λ clients. clients key) m.clients
+
+  call-follows : (call : Call) (reply : Reply) (g : HubState as_kept) → Serves h call reply g → Follows u call reply g
+  call-follows (Feed bytes) reply g (result, f, e) =
+      let x = feed-follows bytes result g f in record { after = x.0; serves = (result, x.1, e); matches = x.2 }
+  call-follows (Resize rows cols) reply g (result, f, e) =
+      let x = resize-follows rows cols result g f in
+      record { after = x.0; serves = (result, x.1, e); matches = x.2 }
+  call-follows Attach reply g (result, f, e) =
+      let x = attach-follows result g f in record { after = x.0; serves = (result, x.1, e); matches = x.2 }
+  call-follows (Detach key) reply g (result, f, e) =
+      let x = detach-follows key (clients_in u key) result g
+      (subst (λ o. DetachesFrom h key o result g) (client-now key) f) in
+      record { after = x.0; serves = (result, x.1, e); matches = x.2 }
+  call-follows (Frame key) reply g (result, f, e) =
+      let x = frame-follows key (clients_in u key) result g
+      (subst (λ o. CanFrame (screen_in h) o result) (client-now key) f.0)
+      (subst (λ o. Framed h key o result g) (client-now key) f.1) in
+      record { after = x.0; serves = (result, x.1, e); matches = x.2 }
+  call-follows (Pump key takes) reply g (result, rest, f, e) =
+      let x = pump-follows key takes rest (clients_in u key) result g
+      (subst (λ o. PumpsFrom WritesAsTold h key o takes result rest g) (client-now key) f) in
+      record { after = x.0; serves = (result, rest, x.1, e); matches = x.2 }
+
+  -- ---- sessions
+
+  abbrev shown : List Story → List SessionView
+  shown ts = map (λ t. t.session) ts
+
+  ended-shown : (ts : List Story) → shown (map (with_session ended) ts) ≡ map ended (shown ts)
+  ended-shown [] = refl
+  ended-shown (t ∷ ts) = ap (λ ss. ended t.session ∷ ss) (ended-shown ts)
+
+  -- what an attach begins, on a hub that attaches
+  attached-live : (result : Result ℕ HubError) (key : ℕ) (g : HubState as_kept) → Attaches h result g
+      → Attached key ≡ replied Attached result → is_failed h ≡ false
+  attached-live (Ok other) key g f e = f.0
+  attached-live (Err x) key g f e = absurd (let no : Attached key ≡ Refused x = e in cc)
+
+  same-begun : (key : ℕ) → is_failed h ≡ false → begun u key ≡ begun h key
+  same-begun key e =
+      ap (λ (v : ScreenView). record {
+        client = key;
+        rows = (size_of v.state.shown).rows;
+        cols = (size_of v.state.shown).cols;
+        pumped = [];
+        ended = false;
+      }) (sym (screen-now (live e)))
+
+  same-taken : (key : ℕ) (takes : List Take)
+      → bytes_taken takes (clients_in u key) ≡ bytes_taken takes (clients_in h key)
+  same-taken key takes = ap (bytes_taken takes) (sym (client-now key))
+
+  call-shown : (call : Call) (reply : Reply) (g : HubState as_kept) (ts : List Story) → Serves h call reply g
+      → shown (stories_after u call reply ts) ≡ sessions_after h call reply (shown ts)
+  call-shown (Feed bytes) reply g ts s = refl
+  call-shown (Resize rows cols) Done g ts s = ended-shown ts
+  call-shown (Resize rows cols) (Attached key) g ts s = refl
+  call-shown (Resize rows cols) (Answered answer) g ts s = refl
+  call-shown (Resize rows cols) (Refused e) g ts s = refl
+  call-shown Attach Done g ts s = refl
+  call-shown Attach (Attached key) g ts (result, f, e) =
+      map-append (λ (t : Story). t.session) ts (record { session = begun u key; entries = [] } ∷ [])
+      ∙ ap (λ s. shown ts ++ s ∷ []) (same-begun key (attached-live result key g f e))
+  call-shown Attach (Answered answer) g ts s = refl
+  call-shown Attach (Refused e) g ts s = refl
+  call-shown (Detach key) Done g ts s =
+      shown-changed (is_on key) (is_of key) (with_session ended) ended (λ t. t.session) (λ t. refl) (λ t. refl) ts
+  call-shown (Detach key) (Attached other) g ts s = refl
+  call-shown (Detach key) (Answered answer) g ts s = refl
+  call-shown (Detach key) (Refused e) g ts s = refl
+  call-shown (Frame key) Done g ts s = refl
+  call-shown (Frame key) (Attached other) g ts s = refl
+  call-shown (Frame key) (Answered answer) g ts s =
+      shown-changed (is_on key) (is_of key) (with_entries (entries_of u (clients_in u key) answer)) (λ x. x)
+      (λ t. t.session) (λ t. refl) (λ t. refl) ts
+      ∙ unchanged (is_of key) (λ x. x) (λ x. refl) (shown ts)
+  call-shown (Frame key) (Refused e) g ts s = refl
+  call-shown (Pump key takes) reply g ts s =
+      let bytes = bytes_taken takes (clients_in u key) in
+      shown-changed (is_on key) (is_of key) (with_session (grown bytes)) (grown bytes) (λ t. t.session) (λ t. refl)
+      (λ t. refl) ts
+      ∙ ap (λ bs. change_last (is_of key) (grown bs) (shown ts)) (same-taken key takes)
+
+-- ---- runs
+
+run-follows : (h g : HubState as_kept) (u : HubState as_told) (calls : List Call) (replies : List Reply)
+    → Matches h u → Runs h calls replies g → (v : HubState as_told) × Runs u calls replies v × Matches g v
+run-follows h g u [] [] m run = (u, refl, subst (λ x. Matches x u) (sym run) m)
+run-follows h g u [] (reply ∷ replies) m run = absurd run
+run-follows h g u (call ∷ calls) [] m run = absurd run
+run-follows h g u (call ∷ calls) (reply ∷ replies) m (k, is, serves, later) =
+    let first = call-follows h u m call reply k serves in
+    let rest = run-follows k g first.after calls replies first.matches later in
+    (rest.0, (first.after, is, first.serves, rest.1), rest.2)
+
+-- and what a log keeps of them
+log-follows : (h g : HubState as_kept) (u : HubState as_told) (calls : List Call) (replies : List Reply)
+    (ts : List Story) (ss ss' : List SessionView) → Matches h u → map (λ t. t.session) ts ≡ ss
+    → RunsLogged h ss calls replies g ss'
+    → (v : HubState as_told) × (us : List Story) × RunsTold u ts calls replies v us × Matches g v
+    × (map (λ t. t.session) us ≡ ss')
+log-follows h g u [] [] ts ss ss' m logged run =
+    (u, ts, (refl, refl), subst (λ x. Matches x u) (sym run.0) m, logged ∙ sym run.1)
+log-follows h g u [] (reply ∷ replies) ts ss ss' m logged run = absurd run
+log-follows h g u (call ∷ calls) [] ts ss ss' m logged run = absurd run
+log-follows h g u (call ∷ calls) (reply ∷ replies) ts ss ss' m logged (k, is, serves, later) =
+    let first = call-follows h u m call reply k serves in
+    let shows = call-shown h u m call reply k ts serves ∙ ap (sessions_after h call reply) logged in
+    let rest = log-follows k g first.after calls replies (stories_after u call reply ts) (sessions_after h call reply ss)
+    ss' first.matches shows later in
+    (rest.0, rest.1, (first.after, is, first.serves, rest.2), rest.3, rest.4)
+
+new-matches : (rows cols : ℕ) (h : HubState as_kept) → IsNewHub rows cols h → Matches h (fresh rows cols)
+new-matches rows cols h new = record {
+  failed = ap (λ (v : ScreenView). v.failed) new.parser.screen;
+  parser = λ e. new.parser;
+  clients = new.clients;
+}
+
+pub runs-follow : EachRunHasAHistory
+runs-follow rows cols calls replies h g new run =
+    run-follows h g (fresh rows cols) calls replies (new-matches rows cols h new) run
+
+pub logs-follow : EachLogHasAHistory
+logs-follow rows cols calls replies h g ss new run =
+    log-follows h g (fresh rows cols) calls replies [] [] ss (new-matches rows cols h new) refl run
+
+-- ---- pumps
+
+-- how a pump that takes so many of n bytes is answered
+abbrev Ends : ℕ → ℕ → Result (Unit {0}) Error → Type 0
+Ends taken n end = IsPumpReply (taken == n) (done (pump_answer end))
+
+ends-none : (taken n : ℕ) (e : Error) → taken ≡ 0 → 0 < n → Ends taken n (Err e)
+ends-none taken n e h k =
+    subst (λ b. IsPumpReply b (Refused (hub.Write e)))
+    (let same : false ≡ (taken == n) = grind (arith, nat_tests) in same) (e, refl)
+
+ends-all : (taken n : ℕ) → taken ≡ 0 → n ≡ 0 → Ends taken n (Ok tt)
+ends-all taken n h k =
+    subst (λ b. IsPumpReply b Done) (let same : true ≡ (taken == n) = grind (arith, nat_tests) in same) refl
+
+ends-later : (first k n : ℕ) (end : Result (Unit {0}) Error) → first ≡ min first n → Ends k (n - first) end
+    → Ends (min first n + k) n end
+ends-later first k n end h later =
+    subst (λ b. IsPumpReply b (done (pump_answer end)))
+    (let same : (k == n - first) ≡ (min first n + k == n) = grind (arith, nat_tests) in same) later
+
+-- a pump to a writer that is told of is answered by what is told
+pump-ends : (takes rest : List Take) (owed : List ℕ) (end : Result (Unit {0}) Error) (n : ℕ)
+    → Pumps WritesAsTold takes owed end n rest → Ends (taken_by takes (length owed)) (length owed) end
+pump-ends takes rest owed end n all = ends-all (taken_by takes 0) 0 (takes-nothing takes) refl
+pump-ends takes rest owed end n (nothing owes told kind) =
+    ends-none (taken_by takes (length owed)) (length owed) _ (first-none takes rest owed owes told)
+    (some-owed owed owes)
+pump-ends takes rest owed end n (fault {e = e} owes told) =
+    ends-none (taken_by takes (length owed)) (length owed) e (first-fault takes rest owed e told) (some-owed owed owes)
+pump-ends takes rest owed end n (some middle first k more pos told later) =
+    let h = first-some takes middle owed first pos told in
+    let further = pump-ends middle rest (drop first owed) end k later in
+    let left = length-drop first owed in
+    let after : Ends (taken_by middle (length owed - first)) (length owed - first) end =
+    subst (λ c. Ends (taken_by middle c) c end) left further in
+    subst (λ c. Ends c (length owed) end) (sym h.0)
+    (ends-later first (taken_by middle (length owed - first)) (length owed) end h.1 after)
+
+module _ (way : Telling) where
+  pumps-take-by : (h g : HubState way) (key : ℕ) (takes rest : List Take) (reply : Reply) (c : ClientState)
+      (result : Result (Unit {0}) HubError) → PumpsFrom WritesAsTold h key (Some c) takes result rest g
+      → reply ≡ done result → IsPumpReply (taken_by takes (length c.owed) == length c.owed) reply
+  pumps-take-by h g key takes rest reply c result (end, n, pumps, is, puts) e =
+      subst (λ r. IsPumpReply (taken_by takes (length c.owed) == length c.owed) r) (sym (e ∙ ap done is))
+      (pump-ends takes rest c.owed end n pumps)
+
+  pub pumps-take : EachPumpTakesAsTold way
+  pumps-take h g key takes reply c at (result, rest, f, e) = (
+    pumps-take-by h g key takes rest reply c result
+        (subst (λ o. PumpsFrom WritesAsTold h key o takes result rest g) at f) e,
+    pumped-left h g key takes reply c at (result, rest, f, e),
+  )
+
+-- ---- any writer, told of
+
+module _ (S : Type 0) (step : S → List ℕ → Result ℕ Error → S → Type 0) where
+  abbrev Told : List ℕ → Result (Unit {0}) Error → ℕ → Type 0
+  Told owed end n = (takes : List Take) × Pumps WritesAsTold takes owed end n []
+
+  told-of : (s t : S) (owed : List ℕ) (end : Result (Unit {0}) Error) (n : ℕ) → Pumps step s owed end n t
+      → Told owed end n
+  told-of s t owed end n all = ([], all)
+  told-of s t owed end n (nothing owes takes kind) =
+      let none : 0 ≡ min 0 (length owed) = omega arith in
+      (Bytes 0 ∷ [], nothing owes (ok-number 0 (min 0 (length owed)) none, refl) kind)
+  told-of s t owed end n (fault {e = e} owes takes) = (Fault ∷ [], fault owes ((e, refl), refl))
+  told-of s t owed end n (some m first k owes pos takes rest) =
+      let later = told-of m t (drop first owed) end k rest in
+      let j = min first (length owed) in
+      let after : Pumps WritesAsTold later.0 (drop j owed) end k [] =
+      subst (λ bytes. Pumps WritesAsTold later.0 bytes end k []) (drop-least first owed) later.1 in
+      let more : 0 < j = omega (arith, some-owed owed owes) in
+      let same : min j (length owed) ≡ j = omega arith in (
+        Bytes first ∷ later.0,
+        subst (λ c. Pumps WritesAsTold (Bytes first ∷ later.0) owed end (c + k) []) same
+            (some later.0 j k owes more (refl, refl) after),
+      )
+
+  told-from : (h g : HubState as_kept) (key : ℕ) (o : Option ClientState) (s t : S) (result : Result (Unit {0}) HubError)
+      → PumpsFrom step h key o s result t g
+      → (takes : List Take) × PumpsFrom WritesAsTold h key o takes result [] g
+  told-from h g key None s t result f = ([], (f.0, refl, f.2))
+  told-from h g key (Some c) s t result (end, n, pumps, is, after) =
+      let told = told-of s t c.owed end n pumps in
+      (told.0, (end, n, told.1, is, after))
+
+  pub pumps-served : EachPumpIsServed step
+  pumps-served h g key s t result f =
+      let told = told-from h g key (clients_in h key) s t result f in
+      (told.0, (result, [], told.1, refl))

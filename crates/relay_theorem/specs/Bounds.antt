@@ -1,0 +1,31 @@
+-- How long frames are, and what is owed.
+use Rattle.std.specs.Prelude.{◌≡◌, ℕ, ◌*◌, ◌<◌, ◌≤◌, false, List, length, IfSome}
+use Rattle.std.specs.List.{AllByRecursion}
+use Rattle.vte.specs.Hold.{limit}
+use Rattle.termrelay.specs.Frame.{IsShortFrame}
+use Rattle.termrelay.specs.declared.answer.Answer.TheVariants.{TooLong}
+use Rattle.termrelay.specs.Hub.{clients_in}
+use Rattle.termrelay.specs.Calls.{Call}
+use Rattle.termrelay.specs.declared.call.Reply.{Reply}
+use Rattle.relay_theorem.specs.History.{Story, size_of_story}
+use Rattle.relay_theorem.specs.Laws.{IsSession}
+
+-- Each text of a session's frames has at most 1,024 bytes a cell, and 1,024 more; and so has what its client is owed
+-- while it hasn't ended.
+abbrev pub EachSessionIsBounded : Type 0
+EachSessionIsBounded = (rows cols : ℕ) (calls : List Call) (replies : List Reply) (n : ℕ) (t : Story)
+    → (s : IsSession rows cols calls replies n t)
+    → AllByRecursion (λ e. IsShortFrame (size_of_story t) e.text) t.entries
+    × (t.session.ended ≡ false
+    → IfSome (clients_in s.hub t.session.client) (λ c. IsShortFrame (size_of_story t) c.owed))
+
+-- Whatever its size, each of them is below the hold's limit: a frame that would be longer isn't made.
+abbrev pub EachFrameFitsTheHold : Type 0
+EachFrameFitsTheHold = (rows cols : ℕ) (calls : List Call) (replies : List Reply) (n : ℕ) (t : Story)
+    → IsSession rows cols calls replies n t → AllByRecursion (λ e. length e.text < limit) t.entries
+
+-- With at most 2,000 cells no frame would be.
+abbrev pub NoSmallFrameIsTooLong : Type 0
+NoSmallFrameIsTooLong = (rows cols : ℕ) (calls : List Call) (replies : List Reply) (n : ℕ) (t : Story)
+    → IsSession rows cols calls replies n t → t.session.rows * t.session.cols ≤ 2000
+    → AllByRecursion (λ e. e.answer ≡ TooLong → ⊥) t.entries

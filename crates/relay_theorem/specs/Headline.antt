@@ -1,0 +1,92 @@
+-- What a far terminal shows: what the judge says.
+use Rattle.std.specs.Prelude.{◌≡◌, ℕ, true, List, [], ◌++◌, Option, Some, None, map, length}
+use Rattle.std.specs.List.{AllByRecursion, concat}
+use Rattle.vte.specs.Moves.{Move, Gives, given}
+use Rattle.vte.specs.Frames.{IsFrame, Leads}
+use Rattle.terminal_model.specs.Term.{shown_of}
+use Rattle.termrelay.specs.Answers.{is_frame}
+use Rattle.termrelay.specs.declared.answer.Answer.TheVariants.{Unsure}
+use Rattle.termview.specs.Seen.{seen}
+use Rattle.termrelay.specs.Calls.{Call}
+use Rattle.termrelay.specs.declared.call.Reply.{Reply}
+use Rattle.relay_theorem.specs.History.{Entry, Story, size_of_story}
+use Rattle.relay_theorem.specs.Judge.{texts, last_frame, whole_in, last_whole, judged, IsSure}
+use Rattle.relay_theorem.specs.Laws.{IsSession}
+
+-- each text of a session's frames is a frame to whoever reads it
+abbrev pub EachTextIsAFrame : Type 0
+EachTextIsAFrame = (rows cols : ℕ) (calls : List Call) (replies : List Reply) (n : ℕ) (t : Story)
+    → IsSession rows cols calls replies n t
+    → AllByRecursion (λ e. is_frame e.answer ≡ true → IsFrame e.text) t.entries
+
+-- Frames that come whole, in whatever pieces and wherever an update is stopped by hand: a new view of the session's
+-- size, which these moves lead to what is parsed and held, shows what the judge says of the last one, unless that
+-- wasn't sure; and nothing is held.
+abbrev pub WholeFramesAreShown : Type 0
+WholeFramesAreShown = (rows cols : ℕ) (calls : List Call) (replies : List Reply) (n : ℕ) (t : Story)
+    (front back : List Entry) (moves : List Move) (parsed : List ℕ) (hold : Option (List ℕ))
+    → IsSession rows cols calls replies n t → t.entries ≡ front ++ back → given moves ≡ texts front
+    → Leads moves [] None parsed hold
+    → (hold ≡ None)
+    × (IsSure (last_frame None front) → shown_of (seen (size_of_story t) parsed) ≡ judged rows cols (last_frame None front))
+
+-- A new view of a session's size has parsed so much of these pieces, which are a beginning of what was pumped to the
+-- session.
+pub record Reads (rows cols : ℕ) (calls : List Call) (replies : List Reply) (n : ℕ) (t : Story)
+    (pieces : List (List ℕ)) (parsed : List ℕ) : Type 0 where
+  pub session : IsSession rows cols calls replies n t
+  pub beyond : List ℕ
+  pub pumped : concat pieces ++ beyond ≡ t.session.pumped
+  pub hold : Option (List ℕ)
+  pub leads : Leads (map Gives pieces) [] None parsed hold
+
+-- the last frame that lies wholly in the pieces
+abbrev pub last_read : Story → List (List ℕ) → Option Entry
+last_read t pieces = last_whole None t.entries (length (concat pieces))
+
+-- in whatever pieces they come, the view shows what the judge says of that frame, unless it wasn't sure
+abbrev pub LastWholeFrameIsShown : Type 0
+LastWholeFrameIsShown = (rows cols : ℕ) (calls : List Call) (replies : List Reply) (n : ℕ) (t : Story)
+    (pieces : List (List ℕ)) (parsed : List ℕ) → Reads rows cols calls replies n t pieces parsed
+    → IsSure (last_read t pieces) → shown_of (seen (size_of_story t) parsed) ≡ judged rows cols (last_read t pieces)
+
+-- the entries that lie wholly in the pieces
+abbrev pub whole_read : Story → List (List ℕ) → List Entry
+whole_read t pieces = whole_in t.entries (length (concat pieces))
+
+-- A view that reads more, but no whole frame more, shows the same; also where the last one wasn't sure.
+abbrev pub NoFrameIsTorn : Type 0
+NoFrameIsTorn = (rows cols : ℕ) (calls : List Call) (replies : List Reply) (n : ℕ) (t : Story)
+    (pieces more : List (List ℕ)) (parsed parsed' : List ℕ) → Reads rows cols calls replies n t pieces parsed
+    → Reads rows cols calls replies n t (pieces ++ more) parsed' → whole_read t (pieces ++ more) ≡ whole_read t pieces
+    → shown_of (seen (size_of_story t) parsed') ≡ shown_of (seen (size_of_story t) parsed)
+
+-- Views of two sessions whose last whole frames were taken at one moment show the same.
+abbrev pub OneMomentShowsTheSame : Type 0
+OneMomentShowsTheSame = (rows cols : ℕ) (calls : List Call) (replies : List Reply) (n m : ℕ) (t u : Story)
+    (pieces others : List (List ℕ)) (parsed parsed' : List ℕ) (e f : Entry)
+    → Reads rows cols calls replies n t pieces parsed → Reads rows cols calls replies m u others parsed'
+    → last_read t pieces ≡ Some e → last_read u others ≡ Some f → e.moment ≡ f.moment
+    → (e.answer ≡ Unsure → ⊥) → (f.answer ≡ Unsure → ⊥)
+    → (size_of_story t ≡ size_of_story u)
+    × (shown_of (seen (size_of_story t) parsed) ≡ shown_of (seen (size_of_story u) parsed'))
+
+-- So do views that have read whole frames alone, wherever updates were stopped by hand.
+pub record ReadsWhole (rows cols : ℕ) (calls : List Call) (replies : List Reply) (n : ℕ) (t : Story)
+    (front : List Entry) (parsed : List ℕ) : Type 0 where
+  pub session : IsSession rows cols calls replies n t
+  pub back : List Entry
+  pub parts : t.entries ≡ front ++ back
+  pub moves : List Move
+  pub given : given moves ≡ texts front
+  pub hold : Option (List ℕ)
+  pub leads : Leads moves [] None parsed hold
+
+abbrev pub OneMomentShowsTheSameWhole : Type 0
+OneMomentShowsTheSameWhole = (rows cols : ℕ) (calls : List Call) (replies : List Reply) (n m : ℕ) (t u : Story)
+    (front others : List Entry) (parsed parsed' : List ℕ) (e f : Entry)
+    → ReadsWhole rows cols calls replies n t front parsed → ReadsWhole rows cols calls replies m u others parsed'
+    → last_frame None front ≡ Some e → last_frame None others ≡ Some f → e.moment ≡ f.moment
+    → (e.answer ≡ Unsure → ⊥) → (f.answer ≡ Unsure → ⊥)
+    → (size_of_story t ≡ size_of_story u)
+    × (shown_of (seen (size_of_story t) parsed) ≡ shown_of (seen (size_of_story u) parsed'))

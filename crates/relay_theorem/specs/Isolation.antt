@@ -1,0 +1,119 @@
+-- What a session has depends on its own calls alone.
+use Rattle.std.specs.Prelude.{◌≡◌, ℕ, ◌-◌, ◌==◌, Bool, true, false, List, [], ◌∷◌, ◌++◌, map, Option, Some, None}
+use Rattle.std.specs.Prelude.{if◌then◌else◌}
+use Rattle.std.specs.List.{list_any}
+use Rattle.screen_model.specs.Made.{Act, Fed, Resized}
+use Rattle.termrelay.specs.Answers.{ClientState}
+use Rattle.termrelay.specs.Hub.{clients_in}
+use Rattle.termrelay.specs.Calls.{Call, Feed, Resize, Attach, Detach, Frame, Pump}
+use Rattle.termrelay.specs.Log.{SessionView, LogView}
+use Rattle.termrelay.specs.declared.call.Take.{Take}
+use Rattle.termrelay.specs.declared.call.Reply.{Reply}
+use Rattle.termrelay.specs.declared.call.Reply.TheVariants.{Done, Attached, Refused}
+use Rattle.termrelay.specs.declared.error.HubError.TheVariants.{Memory}
+use Rattle.relay_theorem.specs.History.{Story}
+use Rattle.relay_theorem.specs.Laws.{IsSession}
+use Rattle.relay_theorem.specs.Logged.{IsLogged}
+
+-- there was no memory for the call
+abbrev pub is_starved : Reply → Bool
+is_starved (Refused Memory) = true
+is_starved reply = false
+
+-- ---- a session's own calls
+
+-- What a session gets of a run: an act on the program's screen; it comes; it asks for a frame; it is pumped to a writer
+-- whose first writes are these; it leaves.
+pub data Own : Type 0 where
+  Acts : Act → Own
+  Comes : Own
+  Asks : Own
+  Pumped : List Take → Own
+  Leaves : Own
+
+-- what a call with this reply has done to the program's screen
+abbrev pub acts_of : Call → Reply → List Act
+acts_of (Feed bytes) Done = Fed bytes ∷ []
+acts_of (Resize rows cols) Done = Resized rows cols ∷ []
+acts_of call reply = []
+
+-- what it is to the session that lives at a key, where it isn't another's
+abbrev pub own_at : ℕ → Call → Reply → Option Own
+own_at key (Feed bytes) Done = Some (Acts (Fed bytes))
+own_at key (Resize rows cols) Done = Some (Acts (Resized rows cols))
+own_at key (Detach other) Done = if other == key then Some Leaves else None
+own_at key (Frame other) reply = if other == key then Some Asks else None
+own_at key (Pump other takes) reply = if other == key then Some (Pumped takes) else None
+own_at key call reply = None
+
+-- a session ends when it leaves, and at a resize
+abbrev pub ends : Own → Bool
+ends (Acts (Resized rows cols)) = true
+ends Leaves = true
+ends own = false
+
+abbrev pub own_then : Option Own → List Own → List Own
+own_then None later = later
+own_then (Some own) later = if ends own then own ∷ [] else own ∷ later
+
+-- of the session that lives at a key, from here to its end
+abbrev pub own_of : ℕ → List Call → List Reply → List Own
+own_of key (call ∷ calls) (reply ∷ replies) = own_then (own_at key call reply) (own_of key calls replies)
+own_of key calls replies = []
+
+-- Of the n-th session of a new hub: what is done to the screen before it comes, then that it comes, and then its own.
+abbrev pub own_calls : ℕ → List Call → List Reply → List Own
+own_calls n (Attach ∷ calls) (Attached key ∷ replies) =
+    if n == 0 then Comes ∷ own_of key calls replies else own_calls (n - 1) calls replies
+own_calls n (call ∷ calls) (reply ∷ replies) = map Acts (acts_of call reply) ++ own_calls n calls replies
+own_calls n calls replies = []
+
+-- the call of such a session at a key
+abbrev pub alone : ℕ → Own → Call
+alone key (Acts (Fed bytes)) = Feed bytes
+alone key (Acts (Resized rows cols)) = Resize rows cols
+alone key Comes = Attach
+alone key Asks = Frame key
+alone key (Pumped takes) = Pump key takes
+alone key Leaves = Detach key
+
+-- ---- laws
+
+-- Two sessions are alike, where the clients at each key are these and those: so much is pumped to them, of this size,
+-- and while they haven't ended their clients are owed the same bytes after the same last frame.
+pub record AreAlike (s z : SessionView) (these those : ℕ → Option ClientState) : Type 0 where
+  pub rows : s.rows ≡ z.rows
+  pub cols : s.cols ≡ z.cols
+  pub pumped : s.pumped ≡ z.pumped
+  pub ended : s.ended ≡ z.ended
+  pub clients : s.ended ≡ false → these s.client ≡ those z.client
+
+-- Sessions of two runs with the same own calls are alike, and are answered the same, whatever the other calls were.
+abbrev pub SessionsAreIsolated : Type 0
+SessionsAreIsolated = (rows cols : ℕ) (calls others : List Call) (replies answers : List Reply) (n m : ℕ) (t u : Story)
+    → (s : IsSession rows cols calls replies n t) → (z : IsSession rows cols others answers m u)
+    → list_any is_starved replies ≡ false → list_any is_starved answers ≡ false
+    → own_calls n calls replies ≡ own_calls m others answers
+    → AreAlike t.session u.session (clients_in s.hub) (clients_in z.hub) × (t.entries ≡ u.entries)
+
+-- A session of a new hub, whose calls are these alone.
+pub record StandsAlone (rows cols key : ℕ) (own : List Own) : Type 0 where
+  pub replies : List Reply
+  pub story : Story
+  pub session : IsSession rows cols (map (alone key) own) replies 0 story
+  pub fed : list_any is_starved replies ≡ false
+  pub same : own_calls 0 (map (alone key) own) replies ≡ own
+
+-- each session's own calls can be made on a new hub without the others, at any key
+abbrev pub EachSessionStandsAlone : Type 0
+EachSessionStandsAlone = (rows cols : ℕ) (calls : List Call) (replies : List Reply) (n : ℕ) (t : Story) (key : ℕ)
+    → IsSession rows cols calls replies n t → list_any is_starved replies ≡ false
+    → StandsAlone rows cols key (own_calls n calls replies)
+
+-- so are sessions of two logs
+abbrev pub LoggedSessionsAreIsolated : Type 0
+LoggedSessionsAreIsolated = (rows cols : ℕ) (calls others : List Call) (l k : LogView) (n m : ℕ) (s z : SessionView)
+    → (a : IsLogged rows cols calls l n s) → (b : IsLogged rows cols others k m z)
+    → list_any is_starved l.replies ≡ false → list_any is_starved k.replies ≡ false
+    → own_calls n calls l.replies ≡ own_calls m others k.replies
+    → AreAlike s z (clients_in a.after) (clients_in b.after)

@@ -1,0 +1,385 @@
+-- The cells that single writers touch.
+use Rattle.std.proofs.Common.{◌≡◌, ℕ, suc, ◌+◌, ◌-◌, ◌<◌, ◌≤◌, ◌==◌, Bool, true, false, cond, ◌&&◌, ◌||◌, nat_lt}
+use Rattle.std.proofs.Common.{nat_le}
+use Rattle.std.proofs.Common.{List, [], ◌∷◌, min, refl, arith, sym, ap, ◌∙◌, inl, inr, ◌⊎◌, subst}
+use Rattle.std.specs.Prelude.{Contains, All}
+use Rattle.std.proofs.lemmas.Bool.{both_ways, cond_both, and_parts, eqb-true, eq-eqb, ne_eqb, le-ltb, le-leb, or_left}
+use Rattle.std.proofs.lemmas.Bool.{false≢true, ltb-true}
+use Rattle.std.proofs.lemmas.Bool.Decides.{nat_tests}
+use Rattle.vt100_forms.specs.declared.attrs.Attrs.{Attrs}
+use Rattle.vt100_forms.specs.declared.position.Pos.{Pos}
+use Rattle.vt100_forms.specs.Attrs.{attrs_eq, default_attrs}
+use Rattle.vt100_forms.specs.Form.{Form, Text, MoveTo, MoveRight, EraseChar, ClearRowForward, ClearAttrs, Crlf}
+use Rattle.vt100_forms.specs.Form.{Backspace}
+use Rattle.vt100_forms.specs.Form.{Sgr, changed_attrs, moves}
+use Rattle.vt100_cells.specs.Cell.{CellView, IsCell, IsCellText, IsWideAs, cell_of, columns_of, appended_plain}
+use Rattle.vt100_cells.specs.Cell.{is_filled}
+use Rattle.vt100_cells.specs.Cell.{is_undrawable}
+use Rattle.vt100_cells.specs.Line.{span_of, put, base_col}
+use Rattle.vt100_cells.proofs.JoinedCells.{plain-continuation}
+use Rattle.terminal_model.specs.Position.{update}
+use Rattle.terminal_model.specs.Term.{Size, Term}
+use Rattle.terminal_model.specs.Apply.{with_line, print as printed_cell, join, is_dropped, input}
+use Rattle.terminal_model.specs.Apply.{run}
+use Rattle.terminal_model.specs.Touch.{put_touches, wipe_touches, input_touches, inputs_touch, form_touches}
+use Rattle.terminal_model.specs.Touch.{touches, Within}
+use Rattle.terminal_model.proofs.Positions.{update-same, update-other}
+use Rattle.terminal_model.proofs.TermLemmas.{span-columns, columns-few}
+use Rattle.terminal_model.proofs.TouchLemmas.{within-joined}
+use Rattle.row_drawing.specs.declared.pen.Pen.{Pen}
+use Rattle.row_drawing.specs.Writer.{Drawn, Writer, ◌>>◌, skip, goto, turn, colour, print, space, back, erasing}
+use Rattle.row_drawing.specs.Writer.{clearing, marking}
+use Rattle.row_drawing.proofs.Steps.{Takes, IsSendable, at, fits-here, fits-below, span-space, sends-space}
+
+-- ---- zero-width characters
+
+-- what joins a cell now joins the one at column c of row i
+record IsBehind (i c : ℕ) (t : Term) : Type 0 where
+  row : t.row ≡ i
+  base : base_col (t.cell t.row) t.col ≡ c
+
+update-half : (f : ℕ → CellView) (i k : ℕ) (x : CellView) → x.continuation ≡ (f i).continuation
+    → (update f i x k).continuation ≡ (f k).continuation
+unfolding update
+update-half f i k x h = grind (arith, nat_tests)
+
+base-like : (f g : ℕ → CellView) (c : ℕ) → (g (c - 1)).continuation ≡ (f (c - 1)).continuation
+    → base_col g c ≡ base_col f c
+base-like f g c h = ap (λ b. cond b (c - 2) (c - 1)) h
+
+join-behind : (d i c : ℕ) (t : Term) → IsBehind i c t → IsBehind i c (join d t)
+unfolding join with_line
+join-behind d i c t h =
+    let f = t.cell t.row in
+    let b = base_col f t.col in
+    let x = appended_plain (f b) d in
+    let g : ℕ → CellView = update f b x in
+    record {
+      row = h.row;
+      base = ap (λ l. base_col l t.col) (update-same t.cell t.row g)
+          ∙ base-like f g t.col (update-half f b (t.col - 1) x (plain-continuation (f b) d)) ∙ h.base;
+    }
+
+input-behind : (z : Size) (d i c : ℕ) (t : Term) → columns_of d ≡ 0 → IsBehind i c t → IsBehind i c (input z d t)
+unfolding input
+input-behind z d i c t none h =
+    cond_both (is_dropped z.cols t.col d) t _ (IsBehind i c) (λ _. h)
+    (λ _. cond_both (columns_of d == 0) (join d t) _ (IsBehind i c) (λ _. join-behind d i c t h)
+    (λ e. absurd (both_ways (columns_of d == 0) e (eq-eqb (columns_of d) 0 none))))
+
+zero-touches : (z : Size) (d i c : ℕ) (t : Term) (r k : ℕ) → columns_of d ≡ 0 → IsBehind i c t
+    → input_touches z d t r k ≡ true → (r ≡ i) × (k ≡ c)
+unfolding input_touches
+zero-touches z d i c t r k none h =
+    let P : Bool → Type 0 = λ b. b ≡ true → (r ≡ i) × (k ≡ c) in
+    cond_both (is_dropped z.cols t.col d) false _ P (λ _ q. absurd (false≢true q))
+    (λ _. cond_both (columns_of d == 0) ((r == t.row) && (k == base_col (t.cell t.row) t.col)) _ P
+    (λ _ q.
+    let both = and_parts (r == t.row) _ q in
+    (eqb-true r t.row both.0 ∙ h.row, eqb-true k _ both.1 ∙ h.base))
+    (λ e _. absurd (both_ways (columns_of d == 0) e (eq-eqb (columns_of d) 0 none))))
+
+or-cases : (a b : Bool) → (a || b) ≡ true → (a ≡ true) ⊎ (b ≡ true)
+or-cases true b h = inl refl
+or-cases false b h = inr h
+
+zeros-touch : (z : Size) (ds : List ℕ) (i c : ℕ) (t : Term) (r k : ℕ) → All (λ d. columns_of d ≡ 0) ds
+    → IsBehind i c t → inputs_touch z ds t r k ≡ true → (r ≡ i) × (k ≡ c)
+zeros-touch z [] i c t r k none h q = absurd (false≢true q)
+zeros-touch z (d ∷ ds) i c t r k none h q =
+    let e : columns_of d ≡ 0 = none 0 d (omega arith) in
+    elim (or-cases (input_touches z d t r k) _ q) [
+      | inl first ↦ zero-touches z d i c t r k e h first
+      | inr later ↦ zeros-touch z ds i c (input z d t) r k (λ j x l. none (suc j) x (omega arith))
+          (input-behind z d i c t e h) later
+    ]
+
+-- ---- the text of a cell
+
+put-base_wide : (f : ℕ → CellView) (i : ℕ) (y : CellView) (a : Attrs) → y.wide ≡ true
+    → base_col (put f i y a) (i + 2) ≡ i
+put-base_wide f i y a w =
+    let next : i + 2 - 1 ≡ i + 1 = omega arith in
+    let second : (put f i y a (i + 1)).continuation ≡ true = grind (arith, nat_tests) in
+    ap (λ j. cond (put f i y a j).continuation (i + 2 - 2) (i + 2 - 1)) next
+    ∙ ap (λ b. cond b (i + 2 - 2) (i + 2 - 1)) second ∙ omega arith
+
+put-base_narrow : (f : ℕ → CellView) (i : ℕ) (y : CellView) (a : Attrs) → y.continuation ≡ false
+    → base_col (put f i y a) (i + 1) ≡ i
+put-base_narrow f i y a c =
+    let here : i + 1 - 1 ≡ i = omega arith in
+    let whole : (put f i y a i).continuation ≡ false = grind (arith, nat_tests) in
+    ap (λ j. cond (put f i y a j).continuation (i + 1 - 2) (i + 1 - 1)) here
+    ∙ ap (λ b. cond b (i + 1 - 2) (i + 1 - 1)) whole ∙ here
+
+put-base : (f : ℕ → CellView) (i : ℕ) (y : CellView) (a : Attrs) → y.continuation ≡ false
+    → base_col (put f i y a) (i + span_of y) ≡ i
+put-base f i y a whole =
+    (elim y.wide as (λ w. y.wide ≡ w → base_col (put f i y a) (i + cond w 2 1) ≡ i) [
+      | true ↦ λ e. put-base_wide f i y a e
+      | false ↦ λ e. put-base_narrow f i y a whole
+    ]) refl
+
+print-behind : (z : Size) (y : CellView) (u : Term) → y.continuation ≡ false
+    → IsBehind u.row u.col (printed_cell z y u)
+unfolding printed_cell with_line
+print-behind z y u whole = record {
+  row = refl;
+  base = ap (λ l. base_col l (u.col + span_of y)) (update-same u.cell u.row (put (u.cell u.row) u.col y u.attrs))
+      ∙ put-base (u.cell u.row) u.col y u.attrs whole;
+}
+
+put_touches-like : (f : ℕ → CellView) (i : ℕ) (x y : CellView) (k : ℕ) → y.wide ≡ x.wide
+    → put_touches f i y k ≡ true → put_touches f i x k ≡ true
+put_touches-like f i x y k w h =
+    ap (λ b. (k == i) || (((k == (i + 1)) && (b || (f i).wide)) || ((((k + 1) == i) && (f k).wide)
+    || ((k == (i + 2)) && (b && (f (i + 1)).wide))))) (sym w) ∙ h
+
+put_touches-at : (f : ℕ → CellView) (i : ℕ) (x : CellView) (k : ℕ) → k ≡ i → put_touches f i x k ≡ true
+put_touches-at f i x k e = or_left (k == i) _ (eq-eqb k i e)
+
+-- the first character is put at column n of row i, over the line f
+record IsFirst (z : Size) (x : CellView) (c : ℕ) (t : Term) (i n : ℕ) (f : ℕ → CellView) : Type 0 where
+  touched : (r k : ℕ) → input_touches z c t r k ≡ true → (r ≡ i) × (put_touches f n x k ≡ true)
+  behind : IsBehind i n (input z c t)
+
+first-text : (z : Size) (x : CellView) (c : ℕ) (cs : List ℕ) (t : Term) (i n : ℕ) (f : ℕ → CellView) (r k : ℕ)
+    → IsFirst z x c t i n f → All (λ d. columns_of d ≡ 0) cs → inputs_touch z (c ∷ cs) t r k ≡ true
+    → (r ≡ i) × (put_touches f n x k ≡ true)
+first-text z x c cs t i n f r k h none q =
+    elim (or-cases (input_touches z c t r k) _ q) [
+      | inl first ↦ h.touched r k first
+      | inr later ↦ (let there = zeros-touch z cs i n (input z c t) r k none h.behind later in
+          (there.0, put_touches-at f n x k there.1))
+    ]
+
+-- what the first character of a cell's text is
+record IsHead (x : CellView) (c : ℕ) (cs : List ℕ) : Type 0 where
+  drawn : is_undrawable c ≡ false
+  some : (columns_of c == 0) ≡ false
+  wide : (columns_of c == 2) ≡ x.wide
+  span : span_of x ≡ columns_of c
+  zero : All (λ d. columns_of d ≡ 0) cs
+
+head-is : (x : CellView) (c : ℕ) (cs : List ℕ) → x.text ≡ c ∷ cs → IsCell x → (Contains x.text 0xFE0F → ⊥)
+    → IsHead x c cs
+head-is x c cs e h plain =
+    let characters : IsCellText (c ∷ cs) = subst IsCellText e h.characters in
+    let some : (columns_of c == 0) ≡ false = ne_eqb (columns_of c) 0 (λ q. let positive = characters.1
+    in absurd (omega arith)) in
+    let as_wide : IsWideAs (c ∷ cs) x.wide = subst (λ ts. IsWideAs ts x.wide) e h.wide in
+    let wide : (columns_of c == 2) ≡ x.wide = (elim as_wide [
+      | inl same ↦ sym same
+      | inr widened ↦ absurd (plain (subst (λ (ts : List ℕ). Contains ts 0xFE0F) (sym e)
+          (suc widened.0.0, let in_rest = widened.0.1 in omega arith, widened.0.2)))
+    ]) in
+    record {
+      drawn = characters.0;
+      some = some;
+      wide = wide;
+      span = ap (λ b. cond b 2 1) (sym wide) ∙ span-columns (columns_of c) (columns-few c) some;
+      zero = characters.2;
+    }
+
+kept_first : (z : Size) (c : ℕ) (t : Term) → is_undrawable c ≡ false → (columns_of c == 0) ≡ false
+    → columns_of c ≤ z.cols → is_dropped z.cols t.col c ≡ false
+kept_first z c t u some l =
+    let narrow = le-ltb z.cols (columns_of c) l in
+    rw (u, narrow, some) refl
+
+first-here : (z : Size) (x : CellView) (c : ℕ) (cs : List ℕ) (t : Term) → IsHead x c cs → t.col + span_of x ≤ z.cols
+    → IsFirst z x c t t.row t.col (t.cell t.row)
+unfolding input input_touches
+first-here z x c cs t h room =
+    let fits : t.col + columns_of c ≤ z.cols = omega (arith, room, h.span) in
+    let kept = kept_first z c t h.drawn h.some (omega (arith, fits)) in
+    let some = h.some in
+    let le = le-leb (t.col + columns_of c) z.cols fits in
+    record {
+      touched = λ r k q.
+          let both = and_parts (r == t.row) _ ((rw (kept, some, le) refl) ∙ q) in
+          (eqb-true r t.row both.0, put_touches-like (t.cell t.row) t.col x (cell_of c t.attrs) k h.wide both.1);
+      behind = subst (IsBehind t.row t.col) (sym (rw (kept, some) (ap (printed_cell z (cell_of c t.attrs))
+          (fits-here z (columns_of c) t fits)))) (print-behind z (cell_of c t.attrs) t refl);
+    }
+
+leb-off : (m n : ℕ) → n < m → nat_le m n ≡ false
+leb-off m n l = grind (arith, nat_tests)
+
+first-below : (z : Size) (x : CellView) (c : ℕ) (cs : List ℕ) (t : Term) (C : ℕ → ℕ → CellView) (W : ℕ → Bool)
+    (r n : ℕ) (a : Attrs) → IsHead x c cs → span_of x ≤ z.cols → z.cols < n + span_of x → r + 1 < z.rows
+    → is_filled (C r (z.cols - 1)) ≡ true → IsFirst z x c (at t C W r n a) (r + 1) 0 (C (r + 1))
+unfolding input input_touches
+first-below z x c cs t C W r n a h l over room full =
+    let u = at t C W r n a in
+    let past : z.cols < n + columns_of c = omega (arith, over, h.span) in
+    let kept = kept_first z c u h.drawn h.some (omega (arith, l, h.span)) in
+    let some = h.some in
+    let off = leb-off (n + columns_of c) z.cols past in
+    let inner : nat_le z.rows (r + 1) ≡ false = leb-off z.rows (r + 1) room in
+    record {
+      touched = λ i k q.
+          let both = and_parts (i == (r + 1)) _ ((rw (kept, some, off, inner) refl) ∙ q) in
+          (eqb-true i (r + 1) both.0, put_touches-like (C (r + 1)) 0 x (cell_of c a) k h.wide both.1);
+      behind = subst (IsBehind (r + 1) 0) (sym (rw (kept, some) (ap (printed_cell z (cell_of c a))
+          (fits-below z (columns_of c) t C W r n a past room full))))
+          (print-behind z (cell_of c a) (at t C (update W r true) (r + 1) 0 a) refl);
+    }
+
+text-from : (z : Size) (x : CellView) (t : Term) (i n : ℕ) (f : ℕ → CellView) → IsSendable x
+    → ((c : ℕ) (cs : List ℕ) → IsHead x c cs → IsFirst z x c t i n f) → (r k : ℕ)
+    → form_touches z (Text x.text) t r k ≡ true → (r ≡ i) × (put_touches f n x k ≡ true)
+unfolding form_touches
+text-from z x t i n f send begins r k =
+    (elim x.text as (λ ts. x.text ≡ ts → inputs_touch z ts t r k ≡ true → (r ≡ i) × (put_touches f n x k ≡ true)) [
+      | [] ↦ λ e q. absurd (false≢true q)
+      | c ∷ cs ↦ λ e q.
+          let head = head-is x c cs e send.cell send.plain in
+          first-text z x c cs t i n f r k (begins c cs head) head.zero q
+    ]) refl
+
+-- ---- writers
+
+-- a writer's forms, which t reads, touch cells of S alone
+abbrev pub Stays : (ℕ → ℕ → Type 0) → Size → Writer → Pen → Term → Type 0
+Stays S z f p t = Within S z (f p).forms t
+
+pub stays-then : (S : ℕ → ℕ → Type 0) (z : Size) (f g : Writer) (p : Pen) (t : Term) (q : Pen) (u : Term)
+    → Takes z f p t q u → Stays S z f p t → Stays S z g q u → Stays S z (f >> g) p t
+unfolding ◌>>◌
+stays-then S z f g p t q u k a b =
+    within-joined S z (f p).forms (g (f p).pen).forms t a
+    (subst (λ (x : Pen). Within S z (g x).forms (run z (f p).forms t)) (sym k.pen_is)
+    (subst (λ (v : Term). Within S z (g q).forms v) (sym k.term_is) b))
+
+pub stays-as : (S : ℕ → ℕ → Type 0) (z : Size) (f g : Writer) (p : Pen) (t : Term) → g p ≡ f p → Stays S z f p t
+    → Stays S z g p t
+stays-as S z f g p t e a = subst (λ (d : Drawn). Within S z d.forms t) (sym e) a
+
+pub stays-skip : (S : ℕ → ℕ → Type 0) (z : Size) (p : Pen) (t : Term) → Stays S z skip p t
+unfolding skip
+stays-skip S z p t = tt
+
+pub stays-turn : (S : ℕ → ℕ → Type 0) (z : Size) (row : ℕ) (p : Pen) (t : Term) → Stays S z (turn row) p t
+unfolding turn
+stays-turn S z row p t = tt
+
+pub stays-marking : (S : ℕ → ℕ → Type 0) (z : Size) (n : ℕ) (a : Attrs) (p : Pen) (t : Term)
+    → Stays S z (marking n a) p t
+unfolding marking
+stays-marking S z n a p t = tt
+
+form-within : (S : ℕ → ℕ → Type 0) (z : Size) (f : Form) (t : Term)
+    → ((r k : ℕ) → k < z.cols → form_touches z f t r k ≡ true → S r k) → Within S z (f ∷ []) t
+unfolding touches
+form-within S z f t h = (
+  λ r k e.
+      let both = and_parts (nat_lt r z.rows && nat_lt k z.cols) (form_touches z f t r k) e in
+      h r k (ltb-true k z.cols (and_parts (nat_lt r z.rows) (nat_lt k z.cols) both.0).1) both.1,
+  tt,
+)
+
+form-idle : (S : ℕ → ℕ → Type 0) (z : Size) (f : Form) (t : Term) → ((r k : ℕ) → form_touches z f t r k ≡ false)
+    → Within S z (f ∷ []) t
+form-idle S z f t h = form-within S z f t (λ r k l e. absurd (both_ways (form_touches z f t r k) (h r k) e))
+
+moves-idle : (S : ℕ → ℕ → Type 0) (z : Size) (p q : Pos) (t : Term) → t.row ≡ p.row → q.row < z.rows
+    → Within S z (moves p q) t
+unfolding form_touches
+moves-idle S z p q t here room =
+    let P : List Form → Type 0 = λ fs. Within S z fs t in
+    cond_both ((q.row == p.row + 1) && (q.col == 0)) (Crlf ∷ []) _ P
+    (λ h.
+    let next : q.row ≡ p.row + 1 = eqb-true q.row (p.row + 1) (and_parts (q.row == p.row + 1) (q.col == 0) h).0 in
+    form-idle S z Crlf t (λ r k. leb-off z.rows (t.row + 1) (omega (arith, next, here))))
+    (λ _. cond_both ((p.row == q.row) && (p.col == q.col)) [] _ P (λ _. tt)
+    (λ _. cond_both ((p.row == q.row) && nat_lt p.col q.col) (MoveRight (q.col - p.col) ∷ [])
+    (MoveTo q.row q.col ∷ []) P (λ _. form-idle S z (MoveRight (q.col - p.col)) t (λ r k. refl))
+    (λ _. form-idle S z (MoveTo q.row q.col) t (λ r k. refl))))
+
+pub stays-goto : (S : ℕ → ℕ → Type 0) (z : Size) (row col : ℕ) (p : Pen) (t : Term) → t.row ≡ p.pos.row → row < z.rows
+    → Stays S z (goto row col) p t
+unfolding goto
+stays-goto S z row col p t here room = moves-idle S z p.pos (record { row = row; col = col }) t here room
+
+pub stays-colour : (S : ℕ → ℕ → Type 0) (z : Size) (a : Attrs) (p : Pen) (t : Term) → Stays S z (colour a) p t
+unfolding colour form_touches
+stays-colour S z a p t =
+    let P : List Form → Type 0 = λ fs. Within S z fs t in
+    cond_both (attrs_eq a p.attrs) [] _ P (λ _. tt)
+    (λ _. cond_both (attrs_eq a default_attrs) (ClearAttrs ∷ []) (Sgr (changed_attrs p.attrs a) ∷ []) P
+    (λ _. form-idle S z ClearAttrs t (λ r k. refl)) (λ _. form-idle S z (Sgr (changed_attrs p.attrs a)) t
+    (λ r k. refl)))
+
+pub stays-back : (S : ℕ → ℕ → Type 0) (z : Size) (p : Pen) (t : Term) → Stays S z back p t
+unfolding back form_touches
+stays-back S z p t = form-idle S z Backspace t (λ r k. refl)
+
+pub stays-print : (S : ℕ → ℕ → Type 0) (z : Size) (t : Term) (C : ℕ → ℕ → CellView) (W : ℕ → Bool) (i c : ℕ) (a : Attrs)
+    (f : ℕ → CellView) (x : CellView) (loses : Bool) (p : Pen) → IsSendable x → c + span_of x ≤ z.cols
+    → ((k : ℕ) → k < z.cols → put_touches f c x k ≡ true → S i k)
+    → Stays S z (print x loses) p (at t (update C i f) W i c a)
+unfolding print
+stays-print S z t C W i c a f x loses p send room h =
+    let u = at t (update C i f) W i c a in
+    form-within S z (Text x.text) u (λ r k l e.
+    let there = text-from z x u i c (update C i f i) send
+    (λ d ds head. first-here z x d ds u head room) r k e in
+    subst (λ j. S j k) (sym there.0) (h k l
+    (ap (λ g. put_touches g c x k) (sym (update-same C i f)) ∙ there.1)))
+
+pub stays-print_below : (S : ℕ → ℕ → Type 0) (z : Size) (t : Term) (C : ℕ → ℕ → CellView) (W : ℕ → Bool) (i c : ℕ)
+    (a : Attrs) (f : ℕ → CellView) (x : CellView) (loses : Bool) (p : Pen) → IsSendable x → span_of x ≤ z.cols
+    → z.cols < c + span_of x → i + 1 < z.rows → is_filled (C i (z.cols - 1)) ≡ true
+    → ((k : ℕ) → k < z.cols → put_touches f 0 x k ≡ true → S (i + 1) k)
+    → Stays S z (print x loses) p (at t (update C (i + 1) f) W i c a)
+unfolding print
+stays-print_below S z t C W i c a f x loses p send l over room full h =
+    let D : ℕ → ℕ → CellView = update C (i + 1) f in
+    let u = at t D W i c a in
+    let kept : D i ≡ C i = update-other C (i + 1) i f (λ q. absurd (omega (arith, q))) in
+    let shown = ap (λ (g : ℕ → CellView). is_filled (g (z.cols - 1))) kept ∙ full in
+    form-within S z (Text x.text) u (λ r k m e.
+    let there = text-from z x u (i + 1) 0 (D (i + 1)) send
+    (λ d ds head. first-below z x d ds t D W i c a head l over room shown) r k e in
+    subst (λ j. S j k) (sym there.0) (h k m
+    (ap (λ g. put_touches g 0 x k) (sym (update-same C (i + 1) f)) ∙ there.1)))
+
+pub stays-space_below : (S : ℕ → ℕ → Type 0) (z : Size) (t : Term) (C : ℕ → ℕ → CellView) (W : ℕ → Bool) (i c : ℕ)
+    (a : Attrs) (f : ℕ → CellView) (p : Pen) → 0 < z.cols → z.cols < c + 1 → i + 1 < z.rows
+    → is_filled (C i (z.cols - 1)) ≡ true
+    → ((k : ℕ) → k < z.cols → put_touches f 0 (cell_of 32 a) k ≡ true → S (i + 1) k)
+    → Stays S z space p (at t (update C (i + 1) f) W i c a)
+unfolding space print
+stays-space_below S z t C W i c a f p some over room full h =
+    let one = span-space a in
+    stays-print_below S z t C W i c a f (cell_of 32 a) false p (sends-space a) (omega (arith, one, some))
+    (omega (arith, one, over)) room full h
+
+erase-within : (S : ℕ → ℕ → Type 0) (z : Size) (g : Form) (t : Term) (C : ℕ → ℕ → CellView) (W : ℕ → Bool) (i c e : ℕ)
+    (a : Attrs) (f : ℕ → CellView)
+    → ((r k : ℕ) → form_touches z g (at t (update C i f) W i c a) r k
+    ≡ ((r == i) && wipe_touches (update C i f i) c e k))
+    → ((k : ℕ) → k < z.cols → wipe_touches f c e k ≡ true → S i k) → Within S z (g ∷ []) (at t (update C i f) W i c a)
+erase-within S z g t C W i c e a f is h =
+    form-within S z g (at t (update C i f) W i c a) (λ r k l q.
+    let both = and_parts (r == i) _ (sym (is r k) ∙ q) in
+    subst (λ j. S j k) (sym (eqb-true r i both.0)) (h k l
+    (ap (λ (v : ℕ → CellView). wipe_touches v c e k) (sym (update-same C i f)) ∙ both.1)))
+
+pub stays-erasing : (S : ℕ → ℕ → Type 0) (z : Size) (t : Term) (C : ℕ → ℕ → CellView) (W : ℕ → Bool) (i c m e : ℕ)
+    (a : Attrs) (f : ℕ → CellView) (loses : Bool) (p : Pen) → c + m ≡ e → e ≤ z.cols
+    → ((k : ℕ) → k < z.cols → wipe_touches f c e k ≡ true → S i k)
+    → Stays S z (erasing m loses) p (at t (update C i f) W i c a)
+unfolding erasing form_touches
+stays-erasing S z t C W i c m e a f loses p whole l h =
+    let up_to : min (c + m) z.cols ≡ e = omega (arith, whole, l) in
+    erase-within S z (EraseChar m) t C W i c e a f
+    (λ r k. ap (λ n. (r == i) && wipe_touches (update C i f i) c n k) up_to) h
+
+pub stays-clearing : (S : ℕ → ℕ → Type 0) (z : Size) (t : Term) (C : ℕ → ℕ → CellView) (W : ℕ → Bool) (i c : ℕ)
+    (a : Attrs) (f : ℕ → CellView) (p : Pen) → ((k : ℕ) → k < z.cols → wipe_touches f c z.cols k ≡ true → S i k)
+    → Stays S z clearing p (at t (update C i f) W i c a)
+unfolding clearing form_touches
+stays-clearing S z t C W i c a f p h =
+    erase-within S z ClearRowForward t C W i c z.cols a f (λ r k. refl) h

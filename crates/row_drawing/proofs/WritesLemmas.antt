@@ -1,0 +1,174 @@
+-- What calls write, one after the other.
+use Rattle.std.proofs.Common.{◌≡◌, ℕ, ◌+◌, ◌-◌, ◌==◌, ◌&&◌, Bool, true, ◌||◌, List, [], ◌∷◌, ◌++◌, refl, sym, ap, ◌∙◌}
+use Rattle.std.proofs.Common.{append-nil, append_assoc, subst, None, arith}
+use Rattle.std.specs.Prelude.{encode_utf8_all}
+use Rattle.vt100_forms.specs.declared.attrs.Attrs.{Attrs}
+use Rattle.vt100_forms.specs.Attrs.{attrs_eq}
+use Rattle.vt100_forms.specs.Form.{Form, EraseChar, ClearRowForward, Backspace, spell, spelling, moves, change}
+use Rattle.vt100_cells.specs.Cell.{CellView}
+use Rattle.vt100_cells.specs.CellEq.{attrs_eq-refl, attrs_eq-true}
+use Rattle.vt100_forms.specs.declared.position.Pos.{Pos}
+use Rattle.std.proofs.lemmas.Bool.{and_parts, eqb-true, ne_eqb, eq-eqb}
+use Rattle.vt100_cells.specs.Line.{span_of}
+use Rattle.row_drawing.specs.declared.pen.Pen.{Pen}
+use Rattle.row_drawing.specs.Writer.{Drawn, Writer, ◌>>◌, skip, goto, colour, print, space, back, erasing}
+use Rattle.row_drawing.specs.Writer.{clearing}
+use Rattle.row_drawing.specs.Writes.{IsBegun, Wrote}
+
+pub spell-joined : (fs gs : List Form) → spell (fs ++ gs) ≡ spell fs ++ spell gs
+spell-joined [] gs = refl
+spell-joined (f ∷ fs) gs = ap (λ bs. spelling f ++ bs) (spell-joined fs gs)
+    ∙ sym (append_assoc (spelling f) (spell fs) (spell gs))
+
+-- nothing is appended
+pub begun-none : (s text : List ℕ) → IsBegun s text s
+begun-none s text = ([], text, refl, sym (append-nil s))
+
+-- everything
+pub begun-all : (s text t : List ℕ) → t ≡ s ++ text → IsBegun s text t
+begun-all s text t e = (text, [], sym (append-nil text), e)
+
+pub begun-more : (s a b t : List ℕ) → IsBegun s a t → IsBegun s (a ++ b) t
+begun-more s a b t h = (
+  h.0,
+  h.1 ++ b,
+  ap (λ bs. bs ++ b) h.2 ∙ append_assoc h.0 h.1 b,
+  h.3,
+)
+
+pub begun-later : (s a b t u : List ℕ) → t ≡ s ++ a → IsBegun t b u → IsBegun s (a ++ b) u
+begun-later s a b t u e h = (
+  a ++ h.0,
+  h.1,
+  ap (λ bs. a ++ bs) h.2 ∙ sym (append_assoc a h.0 h.1),
+  h.3 ∙ ap (λ bs. bs ++ h.0) e ∙ append_assoc s a h.0,
+)
+
+-- ---- one writer after another
+
+pub wrote_then : (f g : Writer) (p : Pen) (s : List ℕ) (q : Pen) (t : List ℕ) (r : Pen) (u : List ℕ)
+    → Wrote f p s q t → Wrote g q t r u → Wrote (f >> g) p s r u
+unfolding ◌>>◌
+wrote_then f g p s q t r u a b = record {
+  pen_is = ap (λ x. (g x).pen) a.pen_is ∙ b.pen_is;
+  text_is = b.text_is ∙ ap (λ bs. bs ++ spell (g q).forms) a.text_is ∙ append_assoc s (spell (f p).forms) (spell
+      (g q).forms) ∙ ap (λ x. s ++ (spell (f p).forms ++ spell (g x).forms)) (sym a.pen_is)
+      ∙ ap (λ bs. s ++ bs) (sym (spell-joined (f p).forms (g (f p).pen).forms));
+}
+
+-- the first is refused
+pub begun_first : (f g : Writer) (p : Pen) (s t : List ℕ) → IsBegun s (spell (f p).forms) t
+    → IsBegun s (spell ((f >> g) p).forms) t
+unfolding ◌>>◌
+begun_first f g p s t h = subst (λ bs. IsBegun s bs t) (sym (spell-joined (f p).forms (g (f p).pen).forms))
+    (begun-more s (spell (f p).forms) (spell (g (f p).pen).forms) t h)
+
+-- the second is
+pub begun_then : (f g : Writer) (p : Pen) (s : List ℕ) (q : Pen) (t u : List ℕ) → Wrote f p s q t
+    → IsBegun t (spell (g q).forms) u → IsBegun s (spell ((f >> g) p).forms) u
+unfolding ◌>>◌
+begun_then f g p s q t u a h = subst (λ bs. IsBegun s bs u) (sym (spell-joined (f p).forms (g (f p).pen).forms))
+    (begun-later s (spell (f p).forms) (spell (g (f p).pen).forms) t u a.text_is
+    (subst (λ x. IsBegun t (spell (g x).forms) u) (sym a.pen_is) h))
+
+pub wrote_as : (f g : Writer) (p : Pen) (s : List ℕ) (q : Pen) (t : List ℕ) → g p ≡ f p → Wrote f p s q t
+    → Wrote g p s q t
+wrote_as f g p s q t e a = record {
+  pen_is = ap (λ (d : Drawn). d.pen) e ∙ a.pen_is;
+  text_is = a.text_is ∙ ap (λ (d : Drawn). s ++ spell d.forms) (sym e);
+}
+
+pub begun_as : (f g : Writer) (p : Pen) (s t : List ℕ) → g p ≡ f p → IsBegun s (spell (f p).forms) t
+    → IsBegun s (spell (g p).forms) t
+begun_as f g p s t e h = subst (λ (d : Drawn). IsBegun s (spell d.forms) t) (sym e) h
+
+pub wrote_skip : (p : Pen) (s : List ℕ) → Wrote skip p s p s
+unfolding skip
+wrote_skip p s = record { pen_is = refl; text_is = sym (append-nil s) }
+
+-- ---- single forms
+
+pub wrote_goto : (row col : ℕ) (p : Pen) (s t : List ℕ)
+    → t ≡ s ++ spell (moves p.pos (record { row = row; col = col }))
+    → Wrote (goto row col) p s (record p { pos = record { row = row; col = col } }) t
+unfolding goto
+wrote_goto row col p s t h = record { pen_is = refl; text_is = h }
+
+stays : (q : Pos) → moves q q ≡ []
+stays q = rw (ne_eqb q.row (q.row + 1) (λ e. omega (arith, e)), eq-eqb q.row q.row refl, eq-eqb q.col q.col refl) refl
+
+unchanged : (a : Attrs) → change a a ≡ []
+unchanged a = rw (attrs_eq-refl a) refl
+
+-- the cursor stands there
+goto_here : (p : Pen) (pos : Pos) (s : List ℕ) → p.pos ≡ pos → Wrote (goto pos.row pos.col) p s p s
+unfolding goto
+goto_here p pos s e = record {
+  pen_is = λ i. record p { pos = sym e i };
+  text_is = sym (append-nil s) ∙ ap (λ fs. s ++ spell fs) (sym (stays p.pos) ∙ ap (moves p.pos) e);
+}
+
+pub wrote_goto_here : (p : Pen) (pos : Pos) (s : List ℕ) → ((p.pos.row == pos.row) && (p.pos.col == pos.col)) ≡ true
+    → Wrote (goto pos.row pos.col) p s p s
+wrote_goto_here p pos s h =
+    let both = and_parts (p.pos.row == pos.row) (p.pos.col == pos.col) h in
+    let rows = eqb-true p.pos.row pos.row both.0 in
+    let cols = eqb-true p.pos.col pos.col both.1 in
+    goto_here p pos s (λ i. record { row = rows i; col = cols i })
+
+pub wrote_colour : (a : Attrs) (p : Pen) (s t : List ℕ) → t ≡ s ++ spell (change p.attrs a)
+    → Wrote (colour a) p s (record p { attrs = a }) t
+unfolding colour
+wrote_colour a p s t h = record { pen_is = refl; text_is = h }
+
+-- the terminal draws with these attributes already
+pub colour_same : (p : Pen) (a : Attrs) (s : List ℕ) → p.attrs ≡ a → Wrote (colour a) p s p s
+unfolding colour
+colour_same p a s e = record {
+  pen_is = λ i. record p { attrs = sym e i };
+  text_is = sym (append-nil s) ∙ ap (λ fs. s ++ spell fs) (sym (unchanged p.attrs) ∙ ap (change p.attrs) e);
+}
+
+pub wrote_colour_same : (p : Pen) (a : Attrs) (s : List ℕ) → attrs_eq p.attrs a ≡ true → Wrote (colour a) p s p s
+wrote_colour_same p a s h = colour_same p a s (attrs_eq-true p.attrs a h)
+
+pub wrote_print : (x : CellView) (loses : Bool) (p : Pen) (s t : List ℕ) (col : ℕ) (lost : Bool)
+    → t ≡ s ++ encode_utf8_all x.text → col ≡ p.pos.col + span_of x → lost ≡ (p.lost || loses)
+    → Wrote (print x loses) p s (record p { pos = record (p.pos) { col = col }; lost = lost }) t
+unfolding print
+wrote_print x loses p s t col lost h e g = record {
+  pen_is = λ i. record p { pos = record (p.pos) { col = sym e i }; lost = sym g i };
+  text_is = h ∙ ap (λ bs. s ++ bs) (sym (append-nil (encode_utf8_all x.text)));
+}
+
+pub begun_print : (x : CellView) (loses : Bool) (p : Pen) (s : List ℕ) → IsBegun s (spell (print x loses p).forms) s
+begun_print x loses p s = begun-none s (spell (print x loses p).forms)
+
+pub wrote_space : (p : Pen) (s t : List ℕ) → t ≡ s ++ encode_utf8_all (32 ∷ [])
+    → Wrote space p s (record p { pos = record (p.pos) { col = p.pos.col + 1 } }) t
+unfolding space
+wrote_space p s t h = record {
+  pen_is = refl;
+  text_is = h ∙ ap (λ bs. s ++ bs) (sym (append-nil (encode_utf8_all (32 ∷ []))));
+}
+
+pub wrote_back : (p : Pen) (s t : List ℕ) (col : ℕ) → t ≡ s ++ spell (Backspace ∷ []) → col ≡ p.pos.col - 1
+    → Wrote back p s (record p { pos = record (p.pos) { col = col } }) t
+unfolding back
+wrote_back p s t col h e = record {
+  pen_is = λ i. record p { pos = record (p.pos) { col = sym e i } };
+  text_is = h;
+}
+
+pub wrote_erase : (n : ℕ) (loses : Bool) (p : Pen) (s t : List ℕ) (lost : Bool) → t ≡ s ++ spell (EraseChar n ∷ [])
+    → lost ≡ (p.lost || loses) → Wrote (erasing n loses) p s (record p { erase = None; lost = lost }) t
+unfolding erasing
+wrote_erase n loses p s t lost h g = record {
+  pen_is = λ i. record p { erase = None; lost = sym g i };
+  text_is = h;
+}
+
+pub wrote_clear : (p : Pen) (s t : List ℕ) → t ≡ s ++ spell (ClearRowForward ∷ [])
+    → Wrote clearing p s (record p { erase = None; lost = true }) t
+unfolding clearing
+wrote_clear p s t h = record { pen_is = refl; text_is = h }

@@ -1,0 +1,21 @@
+use Rattle.std.specs.Prelude.{◌≡◌, ◌≤◌, ◌-◌, ◌++◌, IfSome, string_bytes}
+use Rattle.vt100_forms.specs.Form.{spell}
+use Rattle.row_drawing.specs.Drawing.{job_of}
+use Rattle.row_drawing.specs.RowWriter.{columns}
+use Rattle.row_drawing.specs.Writes.{IsBegun, Wrote}
+use Rattle.row_drawing.proofs.drawing.Drawing.columns.Given as goal
+
+-- the columns so far are drawn, where the run's bytes follow those that are appended already, and `like`, if it is
+-- there, has the attributes with which the terminal draws
+abbrev pub invariant-loop-n : goal.invariant-loop-n
+invariant-loop-n l = record {
+  within : l.n ≤ l.count;
+  drawn : Wrote (columns (job_of l.self) l.n) l.initial.pen (string_bytes l.initial.contents) l.pen
+      (string_bytes l.contents ++ l.run);
+  begun : IsBegun (string_bytes l.initial.contents) (spell (columns (job_of l.self) l.count l.initial.pen).forms)
+      (string_bytes l.contents);
+  like : IfSome l.like (λ x. x.now.attrs ≡ l.pen.attrs);
+}
+
+abbrev pub decreases-loop-n : goal.decreases-loop-n
+decreases-loop-n l = l.count - l.n

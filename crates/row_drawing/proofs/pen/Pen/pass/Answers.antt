@@ -1,0 +1,5 @@
+use Rattle.row_drawing.proofs.RunWrites.{passed}
+use Rattle.row_drawing.proofs.pen.Pen.pass.Goals as goal
+
+pub returns : goal.returns
+returns c = passed c.args.cell.now c.args.self.now c.span.result c.span.ensures

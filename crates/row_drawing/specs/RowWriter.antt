@@ -1,0 +1,164 @@
+-- How a row is drawn where a terminal shows an earlier one: column by column, and each cell that differs.
+--
+-- Empty columns with the same attributes are erased together: what is to be erased waits in the pen until a column
+-- follows that ends it. Where the row above goes on in this one and its flag isn't set yet, the first character of
+-- this row is printed from the end of that row, which sets it.
+use Rattle.std.specs.Prelude.{ℕ, zero, suc, ◌≡◌, ◌+◌, ◌-◌, ◌==◌, Bool, true, false, not, ◌&&◌, ◌||◌, nat_lt}
+use Rattle.std.specs.Prelude.{Option, Some, None, if◌then◌else◌}
+use Rattle.vt100_forms.specs.declared.attrs.Attrs.{Attrs}
+use Rattle.vt100_forms.specs.Attrs.{attrs_eq}
+use Rattle.vt100_cells.specs.Cell.{CellView, has_text, cell_eq, bool_eq}
+use Rattle.vt100_cells.specs.Line.{span_of, put_unflags, wipe_unflags}
+use Rattle.row_drawing.specs.declared.pen.Erase.{Erase}
+use Rattle.row_drawing.specs.declared.pen.Pen.{Pen}
+use Rattle.row_drawing.specs.Writer.{Writer, ◌>>◌, skip, goto, turn, colour, print, space, back, erasing, clearing}
+use Rattle.row_drawing.specs.Writer.{marking}
+
+-- A row of so many columns, as it is (`new`) and as the terminal shows it (`old`), drawn from column `start` on; which
+-- row of the screen it is; whether it goes on in the next row, and did; whether the row above goes on in this one, and
+-- has its flag in the terminal.
+pub record Job : Type 0 where
+  pub cols : ℕ
+  pub row : ℕ
+  pub start : ℕ
+  pub old : ℕ → CellView
+  pub new : ℕ → CellView
+  pub wrapped : Bool
+  pub was_wrapped : Bool
+  pub above : Bool
+  pub was_above : Bool
+
+abbrev pub is_same : Job → ℕ → Bool
+is_same j c = cell_eq (j.new c) (j.old c)
+
+-- n columns don't fit behind the cursor in the row above, which goes on in this one: what is printed now stands at the
+-- start of this row
+abbrev pub wraps : Job → ℕ → Pen → Bool
+wraps j n p = j.above && ((p.pos.row + 1 == j.row) && nat_lt j.cols (p.pos.col + n))
+
+-- ---- the first column
+
+-- Where the first cell stays and the row above has no flag yet, the cell is printed once more: this sets the flag.
+abbrev pub owes_flag : Job → Pen → Bool
+owes_flag j p =
+    (j.above && not j.was_above) && (is_same j j.start && wraps j (span_of (j.new j.start)) p)
+
+unfoldable pub reprint : Job → CellView → Writer
+reprint j x =
+    if has_text x then (print x false >> (if x.wide then (back >> back) else back))
+    else (space >> back >> erasing 1 (wipe_unflags j.cols j.old 0 1))
+
+unfoldable pub opening : Job → Writer
+opening j p =
+    if owes_flag j p then (turn j.row >> colour (j.new j.start).attrs >> reprint j (j.new j.start)) p
+    else skip p
+
+-- ---- what is still to be erased
+
+unfoldable pub to_erase : Job → Erase → Writer
+to_erase j e p =
+    if wraps j 1 p && (e.from == 0) then (turn j.row >> space >> back >> colour e.attrs) p
+    else (goto j.row e.from >> colour e.attrs) p
+
+-- x ends the columns that are erased with the attributes a
+abbrev pub is_end : CellView → Attrs → Bool
+is_end x a = has_text x || not (attrs_eq x.attrs a)
+
+unfoldable pub flush_of : Job → ℕ → Option Erase → Writer
+flush_of j c None = skip
+flush_of j c (Some e) =
+    if is_end (j.new c) e.attrs then (to_erase j e >> erasing (c - e.from) (wipe_unflags j.cols j.old e.from c))
+    else skip
+
+-- the columns before c are erased if column c ends them
+unfoldable pub flush : Job → ℕ → Writer
+flush j c p = flush_of j c p.erase p
+
+unfoldable pub finish_of : Job → Option Erase → Writer
+finish_of j None = skip
+finish_of j (Some e) = to_erase j e >> clearing
+
+-- what is still to be erased goes to the end of the row
+unfoldable pub finish : Job → Writer
+finish j p = finish_of j p.erase p
+
+-- ---- one column
+
+unfoldable pub arrive : Job → ℕ → ℕ → Writer
+arrive j c n p = if wraps j n p && (c == 0) then turn j.row p else goto j.row c p
+
+unfoldable pub mark_of : Job → ℕ → Option Erase → Writer
+mark_of j c None = marking c (j.new c).attrs
+mark_of j c (Some e) = skip
+
+unfoldable pub mark : Job → ℕ → Writer
+mark j c p = mark_of j c p.erase p
+
+-- the cell at c, if it differs
+unfoldable pub draw : Job → ℕ → Writer
+draw j c =
+    if is_same j c then skip
+    else if has_text (j.new c)
+    then (arrive j c (span_of (j.new c)) >> colour (j.new c).attrs
+    >> print (j.new c) (put_unflags j.cols j.old c (j.new c)))
+    else mark j c
+
+-- a second half comes with the first one, but in the first column it counts as empty
+unfoldable pub column : Job → ℕ → Writer
+column j c = if (j.new c).continuation && not (c == j.start) then skip else (flush j c >> draw j c)
+
+-- n columns from the start on
+unfoldable pub columns : Job → ℕ → Writer
+columns j zero = skip
+columns j (suc n) = columns j n >> column j (j.start + n)
+
+-- ---- the flag of the row
+
+-- the column of the last cell, or of its first half
+abbrev pub last_col : Job → ℕ
+last_col j = if (j.new (j.cols - 1)).continuation then j.cols - 2 else j.cols - 1
+
+abbrev pub last_cell : Job → CellView
+last_cell j = j.new (last_col j)
+
+-- An erased last cell takes the flag away. A cell that has a text is printed again; an empty one is erased with its own
+-- attributes.
+unfoldable pub unflag : CellView → Writer
+unflag x = if has_text x then erasing 1 true else (colour x.attrs >> erasing 1 true)
+
+-- the last cell is printed, and the cursor waits behind it
+unfoldable pub print_last : CellView → Writer
+print_last x = if has_text x then (colour x.attrs >> print x false) else skip
+
+unfoldable pub mend : Job → CellView → Writer
+mend j x = if j.wrapped then print_last x else (unflag x >> print_last x)
+
+-- the row's flag changes, or the terminal may have lost it
+abbrev pub owes_end : Job → Pen → Bool
+owes_end j p = not (bool_eq j.wrapped j.was_wrapped) || (j.wrapped && p.lost)
+
+-- There the last cell is drawn again. A flag that is to be set is set by the next row.
+unfoldable pub closing : Job → Writer
+closing j p = if owes_end j p then (goto j.row (last_col j) >> mend j (last_cell j)) p else skip p
+
+-- The row had its flag, and can't have lost it while it was drawn. Where it goes on, the next row is told so.
+abbrev pub keeps_flag : Job → Pen → Bool
+keeps_flag j p = j.was_wrapped && not p.lost
+
+-- ---- the row
+
+-- n columns of the row, over a row that has no flag
+unfoldable pub row_redraw : Job → ℕ → Writer
+row_redraw j n = opening j >> columns j n >> finish j
+
+-- n columns of the row, and its flag
+unfoldable pub row_difference : Job → ℕ → Writer
+row_difference j n = row_redraw j n >> closing j
+
+-- the terminal shows the row already, and nothing is owed to it or to the row above
+pub record IsKept (j : Job) (p : Pen) : Type 0 where
+  pub cells : (k : ℕ) → j.new k ≡ j.old k
+  pub flag : j.wrapped ≡ j.was_wrapped
+  pub unowed : owes_flag j p ≡ false
+  pub closed : p.erase ≡ None
+  pub unlost : p.lost ≡ false

@@ -1,0 +1,158 @@
+//! How a row ends, and the difference of a whole row. Where the row's flag changes its last cell is drawn again.
+ghost use Rattle.std.specs.Prelude.{◌≡◌, ◌+◌, ◌<◌, ◌≤◌, ◌^◌, length, is_ok, string_bytes, IsTrue};
+ghost use Rattle.vt100_cells.specs.Cells.{AreSame, cell_at};
+ghost use Rattle.vt100_cells.specs.Line.{span_of};
+ghost use Rattle.row_drawing.specs.Drawing.{job_of, IsSettled};
+ghost use Rattle.row_drawing.specs.RowWriter.{last_col, unflag, print_last, mend, owes_end, closing};
+ghost use Rattle.row_drawing.specs.RowWriter.{row_difference};
+ghost use Rattle.row_drawing.specs.Writes.{Writes};
+
+use crate::drawing::Drawing;
+use crate::pen::Pen;
+use vt100_cells::Cell;
+use vt100_cells::line::{at, is_continuation_at, same_to};
+use vt100_forms::GridError;
+use vt100_forms::position::Pos;
+
+impl<'a> Drawing<'a> {
+    /// The column of the last cell, or of its first half.
+    fn last_col(&self) -> u16
+        ensures { result ≡ last_col (job_of self.now) }
+    {
+        let cols = self.cols();
+        let last = cols.saturating_sub(1);
+        if is_continuation_at(self.cells, usize::from(last)) {
+            cols.saturating_sub(2)
+        } else {
+            last
+        }
+    }
+
+    /// Whether the row's flag changes, or the terminal may have lost it.
+    fn owes_end(&self, pen: &Pen) -> bool
+        ensures { result ≡ owes_end (job_of self.now) pen.now }
+    {
+        self.wrapped != self.was_wrapped || (self.wrapped && pen.lost)
+    }
+
+    /// Draws the last cell, where the cursor stands, once more. If the row doesn't go on, the cell is erased first,
+    /// which takes the flag away.
+    fn mend(&self, pen: &mut Pen, contents: &mut String, cell: &Cell) -> Result<(), GridError>
+        requires { pen.old.pos.col + span_of cell.now < 2 ^ 16 }
+        ensures { Writes (mend (job_of self.now) cell.now) pen.old (string_bytes contents.old) (is_ok result) pen.new
+            (string_bytes contents.new) }
+    {
+        if self.wrapped {
+            pen.print_last(contents, cell)?;
+            return Ok(());
+        }
+        pen.unflag(contents, cell)?;
+        pen.print_last(contents, cell)?;
+        Ok(())
+    }
+
+    /// Brings the row's flag in order, once its columns are drawn. A flag that is to be set is set by the next row: the
+    /// cursor waits at the end of this one.
+    pub(crate) fn closing(&self, pen: &mut Pen, contents: &mut String) -> Result<(), GridError>
+        requires { 0 < length self.now.cells.now }
+        ensures { Writes (closing (job_of self.now)) pen.old (string_bytes contents.old) (is_ok result) pen.new
+            (string_bytes contents.new) }
+    {
+        if !self.owes_end(pen) {
+            return Ok(());
+        }
+        let col = self.last_col();
+        pen.goto(contents, Pos { row: self.row, col })?;
+        self.mend(pen, contents, at(self.cells, usize::from(col)))?;
+        Ok(())
+    }
+
+    /// How many cells from the left the terminal shows already.
+    fn same(&self) -> usize
+        ensures within { result ≤ length self.now.cells.now }
+        ensures same { AreSame (cell_at self.now.cells.now) (cell_at self.now.earlier.now) 0 result }
+    {
+        same_to(
+            self.cells,
+            self.earlier,
+            0,
+            self.cells.len().min(self.earlier.len()),
+        )
+    }
+
+    /// Whether the terminal, which shows the first `same` cells already, shows all of them.
+    fn shows_all(&self, same: usize) -> bool
+        requires { AreSame (cell_at self.now.cells.now) (cell_at self.now.earlier.now) 0 same }
+        ensures { IsTrue result → self.now.cells.now ≡ self.now.earlier.now }
+    {
+        same == self.cells.len() && same == self.earlier.len()
+    }
+
+    /// Whether the terminal, which shows the first `same` cells already, shows the whole row, and nothing is owed to it
+    /// or to the row above.
+    fn is_settled(&self, pen: &Pen, same: usize) -> bool
+        requires { AreSame (cell_at self.now.cells.now) (cell_at self.now.earlier.now) 0 same }
+        ensures { IsTrue result → IsSettled self.now pen.now }
+    {
+        self.wrapped == self.was_wrapped
+            && (!self.above || self.was_above)
+            && pen.erase.is_none()
+            && !pen.lost
+            && self.shows_all(same)
+    }
+
+    /// Draws `count` columns, from the first that is drawn on, where the terminal shows others, and sets the row's flag
+    /// or takes it away. A row that stays costs a comparison.
+    ///
+    /// Where it is refused for want of memory a part of the forms may have been appended.
+    pub fn difference(
+        &self,
+        pen: &mut Pen,
+        contents: &mut String,
+        count: u16,
+    ) -> Result<(), GridError>
+        requires starts_inside { self.now.start < length self.now.cells.now }
+        requires ends_inside { self.now.start + count ≤ length self.now.cells.now }
+        ensures { Writes (row_difference (job_of self.now) count) pen.old (string_bytes contents.old) (is_ok result)
+            pen.new (string_bytes contents.new) }
+    {
+        let same = self.same();
+        if self.is_settled(pen, same) {
+            return Ok(());
+        }
+        self.redraw_behind(pen, contents, same, count)?;
+        self.closing(pen, contents)?;
+        Ok(())
+    }
+}
+
+impl Pen {
+    /// Erases the last cell of a row, where the cursor stands, and with it the row's flag. An empty cell is erased with
+    /// its own attributes.
+    fn unflag(&mut self, contents: &mut String, cell: &Cell) -> Result<(), GridError>
+        ensures { Writes (unflag cell.now) self.old (string_bytes contents.old) (is_ok result) self.new
+            (string_bytes contents.new) }
+    {
+        if cell.has_contents() {
+            self.erase(contents, 1, true)?;
+            return Ok(());
+        }
+        self.colour(contents, cell.attrs())?;
+        self.erase(contents, 1, true)?;
+        Ok(())
+    }
+
+    /// Prints the last cell of a row, if it has a text; then the cursor waits behind it.
+    fn print_last(&mut self, contents: &mut String, cell: &Cell) -> Result<(), GridError>
+        requires { self.old.pos.col + span_of cell.now < 2 ^ 16 }
+        ensures { Writes (print_last cell.now) self.old (string_bytes contents.old) (is_ok result) self.new
+            (string_bytes contents.new) }
+    {
+        if !cell.has_contents() {
+            return Ok(());
+        }
+        self.colour(contents, cell.attrs())?;
+        self.print(contents, cell, false)?;
+        Ok(())
+    }
+}

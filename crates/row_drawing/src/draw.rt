@@ -1,0 +1,232 @@
+//! How one column of a row is drawn on a terminal that shows an earlier one.
+ghost use Rattle.std.specs.Prelude.{ℕ, ◌≡◌, ◌+◌, ◌<◌, ◌≤◌, ◌^◌, ◌-◌, ◌==◌, ◌&&◌, not, false, List, ◌++◌, length};
+ghost use Rattle.std.specs.Prelude.{is_ok, string_bytes};
+ghost use Rattle.vt100_cells.specs.Cell.{has_text};
+ghost use Rattle.vt100_cells.specs.Cells.{cell_at};
+ghost use Rattle.vt100_cells.specs.Line.{put_unflags, wipe_unflags};
+ghost use Rattle.row_drawing.specs.Drawing.{job_of};
+ghost use Rattle.row_drawing.specs.RowWriter.{is_same, wraps, is_end, to_erase, flush, finish, arrive, draw, column};
+ghost use Rattle.row_drawing.specs.Writes.{Writes, Wrote};
+
+use crate::drawing::Drawing;
+use crate::pen::{Erase, Pen, span};
+use vt100_cells::Cell;
+use vt100_cells::line::{at, is_continuation_at, is_same_at, is_wide_at};
+use vt100_forms::attrs::Attrs;
+use vt100_forms::position::Pos;
+use vt100_forms::{GridError, TextRun};
+
+impl<'a> Drawing<'a> {
+    pub(crate) fn cols(&self) -> u16
+        ensures { result ≡ length self.now.cells.now }
+    {
+        self.cells.len() as u16
+    }
+
+    /// Whether the terminal shows the cell already.
+    #[inline(always)]
+    pub(crate) fn is_same(&self, col: u16) -> bool
+        requires { col < length self.now.cells.now }
+        ensures { result ≡ is_same (job_of self.now) col }
+    {
+        let col = usize::from(col);
+        if col < self.earlier.len() {
+            is_same_at(self.cells, self.earlier, col)
+        } else {
+            let cell = at(self.cells, col);
+            !cell.has_contents() && cell.is_default()
+        }
+    }
+
+    /// Whether `columns` columns don't fit behind the cursor in the row above, which goes on in this one.
+    pub(crate) fn wraps(&self, pen: &Pen, columns: u16) -> bool
+        ensures { result ≡ wraps (job_of self.now) columns pen.now }
+    {
+        self.above
+            && u32::from(pen.pos.row) + 1 == u32::from(self.row)
+            && u32::from(self.cols()) < u32::from(pen.pos.col) + u32::from(columns)
+    }
+
+    /// Whether what covers `columns` columns, printed now at column `col`, stands at the start of this row, since it
+    /// doesn't fit in the row above.
+    fn is_wrapping(&self, pen: &Pen, columns: u16, col: u16) -> bool
+        ensures { result ≡ (wraps (job_of self.now) columns pen.now && (col == 0)) }
+    {
+        self.wraps(pen, columns) && col == 0
+    }
+
+    /// Brings the cursor to where `columns` columns are printed from `col` on.
+    fn arrive(
+        &self,
+        pen: &mut Pen,
+        contents: &mut String,
+        col: u16,
+        columns: u16,
+    ) -> Result<(), GridError>
+        ensures { Writes (arrive (job_of self.now) col columns) pen.old (string_bytes contents.old) (is_ok result)
+            pen.new (string_bytes contents.new) }
+    {
+        if self.is_wrapping(pen, columns, col) {
+            pen.turn(self.row);
+            return Ok(());
+        }
+        pen.goto(contents, Pos { row: self.row, col })?;
+        Ok(())
+    }
+
+    /// The same by bytes that are put into `run`.
+    pub(crate) fn arrive_in(&self, pen: &mut Pen, run: &mut TextRun, col: u16, columns: u16)
+        requires { length run.old + 14 ≤ 128 }
+        ensures written { (t : List ℕ) → Wrote (arrive (job_of self.now) col columns) pen.old (t ++ run.old) pen.new
+            (t ++ run.new) }
+        ensures room { length run.new ≤ length run.old + 14 }
+    {
+        if self.is_wrapping(pen, columns, col) {
+            pen.turn(self.row);
+            return;
+        }
+        let pos = Pos { row: self.row, col };
+        pen.goto_in(run, pos);
+    }
+
+    /// Brings the cursor to the first of the columns that are to be erased, and sets their attributes.
+    fn to_erase(&self, pen: &mut Pen, contents: &mut String, erase: Erase) -> Result<(), GridError>
+        ensures { Writes (to_erase (job_of self.now) erase) pen.old (string_bytes contents.old) (is_ok result) pen.new
+            (string_bytes contents.new) }
+    {
+        if self.is_wrapping(pen, 1, erase.from) {
+            pen.turn(self.row);
+            pen.space(contents)?;
+            pen.back(contents)?;
+            pen.colour(contents, erase.attrs)?;
+            return Ok(());
+        }
+        let pos = Pos {
+            row: self.row,
+            col: erase.from,
+        };
+        pen.goto(contents, pos)?;
+        pen.colour(contents, erase.attrs)?;
+        Ok(())
+    }
+
+    /// Erases the columns before `col`, if there is something to be erased and this column ends it.
+    fn flush(&self, pen: &mut Pen, contents: &mut String, col: u16) -> Result<(), GridError>
+        requires { col < length self.now.cells.now }
+        ensures { Writes (flush (job_of self.now) col) pen.old (string_bytes contents.old) (is_ok result) pen.new
+            (string_bytes contents.new) }
+    {
+        let Some(erase) = pen.erase else {
+            return Ok(());
+        };
+        if !is_end(at(self.cells, usize::from(col)), erase.attrs) {
+            return Ok(());
+        }
+        self.to_erase(pen, contents, erase)?;
+        pen.erase(
+            contents,
+            col.saturating_sub(erase.from),
+            self.loses_by_erase(erase.from, col),
+        )?;
+        Ok(())
+    }
+
+    /// Erases what is still to be erased, to the end of the row.
+    pub(crate) fn finish(&self, pen: &mut Pen, contents: &mut String) -> Result<(), GridError>
+        ensures { Writes (finish (job_of self.now)) pen.old (string_bytes contents.old) (is_ok result) pen.new
+            (string_bytes contents.new) }
+    {
+        let Some(erase) = pen.erase else {
+            return Ok(());
+        };
+        self.to_erase(pen, contents, erase)?;
+        pen.clear(contents)?;
+        Ok(())
+    }
+
+    /// Draws the cell at `col`, since the terminal shows another one there. An empty cell is erased later.
+    fn draw(&self, pen: &mut Pen, contents: &mut String, col: u16) -> Result<(), GridError>
+        requires in_row { col < length self.now.cells.now }
+        requires other { is_same (job_of self.now) col ≡ false }
+        ensures { Writes (draw (job_of self.now) col) pen.old (string_bytes contents.old) (is_ok result) pen.new
+            (string_bytes contents.new) }
+    {
+        let cell = at(self.cells, usize::from(col));
+        if cell.has_contents() {
+            self.arrive(pen, contents, col, span(cell))?;
+            pen.colour(contents, cell.attrs())?;
+            pen.print(contents, cell, self.loses_by_print(col))?;
+            return Ok(());
+        }
+        match pen.erase {
+            None => pen.mark(col, cell.attrs()),
+            Some(_) => {}
+        }
+        Ok(())
+    }
+
+    /// Whether the cell at `col` is a second half, which comes with the first one.
+    #[inline]
+    fn is_half(&self, col: u16) -> bool
+        requires { col < length self.now.cells.now }
+        ensures { result ≡ (((job_of self.now).new col).continuation && not (col == self.now.start)) }
+    {
+        at(self.cells, usize::from(col)).is_wide_continuation() && col != self.start
+    }
+
+    /// Draws one column, whatever stands there. The second half of a wide character comes with the first.
+    // Apart from the other columns, which are the most: what they need stays in registers.
+    #[inline(never)]
+    pub(crate) fn change(
+        &self,
+        pen: &mut Pen,
+        contents: &mut String,
+        col: u16,
+    ) -> Result<(), GridError>
+        requires { col < length self.now.cells.now }
+        ensures { Writes (column (job_of self.now) col) pen.old (string_bytes contents.old) (is_ok result) pen.new
+            (string_bytes contents.new) }
+    {
+        if self.is_half(col) {
+            return Ok(());
+        }
+        self.flush(pen, contents, col)?;
+        if self.is_same(col) {
+            return Ok(());
+        }
+        self.draw(pen, contents, col)?;
+        Ok(())
+    }
+}
+
+/// Which forms take the row's flag away.
+impl<'a> Drawing<'a> {
+    /// Whether the terminal loses the row's flag where the columns from `from` up to `to` are erased.
+    pub(crate) fn loses_by_erase(&self, from: u16, to: u16) -> bool
+        ensures { result ≡ wipe_unflags (job_of self.now).cols (job_of self.now).old from to }
+    {
+        let to = usize::from(to);
+        let cols = self.cells.len();
+        usize::from(from) < to
+            && (cols <= to || (to + 1 == cols && is_continuation_at(self.earlier, to)))
+    }
+
+    /// Whether the terminal loses it where the cell at `col` is printed.
+    #[inline]
+    pub(crate) fn loses_by_print(&self, col: u16) -> bool
+        requires { col < length self.now.cells.now }
+        ensures { result ≡ put_unflags (job_of self.now).cols (job_of self.now).old col ((job_of self.now).new col) }
+    {
+        let col = usize::from(col);
+        at(self.cells, col).is_wide()
+            && is_wide_at(self.earlier, col + 1)
+            && col + 3 == self.cells.len()
+    }
+}
+
+/// Whether a cell ends the columns that are erased with these attributes.
+fn is_end(cell: &Cell, attrs: Attrs) -> bool
+    ensures { result ≡ is_end cell.now attrs }
+{
+    cell.has_contents() || cell.attrs() != attrs
+}

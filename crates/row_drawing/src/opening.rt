@@ -1,0 +1,95 @@
+//! How a row begins, and how it is drawn whole.
+ghost use Rattle.std.specs.Prelude.{◌≡◌, ◌+◌, ◌<◌, ◌≤◌, ◌^◌, length, is_ok, string_bytes};
+ghost use Rattle.vt100_cells.specs.Cells.{AreSame, cell_at};
+ghost use Rattle.row_drawing.specs.Drawing.{job_of};
+ghost use Rattle.row_drawing.specs.RowWriter.{owes_flag, reprint, opening, row_redraw};
+ghost use Rattle.row_drawing.specs.Writes.{Writes};
+
+use crate::drawing::Drawing;
+use crate::pen::{Pen, span};
+use vt100_cells::Cell;
+use vt100_cells::line::at;
+use vt100_forms::GridError;
+
+impl<'a> Drawing<'a> {
+    /// Whether the first cell is to be printed although it stays, since the row above has no flag yet.
+    fn owes_flag(&self, pen: &Pen) -> bool
+        requires { self.now.start < length self.now.cells.now }
+        ensures { result ≡ owes_flag (job_of self.now) pen.now }
+    {
+        self.above
+            && !self.was_above
+            && self.is_same(self.start)
+            && self.wraps(pen, span(at(self.cells, usize::from(self.start))))
+    }
+
+    /// Prints a cell over itself, and goes back to where it begins. An empty one is printed as a space and erased.
+    fn reprint(&self, pen: &mut Pen, contents: &mut String, cell: &Cell) -> Result<(), GridError>
+        requires { pen.old.pos.col + 2 < 2 ^ 16 }
+        ensures { Writes (reprint (job_of self.now) cell.now) pen.old (string_bytes contents.old) (is_ok result)
+            pen.new (string_bytes contents.new) }
+    {
+        if !cell.has_contents() {
+            pen.space(contents)?;
+            pen.back(contents)?;
+            pen.erase(contents, 1, self.loses_by_erase(0, 1))?;
+            return Ok(());
+        }
+        pen.print(contents, cell, false)?;
+        if cell.is_wide() {
+            pen.back(contents)?;
+            pen.back(contents)?;
+            return Ok(());
+        }
+        pen.back(contents)?;
+        Ok(())
+    }
+
+    /// Sets the flag of the row above where it is missing and no other cell would set it.
+    fn opening(&self, pen: &mut Pen, contents: &mut String) -> Result<(), GridError>
+        requires { self.now.start < length self.now.cells.now }
+        ensures { Writes (opening (job_of self.now)) pen.old (string_bytes contents.old) (is_ok result) pen.new
+            (string_bytes contents.new) }
+    {
+        if !self.owes_flag(pen) {
+            return Ok(());
+        }
+        let first = at(self.cells, usize::from(self.start));
+        pen.turn(self.row);
+        pen.colour(contents, first.attrs())?;
+        self.reprint(pen, contents, first)?;
+        Ok(())
+    }
+
+    /// Draws `count` columns, from the first that is drawn on, over a row that has no flag.
+    ///
+    /// Where it is refused for want of memory a part of the forms may have been appended.
+    pub fn redraw(&self, pen: &mut Pen, contents: &mut String, count: u16) -> Result<(), GridError>
+        requires starts_inside { self.now.start < length self.now.cells.now }
+        requires ends_inside { self.now.start + count ≤ length self.now.cells.now }
+        ensures { Writes (row_redraw (job_of self.now) count) pen.old (string_bytes contents.old) (is_ok result)
+            pen.new (string_bytes contents.new) }
+    {
+        self.redraw_behind(pen, contents, 0, count)
+    }
+
+    /// The same where the terminal shows the first `same` cells of the row already.
+    pub(crate) fn redraw_behind(
+        &self,
+        pen: &mut Pen,
+        contents: &mut String,
+        same: usize,
+        count: u16,
+    ) -> Result<(), GridError>
+        requires starts_inside { self.now.start < length self.now.cells.now }
+        requires ends_inside { self.now.start + count ≤ length self.now.cells.now }
+        requires same { AreSame (cell_at self.now.cells.now) (cell_at self.now.earlier.now) 0 same }
+        ensures { Writes (row_redraw (job_of self.now) count) pen.old (string_bytes contents.old) (is_ok result)
+            pen.new (string_bytes contents.new) }
+    {
+        self.opening(pen, contents)?;
+        self.columns(pen, contents, same, count)?;
+        self.finish(pen, contents)?;
+        Ok(())
+    }
+}

@@ -1,0 +1,200 @@
+//! Several columns of a row: what needs nothing is passed over, and texts that go on are printed together.
+ghost use Rattle.std.specs.Prelude.{ℕ, ◌≡◌, ◌+◌, ◌<◌, ◌≤◌, List, ◌++◌, length, is_ok, string_bytes};
+ghost use Rattle.std.specs.Prelude.{IfSome, IsTrue};
+ghost use Rattle.vt100_cells.specs.Cells.{AreSame, cell_at};
+ghost use Rattle.row_drawing.specs.Drawing.{job_of, behind, AreQuiet, BeginsRun, GoesTo, IsAt, JoinsRun};
+ghost use Rattle.row_drawing.specs.RowWriter.{columns};
+ghost use Rattle.row_drawing.specs.Writes.{Writes};
+
+use crate::drawing::Drawing;
+use crate::pen::{Pen, span};
+use vt100_cells::Cell;
+use vt100_cells::line::{alike_to, at, same_to};
+use vt100_forms::{GridError, SHORT_BYTES, TextRun};
+
+/// How many bytes a move of the cursor, a change of attributes and a short text take at most.
+const MOVE_CHANGE_AND_TEXT_BYTES: usize = 14 + 58 + SHORT_BYTES;
+
+impl<'a> Drawing<'a> {
+    /// The first column from `from` on, up to `to`, for which something may have to be written: what the terminal shows
+    /// already is passed over, and what is erased together with the columns before it.
+    fn quiet_to(&self, pen: &Pen, from: usize, to: usize) -> usize
+        requires some { from ≤ to }
+        requires in_row { to ≤ length self.now.cells.now }
+        ensures within { from ≤ result × result ≤ to }
+        ensures quiet { AreQuiet (job_of self.now) pen.now from result }
+    {
+        match pen.erase {
+            Some(erase) => alike_to(self.cells, &Cell::empty(erase.attrs), from, to),
+            None if to <= self.earlier.len() => same_to(self.cells, self.earlier, from, to),
+            None if self.earlier.is_empty() => alike_to(self.cells, &Cell::new(), from, to),
+            None => from,
+        }
+    }
+
+    /// How many of `count` columns need no more than the first `n` did.
+    fn after_quiet(&self, pen: &Pen, n: u16, count: u16) -> u16
+        requires some { n ≤ count }
+        requires in_row { self.now.start + count ≤ length self.now.cells.now }
+        ensures within { n ≤ result × result ≤ count }
+        ensures quiet { AreQuiet (job_of self.now) pen.now (self.now.start + n) (self.now.start + result) }
+    {
+        let start = usize::from(self.start);
+        let to = self.quiet_to(pen, start + usize::from(n), start + usize::from(count));
+        (to - start) as u16
+    }
+
+    /// How many of `count` columns need nothing, where the terminal shows the first `same` cells of the row already.
+    fn same_columns(&self, pen: &Pen, same: usize, count: u16) -> u16
+        requires { AreSame (cell_at self.now.cells.now) (cell_at self.now.earlier.now) 0 same }
+        ensures within { result ≤ count }
+        ensures quiet { AreQuiet (job_of self.now) pen.now self.now.start (self.now.start + result) }
+    {
+        let start = usize::from(self.start);
+        match pen.erase {
+            Some(_) => 0,
+            None => same.saturating_sub(start).min(usize::from(count)) as u16,
+        }
+    }
+
+    /// Draws `count` columns, from the first that is drawn on, where the terminal shows the first `same` cells of the
+    /// row already: these aren't looked at again.
+    pub(crate) fn columns(
+        &self,
+        pen: &mut Pen,
+        contents: &mut String,
+        same: usize,
+        count: u16,
+    ) -> Result<(), GridError>
+        requires in_row { self.now.start + count ≤ length self.now.cells.now }
+        requires same { AreSame (cell_at self.now.cells.now) (cell_at self.now.earlier.now) 0 same }
+        ensures { Writes (columns (job_of self.now) count) pen.old (string_bytes contents.old) (is_ok result) pen.new
+            (string_bytes contents.new) }
+    {
+        // A cell with the attributes with which the terminal draws.
+        let mut like = None;
+        let mut run = TextRun::new();
+        let mut n = self.same_columns(pen, same, count);
+        while n < count {
+            let col = self.start + n;
+            if self.begins_run(pen, col) {
+                run.make_room(MOVE_CHANGE_AND_TEXT_BYTES, contents)?;
+                n = self.texts(pen, &mut run, like, n, count);
+                like = Some(at(self.cells, usize::from(col)));
+                continue;
+            }
+            let quiet = self.after_quiet(pen, n, count);
+            if quiet > n {
+                n = quiet;
+                continue;
+            }
+            run.move_to(contents)?;
+            self.change(pen, contents, col)?;
+            like = None;
+            n += 1;
+        }
+        run.move_to(contents)?;
+        Ok(())
+    }
+}
+
+/// Texts that are gathered.
+impl<'a> Drawing<'a> {
+    /// Whether the cell at `col` has a short text that differs and takes no flag away, and nothing is to be erased
+    /// before it.
+    // What the terminal shows is compared first: LLVM then takes the start of a cell at once, and not byte by byte.
+    #[inline(always)]
+    fn begins_run(&self, pen: &Pen, col: u16) -> bool
+        requires { col < length self.now.cells.now }
+        ensures { IsTrue result → BeginsRun (job_of self.now) col pen.now }
+    {
+        !self.is_same(col)
+            && at(self.cells, usize::from(col)).has_short_text()
+            && pen.erase.is_none()
+            && !self.loses_by_print(col)
+    }
+
+    /// Whether the same holds where the cursor stands, and the cell is drawn like `like`.
+    #[inline(always)]
+    fn joins_run(&self, pen: &Pen, like: &Cell, col: u16) -> bool
+        requires in_row { col < length self.now.cells.now }
+        requires here { IsAt (job_of self.now) col pen.now }
+        ensures { IsTrue result → JoinsRun (job_of self.now) col pen.now like.now.attrs }
+    {
+        self.begins_run(pen, col) && at(self.cells, usize::from(col)).has_attrs_of(like)
+    }
+
+    /// Gathers the texts of columns from the `n`-th of `count` on, at which the cursor stands, behind those that are in
+    /// the run, and passes the pen over them. Answers the first that was not gathered.
+    // Each cell is compared with the last one that was gathered: LLVM keeps the parts of a cell that stays the same in
+    // registers, and compares them one by one.
+    fn gather(&self, pen: &mut Pen, run: &mut TextRun, like: &Cell, n: u16, count: u16) -> u16
+        requires some { n ≤ count }
+        requires in_row { self.now.start + count ≤ length self.now.cells.now }
+        requires like { like.now.attrs ≡ pen.old.attrs }
+        requires here { n < count → IsAt (job_of self.now) (self.now.start + n) pen.old }
+        ensures within { n ≤ result × result ≤ count }
+        ensures written { (t : List ℕ) → GoesTo (job_of self.now) n result pen.old (t ++ run.old) pen.new
+            (t ++ run.new) }
+        ensures attrs { pen.new.attrs ≡ pen.old.attrs }
+    {
+        let mut alike = like;
+        let mut m = n;
+        while m < count && run.has_room(SHORT_BYTES) {
+            let col = self.start + m;
+            if !self.joins_run(pen, alike, col) {
+                break;
+            }
+            let cell = at(self.cells, usize::from(col));
+            cell.push_text(run);
+            pen.pass(cell);
+            alike = cell;
+            m = behind(cell, m, count);
+        }
+        m
+    }
+
+    /// Puts what brings the cursor to the `n`-th of `count` columns and what sets its attributes into the run, its
+    /// text, and the texts after it, as long as they are drawn alike. Answers the first column that was not gathered.
+    // If `like` is there, it is a cell with the attributes with which the terminal draws.
+    fn texts(
+        &self,
+        pen: &mut Pen,
+        run: &mut TextRun,
+        like: Option<&Cell>,
+        n: u16,
+        count: u16,
+    ) -> u16
+        requires some { n < count }
+        requires in_row { self.now.start + count ≤ length self.now.cells.now }
+        requires room { length run.old + 76 ≤ 128 }
+        requires like { IfSome like (λ x. x.now.attrs ≡ pen.old.attrs) }
+        requires begins { BeginsRun (job_of self.now) (self.now.start + n) pen.old }
+        ensures within { n < result × result ≤ count }
+        ensures written { (t : List ℕ) → GoesTo (job_of self.now) n result pen.old (t ++ run.old) pen.new
+            (t ++ run.new) }
+        ensures like { ((job_of self.now).new (self.now.start + n)).attrs ≡ pen.new.attrs }
+    {
+        let col = self.start + n;
+        let cell = at(self.cells, usize::from(col));
+        self.arrive_in(pen, run, col, span(cell));
+        pen.colour_in(run, cell, like);
+        cell.push_text(run);
+        pen.pass(cell);
+        self.gather(pen, run, cell, behind(cell, n, count), count)
+    }
+}
+
+/// The first of `count` columns behind the `n`-th, at which this cell stands: the second half of a wide one comes with
+/// it.
+#[inline(always)]
+fn behind(cell: &Cell, n: u16, count: u16) -> u16
+    requires { n < count }
+    ensures { result ≡ behind cell.now n count }
+{
+    if cell.is_wide() && n + 1 < count {
+        n + 2
+    } else {
+        n + 1
+    }
+}

@@ -1,0 +1,365 @@
+-- The cursor comes to its place on a screen whose rows are drawn.
+use Rattle.std.proofs.Common.{◌≡◌, ℕ, zero, suc, ◌+◌, ◌-◌, ◌<◌, ◌≤◌, ◌==◌, Bool, true, false, ◌&&◌, nat_lt}
+use Rattle.std.proofs.Common.{List, [], ◌∷◌, ◌++◌, min, Option, Some, None, refl, arith, sym, ap, subst, ◌∙◌, inl, inr}
+use Rattle.std.specs.Prelude.{replicate}
+use Rattle.std.proofs.lemmas.Bool.{cases_Bool, both_ways, cond_both, false≢true, and_parts, eqb-true, ne_eqb, ltb-true}
+use Rattle.std.proofs.lemmas.Bool.{ltb-false}
+use Rattle.std.proofs.lemmas.Bool.Decides.{nat_tests}
+use mathlib.Core.Path.{fun_ext}
+use Rattle.unicode_width.specs.Width.{char_width}
+use Rattle.vt100_forms.specs.declared.attrs.Attrs.{Attrs}
+use Rattle.vt100_forms.specs.declared.position.Pos.{Pos}
+use Rattle.vt100_forms.specs.Attrs.{IsProper}
+use Rattle.vt100_forms.specs.Form.{Form, Text, EraseChar, Lf, Backspace, SaveCursor, RestoreCursor, change}
+use Rattle.vt100_cells.specs.Cell.{CellView, has_text, empty_cell, cell_of, is_filled}
+use Rattle.vt100_cells.specs.Line.{IsPaired, span_of, put, put_unflags, wiped, wipe_unflags}
+use Rattle.terminal_model.specs.Position.{update}
+use Rattle.terminal_model.specs.Term.{Size, Shown, Saved, Term, shown_of, term_of}
+use Rattle.terminal_model.specs.Apply.{apply, run}
+use Rattle.terminal_model.proofs.Positions.{update-kept}
+use Rattle.terminal_model.proofs.FormLemmas.{run-joined, moves-lead, change-read, down-room}
+use Rattle.row_drawing.specs.Writer.{print, erasing}
+use Rattle.row_drawing.specs.Scene.{Scene, IsScene, IsLine}
+use Rattle.row_drawing.proofs.Lines.{line-reprinted}
+use Rattle.row_drawing.proofs.Steps.{at, kept_or_off, IsSendable, takes-print, takes-erasing, sends-space, Takes, pen}
+use Rattle.row_drawing.proofs.Columns.{empty-is, sends, span-narrow}
+use Rattle.row_drawing.proofs.RowEnd.{last-is, span-few}
+use Rattle.screen_drawing.specs.Cursor.{place, arriving, is_at, last_col, last_cell, row_with_end, printed_with}
+use Rattle.screen_drawing.specs.Cursor.{wait_behind, wait_on_empty, wait, cursor_position_formatted}
+use Rattle.screen_drawing.specs.Screen.{cursor_state_formatted}
+use Rattle.screen_drawing.specs.Laws.{IsDrawable, StandsAt, EachCursorIsPlaced, EachCursorStateIsSet}
+use Rattle.vt100_forms.proofs.AttrsLemmas.{default-proper}
+
+-- ---- a row that is drawn, as a scene
+
+still : Size → Term → Shown → ℕ → Scene
+still z t s r = record {
+  rows = z.rows;
+  job = record {
+    cols = z.cols;
+    row = r;
+    start = 0;
+    old = s.cell r;
+    new = s.cell r;
+    wrapped = s.wrapped r;
+    was_wrapped = s.wrapped r;
+    above = false;
+    was_above = false;
+  };
+  term = t;
+  cells = s.cell;
+  flags = s.wrapped;
+}
+
+pub is-line : (z : Size) (s : Shown) (r : ℕ) → IsDrawable z s → IsLine z.cols (s.cell r) (s.wrapped r)
+is-line z s r h = record {
+  paired = h.shown.paired r;
+  beyond = h.shown.beyond r;
+  filled = h.shown.filled r;
+}
+
+still-scene : (z : Size) (t : Term) (s : Shown) (r : ℕ) → IsDrawable z s → r < z.rows → IsScene (still z t s r)
+unfolding still
+still-scene z t s r h l = record {
+  whole = refl;
+  some_col = h.shown.some_col;
+  row_in = l;
+  old = is-line z s r h;
+  new = is-line z s r h;
+  cells = h.cells r;
+  plain = h.plain r;
+  proper = h.proper r;
+  flag = refl;
+  below_first = λ e. absurd (false≢true e);
+  above_filled = λ e. absurd (false≢true e);
+  above_flag = λ e _. absurd (false≢true e);
+}
+
+pub record IsLast (z : Size) (s : Shown) (r : ℕ) : Type 0 where
+  pub up_to : last_col z s r + span_of (last_cell z s r) ≡ z.cols
+  pub whole : (last_cell z s r).continuation ≡ false
+  pub sent : has_text (last_cell z s r) ≡ true → IsSendable (last_cell z s r)
+
+pub last-of : (z : Size) (t : Term) (s : Shown) (r : ℕ) → IsDrawable z s → r < z.rows → IsLast z s r
+unfolding still
+last-of z t s r h l =
+    let k = still z t s r in
+    let g = still-scene z t s r h l in
+    let e = last-is k g in
+    record { up_to = e.up_to; whole = e.whole; sent = λ some. sends k g (last_col z s r) some }
+
+-- ---- the cursor goes to a place
+
+unfoldable pub Known : Option Pos → ℕ → ℕ → Type 0
+Known None r c = Unit {0}
+Known (Some p) r c = (r ≡ p.row) × (c ≡ p.col)
+
+moved-at : (t : Term) (C : ℕ → ℕ → CellView) (W : ℕ → Bool) (a : Attrs) (r s c d : ℕ) → r ≡ s → c ≡ d
+    → at t C W r c a ≡ at t C W s d a
+moved-at t C W a r s c d e f = λ i. at t C W (e i) (f i) a
+
+pub arrives : (z : Size) (t : Term) (C : ℕ → ℕ → CellView) (W : ℕ → Bool) (a : Attrs) (p : Option Pos) (r c row col : ℕ)
+    → Known p r c → row < z.rows → col < z.cols
+    → run z (arriving p (place row col)) (at t C W r c a) ≡ at t C W row col a
+unfolding apply Known
+arrives z t C W a None r c row col k hr hc =
+    moved-at t C W a (min row (z.rows - 1)) row (min col (z.cols - 1)) col (omega arith) (omega arith)
+arrives z t C W a (Some p) r c row col k hr hc =
+    moves-lead z (at t C W r c a) p (place row col) k.0 k.1 hr hc
+
+stays-at : (t : Term) (C : ℕ → ℕ → CellView) (W : ℕ → Bool) (a : Attrs) (p : Option Pos) (r c row col : ℕ)
+    → Known p r c → is_at p (place row col) ≡ true → at t C W r c a ≡ at t C W row col a
+unfolding Known
+stays-at t C W a None r c row col k h = absurd (false≢true h)
+stays-at t C W a (Some p) r c row col k h =
+    let parts = and_parts (p.row == row) (p.col == col) h in
+    moved-at t C W a r row c col (k.0 ∙ eqb-true p.row row parts.0) (k.1 ∙ eqb-true p.col col parts.1)
+
+-- the rows below come by line feeds
+fed : (z : Size) (t : Term) (C : ℕ → ℕ → CellView) (W : ℕ → Bool) (a : Attrs) (c n r row : ℕ) → r + n ≡ row
+    → row < z.rows → run z (replicate n Lf) (at t C W r c a) ≡ at t C W row c a
+unfolding apply
+fed z t C W a c zero r row e l = moved-at t C W a r row c c (omega (arith, e)) refl
+fed z t C W a c (suc n) r row e l =
+    ap (run z (replicate n Lf)) (down-room z (at t C W r c a) (omega (arith, e, l)))
+    ∙ fed z t C W a c n (r + 1) row (omega (arith, e)) l
+
+-- ---- the last cell is printed again
+
+and_last : (a b c : Bool) → c ≡ false → (a && (b && c)) ≡ false
+and_last true true c e = e
+and_last true false c e = refl
+and_last false b c e = refl
+
+printed-again : (z : Size) (t : Term) (s : Shown) (r : ℕ) → IsDrawable z s → r < z.rows
+    → has_text (last_cell z s r) ≡ true
+    → run z (Text (last_cell z s r).text ∷ []) (at t s.cell s.wrapped r (last_col z s r) (last_cell z s r).attrs)
+    ≡ at t s.cell s.wrapped r z.cols (last_cell z s r).attrs
+unfolding print
+printed-again z t s r h l some =
+    let C = s.cell in
+    let W = s.wrapped in
+    let f = s.cell r in
+    let c = last_col z s r in
+    let x = last_cell z s r in
+    let a = x.attrs in
+    let last = last-of z t s r h l in
+    let k : Takes z (print x false) (pen r c a None false) (at t (update C r f) W r c a) _ _ =
+    takes-print z t C W r c f x None false false (last.sent some) (omega (arith, last.up_to)) in
+    let far : ((c + 3) == z.cols) ≡ false = ne_eqb (c + 3) z.cols (λ e. let few = span-few x
+    in absurd (omega (arith, e, last.up_to, few))) in
+    let stays : put_unflags z.cols f c x ≡ false = and_last x.wide (f (c + 1)).wide ((c + 3) == z.cols) far in
+    let line : put f c x a ≡ f = line-reprinted f c a (h.shown.paired r) last.whole in
+    ap (λ D. run z (Text x.text ∷ []) (at t D W r c a)) (sym (update-kept C r f refl)) ∙ k.term_is
+    ∙ ap (λ b. at t (update C r (put f c x a)) (kept_or_off b W r) r (c + span_of x) a) stays
+    ∙ ap (λ g. at t (update C r g) W r (c + span_of x) a) line
+    ∙ ap (λ D. at t D W r (c + span_of x) a) (update-kept C r f refl)
+    ∙ ap (λ n. at t C W r n a) last.up_to
+
+reprinted : (z : Size) (t : Term) (s : Shown) (a : Attrs) (r : ℕ) → IsDrawable z s → IsProper a → r < z.rows
+    → has_text (last_cell z s r) ≡ true
+    → run z (printed_with a (last_cell z s r)) (at t s.cell s.wrapped r (last_col z s r) a)
+    ≡ at t s.cell s.wrapped r z.cols a
+reprinted z t s a r h ha l some =
+    let c = last_col z s r in
+    let x = last_cell z s r in
+    let hx = h.proper r c in
+    let back = change x.attrs a in
+    run-joined z (change a x.attrs) (Text x.text ∷ back) (at t s.cell s.wrapped r c a)
+    ∙ ap (run z (Text x.text ∷ back)) (change-read z (at t s.cell s.wrapped r c a) a x.attrs refl ha hx)
+    ∙ ap (run z back) (printed-again z t s r h l some)
+    ∙ change-read z (at t s.cell s.wrapped r z.cols x.attrs) x.attrs a refl hx ha
+
+pub waits-behind : (z : Size) (t : Term) (s : Shown) (p : Option Pos) (a : Attrs) (r c row : ℕ) → IsDrawable z s
+    → IsProper a → Known p r c → row < z.rows → has_text (last_cell z s row) ≡ true
+    → run z (wait_behind z s p a row) (at t s.cell s.wrapped r c a) ≡ at t s.cell s.wrapped row z.cols a
+unfolding wait_behind
+waits-behind z t s p a r c row h ha k l some =
+    let last = last-of z t s row h l in
+    let few = span-few (last_cell z s row) in
+    let goes = arriving p (place row (last_col z s row)) in
+    let u = at t s.cell s.wrapped r c a in
+    cond_both (is_at p (place row z.cols)) [] (goes ++ printed_with a (last_cell z s row))
+    (λ fs. run z fs u ≡ at t s.cell s.wrapped row z.cols a)
+    (λ e. stays-at t s.cell s.wrapped a p r c row z.cols k e)
+    (λ e. run-joined z goes (printed_with a (last_cell z s row)) u
+    ∙ ap (run z (printed_with a (last_cell z s row)))
+    (arrives z t s.cell s.wrapped a p r c row (last_col z s row) k l (omega (arith, last.up_to, few)))
+    ∙ reprinted z t s a row h ha l some)
+
+-- ---- a space is printed in the last column, and erased
+
+-- in a narrow cell
+spaced-wiped_at : (f : ℕ → CellView) (n : ℕ) (x : CellView) (a b : Attrs) (k : ℕ) → IsPaired f → x.wide ≡ false
+    → f n ≡ empty_cell b → (f n).wide ≡ false → (f n).continuation ≡ false → wiped (put f n x a) n (n + 1) b k ≡ f k
+spaced-wiped_at f n x a b k p w e narrow single = grind (arith, nat_tests, p.next k, p.next n)
+
+kept-off : (b : Bool) (W : ℕ → Bool) (r : ℕ) → W r ≡ false → kept_or_off b W r ≡ W
+kept-off true W r e = update-kept W r false (sym e)
+kept-off false W r e = refl
+
+pub no-text_end : (z : Size) (t : Term) (s : Shown) (r : ℕ) → IsDrawable z s → r < z.rows
+    → has_text (last_cell z s r) ≡ false
+    → s.cell r (z.cols - 1) ≡ empty_cell (s.cell r (z.cols - 1)).attrs
+no-text_end z t s r h l none =
+    let c = last_col z s r in
+    let x = last_cell z s r in
+    let last = last-of z t s r h l in
+    let is : x ≡ empty_cell x.attrs = empty-is x (h.cells r c) none last.whole in
+    let narrow : span_of x ≡ 1 = span-narrow x (ap (λ (y : CellView). y.wide) is) in
+    let here : c ≡ z.cols - 1 = omega (arith, last.up_to, narrow) in
+    subst (λ k. s.cell r k ≡ empty_cell (s.cell r k).attrs) here is
+
+pub space-printed : (z : Size) (t : Term) (C : ℕ → ℕ → CellView) (W : ℕ → Bool) (r n : ℕ) (a : Attrs) → n + 1 ≤ z.cols
+    → run z (Text (32 ∷ []) ∷ []) (at t C W r n a)
+    ≡ at t (update C r (put (C r) n (cell_of 32 a) a)) W r (n + 1) a
+unfolding print char_width
+space-printed z t C W r n a l =
+    let k : Takes z (print (cell_of 32 a) false) (pen r n a None false) (at t (update C r (C r)) W r n a) _ _ =
+    takes-print z t C W r n (C r) (cell_of 32 a) None false false (sends-space a) l in
+    ap (λ D. run z (Text (32 ∷ []) ∷ []) (at t D W r n a)) (sym (update-kept C r (C r) refl)) ∙ k.term_is
+
+pub narrow-space : (a : Attrs) → (cell_of 32 a).wide ≡ false
+unfolding char_width
+narrow-space a = refl
+
+abbrev saved_at : Term → ℕ → ℕ → Attrs → Term
+saved_at t r c a = record t { saved_row = r; saved_col = c; saved_attrs = a }
+
+erased-back : (z : Size) (t : Term) (C : ℕ → ℕ → CellView) (W : ℕ → Bool) (r n : ℕ) (f : ℕ → CellView) (b : Attrs)
+    → n + 1 ≤ z.cols
+    → run z (SaveCursor ∷ Backspace ∷ EraseChar 1 ∷ RestoreCursor ∷ []) (at t (update C r f) W r (n + 1) b)
+    ≡ at (saved_at t r (n + 1) b) (update C r (wiped f n (n + 1) b))
+    (kept_or_off (wipe_unflags z.cols f n (n + 1)) W r) r (n + 1) b
+unfolding erasing apply
+erased-back z t C W r n f b l =
+    let v = saved_at t r (n + 1) b in
+    let back : n + 1 - 1 ≡ n = omega arith in
+    let k : Takes z (erasing 1 false) (pen r n b None false) (at v (update C r f) W r n b) _ _ =
+    takes-erasing z v C W r n 1 f b None false false l in
+    ap (λ c. run z (EraseChar 1 ∷ RestoreCursor ∷ []) (at v (update C r f) W r c b)) back
+    ∙ ap (apply z RestoreCursor) k.term_is
+
+waits-on_empty : (z : Size) (t : Term) (s : Shown) (p : Option Pos) (a : Attrs) (r c row : ℕ) → IsDrawable z s
+    → IsProper a → Known p r c → row < z.rows → has_text (last_cell z s row) ≡ false
+    → run z (wait_on_empty z p a row (s.cell row (z.cols - 1))) (at t s.cell s.wrapped r c a)
+    ≡ at (saved_at t row z.cols (s.cell row (z.cols - 1)).attrs) s.cell s.wrapped row z.cols a
+unfolding wait_on_empty
+waits-on_empty z t s p a r c row h ha k l none =
+    let C = s.cell in
+    let W = s.wrapped in
+    let n = z.cols - 1 in
+    let x = C row n in
+    let b = x.attrs in
+    let hb = h.proper row n in
+    let some = h.shown.some_col in
+    let room : n + 1 ≤ z.cols = omega (arith, some) in
+    let all : n + 1 ≡ z.cols = omega (arith, some) in
+    let is : x ≡ empty_cell b = no-text_end z t s row h l none in
+    let g = put (C row) n (cell_of 32 a) a in
+    let goes = arriving p (place row n) in
+    let dyes = change a b in
+    let wipes = SaveCursor ∷ Backspace ∷ EraseChar 1 ∷ RestoreCursor ∷ [] in
+    let back = change b a in
+    let tail = SaveCursor ∷ Backspace ∷ EraseChar 1 ∷ RestoreCursor ∷ back in
+    let line : wiped g n (n + 1) b ≡ C row = fun_ext (λ i. spaced-wiped_at (C row) n (cell_of 32 a) a b i
+    (h.shown.paired row) (narrow-space a) is (ap (λ (y : CellView). y.wide) is)
+    (ap (λ (y : CellView). y.continuation) is)) in
+    let off : W row ≡ false = (elim (cases_Bool (W row)) [
+      | inr off ↦ off
+      | inl on ↦ absurd (both_ways (is_filled x) (ap is_filled is) (h.shown.filled row on))
+    ]) in
+    let w = wipe_unflags z.cols g n (n + 1) in
+    let one : run z wipes (at t (update C row g) W row (n + 1) b)
+    ≡ at (saved_at t row (n + 1) b) C W row (n + 1) b =
+    erased-back z t C W row n g b room
+    ∙ ap (λ f. at (saved_at t row (n + 1) b) (update C row f) (kept_or_off w W row) row (n + 1) b) line
+    ∙ ap (λ D. at (saved_at t row (n + 1) b) D (kept_or_off w W row) row (n + 1) b) (update-kept C row (C row) refl)
+    ∙ ap (λ V. at (saved_at t row (n + 1) b) C V row (n + 1) b) (kept-off w W row off) in
+    run-joined z goes (Text (32 ∷ []) ∷ (dyes ++ tail)) (at t C W r c a)
+    ∙ ap (run z (Text (32 ∷ []) ∷ (dyes ++ tail))) (arrives z t C W a p r c row n k l (omega (arith, some)))
+    ∙ ap (run z (dyes ++ tail)) (space-printed z t C W row n a room)
+    ∙ run-joined z dyes tail (at t (update C row g) W row (n + 1) a)
+    ∙ ap (run z tail) (change-read z (at t (update C row g) W row (n + 1) a) a b refl ha hb)
+    ∙ ap (run z back) one
+    ∙ change-read z (at (saved_at t row (n + 1) b) C W row (n + 1) b) b a refl hb ha
+    ∙ ap (λ m. at (saved_at t row m b) C W row m a) all
+
+-- ---- where the cursor waits
+
+unfoldable pub Ends : Size → Shown → ℕ → Option ℕ → Type 0
+Ends z s r None = has_text (last_cell z s r) ≡ false
+Ends z s r (Some i) = (i ≤ r) × (has_text (last_cell z s i) ≡ true)
+
+ends-above : (z : Size) (s : Shown) (r : ℕ) (o : Option ℕ) → has_text (last_cell z s (suc r)) ≡ false → Ends z s r o
+    → Ends z s (suc r) o
+unfolding Ends
+ends-above z s r None none e = none
+ends-above z s r (Some i) none e = (let up = e.0 in omega arith, e.1)
+
+pub ends : (z : Size) (s : Shown) (r : ℕ) → Ends z s r (row_with_end z s r)
+unfolding Ends
+ends z s zero = cond_both (has_text (last_cell z s 0)) (Some 0) None (Ends z s 0) (λ h. (omega arith, h)) (λ h. h)
+ends z s (suc r) =
+    cond_both (has_text (last_cell z s (suc r))) (Some (suc r)) (row_with_end z s r) (Ends z s (suc r))
+    (λ h. (omega arith, h)) (λ h. ends-above z s r (row_with_end z s r) h (ends z s r))
+
+waits : (z : Size) (t : Term) (s : Shown) (p : Option Pos) (a : Attrs) (r c : ℕ) (o : Option ℕ) → IsDrawable z s
+    → IsProper a → Known p r c → Ends z s s.row o
+    → shown_of (run z (wait z s p a o) (at t s.cell s.wrapped r c a))
+    ≡ shown_of (at t s.cell s.wrapped s.row z.cols a)
+unfolding wait Ends
+waits z t s p a r c None h ha k e = ap shown_of (waits-on_empty z t s p a r c s.row h ha k h.shown.in_rows e)
+waits z t s p a r c (Some i) h ha k e =
+    let up = e.0 in
+    let inside : i < z.rows = omega (arith, h.shown.in_rows) in
+    ap shown_of (run-joined z (wait_behind z s p a i) (replicate (s.row - i) Lf) (at t s.cell s.wrapped r c a)
+    ∙ ap (run z (replicate (s.row - i) Lf)) (waits-behind z t s p a r c i h ha k inside e.1)
+    ∙ fed z t s.cell s.wrapped a z.cols (s.row - i) i s.row (omega (arith, up)) h.shown.in_rows)
+
+-- ---- the cursor
+
+pub cursor-run : (z : Size) (t : Term) (s : Shown) (p : Option Pos) (a : Attrs) (r c : ℕ) → IsDrawable z s
+    → IsProper a → Known p r c
+    → shown_of (run z (cursor_position_formatted z s p a) (at t s.cell s.wrapped r c a))
+    ≡ shown_of (at t s.cell s.wrapped s.row s.col a)
+unfolding cursor_position_formatted
+cursor-run z t s p a r c h ha k =
+    let C = s.cell in
+    let W = s.wrapped in
+    let u = at t C W r c a in
+    let P : List Form → Type 0 = λ fs. shown_of (run z fs u) ≡ shown_of (at t C W s.row s.col a) in
+    cond_both (nat_lt s.col z.cols) (arriving p (place s.row s.col)) _ P
+    (λ l. ap shown_of (arrives z t C W a p r c s.row s.col k h.shown.in_rows (ltb-true s.col z.cols l)))
+    (λ l. cond_both (is_at p (place s.row s.col)) [] (wait z s p a (row_with_end z s s.row)) P
+    (λ e. ap shown_of (stays-at t C W a p r c s.row s.col k e))
+    (λ _. let past = ltb-false s.col z.cols l in
+    let all : z.cols ≡ s.col = omega (arith, h.shown.in_cols) in
+    waits z t s p a r c (row_with_end z s s.row) h ha k (ends z s s.row)
+    ∙ ap (λ n. shown_of (at t C W s.row n a)) all))
+
+pub known-some : (row col : ℕ) → Known (Some (place row col)) row col
+unfolding Known
+known-some row col = (refl, refl)
+
+known-at : (p : Option Pos) (s : Shown) → StandsAt p s → Known p s.row s.col
+unfolding Known
+known-at None s h = tt
+known-at (Some p) s h = h
+
+drawn-as : (z : Size) (s from : Shown) (v : Saved) → from.cell ≡ s.cell → from.wrapped ≡ s.wrapped
+    → term_of from v ≡ at (term_of from v) s.cell s.wrapped from.row from.col from.attrs
+drawn-as z s from v ec ew = λ i. at (term_of from v) (ec i) (ew i) from.row from.col from.attrs
+
+pub cursor-placed : EachCursorIsPlaced
+cursor-placed z s from p h ha ec ew k v hv =
+    ap (λ t. shown_of (run z (cursor_position_formatted z s p from.attrs) t)) (drawn-as z s from v ec ew)
+    ∙ cursor-run z (term_of from v) s p from.attrs from.row from.col h ha (known-at p from k)
+    ∙ (λ i. record from { cell = sym ec i; wrapped = sym ew i; row = s.row; col = s.col })
+
+pub cursor-state_set : EachCursorStateIsSet
+unfolding cursor_state_formatted apply
+cursor-state_set z s from h ea ec ew v hv =
+    let f : Shown = record from { hidden = s.hidden } in
+    ap (λ (a : Attrs). shown_of (run z (cursor_position_formatted z s None a) (term_of f v))) (sym ea)
+    ∙ cursor-placed z s f None h (subst IsProper (sym ea) default-proper) ec ew tt v hv

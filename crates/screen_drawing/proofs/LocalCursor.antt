@@ -1,0 +1,292 @@
+-- The cells that are touched while the cursor comes to its place.
+use Rattle.std.proofs.Common.{◌≡◌, ℕ, zero, suc, ◌+◌, ◌-◌, ◌<◌, ◌==◌, Bool, true, false, ◌&&◌, ◌||◌, nat_lt, nat_le}
+use Rattle.std.proofs.Common.{List, [], ◌∷◌, ◌++◌, Option, Some, None, refl, arith, sym, ap, subst, ◌∙◌, inl, inr}
+use Rattle.std.specs.Prelude.{replicate}
+use Rattle.std.proofs.lemmas.Bool.{cond_both, both_ways, and_parts, or_cases, eqb-true, leb-true, ltb-false}
+use Rattle.std.proofs.lemmas.Bool.Decides.{nat_tests}
+use Rattle.unicode_width.specs.Width.{char_width}
+use Rattle.vt100_forms.specs.declared.attrs.Attrs.{Attrs}
+use Rattle.vt100_forms.specs.declared.position.Pos.{Pos}
+use Rattle.vt100_forms.specs.Attrs.{IsProper, default_attrs}
+use Rattle.vt100_forms.specs.Form.{Form, Text, MoveTo, EraseChar, Lf, Backspace, SaveCursor, RestoreCursor, change}
+use Rattle.vt100_cells.specs.Cell.{CellView, has_text, empty_cell, cell_of}
+use Rattle.vt100_cells.specs.Line.{IsPaired, put}
+use Rattle.terminal_model.specs.Position.{update}
+use Rattle.terminal_model.specs.Term.{Size, Shown, Term}
+use Rattle.terminal_model.specs.Apply.{apply}
+use Rattle.terminal_model.specs.Touch.{put_touches, wipe_touches, form_touches, touches, Within}
+use Rattle.terminal_model.proofs.Positions.{update-kept}
+use Rattle.terminal_model.proofs.FormLemmas.{change-read, down-room}
+use Rattle.terminal_model.proofs.TouchLemmas.{within-joined}
+use Rattle.row_drawing.specs.Writer.{goto, colour, print, erasing}
+use Rattle.row_drawing.proofs.Steps.{at, pen, sends-space, span-space}
+use Rattle.row_drawing.proofs.Columns.{span-wide, span-narrow}
+use Rattle.row_drawing.proofs.RowEnd.{span-few}
+use Rattle.row_drawing.proofs.LocalRow.{or-four}
+use Rattle.row_drawing.proofs.Touches.{stays-goto, stays-colour, stays-print, stays-erasing}
+use Rattle.screen_drawing.specs.Cursor.{place, arriving, is_at, last_col, last_cell, row_with_end, printed_with}
+use Rattle.screen_drawing.specs.Cursor.{wait_behind, wait_on_empty, wait, cursor_position_formatted}
+use Rattle.screen_drawing.specs.Laws.{IsDrawable}
+use Rattle.screen_drawing.specs.Local.{row_or, waiting_row}
+use Rattle.screen_drawing.proofs.Cursor.{IsLast, last-of, Known, arrives, no-text_end, space-printed}
+use Rattle.screen_drawing.proofs.Cursor.{waits-behind, Ends, ends}
+
+-- ---- forms that touch nothing
+
+pub idle : (S : ℕ → ℕ → Type 0) (z : Size) (f : Form) (t : Term) → ((r k : ℕ) → form_touches z f t r k ≡ false)
+    → (r k : ℕ) → touches z f t r k ≡ true → S r k
+unfolding touches
+idle S z f t h r k e =
+    absurd (both_ways (form_touches z f t r k) (h r k) (and_parts (nat_lt r z.rows && nat_lt k z.cols) _ e).1)
+
+pub change-within : (S : ℕ → ℕ → Type 0) (z : Size) (a b : Attrs) (t : Term) → Within S z (change a b) t
+unfolding colour
+change-within S z a b t = stays-colour S z b (pen 0 0 a None false) t
+
+arriving-within : (S : ℕ → ℕ → Type 0) (z : Size) (p : Option Pos) (r c row col : ℕ) (t : Term) → Known p r c
+    → t.row ≡ r → row < z.rows → Within S z (arriving p (place row col)) t
+unfolding Known goto form_touches
+arriving-within S z None r c row col t k here room = (idle S z (MoveTo row col) t (λ i j. refl), tt)
+arriving-within S z (Some p) r c row col t k here room =
+    stays-goto S z row col (pen p.row p.col default_attrs None false) t (here ∙ k.0) room
+
+last_row-not : (m n : ℕ) → n < m → nat_le m n ≡ false
+last_row-not m n l = grind (arith, nat_tests)
+
+fed-within : (S : ℕ → ℕ → Type 0) (z : Size) (t : Term) (C : ℕ → ℕ → CellView) (W : ℕ → Bool) (a : Attrs)
+    (c n r row : ℕ) → r + n ≡ row → row < z.rows → Within S z (replicate n Lf) (at t C W r c a)
+unfolding apply form_touches
+fed-within S z t C W a c zero r row e l = tt
+fed-within S z t C W a c (suc n) r row e l =
+    let u = at t C W r c a in
+    let room : r + 1 < z.rows = omega (arith, e, l) in (
+      idle S z Lf u (λ i k. last_row-not z.rows (r + 1) room),
+      subst (Within S z (replicate n Lf)) (sym (down-room z u room))
+          (fed-within S z t C W a c n (r + 1) row (omega (arith, e)) l),
+    )
+
+-- ---- the last cell is printed again
+
+-- the last cell of row r may be touched, with its other half
+pub record IsEndRoom (S : ℕ → ℕ → Type 0) (z : Size) (s : Shown) (r : ℕ) : Type 0 where
+  pub last : (k : ℕ) → k + 1 ≡ z.cols → S r k
+  pub first : (k : ℕ) → k + 2 ≡ z.cols → (s.cell r k).wide ≡ true → S r k
+
+end-touched : (S : ℕ → ℕ → Type 0) (z : Size) (s : Shown) (r : ℕ) → IsPaired (s.cell r) → IsLast z s r
+    → IsEndRoom S z s r → (k : ℕ) → k < z.cols
+    → put_touches (s.cell r) (last_col z s r) (last_cell z s r) k ≡ true → S r k
+end-touched S z s r paired last room k low touched =
+    let f = s.cell r in
+    let c = last_col z s r in
+    let x = last_cell z s r in
+    let few = span-few x in
+    elim (or-four (k == c) ((k == (c + 1)) && (x.wide || (f c).wide)) (((k + 1) == c) && (f k).wide)
+    ((k == (c + 2)) && (x.wide && (f (c + 1)).wide)) touched) [
+      | inl at_c ↦
+          (let is = eqb-true k c at_c in
+          (elim x.wide as (λ w. x.wide ≡ w → S r k) [
+            | true ↦ λ e. room.first k (let two = span-wide x e in omega (arith, is, two, last.up_to))
+                (ap (λ i. (f i).wide) is ∙ e)
+            | false ↦ λ e. room.last k (let one = span-narrow x e in omega (arith, is, one, last.up_to))
+          ]) refl)
+      | inr (inl next) ↦
+          (let both = and_parts (k == (c + 1)) _ next in
+          let is = eqb-true k (c + 1) both.0 in
+          room.last k (omega (arith, is, low, few, last.up_to)))
+      | inr (inr (inl left)) ↦
+          (let both = and_parts ((k + 1) == c) _ left in
+          absurd (both_ways x.continuation last.whole (ap (λ i. (f i).continuation) (sym (eqb-true (k + 1) c both.0))
+          ∙ paired.next k ∙ both.1)))
+      | inr (inr (inr third)) ↦
+          (let both = and_parts (k == (c + 2)) _ third in
+          let is = eqb-true k (c + 2) both.0 in
+          let two = span-wide x (and_parts x.wide _ both.1).0 in
+          absurd (omega (arith, is, two, last.up_to, low)))
+    ]
+
+printed-within : (S : ℕ → ℕ → Type 0) (z : Size) (t : Term) (s : Shown) (r : ℕ) → IsDrawable z s → r < z.rows
+    → has_text (last_cell z s r) ≡ true → IsEndRoom S z s r
+    → Within S z (Text (last_cell z s r).text ∷ [])
+    (at t s.cell s.wrapped r (last_col z s r) (last_cell z s r).attrs)
+unfolding print
+printed-within S z t s r h l some room =
+    let f = s.cell r in
+    let c = last_col z s r in
+    let x = last_cell z s r in
+    let last = last-of z t s r h l in
+    subst (λ (C : ℕ → ℕ → CellView). Within S z (Text x.text ∷ []) (at t C s.wrapped r c x.attrs))
+    (update-kept s.cell r f refl)
+    (stays-print S z t s.cell s.wrapped r c x.attrs f x false (pen r c x.attrs None false) (last.sent some)
+    (omega (arith, last.up_to)) (end-touched S z s r (h.shown.paired r) last room))
+
+behind-within : (S : ℕ → ℕ → Type 0) (z : Size) (t : Term) (s : Shown) (p : Option Pos) (a : Attrs) (r c row : ℕ)
+    → IsDrawable z s → IsProper a → Known p r c → row < z.rows → has_text (last_cell z s row) ≡ true
+    → IsEndRoom S z s row → Within S z (wait_behind z s p a row) (at t s.cell s.wrapped r c a)
+unfolding wait_behind
+behind-within S z t s p a r c row h ha k l some room =
+    let C = s.cell in
+    let W = s.wrapped in
+    let last = last-of z t s row h l in
+    let few = span-few (last_cell z s row) in
+    let n = last_col z s row in
+    let x = last_cell z s row in
+    let goes = arriving p (place row n) in
+    let u = at t C W r c a in
+    let there = at t C W row n a in
+    let print_there : Within S z (Text x.text ∷ []) (at t C W row n x.attrs) = printed-within S z t s row h l some room
+    in
+    let both : Within S z (Text x.text ∷ change x.attrs a) (at t C W row n x.attrs) =
+    (print_there.0, change-within S z x.attrs a _) in
+    cond_both (is_at p (place row z.cols)) [] (goes ++ printed_with a x) (λ fs. Within S z fs u) (λ _. tt)
+    (λ _. within-joined S z goes (printed_with a x) u (arriving-within S z p r c row n u k refl l)
+    (subst (Within S z (printed_with a x))
+    (sym (arrives z t C W a p r c row n k l (omega (arith, last.up_to, few))))
+    (within-joined S z (change a x.attrs) (Text x.text ∷ change x.attrs a) there (change-within S z a x.attrs there)
+    (subst (Within S z (Text x.text ∷ change x.attrs a))
+    (sym (change-read z there a x.attrs refl ha (h.proper row n))) both))))
+
+-- ---- a space is printed in the last column, and erased
+
+spaced-left : (f : ℕ → CellView) (n : ℕ) (x : CellView) (a : Attrs) (k : ℕ) → k + 1 ≡ n
+    → (put f n x a k).wide ≡ false
+spaced-left f n x a k e = grind (arith, nat_tests)
+
+space-touched : (S : ℕ → ℕ → Type 0) (z : Size) (s : Shown) (r n : ℕ) (a : Attrs) → IsPaired (s.cell r)
+    → n + 1 ≡ z.cols → (s.cell r n).continuation ≡ false → IsEndRoom S z s r → (k : ℕ) → k < z.cols
+    → put_touches (s.cell r) n (cell_of 32 a) k ≡ true → S r k
+space-touched S z s r n a paired end single room k low touched =
+    let f = s.cell r in
+    let x = cell_of 32 a in
+    elim (or-four (k == n) ((k == (n + 1)) && (x.wide || (f n).wide)) (((k + 1) == n) && (f k).wide)
+    ((k == (n + 2)) && (x.wide && (f (n + 1)).wide)) touched) [
+      | inl at_n ↦ (let is = eqb-true k n at_n in room.last k (omega (arith, is, end)))
+      | inr (inl next) ↦ (let is = eqb-true k (n + 1) (and_parts (k == (n + 1)) _ next).0
+          in absurd (omega (arith, is, end, low)))
+      | inr (inr (inl left)) ↦
+          (let both = and_parts ((k + 1) == n) _ left in
+          absurd (both_ways (f n).continuation single (ap (λ i. (f i).continuation) (sym (eqb-true (k + 1) n both.0))
+          ∙ paired.next k ∙ both.1)))
+      | inr (inr (inr third)) ↦ (let is = eqb-true k (n + 2) (and_parts (k == (n + 2)) _ third).0
+          in absurd (omega (arith, is, end, low)))
+    ]
+
+wipe-touched : (S : ℕ → ℕ → Type 0) (z : Size) (s : Shown) (r n : ℕ) (a : Attrs) → n + 1 ≡ z.cols
+    → IsEndRoom S z s r → (k : ℕ) → k < z.cols
+    → wipe_touches (put (s.cell r) n (cell_of 32 a) a) n (n + 1) k ≡ true → S r k
+wipe-touched S z s r n a end room k low touched =
+    let g = put (s.cell r) n (cell_of 32 a) a in
+    elim (or_cases (nat_le n k && nat_lt k (n + 1)) _ touched) [
+      | inl between ↦
+          (let from = leb-true n k (and_parts (nat_le n k) (nat_lt k (n + 1)) between).0 in
+          room.last k (omega (arith, from, end, low)))
+      | inr edges ↦ elim (or_cases (((k + 1) == n) && (g k).wide) ((k == (n + 1)) && (g k).continuation)
+          (and_parts (nat_lt n (n + 1)) _ edges).1) [
+            | inl left ↦
+                (let both = and_parts ((k + 1) == n) _ left in
+                absurd (both_ways (g k).wide (spaced-left (s.cell r) n (cell_of 32 a) a k
+                (eqb-true (k + 1) n both.0)) both.1))
+            | inr right ↦ (let is = eqb-true k (n + 1) (and_parts (k == (n + 1)) _ right).0
+                in absurd (omega (arith, is, end, low)))
+          ]
+    ]
+
+space-within : (S : ℕ → ℕ → Type 0) (z : Size) (t : Term) (s : Shown) (r n : ℕ) (a : Attrs) → IsPaired (s.cell r)
+    → n + 1 ≡ z.cols → (s.cell r n).continuation ≡ false → IsEndRoom S z s r
+    → Within S z (Text (32 ∷ []) ∷ []) (at t s.cell s.wrapped r n a)
+unfolding print char_width
+space-within S z t s r n a paired end single room =
+    let f = s.cell r in
+    let one = span-space a in
+    subst (λ (C : ℕ → ℕ → CellView). Within S z (Text (32 ∷ []) ∷ []) (at t C s.wrapped r n a))
+    (update-kept s.cell r f refl)
+    (stays-print S z t s.cell s.wrapped r n a f (cell_of 32 a) false (pen r n a None false) (sends-space a)
+    (omega (arith, one, end)) (space-touched S z s r n a paired end single room))
+
+erase-within : (S : ℕ → ℕ → Type 0) (z : Size) (t : Term) (s : Shown) (r n : ℕ) (a b : Attrs) → n + 1 ≡ z.cols
+    → IsEndRoom S z s r
+    → Within S z (EraseChar 1 ∷ [])
+    (at t (update s.cell r (put (s.cell r) n (cell_of 32 a) a)) s.wrapped r (n + 1 - 1) b)
+unfolding erasing
+erase-within S z t s r n a b end room =
+    let g = put (s.cell r) n (cell_of 32 a) a in
+    let back : n ≡ n + 1 - 1 = omega arith in
+    subst (λ c. Within S z (EraseChar 1 ∷ []) (at t (update s.cell r g) s.wrapped r c b)) back
+    (stays-erasing S z t s.cell s.wrapped r n 1 (n + 1) b g false (pen r n b None false) refl (omega (arith, end))
+    (wipe-touched S z s r n a end room))
+
+wipes-within : (S : ℕ → ℕ → Type 0) (z : Size) (t : Term) (s : Shown) (r n : ℕ) (a b : Attrs) → n + 1 ≡ z.cols
+    → IsEndRoom S z s r
+    → Within S z (SaveCursor ∷ Backspace ∷ EraseChar 1 ∷ RestoreCursor ∷ change b a)
+    (at t (update s.cell r (put (s.cell r) n (cell_of 32 a) a)) s.wrapped r (n + 1) b)
+unfolding apply form_touches
+wipes-within S z t s r n a b end room =
+    let v : Term = record t { saved_row = r; saved_col = n + 1; saved_attrs = b } in
+    let erased = erase-within S z v s r n a b end room in (
+      idle S z SaveCursor _ (λ i k. refl),
+      (
+        idle S z Backspace _ (λ i k. refl),
+        (erased.0, (idle S z RestoreCursor _ (λ i k. refl), change-within S z b a _)),
+      ),
+    )
+
+empty-within : (S : ℕ → ℕ → Type 0) (z : Size) (t : Term) (s : Shown) (p : Option Pos) (a : Attrs) (r c row : ℕ)
+    → IsDrawable z s → IsProper a → Known p r c → row < z.rows → has_text (last_cell z s row) ≡ false
+    → IsEndRoom S z s row
+    → Within S z (wait_on_empty z p a row (s.cell row (z.cols - 1))) (at t s.cell s.wrapped r c a)
+unfolding wait_on_empty
+empty-within S z t s p a r c row h ha k l none room =
+    let C = s.cell in
+    let W = s.wrapped in
+    let n = z.cols - 1 in
+    let x = C row n in
+    let b = x.attrs in
+    let end : n + 1 ≡ z.cols = omega (arith, h.shown.some_col) in
+    let is : x ≡ empty_cell b = no-text_end z t s row h l none in
+    let single : x.continuation ≡ false = ap (λ (y : CellView). y.continuation) is in
+    let g = put (C row) n (cell_of 32 a) a in
+    let goes = arriving p (place row n) in
+    let dyes = change a b in
+    let tail = SaveCursor ∷ Backspace ∷ EraseChar 1 ∷ RestoreCursor ∷ change b a in
+    let u = at t C W r c a in
+    let there = at t C W row n a in
+    let after = at t (update C row g) W row (n + 1) a in
+    let prints = space-within S z t s row n a (h.shown.paired row) end single room in
+    let rest : Within S z (dyes ++ tail) after = within-joined S z dyes tail after (change-within S z a b after)
+    (subst (Within S z tail) (sym (change-read z after a b refl ha (h.proper row n)))
+    (wipes-within S z t s row n a b end room)) in
+    within-joined S z goes (Text (32 ∷ []) ∷ (dyes ++ tail)) u (arriving-within S z p r c row n u k refl l)
+    (subst (Within S z (Text (32 ∷ []) ∷ (dyes ++ tail)))
+    (sym (arrives z t C W a p r c row n k l (omega (arith, end))))
+    (prints.0, subst (Within S z (dyes ++ tail)) (sym (space-printed z t C W row n a (omega (arith, end)))) rest))
+
+-- ---- the cursor
+
+waits-within : (S : ℕ → ℕ → Type 0) (z : Size) (t : Term) (s : Shown) (p : Option Pos) (a : Attrs) (r c : ℕ)
+    (o : Option ℕ) → IsDrawable z s → IsProper a → Known p r c → Ends z s s.row o
+    → IsEndRoom S z s (row_or s.row o) → Within S z (wait z s p a o) (at t s.cell s.wrapped r c a)
+unfolding wait Ends
+waits-within S z t s p a r c None h ha k e room =
+    empty-within S z t s p a r c s.row h ha k h.shown.in_rows e room
+waits-within S z t s p a r c (Some i) h ha k e room =
+    let up = e.0 in
+    let inside : i < z.rows = omega (arith, up, h.shown.in_rows) in
+    let u = at t s.cell s.wrapped r c a in
+    let down = replicate (s.row - i) Lf in
+    within-joined S z (wait_behind z s p a i) down u (behind-within S z t s p a r c i h ha k inside e.1 room)
+    (subst (Within S z down) (sym (waits-behind z t s p a r c i h ha k inside e.1))
+    (fed-within S z t s.cell s.wrapped a z.cols (s.row - i) i s.row (omega (arith, up)) h.shown.in_rows))
+
+-- where the cursor of s waits, the last cell of one row may be touched
+pub cursor-within : (S : ℕ → ℕ → Type 0) (z : Size) (t : Term) (s : Shown) (p : Option Pos) (a : Attrs) (r c : ℕ)
+    → IsDrawable z s → IsProper a → Known p r c → (s.col ≡ z.cols → IsEndRoom S z s (waiting_row z s))
+    → Within S z (cursor_position_formatted z s p a) (at t s.cell s.wrapped r c a)
+unfolding cursor_position_formatted
+cursor-within S z t s p a r c h ha k room =
+    let u = at t s.cell s.wrapped r c a in
+    let P : List Form → Type 0 = λ fs. Within S z fs u in
+    cond_both (nat_lt s.col z.cols) (arriving p (place s.row s.col)) _ P
+    (λ _. arriving-within S z p r c s.row s.col u k refl h.shown.in_rows)
+    (λ l. cond_both (is_at p (place s.row s.col)) [] (wait z s p a (row_with_end z s s.row)) P (λ _. tt)
+    (λ _. let past = ltb-false s.col z.cols l in
+    waits-within S z t s p a r c (row_with_end z s s.row) h ha k (ends z s s.row)
+    (room (omega (arith, past, h.shown.in_cols)))))

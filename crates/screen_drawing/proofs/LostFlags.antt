@@ -1,0 +1,155 @@
+-- A row that goes on loses its flag, while its difference is written, only where one of its columns differs.
+use Rattle.std.proofs.Common.{◌≡◌, ℕ, zero, suc, ◌+◌, ◌-◌, ◌<◌, ◌≤◌, ◌==◌, true, false, cond, not, ◌&&◌, ◌||◌}
+use Rattle.std.proofs.Common.{Option, Some, None, refl, arith, sym, ap, ◌∙◌, inl, inr, subst}
+use Rattle.std.proofs.lemmas.Bool.{cases_lt, both_ways, cond_both, and_parts, or_from, or_cases, false≢true}
+use Rattle.std.proofs.lemmas.Bool.Decides.{nat_tests}
+use Rattle.vt100_cells.specs.Cell.{CellView, empty_cell, has_text, is_filled}
+use Rattle.vt100_cells.specs.Line.{wipe_unflags}
+use Rattle.vt100_cells.specs.CellEq.{cell_eq-true, cell_eq-of_same}
+use Rattle.row_drawing.specs.declared.pen.Erase.{Erase}
+use Rattle.row_drawing.specs.declared.pen.Pen.{Pen}
+use Rattle.row_drawing.specs.Writer.{Drawn, Writer, ◌>>◌, skip, goto, turn, colour, print, space, back, erasing}
+use Rattle.row_drawing.specs.RowWriter.{Job, is_same, owes_flag, reprint, opening, is_end, flush_of, flush}
+use Rattle.row_drawing.specs.RowWriter.{finish_of, finish, draw, column, columns, last_col, last_cell, owes_end}
+use Rattle.row_drawing.specs.RowWriter.{print_last, mend, closing, row_redraw, row_difference}
+use Rattle.row_drawing.specs.Scene.{Scene, IsScene}
+use Rattle.row_drawing.proofs.Columns.{empty-is}
+use Rattle.row_drawing.proofs.RowEnd.{mend-wraps}
+use Rattle.row_drawing.proofs.LocalColumns.{IsMarked, columns-marked}
+use Rattle.row_drawing.proofs.Local.{opening-marked}
+
+-- K is true where a column differs
+abbrev pub IsCause : Type 0 → Job → Type 0
+IsCause K j = (c : ℕ) → is_same j c ≡ false → K
+
+-- and where the pen says that the flag is lost
+abbrev IsBlamed : Type 0 → Pen → Type 0
+IsBlamed K q = q.lost ≡ true → K
+
+-- ---- columns
+
+draw-blamed : (K : Type 0) (j : Job) (c : ℕ) (q : Pen) → IsCause K j → IsBlamed K q → IsBlamed K (draw j c q).pen
+unfolding draw skip
+draw-blamed K j c q h b =
+    cond_both (is_same j c) skip _ (λ (f : Writer). IsBlamed K (f q).pen) (λ _. b) (λ differs _. h c differs)
+
+flush_of-blamed : (K : Type 0) (j : Job) (c : ℕ) (o : Option Erase) (q : Pen) → IsCause K j → IsMarked j o
+    → IsBlamed K q → IsBlamed K (flush_of j c o q).pen
+unfolding flush_of skip
+flush_of-blamed K j c None q h m b = b
+flush_of-blamed K j c (Some e) q h m b =
+    cond_both (is_end (j.new c) e.attrs) _ skip (λ (f : Writer). IsBlamed K (f q).pen) (λ _ _. h e.from m) (λ _. b)
+
+column-blamed : (K : Type 0) (j : Job) (c : ℕ) (q : Pen) → IsCause K j → IsMarked j q.erase → IsBlamed K q
+    → IsBlamed K (column j c q).pen
+unfolding column ◌>>◌ skip flush
+column-blamed K j c q h m b =
+    cond_both ((j.new c).continuation && not (c == j.start)) skip (flush j c >> draw j c)
+    (λ (f : Writer). IsBlamed K (f q).pen) (λ _. b)
+    (λ _. draw-blamed K j c (flush j c q).pen h (flush_of-blamed K j c q.erase q h m b))
+
+columns-blamed : (K : Type 0) (j : Job) (n : ℕ) (q : Pen) → IsCause K j → IsMarked j q.erase → IsBlamed K q
+    → IsBlamed K (columns j n q).pen
+unfolding columns ◌>>◌ skip
+columns-blamed K j zero q h m b = b
+columns-blamed K j (suc n) q h m b =
+    column-blamed K j (j.start + n) (columns j n q).pen h (columns-marked j n q m) (columns-blamed K j n q h m b)
+
+finish_of-blamed : (K : Type 0) (j : Job) (o : Option Erase) (q : Pen) → IsCause K j → IsMarked j o
+    → IsBlamed K q → IsBlamed K (finish_of j o q).pen
+unfolding finish_of skip
+finish_of-blamed K j None q h m b = b
+finish_of-blamed K j (Some e) q h m b = λ _. h e.from m
+
+-- ---- the first cell once more
+
+reprint-kept : (j : Job) (x : CellView) (p : Pen) → p.lost ≡ false
+    → (has_text x ≡ false → wipe_unflags j.cols j.old 0 1 ≡ false) → (reprint j x p).pen.lost ≡ false
+unfolding reprint ◌>>◌ print space back erasing
+reprint-kept j x p kept keeps =
+    let w = wipe_unflags j.cols j.old 0 1 in
+    let still = or_from p.lost false kept refl in
+    cond_both (has_text x) (print x false >> cond x.wide (back >> back) back) (space >> back >> erasing 1 w)
+    (λ (f : Writer). (f p).pen.lost ≡ false)
+    (λ _. cond_both x.wide (back >> back) back (λ (f : Writer). ((print x false >> f) p).pen.lost ≡ false) (λ _. still)
+    (λ _. still)) (λ none. or_from p.lost w kept (keeps none))
+
+opening-kept : (j : Job) (p : Pen) → p.lost ≡ false
+    → (owes_flag j p ≡ true → has_text (j.new j.start) ≡ false → wipe_unflags j.cols j.old 0 1 ≡ false)
+    → (opening j p).pen.lost ≡ false
+unfolding opening ◌>>◌ turn colour skip
+opening-kept j p kept keeps =
+    let x = j.new j.start in
+    cond_both (owes_flag j p) ((turn j.row >> colour x.attrs >> reprint j x) p) (skip p)
+    (λ (d : Drawn). d.pen.lost ≡ false)
+    (λ owed. reprint-kept j x (record p { pos = record { row = j.row; col = 0 }; attrs = x.attrs }) kept (keeps owed))
+    (λ _. kept)
+
+unflags-none : (n : ℕ) (f : ℕ → CellView) → 1 < n → (f 1).continuation ≡ false → wipe_unflags n f 0 1 ≡ false
+unflags-none n f more single = grind (arith, nat_tests)
+
+-- an empty first cell isn't the last one of a row that goes on, nor directly left of a second half
+first-keeps : (s : Scene) (p : Pen) → IsScene s → s.job.wrapped ≡ true → owes_flag s.job p ≡ true
+    → has_text (s.job.new s.job.start) ≡ false → wipe_unflags s.job.cols s.job.old 0 1 ≡ false
+first-keeps s p h on owed none =
+    let j = s.job in
+    let x = j.new 0 in
+    let blank : has_text x ≡ false = ap (λ i. has_text (j.new i)) (sym h.whole) ∙ none in
+    let is : x ≡ empty_cell x.attrs = empty-is x (h.cells 0) blank h.new.paired.first in
+    let empty : is_filled x ≡ false = ap is_filled is in
+    let same : x ≡ j.old 0 = cell_eq-true x (j.old 0) (ap (is_same j) (sym h.whole)
+    ∙ (and_parts (is_same j j.start) _ (and_parts (j.above && not j.was_above) _ owed).1).0) in
+    let narrow : (j.old 0).wide ≡ false = ap (λ (y : CellView). y.wide) (sym same ∙ is) in
+    let more : 1 < j.cols = (elim (cases_lt 1 j.cols) [
+      | inl less ↦ less
+      | inr few ↦
+          (let first : j.cols - 1 ≡ 0 = omega (arith, few) in
+          absurd (both_ways (is_filled x) empty (ap (λ i. is_filled (j.new i)) (sym first) ∙ h.new.filled on)))
+    ]) in
+    unflags-none j.cols j.old more (h.old.paired.next 0 ∙ narrow)
+
+-- ---- the last cell once more
+
+closing-blamed : (K : Type 0) (j : Job) (q : Pen) → j.wrapped ≡ true → IsBlamed K q → IsBlamed K (closing j q).pen
+unfolding closing ◌>>◌ goto print_last colour print skip
+closing-blamed K j q on b =
+    let x = last_cell j in
+    let u : Pen = record q { pos = record { row = j.row; col = last_col j } } in
+    let or_none : (q.lost || false) ≡ true → K = λ e. (elim (or_cases q.lost false e) [
+      | inl lost ↦ b lost
+      | inr never ↦ absurd (false≢true never)
+    ]) in
+    cond_both (owes_end j q) ((goto j.row (last_col j) >> mend j x) q) (skip q) (λ (d : Drawn). IsBlamed K d.pen)
+    (λ _. subst (λ (d : Drawn). IsBlamed K d.pen) (sym (mend-wraps j x u on))
+    (cond_both (has_text x) (colour x.attrs >> print x false) skip (λ (f : Writer). IsBlamed K (f u).pen) (λ _. or_none)
+    (λ _. b)))
+    (λ _. b)
+
+-- ---- the row
+
+pub lost-cause : (K : Type 0) (s : Scene) (p : Pen) → IsScene s → p.erase ≡ None → p.lost ≡ false
+    → s.job.wrapped ≡ true → IsCause K s.job → (row_difference s.job s.job.cols p).pen.lost ≡ true → K
+unfolding row_difference row_redraw ◌>>◌ finish
+lost-cause K s p h closed kept on cause =
+    let j = s.job in
+    let q = (opening j p).pen in
+    let u = (columns j j.cols q).pen in
+    let m = opening-marked j p closed in
+    let start : IsBlamed K q = λ lost. absurd (both_ways q.lost (opening-kept j p kept (first-keeps s p h on)) lost) in
+    closing-blamed K j (finish j u).pen on
+    (finish_of-blamed K j u.erase u cause (columns-marked j j.cols q m) (columns-blamed K j j.cols q cause m start))
+
+-- what differs is a column of the row
+pub inside-row : (s : Scene) → IsScene s → (k : ℕ) → is_same s.job k ≡ false → k < s.job.cols
+inside-row s h k differs =
+    let j = s.job in
+    elim (cases_lt k j.cols) [
+      | inl inside ↦ inside
+      | inr outside ↦
+          (let past : j.cols ≤ k = omega (arith, outside) in
+          absurd (both_ways (is_same j k) differs (cell_eq-of_same (j.new k) (j.old k)
+          (h.new.beyond k past ∙ sym (h.old.beyond k past)))))
+    ]
+
+pub other-cell : (j : Job) (k : ℕ) → is_same j k ≡ false → j.old k ≡ j.new k → ⊥
+other-cell j k differs e = both_ways (is_same j k) differs (cell_eq-of_same (j.new k) (j.old k) (sym e))

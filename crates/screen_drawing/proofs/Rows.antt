@@ -1,0 +1,286 @@
+-- The rows of a screen, drawn one after the other.
+use Rattle.std.proofs.Common.{◌≡◌, ℕ, zero, suc, ◌+◌, ◌-◌, ◌<◌, ◌≤◌, Bool, true, false, cond, not, ◌&&◌}
+use Rattle.std.proofs.Common.{None, refl, arith, sym, ap, subst, ◌∙◌, inl, inr}
+use Rattle.std.proofs.lemmas.Bool.{cases_Bool, false≢true}
+use mathlib.Core.Path.{fun_ext}
+use Rattle.vt100_forms.specs.Attrs.{IsProper}
+use Rattle.vt100_cells.specs.Cell.{CellView, default_cell, is_filled}
+use Rattle.vt100_cells.specs.Line.{IsPaired}
+use Rattle.terminal_model.specs.Position.{update, splice}
+use Rattle.terminal_model.specs.Term.{Size, Shown, Term, IsShown, blank_shown}
+use Rattle.terminal_model.specs.Apply.{run}
+use Rattle.terminal_model.proofs.Positions.{update-same, update-other, update-kept, splice-none, splice-in, splice-past}
+use Rattle.terminal_model.proofs.Positions.{splice-update, splice-whole}
+use Rattle.terminal_model.proofs.FormLemmas.{run-joined}
+use Rattle.row_drawing.specs.declared.pen.Pen.{Pen}
+use Rattle.row_drawing.specs.Writer.{Writer, ◌>>◌, skip}
+use Rattle.row_drawing.specs.RowWriter.{row_redraw, row_difference}
+use Rattle.row_drawing.specs.Scene.{Scene, IsScene, IsReady, IsDrawn, IsLine, with_row}
+use Rattle.row_drawing.proofs.Steps.{at}
+use Rattle.row_drawing.proofs.RowStart.{difference-leads}
+use Rattle.row_drawing.proofs.RowRedraw.{redraw-leads}
+use Rattle.screen_drawing.specs.Rows.{afresh, is_continued, job_of, next_redraw, rows_redraw, next_difference}
+use Rattle.screen_drawing.specs.Rows.{rows_difference}
+use Rattle.screen_drawing.specs.Laws.{IsDrawable, showing, EachRowsRedrawLeads, EachRowsDifferenceLeads}
+
+-- ---- the row above
+
+pub continued-later : (W : ℕ → Bool) (i : ℕ) → is_continued W i ≡ true → 0 < i
+continued-later W zero h = absurd (false≢true h)
+continued-later W (suc i) h = omega arith
+
+continued-is : (W : ℕ → Bool) (i : ℕ) → 0 < i → is_continued W i ≡ W (i - 1)
+continued-is W zero h = absurd (omega (arith, h))
+continued-is W (suc i) h = let back : i ≡ suc i - 1 = omega arith in ap W back
+
+-- ---- between two rows
+
+-- The rows before i are drawn, and those from i on are as before. The last one that is drawn may lack its flag, where
+-- it goes on; then the cursor waits at its end.
+pub record Between (z : Size) (t : Term) (old new : Shown) (i : ℕ) (p : Pen) (u : Term) : Type 0 where
+  pub flags : ℕ → Bool
+  pub stands : u ≡ at t (splice old.cell 0 i new.cell) flags p.pos.row p.pos.col p.attrs
+  pub proper : IsProper p.attrs
+  pub closed : p.erase ≡ None
+  pub flagged : cond (is_continued new.wrapped i) (update flags (i - 1) true) flags ≡ splice old.wrapped 0 i new.wrapped
+  pub keeps : is_continued new.wrapped i ≡ true → (is_continued old.wrapped i && not p.lost) ≡ true
+      → flags (i - 1) ≡ true
+  pub waits : is_continued new.wrapped i ≡ true → (is_continued old.wrapped i && not p.lost) ≡ false
+      → (p.pos.row + 1 ≡ i) × (p.pos.col ≡ z.cols)
+
+begun : (z : Size) (t : Term) (old new : Shown) (p : Pen) → IsProper p.attrs → p.erase ≡ None
+    → Between z t old new 0 p (showing t old p)
+begun z t old new p ha closed = record {
+  flags = old.wrapped;
+  stands = ap (λ C. at t C old.wrapped p.pos.row p.pos.col p.attrs) (sym (splice-none old.cell 0 new.cell));
+  proper = ha;
+  closed = closed;
+  flagged = sym (splice-none old.wrapped 0 new.wrapped);
+  keeps = λ e _. absurd (false≢true e);
+  waits = λ e _. absurd (false≢true e);
+}
+
+abbrev pub scene_of : Size → Term → Shown → Shown → ℕ → Bool → (ℕ → Bool) → Scene
+scene_of z t old new i flagged F = record {
+  rows = z.rows;
+  job = job_of z old new i flagged;
+  term = t;
+  cells = splice old.cell 0 i new.cell;
+  flags = F;
+}
+
+line-of : (z : Size) (s : Shown) (r : ℕ) → IsShown z s → IsLine z.cols (s.cell r) (s.wrapped r)
+line-of z s r h = record { paired = h.paired r; beyond = h.beyond r; filled = h.filled r }
+
+-- the flag of row i is that of the old screen
+own-flag : (z : Size) (t : Term) (old new : Shown) (i : ℕ) (p : Pen) (u : Term) (b : Between z t old new i p u)
+    → b.flags i ≡ old.wrapped i
+own-flag z t old new i p u b =
+    let le : i ≤ i = omega arith in
+    let all : cond (is_continued new.wrapped i) (update b.flags (i - 1) true) b.flags i ≡ old.wrapped i =
+    ap (λ (G : ℕ → Bool). G i) b.flagged ∙ splice-past old.wrapped 0 i new.wrapped i le in
+    elim (cases_Bool (is_continued new.wrapped i)) [
+      | inl on ↦
+          (let later = continued-later new.wrapped i on in
+          sym (update-other b.flags (i - 1) i true (λ e. absurd (omega (arith, e, later))))
+          ∙ ap (λ c. cond c (update b.flags (i - 1) true) b.flags i) (sym on) ∙ all)
+      | inr off ↦ ap (λ c. cond c (update b.flags (i - 1) true) b.flags i) (sym off) ∙ all
+    ]
+
+pub scene-is : (z : Size) (t : Term) (old new : Shown) (i : ℕ) (flagged : Bool) (p : Pen) (u : Term)
+    (b : Between z t old new i p u) → IsShown z old → IsDrawable z new → i < z.rows
+    → flagged ≡ (is_continued old.wrapped i && not p.lost) → IsScene (scene_of z t old new i flagged b.flags)
+scene-is z t old new i flagged p u b ho hn l e = record {
+  whole = refl;
+  some_col = hn.shown.some_col;
+  row_in = l;
+  old = line-of z old i ho;
+  new = line-of z new i hn.shown;
+  cells = hn.cells i;
+  plain = hn.plain i;
+  proper = hn.proper i;
+  flag = own-flag z t old new i p u b;
+  below_first = continued-later new.wrapped i;
+  above_filled = λ on.
+      let later = continued-later new.wrapped i on in
+      ap (λ (f : ℕ → CellView). is_filled (f (z.cols - 1)))
+      (splice-in old.cell 0 i new.cell (i - 1) (omega arith) (omega (arith, later)))
+      ∙ hn.shown.filled (i - 1) (sym (continued-is new.wrapped i later) ∙ on);
+  above_flag = λ on k. b.keeps on (sym e ∙ k);
+}
+
+pub ready-is : (z : Size) (t : Term) (old new : Shown) (i : ℕ) (flagged : Bool) (p : Pen) (u : Term)
+    (b : Between z t old new i p u) → flagged ≡ (is_continued old.wrapped i && not p.lost)
+    → IsReady (scene_of z t old new i flagged b.flags) (afresh p)
+ready-is z t old new i flagged p u b e = record {
+  closed = b.closed;
+  kept = refl;
+  proper = b.proper;
+  waits = λ on k. b.waits on (sym e ∙ k);
+}
+
+-- the terminal before row i, as the row's laws see it
+pub here-is : (z : Size) (t : Term) (old new : Shown) (i : ℕ) (flagged : Bool) (p : Pen) (u : Term)
+    (b : Between z t old new i p u)
+    → u ≡ with_row (scene_of z t old new i flagged b.flags) (old.cell i) b.flags p.pos.row p.pos.col p.attrs
+here-is z t old new i flagged p u b =
+    let le : i ≤ i = omega arith in
+    b.stands ∙ ap (λ C. at t C b.flags p.pos.row p.pos.col p.attrs)
+    (sym (update-kept (splice old.cell 0 i new.cell) i (old.cell i)
+    (sym (splice-past old.cell 0 i new.cell i le))))
+
+-- row i is drawn
+between-next : (z : Size) (t : Term) (old new : Shown) (i : ℕ) (flagged : Bool) (p : Pen) (u : Term)
+    (b : Between z t old new i p u) (q : Pen) (v : Term) → IsDrawn (scene_of z t old new i flagged b.flags) q v
+    → Between z t old new (suc i) q v
+between-next z t old new i flagged p u b q v d =
+    let F = d.flags in
+    let V = cond (is_continued new.wrapped i) (update b.flags (i - 1) true) b.flags in
+    let w = new.wrapped i in
+    let back : suc i - 1 ≡ i = omega arith in
+    let next : i + 1 ≡ suc i = omega arith in
+    let le : 0 ≤ i = omega arith in
+    let full : update V i w ≡ splice old.wrapped 0 (suc i) new.wrapped =
+    ap (λ G. update G i w) b.flagged ∙ splice-update old.wrapped 0 i new.wrapped w le refl
+    ∙ ap (λ n. splice old.wrapped 0 n new.wrapped) next in
+    record {
+      flags = F;
+      stands = d.stands ∙ ap (λ C. at t C F q.pos.row q.pos.col q.attrs)
+          (splice-update old.cell 0 i new.cell (new.cell i) le refl ∙ ap (λ n. splice old.cell 0 n new.cell) next);
+      proper = d.proper;
+      closed = d.closed;
+      flagged = (elim d.flagged [
+        | inl e ↦ elim (cases_Bool w) [
+          | inl on ↦ ap (λ c. cond c (update F (suc i - 1) true) F) on ∙ ap (λ k. update F k true) back
+              ∙ update-kept F i true (sym (ap (λ (G : ℕ → Bool). G i) e ∙ update-same V i w ∙ on)) ∙ e ∙ full
+          | inr off ↦ ap (λ c. cond c (update F (suc i - 1) true) F) off ∙ e ∙ full
+        ]
+        | inr e ↦ ap (λ c. cond c (update F (suc i - 1) true) F) e.0 ∙ ap (λ k. update F k true) back
+            ∙ e.3 ∙ ap (λ c. update V i c) (sym e.0) ∙ full
+      ]);
+      keeps = λ on k. ap F back ∙ d.keeps on k;
+      waits = λ on k. (let place = d.waits on k in (omega (arith, place.0), place.1));
+    }
+
+-- ---- all rows
+
+next-joined : (z : Size) (t : Term) (old new : Shown) (n : ℕ) (f g : Writer) (p : Pen) (x : Term)
+    → Between z t old new n (g (f p).pen).pen (run z (g (f p).pen).forms (run z (f p).forms x))
+    → Between z t old new n ((f >> g) p).pen (run z ((f >> g) p).forms x)
+unfolding ◌>>◌
+next-joined z t old new n f g p x h =
+    subst (λ v. Between z t old new n (g (f p).pen).pen v) (sym (run-joined z (f p).forms (g (f p).pen).forms x)) h
+
+difference-next : (z : Size) (t : Term) (old new : Shown) (i : ℕ) (p : Pen) (u : Term) → IsShown z old
+    → IsDrawable z new → i < z.rows → Between z t old new i p u
+    → Between z t old new (suc i) (next_difference z old new i p).pen (run z (next_difference z old new i p).forms u)
+unfolding next_difference
+difference-next z t old new i p u ho hn l b =
+    let flagged = is_continued old.wrapped i && not p.lost in
+    let s = scene_of z t old new i flagged b.flags in
+    let done = row_difference s.job z.cols (afresh p) in
+    between-next z t old new i flagged p u b done.pen (run z done.forms u)
+    (subst (λ x. IsDrawn s done.pen (run z done.forms x)) (sym (here-is z t old new i flagged p u b))
+    (difference-leads s (afresh p) (scene-is z t old new i flagged p u b ho hn l refl)
+    (ready-is z t old new i flagged p u b refl)))
+
+pub differences : (z : Size) (t : Term) (old new : Shown) (p : Pen) (n : ℕ) → IsShown z old → IsDrawable z new
+    → IsProper p.attrs → p.erase ≡ None → n ≤ z.rows
+    → Between z t old new n (rows_difference z old new n p).pen
+    (run z (rows_difference z old new n p).forms (showing t old p))
+unfolding rows_difference skip
+differences z t old new p zero ho hn ha closed l = begun z t old new p ha closed
+differences z t old new p (suc n) ho hn ha closed l =
+    let f = rows_difference z old new n in
+    next-joined z t old new (suc n) f (next_difference z old new n) p (showing t old p)
+    (difference-next z t old new n (f p).pen (run z (f p).forms (showing t old p)) ho hn (omega arith)
+    (differences z t old new p n ho hn ha closed (omega arith)))
+
+blank-paired : IsPaired (λ k. default_cell)
+blank-paired = record { first = refl; next = λ k. refl; blank = λ k e. absurd (false≢true e) }
+
+pub blank-shown : (z : Size) → 0 < z.rows → 0 < z.cols → IsShown z blank_shown
+blank-shown z hr hc = record {
+  some_row = hr;
+  some_col = hc;
+  paired = λ r. blank-paired;
+  beyond = λ r k l. refl;
+  below = λ r k l. refl;
+  below_flag = λ r l. refl;
+  filled = λ r e. absurd (false≢true e);
+  last = refl;
+  in_rows = hr;
+  in_cols = omega arith;
+  saved_in_rows = hr;
+  saved_in_cols = omega arith;
+}
+
+none-flagged : (i : ℕ) (b : Bool) → false ≡ (is_continued (λ r. false) i && b)
+none-flagged zero b = refl
+none-flagged (suc i) b = refl
+
+redraw-next : (z : Size) (t : Term) (s : Shown) (i : ℕ) (p : Pen) (u : Term) → IsDrawable z s → i < z.rows
+    → Between z t blank_shown s i p u
+    → Between z t blank_shown s (suc i) (next_redraw z s i p).pen (run z (next_redraw z s i p).forms u)
+unfolding next_redraw
+redraw-next z t s i p u h l b =
+    let k = scene_of z t blank_shown s i false b.flags in
+    let done = row_redraw k.job z.cols (afresh p) in
+    let none = none-flagged i (not p.lost) in
+    between-next z t blank_shown s i false p u b done.pen (run z done.forms u)
+    (subst (λ x. IsDrawn k done.pen (run z done.forms x)) (sym (here-is z t blank_shown s i false p u b))
+    (redraw-leads k (afresh p)
+    (scene-is z t blank_shown s i false p u b (blank-shown z h.shown.some_row h.shown.some_col) h l none)
+    (ready-is z t blank_shown s i false p u b none) (λ c. refl) refl))
+
+redraws : (z : Size) (t : Term) (s : Shown) (p : Pen) (n : ℕ) → IsDrawable z s → IsProper p.attrs → p.erase ≡ None
+    → n ≤ z.rows
+    → Between z t blank_shown s n (rows_redraw z s n p).pen (run z (rows_redraw z s n p).forms
+    (showing t blank_shown p))
+unfolding rows_redraw skip
+redraws z t s p zero h ha closed l = begun z t blank_shown s p ha closed
+redraws z t s p (suc n) h ha closed l =
+    let f = rows_redraw z s n in
+    next-joined z t blank_shown s (suc n) f (next_redraw z s n) p (showing t blank_shown p)
+    (redraw-next z t s n (f p).pen (run z (f p).forms (showing t blank_shown p)) h (omega arith)
+    (redraws z t s p n h ha closed (omega arith)))
+
+-- ---- the last row is drawn
+
+pub record IsDone (t : Term) (s : Shown) (p : Pen) (u : Term) : Type 0 where
+  pub stands : u ≡ showing t s p
+  pub proper : IsProper p.attrs
+
+ended : (z : Size) (t : Term) (old new : Shown) (p : Pen) (u : Term) → IsShown z old → IsShown z new
+    → Between z t old new z.rows p u → IsDone t new p u
+ended z t old new p u ho hn b =
+    let cells : splice old.cell 0 z.rows new.cell ≡ new.cell = splice-whole old.cell z.rows new.cell
+    (λ r l. fun_ext (λ k. ho.below r k l ∙ sym (hn.below r k l))) in
+    let flags : splice old.wrapped 0 z.rows new.wrapped ≡ new.wrapped = splice-whole old.wrapped z.rows new.wrapped
+    (λ r l. ho.below_flag r l ∙ sym (hn.below_flag r l)) in
+    let off : is_continued new.wrapped z.rows ≡ false = continued-is new.wrapped z.rows hn.some_row ∙ hn.last in
+    let own : b.flags ≡ new.wrapped =
+    ap (λ c. cond c (update b.flags (z.rows - 1) true) b.flags) (sym off) ∙ b.flagged ∙ flags in
+    record {
+      stands = b.stands ∙ (λ i. at t (cells i) (own i) p.pos.row p.pos.col p.attrs);
+      proper = b.proper;
+    }
+
+pub difference-done : (z : Size) (t : Term) (old new : Shown) (p : Pen) → IsShown z old → IsDrawable z new
+    → IsProper p.attrs → p.erase ≡ None
+    → IsDone t new (rows_difference z old new z.rows p).pen
+    (run z (rows_difference z old new z.rows p).forms (showing t old p))
+difference-done z t old new p ho hn ha closed =
+    ended z t old new _ _ ho hn.shown (differences z t old new p z.rows ho hn ha closed (omega arith))
+
+pub redraw-done : (z : Size) (t : Term) (s : Shown) (p : Pen) → IsDrawable z s → IsProper p.attrs → p.erase ≡ None
+    → IsDone t s (rows_redraw z s z.rows p).pen (run z (rows_redraw z s z.rows p).forms (showing t blank_shown p))
+redraw-done z t s p h ha closed =
+    ended z t blank_shown s _ _ (blank-shown z h.shown.some_row h.shown.some_col) h.shown
+    (redraws z t s p z.rows h ha closed (omega arith))
+
+pub rows-redraw_lead : EachRowsRedrawLeads
+rows-redraw_lead z t s p h ha closed = (redraw-done z t s p h ha closed).stands
+
+pub rows-difference_lead : EachRowsDifferenceLeads
+rows-difference_lead z t old new p ho hn ha closed = (difference-done z t old new p ho hn ha closed).stands

@@ -1,0 +1,70 @@
+-- How the cursor comes to its place on a screen whose rows are drawn.
+--
+-- A cursor waits behind the last column once a character is printed there. So the last cell of the row is printed
+-- again; where it has no text, that of the nearest row above which has one, and the cursor goes down from there; where
+-- no row has one, a space is printed, and erased again while the cursor is saved.
+use Rattle.std.specs.Prelude.{ℕ, zero, suc, ◌-◌, ◌==◌, ◌&&◌, Bool, false, nat_lt, List, [], ◌∷◌, ◌++◌, replicate}
+use Rattle.std.specs.Prelude.{Option, Some, None, if◌then◌else◌}
+use Rattle.vt100_forms.specs.declared.attrs.Attrs.{Attrs}
+use Rattle.vt100_forms.specs.declared.position.Pos.{Pos}
+use Rattle.vt100_forms.specs.Form.{Form, Text, MoveTo, EraseChar, Lf, Backspace, SaveCursor, RestoreCursor, change}
+use Rattle.vt100_forms.specs.Form.{moves}
+use Rattle.vt100_cells.specs.Cell.{CellView, has_text}
+use Rattle.terminal_model.specs.Term.{Size, Shown}
+
+abbrev pub place : ℕ → ℕ → Pos
+place row col = record { row = row; col = col }
+
+-- the form, at most one, that takes the cursor to q: from p, or from a place that isn't known
+abbrev pub arriving : Option Pos → Pos → List Form
+arriving None q = MoveTo q.row q.col ∷ []
+arriving (Some p) q = moves p q
+
+abbrev pub is_at : Option Pos → Pos → Bool
+is_at None q = false
+is_at (Some p) q = (p.row == q.row) && (p.col == q.col)
+
+-- ---- the last cell of a row
+
+-- its column, or that of its first half
+abbrev pub last_col : Size → Shown → ℕ → ℕ
+last_col z s r = if (s.cell r (z.cols - 1)).continuation then z.cols - 2 else z.cols - 1
+
+abbrev pub last_cell : Size → Shown → ℕ → CellView
+last_cell z s r = s.cell r (last_col z s r)
+
+-- the nearest row whose last cell has a text, from row r on upwards
+abbrev pub row_with_end : Size → Shown → ℕ → Option ℕ
+row_with_end z s zero = if has_text (last_cell z s 0) then Some 0 else None
+row_with_end z s (suc r) = if has_text (last_cell z s (suc r)) then Some (suc r) else row_with_end z s r
+
+-- ---- the cursor waits at the end of a row
+
+-- the cell is printed, and the attributes a come back
+abbrev pub printed_with : Attrs → CellView → List Form
+printed_with a x = change a x.attrs ++ (Text x.text ∷ change x.attrs a)
+
+-- at the end of row r, whose last cell has a text
+unfoldable pub wait_behind : Size → Shown → Option Pos → Attrs → ℕ → List Form
+wait_behind z s p a r =
+    if is_at p (place r z.cols) then []
+    else arriving p (place r (last_col z s r)) ++ printed_with a (last_cell z s r)
+
+-- at the end of row r, where the cell x in the last column is empty
+unfoldable pub wait_on_empty : Size → Option Pos → Attrs → ℕ → CellView → List Form
+wait_on_empty z p a r x =
+    arriving p (place r (z.cols - 1)) ++ Text (32 ∷ [])
+    ∷ (change a x.attrs ++ SaveCursor ∷ Backspace ∷ EraseChar 1 ∷ RestoreCursor ∷ change x.attrs a)
+
+unfoldable pub wait : Size → Shown → Option Pos → Attrs → Option ℕ → List Form
+wait z s p a (Some r) = wait_behind z s p a r ++ replicate (s.row - r) Lf
+wait z s p a None = wait_on_empty z p a s.row (s.cell s.row (z.cols - 1))
+
+-- ---- the cursor
+
+-- from p, if it is known, to the cursor of s, where the terminal draws with the attributes a
+unfoldable pub cursor_position_formatted : Size → Shown → Option Pos → Attrs → List Form
+cursor_position_formatted z s p a =
+    if nat_lt s.col z.cols then arriving p (place s.row s.col)
+    else if is_at p (place s.row s.col) then []
+    else wait z s p a (row_with_end z s s.row)

@@ -1,0 +1,17 @@
+pub mod Cursor
+pub mod Examples
+pub mod Laws
+pub mod Length
+pub mod Local
+pub mod LocalExamples
+pub mod Modes
+pub mod Rows
+pub mod Screen
+pub use Rattle.vt100_forms.specs.Attrs
+pub use Rattle.vt100_forms.specs.Form
+pub use Rattle.vt100_forms.specs.Mark
+pub use Rattle.vt100_cells.specs.Cell
+pub use Rattle.vt100_cells.specs.Line
+pub use Rattle.terminal_model.specs.Position
+pub use Rattle.terminal_model.specs.Term
+pub use Rattle.terminal_model.specs.Apply

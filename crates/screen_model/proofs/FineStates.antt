@@ -1,0 +1,385 @@
+-- What is true of each terminal that shows no kept row stays true, step by step.
+use Rattle.std.proofs.Common.{◌≡◌, ◌∙◌, ℕ, zero, suc, ◌+◌, ◌-◌, ◌^◌, ◌<◌, Bool, true, false, not, Option}
+use Rattle.std.proofs.Common.{Some, None, min, ap, arith, refl, sym, subst, if◌then◌else◌}
+use Rattle.std.specs.Char.{IsScalar}
+use Rattle.std.proofs.lemmas.Bool.{cond_both, false≢true}
+use Rattle.vt100_forms.specs.Attrs.{IsProper}
+use Rattle.vt100_forms.proofs.AttrsLemmas.{default-proper}
+use Rattle.vt100_rows.specs.Sheet.{row_at}
+use Rattle.vt100_core.specs.Grid.{GridView, IsAllocated, new_grid, allocated, cleared}
+use Rattle.vt100_core.specs.declared.scrollback.Scrollback.TheVariants.{Disabled, Enabled}
+use Rattle.vt100_core.specs.declared.printed.Printed.{Printed}
+use Rattle.vt100_core.specs.declared.printed.Printed.TheVariants.{Nothing, Spacing, Joined}
+use Rattle.vt100_core.specs.Cursor.{tab_stop}
+use Rattle.vt100_core.specs.Scroll.{scrollback_shown}
+use Rattle.vt100_core.specs.Text.{printed}
+use Rattle.vt100_core.proofs.EraseLemmas.{columns_to_cursor-fit}
+use Rattle.screen_model.specs.State.{State, IsState, IsProperSheet, main_sheet, alternate_sheet, fresh_state}
+use Rattle.screen_model.specs.Step.{Stepped, with_shown, last_after, typed, typed_times}
+use Rattle.screen_model.specs.Step.{repeated_last, repeated, moved_left, moved_right, tabbed, at_column, at_row}
+use Rattle.screen_model.specs.Step.{at_place}
+use Rattle.screen_model.specs.Step.{moved_up, moved_down, line_above, line_below, line_fed, line_fed_back, in_region}
+use Rattle.screen_model.specs.Step.{saved, restored, erased_below, erased_above, erased_all, erased_kept, erased_right}
+use Rattle.screen_model.specs.Step.{erased_left, erased_row, cells_erased, cells_added, cells_taken, lines_added}
+use Rattle.screen_model.specs.Step.{lines_taken, region_up, region_down, with_origin_mode, alternate_shown, main_shown}
+use Rattle.screen_model.specs.Step.{alternate_cleared, alternate_entered, alternate_left, made_anew, resized_to}
+use Rattle.screen_model.proofs.CleanRows.{IsKnown, sound, clean-cell, clean-row}
+use Rattle.screen_model.proofs.FineGrids.{Limits, IsFine, IsDrawn, drawn-col, drawn-row, drawn-cursor_at}
+use Rattle.screen_model.proofs.FineGrids.{drawn-origin, drawn-saved, drawn-restored, drawn-region, drawn-down, drawn-up}
+use Rattle.screen_model.proofs.FineGrids.{drawn-fed_up, drawn-fed, drawn-scrolled_up, drawn-all_erased}
+use Rattle.screen_model.proofs.FineGrids.{drawn-all_erased_forward, drawn-all_erased_backward, drawn-row_erased}
+use Rattle.screen_model.proofs.FineGrids.{drawn-columns_erased, drawn-cells_inserted, drawn-cells_deleted}
+use Rattle.screen_model.proofs.FineGrids.{drawn-lines_inserted, drawn-lines_deleted, drawn-scrolled_down}
+use Rattle.screen_model.proofs.FineTexts.{drawn-printed}
+use Rattle.screen_model.proofs.FineSizes.{new-fine, drawn-allocated, fine-cleared, drawn-cleared, none-shown}
+use Rattle.screen_model.proofs.FineSizes.{drawn-none_kept, fine-resized, some-resized}
+use Rattle.screen_model.proofs.StateLemmas.{state_whole}
+
+-- a terminal's size, and how many rows it keeps
+pub record Bounds : Type 0 where
+  pub height : ℕ
+  pub width : ℕ
+  pub capacity : ℕ
+
+pub record AreBounds (b : Bounds) : Type 0 where
+  pub some_rows : 0 < b.height
+  pub few_rows : b.height < 2 ^ 16
+  pub some_cols : 0 < b.width
+  pub few_cols : b.width < 2 ^ 16
+  pub few : b.capacity < 2 ^ 64
+
+-- those of its main sheet, and of its alternate one
+abbrev pub limits : Bounds → Bool → Limits
+limits b alternate = record {
+  height = b.height;
+  width = b.width;
+  keeps = not alternate;
+  capacity = if alternate then 0 else b.capacity;
+}
+
+pub record IsWell (b : Bounds) (s : State) : Type 0 where
+  pub bounds : AreBounds b
+  pub shown : IsDrawn (limits b s.alternate) s.shown
+  pub other : IsFine (limits b (not s.alternate)) s.other
+  pub main : s.alternate ≡ true → IsAllocated s.other
+  pub attrs : IsProper s.attrs
+  pub saved_attrs : IsProper s.saved_attrs
+  pub last : (c : ℕ) → s.last ≡ Some c → IsScalar c × IsKnown c
+
+not-not : (b c : Bool) → b ≡ not c → not b ≡ c
+not-not b true e = ap not e
+not-not b false e = ap not e
+
+fine-proper : (l : Limits) (g : GridView) → IsFine l g → IsProperSheet g
+fine-proper l g d = record {
+  drawn = λ r k. (clean-cell sound (row_at g.rows r) (clean-row sound g.rows d.rows r) k).attrs;
+  kept = λ r k. (clean-cell sound (row_at g.kept.rows r) (clean-row sound g.kept.rows d.kept r) k).attrs;
+}
+
+pub is-state : (b : Bounds) (s : State) → IsWell b s → IsState s
+is-state b s w =
+    state_whole s w.shown.some w.main (w.other.height ∙ sym w.shown.fine.height)
+    (w.other.width ∙ sym w.shown.fine.width) w.shown.fine.keeps (w.other.keeps ∙ not-not
+    (not s.alternate) s.alternate refl)
+    w.attrs w.saved_attrs (fine-proper _ s.shown w.shown.fine) (fine-proper _ s.other w.other)
+    w.shown.fine.grid w.other.grid
+
+-- ---- the shown sheet
+
+pub well-shown : (b : Bounds) (s : State) (g : GridView) → IsWell b s → IsDrawn (limits b s.alternate) g
+    → IsWell b (with_shown s g)
+well-shown b s g w d = record {
+  bounds = w.bounds;
+  shown = d;
+  other = w.other;
+  main = w.main;
+  attrs = w.attrs;
+  saved_attrs = w.saved_attrs;
+  last = w.last;
+}
+
+abbrev pub Keeps : (State → State) → Type 0
+Keeps f = (b : Bounds) (s : State) → IsWell b s → IsWell b (f s)
+
+abbrev pub KeepsStepped : (State → Stepped) → Type 0
+KeepsStepped f = Keeps (λ s. (f s).state)
+
+-- ---- text
+
+some-same : (c d : ℕ) → Some c ≡ Some d → c ≡ d
+some-same c d e = cc
+
+last-kept : (p : Printed) (c : ℕ) (last : Option ℕ) → IsScalar c → IsKnown c
+    → ((d : ℕ) → last ≡ Some d → IsScalar d × IsKnown d)
+    → (d : ℕ) → last_after p c last ≡ Some d → IsScalar d × IsKnown d
+last-kept Nothing c last s k h d e = h d e
+last-kept Spacing c last s k h d e = let same = some-same c d e in (subst IsScalar same s, subst IsKnown same k)
+last-kept Joined c last s k h d e = h d e
+
+pub well-typed : (c : ℕ) → IsScalar c → IsKnown c → KeepsStepped (typed c)
+well-typed c scalar known b s w = record {
+  bounds = w.bounds;
+  shown = drawn-printed (limits b s.alternate) s.shown c s.attrs w.shown scalar known w.attrs;
+  other = w.other;
+  main = w.main;
+  attrs = w.attrs;
+  saved_attrs = w.saved_attrs;
+  last = last-kept (printed s.shown c s.attrs).printed c s.last scalar known w.last;
+}
+
+typed-times : (n c : ℕ) → IsScalar c → IsKnown c → KeepsStepped (typed_times n c)
+typed-times zero c scalar known b s w = w
+typed-times (suc n) c scalar known b s w =
+    well-typed c scalar known b (typed_times n c s).state (typed-times n c scalar known b s w)
+
+typed-last : (o : Option ℕ) (n : ℕ) → ((c : ℕ) → o ≡ Some c → IsScalar c × IsKnown c) → KeepsStepped (repeated_last o n)
+typed-last None n h b s w = w
+typed-last (Some c) n h b s w = let is = h c refl in typed-times n c is.0 is.1 b s w
+
+pub well-repeated : (n : ℕ) → KeepsStepped (repeated n)
+well-repeated n b s w = typed-last s.last n w.last b s w
+
+-- ---- the cursor
+
+pub well-moved_left : (n : ℕ) → Keeps (moved_left n)
+well-moved_left n b s w =
+    well-shown b s _ w (drawn-col (limits b s.alternate) s.shown (s.shown.col - n)
+    (omega (arith, w.shown.fine.grid.cursor_col)) w.shown)
+
+pub well-moved_right : (n : ℕ) → Keeps (moved_right n)
+well-moved_right n b s w =
+    well-shown b s _ w (drawn-col (limits b s.alternate) s.shown (min (s.shown.col + n) (s.shown.width - 1))
+    (omega arith) w.shown)
+
+pub well-tabbed : Keeps tabbed
+well-tabbed b s w =
+    well-shown b s _ w (drawn-col (limits b s.alternate) s.shown (tab_stop s.shown) (omega arith) w.shown)
+
+pub well-at_column : (n : ℕ) → Keeps (at_column n)
+well-at_column n b s w =
+    well-shown b s _ w (drawn-col (limits b s.alternate) s.shown (min n (s.shown.width - 1)) (omega arith) w.shown)
+
+pub well-at_row : (n : ℕ) → Keeps (at_row n)
+well-at_row n b s w =
+    well-shown b s _ w (drawn-row (limits b s.alternate) s.shown (min n (s.shown.height - 1))
+    (omega (arith, w.shown.fine.grid.some_rows)) w.shown)
+
+pub well-at_place : (row col : ℕ) → Keeps (at_place row col)
+well-at_place row col b s w = well-shown b s _ w (drawn-cursor_at (limits b s.alternate) s.shown row col w.shown)
+
+pub well-moved_up : (n : ℕ) → Keeps (moved_up n)
+well-moved_up n b s w = well-shown b s _ w (drawn-up (limits b s.alternate) s.shown n w.shown)
+
+pub well-moved_down : (n : ℕ) → Keeps (moved_down n)
+well-moved_down n b s w = well-shown b s _ w (drawn-down (limits b s.alternate) s.shown n w.shown)
+
+pub well-line_above : (n : ℕ) → Keeps (line_above n)
+well-line_above n b s w = well-moved_up n b (at_column 0 s) (well-at_column 0 b s w)
+
+pub well-line_below : (n : ℕ) → Keeps (line_below n)
+well-line_below n b s w = well-moved_down n b (at_column 0 s) (well-at_column 0 b s w)
+
+pub well-line_fed : KeepsStepped line_fed
+well-line_fed b s w = well-shown b s _ w (drawn-fed (limits b s.alternate) s.shown 1 w.shown)
+
+pub well-line_fed_back : Keeps line_fed_back
+well-line_fed_back b s w = well-shown b s _ w (drawn-fed_up (limits b s.alternate) s.shown 1 w.shown)
+
+pub well-in_region : (top bottom : ℕ) → Keeps (in_region top bottom)
+well-in_region top bottom b s w = well-shown b s _ w (drawn-region (limits b s.alternate) s.shown top bottom w.shown)
+
+pub well-saved : Keeps saved
+well-saved b s w = record {
+  bounds = w.bounds;
+  shown = drawn-saved (limits b s.alternate) s.shown w.shown;
+  other = w.other;
+  main = w.main;
+  attrs = w.attrs;
+  saved_attrs = w.attrs;
+  last = w.last;
+}
+
+pub well-restored : Keeps restored
+well-restored b s w = record {
+  bounds = w.bounds;
+  shown = drawn-restored (limits b s.alternate) s.shown w.shown;
+  other = w.other;
+  main = w.main;
+  attrs = w.saved_attrs;
+  saved_attrs = w.saved_attrs;
+  last = w.last;
+}
+
+-- ---- erasing, and cells and lines that come in and go
+
+pub well-erased_below : Keeps erased_below
+well-erased_below b s w =
+    well-shown b s _ w (drawn-all_erased_forward (limits b s.alternate) s.shown s.attrs w.attrs w.shown)
+
+pub well-erased_above : Keeps erased_above
+well-erased_above b s w =
+    well-shown b s _ w (drawn-all_erased_backward (limits b s.alternate) s.shown s.attrs w.attrs w.shown)
+
+pub well-erased_all : Keeps erased_all
+well-erased_all b s w = well-shown b s _ w (drawn-all_erased (limits b s.alternate) s.shown s.attrs w.attrs w.shown)
+
+pub well-erased_kept : KeepsStepped erased_kept
+well-erased_kept b s w = well-shown b s _ w (drawn-none_kept (limits b s.alternate) s.shown w.shown)
+
+pub well-erased_right : Keeps erased_right
+well-erased_right b s w =
+    well-shown b s _ w (drawn-columns_erased (limits b s.alternate) s.shown s.shown.col s.shown.width s.attrs
+    w.attrs (omega arith) w.shown)
+
+pub well-erased_left : Keeps erased_left
+well-erased_left b s w =
+    well-shown b s _ w (drawn-columns_erased (limits b s.alternate) s.shown 0 _ s.attrs w.attrs
+    (columns_to_cursor-fit s.shown w.shown.fine.grid) w.shown)
+
+pub well-erased_row : Keeps erased_row
+well-erased_row b s w = well-shown b s _ w (drawn-row_erased (limits b s.alternate) s.shown s.attrs w.attrs w.shown)
+
+pub well-cells_erased : (n : ℕ) → Keeps (cells_erased n)
+well-cells_erased n b s w =
+    well-shown b s _ w (drawn-columns_erased (limits b s.alternate) s.shown s.shown.col
+    (min (s.shown.col + n) s.shown.width) s.attrs w.attrs (omega arith) w.shown)
+
+pub well-cells_added : (n : ℕ) → Keeps (cells_added n)
+well-cells_added n b s w = well-shown b s _ w (drawn-cells_inserted (limits b s.alternate) s.shown n w.shown)
+
+pub well-cells_taken : (n : ℕ) → Keeps (cells_taken n)
+well-cells_taken n b s w = well-shown b s _ w (drawn-cells_deleted (limits b s.alternate) s.shown n w.shown)
+
+pub well-lines_added : (n : ℕ) → Keeps (lines_added n)
+well-lines_added n b s w = well-shown b s _ w (drawn-lines_inserted (limits b s.alternate) s.shown n w.shown)
+
+pub well-lines_taken : (n : ℕ) → Keeps (lines_taken n)
+well-lines_taken n b s w = well-shown b s _ w (drawn-lines_deleted (limits b s.alternate) s.shown n w.shown)
+
+pub well-region_up : (n : ℕ) → KeepsStepped (region_up n)
+well-region_up n b s w = well-shown b s _ w (drawn-scrolled_up (limits b s.alternate) s.shown n w.shown)
+
+pub well-region_down : (n : ℕ) → Keeps (region_down n)
+well-region_down n b s w = well-shown b s _ w (drawn-scrolled_down (limits b s.alternate) s.shown n w.shown)
+
+pub well-origin : (mode : Bool) → Keeps (with_origin_mode mode)
+well-origin mode b s w = well-shown b s _ w (drawn-origin (limits b s.alternate) s.shown mode w.shown)
+
+-- ---- the alternate sheet
+
+fine-as : (b : Bounds) (p q : Bool) (g : GridView) → p ≡ q → IsFine (limits b p) g → IsFine (limits b q) g
+fine-as b p q g e h = subst (λ x. IsFine (limits b x) g) e h
+
+pub well-alternate_shown : Keeps alternate_shown
+well-alternate_shown b s w =
+    let back = sym (none-shown s.shown w.shown.fine.hidden) in
+    let here : IsDrawn (limits b s.alternate) (scrollback_shown s.shown 0) =
+    subst (λ g. IsDrawn (limits b s.alternate) g) back w.shown in
+    cond_both s.alternate (with_shown s (scrollback_shown s.shown 0))
+    (record s { shown = allocated s.other; other = scrollback_shown s.shown 0; alternate = true }) (λ t. IsWell b t)
+    (λ _. well-shown b s (scrollback_shown s.shown 0) w here)
+    (λ e. record {
+      bounds = w.bounds;
+      shown = drawn-allocated (limits b true) s.other (fine-as b (not s.alternate) true s.other (ap not e) w.other);
+      other = fine-as b s.alternate false (scrollback_shown s.shown 0) e here.fine;
+      main = λ _. here.some;
+      attrs = w.attrs;
+      saved_attrs = w.saved_attrs;
+      last = w.last;
+    })
+
+pub well-main_shown : Keeps main_shown
+well-main_shown b s w =
+    cond_both s.alternate (record s { shown = s.other; other = s.shown; alternate = false }) s (λ t. IsWell b t)
+    (λ e. record {
+      bounds = w.bounds;
+      shown = record { fine = fine-as b (not s.alternate) false s.other (ap not e) w.other; some = w.main e };
+      other = fine-as b s.alternate true s.shown e w.shown.fine;
+      main = λ t. absurd (false≢true t);
+      attrs = w.attrs;
+      saved_attrs = w.saved_attrs;
+      last = w.last;
+    })
+    (λ _. w)
+
+well-alternate_cleared : Keeps alternate_cleared
+well-alternate_cleared b s w =
+    cond_both s.alternate (with_shown s (cleared s.shown)) (record s { other = cleared s.other }) (λ t. IsWell b t)
+    (λ _. well-shown b s (cleared s.shown) w (drawn-cleared (limits b s.alternate) s.shown w.shown))
+    (λ e. record {
+      bounds = w.bounds;
+      shown = w.shown;
+      other = fine-cleared (limits b (not s.alternate)) s.other w.other;
+      main = λ t. absurd (false≢true (sym e ∙ t));
+      attrs = w.attrs;
+      saved_attrs = w.saved_attrs;
+      last = w.last;
+    })
+
+pub well-alternate_entered : Keeps alternate_entered
+well-alternate_entered b s w =
+    well-alternate_shown b (alternate_cleared (saved s)) (well-alternate_cleared b (saved s) (well-saved b s w))
+
+pub well-alternate_left : Keeps alternate_left
+well-alternate_left b s w = well-restored b (main_shown s) (well-main_shown b s w)
+
+-- ---- whole screens
+
+none-some : (c : ℕ) → None ≡ Some c → ⊥
+none-some c e = cc
+
+pub well-fresh : (b : Bounds) → AreBounds b → IsWell b (fresh_state b.height b.width b.capacity)
+well-fresh b a = record {
+  bounds = a;
+  shown = drawn-allocated (limits b false) (new_grid b.height b.width (Enabled b.capacity))
+      (new-fine b.height b.width (Enabled b.capacity) a.some_rows a.few_rows a.some_cols a.few_cols a.few);
+  other = new-fine b.height b.width Disabled a.some_rows a.few_rows a.some_cols a.few_cols (omega arith);
+  main = λ e. absurd (false≢true e);
+  attrs = default-proper;
+  saved_attrs = default-proper;
+  last = λ c e. absurd (none-some c e);
+}
+
+pub main-fine : (b : Bounds) (s : State) → IsWell b s → IsFine (limits b false) (main_sheet s)
+main-fine b s w =
+    cond_both s.alternate s.other s.shown (λ g. IsFine (limits b false) g)
+    (λ e. fine-as b (not s.alternate) false s.other (ap not e) w.other)
+    (λ e. fine-as b s.alternate false s.shown e w.shown.fine)
+
+pub alternate-fine : (b : Bounds) (s : State) → IsWell b s → IsFine (limits b true) (alternate_sheet s)
+alternate-fine b s w =
+    cond_both s.alternate s.shown s.other (λ g. IsFine (limits b true) g)
+    (λ e. fine-as b s.alternate true s.shown e w.shown.fine)
+    (λ e. fine-as b (not s.alternate) true s.other (ap not e) w.other)
+
+pub well-made_anew : Keeps made_anew
+well-made_anew b s w =
+    let m = main-fine b s w in
+    let g = main_sheet s in
+    let same : fresh_state b.height b.width b.capacity ≡ fresh_state g.height g.width g.kept.capacity =
+    ap (λ n. fresh_state n b.width b.capacity) (sym m.height)
+    ∙ ap (λ n. fresh_state g.height n b.capacity) (sym m.width)
+    ∙ ap (λ n. fresh_state g.height g.width n) (sym m.capacity) in
+    subst (λ t. IsWell b t) same (well-fresh b w.bounds)
+
+pub well-resized : (b : Bounds) (s : State) (height width : ℕ) → IsWell b s → 0 < height → height < 2 ^ 16 → 0 < width
+    → width < 2 ^ 16 → IsWell (record b { height = height; width = width }) (resized_to height width s).state
+well-resized b s height width w some_rows few_rows some_cols few_cols = record {
+  bounds = record {
+    some_rows = some_rows;
+    few_rows = few_rows;
+    some_cols = some_cols;
+    few_cols = few_cols;
+    few = w.bounds.few;
+  };
+  shown = record {
+    fine = fine-resized (limits b s.alternate) s.shown height width w.shown.fine some_rows few_rows some_cols few_cols;
+    some = some-resized (limits b s.alternate) s.shown height width w.shown some_rows;
+  };
+  other = fine-resized (limits b (not s.alternate)) s.other height width w.other some_rows few_rows some_cols few_cols;
+  main = λ e. some-resized (limits b (not s.alternate)) s.other height width
+      (record { fine = w.other; some = w.main e }) some_rows;
+  attrs = w.attrs;
+  saved_attrs = w.saved_attrs;
+  last = w.last;
+}

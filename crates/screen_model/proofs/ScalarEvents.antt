@@ -1,0 +1,367 @@
+-- Each character that the events of a byte stream print is a Unicode scalar value.
+use Rattle.std.proofs.Common.{◌≡◌, ◌∙◌, ℕ, zero, suc, ◌+◌, ◌-◌, ◌*◌, ◌<◌, ◌≤◌, ◌==◌, Bool, true, false, cond, ◌&&◌}
+use Rattle.std.proofs.Common.{◌||◌, not, List, [], ◌∷◌, ◌++◌, length, take, map, refl, sym, ap, arith, subst, ⊎_elim}
+use Rattle.std.proofs.Common.{nat_lt, All, ◌⊎◌, inl, inr}
+use Rattle.std.specs.Char.{IsScalar}
+use Rattle.std.specs.Int.{is_in_range}
+use Rattle.std.specs.List.{filter}
+use Rattle.std.proofs.lemmas.Bool.{cond_both, cases_Bool, cases_lt, eqb-true}
+use Rattle.std.proofs.lemmas.Bool.Decides.{nat_tests}
+use Rattle.std.proofs.lemmas.List.Elements.{All-nil, All-cons, All-append, All-map, All-drop}
+use Rattle.vte_core.specs.Event.{Event, Print, Execute, Hook, Put, Unhook, Osc, Csi, Esc}
+use Rattle.vte_core.specs.Bytes.{is_abort, is_control, is_intermediate, is_header, ends_header, ends_escape, ends_osc}
+use Rattle.vte_core.specs.Bytes.{ends_device, is_put}
+use Rattle.vte_core.specs.Header.{is_well_formed, kept_groups, kept_intermediates, overflows}
+use Rattle.vte_core.specs.Text.{char_len, second_min, second_max, tail_len, front_len, first_bits, joined, char_event}
+use Rattle.vte_core.specs.Text.{malformed_event, front_event, text_after, text}
+use Rattle.vte_core.specs.Shapes.{before, from, executed, aborted, swallowed_end, swallowed, device_end, device}
+use Rattle.vte_core.specs.Shapes.{hook_end}
+use Rattle.vte_core.specs.Shapes.{hook, csi_end, csi, osc_pieces, osc_end, osc, introduced, escape_end, escape}
+use Rattle.vte_core.specs.Shapes.{cut_at_esc, segments, events}
+use Rattle.screen_model.specs.Made.{events_added}
+
+abbrev pub IsTold : Event → Type 0
+IsTold (Print c) = IsScalar c
+IsTold (Execute b) = Unit {0}
+IsTold (Hook gs ms ignore b) = Unit {0}
+IsTold (Put b) = Unit {0}
+IsTold Unhook = Unit {0}
+IsTold (Osc ps bell) = Unit {0}
+IsTold (Csi gs ms ignore b) = Unit {0}
+IsTold (Esc ms ignore b) = Unit {0}
+
+abbrev Told : List Event → Type 0
+Told es = All IsTold es
+
+none : Told []
+none = All-nil IsTold
+
+-- an event that prints nothing, and others
+then-more : (e : Event) (es : List Event) → IsTold e → Told es → Told (e ∷ es)
+then-more e es p h = All-cons IsTold e es p h
+
+one : (e : Event) → IsTold e → Told (e ∷ [])
+one e p = then-more e [] p none
+
+joined-told : (es fs : List Event) → Told es → Told fs → Told (es ++ fs)
+joined-told es fs p q = All-append IsTold es fs p q
+
+if-told : (b : Bool) (es fs : List Event) → Told es → Told fs → Told (cond b es fs)
+if-told b es fs p q = cond_both b es fs (λ (xs : List Event). Told xs) (λ _. p) (λ _. q)
+
+-- ---- the number that well-formed bytes spell
+
+low : (c : ℕ) → c < 0xD800 → IsScalar c
+low c h = grind (arith, nat_tests)
+
+high : (c : ℕ) → 0xE000 ≤ c → c < 0x110000 → IsScalar c
+high c h l = grind (arith, nat_tests)
+
+record Tail (k lo hi : ℕ) (bs : List ℕ) : Type 0 where
+  pub b : ℕ
+  pub rest : List ℕ
+  pub is : bs ≡ b ∷ rest
+  pub least : lo ≤ b
+  pub most : b ≤ hi
+  pub more : tail_len k 0x80 0xBF rest ≡ k
+
+in-least : (lo hi b : ℕ) → is_in_range lo hi b ≡ true → lo ≤ b
+in-least lo hi b e = grind (arith, nat_tests)
+
+in-most : (lo hi b : ℕ) → is_in_range lo hi b ≡ true → b ≤ hi
+in-most lo hi b e = grind (arith, nat_tests)
+
+in-range : (lo hi b : ℕ) → is_in_range lo hi b ≡ true → (lo ≤ b) × (b ≤ hi)
+in-range lo hi b e = (in-least lo hi b e, in-most lo hi b e)
+
+tail-first : (k lo hi : ℕ) (bs : List ℕ) → tail_len (suc k) lo hi bs ≡ suc k → Tail k lo hi bs
+tail-first k lo hi [] e = absurd (omega (arith, e))
+tail-first k lo hi (b ∷ bs) e =
+    cond_both (is_in_range lo hi b) (suc (tail_len k 0x80 0xBF bs)) 0 (λ n. n ≡ suc k → Tail k lo hi (b ∷ bs))
+    (λ t q. let is = in-range lo hi b t in
+    record { b = b; rest = bs; is = refl; least = is.0; most = is.1; more = omega (arith, q) })
+    (λ _ q. absurd (omega (arith, q))) e
+
+-- by the number of bytes
+spelled : ℕ → ℕ → List ℕ → ℕ
+spelled a n bs = joined (first_bits a) (take (n - 1) bs)
+
+Whole : ℕ → ℕ → Type 0
+Whole a n = (bs : List ℕ) → tail_len (n - 1) (second_min a) (second_max a) bs ≡ n - 1
+    → IsScalar (joined (first_bits a) (take (n - 1) bs))
+
+whole-one : (a : ℕ) → a < 0x80 → Whole a 1
+unfolding Whole
+whole-one a h bs e = low (first_bits a) (grind (arith, nat_tests))
+
+bits-two : (a : ℕ) → 0xC2 ≤ a → a ≤ 0xDF → first_bits a ≡ a - 0xC0
+bits-two a h l = grind (arith, nat_tests)
+
+bits-three : (a : ℕ) → 0xE0 ≤ a → a ≤ 0xEF → first_bits a ≡ a - 0xE0
+bits-three a h l = grind (arith, nat_tests)
+
+bits-four : (a : ℕ) → 0xF0 ≤ a → a ≤ 0xF4 → first_bits a ≡ a - 0xF0
+bits-four a h l = grind (arith, nat_tests)
+
+least : (a : ℕ) → 0x80 ≤ second_min a
+least a = grind (arith, nat_tests)
+
+least-four : (a : ℕ) → a ≡ 0xF0 → 0x90 ≤ second_min a
+least-four a e = grind (arith, nat_tests)
+
+most : (a : ℕ) → second_max a ≤ 0xBF
+most a = grind (arith, nat_tests)
+
+most-three : (a : ℕ) → a ≡ 0xED → second_max a ≤ 0x9F
+most-three a e = grind (arith, nat_tests)
+
+most-four : (a : ℕ) → a ≡ 0xF4 → second_max a ≤ 0x8F
+most-four a e = grind (arith, nat_tests)
+
+whole-two : (a : ℕ) → 0xC2 ≤ a → a ≤ 0xDF → Whole a 2
+unfolding Whole
+whole-two a h l bs e =
+    let t = tail-first 0 (second_min a) (second_max a) bs e in
+    let x = first_bits a in
+    subst (λ xs. IsScalar (joined x (take 1 xs))) (sym t.is)
+    (low (x * 64 + (t.b - 128)) (omega (arith, bits-two a h l, t.most, most a)))
+
+three-is : (x b c : ℕ) → ((x < 13) ⊎ ((x ≡ 13) × (b ≤ 0x9F))) ⊎ (14 ≤ x) → x ≤ 15 → b ≤ 0xBF → c ≤ 0xBF → 0x80 ≤ b
+    → IsScalar ((x * 64 + (b - 128)) * 64 + (c - 128))
+three-is x b c (inl (inl h)) l p q r = low ((x * 64 + (b - 128)) * 64 + (c - 128)) (omega (arith, h, p, q))
+three-is x b c (inl (inr (e, h))) l p q r = low ((x * 64 + (b - 128)) * 64 + (c - 128)) (omega (arith, e, h, q))
+three-is x b c (inr h) l p q r = high ((x * 64 + (b - 128)) * 64 + (c - 128)) (omega (arith, h)) (omega
+    (arith, l, p, q))
+
+which-three : (a b : ℕ) → 0xE0 ≤ a → b ≤ second_max a
+    → ((a - 0xE0 < 13) ⊎ ((a - 0xE0 ≡ 13) × (b ≤ 0x9F))) ⊎ (14 ≤ a - 0xE0)
+which-three a b h m =
+    ⊎_elim (λ (l : a - 0xE0 < 13). inl (inl l))
+    (λ (l : 13 ≤ a - 0xE0). ⊎_elim (λ (k : 13 < a - 0xE0). inr (omega (arith, k)))
+    (λ (k : a - 0xE0 ≤ 13). let e : a ≡ 0xED = omega (arith, h, l, k) in
+    inl (inr (omega (arith, e), omega (arith, m, most-three a e))))
+    (cases_lt 13 (a - 0xE0)))
+    (cases_lt (a - 0xE0) 13)
+
+whole-three : (a : ℕ) → 0xE0 ≤ a → a ≤ 0xEF → Whole a 3
+unfolding Whole
+whole-three a h l bs e =
+    let t = tail-first 1 (second_min a) (second_max a) bs e in
+    let u = tail-first 0 0x80 0xBF t.rest t.more in
+    let x = first_bits a in
+    let same = bits-three a h l in
+    let is = three-is (a - 0xE0) t.b u.b (which-three a t.b h t.most) (omega (arith, l)) (omega (arith, t.most, most a))
+    u.most (omega (arith, t.least, least a)) in
+    subst (λ xs. IsScalar (joined x (take 2 xs))) (sym t.is)
+    (subst (λ xs. IsScalar (joined (x * 64 + (t.b - 128)) (take 1 xs))) (sym u.is)
+    (subst (λ y. IsScalar ((y * 64 + (t.b - 128)) * 64 + (u.b - 128))) (sym same) is))
+
+four-low : (a b : ℕ) → 0xF0 ≤ a → second_min a ≤ b → 16 ≤ (a - 0xF0) * 64 + (b - 128)
+four-low a b h m =
+    ⊎_elim (λ (k : 0xF0 < a). omega (arith, k))
+    (λ (k : a ≤ 0xF0). let e : a ≡ 0xF0 = omega (arith, h, k) in omega (arith, least-four a e, m))
+    (cases_lt 0xF0 a)
+
+four-high : (a b : ℕ) → a ≤ 0xF4 → b ≤ second_max a → (a - 0xF0) * 64 + (b - 128) < 272
+four-high a b l m =
+    ⊎_elim (λ (k : a < 0xF4). omega (arith, k, m, most a))
+    (λ (k : 0xF4 ≤ a). let e : a ≡ 0xF4 = omega (arith, l, k) in omega (arith, e, most-four a e, m))
+    (cases_lt a 0xF4)
+
+whole-four : (a : ℕ) → 0xF0 ≤ a → a ≤ 0xF4 → Whole a 4
+unfolding Whole
+whole-four a h l bs e =
+    let t = tail-first 2 (second_min a) (second_max a) bs e in
+    let u = tail-first 1 0x80 0xBF t.rest t.more in
+    let v = tail-first 0 0x80 0xBF u.rest u.more in
+    let x = first_bits a in
+    let y = (a - 0xF0) * 64 + (t.b - 128) in
+    let same = bits-four a h l in
+    let is = high ((y * 64 + (u.b - 128)) * 64 + (v.b - 128)) (omega (arith, four-low a t.b h t.least))
+    (omega (arith, four-high a t.b l t.most, u.most, v.most)) in
+    subst (λ xs. IsScalar (joined x (take 3 xs))) (sym t.is)
+    (subst (λ xs. IsScalar (joined (x * 64 + (t.b - 128)) (take 2 xs))) (sym u.is)
+    (subst (λ xs. IsScalar (joined ((x * 64 + (t.b - 128)) * 64 + (u.b - 128)) (take 1 xs))) (sym v.is)
+    (subst (λ z. IsScalar (((z * 64 + (t.b - 128)) * 64 + (u.b - 128)) * 64 + (v.b - 128))) (sym same) is)))
+
+len-one : (a : ℕ) → nat_lt a 0x80 ≡ true → char_len a ≡ 1
+len-one a e = grind (arith, nat_tests)
+
+len-two : (a : ℕ) → 0xC2 ≤ a → a ≤ 0xDF → char_len a ≡ 2
+len-two a h l = grind (arith, nat_tests)
+
+len-three : (a : ℕ) → 0xE0 ≤ a → a ≤ 0xEF → char_len a ≡ 3
+len-three a h l = grind (arith, nat_tests)
+
+len-four : (a : ℕ) → 0xF0 ≤ a → a ≤ 0xF4 → char_len a ≡ 4
+len-four a h l = grind (arith, nat_tests)
+
+len-none : (a : ℕ) → nat_lt a 0x80 ≡ false → is_in_range 0xC2 0xDF a ≡ false → is_in_range 0xE0 0xEF a ≡ false
+    → is_in_range 0xF0 0xF4 a ≡ false → char_len a ≡ 0
+len-none a e f g h = rw (e, f, g, h) refl
+
+is-less : (m n : ℕ) → nat_lt m n ≡ true → m < n
+is-less m n e = grind (arith, nat_tests)
+
+spelled-scalar : (a : ℕ) (bs : List ℕ) → front_len a bs ≡ char_len a
+    → IsScalar (joined (first_bits a) (take (front_len a bs - 1) bs))
+unfolding Whole
+spelled-scalar a bs e =
+    let tail : (n : ℕ) → char_len a ≡ n → tail_len (n - 1) (second_min a) (second_max a) bs ≡ n - 1 = λ n f.
+    ap (λ m. tail_len (m - 1) (second_min a) (second_max a) bs) (sym f) ∙ omega (arith, e, f) in
+    let back : (n : ℕ) → char_len a ≡ n → IsScalar (joined (first_bits a) (take (n - 1) bs))
+    → IsScalar (joined (first_bits a) (take (front_len a bs - 1) bs)) = λ n f h.
+    subst (λ m. IsScalar (joined (first_bits a) (take (m - 1) bs))) (sym (e ∙ f)) h in
+    ⊎_elim
+    (λ (t : nat_lt a 0x80 ≡ true). let n = len-one a t in back 1 n (whole-one a (is-less a 0x80 t) bs (tail 1 n)))
+    (λ (f : nat_lt a 0x80 ≡ false). ⊎_elim
+    (λ (t : is_in_range 0xC2 0xDF a ≡ true).
+    let r = in-range 0xC2 0xDF a t in
+    let n = len-two a r.0 r.1 in back 2 n (whole-two a r.0 r.1 bs (tail 2 n)))
+    (λ (g : is_in_range 0xC2 0xDF a ≡ false). ⊎_elim
+    (λ (t : is_in_range 0xE0 0xEF a ≡ true).
+    let r = in-range 0xE0 0xEF a t in
+    let n = len-three a r.0 r.1 in back 3 n (whole-three a r.0 r.1 bs (tail 3 n)))
+    (λ (k : is_in_range 0xE0 0xEF a ≡ false). ⊎_elim
+    (λ (t : is_in_range 0xF0 0xF4 a ≡ true).
+    let r = in-range 0xF0 0xF4 a t in
+    let n = len-four a r.0 r.1 in back 4 n (whole-four a r.0 r.1 bs (tail 4 n)))
+    (λ (t : is_in_range 0xF0 0xF4 a ≡ false). absurd (omega (arith, e, len-none a f g k t)))
+    (cases_Bool (is_in_range 0xF0 0xF4 a)))
+    (cases_Bool (is_in_range 0xE0 0xEF a)))
+    (cases_Bool (is_in_range 0xC2 0xDF a)))
+    (cases_Bool (nat_lt a 0x80))
+
+-- ---- ground text
+
+char-told : (c : ℕ) → IsScalar c → IsTold (char_event c)
+char-told c h = cond_both (nat_lt c 0x20 || is_in_range 0x80 0x9F c) (Execute c) (Print c) IsTold (λ _. tt) (λ _. h)
+
+malformed-told : (n a : ℕ) → IsTold (malformed_event n a)
+malformed-told n a = cond_both ((n == 1) && is_in_range 0x80 0x9F a) (Execute a) (Print 0xFFFD) IsTold (λ _. tt)
+    (λ _. refl)
+
+front-told : (cut : Bool) (a : ℕ) (bs : List ℕ) → Told (front_event cut a bs)
+front-told cut a bs =
+    let n = front_len a bs in
+    let c = joined (first_bits a) (take (n - 1) bs) in
+    let unfinished : List Event = cond cut (Print 0xFFFD ∷ []) [] in
+    cond_both (n == char_len a) (char_event c ∷ [])
+    (cond (nat_lt 0 (char_len a) && nat_lt (length bs) n) unfinished (malformed_event n a ∷ []))
+    (λ (xs : List Event). Told xs)
+    (λ e. one (char_event c) (char-told c (spelled-scalar a bs (eqb-true n (char_len a) e))))
+    (λ _. if-told (nat_lt 0 (char_len a) && nat_lt (length bs) n) unfinished (malformed_event n a ∷ [])
+    (if-told cut (Print 0xFFFD ∷ []) [] (one (Print 0xFFFD) refl) none)
+    (one (malformed_event n a) (malformed-told n a)))
+
+text-told : (skip : ℕ) (cut : Bool) (bs : List ℕ) → Told (text_after skip cut bs)
+text-told skip cut [] = none
+text-told (suc skip) cut (b ∷ bs) = text-told skip cut bs
+text-told zero cut (b ∷ bs) =
+    joined-told (front_event cut b bs) (text_after (front_len b bs - 1) cut bs) (front-told cut b bs)
+    (text-told (front_len b bs - 1) cut bs)
+
+-- ---- sequences and strings
+
+executed-told : (s : List ℕ) → Told (executed s)
+executed-told s = All-map IsTold Execute (filter is_control s) (λ k d l. tt)
+
+aborted-told : (cut : Bool) (b : ℕ) (rest : List ℕ) → Told (aborted cut b rest)
+aborted-told cut b rest = then-more (Execute b) (text cut rest) tt (text-told 0 cut rest)
+
+swallowed_end-told : (cut : Bool) (s : List ℕ) → Told (swallowed_end cut s)
+swallowed_end-told cut [] = none
+swallowed_end-told cut (b ∷ rest) = aborted-told cut b rest
+
+swallowed-told : (cut : Bool) (s : List ℕ) → Told (swallowed cut s)
+swallowed-told cut s = swallowed_end-told cut (from is_abort s)
+
+after-told : (cut : Bool) (b : ℕ) (rest : List ℕ) → Told (cond (is_abort b) (aborted cut b rest) (text cut rest))
+after-told cut b rest =
+    if-told (is_abort b) (aborted cut b rest) (text cut rest) (aborted-told cut b rest) (text-told 0 cut rest)
+
+device_end-told : (cut : Bool) (s : List ℕ) → Told (device_end cut s)
+device_end-told cut [] = if-told cut (Unhook ∷ []) [] (one Unhook tt) none
+device_end-told cut (b ∷ rest) = then-more Unhook (cond (is_abort b) (aborted cut b rest) (text cut rest)) tt
+    (after-told cut b rest)
+
+device-told : (cut : Bool) (s : List ℕ) → Told (device cut s)
+device-told cut s =
+    joined-told (map Put (filter is_put (before ends_device s))) (device_end cut (from ends_device s))
+    (All-map IsTold Put (filter is_put (before ends_device s)) (λ k d l. tt))
+    (device_end-told cut (from ends_device s))
+
+hook_end-told : (cut : Bool) (h s : List ℕ) → Told (hook_end cut h s)
+hook_end-told cut h [] = none
+hook_end-told cut h (b ∷ rest) =
+    let begins : List Event = Hook (kept_groups h) (kept_intermediates h) (overflows h) b ∷ device cut rest in
+    if-told (is_abort b) (aborted cut b rest) (cond (is_well_formed h) begins (swallowed cut rest))
+    (aborted-told cut b rest)
+    (if-told (is_well_formed h) begins (swallowed cut rest)
+    (then-more (Hook (kept_groups h) (kept_intermediates h) (overflows h) b) (device cut rest) tt
+    (device-told cut rest))
+    (swallowed-told cut rest))
+
+csi_end-told : (cut : Bool) (h s : List ℕ) → Told (csi_end cut h s)
+csi_end-told cut h [] = none
+csi_end-told cut h (b ∷ rest) =
+    let acts : List Event = Csi (kept_groups h) (kept_intermediates h) (overflows h) b ∷ text cut rest in
+    if-told (is_abort b) (aborted cut b rest) (cond (is_well_formed h) acts (text cut rest))
+    (aborted-told cut b rest)
+    (if-told (is_well_formed h) acts (text cut rest)
+    (then-more (Csi (kept_groups h) (kept_intermediates h) (overflows h) b) (text cut rest) tt (text-told 0 cut rest))
+    (text-told 0 cut rest))
+
+csi-told : (cut : Bool) (s : List ℕ) → Told (csi cut s)
+csi-told cut s =
+    joined-told (executed (before ends_header s)) _ (executed-told (before ends_header s))
+    (csi_end-told cut (filter is_header (before ends_header s)) (from ends_header s))
+
+osc_end-told : (n : ℕ) (cut : Bool) (s t : List ℕ) → Told (osc_end n cut s t)
+osc_end-told n cut s [] = if-told cut (Osc (osc_pieces n s) false ∷ []) [] (one (Osc (osc_pieces n s) false) tt) none
+osc_end-told n cut s (b ∷ rest) =
+    then-more (Osc (osc_pieces n s) (b == 0x07)) (cond (is_abort b) (aborted cut b rest) (text cut rest)) tt
+    (after-told cut b rest)
+
+osc-told : (n : ℕ) (cut : Bool) (s : List ℕ) → Told (osc n cut s)
+osc-told n cut s = osc_end-told n cut (filter (λ b. not (is_control b)) (before ends_osc s)) (from ends_osc s)
+
+hook-told : (cut : Bool) (s : List ℕ) → Told (hook cut s)
+hook-told cut s = hook_end-told cut (filter is_header (before ends_header s)) (from ends_header s)
+
+introduced-told : (n : ℕ) (cut : Bool) (is : List ℕ) (b : ℕ) (rest : List ℕ) → Told (introduced n cut is b rest)
+introduced-told n cut is b rest =
+    let none_between = length is == 0 in
+    let acts : List Event = Esc (take 2 is) (nat_lt 2 (length is)) b ∷ text cut rest in
+    let is_string = none_between && ((b == 0x58) || ((b == 0x5E) || (b == 0x5F))) in
+    let string : List Event = cond is_string (swallowed cut rest) acts in
+    let hooked : List Event = cond (none_between && (b == 0x50)) (hook cut rest) string in
+    let command : List Event = cond (none_between && (b == 0x5D)) (osc n cut rest) hooked in
+    if-told (none_between && (b == 0x5B)) (csi cut rest) command (csi-told cut rest)
+    (if-told (none_between && (b == 0x5D)) (osc n cut rest) hooked (osc-told n cut rest)
+    (if-told (none_between && (b == 0x50)) (hook cut rest) string (hook-told cut rest)
+    (if-told is_string (swallowed cut rest) acts (swallowed-told cut rest)
+    (then-more (Esc (take 2 is) (nat_lt 2 (length is)) b) (text cut rest) tt (text-told 0 cut rest)))))
+
+escape_end-told : (n : ℕ) (cut : Bool) (is s : List ℕ) → Told (escape_end n cut is s)
+escape_end-told n cut is [] = none
+escape_end-told n cut is (b ∷ rest) =
+    if-told (is_abort b) (aborted cut b rest) (introduced n cut is b rest) (aborted-told cut b rest)
+    (introduced-told n cut is b rest)
+
+escape-told : (n : ℕ) (cut : Bool) (s : List ℕ) → Told (escape n cut s)
+escape-told n cut s =
+    joined-told (executed (before ends_escape s)) _ (executed-told (before ends_escape s))
+    (escape_end-told n cut (filter is_intermediate (before ends_escape s)) (from ends_escape s))
+
+segments-told : (n : ℕ) (f : Bool → List ℕ → List Event) → ((cut : Bool) (s : List ℕ) → Told (f cut s))
+    → (s : List ℕ) (ts : List (List ℕ)) → Told (segments n f s ts)
+segments-told n f h s [] = h false s
+segments-told n f h s (t ∷ ts) =
+    joined-told (f true s) (segments n (escape n) t ts) (h true s) (segments-told n (escape n) (escape-told n) t ts)
+
+pub added-told : (past bytes : List ℕ) → All IsTold (events_added past bytes)
+added-told past bytes =
+    let bs = past ++ bytes in
+    All-drop IsTold (length (events 1024 past)) (events 1024 bs)
+    (segments-told 1024 text (text-told 0) (cut_at_esc bs).0 (cut_at_esc bs).1)

@@ -1,0 +1,19 @@
+-- Answers for laws::events_stand_where_they_end: by computing.
+use Rattle.std.proofs.Common.{refl}
+use Rattle.unicode_width.specs.Width.{char_width}
+use Rattle.vt100_core.specs.Resize.{resized}
+use Rattle.vt100_core.specs.Scroll.{scrolled_up, fed, wrapped_on}
+use Rattle.vt100_core.specs.Text.{printed}
+use Rattle.screen_model.proofs.laws.events_stand_where_they_end.Goals as goal
+
+pub returns-clause-text : goal.returns-clause-text
+unfolding char_width printed scrolled_up fed wrapped_on resized
+returns-clause-text c = refl
+
+pub returns-clause-red : goal.returns-clause-red
+unfolding char_width printed scrolled_up fed wrapped_on resized
+returns-clause-red c = refl
+
+pub returns-clause-width : goal.returns-clause-width
+unfolding char_width printed scrolled_up fed wrapped_on resized
+returns-clause-width c = refl

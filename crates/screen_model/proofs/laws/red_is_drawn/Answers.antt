@@ -1,0 +1,11 @@
+-- Answers for laws::red_is_drawn: by computing.
+use Rattle.std.proofs.Common.{refl}
+use Rattle.unicode_width.specs.Width.{char_width}
+use Rattle.vt100_core.specs.Resize.{resized}
+use Rattle.vt100_core.specs.Scroll.{scrolled_up, fed, wrapped_on}
+use Rattle.vt100_core.specs.Text.{printed}
+use Rattle.screen_model.proofs.laws.red_is_drawn.Goals as goal
+
+pub returns : goal.returns
+unfolding char_width printed scrolled_up fed wrapped_on resized
+returns c = refl

@@ -1,0 +1,41 @@
+-- What a terminal tells the program around it.
+use Rattle.std.specs.Prelude.{◌≡◌, ℕ, Bool, List, [], ◌∷◌, Option}
+use Rattle.vt100_rows.specs.Row.{RowView}
+use Rattle.screen_model.specs.State.{State}
+use Rattle.screen_model.specs.Step.{Report}
+
+-- a call: the method's name, and its arguments in order
+pub data Call : Type 0 where
+  audible_bell : Call
+  visual_bell : Call
+  -- rows and columns
+  resize : ℕ → ℕ → Call
+  set_window_icon_name : List ℕ → Call
+  set_window_title : List ℕ → Call
+  -- which clipboards, and the data in base64
+  copy_to_clipboard : List ℕ → List ℕ → Call
+  paste_from_clipboard : List ℕ → Call
+  unhandled_char : ℕ → Call
+  unhandled_control : ℕ → Call
+  -- the first two intermediates, and the final byte
+  unhandled_escape : Option ℕ → Option ℕ → ℕ → Call
+  -- the first two intermediates, the parameters, and the final byte
+  unhandled_csi : Option ℕ → Option ℕ → List (List ℕ) → ℕ → Call
+  unhandled_osc : List (List ℕ) → Call
+
+-- a screen: its state, and whether it has failed for want of memory
+pub record ScreenView : Type 0 where
+  pub state : State
+  pub failed : Bool
+
+-- callbacks c and the screen v that they are lent have gone through these calls, in order and each once, and are d and
+-- w; `step` says what one call does
+abbrev pub Calls : {C : Type 0} → (C → ScreenView → Call → C → ScreenView → Type 0) → C → ScreenView → List Call → C
+    → ScreenView → Type 0
+Calls step c v [] d w = (c ≡ d) × (v ≡ w)
+Calls {C} step c v (k ∷ ks) d w = (b : C) × (u : ScreenView) × step c v k b u × Calls step b u ks d w
+
+-- callbacks c have been told of these rows, in order and each once, and are d; `scrolls` says what one report does
+abbrev pub Hears : {C : Type 0} → (C → RowView → Bool → C → Type 0) → C → List Report → C → Type 0
+Hears scrolls c [] d = c ≡ d
+Hears {C} scrolls c (r ∷ rs) d = (b : C) × scrolls c r.row r.alternate b × Hears scrolls b rs d

@@ -1,0 +1,79 @@
+-- What a terminal shows, and how the calls that ask a screen about it tell that.
+use Rattle.std.specs.Prelude.{ℕ, ◌<◌, ◌≡◌, Bool, false, Option, Some, unwrap_or, Contains}
+use Rattle.std.specs.Option.{option_map}
+use Rattle.vt100_forms.specs.Attrs.{flags_of}
+use Rattle.vt100_cells.specs.Cell.{CellView}
+use Rattle.terminal_model.specs.Term.{Shown}
+use Rattle.vt100_core.specs.Grid.{visible_row_at, cell_in}
+use Rattle.vt100_core.specs.Picture.{shown_lines, shown_wraps}
+use Rattle.screen_model.specs.State.{State, IsState}
+
+-- the picture of the shown sheet, the input modes and the cursor's style
+abbrev pub shown_state : State → Shown
+shown_state s = record {
+  cell = shown_lines s.shown;
+  wrapped = shown_wraps s.shown;
+  row = s.shown.row;
+  col = s.shown.col;
+  hidden = s.hidden;
+  attrs = s.attrs;
+  modes = s.modes;
+  style = s.style;
+}
+
+-- the cell that is told at a place, and the flag of a row
+abbrev pub told_cell : State → ℕ → ℕ → Option CellView
+told_cell s r c = cell_in (visible_row_at s.shown r) c
+
+abbrev pub told_wrap : State → ℕ → Bool
+told_wrap s r = unwrap_or (option_map (λ v. v.wrapped) (visible_row_at s.shown r)) false
+
+-- at each place of the screen a cell is told, and it is the one that is shown
+abbrev pub EachCellIsTold : Type 0
+EachCellIsTold = (s : State) → IsState s → (r c : ℕ) → r < s.shown.height → c < s.shown.width
+    → told_cell s r c ≡ Some ((shown_state s).cell r c)
+
+abbrev pub EachWrapIsTold : Type 0
+EachWrapIsTold = (s : State) → IsState s → (r : ℕ) → told_wrap s r ≡ (shown_state s).wrapped r
+
+-- a character stands in the text of a cell that is shown
+abbrev pub IsShownSomewhere : State → ℕ → Type 0
+IsShownSomewhere s c = (row : ℕ) × (col : ℕ) × Contains ((shown_state s).cell row col).text c
+
+-- and in the text of a cell that is told at a place of the screen
+pub record IsToldSomewhere (s : State) (c : ℕ) : Type 0 where
+  pub row : ℕ
+  pub col : ℕ
+  pub in_rows : row < s.shown.height
+  pub in_cols : col < s.shown.width
+  pub cell : CellView
+  pub told : told_cell s row col ≡ Some cell
+  pub stands : Contains cell.text c
+
+-- the one is so exactly where the other is
+pub record IsToldWhereShown (s : State) (c : ℕ) : Type 0 where
+  pub told : IsShownSomewhere s c → IsToldSomewhere s c
+  pub shown : IsToldSomewhere s c → IsShownSomewhere s c
+
+abbrev pub EachCharacterIsTold : Type 0
+EachCharacterIsTold = (s : State) → IsState s → (c : ℕ) → IsToldWhereShown s c
+
+-- two screens of one size of which all these calls tell the same
+pub record AreToldAlike (s t : State) : Type 0 where
+  pub height : s.shown.height ≡ t.shown.height
+  pub width : s.shown.width ≡ t.shown.width
+  pub cells : (r c : ℕ) → r < s.shown.height → c < s.shown.width → told_cell s r c ≡ told_cell t r c
+  pub wraps : (r : ℕ) → r < s.shown.height → told_wrap s r ≡ told_wrap t r
+  pub row : s.shown.row ≡ t.shown.row
+  pub col : s.shown.col ≡ t.shown.col
+  pub hidden : s.hidden ≡ t.hidden
+  pub fgcolor : s.attrs.fgcolor ≡ t.attrs.fgcolor
+  pub bgcolor : s.attrs.bgcolor ≡ t.attrs.bgcolor
+  -- bold, dim, italic, underlined and inverse
+  pub flags : flags_of s.attrs ≡ flags_of t.attrs
+  pub modes : s.modes ≡ t.modes
+  pub style : s.style ≡ t.style
+
+-- show the same
+abbrev pub AlikeShowTheSame : Type 0
+AlikeShowTheSame = (s t : State) → IsState s → IsState t → AreToldAlike s t → shown_state s ≡ shown_state t

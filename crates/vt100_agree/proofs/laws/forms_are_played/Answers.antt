@@ -1,5 +1,0 @@
-use Rattle.vt100_agree.proofs.Playing.{form-played}
-use Rattle.vt100_agree.proofs.laws.forms_are_played.Goals as goal
-
-pub returns : goal.returns
-returns c = form-played

@@ -1,5 +1,0 @@
-use Rattle.vt100_picture.proofs.Examples.{examples-hold}
-use Rattle.vt100_picture.proofs.laws.examples_hold.Goals as goal
-
-pub returns : goal.returns
-returns c = examples-hold

@@ -1,9 +1,0 @@
--- Where a list of forms leads.
-use Rattle.std.specs.Prelude.{◌≡◌, List}
-use Rattle.vt100_forms.specs.Form.{Form}
-use Rattle.vt100_picture.specs.Term.{Size, Shown, Saved, IsSaved, shown_of, term_of}
-use Rattle.vt100_picture.specs.Apply.{run}
-
--- a terminal that shows `from` shows `to` after the forms, whatever it has saved
-abbrev pub Leads : Size → List Form → Shown → Shown → Type 0
-Leads z fs from to = (v : Saved) → IsSaved z v → shown_of (run z fs (term_of from v)) ≡ to

@@ -1,4 +1,0 @@
-pub mod Examples
-pub mod Numbers
-pub mod ReadForms
-pub mod SentTexts

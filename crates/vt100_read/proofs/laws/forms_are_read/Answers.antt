@@ -1,5 +1,0 @@
-use Rattle.vt100_read.proofs.ReadForms.{form-read}
-use Rattle.vt100_read.proofs.laws.forms_are_read.Goals as goal
-
-pub returns : goal.returns
-returns c = form-read

@@ -1,5 +1,0 @@
-use Rattle.vt100_read.proofs.ReadForms.{list-read}
-use Rattle.vt100_read.proofs.laws.lists_are_read.Goals as goal
-
-pub returns : goal.returns
-returns c = list-read

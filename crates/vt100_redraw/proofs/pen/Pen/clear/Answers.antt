@@ -1,5 +1,0 @@
-use Rattle.vt100_redraw.proofs.WritesLemmas.{wrote_clear}
-use Rattle.vt100_redraw.proofs.pen.Pen.clear.Goals as goal
-
-pub returns : goal.returns
-returns c = wrote_clear _ _ _ c.in_ok-write_buf.ensures.bytes

@@ -1,8 +1,0 @@
-use Rattle.std.proofs.Common.{sym, ◌∙◌}
-use Rattle.std.specs.Prelude.{string_bytes}
-use Rattle.vt100_redraw.proofs.WritesLemmas.{wrote_goto_here}
-use Rattle.vt100_redraw.proofs.pen.Pen.goto.Goals as goal
-
-pub returns-then-eq : goal.returns-then-eq
-returns-then-eq c = wrote_goto_here c.args.self.now c.args.pos (string_bytes c.args.contents.now) (sym c.eq.ensures
-    ∙ c.if-eq.true)

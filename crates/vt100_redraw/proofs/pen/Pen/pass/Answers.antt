@@ -1,5 +1,0 @@
-use Rattle.vt100_redraw.proofs.RunWrites.{passed}
-use Rattle.vt100_redraw.proofs.pen.Pen.pass.Goals as goal
-
-pub returns : goal.returns
-returns c = passed c.args.cell.now c.args.self.now c.span.result c.span.ensures

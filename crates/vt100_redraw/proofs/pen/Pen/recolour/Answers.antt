@@ -1,5 +1,0 @@
-use Rattle.vt100_redraw.proofs.WritesLemmas.{wrote_colour}
-use Rattle.vt100_redraw.proofs.pen.Pen.recolour.Goals as goal
-
-pub returns : goal.returns
-returns c = wrote_colour _ _ _ _ c.in_ok-write_escape_code_diff.ensures.bytes

@@ -1,0 +1,118 @@
+-- Rows that are kept.
+use Rattle.std.proofs.Common.{◌≡◌, ℕ, ◌+◌, ◌^◌, ◌<◌, ◌≤◌, ◌==◌, Bool, true, false, cond, List, [], ◌∷◌, ◌++◌, replicate}
+use Rattle.std.proofs.Common.{min, slice_range, append_assoc, length, set, map, refl, sym, ap, ◌∙◌, arith}
+use Rattle.std.proofs.Common.{length-append, ⊎_elim}
+use Rattle.std.proofs.lemmas.Bool.{cases_lt}
+use Rattle.std.proofs.lemmas.Bool.Decides.{nat_tests}
+use Rattle.std.proofs.lemmas.List.{get_or_push, map-append, get_or-replicate, length-replicate, ext_get_or}
+use Rattle.std.proofs.Math.ListN.{get_or-append}
+use Rattle.std.proofs.lemmas.List.Edits.{between_more}
+use Rattle.vt100_cells.specs.Cell.{CellView, default_cell}
+use Rattle.vt100_cells.specs.Line.{cut, extended}
+use Rattle.vt100_cells.specs.Cells.{cell_at, by_position}
+use Rattle.vt100_rows.specs.Row.{RowView, IsRow, blank_row, truncated, grown, trimmed}
+use Rattle.vt100_forms.specs.Attrs.{default_attrs}
+use Rattle.vt100_rows.proofs.RowLemmas.{IsRow-grown}
+use Rattle.vt100_cells.proofs.CellLemmas.{IsCell-empty}
+use Rattle.vt100_cells.proofs.ListLemmas.{cell_at-by_position, length-by_position}
+use Rattle.vt100_rows.specs.Sheet.{row_at, changed_between}
+use Rattle.vt100_rows.proofs.SheetLemmas.{row_at-set}
+
+IsRow-choice : (b : Bool) (v w : RowView) → IsRow v → IsRow w → IsRow (cond b v w)
+IsRow-choice true v w p q = p
+IsRow-choice false v w p q = q
+
+pub IsRow-set : (rows : List RowView) (r : ℕ) (v : RowView) → ((k : ℕ) → k < length rows → IsRow (row_at rows k))
+    → IsRow v → r < length rows → (k : ℕ) → k < length rows → IsRow (row_at (set rows r v) k)
+IsRow-set rows r v each row h k l = rw (row_at-set rows r v k h)
+    (IsRow-choice (k == r) v (row_at rows k) row (each k l))
+
+pub IsRow-push : (rows : List RowView) (v : RowView) → ((k : ℕ) → k < length rows → IsRow (row_at rows k)) → IsRow v
+    → (k : ℕ) → k < length (rows ++ v ∷ []) → IsRow (row_at (rows ++ v ∷ []) k)
+IsRow-push rows v each row k l =
+    let n : length (rows ++ v ∷ []) ≡ length rows + 1 = length-append rows (v ∷ []) in
+    ⊎_elim (λ (h : k < length rows). rw (get_or-append rows (v ∷ []) (blank_row 0) k h) (each k h))
+    (λ (h : length rows ≤ k). let e : length rows ≡ k = omega arith in rw (get_or_push rows v (blank_row 0) k e) row)
+    (cases_lt k (length rows))
+
+pub not_yet : (f : RowView → RowView) (old : List RowView) (first r : ℕ)
+    → changed_between f old first r r ≡ row_at old r
+not_yet f old first r = grind (arith, nat_tests)
+
+pub keeps-more : (f : RowView → RowView) (old rows kept : List RowView) (first r : ℕ) (v w : RowView) → first ≤ r
+    → r < length old → ((k : ℕ) → row_at rows k ≡ changed_between f old first r k)
+    → v ≡ row_at rows r → w ≡ trimmed v → (kept ++ map trimmed (slice_range old first r)) ++ w ∷ [] ≡ kept
+    ++ map trimmed (slice_range old first (r + 1))
+keeps-more f old rows kept first r v w h l e ev ew =
+    append_assoc kept (map trimmed (slice_range old first r)) (w ∷ [])
+    ∙ ap (λ (x : RowView). kept ++ (map trimmed (slice_range old first r) ++ x ∷ [])) (ew
+    ∙ ap trimmed (ev ∙ e r ∙ not_yet f old first r))
+    ∙ ap (λ (xs : List RowView). kept ++ xs) (sym (map-append trimmed (slice_range old first r) (row_at old r ∷ []))
+    ∙ ap (λ (xs : List RowView). map trimmed xs) (sym (between_more old first r (blank_row 0) h l)))
+
+pub IsRow-grown_default : (v : RowView) (width : ℕ) → IsRow v → width < 2 ^ 16 → IsRow (grown v width default_cell)
+IsRow-grown_default v width r h = IsRow-grown v width default_cell r (IsCell-empty default_attrs) refl refl h
+
+pub wide_along : (v w : RowView) (width : ℕ) → v ≡ w → width ≤ length w.cells → width ≤ length v.cells
+wide_along v w width e h = rw e h
+
+pub grown-longer : (v : RowView) (width : ℕ) → width ≤ length v.cells → grown v width default_cell ≡ v
+grown-longer v width l = grind (arith, nat_tests)
+
+grown-shorter : (v : RowView) (width : ℕ) → length v.cells < width
+    → grown v width default_cell ≡ record {
+      cells = by_position width (extended (length v.cells) (cell_at v.cells) default_cell);
+      wrapped = false;
+    }
+grown-shorter v width l = grind (arith, nat_tests)
+
+grown-wide_shorter : (v : RowView) (width : ℕ) → length v.cells < width
+    → width ≤ length (grown v width default_cell).cells
+grown-wide_shorter v width l =
+    let x : RowView = record {
+      cells = by_position width (extended (length v.cells) (cell_at v.cells) default_cell);
+      wrapped = false;
+    } in
+    wide_along (grown v width default_cell) x width (grown-shorter v width l)
+    (omega (arith, length-by_position width (extended (length v.cells) (cell_at v.cells) default_cell)))
+
+grown-wide_longer : (v : RowView) (width : ℕ) → width ≤ length v.cells
+    → width ≤ length (grown v width default_cell).cells
+grown-wide_longer v width l = wide_along (grown v width default_cell) v width (grown-longer v width l) l
+
+pub grown-wide : (v : RowView) (width : ℕ) → width ≤ length (grown v width default_cell).cells
+grown-wide v width =
+    ⊎_elim (λ (l : length v.cells < width). grown-wide_shorter v width l)
+    (λ (l : width ≤ length v.cells). grown-wide_longer v width l) (cases_lt (length v.cells) width)
+
+-- ---- a row that becomes blank
+
+added : (m k : ℕ) (f : ℕ → CellView) → m ≡ 0 → extended m f default_cell k ≡ default_cell
+added m k f e = grind (arith, nat_tests)
+
+all-added : (m n : ℕ) (f : ℕ → CellView) → m ≡ 0 → by_position n (extended m f default_cell) ≡ replicate n default_cell
+all-added m n f e =
+    let l = length-by_position n (extended m f default_cell) in
+    ext_get_or default_cell (by_position n (extended m f default_cell)) (replicate n default_cell) (l
+    ∙ sym (length-replicate n default_cell))
+    (λ k h. cell_at-by_position n (extended m f default_cell) k (omega (arith, l)) ∙ added m k f e
+    ∙ sym (get_or-replicate n k default_cell default_cell (omega (arith, l))))
+
+none-kept : (v : RowView) → length (truncated v 0).cells ≡ 0
+none-kept v = length-by_position (min 0 (length v.cells)) (cut (min 0 (length v.cells)) (cell_at v.cells)) ∙ omega arith
+
+-- all its cells go, and blank ones come in their place
+pub blank-again : (v : RowView) (width : ℕ) → grown (truncated v 0) width default_cell ≡ blank_row width
+blank-again v width =
+    let w = truncated v 0 in
+    ⊎_elim
+    (λ (l : 0 < width).
+    grown-shorter w width (omega (arith, none-kept v))
+    ∙ ap (λ (xs : List CellView). record { cells = xs; wrapped = false })
+    (all-added (length w.cells) width (cell_at w.cells) (none-kept v)))
+    (λ (l : width ≤ 0).
+    let none : min 0 (length v.cells) ≡ 0 = omega arith in
+    let zero : 0 ≡ width = omega arith in
+    grown-longer w width (omega arith) ∙ ap (λ n.
+    record { cells = by_position n (cut n (cell_at v.cells)); wrapped = false }) none ∙ ap (λ n. blank_row n) zero)
+    (cases_lt 0 width)

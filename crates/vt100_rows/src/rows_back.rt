@@ -1,0 +1,64 @@
+//! Rows that come back at the top of a list of rows.
+ghost use Rattle.std.specs.Prelude.{◌≡◌, ℕ, ◌+◌, ◌-◌, ◌^◌, ◌<◌, ◌≤◌, ◌++◌, List, length, take, drop, map, replicate};
+ghost use Rattle.std.specs.Prelude.{vec_len, vec_capacity, OnOk, OnErr};
+ghost use Rattle.vt100_cells.specs.Cell.{default_cell};
+ghost use Rattle.vt100_rows.specs.Row.{RowView, IsRow, blank_row, resized_row};
+ghost use Rattle.vt100_rows.specs.Sheet.{row_at};
+
+use crate::kept_rows::{resize_newest, take_newest};
+use crate::row::Row;
+use std::collections::VecDeque;
+use vt100_forms::GridError;
+
+/// Puts `down` rows above the others and `below` blank ones under them. The newest kept rows come back, each with
+/// `width` columns, and blank ones above them where too few were kept.
+pub fn bring_back(
+    rows: &mut Vec<Row>,
+    kept: &mut VecDeque<Row>,
+    down: usize,
+    below: usize,
+    width: u16,
+) -> Result<(), GridError>
+    requires few { down + below < 2 ^ 16 }
+    requires each { (j : ℕ) → j < length kept.old.items → IsRow (row_at kept.old.items j) }
+    ensures rows { OnOk result (rows.new.items ≡ (replicate (down - length kept.old.items) (blank_row width)
+        ++ map (λ v. resized_row v width default_cell) (drop (length kept.old.items - down) kept.old.items))
+        ++ rows.old.items ++ replicate below (blank_row width)) }
+    ensures kept { OnOk result (kept.new.items ≡ take (length kept.old.items - down) kept.old.items) }
+
+    // Where memory ran out.
+    ensures same { OnErr result (rows.new.items ≡ rows.old.items) }
+    ensures each { OnErr result ((j : ℕ) → j < length kept.new.items → IsRow (row_at kept.new.items j)) }
+    ensures count { OnErr result (length kept.new.items ≡ length kept.old.items) }
+{
+    let come = down.min(kept.len());
+    resize_newest(kept, come, width)?;
+    rows.reserve(below + down)?;
+    push_blank(rows, below + (down - come), width)?;
+    take_newest(kept, come, rows);
+    rows.rotate_right(down);
+    Ok(())
+}
+
+/// Puts `n` blank rows at the end, where there is room for them. Where there isn't memory for their cells nothing
+/// changes.
+fn push_blank(rows: &mut Vec<Row>, n: usize, width: u16) -> Result<(), GridError>
+    requires room { vec_len rows.old + n ≤ vec_capacity rows.old }
+    ensures rows { OnOk result (rows.new.items ≡ rows.old.items ++ replicate n (blank_row width)) }
+    ensures len { OnOk result (vec_len rows.new ≡ vec_len rows.old + n) }
+    ensures capacity { vec_capacity rows.new ≡ vec_capacity rows.old }
+    ensures same { OnErr result (rows.new.items ≡ rows.old.items) }
+{
+    let alloc = *rows.allocator();
+    let len = rows.len();
+    for _i in 0..n {
+        match Row::new(alloc, width) {
+            Ok(row) => rows.push_reserved(row),
+            Err(error) => {
+                rows.truncate(len);
+                return Err(error);
+            }
+        }
+    }
+    Ok(())
+}

@@ -1,5 +1,0 @@
-use Rattle.vt100_sheet.proofs.SheetLemmas.{resets-all}
-use Rattle.vt100_sheet.proofs.rows_edit.reset_all.Goals as goal
-
-pub returns : goal.returns
-returns c = resets-all c.args.rows.now c.reset_between.new.rows c.args.width c.requires.widths c.reset_between.ensures

@@ -1,8 +1,0 @@
-use Rattle.vt100_writers.proofs.SmallScreens.{lists-sent, lists-forms}
-use Rattle.vt100_writers.proofs.laws.lists_are_of_forms.Goals as goal
-
-pub returns-clause-sent : goal.returns-clause-sent
-returns-clause-sent c = lists-sent
-
-pub returns-clause-forms : goal.returns-clause-forms
-returns-clause-forms c = lists-forms

@@ -1,5 +1,0 @@
-use Rattle.vte_read.proofs.Calling.{form-called}
-use Rattle.vte_read.proofs.laws.forms_call.Goals as goal
-
-pub returns : goal.returns
-returns c = form-called

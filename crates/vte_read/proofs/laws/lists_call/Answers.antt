@@ -1,5 +1,0 @@
-use Rattle.vte_read.proofs.Calling.{list-called}
-use Rattle.vte_read.proofs.laws.lists_call.Goals as goal
-
-pub returns : goal.returns
-returns c = list-called

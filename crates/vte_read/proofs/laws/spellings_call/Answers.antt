@@ -1,5 +1,0 @@
-use Rattle.vte_read.proofs.Calling.{spelling-called}
-use Rattle.vte_read.proofs.laws.spellings_call.Goals as goal
-
-pub returns : goal.returns
-returns c = spelling-called
