@@ -20,13 +20,15 @@ pub fn forms_are_played()
     ensures { EachFormIsPlayed }
 {}
 
-/// The same of a list of forms.
+/// A plain state that goes through the events of a list of forms shows what the list makes of the terminal that it
+/// showed, is as large as before, and is plain again.
 pub fn lists_are_played()
     ensures { EachListIsPlayed }
 {}
 
-/// The same of the bytes of a list of forms, fed after any bytes that leave the parser at ground; and it is at ground
-/// again then.
+/// A plain state that is fed the bytes of a list of forms, after any bytes that leave the parser at ground, shows what
+/// the list makes of the terminal that it showed, is as large as before, and is plain again; and the parser is at
+/// ground again then.
 pub fn spellings_are_made()
     ensures { EachSpellingIsMade }
 {}
@@ -37,7 +39,9 @@ pub fn sent_lists_are_played()
     ensures { EachSentListIsPlayed }
 {}
 
-/// The same of the bytes of such a list.
+/// Where the bytes are fed of a list of forms whose texts may hold U+FE0F, after any bytes that leave the parser at
+/// ground, the state is still plain and as large as before, and has the modes and the cursor's style that the forms
+/// say; and the parser is at ground again then.
 pub fn sent_spellings_are_made()
     ensures { EachSentSpellingIsMade }
 {}

@@ -31,12 +31,13 @@ pub fn forms_call()
     ensures { EachFormCalls }
 {}
 
-/// For a list of forms it gets their calls, one form after the other.
+/// A handler is called for the events of a list of forms as the table of forms says, one form after the other.
 pub fn lists_call()
     ensures { EachListCalls }
 {}
 
-/// The same for the bytes of a list of forms, after any bytes that leave the parser at ground.
+/// A handler is called for the bytes of a list of forms, after any bytes that leave the parser at ground, as the table
+/// of forms says, one form after the other.
 pub fn spellings_call()
     ensures { EachSpellingCalls }
 {}

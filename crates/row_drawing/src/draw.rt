@@ -74,7 +74,7 @@ impl<'a> Drawing<'a> {
         Ok(())
     }
 
-    /// The same by bytes that are put into `run`.
+    /// Brings the terminal to a column, as `arrive` does, by bytes that are put into `run`: 14 at most.
     pub(crate) fn arrive_in(&self, pen: &mut Pen, run: &mut TextRun, col: u16, columns: u16)
         requires { length run.old + 14 ≤ 128 }
         ensures written { (t : List ℕ) → Wrote (arrive (job_of self.now) col columns) pen.old (t ++ run.old) pen.new

@@ -10,7 +10,8 @@ pub fn differences_lead()
     ensures { EachDifferenceLeads }
 {}
 
-/// The same of the redraw, where the earlier row is blank.
+/// A terminal that shows a blank row, and reads the redraw, shows the present one. It has the row's flag, or the cursor
+/// waits at the row's end and the next row sets it; the flag of the row above is set if that one goes on.
 pub fn redraws_lead()
     ensures { EachRedrawLeads }
 {}

@@ -73,7 +73,8 @@ impl<'a> Drawing<'a> {
         self.redraw_behind(pen, contents, 0, count)
     }
 
-    /// The same where the terminal shows the first `same` cells of the row already.
+    /// Draws `count` columns, from the first that is drawn on, over a row that has no flag, of which the terminal shows
+    /// the first `same` cells already.
     pub(crate) fn redraw_behind(
         &self,
         pen: &mut Pen,

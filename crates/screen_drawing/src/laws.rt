@@ -18,7 +18,7 @@ pub fn cursors_are_placed()
     ensures { EachCursorIsPlaced }
 {}
 
-/// The same with the hiding of the cursor.
+/// From the cells and flags of a screen the cursor comes to its place and is hidden or shown, and nothing else changes.
 pub fn cursor_states_are_set()
     ensures { EachCursorStateIsSet }
 {}

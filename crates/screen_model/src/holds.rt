@@ -6,20 +6,20 @@ ghost use Rattle.screen_model.specs.Holds.{MakesStates, MakesLastSize, MakesCapa
 ghost use Rattle.screen_model.specs.Holds.{MakesProperCells, MakesByteColours, KeepsAtSameSize};
 ghost use Rattle.screen_model.specs.Shown.{EachCellIsTold, EachWrapIsTold, AlikeShowTheSame, EachCharacterIsTold};
 
-/// It is a state of a terminal: its sheets are grids of one size, the shown one and the main one have their rows, the
+/// What bytes and resizes make of a new terminal is a state of one: its sheets are grids of one size, the shown one and the main one have their rows, the
 /// main one alone keeps rows, and the drawing and the saved attributes are proper, and so are those of the cells.
 pub fn made_states()
     ensures { MakesStates }
 {}
 
-/// Its size is that of the last resize, or else the first one, and its main sheet keeps as many rows at most as at
-/// first.
+/// The size of what was made is that of the last resize, or else the first one, and its main sheet keeps as many rows
+/// at most as at first.
 pub fn last_sizes()
     ensures size { MakesLastSize }
     ensures capacity { MakesCapacity }
 {}
 
-/// None of the kept rows is shown, on neither sheet: only `Screen::set_scrollback` shows them.
+/// None of the kept rows is shown by what was made, on neither sheet: only `Screen::set_scrollback` shows them.
 pub fn no_offsets()
     ensures { MakesNoOffset }
 {}

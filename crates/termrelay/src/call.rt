@@ -8,9 +8,9 @@ use std::num::NonZeroU16;
 /// What one write of a pump's writer does.
 #[derive(Clone, Copy, Debug, Eq, PartialEq)]
 pub enum Take {
-    /// It takes at most so many bytes.
+    /// The write takes at most so many bytes.
     Bytes(usize),
-    /// It fails.
+    /// The write fails.
     Fault,
 }
 
@@ -34,12 +34,12 @@ pub enum Call<'a> {
 /// What a call was answered.
 #[derive(Debug, Drop)]
 pub enum Reply {
-    /// It was made: a feed, a resize, a detach, or a pump after which nothing is owed.
+    /// The call was made: a feed, a resize, a detach, or a pump after which nothing is owed.
     Done,
     /// The client that was attached.
     Attached(Client),
     /// The answer to a request for a frame.
     Answered(Answer),
-    /// It was refused.
+    /// The call was refused.
     Refused(HubError),
 }

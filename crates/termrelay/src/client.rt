@@ -27,7 +27,7 @@ impl Client {
         Client { key }
     }
 
-    /// Its key.
+    /// The client's key in its hub, which [`from_key`](Self::from_key) takes back.
     pub fn key(self) -> usize
         ensures { result ≡ self }
     {

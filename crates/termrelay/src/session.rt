@@ -38,7 +38,7 @@ impl Model for Session {
 }
 
 impl Session {
-    /// Of a client that was attached to a screen of this size.
+    /// A session of a client that was attached to a screen of this size.
     pub(crate) fn new(alloc: Global, client: Client, rows: NonZeroU16, cols: NonZeroU16) -> Self
         ensures { result ≡ record {
           client = client;
@@ -57,7 +57,7 @@ impl Session {
         }
     }
 
-    /// Its client. The key of one that has ended may be another's by now.
+    /// The client whose session this is. Where the session has ended, the key may be another client's by now.
     pub fn client(&self) -> Client
         ensures { result ≡ self.now.client }
     {
@@ -71,35 +71,35 @@ impl Session {
         self.rows
     }
 
-    /// How many columns it had.
+    /// How many columns the hub's screen had when the client was attached.
     pub fn cols(&self) -> NonZeroU16
         ensures { result.value ≡ self.now.cols }
     {
         self.cols
     }
 
-    /// The bytes that its pumps' writers took.
+    /// The bytes that the writers of the client's pumps took, in order.
     pub fn pumped(&self) -> &[u8]
         ensures { result.now ≡ self.now.pumped }
     {
         &self.pumped
     }
 
-    /// Whether a later call of a run with its log ended it.
+    /// Whether a call of a run with the session's log ended the session after it began.
     pub fn ended(&self) -> bool
         ensures { result ≡ self.now.ended }
     {
         self.ended
     }
 
-    /// Whether it is of this client, and hasn't ended.
+    /// Whether the session is of this client, and hasn't ended.
     pub(crate) fn is_of(&self, client: Client) -> bool
         ensures { result ≡ is_of client self.now }
     {
         !self.ended && self.client == client
     }
 
-    /// From now on it has ended.
+    /// Ends the session.
     pub(crate) fn end(&mut self)
         ensures { self.new ≡ ended_now self.old }
     {

@@ -24,7 +24,8 @@ pub fn printing_is_input()
     ensures { EachPrintIsInput }
 {}
 
-/// The same of a text without U+FE0F, which a terminal reads as a form.
+/// What printing a text without U+FE0F, which a terminal reads as a form, makes of a grid whose region is the whole
+/// screen is what a terminal's picture says of the form.
 pub fn texts_are_input()
     ensures { EachTextIsInput }
 {}

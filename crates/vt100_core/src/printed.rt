@@ -3,10 +3,10 @@
 /// What [`Grid::text`](crate::Grid::text) did with a character.
 #[derive(Clone, Copy, Debug, Eq, PartialEq)]
 pub enum Printed {
-    /// It was dropped.
+    /// The character was dropped.
     Nothing,
-    /// It stands in a cell of its own.
+    /// The character stands in a cell of its own.
     Spacing,
-    /// It joined the cell before it. A cell that was full is as it was.
+    /// The character joined the cell before it. A cell that was full is as it was.
     Joined,
 }

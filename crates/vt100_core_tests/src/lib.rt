@@ -1,4 +1,4 @@
-//! Tests of `vt100_forms`, `vt100_rows`, `vt100_rows` and `vt100_core`: forms byte for byte, rows and grids at work.
+//! Tests of `vt100_forms`, `vt100_rows` and `vt100_core`: forms byte for byte, rows and grids at work.
 #![tactic(auto)]
 
 #[cfg(test)]

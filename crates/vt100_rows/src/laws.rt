@@ -10,7 +10,9 @@ pub fn rows_are_drawn()
     ensures { EachRowIsDrawn }
 {}
 
-/// The same of [`write_contents_diff`](crate::Row::write_contents_diff), where the terminal shows the earlier row.
+/// A terminal that shows the earlier row, and reads what
+/// [`write_contents_diff`](crate::Row::write_contents_diff) appends for a whole row, shows this row there; its other
+/// rows stay.
 pub fn differences_are_drawn()
     ensures { EachDifferenceIsDrawn }
 {}
@@ -21,7 +23,7 @@ pub fn texts_are_sent()
     ensures { EachTextIsSent }
 {}
 
-/// If no cell has U+FE0F either, no text that is printed has it.
+/// If no cell of the row has U+FFFD or U+FE0F, no text that is printed has U+FE0F.
 pub fn texts_are_forms()
     ensures { EachTextIsAForm }
 {}

@@ -120,7 +120,8 @@ impl Grid {
     /// Moves the cursor to the start of the next row if fewer than `width` columns are left, and scrolls as
     /// [`row_inc_scroll`](Self::row_inc_scroll) does. The row that it left is marked as wrapped if `wrap` is set, it
     /// shows something in its last column, and it now stands directly above the cursor; else it isn't wrapped any more.
-    /// It is refused as [`scroll_up`](Self::scroll_up) is.
+    ///
+    /// Memory is refused only where rows scroll, as by [`scroll_up`](Self::scroll_up), which says what stays then.
     #[tactic(auto, unfolding(crate::specs::Scroll::wrapped_on))]
     pub fn col_wrap<S: RowSink>(
         &mut self,

@@ -125,7 +125,7 @@ impl Row {
     }
 }
 
-/// The same with the whole pen, for the grid.
+/// Redraws and differences with the whole pen, for the grid.
 impl Row {
     /// Draws the row as [`write_contents_formatted`](Self::write_contents_formatted) does. `above` says whether the row
     /// above goes on in this one.
