@@ -8,7 +8,7 @@ use Rattle.std.specs.declared.io.Error.{Error}
 use Rattle.terminal_model.specs.Term.{Size}
 use Rattle.relay_streams.specs.declared.error.RelayError.{RelayError}
 use Rattle.relay_streams.specs.declared.error.RelayError.TheVariants.{Read, TooManyReads, FrameTooLong}
-use Rattle.relay_streams.specs.Fill.{Reads, FillEnd, Full, Ended, Failed, TooMany}
+use Rattle.relay_streams.specs.Fill.{IsReadBy, FillEnd, Full, Ended, Failed, TooMany}
 use Rattle.relay_streams.specs.Frames.{is_overlong}
 use Rattle.termrelay.specs.declared.answer.Answer.{Answer}
 use Rattle.termrelay.specs.declared.answer.Answer.TheVariants.{TooLong}
@@ -66,7 +66,7 @@ module _ (S W : Type 0) (gives : S → ℕ → Result (List ℕ) Error → S →
     (takes : W → List ℕ → Result ℕ Error → W → Type 0) (flushes : W → Result (Unit {0}) Error → W → Type 0)
     (contents : W → Option (List ℕ)) (left : S → Option (List ℕ))
     (gave : (s : S) (room : ℕ) (answer : Result (List ℕ) Error) (t : S) → gives s room answer t
-    → Reads left s room answer t)
+    → IsReadBy left s room answer t)
     (took : (w : W) (bytes : List ℕ) (answer : Result ℕ Error) (v : W) → takes w bytes answer v
     → Writes contents w bytes answer v)
     (flushed : (w : W) (answer : Result (Unit {0}) Error) (v : W) → flushes w answer v

@@ -5,7 +5,7 @@ use Rattle.vte.specs.Frames.{Leads}
 use Rattle.termview.specs.declared.view.View.{View}
 use Rattle.termview.specs.declared.until_cleared.UntilCleared.{UntilCleared}
 use Rattle.termview.specs.Timeout.{pending_of}
-use Rattle.termview.specs.Standing.{HoldsAt, size_of}
+use Rattle.termview.specs.Standing.{HoldsAt, view_size}
 
 -- whether the timeout says that an update is open
 abbrev pub answers : UntilCleared → Bool → Type 0
@@ -18,7 +18,7 @@ pub record LedTo (old : View UntilCleared) (parsed : List ℕ) (hold : Option (L
   pub hold' : Option (List ℕ)
   pub leads : Leads (map Gives pieces) parsed hold parsed' hold'
   pub holds : HoldsAt answers new parsed' hold'
-  pub size : size_of new ≡ size_of old
+  pub size : view_size new ≡ view_size old
 
 -- wherever the view stands, the pieces lead it on
 pub record Led (old : View UntilCleared) (pieces : List (List ℕ)) (new : View UntilCleared) : Type 0 where

@@ -7,7 +7,7 @@ use Rattle.vt100_forms.specs.Attrs.{default_attrs}
 use Rattle.vt100_forms.specs.Form.{Form, Text, MoveTo, MoveRight, EraseChar, ClearRowForward, ClearScreen, ClearAttrs}
 use Rattle.vt100_forms.specs.Form.{Crlf, Lf, Backspace, SaveCursor, RestoreCursor, HideCursor, Keypad, CursorKeys}
 use Rattle.vt100_forms.specs.Form.{Paste, Mouse, Encoding, Style, Sgr, change}
-use Rattle.vt100_forms.specs.Mark.{HasPlainText}
+use Rattle.vt100_forms.specs.Mark.{HasPlainText, HasNoMark}
 use Rattle.vt100_forms.proofs.Marks.{no_mark}
 use Rattle.vt100_cells.specs.Cell.{CellView, cell_of, columns_of, bool_eq}
 use Rattle.terminal_model.specs.Term.{Size, Modes, Shown, Term}
@@ -24,7 +24,7 @@ use Rattle.screen_drawing.specs.Screen.{contents_diff, state_diff, cursor_state_
 use Rattle.row_drawing.specs.Texts.{IsDrawing, AllDrawing}
 use Rattle.row_drawing.proofs.Texts.{all-join, change-drawing}
 use Rattle.row_drawing.proofs.DrawnTexts.{texts}
-use Rattle.screen_drawing.specs.Laws.{IsKnown, IsTrueOfEach, HasNoMark, EachTextIsSent, EachIsPlain, EachHasNoMark}
+use Rattle.screen_drawing.specs.Laws.{IsKnown, IsTrueOfEach, EachTextIsSent, EachIsPlain, EachHasNoMark}
 use Rattle.screen_drawing.specs.Laws.{EachTextIsAForm, EachModeComesOut}
 use Rattle.screen_drawing.proofs.Modes.{modes-run, modes-run_changed}
 use Rattle.screen_drawing.proofs.Drawing.{TextsAre, cursor-drawing, grid-drawing, grid_diff-drawing}

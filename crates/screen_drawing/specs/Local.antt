@@ -9,7 +9,7 @@ use Rattle.row_drawing.specs.declared.pen.Pen.{Pen}
 use Rattle.screen_drawing.specs.Rows.{rows_difference}
 use Rattle.screen_drawing.specs.Cursor.{row_with_end}
 use Rattle.screen_drawing.specs.Screen.{grid_difference, contents_diff, state_diff}
-use Rattle.screen_drawing.specs.Laws.{IsDrawable, IsScreen, showing}
+use Rattle.screen_drawing.specs.Laws.{IsDrawable, IsDrawableScreen, showing}
 
 -- the differences of all rows touch local cells of the two pictures alone
 abbrev pub EachRowsDifferenceIsLocal : Type 0
@@ -39,10 +39,10 @@ EachGridDifferenceIsLocal = (z : Size) (old new : Shown) → IsShown z old → I
 
 -- also whether the cursor is hidden, and the attributes
 abbrev pub EachContentsDifferenceIsLocal : Type 0
-EachContentsDifferenceIsLocal = (z : Size) (old new : Shown) → IsShown z old → IsProper old.attrs → IsScreen z new
+EachContentsDifferenceIsLocal = (z : Size) (old new : Shown) → IsShown z old → IsProper old.attrs → IsDrawableScreen z new
     → IsLocalList z old new (contents_diff z old new)
 
 -- also the modes and the style
 abbrev pub EachDifferenceIsLocal : Type 0
-EachDifferenceIsLocal = (z : Size) (old new : Shown) → IsShown z old → IsProper old.attrs → IsScreen z new
+EachDifferenceIsLocal = (z : Size) (old new : Shown) → IsShown z old → IsProper old.attrs → IsDrawableScreen z new
     → IsLocalList z old new (state_diff z old new)

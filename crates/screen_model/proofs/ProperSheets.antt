@@ -17,14 +17,14 @@ use Rattle.vt100_core.specs.Scroll.{scrolled_up, fed, scrollback_erased, scrollb
 use Rattle.vt100_core.specs.Resize.{resized}
 use Rattle.vt100_core.specs.Text.{printed, printed_all}
 use Rattle.screen_model.specs.State.{IsProperSheet}
-use Rattle.screen_model.proofs.CleanRows.{IsClean, IsCleanRow, proper, clean-cell, clean-row}
-use Rattle.screen_model.proofs.CleanSheets.{IsCleanSheet, sheet-all_erased, sheet-all_erased_forward}
-use Rattle.screen_model.proofs.CleanSheets.{sheet-all_erased_backward, sheet-row_erased, sheet-columns_erased}
-use Rattle.screen_model.proofs.CleanSheets.{sheet-cells_inserted, sheet-cells_deleted, sheet-lines_inserted}
-use Rattle.screen_model.proofs.CleanSheets.{sheet-lines_deleted, sheet-scrolled_down, sheet-fed_up, sheet-region}
-use Rattle.screen_model.proofs.CleanSheets.{sheet-scrolled_up, sheet-fed, sheet-scrollback_shown}
-use Rattle.screen_model.proofs.CleanSheets.{sheet-scrollback_erased, sheet-printed, sheet-new, sheet-allocated}
-use Rattle.screen_model.proofs.CleanSheets.{sheet-cleared, sheet-resized}
+use Rattle.screen_model.proofs.RowTraits.{IsClean, IsCleanRow, proper, clean-cell, clean-row}
+use Rattle.screen_model.proofs.SheetTraits.{IsCleanSheet, sheet-all_erased, sheet-all_erased_forward}
+use Rattle.screen_model.proofs.SheetTraits.{sheet-all_erased_backward, sheet-row_erased, sheet-columns_erased}
+use Rattle.screen_model.proofs.SheetTraits.{sheet-cells_inserted, sheet-cells_deleted, sheet-lines_inserted}
+use Rattle.screen_model.proofs.SheetTraits.{sheet-lines_deleted, sheet-scrolled_down, sheet-fed_up, sheet-region}
+use Rattle.screen_model.proofs.SheetTraits.{sheet-scrolled_up, sheet-fed, sheet-scrollback_shown}
+use Rattle.screen_model.proofs.SheetTraits.{sheet-scrollback_erased, sheet-printed, sheet-new, sheet-allocated}
+use Rattle.screen_model.proofs.SheetTraits.{sheet-cleared, sheet-resized}
 
 -- ---- by positions, and for all rows
 

@@ -17,6 +17,9 @@ abbrev pub MarksStandBehindForms : Type 0
 MarksStandBehindForms = (fs : List Form) → AllByRecursion HasPlainText fs → (r xs ys : List ℕ)
     → spell fs ++ r ≡ xs ++ (mark_head ++ ys) → (zs : List ℕ) × (xs ≡ spell fs ++ zs)
 
+-- no mark stands in the bytes
+abbrev pub HasNoMark : List Form → Type 0
+HasNoMark fs = (xs ys : List ℕ) → spell fs ≡ xs ++ (mark_head ++ ys) → ⊥
+
 abbrev pub NoMarkInForms : Type 0
-NoMarkInForms = (fs : List Form) → AllByRecursion HasPlainText fs → (xs ys : List ℕ)
-    → spell fs ≡ xs ++ (mark_head ++ ys) → ⊥
+NoMarkInForms = (fs : List Form) → AllByRecursion HasPlainText fs → HasNoMark fs

@@ -5,7 +5,7 @@ use Rattle.std.specs.List.{AllByRecursion}
 use Rattle.std.proofs.lemmas.Bool.{cond_both, ltb-true}
 use Rattle.vt100_forms.specs.Form.{Form}
 use Rattle.vt100_forms.specs.Length.{HasSmallNumbers}
-use Rattle.vt100_forms.specs.Mark.{HasPlainText}
+use Rattle.vt100_forms.specs.Mark.{HasPlainText, HasNoMark}
 use Rattle.vt100_forms.proofs.Marks.{no_mark}
 use Rattle.vt100_cells.specs.Cells.{cell_at}
 use Rattle.terminal_model.specs.FormText.{IsSentText, IsFormText, HasText}
@@ -20,7 +20,7 @@ use Rattle.row_drawing.proofs.DrawnTexts.{texts}
 use Rattle.row_drawing.proofs.SmallRows.{small-skip, small-row_redraw, small-row_difference}
 use Rattle.vt100_rows.specs.Row.{RowView, IsRow}
 use Rattle.vt100_rows.specs.Forms.{redraw_job, redraw, difference_job, difference}
-use Rattle.vt100_rows.specs.Laws.{IsKnownRow, IsTrueOfForms, HasNoMark, EachTextIsSent, EachTextIsAForm}
+use Rattle.vt100_rows.specs.Laws.{IsKnownRow, IsTrueOfForms, EachTextIsSent, EachTextIsAForm}
 use Rattle.vt100_rows.specs.Laws.{EachHasNoMark, IsSmallRow, IsTrueOfSmallForms, EachListIsSent, EachListIsOfForms}
 
 -- ---- any part of a row

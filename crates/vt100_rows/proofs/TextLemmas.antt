@@ -9,7 +9,8 @@ use Rattle.std.proofs.lemmas.Str.{encodes-append, encode_ascii}
 use Rattle.vt100_cells.specs.Cell.{CellView, has_text}
 use Rattle.vt100_cells.specs.Cells.{cell_at}
 use Rattle.vt100_rows.specs.Row.{RowView}
-use Rattle.vt100_rows.specs.Text.{column_text, columns_text, line_text, row_text, written_text, IsBegun}
+use Rattle.vt100_rows.specs.Text.{column_text, columns_text, line_text, row_text, written_text}
+use Rattle.row_drawing.specs.Writes.{IsBegun}
 
 -- ---- spaces
 

@@ -11,3 +11,4 @@ pub use Rattle.vt100_forms.specs.Attrs
 pub use Rattle.vt100_cells.specs.Cell
 pub use Rattle.vt100_cells.specs.Cells
 pub use Rattle.vt100_cells.specs.Line
+pub use Rattle.row_drawing.specs.Writes

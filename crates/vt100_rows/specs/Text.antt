@@ -1,5 +1,5 @@
 -- The text that a row shows.
-use Rattle.std.specs.Prelude.{ℕ, zero, suc, ◌+◌, ◌-◌, ◌≡◌, ◌==◌, Bool, not, ◌&&◌, min, List, [], ◌∷◌, ◌++◌, length}
+use Rattle.std.specs.Prelude.{ℕ, zero, suc, ◌+◌, ◌-◌, ◌==◌, Bool, not, ◌&&◌, min, List, [], ◌∷◌, ◌++◌, length}
 use Rattle.std.specs.Prelude.{if◌then◌else◌}
 use Rattle.vt100_cells.specs.Cell.{CellView, has_text}
 use Rattle.vt100_cells.specs.Cells.{cell_at}
@@ -27,7 +27,3 @@ row_text v s e = line_text (cell_at v.cells) s (min e (length v.cells) - s)
 -- what is written of n columns from s on; where they show no text below a wrapped row, a newline stands for it
 abbrev pub written_text : RowView → ℕ → ℕ → Bool → List ℕ
 written_text v s n wrapping = if wrapping && (length (row_text v s (s + n)) == 0) then 10 ∷ [] else row_text v s (s + n)
-
--- `now` is `old` and a front of `text`
-abbrev pub IsBegun : List ℕ → List ℕ → List ℕ → Type 0
-IsBegun old text now = (front : List ℕ) × (rest : List ℕ) × (text ≡ front ++ rest) × (now ≡ old ++ front)

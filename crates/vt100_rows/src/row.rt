@@ -7,7 +7,8 @@ ghost use Rattle.vt100_cells.specs.Line.{span_of};
 ghost use Rattle.vt100_rows.specs.Row.{blank_row, cleared_row, with_wrap, placed, wiped_row, pair_cleared, join_row};
 ghost use Rattle.vt100_rows.specs.Row.{join_answer, inserted, removed, truncated, grown, resized_row, trimmed, run_row};
 ghost use Rattle.vt100_rows.specs.Row.{placed_each, joined_plain};
-ghost use Rattle.vt100_rows.specs.Text.{written_text, IsBegun};
+ghost use Rattle.vt100_rows.specs.Text.{written_text};
+ghost use Rattle.row_drawing.specs.Writes.{IsBegun};
 
 mod forms;
 

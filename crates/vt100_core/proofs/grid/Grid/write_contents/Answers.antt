@@ -1,7 +1,8 @@
 use Rattle.std.proofs.Common.{◌++◌, length, ap, ◌∙◌, sym, subst}
 use Rattle.std.specs.Prelude.{string_bytes, encode_utf8_all}
 use Rattle.std.proofs.lemmas.List.{length_push}
-use Rattle.vt100_rows.specs.Text.{written_text, IsBegun}
+use Rattle.vt100_rows.specs.Text.{written_text}
+use Rattle.row_drawing.specs.Writes.{IsBegun}
 use Rattle.vt100_rows.proofs.TextLemmas.{on-err}
 use Rattle.vt100_core.specs.Grid.{GridView}
 use Rattle.vt100_core.specs.Contents.{newlines_cut}
