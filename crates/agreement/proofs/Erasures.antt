@@ -29,7 +29,8 @@ use Rattle.forms_read.specs.Events.{kept_number, sequence, bare, events_of}
 use Rattle.screen_model.specs.State.{State}
 use Rattle.screen_model.specs.Step.{with_shown, cells_erased, erased_below}
 use Rattle.screen_model.specs.Made.{played}
-use Rattle.agreement.specs.Plain.{terminal_of, size_shown, extras_of, IsPlainGrid, IsPlainState}
+use Rattle.screen_model.specs.Shown.{extras_of}
+use Rattle.agreement.specs.Plain.{terminal_of, size_shown, IsPlainGrid, IsPlainState}
 use Rattle.agreement.specs.StateLaws.{Shows}
 use Rattle.agreement.proofs.PlainStates.{drawable, shows-at, shows-same}
 use Rattle.agreement.proofs.Cursors.{plain-moved, placed-at, read-count, nonzero}

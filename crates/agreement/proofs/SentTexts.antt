@@ -33,7 +33,8 @@ use Rattle.screen_model.specs.Effect.{Effect, is_unhandled, calling, steps, effe
 use Rattle.screen_model.specs.Step.{typed}
 use Rattle.screen_model.specs.Call.{unhandled_char}
 use Rattle.screen_model.specs.Made.{played}
-use Rattle.agreement.specs.Plain.{size_shown, extras_of, IsPlainGrid, IsPlainState}
+use Rattle.screen_model.specs.Shown.{extras_of}
+use Rattle.agreement.specs.Plain.{size_shown, IsPlainGrid, IsPlainState}
 use Rattle.agreement.proofs.PlainStates.{drawable}
 use Rattle.agreement.proofs.Cursors.{plain-moved}
 use Rattle.agreement.proofs.Erasures.{plain-rows, plain-row}

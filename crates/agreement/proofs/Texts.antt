@@ -33,7 +33,8 @@ use Rattle.forms_read.proofs.SentTexts.{sent-printed}
 use Rattle.screen_model.specs.State.{State}
 use Rattle.screen_model.specs.Effect.{is_unhandled, effect}
 use Rattle.screen_model.specs.Made.{played}
-use Rattle.agreement.specs.Plain.{terminal_of, size_shown, extras_of, IsPlainGrid, IsPlainState}
+use Rattle.screen_model.specs.Shown.{extras_of}
+use Rattle.agreement.specs.Plain.{terminal_of, size_shown, IsPlainGrid, IsPlainState}
 use Rattle.agreement.specs.StateLaws.{Shows}
 use Rattle.agreement.proofs.PlainStates.{drawable, shows-at, shows-same, shows-then}
 use Rattle.agreement.proofs.Cursors.{plain-moved}

@@ -3,17 +3,9 @@ use Rattle.std.specs.Prelude.{◌+◌, ◌^◌, ◌<◌, ◌≤◌, ◌≡◌, f
 use Rattle.terminal_model.specs.Term.{Size, Term}
 use Rattle.vt100_rows.specs.Sheet.{IsSheet}
 use Rattle.vt100_core.specs.Grid.{GridView, IsAllocated}
-use Rattle.vt100_core.specs.Picture.{Extras, grid_size, term_of_grid}
+use Rattle.vt100_core.specs.Picture.{grid_size, term_of_grid}
 use Rattle.screen_model.specs.State.{State}
-
-abbrev pub extras_of : State → Extras
-extras_of s = record {
-  hidden = s.hidden;
-  attrs = s.attrs;
-  saved_attrs = s.saved_attrs;
-  modes = s.modes;
-  style = s.style;
-}
+use Rattle.screen_model.specs.Shown.{extras_of}
 
 -- what the state shows, with the cursor and the attributes that it has saved
 abbrev pub terminal_of : State → Term

@@ -1,4 +1,4 @@
--- IsReadBy that fill a piece: what they make of a source, the bytes that they give, and how they end.
+-- Reads that fill a piece: what they make of a source, the bytes that they give, and how they end.
 use Rattle.std.specs.Prelude.{◌≡◌, ◌≢◌, ℕ, ◌+◌, ◌-◌, ◌^◌, ◌<◌, ◌≤◌, List, [], ◌++◌, length, take, Option, Ok, Err}
 use Rattle.std.specs.Prelude.{Result}
 use Rattle.std.specs.Io.KnownBytes.{Consumes, IsAtEnd, Keeps}

@@ -12,7 +12,7 @@ use std::io::{ErrorKind, Read};
 /// Bytes of a full piece.
 pub const PIECE_LEN: usize = 4096;
 
-/// IsReadBy tried, interrupted ones included, before the input is given up as endless.
+/// Reads tried, interrupted ones included, before the input is given up as endless.
 const MAX_READS: u64 = 1 << 40;
 
 /// What gives bytes. Each kind says what one read does to it, also when it fails.
@@ -23,7 +23,7 @@ pub trait Source {
     // what one read with so much room answers and leaves
     ghost gives: { Self → ℕ → Result (List ℕ) Error → Self → Type 0 };
 
-    /// IsReadBy into the room, and answers how many bytes it gave.
+    /// Reads into the room, and answers how many bytes it gave.
     fn give(&mut self, room: &mut [u8]) -> io::Result<usize>
         ensures bound { ReadsAtMost result room.new }
         ensures gives { gives self.old (length room.old) (given result room.new) self.new };
@@ -45,7 +45,7 @@ impl<R: Read> Source for R {
     }
 }
 
-/// IsReadBy until the piece is full or the input ends, and answers how many bytes were read. IsReadBy are counted from those
+/// Reads until the piece is full or the input ends, and answers how many bytes were read. Reads are counted from those
 /// made before; an interrupted one is tried again.
 pub fn fill<S: Source>(
     input: &mut S,

@@ -5,8 +5,18 @@ use Rattle.vt100_forms.specs.Attrs.{flags_of}
 use Rattle.vt100_cells.specs.Cell.{CellView}
 use Rattle.terminal_model.specs.Term.{Shown}
 use Rattle.vt100_core.specs.Grid.{visible_row_at, cell_in}
-use Rattle.vt100_core.specs.Picture.{visible_lines, visible_wraps}
+use Rattle.vt100_core.specs.Picture.{Extras, visible_lines, visible_wraps}
 use Rattle.screen_model.specs.State.{State, IsState}
+
+-- what it has beside its sheets
+abbrev pub extras_of : State → Extras
+extras_of s = record {
+  hidden = s.hidden;
+  attrs = s.attrs;
+  saved_attrs = s.saved_attrs;
+  modes = s.modes;
+  style = s.style;
+}
 
 -- the picture of the shown sheet, the input modes and the cursor's style
 abbrev pub shown_state : State → Shown

@@ -50,6 +50,22 @@ IsTerm-of z a v h s = record {
   saved_in_cols = s.in_cols;
 }
 
+pub IsShown-of : (z : Size) (t : Term) → IsTerm z t → IsShown z (shown_of t)
+IsShown-of z t h = record {
+  some_row = h.some_row;
+  some_col = h.some_col;
+  paired = h.paired;
+  beyond = h.beyond;
+  below = h.below;
+  below_flag = h.below_flag;
+  filled = h.filled;
+  last = h.last;
+  in_rows = h.in_rows;
+  in_cols = h.in_cols;
+  saved_in_rows = h.some_row;
+  saved_in_cols = omega arith;
+}
+
 pub paths-join : EachPathJoins
 paths-join z fs gs a b c h f g v s =
     let u = run z fs (term_of a v) in

@@ -20,7 +20,7 @@ use Rattle.vt100_rows.proofs.SheetLemmas.{row_at-by_position, length-rows_by_pos
 use Rattle.screen_drawing.specs.Rows.{is_continued}
 use Rattle.vt100_core.specs.Grid.{visible, visible_at}
 use Rattle.vt100_core.specs.Picture.{grid_size}
-use Rattle.vt100_core.proofs.PictureLemmas.{visible_at-drawn, shown_wraps-drawn}
+use Rattle.vt100_core.proofs.PictureLemmas.{visible_at-drawn, visible_wraps-drawn}
 use Rattle.screen_model.specs.State.{State}
 use Rattle.screen_model.specs.Shown.{shown_state}
 use Rattle.vt100.specs.Writers.{each_formatted, each_diff, rows_formatted, rows_diff}
@@ -116,7 +116,7 @@ row-is s h i l =
 
 wraps-are : (s : State) → IsUnscrolled s → (i : ℕ)
     → (shown_state s).wrapped i ≡ (row_at s.shown.rows i).wrapped
-wraps-are s h i = ap (λ (f : ℕ → Bool). f i) (shown_wraps-drawn s.shown h.state.shown h.state.drawn h.offset)
+wraps-are s h i = ap (λ (f : ℕ → Bool). f i) (visible_wraps-drawn s.shown h.state.shown h.state.drawn h.offset)
 
 pub row-of : (s : State) → IsUnscrolled s → (i : ℕ) → i < s.shown.height → IsRowOf s.shown.width (row_at s.shown.rows i)
 row-of s h i l = h.state.shown.sheet.each i (omega (arith, l, many s h))

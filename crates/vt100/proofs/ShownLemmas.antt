@@ -1,10 +1,11 @@
 -- A screen's forms are those of what it shows.
-use Rattle.std.proofs.Common.{◌≡◌, ◌∙◌, ℕ, List, ◌∷◌, ◌++◌, Contains, None, sym, ap, subst, arith}
+use Rattle.std.proofs.Common.{◌≡◌, ◌∙◌, ℕ, List, ◌∷◌, ◌++◌, Contains, None, sym, ap, subst}
 use Rattle.vt100_forms.specs.Attrs.{default_attrs}
 use Rattle.vt100_forms.specs.Form.{Form, HideCursor, ClearAttrs, ClearScreen, change}
 use Rattle.vt100_cells.specs.Cell.{CellView}
 use Rattle.terminal_model.specs.Term.{Size, Shown, IsShown}
 use Rattle.terminal_model.specs.Leads.{Leads}
+use Rattle.terminal_model.proofs.FormLemmas.{IsShown-of}
 use Rattle.row_drawing.specs.Writer.{Drawn}
 use Rattle.screen_drawing.specs.Modes.{switch, input_mode_formatted, input_mode_diff}
 use Rattle.screen_drawing.specs.Cursor as cursor
@@ -13,40 +14,31 @@ use Rattle.screen_drawing.proofs.Screens.{redraw_leads, state-redraw_leads, diff
 use Rattle.screen_drawing.proofs.Cursor.{cursor-state_set}
 use Rattle.screen_drawing.specs.Screen as picture
 use Rattle.screen_drawing.specs.Screen.{grid_redraw, grid_contents_formatted, grid_difference}
-use Rattle.vt100_core.specs.Picture.{grid_size, Extras, visible_lines}
+use Rattle.vt100_core.specs.Picture.{grid_size, term_of_grid, visible_lines}
 use Rattle.vt100_core.specs.WriterLaws as core
 use Rattle.vt100_core.specs.WriterLaws.{picture_of}
 use Rattle.vt100_core.specs.Writers.{redrawn, differing}
-use Rattle.vt100_core.proofs.PictureLemmas.{shown_lines-drawn, shown_wraps-drawn, IsTerm-grid}
+use Rattle.vt100_core.proofs.PictureLemmas.{visible_lines-drawn, visible_wraps-drawn, IsTerm-grid}
 use Rattle.vt100_core.proofs.PictureWriters.{cursor-of_picture, redrawn-of_picture, differing-of_pictures}
 use Rattle.vt100_core.proofs.PictureWriters.{grid-drawable}
 use Rattle.vt100_rows.specs.Picture.{lines_of}
 use Rattle.screen_model.specs.State.{State}
-use Rattle.screen_model.specs.Shown.{shown_state}
+use Rattle.screen_model.specs.Shown.{shown_state, extras_of}
 use Rattle.vt100.specs.Writers.{contents_formatted, state_formatted, contents_diff, state_diff, cursor_state_formatted}
 use Rattle.vt100.specs.WriterLaws.{IsUnscrolled, EachRedrawIsOfShown}
 use Rattle.vt100.specs.WriterLaws.{EachDifferenceIsOfShown, EachScreenIsDrawable, EachRedrawLeads}
 use Rattle.vt100.specs.WriterLaws.{EachDifferenceLeads}
 
-abbrev extras_of : State → Extras
-extras_of s = record {
-  hidden = s.hidden;
-  attrs = s.attrs;
-  saved_attrs = s.saved_attrs;
-  modes = s.modes;
-  style = s.style;
-}
-
 grid-unscrolled : (s : State) → IsUnscrolled s → core.IsUnscrolled s.shown
 grid-unscrolled s h = record { grid = h.state.shown; some = h.state.drawn; offset = h.offset }
 
 pub cells-are : (s : State) → IsUnscrolled s → visible_lines s.shown ≡ lines_of s.shown.rows
-cells-are s h = shown_lines-drawn s.shown h.state.shown h.state.drawn h.offset
+cells-are s h = visible_lines-drawn s.shown h.state.shown h.state.drawn h.offset
 
 picture-is : (s : State) → IsUnscrolled s → shown_state s ≡ picture_of s.shown (extras_of s)
 picture-is s h =
     let cells = cells-are s h in
-    let wraps = shown_wraps-drawn s.shown h.state.shown h.state.drawn h.offset in
+    let wraps = visible_wraps-drawn s.shown h.state.shown h.state.drawn h.offset in
     λ i. record {
       cell = cells i;
       wrapped = wraps i;
@@ -138,21 +130,9 @@ screen-drawable s h p =
 
 pub shown-is : (s : State) → IsUnscrolled s → IsShown (grid_size s.shown) (shown_state s)
 shown-is s h =
-    let t = IsTerm-grid s.shown (extras_of s) h.state.shown h.state.drawn in
-    subst (IsShown (grid_size s.shown)) (sym (picture-is s h)) (record {
-      some_row = t.some_row;
-      some_col = t.some_col;
-      paired = t.paired;
-      beyond = t.beyond;
-      below = t.below;
-      below_flag = t.below_flag;
-      filled = t.filled;
-      last = t.last;
-      in_rows = t.in_rows;
-      in_cols = t.in_cols;
-      saved_in_rows = t.some_row;
-      saved_in_cols = omega arith;
-    })
+    subst (IsShown (grid_size s.shown)) (sym (picture-is s h))
+    (IsShown-of (grid_size s.shown) (term_of_grid s.shown (extras_of s))
+    (IsTerm-grid s.shown (extras_of s) h.state.shown h.state.drawn))
 
 pub redraws-lead : EachRedrawLeads
 redraws-lead s from h p =

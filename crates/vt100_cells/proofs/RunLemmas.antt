@@ -1,4 +1,4 @@
--- A printed_run of printable ASCII characters, put on a line.
+-- A run of printable ASCII characters, put on a line.
 use Rattle.std.proofs.Common.{◌≡◌, ℕ, suc, ◌+◌, ◌-◌, ◌<◌, ◌≤◌, ◌==◌, Bool, true, false, cond, ◌&&◌, List, [], ◌∷◌}
 use Rattle.std.proofs.Common.{length, set, take, drop, slice_index, refl, ap, ◌∙◌, arith, ⊎_elim, nat_lt, nat_le}
 use Rattle.std.proofs.Common.{length-append, length-take, length-drop}

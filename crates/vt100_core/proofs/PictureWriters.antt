@@ -17,6 +17,7 @@ use Rattle.vt100_rows.specs.Row.{RowView}
 use Rattle.vt100_rows.specs.Forms.{redraw_job, redraw, difference_job, difference}
 use Rattle.terminal_model.specs.Term.{Size, IsShown, blank_shown}
 use Rattle.terminal_model.specs.Leads.{Leads}
+use Rattle.terminal_model.proofs.FormLemmas.{IsShown-of}
 use Rattle.row_drawing.specs.declared.pen.Pen.{Pen}
 use Rattle.row_drawing.specs.Writer.{Drawn, Writer, ◌>>◌, skip}
 use Rattle.row_drawing.specs.RowWriter.{row_redraw, row_difference}
@@ -34,7 +35,7 @@ use Rattle.vt100_rows.specs.Picture.{lines_of, wraps_of}
 use Rattle.vt100_rows.proofs.PictureLemmas.{lines-past}
 use Rattle.vt100_core.specs.Grid.{GridView, IsGrid, visible_at}
 use Rattle.vt100_core.specs.Contents.{is_below_wrapped}
-use Rattle.vt100_core.specs.Picture.{grid_size, Extras}
+use Rattle.vt100_core.specs.Picture.{grid_size, Extras, term_of_grid}
 use Rattle.vt100_core.specs.Writers.{drawn_on, line_redraw, lines_redraw, line_difference}
 use Rattle.vt100_core.specs.Writers.{lines_difference, redrawn, contents_formatted, differing}
 use Rattle.vt100_core.specs.WriterLaws.{IsUnscrolledGrid, picture_of, EachCursorIsOfPicture}
@@ -222,22 +223,7 @@ differing-of_pictures g old x y h o e =
 -- ---- where they lead
 
 pub shown-grid : (g : GridView) (x : Extras) → IsUnscrolledGrid g → IsShown (grid_size g) (picture_of g x)
-shown-grid g x h =
-    let t = IsTerm-grid g x h.grid h.some in
-    record {
-      some_row = t.some_row;
-      some_col = t.some_col;
-      paired = t.paired;
-      beyond = t.beyond;
-      below = t.below;
-      below_flag = t.below_flag;
-      filled = t.filled;
-      last = t.last;
-      in_rows = t.in_rows;
-      in_cols = t.in_cols;
-      saved_in_rows = t.some_row;
-      saved_in_cols = omega arith;
-    }
+shown-grid g x h = IsShown-of (grid_size g) (term_of_grid g x) (IsTerm-grid g x h.grid h.some)
 
 pub lines-cells : (g : GridView) (r k : ℕ) → IsGrid g → IsCell (lines_of g.rows r k)
 lines-cells g r k h =

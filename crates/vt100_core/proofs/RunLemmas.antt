@@ -1,4 +1,4 @@
--- Printing a printed_run of printable ASCII characters.
+-- Printing a run of printable ASCII characters.
 use Rattle.std.proofs.Common.{◌≡◌, ℕ, zero, ◌+◌, ◌<◌, ◌≤◌, ◌==◌, Bool, true, false, cond, ◌&&◌, ◌||◌, List, [], ◌∷◌}
 use Rattle.std.proofs.Common.{◌++◌, length, set, take, drop, sym, refl, ap, ◌∙◌, arith, nat_lt, nat_le, length-set}
 use Rattle.std.proofs.Common.{append-nil, append_assoc, add-zero, subst}
@@ -52,7 +52,7 @@ pub made-here : (g : GridView) → g.col + 1 ≤ g.width → made_to_fit g 1 tru
 made-here g h = ap (λ b. cond b (let s : Scrolled = record { grid = g; sunk = [] } in s) (wrapped_on g true))
     (fits-true (g.col + 1) g.width h)
 
--- ---- a printed_run in one row
+-- ---- a run in one row
 
 with-first : (g : GridView) (x : ℕ) (xs : List ℕ) (a : Attrs) → g.row < length g.rows
     → run_at (put_at g (cell_of x a) a 1) xs a ≡ run_at g (x ∷ xs) a
@@ -88,7 +88,7 @@ printed_all-here (x ∷ xs) g a p h l =
     in s) (printed_all-here xs g1 a (All-drop IsPrintable 1 (x ∷ xs) p) (omega arith) (omega (arith, count)))
     ∙ ap (λ (k : GridView). let s : Scrolled = record { grid = k; sunk = [] } in s) (with-first g x xs a l)
 
--- the first row of a printed_run: h is the grid once its first character fits
+-- the first row of a run: h is the grid once its first character fits
 in-row : (g : GridView) (xs : List ℕ) (a : Attrs) (s : Scrolled) → 0 < length xs → All IsPrintable xs → 0 < g.width
     → made_to_fit g 1 true ≡ s → s.grid.col + length xs ≤ s.grid.width → s.grid.row < length s.grid.rows
     → printed_all g xs a ≡ record { grid = run_at s.grid xs a; sunk = s.sunk }

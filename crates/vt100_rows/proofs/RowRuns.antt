@@ -1,4 +1,4 @@
--- A printed_run of printable ASCII characters, put on a row.
+-- A run of printable ASCII characters, put on a row.
 use Rattle.std.proofs.Common.{◌≡◌, ℕ, zero, suc, ◌+◌, ◌<◌, ◌≤◌, ◌==◌, Bool, true, false, cond, not, ◌&&◌, List, [], ◌∷◌}
 use Rattle.std.proofs.Common.{length, sym, refl, ap, ◌∙◌, arith}
 use Rattle.std.specs.Prelude.{All}

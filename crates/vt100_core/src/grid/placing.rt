@@ -39,7 +39,7 @@ impl Grid {
         if self.pos.col < self.size.cols() {
             return arrive(contents, prev_pos, self.pos);
         }
-        if is_pen_at(prev_pos, self.pos) {
+        if is_at(prev_pos, self.pos) {
             return Ok(());
         }
         match self.row_with_end() {
@@ -112,7 +112,7 @@ impl Grid {
             row,
             col: self.size.cols(),
         };
-        if is_pen_at(prev_pos, end) {
+        if is_at(prev_pos, end) {
             return Ok(());
         }
         let pos = Pos {
