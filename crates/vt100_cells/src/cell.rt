@@ -14,11 +14,11 @@ use vt100_forms::{Color, SHORT_BYTES, TextRun};
 /// How a cell stands in its row.
 #[derive(Clone, Copy, Debug, Eq, PartialEq)]
 pub(crate) enum Span {
-    /// It has one column of its own.
+    /// The cell has one column of its own.
     Narrow,
-    /// It takes the next column too.
+    /// The cell takes the next column too.
     Wide,
-    /// It is the second column of the cell before it.
+    /// The cell is the second column of the one before it.
     Continuation,
 }
 
@@ -192,7 +192,7 @@ impl Cell {
         }
     }
 
-    /// The same, where U+FE0F makes no cell wide. For rows alone.
+    /// Adds a character of no columns to the text, where U+FE0F makes no cell wide. For rows alone.
     #[doc(hidden)]
     pub fn joined_plain(self, c: char) -> Self
         requires zero_width { drawn_columns c ≡ Some 0 }

@@ -175,8 +175,8 @@ impl Attrs {
         }
     }
 
-    /// Appends the form that takes a terminal from the attributes `other` to these: nothing where they are equal, the
-    /// form that clears all where these are the default ones, else one that sets what differs. Where `contents` has to
+    /// Appends the escape sequence that takes a terminal from the attributes `other` to these: nothing where they are
+    /// equal, the one that clears all where these are the default ones, else one that sets what differs. Where `contents` has to
     /// grow and there is no memory it stays as it was.
     pub fn write_escape_code_diff(
         &self,
@@ -195,7 +195,8 @@ impl Attrs {
         Ok(())
     }
 
-    /// Puts the same bytes at the end of `run`: 58 at most.
+    /// Puts the bytes that take a terminal from the attributes `other` to these at the end of `run`: 48 at most, for
+    /// which there is room where 58 fit.
     #[doc(hidden)]
     #[inline(always)]
     pub fn push_escape_code_diff(&self, run: &mut TextRun, other: &Self)
@@ -215,7 +216,8 @@ impl Attrs {
         }
     }
 
-    /// Hands the same bytes to `writer` in one call, in none where there are no bytes. The only error is that call's.
+    /// Hands the bytes that take a terminal from the attributes `other` to these to `writer` in one call, in none where
+    /// there are no bytes. The only error is that call's.
     pub fn write_escape_code_diff_fmt<W: fmt::Write>(
         &self,
         writer: &mut W,

@@ -5,7 +5,7 @@ ghost use Rattle.vt100_forms.specs.declared.error.GridError.TheVariants.{Memory}
 use std::alloc::{AllocError, AllocFailed};
 use thiserror::Error;
 
-/// Why a call on a row, a grid or a form was refused.
+/// Why a call on a row, a grid or an escape sequence was refused.
 #[derive(Clone, Copy, Debug, Eq, Error, PartialEq)]
 pub enum GridError {
     /// There was no memory for what the call would have stored.

@@ -39,7 +39,8 @@ pub fn no_mark_stands_in_forms()
     ensures { NoMarkInForms }
 {}
 
-/// The same where other bytes follow: a mark there stands behind the forms.
+/// Where other bytes follow forms whose texts hold no ESC, a mark of a synchronized update in the whole stands behind
+/// the forms.
 pub fn marks_stand_behind_forms()
     ensures { MarksStandBehindForms }
 {}

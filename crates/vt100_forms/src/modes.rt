@@ -20,31 +20,31 @@ pub enum MouseProtocolMode {
 /// How a mouse report is written.
 #[derive(Clone, Copy, Debug, Default, Eq, PartialEq)]
 pub enum MouseProtocolEncoding {
-    /// A byte for each number.
+    /// A byte for each number, as X10's reports have it.
     #[default]
     Default,
     /// A UTF-8 character for each number (xterm's mode 1005).
     Utf8,
-    /// Decimal numbers (mode 1006).
+    /// Decimal numbers (xterm's mode 1006).
     Sgr,
 }
 
 /// How the cursor looks (DECSCUSR).
 #[derive(Clone, Copy, Debug, Default, Eq, PartialEq)]
 pub enum CursorStyle {
-    /// As the terminal chooses.
+    /// The style that the terminal chooses (DECSCUSR 0).
     #[default]
     Default,
-    /// A blinking block.
+    /// A blinking block (DECSCUSR 1).
     BlinkBlock,
-    /// A block.
+    /// A block (2).
     SteadyBlock,
-    /// A blinking line below the character.
+    /// A blinking line below the character (3).
     BlinkUnderline,
-    /// A line below the character.
+    /// A line below the character (4).
     SteadyUnderline,
-    /// A blinking line before the character.
+    /// A blinking line before the character (xterm's 5).
     BlinkVerticalBar,
-    /// A line before the character.
+    /// A line before the character (xterm's 6).
     SteadyVerticalBar,
 }

@@ -18,10 +18,11 @@ use itoa::Buffer;
 use std::fmt;
 use std::marker::Model;
 
-/// Room on the stack for the bytes of one form.
+/// Room on the stack for the bytes of one escape sequence.
 pub type FormText = ArrayString<64>;
 
-/// What can be written as a form. An implementation says its bytes in `as_text`, and the others hand them on.
+/// What can be written as an escape sequence. An implementation says its bytes in `as_text`, and the other methods hand
+/// them on.
 pub trait BufWrite {
     // one form, or none
     ghost forms: { Self → List Form };
@@ -82,7 +83,7 @@ impl BufWrite for ClearRowForward {
     }
 }
 
-/// Moves the cursor to the first column of the next row.
+/// Moves the cursor to the first column of the next row (CR and LF).
 #[derive(Debug, Default, Drop)]
 pub struct Crlf;
 
@@ -94,7 +95,7 @@ impl BufWrite for Crlf {
     }
 }
 
-/// Moves the cursor to the left by a column.
+/// Moves the cursor to the left by a column (BS).
 #[derive(Debug, Default, Drop)]
 pub struct Backspace;
 
@@ -146,7 +147,7 @@ impl Model for MoveTo {
 }
 
 impl MoveTo {
-    /// To `pos`.
+    /// A move to `pos`, which is counted from 0.
     pub fn new(pos: Pos) -> Self
         ensures { result ≡ Form.MoveTo pos.row pos.col }
     {
@@ -156,7 +157,7 @@ impl MoveTo {
         }
     }
 
-    /// Puts the form's bytes at the end of `run`.
+    /// Puts the escape sequence's bytes at the end of `run`.
     fn push_to(&self, run: &mut TextRun)
         requires { length run.old + 14 ≤ 128 }
         ensures bytes { run.new ≡ run.old ++ spell (self.now ∷ []) }
@@ -199,11 +200,11 @@ impl BufWrite for ClearAttrs {
 /// How strong a character is drawn.
 #[derive(Clone, Copy, Debug, Eq, PartialEq)]
 pub enum Intensity {
-    /// SGR 22.
+    /// Neither bold nor dim (SGR 22).
     Normal,
-    /// SGR 1.
+    /// Bold (SGR 1).
     Bold,
-    /// SGR 2.
+    /// Dim, or faint (SGR 2).
     Dim,
 }
 
@@ -236,7 +237,7 @@ impl Model for Attrs {
 impl Attrs {
     ghost use Rattle.vt100_forms.specs.Form.{changed_attrs, sgr_numbers};
 
-    /// The foreground colour to set.
+    /// Names the foreground colour to set (SGR 30 to 37, 90 to 97, 38 and 39).
     pub fn fgcolor(mut self, fgcolor: Color) -> Self
         ensures { result ≡ record self { fgcolor = Some fgcolor } }
     {
@@ -244,7 +245,7 @@ impl Attrs {
         self
     }
 
-    /// The background colour to set.
+    /// Names the background colour to set (SGR 40 to 47, 100 to 107, 48 and 49).
     pub fn bgcolor(mut self, bgcolor: Color) -> Self
         ensures { result ≡ record self { bgcolor = Some bgcolor } }
     {
@@ -252,7 +253,7 @@ impl Attrs {
         self
     }
 
-    /// The intensity to set.
+    /// Names the intensity to set (SGR 1, 2 and 22).
     pub fn intensity(mut self, intensity: Intensity) -> Self
         ensures { result ≡ record self { intensity = Some intensity } }
     {
@@ -260,7 +261,7 @@ impl Attrs {
         self
     }
 
-    /// Whether italic is set or reset.
+    /// Says whether italic is set or reset (SGR 3 and 23).
     pub fn italic(mut self, italic: bool) -> Self
         ensures { result ≡ record self { italic = Some italic } }
     {
@@ -268,7 +269,7 @@ impl Attrs {
         self
     }
 
-    /// Whether underlining is set or reset.
+    /// Says whether underlining is set or reset (SGR 4 and 24).
     pub fn underline(mut self, underline: bool) -> Self
         ensures { result ≡ record self { underline = Some underline } }
     {
@@ -276,7 +277,7 @@ impl Attrs {
         self
     }
 
-    /// Whether inverse is set or reset.
+    /// Says whether inverse is set or reset (SGR 7 and 27).
     pub fn inverse(mut self, inverse: bool) -> Self
         ensures { result ≡ record self { inverse = Some inverse } }
     {
@@ -385,7 +386,7 @@ fn push_flag(numbers: &mut Numbers, on: u8, off: u8, flag: Option<bool>)
 }
 
 impl Attrs {
-    /// Puts the form's bytes at the end of `run`.
+    /// Puts the escape sequence's bytes at the end of `run`.
     // Inlined, like `of_change`: so what differs needn't be kept before it is written.
     #[inline(always)]
     pub(crate) fn push_to(&self, run: &mut TextRun)
@@ -495,7 +496,7 @@ impl Model for MoveRight {
 }
 
 impl MoveRight {
-    /// By `count` columns.
+    /// A move by `count` columns.
     pub fn new(count: u16) -> Self
         ensures { result ≡ Form.MoveRight count }
     {
@@ -534,7 +535,7 @@ impl Model for EraseChar {
 }
 
 impl EraseChar {
-    /// Over `count` columns.
+    /// An erasure of `count` columns.
     pub fn new(count: u16) -> Self
         ensures { result ≡ Form.EraseChar count }
     {
@@ -603,7 +604,7 @@ impl Model for HideCursor {
 }
 
 impl HideCursor {
-    /// Hidden where `state` is true.
+    /// Hides the cursor where `state` is true, and else shows it.
     pub fn new(state: bool) -> Self
         ensures { result ≡ Form.HideCursor state }
     {
@@ -639,14 +640,14 @@ impl Model for MoveFromTo {
 impl MoveFromTo {
     ghost use Rattle.vt100_forms.specs.Form.{moves};
 
-    /// From where the cursor stands to where it is wanted.
+    /// A move from where the cursor stands to where it is wanted.
     pub fn new(from: Pos, to: Pos) -> Self
         ensures { result ≡ moves from to }
     {
         MoveFromTo { from, to }
     }
 
-    /// Puts the form's bytes at the end of `run`: 14 at most.
+    /// Puts the escape sequence's bytes at the end of `run`: 14 at most.
     #[doc(hidden)]
     pub fn push_to(&self, run: &mut TextRun)
         requires { length run.old + 14 ≤ 128 }
@@ -697,7 +698,7 @@ impl Model for ApplicationKeypad {
 }
 
 impl ApplicationKeypad {
-    /// The application mode where `state` is true.
+    /// Sets the application mode where `state` is true, and else the numeric one.
     pub fn new(state: bool) -> Self
         ensures { result ≡ Form.Keypad state }
     {
@@ -728,7 +729,7 @@ impl Model for ApplicationCursor {
 }
 
 impl ApplicationCursor {
-    /// Set where `state` is true.
+    /// Sets the application mode where `state` is true, and else resets it.
     pub fn new(state: bool) -> Self
         ensures { result ≡ Form.CursorKeys state }
     {
@@ -759,7 +760,7 @@ impl Model for BracketedPaste {
 }
 
 impl BracketedPaste {
-    /// Set where `state` is true.
+    /// Sets bracketed paste where `state` is true, and else resets it.
     pub fn new(state: bool) -> Self
         ensures { result ≡ Form.Paste state }
     {
@@ -795,7 +796,7 @@ impl Model for MouseProtocolMode {
 }
 
 impl MouseProtocolMode {
-    /// The mode that is wanted, and the one that the terminal has.
+    /// A change to the mode that is wanted, from the one that the terminal has.
     pub fn new(mode: crate::MouseProtocolMode, prev: crate::MouseProtocolMode) -> Self
         ensures { result ≡ Form.Mouse mode prev }
     {
@@ -839,7 +840,7 @@ impl Model for MouseProtocolEncoding {
 }
 
 impl MouseProtocolEncoding {
-    /// The encoding that is wanted, and the one that the terminal has.
+    /// A change to the encoding that is wanted, from the one that the terminal has.
     pub fn new(encoding: crate::MouseProtocolEncoding, prev: crate::MouseProtocolEncoding) -> Self
         ensures { result ≡ Form.Encoding encoding prev }
     {
@@ -904,7 +905,7 @@ impl Model for CursorStyle {
 }
 
 impl CursorStyle {
-    /// The style that is wanted, and the one that the terminal has.
+    /// A change to the style that is wanted, from the one that the terminal has.
     pub fn new(style: crate::CursorStyle, prev: crate::CursorStyle) -> Self
         ensures { result ≡ Form.Style style prev }
     {
