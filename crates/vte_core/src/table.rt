@@ -5,8 +5,8 @@ ghost use Rattle.std.specs.Bool.{IsTrue};
 ghost use Rattle.vte_core.specs.Classes.{is_in};
 ghost use Rattle.vte_core.specs.Steps.{does, next_state};
 
-use crate::State;
-use crate::State::{
+use crate::parser::State;
+use crate::parser::State::{
     Csi, DcsHeader, DcsPassthrough, Escape as Esc, Ground, OscString, SosPmApcString,
 };
 use Action::{Cancel as Abort, Collect, Dispatch, End, Execute, Ignore, Param, Put};
