@@ -44,7 +44,7 @@ pub struct Parser<const N: usize> {
     state: State,
     /// The first bytes of a character in ground text.
     unfinished: Unfinished,
-    /// Those of an escape sequence.
+    /// The intermediates of an escape sequence.
     intermediates: Intermediates,
     /// The header of a control sequence or a device control string.
     header: Header,
@@ -298,7 +298,7 @@ impl<const N: usize> Parser<N> {
         ensures is_told { (q : Pending) → IsAt N self.old q
             → byte_heard N State.Ground self.old self.new byte ≡ byte_told N q byte }
     {
-        self.unfinished.byte(performer, byte);
+        self.unfinished.read_byte(performer, byte);
     }
 
     /// A byte.

@@ -5,10 +5,10 @@ use Rattle.vte_core.specs.Event.{Event}
 use Rattle.vte_core.specs.Runs.{run_told, run_rest}
 use Rattle.vte_core.proofs.Runs.{run_told-append, run_rest-append, read_more, all_printed-take, all_printed-drop}
 use Rattle.vte_core.proofs.Telling.{performs-append, same_events}
-use Rattle.vte_core.proofs.text.Unfinished.printed.Goals as goal
+use Rattle.vte_core.proofs.text.Unfinished.read_printed.Goals as goal
 
-pub text-read-requires-clause-printed : goal.text-read-requires-clause-printed
-text-read-requires-clause-printed g c =
+pub read_front-read-requires-clause-printed : goal.read_front-read-requires-clause-printed
+read_front-read-requires-clause-printed g c =
     let bs = c.args.bytes.now in
     all_printed-take (length bs - c.loop-read.read) (drop c.loop-read.read bs)
     (all_printed-drop c.loop-read.read bs c.requires)
@@ -17,7 +17,7 @@ pub loop-read-preserved : goal.loop-read-preserved
 loop-read-preserved g c =
     let bs = c.args.bytes.now in
     let i = c.loop-read.read in
-    let k = c.text-read.result in
+    let k = c.read_front-read.result in
     let u = c.args.self.now in
     let piece : List ℕ = take k (take (length bs - i) (drop i bs)) in
     let inv = c.loop-read.invariant in
@@ -27,14 +27,19 @@ loop-read-preserved g c =
     let told : run_told c.loop-read.self piece ≡ run_told (run_rest u (take i bs)) piece =
     ap (λ (v : List ℕ). run_told v piece) inv.rest in
     record {
-      within = omega (arith, c.text-read.ensures.within, length-take (length bs - i) (drop i bs), length-drop i bs);
-      told = same_events g.P.Perform.step c.args.performer.now c.text-read.new.performer (run_told u (take i bs)
+      within = omega (
+        arith,
+        c.read_front-read.ensures.within,
+        length-take (length bs - i) (drop i bs),
+        length-drop i bs,
+      );
+      told = same_events g.P.Perform.step c.args.performer.now c.read_front-read.new.performer (run_told u (take i bs)
           ++ run_told c.loop-read.self piece) (run_told u (take (i + k) bs))
           (ap (λ (es : List Event). run_told u (take i bs) ++ es) told
           ∙ (sym (run_told-append u (take i bs) piece) ∙ ap (run_told u) (sym more)))
-          (performs-append g.P.Perform.step c.args.performer.now c.loop-read.performer c.text-read.new.performer
-          (run_told u (take i bs)) (run_told c.loop-read.self piece) inv.told c.text-read.ensures.told);
-      rest = c.text-read.ensures.rest ∙ (mid ∙ (sym (run_rest-append u (take i bs) piece)
+          (performs-append g.P.Perform.step c.args.performer.now c.loop-read.performer c.read_front-read.new.performer
+          (run_told u (take i bs)) (run_told c.loop-read.self piece) inv.told c.read_front-read.ensures.told);
+      rest = c.read_front-read.ensures.rest ∙ (mid ∙ (sym (run_rest-append u (take i bs) piece)
           ∙ ap (run_rest u) (sym more)));
     }
 

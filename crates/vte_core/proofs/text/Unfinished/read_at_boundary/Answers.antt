@@ -9,7 +9,7 @@ use Rattle.vte_core.proofs.Fronts.{reads_front}
 use Rattle.vte_core.proofs.Runs.{read_more}
 use Rattle.vte_core.proofs.Ground.{c0-run}
 use Rattle.vte_core.proofs.Telling.{same_events}
-use Rattle.vte_core.proofs.text.Unfinished.anew.Goals as goal
+use Rattle.vte_core.proofs.text.Unfinished.read_at_boundary.Goals as goal
 
 pub returns-then-bytes-lt32 : goal.returns-then-bytes-lt32
 returns-then-bytes-lt32 g c =

@@ -4,7 +4,7 @@ use Rattle.vte_core.specs.Event.{Print}
 use Rattle.vte_core.specs.Runs.{run_told, run_rest, printed_len}
 use Rattle.vte_core.proofs.Runs.{run-text, printed-text, all_printed-take, nil_of_len}
 use Rattle.vte_core.proofs.Telling.{same_events}
-use Rattle.vte_core.proofs.text.Unfinished.text.Goals as goal
+use Rattle.vte_core.proofs.text.Unfinished.read_front.Goals as goal
 
 pub returns-then-not-is_empty-clause-told : goal.returns-then-not-is_empty-clause-told
 returns-then-not-is_empty-clause-told g c =

@@ -5,7 +5,7 @@ use Rattle.vte_core.specs.Text.{char_len}
 use Rattle.vte_core.specs.Runs.{run_told, run_rest}
 use Rattle.vte_core.proofs.Telling.{same_events}
 use Rattle.vte_core.proofs.Fronts.{reads_two, reads_three, reads_byte, reads_front, of_three, of_four, kept_three}
-use Rattle.vte_core.proofs.text.Unfinished.cut.Goals as goal
+use Rattle.vte_core.proofs.text.Unfinished.read_malformed.Goals as goal
 
 pub returns-in-len3-up : goal.returns-in-len3-up
 returns-in-len3-up g c =
@@ -29,8 +29,8 @@ returns-in_default g c =
     let a = get_or c.args.bytes.now 0 0 in
     let long : 1 < char_len a = c.requires.begun in
     let esc : is_esc a ≡ false = grind (arith, nat_tests, long) in
-    reads_byte g.P.Perform.step c.args.self.now c.args.performer.now c.args.bytes.now c.byte.new.performer
-    c.byte.new.self (omega (arith, c.requires.some)) esc c.byte.ensures.told c.byte.ensures.rest
+    reads_byte g.P.Perform.step c.args.self.now c.args.performer.now c.args.bytes.now c.read_byte.new.performer
+    c.read_byte.new.self (omega (arith, c.requires.some)) esc c.read_byte.ensures.told c.read_byte.ensures.rest
 
 pub keep-requires : goal.keep-requires
 keep-requires g c =

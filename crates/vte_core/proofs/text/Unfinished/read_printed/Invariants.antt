@@ -1,7 +1,7 @@
 use Rattle.std.proofs.Common.{◌≡◌, ◌-◌, ◌≤◌, length, take}
 use Rattle.vte_core.specs.Event.{Performs}
 use Rattle.vte_core.specs.Runs.{run_told, run_rest}
-use Rattle.vte_core.proofs.text.Unfinished.printed.Given as goal
+use Rattle.vte_core.proofs.text.Unfinished.read_printed.Given as goal
 
 abbrev pub invariant-loop-read : goal.invariant-loop-read
 invariant-loop-read g l = record {

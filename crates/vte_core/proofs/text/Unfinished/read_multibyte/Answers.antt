@@ -2,7 +2,7 @@ use Rattle.std.proofs.Common.{◌≡◌, arith, false, get_or}
 use Rattle.std.proofs.lemmas.Bool.Decides.{nat_tests}
 use Rattle.vte_core.specs.Bytes.{is_esc}
 use Rattle.vte_core.proofs.Fronts.{reads_malformed, reads_byte}
-use Rattle.vte_core.proofs.text.Unfinished.high.Goals as goal
+use Rattle.vte_core.proofs.text.Unfinished.read_multibyte.Goals as goal
 
 pub returns-in-len2-up-2 : goal.returns-in-len2-up-2
 returns-in-len2-up-2 g c =
@@ -15,5 +15,5 @@ returns-in-len2-up-2 g c =
 pub returns-in_default : goal.returns-in_default
 returns-in_default g c =
     let esc : is_esc (get_or c.args.bytes.now 0 0) ≡ false = grind (arith, nat_tests, c.requires.high) in
-    reads_byte g.P.Perform.step c.args.self.now c.args.performer.now c.args.bytes.now c.byte.new.performer
-    c.byte.new.self c.requires.some esc c.byte.ensures.told c.byte.ensures.rest
+    reads_byte g.P.Perform.step c.args.self.now c.args.performer.now c.args.bytes.now c.read_byte.new.performer
+    c.read_byte.new.self c.requires.some esc c.read_byte.ensures.told c.read_byte.ensures.rest

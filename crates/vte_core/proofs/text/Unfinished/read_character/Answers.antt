@@ -4,7 +4,7 @@ use Rattle.vte_core.specs.Runs.{run_told, run_rest, has_no_esc}
 use Rattle.vte_core.proofs.Fronts.{reads_front, c1-run, whole-told}
 use Rattle.vte_core.specs.Text.{char_event}
 use Rattle.vte_core.proofs.Telling.{same_events, same_step}
-use Rattle.vte_core.proofs.text.Unfinished.begun.Goals as goal
+use Rattle.vte_core.proofs.text.Unfinished.read_character.Goals as goal
 
 pub returns-in-Some : goal.returns-in-Some
 returns-in-Some g c =

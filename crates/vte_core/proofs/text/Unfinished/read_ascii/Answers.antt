@@ -7,7 +7,7 @@ use Rattle.vte_core.specs.Runs.{run_told, run_rest, has_no_esc}
 use Rattle.vte_core.proofs.Fronts.{reads_front}
 use Rattle.vte_core.proofs.Ground.{plain-run, plain-ascii}
 use Rattle.vte_core.proofs.Telling.{same_events}
-use Rattle.vte_core.proofs.text.Unfinished.plain.Goals as goal
+use Rattle.vte_core.proofs.text.Unfinished.read_ascii.Goals as goal
 
 pub returns-then-is_alone : goal.returns-then-is_alone
 returns-then-is_alone g c =
