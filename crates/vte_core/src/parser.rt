@@ -2,6 +2,7 @@
 
 ghost use Rattle.std.specs.Prelude.{◌≡◌, ◌≢◌, ◌+◌, ◌<◌, ◌≤◌, ℕ, Bool, List, [], ◌∷◌, ◌++◌, length, map, IsTrue, take};
 ghost use Rattle.std.specs.Prelude.{drop, slice_index};
+ghost use Rattle.vte_core.specs.Byte.{GoesOn, HearsAll};
 ghost use Rattle.vte_core.specs.Event as e;
 ghost use Rattle.vte_core.specs.Event.{Performs};
 ghost use Rattle.vte_core.specs.Told.{Told};
@@ -9,7 +10,7 @@ ghost use Rattle.vte_core.specs.Runs.{Tells, IsStep, is_one_step};
 ghost use Rattle.vte_core.specs.Heard.{heard, byte_heard, closed_heard, final_heard};
 ghost use Rattle.vte_core.specs.Shapes.{events};
 ghost use Rattle.vte_core.specs.Pending.{Pending, InText, InEscape, InCsi, InOsc, InHook, InDevice, InSwallowed};
-ghost use Rattle.vte_core.specs.Pending.{final_rest, final_told, events_of_byte, after_byte, byte_told, byte_rest};
+ghost use Rattle.vte_core.specs.Pending.{final_rest, final_told, events_of_byte, after_byte};
 ghost use Rattle.vte_core.specs.Pending.{events_from, after_bytes, closed};
 ghost use Rattle.vte_core.specs.Standing.{IsAt, Stands, state_is_text};
 ghost use Rattle.vte_core.specs.Stopping.{Stops};
@@ -109,10 +110,9 @@ impl<const N: usize> Parser<N> {
     fn escape<P: Perform>(&mut self, performer: &mut P, byte: u8)
         requires state { self.old.state ≡ State.Escape }
         requires not_esc { byte ≢ 0x1B }
-        ensures stands { (q : Pending) → IsAt N self.old q → IsAt N self.new (byte_rest q byte) }
+        ensures stands { GoesOn N self.old self.new byte }
         ensures told { Performs P.step performer.old (byte_heard N State.Escape self.old self.new byte) performer.new }
-        ensures is_told { (q : Pending) → IsAt N self.old q
-            → byte_heard N State.Escape self.old self.new byte ≡ byte_told N q byte }
+        ensures is_told { HearsAll N State.Escape self.old self.new byte }
     {
         let (action, next) = step_of(State::Escape, byte);
         match action {
@@ -165,10 +165,9 @@ impl<const N: usize> Parser<N> {
     fn csi<P: Perform>(&mut self, performer: &mut P, byte: u8)
         requires state { self.old.state ≡ State.Csi }
         requires not_esc { byte ≢ 0x1B }
-        ensures stands { (q : Pending) → IsAt N self.old q → IsAt N self.new (byte_rest q byte) }
+        ensures stands { GoesOn N self.old self.new byte }
         ensures told { Performs P.step performer.old (byte_heard N State.Csi self.old self.new byte) performer.new }
-        ensures is_told { (q : Pending) → IsAt N self.old q
-            → byte_heard N State.Csi self.old self.new byte ≡ byte_told N q byte }
+        ensures is_told { HearsAll N State.Csi self.old self.new byte }
     {
         let (action, next) = step_of(State::Csi, byte);
         match action {
@@ -193,11 +192,10 @@ impl<const N: usize> Parser<N> {
     fn osc_string<P: Perform>(&mut self, performer: &mut P, byte: u8)
         requires state { self.old.state ≡ State.OscString }
         requires not_esc { byte ≢ 0x1B }
-        ensures stands { (q : Pending) → IsAt N self.old q → IsAt N self.new (byte_rest q byte) }
+        ensures stands { GoesOn N self.old self.new byte }
         ensures told { Performs P.step performer.old (byte_heard N State.OscString self.old self.new byte)
             performer.new }
-        ensures is_told { (q : Pending) → IsAt N self.old q
-            → byte_heard N State.OscString self.old self.new byte ≡ byte_told N q byte }
+        ensures is_told { HearsAll N State.OscString self.old self.new byte }
     {
         let (action, next) = step_of(State::OscString, byte);
         match action {
@@ -219,11 +217,10 @@ impl<const N: usize> Parser<N> {
     fn dcs_header<P: Perform>(&mut self, performer: &mut P, byte: u8)
         requires state { self.old.state ≡ State.DcsHeader }
         requires not_esc { byte ≢ 0x1B }
-        ensures stands { (q : Pending) → IsAt N self.old q → IsAt N self.new (byte_rest q byte) }
+        ensures stands { GoesOn N self.old self.new byte }
         ensures told { Performs P.step performer.old (byte_heard N State.DcsHeader self.old self.new byte)
             performer.new }
-        ensures is_told { (q : Pending) → IsAt N self.old q
-            → byte_heard N State.DcsHeader self.old self.new byte ≡ byte_told N q byte }
+        ensures is_told { HearsAll N State.DcsHeader self.old self.new byte }
     {
         let (action, next) = step_of(State::DcsHeader, byte);
         match action {
@@ -249,11 +246,10 @@ impl<const N: usize> Parser<N> {
     fn dcs_passthrough<P: Perform>(&mut self, performer: &mut P, byte: u8)
         requires state { self.old.state ≡ State.DcsPassthrough }
         requires not_esc { byte ≢ 0x1B }
-        ensures stands { (q : Pending) → IsAt N self.old q → IsAt N self.new (byte_rest q byte) }
+        ensures stands { GoesOn N self.old self.new byte }
         ensures told { Performs P.step performer.old (byte_heard N State.DcsPassthrough self.old self.new byte)
             performer.new }
-        ensures is_told { (q : Pending) → IsAt N self.old q
-            → byte_heard N State.DcsPassthrough self.old self.new byte ≡ byte_told N q byte }
+        ensures is_told { HearsAll N State.DcsPassthrough self.old self.new byte }
     {
         let (action, next) = step_of(State::DcsPassthrough, byte);
         match action {
@@ -274,11 +270,10 @@ impl<const N: usize> Parser<N> {
     fn sos_pm_apc_string<P: Perform>(&mut self, performer: &mut P, byte: u8)
         requires state { self.old.state ≡ State.SosPmApcString }
         requires not_esc { byte ≢ 0x1B }
-        ensures stands { (q : Pending) → IsAt N self.old q → IsAt N self.new (byte_rest q byte) }
+        ensures stands { GoesOn N self.old self.new byte }
         ensures told { Performs P.step performer.old (byte_heard N State.SosPmApcString self.old self.new byte)
             performer.new }
-        ensures is_told { (q : Pending) → IsAt N self.old q
-            → byte_heard N State.SosPmApcString self.old self.new byte ≡ byte_told N q byte }
+        ensures is_told { HearsAll N State.SosPmApcString self.old self.new byte }
     {
         let (action, next) = step_of(State::SosPmApcString, byte);
         match action {
@@ -293,10 +288,9 @@ impl<const N: usize> Parser<N> {
     /// A byte of ground text, other than ESC.
     fn ground<P: Perform>(&mut self, performer: &mut P, byte: u8)
         requires { self.old.state ≡ State.Ground }
-        ensures stands { (q : Pending) → IsAt N self.old q → IsAt N self.new (byte_rest q byte) }
+        ensures stands { GoesOn N self.old self.new byte }
         ensures told { Performs P.step performer.old (byte_heard N State.Ground self.old self.new byte) performer.new }
-        ensures is_told { (q : Pending) → IsAt N self.old q
-            → byte_heard N State.Ground self.old self.new byte ≡ byte_told N q byte }
+        ensures is_told { HearsAll N State.Ground self.old self.new byte }
     {
         self.unfinished.read_byte(performer, byte);
     }
