@@ -6,8 +6,8 @@ use Rattle.vte_core.specs.Bytes.{each, is_esc, is_device_data, ends_device, is_p
 use Rattle.vte_core.specs.Pending.{Pending, InText, InEscape, InCsi, InOsc, InHook, InDevice, InSwallowed, events_from}
 use Rattle.vte_core.specs.Pending.{after_bytes}
 use Rattle.vte_core.specs.Standing.{IsAt}
-use Rattle.vte_core.specs.declared.Parser.{Parser}
-use Rattle.vte_core.specs.declared.State.TheVariants.{DcsPassthrough}
+use Rattle.vte_core.specs.declared.parser.Parser.{Parser}
+use Rattle.vte_core.specs.declared.parser.State.TheVariants.{DcsPassthrough}
 use Rattle.vte_core.proofs.PhaseLemmas.{each-first}
 
 -- it is put, byte by byte

@@ -14,8 +14,8 @@ use Rattle.vte_core.specs.Store.{ReadsOsc}
 use Rattle.vte_core.specs.Standing.{IsAt}
 use Rattle.vte_core.specs.Stopping.{StopsAt, runs_on}
 use Rattle.vte_core.specs.Runs.{is_one_step, IsStep}
-use Rattle.vte_core.specs.declared.Parser.{Parser}
-use Rattle.vte_core.specs.declared.State.TheVariants.{Ground, Escape, Csi, OscString, DcsHeader, SosPmApcString}
+use Rattle.vte_core.specs.declared.parser.Parser.{Parser}
+use Rattle.vte_core.specs.declared.parser.State.TheVariants.{Ground, Escape, Csi, OscString, DcsHeader, SosPmApcString}
 use Rattle.vte_core.proofs.Characters.{bool_cases}
 use Rattle.vte_core.proofs.PhaseLemmas.{each-first, append-none}
 use Rattle.vte_core.proofs.Machine.{events_from-append, after_bytes-append}

@@ -21,10 +21,10 @@ use Rattle.vte_core.specs.Pending.{Pending, InText, InEscape, InCsi, InOsc, InHo
 use Rattle.vte_core.specs.Pending.{text_rest, events_of_byte, events_from, after_byte, after_bytes}
 use Rattle.vte_core.specs.Runs.{run_told, run_rest, has_no_esc, is_one_step, is_printed, printed_len}
 use Rattle.vte_core.specs.Standing.{IsAt, state_is_text}
-use Rattle.vte_core.specs.declared.Parser.{Parser}
-use Rattle.vte_core.specs.declared.State.{State}
-use Rattle.vte_core.specs.declared.State.TheVariants.{Ground, Escape, Csi, OscString, DcsHeader, DcsPassthrough}
-use Rattle.vte_core.specs.declared.State.TheVariants.{SosPmApcString}
+use Rattle.vte_core.specs.declared.parser.Parser.{Parser}
+use Rattle.vte_core.specs.declared.parser.State.{State}
+use Rattle.vte_core.specs.declared.parser.State.TheVariants.{Ground, Escape, Csi, OscString, DcsHeader, DcsPassthrough}
+use Rattle.vte_core.specs.declared.parser.State.TheVariants.{SosPmApcString}
 use Rattle.vte_core.specs.Stopping.{StopsAt, runs_on, is_text}
 use Rattle.vte_core.proofs.Characters.{bool_cases}
 use lib.Seq.{take-add}

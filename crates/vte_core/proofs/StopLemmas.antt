@@ -19,7 +19,7 @@ use Rattle.vte_core.specs.GroundText.{ends_in_text}
 use Rattle.vte_core.specs.Laws.{AsksAsSaid}
 use Rattle.vte_core.specs.Stopping.{StopsAt, Stops, is_text, runs_on, ends_run, asks_at, PassedBy}
 use Rattle.vte_core.specs.Standing.{IsAt, state_is_text}
-use Rattle.vte_core.specs.declared.Parser.{Parser}
+use Rattle.vte_core.specs.declared.parser.Parser.{Parser}
 
 next_byte : (bs : List ℕ) (i : ℕ) → i < length bs → drop i bs ≡ get_or bs i 0 ∷ drop (i + 1) bs
 next_byte bs i h = let m : suc i ≡ i + 1 = omega arith in drop-cons bs i 0 h ∙ ap (λ j. get_or bs i 0 ∷ drop j bs) m

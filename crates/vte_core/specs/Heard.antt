@@ -7,9 +7,9 @@ use Rattle.vte_core.specs.Phases.{is_kept}
 use Rattle.vte_core.specs.Store.{cut_at}
 use Rattle.vte_core.specs.declared.header.Header.{Header}
 use Rattle.vte_core.specs.declared.intermediates.Intermediates.{Intermediates}
-use Rattle.vte_core.specs.declared.Parser.{Parser}
-use Rattle.vte_core.specs.declared.State.{State}
-use Rattle.vte_core.specs.declared.State.TheVariants as s
+use Rattle.vte_core.specs.declared.parser.Parser.{Parser}
+use Rattle.vte_core.specs.declared.parser.State.{State}
+use Rattle.vte_core.specs.declared.parser.State.TheVariants as s
 
 -- of a header that has ended
 abbrev pub csi_event : Header → ℕ → Event

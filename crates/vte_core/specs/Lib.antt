@@ -14,6 +14,7 @@ pub mod Phases
 pub mod Standing
 pub mod Stopping
 pub mod Heard
+pub mod Byte
 pub mod Laws
 pub mod Told
 pub mod Runs

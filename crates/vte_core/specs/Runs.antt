@@ -7,7 +7,7 @@ use Rattle.vte_core.specs.Bytes.{is_esc}
 use Rattle.vte_core.specs.Pending.{Pending, text_told, text_rest, after_byte, after_bytes, events_from}
 use Rattle.vte_core.specs.Shapes.{before}
 use Rattle.vte_core.specs.Standing.{IsAt}
-use Rattle.vte_core.specs.declared.Parser.{Parser}
+use Rattle.vte_core.specs.declared.parser.Parser.{Parser}
 use Rattle.vte_core.specs.Stopping.{runs_on}
 
 -- the events of the bytes, after the unfinished bytes u of a character

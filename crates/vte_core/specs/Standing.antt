@@ -1,13 +1,13 @@
 -- Where a parser stands.
 use Rattle.std.specs.Prelude.{◌≡◌, ℕ, Bool, true, false, List, []}
-use Rattle.vte_core.specs.declared.State.{State}
+use Rattle.vte_core.specs.declared.parser.State.{State}
 use Rattle.vte_core.specs.Pending.{Pending, InText, InEscape, InCsi, InOsc, InHook, InDevice, InSwallowed, pending}
 use Rattle.vte_core.specs.Store.{ReadsOsc}
 use Rattle.vte_core.specs.Reading.{KeepsTwo}
 use Rattle.vte_core.specs.Phases.{ReadsHeader}
-use Rattle.vte_core.specs.declared.Parser.{Parser}
-use Rattle.vte_core.specs.declared.State.TheVariants.{Ground, Escape, Csi, OscString, DcsHeader, DcsPassthrough}
-use Rattle.vte_core.specs.declared.State.TheVariants.{SosPmApcString}
+use Rattle.vte_core.specs.declared.parser.Parser.{Parser}
+use Rattle.vte_core.specs.declared.parser.State.TheVariants.{Ground, Escape, Csi, OscString, DcsHeader, DcsPassthrough}
+use Rattle.vte_core.specs.declared.parser.State.TheVariants.{SosPmApcString}
 
 -- the parser's fields stand for what is pending
 abbrev pub IsAt : (n : ℕ) → Parser n → Pending → Type 0

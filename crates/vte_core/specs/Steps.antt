@@ -2,8 +2,8 @@
 use Rattle.std.specs.Prelude.{ℕ, Bool, true, false, not, ◌&&◌, ◌||◌, ◌==◌, nat_lt}
 use Rattle.std.specs.Int.{is_in_range}
 use Rattle.vte_core.specs.Bytes.{is_abort, is_control, is_intermediate, is_numeric, is_private}
-use Rattle.vte_core.specs.declared.State.{State}
-use Rattle.vte_core.specs.declared.State.TheVariants as s
+use Rattle.vte_core.specs.declared.parser.State.{State}
+use Rattle.vte_core.specs.declared.parser.State.TheVariants as s
 use Rattle.vte_core.specs.declared.table.Action.{Action}
 use Rattle.vte_core.specs.declared.table.Action.TheVariants.{Ignore, Cancel, Execute, Collect, Param, Dispatch, Put}
 use Rattle.vte_core.specs.declared.table.Action.TheVariants.{End}

@@ -3,7 +3,7 @@ use Rattle.std.specs.Prelude.{◌≡◌, ℕ, List, [], ◌++◌}
 use Rattle.vte_core.specs.Event.{Event, Performs}
 use Rattle.vte_core.specs.Shapes.{events}
 use Rattle.vte_core.specs.Standing.{Stands}
-use Rattle.vte_core.specs.declared.Parser.{Parser}
+use Rattle.vte_core.specs.declared.parser.Parser.{Parser}
 
 -- the performer has gone through some events: none where there are no bytes, and, whatever past the parser stood at,
 -- those that the bytes add to it

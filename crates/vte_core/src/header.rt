@@ -13,7 +13,7 @@ use crate::Perform;
 use crate::intermediates::Intermediates;
 use crate::numbers::{Numbers, is_numeric};
 
-/// How far a header has come.
+/// How far the header of a sequence has come.
 #[derive(Clone, Copy)]
 pub enum Phase {
     Start,

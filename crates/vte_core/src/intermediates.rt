@@ -9,12 +9,12 @@ use arrayvec::ArrayVec;
 #[derive(Drop)]
 pub struct Intermediates {
     pub kept: ArrayVec<u8, 2>,
-    /// There were more.
+    /// There were more intermediates than the two that are kept.
     pub many: bool,
 }
 
 impl Intermediates {
-    /// None.
+    /// No intermediates.
     pub fn new() -> Self
         ensures { KeepsTwo result [] }
     {
@@ -24,7 +24,7 @@ impl Intermediates {
         }
     }
 
-    /// Drops them.
+    /// Drops the intermediates.
     #[inline]
     pub fn clear(&mut self)
         ensures { KeepsTwo self.new [] }
@@ -33,7 +33,7 @@ impl Intermediates {
         self.many = false;
     }
 
-    /// One more.
+    /// One more intermediate.
     #[inline]
     pub fn push(&mut self, byte: u8)
         ensures { (is : List ℕ) → KeepsTwo self.old is → KeepsTwo self.new (is ++ byte ∷ []) }

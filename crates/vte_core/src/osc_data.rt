@@ -12,7 +12,7 @@ use crate::Perform;
 use arrayvec::ArrayVec;
 use std::marker::Model;
 
-/// What is kept of the data.
+/// What is kept of an operating system command's data.
 #[derive(Drop)]
 pub struct OscData<const N: usize> {
     bytes: ArrayVec<u8, N>,
@@ -94,7 +94,7 @@ impl<const N: usize> OscData<N> {
         read
     }
 
-    /// The last piece ends.
+    /// The last piece of the data ends.
     fn end_piece(&mut self)
         ensures { (s : List ℕ) → ReadsOsc N self.old s → cut_at 0 self.new.1 self.new.0 ≡ osc_pieces N s }
     {

@@ -15,7 +15,7 @@ pub(crate) const MAX_PARAMS: usize = 32;
 #[derive(Drop)]
 pub struct Params {
     numbers: [u16; MAX_PARAMS],
-    /// How many of them there are.
+    /// How many of the numbers are kept.
     len: usize,
     /// Where each group ends.
     ends: [usize; MAX_PARAMS],

@@ -5,8 +5,8 @@ ghost use Rattle.std.specs.Bool.{IsTrue};
 ghost use Rattle.vte_core.specs.Classes.{is_in};
 ghost use Rattle.vte_core.specs.Steps.{does, next_state};
 
-use crate::State;
-use crate::State::{
+use crate::parser::State;
+use crate::parser::State::{
     Csi, DcsHeader, DcsPassthrough, Escape as Esc, Ground, OscString, SosPmApcString,
 };
 use Action::{Cancel as Abort, Collect, Dispatch, End, Execute, Ignore, Param, Put};
@@ -18,7 +18,7 @@ use Class::{
 /// What a byte is in a sequence. The states differ in what they do with a class, never in what belongs to it.
 #[derive(Clone, Copy)]
 pub enum Class {
-    /// 0x00 to 0x1F, other than the next three.
+    /// 0x00 to 0x1F, other than BEL, CAN, SUB and ESC.
     Control,
     /// 0x07, which ends an operating system command.
     Bell,
@@ -80,21 +80,21 @@ fn class_of(byte: u8) -> Class
 /// What a parser does with a byte inside a sequence.
 #[derive(Clone, Copy)]
 pub enum Action {
-    /// It is dropped.
+    /// The byte is dropped.
     Ignore,
     /// What was begun is over, and the byte is executed.
     Cancel,
-    /// It is executed, and what was begun goes on.
+    /// The byte is executed, and what was begun goes on.
     Execute,
-    /// It is kept as an intermediate.
+    /// The byte is kept as an intermediate.
     Collect,
-    /// It is of a header's numbers.
+    /// The byte is of a header's numbers.
     Param,
-    /// It ends an escape, or a header.
+    /// The byte ends an escape sequence, or a header.
     Dispatch,
-    /// It is of a string's data.
+    /// The byte is of a string's data.
     Put,
-    /// It ends a string.
+    /// The byte ends a string.
     End,
 }
 

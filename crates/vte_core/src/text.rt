@@ -69,7 +69,7 @@ fn goes_on(bytes: &[u8], byte: u8) -> bool
     }
 }
 
-/// Tells of a character.
+/// Tells of a character: a control is executed, any other is printed.
 fn tell<P: Perform>(performer: &mut P, c: char)
     ensures { P.step performer.old (char_event c) performer.new }
 {
@@ -119,7 +119,7 @@ fn tell_malformed<P: Perform>(performer: &mut P, byte: u8)
     }
 }
 
-/// A byte that begins a character, or none.
+/// Reads a byte after whole characters: it begins a character, is one, or is malformed.
 fn begin<P: Perform>(unfinished: &mut ArrayVec<u8, 4>, performer: &mut P, byte: u8)
     requires { unfinished.old.items ≡ [] }
     ensures told { Performs P.step performer.old (begun byte) performer.new }
@@ -132,7 +132,7 @@ fn begin<P: Perform>(unfinished: &mut ArrayVec<u8, 4>, performer: &mut P, byte: 
     }
 }
 
-/// A byte of ground text, other than ESC.
+/// Reads a byte of ground text, other than ESC, after the first bytes of a character, or none.
 #[inline(always)]
 fn text_byte<P: Perform>(unfinished: &mut ArrayVec<u8, 4>, performer: &mut P, byte: u8)
     requires { IsUnfinished unfinished.old.items }
@@ -173,7 +173,7 @@ impl Model for Unfinished {
 }
 
 impl Unfinished {
-    /// None.
+    /// No bytes: no character is begun.
     pub fn new() -> Self
         ensures { result ≡ [] }
     {
@@ -182,23 +182,23 @@ impl Unfinished {
         }
     }
 
-    /// Whether there is none.
+    /// Whether no character is begun.
     pub fn is_empty(&self) -> bool
         ensures { result ≡ (length self.now == 0) }
     {
         self.bytes.is_empty()
     }
 
-    /// Drops them.
+    /// Drops the bytes of the character that was begun.
     pub fn clear(&mut self)
         ensures { self.new ≡ [] }
     {
         self.bytes = ArrayVec::new();
     }
 
-    /// A byte of ground text, other than ESC.
+    /// Reads a byte of ground text, other than ESC.
     #[inline(always)]
-    pub fn byte<P: Perform>(&mut self, performer: &mut P, byte: u8)
+    pub fn read_byte<P: Perform>(&mut self, performer: &mut P, byte: u8)
         ensures told { Performs P.step performer.old (text_told self.old byte) performer.new }
         ensures rest { self.new ≡ text_rest self.old byte }
     {
@@ -453,7 +453,7 @@ fn text_front(bytes: &[u8]) -> &str
 
 impl Unfinished {
     /// Reads the text at the front of bytes without controls, or else one byte, and returns how many it read.
-    fn text<P: Perform>(&mut self, performer: &mut P, bytes: &[u8]) -> usize
+    fn read_front<P: Perform>(&mut self, performer: &mut P, bytes: &[u8]) -> usize
         requires not_empty { 0 < length bytes.now }
         requires printed { printed_len bytes.now ≡ length bytes.now }
         ensures some { 0 < result }
@@ -468,25 +468,25 @@ impl Unfinished {
                 return text.len();
             }
         }
-        self.byte(performer, bytes[0]);
+        self.read_byte(performer, bytes[0]);
         1
     }
 
-    /// Ground text without controls.
-    fn printed<P: Perform>(&mut self, performer: &mut P, bytes: &[u8])
+    /// Reads ground text without controls.
+    fn read_printed<P: Perform>(&mut self, performer: &mut P, bytes: &[u8])
         requires { printed_len bytes.now ≡ length bytes.now }
         ensures told { Performs P.step performer.old (run_told self.old bytes.now) performer.new }
         ensures rest { self.new ≡ run_rest self.old bytes.now }
     {
         let mut read = 0;
         while read < bytes.len() {
-            read += self.text(performer, &bytes[read..]);
+            read += self.read_front(performer, &bytes[read..]);
         }
     }
 
     /// Reads ground text after whole characters, at most up to the next control, or else one byte, and returns how many
     /// bytes it read.
-    fn mixed<P: Perform>(&mut self, performer: &mut P, bytes: &[u8]) -> usize
+    fn read_mixed<P: Perform>(&mut self, performer: &mut P, bytes: &[u8]) -> usize
         requires some { 0 < length bytes.now }
         requires text { is_esc (slice_index bytes.now 0) ≡ false }
         requires none { self.old ≡ [] }
@@ -494,20 +494,20 @@ impl Unfinished {
     {
         let len = text_len(bytes);
         if len == 0 {
-            self.byte(performer, bytes[0]);
+            self.read_byte(performer, bytes[0]);
             return 1;
         }
         if len <= LINE_LEN {
-            return self.text(performer, &bytes[..len]);
+            return self.read_front(performer, &bytes[..len]);
         }
-        self.printed(performer, &bytes[..len]);
+        self.read_printed(performer, &bytes[..len]);
         len
     }
 
     /// Reads the characters of ASCII at the front, and with them the text after them, and returns how many bytes it
     /// read.
     #[inline(always)]
-    fn plain<P: Perform>(&mut self, performer: &mut P, bytes: &[u8]) -> usize
+    fn read_ascii<P: Perform>(&mut self, performer: &mut P, bytes: &[u8]) -> usize
         requires some { 0 < length bytes.now }
         requires plain { is_plain (slice_index bytes.now 0) ≡ true }
         requires none { self.old ≡ [] }
@@ -523,7 +523,7 @@ impl Unfinished {
             performer.print_str(ascii_text(&bytes[..len]));
             return len;
         }
-        self.mixed(performer, bytes)
+        self.read_mixed(performer, bytes)
     }
 
     /// Keeps the bytes of a character that isn't whole.
@@ -543,7 +543,7 @@ impl Unfinished {
     /// Reads the malformed sequence of two or three bytes at the front, or else one byte, and returns how many bytes it
     /// read.
     #[inline(always)]
-    fn cut<P: Perform>(&mut self, performer: &mut P, bytes: &[u8]) -> usize
+    fn read_malformed<P: Perform>(&mut self, performer: &mut P, bytes: &[u8]) -> usize
         requires some { 1 < length bytes.now }
         requires begun { 1 < char_len (slice_index bytes.now 0) }
         requires goes_on { goes_on (slice_index bytes.now 0) [] (slice_index bytes.now 1) ≡ true }
@@ -565,7 +565,7 @@ impl Unfinished {
                 3
             }
             _ => {
-                self.byte(performer, bytes[0]);
+                self.read_byte(performer, bytes[0]);
                 1
             }
         }
@@ -574,7 +574,7 @@ impl Unfinished {
     /// Reads a character of two bytes or more and the text after it, or the malformed sequence of two bytes or more at
     /// the front, or else one byte, and returns how many bytes it read.
     #[inline(always)]
-    fn begun<P: Perform>(&mut self, performer: &mut P, bytes: &[u8]) -> usize
+    fn read_character<P: Perform>(&mut self, performer: &mut P, bytes: &[u8]) -> usize
         requires some { 1 < length bytes.now }
         requires begun { 1 < char_len (slice_index bytes.now 0) }
         requires goes_on { goes_on (slice_index bytes.now 0) [] (slice_index bytes.now 1) ≡ true }
@@ -587,32 +587,34 @@ impl Unfinished {
         }
         let len = begun_len(bytes);
         if len == 0 {
-            return self.cut(performer, bytes);
+            return self.read_malformed(performer, bytes);
         }
         if ends_text(&bytes[len..]) {
             tell(performer, character(&bytes[..len]));
             return len;
         }
-        self.mixed(performer, bytes)
+        self.read_mixed(performer, bytes)
     }
 
     /// Reads a character of two bytes or more and the text after it, or a malformed sequence, or else one byte, and
     /// returns how many bytes it read.
     #[inline(always)]
-    fn high<P: Perform>(&mut self, performer: &mut P, bytes: &[u8]) -> usize
+    fn read_multibyte<P: Perform>(&mut self, performer: &mut P, bytes: &[u8]) -> usize
         requires some { 0 < length bytes.now }
         requires high { 0x80 ≤ slice_index bytes.now 0 }
         requires none { self.old ≡ [] }
         ensures { ReadsText P.step self.old performer.old bytes.now result performer.new self.new }
     {
         match bytes {
-            [first, second, ..] if is_begun(*first, *second) => self.begun(performer, bytes),
+            [first, second, ..] if is_begun(*first, *second) => self.read_character(
+                performer, bytes,
+            ),
             [first, second, ..] if *second != 0x1B => {
                 tell_malformed(performer, *first);
                 1
             }
             _ => {
-                self.byte(performer, bytes[0]);
+                self.read_byte(performer, bytes[0]);
                 1
             }
         }
@@ -620,7 +622,7 @@ impl Unfinished {
 
     /// Reads some ground text before the next ESC, after whole characters, and returns how many bytes it read.
     #[inline(always)]
-    fn anew<P: Perform>(&mut self, performer: &mut P, bytes: &[u8]) -> usize
+    fn read_at_boundary<P: Perform>(&mut self, performer: &mut P, bytes: &[u8]) -> usize
         requires some { 0 < length bytes.now }
         requires text { is_esc (slice_index bytes.now 0) ≡ false }
         requires none { self.old ≡ [] }
@@ -631,9 +633,9 @@ impl Unfinished {
             return 1 + execute_controls(performer, &bytes[1..]);
         }
         if bytes[0] < 0x80 {
-            self.plain(performer, bytes)
+            self.read_ascii(performer, bytes)
         } else {
-            self.high(performer, bytes)
+            self.read_multibyte(performer, bytes)
         }
     }
 
@@ -646,23 +648,23 @@ impl Unfinished {
         ensures { ReadsText P.step self.old performer.old bytes.now result performer.new self.new }
     {
         if goes_on(self.bytes.as_slice(), bytes[0]) {
-            self.byte(performer, bytes[0]);
+            self.read_byte(performer, bytes[0]);
             return 1;
         }
         self.clear();
         performer.print('\u{FFFD}');
-        self.anew(performer, bytes)
+        self.read_at_boundary(performer, bytes)
     }
 
     /// Reads some ground text before the next ESC, and returns how many bytes it read.
     #[inline(always)]
-    fn some<P: Perform>(&mut self, performer: &mut P, bytes: &[u8]) -> usize
+    fn read_some<P: Perform>(&mut self, performer: &mut P, bytes: &[u8]) -> usize
         requires some { 0 < length bytes.now }
         requires text { is_esc (slice_index bytes.now 0) ≡ false }
         ensures { ReadsText P.step self.old performer.old bytes.now result performer.new self.new }
     {
         if self.is_empty() {
-            self.anew(performer, bytes)
+            self.read_at_boundary(performer, bytes)
         } else {
             self.resume(performer, bytes)
         }
@@ -677,7 +679,7 @@ impl Unfinished {
     {
         let mut read = 0;
         while read < bytes.len() && bytes[read] != 0x1B {
-            read += self.some(performer, &bytes[read..]);
+            read += self.read_some(performer, &bytes[read..]);
         }
         read
     }

@@ -119,7 +119,8 @@ pub enum Call<'a> {
     ConfigureCharset(CharsetIndex, StandardCharset),
     /// Sets the colour of an index (OSC 4, 10, 11 and 12).
     SetColor(usize, Rgb),
-    /// Asks for the colour of an index. The answer begins with the prefix and ends with the terminator.
+    /// Asks for the colour of an index (OSC 4, 10, 11 and 12 with `?`). The answer begins with the prefix and ends with
+    /// the terminator.
     DynamicColorSequence(&'a str, usize, &'a str),
     /// Gives an index its first colour again (OSC 104, 110, 111 and 112).
     ResetColor(usize),
@@ -129,29 +130,29 @@ pub enum Call<'a> {
     ClipboardLoad(u8, &'a str),
     /// Fills the screen with `E` (DECALN).
     Decaln,
-    /// Pushes the title on a stack.
+    /// Pushes the title on a stack (`CSI 22 t`).
     PushTitle,
-    /// Pops the title from the stack.
+    /// Pops the title from the stack (`CSI 23 t`).
     PopTitle,
-    /// Asks for the text area's size in pixels.
+    /// Asks for the text area's size in pixels (`CSI 14 t`).
     TextAreaSizePixels,
-    /// Asks for the text area's size in characters.
+    /// Asks for the text area's size in characters (`CSI 18 t`).
     TextAreaSizeChars,
     /// Begins a hyperlink, or ends the present one for `None` (OSC 8).
     SetHyperlink(Option<Hyperlink<'a>>),
     /// Sets the pointer's shape (OSC 22).
     SetMouseCursorIcon(CursorIcon),
-    /// Asks for the keyboard modes.
+    /// Asks for the keyboard modes (`CSI ? u`).
     ReportKeyboardMode,
-    /// Pushes keyboard modes on a stack.
+    /// Pushes keyboard modes on a stack (`CSI > u`).
     PushKeyboardMode(KeyboardModes),
-    /// Pops so many keyboard modes from the stack.
+    /// Pops so many keyboard modes from the stack (`CSI < u`).
     PopKeyboardModes(u16),
-    /// Changes the keyboard modes.
+    /// Changes the keyboard modes (`CSI = u`).
     SetKeyboardMode(KeyboardModes, KeyboardModesApplyBehavior),
-    /// Sets how xterm's `modifyOtherKeys` works.
+    /// Sets how xterm's `modifyOtherKeys` works (`CSI > 4 m`).
     SetModifyOtherKeys(ModifyOtherKeys),
-    /// Asks how `modifyOtherKeys` works.
+    /// Asks how `modifyOtherKeys` works (`CSI ? 4 m`).
     ReportModifyOtherKeys,
     /// Selects the character path (SCP).
     SetScp(ScpCharPath, ScpUpdateMode),

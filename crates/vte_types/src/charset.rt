@@ -5,18 +5,22 @@ ghost use Rattle.vte_types.specs.Charset.{drawn, mapped};
 /// A place for a character set.
 #[derive(Clone, Copy, PartialEq, Eq, Debug)]
 pub enum CharsetIndex {
-    /// The set that is used first.
+    /// The set that is used first: `ESC (` names it, SI draws with it.
     G0,
+    /// `ESC )` names its set, SO draws with it.
     G1,
+    /// `ESC *` names its set.
     G2,
+    /// `ESC +` names its set.
     G3,
 }
 
 /// A character set.
 #[derive(Clone, Copy, PartialEq, Eq, Debug)]
 pub enum StandardCharset {
+    /// Final byte `B`: ASCII.
     Ascii,
-    /// DEC's special graphics: lines and symbols in place of `_` to `~`.
+    /// Final byte `0`: DEC's special graphics, lines and symbols in place of `_` to `~`.
     SpecialCharacterAndLineDrawing,
 }
 

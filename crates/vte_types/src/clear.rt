@@ -3,29 +3,32 @@
 /// The part of a line that is cleared (EL).
 #[derive(Clone, Copy, PartialEq, Eq, Debug)]
 pub enum LineClearMode {
-    /// From the cursor to the line's end.
+    /// EL 0: from the cursor to the line's end.
     Right,
-    /// From the line's beginning to the cursor.
+    /// EL 1: from the line's beginning to the cursor.
     Left,
+    /// EL 2: the whole line.
     All,
 }
 
 /// The part of the screen that is cleared (ED).
 #[derive(Clone, Copy, PartialEq, Eq, Debug)]
 pub enum ClearMode {
-    /// From the cursor to the screen's end.
+    /// ED 0: from the cursor to the screen's end.
     Below,
-    /// From the screen's beginning to the cursor.
+    /// ED 1: from the screen's beginning to the cursor.
     Above,
+    /// ED 2: the whole screen.
     All,
-    /// The lines that were scrolled off.
+    /// ED 3, xterm's: the lines that were scrolled off.
     Saved,
 }
 
 /// The tab stops that are cleared (TBC).
 #[derive(Clone, Copy, PartialEq, Eq, Debug)]
 pub enum TabulationClearMode {
-    /// The one at the cursor's column.
+    /// TBC 0: the one at the cursor's column.
     Current,
+    /// TBC 3: all tab stops.
     All,
 }

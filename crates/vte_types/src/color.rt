@@ -8,37 +8,63 @@ use crate::rgb::Rgb;
 /// and 90 to 97 name, and from 256 on are those that OSC 10 to 12 set and the dim ones.
 #[derive(Clone, Copy, PartialEq, Eq, Debug)]
 pub enum NamedColor {
+    /// 0: SGR 30 and 40.
     Black = 0,
+    /// 1: SGR 31 and 41.
     Red,
+    /// 2: SGR 32 and 42.
     Green,
+    /// 3: SGR 33 and 43.
     Yellow,
+    /// 4: SGR 34 and 44.
     Blue,
+    /// 5: SGR 35 and 45.
     Magenta,
+    /// 6: SGR 36 and 46.
     Cyan,
+    /// 7: SGR 37 and 47.
     White,
+    /// 8: SGR 90 and 100.
     BrightBlack,
+    /// 9: SGR 91 and 101.
     BrightRed,
+    /// 10: SGR 92 and 102.
     BrightGreen,
+    /// 11: SGR 93 and 103.
     BrightYellow,
+    /// 12: SGR 94 and 104.
     BrightBlue,
+    /// 13: SGR 95 and 105.
     BrightMagenta,
+    /// 14: SGR 96 and 106.
     BrightCyan,
+    /// 15: SGR 97 and 107.
     BrightWhite,
-    /// The text's own colour.
+    /// 256: the text's own colour, SGR 39 and OSC 10.
     Foreground = 256,
-    /// The background's own colour.
+    /// 257: the background's own colour, SGR 49 and OSC 11.
     Background,
-    /// The cursor's own colour.
+    /// 258: the cursor's own colour, OSC 12.
     Cursor,
+    /// 259: black where the text is dim.
     DimBlack,
+    /// 260: red where the text is dim.
     DimRed,
+    /// 261: green where the text is dim.
     DimGreen,
+    /// 262: yellow where the text is dim.
     DimYellow,
+    /// 263: blue where the text is dim.
     DimBlue,
+    /// 264: magenta where the text is dim.
     DimMagenta,
+    /// 265: cyan where the text is dim.
     DimCyan,
+    /// 266: white where the text is dim.
     DimWhite,
+    /// 267: the text's own colour where it is bold.
     BrightForeground,
+    /// 268: the text's own colour where it is dim.
     DimForeground,
 }
 
@@ -108,9 +134,10 @@ pub fn bright_and_dim_undo_each_other()
 /// A colour.
 #[derive(Clone, Copy, PartialEq, Eq, Debug)]
 pub enum Color {
+    /// A colour with a name: SGR 30 to 37, 39 to 47, 49, 90 to 97 and 100 to 107.
     Named(NamedColor),
-    /// Red, green and blue.
+    /// Red, green and blue: SGR 38, 48 and 58 with 2.
     Spec(Rgb),
-    /// A place in the palette of 256 colours.
+    /// A place in the palette of 256 colours: SGR 38, 48 and 58 with 5.
     Indexed(u8),
 }

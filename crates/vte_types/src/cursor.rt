@@ -3,15 +3,15 @@
 /// The cursor's shape.
 #[derive(Clone, Copy, PartialEq, Eq, Debug)]
 pub enum CursorShape {
-    /// A block, as `▒`.
+    /// DECSCUSR 1 and 2, OSC 50 0: a block, as `▒`.
     Block,
-    /// A line under the character, as `_`.
+    /// DECSCUSR 3 and 4, OSC 50 2: a line under the character, as `_`.
     Underline,
-    /// A line left of the character, as `⎸`.
+    /// DECSCUSR 5 and 6, OSC 50 1: a line left of the character, as `⎸`.
     Beam,
-    /// The outline of a block, as `☐`.
+    /// The outline of a block, as `☐`. No sequence names it.
     HollowBlock,
-    /// None is drawn.
+    /// None is drawn. No sequence names it.
     Hidden,
 }
 

@@ -5,39 +5,73 @@ ghost use Rattle.vte_types.specs.CursorIcon.{name_of, all_icons};
 /// A shape of the pointer, by the keywords of CSS's property `cursor`.
 #[derive(Clone, Copy, PartialEq, Eq, Debug)]
 pub enum CursorIcon {
+    /// The keyword `default`.
     Default,
+    /// The keyword `context-menu`.
     ContextMenu,
+    /// The keyword `help`.
     Help,
+    /// The keyword `pointer`.
     Pointer,
+    /// The keyword `progress`.
     Progress,
+    /// The keyword `wait`.
     Wait,
+    /// The keyword `cell`.
     Cell,
+    /// The keyword `crosshair`.
     Crosshair,
+    /// The keyword `text`.
     Text,
+    /// The keyword `vertical-text`.
     VerticalText,
+    /// The keyword `alias`.
     Alias,
+    /// The keyword `copy`.
     Copy,
+    /// The keyword `move`.
     Move,
+    /// The keyword `no-drop`.
     NoDrop,
+    /// The keyword `not-allowed`.
     NotAllowed,
+    /// The keyword `grab`.
     Grab,
+    /// The keyword `grabbing`.
     Grabbing,
+    /// The keyword `e-resize`.
     EResize,
+    /// The keyword `n-resize`.
     NResize,
+    /// The keyword `ne-resize`.
     NeResize,
+    /// The keyword `nw-resize`.
     NwResize,
+    /// The keyword `s-resize`.
     SResize,
+    /// The keyword `se-resize`.
     SeResize,
+    /// The keyword `sw-resize`.
     SwResize,
+    /// The keyword `w-resize`.
     WResize,
+    /// The keyword `ew-resize`.
     EwResize,
+    /// The keyword `ns-resize`.
     NsResize,
+    /// The keyword `nesw-resize`.
     NeswResize,
+    /// The keyword `nwse-resize`.
     NwseResize,
+    /// The keyword `col-resize`.
     ColResize,
+    /// The keyword `row-resize`.
     RowResize,
+    /// The keyword `all-scroll`.
     AllScroll,
+    /// The keyword `zoom-in`.
     ZoomIn,
+    /// The keyword `zoom-out`.
     ZoomOut,
 }
 

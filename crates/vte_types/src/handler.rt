@@ -402,7 +402,8 @@ pub trait Handler {
         self.call(Call::SetColor(index, color))
     }
 
-    /// Asks for the colour of an index. The answer begins with the prefix and ends with the terminator.
+    /// Asks for the colour of an index (OSC 4, 10, 11 and 12 with `?`). The answer begins with the prefix and ends with
+    /// the terminator.
     fn dynamic_color_sequence(&mut self, prefix: &str, index: usize, terminator: &str)
         ensures { step self.old (said.dynamic_color_sequence prefix.now index terminator.now) self.new }
     {
@@ -437,28 +438,28 @@ pub trait Handler {
         self.call(Call::Decaln)
     }
 
-    /// Pushes the title on a stack.
+    /// Pushes the title on a stack (`CSI 22 t`).
     fn push_title(&mut self)
         ensures { step self.old said.push_title self.new }
     {
         self.call(Call::PushTitle)
     }
 
-    /// Pops the title from the stack.
+    /// Pops the title from the stack (`CSI 23 t`).
     fn pop_title(&mut self)
         ensures { step self.old said.pop_title self.new }
     {
         self.call(Call::PopTitle)
     }
 
-    /// Asks for the text area's size in pixels.
+    /// Asks for the text area's size in pixels (`CSI 14 t`).
     fn text_area_size_pixels(&mut self)
         ensures { step self.old said.text_area_size_pixels self.new }
     {
         self.call(Call::TextAreaSizePixels)
     }
 
-    /// Asks for the text area's size in characters.
+    /// Asks for the text area's size in characters (`CSI 18 t`).
     fn text_area_size_chars(&mut self)
         ensures { step self.old said.text_area_size_chars self.new }
     {
@@ -479,42 +480,42 @@ pub trait Handler {
         self.call(Call::SetMouseCursorIcon(icon))
     }
 
-    /// Asks for the keyboard modes.
+    /// Asks for the keyboard modes (`CSI ? u`).
     fn report_keyboard_mode(&mut self)
         ensures { step self.old said.report_keyboard_mode self.new }
     {
         self.call(Call::ReportKeyboardMode)
     }
 
-    /// Pushes keyboard modes on a stack.
+    /// Pushes keyboard modes on a stack (`CSI > u`).
     fn push_keyboard_mode(&mut self, mode: KeyboardModes)
         ensures { step self.old (said.push_keyboard_mode mode) self.new }
     {
         self.call(Call::PushKeyboardMode(mode))
     }
 
-    /// Pops so many keyboard modes from the stack.
+    /// Pops so many keyboard modes from the stack (`CSI < u`).
     fn pop_keyboard_modes(&mut self, count: u16)
         ensures { step self.old (said.pop_keyboard_modes count) self.new }
     {
         self.call(Call::PopKeyboardModes(count))
     }
 
-    /// Changes the keyboard modes.
+    /// Changes the keyboard modes (`CSI = u`).
     fn set_keyboard_mode(&mut self, mode: KeyboardModes, behavior: KeyboardModesApplyBehavior)
         ensures { step self.old (said.set_keyboard_mode mode behavior) self.new }
     {
         self.call(Call::SetKeyboardMode(mode, behavior))
     }
 
-    /// Sets how xterm's `modifyOtherKeys` works.
+    /// Sets how xterm's `modifyOtherKeys` works (`CSI > 4 m`).
     fn set_modify_other_keys(&mut self, mode: ModifyOtherKeys)
         ensures { step self.old (said.set_modify_other_keys mode) self.new }
     {
         self.call(Call::SetModifyOtherKeys(mode))
     }
 
-    /// Asks how `modifyOtherKeys` works.
+    /// Asks how `modifyOtherKeys` works (`CSI ? 4 m`).
     fn report_modify_other_keys(&mut self)
         ensures { step self.old said.report_modify_other_keys self.new }
     {

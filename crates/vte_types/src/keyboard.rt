@@ -3,7 +3,8 @@ ghost use Rattle.std.specs.Prelude.{⊤, ◌≡◌, ◌%◌, [], ◌∷◌, code
 
 use bitflags::{Flag, Flags, bitflag_items};
 
-/// The flags of the keyboard protocol that a program may ask for.
+/// The flags of the keyboard protocol that a program may ask for: 1 tells keys from escape sequences, 2 tells presses,
+/// repeats and releases apart, 4 adds the keys of other layouts, 8 sends all keys as sequences, 16 adds their text.
 #[derive(Clone, Copy, PartialEq, Eq, Debug)]
 pub struct KeyboardModes(u8);
 
@@ -45,21 +46,21 @@ impl Flags for KeyboardModes {
 /// How keyboard modes are put on those that are set.
 #[derive(Clone, Copy, PartialEq, Eq, Debug)]
 pub enum KeyboardModesApplyBehavior {
-    /// They stand in their place.
+    /// 1: they stand in the place of those that are set.
     Replace,
-    /// They are added.
+    /// 2: they are added.
     Union,
-    /// They are taken away.
+    /// 3: they are taken away.
     Difference,
 }
 
 /// How xterm's `modifyOtherKeys` works.
 #[derive(Clone, Copy, PartialEq, Eq, Debug)]
 pub enum ModifyOtherKeys {
-    /// Not at all.
+    /// 0: not at all.
     Reset,
-    /// For the keys that have no sequence of their own.
+    /// 1: for the keys that have no sequence of their own.
     EnableExceptWellDefined,
-    /// For all keys.
+    /// 2: for all keys.
     EnableAll,
 }

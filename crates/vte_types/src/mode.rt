@@ -6,15 +6,16 @@ ghost use Rattle.vte_types.specs.Mode.{private_mode_number, RawIsTheNumber};
 /// A mode with a name. Its number (`as u16`) is the parameter that names it.
 #[derive(Clone, Copy, PartialEq, Eq, Debug)]
 pub enum NamedMode {
-    /// IRM: characters are inserted.
+    /// 4, IRM: characters are inserted.
     Insert = 4,
-    /// LNM: a linefeed also goes to column 0.
+    /// 20, LNM: a linefeed also goes to column 0.
     LineFeedNewLine = 20,
 }
 
 /// A mode (SM, RM).
 #[derive(Clone, Copy, PartialEq, Eq, Debug)]
 pub enum Mode {
+    /// A mode with a name.
     Named(NamedMode),
     /// A mode without a name here, by its parameter.
     Unknown(u16),
@@ -56,39 +57,46 @@ impl From<NamedMode> for Mode {
 /// A private mode with a name. Its number (`as u16`) is the parameter that names it.
 #[derive(Clone, Copy, PartialEq, Eq, Debug)]
 pub enum NamedPrivateMode {
-    /// DECCKM: the cursor keys send application sequences.
+    /// 1, DECCKM: the cursor keys send application sequences.
     CursorKeys = 1,
-    /// DECCOLM: 80 or 132 columns.
+    /// 3, DECCOLM: 80 or 132 columns.
     ColumnMode = 3,
-    /// DECOM: lines count from the region's top.
+    /// 6, DECOM: lines count from the region's top.
     Origin = 6,
-    /// DECAWM: text wraps at the line's end.
+    /// 7, DECAWM: text wraps at the line's end.
     LineWrap = 7,
-    /// The cursor blinks.
+    /// 12: the cursor blinks.
     BlinkingCursor = 12,
-    /// DECTCEM: the cursor is shown.
+    /// 25, DECTCEM: the cursor is shown.
     ShowCursor = 25,
+    /// 1000: presses and releases of buttons are reported.
     ReportMouseClicks = 1000,
-    /// Motion is reported while a button is held.
+    /// 1002: motion is reported while a button is held.
     ReportCellMouseMotion = 1002,
+    /// 1003: all motion is reported.
     ReportAllMouseMotion = 1003,
+    /// 1004: the focus's coming and going is reported.
     ReportFocusInOut = 1004,
+    /// 1005: the mouse's coordinates are sent in UTF-8.
     Utf8Mouse = 1005,
+    /// 1006: the mouse's coordinates are sent as numbers.
     SgrMouse = 1006,
-    /// The wheel sends cursor keys on the alternate screen.
+    /// 1007: the wheel sends cursor keys on the alternate screen.
     AlternateScroll = 1007,
-    /// The bell marks the window as urgent.
+    /// 1042: the bell marks the window as urgent.
     UrgencyHints = 1042,
-    /// The alternate screen, with the cursor saved.
+    /// 1049: the alternate screen, with the cursor saved.
     SwapScreenAndSetRestoreCursor = 1049,
+    /// 2004: what is pasted stands between `ESC [200~` and `ESC [201~`.
     BracketedPaste = 2004,
-    /// A synchronized update: what comes in it is shown at its end.
+    /// 2026: a synchronized update, what comes in it is shown at its end.
     SyncUpdate = 2026,
 }
 
 /// A private mode (DECSET, DECRST).
 #[derive(Clone, Copy, PartialEq, Eq, Debug)]
 pub enum PrivateMode {
+    /// A private mode with a name.
     Named(NamedPrivateMode),
     /// A private mode without a name here, by its parameter.
     Unknown(u16),

@@ -3,20 +3,21 @@
 /// The direction in which characters are laid out.
 #[derive(Clone, Copy, PartialEq, Eq, Debug)]
 pub enum ScpCharPath {
+    /// 0: the terminal's own.
     Default,
-    /// Left to right.
+    /// 1: left to right.
     LTR,
-    /// Right to left.
+    /// 2: right to left.
     RTL,
 }
 
 /// What is made anew with the other direction.
 #[derive(Clone, Copy, PartialEq, Eq, Debug)]
 pub enum ScpUpdateMode {
-    /// The terminal's choice.
+    /// 0: the terminal's choice.
     ImplementationDependant,
-    /// The presentation, from the data.
+    /// 1: the presentation, from the data.
     DataToPresentation,
-    /// The data, from the presentation.
+    /// 2: the data, from the presentation.
     PresentationToData,
 }

@@ -14,18 +14,18 @@ pub loop-read-preserved : goal.loop-read-preserved
 loop-read-preserved g c =
     let bs = c.args.bytes.now in
     let i = c.loop-read.read in
-    let k = c.some-read.result in
+    let k = c.read_some-read.result in
     let inv = c.loop-read.invariant in
-    let reads = c.some-read.ensures in
+    let reads = c.read_some-read.ensures in
     let more = reads_more g.P.Perform.step c.args.self.now c.loop-read.self c.loop-read.performer bs i k
-    c.some-read.new.performer c.some-read.new.self inv.told inv.within inv.no_esc inv.added inv.rest reads in
+    c.read_some-read.new.performer c.read_some-read.new.self inv.told inv.within inv.no_esc inv.added inv.rest reads in
     record {
       within = omega (arith, reads.within, length-take (length bs - i) (drop i bs), length-drop i bs);
       no_esc = ap has_no_esc (read_more bs i k)
           ∙ no_esc-append (take i bs) (take k (take (length bs - i) (drop i bs))) inv.no_esc reads.no_esc;
       told = inv.told ++ reads.told;
       performed = performs-append g.P.Perform.step c.args.performer.now c.loop-read.performer
-          c.some-read.new.performer inv.told reads.told inv.performed reads.performed;
+          c.read_some-read.new.performer inv.told reads.told inv.performed reads.performed;
       added = more.0;
       rest = more.1;
     }

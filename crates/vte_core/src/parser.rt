@@ -1,0 +1,704 @@
+//! The parser: what each byte does where the bytes before it have led, and how bytes are read many at a time.
+
+ghost use Rattle.std.specs.Prelude.{◌≡◌, ◌≢◌, ◌+◌, ◌<◌, ◌≤◌, ℕ, Bool, List, [], ◌∷◌, ◌++◌, length, map, IsTrue, take};
+ghost use Rattle.std.specs.Prelude.{drop, slice_index};
+ghost use Rattle.vte_core.specs.Byte.{GoesOn, HearsAll};
+ghost use Rattle.vte_core.specs.Event as e;
+ghost use Rattle.vte_core.specs.Event.{Performs};
+ghost use Rattle.vte_core.specs.Told.{Told};
+ghost use Rattle.vte_core.specs.Runs.{Tells, IsStep, is_one_step};
+ghost use Rattle.vte_core.specs.Heard.{heard, byte_heard, closed_heard, final_heard};
+ghost use Rattle.vte_core.specs.Shapes.{events};
+ghost use Rattle.vte_core.specs.Pending.{Pending, InText, InEscape, InCsi, InOsc, InHook, InDevice, InSwallowed};
+ghost use Rattle.vte_core.specs.Pending.{final_rest, final_told, events_of_byte, after_byte};
+ghost use Rattle.vte_core.specs.Pending.{events_from, after_bytes, closed};
+ghost use Rattle.vte_core.specs.Standing.{IsAt, Stands, state_is_text};
+ghost use Rattle.vte_core.specs.Stopping.{Stops};
+ghost use Rattle.std.specs.Prelude.{true, not, ◌&&◌};
+ghost use Rattle.vte_core.specs.Bytes.{each, is_device_data, is_esc, is_swallowed};
+
+use crate::header::Header;
+use crate::intermediates::Intermediates;
+use crate::osc_data::OscData;
+use crate::perform::Perform;
+use crate::table::{Action, step_of};
+use crate::text::Unfinished;
+
+/// What the bytes so far have begun.
+#[derive(Clone, Copy)]
+pub enum State {
+    Ground,
+    Escape,
+    Csi,
+    OscString,
+    DcsHeader,
+    DcsPassthrough,
+    SosPmApcString,
+}
+
+/// Reads bytes and tells a performer of their events. It keeps the first N data bytes of an operating system command.
+///
+/// Each call's contract speaks of every past at which the parser stands: the bytes that it has read since it was made.
+/// A new parser stands at the empty past.
+#[derive(Drop)]
+pub struct Parser<const N: usize> {
+    state: State,
+    /// The first bytes of a character in ground text.
+    unfinished: Unfinished,
+    /// The intermediates of an escape sequence.
+    intermediates: Intermediates,
+    /// The header of a control sequence or a device control string.
+    header: Header,
+    osc: OscData<N>,
+}
+
+impl Parser<1024> {
+    /// A parser that keeps 1,024 bytes of an operating system command's data.
+    pub fn new() -> Self
+        ensures { Stands 1024 result [] }
+    {
+        Parser::new_with_size()
+    }
+}
+
+impl<const N: usize> Default for Parser<N> {
+    ghost is_default = { λ parser. Stands N parser [] };
+
+    fn default() -> Self {
+        Parser::new_with_size()
+    }
+}
+
+impl<const N: usize> Parser<N> {
+    /// A parser that keeps N bytes of an operating system command's data.
+    pub fn new_with_size() -> Self
+        ensures { Stands N result [] }
+    {
+        Parser {
+            state: State::Ground,
+            unfinished: Unfinished::new(),
+            intermediates: Intermediates::new(),
+            header: Header::new(),
+            osc: OscData::new(),
+        }
+    }
+
+    /// ESC ends what was begun, and begins an escape sequence.
+    fn begin_escape<P: Perform>(&mut self, performer: &mut P)
+        ensures stands { (q : Pending) → IsAt N self.old q → IsAt N self.new (InEscape []) }
+        ensures told { Performs P.step performer.old (closed_heard N self.old.state self.old self.new) performer.new }
+        ensures is_told { (q : Pending) → IsAt N self.old q
+            → closed_heard N self.old.state self.old self.new ≡ closed N q }
+        ensures state { self.new.state ≡ State.Escape }
+    {
+        match self.state {
+            State::Ground => {
+                if !self.unfinished.is_empty() {
+                    self.unfinished.clear();
+                    performer.print('\u{FFFD}');
+                }
+            }
+            State::OscString => self.osc.dispatch(performer, false),
+            State::DcsPassthrough => performer.unhook(),
+            _ => {}
+        }
+        self.state = State::Escape;
+        self.intermediates.clear();
+    }
+
+    /// A byte of an escape sequence, other than ESC.
+    fn escape<P: Perform>(&mut self, performer: &mut P, byte: u8)
+        requires state { self.old.state ≡ State.Escape }
+        requires not_esc { byte ≢ 0x1B }
+        ensures stands { GoesOn N self.old self.new byte }
+        ensures told { Performs P.step performer.old (byte_heard N State.Escape self.old self.new byte) performer.new }
+        ensures is_told { HearsAll N State.Escape self.old self.new byte }
+    {
+        let (action, next) = step_of(State::Escape, byte);
+        match action {
+            Action::Cancel => {
+                self.state = next;
+                performer.execute(byte);
+            }
+            Action::Execute => performer.execute(byte),
+            Action::Collect => self.intermediates.push(byte),
+            Action::Dispatch => self.end_escape(performer, byte),
+            _ => {}
+        }
+    }
+
+    /// The final byte of an escape sequence: it begins a control sequence or a string, or is told.
+    fn end_escape<P: Perform>(&mut self, performer: &mut P, byte: u8)
+        requires { self.old.state ≡ State.Escape }
+        ensures stands { (is : List ℕ) → IsAt N self.old (InEscape is) → IsAt N self.new (final_rest is byte) }
+        ensures told { Performs P.step performer.old (final_heard self.old.intermediates byte) performer.new }
+        ensures is_told { (is : List ℕ) → IsAt N self.old (InEscape is)
+            → final_heard self.old.intermediates byte ≡ final_told is byte }
+    {
+        let plain = self.intermediates.kept.is_empty();
+        match byte {
+            b'[' if plain => {
+                self.state = State::Csi;
+                self.header.clear();
+            }
+            b']' if plain => {
+                self.state = State::OscString;
+                self.osc.clear();
+            }
+            b'P' if plain => {
+                self.state = State::DcsHeader;
+                self.header.clear();
+            }
+            b'X' | b'^' | b'_' if plain => self.state = State::SosPmApcString,
+            _ => {
+                self.state = State::Ground;
+                performer.esc_dispatch(
+                    self.intermediates.kept.as_slice(),
+                    self.intermediates.many,
+                    byte,
+                );
+            }
+        }
+    }
+
+    /// A byte of a control sequence, other than ESC.
+    fn csi<P: Perform>(&mut self, performer: &mut P, byte: u8)
+        requires state { self.old.state ≡ State.Csi }
+        requires not_esc { byte ≢ 0x1B }
+        ensures stands { GoesOn N self.old self.new byte }
+        ensures told { Performs P.step performer.old (byte_heard N State.Csi self.old self.new byte) performer.new }
+        ensures is_told { HearsAll N State.Csi self.old self.new byte }
+    {
+        let (action, next) = step_of(State::Csi, byte);
+        match action {
+            Action::Cancel => {
+                self.state = next;
+                performer.execute(byte);
+            }
+            Action::Execute => performer.execute(byte),
+            Action::Param => self.header.numeric(byte),
+            Action::Collect => self.header.collect(byte),
+            Action::Dispatch => {
+                self.state = next;
+                if self.header.is_kept() {
+                    self.header.csi(performer, byte);
+                }
+            }
+            _ => {}
+        }
+    }
+
+    /// A byte of an operating system command, other than ESC.
+    fn osc_string<P: Perform>(&mut self, performer: &mut P, byte: u8)
+        requires state { self.old.state ≡ State.OscString }
+        requires not_esc { byte ≢ 0x1B }
+        ensures stands { GoesOn N self.old self.new byte }
+        ensures told { Performs P.step performer.old (byte_heard N State.OscString self.old self.new byte)
+            performer.new }
+        ensures is_told { HearsAll N State.OscString self.old self.new byte }
+    {
+        let (action, next) = step_of(State::OscString, byte);
+        match action {
+            Action::Cancel => {
+                self.state = next;
+                self.osc.dispatch(performer, false);
+                performer.execute(byte);
+            }
+            Action::End => {
+                self.state = next;
+                self.osc.dispatch(performer, true);
+            }
+            Action::Put => self.osc.push(byte),
+            _ => {}
+        }
+    }
+
+    /// A byte of a device control string's header, other than ESC.
+    fn dcs_header<P: Perform>(&mut self, performer: &mut P, byte: u8)
+        requires state { self.old.state ≡ State.DcsHeader }
+        requires not_esc { byte ≢ 0x1B }
+        ensures stands { GoesOn N self.old self.new byte }
+        ensures told { Performs P.step performer.old (byte_heard N State.DcsHeader self.old self.new byte)
+            performer.new }
+        ensures is_told { HearsAll N State.DcsHeader self.old self.new byte }
+    {
+        let (action, next) = step_of(State::DcsHeader, byte);
+        match action {
+            Action::Cancel => {
+                self.state = next;
+                performer.execute(byte);
+            }
+            Action::Param => self.header.numeric(byte),
+            Action::Collect => self.header.collect(byte),
+            Action::Dispatch => {
+                if self.header.is_kept() {
+                    self.state = next;
+                    self.header.hook(performer, byte);
+                } else {
+                    self.state = State::SosPmApcString;
+                }
+            }
+            _ => {}
+        }
+    }
+
+    /// A byte of a device control string's data, other than ESC. 0x9C is ST as one byte.
+    fn dcs_passthrough<P: Perform>(&mut self, performer: &mut P, byte: u8)
+        requires state { self.old.state ≡ State.DcsPassthrough }
+        requires not_esc { byte ≢ 0x1B }
+        ensures stands { GoesOn N self.old self.new byte }
+        ensures told { Performs P.step performer.old (byte_heard N State.DcsPassthrough self.old self.new byte)
+            performer.new }
+        ensures is_told { HearsAll N State.DcsPassthrough self.old self.new byte }
+    {
+        let (action, next) = step_of(State::DcsPassthrough, byte);
+        match action {
+            Action::Cancel | Action::End => {
+                self.state = next;
+                performer.unhook();
+                if let Action::Cancel = action {
+                    performer.execute(byte);
+                }
+            }
+            Action::Put => performer.put(byte),
+            _ => {}
+        }
+    }
+
+    /// A byte of a start of string, a privacy message, an application program command or an ignored device control
+    /// string, other than ESC.
+    fn sos_pm_apc_string<P: Perform>(&mut self, performer: &mut P, byte: u8)
+        requires state { self.old.state ≡ State.SosPmApcString }
+        requires not_esc { byte ≢ 0x1B }
+        ensures stands { GoesOn N self.old self.new byte }
+        ensures told { Performs P.step performer.old (byte_heard N State.SosPmApcString self.old self.new byte)
+            performer.new }
+        ensures is_told { HearsAll N State.SosPmApcString self.old self.new byte }
+    {
+        let (action, next) = step_of(State::SosPmApcString, byte);
+        match action {
+            Action::Cancel => {
+                self.state = next;
+                performer.execute(byte);
+            }
+            _ => {}
+        }
+    }
+
+    /// A byte of ground text, other than ESC.
+    fn ground<P: Perform>(&mut self, performer: &mut P, byte: u8)
+        requires { self.old.state ≡ State.Ground }
+        ensures stands { GoesOn N self.old self.new byte }
+        ensures told { Performs P.step performer.old (byte_heard N State.Ground self.old self.new byte) performer.new }
+        ensures is_told { HearsAll N State.Ground self.old self.new byte }
+    {
+        self.unfinished.read_byte(performer, byte);
+    }
+
+    /// A byte.
+    fn byte<P: Perform>(&mut self, performer: &mut P, byte: u8)
+        ensures stands { (q : Pending) → IsAt N self.old q → IsAt N self.new (after_byte q byte) }
+        ensures told { Performs P.step performer.old (heard N self.old self.new byte) performer.new }
+        ensures is_told { (q : Pending) → IsAt N self.old q → heard N self.old self.new byte ≡ events_of_byte N q byte }
+    {
+        if byte == 0x1B {
+            self.begin_escape(performer);
+            return;
+        }
+        match self.state {
+            State::Ground => self.ground(performer, byte),
+            State::Escape => self.escape(performer, byte),
+            State::Csi => self.csi(performer, byte),
+            State::OscString => self.osc_string(performer, byte),
+            State::DcsHeader => self.dcs_header(performer, byte),
+            State::DcsPassthrough => self.dcs_passthrough(performer, byte),
+            State::SosPmApcString => self.sos_pm_apc_string(performer, byte),
+        }
+    }
+
+    /// Reads the `[` or `P` after ESC that begins a header, and the header that follows, if they stand at the front.
+    /// Returns how many bytes they are.
+    #[inline(always)]
+    fn begin_header(&mut self, bytes: &[u8]) -> usize
+        requires { self.old.state ≡ State.Escape }
+        ensures within { result ≤ length bytes.now }
+        ensures stands { (q : Pending) → IsAt N self.old q → IsAt N self.new (after_bytes q (take result bytes.now)) }
+        ensures quiet { (q : Pending) → IsAt N self.old q → events_from N q (take result bytes.now) ≡ [] }
+        ensures csi { 0 < result → slice_index bytes.now 0 ≡ 0x5B → self.new.state ≡ State.Csi }
+        ensures hook { 0 < result → slice_index bytes.now 0 ≢ 0x5B → self.new.state ≡ State.DcsHeader }
+    {
+        match bytes {
+            [b'[', rest @ ..] if self.intermediates.kept.is_empty() => {
+                self.state = State::Csi;
+                self.header.clear();
+                1 + self.header.read(rest)
+            }
+            [b'P', rest @ ..] if self.intermediates.kept.is_empty() => {
+                self.state = State::DcsHeader;
+                self.header.clear();
+                1 + self.header.read(rest)
+            }
+            _ => 0,
+        }
+    }
+
+    /// Reads the bytes at the front that tell nothing: a header, the data of a command, or what is swallowed. Returns
+    /// how many they are.
+    #[inline(always)]
+    fn read_quiet(&mut self, bytes: &[u8]) -> usize
+        ensures within { result ≤ length bytes.now }
+        ensures stands { (q : Pending) → IsAt N self.old q → IsAt N self.new (after_bytes q (take result bytes.now)) }
+        ensures quiet { (q : Pending) → IsAt N self.old q → events_from N q (take result bytes.now) ≡ [] }
+    {
+        match self.state {
+            State::Csi | State::DcsHeader => self.header.read(bytes),
+            State::OscString => self.osc.read(bytes),
+            State::SosPmApcString => swallowed_len(bytes),
+            State::Escape => self.begin_header(bytes),
+            _ => 0,
+        }
+    }
+
+    /// Reads `ESC [` after whole ground text, and the header that follows, if they stand at the front. Returns how many
+    /// bytes they are.
+    #[inline(always)]
+    fn begin_csi(&mut self, bytes: &[u8]) -> usize
+        requires { self.old.state ≡ State.Ground }
+        ensures within { result ≤ length bytes.now }
+        ensures begun { 0 < result → self.new.state ≡ State.Csi }
+        ensures not_begun { result ≡ 0 → self.new.state ≡ State.Ground }
+        ensures stands { (q : Pending) → IsAt N self.old q → IsAt N self.new (after_bytes q (take result bytes.now)) }
+        ensures quiet { (q : Pending) → IsAt N self.old q → events_from N q (take result bytes.now) ≡ [] }
+    {
+        match bytes {
+            [0x1B, b'[', rest @ ..] if self.unfinished.is_empty() => {
+                self.state = State::Csi;
+                self.header.clear();
+                2 + self.header.read(rest)
+            }
+            _ => 0,
+        }
+    }
+
+    /// The byte after a control sequence's header.
+    #[inline(always)]
+    fn end_csi<P: Perform>(&mut self, performer: &mut P, byte: u8)
+        requires { self.old.state ≡ State.Csi }
+        ensures stands { (q : Pending) → IsAt N self.old q → IsAt N self.new (after_byte q byte) }
+        ensures told { Performs P.step performer.old (heard N self.old self.new byte) performer.new }
+        ensures is_told { (q : Pending) → IsAt N self.old q → heard N self.old self.new byte ≡ events_of_byte N q byte }
+    {
+        if byte == 0x1B {
+            self.begin_escape(performer);
+        } else {
+            self.csi(performer, byte);
+        }
+    }
+
+    /// The byte after a device control string's header.
+    #[inline(always)]
+    fn end_dcs_header<P: Perform>(&mut self, performer: &mut P, byte: u8)
+        requires { self.old.state ≡ State.DcsHeader }
+        ensures stands { (q : Pending) → IsAt N self.old q → IsAt N self.new (after_byte q byte) }
+        ensures told { Performs P.step performer.old (heard N self.old self.new byte) performer.new }
+        ensures is_told { (q : Pending) → IsAt N self.old q → heard N self.old self.new byte ≡ events_of_byte N q byte }
+    {
+        if byte == 0x1B {
+            self.begin_escape(performer);
+        } else {
+            self.dcs_header(performer, byte);
+        }
+    }
+
+    /// Reads what follows ESC up to the end of a header, and the byte after it; nothing where no header begins. Returns
+    /// how many bytes it read.
+    #[inline(always)]
+    fn read_header<P: Perform>(&mut self, performer: &mut P, bytes: &[u8]) -> usize
+        requires { self.old.state ≡ State.Escape }
+        ensures within { result ≤ length bytes.now }
+        ensures stands { (q : Pending) → IsAt N self.old q → IsAt N self.new (after_bytes q (take result bytes.now)) }
+        ensures told { Tells P.step N self.old performer.old (take result bytes.now) performer.new }
+    {
+        let quiet = self.begin_header(bytes);
+        if quiet == 0 || quiet == bytes.len() {
+            return quiet;
+        }
+        if bytes[0] == b'[' {
+            self.end_csi(performer, bytes[quiet]);
+        } else {
+            self.end_dcs_header(performer, bytes[quiet]);
+        }
+        quiet + 1
+    }
+
+    /// Reads ESC, and with it the header that it begins and the byte after that. Returns how many bytes it read.
+    fn read_anew<P: Perform>(&mut self, performer: &mut P, bytes: &[u8]) -> usize
+        requires some { 0 < length bytes.now }
+        requires esc { slice_index bytes.now 0 ≡ 0x1B }
+        ensures some { 0 < result }
+        ensures within { result ≤ length bytes.now }
+        ensures stands { (q : Pending) → IsAt N self.old q → IsAt N self.new (after_bytes q (take result bytes.now)) }
+        ensures told { Tells P.step N self.old performer.old (take result bytes.now) performer.new }
+    {
+        self.begin_escape(performer);
+        1 + self.read_header(performer, &bytes[1..])
+    }
+
+    /// Reads a control sequence that ESC begins after ground text, up to the first byte that tells something, and with
+    /// it; or else ESC alone. Returns how many bytes it read.
+    #[inline(always)]
+    fn read_escape<P: Perform>(&mut self, performer: &mut P, bytes: &[u8]) -> usize
+        requires some { 0 < length bytes.now }
+        requires ground { self.old.state ≡ State.Ground }
+        requires esc { slice_index bytes.now 0 ≡ 0x1B }
+        ensures some { 0 < result }
+        ensures within { result ≤ length bytes.now }
+        ensures stands { (q : Pending) → IsAt N self.old q → IsAt N self.new (after_bytes q (take result bytes.now)) }
+        ensures told { Tells P.step N self.old performer.old (take result bytes.now) performer.new }
+        ensures step { (q : Pending) → IsAt N self.old q → IsStep N q (take result bytes.now) (drop result bytes.now) }
+    {
+        let quiet = self.begin_csi(bytes);
+        if quiet == 0 {
+            self.begin_escape(performer);
+            return 1;
+        }
+        if quiet < bytes.len() {
+            self.end_csi(performer, bytes[quiet]);
+            return quiet + 1;
+        }
+        quiet
+    }
+
+    /// Reads ground text up to the next ESC, or else one byte, and returns how many bytes it read.
+    #[inline(always)]
+    fn read_one<P: Perform>(&mut self, performer: &mut P, bytes: &[u8]) -> usize
+        requires { 0 < length bytes.now }
+        ensures some { 0 < result }
+        ensures within { result ≤ length bytes.now }
+        ensures stands { (q : Pending) → IsAt N self.old q → IsAt N self.new (after_bytes q (take result bytes.now)) }
+        ensures told { Tells P.step N self.old performer.old (take result bytes.now) performer.new }
+        ensures step { (q : Pending) → IsAt N self.old q
+            → is_one_step q (take result bytes.now) (drop result bytes.now) ≡ true }
+    {
+        if is_text(self.state, bytes[0]) {
+            return self.unfinished.read(performer, bytes);
+        }
+        self.byte(performer, bytes[0]);
+        1
+    }
+
+    /// Reads bytes up to the first that tells something, and with it, or ground text up to the next ESC. Returns how
+    /// many bytes it read.
+    #[inline(always)]
+    fn read_step<P: Perform>(&mut self, performer: &mut P, bytes: &[u8]) -> usize
+        requires { 0 < length bytes.now }
+        ensures some { 0 < result }
+        ensures within { result ≤ length bytes.now }
+        ensures stands { (q : Pending) → IsAt N self.old q → IsAt N self.new (after_bytes q (take result bytes.now)) }
+        ensures told { Tells P.step N self.old performer.old (take result bytes.now) performer.new }
+        ensures step { (q : Pending) → IsAt N self.old q → IsStep N q (take result bytes.now) (drop result bytes.now) }
+    {
+        let quiet = self.read_quiet(bytes);
+        if quiet == bytes.len() {
+            return quiet;
+        }
+        quiet + self.read_one(performer, &bytes[quiet..])
+    }
+
+    /// Reads bytes as `read_step` does, and a control sequence after ground text at once.
+    #[inline(always)]
+    fn read_some<P: Perform>(&mut self, performer: &mut P, bytes: &[u8]) -> usize
+        requires { 0 < length bytes.now }
+        ensures some { 0 < result }
+        ensures within { result ≤ length bytes.now }
+        ensures stands { (q : Pending) → IsAt N self.old q → IsAt N self.new (after_bytes q (take result bytes.now)) }
+        ensures told { Tells P.step N self.old performer.old (take result bytes.now) performer.new }
+        ensures step { (q : Pending) → IsAt N self.old q → IsStep N q (take result bytes.now) (drop result bytes.now) }
+    {
+        match self.state {
+            State::Ground if bytes[0] == 0x1B => self.read_escape(performer, bytes),
+            _ => self.read_step(performer, bytes),
+        }
+    }
+
+    /// Reads ESC after ground text, and mostly the header that it begins and the byte after that. Returns how many
+    /// bytes it read.
+    #[inline(always)]
+    fn leave_text<P: Perform>(&mut self, performer: &mut P, bytes: &[u8]) -> usize
+        requires some { 0 < length bytes.now }
+        requires ground { self.old.state ≡ State.Ground }
+        requires esc { slice_index bytes.now 0 ≡ 0x1B }
+        ensures some { 0 < result }
+        ensures within { result ≤ length bytes.now }
+        ensures stands { (q : Pending) → IsAt N self.old q → IsAt N self.new (after_bytes q (take result bytes.now)) }
+        ensures told { Tells P.step N self.old performer.old (take result bytes.now) performer.new }
+    {
+        if self.unfinished.is_empty() {
+            self.read_escape(performer, bytes)
+        } else {
+            self.read_anew(performer, bytes)
+        }
+    }
+
+    /// Reads ground text up to the next ESC, and what `leave_text` reads from there. Returns how many bytes they are.
+    #[inline(always)]
+    fn read_text<P: Perform>(&mut self, performer: &mut P, bytes: &[u8]) -> usize
+        requires some { 0 < length bytes.now }
+        requires ground { self.old.state ≡ State.Ground }
+        ensures some { 0 < result }
+        ensures within { result ≤ length bytes.now }
+        ensures stands { (q : Pending) → IsAt N self.old q → IsAt N self.new (after_bytes q (take result bytes.now)) }
+        ensures told { Tells P.step N self.old performer.old (take result bytes.now) performer.new }
+    {
+        let len = self.unfinished.read(performer, bytes);
+        if len == bytes.len() {
+            return len;
+        }
+        len + self.leave_text(performer, &bytes[len..])
+    }
+
+    /// Reads the bytes of a sequence at the front that don't end it, if there are any: a header or data. Returns how
+    /// many they are.
+    #[inline(always)]
+    fn read_inside<P: Perform>(&mut self, performer: &mut P, bytes: &[u8]) -> usize
+        ensures within { result ≤ length bytes.now }
+        ensures stands { (q : Pending) → IsAt N self.old q → IsAt N self.new (after_bytes q (take result bytes.now)) }
+        ensures told { Tells P.step N self.old performer.old (take result bytes.now) performer.new }
+    {
+        match self.state {
+            State::DcsPassthrough => put_front(performer, bytes),
+            State::Escape => 0,
+            _ => self.read_quiet(bytes),
+        }
+    }
+
+    /// Reads ESC as `read_anew` does, or one byte, or ground text up to the next ESC. Returns how many bytes it read.
+    #[inline(always)]
+    fn read_next<P: Perform>(&mut self, performer: &mut P, bytes: &[u8]) -> usize
+        requires { 0 < length bytes.now }
+        ensures some { 0 < result }
+        ensures within { result ≤ length bytes.now }
+        ensures stands { (q : Pending) → IsAt N self.old q → IsAt N self.new (after_bytes q (take result bytes.now)) }
+        ensures told { Tells P.step N self.old performer.old (take result bytes.now) performer.new }
+    {
+        if bytes[0] == 0x1B {
+            return self.read_anew(performer, bytes);
+        }
+        self.read_one(performer, bytes)
+    }
+
+    /// Reads the bytes of a sequence that don't end it, and then as `read_next` does. Returns how many bytes it read.
+    #[inline(always)]
+    fn read_sequence<P: Perform>(&mut self, performer: &mut P, bytes: &[u8]) -> usize
+        requires { 0 < length bytes.now }
+        ensures some { 0 < result }
+        ensures within { result ≤ length bytes.now }
+        ensures stands { (q : Pending) → IsAt N self.old q → IsAt N self.new (after_bytes q (take result bytes.now)) }
+        ensures told { Tells P.step N self.old performer.old (take result bytes.now) performer.new }
+    {
+        let len = self.read_inside(performer, bytes);
+        if len == bytes.len() {
+            return len;
+        }
+        len + self.read_next(performer, &bytes[len..])
+    }
+
+    /// Reads some bytes, and returns how many.
+    #[inline(always)]
+    fn read_on<P: Perform>(&mut self, performer: &mut P, bytes: &[u8]) -> usize
+        requires { 0 < length bytes.now }
+        ensures some { 0 < result }
+        ensures within { result ≤ length bytes.now }
+        ensures stands { (q : Pending) → IsAt N self.old q → IsAt N self.new (after_bytes q (take result bytes.now)) }
+        ensures told { Tells P.step N self.old performer.old (take result bytes.now) performer.new }
+    {
+        match self.state {
+            State::Ground => self.read_text(performer, bytes),
+            _ if bytes[0] == 0x1B => self.read_anew(performer, bytes),
+            _ => self.read_sequence(performer, bytes),
+        }
+    }
+
+    /// Reads the next bytes of the stream, and tells the performer of their events, in order. A character or a sequence
+    /// that the bytes leave unfinished is kept for the next call.
+    pub fn advance<P: Perform>(&mut self, performer: &mut P, bytes: &[u8])
+        ensures stands { (past : List ℕ) → Stands N self.old past → Stands N self.new (past ++ bytes.now) }
+        ensures told { Told P.step N self.old performer.old bytes.now performer.new }
+    {
+        let mut read = 0;
+        while read < bytes.len() {
+            read += self.read_on(performer, &bytes[read..]);
+        }
+    }
+
+    /// Reads bytes until the performer is terminated, and returns how many it read; the caller gives the others again.
+    /// The performer is asked before the first byte, after each byte of a sequence, and after each run of ground text,
+    /// up to the next ESC or to the end of the bytes; never inside a run. Its answer stands for as long as it is told
+    /// nothing.
+    pub fn advance_until_terminated<P: Perform>(&mut self, performer: &mut P, bytes: &[u8]) -> usize
+        ensures within { result ≤ length bytes.now }
+        ensures stands { (past : List ℕ) → Stands N self.old past → Stands N self.new (past ++ take result bytes.now) }
+        ensures told { Told P.step N self.old performer.old (take result bytes.now) performer.new }
+        ensures stops { (past : List ℕ) → Stands N self.old past
+            → Stops P.step P.is_terminated N past bytes.now performer.old result performer.new }
+        ensures ended { result < length bytes.now → IsTrue (P.is_terminated performer.new) }
+        ensures already { IsTrue (P.is_terminated performer.old) → (result ≡ 0) × (performer.new ≡ performer.old)
+            × (self.new ≡ self.old) }
+    {
+        let mut read = 0;
+        while read < bytes.len() {
+            if performer.terminated() {
+                return read;
+            }
+            read += self.read_some(performer, &bytes[read..]);
+        }
+        bytes.len()
+    }
+}
+
+/// Whether the byte is ground text.
+#[inline(always)]
+fn is_text(state: State, byte: u8) -> bool
+    ensures { result ≡ (state_is_text state && not (is_esc byte)) }
+{
+    match state {
+        State::Ground => byte != 0x1B,
+        _ => false,
+    }
+}
+
+/// How many bytes at the front are swallowed: neither ESC nor CAN nor SUB.
+#[inline(always)]
+fn swallowed_len(bytes: &[u8]) -> usize
+    ensures within { result ≤ length bytes.now }
+    ensures swallowed { each is_swallowed (take result bytes.now) ≡ true }
+{
+    let mut len = 0;
+    while len < bytes.len() && !matches!(bytes[len], 0x18 | 0x1A | 0x1B) {
+        len += 1;
+    }
+    len
+}
+
+/// Puts the bytes at the front that are a device control string's data, and returns how many they are.
+#[inline(always)]
+fn put_front<P: Perform>(performer: &mut P, bytes: &[u8]) -> usize
+    ensures within { result ≤ length bytes.now }
+    ensures all_put { each is_device_data (take result bytes.now) ≡ true }
+    ensures told { Performs P.step performer.old (map e.Put (take result bytes.now)) performer.new }
+{
+    let mut read = 0;
+    while read < bytes.len() && is_device_data(bytes[read]) {
+        performer.put(bytes[read]);
+        read += 1;
+    }
+    read
+}
+
+/// Whether the byte is a device control string's data, and doesn't end it.
+#[inline(always)]
+fn is_device_data(byte: u8) -> bool
+    ensures { result ≡ is_device_data byte }
+{
+    byte < 0x7F && !matches!(byte, 0x18 | 0x1A | 0x1B)
+}
