@@ -25,7 +25,7 @@ use Rattle.relay_theorem.proofs.ScreenLemmas.{IsShot, shot-made, IsShotBase}
 use Rattle.relay_theorem.proofs.FrameSteps.{text-frame, frame-read, frame-ends}
 use Rattle.relay_streams.specs.Frames.{state_after, idle, answered, asked, is_overlong}
 use Rattle.relay_streams.specs.Pieces.{cut_by, piece_len, pieces_of}
-use Rattle.relay_streams.specs.Shown.{IsShown, screen_text, sized}
+use Rattle.relay_streams.specs.Shown.{IsTextShown, screen_text, sized}
 use Rattle.relay_streams.specs.Laws.{RelayedIsShown}
 use Rattle.relay_streams.proofs.FrameLists.{frames_from, answers_from, answers_of, base_from, relay_text, or-first, or-rest}
 use Rattle.relay_streams.proofs.LawLemmas.{given-Gives}
@@ -236,7 +236,7 @@ module _ (rows cols : ℕ) (height : IsSide rows) (width : IsSide cols) where
   pub shown-so : (input text : List ℕ) (pieces : List (List ℕ)) → concat pieces ≡ relay_text rows cols input
       → is_unsure z (shown_state (state_after rows cols input)) ≡ false
       → (state_after rows cols input).updating ≡ false
-      → list_any is_overlong (answers_of rows cols (pieces_of input)) ≡ false → IsShown z pieces text
+      → list_any is_overlong (answers_of rows cols (pieces_of input)) ≡ false → IsTextShown z pieces text
       → text ≡ screen_text z (shown_state (state_after rows cols input)).cell
   shown-so input text pieces joined sure ended fits s =
       let now = shown_state (state_after rows cols input) in

@@ -9,7 +9,7 @@ use Rattle.termview.specs.declared.until_cleared.UntilCleared.{UntilCleared}
 use Rattle.terminal_model.specs.Term.{Size, Term}
 use Rattle.termview.specs.Seen.{seen}
 use Rattle.termview.specs.Standing.{HoldsAt, Taken, view_size, shown_by}
-use Rattle.relay_streams.specs.Shown.{IsShown, screen_text, sized}
+use Rattle.relay_streams.specs.Shown.{IsTextShown, screen_text, sized}
 use Rattle.relay_streams.specs.Led.{answers, Led}
 
 pub not_led : (view : View UntilCleared) → Led view [] view
@@ -50,7 +50,7 @@ led_on sets clears old now new pieces piece led take = record {
 
 -- what a fresh view shows once it has read pieces
 pub shown_so : (fresh now : View UntilCleared) (z : Size) (pieces : List (List ℕ)) → HoldsAt answers fresh [] None
-    → view_size fresh ≡ z → Led fresh pieces now → IsShown z pieces (screen_text (view_size now) (shown_by now).cell)
+    → view_size fresh ≡ z → Led fresh pieces now → IsTextShown z pieces (screen_text (view_size now) (shown_by now).cell)
 shown_so fresh now z pieces at is led =
     let l = led.goes [] None at in
     let text : screen_text (view_size now) (shown_by now).cell

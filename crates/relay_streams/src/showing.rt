@@ -7,7 +7,7 @@ ghost use Rattle.takers.specs.Sent.{SendsText};
 ghost use Rattle.termview.specs.Standing.{shown_by, view_size};
 ghost use Rattle.relay_streams.specs.Led.{Led};
 ghost use Rattle.relay_streams.specs.Pieces.{Drained, piece_len, pieces_of};
-ghost use Rattle.relay_streams.specs.Shown.{IsShown, Prints, Shows, row_line, screen_text, sized};
+ghost use Rattle.relay_streams.specs.Shown.{IsTextShown, Prints, Shows, row_line, screen_text, sized};
 
 use crate::error::RelayError;
 use crate::source::{PIECE_LEN, Source, fill};
@@ -34,10 +34,10 @@ pub fn show<S: Source, W: Sink>(
     ensures shows { Shows S.gives W.takes W.flushes (sized rows.value cols.value) input.old output.old result input.new
         output.new }
     ensures text { OnOk result (IfSome (S.left input.old) (λ bytes. (text : List ℕ)
-        × IsShown (sized rows.value cols.value) (pieces_of bytes) text
+        × IsTextShown (sized rows.value cols.value) (pieces_of bytes) text
         × Appends (W.contents output.old) (W.contents output.new) text)) }
     ensures front { IfSome (S.left input.old) (λ bytes. (text : List ℕ)
-        → IsShown (sized rows.value cols.value) (pieces_of bytes) text
+        → IsTextShown (sized rows.value cols.value) (pieces_of bytes) text
         → TakesFront (W.contents output.old) (W.contents output.new) text) }
 {
     let mut view = View::new(alloc, rows, cols, UntilCleared::new())?;

@@ -23,7 +23,7 @@ use seplogic.Ra.Ura.{Ura}
 use types.Kit.{‵, ◌⊛◌, raw, ◌$◌, ◌∵◌, !, qed, move, split, fsplit, fsplit3, fjoin, fpick, fpack}
 use types.Kit.{use0, use1, use2, done, keep, by}
 use types.Logic.{Logic, sem}
-use Rattle.vte_core.specs.contracts.Parser as reader
+use Rattle.vte_core.specs.contracts.parser.Parser as reader
 use Rattle.screen_model.specs.Call.{ScreenView}
 use Rattle.vt100.specs.Parsing.{ParserView}
 use Rattle.vt100.specs.contracts.screen.Screen as screen

@@ -4,7 +4,7 @@ use Rattle.std.proofs.Common.{inl, inr, append_assoc, append-nil, Ok, Err, Resul
 use Rattle.std.proofs.lemmas.List.Elements.{All-head, All-tail}
 use Rattle.std.proofs.lemmas.Bool.{false≢true}
 use Rattle.vte_core.specs.Event.{Event, Performs}
-use Rattle.vte_core.specs.declared.Parser.{Parser}
+use Rattle.vte_core.specs.declared.parser.Parser.{Parser}
 use Rattle.vte_core.specs.Standing.{Stands}
 use Rattle.vte_core.specs.Told.{Told}
 use Rattle.vte_core.specs.Added.{added}

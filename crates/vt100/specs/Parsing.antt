@@ -1,6 +1,6 @@
 -- What a parser is, and where it stands.
 use Rattle.std.specs.Prelude.{◌≡◌, ℕ, List}
-use Rattle.vte_core.specs.declared.Parser.{Parser}
+use Rattle.vte_core.specs.declared.parser.Parser.{Parser}
 use Rattle.vte_core.specs.Standing.{Stands}
 use Rattle.screen_model.specs.Call.{Call, ScreenView}
 use Rattle.screen_model.specs.Made.{Act, bytes_fed, made}
