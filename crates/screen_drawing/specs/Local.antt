@@ -4,7 +4,7 @@ use Rattle.vt100_forms.specs.Attrs.{IsProper}
 use Rattle.vt100_forms.specs.Form.{Form}
 use Rattle.terminal_model.specs.Term.{Size, Shown, Saved, Term, IsShown, term_of}
 use Rattle.terminal_model.specs.Touch.{Within}
-use Rattle.terminal_model.specs.Local.{IsLocal, IsLocalBut}
+use Rattle.terminal_model.specs.Local.{IsLocal, IsLocalOrEnd}
 use Rattle.row_drawing.specs.declared.pen.Pen.{Pen}
 use Rattle.screen_drawing.specs.Rows.{rows_difference}
 use Rattle.screen_drawing.specs.Cursor.{row_with_end}
@@ -30,7 +30,7 @@ waiting_row z s = row_or s.row (row_with_end z s s.row)
 -- Read by a terminal that shows `old`, whatever it has saved, the forms touch local cells of the two pictures alone;
 -- but where the cursor of `new` waits, also the last cell of that one row, with its other half.
 abbrev pub IsLocalList : Size → Shown → Shown → List Form → Type 0
-IsLocalList z old new fs = (v : Saved) → Within (IsLocalBut z old new (waiting_row z new)) z fs (term_of old v)
+IsLocalList z old new fs = (v : Saved) → Within (IsLocalOrEnd z old new (waiting_row z new)) z fs (term_of old v)
 
 -- cells, flags and the cursor
 abbrev pub EachGridDifferenceIsLocal : Type 0

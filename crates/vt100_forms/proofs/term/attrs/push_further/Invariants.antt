@@ -1,6 +1,6 @@
 use Rattle.std.proofs.Common.{◌≡◌, ◌≤◌, ◌+◌, ◌*◌, length, ◌++◌, take}
 use Rattle.vt100_forms.specs.Form.{further_numbers}
-use Rattle.vt100_forms.proofs.term.push_further.Given as goal
+use Rattle.vt100_forms.proofs.term.attrs.push_further.Given as goal
 
 abbrev pub invariant-loop-n : goal.invariant-loop-n
 invariant-loop-n l =
