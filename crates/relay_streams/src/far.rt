@@ -8,7 +8,8 @@ ghost use Rattle.termrelay.specs.Calls.{call_of};
 ghost use Rattle.termview.specs.Standing.{HoldsAt, size_of};
 ghost use Rattle.relay_theorem.specs.Isolation.{is_starved as starved};
 ghost use Rattle.relay_streams.specs.Far.{IsFarView, ShowsJudged};
-ghost use Rattle.relay_streams.specs.Led.{Led, answers};
+ghost use Rattle.relay_streams.specs.Led.{Led};
+ghost use Rattle.termview.specs.Timeout.{until_cleared};
 ghost use Rattle.relay_streams.specs.Pieces.{cut_by};
 ghost use Rattle.relay_streams.specs.declared.error.RelayError.TheVariants.{Memory};
 
@@ -64,7 +65,7 @@ fn view_session(
 ) -> Result<View<UntilCleared>, RelayError>
     ensures stands { IfOk result (λ v. (parsed : List ℕ) × (hold : Option (List ℕ))
         × Leads (map Gives (cut_by cuts.now (take most session.now.pumped))) [] None parsed hold
-        × HoldsAt answers v parsed hold) }
+        × HoldsAt until_cleared v parsed hold) }
     ensures rows { IfOk result (λ v. (size_of v).rows ≡ session.now.rows) }
     ensures cols { IfOk result (λ v. (size_of v).cols ≡ session.now.cols) }
     ensures memory { OnErr result (result ≡ Err Memory) }
@@ -107,7 +108,7 @@ pub fn view_of(
 ) -> Result<View<UntilCleared>, RelayError>
     ensures stands { IfOk result (λ v. (parsed : List ℕ) × (hold : Option (List ℕ))
         × Leads (map Gives (cut_by cuts.now bytes.now)) [] None parsed hold
-        × HoldsAt answers v parsed hold) }
+        × HoldsAt until_cleared v parsed hold) }
     ensures rows { IfOk result (λ v. (size_of v).rows ≡ rows.value) }
     ensures cols { IfOk result (λ v. (size_of v).cols ≡ cols.value) }
     ensures memory { OnErr result (result ≡ Err Memory) }
