@@ -12,32 +12,32 @@ use Rattle.screen_model.specs.State.{State, fresh_state}
 use Rattle.screen_model.specs.Step.{resized_to}
 use Rattle.screen_model.specs.Made.{Act, Fed, Resized, played, events_added, bytes_fed, made_on, made}
 use Rattle.forms_read.specs.Terminals.{IsSmall}
-use Rattle.agreement.specs.Plain.{terminal_of, screen_of, IsPlainState}
+use Rattle.agreement.specs.Plain.{terminal_of, size_shown, IsPlainState}
 use Rattle.agreement.proofs.FreshStates.{fresh-blank}
 use Rattle.terminal_model.proofs.FormTexts.{forms-sent}
 use Rattle.agreement.proofs.Playing.{spelling-made}
 use Rattle.agreement.proofs.SentPlaying.{sent-spelling-made, run-alike}
 use Rattle.termview.specs.Seen.{seen}
 use Rattle.termview.proofs.Spellings.{spelling-shown}
-use Rattle.agreement.specs.Laws.{Agrees, NewOnesAgree, EachSpellingIsAgreedOn, AgreeingModes}
+use Rattle.agreement.specs.Laws.{ShowsAlike, NewOnesAgree, EachSpellingIsAgreedOn, AgreeingModes}
 use Rattle.agreement.specs.Laws.{EachSentSpellingIsAgreedOn, EachFeedIsAgreedOn}
 
-some-rows : (z : Size) (s : State) → screen_of s ≡ z → IsPlainState s → 0 < z.rows
+some-rows : (z : Size) (s : State) → size_shown s ≡ z → IsPlainState s → 0 < z.rows
 some-rows z s e p = subst (λ (x : Size). 0 < x.rows) e (omega (arith, p.1.cursor_row))
 
-some-cols : (z : Size) (s : State) → screen_of s ≡ z → IsPlainState s → 0 < z.cols
+some-cols : (z : Size) (s : State) → size_shown s ≡ z → IsPlainState s → 0 < z.cols
 some-cols z s e p = subst (λ (x : Size). 0 < x.cols) e p.1.some_cols
 
-small : (z : Size) (s : State) → screen_of s ≡ z → IsPlainState s → IsSmall z
+small : (z : Size) (s : State) → size_shown s ≡ z → IsPlainState s → IsSmall z
 small z s e p = subst IsSmall e (p.1.few_rows, p.1.few_cols)
 
 -- what the forms make of both
-same-run : (z : Size) (s : State) (parsed : List ℕ) (fs : List Form) → Agrees z s parsed
-    → run (screen_of s) fs (terminal_of s) ≡ run z fs (seen z parsed)
+same-run : (z : Size) (s : State) (parsed : List ℕ) (fs : List Form) → ShowsAlike z s parsed
+    → run (size_shown s) fs (terminal_of s) ≡ run z fs (seen z parsed)
 same-run z s parsed fs a = (λ i. run (a.size i) fs (a.shows i))
 
 -- what the view makes of their bytes
-view-shows : (z : Size) (s : State) (parsed : List ℕ) (fs : List Form) → AtGround 1024 parsed → screen_of s ≡ z
+view-shows : (z : Size) (s : State) (parsed : List ℕ) (fs : List Form) → AtGround 1024 parsed → size_shown s ≡ z
     → IsPlainState s → AllByRecursion IsSentForm fs
     → (seen z (parsed ++ spell fs) ≡ run z fs (seen z parsed)) × AtGround 1024 (parsed ++ spell fs)
 view-shows z s parsed fs g e p k =
@@ -81,7 +81,7 @@ bytes-after (Resized rows cols ∷ acts) bs = bytes-after acts bs
 pub feed-agreed : EachFeedIsAgreedOn
 feed-agreed z rows cols capacity acts parsed fs g h a k =
     let r = spelling-agreed z (bytes_fed acts) (made rows cols capacity acts) parsed fs g h a k in (
-      subst (λ (s : State). Agrees z s (parsed ++ spell fs))
+      subst (λ (s : State). ShowsAlike z s (parsed ++ spell fs))
           (sym (made-after [] (fresh_state rows cols capacity) acts (Fed (spell fs) ∷ []))) r.0,
       subst (λ (bs : List ℕ). AtGround 1024 bs) (sym (bytes-after acts (spell fs))) r.1,
       r.2,

@@ -19,12 +19,12 @@ use Rattle.forms_read.specs.Events.{kept_number, sgr_events, events_of}
 use Rattle.screen_model.specs.State.{State}
 use Rattle.screen_model.specs.Sgr.{coloured, nothing, first_next, goes_on, Read, read_groups}
 use Rattle.screen_model.specs.Made.{played}
-use Rattle.agreement.specs.Plain.{terminal_of, screen_of, IsPlainState}
+use Rattle.agreement.specs.Plain.{terminal_of, size_shown, IsPlainState}
 use Rattle.agreement.specs.StateLaws.{Shows}
 use Rattle.agreement.proofs.PlainStates.{shows-at}
 
 pub shows-ClearAttrs : (s : State) → IsPlainState s
-    → Shows s (apply (screen_of s) ClearAttrs (terminal_of s)) (played (events_of ClearAttrs) s)
+    → Shows s (apply (size_shown s) ClearAttrs (terminal_of s)) (played (events_of ClearAttrs) s)
 unfolding apply
 shows-ClearAttrs s h = record { shows = refl; size = refl; plain = h }
 
@@ -200,10 +200,10 @@ sgr-played (n ∷ ns) f s h =
     ∙ ap (λ (r : Read). record s { attrs = r.attrs }) (h [] s.attrs)
 
 pub shows-Sgr : (s : State) (c : Change) → IsPlainState s → IsByteOption c.fgcolor → IsByteOption c.bgcolor
-    → Shows s (apply (screen_of s) (Sgr c) (terminal_of s)) (played (events_of (Sgr c)) s)
+    → Shows s (apply (size_shown s) (Sgr c) (terminal_of s)) (played (events_of (Sgr c)) s)
 unfolding apply
 shows-Sgr s c h f b =
     let u = record s { attrs = with_change c s.attrs } in
-    shows-at s (played (events_of (Sgr c)) s) u (apply (screen_of s) (Sgr c) (terminal_of s)) (terminal_of u)
+    shows-at s (played (events_of (Sgr c)) s) u (apply (size_shown s) (Sgr c) (terminal_of s)) (terminal_of u)
     (sgr-played (sgr_numbers c) (λ a. with_change c a) s (change-is c f b)) refl
     (record { shows = refl; size = refl; plain = h })

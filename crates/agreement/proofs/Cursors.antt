@@ -11,7 +11,7 @@ use Rattle.screen_model.specs.State.{State}
 use Rattle.screen_model.specs.Step.{with_shown, at_place, moved_right}
 use Rattle.screen_model.specs.Effect.{number_or}
 use Rattle.screen_model.specs.Made.{played}
-use Rattle.agreement.specs.Plain.{terminal_of, screen_of, IsPlainGrid, IsPlainState}
+use Rattle.agreement.specs.Plain.{terminal_of, size_shown, IsPlainGrid, IsPlainState}
 use Rattle.agreement.specs.StateLaws.{Shows}
 use Rattle.agreement.proofs.PlainStates.{shows-at, shows-same}
 
@@ -64,24 +64,24 @@ placed-at s p q r c o e f =
 
 shows-placed : (s : State) (p q r c : ℕ) → IsPlainState s → min p (s.shown.height - 1) ≡ min r (s.shown.height - 1)
     → min q (s.shown.width - 1) ≡ min c (s.shown.width - 1)
-    → Shows s (apply (screen_of s) (MoveTo r c) (terminal_of s)) (at_place p q s)
+    → Shows s (apply (size_shown s) (MoveTo r c) (terminal_of s)) (at_place p q s)
 unfolding apply
 shows-placed s p q r c h e f =
     let g = s.shown in
     let k = h.1 in
     shows-at s (at_place p q s) (moved s (min r (g.height - 1)) (min c (g.width - 1)))
-    (apply (screen_of s) (MoveTo r c) (terminal_of s))
+    (apply (size_shown s) (MoveTo r c) (terminal_of s))
     (record (terminal_of s) { row = min r (g.height - 1); col = min c (g.width - 1) })
     (placed-at s p q (min r (g.height - 1)) (min c (g.width - 1)) k.origin e f) refl
     (shows-moved s (min r (g.height - 1)) (min c (g.width - 1)) h (omega (arith, k.cursor_row))
     (omega (arith, k.some_cols)))
 
 pub shows-MoveTo : (s : State) (r c : ℕ) → IsPlainState s
-    → Shows s (apply (screen_of s) (MoveTo r c) (terminal_of s)) (played (events_of (MoveTo r c)) s)
+    → Shows s (apply (size_shown s) (MoveTo r c) (terminal_of s)) (played (events_of (MoveTo r c)) s)
 shows-MoveTo s r c h =
     let k = h.1 in
     cond_both ((r == 0) && (c == 0)) (bare 0x48 ∷ []) (sequence [] ((r + 1) ∷ (c + 1) ∷ []) 0x48 ∷ [])
-    (λ es. Shows s (apply (screen_of s) (MoveTo r c) (terminal_of s)) (played es s))
+    (λ es. Shows s (apply (size_shown s) (MoveTo r c) (terminal_of s)) (played es s))
     (λ e. let parts = and_parts (r == 0) (c == 0) e in
     let row = eqb-true r 0 parts.0 in
     let col = eqb-true c 0 parts.1 in
@@ -110,7 +110,7 @@ shows-right s m n h some e =
     (shows-moved s g.row (min (g.col + n) (g.width - 1)) h h.1.cursor_row (omega (arith, h.1.some_cols)))
 
 pub shows-MoveRight : (s : State) (n : ℕ) → IsPlainState s
-    → Shows s (apply (screen_of s) (MoveRight n) (terminal_of s)) (played (events_of (MoveRight n)) s)
+    → Shows s (apply (size_shown s) (MoveRight n) (terminal_of s)) (played (events_of (MoveRight n)) s)
 unfolding apply
 shows-MoveRight s n h =
     let g = s.shown in
@@ -128,14 +128,14 @@ shows-MoveRight s n h =
     ]) refl
 
 pub shows-Backspace : (s : State) → IsPlainState s
-    → Shows s (apply (screen_of s) Backspace (terminal_of s)) (played (events_of Backspace) s)
+    → Shows s (apply (size_shown s) Backspace (terminal_of s)) (played (events_of Backspace) s)
 unfolding apply
 shows-Backspace s h = shows-moved s s.shown.row (s.shown.col - 1) h h.1.cursor_row (omega (arith, h.1.cursor_col))
 
 -- ---- saved, and back
 
 pub shows-SaveCursor : (s : State) → IsPlainState s
-    → Shows s (apply (screen_of s) SaveCursor (terminal_of s)) (played (events_of SaveCursor) s)
+    → Shows s (apply (size_shown s) SaveCursor (terminal_of s)) (played (events_of SaveCursor) s)
 unfolding apply
 shows-SaveCursor s h =
     let p = h.1 in
@@ -164,7 +164,7 @@ shows-SaveCursor s h =
     }
 
 pub shows-RestoreCursor : (s : State) → IsPlainState s
-    → Shows s (apply (screen_of s) RestoreCursor (terminal_of s)) (played (events_of RestoreCursor) s)
+    → Shows s (apply (size_shown s) RestoreCursor (terminal_of s)) (played (events_of RestoreCursor) s)
 unfolding apply
 shows-RestoreCursor s h =
     let p = h.1 in

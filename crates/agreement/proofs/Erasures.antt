@@ -29,7 +29,7 @@ use Rattle.forms_read.specs.Events.{kept_number, sequence, bare, events_of}
 use Rattle.screen_model.specs.State.{State}
 use Rattle.screen_model.specs.Step.{with_shown, cells_erased, erased_below}
 use Rattle.screen_model.specs.Made.{played}
-use Rattle.agreement.specs.Plain.{terminal_of, screen_of, extras_of, IsPlainGrid, IsPlainState}
+use Rattle.agreement.specs.Plain.{terminal_of, size_shown, extras_of, IsPlainGrid, IsPlainState}
 use Rattle.agreement.specs.StateLaws.{Shows}
 use Rattle.agreement.proofs.PlainStates.{drawable, shows-at, shows-same}
 use Rattle.agreement.proofs.Cursors.{plain-moved, placed-at, read-count, nonzero}
@@ -67,7 +67,7 @@ plain-row g v p row keeps =
 -- ---- columns of the cursor's row
 
 erased-shows : (s : State) (e : ℕ) → IsPlainState s → e ≤ s.shown.width
-    → Shows s (erase (screen_of s) e (terminal_of s)) (with_shown s (columns_erased s.shown s.shown.col e s.attrs))
+    → Shows s (erase (size_shown s) e (terminal_of s)) (with_shown s (columns_erased s.shown s.shown.col e s.attrs))
 unfolding erase
 erased-shows s e h l =
     let g = s.shown in
@@ -93,25 +93,25 @@ erased-shows s e h l =
 
 erased-as : (s : State) (m n : ℕ) → IsPlainState s
     → min (s.shown.col + m) s.shown.width ≡ min (s.shown.col + n) s.shown.width
-    → Shows s (erase (screen_of s) (min (s.shown.col + n) s.shown.width) (terminal_of s)) (cells_erased m s)
+    → Shows s (erase (size_shown s) (min (s.shown.col + n) s.shown.width) (terminal_of s)) (cells_erased m s)
 erased-as s m n h e =
     let g = s.shown in
-    let t = erase (screen_of s) (min (g.col + n) g.width) (terminal_of s) in
+    let t = erase (size_shown s) (min (g.col + n) g.width) (terminal_of s) in
     shows-at s (cells_erased m s) (with_shown s (columns_erased g g.col (min (g.col + n) g.width) s.attrs)) t t
     (ap (λ c. with_shown s (columns_erased g g.col c s.attrs)) e) refl
     (erased-shows s (min (g.col + n) g.width) h (omega arith))
 
 pub shows-EraseChar : (s : State) (n : ℕ) → IsPlainState s
-    → Shows s (apply (screen_of s) (EraseChar n) (terminal_of s)) (played (events_of (EraseChar n)) s)
+    → Shows s (apply (size_shown s) (EraseChar n) (terminal_of s)) (played (events_of (EraseChar n)) s)
 unfolding apply
 shows-EraseChar s n h =
     let g = s.shown in
-    let t = erase (screen_of s) (min (g.col + n) g.width) (terminal_of s) in
+    let t = erase (size_shown s) (min (g.col + n) g.width) (terminal_of s) in
     cond_both (n == 0) [] (cond (n == 1) (bare 0x58 ∷ []) (sequence [] (n ∷ []) 0x58 ∷ []))
     (λ es. Shows s t (played es s))
     (λ z. let none = eqb-true n 0 z in
     shows-at s s s t (terminal_of s) refl
-    (erase-none (screen_of s) (min (g.col + n) g.width) (terminal_of s) (omega (arith, none))) (shows-same s h))
+    (erase-none (size_shown s) (min (g.col + n) g.width) (terminal_of s) (omega (arith, none))) (shows-same s h))
     (λ z. let some = nonzero n z in
     cond_both (n == 1) (bare 0x58 ∷ []) (sequence [] (n ∷ []) 0x58 ∷ []) (λ es. Shows s t (played es s))
     (λ q. erased-as s 1 n h (ap (λ m. min (g.col + m) g.width) (sym (eqb-true n 1 q))))
@@ -119,7 +119,7 @@ shows-EraseChar s n h =
     (ap (λ m. min (g.col + m) g.width) (read-count n 1 some) ∙ omega (arith, h.1.few_cols))))
 
 pub shows-ClearRowForward : (s : State) → IsPlainState s
-    → Shows s (apply (screen_of s) ClearRowForward (terminal_of s)) (played (events_of ClearRowForward) s)
+    → Shows s (apply (size_shown s) ClearRowForward (terminal_of s)) (played (events_of ClearRowForward) s)
 unfolding apply
 shows-ClearRowForward s h = erased-shows s s.shown.width h (omega arith)
 
@@ -231,14 +231,14 @@ empty-sheet g a p =
     (p.sheet.each (g.height - 1) (omega (arith, count, p.cursor_row))))
 
 pub shows-ClearScreen : (s : State) → IsPlainState s
-    → Shows s (apply (screen_of s) ClearScreen (terminal_of s)) (played (events_of ClearScreen) s)
+    → Shows s (apply (size_shown s) ClearScreen (terminal_of s)) (played (events_of ClearScreen) s)
 unfolding apply
 shows-ClearScreen s h =
     let g = s.shown in
     let p = h.1 in
     let rows = emptied_rows g.rows g.width s.attrs in
     let u = with_shown s (record g { rows = rows; row = 0; col = 0 }) in
-    let t = apply (screen_of s) ClearScreen (terminal_of s) in
+    let t = apply (size_shown s) ClearScreen (terminal_of s) in
     let n = length-rows_by_position (length g.rows) (emptied g.rows g.width s.attrs) in
     let cells = fun_ext (λ r. fun_ext (λ k. empty-line g s.attrs r k p)) in
     let flags = fun_ext (λ r. empty-wrap g s.attrs r p) in

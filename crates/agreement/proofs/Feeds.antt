@@ -12,7 +12,7 @@ use Rattle.vt100_rows.proofs.SheetLemmas.{length-rows_by_position}
 use Rattle.vt100_rows.proofs.MoveLemmas.{IsSheet-moved_up}
 use Rattle.vt100_core.specs.Grid.{KeptPart, GridView, is_in_region}
 use Rattle.vt100_core.specs.Cursor.{moved_rows_down}
-use Rattle.vt100_core.specs.Picture.{size_of}
+use Rattle.vt100_core.specs.Picture.{grid_size}
 use Rattle.vt100_core.specs.Scroll.{Scrolled, kept_after, widened, is_kept_from, left_rows, scrolled_up, fed}
 use Rattle.vt100_core.specs.Scroll.{rows_past_bottom}
 use Rattle.vt100_core.proofs.InputLemmas.{fed_rows, fed-is, fed_rows-none, lines-fed, wraps-fed, down-stays, down-up}
@@ -20,7 +20,7 @@ use Rattle.forms_read.specs.Events.{events_of}
 use Rattle.screen_model.specs.State.{State}
 use Rattle.screen_model.specs.Step.{with_shown, line_fed}
 use Rattle.screen_model.specs.Made.{played}
-use Rattle.agreement.specs.Plain.{terminal_of, screen_of, IsPlainGrid, IsPlainState}
+use Rattle.agreement.specs.Plain.{terminal_of, size_shown, IsPlainGrid, IsPlainState}
 use Rattle.agreement.specs.StateLaws.{Shows}
 use Rattle.agreement.proofs.PlainStates.{drawable, shows-at, shows-then}
 use Rattle.agreement.proofs.Cursors.{moved, plain-moved, shows-moved}
@@ -35,7 +35,7 @@ pub record IsAside (g h : GridView) : Type 0 where
   pub origin : h.origin ≡ g.origin
   pub saved_origin : h.saved_origin ≡ g.saved_origin
   pub offset : g.kept.offset ≡ 0 → h.kept.offset ≡ 0
-  pub size : size_of h ≡ size_of g
+  pub size : grid_size h ≡ grid_size g
 
 pub aside-both : (g h k : GridView) → IsAside g h → IsAside h k → IsAside g k
 aside-both g h k a b = record {
@@ -111,12 +111,12 @@ shows-kept s k h g t e o n =
     record { shows = bare.shows; size = bare.size; plain = (bare.plain.0, plain-kept k h bare.plain.1 o) }
 
 pub shows-fed : (s : State) → IsPlainState s
-    → Shows s (down (screen_of s) (terminal_of s)) (with_shown s (fed s.shown 1).grid)
+    → Shows s (down (size_shown s) (terminal_of s)) (with_shown s (fed s.shown 1).grid)
 shows-fed s h =
     let g = s.shown in
     let p = h.1 in
     let d = drawable g p in
-    let z = screen_of s in
+    let z = size_shown s in
     let t = terminal_of s in
     let offset = (aside-fed g 1).offset p.offset in
     ⊎_elim
@@ -149,17 +149,17 @@ shows-fed s h =
     (cases_lt (g.row + 1) g.height)
 
 pub shows-Lf : (s : State) → IsPlainState s
-    → Shows s (apply (screen_of s) Lf (terminal_of s)) (played (events_of Lf) s)
+    → Shows s (apply (size_shown s) Lf (terminal_of s)) (played (events_of Lf) s)
 unfolding apply
 shows-Lf s h = shows-fed s h
 
 pub shows-Crlf : (s : State) → IsPlainState s
-    → Shows s (apply (screen_of s) Crlf (terminal_of s)) (played (events_of Crlf) s)
+    → Shows s (apply (size_shown s) Crlf (terminal_of s)) (played (events_of Crlf) s)
 unfolding apply
 shows-Crlf s h =
     let g = s.shown in
     let u = moved s g.row 0 in
-    let t = down (screen_of s) (record (terminal_of s) { col = 0 }) in
+    let t = down (size_shown s) (record (terminal_of s) { col = 0 }) in
     let first = shows-moved s g.row 0 h h.1.cursor_row (omega arith) in
     let v = with_shown u (fed u.shown 1).grid in
     let none : min 0 (g.width - 1) ≡ 0 = omega arith in

@@ -15,30 +15,30 @@ use Rattle.screen_model.specs.State.{State}
 use Rattle.screen_model.specs.Step.{with_style}
 use Rattle.screen_model.specs.PrivateModes.{is_mouse, is_encoding, mouse_set, encoding_set, mouse_reset, encoding_reset}
 use Rattle.screen_model.specs.Made.{played}
-use Rattle.agreement.specs.Plain.{terminal_of, screen_of, IsPlainState}
+use Rattle.agreement.specs.Plain.{terminal_of, size_shown, IsPlainState}
 use Rattle.agreement.specs.StateLaws.{Shows}
 use Rattle.agreement.proofs.PlainStates.{shows-at}
 
 pub shows-HideCursor : (s : State) (b : Bool) → IsPlainState s
-    → Shows s (apply (screen_of s) (HideCursor b) (terminal_of s)) (played (events_of (HideCursor b)) s)
+    → Shows s (apply (size_shown s) (HideCursor b) (terminal_of s)) (played (events_of (HideCursor b)) s)
 unfolding apply
 shows-HideCursor s true h = record { shows = refl; size = refl; plain = h }
 shows-HideCursor s false h = record { shows = refl; size = refl; plain = h }
 
 pub shows-Keypad : (s : State) (b : Bool) → IsPlainState s
-    → Shows s (apply (screen_of s) (Keypad b) (terminal_of s)) (played (events_of (Keypad b)) s)
+    → Shows s (apply (size_shown s) (Keypad b) (terminal_of s)) (played (events_of (Keypad b)) s)
 unfolding apply
 shows-Keypad s true h = record { shows = refl; size = refl; plain = h }
 shows-Keypad s false h = record { shows = refl; size = refl; plain = h }
 
 pub shows-CursorKeys : (s : State) (b : Bool) → IsPlainState s
-    → Shows s (apply (screen_of s) (CursorKeys b) (terminal_of s)) (played (events_of (CursorKeys b)) s)
+    → Shows s (apply (size_shown s) (CursorKeys b) (terminal_of s)) (played (events_of (CursorKeys b)) s)
 unfolding apply
 shows-CursorKeys s true h = record { shows = refl; size = refl; plain = h }
 shows-CursorKeys s false h = record { shows = refl; size = refl; plain = h }
 
 pub shows-Paste : (s : State) (b : Bool) → IsPlainState s
-    → Shows s (apply (screen_of s) (Paste b) (terminal_of s)) (played (events_of (Paste b)) s)
+    → Shows s (apply (size_shown s) (Paste b) (terminal_of s)) (played (events_of (Paste b)) s)
 unfolding apply
 shows-Paste s true h = record { shows = refl; size = refl; plain = h }
 shows-Paste s false h = record { shows = refl; size = refl; plain = h }
@@ -127,12 +127,12 @@ mouse-played to from s =
     ]) refl
 
 pub shows-Mouse : (s : State) (to from : MouseProtocolMode) → IsPlainState s
-    → Shows s (apply (screen_of s) (Mouse to from) (terminal_of s)) (played (events_of (Mouse to from)) s)
+    → Shows s (apply (size_shown s) (Mouse to from) (terminal_of s)) (played (events_of (Mouse to from)) s)
 unfolding apply
 shows-Mouse s to from h =
     let new = switched mouse_number to from s.modes.mouse in
     shows-at s (played (events_of (Mouse to from)) s) (mouse_set new s)
-    (apply (screen_of s) (Mouse to from) (terminal_of s)) (terminal_of (mouse_set new s))
+    (apply (size_shown s) (Mouse to from) (terminal_of s)) (terminal_of (mouse_set new s))
     (mouse-played to from s) refl (record { shows = refl; size = refl; plain = h })
 
 is_encoding-number : (m n : MouseProtocolEncoding) → is_encoding m n ≡ (encoding_number m == encoding_number n)
@@ -196,12 +196,12 @@ encoding-played to from s =
     ]) refl
 
 pub shows-Encoding : (s : State) (to from : MouseProtocolEncoding) → IsPlainState s
-    → Shows s (apply (screen_of s) (Encoding to from) (terminal_of s)) (played (events_of (Encoding to from)) s)
+    → Shows s (apply (size_shown s) (Encoding to from) (terminal_of s)) (played (events_of (Encoding to from)) s)
 unfolding apply
 shows-Encoding s to from h =
     let new = switched encoding_number to from s.modes.encoding in
     shows-at s (played (events_of (Encoding to from)) s) (encoding_set new s)
-    (apply (screen_of s) (Encoding to from) (terminal_of s)) (terminal_of (encoding_set new s))
+    (apply (size_shown s) (Encoding to from) (terminal_of s)) (terminal_of (encoding_set new s))
     (encoding-played to from s) refl (record { shows = refl; size = refl; plain = h })
 
 -- ---- the cursor's style
@@ -226,10 +226,10 @@ style-played to from s =
     ]
 
 pub shows-Style : (s : State) (to from : CursorStyle) → IsPlainState s
-    → Shows s (apply (screen_of s) (Style to from) (terminal_of s)) (played (events_of (Style to from)) s)
+    → Shows s (apply (size_shown s) (Style to from) (terminal_of s)) (played (events_of (Style to from)) s)
 unfolding apply
 shows-Style s to from h =
     let new = cond (style_number to == style_number from) s.style to in
     shows-at s (played (events_of (Style to from)) s) (with_style new s)
-    (apply (screen_of s) (Style to from) (terminal_of s)) (terminal_of (with_style new s)) (style-played to from s) refl
+    (apply (size_shown s) (Style to from) (terminal_of s)) (terminal_of (with_style new s)) (style-played to from s) refl
     (record { shows = refl; size = refl; plain = h })

@@ -13,7 +13,7 @@ use Rattle.forms_read.proofs.SentTexts.{forms-readable}
 use Rattle.screen_model.specs.State.{State}
 use Rattle.screen_model.specs.Effect.{effect}
 use Rattle.screen_model.specs.Made.{played, events_added}
-use Rattle.agreement.specs.Plain.{terminal_of, screen_of}
+use Rattle.agreement.specs.Plain.{terminal_of, size_shown}
 use Rattle.agreement.specs.StateLaws.{EachFormIsPlayed, EachListIsPlayed, EachSpellingIsMade}
 use Rattle.agreement.proofs.PlainStates.{shows-at, shows-same, shows-then}
 use Rattle.agreement.proofs.Cursors.{shows-MoveTo, shows-MoveRight, shows-Backspace, shows-SaveCursor}
@@ -57,17 +57,17 @@ list-played s (x ∷ fs) h f =
     let u = played (events_of x) s in
     let one = form-played s x h f.0 in
     let v = played (events_of_all fs) u in
-    let t = run (screen_of s) fs (apply (screen_of s) x (terminal_of s)) in
-    let w = run (screen_of u) fs (terminal_of u) in
+    let t = run (size_shown s) fs (apply (size_shown s) x (terminal_of s)) in
+    let w = run (size_shown u) fs (terminal_of u) in
     shows-at s (played (events_of x ++ events_of_all fs) s) v t w (played-joined (events_of x) (events_of_all fs) s)
     (sym (λ i. run (one.size i) fs (one.shows i)))
-    (shows-then s u v (apply (screen_of s) x (terminal_of s)) w one (list-played u fs one.plain f.1))
+    (shows-then s u v (apply (size_shown s) x (terminal_of s)) w one (list-played u fs one.plain f.1))
 
 pub spelling-made : EachSpellingIsMade
 unfolding added
 spelling-made past s fs g h f =
     let r = list-read 1024 past fs g (forms-readable fs (forms-sent fs f)) in
-    let t = run (screen_of s) fs (terminal_of s) in (
+    let t = run (size_shown s) fs (terminal_of s) in (
       shows-at s (played (events_added past (spell fs)) s) (played (events_of_all fs) s) t t
           (ap (λ es. played es s) r.0) refl (list-played s fs h f),
       r.1,

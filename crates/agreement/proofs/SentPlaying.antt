@@ -20,7 +20,7 @@ use Rattle.terminal_model.specs.FormText.{IsSentForm}
 use Rattle.forms_read.proofs.SentTexts.{forms-readable}
 use Rattle.screen_model.specs.State.{State}
 use Rattle.screen_model.specs.Made.{played}
-use Rattle.agreement.specs.Plain.{terminal_of, screen_of, IsPlainState}
+use Rattle.agreement.specs.Plain.{terminal_of, size_shown, IsPlainState}
 use Rattle.agreement.specs.StateLaws.{Shows, HasModes, EachSentListIsPlayed, EachSentSpellingIsMade}
 use Rattle.agreement.proofs.Playing.{form-played, played-joined}
 use Rattle.agreement.proofs.SentTexts.{like-text}
@@ -133,11 +133,11 @@ all-scalars [] h = tt
 all-scalars (c ∷ cs) h = (h 0 c (omega arith), all-scalars cs (λ k d l. h (suc k) d (omega arith)))
 
 text-modes : (s : State) (cs : List ℕ) → IsPlainState s → IsSentText cs
-    → HasModes s (apply (screen_of s) (Text cs) (terminal_of s)) (played (events_of (Text cs)) s)
+    → HasModes s (apply (size_shown s) (Text cs) (terminal_of s)) (played (events_of (Text cs)) s)
 unfolding apply
 text-modes s cs h t =
     let like = like-text cs s h (all-scalars cs t.scalars) in
-    let a = same-inputs (screen_of s) cs (terminal_of s) in
+    let a = same-inputs (size_shown s) cs (terminal_of s) in
     record {
       modes = like.modes ∙ sym a.modes;
       style = like.style ∙ sym a.style;
@@ -146,7 +146,7 @@ text-modes s cs h t =
     }
 
 form-modes : (s : State) (f : Form) → IsPlainState s → IsSentForm f
-    → HasModes s (apply (screen_of s) f (terminal_of s)) (played (events_of f) s)
+    → HasModes s (apply (size_shown s) f (terminal_of s)) (played (events_of f) s)
 form-modes s (Text cs) h k = text-modes s cs h k.0
 form-modes s (MoveTo r c) h k = by-shows s _ _ (form-played s (MoveTo r c) h k)
 form-modes s (MoveRight n) h k = by-shows s _ _ (form-played s (MoveRight n) h k)
@@ -172,13 +172,13 @@ pub sent-list-played : EachSentListIsPlayed
 sent-list-played s [] h f = record { modes = refl; style = refl; size = refl; plain = h }
 sent-list-played s (x ∷ fs) h f =
     let u = played (events_of x) s in
-    let t = apply (screen_of s) x (terminal_of s) in
+    let t = apply (size_shown s) x (terminal_of s) in
     let one = form-modes s x h f.0 in
     let rest = sent-list-played u fs one.plain f.1 in
     let v = played (events_of_all fs) u in
     let there = ap (λ z. run z fs (terminal_of u)) one.size in
-    let same = run-alike (screen_of s) fs t (terminal_of u) (record { modes = one.modes; style = one.style }) in
-    subst (HasModes s (run (screen_of s) fs t)) (sym (played-joined (events_of x) (events_of_all fs) s))
+    let same = run-alike (size_shown s) fs t (terminal_of u) (record { modes = one.modes; style = one.style }) in
+    subst (HasModes s (run (size_shown s) fs t)) (sym (played-joined (events_of x) (events_of_all fs) s))
     (record {
       modes = rest.modes ∙ ap (λ (y : Term). y.modes) there ∙ same.modes;
       style = rest.style ∙ ap (λ (y : Term). y.style) there ∙ same.style;
@@ -190,7 +190,7 @@ pub sent-spelling-made : EachSentSpellingIsMade
 unfolding added
 sent-spelling-made past s fs g h f =
     let r = list-read 1024 past fs g (forms-readable fs f) in (
-      subst (HasModes s (run (screen_of s) fs (terminal_of s))) (sym (ap (λ es. played es s) r.0))
+      subst (HasModes s (run (size_shown s) fs (terminal_of s))) (sym (ap (λ es. played es s) r.0))
           (sent-list-played s fs h f),
       r.1,
     )

@@ -20,9 +20,9 @@ use Rattle.terminal_model.specs.Apply.{is_dropped}
 use Rattle.vt100_rows.specs.Sheet.{row_at}
 use Rattle.vt100_rows.proofs.SheetLemmas.{IsSheet-with_row}
 use Rattle.vt100_core.specs.Grid.{GridView, row_of_cursor, with_cursor_row, with_row}
-use Rattle.vt100_core.specs.Picture.{size_of, Extras}
+use Rattle.vt100_core.specs.Picture.{grid_size, Extras}
 use Rattle.vt100_core.specs.Scroll.{fed, left_row, wrapped_on, made_to_fit}
-use Rattle.vt100_core.specs.Text.{Drawn, put_at, carried, joined, spaced, printed}
+use Rattle.vt100_core.specs.Text.{PrintedGrid, put_at, carried, joined, spaced, printed}
 use Rattle.vt100_core.specs.declared.printed.Printed.TheVariants.{Nothing, Joined}
 use Rattle.vt100_core.proofs.EraseLemmas.{IsRowOf-wiped}
 use Rattle.vt100_core.proofs.TextLemmas.{printed-dropped, printed-joined, printed-spaced, IsDrawn-here, IsMade-made}
@@ -33,7 +33,7 @@ use Rattle.screen_model.specs.Effect.{Effect, is_unhandled, calling, steps, effe
 use Rattle.screen_model.specs.Step.{typed}
 use Rattle.screen_model.specs.Call.{unhandled_char}
 use Rattle.screen_model.specs.Made.{played}
-use Rattle.agreement.specs.Plain.{screen_of, extras_of, IsPlainGrid, IsPlainState}
+use Rattle.agreement.specs.Plain.{size_shown, extras_of, IsPlainGrid, IsPlainState}
 use Rattle.agreement.proofs.PlainStates.{drawable}
 use Rattle.agreement.proofs.Cursors.{plain-moved}
 use Rattle.agreement.proofs.Erasures.{plain-rows, plain-row}
@@ -85,7 +85,7 @@ not-false false h = sym h
 not-one : (n : ℕ) → (n == 1) ≡ false → 0 < n → 2 ≤ n
 not-one n e h = grind (arith, nat_tests)
 
-abbrev grid_of : Drawn → GridView
+abbrev grid_of : PrintedGrid → GridView
 grid_of d = d.grid
 
 plain-carried : (g : GridView) (c : ℕ) (a : Attrs) → IsPlainGrid g → IsScalar c → drawn_columns c ≡ Some 0 → 2 ≤ g.width
@@ -131,7 +131,7 @@ plain-joined : (g : GridView) (c : ℕ) (a : Attrs) → IsPlainGrid g → IsScal
 plain-joined g c a p s z some =
     let v = row_of_cursor g in
     let r = cursor_row g (drawable g p) in
-    let P : Drawn → Type 0 = λ d. IsPlainGrid d.grid in
+    let P : PrintedGrid → Type 0 = λ d. IsPlainGrid d.grid in
     cond_both (not (is_widening v g.col c)) (record {
       grid = with_cursor_row g (joined_row v g.col c);
       sunk = [];
@@ -183,7 +183,7 @@ aside-carried g c a =
 aside-joined : (g : GridView) (c : ℕ) (a : Attrs) → IsAside g (joined g c a).grid
 aside-joined g c a =
     let v = row_of_cursor g in
-    let P : Drawn → Type 0 = λ d. IsAside g d.grid in
+    let P : PrintedGrid → Type 0 = λ d. IsAside g d.grid in
     let w = placed v (g.col - 1) (joined_cell v g.col c) a in
     cond_both (not (is_widening v g.col c)) (record {
       grid = with_cursor_row g (joined_row v g.col c);
@@ -204,9 +204,9 @@ aside-joined g c a =
 
 record IsSound (g h : GridView) : Type 0 where
   plain : IsPlainGrid h
-  size : size_of h ≡ size_of g
+  size : grid_size h ≡ grid_size g
 
-sound-at : (g : GridView) (c : ℕ) (a : Attrs) (d : Drawn) → printed g c a ≡ d → IsSound g d.grid
+sound-at : (g : GridView) (c : ℕ) (a : Attrs) (d : PrintedGrid) → printed g c a ≡ d → IsSound g d.grid
     → IsSound g (printed g c a).grid
 sound-at g c a d e s = rw e s
 
@@ -245,7 +245,7 @@ sound-printed g c x p scalar =
 pub record IsLike (s u : State) : Type 0 where
   pub modes : u.modes ≡ s.modes
   pub style : u.style ≡ s.style
-  pub size : screen_of u ≡ screen_of s
+  pub size : size_shown u ≡ size_shown s
   pub plain : IsPlainState u
 
 like-same : (s : State) → IsPlainState s → IsLike s s

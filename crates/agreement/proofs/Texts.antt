@@ -19,9 +19,9 @@ use Rattle.vt100_rows.proofs.JoinLemmas.{IsRow-joined}
 use Rattle.terminal_model.specs.FormText.{IsFormText}
 use Rattle.terminal_model.specs.Apply.{is_dropped, input, inputs, apply}
 use Rattle.vt100_core.specs.Grid.{GridView, row_of_cursor, with_cursor_row, with_row}
-use Rattle.vt100_core.specs.Picture.{size_of, Extras, term_of}
+use Rattle.vt100_core.specs.Picture.{grid_size, Extras, term_of_grid}
 use Rattle.vt100_core.specs.Scroll.{Scrolled, fed, left_row, wrapped_on, made_to_fit}
-use Rattle.vt100_core.specs.Text.{Drawn, put_at, printed}
+use Rattle.vt100_core.specs.Text.{PrintedGrid, put_at, printed}
 use Rattle.vt100_core.proofs.TextLemmas.{printed-dropped, printed-joined, printed-spaced, IsDrawn-here}
 use Rattle.vt100_core.proofs.TextLemmas.{span_of-cell, IsMade-made, or-false}
 use Rattle.vt100_core.proofs.InputLemmas.{IsNext-made, cursor_row, spaced-is, joined-plain}
@@ -33,7 +33,7 @@ use Rattle.forms_read.proofs.SentTexts.{sent-printed}
 use Rattle.screen_model.specs.State.{State}
 use Rattle.screen_model.specs.Effect.{is_unhandled, effect}
 use Rattle.screen_model.specs.Made.{played}
-use Rattle.agreement.specs.Plain.{terminal_of, screen_of, extras_of, IsPlainGrid, IsPlainState}
+use Rattle.agreement.specs.Plain.{terminal_of, size_shown, extras_of, IsPlainGrid, IsPlainState}
 use Rattle.agreement.specs.StateLaws.{Shows}
 use Rattle.agreement.proofs.PlainStates.{drawable, shows-at, shows-same, shows-then}
 use Rattle.agreement.proofs.Cursors.{plain-moved}
@@ -128,21 +128,21 @@ plain-put g x a n p cell text e l =
 
 -- h is g with c printed on it
 record IsTyped (g : GridView) (x : Extras) (c : ℕ) (h : GridView) : Type 0 where
-  shows : term_of h x ≡ input (size_of g) c (term_of g x)
-  size : size_of h ≡ size_of g
+  shows : term_of_grid h x ≡ input (grid_size g) c (term_of_grid g x)
+  size : grid_size h ≡ grid_size g
   plain : IsPlainGrid h
 
 typed-is : (g : GridView) (x : Extras) (c : ℕ) → IsPlainGrid g → IsScalar c → (c ≡ 0xFE0F → ⊥)
     → IsTyped g x c (printed g c x.attrs).grid
 typed-is g x c p scalar plain =
-    let z = size_of g in
-    let t = term_of g x in
+    let z = grid_size g in
+    let t = term_of_grid g x in
     let a = x.attrs in
     let n = columns_of c in
     let d = drawable g p in
     ⊎_elim
     (λ (e : is_dropped g.width g.col c ≡ true).
-    subst (IsTyped g x c) (sym (ap (λ (s : Drawn). s.grid) (printed-dropped g c a e)))
+    subst (IsTyped g x c) (sym (ap (λ (s : PrintedGrid). s.grid) (printed-dropped g c a e)))
     (record { shows = sym (input-dropped z c t e); size = refl; plain = p }))
     (λ (e : is_dropped g.width g.col c ≡ false).
     let drawn = IsDrawn-here g c n e refl in
@@ -150,7 +150,7 @@ typed-is g x c p scalar plain =
     (λ (h : 0 < n).
     let next = IsNext-made g x n d in
     let visible = (or-false _ _ e).0 in
-    subst (IsTyped g x c) (sym (ap (λ (s : Drawn). s.grid) (printed-spaced g c a e h)))
+    subst (IsTyped g x c) (sym (ap (λ (s : PrintedGrid). s.grid) (printed-spaced g c a e h)))
     (record {
       shows = spaced-is g x c d h drawn.fits ∙ sym (input-spaced z c t e h);
       size = next.size;
@@ -164,9 +164,9 @@ typed-is g x c p scalar plain =
     let r = cursor_row g d in
     let narrow = narrow-plain v g.col c plain in
     subst (IsTyped g x c)
-    (sym (ap (λ (s : Drawn). s.grid) (printed-joined g c a e k) ∙ joined-plain g c a narrow))
+    (sym (ap (λ (s : PrintedGrid). s.grid) (printed-joined g c a e k) ∙ joined-plain g c a narrow))
     (record {
-      shows = ap (λ (s : GridView). term_of s x) (sym (joined-plain g c a narrow)) ∙ joined-is g x c d after narrow
+      shows = ap (λ (s : GridView). term_of_grid s x) (sym (joined-plain g c a narrow)) ∙ joined-is g x c d after narrow
           ∙ sym (input-joined z c t e k);
       size = refl;
       plain = plain-row g (joined_row v g.col c) p
@@ -185,7 +185,7 @@ abbrev IsDrawnAsIs : ℕ → Type 0
 IsDrawnAsIs c = IsScalar c × ((c ≡ 0xFE0F → ⊥) × (is_unhandled c ≡ false))
 
 print-shows : (s : State) (c : ℕ) → IsPlainState s → IsDrawnAsIs c
-    → Shows s (input (screen_of s) c (terminal_of s)) (effect (Print c) s).state
+    → Shows s (input (size_shown s) c (terminal_of s)) (effect (Print c) s).state
 print-shows s c h d =
     let one = typed-is s.shown (extras_of s) c h.1 d.0 d.1.0 in
     rw (d.1.1) (record { shows = one.shows; size = one.size; plain = (h.0, one.plain) })
@@ -193,16 +193,16 @@ print-shows s c h d =
 -- ---- all of them
 
 texts-show : (cs : List ℕ) (s : State) → IsPlainState s → AllByRecursion IsDrawnAsIs cs
-    → Shows s (inputs (screen_of s) cs (terminal_of s)) (played (map Print cs) s)
+    → Shows s (inputs (size_shown s) cs (terminal_of s)) (played (map Print cs) s)
 texts-show [] s h d = shows-same s h
 texts-show (c ∷ cs) s h d =
     let u = (effect (Print c) s).state in
     let one = print-shows s c h d.0 in
-    let t = inputs (screen_of s) cs (input (screen_of s) c (terminal_of s)) in
-    let w = inputs (screen_of u) cs (terminal_of u) in
+    let t = inputs (size_shown s) cs (input (size_shown s) c (terminal_of s)) in
+    let w = inputs (size_shown u) cs (terminal_of u) in
     let v = played (map Print cs) u in
     shows-at s v v t w refl (sym (λ i. inputs (one.size i) cs (one.shows i)))
-    (shows-then s u v (input (screen_of s) c (terminal_of s)) w one (texts-show cs u one.plain d.1))
+    (shows-then s u v (input (size_shown s) c (terminal_of s)) w one (texts-show cs u one.plain d.1))
 
 unhandled-is : (c : ℕ) → IsPrinted c → (c ≡ 0xFFFD → ⊥) → is_unhandled c ≡ false
 unhandled-is c h ne = rw (ne_eqb c 0xFFFD ne) ((or-false _ _ h.1).1)
@@ -217,6 +217,6 @@ text-drawn (c ∷ cs) h f r = (
 )
 
 pub shows-Text : (s : State) (cs : List ℕ) → IsPlainState s → IsFormText cs
-    → Shows s (apply (screen_of s) (Text cs) (terminal_of s)) (played (events_of (Text cs)) s)
+    → Shows s (apply (size_shown s) (Text cs) (terminal_of s)) (played (events_of (Text cs)) s)
 unfolding apply
 shows-Text s cs h t = texts-show cs s h (text-drawn cs (sent-printed cs t.sent) t.plain t.sent.known)

@@ -7,44 +7,44 @@ use Rattle.terminal_model.specs.Term.{Size}
 use Rattle.terminal_model.specs.FormText.{IsForm, IsSentForm}
 use Rattle.screen_model.specs.State.{State, fresh_state}
 use Rattle.screen_model.specs.Made.{Act, Fed, bytes_fed, made_on, made}
-use Rattle.agreement.specs.Plain.{terminal_of, screen_of, IsPlainState}
+use Rattle.agreement.specs.Plain.{terminal_of, size_shown, IsPlainState}
 use Rattle.termview.specs.Seen.{seen}
 
 -- the state is plain, and it shows and has saved what a view of this size shows and has saved after these bytes
-pub record Agrees (z : Size) (s : State) (parsed : List ℕ) : Type 0 where
-  pub size : screen_of s ≡ z
+pub record ShowsAlike (z : Size) (s : State) (parsed : List ℕ) : Type 0 where
+  pub size : size_shown s ≡ z
   pub plain : IsPlainState s
   pub shows : terminal_of s ≡ seen z parsed
 
 -- the state is plain, and it has the size, the modes and the style of the view
 pub record AgreesInModes (z : Size) (s : State) (parsed : List ℕ) : Type 0 where
-  pub size : screen_of s ≡ z
+  pub size : size_shown s ≡ z
   pub plain : IsPlainState s
   pub modes : s.modes ≡ (seen z parsed).modes
   pub style : s.style ≡ (seen z parsed).style
 
 abbrev pub NewOnesAgree : Type 0
 NewOnesAgree = (rows cols capacity : ℕ) → 0 < rows → rows < 2 ^ 16 → 0 < cols → cols < 2 ^ 16
-    → Agrees (record { rows = rows; cols = cols }) (fresh_state rows cols capacity) []
+    → ShowsAlike (record { rows = rows; cols = cols }) (fresh_state rows cols capacity) []
 
 -- the state is at ground after `past`, and the view after `parsed`; both are there again after the forms
 abbrev pub EachSpellingIsAgreedOn : Type 0
 EachSpellingIsAgreedOn = (z : Size) (past : List ℕ) (s : State) (parsed : List ℕ) (fs : List Form)
-    → AtGround 1024 past → AtGround 1024 parsed → Agrees z s parsed → AllByRecursion IsForm fs
-    → Agrees z (made_on past s (Fed (spell fs) ∷ [])) (parsed ++ spell fs)
+    → AtGround 1024 past → AtGround 1024 parsed → ShowsAlike z s parsed → AllByRecursion IsForm fs
+    → ShowsAlike z (made_on past s (Fed (spell fs) ∷ [])) (parsed ++ spell fs)
     × AtGround 1024 (past ++ spell fs) × AtGround 1024 (parsed ++ spell fs)
 
 -- the same of a parser's acts: its screen shows what they make, and its bytes are those that were fed
 abbrev pub EachFeedIsAgreedOn : Type 0
 EachFeedIsAgreedOn = (z : Size) (rows cols capacity : ℕ) (acts : List Act) (parsed : List ℕ) (fs : List Form)
-    → AtGround 1024 (bytes_fed acts) → AtGround 1024 parsed → Agrees z (made rows cols capacity acts) parsed
+    → AtGround 1024 (bytes_fed acts) → AtGround 1024 parsed → ShowsAlike z (made rows cols capacity acts) parsed
     → AllByRecursion IsForm fs
-    → Agrees z (made rows cols capacity (acts ++ Fed (spell fs) ∷ [])) (parsed ++ spell fs)
+    → ShowsAlike z (made rows cols capacity (acts ++ Fed (spell fs) ∷ [])) (parsed ++ spell fs)
     × AtGround 1024 (bytes_fed (acts ++ Fed (spell fs) ∷ [])) × AtGround 1024 (parsed ++ spell fs)
 
 -- those that agree do so in modes
 abbrev pub AgreeingModes : Type 0
-AgreeingModes = (z : Size) (s : State) (parsed : List ℕ) → Agrees z s parsed → AgreesInModes z s parsed
+AgreeingModes = (z : Size) (s : State) (parsed : List ℕ) → ShowsAlike z s parsed → AgreesInModes z s parsed
 
 -- and those that agree in modes still do where texts hold U+FE0F
 abbrev pub EachSentSpellingIsAgreedOn : Type 0

@@ -3,7 +3,7 @@ use Rattle.std.specs.Prelude.{◌+◌, ◌^◌, ◌<◌, ◌≤◌, ◌≡◌, f
 use Rattle.terminal_model.specs.Term.{Size, Term}
 use Rattle.vt100_rows.specs.Sheet.{IsSheet}
 use Rattle.vt100_core.specs.Grid.{GridView, IsAllocated}
-use Rattle.vt100_core.specs.Picture.{Extras, size_of, term_of}
+use Rattle.vt100_core.specs.Picture.{Extras, grid_size, term_of_grid}
 use Rattle.screen_model.specs.State.{State}
 
 abbrev pub extras_of : State → Extras
@@ -17,10 +17,10 @@ extras_of s = record {
 
 -- what the state shows, with the cursor and the attributes that it has saved
 abbrev pub terminal_of : State → Term
-terminal_of s = term_of s.shown (extras_of s)
+terminal_of s = term_of_grid s.shown (extras_of s)
 
-abbrev pub screen_of : State → Size
-screen_of s = size_of s.shown
+abbrev pub size_shown : State → Size
+size_shown s = grid_size s.shown
 
 -- a grid with its rows, none of them a kept one, that scrolls as a whole and counts its places from the top
 pub record IsPlainGrid (g : GridView) : Type 0 where

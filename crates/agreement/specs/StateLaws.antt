@@ -9,12 +9,12 @@ use Rattle.terminal_model.specs.Apply.{apply, run}
 use Rattle.forms_read.specs.Events.{events_of, events_of_all}
 use Rattle.screen_model.specs.State.{State, IsState, is_plain, fresh_state}
 use Rattle.screen_model.specs.Made.{Fed, played, made_on}
-use Rattle.agreement.specs.Plain.{terminal_of, screen_of, IsPlainState}
+use Rattle.agreement.specs.Plain.{terminal_of, size_shown, IsPlainState}
 
 -- u is a plain state, as large as s, that shows t
 pub record Shows (s : State) (t : Term) (u : State) : Type 0 where
   pub shows : terminal_of u ≡ t
-  pub size : screen_of u ≡ screen_of s
+  pub size : size_shown u ≡ size_shown s
   pub plain : IsPlainState u
 
 abbrev pub EachPlainStateIsRead : Type 0
@@ -28,17 +28,17 @@ EachFreshStateIsBlank = (rows cols capacity : ℕ) → 0 < rows → rows < 2 ^ 1
 
 abbrev pub EachFormIsPlayed : Type 0
 EachFormIsPlayed = (s : State) (f : Form) → IsPlainState s → IsForm f
-    → Shows s (apply (screen_of s) f (terminal_of s)) (played (events_of f) s)
+    → Shows s (apply (size_shown s) f (terminal_of s)) (played (events_of f) s)
 
 abbrev pub EachListIsPlayed : Type 0
 EachListIsPlayed = (s : State) (fs : List Form) → IsPlainState s → AllByRecursion IsForm fs
-    → Shows s (run (screen_of s) fs (terminal_of s)) (played (events_of_all fs) s)
+    → Shows s (run (size_shown s) fs (terminal_of s)) (played (events_of_all fs) s)
 
 -- after any past that ends at ground
 abbrev pub EachSpellingIsMade : Type 0
 EachSpellingIsMade = (past : List ℕ) (s : State) (fs : List Form) → AtGround 1024 past → IsPlainState s
     → AllByRecursion IsForm fs
-    → Shows s (run (screen_of s) fs (terminal_of s)) (made_on past s (Fed (spell fs) ∷ []))
+    → Shows s (run (size_shown s) fs (terminal_of s)) (made_on past s (Fed (spell fs) ∷ []))
     × AtGround 1024 (past ++ spell fs)
 
 -- ---- texts with U+FE0F, by which a state may make a cell wide
@@ -47,15 +47,15 @@ EachSpellingIsMade = (past : List ℕ) (s : State) (fs : List Form) → AtGround
 pub record HasModes (s : State) (t : Term) (u : State) : Type 0 where
   pub modes : u.modes ≡ t.modes
   pub style : u.style ≡ t.style
-  pub size : screen_of u ≡ screen_of s
+  pub size : size_shown u ≡ size_shown s
   pub plain : IsPlainState u
 
 abbrev pub EachSentListIsPlayed : Type 0
 EachSentListIsPlayed = (s : State) (fs : List Form) → IsPlainState s → AllByRecursion IsSentForm fs
-    → HasModes s (run (screen_of s) fs (terminal_of s)) (played (events_of_all fs) s)
+    → HasModes s (run (size_shown s) fs (terminal_of s)) (played (events_of_all fs) s)
 
 abbrev pub EachSentSpellingIsMade : Type 0
 EachSentSpellingIsMade = (past : List ℕ) (s : State) (fs : List Form) → AtGround 1024 past → IsPlainState s
     → AllByRecursion IsSentForm fs
-    → HasModes s (run (screen_of s) fs (terminal_of s)) (made_on past s (Fed (spell fs) ∷ []))
+    → HasModes s (run (size_shown s) fs (terminal_of s)) (made_on past s (Fed (spell fs) ∷ []))
     × AtGround 1024 (past ++ spell fs)

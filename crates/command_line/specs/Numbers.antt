@@ -11,8 +11,8 @@ is_number n word = (nat_le 1 (length word) && nat_le (length word) n) && all_asc
 abbrev pub is_size : List ℕ → Bool
 is_size word = is_number 5 word && (nat_le 1 (digits_value 10 word) && nat_le (digits_value 10 word) 65535)
 
-abbrev pub size_of : List ℕ → Option ℕ
-size_of word = if is_size word then Some (digits_value 10 word) else None
+abbrev pub size_in : List ℕ → Option ℕ
+size_in word = if is_size word then Some (digits_value 10 word) else None
 
 -- 1 to 9 digits
 abbrev pub is_count : List ℕ → Bool

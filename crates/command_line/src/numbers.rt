@@ -3,13 +3,13 @@
 ghost use Rattle.std.specs.Prelude.{◌≡◌, ◌&&◌, nat_le, length};
 ghost use Rattle.std.specs.Option.{option_map};
 ghost use Rattle.std.specs.Str.{all_ascii_digits};
-ghost use Rattle.command_line.specs.Numbers.{size_of, count_of};
+ghost use Rattle.command_line.specs.Numbers.{size_in, count_of};
 
 use std::num::NonZeroU16;
 
 /// A number of rows or columns: 1 to 5 ASCII digits whose value is 1 to 65,535.
 pub fn parse_size(word: &str) -> Option<NonZeroU16>
-    ensures { option_map (λ n. n.value) result ≡ size_of word.now }
+    ensures { option_map (λ n. n.value) result ≡ size_in word.now }
 {
     if !is_number(word, 5) {
         return None;

@@ -12,7 +12,7 @@ use Rattle.termrelay.specs.Calls.{Call}
 use Rattle.termrelay.specs.declared.call.Reply.{Reply}
 use Rattle.termrelay.specs.Log.{SessionView, LogView, empty_log, MadeAll}
 use Rattle.termview.specs.Seen.{seen}
-use Rattle.termview.specs.Standing.{HoldsAt, size_of, shown_by}
+use Rattle.termview.specs.Standing.{HoldsAt, view_size, shown_by}
 use Rattle.termview.specs.declared.view.View.{View}
 use Rattle.termview.specs.declared.until_cleared.UntilCleared.{UntilCleared}
 use Rattle.screen_model.specs.Holds.{IsSide}
@@ -71,7 +71,7 @@ module _ (rows cols : ℕ) (calls : List Call) (h g : HubState as_kept) (m : Log
     pub one-found : (s : SessionView) (v : View UntilCleared) (parsed : List ℕ) (hold : Option (List ℕ))
         → slice_get m.sessions n ≡ Some s
         → Leads (map Gives (cut_by cuts (take most s.pumped))) [] None parsed hold → HoldsAt until_cleared v parsed hold
-        → (size_of v).rows ≡ s.rows → (size_of v).cols ≡ s.cols → IsFarView rows cols calls n most cuts (Some v)
+        → (view_size v).rows ≡ s.rows → (view_size v).cols ≡ s.cols → IsFarView rows cols calls n most cuts (Some v)
     one-found s v parsed hold is leads holds high wide =
         let all = logs-follow rows cols calls ran.0 h g m.sessions new ran.2 in
         let found = story-at m.sessions all.1 n s all.4 is in

@@ -11,7 +11,7 @@ use Rattle.std.specs.IoError.{error_kind}
 use Rattle.std.specs.declared.io.Error.{Error}
 use Rattle.std.specs.declared.io.ErrorKind.TheVariants.{Interrupted}
 use Rattle.relay_streams.specs.declared.error.RelayError.{RelayError}
-use Rattle.relay_streams.specs.Fill.{FillEnd, Fills, again, more, CountsTo, answer_of, Filled}
+use Rattle.relay_streams.specs.Fill.{FillEnd, Fills, again, more, CountsTo, end_answer, Filled}
 
 -- A buffer whose part from len on was read into: its first bytes, those that the read gave, and how many there are.
 pub take_put : (piece buf : List ℕ) (len k n : ℕ) → len ≤ length piece → n ≤ length buf
@@ -72,7 +72,7 @@ module _ (S : Type 0) (step : S → ℕ → Result (List ℕ) Error → S → Ty
   pub filled : (now new : S) (left made n before after : ℕ) (got piece : List ℕ) (end : FillEnd)
       (answer : Result ℕ RelayError) → GoesOn step old room now left made got → Fills step now left n [] end new
       → take (length got) piece ≡ got → after ≡ before + (made + n) → CountsTo end after
-      → answer ≡ answer_of end (length got) → Filled step old room before answer new piece after
+      → answer ≡ end_answer end (length got) → Filled step old room before answer new piece after
   filled now new left made n before after got piece end answer g f front counted most is = record {
     made = made + n;
     bytes = got;

@@ -8,7 +8,7 @@ use Rattle.std.specs.declared.io.Error.{Error}
 use Rattle.terminal_model.specs.Term.{Size}
 use Rattle.relay_streams.specs.declared.error.RelayError.{RelayError}
 use Rattle.relay_streams.specs.declared.error.RelayError.TheVariants.{Read, TooManyReads, FrameTooLong}
-use Rattle.relay_streams.specs.Fill.{Reads, FillEnd, Full, Ended, Failed, TooMany}
+use Rattle.relay_streams.specs.Fill.{IsReadBy, FillEnd, Full, Ended, Failed, TooMany}
 use Rattle.relay_streams.specs.Frames.{is_overlong}
 use Rattle.termrelay.specs.declared.answer.Answer.{Answer}
 use Rattle.termrelay.specs.declared.answer.Answer.TheVariants.{TooLong}
@@ -21,7 +21,7 @@ use Rattle.relay_streams.specs.Sessions.{IsRelayed, has_overlong, AreRelayed, En
 use Rattle.takers.specs.Sent.{Sends}
 use Rattle.takers.specs.Pump.{Writes}
 use Rattle.relay_streams.specs.Shown as shown
-use Rattle.relay_streams.specs.Shown.{IsShown, Prints, Shows, sized}
+use Rattle.relay_streams.specs.Shown.{IsTextShown, Prints, Shows, sized}
 use Rattle.takers.proofs.AppendLemmas.{TakesFront-none, TakesFront-longer}
 use Rattle.relay_streams.proofs.PieceLemmas.{drained-pieces, drained-front, begun-front, begun-well}
 use Rattle.relay_streams.proofs.FrameLists.{frames_of, frames_from, answers_of, answers_from, base_of, relay_text}
@@ -66,7 +66,7 @@ module _ (S W : Type 0) (gives : S → ℕ → Result (List ℕ) Error → S →
     (takes : W → List ℕ → Result ℕ Error → W → Type 0) (flushes : W → Result (Unit {0}) Error → W → Type 0)
     (contents : W → Option (List ℕ)) (left : S → Option (List ℕ))
     (gave : (s : S) (room : ℕ) (answer : Result (List ℕ) Error) (t : S) → gives s room answer t
-    → Reads left s room answer t)
+    → IsReadBy left s room answer t)
     (took : (w : W) (bytes : List ℕ) (answer : Result ℕ Error) (v : W) → takes w bytes answer v
     → Writes contents w bytes answer v)
     (flushed : (w : W) (answer : Result (Unit {0}) Error) (v : W) → flushes w answer v
@@ -219,10 +219,10 @@ module _ (S W : Type 0) (gives : S → ℕ → Result (List ℕ) Error → S →
 
     -- the text of the pieces that were read is one of the whole input
     whole-shown : (z : Size) (s t : S) (pieces : List (List ℕ)) (text bytes : List ℕ)
-        → Drained gives piece_len s pieces (Ok tt) t → left s ≡ Some bytes → IsShown z pieces text
-        → IsShown z (pieces_of bytes) text
+        → Drained gives piece_len s pieces (Ok tt) t → left s ≡ Some bytes → IsTextShown z pieces text
+        → IsTextShown z (pieces_of bytes) text
     whole-shown z s t pieces text bytes d known is =
-        subst (λ (ps : List (List ℕ)). IsShown z ps text) (drained-pieces S gives left gave s pieces t bytes d known) is
+        subst (λ (ps : List (List ℕ)). IsTextShown z ps text) (drained-pieces S gives left gave s pieces t bytes d known) is
 
     on-ok : (answer : Result (Unit {0}) RelayError) (known : Option (List ℕ)) (P : List ℕ → Type 0) (A : Type 0)
         → OnOk answer A → ((bytes : List ℕ) → known ≡ Some bytes → A → P bytes) → OnOk answer (IfSome known P)
@@ -231,7 +231,7 @@ module _ (S W : Type 0) (gives : S → ℕ → Result (List ℕ) Error → S →
 
     pub shows-text : (z : Size) (s : S) (w : W) (answer : Result (Unit {0}) RelayError) (t : S) (v : W)
         → Shows gives takes flushes z s w answer t v
-        → OnOk answer (IfSome (left s) (λ bytes. (text : List ℕ) × IsShown z (pieces_of bytes) text
+        → OnOk answer (IfSome (left s) (λ bytes. (text : List ℕ) × IsTextShown z (pieces_of bytes) text
         × Appends (contents w) (contents v) text))
     shows-text z s w answer t v shown.refused = tt
     shows-text z s w answer t v (shown.unread pieces e d) = tt
@@ -241,7 +241,7 @@ module _ (S W : Type 0) (gives : S → ℕ → Result (List ℕ) Error → S →
 
     pub shows-front : (z : Size) (s : S) (w : W) (answer : Result (Unit {0}) RelayError) (t : S) (v : W)
         → Shows gives takes flushes z s w answer t v
-        → IfSome (left s) (λ bytes. (text : List ℕ) → IsShown z (pieces_of bytes) text
+        → IfSome (left s) (λ bytes. (text : List ℕ) → IsTextShown z (pieces_of bytes) text
         → TakesFront (contents w) (contents v) text)
     shows-front z s w answer t v shown.refused =
         if_known (left s) _ (λ bytes known text is. TakesFront-none (contents w) text)

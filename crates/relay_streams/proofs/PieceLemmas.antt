@@ -12,7 +12,7 @@ use Rattle.std.specs.declared.io.Error.{Error}
 use Rattle.relay_streams.specs.declared.error.RelayError.{RelayError}
 use Rattle.relay_streams.specs.Fill.{FillEnd, Full, Ended, Failed, TooMany, Fills, full, stopped, ended, failed, again}
 use Rattle.relay_streams.specs.Fill.{more}
-use Rattle.relay_streams.specs.Fill.{Reads, CountsTo, answer_of, max_reads, Filled}
+use Rattle.relay_streams.specs.Fill.{IsReadBy, CountsTo, end_answer, max_reads, Filled}
 use Rattle.relay_streams.specs.Pieces.{cut_by, piece_len, pieces_of, Drains, last, next, outcome_of, Drained, Begun}
 use Rattle.std.proofs.Math.Nat.{add-div_left}
 
@@ -168,7 +168,7 @@ module _ (S : Type 0) (step : S → ℕ → Result (List ℕ) Error → S → Ty
   fills-made s room n bytes end t (more m got is fits gave rest) some e = omega arith
 
   module _ (left : S → Option (List ℕ)) (tells : (s : S) (room : ℕ) (answer : Result (List ℕ) Error) (t : S)
-      → step s room answer t → Reads left s room answer t) where
+      → step s room answer t → IsReadBy left s room answer t) where
     fills-taken : (s : S) (room n : ℕ) (bytes : List ℕ) (end : FillEnd) (t : S) → Fills step s room n bytes end t
         → Consumes (left s) (left t) bytes
     fills-taken s room n bytes end t full = Consumes-none (left s)
@@ -329,7 +329,7 @@ module _ (S : Type 0) (step : S → ℕ → Result (List ℕ) Error → S → Ty
   }
 
 -- how a piece that was filled ended, by its answer
-full_end : (end : FillEnd) (answer : Result ℕ RelayError) (len n room : ℕ) → answer ≡ answer_of end len → answer ≡ Ok n
+full_end : (end : FillEnd) (answer : Result ℕ RelayError) (len n room : ℕ) → answer ≡ end_answer end len → answer ≡ Ok n
     → (end ≢ Full → len < room) → room ≤ n → (end ≡ Full) × (n ≡ len)
 full_end Full answer len n room is ok short long = (refl, let e = sym is ∙ ok in cc)
 full_end Ended answer len n room is ok short long =
@@ -339,7 +339,7 @@ full_end Ended answer len n room is ok short long =
 full_end Failed answer len n room is ok short long = absurd (let e = sym is ∙ ok in cc)
 full_end TooMany answer len n room is ok short long = absurd (let e = sym is ∙ ok in cc)
 
-short_end : (end : FillEnd) (answer : Result ℕ RelayError) (len n room : ℕ) → answer ≡ answer_of end len → answer ≡ Ok n
+short_end : (end : FillEnd) (answer : Result ℕ RelayError) (len n room : ℕ) → answer ≡ end_answer end len → answer ≡ Ok n
     → (end ≡ Full → len ≡ room) → n < room → (end ≡ Ended) × (n ≡ len)
 short_end Full answer len n room is ok all low =
     let e = sym is ∙ ok in
@@ -350,14 +350,14 @@ short_end Ended answer len n room is ok all low =
 short_end Failed answer len n room is ok all low = absurd (let e = sym is ∙ ok in cc)
 short_end TooMany answer len n room is ok all low = absurd (let e = sym is ∙ ok in cc)
 
-well_end : (end : FillEnd) (answer : Result ℕ RelayError) (len n : ℕ) → answer ≡ answer_of end len → answer ≡ Ok n
+well_end : (end : FillEnd) (answer : Result ℕ RelayError) (len n : ℕ) → answer ≡ end_answer end len → answer ≡ Ok n
     → (outcome_of end ≡ done) × (n ≡ len)
 well_end Full answer len n is ok = (refl, let e = sym is ∙ ok in cc)
 well_end Ended answer len n is ok = (refl, let e = sym is ∙ ok in cc)
 well_end Failed answer len n is ok = absurd (let e = sym is ∙ ok in cc)
 well_end TooMany answer len n is ok = absurd (let e = sym is ∙ ok in cc)
 
-fault_end : (end : FillEnd) (answer : Result ℕ RelayError) (len : ℕ) (fault : RelayError) → answer ≡ answer_of end len
+fault_end : (end : FillEnd) (answer : Result ℕ RelayError) (len : ℕ) (fault : RelayError) → answer ≡ end_answer end len
     → answer ≡ Err fault → (end ≢ Full) × (stop fault ≡ outcome_of end)
 fault_end Full answer len fault is err = absurd (let e = sym is ∙ err in cc)
 fault_end Ended answer len fault is err = absurd (let e = sym is ∙ err in cc)
@@ -366,7 +366,7 @@ fault_end Failed answer len fault is err =
 fault_end TooMany answer len fault is err =
     (λ no. absurd (cc), let e = sym err ∙ is in cc)
 
-counted_end : (end : FillEnd) (answer : Result ℕ RelayError) (len n count : ℕ) → answer ≡ answer_of end len
+counted_end : (end : FillEnd) (answer : Result ℕ RelayError) (len n count : ℕ) → answer ≡ end_answer end len
     → answer ≡ Ok n → CountsTo end count → (end ≢ TooMany) × (count ≤ max_reads)
 counted_end Full answer len n count is ok most = (λ no. absurd (cc), most)
 counted_end Ended answer len n count is ok most = (λ no. absurd (cc), most)

@@ -8,7 +8,7 @@ use Rattle.vte_core.proofs.GroundLemmas.{ground-nothing}
 use Rattle.vte.specs.Moves.{Gives}
 use Rattle.vte.specs.Frames.{IsFrame}
 use Rattle.terminal_model.specs.Term.{Size, Shown, Term, shown_of}
-use Rattle.vt100_core.specs.Picture.{size_of}
+use Rattle.vt100_core.specs.Picture.{grid_size}
 use Rattle.screen_model.specs.Shown.{shown_state}
 use Rattle.screen_model.specs.Made.{Fed}
 use Rattle.screen_model.specs.Holds.{IsSide, IsAct, AreActs}
@@ -25,7 +25,7 @@ use Rattle.relay_theorem.proofs.ScreenLemmas.{IsShot, shot-made, IsShotBase}
 use Rattle.relay_theorem.proofs.FrameSteps.{text-frame, frame-read, frame-ends}
 use Rattle.relay_streams.specs.Frames.{state_after, idle, answered, asked, is_overlong}
 use Rattle.relay_streams.specs.Pieces.{cut_by, piece_len, pieces_of}
-use Rattle.relay_streams.specs.Shown.{IsShown, screen_text, sized}
+use Rattle.relay_streams.specs.Shown.{IsTextShown, screen_text, sized}
 use Rattle.relay_streams.specs.Laws.{RelayedIsShown}
 use Rattle.relay_streams.proofs.FrameLists.{frames_from, answers_from, answers_of, base_from, relay_text, or-first, or-rest}
 use Rattle.relay_streams.proofs.LawLemmas.{given-Gives}
@@ -133,7 +133,7 @@ module _ (rows cols : ℕ) (height : IsSide rows) (width : IsSide cols) where
     each = All-push IsAct [] (Fed bytes) (All-nil IsAct) tt;
   }
 
-  size-after : (bytes : List ℕ) → size_of (state_after rows cols bytes).shown ≡ z
+  size-after : (bytes : List ℕ) → grid_size (state_after rows cols bytes).shown ≡ z
   size-after bytes =
       let size = makes-last_size rows cols 0 (Fed bytes ∷ []) (acts-are bytes) in
       λ i. record { rows = size.height i; cols = size.width i }
@@ -154,7 +154,7 @@ module _ (rows cols : ℕ) (height : IsSide rows) (width : IsSide cols) where
   unfolding answered
   answered-due bytes base ended fits =
       let s = state_after rows cols bytes in
-      let k = size_of s.shown in
+      let k = grid_size s.shown in
       let now = shown_state s in
       due-by s.updating (is_frame (due k now base)) (is_too_long k now base) (due k now base) ended fits
       ∙ ap (λ (y : Size). due y now base) (size-after bytes)
@@ -236,7 +236,7 @@ module _ (rows cols : ℕ) (height : IsSide rows) (width : IsSide cols) where
   pub shown-so : (input text : List ℕ) (pieces : List (List ℕ)) → concat pieces ≡ relay_text rows cols input
       → is_unsure z (shown_state (state_after rows cols input)) ≡ false
       → (state_after rows cols input).updating ≡ false
-      → list_any is_overlong (answers_of rows cols (pieces_of input)) ≡ false → IsShown z pieces text
+      → list_any is_overlong (answers_of rows cols (pieces_of input)) ≡ false → IsTextShown z pieces text
       → text ≡ screen_text z (shown_state (state_after rows cols input)).cell
   shown-so input text pieces joined sure ended fits s =
       let now = shown_state (state_after rows cols input) in

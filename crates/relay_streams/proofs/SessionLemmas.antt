@@ -16,7 +16,7 @@ use Rattle.screen_model.proofs.MadeLemmas.{makes-last_size}
 use Rattle.takers.specs.Pump.{Pumps, all, some}
 use Rattle.takers.proofs.PumpLaws.{takes-all}
 use Rattle.termrelay.specs.Frame.{frame_text}
-use Rattle.termrelay.specs.Answers.{ClientState, answer_of, after_answer, is_frame}
+use Rattle.termrelay.specs.Answers.{ClientState, answer_for, after_answer, is_frame}
 use Rattle.termrelay.specs.Hub.{HubState, screen_in, size_in, shown_in, is_failed, with_client, new_client}
 use Rattle.termrelay.specs.Hub.{Feeds, Attaches, CanFrame, Framed, PumpsFrom, Puts}
 use Rattle.termrelay.specs.declared.answer.Answer.{Answer}
@@ -173,7 +173,7 @@ module _ (rows cols key : ℕ) where
 
   module _ (past : List (List ℕ)) (p : List ℕ) (base : Option Shown) (t : Story) (on : is_on key t ≡ true)
       (g k l : HubState as_told) (fed : g.parser ≡ past_of (past ++ p ∷ [])) (client : g.clients key ≡ Some (idle base))
-      (answer : Answer) (is : answer ≡ answer_of (screen_in g).state (idle base))
+      (answer : Answer) (is : answer ≡ answer_for (screen_in g).state (idle base))
       (put : Puts g key (Some (after_answer (size_in g) (shown_in g) (idle base) answer)) k) (reply : Reply)
       (pumps : Serves k (Pump key []) reply l) where
     c : ClientState
@@ -422,7 +422,7 @@ module _ (rows cols key : ℕ) where
   relays-by past base (p ∷ pieces) h ts at client =
       let live : is_failed h ≡ false = ap (λ (q : Past). q.failed) at in
       let g : HubState as_told = record h { parser = record (h.parser) { acts = h.parser.acts ++ Fed p ∷ [] } } in
-      let answer = answer_of (screen_in g).state (idle base) in
+      let answer = answer_for (screen_in g).state (idle base) in
       let c = after_answer (size_in g) (shown_in g) (idle base) answer in
       let k = put g key (Some c) in
       let w = pump-whole c.owed in

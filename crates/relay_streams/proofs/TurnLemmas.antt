@@ -11,7 +11,7 @@ use Rattle.screen_model.specs.State.{State}
 use Rattle.screen_model.specs.Call.{ScreenView}
 use Rattle.screen_model.specs.Made.{Act, Fed}
 use Rattle.screen_model.specs.Holds.{IsSide}
-use Rattle.vt100.specs.Parsing.{StandsAt}
+use Rattle.vt100.specs.Parsing.{ParserStandsAt}
 use Rattle.termrelay.specs.Answers.{ClientState, after_answer}
 use Rattle.takers.specs.Pump.{Pumps}
 use Rattle.termrelay.specs.Hub.{HubState, as_kept, clients_in, new_client, size_in, shown_in, Puts}
@@ -38,7 +38,7 @@ pub first-attached : (rows cols key : ℕ) (h g : HubState as_kept) → IsSide r
 first-attached rows cols key h g height width new at = record {
   height = height;
   width = width;
-  parser = subst (λ p. StandsAt p rows cols 0 []) (sym at.2.0) new.parser;
+  parser = subst (λ p. ParserStandsAt p rows cols 0 []) (sym at.2.0) new.parser;
   client = at-key h g key (Some new_client) at.2;
 }
 
@@ -49,7 +49,7 @@ pub piece-fed : (rows cols : ℕ) (pieces : List (List ℕ)) (piece : List ℕ) 
 piece-fed rows cols pieces piece base h g key r f = record {
   height = r.height;
   width = r.width;
-  parser = subst (λ (acts : List Act). StandsAt g.parser rows cols 0 acts) (sym (map-append Fed pieces (piece ∷ [])))
+  parser = subst (λ (acts : List Act). ParserStandsAt g.parser rows cols 0 acts) (sym (map-append Fed pieces (piece ∷ [])))
       (f.3 rows cols 0 (map Fed pieces) r.parser);
   client = ap (λ (c : ℕ → Option ClientState). c key) f.2 ∙ r.client;
 }
@@ -120,7 +120,7 @@ module _ (W : Type 0) (takes : W → List ℕ → Result ℕ Error → W → Typ
         record {
           height = r.height;
           width = r.width;
-          parser = subst (λ p. StandsAt p rows cols 0 (map Fed pieces)) (sym (end.1 ∙ a.0)) r.parser;
+          parser = subst (λ p. ParserStandsAt p rows cols 0 (map Fed pieces)) (sym (end.1 ∙ a.0)) r.parser;
           client = end.2;
         },
       )

@@ -9,8 +9,8 @@ use Rattle.termview.specs.declared.until_cleared.UntilCleared.{UntilCleared}
 use Rattle.terminal_model.specs.Term.{Size, Term}
 use Rattle.termview.specs.Seen.{seen}
 use Rattle.termview.specs.Timeout.{until_cleared}
-use Rattle.termview.specs.Standing.{HoldsAt, Taken, size_of, shown_by}
-use Rattle.relay_streams.specs.Shown.{IsShown, screen_text, sized}
+use Rattle.termview.specs.Standing.{HoldsAt, Taken, view_size, shown_by}
+use Rattle.relay_streams.specs.Shown.{IsTextShown, screen_text, sized}
 use Rattle.relay_streams.specs.Led.{Led}
 
 pub not_led : (view : View UntilCleared) → Led view [] view
@@ -50,13 +50,13 @@ led_on old now new pieces piece led take = record {
 
 -- what a fresh view shows once it has read pieces
 pub shown_so : (fresh now : View UntilCleared) (z : Size) (pieces : List (List ℕ)) → HoldsAt until_cleared fresh [] None
-    → size_of fresh ≡ z → Led fresh pieces now → IsShown z pieces (screen_text (size_of now) (shown_by now).cell)
+    → view_size fresh ≡ z → Led fresh pieces now → IsTextShown z pieces (screen_text (view_size now) (shown_by now).cell)
 shown_so fresh now z pieces at is led =
     let l = led.goes [] None at in
-    let text : screen_text (size_of now) (shown_by now).cell
-    ≡ screen_text (size_of now) (seen (size_of now) l.parsed').cell =
-    ap (λ (t : Term). screen_text (size_of now) t.cell) l.holds.stands.shows in
-    let sized_so : size_of now ≡ z = l.size ∙ is in
+    let text : screen_text (view_size now) (shown_by now).cell
+    ≡ screen_text (view_size now) (seen (view_size now) l.parsed').cell =
+    ap (λ (t : Term). screen_text (view_size now) t.cell) l.holds.stands.shows in
+    let sized_so : view_size now ≡ z = l.size ∙ is in
     record {
       parsed = l.parsed';
       hold = l.hold';

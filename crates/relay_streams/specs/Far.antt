@@ -5,7 +5,7 @@ use Rattle.vte.specs.Moves.{Gives}
 use Rattle.vte.specs.Frames.{Leads}
 use Rattle.terminal_model.specs.Term.{shown_of}
 use Rattle.termrelay.specs.Calls.{Call}
-use Rattle.termview.specs.Standing.{HoldsAt, size_of, shown_by}
+use Rattle.termview.specs.Standing.{HoldsAt, view_size, shown_by}
 use Rattle.termview.specs.declared.view.View.{View}
 use Rattle.termview.specs.declared.until_cleared.UntilCleared.{UntilCleared}
 use Rattle.termrelay.specs.Hub.{HubState}
@@ -24,7 +24,7 @@ pub record ReadsStory (t : Story) (most : ℕ) (cuts : List ℕ) (v : View Until
   pub hold : Option (List ℕ)
   pub leads : Leads (map Gives (cut_by cuts (take most t.session.pumped))) [] None parsed hold
   pub holds : HoldsAt until_cleared v parsed hold
-  pub size : size_of v ≡ size_of_story t
+  pub size : view_size v ≡ size_of_story t
 
 -- of these sessions there is no n-th one, or the view has read it
 abbrev pub FoundIn : List Story → ℕ → ℕ → List ℕ → Option (View UntilCleared) → Type 0
@@ -54,7 +54,7 @@ pub record ShowsJudged (rows cols : ℕ) (calls : List Call) (n most : ℕ) (v :
   pub story : Story
   pub session : IsSession rows cols calls replies n story
   pub fed : list_any is_starved replies ≡ false
-  pub size : size_of v ≡ size_of_story story
+  pub size : view_size v ≡ size_of_story story
   pub shows : IsSure (last_given story most)
       → shown_of (shown_by v) ≡ judged rows cols (last_given story most)
   pub whole : (front back : List Entry) → story.entries ≡ front ++ back → take most story.session.pumped ≡ texts front

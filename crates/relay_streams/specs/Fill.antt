@@ -1,4 +1,4 @@
--- Reads that fill a piece: what they make of a source, the bytes that they give, and how they end.
+-- IsReadBy that fill a piece: what they make of a source, the bytes that they give, and how they end.
 use Rattle.std.specs.Prelude.{◌≡◌, ◌≢◌, ℕ, ◌+◌, ◌-◌, ◌^◌, ◌<◌, ◌≤◌, List, [], ◌++◌, length, take, Option, Ok, Err}
 use Rattle.std.specs.Prelude.{Result}
 use Rattle.std.specs.Io.KnownBytes.{Consumes, IsAtEnd, Keeps}
@@ -14,9 +14,9 @@ given (Ok n) room = Ok (take n room)
 given (Err e) room = Err e
 
 -- what std promises of one read with so much room, of a reader whose known bytes are these
-abbrev pub Reads : {R : Type 0} → (R → Option (List ℕ)) → R → ℕ → Result (List ℕ) Error → R → Type 0
-Reads left s room (Ok bytes) t = Consumes (left s) (left t) bytes × (bytes ≡ [] → 0 < room → IsAtEnd (left t))
-Reads left s room (Err e) t = Keeps (left s) (left t)
+abbrev pub IsReadBy : {R : Type 0} → (R → Option (List ℕ)) → R → ℕ → Result (List ℕ) Error → R → Type 0
+IsReadBy left s room (Ok bytes) t = Consumes (left s) (left t) bytes × (bytes ≡ [] → 0 < room → IsAtEnd (left t))
+IsReadBy left s room (Err e) t = Keeps (left s) (left t)
 
 -- how the reads end: there is no room left, the input has ended, a read failed, or no more reads may be made
 pub data FillEnd : Type 0 where
@@ -51,11 +51,11 @@ CountsTo TooMany count = count ≡ max_reads
 CountsTo end count = count ≤ max_reads
 
 -- what is answered, where the reads gave so many bytes and end so
-abbrev pub answer_of : FillEnd → ℕ → Result ℕ RelayError
-answer_of Full n = Ok n
-answer_of Ended n = Ok n
-answer_of Failed n = Err Read
-answer_of TooMany n = Err TooManyReads
+abbrev pub end_answer : FillEnd → ℕ → Result ℕ RelayError
+end_answer Full n = Ok n
+end_answer Ended n = Ok n
+end_answer Failed n = Err Read
+end_answer TooMany n = Err TooManyReads
 
 -- A piece of so much room was filled, after so many reads before: the reads that were made, the bytes that they gave,
 -- and how they ended.
@@ -68,4 +68,4 @@ pub record Filled {S : Type 0} (step : S → ℕ → Result (List ℕ) Error →
   pub front : take (length bytes) piece ≡ bytes
   pub counted : after ≡ before + made
   pub most : CountsTo end after
-  pub answered : answer ≡ answer_of end (length bytes)
+  pub answered : answer ≡ end_answer end (length bytes)

@@ -1,11 +1,11 @@
 -- The frame of a client that gets each as soon as it is made.
 use Rattle.std.specs.Prelude.{ℕ, Bool, true, false, List, [], ◌∷◌, Option}
 use Rattle.terminal_model.specs.Term.{Shown}
-use Rattle.vt100_core.specs.Picture.{size_of}
+use Rattle.vt100_core.specs.Picture.{grid_size}
 use Rattle.screen_model.specs.State.{State}
 use Rattle.screen_model.specs.Shown.{shown_state}
 use Rattle.screen_model.specs.Made.{Fed, made}
-use Rattle.termrelay.specs.Answers.{ClientState, answer_of, after_answer}
+use Rattle.termrelay.specs.Answers.{ClientState, answer_for, after_answer}
 use Rattle.termrelay.specs.declared.answer.Answer.{Answer}
 use Rattle.termrelay.specs.declared.answer.Answer.TheVariants.{TooLong}
 
@@ -19,11 +19,11 @@ idle base = record { owed = []; base = base }
 
 -- what it is answered where it asks for a frame of this screen
 abbrev pub answer_on : State → Option Shown → Answer
-answer_on now base = answer_of now (idle base)
+answer_on now base = answer_for now (idle base)
 
 -- and the client then
 abbrev pub asked_on : State → Option Shown → ClientState
-asked_on now base = after_answer (size_of now.shown) (shown_state now) (idle base) (answer_on now base)
+asked_on now base = after_answer (grid_size now.shown) (shown_state now) (idle base) (answer_on now base)
 
 -- the same where it asks for one of the screen that these bytes make
 unfoldable pub answered : ℕ → ℕ → List ℕ → Option Shown → Answer

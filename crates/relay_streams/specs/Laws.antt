@@ -13,16 +13,16 @@ use Rattle.relay_theorem.specs.Headline.{last_read}
 use Rattle.relay_streams.specs.Frames.{state_after}
 use Rattle.relay_streams.specs.Pieces.{pieces_of}
 use Rattle.relay_streams.specs.Sessions.{IsRelayed, IsRelayText}
-use Rattle.relay_streams.specs.Shown.{IsShown, screen_text, sized}
+use Rattle.relay_streams.specs.Shown.{IsTextShown, screen_text, sized}
 
 -- pieces have one text: it is a function of the size and the pieces
 abbrev pub TextsAreOne : Type 0
-TextsAreOne = (z : Size) (pieces : List (List ℕ)) (a b : List ℕ) → IsShown z pieces a → IsShown z pieces b → a ≡ b
+TextsAreOne = (z : Size) (pieces : List (List ℕ)) (a b : List ℕ) → IsTextShown z pieces a → IsTextShown z pieces b → a ≡ b
 
 -- joined whole frames are printed as the text of the screen that they leave
 abbrev pub WholeFramesArePrinted : Type 0
 WholeFramesArePrinted = (z : Size) (frames : List (List ℕ)) (text : List ℕ)
-    → All IsFrame frames → IsShown z (pieces_of (concat frames)) text
+    → All IsFrame frames → IsTextShown z (pieces_of (concat frames)) text
     → text ≡ screen_text z (seen z (concat frames)).cell
 
 -- Any front of what is relayed, in whatever pieces it comes: a new view of the size, which has parsed so much of it,
@@ -41,5 +41,5 @@ RelayedIsShown = (rows cols : ℕ) (input relayed text : List ℕ) (pieces : Lis
     → IsRelayText rows cols input relayed → concat pieces ≡ relayed
     → is_unsure (sized rows cols) (shown_state (state_after rows cols input)) ≡ false
     → (state_after rows cols input).updating ≡ false
-    → IsShown (sized rows cols) pieces text
+    → IsTextShown (sized rows cols) pieces text
     → text ≡ screen_text (sized rows cols) (shown_state (state_after rows cols input)).cell

@@ -5,7 +5,7 @@ use Rattle.vte.specs.Frames.{Drives}
 use Rattle.termview.specs.declared.view.View.{View}
 use Rattle.termview.specs.declared.until_cleared.UntilCleared.{UntilCleared}
 use Rattle.termview.specs.Timeout.{until_cleared}
-use Rattle.termview.specs.Standing.{HoldsAt, size_of}
+use Rattle.termview.specs.Standing.{HoldsAt, view_size}
 
 -- where the pieces lead a view that stands at a parsed text and a hold
 pub record LedTo (old : View UntilCleared) (parsed : List ℕ) (hold : Option (List ℕ)) (pieces : List (List ℕ))
@@ -14,7 +14,7 @@ pub record LedTo (old : View UntilCleared) (parsed : List ℕ) (hold : Option (L
   pub hold' : Option (List ℕ)
   pub leads : Drives (map Gives pieces) parsed hold parsed' hold'
   pub holds : HoldsAt until_cleared new parsed' hold'
-  pub size : size_of new ≡ size_of old
+  pub size : view_size new ≡ view_size old
 
 -- wherever the view stands, the pieces lead it on
 pub record Led (old : View UntilCleared) (pieces : List (List ℕ)) (new : View UntilCleared) : Type 0 where

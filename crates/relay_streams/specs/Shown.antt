@@ -30,7 +30,7 @@ screen_text z cell = rows_text z cell 0 z.rows
 
 -- A fresh view of this size was given these pieces, one after another, and this is the text of what it shows: what it
 -- has parsed, and not what it holds.
-pub record IsShown (z : Size) (pieces : List (List ℕ)) (text : List ℕ) : Type 0 where
+pub record IsTextShown (z : Size) (pieces : List (List ℕ)) (text : List ℕ) : Type 0 where
   pub parsed : List ℕ
   pub hold : Option (List ℕ)
   pub leads : Leads (map Gives pieces) [] None parsed hold
@@ -60,5 +60,5 @@ pub data Shows {S W : Type 0} (gives : S → ℕ → Result (List ℕ) Error →
       → Shows gives takes flushes z s w (Err e) t w
   -- the input was read to its end, and what a view shows of it was printed
   shown : {t : S} {v : W} {answer : Result (Unit {0}) RelayError} (pieces : List (List ℕ)) (text : List ℕ)
-      → Drained gives piece_len s pieces (Ok tt) t → IsShown z pieces text → Prints takes flushes w text answer v
+      → Drained gives piece_len s pieces (Ok tt) t → IsTextShown z pieces text → Prints takes flushes w text answer v
       → Shows gives takes flushes z s w answer t v

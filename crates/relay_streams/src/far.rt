@@ -5,7 +5,7 @@ ghost use Rattle.std.specs.List.{list_any};
 ghost use Rattle.vte.specs.Moves.{Gives};
 ghost use Rattle.vte.specs.Frames.{Leads};
 ghost use Rattle.termrelay.specs.Calls.{call_of};
-ghost use Rattle.termview.specs.Standing.{HoldsAt, size_of};
+ghost use Rattle.termview.specs.Standing.{HoldsAt, view_size};
 ghost use Rattle.relay_theorem.specs.Isolation.{is_starved as starved};
 ghost use Rattle.relay_streams.specs.Far.{IsFarView, ShowsJudged};
 ghost use Rattle.relay_streams.specs.Led.{Led};
@@ -66,8 +66,8 @@ fn view_session(
     ensures stands { IfOk result (λ v. (parsed : List ℕ) × (hold : Option (List ℕ))
         × Leads (map Gives (cut_by cuts.now (take most session.now.pumped))) [] None parsed hold
         × HoldsAt until_cleared v parsed hold) }
-    ensures rows { IfOk result (λ v. (size_of v).rows ≡ session.now.rows) }
-    ensures cols { IfOk result (λ v. (size_of v).cols ≡ session.now.cols) }
+    ensures rows { IfOk result (λ v. (view_size v).rows ≡ session.now.rows) }
+    ensures cols { IfOk result (λ v. (view_size v).cols ≡ session.now.cols) }
     ensures memory { OnErr result (result ≡ Err Memory) }
 {
     let pumped = session.pumped();
@@ -109,8 +109,8 @@ pub fn view_of(
     ensures stands { IfOk result (λ v. (parsed : List ℕ) × (hold : Option (List ℕ))
         × Leads (map Gives (cut_by cuts.now bytes.now)) [] None parsed hold
         × HoldsAt until_cleared v parsed hold) }
-    ensures rows { IfOk result (λ v. (size_of v).rows ≡ rows.value) }
-    ensures cols { IfOk result (λ v. (size_of v).cols ≡ cols.value) }
+    ensures rows { IfOk result (λ v. (view_size v).rows ≡ rows.value) }
+    ensures cols { IfOk result (λ v. (view_size v).cols ≡ cols.value) }
     ensures memory { OnErr result (result ≡ Err Memory) }
 {
     let mut view = View::new(alloc, rows, cols, UntilCleared::new())?;

@@ -4,10 +4,10 @@ ghost use Rattle.std.specs.Prelude.{◌≡◌, ℕ, List, OnOk, IfSome};
 ghost use Rattle.std.specs.Io.KnownBytes.{Appends};
 ghost use Rattle.takers.specs.Output.{TakesFront};
 ghost use Rattle.takers.specs.Sent.{SendsText};
-ghost use Rattle.termview.specs.Standing.{shown_by, size_of};
+ghost use Rattle.termview.specs.Standing.{shown_by, view_size};
 ghost use Rattle.relay_streams.specs.Led.{Led};
 ghost use Rattle.relay_streams.specs.Pieces.{Drained, piece_len, pieces_of};
-ghost use Rattle.relay_streams.specs.Shown.{IsShown, Prints, Shows, row_line, screen_text, sized};
+ghost use Rattle.relay_streams.specs.Shown.{IsTextShown, Prints, Shows, row_line, screen_text, sized};
 
 use crate::error::RelayError;
 use crate::source::{PIECE_LEN, Source, fill};
@@ -34,10 +34,10 @@ pub fn show<S: Source, W: Sink>(
     ensures shows { Shows S.gives W.takes W.flushes (sized rows.value cols.value) input.old output.old result input.new
         output.new }
     ensures text { OnOk result (IfSome (S.left input.old) (λ bytes. (text : List ℕ)
-        × IsShown (sized rows.value cols.value) (pieces_of bytes) text
+        × IsTextShown (sized rows.value cols.value) (pieces_of bytes) text
         × Appends (W.contents output.old) (W.contents output.new) text)) }
     ensures front { IfSome (S.left input.old) (λ bytes. (text : List ℕ)
-        → IsShown (sized rows.value cols.value) (pieces_of bytes) text
+        → IsTextShown (sized rows.value cols.value) (pieces_of bytes) text
         → TakesFront (W.contents output.old) (W.contents output.new) text) }
 {
     let mut view = View::new(alloc, rows, cols, UntilCleared::new())?;
@@ -65,7 +65,7 @@ fn read_view<S: Source>(view: &mut View<UntilCleared>, input: &mut S) -> Result<
 /// Writes the text of each row of what the view shows, with a newline each, and flushes the output. A write that fails
 /// or takes nothing ends it, and what was taken by then stays written.
 pub fn print_view<W: Sink>(view: &View<UntilCleared>, output: &mut W) -> Result<(), RelayError>
-    ensures { Prints W.takes W.flushes output.old (screen_text (size_of view.now) (shown_by view.now).cell) result
+    ensures { Prints W.takes W.flushes output.old (screen_text (view_size view.now) (shown_by view.now).cell) result
         output.new }
 {
     match write_view(view, output) {
@@ -81,7 +81,7 @@ pub fn print_view<W: Sink>(view: &View<UntilCleared>, output: &mut W) -> Result<
 /// Writes the text of each row of what the view shows, and a newline after it. Any fault of a write ends it, and so does
 /// a write that takes nothing; what was taken by then stays written.
 pub fn write_view<T: Taker>(view: &View<UntilCleared>, output: &mut T) -> io::Result<()>
-    ensures { SendsText T.takes output.old (screen_text (size_of view.now) (shown_by view.now).cell) result
+    ensures { SendsText T.takes output.old (screen_text (view_size view.now) (shown_by view.now).cell) result
         output.new }
 {
     let (rows, _) = view.size();
@@ -93,7 +93,7 @@ pub fn write_view<T: Taker>(view: &View<UntilCleared>, output: &mut T) -> io::Re
 
 // Writes the text of a row and a newline.
 fn write_row<T: Taker>(view: &View<UntilCleared>, row: u16, output: &mut T) -> io::Result<()>
-    ensures { SendsText T.takes output.old (row_line (size_of view.now) (shown_by view.now).cell row) result
+    ensures { SendsText T.takes output.old (row_line (view_size view.now) (shown_by view.now).cell row) result
         output.new }
 {
     view.row_text(row, output)?;

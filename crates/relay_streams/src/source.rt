@@ -3,7 +3,7 @@
 ghost use Rattle.std.specs.Prelude.{◌≡◌, ℕ, ◌≤◌, List, Option, Result, length};
 ghost use Rattle.std.specs.Io.{ReadsAtMost};
 ghost use Rattle.std.specs.declared.io.Error.{Error};
-ghost use Rattle.relay_streams.specs.Fill.{Filled, Reads, given, max_reads};
+ghost use Rattle.relay_streams.specs.Fill.{Filled, IsReadBy, given, max_reads};
 
 use crate::error::RelayError;
 use std::io;
@@ -12,7 +12,7 @@ use std::io::{ErrorKind, Read};
 /// Bytes of a full piece.
 pub const PIECE_LEN: usize = 4096;
 
-/// Reads tried, interrupted ones included, before the input is given up as endless.
+/// IsReadBy tried, interrupted ones included, before the input is given up as endless.
 const MAX_READS: u64 = 1 << 40;
 
 /// What gives bytes. Each kind says what one read does to it, also when it fails.
@@ -23,20 +23,20 @@ pub trait Source {
     // what one read with so much room answers and leaves
     ghost gives: { Self → ℕ → Result (List ℕ) Error → Self → Type 0 };
 
-    /// Reads into the room, and answers how many bytes it gave.
+    /// IsReadBy into the room, and answers how many bytes it gave.
     fn give(&mut self, room: &mut [u8]) -> io::Result<usize>
         ensures bound { ReadsAtMost result room.new }
         ensures gives { gives self.old (length room.old) (given result room.new) self.new };
 
     ghost tells: { (s : Self) (room : ℕ) (answer : Result (List ℕ) Error) (t : Self) → gives s room answer t
-        → Reads left s room answer t };
+        → IsReadBy left s room answer t };
 }
 
 /// Of a reader it is known what [`Read`] promises.
 impl<R: Read> Source for R {
     ghost left = { R.remaining };
 
-    ghost gives = { Reads R.remaining };
+    ghost gives = { IsReadBy R.remaining };
 
     ghost tells = { λ s room answer t told. told };
 
@@ -45,7 +45,7 @@ impl<R: Read> Source for R {
     }
 }
 
-/// Reads until the piece is full or the input ends, and answers how many bytes were read. Reads are counted from those
+/// IsReadBy until the piece is full or the input ends, and answers how many bytes were read. IsReadBy are counted from those
 /// made before; an interrupted one is tried again.
 pub fn fill<S: Source>(
     input: &mut S,

@@ -13,14 +13,14 @@ use Rattle.vte.specs.Hold.{limit}
 use Rattle.vte.specs.Moves.{Move, Gives, given}
 use Rattle.vte.specs.Frames.{IsFrame, IsPart, Leads}
 use Rattle.terminal_model.specs.Term.{Size, Shown, shown_of}
-use Rattle.vt100_core.specs.Picture.{size_of}
+use Rattle.vt100_core.specs.Picture.{grid_size}
 use Rattle.screen_model.specs.State.{State}
 use Rattle.screen_model.specs.Shown.{shown_state}
 use Rattle.screen_model.specs.Made.{made}
 use Rattle.screen_model.specs.Holds.{IsSide}
 use Rattle.forms_read.specs.Terminals.{IsSmall}
 use Rattle.termrelay.specs.Frame.{is_unsure, frame_text, ShowsUnless, Agrees}
-use Rattle.termrelay.specs.Answers.{ClientState, is_frame, same_shown, answer_of, due_from, due, is_too_long}
+use Rattle.termrelay.specs.Answers.{ClientState, is_frame, same_shown, answer_for, due_from, due, is_too_long}
 use Rattle.termrelay.specs.Answers.{longest_frame}
 use Rattle.termrelay.specs.declared.answer.Answer.{Answer}
 use Rattle.termrelay.specs.declared.answer.Answer.TheVariants.{Full, Difference, Unsure, Unchanged, Behind, Held}
@@ -34,8 +34,8 @@ use Rattle.relay_theorem.specs.History.{Entry, Story, size_of_story}
 use Rattle.relay_theorem.specs.Judge.{state_at, size_at, shown_at, texts, frame_or, last_frame, whole_in, last_whole}
 use Rattle.relay_theorem.specs.Judge.{judged, IsSure}
 use Rattle.relay_theorem.specs.Laws.{base_then, IsAnswered, AreAnswered, IsTold}
-use Rattle.relay_theorem.specs.Headline.{EachTextIsAFrame, WholeFramesAreShown, LastWholeFrameIsShown, NoFrameIsTorn}
-use Rattle.relay_theorem.specs.Headline.{Reads, last_read, whole_read, ReadsWhole, OneMomentShowsTheSame}
+use Rattle.relay_theorem.specs.Headline.{EachTextIsAFrame, WholeSessionsAreShown, LastWholeFrameIsShown, NoSessionIsTorn}
+use Rattle.relay_theorem.specs.Headline.{ReadsSession, last_read, whole_read, ReadsWhole, OneMomentShowsTheSame}
 use Rattle.relay_theorem.specs.Headline.{OneMomentShowsTheSameWhole}
 use Rattle.relay_theorem.proofs.HistoryLemmas.{sessions-told}
 use Rattle.relay_theorem.proofs.ScreenLemmas.{IsShot, shot-made, IsShotBase}
@@ -97,31 +97,31 @@ due-made : (z : Size) (now : Shown) (base : Option Shown) → due z now base ≡
 due-made z now None e = due-by (is_unsure z now) true true e
 due-made z now (Some base) e = due-by (is_unsure z now) (is_unsure z base) (same_shown z base now) e
 
-answer-unsure : (s : State) (z : Size) (base : Option Shown) (owed : List ℕ) → size_of s.shown ≡ z
-    → is_frame (answer_of s (record { owed = owed; base = base })) ≡ true → is_unsure z (shown_state s) ≡ true
-    → answer_of s (record { owed = owed; base = base }) ≡ Unsure
+answer-unsure : (s : State) (z : Size) (base : Option Shown) (owed : List ℕ) → grid_size s.shown ≡ z
+    → is_frame (answer_for s (record { owed = owed; base = base })) ≡ true → is_unsure z (shown_state s) ≡ true
+    → answer_for s (record { owed = owed; base = base }) ≡ Unsure
 answer-unsure s z base [] same f h =
-    let k = size_of s.shown in
+    let k = grid_size s.shown in
     let now = shown_state s in
     frame-due s.updating (is_frame (due k now base)) (is_too_long k now base) (due k now base) f
     ∙ due-unsure k now base (is_unsure k now) (ap (λ y. is_unsure y now) same ∙ h)
 answer-unsure s z base (x ∷ owed) same f h = absurd (let no : false ≡ true = f in cc)
 
 -- and none is too long
-answer-fits : (s : State) (z : Size) (base : Option Shown) (owed : List ℕ) → size_of s.shown ≡ z
-    → is_frame (answer_of s (record { owed = owed; base = base })) ≡ true → is_too_long z (shown_state s) base ≡ false
+answer-fits : (s : State) (z : Size) (base : Option Shown) (owed : List ℕ) → grid_size s.shown ≡ z
+    → is_frame (answer_for s (record { owed = owed; base = base })) ≡ true → is_too_long z (shown_state s) base ≡ false
 answer-fits s z base [] same f =
-    let k = size_of s.shown in
+    let k = grid_size s.shown in
     let now = shown_state s in
     ap (λ y. is_too_long y now base) (sym same)
     ∙ frame-fits s.updating (is_frame (due k now base)) (is_too_long k now base) (due k now base) refl f
 answer-fits s z base (x ∷ owed) same f = absurd (let no : false ≡ true = f in cc)
 
 -- where none would be too long, none is said to be
-answer-made : (s : State) (z : Size) (base : Option Shown) (owed : List ℕ) → size_of s.shown ≡ z
-    → is_too_long z (shown_state s) base ≡ false → answer_of s (record { owed = owed; base = base }) ≡ TooLong → ⊥
+answer-made : (s : State) (z : Size) (base : Option Shown) (owed : List ℕ) → grid_size s.shown ≡ z
+    → is_too_long z (shown_state s) base ≡ false → answer_for s (record { owed = owed; base = base }) ≡ TooLong → ⊥
 answer-made s z base [] same fits e =
-    let k = size_of s.shown in
+    let k = grid_size s.shown in
     let now = shown_state s in
     short-made s.updating (is_frame (due k now base)) (is_too_long k now base) (due k now base)
     (ap (λ y. is_too_long y now base) same ∙ fits) (due-made k now base) e
@@ -559,7 +559,7 @@ texts-frames rows cols calls replies n t s =
     let h = sessions-told rows cols calls replies n t s in
     entries-frames rows cols (size_of_story t) h.height h.width None t.entries tt h.entries
 
-pub wholes-shown : WholeFramesAreShown
+pub wholes-shown : WholeSessionsAreShown
 wholes-shown rows cols calls replies n t front back moves parsed hold s e given_is leads =
     let h = sessions-told rows cols calls replies n t s in
     let entries = answered-front rows cols (size_of_story t) None front back
@@ -567,7 +567,7 @@ wholes-shown rows cols calls replies n t front back moves parsed hold s e given_
     whole-shown rows cols (size_of_story t) h.height h.width front moves parsed hold entries given_is leads
 
 front-of : (rows cols : ℕ) (calls : List Call) (replies : List Reply) (n : ℕ) (t : Story) (pieces : List (List ℕ))
-    (parsed : List ℕ) (clients : ℕ → Option ClientState) → Reads rows cols calls replies n t pieces parsed
+    (parsed : List ℕ) (clients : ℕ → Option ClientState) → ReadsSession rows cols calls replies n t pieces parsed
     → (h : IsTold rows cols clients t) → IsFront rows cols (size_of_story t) h.height h.width (last_read t pieces) parsed
 front-of rows cols calls replies n t pieces parsed clients r h =
     let all : concat pieces ++ (r.beyond ++ h.left) ≡ texts t.entries =
@@ -582,7 +582,7 @@ last-shown rows cols calls replies n t pieces parsed r sure =
     (front-of rows cols calls replies n t pieces parsed (clients_in r.session.hub) r h) sure
 
 size-then : (rows cols : ℕ) (calls : List Call) (replies : List Reply) (n : ℕ) (t : Story) (pieces : List (List ℕ))
-    (parsed : List ℕ) (e : Entry) → Reads rows cols calls replies n t pieces parsed → last_read t pieces ≡ Some e
+    (parsed : List ℕ) (e : Entry) → ReadsSession rows cols calls replies n t pieces parsed → last_read t pieces ≡ Some e
     → size_at rows cols e ≡ size_of_story t
 size-then rows cols calls replies n t pieces parsed e r is =
     let h = sessions-told rows cols calls replies n t r.session in
@@ -590,7 +590,7 @@ size-then rows cols calls replies n t pieces parsed e r is =
     (front-of rows cols calls replies n t pieces parsed (clients_in r.session.hub) r h) is
 
 seen-then : (rows cols : ℕ) (calls : List Call) (replies : List Reply) (n : ℕ) (t : Story) (pieces : List (List ℕ))
-    (parsed : List ℕ) → Reads rows cols calls replies n t pieces parsed
+    (parsed : List ℕ) → ReadsSession rows cols calls replies n t pieces parsed
     → seen (size_of_story t) parsed ≡ seen (size_of_story t) (texts (whole_read t pieces))
 seen-then rows cols calls replies n t pieces parsed r =
     let h = sessions-told rows cols calls replies n t r.session in
@@ -599,7 +599,7 @@ seen-then rows cols calls replies n t pieces parsed r =
     front-seen rows cols (size_of_story t) h.height h.width t.entries pieces (r.beyond ++ h.left) parsed r.hold h.entries all
     r.leads
 
-pub none-torn : NoFrameIsTorn
+pub none-torn : NoSessionIsTorn
 none-torn rows cols calls replies n t pieces more parsed parsed' r q same =
     ap shown_of (seen-then rows cols calls replies n t (pieces ++ more) parsed' q
     ∙ ap (λ es. seen (size_of_story t) (texts es)) same
@@ -608,7 +608,7 @@ none-torn rows cols calls replies n t pieces more parsed parsed' r q same =
 pub moments-same : OneMomentShowsTheSame
 moments-same rows cols calls replies n m t u pieces others parsed parsed' e f r q is are same sure sure' = (
   sym (size-then rows cols calls replies n t pieces parsed e r is)
-      ∙ ap (λ acts. size_of (made rows cols 0 acts).shown) same
+      ∙ ap (λ acts. grid_size (made rows cols 0 acts).shown) same
       ∙ size-then rows cols calls replies m u others parsed' f q are,
   last-shown rows cols calls replies n t pieces parsed r (subst IsSure (sym is) sure)
       ∙ ap (judged rows cols) is
@@ -637,7 +637,7 @@ whole-judged rows cols calls replies n t front parsed r sure =
 pub moments-whole : OneMomentShowsTheSameWhole
 moments-whole rows cols calls replies n m t u front others parsed parsed' e f r q is are same sure sure' = (
   sym (whole-size rows cols calls replies n t front parsed e r is)
-      ∙ ap (λ acts. size_of (made rows cols 0 acts).shown) same
+      ∙ ap (λ acts. grid_size (made rows cols 0 acts).shown) same
       ∙ whole-size rows cols calls replies m u others parsed' f q are,
   whole-judged rows cols calls replies n t front parsed r (subst IsSure (sym is) sure)
       ∙ ap (judged rows cols) is

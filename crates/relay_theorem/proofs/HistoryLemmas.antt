@@ -7,13 +7,13 @@ use Rattle.std.specs.List.{AllByRecursion, list_any}
 use Rattle.std.proofs.lemmas.Bool.{eqb-true, eq-eqb}
 use Rattle.std.proofs.lemmas.List.Elements.{All-push, All-nil, recursion_from_All}
 use Rattle.terminal_model.specs.Term.{Size, Shown}
-use Rattle.vt100_core.specs.Picture.{size_of}
+use Rattle.vt100_core.specs.Picture.{grid_size}
 use Rattle.screen_model.specs.State.{State}
 use Rattle.screen_model.specs.Made.{Act, Fed, Resized, made}
 use Rattle.screen_model.specs.Holds.{IsSide, IsAct, AreActs, last_rows, last_cols}
 use Rattle.screen_model.proofs.MadeLemmas.{makes-last_size}
 use Rattle.termrelay.specs.Frame.{frame_text}
-use Rattle.termrelay.specs.Answers.{ClientState, is_frame, answer_of, after_answer}
+use Rattle.termrelay.specs.Answers.{ClientState, is_frame, answer_for, after_answer}
 use Rattle.termrelay.specs.declared.answer.Answer.{Answer}
 use Rattle.termrelay.specs.declared.call.Take.{Take}
 use Rattle.termrelay.specs.declared.call.Reply.{Reply}
@@ -64,7 +64,7 @@ sized rows cols = record { rows = rows; cols = cols }
 
 module _ (rows cols : ℕ) (acts : List Act) (h : AreActs rows cols 0 acts) where
   abbrev size_made : Size
-  size_made = size_of (made rows cols 0 acts).shown
+  size_made = grid_size (made rows cols 0 acts).shown
 
   size-is : size_made ≡ sized (last_rows rows acts) (last_cols cols acts)
   size-is =
@@ -90,7 +90,7 @@ module _ (rows cols : ℕ) (acts : List Act) (h : AreActs rows cols 0 acts) wher
   }
 
 size-fed : (rows cols : ℕ) (acts : List Act) (bytes : List ℕ) → AreActs rows cols 0 acts
-    → size_of (made rows cols 0 (acts ++ Fed bytes ∷ [])).shown ≡ size_of (made rows cols 0 acts).shown
+    → grid_size (made rows cols 0 (acts ++ Fed bytes ∷ [])).shown ≡ grid_size (made rows cols 0 acts).shown
 size-fed rows cols acts bytes h =
     let high = fed-rows rows acts bytes in
     let wide = fed-cols cols acts bytes in
@@ -125,7 +125,7 @@ module _ (rows cols : ℕ) where
 -- ---- a session after a call on it
 
 pub none-owed : (s : State) (base : Option Shown) (owed : List ℕ)
-    → is_frame (answer_of s (record { owed = owed; base = base })) ≡ true → owed ≡ []
+    → is_frame (answer_for s (record { owed = owed; base = base })) ≡ true → owed ≡ []
 none-owed s base [] h = refl
 none-owed s base (x ∷ owed) h = absurd (let no : false ≡ true = h in cc)
 
@@ -182,7 +182,7 @@ put-at h key slot t is = ap (λ k. with_client h.clients key slot k) is ∙ at-k
 
 answered-in : (h : HubState as_told) (key : ℕ) (c : ClientState) (answer : Answer) (t : Story)
     → AreActs h.parser.rows h.parser.cols 0 h.parser.acts → h.clients key ≡ Some c
-    → answer ≡ answer_of (screen_in h).state c → IsIn h t → is_on key t ≡ true
+    → answer ≡ answer_for (screen_in h).state c → IsIn h t → is_on key t ≡ true
     → IsIn (put h key (Some (after_answer (size_in h) (shown_in h) c answer)))
     (with_entries (entries_of h (Some c) answer) t)
 answered-in h key c answer t acts at is k on =

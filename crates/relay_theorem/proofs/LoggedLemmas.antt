@@ -9,7 +9,7 @@ use Rattle.termrelay.specs.Hub.{HubState, as_kept}
 use Rattle.termrelay.specs.Log.{SessionView, LogView}
 use Rattle.relay_theorem.specs.History.{as_told, Story, fresh, size_of_session, RunsTold}
 use Rattle.relay_theorem.specs.Laws.{IsSession}
-use Rattle.relay_theorem.specs.Headline.{Reads}
+use Rattle.relay_theorem.specs.Headline.{ReadsSession}
 use Rattle.relay_theorem.specs.Serves.{Matches}
 use Rattle.relay_theorem.specs.Logged.{IsLogged, HasStory, EachLoggedReadIsARead, LoggedFramesAreShown}
 use Rattle.relay_theorem.specs.Logged.{WholeLoggedFramesAreShown}
@@ -42,7 +42,7 @@ IsHistory rows cols calls replies g ss =
 
 abbrev IsRead : ℕ → ℕ → List Call → LogView → ℕ → SessionView → List (List ℕ) → List ℕ → Type 0
 IsRead rows cols calls l n s pieces parsed =
-    (t : Story) × HasStory rows cols calls l n s t × Reads rows cols calls l.replies n t pieces parsed
+    (t : Story) × HasStory rows cols calls l n s t × ReadsSession rows cols calls l.replies n t pieces parsed
 
 abbrev IsTold : ℕ → ℕ → List Call → LogView → ℕ → SessionView → Type 0
 IsTold rows cols calls l n s = (t : Story) × HasStory rows cols calls l n s t

@@ -6,12 +6,12 @@ use Rattle.std.specs.Prelude.{◌==◌, slice_get}
 use Rattle.std.specs.declared.io.Error.{Error}
 use Rattle.std.proofs.lemmas.Bool.{eqb-true, eq-eqb}
 use Rattle.takers.specs.Pump.{Pumps}
-use Rattle.vt100_core.specs.Picture.{size_of}
+use Rattle.vt100_core.specs.Picture.{grid_size}
 use Rattle.screen_model.specs.Made.{Act, Fed, Resized, made}
 use Rattle.screen_model.specs.Shown.{shown_state}
 use Rattle.screen_model.specs.Holds.{IsSide, IsAct}
 use Rattle.termrelay.specs.Frame.{frame_text}
-use Rattle.termrelay.specs.Answers.{ClientState, is_frame, answer_of, after_answer}
+use Rattle.termrelay.specs.Answers.{ClientState, is_frame, answer_for, after_answer}
 use Rattle.termrelay.specs.declared.answer.Answer.{Answer}
 use Rattle.termrelay.specs.declared.call.Take.{Take}
 use Rattle.termrelay.specs.declared.call.Reply.{Reply}
@@ -95,25 +95,25 @@ module _ (rows cols : ℕ) where
   born acts = record {
     acts = acts;
     client = new_client;
-    rows = (size_of (made rows cols 0 acts).shown).rows;
-    cols = (size_of (made rows cols 0 acts).shown).cols;
+    rows = (grid_size (made rows cols 0 acts).shown).rows;
+    cols = (grid_size (made rows cols 0 acts).shown).cols;
     pumped = [];
     entries = [];
   }
 
   abbrev pub answer_now : Life → Answer
-  answer_now l = answer_of (made rows cols 0 l.acts) l.client
+  answer_now l = answer_for (made rows cols 0 l.acts) l.client
 
   abbrev pub client_by : Life → Answer → ClientState
   client_by l answer =
-      after_answer (size_of (made rows cols 0 l.acts).shown) (shown_state (made rows cols 0 l.acts)) l.client answer
+      after_answer (grid_size (made rows cols 0 l.acts).shown) (shown_state (made rows cols 0 l.acts)) l.client answer
 
   abbrev pub entry_by : Life → Answer → Entry
   entry_by l answer = record {
     moment = l.acts;
     answer = answer;
     text = if is_frame answer
-        then frame_text (size_of (made rows cols 0 l.acts).shown) l.client.base (shown_state (made rows cols 0 l.acts))
+        then frame_text (grid_size (made rows cols 0 l.acts).shown) l.client.base (shown_state (made rows cols 0 l.acts))
         else [];
   }
 

@@ -7,7 +7,7 @@ use Rattle.std.specs.List.{list_any}
 use Rattle.std.proofs.lemmas.Bool.{eqb-true}
 use Rattle.std.proofs.lemmas.Bool.Decides.{nat_tests}
 use Rattle.std.proofs.lemmas.List.{length-map}
-use Rattle.vt100_core.specs.Picture.{size_of}
+use Rattle.vt100_core.specs.Picture.{grid_size}
 use Rattle.screen_model.specs.Made.{Act, Fed, Resized, made}
 use Rattle.screen_model.specs.Holds.{IsSide}
 use Rattle.termrelay.specs.Answers.{ClientState}
@@ -313,8 +313,8 @@ module _ (rows cols : ℕ) where
         ap (λ (p : Past). record {
           session = record {
             client = key;
-            rows = (size_of (made p.rows p.cols 0 p.acts).shown).rows;
-            cols = (size_of (made p.rows p.cols 0 p.acts).shown).cols;
+            rows = (grid_size (made p.rows p.cols 0 p.acts).shown).rows;
+            cols = (grid_size (made p.rows p.cols 0 p.acts).shown).cols;
             pumped = [];
             ended = false;
           };

@@ -2,9 +2,9 @@
 use Rattle.std.proofs.Common.{◌≡◌, ℕ, false, List, subst, Option, Some, None}
 use Rattle.vt100_forms.specs.Attrs.{IsProper}
 use Rattle.terminal_model.specs.Term.{Size, Shown}
-use Rattle.screen_drawing.specs.Laws.{IsScreen, IsKnown}
+use Rattle.screen_drawing.specs.Laws.{IsDrawableScreen, IsKnown}
 use Rattle.screen_drawing.specs.Length.{IsSmallScreen}
-use Rattle.vt100_core.specs.Picture.{size_of}
+use Rattle.vt100_core.specs.Picture.{grid_size}
 use Rattle.screen_model.specs.Shown.{shown_state}
 use Rattle.screen_model.specs.Made.{Act, made}
 use Rattle.screen_model.specs.Holds.{IsSide, AreActs}
@@ -23,7 +23,7 @@ pub record IsShot (z : Size) (s : Shown) : Type 0 where
   pub attrs : IsProper s.attrs
 
 pub shot-made : (rows cols : ℕ) (acts : List Act) (z : Size) → AreActs rows cols 0 acts → IsSide z.rows → IsSide z.cols
-    → size_of (made rows cols 0 acts).shown ≡ z → IsShot z (shown_state (made rows cols 0 acts))
+    → grid_size (made rows cols 0 acts).shown ≡ z → IsShot z (shown_state (made rows cols 0 acts))
 shot-made rows cols acts z h height width size =
     let s = made rows cols 0 acts in
     let is : IsUnscrolled s = record {
@@ -38,7 +38,7 @@ shot-made rows cols acts z h height width size =
     }
 
 -- where no cell has U+FE0F, it can be drawn
-pub shot-screen : (z : Size) (s : Shown) → IsShot z s → is_unsure z s ≡ false → IsScreen z s
+pub shot-screen : (z : Size) (s : Shown) → IsShot z s → is_unsure z s ≡ false → IsDrawableScreen z s
 shot-screen z s h sure = record {
   drawable = record {
     shown = h.small.shown;

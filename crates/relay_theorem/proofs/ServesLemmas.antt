@@ -6,14 +6,14 @@ use Rattle.std.specs.Prelude.{◌==◌}
 use Rattle.std.proofs.lemmas.Bool.Decides.{nat_tests}
 use Rattle.std.proofs.lemmas.List.{map-append}
 use Rattle.std.specs.declared.io.Error.{Error}
-use Rattle.vt100_core.specs.Picture.{size_of}
+use Rattle.vt100_core.specs.Picture.{grid_size}
 use Rattle.screen_model.specs.Call.{ScreenView}
 use Rattle.screen_model.specs.Shown.{shown_state}
 use Rattle.screen_model.specs.Made.{Fed, Resized, bytes_fed, events_added, made}
 use Rattle.vt100.specs.Memory.{some_may_take}
-use Rattle.vt100.specs.Parsing.{ParserView, HasRead, StandsAt}
+use Rattle.vt100.specs.Parsing.{ParserView, HasRead, ParserStandsAt}
 use Rattle.takers.specs.Pump.{Pumps, all, nothing, fault, some}
-use Rattle.termrelay.specs.Answers.{ClientState, answer_of, after_answer, may_take_memory}
+use Rattle.termrelay.specs.Answers.{ClientState, answer_for, after_answer, may_take_memory}
 use Rattle.termrelay.specs.Hub.{Telling, HubState, as_kept, is_failed, screen_in, clients_in}
 use Rattle.termrelay.specs.Hub.{with_client, new_client, no_clients, Puts, IsNewHub, Feeds, Resizes, Attaches}
 use Rattle.termrelay.specs.Hub.{DetachesFrom, CanFrame, Framed, pump_answer, PumpsFrom}
@@ -63,7 +63,7 @@ module _ (h : HubState as_kept) (u : HubState as_told) (m : Matches h u) where
       → Matches g (put u key slot)
   put-matches key slot g puts = record {
     failed = ap (λ (p : ParserView (Unit {0})). p.screen.failed) puts.0 ∙ m.failed;
-    parser = λ e. subst (λ p. StandsAt p u.parser.rows u.parser.cols 0 u.parser.acts) (sym puts.0) (m.parser e);
+    parser = λ e. subst (λ p. ParserStandsAt p u.parser.rows u.parser.cols 0 u.parser.acts) (sym puts.0) (m.parser e);
     clients = puts.1 ∙ ap (λ clients. with_client clients key slot) m.clients;
   }
 
@@ -151,15 +151,15 @@ module _ (h : HubState as_kept) (u : HubState as_told) (m : Matches h u) where
   frame-follows key (Some c) (Ok answer) g can f =
       let on = live can.0 in
       let same = screen-now on in
-      let after = λ (v : ScreenView). after_answer (size_of v.state.shown) (shown_state v.state) c answer in (
+      let after = λ (v : ScreenView). after_answer (grid_size v.state.shown) (shown_state v.state) c answer in (
         put u key (Some (after (screen_in u))),
-        ((on, can.1 ∙ ap (λ (v : ScreenView). answer_of v.state c) same), (refl, refl)),
+        ((on, can.1 ∙ ap (λ (v : ScreenView). answer_for v.state c) same), (refl, refl)),
         put-matches key (Some (after (screen_in u))) g
             (f.0, f.1 ∙ ap (λ v. with_client (clients_in h) key (Some (after v))) same),
       )
   frame-follows key (Some c) (Err hub.Memory) g can f =
       let on = live can.0 in
-      let due = ap (λ (v : ScreenView). may_take_memory (answer_of v.state c)) (sym (screen-now on)) ∙ can.1 in
+      let due = ap (λ (v : ScreenView). may_take_memory (answer_for v.state c)) (sym (screen-now on)) ∙ can.1 in
       (u, ((on, due), refl), unchanged-matches g f)
   frame-follows key (Some c) (Err hub.Failed) g can f = (u, (dead can, refl), unchanged-matches g f)
   frame-follows key (Some c) (Err hub.UnknownClient) g can f = absurd can
@@ -219,8 +219,8 @@ module _ (h : HubState as_kept) (u : HubState as_told) (m : Matches h u) where
   same-begun key e =
       ap (λ (v : ScreenView). record {
         client = key;
-        rows = (size_of v.state.shown).rows;
-        cols = (size_of v.state.shown).cols;
+        rows = (grid_size v.state.shown).rows;
+        cols = (grid_size v.state.shown).cols;
         pumped = [];
         ended = false;
       }) (sym (screen-now (live e)))

@@ -22,8 +22,8 @@ EachTextIsAFrame = (rows cols : ℕ) (calls : List Call) (replies : List Reply) 
 -- Frames that come whole, in whatever pieces and wherever an update is stopped by hand: a new view of the session's
 -- size, which these moves lead to what is parsed and held, shows what the judge says of the last one, unless that
 -- wasn't sure; and nothing is held.
-abbrev pub WholeFramesAreShown : Type 0
-WholeFramesAreShown = (rows cols : ℕ) (calls : List Call) (replies : List Reply) (n : ℕ) (t : Story)
+abbrev pub WholeSessionsAreShown : Type 0
+WholeSessionsAreShown = (rows cols : ℕ) (calls : List Call) (replies : List Reply) (n : ℕ) (t : Story)
     (front back : List Entry) (moves : List Move) (parsed : List ℕ) (hold : Option (List ℕ))
     → IsSession rows cols calls replies n t → t.entries ≡ front ++ back → given moves ≡ texts front
     → Leads moves [] None parsed hold
@@ -32,7 +32,7 @@ WholeFramesAreShown = (rows cols : ℕ) (calls : List Call) (replies : List Repl
 
 -- A new view of a session's size has parsed so much of these pieces, which are a beginning of what was pumped to the
 -- session.
-pub record Reads (rows cols : ℕ) (calls : List Call) (replies : List Reply) (n : ℕ) (t : Story)
+pub record ReadsSession (rows cols : ℕ) (calls : List Call) (replies : List Reply) (n : ℕ) (t : Story)
     (pieces : List (List ℕ)) (parsed : List ℕ) : Type 0 where
   pub session : IsSession rows cols calls replies n t
   pub beyond : List ℕ
@@ -47,7 +47,7 @@ last_read t pieces = last_whole None t.entries (length (concat pieces))
 -- in whatever pieces they come, the view shows what the judge says of that frame, unless it wasn't sure
 abbrev pub LastWholeFrameIsShown : Type 0
 LastWholeFrameIsShown = (rows cols : ℕ) (calls : List Call) (replies : List Reply) (n : ℕ) (t : Story)
-    (pieces : List (List ℕ)) (parsed : List ℕ) → Reads rows cols calls replies n t pieces parsed
+    (pieces : List (List ℕ)) (parsed : List ℕ) → ReadsSession rows cols calls replies n t pieces parsed
     → IsSure (last_read t pieces) → shown_of (seen (size_of_story t) parsed) ≡ judged rows cols (last_read t pieces)
 
 -- the entries that lie wholly in the pieces
@@ -55,17 +55,17 @@ abbrev pub whole_read : Story → List (List ℕ) → List Entry
 whole_read t pieces = whole_in t.entries (length (concat pieces))
 
 -- A view that reads more, but no whole frame more, shows the same; also where the last one wasn't sure.
-abbrev pub NoFrameIsTorn : Type 0
-NoFrameIsTorn = (rows cols : ℕ) (calls : List Call) (replies : List Reply) (n : ℕ) (t : Story)
-    (pieces more : List (List ℕ)) (parsed parsed' : List ℕ) → Reads rows cols calls replies n t pieces parsed
-    → Reads rows cols calls replies n t (pieces ++ more) parsed' → whole_read t (pieces ++ more) ≡ whole_read t pieces
+abbrev pub NoSessionIsTorn : Type 0
+NoSessionIsTorn = (rows cols : ℕ) (calls : List Call) (replies : List Reply) (n : ℕ) (t : Story)
+    (pieces more : List (List ℕ)) (parsed parsed' : List ℕ) → ReadsSession rows cols calls replies n t pieces parsed
+    → ReadsSession rows cols calls replies n t (pieces ++ more) parsed' → whole_read t (pieces ++ more) ≡ whole_read t pieces
     → shown_of (seen (size_of_story t) parsed') ≡ shown_of (seen (size_of_story t) parsed)
 
 -- Views of two sessions whose last whole frames were taken at one moment show the same.
 abbrev pub OneMomentShowsTheSame : Type 0
 OneMomentShowsTheSame = (rows cols : ℕ) (calls : List Call) (replies : List Reply) (n m : ℕ) (t u : Story)
     (pieces others : List (List ℕ)) (parsed parsed' : List ℕ) (e f : Entry)
-    → Reads rows cols calls replies n t pieces parsed → Reads rows cols calls replies m u others parsed'
+    → ReadsSession rows cols calls replies n t pieces parsed → ReadsSession rows cols calls replies m u others parsed'
     → last_read t pieces ≡ Some e → last_read u others ≡ Some f → e.moment ≡ f.moment
     → (e.answer ≡ Unsure → ⊥) → (f.answer ≡ Unsure → ⊥)
     → (size_of_story t ≡ size_of_story u)

@@ -1,7 +1,7 @@
 -- What a far terminal should show, judged by the history of its session alone.
 use Rattle.std.specs.Prelude.{◌≡◌, ℕ, ◌-◌, nat_le, List, [], ◌∷◌, ◌++◌, length, Option, Some, None, if◌then◌else◌}
 use Rattle.terminal_model.specs.Term.{Size, Shown, blank_shown}
-use Rattle.vt100_core.specs.Picture.{size_of}
+use Rattle.vt100_core.specs.Picture.{grid_size}
 use Rattle.screen_model.specs.State.{State}
 use Rattle.screen_model.specs.Shown.{shown_state}
 use Rattle.screen_model.specs.Made.{made}
@@ -14,7 +14,7 @@ abbrev pub state_at : ℕ → ℕ → Entry → State
 state_at rows cols e = made rows cols 0 e.moment
 
 abbrev pub size_at : ℕ → ℕ → Entry → Size
-size_at rows cols e = size_of (state_at rows cols e).shown
+size_at rows cols e = grid_size (state_at rows cols e).shown
 
 abbrev pub shown_at : ℕ → ℕ → Entry → Shown
 shown_at rows cols e = shown_state (state_at rows cols e)

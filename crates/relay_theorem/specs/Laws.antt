@@ -5,7 +5,7 @@ use Rattle.std.specs.List.{list_any}
 use Rattle.terminal_model.specs.Term.{Size, Shown}
 use Rattle.screen_model.specs.Holds.{IsSide, AreActs}
 use Rattle.termrelay.specs.Frame.{frame_text}
-use Rattle.termrelay.specs.Answers.{ClientState, is_frame, answer_of}
+use Rattle.termrelay.specs.Answers.{ClientState, is_frame, answer_for}
 use Rattle.termrelay.specs.Hub.{HubState, clients_in}
 use Rattle.termrelay.specs.Calls.{Call}
 use Rattle.termrelay.specs.declared.call.Reply.{Reply}
@@ -31,7 +31,7 @@ pub record IsAnswered (rows cols : ℕ) (z : Size) (base : Option Shown) (e : En
   pub acts : AreActs rows cols 0 e.moment
   pub size : size_at rows cols e ≡ z
   pub owed : List ℕ
-  pub answer : e.answer ≡ answer_of (state_at rows cols e) (record { owed = owed; base = base })
+  pub answer : e.answer ≡ answer_for (state_at rows cols e) (record { owed = owed; base = base })
   pub text : e.text ≡ (if is_frame e.answer then frame_text z base (shown_at rows cols e) else [])
 
 -- one after another: each frame leads on from the one before it

@@ -12,7 +12,7 @@ use Rattle.termview.specs.Seen.{seen}
 use Rattle.relay_theorem.specs.History.{Entry, Story, size_of_session}
 use Rattle.relay_theorem.specs.Judge.{texts, last_frame, judged, IsSure}
 use Rattle.relay_theorem.specs.Laws.{IsSession}
-use Rattle.relay_theorem.specs.Headline.{Reads, last_read}
+use Rattle.relay_theorem.specs.Headline.{ReadsSession, last_read}
 
 -- a run on a new hub with an empty log has made these calls and left this log, of which this is the n-th session
 pub record IsLogged (rows cols : ℕ) (calls : List Call) (l : LogView) (n : ℕ) (s : SessionView) : Type 0 where
@@ -43,7 +43,7 @@ pub record HasStory (rows cols : ℕ) (calls : List Call) (l : LogView) (n : ℕ
 abbrev pub EachLoggedReadIsARead : Type 0
 EachLoggedReadIsARead = (rows cols : ℕ) (calls : List Call) (l : LogView) (n : ℕ) (s : SessionView)
     (pieces : List (List ℕ)) (parsed : List ℕ) → ReadsLog rows cols calls l n s pieces parsed
-    → (t : Story) × HasStory rows cols calls l n s t × Reads rows cols calls l.replies n t pieces parsed
+    → (t : Story) × HasStory rows cols calls l n s t × ReadsSession rows cols calls l.replies n t pieces parsed
 
 -- The view shows what the judge says of the last frame that lies wholly in the pieces, unless that one wasn't sure.
 abbrev pub LoggedFramesAreShown : Type 0

@@ -1,7 +1,7 @@
 -- The calls of a hub, and the logs of their runs, as a history tells them.
 use Rattle.std.specs.Prelude.{◌≡◌, ℕ, ◌==◌, Bool, true, false, List, [], map, length, drop, Some, Result}
 use Rattle.std.specs.declared.io.Error.{Error}
-use Rattle.vt100.specs.Parsing.{StandsAt}
+use Rattle.vt100.specs.Parsing.{ParserStandsAt}
 use Rattle.termrelay.specs.Answers.{ClientState}
 use Rattle.termrelay.specs.Hub.{Telling, HubState, as_kept, is_failed, clients_in, IsNewHub, PumpsClient}
 use Rattle.termrelay.specs.Calls.{Call, Pump, taken_by, done, Serves, Runs}
@@ -39,7 +39,7 @@ EachPumpIsServed {S} step = (h g : HubState as_kept) (key : ℕ) (s t : S) (resu
 -- led; and the same client is at each key.
 pub record Matches (h : HubState as_kept) (u : HubState as_told) : Type 0 where
   pub failed : is_failed h ≡ is_failed u
-  pub parser : is_failed u ≡ false → StandsAt h.parser u.parser.rows u.parser.cols 0 u.parser.acts
+  pub parser : is_failed u ≡ false → ParserStandsAt h.parser u.parser.rows u.parser.cols 0 u.parser.acts
   pub clients : clients_in h ≡ clients_in u
 
 -- whatever calls a new hub gets

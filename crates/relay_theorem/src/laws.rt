@@ -4,7 +4,7 @@ ghost use Rattle.relay_theorem.specs.Bounds.{EachSessionIsBounded, EachFrameFits
 ghost use Rattle.relay_theorem.specs.Examples.{EachExampleIsTold};
 ghost use Rattle.relay_theorem.specs.History.{as_told};
 ghost use Rattle.relay_theorem.specs.Laws.{EachSessionIsTold, EachClientHasASession};
-ghost use Rattle.relay_theorem.specs.Headline.{EachTextIsAFrame, WholeFramesAreShown, LastWholeFrameIsShown, NoFrameIsTorn};
+ghost use Rattle.relay_theorem.specs.Headline.{EachTextIsAFrame, WholeSessionsAreShown, LastWholeFrameIsShown, NoSessionIsTorn};
 ghost use Rattle.relay_theorem.specs.Headline.{OneMomentShowsTheSame, OneMomentShowsTheSameWhole};
 ghost use Rattle.relay_theorem.specs.Serves.{EachPumpTakesAsTold, EachPumpIsServed, EachRunHasAHistory, EachLogHasAHistory};
 ghost use Rattle.relay_theorem.specs.Serves.{EachHistoryIsOne};
@@ -31,7 +31,7 @@ pub fn texts_are_frames()
 /// hand: a new view of the session's size shows what the program's bytes and the resizes had made at the last one's
 /// moment, unless that screen showed U+FE0F. Nothing is held after them.
 pub fn whole_frames_are_shown()
-    ensures { WholeFramesAreShown }
+    ensures { WholeSessionsAreShown }
 {}
 
 /// Whatever beginning of a session's bytes a new view of its size reads, in whatever pieces, it shows what the
@@ -44,7 +44,7 @@ pub fn last_whole_frames_are_shown()
 /// A view that reads more of the bytes, but no whole frame more, goes on showing the same: no frame is shown in part.
 /// So also where the last whole frame showed U+FE0F.
 pub fn no_frame_is_torn()
-    ensures { NoFrameIsTorn }
+    ensures { NoSessionIsTorn }
 {}
 
 /// Views of two sessions whose last whole frames were taken at one moment show the same, unless their screen showed

@@ -7,7 +7,7 @@ use Rattle.vt100_forms.specs.Form.{spell}
 use Rattle.vt100_cells.specs.Cell.{CellView, has_text}
 use Rattle.row_drawing.specs.declared.pen.Pen.{Pen}
 use Rattle.row_drawing.specs.Writer.{Drawn, Writer, ◌>>◌, skip, goto, colour, print, erasing}
-use Rattle.row_drawing.specs.RowWriter.{Job, last_col, unflag, print_last, mend, owes_end, closing}
+use Rattle.row_drawing.specs.RowWriter.{Job, last_col_of, unflag, print_last, mend, owes_end, closing}
 use Rattle.row_drawing.specs.Writes.{IsBegun, Wrote}
 use Rattle.row_drawing.proofs.WritesLemmas.{wrote_then, begun_first, begun_then, wrote_as, begun_as, wrote_skip}
 use Rattle.row_drawing.proofs.RowEnd.{print-last_is, print-last_none, unflag-full, unflag-empty, mend-wraps, mend-ends}
@@ -145,27 +145,27 @@ begun_mend_print j x p s q t u h v b =
 pub wrote_closing_none : (j : Job) (p : Pen) (s : List ℕ) → owes_end j p ≡ false → Wrote (closing j) p s p s
 wrote_closing_none j p s h = wrote_as skip (closing j) p s p s (closing-none j p h) (wrote_skip p s)
 
-closing_as : (j : Job) (p : Pen) (c : ℕ) (x : CellView) → owes_end j p ≡ true → c ≡ last_col j → x ≡ j.new c
+closing_as : (j : Job) (p : Pen) (c : ℕ) (x : CellView) → owes_end j p ≡ true → c ≡ last_col_of j → x ≡ j.new c
     → closing j p ≡ (goto j.row c >> mend j x) p
 closing_as j p c x h e is =
     closing-some j p h ∙ ap (λ k. (goto j.row k >> mend j (j.new k)) p) (sym e)
     ∙ ap (λ y. (goto j.row c >> mend j y) p) (sym is)
 
 pub wrote_closing : (j : Job) (p : Pen) (s : List ℕ) (c : ℕ) (x : CellView) (q : Pen) (t : List ℕ) (r : Pen)
-    (u : List ℕ) → owes_end j p ≡ true → c ≡ last_col j → x ≡ j.new c → Wrote (goto j.row c) p s q t
+    (u : List ℕ) → owes_end j p ≡ true → c ≡ last_col_of j → x ≡ j.new c → Wrote (goto j.row c) p s q t
     → Wrote (mend j x) q t r u → Wrote (closing j) p s r u
 wrote_closing j p s c x q t r u h e is v w =
     wrote_as (goto j.row c >> mend j x) (closing j) p s r u (closing_as j p c x h e is)
     (wrote_then _ _ _ _ _ _ _ _ v w)
 
 pub begun_closing_goto : (j : Job) (p : Pen) (s : List ℕ) (c : ℕ) (t : List ℕ) → owes_end j p ≡ true
-    → c ≡ last_col j → IsBegun s (spell (goto j.row c p).forms) t → IsBegun s (spell (closing j p).forms) t
+    → c ≡ last_col_of j → IsBegun s (spell (goto j.row c p).forms) t → IsBegun s (spell (closing j p).forms) t
 begun_closing_goto j p s c t h e b =
     begun_as (goto j.row c >> mend j (j.new c)) (closing j) p s t (closing_as j p c (j.new c) h e refl)
     (begun_first (goto j.row c) (mend j (j.new c)) p s t b)
 
 pub begun_closing_mend : (j : Job) (p : Pen) (s : List ℕ) (c : ℕ) (x : CellView) (q : Pen) (t u : List ℕ)
-    → owes_end j p ≡ true → c ≡ last_col j → x ≡ j.new c → Wrote (goto j.row c) p s q t
+    → owes_end j p ≡ true → c ≡ last_col_of j → x ≡ j.new c → Wrote (goto j.row c) p s q t
     → IsBegun t (spell (mend j x q).forms) u → IsBegun s (spell (closing j p).forms) u
 begun_closing_mend j p s c x q t u h e is v b =
     begun_as (goto j.row c >> mend j x) (closing j) p s u (closing_as j p c x h e is)
@@ -176,8 +176,8 @@ pub gone_col : (row col : ℕ) (p : Pen) (s : List ℕ) (q : Pen) (t : List ℕ)
 gone_col row col p s q t w = col_of (goto row col) p s q t col (goto-col row col p) w
 
 -- the last cell stands in the row
-pub last_inside : (j : Job) (c : ℕ) → 0 < j.cols → c ≡ last_col j → c < j.cols
+pub last_inside : (j : Job) (c : ℕ) → 0 < j.cols → c ≡ last_col_of j → c < j.cols
 last_inside j c some e =
-    let inside : last_col j < j.cols = cond_both (j.new (j.cols - 1)).continuation (j.cols - 2) (j.cols - 1)
+    let inside : last_col_of j < j.cols = cond_both (j.new (j.cols - 1)).continuation (j.cols - 2) (j.cols - 1)
     (λ n. n < j.cols) (λ _. omega (arith, some)) (λ _. omega (arith, some)) in
     omega (arith, e, inside)

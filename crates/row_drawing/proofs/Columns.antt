@@ -20,7 +20,7 @@ use Rattle.row_drawing.specs.Writer.{Drawn, Writer, ◌>>◌, skip, goto, turn, 
 use Rattle.row_drawing.specs.Writer.{clearing, marking}
 use Rattle.row_drawing.specs.RowWriter.{Job, is_same, wraps, to_erase, is_end, flush_of, flush}
 use Rattle.row_drawing.specs.RowWriter.{arrive, mark_of, mark, draw, column, columns}
-use Rattle.row_drawing.specs.Scene.{Scene, IsScene, size_of, with_row, flags_above}
+use Rattle.row_drawing.specs.Scene.{Scene, IsScene, scene_size, with_row, flags_above}
 use Rattle.row_drawing.proofs.Lines.{Line, line-narrow, line-wide, line-erased, line-spaced, spaced-half}
 use Rattle.row_drawing.proofs.Lines.{line-same, line-same_wide}
 use Rattle.row_drawing.proofs.Steps.{Takes, takes-then, takes-as, takes-to, takes-skip, pen, takes-goto}
@@ -78,7 +78,7 @@ pub record Arrives (s : Scene) (e : Erase) (p : Pen) (t : Term) : Type 0 where
   pub line : ℕ → CellView
   pub flags : ℕ → Bool
   pub kept : Flags flags (flags_above s) s.job.row p.lost
-  pub takes : Takes (size_of s) (to_erase s.job e) p t (pen s.job.row e.from e.attrs (Some e) p.lost)
+  pub takes : Takes (scene_size s) (to_erase s.job e) p t (pen s.job.row e.from e.attrs (Some e) p.lost)
       (with_row s line flags s.job.row e.from e.attrs)
   pub lines : (m : ℕ) → e.from < m → ((k : ℕ) → e.from ≤ k → k < m → s.job.new k ≡ empty_cell e.attrs)
       → Line s.job.old s.job.new m (wiped line e.from m e.attrs)
@@ -101,7 +101,7 @@ pub arrives : (s : Scene) (F : ℕ → Bool) (f : ℕ → CellView) (r k : ℕ) 
 arrives s F f r k a e lost h ha he inside l standing =
     let j = s.job in
     let p = pen r k a (Some e) lost in
-    let z = size_of s in
+    let z = scene_size s in
     let t = with_row s f F r k a in
     elim (cases_Bool (wraps j 1 p && (e.from == 0))) [
       | inr stays ↦ record {
@@ -156,7 +156,7 @@ pub record Erased (s : Scene) (g : Writer) (p : Pen) (t : Term) (e : Erase) (n :
   pub line : ℕ → CellView
   pub flags : ℕ → Bool
   pub kept : Flags flags (flags_above s) s.job.row (p.lost || b)
-  pub takes : Takes (size_of s) g p t (pen s.job.row e.from e.attrs None (p.lost || b))
+  pub takes : Takes (scene_size s) g p t (pen s.job.row e.from e.attrs None (p.lost || b))
       (with_row s line flags s.job.row e.from e.attrs)
   pub lines : Line s.job.old s.job.new n line
 
@@ -167,7 +167,7 @@ pub erases : (s : Scene) (F : ℕ → Bool) (f : ℕ → CellView) (r k : ℕ) (
     (pen r k a (Some e) lost) (with_row s f F r k a) e n (wipe_unflags s.job.cols s.job.old e.from n)
 erases s F f r k a e lost n h ha l opens up_to standing =
     let j = s.job in
-    let z = size_of s in
+    let z = scene_size s in
     let some : e.from < n = opens.0 in
     let there = arrives s F f r k a e lost h ha opens.1 (omega (arith, some)) l standing in
     let loses = wipe_unflags j.cols j.old e.from n in
@@ -193,7 +193,7 @@ pub clears : (s : Scene) (F : ℕ → Bool) (f : ℕ → CellView) (r k : ℕ) (
     → Erased s (to_erase s.job e >> clearing) (pen r k a (Some e) lost) (with_row s f F r k a) e s.job.cols true
 clears s F f r k a e lost h ha l opens standing =
     let j = s.job in
-    let z = size_of s in
+    let z = scene_size s in
     let some : e.from < j.cols = opens.0 in
     let there = arrives s F f r k a e lost h ha opens.1 some l standing in
     let b = wipe_unflags j.cols there.line e.from j.cols in
@@ -296,7 +296,7 @@ draw-closed : (s : Scene) (F : ℕ → Bool) (f : ℕ → CellView) (r k : ℕ) 
     → After s (n + 1) (draw s.job n) (pen r k a None lost) (with_row s f F r k a)
 draw-closed s F f r k a lost n h ha inside single l standing =
     let j = s.job in
-    let z = size_of s in
+    let z = scene_size s in
     let x = j.new n in
     let p = pen r k a None lost in
     let t = with_row s f F r k a in
@@ -394,11 +394,11 @@ column-at s F f r k a None lost n h ha inside single l opens standing =
     let p = pen r k a None lost in
     let t = with_row s f F r k a in
     after-then s (n + 1) (flush s.job n) (draw s.job n) p t p t
-    (takes-as (size_of s) skip (flush s.job n) p t p t (flush-none s.job n r k a lost) (takes-skip (size_of s) p t))
+    (takes-as (scene_size s) skip (flush s.job n) p t p t (flush-none s.job n r k a lost) (takes-skip (scene_size s) p t))
     (draw-closed s F f r k a lost n h ha inside single l standing)
 column-at s F f r k a (Some e) lost n h ha inside single l opens standing =
     let j = s.job in
-    let z = size_of s in
+    let z = scene_size s in
     let p = pen r k a (Some e) lost in
     let t = with_row s f F r k a in
     elim (cases_Bool (is_end (j.new n) e.attrs)) [
@@ -478,8 +478,8 @@ column-half_at s F f r k a None lost n h ha half l opens standing =
     let t = with_row s f F r k a in
     let same = half-past s n h half in
     after-takes s (n + 1) (column j n) p t p t
-    (takes-as (size_of s) skip (column j n) p t p t (column-half j n p half (not-first s n h half))
-    (takes-skip (size_of s) p t))
+    (takes-as (scene_size s) skip (column j n) p t p t (column-half j n p half (not-first s n h half))
+    (takes-skip (scene_size s) p t))
     (record {
       line = f;
       flags = F;
@@ -502,7 +502,7 @@ column-leads s n p t h inside now =
           let base = column-at s now.flags now.line p.pos.row p.pos.col p.attrs p.erase p.lost n h now.proper inside
           single l now.opens st in
           let there = subst (λ (x : Term). After s (n + 1) (flush j n >> draw j n) p x) (sym now.stands) base in
-          subst (λ (d : Drawn). At s (n + 1) d.pen (run (size_of s) d.forms t)) (sym (column-whole j n p single)) there)
+          subst (λ (d : Drawn). At s (n + 1) d.pen (run (scene_size s) d.forms t)) (sym (column-whole j n p single)) there)
       | inl half ↦ subst (λ (x : Term). After s (n + 1) (column j n) p x) (sym now.stands)
           (column-half_at s now.flags now.line p.pos.row p.pos.col p.attrs p.erase p.lost n h now.proper half now.lines
           now.opens now.standing)
@@ -515,7 +515,7 @@ columns-lead s p t h now zero le = now
 columns-lead s p t h now (suc n) le =
     let before = columns-lead s p t h now n (omega arith) in
     let q = (columns s.job n p).pen in
-    let u = run (size_of s) (columns s.job n p).forms t in
+    let u = run (scene_size s) (columns s.job n p).forms t in
     let from_start : n ≡ s.job.start + n = omega (arith, h.whole) in
     let next : n + 1 ≡ suc n = omega arith in
     let one : After s (suc n) (column s.job (s.job.start + n)) q u =

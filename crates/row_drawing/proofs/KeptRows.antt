@@ -12,7 +12,7 @@ use Rattle.row_drawing.specs.declared.pen.Pen.{Pen}
 use Rattle.row_drawing.specs.Drawing.{job_of, IsSettled}
 use Rattle.row_drawing.specs.Writer.{Drawn, Writer, ◌>>◌, skip}
 use Rattle.row_drawing.specs.RowWriter.{Job, is_same, opening, flush, finish, draw, column, columns, closing}
-use Rattle.row_drawing.specs.RowWriter.{owes_end, row_redraw, row_difference, IsKept}
+use Rattle.row_drawing.specs.RowWriter.{owes_end, row_redraw, row_difference, IsRowShown}
 use Rattle.row_drawing.specs.Writes.{IsBegun, Wrote}
 use Rattle.row_drawing.specs.Laws.{EachKeptRowIsLeft}
 use Rattle.row_drawing.proofs.Columns.{draw-is_same}
@@ -44,12 +44,12 @@ column-settled j c p closed same =
           ∙ skips-then (flush j c) (draw j c) p (flush-is_none j c p closed) (draw-is_same j c p same))
     ]
 
-column-kept : (j : Job) (c : ℕ) (p : Pen) → IsKept j p → column j c p ≡ skip p
+column-kept : (j : Job) (c : ℕ) (p : Pen) → IsRowShown j p → column j c p ≡ skip p
 column-kept j c p h =
     column-settled j c p h.closed (ap (λ (x : CellView). cell_eq (j.new c) x) (sym (h.cells c))
     ∙ cell_eq-refl (j.new c))
 
-columns-kept : (j : Job) (n : ℕ) (p : Pen) → IsKept j p → columns j n p ≡ skip p
+columns-kept : (j : Job) (n : ℕ) (p : Pen) → IsRowShown j p → columns j n p ≡ skip p
 unfolding columns
 columns-kept j zero p h = refl
 columns-kept j (suc n) p h =
@@ -65,12 +65,12 @@ and_off : (a b : Bool) → b ≡ false → (a && b) ≡ false
 and_off true b e = e
 and_off false b e = refl
 
-unowed-end : (j : Job) (p : Pen) → IsKept j p → owes_end j p ≡ false
+unowed-end : (j : Job) (p : Pen) → IsRowShown j p → owes_end j p ≡ false
 unowed-end j p h =
     ap (λ b. not b || (j.wrapped && p.lost)) (bool-same j.wrapped j.was_wrapped h.flag)
     ∙ and_off j.wrapped p.lost h.unlost
 
-redraw-kept : (j : Job) (n : ℕ) (p : Pen) → IsKept j p → row_redraw j n p ≡ skip p
+redraw-kept : (j : Job) (n : ℕ) (p : Pen) → IsRowShown j p → row_redraw j n p ≡ skip p
 unfolding row_redraw
 redraw-kept j n p h =
     skips-then (opening j >> columns j n) (finish j) p
@@ -89,7 +89,7 @@ settled-unowed true true b h = refl
 settled-unowed true false b h = absurd (false≢true (h refl))
 settled-unowed false was b h = refl
 
-pub settled_kept : (d : Drawing) (p : Pen) → IsSettled d p → IsKept (job_of d) p
+pub settled_kept : (d : Drawing) (p : Pen) → IsSettled d p → IsRowShown (job_of d) p
 settled_kept d p h = record {
   cells = λ k. ap (λ cells. cell_at cells k) h.cells;
   flag = h.flag;
@@ -98,7 +98,7 @@ settled_kept d p h = record {
   unlost = h.unlost;
 }
 
-pub wrote_difference_kept : (j : Job) (n : ℕ) (p : Pen) (s : List ℕ) → IsKept j p
+pub wrote_difference_kept : (j : Job) (n : ℕ) (p : Pen) (s : List ℕ) → IsRowShown j p
     → Wrote (row_difference j n) p s p s
 wrote_difference_kept j n p s h = wrote_as skip (row_difference j n) p s p s (difference-kept j n p h) (wrote_skip p s)
 

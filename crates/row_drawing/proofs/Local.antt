@@ -16,10 +16,10 @@ use Rattle.terminal_model.specs.Apply.{run}
 use Rattle.terminal_model.specs.Touch.{put_touches, wipe_touches, Within}
 use Rattle.row_drawing.specs.declared.pen.Pen.{Pen}
 use Rattle.row_drawing.specs.Writer.{Drawn, Writer, ◌>>◌, skip, goto, turn, colour, print, space, back, erasing}
-use Rattle.row_drawing.specs.RowWriter.{Job, is_same, wraps, owes_flag, reprint, opening, columns, finish, last_col}
-use Rattle.row_drawing.specs.RowWriter.{last_cell, unflag, print_last, mend, owes_end, closing, row_redraw}
+use Rattle.row_drawing.specs.RowWriter.{Job, is_same, wraps, owes_flag, reprint, opening, columns, finish, last_col_of}
+use Rattle.row_drawing.specs.RowWriter.{last_cell_of, unflag, print_last, mend, owes_end, closing, row_redraw}
 use Rattle.row_drawing.specs.RowWriter.{row_difference}
-use Rattle.row_drawing.specs.Scene.{Scene, IsScene, IsReady, size_of, with_row}
+use Rattle.row_drawing.specs.Scene.{Scene, IsScene, IsReady, scene_size, with_row}
 use Rattle.row_drawing.proofs.Lines.{line-begun, spaced-half}
 use Rattle.row_drawing.proofs.Steps.{Takes, takes-then, takes-as, pen, takes-goto, takes-colour}
 use Rattle.row_drawing.proofs.Steps.{takes-turn}
@@ -46,12 +46,12 @@ stays-idle S z f g p t a b =
 reprint-text_within : (s : Scene) (C : ℕ → Type 0) (S : ℕ → ℕ → Type 0) (r k : ℕ) (lost : Bool) → IsScene s
     → IsRoom s C S → C 0 → s.job.old 0 ≡ s.job.new 0 → has_text (s.job.new 0) ≡ true
     → s.job.above ≡ true → r + 1 ≡ s.job.row → s.job.cols < k + span_of (s.job.new 0)
-    → Stays S (size_of s) (reprint s.job (s.job.new 0)) (pen s.job.row 0 (s.job.new 0).attrs None lost)
+    → Stays S (scene_size s) (reprint s.job (s.job.new 0)) (pen s.job.row 0 (s.job.new 0).attrs None lost)
     (with_row s s.job.old s.flags r k (s.job.new 0).attrs)
 reprint-text_within s C S r k lost h o here same some above next over =
     let j = s.job in
     let x = j.new 0 in
-    let z = size_of s in
+    let z = scene_size s in
     let p = pen j.row 0 x.attrs None lost in
     let t = with_row s j.old s.flags r k x.attrs in
     let full : is_filled (s.cells r (j.cols - 1)) ≡ true =
@@ -77,13 +77,13 @@ reprint-text_within s C S r k lost h o here same some above next over =
 reprint-empty_within : (s : Scene) (C : ℕ → Type 0) (S : ℕ → ℕ → Type 0) (r k : ℕ) (lost : Bool) → IsScene s
     → IsRoom s C S → C 0 → has_text (s.job.new 0) ≡ false → s.job.above ≡ true → r + 1 ≡ s.job.row
     → s.job.cols < k + span_of (s.job.new 0)
-    → Stays S (size_of s) (reprint s.job (s.job.new 0)) (pen s.job.row 0 (s.job.new 0).attrs None lost)
+    → Stays S (scene_size s) (reprint s.job (s.job.new 0)) (pen s.job.row 0 (s.job.new 0).attrs None lost)
     (with_row s s.job.old s.flags r k (s.job.new 0).attrs)
 reprint-empty_within s C S r k lost h o here none above next over =
     let j = s.job in
     let x = j.new 0 in
     let a = x.attrs in
-    let z = size_of s in
+    let z = scene_size s in
     let p = pen j.row 0 a None lost in
     let t = with_row s j.old s.flags r k a in
     let is : x ≡ empty_cell a = empty-is x (h.cells 0) none h.new.paired.first in
@@ -120,10 +120,10 @@ reprint-empty_within s C S r k lost h o here none above next over =
 
 opening-at_within : (s : Scene) (C : ℕ → Type 0) (S : ℕ → ℕ → Type 0) (r k : ℕ) (a : Attrs) (lost : Bool)
     → IsScene s → IsProper a → IsRoom s C S → (owes_flag s.job (pen r k a None lost) ≡ true → C 0)
-    → Stays S (size_of s) (opening s.job) (pen r k a None lost) (with_row s s.job.old s.flags r k a)
+    → Stays S (scene_size s) (opening s.job) (pen r k a None lost) (with_row s s.job.old s.flags r k a)
 opening-at_within s C S r k a lost h ha o first =
     let j = s.job in
-    let z = size_of s in
+    let z = scene_size s in
     let p = pen r k a None lost in
     let t = with_row s j.old s.flags r k a in
     let x = j.new 0 in
@@ -156,11 +156,11 @@ opening-at_within s C S r k a lost h ha o first =
 
 opening-within : (s : Scene) (C : ℕ → Type 0) (S : ℕ → ℕ → Type 0) (p : Pen) → IsScene s → IsReady s p → IsRoom s C S
     → (owes_flag s.job p ≡ true → C 0)
-    → Stays S (size_of s) (opening s.job) p (with_row s s.job.old s.flags p.pos.row p.pos.col p.attrs)
+    → Stays S (scene_size s) (opening s.job) p (with_row s s.job.old s.flags p.pos.row p.pos.col p.attrs)
 opening-within s C S p h ready o first =
     let t = with_row s s.job.old s.flags p.pos.row p.pos.col p.attrs in
     let base = opening-at_within s C S p.pos.row p.pos.col p.attrs p.lost h ready.proper o first in
-    subst (λ e. Stays S (size_of s) (opening s.job) (pen p.pos.row p.pos.col p.attrs e p.lost) t) (sym ready.closed)
+    subst (λ e. Stays S (scene_size s) (opening s.job) (pen p.pos.row p.pos.col p.attrs e p.lost) t) (sym ready.closed)
     base
 
 -- nothing waits to be erased after it
@@ -193,26 +193,26 @@ or-later false b h = h
 
 -- its columns may be touched
 record IsEndRoom (s : Scene) (S : ℕ → ℕ → Type 0) : Type 0 where
-  here : S s.job.row (last_col s.job)
-  next : (last_cell s.job).wide ≡ true → S s.job.row (last_col s.job + 1)
+  here : S s.job.row (last_col_of s.job)
+  next : (last_cell_of s.job).wide ≡ true → S s.job.row (last_col_of s.job + 1)
 
 end-room : (s : Scene) (C : ℕ → Type 0) (S : ℕ → ℕ → Type 0) → IsScene s → IsRoom s C S → C (s.job.cols - 1)
     → IsEndRoom s S
 end-room s C S h o last =
     let j = s.job in
-    let c = last_col j in
+    let c = last_col_of j in
     let l = last-is s h in
     let end : j.cols - 1 < j.cols = omega (arith, h.some_col) in
-    elim (cases_Bool (last_cell j).wide) [
+    elim (cases_Bool (last_cell_of j).wide) [
       | inr narrow ↦
-          (let one = span-narrow (last_cell j) narrow in
+          (let one = span-narrow (last_cell_of j) narrow in
           let is : j.cols - 1 ≡ c = omega (arith, one, l.up_to) in
           record {
             here = subst (S j.row) is (o.close (j.cols - 1) end last);
-            next = λ wide. absurd (both_ways (last_cell j).wide narrow wide);
+            next = λ wide. absurd (both_ways (last_cell_of j).wide narrow wide);
           })
       | inl wide ↦
-          (let two = span-wide (last_cell j) wide in
+          (let two = span-wide (last_cell_of j) wide in
           let is : j.cols - 1 ≡ c + 1 = omega (arith, two, l.up_to) in
           let half : (j.new (c + 1)).continuation ≡ true = h.new.paired.next c ∙ wide in
           record {
@@ -224,8 +224,8 @@ end-room s C S h o last =
 
 -- the line shows nothing wide directly left of the last cell, and there at most what is wide itself
 record IsOverEnd (s : Scene) (g : ℕ → CellView) : Type 0 where
-  left : (k : ℕ) → k + 1 ≡ last_col s.job → (g k).wide ≡ false
-  there : (g (last_col s.job)).wide ≡ true → (last_cell s.job).wide ≡ true
+  left : (k : ℕ) → k + 1 ≡ last_col_of s.job → (g k).wide ≡ false
+  there : (g (last_col_of s.job)).wide ≡ true → (last_cell_of s.job).wide ≡ true
 
 new-over : (s : Scene) → IsScene s → IsOverEnd s s.job.new
 new-over s h =
@@ -243,21 +243,21 @@ wiped-none : (f : ℕ → CellView) (c : ℕ) (a : Attrs) → (wiped f c (c + 1)
 wiped-none f c a = grind (arith, nat_tests)
 
 wiped-over : (s : Scene) (a : Attrs) → IsScene s
-    → IsOverEnd s (wiped s.job.new (last_col s.job) (last_col s.job + 1) a)
+    → IsOverEnd s (wiped s.job.new (last_col_of s.job) (last_col_of s.job + 1) a)
 wiped-over s a h =
     let j = s.job in
-    let c = last_col j in
+    let c = last_col_of j in
     record {
       left = λ k e. wiped-narrow j.new c a k e ((new-over s h).left k e);
       there = λ q. absurd (both_ways _ (wiped-none j.new c a) q);
     }
 
 print-end : (s : Scene) (S : ℕ → ℕ → Type 0) → IsScene s → IsEndRoom s S → (g : ℕ → CellView) → IsOverEnd s g → (k : ℕ)
-    → k < s.job.cols → put_touches g (last_col s.job) (last_cell s.job) k ≡ true → S s.job.row k
+    → k < s.job.cols → put_touches g (last_col_of s.job) (last_cell_of s.job) k ≡ true → S s.job.row k
 print-end s S h room g over k low touched =
     let j = s.job in
-    let c = last_col j in
-    let x = last_cell j in
+    let c = last_col_of j in
+    let x = last_cell_of j in
     let l = last-is s h in
     elim (or-four (k == c) ((k == (c + 1)) && (x.wide || (g c).wide)) (((k + 1) == c) && (g k).wide)
     ((k == (c + 2)) && (x.wide && (g (c + 1)).wide)) touched) [
@@ -280,10 +280,10 @@ print-end s S h room g over k low touched =
     ]
 
 wipe-end : (s : Scene) (S : ℕ → ℕ → Type 0) → IsScene s → IsEndRoom s S → (k : ℕ) → k < s.job.cols
-    → wipe_touches s.job.new (last_col s.job) (last_col s.job + 1) k ≡ true → S s.job.row k
+    → wipe_touches s.job.new (last_col_of s.job) (last_col_of s.job + 1) k ≡ true → S s.job.row k
 wipe-end s S h room k low touched =
     let j = s.job in
-    let c = last_col j in
+    let c = last_col_of j in
     elim (or-split (nat_le c k && nat_lt k (c + 1)) _ touched) [
       | inl between ↦
           (let both = and_parts (nat_le c k) (nat_lt k (c + 1)) between in
@@ -307,13 +307,13 @@ wipe-end s S h room k low touched =
 
 print_last-within : (s : Scene) (S : ℕ → ℕ → Type 0) (F : ℕ → Bool) (g : ℕ → CellView) (a : Attrs) (lost : Bool)
     → IsScene s → IsProper a → IsEndRoom s S → IsOverEnd s g
-    → Stays S (size_of s) (print_last (last_cell s.job)) (pen s.job.row (last_col s.job) a None lost)
-    (with_row s g F s.job.row (last_col s.job) a)
+    → Stays S (scene_size s) (print_last (last_cell_of s.job)) (pen s.job.row (last_col_of s.job) a None lost)
+    (with_row s g F s.job.row (last_col_of s.job) a)
 print_last-within s S F g a lost h ha room over =
     let j = s.job in
-    let c = last_col j in
-    let x = last_cell j in
-    let z = size_of s in
+    let c = last_col_of j in
+    let x = last_cell_of j in
+    let z = scene_size s in
     let p = pen j.row c a None lost in
     let t = with_row s g F j.row c a in
     let l = last-is s h in
@@ -329,13 +329,13 @@ print_last-within s S F g a lost h ha room over =
 
 mend-within : (s : Scene) (S : ℕ → ℕ → Type 0) (F : ℕ → Bool) (a : Attrs) (lost : Bool) → IsScene s → IsProper a
     → IsEndRoom s S
-    → Stays S (size_of s) (mend s.job (last_cell s.job)) (pen s.job.row (last_col s.job) a None lost)
-    (with_row s s.job.new F s.job.row (last_col s.job) a)
+    → Stays S (scene_size s) (mend s.job (last_cell_of s.job)) (pen s.job.row (last_col_of s.job) a None lost)
+    (with_row s s.job.new F s.job.row (last_col_of s.job) a)
 mend-within s S F a lost h ha room =
     let j = s.job in
-    let c = last_col j in
-    let x = last_cell j in
-    let z = size_of s in
+    let c = last_col_of j in
+    let x = last_cell_of j in
+    let z = scene_size s in
     let p = pen j.row c a None lost in
     let t = with_row s j.new F j.row c a in
     let l = last-is s h in
@@ -368,12 +368,12 @@ mend-within s S F a lost h ha room =
 closing-at_within : (s : Scene) (C : ℕ → Type 0) (S : ℕ → ℕ → Type 0) (F : ℕ → Bool) (r k : ℕ) (a : Attrs)
     (lost : Bool) → IsScene s → IsProper a → IsRoom s C S
     → (owes_end s.job (pen r k a None lost) ≡ true → C (s.job.cols - 1))
-    → Stays S (size_of s) (closing s.job) (pen r k a None lost) (with_row s s.job.new F r k a)
+    → Stays S (scene_size s) (closing s.job) (pen r k a None lost) (with_row s s.job.new F r k a)
 closing-at_within s C S F r k a lost h ha o last =
     let j = s.job in
-    let z = size_of s in
-    let c = last_col j in
-    let x = last_cell j in
+    let z = scene_size s in
+    let c = last_col_of j in
+    let x = last_cell_of j in
     let p = pen r k a None lost in
     let t = with_row s j.new F r k a in
     let l = last-is s h in
@@ -389,24 +389,24 @@ closing-at_within s C S F r k a lost h ha o last =
     ]
 
 closing-within : (s : Scene) (C : ℕ → Type 0) (S : ℕ → ℕ → Type 0) (p : Pen) (t : Term) → IsScene s → IsRoom s C S
-    → IsFilled s p t → (owes_end s.job p ≡ true → C (s.job.cols - 1)) → Stays S (size_of s) (closing s.job) p t
+    → IsFilled s p t → (owes_end s.job p ≡ true → C (s.job.cols - 1)) → Stays S (scene_size s) (closing s.job) p t
 closing-within s C S p t h o now last =
     let j = s.job in
     let base = closing-at_within s C S now.flags p.pos.row p.pos.col p.attrs p.lost h now.proper o last in
-    subst (λ e. Stays S (size_of s) (closing j) (pen p.pos.row p.pos.col p.attrs e p.lost) t) (sym now.closed)
-    (subst (λ (x : Term). Stays S (size_of s) (closing j) (pen p.pos.row p.pos.col p.attrs None p.lost) x)
+    subst (λ e. Stays S (scene_size s) (closing j) (pen p.pos.row p.pos.col p.attrs e p.lost) t) (sym now.closed)
+    (subst (λ (x : Term). Stays S (scene_size s) (closing j) (pen p.pos.row p.pos.col p.attrs None p.lost) x)
     (sym now.stands) base)
 
 -- ---- the row
 
 redraw-within : (s : Scene) (C : ℕ → Type 0) (S : ℕ → ℕ → Type 0) (p : Pen) → IsScene s → IsReady s p → IsRoom s C S
     → (owes_flag s.job p ≡ true → C 0)
-    → Stays S (size_of s) (row_redraw s.job s.job.cols) p
+    → Stays S (scene_size s) (row_redraw s.job s.job.cols) p
     (with_row s s.job.old s.flags p.pos.row p.pos.col p.attrs)
 unfolding row_redraw
 redraw-within s C S p h ready o first =
     let j = s.job in
-    let z = size_of s in
+    let z = scene_size s in
     let t = with_row s j.old s.flags p.pos.row p.pos.col p.attrs in
     let f = opening j in
     let g = columns j j.cols in
@@ -426,12 +426,12 @@ redraw-within s C S p h ready o first =
 pub difference-within : (s : Scene) (C : ℕ → Type 0) (S : ℕ → ℕ → Type 0) (p : Pen) → IsScene s → IsReady s p
     → IsRoom s C S → (owes_flag s.job p ≡ true → C 0)
     → (owes_end s.job (row_redraw s.job s.job.cols p).pen ≡ true → C (s.job.cols - 1))
-    → Within S (size_of s) (row_difference s.job s.job.cols p).forms
+    → Within S (scene_size s) (row_difference s.job s.job.cols p).forms
     (with_row s s.job.old s.flags p.pos.row p.pos.col p.attrs)
 unfolding row_difference
 difference-within s C S p h ready o first last =
     let j = s.job in
-    let z = size_of s in
+    let z = scene_size s in
     let t = with_row s j.old s.flags p.pos.row p.pos.col p.attrs in
     let f = row_redraw j j.cols in
     let q = (f p).pen in

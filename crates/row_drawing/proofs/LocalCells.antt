@@ -11,7 +11,7 @@ use Rattle.row_drawing.specs.declared.pen.Pen.{Pen}
 use Rattle.row_drawing.specs.Writer.{Drawn, Writer, ◌>>◌, skip}
 use Rattle.row_drawing.specs.RowWriter.{Job, is_same, owes_flag, opening, is_end, flush_of, flush}
 use Rattle.row_drawing.specs.RowWriter.{finish_of, finish, draw, column, columns, owes_end, row_redraw}
-use Rattle.row_drawing.specs.Scene.{Scene, IsScene, IsReady, size_of}
+use Rattle.row_drawing.specs.Scene.{Scene, IsScene, IsReady, scene_size}
 use Rattle.row_drawing.specs.Laws.{IsPictured, EachDifferenceIsLocal}
 use Rattle.row_drawing.proofs.LocalRow.{IsRoom, or-split}
 use Rattle.row_drawing.proofs.LocalColumns.{IsMarked, columns-marked}
@@ -91,11 +91,11 @@ differs-there s old new h k differs e =
     both_ways (is_same j k) differs (cell_eq-of_same (j.new k) (j.old k) same)
 
 row-room : (s : Scene) (old new : Shown) → IsPictured s old new
-    → IsRoom s (IsCloseCell (size_of s) old new s.job.row) (IsLocal (size_of s) old new)
+    → IsRoom s (IsCloseCell (scene_size s) old new s.job.row) (IsLocal (scene_size s) old new)
 row-room s old new h =
     let j = s.job in
     let r = j.row in
-    let C = IsCloseCell (size_of s) old new r in
+    let C = IsCloseCell (scene_size s) old new r in
     record {
       close = λ k low c. inl c;
       second = λ k low c wide.
@@ -121,7 +121,7 @@ row-room s old new h =
 
 -- the row or the one above differs
 near-first : (s : Scene) (old new : Shown) (p : Pen) → IsPictured s old new → owes_flag s.job p ≡ true
-    → IsNear (size_of s) old new s.job.row
+    → IsNear (scene_size s) old new s.job.row
 near-first s old new p h owed =
     let above = and_parts s.job.above (not s.job.was_above) (and_parts (s.job.above && not s.job.was_above) _ owed).0 in
     h.above above.0 (not-true s.job.was_above above.1)
@@ -138,7 +138,7 @@ inside-row s h k differs =
     ]
 
 near-cause : (s : Scene) (old new : Shown) (p : Pen) → IsScene s → IsPictured s old new
-    → IsCause (IsNear (size_of s) old new s.job.row) s.job p
+    → IsCause (IsNear (scene_size s) old new s.job.row) s.job p
 near-cause s old new p scene h = record {
   differs = λ c q. inl (inl (c, inside-row s scene c q, differs-there s old new h c q));
   owes = near-first s old new p h;
@@ -151,20 +151,20 @@ flags-apart false true h e = false≢true e
 flags-apart false false h e = false≢true h
 
 near-last : (s : Scene) (old new : Shown) (p : Pen) → IsScene s → IsReady s p → IsPictured s old new
-    → owes_end s.job (row_redraw s.job s.job.cols p).pen ≡ true → IsNear (size_of s) old new s.job.row
+    → owes_end s.job (row_redraw s.job s.job.cols p).pen ≡ true → IsNear (scene_size s) old new s.job.row
 near-last s old new p scene ready h needs =
     let j = s.job in
     let q = (row_redraw j j.cols p).pen in
     elim (or-split (not (bool_eq j.wrapped j.was_wrapped)) (j.wrapped && q.lost) needs) [
       | inl flag ↦ inl (inr (λ e. flags-apart j.wrapped j.was_wrapped flag (sym h.new_flag ∙ sym e ∙ h.old_flag)))
-      | inr lost ↦ lost-cause (IsNear (size_of s) old new j.row) j j.cols p (near-cause s old new p scene h)
+      | inr lost ↦ lost-cause (IsNear (scene_size s) old new j.row) j j.cols p (near-cause s old new p scene h)
           ready.closed ready.kept (and_parts j.wrapped q.lost lost).1
     ]
 
 pub difference-local : EachDifferenceIsLocal
 difference-local s old new p scene ready h =
     let j = s.job in
-    let z = size_of s in
+    let z = scene_size s in
     let end : j.cols - 1 + 1 ≡ j.cols = omega (arith, scene.some_col) in
     difference-within s (IsCloseCell z old new j.row) (IsLocal z old new) p scene ready (row-room s old new h)
     (λ owed. inr (near-first s old new p h owed, inr (inl refl)))

@@ -19,7 +19,7 @@ use Rattle.row_drawing.specs.Writer.{clearing, marking}
 use Rattle.row_drawing.specs.RowWriter.{Job, is_same, wraps, to_erase, is_end, flush_of, flush, finish}
 use Rattle.row_drawing.specs.RowWriter.{arrive}
 use Rattle.row_drawing.specs.RowWriter.{mark_of, mark, draw, column, columns}
-use Rattle.row_drawing.specs.Scene.{Scene, IsScene, size_of, with_row}
+use Rattle.row_drawing.specs.Scene.{Scene, IsScene, scene_size, with_row}
 use Rattle.row_drawing.proofs.Lines.{Line}
 use Rattle.row_drawing.proofs.Steps.{Takes, takes-then, takes-as, takes-skip, pen, takes-goto}
 use Rattle.row_drawing.proofs.Steps.{takes-turn, takes-back, takes-space_below}
@@ -110,11 +110,11 @@ space-room s C S h o f a l here k low touched =
 to_erase-within : (s : Scene) (C : ℕ → Type 0) (S : ℕ → ℕ → Type 0) (F : ℕ → Bool) (f : ℕ → CellView) (r k : ℕ)
     (a : Attrs) (e : Erase) (lost : Bool) → IsScene s → IsRoom s C S → IsProper a → e.from < s.job.cols
     → C e.from → Line s.job.old s.job.new e.from f
-    → Stays S (size_of s) (to_erase s.job e) (pen r k a (Some e) lost) (with_row s f F r k a)
+    → Stays S (scene_size s) (to_erase s.job e) (pen r k a (Some e) lost) (with_row s f F r k a)
 to_erase-within s C S F f r k a e lost h o ha inside here l =
     let j = s.job in
     let p = pen r k a (Some e) lost in
-    let z = size_of s in
+    let z = scene_size s in
     let t = with_row s f F r k a in
     elim (cases_Bool (wraps j 1 p && (e.from == 0))) [
       | inr stays ↦ stays-as S z (goto j.row e.from >> colour e.attrs) (to_erase j e) p t (erase-goto j e p stays)
@@ -163,11 +163,11 @@ erases-within : (s : Scene) (C : ℕ → Type 0) (S : ℕ → ℕ → Type 0) (F
     (a : Attrs) (e : Erase) (lost b : Bool) (n : ℕ) → IsScene s → IsRoom s C S → IsProper a
     → Line s.job.old s.job.new e.from f → Opens s.job n (Some e) → n ≤ s.job.cols
     → Standing s F (pen r k a (Some e) lost) e.from → is_same s.job e.from ≡ false
-    → Stays S (size_of s) (to_erase s.job e >> erasing (n - e.from) b) (pen r k a (Some e) lost)
+    → Stays S (scene_size s) (to_erase s.job e >> erasing (n - e.from) b) (pen r k a (Some e) lost)
     (with_row s f F r k a)
 erases-within s C S F f r k a e lost b n h o ha l opens up_to standing differs =
     let j = s.job in
-    let z = size_of s in
+    let z = scene_size s in
     let some : e.from < n = opens.0 in
     let inside : e.from < j.cols = omega (arith, some, up_to) in
     let there = arrives s F f r k a e lost h ha opens.1 inside l standing in
@@ -183,10 +183,10 @@ erases-within s C S F f r k a e lost b n h o ha l opens up_to standing differs =
 clears-within : (s : Scene) (C : ℕ → Type 0) (S : ℕ → ℕ → Type 0) (F : ℕ → Bool) (f : ℕ → CellView) (r k : ℕ)
     (a : Attrs) (e : Erase) (lost : Bool) → IsScene s → IsRoom s C S → IsProper a → Line s.job.old s.job.new e.from f
     → Opens s.job s.job.cols (Some e) → Standing s F (pen r k a (Some e) lost) e.from → is_same s.job e.from ≡ false
-    → Stays S (size_of s) (to_erase s.job e >> clearing) (pen r k a (Some e) lost) (with_row s f F r k a)
+    → Stays S (scene_size s) (to_erase s.job e >> clearing) (pen r k a (Some e) lost) (with_row s f F r k a)
 clears-within s C S F f r k a e lost h o ha l opens standing differs =
     let j = s.job in
-    let z = size_of s in
+    let z = scene_size s in
     let some : e.from < j.cols = opens.0 in
     let up_to : j.cols ≤ j.cols = omega arith in
     let there = arrives s F f r k a e lost h ha opens.1 some l standing in
@@ -203,10 +203,10 @@ clears-within s C S F f r k a e lost h o ha l opens standing differs =
 draw-within : (s : Scene) (C : ℕ → Type 0) (S : ℕ → ℕ → Type 0) (F : ℕ → Bool) (f : ℕ → CellView) (r k : ℕ)
     (a : Attrs) (lost : Bool) (n : ℕ) → IsScene s → IsRoom s C S → IsProper a → n < s.job.cols
     → (s.job.new n).continuation ≡ false → Line s.job.old s.job.new n f
-    → Stays S (size_of s) (draw s.job n) (pen r k a None lost) (with_row s f F r k a)
+    → Stays S (scene_size s) (draw s.job n) (pen r k a None lost) (with_row s f F r k a)
 draw-within s C S F f r k a lost n h o ha inside single l =
     let j = s.job in
-    let z = size_of s in
+    let z = scene_size s in
     let x = j.new n in
     let p = pen r k a None lost in
     let t = with_row s f F r k a in
@@ -227,10 +227,10 @@ column-at_within : (s : Scene) (C : ℕ → Type 0) (S : ℕ → ℕ → Type 0)
     (a : Attrs) (e : Option Erase) (lost : Bool) (n : ℕ) → IsScene s → IsRoom s C S → IsProper a → n < s.job.cols
     → (s.job.new n).continuation ≡ false → Line s.job.old s.job.new (edge e n) f → Opens s.job n e
     → Standing s F (pen r k a e lost) (edge e n) → IsMarked s.job e
-    → Stays S (size_of s) (flush s.job n >> draw s.job n) (pen r k a e lost) (with_row s f F r k a)
+    → Stays S (scene_size s) (flush s.job n >> draw s.job n) (pen r k a e lost) (with_row s f F r k a)
 column-at_within s C S F f r k a None lost n h o ha inside single l opens standing marked =
     let j = s.job in
-    let z = size_of s in
+    let z = scene_size s in
     let p = pen r k a None lost in
     let t = with_row s f F r k a in
     stays-then S z (flush j n) (draw j n) p t p t
@@ -239,7 +239,7 @@ column-at_within s C S F f r k a None lost n h o ha inside single l opens standi
     (draw-within s C S F f r k a lost n h o ha inside single l)
 column-at_within s C S F f r k a (Some e) lost n h o ha inside single l opens standing marked =
     let j = s.job in
-    let z = size_of s in
+    let z = scene_size s in
     let p = pen r k a (Some e) lost in
     let t = with_row s f F r k a in
     elim (cases_Bool (is_end (j.new n) e.attrs)) [
@@ -266,10 +266,10 @@ column-at_within s C S F f r k a (Some e) lost n h o ha inside single l opens st
     ]
 
 column-within : (s : Scene) (C : ℕ → Type 0) (S : ℕ → ℕ → Type 0) (n : ℕ) (p : Pen) (t : Term) → IsScene s
-    → IsRoom s C S → n < s.job.cols → At s n p t → IsMarked s.job p.erase → Stays S (size_of s) (column s.job n) p t
+    → IsRoom s C S → n < s.job.cols → At s n p t → IsMarked s.job p.erase → Stays S (scene_size s) (column s.job n) p t
 column-within s C S n p t h o inside now marked =
     let j = s.job in
-    let z = size_of s in
+    let z = scene_size s in
     elim (cases_Bool (j.new n).continuation) [
       | inl half ↦ stays-as S z skip (column j n) p t (column-half j n p half (not-first s n h half))
           (stays-skip S z p t)
@@ -284,12 +284,12 @@ column-within s C S n p t h o inside now marked =
     ]
 
 pub columns-within : (s : Scene) (C : ℕ → Type 0) (S : ℕ → ℕ → Type 0) (p : Pen) (t : Term) → IsScene s → IsRoom s C S
-    → At s 0 p t → IsMarked s.job p.erase → (n : ℕ) → n ≤ s.job.cols → Stays S (size_of s) (columns s.job n) p t
+    → At s 0 p t → IsMarked s.job p.erase → (n : ℕ) → n ≤ s.job.cols → Stays S (scene_size s) (columns s.job n) p t
 unfolding columns
-columns-within s C S p t h o now marked zero le = stays-skip S (size_of s) p t
+columns-within s C S p t h o now marked zero le = stays-skip S (scene_size s) p t
 columns-within s C S p t h o now marked (suc n) le =
     let j = s.job in
-    let z = size_of s in
+    let z = scene_size s in
     let q = (columns j n p).pen in
     let u = run z (columns j n p).forms t in
     let before = columns-lead s p t h now n (omega arith) in
@@ -305,15 +305,15 @@ finish-at_within : (s : Scene) (C : ℕ → Type 0) (S : ℕ → ℕ → Type 0)
     (a : Attrs) (e : Option Erase) (lost : Bool) → IsScene s → IsRoom s C S → IsProper a
     → Line s.job.old s.job.new (edge e s.job.cols) f → Opens s.job s.job.cols e
     → Standing s F (pen r k a e lost) (edge e s.job.cols) → IsMarked s.job e
-    → Stays S (size_of s) (finish s.job) (pen r k a e lost) (with_row s f F r k a)
+    → Stays S (scene_size s) (finish s.job) (pen r k a e lost) (with_row s f F r k a)
 finish-at_within s C S F f r k a None lost h o ha l opens standing marked =
-    stays-as S (size_of s) skip (finish s.job) _ _ (finish-none s.job r k a lost) (stays-skip S (size_of s) _ _)
+    stays-as S (scene_size s) skip (finish s.job) _ _ (finish-none s.job r k a lost) (stays-skip S (scene_size s) _ _)
 finish-at_within s C S F f r k a (Some e) lost h o ha l opens standing marked =
-    stays-as S (size_of s) (to_erase s.job e >> clearing) (finish s.job) _ _ (finish-some s.job r k a e lost)
+    stays-as S (scene_size s) (to_erase s.job e >> clearing) (finish s.job) _ _ (finish-some s.job r k a e lost)
     (clears-within s C S F f r k a e lost h o ha l opens standing marked)
 
 pub finish-within : (s : Scene) (C : ℕ → Type 0) (S : ℕ → ℕ → Type 0) (p : Pen) (t : Term) → IsScene s → IsRoom s C S
-    → At s s.job.cols p t → IsMarked s.job p.erase → Stays S (size_of s) (finish s.job) p t
+    → At s s.job.cols p t → IsMarked s.job p.erase → Stays S (scene_size s) (finish s.job) p t
 finish-within s C S p t h o now marked =
     let j = s.job in
     let le : j.cols ≤ j.cols = omega arith in
@@ -321,6 +321,6 @@ finish-within s C S p t h o now marked =
     (h.new.beyond j.cols le) in
     let l = subst (λ m. Line j.old j.new (edge p.erase m) now.line) whole now.lines in
     let st = subst (λ m. Standing s now.flags p (edge p.erase m)) whole now.standing in
-    subst (λ (x : Term). Stays S (size_of s) (finish j) p x) (sym now.stands)
+    subst (λ (x : Term). Stays S (scene_size s) (finish j) p x) (sym now.stands)
     (finish-at_within s C S now.flags now.line p.pos.row p.pos.col p.attrs p.erase p.lost h o now.proper l now.opens st
     marked)

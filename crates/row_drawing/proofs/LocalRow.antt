@@ -12,7 +12,7 @@ use Rattle.terminal_model.specs.Touch.{put_touches, wipe_touches}
 use Rattle.row_drawing.specs.Writer.{◌>>◌, goto, turn, colour, print}
 use Rattle.row_drawing.specs.RowWriter.{is_same, wraps}
 use Rattle.row_drawing.specs.RowWriter.{arrive}
-use Rattle.row_drawing.specs.Scene.{Scene, IsScene, size_of, with_row}
+use Rattle.row_drawing.specs.Scene.{Scene, IsScene, scene_size, with_row}
 use Rattle.row_drawing.proofs.Lines.{Line}
 use Rattle.row_drawing.proofs.Steps.{takes-then, takes-as, pen, takes-goto, takes-colour}
 use Rattle.row_drawing.proofs.Steps.{takes-turn}
@@ -148,14 +148,14 @@ pub draws-within : (s : Scene) (C : ℕ → Type 0) (S : ℕ → ℕ → Type 0)
     (a : Attrs) (lost b : Bool) (n : ℕ) → IsScene s → IsRoom s C S → IsProper a
     → has_text (s.job.new n) ≡ true → (s.job.new n).continuation ≡ false → n < s.job.cols → C n
     → Line s.job.old s.job.new n f
-    → Stays S (size_of s)
+    → Stays S (scene_size s)
     (arrive s.job n (span_of (s.job.new n)) >> colour (s.job.new n).attrs >> print (s.job.new n) b)
     (pen r k a None lost) (with_row s f F r k a)
 draws-within s C S F f r k a lost b n h o ha full single inside here l =
     let j = s.job in
     let x = j.new n in
     let p = pen r k a None lost in
-    let z = size_of s in
+    let z = scene_size s in
     let t = with_row s f F r k a in
     let send = sends s h n full in
     let room = room-for s h n inside in

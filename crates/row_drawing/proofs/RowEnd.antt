@@ -16,10 +16,10 @@ use Rattle.terminal_model.proofs.Positions.{update-same, update-twice, update-ot
 use Rattle.row_drawing.specs.declared.pen.Erase.{Erase}
 use Rattle.row_drawing.specs.declared.pen.Pen.{Pen}
 use Rattle.row_drawing.specs.Writer.{Writer, ◌>>◌, skip, goto, colour, print, erasing, clearing}
-use Rattle.row_drawing.specs.RowWriter.{Job, to_erase, finish_of, finish, last_col, last_cell, unflag, print_last}
+use Rattle.row_drawing.specs.RowWriter.{Job, to_erase, finish_of, finish, last_col_of, last_cell_of, unflag, print_last}
 use Rattle.row_drawing.specs.RowWriter.{mend}
 use Rattle.row_drawing.specs.RowWriter.{closing}
-use Rattle.row_drawing.specs.Scene.{Scene, IsScene, IsDrawn, size_of, with_row, flags_above}
+use Rattle.row_drawing.specs.Scene.{Scene, IsScene, IsDrawn, scene_size, with_row, flags_above}
 use Rattle.row_drawing.proofs.Lines.{Line, one_half, line-whole, line-reprinted, line-restored, line-erased_same}
 use Rattle.row_drawing.proofs.Steps.{Takes, takes-then, takes-as, takes-to, takes-skip, pen, takes-goto}
 use Rattle.row_drawing.proofs.Steps.{takes-colour, Flags, kept_or_off, takes-print, takes-erasing}
@@ -35,8 +35,8 @@ pub record IsFilled (s : Scene) (p : Pen) (t : Term) : Type 0 where
   pub closed : p.erase ≡ None
   pub proper : IsProper p.attrs
 
-pub filled-takes : (s : Scene) (f : Writer) (p : Pen) (t : Term) (q : Pen) (u : Term) → Takes (size_of s) f p t q u
-    → IsFilled s q u → IsFilled s (f p).pen (run (size_of s) (f p).forms t)
+pub filled-takes : (s : Scene) (f : Writer) (p : Pen) (t : Term) (q : Pen) (u : Term) → Takes (scene_size s) f p t q u
+    → IsFilled s q u → IsFilled s (f p).pen (run (scene_size s) (f p).forms t)
 filled-takes s f p t q u k h =
     let first : IsFilled s (f p).pen u = subst (λ (x : Pen). IsFilled s x u) (sym k.pen_is) h in
     subst (λ (x : Term). IsFilled s (f p).pen x) (sym k.term_is) first
@@ -54,14 +54,14 @@ finish-at : (s : Scene) (F : ℕ → Bool) (f : ℕ → CellView) (r k : ℕ) (a
     → IsScene s → IsProper a → Line s.job.old s.job.new (edge e s.job.cols) f → Opens s.job s.job.cols e
     → Standing s F (pen r k a e lost) (edge e s.job.cols)
     → IsFilled s (finish s.job (pen r k a e lost)).pen
-    (run (size_of s) (finish s.job (pen r k a e lost)).forms (with_row s f F r k a))
+    (run (scene_size s) (finish s.job (pen r k a e lost)).forms (with_row s f F r k a))
 finish-at s F f r k a None lost h ha l opens standing =
     let j = s.job in
     let p = pen r k a None lost in
     let t = with_row s f F r k a in
     let whole = line-whole j.old j.new j.cols f l h.old.beyond h.new.beyond in
     filled-takes s (finish j) p t p t
-    (takes-as (size_of s) skip (finish j) p t p t (finish-none j r k a lost) (takes-skip (size_of s) p t))
+    (takes-as (scene_size s) skip (finish j) p t p t (finish-none j r k a lost) (takes-skip (scene_size s) p t))
     (record {
       flags = F;
       kept = (elim standing [ inl kept ↦ kept | inr due ↦ absurd (omega (arith, due.none, h.some_col)) ]);
@@ -76,7 +76,7 @@ finish-at s F f r k a (Some e) lost h ha l opens standing =
     let done = clears s F f r k a e lost h ha l opens standing in
     let whole = line-whole j.old j.new j.cols done.line done.lines h.old.beyond h.new.beyond in
     filled-takes s (finish j) p t _ _
-    (takes-as (size_of s) _ (finish j) p t _ _ (finish-some j r k a e lost) done.takes)
+    (takes-as (scene_size s) _ (finish j) p t _ _ (finish-some j r k a e lost) done.takes)
     (record {
       flags = done.flags;
       kept = done.kept;
@@ -86,7 +86,7 @@ finish-at s F f r k a (Some e) lost h ha l opens standing =
     })
 
 pub finish-leads : (s : Scene) (p : Pen) (t : Term) → IsScene s → At s s.job.cols p t
-    → IsFilled s (finish s.job p).pen (run (size_of s) (finish s.job p).forms t)
+    → IsFilled s (finish s.job p).pen (run (scene_size s) (finish s.job p).forms t)
 finish-leads s p t h now =
     let j = s.job in
     let le : j.cols ≤ j.cols = omega arith in
@@ -94,34 +94,34 @@ finish-leads s p t h now =
     (h.new.beyond j.cols le) in
     let l = subst (λ m. Line j.old j.new (edge p.erase m) now.line) whole now.lines in
     let st = subst (λ m. Standing s now.flags p (edge p.erase m)) whole now.standing in
-    subst (λ (x : Term). IsFilled s (finish j p).pen (run (size_of s) (finish j p).forms x)) (sym now.stands)
+    subst (λ (x : Term). IsFilled s (finish j p).pen (run (scene_size s) (finish j p).forms x)) (sym now.stands)
     (finish-at s now.flags now.line p.pos.row p.pos.col p.attrs p.erase p.lost h now.proper l now.opens st)
 
 -- ---- the last cell
 
 pub record IsLast (j : Job) : Type 0 where
-  pub up_to : last_col j + span_of (last_cell j) ≡ j.cols
-  pub whole : (last_cell j).continuation ≡ false
+  pub up_to : last_col_of j + span_of (last_cell_of j) ≡ j.cols
+  pub whole : (last_cell_of j).continuation ≡ false
 
 pub last-is : (s : Scene) → IsScene s → IsLast s.job
 last-is s h =
     let j = s.job in
     elim (cases_Bool (j.new (j.cols - 1)).continuation) [
       | inr single ↦
-          (let here : last_col j ≡ j.cols - 1 = rw single refl in
+          (let here : last_col_of j ≡ j.cols - 1 = rw single refl in
           let narrow : (j.new (j.cols - 1)).wide ≡ false = (elim (cases_Bool (j.new (j.cols - 1)).wide) [
             | inr narrow ↦ narrow
             | inl wide ↦ (let within = wide_within j.cols j.new (j.cols - 1) h.new.beyond h.new.paired wide in
                 absurd (omega (arith, within, h.some_col)))
           ]) in
-          let span : span_of (last_cell j) ≡ 1 = ap (λ i. span_of (j.new i)) here
+          let span : span_of (last_cell_of j) ≡ 1 = ap (λ i. span_of (j.new i)) here
           ∙ span-narrow (j.new (j.cols - 1)) narrow in
           record {
-            up_to = ap (λ n. last_col j + n) span ∙ ap (λ n. n + 1) here ∙ omega (arith, h.some_col);
+            up_to = ap (λ n. last_col_of j + n) span ∙ ap (λ n. n + 1) here ∙ omega (arith, h.some_col);
             whole = ap (λ i. (j.new i).continuation) here ∙ single;
           })
       | inl half ↦
-          (let here : last_col j ≡ j.cols - 2 = rw half refl in
+          (let here : last_col_of j ≡ j.cols - 2 = rw half refl in
           let two : 1 < j.cols = (elim (cases_lt 1 j.cols) [
             | inl more ↦ more
             | inr one ↦ absurd (both_ways (j.new 0).continuation h.new.paired.first
@@ -130,10 +130,10 @@ last-is s h =
           let next : j.cols - 2 + 1 ≡ j.cols - 1 = omega (arith, two) in
           let wide : (j.new (j.cols - 2)).wide ≡ true = sym (h.new.paired.next (j.cols - 2))
           ∙ ap (λ i. (j.new i).continuation) next ∙ half in
-          let span : span_of (last_cell j) ≡ 2 = ap (λ i. span_of (j.new i)) here
+          let span : span_of (last_cell_of j) ≡ 2 = ap (λ i. span_of (j.new i)) here
           ∙ span-wide (j.new (j.cols - 2)) wide in
           record {
-            up_to = ap (λ n. last_col j + n) span ∙ ap (λ n. n + 2) here ∙ omega (arith, two);
+            up_to = ap (λ n. last_col_of j + n) span ∙ ap (λ n. n + 2) here ∙ omega (arith, two);
             whole = ap (λ i. (j.new i).continuation) here ∙ one_half j.new (j.cols - 2) h.new.paired wide;
           })
     ]
@@ -188,15 +188,15 @@ mend-ends j x p h = rw h refl
 
 -- where the last column shows something the last cell has a text
 pub last-text : (s : Scene) → IsScene s → is_filled (s.job.new (s.job.cols - 1)) ≡ true
-    → has_text (last_cell s.job) ≡ true
+    → has_text (last_cell_of s.job) ≡ true
 last-text s h full =
     let j = s.job in
     elim (cases_Bool (j.new (j.cols - 1)).continuation) [
       | inr single ↦
-          (let here : last_col j ≡ j.cols - 1 = rw single refl in
+          (let here : last_col_of j ≡ j.cols - 1 = rw single refl in
           ap (λ i. has_text (j.new i)) here ∙ sym (or_off (has_text (j.new (j.cols - 1))) _ single) ∙ full)
       | inl half ↦
-          (let here : last_col j ≡ j.cols - 2 = rw half refl in
+          (let here : last_col_of j ≡ j.cols - 2 = rw half refl in
           let some : 0 < j.cols - 1 = (elim (cases_lt 0 (j.cols - 1)) [
             | inl more ↦ more
             | inr none ↦ absurd (both_ways (j.new 0).continuation h.new.paired.first
@@ -209,26 +209,26 @@ last-text s h full =
     ]
 
 no_third : (s : Scene) → IsScene s → (g : ℕ → CellView)
-    → put_unflags s.job.cols g (last_col s.job) (last_cell s.job) ≡ false
+    → put_unflags s.job.cols g (last_col_of s.job) (last_cell_of s.job) ≡ false
 no_third s h g =
     let j = s.job in
     let last = last-is s h in
-    let far : ((last_col j + 3) == j.cols) ≡ false = ne_eqb (last_col j + 3) j.cols (λ e.
-    let some = span-few (last_cell j) in absurd (omega (arith, e, last.up_to, some))) in
-    and_last (last_cell j).wide (g (last_col j + 1)).wide ((last_col j + 3) == j.cols) far
+    let far : ((last_col_of j + 3) == j.cols) ≡ false = ne_eqb (last_col_of j + 3) j.cols (λ e.
+    let some = span-few (last_cell_of j) in absurd (omega (arith, e, last.up_to, some))) in
+    and_last (last_cell_of j).wide (g (last_col_of j + 1)).wide ((last_col_of j + 3) == j.cols) far
 
 -- the last cell is printed over a row that differs there alone
 last-printed : (s : Scene) (F : ℕ → Bool) (g : ℕ → CellView) (a : Attrs) (lost : Bool) → IsScene s → IsProper a
-    → has_text (last_cell s.job) ≡ true → put g (last_col s.job) (last_cell s.job) (last_cell s.job).attrs ≡ s.job.new
-    → Takes (size_of s) (print_last (last_cell s.job)) (pen s.job.row (last_col s.job) a None lost)
-    (with_row s g F s.job.row (last_col s.job) a)
-    (pen s.job.row s.job.cols (last_cell s.job).attrs None (lost || false))
-    (with_row s s.job.new F s.job.row s.job.cols (last_cell s.job).attrs)
+    → has_text (last_cell_of s.job) ≡ true → put g (last_col_of s.job) (last_cell_of s.job) (last_cell_of s.job).attrs ≡ s.job.new
+    → Takes (scene_size s) (print_last (last_cell_of s.job)) (pen s.job.row (last_col_of s.job) a None lost)
+    (with_row s g F s.job.row (last_col_of s.job) a)
+    (pen s.job.row s.job.cols (last_cell_of s.job).attrs None (lost || false))
+    (with_row s s.job.new F s.job.row s.job.cols (last_cell_of s.job).attrs)
 last-printed s F g a lost h ha some line =
     let j = s.job in
-    let c = last_col j in
-    let x = last_cell j in
-    let z = size_of s in
+    let c = last_col_of j in
+    let x = last_cell_of j in
+    let z = scene_size s in
     let last = last-is s h in
     let keeps : kept_or_off (put_unflags j.cols g c x) F j.row ≡ F = ap (λ b. kept_or_off b F j.row) (no_third s h g) in
     takes-as z (colour x.attrs >> print x false) (print_last x) _ _ _ _ (print-last_is x _ some)
@@ -242,15 +242,15 @@ last-printed s F g a lost h ha some line =
 
 -- it is erased, and the flag is off
 last-erased : (s : Scene) (F : ℕ → Bool) (a : Attrs) (lost : Bool) → IsScene s
-    → Takes (size_of s) (erasing 1 true) (pen s.job.row (last_col s.job) a None lost)
-    (with_row s s.job.new F s.job.row (last_col s.job) a) (pen s.job.row (last_col s.job) a None (lost || true))
-    (with_row s (wiped s.job.new (last_col s.job) (last_col s.job + 1) a) (update F s.job.row false) s.job.row
-    (last_col s.job) a)
+    → Takes (scene_size s) (erasing 1 true) (pen s.job.row (last_col_of s.job) a None lost)
+    (with_row s s.job.new F s.job.row (last_col_of s.job) a) (pen s.job.row (last_col_of s.job) a None (lost || true))
+    (with_row s (wiped s.job.new (last_col_of s.job) (last_col_of s.job + 1) a) (update F s.job.row false) s.job.row
+    (last_col_of s.job) a)
 last-erased s F a lost h =
     let j = s.job in
-    let c = last_col j in
-    let x = last_cell j in
-    let z = size_of s in
+    let c = last_col_of j in
+    let x = last_cell_of j in
+    let z = scene_size s in
     let last = last-is s h in
     let some = span-few x in
     let test : wipe_unflags j.cols j.new c (c + 1) ≡ true = and_from (nat_lt c (c + 1)) _
@@ -316,12 +316,12 @@ unfolding closing
 closing-none j p h = rw h refl
 
 pub closing-some : (j : Job) (p : Pen) → (not (bool_eq j.wrapped j.was_wrapped) || (j.wrapped && p.lost)) ≡ true
-    → closing j p ≡ (goto j.row (last_col j) >> mend j (last_cell j)) p
+    → closing j p ≡ (goto j.row (last_col_of j) >> mend j (last_cell_of j)) p
 unfolding closing
 closing-some j p h = rw h refl
 
-pub drawn-takes : (s : Scene) (f : Writer) (p : Pen) (t : Term) (q : Pen) (u : Term) → Takes (size_of s) f p t q u
-    → IsDrawn s q u → IsDrawn s (f p).pen (run (size_of s) (f p).forms t)
+pub drawn-takes : (s : Scene) (f : Writer) (p : Pen) (t : Term) (q : Pen) (u : Term) → Takes (scene_size s) f p t q u
+    → IsDrawn s q u → IsDrawn s (f p).pen (run (scene_size s) (f p).forms t)
 drawn-takes s f p t q u k h =
     let first : IsDrawn s (f p).pen u = subst (λ (x : Pen). IsDrawn s x u) (sym k.pen_is) h in
     subst (λ (x : Term). IsDrawn s (f p).pen x) (sym k.term_is) first
@@ -329,12 +329,12 @@ drawn-takes s f p t q u k h =
 closing-at : (s : Scene) (F : ℕ → Bool) (r k : ℕ) (a : Attrs) (lost : Bool) → IsScene s → IsProper a
     → Flags F (flags_above s) s.job.row lost
     → IsDrawn s (closing s.job (pen r k a None lost)).pen
-    (run (size_of s) (closing s.job (pen r k a None lost)).forms (with_row s s.job.new F r k a))
+    (run (scene_size s) (closing s.job (pen r k a None lost)).forms (with_row s s.job.new F r k a))
 closing-at s F r k a lost h ha kept =
     let j = s.job in
-    let z = size_of s in
-    let x = last_cell j in
-    let c = last_col j in
+    let z = scene_size s in
+    let x = last_cell_of j in
+    let c = last_col_of j in
     let p = pen r k a None lost in
     let t = with_row s j.new F r k a in
     let last = last-is s h in
@@ -423,10 +423,10 @@ closing-at s F r k a lost h ha kept =
     ]
 
 pub closing-leads : (s : Scene) (p : Pen) (t : Term) → IsScene s → IsFilled s p t
-    → IsDrawn s (closing s.job p).pen (run (size_of s) (closing s.job p).forms t)
+    → IsDrawn s (closing s.job p).pen (run (scene_size s) (closing s.job p).forms t)
 closing-leads s p t h now =
     let j = s.job in
     let P : Option Erase → Term → Type 0 = λ e x. IsDrawn s (closing j (pen p.pos.row p.pos.col p.attrs e p.lost)).pen
-    (run (size_of s) (closing j (pen p.pos.row p.pos.col p.attrs e p.lost)).forms x) in
+    (run (scene_size s) (closing j (pen p.pos.row p.pos.col p.attrs e p.lost)).forms x) in
     subst (λ e. P e t) (sym now.closed) (subst (P None) (sym now.stands)
     (closing-at s now.flags p.pos.row p.pos.col p.attrs p.lost h now.proper now.kept))

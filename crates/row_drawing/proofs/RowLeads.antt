@@ -18,7 +18,7 @@ use Rattle.row_drawing.specs.declared.pen.Pen.{Pen}
 use Rattle.row_drawing.specs.Writer.{Writer, ◌>>◌, goto, turn, colour, print}
 use Rattle.row_drawing.specs.RowWriter.{Job, is_same, wraps}
 use Rattle.row_drawing.specs.RowWriter.{arrive}
-use Rattle.row_drawing.specs.Scene.{Scene, IsScene, size_of, with_row, flags_above}
+use Rattle.row_drawing.specs.Scene.{Scene, IsScene, scene_size, with_row, flags_above}
 use Rattle.row_drawing.proofs.Lines.{Line}
 use Rattle.row_drawing.proofs.Steps.{Takes, takes-then, takes-as, pen, takes-goto}
 use Rattle.row_drawing.proofs.Steps.{takes-colour, takes-turn, Flags, kept_or_off, flags-step}
@@ -62,19 +62,19 @@ pub record At (s : Scene) (n : ℕ) (p : Pen) (t : Term) : Type 0 where
   pub standing : Standing s flags p (edge p.erase (past s.job n))
 
 abbrev pub After : Scene → ℕ → Writer → Pen → Term → Type 0
-After s n f p t = At s n (f p).pen (run (size_of s) (f p).forms t)
+After s n f p t = At s n (f p).pen (run (scene_size s) (f p).forms t)
 
 pub after-takes : (s : Scene) (n : ℕ) (f : Writer) (p : Pen) (t : Term) (q : Pen) (u : Term)
-    → Takes (size_of s) f p t q u → At s n q u → After s n f p t
+    → Takes (scene_size s) f p t q u → At s n q u → After s n f p t
 after-takes s n f p t q u k h =
     let first : At s n (f p).pen u = subst (λ (x : Pen). At s n x u) (sym k.pen_is) h in
     subst (λ (x : Term). At s n (f p).pen x) (sym k.term_is) first
 
 pub after-then : (s : Scene) (n : ℕ) (f g : Writer) (p : Pen) (t : Term) (q : Pen) (u : Term)
-    → Takes (size_of s) f p t q u → After s n g q u → After s n (f >> g) p t
+    → Takes (scene_size s) f p t q u → After s n g q u → After s n (f >> g) p t
 after-then s n f g p t q u k h =
-    after-takes s n (f >> g) p t (g q).pen (run (size_of s) (g q).forms u)
-    (takes-then (size_of s) f g p t q u (g q).pen (run (size_of s) (g q).forms u) k
+    after-takes s n (f >> g) p t (g q).pen (run (scene_size s) (g q).forms u)
+    (takes-then (scene_size s) f g p t q u (g q).pen (run (scene_size s) (g q).forms u) k
     (record { pen_is = refl; term_is = refl })) h
 
 -- ---- the row above
@@ -135,7 +135,7 @@ pub record Prints (s : Scene) (f : ℕ → CellView) (p : Pen) (t : Term) (g : W
     : Type 0 where
   pub flags : ℕ → Bool
   pub kept : Flags flags (flags_above s) s.job.row (p.lost || b)
-  pub takes : Takes (size_of s) g p t (pen s.job.row (n + span_of x) x.attrs None (p.lost || b))
+  pub takes : Takes (scene_size s) g p t (pen s.job.row (n + span_of x) x.attrs None (p.lost || b))
       (with_row s (put f n x x.attrs) flags s.job.row (n + span_of x) x.attrs)
 
 pub arrive-turn : (j : Job) (c n : ℕ) (p : Pen) → (wraps j n p && (c == 0)) ≡ true → arrive j c n p ≡ turn j.row p
@@ -155,7 +155,7 @@ pub draws : (s : Scene) (F : ℕ → Bool) (f : ℕ → CellView) (r k : ℕ) (a
 draws s F f r k a lost b n x h ha hx send room loses standing =
     let j = s.job in
     let p = pen r k a None lost in
-    let z = size_of s in
+    let z = scene_size s in
     let t = with_row s f F r k a in
     let some = span-some x in
     elim (cases_Bool (wraps j (span_of x) p && (n == 0))) [

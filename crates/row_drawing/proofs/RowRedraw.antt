@@ -11,7 +11,7 @@ use Rattle.row_drawing.specs.declared.pen.Erase.{Erase}
 use Rattle.row_drawing.specs.declared.pen.Pen.{Pen}
 use Rattle.row_drawing.specs.Writer.{Drawn, ◌>>◌, skip, goto, turn, colour, print, erasing}
 use Rattle.row_drawing.specs.RowWriter.{Job, is_same, wraps, flush, finish, finish_of, arrive, draw}
-use Rattle.row_drawing.specs.RowWriter.{column, columns, opening, last_col, last_cell, row_redraw}
+use Rattle.row_drawing.specs.RowWriter.{column, columns, opening, last_col_of, last_cell_of, row_redraw}
 use Rattle.row_drawing.specs.Scene.{Scene, IsScene, flags_above}
 use Rattle.row_drawing.specs.Laws.{EachRedrawLeads}
 use Rattle.row_drawing.proofs.Steps.{pen}
@@ -80,25 +80,25 @@ column-behind s n p differs some single =
     (drawn-behind s n q differs some (flushed j n p.pos.row p.pos.col p.attrs p.erase p.lost some))
 
 -- where the last cell is drawn, it is the last thing that is written
-columns-behind : (s : Scene) (p : Pen) → IsScene s → is_same s.job (last_col s.job) ≡ false
-    → has_text (last_cell s.job) ≡ true → IsBehind s.job s.job.cols (columns s.job s.job.cols p).pen
+columns-behind : (s : Scene) (p : Pen) → IsScene s → is_same s.job (last_col_of s.job) ≡ false
+    → has_text (last_cell_of s.job) ≡ true → IsBehind s.job s.job.cols (columns s.job s.job.cols p).pen
 unfolding columns ◌>>◌ skip
 columns-behind s p h differs some =
     let j = s.job in
-    let c = last_col j in
+    let c = last_col_of j in
     let last = last-is s h in
     let here : c ≡ j.start + c = omega (arith, h.whole) in
     let at_last : (q : Pen) → IsBehind j j.cols (column j (j.start + c) q).pen = λ q.
     subst (λ i. IsBehind j j.cols (column j i q).pen) here
     (subst (λ n. IsBehind j n (column j c q).pen) last.up_to (column-behind s c q differs some last.whole)) in
     let one : IsBehind j j.cols (columns j (suc c) p).pen = at_last (columns j c p).pen in
-    elim (cases_Bool (last_cell j).wide) [
+    elim (cases_Bool (last_cell_of j).wide) [
       | inr narrow ↦
-          (let all : suc c ≡ j.cols = (let span = span-narrow (last_cell j) narrow in omega
+          (let all : suc c ≡ j.cols = (let span = span-narrow (last_cell_of j) narrow in omega
           (arith, span, last.up_to)) in
           subst (λ n. IsBehind j j.cols (columns j n p).pen) all one)
       | inl wide ↦
-          (let all : suc (suc c) ≡ j.cols = (let span = span-wide (last_cell j) wide in omega (arith, span, last.up_to))
+          (let all : suc (suc c) ≡ j.cols = (let span = span-wide (last_cell_of j) wide in omega (arith, span, last.up_to))
           in
           let next : c + 1 ≡ j.start + suc c = omega (arith, h.whole) in
           let half : (j.new (j.start + suc c)).continuation ≡ true = ap (λ i. (j.new i).continuation) (sym next)
@@ -118,8 +118,8 @@ unfolding finish finish_of skip
 finish-behind j r k a None b h e = h
 finish-behind j r k a (Some x) b h e = absurd (some-none x e)
 
-redraw-behind : (s : Scene) (p : Pen) → IsScene s → is_same s.job (last_col s.job) ≡ false
-    → has_text (last_cell s.job) ≡ true → IsBehind s.job s.job.cols (row_redraw s.job s.job.cols p).pen
+redraw-behind : (s : Scene) (p : Pen) → IsScene s → is_same s.job (last_col_of s.job) ≡ false
+    → has_text (last_cell_of s.job) ≡ true → IsBehind s.job s.job.cols (row_redraw s.job s.job.cols p).pen
 unfolding row_redraw ◌>>◌
 redraw-behind s p h differs some =
     let j = s.job in
@@ -133,10 +133,10 @@ redraw-waits : (s : Scene) (p : Pen) → IsScene s → ((k : ℕ) → s.job.old 
 redraw-waits s p h blank wraps =
     let j = s.job in
     let some = last-text s h (h.new.filled wraps) in
-    let differs : is_same j (last_col j) ≡ false = (elim (cases_Bool (is_same j (last_col j))) [
+    let differs : is_same j (last_col_of j) ≡ false = (elim (cases_Bool (is_same j (last_col_of j))) [
       | inr differs ↦ differs
-      | inl same ↦ absurd (both_ways (has_text (last_cell j)) (ap has_text
-          (cell_eq-true (last_cell j) (j.old (last_col j)) same ∙ blank (last_col j))) some)
+      | inl same ↦ absurd (both_ways (has_text (last_cell_of j)) (ap has_text
+          (cell_eq-true (last_cell_of j) (j.old (last_col_of j)) same ∙ blank (last_col_of j))) some)
     ]) in
     redraw-behind s p h differs some
 

@@ -18,7 +18,7 @@ use Rattle.row_drawing.specs.declared.pen.Pen.{Pen}
 use Rattle.row_drawing.specs.Writer.{Writer, ◌>>◌, skip, turn, colour, print, space, back, erasing}
 use Rattle.row_drawing.specs.RowWriter.{Job, is_same, wraps, owes_flag, reprint, opening, columns, finish, closing}
 use Rattle.row_drawing.specs.RowWriter.{row_redraw, row_difference}
-use Rattle.row_drawing.specs.Scene.{Scene, IsScene, IsReady, size_of, with_row, flags_above}
+use Rattle.row_drawing.specs.Scene.{Scene, IsScene, IsReady, scene_size, with_row, flags_above}
 use Rattle.row_drawing.specs.Laws.{EachDifferenceLeads}
 use Rattle.row_drawing.proofs.Lines.{Line, line-begun, line-reprinted, line-spaced, spaced-half}
 use Rattle.row_drawing.proofs.Steps.{Takes, takes-then, takes-as, takes-to, takes-skip, pen, takes-colour, takes-turn}
@@ -113,7 +113,7 @@ record Reprints (s : Scene) (p : Pen) (t : Term) (g : Writer) : Type 0 where
   flags : ℕ → Bool
   lost : Bool
   kept : Flags flags (flags_above s) s.job.row lost
-  takes : Takes (size_of s) g p t (pen s.job.row 0 (s.job.new 0).attrs None lost)
+  takes : Takes (scene_size s) g p t (pen s.job.row 0 (s.job.new 0).attrs None lost)
       (with_row s line flags s.job.row 0 (s.job.new 0).attrs)
   lines : Line s.job.old s.job.new 0 line
 
@@ -146,7 +146,7 @@ reprints-text : (s : Scene) (r k : ℕ) (a : Attrs) (lost : Bool) → IsScene s 
 reprints-text s r k a lost h ha same some now kept =
     let j = s.job in
     let x = j.new 0 in
-    let z = size_of s in
+    let z = scene_size s in
     let p = pen r k a None lost in
     let t = with_row s j.old s.flags r k a in
     let full : is_filled (s.cells r (j.cols - 1)) ≡ true =
@@ -241,7 +241,7 @@ reprints-empty : (s : Scene) (r k : ℕ) (a : Attrs) (lost : Bool) → IsScene s
 reprints-empty s r k a lost h ha same none now kept =
     let j = s.job in
     let x = j.new 0 in
-    let z = size_of s in
+    let z = scene_size s in
     let p = pen r k a None lost in
     let t = with_row s j.old s.flags r k a in
     let is : x ≡ empty_cell x.attrs = empty-is x (h.cells 0) none h.new.paired.first in
@@ -285,7 +285,7 @@ opening-at : (s : Scene) (r k : ℕ) (a : Attrs) (lost : Bool) → IsScene s →
     → After s 0 (opening s.job) (pen r k a None lost) (with_row s s.job.old s.flags r k a)
 opening-at s r k a lost h ha ready =
     let j = s.job in
-    let z = size_of s in
+    let z = scene_size s in
     let p = pen r k a None lost in
     let t = with_row s j.old s.flags r k a in
     let start : past j 0 ≡ 0 = ap (λ b. cond b (0 + 1) 0) h.new.paired.first in
@@ -348,12 +348,12 @@ opening-leads s p h ready =
 
 -- every column is drawn
 pub redraw-filled : (s : Scene) (p : Pen) → IsScene s → IsReady s p
-    → IsFilled s (row_redraw s.job s.job.cols p).pen (run (size_of s) (row_redraw s.job s.job.cols p).forms
+    → IsFilled s (row_redraw s.job s.job.cols p).pen (run (scene_size s) (row_redraw s.job s.job.cols p).forms
     (with_row s s.job.old s.flags p.pos.row p.pos.col p.attrs))
 unfolding row_redraw
 redraw-filled s p h ready =
     let j = s.job in
-    let z = size_of s in
+    let z = scene_size s in
     let t = with_row s j.old s.flags p.pos.row p.pos.col p.attrs in
     let f = opening j in
     let g = columns j j.cols in
@@ -372,7 +372,7 @@ pub difference-leads : EachDifferenceLeads
 unfolding row_difference
 difference-leads s p h ready =
     let j = s.job in
-    let z = size_of s in
+    let z = scene_size s in
     let t = with_row s j.old s.flags p.pos.row p.pos.col p.attrs in
     let f = row_redraw j j.cols in
     let q = (f p).pen in

@@ -18,7 +18,7 @@ use Rattle.row_drawing.specs.Writer.{Writer, ◌>>◌, skip, goto, turn, colour,
 use Rattle.row_drawing.specs.Writer.{clearing, marking}
 use Rattle.row_drawing.specs.RowWriter.{Job, is_same, wraps, owes_flag, reprint, opening, to_erase, is_end, flush_of}
 use Rattle.row_drawing.specs.RowWriter.{flush, finish_of, finish, arrive, mark_of, mark, draw, column, columns}
-use Rattle.row_drawing.specs.RowWriter.{last_col, last_cell, unflag, print_last, mend, owes_end, closing, row_redraw}
+use Rattle.row_drawing.specs.RowWriter.{last_col_of, last_cell_of, unflag, print_last, mend, owes_end, closing, row_redraw}
 use Rattle.row_drawing.specs.RowWriter.{row_difference}
 use Rattle.row_drawing.proofs.Texts.{all-join}
 use Rattle.row_drawing.specs.Small.{AreSmall, SmallErase, IsSmallPen, IsSmallJob, IsSmallDrawn, EachNumberIsSmall}
@@ -215,7 +215,7 @@ small-mend j k h =
     small-either j.wrapped (print_last x) (unflag x >> print_last x) (small-print_last j k h)
     (small-then (unflag x) (print_last x) (small-unflag j k h) (small-print_last j k h))
 
-last-within : (j : Job) → IsSmallJob j → last_col j < 2 ^ 16
+last-within : (j : Job) → IsSmallJob j → last_col_of j < 2 ^ 16
 last-within j h =
     cond_both (j.new (j.cols - 1)).continuation (j.cols - 2) (j.cols - 1) (λ c. c < 2 ^ 16)
     (λ _. omega (arith, h.cols)) (λ _. omega (arith, h.cols))
@@ -223,9 +223,9 @@ last-within j h =
 small-closing : (j : Job) → IsSmallJob j → Small (closing j)
 unfolding closing
 small-closing j h p s =
-    small-here (owes_end j p) (goto j.row (last_col j) >> mend j (last_cell j)) skip p s
-    (small-then (goto j.row (last_col j)) (mend j (last_cell j))
-    (small-goto j.row (last_col j) h.row (last-within j h)) (small-mend j (last_col j) h)) small-skip
+    small-here (owes_end j p) (goto j.row (last_col_of j) >> mend j (last_cell_of j)) skip p s
+    (small-then (goto j.row (last_col_of j)) (mend j (last_cell_of j))
+    (small-goto j.row (last_col_of j) h.row (last-within j h)) (small-mend j (last_col_of j) h)) small-skip
 
 pub small-row_redraw : (j : Job) (n : ℕ) → IsSmallJob j → j.start + n ≤ j.cols → Small (row_redraw j n)
 unfolding row_redraw

@@ -15,7 +15,7 @@ use Rattle.row_drawing.specs.Writer.{Drawn, Writer, ◌>>◌, skip, goto, turn, 
 use Rattle.row_drawing.specs.Writer.{clearing, marking}
 use Rattle.row_drawing.specs.RowWriter.{Job, is_same, wraps, owes_flag, reprint, opening, to_erase, is_end, flush_of}
 use Rattle.row_drawing.specs.RowWriter.{flush, finish_of, finish, arrive, mark_of, mark, draw, column, columns}
-use Rattle.row_drawing.specs.RowWriter.{last_col, last_cell, unflag, print_last, mend, owes_end, closing}
+use Rattle.row_drawing.specs.RowWriter.{last_col_of, last_cell_of, unflag, print_last, mend, owes_end, closing}
 use Rattle.row_drawing.specs.RowWriter.{row_redraw, row_difference}
 use Rattle.row_drawing.specs.Texts.{IsDrawing, AllDrawing, IsTextOf}
 use Rattle.row_drawing.specs.Laws.{EachTextIsDrawn}
@@ -220,9 +220,9 @@ draws-mend P j k h =
 draws-closing : (P : List ℕ → Type 0) (j : Job) → AreTexts P j.new → Draws P (closing j)
 unfolding closing
 draws-closing P j h p =
-    draws-here P (owes_end j p) (goto j.row (last_col j) >> mend j (last_cell j)) skip p
-    (draws-then P (goto j.row (last_col j)) (mend j (last_cell j)) (draws-goto P j.row (last_col j))
-    (draws-mend P j (last_col j) h)) (draws-skip P)
+    draws-here P (owes_end j p) (goto j.row (last_col_of j) >> mend j (last_cell_of j)) skip p
+    (draws-then P (goto j.row (last_col_of j)) (mend j (last_cell_of j)) (draws-goto P j.row (last_col_of j))
+    (draws-mend P j (last_col_of j) h)) (draws-skip P)
 
 pub draws-row_redraw : (P : List ℕ → Type 0) (j : Job) (n : ℕ) → AreTexts P j.new → Draws P (row_redraw j n)
 unfolding row_redraw

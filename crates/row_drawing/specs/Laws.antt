@@ -7,27 +7,27 @@ use Rattle.terminal_model.specs.Touch.{Within}
 use Rattle.terminal_model.specs.Local.{IsNear, IsLocal}
 use Rattle.row_drawing.specs.declared.pen.Pen.{Pen}
 use Rattle.row_drawing.specs.Writer.{skip}
-use Rattle.row_drawing.specs.RowWriter.{Job, IsKept, row_redraw, row_difference}
+use Rattle.row_drawing.specs.RowWriter.{Job, IsRowShown, row_redraw, row_difference}
 use Rattle.row_drawing.specs.Texts.{AllDrawing, IsTextOf}
-use Rattle.row_drawing.specs.Scene.{Scene, IsScene, IsReady, IsDrawn, size_of, with_row}
+use Rattle.row_drawing.specs.Scene.{Scene, IsScene, IsReady, IsDrawn, scene_size, with_row}
 
 -- from a terminal that shows the earlier row, the difference leads to one that shows the present one, and nothing else
 -- changes but the flag of the row above
 abbrev pub EachDifferenceLeads : Type 0
 EachDifferenceLeads = (s : Scene) (p : Pen) → IsScene s → IsReady s p
-    → IsDrawn s (row_difference s.job s.job.cols p).pen (run (size_of s) (row_difference s.job s.job.cols p).forms
+    → IsDrawn s (row_difference s.job s.job.cols p).pen (run (scene_size s) (row_difference s.job s.job.cols p).forms
     (with_row s s.job.old s.flags p.pos.row p.pos.col p.attrs))
 
 -- so does the redraw where the earlier row has default cells and no flag
 abbrev pub EachRedrawLeads : Type 0
 EachRedrawLeads = (s : Scene) (p : Pen) → IsScene s → IsReady s p → ((k : ℕ) → s.job.old k ≡ default_cell)
     → s.job.was_wrapped ≡ false
-    → IsDrawn s (row_redraw s.job s.job.cols p).pen (run (size_of s) (row_redraw s.job s.job.cols p).forms
+    → IsDrawn s (row_redraw s.job s.job.cols p).pen (run (scene_size s) (row_redraw s.job s.job.cols p).forms
     (with_row s s.job.old s.flags p.pos.row p.pos.col p.attrs))
 
 -- nothing is written for a row that stays, however many of its columns are drawn
 abbrev pub EachKeptRowIsLeft : Type 0
-EachKeptRowIsLeft = (j : Job) (n : ℕ) (p : Pen) → IsKept j p → row_difference j n p ≡ skip p
+EachKeptRowIsLeft = (j : Job) (n : ℕ) (p : Pen) → IsRowShown j p → row_difference j n p ≡ skip p
 
 -- what is written sets no mode and no style, and each text in it is a space or the text of a cell of the row, whichever
 -- columns are drawn
@@ -42,10 +42,10 @@ pub record IsPictured (s : Scene) (old new : Shown) : Type 0 where
   pub new_cells : new.cell s.job.row ≡ s.job.new
   pub old_flag : old.wrapped s.job.row ≡ s.job.was_wrapped
   pub new_flag : new.wrapped s.job.row ≡ s.job.wrapped
-  pub above : s.job.above ≡ true → s.job.was_above ≡ false → IsNear (size_of s) old new s.job.row
+  pub above : s.job.above ≡ true → s.job.was_above ≡ false → IsNear (scene_size s) old new s.job.row
 
 -- the difference touches no cells but local ones
 abbrev pub EachDifferenceIsLocal : Type 0
 EachDifferenceIsLocal = (s : Scene) (old new : Shown) (p : Pen) → IsScene s → IsReady s p → IsPictured s old new
-    → Within (IsLocal (size_of s) old new) (size_of s) (row_difference s.job s.job.cols p).forms
+    → Within (IsLocal (scene_size s) old new) (scene_size s) (row_difference s.job s.job.cols p).forms
     (with_row s s.job.old s.flags p.pos.row p.pos.col p.attrs)

@@ -115,11 +115,11 @@ columns j (suc n) = columns j n >> column j (j.start + n)
 -- ---- the flag of the row
 
 -- the column of the last cell, or of its first half
-abbrev pub last_col : Job → ℕ
-last_col j = if (j.new (j.cols - 1)).continuation then j.cols - 2 else j.cols - 1
+abbrev pub last_col_of : Job → ℕ
+last_col_of j = if (j.new (j.cols - 1)).continuation then j.cols - 2 else j.cols - 1
 
-abbrev pub last_cell : Job → CellView
-last_cell j = j.new (last_col j)
+abbrev pub last_cell_of : Job → CellView
+last_cell_of j = j.new (last_col_of j)
 
 -- An erased last cell takes the flag away. A cell that has a text is printed again; an empty one is erased with its own
 -- attributes.
@@ -139,7 +139,7 @@ owes_end j p = not (bool_eq j.wrapped j.was_wrapped) || (j.wrapped && p.lost)
 
 -- There the last cell is drawn again. A flag that is to be set is set by the next row.
 unfoldable pub closing : Job → Writer
-closing j p = if owes_end j p then (goto j.row (last_col j) >> mend j (last_cell j)) p else skip p
+closing j p = if owes_end j p then (goto j.row (last_col_of j) >> mend j (last_cell_of j)) p else skip p
 
 -- The row had its flag, and can't have lost it while it was drawn. Where it goes on, the next row is told so.
 abbrev pub keeps_flag : Job → Pen → Bool
@@ -156,7 +156,7 @@ unfoldable pub row_difference : Job → ℕ → Writer
 row_difference j n = row_redraw j n >> closing j
 
 -- the terminal shows the row already, and nothing is owed to it or to the row above
-pub record IsKept (j : Job) (p : Pen) : Type 0 where
+pub record IsRowShown (j : Job) (p : Pen) : Type 0 where
   pub cells : (k : ℕ) → j.new k ≡ j.old k
   pub flag : j.wrapped ≡ j.was_wrapped
   pub unowed : owes_flag j p ≡ false

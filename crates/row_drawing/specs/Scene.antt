@@ -19,8 +19,8 @@ pub record Scene : Type 0 where
   pub cells : ℕ → ℕ → CellView
   pub flags : ℕ → Bool
 
-abbrev pub size_of : Scene → Size
-size_of s = record { rows = s.rows; cols = s.job.cols }
+abbrev pub scene_size : Scene → Size
+scene_size s = record { rows = s.rows; cols = s.job.cols }
 
 -- the terminal with the line f in the job's row, with these flags, cursor and attributes
 abbrev pub with_row : Scene → (ℕ → CellView) → (ℕ → Bool) → ℕ → ℕ → Attrs → Term

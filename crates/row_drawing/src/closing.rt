@@ -3,7 +3,7 @@ ghost use Rattle.std.specs.Prelude.{◌≡◌, ◌+◌, ◌<◌, ◌≤◌, ◌^
 ghost use Rattle.vt100_cells.specs.Cells.{AreSame, cell_at};
 ghost use Rattle.vt100_cells.specs.Line.{span_of};
 ghost use Rattle.row_drawing.specs.Drawing.{job_of, IsSettled};
-ghost use Rattle.row_drawing.specs.RowWriter.{last_col, unflag, print_last, mend, owes_end, closing};
+ghost use Rattle.row_drawing.specs.RowWriter.{last_col_of, unflag, print_last, mend, owes_end, closing};
 ghost use Rattle.row_drawing.specs.RowWriter.{row_difference};
 ghost use Rattle.row_drawing.specs.Writes.{Writes};
 
@@ -17,7 +17,7 @@ use vt100_forms::position::Pos;
 impl<'a> Drawing<'a> {
     /// The column of the last cell, or of its first half.
     fn last_col(&self) -> u16
-        ensures { result ≡ last_col (job_of self.now) }
+        ensures { result ≡ last_col_of (job_of self.now) }
     {
         let cols = self.cols();
         let last = cols.saturating_sub(1);

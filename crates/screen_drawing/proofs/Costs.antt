@@ -22,7 +22,7 @@ use Rattle.row_drawing.specs.Writer.{Drawn, Writer, ◌>>◌, skip, goto, turn, 
 use Rattle.row_drawing.specs.Writer.{clearing, marking}
 use Rattle.row_drawing.specs.RowWriter.{Job, is_same, wraps, owes_flag, reprint, opening, to_erase, is_end, flush_of}
 use Rattle.row_drawing.specs.RowWriter.{flush, finish_of, finish, arrive, mark_of, mark, draw, column, columns}
-use Rattle.row_drawing.specs.RowWriter.{last_col, last_cell, unflag, print_last, mend, closing, row_redraw}
+use Rattle.row_drawing.specs.RowWriter.{last_col_of, last_cell_of, unflag, print_last, mend, closing, row_redraw}
 use Rattle.row_drawing.specs.RowWriter.{row_difference}
 
 -- ---- lists of forms
@@ -266,7 +266,7 @@ costs-mend j k h =
     (λ _. costs-more (print_last x) 69 125 (omega arith) (costs-print_last j k h))
     (λ _. costs-then (unflag x) (print_last x) 56 69 (costs-unflag j k h) (costs-print_last j k h))
 
-last-within : (j : Job) → IsRowJob j → last_col j < 2 ^ 16
+last-within : (j : Job) → IsRowJob j → last_col_of j < 2 ^ 16
 last-within j h =
     cond_both (j.new (j.cols - 1)).continuation (j.cols - 2) (j.cols - 1) (λ c. c < 2 ^ 16)
     (λ _. omega (arith, h.small.cols)) (λ _. omega (arith, h.small.cols))
@@ -275,9 +275,9 @@ costs-closing : (j : Job) → IsRowJob j → Costs (closing j) 139
 unfolding closing
 costs-closing j h p s =
     costs-here (not (bool_eq j.wrapped j.was_wrapped) || (j.wrapped && p.lost))
-    (goto j.row (last_col j) >> mend j (last_cell j)) skip 139 p s
-    (costs-then (goto j.row (last_col j)) (mend j (last_cell j)) 14 125
-    (costs-goto j.row (last_col j) h.small.row (last-within j h)) (costs-mend j (last_col j) h)) (costs-skip 139)
+    (goto j.row (last_col_of j) >> mend j (last_cell_of j)) skip 139 p s
+    (costs-then (goto j.row (last_col_of j)) (mend j (last_cell_of j)) 14 125
+    (costs-goto j.row (last_col_of j) h.small.row (last-within j h)) (costs-mend j (last_col_of j) h)) (costs-skip 139)
 
 costs-redraw : (j : Job) → IsRowJob j → Costs (row_redraw j j.cols) (153 * j.cols + 136)
 unfolding row_redraw

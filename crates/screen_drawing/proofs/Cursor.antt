@@ -24,10 +24,10 @@ use Rattle.row_drawing.proofs.Lines.{line-reprinted}
 use Rattle.row_drawing.proofs.Steps.{at, kept_or_off, IsSendable, takes-print, takes-erasing, sends-space, Takes, pen}
 use Rattle.row_drawing.proofs.Columns.{empty-is, sends, span-narrow}
 use Rattle.row_drawing.proofs.RowEnd.{last-is, span-few}
-use Rattle.screen_drawing.specs.Cursor.{place, arriving, is_at, last_col, last_cell, row_with_end, printed_with}
+use Rattle.screen_drawing.specs.Cursor.{place, arriving, is_pen_at, end_col, end_cell, row_with_end, printed_with}
 use Rattle.screen_drawing.specs.Cursor.{wait_behind, wait_on_empty, wait, cursor_position_formatted}
 use Rattle.screen_drawing.specs.Screen.{cursor_state_formatted}
-use Rattle.screen_drawing.specs.Laws.{IsDrawable, StandsAt, EachCursorIsPlaced, EachCursorStateIsSet}
+use Rattle.screen_drawing.specs.Laws.{IsDrawable, CursorIsAt, EachCursorIsPlaced, EachCursorStateIsSet}
 use Rattle.vt100_forms.proofs.AttrsLemmas.{default-proper}
 
 -- ---- a row that is drawn, as a scene
@@ -76,9 +76,9 @@ still-scene z t s r h l = record {
 }
 
 pub record IsLast (z : Size) (s : Shown) (r : ℕ) : Type 0 where
-  pub up_to : last_col z s r + span_of (last_cell z s r) ≡ z.cols
-  pub whole : (last_cell z s r).continuation ≡ false
-  pub sent : has_text (last_cell z s r) ≡ true → IsSendable (last_cell z s r)
+  pub up_to : end_col z s r + span_of (end_cell z s r) ≡ z.cols
+  pub whole : (end_cell z s r).continuation ≡ false
+  pub sent : has_text (end_cell z s r) ≡ true → IsSendable (end_cell z s r)
 
 pub last-of : (z : Size) (t : Term) (s : Shown) (r : ℕ) → IsDrawable z s → r < z.rows → IsLast z s r
 unfolding still
@@ -86,7 +86,7 @@ last-of z t s r h l =
     let k = still z t s r in
     let g = still-scene z t s r h l in
     let e = last-is k g in
-    record { up_to = e.up_to; whole = e.whole; sent = λ some. sends k g (last_col z s r) some }
+    record { up_to = e.up_to; whole = e.whole; sent = λ some. sends k g (end_col z s r) some }
 
 -- ---- the cursor goes to a place
 
@@ -108,7 +108,7 @@ arrives z t C W a (Some p) r c row col k hr hc =
     moves-lead z (at t C W r c a) p (place row col) k.0 k.1 hr hc
 
 stays-at : (t : Term) (C : ℕ → ℕ → CellView) (W : ℕ → Bool) (a : Attrs) (p : Option Pos) (r c row col : ℕ)
-    → Known p r c → is_at p (place row col) ≡ true → at t C W r c a ≡ at t C W row col a
+    → Known p r c → is_pen_at p (place row col) ≡ true → at t C W r c a ≡ at t C W row col a
 unfolding Known
 stays-at t C W a None r c row col k h = absurd (false≢true h)
 stays-at t C W a (Some p) r c row col k h =
@@ -132,16 +132,16 @@ and_last true false c e = refl
 and_last false b c e = refl
 
 printed-again : (z : Size) (t : Term) (s : Shown) (r : ℕ) → IsDrawable z s → r < z.rows
-    → has_text (last_cell z s r) ≡ true
-    → run z (Text (last_cell z s r).text ∷ []) (at t s.cell s.wrapped r (last_col z s r) (last_cell z s r).attrs)
-    ≡ at t s.cell s.wrapped r z.cols (last_cell z s r).attrs
+    → has_text (end_cell z s r) ≡ true
+    → run z (Text (end_cell z s r).text ∷ []) (at t s.cell s.wrapped r (end_col z s r) (end_cell z s r).attrs)
+    ≡ at t s.cell s.wrapped r z.cols (end_cell z s r).attrs
 unfolding print
 printed-again z t s r h l some =
     let C = s.cell in
     let W = s.wrapped in
     let f = s.cell r in
-    let c = last_col z s r in
-    let x = last_cell z s r in
+    let c = end_col z s r in
+    let x = end_cell z s r in
     let a = x.attrs in
     let last = last-of z t s r h l in
     let k : Takes z (print x false) (pen r c a None false) (at t (update C r f) W r c a) _ _ =
@@ -157,12 +157,12 @@ printed-again z t s r h l some =
     ∙ ap (λ n. at t C W r n a) last.up_to
 
 reprinted : (z : Size) (t : Term) (s : Shown) (a : Attrs) (r : ℕ) → IsDrawable z s → IsProper a → r < z.rows
-    → has_text (last_cell z s r) ≡ true
-    → run z (printed_with a (last_cell z s r)) (at t s.cell s.wrapped r (last_col z s r) a)
+    → has_text (end_cell z s r) ≡ true
+    → run z (printed_with a (end_cell z s r)) (at t s.cell s.wrapped r (end_col z s r) a)
     ≡ at t s.cell s.wrapped r z.cols a
 reprinted z t s a r h ha l some =
-    let c = last_col z s r in
-    let x = last_cell z s r in
+    let c = end_col z s r in
+    let x = end_cell z s r in
     let hx = h.proper r c in
     let back = change x.attrs a in
     run-joined z (change a x.attrs) (Text x.text ∷ back) (at t s.cell s.wrapped r c a)
@@ -171,20 +171,20 @@ reprinted z t s a r h ha l some =
     ∙ change-read z (at t s.cell s.wrapped r z.cols x.attrs) x.attrs a refl hx ha
 
 pub waits-behind : (z : Size) (t : Term) (s : Shown) (p : Option Pos) (a : Attrs) (r c row : ℕ) → IsDrawable z s
-    → IsProper a → Known p r c → row < z.rows → has_text (last_cell z s row) ≡ true
+    → IsProper a → Known p r c → row < z.rows → has_text (end_cell z s row) ≡ true
     → run z (wait_behind z s p a row) (at t s.cell s.wrapped r c a) ≡ at t s.cell s.wrapped row z.cols a
 unfolding wait_behind
 waits-behind z t s p a r c row h ha k l some =
     let last = last-of z t s row h l in
-    let few = span-few (last_cell z s row) in
-    let goes = arriving p (place row (last_col z s row)) in
+    let few = span-few (end_cell z s row) in
+    let goes = arriving p (place row (end_col z s row)) in
     let u = at t s.cell s.wrapped r c a in
-    cond_both (is_at p (place row z.cols)) [] (goes ++ printed_with a (last_cell z s row))
+    cond_both (is_pen_at p (place row z.cols)) [] (goes ++ printed_with a (end_cell z s row))
     (λ fs. run z fs u ≡ at t s.cell s.wrapped row z.cols a)
     (λ e. stays-at t s.cell s.wrapped a p r c row z.cols k e)
-    (λ e. run-joined z goes (printed_with a (last_cell z s row)) u
-    ∙ ap (run z (printed_with a (last_cell z s row)))
-    (arrives z t s.cell s.wrapped a p r c row (last_col z s row) k l (omega (arith, last.up_to, few)))
+    (λ e. run-joined z goes (printed_with a (end_cell z s row)) u
+    ∙ ap (run z (printed_with a (end_cell z s row)))
+    (arrives z t s.cell s.wrapped a p r c row (end_col z s row) k l (omega (arith, last.up_to, few)))
     ∙ reprinted z t s a row h ha l some)
 
 -- ---- a space is printed in the last column, and erased
@@ -199,11 +199,11 @@ kept-off true W r e = update-kept W r false (sym e)
 kept-off false W r e = refl
 
 pub no-text_end : (z : Size) (t : Term) (s : Shown) (r : ℕ) → IsDrawable z s → r < z.rows
-    → has_text (last_cell z s r) ≡ false
+    → has_text (end_cell z s r) ≡ false
     → s.cell r (z.cols - 1) ≡ empty_cell (s.cell r (z.cols - 1)).attrs
 no-text_end z t s r h l none =
-    let c = last_col z s r in
-    let x = last_cell z s r in
+    let c = end_col z s r in
+    let x = end_cell z s r in
     let last = last-of z t s r h l in
     let is : x ≡ empty_cell x.attrs = empty-is x (h.cells r c) none last.whole in
     let narrow : span_of x ≡ 1 = span-narrow x (ap (λ (y : CellView). y.wide) is) in
@@ -241,7 +241,7 @@ erased-back z t C W r n f b l =
     ∙ ap (apply z RestoreCursor) k.term_is
 
 waits-on_empty : (z : Size) (t : Term) (s : Shown) (p : Option Pos) (a : Attrs) (r c row : ℕ) → IsDrawable z s
-    → IsProper a → Known p r c → row < z.rows → has_text (last_cell z s row) ≡ false
+    → IsProper a → Known p r c → row < z.rows → has_text (end_cell z s row) ≡ false
     → run z (wait_on_empty z p a row (s.cell row (z.cols - 1))) (at t s.cell s.wrapped r c a)
     ≡ at (saved_at t row z.cols (s.cell row (z.cols - 1)).attrs) s.cell s.wrapped row z.cols a
 unfolding wait_on_empty
@@ -288,10 +288,10 @@ waits-on_empty z t s p a r c row h ha k l none =
 -- ---- where the cursor waits
 
 unfoldable pub Ends : Size → Shown → ℕ → Option ℕ → Type 0
-Ends z s r None = has_text (last_cell z s r) ≡ false
-Ends z s r (Some i) = (i ≤ r) × (has_text (last_cell z s i) ≡ true)
+Ends z s r None = has_text (end_cell z s r) ≡ false
+Ends z s r (Some i) = (i ≤ r) × (has_text (end_cell z s i) ≡ true)
 
-ends-above : (z : Size) (s : Shown) (r : ℕ) (o : Option ℕ) → has_text (last_cell z s (suc r)) ≡ false → Ends z s r o
+ends-above : (z : Size) (s : Shown) (r : ℕ) (o : Option ℕ) → has_text (end_cell z s (suc r)) ≡ false → Ends z s r o
     → Ends z s (suc r) o
 unfolding Ends
 ends-above z s r None none e = none
@@ -299,9 +299,9 @@ ends-above z s r (Some i) none e = (let up = e.0 in omega arith, e.1)
 
 pub ends : (z : Size) (s : Shown) (r : ℕ) → Ends z s r (row_with_end z s r)
 unfolding Ends
-ends z s zero = cond_both (has_text (last_cell z s 0)) (Some 0) None (Ends z s 0) (λ h. (omega arith, h)) (λ h. h)
+ends z s zero = cond_both (has_text (end_cell z s 0)) (Some 0) None (Ends z s 0) (λ h. (omega arith, h)) (λ h. h)
 ends z s (suc r) =
-    cond_both (has_text (last_cell z s (suc r))) (Some (suc r)) (row_with_end z s r) (Ends z s (suc r))
+    cond_both (has_text (end_cell z s (suc r))) (Some (suc r)) (row_with_end z s r) (Ends z s (suc r))
     (λ h. (omega arith, h)) (λ h. ends-above z s r (row_with_end z s r) h (ends z s r))
 
 waits : (z : Size) (t : Term) (s : Shown) (p : Option Pos) (a : Attrs) (r c : ℕ) (o : Option ℕ) → IsDrawable z s
@@ -331,7 +331,7 @@ cursor-run z t s p a r c h ha k =
     let P : List Form → Type 0 = λ fs. shown_of (run z fs u) ≡ shown_of (at t C W s.row s.col a) in
     cond_both (nat_lt s.col z.cols) (arriving p (place s.row s.col)) _ P
     (λ l. ap shown_of (arrives z t C W a p r c s.row s.col k h.shown.in_rows (ltb-true s.col z.cols l)))
-    (λ l. cond_both (is_at p (place s.row s.col)) [] (wait z s p a (row_with_end z s s.row)) P
+    (λ l. cond_both (is_pen_at p (place s.row s.col)) [] (wait z s p a (row_with_end z s s.row)) P
     (λ e. ap shown_of (stays-at t C W a p r c s.row s.col k e))
     (λ _. let past = ltb-false s.col z.cols l in
     let all : z.cols ≡ s.col = omega (arith, h.shown.in_cols) in
@@ -342,7 +342,7 @@ pub known-some : (row col : ℕ) → Known (Some (place row col)) row col
 unfolding Known
 known-some row col = (refl, refl)
 
-known-at : (p : Option Pos) (s : Shown) → StandsAt p s → Known p s.row s.col
+known-at : (p : Option Pos) (s : Shown) → CursorIsAt p s → Known p s.row s.col
 unfolding Known
 known-at None s h = tt
 known-at (Some p) s h = h

@@ -13,7 +13,7 @@ use Rattle.vt100_cells.specs.Cell.{CellView, has_text, bool_eq}
 use Rattle.terminal_model.specs.Term.{Size, Shown}
 use Rattle.screen_drawing.specs.Rows.{afresh, next_redraw, rows_redraw, next_difference}
 use Rattle.screen_drawing.specs.Rows.{rows_difference, pen_at}
-use Rattle.screen_drawing.specs.Cursor.{place, arriving, is_at, last_col, last_cell, row_with_end, printed_with}
+use Rattle.screen_drawing.specs.Cursor.{place, arriving, is_pen_at, end_col, end_cell, row_with_end, printed_with}
 use Rattle.screen_drawing.specs.Cursor.{wait_behind, wait_on_empty, wait, cursor_position_formatted}
 use Rattle.screen_drawing.specs.Modes.{switch}
 use Rattle.screen_drawing.specs.Screen.{cursor_placed, grid_redraw, grid_contents_formatted, grid_difference}
@@ -60,16 +60,16 @@ feeds-drawing P zero = tt
 feeds-drawing P (suc n) = (tt, feeds-drawing P n)
 
 behind-drawing : (P : List ℕ → Type 0) (z : Size) (s : Shown) (p : Option Pos) (a : Attrs) (r : ℕ) → TextsAre P s
-    → has_text (last_cell z s r) ≡ true → AllDrawing P (wait_behind z s p a r)
+    → has_text (end_cell z s r) ≡ true → AllDrawing P (wait_behind z s p a r)
 unfolding wait_behind
 behind-drawing P z s p a r h some =
     let Q = IsDrawing P in
-    let x = last_cell z s r in
-    let goes = arriving p (place r (last_col z s r)) in
-    cond_both (is_at p (place r z.cols)) [] (goes ++ printed_with a x) (AllDrawing P) (λ _. tt)
+    let x = end_cell z s r in
+    let goes = arriving p (place r (end_col z s r)) in
+    cond_both (is_pen_at p (place r z.cols)) [] (goes ++ printed_with a x) (AllDrawing P) (λ _. tt)
     (λ _. all-join Q goes (printed_with a x) (arriving-drawing P p _)
     (all-join Q (change a x.attrs) (Text x.text ∷ change x.attrs a) (change-drawing P a x.attrs)
-    (h.cells r (last_col z s r) some, change-drawing P x.attrs a)))
+    (h.cells r (end_col z s r) some, change-drawing P x.attrs a)))
 
 empty-drawing : (P : List ℕ → Type 0) (z : Size) (p : Option Pos) (a : Attrs) (r : ℕ) (x : CellView) → P (32 ∷ [])
     → AllDrawing P (wait_on_empty z p a r x)
@@ -98,7 +98,7 @@ unfolding cursor_position_formatted
 cursor-drawing P z s p a h =
     cond_both (nat_lt s.col z.cols) (arriving p (place s.row s.col)) _ (AllDrawing P)
     (λ _. arriving-drawing P p (place s.row s.col))
-    (λ _. cond_both (is_at p (place s.row s.col)) [] (wait z s p a (row_with_end z s s.row)) (AllDrawing P) (λ _. tt)
+    (λ _. cond_both (is_pen_at p (place s.row s.col)) [] (wait z s p a (row_with_end z s s.row)) (AllDrawing P) (λ _. tt)
     (λ _. wait-drawing P z s p a (row_with_end z s s.row) h (ends z s s.row)))
 
 draws-cursor : (P : List ℕ → Type 0) (z : Size) (s : Shown) → TextsAre P s → Draws P (cursor_placed z s)

@@ -18,9 +18,9 @@ use Rattle.vt100_cells.specs.Cell.{CellView, IsCell, bool_eq}
 use Rattle.terminal_model.specs.Term.{Size, Shown, blank_shown}
 use Rattle.row_drawing.specs.Small.{IsSmallPen}
 use Rattle.row_drawing.specs.Writer.{◌>>◌}
-use Rattle.screen_drawing.specs.Rows.{afresh, pen_at, is_continued, job_of, next_redraw, rows_redraw, next_difference}
+use Rattle.screen_drawing.specs.Rows.{afresh, pen_at, is_continued, row_job, next_redraw, rows_redraw, next_difference}
 use Rattle.screen_drawing.specs.Rows.{rows_difference}
-use Rattle.screen_drawing.specs.Cursor.{place, arriving, is_at, last_col, last_cell, row_with_end, printed_with}
+use Rattle.screen_drawing.specs.Cursor.{place, arriving, is_pen_at, end_col, end_cell, row_with_end, printed_with}
 use Rattle.screen_drawing.specs.Cursor.{wait_behind, wait_on_empty, wait, cursor_position_formatted}
 use Rattle.screen_drawing.specs.Modes.{switch, input_mode_formatted, input_mode_diff}
 use Rattle.screen_drawing.specs.Screen.{cursor_placed, grid_redraw, grid_contents_formatted, grid_difference}
@@ -36,7 +36,7 @@ use Rattle.vt100_cells.proofs.CellTexts.{text-short}
 -- ---- rows
 
 row-job : (z : Size) (old s : Shown) (i : ℕ) (flagged : Bool) → IsSmallScreen z s → i < z.rows
-    → IsRowJob (job_of z old s i flagged)
+    → IsRowJob (row_job z old s i flagged)
 row-job z old s i flagged h l = record {
   start = refl;
   some = h.shown.some_col;
@@ -48,7 +48,7 @@ costs-next_redraw : (z : Size) (s : Shown) (i : ℕ) → IsSmallScreen z s → i
     → Costs (next_redraw z s i) (428 * z.cols)
 unfolding next_redraw
 costs-next_redraw z s i h l p small =
-    costs-row_redraw (job_of z blank_shown s i false) (row-job z blank_shown s i false h l) (afresh p)
+    costs-row_redraw (row_job z blank_shown s i false) (row-job z blank_shown s i false h l) (afresh p)
     (small-afresh p small)
 
 costs-redraws : (z : Size) (s : Shown) (n : ℕ) → IsSmallScreen z s → n ≤ z.rows
@@ -66,7 +66,7 @@ costs-next_difference : (z : Size) (old new : Shown) (i : ℕ) → IsSmallScreen
 unfolding next_difference
 costs-next_difference z old new i h l p small =
     let flagged = is_continued old.wrapped i && not p.lost in
-    costs-row_difference (job_of z old new i flagged) (row-job z old new i flagged h l) (afresh p)
+    costs-row_difference (row_job z old new i flagged) (row-job z old new i flagged h l) (afresh p)
     (small-afresh p small)
 
 costs-differences : (z : Size) (old new : Shown) (n : ℕ) → IsSmallScreen z new → n ≤ z.rows
@@ -106,10 +106,10 @@ behind-length : (z : Size) (s : Shown) (p : Option Pos) (a : Attrs) (r : ℕ) �
     → r < 2 ^ 16 → length (spell (wait_behind z s p a r)) ≤ 131
 unfolding wait_behind
 behind-length z s p a r h ha l =
-    let c = last_col z s r in
-    let x = last_cell z s r in
+    let c = end_col z s r in
+    let x = end_cell z s r in
     let goes = arriving p (place r c) in
-    cond_both (is_at p (place r z.cols)) [] (goes ++ printed_with a x) (λ fs. length (spell fs) ≤ 131)
+    cond_both (is_pen_at p (place r z.cols)) [] (goes ++ printed_with a x) (λ fs. length (spell fs) ≤ 131)
     (λ _. omega arith)
     (λ _. omega (
       arith,
@@ -170,7 +170,7 @@ cursor-length z s p a h ha =
     let goes : length (spell (arriving p (place s.row s.col))) ≤ 14 = arriving-length p s.row s.col
     (omega (arith, h.shown.in_rows, h.rows)) (omega (arith, h.shown.in_cols, h.cols)) in
     cond_both (nat_lt s.col z.cols) (arriving p (place s.row s.col)) _ P (λ _. omega (arith, goes))
-    (λ _. cond_both (is_at p (place s.row s.col)) [] (wait z s p a (row_with_end z s s.row)) P (λ _. omega arith)
+    (λ _. cond_both (is_pen_at p (place s.row s.col)) [] (wait z s p a (row_with_end z s s.row)) P (λ _. omega arith)
     (λ _. wait-length z s p a (row_with_end z s s.row) h ha (ends z s s.row)))
 
 costs-cursor : (z : Size) (s : Shown) → IsSmallScreen z s → Costs (cursor_placed z s) (131 + z.rows)

@@ -24,7 +24,7 @@ use Rattle.row_drawing.proofs.Columns.{span-wide, span-narrow}
 use Rattle.row_drawing.proofs.RowEnd.{span-few}
 use Rattle.row_drawing.proofs.LocalRow.{or-four}
 use Rattle.row_drawing.proofs.Touches.{stays-goto, stays-colour, stays-print, stays-erasing}
-use Rattle.screen_drawing.specs.Cursor.{place, arriving, is_at, last_col, last_cell, row_with_end, printed_with}
+use Rattle.screen_drawing.specs.Cursor.{place, arriving, is_pen_at, end_col, end_cell, row_with_end, printed_with}
 use Rattle.screen_drawing.specs.Cursor.{wait_behind, wait_on_empty, wait, cursor_position_formatted}
 use Rattle.screen_drawing.specs.Laws.{IsDrawable}
 use Rattle.screen_drawing.specs.Local.{row_or, waiting_row}
@@ -74,11 +74,11 @@ pub record IsEndRoom (S : ℕ → ℕ → Type 0) (z : Size) (s : Shown) (r : �
 
 end-touched : (S : ℕ → ℕ → Type 0) (z : Size) (s : Shown) (r : ℕ) → IsPaired (s.cell r) → IsLast z s r
     → IsEndRoom S z s r → (k : ℕ) → k < z.cols
-    → put_touches (s.cell r) (last_col z s r) (last_cell z s r) k ≡ true → S r k
+    → put_touches (s.cell r) (end_col z s r) (end_cell z s r) k ≡ true → S r k
 end-touched S z s r paired last room k low touched =
     let f = s.cell r in
-    let c = last_col z s r in
-    let x = last_cell z s r in
+    let c = end_col z s r in
+    let x = end_cell z s r in
     let few = span-few x in
     elim (or-four (k == c) ((k == (c + 1)) && (x.wide || (f c).wide)) (((k + 1) == c) && (f k).wide)
     ((k == (c + 2)) && (x.wide && (f (c + 1)).wide)) touched) [
@@ -105,14 +105,14 @@ end-touched S z s r paired last room k low touched =
     ]
 
 printed-within : (S : ℕ → ℕ → Type 0) (z : Size) (t : Term) (s : Shown) (r : ℕ) → IsDrawable z s → r < z.rows
-    → has_text (last_cell z s r) ≡ true → IsEndRoom S z s r
-    → Within S z (Text (last_cell z s r).text ∷ [])
-    (at t s.cell s.wrapped r (last_col z s r) (last_cell z s r).attrs)
+    → has_text (end_cell z s r) ≡ true → IsEndRoom S z s r
+    → Within S z (Text (end_cell z s r).text ∷ [])
+    (at t s.cell s.wrapped r (end_col z s r) (end_cell z s r).attrs)
 unfolding print
 printed-within S z t s r h l some room =
     let f = s.cell r in
-    let c = last_col z s r in
-    let x = last_cell z s r in
+    let c = end_col z s r in
+    let x = end_cell z s r in
     let last = last-of z t s r h l in
     subst (λ (C : ℕ → ℕ → CellView). Within S z (Text x.text ∷ []) (at t C s.wrapped r c x.attrs))
     (update-kept s.cell r f refl)
@@ -120,16 +120,16 @@ printed-within S z t s r h l some room =
     (omega (arith, last.up_to)) (end-touched S z s r (h.shown.paired r) last room))
 
 behind-within : (S : ℕ → ℕ → Type 0) (z : Size) (t : Term) (s : Shown) (p : Option Pos) (a : Attrs) (r c row : ℕ)
-    → IsDrawable z s → IsProper a → Known p r c → row < z.rows → has_text (last_cell z s row) ≡ true
+    → IsDrawable z s → IsProper a → Known p r c → row < z.rows → has_text (end_cell z s row) ≡ true
     → IsEndRoom S z s row → Within S z (wait_behind z s p a row) (at t s.cell s.wrapped r c a)
 unfolding wait_behind
 behind-within S z t s p a r c row h ha k l some room =
     let C = s.cell in
     let W = s.wrapped in
     let last = last-of z t s row h l in
-    let few = span-few (last_cell z s row) in
-    let n = last_col z s row in
-    let x = last_cell z s row in
+    let few = span-few (end_cell z s row) in
+    let n = end_col z s row in
+    let x = end_cell z s row in
     let goes = arriving p (place row n) in
     let u = at t C W r c a in
     let there = at t C W row n a in
@@ -137,7 +137,7 @@ behind-within S z t s p a r c row h ha k l some room =
     in
     let both : Within S z (Text x.text ∷ change x.attrs a) (at t C W row n x.attrs) =
     (print_there.0, change-within S z x.attrs a _) in
-    cond_both (is_at p (place row z.cols)) [] (goes ++ printed_with a x) (λ fs. Within S z fs u) (λ _. tt)
+    cond_both (is_pen_at p (place row z.cols)) [] (goes ++ printed_with a x) (λ fs. Within S z fs u) (λ _. tt)
     (λ _. within-joined S z goes (printed_with a x) u (arriving-within S z p r c row n u k refl l)
     (subst (Within S z (printed_with a x))
     (sym (arrives z t C W a p r c row n k l (omega (arith, last.up_to, few))))
@@ -230,7 +230,7 @@ wipes-within S z t s r n a b end room =
     )
 
 empty-within : (S : ℕ → ℕ → Type 0) (z : Size) (t : Term) (s : Shown) (p : Option Pos) (a : Attrs) (r c row : ℕ)
-    → IsDrawable z s → IsProper a → Known p r c → row < z.rows → has_text (last_cell z s row) ≡ false
+    → IsDrawable z s → IsProper a → Known p r c → row < z.rows → has_text (end_cell z s row) ≡ false
     → IsEndRoom S z s row
     → Within S z (wait_on_empty z p a row (s.cell row (z.cols - 1))) (at t s.cell s.wrapped r c a)
 unfolding wait_on_empty
@@ -286,7 +286,7 @@ cursor-within S z t s p a r c h ha k room =
     let P : List Form → Type 0 = λ fs. Within S z fs u in
     cond_both (nat_lt s.col z.cols) (arriving p (place s.row s.col)) _ P
     (λ _. arriving-within S z p r c s.row s.col u k refl h.shown.in_rows)
-    (λ l. cond_both (is_at p (place s.row s.col)) [] (wait z s p a (row_with_end z s s.row)) P (λ _. tt)
+    (λ l. cond_both (is_pen_at p (place s.row s.col)) [] (wait z s p a (row_with_end z s s.row)) P (λ _. tt)
     (λ _. let past = ltb-false s.col z.cols l in
     waits-within S z t s p a r c (row_with_end z s s.row) h ha k (ends z s s.row)
     (room (omega (arith, past, h.shown.in_cols)))))

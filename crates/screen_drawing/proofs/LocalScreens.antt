@@ -7,7 +7,7 @@ use Rattle.vt100_cells.specs.Cell.{bool_eq}
 use Rattle.terminal_model.specs.Term.{Size, Shown, Term, IsShown, term_of}
 use Rattle.terminal_model.specs.Apply.{run}
 use Rattle.terminal_model.specs.Touch.{form_touches, Within}
-use Rattle.terminal_model.specs.Local.{IsLocal, IsLocalBut}
+use Rattle.terminal_model.specs.Local.{IsLocal, IsLocalOrEnd}
 use Rattle.terminal_model.proofs.TouchLemmas.{within-joined, within-more}
 use Rattle.row_drawing.specs.Writer.{◌>>◌}
 use Rattle.row_drawing.proofs.Steps.{at}
@@ -25,7 +25,7 @@ use Rattle.screen_drawing.proofs.LocalRows.{rows-local}
 use Rattle.screen_drawing.proofs.LocalCursor.{idle, change-within, IsEndRoom, cursor-within}
 
 abbrev Room : Size → Shown → Shown → ℕ → ℕ → Type 0
-Room z old new = IsLocalBut z old new (waiting_row z new)
+Room z old new = IsLocalOrEnd z old new (waiting_row z new)
 
 end-room : (z : Size) (old new : Shown) → new.col ≡ z.cols → IsEndRoom (Room z old new) z new (waiting_row z new)
 end-room z old new waits =

@@ -10,7 +10,7 @@ use Rattle.row_drawing.specs.declared.pen.Erase.{Erase}
 use Rattle.row_drawing.specs.declared.pen.Pen.{Pen}
 use Rattle.row_drawing.specs.Writer.{Drawn, Writer, ◌>>◌, skip, goto, turn, colour, print, space, back, erasing}
 use Rattle.row_drawing.specs.RowWriter.{Job, is_same, owes_flag, reprint, opening, is_end, flush_of, flush}
-use Rattle.row_drawing.specs.RowWriter.{finish_of, finish, draw, column, columns, last_col, last_cell, owes_end}
+use Rattle.row_drawing.specs.RowWriter.{finish_of, finish, draw, column, columns, last_col_of, last_cell_of, owes_end}
 use Rattle.row_drawing.specs.RowWriter.{print_last, mend, closing, row_redraw, row_difference}
 use Rattle.row_drawing.specs.Scene.{Scene, IsScene}
 use Rattle.row_drawing.proofs.Columns.{empty-is}
@@ -113,13 +113,13 @@ first-keeps s p h on owed none =
 closing-blamed : (K : Type 0) (j : Job) (q : Pen) → j.wrapped ≡ true → IsBlamed K q → IsBlamed K (closing j q).pen
 unfolding closing ◌>>◌ goto print_last colour print skip
 closing-blamed K j q on b =
-    let x = last_cell j in
-    let u : Pen = record q { pos = record { row = j.row; col = last_col j } } in
+    let x = last_cell_of j in
+    let u : Pen = record q { pos = record { row = j.row; col = last_col_of j } } in
     let or_none : (q.lost || false) ≡ true → K = λ e. (elim (or_cases q.lost false e) [
       | inl lost ↦ b lost
       | inr never ↦ absurd (false≢true never)
     ]) in
-    cond_both (owes_end j q) ((goto j.row (last_col j) >> mend j x) q) (skip q) (λ (d : Drawn). IsBlamed K d.pen)
+    cond_both (owes_end j q) ((goto j.row (last_col_of j) >> mend j x) q) (skip q) (λ (d : Drawn). IsBlamed K d.pen)
     (λ _. subst (λ (d : Drawn). IsBlamed K d.pen) (sym (mend-wraps j x u on))
     (cond_both (has_text x) (colour x.attrs >> print x false) skip (λ (f : Writer). IsBlamed K (f u).pen) (λ _. or_none)
     (λ _. b)))

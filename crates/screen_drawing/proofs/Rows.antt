@@ -19,7 +19,7 @@ use Rattle.row_drawing.specs.Scene.{Scene, IsScene, IsReady, IsDrawn, IsLine, wi
 use Rattle.row_drawing.proofs.Steps.{at}
 use Rattle.row_drawing.proofs.RowStart.{difference-leads}
 use Rattle.row_drawing.proofs.RowRedraw.{redraw-leads}
-use Rattle.screen_drawing.specs.Rows.{afresh, is_continued, job_of, next_redraw, rows_redraw, next_difference}
+use Rattle.screen_drawing.specs.Rows.{afresh, is_continued, row_job, next_redraw, rows_redraw, next_difference}
 use Rattle.screen_drawing.specs.Rows.{rows_difference}
 use Rattle.screen_drawing.specs.Laws.{IsDrawable, showing, EachRowsRedrawLeads, EachRowsDifferenceLeads}
 
@@ -63,7 +63,7 @@ begun z t old new p ha closed = record {
 abbrev pub scene_of : Size → Term → Shown → Shown → ℕ → Bool → (ℕ → Bool) → Scene
 scene_of z t old new i flagged F = record {
   rows = z.rows;
-  job = job_of z old new i flagged;
+  job = row_job z old new i flagged;
   term = t;
   cells = splice old.cell 0 i new.cell;
   flags = F;

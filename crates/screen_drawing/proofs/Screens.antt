@@ -21,7 +21,7 @@ use Rattle.screen_drawing.specs.Modes.{switch, input_mode_formatted, input_mode_
 use Rattle.screen_drawing.specs.Screen.{cursor_placed, grid_redraw, grid_contents_formatted, grid_difference}
 use Rattle.screen_drawing.specs.Screen.{contents_formatted, state_formatted, contents_diff, state_diff, contents_diffs}
 use Rattle.screen_drawing.specs.Screen.{last_shown}
-use Rattle.screen_drawing.specs.Laws.{IsDrawable, IsScreen, showing, with_modes, EachGridRedrawLeads}
+use Rattle.screen_drawing.specs.Laws.{IsDrawable, IsDrawableScreen, showing, with_modes, EachGridRedrawLeads}
 use Rattle.screen_drawing.specs.Laws.{EachGridDifferenceLeads, EachRedrawLeads, EachStateRedrawLeads}
 use Rattle.screen_drawing.specs.Laws.{EachDifferenceLeads, EachStateDifferenceLeads, EachChainLeads}
 use Rattle.screen_drawing.specs.Laws.{EachLaterRedrawLeads}
@@ -118,7 +118,7 @@ grid-difference_leads z old new ho ha hn v hv = (difference-grid z (term_of old 
 abbrev beside : Bool → Modes → CursorStyle → Shown → Shown
 beside b m y s = record s { hidden = b; modes = m; style = y }
 
-redraws : (z : Size) (s from : Shown) → IsScreen z s
+redraws : (z : Size) (s from : Shown) → IsDrawableScreen z s
     → Reaches z (contents_formatted z s) from (with_modes from.modes from.style s)
 unfolding Reaches contents_formatted apply
 redraws z s from h v =
@@ -133,7 +133,7 @@ redraws z s from h v =
     (saved_of u)
 
 differs : (z : Size) (old new : Shown) (m : Modes) (y : CursorStyle) → IsShown z old → IsProper old.attrs
-    → IsScreen z new → Reaches z (contents_diff z old new) (with_modes m y old) (with_modes m y new)
+    → IsDrawableScreen z new → Reaches z (contents_diff z old new) (with_modes m y old) (with_modes m y new)
 unfolding contents_diff
 differs z old new m y ho ha hn =
     let b = new.hidden in
@@ -181,8 +181,8 @@ later-redraw_leads z old new from h em es v hv =
 
 -- ---- chains
 
-chains : (z : Size) (s : Shown) (xs : List Shown) (m : Modes) (y : CursorStyle) → IsScreen z s
-    → AllByRecursion (IsScreen z) xs
+chains : (z : Size) (s : Shown) (xs : List Shown) (m : Modes) (y : CursorStyle) → IsDrawableScreen z s
+    → AllByRecursion (IsDrawableScreen z) xs
     → Reaches z (contents_diffs z s xs) (with_modes m y s) (with_modes m y (last_shown s xs))
 unfolding Reaches
 chains z s [] m y h hs v = refl

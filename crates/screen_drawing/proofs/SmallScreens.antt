@@ -19,9 +19,9 @@ use Rattle.row_drawing.specs.Small.{AreSmall, SmallErase, IsSmallPen, IsSmallJob
 use Rattle.row_drawing.proofs.Texts.{all-join}
 use Rattle.row_drawing.proofs.SmallRows.{moves-small, change-small, Small, small-then, small-skip, small-row_redraw}
 use Rattle.row_drawing.proofs.SmallRows.{small-row_difference}
-use Rattle.screen_drawing.specs.Rows.{afresh, pen_at, is_continued, job_of, next_redraw, rows_redraw, next_difference}
+use Rattle.screen_drawing.specs.Rows.{afresh, pen_at, is_continued, row_job, next_redraw, rows_redraw, next_difference}
 use Rattle.screen_drawing.specs.Rows.{rows_difference}
-use Rattle.screen_drawing.specs.Cursor.{place, arriving, is_at, last_col, last_cell, row_with_end, printed_with}
+use Rattle.screen_drawing.specs.Cursor.{place, arriving, is_pen_at, end_col, end_cell, row_with_end, printed_with}
 use Rattle.screen_drawing.specs.Cursor.{wait_behind, wait_on_empty, wait, cursor_position_formatted}
 use Rattle.screen_drawing.specs.Modes.{switch, input_mode_formatted, input_mode_diff, attributes_formatted}
 use Rattle.screen_drawing.specs.Screen.{cursor_placed, grid_redraw, grid_contents_formatted, grid_difference}
@@ -35,7 +35,7 @@ use Rattle.screen_drawing.proofs.Texts.{texts-sent, texts-forms}
 -- ---- rows
 
 pub small-job : (z : Size) (old s : Shown) (i : ℕ) (flagged : Bool) → IsSmallScreen z s → i < z.rows
-    → IsSmallJob (job_of z old s i flagged)
+    → IsSmallJob (row_job z old s i flagged)
 small-job z old s i flagged h l = record {
   cols = h.cols;
   row = omega (arith, l, h.rows);
@@ -49,7 +49,7 @@ small-afresh p s = s
 small-next_redraw : (z : Size) (s : Shown) (i : ℕ) → IsSmallScreen z s → i < z.rows → Small (next_redraw z s i)
 unfolding next_redraw
 small-next_redraw z s i h l p small =
-    small-row_redraw (job_of z blank_shown s i false) z.cols (small-job z blank_shown s i false h l) (omega arith)
+    small-row_redraw (row_job z blank_shown s i false) z.cols (small-job z blank_shown s i false h l) (omega arith)
     (afresh p)
     (small-afresh p small)
 
@@ -65,7 +65,7 @@ small-next_difference : (z : Size) (old new : Shown) (i : ℕ) → IsSmallScreen
 unfolding next_difference
 small-next_difference z old new i h l p small =
     let flagged = is_continued old.wrapped i && not p.lost in
-    small-row_difference (job_of z old new i flagged) z.cols (small-job z old new i flagged h l) (omega arith)
+    small-row_difference (row_job z old new i flagged) z.cols (small-job z old new i flagged h l) (omega arith)
     (afresh p)
     (small-afresh p small)
 
@@ -87,7 +87,7 @@ feeds-small : (n : ℕ) → AreSmall (replicate n Lf)
 feeds-small zero = tt
 feeds-small (suc n) = (tt, feeds-small n)
 
-pub last-small : (z : Size) (s : Shown) (r : ℕ) → IsSmallScreen z s → last_col z s r < 2 ^ 16
+pub last-small : (z : Size) (s : Shown) (r : ℕ) → IsSmallScreen z s → end_col z s r < 2 ^ 16
 last-small z s r h =
     cond_both (s.cell r (z.cols - 1)).continuation (z.cols - 2) (z.cols - 1) (λ c. c < 2 ^ 16)
     (λ _. omega (arith, h.cols)) (λ _. omega (arith, h.cols))
@@ -96,10 +96,10 @@ behind-small : (z : Size) (s : Shown) (p : Option Pos) (a : Attrs) (r : ℕ) →
     → r < 2 ^ 16 → AreSmall (wait_behind z s p a r)
 unfolding wait_behind
 behind-small z s p a r h ha l =
-    let c = last_col z s r in
-    let x = last_cell z s r in
+    let c = end_col z s r in
+    let x = end_cell z s r in
     let goes = arriving p (place r c) in
-    cond_both (is_at p (place r z.cols)) [] (goes ++ printed_with a x) AreSmall (λ _. tt)
+    cond_both (is_pen_at p (place r z.cols)) [] (goes ++ printed_with a x) AreSmall (λ _. tt)
     (λ _. all-join HasSmallNumbers goes (printed_with a x) (arriving-small p r c l (last-small z s r h))
     (all-join HasSmallNumbers (change a x.attrs) (Text x.text ∷ change x.attrs a)
     (change-small a x.attrs (h.colours r c)) (tt, change-small x.attrs a ha)))
@@ -134,7 +134,7 @@ cursor-small z s p a h ha =
     let goes : AreSmall (arriving p (place s.row s.col)) = arriving-small p s.row s.col
     (omega (arith, h.shown.in_rows, h.rows)) (omega (arith, h.shown.in_cols, h.cols)) in
     cond_both (nat_lt s.col z.cols) (arriving p (place s.row s.col)) _ AreSmall (λ _. goes)
-    (λ _. cond_both (is_at p (place s.row s.col)) [] (wait z s p a (row_with_end z s s.row)) AreSmall (λ _. tt)
+    (λ _. cond_both (is_pen_at p (place s.row s.col)) [] (wait z s p a (row_with_end z s s.row)) AreSmall (λ _. tt)
     (λ _. wait-small z s p a (row_with_end z s s.row) h ha (ends z s s.row)))
 
 small-cursor : (z : Size) (s : Shown) → IsSmallScreen z s → Small (cursor_placed z s)

@@ -20,23 +20,23 @@ abbrev pub arriving : Option Pos → Pos → List Form
 arriving None q = MoveTo q.row q.col ∷ []
 arriving (Some p) q = moves p q
 
-abbrev pub is_at : Option Pos → Pos → Bool
-is_at None q = false
-is_at (Some p) q = (p.row == q.row) && (p.col == q.col)
+abbrev pub is_pen_at : Option Pos → Pos → Bool
+is_pen_at None q = false
+is_pen_at (Some p) q = (p.row == q.row) && (p.col == q.col)
 
 -- ---- the last cell of a row
 
 -- its column, or that of its first half
-abbrev pub last_col : Size → Shown → ℕ → ℕ
-last_col z s r = if (s.cell r (z.cols - 1)).continuation then z.cols - 2 else z.cols - 1
+abbrev pub end_col : Size → Shown → ℕ → ℕ
+end_col z s r = if (s.cell r (z.cols - 1)).continuation then z.cols - 2 else z.cols - 1
 
-abbrev pub last_cell : Size → Shown → ℕ → CellView
-last_cell z s r = s.cell r (last_col z s r)
+abbrev pub end_cell : Size → Shown → ℕ → CellView
+end_cell z s r = s.cell r (end_col z s r)
 
 -- the nearest row whose last cell has a text, from row r on upwards
 abbrev pub row_with_end : Size → Shown → ℕ → Option ℕ
-row_with_end z s zero = if has_text (last_cell z s 0) then Some 0 else None
-row_with_end z s (suc r) = if has_text (last_cell z s (suc r)) then Some (suc r) else row_with_end z s r
+row_with_end z s zero = if has_text (end_cell z s 0) then Some 0 else None
+row_with_end z s (suc r) = if has_text (end_cell z s (suc r)) then Some (suc r) else row_with_end z s r
 
 -- ---- the cursor waits at the end of a row
 
@@ -47,8 +47,8 @@ printed_with a x = change a x.attrs ++ (Text x.text ∷ change x.attrs a)
 -- at the end of row r, whose last cell has a text
 unfoldable pub wait_behind : Size → Shown → Option Pos → Attrs → ℕ → List Form
 wait_behind z s p a r =
-    if is_at p (place r z.cols) then []
-    else arriving p (place r (last_col z s r)) ++ printed_with a (last_cell z s r)
+    if is_pen_at p (place r z.cols) then []
+    else arriving p (place r (end_col z s r)) ++ printed_with a (end_cell z s r)
 
 -- at the end of row r, where the cell x in the last column is empty
 unfoldable pub wait_on_empty : Size → Option Pos → Attrs → ℕ → CellView → List Form
@@ -66,5 +66,5 @@ wait z s p a None = wait_on_empty z p a s.row (s.cell s.row (z.cols - 1))
 unfoldable pub cursor_position_formatted : Size → Shown → Option Pos → Attrs → List Form
 cursor_position_formatted z s p a =
     if nat_lt s.col z.cols then arriving p (place s.row s.col)
-    else if is_at p (place s.row s.col) then []
+    else if is_pen_at p (place s.row s.col) then []
     else wait z s p a (row_with_end z s s.row)

@@ -37,8 +37,8 @@ coloured i = record { fgcolor = Idx i; bgcolor = Default; mode = 0 }
 abbrev pub letters : Attrs → List ℕ → List CellView
 letters a cs = map (λ c. cell_of c a) cs
 
-abbrev pub plain : List ℕ → List CellView
-plain = letters default_attrs
+abbrev pub plain_cells : List ℕ → List CellView
+plain_cells = letters default_attrs
 
 -- U+4E2D, which is wide, and its second half
 abbrev pub wide : List CellView
@@ -64,44 +64,44 @@ start = HideCursor false ∷ ClearAttrs ∷ ClearScreen ∷ []
 
 -- a word in red, and another one in green over it
 abbrev pub red_word : Shown
-red_word = screen ((plain (codes "text is ") ++ letters (coloured 1) (codes "RED")) ∷ []) [] 0 11
+red_word = screen ((plain_cells (codes "text is ") ++ letters (coloured 1) (codes "RED")) ∷ []) [] 0 11
 
 abbrev pub green_word : Shown
-green_word = record (screen ((plain (codes "text is ") ++ letters (coloured 2) (codes "GREEN")) ∷ []) [] 0 13) {
+green_word = record (screen ((plain_cells (codes "text is ") ++ letters (coloured 2) (codes "GREEN")) ∷ []) [] 0 13) {
   attrs = coloured 2;
 }
 
 -- the first row goes on in the second one; its last cell changes, and one in the second row goes
 abbrev pub wrapped_row : Shown
-wrapped_row = screen (plain (codes "abcd") ∷ plain (codes "xyz") ∷ []) (true ∷ []) 1 3
+wrapped_row = screen (plain_cells (codes "abcd") ∷ plain_cells (codes "xyz") ∷ []) (true ∷ []) 1 3
 
 abbrev pub wrapped_changed : Shown
-wrapped_changed = screen (plain (codes "abce") ∷ (plain (codes "x") ++ blank ++ plain (codes "z")) ∷ []) (true ∷ []) 1 1
+wrapped_changed = screen (plain_cells (codes "abce") ∷ (plain_cells (codes "x") ++ blank ++ plain_cells (codes "z")) ∷ []) (true ∷ []) 1 1
 
 -- the second half of a wide character, which a letter covers, takes the row's flag from the terminal
 abbrev pub wide_end : Shown
-wide_end = screen ((plain (codes "ab") ++ wide) ∷ plain (codes "x") ∷ []) (true ∷ []) 1 1
+wide_end = screen ((plain_cells (codes "ab") ++ wide) ∷ plain_cells (codes "x") ∷ []) (true ∷ []) 1 1
 
 abbrev pub wide_covered : Shown
-wide_covered = screen ((plain (codes "ab") ++ blank ++ plain (codes "d")) ∷ plain (codes "x") ∷ []) (true ∷ []) 0 4
+wide_covered = screen ((plain_cells (codes "ab") ++ blank ++ plain_cells (codes "d")) ∷ plain_cells (codes "x") ∷ []) (true ∷ []) 0 4
 
 -- so does a wide character that is put a column to the left
 abbrev pub wide_last : Shown
-wide_last = screen ((plain (codes "an") ++ wide) ∷ plain (codes "y") ∷ []) (true ∷ []) 1 1
+wide_last = screen ((plain_cells (codes "an") ++ wide) ∷ plain_cells (codes "y") ∷ []) (true ∷ []) 1 1
 
 abbrev pub wide_moved : Shown
-wide_moved = screen ((plain (codes "a") ++ wide ++ plain (codes "x")) ∷ plain (codes "y") ∷ []) (true ∷ []) 1 1
+wide_moved = screen ((plain_cells (codes "a") ++ wide ++ plain_cells (codes "x")) ∷ plain_cells (codes "y") ∷ []) (true ∷ []) 1 1
 
 -- the cursor waits behind a row, and then behind the empty row
 abbrev pub full_row : Shown
-full_row = screen (plain (codes "ab") ∷ []) [] 0 2
+full_row = screen (plain_cells (codes "ab") ∷ []) [] 0 2
 
 abbrev pub emptied_row : Shown
 emptied_row = screen [] [] 0 2
 
 -- it waits behind an empty row under a full one
 abbrev pub below_full : Shown
-below_full = screen (plain (codes "ab") ∷ []) [] 1 2
+below_full = screen (plain_cells (codes "ab") ∷ []) [] 1 2
 
 -- all modes
 abbrev pub moded : Shown

@@ -32,7 +32,7 @@ pub record IsDrawable (z : Size) (s : Shown) : Type 0 where
   pub proper : (r k : ℕ) → IsProper (s.cell r k).attrs
 
 -- the same with the attributes that are drawn with
-pub record IsScreen (z : Size) (s : Shown) : Type 0 where
+pub record IsDrawableScreen (z : Size) (s : Shown) : Type 0 where
   pub drawable : IsDrawable z s
   pub attrs : IsProper s.attrs
 
@@ -62,14 +62,14 @@ EachRowsDifferenceLeads = (z : Size) (t : Term) (old new : Shown) (p : Pen) → 
 -- ---- the cursor
 
 -- the cursor stands at p, if that is known
-abbrev pub StandsAt : Option Pos → Shown → Type 0
-StandsAt None s = Unit {0}
-StandsAt (Some p) s = (s.row ≡ p.row) × (s.col ≡ p.col)
+abbrev pub CursorIsAt : Option Pos → Shown → Type 0
+CursorIsAt None s = Unit {0}
+CursorIsAt (Some p) s = (s.row ≡ p.row) × (s.col ≡ p.col)
 
 -- from the cells and flags of s the cursor comes to that of s, and nothing else changes
 abbrev pub EachCursorIsPlaced : Type 0
 EachCursorIsPlaced = (z : Size) (s from : Shown) (p : Option Pos) → IsDrawable z s → IsProper from.attrs
-    → from.cell ≡ s.cell → from.wrapped ≡ s.wrapped → StandsAt p from
+    → from.cell ≡ s.cell → from.wrapped ≡ s.wrapped → CursorIsAt p from
     → Leads z (cursor_position_formatted z s p from.attrs) from (record from { row = s.row; col = s.col })
 
 abbrev pub EachCursorStateIsSet : Type 0
@@ -118,30 +118,30 @@ abbrev pub with_modes : Modes → CursorStyle → Shown → Shown
 with_modes m y s = record s { modes = m; style = y }
 
 abbrev pub EachRedrawLeads : Type 0
-EachRedrawLeads = (z : Size) (s from : Shown) → IsScreen z s
+EachRedrawLeads = (z : Size) (s from : Shown) → IsDrawableScreen z s
     → Leads z (contents_formatted z s) from (with_modes from.modes from.style s)
 
 abbrev pub EachStateRedrawLeads : Type 0
-EachStateRedrawLeads = (z : Size) (s from : Shown) → IsScreen z s → from.modes.mouse ≡ mouse.None
+EachStateRedrawLeads = (z : Size) (s from : Shown) → IsDrawableScreen z s → from.modes.mouse ≡ mouse.None
     → from.modes.encoding ≡ encoding.Default → from.style ≡ style.Default → Leads z (state_formatted z s) from s
 
 -- whatever the modes and the style are
 abbrev pub EachDifferenceLeads : Type 0
 EachDifferenceLeads = (z : Size) (old new : Shown) (m : Modes) (y : CursorStyle) → IsShown z old → IsProper old.attrs
-    → IsScreen z new → Leads z (contents_diff z old new) (with_modes m y old) (with_modes m y new)
+    → IsDrawableScreen z new → Leads z (contents_diff z old new) (with_modes m y old) (with_modes m y new)
 
 abbrev pub EachStateDifferenceLeads : Type 0
-EachStateDifferenceLeads = (z : Size) (old new : Shown) → IsShown z old → IsProper old.attrs → IsScreen z new
+EachStateDifferenceLeads = (z : Size) (old new : Shown) → IsShown z old → IsProper old.attrs → IsDrawableScreen z new
     → Leads z (state_diff z old new) old new
 
 -- a redraw, and what differs in modes and style, from any terminal that has those of the old screen
 abbrev pub EachLaterRedrawLeads : Type 0
-EachLaterRedrawLeads = (z : Size) (old new from : Shown) → IsScreen z new → from.modes ≡ old.modes
+EachLaterRedrawLeads = (z : Size) (old new from : Shown) → IsDrawableScreen z new → from.modes ≡ old.modes
     → from.style ≡ old.style → Leads z (contents_formatted z new ++ input_mode_diff old new) from new
 
 -- a redraw, and differences after it, lead to the last of these screens
 abbrev pub EachChainLeads : Type 0
-EachChainLeads = (z : Size) (s from : Shown) (xs : List Shown) → IsScreen z s → AllByRecursion (IsScreen z) xs
+EachChainLeads = (z : Size) (s from : Shown) (xs : List Shown) → IsDrawableScreen z s → AllByRecursion (IsDrawableScreen z) xs
     → Leads z (contents_formatted z s ++ contents_diffs z s xs) from
     (with_modes from.modes from.style (last_shown s xs))
 

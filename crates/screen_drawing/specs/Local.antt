@@ -4,12 +4,12 @@ use Rattle.vt100_forms.specs.Attrs.{IsProper}
 use Rattle.vt100_forms.specs.Form.{Form}
 use Rattle.terminal_model.specs.Term.{Size, Shown, Saved, Term, IsShown, term_of}
 use Rattle.terminal_model.specs.Touch.{Within}
-use Rattle.terminal_model.specs.Local.{IsLocal, IsLocalBut}
+use Rattle.terminal_model.specs.Local.{IsLocal, IsLocalOrEnd}
 use Rattle.row_drawing.specs.declared.pen.Pen.{Pen}
 use Rattle.screen_drawing.specs.Rows.{rows_difference}
 use Rattle.screen_drawing.specs.Cursor.{row_with_end}
 use Rattle.screen_drawing.specs.Screen.{grid_difference, contents_diff, state_diff}
-use Rattle.screen_drawing.specs.Laws.{IsDrawable, IsScreen, showing}
+use Rattle.screen_drawing.specs.Laws.{IsDrawable, IsDrawableScreen, showing}
 
 -- the differences of all rows touch local cells of the two pictures alone
 abbrev pub EachRowsDifferenceIsLocal : Type 0
@@ -30,7 +30,7 @@ waiting_row z s = row_or s.row (row_with_end z s s.row)
 -- Read by a terminal that shows `old`, whatever it has saved, the forms touch local cells of the two pictures alone;
 -- but where the cursor of `new` waits, also the last cell of that one row, with its other half.
 abbrev pub IsLocalList : Size → Shown → Shown → List Form → Type 0
-IsLocalList z old new fs = (v : Saved) → Within (IsLocalBut z old new (waiting_row z new)) z fs (term_of old v)
+IsLocalList z old new fs = (v : Saved) → Within (IsLocalOrEnd z old new (waiting_row z new)) z fs (term_of old v)
 
 -- cells, flags and the cursor
 abbrev pub EachGridDifferenceIsLocal : Type 0
@@ -39,10 +39,10 @@ EachGridDifferenceIsLocal = (z : Size) (old new : Shown) → IsShown z old → I
 
 -- also whether the cursor is hidden, and the attributes
 abbrev pub EachContentsDifferenceIsLocal : Type 0
-EachContentsDifferenceIsLocal = (z : Size) (old new : Shown) → IsShown z old → IsProper old.attrs → IsScreen z new
+EachContentsDifferenceIsLocal = (z : Size) (old new : Shown) → IsShown z old → IsProper old.attrs → IsDrawableScreen z new
     → IsLocalList z old new (contents_diff z old new)
 
 -- also the modes and the style
 abbrev pub EachDifferenceIsLocal : Type 0
-EachDifferenceIsLocal = (z : Size) (old new : Shown) → IsShown z old → IsProper old.attrs → IsScreen z new
+EachDifferenceIsLocal = (z : Size) (old new : Shown) → IsShown z old → IsProper old.attrs → IsDrawableScreen z new
     → IsLocalList z old new (state_diff z old new)

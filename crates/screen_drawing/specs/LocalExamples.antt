@@ -7,7 +7,7 @@ use Rattle.terminal_model.specs.Term.{Size, Shown, Term, none_saved, term_of}
 use Rattle.terminal_model.specs.Apply.{apply}
 use Rattle.terminal_model.specs.Touch.{touches}
 use Rattle.screen_drawing.specs.Screen.{state_diff}
-use Rattle.screen_drawing.specs.Examples.{size, screen, plain, wide, blank, wide_end, wide_covered, full_row}
+use Rattle.screen_drawing.specs.Examples.{size, screen, plain_cells, wide, blank, wide_end, wide_covered, full_row}
 use Rattle.screen_drawing.specs.Examples.{emptied_row, below_full}
 
 -- whether one of the forms touches the cell, where those before it have led
@@ -27,28 +27,28 @@ row cells = screen (cells ∷ []) [] 0 0
 
 -- two of them, of which the first goes on in the second one, or not; the second one shows an `x`
 abbrev pub two_rows : List CellView → Bool → Shown
-two_rows cells wrapped = screen (cells ∷ plain (codes "x") ∷ []) (wrapped ∷ []) 1 0
+two_rows cells wrapped = screen (cells ∷ plain_cells (codes "x") ∷ []) (wrapped ∷ []) 1 0
 
 pub record EachDifferenceTouches : Type 0 where
   -- nothing changes
-  pub none : touched (size 2 4) (two_rows (plain (codes "abcd")) true) (two_rows (plain (codes "abcd")) true)
+  pub none : touched (size 2 4) (two_rows (plain_cells (codes "abcd")) true) (two_rows (plain_cells (codes "abcd")) true)
       ≡ codes "...." ∷ codes "...." ∷ []
   -- one cell changes
-  pub middle : touched (size 1 4) (row (plain (codes "abcd"))) (row (plain (codes "abxd"))) ≡ codes "..x." ∷ []
+  pub middle : touched (size 1 4) (row (plain_cells (codes "abcd"))) (row (plain_cells (codes "abxd"))) ≡ codes "..x." ∷ []
   -- the row's end goes
-  pub end : touched (size 1 4) (row (plain (codes "abcd"))) (row (plain (codes "a"))) ≡ codes ".xxx" ∷ []
+  pub end : touched (size 1 4) (row (plain_cells (codes "abcd"))) (row (plain_cells (codes "a"))) ≡ codes ".xxx" ∷ []
   -- a wide character goes, and a letter stands over one of its halves
-  pub over_first : touched (size 1 4) (row (plain (codes "a") ++ wide ++ plain (codes "d")))
-      (row (plain (codes "an") ++ blank ++ plain (codes "d"))) ≡ codes ".xx." ∷ []
-  pub over_second : touched (size 1 4) (row (plain (codes "a") ++ wide ++ plain (codes "d")))
-      (row (plain (codes "a") ++ blank ++ plain (codes "nd"))) ≡ codes ".xx." ∷ []
+  pub over_first : touched (size 1 4) (row (plain_cells (codes "a") ++ wide ++ plain_cells (codes "d")))
+      (row (plain_cells (codes "an") ++ blank ++ plain_cells (codes "d"))) ≡ codes ".xx." ∷ []
+  pub over_second : touched (size 1 4) (row (plain_cells (codes "a") ++ wide ++ plain_cells (codes "d")))
+      (row (plain_cells (codes "a") ++ blank ++ plain_cells (codes "nd"))) ≡ codes ".xx." ∷ []
   -- an empty column between two that go is erased with them
-  pub between : touched (size 1 4) (row (plain (codes "ab") ++ blank ++ plain (codes "d"))) (row (plain (codes "a")))
+  pub between : touched (size 1 4) (row (plain_cells (codes "ab") ++ blank ++ plain_cells (codes "d"))) (row (plain_cells (codes "a")))
       ≡ codes ".xxx" ∷ []
   -- the row begins to go on, or doesn't any more: its last cell is printed once more
-  pub wraps : touched (size 2 4) (two_rows (plain (codes "abcd")) false) (two_rows (plain (codes "abcd")) true)
+  pub wraps : touched (size 2 4) (two_rows (plain_cells (codes "abcd")) false) (two_rows (plain_cells (codes "abcd")) true)
       ≡ codes "...x" ∷ codes "x..." ∷ []
-  pub ends : touched (size 2 4) (two_rows (plain (codes "abcd")) true) (two_rows (plain (codes "abcd")) false)
+  pub ends : touched (size 2 4) (two_rows (plain_cells (codes "abcd")) true) (two_rows (plain_cells (codes "abcd")) false)
       ≡ codes "...x" ∷ codes "...." ∷ []
   -- the flag is lost and set again, by the first cell of the next row
   pub lost : touched (size 2 4) wide_end wide_covered ≡ codes "..xx" ∷ codes "x..." ∷ []

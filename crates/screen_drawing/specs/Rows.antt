@@ -20,8 +20,8 @@ is_continued wrapped zero = false
 is_continued wrapped (suc i) = wrapped i
 
 -- row i of the new picture over that of the old one; `flagged` says whether the row above has its flag in the terminal
-abbrev pub job_of : Size → Shown → Shown → ℕ → Bool → Job
-job_of z old new i flagged = record {
+abbrev pub row_job : Size → Shown → Shown → ℕ → Bool → Job
+row_job z old new i flagged = record {
   cols = z.cols;
   row = i;
   start = 0;
@@ -37,7 +37,7 @@ job_of z old new i flagged = record {
 
 -- row i on a blank screen, where no row has a flag
 unfoldable pub next_redraw : Size → Shown → ℕ → Writer
-next_redraw z s i p = row_redraw (job_of z blank_shown s i false) z.cols (afresh p)
+next_redraw z s i p = row_redraw (row_job z blank_shown s i false) z.cols (afresh p)
 
 -- the first n rows
 unfoldable pub rows_redraw : Size → Shown → ℕ → Writer
@@ -49,7 +49,7 @@ rows_redraw z s (suc n) = rows_redraw z s n >> next_redraw z s n
 -- row i: the row above has its flag if it had one, and didn't lose it when it was drawn
 unfoldable pub next_difference : Size → Shown → Shown → ℕ → Writer
 next_difference z old new i p =
-    row_difference (job_of z old new i (is_continued old.wrapped i && not p.lost)) z.cols (afresh p)
+    row_difference (row_job z old new i (is_continued old.wrapped i && not p.lost)) z.cols (afresh p)
 
 -- the first n rows
 unfoldable pub rows_difference : Size → Shown → Shown → ℕ → Writer

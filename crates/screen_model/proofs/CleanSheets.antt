@@ -24,7 +24,7 @@ use Rattle.vt100_core.specs.Scroll.{is_kept_from, scrolled_up, rows_past_bottom,
 use Rattle.vt100_core.specs.Scroll.{scrollback_erased, scrollback_shown}
 use Rattle.vt100_core.specs.Resize.{whole_screen, up_rows, shortened, with_width, down_rows, rows_back, lengthened}
 use Rattle.vt100_core.specs.Resize.{resized}
-use Rattle.vt100_core.specs.Text.{Drawn, put_at, spaced, carried, joined, printed}
+use Rattle.vt100_core.specs.Text.{PrintedGrid, put_at, spaced, carried, joined, printed}
 use Rattle.screen_model.proofs.CleanRows.{Traits, IsClean, IsCleanRow, clean-of, clean-either, clean-blank}
 use Rattle.screen_model.proofs.CleanRows.{clean-cleared, clean-with_wrap, clean-placed, clean-wiped, clean-joined_cell}
 use Rattle.screen_model.proofs.CleanRows.{clean-joined, clean-inserted, clean-removed, clean-grown, clean-resized}
@@ -47,8 +47,8 @@ module _ (t : Traits) where
       → IsCleanSheet (cond b x y).grid
   scrolled-either b x y p q = cond_both b x y (λ (z : Scrolled). IsCleanSheet z.grid) (λ _. p) (λ _. q)
 
-  drawn-either : (b : Bool) (x y : Drawn) → IsCleanSheet x.grid → IsCleanSheet y.grid → IsCleanSheet (cond b x y).grid
-  drawn-either b x y p q = cond_both b x y (λ (z : Drawn). IsCleanSheet z.grid) (λ _. p) (λ _. q)
+  drawn-either : (b : Bool) (x y : PrintedGrid) → IsCleanSheet x.grid → IsCleanSheet y.grid → IsCleanSheet (cond b x y).grid
+  drawn-either b x y p q = cond_both b x y (λ (z : PrintedGrid). IsCleanSheet z.grid) (λ _. p) (λ _. q)
 
   positions-clean : (g : GridView) (f : ℕ → RowView) → IsCleanSheet g → ((r : ℕ) → IsCleanRow t (f r))
       → IsCleanSheet (with_rows g f)

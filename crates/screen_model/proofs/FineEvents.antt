@@ -29,7 +29,7 @@ use Rattle.screen_model.specs.Effect.{given, window_effect, plain_rows, other_ro
 use Rattle.screen_model.specs.Effect.{plain_effect, csi_call, csi_effect, effect, escape_effect, print_effect, calling}
 use Rattle.screen_model.specs.Effect.{steps}
 use Rattle.screen_model.proofs.CleanRows.{IsKnown}
-use Rattle.screen_model.proofs.FineStates.{Bounds, IsWell, Keeps, KeepsStepped, well-typed, well-repeated}
+use Rattle.screen_model.proofs.FineStates.{Bounds, IsUnscrolledState, Keeps, KeepsStepped, well-typed, well-repeated}
 use Rattle.screen_model.proofs.FineStates.{well-moved_left, well-moved_right, well-tabbed, well-at_column, well-at_row}
 use Rattle.screen_model.proofs.FineStates.{well-at_place, well-moved_up, well-moved_down, well-line_above}
 use Rattle.screen_model.proofs.FineStates.{well-line_below}
@@ -123,8 +123,8 @@ attrs-well gs b s w = record {
 
 -- ---- private modes
 
-state-if : (b : Bounds) (p : Bool) (s t : State) → IsWell b s → IsWell b t → IsWell b (cond p s t)
-state-if b p s t v w = cond_both p s t (λ x. IsWell b x) (λ _. v) (λ _. w)
+state-if : (b : Bounds) (p : Bool) (s t : State) → IsUnscrolledState b s → IsUnscrolledState b t → IsUnscrolledState b (cond p s t)
+state-if b p s t v w = cond_both p s t (λ x. IsUnscrolledState b x) (λ _. v) (λ _. w)
 
 mouse-reset : (m : MouseProtocolMode) → Keeps (mouse_reset m)
 mouse-reset m b s w =
@@ -203,7 +203,7 @@ row-well None h b s w = w
 row-well (Some f) h b s w = h b s w
 
 modes-from : (rows : List (ℕ × (State → State))) → Each Keeps rows → (gs : List (List ℕ)) (b : Bounds) (x : Partly)
-    → IsWell b x.state → IsWell b (modes_from rows x gs).state
+    → IsUnscrolledState b x.state → IsUnscrolledState b (modes_from rows x gs).state
 modes-from rows h [] b x w = w
 modes-from rows h (g ∷ gs) b x w =
     modes-from rows h gs b (partly_on (row_of rows g) x)
@@ -243,9 +243,9 @@ KeepsPlain f = (gs : List (List ℕ)) → KeepsEffect (f gs)
 abbrev KeepsOther : (List (List ℕ) → Call → State → Effect) → Type 0
 KeepsOther f = (gs : List (List ℕ)) (k : Call) → KeepsEffect (f gs k)
 
-effect-if : (b : Bounds) (p : Bool) (x y : Effect) → IsWell b x.state → IsWell b y.state
-    → IsWell b (cond p x y).state
-effect-if b p x y v w = cond_both p x y (λ (z : Effect). IsWell b z.state) (λ _. v) (λ _. w)
+effect-if : (b : Bounds) (p : Bool) (x y : Effect) → IsUnscrolledState b x.state → IsUnscrolledState b y.state
+    → IsUnscrolledState b (cond p x y).state
+effect-if b p x y v w = cond_both p x y (λ (z : Effect). IsUnscrolledState b z.state) (λ _. v) (λ _. w)
 
 window-well : KeepsOther window_effect
 window-well gs k b s w = effect-if b (nat_eq (unwrap_or (given gs) 0) 8) _ (calling (k ∷ []) s) w w
@@ -390,7 +390,7 @@ handled-known c e = λ f. false≢true (sym (or-false (c == 0xFFFD) (is_in_range
 
 print-well : (c : ℕ) → IsScalar c → KeepsEffect (print_effect c)
 print-well c h b s w =
-    cond_both (is_unhandled c) _ (steps (typed c s)) (λ (x : Effect). IsWell b x.state) (λ _. w)
+    cond_both (is_unhandled c) _ (steps (typed c s)) (λ (x : Effect). IsUnscrolledState b x.state) (λ _. w)
     (λ e. well-typed c h (handled-known c e) b s w)
 
 pub effect-well : (e : Event) → IsTold e → KeepsEffect (effect e)

@@ -46,7 +46,7 @@ pub record Limits : Type 0 where
   pub keeps : Bool
   pub capacity : ℕ
 
-pub record IsFine (l : Limits) (g : GridView) : Type 0 where
+pub record IsUnscrolledSheet (l : Limits) (g : GridView) : Type 0 where
   pub grid : IsGrid g
   pub height : g.height ≡ l.height
   pub width : g.width ≡ l.width
@@ -58,17 +58,17 @@ pub record IsFine (l : Limits) (g : GridView) : Type 0 where
   pub kept : All (IsCleanRow sound) g.kept.rows
 
 -- the same of a sheet with its rows
-pub record IsDrawn (l : Limits) (g : GridView) : Type 0 where
-  pub fine : IsFine l g
+pub record IsShownSheet (l : Limits) (g : GridView) : Type 0 where
+  pub fine : IsUnscrolledSheet l g
   pub some : IsAllocated g
 
-pub drawn-if : (l : Limits) (b : Bool) (g h : GridView) → IsDrawn l g → IsDrawn l h → IsDrawn l (cond b g h)
-drawn-if l b g h p q = cond_both b g h (λ x. IsDrawn l x) (λ _. p) (λ _. q)
+pub drawn-if : (l : Limits) (b : Bool) (g h : GridView) → IsShownSheet l g → IsShownSheet l h → IsShownSheet l (cond b g h)
+drawn-if l b g h p q = cond_both b g h (λ x. IsShownSheet l x) (λ _. p) (λ _. q)
 
 -- ---- other rows
 
-rows-drawn : (l : Limits) (g : GridView) (rows : List RowView) → IsDrawn l g → IsGrid (record g { rows = rows })
-    → All (IsCleanRow sound) rows → length rows ≡ length g.rows → IsDrawn l (record g { rows = rows })
+rows-drawn : (l : Limits) (g : GridView) (rows : List RowView) → IsShownSheet l g → IsGrid (record g { rows = rows })
+    → All (IsCleanRow sound) rows → length rows ≡ length g.rows → IsShownSheet l (record g { rows = rows })
 rows-drawn l g rows d i clean n = record {
   fine = record {
     grid = i;
@@ -84,82 +84,82 @@ rows-drawn l g rows d i clean n = record {
   some = omega (arith, n, d.some);
 }
 
-positions-drawn : (l : Limits) (g : GridView) (f : ℕ → RowView) → IsDrawn l g → IsGrid (with_rows g f)
-    → ((r : ℕ) → IsCleanRow sound (f r)) → IsDrawn l (with_rows g f)
+positions-drawn : (l : Limits) (g : GridView) (f : ℕ → RowView) → IsShownSheet l g → IsGrid (with_rows g f)
+    → ((r : ℕ) → IsCleanRow sound (f r)) → IsShownSheet l (with_rows g f)
 positions-drawn l g f d i clean =
     rows-drawn l g (rows_by_position (length g.rows) f) d i (clean-rows sound (length g.rows) f clean)
     (length-rows_by_position (length g.rows) f)
 
-pub row-drawn : (l : Limits) (g : GridView) (r : ℕ) (v : RowView) → IsDrawn l g → IsGrid (with_row g r v)
-    → IsCleanRow sound v → IsDrawn l (with_row g r v)
+pub row-drawn : (l : Limits) (g : GridView) (r : ℕ) (v : RowView) → IsShownSheet l g → IsGrid (with_row g r v)
+    → IsCleanRow sound v → IsShownSheet l (with_row g r v)
 row-drawn l g r v d i clean =
     rows-drawn l g (set g.rows r v) d i (All-set (IsCleanRow sound) g.rows r v clean d.fine.rows)
     (length-set g.rows r v)
 
 -- ---- erasing, and cells and lines that come in and go
 
-pub drawn-all_erased : (l : Limits) (g : GridView) (a : Attrs) → IsProper a → IsDrawn l g → IsDrawn l (all_erased g a)
+pub drawn-all_erased : (l : Limits) (g : GridView) (a : Attrs) → IsProper a → IsShownSheet l g → IsShownSheet l (all_erased g a)
 drawn-all_erased l g a p d =
     positions-drawn l g (λ r. cleared_row (row_at g.rows r) a) d (IsGrid-all_erased g a d.fine.grid d.some)
     (λ r. clean-cleared sound (row_at g.rows r) a p)
 
-pub drawn-all_erased_forward : (l : Limits) (g : GridView) (a : Attrs) → IsProper a → IsDrawn l g
-    → IsDrawn l (all_erased_forward g a)
+pub drawn-all_erased_forward : (l : Limits) (g : GridView) (a : Attrs) → IsProper a → IsShownSheet l g
+    → IsShownSheet l (all_erased_forward g a)
 drawn-all_erased_forward l g a p d =
     positions-drawn l g (erased_forward_at g.rows g.row g.col g.width a) d
     (IsGrid-all_erased_forward g a d.fine.grid d.some)
     (clean-erased_forward sound g.rows g.row g.col g.width a p d.fine.rows)
 
-pub drawn-all_erased_backward : (l : Limits) (g : GridView) (a : Attrs) → IsProper a → IsDrawn l g
-    → IsDrawn l (all_erased_backward g a)
+pub drawn-all_erased_backward : (l : Limits) (g : GridView) (a : Attrs) → IsProper a → IsShownSheet l g
+    → IsShownSheet l (all_erased_backward g a)
 drawn-all_erased_backward l g a p d =
     positions-drawn l g (erased_backward_at g.rows g.row (columns_to_cursor g) a) d
     (IsGrid-all_erased_backward g a d.fine.grid d.some)
     (clean-erased_backward sound g.rows g.row (columns_to_cursor g) a p d.fine.rows)
 
-pub drawn-row_erased : (l : Limits) (g : GridView) (a : Attrs) → IsProper a → IsDrawn l g → IsDrawn l (row_erased g a)
+pub drawn-row_erased : (l : Limits) (g : GridView) (a : Attrs) → IsProper a → IsShownSheet l g → IsShownSheet l (row_erased g a)
 drawn-row_erased l g a p d =
     row-drawn l g g.row (cleared_row (row_of_cursor g) a) d (IsGrid-row_erased g a d.fine.grid d.some)
     (clean-cleared sound (row_of_cursor g) a p)
 
-pub drawn-columns_erased : (l : Limits) (g : GridView) (s e : ℕ) (a : Attrs) → IsProper a → e ≤ g.width → IsDrawn l g
-    → IsDrawn l (columns_erased g s e a)
+pub drawn-columns_erased : (l : Limits) (g : GridView) (s e : ℕ) (a : Attrs) → IsProper a → e ≤ g.width → IsShownSheet l g
+    → IsShownSheet l (columns_erased g s e a)
 drawn-columns_erased l g s e a p h d =
     row-drawn l g g.row (wiped_row (row_of_cursor g) s e a) d (IsGrid-columns_erased g s e a d.fine.grid d.some h)
     (clean-wiped sound (row_of_cursor g) s e a p (clean-row sound g.rows d.fine.rows g.row))
 
-pub drawn-cells_inserted : (l : Limits) (g : GridView) (n : ℕ) → IsDrawn l g → IsDrawn l (cells_inserted g n)
+pub drawn-cells_inserted : (l : Limits) (g : GridView) (n : ℕ) → IsShownSheet l g → IsShownSheet l (cells_inserted g n)
 drawn-cells_inserted l g n d =
     row-drawn l g g.row (inserted (row_of_cursor g) g.col n) d (IsGrid-cells_inserted g n d.fine.grid d.some)
     (clean-inserted sound (row_of_cursor g) g.col n (clean-row sound g.rows d.fine.rows g.row))
 
-pub drawn-cells_deleted : (l : Limits) (g : GridView) (n : ℕ) → IsDrawn l g → IsDrawn l (cells_deleted g n)
+pub drawn-cells_deleted : (l : Limits) (g : GridView) (n : ℕ) → IsShownSheet l g → IsShownSheet l (cells_deleted g n)
 drawn-cells_deleted l g n d =
     row-drawn l g g.row (removed (row_of_cursor g) g.col (min (g.col + n) g.width)) d
     (IsGrid-cells_deleted g n d.fine.grid d.some)
     (clean-removed sound (row_of_cursor g) g.col (min (g.col + n) g.width) (clean-row sound g.rows d.fine.rows g.row))
 
-drawn-lines_opened : (l : Limits) (g : GridView) (first n : ℕ) → IsDrawn l g → IsDrawn l (lines_opened g first n)
+drawn-lines_opened : (l : Limits) (g : GridView) (first n : ℕ) → IsShownSheet l g → IsShownSheet l (lines_opened g first n)
 drawn-lines_opened l g first n d =
     positions-drawn l g (opened_line g.rows first (g.bottom + 1) (min n (g.bottom + 1 - first)) g.width) d
     (IsGrid-lines_opened g first n d.fine.grid d.some)
     (clean-opened_line sound g.rows first (g.bottom + 1) (min n (g.bottom + 1 - first)) g.width d.fine.rows)
 
-pub drawn-lines_inserted : (l : Limits) (g : GridView) (n : ℕ) → IsDrawn l g → IsDrawn l (lines_inserted g n)
+pub drawn-lines_inserted : (l : Limits) (g : GridView) (n : ℕ) → IsShownSheet l g → IsShownSheet l (lines_inserted g n)
 drawn-lines_inserted l g n d =
     drawn-if l (nat_lt 0 n && is_in_region g) (lines_opened g g.row n) g (drawn-lines_opened l g g.row n d) d
 
-pub drawn-scrolled_down : (l : Limits) (g : GridView) (n : ℕ) → IsDrawn l g → IsDrawn l (scrolled_down g n)
+pub drawn-scrolled_down : (l : Limits) (g : GridView) (n : ℕ) → IsShownSheet l g → IsShownSheet l (scrolled_down g n)
 drawn-scrolled_down l g n d = drawn-if l (nat_lt 0 n) (lines_opened g g.top n) g (drawn-lines_opened l g g.top n d) d
 
-moved-drawn : (l : Limits) (g : GridView) (first n : ℕ) → IsDrawn l g
-    → IsDrawn l (with_rows g (moved_up g.rows first (g.bottom + 1) n g.width))
+moved-drawn : (l : Limits) (g : GridView) (first n : ℕ) → IsShownSheet l g
+    → IsShownSheet l (with_rows g (moved_up g.rows first (g.bottom + 1) n g.width))
 moved-drawn l g first n d =
     positions-drawn l g (moved_up g.rows first (g.bottom + 1) n g.width) d
     (IsGrid-moved_up g first (g.bottom + 1) n d.fine.grid (region_rows g d.fine.grid d.some))
     (clean-moved_up sound g.rows first (g.bottom + 1) n g.width d.fine.rows)
 
-pub drawn-lines_deleted : (l : Limits) (g : GridView) (n : ℕ) → IsDrawn l g → IsDrawn l (lines_deleted g n)
+pub drawn-lines_deleted : (l : Limits) (g : GridView) (n : ℕ) → IsShownSheet l g → IsShownSheet l (lines_deleted g n)
 drawn-lines_deleted l g n d =
     let m = min n (g.bottom + 1 - g.row) in
     drawn-if l (is_in_region g) (with_rows g (moved_up g.rows g.row (g.bottom + 1) m g.width)) g
@@ -241,7 +241,7 @@ places-grid g p i a o = record {
   fresh = λ z. absurd (omega (arith, z, a));
 }
 
-places-drawn : (l : Limits) (g : GridView) (p : Places) → IsDrawn l g → AreOn g p → IsDrawn l (placed_at g p)
+places-drawn : (l : Limits) (g : GridView) (p : Places) → IsShownSheet l g → AreOn g p → IsShownSheet l (placed_at g p)
 places-drawn l g p d o = record {
   fine = record {
     grid = places-grid g p d.fine.grid d.some o;
@@ -258,8 +258,8 @@ places-drawn l g p d o = record {
 }
 
 -- the cursor goes to a place of the screen
-pub drawn-at : (l : Limits) (g : GridView) (row col : ℕ) → row < g.height → col ≤ g.width → IsDrawn l g
-    → IsDrawn l (record g { row = row; col = col })
+pub drawn-at : (l : Limits) (g : GridView) (row col : ℕ) → row < g.height → col ≤ g.width → IsShownSheet l g
+    → IsShownSheet l (record g { row = row; col = col })
 drawn-at l g row col r c d =
     let o = are-on g d.fine.grid in
     places-drawn l g (record (places_of g) { row = row; col = col }) d (record {
@@ -272,14 +272,14 @@ drawn-at l g row col r c d =
       region_lines = o.region_lines;
     })
 
-pub drawn-col : (l : Limits) (g : GridView) (col : ℕ) → col ≤ g.width → IsDrawn l g → IsDrawn l (record g { col = col })
+pub drawn-col : (l : Limits) (g : GridView) (col : ℕ) → col ≤ g.width → IsShownSheet l g → IsShownSheet l (record g { col = col })
 drawn-col l g col c d = drawn-at l g g.row col d.fine.grid.cursor_row c d
 
-pub drawn-row : (l : Limits) (g : GridView) (row : ℕ) → row < g.height → IsDrawn l g
-    → IsDrawn l (record g { row = row })
+pub drawn-row : (l : Limits) (g : GridView) (row : ℕ) → row < g.height → IsShownSheet l g
+    → IsShownSheet l (record g { row = row })
 drawn-row l g row r d = drawn-at l g row g.col r d.fine.grid.cursor_col d
 
-pub drawn-cursor_at : (l : Limits) (g : GridView) (row col : ℕ) → IsDrawn l g → IsDrawn l (cursor_at g row col)
+pub drawn-cursor_at : (l : Limits) (g : GridView) (row col : ℕ) → IsShownSheet l g → IsShownSheet l (cursor_at g row col)
 drawn-cursor_at l g row col d =
     let i = d.fine.grid in
     drawn-at l g (cond g.origin (min (row + g.top) g.bottom) (min row (g.height - 1))) (min col (g.width - 1))
@@ -287,7 +287,7 @@ drawn-cursor_at l g row col d =
     (λ _. omega (arith, i.region_end)) (λ _. omega (arith, i.some_rows)))
     (omega arith) d
 
-pub drawn-origin : (l : Limits) (g : GridView) (mode : Bool) → IsDrawn l g → IsDrawn l (with_origin g mode)
+pub drawn-origin : (l : Limits) (g : GridView) (mode : Bool) → IsShownSheet l g → IsShownSheet l (with_origin g mode)
 drawn-origin l g mode d =
     let o = are-on g d.fine.grid in
     drawn-cursor_at l (record g { origin = mode }) 0 0
@@ -301,7 +301,7 @@ drawn-origin l g mode d =
       region_lines = o.region_lines;
     }))
 
-pub drawn-saved : (l : Limits) (g : GridView) → IsDrawn l g → IsDrawn l (cursor_saved g)
+pub drawn-saved : (l : Limits) (g : GridView) → IsShownSheet l g → IsShownSheet l (cursor_saved g)
 drawn-saved l g d =
     let o = are-on g d.fine.grid in
     places-drawn l g (record (places_of g) { saved_row = g.row; saved_col = g.col; saved_origin = g.origin }) d
@@ -315,7 +315,7 @@ drawn-saved l g d =
       region_lines = o.region_lines;
     })
 
-pub drawn-restored : (l : Limits) (g : GridView) → IsDrawn l g → IsDrawn l (cursor_restored g)
+pub drawn-restored : (l : Limits) (g : GridView) → IsShownSheet l g → IsShownSheet l (cursor_restored g)
 drawn-restored l g d =
     let o = are-on g d.fine.grid in
     places-drawn l g (record (places_of g) { row = g.saved_row; col = g.saved_col; origin = g.saved_origin }) d
@@ -332,13 +332,13 @@ drawn-restored l g d =
 is-less : (m n : ℕ) → nat_lt m n ≡ true → m < n
 is-less m n e = grind (arith, nat_tests)
 
-pub drawn-region : (l : Limits) (g : GridView) (top bottom : ℕ) → IsDrawn l g → IsDrawn l (with_region g top bottom)
+pub drawn-region : (l : Limits) (g : GridView) (top bottom : ℕ) → IsShownSheet l g → IsShownSheet l (with_region g top bottom)
 drawn-region l g top bottom d =
     let i = d.fine.grid in
     let o = are-on g i in
     let end = min bottom (g.height - 1) in
     cond_both (nat_lt top end) (record g { top = top; bottom = end; row = top; col = 0 })
-    (record g { top = 0; bottom = g.height - 1; row = 0; col = 0 }) (λ x. IsDrawn l x)
+    (record g { top = 0; bottom = g.height - 1; row = 0; col = 0 }) (λ x. IsShownSheet l x)
     (λ e. let less = is-less top end e in
     places-drawn l g (record (places_of g) { top = top; bottom = end; row = top; col = 0 }) d (record {
       row = omega (arith, less, i.some_rows);
@@ -359,21 +359,21 @@ drawn-region l g top bottom d =
       region_lines = λ same. omega (arith, i.some_rows, same);
     }))
 
-pub drawn-down : (l : Limits) (g : GridView) (n : ℕ) → IsDrawn l g → IsDrawn l (moved_rows_down g n)
+pub drawn-down : (l : Limits) (g : GridView) (n : ℕ) → IsShownSheet l g → IsShownSheet l (moved_rows_down g n)
 drawn-down l g n d =
     let i = d.fine.grid in
     drawn-row l g (min (g.row + n) (cond (is_in_region g) g.bottom (g.height - 1)))
     (cond_both (is_in_region g) g.bottom (g.height - 1) (λ m. min (g.row + n) m < g.height)
     (λ _. omega (arith, i.region_end)) (λ _. omega (arith, i.some_rows))) d
 
-pub drawn-up : (l : Limits) (g : GridView) (n : ℕ) → IsDrawn l g → IsDrawn l (moved_rows_up g n)
+pub drawn-up : (l : Limits) (g : GridView) (n : ℕ) → IsShownSheet l g → IsShownSheet l (moved_rows_up g n)
 drawn-up l g n d =
     let i = d.fine.grid in
     drawn-row l g (cond (is_in_region g) (max (g.row - n) g.top) (g.row - n))
     (cond_both (is_in_region g) (max (g.row - n) g.top) (g.row - n) (λ m. m < g.height)
     (λ _. omega (arith, i.cursor_row, i.region, i.region_end)) (λ _. omega (arith, i.cursor_row))) d
 
-pub drawn-fed_up : (l : Limits) (g : GridView) (n : ℕ) → IsDrawn l g → IsDrawn l (fed_up g n)
+pub drawn-fed_up : (l : Limits) (g : GridView) (n : ℕ) → IsShownSheet l g → IsShownSheet l (fed_up g n)
 drawn-fed_up l g n d = drawn-scrolled_down l (moved_rows_up g n) (rows_past_top g n) (drawn-up l g n d)
 
 -- ---- rows that are kept
@@ -422,10 +422,10 @@ kept-after k left i rows few hidden keeps =
       bounded = omega arith;
     }
 
-kept-drawn : (l : Limits) (g : GridView) (rows : List RowView) (k : KeptPart) → IsDrawn l g
+kept-drawn : (l : Limits) (g : GridView) (rows : List RowView) (k : KeptPart) → IsShownSheet l g
     → IsGrid (record g { rows = rows; kept = k })
     → All (IsCleanRow sound) rows → All (IsCleanRow sound) k.rows → length rows ≡ length g.rows → k.keeps ≡ g.kept.keeps
-    → k.capacity ≡ g.kept.capacity → k.offset ≡ 0 → IsDrawn l (record g { rows = rows; kept = k })
+    → k.capacity ≡ g.kept.capacity → k.offset ≡ 0 → IsShownSheet l (record g { rows = rows; kept = k })
 kept-drawn l g rows k d i clean clean_kept n keeps capacity hidden = record {
   fine = record {
     grid = i;
@@ -450,7 +450,7 @@ both-are : (p q : Bool) → (p && q) ≡ true → q ≡ true
 both-are true q e = e
 both-are false q e = cc
 
-pub drawn-scrolled_up : (l : Limits) (g : GridView) (n : ℕ) → IsDrawn l g → IsDrawn l (scrolled_up g n).grid
+pub drawn-scrolled_up : (l : Limits) (g : GridView) (n : ℕ) → IsShownSheet l g → IsShownSheet l (scrolled_up g n).grid
 unfolding scrolled_up kept-rows
 drawn-scrolled_up l g n d =
     let i = d.fine.grid in
@@ -462,7 +462,7 @@ drawn-scrolled_up l g n d =
     + 1) (up_count g n) g.width d.fine.rows) in
     let k = kept_after g.kept left in
     cond_both (is_kept_from g) (widened k g.height g.width) g.kept
-    (λ (x : KeptPart). IsDrawn l (record g { rows = rows; kept = x }))
+    (λ (x : KeptPart). IsShownSheet l (record g { rows = rows; kept = x }))
     (λ e. let off = kept-hidden g.kept left d.fine.hidden in
     let all_left = All-take IsRow (up_count g n) (drop g.top g.rows) (All-drop IsRow g.top g.rows (sheet-rows g i)) in
     let clean_left = All-take (IsCleanRow sound) (up_count g n) (drop g.top g.rows)
@@ -470,7 +470,7 @@ drawn-scrolled_up l g n d =
     let valid = kept-after g.kept left i.kept all_left (omega (arith, d.fine.capacity, d.fine.few)) d.fine.hidden
     (both-are (g.top == 0) g.kept.keeps e) in
     let narrow = IsShownWide-none k g.height g.width off in
-    subst (λ (x : KeptPart). IsDrawn l (record g { rows = rows; kept = x })) (sym
+    subst (λ (x : KeptPart). IsShownSheet l (record g { rows = rows; kept = x })) (sym
     (widened-none k g.height g.width narrow))
     (kept-drawn l g rows k d
     (IsGrid-scrolled g rows k i d.some m
@@ -479,10 +479,10 @@ drawn-scrolled_up l g n d =
     clean (kept-all (IsCleanRow sound) (clean-trimmed sound) g.kept left d.fine.kept clean_left) m refl refl off))
     (λ _. moved-drawn l g g.top (up_count g n) d)
 
-pub drawn-fed : (l : Limits) (g : GridView) (n : ℕ) → IsDrawn l g → IsDrawn l (fed g n).grid
+pub drawn-fed : (l : Limits) (g : GridView) (n : ℕ) → IsShownSheet l g → IsShownSheet l (fed g n).grid
 unfolding fed
 drawn-fed l g n d =
     cond_both (is_in_region g) (scrolled_up (moved_rows_down g n) (rows_past_bottom g n))
-    (record { grid = moved_rows_down g n; sunk = [] }) (λ (s : Scrolled). IsDrawn l s.grid)
+    (record { grid = moved_rows_down g n; sunk = [] }) (λ (s : Scrolled). IsShownSheet l s.grid)
     (λ _. drawn-scrolled_up l (moved_rows_down g n) (rows_past_bottom g n) (drawn-down l g n d))
     (λ _. drawn-down l g n d)

@@ -25,7 +25,7 @@ use Rattle.vt100_core.proofs.ResizeLemmas.{some-lengthened}
 use Rattle.vt100_core.proofs.LengthenLemmas.{IsGrid-lengthened}
 use Rattle.screen_model.proofs.CleanRows.{IsCleanRow, sound, clean-blank, clean-resized, clean-first, clean-row}
 use Rattle.screen_model.proofs.CleanRows.{clean-rows}
-use Rattle.screen_model.proofs.FineGrids.{Limits, IsFine, IsDrawn, drawn-scrolled_up}
+use Rattle.screen_model.proofs.FineGrids.{Limits, IsUnscrolledSheet, IsShownSheet, drawn-scrolled_up}
 
 -- ---- a new sheet
 
@@ -48,7 +48,7 @@ new-kept s k keeps capacity rows offset off =
 
 pub new-fine : (height width : ℕ) (s : Scrollback) → 0 < height → height < 2 ^ 16 → 0 < width → width < 2 ^ 16
     → capacity_of s < 2 ^ 64
-    → IsFine (record { height = height; width = width; keeps = keeps_of s; capacity = capacity_of s })
+    → IsUnscrolledSheet (record { height = height; width = width; keeps = keeps_of s; capacity = capacity_of s })
     (new_grid height width s)
 new-fine height width s some_rows few_rows some_cols few_cols few =
     let g = new_grid height width s in
@@ -96,8 +96,8 @@ new-fine height width s some_rows few_rows some_cols few_cols few =
 
 -- ---- rows for it
 
-blank-rows : (l : Limits) (g : GridView) → IsFine l g
-    → IsDrawn l (record g { rows = replicate g.height (blank_row g.width) })
+blank-rows : (l : Limits) (g : GridView) → IsUnscrolledSheet l g
+    → IsShownSheet l (record g { rows = replicate g.height (blank_row g.width) })
 blank-rows l g d =
     let i = d.grid in
     let n = length-replicate g.height (blank_row g.width) in
@@ -135,13 +135,13 @@ blank-rows l g d =
 some-rows : (n : ℕ) → (n == 0) ≡ false → 0 < n
 some-rows n e = grind (arith, nat_tests)
 
-pub drawn-allocated : (l : Limits) (g : GridView) → IsFine l g → IsDrawn l (allocated g)
+pub drawn-allocated : (l : Limits) (g : GridView) → IsUnscrolledSheet l g → IsShownSheet l (allocated g)
 drawn-allocated l g d =
-    cond_both (length g.rows == 0) (record g { rows = replicate g.height (blank_row g.width) }) g (λ x. IsDrawn l x)
+    cond_both (length g.rows == 0) (record g { rows = replicate g.height (blank_row g.width) }) g (λ x. IsShownSheet l x)
     (λ _. blank-rows l g d)
     (λ e. record { fine = d; some = some-rows (length g.rows) e })
 
-pub fine-cleared : (l : Limits) (g : GridView) → IsFine l g → IsFine l (cleared g)
+pub fine-cleared : (l : Limits) (g : GridView) → IsUnscrolledSheet l g → IsUnscrolledSheet l (cleared g)
 fine-cleared l g d =
     let i = d.grid in
     let n = length-replicate (length g.rows) (blank_row g.width) in
@@ -186,7 +186,7 @@ fine-cleared l g d =
       kept = d.kept;
     }
 
-pub drawn-cleared : (l : Limits) (g : GridView) → IsDrawn l g → IsDrawn l (cleared g)
+pub drawn-cleared : (l : Limits) (g : GridView) → IsShownSheet l g → IsShownSheet l (cleared g)
 drawn-cleared l g d = record {
   fine = fine-cleared l g d.fine;
   some = omega (arith, length-replicate (length g.rows) (blank_row g.width), d.some);
@@ -203,7 +203,7 @@ none-shown g e =
     ap (λ (x : KeptPart). record g { kept = x })
     (widened-none k g.height g.width (IsShownWide-none k g.height g.width (omega arith)) ∙ same)
 
-pub drawn-none_kept : (l : Limits) (g : GridView) → IsDrawn l g → IsDrawn l (scrollback_erased g)
+pub drawn-none_kept : (l : Limits) (g : GridView) → IsShownSheet l g → IsShownSheet l (scrollback_erased g)
 drawn-none_kept l g d =
     let i = d.fine.grid in
     let k : KeptPart = record (g.kept) { rows = []; offset = 0; scrolled_off = 0 } in
@@ -251,7 +251,7 @@ drawn-none_kept l g d =
 abbrev sized : Limits → ℕ → ℕ → Limits
 sized l height width = record l { height = height; width = width }
 
-whole-fine : (l : Limits) (g : GridView) → IsFine l g → IsFine l (whole_screen g)
+whole-fine : (l : Limits) (g : GridView) → IsUnscrolledSheet l g → IsUnscrolledSheet l (whole_screen g)
 whole-fine l g d = record {
   grid = IsGrid-whole_screen g d.grid;
   height = d.height;
@@ -264,8 +264,8 @@ whole-fine l g d = record {
   kept = d.kept;
 }
 
-width-fine : (l : Limits) (g : GridView) (width : ℕ) → IsFine l g → 0 < width → width < 2 ^ 16
-    → IsFine (sized l l.height width) (with_width g width)
+width-fine : (l : Limits) (g : GridView) (width : ℕ) → IsUnscrolledSheet l g → 0 < width → width < 2 ^ 16
+    → IsUnscrolledSheet (sized l l.height width) (with_width g width)
 width-fine l g width d some small =
     let f : ℕ → RowView = λ r. resized_row (row_at g.rows r) width default_cell in
     record {
@@ -281,8 +281,8 @@ width-fine l g width d some small =
       kept = d.kept;
     }
 
-shorter-fine : (l : Limits) (g : GridView) (up height : ℕ) → IsFine l g → 0 < height → height < g.height
-    → g.row - up < height → g.top ≡ 0 → IsFine (sized l height l.width) (shortened g up height)
+shorter-fine : (l : Limits) (g : GridView) (up height : ℕ) → IsUnscrolledSheet l g → 0 < height → height < g.height
+    → g.row - up < height → g.top ≡ 0 → IsUnscrolledSheet (sized l height l.width) (shortened g up height)
 shorter-fine l g up height d some lower above top = record {
   grid = IsGrid-shortened g up height d.grid some lower above top d.hidden;
   height = refl;
@@ -296,8 +296,8 @@ shorter-fine l g up height d some lower above top = record {
   kept = d.kept;
 }
 
-longer-fine : (l : Limits) (g : GridView) (height : ℕ) → IsFine l g → g.height ≤ height → height < 2 ^ 16
-    → g.top ≡ 0 → IsFine (sized l height l.width) (lengthened g height)
+longer-fine : (l : Limits) (g : GridView) (height : ℕ) → IsUnscrolledSheet l g → g.height ≤ height → height < 2 ^ 16
+    → g.top ≡ 0 → IsUnscrolledSheet (sized l height l.width) (lengthened g height)
 longer-fine l g height d higher small top =
     let down = down_rows g height in
     let f : RowView → RowView = λ v. resized_row v g.width default_cell in
@@ -337,8 +337,8 @@ is-less : (m n : ℕ) → nat_lt m n ≡ true → m < n
 is-less m n e = grind (arith, nat_tests)
 
 -- of a sheet without rows none scrolls off
-scrolled-fine : (l : Limits) (g : GridView) (height : ℕ) → IsFine l g → 0 < height
-    → IsFine l (scrolled_up (whole_screen g) (up_rows g height)).grid
+scrolled-fine : (l : Limits) (g : GridView) (height : ℕ) → IsUnscrolledSheet l g → 0 < height
+    → IsUnscrolledSheet l (scrolled_up (whole_screen g) (up_rows g height)).grid
 scrolled-fine l g height d some =
     let whole = whole-fine l g d in
     let up = up_rows g height in
@@ -347,12 +347,12 @@ scrolled-fine l g height d some =
     (λ (a : length g.rows ≤ 0).
     let new = IsNew-of g d.grid (omega arith) in
     let none : up_count (whole_screen g) up ≡ 0 = omega (arith, new.row, d.grid.some_rows) in
-    subst (λ x. IsFine l x) (scrolls-none (whole_screen g) up none whole.grid.kept whole.grid.shown) whole)
+    subst (λ x. IsUnscrolledSheet l x) (scrolls-none (whole_screen g) up none whole.grid.kept whole.grid.shown) whole)
     (cases_lt 0 (length g.rows))
 
-lower-fine : (l : Limits) (g : GridView) (height width : ℕ) → IsFine l g → 0 < height → height < g.height → 0 < width
+lower-fine : (l : Limits) (g : GridView) (height width : ℕ) → IsUnscrolledSheet l g → 0 < height → height < g.height → 0 < width
     → width < 2 ^ 16
-    → IsFine (sized l height width)
+    → IsUnscrolledSheet (sized l height width)
     (with_width (shortened (scrolled_up (whole_screen g) (up_rows g height)).grid (up_rows g height) height) width)
 unfolding scrolled_up
 lower-fine l g height width d some lower some_cols few_cols =
@@ -362,15 +362,15 @@ lower-fine l g height width d some lower some_cols few_cols =
     width-fine (sized l height l.width) (shortened s up height) width
     (shorter-fine l s up height (scrolled-fine l g height d some) some lower above refl) some_cols few_cols
 
-higher-fine : (l : Limits) (g : GridView) (height width : ℕ) → IsFine l g → g.height ≤ height → height < 2 ^ 16
+higher-fine : (l : Limits) (g : GridView) (height width : ℕ) → IsUnscrolledSheet l g → g.height ≤ height → height < 2 ^ 16
     → 0 < width → width < 2 ^ 16
-    → IsFine (sized l height width) (lengthened (with_width (whole_screen g) width) height)
+    → IsUnscrolledSheet (sized l height width) (lengthened (with_width (whole_screen g) width) height)
 higher-fine l g height width d higher few_rows some_cols few_cols =
     longer-fine (sized l l.height width) (with_width (whole_screen g) width) height
     (width-fine l (whole_screen g) width (whole-fine l g d) some_cols few_cols) higher few_rows refl
 
-same-fine : (l : Limits) (g : GridView) (height width : ℕ) → IsFine l g → height ≡ g.height → width ≡ g.width
-    → IsFine (sized l height width) g
+same-fine : (l : Limits) (g : GridView) (height width : ℕ) → IsUnscrolledSheet l g → height ≡ g.height → width ≡ g.width
+    → IsUnscrolledSheet (sized l height width) g
 same-fine l g height width d h w = record {
   grid = d.grid;
   height = sym h;
@@ -383,8 +383,8 @@ same-fine l g height width d h w = record {
   kept = d.kept;
 }
 
-pub fine-resized : (l : Limits) (g : GridView) (height width : ℕ) → IsFine l g → 0 < height → height < 2 ^ 16
-    → 0 < width → width < 2 ^ 16 → IsFine (sized l height width) (resized g height width).grid
+pub fine-resized : (l : Limits) (g : GridView) (height width : ℕ) → IsUnscrolledSheet l g → 0 < height → height < 2 ^ 16
+    → 0 < width → width < 2 ^ 16 → IsUnscrolledSheet (sized l height width) (resized g height width).grid
 unfolding resized
 fine-resized l g height width d some_rows few_rows some_cols few_cols =
     let up = up_rows g height in
@@ -393,15 +393,15 @@ fine-resized l g height width d some_rows few_rows some_cols few_cols =
     let higher : Scrolled = record { grid = lengthened (with_width (whole_screen g) width) height; sunk = [] } in
     let same : Scrolled = record { grid = g; sunk = [] } in
     cond_both ((height == g.height) && (width == g.width)) same (cond (nat_lt height g.height) lower higher)
-    (λ (x : Scrolled). IsFine (sized l height width) x.grid)
+    (λ (x : Scrolled). IsUnscrolledSheet (sized l height width) x.grid)
     (λ e. let parts = both-are (height == g.height) (width == g.width) e in
     same-fine l g height width d (eqb-true height g.height parts.0) (eqb-true width g.width parts.1))
-    (λ _. cond_both (nat_lt height g.height) lower higher (λ (x : Scrolled). IsFine (sized l height width) x.grid)
+    (λ _. cond_both (nat_lt height g.height) lower higher (λ (x : Scrolled). IsUnscrolledSheet (sized l height width) x.grid)
     (λ e. lower-fine l g height width d some_rows (is-less height g.height e) some_cols few_cols)
     (λ e. higher-fine l g height width d (not-less height g.height e) few_rows some_cols few_cols))
 
 -- a sheet that has rows keeps some
-lower-some : (l : Limits) (g : GridView) (height width : ℕ) → IsDrawn l g → 0 < height
+lower-some : (l : Limits) (g : GridView) (height width : ℕ) → IsShownSheet l g → 0 < height
     → IsAllocated (with_width (shortened (scrolled_up (whole_screen g) (up_rows g height)).grid (up_rows g height)
     height) width)
 lower-some l g height width d some =
@@ -420,7 +420,7 @@ higher-some g height width a =
     some-lengthened w (lengthened w height) height refl
     (omega (arith, a, length-rows_by_position (length g.rows) f))
 
-pub some-resized : (l : Limits) (g : GridView) (height width : ℕ) → IsDrawn l g → 0 < height
+pub some-resized : (l : Limits) (g : GridView) (height width : ℕ) → IsShownSheet l g → 0 < height
     → IsAllocated (resized g height width).grid
 unfolding resized
 some-resized l g height width d some_rows =

@@ -18,13 +18,13 @@ use Rattle.screen_model.specs.State.{State, IsState, IsProperSheet, main_sheet, 
 use Rattle.screen_model.specs.Step.{Stepped, with_shown, last_after, typed, typed_times}
 use Rattle.screen_model.specs.Step.{repeated_last, repeated, moved_left, moved_right, tabbed, at_column, at_row}
 use Rattle.screen_model.specs.Step.{at_place}
-use Rattle.screen_model.specs.Step.{moved_up, moved_down, line_above, line_below, line_fed, line_fed_back, in_region}
+use Rattle.screen_model.specs.Step.{cursor_up, cursor_down, line_above, line_below, line_fed, line_fed_back, in_region}
 use Rattle.screen_model.specs.Step.{saved, restored, erased_below, erased_above, erased_all, erased_kept, erased_right}
 use Rattle.screen_model.specs.Step.{erased_left, erased_row, cells_erased, cells_added, cells_taken, lines_added}
 use Rattle.screen_model.specs.Step.{lines_taken, region_up, region_down, with_origin_mode, alternate_shown, main_shown}
 use Rattle.screen_model.specs.Step.{alternate_cleared, alternate_entered, alternate_left, made_anew, resized_to}
 use Rattle.screen_model.proofs.CleanRows.{IsKnown, sound, clean-cell, clean-row}
-use Rattle.screen_model.proofs.FineGrids.{Limits, IsFine, IsDrawn, drawn-col, drawn-row, drawn-cursor_at}
+use Rattle.screen_model.proofs.FineGrids.{Limits, IsUnscrolledSheet, IsShownSheet, drawn-col, drawn-row, drawn-cursor_at}
 use Rattle.screen_model.proofs.FineGrids.{drawn-origin, drawn-saved, drawn-restored, drawn-region, drawn-down, drawn-up}
 use Rattle.screen_model.proofs.FineGrids.{drawn-fed_up, drawn-fed, drawn-scrolled_up, drawn-all_erased}
 use Rattle.screen_model.proofs.FineGrids.{drawn-all_erased_forward, drawn-all_erased_backward, drawn-row_erased}
@@ -57,10 +57,10 @@ limits b alternate = record {
   capacity = if alternate then 0 else b.capacity;
 }
 
-pub record IsWell (b : Bounds) (s : State) : Type 0 where
+pub record IsUnscrolledState (b : Bounds) (s : State) : Type 0 where
   pub bounds : AreBounds b
-  pub shown : IsDrawn (limits b s.alternate) s.shown
-  pub other : IsFine (limits b (not s.alternate)) s.other
+  pub shown : IsShownSheet (limits b s.alternate) s.shown
+  pub other : IsUnscrolledSheet (limits b (not s.alternate)) s.other
   pub main : s.alternate ≡ true → IsAllocated s.other
   pub attrs : IsProper s.attrs
   pub saved_attrs : IsProper s.saved_attrs
@@ -70,13 +70,13 @@ not-not : (b c : Bool) → b ≡ not c → not b ≡ c
 not-not b true e = ap not e
 not-not b false e = ap not e
 
-fine-proper : (l : Limits) (g : GridView) → IsFine l g → IsProperSheet g
+fine-proper : (l : Limits) (g : GridView) → IsUnscrolledSheet l g → IsProperSheet g
 fine-proper l g d = record {
   drawn = λ r k. (clean-cell sound (row_at g.rows r) (clean-row sound g.rows d.rows r) k).attrs;
   kept = λ r k. (clean-cell sound (row_at g.kept.rows r) (clean-row sound g.kept.rows d.kept r) k).attrs;
 }
 
-pub is-state : (b : Bounds) (s : State) → IsWell b s → IsState s
+pub is-state : (b : Bounds) (s : State) → IsUnscrolledState b s → IsState s
 is-state b s w =
     state_whole s w.shown.some w.main (w.other.height ∙ sym w.shown.fine.height)
     (w.other.width ∙ sym w.shown.fine.width) w.shown.fine.keeps (w.other.keeps ∙ not-not
@@ -86,8 +86,8 @@ is-state b s w =
 
 -- ---- the shown sheet
 
-pub well-shown : (b : Bounds) (s : State) (g : GridView) → IsWell b s → IsDrawn (limits b s.alternate) g
-    → IsWell b (with_shown s g)
+pub well-shown : (b : Bounds) (s : State) (g : GridView) → IsUnscrolledState b s → IsShownSheet (limits b s.alternate) g
+    → IsUnscrolledState b (with_shown s g)
 well-shown b s g w d = record {
   bounds = w.bounds;
   shown = d;
@@ -99,7 +99,7 @@ well-shown b s g w d = record {
 }
 
 abbrev pub Keeps : (State → State) → Type 0
-Keeps f = (b : Bounds) (s : State) → IsWell b s → IsWell b (f s)
+Keeps f = (b : Bounds) (s : State) → IsUnscrolledState b s → IsUnscrolledState b (f s)
 
 abbrev pub KeepsStepped : (State → Stepped) → Type 0
 KeepsStepped f = Keeps (λ s. (f s).state)
@@ -167,10 +167,10 @@ well-at_row n b s w =
 pub well-at_place : (row col : ℕ) → Keeps (at_place row col)
 well-at_place row col b s w = well-shown b s _ w (drawn-cursor_at (limits b s.alternate) s.shown row col w.shown)
 
-pub well-moved_up : (n : ℕ) → Keeps (moved_up n)
+pub well-moved_up : (n : ℕ) → Keeps (cursor_up n)
 well-moved_up n b s w = well-shown b s _ w (drawn-up (limits b s.alternate) s.shown n w.shown)
 
-pub well-moved_down : (n : ℕ) → Keeps (moved_down n)
+pub well-moved_down : (n : ℕ) → Keeps (cursor_down n)
 well-moved_down n b s w = well-shown b s _ w (drawn-down (limits b s.alternate) s.shown n w.shown)
 
 pub well-line_above : (n : ℕ) → Keeps (line_above n)
@@ -267,16 +267,16 @@ well-origin mode b s w = well-shown b s _ w (drawn-origin (limits b s.alternate)
 
 -- ---- the alternate sheet
 
-fine-as : (b : Bounds) (p q : Bool) (g : GridView) → p ≡ q → IsFine (limits b p) g → IsFine (limits b q) g
-fine-as b p q g e h = subst (λ x. IsFine (limits b x) g) e h
+fine-as : (b : Bounds) (p q : Bool) (g : GridView) → p ≡ q → IsUnscrolledSheet (limits b p) g → IsUnscrolledSheet (limits b q) g
+fine-as b p q g e h = subst (λ x. IsUnscrolledSheet (limits b x) g) e h
 
 pub well-alternate_shown : Keeps alternate_shown
 well-alternate_shown b s w =
     let back = sym (none-shown s.shown w.shown.fine.hidden) in
-    let here : IsDrawn (limits b s.alternate) (scrollback_shown s.shown 0) =
-    subst (λ g. IsDrawn (limits b s.alternate) g) back w.shown in
+    let here : IsShownSheet (limits b s.alternate) (scrollback_shown s.shown 0) =
+    subst (λ g. IsShownSheet (limits b s.alternate) g) back w.shown in
     cond_both s.alternate (with_shown s (scrollback_shown s.shown 0))
-    (record s { shown = allocated s.other; other = scrollback_shown s.shown 0; alternate = true }) (λ t. IsWell b t)
+    (record s { shown = allocated s.other; other = scrollback_shown s.shown 0; alternate = true }) (λ t. IsUnscrolledState b t)
     (λ _. well-shown b s (scrollback_shown s.shown 0) w here)
     (λ e. record {
       bounds = w.bounds;
@@ -290,7 +290,7 @@ well-alternate_shown b s w =
 
 pub well-main_shown : Keeps main_shown
 well-main_shown b s w =
-    cond_both s.alternate (record s { shown = s.other; other = s.shown; alternate = false }) s (λ t. IsWell b t)
+    cond_both s.alternate (record s { shown = s.other; other = s.shown; alternate = false }) s (λ t. IsUnscrolledState b t)
     (λ e. record {
       bounds = w.bounds;
       shown = record { fine = fine-as b (not s.alternate) false s.other (ap not e) w.other; some = w.main e };
@@ -304,7 +304,7 @@ well-main_shown b s w =
 
 well-alternate_cleared : Keeps alternate_cleared
 well-alternate_cleared b s w =
-    cond_both s.alternate (with_shown s (cleared s.shown)) (record s { other = cleared s.other }) (λ t. IsWell b t)
+    cond_both s.alternate (with_shown s (cleared s.shown)) (record s { other = cleared s.other }) (λ t. IsUnscrolledState b t)
     (λ _. well-shown b s (cleared s.shown) w (drawn-cleared (limits b s.alternate) s.shown w.shown))
     (λ e. record {
       bounds = w.bounds;
@@ -328,7 +328,7 @@ well-alternate_left b s w = well-restored b (main_shown s) (well-main_shown b s 
 none-some : (c : ℕ) → None ≡ Some c → ⊥
 none-some c e = cc
 
-pub well-fresh : (b : Bounds) → AreBounds b → IsWell b (fresh_state b.height b.width b.capacity)
+pub well-fresh : (b : Bounds) → AreBounds b → IsUnscrolledState b (fresh_state b.height b.width b.capacity)
 well-fresh b a = record {
   bounds = a;
   shown = drawn-allocated (limits b false) (new_grid b.height b.width (Enabled b.capacity))
@@ -340,15 +340,15 @@ well-fresh b a = record {
   last = λ c e. absurd (none-some c e);
 }
 
-pub main-fine : (b : Bounds) (s : State) → IsWell b s → IsFine (limits b false) (main_sheet s)
+pub main-fine : (b : Bounds) (s : State) → IsUnscrolledState b s → IsUnscrolledSheet (limits b false) (main_sheet s)
 main-fine b s w =
-    cond_both s.alternate s.other s.shown (λ g. IsFine (limits b false) g)
+    cond_both s.alternate s.other s.shown (λ g. IsUnscrolledSheet (limits b false) g)
     (λ e. fine-as b (not s.alternate) false s.other (ap not e) w.other)
     (λ e. fine-as b s.alternate false s.shown e w.shown.fine)
 
-pub alternate-fine : (b : Bounds) (s : State) → IsWell b s → IsFine (limits b true) (alternate_sheet s)
+pub alternate-fine : (b : Bounds) (s : State) → IsUnscrolledState b s → IsUnscrolledSheet (limits b true) (alternate_sheet s)
 alternate-fine b s w =
-    cond_both s.alternate s.shown s.other (λ g. IsFine (limits b true) g)
+    cond_both s.alternate s.shown s.other (λ g. IsUnscrolledSheet (limits b true) g)
     (λ e. fine-as b s.alternate true s.shown e w.shown.fine)
     (λ e. fine-as b (not s.alternate) true s.other (ap not e) w.other)
 
@@ -360,10 +360,10 @@ well-made_anew b s w =
     ap (λ n. fresh_state n b.width b.capacity) (sym m.height)
     ∙ ap (λ n. fresh_state g.height n b.capacity) (sym m.width)
     ∙ ap (λ n. fresh_state g.height g.width n) (sym m.capacity) in
-    subst (λ t. IsWell b t) same (well-fresh b w.bounds)
+    subst (λ t. IsUnscrolledState b t) same (well-fresh b w.bounds)
 
-pub well-resized : (b : Bounds) (s : State) (height width : ℕ) → IsWell b s → 0 < height → height < 2 ^ 16 → 0 < width
-    → width < 2 ^ 16 → IsWell (record b { height = height; width = width }) (resized_to height width s).state
+pub well-resized : (b : Bounds) (s : State) (height width : ℕ) → IsUnscrolledState b s → 0 < height → height < 2 ^ 16 → 0 < width
+    → width < 2 ^ 16 → IsUnscrolledState (record b { height = height; width = width }) (resized_to height width s).state
 well-resized b s height width w some_rows few_rows some_cols few_cols = record {
   bounds = record {
     some_rows = some_rows;

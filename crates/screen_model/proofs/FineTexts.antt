@@ -17,7 +17,7 @@ use Rattle.vt100_rows.specs.Sheet.{row_at}
 use Rattle.terminal_model.specs.Apply.{is_dropped}
 use Rattle.vt100_core.specs.Grid.{GridView, IsGrid, IsAllocated, with_row, with_cursor_row, row_of_cursor}
 use Rattle.vt100_core.specs.Scroll.{Scrolled, fed, left_row, wrapped_on, made_to_fit}
-use Rattle.vt100_core.specs.Text.{Drawn, put_at, spaced, carried, joined, printed}
+use Rattle.vt100_core.specs.Text.{PrintedGrid, put_at, spaced, carried, joined, printed}
 use Rattle.vt100_core.proofs.GridLemmas.{IsGrid-rows}
 use Rattle.vt100_core.proofs.ScrollLemmas.{IsGrid-wrap_row, above-last}
 use Rattle.vt100_core.proofs.EraseLemmas.{cursor_row_of, IsGrid-columns_erased}
@@ -26,7 +26,7 @@ use Rattle.vt100_core.proofs.TextLemmas.{span_of-wide, IsGrid-join, in-place, ig
 use Rattle.vt100_core.proofs.TextLemmas.{IsDrawn-here, printed-dropped, printed-joined, printed-spaced}
 use Rattle.screen_model.proofs.CleanRows.{IsKnown, IsClean, sound, clean-of, clean-with_wrap, clean-placed, clean-wiped}
 use Rattle.screen_model.proofs.CleanRows.{clean-joined_cell, clean-join, clean-row}
-use Rattle.screen_model.proofs.FineGrids.{Limits, IsDrawn, row-drawn, drawn-col, drawn-fed}
+use Rattle.screen_model.proofs.FineGrids.{Limits, IsShownSheet, row-drawn, drawn-col, drawn-fed}
 
 -- ---- the cursor goes to the next row
 
@@ -34,35 +34,35 @@ left-within : (g : GridView) → IsGrid g → IsAllocated g → left_row g < len
 left-within g i a = cond_both (g.row == g.bottom) (g.row - 1) g.row (λ n. n < length g.rows)
     (λ _. omega (arith, i.cursor_row, i.sheet.count a)) (λ _. omega (arith, i.cursor_row, i.sheet.count a))
 
-drawn-wrapped : (l : Limits) (g : GridView) (wrap : Bool) → IsDrawn l g → IsDrawn l (wrapped_on g wrap).grid
+drawn-wrapped : (l : Limits) (g : GridView) (wrap : Bool) → IsShownSheet l g → IsShownSheet l (wrapped_on g wrap).grid
 unfolding wrapped_on
 drawn-wrapped l g wrap d =
     let i = d.fine.grid in
     let g0 = record g { col = 0 } in
     let h = (fed g0 1).grid in
-    let next : IsDrawn l h = drawn-fed l g0 1 (drawn-col l g 0 (omega arith) d) in
+    let next : IsShownSheet l h = drawn-fed l g0 1 (drawn-col l g 0 (omega arith) d) in
     let r = left_row g in
     let wraps = wrap && ((r + 1) == h.row) in
     let v = with_wrap (row_at h.rows r) wraps in
-    cond_both ((g.row == g.bottom) && (g.row == 0)) h (with_row h r v) (λ x. IsDrawn l x) (λ _. next)
+    cond_both ((g.row == g.bottom) && (g.row == 0)) h (with_row h r v) (λ x. IsShownSheet l x) (λ _. next)
     (λ _. row-drawn l h r v next
     (IsGrid-wrap_row h r wraps next.fine.grid (omega (arith, left-within g i d.some, (IsSized-fed g0 1).count))
     (λ e. above-last h r wrap next.fine.grid e))
     (clean-with_wrap sound (row_at h.rows r) wraps (clean-row sound h.rows next.fine.rows r)))
 
-drawn-made : (l : Limits) (g : GridView) (columns : ℕ) (wrap : Bool) → IsDrawn l g
-    → IsDrawn l (made_to_fit g columns wrap).grid
+drawn-made : (l : Limits) (g : GridView) (columns : ℕ) (wrap : Bool) → IsShownSheet l g
+    → IsShownSheet l (made_to_fit g columns wrap).grid
 drawn-made l g columns wrap d =
     cond_both (nat_le (g.col + columns) g.width) (record { grid = g; sunk = [] }) (wrapped_on g wrap)
-    (λ (s : Scrolled). IsDrawn l s.grid) (λ _. d) (λ _. drawn-wrapped l g wrap d)
+    (λ (s : Scrolled). IsShownSheet l s.grid) (λ _. d) (λ _. drawn-wrapped l g wrap d)
 
 -- ---- a cell at the cursor
 
 room-right : (col n width : ℕ) → nat_lt col n ≡ true → n ≡ width → col + 1 ≤ width
 room-right col n width e w = grind (arith, nat_tests)
 
-drawn-put_at : (l : Limits) (g : GridView) (x : CellView) (a : Attrs) (n : ℕ) → IsDrawn l g → IsCell x
-    → has_text x ≡ true → n ≡ span_of x → g.col + n ≤ g.width → IsClean sound x → IsProper a → IsDrawn l (put_at g x a n)
+drawn-put_at : (l : Limits) (g : GridView) (x : CellView) (a : Attrs) (n : ℕ) → IsShownSheet l g → IsCell x
+    → has_text x ≡ true → n ≡ span_of x → g.col + n ≤ g.width → IsClean sound x → IsProper a → IsShownSheet l (put_at g x a n)
 drawn-put_at l g x a n d cell text e h clean p =
     let v = placed (row_of_cursor g) g.col x a in
     let i = d.fine.grid in
@@ -72,8 +72,8 @@ drawn-put_at l g x a n d cell text e h clean p =
     drawn-col l w (g.col + n) h (row-drawn l g g.row v d back
     (clean-placed sound (row_of_cursor g) g.col x a p (clean-row sound g.rows d.fine.rows g.row) clean))
 
-drawn-spaced : (l : Limits) (g : GridView) (c : ℕ) (a : Attrs) → IsDrawn l g → IsScalar c → IsKnown c
-    → IsProper a → is_dropped g.width g.col c ≡ false → 0 < columns_of c → IsDrawn l (spaced g c a).grid
+drawn-spaced : (l : Limits) (g : GridView) (c : ℕ) (a : Attrs) → IsShownSheet l g → IsScalar c → IsKnown c
+    → IsProper a → is_dropped g.width g.col c ≡ false → 0 < columns_of c → IsShownSheet l (spaced g c a).grid
 drawn-spaced l g c a d s known p kept some =
     let is = IsDrawn-here g c (columns_of c) kept refl in
     let u = drawn-is c (columns_of c) is.drawn in
@@ -90,9 +90,9 @@ with-attrs x a h p = record { text = h.text; attrs = p }
 two-columns : (n : ℕ) → (n == 1) ≡ false → 0 < n → 2 ≤ n
 two-columns n e h = grind (arith, nat_tests)
 
-drawn-carried : (l : Limits) (g : GridView) (c : ℕ) (a : Attrs) → IsDrawn l g → IsScalar c → IsKnown c
+drawn-carried : (l : Limits) (g : GridView) (c : ℕ) (a : Attrs) → IsShownSheet l g → IsScalar c → IsKnown c
     → IsProper a → drawn_columns c ≡ Some 0 → is_widening (row_of_cursor g) g.col c ≡ true → (g.width == 1) ≡ false
-    → IsDrawn l (carried g c a).grid
+    → IsShownSheet l (carried g c a).grid
 drawn-carried l g c a d s known p zero wide one =
     let i = d.fine.grid in
     let v = row_of_cursor g in
@@ -111,50 +111,50 @@ drawn-carried l g c a d s known p zero wide one =
     (with-attrs (joined_cell v g.col c) a
     (clean-joined_cell sound v g.col c (clean-row sound g.rows d.fine.rows g.row) known) p) p
 
-drawn-joined : (l : Limits) (g : GridView) (c : ℕ) (a : Attrs) → IsDrawn l g → IsScalar c → IsKnown c
-    → IsProper a → drawn_columns c ≡ Some 0 → 0 < g.col → IsDrawn l (joined g c a).grid
+drawn-joined : (l : Limits) (g : GridView) (c : ℕ) (a : Attrs) → IsShownSheet l g → IsScalar c → IsKnown c
+    → IsProper a → drawn_columns c ≡ Some 0 → 0 < g.col → IsShownSheet l (joined g c a).grid
 drawn-joined l g c a d s known p zero after =
     let i = d.fine.grid in
     let v = row_of_cursor g in
     let r = cursor_row_of g i d.some in
     let h = with_cursor_row g (join_row v g.col c a) in
-    let in_row : IsDrawn l h = row-drawn l g g.row (join_row v g.col c a) d
+    let in_row : IsShownSheet l h = row-drawn l g g.row (join_row v g.col c a) d
     (IsGrid-join g c a i d.some s zero after)
     (clean-join sound v g.col c a p (clean-row sound g.rows d.fine.rows g.row) known) in
     ⊎_elim
     (λ (wide : is_widening v g.col c ≡ true).
     ⊎_elim
     (λ (one : (length v.cells == 1) ≡ true).
-    subst (λ x. IsDrawn l x) (ignored g c a h r.wide refl wide one).0 in_row)
+    subst (λ x. IsShownSheet l x) (ignored g c a h r.wide refl wide one).0 in_row)
     (λ (one : (length v.cells == 1) ≡ false).
     ⊎_elim
     (λ (room : nat_lt g.col (length v.cells) ≡ true).
-    subst (λ x. IsDrawn l x) (widens g c a h r.wide refl wide one room).0
+    subst (λ x. IsShownSheet l x) (widens g c a h r.wide refl wide one room).0
     (drawn-col l h (g.col + 1) (room-right g.col (length v.cells) g.width room r.wide) in_row))
     (λ (room : nat_lt g.col (length v.cells) ≡ false).
-    subst (λ (x : Drawn). IsDrawn l x.grid) (sym (carries g c a h r.wide refl wide one room).1)
+    subst (λ (x : PrintedGrid). IsShownSheet l x.grid) (sym (carries g c a h r.wide refl wide one room).1)
     (drawn-carried l g c a d s known p zero wide (ap (λ n. n == 1) (sym r.wide) ∙ one)))
     (cases_Bool (nat_lt g.col (length v.cells))))
     (cases_Bool (length v.cells == 1)))
     (λ (wide : is_widening v g.col c ≡ false).
-    subst (λ x. IsDrawn l x) (in-place g c a h r.wide refl wide).0 in_row)
+    subst (λ x. IsShownSheet l x) (in-place g c a h r.wide refl wide).0 in_row)
     (cases_Bool (is_widening v g.col c))
 
-pub drawn-printed : (l : Limits) (g : GridView) (c : ℕ) (a : Attrs) → IsDrawn l g → IsScalar c → IsKnown c
-    → IsProper a → IsDrawn l (printed g c a).grid
+pub drawn-printed : (l : Limits) (g : GridView) (c : ℕ) (a : Attrs) → IsShownSheet l g → IsScalar c → IsKnown c
+    → IsProper a → IsShownSheet l (printed g c a).grid
 drawn-printed l g c a d s known p =
     ⊎_elim
     (λ (e : is_dropped g.width g.col c ≡ true).
-    subst (λ (x : Drawn). IsDrawn l x.grid) (sym (printed-dropped g c a e)) d)
+    subst (λ (x : PrintedGrid). IsShownSheet l x.grid) (sym (printed-dropped g c a e)) d)
     (λ (e : is_dropped g.width g.col c ≡ false).
     let is = IsDrawn-here g c (columns_of c) e refl in
     ⊎_elim
     (λ (some : 0 < columns_of c).
-    subst (λ (x : Drawn). IsDrawn l x.grid) (sym (printed-spaced g c a e some))
+    subst (λ (x : PrintedGrid). IsShownSheet l x.grid) (sym (printed-spaced g c a e some))
     (drawn-spaced l g c a d s known p e some))
     (λ (none : columns_of c ≤ 0).
     let zero : columns_of c ≡ 0 = omega arith in
-    subst (λ (x : Drawn). IsDrawn l x.grid) (sym (printed-joined g c a e zero))
+    subst (λ (x : PrintedGrid). IsShownSheet l x.grid) (sym (printed-joined g c a e zero))
     (drawn-joined l g c a d s known p (is.drawn ∙ ap Some zero) (is.after zero)))
     (cases_lt 0 (columns_of c)))
     (cases_Bool (is_dropped g.width g.col c))

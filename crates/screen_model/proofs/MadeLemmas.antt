@@ -21,13 +21,13 @@ use Rattle.screen_model.specs.Holds.{IsAct, AreActs, last_rows, last_cols, Makes
 use Rattle.screen_model.specs.Holds.{MakesCapacity, MakesNoOffset, MakesCells, MakesProperCells, MakesByteColours}
 use Rattle.screen_model.specs.Holds.{KeepsAtSameSize}
 use Rattle.screen_model.proofs.CleanRows.{IsKnown, IsClean, IsCleanRow, sound, clean-row, clean-cell}
-use Rattle.screen_model.proofs.FineGrids.{Limits, IsFine}
+use Rattle.screen_model.proofs.FineGrids.{Limits, IsUnscrolledSheet}
 use Rattle.screen_model.proofs.FineSizes.{resized-same}
-use Rattle.screen_model.proofs.FineStates.{Bounds, IsWell, is-state, well-fresh, well-resized, main-fine}
+use Rattle.screen_model.proofs.FineStates.{Bounds, IsUnscrolledState, is-state, well-fresh, well-resized, main-fine}
 use Rattle.screen_model.proofs.ScalarEvents.{IsTold, added-told}
 use Rattle.screen_model.proofs.FineEvents.{effect-well}
 
-played-well : (es : List Event) → All IsTold es → (b : Bounds) (s : State) → IsWell b s → IsWell b (played es s)
+played-well : (es : List Event) → All IsTold es → (b : Bounds) (s : State) → IsUnscrolledState b s → IsUnscrolledState b (played es s)
 played-well [] h b s w = w
 played-well (e ∷ es) h b s w =
     played-well es (All-tail IsTold e es h) b (effect e s).state (effect-well e (All-head IsTold e es h) b s w)
@@ -35,8 +35,8 @@ played-well (e ∷ es) h b s w =
 abbrev pub bounded : Bounds → List Act → Bounds
 bounded b acts = record b { height = last_rows b.height acts; width = last_cols b.width acts }
 
-acts-well : (acts : List Act) → All IsAct acts → (past : List ℕ) (b : Bounds) (s : State) → IsWell b s
-    → IsWell (bounded b acts) (made_on past s acts)
+acts-well : (acts : List Act) → All IsAct acts → (past : List ℕ) (b : Bounds) (s : State) → IsUnscrolledState b s
+    → IsUnscrolledState (bounded b acts) (made_on past s acts)
 acts-well [] h past b s w = w
 acts-well (Fed bytes ∷ acts) h past b s w =
     acts-well acts (All-tail IsAct (Fed bytes) acts h) (past ++ bytes) b (played (events_added past bytes) s)
@@ -50,7 +50,7 @@ abbrev pub first_bounds : ℕ → ℕ → ℕ → Bounds
 first_bounds rows cols capacity = record { height = rows; width = cols; capacity = capacity }
 
 pub made-well : (rows cols capacity : ℕ) (acts : List Act) → AreActs rows cols capacity acts
-    → IsWell (bounded (first_bounds rows cols capacity) acts) (made rows cols capacity acts)
+    → IsUnscrolledState (bounded (first_bounds rows cols capacity) acts) (made rows cols capacity acts)
 made-well rows cols capacity acts h =
     acts-well acts h.each [] (first_bounds rows cols capacity) (fresh_state rows cols capacity)
     (well-fresh (first_bounds rows cols capacity) (record {
@@ -92,7 +92,7 @@ rows-are rows h r =
     (λ (l : length rows ≤ r). subst IsRow (sym (row_at_past rows r l)) (IsRow-blank 0 (omega arith)))
     (cases_lt r (length rows))
 
-shown-row : (l : Limits) (g : GridView) → IsFine l g → (r : ℕ)
+shown-row : (l : Limits) (g : GridView) → IsUnscrolledSheet l g → (r : ℕ)
     → IsRow (visible_at g r) × IsCleanRow sound (visible_at g r)
 shown-row l g d r =
     let kept = length g.kept.rows - g.kept.offset + r in

@@ -15,7 +15,7 @@ use Rattle.vt100_cells.specs.Cells.{cell_at}
 use Rattle.vt100_rows.specs.Row.{RowView}
 use Rattle.vt100_rows.specs.Sheet.{row_at}
 use Rattle.vt100_core.specs.Grid.{GridView, IsGrid, IsAllocated, visible_at, visible_row_at, cell_in}
-use Rattle.vt100_core.specs.Picture.{shown_lines}
+use Rattle.vt100_core.specs.Picture.{visible_lines}
 use Rattle.screen_model.specs.State.{State, IsState}
 use Rattle.screen_model.specs.Shown.{shown_state, EachCellIsTold, EachWrapIsTold, AreToldAlike}
 use Rattle.screen_model.specs.Shown.{AlikeShowTheSame, IsShownSomewhere, IsToldSomewhere, EachCharacterIsTold}
@@ -56,13 +56,13 @@ none-told g i a r h = ap (λ b. cond b (Some (visible_at g r)) None) (lt-false r
     (omega (arith, h, i.sheet.count a)))
 
 here : (g : GridView) (r c : ℕ) → r < g.height → c < g.width
-    → shown_lines g r c ≡ cell_at (visible_at g r).cells c
+    → visible_lines g r c ≡ cell_at (visible_at g r).cells c
 here g r c h w =
     let x = cell_at (visible_at g r).cells c in
     ap (λ b. cond (b && nat_lt c g.width) x default_cell) (lt-true r g.height h)
     ∙ ap (λ b. cond b x default_cell) (lt-true c g.width w)
 
-outside : (g : GridView) (r c : ℕ) → (nat_lt r g.height && nat_lt c g.width) ≡ false → shown_lines g r c ≡ default_cell
+outside : (g : GridView) (r c : ℕ) → (nat_lt r g.height && nat_lt c g.width) ≡ false → visible_lines g r c ≡ default_cell
 outside g r c e = ap (λ b. cond b (cell_at (visible_at g r).cells c) default_cell) e
 
 wide-out : (r c height width : ℕ) → width ≤ c → (nat_lt r height && nat_lt c width) ≡ false

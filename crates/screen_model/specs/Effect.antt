@@ -14,7 +14,7 @@ use Rattle.screen_model.specs.Call.{Call}
 use Rattle.screen_model.specs.Sgr.{sgr_read}
 use Rattle.screen_model.specs.PrivateModes.{modes_set, modes_reset}
 use Rattle.screen_model.specs.Step.{Report, Stepped, Partly, quietly, typed, repeated, moved_left, moved_right, tabbed}
-use Rattle.screen_model.specs.Step.{at_column, at_row, at_place, moved_up, moved_down, line_above, line_below, line_fed}
+use Rattle.screen_model.specs.Step.{at_column, at_row, at_place, cursor_up, cursor_down, line_above, line_below, line_fed}
 use Rattle.screen_model.specs.Step.{line_fed_back, in_region, saved, restored, erased_below, erased_above, erased_all}
 use Rattle.screen_model.specs.Step.{erased_kept, erased_right, erased_left, erased_row, cells_erased, cells_added}
 use Rattle.screen_model.specs.Step.{cells_taken, lines_added, lines_taken, region_up, region_down, with_keypad}
@@ -154,8 +154,8 @@ window_effect gs k s =
 -- finals that take a count or places: @ A B C D E F G H L M P S T X ` b d f r
 abbrev pub plain_rows : List (ℕ × (List (List ℕ) → State → Effect))
 plain_rows =
-    (0x40, λ gs s. changes (cells_added (count gs) s)) ∷ (0x41, λ gs s. changes (moved_up (count gs) s))
-    ∷ (0x42, λ gs s. changes (moved_down (count gs) s))
+    (0x40, λ gs s. changes (cells_added (count gs) s)) ∷ (0x41, λ gs s. changes (cursor_up (count gs) s))
+    ∷ (0x42, λ gs s. changes (cursor_down (count gs) s))
     ∷ (0x43, λ gs s. changes (moved_right (count gs) s)) ∷ (0x44, λ gs s. changes (moved_left (count gs) s))
     ∷ (0x45, λ gs s. changes (line_below (count gs) s)) ∷ (0x46, λ gs s. changes (line_above (count gs) s))
     ∷ (0x47, λ gs s. changes (at_column (count gs - 1) s)) ∷ (0x60, λ gs s. changes (at_column (count gs - 1) s))

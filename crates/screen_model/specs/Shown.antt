@@ -5,14 +5,14 @@ use Rattle.vt100_forms.specs.Attrs.{flags_of}
 use Rattle.vt100_cells.specs.Cell.{CellView}
 use Rattle.terminal_model.specs.Term.{Shown}
 use Rattle.vt100_core.specs.Grid.{visible_row_at, cell_in}
-use Rattle.vt100_core.specs.Picture.{shown_lines, shown_wraps}
+use Rattle.vt100_core.specs.Picture.{visible_lines, visible_wraps}
 use Rattle.screen_model.specs.State.{State, IsState}
 
 -- the picture of the shown sheet, the input modes and the cursor's style
 abbrev pub shown_state : State → Shown
 shown_state s = record {
-  cell = shown_lines s.shown;
-  wrapped = shown_wraps s.shown;
+  cell = visible_lines s.shown;
+  wrapped = visible_wraps s.shown;
   row = s.shown.row;
   col = s.shown.col;
   hidden = s.hidden;

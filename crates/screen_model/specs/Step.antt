@@ -104,17 +104,17 @@ abbrev pub at_place : ℕ → ℕ → State → State
 at_place row col s = with_shown s (cursor_at s.shown row col)
 
 -- n rows up (CUU) or down (CUD), and the same to the first column (CPL, CNL)
-abbrev pub moved_up : ℕ → State → State
-moved_up n s = with_shown s (moved_rows_up s.shown n)
+abbrev pub cursor_up : ℕ → State → State
+cursor_up n s = with_shown s (moved_rows_up s.shown n)
 
-abbrev pub moved_down : ℕ → State → State
-moved_down n s = with_shown s (moved_rows_down s.shown n)
+abbrev pub cursor_down : ℕ → State → State
+cursor_down n s = with_shown s (moved_rows_down s.shown n)
 
 abbrev pub line_above : ℕ → State → State
-line_above n s = moved_up n (at_column 0 s)
+line_above n s = cursor_up n (at_column 0 s)
 
 abbrev pub line_below : ℕ → State → State
-line_below n s = moved_down n (at_column 0 s)
+line_below n s = cursor_down n (at_column 0 s)
 
 -- a row down, or up, where the region scrolls at its end (LF, RI)
 abbrev pub line_fed : State → Stepped

@@ -2,7 +2,7 @@
 ghost use Rattle.std.specs.Prelude.{◌≡◌, ◌++◌, ◌∷◌, [], codes, length, Some, None, true, false};
 ghost use Rattle.vt100_forms.specs.declared.attrs.Color.TheVariants.{Idx};
 ghost use Rattle.vt100_forms.specs.declared.modes.CursorStyle.TheVariants as style;
-ghost use Rattle.vt100_core.specs.Contents.{shown_lines};
+ghost use Rattle.vt100_core.specs.Contents.{text_lines};
 ghost use Rattle.screen_model.specs.Call as call;
 ghost use Rattle.screen_model.specs.Made.{made, Fed, Resized};
 ghost use Rattle.screen_model.specs.Step.{kept_shown, kept_dropped};
@@ -26,9 +26,9 @@ pub fn red_is_drawn()
 /// One row is kept, shown, and dropped.
 pub fn row_is_kept()
     ensures kept { length (made 2 4 1 (Fed three_lines ∷ [])).shown.kept.rows ≡ 1 }
-    ensures shown { shown_lines (kept_shown 1 (made 2 4 1 (Fed three_lines ∷ []))).shown 2 ≡ codes "a" ++ 10
+    ensures shown { text_lines (kept_shown 1 (made 2 4 1 (Fed three_lines ∷ []))).shown 2 ≡ codes "a" ++ 10
         ∷ codes "b" ++ 10 ∷ [] }
-    ensures dropped { shown_lines (kept_dropped (kept_shown 1 (made 2 4 1 (Fed three_lines ∷ [])))).shown 2 ≡ codes "b"
+    ensures dropped { text_lines (kept_dropped (kept_shown 1 (made 2 4 1 (Fed three_lines ∷ [])))).shown 2 ≡ codes "b"
         ++ 10 ∷ codes "c" ++ 10 ∷ [] }
 {}
 

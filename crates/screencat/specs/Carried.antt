@@ -5,7 +5,7 @@ use Rattle.termview.specs.declared.view.View.{View}
 use Rattle.termview.specs.declared.until_cleared.UntilCleared.{UntilCleared}
 use Rattle.relay_streams.specs.Led.{Led}
 use Rattle.relay_streams.specs.Sessions.{IsRelayText}
-use Rattle.relay_streams.specs.Shown.{IsShown, sized}
+use Rattle.relay_streams.specs.Shown.{IsTextShown, sized}
 
 -- the view was given these bytes, in some pieces
 pub record Carries (old : View UntilCleared) (bytes : List ℕ) (new : View UntilCleared) : Type 0 where
@@ -18,4 +18,4 @@ pub record Carries (old : View UntilCleared) (bytes : List ℕ) (new : View Unti
 pub record IsFarText (rows cols : ℕ) (input text : List ℕ) : Type 0 where
   pub pieces : List (List ℕ)
   pub relayed : IsRelayText rows cols input (concat pieces)
-  pub shown : IsShown (sized rows cols) pieces text
+  pub shown : IsTextShown (sized rows cols) pieces text

@@ -1,6 +1,6 @@
 -- The words of the command line.
 use Rattle.std.specs.Prelude.{ℕ, List, [], ◌∷◌, Option, Some, None}
-use Rattle.command_line.specs.Numbers.{size_of}
+use Rattle.command_line.specs.Numbers.{size_in}
 
 -- the numbers of rows and columns
 pub record Sides : Type 0 where
@@ -14,5 +14,5 @@ both None cols = None
 
 -- `ROWS COLS`
 abbrev pub sides_of : List (List ℕ) → Option Sides
-sides_of (rows ∷ cols ∷ []) = both (size_of rows) (size_of cols)
+sides_of (rows ∷ cols ∷ []) = both (size_in rows) (size_in cols)
 sides_of _ = None

@@ -4,7 +4,7 @@ use Rattle.std.specs.declared.io.Error.{Error}
 use Rattle.std.specs.Io.KnownBytes.{Appends, Keeps}
 use Rattle.takers.specs.Pump.{Writes}
 use Rattle.relay_streams.specs.declared.error.RelayError.{RelayError}
-use Rattle.relay_streams.specs.Fill.{Reads}
+use Rattle.relay_streams.specs.Fill.{IsReadBy}
 use Rattle.relay_streams.specs.Shown.{sized}
 use Rattle.relay_streams.proofs.OutcomeLemmas.{relays-text, shows-text}
 use Rattle.screenrelay.specs.declared.words.Job.{Job}
@@ -15,7 +15,7 @@ module _ (S W : Type 0) (gives : S → ℕ → Result (List ℕ) Error → S →
     (takes : W → List ℕ → Result ℕ Error → W → Type 0) (flushes : W → Result (Unit {0}) Error → W → Type 0)
     (contents : W → Option (List ℕ)) (left : S → Option (List ℕ))
     (gave : (s : S) (room : ℕ) (answer : Result (List ℕ) Error) (t : S) → gives s room answer t
-    → Reads left s room answer t)
+    → IsReadBy left s room answer t)
     (took : (w : W) (bytes : List ℕ) (answer : Result ℕ Error) (v : W) → takes w bytes answer v
     → Writes contents w bytes answer v)
     (flushed : (w : W) (answer : Result (Unit {0}) Error) (v : W) → flushes w answer v

@@ -9,12 +9,12 @@ use Rattle.screenrelay.specs.declared.words.Job.TheVariants.{Relay, Show}
 use Rattle.relay_streams.specs.Pieces.{pieces_of}
 use Rattle.relay_streams.specs.Relayed.{Relays}
 use Rattle.relay_streams.specs.Sessions.{IsRelayText}
-use Rattle.relay_streams.specs.Shown.{IsShown, Shows, sized}
+use Rattle.relay_streams.specs.Shown.{IsTextShown, Shows, sized}
 use Rattle.screenrelay.specs.Words.{Order}
 
 abbrev pub WantsBy : Job → ℕ → ℕ → List ℕ → List ℕ → Type 0
 WantsBy Relay rows cols bytes text = IsRelayText rows cols bytes text
-WantsBy Show rows cols bytes text = IsShown (sized rows cols) (pieces_of bytes) text
+WantsBy Show rows cols bytes text = IsTextShown (sized rows cols) (pieces_of bytes) text
 
 -- an order writes this text where the input is these bytes
 abbrev pub Wants : Order → List ℕ → List ℕ → Type 0
@@ -49,7 +49,7 @@ Reports told (Err fault) e status f = (status ≡ 1) × Tells told e (fault_line
 
 -- An order was carried out, from a source, a writer and an error output: what was answered, and so what was read,
 -- written and told.
-pub record Does {S W V : Type 0} (gives : S → ℕ → Result (List ℕ) Error → S → Type 0)
+pub record CarriesOut {S W V : Type 0} (gives : S → ℕ → Result (List ℕ) Error → S → Type 0)
     (takes : W → List ℕ → Result ℕ Error → W → Type 0) (flushes : W → Result (Unit {0}) Error → W → Type 0)
     (told : V → List ℕ → Result ℕ Error → V → Type 0) (order : Order) (s : S) (w : W) (e : V) (status : ℕ) (t : S)
     (v : W) (f : V) : Type 0 where

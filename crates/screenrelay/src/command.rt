@@ -3,7 +3,7 @@
 ghost use Rattle.std.specs.Prelude.{◌≡◌, ℕ, List, map, None, IfSome};
 ghost use Rattle.std.specs.Io.KnownBytes.{Appends};
 ghost use Rattle.takers.specs.Pump.{Tells};
-ghost use Rattle.screenrelay.specs.Command.{Does, DoesBy, Wants, fault_line, usage_line};
+ghost use Rattle.screenrelay.specs.Command.{CarriesOut, DoesBy, Wants, fault_line, usage_line};
 ghost use Rattle.screenrelay.specs.Words.{order_of};
 
 use crate::words::{Job, Order, parse};
@@ -26,7 +26,7 @@ pub fn command<S: Source, W: Sink, V: Taker>(
 ) -> u8
     ensures usage { order_of (map (λ w. w.now) words.now) ≡ None → (result ≡ 2) × (input.new ≡ input.old)
         × (output.new ≡ output.old) × Tells V.takes errors.old usage_line errors.new }
-    ensures does { IfSome (order_of (map (λ w. w.now) words.now)) (λ order. Does S.gives W.takes W.flushes V.takes order
+    ensures does { IfSome (order_of (map (λ w. w.now) words.now)) (λ order. CarriesOut S.gives W.takes W.flushes V.takes order
         input.old output.old errors.old result input.new output.new errors.new) }
     ensures done { result ≡ 0 → IfSome (order_of (map (λ w. w.now) words.now))
         (λ order. IfSome (S.left input.old) (λ bytes. (text : List ℕ) × Wants order bytes text
@@ -42,7 +42,7 @@ pub fn command<S: Source, W: Sink, V: Taker>(
     }
 }
 
-// Does what is asked for.
+// CarriesOut what is asked for.
 fn carry_out<S: Source, W: Sink>(
     alloc: Global,
     order: Order,

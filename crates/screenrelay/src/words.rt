@@ -2,7 +2,7 @@
 
 ghost use Rattle.std.specs.Prelude.{◌≡◌, map};
 ghost use Rattle.std.specs.Option.{option_map};
-ghost use Rattle.screenrelay.specs.Words.{job_of, order_of};
+ghost use Rattle.screenrelay.specs.Words.{asked_for, order_of};
 
 use command_line::parse_size;
 use std::num::NonZeroU16;
@@ -40,7 +40,7 @@ pub(crate) fn parse(words: &[&str]) -> Option<Order>
 }
 
 fn parse_job(word: &str) -> Option<Job>
-    ensures { result ≡ job_of word.now }
+    ensures { result ≡ asked_for word.now }
 {
     if word == "relay" {
         Some(Job::Relay)

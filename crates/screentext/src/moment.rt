@@ -1,7 +1,7 @@
 //! The screen at a moment of a recording.
 
 ghost use Rattle.std.specs.Prelude.{◌++◌, ◌∷◌, [], ℕ, List, IfOk, OnOk};
-ghost use Rattle.vt100.specs.Parsing.{StandsAt};
+ghost use Rattle.vt100.specs.Parsing.{ParserStandsAt};
 ghost use Rattle.screen_model.specs.Made.{Act};
 ghost use Rattle.screentext.specs.Moment.{act_of, acts_until};
 
@@ -21,7 +21,7 @@ pub(crate) fn terminal_at(
     events: &[Event],
     moment: u64,
 ) -> Result<Parser<()>, ScreenError>
-    ensures { IfOk result (λ p. StandsAt p size.rows.value size.cols.value capacity (acts_until moment events.now)) }
+    ensures { IfOk result (λ p. ParserStandsAt p size.rows.value size.cols.value capacity (acts_until moment events.now)) }
 {
     let mut parser = Parser::new(alloc, size.rows, size.cols, capacity)?;
     play(&mut parser, events, moment)?;
@@ -30,8 +30,8 @@ pub(crate) fn terminal_at(
 
 // Does what the events up to a moment do.
 fn play(parser: &mut Parser<()>, events: &[Event], moment: u64) -> Result<(), ScreenError>
-    ensures { OnOk result ((rows cols capacity : ℕ) (acts : List Act) → StandsAt parser.old rows cols capacity acts
-        → StandsAt parser.new rows cols capacity (acts ++ acts_until moment events.now)) }
+    ensures { OnOk result ((rows cols capacity : ℕ) (acts : List Act) → ParserStandsAt parser.old rows cols capacity acts
+        → ParserStandsAt parser.new rows cols capacity (acts ++ acts_until moment events.now)) }
 {
     for event in events {
         step(parser, event, moment)?;
@@ -41,8 +41,8 @@ fn play(parser: &mut Parser<()>, events: &[Event], moment: u64) -> Result<(), Sc
 
 // Does what an event does, unless it comes after a moment.
 fn step(parser: &mut Parser<()>, event: &Event, moment: u64) -> Result<(), ScreenError>
-    ensures { OnOk result ((rows cols capacity : ℕ) (acts : List Act) → StandsAt parser.old rows cols capacity acts
-        → StandsAt parser.new rows cols capacity (acts ++ acts_until moment (event.now ∷ []))) }
+    ensures { OnOk result ((rows cols capacity : ℕ) (acts : List Act) → ParserStandsAt parser.old rows cols capacity acts
+        → ParserStandsAt parser.new rows cols capacity (acts ++ acts_until moment (event.now ∷ []))) }
 {
     if event.time > moment {
         return Ok(());
@@ -52,8 +52,8 @@ fn step(parser: &mut Parser<()>, event: &Event, moment: u64) -> Result<(), Scree
 
 // Does what an event does.
 fn act(parser: &mut Parser<()>, change: &Change) -> Result<(), ScreenError>
-    ensures { OnOk result ((rows cols capacity : ℕ) (acts : List Act) → StandsAt parser.old rows cols capacity acts
-        → StandsAt parser.new rows cols capacity (acts ++ act_of change.now ∷ [])) }
+    ensures { OnOk result ((rows cols capacity : ℕ) (acts : List Act) → ParserStandsAt parser.old rows cols capacity acts
+        → ParserStandsAt parser.new rows cols capacity (acts ++ act_of change.now ∷ [])) }
 {
     match change {
         Change::Output(bytes) => parser.process(bytes),

@@ -31,5 +31,5 @@ abbrev pub IsAtEnd : Size → Shown → Shown → ℕ → ℕ → Type 0
 IsAtEnd z old new r k = (k + 1 ≡ z.cols) ⊎ ((k + 2 ≡ z.cols) × (((old.cell r k).wide || (new.cell r k).wide) ≡ true))
 
 -- a local cell; or, where the new cursor waits at the end of a row, the last one of row `end`
-abbrev pub IsLocalBut : Size → Shown → Shown → ℕ → ℕ → ℕ → Type 0
-IsLocalBut z old new end r k = IsLocal z old new r k ⊎ ((new.col ≡ z.cols) × (r ≡ end) × IsAtEnd z old new r k)
+abbrev pub IsLocalOrEnd : Size → Shown → Shown → ℕ → ℕ → ℕ → Type 0
+IsLocalOrEnd z old new end r k = IsLocal z old new r k ⊎ ((new.col ≡ z.cols) × (r ≡ end) × IsAtEnd z old new r k)

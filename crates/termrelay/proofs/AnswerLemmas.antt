@@ -4,14 +4,14 @@ use Rattle.std.proofs.Common.{arith, length, if◌then◌else◌}
 use Rattle.std.specs.Prelude.{nat_lt}
 use Rattle.std.proofs.lemmas.Bool.{false≢true, le-ltb}
 use Rattle.terminal_model.specs.Term.{Size, Shown}
-use Rattle.vt100_core.specs.Picture.{size_of}
+use Rattle.vt100_core.specs.Picture.{grid_size}
 use Rattle.screen_model.specs.State.{State}
 use Rattle.screen_model.specs.Shown.{shown_state}
 use Rattle.termrelay.specs.declared.answer.Answer.{Answer}
 use Rattle.termrelay.specs.declared.answer.Answer.TheVariants.{Full, Difference, Unsure, Unchanged, Behind, Held, TooLong}
 use Rattle.termrelay.specs.Frame.{is_unsure, frame_text, IsShortFrame}
 use Rattle.termrelay.specs.Answers.{ClientState, is_frame, same_shown, due, wanted_to, wanted_of, longest_frame}
-use Rattle.termrelay.specs.Answers.{is_too_long, unless_too_long, answer_to, answer_of, may_take_memory, EachSmallScreenFits}
+use Rattle.termrelay.specs.Answers.{is_too_long, unless_too_long, answer_to, answer_for, may_take_memory, EachSmallScreenFits}
 use Rattle.termrelay.proofs.FrameLengths.{frame-short}
 
 -- ---- what is wanted
@@ -23,8 +23,8 @@ held-or false answer frame = refl
 
 -- a frame is wanted where it is due
 pub wanted-due : (now : State) (base : Option Shown) (owed : List ℕ) → is_frame (wanted_to now base owed) ≡ true
-    → wanted_to now base owed ≡ due (size_of now.shown) (shown_state now) base
-wanted-due now base [] frame = held-or now.updating (due (size_of now.shown) (shown_state now) base) frame
+    → wanted_to now base owed ≡ due (grid_size now.shown) (shown_state now) base
+wanted-due now base [] frame = held-or now.updating (due (grid_size now.shown) (shown_state now) base) frame
 wanted-due now base (b ∷ bs) frame = absurd (false≢true frame)
 
 -- and where nothing is owed
@@ -60,10 +60,10 @@ both-capped false long answer = refl
 
 -- what is wanted is answered, unless it is a frame that is too long
 answer-capped : (now : State) (base : Option Shown) (owed : List ℕ) → answer_to now base owed
-    ≡ unless_too_long (size_of now.shown) (shown_state now) base (wanted_to now base owed)
+    ≡ unless_too_long (grid_size now.shown) (shown_state now) base (wanted_to now base owed)
 answer-capped now base [] =
-    both-capped now.updating (is_too_long (size_of now.shown) (shown_state now) base)
-    (due (size_of now.shown) (shown_state now) base)
+    both-capped now.updating (is_too_long (grid_size now.shown) (shown_state now) base)
+    (due (grid_size now.shown) (shown_state now) base)
 answer-capped now base (b ∷ bs) = refl
 
 may-take : (long : Bool) (wanted : Answer) → is_frame wanted ≡ true
@@ -79,33 +79,33 @@ may-take false TooLong frame = refl
 
 module _ (now : State) (c : ClientState) (answer : Answer) (is : answer ≡ wanted_of now c) where
   -- no frame was wanted
-  pub answer-none : is_frame answer ≡ false → answer ≡ answer_of now c
+  pub answer-none : is_frame answer ≡ false → answer ≡ answer_for now c
   answer-none none =
-      let long = is_too_long (size_of now.shown) (shown_state now) c.base in
+      let long = is_too_long (grid_size now.shown) (shown_state now) c.base in
       is ∙ sym (answer-capped now c.base c.owed
       ∙ none-capped long (wanted_of now c) (ap is_frame (sym is) ∙ none))
 
-  frame-answered : is_frame answer ≡ true → answer_of now c
-      ≡ (if is_too_long (size_of now.shown) (shown_state now) c.base then TooLong else wanted_of now c)
+  frame-answered : is_frame answer ≡ true → answer_for now c
+      ≡ (if is_too_long (grid_size now.shown) (shown_state now) c.base then TooLong else wanted_of now c)
   frame-answered frame =
       answer-capped now c.base c.owed
-      ∙ frame-capped (is_too_long (size_of now.shown) (shown_state now) c.base) (wanted_of now c)
+      ∙ frame-capped (is_too_long (grid_size now.shown) (shown_state now) c.base) (wanted_of now c)
       (ap is_frame (sym is) ∙ frame)
 
   -- a frame was wanted, for which memory may be taken, and which is too long or not
-  pub answer-memory : is_frame answer ≡ true → may_take_memory (answer_of now c) ≡ true
+  pub answer-memory : is_frame answer ≡ true → may_take_memory (answer_for now c) ≡ true
   answer-memory frame =
       ap may_take_memory (frame-answered frame)
-      ∙ may-take (is_too_long (size_of now.shown) (shown_state now) c.base) (wanted_of now c)
+      ∙ may-take (is_too_long (grid_size now.shown) (shown_state now) c.base) (wanted_of now c)
       (ap is_frame (sym is) ∙ frame)
 
-  pub answer-long : is_frame answer ≡ true → is_too_long (size_of now.shown) (shown_state now) c.base ≡ true
-      → TooLong ≡ answer_of now c
+  pub answer-long : is_frame answer ≡ true → is_too_long (grid_size now.shown) (shown_state now) c.base ≡ true
+      → TooLong ≡ answer_for now c
   answer-long frame long =
       sym (frame-answered frame ∙ ap (λ b. if b then TooLong else wanted_of now c) long)
 
-  pub answer-frame : is_frame answer ≡ true → is_too_long (size_of now.shown) (shown_state now) c.base ≡ false
-      → answer ≡ answer_of now c
+  pub answer-frame : is_frame answer ≡ true → is_too_long (grid_size now.shown) (shown_state now) c.base ≡ false
+      → answer ≡ answer_for now c
   answer-frame frame short =
       is ∙ sym (frame-answered frame ∙ ap (λ b. if b then TooLong else wanted_of now c) short)
 
@@ -120,38 +120,38 @@ text-long z base now text given answer long is same tells e =
 
 pub held-first : (now : State) (base : Option Shown) → now.updating ≡ true → answer_to now base [] ≡ Held
 held-first now base e =
-    let z = size_of now.shown in
+    let z = grid_size now.shown in
     let s = shown_state now in
     ap (λ b. if b then Held else unless_too_long z s base (due z s base)) e
 
 ended-first : (now : State) (base : Option Shown) → now.updating ≡ false → answer_to now base []
-    ≡ unless_too_long (size_of now.shown) (shown_state now) base (due (size_of now.shown) (shown_state now) base)
+    ≡ unless_too_long (grid_size now.shown) (shown_state now) base (due (grid_size now.shown) (shown_state now) base)
 ended-first now base e =
-    let z = size_of now.shown in
+    let z = grid_size now.shown in
     let s = shown_state now in
     ap (λ b. if b then Held else unless_too_long z s base (due z s base)) e
 
 pub due-answered : (now : State) (base : Option Shown) → now.updating ≡ false
-    → is_too_long (size_of now.shown) (shown_state now) base ≡ false
-    → answer_to now base [] ≡ due (size_of now.shown) (shown_state now) base
+    → is_too_long (grid_size now.shown) (shown_state now) base ≡ false
+    → answer_to now base [] ≡ due (grid_size now.shown) (shown_state now) base
 due-answered now base e short =
-    let z = size_of now.shown in
+    let z = grid_size now.shown in
     let s = shown_state now in
     ended-first now base e ∙ short-capped (is_too_long z s base) (due z s base) short
 
 pub none-answered : (now : State) (base : Option Shown) → now.updating ≡ false
-    → is_frame (due (size_of now.shown) (shown_state now) base) ≡ false
-    → answer_to now base [] ≡ due (size_of now.shown) (shown_state now) base
+    → is_frame (due (grid_size now.shown) (shown_state now) base) ≡ false
+    → answer_to now base [] ≡ due (grid_size now.shown) (shown_state now) base
 none-answered now base e none =
-    let z = size_of now.shown in
+    let z = grid_size now.shown in
     let s = shown_state now in
     ended-first now base e ∙ none-capped (is_too_long z s base) (due z s base) none
 
 pub long-answered : (now : State) (base : Option Shown) → now.updating ≡ false
-    → is_frame (due (size_of now.shown) (shown_state now) base) ≡ true
-    → is_too_long (size_of now.shown) (shown_state now) base ≡ true → answer_to now base [] ≡ TooLong
+    → is_frame (due (grid_size now.shown) (shown_state now) base) ≡ true
+    → is_too_long (grid_size now.shown) (shown_state now) base ≡ true → answer_to now base [] ≡ TooLong
 long-answered now base e frame long =
-    let z = size_of now.shown in
+    let z = grid_size now.shown in
     let s = shown_state now in
     ended-first now base e ∙ frame-capped (is_too_long z s base) (due z s base) frame
     ∙ ap (λ b. if b then TooLong else due z s base) long
@@ -185,7 +185,7 @@ never-held false answer other e = other e
 -- that isn't what is wanted
 pub never-wanted : (now : State) (base : Option Shown) (owed : List ℕ) → wanted_to now base owed ≡ TooLong → ⊥
 never-wanted now base [] e =
-    let z = size_of now.shown in
+    let z = grid_size now.shown in
     let s = shown_state now in
     never-held now.updating (due z s base) (never-due z s base) e
 never-wanted now base (b ∷ bs) e = cc
@@ -201,7 +201,7 @@ text-fits z base now text is short few =
 
 pub small-fits : EachSmallScreenFits
 small-fits now c bytes small few e =
-    let z = size_of now.shown in
+    let z = grid_size now.shown in
     let s = shown_state now in
     let short = text-fits z c.base s (frame_text z c.base s) refl (frame-short z c.base s bytes small) few in
     never-wanted now c.base c.owed

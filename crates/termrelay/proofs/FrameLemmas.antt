@@ -7,7 +7,7 @@ use Rattle.terminal_model.specs.Leads.{Leads}
 use Rattle.terminal_model.proofs.FormLemmas.{run-joined}
 use Rattle.screen_drawing.specs.Modes.{input_mode_diff}
 use Rattle.screen_drawing.specs.Screen.{contents_formatted, state_diff}
-use Rattle.screen_drawing.specs.Laws.{IsScreen}
+use Rattle.screen_drawing.specs.Laws.{IsDrawableScreen}
 use Rattle.screen_drawing.proofs.Modes.{modes-run_changed}
 use Rattle.screen_drawing.proofs.Screens.{state-redraw_leads, state-difference_leads, later-redraw_leads}
 use Rattle.screen_drawing.proofs.Texts.{modes-come_out}
@@ -23,7 +23,7 @@ modes-agree : (a : Bool) (base t : Shown) → ShowsUnless a base t → HasModesO
 modes-agree true base t h = h
 modes-agree false base t h = (ap (λ (s : Shown). s.modes) h, ap (λ (s : Shown). s.style) h)
 
-chosen-leads : (z : Size) (a b : Bool) (base now from : Shown) → IsBase z (Some base) → IsScreen z now
+chosen-leads : (z : Size) (a b : Bool) (base now from : Shown) → IsBase z (Some base) → IsDrawableScreen z now
     → ShowsUnless a base from → Leads z (choice z a b base now) from now
 unfolding choice
 chosen-leads z true b base now from i s h = later-redraw_leads z base now from s h.0 h.1

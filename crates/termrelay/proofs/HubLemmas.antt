@@ -8,11 +8,11 @@ use Rattle.std.proofs.lemmas.Bool.{cases_lt, eqb-true, eq-eqb}
 use Rattle.std.proofs.lemmas.List.{get_or_past, get_or-set_same, get_or-set_other}
 use Rattle.slab.specs.Slab.{Slab, get, Updates}
 use Rattle.terminal_model.specs.Term.{Size}
-use Rattle.vt100_core.specs.Picture.{size_of}
+use Rattle.vt100_core.specs.Picture.{grid_size}
 use Rattle.screen_model.specs.Call.{ScreenView}
 use Rattle.vt100.specs.Parsing.{ParserView}
 use Rattle.termrelay.specs.Frame.{IsShortFrame}
-use Rattle.termrelay.specs.Record.{RecordView, client_of, IsBaseOf, IsServed}
+use Rattle.termrelay.specs.Record.{RecordView, client_of, IsBaseOf, IsRecordOf}
 use Rattle.termrelay.specs.Answers.{ClientState}
 use Rattle.termrelay.specs.Hub.{HubState, as_kept, Puts, no_clients}
 use Rattle.termrelay.specs.HubFields.{IsMade}
@@ -20,14 +20,14 @@ use Rattle.termrelay.proofs.MadeLemmas.{made-unscrolled}
 
 -- ---- bases
 
-base-kept : (now next : ScreenView) (base : Option ScreenView) → size_of now.state.shown ≡ size_of next.state.shown
+base-kept : (now next : ScreenView) (base : Option ScreenView) → grid_size now.state.shown ≡ grid_size next.state.shown
     → IfSome base (IsBaseOf now) → IfSome base (IsBaseOf next)
 base-kept now next None same h = tt
 base-kept now next (Some v) same h = record { unscrolled = h.unscrolled; size = h.size ∙ same }
 
 -- where the size stays, bases stay bases, and a frame is as long as it was
 pub served-still : (now next : ScreenView) (r : Option RecordView)
-    → size_of now.state.shown ≡ size_of next.state.shown → IfSome r (IsServed now) → IfSome r (IsServed next)
+    → grid_size now.state.shown ≡ grid_size next.state.shown → IfSome r (IsRecordOf now) → IfSome r (IsRecordOf next)
 served-still now next None same h = tt
 served-still now next (Some r) same h = record {
   base = base-kept now next r.base same h.base;
@@ -35,23 +35,23 @@ served-still now next (Some r) same h = record {
 }
 
 -- a client that has had no frame
-pub new-served : (now : ScreenView) → IsServed now (record { owed = []; base = None })
+pub new-served : (now : ScreenView) → IsRecordOf now (record { owed = []; base = None })
 new-served now = record { base = tt; short = omega arith }
 
 -- less is owed than before
-pub left-served : (now : ScreenView) (r : RecordView) (n : ℕ) → IsServed now r
-    → IsServed now (record r { owed = drop n r.owed })
+pub left-served : (now : ScreenView) (r : RecordView) (n : ℕ) → IsRecordOf now r
+    → IsRecordOf now (record r { owed = drop n r.owed })
 left-served now r n h = record { base = h.base; short = omega (arith, h.short, length-drop n r.owed) }
 
 -- what a client is owed that has this record
-pub owes-one : (now : ScreenView) (o : Option RecordView) → IfSome o (IsServed now)
-    → IfSome (option_map client_of o) (λ c. IsShortFrame (size_of now.state.shown) c.owed)
+pub owes-one : (now : ScreenView) (o : Option RecordView) → IfSome o (IsRecordOf now)
+    → IfSome (option_map client_of o) (λ c. IsShortFrame (grid_size now.state.shown) c.owed)
 owes-one now None h = tt
 owes-one now (Some r) h = h.short
 
 -- the present screen is a base of itself
 pub present-served : (p : ParserView (Unit {0})) (owed : List ℕ) (base : ScreenView) → IsMade p → base ≡ p.screen
-    → IsShortFrame (size_of p.screen.state.shown) owed → IsServed p.screen (record { owed = owed; base = Some base })
+    → IsShortFrame (grid_size p.screen.state.shown) owed → IsRecordOf p.screen (record { owed = owed; base = Some base })
 present-served p owed base m is few = record {
   base = subst (λ (v : ScreenView). IsBaseOf p.screen v) (sym is)
       (record { unscrolled = made-unscrolled p m; size = refl });
@@ -59,7 +59,7 @@ present-served p owed base m is few = record {
 }
 
 pub none-served : (s : Slab RecordView) (now : ScreenView) (key : ℕ) → s.slots ≡ []
-    → IfSome (get s key) (IsServed now)
+    → IfSome (get s key) (IsRecordOf now)
 none-served s now key none = rw none tt
 
 -- ---- clients
@@ -123,27 +123,27 @@ put-client p rs key old new found =
     (refl, λ i other. put-at (other == key) rs key other new refl lt i)
 
 served-at : (b : Bool) (rs : List (Option RecordView)) (key other : ℕ) (r : RecordView) (now : ScreenView)
-    → (other == key) ≡ b → key < length rs → IfSome (slice_index_or rs other None) (IsServed now) → IsServed now r
-    → IfSome (slice_index_or (slice_set rs key (Some r)) other None) (IsServed now)
+    → (other == key) ≡ b → key < length rs → IfSome (slice_index_or rs other None) (IsRecordOf now) → IsRecordOf now r
+    → IfSome (slice_index_or (slice_set rs key (Some r)) other None) (IsRecordOf now)
 served-at true rs key other r now e lt before h =
     let same : other ≡ key = eqb-true other key e in
     let is : slice_index_or (slice_set rs key (Some r)) other None ≡ Some r =
     ap (λ k. slice_index_or (slice_set rs key (Some r)) k None) same ∙ get_or-set_same rs key (Some r) None lt in
-    subst (λ (o : Option RecordView). IfSome o (IsServed now)) (sym is) h
+    subst (λ (o : Option RecordView). IfSome o (IsRecordOf now)) (sym is) h
 served-at false rs key other r now e lt before h =
     let is : slice_index_or (slice_set rs key (Some r)) other None ≡ slice_index_or rs other None =
     get_or-set_other rs key other (Some r) None (λ same. not-true (other == key) e (eq-eqb other key same)) in
-    subst (λ (o : Option RecordView). IfSome o (IsServed now)) (sym is) before
+    subst (λ (o : Option RecordView). IfSome o (IsRecordOf now)) (sym is) before
 
 -- and each base is still one of this screen
 pub put-served : (rs : List (Option RecordView)) (key : ℕ) (old new : RecordView) (now : ScreenView)
-    → slice_index_or rs key None ≡ Some old → ((k : ℕ) → IfSome (slice_index_or rs k None) (IsServed now))
-    → IsServed now new → (k : ℕ) → IfSome (slice_index_or (slice_set rs key (Some new)) k None) (IsServed now)
+    → slice_index_or rs key None ≡ Some old → ((k : ℕ) → IfSome (slice_index_or rs k None) (IsRecordOf now))
+    → IsRecordOf now new → (k : ℕ) → IfSome (slice_index_or (slice_set rs key (Some new)) k None) (IsRecordOf now)
 put-served rs key old new now found before h k =
     served-at (k == key) rs key k new now refl (inside rs key old found) (before k) h
 
 -- the base of a client that was found
 pub found-served : (rs : List (Option RecordView)) (key : ℕ) (r : RecordView) (now : ScreenView)
-    → slice_index_or rs key None ≡ Some r → ((k : ℕ) → IfSome (slice_index_or rs k None) (IsServed now))
-    → IsServed now r
-found-served rs key r now found each = subst (λ (o : Option RecordView). IfSome o (IsServed now)) found (each key)
+    → slice_index_or rs key None ≡ Some r → ((k : ℕ) → IfSome (slice_index_or rs k None) (IsRecordOf now))
+    → IsRecordOf now r
+found-served rs key r now found each = subst (λ (o : Option RecordView). IfSome o (IsRecordOf now)) found (each key)

@@ -3,12 +3,12 @@ use Rattle.std.proofs.Common.{◌≡◌, ℕ, List, [], ◌∷◌, ◌++◌, ap,
 use Rattle.std.proofs.lemmas.List.Elements.{All-push}
 use Rattle.vte_core.specs.Standing.{Stands}
 use Rattle.terminal_model.specs.Term.{Size}
-use Rattle.vt100_core.specs.Picture.{size_of}
+use Rattle.vt100_core.specs.Picture.{grid_size}
 use Rattle.screen_model.specs.Call.{ScreenView}
 use Rattle.screen_model.specs.Made.{Act, Fed, Resized, bytes_fed, made}
 use Rattle.screen_model.specs.Holds.{IsSide, IsAct, AreActs, last_rows, last_cols}
 use Rattle.screen_model.proofs.MadeLemmas.{makes-states, makes-last_size, makes-no_offset}
-use Rattle.vt100.specs.Parsing.{ParserView, StandsAt}
+use Rattle.vt100.specs.Parsing.{ParserView, ParserStandsAt}
 use Rattle.vt100.specs.Tries.{alive}
 use Rattle.vt100.specs.WriterLaws.{IsUnscrolled}
 use Rattle.vt100.proofs.PlayLemmas.{acts_follow, feeds_nothing}
@@ -54,7 +54,7 @@ nothing-fed p bytes none rows cols capacity acts at =
     let same : made rows cols capacity (acts ++ Fed [] ∷ []) ≡ made rows cols capacity acts =
     acts_follow rows cols capacity acts (Fed [] ∷ [])
     ∙ feeds_nothing (bytes_fed acts) (made rows cols capacity acts) [] in
-    subst (λ bs. StandsAt p rows cols capacity (acts ++ Fed bs ∷ [])) (sym none) (record {
+    subst (λ bs. ParserStandsAt p rows cols capacity (acts ++ Fed bs ∷ [])) (sym none) (record {
       has_read = subst (λ (bs : List ℕ). Stands 1024 p.reader bs) (sym (bytes-nothing acts)) at.has_read;
       screen = at.screen ∙ ap alive (sym same);
     })
@@ -82,17 +82,17 @@ sized : ℕ → ℕ → Size
 sized rows cols = record { rows = rows; cols = cols }
 
 made-size : (p : ParserView (Unit {0})) (rows cols capacity : ℕ) (acts : List Act) → AreActs rows cols capacity acts
-    → StandsAt p rows cols capacity acts
-    → size_of p.screen.state.shown ≡ sized (last_rows rows acts) (last_cols cols acts)
+    → ParserStandsAt p rows cols capacity acts
+    → grid_size p.screen.state.shown ≡ sized (last_rows rows acts) (last_cols cols acts)
 unfolding sized
 made-size p rows cols capacity acts are at =
     let size = makes-last_size rows cols capacity acts are in
-    ap (λ (v : ScreenView). size_of v.state.shown) at.screen
+    ap (λ (v : ScreenView). grid_size v.state.shown) at.screen
     ∙ (λ i. record { rows = size.height i; cols = size.width i })
 
 -- feeding keeps the size
 pub fed-size : (p q : ParserView (Unit {0})) (bytes : List ℕ) → IsMade p → GoesOn p (Fed bytes) q
-    → size_of p.screen.state.shown ≡ size_of q.screen.state.shown
+    → grid_size p.screen.state.shown ≡ grid_size q.screen.state.shown
 unfolding sized
 fed-size p q bytes m step =
     let are = are-more m.rows m.cols m.capacity m.acts (Fed bytes) tt m.are in

@@ -17,7 +17,7 @@ use Rattle.vt100_forms.specs.Form.{mouse_number, encoding_number, style_number}
 use Rattle.vt100_cells.specs.Cell.{CellView, bool_eq, text_eq, cell_eq, empty_cell}
 use Rattle.vt100_cells.specs.CellEq.{attrs_eq-true, cell_eq-refl}
 use Rattle.terminal_model.specs.Term.{Size, Modes, Shown}
-use Rattle.vt100_core.specs.Picture.{size_of}
+use Rattle.vt100_core.specs.Picture.{grid_size}
 use Rattle.screen_model.specs.State.{State, IsState}
 use Rattle.screen_model.specs.Shown.{shown_state, told_cell, told_wrap}
 use Rattle.screen_model.proofs.ShownLemmas.{each-cell_is_told, each-wrap_is_told, alike-show_the_same}
@@ -88,7 +88,7 @@ equal-told None b x y e f = absurd cc
 equal-told (Some p) None x y e f = absurd cc
 
 -- the cells that two screens of one size tell of a place are compared
-pub cells-compared : (s t : State) (r k : ℕ) → IsState s → IsState t → size_of s.shown ≡ size_of t.shown
+pub cells-compared : (s t : State) (r k : ℕ) → IsState s → IsState t → grid_size s.shown ≡ grid_size t.shown
     → r < s.shown.height → k < s.shown.width → (a b : Option (Bor CellView)) → option_copied a ≡ told_cell s r k
     → option_copied b ≡ told_cell t r k
     → option_eq (λ p q. cell_eq p.now q.now) a b ≡ cell_eq ((shown_state s).cell r k) ((shown_state t).cell r k)

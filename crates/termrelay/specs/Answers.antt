@@ -6,7 +6,7 @@ use Rattle.vt100_forms.specs.Form.{mouse_number, encoding_number, style_number}
 use Rattle.vt100_cells.specs.Cell.{bool_eq, cell_eq, default_cell}
 use Rattle.terminal_model.specs.Term.{Size, Modes, Shown, IsShown, blank_shown}
 use Rattle.screen_drawing.specs.Length.{IsSmallScreen}
-use Rattle.vt100_core.specs.Picture.{size_of}
+use Rattle.vt100_core.specs.Picture.{grid_size}
 use Rattle.screen_model.specs.State.{State}
 use Rattle.screen_model.specs.Shown.{shown_state}
 use Rattle.termrelay.specs.Frame.{is_unsure, frame_text, HasByteBase}
@@ -75,7 +75,7 @@ unless_updating now answer = if now.updating then Held else answer
 
 -- what would be answered to a client that is owed these bytes if a frame could have any length
 abbrev pub wanted_to : State → Option Shown → List ℕ → Answer
-wanted_to now base [] = unless_updating now (due (size_of now.shown) (shown_state now) base)
+wanted_to now base [] = unless_updating now (due (grid_size now.shown) (shown_state now) base)
 wanted_to now base (b ∷ bs) = Behind
 
 abbrev pub wanted_of : State → ClientState → Answer
@@ -95,13 +95,13 @@ unless_too_long z now base answer = if is_frame answer && is_too_long z now base
 
 abbrev pub answer_to : State → Option Shown → List ℕ → Answer
 answer_to now base [] =
-    unless_updating now (unless_too_long (size_of now.shown) (shown_state now) base
-    (due (size_of now.shown) (shown_state now) base))
+    unless_updating now (unless_too_long (grid_size now.shown) (shown_state now) base
+    (due (grid_size now.shown) (shown_state now) base))
 answer_to now base (b ∷ bs) = Behind
 
 -- where the program's screen is in this state
-abbrev pub answer_of : State → ClientState → Answer
-answer_of now c = answer_to now c.base c.owed
+abbrev pub answer_for : State → ClientState → Answer
+answer_for now c = answer_to now c.base c.owed
 
 -- whether memory is taken on the way to the answer: for a frame's text, also where it is too long then
 abbrev pub may_take_memory : Answer → Bool
@@ -136,19 +136,19 @@ pub record EachExampleIsAnswered : Type 0 where
   pub again : answer_after (Some emoji) emoji ≡ Unsure
   pub sure_again : answer_after (Some emoji) moved ≡ Full
   -- bytes that are owed come first, then the program's update, then what is due, unless it is too long
-  pub owed : (now : State) (base : Option Shown) → answer_of now (record { owed = 0 ∷ []; base = base }) ≡ Behind
+  pub owed : (now : State) (base : Option Shown) → answer_for now (record { owed = 0 ∷ []; base = base }) ≡ Behind
   pub held : (now : State) (base : Option Shown) → now.updating ≡ true
-      → answer_of now (record { owed = []; base = base }) ≡ Held
+      → answer_for now (record { owed = []; base = base }) ≡ Held
   pub none_owed : (now : State) (base : Option Shown) → now.updating ≡ false
-      → is_too_long (size_of now.shown) (shown_state now) base ≡ false
-      → answer_of now (record { owed = []; base = base }) ≡ due (size_of now.shown) (shown_state now) base
+      → is_too_long (grid_size now.shown) (shown_state now) base ≡ false
+      → answer_for now (record { owed = []; base = base }) ≡ due (grid_size now.shown) (shown_state now) base
   pub none_due : (now : State) (base : Option Shown) → now.updating ≡ false
-      → is_frame (due (size_of now.shown) (shown_state now) base) ≡ false
-      → answer_of now (record { owed = []; base = base }) ≡ due (size_of now.shown) (shown_state now) base
+      → is_frame (due (grid_size now.shown) (shown_state now) base) ≡ false
+      → answer_for now (record { owed = []; base = base }) ≡ due (grid_size now.shown) (shown_state now) base
   pub too_long : (now : State) (base : Option Shown) → now.updating ≡ false
-      → is_frame (due (size_of now.shown) (shown_state now) base) ≡ true
-      → is_too_long (size_of now.shown) (shown_state now) base ≡ true
-      → answer_of now (record { owed = []; base = base }) ≡ TooLong
+      → is_frame (due (grid_size now.shown) (shown_state now) base) ≡ true
+      → is_too_long (grid_size now.shown) (shown_state now) base ≡ true
+      → answer_for now (record { owed = []; base = base }) ≡ TooLong
   pub held_takes_none : may_take_memory Held ≡ false
   pub too_long_takes : may_take_memory TooLong ≡ true
 
@@ -157,5 +157,5 @@ pub record EachExampleIsAnswered : Type 0 where
 -- no frame of a screen of at most 2,000 cells is too long
 abbrev pub EachSmallScreenFits : Type 0
 EachSmallScreenFits = (now : State) (c : ClientState) → HasByteBase c.base
-    → IsSmallScreen (size_of now.shown) (shown_state now)
-    → (size_of now.shown).rows * (size_of now.shown).cols ≤ 2000 → answer_of now c ≢ TooLong
+    → IsSmallScreen (grid_size now.shown) (shown_state now)
+    → (grid_size now.shown).rows * (grid_size now.shown).cols ≤ 2000 → answer_for now c ≢ TooLong

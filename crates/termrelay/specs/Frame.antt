@@ -14,7 +14,7 @@ use Rattle.terminal_model.specs.Leads.{Leads}
 use Rattle.terminal_model.specs.FormText.{AreForms, AreSentForms}
 use Rattle.screen_drawing.specs.Modes.{input_mode_diff}
 use Rattle.screen_drawing.specs.Screen.{contents_formatted, state_formatted, state_diff}
-use Rattle.screen_drawing.specs.Laws.{IsScreen, IsKnown}
+use Rattle.screen_drawing.specs.Laws.{IsDrawableScreen, IsKnown}
 use Rattle.screen_drawing.specs.Length.{IsSmallScreen}
 use Rattle.screen_drawing.specs.Local.{IsLocalList}
 
@@ -88,7 +88,7 @@ IsBase z (Some base) = IsShown z base × IsProper base.attrs
 
 -- a client that has had all frames comes to show the present screen
 abbrev pub EachFrameLeads : Type 0
-EachFrameLeads = (z : Size) (base : Option Shown) (now from : Shown) → IsBase z base → IsScreen z now
+EachFrameLeads = (z : Size) (base : Option Shown) (now from : Shown) → IsBase z base → IsDrawableScreen z now
     → Agrees z base from → Leads z (body_forms z base now) from now
 
 -- also where the present screen isn't sure, modes and style come out

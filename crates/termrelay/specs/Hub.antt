@@ -7,16 +7,16 @@ use Rattle.std.specs.Prelude.{Err, slice_index_or, if◌then◌else◌, IfSome}
 use Rattle.std.specs.Option.{option_map}
 use Rattle.std.specs.declared.io.Error.{Error}
 use Rattle.terminal_model.specs.Term.{Size, Shown}
-use Rattle.vt100_core.specs.Picture.{size_of}
+use Rattle.vt100_core.specs.Picture.{grid_size}
 use Rattle.screen_model.specs.Call.{ScreenView}
 use Rattle.screen_model.specs.Made.{Act, Fed, Resized, events_added}
 use Rattle.screen_model.specs.Shown.{shown_state}
 use Rattle.vt100.specs.Memory.{some_may_take}
-use Rattle.vt100.specs.Parsing.{ParserView, HasRead, StandsAt}
+use Rattle.vt100.specs.Parsing.{ParserView, HasRead, ParserStandsAt}
 use Rattle.vt100.specs.declared.error.ScreenError.{ScreenError}
 use Rattle.vt100.specs.declared.error.ScreenError.TheVariants as screen
 use Rattle.takers.specs.Pump.{Pumps}
-use Rattle.termrelay.specs.Answers.{ClientState, answer_of, after_answer, may_take_memory}
+use Rattle.termrelay.specs.Answers.{ClientState, answer_for, after_answer, may_take_memory}
 use Rattle.termrelay.specs.Frame.{IsShortFrame, IsLocalFrame}
 use Rattle.termrelay.specs.Record.{RecordView, client_of}
 use Rattle.termrelay.specs.declared.answer.Answer.{Answer}
@@ -43,8 +43,8 @@ pub record HubState (way : Telling) : Type 0 where
 -- a parser goes on by this act, whatever has been done to it before
 abbrev pub GoesOn : ParserView (Unit {0}) → Act → ParserView (Unit {0}) → Type 0
 GoesOn p act q =
-    (rows cols capacity : ℕ) (acts : List Act) → StandsAt p rows cols capacity acts
-    → StandsAt q rows cols capacity (acts ++ act ∷ [])
+    (rows cols capacity : ℕ) (acts : List Act) → ParserStandsAt p rows cols capacity acts
+    → ParserStandsAt q rows cols capacity (acts ++ act ∷ [])
 
 -- it has failed at these bytes: whatever has been read before, one of their events may take memory
 abbrev pub FailsAt : ParserView (Unit {0}) → List ℕ → ParserView (Unit {0}) → Type 0
@@ -87,8 +87,8 @@ pump_answer (Err e) = Err (Write e)
 -- what a request for a frame can be answered for the client that may be at a key, where the screen is this
 abbrev pub CanFrame : ScreenView → Option ClientState → Result Answer HubError → Type 0
 CanFrame now None result = result ≡ Err UnknownClient
-CanFrame now (Some c) (Ok answer) = (now.failed ≡ false) × (answer ≡ answer_of now.state c)
-CanFrame now (Some c) (Err Memory) = (now.failed ≡ false) × (may_take_memory (answer_of now.state c) ≡ true)
+CanFrame now (Some c) (Ok answer) = (now.failed ≡ false) × (answer ≡ answer_for now.state c)
+CanFrame now (Some c) (Err Memory) = (now.failed ≡ false) × (may_take_memory (answer_for now.state c) ≡ true)
 CanFrame now (Some c) (Err Failed) = now.failed ≡ true
 CanFrame now (Some c) (Err UnknownClient) = ⊥
 CanFrame now (Some c) (Err (Write e)) = ⊥
@@ -104,7 +104,7 @@ module _ {way : Telling} where
 
   -- what its screen shows
   abbrev pub size_in : HubState way → Size
-  size_in h = size_of (screen_in h).state.shown
+  size_in h = grid_size (screen_in h).state.shown
 
   abbrev pub shown_in : HubState way → Shown
   shown_in h = shown_state (screen_in h).state
@@ -205,5 +205,5 @@ module _ {way : Telling} where
 
 -- of this size, with a blank screen that keeps no rows
 pub record IsNewHub (rows cols : ℕ) (h : HubState as_kept) : Type 0 where
-  pub parser : StandsAt h.parser rows cols 0 []
+  pub parser : ParserStandsAt h.parser rows cols 0 []
   pub clients : clients_in h ≡ no_clients

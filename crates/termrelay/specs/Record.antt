@@ -1,7 +1,7 @@
 -- What a hub keeps of a client.
 use Rattle.std.specs.Prelude.{◌≡◌, ℕ, List, Option, IfSome}
 use Rattle.std.specs.Option.{option_map}
-use Rattle.vt100_core.specs.Picture.{size_of}
+use Rattle.vt100_core.specs.Picture.{grid_size}
 use Rattle.screen_model.specs.Call.{ScreenView}
 use Rattle.screen_model.specs.Shown.{shown_state}
 use Rattle.vt100.specs.WriterLaws.{IsUnscrolled}
@@ -19,9 +19,9 @@ client_of s = record { owed = s.owed; base = option_map (λ v. shown_state v.sta
 -- a base of a screen: no kept row is shown, and the size is the same
 pub record IsBaseOf (now base : ScreenView) : Type 0 where
   pub unscrolled : IsUnscrolled base.state
-  pub size : size_of base.state.shown ≡ size_of now.state.shown
+  pub size : grid_size base.state.shown ≡ grid_size now.state.shown
 
 -- the client's base, if it has one, is one of this screen, and the client is owed at most one frame
-pub record IsServed (now : ScreenView) (s : RecordView) : Type 0 where
+pub record IsRecordOf (now : ScreenView) (s : RecordView) : Type 0 where
   pub base : IfSome s.base (IsBaseOf now)
-  pub short : IsShortFrame (size_of now.state.shown) s.owed
+  pub short : IsShortFrame (grid_size now.state.shown) s.owed

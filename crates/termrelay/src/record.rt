@@ -1,13 +1,13 @@
 //! What a hub keeps of a client.
 ghost use Rattle.std.specs.Prelude.{◌≡◌, ℕ, ◌++◌, [], true, drop, length, nat_lt, Some, None, IfOk, OnErr, Err};
 ghost use Rattle.std.specs.Option.{option_copied, option_map};
-ghost use Rattle.vt100_core.specs.Picture.{size_of};
+ghost use Rattle.vt100_core.specs.Picture.{grid_size};
 ghost use Rattle.screen_model.specs.Shown.{shown_state};
 ghost use Rattle.vt100.specs.WriterLaws.{IsUnscrolled};
 ghost use Rattle.termrelay.specs.Frame.{frame_text as text_of_frame, body_forms};
 ghost use Rattle.termrelay.specs.Answers.{wanted_of, due, is_frame, longest_frame};
 ghost use Rattle.takers.specs.Pump.{Pumps};
-ghost use Rattle.termrelay.specs.Record.{RecordView, client_of, IsServed, IsBaseOf};
+ghost use Rattle.termrelay.specs.Record.{RecordView, client_of, IsRecordOf, IsBaseOf};
 ghost use Rattle.termrelay.specs.declared.error.HubError.TheVariants.{Memory};
 
 use crate::answer::Answer;
@@ -93,7 +93,7 @@ impl Record {
     /// What a request for a frame is answered, unless the frame is too long.
     pub(crate) fn answer(&self, now: &Screen) -> Answer
         requires unscrolled { IsUnscrolled now.now.state }
-        requires served { IsServed now.now self.now }
+        requires served { IsRecordOf now.now self.now }
         ensures { result ≡ wanted_of now.now.state (client_of self.now) }
     {
         if !self.owed().is_empty() {
@@ -121,11 +121,11 @@ impl Record {
         answer: Answer,
     ) -> Result<Vec<u8>, HubError>
         requires unscrolled { IsUnscrolled now.now.state }
-        requires served { IsServed now.now self.now }
-        requires due { answer ≡ due (size_of now.now.state.shown) (shown_state now.now.state)
+        requires served { IsRecordOf now.now self.now }
+        requires due { answer ≡ due (grid_size now.now.state.shown) (shown_state now.now.state)
             (client_of self.now).base }
         requires frame { is_frame answer ≡ true }
-        ensures text { IfOk result (λ text. text.items ≡ text_of_frame (size_of now.now.state.shown)
+        ensures text { IfOk result (λ text. text.items ≡ text_of_frame (grid_size now.now.state.shown)
             (client_of self.now).base (shown_state now.now.state)) }
         ensures memory { OnErr result (result ≡ Err Memory) }
     {

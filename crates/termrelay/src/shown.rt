@@ -2,7 +2,7 @@
 ghost use Rattle.std.specs.Prelude.{◌≡◌, ◌<◌};
 ghost use Rattle.vt100_forms.specs.Attrs.{attrs_eq};
 ghost use Rattle.vt100_cells.specs.Cell.{bool_eq, cell_eq};
-ghost use Rattle.vt100_core.specs.Picture.{size_of};
+ghost use Rattle.vt100_core.specs.Picture.{grid_size};
 ghost use Rattle.screen_model.specs.State.{IsState};
 ghost use Rattle.screen_model.specs.Shown.{shown_state};
 ghost use Rattle.termrelay.specs.Answers.{all_below, modes_eq, same_shown};
@@ -42,7 +42,7 @@ fn is_row_unsure(screen: &Screen, row: u16) -> bool
 /// Whether it isn't sure what another terminal makes of the screen: a cell asks for an emoji.
 pub(crate) fn is_unsure(screen: &Screen) -> bool
     requires { IsState screen.now.state }
-    ensures { result ≡ is_unsure (size_of screen.now.state.shown) (shown_state screen.now.state) }
+    ensures { result ≡ is_unsure (grid_size screen.now.state.shown) (shown_state screen.now.state) }
 {
     let (rows, _) = screen.size();
     for row in 0..rows.get() {
@@ -57,7 +57,7 @@ pub(crate) fn is_unsure(screen: &Screen) -> bool
 fn has_same_cells(screen: &Screen, other: &Screen, row: u16) -> bool
     requires state { IsState screen.now.state }
     requires other_state { IsState other.now.state }
-    requires size { size_of screen.now.state.shown ≡ size_of other.now.state.shown }
+    requires size { grid_size screen.now.state.shown ≡ grid_size other.now.state.shown }
     requires inside { row < screen.now.state.shown.height }
     ensures { result ≡ all_below screen.now.state.shown.width (λ k. cell_eq
         ((shown_state screen.now.state).cell row k) ((shown_state other.now.state).cell row k)) }
@@ -75,7 +75,7 @@ fn has_same_cells(screen: &Screen, other: &Screen, row: u16) -> bool
 fn same_cells(screen: &Screen, other: &Screen) -> bool
     requires state { IsState screen.now.state }
     requires other_state { IsState other.now.state }
-    requires size { size_of screen.now.state.shown ≡ size_of other.now.state.shown }
+    requires size { grid_size screen.now.state.shown ≡ grid_size other.now.state.shown }
     ensures { result ≡ all_below screen.now.state.shown.height (λ r. all_below screen.now.state.shown.width
         (λ k. cell_eq ((shown_state screen.now.state).cell r k) ((shown_state other.now.state).cell r k))) }
 {
@@ -134,8 +134,8 @@ fn same_modes(screen: &Screen, other: &Screen) -> bool
 pub(crate) fn same_shown(screen: &Screen, other: &Screen) -> bool
     requires state { IsState screen.now.state }
     requires other_state { IsState other.now.state }
-    requires size { size_of screen.now.state.shown ≡ size_of other.now.state.shown }
-    ensures { result ≡ same_shown (size_of screen.now.state.shown) (shown_state screen.now.state)
+    requires size { grid_size screen.now.state.shown ≡ grid_size other.now.state.shown }
+    ensures { result ≡ same_shown (grid_size screen.now.state.shown) (shown_state screen.now.state)
         (shown_state other.now.state) }
 {
     screen.cursor_position() == other.cursor_position()

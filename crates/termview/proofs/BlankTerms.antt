@@ -14,7 +14,7 @@ use Rattle.vt100_rows.specs.Sheet.{row_at, rows_by_position, erased_forward_at}
 use Rattle.vt100_rows.specs.Picture.{lines_of, wraps_of}
 use Rattle.vt100_rows.proofs.SheetLemmas.{row_at-set, row_at-by_position, length-rows_by_position}
 use Rattle.vt100_rows.proofs.PictureLemmas.{line-blank, lines-past, wraps-past}
-use Rattle.termview.specs.Picture.{PictureView, term_of, IsPicture}
+use Rattle.termview.specs.Picture.{PictureView, term_of_picture, IsPicture}
 use Rattle.termview.specs.Step.{erase_below}
 use Rattle.termview.proofs.RowTerms.{cursor_row, here, erased-is}
 
@@ -110,10 +110,10 @@ module _ (p : PictureView) (i : IsPicture p) where
       ∙ ap (λ b. cond (b && nat_lt k p.size.cols) (empty_cell p.attrs) default_cell) (sym (le-ltb r p.size.rows l)))
       (cases_lt r p.size.rows)
 
-  one : term_of (record p { rows = wiped_one }) ≡ erase p.size p.size.cols (term_of p)
+  one : term_of_picture (record p { rows = wiped_one }) ≡ erase p.size p.size.cols (term_of_picture p)
   one = erased-is p p.size.cols i (omega arith)
 
-  cell_at_each : (r k : ℕ) → lines_of rows r k ≡ (erase_below p.size (term_of p)).cell r k
+  cell_at_each : (r k : ℕ) → lines_of rows r k ≡ (erase_below p.size (term_of_picture p)).cell r k
   unfolding erase_below
   cell_at_each r k =
       ⊎_elim
@@ -129,7 +129,7 @@ module _ (p : PictureView) (i : IsPicture p) where
       (λ (l : length p.rows ≤ r). wraps-past rows r (omega (arith, length-rows_by_position (length p.rows) at)))
       (cases_lt r (length p.rows))
 
-  wrap_at_each : (r : ℕ) → wraps_of rows r ≡ (erase_below p.size (term_of p)).wrapped r
+  wrap_at_each : (r : ℕ) → wraps_of rows r ≡ (erase_below p.size (term_of_picture p)).wrapped r
   unfolding erase_below
   wrap_at_each r =
       ⊎_elim
@@ -139,9 +139,9 @@ module _ (p : PictureView) (i : IsPicture p) where
       ∙ sym (cond-false (nat_lt p.row r) _ _ (le-ltb p.row r h)))
       (cases_lt p.row r)
 
-  pub erased_below-is : term_of (record p { rows = rows }) ≡ erase_below p.size (term_of p)
+  pub erased_below-is : term_of_picture (record p { rows = rows }) ≡ erase_below p.size (term_of_picture p)
   unfolding erase_below erase with_line
   erased_below-is =
       let lines = fun_ext (λ r. fun_ext (λ k. cell_at_each r k)) in
       let flags = fun_ext (λ r. wrap_at_each r) in
-      λ k. record (term_of p) { cell = lines k; wrapped = flags k }
+      λ k. record (term_of_picture p) { cell = lines k; wrapped = flags k }

@@ -11,24 +11,24 @@ use Rattle.vte.proofs.HoldLemmas.{calls_from-append}
 use Rattle.terminal_model.specs.Term.{Size, Term, blank_term}
 use Rattle.termview.specs.Step.{view_step, view_steps}
 use Rattle.termview.specs.Seen.{seen}
-use Rattle.termview.specs.Picture.{PictureView, term_of, Becomes}
+use Rattle.termview.specs.Picture.{PictureView, term_of_picture, Becomes}
 
 -- ---- calls, one after the other
 
 -- what the handler does at a call
 abbrev pub steps : PictureView → Call → PictureView → Type 0
-steps p c q = Becomes p q (view_step p.size c (term_of p))
+steps p c q = Becomes p q (view_step p.size c (term_of_picture p))
 
 pub calls-become : (cs : List Call) (p q : PictureView) → Calls steps p cs q
-    → Becomes p q (view_steps p.size cs (term_of p))
-calls-become [] p q e = record { size = ap (λ (x : PictureView). x.size) e; shows = ap term_of e }
+    → Becomes p q (view_steps p.size cs (term_of_picture p))
+calls-become [] p q e = record { size = ap (λ (x : PictureView). x.size) e; shows = ap term_of_picture e }
 calls-become (c ∷ cs) p q g =
     let mid = g.0 in
     let first = g.1 in
     let rest = calls-become cs mid q g.2 in
     record {
       size = rest.size ∙ first.size;
-      shows = rest.shows ∙ ap (λ z. view_steps z cs (term_of mid)) first.size ∙ ap (view_steps p.size cs) first.shows;
+      shows = rest.shows ∙ ap (λ z. view_steps z cs (term_of_picture mid)) first.size ∙ ap (view_steps p.size cs) first.shows;
     }
 
 pub view_steps-append : (z : Size) (a b : List Call) (t : Term)
@@ -58,24 +58,24 @@ seen-append z parsed bytes =
 
 -- a picture that shows what the parsed bytes make shows, after the calls of more of them, what all make
 pub goes-on : (p q : PictureView) (parsed parsed' : List ℕ) (n : ℕ) (calls : List Call)
-    → term_of p ≡ seen p.size parsed → Parses parsed parsed' n calls → Calls steps p calls q
-    → (q.size ≡ p.size) × (term_of q ≡ seen q.size parsed')
+    → term_of_picture p ≡ seen p.size parsed → Parses parsed parsed' n calls → Calls steps p calls q
+    → (q.size ≡ p.size) × (term_of_picture q ≡ seen q.size parsed')
 goes-on p q parsed parsed' n calls shows h g =
     let done = calls-become calls p q g in
-    let now : term_of q ≡ seen p.size parsed' =
-    done.shows ∙ closings-idle p.size (calls_from parsed h.bytes) n calls (term_of p) h.made
+    let now : term_of_picture q ≡ seen p.size parsed' =
+    done.shows ∙ closings-idle p.size (calls_from parsed h.bytes) n calls (term_of_picture p) h.made
     ∙ ap (view_steps p.size (calls_from parsed h.bytes)) shows ∙ sym (seen-append p.size parsed h.bytes)
     ∙ ap (seen p.size) (sym h.more) in
     (done.size, now ∙ ap (λ z. seen z parsed') (sym done.size))
 
 -- the same where the hold was emptied
-pub emptied-on : (p q : PictureView) (parsed bytes : List ℕ) → term_of p ≡ seen p.size parsed
+pub emptied-on : (p q : PictureView) (parsed bytes : List ℕ) → term_of_picture p ≡ seen p.size parsed
     → Calls steps p (calls_from parsed bytes ++ hold.closing) q
-    → (q.size ≡ p.size) × (term_of q ≡ seen q.size (parsed ++ bytes))
+    → (q.size ≡ p.size) × (term_of_picture q ≡ seen q.size (parsed ++ bytes))
 unfolding view_step
 emptied-on p q parsed bytes shows g =
     let done = calls-become (calls_from parsed bytes ++ hold.closing) p q g in
-    let now : term_of q ≡ seen p.size (parsed ++ bytes) =
-    done.shows ∙ view_steps-append p.size (calls_from parsed bytes) hold.closing (term_of p)
+    let now : term_of_picture q ≡ seen p.size (parsed ++ bytes) =
+    done.shows ∙ view_steps-append p.size (calls_from parsed bytes) hold.closing (term_of_picture p)
     ∙ ap (view_steps p.size (calls_from parsed bytes)) shows ∙ sym (seen-append p.size parsed bytes) in
     (done.size, now ∙ ap (λ z. seen z (parsed ++ bytes)) (sym done.size))

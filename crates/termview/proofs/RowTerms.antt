@@ -22,7 +22,7 @@ use Rattle.terminal_model.specs.Apply.{with_line, print, join, erase, down}
 use Rattle.vt100_rows.specs.Sheet.{row_at, rows_by_position, moved_up, IsRowOf}
 use Rattle.vt100_rows.specs.Picture.{lines_of, wraps_of}
 use Rattle.vt100_rows.proofs.PictureLemmas.{lines-set, wraps-set, lines-up, wraps-up}
-use Rattle.termview.specs.Picture.{PictureView, term_of, IsPicture}
+use Rattle.termview.specs.Picture.{PictureView, term_of_picture, IsPicture}
 use Rattle.termview.specs.Step.{flag_above}
 
 -- ---- another row at the cursor
@@ -49,12 +49,12 @@ cursor_row-is p i = i.sheet.each p.row (here p i)
 
 with_line-is : (p : PictureView) (v : RowView) (stays : Bool) → p.row < length p.rows
     → v.wrapped ≡ ((cursor_row p).wrapped && stays)
-    → term_of (record p { rows = set p.rows p.row v }) ≡ with_line (term_of p) (cell_at v.cells) stays
+    → term_of_picture (record p { rows = set p.rows p.row v }) ≡ with_line (term_of_picture p) (cell_at v.cells) stays
 unfolding with_line
 with_line-is p v stays l e =
     let lines = lines-set p.rows p.row v l in
     let flags = wraps-set p.rows p.row v l ∙ flags-stay (wraps_of p.rows) p.row v.wrapped stays e in
-    λ i. record (term_of p) { cell = lines i; wrapped = flags i }
+    λ i. record (term_of_picture p) { cell = lines i; wrapped = flags i }
 
 span-same : (k n : ℕ) → min 2 k ≡ n → 0 < n → n ≡ cond (n == 2) 2 1
 span-same k n e h = grind (arith, nat_tests)
@@ -64,8 +64,8 @@ span_of-cell c n a e h = span-same (unwrap_or (char_width false c) 1) n e h ∙ 
 
 -- a cell that is put at the cursor is printed
 pub printed-is : (p : PictureView) (y : CellView) (n : ℕ) → IsPicture p → n ≡ span_of y → p.col + n ≤ p.size.cols
-    → term_of (record p { rows = set p.rows p.row (placed (cursor_row p) p.col y p.attrs); col = p.col + n })
-    ≡ print p.size y (term_of p)
+    → term_of_picture (record p { rows = set p.rows p.row (placed (cursor_row p) p.col y p.attrs); col = p.col + n })
+    ≡ print p.size y (term_of_picture p)
 unfolding print
 printed-is p y n i e l =
     let r = cursor_row-is p i in
@@ -75,14 +75,14 @@ printed-is p y n i e l =
     let at = with_line-is p (placed v p.col y p.attrs) (not (put_unflags p.size.cols f p.col y)) (here p i)
     (ap (λ m. v.wrapped && not (put_unflags m f p.col y)) r.wide) in
     ap (λ (t : Term). record t { col = p.col + n }) at
-    ∙ ap (λ h. record (with_line (term_of p) h (not (put_unflags p.size.cols f p.col y))) { col = p.col + n }) line
-    ∙ ap (λ m. record (with_line (term_of p) (put f p.col y p.attrs) (not (put_unflags p.size.cols f p.col y))) {
+    ∙ ap (λ h. record (with_line (term_of_picture p) h (not (put_unflags p.size.cols f p.col y))) { col = p.col + n }) line
+    ∙ ap (λ m. record (with_line (term_of_picture p) (put f p.col y p.attrs) (not (put_unflags p.size.cols f p.col y))) {
       col = p.col + m;
     }) e
 
 -- a zero-width character joins
 pub joined-is : (p : PictureView) (c : ℕ) → IsPicture p → 0 < p.col
-    → term_of (record p { rows = set p.rows p.row (joined_plain (cursor_row p) p.col c) }) ≡ join c (term_of p)
+    → term_of_picture (record p { rows = set p.rows p.row (joined_plain (cursor_row p) p.col c) }) ≡ join c (term_of_picture p)
 unfolding join update
 joined-is p c i h =
     let v = cursor_row p in
@@ -94,12 +94,12 @@ joined-is p c i h =
     (Bounded-update n f j (appended_plain (f j) c) (Bounded-row v.cells)
     (base_col-within f n p.col h (omega (arith, r.wide, i.in_cols)))) in
     with_line-is p (joined_plain v p.col c) true (here p i) (sym (and-true v.wrapped))
-    ∙ ap (λ l. with_line (term_of p) l true) line
+    ∙ ap (λ l. with_line (term_of_picture p) l true) line
 
 -- columns are erased
 pub erased-is : (p : PictureView) (end : ℕ) → IsPicture p → end ≤ p.size.cols
-    → term_of (record p { rows = set p.rows p.row (wiped_row (cursor_row p) p.col end p.attrs) })
-    ≡ erase p.size end (term_of p)
+    → term_of_picture (record p { rows = set p.rows p.row (wiped_row (cursor_row p) p.col end p.attrs) })
+    ≡ erase p.size end (term_of_picture p)
 unfolding erase
 erased-is p end i l =
     let r = cursor_row-is p i in
@@ -107,7 +107,7 @@ erased-is p end i l =
     let f = cell_at v.cells in
     with_line-is p (wiped_row v p.col end p.attrs) (not (wipe_unflags p.size.cols f p.col end)) (here p i)
     (ap (λ m. v.wrapped && not (wipe_unflags m f p.col end)) r.wide)
-    ∙ ap (λ h. with_line (term_of p) h (not (wipe_unflags p.size.cols f p.col end)))
+    ∙ ap (λ h. with_line (term_of_picture p) h (not (wipe_unflags p.size.cols f p.col end)))
     (line-wiped v p.col end p.attrs (omega (arith, r.wide)))
 
 -- ---- the next row
@@ -124,19 +124,19 @@ unfolding down
 down-up z t h = cond-false (nat_lt (t.row + 1) z.rows) _ _ (le-ltb (t.row + 1) z.rows h)
 
 pub scrolled-is : (p : PictureView) (width : ℕ) → IsPicture p → p.size.rows ≤ p.row + 1
-    → term_of (record p { rows = rows_by_position (length p.rows) (moved_up p.rows 0 (length p.rows) 1 width) })
-    ≡ down p.size (term_of p)
+    → term_of_picture (record p { rows = rows_by_position (length p.rows) (moved_up p.rows 0 (length p.rows) 1 width) })
+    ≡ down p.size (term_of_picture p)
 scrolled-is p width i h =
     let lines = lines-up p.rows width
     ∙ ap (λ n r. cond (nat_lt (r + 1) n) (lines_of p.rows (r + 1)) (λ k. default_cell)) i.full in
     let flags = wraps-up p.rows width ∙ ap (λ n r. nat_lt (r + 1) n && wraps_of p.rows (r + 1)) i.full in
-    (λ k. record (term_of p) { cell = lines k; wrapped = flags k })
-    ∙ sym (down-up p.size (term_of p) h)
+    (λ k. record (term_of_picture p) { cell = lines k; wrapped = flags k })
+    ∙ sym (down-up p.size (term_of_picture p) h)
 
 -- the row above the cursor goes on
 pub flagged-is : (p : PictureView) → IsPicture p → 0 < p.row
-    → term_of (record p { rows = set p.rows (p.row - 1) (with_wrap (row_at p.rows (p.row - 1)) true) })
-    ≡ flag_above p.size (term_of p)
+    → term_of_picture (record p { rows = set p.rows (p.row - 1) (with_wrap (row_at p.rows (p.row - 1)) true) })
+    ≡ flag_above p.size (term_of_picture p)
 unfolding flag_above
 flagged-is p i h =
     let l = here p i in
@@ -146,4 +146,4 @@ flagged-is p i h =
     ∙ update-same (lines_of p.rows) (p.row - 1) (cell_at v.cells) refl in
     let flags = wraps-set p.rows (p.row - 1) v (omega arith)
     ∙ ap (λ n. update (wraps_of p.rows) (p.row - 1) (is_filled (lines_of p.rows (p.row - 1) (n - 1)))) r.wide in
-    λ k. record (term_of p) { cell = lines k; wrapped = flags k }
+    λ k. record (term_of_picture p) { cell = lines k; wrapped = flags k }

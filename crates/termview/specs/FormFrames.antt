@@ -13,7 +13,7 @@ use Rattle.terminal_model.specs.Apply.{run}
 use Rattle.terminal_model.specs.FormText.{IsSentForm}
 use Rattle.forms_read.specs.Terminals.{IsSmall}
 use Rattle.termview.specs.Seen.{seen}
-use Rattle.termview.specs.Standing.{size_of, HoldsAt, Taken}
+use Rattle.termview.specs.Standing.{view_size, HoldsAt, Taken}
 use Rattle.termview.specs.declared.view.View.{View}
 
 -- the marks of an update around the bytes of forms
@@ -49,4 +49,4 @@ SpellingsAreParsed = (fs : List Form) (moves : List Move) (past parsed : List �
 abbrev pub SpellingsAreTaken : {T : Type 0} → Ticking T → Type 0
 SpellingsAreTaken {T} ticking = (fs : List Form) (past : List ℕ) (old new : View T)
     → AtGround 1024 past → AllByRecursion IsSentForm fs → Taken ticking old past None (spell fs) new
-    → HoldsAt ticking new (past ++ spell fs) None × (size_of new ≡ size_of old)
+    → HoldsAt ticking new (past ++ spell fs) None × (view_size new ≡ view_size old)

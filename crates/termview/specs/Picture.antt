@@ -22,8 +22,8 @@ pub record PictureView : Type 0 where
   pub saved_attrs : Attrs
 
 -- the terminal that shows it
-abbrev pub term_of : PictureView → Term
-term_of p = record {
+abbrev pub term_of_picture : PictureView → Term
+term_of_picture p = record {
   cell = lines_of p.rows;
   wrapped = wraps_of p.rows;
   row = p.row;
@@ -53,4 +53,4 @@ pub record IsPicture (p : PictureView) : Type 0 where
 -- a picture has become one of the same size that shows this
 pub record Becomes (p q : PictureView) (t : Term) : Type 0 where
   pub size : q.size ≡ p.size
-  pub shows : term_of q ≡ t
+  pub shows : term_of_picture q ≡ t

@@ -7,16 +7,16 @@ use Rattle.vte.specs.Hold.{held_of, Takes}
 use Rattle.vte.specs.Advances.{Advances}
 use Rattle.vte.specs.Standing as processor
 use Rattle.terminal_model.specs.Term.{Size, Term}
-use Rattle.termview.specs.Picture.{term_of}
+use Rattle.termview.specs.Picture.{term_of_picture}
 use Rattle.termview.specs.Seen.{seen}
 use Rattle.termview.specs.declared.view.View.{View}
 
-abbrev pub size_of : {T : Type 0} → View T → Size
-size_of v = v.picture.size
+abbrev pub view_size : {T : Type 0} → View T → Size
+view_size v = v.picture.size
 
 -- what the view shows, and what it has saved
 abbrev pub shown_by : {T : Type 0} → View T → Term
-shown_by v = term_of v.picture
+shown_by v = term_of_picture v.picture
 
 abbrev pub timeout_of : {T : Type 0} → View T → T
 timeout_of v = processor.timeout_of v.processor
@@ -24,7 +24,7 @@ timeout_of v = processor.timeout_of v.processor
 -- the view has parsed these bytes and shows what they make of a blank terminal, and it holds those
 pub record ViewStandsAt {T : Type 0} (v : View T) (parsed held : List ℕ) : Type 0 where
   pub reads : processor.StandsAt v.processor parsed held
-  pub shows : shown_by v ≡ seen (size_of v) parsed
+  pub shows : shown_by v ≡ seen (view_size v) parsed
 
 -- the same, where the timeout says whether an update is open
 pub record HoldsAt {T : Type 0} (ticking : Ticking T) (v : View T) (parsed : List ℕ) (hold : Option (List ℕ))
@@ -40,7 +40,7 @@ pub record Advanced {T : Type 0} (ticking : Ticking T) (old : View T) (parsed he
   pub calls : List Call
   pub advances : Advances ticking false (timeout_of old) parsed held piece (timeout_of new) parsed' held' calls
   pub stands : ViewStandsAt new parsed' held'
-  pub size : size_of new ≡ size_of old
+  pub size : view_size new ≡ view_size old
 
 -- what a piece led to, under a timeout that is pending exactly from setting to clearing
 pub record Taken {T : Type 0} (ticking : Ticking T) (old : View T) (parsed : List ℕ) (hold : Option (List ℕ))
@@ -52,11 +52,11 @@ pub record Taken {T : Type 0} (ticking : Ticking T) (old : View T) (parsed : Lis
   pub takes : Takes parsed hold piece parsed' hold' calls ticks
   pub stands : HoldsAt ticking new parsed' hold'
   pub ticked : Ticked ticking (timeout_of old) ticks (timeout_of new)
-  pub size : size_of new ≡ size_of old
+  pub size : view_size new ≡ view_size old
 
 -- all held bytes were parsed, and the update was closed
 pub record Emptied {T : Type 0} (ticking : Ticking T) (old : View T) (parsed held : List ℕ) (new : View T)
     : Type 0 where
   pub stands : ViewStandsAt new (parsed ++ held) []
   pub ticked : Ticked ticking (timeout_of old) (ticks_from parsed held ++ Clears ∷ []) (timeout_of new)
-  pub size : size_of new ≡ size_of old
+  pub size : view_size new ≡ view_size old

@@ -1,6 +1,6 @@
 //! What each call does to a picture.
 ghost use Rattle.std.specs.Prelude.{◌≡◌};
-ghost use Rattle.termview.specs.Picture.{term_of, Becomes};
+ghost use Rattle.termview.specs.Picture.{term_of_picture, Becomes};
 ghost use Rattle.termview.specs.Step.{view_step, line_of};
 
 use crate::picture::Picture;
@@ -10,7 +10,7 @@ use vte_types::handler::Handler;
 
 /// The calls that a screen's forms are read as do what the forms do. Every other call does nothing.
 impl Handler for Picture {
-    ghost step = { λ p call q. Becomes p q (view_step p.size call (term_of p)) };
+    ghost step = { λ p call q. Becomes p q (view_step p.size call (term_of_picture p)) };
 
     #[tactic(auto, unfolding(crate::specs::Step::view_step))]
     fn call(&mut self, call: Call<'_>) {

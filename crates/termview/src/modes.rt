@@ -3,7 +3,7 @@ ghost use Rattle.std.specs.Prelude.{◌≡◌, true, false};
 ghost use Rattle.termview.specs.Step.{mode_set, mode_reset, mouse_reset};
 ghost use Rattle.termview.specs.Step.{encoding_reset, with_style, style_of, style_by};
 ghost use Rattle.termview.specs.Step.{with_attr, with_keypad};
-ghost use Rattle.termview.specs.Picture.{term_of, Becomes};
+ghost use Rattle.termview.specs.Picture.{term_of_picture, Becomes};
 
 use crate::attributes::set_attribute;
 use crate::picture::Picture;
@@ -14,7 +14,7 @@ use vte_types::cursor::{CursorShape, CursorStyle as AnsiCursorStyle};
 impl Picture {
     /// Sets the private mode with this number (DECSET).
     pub(crate) fn set_private_mode(&mut self, number: u16)
-        ensures { Becomes self.old self.new (mode_set number (term_of self.old)) }
+        ensures { Becomes self.old self.new (mode_set number (term_of_picture self.old)) }
     {
         match number {
             1 => self.application_cursor = true,
@@ -32,7 +32,7 @@ impl Picture {
 
     /// Resets the private mode with this number (DECRST).
     pub(crate) fn reset_private_mode(&mut self, number: u16)
-        ensures { Becomes self.old self.new (mode_reset number (term_of self.old)) }
+        ensures { Becomes self.old self.new (mode_reset number (term_of_picture self.old)) }
     {
         match number {
             1 => self.application_cursor = false,
@@ -50,21 +50,21 @@ impl Picture {
 
     /// Has the keypad send application sequences, or numbers.
     pub(crate) fn set_keypad(&mut self, application: bool)
-        ensures { Becomes self.old self.new (with_keypad application (term_of self.old)) }
+        ensures { Becomes self.old self.new (with_keypad application (term_of_picture self.old)) }
     {
         self.application_keypad = application;
     }
 
     /// Changes one drawing attribute.
     pub(crate) fn set_attribute(&mut self, attr: Attr)
-        ensures { Becomes self.old self.new (record (term_of self.old) { attrs = with_attr attr self.old.attrs }) }
+        ensures { Becomes self.old self.new (record (term_of_picture self.old) { attrs = with_attr attr self.old.attrs }) }
     {
         set_attribute(&mut self.attrs, attr);
     }
 
     /// Resets a mode of the mouse, if it is the current one.
     fn reset_mouse_mode(&mut self, mode: MouseProtocolMode)
-        ensures { Becomes self.old self.new (mouse_reset mode (term_of self.old)) }
+        ensures { Becomes self.old self.new (mouse_reset mode (term_of_picture self.old)) }
     {
         if self.mouse_protocol_mode == mode {
             self.mouse_protocol_mode = MouseProtocolMode::None;
@@ -73,7 +73,7 @@ impl Picture {
 
     /// Resets an encoding of the mouse, if it is the current one.
     fn reset_mouse_encoding(&mut self, encoding: MouseProtocolEncoding)
-        ensures { Becomes self.old self.new (encoding_reset encoding (term_of self.old)) }
+        ensures { Becomes self.old self.new (encoding_reset encoding (term_of_picture self.old)) }
     {
         if self.mouse_protocol_encoding == encoding {
             self.mouse_protocol_encoding = MouseProtocolEncoding::Default;
@@ -83,7 +83,7 @@ impl Picture {
     /// Sets the cursor's style (DECSCUSR), or the default one for `None`. A style that a screen doesn't have changes
     /// nothing.
     pub(crate) fn set_style(&mut self, style: Option<AnsiCursorStyle>)
-        ensures { Becomes self.old self.new (with_style (style_of style) (term_of self.old)) }
+        ensures { Becomes self.old self.new (with_style (style_of style) (term_of_picture self.old)) }
     {
         match style {
             None => self.cursor_style = CursorStyle::Default,

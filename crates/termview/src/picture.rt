@@ -7,7 +7,7 @@ ghost use Rattle.vt100_rows.specs.Text.{line_text};
 ghost use Rattle.terminal_model.specs.Term.{blank_term};
 ghost use Rattle.terminal_model.specs.Apply.{erase, input, print, join, down, wrap, made_to_fit};
 ghost use Rattle.termview.specs.Step.{printed, erase_below, cursor_saved, cursor_restored, flag_above};
-ghost use Rattle.termview.specs.Picture.{term_of, Becomes};
+ghost use Rattle.termview.specs.Picture.{term_of_picture, Becomes};
 ghost use Rattle.termview.specs.Seen.{cell_shown, text_shown};
 
 use crate::error::ViewError;
@@ -53,7 +53,7 @@ impl Picture {
     pub(crate) fn new(alloc: Global, size: Size) -> Result<Self, ViewError>
         ensures rows { IfOk result (λ p. p.size.rows ≡ size.rows.value) }
         ensures cols { IfOk result (λ p. p.size.cols ≡ size.cols.value) }
-        ensures blank { IfOk result (λ p. term_of p ≡ blank_term) }
+        ensures blank { IfOk result (λ p. term_of_picture p ≡ blank_term) }
     {
         Ok(Picture {
             size,
@@ -79,7 +79,7 @@ impl Picture {
     /// Dropped are control characters, U+FFFD, what is wider than the screen, and zero-width characters at the first
     /// column.
     pub(crate) fn input(&mut self, c: char)
-        ensures { Becomes self.old self.new (printed self.old.size c (term_of self.old)) }
+        ensures { Becomes self.old self.new (printed self.old.size c (term_of_picture self.old)) }
     {
         if c == char::REPLACEMENT_CHARACTER {
             return;
@@ -94,7 +94,7 @@ impl Picture {
     /// Has a zero-width character join the cell to the cursor's left, if there is one.
     fn join(&mut self, c: char)
         requires { drawn_columns c ≡ Some 0 }
-        ensures { Becomes self.old self.new (input self.old.size c (term_of self.old)) }
+        ensures { Becomes self.old self.new (input self.old.size c (term_of_picture self.old)) }
     {
         if self.pos.col > 0 {
             self.join_left(c);
@@ -105,7 +105,7 @@ impl Picture {
     fn print(&mut self, c: char, columns: u16)
         requires drawn { drawn_columns c ≡ Some columns }
         requires spacing { 0 < columns }
-        ensures { Becomes self.old self.new (input self.old.size c (term_of self.old)) }
+        ensures { Becomes self.old self.new (input self.old.size c (term_of_picture self.old)) }
     {
         if columns <= self.size.cols() {
             self.make_room(columns);
@@ -117,7 +117,7 @@ impl Picture {
     fn join_left(&mut self, c: char)
         requires zero_width { drawn_columns c ≡ Some 0 }
         requires after_some { 0 < self.old.col }
-        ensures { Becomes self.old self.new (join c (term_of self.old)) }
+        ensures { Becomes self.old self.new (join c (term_of_picture self.old)) }
     {
         let col = self.pos.col;
         self.rows[usize::from(self.pos.row)].join_plain(col, c);
@@ -128,7 +128,7 @@ impl Picture {
         requires drawn { drawn_columns c ≡ Some columns }
         requires spacing { 0 < columns }
         requires fits { self.old.col + columns ≤ self.old.size.cols }
-        ensures { Becomes self.old self.new (print self.old.size (cell_of c self.old.attrs) (term_of self.old)) }
+        ensures { Becomes self.old self.new (print self.old.size (cell_of c self.old.attrs) (term_of_picture self.old)) }
     {
         let col = self.pos.col;
         self.rows[usize::from(self.pos.row)].put(col, c, columns, self.attrs);
@@ -138,7 +138,7 @@ impl Picture {
     /// Has the cursor stand where so many columns are left.
     fn make_room(&mut self, columns: u16)
         requires { columns ≤ self.old.size.cols }
-        ensures picture { Becomes self.old self.new (made_to_fit self.old.size columns (term_of self.old)) }
+        ensures picture { Becomes self.old self.new (made_to_fit self.old.size columns (term_of_picture self.old)) }
         ensures fits { self.new.col + columns ≤ self.old.size.cols }
     {
         if self.pos.col > self.size.cols() - columns {
@@ -149,7 +149,7 @@ impl Picture {
     /// Moves the cursor to the start of the next row. The row that it leaves goes on there if it shows something in its
     /// last column.
     fn wrap(&mut self)
-        ensures picture { Becomes self.old self.new (wrap self.old.size (term_of self.old)) }
+        ensures picture { Becomes self.old self.new (wrap self.old.size (term_of_picture self.old)) }
         ensures start { self.new.col ≡ 0 }
     {
         self.pos.col = 0;
@@ -163,14 +163,14 @@ impl Picture {
     /// Has the row above the cursor go on in the cursor's row if it shows something in its last column.
     fn flag_row_above(&mut self)
         requires { 0 < self.old.row }
-        ensures { Becomes self.old self.new (flag_above self.old.size (term_of self.old)) }
+        ensures { Becomes self.old self.new (flag_above self.old.size (term_of_picture self.old)) }
     {
         self.rows[usize::from(self.pos.row) - 1].wrap(true);
     }
 
     /// Moves the cursor down a row. In the last one the rows go up instead, and a blank one comes.
     pub(crate) fn linefeed(&mut self)
-        ensures { Becomes self.old self.new (down self.old.size (term_of self.old)) }
+        ensures { Becomes self.old self.new (down self.old.size (term_of_picture self.old)) }
     {
         if self.pos.row + 1 < self.size.rows() {
             self.pos.row += 1;
@@ -182,7 +182,7 @@ impl Picture {
     /// Moves the rows up by one, and makes the last one blank.
     fn scroll(&mut self)
         requires { self.old.size.rows ≤ self.old.row + 1 }
-        ensures { Becomes self.old self.new (down self.old.size (term_of self.old)) }
+        ensures { Becomes self.old self.new (down self.old.size (term_of_picture self.old)) }
     {
         let end = self.rows.len();
         move_up(&mut self.rows, 0, end, 1, self.size.cols());
@@ -190,7 +190,7 @@ impl Picture {
 
     /// Moves the cursor to a place, kept on the screen.
     pub(crate) fn goto(&mut self, row: usize, col: usize)
-        ensures { Becomes self.old self.new (record (term_of self.old) {
+        ensures { Becomes self.old self.new (record (term_of_picture self.old) {
           row = min row (self.old.size.rows - 1);
           col = min col (self.old.size.cols - 1);
         }) }
@@ -203,7 +203,7 @@ impl Picture {
 
     /// Moves the cursor to the right, at most to the last column.
     pub(crate) fn move_forward(&mut self, count: usize)
-        ensures { Becomes self.old self.new (record (term_of self.old) {
+        ensures { Becomes self.old self.new (record (term_of_picture self.old) {
           col = min
               (self.old.col + count) (self.old.size.cols - 1);
         }) }
@@ -215,7 +215,7 @@ impl Picture {
     /// Empties cells from the cursor on, as many as there are up to the row's end.
     pub(crate) fn erase_chars(&mut self, count: usize)
         ensures { Becomes self.old self.new (erase self.old.size (min
-            (self.old.col + count) self.old.size.cols) (term_of self.old)) }
+            (self.old.col + count) self.old.size.cols) (term_of_picture self.old)) }
     {
         let end = usize::from(self.pos.col).saturating_add(count);
         self.erase_up_to(at_most(end, self.size.cols()));
@@ -224,7 +224,7 @@ impl Picture {
     /// Empties the columns from the cursor up to `end`.
     fn erase_up_to(&mut self, end: u16)
         requires { end ≤ self.old.size.cols }
-        ensures { Becomes self.old self.new (erase self.old.size end (term_of self.old)) }
+        ensures { Becomes self.old self.new (erase self.old.size end (term_of_picture self.old)) }
     {
         let start = self.pos.col;
         self.rows[usize::from(self.pos.row)].erase_range(start..end, self.attrs);
@@ -232,14 +232,14 @@ impl Picture {
 
     /// Empties the cursor's row from the cursor on.
     pub(crate) fn erase_right(&mut self)
-        ensures { Becomes self.old self.new (erase self.old.size self.old.size.cols (term_of self.old)) }
+        ensures { Becomes self.old self.new (erase self.old.size self.old.size.cols (term_of_picture self.old)) }
     {
         self.erase_up_to(self.size.cols());
     }
 
     /// The same, and empties every row below.
     pub(crate) fn erase_below(&mut self)
-        ensures { Becomes self.old self.new (erase_below self.old.size (term_of self.old)) }
+        ensures { Becomes self.old self.new (erase_below self.old.size (term_of_picture self.old)) }
     {
         let row = usize::from(self.pos.row);
         let width = self.size.cols();
@@ -248,21 +248,21 @@ impl Picture {
 
     /// Moves the cursor to the left.
     pub(crate) fn backspace(&mut self)
-        ensures { Becomes self.old self.new (record (term_of self.old) { col = self.old.col - 1 }) }
+        ensures { Becomes self.old self.new (record (term_of_picture self.old) { col = self.old.col - 1 }) }
     {
         self.pos.col = self.pos.col.saturating_sub(1);
     }
 
     /// Moves the cursor to the first column.
     pub(crate) fn carriage_return(&mut self)
-        ensures { Becomes self.old self.new (record (term_of self.old) { col = 0 }) }
+        ensures { Becomes self.old self.new (record (term_of_picture self.old) { col = 0 }) }
     {
         self.pos.col = 0;
     }
 
     /// Saves the cursor and the drawing attributes.
     pub(crate) fn save_cursor(&mut self)
-        ensures { Becomes self.old self.new (cursor_saved (term_of self.old)) }
+        ensures { Becomes self.old self.new (cursor_saved (term_of_picture self.old)) }
     {
         self.saved_pos = self.pos;
         self.saved_attrs = self.attrs;
@@ -270,7 +270,7 @@ impl Picture {
 
     /// Brings back what was saved last.
     pub(crate) fn restore_cursor(&mut self)
-        ensures { Becomes self.old self.new (cursor_restored (term_of self.old)) }
+        ensures { Becomes self.old self.new (cursor_restored (term_of_picture self.old)) }
     {
         self.pos = self.saved_pos;
         self.attrs = self.saved_attrs;
@@ -281,14 +281,14 @@ impl Picture {
 impl Picture {
     /// The cell at a place, if there is one.
     pub(crate) fn cell(&self, row: u16, col: u16) -> Option<&Cell>
-        ensures { option_copied result ≡ cell_shown self.now.size (term_of self.now) row col }
+        ensures { option_copied result ≡ cell_shown self.now.size (term_of_picture self.now) row col }
     {
         self.rows.get(usize::from(row))?.get(col)
     }
 
     /// Whether the text of a row goes on in the next one.
     pub(crate) fn row_wrapped(&self, row: u16) -> bool
-        ensures { result ≡ (term_of self.now).wrapped row }
+        ensures { result ≡ (term_of_picture self.now).wrapped row }
     {
         match self.rows.get(usize::from(row)) {
             Some(row) => row.wrapped(),
@@ -299,7 +299,7 @@ impl Picture {
     /// The cells of a row; none past the last.
     pub(crate) fn row_cells(&self, row: u16) -> &[Cell]
         ensures { line_text (cell_at result.now) 0 (length result.now) ≡ text_shown self.now.size
-            (term_of self.now) row }
+            (term_of_picture self.now) row }
     {
         match self.rows.get(usize::from(row)) {
             Some(row) => row.cells(),

@@ -32,7 +32,7 @@ pub struct View<T: Timeout> {
 impl<T: Timeout + Drop> View<T> {
     ghost use Rattle.vte.specs.Timeout.{IsExact, Awaits};
     ghost use Rattle.vte.specs.Hold.{held_of};
-    ghost use Rattle.termview.specs.Standing.{size_of, shown_by, timeout_of, ViewStandsAt, HoldsAt, Advanced, Emptied};
+    ghost use Rattle.termview.specs.Standing.{view_size, shown_by, timeout_of, ViewStandsAt, HoldsAt, Advanced, Emptied};
     ghost use Rattle.termview.specs.Standing.{Taken};
 
     /// A view of this size that shows nothing. All that it will need is reserved, so no later call is refused for
@@ -45,8 +45,8 @@ impl<T: Timeout + Drop> View<T> {
     ) -> Result<Self, ViewError>
         ensures stands { IfOk result (λ v. ViewStandsAt v [] []) }
         ensures exact { IfOk result (λ v. Awaits T.ticking timeout false → HoldsAt T.ticking v [] None) }
-        ensures rows { IfOk result (λ v. (size_of v).rows ≡ rows.value) }
-        ensures cols { IfOk result (λ v. (size_of v).cols ≡ cols.value) }
+        ensures rows { IfOk result (λ v. (view_size v).rows ≡ rows.value) }
+        ensures cols { IfOk result (λ v. (view_size v).cols ≡ cols.value) }
         ensures timeout { IfOk result (λ v. timeout_of v ≡ timeout) }
         ensures memory { OnErr result (result ≡ Err Memory) }
     {
@@ -88,19 +88,19 @@ impl<T: Timeout + Drop> View<T> {
 
 /// What the view shows.
 impl<T: Timeout> View<T> {
-    ghost use Rattle.termview.specs.Standing.{size_of, shown_by};
+    ghost use Rattle.termview.specs.Standing.{view_size, shown_by};
 
     /// How many rows and columns it has.
     pub fn size(&self) -> (NonZeroU16, NonZeroU16)
-        ensures rows { result.0.value ≡ (size_of self.now).rows }
-        ensures cols { result.1.value ≡ (size_of self.now).cols }
+        ensures rows { result.0.value ≡ (view_size self.now).rows }
+        ensures cols { result.1.value ≡ (view_size self.now).cols }
     {
         (self.picture.size.rows, self.picture.size.cols)
     }
 
     /// The cell at a place, counted from 0, if there is one.
     pub fn cell(&self, row: u16, col: u16) -> Option<&Cell>
-        ensures { option_copied result ≡ cell_shown (size_of self.now) (shown_by self.now) row col }
+        ensures { option_copied result ≡ cell_shown (view_size self.now) (shown_by self.now) row col }
     {
         self.picture.cell(row, col)
     }
@@ -124,7 +124,7 @@ impl<T: Timeout> View<T> {
     /// of a write ends it, and so does a write that takes nothing, and nothing else does; what was taken by then stays
     /// written.
     pub fn row_text<W: Taker>(&self, row: u16, to: &mut W) -> io::Result<()>
-        ensures { SendsText W.takes to.old (encode_utf8_all (text_shown (size_of self.now) (shown_by self.now) row))
+        ensures { SendsText W.takes to.old (encode_utf8_all (text_shown (view_size self.now) (shown_by self.now) row))
             result to.new }
     {
         write_cells(self.picture.row_cells(row), to)

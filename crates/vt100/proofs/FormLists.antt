@@ -26,7 +26,7 @@ use Rattle.screen_drawing.specs.Local.{IsLocalList}
 use Rattle.screen_drawing.proofs.Lengths.{each-short}
 use Rattle.screen_drawing.proofs.LocalScreens.{contents-local, difference-local}
 use Rattle.vt100_core.specs.Grid.{visible, visible_at}
-use Rattle.vt100_core.specs.Picture.{size_of}
+use Rattle.vt100_core.specs.Picture.{grid_size}
 use Rattle.vt100_core.proofs.PictureWriters.{lines-cells}
 use Rattle.screen_model.specs.State.{State}
 use Rattle.screen_model.specs.Shown.{shown_state}
@@ -103,8 +103,8 @@ small-screen s h = record {
 -- ---- lists
 
 of-shown : (Q : List Form → Type 0) (old new : State) → IsUnscrolled old → IsUnscrolled new
-    → size_of old.shown ≡ size_of new.shown
-    → writers.IsTrueOfLists Q HasByteColors (size_of new.shown) (shown_state old) (shown_state new)
+    → grid_size old.shown ≡ grid_size new.shown
+    → writers.IsTrueOfLists Q HasByteColors (grid_size new.shown) (shown_state old) (shown_state new)
     → IsTrueOfLists Q old new
 of-shown Q old new o h e q = record {
   state_formatted = subst Q (sym (state-is new h)) q.state_formatted;
@@ -120,17 +120,17 @@ of-shown Q old new o h e q = record {
 pub screen-sent : EachListIsSent
 screen-sent old new o h e known =
     of-shown AreSentForms old new o h e
-    (lists-sent (size_of new.shown) (shown_state old) (shown_state new) o.state.attrs.colors (small-screen new h) known)
+    (lists-sent (grid_size new.shown) (shown_state old) (shown_state new) o.state.attrs.colors (small-screen new h) known)
 
 pub screen-forms : EachListIsOfForms
 screen-forms old new o h e known plain =
     of-shown AreForms old new o h e
-    (lists-forms (size_of new.shown) (shown_state old) (shown_state new) o.state.attrs.colors (small-screen new h) known
+    (lists-forms (grid_size new.shown) (shown_state old) (shown_state new) o.state.attrs.colors (small-screen new h) known
     plain)
 
 pub screen-short : EachListIsShort
 screen-short old new o h e =
-    let z = size_of new.shown in
+    let z = grid_size new.shown in
     let all = each-short z (shown_state old) (shown_state new) o.state.attrs.colors (small-screen new h) in
     record {
       contents_formatted = subst (IsWithin z 512) (sym (contents-is new h)) all.contents_formatted;
@@ -152,24 +152,24 @@ text-local z old new fs s t e a l = (fs, as_shown fs fs s t e a refl, l)
 
 -- ---- which cells they touch
 
-old-shown : (old new : State) → IsUnscrolled old → size_of old.shown ≡ size_of new.shown
-    → IsShown (size_of new.shown) (shown_state old)
+old-shown : (old new : State) → IsUnscrolled old → grid_size old.shown ≡ grid_size new.shown
+    → IsShown (grid_size new.shown) (shown_state old)
 old-shown old new o e = subst (λ (z : Size). IsShown z (shown_state old)) e (shown-is old o)
 
 pub contents_diff-local : (old new : State) → IsUnscrolled old → IsUnscrolled new
-    → size_of old.shown ≡ size_of new.shown → IsPlainlyShown (shown_state new)
-    → IsLocalList (size_of new.shown) (shown_state old) (shown_state new) (contents_diff old new)
+    → grid_size old.shown ≡ grid_size new.shown → IsPlainlyShown (shown_state new)
+    → IsLocalList (grid_size new.shown) (shown_state old) (shown_state new) (contents_diff old new)
 contents_diff-local old new o h e plain =
-    let z = size_of new.shown in
+    let z = grid_size new.shown in
     subst (IsLocalList z (shown_state old) (shown_state new)) (sym (changed-is old new o h e))
     (contents-local z (shown_state old) (shown_state new) (old-shown old new o e) o.state.attrs
     (screen-drawable new h plain))
 
 pub state_diff-local : (old new : State) → IsUnscrolled old → IsUnscrolled new
-    → size_of old.shown ≡ size_of new.shown → IsPlainlyShown (shown_state new)
-    → IsLocalList (size_of new.shown) (shown_state old) (shown_state new) (state_diff old new)
+    → grid_size old.shown ≡ grid_size new.shown → IsPlainlyShown (shown_state new)
+    → IsLocalList (grid_size new.shown) (shown_state old) (shown_state new) (state_diff old new)
 state_diff-local old new o h e plain =
-    let z = size_of new.shown in
+    let z = grid_size new.shown in
     subst (IsLocalList z (shown_state old) (shown_state new)) (sym (all-changed_is old new o h e))
     (difference-local z (shown_state old) (shown_state new) (old-shown old new o e) o.state.attrs
     (screen-drawable new h plain))

@@ -12,7 +12,7 @@ use Rattle.vt100_core.specs.Grid.{row_of_cursor}
 use Rattle.vt100_core.specs.Cursor.{moved_rows_down}
 use Rattle.vt100_core.specs.Scroll.{Scrolled, scrolled_up, is_kept_from, widened, kept_after, left_rows, fed}
 use Rattle.vt100_core.specs.Scroll.{rows_past_bottom, wrapped_on, left_row, made_to_fit}
-use Rattle.vt100_core.specs.Text.{Drawn, printed, spaced, joined, carried}
+use Rattle.vt100_core.specs.Text.{PrintedGrid, printed, spaced, joined, carried}
 use Rattle.vt100_core.specs.declared.printed.Printed.TheVariants.{Nothing, Joined}
 use Rattle.screen_model.specs.State.{State, main_sheet, alternate_sheet}
 use Rattle.screen_model.specs.Step.{typed, typed_times}
@@ -72,15 +72,15 @@ limits-carried g c a =
 limits-joined : (g : GridView) (c : ℕ) (a : Attrs) → SameLimits g (joined g c a).grid
 limits-joined g c a =
     let v = row_of_cursor g in
-    let in_row : Drawn = record { grid = with_cursor_row g (joined_row v g.col c); sunk = []; printed = Joined } in
-    let ignored : Drawn = record { grid = g; sunk = []; printed = Nothing } in
-    let wider : Drawn = record {
+    let in_row : PrintedGrid = record { grid = with_cursor_row g (joined_row v g.col c); sunk = []; printed = Joined } in
+    let ignored : PrintedGrid = record { grid = g; sunk = []; printed = Nothing } in
+    let wider : PrintedGrid = record {
       grid = record (with_cursor_row g (placed v (g.col - 1) (joined_cell v g.col c) a)) { col = g.col + 1 };
       sunk = [];
       printed = Joined;
     } in
     let moved = cond (nat_lt g.col g.width) wider (carried g c a) in
-    let P = λ (d : Drawn). SameLimits g d.grid in
+    let P = λ (d : PrintedGrid). SameLimits g d.grid in
     cond_both (not (is_widening v g.col c)) in_row (cond (g.width == 1) ignored moved) P
     (λ _. record { height = refl; width = refl; kept = record { keeps = refl; capacity = refl } })
     (λ _. cond_both (g.width == 1) ignored moved P (λ _. limits_same g)
@@ -91,9 +91,9 @@ limits-joined g c a =
 pub limits_printed : (g : GridView) (c : ℕ) (a : Attrs) → SameLimits g (printed g c a).grid
 unfolding printed
 limits_printed g c a =
-    let dropped : Drawn = record { grid = g; sunk = []; printed = Nothing } in
+    let dropped : PrintedGrid = record { grid = g; sunk = []; printed = Nothing } in
     let drawn = cond (nat_lt 0 (columns_of c)) (spaced g c a) (joined g c a) in
-    let P = λ (d : Drawn). SameLimits g d.grid in
+    let P = λ (d : PrintedGrid). SameLimits g d.grid in
     cond_both (is_dropped g.width g.col c) dropped drawn P (λ _. limits_same g)
     (λ _. cond_both (nat_lt 0 (columns_of c)) (spaced g c a) (joined g c a) P (λ _. limits-spaced g c a)
     (λ _. limits-joined g c a))

@@ -20,13 +20,13 @@ use Rattle.vt100.specs.declared.error.ScreenError.{ScreenError}
 use Rattle.vt100.specs.Tries.{Tries, SameBounds, alive}
 use Rattle.vt100.specs.Goes.{Either, Tells, Goes, GoesThrough}
 use Rattle.vt100.specs.Memory.{may_take_memory, some_may_take}
-use Rattle.vt100.specs.Parsing.{ParserView, StandsAt, KeepsScreens}
+use Rattle.vt100.specs.Parsing.{ParserView, ParserStandsAt, KeepsScreens}
 use Rattle.vt100.specs.Laws.{PlaysEvents, FeedsMake, FeedsJoin, FeedsNothing, ActsFollow, ResizedScreensArePutIn}
 use Rattle.screen_model.specs.State.{main_sheet, alternate_sheet}
 use Rattle.screen_model.specs.Holds.{AreActs}
 use Rattle.vt100_core.specs.Grid.{GridView, SameLimits}
-use Rattle.screen_model.proofs.FineGrids.{Limits, IsFine}
-use Rattle.screen_model.proofs.FineStates.{Bounds, IsWell, limits, main-fine, alternate-fine}
+use Rattle.screen_model.proofs.FineGrids.{Limits, IsUnscrolledSheet}
+use Rattle.screen_model.proofs.FineStates.{Bounds, IsUnscrolledState, limits, main-fine, alternate-fine}
 use Rattle.screen_model.proofs.FineEvents.{effect-well}
 use Rattle.screen_model.proofs.ScalarEvents.{IsTold, added-told}
 use Rattle.screen_model.proofs.MadeLemmas.{bounded, first_bounds, made-well}
@@ -163,8 +163,8 @@ pub stands_fed : {C : Type 0} (step : C → ScreenView → Call → C → Screen
     → ((past : List ℕ) → Stands 1024 p.reader past → Stands 1024 q.reader (past ++ bytes))
     → ((past : List ℕ) → Stands 1024 p.reader past → GoesThrough step scrolls (events_added past bytes)
     p.callbacks p.screen q.callbacks q.screen)
-    → q.screen.failed ≡ false → (rows cols capacity : ℕ) (acts : List Act) → StandsAt p rows cols capacity acts
-    → StandsAt q rows cols capacity (acts ++ Fed bytes ∷ [])
+    → q.screen.failed ≡ false → (rows cols capacity : ℕ) (acts : List Act) → ParserStandsAt p rows cols capacity acts
+    → ParserStandsAt q rows cols capacity (acts ++ Fed bytes ∷ [])
 stands_fed step scrolls keeps p q bytes reads goes live rows cols capacity acts at =
     let past = bytes_fed acts in
     let s = made rows cols capacity acts in
@@ -180,8 +180,8 @@ stands_fed step scrolls keeps p q bytes reads goes live rows cols capacity acts 
 
 pub stands_resized : {C : Type 0} (p q : ParserView C) (height width : ℕ) → q.reader ≡ p.reader
     → q.screen ≡ alive (resized_to height width p.screen.state).state
-    → (rows cols capacity : ℕ) (acts : List Act) → StandsAt p rows cols capacity acts
-    → StandsAt q rows cols capacity (acts ++ Resized height width ∷ [])
+    → (rows cols capacity : ℕ) (acts : List Act) → ParserStandsAt p rows cols capacity acts
+    → ParserStandsAt q rows cols capacity (acts ++ Resized height width ∷ [])
 stands_resized p q height width reader screen rows cols capacity acts at = record {
   has_read = subst (λ (b : List ℕ). Stands 1024 q.reader b)
       (sym (append-nil (bytes_fed acts)) ∙ sym (bytes_after acts (Resized height width ∷ [])))
@@ -193,8 +193,8 @@ stands_resized p q height width reader screen rows cols capacity acts at = recor
 pub resized_stands : {C : Type 0} (scrolls : C → RowView → Bool → C → Type 0) (p q : ParserView C) (height width : ℕ)
     (result : Result (Unit {0}) ScreenError) → q.reader ≡ p.reader
     → Tries scrolls (resized_to height width) p.screen p.callbacks result q.screen q.callbacks
-    → (rows cols capacity : ℕ) (acts : List Act) → StandsAt p rows cols capacity acts
-    → OnOk result (StandsAt q rows cols capacity (acts ++ Resized height width ∷ []))
+    → (rows cols capacity : ℕ) (acts : List Act) → ParserStandsAt p rows cols capacity acts
+    → OnOk result (ParserStandsAt q rows cols capacity (acts ++ Resized height width ∷ []))
 resized_stands scrolls p q height width (Ok u) reader t rows cols capacity acts at =
     stands_resized p q height width reader t.screen rows cols capacity acts at
 resized_stands scrolls p q height width (Err e) reader t rows cols capacity acts at = tt
@@ -205,14 +205,14 @@ put_in p w height width rows cols capacity acts at screen =
 
 -- ---- sheets keep their bounds
 
-fine-limits : (l : Limits) (g h : GridView) → IsFine l g → IsFine l h → SameLimits g h
+fine-limits : (l : Limits) (g h : GridView) → IsUnscrolledSheet l g → IsUnscrolledSheet l h → SameLimits g h
 fine-limits l g h p q = record {
   height = q.height ∙ sym p.height;
   width = q.width ∙ sym p.width;
   kept = record { keeps = q.keeps ∙ sym p.keeps; capacity = q.capacity ∙ sym p.capacity };
 }
 
-well-bounds : (b : Bounds) (s t : State) → IsWell b s → IsWell b t → SameBounds s t
+well-bounds : (b : Bounds) (s t : State) → IsUnscrolledState b s → IsUnscrolledState b t → SameBounds s t
 well-bounds b s t p q = record {
   main = fine-limits (limits b false) (main_sheet s) (main_sheet t) (main-fine b s p) (main-fine b t q);
   alternate = fine-limits (limits b true) (alternate_sheet s) (alternate_sheet t) (alternate-fine b s p)
@@ -240,7 +240,7 @@ one_bounded step scrolls keeps e c v d w h g failed =
 
 events_bounded : {C : Type 0} (step : C → ScreenView → Call → C → ScreenView → Type 0)
     (scrolls : C → RowView → Bool → C → Type 0) → KeepsScreens step → (b : Bounds) (es : List Event)
-    → All IsTold es → (c : C) (v : ScreenView) (d : C) (w : ScreenView) → v.failed ≡ false → IsWell b v.state
+    → All IsTold es → (c : C) (v : ScreenView) (d : C) (w : ScreenView) → v.failed ≡ false → IsUnscrolledState b v.state
     → GoesThrough step scrolls es c v d w → SameBounds v.state w.state
 events_bounded step scrolls keeps b [] told c v d w h well g =
     bounds_is v.state w.state v.state (ap (λ (x : ScreenView). x.state) g.1) (bounds_same v.state)
@@ -252,7 +252,7 @@ events_bounded step scrolls keeps b (e ∷ es) told c v d w h well (m, u, one, m
           (one_bounded step scrolls keeps e c v m u h one f)
       | inr f ↦
           let is = ap (λ (x : ScreenView). x.state) (one_played step scrolls keeps e c v m u h one f) in
-          let next : IsWell b u.state = subst (λ (x : State). IsWell b x) (sym is)
+          let next : IsUnscrolledState b u.state = subst (λ (x : State). IsUnscrolledState b x) (sym is)
           (effect-well e (All-head IsTold e es told) b v.state well) in
           bounds_trans v.state u.state w.state (well-bounds b v.state u.state well next)
           (events_bounded step scrolls keeps b es (All-tail IsTold e es told) m u d w f next more)
@@ -263,11 +263,11 @@ pub fed_bounded : {C : Type 0} (step : C → ScreenView → Call → C → Scree
     → ((past : List ℕ) → Stands 1024 p.reader past → GoesThrough step scrolls (events_added past bytes)
     p.callbacks p.screen q.callbacks q.screen)
     → (rows cols capacity : ℕ) (acts : List Act) → AreActs rows cols capacity acts
-    → StandsAt p rows cols capacity acts → SameBounds p.screen.state q.screen.state
+    → ParserStandsAt p rows cols capacity acts → SameBounds p.screen.state q.screen.state
 fed_bounded step scrolls keeps p q bytes goes rows cols capacity acts are at =
     let past = bytes_fed acts in
     let b = bounded (first_bounds rows cols capacity) acts in
-    let well : IsWell b p.screen.state = subst (λ (x : State). IsWell b x)
+    let well : IsUnscrolledState b p.screen.state = subst (λ (x : State). IsUnscrolledState b x)
     (sym (ap (λ (x : ScreenView). x.state) at.screen))
     (made-well rows cols capacity acts are) in
     events_bounded step scrolls keeps b (events_added past bytes) (added-told past bytes) p.callbacks p.screen

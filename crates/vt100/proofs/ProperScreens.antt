@@ -10,14 +10,14 @@ use Rattle.vt100_core.specs.Resize.{resized}
 use Rattle.screen_model.specs.State.{IsProperSheet}
 use Rattle.vt100_forms.proofs.AttrsLemmas.{default-proper}
 use Rattle.screen_model.proofs.ProperSheets.{proper_new, proper_resized, proper_allocated, proper_scrollback_shown}
-use Rattle.vt100.specs.ScreenFields.{IsScreen}
+use Rattle.vt100.specs.ScreenFields.{IsInside}
 use Rattle.vt100.specs.declared.screen.Screen.TheInside.{Inside}
 use Rattle.vt100.proofs.SizeLemmas.{resized_height, resized_width}
 
 -- the shown sheet has changed, and the last character
-pub drawn_screen : (s : Inside) (g : GridView) (last : Option ℕ) → IsScreen s → IsAllocated g
+pub drawn_screen : (s : Inside) (g : GridView) (last : Option ℕ) → IsInside s → IsAllocated g
     → g.height ≡ s.grid.height → g.width ≡ s.grid.width → g.kept.keeps ≡ s.grid.kept.keeps
-    → (IsProperSheet s.grid → IsProperSheet g) → IsScreen (record s { grid = g; last_char = last })
+    → (IsProperSheet s.grid → IsProperSheet g) → IsInside (record s { grid = g; last_char = last })
 drawn_screen s g last i some height width keeps proper = record {
   shown = some;
   main = i.main;
@@ -32,11 +32,11 @@ drawn_screen s g last i some height width keeps proper = record {
 }
 
 -- both sheets have changed
-pub both_screen : (s : Inside) (g h : GridView) → IsScreen s → IsAllocated g
+pub both_screen : (s : Inside) (g h : GridView) → IsInside s → IsAllocated g
     → (s.alternate_screen ≡ true → IsAllocated h) → (s.failed ≡ false → h.height ≡ g.height)
     → (s.failed ≡ false → h.width ≡ g.width) → g.kept.keeps ≡ s.grid.kept.keeps
     → h.kept.keeps ≡ s.other_grid.kept.keeps → (IsProperSheet s.grid → IsProperSheet g)
-    → (IsProperSheet s.other_grid → IsProperSheet h) → IsScreen (record s { grid = g; other_grid = h })
+    → (IsProperSheet s.other_grid → IsProperSheet h) → IsInside (record s { grid = g; other_grid = h })
 both_screen s g h i some main height width keeps other_keeps proper other_proper = record {
   shown = some;
   main = main;
@@ -51,11 +51,11 @@ both_screen s g h i some main height width keeps other_keeps proper other_proper
 }
 
 -- another size
-pub resized_screen : (s : Inside) (g h : GridView) (rows cols : ℕ) → IsScreen s
+pub resized_screen : (s : Inside) (g h : GridView) (rows cols : ℕ) → IsInside s
     → g ≡ (resized s.grid rows cols).grid → h ≡ (resized s.other_grid rows cols).grid
     → g.kept.keeps ≡ s.grid.kept.keeps → h.kept.keeps ≡ s.other_grid.kept.keeps
     → (IsAllocated s.grid → IsAllocated g) → (IsAllocated s.other_grid → IsAllocated h)
-    → IsScreen (record s { grid = g; other_grid = h })
+    → IsInside (record s { grid = g; other_grid = h })
 resized_screen s g h rows cols i is other_is keeps other_keeps some other_some =
     both_screen s g h i (some i.shown) (λ e. other_some (i.main e))
     (λ _. ap (λ (x : GridView). x.height) other_is ∙ resized_height s.other_grid rows cols
@@ -77,9 +77,9 @@ allocated-limits g h e =
     (λ _. (refl, refl, refl)) (λ _. (refl, refl, refl)))
 
 -- which wasn't
-pub entered_screen : (s : Inside) (g h : GridView) → IsScreen s → s.alternate_screen ≡ false
+pub entered_screen : (s : Inside) (g h : GridView) → IsInside s → s.alternate_screen ≡ false
     → g ≡ scrollback_shown s.grid 0 → h ≡ allocated s.other_grid → IsAllocated g → IsAllocated h
-    → IsScreen (record s { grid = h; other_grid = g; alternate_screen = true })
+    → IsInside (record s { grid = h; other_grid = g; alternate_screen = true })
 entered_screen s g h i main is other_is some other_some =
     let l = allocated-limits s.other_grid h other_is in
     record {
@@ -96,8 +96,8 @@ entered_screen s g h i main is other_is some other_some =
     }
 
 -- or is already
-pub stayed_screen : (s : Inside) (g h : GridView) → IsScreen s → g ≡ scrollback_shown s.grid 0
-    → h ≡ allocated s.other_grid → IsAllocated g → IsAllocated h → IsScreen (record s { grid = g; other_grid = h })
+pub stayed_screen : (s : Inside) (g h : GridView) → IsInside s → g ≡ scrollback_shown s.grid 0
+    → h ≡ allocated s.other_grid → IsAllocated g → IsAllocated h → IsInside (record s { grid = g; other_grid = h })
 stayed_screen s g h i is other_is some other_some =
     let l = allocated-limits s.other_grid h other_is in
     both_screen s g h i some (λ _. other_some)
@@ -112,7 +112,7 @@ stayed_screen s g h i is other_is some other_some =
 pub fresh_screen : (s : Inside) (height width capacity : ℕ)
     → s.grid ≡ allocated (new_grid height width (Enabled capacity)) → s.other_grid ≡ new_grid height width Disabled
     → IsAllocated s.grid → s.alternate_screen ≡ false → s.attrs ≡ default_attrs → s.saved_attrs ≡ default_attrs
-    → IsScreen s
+    → IsInside s
 fresh_screen s height width capacity is other_is some main attrs saved_attrs =
     let g = new_grid height width (Enabled capacity) in
     let l = allocated-limits g s.grid is in

@@ -11,7 +11,7 @@ use Rattle.terminal_model.specs.Term.{Size}
 use Rattle.terminal_model.specs.Apply.{run}
 use Rattle.vt100_rows.specs.Row.{RowView, IsRow}
 use Rattle.vt100_rows.specs.Forms.{formatted, differing}
-use Rattle.vt100_rows.specs.Laws.{IsPlainRow, IsKnownRow, IsSmallRow, IsRowDrawn, screen_of}
+use Rattle.vt100_rows.specs.Laws.{IsPlainRow, IsKnownRow, IsSmallRow, IsRowDrawn, row_screen}
 use Rattle.row_drawing.specs.Small.{SmallErase, IsSmallPen}
 use Rattle.vt100_rows.proofs.DrawnRows.{row-drawn, difference-drawn}
 use Rattle.vt100_rows.proofs.SentTexts.{lists-forms}
@@ -19,7 +19,7 @@ use Rattle.vt100_rows.specs.Sheet.{row_at, IsRowOf}
 use Rattle.vt100_rows.proofs.SheetLemmas.{row_at-by_position, length-rows_by_position}
 use Rattle.screen_drawing.specs.Rows.{is_continued}
 use Rattle.vt100_core.specs.Grid.{visible, visible_at}
-use Rattle.vt100_core.specs.Picture.{size_of}
+use Rattle.vt100_core.specs.Picture.{grid_size}
 use Rattle.vt100_core.proofs.PictureLemmas.{visible_at-drawn, shown_wraps-drawn}
 use Rattle.screen_model.specs.State.{State}
 use Rattle.screen_model.specs.Shown.{shown_state}
@@ -181,7 +181,7 @@ row-texts_lead s width h wide = record {
       let v = row_at s.shown.rows i in
       let r = row-of s h i l in
       let d = formatted v 0 width i false None None in
-      let size : screen_of s.shown.height v ≡ size_of s.shown =
+      let size : row_screen s.shown.height v ≡ grid_size s.shown =
       λ j. record { rows = s.shown.height; cols = r.wide j } in
       let drawn = row-drawn s.shown.height t v i width None None r.row (plain-row s h i plain) l
       (omega (arith, r.wide, h.state.shown.some_cols)) (omega (arith, r.wide, wide)) at in
@@ -194,7 +194,7 @@ row-texts_lead s width h wide = record {
             (omega (arith, l, h.state.shown.few_rows)) ((tt, tt), tt)).0;
         pen = d.pen;
         drawn = subst (λ (z : Size). IsRowDrawn i ((shown_state s).cell i) d.pen t (run z d.forms t)) size
-            (subst (λ (f : ℕ → CellView). IsRowDrawn i f d.pen t (run (screen_of s.shown.height v) d.forms t))
+            (subst (λ (f : ℕ → CellView). IsRowDrawn i f d.pen t (run (row_screen s.shown.height v) d.forms t))
             (sym (cells-of s h i)) drawn);
       };
 }
@@ -227,7 +227,7 @@ row-differences_lead old new width o h same wide =
           let r = row-of new h i l in
           let q = row-of old o i there in
           let d = differing v x 0 width i false false (record { row = i; col = 0 }) default_attrs in
-          let size : screen_of new.shown.height v ≡ size_of new.shown =
+          let size : row_screen new.shown.height v ≡ grid_size new.shown =
           λ j. record { rows = new.shown.height; cols = r.wide j } in
           let drawn = difference-drawn new.shown.height t v x i width false (record { row = i; col = 0 }) default_attrs
           r.row (plain-row new h i plain) q.row (q.wide ∙ broad ∙ sym r.wide) l
@@ -249,7 +249,7 @@ row-differences_lead old new width o h same wide =
                 (omega (arith, l, h.state.shown.few_rows)) ((tt, tt), tt)).1;
             pen = d.pen;
             drawn = subst (λ (z : Size). IsRowDrawn i ((shown_state new).cell i) d.pen t (run z d.forms t)) size
-                (subst (λ (f : ℕ → CellView). IsRowDrawn i f d.pen t (run (screen_of new.shown.height v) d.forms t))
+                (subst (λ (f : ℕ → CellView). IsRowDrawn i f d.pen t (run (row_screen new.shown.height v) d.forms t))
                 (sym (cells-of new h i)) drawn);
           };
     }

@@ -17,7 +17,7 @@ use Rattle.vt100_forms.specs.declared.attrs.Attrs.{Attrs}
 use Rattle.vt100_rows.specs.Row.{RowView}
 use Rattle.vt100_rows.specs.Sink.{TakesAll}
 use Rattle.vt100_core.specs.Grid.{GridView}
-use Rattle.vt100_core.specs.Text.{Drawn, IsWide, printed, spaced, printed_all, TakesFront}
+use Rattle.vt100_core.specs.Text.{PrintedGrid, IsWide, printed, spaced, printed_all, TakesFront}
 use Rattle.vt100_core.specs.declared.printed.Printed.{Printed}
 use Rattle.vt100_core.proofs.TextLemmas.{IsMade-made, printed-spaced}
 use Rattle.screen_model.specs.State.{State}
@@ -80,7 +80,7 @@ printed-spacing g c a s =
 -- a sheet stays as wide
 width-printed : (g : GridView) (c : ℕ) (a : Attrs) → IsSpacing g.width c → (printed g c a).grid.width ≡ g.width
 width-printed g c a s =
-    ap (λ (d : Drawn). d.grid.width) (printed-spacing g c a s) ∙ (IsMade-made g (columns_of c) true s.fits).width
+    ap (λ (d : PrintedGrid). d.grid.width) (printed-spacing g c a s) ∙ (IsMade-made g (columns_of c) true s.fits).width
 
 -- ---- a run, as characters that are typed
 
@@ -96,7 +96,7 @@ typed-spacing : (c : ℕ) (s : State) → IsSpacing s.shown.width c
 typed-spacing c s p =
     let d = printed s.shown c s.attrs in
     ap (λ (q : Printed). drawn_as s d.grid (last_after q c s.last) d.sunk)
-    (ap (λ (x : Drawn). x.printed) (printed-spacing s.shown c s.attrs p))
+    (ap (λ (x : PrintedGrid). x.printed) (printed-spacing s.shown c s.attrs p))
 
 reports-append : (b : Bool) (xs ys : List RowView) → reports_of b xs ++ reports_of b ys ≡ reports_of b (xs ++ ys)
 reports-append b [] ys = refl

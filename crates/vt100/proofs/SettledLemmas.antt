@@ -8,7 +8,7 @@ use Rattle.vt100_rows.specs.Row.{RowView}
 use Rattle.screen_model.specs.State.{State}
 use Rattle.screen_model.specs.Step.{Stepped, sheets_resized}
 use Rattle.screen_model.specs.Call.{ScreenView, Hears}
-use Rattle.vt100.specs.ScreenFields.{IsScreen}
+use Rattle.vt100.specs.ScreenFields.{IsInside}
 use Rattle.vt100.specs.Tries.{Tries, TriesAlone, HearsFront}
 use Rattle.vt100.specs.declared.error.ScreenError.{ScreenError}
 use Rattle.vt100.specs.declared.error.ScreenError.TheVariants.{Memory, Failed}
@@ -76,14 +76,14 @@ settled_tries scrolls rows cols v c d g h answer (Err Failed) failed live done s
 
 -- the screen is one, also where it has failed
 pub settled_screen : {E : Type 0} (s : Inside) (g h : GridView) (rows cols : ℕ) (answer : Result (Unit {0}) E)
-    (result : Result (Unit {0}) ScreenError) (failed : Bool) → IsScreen s
+    (result : Result (Unit {0}) ScreenError) (failed : Bool) → IsInside s
     → IfOk result (λ x. answer ≡ Ok x) → OnOk result (failed ≡ s.failed) → OnErr result (failed ≡ true)
     → OnOk answer (g ≡ (resized s.grid rows cols).grid) → OnOk answer (h ≡ (resized s.other_grid rows cols).grid)
     → g.kept.keeps ≡ s.grid.kept.keeps → h.kept.keeps ≡ s.other_grid.kept.keeps
     → (IsAllocated s.grid → IsAllocated g) → (IsAllocated s.other_grid → IsAllocated h)
-    → IsScreen (record s { grid = g; other_grid = h; failed = failed })
+    → IsInside (record s { grid = g; other_grid = h; failed = failed })
 settled_screen s g h rows cols answer (Ok u) failed i done same marked is other keeps other_keeps some other_some =
-    subst (λ (b : Bool). IsScreen (record s { grid = g; other_grid = h; failed = b })) (sym same)
+    subst (λ (b : Bool). IsInside (record s { grid = g; other_grid = h; failed = b })) (sym same)
     (resized_screen s g h rows cols i (at-ok answer u done is) (at-ok answer u done other) keeps other_keeps some
     other_some)
 settled_screen s g h rows cols answer (Err e) failed i done same marked is other keeps other_keeps some other_some =

@@ -13,7 +13,7 @@ use Rattle.screen_drawing.proofs.Screens.{redraw_leads, state-redraw_leads, diff
 use Rattle.screen_drawing.proofs.Cursor.{cursor-state_set}
 use Rattle.screen_drawing.specs.Screen as picture
 use Rattle.screen_drawing.specs.Screen.{grid_redraw, grid_contents_formatted, grid_difference}
-use Rattle.vt100_core.specs.Picture.{size_of, Extras, shown_lines}
+use Rattle.vt100_core.specs.Picture.{grid_size, Extras, visible_lines}
 use Rattle.vt100_core.specs.WriterLaws as core
 use Rattle.vt100_core.specs.WriterLaws.{picture_of}
 use Rattle.vt100_core.specs.Writers.{redrawn, differing}
@@ -40,7 +40,7 @@ extras_of s = record {
 grid-unscrolled : (s : State) → IsUnscrolled s → core.IsUnscrolled s.shown
 grid-unscrolled s h = record { grid = h.state.shown; some = h.state.drawn; offset = h.offset }
 
-pub cells-are : (s : State) → IsUnscrolled s → shown_lines s.shown ≡ lines_of s.shown.rows
+pub cells-are : (s : State) → IsUnscrolled s → visible_lines s.shown ≡ lines_of s.shown.rows
 cells-are s h = shown_lines-drawn s.shown h.state.shown h.state.drawn h.offset
 
 picture-is : (s : State) → IsUnscrolled s → shown_state s ≡ picture_of s.shown (extras_of s)
@@ -60,28 +60,28 @@ picture-is s h =
 
 -- ---- redraws
 
-redrawn-is : (s : State) → IsUnscrolled s → redrawn s.shown ≡ grid_redraw (size_of s.shown) (shown_state s)
+redrawn-is : (s : State) → IsUnscrolled s → redrawn s.shown ≡ grid_redraw (grid_size s.shown) (shown_state s)
 redrawn-is s h =
     redrawn-of_picture s.shown (extras_of s) (grid-unscrolled s h)
-    ∙ ap (grid_redraw (size_of s.shown)) (sym (picture-is s h))
+    ∙ ap (grid_redraw (grid_size s.shown)) (sym (picture-is s h))
 
 pub contents-is : (s : State) → IsUnscrolled s
-    → contents_formatted s ≡ picture.contents_formatted (size_of s.shown) (shown_state s)
+    → contents_formatted s ≡ picture.contents_formatted (grid_size s.shown) (shown_state s)
 unfolding picture.contents_formatted grid_contents_formatted
 contents-is s h =
     ap (λ (d : Drawn). HideCursor s.hidden ∷ ((ClearAttrs ∷ ClearScreen ∷ d.forms) ++ change d.pen.attrs s.attrs))
     (redrawn-is s h)
 
 pub state-is : (s : State) → IsUnscrolled s
-    → state_formatted s ≡ picture.state_formatted (size_of s.shown) (shown_state s)
+    → state_formatted s ≡ picture.state_formatted (grid_size s.shown) (shown_state s)
 unfolding picture.state_formatted
 state-is s h = ap (λ (fs : List Form). fs ++ input_mode_formatted (shown_state s)) (contents-is s h)
 
 pub cursor-is : (s : State) → IsUnscrolled s
-    → cursor_state_formatted s ≡ picture.cursor_state_formatted (size_of s.shown) (shown_state s)
+    → cursor_state_formatted s ≡ picture.cursor_state_formatted (grid_size s.shown) (shown_state s)
 unfolding picture.cursor_state_formatted
 cursor-is s h =
-    let z = size_of s.shown in
+    let z = grid_size s.shown in
     ap (λ (fs : List Form). HideCursor s.hidden ∷ fs)
     (cursor-of_picture s.shown (extras_of s) None None
     ∙ ap (λ (x : Shown). cursor.cursor_position_formatted z x None default_attrs) (sym (picture-is s h)))
@@ -91,25 +91,25 @@ redraw-of_shown s h = record { contents = contents-is s h; state = state-is s h;
 
 -- ---- differences
 
-differing-is : (old new : State) → IsUnscrolled old → IsUnscrolled new → size_of old.shown ≡ size_of new.shown
+differing-is : (old new : State) → IsUnscrolled old → IsUnscrolled new → grid_size old.shown ≡ grid_size new.shown
     → differing new.shown old.shown old.attrs
-    ≡ grid_difference (size_of new.shown) (shown_state old) (shown_state new)
+    ≡ grid_difference (grid_size new.shown) (shown_state old) (shown_state new)
 differing-is old new o h e =
-    let z = size_of new.shown in
+    let z = grid_size new.shown in
     differing-of_pictures new.shown old.shown (extras_of new) (extras_of old) (grid-unscrolled new h)
     (grid-unscrolled old o) e
     ∙ ap (λ (x : Shown). grid_difference z x (picture_of new.shown (extras_of new))) (sym (picture-is old o))
     ∙ ap (λ (x : Shown). grid_difference z (shown_state old) x) (sym (picture-is new h))
 
-pub changed-is : (old new : State) → IsUnscrolled old → IsUnscrolled new → size_of old.shown ≡ size_of new.shown
-    → contents_diff old new ≡ picture.contents_diff (size_of new.shown) (shown_state old) (shown_state new)
+pub changed-is : (old new : State) → IsUnscrolled old → IsUnscrolled new → grid_size old.shown ≡ grid_size new.shown
+    → contents_diff old new ≡ picture.contents_diff (grid_size new.shown) (shown_state old) (shown_state new)
 unfolding picture.contents_diff
 changed-is old new o h e =
     ap (λ (d : Drawn). switch HideCursor old.hidden new.hidden ++ d.forms ++ change d.pen.attrs new.attrs)
     (differing-is old new o h e)
 
-pub all-changed_is : (old new : State) → IsUnscrolled old → IsUnscrolled new → size_of old.shown ≡ size_of new.shown
-    → state_diff old new ≡ picture.state_diff (size_of new.shown) (shown_state old) (shown_state new)
+pub all-changed_is : (old new : State) → IsUnscrolled old → IsUnscrolled new → grid_size old.shown ≡ grid_size new.shown
+    → state_diff old new ≡ picture.state_diff (grid_size new.shown) (shown_state old) (shown_state new)
 unfolding picture.state_diff
 all-changed_is old new o h e =
     ap (λ (fs : List Form). fs ++ input_mode_diff (shown_state old) (shown_state new)) (changed-is old new o h e)
@@ -121,8 +121,8 @@ difference-of_shown old new o h e = record { contents = changed-is old new o h e
 
 pub screen-drawable : EachScreenIsDrawable
 screen-drawable s h p =
-    let z = size_of s.shown in
-    let same : (r k : ℕ) → shown_lines s.shown r k ≡ lines_of s.shown.rows r k =
+    let z = grid_size s.shown in
+    let same : (r k : ℕ) → visible_lines s.shown r k ≡ lines_of s.shown.rows r k =
     λ r k. ap (λ f. f r k) (cells-are s h) in
     record {
       drawable = subst (λ (x : Shown). IsDrawable z x) (sym (picture-is s h))
@@ -136,10 +136,10 @@ screen-drawable s h p =
 
 -- ---- where they lead
 
-pub shown-is : (s : State) → IsUnscrolled s → IsShown (size_of s.shown) (shown_state s)
+pub shown-is : (s : State) → IsUnscrolled s → IsShown (grid_size s.shown) (shown_state s)
 shown-is s h =
     let t = IsTerm-grid s.shown (extras_of s) h.state.shown h.state.drawn in
-    subst (IsShown (size_of s.shown)) (sym (picture-is s h)) (record {
+    subst (IsShown (grid_size s.shown)) (sym (picture-is s h)) (record {
       some_row = t.some_row;
       some_col = t.some_col;
       paired = t.paired;
@@ -156,7 +156,7 @@ shown-is s h =
 
 pub redraws-lead : EachRedrawLeads
 redraws-lead s from h p =
-    let z = size_of s.shown in
+    let z = grid_size s.shown in
     let x = shown_state s in
     let d = screen-drawable s h p in
     record {
@@ -169,7 +169,7 @@ redraws-lead s from h p =
 
 pub differences-lead : EachDifferenceLeads
 differences-lead old new o h e p =
-    let z = size_of new.shown in
+    let z = grid_size new.shown in
     let x = shown_state old in
     let y = shown_state new in
     let d = screen-drawable new h p in

@@ -13,7 +13,7 @@ use Rattle.screen_drawing.specs.Modes.{input_mode_formatted, input_mode_diff, at
 use Rattle.screen_drawing.specs.Laws.{IsKnown, with_modes}
 use Rattle.screen_drawing.specs.Length.{IsSmallScreen, IsWithin}
 use Rattle.screen_drawing.specs.Local.{IsLocalList}
-use Rattle.vt100_core.specs.Picture.{size_of}
+use Rattle.vt100_core.specs.Picture.{grid_size}
 use Rattle.screen_model.specs.State.{State, IsState}
 use Rattle.screen_model.specs.Shown.{shown_state}
 use Rattle.screen_model.specs.Made.{Act, made}
@@ -55,7 +55,7 @@ EachMadeScreenIsKnown = (rows cols capacity : ℕ) (acts : List Act) → AreActs
 
 -- its numbers are of the code's types
 abbrev pub EachScreenIsSmall : Type 0
-EachScreenIsSmall = (s : State) → IsUnscrolled s → IsSmallScreen (size_of s.shown) (shown_state s)
+EachScreenIsSmall = (s : State) → IsUnscrolled s → IsSmallScreen (grid_size s.shown) (shown_state s)
 
 -- ---- which forms they are
 
@@ -72,12 +72,12 @@ pub record IsTrueOfLists (Q : List Form → Type 0) (old new : State) : Type 0 w
 
 -- forms that writers send
 abbrev pub EachListIsSent : Type 0
-EachListIsSent = (old new : State) → IsUnscrolled old → IsUnscrolled new → size_of old.shown ≡ size_of new.shown
+EachListIsSent = (old new : State) → IsUnscrolled old → IsUnscrolled new → grid_size old.shown ≡ grid_size new.shown
     → IsKnown (shown_state new) → IsTrueOfLists AreSentForms old new
 
 -- where no cell shows U+FE0F, forms that a screen and a view read alike
 abbrev pub EachListIsOfForms : Type 0
-EachListIsOfForms = (old new : State) → IsUnscrolled old → IsUnscrolled new → size_of old.shown ≡ size_of new.shown
+EachListIsOfForms = (old new : State) → IsUnscrolled old → IsUnscrolled new → grid_size old.shown ≡ grid_size new.shown
     → IsKnown (shown_state new) → IsPlainlyShown (shown_state new) → IsTrueOfLists AreForms old new
 
 -- this text is that of such a list
@@ -102,15 +102,15 @@ EachRowIsOfForms = (old new : State) (start width : ℕ) → IsUnscrolled new �
 
 -- at most 1,024 bytes a cell, and 512 or 1,008 more; 128 for the modes alone
 pub record AreShort (old new : State) : Type 0 where
-  pub contents_formatted : IsWithin (size_of new.shown) 512 (contents_formatted new)
-  pub contents_diff : IsWithin (size_of new.shown) 512 (contents_diff old new)
-  pub state_formatted : IsWithin (size_of new.shown) 1008 (state_formatted new)
-  pub state_diff : IsWithin (size_of new.shown) 1008 (state_diff old new)
+  pub contents_formatted : IsWithin (grid_size new.shown) 512 (contents_formatted new)
+  pub contents_diff : IsWithin (grid_size new.shown) 512 (contents_diff old new)
+  pub state_formatted : IsWithin (grid_size new.shown) 1008 (state_formatted new)
+  pub state_diff : IsWithin (grid_size new.shown) 1008 (state_diff old new)
   pub input_mode_formatted : length (spell (input_mode_formatted (shown_state new))) ≤ 128
   pub input_mode_diff : length (spell (input_mode_diff (shown_state old) (shown_state new))) ≤ 128
 
 abbrev pub EachListIsShort : Type 0
-EachListIsShort = (old new : State) → IsUnscrolled old → IsUnscrolled new → size_of old.shown ≡ size_of new.shown
+EachListIsShort = (old new : State) → IsUnscrolled old → IsUnscrolled new → grid_size old.shown ≡ grid_size new.shown
     → AreShort old new
 
 -- a text of at most 1,024 bytes a cell, and so many more

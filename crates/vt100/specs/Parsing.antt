@@ -17,7 +17,7 @@ abbrev pub HasRead : {C : Type 0} → ParserView C → List ℕ → Type 0
 HasRead p past = Stands 1024 p.reader past
 
 -- these acts have been done to a new parser of this size, which keeps so many rows
-pub record StandsAt {C : Type 0} (p : ParserView C) (rows cols capacity : ℕ) (acts : List Act) : Type 0 where
+pub record ParserStandsAt {C : Type 0} (p : ParserView C) (rows cols capacity : ℕ) (acts : List Act) : Type 0 where
   pub has_read : HasRead p (bytes_fed acts)
   pub screen : p.screen ≡ alive (made rows cols capacity acts)
 

@@ -6,8 +6,8 @@ use Rattle.screen_model.specs.State.{IsProperSheet}
 use Rattle.screen_model.specs.Call.{ScreenView}
 use Rattle.vt100.specs.declared.screen.Screen.TheInside.{Inside}
 
-abbrev pub screen_of : Inside → ScreenView
-screen_of s = record {
+abbrev pub screen_inside : Inside → ScreenView
+screen_inside s = record {
   state = record {
     shown = s.grid;
     other = s.other_grid;
@@ -32,7 +32,7 @@ screen_of s = record {
 -- the shown sheet has rows, and so has the main one; on a screen that hasn't failed both have one size; the main one
 -- alone keeps rows; the attributes are such as a terminal's own calls make, and so are those of the cells, on a screen
 -- that hasn't failed
-pub record IsScreen (s : Inside) : Type 0 where
+pub record IsInside (s : Inside) : Type 0 where
   pub shown : IsAllocated s.grid
   pub main : s.alternate_screen ≡ true → IsAllocated s.other_grid
   pub height : s.failed ≡ false → s.other_grid.height ≡ s.grid.height

@@ -14,9 +14,9 @@ use Rattle.terminal_model.specs.FormText.{AreForms}
 use Rattle.row_drawing.specs.declared.pen.Pen.{Pen}
 use Rattle.vt100_rows.specs.Laws.{IsAtRow, IsRowDrawn}
 use Rattle.screen_drawing.specs.Rows.{is_continued}
-use Rattle.screen_drawing.specs.Laws.{IsScreen, with_modes}
+use Rattle.screen_drawing.specs.Laws.{IsDrawableScreen, with_modes}
 use Rattle.screen_drawing.specs.Screen as picture
-use Rattle.vt100_core.specs.Picture.{size_of}
+use Rattle.vt100_core.specs.Picture.{grid_size}
 use Rattle.screen_model.specs.State.{State, IsState}
 use Rattle.screen_model.specs.Shown.{shown_state}
 use Rattle.vt100.specs.Writers.{contents_formatted, state_formatted, contents_diff, state_diff, cursor_state_formatted}
@@ -30,9 +30,9 @@ pub record IsUnscrolled (s : State) : Type 0 where
 -- ---- the forms are those of what is shown
 
 pub record AreOfShown (s : State) : Type 0 where
-  pub contents : contents_formatted s ≡ picture.contents_formatted (size_of s.shown) (shown_state s)
-  pub state : state_formatted s ≡ picture.state_formatted (size_of s.shown) (shown_state s)
-  pub cursor : cursor_state_formatted s ≡ picture.cursor_state_formatted (size_of s.shown) (shown_state s)
+  pub contents : contents_formatted s ≡ picture.contents_formatted (grid_size s.shown) (shown_state s)
+  pub state : state_formatted s ≡ picture.state_formatted (grid_size s.shown) (shown_state s)
+  pub cursor : cursor_state_formatted s ≡ picture.cursor_state_formatted (grid_size s.shown) (shown_state s)
 
 abbrev pub EachRedrawIsOfShown : Type 0
 EachRedrawIsOfShown = (s : State) → IsUnscrolled s → AreOfShown s
@@ -40,12 +40,12 @@ EachRedrawIsOfShown = (s : State) → IsUnscrolled s → AreOfShown s
 -- and of two screens of one size, of what both show
 pub record DifferencesAreOfShown (old new : State) : Type 0 where
   pub contents : contents_diff old new
-      ≡ picture.contents_diff (size_of new.shown) (shown_state old) (shown_state new)
-  pub state : state_diff old new ≡ picture.state_diff (size_of new.shown) (shown_state old) (shown_state new)
+      ≡ picture.contents_diff (grid_size new.shown) (shown_state old) (shown_state new)
+  pub state : state_diff old new ≡ picture.state_diff (grid_size new.shown) (shown_state old) (shown_state new)
 
 abbrev pub EachDifferenceIsOfShown : Type 0
 EachDifferenceIsOfShown = (old new : State) → IsUnscrolled old → IsUnscrolled new
-    → size_of old.shown ≡ size_of new.shown → DifferencesAreOfShown old new
+    → grid_size old.shown ≡ grid_size new.shown → DifferencesAreOfShown old new
 
 -- ---- what is shown can be drawn
 
@@ -55,19 +55,19 @@ IsPlainlyShown s = (r k : ℕ) → Contains (s.cell r k).text 0xFE0F → ⊥
 
 abbrev pub EachScreenIsDrawable : Type 0
 EachScreenIsDrawable = (s : State) → IsUnscrolled s → IsPlainlyShown (shown_state s)
-    → IsScreen (size_of s.shown) (shown_state s)
+    → IsDrawableScreen (grid_size s.shown) (shown_state s)
 
 -- ---- the forms lead to what is shown
 
 -- from any picture; the modes with them where the mouse and the cursor's style are as they are at first; and the cursor
 -- from the screen's own cells and flags
 pub record RedrawsLead (s : State) (from : Shown) : Type 0 where
-  pub contents : Leads (size_of s.shown) (contents_formatted s) from
+  pub contents : Leads (grid_size s.shown) (contents_formatted s) from
       (with_modes from.modes from.style (shown_state s))
   pub state : from.modes.mouse ≡ mouse.None → from.modes.encoding ≡ encoding.Default → from.style ≡ style.Default
-      → Leads (size_of s.shown) (state_formatted s) from (shown_state s)
+      → Leads (grid_size s.shown) (state_formatted s) from (shown_state s)
   pub cursor : from.attrs ≡ default_attrs → from.cell ≡ (shown_state s).cell → from.wrapped ≡ (shown_state s).wrapped
-      → Leads (size_of s.shown) (cursor_state_formatted s) from
+      → Leads (grid_size s.shown) (cursor_state_formatted s) from
       (record from { row = s.shown.row; col = s.shown.col; hidden = s.hidden })
 
 abbrev pub EachRedrawLeads : Type 0
@@ -75,13 +75,13 @@ EachRedrawLeads = (s : State) (from : Shown) → IsUnscrolled s → IsPlainlySho
 
 -- from an earlier screen of the same size: its picture, whatever the modes are, and all that it shows
 pub record DifferencesLead (old new : State) : Type 0 where
-  pub contents : (m : Modes) (y : CursorStyle) → Leads (size_of new.shown) (contents_diff old new)
+  pub contents : (m : Modes) (y : CursorStyle) → Leads (grid_size new.shown) (contents_diff old new)
       (with_modes m y (shown_state old)) (with_modes m y (shown_state new))
-  pub state : Leads (size_of new.shown) (state_diff old new) (shown_state old) (shown_state new)
+  pub state : Leads (grid_size new.shown) (state_diff old new) (shown_state old) (shown_state new)
 
 abbrev pub EachDifferenceLeads : Type 0
 EachDifferenceLeads = (old new : State) → IsUnscrolled old → IsUnscrolled new
-    → size_of old.shown ≡ size_of new.shown → IsPlainlyShown (shown_state new) → DifferencesLead old new
+    → grid_size old.shown ≡ grid_size new.shown → IsPlainlyShown (shown_state new) → DifferencesLead old new
 
 -- ---- row by row
 
@@ -113,7 +113,7 @@ pub record RowTextsLead (s : State) (width : ℕ) : Type 0 where
   pub each : (i : ℕ) (t : Term) → i < s.shown.height → is_continued (shown_state s).wrapped i ≡ false
       → IsPlainLine ((shown_state s).cell i)
       → IsAtRow i (λ k. default_cell) false None None t
-      → DrawsRow (size_of s.shown) (text_at (rows_formatted s.shown 0 width) i) ((shown_state s).cell i) i t
+      → DrawsRow (grid_size s.shown) (text_at (rows_formatted s.shown 0 width) i) ((shown_state s).cell i) i t
 
 abbrev pub EachRowTextLeads : Type 0
 EachRowTextLeads = (s : State) (width : ℕ) → IsUnscrolled s → s.shown.width ≤ width → RowTextsLead s width
@@ -124,8 +124,8 @@ pub record RowDifferencesLead (old new : State) (width : ℕ) : Type 0 where
   pub each : (i : ℕ) (t : Term) → i < new.shown.height
       → IsPlainLine ((shown_state new).cell i)
       → IsAtRow i ((shown_state old).cell i) ((shown_state old).wrapped i) None None t
-      → DrawsRow (size_of new.shown) (text_at (rows_diff old.shown new.shown 0 width) i) ((shown_state new).cell i) i t
+      → DrawsRow (grid_size new.shown) (text_at (rows_diff old.shown new.shown 0 width) i) ((shown_state new).cell i) i t
 
 abbrev pub EachRowDifferenceLeads : Type 0
 EachRowDifferenceLeads = (old new : State) (width : ℕ) → IsUnscrolled old → IsUnscrolled new
-    → size_of old.shown ≡ size_of new.shown → new.shown.width ≤ width → RowDifferencesLead old new width
+    → grid_size old.shown ≡ grid_size new.shown → new.shown.width ≤ width → RowDifferencesLead old new width

@@ -64,11 +64,11 @@ impl Model for Screen {
 
     ghost Value = { ScreenView };
 
-    ghost use Rattle.vt100.specs.ScreenFields.{screen_of, IsScreen};
+    ghost use Rattle.vt100.specs.ScreenFields.{screen_inside, IsInside};
 
-    ghost view = { screen_of };
+    ghost view = { screen_inside };
 
-    ghost invariant = { IsScreen };
+    ghost invariant = { IsInside };
 }
 
 impl Screen {

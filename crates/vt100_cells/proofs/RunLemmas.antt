@@ -1,4 +1,4 @@
--- A run of printable ASCII characters, put on a line.
+-- A printed_run of printable ASCII characters, put on a line.
 use Rattle.std.proofs.Common.{◌≡◌, ℕ, suc, ◌+◌, ◌-◌, ◌<◌, ◌≤◌, ◌==◌, Bool, true, false, cond, ◌&&◌, List, [], ◌∷◌}
 use Rattle.std.proofs.Common.{length, set, take, drop, slice_index, refl, ap, ◌∙◌, arith, ⊎_elim, nat_lt, nat_le}
 use Rattle.std.proofs.Common.{length-append, length-take, length-drop}
@@ -9,7 +9,7 @@ use borrow.Rule.Slice.PartMut.{put_mid}
 use Rattle.vt100_forms.specs.declared.attrs.Attrs.{Attrs}
 use Rattle.vt100_cells.specs.Cell.{CellView, cell_of}
 use Rattle.vt100_cells.specs.Cells.{cell_at, by_position}
-use Rattle.vt100_cells.specs.Line.{IsPaired, put, run, left_cleared}
+use Rattle.vt100_cells.specs.Line.{IsPaired, put, printed_run, left_cleared}
 use Rattle.vt100_cells.proofs.ListLemmas.{by_position_is, same-by_position, set-by_position, reads, reads_len}
 use Rattle.vt100_cells.proofs.EditLemmas.{continuation_within}
 
@@ -22,28 +22,28 @@ index-later : (x : ℕ) (xs : List ℕ) (i k : ℕ) → i < k → slice_index (x
 index-later x xs i k h = let e : k - i ≡ suc (k - (i + 1)) = omega arith in rw e refl
 
 module _ (f : ℕ → CellView) (i x : ℕ) (xs : List ℕ) (a : Attrs) (narrow : (cell_of x a).wide ≡ false) where
-  step-left : (k : ℕ) → k < i → run (put f i (cell_of x a) a) (i + 1) xs a k ≡ run f i (x ∷ xs) a k
+  step-left : (k : ℕ) → k < i → printed_run (put f i (cell_of x a) a) (i + 1) xs a k ≡ printed_run f i (x ∷ xs) a k
   step-left k h = grind (arith, nat_tests)
 
-  step-at : (k : ℕ) → k ≡ i → run (put f i (cell_of x a) a) (i + 1) xs a k ≡ run f i (x ∷ xs) a k
+  step-at : (k : ℕ) → k ≡ i → printed_run (put f i (cell_of x a) a) (i + 1) xs a k ≡ printed_run f i (x ∷ xs) a k
   step-at k h = let e = index-first x xs (k - i) (omega arith) in grind (arith, nat_tests)
 
   step-in : (k : ℕ) → i < k → k < i + 1 + length xs
-      → run (put f i (cell_of x a) a) (i + 1) xs a k ≡ run f i (x ∷ xs) a k
+      → printed_run (put f i (cell_of x a) a) (i + 1) xs a k ≡ printed_run f i (x ∷ xs) a k
   step-in k h l = let e = index-later x xs i k h in grind (arith, nat_tests)
 
   step-past : (k : ℕ) → IsPaired f → i < k → i + 1 + length xs ≤ k
-      → run (put f i (cell_of x a) a) (i + 1) xs a k ≡ run f i (x ∷ xs) a k
+      → printed_run (put f i (cell_of x a) a) (i + 1) xs a k ≡ printed_run f i (x ∷ xs) a k
   step-past k p h l = let e = p.next i in grind (arith, nat_tests)
 
-  pub run-step : (k : ℕ) → IsPaired f → run (put f i (cell_of x a) a) (i + 1) xs a k ≡ run f i (x ∷ xs) a k
+  pub run-step : (k : ℕ) → IsPaired f → printed_run (put f i (cell_of x a) a) (i + 1) xs a k ≡ printed_run f i (x ∷ xs) a k
   run-step k p =
       ⊎_elim (λ (e : k ≡ i). step-at k e)
       (⊎_elim (λ l. step-left k l)
       (λ h. ⊎_elim (λ l. step-in k h l) (λ l. step-past k p h l) (cases_lt k (i + 1 + length xs))))
       (cases_order k i)
 
-pub run-none : (f : ℕ → CellView) (i : ℕ) (a : Attrs) (k : ℕ) → f k ≡ run f i [] a k
+pub run-none : (f : ℕ → CellView) (i : ℕ) (a : Attrs) (k : ℕ) → f k ≡ printed_run f i [] a k
 run-none f i a k = grind (arith, nat_tests)
 
 -- ---- what the code writes, column by column
@@ -70,7 +70,7 @@ spaces-no_right ys e a c = same-by_position ys (right_spaced (cell_at ys) e a) (
 
 run-read : (f : ℕ → CellView) (i e : ℕ) (ts : List ℕ) (a : Attrs) (k : ℕ) → 0 < length ts → e ≡ i + length ts
     → cond (nat_le i k && nat_lt k (i + length ts)) (cell_of (slice_index ts (k - i)) a)
-    (right_spaced (left_cleared f i) e a k) ≡ run f i ts a k
+    (right_spaced (left_cleared f i) e a k) ≡ printed_run f i ts a k
 run-read f i e ts a k h q = grind (arith, nat_tests)
 
 written-read : (zs ws : List CellView) (i m k : ℕ) → i + m ≤ length zs → k < length zs → length ws ≡ m
@@ -92,7 +92,7 @@ pub writes-run : (xs ys zs ws : List CellView) (i e m : ℕ) (ts : List ℕ) (a 
     → ys ≡ by_position (length xs) (left_cleared (cell_at xs) i)
     → zs ≡ by_position (length ys) (right_spaced (cell_at ys) e a)
     → ws ≡ by_position (length (take m (drop i zs))) (λ k. cell_of (slice_index ts k) b)
-    → put_mid i m zs ws ≡ by_position (length xs) (run (cell_at xs) i ts a)
+    → put_mid i m zs ws ≡ by_position (length xs) (printed_run (cell_at xs) i ts a)
 writes-run xs ys zs ws i e m ts a b some ee within em eb ey ez ew =
     let f = cell_at xs in
     let n = length xs in
@@ -103,7 +103,7 @@ writes-run xs ys zs ws i e m ts a b some ee within em eb ey ez ew =
     ew ∙ ap (λ j. by_position j (λ k. cell_of (slice_index ts k) b)) front in
     let lw = reads_len m (λ k. cell_of (slice_index ts k) b) ws ew2 in
     let all : m ≡ length ts = omega arith in
-    by_position_is n (run f i ts a) (put_mid i m zs ws) (simp (length-append, length-take, length-drop) (omega arith))
+    by_position_is n (printed_run f i ts a) (put_mid i m zs ws) (simp (length-append, length-take, length-drop) (omega arith))
     (λ k q.
     let rz : cell_at zs k ≡ right_spaced (left_cleared f i) e a k =
     reads (length ys) (right_spaced (cell_at ys) e a) zs ez k (omega arith)

@@ -58,8 +58,8 @@ pair_wiped f i k =
 -- the characters xs, which take one column each, are put from i on, with the attributes a, and what they cover goes. A
 -- wide cell whose second half stood at i is empty and keeps its own; the second half of a wide cell whose first half
 -- they cover becomes a space.
-abbrev pub run : (ℕ → CellView) → ℕ → List ℕ → Attrs → ℕ → CellView
-run f i xs a k =
+abbrev pub printed_run : (ℕ → CellView) → ℕ → List ℕ → Attrs → ℕ → CellView
+printed_run f i xs a k =
     if nat_le i k && nat_lt k (i + length xs) then cell_of (slice_index xs (k - i)) a
     else if nat_lt 0 (length xs) && (((k + 1) == i) && (f k).wide) then empty_cell (f k).attrs
     else if nat_lt 0 (length xs) && ((k == (i + length xs)) && (f k).continuation) then cell_of 32 a

@@ -5,7 +5,7 @@ ghost use Rattle.vt100_cells.specs.Cell.{CellView, IsCell, has_text, is_filled, 
 ghost use Rattle.vt100_cells.specs.Cell.{IsPrintable, cell_eq};
 ghost use Rattle.vt100_cells.specs.Line.{IsPaired, span_of, update, put, put_unflags, base_col, pair_wiped, wiped};
 ghost use Rattle.vt100_cells.specs.Line.{wipe_unflags, cut, opened, closed, left_cleared, right_cleared, shifted_right};
-ghost use Rattle.vt100_cells.specs.Line.{mended, shifted_left, run};
+ghost use Rattle.vt100_cells.specs.Line.{mended, shifted_left, printed_run};
 ghost use Rattle.vt100_cells.specs.Cells.{AreSame, cell_at, by_position, last_cell, inserted_cells, trimmed_len};
 
 use crate::cell::{Cell, is_same};
@@ -356,7 +356,7 @@ pub fn put_run(cells: &mut [Cell], start: usize, text: &[u8], attrs: Attrs)
     requires in_row { start + length text.now ≤ length cells.old }
     requires printable { All IsPrintable text.now }
     requires paired { IsPaired (cell_at cells.old) }
-    ensures { cells.new ≡ by_position (length cells.old) (run (cell_at cells.old) start text.now attrs) }
+    ensures { cells.new ≡ by_position (length cells.old) (printed_run (cell_at cells.old) start text.now attrs) }
 {
     let end = start + text.len();
     clear_left(cells, start);

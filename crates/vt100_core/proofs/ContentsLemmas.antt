@@ -12,7 +12,7 @@ use Rattle.vt100_rows.specs.Row.{RowView, blank_row}
 use Rattle.vt100_rows.specs.Text.{written_text, IsBegun}
 use Rattle.vt100_rows.proofs.TextLemmas.{IsBegun-within}
 use Rattle.vt100_core.specs.Grid.{GridView, visible, visible_at}
-use Rattle.vt100_core.specs.Contents.{is_below_wrapped, shown_line, shown_lines, newlines_cut}
+use Rattle.vt100_core.specs.Contents.{is_below_wrapped, text_line, text_lines, newlines_cut}
 use Rattle.vt100_rows.proofs.SheetLemmas.{row_at-by_position, length-rows_by_position}
 
 -- ---- the newlines at the end
@@ -51,7 +51,7 @@ newlines_cut-none xs some last =
 pub record IsShown (g : GridView) (n : ℕ) (left : List RowView) (wrapping : Bool) (old now : List ℕ) : Type 0 where
   pub rows : left ≡ drop n (visible g)
   pub wraps : wrapping ≡ is_below_wrapped g n
-  pub bytes : now ≡ old ++ encode_utf8_all (shown_lines g n)
+  pub bytes : now ≡ old ++ encode_utf8_all (text_lines g n)
   pub few : n ≤ length g.rows
 
 pub IsShown-start : (g : GridView) (left : List RowView) (old : List ℕ) → left ≡ visible g
@@ -87,7 +87,7 @@ IsShown-next g n m from left v wrapping wraps old was row now em h cut er ew en 
     ap (λ (xs : List RowView). get_or xs 0 v) parts
     ∙ row_at-by_position (length g.rows) (visible_at g) n
     (omega (arith, length-rows_by_position (length g.rows) (visible_at g))) in
-    let line : encode_utf8_all (shown_line g n) ≡ encode_utf8_all (written_text v 0 g.width wrapping)
+    let line : encode_utf8_all (text_line g n) ≡ encode_utf8_all (written_text v 0 g.width wrapping)
     ++ encode_utf8_all (cond v.wrapped [] (10 ∷ [])) =
     ap (λ (x : RowView). encode_utf8_all (written_text x 0 g.width (is_below_wrapped g n)
     ++ cond x.wrapped [] (10 ∷ []))) (sym here)
@@ -99,11 +99,11 @@ IsShown-next g n m from left v wrapping wraps old was row now em h cut er ew en 
       bytes =
           en ∙ ap (λ (bs : List ℕ). bs ++ encode_utf8_all (cond v.wrapped [] (10 ∷ []))) (er
           ∙ ap (λ (bs : List ℕ). bs ++ encode_utf8_all (written_text v 0 g.width wrapping)) h.bytes)
-          ∙ append_assoc (old ++ encode_utf8_all (shown_lines g n))
+          ∙ append_assoc (old ++ encode_utf8_all (text_lines g n))
           (encode_utf8_all (written_text v 0 g.width wrapping)) (encode_utf8_all (cond v.wrapped [] (10 ∷ [])))
-          ∙ ap (λ bs. (old ++ encode_utf8_all (shown_lines g n)) ++ bs) (sym line)
-          ∙ append_assoc old (encode_utf8_all (shown_lines g n)) (encode_utf8_all (shown_line g n))
-          ∙ ap (λ bs. old ++ bs) (sym (encodes-append (shown_lines g n) (shown_line g n)));
+          ∙ ap (λ bs. (old ++ encode_utf8_all (text_lines g n)) ++ bs) (sym line)
+          ∙ append_assoc old (encode_utf8_all (text_lines g n)) (encode_utf8_all (text_line g n))
+          ∙ ap (λ bs. old ++ bs) (sym (encodes-append (text_lines g n) (text_line g n)));
       few = omega (arith, length-rows_by_position (length g.rows) (visible_at g));
     })
 
@@ -118,7 +118,7 @@ one-newline wrapped bs now e en = en ∙ ap (λ xs. bs ++ xs) (sym (append-nil (
 
 -- all rows
 pub IsShown-end : (g : GridView) (n : ℕ) (left : List RowView) (wrapping : Bool) (old now : List ℕ) → left ≡ []
-    → IsShown g n left wrapping old now → now ≡ old ++ encode_utf8_all (shown_lines g (length g.rows))
+    → IsShown g n left wrapping old now → now ≡ old ++ encode_utf8_all (text_lines g (length g.rows))
 IsShown-end g n left wrapping old now e h =
     let none = ap (λ (xs : List RowView). length xs) (sym h.rows ∙ e) in
     let most = h.few in
@@ -128,22 +128,22 @@ IsShown-end g n left wrapping old now e h =
       length-drop n (visible g),
       length-rows_by_position (length g.rows) (visible_at g),
     ) in
-    h.bytes ∙ ap (λ k. old ++ encode_utf8_all (shown_lines g k)) all
+    h.bytes ∙ ap (λ k. old ++ encode_utf8_all (text_lines g k)) all
 
 -- ---- where memory ran out
 
-lines-more : (g : GridView) (n m : ℕ) → n ≤ m → (rest : List ℕ) × (shown_lines g m ≡ shown_lines g n ++ rest)
+lines-more : (g : GridView) (n m : ℕ) → n ≤ m → (rest : List ℕ) × (text_lines g m ≡ text_lines g n ++ rest)
 lines-more g n zero h = let e : n ≡ 0 = omega arith
-    in ([], ap (shown_lines g) (sym e) ∙ sym (append-nil (shown_lines g n)))
+    in ([], ap (text_lines g) (sym e) ∙ sym (append-nil (text_lines g n)))
 lines-more g n (suc m) h =
     ⊎_elim
     (λ (l : m < n). let e : n ≡ suc m = omega (arith, h, l)
-    in ([], ap (shown_lines g) (sym e) ∙ sym (append-nil (shown_lines g n))))
+    in ([], ap (text_lines g) (sym e) ∙ sym (append-nil (text_lines g n))))
     (λ (l : n ≤ m).
     let r = lines-more g n m l in (
-      r.0 ++ shown_line g m,
-      ap (λ (cs : List ℕ). cs ++ shown_line g m) r.1
-          ∙ append_assoc (shown_lines g n) r.0 (shown_line g m),
+      r.0 ++ text_line g m,
+      ap (λ (cs : List ℕ). cs ++ text_line g m) r.1
+          ∙ append_assoc (text_lines g n) r.0 (text_line g m),
     ))
     (cases_lt m n)
 
@@ -151,7 +151,7 @@ lines-more g n (suc m) h =
 pub IsBegun-row : (g : GridView) (n : ℕ) (from left : List RowView) (v : RowView) (wrapping : Bool)
     (old was now : List ℕ) → IsShown g n from wrapping old was → from ≡ v ∷ left
     → IsBegun was (encode_utf8_all (written_text v 0 g.width wrapping)) now
-    → IsBegun old (encode_utf8_all (shown_lines g (length g.rows))) now
+    → IsBegun old (encode_utf8_all (text_lines g (length g.rows))) now
 IsBegun-row g n from left v wrapping old was now h cut begun =
     let all : drop n (visible g) ≡ v ∷ left = sym h.rows ∙ cut in
     let within : n < length (visible g) = some-left (visible g) left n v all in
@@ -161,19 +161,19 @@ IsBegun-row g n from left v wrapping old was now h cut begun =
     (omega (arith, length-rows_by_position (length g.rows) (visible_at g))) in
     let written = written_text v 0 g.width wrapping in
     let newline : List ℕ = cond v.wrapped [] (10 ∷ []) in
-    let line : shown_line g n ≡ written ++ newline =
+    let line : text_line g n ≡ written ++ newline =
     ap (λ (x : RowView). written_text x 0 g.width (is_below_wrapped g n) ++ cond x.wrapped [] (10 ∷ [])) (sym here)
     ∙ ap (λ b. written_text v 0 g.width b ++ newline) (sym h.wraps) in
     let more = lines-more g (suc n) (length g.rows)
     (omega (arith, length-rows_by_position (length g.rows) (visible_at g))) in
-    let whole : shown_lines g (length g.rows) ≡ (shown_lines g n ++ written) ++ (newline ++ more.0) =
-    more.1 ∙ ap (λ cs. (shown_lines g n ++ cs) ++ more.0) line
-    ∙ ap (λ (cs : List ℕ). cs ++ more.0) (sym (append_assoc (shown_lines g n) written newline))
-    ∙ append_assoc (shown_lines g n ++ written) newline more.0 in
-    IsBegun-within old was (encode_utf8_all (shown_lines g n)) (encode_utf8_all written)
-    (encode_utf8_all (newline ++ more.0)) (encode_utf8_all (shown_lines g (length g.rows))) now h.bytes
-    (ap encode_utf8_all whole ∙ encodes-append (shown_lines g n ++ written) (newline ++ more.0)
-    ∙ ap (λ (bs : List ℕ). bs ++ encode_utf8_all (newline ++ more.0)) (encodes-append (shown_lines g n) written))
+    let whole : text_lines g (length g.rows) ≡ (text_lines g n ++ written) ++ (newline ++ more.0) =
+    more.1 ∙ ap (λ cs. (text_lines g n ++ cs) ++ more.0) line
+    ∙ ap (λ (cs : List ℕ). cs ++ more.0) (sym (append_assoc (text_lines g n) written newline))
+    ∙ append_assoc (text_lines g n ++ written) newline more.0 in
+    IsBegun-within old was (encode_utf8_all (text_lines g n)) (encode_utf8_all written)
+    (encode_utf8_all (newline ++ more.0)) (encode_utf8_all (text_lines g (length g.rows))) now h.bytes
+    (ap encode_utf8_all whole ∙ encodes-append (text_lines g n ++ written) (newline ++ more.0)
+    ∙ ap (λ (bs : List ℕ). bs ++ encode_utf8_all (newline ++ more.0)) (encodes-append (text_lines g n) written))
     begun
 
 pub IsBegun-all : (old text now : List ℕ) → now ≡ old ++ text → IsBegun old text now

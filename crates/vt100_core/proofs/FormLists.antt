@@ -17,15 +17,15 @@ use Rattle.screen_drawing.proofs.Lengths.{each-short}
 use Rattle.screen_drawing.proofs.LocalScreens.{grid-local}
 use Rattle.screen_drawing.proofs.SmallScreens.{lists-sent, lists-forms}
 use Rattle.vt100_core.specs.Grid.{GridView}
-use Rattle.vt100_core.specs.Picture.{size_of, Extras}
+use Rattle.vt100_core.specs.Picture.{grid_size, Extras}
 use Rattle.vt100_core.specs.Writers.{drawn_on, redrawn, contents_formatted, differing}
-use Rattle.vt100_core.specs.WriterLaws.{IsUnscrolled, IsDrawableGrid, picture_of}
+use Rattle.vt100_core.specs.WriterLaws.{IsUnscrolledGrid, IsDrawableGrid, picture_of}
 use Rattle.vt100_core.specs.FormLists.{IsProperGrid, HasNo, IsTrueOfLists, EachListIsSent, EachListIsOfForms, AreShort}
 use Rattle.vt100_core.specs.FormLists.{EachListIsShort, IsShortGrowth, AppendsLocal}
 use Rattle.vt100_core.proofs.PictureWriters.{plain_extras, shown-grid, lines-cells, contents-is, redrawn-of_picture}
 use Rattle.vt100_core.proofs.PictureWriters.{differing-of_pictures, grid-drawable}
 
-pub small-grid : (g : GridView) → IsProperGrid g → IsSmallScreen (size_of g) (drawn_on g)
+pub small-grid : (g : GridView) → IsProperGrid g → IsSmallScreen (grid_size g) (drawn_on g)
 small-grid g h = record {
   shown = shown-grid g plain_extras h.shown;
   cells = λ r k. lines-cells g r k h.shown.grid;
@@ -43,12 +43,12 @@ with_attrs : Attrs → Extras
 with_attrs a = record plain_extras { attrs = a }
 
 contents-of : (Q : List Form → Type 0) (g : GridView) → IsProperGrid g
-    → Q (picture.grid_contents_formatted (size_of g) (drawn_on g)) → Q (contents_formatted g)
+    → Q (picture.grid_contents_formatted (grid_size g) (drawn_on g)) → Q (contents_formatted g)
 contents-of Q g h q = subst Q (sym (contents-is g (redrawn-of_picture g plain_extras h.shown))) q
 
-difference-of : (Q : List Form → Type 0) (g old : GridView) (a : Attrs) → IsProperGrid g → IsUnscrolled old
-    → size_of old ≡ size_of g
-    → Q (picture.grid_difference (size_of g) (picture_of old (with_attrs a)) (drawn_on g)).forms
+difference-of : (Q : List Form → Type 0) (g old : GridView) (a : Attrs) → IsProperGrid g → IsUnscrolledGrid old
+    → grid_size old ≡ grid_size g
+    → Q (picture.grid_difference (grid_size g) (picture_of old (with_attrs a)) (drawn_on g)).forms
     → Q (differing g old a).forms
 unfolding with_attrs
 difference-of Q g old a h o e q =
@@ -57,7 +57,7 @@ difference-of Q g old a h o e q =
 -- what is true of the lists of pictures is true of those of grids
 of-pictures : (Q : List Form → Type 0) (g : GridView) → IsProperGrid g
     → ((old : Shown) → HasByteColors old.attrs
-    → writers.IsTrueOfLists Q HasByteColors (size_of g) old (drawn_on g)) → IsTrueOfLists Q g
+    → writers.IsTrueOfLists Q HasByteColors (grid_size g) old (drawn_on g)) → IsTrueOfLists Q g
 unfolding with_attrs
 of-pictures Q g h q = record {
   contents = contents-of Q g h (q (drawn_on g) (tt, tt)).grid_formatted;
@@ -68,17 +68,17 @@ of-pictures Q g h q = record {
 pub grid-sent : EachListIsSent
 grid-sent g h clean =
     of-pictures AreSentForms g h
-    (λ old k. lists-sent (size_of g) old (drawn_on g) k (small-grid g h) (known-grid g h clean))
+    (λ old k. lists-sent (grid_size g) old (drawn_on g) k (small-grid g h) (known-grid g h clean))
 
 pub grid-forms : EachListIsOfForms
 grid-forms g h clean plain =
     of-pictures AreForms g h
-    (λ old k. lists-forms (size_of g) old (drawn_on g) k (small-grid g h) (known-grid g h clean) plain)
+    (λ old k. lists-forms (grid_size g) old (drawn_on g) k (small-grid g h) (known-grid g h clean) plain)
 
 pub grid-short : EachListIsShort
 unfolding with_attrs
 grid-short g h =
-    let z = size_of g in
+    let z = grid_size g in
     let short : (old : Shown) → HasByteColors old.attrs → writers_length.AreShort z old (drawn_on g) =
     λ old k. each-short z old (drawn_on g) k (small-grid g h) in
     record {
@@ -89,18 +89,18 @@ grid-short g h =
 
 -- ---- what is appended
 
-pub grown-short : (g : GridView) (fs : List Form) (s t : List ℕ) → IsWithin (size_of g) 256 fs → t ≡ s ++ spell fs
+pub grown-short : (g : GridView) (fs : List Form) (s t : List ℕ) → IsWithin (grid_size g) 256 fs → t ≡ s ++ spell fs
     → IsShortGrowth g s t
 grown-short g fs s t h is = omega (arith, h, ap length is, length-append s (spell fs))
 
 -- which cells a difference touches
-pub appends-local : (g old : GridView) (a : Attrs) (s t : List ℕ) → IsDrawableGrid g → IsUnscrolled old
-    → size_of old ≡ size_of g → IsProper a → t ≡ s ++ spell (differing g old a).forms → AppendsLocal g old a s t
+pub appends-local : (g old : GridView) (a : Attrs) (s t : List ℕ) → IsDrawableGrid g → IsUnscrolledGrid old
+    → grid_size old ≡ grid_size g → IsProper a → t ≡ s ++ spell (differing g old a).forms → AppendsLocal g old a s t
 appends-local g old a s t h o e proper is = (
   (differing g old a).forms,
   is,
   λ x same.
-      let z = size_of g in
+      let z = grid_size g in
       let made : differing g old a ≡ picture.grid_difference z (picture_of old x) (drawn_on g) =
       ap (λ (b : Attrs). differing g old b) (sym same) ∙ differing-of_pictures g old plain_extras x h.shown o e in
       subst (λ (d : Drawn). IsLocalList z (picture_of old x) (drawn_on g) d.forms) (sym made)

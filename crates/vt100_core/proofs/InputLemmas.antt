@@ -26,10 +26,10 @@ use Rattle.vt100_rows.proofs.SheetLemmas.{rows_by_position_is}
 use Rattle.vt100_rows.proofs.MoveLemmas.{IsSheet-moved_up}
 use Rattle.vt100_rows.proofs.PictureLemmas.{lines-set, wraps-set, lines-up, wraps-up}
 use Rattle.vt100_core.specs.Grid.{GridView, row_of_cursor, with_cursor_row, with_row, is_in_region}
-use Rattle.vt100_core.specs.Picture.{size_of, Extras, term_of, IsPlain, widens, EachPrintIsInput}
+use Rattle.vt100_core.specs.Picture.{grid_size, Extras, term_of_grid, IsPlain, widens, EachPrintIsInput}
 use Rattle.vt100_core.specs.Scroll.{Scrolled, made_to_fit, wrapped_on, fed, scrolled_up}
 use Rattle.vt100_core.specs.Scroll.{left_row}
-use Rattle.vt100_core.specs.Text.{Drawn, put_at, spaced, joined}
+use Rattle.vt100_core.specs.Text.{PrintedGrid, put_at, spaced, joined}
 use Rattle.vt100_core.proofs.TextLemmas.{printed-dropped, printed-joined, printed-spaced, IsDrawn-here, span_of-cell}
 use Rattle.vt100_core.proofs.TextLemmas.{IsMade-made}
 
@@ -84,16 +84,16 @@ flags-stay w i b false e = ap (update w i) (e ∙ both-false (w i))
 
 pub with_line-is : (g : GridView) (x : Extras) (v : RowView) (stays : Bool) → g.row < length g.rows
     → v.wrapped ≡ ((row_of_cursor g).wrapped && stays)
-    → term_of (with_cursor_row g v) x ≡ with_line (term_of g x) (cell_at v.cells) stays
+    → term_of_grid (with_cursor_row g v) x ≡ with_line (term_of_grid g x) (cell_at v.cells) stays
 unfolding with_line
 with_line-is g x v stays l e =
     let lines = lines-set g.rows g.row v l in
     let flags = wraps-set g.rows g.row v l ∙ flags-stay (wraps_of g.rows) g.row v.wrapped stays e in
-    λ i. record (term_of g x) { cell = lines i; wrapped = flags i }
+    λ i. record (term_of_grid g x) { cell = lines i; wrapped = flags i }
 
 -- a cell that is put at the cursor is printed
 print-is : (g : GridView) (x : Extras) (y : CellView) (n : ℕ) → IsDrawable g → n ≡ span_of y → g.col + n ≤ g.width
-    → term_of (put_at g y x.attrs n) x ≡ print (size_of g) y (term_of g x)
+    → term_of_grid (put_at g y x.attrs n) x ≡ print (grid_size g) y (term_of_grid g x)
 unfolding print
 print-is g x y n d e l =
     let r = cursor_row g d in
@@ -103,8 +103,8 @@ print-is g x y n d e l =
     let at = with_line-is g x (placed v g.col y x.attrs) (not (put_unflags g.width f g.col y)) (here g d)
     (ap (λ m. v.wrapped && not (put_unflags m f g.col y)) r.wide) in
     ap (λ (t : Term). record t { col = g.col + n }) at
-    ∙ ap (λ h. record (with_line (term_of g x) h (not (put_unflags g.width f g.col y))) { col = g.col + n }) line
-    ∙ ap (λ m. record (with_line (term_of g x) (put f g.col y x.attrs) (not (put_unflags g.width f g.col y))) {
+    ∙ ap (λ h. record (with_line (term_of_grid g x) h (not (put_unflags g.width f g.col y))) { col = g.col + n }) line
+    ∙ ap (λ m. record (with_line (term_of_grid g x) (put f g.col y x.attrs) (not (put_unflags g.width f g.col y))) {
       col = g.col + m;
     }) e
 
@@ -291,14 +291,14 @@ flags-first w row n b r z =
     sym (ap (λ c. nat_lt (r + 1) n && cond c b (w (r + 1))) other)
 
 term-middle : (g : GridView) (x : Extras) → IsDrawable g → g.row + 1 < g.height
-    → term_of (gone_on g) x ≡ wrap (size_of g) (term_of g x)
+    → term_of_grid (gone_on g) x ≡ wrap (grid_size g) (term_of_grid g x)
 unfolding wrap
 term-middle g x d l =
     let v = with_wrap (row_of_cursor g) true in
     let lines = lines-set g.rows g.row v (here g d) ∙ update-same (lines_of g.rows) g.row (cell_at v.cells) refl in
     let flags = wraps-set g.rows g.row v (here g d) ∙ ap (update (wraps_of g.rows) g.row) (full-row g d) in
-    (λ i. record (term_of g x) { cell = lines i; wrapped = flags i; col = 0; row = g.row + 1 })
-    ∙ sym (down-stays (size_of g) (record (term_of g x) {
+    (λ i. record (term_of_grid g x) { cell = lines i; wrapped = flags i; col = 0; row = g.row + 1 })
+    ∙ sym (down-stays (grid_size g) (record (term_of_grid g x) {
       wrapped = update (wraps_of g.rows) g.row (is_full g);
       col = 0;
     }) l)
@@ -316,7 +316,7 @@ wraps-fed g d =
     wraps-up g.rows g.width ∙ ap (λ n r. nat_lt (r + 1) n && wraps_of g.rows (r + 1)) (d.sheet.count d.some)
 
 term-last : (g : GridView) (x : Extras) → IsDrawable g → 0 < g.row → g.row + 1 ≡ g.height
-    → term_of (gone_up g) x ≡ wrap (size_of g) (term_of g x)
+    → term_of_grid (gone_up g) x ≡ wrap (grid_size g) (term_of_grid g x)
 unfolding wrap
 term-last g x d h e =
     let v = with_wrap (row_of_cursor g) true in
@@ -333,21 +333,21 @@ term-last g x d h e =
     ∙ ap (update (wraps_of rows) (g.row - 1)) (full-row g d)
     ∙ ap (λ w. update w (g.row - 1) (is_full g)) (wraps-fed g d)
     ∙ fun_ext (λ r. flags-up (wraps_of g.rows) g.row g.height (is_full g) r h e) in
-    (λ i. record (term_of g x) { cell = lines i; wrapped = flags i; col = 0 })
-    ∙ sym (down-up (size_of g) (record (term_of g x) {
+    (λ i. record (term_of_grid g x) { cell = lines i; wrapped = flags i; col = 0 })
+    ∙ sym (down-up (grid_size g) (record (term_of_grid g x) {
       wrapped = update (wraps_of g.rows) g.row (is_full g);
       col = 0;
     }) (omega arith))
 
 term-only : (g : GridView) (x : Extras) → IsDrawable g → g.row ≡ 0 → g.row + 1 ≡ g.height
-    → term_of (record g { col = 0; rows = fed_rows g 1 }) x ≡ wrap (size_of g) (term_of g x)
+    → term_of_grid (record g { col = 0; rows = fed_rows g 1 }) x ≡ wrap (grid_size g) (term_of_grid g x)
 unfolding wrap
 term-only g x d z e =
     let lines = lines-fed g d in
     let flags =
     wraps-fed g d ∙ fun_ext (λ r. flags-first (wraps_of g.rows) g.row g.height (is_full g) r z) in
-    (λ i. record (term_of g x) { cell = lines i; wrapped = flags i; col = 0 })
-    ∙ sym (down-up (size_of g) (record (term_of g x) {
+    (λ i. record (term_of_grid g x) { cell = lines i; wrapped = flags i; col = 0 })
+    ∙ sym (down-up (grid_size g) (record (term_of_grid g x) {
       wrapped = update (wraps_of g.rows) g.row (is_full g);
       col = 0;
     }) (omega arith))
@@ -373,8 +373,8 @@ IsSheet-fed g d = IsSheet-moved_up g.height g.width g.rows 0 (length g.rows) 1 d
 
 -- a grid that shows what `t` shows, is as large as g, and can be drawn on
 pub record IsNext (g : GridView) (x : Extras) (t : Term) (h : GridView) : Type 0 where
-  pub shows : term_of h x ≡ t
-  pub size : size_of h ≡ size_of g
+  pub shows : term_of_grid h x ≡ t
+  pub size : grid_size h ≡ grid_size g
   pub drawable : IsDrawable h
 
 IsNext-kept : (g h h' : GridView) (x : Extras) (t : Term) → record h { kept = g.kept } ≡ h' → IsNext g x t h'
@@ -396,14 +396,14 @@ IsNext-kept g h h' x t e n =
     }
 
 IsNext-wrapped : (g : GridView) (x : Extras) → IsDrawable g
-    → IsNext g x (wrap (size_of g) (term_of g x)) (wrapped_on g true).grid
+    → IsNext g x (wrap (grid_size g) (term_of_grid g x)) (wrapped_on g true).grid
 IsNext-wrapped g x d =
     let rows = d.sheet.count d.some in
     let v = with_wrap (row_of_cursor g) true in
     let count = length-rows_by_position (length g.rows) (moved_up g.rows 0 (length g.rows) 1 g.width) in
     ⊎_elim
     (λ (l : g.row + 1 < g.height).
-    IsNext-kept g (wrapped_on g true).grid (gone_on g) x (wrap (size_of g) (term_of g x))
+    IsNext-kept g (wrapped_on g true).grid (gone_on g) x (wrap (grid_size g) (term_of_grid g x))
     (wrapped-is g 0 (g.row + 1) d (omega (arith, d.bottom)) (omega (arith, d.bottom)) ∙ flagged-middle g d l)
     (record {
       shows = term-middle g x d l;
@@ -418,7 +418,7 @@ IsNext-wrapped g x d =
     let is = wrapped-is g 1 g.row d (omega (arith, d.bottom, d.top, d.few_rows)) (omega (arith, d.bottom)) in
     ⊎_elim
     (λ (h : 0 < g.row).
-    IsNext-kept g (wrapped_on g true).grid (gone_up g) x (wrap (size_of g) (term_of g x))
+    IsNext-kept g (wrapped_on g true).grid (gone_up g) x (wrap (grid_size g) (term_of_grid g x))
     (is ∙ flagged-last g d h e)
     (record {
       shows = term-last g x d h e;
@@ -430,7 +430,7 @@ IsNext-wrapped g x d =
     }))
     (λ (z : g.row ≤ 0).
     IsNext-kept g (wrapped_on g true).grid (record g { col = 0; rows = fed_rows g 1 }) x
-    (wrap (size_of g) (term_of g x)) (is ∙ flagged-only g d (omega arith) e)
+    (wrap (grid_size g) (term_of_grid g x)) (is ∙ flagged-only g d (omega arith) e)
     (record {
       shows = term-only g x d (omega arith) e;
       size = refl;
@@ -440,10 +440,10 @@ IsNext-wrapped g x d =
     (cases_lt (g.row + 1) g.height)
 
 pub IsNext-made : (g : GridView) (x : Extras) (n : ℕ) → IsDrawable g
-    → IsNext g x (fitted (size_of g) n (term_of g x)) (made_to_fit g n true).grid
+    → IsNext g x (fitted (grid_size g) n (term_of_grid g x)) (made_to_fit g n true).grid
 unfolding fitted
 IsNext-made g x n d =
-    (elim (nat_le (g.col + n) g.width) as (λ b. IsNext g x (cond b (term_of g x) (wrap (size_of g) (term_of g x)))
+    (elim (nat_le (g.col + n) g.width) as (λ b. IsNext g x (cond b (term_of_grid g x) (wrap (grid_size g) (term_of_grid g x)))
     (cond b (let s : Scrolled = record { grid = g; sunk = [] } in s) (wrapped_on g true)).grid) [
       | true ↦ record { shows = refl; size = refl; drawable = d }
       | false ↦ IsNext-wrapped g x d
@@ -452,21 +452,21 @@ IsNext-made g x n d =
 -- ---- a character of one or two columns
 
 pub spaced-is : (g : GridView) (x : Extras) (c : ℕ) → IsDrawable g → 0 < columns_of c → columns_of c ≤ g.width
-    → term_of (spaced g c x.attrs).grid x
-    ≡ print (size_of g) (cell_of c x.attrs) (fitted (size_of g) (columns_of c) (term_of g x))
+    → term_of_grid (spaced g c x.attrs).grid x
+    ≡ print (grid_size g) (cell_of c x.attrs) (fitted (grid_size g) (columns_of c) (term_of_grid g x))
 spaced-is g x c d some h =
     let y = cell_of c x.attrs in
     let n = columns_of c in
     let s = (made_to_fit g n true).grid in
     let next = IsNext-made g x n d in
     print-is s x y n next.drawable (span_of-cell c n x.attrs refl some) (IsMade-made g n true h).fits
-    ∙ ap (λ z. print z y (term_of s x)) next.size ∙ ap (print (size_of g) y) next.shows
+    ∙ ap (λ z. print z y (term_of_grid s x)) next.size ∙ ap (print (grid_size g) y) next.shows
 
 -- ---- a character of none
 
 pub joined-plain : (g : GridView) (c : ℕ) (a : Attrs) → is_widening (row_of_cursor g) g.col c ≡ false
     → (joined g c a).grid ≡ with_cursor_row g (joined_row (row_of_cursor g) g.col c)
-joined-plain g c a e = ap (λ (s : Drawn). s.grid)
+joined-plain g c a e = ap (λ (s : PrintedGrid). s.grid)
     (cond-true (not (is_widening (row_of_cursor g) g.col c)) _ _ (ap not e))
 
 not-more : (p w : Bool) → ((p || w) && not p) ≡ false → (p || w) ≡ p
@@ -494,7 +494,7 @@ appended-narrow y c =
     ])
 
 pub joined-is : (g : GridView) (x : Extras) (c : ℕ) → IsDrawable g → 0 < g.col
-    → is_widening (row_of_cursor g) g.col c ≡ false → term_of (joined g c x.attrs).grid x ≡ join c (term_of g x)
+    → is_widening (row_of_cursor g) g.col c ≡ false → term_of_grid (joined g c x.attrs).grid x ≡ join c (term_of_grid g x)
 unfolding join update
 joined-is g x c d h e =
     let v = row_of_cursor g in
@@ -505,10 +505,10 @@ joined-is g x c d h e =
     let line = cell_at-whole n (changed f i (appended (f i) c))
     (Bounded-update n f i (appended (f i) c) (Bounded-row v.cells)
     (base_col-within f n g.col h (omega (arith, r.wide, d.col)))) in
-    ap (λ (s : GridView). term_of s x) (joined-plain g c x.attrs e)
+    ap (λ (s : GridView). term_of_grid s x) (joined-plain g c x.attrs e)
     ∙ with_line-is g x (joined_row v g.col c) true (here g d) (sym (both-true v.wrapped))
-    ∙ ap (λ l. with_line (term_of g x) l true) line
-    ∙ ap (λ y. with_line (term_of g x) (update f i y) true) (appended-narrow (f i) c e)
+    ∙ ap (λ l. with_line (term_of_grid g x) l true) line
+    ∙ ap (λ y. with_line (term_of_grid g x) (update f i y) true) (appended-narrow (f i) c e)
 
 -- ---- one character
 
@@ -553,21 +553,21 @@ IsDrawable-plain g p = record {
 pub printing-is : EachPrintIsInput
 printing-is g x c p narrow =
     let d = IsDrawable-plain g p in
-    let z = size_of g in
-    let t = term_of g x in
+    let z = grid_size g in
+    let t = term_of_grid g x in
     ⊎_elim
     (λ (e : is_dropped g.width g.col c ≡ true).
-    ap (λ (s : Drawn). term_of s.grid x) (printed-dropped g c x.attrs e) ∙ sym (input-dropped z c t e))
+    ap (λ (s : PrintedGrid). term_of_grid s.grid x) (printed-dropped g c x.attrs e) ∙ sym (input-dropped z c t e))
     (λ (e : is_dropped g.width g.col c ≡ false).
     let here = IsDrawn-here g c (columns_of c) e refl in
     ⊎_elim
     (λ (h : 0 < columns_of c).
-    ap (λ (s : Drawn). term_of s.grid x) (printed-spaced g c x.attrs e h) ∙ spaced-is g x c d h here.fits
+    ap (λ (s : PrintedGrid). term_of_grid s.grid x) (printed-spaced g c x.attrs e h) ∙ spaced-is g x c d h here.fits
     ∙ sym (input-spaced z c t e h))
     (λ (h : columns_of c ≤ 0).
     let k : columns_of c ≡ 0 = omega (arith, h) in
     let after = here.after k in
-    ap (λ (s : Drawn). term_of s.grid x) (printed-joined g c x.attrs e k)
+    ap (λ (s : PrintedGrid). term_of_grid s.grid x) (printed-joined g c x.attrs e k)
     ∙ joined-is g x c d after (narrow-here g c k after narrow)
     ∙ sym (input-joined z c t e k))
     (cases_lt 0 (columns_of c)))

@@ -18,9 +18,9 @@ use Rattle.terminal_model.specs.Apply.{is_dropped, input, inputs, apply}
 use Rattle.vt100_rows.specs.Sheet.{row_at, IsRowOf}
 use Rattle.vt100_rows.proofs.SheetLemmas.{IsSheet-with_row}
 use Rattle.vt100_core.specs.Grid.{GridView, row_of_cursor, with_cursor_row}
-use Rattle.vt100_core.specs.Picture.{size_of, Extras, term_of, EachTextIsInput}
+use Rattle.vt100_core.specs.Picture.{grid_size, Extras, term_of_grid, EachTextIsInput}
 use Rattle.vt100_core.specs.Scroll.{made_to_fit}
-use Rattle.vt100_core.specs.Text.{Drawn, put_at, printed, printed_all}
+use Rattle.vt100_core.specs.Text.{PrintedGrid, put_at, printed, printed_all}
 use Rattle.vt100_core.proofs.TextLemmas.{printed-dropped, printed-joined, printed-spaced, IsDrawn-here}
 use Rattle.vt100_core.proofs.TextLemmas.{span_of-cell, IsMade-made, or-false}
 use Rattle.vt100_core.proofs.InputLemmas.{IsDrawable, IsDrawable-col, IsDrawable-plain, IsNext, IsNext-made, here}
@@ -79,15 +79,15 @@ IsDrawable-put g x a n d cell text e l =
     l
 
 IsNext-printed : (g : GridView) (x : Extras) (c : ℕ) → IsDrawable g → IsScalar c → (c ≡ 0xFE0F → ⊥)
-    → IsNext g x (input (size_of g) c (term_of g x)) (printed g c x.attrs).grid
+    → IsNext g x (input (grid_size g) c (term_of_grid g x)) (printed g c x.attrs).grid
 IsNext-printed g x c d scalar plain =
-    let z = size_of g in
-    let t = term_of g x in
+    let z = grid_size g in
+    let t = term_of_grid g x in
     let a = x.attrs in
     let n = columns_of c in
     ⊎_elim
     (λ (e : is_dropped g.width g.col c ≡ true).
-    subst (IsNext g x (input z c t)) (sym (ap (λ (s : Drawn). s.grid) (printed-dropped g c a e)))
+    subst (IsNext g x (input z c t)) (sym (ap (λ (s : PrintedGrid). s.grid) (printed-dropped g c a e)))
     (record { shows = sym (input-dropped z c t e); size = refl; drawable = d }))
     (λ (e : is_dropped g.width g.col c ≡ false).
     let drawn = IsDrawn-here g c n e refl in
@@ -95,7 +95,7 @@ IsNext-printed g x c d scalar plain =
     (λ (h : 0 < n).
     let next = IsNext-made g x n d in
     let visible = (or-false _ _ e).0 in
-    subst (IsNext g x (input z c t)) (sym (ap (λ (s : Drawn). s.grid) (printed-spaced g c a e h)))
+    subst (IsNext g x (input z c t)) (sym (ap (λ (s : PrintedGrid). s.grid) (printed-spaced g c a e h)))
     (record {
       shows = spaced-is g x c d h drawn.fits ∙ sym (input-spaced z c t e h);
       size = next.size;
@@ -109,9 +109,9 @@ IsNext-printed g x c d scalar plain =
     let r = cursor_row g d in
     let narrow = narrow-plain v g.col c plain in
     subst (IsNext g x (input z c t))
-    (sym (ap (λ (s : Drawn). s.grid) (printed-joined g c a e k) ∙ joined-plain g c a narrow))
+    (sym (ap (λ (s : PrintedGrid). s.grid) (printed-joined g c a e k) ∙ joined-plain g c a narrow))
     (record {
-      shows = ap (λ (s : GridView). term_of s x) (sym (joined-plain g c a narrow)) ∙ joined-is g x c d after narrow
+      shows = ap (λ (s : GridView). term_of_grid s x) (sym (joined-plain g c a narrow)) ∙ joined-is g x c d after narrow
           ∙ sym (input-joined z c t e k);
       size = refl;
       drawable = IsDrawable-row g (joined_row v g.col c) d
@@ -126,14 +126,14 @@ IsNext-printed g x c d scalar plain =
     (cases_Bool (is_dropped g.width g.col c))
 
 all-input : (cs : List ℕ) (g : GridView) (x : Extras) → IsDrawable g → All IsScalar cs → (Contains cs 0xFE0F → ⊥)
-    → term_of (printed_all g cs x.attrs).grid x ≡ inputs (size_of g) cs (term_of g x)
+    → term_of_grid (printed_all g cs x.attrs).grid x ≡ inputs (grid_size g) cs (term_of_grid g x)
 all-input [] g x d scalars plain = refl
 all-input (c ∷ cs) g x d scalars plain =
     let next = IsNext-printed g x c d (scalars 0 c (omega arith)) (λ e. plain (0, omega arith, e)) in
     let after = (printed g c x.attrs).grid in
     all-input cs after x next.drawable (λ k b l. scalars (suc k) b (omega arith))
     (λ q. plain (suc q.0, (let l = q.1 in omega arith), q.2))
-    ∙ ap (λ z. inputs z cs (term_of after x)) next.size ∙ ap (inputs (size_of g) cs) next.shows
+    ∙ ap (λ z. inputs z cs (term_of_grid after x)) next.size ∙ ap (inputs (grid_size g) cs) next.shows
 
 pub text-is_input : EachTextIsInput
 unfolding apply

@@ -12,7 +12,7 @@ use Rattle.vt100_rows.proofs.JoinLemmas.{IsCell-joined, widened-is}
 use Rattle.vt100_core.specs.declared.printed.Printed.TheVariants.{Nothing, Joined}
 use Rattle.vt100_core.specs.Grid.{GridView, IsGrid, IsAllocated, with_cursor_row, row_of_cursor}
 use Rattle.vt100_core.specs.Scroll.{made_to_fit}
-use Rattle.vt100_core.specs.Text.{Drawn, put_at, joined}
+use Rattle.vt100_core.specs.Text.{PrintedGrid, put_at, joined}
 use Rattle.vt100_core.proofs.EraseLemmas.{cursor_row_of}
 use Rattle.vt100_core.proofs.TextLemmas.{answer-InPlace, answer-Ignored, answer-Widened, answer-Carried, in-place}
 use Rattle.vt100_core.proofs.TextLemmas.{ignored, widens, carries, carried-is, two-columns}
@@ -83,7 +83,7 @@ module _ (g : GridView) (c : ℕ) (a : Attrs) (h : GridView) (i : IsGrid g) (l :
         text = ap (λ (y : CellView). has_text y) is.3 ∙ wide.1;
         valid = λ s z. subst (λ (y : CellView). IsCell y) (sym is.3)
             (IsCell-with_attrs (joined_cell v g.col c) a (IsCell-joined v g.col c row.row s z));
-        grid = on.0 ∙ sym (ap (λ (y : Drawn). y.grid) all.1);
-        sunk = on.1 ∙ sym (ap (λ (y : Drawn). y.sunk) all.1);
-        printed = sym (ap (λ (y : Drawn). y.printed) all.1);
+        grid = on.0 ∙ sym (ap (λ (y : PrintedGrid). y.grid) all.1);
+        sunk = on.1 ∙ sym (ap (λ (y : PrintedGrid). y.sunk) all.1);
+        printed = sym (ap (λ (y : PrintedGrid). y.printed) all.1);
       }

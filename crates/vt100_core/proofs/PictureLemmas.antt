@@ -14,7 +14,7 @@ use Rattle.vt100_rows.specs.Picture.{lines_of, wraps_of}
 use Rattle.vt100_rows.proofs.SheetLemmas.{rows_equal, row_at-by_position, length-rows_by_position}
 use Rattle.vt100_rows.proofs.PictureLemmas.{lines-past, wraps-past}
 use Rattle.vt100_core.specs.Grid.{GridView, IsGrid, IsAllocated, visible_at, visible}
-use Rattle.vt100_core.specs.Picture.{size_of, shown_lines, shown_wraps, Extras, term_of}
+use Rattle.vt100_core.specs.Picture.{grid_size, visible_lines, visible_wraps, Extras, term_of_grid}
 
 -- ---- where no kept row is shown
 
@@ -55,7 +55,7 @@ wraps-filled height width rows r h w =
     (λ (l : length rows ≤ r). absurd (false≢true (sym (wraps-past rows r l) ∙ w)))
     (cases_lt r (length rows))
 
-pub IsTerm-grid : (g : GridView) (x : Extras) → IsGrid g → IsAllocated g → IsTerm (size_of g) (term_of g x)
+pub IsTerm-grid : (g : GridView) (x : Extras) → IsGrid g → IsAllocated g → IsTerm (grid_size g) (term_of_grid g x)
 IsTerm-grid g x h some =
     let count = h.sheet.count some in
     record {
@@ -74,7 +74,7 @@ IsTerm-grid g x h some =
     }
 
 shown_line-drawn : (g : GridView) (r k : ℕ) → IsGrid g → IsAllocated g → g.kept.offset ≡ 0
-    → shown_lines g r k ≡ lines_of g.rows r k
+    → visible_lines g r k ≡ lines_of g.rows r k
 shown_line-drawn g r k h some e =
     let count = h.sheet.count some in
     ⊎_elim
@@ -92,15 +92,15 @@ shown_line-drawn g r k h some e =
     (cases_lt r g.height)
 
 -- at offset 0 a grid shows its rows
-pub shown_lines-drawn : (g : GridView) → IsGrid g → IsAllocated g → g.kept.offset ≡ 0 → shown_lines g ≡ lines_of g.rows
+pub shown_lines-drawn : (g : GridView) → IsGrid g → IsAllocated g → g.kept.offset ≡ 0 → visible_lines g ≡ lines_of g.rows
 shown_lines-drawn g h some e = fun_ext (λ r. fun_ext (λ k. shown_line-drawn g r k h some e))
 
 shown_wrap-drawn : (g : GridView) (r : ℕ) → IsGrid g → IsAllocated g → g.kept.offset ≡ 0
-    → shown_wraps g r ≡ wraps_of g.rows r
+    → visible_wraps g r ≡ wraps_of g.rows r
 shown_wrap-drawn g r h some e =
     let count = h.sheet.count some in
     ⊎_elim (λ (l : r < g.height). rw (lt-ltb r g.height l) (ap (λ (v : RowView). v.wrapped) (visible_at-drawn g r e)))
     (λ (l : g.height ≤ r). rw (le-ltb r g.height l) (sym (wraps-past g.rows r (omega arith)))) (cases_lt r g.height)
 
-pub shown_wraps-drawn : (g : GridView) → IsGrid g → IsAllocated g → g.kept.offset ≡ 0 → shown_wraps g ≡ wraps_of g.rows
+pub shown_wraps-drawn : (g : GridView) → IsGrid g → IsAllocated g → g.kept.offset ≡ 0 → visible_wraps g ≡ wraps_of g.rows
 shown_wraps-drawn g h some e = fun_ext (λ r. shown_wrap-drawn g r h some e)

@@ -21,7 +21,7 @@ use Rattle.row_drawing.specs.declared.pen.Pen.{Pen}
 use Rattle.row_drawing.specs.Writer.{Drawn, Writer, ◌>>◌, skip}
 use Rattle.row_drawing.specs.RowWriter.{row_redraw, row_difference}
 use Rattle.screen_drawing.specs.Cursor as cursor
-use Rattle.screen_drawing.specs.Cursor.{place, is_at, arriving, last_cell, row_with_end, wait}
+use Rattle.screen_drawing.specs.Cursor.{place, is_pen_at, arriving, end_cell, row_with_end, wait}
 use Rattle.screen_drawing.specs.Cursor.{wait_behind, wait_on_empty}
 use Rattle.screen_drawing.specs.Rows.{pen_at, afresh, is_continued, next_redraw, rows_redraw, next_difference}
 use Rattle.screen_drawing.specs.Rows.{rows_difference}
@@ -34,10 +34,10 @@ use Rattle.vt100_rows.specs.Picture.{lines_of, wraps_of}
 use Rattle.vt100_rows.proofs.PictureLemmas.{lines-past}
 use Rattle.vt100_core.specs.Grid.{GridView, IsGrid, visible_at}
 use Rattle.vt100_core.specs.Contents.{is_below_wrapped}
-use Rattle.vt100_core.specs.Picture.{size_of, Extras}
+use Rattle.vt100_core.specs.Picture.{grid_size, Extras}
 use Rattle.vt100_core.specs.Writers.{drawn_on, line_redraw, lines_redraw, line_difference}
 use Rattle.vt100_core.specs.Writers.{lines_difference, redrawn, contents_formatted, differing}
-use Rattle.vt100_core.specs.WriterLaws.{IsUnscrolled, picture_of, EachCursorIsOfPicture}
+use Rattle.vt100_core.specs.WriterLaws.{IsUnscrolledGrid, picture_of, EachCursorIsOfPicture}
 use Rattle.vt100_core.specs.WriterLaws.{EachRedrawIsOfPicture, EachDifferenceIsOfPictures, EachGridIsDrawable}
 use Rattle.vt100_core.specs.WriterLaws.{EachRedrawIsDrawn, EachDifferenceIsDrawn, EachCursorIsDrawn}
 use Rattle.vt100_core.proofs.ContentsLemmas.{below-next}
@@ -46,25 +46,25 @@ use Rattle.vt100_core.proofs.PictureLemmas.{visible_at-drawn, IsTerm-grid}
 -- ---- the cursor
 
 end-same : (g : GridView) (x : Extras) (r : ℕ)
-    → row_with_end (size_of g) (drawn_on g) r ≡ row_with_end (size_of g) (picture_of g x) r
+    → row_with_end (grid_size g) (drawn_on g) r ≡ row_with_end (grid_size g) (picture_of g x) r
 end-same g x zero = refl
 end-same g x (suc r) =
-    ap (λ (e : Option ℕ). cond (has_text (last_cell (size_of g) (drawn_on g) (suc r))) (Some (suc r)) e) (end-same g
+    ap (λ (e : Option ℕ). cond (has_text (end_cell (grid_size g) (drawn_on g) (suc r))) (Some (suc r)) e) (end-same g
     x r)
 
 wait-same : (g : GridView) (x : Extras) (p : Option Pos) (a : Attrs) (e : Option ℕ)
-    → wait (size_of g) (drawn_on g) p a e ≡ wait (size_of g) (picture_of g x) p a e
+    → wait (grid_size g) (drawn_on g) p a e ≡ wait (grid_size g) (picture_of g x) p a e
 unfolding wait wait_behind
 wait-same g x p a None = refl
 wait-same g x p a (Some r) = refl
 
 cursor-same : (g : GridView) (x : Extras) (p : Option Pos) (a : Attrs)
-    → cursor.cursor_position_formatted (size_of g) (drawn_on g) p a
-    ≡ cursor.cursor_position_formatted (size_of g) (picture_of g x) p a
+    → cursor.cursor_position_formatted (grid_size g) (drawn_on g) p a
+    ≡ cursor.cursor_position_formatted (grid_size g) (picture_of g x) p a
 unfolding cursor.cursor_position_formatted
 cursor-same g x p a =
-    let z = size_of g in
-    let there = is_at p (place g.row g.col) in
+    let z = grid_size g in
+    let there = is_pen_at p (place g.row g.col) in
     ap (λ (fs : List Form). cond (nat_lt g.col g.width) (arriving p (place g.row g.col)) (cond there [] fs))
     (wait-same g x p a (row_with_end z (drawn_on g) g.row)
     ∙ ap (wait z (picture_of g x) p a) (end-same g x g.row))
@@ -72,8 +72,8 @@ cursor-same g x p a =
 pub cursor-of_picture : EachCursorIsOfPicture
 cursor-of_picture g x p a = cursor-same g x p (unwrap_or a default_attrs)
 
-placed-same : (g : GridView) (x : Extras) → cursor_placed (size_of g) (drawn_on g)
-    ≡ cursor_placed (size_of g) (picture_of g x)
+placed-same : (g : GridView) (x : Extras) → cursor_placed (grid_size g) (drawn_on g)
+    ≡ cursor_placed (grid_size g) (picture_of g x)
 unfolding cursor_placed
 placed-same g x = fun_ext (λ (p : Pen). ap (λ (fs : List Form). record {
   pen = record p { pos = record { row = g.row; col = g.col } };
@@ -111,8 +111,8 @@ redraw-is v n i above was p some wide h =
     ∙ ap (λ k. row_redraw (record (redraw_job v 0 i above) { old = λ k. default_cell; cols = k }) n p) wide
     ∙ ap (λ b. row_redraw (record (redraw_job v 0 i b) { old = λ k. default_cell; cols = n }) n p) h
 
-line-redraw_is : (g : GridView) (x : Extras) (i : ℕ) → IsUnscrolled g → i < g.height
-    → line_redraw g i ≡ next_redraw (size_of g) (picture_of g x) i
+line-redraw_is : (g : GridView) (x : Extras) (i : ℕ) → IsUnscrolledGrid g → i < g.height
+    → line_redraw g i ≡ next_redraw (grid_size g) (picture_of g x) i
 unfolding line_redraw next_redraw
 line-redraw_is g x i h l =
     let count = h.grid.sheet.count h.some in
@@ -145,9 +145,9 @@ difference-is v w n i above above' was was' p some wide other h k =
     ∙ ap (λ b. row_difference (record (difference_job v w 0 i b was) { cols = n }) n p) h
     ∙ ap (λ b. row_difference (record (difference_job v w 0 i above' b) { cols = n }) n p) k
 
-line-difference_is : (g old : GridView) (x y : Extras) (i : ℕ) → IsUnscrolled g → IsUnscrolled old
-    → size_of old ≡ size_of g → i < g.height
-    → line_difference g old i ≡ next_difference (size_of g) (picture_of old y) (picture_of g x) i
+line-difference_is : (g old : GridView) (x y : Extras) (i : ℕ) → IsUnscrolledGrid g → IsUnscrolledGrid old
+    → grid_size old ≡ grid_size g → i < g.height
+    → line_difference g old i ≡ next_difference (grid_size g) (picture_of old y) (picture_of g x) i
 unfolding line_difference next_difference
 line-difference_is g old x y i h o e l =
     let count = h.grid.sheet.count h.some in
@@ -171,23 +171,23 @@ line-difference_is g old x y i h o e l =
 both : (f g h k : Writer) → f ≡ g → h ≡ k → (f >> h) ≡ (g >> k)
 both f g h k e d = ap (λ (w : Writer). w >> h) e ∙ ap (λ (w : Writer). g >> w) d
 
-lines-redraw_is : (g : GridView) (x : Extras) (n : ℕ) → IsUnscrolled g → n ≤ g.height
-    → lines_redraw g n ≡ rows_redraw (size_of g) (picture_of g x) n
+lines-redraw_is : (g : GridView) (x : Extras) (n : ℕ) → IsUnscrolledGrid g → n ≤ g.height
+    → lines_redraw g n ≡ rows_redraw (grid_size g) (picture_of g x) n
 unfolding lines_redraw rows_redraw
 lines-redraw_is g x zero h l = refl
 lines-redraw_is g x (suc n) h l =
-    both (lines_redraw g n) (rows_redraw (size_of g) (picture_of g x) n) (line_redraw g n)
-    (next_redraw (size_of g) (picture_of g x) n) (lines-redraw_is g x n h (omega (arith, l)))
+    both (lines_redraw g n) (rows_redraw (grid_size g) (picture_of g x) n) (line_redraw g n)
+    (next_redraw (grid_size g) (picture_of g x) n) (lines-redraw_is g x n h (omega (arith, l)))
     (line-redraw_is g x n h (omega (arith, l)))
 
-lines-difference_is : (g old : GridView) (x y : Extras) (n : ℕ) → IsUnscrolled g → IsUnscrolled old
-    → size_of old ≡ size_of g → n ≤ g.height
-    → lines_difference g old n ≡ rows_difference (size_of g) (picture_of old y) (picture_of g x) n
+lines-difference_is : (g old : GridView) (x y : Extras) (n : ℕ) → IsUnscrolledGrid g → IsUnscrolledGrid old
+    → grid_size old ≡ grid_size g → n ≤ g.height
+    → lines_difference g old n ≡ rows_difference (grid_size g) (picture_of old y) (picture_of g x) n
 unfolding lines_difference rows_difference
 lines-difference_is g old x y zero h o e l = refl
 lines-difference_is g old x y (suc n) h o e l =
-    both (lines_difference g old n) (rows_difference (size_of g) (picture_of old y) (picture_of g x) n)
-    (line_difference g old n) (next_difference (size_of g) (picture_of old y) (picture_of g x) n)
+    both (lines_difference g old n) (rows_difference (grid_size g) (picture_of old y) (picture_of g x) n)
+    (line_difference g old n) (next_difference (grid_size g) (picture_of old y) (picture_of g x) n)
     (lines-difference_is g old x y n h o e (omega (arith, l)))
     (line-difference_is g old x y n h o e (omega (arith, l)))
 
@@ -198,11 +198,11 @@ unfolding redrawn grid_redraw
 redrawn-of_picture g x h =
     let count = h.grid.sheet.count h.some in
     let p = pen_at 0 0 default_attrs in
-    let placed = cursor_placed (size_of g) (drawn_on g) in
+    let placed = cursor_placed (grid_size g) (drawn_on g) in
     ap (λ n. (lines_redraw g n >> placed) p) count
     ∙ ap (λ (w : Writer). w p)
-    (both (lines_redraw g g.height) (rows_redraw (size_of g) (picture_of g x) g.height) placed
-    (cursor_placed (size_of g) (picture_of g x)) (lines-redraw_is g x g.height h (omega arith)) (placed-same g x))
+    (both (lines_redraw g g.height) (rows_redraw (grid_size g) (picture_of g x) g.height) placed
+    (cursor_placed (grid_size g) (picture_of g x)) (lines-redraw_is g x g.height h (omega arith)) (placed-same g x))
 
 pub differing-of_pictures : EachDifferenceIsOfPictures
 unfolding differing grid_difference
@@ -212,16 +212,16 @@ differing-of_pictures g old x y h o e =
     let height = ap (λ (z : Size). z.rows) e in
     let all : min (length g.rows) (length old.rows) ≡ g.height = omega (arith, count, others, height) in
     let p = pen_at old.row old.col y.attrs in
-    let placed = cursor_placed (size_of g) (drawn_on g) in
+    let placed = cursor_placed (grid_size g) (drawn_on g) in
     ap (λ n. (lines_difference g old n >> placed) p) all
     ∙ ap (λ (w : Writer). w p)
-    (both (lines_difference g old g.height) (rows_difference (size_of g) (picture_of old y) (picture_of g x) g.height)
-    placed (cursor_placed (size_of g) (picture_of g x)) (lines-difference_is g old x y g.height h o e (omega arith))
+    (both (lines_difference g old g.height) (rows_difference (grid_size g) (picture_of old y) (picture_of g x) g.height)
+    placed (cursor_placed (grid_size g) (picture_of g x)) (lines-difference_is g old x y g.height h o e (omega arith))
     (placed-same g x))
 
 -- ---- where they lead
 
-pub shown-grid : (g : GridView) (x : Extras) → IsUnscrolled g → IsShown (size_of g) (picture_of g x)
+pub shown-grid : (g : GridView) (x : Extras) → IsUnscrolledGrid g → IsShown (grid_size g) (picture_of g x)
 shown-grid g x h =
     let t = IsTerm-grid g x h.grid h.some in
     record {
@@ -264,14 +264,14 @@ plain_extras = record {
   style = blank_shown.style;
 }
 
-pub contents-is : (g : GridView) → redrawn g ≡ grid_redraw (size_of g) (drawn_on g)
-    → contents_formatted g ≡ grid_contents_formatted (size_of g) (drawn_on g)
+pub contents-is : (g : GridView) → redrawn g ≡ grid_redraw (grid_size g) (drawn_on g)
+    → contents_formatted g ≡ grid_contents_formatted (grid_size g) (drawn_on g)
 unfolding grid_contents_formatted
 contents-is g e = ap (λ (d : Drawn). ClearAttrs ∷ ClearScreen ∷ d.forms) e
 
 pub redrawn-leads : EachRedrawIsDrawn
 redrawn-leads g from h =
-    let z = size_of g in
+    let z = grid_size g in
     let s = drawn_on g in
     let same : redrawn g ≡ grid_redraw z s = redrawn-of_picture g plain_extras h.shown in
     let lead = grid-redraw_leads z s from (grid-drawable g plain_extras h) in
@@ -281,7 +281,7 @@ redrawn-leads g from h =
 
 pub differing-leads : EachDifferenceIsDrawn
 differing-leads g old y h o e proper =
-    let z = size_of g in
+    let z = grid_size g in
     let s = drawn_on g in
     let was = picture_of old y in
     let same : differing g old y.attrs ≡ grid_difference z was s =
@@ -292,7 +292,7 @@ differing-leads g old y h o e proper =
 
 pub cursor-leads : EachCursorIsDrawn
 cursor-leads g from p a h cells flags there attrs proper =
-    let z = size_of g in
+    let z = grid_size g in
     let s = drawn_on g in
     subst (λ b. Leads z (cursor.cursor_position_formatted z s p b) from (record from { row = g.row; col = g.col }))
     attrs (cursor-placed z s from p (grid-drawable g plain_extras h) proper cells flags there)

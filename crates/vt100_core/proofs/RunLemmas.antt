@@ -1,4 +1,4 @@
--- Printing a run of printable ASCII characters.
+-- Printing a printed_run of printable ASCII characters.
 use Rattle.std.proofs.Common.{◌≡◌, ℕ, zero, ◌+◌, ◌<◌, ◌≤◌, ◌==◌, Bool, true, false, cond, ◌&&◌, ◌||◌, List, [], ◌∷◌}
 use Rattle.std.proofs.Common.{◌++◌, length, set, take, drop, sym, refl, ap, ◌∙◌, arith, nat_lt, nat_le, length-set}
 use Rattle.std.proofs.Common.{append-nil, append_assoc, add-zero, subst}
@@ -9,7 +9,7 @@ use Rattle.std.proofs.lemmas.List.{get_or-set_same, set-get_or, set-set, take-ap
 use Rattle.vt100_forms.specs.declared.attrs.Attrs.{Attrs}
 use Rattle.vt100_cells.specs.Cell.{IsPrintable, columns_of, is_undrawable, cell_of}
 use Rattle.vt100_cells.specs.Cells.{cell_at}
-use Rattle.vt100_cells.specs.Line.{run}
+use Rattle.vt100_cells.specs.Line.{printed_run}
 use Rattle.vt100_cells.proofs.WidthLemmas.{printable-is}
 use Rattle.vt100_cells.proofs.ListLemmas.{length-by_position}
 use Rattle.vt100_rows.specs.Row.{RowView, blank_row, placed, placed_each}
@@ -20,7 +20,7 @@ use Rattle.vt100_rows.proofs.SinkLemmas.{TakesAll-append}
 use Rattle.vt100_core.specs.declared.printed.Printed.TheVariants.{Spacing}
 use Rattle.vt100_core.specs.Grid.{GridView, IsGrid, IsAllocated, row_of_cursor, with_cursor_row}
 use Rattle.vt100_core.specs.Scroll.{Scrolled, wrapped_on, made_to_fit}
-use Rattle.vt100_core.specs.Text.{Drawn, put_at, printed, printed_all, TakesFront}
+use Rattle.vt100_core.specs.Text.{PrintedGrid, put_at, printed, printed_all, TakesFront}
 use Rattle.vt100_core.proofs.EraseLemmas.{IsGrid-cursor_row, cursor_row_of}
 use Rattle.vt100_core.proofs.TextLemmas.{IsGrid-col, printed-spaced}
 
@@ -35,7 +35,7 @@ not-dropped : (u : Bool) (k w col : ℕ) → u ≡ false → k ≡ 1 → 0 < w
 not-dropped u k w col eu ek h = grind (arith, nat_tests)
 
 -- n columns of a character that goes to the grid h
-abbrev pub drawn_at : Scrolled → ℕ → Attrs → ℕ → Drawn
+abbrev pub drawn_at : Scrolled → ℕ → Attrs → ℕ → PrintedGrid
 drawn_at s c a n = record { grid = put_at s.grid (cell_of c a) a n; sunk = s.sunk; printed = Spacing }
 
 pub printed-printable : (g : GridView) (c : ℕ) (a : Attrs) → IsPrintable c → 0 < g.width
@@ -52,7 +52,7 @@ pub made-here : (g : GridView) → g.col + 1 ≤ g.width → made_to_fit g 1 tru
 made-here g h = ap (λ b. cond b (let s : Scrolled = record { grid = g; sunk = [] } in s) (wrapped_on g true))
     (fits-true (g.col + 1) g.width h)
 
--- ---- a run in one row
+-- ---- a printed_run in one row
 
 with-first : (g : GridView) (x : ℕ) (xs : List ℕ) (a : Attrs) → g.row < length g.rows
     → run_at (put_at g (cell_of x a) a 1) xs a ≡ run_at g (x ∷ xs) a
@@ -71,7 +71,7 @@ run_at-none g a =
     λ i. record g { rows = r i; col = n i }
 
 -- what is printed after a first character
-abbrev pub after_first : Drawn → List ℕ → Attrs → Scrolled
+abbrev pub after_first : PrintedGrid → List ℕ → Attrs → Scrolled
 after_first d xs a = record { grid = (printed_all d.grid xs a).grid; sunk = d.sunk ++ (printed_all d.grid xs a).sunk }
 
 printed_all-here : (xs : List ℕ) (g : GridView) (a : Attrs) → All IsPrintable xs → g.col + length xs ≤ g.width
@@ -83,12 +83,12 @@ printed_all-here (x ∷ xs) g a p h l =
     let first = printed-printable g x a (p zero 0 (omega arith)) (omega arith)
     ∙ ap (λ (s : Scrolled). drawn_at s x a 1) (made-here g (omega arith)) in
     let count = length-set g.rows g.row (placed (row_of_cursor g) g.col (cell_of x a) a) in
-    ap (λ (d : Drawn). after_first d xs a) first
+    ap (λ (d : PrintedGrid). after_first d xs a) first
     ∙ ap (λ (o : Scrolled). let s : Scrolled = record { grid = o.grid; sunk = o.sunk }
     in s) (printed_all-here xs g1 a (All-drop IsPrintable 1 (x ∷ xs) p) (omega arith) (omega (arith, count)))
     ∙ ap (λ (k : GridView). let s : Scrolled = record { grid = k; sunk = [] } in s) (with-first g x xs a l)
 
--- the first row of a run: h is the grid once its first character fits
+-- the first row of a printed_run: h is the grid once its first character fits
 in-row : (g : GridView) (xs : List ℕ) (a : Attrs) (s : Scrolled) → 0 < length xs → All IsPrintable xs → 0 < g.width
     → made_to_fit g 1 true ≡ s → s.grid.col + length xs ≤ s.grid.width → s.grid.row < length s.grid.rows
     → printed_all g xs a ≡ record { grid = run_at s.grid xs a; sunk = s.sunk }
@@ -97,7 +97,7 @@ in-row g (x ∷ xs) a s some p w e h l =
     let g1 = put_at s.grid (cell_of x a) a 1 in
     let first = printed-printable g x a (p zero 0 (omega arith)) w ∙ ap (λ (t : Scrolled). drawn_at t x a 1) e in
     let count = length-set s.grid.rows s.grid.row (placed (row_of_cursor s.grid) s.grid.col (cell_of x a) a) in
-    ap (λ (d : Drawn). after_first d xs a) first
+    ap (λ (d : PrintedGrid). after_first d xs a) first
     ∙ ap (λ (o : Scrolled). let t : Scrolled = record { grid = o.grid; sunk = s.sunk ++ o.sunk }
     in t) (printed_all-here xs g1 a (All-drop IsPrintable 1 (x ∷ xs) p) (omega arith) (omega (arith, count)))
     ∙ (λ i. record { grid = with-first s.grid x xs a l i; sunk = append-nil s.sunk i })
@@ -123,7 +123,7 @@ pub first-sunk : (g : GridView) (xs : List ℕ) (a : Attrs) → 0 < length xs �
 first-sunk g [] a some p w = absurd (omega arith)
 first-sunk g (x ∷ xs) a some p w =
     sym (append-nil (printed g x a).sunk
-    ∙ ap (λ (d : Drawn). d.sunk) (printed-printable g x a (p zero 0 (omega arith)) w))
+    ∙ ap (λ (d : PrintedGrid). d.sunk) (printed-printable g x a (p zero 0 (omega arith)) w))
 
 -- ---- what is true of a grid stays true
 
@@ -134,7 +134,7 @@ wrapped-each xs v i width a r p h =
     record {
       row = IsRow-each xs v i a r.row p (omega (arith, r.wide));
       wide = sym (ap (λ (u : RowView). length u.cells) e)
-          ∙ length-by_position (length v.cells) (run (cell_at v.cells) i xs a) ∙ r.wide;
+          ∙ length-by_position (length v.cells) (printed_run (cell_at v.cells) i xs a) ∙ r.wide;
     }
 
 pub IsGrid-run_at : (g : GridView) (xs : List ℕ) (a : Attrs) → IsGrid g → IsAllocated g → All IsPrintable xs

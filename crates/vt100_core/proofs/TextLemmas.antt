@@ -24,7 +24,7 @@ use Rattle.vt100_core.specs.Grid.{GridView, IsGrid, IsAllocated, with_row, with_
 use Rattle.vt100_core.specs.Cursor.{moved_rows_down}
 use Rattle.vt100_core.specs.Scroll.{Scrolled, scrolled_up, up_count, rows_past_bottom, fed, left_row, wrapped_on}
 use Rattle.vt100_core.specs.Scroll.{made_to_fit}
-use Rattle.vt100_core.specs.Text.{Drawn, put_at, spaced, carried, joined, printed}
+use Rattle.vt100_core.specs.Text.{PrintedGrid, put_at, spaced, carried, joined, printed}
 use Rattle.terminal_model.specs.Apply.{is_dropped}
 use Rattle.vt100_rows.proofs.SheetLemmas.{length-rows_by_position}
 use Rattle.vt100_core.proofs.EraseLemmas.{IsGrid-cursor_row, cursor_row_of}
@@ -193,7 +193,7 @@ row_by v col c a wide one room =
     cond (not wide) (joined_row v col c) (cond one v
     (cond room (placed v (col - 1) (joined_cell v col c) a) (wiped_row v (col - 1) col a)))
 
-abbrev drawn_by : GridView → ℕ → Attrs → Bool → Bool → Bool → Drawn
+abbrev drawn_by : GridView → ℕ → Attrs → Bool → Bool → Bool → PrintedGrid
 drawn_by g c a wide one room =
     let v = row_of_cursor g in
     cond (not wide) (record { grid = with_cursor_row g (joined_row v g.col c); sunk = []; printed = Joined })
@@ -221,9 +221,9 @@ module _ (g : GridView) (c : ℕ) (a : Attrs) (h : GridView) (width-is : length 
       (nat_lt g.col g.width) e refl refl in
       let row = by-is (row_by v g.col c a) (is_widening v g.col c) (length v.cells == 1)
       (nat_lt g.col (length v.cells)) false (length v.cells == 1) (nat_lt g.col (length v.cells)) e refl refl in (
-        after ∙ ap (λ (x : RowView). with_cursor_row g x) row ∙ sym (ap (λ (x : Drawn). x.grid) d),
-        ap (λ (x : Drawn). x.sunk) d,
-        ap (λ (x : Drawn). x.printed) d,
+        after ∙ ap (λ (x : RowView). with_cursor_row g x) row ∙ sym (ap (λ (x : PrintedGrid). x.grid) d),
+        ap (λ (x : PrintedGrid). x.sunk) d,
+        ap (λ (x : PrintedGrid). x.printed) d,
       )
 
   pub ignored : is_widening (row_of_cursor g) g.col c ≡ true → (length (row_of_cursor g).cells == 1) ≡ true
@@ -237,9 +237,9 @@ module _ (g : GridView) (c : ℕ) (a : Attrs) (h : GridView) (width-is : length 
       (nat_lt g.col (length v.cells)) true true (nat_lt g.col (length v.cells)) e one refl in (
         after ∙ ap (λ (x : RowView). with_cursor_row g x) row
             ∙ ap (λ (xs : List RowView). record g { rows = xs }) (set-get_or g.rows g.row (blank_row 0))
-            ∙ sym (ap (λ (x : Drawn). x.grid) d),
-        ap (λ (x : Drawn). x.sunk) d,
-        ap (λ (x : Drawn). x.printed) d,
+            ∙ sym (ap (λ (x : PrintedGrid). x.grid) d),
+        ap (λ (x : PrintedGrid). x.sunk) d,
+        ap (λ (x : PrintedGrid). x.printed) d,
       )
 
   pub widens : is_widening (row_of_cursor g) g.col c ≡ true → (length (row_of_cursor g).cells == 1) ≡ false
@@ -253,9 +253,9 @@ module _ (g : GridView) (c : ℕ) (a : Attrs) (h : GridView) (width-is : length 
       let row = by-is (row_by v g.col c a) (is_widening v g.col c) (length v.cells == 1)
       (nat_lt g.col (length v.cells)) true false true e one room in (
         ap (λ (x : GridView). record x { col = g.col + 1 }) (after ∙ ap (λ (x : RowView). with_cursor_row g x) row)
-            ∙ sym (ap (λ (x : Drawn). x.grid) d),
-        ap (λ (x : Drawn). x.sunk) d,
-        ap (λ (x : Drawn). x.printed) d,
+            ∙ sym (ap (λ (x : PrintedGrid). x.grid) d),
+        ap (λ (x : PrintedGrid). x.sunk) d,
+        ap (λ (x : PrintedGrid). x.printed) d,
       )
 
   pub carries : is_widening (row_of_cursor g) g.col c ≡ true → (length (row_of_cursor g).cells == 1) ≡ false
@@ -341,14 +341,14 @@ some-left n h = grind (arith, nat_tests)
 pub printed-dropped : (g : GridView) (c : ℕ) (a : Attrs) → is_dropped g.width g.col c ≡ true
     → printed g c a ≡ record { grid = g; sunk = []; printed = Nothing }
 unfolding printed
-printed-dropped g c a e = ap (λ b. cond b (let d : Drawn = record { grid = g; sunk = []; printed = Nothing }
+printed-dropped g c a e = ap (λ b. cond b (let d : PrintedGrid = record { grid = g; sunk = []; printed = Nothing }
     in d) (cond (nat_lt 0 (columns_of c)) (spaced g c a) (joined g c a))) e
 
 pub printed-joined : (g : GridView) (c : ℕ) (a : Attrs) → is_dropped g.width g.col c ≡ false → columns_of c ≡ 0
     → printed g c a ≡ joined g c a
 unfolding printed
 printed-joined g c a e k =
-    ap (λ b. cond b (let d : Drawn = record { grid = g; sunk = []; printed = Nothing }
+    ap (λ b. cond b (let d : PrintedGrid = record { grid = g; sunk = []; printed = Nothing }
     in d) (cond (nat_lt 0 (columns_of c)) (spaced g c a) (joined g c a))) e
     ∙ ap (λ b. cond b (spaced g c a) (joined g c a)) (none-left (columns_of c) k)
 
@@ -356,7 +356,7 @@ pub printed-spaced : (g : GridView) (c : ℕ) (a : Attrs) → is_dropped g.width
     → printed g c a ≡ spaced g c a
 unfolding printed
 printed-spaced g c a e h =
-    ap (λ b. cond b (let d : Drawn = record { grid = g; sunk = []; printed = Nothing }
+    ap (λ b. cond b (let d : PrintedGrid = record { grid = g; sunk = []; printed = Nothing }
     in d) (cond (nat_lt 0 (columns_of c)) (spaced g c a) (joined g c a))) e
     ∙ ap (λ b. cond b (spaced g c a) (joined g c a)) (some-left (columns_of c) h)
 

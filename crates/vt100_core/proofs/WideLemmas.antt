@@ -19,7 +19,7 @@ use Rattle.vt100_rows.proofs.RowLemmas.{IsRow-placed}
 use Rattle.vt100_rows.specs.Sheet.{IsRowOf}
 use Rattle.vt100_core.specs.Grid.{GridView, IsGrid, IsAllocated, row_of_cursor, with_cursor_row}
 use Rattle.vt100_core.specs.Scroll.{Scrolled, wrapped_on, made_to_fit}
-use Rattle.vt100_core.specs.Text.{Drawn, IsWide, put_at, placed_pairs, printed, printed_all}
+use Rattle.vt100_core.specs.Text.{PrintedGrid, IsWide, put_at, placed_pairs, printed, printed_all}
 use Rattle.vt100_core.proofs.EraseLemmas.{IsGrid-cursor_row, cursor_row_of}
 use Rattle.vt100_core.proofs.TextLemmas.{IsGrid-col, printed-spaced, span_of-cell}
 use Rattle.vt100_core.proofs.RunLemmas.{drawn_at, after_first, fits-true}
@@ -74,7 +74,7 @@ all-here (x ∷ xs) g a p h w l =
     let first = printed-wide g x a (p zero 0 (omega arith)) w
     ∙ ap (λ (s : Scrolled). drawn_at s x a 2) (made-here g (omega arith)) in
     let count = length-set g.rows g.row (placed (row_of_cursor g) g.col (cell_of x a) a) in
-    ap (λ (d : Drawn). after_first d xs a) first
+    ap (λ (d : PrintedGrid). after_first d xs a) first
     ∙ ap (λ (o : Scrolled). let s : Scrolled = record { grid = o.grid; sunk = o.sunk }
     in s) (all-here xs g1 a (All-drop IsWide 1 (x ∷ xs) p) (omega arith) w (omega (arith, count)))
     ∙ ap (λ (k : GridView). let s : Scrolled = record { grid = k; sunk = [] } in s) (with-first g x xs a l)
@@ -88,7 +88,7 @@ in-row g (x ∷ xs) a s some p w e h l =
     let g1 = put_at s.grid (cell_of x a) a 2 in
     let first = printed-wide g x a (p zero 0 (omega arith)) w ∙ ap (λ (t : Scrolled). drawn_at t x a 2) e in
     let count = length-set s.grid.rows s.grid.row (placed (row_of_cursor s.grid) s.grid.col (cell_of x a) a) in
-    ap (λ (d : Drawn). after_first d xs a) first
+    ap (λ (d : PrintedGrid). after_first d xs a) first
     ∙ ap (λ (o : Scrolled). let t : Scrolled = record { grid = o.grid; sunk = s.sunk ++ o.sunk }
     in t) (all-here xs g1 a (All-drop IsWide 1 (x ∷ xs) p) (omega arith) (omega arith) (omega (arith, count)))
     ∙ (λ i. record { grid = with-first s.grid x xs a l i; sunk = append-nil s.sunk i })
@@ -113,7 +113,7 @@ pub first-sunk : (g : GridView) (xs : List ℕ) (a : Attrs) → 0 < length xs �
     → (made_to_fit g 2 true).sunk ≡ (printed_all g (take 1 xs) a).sunk
 first-sunk g [] a some p w = absurd (omega arith)
 first-sunk g (x ∷ xs) a some p w =
-    sym (append-nil (printed g x a).sunk ∙ ap (λ (d : Drawn). d.sunk) (printed-wide g x a (p zero 0 (omega arith)) w))
+    sym (append-nil (printed g x a).sunk ∙ ap (λ (d : PrintedGrid). d.sunk) (printed-wide g x a (p zero 0 (omega arith)) w))
 
 -- ---- what is true of a grid stays true
 

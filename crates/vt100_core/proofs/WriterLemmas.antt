@@ -18,14 +18,14 @@ use Rattle.row_drawing.proofs.WritesLemmas.{wrote_skip}
 use Rattle.screen_drawing.specs.Rows.{afresh, pen_at}
 use Rattle.screen_drawing.specs.Screen.{cursor_placed}
 use Rattle.screen_drawing.specs.Cursor as cursor
-use Rattle.screen_drawing.specs.Cursor.{place, arriving, is_at, last_col, last_cell, row_with_end, printed_with}
+use Rattle.screen_drawing.specs.Cursor.{place, arriving, is_pen_at, end_col, end_cell, row_with_end, printed_with}
 use Rattle.screen_drawing.specs.Cursor.{wait_behind, wait_on_empty, wait}
 use Rattle.vt100_rows.specs.Row.{RowView}
 use Rattle.vt100_rows.specs.Forms.{redraw, difference}
 use Rattle.vt100_core.specs.Grid.{GridView, visible_at}
 use Rattle.vt100_core.specs.Contents.{is_below_wrapped}
 use Rattle.vt100_core.specs.Writers.{Appends, drawn_on, replaced, cursor_position_formatted}
-use Rattle.vt100_core.specs.Picture.{size_of}
+use Rattle.vt100_core.specs.Picture.{grid_size}
 use Rattle.vt100_core.specs.Writers.{line_redraw, lines_redraw, line_difference, lines_difference, redrawn}
 use Rattle.vt100_core.specs.Writers.{differing}
 use Rattle.vt100_core.proofs.ContentsLemmas.{below-next}
@@ -109,15 +109,15 @@ line_feeds-begun n m s t u le a b =
 
 -- ---- the row at whose end the cursor waits
 
-pub end-found : (z : Size) (s : Shown) (r : ℕ) → has_text (last_cell z s r) ≡ true → row_with_end z s r ≡ Some r
+pub end-found : (z : Size) (s : Shown) (r : ℕ) → has_text (end_cell z s r) ≡ true → row_with_end z s r ≡ Some r
 end-found z s zero h = rw h refl
 end-found z s (suc r) h = rw h refl
 
-pub end-none : (z : Size) (s : Shown) (r : ℕ) → r ≡ 0 → has_text (last_cell z s r) ≡ false → row_with_end z s r ≡ None
+pub end-none : (z : Size) (s : Shown) (r : ℕ) → r ≡ 0 → has_text (end_cell z s r) ≡ false → row_with_end z s r ≡ None
 end-none z s zero e h = rw h refl
 end-none z s (suc r) e h = absurd (omega (arith, e))
 
-pub end-above : (z : Size) (s : Shown) (r q : ℕ) → r ≡ q + 1 → has_text (last_cell z s r) ≡ false
+pub end-above : (z : Size) (s : Shown) (r q : ℕ) → r ≡ q + 1 → has_text (end_cell z s r) ≡ false
     → row_with_end z s r ≡ row_with_end z s q
 end-above z s zero q e h = absurd (omega (arith, e))
 end-above z s (suc r) q e h =
@@ -127,22 +127,22 @@ end-above z s (suc r) q e h =
 -- ---- the cursor waits
 
 pub wait_behind-none : (z : Size) (s : Shown) (p : Option Pos) (a : Attrs) (r col : ℕ) (t : List ℕ) → col ≡ z.cols
-    → is_at p (place r col) ≡ true → t ≡ t ++ spell (wait_behind z s p a r)
+    → is_pen_at p (place r col) ≡ true → t ≡ t ++ spell (wait_behind z s p a r)
 unfolding wait_behind
 wait_behind-none z s p a r col t e h =
-    let there : is_at p (place r z.cols) ≡ true = ap (λ k. is_at p (place r k)) (sym e) ∙ h in
-    let rest = arriving p (place r (last_col z s r)) ++ printed_with a (last_cell z s r) in
+    let there : is_pen_at p (place r z.cols) ≡ true = ap (λ k. is_pen_at p (place r k)) (sym e) ∙ h in
+    let rest = arriving p (place r (end_col z s r)) ++ printed_with a (end_cell z s r) in
     sym (ap (λ b. t ++ spell (cond b [] rest)) there ∙ append-nil t)
 
 pub wait_behind-some : (z : Size) (s : Shown) (p : Option Pos) (a : Attrs) (r col k : ℕ) (x : CellView) → col ≡ z.cols
-    → is_at p (place r col) ≡ false → k ≡ last_col z s r → x ≡ last_cell z s r
+    → is_pen_at p (place r col) ≡ false → k ≡ end_col z s r → x ≡ end_cell z s r
     → wait_behind z s p a r ≡ arriving p (place r k) ++ printed_with a x
 unfolding wait_behind
 wait_behind-some z s p a r col k x e h ek ex =
-    let off : is_at p (place r z.cols) ≡ false = ap (λ k. is_at p (place r k)) (sym e) ∙ h in
-    let rest = arriving p (place r (last_col z s r)) ++ printed_with a (last_cell z s r) in
+    let off : is_pen_at p (place r z.cols) ≡ false = ap (λ k. is_pen_at p (place r k)) (sym e) ∙ h in
+    let rest = arriving p (place r (end_col z s r)) ++ printed_with a (end_cell z s r) in
     ap (λ b. cond b [] rest) off
-    ∙ ap (λ n. arriving p (place r n) ++ printed_with a (last_cell z s r)) (sym ek)
+    ∙ ap (λ n. arriving p (place r n) ++ printed_with a (end_cell z s r)) (sym ek)
     ∙ ap (λ y. arriving p (place r k) ++ printed_with a y) (sym ex)
 
 pub wait_on_empty-is : (z : Size) (p : Option Pos) (a : Attrs) (r : ℕ) (x : CellView) (row col : ℕ) (b : Attrs)
@@ -157,8 +157,8 @@ wait_on_empty-is z p a r x row col b er e h =
 -- ---- the cursor is placed
 
 cursor-as : (g : GridView) (p : Option Pos) (a : Option Attrs) (b : Attrs) → b ≡ unwrap_or a default_attrs
-    → cursor_position_formatted g p a ≡ cursor.cursor_position_formatted (size_of g) (drawn_on g) p b
-cursor-as g p a b e = ap (cursor.cursor_position_formatted (size_of g) (drawn_on g) p) (sym e)
+    → cursor_position_formatted g p a ≡ cursor.cursor_position_formatted (grid_size g) (drawn_on g) p b
+cursor-as g p a b e = ap (cursor.cursor_position_formatted (grid_size g) (drawn_on g) p) (sym e)
 
 -- in a column of its row
 pub cursor-inside : (g : GridView) (p : Option Pos) (a : Option Attrs) → g.col < g.width
@@ -168,12 +168,12 @@ cursor-inside g p a h = rw (lt-ltb g.col g.width h) refl
 
 -- it waits there already
 pub cursor-there : (g : GridView) (p : Option Pos) (a : Option Attrs) (t : List ℕ) → g.width ≤ g.col
-    → is_at p (place g.row g.col) ≡ true → t ≡ t ++ spell (cursor_position_formatted g p a)
+    → is_pen_at p (place g.row g.col) ≡ true → t ≡ t ++ spell (cursor_position_formatted g p a)
 unfolding cursor.cursor_position_formatted
 cursor-there g p a t h e = rw (le-ltb g.col g.width h, e) (sym (append-nil t))
 
 cursor-waits : (z : Size) (s : Shown) (p : Option Pos) (a : Attrs) (e : Option ℕ) → z.cols ≤ s.col
-    → is_at p (place s.row s.col) ≡ false → e ≡ row_with_end z s s.row
+    → is_pen_at p (place s.row s.col) ≡ false → e ≡ row_with_end z s s.row
     → cursor.cursor_position_formatted z s p a ≡ wait z s p a e
 unfolding cursor.cursor_position_formatted
 cursor-waits z s p a e h off is = rw (le-ltb s.col z.cols h, off) (ap (wait z s p a) (sym is))
@@ -190,22 +190,22 @@ wait-none z s p a = refl
 
 -- it waits behind the text of row r
 pub cursor-behind : (g : GridView) (p : Option Pos) (a : Option Attrs) (b : Attrs) (r : ℕ)
-    → b ≡ unwrap_or a default_attrs → g.width ≤ g.col → is_at p (place g.row g.col) ≡ false
-    → Some r ≡ row_with_end (size_of g) (drawn_on g) g.row
+    → b ≡ unwrap_or a default_attrs → g.width ≤ g.col → is_pen_at p (place g.row g.col) ≡ false
+    → Some r ≡ row_with_end (grid_size g) (drawn_on g) g.row
     → cursor_position_formatted g p a
-    ≡ wait_behind (size_of g) (drawn_on g) p b r ++ replicate (g.row - r) Lf
+    ≡ wait_behind (grid_size g) (drawn_on g) p b r ++ replicate (g.row - r) Lf
 cursor-behind g p a b r eb h off e =
-    cursor-as g p a b eb ∙ cursor-waits (size_of g) (drawn_on g) p b (Some r) h off e
-    ∙ wait-some (size_of g) (drawn_on g) p b r
+    cursor-as g p a b eb ∙ cursor-waits (grid_size g) (drawn_on g) p b (Some r) h off e
+    ∙ wait-some (grid_size g) (drawn_on g) p b r
 
 -- no row has a text at its end
 pub cursor-on_empty : (g : GridView) (p : Option Pos) (a : Option Attrs) (b : Attrs) → b ≡ unwrap_or a default_attrs
-    → g.width ≤ g.col → is_at p (place g.row g.col) ≡ false → None ≡ row_with_end (size_of g) (drawn_on g) g.row
+    → g.width ≤ g.col → is_pen_at p (place g.row g.col) ≡ false → None ≡ row_with_end (grid_size g) (drawn_on g) g.row
     → cursor_position_formatted g p a
-    ≡ wait_on_empty (size_of g) p b g.row ((drawn_on g).cell g.row (g.width - 1))
+    ≡ wait_on_empty (grid_size g) p b g.row ((drawn_on g).cell g.row (g.width - 1))
 cursor-on_empty g p a b eb h off e =
-    cursor-as g p a b eb ∙ cursor-waits (size_of g) (drawn_on g) p b None h off e
-    ∙ wait-none (size_of g) (drawn_on g) p b
+    cursor-as g p a b eb ∙ cursor-waits (grid_size g) (drawn_on g) p b None h off e
+    ∙ wait-none (grid_size g) (drawn_on g) p b
 
 -- ---- rows of a redraw
 

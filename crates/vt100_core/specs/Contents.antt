@@ -11,14 +11,14 @@ is_below_wrapped g r = nat_lt 0 r && (visible_at g (r - 1)).wrapped
 
 -- the text of the row that is shown at r, in the screen's columns, and a newline unless it goes on in the next. A row
 -- without text in which another goes on has a newline in the text's place.
-abbrev pub shown_line : GridView → ℕ → List ℕ
-shown_line g r = written_text (visible_at g r) 0 g.width (is_below_wrapped g r)
+abbrev pub text_line : GridView → ℕ → List ℕ
+text_line g r = written_text (visible_at g r) 0 g.width (is_below_wrapped g r)
     ++ (if (visible_at g r).wrapped then [] else 10 ∷ [])
 
 -- the first n of these
-abbrev pub shown_lines : GridView → ℕ → List ℕ
-shown_lines g zero = []
-shown_lines g (suc n) = shown_lines g n ++ shown_line g n
+abbrev pub text_lines : GridView → ℕ → List ℕ
+text_lines g zero = []
+text_lines g (suc n) = text_lines g n ++ text_line g n
 
 -- a text without the newlines at its end
 abbrev pub newlines_cut : List ℕ → List ℕ

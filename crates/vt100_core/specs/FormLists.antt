@@ -9,13 +9,13 @@ use Rattle.vt100_rows.specs.Picture.{lines_of}
 use Rattle.screen_drawing.specs.Length.{IsWithin}
 use Rattle.screen_drawing.specs.Local.{IsLocalList}
 use Rattle.vt100_core.specs.Grid.{GridView}
-use Rattle.vt100_core.specs.Picture.{size_of, Extras}
+use Rattle.vt100_core.specs.Picture.{grid_size, Extras}
 use Rattle.vt100_core.specs.Writers.{drawn_on, cursor_position_formatted, contents_formatted, differing}
-use Rattle.vt100_core.specs.WriterLaws.{IsUnscrolled, picture_of}
+use Rattle.vt100_core.specs.WriterLaws.{IsUnscrolledGrid, picture_of}
 
 -- a grid with its rows, which shows no kept row, with attributes such as control sequences can set
 pub record IsProperGrid (g : GridView) : Type 0 where
-  pub shown : IsUnscrolled g
+  pub shown : IsUnscrolledGrid g
   pub proper : (r k : ℕ) → IsProper (lines_of g.rows r k).attrs
 
 -- the character c stands in no cell
@@ -26,7 +26,7 @@ HasNo c g = (r k : ℕ) → Contains (lines_of g.rows r k).text c → ⊥
 -- attributes as they are given
 pub record IsTrueOfLists (Q : List Form → Type 0) (g : GridView) : Type 0 where
   pub contents : Q (contents_formatted g)
-  pub difference : (old : GridView) (a : Attrs) → IsUnscrolled old → size_of old ≡ size_of g → HasByteColors a
+  pub difference : (old : GridView) (a : Attrs) → IsUnscrolledGrid old → grid_size old ≡ grid_size g → HasByteColors a
       → Q (differing g old a).forms
   pub cursor : (p : Option Pos) (a : Option Attrs) → HasByteColors (unwrap_or a default_attrs)
       → Q (cursor_position_formatted g p a)
@@ -40,9 +40,9 @@ EachListIsOfForms = (g : GridView) → IsProperGrid g → HasNo 0xFFFD g → Has
 
 -- at most 1,024 bytes a cell, and 256 more
 pub record AreShort (g : GridView) : Type 0 where
-  pub contents : IsWithin (size_of g) 256 (contents_formatted g)
-  pub difference : (old : GridView) (a : Attrs) → IsUnscrolled old → size_of old ≡ size_of g → HasByteColors a
-      → IsWithin (size_of g) 256 (differing g old a).forms
+  pub contents : IsWithin (grid_size g) 256 (contents_formatted g)
+  pub difference : (old : GridView) (a : Attrs) → IsUnscrolledGrid old → grid_size old ≡ grid_size g → HasByteColors a
+      → IsWithin (grid_size g) 256 (differing g old a).forms
 
 abbrev pub EachListIsShort : Type 0
 EachListIsShort = (g : GridView) → IsProperGrid g → AreShort g
@@ -58,4 +58,4 @@ IsShortGrowth g old new = length new ≤ length old + (1024 * (g.height * g.widt
 abbrev pub AppendsLocal : GridView → GridView → Attrs → List ℕ → List ℕ → Type 0
 AppendsLocal g old a s t =
     (forms : List Form) × (t ≡ s ++ spell forms)
-    × ((x : Extras) → x.attrs ≡ a → IsLocalList (size_of g) (picture_of old x) (drawn_on g) forms)
+    × ((x : Extras) → x.attrs ≡ a → IsLocalList (grid_size g) (picture_of old x) (drawn_on g) forms)

@@ -13,15 +13,15 @@ use Rattle.vt100_rows.specs.Picture.{lines_of, wraps_of}
 use Rattle.vt100_core.specs.Grid.{GridView, IsGrid, IsAllocated, row_of_cursor, visible_at}
 use Rattle.vt100_core.specs.Text.{printed, printed_all}
 
-abbrev pub size_of : GridView → Size
-size_of g = record { rows = g.height; cols = g.width }
+abbrev pub grid_size : GridView → Size
+grid_size g = record { rows = g.height; cols = g.width }
 
 -- what is shown at each row and column of the screen; a kept row may be wider than that
-abbrev pub shown_lines : GridView → ℕ → ℕ → CellView
-shown_lines g r k = if nat_lt r g.height && nat_lt k g.width then cell_at (visible_at g r).cells k else default_cell
+abbrev pub visible_lines : GridView → ℕ → ℕ → CellView
+visible_lines g r k = if nat_lt r g.height && nat_lt k g.width then cell_at (visible_at g r).cells k else default_cell
 
-abbrev pub shown_wraps : GridView → ℕ → Bool
-shown_wraps g r = nat_lt r g.height && (visible_at g r).wrapped
+abbrev pub visible_wraps : GridView → ℕ → Bool
+visible_wraps g r = nat_lt r g.height && (visible_at g r).wrapped
 
 -- what a terminal has beside its grid
 pub record Extras : Type 0 where
@@ -32,8 +32,8 @@ pub record Extras : Type 0 where
   pub style : CursorStyle
 
 -- the terminal that shows the rows that are drawn on
-abbrev pub term_of : GridView → Extras → Term
-term_of g x = record {
+abbrev pub term_of_grid : GridView → Extras → Term
+term_of_grid g x = record {
   cell = lines_of g.rows;
   wrapped = wraps_of g.rows;
   row = g.row;
@@ -61,9 +61,9 @@ widens g c = (columns_of c == 0) && (nat_lt 0 g.col && is_widening (row_of_curso
 -- a character that is printed on a grid is input to the terminal that shows its rows
 abbrev pub EachPrintIsInput : Type 0
 EachPrintIsInput = (g : GridView) (x : Extras) (c : ℕ) → IsPlain g → widens g c ≡ false
-    → term_of (printed g c x.attrs).grid x ≡ input (size_of g) c (term_of g x)
+    → term_of_grid (printed g c x.attrs).grid x ≡ input (grid_size g) c (term_of_grid g x)
 
 -- and so is a text without U+FE0F
 abbrev pub EachTextIsInput : Type 0
 EachTextIsInput = (g : GridView) (x : Extras) (cs : List ℕ) → IsPlain g → All IsScalar cs → (Contains cs 0xFE0F → ⊥)
-    → term_of (printed_all g cs x.attrs).grid x ≡ apply (size_of g) (Text cs) (term_of g x)
+    → term_of_grid (printed_all g cs x.attrs).grid x ≡ apply (grid_size g) (Text cs) (term_of_grid g x)

@@ -12,7 +12,7 @@ use Rattle.vt100_core.specs.declared.printed.Printed.{Printed}
 use Rattle.vt100_core.specs.declared.printed.Printed.TheVariants.{Nothing, Spacing, Joined}
 
 -- a grid, the rows that have left for good on the way to it, and what was printed
-pub record Drawn : Type 0 where
+pub record PrintedGrid : Type 0 where
   pub grid : GridView
   pub sunk : List RowView
   pub printed : Printed
@@ -22,13 +22,13 @@ abbrev pub put_at : GridView → CellView → Attrs → ℕ → GridView
 put_at g x a n = record (with_cursor_row g (placed (row_of_cursor g) g.col x a)) { col = g.col + n }
 
 -- a character of one or two columns, on the next row where too few are left
-abbrev pub spaced : GridView → ℕ → Attrs → Drawn
+abbrev pub spaced : GridView → ℕ → Attrs → PrintedGrid
 spaced g c a =
     let s = made_to_fit g (columns_of c) true in
     record { grid = put_at s.grid (cell_of c a) a (columns_of c); sunk = s.sunk; printed = Spacing }
 
 -- a cell that has become wide in the last column stands at the start of the next row, with the drawing attributes
-abbrev pub carried : GridView → ℕ → Attrs → Drawn
+abbrev pub carried : GridView → ℕ → Attrs → PrintedGrid
 carried g c a =
     let s = wrapped_on (with_cursor_row g (wiped_row (row_of_cursor g) (g.col - 1) g.col a)) false in
     record {
@@ -38,7 +38,7 @@ carried g c a =
     }
 
 -- a zero-width character joins the cell to the cursor's left
-abbrev pub joined : GridView → ℕ → Attrs → Drawn
+abbrev pub joined : GridView → ℕ → Attrs → PrintedGrid
 joined g c a =
     let v = row_of_cursor g in
     if not (is_widening v g.col c) then record {
@@ -57,7 +57,7 @@ joined g c a =
     }
     else carried g c a
 
-unfoldable pub printed : GridView → ℕ → Attrs → Drawn
+unfoldable pub printed : GridView → ℕ → Attrs → PrintedGrid
 printed g c a =
     if is_dropped g.width g.col c then record { grid = g; sunk = []; printed = Nothing }
     else if nat_lt 0 (columns_of c) then spaced g c a

@@ -20,7 +20,7 @@ use Rattle.vt100_rows.specs.Forms.{redraw, difference}
 use Rattle.vt100_rows.specs.Picture.{lines_of, wraps_of}
 use Rattle.vt100_core.specs.Grid.{GridView, visible_at}
 use Rattle.vt100_core.specs.Contents.{is_below_wrapped}
-use Rattle.vt100_core.specs.Picture.{size_of}
+use Rattle.vt100_core.specs.Picture.{grid_size}
 
 -- The text s becomes t: these forms are appended, or where the call is refused, a part of them may have been.
 abbrev pub Appends : List Form → List ℕ → Bool → List ℕ → Type 0
@@ -37,7 +37,7 @@ drawn_on g = record blank_shown { cell = lines_of g.rows; wrapped = wraps_of g.r
 -- ones if none are given
 abbrev pub cursor_position_formatted : GridView → Option Pos → Option Attrs → List Form
 cursor_position_formatted g p a =
-    cursor.cursor_position_formatted (size_of g) (drawn_on g) p (unwrap_or a default_attrs)
+    cursor.cursor_position_formatted (grid_size g) (drawn_on g) p (unwrap_or a default_attrs)
 
 -- what follows the space on which the cursor waits: it is erased with the attributes b, and the attributes a come back
 abbrev pub replaced : Attrs → Attrs → List Form
@@ -56,7 +56,7 @@ lines_redraw g (suc n) = lines_redraw g n >> line_redraw g n
 
 -- on a terminal that is cleared
 unfoldable pub redrawn : GridView → Drawn
-redrawn g = (lines_redraw g (length g.rows) >> cursor_placed (size_of g) (drawn_on g)) (pen_at 0 0 default_attrs)
+redrawn g = (lines_redraw g (length g.rows) >> cursor_placed (grid_size g) (drawn_on g)) (pen_at 0 0 default_attrs)
 
 abbrev pub contents_formatted : GridView → List Form
 contents_formatted g = ClearAttrs ∷ ClearScreen ∷ (redrawn g).forms
@@ -78,5 +78,5 @@ lines_difference g earlier (suc n) = lines_difference g earlier n >> line_differ
 -- over what the earlier grid shows, with its cursor, where the terminal draws with the attributes a
 unfoldable pub differing : GridView → GridView → Attrs → Drawn
 differing g earlier a =
-    (lines_difference g earlier (min (length g.rows) (length earlier.rows)) >> cursor_placed (size_of g) (drawn_on g))
+    (lines_difference g earlier (min (length g.rows) (length earlier.rows)) >> cursor_placed (grid_size g) (drawn_on g))
     (pen_at earlier.row earlier.col a)

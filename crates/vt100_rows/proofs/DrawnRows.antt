@@ -19,12 +19,12 @@ use Rattle.terminal_model.proofs.Positions.{update-same, update-other, update-ke
 use Rattle.row_drawing.specs.declared.pen.Pen.{Pen}
 use Rattle.row_drawing.specs.Writer.{Drawn, skip}
 use Rattle.row_drawing.specs.RowWriter.{row_redraw, row_difference}
-use Rattle.row_drawing.specs.Scene.{Scene, IsScene, IsLine, IsReady, IsDrawn, size_of, with_row}
+use Rattle.row_drawing.specs.Scene.{Scene, IsScene, IsLine, IsReady, IsDrawn, scene_size, with_row}
 use Rattle.row_drawing.proofs.RowRedraw.{redraw-leads}
 use Rattle.row_drawing.proofs.RowStart.{difference-leads}
 use Rattle.vt100_rows.specs.Row.{RowView, IsRow}
-use Rattle.vt100_rows.specs.Forms.{redraw_job, redraw, pen_at, formatted, difference_job, difference, differing}
-use Rattle.vt100_rows.specs.Laws.{screen_of, IsPlainRow, IsRowDrawn, EachRowIsDrawn, EachDifferenceIsDrawn}
+use Rattle.vt100_rows.specs.Forms.{redraw_job, redraw, pen_before, formatted, difference_job, difference, differing}
+use Rattle.vt100_rows.specs.Laws.{row_screen, IsPlainRow, IsRowDrawn, EachRowIsDrawn, EachDifferenceIsDrawn}
 
 -- the pen at the start of a row
 abbrev starting : ℕ → Pen
@@ -105,7 +105,7 @@ redraw-whole v width row above p some wide =
 
 pen-told : (v : RowView) (row : ℕ) (pos : Option Pos) (attrs : Option Attrs)
     → unwrap_or pos (record { row = row; col = 0 }) ≡ record { row = row; col = 0 }
-    → unwrap_or attrs default_attrs ≡ default_attrs → pen_at v 0 row false pos attrs ≡ starting row
+    → unwrap_or attrs default_attrs ≡ default_attrs → pen_before v 0 row false pos attrs ≡ starting row
 pen-told v row pos attrs p a = λ i. record { pos = p i; attrs = a i; erase = None; lost = false }
 
 redraw-scene : (rows : ℕ) (t : Term) (v : RowView) (row : ℕ) → Scene
@@ -146,10 +146,10 @@ row-drawn rows t v row width pos attrs h plain inside some wide at =
     let before = term-before s row refl refl refl at.cells at.row_is at.col_is at.attrs_are in
     let leads = redraw-leads s (starting row) (is-redraw rows t v row h plain inside some at.wrapped)
     (row-ready s row refl) (λ k. refl) refl in
-    let all : IsRowDrawn row (cell_at v.cells) d.pen t (run (size_of s) d.forms t) =
-    row-after s d.pen (run (size_of s) d.forms t) refl refl refl
-    (subst (λ (x : Term). IsDrawn s d.pen (run (size_of s) d.forms x)) before leads) in
-    subst (λ (e : Drawn). IsRowDrawn row (cell_at v.cells) e.pen t (run (screen_of rows v) e.forms t)) (sym is) all
+    let all : IsRowDrawn row (cell_at v.cells) d.pen t (run (scene_size s) d.forms t) =
+    row-after s d.pen (run (scene_size s) d.forms t) refl refl refl
+    (subst (λ (x : Term). IsDrawn s d.pen (run (scene_size s) d.forms x)) before leads) in
+    subst (λ (e : Drawn). IsRowDrawn row (cell_at v.cells) e.pen t (run (row_screen rows v) e.forms t)) (sym is) all
 
 -- ---- the difference
 
@@ -209,7 +209,7 @@ difference-drawn rows t v earlier row width was_above pos attrs h plain was same
     let before = term-before s row refl refl refl at.cells at.row_is at.col_is at.attrs_are in
     let leads = difference-leads s (starting row)
     (is-difference rows t v earlier row was_above h plain was same inside some at.wrapped) (row-ready s row refl) in
-    let all : IsRowDrawn row (cell_at v.cells) d.pen t (run (size_of s) d.forms t) =
-    row-after s d.pen (run (size_of s) d.forms t) refl refl refl
-    (subst (λ (x : Term). IsDrawn s d.pen (run (size_of s) d.forms x)) before leads) in
-    subst (λ (e : Drawn). IsRowDrawn row (cell_at v.cells) e.pen t (run (screen_of rows v) e.forms t)) (sym is) all
+    let all : IsRowDrawn row (cell_at v.cells) d.pen t (run (scene_size s) d.forms t) =
+    row-after s d.pen (run (scene_size s) d.forms t) refl refl refl
+    (subst (λ (x : Term). IsDrawn s d.pen (run (scene_size s) d.forms x)) before leads) in
+    subst (λ (e : Drawn). IsRowDrawn row (cell_at v.cells) e.pen t (run (row_screen rows v) e.forms t)) (sym is) all

@@ -1,4 +1,4 @@
--- A run of printable ASCII characters, put on a row.
+-- A printed_run of printable ASCII characters, put on a row.
 use Rattle.std.proofs.Common.{◌≡◌, ℕ, zero, suc, ◌+◌, ◌<◌, ◌≤◌, ◌==◌, Bool, true, false, cond, not, ◌&&◌, List, [], ◌∷◌}
 use Rattle.std.proofs.Common.{length, sym, refl, ap, ◌∙◌, arith}
 use Rattle.std.specs.Prelude.{All}
@@ -6,7 +6,7 @@ use Rattle.std.proofs.lemmas.List.Elements.{All-drop}
 use Rattle.vt100_forms.specs.declared.attrs.Attrs.{Attrs}
 use Rattle.vt100_cells.specs.Cell.{CellView, IsPrintable, cell_of}
 use Rattle.vt100_cells.specs.Cells.{cell_at, by_position}
-use Rattle.vt100_cells.specs.Line.{span_of, put, run}
+use Rattle.vt100_cells.specs.Line.{span_of, put, printed_run}
 use Rattle.vt100_cells.proofs.CellLemmas.{narrow-printable, IsCell-printable}
 use Rattle.vt100_cells.proofs.ListLemmas.{length-by_position, by_position-same, same-by_position}
 use Rattle.vt100_cells.proofs.RunLemmas.{run-step, run-none}
@@ -15,7 +15,7 @@ use Rattle.vt100_rows.proofs.RowLemmas.{IsRow-placed, line-placed}
 
 pub run_row-none : (v : RowView) (i : ℕ) (a : Attrs) → v ≡ run_row v i [] a
 run_row-none v i a =
-    let same = same-by_position v.cells (run (cell_at v.cells) i [] a) (run-none (cell_at v.cells) i a) in
+    let same = same-by_position v.cells (printed_run (cell_at v.cells) i [] a) (run-none (cell_at v.cells) i a) in
     λ j. record { cells = same j; wrapped = v.wrapped }
 
 span-narrow : (x : CellView) → x.wide ≡ false → span_of x ≡ 1
@@ -28,8 +28,8 @@ and-not-narrow false w u e = refl
 -- a row of as many cells, whose line is known
 run_row-like : (v w : RowView) (i : ℕ) (xs : List ℕ) (a : Attrs) (f : ℕ → CellView) → length w.cells ≡ length v.cells
     → cell_at w.cells ≡ f → w.wrapped ≡ v.wrapped
-    → run_row w i xs a ≡ record { cells = by_position (length v.cells) (run f i xs a); wrapped = v.wrapped }
-run_row-like v w i xs a f n e b = λ j. record { cells = by_position (n j) (run (e j) i xs a); wrapped = b j }
+    → run_row w i xs a ≡ record { cells = by_position (length v.cells) (printed_run f i xs a); wrapped = v.wrapped }
+run_row-like v w i xs a f n e b = λ j. record { cells = by_position (n j) (printed_run (e j) i xs a); wrapped = b j }
 
 pub run_row-each : (xs : List ℕ) (v : RowView) (i : ℕ) (a : Attrs) → IsRow v → All IsPrintable xs
     → i + length xs ≤ length v.cells → run_row v i xs a ≡ placed_each v i xs a
@@ -47,7 +47,7 @@ run_row-each (x ∷ xs) v i a r p l =
     let line = line-placed v i (cell_of x a) a r (omega (arith, span)) in
     let flag = and-not-narrow v.wrapped ((cell_of x a).wide) ((f (i + 1)).wide && ((i + 3) == n)) narrow in
     sym (ap (λ (cells : List CellView). record { cells = cells; wrapped = v.wrapped })
-    (by_position-same n (run (put f i (cell_of x a) a) (i + 1) xs a) (run f i (x ∷ xs) a)
+    (by_position-same n (printed_run (put f i (cell_of x a) a) (i + 1) xs a) (printed_run f i (x ∷ xs) a)
     (λ k. run-step f i x xs a narrow k r.paired)))
     ∙ sym (run_row-like v w (i + 1) xs a (put f i (cell_of x a) a) lw line flag)
     ∙ run_row-each xs w (i + 1) a valid_row (All-drop IsPrintable 1 (x ∷ xs) p) (omega (arith, lw))

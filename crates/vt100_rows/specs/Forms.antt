@@ -34,8 +34,8 @@ redraw v start width row above =
 
 -- Before that the cursor stands at `pos` and the terminal draws with `attrs`. Where these aren't given, the attributes
 -- are the default ones, and the cursor stands at column `start`, or at the end of the row above if that one goes on.
-abbrev pub pen_at : RowView → ℕ → ℕ → Bool → Option Pos → Option Attrs → Pen
-pen_at v start row above pos attrs = record {
+abbrev pub pen_before : RowView → ℕ → ℕ → Bool → Option Pos → Option Attrs → Pen
+pen_before v start row above pos attrs = record {
   pos = unwrap_or pos (if above then record { row = row - 1; col = length v.cells }
       else record { row = row; col = start });
   attrs = unwrap_or attrs default_attrs;
@@ -45,7 +45,7 @@ pen_at v start row above pos attrs = record {
 
 -- what `write_contents_formatted` appends, and the pen after it
 abbrev pub formatted : RowView → ℕ → ℕ → ℕ → Bool → Option Pos → Option Attrs → Drawn
-formatted v start width row above pos attrs = redraw v start width row above (pen_at v start row above pos attrs)
+formatted v start width row above pos attrs = redraw v start width row above (pen_before v start row above pos attrs)
 
 -- ---- over an earlier row
 

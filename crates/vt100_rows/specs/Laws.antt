@@ -17,8 +17,8 @@ use Rattle.vt100_rows.specs.Row.{RowView, IsRow}
 use Rattle.vt100_rows.specs.Forms.{redraw, formatted, difference, differing}
 
 -- a terminal of so many rows, as wide as the row
-abbrev pub screen_of : ℕ → RowView → Size
-screen_of rows v = record { rows = rows; cols = length v.cells }
+abbrev pub row_screen : ℕ → RowView → Size
+row_screen rows v = record { rows = rows; cols = length v.cells }
 
 -- no character of the row asks for an emoji, and its attributes are such as control sequences can set
 pub record IsPlainRow (v : RowView) : Type 0 where
@@ -59,7 +59,7 @@ EachRowIsDrawn = (rows : ℕ) (t : Term) (v : RowView) (row width : ℕ) (pos : 
     → IsPlainRow v → row < rows → 0 < length v.cells → length v.cells ≤ width
     → IsAtRow row (λ k. default_cell) false pos attrs t
     → IsRowDrawn row (cell_at v.cells) (formatted v 0 width row false pos attrs).pen t
-    (run (screen_of rows v) (formatted v 0 width row false pos attrs).forms t)
+    (run (row_screen rows v) (formatted v 0 width row false pos attrs).forms t)
 
 -- where it shows an earlier row of the same length, those of the whole row's difference do
 abbrev pub EachDifferenceIsDrawn : Type 0
@@ -68,7 +68,7 @@ EachDifferenceIsDrawn = (rows : ℕ) (t : Term) (v earlier : RowView) (row width
     → 0 < length v.cells → length v.cells ≤ width
     → IsAtRow row (cell_at earlier.cells) earlier.wrapped (Some pos) (Some attrs) t
     → IsRowDrawn row (cell_at v.cells) (differing v earlier 0 width row false was_above pos attrs).pen t
-    (run (screen_of rows v) (differing v earlier 0 width row false was_above pos attrs).forms t)
+    (run (row_screen rows v) (differing v earlier 0 width row false was_above pos attrs).forms t)
 
 -- ---- the forms of any part of a row
 

@@ -8,7 +8,7 @@ use Rattle.vt100_cells.specs.Cell.{CellView, IsCell, default_cell, empty_cell, c
 use Rattle.vt100_cells.specs.Cell.{appended_plain}
 use Rattle.vt100_cells.specs.Cells.{cell_at, by_position, last_cell, inserted_cells, trimmed_len}
 use Rattle.vt100_cells.specs.Line.{IsPaired, update, put, put_unflags, base_col, pair_wiped, wiped, wipe_unflags, cut}
-use Rattle.vt100_cells.specs.Line.{opened, closed, extended, run}
+use Rattle.vt100_cells.specs.Line.{opened, closed, extended, printed_run}
 
 -- the cells from left to right, and whether the row's text goes on in the row below
 pub record RowView : Type 0 where
@@ -51,7 +51,7 @@ placed v i x a = record {
 
 -- the characters xs, which take one column each, are put from column i on
 abbrev pub run_row : RowView → ℕ → List ℕ → Attrs → RowView
-run_row v i xs a = record { cells = by_position (length v.cells) (run (cell_at v.cells) i xs a); wrapped = v.wrapped }
+run_row v i xs a = record { cells = by_position (length v.cells) (printed_run (cell_at v.cells) i xs a); wrapped = v.wrapped }
 
 -- the same, one character after another
 abbrev pub placed_each : RowView → ℕ → List ℕ → Attrs → RowView

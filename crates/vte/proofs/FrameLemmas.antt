@@ -10,7 +10,7 @@ use Rattle.vte_core.proofs.GroundLemmas.{ground-added}
 use Rattle.vte_types.specs.Call.{Call}
 use Rattle.vte.specs.Table.{opens}
 use Rattle.vte.specs.Timeout.{Tick}
-use Rattle.vte.specs.Marks.{start_mark, end_mark, is_at, NoneFrom, IsLast, IsFirstFrom}
+use Rattle.vte.specs.Marks.{start_mark, end_mark, stands_at, NoneFrom, IsLast, IsFirstFrom}
 use Rattle.vte.specs.Stretch.{opens_in, OpensAt}
 use Rattle.vte.specs.Hold.{limit, IsCut, Closes, Settles, keeps, replays, closes, Takes, parses, begins, settles}
 use Rattle.vte.specs.Hold.{overflows}
@@ -187,7 +187,7 @@ settled_none q all q' h' none (emptied c e f) = absurd (no_last all c.0 c.1 none
 
 some_end : (front back : List ℕ) → NoneFrom end_mark (front ++ (end_mark ++ back)) 0 → ⊥
 some_end front back none =
-    let here : is_at end_mark (front ++ (end_mark ++ back)) (length front + 0) ≡ true =
+    let here : stands_at end_mark (front ++ (end_mark ++ back)) (length front + 0) ≡ true =
     at_later end_mark front (end_mark ++ back) 0 in
     contrary _ here (none (length front + 0) (omega arith) (omega (arith, length-append front (end_mark ++ back))))
 
@@ -266,8 +266,8 @@ ends_once f before after frame e =
     let same : start_mark ++ (frame.body ++ end_mark) ≡ before ++ (end_mark ++ after) = sym frame.is ∙ e in
     elim (cases_lt (length before) 8) [
       | inl short ↦
-          let here : is_at end_mark (start_mark ++ (frame.body ++ end_mark)) (length before) ≡ true =
-          ap (λ xs. is_at end_mark xs (length before)) same ∙ end_stands before after in
+          let here : stands_at end_mark (start_mark ++ (frame.body ++ end_mark)) (length before) ≡ true =
+          ap (λ xs. stands_at end_mark xs (length before)) same ∙ end_stands before after in
           absurd (contrary _ here (start_inside (frame.body ++ end_mark) (length before) short))
       | inr long ↦
           let cut = cut_later start_mark (frame.body ++ end_mark) before (end_mark ++ after) same long in
@@ -277,7 +277,7 @@ ends_once f before after frame e =
 -- less than a frame has no whole end mark
 front_has_none : (f p left : List ℕ) → IsFrame f → f ≡ p ++ left → left ≢ [] → NoneFrom end_mark p 0
 front_has_none f p left frame e some = λ k low below.
-    elim (cases_Bool (is_at end_mark p k)) [
+    elim (cases_Bool (stands_at end_mark p k)) [
       | inr absent ↦ absent
       | inl found ↦
           let rest = drop 8 (drop k p) in

@@ -17,7 +17,7 @@ use Rattle.vte_types.specs.declared.mode.PrivateMode.TheVariants.{Named}
 use Rattle.vte_types.specs.declared.mode.NamedPrivateMode.TheVariants.{SyncUpdate}
 use Rattle.vte.specs.Table.{opens}
 use Rattle.vte.specs.Performed.{calls_of_all}
-use Rattle.vte.specs.Marks.{start_mark, end_mark, is_at, NoneFrom, IsLast, IsFirstFrom}
+use Rattle.vte.specs.Marks.{start_mark, end_mark, stands_at, NoneFrom, IsLast, IsFirstFrom}
 use Rattle.vte.specs.Stretch.{last_of, calls_from, opens_in, OpensAt}
 use Rattle.vte.specs.Hold.{closing}
 use Rattle.vte.proofs.HoldLemmas.{added-from, opens_in-append}
@@ -132,7 +132,7 @@ end_calls past g = calls_alone past end_mark g
 
 -- places
 
-pub at_later : (mark front back : List ℕ) (k : ℕ) → is_at mark (front ++ back) (length front + k) ≡ is_at mark back k
+pub at_later : (mark front back : List ℕ) (k : ℕ) → stands_at mark (front ++ back) (length front + k) ≡ stands_at mark back k
 at_later mark front back k = ap (λ text. starts_with nat_eq text mark) (drop-append-add front back k)
 
 and_none : (b : Bool) → b && false ≡ false
@@ -146,7 +146,7 @@ starts_short (y ∷ mark) (x ∷ text) h = ap (λ b. nat_eq y x && b) (starts_sh
     ∙ and_none (nat_eq y x)
 
 -- too little follows for a mark to stand there
-pub none_short : (mark text : List ℕ) (k : ℕ) → length text < length mark → is_at mark text k ≡ false
+pub none_short : (mark text : List ℕ) (k : ℕ) → length text < length mark → stands_at mark text k ≡ false
 none_short mark text k h = starts_short mark (drop k text) (omega (arith, length-drop k text, h))
 
 starts_so : (mark text : List ℕ) → starts_with nat_eq text mark ≡ true → text ≡ mark ++ drop (length mark) text
@@ -161,13 +161,13 @@ starts_so (y ∷ mark) (x ∷ text) h = elim (cases_Bool (nat_eq y x)) [
 ]
 
 -- a mark that stands there cuts the text
-pub at_cuts : (mark text : List ℕ) (k : ℕ) → is_at mark text k ≡ true
+pub at_cuts : (mark text : List ℕ) (k : ℕ) → stands_at mark text k ≡ true
     → text ≡ take k text ++ (mark ++ drop (length mark) (drop k text))
 at_cuts mark text k h = sym (take-append-drop k text) ∙ ap (λ zs. take k text ++ zs) (starts_so mark (drop k text) h)
 
 -- no mark begins inside an end mark
-end_inside : (back : List ℕ) (k : ℕ) → 0 < k → k < 8 → (is_at start_mark (end_mark ++ back) k ≡ false)
-    × (is_at end_mark (end_mark ++ back) k ≡ false)
+end_inside : (back : List ℕ) (k : ℕ) → 0 < k → k < 8 → (stands_at start_mark (end_mark ++ back) k ≡ false)
+    × (stands_at end_mark (end_mark ++ back) k ≡ false)
 end_inside back zero low high = absurd (omega arith)
 end_inside back (suc zero) low high = (refl, refl)
 end_inside back (suc (suc zero)) low high = (refl, refl)
@@ -179,7 +179,7 @@ end_inside back (suc (suc (suc (suc (suc (suc (suc zero))))))) low high = (refl,
 end_inside back (suc (suc (suc (suc (suc (suc (suc (suc n)))))))) low high = absurd (omega arith)
 
 -- no end mark begins inside a start mark
-pub start_inside : (back : List ℕ) (k : ℕ) → k < 8 → is_at end_mark (start_mark ++ back) k ≡ false
+pub start_inside : (back : List ℕ) (k : ℕ) → k < 8 → stands_at end_mark (start_mark ++ back) k ≡ false
 start_inside back zero h = refl
 start_inside back (suc zero) h = refl
 start_inside back (suc (suc zero)) h = refl
@@ -193,7 +193,7 @@ start_inside back (suc (suc (suc (suc (suc (suc (suc (suc n)))))))) h = absurd (
 pub contrary : (b : Bool) → b ≡ true → b ≡ false → ⊥
 contrary b h k = let e : true ≡ false = sym h ∙ k in cc
 
-pub end_stands : (front back : List ℕ) → is_at end_mark (front ++ (end_mark ++ back)) (length front) ≡ true
+pub end_stands : (front back : List ℕ) → stands_at end_mark (front ++ (end_mark ++ back)) (length front) ≡ true
 end_stands front back = ap (λ text. starts_with nat_eq text end_mark) (drop-append_seam front (end_mark ++ back))
 
 -- the last end mark, where none stands behind it
@@ -210,14 +210,14 @@ last_is front back e last none =
         | inl behind ↦
             let d = e - length front in
             let place : length front + d ≡ e = omega (arith, behind) in
-            let at : is_at end_mark (end_mark ++ back) d ≡ true =
-            sym (at_later end_mark front (end_mark ++ back) d) ∙ (ap (is_at end_mark text) place ∙ last.1) in
+            let at : stands_at end_mark (end_mark ++ back) d ≡ true =
+            sym (at_later end_mark front (end_mark ++ back) d) ∙ (ap (stands_at end_mark text) place ∙ last.1) in
             elim (cases_lt d 8) [
               | inl inside ↦ absurd (contrary _ at (end_inside back d (omega (arith, behind)) inside).1)
               | inr past ↦
-                  let at' : is_at end_mark back (d - 8) ≡ true =
+                  let at' : stands_at end_mark back (d - 8) ≡ true =
                   sym (at_later end_mark end_mark back (d - 8))
-                  ∙ (ap (is_at end_mark (end_mark ++ back)) (omega (arith, past)) ∙ at) in
+                  ∙ (ap (stands_at end_mark (end_mark ++ back)) (omega (arith, past)) ∙ at) in
                   absurd (contrary _ at' (none (d - 8) (omega arith)
                   (omega (arith, long, last.0, length-append end_mark back, past, place))))
             ]
@@ -230,14 +230,14 @@ pub first_is : (front back : List ℕ) (n : ℕ) → IsFirstFrom start_mark (fro
 first_is front back n first =
     let rest = start_mark ++ back in
     let text = front ++ (end_mark ++ rest) in
-    let here : is_at start_mark text (length front + 8) ≡ true = at_later start_mark front (end_mark ++ rest) 8 in
+    let here : stands_at start_mark text (length front + 8) ≡ true = at_later start_mark front (end_mark ++ rest) 8 in
     let size : length (front ++ end_mark) ≡ length front + 8 = length-append front end_mark in
     elim (cases_lt n (length front + 8)) [
       | inl sooner ↦
           let d = n - length front in
           let place : length front + d ≡ n = omega (arith, first.0) in
-          let at : is_at start_mark (end_mark ++ rest) d ≡ true =
-          sym (at_later start_mark front (end_mark ++ rest) d) ∙ (ap (is_at start_mark text) place ∙ first.2) in
+          let at : stands_at start_mark (end_mark ++ rest) d ≡ true =
+          sym (at_later start_mark front (end_mark ++ rest) d) ∙ (ap (stands_at start_mark text) place ∙ first.2) in
           absurd (contrary _ at (end_inside rest d (omega (arith, first.0)) (omega (arith, sooner, first.0))).0)
       | inr later ↦ elim (cases_lt (length front + 8) n) [
         | inl behind ↦ absurd (contrary _ here (first.3 (length front + 8) (omega arith) behind))
@@ -252,21 +252,21 @@ no_first front back n first short =
     let text = front ++ (end_mark ++ back) in
     let d = n - length front in
     let place : length front + d ≡ n = omega (arith, first.0) in
-    let at : is_at start_mark (end_mark ++ back) d ≡ true =
-    sym (at_later start_mark front (end_mark ++ back) d) ∙ (ap (is_at start_mark text) place ∙ first.2) in
+    let at : stands_at start_mark (end_mark ++ back) d ≡ true =
+    sym (at_later start_mark front (end_mark ++ back) d) ∙ (ap (stands_at start_mark text) place ∙ first.2) in
     elim (cases_lt d 8) [
       | inl inside ↦ contrary _ at (end_inside back d (omega (arith, first.0)) inside).0
       | inr past ↦
-          let at' : is_at start_mark back (d - 8) ≡ true =
+          let at' : stands_at start_mark back (d - 8) ≡ true =
           sym (at_later start_mark end_mark back (d - 8))
-          ∙ (ap (is_at start_mark (end_mark ++ back)) (omega (arith, past)) ∙ at) in
+          ∙ (ap (stands_at start_mark (end_mark ++ back)) (omega (arith, past)) ∙ at) in
           contrary _ at' (none_short start_mark back (d - 8) short)
     ]
 
 pub start_stands : (front back : List ℕ) → NoneFrom start_mark (front
     ++ (end_mark ++ (start_mark ++ back))) (length front + 1) → ⊥
 start_stands front back none =
-    let here : is_at start_mark (front ++ (end_mark ++ (start_mark ++ back))) (length front + 8) ≡ true =
+    let here : stands_at start_mark (front ++ (end_mark ++ (start_mark ++ back))) (length front + 8) ≡ true =
     at_later start_mark front (end_mark ++ (start_mark ++ back)) 8 in
     let long = length-append front (end_mark ++ (start_mark ++ back)) in
     contrary _ here (none (length front + 8) (omega arith) (omega (arith, long)))

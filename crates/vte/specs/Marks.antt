@@ -11,18 +11,18 @@ abbrev pub end_mark : List ℕ
 end_mark = 27 ∷ 91 ∷ 63 ∷ 50 ∷ 48 ∷ 50 ∷ 54 ∷ 108 ∷ []
 
 -- a whole mark stands at this place
-abbrev pub is_at : List ℕ → List ℕ → ℕ → Bool
-is_at mark text i = starts_with nat_eq (drop i text) mark
+abbrev pub stands_at : List ℕ → List ℕ → ℕ → Bool
+stands_at mark text i = starts_with nat_eq (drop i text) mark
 
 -- none stands at this place or after it
 abbrev pub NoneFrom : List ℕ → List ℕ → ℕ → Type 0
-NoneFrom mark text i = (k : ℕ) → i ≤ k → k < length text → is_at mark text k ≡ false
+NoneFrom mark text i = (k : ℕ) → i ≤ k → k < length text → stands_at mark text k ≡ false
 
 -- the last one stands here
 abbrev pub IsLast : List ℕ → List ℕ → ℕ → Type 0
-IsLast mark text i = (i < length text) × (is_at mark text i ≡ true) × NoneFrom mark text (i + 1)
+IsLast mark text i = (i < length text) × (stands_at mark text i ≡ true) × NoneFrom mark text (i + 1)
 
 -- the first one from a place on stands here
 abbrev pub IsFirstFrom : List ℕ → List ℕ → ℕ → ℕ → Type 0
-IsFirstFrom mark text from i = (from ≤ i) × (i < length text) × (is_at mark text i ≡ true)
-    × ((k : ℕ) → from ≤ k → k < i → is_at mark text k ≡ false)
+IsFirstFrom mark text from i = (from ≤ i) × (i < length text) × (stands_at mark text i ≡ true)
+    × ((k : ℕ) → from ≤ k → k < i → stands_at mark text k ≡ false)

@@ -1,7 +1,7 @@
 //! Control sequences that move the cursor.
 ghost use Rattle.std.specs.Prelude.{◌≡◌, ◌-◌, true, false};
 ghost use Rattle.vt100.specs.Tries.{unless_failed};
-ghost use Rattle.screen_model.specs.Step.{moved_up, moved_down, moved_left, moved_right, line_below, line_above};
+ghost use Rattle.screen_model.specs.Step.{cursor_up, cursor_down, moved_left, moved_right, line_below, line_above};
 ghost use Rattle.screen_model.specs.Step.{at_column, at_row, at_place, in_region};
 
 use crate::callbacks::Callbacks;
@@ -11,7 +11,7 @@ use vt100_core::Pos;
 impl<CB: Callbacks> WrappedScreen<CB> {
     /// Moves the cursor up, within the scroll region if it is there (CUU).
     pub fn cuu(&mut self, offset: u16)
-        ensures screen { self.new.screen ≡ unless_failed (moved_up offset) self.old.screen }
+        ensures screen { self.new.screen ≡ unless_failed (cursor_up offset) self.old.screen }
         ensures callbacks { self.new.callbacks ≡ self.old.callbacks }
     {
         if !self.screen.failed {
@@ -21,7 +21,7 @@ impl<CB: Callbacks> WrappedScreen<CB> {
 
     /// Moves the cursor down, within the scroll region if it is there (CUD).
     pub fn cud(&mut self, offset: u16)
-        ensures screen { self.new.screen ≡ unless_failed (moved_down offset) self.old.screen }
+        ensures screen { self.new.screen ≡ unless_failed (cursor_down offset) self.old.screen }
         ensures callbacks { self.new.callbacks ≡ self.old.callbacks }
     {
         if !self.screen.failed {

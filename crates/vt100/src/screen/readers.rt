@@ -6,7 +6,7 @@ ghost use Rattle.vt100_capture.specs.Capture.{captured, after_rows, new_capture}
 ghost use Rattle.vt100_capture.specs.Range.{start_of, LeavesState};
 ghost use Rattle.vt100_core.specs.Basic.{rows_in};
 ghost use Rattle.vt100_core.specs.Grid.{visible};
-ghost use Rattle.vt100_core.specs.Contents.{newlines_cut, shown_lines};
+ghost use Rattle.vt100_core.specs.Contents.{newlines_cut, text_lines};
 ghost use Rattle.vt100.specs.Texts.{row_texts, rest_of_row, text_between};
 ghost use Rattle.vt100.specs.declared.error.ScreenError.TheVariants.{Memory};
 
@@ -22,7 +22,7 @@ impl Screen {
     /// newline after each row that doesn't go on in the next, and without newlines at its own end.
     pub fn contents(&self) -> Result<String, ScreenError>
         ensures text { IfOk result (λ contents. string_bytes contents ≡ newlines_cut (encode_utf8_all
-            (shown_lines self.now.state.shown (length self.now.state.shown.rows)))) }
+            (text_lines self.now.state.shown (length self.now.state.shown.rows)))) }
         ensures memory { OnErr result (result ≡ Err Memory) }
     {
         let mut contents = String::new(self.alloc);

@@ -4,7 +4,7 @@ ghost use Rattle.vt100_forms.specs.Form.{spell};
 ghost use Rattle.vt100_cells.specs.Cell.{bool_eq};
 ghost use Rattle.screen_drawing.specs.Modes.{input_mode_formatted, input_mode_diff, attributes_formatted};
 ghost use Rattle.screen_drawing.specs.Screen as picture;
-ghost use Rattle.vt100_core.specs.Picture.{size_of};
+ghost use Rattle.vt100_core.specs.Picture.{grid_size};
 ghost use Rattle.screen_model.specs.Shown.{shown_state};
 ghost use Rattle.vt100.specs.Writers.{contents_formatted, state_formatted, contents_diff, state_diff};
 ghost use Rattle.vt100.specs.Writers.{cursor_state_formatted, rows_formatted, rows_diff};
@@ -30,9 +30,9 @@ impl Screen {
     pub fn state_formatted(&self) -> Result<String, ScreenError>
         ensures text { IfOk result (λ contents. string_bytes contents ≡ spell (state_formatted self.now.state)) }
         ensures shown { IsUnscrolled self.now.state → IfOk result (λ contents. string_bytes contents
-            ≡ spell (picture.state_formatted (size_of self.now.state.shown) (shown_state self.now.state))) }
+            ≡ spell (picture.state_formatted (grid_size self.now.state.shown) (shown_state self.now.state))) }
         ensures short { IsUnscrolled self.now.state → IfOk result (λ contents.
-            IsShortText (size_of self.now.state.shown) 1008 (string_bytes contents)) }
+            IsShortText (grid_size self.now.state.shown) 1008 (string_bytes contents)) }
         ensures memory { OnErr result (result ≡ Err Memory) }
     {
         let mut contents = String::new(self.alloc);
@@ -53,16 +53,16 @@ impl Screen {
         ensures text { IfOk result (λ contents. string_bytes contents
             ≡ spell (state_diff prev.now.state self.now.state)) }
         ensures shown { IsUnscrolled prev.now.state → IsUnscrolled self.now.state
-            → size_of prev.now.state.shown ≡ size_of self.now.state.shown
+            → grid_size prev.now.state.shown ≡ grid_size self.now.state.shown
             → IfOk result (λ contents. string_bytes contents ≡ spell (picture.state_diff
-            (size_of self.now.state.shown) (shown_state prev.now.state) (shown_state self.now.state))) }
+            (grid_size self.now.state.shown) (shown_state prev.now.state) (shown_state self.now.state))) }
         ensures short { IsUnscrolled prev.now.state → IsUnscrolled self.now.state
-            → size_of prev.now.state.shown ≡ size_of self.now.state.shown
-            → IfOk result (λ contents. IsShortText (size_of self.now.state.shown) 1008 (string_bytes contents)) }
+            → grid_size prev.now.state.shown ≡ grid_size self.now.state.shown
+            → IfOk result (λ contents. IsShortText (grid_size self.now.state.shown) 1008 (string_bytes contents)) }
         ensures local { IsUnscrolled prev.now.state → IsUnscrolled self.now.state
-            → size_of prev.now.state.shown ≡ size_of self.now.state.shown
+            → grid_size prev.now.state.shown ≡ grid_size self.now.state.shown
             → IsPlainlyShown (shown_state self.now.state)
-            → IfOk result (λ contents. IsLocalText (size_of self.now.state.shown) (shown_state prev.now.state)
+            → IfOk result (λ contents. IsLocalText (grid_size self.now.state.shown) (shown_state prev.now.state)
             (shown_state self.now.state) (string_bytes contents)) }
         ensures memory { OnErr result (result ≡ Err Memory) }
     {
@@ -79,9 +79,9 @@ impl Screen {
     pub fn contents_formatted(&self) -> Result<String, ScreenError>
         ensures text { IfOk result (λ contents. string_bytes contents ≡ spell (contents_formatted self.now.state)) }
         ensures shown { IsUnscrolled self.now.state → IfOk result (λ contents. string_bytes contents
-            ≡ spell (picture.contents_formatted (size_of self.now.state.shown) (shown_state self.now.state))) }
+            ≡ spell (picture.contents_formatted (grid_size self.now.state.shown) (shown_state self.now.state))) }
         ensures short { IsUnscrolled self.now.state → IfOk result (λ contents.
-            IsShortText (size_of self.now.state.shown) 512 (string_bytes contents)) }
+            IsShortText (grid_size self.now.state.shown) 512 (string_bytes contents)) }
         ensures memory { OnErr result (result ≡ Err Memory) }
     {
         let mut contents = String::new(self.alloc);
@@ -122,16 +122,16 @@ impl Screen {
         ensures text { IfOk result (λ contents. string_bytes contents
             ≡ spell (contents_diff prev.now.state self.now.state)) }
         ensures shown { IsUnscrolled prev.now.state → IsUnscrolled self.now.state
-            → size_of prev.now.state.shown ≡ size_of self.now.state.shown
+            → grid_size prev.now.state.shown ≡ grid_size self.now.state.shown
             → IfOk result (λ contents. string_bytes contents ≡ spell (picture.contents_diff
-            (size_of self.now.state.shown) (shown_state prev.now.state) (shown_state self.now.state))) }
+            (grid_size self.now.state.shown) (shown_state prev.now.state) (shown_state self.now.state))) }
         ensures short { IsUnscrolled prev.now.state → IsUnscrolled self.now.state
-            → size_of prev.now.state.shown ≡ size_of self.now.state.shown
-            → IfOk result (λ contents. IsShortText (size_of self.now.state.shown) 512 (string_bytes contents)) }
+            → grid_size prev.now.state.shown ≡ grid_size self.now.state.shown
+            → IfOk result (λ contents. IsShortText (grid_size self.now.state.shown) 512 (string_bytes contents)) }
         ensures local { IsUnscrolled prev.now.state → IsUnscrolled self.now.state
-            → size_of prev.now.state.shown ≡ size_of self.now.state.shown
+            → grid_size prev.now.state.shown ≡ grid_size self.now.state.shown
             → IsPlainlyShown (shown_state self.now.state)
-            → IfOk result (λ contents. IsLocalText (size_of self.now.state.shown) (shown_state prev.now.state)
+            → IfOk result (λ contents. IsLocalText (grid_size self.now.state.shown) (shown_state prev.now.state)
             (shown_state self.now.state) (string_bytes contents)) }
         ensures memory { OnErr result (result ≡ Err Memory) }
     {
@@ -265,7 +265,7 @@ impl Screen {
         ensures text { IfOk result (λ contents. string_bytes contents
             ≡ spell (cursor_state_formatted self.now.state)) }
         ensures shown { IsUnscrolled self.now.state → IfOk result (λ contents. string_bytes contents
-            ≡ spell (picture.cursor_state_formatted (size_of self.now.state.shown) (shown_state self.now.state))) }
+            ≡ spell (picture.cursor_state_formatted (grid_size self.now.state.shown) (shown_state self.now.state))) }
         ensures memory { OnErr result (result ≡ Err Memory) }
     {
         let mut contents = String::new(self.alloc);

@@ -1,7 +1,7 @@
 //! The text that a grid shows.
 ghost use Rattle.std.specs.Prelude.{◌≡◌, ◌++◌, length, OnOk, OnErr, string_bytes, encode_utf8_all};
 ghost use Rattle.vt100_rows.specs.Text.{IsBegun};
-ghost use Rattle.vt100_core.specs.Contents.{newlines_cut, shown_lines};
+ghost use Rattle.vt100_core.specs.Contents.{newlines_cut, text_lines};
 
 use crate::grid::Grid;
 use vt100_forms::GridError;
@@ -15,9 +15,9 @@ impl Grid {
     pub fn write_contents(&self, contents: &mut String) -> Result<(), GridError>
         ensures text { OnOk result (string_bytes contents.new
             ≡ newlines_cut (string_bytes contents.old
-            ++ encode_utf8_all (shown_lines self.now (length self.now.rows)))) }
+            ++ encode_utf8_all (text_lines self.now (length self.now.rows)))) }
         ensures begun { OnErr result (IsBegun (string_bytes contents.old)
-            (encode_utf8_all (shown_lines self.now (length self.now.rows))) (string_bytes contents.new)) }
+            (encode_utf8_all (text_lines self.now (length self.now.rows))) (string_bytes contents.new)) }
     {
         let mut wrapping = false;
         for row in self.visible_rows() {

@@ -1,9 +1,9 @@
 //! How a terminal's cursor comes to that of a grid.
 ghost use Rattle.std.specs.Prelude.{◌≡◌, ◌-◌, ◌<◌, ◌≤◌, length, is_ok, replicate, IfSome, string_bytes};
 ghost use Rattle.vt100_forms.specs.Form.{Lf};
-ghost use Rattle.screen_drawing.specs.Cursor.{is_at, arriving, last_col, last_cell, printed_with, row_with_end};
+ghost use Rattle.screen_drawing.specs.Cursor.{is_pen_at, arriving, end_col, end_cell, printed_with, row_with_end};
 ghost use Rattle.screen_drawing.specs.Cursor.{wait_behind, wait_on_empty};
-ghost use Rattle.vt100_core.specs.Picture.{size_of};
+ghost use Rattle.vt100_core.specs.Picture.{grid_size};
 ghost use Rattle.vt100_core.specs.Writers.{Appends, drawn_on, cursor_position_formatted, replaced};
 
 use crate::grid::Grid;
@@ -39,7 +39,7 @@ impl Grid {
         if self.pos.col < self.size.cols() {
             return arrive(contents, prev_pos, self.pos);
         }
-        if is_at(prev_pos, self.pos) {
+        if is_pen_at(prev_pos, self.pos) {
             return Ok(());
         }
         match self.row_with_end() {
@@ -57,7 +57,7 @@ impl Grid {
     /// The column of a row's last cell, or of that one's first half.
     fn last_col(&self, row: u16) -> u16
         requires { row < length self.now.rows }
-        ensures value { result ≡ last_col (size_of self.now) (drawn_on self.now) row }
+        ensures value { result ≡ end_col (grid_size self.now) (drawn_on self.now) row }
         ensures inside { result < self.now.width }
     {
         let cells = at(&self.rows, usize::from(row)).cells();
@@ -72,7 +72,7 @@ impl Grid {
     /// A row's last cell, or its first half.
     fn last_cell(&self, row: u16) -> &Cell
         requires { row < length self.now.rows }
-        ensures { result.now ≡ last_cell (size_of self.now) (drawn_on self.now) row }
+        ensures { result.now ≡ end_cell (grid_size self.now) (drawn_on self.now) row }
     {
         line::at(
             at(&self.rows, usize::from(row)).cells(),
@@ -83,7 +83,7 @@ impl Grid {
     /// The nearest row, from the cursor's on upwards, whose last cell has a text.
     fn row_with_end(&self) -> Option<u16>
         requires { self.now.row < length self.now.rows }
-        ensures value { result ≡ row_with_end (size_of self.now) (drawn_on self.now) self.now.row }
+        ensures value { result ≡ row_with_end (grid_size self.now) (drawn_on self.now) self.now.row }
         ensures above { IfSome result (λ r. r ≤ self.now.row) }
     {
         let mut row = self.pos.row;
@@ -105,14 +105,14 @@ impl Grid {
         row: u16,
     ) -> Result<(), GridError>
         requires { row < length self.now.rows }
-        ensures { Appends (wait_behind (size_of self.now) (drawn_on self.now) prev_pos attrs row)
+        ensures { Appends (wait_behind (grid_size self.now) (drawn_on self.now) prev_pos attrs row)
             (string_bytes contents.old) (is_ok result) (string_bytes contents.new) }
     {
         let end = Pos {
             row,
             col: self.size.cols(),
         };
-        if is_at(prev_pos, end) {
+        if is_pen_at(prev_pos, end) {
             return Ok(());
         }
         let pos = Pos {
@@ -131,7 +131,7 @@ impl Grid {
         attrs: Attrs,
     ) -> Result<(), GridError>
         requires { self.now.row < length self.now.rows }
-        ensures { Appends (wait_on_empty (size_of self.now) prev_pos attrs self.now.row
+        ensures { Appends (wait_on_empty (grid_size self.now) prev_pos attrs self.now.row
             ((drawn_on self.now).cell self.now.row (self.now.width - 1)))
             (string_bytes contents.old) (is_ok result) (string_bytes contents.new) }
     {
@@ -167,7 +167,7 @@ fn arrive(contents: &mut String, prev_pos: Option<Pos>, pos: Pos) -> Result<(), 
 
 /// Whether the cursor is known to stand at `pos`.
 fn is_at(prev_pos: Option<Pos>, pos: Pos) -> bool
-    ensures { result ≡ is_at prev_pos pos }
+    ensures { result ≡ is_pen_at prev_pos pos }
 {
     match prev_pos {
         Some(prev_pos) => prev_pos == pos,

@@ -5,8 +5,8 @@ ghost use Rattle.row_drawing.specs.Writes.{Writes};
 ghost use Rattle.screen_drawing.specs.Rows.{pen_at};
 ghost use Rattle.vt100_core.specs.Writers.{Appends, contents_formatted, redrawn, lines_redraw, differing};
 ghost use Rattle.vt100_core.specs.Writers.{lines_difference};
-ghost use Rattle.vt100_core.specs.Picture.{size_of};
-ghost use Rattle.vt100_core.specs.WriterLaws.{IsUnscrolled, IsDrawableGrid};
+ghost use Rattle.vt100_core.specs.Picture.{grid_size};
+ghost use Rattle.vt100_core.specs.WriterLaws.{IsUnscrolledGrid, IsDrawableGrid};
 ghost use Rattle.vt100_core.specs.FormLists.{IsProperGrid, IsShortGrowth, AppendsLocal};
 
 use crate::grid::Grid;
@@ -62,10 +62,10 @@ impl Grid {
         ensures text { Appends (differing self.now prev.now prev_attrs).forms (string_bytes contents.old) (is_ok result)
             (string_bytes contents.new) }
         ensures attrs { IfOk result (λ answer. answer ≡ (differing self.now prev.now prev_attrs).pen.attrs) }
-        ensures short { IsProperGrid self.now → IsUnscrolled prev.now → size_of prev.now ≡ size_of self.now
+        ensures short { IsProperGrid self.now → IsUnscrolledGrid prev.now → grid_size prev.now ≡ grid_size self.now
             → HasByteColors prev_attrs → IfOk result (λ answer.
             IsShortGrowth self.now (string_bytes contents.old) (string_bytes contents.new)) }
-        ensures local { IsDrawableGrid self.now → IsUnscrolled prev.now → size_of prev.now ≡ size_of self.now
+        ensures local { IsDrawableGrid self.now → IsUnscrolledGrid prev.now → grid_size prev.now ≡ grid_size self.now
             → IsProper prev_attrs → IfOk result (λ answer.
             AppendsLocal self.now prev.now prev_attrs (string_bytes contents.old) (string_bytes contents.new)) }
     {

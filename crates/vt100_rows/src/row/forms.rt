@@ -2,7 +2,7 @@
 ghost use Rattle.std.specs.Prelude.{◌≡◌, ◌++◌, is_ok, OnOk, IfOk, OnErr, string_bytes};
 ghost use Rattle.vt100_forms.specs.Form.{spell};
 ghost use Rattle.row_drawing.specs.Writes.{Writes};
-ghost use Rattle.vt100_rows.specs.Forms.{redraw, pen_at, formatted, difference, differing};
+ghost use Rattle.vt100_rows.specs.Forms.{redraw, pen_before, formatted, difference, differing};
 ghost use Rattle.vt100_rows.specs.Text.{IsBegun};
 
 use crate::row::Row;
@@ -106,7 +106,7 @@ impl Row {
         prev_pos: Option<Pos>,
         prev_attrs: Option<Attrs>,
     ) -> Pen
-        ensures { result ≡ pen_at self.now start row wrapping prev_pos prev_attrs }
+        ensures { result ≡ pen_before self.now start row wrapping prev_pos prev_attrs }
     {
         let pos = if wrapping {
             Pos {

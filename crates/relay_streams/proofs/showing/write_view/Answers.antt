@@ -1,7 +1,7 @@
 use Rattle.std.proofs.Common.{ℕ, List, ap, subst, ◌≡◌, ◌++◌, ◌+◌, ◌-◌, ◌∙◌, [], Ok, Err, append_assoc, append-nil, arith, sym, refl, rules}
 use Rattle.takers.specs.Sent.{SendsText, done}
 use Rattle.takers.proofs.SendLemmas.{text-more, text-broken}
-use Rattle.termview.specs.Standing.{shown_by, size_of}
+use Rattle.termview.specs.Standing.{shown_by, view_size}
 use Rattle.relay_streams.specs.Shown.{row_line, rows_text, screen_text}
 use Rattle.relay_streams.proofs.OutputLemmas.{rows-next}
 use Rattle.relay_streams.proofs.showing.write_view.Goals as goal
@@ -12,7 +12,7 @@ loop-row-init g c = record { written = []; sent = done; follows = search rules }
 pub returns-in_err-write_row : goal.returns-in_err-write_row
 returns-in_err-write_row g c =
     let so_far = c.loop-row.invariant in
-    let z = size_of c.args.view.now in
+    let z = view_size c.args.view.now in
     let t = (shown_by c.args.view.now).cell in
     let row = c.loop-row.row in
     let end = c.get-row-end.result in
@@ -27,7 +27,7 @@ returns-in_err-write_row g c =
 pub loop-row-preserved : goal.loop-row-preserved
 loop-row-preserved g c =
     let so_far = c.loop-row.invariant in
-    let z = size_of c.args.view.now in
+    let z = view_size c.args.view.now in
     let t = (shown_by c.args.view.now).cell in
     let row = c.loop-row.row in
     let end = c.get-row-end.result in
@@ -42,7 +42,7 @@ loop-row-preserved g c =
 pub returns : goal.returns
 returns g c =
     let so_far = c.loop-row.invariant in
-    let z = size_of c.args.view.now in
+    let z = view_size c.args.view.now in
     let t = (shown_by c.args.view.now).cell in
     let row = c.loop-row.row in
     let end = c.get-row-end.result in

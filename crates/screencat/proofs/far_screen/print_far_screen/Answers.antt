@@ -1,6 +1,6 @@
 use Rattle.std.proofs.Common.{◌∙◌, arith}
 use Rattle.std.specs.List.{concat}
-use Rattle.termview.specs.Standing.{shown_by, size_of}
+use Rattle.termview.specs.Standing.{shown_by, view_size}
 use Rattle.relay_streams.specs.Shown.{screen_text}
 use Rattle.relay_streams.proofs.OutcomeLemmas.{prints-text}
 use Rattle.relay_streams.proofs.PieceLemmas.{drained-pieces}
@@ -26,7 +26,7 @@ returns g c =
     let view = c.carry_frames.new.view in
     record {
       text = printed c.print_view.result (g.S.Source.left c.args.input.now) (IsFarText rows cols)
-          (screen_text (size_of view) (shown_by view).cell) _ _
+          (screen_text (view_size view) (shown_by view).cell) _ _
           (λ bytes known. record {
             pieces = carried.pieces;
             relayed = relayed-as rows cols bytes read.0 brought.0 (concat carried.pieces) brought.1
@@ -36,5 +36,5 @@ returns g c =
           })
           (prints-text g.row.S.Denot g.row.W.Denot g.S.Source.gives g.W.Taker.takes g.W.Sink.flushes g.W.Sink.contents
           g.S.Source.left g.met.S.Source.tells g.met.W.Sink.tells g.met.W.Sink.keeps c.args.output.now
-          (screen_text (size_of view) (shown_by view).cell) c.print_view.result c.print_view.new.output c.print_view.ensures);
+          (screen_text (view_size view) (shown_by view).cell) c.print_view.result c.print_view.new.output c.print_view.ensures);
     }

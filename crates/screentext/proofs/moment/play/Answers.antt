@@ -1,6 +1,6 @@
 use Rattle.std.proofs.Common.{◌≡◌, ◌++◌, ◌+◌, ◌∷◌, [], sym, ap, ◌∙◌, append_assoc, take, subst}
 use Rattle.std.proofs.lemmas.List.{take_more}
-use Rattle.vt100.specs.Parsing.{StandsAt}
+use Rattle.vt100.specs.Parsing.{ParserStandsAt}
 use Rattle.screentext.specs.Moment.{acts_until}
 use Rattle.screentext.proofs.MomentLemmas.{acts_until-append}
 use Rattle.screentext.proofs.moment.play.Goals as goal
@@ -16,6 +16,6 @@ loop-event-preserved c rows cols capacity acts stands =
     let joined : acts ++ acts_until m (take (i + 1) es) ≡ (acts ++ acts_until m (take i es)) ++ acts_until m (e ∷ []) =
     ap (λ xs. acts ++ acts_until m xs) more ∙ ap (λ ys. acts ++ ys) (acts_until-append m (take i es) (e ∷ []))
     ∙ sym (append_assoc acts (acts_until m (take i es)) (acts_until m (e ∷ []))) in
-    subst (λ xs. StandsAt c.step.new.parser rows cols capacity xs) (sym joined)
+    subst (λ xs. ParserStandsAt c.step.new.parser rows cols capacity xs) (sym joined)
     (c.in_ok-step.ensures rows cols capacity (acts ++ acts_until m (take i es))
     (c.loop-event.invariant rows cols capacity acts stands))

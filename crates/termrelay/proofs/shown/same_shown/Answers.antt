@@ -1,5 +1,5 @@
 use Rattle.std.proofs.Common.{◌≡◌, ◌∙◌, rules}
-use Rattle.vt100_core.specs.Picture.{size_of}
+use Rattle.vt100_core.specs.Picture.{grid_size}
 use Rattle.screen_model.specs.Shown.{shown_state}
 use Rattle.termrelay.proofs.ShownLemmas.{shown_asked, shown-told}
 use Rattle.termrelay.proofs.shown.same_shown.Goals.{then-eq, else-eq, then-hide_cursor, else-hide_cursor}
@@ -9,7 +9,7 @@ use Rattle.termrelay.proofs.shown.same_shown.Goals as goal
 
 pub returns-then-same_wraps : goal.returns-then-same_wraps
 returns-then-same_wraps c =
-    let z = size_of c.args.screen.now.state.shown in
+    let z = grid_size c.args.screen.now.state.shown in
     let s = shown_state c.args.screen.now.state in
     let t = shown_state c.args.other.now.state in
     let asked : c.same_cells.result ≡ shown_asked z s t = search rules in
@@ -17,7 +17,7 @@ returns-then-same_wraps c =
 
 pub returns-else-same_wraps : goal.returns-else-same_wraps
 returns-else-same_wraps c =
-    let z = size_of c.args.screen.now.state.shown in
+    let z = grid_size c.args.screen.now.state.shown in
     let s = shown_state c.args.screen.now.state in
     let t = shown_state c.args.other.now.state in
     let asked : c.if-same_attributes.value ≡ shown_asked z s t = elim c.if-same_attributes.branch [

@@ -2,7 +2,7 @@ use Rattle.std.proofs.Common.{◌≡◌, ◌<◌, ◌+◌, ◌-◌, ◌∙◌, s
 use Rattle.std.proofs.Common.{length-drop, length-take}
 use Rattle.std.proofs.lemmas.Bool.{cases_lt}
 use Rattle.std.proofs.lemmas.List.{take_all}
-use Rattle.vte.specs.Marks.{is_at}
+use Rattle.vte.specs.Marks.{stands_at}
 use Rattle.vte.proofs.MarkLemmas.{none_in_part}
 use Rattle.vte.proofs.marks.first_mark.Goals as goal
 
@@ -13,7 +13,7 @@ returns-then-starts_with c =
     let at = c.in-Some.at in
     let all = take_all (length text - (next + at)) (drop (next + at) text)
     (omega (arith, length-drop (next + at) text)) in
-    let is : is_at c.args.mark.now text (next + at) ≡ true =
+    let is : stands_at c.args.mark.now text (next + at) ≡ true =
     sym (rw all at c.starts_with.ensures.value) ∙ c.if-starts_with.true in
     let inside : next + at < length text = omega (
       arith,
@@ -38,7 +38,7 @@ loop-at-preserved c =
     let at = c.in-Some.at in
     let all = take_all (length text - (next + at)) (drop (next + at) text)
     (omega (arith, length-drop (next + at) text)) in
-    let no : is_at c.args.mark.now text (next + at) ≡ false =
+    let no : stands_at c.args.mark.now text (next + at) ≡ false =
     sym (rw all at c.starts_with.ensures.value) ∙ c.if-starts_with.false in
     let inside : next + at < length text = omega (
       arith,
@@ -54,7 +54,7 @@ loop-at-preserved c =
         | inr later ↦ elim (cases_lt k (next + at)) [
           | inl before ↦ none_in_part c.args.mark.now text next (length text - next) 0 at (omega (arith, c.told-mark))
               (omega (arith, inside)) (omega (arith, inside)) c.in-Some.ensures.0.before k (omega (arith, later)) before
-          | inr from ↦ subst (λ (i : ℕ). is_at c.args.mark.now text i ≡ false) (let here : next + at ≡ k =
+          | inr from ↦ subst (λ (i : ℕ). stands_at c.args.mark.now text i ≡ false) (let here : next + at ≡ k =
               omega (arith, below, from) in here) no
         ]
       ];

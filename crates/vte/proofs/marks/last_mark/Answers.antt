@@ -2,7 +2,7 @@ use Rattle.std.proofs.Common.{◌≡◌, ◌<◌, ◌+◌, ◌-◌, ◌∙◌, s
 use Rattle.std.proofs.Common.{length-drop, length-take}
 use Rattle.std.proofs.lemmas.Bool.{cases_lt}
 use Rattle.std.proofs.lemmas.List.{take_all}
-use Rattle.vte.specs.Marks.{is_at}
+use Rattle.vte.specs.Marks.{stands_at}
 use Rattle.vte.proofs.MarkLemmas.{none_in_part}
 use Rattle.vte.proofs.marks.last_mark.Goals as goal
 
@@ -14,7 +14,7 @@ returns-then-starts_with c =
     let at = c.in-Some.at in
     let all = take_all (length text - (from + at)) (drop (from + at) text)
     (omega (arith, length-drop (from + at) text)) in
-    let is : is_at c.args.mark.now text (from + at) ≡ true =
+    let is : stands_at c.args.mark.now text (from + at) ≡ true =
     sym (rw all at c.starts_with.ensures.value) ∙ c.if-starts_with.true in
     let part : length (take (end - from) (drop from text)) ≡ end - from =
     omega (arith, length-take (end - from) (drop from text), length-drop from text, c.loop-at.invariant.within)
@@ -42,7 +42,7 @@ loop-at-preserved c =
     let at = c.in-Some.at in
     let all = take_all (length text - (from + at)) (drop (from + at) text)
     (omega (arith, length-drop (from + at) text)) in
-    let no : is_at c.args.mark.now text (from + at) ≡ false =
+    let no : stands_at c.args.mark.now text (from + at) ≡ false =
     sym (rw all at c.starts_with.ensures.value) ∙ c.if-starts_with.false in
     let part : length (take (end - from) (drop from text)) ≡ end - from =
     omega (arith, length-take (end - from) (drop from text), length-drop from text, c.loop-at.invariant.within)
@@ -53,7 +53,7 @@ loop-at-preserved c =
       above = omega arith;
       none = λ k low below. elim (cases_lt k end) [
         | inl sooner ↦ elim (cases_lt k (from + at + 1)) [
-          | inl here ↦ subst (λ (i : ℕ). is_at c.args.mark.now text i ≡ false) (let same : from + at ≡ k =
+          | inl here ↦ subst (λ (i : ℕ). stands_at c.args.mark.now text i ≡ false) (let same : from + at ≡ k =
               omega (arith, low, here) in same) no
           | inr after ↦ none_in_part c.args.mark.now text from (end - from) (at + 1) (end - from)
               (omega (arith, c.told-mark)) (omega (arith, c.loop-at.invariant.within, c.loop-at.invariant.above))

@@ -3,7 +3,7 @@ use Rattle.std.proofs.Common.{if◌then◌else◌, Option, Some, None, Result, O
 use Rattle.std.proofs.lemmas.Bool.{false≢true, eqb-true, eq-eqb}
 use Rattle.std.proofs.lemmas.Result.{err_from_is_err_and}
 use Rattle.std.specs.Option.{option_map, option_copied, IfSome}
-use Rattle.vt100_core.specs.Picture.{size_of}
+use Rattle.vt100_core.specs.Picture.{grid_size}
 use Rattle.terminal_model.specs.Term.{Shown}
 use Rattle.screen_model.specs.State.{State}
 use Rattle.screen_model.specs.Call.{ScreenView}
@@ -15,9 +15,9 @@ use Rattle.termrelay.specs.declared.answer.Answer.TheVariants.{Difference, TooLo
 use Rattle.termrelay.specs.declared.error.HubError.{HubError}
 use Rattle.termrelay.specs.declared.error.HubError.TheVariants.{Memory}
 use Rattle.termrelay.specs.Frame.{frame_text, IsShortFrame}
-use Rattle.termrelay.specs.Answers.{ClientState, due, wanted_of, is_too_long, answer_to, answer_of, is_frame, after_answer}
+use Rattle.termrelay.specs.Answers.{ClientState, due, wanted_of, is_too_long, answer_to, answer_for, is_frame, after_answer}
 use Rattle.termrelay.specs.Answers.{may_take_memory}
-use Rattle.termrelay.specs.Record.{RecordView, client_of, IsServed}
+use Rattle.termrelay.specs.Record.{RecordView, client_of, IsRecordOf}
 use Rattle.termrelay.specs.HubFields.{hub_of}
 use Rattle.termrelay.specs.Hub.{HubState, as_kept, clients_in, Puts, CanFrame, Framed, Frames, size_in, shown_in}
 use Rattle.termrelay.specs.Hub.{OwesOneFrame, OwesLocalFrame}
@@ -34,23 +34,23 @@ none-owed : (now : State) (base : Option Shown) (owed : List ℕ) → is_frame (
 none-owed now base [] frame = refl
 none-owed now base (b ∷ bs) frame = absurd (false≢true frame)
 
-after-frame : (now : State) (c : ClientState) (answer : Answer) (text : List ℕ) → answer ≡ answer_of now c
-    → is_frame answer ≡ true → text ≡ frame_text (size_of now.shown) c.base (shown_state now)
+after-frame : (now : State) (c : ClientState) (answer : Answer) (text : List ℕ) → answer ≡ answer_for now c
+    → is_frame answer ≡ true → text ≡ frame_text (grid_size now.shown) c.base (shown_state now)
     → record { owed = text; base = Some (shown_state now) }
-    ≡ after_answer (size_of now.shown) (shown_state now) c answer
+    ≡ after_answer (grid_size now.shown) (shown_state now) c answer
 after-frame now c answer text is frame is_text =
     let framing : ClientState = record {
-      owed = c.owed ++ frame_text (size_of now.shown) c.base (shown_state now);
+      owed = c.owed ++ frame_text (grid_size now.shown) c.base (shown_state now);
       base = Some (shown_state now);
     } in
     let none : c.owed ≡ [] = none-owed now c.base c.owed (ap is_frame (sym is) ∙ frame) in
     ap (λ (xs : List ℕ). record { owed = xs; base = Some (shown_state now) })
-    (is_text ∙ ap (λ (ys : List ℕ). ys ++ frame_text (size_of now.shown) c.base (shown_state now)) (sym none))
+    (is_text ∙ ap (λ (ys : List ℕ). ys ++ frame_text (grid_size now.shown) c.base (shown_state now)) (sym none))
     ∙ ap (λ b. if b then framing else c) (sym frame)
 
 frames : (h : HubState as_kept) (key : ℕ) (r : RecordView) (answer : Answer) (text : List ℕ) (g : HubState as_kept)
     → slice_index_or h.clients key None ≡ Some r → h.parser.screen.failed ≡ false
-    → answer ≡ answer_of h.parser.screen.state (client_of r) → is_frame answer ≡ true
+    → answer ≡ answer_for h.parser.screen.state (client_of r) → is_frame answer ≡ true
     → text ≡ frame_text (size_in h) (client_of r).base (shown_in h)
     → Puts h key (Some (record { owed = text; base = Some (shown_in h) })) g → Frames h key (Ok answer) g
 frames h key r answer text g found live is frame is_text put =
@@ -73,7 +73,7 @@ put-same h key slot is = (refl, λ i other. kept-at (other == key) (clients_in h
 
 unframed : (h : HubState as_kept) (key : ℕ) (r : RecordView) (answer : Answer)
     → slice_index_or h.clients key None ≡ Some r → h.parser.screen.failed ≡ false
-    → answer ≡ answer_of h.parser.screen.state (client_of r) → is_frame answer ≡ false → Frames h key (Ok answer) h
+    → answer ≡ answer_for h.parser.screen.state (client_of r) → is_frame answer ≡ false → Frames h key (Ok answer) h
 unframed h key r answer found live is none =
     let framing : ClientState = record {
       owed = (client_of r).owed ++ frame_text (size_in h) (client_of r).base (shown_in h);
@@ -88,7 +88,7 @@ unframed h key r answer found live is none =
 
 unmade : (h : HubState as_kept) (key : ℕ) (r : RecordView) (result : Result Answer HubError)
     → slice_index_or h.clients key None ≡ Some r → h.parser.screen.failed ≡ false
-    → may_take_memory (answer_of h.parser.screen.state (client_of r)) ≡ true → result ≡ Err Memory → Frames h key result h
+    → may_take_memory (answer_for h.parser.screen.state (client_of r)) ≡ true → result ≡ Err Memory → Frames h key result h
 unmade h key r result found live takes is =
     subst (λ (a : Result Answer HubError). Frames h key a h) (sym is)
     (subst (λ (o : Option RecordView). CanFrame h.parser.screen (option_map client_of o) (Err Memory)
@@ -111,10 +111,10 @@ put-short : (h : HubState as_kept) (key : ℕ) (text : List ℕ) (now : Shown) (
 put-short h key text now g put few =
     subst (λ (o : Option ClientState). IfSome o (λ c. IsShortFrame (size_in g) c.owed))
     (sym (put-there h g key (Some (owing text now)) put))
-    (subst (λ (p : ParserView (Unit {0})). IsShortFrame (size_of p.screen.state.shown) text) (sym put.0) few)
+    (subst (λ (p : ParserView (Unit {0})). IsShortFrame (grid_size p.screen.state.shown) text) (sym put.0) few)
 
 put-local : (h : HubState as_kept) (key : ℕ) (r : RecordView) (text : List ℕ) (g : HubState as_kept)
-    → slice_index_or h.clients key None ≡ Some r → IsUnscrolled h.parser.screen.state → IsServed h.parser.screen r
+    → slice_index_or h.clients key None ≡ Some r → IsUnscrolled h.parser.screen.state → IsRecordOf h.parser.screen r
     → wanted_of h.parser.screen.state (client_of r) ≡ Difference
     → text ≡ frame_text (size_in h) (client_of r).base (shown_in h)
     → Puts h key (Some (owing text (shown_in h))) g → OwesLocalFrame h key g
@@ -139,7 +139,7 @@ record Asked (h : HubState as_kept) (key : ℕ) (r : RecordView) (answer : Answe
   found : slice_index_or h.clients key None ≡ Some r
   live : h.parser.screen.failed ≡ false
   unscrolled : IsUnscrolled h.parser.screen.state
-  served : IsServed h.parser.screen r
+  served : IsRecordOf h.parser.screen r
   wanted : answer ≡ wanted_of h.parser.screen.state (client_of r)
 
 asked : (c : After-is_frame) → Asked (hub_of c.self.inside) c.args.client c.in-Some.record.now c.answer-answer.result
@@ -172,14 +172,14 @@ drawn c a =
     let p = c.self.inside.parser in
     let r = c.in-Some.record.now in
     let text = c.in_ok-text.text.items in
-    let text_is : text ≡ frame_text (size_of p.screen.state.shown) (client_of r).base (shown_state p.screen.state) =
-    c.in_ok-text.ensures.text ∙ ap (λ (v : ScreenView). frame_text (size_of v.state.shown) (client_of r).base
+    let text_is : text ≡ frame_text (grid_size p.screen.state.shown) (client_of r).base (shown_state p.screen.state) =
+    c.in_ok-text.ensures.text ∙ ap (λ (v : ScreenView). frame_text (grid_size v.state.shown) (client_of r).base
     (shown_state v.state)) c.screen-screen.ensures in
     record {
       frame = sym c.is_frame.ensures ∙ c.if-not-is_frame.false;
       text_is = text_is;
       short = due-short p.screen r text a.unscrolled a.served text_is;
-      long_is = text-long (size_of p.screen.state.shown) (client_of r).base (shown_state p.screen.state) text
+      long_is = text-long (grid_size p.screen.state.shown) (client_of r).base (shown_state p.screen.state) text
           c.deref.result.now c.is_too_long.result c.is_too_long.result text_is c.deref.ensures.value
           c.is_too_long.ensures refl;
     }

@@ -2,11 +2,11 @@ use Rattle.std.proofs.Common.{◌≡◌, ℕ, List, ap, sym, ◌∙◌, subst, O
 use Rattle.std.specs.Option.{option_copied_mut}
 use Rattle.std.proofs.lemmas.Bool.{false≢true}
 use Rattle.slab.specs.Slab.{get}
-use Rattle.vt100_core.specs.Picture.{size_of}
+use Rattle.vt100_core.specs.Picture.{grid_size}
 use Rattle.screen_model.specs.Call.{ScreenView}
 use Rattle.screen_model.specs.Shown.{shown_state}
 use Rattle.termrelay.specs.Answers.{ClientState}
-use Rattle.termrelay.specs.Record.{RecordView, client_of, IsServed}
+use Rattle.termrelay.specs.Record.{RecordView, client_of, IsRecordOf}
 use Rattle.termrelay.specs.HubFields.{hub_of, IsHub}
 use Rattle.termrelay.specs.Frame.{IsShortFrame}
 use Rattle.termrelay.specs.Hub.{HubState, as_kept, Puts, size_in}
@@ -28,7 +28,7 @@ invariant_of-self c =
     let i = c.self.invariant in
     let is_base : c.args.base.value ≡ p.screen =
     c.requires.present ∙ ap (λ (h : HubState as_kept). h.parser.screen) (sym c.self.view_is) in
-    let few : IsShortFrame (size_of p.screen.state.shown) c.args.text.items =
+    let few : IsShortFrame (grid_size p.screen.state.shown) c.args.text.items =
     subst (λ (h : HubState as_kept). IsShortFrame (size_in h) c.args.text.items) (sym c.self.view_is) c.requires.short in
     elim c.match-get_mut.branch [
       | in-Some w ↦
@@ -38,7 +38,7 @@ invariant_of-self c =
             made = i.made;
             served = λ live. put-served s.slots c.key.result w.in-Some.record.now w.owe.new.self
                 p.screen at (i.served live)
-                (subst (λ (r : RecordView). IsServed p.screen r) (sym w.owe.ensures)
+                (subst (λ (r : RecordView). IsRecordOf p.screen r) (sym w.owe.ensures)
                 (present-served p c.args.text.items c.args.base.value (i.made live) is_base few));
             present = i.present;
           })

@@ -1,6 +1,6 @@
 use Rattle.std.proofs.Common.{◌≡◌, ap, sym, ◌∙◌, subst, false}
 use Rattle.std.specs.Option.{option_copied}
-use Rattle.vt100_core.specs.Picture.{size_of}
+use Rattle.vt100_core.specs.Picture.{grid_size}
 use Rattle.termrelay.specs.Frame.{IsShortFrame}
 use Rattle.termrelay.specs.Hub.{HubState, as_kept, size_in}
 use Rattle.termrelay.proofs.HubLemmas.{found-served}
@@ -14,4 +14,4 @@ returns-in-Some-clause-short c alive =
     let found = sym c.get.ensures ∙ ap option_copied c.in-Some.is in
     let served = found-served c.self.inside.clients.slots c.key.result r p.screen found (c.self.invariant.served live) in
     subst (λ (h : HubState as_kept). IsShortFrame (size_in h) c.owed.result.now) c.self.view_is
-    (subst (IsShortFrame (size_of p.screen.state.shown)) (sym c.owed.ensures) served.short)
+    (subst (IsShortFrame (grid_size p.screen.state.shown)) (sym c.owed.ensures) served.short)

@@ -6,7 +6,7 @@ use Rattle.vt100.specs.Parsing.{ParserView}
 use Rattle.termrelay.specs.declared.error.HubError.{HubError}
 use Rattle.termrelay.specs.declared.error.HubError.TheVariants.{UnknownClient, Write}
 use Rattle.takers.specs.Pump.{Pumps}
-use Rattle.termrelay.specs.Record.{RecordView, client_of, IsServed}
+use Rattle.termrelay.specs.Record.{RecordView, client_of, IsRecordOf}
 use Rattle.termrelay.specs.Hub.{HubState, as_kept, PumpsClient, PumpsFrom, pump_answer, Puts}
 use Rattle.termrelay.specs.HubFields.{hub_of, IsHub}
 use Rattle.termrelay.specs.declared.hub.Hub.TheInside.{Inside}
@@ -90,12 +90,12 @@ returns g c =
     ]
 
 pumped-served : (p : ParserView (Unit {0})) (s : Slab RecordView) (key : ℕ) (old new : RecordView) (n : ℕ)
-    → get s key ≡ Some old → ((k : ℕ) → IfSome (get s k) (IsServed p.screen))
+    → get s key ≡ Some old → ((k : ℕ) → IfSome (get s k) (IsRecordOf p.screen))
     → new ≡ record old { owed = drop n old.owed }
-    → (k : ℕ) → IfSome (get (with_value s key new) k) (IsServed p.screen)
+    → (k : ℕ) → IfSome (get (with_value s key new) k) (IsRecordOf p.screen)
 pumped-served p s key old new n found each is =
     put-served s.slots key old new p.screen found each
-    (subst (IsServed p.screen) (sym is) (left-served p.screen old n (found-served s.slots key old p.screen found each)))
+    (subst (IsRecordOf p.screen) (sym is) (left-served p.screen old n (found-served s.slots key old p.screen found each)))
 
 pub invariant_of-self : goal.invariant_of-self
 invariant_of-self g c =

@@ -2,7 +2,7 @@ use Rattle.std.proofs.Common.{◌≡◌, ℕ, List, ◌++◌, true, false, ap, s
 use denote.Enum.Bare.{sameb}
 use Rattle.std.specs.Option.{option_copied, option_map, IfSome}
 use Rattle.vt100_forms.specs.Form.{spell}
-use Rattle.vt100_core.specs.Picture.{size_of}
+use Rattle.vt100_core.specs.Picture.{grid_size}
 use Rattle.terminal_model.specs.Term.{Shown}
 use Rattle.screen_drawing.specs.Modes.{input_mode_diff}
 use Rattle.screen_drawing.specs.Screen.{state_formatted, state_diff, contents_formatted}
@@ -43,7 +43,7 @@ shown-of base = option_map (λ v. shown_state v.state) base
 pub returns-clause-text : goal.returns-clause-text
 unfolding shown-of
 returns-clause-text c =
-    let z = size_of c.args.now.now.state.shown in
+    let z = grid_size c.args.now.now.state.shown in
     let now = shown_state c.args.now.now.state in
     let last = shown-of c.args.self.now.base in
     let joined : (body : List ℕ) → c.match-base.text.items ≡ c.extend_from_slice.new.self.items ++ body

@@ -1,6 +1,6 @@
 use Rattle.std.specs.Prelude.{string_bytes}
 use Rattle.screen_drawing.specs.Screen as picture
-use Rattle.vt100_core.specs.Picture.{size_of}
+use Rattle.vt100_core.specs.Picture.{grid_size}
 use Rattle.screen_model.specs.Shown.{shown_state}
 use Rattle.vt100.specs.Writers.{contents_diff, state_diff}
 use Rattle.vt100.proofs.ShownLemmas.{difference-of_shown}
@@ -18,7 +18,7 @@ returns-clause-shown c o h e =
     let y = shown_state new in
     let start = string_bytes c.new-contents.result in
     let end = string_bytes c.write_input_mode_diff.new.contents in
-    as_shown (state_diff old new) (picture.state_diff (size_of new.shown) x y) start end c.new-contents.ensures.bytes
+    as_shown (state_diff old new) (picture.state_diff (grid_size new.shown) x y) start end c.new-contents.ensures.bytes
     (appended_then (contents_diff old new) (input_mode_diff x y) start (string_bytes c.write_contents_diff.new.contents)
     end c.in_ok-write_contents_diff.ensures c.in_ok-write_input_mode_diff.ensures)
     (difference-of_shown old new o h e).state
@@ -29,7 +29,7 @@ returns-clause-short c o h e =
     let new = c.args.self.now.state in
     let start = string_bytes c.new-contents.result in
     let end = string_bytes c.write_input_mode_diff.new.contents in
-    text-short (size_of new.shown) 1008 (state_diff old new) start end c.new-contents.ensures.bytes
+    text-short (grid_size new.shown) 1008 (state_diff old new) start end c.new-contents.ensures.bytes
     (appended_then (contents_diff old new) (input_mode_diff (shown_state old) (shown_state new)) start
     (string_bytes c.write_contents_diff.new.contents) end c.in_ok-write_contents_diff.ensures
     c.in_ok-write_input_mode_diff.ensures) (screen-short old new o h e).state_diff
@@ -40,7 +40,7 @@ returns-clause-local c o h e plain =
     let new = c.args.self.now.state in
     let start = string_bytes c.new-contents.result in
     let end = string_bytes c.write_input_mode_diff.new.contents in
-    text-local (size_of new.shown) (shown_state old) (shown_state new) (state_diff old new) start end
+    text-local (grid_size new.shown) (shown_state old) (shown_state new) (state_diff old new) start end
     c.new-contents.ensures.bytes
     (appended_then (contents_diff old new) (input_mode_diff (shown_state old) (shown_state new)) start
     (string_bytes c.write_contents_diff.new.contents) end c.in_ok-write_contents_diff.ensures

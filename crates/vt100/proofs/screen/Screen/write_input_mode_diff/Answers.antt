@@ -2,7 +2,7 @@ use Rattle.std.proofs.Common.{refl, [], ◌∷◌, ◌++◌}
 use Rattle.std.specs.Prelude.{string_bytes}
 use Rattle.screen_drawing.specs.Modes.{input_mode_diff}
 use Rattle.screen_model.specs.Shown.{shown_state}
-use Rattle.vt100.specs.ScreenFields.{screen_of}
+use Rattle.vt100.specs.ScreenFields.{screen_inside}
 use Rattle.vt100.proofs.WriteLemmas.{written_then, last_written, changes-are, where_changed}
 use Rattle.vt100.proofs.screen.Screen.write_input_mode_diff.Goals as goal
 
@@ -16,8 +16,8 @@ returns c =
     let t5 = string_bytes c.write_buf-2.new.buf in
     let u = string_bytes c.write_buf-3.new.buf in
     let r = c.write_buf-3.result in
-    let x = shown_state (screen_of c.prev.inside).state in
-    let y = shown_state (screen_of c.self.inside).state in
+    let x = shown_state (screen_inside c.prev.inside).state in
+    let y = shown_state (screen_inside c.self.inside).state in
     let f1 = where_changed x.modes.keypad y.modes.keypad c.new-keypad.result in
     let f2 = where_changed x.modes.cursor_keys y.modes.cursor_keys c.new-cursor_keys.result in
     let f3 = where_changed x.modes.paste y.modes.paste c.new-paste.result in

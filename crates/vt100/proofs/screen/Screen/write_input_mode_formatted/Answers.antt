@@ -2,7 +2,7 @@ use Rattle.std.proofs.Common.{refl, [], ◌∷◌}
 use Rattle.std.specs.Prelude.{string_bytes}
 use Rattle.screen_drawing.specs.Modes.{input_mode_formatted}
 use Rattle.screen_model.specs.Shown.{shown_state}
-use Rattle.vt100.specs.ScreenFields.{screen_of}
+use Rattle.vt100.specs.ScreenFields.{screen_inside}
 use Rattle.vt100.proofs.WriteLemmas.{written_then, last_written, modes-are}
 use Rattle.vt100.proofs.screen.Screen.write_input_mode_formatted.Goals as goal
 
@@ -16,7 +16,7 @@ returns c =
     let t5 = string_bytes c.write_buf-5.new.buf in
     let u = string_bytes c.write_buf-6.new.buf in
     let r = c.write_buf-6.result in
-    let x = shown_state (screen_of c.self.inside).state in
+    let x = shown_state (screen_inside c.self.inside).state in
     let f1 = c.new.result in
     let f2 = c.new-2.result in
     let f3 = c.new-3.result in

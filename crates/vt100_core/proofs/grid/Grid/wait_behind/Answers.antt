@@ -1,8 +1,8 @@
 use Rattle.std.proofs.Common.{ap, is_ok, refl, sym, ◌∙◌}
 use Rattle.std.specs.Prelude.{string_bytes}
-use Rattle.screen_drawing.specs.Cursor.{arriving, last_cell, place, printed_with, wait_behind}
+use Rattle.screen_drawing.specs.Cursor.{arriving, end_cell, place, printed_with, wait_behind}
 use Rattle.vt100_core.specs.Grid.{GridView}
-use Rattle.vt100_core.specs.Picture.{size_of}
+use Rattle.vt100_core.specs.Picture.{grid_size}
 use Rattle.vt100_core.specs.Writers.{drawn_on}
 use Rattle.vt100_core.proofs.WriterLemmas.{appends_rest, refused_front, wait_behind-none, wait_behind-some}
 use Rattle.vt100_core.proofs.grid.Grid.wait_behind.Goals as goal
@@ -11,18 +11,18 @@ pub returns-then-is_at : goal.returns-then-is_at
 returns-then-is_at c =
     let g = c.args.self.now in
     let width = c.cols.ensures ∙ ap (λ (x : GridView). x.width) c.self.view_is in
-    wait_behind-none (size_of g) (drawn_on g) c.args.prev_pos c.args.attrs c.args.row c.cols.result
+    wait_behind-none (grid_size g) (drawn_on g) c.args.prev_pos c.args.attrs c.args.row c.cols.result
     (string_bytes c.args.contents.now) width (sym c.is_at.ensures ∙ c.if-is_at.true)
 
 pub returns-in_err-arrive : goal.returns-in_err-arrive
 returns-in_err-arrive c =
     let g = c.args.self.now in
-    let z = size_of g in
+    let z = grid_size g in
     let p = c.args.prev_pos in
     let a = c.args.attrs in
     let r = c.args.row in
     let k = c.last_col.result in
-    let x = last_cell z (drawn_on g) r in
+    let x = end_cell z (drawn_on g) r in
     let s = string_bytes c.args.contents.now in
     let t = string_bytes c.arrive.new.contents in
     let width = c.cols.ensures ∙ ap (λ (x : GridView). x.width) c.self.view_is in
@@ -34,7 +34,7 @@ returns-in_err-arrive c =
 pub returns : goal.returns
 returns c =
     let g = c.args.self.now in
-    let z = size_of g in
+    let z = grid_size g in
     let p = c.args.prev_pos in
     let a = c.args.attrs in
     let r = c.args.row in

@@ -1,7 +1,7 @@
 -- Answers for perform::WrappedScreen::plain_csi.
 use Rattle.std.proofs.Common.{◌≡◌, ◌⊎◌, ◌-◌, inl, inr, arith}
 use Rattle.screen_model.specs.Effect.{changes, count, later, number_or}
-use Rattle.screen_model.specs.Step.{cells_added, moved_up, moved_down, moved_right, moved_left, line_below, line_above}
+use Rattle.screen_model.specs.Step.{cells_added, cursor_up, cursor_down, moved_right, moved_left, line_below, line_above}
 use Rattle.screen_model.specs.Step.{at_column, at_row, at_place, lines_added, lines_taken, cells_taken, region_up}
 use Rattle.screen_model.specs.Step.{region_down, cells_erased, repeated, in_region}
 use Rattle.vt100_rows.proofs.TextLemmas.{on-err}
@@ -16,12 +16,12 @@ returns-in-64 g c = plain_does g.CB.Callbacks.step g.CB.Callbacks.scrolls _ _ _ 
 
 pub returns-in-A : goal.returns-in-A
 returns-in-A g c = plain_does g.CB.Callbacks.step g.CB.Callbacks.scrolls _ _ _ _ _ _ _ c.in-A.is
-    (does_change g.CB.Callbacks.step g.CB.Callbacks.scrolls (moved_up (count c.args.params.now)) _ _ _ _
+    (does_change g.CB.Callbacks.step g.CB.Callbacks.scrolls (cursor_up (count c.args.params.now)) _ _ _ _
     (rw c.canonicalize_params_1-in-A.ensures at c.cuu.ensures.screen) c.cuu.ensures.callbacks)
 
 pub returns-in-B : goal.returns-in-B
 returns-in-B g c = plain_does g.CB.Callbacks.step g.CB.Callbacks.scrolls _ _ _ _ _ _ _ c.in-B.is
-    (does_change g.CB.Callbacks.step g.CB.Callbacks.scrolls (moved_down (count c.args.params.now)) _ _ _ _
+    (does_change g.CB.Callbacks.step g.CB.Callbacks.scrolls (cursor_down (count c.args.params.now)) _ _ _ _
     (rw c.canonicalize_params_1-in-B.ensures at c.cud.ensures.screen) c.cud.ensures.callbacks)
 
 pub returns-in-C : goal.returns-in-C
