@@ -5,7 +5,7 @@ use Rattle.std.proofs.Common.{Option, None, Some, refl, sym, ap, subst, arith, t
 use Rattle.std.specs.Prelude.{slice_index_or}
 use Rattle.std.specs.List.{list_any, slice_get, concat}
 use Rattle.vte.specs.Moves.{Gives}
-use Rattle.vte.specs.Frames.{Leads}
+use Rattle.vte.specs.Frames.{Drives}
 use Rattle.terminal_model.specs.Term.{Size, Term, shown_of}
 use Rattle.termrelay.specs.Hub.{HubState, as_kept, IsNewHub}
 use Rattle.termrelay.specs.Calls.{Call}
@@ -24,7 +24,7 @@ use Rattle.relay_theorem.specs.Isolation.{is_starved}
 use Rattle.relay_theorem.proofs.HeadlineLemmas.{last-shown, wholes-shown}
 use Rattle.relay_theorem.proofs.ServesLemmas.{logs-follow}
 use Rattle.relay_theorem.proofs.LoggedLemmas.{story-at}
-use Rattle.relay_streams.specs.Led.{answers}
+use Rattle.termview.specs.Timeout.{until_cleared}
 use Rattle.relay_streams.specs.Pieces.{cut_by}
 use Rattle.relay_streams.specs.Far.{IsFarView, ReadsStory, ShowsJudged, FarViewsShow, last_given}
 use Rattle.relay_streams.proofs.LawLemmas.{given-Gives}
@@ -70,7 +70,7 @@ module _ (rows cols : ℕ) (calls : List Call) (h g : HubState as_kept) (m : Log
     -- a view has read it
     pub one-found : (s : SessionView) (v : View UntilCleared) (parsed : List ℕ) (hold : Option (List ℕ))
         → slice_get m.sessions n ≡ Some s
-        → Leads (map Gives (cut_by cuts (take most s.pumped))) [] None parsed hold → HoldsAt answers v parsed hold
+        → Drives (map Gives (cut_by cuts (take most s.pumped))) [] None parsed hold → HoldsAt until_cleared v parsed hold
         → (view_size v).rows ≡ s.rows → (view_size v).cols ≡ s.cols → IsFarView rows cols calls n most cuts (Some v)
     one-found s v parsed hold is leads holds high wide =
         let all = logs-follow rows cols calls ran.0 h g m.sessions new ran.2 in
@@ -92,7 +92,7 @@ module _ (rows cols : ℕ) (calls : List Call) (h g : HubState as_kept) (m : Log
             record {
               parsed = parsed;
               hold = hold;
-              leads = subst (λ (xs : List ℕ). Leads (map Gives (cut_by cuts xs)) [] None parsed hold) given leads;
+              leads = subst (λ (xs : List ℕ). Drives (map Gives (cut_by cuts xs)) [] None parsed hold) given leads;
               holds = holds;
               size = λ i. record { rows = rows_are i; cols = cols_are i };
             },

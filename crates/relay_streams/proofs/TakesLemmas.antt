@@ -11,7 +11,7 @@ use Rattle.vte.specs.Hold.{held_of, IsCut, Closes, Settles, keeps, replays, clos
 use Rattle.vte.specs.Hold.{settles}
 use Rattle.vte.specs.Hold.{overflows}
 use Rattle.vte.specs.Moves.{Move}
-use Rattle.vte.specs.Frames.{Leads, ends, gives, stops}
+use Rattle.vte.specs.Frames.{Drives, ends, gives, stops}
 use Rattle.vte.proofs.HoldLemmas.{opens_in-append}
 
 false_true : (b : Bool) → b ≡ false → b ≡ true → ⊥
@@ -116,13 +116,13 @@ one_taking parsed hold piece p q h k cs ds ts us (overflows _ held _ _ _ cs' ts'
     (overflows _ _ _ _ _ ds' us' over' t') = one_taking (parsed ++ held) None piece p q h k cs' ds' ts' us' t t'
 
 pub one_leading : (moves : List Move) (parsed : List ℕ) (hold : Option (List ℕ)) (p q : List ℕ)
-    (h k : Option (List ℕ)) → Leads moves parsed hold p h → Leads moves parsed hold q k → (p ≡ q) × (h ≡ k)
+    (h k : Option (List ℕ)) → Drives moves parsed hold p h → Drives moves parsed hold q k → (p ≡ q) × (h ≡ k)
 one_leading moves parsed hold p q h k (ends _ _) (ends _ _) = (refl, refl)
 one_leading moves parsed hold p q h k (gives piece rest _ _ m mh cs ts _ _ t l) (gives _ _ _ _ m' mh' cs' ts' _ _ t' l')
     =
     let same = one_taking parsed hold piece m' m mh' mh cs' cs ts' ts t' t in
     one_leading rest m mh p q h k l
-    (subst (λ (y : Option (List ℕ)). Leads rest m y q k) same.1
-    (subst (λ (x : List ℕ). Leads rest x mh' q k) same.0 l'))
+    (subst (λ (y : Option (List ℕ)). Drives rest m y q k) same.1
+    (subst (λ (x : List ℕ). Drives rest x mh' q k) same.0 l'))
 one_leading moves parsed hold p q h k (stops rest _ _ _ _ l) (stops _ _ _ _ _ l') =
     one_leading rest (parsed ++ held_of hold) None p q h k l l'

@@ -2,15 +2,16 @@
 use Rattle.std.proofs.Common.{◌≡◌, ℕ, List, [], ◌∷◌, ◌++◌, Option, None, map, refl, sym, ap, ◌∙◌, subst}
 use Rattle.std.proofs.lemmas.List.{map-append}
 use Rattle.vte.specs.Moves.{Move, Gives}
-use Rattle.vte.specs.Frames.{Leads, ends, gives}
+use Rattle.vte.specs.Frames.{Drives, ends, gives}
 use Rattle.vte.proofs.FrameMoves.{moves_follow}
 use Rattle.termview.specs.declared.view.View.{View}
 use Rattle.termview.specs.declared.until_cleared.UntilCleared.{UntilCleared}
 use Rattle.terminal_model.specs.Term.{Size, Term}
 use Rattle.termview.specs.Seen.{seen}
+use Rattle.termview.specs.Timeout.{until_cleared}
 use Rattle.termview.specs.Standing.{HoldsAt, Taken, view_size, shown_by}
 use Rattle.relay_streams.specs.Shown.{IsTextShown, screen_text, sized}
-use Rattle.relay_streams.specs.Led.{answers, Led}
+use Rattle.relay_streams.specs.Led.{Led}
 
 pub not_led : (view : View UntilCleared) → Led view [] view
 not_led view = record {
@@ -24,22 +25,21 @@ not_led view = record {
 }
 
 -- one piece more
-pub led_on : (sets : UntilCleared → ℕ → UntilCleared → Type 0) (clears : UntilCleared → UntilCleared → Type 0)
-    (old now new : View UntilCleared) (pieces : List (List ℕ)) (piece : List ℕ) → Led old pieces now
-    → ((parsed : List ℕ) (hold : Option (List ℕ)) → HoldsAt answers now parsed hold
-    → Taken sets clears answers now parsed hold piece new)
+pub led_on : (old now new : View UntilCleared) (pieces : List (List ℕ)) (piece : List ℕ) → Led old pieces now
+    → ((parsed : List ℕ) (hold : Option (List ℕ)) → HoldsAt until_cleared now parsed hold
+    → Taken until_cleared now parsed hold piece new)
     → Led old (pieces ++ piece ∷ []) new
-led_on sets clears old now new pieces piece led take = record {
+led_on old now new pieces piece led take = record {
   goes = λ parsed hold at.
       let l = led.goes parsed hold at in
       let t = take l.parsed' l.hold' l.holds in
-      let one : Leads (Gives piece ∷ []) l.parsed' l.hold' t.parsed' t.hold' =
+      let one : Drives (Gives piece ∷ []) l.parsed' l.hold' t.parsed' t.hold' =
       gives piece [] l.parsed' l.hold' t.parsed' t.hold' t.calls t.ticks t.parsed' t.hold' t.takes
       (ends t.parsed' t.hold') in
       record {
         parsed' = t.parsed';
         hold' = t.hold';
-        leads = subst (λ (ms : List Move). Leads ms parsed hold t.parsed' t.hold')
+        leads = subst (λ (ms : List Move). Drives ms parsed hold t.parsed' t.hold')
             (sym (map-append Gives pieces (piece ∷ [])))
             (moves_follow (map Gives pieces) (Gives piece ∷ []) parsed hold l.parsed' l.hold' t.parsed' t.hold' l.leads
             one);
@@ -49,7 +49,7 @@ led_on sets clears old now new pieces piece led take = record {
 }
 
 -- what a fresh view shows once it has read pieces
-pub shown_so : (fresh now : View UntilCleared) (z : Size) (pieces : List (List ℕ)) → HoldsAt answers fresh [] None
+pub shown_so : (fresh now : View UntilCleared) (z : Size) (pieces : List (List ℕ)) → HoldsAt until_cleared fresh [] None
     → view_size fresh ≡ z → Led fresh pieces now → IsTextShown z pieces (screen_text (view_size now) (shown_by now).cell)
 shown_so fresh now z pieces at is led =
     let l = led.goes [] None at in

@@ -2,7 +2,7 @@
 use Rattle.std.specs.Prelude.{◌≡◌, ℕ, ◌≤◌, false, List, [], ◌++◌, length, take, map, Option, None, Some}
 use Rattle.std.specs.List.{list_any, slice_get}
 use Rattle.vte.specs.Moves.{Gives}
-use Rattle.vte.specs.Frames.{Leads}
+use Rattle.vte.specs.Frames.{Drives}
 use Rattle.terminal_model.specs.Term.{shown_of}
 use Rattle.termrelay.specs.Calls.{Call}
 use Rattle.termview.specs.Standing.{HoldsAt, view_size, shown_by}
@@ -14,7 +14,7 @@ use Rattle.relay_theorem.specs.History.{as_told, Entry, Story, size_of_story, fr
 use Rattle.relay_theorem.specs.Judge.{texts, last_frame, last_whole, judged, IsSure}
 use Rattle.relay_theorem.specs.Laws.{IsSession}
 use Rattle.relay_theorem.specs.Isolation.{is_starved}
-use Rattle.relay_streams.specs.Led.{answers}
+use Rattle.termview.specs.Timeout.{until_cleared}
 use Rattle.relay_streams.specs.Pieces.{cut_by}
 
 -- a view of a session's size stands where the first bytes that were pumped to it, in pieces of these lengths, lead a
@@ -22,8 +22,8 @@ use Rattle.relay_streams.specs.Pieces.{cut_by}
 pub record ReadsStory (t : Story) (most : ℕ) (cuts : List ℕ) (v : View UntilCleared) : Type 0 where
   pub parsed : List ℕ
   pub hold : Option (List ℕ)
-  pub leads : Leads (map Gives (cut_by cuts (take most t.session.pumped))) [] None parsed hold
-  pub holds : HoldsAt answers v parsed hold
+  pub leads : Drives (map Gives (cut_by cuts (take most t.session.pumped))) [] None parsed hold
+  pub holds : HoldsAt until_cleared v parsed hold
   pub size : view_size v ≡ size_of_story t
 
 -- of these sessions there is no n-th one, or the view has read it

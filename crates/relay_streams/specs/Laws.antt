@@ -2,7 +2,7 @@
 use Rattle.std.specs.Prelude.{◌≡◌, ℕ, false, List, [], ◌++◌, map, Option, None}
 use Rattle.std.specs.List.{All, concat}
 use Rattle.vte.specs.Moves.{Gives}
-use Rattle.vte.specs.Frames.{IsFrame, Leads}
+use Rattle.vte.specs.Frames.{IsFrame, Drives}
 use Rattle.terminal_model.specs.Term.{Size, shown_of}
 use Rattle.screen_model.specs.Shown.{shown_state}
 use Rattle.termrelay.specs.Frame.{is_unsure}
@@ -30,7 +30,7 @@ WholeFramesArePrinted = (z : Size) (frames : List (List ℕ)) (text : List ℕ)
 abbrev pub RelayedFrontsAreShown : Type 0
 RelayedFrontsAreShown = (rows cols key : ℕ) (input beyond parsed : List ℕ) (pieces : List (List ℕ))
     (hold : Option (List ℕ)) (t : Story) → IsRelayed rows cols key (pieces_of input) t
-    → concat pieces ++ beyond ≡ t.session.pumped → Leads (map Gives pieces) [] None parsed hold
+    → concat pieces ++ beyond ≡ t.session.pumped → Drives (map Gives pieces) [] None parsed hold
     → IsSure (last_read t pieces)
     → shown_of (seen (sized rows cols) parsed) ≡ judged rows cols (last_read t pieces)
 

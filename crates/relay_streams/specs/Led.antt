@@ -1,26 +1,22 @@
 -- Pieces that are given to a view one after another.
-use Rattle.std.specs.Prelude.{◌≡◌, ℕ, Bool, List, Option, map}
+use Rattle.std.specs.Prelude.{◌≡◌, ℕ, List, Option, map}
 use Rattle.vte.specs.Moves.{Gives}
-use Rattle.vte.specs.Frames.{Leads}
+use Rattle.vte.specs.Frames.{Drives}
 use Rattle.termview.specs.declared.view.View.{View}
 use Rattle.termview.specs.declared.until_cleared.UntilCleared.{UntilCleared}
-use Rattle.termview.specs.Timeout.{pending_of}
+use Rattle.termview.specs.Timeout.{until_cleared}
 use Rattle.termview.specs.Standing.{HoldsAt, view_size}
-
--- whether the timeout says that an update is open
-abbrev pub answers : UntilCleared → Bool → Type 0
-answers t b = b ≡ pending_of t
 
 -- where the pieces lead a view that stands at a parsed text and a hold
 pub record LedTo (old : View UntilCleared) (parsed : List ℕ) (hold : Option (List ℕ)) (pieces : List (List ℕ))
     (new : View UntilCleared) : Type 0 where
   pub parsed' : List ℕ
   pub hold' : Option (List ℕ)
-  pub leads : Leads (map Gives pieces) parsed hold parsed' hold'
-  pub holds : HoldsAt answers new parsed' hold'
+  pub leads : Drives (map Gives pieces) parsed hold parsed' hold'
+  pub holds : HoldsAt until_cleared new parsed' hold'
   pub size : view_size new ≡ view_size old
 
 -- wherever the view stands, the pieces lead it on
 pub record Led (old : View UntilCleared) (pieces : List (List ℕ)) (new : View UntilCleared) : Type 0 where
-  pub goes : (parsed : List ℕ) (hold : Option (List ℕ)) → HoldsAt answers old parsed hold
+  pub goes : (parsed : List ℕ) (hold : Option (List ℕ)) → HoldsAt until_cleared old parsed hold
       → LedTo old parsed hold pieces new

@@ -3,7 +3,7 @@ use Rattle.std.specs.Prelude.{◌≡◌, ℕ, List, [], ◌∷◌, ◌++◌, map
 use Rattle.std.specs.List.{concat, range_with_len}
 use Rattle.std.specs.declared.io.Error.{Error}
 use Rattle.vte.specs.Moves.{Gives}
-use Rattle.vte.specs.Frames.{Leads}
+use Rattle.vte.specs.Frames.{Drives}
 use Rattle.vt100_cells.specs.Cell.{CellView}
 use Rattle.vt100_rows.specs.Text.{line_text}
 use Rattle.terminal_model.specs.Term.{Size}
@@ -33,7 +33,7 @@ screen_text z cell = rows_text z cell 0 z.rows
 pub record IsTextShown (z : Size) (pieces : List (List ℕ)) (text : List ℕ) : Type 0 where
   pub parsed : List ℕ
   pub hold : Option (List ℕ)
-  pub leads : Leads (map Gives pieces) [] None parsed hold
+  pub leads : Drives (map Gives pieces) [] None parsed hold
   pub text_is : text ≡ screen_text z (seen z parsed).cell
 
 -- A text was sent to a writer, which was then flushed: so it is answered, and so the writer is left.

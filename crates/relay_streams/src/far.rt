@@ -3,12 +3,13 @@
 ghost use Rattle.std.specs.Prelude.{◌≡◌, ℕ, List, [], Option, None, Err, map, take, IfOk, IfSome, OnErr};
 ghost use Rattle.std.specs.List.{list_any};
 ghost use Rattle.vte.specs.Moves.{Gives};
-ghost use Rattle.vte.specs.Frames.{Leads};
+ghost use Rattle.vte.specs.Frames.{Drives};
 ghost use Rattle.termrelay.specs.Calls.{call_of};
 ghost use Rattle.termview.specs.Standing.{HoldsAt, view_size};
 ghost use Rattle.relay_theorem.specs.Isolation.{is_starved as starved};
 ghost use Rattle.relay_streams.specs.Far.{IsFarView, ShowsJudged};
-ghost use Rattle.relay_streams.specs.Led.{Led, answers};
+ghost use Rattle.relay_streams.specs.Led.{Led};
+ghost use Rattle.termview.specs.Timeout.{until_cleared};
 ghost use Rattle.relay_streams.specs.Pieces.{cut_by};
 ghost use Rattle.relay_streams.specs.declared.error.RelayError.TheVariants.{Memory};
 
@@ -63,8 +64,8 @@ fn view_session(
     cuts: &[usize],
 ) -> Result<View<UntilCleared>, RelayError>
     ensures stands { IfOk result (λ v. (parsed : List ℕ) × (hold : Option (List ℕ))
-        × Leads (map Gives (cut_by cuts.now (take most session.now.pumped))) [] None parsed hold
-        × HoldsAt answers v parsed hold) }
+        × Drives (map Gives (cut_by cuts.now (take most session.now.pumped))) [] None parsed hold
+        × HoldsAt until_cleared v parsed hold) }
     ensures rows { IfOk result (λ v. (view_size v).rows ≡ session.now.rows) }
     ensures cols { IfOk result (λ v. (view_size v).cols ≡ session.now.cols) }
     ensures memory { OnErr result (result ≡ Err Memory) }
@@ -106,8 +107,8 @@ pub fn view_of(
     cuts: &[usize],
 ) -> Result<View<UntilCleared>, RelayError>
     ensures stands { IfOk result (λ v. (parsed : List ℕ) × (hold : Option (List ℕ))
-        × Leads (map Gives (cut_by cuts.now bytes.now)) [] None parsed hold
-        × HoldsAt answers v parsed hold) }
+        × Drives (map Gives (cut_by cuts.now bytes.now)) [] None parsed hold
+        × HoldsAt until_cleared v parsed hold) }
     ensures rows { IfOk result (λ v. (view_size v).rows ≡ rows.value) }
     ensures cols { IfOk result (λ v. (view_size v).cols ≡ cols.value) }
     ensures memory { OnErr result (result ≡ Err Memory) }

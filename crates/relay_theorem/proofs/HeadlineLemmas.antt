@@ -11,7 +11,7 @@ use Rattle.vte_core.specs.Ground.{AtGround}
 use Rattle.vte_core.proofs.GroundLemmas.{ground-nothing}
 use Rattle.vte.specs.Hold.{limit}
 use Rattle.vte.specs.Moves.{Move, Gives, given}
-use Rattle.vte.specs.Frames.{IsFrame, IsPart, Leads}
+use Rattle.vte.specs.Frames.{IsFrame, IsPart, Drives}
 use Rattle.terminal_model.specs.Term.{Size, Shown, shown_of}
 use Rattle.vt100_core.specs.Picture.{grid_size}
 use Rattle.screen_model.specs.State.{State}
@@ -485,7 +485,7 @@ module _ (rows cols : ℕ) (z : Size) (height : IsSide z.rows) (width : IsSide z
   frames-are es k = frames-all IsFrame es (entries-frames None es tt k)
 
   pub whole-shown : (es : List Entry) (moves : List Move) (parsed : List ℕ) (hold : Option (List ℕ))
-      → AreAnswered rows cols z None es → given moves ≡ texts es → Leads moves [] None parsed hold
+      → AreAnswered rows cols z None es → given moves ≡ texts es → Drives moves [] None parsed hold
       → (hold ≡ None) × (IsSure (last_frame None es) → shown_of (seen z parsed) ≡ judged rows cols (last_frame None es))
   whole-shown es moves parsed hold k e leads =
       let joined = frames-joined None es k in
@@ -504,7 +504,7 @@ module _ (rows cols : ℕ) (z : Size) (height : IsSide z.rows) (width : IsSide z
 
   pub front-read : (es : List Entry) (pieces : List (List ℕ)) (beyond parsed : List ℕ) (hold : Option (List ℕ))
       → AreAnswered rows cols z None es → concat pieces ++ beyond ≡ texts es
-      → Leads (map Gives pieces) [] None parsed hold → IsFront (last_whole None es (length (concat pieces))) parsed
+      → Drives (map Gives pieces) [] None parsed hold → IsFront (last_whole None es (length (concat pieces))) parsed
   front-read es pieces beyond parsed hold k e leads =
       let joined = frames-joined None es k in
       let all-short = frames-all (λ text. length text < limit) es (each-short es (entries-fit None es k)) in
@@ -522,7 +522,7 @@ module _ (rows cols : ℕ) (z : Size) (height : IsSide z.rows) (width : IsSide z
   -- the view shows just these entries' texts
   pub front-seen : (es : List Entry) (pieces : List (List ℕ)) (beyond parsed : List ℕ) (hold : Option (List ℕ))
       → AreAnswered rows cols z None es → concat pieces ++ beyond ≡ texts es
-      → Leads (map Gives pieces) [] None parsed hold
+      → Drives (map Gives pieces) [] None parsed hold
       → seen z parsed ≡ seen z (texts (whole_in es (length (concat pieces))))
   front-seen es pieces beyond parsed hold k e leads =
       let joined = frames-joined None es k in

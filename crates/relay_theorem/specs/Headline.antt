@@ -2,7 +2,7 @@
 use Rattle.std.specs.Prelude.{◌≡◌, ℕ, true, List, [], ◌++◌, Option, Some, None, map, length}
 use Rattle.std.specs.List.{AllByRecursion, concat}
 use Rattle.vte.specs.Moves.{Move, Gives, given}
-use Rattle.vte.specs.Frames.{IsFrame, Leads}
+use Rattle.vte.specs.Frames.{IsFrame, Drives}
 use Rattle.terminal_model.specs.Term.{shown_of}
 use Rattle.termrelay.specs.Answers.{is_frame}
 use Rattle.termrelay.specs.declared.answer.Answer.TheVariants.{Unsure}
@@ -26,7 +26,7 @@ abbrev pub WholeSessionsAreShown : Type 0
 WholeSessionsAreShown = (rows cols : ℕ) (calls : List Call) (replies : List Reply) (n : ℕ) (t : Story)
     (front back : List Entry) (moves : List Move) (parsed : List ℕ) (hold : Option (List ℕ))
     → IsSession rows cols calls replies n t → t.entries ≡ front ++ back → given moves ≡ texts front
-    → Leads moves [] None parsed hold
+    → Drives moves [] None parsed hold
     → (hold ≡ None)
     × (IsSure (last_frame None front) → shown_of (seen (size_of_story t) parsed) ≡ judged rows cols (last_frame None front))
 
@@ -38,7 +38,7 @@ pub record ReadsSession (rows cols : ℕ) (calls : List Call) (replies : List Re
   pub beyond : List ℕ
   pub pumped : concat pieces ++ beyond ≡ t.session.pumped
   pub hold : Option (List ℕ)
-  pub leads : Leads (map Gives pieces) [] None parsed hold
+  pub leads : Drives (map Gives pieces) [] None parsed hold
 
 -- the last frame that lies wholly in the pieces
 abbrev pub last_read : Story → List (List ℕ) → Option Entry
@@ -80,7 +80,7 @@ pub record ReadsWhole (rows cols : ℕ) (calls : List Call) (replies : List Repl
   pub moves : List Move
   pub given : given moves ≡ texts front
   pub hold : Option (List ℕ)
-  pub leads : Leads moves [] None parsed hold
+  pub leads : Drives moves [] None parsed hold
 
 abbrev pub OneMomentShowsTheSameWhole : Type 0
 OneMomentShowsTheSameWhole = (rows cols : ℕ) (calls : List Call) (replies : List Reply) (n m : ℕ) (t u : Story)

@@ -2,7 +2,7 @@
 use Rattle.std.specs.Prelude.{◌≡◌, ℕ, List, [], ◌++◌, Option, Some, None, map, slice_get}
 use Rattle.std.specs.List.{concat}
 use Rattle.vte.specs.Moves.{Move, Gives, given}
-use Rattle.vte.specs.Frames.{Leads}
+use Rattle.vte.specs.Frames.{Drives}
 use Rattle.terminal_model.specs.Term.{shown_of}
 use Rattle.screen_model.specs.Holds.{IsSide}
 use Rattle.termrelay.specs.Hub.{HubState, as_kept, IsNewHub}
@@ -31,7 +31,7 @@ pub record ReadsLog (rows cols : ℕ) (calls : List Call) (l : LogView) (n : ℕ
   pub beyond : List ℕ
   pub pumped : concat pieces ++ beyond ≡ s.pumped
   pub hold : Option (List ℕ)
-  pub leads : Leads (map Gives pieces) [] None parsed hold
+  pub leads : Drives (map Gives pieces) [] None parsed hold
 
 -- the story of a log's session, by the history that the calls and the log's replies tell
 pub record HasStory (rows cols : ℕ) (calls : List Call) (l : LogView) (n : ℕ) (s : SessionView) (t : Story)
@@ -60,6 +60,6 @@ abbrev pub WholeLoggedFramesAreShown : Type 0
 WholeLoggedFramesAreShown = (rows cols : ℕ) (calls : List Call) (l : LogView) (n : ℕ) (s : SessionView)
     → IsLogged rows cols calls l n s → (t : Story) × HasStory rows cols calls l n s t
     × ((front back : List Entry) (moves : List Move) (parsed : List ℕ) (hold : Option (List ℕ))
-    → t.entries ≡ front ++ back → given moves ≡ texts front → Leads moves [] None parsed hold
+    → t.entries ≡ front ++ back → given moves ≡ texts front → Drives moves [] None parsed hold
     → (hold ≡ None) × (IsSure (last_frame None front)
     → shown_of (seen (size_of_session s) parsed) ≡ judged rows cols (last_frame None front)))

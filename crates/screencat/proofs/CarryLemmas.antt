@@ -6,7 +6,7 @@ use Rattle.std.proofs.lemmas.List.Folds.{concat-append}
 use Rattle.std.specs.List.{concat}
 use Rattle.std.specs.Io.KnownBytes.{Appends}
 use Rattle.vte.specs.Moves.{Move, Gives}
-use Rattle.vte.specs.Frames.{Leads}
+use Rattle.vte.specs.Frames.{Drives}
 use Rattle.vte.proofs.FrameMoves.{moves_follow}
 use Rattle.terminal_model.specs.Term.{Shown}
 use Rattle.termview.specs.declared.view.View.{View}
@@ -30,7 +30,7 @@ led_more a b c ps qs first then = record {
       record {
         parsed' = m.parsed';
         hold' = m.hold';
-        leads = subst (λ (ms : List Move). Leads ms parsed hold m.parsed' m.hold') (sym (map-append Gives ps qs))
+        leads = subst (λ (ms : List Move). Drives ms parsed hold m.parsed' m.hold') (sym (map-append Gives ps qs))
             (moves_follow (map Gives ps) (map Gives qs) parsed hold l.parsed' l.hold' m.parsed' m.hold' l.leads
             m.leads);
         holds = m.holds;

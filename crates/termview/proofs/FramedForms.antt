@@ -15,12 +15,12 @@ use Rattle.vte_core.proofs.GroundLemmas.{ground-nothing, ground-added}
 use Rattle.vte_types.specs.Call.{Call}
 use Rattle.vte.specs.Csi.{opens_group}
 use Rattle.vte.specs.Table.{opens}
-use Rattle.vte.specs.Timeout.{Tick}
+use Rattle.vte.specs.Timeout.{Ticking, Tick}
 use Rattle.vte.specs.Marks.{start_mark, end_mark}
 use Rattle.vte.specs.Stretch.{opens_in}
 use Rattle.vte.specs.Hold.{held_of, Takes, parses, begins}
 use Rattle.vte.specs.Moves.{Move, given}
-use Rattle.vte.specs.Frames.{Leads, ends, gives, stops}
+use Rattle.vte.specs.Frames.{Drives, ends, gives, stops}
 use Rattle.vte.proofs.HoldLemmas.{opens_in-append}
 use Rattle.vte.proofs.FrameLemmas.{cut_later}
 use Rattle.vte.proofs.FrameMarks.{opens_in-parts, opens_in-front, begun_none, start_opens, end_none, ground_start}
@@ -277,7 +277,7 @@ quiet-piece past piece parsed hold calls ticks (begins _ _ n _ _ cs ts at t) q =
     absurd (contrary _ at.opened (opens_in-front past piece n q))
 
 quiet-moves : (moves : List Move) (past parsed : List ℕ) (start hold : Option (List ℕ)) → start ≡ None
-    → opens_in past (given moves) ≡ false → Leads moves past start parsed hold
+    → opens_in past (given moves) ≡ false → Drives moves past start parsed hold
     → (parsed ≡ past ++ given moves) × (hold ≡ None)
 quiet-moves moves past parsed start hold none q (ends _ _) = (sym (append-nil past), none)
 quiet-moves moves past parsed start hold none q (gives piece rest _ _ mid mid_hold calls ticks _ _ t l) =
@@ -299,11 +299,10 @@ spelling-parsed fs moves past parsed hold g k e l =
     let r = quiet-moves moves past parsed None hold refl quiet l in
     (r.0 ∙ ap (λ xs. past ++ xs) e, r.1)
 
-pub spelling-taken : {T : Type 0} (sets : T → ℕ → T → Type 0) (clears : T → T → Type 0) (answers : T → Bool → Type 0)
-    → SpellingsAreTaken sets clears answers
-spelling-taken sets clears answers fs past old new g k t =
+pub spelling-taken : {T : Type 0} (ticking : Ticking T) → SpellingsAreTaken ticking
+spelling-taken ticking fs past old new g k t =
     let r = quiet-piece past (spell fs) t.parsed' t.hold' t.calls t.ticks t.takes (opens_in-spelling past fs g k) in (
-      subst (λ (xs : List ℕ). HoldsAt answers new xs None) r.0
-          (subst (λ (h : Option (List ℕ)). HoldsAt answers new t.parsed' h) r.1 t.stands),
+      subst (λ (xs : List ℕ). HoldsAt ticking new xs None) r.0
+          (subst (λ (h : Option (List ℕ)). HoldsAt ticking new t.parsed' h) r.1 t.stands),
       t.size,
     )

@@ -1,11 +1,12 @@
 -- Frames of forms, and forms in pieces.
-use Rattle.std.specs.Prelude.{◌≡◌, ℕ, ◌<◌, Bool, false, List, ◌++◌, Option, None}
+use Rattle.std.specs.Prelude.{◌≡◌, ℕ, ◌<◌, false, List, ◌++◌, Option, None}
 use Rattle.std.specs.List.{AllByRecursion}
 use Rattle.vte_core.specs.Ground.{AtGround}
+use Rattle.vte.specs.Timeout.{Ticking}
 use Rattle.vte.specs.Marks.{start_mark, end_mark}
 use Rattle.vte.specs.Stretch.{opens_in, OpensAt}
 use Rattle.vte.specs.Moves.{Move, given}
-use Rattle.vte.specs.Frames.{IsFrame, Leads}
+use Rattle.vte.specs.Frames.{IsFrame, Drives}
 use Rattle.vt100_forms.specs.Form.{Form, spell}
 use Rattle.terminal_model.specs.Term.{Size}
 use Rattle.terminal_model.specs.Apply.{run}
@@ -41,11 +42,11 @@ FramesShowForms = (z : Size) (past : List ℕ) (fs : List Form) → 0 < z.rows �
 -- pieces they come and wherever updates are stopped by hand
 abbrev pub SpellingsAreParsed : Type 0
 SpellingsAreParsed = (fs : List Form) (moves : List Move) (past parsed : List ℕ) (hold : Option (List ℕ))
-    → AtGround 1024 past → AllByRecursion IsSentForm fs → given moves ≡ spell fs → Leads moves past None parsed hold
+    → AtGround 1024 past → AllByRecursion IsSentForm fs → given moves ≡ spell fs → Drives moves past None parsed hold
     → (parsed ≡ past ++ spell fs) × (hold ≡ None)
 
 -- so a view that holds nothing reads them
-abbrev pub SpellingsAreTaken : {T : Type 0} → (T → ℕ → T → Type 0) → (T → T → Type 0) → (T → Bool → Type 0) → Type 0
-SpellingsAreTaken {T} sets clears answers = (fs : List Form) (past : List ℕ) (old new : View T)
-    → AtGround 1024 past → AllByRecursion IsSentForm fs → Taken sets clears answers old past None (spell fs) new
-    → HoldsAt answers new (past ++ spell fs) None × (view_size new ≡ view_size old)
+abbrev pub SpellingsAreTaken : {T : Type 0} → Ticking T → Type 0
+SpellingsAreTaken {T} ticking = (fs : List Form) (past : List ℕ) (old new : View T)
+    → AtGround 1024 past → AllByRecursion IsSentForm fs → Taken ticking old past None (spell fs) new
+    → HoldsAt ticking new (past ++ spell fs) None × (view_size new ≡ view_size old)

@@ -9,7 +9,7 @@ use Rattle.vte.specs.Stretch.{last_of, calls_from}
 use Rattle.vte.specs.Marks.{start_mark, end_mark}
 use Rattle.vte.specs.Hold.{limit}
 use Rattle.vte.specs.Moves.{Move, Gives, given}
-use Rattle.vte.specs.Frames.{IsFrame, IsPart, Leads}
+use Rattle.vte.specs.Frames.{IsFrame, IsPart, Drives}
 use Rattle.vt100_forms.specs.Form.{Form, spell}
 use Rattle.terminal_model.specs.Term.{Size, Term, IsTerm}
 use Rattle.terminal_model.specs.Apply.{run}
@@ -40,7 +40,7 @@ FramesShowTheirBodies = (z : Size) (past body : List ℕ) → AtGround 1024 past
 abbrev pub WholeFramesAreShown : Type 0
 WholeFramesAreShown = (z : Size) (frames : List (List ℕ)) (moves : List Move) (past parsed : List ℕ)
     (hold : Option (List ℕ)) → AtGround 1024 past → All IsFrame frames → given moves ≡ concat frames
-    → Leads moves past None parsed hold
+    → Drives moves past None parsed hold
     → (seen z parsed ≡ seen z (past ++ concat frames)) × (hold ≡ None) × AtGround 1024 parsed
 
 -- of the frames just those that were given whole are shown
@@ -57,7 +57,7 @@ pub record ShowsWhole (z : Size) (frames : List (List ℕ)) (past bytes parsed :
 abbrev pub NoFrameIsTorn : Type 0
 NoFrameIsTorn = (z : Size) (frames pieces : List (List ℕ)) (beyond past parsed : List ℕ) (hold : Option (List ℕ))
     → AtGround 1024 past → All IsFrame frames → All (λ frame. length frame < limit) frames
-    → concat pieces ++ beyond ≡ concat frames → Leads (map Gives pieces) past None parsed hold
+    → concat pieces ++ beyond ≡ concat frames → Drives (map Gives pieces) past None parsed hold
     → ShowsWhole z frames past (concat pieces) parsed
 
 -- what is true of every terminal stays true under every call

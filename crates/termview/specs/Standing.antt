@@ -1,7 +1,7 @@
 -- Where a view stands: the bytes that it has parsed, those that it holds, and what it shows of the first.
-use Rattle.std.specs.Prelude.{ℕ, Bool, false, List, [], ◌∷◌, ◌++◌, ◌≡◌, Option, is_some}
+use Rattle.std.specs.Prelude.{ℕ, false, List, [], ◌∷◌, ◌++◌, ◌≡◌, Option, is_some}
 use Rattle.vte_types.specs.Call.{Call}
-use Rattle.vte.specs.Timeout.{Tick, Clears, Ticked, Awaits}
+use Rattle.vte.specs.Timeout.{Ticking, Tick, Clears, Ticked, Awaits}
 use Rattle.vte.specs.Stretch.{ticks_from}
 use Rattle.vte.specs.Hold.{held_of, Takes}
 use Rattle.vte.specs.Advances.{Advances}
@@ -22,42 +22,41 @@ abbrev pub timeout_of : {T : Type 0} → View T → T
 timeout_of v = processor.timeout_of v.processor
 
 -- the view has parsed these bytes and shows what they make of a blank terminal, and it holds those
-pub record StandsAt {T : Type 0} (v : View T) (parsed held : List ℕ) : Type 0 where
+pub record ViewStandsAt {T : Type 0} (v : View T) (parsed held : List ℕ) : Type 0 where
   pub reads : processor.StandsAt v.processor parsed held
   pub shows : shown_by v ≡ seen (view_size v) parsed
 
 -- the same, where the timeout says whether an update is open
-pub record HoldsAt {T : Type 0} (answers : T → Bool → Type 0) (v : View T) (parsed : List ℕ) (hold : Option (List ℕ))
+pub record HoldsAt {T : Type 0} (ticking : Ticking T) (v : View T) (parsed : List ℕ) (hold : Option (List ℕ))
     : Type 0 where
-  pub stands : StandsAt v parsed (held_of hold)
-  pub awaits : Awaits answers (timeout_of v) (is_some hold)
+  pub stands : ViewStandsAt v parsed (held_of hold)
+  pub awaits : Awaits ticking (timeout_of v) (is_some hold)
 
 -- what a piece led to
-pub record Advanced {T : Type 0} (sets : T → ℕ → T → Type 0) (clears : T → T → Type 0) (answers : T → Bool → Type 0)
-    (old : View T) (parsed held piece : List ℕ) (new : View T) : Type 0 where
+pub record Advanced {T : Type 0} (ticking : Ticking T) (old : View T) (parsed held piece : List ℕ) (new : View T)
+    : Type 0 where
   pub parsed' : List ℕ
   pub held' : List ℕ
   pub calls : List Call
-  pub advances : Advances sets clears answers false (timeout_of old) parsed held piece (timeout_of new) parsed' held'
-      calls
-  pub stands : StandsAt new parsed' held'
+  pub advances : Advances ticking false (timeout_of old) parsed held piece (timeout_of new) parsed' held' calls
+  pub stands : ViewStandsAt new parsed' held'
   pub size : view_size new ≡ view_size old
 
 -- what a piece led to, under a timeout that is pending exactly from setting to clearing
-pub record Taken {T : Type 0} (sets : T → ℕ → T → Type 0) (clears : T → T → Type 0) (answers : T → Bool → Type 0)
-    (old : View T) (parsed : List ℕ) (hold : Option (List ℕ)) (piece : List ℕ) (new : View T) : Type 0 where
+pub record Taken {T : Type 0} (ticking : Ticking T) (old : View T) (parsed : List ℕ) (hold : Option (List ℕ))
+    (piece : List ℕ) (new : View T) : Type 0 where
   pub parsed' : List ℕ
   pub hold' : Option (List ℕ)
   pub calls : List Call
   pub ticks : List Tick
   pub takes : Takes parsed hold piece parsed' hold' calls ticks
-  pub stands : HoldsAt answers new parsed' hold'
-  pub ticked : Ticked sets clears (timeout_of old) ticks (timeout_of new)
+  pub stands : HoldsAt ticking new parsed' hold'
+  pub ticked : Ticked ticking (timeout_of old) ticks (timeout_of new)
   pub size : view_size new ≡ view_size old
 
 -- all held bytes were parsed, and the update was closed
-pub record Emptied {T : Type 0} (sets : T → ℕ → T → Type 0) (clears : T → T → Type 0) (old : View T)
-    (parsed held : List ℕ) (new : View T) : Type 0 where
-  pub stands : StandsAt new (parsed ++ held) []
-  pub ticked : Ticked sets clears (timeout_of old) (ticks_from parsed held ++ Clears ∷ []) (timeout_of new)
+pub record Emptied {T : Type 0} (ticking : Ticking T) (old : View T) (parsed held : List ℕ) (new : View T)
+    : Type 0 where
+  pub stands : ViewStandsAt new (parsed ++ held) []
+  pub ticked : Ticked ticking (timeout_of old) (ticks_from parsed held ++ Clears ∷ []) (timeout_of new)
   pub size : view_size new ≡ view_size old

@@ -58,5 +58,5 @@ pub fn forms_are_framed()
 /// pieces they come.
 pub fn spellings_are_read<T: Timeout>()
     ensures pieces { SpellingsAreParsed }
-    ensures views { SpellingsAreTaken T.sets T.clears T.answers }
+    ensures views { SpellingsAreTaken T.ticking }
 {}

@@ -1,5 +1,5 @@
 //! A timeout without a clock.
-ghost use Rattle.std.specs.Prelude.{◌≡◌, true, false};
+ghost use Rattle.std.specs.Prelude.{◌≡◌, false};
 ghost use Rattle.vte.specs.Timeout.{IsExact};
 
 use std::time::Duration;
@@ -23,13 +23,9 @@ impl UntilCleared {
 }
 
 impl Timeout for UntilCleared {
-    ghost use Rattle.termview.specs.Timeout.{pending_of};
+    ghost use Rattle.termview.specs.Timeout.{until_cleared};
 
-    ghost sets = { λ _ _ t. pending_of t ≡ true };
-
-    ghost clears = { λ _ t. pending_of t ≡ false };
-
-    ghost answers = { λ t b. b ≡ pending_of t };
+    ghost ticking = { until_cleared };
 
     fn set_timeout(&mut self, _duration: Duration) {
         self.pending = true;
@@ -46,7 +42,5 @@ impl Timeout for UntilCleared {
 
 /// It is pending exactly from setting to clearing.
 pub fn until_cleared_is_exact()
-    ensures { IsExact ⟦<UntilCleared as Timeout>⟧.sets
-        ⟦<UntilCleared as Timeout>⟧.clears
-        ⟦<UntilCleared as Timeout>⟧.answers }
+    ensures { IsExact ⟦<UntilCleared as Timeout>⟧.ticking }
 {}

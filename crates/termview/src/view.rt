@@ -32,7 +32,7 @@ pub struct View<T: Timeout> {
 impl<T: Timeout + Drop> View<T> {
     ghost use Rattle.vte.specs.Timeout.{IsExact, Awaits};
     ghost use Rattle.vte.specs.Hold.{held_of};
-    ghost use Rattle.termview.specs.Standing.{view_size, shown_by, timeout_of, StandsAt, HoldsAt, Advanced, Emptied};
+    ghost use Rattle.termview.specs.Standing.{view_size, shown_by, timeout_of, ViewStandsAt, HoldsAt, Advanced, Emptied};
     ghost use Rattle.termview.specs.Standing.{Taken};
 
     /// A view of this size that shows nothing. All that it will need is reserved, so no later call is refused for
@@ -43,8 +43,8 @@ impl<T: Timeout + Drop> View<T> {
         cols: NonZeroU16,
         timeout: T,
     ) -> Result<Self, ViewError>
-        ensures stands { IfOk result (λ v. StandsAt v [] []) }
-        ensures exact { IfOk result (λ v. Awaits T.answers timeout false → HoldsAt T.answers v [] None) }
+        ensures stands { IfOk result (λ v. ViewStandsAt v [] []) }
+        ensures exact { IfOk result (λ v. Awaits T.ticking timeout false → HoldsAt T.ticking v [] None) }
         ensures rows { IfOk result (λ v. (view_size v).rows ≡ rows.value) }
         ensures cols { IfOk result (λ v. (view_size v).cols ≡ cols.value) }
         ensures timeout { IfOk result (λ v. timeout_of v ≡ timeout) }
@@ -57,29 +57,29 @@ impl<T: Timeout + Drop> View<T> {
 
     /// Reads the next piece of the stream.
     pub fn advance(&mut self, bytes: &[u8])
-        ensures advanced { (parsed held : List ℕ) → StandsAt self.old parsed held
-            → Advanced T.sets T.clears T.answers self.old parsed held bytes.now self.new }
-        ensures exact { (parsed : List ℕ) (hold : Option (List ℕ)) → IsExact T.sets T.clears T.answers
-            → HoldsAt T.answers self.old parsed hold
-            → Taken T.sets T.clears T.answers self.old parsed hold bytes.now self.new }
+        ensures advanced { (parsed held : List ℕ) → ViewStandsAt self.old parsed held
+            → Advanced T.ticking self.old parsed held bytes.now self.new }
+        ensures exact { (parsed : List ℕ) (hold : Option (List ℕ)) → IsExact T.ticking
+            → HoldsAt T.ticking self.old parsed hold
+            → Taken T.ticking self.old parsed hold bytes.now self.new }
     {
         self.processor.advance(&mut self.picture, bytes);
     }
 
     /// Parses what is held, and closes the update.
     pub fn stop_sync(&mut self)
-        ensures emptied { (parsed held : List ℕ) → StandsAt self.old parsed held
-            → Emptied T.sets T.clears self.old parsed held self.new }
-        ensures exact { (parsed : List ℕ) (hold : Option (List ℕ)) → IsExact T.sets T.clears T.answers
-            → HoldsAt T.answers self.old parsed hold
-            → HoldsAt T.answers self.new (parsed ++ held_of hold) None }
+        ensures emptied { (parsed held : List ℕ) → ViewStandsAt self.old parsed held
+            → Emptied T.ticking self.old parsed held self.new }
+        ensures exact { (parsed : List ℕ) (hold : Option (List ℕ)) → IsExact T.ticking
+            → HoldsAt T.ticking self.old parsed hold
+            → HoldsAt T.ticking self.new (parsed ++ held_of hold) None }
     {
         self.processor.stop_sync(&mut self.picture);
     }
 
     /// How many bytes are held: at most 2,097,150.
     pub fn sync_bytes_count(&self) -> usize
-        ensures count { (parsed held : List ℕ) → StandsAt self.now parsed held → result ≡ length held }
+        ensures count { (parsed held : List ℕ) → ViewStandsAt self.now parsed held → result ≡ length held }
         ensures most { result ≤ 2_097_150 }
     {
         self.processor.sync_bytes_count()

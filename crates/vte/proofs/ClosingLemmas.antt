@@ -8,7 +8,7 @@ use Rattle.vte_types.specs.Call.{Call, Calls, unset_private_mode}
 use Rattle.vte_types.specs.declared.mode.PrivateMode.TheVariants.{Named}
 use Rattle.vte_types.specs.declared.mode.NamedPrivateMode.TheVariants.{SyncUpdate}
 use Rattle.vte.specs.Csi.{opens_group}
-use Rattle.vte.specs.Timeout.{Tick, Sets, Clears, Ticked, sets_of}
+use Rattle.vte.specs.Timeout.{Ticking, Tick, Sets, Clears, Ticked, sets_of}
 use Rattle.vte.specs.Performed.{calls_of_all, openers_of_all}
 use Rattle.vte.specs.Stretch.{added, calls_from, ticks_from}
 use Rattle.vte.specs.Hold as hold
@@ -150,11 +150,11 @@ taken_parsed parsed h piece parsed' h' calls ticks (hold.overflows _ held _ _ _ 
     ++ hold.closing) cs (closed_parsed parsed held) more)
 
 -- the same under any timeout
-module _ {T : Type 0} (sets : T → ℕ → T → Type 0) (clears : T → T → Type 0) (answers : T → Bool → Type 0) where
+module _ {T : Type 0} (ticking : Ticking T) where
   pub advanced_parsed : (closed : Bool) (t : T) (parsed held piece : List ℕ) (t' : T) (parsed' held' : List ℕ)
       (calls : List Call)
-      → Advances sets clears answers closed t parsed held piece t' parsed' held' calls → (ticks : List Tick)
-      × Ticked sets clears t ticks t' × Parses parsed parsed' (clearings ticks) calls
+      → Advances ticking closed t parsed held piece t' parsed' held' calls → (ticks : List Tick)
+      × Ticked ticking t ticks t' × Parses parsed parsed' (clearings ticks) calls
   advanced_parsed closed t parsed held piece t' parsed' held' calls (any.parses _ _ _ _ plain _) =
       ([], refl, bytes_parsed parsed piece)
   advanced_parsed closed t parsed held piece t' parsed' held' calls (any.begins _ _ _ _ n u _ _ _ cs plain at y f) =
@@ -163,7 +163,7 @@ module _ {T : Type 0} (sets : T → ℕ → T → Type 0) (clears : T → T → 
       let e : zero + clearings ts ≡ clearings (ticks_from parsed b ++ ts) =
       sym (clearings-append (ticks_from parsed b) ts ∙ (let g = from_clears_none parsed b in omega (arith, g))) in (
         ticks_from parsed b ++ ts,
-        Ticked-append sets clears t u t' (ticks_from parsed b) ts y z,
+        Ticked-append ticking t u t' (ticks_from parsed b) ts y z,
         counted _ _ _ _ _ e (then_parsed parsed (parsed
             ++ b) parsed' zero (clearings ts) (calls_from parsed b) cs (bytes_parsed parsed b) more),
       )
@@ -177,15 +177,15 @@ module _ {T : Type 0} (sets : T → ℕ → T → Type 0) (clears : T → T → 
       sym (clearings-append (ticks_from parsed held ++ Clears ∷ []) ts
       ∙ ap (λ k. k + clearings ts) (closed_clears parsed held)) in (
         (ticks_from parsed held ++ Clears ∷ []) ++ ts,
-        Ticked-append sets clears t u t' (ticks_from parsed held ++ Clears ∷ []) ts y z,
+        Ticked-append ticking t u t' (ticks_from parsed held ++ Clears ∷ []) ts y z,
         counted _ _ _ _ _ e (then_parsed parsed (parsed ++ held) parsed' 1 (clearings ts) (calls_from parsed held
             ++ hold.closing) cs (closed_parsed parsed held) more),
       )
 
   -- all that was given
   ran : (moves : List Move) (t : T) (p h : List ℕ) (t' : T) (p' h' : List ℕ) (calls : List Call)
-      → Runs sets clears answers moves t p h t' p' h' calls
-      → (p ++ (h ++ given moves) ≡ p' ++ h') × (ticks : List Tick) × Ticked sets clears t ticks t'
+      → Runs ticking moves t p h t' p' h' calls
+      → (p ++ (h ++ given moves) ≡ p' ++ h') × (ticks : List Tick) × Ticked ticking t ticks t'
       × Parses p p' (clearings ticks) calls
   ran moves t p h t' p' h' calls (ends _ _ _) = (ap (λ s. p ++ s) (append-nil h), [], refl, none_parsed p)
   ran moves t p h t' p' h' calls (gives piece rest _ _ _ u q k cs _ _ _ ds a r) =
@@ -193,11 +193,11 @@ module _ {T : Type 0} (sets : T → ℕ → T → Type 0) (clears : T → T → 
       let (ts, y, one) = advanced_parsed false t p h piece u q k cs a in
       let same : p ++ (h ++ (piece ++ given rest)) ≡ q ++ (k ++ given rest) =
       ap (λ s. p ++ s) (sym (append_assoc h piece (given rest))) ∙ (sym (append_assoc p (h ++ piece) (given rest))
-      ∙ (ap (λ s. s ++ given rest) (conserve_any sets clears answers false t p h piece u q k cs a)
+      ∙ (ap (λ s. s ++ given rest) (conserve_any ticking false t p h piece u q k cs a)
       ∙ append_assoc q k (given rest))) in (
         same ∙ all,
         ts ++ us,
-        Ticked-append sets clears t u t' ts us y z,
+        Ticked-append ticking t u t' ts us y z,
         counted _ _ _ _ _ (sym (clearings-append ts us))
             (then_parsed p q p' (clearings ts) (clearings us) cs ds one more),
       )
@@ -208,14 +208,14 @@ module _ {T : Type 0} (sets : T → ℕ → T → Type 0) (clears : T → T → 
       sym (clearings-append closed us ∙ ap (λ k. k + clearings us) (closed_clears p h)) in (
         sym (append_assoc p h (given rest)) ∙ all,
         closed ++ us,
-        Ticked-append sets clears t u t' closed us y z,
+        Ticked-append ticking t u t' closed us y z,
         counted _ _ _ _ _ e (then_parsed p (p ++ h) p' 1 (clearings us) (calls_from p h
             ++ hold.closing) ds (closed_parsed p h) more),
       )
 
   pub all_ran : (moves : List Move) (t t' : T) (parsed held : List ℕ) (calls : List Call)
-      → Runs sets clears answers moves t [] [] t' parsed held calls
-      → (given moves ≡ parsed ++ held) × (ticks : List Tick) × Ticked sets clears t ticks t'
+      → Runs ticking moves t [] [] t' parsed held calls
+      → (given moves ≡ parsed ++ held) × (ticks : List Tick) × Ticked ticking t ticks t'
       × WithClosings (calls_of_all None (events 1024 parsed)) (clearings ticks) calls
   all_ran moves t t' parsed held calls r =
       let (all, ticks, y, made) = ran moves t [] [] t' parsed held calls r in

@@ -11,7 +11,7 @@ use Rattle.vte.specs.Timeout.{Tick}
 use Rattle.vte.specs.Marks.{start_mark, end_mark}
 use Rattle.vte.specs.Hold.{limit, held_of, Takes}
 use Rattle.vte.specs.Moves.{Move, Gives, Stops, given}
-use Rattle.vte.specs.Frames.{IsFrame, IsPart, Leads, ends, gives, stops, Rests, closed, opened, kept, IsUntorn}
+use Rattle.vte.specs.Frames.{IsFrame, IsPart, Drives, ends, gives, stops, Rests, closed, opened, kept, IsUntorn}
 use Rattle.vte.proofs.FrameMarks.{ground_end}
 use Rattle.vte.proofs.FrameLemmas.{cut_later, concat-append, Frames, frames_back, front_short, RestsBy, outside, inside}
 use Rattle.vte.proofs.FrameLemmas.{before, piece_rests}
@@ -126,7 +126,7 @@ follow : (T : Type 0) (frames : List (List ℕ)) (past beyond bytes : List ℕ) 
     (hold : Option (List ℕ)) (parsed' : List ℕ) (hold' : Option (List ℕ))
     → Frames T frames → StopsBy T moves → (bytes ++ given moves) ++ beyond ≡ concat frames
     → Untorn T frames past bytes parsed hold
-    → Leads moves parsed hold parsed' hold' → Untorn T frames past (bytes ++ given moves) parsed' hold'
+    → Drives moves parsed hold parsed' hold' → Untorn T frames past (bytes ++ given moves) parsed' hold'
 follow T frames past beyond bytes moves parsed hold parsed' hold' fs why e r (ends _ _) =
     subst (λ (xs : List ℕ). Untorn T frames past xs parsed hold) (sym (append-nil bytes)) r
 follow T frames past beyond bytes moves parsed hold parsed' hold' fs why e r
@@ -163,8 +163,8 @@ at_first T frames past fs = record {
 
 pub moves_follow : (moves further : List Move) (parsed : List ℕ) (hold : Option (List ℕ)) (mid : List ℕ)
     (mid_hold : Option (List ℕ)) (parsed' : List ℕ) (hold' : Option (List ℕ))
-    → Leads moves parsed hold mid mid_hold → Leads further mid mid_hold parsed' hold'
-    → Leads (moves ++ further) parsed hold parsed' hold'
+    → Drives moves parsed hold mid mid_hold → Drives further mid mid_hold parsed' hold'
+    → Drives (moves ++ further) parsed hold parsed' hold'
 moves_follow moves further parsed hold mid mid_hold parsed' hold' (ends _ _) k = k
 moves_follow moves further parsed hold mid mid_hold parsed' hold' (gives piece rest _ _ m h calls ticks _ _ t l) k =
     gives piece (rest ++ further) parsed hold m h calls ticks parsed' hold' t
@@ -210,7 +210,7 @@ nothing_left T whole (f ∷ rest) part fs is e =
     nil_of (x ∷ xs) h = absurd (omega (arith, h))
 
 pub whole_are_parsed : (frames : List (List ℕ)) (moves : List Move) (past parsed : List ℕ) (hold : Option (List ℕ))
-    → All IsFrame frames → given moves ≡ concat frames → Leads moves past None parsed hold
+    → All IsFrame frames → given moves ≡ concat frames → Drives moves past None parsed hold
     → (parsed ≡ past ++ concat frames) × (hold ≡ None)
 whole_are_parsed frames moves past parsed hold all e l =
     let fs = loose frames (recursion_from_All IsFrame frames all) in
@@ -247,7 +247,7 @@ rests_so whole part parsed hold (before long at is) = kept long at is
 
 pub never_torn : (frames pieces : List (List ℕ)) (beyond past parsed : List ℕ) (hold : Option (List ℕ))
     → All IsFrame frames → All (λ f. length f < limit) frames → concat pieces ++ beyond ≡ concat frames
-    → Leads (map Gives pieces) past None parsed hold → IsUntorn frames past (concat pieces) parsed hold
+    → Drives (map Gives pieces) past None parsed hold → IsUntorn frames past (concat pieces) parsed hold
 never_torn frames pieces beyond past parsed hold all small e l =
     let fs = tight frames (recursion_from_All IsFrame frames all)
     (recursion_from_All (λ f. length f < limit) frames small) in

@@ -4,7 +4,7 @@ use Rattle.std.proofs.Common.{refl, sym, ◌∙◌, ap, append_assoc, arith}
 use Rattle.std.proofs.lemmas.List.{append-nil, take-append-drop}
 use Rattle.vte_types.specs.Call.{Call}
 use Rattle.vte.specs.Marks.{end_mark, NoneFrom, IsLast}
-use Rattle.vte.specs.Timeout.{Tick}
+use Rattle.vte.specs.Timeout.{Ticking, Tick}
 use Rattle.vte.specs.Advances as any
 use Rattle.vte.specs.Advances.{Advances}
 use Rattle.vte.specs.Hold.{Settles, keeps, replays, closes, Takes, parses, begins, settles, overflows, held_of, limit}
@@ -29,21 +29,21 @@ conserve parsed hold piece parsed' hold' calls ticks (settles _ held _ _ _ _ _ f
 conserve parsed hold piece parsed' hold' calls ticks (overflows _ held _ _ _ cs ts full t) =
     sym (append_assoc parsed held piece) ∙ conserve (parsed ++ held) None piece parsed' hold' cs ts t
 
-pub conserve_any : {T : Type 0} (sets : T → ℕ → T → Type 0) (clears : T → T → Type 0) (answers : T → Bool
-    → Type 0) (closed : Bool) (t : T) (parsed held piece : List ℕ) (t' : T) (parsed' held' : List ℕ) (calls : List Call)
-    → Advances sets clears answers closed t parsed held piece t' parsed' held' calls
+pub conserve_any : {T : Type 0} (ticking : Ticking T) (closed : Bool) (t : T) (parsed held piece : List ℕ) (t' : T)
+    (parsed' held' : List ℕ) (calls : List Call)
+    → Advances ticking closed t parsed held piece t' parsed' held' calls
     → parsed ++ (held ++ piece) ≡ parsed' ++ held'
-conserve_any sets clears answers closed t parsed held piece t' parsed' held' calls (any.parses _ _ _ _ plain none) =
+conserve_any ticking closed t parsed held piece t' parsed' held' calls (any.parses _ _ _ _ plain none) =
     sym (append-nil (parsed ++ piece))
-conserve_any sets clears answers closed t parsed held piece t' parsed' held' calls
+conserve_any ticking closed t parsed held piece t' parsed' held' calls
     (any.begins _ _ _ _ n u _ _ _ cs plain at y f) =
     ap (λ xs. parsed ++ xs) (sym (take-append-drop n piece)) ∙ (sym (append_assoc parsed (take n piece) (drop n piece))
-    ∙ conserve_any sets clears answers false u (parsed ++ take n piece) [] (drop n piece) t' parsed' held' cs f)
-conserve_any sets clears answers closed t parsed held piece t' parsed' held' calls
+    ∙ conserve_any ticking false u (parsed ++ take n piece) [] (drop n piece) t' parsed' held' cs f)
+conserve_any ticking closed t parsed held piece t' parsed' held' calls
     (any.settles _ _ _ _ _ _ hold' _ ticks open_ fits s y) = settle parsed held piece parsed' hold' calls ticks s
-conserve_any sets clears answers closed t parsed held piece t' parsed' held' calls
+conserve_any ticking closed t parsed held piece t' parsed' held' calls
     (any.empties _ _ _ _ is_open u _ _ _ cs asked must y f) =
-    sym (append_assoc parsed held piece) ∙ conserve_any sets clears answers true u (parsed
+    sym (append_assoc parsed held piece) ∙ conserve_any ticking true u (parsed
     ++ held) [] piece t' parsed' held' cs f
 
 contradiction : (text : List ℕ) (e : ℕ) → IsLast end_mark text e → NoneFrom end_mark text 0 → ⊥

@@ -4,14 +4,15 @@ use Rattle.std.proofs.Common.{map, take, length, ◌≤◌, arith, subst}
 use Rattle.std.proofs.lemmas.Grind.{common_steps}
 use Rattle.vte_core.specs.Event.{Event, Print, Performs}
 use Rattle.vte_types.specs.Call.{Call, Calls, input}
+use Rattle.vte.specs.Timeout.{Ticking}
 use Rattle.vte.specs.Performed.{Performed, last_after_all}
 use Rattle.vte.proofs.RunLemmas.{Calls-append}
 use Rattle.vte.specs.declared.performer.Performer.{Performer}
 
 -- what an event does to a performer
-abbrev pub Steps : {H T : Type 0} → (H → Call → H → Type 0) → (T → ℕ → T → Type 0) → (T → T → Type 0) → Performer H T
+abbrev pub Steps : {H T : Type 0} → (H → Call → H → Type 0) → Ticking T → Performer H T
     → Event → Performer H T → Type 0
-Steps step sets clears p e q = Performed step sets clears e p.handler.now p.state.now p.terminated q.handler.now
+Steps step ticking p e q = Performed step ticking e p.handler.now p.state.now p.terminated q.handler.now
     q.state.now q.terminated
     × (q.handler.ghost_name ≡ p.handler.ghost_name) × (q.state.ghost_name ≡ p.state.ghost_name)
 
@@ -27,20 +28,20 @@ still true = refl
 still false = refl
 
 -- a handler that was told characters, with the last of them: as events
-pub printed-all : {H T : Type 0} (step : H → Call → H → Type 0) (sets : T → ℕ → T → Type 0) (clears : T → T → Type 0)
+pub printed-all : {H T : Type 0} (step : H → Call → H → Type 0) (ticking : Ticking T)
     (p : Performer H T) (cs : List ℕ) (h : H) (last : Option ℕ) → Calls step p.handler.now (map input cs) h
     → last ≡ last_after_all p.state.now.preceding_char (map Print cs)
-    → Performs (Steps step sets clears) p (map Print cs) (printed p h last)
-printed-all step sets clears p [] h last calls is =
+    → Performs (Steps step ticking) p (map Print cs) (printed p h last)
+printed-all step ticking p [] h last calls is =
     ap (λ x. printed p x last) calls ∙ ap (λ l. printed p p.handler.now l) is
-printed-all step sets clears p (c ∷ cs) h last calls is = (
+printed-all step ticking p (c ∷ cs) h last calls is = (
   printed p calls.0 (Some c),
   (
     record { calls = λ fits. (calls.0, calls.1, refl); printed = refl; ticked = refl; ends = still p.terminated },
     refl,
     refl,
   ),
-  printed-all step sets clears (printed p calls.0 (Some c)) cs h last calls.2 is,
+  printed-all step ticking (printed p calls.0 (Some c)) cs h last calls.2 is,
 )
 
 map-last : (cs : List ℕ) (c : ℕ) → map input cs ++ input c ∷ [] ≡ map input (cs ++ c ∷ [])

@@ -11,7 +11,7 @@ use Rattle.vte_core.proofs.AddedLemmas.{added-is}
 use Rattle.vte_types.specs.Call.{Call, Calls}
 use Rattle.vte.specs.Csi.{opens_group}
 use Rattle.vte.specs.Table.{calls_of, last_after, openers, opens}
-use Rattle.vte.specs.Timeout.{Tick, Sets, Clears, Ticked, sets_of}
+use Rattle.vte.specs.Timeout.{Ticking, Tick, Sets, Clears, Ticked, sets_of}
 use Rattle.vte.specs.declared.performer.ProcessorState.{ProcessorState}
 use Rattle.vte.specs.Performed.{Performed, PerformedAll, last_after_all, calls_of_all, openers_of_all}
 use Rattle.vte.specs.Stretch.{added}
@@ -21,11 +21,11 @@ pub Calls-append : {S : Type 0} (step : S → Call → S → Type 0) (s m t : S)
 Calls-append {S} step s m t [] b h k = subst (λ (x : S). Calls step x b t) h k
 Calls-append {S} step s m t (c ∷ a) b h k = (h.0, h.1, Calls-append step h.0 m t a b h.2 k)
 
-pub Ticked-append : {T : Type 0} (sets : T → ℕ → T → Type 0) (clears : T → T → Type 0) (s m t : T) (a b : List Tick)
-    → Ticked sets clears s a m → Ticked sets clears m b t → Ticked sets clears s (a ++ b) t
-Ticked-append {T} sets clears s m t [] b h k = subst (λ (x : T). Ticked sets clears x b t) h k
-Ticked-append {T} sets clears s m t (Sets ∷ a) b h k = (h.0, h.1, Ticked-append sets clears h.0 m t a b h.2 k)
-Ticked-append {T} sets clears s m t (Clears ∷ a) b h k = (h.0, h.1, Ticked-append sets clears h.0 m t a b h.2 k)
+pub Ticked-append : {T : Type 0} (ticking : Ticking T) (s m t : T) (a b : List Tick)
+    → Ticked ticking s a m → Ticked ticking m b t → Ticked ticking s (a ++ b) t
+Ticked-append {T} ticking s m t [] b h k = subst (λ (x : T). Ticked ticking x b t) h k
+Ticked-append {T} ticking s m t (Sets ∷ a) b h k = (h.0, h.1, Ticked-append ticking h.0 m t a b h.2 k)
+Ticked-append {T} ticking s m t (Clears ∷ a) b h k = (h.0, h.1, Ticked-append ticking h.0 m t a b h.2 k)
 
 pub sets_of-append : (a b : List (List ℕ)) → sets_of (a ++ b) ≡ sets_of a ++ sets_of b
 sets_of-append [] b = refl
@@ -51,22 +51,22 @@ any-append p [] b = refl
 any-append p (x ∷ a) b = ap (λ v. p x || v) (any-append p a b) ∙ sym (or-assoc (p x) (list_any p a) (list_any p b))
 
 -- what each step does, a run does
-pub performs_all : {P H T : Type 0} (step : H → Call → H → Type 0) (sets : T → ℕ → T → Type 0) (clears : T → T → Type 0)
+pub performs_all : {P H T : Type 0} (step : H → Call → H → Type 0) (ticking : Ticking T)
     (h : P → H) (s : P → ProcessorState T) (ended : P → Bool) (steps : P → Event → P → Type 0)
-    → ((p : P) (e : Event) (q : P) → steps p e q → Performed step sets clears e (h p) (s p) (ended p) (h q) (s q)
+    → ((p : P) (e : Event) (q : P) → steps p e q → Performed step ticking e (h p) (s p) (ended p) (h q) (s q)
     (ended q))
     → (p : P) (es : List Event) (q : P) → All (Fits 1024) es → Performs steps p es q
-    → PerformedAll step sets clears es (h p) (s p) (ended p) (h q) (s q) (ended q)
-performs_all step sets clears h s ended steps each p [] q fits g =
+    → PerformedAll step ticking es (h p) (s p) (ended p) (h q) (s q) (ended q)
+performs_all step ticking h s ended steps each p [] q fits g =
     record {
       calls = ap h g;
       printed = ap (λ x. (s x).preceding_char) g;
       ticked = ap (λ x. (s x).timeout) g;
       ends = ap ended g ∙ sym (or-false (ended p));
     }
-performs_all step sets clears h s ended steps each p (e ∷ es) q fits g =
+performs_all step ticking h s ended steps each p (e ∷ es) q fits g =
     let one = each p e g.0 g.1 in
-    let more = performs_all step sets clears h s ended steps each g.0 es q (All-tail (Fits 1024) e es fits) g.2 in
+    let more = performs_all step ticking h s ended steps each g.0 es q (All-tail (Fits 1024) e es fits) g.2 in
     let last = (s p).preceding_char in
     let calls : Calls step (h g.0) (calls_of_all (last_after last e) es) (h q) =
     subst (λ (l : Option ℕ). Calls step (h g.0) (calls_of_all l es) (h q)) one.printed more.calls in
@@ -74,9 +74,9 @@ performs_all step sets clears h s ended steps each p (e ∷ es) q fits g =
       calls = Calls-append step (h p) (h g.0) (h q) (calls_of last e) (calls_of_all (last_after last e) es)
           (one.calls (All-head (Fits 1024) e es fits)) calls;
       printed = more.printed ∙ ap (λ l. last_after_all l es) one.printed;
-      ticked = subst (λ (ts : List Tick). Ticked sets clears (s p).timeout ts (s q).timeout)
+      ticked = subst (λ (ts : List Tick). Ticked ticking (s p).timeout ts (s q).timeout)
           (sym (sets_of-append (openers e) (openers_of_all es)))
-          (Ticked-append sets clears (s p).timeout (s g.0).timeout (s q).timeout (sets_of (openers e))
+          (Ticked-append ticking (s p).timeout (s g.0).timeout (s q).timeout (sets_of (openers e))
           (sets_of (openers_of_all es)) one.ticked more.ticked);
       ends = more.ends ∙ (ap (λ b. b || list_any opens es) one.ends ∙ sym (or-any (ended p) e es));
     }

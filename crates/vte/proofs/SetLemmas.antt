@@ -5,7 +5,7 @@ use Rattle.std.proofs.lemmas.Bool.{cases_Bool}
 use Rattle.vte_core.specs.Event.{Event}
 use Rattle.vte.specs.Csi.{opens_group}
 use Rattle.vte.specs.Table.{openers, opens}
-use Rattle.vte.specs.Timeout.{Tick, Sets, Clears, Ticked, sets_of, Awaits, IsExact}
+use Rattle.vte.specs.Timeout.{Ticking, Tick, Sets, Clears, Ticked, sets_of, Awaits, IsExact}
 use Rattle.vte.specs.Performed.{openers_of_all}
 use Rattle.vte.proofs.RunLemmas.{or-assoc}
 
@@ -54,23 +54,22 @@ sets_some (g ∷ gs) h = elim (cases_Bool (opens_group g)) [
   | inr e ↦ rw e (sets_some gs (let more : list_any opens_group gs ≡ true = rw e at h in more))
 ]
 
-module _ {T : Type 0} (sets : T → ℕ → T → Type 0) (clears : T → T → Type 0) (answers : T → Bool
-    → Type 0) (exact : IsExact sets clears answers) where
+module _ {T : Type 0} (ticking : Ticking T) (exact : IsExact ticking) where
   -- settings keep it pending
-  pub sets_keep : (t : T) (ts : List Tick) (u : T) → OnlySets ts → Ticked sets clears t ts u → Awaits answers t true
-      → Awaits answers u true
-  sets_keep t [] u no_more e a = subst (λ (x : T). Awaits answers x true) (sym e) a
+  pub sets_keep : (t : T) (ts : List Tick) (u : T) → OnlySets ts → Ticked ticking t ts u → Awaits ticking t true
+      → Awaits ticking u true
+  sets_keep t [] u no_more e a = subst (λ (x : T). Awaits ticking x true) (sym e) a
   sets_keep t (Sets ∷ ts) u (one_more _ more) y a = sets_keep y.0 ts u more y.2 (exact.set t 150_000_000 y.0 y.1)
   sets_keep t (Clears ∷ ts) u h y a = elim h [ ]
 
-  pub some_set : (t : T) (ts : List Tick) (u : T) → SomeSet ts → Ticked sets clears t ts u → Awaits answers u true
+  pub some_set : (t : T) (ts : List Tick) (u : T) → SomeSet ts → Ticked ticking t ts u → Awaits ticking u true
   some_set t [] u h y = elim h [ ]
   some_set t (Clears ∷ ts) u h y = elim h [ ]
   some_set t (Sets ∷ ts) u (first_set _ more) y = sets_keep y.0 ts u more y.2 (exact.set t 150_000_000 y.0 y.1)
 
   -- after a clearing at the end it isn't
-  pub cleared_last : (t : T) (ts : List Tick) (u : T) → Ticked sets clears t (ts ++ Clears ∷ []) u
-      → Awaits answers u false
-  cleared_last t [] u y = subst (λ (x : T). Awaits answers x false) (sym y.2) (exact.cleared t y.0 y.1)
+  pub cleared_last : (t : T) (ts : List Tick) (u : T) → Ticked ticking t (ts ++ Clears ∷ []) u
+      → Awaits ticking u false
+  cleared_last t [] u y = subst (λ (x : T). Awaits ticking x false) (sym y.2) (exact.cleared t y.0 y.1)
   cleared_last t (Sets ∷ ts) u y = cleared_last y.0 ts u y.2
   cleared_last t (Clears ∷ ts) u y = cleared_last y.0 ts u y.2

@@ -2,6 +2,7 @@
 use Rattle.std.proofs.Common.{◌≡◌, ℕ, Bool, true, false, List, [], ◌++◌, ◌<◌, Option, None, Some, MatchOption, refl}
 use Rattle.std.proofs.Common.{sym, subst, take, drop, length, append_assoc}
 use Rattle.vte_types.specs.Call.{Call}
+use Rattle.vte.specs.Timeout.{Ticking}
 use Rattle.vte.specs.declared.processor.Processor.{Processor}
 use Rattle.vte.specs.Stretch.{calls_from}
 use Rattle.vte.specs.Hold.{limit, closing, held_of}
@@ -9,18 +10,17 @@ use Rattle.vte.specs.Advances.{Plainly, IsEmptied, Advances, parses, begins, set
 use Rattle.vte.specs.Standing.{timeout_of, StandsAt, Advanced, Emptied, Held, Begun, Unopened, GoesOn}
 use Rattle.vte.proofs.RunLemmas.{Calls-append}
 
-module _ {T A H : Type 0} (sets : T → ℕ → T → Type 0) (clears : T → T → Type 0) (answers : T → Bool → Type 0) (step : H
-    → Call → H → Type 0) where
+module _ {T A H : Type 0} (ticking : Ticking T) (step : H → Call → H → Type 0) where
   -- nothing was opened
   pub unopened_advances : (closed : Bool) (old : Processor T A) (parsed piece : List ℕ) (h : H) (new : Processor T A)
       (h' : H)
-      → Plainly answers closed (timeout_of old) → Unopened sets clears step old parsed [] piece h new h'
-      → Advanced sets clears answers step closed old parsed [] piece h new h'
+      → Plainly ticking closed (timeout_of old) → Unopened ticking step old parsed [] piece h new h'
+      → Advanced ticking step closed old parsed [] piece h new h'
   unopened_advances closed old parsed piece h new h' plain u = record {
     parsed' = parsed ++ piece;
     held' = [];
     calls = calls_from parsed piece;
-    advances = subst (λ (t : T). Advances sets clears answers closed (timeout_of old) parsed [] piece t (parsed
+    advances = subst (λ (t : T). Advances ticking closed (timeout_of old) parsed [] piece t (parsed
         ++ piece) [] (calls_from parsed piece)) (sym u.same)
         (parses closed (timeout_of old) parsed piece plain u.none);
     stands = u.stands;
@@ -29,8 +29,8 @@ module _ {T A H : Type 0} (sets : T → ℕ → T → Type 0) (clears : T → T 
 
   -- an update was opened in the piece: it goes on from there
   pub begun_goes_on : (old : Processor T A) (parsed piece : List ℕ) (n : ℕ) (h : H) (new : Processor T A) (h' : H)
-      → answers (timeout_of old) false → Begun sets clears step old parsed [] piece n h new h'
-      → GoesOn sets clears answers step old parsed [] piece (drop n piece) h new h'
+      → ticking.answers (timeout_of old) false → Begun ticking step old parsed [] piece n h new h'
+      → GoesOn ticking step old parsed [] piece (drop n piece) h new h'
   begun_goes_on old parsed piece n h new h' plain b = record {
     parsed' = parsed ++ take n piece;
     held' = [];
@@ -43,25 +43,25 @@ module _ {T A H : Type 0} (sets : T → ℕ → T → Type 0) (clears : T → T 
 
   -- a turn with nothing held
   pub plain_turn : (r : Option ℕ) (old : Processor T A) (parsed held piece : List ℕ) (h : H) (new : Processor T A)
-      (h' : H) → held ≡ [] → answers (timeout_of old) false
-      → MatchOption r (Unopened sets clears step old parsed held piece h new h')
-      (λ n. Begun sets clears step old parsed held piece n h new h')
-      → MatchOption r (Advanced sets clears answers step false old parsed held piece h new h')
-      (λ n. GoesOn sets clears answers step old parsed held piece (drop n piece) h new h')
+      (h' : H) → held ≡ [] → ticking.answers (timeout_of old) false
+      → MatchOption r (Unopened ticking step old parsed held piece h new h')
+      (λ n. Begun ticking step old parsed held piece n h new h')
+      → MatchOption r (Advanced ticking step false old parsed held piece h new h')
+      (λ n. GoesOn ticking step old parsed held piece (drop n piece) h new h')
   plain_turn None old parsed held piece h new h' none plain m =
-      subst (λ (k : List ℕ). Advanced sets clears answers step false old parsed k piece h new h') (sym none)
+      subst (λ (k : List ℕ). Advanced ticking step false old parsed k piece h new h') (sym none)
       (unopened_advances false old parsed piece h new h' plain
-      (subst (λ (k : List ℕ). Unopened sets clears step old parsed k piece h new h') none m))
+      (subst (λ (k : List ℕ). Unopened ticking step old parsed k piece h new h') none m))
   plain_turn (Some n) old parsed held piece h new h' none plain m =
-      subst (λ (k : List ℕ). GoesOn sets clears answers step old parsed k piece (drop n piece) h new h') (sym none)
+      subst (λ (k : List ℕ). GoesOn ticking step old parsed k piece (drop n piece) h new h') (sym none)
       (begun_goes_on old parsed piece n h new h' plain
-      (subst (λ (k : List ℕ). Begun sets clears step old parsed k piece n h new h') none m))
+      (subst (λ (k : List ℕ). Begun ticking step old parsed k piece n h new h') none m))
 
   -- a piece for which there was room
   pub held_advances : (old : Processor T A) (parsed held piece : List ℕ) (h : H) (new : Processor T A) (h' : H)
-      → answers (timeout_of old) true → length (held ++ piece) < limit
-      → Held sets clears step old parsed held piece h new h'
-      → Advanced sets clears answers step false old parsed held piece h new h'
+      → ticking.answers (timeout_of old) true → length (held ++ piece) < limit
+      → Held ticking step old parsed held piece h new h'
+      → Advanced ticking step false old parsed held piece h new h'
   held_advances old parsed held piece h new h' open_ fits k = record {
     parsed' = k.parsed';
     held' = held_of k.hold';
@@ -73,10 +73,10 @@ module _ {T A H : Type 0} (sets : T → ℕ → T → Type 0) (clears : T → T 
   }
 
   module _ (old mid : Processor T A) (parsed held piece : List ℕ) (h h1 : H) (is_open : Bool)
-      (asked : answers (timeout_of old) is_open) (must : IsEmptied is_open held piece)
-      (emptied : Emptied sets clears step old parsed held h mid h1) (new : Processor T A) (h' : H) where
-    unopened_after : Unopened sets clears step mid (parsed ++ held) [] piece h1 new h'
-        → Advanced sets clears answers step false old parsed held piece h new h'
+      (asked : ticking.answers (timeout_of old) is_open) (must : IsEmptied is_open held piece)
+      (emptied : Emptied ticking step old parsed held h mid h1) (new : Processor T A) (h' : H) where
+    unopened_after : Unopened ticking step mid (parsed ++ held) [] piece h1 new h'
+        → Advanced ticking step false old parsed held piece h new h'
     unopened_after u =
         let a = unopened_advances true mid (parsed ++ held) piece h1 new h' tt u in
         record {
@@ -89,8 +89,8 @@ module _ {T A H : Type 0} (sets : T → ℕ → T → Type 0) (clears : T → T 
           goes = Calls-append step h h1 h' (calls_from parsed held ++ closing) a.calls emptied.goes a.goes;
         }
 
-    begun_after : (n : ℕ) → Begun sets clears step mid (parsed ++ held) [] piece n h1 new h'
-        → GoesOn sets clears answers step old parsed held piece (drop n piece) h new h'
+    begun_after : (n : ℕ) → Begun ticking step mid (parsed ++ held) [] piece n h1 new h'
+        → GoesOn ticking step old parsed held piece (drop n piece) h new h'
     begun_after n b =
         let calls = calls_from (parsed ++ held) (take n piece) in
         record {
@@ -100,7 +100,7 @@ module _ {T A H : Type 0} (sets : T → ℕ → T → Type 0) (clears : T → T 
           stands = b.parsed_so.stands;
           goes = Calls-append step h h1 h' (calls_from parsed held ++ closing) calls emptied.goes b.parsed_so.goes;
           further = λ t q k cs a.
-              subst (λ (ks : List Call). Advances sets clears answers false (timeout_of old) parsed held piece t q k
+              subst (λ (ks : List Call). Advances ticking false (timeout_of old) parsed held piece t q k
               ks) (sym (append_assoc (calls_from parsed held ++ closing) calls cs))
               (empties (timeout_of old) parsed held piece is_open (timeout_of mid) t q k (calls
               ++ cs) asked must emptied.ticked
@@ -109,16 +109,16 @@ module _ {T A H : Type 0} (sets : T → ℕ → T → Type 0) (clears : T → T 
         }
 
     -- a turn before which the hold was emptied
-    pub turn_after : (r : Option ℕ) → MatchOption r (Unopened sets clears step mid (parsed ++ held) [] piece h1 new h')
-        (λ n. Begun sets clears step mid (parsed ++ held) [] piece n h1 new h')
-        → MatchOption r (Advanced sets clears answers step false old parsed held piece h new h')
-        (λ n. GoesOn sets clears answers step old parsed held piece (drop n piece) h new h')
+    pub turn_after : (r : Option ℕ) → MatchOption r (Unopened ticking step mid (parsed ++ held) [] piece h1 new h')
+        (λ n. Begun ticking step mid (parsed ++ held) [] piece n h1 new h')
+        → MatchOption r (Advanced ticking step false old parsed held piece h new h')
+        (λ n. GoesOn ticking step old parsed held piece (drop n piece) h new h')
     turn_after None m = unopened_after m
     turn_after (Some n) m = begun_after n m
 
   -- nothing of a piece was taken yet
   pub goes_on_at_start : (p : Processor T A) (parsed held piece : List ℕ) (h : H) → StandsAt p parsed held
-      → GoesOn sets clears answers step p parsed held piece piece h p h
+      → GoesOn ticking step p parsed held piece piece h p h
   goes_on_at_start p parsed held piece h s = record {
     parsed' = parsed;
     held' = held;
@@ -129,11 +129,11 @@ module _ {T A H : Type 0} (sets : T → ℕ → T → Type 0) (clears : T → T 
   }
 
   module _ (old : Processor T A) (parsed held piece rest : List ℕ) (h : H) (mid : Processor T A) (h1 : H)
-      (so_far : GoesOn sets clears answers step old parsed held piece rest h mid h1)
+      (so_far : GoesOn ticking step old parsed held piece rest h mid h1)
       (new : Processor T A) (h' : H) where
     -- one turn more
-    pub goes_on_more : (rest2 : List ℕ) → GoesOn sets clears answers step mid so_far.parsed' so_far.held' rest rest2 h1
-        new h' → GoesOn sets clears answers step old parsed held piece rest2 h new h'
+    pub goes_on_more : (rest2 : List ℕ) → GoesOn ticking step mid so_far.parsed' so_far.held' rest rest2 h1
+        new h' → GoesOn ticking step old parsed held piece rest2 h new h'
     goes_on_more rest2 a = record {
       parsed' = a.parsed';
       held' = a.held';
@@ -141,14 +141,14 @@ module _ {T A H : Type 0} (sets : T → ℕ → T → Type 0) (clears : T → T 
       stands = a.stands;
       goes = Calls-append step h h1 h' so_far.calls a.calls so_far.goes a.goes;
       further = λ t q k cs f.
-          subst (λ (ks : List Call). Advances sets clears answers false (timeout_of old) parsed held piece t q k ks)
+          subst (λ (ks : List Call). Advances ticking false (timeout_of old) parsed held piece t q k ks)
           (sym (append_assoc so_far.calls a.calls cs))
           (so_far.further t q k (a.calls ++ cs) (a.further t q k cs f));
     }
 
     -- the last turn
-    pub advanced_at_end : Advanced sets clears answers step false mid so_far.parsed' so_far.held' rest h1 new h'
-        → Advanced sets clears answers step false old parsed held piece h new h'
+    pub advanced_at_end : Advanced ticking step false mid so_far.parsed' so_far.held' rest h1 new h'
+        → Advanced ticking step false old parsed held piece h new h'
     advanced_at_end a = record {
       parsed' = a.parsed';
       held' = a.held';

@@ -1,14 +1,14 @@
 -- What a processor does under any timeout, which decides by its answers whether an update is open.
 use Rattle.std.specs.Prelude.{ℕ, Bool, true, false, List, [], ◌∷◌, ◌++◌, ◌≡◌, ◌<◌, ◌≤◌, Option, take, drop, length}
 use Rattle.vte_types.specs.Call.{Call}
-use Rattle.vte.specs.Timeout.{Tick, Clears, Ticked}
+use Rattle.vte.specs.Timeout.{Ticking, Tick, Clears, Ticked}
 use Rattle.vte.specs.Stretch.{calls_from, ticks_from, opens_in, OpensAt}
 use Rattle.vte.specs.Hold.{limit, closing, held_of, Settles}
 
 -- the piece is parsed plainly: an update was just closed, or the timeout answers that none is open
-abbrev pub Plainly : {T : Type 0} → (T → Bool → Type 0) → Bool → T → Type 0
-Plainly answers true t = Unit {0}
-Plainly answers false t = answers t false
+abbrev pub Plainly : {T : Type 0} → Ticking T → Bool → T → Type 0
+Plainly ticking true t = Unit {0}
+Plainly ticking false t = ticking.answers t false
 
 -- The hold is emptied before the piece is parsed plainly: where an update is open and there is no room, and where bytes
 -- are held and the timeout answers that none is open.
@@ -18,29 +18,29 @@ IsEmptied false held piece = 0 < length held
 
 -- From a timeout, parsed bytes and held bytes a piece leads to others, with these calls. Where an update was just
 -- closed (the first argument), the timeout isn't asked.
-pub data Advances {T : Type 0} (sets : T → ℕ → T → Type 0) (clears : T → T → Type 0) (answers : T → Bool → Type 0)
+pub data Advances {T : Type 0} (ticking : Ticking T)
     : Bool → T → List ℕ → List ℕ → List ℕ → T → List ℕ → List ℕ → List Call → Type 0 where
   -- nothing is held, and nothing in the piece opens an update
-  parses : (closed : Bool) (t : T) (parsed piece : List ℕ) → Plainly answers closed t → opens_in parsed piece ≡ false
-      → Advances sets clears answers closed t parsed [] piece t (parsed ++ piece) [] (calls_from parsed piece)
+  parses : (closed : Bool) (t : T) (parsed piece : List ℕ) → Plainly ticking closed t → opens_in parsed piece ≡ false
+      → Advances ticking closed t parsed [] piece t (parsed ++ piece) [] (calls_from parsed piece)
   -- nothing is held, a byte opens one, and what remains is a piece
   begins : (closed : Bool) (t : T) (parsed piece : List ℕ) (n : ℕ) (u : T) (t' : T) (parsed' held' : List ℕ)
       (calls : List Call)
-      → Plainly answers closed t → OpensAt parsed piece n → Ticked sets clears t (ticks_from parsed (take n piece)) u
-      → Advances sets clears answers false u (parsed ++ take n piece) [] (drop n piece) t' parsed' held' calls
-      → Advances sets clears answers closed t parsed [] piece t' parsed' held' (calls_from parsed (take n piece)
+      → Plainly ticking closed t → OpensAt parsed piece n → Ticked ticking t (ticks_from parsed (take n piece)) u
+      → Advances ticking false u (parsed ++ take n piece) [] (drop n piece) t' parsed' held' calls
+      → Advances ticking closed t parsed [] piece t' parsed' held' (calls_from parsed (take n piece)
       ++ calls)
   -- an update is open, and there is room
   settles : (t : T) (parsed held piece : List ℕ) (t' : T) (parsed' : List ℕ) (hold' : Option (List ℕ))
       (calls : List Call) (ticks : List Tick)
-      → answers t true → length (held ++ piece) < limit → Settles parsed held piece parsed' hold' calls ticks
-      → Ticked sets clears t ticks t'
-      → Advances sets clears answers false t parsed held piece t' parsed' (held_of hold') calls
+      → ticking.answers t true → length (held ++ piece) < limit → Settles parsed held piece parsed' hold' calls ticks
+      → Ticked ticking t ticks t'
+      → Advances ticking false t parsed held piece t' parsed' (held_of hold') calls
   -- the hold is emptied first
   empties : (t : T) (parsed held piece : List ℕ) (is_open : Bool) (u : T) (t' : T) (parsed' held' : List ℕ)
       (calls : List Call)
-      → answers t is_open → IsEmptied is_open held piece
-      → Ticked sets clears t (ticks_from parsed held ++ Clears ∷ []) u
-      → Advances sets clears answers true u (parsed ++ held) [] piece t' parsed' held' calls
-      → Advances sets clears answers false t parsed held piece t' parsed' held' ((calls_from parsed held ++ closing)
+      → ticking.answers t is_open → IsEmptied is_open held piece
+      → Ticked ticking t (ticks_from parsed held ++ Clears ∷ []) u
+      → Advances ticking true u (parsed ++ held) [] piece t' parsed' held' calls
+      → Advances ticking false t parsed held piece t' parsed' held' ((calls_from parsed held ++ closing)
       ++ calls)

@@ -76,8 +76,8 @@ repeat_calls None n = []
 repeat_calls (Some x) n = replicate n (call.input x)
 
 -- finals that read their groups in ways of their own: J K g h l m n t b
-abbrev pub other_rows : List (ℕ × (Option ℕ → List (List ℕ) → List Call))
-other_rows =
+abbrev pub uncounted_rows : List (ℕ × (Option ℕ → List (List ℕ) → List Call))
+uncounted_rows =
     (74, λ last gs. calls_at (number_or 0 gs) clear_screen_rows)
     ∷ (75, λ last gs. calls_at (number_or 0 gs) clear_line_rows)
     ∷ (103, λ last gs. calls_at (number_or 0 gs) clear_tabs_rows)
@@ -89,8 +89,8 @@ other_rows =
     ∷ (98, λ last gs. repeat_calls last (number_or 1 gs)) ∷ []
 
 -- finals that place the cursor, the region or the saved cursor: G and backquote, d, H and f, r, s, u
-abbrev pub place_rows : List (ℕ × (List (List ℕ) → Call))
-place_rows =
+abbrev pub placing_rows : List (ℕ × (List (List ℕ) → Call))
+placing_rows =
     (71, λ gs. call.goto_col (number_or 1 gs - 1)) ∷ (96, λ gs. call.goto_col (number_or 1 gs - 1))
     ∷ (100, λ gs. call.goto_line (pos (number_or 1 gs - 1)))
     ∷ (72, λ gs. call.goto (pos (number_or 1 gs - 1)) (number_or 1 (rest gs) - 1))
@@ -98,16 +98,16 @@ place_rows =
     ∷ (114, λ gs. call.set_scrolling_region (number_or 1 gs) (nonzero (number_or 0 (rest gs))))
     ∷ (115, λ gs. call.save_cursor_position) ∷ (117, λ gs. call.restore_cursor_position) ∷ []
 
-abbrev pub place_calls : Option (List (List ℕ) → Call) → List (List ℕ) → List Call
-place_calls None gs = []
-place_calls (Some place) gs = place gs ∷ []
+abbrev pub placing_calls : Option (List (List ℕ) → Call) → List (List ℕ) → List Call
+placing_calls None gs = []
+placing_calls (Some placing) gs = placing gs ∷ []
 
-abbrev pub other_calls : Option (Option ℕ → List (List ℕ) → List Call) → Option ℕ → List (List ℕ) → ℕ → List Call
-other_calls None last gs f = place_calls (lookup f place_rows) gs
-other_calls (Some other) last gs f = other last gs
+abbrev pub uncounted_calls : Option (Option ℕ → List (List ℕ) → List Call) → Option ℕ → List (List ℕ) → ℕ → List Call
+uncounted_calls None last gs f = placing_calls (lookup f placing_rows) gs
+uncounted_calls (Some uncounted) last gs f = uncounted last gs
 
 abbrev pub counted_calls : Option (ℕ → Call) → Option ℕ → List (List ℕ) → ℕ → List Call
-counted_calls None last gs f = other_calls (lookup f other_rows) last gs f
+counted_calls None last gs f = uncounted_calls (lookup f uncounted_rows) last gs f
 counted_calls (Some counted) last gs f = counted (number_or 1 gs) ∷ []
 
 -- without intermediates

@@ -1,8 +1,9 @@
 -- A timeout by a clock.
 use Rattle.vte.specs.declared.std_sync_handler.StdSyncHandler.{StdSyncHandler}
-use Rattle.std.specs.Prelude.{ℕ, ◌≡◌, ◌+◌, min, Option, None, Some}
+use Rattle.std.specs.Prelude.{ℕ, ◌≡◌, ◌+◌, min, Option, None, Some, is_some}
 use Rattle.std.specs.Duration.{as_nanos, max_nanos}
 use Rattle.std.specs.declared.time.Duration.{Duration}
+use Rattle.vte.specs.Timeout.{Ticking}
 
 -- the kept moment is so many nanoseconds after one that the clock may answer, or the greatest
 abbrev pub ExpiresAfter : (Duration → Type 0) → ℕ → Option Duration → Type 0
@@ -16,3 +17,11 @@ clock_of t = t.clock
 
 abbrev pub expiry_of : {C : Type 0} → StdSyncHandler C → Option Duration
 expiry_of t = t.timeout
+
+-- It is pending while it keeps a moment, and its clock stays the same.
+abbrev pub by_clock : {C : Type 0} → (C → Duration → Type 0) → Ticking (StdSyncHandler C)
+by_clock may_be = record {
+  sets = λ s d t. (clock_of t ≡ clock_of s) × ExpiresAfter (may_be (clock_of s)) d (expiry_of t);
+  clears = λ s t. (clock_of t ≡ clock_of s) × (expiry_of t ≡ None);
+  answers = λ s b. b ≡ is_some (expiry_of s);
+}

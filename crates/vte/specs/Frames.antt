@@ -21,26 +21,26 @@ pub record IsFrame (frame : List ℕ) : Type 0 where
   pub opens_nothing : list_any opens (events 1024 body) ≡ false
 
 -- from a parsed text and a hold the moves lead to others, whatever calls and settings of the timeout they make
-pub data Leads : List Move → List ℕ → Option (List ℕ) → List ℕ → Option (List ℕ) → Type 0 where
-  ends : (parsed : List ℕ) (hold : Option (List ℕ)) → Leads [] parsed hold parsed hold
+pub data Drives : List Move → List ℕ → Option (List ℕ) → List ℕ → Option (List ℕ) → Type 0 where
+  ends : (parsed : List ℕ) (hold : Option (List ℕ)) → Drives [] parsed hold parsed hold
   gives : (piece : List ℕ) (moves : List Move) (parsed : List ℕ) (hold : Option (List ℕ)) (mid : List ℕ)
       (mid_hold : Option (List ℕ)) (calls : List Call) (ticks : List Tick) (parsed' : List ℕ) (hold' : Option (List ℕ))
       → Takes parsed hold piece mid mid_hold calls ticks
-      → Leads moves mid mid_hold parsed' hold' → Leads (Gives piece ∷ moves) parsed hold parsed' hold'
+      → Drives moves mid mid_hold parsed' hold' → Drives (Gives piece ∷ moves) parsed hold parsed' hold'
   -- what was held is parsed, and no update is open
   stops : (moves : List Move) (parsed : List ℕ) (hold : Option (List ℕ)) (parsed' : List ℕ) (hold' : Option (List ℕ))
-      → Leads moves (parsed ++ held_of hold) None parsed' hold' → Leads (Stops ∷ moves) parsed hold parsed' hold'
+      → Drives moves (parsed ++ held_of hold) None parsed' hold' → Drives (Stops ∷ moves) parsed hold parsed' hold'
 
 abbrev pub MovesFollow : Type 0
 MovesFollow = (moves more : List Move) (parsed : List ℕ) (hold : Option (List ℕ)) (mid : List ℕ)
     (mid_hold : Option (List ℕ)) (parsed' : List ℕ) (hold' : Option (List ℕ))
-    → Leads moves parsed hold mid mid_hold → Leads more mid mid_hold parsed' hold'
-    → Leads (moves ++ more) parsed hold parsed' hold'
+    → Drives moves parsed hold mid mid_hold → Drives more mid mid_hold parsed' hold'
+    → Drives (moves ++ more) parsed hold parsed' hold'
 
 -- whole frames are parsed, in whatever pieces they come and wherever the update is stopped by hand
 abbrev pub WholeFramesAreParsed : Type 0
 WholeFramesAreParsed = (frames : List (List ℕ)) (moves : List Move) (past parsed : List ℕ) (hold : Option (List ℕ))
-    → All IsFrame frames → given moves ≡ concat frames → Leads moves past None parsed hold
+    → All IsFrame frames → given moves ≡ concat frames → Drives moves past None parsed hold
     → (parsed ≡ past ++ concat frames) × (hold ≡ None)
 
 -- the bytes are less than the next frame
@@ -72,7 +72,7 @@ pub record IsUntorn (frames : List (List ℕ)) (past bytes parsed : List ℕ) (h
 abbrev pub FramesAreNeverTorn : Type 0
 FramesAreNeverTorn = (frames pieces : List (List ℕ)) (beyond past parsed : List ℕ) (hold : Option (List ℕ))
     → All IsFrame frames → All (λ frame. length frame < limit) frames → concat pieces ++ beyond ≡ concat frames
-    → Leads (map Gives pieces) past None parsed hold → IsUntorn frames past (concat pieces) parsed hold
+    → Drives (map Gives pieces) past None parsed hold → IsUntorn frames past (concat pieces) parsed hold
 
 -- so what is parsed beyond whole frames is a beginning of the start mark
 abbrev pub OnlyAMarkIsBegun : Type 0

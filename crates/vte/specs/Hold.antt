@@ -5,7 +5,7 @@ use Rattle.vte_types.specs.Call.{Call, unset_private_mode}
 use Rattle.vte_types.specs.declared.mode.PrivateMode.TheVariants.{Named}
 use Rattle.vte_types.specs.declared.mode.NamedPrivateMode.TheVariants.{SyncUpdate}
 use Rattle.vte.specs.Marks.{start_mark, end_mark, stands_at, NoneFrom, IsLast, IsFirstFrom}
-use Rattle.vte.specs.Timeout.{Tick, Sets, Clears, Ticked}
+use Rattle.vte.specs.Timeout.{Ticking, Tick, Sets, Clears, Ticked}
 use Rattle.vte.specs.Stretch.{calls_from, ticks_from, opens_in, OpensAt}
 
 -- held and new bytes are fewer than this, or the hold is emptied
@@ -33,11 +33,10 @@ pub data Renews (text : List ℕ) (from : ℕ) : List Tick → Type 0 where
   again : (k : ℕ) → from ≤ k → stands_at start_mark text k ≡ true → Renews text from (Sets ∷ [])
   quiet : NoneFrom start_mark text from → Renews text from []
 
-pub record Renewed {T : Type 0} (sets : T → ℕ → T → Type 0) (clears : T → T
-    → Type 0) (old : T) (text : List ℕ) (from : ℕ) (new : T) : Type 0 where
+pub record Renewed {T : Type 0} (ticking : Ticking T) (old : T) (text : List ℕ) (from : ℕ) (new : T) : Type 0 where
   pub ticks : List Tick
   pub renews : Renews text from ticks
-  pub ticked : Ticked sets clears old ticks new
+  pub ticked : Ticked ticking old ticks new
 
 -- While an update is open a piece comes for which there is room. It leads to this parsed text and this hold (none
 -- where the update is closed), makes these calls, and sets and clears the timeout so.

@@ -12,7 +12,7 @@ use Rattle.vte.specs.Table.{calls_of, opens, is_opening}
 use Rattle.vte.specs.Performed.{last_after_all, calls_of_all}
 use Rattle.vte.specs.Stretch.{added, last_of, calls_from, ticks_from, opens_in}
 use Rattle.vte.specs.Marks.{end_mark, NoneFrom}
-use Rattle.vte.specs.Timeout.{Tick, Ticked}
+use Rattle.vte.specs.Timeout.{Ticking, Tick, Ticked}
 use Rattle.vte.specs.Hold.{Takes, held_of, limit}
 use Rattle.vte.specs.Advances.{Advances}
 use Rattle.vte.specs.Closings.{without_closings, WithClosings, clearings, Parses}
@@ -25,10 +25,10 @@ ConservesBytes = (parsed : List ℕ) (hold : Option (List ℕ)) (piece parsed' :
     → Takes parsed hold piece parsed' hold' calls ticks → parsed ++ (held_of hold ++ piece) ≡ parsed' ++ held_of hold'
 
 -- the same under any timeout
-abbrev pub ConservesUnderAny : {T : Type 0} → (T → ℕ → T → Type 0) → (T → T → Type 0) → (T → Bool → Type 0) → Type 0
-ConservesUnderAny {T} sets clears answers = (t : T) (parsed held piece : List ℕ) (t' : T) (parsed' held' : List ℕ)
+abbrev pub ConservesUnderAny : {T : Type 0} → Ticking T → Type 0
+ConservesUnderAny {T} ticking = (t : T) (parsed held piece : List ℕ) (t' : T) (parsed' held' : List ℕ)
     (calls : List Call)
-    → Advances sets clears answers false t parsed held piece t' parsed' held' calls
+    → Advances ticking false t parsed held piece t' parsed' held' calls
     → parsed ++ (held ++ piece) ≡ parsed' ++ held'
 
 -- the calls of bytes that follow one another, what they print last, and how they open updates and set the timeout
@@ -51,12 +51,11 @@ CallsAreOfParsed = (parsed : List ℕ) (hold : Option (List ℕ)) (piece parsed'
     → Takes parsed hold piece parsed' hold' calls ticks → Parses parsed parsed' (clearings ticks) calls
 
 -- the same under any timeout
-abbrev pub CallsAreOfParsedUnderAny : {T : Type 0} → (T → ℕ → T → Type 0) → (T → T → Type 0) → (T → Bool → Type 0)
-    → Type 0
-CallsAreOfParsedUnderAny {T} sets clears answers =
+abbrev pub CallsAreOfParsedUnderAny : {T : Type 0} → Ticking T → Type 0
+CallsAreOfParsedUnderAny {T} ticking =
     (t : T) (parsed held piece : List ℕ) (t' : T) (parsed' held' : List ℕ) (calls : List Call)
-    → Advances sets clears answers false t parsed held piece t' parsed' held' calls
-    → (ticks : List Tick) × Ticked sets clears t ticks t' × Parses parsed parsed' (clearings ticks) calls
+    → Advances ticking false t parsed held piece t' parsed' held' calls
+    → (ticks : List Tick) × Ticked ticking t ticks t' × Parses parsed parsed' (clearings ticks) calls
 
 -- calls that differ in closings alone are the same without them
 abbrev pub FiltersClosings : Type 0
@@ -71,10 +70,10 @@ IgnoresClosings {H} step = ((s t : H) → step s (unset_private_mode (Named Sync
 
 -- from a new processor on, under any timeout: all bytes given are the parsed ones followed by the held ones, and all
 -- calls are the table's calls of the events of the parsed bytes, with a closing for each clearing of the timeout
-abbrev pub MakesTableCalls : {T : Type 0} → (T → ℕ → T → Type 0) → (T → T → Type 0) → (T → Bool → Type 0) → Type 0
-MakesTableCalls {T} sets clears answers = (moves : List Move) (t t' : T) (parsed held : List ℕ) (calls : List Call)
-    → Runs sets clears answers moves t [] [] t' parsed held calls → (given moves ≡ parsed ++ held)
-    × (ticks : List Tick) × Ticked sets clears t ticks t'
+abbrev pub MakesTableCalls : {T : Type 0} → Ticking T → Type 0
+MakesTableCalls {T} ticking = (moves : List Move) (t t' : T) (parsed held : List ℕ) (calls : List Call)
+    → Runs ticking moves t [] [] t' parsed held calls → (given moves ≡ parsed ++ held)
+    × (ticks : List Tick) × Ticked ticking t ticks t'
     × WithClosings (calls_of_all None (events 1024 parsed)) (clearings ticks) calls
 
 -- an open update isn't torn: while there is room and no end mark has come whole, nothing is parsed and no call is made

@@ -1,7 +1,7 @@
 -- What a processor is given, one after another: pieces of the stream, and stops by hand.
 use Rattle.std.specs.Prelude.{ℕ, Bool, false, List, [], ◌∷◌, ◌++◌}
 use Rattle.vte_types.specs.Call.{Call}
-use Rattle.vte.specs.Timeout.{Clears, Ticked}
+use Rattle.vte.specs.Timeout.{Ticking, Clears, Ticked}
 use Rattle.vte.specs.Stretch.{calls_from, ticks_from}
 use Rattle.vte.specs.Hold.{closing}
 use Rattle.vte.specs.Advances.{Advances}
@@ -18,19 +18,19 @@ given (Gives piece ∷ moves) = piece ++ given moves
 given (Stops ∷ moves) = given moves
 
 -- under any timeout the moves lead from a timeout, parsed bytes and held bytes to others, with these calls
-pub data Runs {T : Type 0} (sets : T → ℕ → T → Type 0) (clears : T → T → Type 0) (answers : T → Bool → Type 0)
+pub data Runs {T : Type 0} (ticking : Ticking T)
     : List Move → T → List ℕ → List ℕ → T → List ℕ → List ℕ → List Call → Type 0 where
-  ends : (t : T) (parsed held : List ℕ) → Runs sets clears answers [] t parsed held t parsed held []
+  ends : (t : T) (parsed held : List ℕ) → Runs ticking [] t parsed held t parsed held []
   gives : (piece : List ℕ) (moves : List Move) (t : T) (parsed held : List ℕ) (mid : T) (mid_parsed mid_held : List ℕ)
       (calls : List Call)
       (t' : T) (parsed' held' : List ℕ) (more : List Call)
-      → Advances sets clears answers false t parsed held piece mid mid_parsed mid_held calls
-      → Runs sets clears answers moves mid mid_parsed mid_held t' parsed' held' more
-      → Runs sets clears answers (Gives piece ∷ moves) t parsed held t' parsed' held' (calls ++ more)
+      → Advances ticking false t parsed held piece mid mid_parsed mid_held calls
+      → Runs ticking moves mid mid_parsed mid_held t' parsed' held' more
+      → Runs ticking (Gives piece ∷ moves) t parsed held t' parsed' held' (calls ++ more)
   -- what was held is parsed, and the update is closed
   stops : (moves : List Move) (t : T) (parsed held : List ℕ) (mid : T) (t' : T) (parsed' held' : List ℕ)
       (more : List Call)
-      → Ticked sets clears t (ticks_from parsed held ++ Clears ∷ []) mid
-      → Runs sets clears answers moves mid (parsed ++ held) [] t' parsed' held' more
-      → Runs sets clears answers (Stops ∷ moves) t parsed held t' parsed' held' ((calls_from parsed held ++ closing)
+      → Ticked ticking t (ticks_from parsed held ++ Clears ∷ []) mid
+      → Runs ticking moves mid (parsed ++ held) [] t' parsed' held' more
+      → Runs ticking (Stops ∷ moves) t parsed held t' parsed' held' ((calls_from parsed held ++ closing)
       ++ more)

@@ -5,17 +5,16 @@ use Rattle.vte_core.specs.Event.{Event}
 use Rattle.vte_core.specs.Laws.{Fits}
 use Rattle.vte_types.specs.Call.{Call, Calls}
 use Rattle.vte.specs.Table.{calls_of, last_after, openers, opens}
-use Rattle.vte.specs.Timeout.{Ticked, sets_of}
+use Rattle.vte.specs.Timeout.{Ticking, Ticked, sets_of}
 use Rattle.vte.specs.declared.performer.ProcessorState.{ProcessorState}
 
 -- one event: of an operating system command that no parser gives, the calls are left open
-pub record Performed {H T : Type 0} (step : H → Call → H → Type 0) (sets : T → ℕ → T → Type 0) (clears : T → T
-    → Type 0) (e : Event)
-    (h : H) (s : ProcessorState T) (terminated : Bool) (h' : H) (s' : ProcessorState T) (terminated' : Bool) : Type
-    0 where
+pub record Performed {H T : Type 0} (step : H → Call → H → Type 0) (ticking : Ticking T) (e : Event)
+    (h : H) (s : ProcessorState T) (terminated : Bool) (h' : H) (s' : ProcessorState T) (terminated' : Bool)
+    : Type 0 where
   pub calls : Fits 1024 e → Calls step h (calls_of s.preceding_char e) h'
   pub printed : s'.preceding_char ≡ last_after s.preceding_char e
-  pub ticked : Ticked sets clears s.timeout (sets_of (openers e)) s'.timeout
+  pub ticked : Ticked ticking s.timeout (sets_of (openers e)) s'.timeout
   pub ends : terminated' ≡ (terminated || opens e)
 
 abbrev pub last_after_all : Option ℕ → List Event → Option ℕ
@@ -32,11 +31,10 @@ openers_of_all [] = []
 openers_of_all (e ∷ es) = openers e ++ openers_of_all es
 
 -- events, in order
-pub record PerformedAll {H T : Type 0} (step : H → Call → H → Type 0) (sets : T → ℕ → T → Type 0) (clears : T → T
-    → Type 0) (es : List Event)
-    (h : H) (s : ProcessorState T) (terminated : Bool) (h' : H) (s' : ProcessorState T) (terminated' : Bool) : Type
-    0 where
+pub record PerformedAll {H T : Type 0} (step : H → Call → H → Type 0) (ticking : Ticking T) (es : List Event)
+    (h : H) (s : ProcessorState T) (terminated : Bool) (h' : H) (s' : ProcessorState T) (terminated' : Bool)
+    : Type 0 where
   pub calls : Calls step h (calls_of_all s.preceding_char es) h'
   pub printed : s'.preceding_char ≡ last_after_all s.preceding_char es
-  pub ticked : Ticked sets clears s.timeout (sets_of (openers_of_all es)) s'.timeout
+  pub ticked : Ticked ticking s.timeout (sets_of (openers_of_all es)) s'.timeout
   pub ends : terminated' ≡ (terminated || list_any opens es)

@@ -4,7 +4,7 @@ use Rattle.vte_core.specs.Standing.{Stands}
 use Rattle.vte_types.specs.Call.{Call, Calls}
 use Rattle.vte.specs.declared.processor.Processor.{Processor}
 use Rattle.vte.specs.Marks.{end_mark, NoneFrom}
-use Rattle.vte.specs.Timeout.{Tick, Clears, Ticked, Awaits}
+use Rattle.vte.specs.Timeout.{Ticking, Tick, Clears, Ticked, Awaits}
 use Rattle.vte.specs.Stretch.{last_of, calls_from, ticks_from, opens_in, OpensAt}
 use Rattle.vte.specs.Hold.{closing, held_of, Takes, Settles}
 use Rattle.vte.specs.Advances.{Advances}
@@ -21,27 +21,23 @@ pub record StandsAt {T A : Type 0} (p : Processor T A) (parsed held : List ℕ) 
   pub no_end : NoneFrom end_mark held 0
 
 -- the same, where the timeout says whether an update is open
-pub record HoldsAt {T A : Type 0} (answers : T → Bool
-    → Type 0) (p : Processor T A) (parsed : List ℕ) (hold : Option (List ℕ)) : Type 0 where
+pub record HoldsAt {T A : Type 0} (ticking : Ticking T) (p : Processor T A) (parsed : List ℕ) (hold : Option (List ℕ))
+    : Type 0 where
   pub stands : StandsAt p parsed (held_of hold)
-  pub awaits : Awaits answers (timeout_of p) (is_some hold)
+  pub awaits : Awaits ticking (timeout_of p) (is_some hold)
 
 -- what a piece led to
-pub record Advanced {T A H : Type 0} (sets : T → ℕ → T → Type 0) (clears : T → T → Type 0) (answers : T → Bool
-    → Type 0) (step : H → Call → H → Type 0)
-    (closed : Bool) (old : Processor T A) (parsed held piece : List ℕ) (h : H) (new : Processor T A) (h' : H) : Type
-    0 where
+pub record Advanced {T A H : Type 0} (ticking : Ticking T) (step : H → Call → H → Type 0) (closed : Bool)
+    (old : Processor T A) (parsed held piece : List ℕ) (h : H) (new : Processor T A) (h' : H) : Type 0 where
   pub parsed' : List ℕ
   pub held' : List ℕ
   pub calls : List Call
-  pub advances : Advances sets clears answers closed (timeout_of old) parsed held piece (timeout_of new) parsed' held'
-      calls
+  pub advances : Advances ticking closed (timeout_of old) parsed held piece (timeout_of new) parsed' held' calls
   pub stands : StandsAt new parsed' held'
   pub goes : Calls step h calls h'
 
 -- what a piece led to, under a timeout that is pending exactly from setting to clearing
-pub record Taken {T A H : Type 0} (sets : T → ℕ → T → Type 0) (clears : T → T → Type 0) (answers : T → Bool
-    → Type 0) (step : H → Call → H → Type 0)
+pub record Taken {T A H : Type 0} (ticking : Ticking T) (step : H → Call → H → Type 0)
     (old : Processor T A) (parsed : List ℕ) (hold : Option (List ℕ)) (piece : List ℕ) (h : H) (new : Processor T A)
     (h' : H) : Type 0 where
   pub parsed' : List ℕ
@@ -49,26 +45,26 @@ pub record Taken {T A H : Type 0} (sets : T → ℕ → T → Type 0) (clears : 
   pub calls : List Call
   pub ticks : List Tick
   pub takes : Takes parsed hold piece parsed' hold' calls ticks
-  pub stands : HoldsAt answers new parsed' hold'
-  pub ticked : Ticked sets clears (timeout_of old) ticks (timeout_of new)
+  pub stands : HoldsAt ticking new parsed' hold'
+  pub ticked : Ticked ticking (timeout_of old) ticks (timeout_of new)
   pub goes : Calls step h calls h'
 
 -- bytes were parsed, and then those held are these
-pub record Parsed {T A H : Type 0} (sets : T → ℕ → T → Type 0) (clears : T → T → Type 0) (step : H → Call → H → Type 0)
+pub record Parsed {T A H : Type 0} (ticking : Ticking T) (step : H → Call → H → Type 0)
     (old : Processor T A) (parsed bytes held : List ℕ) (h : H) (new : Processor T A) (h' : H) : Type 0 where
   pub stands : StandsAt new (parsed ++ bytes) held
-  pub ticked : Ticked sets clears (timeout_of old) (ticks_from parsed bytes) (timeout_of new)
+  pub ticked : Ticked ticking (timeout_of old) (ticks_from parsed bytes) (timeout_of new)
   pub goes : Calls step h (calls_from parsed bytes) h'
 
 -- all held bytes were parsed, and the update was closed
-pub record Emptied {T A H : Type 0} (sets : T → ℕ → T → Type 0) (clears : T → T → Type 0) (step : H → Call → H → Type 0)
+pub record Emptied {T A H : Type 0} (ticking : Ticking T) (step : H → Call → H → Type 0)
     (old : Processor T A) (parsed held : List ℕ) (h : H) (new : Processor T A) (h' : H) : Type 0 where
   pub stands : StandsAt new (parsed ++ held) []
-  pub ticked : Ticked sets clears (timeout_of old) (ticks_from parsed held ++ Clears ∷ []) (timeout_of new)
+  pub ticked : Ticked ticking (timeout_of old) (ticks_from parsed held ++ Clears ∷ []) (timeout_of new)
   pub goes : Calls step h (calls_from parsed held ++ closing) h'
 
 -- a piece for which there is room was taken while an update was open
-pub record Held {T A H : Type 0} (sets : T → ℕ → T → Type 0) (clears : T → T → Type 0) (step : H → Call → H → Type 0)
+pub record Held {T A H : Type 0} (ticking : Ticking T) (step : H → Call → H → Type 0)
     (old : Processor T A) (parsed held piece : List ℕ) (h : H) (new : Processor T A) (h' : H) : Type 0 where
   pub parsed' : List ℕ
   pub hold' : Option (List ℕ)
@@ -76,18 +72,17 @@ pub record Held {T A H : Type 0} (sets : T → ℕ → T → Type 0) (clears : T
   pub ticks : List Tick
   pub settles : Settles parsed held piece parsed' hold' calls ticks
   pub stands : StandsAt new parsed' (held_of hold')
-  pub ticked : Ticked sets clears (timeout_of old) ticks (timeout_of new)
+  pub ticked : Ticked ticking (timeout_of old) ticks (timeout_of new)
   pub goes : Calls step h calls h'
 
 -- a byte of the piece opened an update
-pub record Begun {T A H : Type 0} (sets : T → ℕ → T → Type 0) (clears : T → T → Type 0) (step : H → Call → H → Type 0)
+pub record Begun {T A H : Type 0} (ticking : Ticking T) (step : H → Call → H → Type 0)
     (old : Processor T A) (parsed held piece : List ℕ) (n : ℕ) (h : H) (new : Processor T A) (h' : H) : Type 0 where
   pub opens : OpensAt parsed piece n
-  pub parsed_so : Parsed sets clears step old parsed (take n piece) held h new h'
+  pub parsed_so : Parsed ticking step old parsed (take n piece) held h new h'
 
 -- nothing in the piece opened one
-pub record Unopened {T A H : Type 0} (sets : T → ℕ → T → Type 0) (clears : T → T → Type 0) (step : H → Call → H
-    → Type 0)
+pub record Unopened {T A H : Type 0} (ticking : Ticking T) (step : H → Call → H → Type 0)
     (old : Processor T A) (parsed held piece : List ℕ) (h : H) (new : Processor T A) (h' : H) : Type 0 where
   pub none : opens_in parsed piece ≡ false
   pub same : timeout_of new ≡ timeout_of old
@@ -95,8 +90,7 @@ pub record Unopened {T A H : Type 0} (sets : T → ℕ → T → Type 0) (clears
   pub goes : Calls step h (calls_from parsed piece) h'
 
 -- what the beginning of a piece led to, where it goes on with the rest
-pub record GoesOn {T A H : Type 0} (sets : T → ℕ → T → Type 0) (clears : T → T → Type 0) (answers : T → Bool
-    → Type 0) (step : H → Call → H → Type 0)
+pub record GoesOn {T A H : Type 0} (ticking : Ticking T) (step : H → Call → H → Type 0)
     (old : Processor T A) (parsed held piece rest : List ℕ) (h : H) (new : Processor T A) (h' : H) : Type 0 where
   pub parsed' : List ℕ
   pub held' : List ℕ
@@ -104,5 +98,5 @@ pub record GoesOn {T A H : Type 0} (sets : T → ℕ → T → Type 0) (clears :
   pub stands : StandsAt new parsed' held'
   pub goes : Calls step h calls h'
   pub further : (t : T) (q k : List ℕ) (cs : List Call)
-      → Advances sets clears answers false (timeout_of new) parsed' held' rest t q k cs
-      → Advances sets clears answers false (timeout_of old) parsed held piece t q k (calls ++ cs)
+      → Advances ticking false (timeout_of new) parsed' held' rest t q k cs
+      → Advances ticking false (timeout_of old) parsed held piece t q k (calls ++ cs)

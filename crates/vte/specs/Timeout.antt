@@ -11,11 +11,18 @@ pub data Tick : Type 0 where
 abbrev pub update_nanos : ℕ
 update_nanos = 150_000_000
 
+-- What the operations of a timeout may do: setting it for so many nanoseconds, clearing it, and asking whether it is
+-- pending.
+pub record Ticking (T : Type 0) : Type 1 where
+  pub sets : T → ℕ → T → Type 0
+  pub clears : T → T → Type 0
+  pub answers : T → Bool → Type 0
+
 -- a timeout went through these settings and clearings, in order, each once
-abbrev pub Ticked : {T : Type 0} → (T → ℕ → T → Type 0) → (T → T → Type 0) → T → List Tick → T → Type 0
-Ticked sets clears old [] new = new ≡ old
-Ticked {T} sets clears old (Sets ∷ ticks) new = (mid : T) × sets old update_nanos mid × Ticked sets clears mid ticks new
-Ticked {T} sets clears old (Clears ∷ ticks) new = (mid : T) × clears old mid × Ticked sets clears mid ticks new
+abbrev pub Ticked : {T : Type 0} → Ticking T → T → List Tick → T → Type 0
+Ticked ticking old [] new = new ≡ old
+Ticked {T} ticking old (Sets ∷ ticks) new = (mid : T) × ticking.sets old update_nanos mid × Ticked ticking mid ticks new
+Ticked {T} ticking old (Clears ∷ ticks) new = (mid : T) × ticking.clears old mid × Ticked ticking mid ticks new
 
 -- it is set once for each group that opens an update
 abbrev pub sets_of : List (List ℕ) → List Tick
@@ -23,11 +30,10 @@ sets_of [] = []
 sets_of (g ∷ gs) = if opens_group g then Sets ∷ sets_of gs else sets_of gs
 
 -- whenever the timeout is asked, it answers this
-abbrev pub Awaits : {T : Type 0} → (T → Bool → Type 0) → T → Bool → Type 0
-Awaits answers t want = (b : Bool) → answers t b → b ≡ want
+abbrev pub Awaits : {T : Type 0} → Ticking T → T → Bool → Type 0
+Awaits ticking t want = (b : Bool) → ticking.answers t b → b ≡ want
 
 -- a timeout that is pending exactly from setting to clearing
-pub record IsExact {T : Type 0} (sets : T → ℕ → T → Type 0) (clears : T → T → Type 0) (answers : T → Bool
-    → Type 0) : Type 0 where
-  pub set : (s : T) (d : ℕ) (t : T) → sets s d t → Awaits answers t true
-  pub cleared : (s t : T) → clears s t → Awaits answers t false
+pub record IsExact {T : Type 0} (ticking : Ticking T) : Type 0 where
+  pub set : (s : T) (d : ℕ) (t : T) → ticking.sets s d t → Awaits ticking t true
+  pub cleared : (s t : T) → ticking.clears s t → Awaits ticking t false

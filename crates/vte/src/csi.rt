@@ -7,12 +7,12 @@ ghost use Rattle.vte_types.specs.Lookup.{lookup};
 ghost use Rattle.vte_types.specs.Mode.{mode_of, private_mode_of};
 ghost use Rattle.vte.specs.Escape.{calls_at};
 ghost use Rattle.vte.specs.Sgr.{first};
-ghost use Rattle.vte.specs.Csi.{number_or, rest, identify_calls, plain_calls, other_rows, other_calls, place_rows};
-ghost use Rattle.vte.specs.Csi.{place_calls, clear_screen_rows, clear_line_rows, clear_tabs_rows, window_rows};
-ghost use Rattle.vte.specs.Csi.{repeat_calls, keyboard_modes, behaviour_of, asks_four, calls_by, greater_rows};
+ghost use Rattle.vte.specs.Csi.{number_or, rest, identify_calls, plain_calls, uncounted_rows, uncounted_calls};
+ghost use Rattle.vte.specs.Csi.{placing_rows, placing_calls, clear_screen_rows, clear_line_rows, clear_tabs_rows};
+ghost use Rattle.vte.specs.Csi.{repeat_calls, window_rows, keyboard_modes, behaviour_of, asks_four, calls_by};
 ghost use Rattle.vte.specs.Csi.{equals_rows, less_rows, space_rows, dollar_rows, question_dollar_rows, question_rows};
 ghost use Rattle.vte.specs.Csi.{char_path, update_mode, style_rows, marked_calls, csi_calls, opens_group};
-ghost use Rattle.vte.specs.Csi.{opening_groups};
+ghost use Rattle.vte.specs.Csi.{opening_groups, greater_rows};
 ghost use Rattle.vte.specs.Timeout.{Ticked, sets_of};
 
 use crate::sgr::{next_number, sgr};
@@ -55,7 +55,7 @@ pub fn csi<H: Handler, T: Timeout>(
     action: char,
 ) -> bool
     ensures calls { Calls H.step handler.old (csi_calls last params.now intermediates.now action) handler.new }
-    ensures timeout { Ticked T.sets T.clears timeout.old (sets_of (opening_groups params.now intermediates.now action))
+    ensures timeout { Ticked T.ticking timeout.old (sets_of (opening_groups params.now intermediates.now action))
         timeout.new }
     ensures opened { result ≡ list_any opens_group (opening_groups params.now intermediates.now action) }
 {
@@ -83,7 +83,7 @@ fn marked<H: Handler, T: Timeout>(
     requires { 0 < length intermediates.now }
     ensures calls { (last : Option ℕ)
         → Calls H.step handler.old (marked_calls last params.now intermediates.now action) handler.new }
-    ensures timeout { Ticked T.sets T.clears timeout.old (sets_of (opening_groups params.now intermediates.now action))
+    ensures timeout { Ticked T.ticking timeout.old (sets_of (opening_groups params.now intermediates.now action))
         timeout.new }
     ensures opened { result ≡ list_any opens_group (opening_groups params.now intermediates.now action) }
 {
@@ -132,13 +132,19 @@ fn plain<H: Handler>(handler: &mut H, last: Option<char>, params: &Params, actio
         'T' => handler.scroll_down(count),
         'I' => handler.move_forward_tabs(number),
         'Z' => handler.move_backward_tabs(number),
-        _ => other(handler, last, params.iter(), action),
+        _ => uncounted_final(handler, last, params.iter(), action),
     }
 }
 
 /// The finals that read their groups in ways of their own.
-fn other<H: Handler>(handler: &mut H, last: Option<char>, mut groups: ParamsIter<'_>, action: char)
-    ensures { Calls H.step handler.old (other_calls (lookup action other_rows) last groups.entry action) handler.new }
+fn uncounted_final<H: Handler>(
+    handler: &mut H,
+    last: Option<char>,
+    mut groups: ParamsIter<'_>,
+    action: char,
+)
+    ensures { Calls H.step handler.old (uncounted_calls (lookup action uncounted_rows) last groups.entry action)
+        handler.new }
 {
     match action {
         'J' => clear_screen(handler, next_or(&mut groups, 0)),
@@ -150,13 +156,13 @@ fn other<H: Handler>(handler: &mut H, last: Option<char>, mut groups: ParamsIter
         'n' => handler.device_status(usize::from(next_or(&mut groups, 0))),
         't' => window(handler, next_or(&mut groups, 1)),
         'b' => repeat(handler, last, next_or(&mut groups, 1)),
-        _ => place(handler, groups, action),
+        _ => placing_final(handler, groups, action),
     }
 }
 
 /// The finals that place the cursor, the region or the saved cursor.
-fn place<H: Handler>(handler: &mut H, mut groups: ParamsIter<'_>, action: char)
-    ensures { Calls H.step handler.old (place_calls (lookup action place_rows) groups.entry) handler.new }
+fn placing_final<H: Handler>(handler: &mut H, mut groups: ParamsIter<'_>, action: char)
+    ensures { Calls H.step handler.old (placing_calls (lookup action placing_rows) groups.entry) handler.new }
 {
     match action {
         'G' | '`' => handler.goto_col(usize::from(next_or(&mut groups, 1)) - 1),
@@ -268,7 +274,7 @@ fn set_private_modes<H: Handler, T: Timeout>(
 ) -> bool
     ensures calls { Calls H.step handler.old (map (λ g. set_private_call (private_mode_of (first g))) groups.entry)
         handler.new }
-    ensures timeout { Ticked T.sets T.clears timeout.old (sets_of groups.entry) timeout.new }
+    ensures timeout { Ticked T.ticking timeout.old (sets_of groups.entry) timeout.new }
     ensures opened { result ≡ list_any opens_group groups.entry }
 {
     let mut opened = false;

@@ -17,7 +17,7 @@ pub use vte_types::rgb::display_is_read;
 /// All bytes given are the parsed ones followed by the held ones, whatever the timeout.
 pub fn bytes_are_conserved<T: Timeout>()
     ensures exact { ConservesBytes }
-    ensures any { ConservesUnderAny T.sets T.clears T.answers }
+    ensures any { ConservesUnderAny T.ticking }
 {}
 
 /// While an update is open, there is room and its end mark hasn't come whole, nothing is parsed and no call is made.
@@ -37,7 +37,7 @@ pub fn stretches_are_joined()
 /// (`unset_private_mode` of `SyncUpdate`) for each emptying of the whole hold, which clears the timeout once.
 pub fn calls_are_of_parsed_bytes<T: Timeout>()
     ensures exact { CallsAreOfParsed }
-    ensures any { CallsAreOfParsedUnderAny T.sets T.clears T.answers }
+    ensures any { CallsAreOfParsedUnderAny T.ticking }
 {}
 
 /// Closing calls that stand among others may be filtered out; a handler on which they do nothing goes where it would go
@@ -51,7 +51,7 @@ pub fn closings_are_ignored<H: Handler>()
 /// followed by the held ones, and all its calls are the table's calls of the events of the parsed bytes, with one
 /// closing call for each emptying of the whole hold, which clears the timeout once.
 pub fn calls_are_of_the_table<T: Timeout>()
-    ensures { MakesTableCalls T.sets T.clears T.answers }
+    ensures { MakesTableCalls T.ticking }
 {}
 
 /// An update is opened by exactly those events whose calls hold `set_private_mode` of `SyncUpdate`: each `CSI ? .. h`

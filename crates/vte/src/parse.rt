@@ -22,7 +22,7 @@ fn advance<T: Timeout, H: Handler>(
     ensures same_state { performer.new.state.ghost_name ≡ performer.old.state.ghost_name }
     ensures stands { (past : List ℕ) → Stands 1024 parser.old past → Stands 1024 parser.new (past ++ bytes.now) }
     ensures performed { (past : List ℕ) → Stands 1024 parser.old past
-        → PerformedAll H.step T.sets T.clears (added past bytes.now)
+        → PerformedAll H.step T.ticking (added past bytes.now)
         performer.old.handler.now performer.old.state.now performer.old.terminated
         performer.new.handler.now performer.new.state.now performer.new.terminated }
 {
@@ -38,7 +38,7 @@ pub fn parse<T: Timeout, H: Handler>(
 )
     ensures stands { (past : List ℕ) → Stands 1024 parser.old past → Stands 1024 parser.new (past ++ bytes.now) }
     ensures performed { (past : List ℕ) → Stands 1024 parser.old past
-        → PerformedAll H.step T.sets T.clears (added past bytes.now)
+        → PerformedAll H.step T.ticking (added past bytes.now)
         handler.old state.old false handler.new state.new (list_any opens (added past bytes.now)) }
 {
     let mut performer = Performer {
@@ -61,7 +61,7 @@ fn advance_until_terminated<T: Timeout, H: Handler>(
     ensures stands { (past : List ℕ) → Stands 1024 parser.old past
         → Stands 1024 parser.new (past ++ take result bytes.now) }
     ensures performed { (past : List ℕ) → Stands 1024 parser.old past
-        → PerformedAll H.step T.sets T.clears (added past (take result bytes.now))
+        → PerformedAll H.step T.ticking (added past (take result bytes.now))
         performer.old.handler.now performer.old.state.now performer.old.terminated
         performer.new.handler.now performer.new.state.now performer.new.terminated }
     ensures ended { result < length bytes.now → performer.new.terminated ≡ true }
@@ -83,7 +83,7 @@ pub fn parse_until_opened<T: Timeout, H: Handler>(
     ensures stands { (past : List ℕ) → Stands 1024 parser.old past
         → Stands 1024 parser.new (past ++ take result.0 bytes.now) }
     ensures performed { (past : List ℕ) → Stands 1024 parser.old past
-        → PerformedAll H.step T.sets T.clears (added past (take result.0 bytes.now))
+        → PerformedAll H.step T.ticking (added past (take result.0 bytes.now))
         handler.old state.old false handler.new state.new result.1 }
     ensures whole { result.1 ≡ false → result.0 ≡ length bytes.now }
     ensures some { result.1 ≡ true → 0 < result.0 }

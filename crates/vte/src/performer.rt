@@ -58,7 +58,7 @@ impl<'a, H: Handler, T: Timeout> Perform for Performer<'a, H, T> {
     ghost use Rattle.std.specs.Prelude.{◌≡◌};
     ghost use Rattle.vte.specs.Performed.{Performed};
 
-    ghost step = { λ p e q. Performed H.step T.sets T.clears e p.handler.now p.state.now p.terminated q.handler.now
+    ghost step = { λ p e q. Performed H.step T.ticking e p.handler.now p.state.now p.terminated q.handler.now
         q.state.now q.terminated × (q.handler.ghost_name ≡ p.handler.ghost_name)
         × (q.state.ghost_name ≡ p.state.ghost_name) };
 

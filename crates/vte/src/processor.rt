@@ -42,7 +42,7 @@ impl<T: Timeout + Drop, A: Allocator> Processor<T, A> {
     /// A processor that has read nothing. The hold is reserved whole, so no later call is refused for memory.
     pub fn new(alloc: A, timeout: T) -> Result<Self, OutOfMemory>
         ensures stands { IfOk result (λ p. StandsAt p [] []) }
-        ensures exact { IfOk result (λ p. Awaits T.answers timeout false → HoldsAt T.answers p [] None) }
+        ensures exact { IfOk result (λ p. Awaits T.ticking timeout false → HoldsAt T.ticking p [] None) }
         ensures timeout { IfOk result (λ p. timeout_of p ≡ timeout) }
     {
         let held = Vec::with_capacity(alloc, SYNC_BUFFER_SIZE)?;
@@ -75,11 +75,10 @@ impl<T: Timeout + Drop, A: Allocator> Processor<T, A> {
     /// more while bytes are held, the hold is emptied first, as by `stop_sync`.
     pub fn advance<H: Handler>(&mut self, handler: &mut H, bytes: &[u8])
         ensures advanced { (parsed held : List ℕ) → StandsAt self.old parsed held
-            → Advanced T.sets T.clears T.answers H.step false self.old parsed held bytes.now handler.old self.new
-            handler.new }
-        ensures exact { (parsed : List ℕ) (hold : Option (List ℕ)) → IsExact T.sets T.clears T.answers
-            → HoldsAt T.answers self.old parsed hold
-            → Taken T.sets T.clears T.answers H.step self.old parsed hold bytes.now handler.old self.new handler.new }
+            → Advanced T.ticking H.step false self.old parsed held bytes.now handler.old self.new handler.new }
+        ensures exact { (parsed : List ℕ) (hold : Option (List ℕ)) → IsExact T.ticking
+            → HoldsAt T.ticking self.old parsed hold
+            → Taken T.ticking H.step self.old parsed hold bytes.now handler.old self.new handler.new }
     {
         let mut rest = bytes;
         while let Some(read) = self.turn(handler, rest) {
@@ -90,10 +89,10 @@ impl<T: Timeout + Drop, A: Allocator> Processor<T, A> {
     /// Parses what is held, and closes the update.
     pub fn stop_sync<H: Handler>(&mut self, handler: &mut H)
         ensures emptied { (parsed held : List ℕ) → StandsAt self.old parsed held
-            → Emptied T.sets T.clears H.step self.old parsed held handler.old self.new handler.new }
-        ensures exact { (parsed : List ℕ) (hold : Option (List ℕ)) → IsExact T.sets T.clears T.answers
-            → HoldsAt T.answers self.old parsed hold
-            → HoldsAt T.answers self.new (parsed ++ held_of hold) None }
+            → Emptied T.ticking H.step self.old parsed held handler.old self.new handler.new }
+        ensures exact { (parsed : List ℕ) (hold : Option (List ℕ)) → IsExact T.ticking
+            → HoldsAt T.ticking self.old parsed hold
+            → HoldsAt T.ticking self.new (parsed ++ held_of hold) None }
     {
         self.empty(handler);
     }
@@ -101,9 +100,9 @@ impl<T: Timeout + Drop, A: Allocator> Processor<T, A> {
     /// Takes the beginning of a piece, or all of it. Answers where it goes on.
     fn turn<H: Handler>(&mut self, handler: &mut H, piece: &[u8]) -> Option<usize>
         ensures led { (parsed held : List ℕ) → StandsAt self.old parsed held → MatchOption result
-            (Advanced T.sets T.clears T.answers H.step false self.old parsed held piece.now handler.old self.new
+            (Advanced T.ticking H.step false self.old parsed held piece.now handler.old self.new
             handler.new)
-            (λ n. GoesOn T.sets T.clears T.answers H.step self.old parsed held piece.now (drop n piece.now) handler.old
+            (λ n. GoesOn T.ticking H.step self.old parsed held piece.now (drop n piece.now) handler.old
             self.new handler.new) }
         ensures progress { IfSome result (λ n. (0 < n) × (n ≤ length piece.now)) }
     {
@@ -123,8 +122,8 @@ impl<T: Timeout + Drop, A: Allocator> Processor<T, A> {
     /// Parses a piece while no update is open, up to where one is opened.
     fn begin<H: Handler>(&mut self, handler: &mut H, piece: &[u8]) -> Option<usize>
         ensures led { (parsed held : List ℕ) → StandsAt self.old parsed held → MatchOption result
-            (Unopened T.sets T.clears H.step self.old parsed held piece.now handler.old self.new handler.new)
-            (λ n. Begun T.sets T.clears H.step self.old parsed held piece.now n handler.old self.new handler.new) }
+            (Unopened T.ticking H.step self.old parsed held piece.now handler.old self.new handler.new)
+            (λ n. Begun T.ticking H.step self.old parsed held piece.now n handler.old self.new handler.new) }
         ensures progress { IfSome result (λ n. (0 < n) × (n ≤ length piece.now)) }
     {
         let (read, opened) = parse_until_opened(&mut self.parser, &mut self.state, handler, piece);
@@ -135,7 +134,7 @@ impl<T: Timeout + Drop, A: Allocator> Processor<T, A> {
     fn hold<H: Handler>(&mut self, handler: &mut H, piece: &[u8])
         requires { vec_len self.old.held + length piece.now < limit }
         ensures { (parsed held : List ℕ) → StandsAt self.old parsed held
-            → Held T.sets T.clears H.step self.old parsed held piece.now handler.old self.new handler.new }
+            → Held T.ticking H.step self.old parsed held piece.now handler.old self.new handler.new }
     {
         // A mark may begin in the last 7 held bytes; one that began sooner would be whole there.
         let seen = self.held.len().saturating_sub(START.len() - 1);
@@ -155,7 +154,7 @@ impl<T: Timeout + Drop, A: Allocator> Processor<T, A> {
         requires { n ≤ vec_len self.old.held }
         ensures { (parsed held : List ℕ) → Stands 1024 self.old.parser parsed
             → self.old.state.preceding_char ≡ last_of parsed → self.old.held.items ≡ held → NoneFrom end_mark held n
-            → Parsed T.sets T.clears H.step self.old parsed (take n held) (drop n held) handler.old self.new
+            → Parsed T.ticking H.step self.old parsed (take n held) (drop n held) handler.old self.new
             handler.new }
     {
         parse(
@@ -171,7 +170,7 @@ impl<T: Timeout + Drop, A: Allocator> Processor<T, A> {
     fn empty<H: Handler>(&mut self, handler: &mut H)
         ensures { (parsed held : List ℕ) → Stands 1024 self.old.parser parsed
             → self.old.state.preceding_char ≡ last_of parsed → self.old.held.items ≡ held
-            → Emptied T.sets T.clears H.step self.old parsed held handler.old self.new handler.new }
+            → Emptied T.ticking H.step self.old parsed held handler.old self.new handler.new }
     {
         parse(
             &mut self.parser,
@@ -188,7 +187,7 @@ impl<T: Timeout + Drop, A: Allocator> Processor<T, A> {
 /// Sets the timeout again where a start mark stands at this place or after it.
 fn renew<T: Timeout>(timeout: &mut T, text: &[u8], seen: usize)
     requires { seen ≤ length text.now }
-    ensures { Renewed T.sets T.clears timeout.old text.now seen timeout.new }
+    ensures { Renewed T.ticking timeout.old text.now seen timeout.new }
 {
     if let Some(_mark) = first_mark(text, &START, seen) {
         timeout.set_timeout(Duration::from_millis(SYNC_UPDATE_TIMEOUT_MILLIS));

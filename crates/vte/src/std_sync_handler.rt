@@ -1,6 +1,6 @@
 //! A timeout by a clock.
-ghost use Rattle.std.specs.Prelude.{◌≡◌, None, is_some};
-ghost use Rattle.vte.specs.Expiry.{ExpiresAfter, clock_of, expiry_of};
+ghost use Rattle.std.specs.Prelude.{◌≡◌, None};
+ghost use Rattle.vte.specs.Expiry.{by_clock, clock_of, expiry_of};
 ghost use Rattle.vte.specs.Timeout.{IsExact};
 
 use crate::clock::Clock;
@@ -35,11 +35,7 @@ impl<C: Clock> StdSyncHandler<C> {
 }
 
 impl<C: Clock> Timeout for StdSyncHandler<C> {
-    ghost sets = { λ s d t. (clock_of t ≡ clock_of s) × ExpiresAfter (C.may_be (clock_of s)) d (expiry_of t) };
-
-    ghost clears = { λ s t. (clock_of t ≡ clock_of s) × (expiry_of t ≡ None) };
-
-    ghost answers = { λ s b. b ≡ is_some (expiry_of s) };
+    ghost ticking = { by_clock C.may_be };
 
     fn set_timeout(&mut self, duration: Duration) {
         self.timeout = Some(self.clock.now().saturating_add(duration));
@@ -56,7 +52,5 @@ impl<C: Clock> Timeout for StdSyncHandler<C> {
 
 /// It is pending exactly from setting to clearing.
 pub fn std_sync_handler_is_exact<C: Clock>()
-    ensures { IsExact ⟦<StdSyncHandler<C> as Timeout>⟧.sets
-        ⟦<StdSyncHandler<C> as Timeout>⟧.clears
-        ⟦<StdSyncHandler<C> as Timeout>⟧.answers }
+    ensures { IsExact ⟦<StdSyncHandler<C> as Timeout>⟧.ticking }
 {}

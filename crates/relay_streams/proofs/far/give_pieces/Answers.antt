@@ -27,7 +27,7 @@ loop-cut-preserved c =
     ∙ ap (λ (zs : List ℕ). piece ∷ cut_by (drop (i + 1) cuts) zs) (sym c.split_at.ensures.back) in
     record {
       past = so_far.past ++ piece ∷ [];
-      led = led_on _ _ c.args.view.now c.loop-cut.view c.advance.new.self so_far.past piece so_far.led
+      led = led_on c.args.view.now c.loop-cut.view c.advance.new.self so_far.past piece so_far.led
           (λ parsed hold at. c.advance.ensures.exact parsed hold c.until_cleared_is_exact.ensures at);
       follows = so_far.follows ∙ ap (λ (ps : List (List ℕ)). so_far.past ++ ps) next
           ∙ sym (append_assoc so_far.past (piece ∷ []) (cut_by (drop (i + 1) cuts) rest));
@@ -42,5 +42,5 @@ returns c =
     let whole : cut_by cuts c.args.bytes.now ≡ so_far.past ++ left ∷ [] =
     so_far.follows ∙ ap (λ (ks : List ℕ). so_far.past ++ cut_by ks left) none in
     subst (λ (ps : List (List ℕ)). Led c.args.view.now ps c.advance-2.new.self) (sym whole)
-    (led_on _ _ c.args.view.now c.loop-cut.view c.advance-2.new.self so_far.past left so_far.led
+    (led_on c.args.view.now c.loop-cut.view c.advance-2.new.self so_far.past left so_far.led
     (λ parsed hold at. c.advance-2.ensures.exact parsed hold c.until_cleared_is_exact.ensures at))

@@ -1,8 +1,8 @@
 use Rattle.std.proofs.Common.{◌≡◌, ◌∙◌, ℕ, List, [], Option, None, IfOk, map, take, ap, sym, subst}
 use Rattle.vte.specs.Moves.{Gives}
-use Rattle.vte.specs.Frames.{Leads}
+use Rattle.vte.specs.Frames.{Drives}
 use Rattle.termview.specs.Standing.{HoldsAt}
-use Rattle.relay_streams.specs.Led.{answers}
+use Rattle.termview.specs.Timeout.{until_cleared}
 use Rattle.relay_streams.specs.Pieces.{cut_by}
 use Rattle.relay_streams.proofs.PieceLemmas.{take_least}
 use Rattle.relay_streams.proofs.far.view_session.Goals as goal
@@ -14,5 +14,5 @@ returns-clause-stands c =
     ap (λ (k : ℕ). take k pumped) c.min.ensures ∙ sym (take_least c.args.most pumped)
     ∙ ap (λ (xs : List ℕ). take c.args.most xs) c.pumped-pumped.ensures in
     subst (λ (xs : List ℕ). IfOk c.view_of.result (λ v. (parsed : List ℕ) × (hold : Option (List ℕ))
-    × Leads (map Gives (cut_by c.args.cuts.now xs)) [] None parsed hold × HoldsAt answers v parsed hold)) given
+    × Drives (map Gives (cut_by c.args.cuts.now xs)) [] None parsed hold × HoldsAt until_cleared v parsed hold)) given
     c.view_of.ensures.stands

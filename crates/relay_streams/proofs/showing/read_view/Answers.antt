@@ -40,7 +40,7 @@ returns-then-n-lt-PIECE_LEN g c =
       filled_last g.row.S.Denot g.S.Source.gives piece_len c.args.input.now c.pieces.input c.fill.new.input
           c.pieces.reads c.fill.new.reads so_far.past c.fill.new.piece c.fill.result f n c.in_ok-n.was
           (omega arith) so_far.read,
-      led_on _ _ c.args.view.now c.pieces.view c.advance.new.self so_far.past piece so_far.led
+      led_on c.args.view.now c.pieces.view c.advance.new.self so_far.past piece so_far.led
           (λ parsed hold at. c.advance.ensures.exact parsed hold c.until_cleared_is_exact.ensures at),
     )
 
@@ -60,7 +60,7 @@ pieces-preserved g c =
       read = filled_on g.row.S.Denot g.S.Source.gives piece_len c.args.input.now c.pieces.input c.fill.new.input
           c.pieces.reads c.fill.new.reads so_far.past c.fill.new.piece c.fill.result f n c.in_ok-n.was
           (omega arith) so_far.read;
-      led = led_on _ _ c.args.view.now c.pieces.view c.advance.new.self so_far.past piece so_far.led
+      led = led_on c.args.view.now c.pieces.view c.advance.new.self so_far.past piece so_far.led
           (λ parsed hold at. c.advance.ensures.exact parsed hold c.until_cleared_is_exact.ensures at);
     }
 

@@ -5,4 +5,4 @@ pub returns-clause-pieces : goal.returns-clause-pieces
 returns-clause-pieces g c = spelling-parsed
 
 pub returns-clause-views : goal.returns-clause-views
-returns-clause-views g c = spelling-taken g.T.Timeout.sets g.T.Timeout.clears g.T.Timeout.answers
+returns-clause-views g c = spelling-taken g.T.Timeout.ticking

@@ -14,8 +14,8 @@ invariant-loop-number g l = record {
       (map (λ x. set_private_mode (private_mode_of (first x))) l.groups) end
       → Calls g.H.Handler.step l.initial.handler (map (λ x. set_private_mode (private_mode_of (first x)))
       l.initial.groups) end;
-  timeout : (end : _) → Ticked g.T.Timeout.sets g.T.Timeout.clears l.timeout (sets_of l.groups) end
-      → Ticked g.T.Timeout.sets g.T.Timeout.clears l.initial.timeout (sets_of l.initial.groups) end;
+  timeout : (end : _) → Ticked g.T.Timeout.ticking l.timeout (sets_of l.groups) end
+      → Ticked g.T.Timeout.ticking l.initial.timeout (sets_of l.initial.groups) end;
   opened : (l.opened || list_any opens_group l.groups) ≡ list_any opens_group l.initial.groups;
 }
 

@@ -6,4 +6,4 @@ pub returns-clause-exact : goal.returns-clause-exact
 returns-clause-exact g c = taken_parsed
 
 pub returns-clause-any : goal.returns-clause-any
-returns-clause-any g c = advanced_parsed g.T.Timeout.sets g.T.Timeout.clears g.T.Timeout.answers false
+returns-clause-any g c = advanced_parsed g.T.Timeout.ticking false

@@ -16,7 +16,7 @@ pub returns-clause-performed : goal.returns-clause-performed
 returns-clause-performed g c past stands =
     let told = c.advance.ensures.told in
     let is = told_is past c.args.bytes.now told.told (told.added past stands) in
-    performs_all g.H.Handler.step g.T.Timeout.sets g.T.Timeout.clears (λ p. p.handler.now) (λ p. p.state.now)
+    performs_all g.H.Handler.step g.T.Timeout.ticking (λ p. p.handler.now) (λ p. p.state.now)
     (λ p. p.terminated) _ (λ p e q s. s.0) _
     (added past c.args.bytes.now) _ (added-fits 1024 past c.args.bytes.now)
     (same_events _ _ _ told.told (added past c.args.bytes.now) is told.performed)

@@ -18,7 +18,7 @@ returns-clause-performed g c past stands =
     let told = c.advance_until_terminated.ensures.told in
     let bytes = take c.advance_until_terminated.result c.args.bytes.now in
     let is = told_is past bytes told.told (told.added past stands) in
-    performs_all g.H.Handler.step g.T.Timeout.sets g.T.Timeout.clears (λ p. p.handler.now) (λ p. p.state.now)
+    performs_all g.H.Handler.step g.T.Timeout.ticking (λ p. p.handler.now) (λ p. p.state.now)
     (λ p. p.terminated) _ (λ p e q s. s.0) _
     (added past bytes) _ (added-fits 1024 past bytes) (same_events _ _ _ told.told (added past bytes) is told.performed)
 
@@ -38,7 +38,7 @@ returns-clause-some g c fresh ended =
 pub returns-clause-first : goal.returns-clause-first
 returns-clause-first g c past stands fresh m below asks =
     let by = (c.advance_until_terminated.ensures.stops past stands).passed m below asks in
-    let run = performs_all g.H.Handler.step g.T.Timeout.sets g.T.Timeout.clears (λ p. p.handler.now) (λ p. p.state.now)
+    let run = performs_all g.H.Handler.step g.T.Timeout.ticking (λ p. p.handler.now) (λ p. p.state.now)
     (λ p. p.terminated) _ (λ p e q s. s.0) _
     (added past (take m c.args.bytes.now)) _ (added-fits 1024 past (take m c.args.bytes.now)) by.before in
     let ends = run.ends in

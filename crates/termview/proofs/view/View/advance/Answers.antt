@@ -7,7 +7,7 @@ use Rattle.termview.proofs.view.View.advance.Goals as goal
 pub returns-clause-advanced : goal.returns-clause-advanced
 returns-clause-advanced g c = λ parsed held s.
     let a = c.advance.ensures.advanced parsed held s.reads in
-    let p = advanced_parsed g.T.Timeout.sets g.T.Timeout.clears g.T.Timeout.answers false _ parsed held _ _ a.parsed'
+    let p = advanced_parsed g.T.Timeout.ticking false _ parsed held _ _ a.parsed'
     a.held' a.calls a.advances in
     let n = goes-on c.args.self.now.picture c.advance.new.handler parsed a.parsed' (clearings p.0) a.calls s.shows p.2
     a.goes in

@@ -6,7 +6,7 @@ use Rattle.vte.proofs.processor.Processor.advance.Given as goal
 abbrev pub invariant-loop-read : goal.invariant-loop-read
 invariant-loop-read g l =
     (parsed held : List ℕ) → StandsAt l.initial.self parsed held
-    → GoesOn g.T.Timeout.sets g.T.Timeout.clears g.T.Timeout.answers g.H.Handler.step l.initial.self parsed held
+    → GoesOn g.T.Timeout.ticking g.H.Handler.step l.initial.self parsed held
     l.initial.rest l.rest l.initial.handler l.self l.handler
 
 abbrev pub decreases-loop-read : goal.decreases-loop-read

@@ -17,7 +17,7 @@ returns g c parsed held reads printed items =
         holds = c.clear.ensures.items;
         no_end = none_in_empty;
       };
-      ticked = Ticked-append g.T.Timeout.sets g.T.Timeout.clears _ _ _ (ticks_from parsed held) (Clears
+      ticked = Ticked-append g.T.Timeout.ticking _ _ _ (ticks_from parsed held) (Clears
           ∷ []) run.ticked (c.clear_timeout.new.self, c.clear_timeout.ensures, refl);
       goes = closed_calls g.H.Handler.step _ _ _ parsed held
           (calls_after g.H.Handler.step _ _ _ parsed held printed run.calls) c.unset_private_mode.ensures;

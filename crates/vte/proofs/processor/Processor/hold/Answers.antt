@@ -46,7 +46,7 @@ returns-in-Some-first_mark g c parsed held at =
       settles = replays parsed held c.args.piece.now again.ticks again.renews c.in-Some-first_mark.start
           (c.in-Some.end, last, first);
       stands = after.stands;
-      ticked = Ticked-append g.T.Timeout.sets g.T.Timeout.clears _ _ _ again.ticks _ again.ticked after.ticked;
+      ticked = Ticked-append g.T.Timeout.ticking _ _ _ again.ticks _ again.ticked after.ticked;
       goes = after.goes;
     }
 
@@ -68,6 +68,6 @@ returns-in-None g c parsed held at =
       ticks = _;
       settles = closes parsed held c.args.piece.now again.ticks again.renews (c.in-Some.end, last, none);
       stands = after.stands;
-      ticked = Ticked-append g.T.Timeout.sets g.T.Timeout.clears _ _ _ again.ticks _ again.ticked after.ticked;
+      ticked = Ticked-append g.T.Timeout.ticking _ _ _ again.ticks _ again.ticked after.ticked;
       goes = after.goes;
     }

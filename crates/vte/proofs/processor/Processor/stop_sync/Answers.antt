@@ -8,6 +8,6 @@ returns-clause-exact g c parsed hold exact at =
     let after = c.empty.ensures parsed (held_of hold) at.stands.has_read at.stands.printed at.stands.holds in
     record {
       stands = after.stands;
-      awaits = cleared_last g.T.Timeout.sets g.T.Timeout.clears g.T.Timeout.answers exact _
+      awaits = cleared_last g.T.Timeout.ticking exact _
           (ticks_from parsed (held_of hold)) _ after.ticked;
     }

@@ -21,7 +21,7 @@ returns-then-is_empty-clause-led g c parsed held at =
     let plain = rw c.if-pending_timeout.false at c.pending_timeout.ensures in
     let none = eqb-true _ 0 (sym c.is_empty.ensures ∙ c.if-is_empty.true) in
     let empty : held ≡ [] = no_bytes held (omega (arith, ap length at.holds, c.args.self.now.held.ok.0, none)) in
-    plain_turn g.T.Timeout.sets g.T.Timeout.clears g.T.Timeout.answers g.H.Handler.step c.begin.result _ parsed held
+    plain_turn g.T.Timeout.ticking g.H.Handler.step c.begin.result _ parsed held
     c.args.piece.now _ _ _ empty plain (c.begin.ensures.led parsed held at)
 
 pub returns-then-piece-len-clause-led : goal.returns-then-piece-len-clause-led
@@ -37,7 +37,7 @@ returns-then-piece-len-clause-led g c parsed held at =
       c.args.self.now.held.ok.0,
       c.args.self.now.bounded,
     ) in
-    held_advances g.T.Timeout.sets g.T.Timeout.clears g.T.Timeout.answers g.H.Handler.step _ _ _ _ _ _ _ pending fits
+    held_advances g.T.Timeout.ticking g.H.Handler.step _ _ _ _ _ _ _ pending fits
     (c.hold.ensures parsed held at)
 
 pub returns-clause-led : goal.returns-clause-led
@@ -65,6 +65,6 @@ returns-clause-led g c parsed held at =
           ) in
           rw w.if-pending_timeout.false some
     ] in
-    turn_after g.T.Timeout.sets g.T.Timeout.clears g.T.Timeout.answers g.H.Handler.step _ _ parsed held
+    turn_after g.T.Timeout.ticking g.H.Handler.step _ _ parsed held
     c.args.piece.now _ _ c.pending_timeout.result c.pending_timeout.ensures why emptied _ _ c.begin-2.result
     (c.begin-2.ensures.led (parsed ++ held) [] emptied.stands)
