@@ -1,2 +1,4 @@
 mod MomentLemmas
 mod PageLemmas
+mod SafeLemmas
+mod WordsLemmas

@@ -1,3 +1,4 @@
 pub mod Moment
 pub mod Page
 pub mod Tags
+pub mod Words

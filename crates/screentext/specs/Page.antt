@@ -1,5 +1,6 @@
 -- What a picture is made of: markup of the program's own, digits, and texts that are escaped.
-use Rattle.std.specs.Prelude.{◌≡◌, ℕ, ◌+◌, List, [], ◌∷◌, ◌++◌, Option, Some, None, codes, nat_eq, nat_le}
+use Rattle.std.specs.Prelude.{◌≡◌, ◌≢◌, ◌⊎◌, ℕ, ◌+◌, Bool, true, List, [], ◌∷◌, ◌++◌, Option, Some, None, codes, nat_eq, nat_le}
+use Rattle.std.specs.List.{All, concat, list_any, starts_with}
 use Rattle.std.specs.Prelude.{if◌then◌else◌, unwrap_or}
 use Rattle.screentext.specs.declared.tag.Tag.{Tag}
 use Rattle.screentext.specs.Tags.{tag_bytes}
@@ -37,3 +38,24 @@ parts_bytes (p ∷ ps) = part_bytes p ++ parts_bytes ps
 pub record IsPage (bytes : List ℕ) : Type 0 where
   pub parts : List Part
   pub joined : bytes ≡ parts_bytes parts
+
+abbrev pub references : List (List ℕ)
+references = codes "&amp;" ∷ codes "&lt;" ∷ codes "&gt;" ∷ codes "&quot;" ∷ codes "&#39;" ∷ []
+
+abbrev pub begins_reference : List ℕ → Bool
+begins_reference text = list_any (starts_with nat_eq text) references
+
+-- no byte of a text is < > " or ', and each & in it begins a reference
+abbrev pub IsHarmless : List ℕ → Type 0
+IsHarmless text = (before after : List ℕ) (b : ℕ) → text ≡ before ++ b ∷ after
+    → (b ≢ 60) × (b ≢ 62) × (b ≢ 34) × (b ≢ 39) × (b ≡ 38 → begins_reference (b ∷ after) ≡ true)
+
+-- markup of the program's own, or harmless bytes
+abbrev pub IsPiece : List ℕ → Type 0
+IsPiece piece = ((t : Tag) × (piece ≡ tag_bytes t)) ⊎ IsHarmless piece
+
+-- these bytes are such pieces, one after another
+pub record IsSafe (bytes : List ℕ) : Type 0 where
+  pub pieces : List (List ℕ)
+  pub joined : bytes ≡ concat pieces
+  pub harmless : All IsPiece pieces

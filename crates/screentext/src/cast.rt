@@ -1,5 +1,12 @@
 //! The events of a recorded stream, raw or in asciicast v2.
 
+ghost use Rattle.std.specs.Prelude.{◌≡◌, Some, is_some, IfOk, IfErr};
+ghost use Rattle.std.specs.Option.{option_map};
+ghost use Rattle.serde_json.specs.Read.{read as read_text};
+ghost use Rattle.serde_json.specs.View.{view};
+ghost use Rattle.screentext.specs.declared.error.TextError.TheVariants.{Memory};
+ghost use Rattle.screentext.specs.Words.{is_time};
+
 use crate::error::TextError;
 use command_line::parse_size;
 use serde_json::Value;
@@ -166,8 +173,10 @@ fn parse_resize(data: &str) -> Option<Size> {
     })
 }
 
-/// A number of seconds, in whole microseconds.
-pub(crate) fn microseconds(seconds: &Value) -> Option<u64> {
+/// A number of seconds, in whole microseconds, unless it is negative.
+pub(crate) fn microseconds(seconds: &Value) -> Option<u64>
+    ensures { is_some result ≡ is_time (Some (view seconds.now)) }
+{
     let seconds = seconds.as_f64()?;
     if seconds < 0.0 {
         return None;
@@ -177,9 +186,17 @@ pub(crate) fn microseconds(seconds: &Value) -> Option<u64> {
 
 /// The value of a text in JSON, if it is one.
 pub(crate) fn parse_json(alloc: Global, text: &[u8]) -> Result<Option<Value>, TextError> {
-    let Ok(text) = str::from_utf8(text) else {
-        return Ok(None);
-    };
+    match str::from_utf8(text) {
+        Ok(text) => parse_text(alloc, text),
+        Err(_) => Ok(None),
+    }
+}
+
+/// The same of text that is known to be in UTF-8.
+pub(crate) fn parse_text(alloc: Global, text: &str) -> Result<Option<Value>, TextError>
+    ensures fault { IfErr result (λ e. e ≡ Memory) }
+    ensures value { IfOk result (λ v. option_map view v ≡ read_text text.now) }
+{
     match Value::from_str(alloc, text) {
         Ok(value) => Ok(Some(value)),
         Err(error) if error.is_memory() => Err(TextError::Memory),

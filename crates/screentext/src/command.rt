@@ -1,51 +1,32 @@
 //! The command line.
 
-ghost use Rattle.std.specs.Prelude.{◌≡◌, ◌≤◌};
+ghost use Rattle.std.specs.Prelude.{◌≡◌, ◌≤◌, ◌⊎◌, map, true};
+ghost use Rattle.takers.specs.Pump.{Tells};
+ghost use Rattle.screentext.specs.Words.{is_order, is_refused, memory_line, usage_line};
+ghost use Rattle.screentext.specs.declared.error.TextError.TheVariants.{Memory};
 
-use crate::cast::{Recording, Size, parse_recording};
-use crate::changes::push_changes;
+use crate::answer::answer_of;
+use crate::cast::parse_recording;
 use crate::error::TextError;
-use crate::moment::terminal_at;
-use crate::picture::{html, svg};
 use crate::streams::{read_all, write_all};
-use crate::text::push_lines;
-use crate::words::{Form, Order, Request, parse};
+use crate::words::{Order, parse};
 use command_line::{FAULT, SUCCESS, USAGE, report};
 use std::alloc::Global;
 use std::fmt::Write;
 use std::io::Read;
-use std::num::NonZeroU16;
 use takers::{Sink, Taker};
-use vt100::{Parser, Screen};
+
+const MEMORY_LINE: &[u8] = b"screentext: memory\n";
 
 const USAGE_LINE: &[u8] =
     b"usage: screentext [ROWS COLS] [--at SECONDS] [--diff SECONDS] [--history N] [--joined] \
 [--colours] [--html | --svg]\n";
 
-const VERSION_LINE: &[u8] = b"screentext 0.1\n";
-
-const HELP: &[u8] = b"Prints what a recorded terminal stream shows, at its end or at a moment.\n\
-\n\
-usage: screentext [ROWS COLS] [OPTIONS] < RECORDING\n\
-\n\
-The recording is an asciicast v2, or the raw bytes of a program's output. ROWS and\n\
-COLS are the size of the screen at first, in place of that in the recording's\n\
-header; a raw stream with none is shown on 24 rows and 80 columns.\n\
-\n\
-\x20 --at SECONDS    the screen at this time of the recording, and not at its end\n\
-\x20 --diff SECONDS  the rows that changed from this time on, before and after\n\
-\x20 --history N     the newest N rows that left at the top, before those of the screen\n\
-\x20 --joined        a row that goes on in the next is one line with it\n\
-\x20 --colours       colours and other attributes, as escape sequences (SGR)\n\
-\x20 --html, --svg   a picture of the screen\n\
-\x20 --help          this text\n\
-\x20 --version       the version\n\
-\n\
-The status is 0 at success, 1 at a fault, 2 for words that aren't understood.\n";
-
 /// Runs the program on the words after its name, and answers its exit status.
 ///
-/// A fault is told in a line on `errors`, and words that aren't understood get the usage line there.
+/// A fault is told in a line on `errors`. Words that aren't understood get the usage line there, and then nothing is read
+/// or written, unless memory is refused before that is known: that is a fault. Such a line is written whole, unless a
+/// write of it fails or takes nothing; that changes nothing else.
 pub(crate) fn command<R: Read, W: Sink, V: Taker>(
     alloc: Global,
     words: &[&str],
@@ -53,17 +34,26 @@ pub(crate) fn command<R: Read, W: Sink, V: Taker>(
     output: &mut W,
     errors: &mut V,
 ) -> u8
-    ensures { result ≤ 2 }
+    ensures refused { is_refused (map (λ w. w.now) words.now) ≡ true → (input.new ≡ input.old)
+        × (output.new ≡ output.old) × (((result ≡ 2) × Tells V.takes errors.old usage_line errors.new)
+        ⊎ ((result ≡ 1) × Tells V.takes errors.old memory_line errors.new)) }
+    ensures understood { is_order (map (λ w. w.now) words.now) ≡ true → result ≤ 1 }
+
+    // Whatever the words are:
+    ensures usage { result ≡ 2 → (input.new ≡ input.old) × (output.new ≡ output.old)
+        × Tells V.takes errors.old usage_line errors.new }
+    ensures done { result ≡ 0 → errors.new ≡ errors.old }
+    ensures status { result ≤ 2 }
 {
-    let outcome = match parse(alloc, words) {
-        Ok(Some(order)) => obey(alloc, order, input, output),
+    let order = match parse(alloc, words) {
+        Ok(Some(order)) => order,
         Ok(None) => {
             report(errors, USAGE_LINE);
             return USAGE;
         }
-        Err(error) => Err(error),
+        Err(error) => return report_fault(alloc, errors, error),
     };
-    match outcome {
+    match obey(alloc, order, input, output) {
         Ok(()) => SUCCESS,
         Err(error) => report_fault(alloc, errors, error),
     }
@@ -71,11 +61,16 @@ pub(crate) fn command<R: Read, W: Sink, V: Taker>(
 
 /// Tells a fault in a line on `errors`, and answers the exit status that goes with it.
 pub(crate) fn report_fault<V: Taker>(alloc: Global, errors: &mut V, error: TextError) -> u8
-    ensures { result ≡ 1 }
+    ensures status { result ≡ 1 }
+    ensures memory { error ≡ Memory → Tells V.takes errors.old memory_line errors.new }
 {
+    if let TextError::Memory = error {
+        report(errors, MEMORY_LINE);
+        return FAULT;
+    }
     match format!(in alloc; "screentext: {error}\n") {
         Ok(line) => report(errors, line.as_bytes()),
-        Err(_) => report(errors, b"screentext: memory\n"),
+        Err(_) => report(errors, MEMORY_LINE),
     }
     FAULT
 }
@@ -87,8 +82,7 @@ fn obey<R: Read, W: Sink>(
     output: &mut W,
 ) -> Result<(), TextError> {
     match order {
-        Order::Help => write_all(output, HELP),
-        Order::Version => write_all(output, VERSION_LINE),
+        Order::Tell(text) => write_all(output, text.as_bytes()),
         Order::Print(request) => {
             let bytes = read_all(alloc, input)?;
             let recording = parse_recording(alloc, bytes)?;
@@ -96,69 +90,4 @@ fn obey<R: Read, W: Sink>(
             write_all(output, &answer)
         }
     }
-}
-
-// What is printed of a recording.
-fn answer_of(alloc: Global, recording: &Recording, request: Request) -> Result<Vec<u8>, TextError> {
-    let size = size_of(recording, request);
-    let mut terminal = terminal_at(
-        alloc,
-        size,
-        request.history,
-        &recording.events,
-        request.moment,
-    )?;
-    match (request.since, request.form) {
-        (Some(since), _) => {
-            let before = terminal_at(alloc, size, 0, &recording.events, since)?;
-            changes_of(alloc, &before, &terminal, request)
-        }
-        (None, Form::Text) => lines_of(alloc, &mut terminal, request),
-        (None, Form::Html) => Ok(html(alloc, terminal.screen())?),
-        (None, Form::Svg) => Ok(svg(alloc, terminal.screen())?),
-    }
-}
-
-// The size of the screen at first.
-fn size_of(recording: &Recording, request: Request) -> Size {
-    match (request.size, recording.size) {
-        (Some(size), _) => size,
-        (None, Some(size)) => size,
-        (None, None) => Size {
-            rows: Parser::<()>::DEFAULT_ROWS,
-            cols: Parser::<()>::DEFAULT_COLS,
-        },
-    }
-}
-
-fn lines_of(
-    alloc: Global,
-    terminal: &mut Parser<()>,
-    request: Request,
-) -> Result<Vec<u8>, TextError> {
-    let mut text = String::new(alloc);
-    push_lines(
-        &mut text,
-        terminal.screen_mut(),
-        request.history,
-        request.look,
-    )?;
-    Ok(text.into_bytes())
-}
-
-fn changes_of(
-    alloc: Global,
-    before: &Parser<()>,
-    after: &Parser<()>,
-    request: Request,
-) -> Result<Vec<u8>, TextError> {
-    let mut text = String::new(alloc);
-    push_changes(
-        alloc,
-        &mut text,
-        before.screen(),
-        after.screen(),
-        request.look,
-    )?;
-    Ok(text.into_bytes())
 }

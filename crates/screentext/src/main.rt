@@ -3,10 +3,12 @@
 //! The stream comes on standard input, as raw bytes or as a recording in asciicast v2.
 #![tactic(auto)]
 
+mod answer;
 mod cast;
 mod changes;
 mod command;
 mod error;
+mod known;
 mod moment;
 mod page;
 mod palette;
@@ -15,6 +17,8 @@ mod runs;
 mod streams;
 mod style;
 mod tag;
+#[cfg(test)]
+mod tests;
 mod text;
 mod words;
 

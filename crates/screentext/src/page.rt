@@ -2,7 +2,7 @@
 
 ghost use Rattle.std.specs.Prelude.{◌≡◌, ◌%◌};
 ghost use Rattle.std.specs.Option.{option_map};
-ghost use Rattle.screentext.specs.Page.{IsPage, digit_byte, reference as reference_of};
+ghost use Rattle.screentext.specs.Page.{IsPage, IsSafe, digit_byte, reference as reference_of};
 
 use crate::tag::Tag;
 use std::alloc::{AllocError, Global};
@@ -69,7 +69,8 @@ impl Page {
 
     /// Its bytes.
     pub(crate) fn into_bytes(self) -> Vec<u8>
-        ensures { IsPage result.items }
+        ensures page { IsPage result.items }
+        ensures safe { IsSafe result.items }
     {
         self.bytes
     }

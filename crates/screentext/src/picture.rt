@@ -1,7 +1,7 @@
 //! Pictures of a screen, in HTML and SVG.
 
 ghost use Rattle.std.specs.Prelude.{IfOk};
-ghost use Rattle.screentext.specs.Page.{IsPage};
+ghost use Rattle.screentext.specs.Page.{IsPage, IsSafe};
 
 use crate::page::Page;
 use crate::palette::{BACKGROUND, FOREGROUND, Paint, Rgb};
@@ -22,7 +22,8 @@ const BASELINE: u32 = 14;
 
 /// A page in HTML that shows the screen: pieces of markup, digits, and the texts of cells, escaped.
 pub(crate) fn html(alloc: Global, screen: &Screen) -> Result<Vec<u8>, AllocError>
-    ensures { IfOk result (λ bytes. IsPage bytes.items) }
+    ensures page { IfOk result (λ bytes. IsPage bytes.items) }
+    ensures safe { IfOk result (λ bytes. IsSafe bytes.items) }
 {
     let mut page = Page::new(alloc);
     page.markup(Tag::HtmlHead)?;
@@ -73,7 +74,8 @@ fn push_span_flags(page: &mut Page, run: &Run) -> Result<(), AllocError> {
 
 /// A picture in SVG that shows the screen: pieces of markup, digits, and the texts of cells, escaped.
 pub(crate) fn svg(alloc: Global, screen: &Screen) -> Result<Vec<u8>, AllocError>
-    ensures { IfOk result (λ bytes. IsPage bytes.items) }
+    ensures page { IfOk result (λ bytes. IsPage bytes.items) }
+    ensures safe { IfOk result (λ bytes. IsSafe bytes.items) }
 {
     let mut page = Page::new(alloc);
     push_svg_head(&mut page, screen)?;

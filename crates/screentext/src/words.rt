@@ -1,19 +1,29 @@
 //! The words of the command line.
 
-use crate::cast::{Size, microseconds, parse_json};
+ghost use Rattle.std.specs.Prelude.{◌≡◌, ◌&&◌, true, false, not, map, nat_le, is_some, codes, None, Err, IfOk, IfErr};
+ghost use Rattle.std.specs.Option.{option_map, option_map_or};
+ghost use Rattle.clap.specs.Words.{App, Kinds, app_of, fault_of, found_of, kind_of, matches_of, rows_of};
+ghost use Rattle.clap.specs.declared.error.ErrorKind.TheVariants.{OutOfMemory};
+ghost use Rattle.command_line.specs.Numbers.{is_count};
+ghost use Rattle.serde_json.specs.Read.{read as read_text};
+ghost use Rattle.screentext.specs.declared.error.TextError.TheVariants.{Memory};
+ghost use Rattle.screentext.specs.Words.{are_values, is_moment, is_order, is_refused, is_request, is_screen, is_time};
+
+use crate::cast::{Size, microseconds, parse_text};
 use crate::error::TextError;
+use crate::known::known_words;
 use crate::moment::END;
+use clap::error::ErrorKind;
+use clap::{ArgMatches, Error};
 use command_line::{parse_count, parse_size};
 use std::alloc::Global;
-use std::num::NonZeroU16;
+use std::fmt::Write;
 
 /// What the program is asked to do.
-#[derive(Clone, Copy)]
+#[derive(Drop)]
 pub(crate) enum Order {
-    /// Tell what it does and which words it knows.
-    Help,
-    /// Tell its version.
-    Version,
+    /// Tell this text: the help or the version.
+    Tell(String),
     /// Print a screen.
     Print(Request),
 }
@@ -53,136 +63,122 @@ pub(crate) struct Request {
     pub(crate) form: Form,
 }
 
-// What the next word is.
-#[derive(Clone, Copy, PartialEq, Eq)]
-enum Place {
-    Any,
-    Cols(NonZeroU16),
-    Moment,
-    Since,
-    History,
+/// Reads the words. Words that aren't understood are no order, and the only fault is that memory is refused.
+pub(crate) fn parse(alloc: Global, words: &[&str]) -> Result<Option<Order>, TextError>
+    ensures fault { IfErr result (λ e. e ≡ Memory) }
+    ensures refused { is_refused (map (λ w. w.now) words.now) ≡ true → IfOk result (λ o. is_some o ≡ false) }
+    ensures ordered { is_order (map (λ w. w.now) words.now) ≡ true → IfOk result (λ o. is_some o ≡ true) }
+{
+    match known_words(alloc)?.try_get_matches_from(words) {
+        Ok(matches) => order_of(alloc, &matches),
+        Err(error) => asked(alloc, &error),
+    }
 }
 
-// What the words so far ask for.
-#[derive(Clone, Copy)]
-struct Reader {
-    place: Place,
-    request: Request,
-}
-
-const PLAIN: Request = Request {
-    size: None,
-    moment: END,
-    since: None,
-    history: 0,
-    look: Look {
-        joined: false,
-        colours: false,
-    },
-    form: Form::Text,
-};
-
-/// Reads `[ROWS COLS]` and options. No memory is the only fault; words that aren't understood are no order.
-pub(crate) fn parse(alloc: Global, words: &[&str]) -> Result<Option<Order>, TextError> {
-    let mut reader = Reader {
-        place: Place::Any,
-        request: PLAIN,
-    };
-    for word in words {
-        match *word {
-            "--help" | "-h" => return Ok(Some(Order::Help)),
-            "--version" | "-V" => return Ok(Some(Order::Version)),
-            word => match read_word(alloc, reader, word)? {
-                Some(next) => reader = next,
-                None => return Ok(None),
-            },
+// What words ask for with which `clap` doesn't go on: the help, the version or nothing.
+fn asked(alloc: Global, error: &Error) -> Result<Option<Order>, TextError>
+    ensures fault { IfErr result (λ e. e ≡ Memory) }
+    ensures order { IfOk result (λ o. is_some o ≡ is_request (kind_of error.now)) }
+    ensures memory { kind_of error.now ≡ OutOfMemory → result ≡ Err Memory }
+{
+    match error.kind() {
+        ErrorKind::OutOfMemory => Err(TextError::Memory),
+        ErrorKind::DisplayHelp | ErrorKind::DisplayVersion => {
+            Ok(Some(Order::Tell(format!(in alloc; "{error}")?)))
         }
-    }
-    if reader.place == Place::Any {
-        return Ok(Some(Order::Print(reader.request)));
-    }
-    Ok(None)
-}
-
-fn read_word(alloc: Global, reader: Reader, word: &str) -> Result<Option<Reader>, TextError> {
-    let request = reader.request;
-    match reader.place {
-        Place::Any => Ok(read_option(request, word)),
-        Place::Cols(rows) => Ok(read_cols(request, rows, word)),
-        Place::History => Ok(read_history(request, word)),
-        Place::Moment => read_moment(alloc, request, word),
-        Place::Since => read_since(alloc, request, word),
+        _ => Ok(None),
     }
 }
 
-fn read_option(request: Request, word: &str) -> Option<Reader> {
-    match word {
-        "--at" => return at_place(Place::Moment, request),
-        "--diff" => return at_place(Place::Since, request),
-        "--history" => return at_place(Place::History, request),
-        _ => {}
-    }
-    match read_flag(request, word) {
-        Some(request) => at_place(Place::Any, request),
-        None if request.size.is_some() => None,
-        None => at_place(Place::Cols(parse_size(word)?), request),
-    }
-}
-
-fn read_flag(mut request: Request, word: &str) -> Option<Request> {
-    match word {
-        "--joined" => request.look.joined = true,
-        "--colours" | "--colors" => request.look.colours = true,
-        "--html" => request.form = Form::Html,
-        "--svg" => request.form = Form::Svg,
-        _ => return None,
-    }
-    Some(request)
-}
-
-fn at_place(place: Place, request: Request) -> Option<Reader> {
-    Some(Reader { place, request })
-}
-
-fn read_cols(mut request: Request, rows: NonZeroU16, word: &str) -> Option<Reader> {
-    let cols = parse_size(word)?;
-    request.size = Some(Size { rows, cols });
-    at_place(Place::Any, request)
-}
-
-fn read_history(mut request: Request, word: &str) -> Option<Reader> {
-    request.history = parse_count(word)?;
-    at_place(Place::Any, request)
-}
-
-fn read_moment(
-    alloc: Global,
-    mut request: Request,
-    word: &str,
-) -> Result<Option<Reader>, TextError> {
-    let Some(moment) = seconds(alloc, word)? else {
-        return Ok(None);
+fn order_of(alloc: Global, matches: &ArgMatches<'_>) -> Result<Option<Order>, TextError>
+    ensures fault { IfErr result (λ e. e ≡ Memory) }
+    ensures order { IfOk result (λ o. is_some o ≡ are_values (rows_of (found_of matches.now))) }
+{
+    let size = size_of(matches.get_str("ROWS"), matches.get_str("COLS"));
+    let moment = moment_of(alloc, matches.get_str("at"))?;
+    let since = moment_of(alloc, matches.get_str("diff"))?;
+    let history = history_of(matches.get_str("history"));
+    let form = form_of(matches.get_count("html") > 0, matches.get_count("svg") > 0);
+    let look = Look {
+        joined: matches.get_count("joined") > 0,
+        colours: matches.get_count("colours") > 0,
     };
-    request.moment = moment;
-    Ok(at_place(Place::Any, request))
+    Ok(print_order(size, moment, since, history, form, look))
 }
 
-fn read_since(
-    alloc: Global,
-    mut request: Request,
-    word: &str,
-) -> Result<Option<Reader>, TextError> {
-    let Some(since) = seconds(alloc, word)? else {
-        return Ok(None);
-    };
-    request.since = Some(since);
-    Ok(at_place(Place::Any, request))
+fn print_order(
+    size: Option<Option<Size>>,
+    moment: Option<Option<u64>>,
+    since: Option<Option<u64>>,
+    history: Option<usize>,
+    form: Option<Form>,
+    look: Look,
+) -> Option<Order>
+    ensures { is_some result ≡ (is_some size && (is_some moment && (is_some since
+        && (is_some history && is_some form)))) }
+{
+    Some(Order::Print(Request {
+        size: size?,
+        moment: moment?.unwrap_or(END),
+        since: since?,
+        history: history?,
+        look,
+        form: form?,
+    }))
+}
+
+// A size: of rows and columns, or none where there is neither.
+fn size_of(rows: Option<&str>, cols: Option<&str>) -> Option<Option<Size>>
+    ensures { is_some result ≡ is_screen (option_map (λ w. w.now) rows.entry) (option_map (λ w. w.now) cols.entry) }
+{
+    match (rows, cols) {
+        (None, None) => Some(None),
+        (Some(rows), Some(cols)) => Some(Some(Size {
+            rows: parse_size(rows)?,
+            cols: parse_size(cols)?,
+        })),
+        _ => None,
+    }
+}
+
+// A time, or none where there is no word.
+fn moment_of(alloc: Global, word: Option<&str>) -> Result<Option<Option<u64>>, TextError>
+    ensures fault { IfErr result (λ e. e ≡ Memory) }
+    ensures moment { IfOk result (λ t. is_some t ≡ is_moment (option_map (λ w. w.now) word.entry)) }
+{
+    match word {
+        None => Ok(Some(None)),
+        Some(word) => Ok(time_of(alloc, word)?.map(Some)),
+    }
 }
 
 // A number of seconds, written as in JSON, in whole microseconds.
-fn seconds(alloc: Global, word: &str) -> Result<Option<u64>, TextError> {
-    let Some(number) = parse_json(alloc, word.as_bytes())? else {
-        return Ok(None);
-    };
-    Ok(microseconds(&number))
+fn time_of(alloc: Global, word: &str) -> Result<Option<u64>, TextError>
+    ensures fault { IfErr result (λ e. e ≡ Memory) }
+    ensures time { IfOk result (λ t. is_some t ≡ is_time (read_text word.now)) }
+{
+    match parse_text(alloc, word)? {
+        Some(number) => Ok(microseconds(&number)),
+        None => Ok(None),
+    }
+}
+
+fn history_of(word: Option<&str>) -> Option<usize>
+    ensures { is_some result ≡ option_map_or is_count (option_map (λ w. w.now) word.entry) true }
+{
+    match word {
+        None => Some(0),
+        Some(word) => parse_count(word),
+    }
+}
+
+fn form_of(html: bool, svg: bool) -> Option<Form>
+    ensures { is_some result ≡ not (html && svg) }
+{
+    match (html, svg) {
+        (false, false) => Some(Form::Text),
+        (true, false) => Some(Form::Html),
+        (false, true) => Some(Form::Svg),
+        (true, true) => None,
+    }
 }

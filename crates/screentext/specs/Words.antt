@@ -1,0 +1,92 @@
+-- The words of the command line.
+use Rattle.std.specs.Prelude.{ℕ, nat_lt, Bool, true, false, not, ◌&&◌, List, [], ◌∷◌, ◌++◌, Option, Some, None, codes}
+use Rattle.std.specs.List.{list_all, list_any}
+use Rattle.std.specs.Option.{option_map_or}
+use Rattle.std.specs.Float.{float_zero}
+use Rattle.std.specs.Float.Ieee.{lt}
+use Rattle.clap.specs.Words.{App, Kinds, Row, Rule, Text, count_of, fault_of, first_of, matches_of, new_app, new_rule, with_rule}
+use Rattle.clap.specs.declared.builder.ArgAction.TheVariants.{Count}
+use Rattle.clap.specs.declared.error.ErrorKind.{ErrorKind}
+use Rattle.clap.specs.declared.error.ErrorKind.TheVariants.{DisplayHelp, DisplayVersion}
+use Rattle.serde_json.specs.Data.{Data}
+use Rattle.serde_json.specs.Find.{as_number, to_float}
+use Rattle.serde_json.specs.Read.{read as read_text}
+use Rattle.command_line.specs.Numbers.{is_size, is_count}
+
+-- an option with a value
+abbrev pub value_rule : Text → Rule
+value_rule id = record (new_rule id) { long = Some id; value_names = 1 }
+
+-- an option without one
+abbrev pub flag_rule : Text → Rule
+flag_rule id = record (new_rule id) { long = Some id; action = Some Count }
+
+abbrev pub colours_rule : Rule
+colours_rule = record (flag_rule (codes "colours")) { aliases = codes "colors" ∷ [] }
+
+-- the program's name and version, with no words
+abbrev pub program : App
+program = let a = new_app (codes "screentext") in
+    record a { top = record a.top { has_version = true; no_binary_name = true; args_override_self = true } }
+
+abbrev pub with_values : App → App
+with_values a = with_rule (with_rule (with_rule (with_rule (with_rule a (new_rule (codes "ROWS"))) (new_rule (codes "COLS")))
+    (value_rule (codes "at"))) (value_rule (codes "diff"))) (value_rule (codes "history"))
+
+abbrev pub with_flags : App → App
+with_flags a = with_rule (with_rule (with_rule (with_rule a (flag_rule (codes "joined"))) colours_rule) (flag_rule (codes "html")))
+    (flag_rule (codes "svg"))
+
+-- what `clap` is told of `[ROWS COLS] [--at SECONDS] [--diff SECONDS] [--history N] [--joined] [--colours] [--html | --svg]`
+abbrev pub known : App
+known = with_flags (with_values program)
+
+-- both are numbers of rows and columns, or there is neither
+abbrev pub is_screen : Option Text → Option Text → Bool
+is_screen None None = true
+is_screen (Some rows) (Some cols) = is_size rows && is_size cols
+is_screen _ _ = false
+
+-- a number in JSON that isn't negative
+abbrev pub is_time : Option Data → Bool
+is_time json = option_map_or (λ value. option_map_or (λ n. not (lt (to_float n) float_zero)) (as_number value) false) json false
+
+abbrev pub is_moment : Option Text → Bool
+is_moment word = option_map_or (λ text. is_time (read_text text)) word true
+
+-- the values of the words that `clap` takes
+abbrev pub are_values : List Row → Bool
+are_values rows = is_screen (first_of (codes "ROWS") rows) (first_of (codes "COLS") rows)
+    && (is_moment (first_of (codes "at") rows) && (is_moment (first_of (codes "diff") rows)
+    && (option_map_or is_count (first_of (codes "history") rows) true
+    && not (nat_lt 0 (count_of (codes "html") rows) && nat_lt 0 (count_of (codes "svg") rows)))))
+
+abbrev pub is_request : ErrorKind → Bool
+is_request DisplayHelp = true
+is_request DisplayVersion = true
+is_request _ = false
+
+abbrev pub is_order_of : Kinds → List Row → Bool
+is_order_of [] rows = are_values rows
+is_order_of (k ∷ ks) rows = list_all is_request (k ∷ ks)
+
+abbrev pub is_refused_by : Kinds → List Row → Bool
+is_refused_by [] rows = not (are_values rows)
+is_refused_by (k ∷ ks) rows = not (list_any is_request (k ∷ ks))
+
+-- a screen, the help or the version is asked for
+abbrev pub is_order : List Text → Bool
+is_order words = is_order_of (fault_of known words) (matches_of known words)
+
+-- `clap` doesn't take the words, or their values have another form
+abbrev pub is_refused : List Text → Bool
+is_refused words = is_refused_by (fault_of known words) (matches_of known words)
+
+-- what words that aren't understood are told
+abbrev pub usage_line : List ℕ
+usage_line = codes "usage: screentext [ROWS COLS] [--at SECONDS] [--diff SECONDS] [--history N] [--joined] [--colours] [--html | --svg]"
+    ++ 0x0A ∷ []
+
+-- what is told where memory is refused
+abbrev pub memory_line : List ℕ
+memory_line = codes "screentext: memory" ++ 0x0A ∷ []
