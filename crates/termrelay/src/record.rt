@@ -1,9 +1,6 @@
 //! What a hub keeps of a client.
-ghost use Rattle.std.specs.Prelude.{◌≡◌, ℕ, ◌++◌, [], true, drop, length, nat_lt, Some, None, IfOk, OnOk, OnErr, Err};
+ghost use Rattle.std.specs.Prelude.{◌≡◌, ℕ, ◌++◌, [], true, drop, length, nat_lt, Some, None, IfOk, OnErr, Err};
 ghost use Rattle.std.specs.Option.{option_copied, option_map};
-ghost use Rattle.vt100_forms.specs.Form.{spell};
-ghost use Rattle.screen_drawing.specs.Modes.{input_mode_diff};
-ghost use Rattle.screen_drawing.specs.Screen.{contents_formatted, state_formatted, state_diff};
 ghost use Rattle.vt100_core.specs.Picture.{grid_size};
 ghost use Rattle.screen_model.specs.Shown.{shown_state};
 ghost use Rattle.vt100.specs.WriterLaws.{IsUnscrolled};
@@ -36,42 +33,6 @@ pub(crate) fn is_too_long(text: &[u8]) -> bool
     ensures { result ≡ nat_lt longest_frame (length text.now) }
 {
     text.len() > LONGEST_FRAME
-}
-
-/// Appends a redraw with the modes, which a terminal as new reads.
-fn push_state(text: &mut Vec<u8>, now: &Screen) -> Result<(), HubError>
-    requires { IsUnscrolled now.now.state }
-    ensures text { OnOk result (text.new.items ≡ text.old.items ++ spell (state_formatted
-        (grid_size now.now.state.shown) (shown_state now.now.state))) }
-    ensures memory { OnErr result (result ≡ Err Memory) }
-{
-    text.extend_from_slice(now.state_formatted()?.as_bytes())?;
-    Ok(())
-}
-
-/// Appends what changed since `base`.
-fn push_difference(text: &mut Vec<u8>, base: &Screen, now: &Screen) -> Result<(), HubError>
-    requires unscrolled { IsUnscrolled now.now.state }
-    requires base { IsBaseOf now.now base.now }
-    ensures text { OnOk result (text.new.items ≡ text.old.items ++ spell (state_diff
-        (grid_size now.now.state.shown) (shown_state base.now.state) (shown_state now.now.state))) }
-    ensures memory { OnErr result (result ≡ Err Memory) }
-{
-    text.extend_from_slice(now.state_diff(base)?.as_bytes())?;
-    Ok(())
-}
-
-/// Appends a redraw, and the modes that changed since `base`.
-fn push_redraw(text: &mut Vec<u8>, base: &Screen, now: &Screen) -> Result<(), HubError>
-    requires { IsUnscrolled now.now.state }
-    ensures text { OnOk result (text.new.items ≡ text.old.items ++ (spell (contents_formatted
-        (grid_size now.now.state.shown) (shown_state now.now.state))
-        ++ spell (input_mode_diff (shown_state base.now.state) (shown_state now.now.state)))) }
-    ensures memory { OnErr result (result ≡ Err Memory) }
-{
-    text.extend_from_slice(now.contents_formatted()?.as_bytes())?;
-    text.extend_from_slice(now.input_mode_diff(base)?.as_bytes())?;
-    Ok(())
 }
 
 /// What a hub keeps of a client.
@@ -170,27 +131,18 @@ impl Record {
     {
         let mut text = Vec::new(alloc);
         text.extend_from_slice(START_MARK)?;
-        self.push_body(&mut text, now, answer)?;
+        match self.base() {
+            None => text.extend_from_slice(now.state_formatted()?.as_bytes())?,
+            Some(base) if answer == Answer::Difference => {
+                text.extend_from_slice(now.state_diff(base)?.as_bytes())?;
+            }
+            Some(base) => {
+                text.extend_from_slice(now.contents_formatted()?.as_bytes())?;
+                text.extend_from_slice(now.input_mode_diff(base)?.as_bytes())?;
+            }
+        }
         text.extend_from_slice(END_MARK)?;
         Ok(text)
-    }
-
-    /// Appends what stands between the marks of the frame that is due.
-    fn push_body(&self, text: &mut Vec<u8>, now: &Screen, answer: Answer) -> Result<(), HubError>
-        requires unscrolled { IsUnscrolled now.now.state }
-        requires served { IsRecordOf now.now self.now }
-        requires due { answer ≡ due (grid_size now.now.state.shown) (shown_state now.now.state)
-            (client_of self.now).base }
-        requires frame { is_frame answer ≡ true }
-        ensures text { OnOk result (text.new.items ≡ text.old.items ++ spell (body_forms
-            (grid_size now.now.state.shown) (client_of self.now).base (shown_state now.now.state))) }
-        ensures memory { OnErr result (result ≡ Err Memory) }
-    {
-        match self.base() {
-            None => push_state(text, now),
-            Some(base) if answer == Answer::Difference => push_difference(text, base, now),
-            Some(base) => push_redraw(text, base, now),
-        }
     }
 
     /// From now on a frame's text is owed, and `base` is the screen at it.
