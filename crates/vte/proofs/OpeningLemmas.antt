@@ -19,10 +19,10 @@ use Rattle.vte_types.specs.declared.scp.ScpUpdateMode.{ScpUpdateMode}
 use Rattle.vte.specs.Sgr.{first}
 use Rattle.vte.specs.Escape.{calls_at, execute_rows, plain_escape_rows, hash_escape_rows, charset_index, charset_rows}
 use Rattle.vte.specs.Escape.{charset_calls, escape_calls}
-use Rattle.vte.specs.Csi.{number_or, identify_calls, counted_rows, repeat_calls, other_rows, place_rows, place_calls}
-use Rattle.vte.specs.Csi.{other_calls, counted_calls, plain_calls, question_rows, other_keys_rows, greater_rows}
+use Rattle.vte.specs.Csi.{number_or, identify_calls, counted_rows, repeat_calls, uncounted_rows, placing_rows}
+use Rattle.vte.specs.Csi.{uncounted_calls, counted_calls, plain_calls, question_rows, other_keys_rows, greater_rows}
 use Rattle.vte.specs.Csi.{scp_calls, style_rows, space_rows, question_dollar_rows, calls_by, marked_rows, csi_calls}
-use Rattle.vte.specs.Csi.{opens_group, opening_groups}
+use Rattle.vte.specs.Csi.{opens_group, opening_groups, placing_calls}
 use Rattle.vte.specs.Osc.{named, end_text, title_calls, colour_of_text, set_or_ask, colour_calls, byte_number}
 use Rattle.vte.specs.Osc.{pair_calls, pairs_calls, palette_calls, link_calls, two_digits, dynamic_calls, icon_calls}
 use Rattle.vte.specs.Osc.{shape_rows, shape_calls, cursor_calls, clipboard_calls, index_resets, all_resets, reset_calls}
@@ -109,21 +109,21 @@ repeat_quiet None n = refl
 repeat_quiet (Some x) zero = refl
 repeat_quiet (Some x) (suc n) = repeat_quiet (Some x) n
 
-place_quiet : (o : Option (List (List ℕ) → Call)) (gs : List (List ℕ)) → IfSome o (λ c. is_opening (c gs) ≡ false)
-    → Quiet (place_calls o gs)
-place_quiet None gs h = refl
-place_quiet (Some c) gs h = rw h refl
+placing_quiet : (o : Option (List (List ℕ) → Call)) (gs : List (List ℕ)) → IfSome o (λ c. is_opening (c gs) ≡ false)
+    → Quiet (placing_calls o gs)
+placing_quiet None gs h = refl
+placing_quiet (Some c) gs h = rw h refl
 
-other_quiet : (o : Option (Option ℕ → List (List ℕ) → List Call)) (last : Option ℕ) (gs : List (List ℕ)) (f : ℕ)
-    → IfSome o (λ c. Quiet (c last gs)) → Quiet (other_calls o last gs f)
-other_quiet None last gs f h = place_quiet (lookup f place_rows) gs
-    (found (λ k c. is_opening (c gs) ≡ false) f place_rows search)
-other_quiet (Some c) last gs f h = h
+uncounted_quiet : (o : Option (Option ℕ → List (List ℕ) → List Call)) (last : Option ℕ) (gs : List (List ℕ)) (f : ℕ)
+    → IfSome o (λ c. Quiet (c last gs)) → Quiet (uncounted_calls o last gs f)
+uncounted_quiet None last gs f h = placing_quiet (lookup f placing_rows) gs
+    (found (λ k c. is_opening (c gs) ≡ false) f placing_rows search)
+uncounted_quiet (Some c) last gs f h = h
 
 counted_quiet : (o : Option (ℕ → Call)) (last : Option ℕ) (gs : List (List ℕ)) (f : ℕ)
     → IfSome o (λ c. is_opening (c (number_or 1 gs)) ≡ false) → Quiet (counted_calls o last gs f)
-counted_quiet None last gs f h = other_quiet (lookup f other_rows) last gs f
-    (found (λ k c. Quiet (c last gs)) f other_rows (search (quiet_at, quiet_map, repeat_quiet)))
+counted_quiet None last gs f h = uncounted_quiet (lookup f uncounted_rows) last gs f
+    (found (λ k c. Quiet (c last gs)) f uncounted_rows (search (quiet_at, quiet_map, repeat_quiet)))
 counted_quiet (Some c) last gs f h = rw h refl
 
 plain_quiet : (last : Option ℕ) (gs : List (List ℕ)) (f : ℕ) → Quiet (plain_calls last gs f)

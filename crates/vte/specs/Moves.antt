@@ -1,5 +1,5 @@
 -- What a processor is given, one after another: pieces of the stream, and stops by hand.
-use Rattle.std.specs.Prelude.{ℕ, Bool, false, List, [], ◌∷◌, ◌++◌}
+use Rattle.std.specs.Prelude.{ℕ, false, List, [], ◌∷◌, ◌++◌}
 use Rattle.vte_types.specs.Call.{Call}
 use Rattle.vte.specs.Timeout.{Ticking, Clears, Ticked}
 use Rattle.vte.specs.Stretch.{calls_from, ticks_from}

@@ -64,11 +64,7 @@ impl UntilCleared {
 }
 
 impl Timeout for UntilCleared {
-    ghost sets = { λ _ _ _. ⊤ };
-
-    ghost clears = { λ _ _. ⊤ };
-
-    ghost answers = { λ _ _. ⊤ };
+    ghost ticking = { record { sets = λ _ _ _. ⊤; clears = λ _ _. ⊤; answers = λ _ _. ⊤ } };
 
     fn set_timeout(&mut self, _duration: Duration) {
         self.pending = true;
@@ -101,11 +97,7 @@ pub fn feed(processor: &mut Processor, log: &mut Log, piece: &[u8]) {
 pub struct Flagged<'a>(pub &'a Cell<bool>);
 
 impl<'a> Timeout for Flagged<'a> {
-    ghost sets = { λ _ _ _. ⊤ };
-
-    ghost clears = { λ _ _. ⊤ };
-
-    ghost answers = { λ _ _. ⊤ };
+    ghost ticking = { record { sets = λ _ _ _. ⊤; clears = λ _ _. ⊤; answers = λ _ _. ⊤ } };
 
     fn set_timeout(&mut self, _duration: Duration) {
         self.0.set(true);

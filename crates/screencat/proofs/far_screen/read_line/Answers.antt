@@ -20,7 +20,7 @@ loop-bytes-preserved c =
     let rest = c.next.new.self.rest.now in
     record {
       past = so_far.past ++ piece ∷ [];
-      led = led_on _ _ c.args.view.now c.loop-bytes.view c.advance.new.self so_far.past piece so_far.led
+      led = led_on c.args.view.now c.loop-bytes.view c.advance.new.self so_far.past piece so_far.led
           (λ parsed hold at. c.advance.ensures.exact parsed hold c.until_cleared_is_exact.ensures at);
       follows = so_far.follows ∙ ap (λ xs. concat so_far.past ++ xs) (c.in-Some.ensures.steps.1.0)
           ∙ sym (append_assoc (concat so_far.past) piece rest)
