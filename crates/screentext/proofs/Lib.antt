@@ -1,3 +1,4 @@
+mod KindLemmas
 mod MomentLemmas
 mod PageLemmas
 mod SafeLemmas

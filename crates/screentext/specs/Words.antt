@@ -1,6 +1,5 @@
 -- The words of the command line.
 use Rattle.std.specs.Prelude.{ℕ, nat_lt, Bool, true, false, not, ◌&&◌, List, [], ◌∷◌, ◌++◌, Option, Some, None, codes}
-use Rattle.std.specs.List.{list_all, list_any}
 use Rattle.std.specs.Option.{option_map_or}
 use Rattle.std.specs.Float.{float_zero}
 use Rattle.std.specs.Float.Ieee.{lt}
@@ -68,19 +67,12 @@ is_request _ = false
 
 abbrev pub is_order_of : Kinds → List Row → Bool
 is_order_of [] rows = are_values rows
-is_order_of (k ∷ ks) rows = list_all is_request (k ∷ ks)
+is_order_of (k ∷ ks) rows = is_request k
 
-abbrev pub is_refused_by : Kinds → List Row → Bool
-is_refused_by [] rows = not (are_values rows)
-is_refused_by (k ∷ ks) rows = not (list_any is_request (k ∷ ks))
-
--- a screen, the help or the version is asked for
+-- `clap` takes the words, and their values have the right form; or the first of its errors, which is the only one, is
+-- that the help or the version is asked for
 abbrev pub is_order : List Text → Bool
 is_order words = is_order_of (fault_of known words) (matches_of known words)
-
--- `clap` doesn't take the words, or their values have another form
-abbrev pub is_refused : List Text → Bool
-is_refused words = is_refused_by (fault_of known words) (matches_of known words)
 
 -- what words that aren't understood are told
 abbrev pub usage_line : List ℕ

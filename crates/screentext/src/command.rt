@@ -1,8 +1,8 @@
 //! The command line.
 
-ghost use Rattle.std.specs.Prelude.{◌≡◌, ◌≤◌, ◌⊎◌, map, true};
+ghost use Rattle.std.specs.Prelude.{◌≡◌, ◌≤◌, ◌⊎◌, map, true, false};
 ghost use Rattle.takers.specs.Pump.{Tells};
-ghost use Rattle.screentext.specs.Words.{is_order, is_refused, memory_line, usage_line};
+ghost use Rattle.screentext.specs.Words.{is_order, memory_line, usage_line};
 ghost use Rattle.screentext.specs.declared.error.TextError.TheVariants.{Memory};
 
 use crate::answer::answer_of;
@@ -34,7 +34,7 @@ pub(crate) fn command<R: Read, W: Sink, V: Taker>(
     output: &mut W,
     errors: &mut V,
 ) -> u8
-    ensures refused { is_refused (map (λ w. w.now) words.now) ≡ true → (input.new ≡ input.old)
+    ensures refused { is_order (map (λ w. w.now) words.now) ≡ false → (input.new ≡ input.old)
         × (output.new ≡ output.old) × (((result ≡ 2) × Tells V.takes errors.old usage_line errors.new)
         ⊎ ((result ≡ 1) × Tells V.takes errors.old memory_line errors.new)) }
     ensures understood { is_order (map (λ w. w.now) words.now) ≡ true → result ≤ 1 }

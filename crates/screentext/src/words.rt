@@ -7,7 +7,7 @@ ghost use Rattle.clap.specs.declared.error.ErrorKind.TheVariants.{OutOfMemory};
 ghost use Rattle.command_line.specs.Numbers.{is_count};
 ghost use Rattle.serde_json.specs.Read.{read as read_text};
 ghost use Rattle.screentext.specs.declared.error.TextError.TheVariants.{Memory};
-ghost use Rattle.screentext.specs.Words.{are_values, is_moment, is_order, is_refused, is_request, is_screen, is_time};
+ghost use Rattle.screentext.specs.Words.{are_values, is_moment, is_order, is_request, is_screen, is_time};
 
 use crate::cast::{Size, microseconds, parse_text};
 use crate::error::TextError;
@@ -66,8 +66,7 @@ pub(crate) struct Request {
 /// Reads the words. Words that aren't understood are no order, and the only fault is that memory is refused.
 pub(crate) fn parse(alloc: Global, words: &[&str]) -> Result<Option<Order>, TextError>
     ensures fault { IfErr result (λ e. e ≡ Memory) }
-    ensures refused { is_refused (map (λ w. w.now) words.now) ≡ true → IfOk result (λ o. is_some o ≡ false) }
-    ensures ordered { is_order (map (λ w. w.now) words.now) ≡ true → IfOk result (λ o. is_some o ≡ true) }
+    ensures order { IfOk result (λ o. is_some o ≡ is_order (map (λ w. w.now) words.now)) }
 {
     match known_words(alloc)?.try_get_matches_from(words) {
         Ok(matches) => order_of(alloc, &matches),
