@@ -29,7 +29,7 @@ use Rattle.vt100.specs.WriterLaws.{IsUnscrolled, EachRedrawIsOfShown}
 use Rattle.vt100.specs.WriterLaws.{EachDifferenceIsOfShown, EachScreenIsDrawable, EachRedrawLeads}
 use Rattle.vt100.specs.WriterLaws.{EachDifferenceLeads}
 
-grid-unscrolled : (s : State) → IsUnscrolled s → core.IsUnscrolled s.shown
+grid-unscrolled : (s : State) → IsUnscrolled s → core.IsUnscrolledGrid s.shown
 grid-unscrolled s h = record { grid = h.state.shown; some = h.state.drawn; offset = h.offset }
 
 pub cells-are : (s : State) → IsUnscrolled s → visible_lines s.shown ≡ lines_of s.shown.rows
