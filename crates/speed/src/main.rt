@@ -1,0 +1,59 @@
+//! Does one kind of work on a stream again and again, so that it can be timed from outside: `speed WORK ROWS COLS TIMES`,
+//! with the stream on standard input. What it prints is a count that depends on all that was done.
+//!
+//! - `events`: `vte_core` cuts the stream into events, which are counted, a text by its length.
+//! - `calls`: `vte` makes the calls of a handler of it, which are counted.
+//! - `screen`: a terminal's screen reads it, from the blank screen on.
+//! - `view`: a far terminal reads it.
+//! - `redraw`: the screen that it leaves is written whole.
+//! - `difference`: what its last 2,000 bytes have changed is written.
+//! - `same`: the screen that it leaves is compared with itself, and the difference, which is nothing, is written.
+//! - `row`: a row is written over, and what has changed since is written.
+//! - `unchanged`: a hub that has sent its screen is asked for a frame.
+//! - `frame`: a row is written over, and the client's frame, a difference, is made and sent.
+//! - `client`: a new client is sent its first frame.
+//!
+//! The first four read the whole stream each time; the others read it once. `all` is one after another.
+#![tactic(auto)]
+
+mod counting;
+mod work;
+
+use anyhow::bail;
+use command_line::{lend, parse_count, parse_size, words_of};
+use std::env;
+use std::io::Read;
+use work::{Job, WORKS};
+
+fn main(rt: HostRuntime) -> anyhow::Result<()> {
+    let alloc = rt.alloc();
+    let words = words_of(alloc, env::args(&rt))?;
+    let words = lend(alloc, &words)?;
+    let [work, rows, cols, times] = words.as_slice() else {
+        bail!("usage: speed WORK ROWS COLS TIMES");
+    };
+    let (Some(rows), Some(cols), Some(times)) = (
+        parse_size(rows),
+        parse_size(cols),
+        parse_count(times),
+    ) else {
+        bail!("usage: speed WORK ROWS COLS TIMES");
+    };
+    let mut stream = Vec::new(alloc);
+    rt.stdin().read_to_end(&mut stream)?;
+    let job = Job {
+        alloc,
+        rows,
+        cols,
+        times,
+        stream: &stream,
+    };
+    if *work == "all" {
+        for work in WORKS {
+            println!(rt; "{work} {}", job.count(work)?)?;
+        }
+    } else {
+        println!(rt; "{}", job.count(work)?)?;
+    }
+    Ok(())
+}
