@@ -1,6 +1,6 @@
 //! Edits of the cells of one line.
 ghost use Rattle.std.specs.Prelude.{◌≡◌, ℕ, ◌+◌, ◌-◌, ◌<◌, ◌≤◌, ◌==◌, List, length, Some, true, false, not, ◌&&◌};
-ghost use Rattle.std.specs.Prelude.{slice_set, All, slice_index, IsTrue};
+ghost use Rattle.std.specs.Prelude.{slice_set, All, slice_index, IsTrue, replicate};
 ghost use Rattle.vt100_cells.specs.Cell.{CellView, IsCell, has_text, is_filled, drawn_columns, cell_of, empty_cell};
 ghost use Rattle.vt100_cells.specs.Cell.{IsPrintable, cell_eq};
 ghost use Rattle.vt100_cells.specs.Line.{IsPaired, span_of, update, put, put_unflags, base_col, pair_wiped, wiped};
@@ -176,6 +176,15 @@ fn clear_right(cells: &mut [Cell], e: usize)
     }
 }
 
+/// Puts `cell` at each column.
+// A copy of the whole cell is two stores; where LLVM sees the cell made of its parts it is seven.
+#[inline(never)]
+pub fn fill(cells: &mut [Cell], cell: Cell)
+    ensures { cells.new ≡ replicate (length cells.old) cell }
+{
+    cells.fill(cell);
+}
+
 /// Empties the columns from `s` up to `e`, with these attributes, and the halves of wide characters that are left.
 pub fn wipe(cells: &mut [Cell], s: usize, e: usize, attrs: Attrs)
     requires some { s < e }
@@ -185,7 +194,7 @@ pub fn wipe(cells: &mut [Cell], s: usize, e: usize, attrs: Attrs)
 {
     clear_left(cells, s);
     clear_right(cells, e);
-    cells[s..e].fill(Cell::empty(attrs));
+    fill(&mut cells[s..e], Cell::empty(attrs));
 }
 
 /// Whether erasing the columns from `s` up to `e` empties the last one.
@@ -265,7 +274,7 @@ fn shift_right(cells: &mut [Cell], i: usize, count: usize)
     ensures { cells.new ≡ by_position (length cells.old) (shifted_right (cell_at cells.old) i count) }
 {
     cells[i..].rotate_right(count);
-    cells[i..i + count].fill(Cell::new());
+    fill(&mut cells[i..i + count], Cell::new());
 }
 
 /// Empties a wide character whose second half has fallen off the end.
@@ -319,7 +328,7 @@ fn shift_left(cells: &mut [Cell], s: usize, n: usize)
     requires { s + n ≤ length cells.old }
     ensures { cells.new ≡ by_position (length cells.old) (shifted_left (length cells.old) (cell_at cells.old) s n) }
 {
-    cells[s..s + n].fill(Cell::new());
+    fill(&mut cells[s..s + n], Cell::new());
     cells[s..].rotate_left(n);
 }
 
