@@ -14,3 +14,4 @@ pub mod TrimLemmas
 pub mod JoinedCells
 pub mod CellTexts
 pub mod RunLemmas
+pub mod WideScripts
