@@ -11,10 +11,10 @@ use Rattle.std.proofs.lemmas.List.Elements.{All-append, Contains-append_left, Co
 use Rattle.std.proofs.lemmas.Str.{encode_ascii}
 use Rattle.unicode_width.specs.Width.{str_width}
 use Rattle.vt100_forms.specs.declared.attrs.Attrs.{Attrs}
-use Rattle.vt100_cells.proofs.WidthLemmas.{space_is_narrow, space_is_drawn, drawn-is, printable-is}
+use Rattle.vt100_cells.proofs.WidthLemmas.{space_is_narrow, space_is_drawn, drawn-is, printable-is, wide_space_is_drawn}
 use Rattle.vt100_cells.specs.Cell.{CellView, IsCell, IsCellText, IsShort, IsWideAs, columns_of, is_undrawable}
 use Rattle.vt100_cells.specs.Cell.{drawn_columns, has_room, empty_cell, continuation_cell, cell_of, text_with}
-use Rattle.vt100_cells.specs.Cell.{is_widened_by, appended, appended_plain, IsPrintable}
+use Rattle.vt100_cells.specs.Cell.{is_widened_by, appended, appended_plain, IsPrintable, IsWide}
 
 -- ---- each kind of cell
 
@@ -202,3 +202,21 @@ replaced-is x t c a e p et =
 pub IsCell-replaced : (x : CellView) (t : List ℕ) (c : ℕ) (a : Attrs) → x ≡ cell_of 32 a → IsPrintable c → t ≡ c ∷ []
     → IsCell (record { text = t; wide = x.wide; continuation = x.continuation; attrs = x.attrs })
 IsCell-replaced x t c a e p et = rw (replaced-is x t c a e p et) (IsCell-printable c a p)
+
+-- an ideographic space's cell with another wide character
+pub wide_replaced-is : (x : CellView) (t : List ℕ) (c : ℕ) (a : Attrs) → x ≡ cell_of 0x3000 a → IsWide c → t ≡ c ∷ []
+    → record { text = t; wide = x.wide; continuation = x.continuation; attrs = x.attrs } ≡ cell_of c a
+wide_replaced-is x t c a e p et =
+    let w = ap (λ (y : CellView). y.wide) e
+    ∙ ap (λ n. n == 2) ((drawn-is 0x3000 2 wide_space_is_drawn).1 ∙ sym (drawn-is c 2 p).1) in
+    let q = ap (λ (y : CellView). y.continuation) e in
+    let b = ap (λ (y : CellView). y.attrs) e in
+    λ i. record { text = et i; wide = w i; continuation = q i; attrs = b i }
+
+pub IsCell-wide : (c : ℕ) (a : Attrs) → IsScalar c → IsWide c → IsCell (cell_of c a)
+IsCell-wide c a s p = let d = drawn-is c 2 p in IsCell-of c a s d.0 (omega (arith, d.1))
+
+pub IsCell-wide_replaced : (x : CellView) (t : List ℕ) (c : ℕ) (a : Attrs) → x ≡ cell_of 0x3000 a → IsScalar c
+    → IsWide c → t ≡ c ∷ []
+    → IsCell (record { text = t; wide = x.wide; continuation = x.continuation; attrs = x.attrs })
+IsCell-wide_replaced x t c a e s p et = rw (wide_replaced-is x t c a e p et) (IsCell-wide c a s p)

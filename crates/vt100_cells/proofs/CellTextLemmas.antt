@@ -3,9 +3,9 @@ use Rattle.std.proofs.Common.{◌≡◌, ℕ, zero, suc, ◌+◌, ◌-◌, ◌<�
 use Rattle.std.proofs.Common.{length, take}
 use Rattle.std.proofs.Common.{take_all, drop, set, replicate, sym, refl, ap, ◌∙◌, arith, length-append, length-take}
 use Rattle.std.proofs.Common.{length-drop}
-use Rattle.std.proofs.Common.{nat_eq, nat_lt, rules, append-nil}
-use Rattle.std.specs.Prelude.{encode_utf8_all, encode_utf8, chars, IsUtf8, slice_index}
-use Rattle.std.specs.Char.{IsScalar}
+use Rattle.std.proofs.Common.{nat_eq, nat_lt, rules, append-nil, ◌/◌, ◌%◌}
+use Rattle.std.specs.Prelude.{encode_utf8_all, chars, IsUtf8, slice_index}
+use Rattle.std.specs.Char.{IsScalar, encode_utf8}
 use Rattle.std.specs.Str.{IsAscii}
 use Rattle.std.proofs.lemmas.Bool.{ltb-true, and_parts, eqb-true, eq-eqb}
 use Rattle.std.proofs.lemmas.Cmp.{nat_list_eq_equiv}
@@ -14,7 +14,7 @@ use Rattle.vt100_cells.specs.CellEq.{text_eq-true}
 use Rattle.std.proofs.lemmas.Bool.Decides.{nat_tests}
 use Rattle.std.proofs.lemmas.List.{drop-drop, drop-replicate, take-take}
 use Rattle.std.proofs.lemmas.Str.{IsUtf8-had, chars-append, IsUtf8-append, chars-encodes, length-encode}
-use Rattle.std.proofs.lemmas.Str.{len_utf8_bounds, IsUtf8-from_ascii, chars-IsAscii, encode_ascii}
+use Rattle.std.proofs.lemmas.Str.{len_utf8_bounds, IsUtf8-from_ascii, chars-IsAscii, encode_ascii, IsUtf8-encode}
 use Rattle.std.proofs.lemmas.Slice.{take-put_mid, drop-put_mid}
 use borrow.Rule.Slice.PartMut.{put_mid}
 use Rattle.vt100_cells.specs.declared.cell_text.CellText.TheInside.{Inside}
@@ -105,6 +105,70 @@ IsText-replaced t c h e l = rw (space-fields t h e) (IsText-ascii c l)
 pub text_of-replaced : (t : Inside) (c : ℕ) → IsText t → text_of t ≡ 32 ∷ [] → c < 128
     → text_of (record { bytes = set t.bytes 0 c; len = t.len }) ≡ c ∷ []
 text_of-replaced t c h e l = rw (space-fields t h e) (text_of-ascii c l)
+
+-- ---- one character of three bytes
+
+encode-three : (c : ℕ) → 0x800 ≤ c → c < 0x1_0000
+    → encode_utf8 c ≡ (224 + c / 4096) ∷ (128 + c / 64 % 64) ∷ (128 + c % 64) ∷ []
+unfolding encode_utf8
+encode-three c l h = grind (arith, nat_tests)
+
+IsText-none : IsText (record { bytes = replicate 21 0; len = 0 })
+IsText-none = record {
+  fits = omega arith;
+  whole = refl;
+  utf8 = ∣ IsUtf8-from_ascii [] (λ i. omega arith) ∣₁;
+  zeros = refl;
+}
+
+text_of-none : text_of (record { bytes = replicate 21 0; len = 0 }) ≡ []
+text_of-none = chars-encodes [] refl
+
+IsText-three : (c : ℕ) → IsScalar c → 0x800 ≤ c → c < 0x1_0000
+    → IsText (record {
+      bytes = (224 + c / 4096) ∷ (128 + c / 64 % 64) ∷ (128 + c % 64) ∷ replicate 18 0;
+      len = 3;
+    })
+IsText-three c s l h =
+    let e = encode-three c l h in
+    IsText-push (record { bytes = replicate 21 0; len = 0 }) [] 3 3
+    ((224 + c / 4096) ∷ (128 + c / 64 % 64) ∷ (128 + c % 64) ∷ []) c IsText-none text_of-none refl (sym e)
+    (sym (ap length e)) refl (IsUtf8-encode c s)
+
+text_of-three : (c : ℕ) → IsScalar c → 0x800 ≤ c → c < 0x1_0000
+    → text_of (record {
+      bytes = (224 + c / 4096) ∷ (128 + c / 64 % 64) ∷ (128 + c % 64) ∷ replicate 18 0;
+      len = 3;
+    }) ≡ c ∷ []
+text_of-three c s l h =
+    let e = encode-three c l h in
+    text_of-push (record { bytes = replicate 21 0; len = 0 }) [] 3 3
+    ((224 + c / 4096) ∷ (128 + c / 64 % 64) ∷ (128 + c % 64) ∷ []) c IsText-none text_of-none refl (sym e)
+    (sym (ap length e)) refl s
+
+-- an ideographic space is replaced
+wide_space-fields : (t : Inside) → IsText t → text_of t ≡ 0x3000 ∷ []
+    → t ≡ record { bytes = 227 ∷ 128 ∷ 128 ∷ replicate 18 0; len = 3 }
+wide_space-fields t h e =
+    let one : encode_utf8_all (0x3000 ∷ []) ≡ 227 ∷ 128 ∷ 128 ∷ [] =
+    ap (λ bs. bs ++ []) (encode-three 0x3000 (omega arith) (omega arith)) in
+    sym (fields_of-text_of t h) ∙ ap fields_of e ∙ ap (λ bs.
+    record { bytes = bs ++ replicate (21 - length bs) 0; len = length bs }) one
+
+pub IsText-wide : (t : Inside) (c : ℕ) → IsText t → text_of t ≡ 0x3000 ∷ [] → IsScalar c → 0x800 ≤ c → c < 0x1_0000
+    → IsText (record {
+      bytes = set (set (set t.bytes 0 (224 + c / 4096)) 1 (128 + c / 64 % 64)) 2 (128 + c % 64);
+      len = t.len;
+    })
+IsText-wide t c h e s l u = rw (wide_space-fields t h e) (IsText-three c s l u)
+
+pub text_of-wide : (t : Inside) (c : ℕ) → IsText t → text_of t ≡ 0x3000 ∷ [] → IsScalar c → 0x800 ≤ c
+    → c < 0x1_0000
+    → text_of (record {
+      bytes = set (set (set t.bytes 0 (224 + c / 4096)) 1 (128 + c / 64 % 64)) 2 (128 + c % 64);
+      len = t.len;
+    }) ≡ c ∷ []
+text_of-wide t c h e s l u = rw (wide_space-fields t h e) (text_of-three c s l u)
 
 -- texts are the same where their fields are
 pub same-fields : (t u : Inside) → IsText t → IsText u

@@ -14,3 +14,5 @@ pub mod TrimLemmas
 pub mod JoinedCells
 pub mod CellTexts
 pub mod RunLemmas
+pub mod PairLemmas
+pub mod WideScripts

@@ -73,7 +73,7 @@ run-read : (f : ℕ → CellView) (i e : ℕ) (ts : List ℕ) (a : Attrs) (k : �
     (right_spaced (left_cleared f i) e a k) ≡ printed_run f i ts a k
 run-read f i e ts a k h q = grind (arith, nat_tests)
 
-written-read : (zs ws : List CellView) (i m k : ℕ) → i + m ≤ length zs → k < length zs → length ws ≡ m
+pub written-read : (zs ws : List CellView) (i m k : ℕ) → i + m ≤ length zs → k < length zs → length ws ≡ m
     → cell_at (put_mid i m zs ws) k ≡ cond (nat_le i k && nat_lt k (i + m)) (cell_at ws (k - i)) (cell_at zs k)
 written-read zs ws i m k h l e = grind (arith, places, nat_tests)
 

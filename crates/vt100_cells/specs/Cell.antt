@@ -34,6 +34,10 @@ drawn_columns c = if is_undrawable c then None else Some (columns_of c)
 abbrev pub IsPrintable : ℕ → Type 0
 IsPrintable c = (32 ≤ c) × (c < 127)
 
+-- a character that takes two columns
+abbrev pub IsWide : ℕ → Type 0
+IsWide c = drawn_columns c ≡ Some 2
+
 -- ---- cells
 
 -- an empty cell with these attributes

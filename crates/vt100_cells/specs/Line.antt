@@ -1,6 +1,6 @@
 -- Edits of a line of cells: f gives the cell at each column, and each definition says what then stands at column k.
-use Rattle.std.specs.Prelude.{ℕ, ◌+◌, ◌-◌, ◌≤◌, ◌≡◌, ◌==◌, Bool, true, false, ◌&&◌, ◌||◌, nat_lt, nat_le, if◌then◌else◌}
-use Rattle.std.specs.Prelude.{List, length, slice_index}
+use Rattle.std.specs.Prelude.{ℕ, ◌+◌, ◌-◌, ◌≤◌, ◌≡◌, ◌==◌, Bool, true, false, not, ◌&&◌, ◌||◌, nat_lt, nat_le, if◌then◌else◌}
+use Rattle.std.specs.Prelude.{List, [], ◌∷◌, length, slice_index, slice_index_or, ◌*◌}
 use Rattle.vt100_forms.specs.declared.attrs.Attrs.{Attrs}
 use Rattle.vt100_cells.specs.Cell.{CellView, default_cell, empty_cell, continuation_cell, cell_of}
 
@@ -64,6 +64,26 @@ printed_run f i xs a k =
     else if nat_lt 0 (length xs) && (((k + 1) == i) && (f k).wide) then empty_cell (f k).attrs
     else if nat_lt 0 (length xs) && ((k == (i + length xs)) && (f k).continuation) then cell_of 32 a
     else f k
+
+-- the cells of the characters xs, which take two columns each
+abbrev pub pairs_of : List ℕ → Attrs → List CellView
+pairs_of [] a = []
+pairs_of (x ∷ xs) a = cell_of x a ∷ continuation_cell ∷ pairs_of xs a
+
+-- these are put from i on, and what they cover goes, as one character does. A wide cell whose second half stood at i is
+-- empty and keeps its own attributes; the second half of a wide cell whose first half they cover is empty with the
+-- attributes a.
+abbrev pub printed_pairs : (ℕ → CellView) → ℕ → List ℕ → Attrs → ℕ → CellView
+printed_pairs f i xs a k =
+    if nat_le i k && nat_lt k (i + 2 * length xs) then slice_index_or (pairs_of xs a) (k - i) default_cell
+    else if nat_lt 0 (length xs) && (((k + 1) == i) && (f k).wide) then empty_cell (f k).attrs
+    else if nat_lt 0 (length xs) && ((k == (i + 2 * length xs)) && (f k).continuation) then empty_cell a
+    else f k
+
+-- whether that empties the last of n columns
+abbrev pub pairs_unflag : ℕ → (ℕ → CellView) → ℕ → List ℕ → Bool
+pairs_unflag n f i xs =
+    not (length xs == 0) && (((i + 2 * length xs + 1) == n) && (f (i + 2 * length xs)).continuation)
 
 -- the columns from s up to e are empty with the attributes a, and so is each half that is left of a wide cell at
 -- either side, with its own

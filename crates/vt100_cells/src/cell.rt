@@ -1,6 +1,7 @@
 //! One cell of a terminal.
 ghost use Rattle.std.specs.Prelude.{◌≡◌, ℕ, ◌+◌, ◌-◌, ◌<◌, ◌≤◌, ◌↔◌, ◌==◌, List, [], ◌∷◌, ◌++◌, length, IsTrue, true};
 ghost use Rattle.std.specs.Prelude.{false, not, nat_eq, nat_lt, encode_utf8_all, chars};
+ghost use Rattle.std.specs.Char.{IsScalar};
 ghost use Rattle.vt100_forms.specs.Attrs.{attrs_eq, is_bold, is_dim, is_italic, is_underlined, is_inverse};
 ghost use Rattle.vt100_cells.specs.Cell.{IsCell, cell_eq};
 
@@ -87,7 +88,7 @@ impl Cell {
     ghost use Rattle.std.specs.Prelude.{Some};
     ghost use Rattle.vt100_cells.specs.Cell.{empty_cell, default_cell, continuation_cell, cell_of, appended};
     ghost use Rattle.vt100_cells.specs.Cell.{appended_plain, drawn_columns, has_room};
-    ghost use Rattle.vt100_cells.specs.Cell.{has_text, is_default, IsPrintable};
+    ghost use Rattle.vt100_cells.specs.Cell.{has_text, is_default, IsPrintable, IsWide};
     ghost use Rattle.vt100_cells.specs.CellFields.{cell_start_eq, is_short};
 
     /// A cell that shows nothing, with default attributes.
@@ -154,6 +155,17 @@ impl Cell {
         ensures { self.new ≡ cell_of c self.old.attrs }
     {
         self.text.replace_by_ascii(c);
+    }
+
+    /// Puts the wide character `c` in place of an ideographic space.
+    #[inline]
+    pub(crate) fn replace_by_wide(&mut self, c: char)
+        requires space { self.old ≡ cell_of 0x3000 self.old.attrs }
+        requires wide { IsWide c }
+        ensures value { self.new ≡ cell_of c self.old.attrs }
+        ensures character { IsScalar c }
+    {
+        self.text.replace_by_wide(c);
     }
 
     /// Whether the text takes one more zero-width character. For rows alone.

@@ -116,6 +116,23 @@ impl CellText {
         self.bytes[0] = c;
     }
 
+    /// Puts the wide character `c` in place of an ideographic space.
+    #[inline]
+    pub(crate) fn replace_by_wide(&mut self, c: char)
+        requires space { self.old ≡ 0x3000 ∷ [] }
+        ensures { self.new ≡ c ∷ [] }
+    {
+        let code = c as u32;
+        if code >= 0x800 && code < 0x1_0000 {
+            // Three bytes, as the space has. Nearly all wide characters are such.
+            self.bytes[0] = (0xE0 + code / 4096) as u8;
+            self.bytes[1] = (0x80 + code / 64 % 64) as u8;
+            self.bytes[2] = (0x80 + code % 64) as u8;
+        } else {
+            *self = CellText::of_char(c);
+        }
+    }
+
     pub(crate) fn is_empty(&self) -> bool
         ensures { result ≡ (length self.now == 0) }
     {

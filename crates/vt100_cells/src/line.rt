@@ -1,11 +1,12 @@
 //! Edits of the cells of one line.
-ghost use Rattle.std.specs.Prelude.{◌≡◌, ℕ, ◌+◌, ◌-◌, ◌<◌, ◌≤◌, ◌==◌, List, length, Some, true, false, not, ◌&&◌};
-ghost use Rattle.std.specs.Prelude.{slice_set, All, slice_index, IsTrue};
+ghost use Rattle.std.specs.Prelude.{◌≡◌, ℕ, ◌+◌, ◌-◌, ◌*◌, ◌<◌, ◌≤◌, ◌==◌, List, length, Some, true, false, not, ◌&&◌};
+ghost use Rattle.std.specs.Prelude.{slice_set, All, slice_index, IsTrue, replicate};
 ghost use Rattle.vt100_cells.specs.Cell.{CellView, IsCell, has_text, is_filled, drawn_columns, cell_of, empty_cell};
-ghost use Rattle.vt100_cells.specs.Cell.{IsPrintable, cell_eq};
+ghost use Rattle.std.specs.Char.{IsScalar};
+ghost use Rattle.vt100_cells.specs.Cell.{IsPrintable, IsWide, cell_eq};
 ghost use Rattle.vt100_cells.specs.Line.{IsPaired, span_of, update, put, put_unflags, base_col, pair_wiped, wiped};
 ghost use Rattle.vt100_cells.specs.Line.{wipe_unflags, cut, opened, closed, left_cleared, right_cleared, shifted_right};
-ghost use Rattle.vt100_cells.specs.Line.{mended, shifted_left, printed_run};
+ghost use Rattle.vt100_cells.specs.Line.{mended, shifted_left, printed_run, pairs_of, printed_pairs, pairs_unflag};
 ghost use Rattle.vt100_cells.specs.Cells.{AreSame, cell_at, by_position, last_cell, inserted_cells, trimmed_len};
 
 use crate::cell::{Cell, is_same};
@@ -176,6 +177,15 @@ fn clear_right(cells: &mut [Cell], e: usize)
     }
 }
 
+/// Puts `cell` at each column.
+// A copy of the whole cell is two stores; where LLVM sees the cell made of its parts it is seven.
+#[inline(never)]
+pub fn fill(cells: &mut [Cell], cell: Cell)
+    ensures { cells.new ≡ replicate (length cells.old) cell }
+{
+    cells.fill(cell);
+}
+
 /// Empties the columns from `s` up to `e`, with these attributes, and the halves of wide characters that are left.
 pub fn wipe(cells: &mut [Cell], s: usize, e: usize, attrs: Attrs)
     requires some { s < e }
@@ -185,7 +195,7 @@ pub fn wipe(cells: &mut [Cell], s: usize, e: usize, attrs: Attrs)
 {
     clear_left(cells, s);
     clear_right(cells, e);
-    cells[s..e].fill(Cell::empty(attrs));
+    fill(&mut cells[s..e], Cell::empty(attrs));
 }
 
 /// Whether erasing the columns from `s` up to `e` empties the last one.
@@ -265,7 +275,7 @@ fn shift_right(cells: &mut [Cell], i: usize, count: usize)
     ensures { cells.new ≡ by_position (length cells.old) (shifted_right (cell_at cells.old) i count) }
 {
     cells[i..].rotate_right(count);
-    cells[i..i + count].fill(Cell::new());
+    fill(&mut cells[i..i + count], Cell::new());
 }
 
 /// Empties a wide character whose second half has fallen off the end.
@@ -319,7 +329,7 @@ fn shift_left(cells: &mut [Cell], s: usize, n: usize)
     requires { s + n ≤ length cells.old }
     ensures { cells.new ≡ by_position (length cells.old) (shifted_left (length cells.old) (cell_at cells.old) s n) }
 {
-    cells[s..s + n].fill(Cell::new());
+    fill(&mut cells[s..s + n], Cell::new());
     cells[s..].rotate_left(n);
 }
 
@@ -379,5 +389,55 @@ fn write_run(cells: &mut [Cell], text: &[u8], space: Cell)
     for (i, cell) in cells.iter_mut().enumerate() {
         *cell = space;
         cell.replace_by_ascii(text[i]);
+    }
+}
+
+/// Puts the characters of `text`, each of which takes two columns, at column `start` and after it, over what stands
+/// there.
+pub fn put_pairs(cells: &mut [Cell], start: usize, text: &[char], attrs: Attrs)
+    requires some { 0 < length text.now }
+    requires in_row { start + 2 * length text.now ≤ length cells.old }
+    requires wide { All IsWide text.now }
+    requires paired { IsPaired (cell_at cells.old) }
+    ensures cells { cells.new ≡ by_position (length cells.old)
+        (printed_pairs (cell_at cells.old) start text.now attrs) }
+    ensures characters { All IsScalar text.now }
+{
+    let end = start + 2 * text.len();
+    clear_left(cells, start);
+    let blank = Cell::empty(attrs);
+    if is_continuation_at(cells, end) {
+        cells[end] = blank;
+    }
+    let space = Cell::of_char('\u{3000}', 2, attrs);
+    write_pairs(&mut cells[start..end], text, space);
+}
+
+/// Whether wide characters, put at column `start` and after it, empty the last one.
+pub fn pairs_end(cells: &[Cell], start: usize, text: &[char]) -> bool
+    requires { start + 2 * length text.now ≤ length cells.now }
+    ensures { result ≡ pairs_unflag (length cells.now) (cell_at cells.now) start text.now }
+{
+    let end = start + 2 * text.len();
+    !text.is_empty() && end + 1 == cells.len() && at(cells, end).is_wide_continuation()
+}
+
+/// Writes each character of `text` into a cell that is like the ideographic `space`, and a continuation after it.
+// As in `write_run`, whole cells are copied.
+#[inline(never)]
+fn write_pairs(cells: &mut [Cell], text: &[char], space: Cell)
+    requires two_each { length cells.old ≡ 2 * length text.now }
+    requires wide { All IsWide text.now }
+    requires space { space ≡ cell_of 0x3000 space.attrs }
+    ensures cells { cells.new ≡ pairs_of text.now space.attrs }
+    ensures characters { All IsScalar text.now }
+{
+    let rest = Cell::continuation();
+    let mut i = 0;
+    for c in text {
+        cells[i] = space;
+        cells[i].replace_by_wide(*c);
+        cells[i + 1] = rest;
+        i += 2;
     }
 }

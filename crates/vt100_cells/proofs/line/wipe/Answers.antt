@@ -1,4 +1,4 @@
-use Rattle.std.proofs.Common.{arith, rules}
+use Rattle.std.proofs.Common.{arith}
 use Rattle.vt100_cells.proofs.EditLemmas.{wipes}
 use Rattle.vt100_cells.proofs.line.wipe.Goals as goal
 
@@ -6,4 +6,4 @@ pub returns : goal.returns
 returns c =
     wipes c.args.cells.now c.clear_left.new.cells c.clear_right.new.cells _ c.args.s c.args.e _ c.args.attrs
     c.empty.result c.requires.some c.requires.in_row (omega arith)
-    c.clear_left.ensures c.clear_right.ensures (c.fill.ensures.after (λ y e. search rules)) c.empty.ensures
+    c.clear_left.ensures c.clear_right.ensures c.fill.ensures c.empty.ensures
