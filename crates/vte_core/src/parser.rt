@@ -569,7 +569,7 @@ impl<const N: usize> Parser<N> {
         }
     }
 
-    /// Reads ground text up to the next ESC, and what `leave_text` reads from there. Returns how many bytes they are.
+    /// Reads ground text up to the next ESC, or from ESC on as `leave_text` does. Returns how many bytes it read.
     #[inline(always)]
     fn read_text<P: Perform>(&mut self, performer: &mut P, bytes: &[u8]) -> usize
         requires some { 0 < length bytes.now }
@@ -579,11 +579,10 @@ impl<const N: usize> Parser<N> {
         ensures stands { (q : Pending) → IsAt N self.old q → IsAt N self.new (after_bytes q (take result bytes.now)) }
         ensures told { Tells P.step N self.old performer.old (take result bytes.now) performer.new }
     {
-        let len = self.unfinished.read(performer, bytes);
-        if len == bytes.len() {
-            return len;
+        if bytes[0] == 0x1B {
+            return self.leave_text(performer, bytes);
         }
-        len + self.leave_text(performer, &bytes[len..])
+        self.read_one(performer, bytes)
     }
 
     /// Reads the bytes of a sequence at the front that don't end it, if there are any: a header or data. Returns how
