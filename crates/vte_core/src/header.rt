@@ -2,7 +2,7 @@
 //! (ECMA-48, section 5.4).
 
 ghost use Rattle.std.specs.Prelude.{◌≡◌, ◌+◌, ◌<◌, ◌≤◌, ℕ, Bool, List, [], ◌∷◌, ◌++◌, length, take, IsTrue};
-ghost use Rattle.std.specs.Prelude.{if◌then◌else◌, true, false};
+ghost use Rattle.std.specs.Prelude.{if◌then◌else◌, true, false, slice_index};
 ghost use Rattle.vte_core.specs.Bytes.{each, is_header, is_private, is_numeric, is_intermediate};
 ghost use Rattle.vte_core.specs.Header.{is_well_formed, kept_groups, kept_intermediates, overflows};
 ghost use Rattle.vte_core.specs.Event.{Csi, Hook};
@@ -39,13 +39,12 @@ fn is_intermediate(byte: u8) -> bool
     (0x20..=0x2F).contains(&byte)
 }
 
-/// Whether the byte is of a header, and neither a digit nor `:` nor `;`.
+/// Whether the byte is of a header.
 #[inline(always)]
-fn is_other(byte: u8) -> bool
-    ensures header { IsTrue result → is_header byte ≡ true }
-    ensures other { IsTrue result → is_numeric byte ≡ false }
+fn is_header(byte: u8) -> bool
+    ensures { result ≡ is_header byte }
 {
-    matches!(byte, 0x20..=0x2F | 0x3C..=0x3F)
+    (0x20..=0x3F).contains(&byte)
 }
 
 /// The phase after a digit, `:` or `;`.
@@ -110,6 +109,7 @@ impl Header {
     fn read_numbers(&mut self, bytes: &[u8]) -> usize
         ensures within { result ≤ length bytes.now }
         ensures numeric { each is_numeric (take result bytes.now) ≡ true }
+        ensures ended { result < length bytes.now → is_numeric (slice_index bytes.now result) ≡ false }
         ensures reads { (h : List ℕ) → ReadsHeader self.old h → ReadsHeader self.new (h ++ take result bytes.now) }
     {
         match bytes {
@@ -131,7 +131,7 @@ impl Header {
         ensures reads { (h : List ℕ) → ReadsHeader self.old h → ReadsHeader self.new (h ++ take result bytes.now) }
     {
         let mut read = self.read_numbers(bytes);
-        while read < bytes.len() && is_other(bytes[read]) {
+        while read < bytes.len() && is_header(bytes[read]) {
             self.collect(bytes[read]);
             read += 1;
             read += self.read_numbers(&bytes[read..]);

@@ -129,6 +129,7 @@ impl Numbers {
     }
 
     /// The header ends, and with it the last number and the last group.
+    #[inline(always)]
     pub fn finish(&mut self)
         ensures params { (m : List ℕ) → ReadsNumbers self.old m → self.new.params ≡ first_numbers 32 (groups_of m) }
         ensures many { (m : List ℕ) → ReadsNumbers self.old m → self.new.many ≡ nat_lt 32 (total (groups_of m)) }

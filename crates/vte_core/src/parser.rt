@@ -15,6 +15,7 @@ ghost use Rattle.vte_core.specs.Pending.{events_from, after_bytes, closed};
 ghost use Rattle.vte_core.specs.Standing.{IsAt, Stands, state_is_text};
 ghost use Rattle.vte_core.specs.Stopping.{Stops};
 ghost use Rattle.std.specs.Prelude.{true, not, ◌&&◌};
+ghost use Rattle.std.specs.Int.{is_in_range};
 ghost use Rattle.vte_core.specs.Bytes.{each, is_device_data, is_esc, is_swallowed};
 
 use crate::header::Header;
@@ -161,6 +162,21 @@ impl<const N: usize> Parser<N> {
         }
     }
 
+    /// The final byte of a control sequence.
+    #[inline(always)]
+    fn dispatch_csi<P: Perform>(&mut self, performer: &mut P, byte: u8)
+        requires state { self.old.state ≡ State.Csi }
+        requires is_final { is_in_range 0x40 0x7E byte ≡ true }
+        ensures stands { GoesOn N self.old self.new byte }
+        ensures told { Performs P.step performer.old (byte_heard N State.Csi self.old self.new byte) performer.new }
+        ensures is_told { HearsAll N State.Csi self.old self.new byte }
+    {
+        self.state = State::Ground;
+        if self.header.is_kept() {
+            self.header.csi(performer, byte);
+        }
+    }
+
     /// A byte of a control sequence, other than ESC.
     fn csi<P: Perform>(&mut self, performer: &mut P, byte: u8)
         requires state { self.old.state ≡ State.Csi }
@@ -178,12 +194,7 @@ impl<const N: usize> Parser<N> {
             Action::Execute => performer.execute(byte),
             Action::Param => self.header.numeric(byte),
             Action::Collect => self.header.collect(byte),
-            Action::Dispatch => {
-                self.state = next;
-                if self.header.is_kept() {
-                    self.header.csi(performer, byte);
-                }
-            }
+            Action::Dispatch => self.dispatch_csi(performer, byte),
             _ => {}
         }
     }
@@ -316,6 +327,22 @@ impl<const N: usize> Parser<N> {
         }
     }
 
+    /// The byte after ESC and its intermediates, other than ESC. It's mostly the final byte.
+    #[inline(always)]
+    fn after_escape<P: Perform>(&mut self, performer: &mut P, byte: u8)
+        requires state { self.old.state ≡ State.Escape }
+        requires not_esc { byte ≢ 0x1B }
+        ensures stands { (q : Pending) → IsAt N self.old q → IsAt N self.new (after_byte q byte) }
+        ensures told { Performs P.step performer.old (heard N self.old self.new byte) performer.new }
+        ensures is_told { (q : Pending) → IsAt N self.old q → heard N self.old self.new byte ≡ events_of_byte N q byte }
+    {
+        if is_escape_final(byte) {
+            self.end_escape(performer, byte);
+        } else {
+            self.escape(performer, byte);
+        }
+    }
+
     /// Reads the `[` or `P` after ESC that begins a header, and the header that follows, if they stand at the front.
     /// Returns how many bytes they are.
     #[inline(always)]
@@ -388,7 +415,9 @@ impl<const N: usize> Parser<N> {
         ensures told { Performs P.step performer.old (heard N self.old self.new byte) performer.new }
         ensures is_told { (q : Pending) → IsAt N self.old q → heard N self.old self.new byte ≡ events_of_byte N q byte }
     {
-        if byte == 0x1B {
+        if is_final(byte) {
+            self.dispatch_csi(performer, byte);
+        } else if byte == 0x1B {
             self.begin_escape(performer);
         } else {
             self.csi(performer, byte);
@@ -540,7 +569,7 @@ impl<const N: usize> Parser<N> {
         }
     }
 
-    /// Reads ground text up to the next ESC, and what `leave_text` reads from there. Returns how many bytes they are.
+    /// Reads ground text up to the next ESC, or from ESC on as `leave_text` does. Returns how many bytes it read.
     #[inline(always)]
     fn read_text<P: Perform>(&mut self, performer: &mut P, bytes: &[u8]) -> usize
         requires some { 0 < length bytes.now }
@@ -550,11 +579,10 @@ impl<const N: usize> Parser<N> {
         ensures stands { (q : Pending) → IsAt N self.old q → IsAt N self.new (after_bytes q (take result bytes.now)) }
         ensures told { Tells P.step N self.old performer.old (take result bytes.now) performer.new }
     {
-        let len = self.unfinished.read(performer, bytes);
-        if len == bytes.len() {
-            return len;
+        if bytes[0] == 0x1B {
+            return self.leave_text(performer, bytes);
         }
-        len + self.leave_text(performer, &bytes[len..])
+        self.read_one(performer, bytes)
     }
 
     /// Reads the bytes of a sequence at the front that don't end it, if there are any: a header or data. Returns how
@@ -615,6 +643,10 @@ impl<const N: usize> Parser<N> {
         match self.state {
             State::Ground => self.read_text(performer, bytes),
             _ if bytes[0] == 0x1B => self.read_anew(performer, bytes),
+            State::Escape => {
+                self.after_escape(performer, bytes[0]);
+                1
+            }
             _ => self.read_sequence(performer, bytes),
         }
     }
@@ -665,6 +697,22 @@ fn is_text(state: State, byte: u8) -> bool
         State::Ground => byte != 0x1B,
         _ => false,
     }
+}
+
+/// Whether the byte ends an escape sequence, and isn't CAN or SUB.
+#[inline(always)]
+fn is_escape_final(byte: u8) -> bool
+    ensures { result ≡ is_in_range 0x30 0x7E byte }
+{
+    (0x30..=0x7E).contains(&byte)
+}
+
+/// Whether the byte ends a header, and isn't CAN or SUB.
+#[inline(always)]
+fn is_final(byte: u8) -> bool
+    ensures { result ≡ is_in_range 0x40 0x7E byte }
+{
+    (0x40..=0x7E).contains(&byte)
 }
 
 /// How many bytes at the front are swallowed: neither ESC nor CAN nor SUB.
