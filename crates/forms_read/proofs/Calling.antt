@@ -2,7 +2,6 @@
 use Rattle.std.proofs.Common.{◌≡◌, ℕ, ◌+◌, ◌^◌, ◌<◌, ◌==◌, true, false, cond, ◌&&◌, List, []}
 use Rattle.std.proofs.Common.{◌∷◌, ◌++◌, map, nat_eq, Option, Some, refl, sym, ap, ◌∙◌, arith, append_assoc}
 use Rattle.std.proofs.Common.{append-nil}
-use Rattle.std.specs.List.{AllByRecursion}
 use Rattle.std.proofs.lemmas.Bool.{cond_both, eqb-true, ne_eqb, and_parts}
 use Rattle.std.proofs.lemmas.Bool.Decides.{nat_tests}
 use Rattle.vte_core.specs.Event.{Event, Print}
@@ -12,21 +11,17 @@ use Rattle.vte_types.specs.declared.attr.Attr.{Attr}
 use Rattle.vte.specs.Sgr.{attributes, nothing}
 use Rattle.vte.specs.Table.{calls_of, last_after}
 use Rattle.vte.specs.Performed.{last_after_all, calls_of_all}
-use Rattle.vt100_forms.specs.declared.modes.MouseProtocolMode.{MouseProtocolMode}
-use Rattle.vt100_forms.specs.declared.modes.MouseProtocolMode.TheVariants as mouse
-use Rattle.vt100_forms.specs.declared.modes.MouseProtocolEncoding.{MouseProtocolEncoding}
-use Rattle.vt100_forms.specs.declared.modes.MouseProtocolEncoding.TheVariants as encoding
 use Rattle.vt100_forms.specs.declared.modes.CursorStyle.{CursorStyle}
 use Rattle.vt100_forms.specs.declared.modes.CursorStyle.TheVariants as style
-use Rattle.vt100_forms.specs.Form.{Form, Text, MoveTo, MoveRight, EraseChar, ClearRowForward, ClearScreen, ClearAttrs}
-use Rattle.vt100_forms.specs.Form.{Crlf, Lf, Backspace, SaveCursor, RestoreCursor, HideCursor, Keypad, CursorKeys}
+use Rattle.vt100_forms.specs.Form.{Text, MoveTo, MoveRight, EraseChar, HideCursor, Keypad, CursorKeys}
 use Rattle.vt100_forms.specs.Form.{Paste, Mouse, Encoding, Style, Sgr, mouse_number, encoding_number, style_number}
 use Rattle.vt100_forms.specs.Form.{sgr_numbers}
 use Rattle.vt100_forms.specs.Length.{HasSmallNumbers}
 use Rattle.forms_read.specs.Events.{kept_number, sequence, bare, counted_events, set_event, reset_event, mode_events}
 use Rattle.forms_read.specs.Events.{sgr_events, events_of, events_of_all}
 use Rattle.forms_read.specs.Laws.{IsReadable}
-use Rattle.forms_read.proofs.ReadForms.{list-read}
+use Rattle.forms_read.proofs.ReadForms.{mouse-small, encoding-small, list-read}
+use Rattle.terminal_model.proofs.FormTexts.{all-each}
 use Rattle.forms_read.specs.Calls.{set_call, reset_call, mode_calls, style_told, form_calls}
 use Rattle.forms_read.specs.CallLaws.{EachFormCalls, EachListCalls, EachSpellingCalls}
 use Rattle.forms_read.proofs.Told.{groups_told, IsToldBy, told-change, told-all}
@@ -93,28 +88,11 @@ calls-mode last to from h k =
           ]
     ]
 
-mouse-small : (m : MouseProtocolMode) → mouse_number m < 2 ^ 16
-mouse-small mouse.None = omega arith
-mouse-small mouse.Press = omega arith
-mouse-small mouse.PressRelease = omega arith
-mouse-small mouse.ButtonMotion = omega arith
-mouse-small mouse.AnyMotion = omega arith
-
-encoding-small : (e : MouseProtocolEncoding) → encoding_number e < 2 ^ 16
-encoding-small encoding.Default = omega arith
-encoding-small encoding.Utf8 = omega arith
-encoding-small encoding.Sgr = omega arith
-
 style-called : (last : Option ℕ) (s : CursorStyle)
     → calls_of_all last (sequence (0x20 ∷ []) (style_number s ∷ []) 0x71 ∷ [])
     ≡ call.set_cursor_style (style_told s) ∷ []
 style-called last style.Default = refl
-style-called last style.BlinkBlock = refl
-style-called last style.SteadyBlock = refl
-style-called last style.BlinkUnderline = refl
-style-called last style.SteadyUnderline = refl
-style-called last style.BlinkVerticalBar = refl
-style-called last style.SteadyVerticalBar = refl
+style-called last s = refl
 
 calls-Style : (last : Option ℕ) (to from : CursorStyle)
     → calls_of_all last (events_of (Style to from)) ≡ form_calls (Style to from)
@@ -141,28 +119,17 @@ form-called last (Text cs) h = calls-text last cs
 form-called last (MoveTo r c) h = calls-MoveTo last r c
 form-called last (MoveRight k) h = calls-counted last k 0x43 call.move_forward refl refl
 form-called last (EraseChar k) h = calls-counted last k 0x58 call.erase_chars refl refl
-form-called last ClearRowForward h = refl
-form-called last ClearScreen h = refl
-form-called last ClearAttrs h = refl
-form-called last Crlf h = refl
-form-called last Lf h = refl
-form-called last Backspace h = refl
-form-called last SaveCursor h = refl
-form-called last RestoreCursor h = refl
 form-called last (HideCursor true) h = refl
-form-called last (HideCursor false) h = refl
 form-called last (Keypad true) h = refl
-form-called last (Keypad false) h = refl
 form-called last (CursorKeys true) h = refl
-form-called last (CursorKeys false) h = refl
 form-called last (Paste true) h = refl
-form-called last (Paste false) h = refl
 form-called last (Mouse to from) h =
     calls-mode last (mouse_number to) (mouse_number from) (mouse-small to) (mouse-small from)
 form-called last (Encoding to from) h =
     calls-mode last (encoding_number to) (encoding_number from) (encoding-small to) (encoding-small from)
 form-called last (Style to from) h = calls-Style last to from
 form-called last (Sgr c) h = calls-sgr last (sgr_numbers c) _ (told-change c h.0 h.1)
+form-called last f h = refl
 
 calls-joined : (last : Option ℕ) (es gs : List Event)
     → calls_of_all last (es ++ gs) ≡ calls_of_all last es ++ calls_of_all (last_after_all last es) gs
@@ -178,10 +145,6 @@ list-called last (f ∷ fs) h =
     calls-joined last (events_of f) (events_of_all fs)
     ∙ (λ i. form-called last f h.0 i ++ list-called (last_after_all last (events_of f)) fs h.1 i)
 
-small-of : (fs : List Form) → AllByRecursion IsReadable fs → AllByRecursion HasSmallNumbers fs
-small-of [] h = tt
-small-of (f ∷ fs) h = (h.0.1, small-of fs h.1)
-
 pub spelling-called : EachSpellingCalls
 spelling-called k past last fs g h =
-    ap (calls_of_all last) (list-read k past fs g h).0 ∙ list-called last fs (small-of fs h)
+    ap (calls_of_all last) (list-read k past fs g h).0 ∙ list-called last fs (all-each IsReadable HasSmallNumbers (λ f k. k.1) fs h)

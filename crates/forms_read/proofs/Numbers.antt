@@ -18,6 +18,8 @@ use Rattle.vte_core.specs.Header.{unmarked, in_order, is_well_formed, number, gr
 use Rattle.vte_core.specs.Header.{intermediates, overflows, kept_groups, kept_intermediates}
 use Rattle.vte_core.specs.Ground.{header_event}
 use Rattle.vt100_forms.specs.Form.{further_numbers}
+use Rattle.terminal_model.proofs.PlainText.{all-append}
+use Rattle.terminal_model.proofs.FormTexts.{all-each}
 use Rattle.forms_read.specs.Events.{kept_number, sequence}
 
 -- ---- digits
@@ -64,22 +66,19 @@ AreSmall ns = AllByRecursion (λ n. n < 2 ^ 64) ns
 abbrev pub spelled : ℕ → List ℕ → List ℕ
 spelled n ns = decimal n ++ further_numbers ns
 
-numeric-append : (xs ys : List ℕ) → AllByRecursion (λ b. is_numeric b ≡ true) xs
-    → AllByRecursion (λ b. is_numeric b ≡ true) ys → AllByRecursion (λ b. is_numeric b ≡ true) (xs ++ ys)
-numeric-append [] ys h k = k
-numeric-append (x ∷ xs) ys h k = (h.0, numeric-append xs ys h.1 k)
+abbrev AreNumeric : List ℕ → Type 0
+AreNumeric bs = AllByRecursion (λ b. is_numeric b ≡ true) bs
 
-further-numeric : (ns : List ℕ) → AreSmall ns → AllByRecursion (λ b. is_numeric b ≡ true) (further_numbers ns)
+further-numeric : (ns : List ℕ) → AreSmall ns → AreNumeric (further_numbers ns)
 further-numeric [] h = tt
 further-numeric (n ∷ ns) h = (
   refl,
-  numeric-append (decimal n) (further_numbers ns) (digits-numeric (decimal n) (digits-of n h.0))
+  all-append (λ b. is_numeric b ≡ true) (decimal n) (further_numbers ns) (digits-numeric (decimal n) (digits-of n h.0))
       (further-numeric ns h.1),
 )
 
-spelled-numeric : (n : ℕ) (ns : List ℕ) → n < 2 ^ 64 → AreSmall ns
-    → AllByRecursion (λ b. is_numeric b ≡ true) (spelled n ns)
-spelled-numeric n ns h k = numeric-append (decimal n) (further_numbers ns) (digits-numeric (decimal n) (digits-of n h))
+spelled-numeric : (n : ℕ) (ns : List ℕ) → n < 2 ^ 64 → AreSmall ns → AreNumeric (spelled n ns)
+spelled-numeric n ns h k = all-append (λ b. is_numeric b ≡ true) (decimal n) (further_numbers ns) (digits-numeric (decimal n) (digits-of n h))
     (further-numeric ns k)
 
 numeric-private : (b : ℕ) → is_numeric b ≡ true → is_private b ≡ false
@@ -88,28 +87,26 @@ numeric-private b h = grind (arith, nat_tests)
 numeric-header : (b : ℕ) → is_numeric b ≡ true → is_header b ≡ true
 numeric-header b h = grind (arith, nat_tests)
 
-pub numeric-headers : (bs : List ℕ) → AllByRecursion (λ b. is_numeric b ≡ true) bs
-    → AllByRecursion (λ b. is_header b ≡ true) bs
-numeric-headers [] h = tt
-numeric-headers (b ∷ bs) h = (numeric-header b h.0, numeric-headers bs h.1)
+numeric-headers : (bs : List ℕ) → AreNumeric bs → AllByRecursion (λ b. is_header b ≡ true) bs
+numeric-headers = all-each (λ b. is_numeric b ≡ true) (λ b. is_header b ≡ true) numeric-header
 
 pub spelled-header : (n : ℕ) (ns : List ℕ) → n < 2 ^ 64 → AreSmall ns
     → AllByRecursion (λ b. is_header b ≡ true) (spelled n ns)
 spelled-header n ns h k = numeric-headers (spelled n ns) (spelled-numeric n ns h k)
 
-numeric-unmarked : (bs : List ℕ) → AllByRecursion (λ b. is_numeric b ≡ true) bs → unmarked bs ≡ bs
+numeric-unmarked : (bs : List ℕ) → AreNumeric bs → unmarked bs ≡ bs
 numeric-unmarked [] h = refl
 numeric-unmarked (b ∷ bs) h = rw (numeric-private b h.0) refl
 
-numeric-order : (bs : List ℕ) → AllByRecursion (λ b. is_numeric b ≡ true) bs → in_order bs ≡ true
+numeric-order : (bs : List ℕ) → AreNumeric bs → in_order bs ≡ true
 numeric-order [] h = refl
 numeric-order (b ∷ bs) h = rw (h.0) (numeric-order bs h.1)
 
-numeric-kept : (bs : List ℕ) → AllByRecursion (λ b. is_numeric b ≡ true) bs → filter is_numeric bs ≡ bs
+numeric-kept : (bs : List ℕ) → AreNumeric bs → filter is_numeric bs ≡ bs
 numeric-kept [] h = refl
 numeric-kept (b ∷ bs) h = rw (h.0) (ap (λ xs. b ∷ xs) (numeric-kept bs h.1))
 
-numeric-between : (bs : List ℕ) → AllByRecursion (λ b. is_numeric b ≡ true) bs → intermediates bs ≡ []
+numeric-between : (bs : List ℕ) → AreNumeric bs → intermediates bs ≡ []
 numeric-between [] h = refl
 numeric-between (b ∷ bs) h = rw (h.0) (numeric-between bs h.1)
 

@@ -1,14 +1,14 @@
 -- Each form's spelling, read.
-use Rattle.std.proofs.Common.{◌≡◌, ℕ, suc, ◌+◌, ◌^◌, ◌<◌, ◌≤◌, ◌==◌, Bool, true, false, cond, ◌&&◌, ◌||◌, List, []}
-use Rattle.std.proofs.Common.{◌∷◌, ◌++◌, map, length, get_or, Option, None, Some, refl, sym, ap, ◌∙◌, subst, arith}
+use Rattle.std.proofs.Common.{◌≡◌, ℕ, ◌+◌, ◌^◌, ◌<◌, ◌≤◌, ◌==◌, Bool, true, false, cond, ◌&&◌, ◌||◌, List, []}
+use Rattle.std.proofs.Common.{◌∷◌, ◌++◌, map, length, Option, None, Some, refl, ap, ◌∙◌, subst, arith}
 use Rattle.std.proofs.Common.{append-nil, append_assoc, length-append, nat_lt}
-use Rattle.std.specs.Prelude.{decimal, codes, encode_utf8, encode_utf8_all}
+use Rattle.std.specs.Prelude.{decimal, codes, encode_utf8_all}
 use Rattle.std.specs.Fmt.{digits}
 use Rattle.std.specs.Int.{is_in_range}
 use Rattle.std.specs.List.{AllByRecursion}
 use Rattle.std.proofs.lemmas.Bool.{cond_both}
 use Rattle.std.proofs.lemmas.Bool.Decides.{nat_tests}
-use Rattle.std.proofs.lemmas.Str.{inside_one, chars-encodes}
+use Rattle.std.proofs.lemmas.Str.{chars-encodes}
 use lib.Utf8.{encode, scalars}
 use Rattle.vte_core.specs.Event.{Event, Print, Esc}
 use Rattle.vte_core.specs.Text.{char_event}
@@ -35,6 +35,7 @@ use Rattle.vt100_forms.specs.Length.{IsByteOption}
 use Rattle.forms_read.specs.Events.{sequence, bare, counted_events, mode_events, sgr_events}
 use Rattle.forms_read.specs.Events.{events_of, events_of_all}
 use Rattle.forms_read.specs.Laws.{IsPrinted, IsReadable, IsReadAs, EachFormIsRead, EachListIsRead}
+use Rattle.terminal_model.proofs.PlainText.{all-append, is_no_esc, no_esc-all}
 use Rattle.forms_read.proofs.Numbers.{AreSmall, spelled, spelled-event, spelled-header, marked-event, marked-header}
 
 -- ---- pieces
@@ -66,7 +67,7 @@ read-escape : (k b : ℕ) → is_in_range 0x30 0x7E b ≡ true → is_introducer
     → IsReadAs k (27 ∷ b ∷ []) (Esc [] false b ∷ [])
 read-escape k b h i = (escape-tells k [] b (tt, h, λ _. i), ground-escape k [] b (tt, h, λ _. i))
 
-cond-two : {A B : Type 0} (P : A → B → Type 0) (b : Bool) (x y : A) (u v : B) → (b ≡ true → P x u) → (b ≡ false → P y v)
+pub cond-two : {A B : Type 0} (P : A → B → Type 0) (b : Bool) (x y : A) (u v : B) → (b ≡ true → P x u) → (b ≡ false → P y v)
     → P (cond b x y) (cond b u v)
 cond-two P true x y u v h g = h refl
 cond-two P false x y u v h g = g refl
@@ -95,24 +96,20 @@ read-marked k n final f h =
     read-header k (63 ∷ decimal n) final (sequence (63 ∷ []) (n ∷ []) final ∷ []) (marked-header n h, f)
     (marked-event n final h)
 
-read-mode_change : (k to from : ℕ) → to < 2 ^ 64 → from < 2 ^ 64
+read-mode_change : (k to from : ℕ) → to < 2 ^ 16 → from < 2 ^ 16
     → IsReadAs k (mode_change to from) (mode_events to from)
 read-mode_change k to from h g =
     cond-two (IsReadAs k) (to == from) _ _ _ _ (λ _. read-nil k)
-    (λ _. cond-two (IsReadAs k) (to == 0) _ _ _ _ (λ _. read-marked k from 108 refl g)
-    (λ _. read-marked k to 104 refl h))
+    (λ _. cond-two (IsReadAs k) (to == 0) _ _ _ _ (λ _. read-marked k from 108 refl (omega (arith, g)))
+    (λ _. read-marked k to 104 refl (omega (arith, h))))
 
-mouse-small : (m : MouseProtocolMode) → mouse_number m < 2 ^ 64
+pub mouse-small : (m : MouseProtocolMode) → mouse_number m < 2 ^ 16
 mouse-small mouse.None = omega arith
-mouse-small mouse.Press = omega arith
-mouse-small mouse.PressRelease = omega arith
-mouse-small mouse.ButtonMotion = omega arith
-mouse-small mouse.AnyMotion = omega arith
+mouse-small m = omega arith
 
-encoding-small : (e : MouseProtocolEncoding) → encoding_number e < 2 ^ 64
+pub encoding-small : (e : MouseProtocolEncoding) → encoding_number e < 2 ^ 16
 encoding-small encoding.Default = omega arith
-encoding-small encoding.Utf8 = omega arith
-encoding-small encoding.Sgr = omega arith
+encoding-small e = omega arith
 
 read-style : (k : ℕ) (s : CursorStyle)
     → IsReadAs k (csi (decimal (style_number s) ++ codes " q")) (sequence (0x20 ∷ []) (style_number s ∷ []) 0x71 ∷ [])
@@ -131,12 +128,8 @@ read-style k style.SteadyVerticalBar = read-header k (codes "6 ") 113 _ ((refl, 
 abbrev AreFew : ℕ → List ℕ → Type 0
 AreFew k ns = AreSmall ns × (length ns ≤ k)
 
-small-append : (ms ns : List ℕ) → AreSmall ms → AreSmall ns → AreSmall (ms ++ ns)
-small-append [] ns h g = g
-small-append (m ∷ ms) ns h g = (h.0, small-append ms ns h.1 g)
-
 few-append : (j k : ℕ) (ms ns : List ℕ) → AreFew j ms → AreFew k ns → AreFew (j + k) (ms ++ ns)
-few-append j k ms ns h g = (small-append ms ns h.0 g.0, simp length-append (omega (arith, h.1, g.1)))
+few-append j k ms ns h g = (all-append (λ n. n < 2 ^ 64) ms ns h.0 g.0, simp length-append (omega (arith, h.1, g.1)))
 
 few-color : (base : ℕ) (c : Color) → base ≤ 40 → IsByteColor c → AreFew 5 (color_numbers base c)
 few-color base Default b h = ((omega (arith, b), tt), omega arith)
@@ -179,28 +172,6 @@ read-sgr k [] h = read-nil k
 read-sgr k (n ∷ ns) h = read-numbers k n ns 109 refl (h.0.0) (h.0.1) (omega (arith, h.1))
 
 -- ---- text
-
-is_no_esc : ℕ → Type 0
-is_no_esc b = b ≡ 27 → ⊥
-
-no_esc-join : (xs ys : List ℕ) → AllByRecursion is_no_esc xs → AllByRecursion is_no_esc ys
-    → AllByRecursion is_no_esc (xs ++ ys)
-no_esc-join [] ys h g = g
-no_esc-join (x ∷ xs) ys h g = (h.0, no_esc-join xs ys h.1 g)
-
-no_esc-each : (xs : List ℕ) → ((k : ℕ) → k < length xs → get_or xs k 0 ≡ 27 → ⊥) → AllByRecursion is_no_esc xs
-unfolding is_no_esc
-no_esc-each [] h = tt
-no_esc-each (x ∷ xs) h = (h 0 (omega arith), no_esc-each xs (λ k l. h (suc k) (omega arith)))
-
-no_esc-char : (c : ℕ) → (c ≡ 27 → ⊥) → AllByRecursion is_no_esc (encode_utf8 c)
-no_esc-char c h = no_esc-each (encode_utf8 c) (λ k l e.
-    h (inside_one c [] (encode_utf8 c) k (sym (append-nil (encode_utf8 c))) l (omega (arith, e)) ∙ e))
-
-no_esc-all : (cs : List ℕ) → AllByRecursion is_no_esc cs → AllByRecursion is_no_esc (encode_utf8_all cs)
-unfolding is_no_esc
-no_esc-all [] h = tt
-no_esc-all (c ∷ cs) h = no_esc-join (encode_utf8 c) (encode_utf8_all cs) (no_esc-char c h.0) (no_esc-all cs h.1)
 
 read-characters : (k : ℕ) (cs : List ℕ) → scalars cs ≡ true → AllByRecursion is_no_esc cs
     → IsReadAs k (encode_utf8_all cs) (map char_event cs)

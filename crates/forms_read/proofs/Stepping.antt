@@ -27,7 +27,7 @@ use Rattle.vt100_forms.specs.Length.{IsByteOption}
 use Rattle.terminal_model.specs.Term.{Size, Term, IsTerm}
 use Rattle.terminal_model.specs.Apply.{erase, input, inputs, switched, apply, run}
 use Rattle.terminal_model.proofs.FormLemmas.{erase-none}
-use Rattle.terminal_model.proofs.TermLemmas.{IsTerm-apply}
+use Rattle.terminal_model.proofs.TermLemmas.{IsTerm-moved, IsTerm-apply}
 use Rattle.forms_read.specs.Events.{kept_number}
 use Rattle.terminal_model.specs.FormText.{IsSentForm}
 use Rattle.forms_read.proofs.SentTexts.{forms-readable}
@@ -117,15 +117,11 @@ module _ (f : Attr → Attrs → Attrs) (r : ReadsAttributes f) where
 
 mouse-zero : (m : MouseProtocolMode) → (mouse_number m == 0) ≡ true → m ≡ mouse.None
 mouse-zero mouse.None h = refl
-mouse-zero mouse.Press h = absurd (false≢true h)
-mouse-zero mouse.PressRelease h = absurd (false≢true h)
-mouse-zero mouse.ButtonMotion h = absurd (false≢true h)
-mouse-zero mouse.AnyMotion h = absurd (false≢true h)
+mouse-zero m h = absurd (false≢true h)
 
 encoding-zero : (m : MouseProtocolEncoding) → (encoding_number m == 0) ≡ true → m ≡ encoding.Default
 encoding-zero encoding.Default h = refl
-encoding-zero encoding.Utf8 h = absurd (false≢true h)
-encoding-zero encoding.Sgr h = absurd (false≢true h)
+encoding-zero m h = absurd (false≢true h)
 
 -- ---- forms
 
@@ -175,22 +171,6 @@ module _ (step : Size → Call → Term → Term) (f : Attr → Attrs → Attrs)
       (λ _. let col : min (t.col + kept_number k) z.cols ≡ min (t.col + k) z.cols = omega (arith, small.1) in
       s.erase_chars (kept_number k) t ∙ ap (λ c. erase z c t) col)
 
-  home-term : (t : Term) → IsTerm z t → IsTerm z (record t { row = 0; col = 0 })
-  home-term t h = record {
-    some_row = h.some_row;
-    some_col = h.some_col;
-    paired = h.paired;
-    beyond = h.beyond;
-    below = h.below;
-    below_flag = h.below_flag;
-    filled = h.filled;
-    last = h.last;
-    in_rows = h.some_row;
-    in_cols = omega arith;
-    saved_in_rows = h.saved_in_rows;
-    saved_in_cols = h.saved_in_cols;
-  }
-
   step-ClearScreen : (t : Term) → IsTerm z t → stepped step z (form_calls ClearScreen) t ≡ apply z ClearScreen t
   unfolding apply
   step-ClearScreen t h =
@@ -198,7 +178,7 @@ module _ (step : Size → Call → Term → Term) (f : Attr → Attrs → Attrs)
       let row : min 0 (z.rows - 1) ≡ 0 = omega arith in
       let col : min 0 (z.cols - 1) ≡ 0 = omega arith in
       let at : step z (call.goto (pos 0) 0) t ≡ home = s.goto 0 0 t ∙ (λ k. record t { row = row k; col = col k }) in
-      ap (step z _) at ∙ s.clear_screen home (home-term t h) refl refl
+      ap (step z _) at ∙ s.clear_screen home (IsTerm-moved z t 0 0 h h.some_row (omega arith)) refl refl
 
   step-Mouse : (to from : MouseProtocolMode) (t : Term)
       → stepped step z (form_calls (Mouse to from)) t ≡ apply z (Mouse to from) t

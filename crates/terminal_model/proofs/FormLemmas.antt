@@ -11,8 +11,8 @@ use Rattle.vt100_forms.specs.declared.attrs.Color.{Color}
 use Rattle.vt100_forms.specs.declared.attrs.Color.TheVariants.{Default, Idx, Rgb}
 use Rattle.vt100_forms.specs.declared.term.Intensity.{Intensity}
 use Rattle.vt100_forms.specs.Attrs.{default_attrs, attrs_eq}
-use Rattle.vt100_forms.specs.Form.{Form, Text, MoveTo, MoveRight, EraseChar, ClearRowForward, ClearScreen, ClearAttrs}
-use Rattle.vt100_forms.specs.Form.{Crlf, Lf, Backspace, SaveCursor, RestoreCursor, HideCursor, Keypad, CursorKeys}
+use Rattle.vt100_forms.specs.Form.{Form, Text, MoveTo, MoveRight, EraseChar}
+use Rattle.vt100_forms.specs.Form.{HideCursor, Keypad, CursorKeys}
 use Rattle.vt100_forms.specs.Form.{Paste, Mouse, Encoding, Style, Sgr, Change, csi, counted, mode_change, mode_set}
 use Rattle.vt100_forms.specs.Form.{mode_reset, mouse_number, encoding_number, style_number, color_part, intensity_part}
 use Rattle.vt100_forms.specs.Form.{flag_part, sgr_numbers, sgr_text, with_change, intensity_set, flag_set}
@@ -22,11 +22,12 @@ use Rattle.vt100_cells.specs.Cell.{CellView}
 use Rattle.vt100_cells.specs.CellEq.{attrs_eq-true}
 use Rattle.vt100_cells.specs.Line.{wiped, wipe_unflags}
 use Rattle.terminal_model.specs.Position.{update}
-use Rattle.terminal_model.specs.Term.{Size, Shown, Saved, Term, IsTerm, IsShown, IsSaved, shown_of, saved_of, term_of}
+use Rattle.terminal_model.specs.Term.{Size, Shown, Saved, Term, IsTerm, IsShown, IsSaved, shown_of, saved_of}
+use Rattle.terminal_model.specs.Term.{term_of, none_saved}
 use Rattle.terminal_model.specs.Apply.{with_line, erase, down, switched, apply, run}
 use Rattle.terminal_model.specs.Laws.{EachEmptyFormIsIdle, EachListJoins, EachPathJoins, EachMoveLeads, EachChangeIsRead}
 use Rattle.terminal_model.proofs.Positions.{update-kept}
-use Rattle.terminal_model.proofs.TermLemmas.{IsTerm-run}
+use Rattle.terminal_model.proofs.TermLemmas.{IsTerm-elsewhere, IsTerm-run}
 
 -- ---- lists of forms
 
@@ -35,36 +36,12 @@ run-joined z [] gs t = refl
 run-joined z (f ∷ fs) gs t = run-joined z fs gs (apply z f t)
 
 IsTerm-of : (z : Size) (a : Shown) (v : Saved) → IsShown z a → IsSaved z v → IsTerm z (term_of a v)
-IsTerm-of z a v h s = record {
-  some_row = h.some_row;
-  some_col = h.some_col;
-  paired = h.paired;
-  beyond = h.beyond;
-  below = h.below;
-  below_flag = h.below_flag;
-  filled = h.filled;
-  last = h.last;
-  in_rows = h.in_rows;
-  in_cols = h.in_cols;
-  saved_in_rows = s.in_rows;
-  saved_in_cols = s.in_cols;
-}
+IsTerm-of z a v h s =
+    IsTerm-elsewhere z (term_of a none_saved) (term_of a v) h h.in_rows h.in_cols s.in_rows s.in_cols
 
 pub IsShown-of : (z : Size) (t : Term) → IsTerm z t → IsShown z (shown_of t)
-IsShown-of z t h = record {
-  some_row = h.some_row;
-  some_col = h.some_col;
-  paired = h.paired;
-  beyond = h.beyond;
-  below = h.below;
-  below_flag = h.below_flag;
-  filled = h.filled;
-  last = h.last;
-  in_rows = h.in_rows;
-  in_cols = h.in_cols;
-  saved_in_rows = h.some_row;
-  saved_in_cols = omega arith;
-}
+IsShown-of z t h =
+    IsTerm-elsewhere z t (term_of (shown_of t) none_saved) h h.in_rows h.in_cols h.some_row (omega arith)
 
 pub paths-join : EachPathJoins
 paths-join z fs gs a b c h f g v s =
@@ -77,7 +54,7 @@ paths-join z fs gs a b c h f g v s =
 -- ---- forms of no bytes
 
 no_list : (x : ℕ) (xs : List ℕ) → x ∷ xs ≡ [] → ⊥
-no_list x xs e = let n = ap length e in absurd (omega (arith, n))
+no_list x xs e = cc
 
 both_none : (xs ys : List ℕ) → xs ++ ys ≡ [] → (xs ≡ []) × (ys ≡ [])
 both_none [] ys e = (refl, e)
@@ -186,22 +163,14 @@ form-idle z (MoveTo r c) t e =
 form-idle z (MoveRight n) t e = let none = counted-none n (codes "C") e in rw none refl
 form-idle z (EraseChar n) t e = let none = counted-none n (codes "X") e
     in erase-none z (min (t.col + n) z.cols) t (omega arith)
-form-idle z ClearRowForward t e = absurd (no_list 27 _ e)
-form-idle z ClearScreen t e = absurd (no_list 27 _ e)
-form-idle z ClearAttrs t e = absurd (no_list 27 _ e)
-form-idle z Crlf t e = absurd (no_list 13 _ e)
-form-idle z Lf t e = absurd (no_list 10 _ e)
-form-idle z Backspace t e = absurd (no_list 8 _ e)
-form-idle z SaveCursor t e = absurd (no_list 27 _ e)
-form-idle z RestoreCursor t e = absurd (no_list 27 _ e)
-form-idle z (HideCursor true) t e = absurd (no_list 27 _ e)
-form-idle z (HideCursor false) t e = absurd (no_list 27 _ e)
-form-idle z (Keypad true) t e = absurd (no_list 27 _ e)
-form-idle z (Keypad false) t e = absurd (no_list 27 _ e)
-form-idle z (CursorKeys true) t e = absurd (no_list 27 _ e)
-form-idle z (CursorKeys false) t e = absurd (no_list 27 _ e)
-form-idle z (Paste true) t e = absurd (no_list 27 _ e)
-form-idle z (Paste false) t e = absurd (no_list 27 _ e)
+form-idle z (HideCursor true) t e = absurd (no_list _ _ e)
+form-idle z (HideCursor false) t e = absurd (no_list _ _ e)
+form-idle z (Keypad true) t e = absurd (no_list _ _ e)
+form-idle z (Keypad false) t e = absurd (no_list _ _ e)
+form-idle z (CursorKeys true) t e = absurd (no_list _ _ e)
+form-idle z (CursorKeys false) t e = absurd (no_list _ _ e)
+form-idle z (Paste true) t e = absurd (no_list _ _ e)
+form-idle z (Paste false) t e = absurd (no_list _ _ e)
 form-idle z (Mouse to from) t e =
     ap (λ m. record t { modes = record (t.modes) { mouse = m } })
     (switched-none mouse_number to from t.modes.mouse (change-none (mouse_number to) (mouse_number from) e))
@@ -214,6 +183,7 @@ form-idle z (Style to from) t e =
     → apply z (Style to from) t ≡ t)
     (λ h _. ap (λ b. record t { style = cond b t.style to }) h) (λ _ q. absurd (no_list 27 _ q)) e
 form-idle z (Sgr c) t e = ap (λ a. record t { attrs = a }) (with_change-none c t.attrs (sgr-none (sgr_numbers c) e))
+form-idle z f t e = absurd (no_list _ _ e)
 
 -- ---- moves
 

@@ -4,14 +4,12 @@ use Rattle.std.specs.Prelude.{Contains, slice_index_or}
 use Rattle.std.specs.List.{AllByRecursion}
 use Rattle.std.proofs.lemmas.Bool.Decides.{nat_tests}
 use Rattle.vt100_forms.specs.Attrs.{default_attrs}
-use Rattle.vt100_forms.specs.Form.{Form, Text, MoveTo, MoveRight, EraseChar, ClearRowForward, ClearScreen, ClearAttrs}
-use Rattle.vt100_forms.specs.Form.{Crlf, Lf, Backspace, SaveCursor, RestoreCursor, HideCursor, Keypad, CursorKeys}
-use Rattle.vt100_forms.specs.Form.{Paste, Mouse, Encoding, Style, Sgr}
+use Rattle.vt100_forms.specs.Form.{Form, Text}
 use Rattle.vt100_forms.specs.Mark.{HasPlainText}
 use Rattle.vt100_cells.specs.Cell.{CellView, has_text, cell_of}
 use Rattle.vt100_cells.proofs.CellLemmas.{IsCell-space}
-use Rattle.terminal_model.specs.FormText.{IsSentText, IsFormText, HasText, AreForms, AreSentForms, EachFormIsSent}
-use Rattle.terminal_model.specs.FormText.{EachSentFormIsPlain}
+use Rattle.terminal_model.specs.FormText.{IsSentText, IsFormText, HasText, IsForm, IsSentForm, AreForms}
+use Rattle.terminal_model.specs.FormText.{AreSentForms, EachFormIsSent, EachSentFormIsPlain}
 use Rattle.terminal_model.proofs.PlainText.{text-plain, cell-sent}
 
 -- ---- lists
@@ -47,55 +45,14 @@ some-text x h = grind (arith, nat_tests)
 
 pub form-sent : EachFormIsSent
 form-sent (Text cs) h = (h.0.sent, h.1)
-form-sent (MoveTo r c) h = h
-form-sent (MoveRight n) h = h
-form-sent (EraseChar n) h = h
-form-sent ClearRowForward h = h
-form-sent ClearScreen h = h
-form-sent ClearAttrs h = h
-form-sent Crlf h = h
-form-sent Lf h = h
-form-sent Backspace h = h
-form-sent SaveCursor h = h
-form-sent RestoreCursor h = h
-form-sent (HideCursor b) h = h
-form-sent (Keypad b) h = h
-form-sent (CursorKeys b) h = h
-form-sent (Paste b) h = h
-form-sent (Mouse to from) h = h
-form-sent (Encoding to from) h = h
-form-sent (Style to from) h = h
-form-sent (Sgr c) h = h
+form-sent f h = h
 
 pub forms-sent : (fs : List Form) → AreForms fs → AreSentForms fs
-forms-sent [] h = tt
-forms-sent (f ∷ fs) h = (form-sent f h.0, forms-sent fs h.1)
+forms-sent = all-each IsForm IsSentForm form-sent
 
 pub text-is_plain : (f : Form) → HasText IsSentText f → HasPlainText f
 text-is_plain (Text cs) h = text-plain cs h
-text-is_plain (MoveTo r c) h = tt
-text-is_plain (MoveRight n) h = tt
-text-is_plain (EraseChar n) h = tt
-text-is_plain ClearRowForward h = tt
-text-is_plain ClearScreen h = tt
-text-is_plain ClearAttrs h = tt
-text-is_plain Crlf h = tt
-text-is_plain Lf h = tt
-text-is_plain Backspace h = tt
-text-is_plain SaveCursor h = tt
-text-is_plain RestoreCursor h = tt
-text-is_plain (HideCursor b) h = tt
-text-is_plain (Keypad b) h = tt
-text-is_plain (CursorKeys b) h = tt
-text-is_plain (Paste b) h = tt
-text-is_plain (Mouse to from) h = tt
-text-is_plain (Encoding to from) h = tt
-text-is_plain (Style to from) h = tt
-text-is_plain (Sgr c) h = tt
+text-is_plain f h = tt
 
 pub form-plain : EachSentFormIsPlain
 form-plain f h = text-is_plain f h.0
-
-pub forms-plain : (fs : List Form) → AreSentForms fs → AllByRecursion HasPlainText fs
-forms-plain [] h = tt
-forms-plain (f ∷ fs) h = (form-plain f h.0, forms-plain fs h.1)

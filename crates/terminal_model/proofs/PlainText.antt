@@ -14,13 +14,14 @@ esc_width : char_width false 27 ≡ None
 unfolding char_width
 esc_width = grind (arith, nat_tests)
 
-is_no_esc : ℕ → Type 0
-is_no_esc b = b ≡ 27 → ⊥
+-- a property of each element of both lists
+pub all-append : {X : Type 0} (P : X → Type 0) (xs ys : List X) → AllByRecursion P xs → AllByRecursion P ys
+    → AllByRecursion P (xs ++ ys)
+all-append P [] ys h g = g
+all-append P (x ∷ xs) ys h g = (h.0, all-append P xs ys h.1 g)
 
-no_esc-join : (xs ys : List ℕ) → AllByRecursion is_no_esc xs → AllByRecursion is_no_esc ys
-    → AllByRecursion is_no_esc (xs ++ ys)
-no_esc-join [] ys h g = g
-no_esc-join (x ∷ xs) ys h g = (h.0, no_esc-join xs ys h.1 g)
+unfoldable pub is_no_esc : ℕ → Type 0
+is_no_esc b = b ≡ 27 → ⊥
 
 no_esc-each : (xs : List ℕ) → ((k : ℕ) → k < length xs → get_or xs k 0 ≡ 27 → ⊥) → AllByRecursion is_no_esc xs
 unfolding is_no_esc
@@ -31,10 +32,10 @@ no_esc-char : (c : ℕ) → (c ≡ 27 → ⊥) → AllByRecursion is_no_esc (enc
 no_esc-char c h = no_esc-each (encode_utf8 c) (λ k l e.
     h (inside_one c [] (encode_utf8 c) k (sym (append-nil (encode_utf8 c))) l (omega (arith, e)) ∙ e))
 
-no_esc-all : (cs : List ℕ) → AllByRecursion is_no_esc cs → AllByRecursion is_no_esc (encode_utf8_all cs)
+pub no_esc-all : (cs : List ℕ) → AllByRecursion is_no_esc cs → AllByRecursion is_no_esc (encode_utf8_all cs)
 unfolding is_no_esc
 no_esc-all [] h = tt
-no_esc-all (c ∷ cs) h = no_esc-join (encode_utf8 c) (encode_utf8_all cs) (no_esc-char c h.0) (no_esc-all cs h.1)
+no_esc-all (c ∷ cs) h = all-append is_no_esc (encode_utf8 c) (encode_utf8_all cs) (no_esc-char c h.0) (no_esc-all cs h.1)
 
 -- ESC isn't drawn, and takes a column
 esc_is : is_undrawable 27 ≡ true

@@ -25,7 +25,7 @@ drawn_width : (w : Option ℕ) → min 2 (unwrap_or w 1) ≡ 0 → is_none w ≡
 drawn_width None e = absurd (omega (arith, e))
 drawn_width (Some n) e = refl
 
-drawn_zero : (d : ℕ) → columns_of d ≡ 0 → is_undrawable d ≡ false
+pub drawn_zero : (d : ℕ) → columns_of d ≡ 0 → is_undrawable d ≡ false
 drawn_zero d e = ap (λ b. b && nat_lt d 0x100) (drawn_width (char_width false d) e)
 
 kept_zero : (z : Size) (d : ℕ) (t : Term) → columns_of d ≡ 0 → 0 < t.col → is_dropped z.cols t.col d ≡ false

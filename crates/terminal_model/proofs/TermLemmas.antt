@@ -3,12 +3,10 @@ use Rattle.std.proofs.Common.{◌≡◌, ℕ, ◌+◌, ◌-◌, ◌<◌, ◌≤�
 use Rattle.std.proofs.Common.{nat_le, List, [], ◌∷◌, min, sym, refl, ap, ◌∙◌, arith}
 use Rattle.std.proofs.lemmas.Bool.{false≢true, cond_both, eqb-true, ltb-true, ltb-false, leb-true, not-true, and_parts}
 use Rattle.std.proofs.lemmas.Bool.Decides.{nat_tests}
-use Rattle.vt100_forms.specs.Form.{Form, Text, MoveTo, MoveRight, EraseChar, ClearRowForward, ClearScreen, ClearAttrs}
-use Rattle.vt100_forms.specs.Form.{Crlf, Lf, Backspace, SaveCursor, RestoreCursor, HideCursor, Keypad, CursorKeys}
-use Rattle.vt100_forms.specs.Form.{Paste, Mouse, Encoding, Style, Sgr}
+use Rattle.vt100_forms.specs.Form.{Form, Text, MoveTo, MoveRight, EraseChar, ClearRowForward, ClearScreen}
+use Rattle.vt100_forms.specs.Form.{Crlf, Lf, Backspace, SaveCursor, RestoreCursor}
 use Rattle.vt100_forms.specs.declared.attrs.Attrs.{Attrs}
 use Rattle.vt100_forms.specs.declared.modes.CursorStyle.{CursorStyle}
-use Rattle.vt100_forms.specs.Attrs.{default_attrs}
 use Rattle.vt100_cells.specs.Cell.{CellView, default_cell, empty_cell, cell_of, columns_of, is_undrawable, is_filled}
 use Rattle.vt100_cells.specs.Cell.{appended_plain}
 use Rattle.vt100_cells.specs.Line.{IsPaired, Bounded, span_of, put, put_unflags, base_col, wiped, wipe_unflags}
@@ -58,9 +56,10 @@ IsTerm-with_line z t g stays h p b full = record {
   saved_in_cols = h.saved_in_cols;
 }
 
-pub IsTerm-moved : (z : Size) (t : Term) (row col : ℕ) → IsTerm z t → row < z.rows → col ≤ z.cols
-    → IsTerm z (record t { row = row; col = col })
-IsTerm-moved z t row col h l m = record {
+-- the same cells and flags, with the cursors and all else of another terminal
+pub IsTerm-elsewhere : (z : Size) (t u : Term) → IsTerm z t → u.row < z.rows → u.col ≤ z.cols → u.saved_row < z.rows
+    → u.saved_col ≤ z.cols → IsTerm z (record u { cell = t.cell; wrapped = t.wrapped })
+IsTerm-elsewhere z t u h row col saved_row saved_col = record {
   some_row = h.some_row;
   some_col = h.some_col;
   paired = h.paired;
@@ -69,29 +68,23 @@ IsTerm-moved z t row col h l m = record {
   below_flag = h.below_flag;
   filled = h.filled;
   last = h.last;
-  in_rows = l;
-  in_cols = m;
-  saved_in_rows = h.saved_in_rows;
-  saved_in_cols = h.saved_in_cols;
+  in_rows = row;
+  in_cols = col;
+  saved_in_rows = saved_row;
+  saved_in_cols = saved_col;
 }
+
+pub IsTerm-moved : (z : Size) (t : Term) (row col : ℕ) → IsTerm z t → row < z.rows → col ≤ z.cols
+    → IsTerm z (record t { row = row; col = col })
+IsTerm-moved z t row col h l m =
+    IsTerm-elsewhere z t (record t { row = row; col = col }) h l m h.saved_in_rows h.saved_in_cols
 
 -- what is drawn next, and the modes
 pub IsTerm-set : (z : Size) (t : Term) (hidden : Bool) (a : Attrs) (m : Modes) (s : CursorStyle) → IsTerm z t
     → IsTerm z (record t { hidden = hidden; attrs = a; modes = m; style = s })
-IsTerm-set z t hidden a m s h = record {
-  some_row = h.some_row;
-  some_col = h.some_col;
-  paired = h.paired;
-  beyond = h.beyond;
-  below = h.below;
-  below_flag = h.below_flag;
-  filled = h.filled;
-  last = h.last;
-  in_rows = h.in_rows;
-  in_cols = h.in_cols;
-  saved_in_rows = h.saved_in_rows;
-  saved_in_cols = h.saved_in_cols;
-}
+IsTerm-set z t hidden a m s h =
+    IsTerm-elsewhere z t (record t { hidden = hidden; attrs = a; modes = m; style = s }) h h.in_rows h.in_cols
+    h.saved_in_rows h.saved_in_cols
 
 -- ---- the next row
 
@@ -322,35 +315,15 @@ IsTerm-apply z (MoveRight n) t h =
 IsTerm-apply z (EraseChar n) t h = IsTerm-erase z (min (t.col + n) z.cols) t h (omega arith)
 IsTerm-apply z ClearRowForward t h = IsTerm-erase z z.cols t h (omega arith)
 IsTerm-apply z ClearScreen t h = IsTerm-cleared z t h
-IsTerm-apply z ClearAttrs t h = IsTerm-set z t t.hidden default_attrs t.modes t.style h
 IsTerm-apply z Crlf t h = IsTerm-down z t 0 h (omega arith)
 IsTerm-apply z Lf t h = IsTerm-down z t t.col h h.in_cols
 IsTerm-apply z Backspace t h = IsTerm-moved z t t.row (t.col - 1) h h.in_rows (omega (arith, h.in_cols))
-IsTerm-apply z SaveCursor t h = record {
-  some_row = h.some_row;
-  some_col = h.some_col;
-  paired = h.paired;
-  beyond = h.beyond;
-  below = h.below;
-  below_flag = h.below_flag;
-  filled = h.filled;
-  last = h.last;
-  in_rows = h.in_rows;
-  in_cols = h.in_cols;
-  saved_in_rows = h.in_rows;
-  saved_in_cols = h.in_cols;
-}
+IsTerm-apply z SaveCursor t h =
+    IsTerm-elsewhere z t (apply z SaveCursor t) h h.in_rows h.in_cols h.in_rows h.in_cols
 IsTerm-apply z RestoreCursor t h =
-    IsTerm-set z (record t { row = t.saved_row; col = t.saved_col }) t.hidden t.saved_attrs t.modes t.style
-    (IsTerm-moved z t t.saved_row t.saved_col h h.saved_in_rows h.saved_in_cols)
-IsTerm-apply z (HideCursor b) t h = IsTerm-set z t b t.attrs t.modes t.style h
-IsTerm-apply z (Keypad b) t h = IsTerm-set z t t.hidden t.attrs _ t.style h
-IsTerm-apply z (CursorKeys b) t h = IsTerm-set z t t.hidden t.attrs _ t.style h
-IsTerm-apply z (Paste b) t h = IsTerm-set z t t.hidden t.attrs _ t.style h
-IsTerm-apply z (Mouse to from) t h = IsTerm-set z t t.hidden t.attrs _ t.style h
-IsTerm-apply z (Encoding to from) t h = IsTerm-set z t t.hidden t.attrs _ t.style h
-IsTerm-apply z (Style to from) t h = IsTerm-set z t t.hidden t.attrs t.modes _ h
-IsTerm-apply z (Sgr c) t h = IsTerm-set z t t.hidden _ t.modes t.style h
+    IsTerm-elsewhere z t (apply z RestoreCursor t) h h.saved_in_rows h.saved_in_cols h.saved_in_rows h.saved_in_cols
+IsTerm-apply z f t h =
+    IsTerm-elsewhere z t (apply z f t) h h.in_rows h.in_cols h.saved_in_rows h.saved_in_cols
 
 pub IsTerm-run : (z : Size) (fs : List Form) (t : Term) → IsTerm z t → IsTerm z (run z fs t)
 IsTerm-run z [] t h = h

@@ -4,9 +4,7 @@ use Rattle.std.proofs.Common.{◌∷◌, min, sym, refl, ap, ◌∙◌, arith, �
 use Rattle.std.proofs.lemmas.Bool.{false≢true, cond_both, eqb-true, lt-ltb}
 use Rattle.std.proofs.lemmas.Bool.Decides.{nat_tests}
 use Rattle.vt100_forms.specs.declared.attrs.Attrs.{Attrs}
-use Rattle.vt100_forms.specs.Form.{Form, Text, MoveTo, MoveRight, EraseChar, ClearRowForward, ClearScreen, ClearAttrs}
-use Rattle.vt100_forms.specs.Form.{Crlf, Lf, Backspace, SaveCursor, RestoreCursor, HideCursor, Keypad, CursorKeys}
-use Rattle.vt100_forms.specs.Form.{Paste, Mouse, Encoding, Style, Sgr}
+use Rattle.vt100_forms.specs.Form.{Form, Text, MoveRight, EraseChar, ClearRowForward, ClearScreen, Crlf, Lf}
 use Rattle.vt100_cells.specs.Cell.{CellView, columns_of, cell_of, appended_plain}
 use Rattle.vt100_cells.specs.Line.{put, wiped, base_col}
 use Rattle.terminal_model.specs.Position.{update}
@@ -127,26 +125,14 @@ form-untouched : (z : Size) (f : Form) (t : Term) (r k : ℕ) → form_touches z
     → (apply z f t).cell r k ≡ t.cell r k
 unfolding apply form_touches
 form-untouched z (Text cs) t r k h = inputs-untouched z cs t r k h
-form-untouched z (MoveTo row col) t r k h = refl
 form-untouched z (MoveRight n) t r k h = cond_both (n == 0) t (record t { col = min (t.col + n) (z.cols - 1) })
     (λ (u : Term). u.cell r k ≡ t.cell r k) (λ _. refl) (λ _. refl)
 form-untouched z (EraseChar n) t r k h = erase-untouched z (min (t.col + n) z.cols) t r k h
 form-untouched z ClearRowForward t r k h = erase-untouched z z.cols t r k h
 form-untouched z ClearScreen t r k h = absurd (false≢true (sym h))
-form-untouched z ClearAttrs t r k h = refl
 form-untouched z Crlf t r k h = down-untouched z (record t { col = 0 }) r k h
 form-untouched z Lf t r k h = down-untouched z t r k h
-form-untouched z Backspace t r k h = refl
-form-untouched z SaveCursor t r k h = refl
-form-untouched z RestoreCursor t r k h = refl
-form-untouched z (HideCursor b) t r k h = refl
-form-untouched z (Keypad b) t r k h = refl
-form-untouched z (CursorKeys b) t r k h = refl
-form-untouched z (Paste b) t r k h = refl
-form-untouched z (Mouse to from) t r k h = refl
-form-untouched z (Encoding to from) t r k h = refl
-form-untouched z (Style to from) t r k h = refl
-form-untouched z (Sgr c) t r k h = refl
+form-untouched z f t r k h = refl
 
 pub cell-untouched : EachUntouchedCellStays
 unfolding touches
