@@ -177,10 +177,22 @@ fn clear_right(cells: &mut [Cell], e: usize)
     }
 }
 
+/// Empties each column, with these attributes.
+// A default cell is zeros, and LLVM makes `memset` of them.
+pub fn clear(cells: &mut [Cell], attrs: Attrs)
+    ensures { cells.new ≡ replicate (length cells.old) (empty_cell attrs) }
+{
+    if attrs == Attrs::new() {
+        cells.fill(Cell::new());
+    } else {
+        fill(cells, Cell::empty(attrs));
+    }
+}
+
 /// Puts `cell` at each column.
-// A copy of the whole cell is two stores; where LLVM sees the cell made of its parts it is seven.
+// A copy of the whole cell is two stores; where LLVM sees the cell made of its parts it is seven and more.
 #[inline(never)]
-pub fn fill(cells: &mut [Cell], cell: Cell)
+fn fill(cells: &mut [Cell], cell: Cell)
     ensures { cells.new ≡ replicate (length cells.old) cell }
 {
     cells.fill(cell);
@@ -195,7 +207,7 @@ pub fn wipe(cells: &mut [Cell], s: usize, e: usize, attrs: Attrs)
 {
     clear_left(cells, s);
     clear_right(cells, e);
-    fill(&mut cells[s..e], Cell::empty(attrs));
+    clear(&mut cells[s..e], attrs);
 }
 
 /// Whether erasing the columns from `s` up to `e` empties the last one.
@@ -275,7 +287,7 @@ fn shift_right(cells: &mut [Cell], i: usize, count: usize)
     ensures { cells.new ≡ by_position (length cells.old) (shifted_right (cell_at cells.old) i count) }
 {
     cells[i..].rotate_right(count);
-    fill(&mut cells[i..i + count], Cell::new());
+    cells[i..i + count].fill(Cell::new());
 }
 
 /// Empties a wide character whose second half has fallen off the end.
@@ -329,7 +341,7 @@ fn shift_left(cells: &mut [Cell], s: usize, n: usize)
     requires { s + n ≤ length cells.old }
     ensures { cells.new ≡ by_position (length cells.old) (shifted_left (length cells.old) (cell_at cells.old) s n) }
 {
-    fill(&mut cells[s..s + n], Cell::new());
+    cells[s..s + n].fill(Cell::new());
     cells[s..].rotate_left(n);
 }
 
