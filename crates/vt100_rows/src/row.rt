@@ -18,7 +18,7 @@ use std::marker::Model;
 use std::ops::Range;
 use vt100_cells::Cell;
 use vt100_cells::line::{
-    at, base_col, clear_cut_half, clear_pair, ends_filled, fill, insert, put, put_run, puts_end,
+    at, base_col, clear, clear_cut_half, clear_pair, ends_filled, insert, put, put_run, puts_end,
     remove, trimmed_len, wipe, wipes_end,
 };
 use vt100_forms::GridError;
@@ -85,7 +85,7 @@ impl Row {
     pub fn clear(&mut self, attrs: Attrs)
         ensures { self.new ≡ cleared_row self.old attrs }
     {
-        fill(&mut self.cells, Cell::empty(attrs));
+        clear(&mut self.cells, attrs);
         self.wrapped = false;
     }
 
@@ -93,7 +93,7 @@ impl Row {
     pub fn reset(&mut self)
         ensures { self.new ≡ blank_row (length self.old.cells) }
     {
-        fill(&mut self.cells, Cell::new());
+        self.cells.fill(Cell::new());
         self.wrapped = false;
     }
 
