@@ -94,7 +94,8 @@ impl Row {
     pub fn reset(&mut self)
         ensures { self.new ≡ blank_row (length self.old.cells) }
     {
-        fill(&mut self.cells, Cell::new());
+        // LLVM knows that all bytes of a default cell are 0.
+        self.cells.fill(Cell::new());
         self.wrapped = false;
     }
 
