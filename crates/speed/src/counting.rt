@@ -2,6 +2,7 @@
 
 ghost use Rattle.std.specs.Prelude.{⊤, false};
 
+use std::marker::Model;
 use vte::ansi::{Call, Handler};
 use vte::{Event, Perform};
 
@@ -9,6 +10,15 @@ use vte::{Event, Perform};
 #[derive(Drop)]
 pub(crate) struct Counting {
     pub(crate) count: usize,
+}
+
+/// Nothing is promised of the count.
+impl Model for Counting {
+    ghost use Rattle.std.specs.Prelude.{⊤};
+
+    ghost Value = { ⊤ };
+
+    ghost view = { λ _. tt };
 }
 
 impl Counting {
@@ -22,7 +32,6 @@ impl Counting {
 }
 
 impl Perform for Counting {
-    // Nothing is promised of the count.
     ghost step = { λ _ _ _. ⊤ };
 
     ghost is_terminated = { λ _. false };

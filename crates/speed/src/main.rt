@@ -7,7 +7,7 @@
 //! - `view`: a far terminal reads it.
 //! - `redraw`: the screen that it leaves is written whole.
 //! - `difference`: what its last 2,000 bytes have changed is written.
-//! - `same`: the screen that it leaves is compared with itself, and the difference, which is nothing, is written.
+//! - `same`: the screen that it leaves is compared with an equal one, and the difference, which is nothing, is written.
 //! - `row`: a row is written over, and what has changed since is written.
 //! - `unchanged`: a hub that has sent its screen is asked for a frame.
 //! - `frame`: a row is written over, and the client's frame, a difference, is made and sent.
@@ -17,7 +17,10 @@
 #![tactic(auto)]
 
 mod counting;
+mod reading;
+mod relaying;
 mod work;
+mod writing;
 
 use anyhow::bail;
 use command_line::{lend, parse_count, parse_size, words_of};
@@ -32,28 +35,40 @@ fn main(rt: HostRuntime) -> anyhow::Result<()> {
     let [work, rows, cols, times] = words.as_slice() else {
         bail!("usage: speed WORK ROWS COLS TIMES");
     };
-    let (Some(rows), Some(cols), Some(times)) = (
-        parse_size(rows),
-        parse_size(cols),
-        parse_count(times),
-    ) else {
-        bail!("usage: speed WORK ROWS COLS TIMES");
-    };
     let mut stream = Vec::new(alloc);
     rt.stdin().read_to_end(&mut stream)?;
-    let job = Job {
-        alloc,
-        rows,
-        cols,
-        times,
-        stream: &stream,
+    let Some(job) = job_of(&rt, rows, cols, times, &stream) else {
+        bail!("usage: speed WORK ROWS COLS TIMES");
     };
-    if *work == "all" {
-        for work in WORKS {
-            println!(rt; "{work} {}", job.count(work)?)?;
+    print_counts(&rt, job, work)
+}
+
+fn job_of<'a>(
+    rt: &HostRuntime,
+    rows: &str,
+    cols: &str,
+    times: &str,
+    stream: &'a [u8],
+) -> Option<Job<'a>> {
+    Some(Job {
+        alloc: rt.alloc(),
+        rows: parse_size(rows)?,
+        cols: parse_size(cols)?,
+        times: parse_count(times)?,
+        stream,
+    })
+}
+
+/// Does the work of this name, or all, and prints what it counts.
+fn print_counts(rt: &HostRuntime, job: Job<'_>, name: &str) -> anyhow::Result<()> {
+    let is_all = name == "all";
+    for (word, work) in WORKS {
+        if is_all || name == word {
+            let Some(count) = job.count(work) else {
+                bail!("memory");
+            };
+            println!(rt; "{word} {count}")?;
         }
-    } else {
-        println!(rt; "{}", job.count(work)?)?;
     }
     Ok(())
 }

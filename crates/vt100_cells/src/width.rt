@@ -12,26 +12,17 @@ use unicode_width::UnicodeWidthChar;
 pub fn columns(c: char) -> Option<u16>
     ensures { result ≡ drawn_columns c }
 {
-    // Printable ASCII and the main scripts of two columns need no look-up.
+    // Printable ASCII and the scripts that most wide characters are of need no look-up.
     match c {
         ' '..='~' => Some(1),
-        '\u{3000}'..='\u{3029}'
-        | '\u{3041}'..='\u{3096}'
-        | '\u{30A0}'..='\u{30FF}'
-        | '\u{4E00}'..='\u{9FFF}'
+        '\u{4E00}'..='\u{9FFF}'
         | '\u{AC00}'..='\u{D7A3}'
-        | '\u{FF01}'..='\u{FF60}' => Some(2),
-        _ => looked_up_columns(c),
-    }
-}
-
-/// How many columns `c` takes by Unicode's tables.
-fn looked_up_columns(c: char) -> Option<u16>
-    ensures { result ≡ drawn_columns c }
-{
-    match c.width() {
-        Some(width) => Some(width.min(2) as u16),
-        None if c < '\u{100}' => None,
-        None => Some(1),
+        | '\u{3041}'..='\u{3096}'
+        | '\u{30A0}'..='\u{30FF}' => Some(2),
+        _ => match c.width() {
+            Some(width) => Some(width.min(2) as u16),
+            None if c < '\u{100}' => None,
+            None => Some(1),
+        },
     }
 }

@@ -14,12 +14,12 @@ use Rattle.vt100_cells.specs.Line.{put, put_unflags}
 use Rattle.vt100_cells.proofs.CellLemmas.{IsCell-of}
 use Rattle.vt100_cells.proofs.ListLemmas.{length-by_position}
 use Rattle.vt100_cells.proofs.WidthLemmas.{drawn-is}
-use Rattle.vt100_rows.specs.Row.{RowView, blank_row, placed}
+use Rattle.vt100_rows.specs.Row.{RowView, blank_row, placed, placed_pairs}
 use Rattle.vt100_rows.proofs.RowLemmas.{IsRow-placed}
 use Rattle.vt100_rows.specs.Sheet.{IsRowOf}
 use Rattle.vt100_core.specs.Grid.{GridView, IsGrid, IsAllocated, row_of_cursor, with_cursor_row}
 use Rattle.vt100_core.specs.Scroll.{Scrolled, wrapped_on, made_to_fit}
-use Rattle.vt100_core.specs.Text.{PrintedGrid, IsWide, put_at, placed_pairs, printed, printed_all}
+use Rattle.vt100_core.specs.Text.{PrintedGrid, IsWide, put_at, printed, printed_all}
 use Rattle.vt100_core.proofs.EraseLemmas.{IsGrid-cursor_row, cursor_row_of}
 use Rattle.vt100_core.proofs.TextLemmas.{IsGrid-col, printed-spaced, span_of-cell}
 use Rattle.vt100_core.proofs.RunLemmas.{drawn_at, after_first, fits-true}

@@ -1,8 +1,9 @@
 -- Printing one character on a grid.
 use Rattle.std.specs.Prelude.{ℕ, ◌+◌, ◌-◌, ◌==◌, true, false, not, nat_lt, List, [], ◌∷◌, ◌++◌}
-use Rattle.std.specs.Prelude.{◌≡◌, Some, if◌then◌else◌}
+use Rattle.std.specs.Prelude.{◌≡◌, if◌then◌else◌}
 use Rattle.vt100_forms.specs.declared.attrs.Attrs.{Attrs}
-use Rattle.vt100_cells.specs.Cell.{CellView, columns_of, drawn_columns, cell_of}
+use Rattle.vt100_cells.specs.Cell.{CellView, columns_of, cell_of}
+pub use Rattle.vt100_cells.specs.Cell.{IsWide}
 use Rattle.vt100_rows.specs.Row.{RowView, placed, wiped_row, joined_cell, joined_row, is_widening}
 use Rattle.terminal_model.specs.Apply.{is_dropped}
 use Rattle.vt100_rows.specs.Sink.{TakesAll}
@@ -70,15 +71,6 @@ printed_all g (c ∷ cs) a =
     let first = printed g c a in
     let others = printed_all first.grid cs a in
     record { grid = others.grid; sunk = first.sunk ++ others.sunk }
-
--- a character that takes two columns
-abbrev pub IsWide : ℕ → Type 0
-IsWide c = drawn_columns c ≡ Some 2
-
--- such characters are put on a row one after another, from column i on
-abbrev pub placed_pairs : RowView → ℕ → List ℕ → Attrs → RowView
-placed_pairs v i [] a = v
-placed_pairs v i (c ∷ cs) a = placed_pairs (placed v i (cell_of c a) a) (i + 2) cs a
 
 -- the sink s has been given the rows that leave while a front of the text is printed, and is t
 abbrev pub TakesFront : {S : Type 0} → (S → RowView → S → Type 0) → S → GridView → List ℕ → Attrs → S → Type 0

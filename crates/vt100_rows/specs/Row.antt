@@ -1,14 +1,14 @@
 -- What a contract sees of a row, what is true of every row, and what each call does to it.
-use Rattle.std.specs.Prelude.{ℕ, suc, ◌+◌, ◌-◌, ◌^◌, ◌<◌, ◌≡◌, ◌==◌, Bool, true, false, not, ◌&&◌, nat_lt, min, List}
-use Rattle.std.specs.Prelude.{[], ◌∷◌, length, map, take, replicate, slice_index_or, if◌then◌else◌}
+use Rattle.std.specs.Prelude.{ℕ, ◌+◌, ◌-◌, ◌^◌, ◌<◌, ◌≡◌, ◌==◌, Bool, true, false, not, ◌&&◌, nat_lt, min, List}
+use Rattle.std.specs.Prelude.{[], ◌∷◌, length, take, replicate, if◌then◌else◌}
 use Rattle.vt100_forms.specs.declared.attrs.Attrs.{Attrs}
 use Rattle.vt100_rows.specs.declared.join.Join.{Join}
 use Rattle.vt100_rows.specs.declared.join.Join.TheVariants.{InPlace, Ignored, Widened, Carried}
-use Rattle.vt100_cells.specs.Cell.{CellView, IsCell, default_cell, empty_cell, cell_of, is_filled, is_default, appended}
+use Rattle.vt100_cells.specs.Cell.{CellView, IsCell, default_cell, empty_cell, cell_of, is_filled, appended}
 use Rattle.vt100_cells.specs.Cell.{appended_plain}
 use Rattle.vt100_cells.specs.Cells.{cell_at, by_position, last_cell, inserted_cells, trimmed_len}
 use Rattle.vt100_cells.specs.Line.{IsPaired, update, put, put_unflags, base_col, pair_wiped, wiped, wipe_unflags, cut}
-use Rattle.vt100_cells.specs.Line.{opened, closed, extended, printed_run}
+use Rattle.vt100_cells.specs.Line.{closed, extended, printed_run, printed_pairs, pairs_unflag}
 
 -- the cells from left to right, and whether the row's text goes on in the row below
 pub record RowView : Type 0 where
@@ -57,6 +57,18 @@ run_row v i xs a = record { cells = by_position (length v.cells) (printed_run (c
 abbrev pub placed_each : RowView → ℕ → List ℕ → Attrs → RowView
 placed_each v i [] a = v
 placed_each v i (x ∷ xs) a = placed_each (placed v i (cell_of x a) a) (i + 1) xs a
+
+-- the characters xs, which take two columns each, are put from column i on
+abbrev pub pairs_row : RowView → ℕ → List ℕ → Attrs → RowView
+pairs_row v i xs a = record {
+  cells = by_position (length v.cells) (printed_pairs (cell_at v.cells) i xs a);
+  wrapped = v.wrapped && not (pairs_unflag (length v.cells) (cell_at v.cells) i xs);
+}
+
+-- the same, one character after another
+abbrev pub placed_pairs : RowView → ℕ → List ℕ → Attrs → RowView
+placed_pairs v i [] a = v
+placed_pairs v i (x ∷ xs) a = placed_pairs (placed v i (cell_of x a) a) (i + 2) xs a
 
 -- the columns from s up to e are erased
 abbrev pub wiped_row : RowView → ℕ → ℕ → Attrs → RowView

@@ -1,12 +1,13 @@
 //! One row of a terminal.
-ghost use Rattle.std.specs.Prelude.{◌≡◌, ℕ, ◌+◌, ◌-◌, ◌<◌, ◌≤◌, ◌==◌, ◌++◌, List, length, Some, true, false, not, ◌&&◌};
+ghost use Rattle.std.specs.Prelude.{◌≡◌, ℕ, ◌+◌, ◌-◌, ◌*◌, ◌<◌, ◌≤◌, ◌==◌, ◌++◌, List, length, Some, true, false, not, ◌&&◌};
 ghost use Rattle.std.specs.Prelude.{IfOk, IsOk, OnOk, OnErr, slice_get, string_bytes, encode_utf8_all, replicate, All};
 ghost use Rattle.std.specs.Option.{option_copied};
-ghost use Rattle.vt100_cells.specs.Cell.{cell_of, has_text, drawn_columns, IsPrintable};
+ghost use Rattle.std.specs.Char.{IsScalar};
+ghost use Rattle.vt100_cells.specs.Cell.{cell_of, has_text, drawn_columns, IsPrintable, IsWide};
 ghost use Rattle.vt100_cells.specs.Line.{span_of};
 ghost use Rattle.vt100_rows.specs.Row.{blank_row, cleared_row, with_wrap, placed, wiped_row, pair_cleared, join_row};
 ghost use Rattle.vt100_rows.specs.Row.{join_answer, inserted, removed, truncated, grown, resized_row, trimmed, run_row};
-ghost use Rattle.vt100_rows.specs.Row.{placed_each, joined_plain};
+ghost use Rattle.vt100_rows.specs.Row.{placed_each, pairs_row, placed_pairs, joined_plain};
 ghost use Rattle.vt100_rows.specs.Text.{written_text};
 ghost use Rattle.row_drawing.specs.Writes.{IsBegun};
 
@@ -18,8 +19,8 @@ use std::marker::Model;
 use std::ops::Range;
 use vt100_cells::Cell;
 use vt100_cells::line::{
-    at, base_col, clear, clear_cut_half, clear_pair, ends_filled, insert, put, put_run, puts_end,
-    remove, trimmed_len, wipe, wipes_end,
+    at, base_col, clear, clear_cut_half, clear_pair, ends_filled, insert, pairs_end, put, put_pairs,
+    put_run, puts_end, remove, trimmed_len, wipe, wipes_end,
 };
 use vt100_forms::GridError;
 use vt100_forms::attrs::Attrs;
@@ -93,6 +94,7 @@ impl Row {
     pub fn reset(&mut self)
         ensures { self.new ≡ blank_row (length self.old.cells) }
     {
+        // LLVM knows that all bytes of a default cell are 0.
         self.cells.fill(Cell::new());
         self.wrapped = false;
     }
@@ -279,6 +281,25 @@ impl Row {
     {
         if !text.is_empty() {
             put_run(&mut self.cells, usize::from(col), text, attrs);
+        }
+    }
+
+    /// Puts the characters of `text`, each of which takes two columns, at column `col` and after it, as
+    /// [`put`](Self::put) of each in turn does.
+    #[doc(hidden)]
+    pub fn put_pairs(&mut self, col: u16, text: &[char], attrs: Attrs)
+        requires wide { All IsWide text.now }
+        requires in_row { col + 2 * length text.now ≤ length self.old.cells }
+        ensures row { self.new ≡ pairs_row self.old col text.now attrs }
+        ensures each { self.new ≡ placed_pairs self.old col text.now attrs }
+        ensures characters { All IsScalar text.now }
+    {
+        if !text.is_empty() {
+            let col = usize::from(col);
+            if pairs_end(&self.cells, col, text) {
+                self.wrapped = false;
+            }
+            put_pairs(&mut self.cells, col, text, attrs);
         }
     }
 

@@ -1,15 +1,13 @@
 //! Printing a run of wide characters.
-ghost use Rattle.std.specs.Prelude.{◌≡◌, ℕ, ◌+◌, ◌*◌, ◌^◌, ◌<◌, ◌≤◌, All, IsOk, OnOk, OnErr, IfOk, length, take};
-ghost use Rattle.std.specs.Char.{IsScalar};
-ghost use Rattle.vt100_cells.specs.Cell.{cell_of};
-ghost use Rattle.vt100_rows.specs.Row.{placed};
-ghost use Rattle.vt100_core.specs.Text.{IsWide, placed_pairs};
+ghost use Rattle.std.specs.Prelude.{◌≡◌, ℕ, ◌+◌, ◌*◌, ◌<◌, ◌≤◌, All, IsOk, OnOk, OnErr, IfOk, length, take};
+ghost use Rattle.vt100_rows.specs.Row.{placed_pairs};
+ghost use Rattle.vt100_core.specs.Text.{IsWide};
 ghost use Rattle.vt100_rows.specs.Sink.{TakesAll};
 
 use crate::grid::Grid;
 use vt100_forms::GridError;
 use vt100_forms::attrs::Attrs;
-use vt100_rows::{Row, RowSink};
+use vt100_rows::RowSink;
 
 impl Grid {
     ghost use Rattle.vt100_core.specs.Grid.{IsAllocated, SameLimits, row_of_cursor, with_cursor_row};
@@ -87,33 +85,7 @@ impl Grid {
         ensures allocated { IsAllocated self.new }
     {
         let col = self.pos.col;
-        put_each(&mut self.rows[usize::from(self.pos.row)], col, text, attrs);
+        self.rows[usize::from(self.pos.row)].put_pairs(col, text, attrs);
         self.pos.col = col + 2 * text.len() as u16;
     }
-}
-
-/// Puts wide characters on a row, from column `col` on.
-fn put_each(row: &mut Row, col: u16, text: &[char], attrs: Attrs)
-    requires wide { All IsWide text.now }
-    requires fits { col + 2 * length text.now ≤ length row.old.cells }
-    requires narrow { length row.old.cells < 2 ^ 16 }
-    ensures row { row.new ≡ placed_pairs row.old col text.now attrs }
-    ensures characters { All IsScalar text.now }
-{
-    let mut col = col;
-    for c in text {
-        put_one(row, col, *c, attrs);
-        col += 2;
-    }
-}
-
-/// Puts a wide character on a row, at column `col`.
-#[inline(always)]
-fn put_one(row: &mut Row, col: u16, c: char, attrs: Attrs)
-    requires wide { IsWide c }
-    requires fits { col + 2 ≤ length row.old.cells }
-    ensures row { row.new ≡ placed row.old col (cell_of c attrs) attrs }
-    ensures character { IsScalar c }
-{
-    row.put(col, c, 2, attrs);
 }

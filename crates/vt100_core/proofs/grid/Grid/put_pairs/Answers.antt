@@ -8,4 +8,4 @@ pub invariant_of-self : goal.invariant_of-self
 invariant_of-self c =
     IsGrid-at _ (pairs_at c.args.self.now c.args.text.now c.args.attrs) (grind (arith, common_steps))
     (IsGrid-pairs_at c.args.self.now c.args.text.now c.args.attrs (rw (← c.self.view_is) c.self.invariant)
-    c.requires.allocated c.requires.wide c.put_each.ensures.characters c.requires.fits)
+    c.requires.allocated c.requires.wide c.put_pairs.ensures.characters c.requires.fits)

@@ -1,0 +1,63 @@
+//! Work of a hub.
+
+use crate::work::{Job, Work, row_at};
+use std::alloc::Global;
+use termrelay::{Client, Hub};
+
+impl<'a> Job<'a> {
+    /// Makes frames of the screen that the stream leaves.
+    pub(crate) fn relayed(&self, work: Work) -> Option<usize> {
+        let mut hub = Hub::new(self.alloc, self.rows, self.cols).ok()?;
+        relay(self, &mut hub, work)
+    }
+}
+
+fn relay(job: &Job<'_>, hub: &mut Hub, work: Work) -> Option<usize> {
+    hub.feed(job.stream).ok()?;
+    let client = hub.attach().ok()?;
+    let first = send(job.alloc, hub, client)?;
+    match work {
+        Work::Unchanged => ask(hub, client, job.times, first),
+        Work::Frame => send_rows(job, hub, client, first),
+        _ => send_all(job, hub),
+    }
+}
+
+/// Asks for a frame where nothing has changed.
+fn ask(hub: &mut Hub, client: Client, times: usize, count: usize) -> Option<usize> {
+    for _ in 0..times {
+        hub.frame(client).ok()?;
+    }
+    Some(count)
+}
+
+/// Writes a row over, and sends the frame that is due, again and again.
+fn send_rows(job: &Job<'_>, hub: &mut Hub, client: Client, first: usize) -> Option<usize> {
+    let mut count = first;
+    for time in 0..job.times {
+        hub.feed(row_at(time)).ok()?;
+        count = count.wrapping_add(send(job.alloc, hub, client)?);
+    }
+    Some(count)
+}
+
+/// Attaches clients, and sends each its first frame.
+fn send_all(job: &Job<'_>, hub: &mut Hub) -> Option<usize> {
+    let mut count: usize = 0;
+    for _ in 0..job.times {
+        let client = hub.attach().ok()?;
+        count = count.wrapping_add(send(job.alloc, hub, client)?);
+    }
+    Some(count)
+}
+
+/// Makes and sends the frame that is due, and answers how long it is.
+fn send(alloc: Global, hub: &mut Hub, client: Client) -> Option<usize> {
+    hub.frame(client).ok()?;
+    let mut wire = Vec::new(alloc);
+    if hub.pump(client, &mut wire).is_ok() {
+        Some(wire.len())
+    } else {
+        None
+    }
+}

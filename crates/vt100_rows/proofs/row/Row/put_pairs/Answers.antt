@@ -1,0 +1,24 @@
+use Rattle.std.proofs.Common.{arith, ◌∙◌, ◌≡◌, ◌==◌, length, true}
+use Rattle.std.proofs.lemmas.Bool.{eqb-true}
+use Rattle.std.proofs.lemmas.Grind.{common_steps}
+use Rattle.vt100_rows.specs.Row.{pairs_row}
+use Rattle.vt100_rows.proofs.RowLemmas.{IsRow-at}
+use Rattle.vt100_rows.proofs.RowPairs.{IsRow-pairs, pairs_row-each, pairs_row-empty}
+use Rattle.vt100_rows.proofs.row.Row.put_pairs.Goals as goal
+
+pub invariant_of-self : goal.invariant_of-self
+invariant_of-self c =
+    IsRow-at _ (pairs_row c.args.self.now c.args.col c.args.text.now c.args.attrs) (grind (arith, common_steps))
+    (IsRow-pairs c.args.self.now c.args.col c.args.text.now c.args.attrs (rw (← c.self.view_is) c.self.invariant)
+    c.requires.wide c.put_pairs.ensures.characters c.requires.in_row)
+
+pub returns-after-pairs_end-clause-each : goal.returns-after-pairs_end-clause-each
+returns-after-pairs_end-clause-each c =
+    let same : _ ≡ pairs_row c.args.self.now c.args.col c.args.text.now c.args.attrs = grind (arith, common_steps) in
+    same ∙ pairs_row-each c.args.text.now c.args.self.now c.args.col c.args.attrs
+    (rw (← c.self.view_is) c.self.invariant) c.requires.wide c.put_pairs.ensures.characters c.requires.in_row
+
+pub returns-else-not-is_empty-clause-row : goal.returns-else-not-is_empty-clause-row
+returns-else-not-is_empty-clause-row c =
+    let none : (length c.args.text.now == 0) ≡ true = cc in
+    pairs_row-empty c.args.self.now c.args.col c.args.text.now c.args.attrs (eqb-true (length c.args.text.now) 0 none)
