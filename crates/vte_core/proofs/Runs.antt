@@ -3,7 +3,6 @@ use Rattle.std.proofs.Common.{◌≡◌, ℕ, zero, suc, ◌+◌, ◌-◌, ◌*�
 use Rattle.std.proofs.Common.{[], ◌∷◌, ◌++◌, ◌⊎◌, inl, inr, map, nat_lt, length, take, drop, get_or, ◌==◌, refl, sym}
 use Rattle.std.proofs.Common.{◌∙◌, ap, subst, arith, append_assoc, length-take}
 use Rattle.std.proofs.lemmas.Bool.Decides.{nat_tests}
-use Rattle.std.proofs.lemmas.Grind.{common_steps}
 use Rattle.std.proofs.lemmas.Bool.{ltb-true, eqb-true, eq-eqb}
 use lib.Utf8.{scalar_cases}
 use Rattle.std.specs.Int.{is_in_range}
@@ -11,8 +10,6 @@ use Rattle.std.specs.Char.{encode_utf8, IsScalar}
 use Rattle.std.specs.Str.{encode_utf8_all, all_scalars, chars, IsUtf8}
 use Rattle.std.proofs.lemmas.Str.{encodes-chars, scalars-chars}
 use Rattle.std.specs.Bool.{IsTrue}
-use Rattle.std.specs.Prelude.{nat_eq}
-use lib.Dec.{leb}
 use Rattle.vte_core.specs.Event.{Event, Performs, Print}
 use Rattle.vte_core.specs.Bytes.{is_esc}
 use Rattle.vte_core.specs.Text.{char_len, second_min, second_max, first_bits, char_event}
@@ -28,7 +25,7 @@ use Rattle.vte_core.specs.declared.parser.State.TheVariants.{SosPmApcString}
 use Rattle.vte_core.specs.Stopping.{StopsAt, runs_on, is_text}
 use Rattle.vte_core.proofs.Characters.{bool_cases}
 use lib.Seq.{take-add}
-use Rattle.std.proofs.lemmas.List.{take-append-drop, drop-drop, take_more}
+use Rattle.std.proofs.lemmas.List.{take-append-drop, drop-drop, drop_more}
 use Rattle.vte_core.proofs.Machine.{events_from-append, after_bytes-append}
 use Rattle.vte_core.proofs.StopLemmas.{whole_rest, is_text-at}
 
@@ -522,38 +519,25 @@ printed-text bs h p =
 
 -- blocks without controls
 
-plain_bits : (p q r : Bool) → IsTrue (p && (q && r)) → IsTrue p × (q ≡ true) × (r ≡ true)
-plain_bits true true true h = (h, refl, refl)
-plain_bits true true false h = absurd (let e : false ≡ true = h in cc)
-plain_bits true false r h = absurd (let e : false ≡ true = h in cc)
-plain_bits false q r h = absurd (let e : false ≡ true = h in cc)
-
-plain-printed : (b : ℕ) (rest : List ℕ) → leb 32 b ≡ true → not (nat_eq b 194) ≡ true → is_printed b rest ≡ true
-plain-printed b rest h k =
-    let low : nat_lt b 0x20 ≡ false = grind (arith, nat_tests) in
-    let other : (b == 0xC2) ≡ false = grind (arith, nat_tests) in rw (low, other) refl
-
-pub plain_step : (bs : List ℕ) (i : ℕ) (p : Bool) → i < length bs
-    → (IsTrue p → (rest : List ℕ) → printed_len (take i bs ++ rest) ≡ i + printed_len rest)
-    → IsTrue (p && (leb 32 (get_or bs i 0) && not (nat_eq (get_or bs i 0) 194))) → (rest : List ℕ)
-    → printed_len (take (i + 1) bs ++ rest) ≡ i + 1 + printed_len rest
-plain_step bs i p lt inv t rest =
+pub pair_step : (bs : List ℕ) (i : ℕ) (p q : Bool) → i + 1 < length bs
+    → (IsTrue p → i + printed_len (drop i bs) ≡ printed_len bs)
+    → q ≡ is_printed (get_or bs i 0) (get_or bs (i + 1) 0 ∷ []) → IsTrue (p && q)
+    → i + 1 + printed_len (drop (i + 1) bs) ≡ printed_len bs
+pair_step bs i true true lt inv e t =
     let b = get_or bs i 0 in
-    let parts = plain_bits p (leb 32 b) (not (nat_eq b 194)) t in
-    let front : take (i + 1) bs ++ rest ≡ take i bs ++ (b ∷ rest) =
-    ap (λ (xs : List ℕ). xs ++ rest) (take_more bs i 0 lt) ∙ append_assoc (take i bs) (b ∷ []) rest in
-    let printed : is_printed b rest ≡ true = plain-printed b rest parts.1 parts.2 in
-    let one : printed_len (b ∷ rest) ≡ suc (printed_len rest) = rw printed refl in
-    ap printed_len front ∙ (inv parts.0 (b ∷ rest) ∙ (ap (λ k. i + k) one ∙ omega arith))
+    let after : drop i bs ≡ b ∷ drop (i + 1) bs = drop_more bs i 0 (omega arith) in
+    let next : drop (i + 1) bs ≡ get_or bs (i + 1) 0 ∷ drop (i + 1 + 1) bs = drop_more bs (i + 1) 0 lt in
+    let printed : is_printed b (drop (i + 1) bs) ≡ true = ap (is_printed b) next ∙ sym e in
+    let one : printed_len (b ∷ drop (i + 1) bs) ≡ suc (printed_len (drop (i + 1) bs)) = rw printed refl in
+    omega (arith, inv refl, ap printed_len after, one)
+pair_step bs i true false lt inv e t = absurd (let no : false ≡ true = t in cc)
+pair_step bs i false q lt inv e t = absurd (let no : false ≡ true = t in cc)
 
-pub plain_block : (bs : List ℕ) (i : ℕ) → i + 16 ≤ length bs
-    → ((rest : List ℕ) → printed_len (take (i + 16 - i) (drop i bs) ++ rest)
-    ≡ length (take (i + 16 - i) (drop i bs)) + printed_len rest)
+pub block_more : (bs : List ℕ) (i : ℕ) → i + 16 ≤ length bs
+    → 16 + printed_len (drop 16 (take (length bs - i) (drop i bs))) ≡ printed_len (take (length bs - i) (drop i bs))
     → i + printed_len (drop i bs) ≡ printed_len bs → i + 16 + printed_len (drop (i + 16) bs) ≡ printed_len bs
-plain_block bs i within block so_far =
-    let k : i + 16 - i ≡ 16 = omega arith in
-    let len : length (take (i + 16 - i) (drop i bs)) ≡ 16 = grind (arith, common_steps) in
-    let same : take (i + 16 - i) (drop i bs) ++ drop 16 (drop i bs) ≡ drop i bs =
-    ap (λ n. take n (drop i bs) ++ drop 16 (drop i bs)) k ∙ take-append-drop 16 (drop i bs) in
-    let rest : drop (i + 16) bs ≡ drop 16 (drop i bs) = sym (drop-drop 16 i bs) in
-    omega (arith, so_far, len, block (drop 16 (drop i bs)), ap printed_len same, ap printed_len rest)
+block_more bs i within block so_far =
+    let rest : take (length bs - i) (drop i bs) ≡ drop i bs = whole_rest bs i in
+    let front : 16 + printed_len (drop 16 (drop i bs)) ≡ printed_len (drop i bs) = rw rest at block in
+    let more : drop (i + 16) bs ≡ drop 16 (drop i bs) = sym (drop-drop 16 i bs) in
+    omega (arith, so_far, front, ap printed_len more)

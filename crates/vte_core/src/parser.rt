@@ -327,17 +327,18 @@ impl<const N: usize> Parser<N> {
         }
     }
 
-    /// The byte after ESC and its intermediates, other than ESC. It's mostly the final byte.
+    /// The byte after ESC and its intermediates, which mostly is the final byte.
     #[inline(always)]
     fn after_escape<P: Perform>(&mut self, performer: &mut P, byte: u8)
-        requires state { self.old.state ≡ State.Escape }
-        requires not_esc { byte ≢ 0x1B }
+        requires { self.old.state ≡ State.Escape }
         ensures stands { (q : Pending) → IsAt N self.old q → IsAt N self.new (after_byte q byte) }
         ensures told { Performs P.step performer.old (heard N self.old self.new byte) performer.new }
         ensures is_told { (q : Pending) → IsAt N self.old q → heard N self.old self.new byte ≡ events_of_byte N q byte }
     {
         if is_escape_final(byte) {
             self.end_escape(performer, byte);
+        } else if byte == 0x1B {
+            self.begin_escape(performer);
         } else {
             self.escape(performer, byte);
         }
@@ -642,11 +643,11 @@ impl<const N: usize> Parser<N> {
     {
         match self.state {
             State::Ground => self.read_text(performer, bytes),
-            _ if bytes[0] == 0x1B => self.read_anew(performer, bytes),
             State::Escape => {
                 self.after_escape(performer, bytes[0]);
                 1
             }
+            _ if bytes[0] == 0x1B => self.read_anew(performer, bytes),
             _ => self.read_sequence(performer, bytes),
         }
     }

@@ -219,14 +219,23 @@ fn is_printed(byte: u8, rest: &[u8]) -> bool
     }
 }
 
-/// Whether none of the bytes is a control, or 0xC2, with which one may begin.
-#[inline]
-fn are_printed(bytes: &[u8]) -> bool
-    ensures { IsTrue result → (rest : List ℕ) → printed_len (bytes.now ++ rest) ≡ length bytes.now + printed_len rest }
+/// Whether no control that is executed begins at the byte, before the next.
+#[inline(always)]
+fn is_printed_before(byte: u8, next: u8) -> bool
+    ensures { result ≡ is_printed byte (next ∷ []) }
+{
+    (byte >= 0x20) & ((byte != 0xC2) | !(0x80..=0x9F).contains(&next))
+}
+
+/// Whether no control that is executed begins in the first block.
+#[inline(always)]
+fn begins_printed(bytes: &[u8]) -> bool
+    requires { 16 < length bytes.now }
+    ensures { IsTrue result → 16 + printed_len (drop 16 bytes.now) ≡ printed_len bytes.now }
 {
     let mut are_printed = true;
-    for byte in bytes {
-        are_printed &= (*byte >= 0x20) & (*byte != 0xC2);
+    for i in 0..BLOCK_LEN {
+        are_printed &= is_printed_before(bytes[i], bytes[i + 1]);
     }
     are_printed
 }
@@ -237,8 +246,8 @@ fn block_len(bytes: &[u8]) -> usize
     ensures printed { result + printed_len (drop result bytes.now) ≡ printed_len bytes.now }
 {
     let mut len = 0;
-    while bytes.len() - len >= BLOCK_LEN {
-        if !are_printed(&bytes[len..len + BLOCK_LEN]) {
+    while bytes.len() - len > BLOCK_LEN {
+        if !begins_printed(&bytes[len..]) {
             return len;
         }
         len += BLOCK_LEN;

@@ -1,5 +1,5 @@
 use Rattle.std.proofs.Common.{◌+◌, ◌≤◌, length, arith}
-use Rattle.vte_core.proofs.Runs.{plain_block}
+use Rattle.vte_core.proofs.Runs.{block_more}
 use Rattle.vte_core.proofs.text.block_len.Goals as goal
 
 pub loop-len-preserved : goal.loop-len-preserved
@@ -8,6 +8,6 @@ loop-len-preserved c =
     omega (arith, c.loop-len-test.true, c.loop-len.invariant.within) in
     record {
       within = within;
-      printed = plain_block c.args.bytes.now c.loop-len.len within
-          (c.are_printed.ensures c.if-not-are_printed.false) c.loop-len.invariant.printed;
+      printed = block_more c.args.bytes.now c.loop-len.len within
+          (c.begins_printed.ensures c.if-not-begins_printed.false) c.loop-len.invariant.printed;
     }
