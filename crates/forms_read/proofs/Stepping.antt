@@ -3,7 +3,7 @@ use Rattle.std.proofs.Common.{◌≡◌, ℕ, suc, pos, ◌+◌, ◌-◌, ◌^�
 use Rattle.std.proofs.Common.{List, [], ◌∷◌, ◌++◌, map, Option, None, Some, refl, sym, ap, ◌∙◌, arith}
 use Rattle.std.specs.Prelude.{Contains}
 use Rattle.std.specs.List.{AllByRecursion}
-use Rattle.std.proofs.lemmas.Bool.{false≢true, eqb-true, cond_both}
+use Rattle.std.proofs.lemmas.Bool.{false≢true, eqb-true, eq-eqb, cond_both}
 use Rattle.vte_types.specs.Call as call
 use Rattle.vte_types.specs.Call.{Call}
 use Rattle.vte_types.specs.declared.attr.Attr.{Attr}
@@ -32,7 +32,7 @@ use Rattle.forms_read.specs.Events.{kept_number}
 use Rattle.terminal_model.specs.FormText.{IsSentForm}
 use Rattle.forms_read.proofs.SentTexts.{forms-readable}
 use Rattle.forms_read.specs.Calls.{place_told, foreground_told, background_told, intensity_told, flag_told, change_told}
-use Rattle.forms_read.specs.Calls.{style_told, set_call, reset_call, form_calls, form_calls_all}
+use Rattle.forms_read.specs.Calls.{mode_calls, style_told, set_call, reset_call, form_calls, form_calls_all}
 use Rattle.forms_read.specs.Terminals.{stepped, ReadsAttributes, ReadsCalls, IsSmall, EachFormIsStepped}
 use Rattle.forms_read.specs.Terminals.{EachListIsStepped}
 use Rattle.forms_read.specs.Terminals.{EachSpellingIsStepped}
@@ -180,71 +180,47 @@ module _ (step : Size → Call → Term → Term) (f : Attr → Attrs → Attrs)
       let at : step z (call.goto (pos 0) 0) t ≡ home = s.goto 0 0 t ∙ (λ k. record t { row = row k; col = col k }) in
       ap (step z _) at ∙ s.clear_screen home (IsTerm-moved z t 0 0 h h.some_row (omega arith)) refl refl
 
+  -- a mode of a terminal, where `with` is the terminal with each of them: it is set, or reset
+  step-mode : {A : Type 0} (number : A → ℕ) (none to from now : A) (with : A → Term) → number none ≡ 0
+      → ((m : A) → (number m == 0) ≡ true → m ≡ none)
+      → ((from ≡ none → ⊥) → step z (reset_call (number from)) (with now) ≡ with (switched number none from now))
+      → ((to ≡ none → ⊥) → step z (set_call (number to)) (with now) ≡ with to)
+      → stepped step z (mode_calls (number to) (number from)) (with now) ≡ with (switched number to from now)
+  step-mode number none to from now with is_zero zero resets sets =
+      (elim (number to == number from) as (λ b. (number to == number from) ≡ b
+      → stepped step z (cond b [] (cond (number to == 0) (reset_call (number from) ∷ []) (set_call (number to) ∷ [])))
+      (with now) ≡ with (cond b now (cond ((number to == 0) && not (number now == number from)) now to))) [
+        | true ↦ λ _. refl
+        | false ↦ λ e.
+            (elim (number to == 0) as (λ b. (number to == 0) ≡ b
+            → stepped step z (cond b (reset_call (number from) ∷ []) (set_call (number to) ∷ [])) (with now)
+            ≡ with (cond (b && not (number now == number from)) now to)) [
+              | true ↦ λ q.
+                  let is = sym (zero to q) in
+                  let other = ap (λ m. number m == number from) is ∙ e in
+                  let none_is = ap (λ m. number m == 0) is ∙ q in
+                  resets (λ w. false≢true (sym other ∙ eq-eqb (number none) (number from) (ap number (sym w))))
+                  ∙ ap (λ b. with (cond b now (cond ((number none == 0) && not (number now == number from)) now none))) other
+                  ∙ ap (λ b. with (cond (b && not (number now == number from)) now none)) none_is
+                  ∙ ap (λ m. with (cond (not (number now == number from)) now m)) is
+              | false ↦ λ q. sets (λ w. false≢true (sym q ∙ eq-eqb (number to) 0 (ap number w ∙ is_zero)))
+            ]) refl
+      ]) refl
+
   step-Mouse : (to from : MouseProtocolMode) (t : Term)
       → stepped step z (form_calls (Mouse to from)) t ≡ apply z (Mouse to from) t
   unfolding apply
   step-Mouse to from t =
-      let now = t.modes.mouse in
-      let u = record t { modes = record (t.modes) { mouse = switched mouse_number to from now } } in
-      cond_both (mouse_number to == mouse_number from) []
-      (cond (mouse_number to == 0) (reset_call (mouse_number from) ∷ []) (set_call (mouse_number to) ∷ []))
-      (λ cs. stepped step z cs t ≡ u)
-      (λ e. λ i. record t {
-        modes = record (t.modes) {
-          mouse = cond (sym e i) now
-              (cond ((mouse_number to == 0) && not (mouse_number now == mouse_number from)) now to);
-        };
-      })
-      (λ e. cond_both (mouse_number to == 0) (reset_call (mouse_number from) ∷ []) (set_call (mouse_number to) ∷ [])
-      (λ cs. stepped step z cs t ≡ u)
-      (λ q. let is = mouse-zero to q in
-      s.mouse_reset from t (λ w. false≢true (sym e ∙ (λ i. mouse_number (is i) == mouse_number (w i))))
-      ∙ ap (λ m. record t { modes = record (t.modes) { mouse = switched mouse_number m from now } }) (sym is))
-      (λ q. s.mouse_set to t (λ w. false≢true (sym q ∙ ap (λ m. mouse_number m == 0) w))
-      ∙ sym (ap (λ b. record t {
-        modes = record (t.modes) {
-          mouse = cond b now (cond ((mouse_number to == 0) && not (mouse_number now == mouse_number from)) now to);
-        };
-      }) e
-      ∙ ap (λ b. record t {
-        modes = record (t.modes) {
-          mouse = cond (b && not (mouse_number now == mouse_number from)) now to;
-        };
-      }) q)))
+      step-mode mouse_number mouse.None to from t.modes.mouse (λ m. record t { modes = record (t.modes) { mouse = m } })
+      refl mouse-zero (s.mouse_reset from t) (s.mouse_set to t)
 
   step-Encoding : (to from : MouseProtocolEncoding) (t : Term)
       → stepped step z (form_calls (Encoding to from)) t ≡ apply z (Encoding to from) t
   unfolding apply
   step-Encoding to from t =
-      let now = t.modes.encoding in
-      let u = record t { modes = record (t.modes) { encoding = switched encoding_number to from now } } in
-      cond_both (encoding_number to == encoding_number from) []
-      (cond (encoding_number to == 0) (reset_call (encoding_number from) ∷ []) (set_call (encoding_number to) ∷ []))
-      (λ cs. stepped step z cs t ≡ u)
-      (λ e. λ i. record t {
-        modes = record (t.modes) {
-          encoding = cond (sym e i) now
-              (cond ((encoding_number to == 0) && not (encoding_number now == encoding_number from)) now to);
-        };
-      })
-      (λ e. cond_both (encoding_number to == 0) (reset_call (encoding_number from) ∷ [])
-      (set_call (encoding_number to) ∷ [])
-      (λ cs. stepped step z cs t ≡ u)
-      (λ q. let is = encoding-zero to q in
-      s.encoding_reset from t (λ w. false≢true (sym e ∙ (λ i. encoding_number (is i) == encoding_number (w i))))
-      ∙ ap (λ m. record t { modes = record (t.modes) { encoding = switched encoding_number m from now } }) (sym is))
-      (λ q. s.encoding_set to t (λ w. false≢true (sym q ∙ ap (λ m. encoding_number m == 0) w))
-      ∙ sym (ap (λ b. record t {
-        modes = record (t.modes) {
-          encoding = cond b now
-              (cond ((encoding_number to == 0) && not (encoding_number now == encoding_number from)) now to);
-        };
-      }) e
-      ∙ ap (λ b. record t {
-        modes = record (t.modes) {
-          encoding = cond (b && not (encoding_number now == encoding_number from)) now to;
-        };
-      }) q)))
+      step-mode encoding_number encoding.Default to from t.modes.encoding
+      (λ m. record t { modes = record (t.modes) { encoding = m } }) refl encoding-zero (s.encoding_reset from t)
+      (s.encoding_set to t)
 
   step-Style : (to from : CursorStyle) (t : Term)
       → stepped step z (form_calls (Style to from)) t ≡ apply z (Style to from) t
