@@ -17,8 +17,8 @@ use Rattle.vt100_core.specs.Scroll.{scrolled_up, fed, scrollback_erased, scrollb
 use Rattle.vt100_core.specs.Resize.{resized}
 use Rattle.vt100_core.specs.Text.{printed, printed_all}
 use Rattle.screen_model.specs.State.{IsProperSheet}
-use Rattle.screen_model.proofs.RowTraits.{IsClean, IsCleanRow, proper, clean-cell, clean-row}
-use Rattle.screen_model.proofs.SheetTraits.{IsCleanSheet, sheet-all_erased, sheet-all_erased_forward}
+use Rattle.screen_model.proofs.RowTraits.{IsClean, IsCleanRow, proper}
+use Rattle.screen_model.proofs.SheetTraits.{IsCleanSheet, sheet-proper, sheet-all_erased, sheet-all_erased_forward}
 use Rattle.screen_model.proofs.SheetTraits.{sheet-all_erased_backward, sheet-row_erased, sheet-columns_erased}
 use Rattle.screen_model.proofs.SheetTraits.{sheet-cells_inserted, sheet-cells_deleted, sheet-lines_inserted}
 use Rattle.screen_model.proofs.SheetTraits.{sheet-lines_deleted, sheet-scrolled_down, sheet-fed_up, sheet-region}
@@ -38,14 +38,8 @@ rows-clean rows h = All-from_get_or (IsCleanRow proper) rows (blank_row 0) (λ r
 sheet-clean : (g : GridView) → IsProperSheet g → IsCleanSheet proper g
 sheet-clean g h = record { drawn = rows-clean g.rows h.drawn; kept = rows-clean g.kept.rows h.kept }
 
-sheet-proper : (g : GridView) → IsCleanSheet proper g → IsProperSheet g
-sheet-proper g d = record {
-  drawn = λ r k. (clean-cell proper (row_at g.rows r) (clean-row proper g.rows d.drawn r) k).attrs;
-  kept = λ r k. (clean-cell proper (row_at g.kept.rows r) (clean-row proper g.kept.rows d.kept r) k).attrs;
-}
-
 stays : (g h : GridView) → (IsCleanSheet proper g → IsCleanSheet proper h) → IsProperSheet g → IsProperSheet h
-stays g h f d = sheet-proper h (f (sheet-clean g d))
+stays g h f d = sheet-proper proper (λ a p. p) h (f (sheet-clean g d))
 
 -- ---- erasing, and cells and lines that come in and go
 
@@ -114,7 +108,7 @@ proper_printed_all g (c ∷ cs) a p d = proper_printed_all (printed g c a).grid 
 -- ---- whole sheets
 
 pub proper_new : (height width : ℕ) (s : Scrollback) → IsProperSheet (new_grid height width s)
-proper_new height width s = sheet-proper (new_grid height width s) (sheet-new proper height width s)
+proper_new height width s = sheet-proper proper (λ a p. p) (new_grid height width s) (sheet-new proper height width s)
 
 pub proper_allocated : (g : GridView) → IsProperSheet g → IsProperSheet (allocated g)
 proper_allocated g = stays g (allocated g) (sheet-allocated proper g)
