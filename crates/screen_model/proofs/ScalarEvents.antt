@@ -5,7 +5,7 @@ use Rattle.std.proofs.Common.{nat_lt, All, ◌⊎◌, inl, inr}
 use Rattle.std.specs.Char.{IsScalar}
 use Rattle.std.specs.Int.{is_in_range}
 use Rattle.std.specs.List.{filter}
-use Rattle.std.proofs.lemmas.Bool.{cond_both, cases_Bool, cases_lt, eqb-true}
+use Rattle.std.proofs.lemmas.Bool.{cond_both, cases_Bool, cases_lt, eqb-true, ltb-true}
 use Rattle.std.proofs.lemmas.Bool.Decides.{nat_tests}
 use Rattle.std.proofs.lemmas.List.Elements.{All-nil, All-cons, All-append, All-map, All-drop}
 use Rattle.vte_core.specs.Event.{Event, Print, Execute, Hook, Put, Unhook, Osc, Csi, Esc}
@@ -22,13 +22,7 @@ use Rattle.screen_model.specs.Made.{events_added}
 
 abbrev pub IsTold : Event → Type 0
 IsTold (Print c) = IsScalar c
-IsTold (Execute b) = Unit {0}
-IsTold (Hook gs ms ignore b) = Unit {0}
-IsTold (Put b) = Unit {0}
-IsTold Unhook = Unit {0}
-IsTold (Osc ps bell) = Unit {0}
-IsTold (Csi gs ms ignore b) = Unit {0}
-IsTold (Esc ms ignore b) = Unit {0}
+IsTold e = Unit {0}
 
 abbrev Told : List Event → Type 0
 Told es = All IsTold es
@@ -65,14 +59,8 @@ record Tail (k lo hi : ℕ) (bs : List ℕ) : Type 0 where
   pub most : b ≤ hi
   pub more : tail_len k 0x80 0xBF rest ≡ k
 
-in-least : (lo hi b : ℕ) → is_in_range lo hi b ≡ true → lo ≤ b
-in-least lo hi b e = grind (arith, nat_tests)
-
-in-most : (lo hi b : ℕ) → is_in_range lo hi b ≡ true → b ≤ hi
-in-most lo hi b e = grind (arith, nat_tests)
-
 in-range : (lo hi b : ℕ) → is_in_range lo hi b ≡ true → (lo ≤ b) × (b ≤ hi)
-in-range lo hi b e = (in-least lo hi b e, in-most lo hi b e)
+in-range lo hi b e = (grind (arith, nat_tests), grind (arith, nat_tests))
 
 tail-first : (k lo hi : ℕ) (bs : List ℕ) → tail_len (suc k) lo hi bs ≡ suc k → Tail k lo hi bs
 tail-first k lo hi [] e = absurd (omega (arith, e))
@@ -200,9 +188,6 @@ len-none : (a : ℕ) → nat_lt a 0x80 ≡ false → is_in_range 0xC2 0xDF a ≡
     → is_in_range 0xF0 0xF4 a ≡ false → char_len a ≡ 0
 len-none a e f g h = rw (e, f, g, h) refl
 
-is-less : (m n : ℕ) → nat_lt m n ≡ true → m < n
-is-less m n e = grind (arith, nat_tests)
-
 spelled-scalar : (a : ℕ) (bs : List ℕ) → front_len a bs ≡ char_len a
     → IsScalar (joined (first_bits a) (take (front_len a bs - 1) bs))
 unfolding Whole
@@ -213,7 +198,7 @@ spelled-scalar a bs e =
     → IsScalar (joined (first_bits a) (take (front_len a bs - 1) bs)) = λ n f h.
     subst (λ m. IsScalar (joined (first_bits a) (take (m - 1) bs))) (sym (e ∙ f)) h in
     ⊎_elim
-    (λ (t : nat_lt a 0x80 ≡ true). let n = len-one a t in back 1 n (whole-one a (is-less a 0x80 t) bs (tail 1 n)))
+    (λ (t : nat_lt a 0x80 ≡ true). let n = len-one a t in back 1 n (whole-one a (ltb-true a 0x80 t) bs (tail 1 n)))
     (λ (f : nat_lt a 0x80 ≡ false). ⊎_elim
     (λ (t : is_in_range 0xC2 0xDF a ≡ true).
     let r = in-range 0xC2 0xDF a t in

@@ -38,23 +38,11 @@ use Rattle.screen_model.proofs.UnscrolledStates.{well-erased_right, well-erased_
 use Rattle.screen_model.proofs.UnscrolledStates.{well-cells_added, well-cells_taken, well-lines_added, well-lines_taken}
 use Rattle.screen_model.proofs.UnscrolledStates.{well-region_up, well-region_down, well-origin, well-alternate_shown}
 use Rattle.screen_model.proofs.UnscrolledStates.{well-main_shown, well-alternate_entered, well-alternate_left, well-made_anew}
+use Rattle.screen_model.proofs.Tables.{Each, ◌&◌, Where, looked-up}
 use Rattle.screen_model.proofs.ProperLemmas.{sgr_read-proper}
 use Rattle.screen_model.proofs.ScalarEvents.{IsTold}
 
 -- ---- tables
-
-abbrev Each : {X : Type 0} → (X → Type 0) → List (ℕ × X) → Type 0
-Each P [] = Unit {0}
-Each P (r ∷ rs) = P r.1 × Each P rs
-
-abbrev Where : {X : Type 0} → (X → Type 0) → Option X → Type 0
-Where P None = Unit {0}
-Where P (Some x) = P x
-
-looked-up : {X : Type 0} (P : X → Type 0) (n : ℕ) (rows : List (ℕ × X)) → Each P rows → Where P (lookup n rows)
-looked-up P n [] h = tt
-looked-up P n (r ∷ rs) h =
-    cond_both (nat_eq n r.0) (Some r.1) (lookup n rs) (λ o. Where P o) (λ _. h.0) (λ _. looked-up P n rs h.1)
 
 abbrev KeepsEffect : (State → Effect) → Type 0
 KeepsEffect f = Keeps (λ s. (f s).state)
@@ -80,11 +68,6 @@ mouse-reset m b s w = state-if b (is_mouse s.modes.mouse m) (mouse_set mouse.Non
 
 encoding-reset : (m : MouseProtocolEncoding) → Keeps (encoding_reset m)
 encoding-reset m b s w = state-if b (is_encoding s.modes.encoding m) (encoding_set encoding.Default s) s w w
-
--- such a fact of each row of a table
-infixr 5 ◌&◌
-◌&◌ : {P Q : Type 0} → P → Q → P × Q
-◌&◌ p q = (p, q)
 
 -- what changes no sheet and no attributes
 same : (b : Bounds) (s : State) → IsUnscrolledState b s → IsUnscrolledState b s
