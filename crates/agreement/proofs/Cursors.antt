@@ -7,13 +7,14 @@ use Rattle.vt100_forms.specs.Form.{MoveTo, MoveRight, Backspace, SaveCursor, Res
 use Rattle.terminal_model.specs.Apply.{apply}
 use Rattle.forms_read.specs.Events.{kept_number, sequence, bare, events_of}
 use Rattle.vt100_core.specs.Grid.{GridView}
+use Rattle.vt100_core.specs.Cursor.{cursor_saved, cursor_restored}
 use Rattle.screen_model.specs.State.{State}
 use Rattle.screen_model.specs.Step.{with_shown, at_place, moved_right}
 use Rattle.screen_model.specs.Effect.{number_or}
 use Rattle.screen_model.specs.Made.{played}
 use Rattle.agreement.specs.Plain.{terminal_of, size_shown, IsPlainGrid, IsPlainState}
 use Rattle.agreement.specs.StateLaws.{Shows}
-use Rattle.agreement.proofs.PlainStates.{shows-at, shows-same}
+use Rattle.agreement.proofs.PlainStates.{plain-as, shows-at, shows-same}
 
 -- the cursor stands elsewhere
 abbrev pub moved : State → ℕ → ℕ → State
@@ -21,22 +22,9 @@ moved s r c = with_shown s (record (s.shown) { row = r; col = c })
 
 pub plain-moved : (g : GridView) (r c : ℕ) → IsPlainGrid g → r < g.height → c ≤ g.width
     → IsPlainGrid (record g { row = r; col = c })
-plain-moved g r c p h k = record {
-  sheet = p.sheet;
-  some = p.some;
-  few_rows = p.few_rows;
-  few_cols = p.few_cols;
-  some_cols = p.some_cols;
-  cursor_row = h;
-  cursor_col = k;
-  saved_row = p.saved_row;
-  saved_col = p.saved_col;
-  top = p.top;
-  bottom = p.bottom;
-  origin = p.origin;
-  saved_origin = p.saved_origin;
-  offset = p.offset;
-}
+plain-moved g r c p h k =
+    plain-as g (record g { row = r; col = c }) p p.sheet p.some h k p.saved_row p.saved_col p.origin p.saved_origin
+    p.offset
 
 pub shows-moved : (s : State) (r c : ℕ) → IsPlainState s → r < s.shown.height → c ≤ s.shown.width
     → Shows s (record (terminal_of s) { row = r; col = c }) (moved s r c)
@@ -144,22 +132,8 @@ shows-SaveCursor s h =
       size = refl;
       plain = (
         h.0,
-        record {
-          sheet = p.sheet;
-          some = p.some;
-          few_rows = p.few_rows;
-          few_cols = p.few_cols;
-          some_cols = p.some_cols;
-          cursor_row = p.cursor_row;
-          cursor_col = p.cursor_col;
-          saved_row = p.cursor_row;
-          saved_col = p.cursor_col;
-          top = p.top;
-          bottom = p.bottom;
-          origin = p.origin;
-          saved_origin = p.origin;
-          offset = p.offset;
-        },
+        plain-as s.shown (cursor_saved s.shown) p p.sheet p.some p.cursor_row p.cursor_col p.cursor_row p.cursor_col
+            p.origin p.origin p.offset,
       );
     }
 
@@ -173,21 +147,7 @@ shows-RestoreCursor s h =
       size = refl;
       plain = (
         h.0,
-        record {
-          sheet = p.sheet;
-          some = p.some;
-          few_rows = p.few_rows;
-          few_cols = p.few_cols;
-          some_cols = p.some_cols;
-          cursor_row = p.saved_row;
-          cursor_col = p.saved_col;
-          saved_row = p.saved_row;
-          saved_col = p.saved_col;
-          top = p.top;
-          bottom = p.bottom;
-          origin = p.saved_origin;
-          saved_origin = p.saved_origin;
-          offset = p.offset;
-        },
+        plain-as s.shown (cursor_restored s.shown) p p.sheet p.some p.saved_row p.saved_col p.saved_row p.saved_col
+            p.saved_origin p.saved_origin p.offset,
       );
     }

@@ -32,29 +32,16 @@ use Rattle.screen_model.specs.Made.{played}
 use Rattle.screen_model.specs.Shown.{extras_of}
 use Rattle.agreement.specs.Plain.{terminal_of, size_shown, IsPlainGrid, IsPlainState}
 use Rattle.agreement.specs.StateLaws.{Shows}
-use Rattle.agreement.proofs.PlainStates.{drawable, shows-at, shows-same}
+use Rattle.agreement.proofs.PlainStates.{drawable, plain-as, shows-at, shows-same}
 use Rattle.agreement.proofs.Cursors.{plain-moved, placed-at, read-count, nonzero}
 
 -- ---- another row at the cursor
 
 pub plain-rows : (g : GridView) (rows : List RowView) → IsPlainGrid g → IsSheet g.height g.width rows
     → length rows ≡ length g.rows → IsPlainGrid (record g { rows = rows })
-plain-rows g rows p sheet n = record {
-  sheet = sheet;
-  some = omega (arith, n, p.some);
-  few_rows = p.few_rows;
-  few_cols = p.few_cols;
-  some_cols = p.some_cols;
-  cursor_row = p.cursor_row;
-  cursor_col = p.cursor_col;
-  saved_row = p.saved_row;
-  saved_col = p.saved_col;
-  top = p.top;
-  bottom = p.bottom;
-  origin = p.origin;
-  saved_origin = p.saved_origin;
-  offset = p.offset;
-}
+plain-rows g rows p sheet n =
+    plain-as g (record g { rows = rows }) p sheet (omega (arith, n, p.some)) p.cursor_row p.cursor_col p.saved_row
+    p.saved_col p.origin p.saved_origin p.offset
 
 pub plain-row : (g : GridView) (v : RowView) → IsPlainGrid g → IsRowOf g.width v
     → ((row_of_cursor g).wrapped ≡ false → v.wrapped ≡ false) → IsPlainGrid (with_cursor_row g v)

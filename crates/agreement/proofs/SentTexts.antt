@@ -1,13 +1,13 @@
 -- Texts that may hold U+FE0F: the grid stays plain, and no mode changes.
 use Rattle.std.proofs.Common.{◌≡◌, ℕ, ◌+◌, ◌-◌, ◌<◌, ◌≤◌, ◌==◌, Bool, true, false, not, ◌&&◌, nat_lt}
-use Rattle.std.proofs.Common.{List, [], ◌∷◌, length, set, map, Some, refl, sym, ap, ◌∙◌, arith, length-set, ⊎_elim}
+use Rattle.std.proofs.Common.{List, [], ◌∷◌, length, set, map, Some, refl, ap, ◌∙◌, arith, length-set, ⊎_elim}
 use Rattle.std.specs.Char.{IsScalar}
 use Rattle.std.specs.List.{AllByRecursion}
-use Rattle.std.proofs.lemmas.Bool.{cond_both, ltb-true, cases_lt, cases_Bool}
+use Rattle.std.proofs.lemmas.Bool.{cond_both, ltb-true, not-true, not-false, cases_lt, cases_Bool}
 use Rattle.std.proofs.lemmas.Bool.Decides.{nat_tests}
 use Rattle.vte_core.specs.Event.{Print}
 use Rattle.vt100_forms.specs.declared.attrs.Attrs.{Attrs}
-use Rattle.vt100_cells.specs.Cell.{CellView, cell_of, columns_of, drawn_columns}
+use Rattle.vt100_cells.specs.Cell.{cell_of, columns_of, drawn_columns}
 use Rattle.vt100_cells.specs.Cells.{cell_at}
 use Rattle.vt100_cells.specs.Line.{put, put_unflags, wipe_unflags}
 use Rattle.vt100_cells.proofs.CellLemmas.{IsCell-of, IsCell-with_attrs}
@@ -22,7 +22,7 @@ use Rattle.vt100_rows.proofs.SheetLemmas.{IsSheet-with_row}
 use Rattle.vt100_core.specs.Grid.{GridView, row_of_cursor, with_cursor_row, with_row}
 use Rattle.vt100_core.specs.Picture.{grid_size, Extras}
 use Rattle.vt100_core.specs.Scroll.{fed, left_row, wrapped_on, made_to_fit}
-use Rattle.vt100_core.specs.Text.{PrintedGrid, put_at, carried, joined, spaced, printed}
+use Rattle.vt100_core.specs.Text.{PrintedGrid, carried, joined, spaced, printed}
 use Rattle.vt100_core.specs.declared.printed.Printed.TheVariants.{Nothing, Joined}
 use Rattle.vt100_core.proofs.EraseLemmas.{IsRowOf-wiped}
 use Rattle.vt100_core.proofs.TextLemmas.{printed-dropped, printed-joined, printed-spaced, IsDrawn-here, IsMade-made}
@@ -38,8 +38,8 @@ use Rattle.agreement.specs.Plain.{size_shown, IsPlainGrid, IsPlainState}
 use Rattle.agreement.proofs.PlainStates.{drawable}
 use Rattle.agreement.proofs.Cursors.{plain-moved}
 use Rattle.agreement.proofs.Erasures.{plain-rows, plain-row}
-use Rattle.agreement.proofs.Feeds.{IsAside, aside-both, aside-fed, shows-fed}
-use Rattle.agreement.proofs.Texts.{aside-same, aside-row, aside-wrapped, aside-made, plain-made, plain-put}
+use Rattle.agreement.proofs.Feeds.{IsAside, aside-same, aside-both, aside-fed, shows-fed}
+use Rattle.agreement.proofs.Texts.{aside-wrapped, aside-made, plain-made, plain-put}
 
 -- ---- wrapping without a flag
 
@@ -74,14 +74,6 @@ plain-wrapped g p =
     (omega (arith, tall, left-within g p.cursor_row)))
 
 -- ---- a zero-width character
-
-not-true : (b : Bool) → not b ≡ true → b ≡ false
-not-true true h = sym h
-not-true false h = refl
-
-not-false : (b : Bool) → not b ≡ false → b ≡ true
-not-false true h = refl
-not-false false h = sym h
 
 not-one : (n : ℕ) → (n == 1) ≡ false → 0 < n → 2 ≤ n
 not-one n e h = grind (arith, nat_tests)
@@ -158,48 +150,18 @@ plain-joined g c a p s z some =
 
 -- ---- what is left aside
 
-aside-moved : (g h : GridView) (c : ℕ) → IsAside g h → IsAside g (record h { col = c })
-aside-moved g h c a = record {
-  saved_row = a.saved_row;
-  saved_col = a.saved_col;
-  origin = a.origin;
-  saved_origin = a.saved_origin;
-  offset = a.offset;
-  size = a.size;
-}
-
-aside-put : (g h : GridView) (x : CellView) (a : Attrs) (n : ℕ) → IsAside g h → IsAside g (put_at h x a n)
-aside-put g h x a n s =
-    aside-moved g (with_cursor_row h (placed (row_of_cursor h) h.col x a)) (h.col + n)
-    (aside-row g h h.row (placed (row_of_cursor h) h.col x a) s)
-
 aside-carried : (g : GridView) (c : ℕ) (a : Attrs) → IsAside g (carried g c a).grid
 aside-carried g c a =
-    let v = row_of_cursor g in
-    let h = with_cursor_row g (wiped_row v (g.col - 1) g.col a) in
-    aside-put g (wrapped_on h false).grid (record (joined_cell v g.col c) { attrs = a }) a 2
-    (aside-both g h (wrapped_on h false).grid
-    (aside-row g g g.row (wiped_row v (g.col - 1) g.col a) (aside-same g)) (aside-wrapped h false))
+    let h = with_cursor_row g (wiped_row (row_of_cursor g) (g.col - 1) g.col a) in
+    aside-both g h (wrapped_on h false).grid (aside-same g) (aside-wrapped h false)
 
 aside-joined : (g : GridView) (c : ℕ) (a : Attrs) → IsAside g (joined g c a).grid
 aside-joined g c a =
     let v = row_of_cursor g in
     let P : PrintedGrid → Type 0 = λ d. IsAside g d.grid in
-    let w = placed v (g.col - 1) (joined_cell v g.col c) a in
-    cond_both (not (is_widening v g.col c)) (record {
-      grid = with_cursor_row g (joined_row v g.col c);
-      sunk = [];
-      printed = Joined;
-    }) _ P
-    (λ _. aside-row g g g.row (joined_row v g.col c) (aside-same g))
-    (λ _. cond_both (g.width == 1) (record { grid = g; sunk = []; printed = Nothing }) _ P (λ _. aside-same g)
-    (λ _. cond_both (nat_lt g.col g.width) (record {
-      grid = record (with_cursor_row g w) { col = g.col + 1 };
-      sunk = [];
-      printed = Joined;
-    }) (carried g c a) P
-    (λ _. aside-moved g (with_cursor_row g w) (g.col + 1) (aside-row g g g.row w (aside-same g)))
-    (λ _. aside-carried g c a)))
+    cond_both (not (is_widening v g.col c)) _ _ P (λ _. aside-same g)
+    (λ _. cond_both (g.width == 1) _ _ P (λ _. aside-same g)
+    (λ _. cond_both (nat_lt g.col g.width) _ (carried g c a) P (λ _. aside-same g) (λ _. aside-carried g c a)))
 
 -- ---- one character
 
@@ -228,7 +190,7 @@ sound-printed g c x p scalar =
     (record {
       plain = plain-put s (cell_of c a) a n (plain-made g x n p) (IsCell-of c a scalar visible h) refl
           (span_of-cell c n a refl h) (IsMade-made g n true drawn.fits).fits;
-      size = (aside-put g s (cell_of c a) a n (aside-made g n)).size;
+      size = (aside-made g n).size;
     }))
     (λ (h : n ≤ 0).
     let k : n ≡ 0 = omega (arith, h) in

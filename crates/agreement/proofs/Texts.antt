@@ -13,14 +13,14 @@ use Rattle.vt100_cells.specs.Cells.{cell_at}
 use Rattle.vt100_cells.specs.Line.{span_of, put, put_unflags}
 use Rattle.vt100_cells.proofs.CellLemmas.{IsCell-of}
 use Rattle.vt100_cells.proofs.ListLemmas.{length-by_position}
-use Rattle.vt100_rows.specs.Row.{RowView, placed, joined_row}
+use Rattle.vt100_rows.specs.Row.{placed, joined_row}
 use Rattle.vt100_rows.proofs.RowLemmas.{IsRow-placed}
 use Rattle.vt100_rows.proofs.JoinLemmas.{IsRow-joined}
 use Rattle.terminal_model.specs.FormText.{IsFormText}
 use Rattle.terminal_model.specs.Apply.{is_dropped, input, inputs, apply}
-use Rattle.vt100_core.specs.Grid.{GridView, row_of_cursor, with_cursor_row, with_row}
+use Rattle.vt100_core.specs.Grid.{GridView, row_of_cursor, with_cursor_row}
 use Rattle.vt100_core.specs.Picture.{grid_size, Extras, term_of_grid}
-use Rattle.vt100_core.specs.Scroll.{Scrolled, fed, left_row, wrapped_on, made_to_fit}
+use Rattle.vt100_core.specs.Scroll.{Scrolled, fed, wrapped_on, made_to_fit}
 use Rattle.vt100_core.specs.Text.{PrintedGrid, put_at, printed}
 use Rattle.vt100_core.proofs.TextLemmas.{printed-dropped, printed-joined, printed-spaced, IsDrawn-here}
 use Rattle.vt100_core.proofs.TextLemmas.{span_of-cell, IsMade-made, or-false}
@@ -39,47 +39,17 @@ use Rattle.agreement.specs.StateLaws.{Shows}
 use Rattle.agreement.proofs.PlainStates.{drawable, shows-at, shows-same, shows-then}
 use Rattle.agreement.proofs.Cursors.{plain-moved}
 use Rattle.agreement.proofs.Erasures.{plain-row}
-use Rattle.agreement.proofs.Feeds.{IsAside, aside-both, aside-fed}
+use Rattle.agreement.proofs.Feeds.{IsAside, aside-same, aside-both, aside-fed}
 
 -- ---- what wrapping leaves aside
-
-pub aside-same : (g : GridView) → IsAside g g
-aside-same g = record {
-  saved_row = refl;
-  saved_col = refl;
-  origin = refl;
-  saved_origin = refl;
-  offset = λ e. e;
-  size = refl;
-}
-
-pub aside-row : (g h : GridView) (r : ℕ) (v : RowView) → IsAside g h → IsAside g (with_row h r v)
-aside-row g h r v a = record {
-  saved_row = a.saved_row;
-  saved_col = a.saved_col;
-  origin = a.origin;
-  saved_origin = a.saved_origin;
-  offset = a.offset;
-  size = a.size;
-}
-
-pub aside-first : (g : GridView) → IsAside g (record g { col = 0 })
-aside-first g = record {
-  saved_row = refl;
-  saved_col = refl;
-  origin = refl;
-  saved_origin = refl;
-  offset = λ e. e;
-  size = refl;
-}
 
 pub aside-wrapped : (g : GridView) (wrap : Bool) → IsAside g (wrapped_on g wrap).grid
 unfolding wrapped_on
 aside-wrapped g wrap =
     let g0 = record g { col = 0 } in
     let h = (fed g0 1).grid in
-    let a = aside-both g g0 h (aside-first g) (aside-fed g0 1) in
-    cond_both ((g.row == g.bottom) && (g.row == 0)) h _ (IsAside g) (λ _. a) (λ _. aside-row g h (left_row g) _ a)
+    let a = aside-both g g0 h (aside-same g) (aside-fed g0 1) in
+    cond_both ((g.row == g.bottom) && (g.row == 0)) h _ (λ x. IsAside g x) (λ _. a) (λ _. a)
 
 pub aside-made : (g : GridView) (n : ℕ) → IsAside g (made_to_fit g n true).grid
 aside-made g n =

@@ -4,7 +4,7 @@ pub mod ProperSheets
 pub mod UnscrolledSheets
 pub mod UnscrolledSizes
 pub mod UnscrolledTexts
-mod Tables
+pub mod Tables
 pub mod ProperLemmas
 pub mod StateLemmas
 pub mod UnscrolledStates
