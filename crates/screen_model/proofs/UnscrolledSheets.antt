@@ -11,12 +11,11 @@ use Rattle.std.proofs.lemmas.List.Elements.{All-from_get_or}
 use Rattle.vt100_forms.specs.declared.attrs.Attrs.{Attrs}
 use Rattle.vt100_rows.specs.Row.{RowView, IsRow, blank_row, trimmed}
 use Rattle.vt100_rows.proofs.TrimLemmas.{IsRow-trimmed}
-use Rattle.vt100_rows.specs.Sheet.{rows_by_position, moved_up}
+use Rattle.vt100_rows.specs.Sheet.{IsSheet, rows_by_position, moved_up}
 use Rattle.vt100_rows.proofs.SheetLemmas.{length-rows_by_position}
 use Rattle.vt100_rows.proofs.MoveLemmas.{IsSheet-moved_up}
-use Rattle.vt100_core.specs.Grid.{KeptPart, IsKept, GridView, IsGrid, IsAllocated}
-use Rattle.vt100_core.specs.Grid.{with_row, with_rows}
-use Rattle.vt100_core.specs.Grid.{is_in_region}
+use Rattle.vt100_core.specs.Grid.{KeptPart, IsKept, IsShownWide, GridView, IsGrid, IsAllocated, new_grid}
+use Rattle.vt100_core.specs.Grid.{scrollback_of, with_row, with_rows, is_in_region}
 use Rattle.vt100_core.specs.Cursor.{cursor_at, with_origin, cursor_saved, cursor_restored, with_region, moved_rows_down}
 use Rattle.vt100_core.specs.Cursor.{moved_rows_up}
 use Rattle.vt100_core.specs.Erase.{all_erased, all_erased_forward, all_erased_backward, row_erased, columns_erased}
@@ -132,106 +131,68 @@ drawn-lines_deleted l g n d =
 
 -- ---- the cursor and the region
 
--- where they stand
-pub record Places : Type 0 where
-  pub row : ℕ
-  pub col : ℕ
-  pub saved_row : ℕ
-  pub saved_col : ℕ
-  pub origin : Bool
-  pub saved_origin : Bool
-  pub top : ℕ
-  pub bottom : ℕ
-
-abbrev places_of : GridView → Places
-places_of g = record {
-  row = g.row;
-  col = g.col;
-  saved_row = g.saved_row;
-  saved_col = g.saved_col;
-  origin = g.origin;
-  saved_origin = g.saved_origin;
-  top = g.top;
-  bottom = g.bottom;
+-- a grid of the same size, with rows, cursors, a region, modes and kept rows of its own
+pub IsGrid-as : (g h : GridView) → IsGrid g → IsSheet g.height g.width h.rows → h.row < g.height → h.col ≤ g.width
+    → h.saved_row < g.height → h.saved_col ≤ g.width → h.top ≤ h.bottom → h.bottom < g.height
+    → (h.top ≡ h.bottom → g.height ≡ 1) → IsKept h.kept → IsShownWide h.kept g.height g.width
+    → (length h.rows ≡ 0 → record h { height = g.height; width = g.width }
+    ≡ new_grid g.height g.width (scrollback_of h.kept))
+    → IsGrid (record h { height = g.height; width = g.width })
+IsGrid-as g h i sheet row col saved_row saved_col region region_end region_lines kept shown fresh = record {
+  sheet = sheet;
+  some_rows = i.some_rows;
+  some_cols = i.some_cols;
+  few_rows = i.few_rows;
+  few_cols = i.few_cols;
+  cursor_row = row;
+  cursor_col = col;
+  saved_row = saved_row;
+  saved_col = saved_col;
+  region = region;
+  region_end = region_end;
+  region_lines = region_lines;
+  kept = kept;
+  shown = shown;
+  fresh = fresh;
 }
 
-abbrev placed_at : GridView → Places → GridView
-placed_at g p = record g {
-  row = p.row;
-  col = p.col;
-  saved_row = p.saved_row;
-  saved_col = p.saved_col;
-  origin = p.origin;
-  saved_origin = p.saved_origin;
-  top = p.top;
-  bottom = p.bottom;
-}
-
-record AreOn (height width : ℕ) (p : Places) : Type 0 where
-  pub row : p.row < height
-  pub col : p.col ≤ width
-  pub saved_row : p.saved_row < height
-  pub saved_col : p.saved_col ≤ width
-  pub region : p.top ≤ p.bottom
-  pub region_end : p.bottom < height
-  pub region_lines : p.top ≡ p.bottom → height ≡ 1
-
-places-drawn : (l : Limits) (g : GridView) (p : Places) → IsShownSheet l g → AreOn g.height g.width p
-    → IsShownSheet l (placed_at g p)
-places-drawn l g p d o =
+-- the same rows, with the cursors, the region and the modes of another grid
+region-drawn : (l : Limits) (g h : GridView) → IsShownSheet l g → h.row < g.height → h.col ≤ g.width
+    → h.saved_row < g.height → h.saved_col ≤ g.width → h.top ≤ h.bottom → h.bottom < g.height
+    → (h.top ≡ h.bottom → g.height ≡ 1)
+    → IsShownSheet l (record h { rows = g.rows; height = g.height; width = g.width; kept = g.kept })
+region-drawn l g h d row col saved_row saved_col region region_end region_lines =
     let i = d.fine.grid in
     record {
       fine = record {
         limits = d.fine.limits;
-        grid = record {
-          sheet = i.sheet;
-          some_rows = i.some_rows;
-          some_cols = i.some_cols;
-          few_rows = i.few_rows;
-          few_cols = i.few_cols;
-          cursor_row = o.row;
-          cursor_col = o.col;
-          saved_row = o.saved_row;
-          saved_col = o.saved_col;
-          region = o.region;
-          region_end = o.region_end;
-          region_lines = o.region_lines;
-          kept = i.kept;
-          shown = i.shown;
-          fresh = λ z. absurd (omega (arith, z, d.some));
-        };
+        grid = IsGrid-as g (record h { rows = g.rows; kept = g.kept }) i i.sheet row col saved_row saved_col region
+            region_end region_lines i.kept i.shown (λ z. absurd (omega (arith, z, d.some)));
       };
       some = d.some;
     }
 
 -- the region stays
-placed-in : (g : GridView) (row col saved_row saved_col : ℕ) (origin saved_origin : Bool) → IsGrid g → row < g.height
-    → col ≤ g.width → saved_row < g.height → saved_col ≤ g.width
-    → AreOn g.height g.width (record (places_of g) {
-      row = row;
-      col = col;
-      saved_row = saved_row;
-      saved_col = saved_col;
-      origin = origin;
-      saved_origin = saved_origin;
+cursors-drawn : (l : Limits) (g h : GridView) → IsShownSheet l g → h.row < g.height → h.col ≤ g.width
+    → h.saved_row < g.height → h.saved_col ≤ g.width
+    → IsShownSheet l (record g {
+      row = h.row;
+      col = h.col;
+      saved_row = h.saved_row;
+      saved_col = h.saved_col;
+      origin = h.origin;
+      saved_origin = h.saved_origin;
     })
-placed-in g row col saved_row saved_col origin saved_origin i r c sr sc = record {
-  row = r;
-  col = c;
-  saved_row = sr;
-  saved_col = sc;
-  region = i.region;
-  region_end = i.region_end;
-  region_lines = i.region_lines;
-}
+cursors-drawn l g h d row col saved_row saved_col =
+    let i = d.fine.grid in
+    region-drawn l g (record h { top = g.top; bottom = g.bottom }) d row col saved_row saved_col i.region i.region_end
+    i.region_lines
 
 -- the cursor goes to a place of the screen
 pub drawn-at : (l : Limits) (g : GridView) (row col : ℕ) → row < g.height → col ≤ g.width → IsShownSheet l g
     → IsShownSheet l (record g { row = row; col = col })
 drawn-at l g row col r c d =
-    let i = d.fine.grid in
-    places-drawn l g (record (places_of g) { row = row; col = col }) d
-    (placed-in g row col g.saved_row g.saved_col g.origin g.saved_origin i r c i.saved_row i.saved_col)
+    cursors-drawn l g (record g { row = row; col = col }) d r c d.fine.grid.saved_row d.fine.grid.saved_col
 
 pub drawn-col : (l : Limits) (g : GridView) (col : ℕ) → col ≤ g.width → IsShownSheet l g → IsShownSheet l (record g { col = col })
 drawn-col l g col c d = drawn-at l g g.row col d.fine.grid.cursor_row c d
@@ -252,22 +213,17 @@ pub drawn-origin : (l : Limits) (g : GridView) (mode : Bool) → IsShownSheet l 
 drawn-origin l g mode d =
     let i = d.fine.grid in
     drawn-cursor_at l (record g { origin = mode }) 0 0
-    (places-drawn l g (record (places_of g) { origin = mode }) d
-    (placed-in g g.row g.col g.saved_row g.saved_col mode g.saved_origin i i.cursor_row i.cursor_col i.saved_row
-    i.saved_col))
+    (cursors-drawn l g (record g { origin = mode }) d i.cursor_row i.cursor_col i.saved_row i.saved_col)
 
 pub drawn-saved : (l : Limits) (g : GridView) → IsShownSheet l g → IsShownSheet l (cursor_saved g)
 drawn-saved l g d =
     let i = d.fine.grid in
-    places-drawn l g (record (places_of g) { saved_row = g.row; saved_col = g.col; saved_origin = g.origin }) d
-    (placed-in g g.row g.col g.row g.col g.origin g.origin i i.cursor_row i.cursor_col i.cursor_row i.cursor_col)
+    cursors-drawn l g (cursor_saved g) d i.cursor_row i.cursor_col i.cursor_row i.cursor_col
 
 pub drawn-restored : (l : Limits) (g : GridView) → IsShownSheet l g → IsShownSheet l (cursor_restored g)
 drawn-restored l g d =
     let i = d.fine.grid in
-    places-drawn l g (record (places_of g) { row = g.saved_row; col = g.saved_col; origin = g.saved_origin }) d
-    (placed-in g g.saved_row g.saved_col g.saved_row g.saved_col g.saved_origin g.saved_origin i i.saved_row i.saved_col
-    i.saved_row i.saved_col)
+    cursors-drawn l g (cursor_restored g) d i.saved_row i.saved_col i.saved_row i.saved_col
 
 pub drawn-region : (l : Limits) (g : GridView) (top bottom : ℕ) → IsShownSheet l g → IsShownSheet l (with_region g top bottom)
 drawn-region l g top bottom d =
@@ -276,24 +232,11 @@ drawn-region l g top bottom d =
     cond_both (nat_lt top end) (record g { top = top; bottom = end; row = top; col = 0 })
     (record g { top = 0; bottom = g.height - 1; row = 0; col = 0 }) (λ x. IsShownSheet l x)
     (λ e. let less = ltb-true top end e in
-    places-drawn l g (record (places_of g) { top = top; bottom = end; row = top; col = 0 }) d (record {
-      row = omega (arith, less, i.some_rows);
-      col = omega arith;
-      saved_row = i.saved_row;
-      saved_col = i.saved_col;
-      region = omega (arith, less);
-      region_end = omega (arith, i.some_rows);
-      region_lines = λ same. absurd (omega (arith, less, same));
-    }))
-    (λ _. places-drawn l g (record (places_of g) { top = 0; bottom = g.height - 1; row = 0; col = 0 }) d (record {
-      row = i.some_rows;
-      col = omega arith;
-      saved_row = i.saved_row;
-      saved_col = i.saved_col;
-      region = omega arith;
-      region_end = omega (arith, i.some_rows);
-      region_lines = λ same. omega (arith, i.some_rows, same);
-    }))
+    region-drawn l g (record g { top = top; bottom = end; row = top; col = 0 }) d (omega (arith, less, i.some_rows))
+    (omega arith) i.saved_row i.saved_col (omega (arith, less)) (omega (arith, i.some_rows))
+    (λ same. absurd (omega (arith, less, same))))
+    (λ _. region-drawn l g (record g { top = 0; bottom = g.height - 1; row = 0; col = 0 }) d i.some_rows (omega arith)
+    i.saved_row i.saved_col (omega arith) (omega (arith, i.some_rows)) (λ same. omega (arith, i.some_rows, same)))
 
 pub drawn-down : (l : Limits) (g : GridView) (n : ℕ) → IsShownSheet l g → IsShownSheet l (moved_rows_down g n)
 drawn-down l g n d =

@@ -23,7 +23,7 @@ use Rattle.vt100_core.proofs.ResizeLemmas.{IsGrid-whole_screen, IsGrid-shortened
 use Rattle.vt100_core.proofs.ResizeLemmas.{some-lengthened}
 use Rattle.vt100_core.proofs.LengthenLemmas.{IsGrid-lengthened}
 use Rattle.screen_model.proofs.UnscrolledSheets.{Limits, HasLimits, IsUnscrolledSheet, IsFineSheet, IsShownSheet}
-use Rattle.screen_model.proofs.UnscrolledSheets.{drawn-scrolled_up}
+use Rattle.screen_model.proofs.UnscrolledSheets.{IsGrid-as, drawn-scrolled_up}
 
 -- ---- a new sheet
 
@@ -94,23 +94,10 @@ blank-rows l g d =
     let n = length-replicate g.height (blank_row g.width) in
     record {
       fine = record {
-        grid = record {
-          sheet = IsSheet-blank g.height g.width g.height (λ _. refl) i.few_cols;
-          some_rows = i.some_rows;
-          some_cols = i.some_cols;
-          few_rows = i.few_rows;
-          few_cols = i.few_cols;
-          cursor_row = i.cursor_row;
-          cursor_col = i.cursor_col;
-          saved_row = i.saved_row;
-          saved_col = i.saved_col;
-          region = i.region;
-          region_end = i.region_end;
-          region_lines = i.region_lines;
-          kept = i.kept;
-          shown = i.shown;
-          fresh = λ z. absurd (omega (arith, z, n, i.some_rows));
-        };
+        grid = IsGrid-as g (record g { rows = replicate g.height (blank_row g.width) }) i
+            (IsSheet-blank g.height g.width g.height (λ _. refl) i.few_cols) i.cursor_row i.cursor_col i.saved_row
+            i.saved_col i.region i.region_end i.region_lines i.kept i.shown
+            (λ z. absurd (omega (arith, z, n, i.some_rows)));
         limits = d.limits;
       };
       some = omega (arith, n, i.some_rows);
@@ -127,36 +114,23 @@ fine-cleared l g d =
     let i = d.grid in
     let n = length-replicate (length g.rows) (blank_row g.width) in
     record {
-      grid = record {
-        sheet = IsSheet-blank g.height g.width (length g.rows) i.sheet.count i.few_cols;
-        some_rows = i.some_rows;
-        some_cols = i.some_cols;
-        few_rows = i.few_rows;
-        few_cols = i.few_cols;
-        cursor_row = i.some_rows;
-        cursor_col = omega arith;
-        saved_row = i.some_rows;
-        saved_col = omega arith;
-        region = omega arith;
-        region_end = omega (arith, i.some_rows);
-        region_lines = λ e. omega (arith, i.some_rows, e);
-        kept = i.kept;
-        shown = i.shown;
-        fresh = λ z. let m = IsNew-of g i (sym n ∙ z) in new-again (cleared g) i.kept (record {
-          rows = no-rows (cleared g).rows z;
-          row = refl;
-          col = refl;
-          saved_row = refl;
-          saved_col = refl;
-          origin = refl;
-          saved_origin = refl;
-          top = refl;
-          bottom = refl;
-          kept_rows = m.kept_rows;
-          offset = m.offset;
-          scrolled_off = m.scrolled_off;
-        });
-      };
+      grid = IsGrid-as g (cleared g) i
+          (IsSheet-blank g.height g.width (length g.rows) i.sheet.count i.few_cols) i.some_rows (omega arith) i.some_rows
+          (omega arith) (omega arith) (omega (arith, i.some_rows)) (λ e. omega (arith, i.some_rows, e)) i.kept i.shown
+          (λ z. let m = IsNew-of g i (sym n ∙ z) in new-again (cleared g) i.kept (record {
+            rows = no-rows (cleared g).rows z;
+            row = refl;
+            col = refl;
+            saved_row = refl;
+            saved_col = refl;
+            origin = refl;
+            saved_origin = refl;
+            top = refl;
+            bottom = refl;
+            kept_rows = m.kept_rows;
+            offset = m.offset;
+            scrolled_off = m.scrolled_off;
+          }));
       limits = d.limits;
     }
 
@@ -192,23 +166,9 @@ drawn-none_kept l g d =
     } in
     record {
       fine = record {
-        grid = record {
-          sheet = i.sheet;
-          some_rows = i.some_rows;
-          some_cols = i.some_cols;
-          few_rows = i.few_rows;
-          few_cols = i.few_cols;
-          cursor_row = i.cursor_row;
-          cursor_col = i.cursor_col;
-          saved_row = i.saved_row;
-          saved_col = i.saved_col;
-          region = i.region;
-          region_end = i.region_end;
-          region_lines = i.region_lines;
-          kept = kept;
-          shown = IsShownWide-none k g.height g.width refl;
-          fresh = λ z. absurd (omega (arith, z, d.some));
-        };
+        grid = IsGrid-as g (record g { kept = k }) i i.sheet i.cursor_row i.cursor_col i.saved_row i.saved_col i.region
+            i.region_end i.region_lines kept (IsShownWide-none k g.height g.width refl)
+            (λ z. absurd (omega (arith, z, d.some)));
         limits = record {
           height = few.height;
           width = few.width;

@@ -1,6 +1,6 @@
 -- What is true of each terminal that shows no kept row stays true, step by step.
 use Rattle.std.proofs.Common.{◌≡◌, ◌∙◌, ℕ, zero, suc, ◌+◌, ◌-◌, ◌^◌, ◌<◌, ◌≤◌, Bool, true, false, not, Option}
-use Rattle.std.proofs.Common.{Some, None, min, ap, arith, refl, sym, subst, if◌then◌else◌}
+use Rattle.std.proofs.Common.{Some, None, min, ap, arith, refl, sym, subst, if◌then◌else◌, cond}
 use Rattle.std.specs.Char.{IsScalar}
 use Rattle.std.proofs.lemmas.Bool.{cond_both, false≢true}
 use Rattle.vt100_forms.specs.Attrs.{IsProper}
@@ -355,17 +355,17 @@ well-fresh b a =
       drawn = record { attrs = default-proper; saved_attrs = default-proper; last = λ c e. absurd (cc) };
     }
 
-pub main-fine : (b : Bounds) (s : State) → IsUnscrolledState b s → IsUnscrolledSheet (limits b false) (main_sheet s)
-main-fine b s w =
-    cond_both s.alternate s.other s.shown (λ g. IsUnscrolledSheet (limits b false) g)
-    (λ e. (fine-as b (not s.alternate) false s.other (ap not e) w.other).limits)
-    (λ e. (fine-as b s.alternate false s.shown e w.shown.fine).limits)
+sheets-fine : (b : Bounds) (a : Bool) (g h : GridView) → IsFineSheet (limits b a) g → IsFineSheet (limits b (not a)) h
+    → IsUnscrolledSheet (limits b false) (cond a h g) × IsUnscrolledSheet (limits b true) (cond a g h)
+sheets-fine b true g h p q = (q.limits, p.limits)
+sheets-fine b false g h p q = (p.limits, q.limits)
 
-pub alternate-fine : (b : Bounds) (s : State) → IsUnscrolledState b s → IsUnscrolledSheet (limits b true) (alternate_sheet s)
-alternate-fine b s w =
-    cond_both s.alternate s.shown s.other (λ g. IsUnscrolledSheet (limits b true) g)
-    (λ e. (fine-as b s.alternate true s.shown e w.shown.fine).limits)
-    (λ e. (fine-as b (not s.alternate) true s.other (ap not e) w.other).limits)
+pub main-fine : (b : Bounds) (s : State) → IsUnscrolledState b s → IsUnscrolledSheet (limits b false) (main_sheet s)
+main-fine b s w = (sheets-fine b s.alternate s.shown s.other w.shown.fine w.other).0
+
+pub alternate-fine : (b : Bounds) (s : State) → IsUnscrolledState b s
+    → IsUnscrolledSheet (limits b true) (alternate_sheet s)
+alternate-fine b s w = (sheets-fine b s.alternate s.shown s.other w.shown.fine w.other).1
 
 pub well-made_anew : Keeps made_anew
 well-made_anew b s w =
