@@ -132,7 +132,7 @@ last-kept p c last s k h d e = h d e
 
 pub well-typed : (c : ℕ) → IsScalar c → IsKnown c → KeepsStepped (typed c)
 well-typed c scalar known b s w =
-    well-with b s _ _ _ _ w (drawn-printed (limits b s.alternate) s.shown c s.attrs w.shown scalar)
+    well-with b s _ _ _ _ w (drawn-printed _ s.shown c s.attrs w.shown scalar)
     (sheet-printed sound s.shown c s.attrs known w.drawn.attrs w.clean) (record {
       attrs = w.drawn.attrs;
       saved_attrs = w.drawn.saved_attrs;
@@ -155,36 +155,33 @@ well-repeated n b s w = typed-last s.last n w.drawn.last b s w
 
 pub well-moved_left : (n : ℕ) → Keeps (moved_left n)
 well-moved_left n b s w =
-    well-shown b s _ w (drawn-col (limits b s.alternate) s.shown (s.shown.col - n)
+    well-shown b s _ w (drawn-col _ s.shown (s.shown.col - n)
     (omega (arith, w.shown.fine.grid.cursor_col)) w.shown) w.clean
 
 pub well-moved_right : (n : ℕ) → Keeps (moved_right n)
 well-moved_right n b s w =
-    well-shown b s _ w (drawn-col (limits b s.alternate) s.shown (min (s.shown.col + n) (s.shown.width - 1))
-    (omega arith) w.shown) w.clean
+    well-shown b s _ w (drawn-col _ s.shown (min (s.shown.col + n) (s.shown.width - 1)) (omega arith) w.shown) w.clean
 
 pub well-tabbed : Keeps tabbed
-well-tabbed b s w =
-    well-shown b s _ w (drawn-col (limits b s.alternate) s.shown (tab_stop s.shown) (omega arith) w.shown) w.clean
+well-tabbed b s w = well-shown b s _ w (drawn-col _ s.shown (tab_stop s.shown) (omega arith) w.shown) w.clean
 
 pub well-at_column : (n : ℕ) → Keeps (at_column n)
 well-at_column n b s w =
-    well-shown b s _ w (drawn-col (limits b s.alternate) s.shown (min n (s.shown.width - 1)) (omega arith) w.shown)
-    w.clean
+    well-shown b s _ w (drawn-col _ s.shown (min n (s.shown.width - 1)) (omega arith) w.shown) w.clean
 
 pub well-at_row : (n : ℕ) → Keeps (at_row n)
 well-at_row n b s w =
-    well-shown b s _ w (drawn-row (limits b s.alternate) s.shown (min n (s.shown.height - 1))
+    well-shown b s _ w (drawn-row _ s.shown (min n (s.shown.height - 1))
     (omega (arith, w.shown.fine.grid.some_rows)) w.shown) w.clean
 
 pub well-at_place : (row col : ℕ) → Keeps (at_place row col)
-well-at_place row col b s w = well-shown b s _ w (drawn-cursor_at (limits b s.alternate) s.shown row col w.shown) w.clean
+well-at_place row col b s w = well-shown b s _ w (drawn-cursor_at _ s.shown row col w.shown) w.clean
 
 pub well-moved_up : (n : ℕ) → Keeps (cursor_up n)
-well-moved_up n b s w = well-shown b s _ w (drawn-up (limits b s.alternate) s.shown n w.shown) w.clean
+well-moved_up n b s w = well-shown b s _ w (drawn-up _ s.shown n w.shown) w.clean
 
 pub well-moved_down : (n : ℕ) → Keeps (cursor_down n)
-well-moved_down n b s w = well-shown b s _ w (drawn-down (limits b s.alternate) s.shown n w.shown) w.clean
+well-moved_down n b s w = well-shown b s _ w (drawn-down _ s.shown n w.shown) w.clean
 
 pub well-line_above : (n : ℕ) → Keeps (line_above n)
 well-line_above n b s w = well-moved_up n b (at_column 0 s) (well-at_column 0 b s w)
@@ -193,91 +190,90 @@ pub well-line_below : (n : ℕ) → Keeps (line_below n)
 well-line_below n b s w = well-moved_down n b (at_column 0 s) (well-at_column 0 b s w)
 
 pub well-line_fed : KeepsStepped line_fed
-well-line_fed b s w = well-shown b s _ w (drawn-fed (limits b s.alternate) s.shown 1 w.shown) (sheet-fed sound s.shown 1 w.clean)
+well-line_fed b s w = well-shown b s _ w (drawn-fed _ s.shown 1 w.shown) (sheet-fed sound s.shown 1 w.clean)
 
 pub well-line_fed_back : Keeps line_fed_back
-well-line_fed_back b s w = well-shown b s _ w (drawn-fed_up (limits b s.alternate) s.shown 1 w.shown) (sheet-fed_up sound s.shown 1 w.clean)
+well-line_fed_back b s w = well-shown b s _ w (drawn-fed_up _ s.shown 1 w.shown) (sheet-fed_up sound s.shown 1 w.clean)
 
 pub well-in_region : (top bottom : ℕ) → Keeps (in_region top bottom)
-well-in_region top bottom b s w = well-shown b s _ w (drawn-region (limits b s.alternate) s.shown top bottom w.shown) (sheet-region sound s.shown top bottom w.clean)
+well-in_region top bottom b s w =
+    well-shown b s _ w (drawn-region _ s.shown top bottom w.shown) (sheet-region sound s.shown top bottom w.clean)
 
 pub well-saved : Keeps saved
 well-saved b s w =
-    well-with b s _ _ _ _ w (drawn-saved (limits b s.alternate) s.shown w.shown) w.clean
+    well-with b s _ _ _ _ w (drawn-saved _ s.shown w.shown) w.clean
     (record { attrs = w.drawn.attrs; saved_attrs = w.drawn.attrs; last = w.drawn.last })
 
 pub well-restored : Keeps restored
 well-restored b s w =
-    well-with b s _ _ _ _ w (drawn-restored (limits b s.alternate) s.shown w.shown) w.clean
+    well-with b s _ _ _ _ w (drawn-restored _ s.shown w.shown) w.clean
     (record { attrs = w.drawn.saved_attrs; saved_attrs = w.drawn.saved_attrs; last = w.drawn.last })
 
 -- ---- erasing, and cells and lines that come in and go
 
 pub well-erased_below : Keeps erased_below
 well-erased_below b s w =
-    well-shown b s _ w (drawn-all_erased_forward (limits b s.alternate) s.shown s.attrs w.shown)
+    well-shown b s _ w (drawn-all_erased_forward _ s.shown s.attrs w.shown)
     (sheet-all_erased_forward sound s.shown s.attrs w.drawn.attrs w.clean)
 
 pub well-erased_above : Keeps erased_above
 well-erased_above b s w =
-    well-shown b s _ w (drawn-all_erased_backward (limits b s.alternate) s.shown s.attrs w.shown)
+    well-shown b s _ w (drawn-all_erased_backward _ s.shown s.attrs w.shown)
     (sheet-all_erased_backward sound s.shown s.attrs w.drawn.attrs w.clean)
 
 pub well-erased_all : Keeps erased_all
-well-erased_all b s w = well-shown b s _ w (drawn-all_erased (limits b s.alternate) s.shown s.attrs w.shown)
+well-erased_all b s w = well-shown b s _ w (drawn-all_erased _ s.shown s.attrs w.shown)
     (sheet-all_erased sound s.shown s.attrs w.drawn.attrs w.clean)
 
 pub well-erased_kept : KeepsStepped erased_kept
-well-erased_kept b s w = well-shown b s _ w (drawn-none_kept (limits b s.alternate) s.shown w.shown)
+well-erased_kept b s w = well-shown b s _ w (drawn-none_kept _ s.shown w.shown)
     (sheet-scrollback_erased sound s.shown w.clean)
 
 well-columns_erased : (from to : ℕ) (b : Bounds) (s : State) → to ≤ s.shown.width → IsUnscrolledState b s
     → IsUnscrolledState b (with_shown s (columns_erased s.shown from to s.attrs))
 well-columns_erased from to b s h w =
-    well-shown b s _ w (drawn-columns_erased (limits b s.alternate) s.shown from to s.attrs h w.shown)
+    well-shown b s _ w (drawn-columns_erased _ s.shown from to s.attrs h w.shown)
     (sheet-columns_erased sound s.shown from to s.attrs w.drawn.attrs w.clean)
 
 pub well-erased_right : Keeps erased_right
-well-erased_right b s w =
-    well-columns_erased s.shown.col s.shown.width b s (omega arith) w
+well-erased_right b s w = well-columns_erased s.shown.col s.shown.width b s (omega arith) w
 
 pub well-erased_left : Keeps erased_left
 well-erased_left b s w = well-columns_erased 0 _ b s (columns_to_cursor-fit s.shown w.shown.fine.grid) w
 
 pub well-erased_row : Keeps erased_row
-well-erased_row b s w = well-shown b s _ w (drawn-row_erased (limits b s.alternate) s.shown s.attrs w.shown)
+well-erased_row b s w = well-shown b s _ w (drawn-row_erased _ s.shown s.attrs w.shown)
     (sheet-row_erased sound s.shown s.attrs w.drawn.attrs w.clean)
 
 pub well-cells_erased : (n : ℕ) → Keeps (cells_erased n)
-well-cells_erased n b s w =
-    well-columns_erased s.shown.col (min (s.shown.col + n) s.shown.width) b s (omega arith) w
+well-cells_erased n b s w = well-columns_erased s.shown.col (min (s.shown.col + n) s.shown.width) b s (omega arith) w
 
 pub well-cells_added : (n : ℕ) → Keeps (cells_added n)
-well-cells_added n b s w = well-shown b s _ w (drawn-cells_inserted (limits b s.alternate) s.shown n w.shown)
+well-cells_added n b s w = well-shown b s _ w (drawn-cells_inserted _ s.shown n w.shown)
     (sheet-cells_inserted sound s.shown n w.clean)
 
 pub well-cells_taken : (n : ℕ) → Keeps (cells_taken n)
-well-cells_taken n b s w = well-shown b s _ w (drawn-cells_deleted (limits b s.alternate) s.shown n w.shown)
+well-cells_taken n b s w = well-shown b s _ w (drawn-cells_deleted _ s.shown n w.shown)
     (sheet-cells_deleted sound s.shown n w.clean)
 
 pub well-lines_added : (n : ℕ) → Keeps (lines_added n)
-well-lines_added n b s w = well-shown b s _ w (drawn-lines_inserted (limits b s.alternate) s.shown n w.shown)
+well-lines_added n b s w = well-shown b s _ w (drawn-lines_inserted _ s.shown n w.shown)
     (sheet-lines_inserted sound s.shown n w.clean)
 
 pub well-lines_taken : (n : ℕ) → Keeps (lines_taken n)
-well-lines_taken n b s w = well-shown b s _ w (drawn-lines_deleted (limits b s.alternate) s.shown n w.shown)
+well-lines_taken n b s w = well-shown b s _ w (drawn-lines_deleted _ s.shown n w.shown)
     (sheet-lines_deleted sound s.shown n w.clean)
 
 pub well-region_up : (n : ℕ) → KeepsStepped (region_up n)
-well-region_up n b s w = well-shown b s _ w (drawn-scrolled_up (limits b s.alternate) s.shown n w.shown)
+well-region_up n b s w = well-shown b s _ w (drawn-scrolled_up _ s.shown n w.shown)
     (sheet-scrolled_up sound s.shown n w.clean)
 
 pub well-region_down : (n : ℕ) → Keeps (region_down n)
-well-region_down n b s w = well-shown b s _ w (drawn-scrolled_down (limits b s.alternate) s.shown n w.shown)
+well-region_down n b s w = well-shown b s _ w (drawn-scrolled_down _ s.shown n w.shown)
     (sheet-scrolled_down sound s.shown n w.clean)
 
 pub well-origin : (mode : Bool) → Keeps (with_origin_mode mode)
-well-origin mode b s w = well-shown b s _ w (drawn-origin (limits b s.alternate) s.shown mode w.shown) w.clean
+well-origin mode b s w = well-shown b s _ w (drawn-origin _ s.shown mode w.shown) w.clean
 
 -- ---- the alternate sheet
 
@@ -320,13 +316,13 @@ well-main_shown b s w =
 well-alternate_cleared : Keeps alternate_cleared
 well-alternate_cleared b s w =
     cond_both s.alternate (with_shown s (cleared s.shown)) (record s { other = cleared s.other }) (λ t. IsUnscrolledState b t)
-    (λ _. well-shown b s (cleared s.shown) w (drawn-cleared (limits b s.alternate) s.shown w.shown)
+    (λ _. well-shown b s (cleared s.shown) w (drawn-cleared _ s.shown w.shown)
     (sheet-cleared sound s.shown w.clean))
     (λ e. record {
       bounds = w.bounds;
       shown = w.shown;
       clean = w.clean;
-      other = fine-cleared (limits b (not s.alternate)) s.other w.other;
+      other = fine-cleared _ s.other w.other;
       other_clean = sheet-cleared sound s.other w.other_clean;
       main = λ t. absurd (false≢true (sym e ∙ t));
       drawn = w.drawn;
@@ -388,13 +384,13 @@ well-resized b s height width w some_rows few_rows some_cols few_cols = record {
     few = w.bounds.few;
   };
   shown = record {
-    fine = fine-resized (limits b s.alternate) s.shown height width w.shown.fine some_rows few_rows some_cols few_cols;
-    some = some-resized (limits b s.alternate) s.shown height width w.shown some_rows;
+    fine = fine-resized _ s.shown height width w.shown.fine some_rows few_rows some_cols few_cols;
+    some = some-resized _ s.shown height width w.shown some_rows;
   };
   clean = sheet-resized sound s.shown height width w.clean;
-  other = fine-resized (limits b (not s.alternate)) s.other height width w.other some_rows few_rows some_cols few_cols;
+  other = fine-resized _ s.other height width w.other some_rows few_rows some_cols few_cols;
   other_clean = sheet-resized sound s.other height width w.other_clean;
-  main = λ e. some-resized (limits b (not s.alternate)) s.other height width
+  main = λ e. some-resized _ s.other height width
       (record { fine = w.other; some = w.main e }) some_rows;
   drawn = w.drawn;
 }
