@@ -1,5 +1,5 @@
 -- Texts that may hold U+FE0F: the grid stays plain, and no mode changes.
-use Rattle.std.proofs.Common.{◌≡◌, ℕ, ◌+◌, ◌-◌, ◌<◌, ◌≤◌, ◌==◌, Bool, true, false, not, ◌&&◌, nat_lt}
+use Rattle.std.proofs.Common.{◌≡◌, ℕ, ◌+◌, ◌-◌, ◌<◌, ◌≤◌, ◌==◌, Bool, true, false, not, ◌&&◌, nat_lt, nat_le}
 use Rattle.std.proofs.Common.{List, [], ◌∷◌, length, set, map, Some, refl, ap, ◌∙◌, arith, length-set, ⊎_elim}
 use Rattle.std.specs.Char.{IsScalar}
 use Rattle.std.specs.List.{AllByRecursion}
@@ -7,9 +7,9 @@ use Rattle.std.proofs.lemmas.Bool.{cond_both, ltb-true, not-true, not-false, cas
 use Rattle.std.proofs.lemmas.Bool.Decides.{nat_tests}
 use Rattle.vte_core.specs.Event.{Print}
 use Rattle.vt100_forms.specs.declared.attrs.Attrs.{Attrs}
-use Rattle.vt100_cells.specs.Cell.{cell_of, columns_of, drawn_columns}
+use Rattle.vt100_cells.specs.Cell.{CellView, IsCell, cell_of, columns_of, drawn_columns, has_text}
 use Rattle.vt100_cells.specs.Cells.{cell_at}
-use Rattle.vt100_cells.specs.Line.{put, put_unflags, wipe_unflags}
+use Rattle.vt100_cells.specs.Line.{span_of, put, put_unflags, wipe_unflags}
 use Rattle.vt100_cells.proofs.CellLemmas.{IsCell-of, IsCell-with_attrs}
 use Rattle.vt100_cells.proofs.ListLemmas.{length-by_position}
 use Rattle.vt100_rows.specs.Row.{with_wrap, placed, wiped_row, joined_cell, joined_row, is_widening}
@@ -21,13 +21,13 @@ use Rattle.vt100_rows.specs.Sheet.{row_at}
 use Rattle.vt100_rows.proofs.SheetLemmas.{IsSheet-with_row}
 use Rattle.vt100_core.specs.Grid.{GridView, row_of_cursor, with_cursor_row, with_row}
 use Rattle.vt100_core.specs.Picture.{grid_size, Extras}
-use Rattle.vt100_core.specs.Scroll.{fed, left_row, wrapped_on, made_to_fit}
-use Rattle.vt100_core.specs.Text.{PrintedGrid, carried, joined, spaced, printed}
+use Rattle.vt100_core.specs.Scroll.{Scrolled, fed, left_row, wrapped_on, made_to_fit}
+use Rattle.vt100_core.specs.Text.{PrintedGrid, put_at, carried, joined, spaced, printed}
 use Rattle.vt100_core.specs.declared.printed.Printed.TheVariants.{Nothing, Joined}
 use Rattle.vt100_core.proofs.EraseLemmas.{IsRowOf-wiped}
 use Rattle.vt100_core.proofs.TextLemmas.{printed-dropped, printed-joined, printed-spaced, IsDrawn-here, IsMade-made}
 use Rattle.vt100_core.proofs.TextLemmas.{span_of-cell, span_of-wide, or-false, IsSized-wrapped}
-use Rattle.vt100_core.proofs.InputLemmas.{cursor_row}
+use Rattle.vt100_core.proofs.InputLemmas.{IsNext-made, cursor_row}
 use Rattle.screen_model.specs.State.{State, fresh_state}
 use Rattle.screen_model.specs.Effect.{Effect, is_unhandled, calling, steps, effect}
 use Rattle.screen_model.specs.Step.{typed}
@@ -39,7 +39,60 @@ use Rattle.agreement.proofs.PlainStates.{drawable}
 use Rattle.agreement.proofs.Cursors.{plain-moved}
 use Rattle.agreement.proofs.Erasures.{plain-rows, plain-row}
 use Rattle.agreement.proofs.Feeds.{IsAside, aside-same, aside-both, aside-fed, shows-fed}
-use Rattle.agreement.proofs.Texts.{aside-wrapped, aside-made, plain-made, plain-put}
+
+-- ---- what wrapping leaves aside
+
+aside-wrapped : (g : GridView) (wrap : Bool) → IsAside g (wrapped_on g wrap).grid
+unfolding wrapped_on
+aside-wrapped g wrap =
+    let g0 = record g { col = 0 } in
+    let h = (fed g0 1).grid in
+    let a = aside-both g g0 h (aside-same g) (aside-fed g0 1) in
+    cond_both ((g.row == g.bottom) && (g.row == 0)) h _ (λ x. IsAside g x) (λ _. a) (λ _. a)
+
+aside-made : (g : GridView) (n : ℕ) → IsAside g (made_to_fit g n true).grid
+aside-made g n =
+    cond_both (nat_le (g.col + n) g.width) (record { grid = g; sunk = [] }) (wrapped_on g true)
+    (λ (x : Scrolled). IsAside g x.grid) (λ _. aside-same g) (λ _. aside-wrapped g true)
+
+plain-made : (g : GridView) (x : Extras) (n : ℕ) → IsPlainGrid g → IsPlainGrid (made_to_fit g n true).grid
+plain-made g x n p =
+    let next = IsNext-made g x n (drawable g p) in
+    let d = next.drawable in
+    let a = aside-made g n in
+    let height = ap (λ z. z.rows) next.size in
+    let width = ap (λ z. z.cols) next.size in
+    record {
+      sheet = d.sheet;
+      some = d.some;
+      few_rows = d.few_rows;
+      few_cols = d.few_cols;
+      some_cols = omega (arith, width, p.some_cols);
+      cursor_row = d.row;
+      cursor_col = d.col;
+      saved_row = omega (arith, a.saved_row, height, p.saved_row);
+      saved_col = omega (arith, a.saved_col, width, p.saved_col);
+      top = d.top;
+      bottom = d.bottom;
+      origin = a.origin ∙ p.origin;
+      saved_origin = a.saved_origin ∙ p.saved_origin;
+      offset = a.offset p.offset;
+    }
+
+plain-put : (g : GridView) (x : CellView) (a : Attrs) (n : ℕ) → IsPlainGrid g → IsCell x → has_text x ≡ true
+    → n ≡ span_of x → g.col + n ≤ g.width → IsPlainGrid (put_at g x a n)
+plain-put g x a n p cell text e l =
+    let v = row_of_cursor g in
+    let r = cursor_row g (drawable g p) in
+    let w = placed v g.col x a in
+    plain-moved (with_cursor_row g w) g.row (g.col + n)
+    (plain-row g w p
+    (record {
+      row = IsRow-placed v g.col x a r.row cell text (omega (arith, r.wide, e, l));
+      wide = length-by_position (length v.cells) (put (cell_at v.cells) g.col x a) ∙ r.wide;
+    })
+    (λ q. ap (λ b. b && not (put_unflags (length v.cells) (cell_at v.cells) g.col x)) q))
+    p.cursor_row l
 
 -- ---- wrapping without a flag
 
@@ -165,15 +218,15 @@ aside-joined g c a =
 
 -- ---- one character
 
-record IsSound (g h : GridView) : Type 0 where
-  plain : IsPlainGrid h
-  size : grid_size h ≡ grid_size g
+pub record IsSound (g h : GridView) : Type 0 where
+  pub plain : IsPlainGrid h
+  pub size : grid_size h ≡ grid_size g
 
 sound-at : (g : GridView) (c : ℕ) (a : Attrs) (d : PrintedGrid) → printed g c a ≡ d → IsSound g d.grid
     → IsSound g (printed g c a).grid
 sound-at g c a d e s = rw e s
 
-sound-printed : (g : GridView) (c : ℕ) (x : Extras) → IsPlainGrid g → IsScalar c → IsSound g (printed g c x.attrs).grid
+pub sound-printed : (g : GridView) (c : ℕ) (x : Extras) → IsPlainGrid g → IsScalar c → IsSound g (printed g c x.attrs).grid
 sound-printed g c x p scalar =
     let a = x.attrs in
     let n = columns_of c in
