@@ -81,23 +81,12 @@ module _ (f : Attr → Attrs → Attrs) (r : ReadsAttributes f) where
   intensity-read (Some Bold) = λ x. r.bold x
   intensity-read (Some Dim) = λ x. r.dim x
 
-  italic-read : (o : Option Bool)
-      → IsReadAs f (flag_told a.Italic a.CancelItalic o) (λ x. with_mode x (flag_set 4 o x.mode))
-  italic-read None = λ x. refl
-  italic-read (Some true) = λ x. r.italic x
-  italic-read (Some false) = λ x. r.upright x
-
-  underline-read : (o : Option Bool)
-      → IsReadAs f (flag_told a.Underline a.CancelUnderline o) (λ x. with_mode x (flag_set 8 o x.mode))
-  underline-read None = λ x. refl
-  underline-read (Some true) = λ x. r.underline x
-  underline-read (Some false) = λ x. r.no_line x
-
-  inverse-read : (o : Option Bool)
-      → IsReadAs f (flag_told a.Reverse a.CancelReverse o) (λ x. with_mode x (flag_set 16 o x.mode))
-  inverse-read None = λ x. refl
-  inverse-read (Some true) = λ x. r.inverse x
-  inverse-read (Some false) = λ x. r.positive x
+  flag-read : (on off : Attr) (bit : ℕ) → ((x : Attrs) → f on x ≡ with_mode x (flag_set bit (Some true) x.mode))
+      → ((x : Attrs) → f off x ≡ with_mode x (flag_set bit (Some false) x.mode)) → (o : Option Bool)
+      → IsReadAs f (flag_told on off o) (λ x. with_mode x (flag_set bit o x.mode))
+  flag-read on off bit h k None = λ x. refl
+  flag-read on off bit h k (Some true) = h
+  flag-read on off bit h k (Some false) = k
 
   change-read : (c : Change) → IsByteOption c.fgcolor → IsByteOption c.bgcolor
       → IsReadAs f (change_told c) (λ x. with_change c x)
@@ -108,10 +97,10 @@ module _ (f : Attr → Attrs → Attrs) (r : ReadsAttributes f) where
       let ul = flag_told a.Underline a.CancelUnderline c.underline in
       let one = read-both f fg bg _ _ (fore-read c.fgcolor hf) (back-read c.bgcolor hb) in
       let two = read-both f (fg ++ bg) (intensity_told c.intensity) _ _ one (intensity-read c.intensity) in
-      let three = read-both f (fg ++ bg ++ intensity_told c.intensity) it _ _ two (italic-read c.italic) in
-      let four = read-both f (fg ++ bg ++ intensity_told c.intensity ++ it) ul _ _ three (underline-read c.underline) in
+      let three = read-both f (fg ++ bg ++ intensity_told c.intensity) it _ _ two (flag-read _ _ 4 r.italic r.upright c.italic) in
+      let four = read-both f (fg ++ bg ++ intensity_told c.intensity ++ it) ul _ _ three (flag-read _ _ 8 r.underline r.no_line c.underline) in
       read-both f (fg ++ bg ++ intensity_told c.intensity ++ it ++ ul)
-      (flag_told a.Reverse a.CancelReverse c.inverse) _ _ four (inverse-read c.inverse)
+      (flag_told a.Reverse a.CancelReverse c.inverse) _ _ four (flag-read _ _ 16 r.inverse r.positive c.inverse)
 
 -- ---- modes
 
