@@ -36,6 +36,7 @@ use Rattle.forms_read.specs.Calls.{mode_calls, style_told, set_call, reset_call,
 use Rattle.forms_read.specs.Terminals.{stepped, ReadsAttributes, ReadsCalls, IsSmall, EachFormIsStepped}
 use Rattle.forms_read.specs.Terminals.{EachListIsStepped}
 use Rattle.forms_read.specs.Terminals.{EachSpellingIsStepped}
+use Rattle.forms_read.proofs.ReadForms.{cond-two}
 use Rattle.forms_read.proofs.Calling.{spelling-called}
 
 stepped-joined : (step : Size → Call → Term → Term) (z : Size) (xs ys : List Call) (t : Term)
@@ -142,14 +143,10 @@ module _ (step : Size → Call → Term → Term) (f : Attr → Attrs → Attrs)
   step-MoveRight : (k : ℕ) (t : Term) → stepped step z (form_calls (MoveRight k)) t ≡ apply z (MoveRight k) t
   unfolding apply
   step-MoveRight k t =
-      elim (k == 0) as (λ b. stepped step z (cond b [] (call.move_forward (kept_number k) ∷ [])) t
-      ≡ cond b t (record t { col = min (t.col + k) (z.cols - 1) })) [
-        | true ↦ refl
-        | false ↦
-            let col : min (t.col + kept_number k) (z.cols - 1) ≡ min (t.col + k) (z.cols - 1) =
-            omega (arith, small.1) in
-            s.forward (kept_number k) t ∙ (λ i. record t { col = col i })
-      ]
+      cond-two (λ cs u. stepped step z cs t ≡ u) (k == 0) [] (call.move_forward (kept_number k) ∷ []) t
+      (record t { col = min (t.col + k) (z.cols - 1) }) (λ _. refl)
+      (λ _. let col : min (t.col + kept_number k) (z.cols - 1) ≡ min (t.col + k) (z.cols - 1) = omega (arith, small.1) in
+      s.forward (kept_number k) t ∙ (λ i. record t { col = col i }))
 
   step-EraseChar : (k : ℕ) (t : Term) → stepped step z (form_calls (EraseChar k)) t ≡ apply z (EraseChar k) t
   unfolding apply
@@ -215,12 +212,8 @@ module _ (step : Size → Call → Term → Term) (f : Attr → Attrs → Attrs)
       → stepped step z (form_calls (Style to from)) t ≡ apply z (Style to from) t
   unfolding apply
   step-Style to from t =
-      elim (style_number to == style_number from) as (λ b.
-      stepped step z (cond b [] (call.set_cursor_style (style_told to) ∷ [])) t
-      ≡ record t { style = cond b t.style to }) [
-        | true ↦ refl
-        | false ↦ s.style to t
-      ]
+      cond-two (λ cs m. stepped step z cs t ≡ record t { style = m }) (style_number to == style_number from) []
+      (call.set_cursor_style (style_told to) ∷ []) t.style to (λ _. refl) (λ _. s.style to t)
 
   form-stepped : (x : Form) (t : Term) → IsTerm z t → IsSentForm x → stepped step z (form_calls x) t ≡ apply z x t
   unfolding apply
