@@ -146,17 +146,11 @@ module _ (t : Traits) where
   pub clean-placed : (v : RowView) (i : ℕ) (x : CellView) (a : Attrs) → t.of_attrs a → IsCleanRow v → IsClean x
       → IsCleanRow (placed v i x a)
   clean-placed v i x a p h y =
-      record {
-        cells = cells-by (length v.cells) (put (cell_at v.cells) i x a)
-            (line-put (cell_at v.cells) i x a p (clean-at v.cells h.cells) y);
-      }
+      record { cells = cells-by _ _ (line-put (cell_at v.cells) i x a p (clean-at v.cells h.cells) y) }
 
   pub clean-wiped : (v : RowView) (s e : ℕ) (a : Attrs) → t.of_attrs a → IsCleanRow v → IsCleanRow (wiped_row v s e a)
   clean-wiped v s e a p h =
-      record {
-        cells = cells-by (length v.cells) (wiped (cell_at v.cells) s e a)
-            (line-wiped (cell_at v.cells) s e a p (clean-at v.cells h.cells));
-      }
+      record { cells = cells-by _ _ (line-wiped (cell_at v.cells) s e a p (clean-at v.cells h.cells)) }
 
   pub clean-joined_cell : (v : RowView) (col c : ℕ) → IsCleanRow v → t.of_char c → IsClean (joined_cell v col c)
   clean-joined_cell v col c h k =
@@ -165,11 +159,9 @@ module _ (t : Traits) where
 
   pub clean-joined : (v : RowView) (col c : ℕ) → IsCleanRow v → t.of_char c → IsCleanRow (joined_row v col c)
   clean-joined v col c h k =
-      let f = cell_at v.cells in
       record {
-        cells = cells-by (length v.cells) (update f (base_col f col) (joined_cell v col c))
-            (line-update f (base_col f col) (joined_cell v col c) (clean-at v.cells h.cells)
-            (clean-joined_cell v col c h k));
+        cells = cells-by _ _ (line-update (cell_at v.cells) (base_col (cell_at v.cells) col) (joined_cell v col c)
+            (clean-at v.cells h.cells) (clean-joined_cell v col c h k));
       }
 
   pub clean-inserted : (v : RowView) (i count : ℕ) → IsCleanRow v → IsCleanRow (inserted v i count)

@@ -9,10 +9,9 @@ use Rattle.vt100_forms.specs.declared.attrs.Attrs.{Attrs}
 use Rattle.vt100_forms.specs.Attrs.{IsProper}
 use Rattle.screen_model.specs.State.{IsProperSheet}
 use Rattle.vt100_cells.specs.Cell.{CellView, default_cell, cell_of, columns_of}
-use Rattle.vt100_rows.specs.Row.{RowView, blank_row, trimmed, grown, resized_row, with_wrap, cleared_row, wiped_row}
-use Rattle.vt100_rows.specs.Row.{inserted, removed, placed, joined_row, joined_cell, is_widening}
-use Rattle.vt100_rows.specs.Sheet.{row_at, moved_up, opened_line, changed_between, first_rows}
-use Rattle.vt100_rows.specs.Sheet.{erased_forward_at, erased_backward_at}
+use Rattle.vt100_rows.specs.Row.{RowView, blank_row, trimmed, grown, resized_row, with_wrap, wiped_row}
+use Rattle.vt100_rows.specs.Row.{placed, joined_row, joined_cell, is_widening}
+use Rattle.vt100_rows.specs.Sheet.{row_at, moved_up, changed_between, first_rows}
 use Rattle.terminal_model.specs.Apply.{is_dropped}
 use Rattle.vt100_core.specs.Grid.{KeptPart, GridView, new_grid, allocated, cleared, with_row, with_rows, row_of_cursor}
 use Rattle.vt100_core.specs.Grid.{with_cursor_row, is_in_region}
@@ -74,44 +73,37 @@ module _ (t : Traits) where
   -- ---- erasing, and cells and lines that come in and go
 
   pub sheet-all_erased : (g : GridView) (a : Attrs) → t.of_attrs a → IsCleanSheet g → IsCleanSheet (all_erased g a)
-  sheet-all_erased g a p d =
-      positions-clean g (λ r. cleared_row (row_at g.rows r) a) d (λ r. clean-cleared t (row_at g.rows r) a p)
+  sheet-all_erased g a p d = positions-clean g _ d (λ r. clean-cleared t (row_at g.rows r) a p)
 
   pub sheet-all_erased_forward : (g : GridView) (a : Attrs) → t.of_attrs a → IsCleanSheet g
       → IsCleanSheet (all_erased_forward g a)
   sheet-all_erased_forward g a p d =
-      positions-clean g (erased_forward_at g.rows g.row g.col g.width a) d
-      (clean-erased_forward t g.rows g.row g.col g.width a p d.drawn)
+      positions-clean g _ d (clean-erased_forward t g.rows g.row g.col g.width a p d.drawn)
 
   pub sheet-all_erased_backward : (g : GridView) (a : Attrs) → t.of_attrs a → IsCleanSheet g
       → IsCleanSheet (all_erased_backward g a)
   sheet-all_erased_backward g a p d =
-      positions-clean g (erased_backward_at g.rows g.row (columns_to_cursor g) a) d
-      (clean-erased_backward t g.rows g.row (columns_to_cursor g) a p d.drawn)
+      positions-clean g _ d (clean-erased_backward t g.rows g.row (columns_to_cursor g) a p d.drawn)
 
   pub sheet-row_erased : (g : GridView) (a : Attrs) → t.of_attrs a → IsCleanSheet g → IsCleanSheet (row_erased g a)
-  sheet-row_erased g a p d =
-      row-clean g g.row (cleared_row (row_of_cursor g) a) d (clean-cleared t (row_of_cursor g) a p)
+  sheet-row_erased g a p d = row-clean g g.row _ d (clean-cleared t (row_of_cursor g) a p)
 
   pub sheet-columns_erased : (g : GridView) (s e : ℕ) (a : Attrs) → t.of_attrs a → IsCleanSheet g
       → IsCleanSheet (columns_erased g s e a)
   sheet-columns_erased g s e a p d =
-      row-clean g g.row (wiped_row (row_of_cursor g) s e a) d
-      (clean-wiped t (row_of_cursor g) s e a p (cursor-clean g d))
+      row-clean g g.row _ d (clean-wiped t (row_of_cursor g) s e a p (cursor-clean g d))
 
   pub sheet-cells_inserted : (g : GridView) (n : ℕ) → IsCleanSheet g → IsCleanSheet (cells_inserted g n)
-  sheet-cells_inserted g n d =
-      row-clean g g.row (inserted (row_of_cursor g) g.col n) d
-      (clean-inserted t (row_of_cursor g) g.col n (cursor-clean g d))
+  sheet-cells_inserted g n d = row-clean g g.row _ d (clean-inserted t (row_of_cursor g) g.col n (cursor-clean g d))
 
   pub sheet-cells_deleted : (g : GridView) (n : ℕ) → IsCleanSheet g → IsCleanSheet (cells_deleted g n)
   sheet-cells_deleted g n d =
-      row-clean g g.row (removed (row_of_cursor g) g.col (min (g.col + n) g.width)) d
+      row-clean g g.row _ d
       (clean-removed t (row_of_cursor g) g.col (min (g.col + n) g.width) (cursor-clean g d))
 
   lines-clean : (g : GridView) (first n : ℕ) → IsCleanSheet g → IsCleanSheet (lines_opened g first n)
   lines-clean g first n d =
-      positions-clean g (opened_line g.rows first (g.bottom + 1) (min n (g.bottom + 1 - first)) g.width) d
+      positions-clean g _ d
       (clean-opened_line t g.rows first (g.bottom + 1) (min n (g.bottom + 1 - first)) g.width d.drawn)
 
   pub sheet-lines_inserted : (g : GridView) (n : ℕ) → IsCleanSheet g → IsCleanSheet (lines_inserted g n)
@@ -201,8 +193,7 @@ module _ (t : Traits) where
   put-clean : (g : GridView) (x : CellView) (a : Attrs) (n : ℕ) → t.of_attrs a → IsCleanSheet g → IsClean t x
       → IsCleanSheet (put_at g x a n)
   put-clean g x a n p d h =
-      row-clean g g.row (placed (row_of_cursor g) g.col x a) d
-      (clean-placed t (row_of_cursor g) g.col x a p (cursor-clean g d) h)
+      row-clean g g.row _ d (clean-placed t (row_of_cursor g) g.col x a p (cursor-clean g d) h)
 
   carried-clean : (g : GridView) (c : ℕ) (a : Attrs) → t.of_char c → t.of_attrs a → IsCleanSheet g
       → IsCleanSheet (carried g c a).grid
