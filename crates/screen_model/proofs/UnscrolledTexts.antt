@@ -3,7 +3,7 @@ use Rattle.std.proofs.Common.{◌≡◌, ℕ, ◌+◌, ◌-◌, ◌<◌, ◌≤�
 use Rattle.std.proofs.Common.{length, length-set, refl, sym, ap, ◌∙◌, arith, subst, ⊎_elim, nat_lt, nat_le}
 use Rattle.std.specs.Prelude.{Some}
 use Rattle.std.specs.Char.{IsScalar}
-use Rattle.std.proofs.lemmas.Bool.{cond_both, cases_Bool, cases_lt}
+use Rattle.std.proofs.lemmas.Bool.{cond_both, cases_Bool, ltb-true, ltb-false}
 use Rattle.std.proofs.lemmas.Bool.Decides.{nat_tests}
 use Rattle.vt100_forms.specs.declared.attrs.Attrs.{Attrs}
 use Rattle.vt100_cells.specs.Cell.{CellView, IsCell, cell_of, columns_of, has_text, drawn_columns}
@@ -21,7 +21,7 @@ use Rattle.vt100_core.proofs.ScrollLemmas.{IsGrid-wrap_row, above-last}
 use Rattle.vt100_core.proofs.EraseLemmas.{cursor_row_of, IsGrid-columns_erased}
 use Rattle.vt100_core.proofs.TextLemmas.{IsSized-fed, IsSized-wrapped, IsMade-made, IsGrid-put_at, span_of-cell}
 use Rattle.vt100_core.proofs.TextLemmas.{span_of-wide, IsGrid-join, in-place, ignored, widens, carries}
-use Rattle.vt100_core.proofs.TextLemmas.{IsDrawn-here, printed-dropped, printed-joined, printed-spaced}
+use Rattle.vt100_core.proofs.TextLemmas.{IsDrawn-here}
 use Rattle.screen_model.proofs.UnscrolledSheets.{Limits, IsShownSheet, row-drawn, drawn-col, drawn-fed}
 
 -- ---- the cursor goes to the next row
@@ -124,21 +124,21 @@ drawn-joined l g c a d s zero after =
     subst (λ x. IsShownSheet l x) (in-place g c a h r.wide refl wide).0 in_row)
     (cases_Bool (is_widening v g.col c))
 
+-- a character is dropped, drawn in columns of its own, or joins the cell before it
+pub printed-either : (P : GridView → Type 0) (g : GridView) (c : ℕ) (a : Attrs)
+    → (is_dropped g.width g.col c ≡ true → P g)
+    → (is_dropped g.width g.col c ≡ false → 0 < columns_of c → P (spaced g c a).grid)
+    → (is_dropped g.width g.col c ≡ false → columns_of c ≡ 0 → P (joined g c a).grid) → P (printed g c a).grid
+unfolding printed
+printed-either P g c a dropped spaces joins =
+    cond_both (is_dropped g.width g.col c) _ _ (λ (x : PrintedGrid). P x.grid) dropped
+    (λ e. cond_both (nat_lt 0 (columns_of c)) (spaced g c a) (joined g c a) (λ (x : PrintedGrid). P x.grid)
+    (λ some. spaces e (ltb-true 0 (columns_of c) some))
+    (λ none. let zero = ltb-false 0 (columns_of c) none in joins e (omega arith)))
+
 pub drawn-printed : (l : Limits) (g : GridView) (c : ℕ) (a : Attrs) → IsShownSheet l g → IsScalar c
     → IsShownSheet l (printed g c a).grid
 drawn-printed l g c a d s =
-    ⊎_elim
-    (λ (e : is_dropped g.width g.col c ≡ true).
-    subst (λ (x : PrintedGrid). IsShownSheet l x.grid) (sym (printed-dropped g c a e)) d)
-    (λ (e : is_dropped g.width g.col c ≡ false).
-    let is = IsDrawn-here g c (columns_of c) e refl in
-    ⊎_elim
-    (λ (some : 0 < columns_of c).
-    subst (λ (x : PrintedGrid). IsShownSheet l x.grid) (sym (printed-spaced g c a e some))
-    (drawn-spaced l g c a d s e some))
-    (λ (none : columns_of c ≤ 0).
-    let zero : columns_of c ≡ 0 = omega arith in
-    subst (λ (x : PrintedGrid). IsShownSheet l x.grid) (sym (printed-joined g c a e zero))
-    (drawn-joined l g c a d s (is.drawn ∙ ap Some zero) (is.after zero)))
-    (cases_lt 0 (columns_of c)))
-    (cases_Bool (is_dropped g.width g.col c))
+    printed-either (λ x. IsShownSheet l x) g c a (λ _. d) (λ e some. drawn-spaced l g c a d s e some)
+    (λ e zero. let is = IsDrawn-here g c (columns_of c) e refl in
+    drawn-joined l g c a d s (is.drawn ∙ ap Some zero) (is.after zero))
