@@ -21,7 +21,6 @@ use Rattle.agreement.specs.Plain.{terminal_of, size_shown, IsPlainState}
 use Rattle.agreement.specs.StateLaws.{Shows}
 use Rattle.forms_read.proofs.Told.{Below, each-below}
 use Rattle.screen_model.proofs.Tables.{◌&◌}
-use Rattle.agreement.proofs.PlainStates.{shows-at}
 
 -- ---- numbers that are read one after the other
 
@@ -160,7 +159,5 @@ pub shows-Sgr : (s : State) (c : Change) → IsPlainState s → IsByteOption c.f
     → Shows s (apply (size_shown s) (Sgr c) (terminal_of s)) (played (events_of (Sgr c)) s)
 unfolding apply
 shows-Sgr s c h f b =
-    let u = record s { attrs = with_change c s.attrs } in
-    shows-at s (played (events_of (Sgr c)) s) u (apply (size_shown s) (Sgr c) (terminal_of s)) (terminal_of u)
-    (sgr-played (sgr_numbers c) (λ a. with_change c a) s (change-is c f b)) refl
+    subst (Shows s _) (sym (sgr-played (sgr_numbers c) (λ a. with_change c a) s (change-is c f b)))
     (record { shows = refl; size = refl; plain = h })

@@ -1,6 +1,6 @@
 -- Forms that move the cursor, save it, and bring it back.
 use Rattle.std.proofs.Common.{◌≡◌, ℕ, ◌+◌, ◌-◌, ◌^◌, ◌<◌, ◌≤◌, ◌==◌, true, false, cond, ◌&&◌, List, [], ◌∷◌, min}
-use Rattle.std.proofs.Common.{nat_eq, refl, sym, ap, ◌∙◌, arith}
+use Rattle.std.proofs.Common.{nat_eq, refl, sym, ap, subst, ◌∙◌, arith}
 use Rattle.std.proofs.lemmas.Bool.{cond_both, ne_eqb, eqb-true, and_parts}
 use Rattle.std.proofs.lemmas.Bool.Decides.{nat_tests}
 use Rattle.vt100_forms.specs.Form.{MoveTo, MoveRight, Backspace, SaveCursor, RestoreCursor}
@@ -14,7 +14,7 @@ use Rattle.screen_model.specs.Effect.{number_or}
 use Rattle.screen_model.specs.Made.{played}
 use Rattle.agreement.specs.Plain.{terminal_of, size_shown, IsPlainGrid, IsPlainState}
 use Rattle.agreement.specs.StateLaws.{Shows}
-use Rattle.agreement.proofs.PlainStates.{plain-as, shows-at, shows-same}
+use Rattle.agreement.proofs.PlainStates.{plain-as, shows-same}
 
 -- the cursor stands elsewhere
 abbrev pub moved : State → ℕ → ℕ → State
@@ -57,10 +57,7 @@ unfolding apply
 shows-placed s p q r c h e f =
     let g = s.shown in
     let k = h.1 in
-    shows-at s (at_place p q s) (moved s (min r (g.height - 1)) (min c (g.width - 1)))
-    (apply (size_shown s) (MoveTo r c) (terminal_of s))
-    (record (terminal_of s) { row = min r (g.height - 1); col = min c (g.width - 1) })
-    (placed-at s p q (min r (g.height - 1)) (min c (g.width - 1)) k.origin e f) refl
+    subst (Shows s _) (sym (placed-at s p q (min r (g.height - 1)) (min c (g.width - 1)) k.origin e f))
     (shows-moved s (min r (g.height - 1)) (min c (g.width - 1)) h (omega (arith, k.cursor_row))
     (omega (arith, k.some_cols)))
 
@@ -94,7 +91,7 @@ shows-right : (s : State) (m n : ℕ) → IsPlainState s → 0 < n
     → Shows s (record (terminal_of s) { col = min (s.shown.col + n) (s.shown.width - 1) }) (moved_right m s)
 shows-right s m n h some e =
     let g = s.shown in
-    shows-at s (moved_right m s) (moved s g.row (min (g.col + n) (g.width - 1))) _ _ (ap (moved s g.row) e) refl
+    subst (Shows s _) (sym (ap (moved s g.row) e))
     (shows-moved s g.row (min (g.col + n) (g.width - 1)) h h.1.cursor_row (omega (arith, h.1.some_cols)))
 
 pub shows-MoveRight : (s : State) (n : ℕ) → IsPlainState s

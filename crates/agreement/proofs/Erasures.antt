@@ -1,6 +1,6 @@
 -- Forms that erase.
 use Rattle.std.proofs.Common.{◌≡◌, ℕ, ◌+◌, ◌-◌, ◌<◌, ◌≤◌, ◌==◌, true, false, cond, not, ◌&&◌, nat_lt}
-use Rattle.std.proofs.Common.{nat_eq, List, [], ◌∷◌, length, set, min, refl, sym, ap, ◌∙◌, arith, length-set, ⊎_elim}
+use Rattle.std.proofs.Common.{nat_eq, List, [], ◌∷◌, length, set, min, refl, sym, ap, subst, ◌∙◌, arith, length-set, ⊎_elim}
 use Rattle.std.proofs.lemmas.Bool.{cond_both, cases_lt, lt-ltb, le-ltb, eqb-true}
 use Rattle.std.proofs.lemmas.Bool.Decides.{nat_tests}
 use Rattle.std.proofs.lemmas.List.{length-replicate}
@@ -83,11 +83,8 @@ erased-as : (s : State) (m n : ℕ) → IsPlainState s
     → min (s.shown.col + m) s.shown.width ≡ min (s.shown.col + n) s.shown.width
     → Shows s (erase (size_shown s) (min (s.shown.col + n) s.shown.width) (terminal_of s)) (cells_erased m s)
 erased-as s m n h e =
-    let g = s.shown in
-    let t = erase (size_shown s) (min (g.col + n) g.width) (terminal_of s) in
-    shows-at s (cells_erased m s) (with_shown s (columns_erased g g.col (min (g.col + n) g.width) s.attrs)) t t
-    (ap (λ c. with_shown s (columns_erased g g.col c s.attrs)) e) refl
-    (erased-shows s (min (g.col + n) g.width) h (omega arith))
+    subst (Shows s _) (sym (ap (λ c. with_shown s (columns_erased s.shown s.shown.col c s.attrs)) e))
+    (erased-shows s (min (s.shown.col + n) s.shown.width) h (omega arith))
 
 pub shows-EraseChar : (s : State) (n : ℕ) → IsPlainState s
     → Shows s (apply (size_shown s) (EraseChar n) (terminal_of s)) (played (events_of (EraseChar n)) s)

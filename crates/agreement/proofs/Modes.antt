@@ -1,5 +1,5 @@
 -- Forms that set modes, and the cursor's style.
-use Rattle.std.proofs.Common.{◌≡◌, ℕ, ◌==◌, Bool, true, false, cond, not, ◌&&◌, [], ◌∷◌, refl, sym, ap, ◌∙◌}
+use Rattle.std.proofs.Common.{◌≡◌, ℕ, ◌==◌, Bool, true, false, cond, not, ◌&&◌, [], ◌∷◌, refl, sym, ap, subst, ◌∙◌}
 use Rattle.std.proofs.lemmas.Bool.{false≢true}
 use Rattle.vt100_forms.specs.declared.modes.MouseProtocolMode.{MouseProtocolMode}
 use Rattle.vt100_forms.specs.declared.modes.MouseProtocolMode.TheVariants as mouse
@@ -17,7 +17,6 @@ use Rattle.screen_model.specs.PrivateModes.{is_mouse, is_encoding, mouse_set, en
 use Rattle.screen_model.specs.Made.{played}
 use Rattle.agreement.specs.Plain.{terminal_of, size_shown, IsPlainState}
 use Rattle.agreement.specs.StateLaws.{Shows}
-use Rattle.agreement.proofs.PlainStates.{shows-at}
 
 -- ---- the mouse
 
@@ -87,10 +86,7 @@ pub shows-Mouse : (s : State) (to from : MouseProtocolMode) → IsPlainState s
     → Shows s (apply (size_shown s) (Mouse to from) (terminal_of s)) (played (events_of (Mouse to from)) s)
 unfolding apply
 shows-Mouse s to from h =
-    let new = switched mouse_number to from s.modes.mouse in
-    shows-at s (played (events_of (Mouse to from)) s) (mouse_set new s)
-    (apply (size_shown s) (Mouse to from) (terminal_of s)) (terminal_of (mouse_set new s))
-    (mouse-played to from s) refl (record { shows = refl; size = refl; plain = h })
+    subst (Shows s _) (sym (mouse-played to from s)) (record { shows = refl; size = refl; plain = h })
 
 is_encoding-number : (m n : MouseProtocolEncoding) → is_encoding m n ≡ (encoding_number m == encoding_number n)
 is_encoding-number encoding.Default encoding.Default = refl
@@ -132,10 +128,7 @@ pub shows-Encoding : (s : State) (to from : MouseProtocolEncoding) → IsPlainSt
     → Shows s (apply (size_shown s) (Encoding to from) (terminal_of s)) (played (events_of (Encoding to from)) s)
 unfolding apply
 shows-Encoding s to from h =
-    let new = switched encoding_number to from s.modes.encoding in
-    shows-at s (played (events_of (Encoding to from)) s) (encoding_set new s)
-    (apply (size_shown s) (Encoding to from) (terminal_of s)) (terminal_of (encoding_set new s))
-    (encoding-played to from s) refl (record { shows = refl; size = refl; plain = h })
+    subst (Shows s _) (sym (encoding-played to from s)) (record { shows = refl; size = refl; plain = h })
 
 -- ---- the cursor's style
 
@@ -157,7 +150,4 @@ pub shows-Style : (s : State) (to from : CursorStyle) → IsPlainState s
     → Shows s (apply (size_shown s) (Style to from) (terminal_of s)) (played (events_of (Style to from)) s)
 unfolding apply
 shows-Style s to from h =
-    let new = cond (style_number to == style_number from) s.style to in
-    shows-at s (played (events_of (Style to from)) s) (with_style new s)
-    (apply (size_shown s) (Style to from) (terminal_of s)) (terminal_of (with_style new s)) (style-played to from s) refl
-    (record { shows = refl; size = refl; plain = h })
+    subst (Shows s _) (sym (style-played to from s)) (record { shows = refl; size = refl; plain = h })

@@ -1,9 +1,9 @@
 -- Texts that may hold U+FE0F: the grid stays plain, and no mode changes.
 use Rattle.std.proofs.Common.{◌≡◌, ℕ, ◌+◌, ◌-◌, ◌<◌, ◌≤◌, ◌==◌, Bool, true, false, not, ◌&&◌, nat_lt, nat_le}
-use Rattle.std.proofs.Common.{List, [], ◌∷◌, length, set, map, Some, refl, ap, ◌∙◌, arith, length-set, ⊎_elim}
+use Rattle.std.proofs.Common.{List, [], ◌∷◌, length, set, map, Some, refl, ap, ◌∙◌, arith, length-set}
 use Rattle.std.specs.Char.{IsScalar}
 use Rattle.std.specs.List.{AllByRecursion}
-use Rattle.std.proofs.lemmas.Bool.{cond_both, ltb-true, not-true, not-false, cases_lt, cases_Bool}
+use Rattle.std.proofs.lemmas.Bool.{cond_both, ltb-true, not-true, not-false}
 use Rattle.std.proofs.lemmas.Bool.Decides.{nat_tests}
 use Rattle.vte_core.specs.Event.{Print}
 use Rattle.vt100_forms.specs.declared.attrs.Attrs.{Attrs}
@@ -16,16 +16,15 @@ use Rattle.vt100_rows.specs.Row.{with_wrap, placed, wiped_row, joined_cell, join
 use Rattle.vt100_rows.proofs.RowLemmas.{IsRow-placed, IsRow-with_wrap}
 use Rattle.vt100_rows.proofs.JoinLemmas.{IsRow-joined, IsCell-joined, widened-is}
 use Rattle.terminal_model.specs.Term.{Size}
-use Rattle.terminal_model.specs.Apply.{is_dropped}
 use Rattle.vt100_rows.specs.Sheet.{row_at}
 use Rattle.vt100_rows.proofs.SheetLemmas.{IsSheet-with_row}
 use Rattle.vt100_core.specs.Grid.{GridView, row_of_cursor, with_cursor_row, with_row}
 use Rattle.vt100_core.specs.Picture.{grid_size, Extras}
 use Rattle.vt100_core.specs.Scroll.{Scrolled, fed, left_row, wrapped_on, made_to_fit}
-use Rattle.vt100_core.specs.Text.{PrintedGrid, put_at, carried, joined, spaced, printed}
+use Rattle.vt100_core.specs.Text.{PrintedGrid, put_at, carried, joined, printed}
 use Rattle.vt100_core.specs.declared.printed.Printed.TheVariants.{Nothing, Joined}
 use Rattle.vt100_core.proofs.EraseLemmas.{IsRowOf-wiped}
-use Rattle.vt100_core.proofs.TextLemmas.{printed-dropped, printed-joined, printed-spaced, IsDrawn-here, IsMade-made}
+use Rattle.vt100_core.proofs.TextLemmas.{IsDrawn-here, IsMade-made}
 use Rattle.vt100_core.proofs.TextLemmas.{span_of-cell, span_of-wide, or-false, IsSized-wrapped}
 use Rattle.vt100_core.proofs.InputLemmas.{IsNext-made, cursor_row}
 use Rattle.screen_model.specs.State.{State, fresh_state}
@@ -34,6 +33,7 @@ use Rattle.screen_model.specs.Step.{typed}
 use Rattle.screen_model.specs.Call.{unhandled_char}
 use Rattle.screen_model.specs.Made.{played}
 use Rattle.screen_model.specs.Shown.{extras_of}
+use Rattle.screen_model.proofs.UnscrolledTexts.{printed-either}
 use Rattle.agreement.specs.Plain.{size_shown, IsPlainGrid, IsPlainState}
 use Rattle.agreement.proofs.PlainStates.{drawable}
 use Rattle.agreement.proofs.Cursors.{plain-moved}
@@ -222,38 +222,23 @@ pub record IsSound (g h : GridView) : Type 0 where
   pub plain : IsPlainGrid h
   pub size : grid_size h ≡ grid_size g
 
-sound-at : (g : GridView) (c : ℕ) (a : Attrs) (d : PrintedGrid) → printed g c a ≡ d → IsSound g d.grid
-    → IsSound g (printed g c a).grid
-sound-at g c a d e s = rw e s
-
 pub sound-printed : (g : GridView) (c : ℕ) (x : Extras) → IsPlainGrid g → IsScalar c → IsSound g (printed g c x.attrs).grid
 sound-printed g c x p scalar =
     let a = x.attrs in
     let n = columns_of c in
-    ⊎_elim
-    (λ (e : is_dropped g.width g.col c ≡ true).
-    sound-at g c a _ (printed-dropped g c a e) (record { plain = p; size = refl }))
-    (λ (e : is_dropped g.width g.col c ≡ false).
-    let drawn = IsDrawn-here g c n e refl in
-    ⊎_elim
-    (λ (h : 0 < n).
-    let visible = (or-false _ _ e).0 in
+    printed-either (IsSound g) g c a (λ _. record { plain = p; size = refl })
+    (λ e h. let drawn = IsDrawn-here g c n e refl in
     let s = (made_to_fit g n true).grid in
-    sound-at g c a (spaced g c a) (printed-spaced g c a e h)
-    (record {
-      plain = plain-put s (cell_of c a) a n (plain-made g x n p) (IsCell-of c a scalar visible h) refl
+    record {
+      plain = plain-put s (cell_of c a) a n (plain-made g x n p) (IsCell-of c a scalar (or-false _ _ e).0 h) refl
           (span_of-cell c n a refl h) (IsMade-made g n true drawn.fits).fits;
       size = (aside-made g n).size;
-    }))
-    (λ (h : n ≤ 0).
-    let k : n ≡ 0 = omega (arith, h) in
-    sound-at g c a (joined g c a) (printed-joined g c a e k)
-    (record {
+    })
+    (λ e k. let drawn = IsDrawn-here g c n e refl in
+    record {
       plain = plain-joined g c a p scalar (drawn.drawn ∙ ap Some k) (drawn.after k);
       size = (aside-joined g c a).size;
-    }))
-    (cases_lt 0 n))
-    (cases_Bool (is_dropped g.width g.col c))
+    })
 
 -- ---- the state
 

@@ -1,20 +1,19 @@
 -- The texts of cells.
-use Rattle.std.proofs.Common.{◌≡◌, ℕ, suc, ◌<◌, ◌≤◌, true, false}
-use Rattle.std.proofs.Common.{List, [], ◌∷◌, map, refl, sym, ap, ◌∙◌, arith, ⊎_elim}
+use Rattle.std.proofs.Common.{◌≡◌, ℕ, suc, false}
+use Rattle.std.proofs.Common.{List, [], ◌∷◌, map, refl, sym, ◌∙◌, arith}
 use Rattle.std.specs.Prelude.{Contains}
 use Rattle.std.specs.Char.{IsScalar}
 use Rattle.std.specs.List.{AllByRecursion}
-use Rattle.std.proofs.lemmas.Bool.{ne_eqb, cases_lt, cases_Bool}
+use Rattle.std.proofs.lemmas.Bool.{ne_eqb}
 use Rattle.vte_core.specs.Event.{Print}
 use Rattle.vt100_forms.specs.Form.{Text}
 use Rattle.vt100_cells.specs.Cell.{columns_of}
 use Rattle.terminal_model.specs.FormText.{IsFormText}
-use Rattle.terminal_model.specs.Term.{Term}
-use Rattle.terminal_model.specs.Apply.{is_dropped, input, inputs, apply}
+use Rattle.terminal_model.specs.Apply.{input, inputs, apply}
 use Rattle.vt100_core.specs.Grid.{GridView, row_of_cursor}
 use Rattle.vt100_core.specs.Picture.{grid_size, Extras, term_of_grid}
-use Rattle.vt100_core.specs.Text.{PrintedGrid, printed}
-use Rattle.vt100_core.proofs.TextLemmas.{printed-dropped, printed-joined, printed-spaced, IsDrawn-here}
+use Rattle.vt100_core.specs.Text.{printed}
+use Rattle.vt100_core.proofs.TextLemmas.{IsDrawn-here}
 use Rattle.vt100_core.proofs.TextLemmas.{or-false}
 use Rattle.vt100_core.proofs.InputLemmas.{spaced-is}
 use Rattle.vt100_core.proofs.InputLemmas.{joined-is, input-dropped, input-joined, input-spaced}
@@ -26,6 +25,7 @@ use Rattle.screen_model.specs.State.{State}
 use Rattle.screen_model.specs.Effect.{is_unhandled, effect}
 use Rattle.screen_model.specs.Made.{played}
 use Rattle.screen_model.specs.Shown.{extras_of}
+use Rattle.screen_model.proofs.UnscrolledTexts.{printed-either}
 use Rattle.agreement.specs.Plain.{terminal_of, size_shown, IsPlainGrid, IsPlainState}
 use Rattle.agreement.specs.StateLaws.{Shows}
 use Rattle.agreement.proofs.PlainStates.{drawable, shows-at, shows-same, shows-then}
@@ -38,23 +38,11 @@ shows-typed : (g : GridView) (x : Extras) (c : ℕ) → IsPlainGrid g → (c ≡
 shows-typed g x c p plain =
     let z = grid_size g in
     let t = term_of_grid g x in
-    let a = x.attrs in
-    let n = columns_of c in
     let d = drawable g p in
-    let shown : PrintedGrid → Term = λ s. term_of_grid s.grid x in
-    ⊎_elim
-    (λ (e : is_dropped g.width g.col c ≡ true). ap shown (printed-dropped g c a e) ∙ sym (input-dropped z c t e))
-    (λ (e : is_dropped g.width g.col c ≡ false).
-    let drawn = IsDrawn-here g c n e refl in
-    ⊎_elim
-    (λ (h : 0 < n).
-    ap shown (printed-spaced g c a e h) ∙ spaced-is g x c d h drawn.fits ∙ sym (input-spaced z c t e h))
-    (λ (h : n ≤ 0).
-    let k : n ≡ 0 = omega (arith, h) in
-    ap shown (printed-joined g c a e k)
-    ∙ joined-is g x c d (drawn.after k) (narrow-plain (row_of_cursor g) g.col c plain) ∙ sym (input-joined z c t e k))
-    (cases_lt 0 n))
-    (cases_Bool (is_dropped g.width g.col c))
+    printed-either (λ h. term_of_grid h x ≡ input z c t) g c x.attrs (λ e. sym (input-dropped z c t e))
+    (λ e h. spaced-is g x c d h (IsDrawn-here g c (columns_of c) e refl).fits ∙ sym (input-spaced z c t e h))
+    (λ e k. joined-is g x c d ((IsDrawn-here g c (columns_of c) e refl).after k)
+    (narrow-plain (row_of_cursor g) g.col c plain) ∙ sym (input-joined z c t e k))
 
 -- a character that is drawn, and widens nothing
 abbrev IsDrawnAsIs : ℕ → Type 0
