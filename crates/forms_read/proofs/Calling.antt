@@ -133,4 +133,5 @@ list-called last (f ∷ fs) h =
 
 pub spelling-called : EachSpellingCalls
 spelling-called k past last fs g h =
-    ap (calls_of_all last) (list-read k past fs g h).0 ∙ list-called last fs (all-each IsReadable HasSmallNumbers (λ f k. k.1) fs h)
+    ap (calls_of_all last) (list-read k past fs g h).0
+    ∙ list-called last fs (all-each IsReadable HasSmallNumbers (λ f k. k.1) fs h)

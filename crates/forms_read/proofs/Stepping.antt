@@ -98,8 +98,10 @@ module _ (f : Attr → Attrs → Attrs) (r : ReadsAttributes f) where
       let ul = flag_told a.Underline a.CancelUnderline c.underline in
       let one = read-both f fg bg _ _ (fore-read c.fgcolor hf) (back-read c.bgcolor hb) in
       let two = read-both f (fg ++ bg) (intensity_told c.intensity) _ _ one (intensity-read c.intensity) in
-      let three = read-both f (fg ++ bg ++ intensity_told c.intensity) it _ _ two (flag-read _ _ 4 r.italic r.upright c.italic) in
-      let four = read-both f (fg ++ bg ++ intensity_told c.intensity ++ it) ul _ _ three (flag-read _ _ 8 r.underline r.no_line c.underline) in
+      let three = read-both f (fg ++ bg ++ intensity_told c.intensity) it _ _ two
+      (flag-read _ _ 4 r.italic r.upright c.italic) in
+      let four = read-both f (fg ++ bg ++ intensity_told c.intensity ++ it) ul _ _ three
+      (flag-read _ _ 8 r.underline r.no_line c.underline) in
       read-both f (fg ++ bg ++ intensity_told c.intensity ++ it ++ ul)
       (flag_told a.Reverse a.CancelReverse c.inverse) _ _ four (flag-read _ _ 16 r.inverse r.positive c.inverse)
 
