@@ -178,7 +178,8 @@ spelled-scalar a bs e =
     → IsScalar (joined (first_bits a) (take (front_len a bs - 1) bs)) = λ n f h.
     subst (λ m. IsScalar (joined (first_bits a) (take (m - 1) bs))) (sym (e ∙ f)) h in
     ⊎_elim
-    (λ (t : nat_lt a 0x80 ≡ true). let n : char_len a ≡ 1 = grind (arith, nat_tests) in back 1 n (whole-one a (ltb-true a 0x80 t) bs (tail 1 n)))
+    (λ (t : nat_lt a 0x80 ≡ true). let n : char_len a ≡ 1 = grind (arith, nat_tests) in
+    back 1 n (whole-one a (ltb-true a 0x80 t) bs (tail 1 n)))
     (λ (f : nat_lt a 0x80 ≡ false). ⊎_elim
     (λ (t : is_in_range 0xC2 0xDF a ≡ true).
     let r = in-range 0xC2 0xDF a t in

@@ -28,7 +28,8 @@ use Rattle.screen_model.specs.Effect.{given, window_effect, plain_rows, other_ro
 use Rattle.screen_model.specs.Effect.{plain_effect, csi_call, csi_effect, effect, escape_effect, print_effect, calling}
 use Rattle.screen_model.specs.Effect.{steps}
 use Rattle.screen_model.proofs.RowTraits.{IsKnown}
-use Rattle.screen_model.proofs.UnscrolledStates.{Bounds, IsUnscrolledState, well-with, Keeps, KeepsStepped, well-typed, well-repeated}
+use Rattle.screen_model.proofs.UnscrolledStates.{Bounds, IsUnscrolledState, well-with, Keeps, KeepsStepped}
+use Rattle.screen_model.proofs.UnscrolledStates.{well-typed, well-repeated}
 use Rattle.screen_model.proofs.UnscrolledStates.{well-moved_left, well-moved_right, well-tabbed, well-at_column, well-at_row}
 use Rattle.screen_model.proofs.UnscrolledStates.{well-at_place, well-moved_up, well-moved_down, well-line_above}
 use Rattle.screen_model.proofs.UnscrolledStates.{well-line_below}

@@ -281,7 +281,8 @@ kept-after : (k : KeptPart) (left : List RowView) → IsKept k → All IsRow lef
 unfolding kept-rows
 kept-after k left i rows few hidden keeps =
     let n = length-kept k left in
-    let all : All IsRow (kept-rows k left) = kept-all IsRow IsRow-trimmed k left (All-from_get_or IsRow k.rows (blank_row 0) i.each) rows in
+    let all : All IsRow (kept-rows k left) = kept-all IsRow IsRow-trimmed k left
+    (All-from_get_or IsRow k.rows (blank_row 0) i.each) rows in
     let off = kept-hidden k left hidden in
     record {
       each = λ j l. all j (blank_row 0) l;

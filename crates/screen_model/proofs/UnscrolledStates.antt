@@ -32,7 +32,8 @@ use Rattle.screen_model.proofs.SheetTraits.{sheet-lines_deleted, sheet-scrolled_
 use Rattle.screen_model.proofs.SheetTraits.{sheet-scrolled_up, sheet-fed, sheet-scrollback_shown}
 use Rattle.screen_model.proofs.SheetTraits.{sheet-scrollback_erased, sheet-printed, sheet-new, sheet-allocated}
 use Rattle.screen_model.proofs.SheetTraits.{sheet-cleared, sheet-resized}
-use Rattle.screen_model.proofs.UnscrolledSheets.{Limits, IsUnscrolledSheet, IsFineSheet, IsShownSheet, drawn-col, drawn-row, drawn-cursor_at}
+use Rattle.screen_model.proofs.UnscrolledSheets.{Limits, IsUnscrolledSheet, IsFineSheet, IsShownSheet}
+use Rattle.screen_model.proofs.UnscrolledSheets.{drawn-col, drawn-row, drawn-cursor_at}
 use Rattle.screen_model.proofs.UnscrolledSheets.{drawn-origin, drawn-saved, drawn-restored, drawn-region, drawn-down, drawn-up}
 use Rattle.screen_model.proofs.UnscrolledSheets.{drawn-fed_up, drawn-fed, drawn-scrolled_up, drawn-all_erased}
 use Rattle.screen_model.proofs.UnscrolledSheets.{drawn-all_erased_forward, drawn-all_erased_backward, drawn-row_erased}
