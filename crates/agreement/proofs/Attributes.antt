@@ -1,32 +1,26 @@
 -- Forms that change the drawing attributes.
 use Rattle.std.proofs.Common.{◌≡◌, ℕ, ◌+◌, ◌-◌, ◌<◌, ◌≤◌, Bool, true, false, cond, List, [], ◌∷◌, ◌++◌, map}
-use Rattle.std.proofs.Common.{nat_eq, nat_lt, Option, Some, None, refl, sym, ap, ◌∙◌, arith, append-nil}
+use Rattle.std.proofs.Common.{nat_lt, Option, Some, None, refl, sym, ap, subst, ◌∙◌, arith, append-nil}
 use Rattle.std.specs.Prelude.{unwrap_or}
-use Rattle.std.specs.Int.{is_in_range}
 use Rattle.std.proofs.lemmas.Bool.{cond_both, lt-ltb, ltb-true, ltb-false}
-use Rattle.std.proofs.lemmas.Bool.Decides.{nat_tests}
 use Rattle.vt100_forms.specs.declared.attrs.Attrs.{Attrs}
 use Rattle.vt100_forms.specs.declared.attrs.Color.{Color}
 use Rattle.vt100_forms.specs.declared.attrs.Color.TheVariants.{Default, Idx, Rgb}
 use Rattle.vt100_forms.specs.declared.term.Intensity.{Intensity}
 use Rattle.vt100_forms.specs.declared.term.Intensity.TheVariants.{Normal, Bold, Dim}
 use Rattle.vt100_forms.specs.Attrs.{with_mode, IsByteColor}
-use Rattle.vt100_forms.specs.Form.{ClearAttrs, Sgr, Change, color_numbers, color_part, intensity_part, flag_part}
+use Rattle.vt100_forms.specs.Form.{Sgr, Change, color_numbers, color_part, intensity_part, flag_part}
 use Rattle.vt100_forms.specs.Form.{sgr_numbers, with_change, intensity_set, flag_set}
 use Rattle.vt100_forms.specs.Length.{IsByteOption}
 use Rattle.terminal_model.specs.Apply.{apply}
 use Rattle.forms_read.specs.Events.{kept_number, sgr_events, events_of}
 use Rattle.screen_model.specs.State.{State}
-use Rattle.screen_model.specs.Sgr.{coloured, nothing, first_next, goes_on, Read, read_groups}
+use Rattle.screen_model.specs.Sgr.{coloured, nothing, index, red, first_next, goes_on, Read, read_groups}
 use Rattle.screen_model.specs.Made.{played}
 use Rattle.agreement.specs.Plain.{terminal_of, size_shown, IsPlainState}
 use Rattle.agreement.specs.StateLaws.{Shows}
-use Rattle.agreement.proofs.PlainStates.{shows-at}
-
-pub shows-ClearAttrs : (s : State) → IsPlainState s
-    → Shows s (apply (size_shown s) ClearAttrs (terminal_of s)) (played (events_of ClearAttrs) s)
-unfolding apply
-shows-ClearAttrs s h = record { shows = refl; size = refl; plain = h }
+use Rattle.forms_read.proofs.Told.{Below, each-below}
+use Rattle.screen_model.proofs.Tables.{◌&◌}
 
 -- ---- numbers that are read one after the other
 
@@ -49,76 +43,51 @@ read-both ms ns f k h g gs a =
 
 -- ---- colours
 
-fore-next : (i : ℕ) (a : Attrs) → i < 8
-    → first_next (kept_number (30 + i) ∷ []) a ≡ goes_on nothing (coloured true (Idx i) a)
-fore-next i a h =
-    let kept : kept_number (30 + i) ≡ 30 + i = omega (arith, h) in
-    let one : nat_eq (30 + i) 38 ≡ false = grind (arith, nat_tests) in
-    let two : nat_eq (30 + i) 48 ≡ false = grind (arith, nat_tests) in
-    let within : is_in_range 30 37 (30 + i) ≡ true = grind (arith, nat_tests) in
-    let back : 30 + i - 30 ≡ i = omega arith in
-    ap (λ n. first_next (n ∷ []) a) kept ∙ rw (one, two, within, back) refl
+-- a number that sets a colour by itself
+abbrev SetsColour : Bool → ℕ → ℕ → Type 0
+SetsColour fore n i = (a : Attrs) → first_next (kept_number n ∷ []) a ≡ goes_on nothing (coloured fore (Idx i) a)
 
-back-next : (i : ℕ) (a : Attrs) → i < 8
-    → first_next (kept_number (40 + i) ∷ []) a ≡ goes_on nothing (coloured false (Idx i) a)
-back-next i a h =
-    let kept : kept_number (40 + i) ≡ 40 + i = omega (arith, h) in
-    let one : nat_eq (40 + i) 38 ≡ false = grind (arith, nat_tests) in
-    let two : nat_eq (40 + i) 48 ≡ false = grind (arith, nat_tests) in
-    let before : is_in_range 30 37 (40 + i) ≡ false = grind (arith, nat_tests) in
-    let within : is_in_range 40 47 (40 + i) ≡ true = grind (arith, nat_tests) in
-    let back : 40 + i - 40 ≡ i = omega arith in
-    ap (λ n. first_next (n ∷ []) a) kept ∙ rw (one, two, before, within, back) refl
+low : (fore : Bool) → Below (λ i. SetsColour fore (cond fore 30 40 + i) i) 8
+low true =
+    (λ a. refl) & (λ a. refl) & (λ a. refl) & (λ a. refl) & (λ a. refl) & (λ a. refl) & (λ a. refl) & (λ a. refl) & tt
+low false =
+    (λ a. refl) & (λ a. refl) & (λ a. refl) & (λ a. refl) & (λ a. refl) & (λ a. refl) & (λ a. refl) & (λ a. refl) & tt
 
-bright_fore-next : (i : ℕ) (a : Attrs) → 8 ≤ i → i < 16
-    → first_next (kept_number (30 + 52 + i) ∷ []) a ≡ goes_on nothing (coloured true (Idx i) a)
-bright_fore-next i a l h =
-    let kept : kept_number (30 + 52 + i) ≡ 82 + i = omega (arith, h) in
-    let one : nat_eq (82 + i) 38 ≡ false = grind (arith, nat_tests) in
-    let two : nat_eq (82 + i) 48 ≡ false = grind (arith, nat_tests) in
-    let first : is_in_range 30 37 (82 + i) ≡ false = grind (arith, nat_tests) in
-    let second : is_in_range 40 47 (82 + i) ≡ false = grind (arith, nat_tests) in
-    let within : is_in_range 90 97 (82 + i) ≡ true = grind (arith, nat_tests) in
-    let back : 82 + i - 82 ≡ i = omega arith in
-    ap (λ n. first_next (n ∷ []) a) kept ∙ rw (one, two, first, second, within, back) refl
+bright : (fore : Bool) → Below (λ j. SetsColour fore (cond fore 30 40 + 52 + (8 + j)) (8 + j)) 8
+bright true =
+    (λ a. refl) & (λ a. refl) & (λ a. refl) & (λ a. refl) & (λ a. refl) & (λ a. refl) & (λ a. refl) & (λ a. refl) & tt
+bright false =
+    (λ a. refl) & (λ a. refl) & (λ a. refl) & (λ a. refl) & (λ a. refl) & (λ a. refl) & (λ a. refl) & (λ a. refl) & tt
 
-bright_back-next : (i : ℕ) (a : Attrs) → 8 ≤ i → i < 16
-    → first_next (kept_number (40 + 52 + i) ∷ []) a ≡ goes_on nothing (coloured false (Idx i) a)
-bright_back-next i a l h =
-    let kept : kept_number (40 + 52 + i) ≡ 92 + i = omega (arith, h) in
-    let one : nat_eq (92 + i) 38 ≡ false = grind (arith, nat_tests) in
-    let two : nat_eq (92 + i) 48 ≡ false = grind (arith, nat_tests) in
-    let first : is_in_range 30 37 (92 + i) ≡ false = grind (arith, nat_tests) in
-    let second : is_in_range 40 47 (92 + i) ≡ false = grind (arith, nat_tests) in
-    let third : is_in_range 90 97 (92 + i) ≡ false = grind (arith, nat_tests) in
-    let within : is_in_range 100 107 (92 + i) ≡ true = grind (arith, nat_tests) in
-    let back : 92 + i - 92 ≡ i = omega arith in
-    ap (λ n. first_next (n ∷ []) a) kept ∙ rw (one, two, first, second, third, within, back) refl
+above : (P : ℕ → Type 0) (i : ℕ) → Below (λ j. P (8 + j)) 8 → 8 ≤ i → i < 16 → P i
+above P i h l m =
+    let e : 8 + (i - 8) ≡ i = omega (arith, l) in
+    subst P e (each-below (λ j. P (8 + j)) 8 (i - 8) h (omega (arith, l, m)))
 
-indexed-is : (t : Bool) (i : ℕ) → i < 256 → IsReadBy ((cond t 30 40 + 8) ∷ 5 ∷ i ∷ []) (coloured t (Idx i))
-indexed-is true i h gs a =
+index-read : (fore : Bool) (i : ℕ) (gs : List (List ℕ)) (a : Attrs) → i < 256
+    → read_groups ((kept_number i ∷ []) ∷ gs) (index fore) a ≡ read_groups gs nothing (coloured fore (Idx i) a)
+index-read fore i gs a h =
     let kept : kept_number i ≡ i = omega (arith, h) in
-    let small : nat_lt i 256 ≡ true = lt-ltb i 256 h in
-    ap (λ n. read_groups ((38 ∷ []) ∷ (5 ∷ []) ∷ (n ∷ []) ∷ gs) nothing a) kept ∙ rw small refl
-indexed-is false i h gs a =
-    let kept : kept_number i ≡ i = omega (arith, h) in
-    let small : nat_lt i 256 ≡ true = lt-ltb i 256 h in
-    ap (λ n. read_groups ((48 ∷ []) ∷ (5 ∷ []) ∷ (n ∷ []) ∷ gs) nothing a) kept ∙ rw small refl
+    ap (λ n. read_groups ((n ∷ []) ∷ gs) (index fore) a) kept ∙ rw (lt-ltb i 256 h) refl
 
-spec-is : (t : Bool) (r g b : ℕ) → r < 256 → g < 256 → b < 256
-    → IsReadBy ((cond t 30 40 + 8) ∷ 2 ∷ r ∷ g ∷ b ∷ []) (coloured t (Rgb r g b))
-spec-is true r g b hr hg hb gs a =
+indexed-is : (fore : Bool) (i : ℕ) → i < 256 → IsReadBy ((cond fore 30 40 + 8) ∷ 5 ∷ i ∷ []) (coloured fore (Idx i))
+indexed-is true i h gs a = index-read true i gs a h
+indexed-is false i h gs a = index-read false i gs a h
+
+values-read : (fore : Bool) (r g b : ℕ) (gs : List (List ℕ)) (a : Attrs) → r < 256 → g < 256 → b < 256
+    → read_groups ((kept_number r ∷ []) ∷ (kept_number g ∷ []) ∷ (kept_number b ∷ []) ∷ gs) (red fore) a
+    ≡ read_groups gs nothing (coloured fore (Rgb r g b) a)
+values-read fore r g b gs a hr hg hb =
     let er : kept_number r ≡ r = omega (arith, hr) in
     let eg : kept_number g ≡ g = omega (arith, hg) in
     let eb : kept_number b ≡ b = omega (arith, hb) in
-    (λ i. read_groups ((38 ∷ []) ∷ (2 ∷ []) ∷ (er i ∷ []) ∷ (eg i ∷ []) ∷ (eb i ∷ []) ∷ gs) nothing a)
+    (λ i. read_groups ((er i ∷ []) ∷ (eg i ∷ []) ∷ (eb i ∷ []) ∷ gs) (red fore) a)
     ∙ rw (lt-ltb r 256 hr, lt-ltb g 256 hg, lt-ltb b 256 hb) refl
-spec-is false r g b hr hg hb gs a =
-    let er : kept_number r ≡ r = omega (arith, hr) in
-    let eg : kept_number g ≡ g = omega (arith, hg) in
-    let eb : kept_number b ≡ b = omega (arith, hb) in
-    (λ i. read_groups ((48 ∷ []) ∷ (2 ∷ []) ∷ (er i ∷ []) ∷ (eg i ∷ []) ∷ (eb i ∷ []) ∷ gs) nothing a)
-    ∙ rw (lt-ltb r 256 hr, lt-ltb g 256 hg, lt-ltb b 256 hb) refl
+
+spec-is : (fore : Bool) (r g b : ℕ) → r < 256 → g < 256 → b < 256
+    → IsReadBy ((cond fore 30 40 + 8) ∷ 2 ∷ r ∷ g ∷ b ∷ []) (coloured fore (Rgb r g b))
+spec-is true r g b hr hg hb gs a = values-read true r g b gs a hr hg hb
+spec-is false r g b hr hg hb gs a = values-read false r g b gs a hr hg hb
 
 -- one number that goes on
 one-is : (n : ℕ) (f : Attrs → Attrs) → ((a : Attrs) → first_next (kept_number n ∷ []) a ≡ goes_on nothing (f a))
@@ -128,20 +97,15 @@ one-is n f h gs a = rw (h a) refl
 colour-is : (t : Bool) (c : Color) → IsByteColor c → IsReadBy (color_numbers (cond t 30 40) c) (coloured t c)
 colour-is true Default h = λ gs a. refl
 colour-is false Default h = λ gs a. refl
-colour-is true (Idx i) h =
-    cond_both (nat_lt i 8) _ _ (λ ns. IsReadBy ns (coloured true (Idx i)))
-    (λ e. one-is (30 + i) (coloured true (Idx i)) (λ a. fore-next i a (ltb-true i 8 e)))
-    (λ e. cond_both (nat_lt i 16) _ _ (λ ns. IsReadBy ns (coloured true (Idx i)))
-    (λ q. one-is (30 + 52 + i) (coloured true (Idx i)) (λ a. bright_fore-next i a (ltb-false i 8 e) (ltb-true i 16 q)))
-    (λ _. indexed-is true i h))
-colour-is false (Idx i) h =
-    cond_both (nat_lt i 8) _ _ (λ ns. IsReadBy ns (coloured false (Idx i)))
-    (λ e. one-is (40 + i) (coloured false (Idx i)) (λ a. back-next i a (ltb-true i 8 e)))
-    (λ e. cond_both (nat_lt i 16) _ _ (λ ns. IsReadBy ns (coloured false (Idx i)))
-    (λ q. one-is (40 + 52 + i) (coloured false (Idx i)) (λ a. bright_back-next i a (ltb-false i 8 e) (ltb-true i 16 q)))
-    (λ _. indexed-is false i h))
-colour-is true (Rgb r g b) h = spec-is true r g b h.0 h.1 h.2
-colour-is false (Rgb r g b) h = spec-is false r g b h.0 h.1 h.2
+colour-is t (Idx i) h =
+    cond_both (nat_lt i 8) _ _ (λ ns. IsReadBy ns (coloured t (Idx i)))
+    (λ e. one-is (cond t 30 40 + i) (coloured t (Idx i))
+    (each-below (λ j. SetsColour t (cond t 30 40 + j) j) 8 i (low t) (ltb-true i 8 e)))
+    (λ e. cond_both (nat_lt i 16) _ _ (λ ns. IsReadBy ns (coloured t (Idx i)))
+    (λ q. one-is (cond t 30 40 + 52 + i) (coloured t (Idx i))
+    (above (λ j. SetsColour t (cond t 30 40 + 52 + j) j) i (bright t) (ltb-false i 8 e) (ltb-true i 16 q)))
+    (λ _. indexed-is t i h))
+colour-is t (Rgb r g b) h = spec-is t r g b h.0 h.1 h.2
 
 fore-is : (o : Option Color) → IsByteOption o
     → IsReadBy (color_part 30 o) (λ a. record a { fgcolor = unwrap_or o a.fgcolor })
@@ -161,20 +125,12 @@ intensity-is (Some Normal) gs a = refl
 intensity-is (Some Bold) gs a = refl
 intensity-is (Some Dim) gs a = refl
 
-italic-is : (o : Option Bool) → IsReadBy (flag_part 3 23 o) (λ a. with_mode a (flag_set 4 o a.mode))
-italic-is None gs a = refl
-italic-is (Some true) gs a = refl
-italic-is (Some false) gs a = refl
-
-underline-is : (o : Option Bool) → IsReadBy (flag_part 4 24 o) (λ a. with_mode a (flag_set 8 o a.mode))
-underline-is None gs a = refl
-underline-is (Some true) gs a = refl
-underline-is (Some false) gs a = refl
-
-inverse-is : (o : Option Bool) → IsReadBy (flag_part 7 27 o) (λ a. with_mode a (flag_set 16 o a.mode))
-inverse-is None gs a = refl
-inverse-is (Some true) gs a = refl
-inverse-is (Some false) gs a = refl
+flag-is : (on off bit : ℕ) → IsReadBy (on ∷ []) (λ a. with_mode a (flag_set bit (Some true) a.mode))
+    → IsReadBy (off ∷ []) (λ a. with_mode a (flag_set bit (Some false) a.mode)) → (o : Option Bool)
+    → IsReadBy (flag_part on off o) (λ a. with_mode a (flag_set bit o a.mode))
+flag-is on off bit h k None = λ gs a. refl
+flag-is on off bit h k (Some true) = h
+flag-is on off bit h k (Some false) = k
 
 change-is : (c : Change) → IsByteOption c.fgcolor → IsByteOption c.bgcolor
     → IsReadBy (sgr_numbers c) (λ a. with_change c a)
@@ -184,11 +140,11 @@ change-is c f b =
     let one = read-both fg bg _ _ (fore-is c.fgcolor f) (back-is c.bgcolor b) in
     let two = read-both (fg ++ bg) (intensity_part c.intensity) _ _ one (intensity-is c.intensity) in
     let three = read-both (fg ++ bg ++ intensity_part c.intensity) (flag_part 3 23 c.italic) _ _ two
-    (italic-is c.italic) in
+    (flag-is 3 23 4 (λ gs a. refl) (λ gs a. refl) c.italic) in
     let four = read-both (fg ++ bg ++ intensity_part c.intensity ++ flag_part 3 23 c.italic)
-    (flag_part 4 24 c.underline) _ _ three (underline-is c.underline) in
+    (flag_part 4 24 c.underline) _ _ three (flag-is 4 24 8 (λ gs a. refl) (λ gs a. refl) c.underline) in
     read-both (fg ++ bg ++ intensity_part c.intensity ++ flag_part 3 23 c.italic ++ flag_part 4 24 c.underline)
-    (flag_part 7 27 c.inverse) _ _ four (inverse-is c.inverse)
+    (flag_part 7 27 c.inverse) _ _ four (flag-is 7 27 16 (λ gs a. refl) (λ gs a. refl) c.inverse)
 
 -- ---- the form
 
@@ -203,7 +159,5 @@ pub shows-Sgr : (s : State) (c : Change) → IsPlainState s → IsByteOption c.f
     → Shows s (apply (size_shown s) (Sgr c) (terminal_of s)) (played (events_of (Sgr c)) s)
 unfolding apply
 shows-Sgr s c h f b =
-    let u = record s { attrs = with_change c s.attrs } in
-    shows-at s (played (events_of (Sgr c)) s) u (apply (size_shown s) (Sgr c) (terminal_of s)) (terminal_of u)
-    (sgr-played (sgr_numbers c) (λ a. with_change c a) s (change-is c f b)) refl
+    subst (Shows s _) (sym (sgr-played (sgr_numbers c) (λ a. with_change c a) s (change-is c f b)))
     (record { shows = refl; size = refl; plain = h })

@@ -1,19 +1,20 @@
 -- Forms that move the cursor, save it, and bring it back.
 use Rattle.std.proofs.Common.{◌≡◌, ℕ, ◌+◌, ◌-◌, ◌^◌, ◌<◌, ◌≤◌, ◌==◌, true, false, cond, ◌&&◌, List, [], ◌∷◌, min}
-use Rattle.std.proofs.Common.{nat_eq, refl, sym, ap, ◌∙◌, arith}
+use Rattle.std.proofs.Common.{nat_eq, refl, sym, ap, subst, ◌∙◌, arith}
 use Rattle.std.proofs.lemmas.Bool.{cond_both, ne_eqb, eqb-true, and_parts}
 use Rattle.std.proofs.lemmas.Bool.Decides.{nat_tests}
 use Rattle.vt100_forms.specs.Form.{MoveTo, MoveRight, Backspace, SaveCursor, RestoreCursor}
 use Rattle.terminal_model.specs.Apply.{apply}
 use Rattle.forms_read.specs.Events.{kept_number, sequence, bare, events_of}
 use Rattle.vt100_core.specs.Grid.{GridView}
+use Rattle.vt100_core.specs.Cursor.{cursor_saved, cursor_restored}
 use Rattle.screen_model.specs.State.{State}
 use Rattle.screen_model.specs.Step.{with_shown, at_place, moved_right}
 use Rattle.screen_model.specs.Effect.{number_or}
 use Rattle.screen_model.specs.Made.{played}
 use Rattle.agreement.specs.Plain.{terminal_of, size_shown, IsPlainGrid, IsPlainState}
 use Rattle.agreement.specs.StateLaws.{Shows}
-use Rattle.agreement.proofs.PlainStates.{shows-at, shows-same}
+use Rattle.agreement.proofs.PlainStates.{plain-as, shows-same}
 
 -- the cursor stands elsewhere
 abbrev pub moved : State → ℕ → ℕ → State
@@ -21,22 +22,9 @@ moved s r c = with_shown s (record (s.shown) { row = r; col = c })
 
 pub plain-moved : (g : GridView) (r c : ℕ) → IsPlainGrid g → r < g.height → c ≤ g.width
     → IsPlainGrid (record g { row = r; col = c })
-plain-moved g r c p h k = record {
-  sheet = p.sheet;
-  some = p.some;
-  few_rows = p.few_rows;
-  few_cols = p.few_cols;
-  some_cols = p.some_cols;
-  cursor_row = h;
-  cursor_col = k;
-  saved_row = p.saved_row;
-  saved_col = p.saved_col;
-  top = p.top;
-  bottom = p.bottom;
-  origin = p.origin;
-  saved_origin = p.saved_origin;
-  offset = p.offset;
-}
+plain-moved g r c p h k =
+    plain-as g (record g { row = r; col = c }) p p.sheet p.some h k p.saved_row p.saved_col p.origin p.saved_origin
+    p.offset
 
 pub shows-moved : (s : State) (r c : ℕ) → IsPlainState s → r < s.shown.height → c ≤ s.shown.width
     → Shows s (record (terminal_of s) { row = r; col = c }) (moved s r c)
@@ -69,10 +57,7 @@ unfolding apply
 shows-placed s p q r c h e f =
     let g = s.shown in
     let k = h.1 in
-    shows-at s (at_place p q s) (moved s (min r (g.height - 1)) (min c (g.width - 1)))
-    (apply (size_shown s) (MoveTo r c) (terminal_of s))
-    (record (terminal_of s) { row = min r (g.height - 1); col = min c (g.width - 1) })
-    (placed-at s p q (min r (g.height - 1)) (min c (g.width - 1)) k.origin e f) refl
+    subst (Shows s _) (sym (placed-at s p q (min r (g.height - 1)) (min c (g.width - 1)) k.origin e f))
     (shows-moved s (min r (g.height - 1)) (min c (g.width - 1)) h (omega (arith, k.cursor_row))
     (omega (arith, k.some_cols)))
 
@@ -106,7 +91,7 @@ shows-right : (s : State) (m n : ℕ) → IsPlainState s → 0 < n
     → Shows s (record (terminal_of s) { col = min (s.shown.col + n) (s.shown.width - 1) }) (moved_right m s)
 shows-right s m n h some e =
     let g = s.shown in
-    shows-at s (moved_right m s) (moved s g.row (min (g.col + n) (g.width - 1))) _ _ (ap (moved s g.row) e) refl
+    subst (Shows s _) (sym (ap (moved s g.row) e))
     (shows-moved s g.row (min (g.col + n) (g.width - 1)) h h.1.cursor_row (omega (arith, h.1.some_cols)))
 
 pub shows-MoveRight : (s : State) (n : ℕ) → IsPlainState s
@@ -144,22 +129,8 @@ shows-SaveCursor s h =
       size = refl;
       plain = (
         h.0,
-        record {
-          sheet = p.sheet;
-          some = p.some;
-          few_rows = p.few_rows;
-          few_cols = p.few_cols;
-          some_cols = p.some_cols;
-          cursor_row = p.cursor_row;
-          cursor_col = p.cursor_col;
-          saved_row = p.cursor_row;
-          saved_col = p.cursor_col;
-          top = p.top;
-          bottom = p.bottom;
-          origin = p.origin;
-          saved_origin = p.origin;
-          offset = p.offset;
-        },
+        plain-as s.shown (cursor_saved s.shown) p p.sheet p.some p.cursor_row p.cursor_col p.cursor_row p.cursor_col
+            p.origin p.origin p.offset,
       );
     }
 
@@ -173,21 +144,7 @@ shows-RestoreCursor s h =
       size = refl;
       plain = (
         h.0,
-        record {
-          sheet = p.sheet;
-          some = p.some;
-          few_rows = p.few_rows;
-          few_cols = p.few_cols;
-          some_cols = p.some_cols;
-          cursor_row = p.saved_row;
-          cursor_col = p.saved_col;
-          saved_row = p.saved_row;
-          saved_col = p.saved_col;
-          top = p.top;
-          bottom = p.bottom;
-          origin = p.saved_origin;
-          saved_origin = p.saved_origin;
-          offset = p.offset;
-        },
+        plain-as s.shown (cursor_restored s.shown) p p.sheet p.some p.saved_row p.saved_col p.saved_row p.saved_col
+            p.saved_origin p.saved_origin p.offset,
       );
     }

@@ -1,6 +1,6 @@
 -- Forms that erase.
 use Rattle.std.proofs.Common.{◌≡◌, ℕ, ◌+◌, ◌-◌, ◌<◌, ◌≤◌, ◌==◌, true, false, cond, not, ◌&&◌, nat_lt}
-use Rattle.std.proofs.Common.{nat_eq, List, [], ◌∷◌, length, set, min, refl, sym, ap, ◌∙◌, arith, length-set, ⊎_elim}
+use Rattle.std.proofs.Common.{nat_eq, List, [], ◌∷◌, length, set, min, refl, sym, ap, subst, ◌∙◌, arith, length-set, ⊎_elim}
 use Rattle.std.proofs.lemmas.Bool.{cond_both, cases_lt, lt-ltb, le-ltb, eqb-true}
 use Rattle.std.proofs.lemmas.Bool.Decides.{nat_tests}
 use Rattle.std.proofs.lemmas.List.{length-replicate}
@@ -32,29 +32,16 @@ use Rattle.screen_model.specs.Made.{played}
 use Rattle.screen_model.specs.Shown.{extras_of}
 use Rattle.agreement.specs.Plain.{terminal_of, size_shown, IsPlainGrid, IsPlainState}
 use Rattle.agreement.specs.StateLaws.{Shows}
-use Rattle.agreement.proofs.PlainStates.{drawable, shows-at, shows-same}
+use Rattle.agreement.proofs.PlainStates.{drawable, plain-as, shows-at, shows-same}
 use Rattle.agreement.proofs.Cursors.{plain-moved, placed-at, read-count, nonzero}
 
 -- ---- another row at the cursor
 
 pub plain-rows : (g : GridView) (rows : List RowView) → IsPlainGrid g → IsSheet g.height g.width rows
     → length rows ≡ length g.rows → IsPlainGrid (record g { rows = rows })
-plain-rows g rows p sheet n = record {
-  sheet = sheet;
-  some = omega (arith, n, p.some);
-  few_rows = p.few_rows;
-  few_cols = p.few_cols;
-  some_cols = p.some_cols;
-  cursor_row = p.cursor_row;
-  cursor_col = p.cursor_col;
-  saved_row = p.saved_row;
-  saved_col = p.saved_col;
-  top = p.top;
-  bottom = p.bottom;
-  origin = p.origin;
-  saved_origin = p.saved_origin;
-  offset = p.offset;
-}
+plain-rows g rows p sheet n =
+    plain-as g (record g { rows = rows }) p sheet (omega (arith, n, p.some)) p.cursor_row p.cursor_col p.saved_row
+    p.saved_col p.origin p.saved_origin p.offset
 
 pub plain-row : (g : GridView) (v : RowView) → IsPlainGrid g → IsRowOf g.width v
     → ((row_of_cursor g).wrapped ≡ false → v.wrapped ≡ false) → IsPlainGrid (with_cursor_row g v)
@@ -96,11 +83,8 @@ erased-as : (s : State) (m n : ℕ) → IsPlainState s
     → min (s.shown.col + m) s.shown.width ≡ min (s.shown.col + n) s.shown.width
     → Shows s (erase (size_shown s) (min (s.shown.col + n) s.shown.width) (terminal_of s)) (cells_erased m s)
 erased-as s m n h e =
-    let g = s.shown in
-    let t = erase (size_shown s) (min (g.col + n) g.width) (terminal_of s) in
-    shows-at s (cells_erased m s) (with_shown s (columns_erased g g.col (min (g.col + n) g.width) s.attrs)) t t
-    (ap (λ c. with_shown s (columns_erased g g.col c s.attrs)) e) refl
-    (erased-shows s (min (g.col + n) g.width) h (omega arith))
+    subst (Shows s _) (sym (ap (λ c. with_shown s (columns_erased s.shown s.shown.col c s.attrs)) e))
+    (erased-shows s (min (s.shown.col + n) s.shown.width) h (omega arith))
 
 pub shows-EraseChar : (s : State) (n : ℕ) → IsPlainState s
     → Shows s (apply (size_shown s) (EraseChar n) (terminal_of s)) (played (events_of (EraseChar n)) s)

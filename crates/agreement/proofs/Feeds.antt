@@ -4,7 +4,7 @@ use Rattle.std.proofs.Common.{length, min}
 use Rattle.std.proofs.Common.{refl, sym, ap, subst, ◌∙◌, arith, ⊎_elim}
 use Rattle.std.proofs.lemmas.Bool.{cond_both, cond-true, eq-eqb, cases_lt}
 use Rattle.vt100_forms.specs.Form.{Crlf, Lf}
-use Rattle.terminal_model.specs.Term.{Term}
+use Rattle.terminal_model.specs.Term.{Size, Term}
 use Rattle.terminal_model.specs.Apply.{down, apply}
 use Rattle.vt100_rows.specs.Row.{RowView}
 use Rattle.vt100_rows.specs.Sheet.{moved_up}
@@ -22,20 +22,33 @@ use Rattle.screen_model.specs.Step.{with_shown, line_fed}
 use Rattle.screen_model.specs.Made.{played}
 use Rattle.agreement.specs.Plain.{terminal_of, size_shown, IsPlainGrid, IsPlainState}
 use Rattle.agreement.specs.StateLaws.{Shows}
-use Rattle.agreement.proofs.PlainStates.{drawable, shows-at, shows-then}
+use Rattle.agreement.proofs.PlainStates.{drawable, plain-as, shows-at, shows-then}
 use Rattle.agreement.proofs.Cursors.{moved, plain-moved, shows-moved}
 use Rattle.agreement.proofs.Erasures.{plain-rows}
 
 -- ---- what scrolling leaves aside
 
 -- h is as large as g, has its saved cursor and modes, and shows no kept row where g shows none
-pub record IsAside (g h : GridView) : Type 0 where
-  pub saved_row : h.saved_row ≡ g.saved_row
-  pub saved_col : h.saved_col ≡ g.saved_col
-  pub origin : h.origin ≡ g.origin
-  pub saved_origin : h.saved_origin ≡ g.saved_origin
-  pub offset : g.kept.offset ≡ 0 → h.kept.offset ≡ 0
-  pub size : grid_size h ≡ grid_size g
+pub record IsAsideTo (g : GridView) (row col : ℕ) (counted saved : Bool) (shown : ℕ) (z : Size) : Type 0 where
+  pub saved_row : row ≡ g.saved_row
+  pub saved_col : col ≡ g.saved_col
+  pub origin : counted ≡ g.origin
+  pub saved_origin : saved ≡ g.saved_origin
+  pub offset : g.kept.offset ≡ 0 → shown ≡ 0
+  pub size : z ≡ grid_size g
+
+abbrev pub IsAside : GridView → GridView → Type 0
+IsAside g h = IsAsideTo g h.saved_row h.saved_col h.origin h.saved_origin h.kept.offset (grid_size h)
+
+pub aside-same : (g : GridView) → IsAside g g
+aside-same g = record {
+  saved_row = refl;
+  saved_col = refl;
+  origin = refl;
+  saved_origin = refl;
+  offset = λ e. e;
+  size = refl;
+}
 
 pub aside-both : (g h k : GridView) → IsAside g h → IsAside h k → IsAside g k
 aside-both g h k a b = record {
@@ -63,45 +76,22 @@ aside-scrolled g n = record {
   size = refl;
 }
 
-aside-down : (g : GridView) (n : ℕ) → IsAside g (moved_rows_down g n)
-aside-down g n = record {
-  saved_row = refl;
-  saved_col = refl;
-  origin = refl;
-  saved_origin = refl;
-  offset = λ e. e;
-  size = refl;
-}
-
 pub aside-fed : (g : GridView) (n : ℕ) → IsAside g (fed g n).grid
 unfolding fed
 aside-fed g n =
     let down = moved_rows_down g n in
     cond_both (is_in_region g) (scrolled_up down (rows_past_bottom g n)) (record { grid = down; sunk = [] })
     (λ (x : Scrolled). IsAside g x.grid)
-    (λ _. aside-both g down (scrolled_up down (rows_past_bottom g n)).grid (aside-down g n)
+    (λ _. aside-both g down (scrolled_up down (rows_past_bottom g n)).grid (aside-same g)
     (aside-scrolled down (rows_past_bottom g n)))
-    (λ _. aside-down g n)
+    (λ _. aside-same g)
 
 -- ---- a line feed
 
 plain-kept : (k : KeptPart) (h : GridView) → IsPlainGrid (record h { kept = k }) → h.kept.offset ≡ 0 → IsPlainGrid h
-plain-kept k h p e = record {
-  sheet = p.sheet;
-  some = p.some;
-  few_rows = p.few_rows;
-  few_cols = p.few_cols;
-  some_cols = p.some_cols;
-  cursor_row = p.cursor_row;
-  cursor_col = p.cursor_col;
-  saved_row = p.saved_row;
-  saved_col = p.saved_col;
-  top = p.top;
-  bottom = p.bottom;
-  origin = p.origin;
-  saved_origin = p.saved_origin;
-  offset = e;
-}
+plain-kept k h p e =
+    plain-as (record h { kept = k }) h p p.sheet p.some p.cursor_row p.cursor_col p.saved_row p.saved_col p.origin
+    p.saved_origin e
 
 shows-kept : (s : State) (k : KeptPart) (h g : GridView) (t : Term) → record h { kept = k } ≡ g → h.kept.offset ≡ 0
     → Shows s t (with_shown s g) → Shows s t (with_shown s h)

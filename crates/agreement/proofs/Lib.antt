@@ -5,8 +5,8 @@ pub mod Modes
 pub mod Attributes
 pub mod Erasures
 pub mod Feeds
+pub mod SentTexts
 pub mod Texts
 pub mod Playing
-pub mod SentTexts
 pub mod SentPlaying
 pub mod FreshStates

@@ -1,5 +1,5 @@
 -- Forms that set modes, and the cursor's style.
-use Rattle.std.proofs.Common.{◌≡◌, ◌==◌, Bool, true, false, cond, not, ◌&&◌, [], ◌∷◌, refl, sym, ap, ◌∙◌}
+use Rattle.std.proofs.Common.{◌≡◌, ℕ, ◌==◌, Bool, true, false, cond, not, ◌&&◌, [], ◌∷◌, refl, sym, ap, subst, ◌∙◌}
 use Rattle.std.proofs.lemmas.Bool.{false≢true}
 use Rattle.vt100_forms.specs.declared.modes.MouseProtocolMode.{MouseProtocolMode}
 use Rattle.vt100_forms.specs.declared.modes.MouseProtocolMode.TheVariants as mouse
@@ -7,7 +7,7 @@ use Rattle.vt100_forms.specs.declared.modes.MouseProtocolEncoding.{MouseProtocol
 use Rattle.vt100_forms.specs.declared.modes.MouseProtocolEncoding.TheVariants as encoding
 use Rattle.vt100_forms.specs.declared.modes.CursorStyle.{CursorStyle}
 use Rattle.vt100_forms.specs.declared.modes.CursorStyle.TheVariants as style
-use Rattle.vt100_forms.specs.Form.{HideCursor, Keypad, CursorKeys, Paste, Mouse, Encoding, Style, mouse_number}
+use Rattle.vt100_forms.specs.Form.{Mouse, Encoding, Style, mouse_number}
 use Rattle.vt100_forms.specs.Form.{encoding_number, style_number}
 use Rattle.terminal_model.specs.Apply.{switched, apply}
 use Rattle.forms_read.specs.Events.{sequence, set_event, reset_event, mode_events, events_of}
@@ -17,76 +17,50 @@ use Rattle.screen_model.specs.PrivateModes.{is_mouse, is_encoding, mouse_set, en
 use Rattle.screen_model.specs.Made.{played}
 use Rattle.agreement.specs.Plain.{terminal_of, size_shown, IsPlainState}
 use Rattle.agreement.specs.StateLaws.{Shows}
-use Rattle.agreement.proofs.PlainStates.{shows-at}
-
-pub shows-HideCursor : (s : State) (b : Bool) → IsPlainState s
-    → Shows s (apply (size_shown s) (HideCursor b) (terminal_of s)) (played (events_of (HideCursor b)) s)
-unfolding apply
-shows-HideCursor s true h = record { shows = refl; size = refl; plain = h }
-shows-HideCursor s false h = record { shows = refl; size = refl; plain = h }
-
-pub shows-Keypad : (s : State) (b : Bool) → IsPlainState s
-    → Shows s (apply (size_shown s) (Keypad b) (terminal_of s)) (played (events_of (Keypad b)) s)
-unfolding apply
-shows-Keypad s true h = record { shows = refl; size = refl; plain = h }
-shows-Keypad s false h = record { shows = refl; size = refl; plain = h }
-
-pub shows-CursorKeys : (s : State) (b : Bool) → IsPlainState s
-    → Shows s (apply (size_shown s) (CursorKeys b) (terminal_of s)) (played (events_of (CursorKeys b)) s)
-unfolding apply
-shows-CursorKeys s true h = record { shows = refl; size = refl; plain = h }
-shows-CursorKeys s false h = record { shows = refl; size = refl; plain = h }
-
-pub shows-Paste : (s : State) (b : Bool) → IsPlainState s
-    → Shows s (apply (size_shown s) (Paste b) (terminal_of s)) (played (events_of (Paste b)) s)
-unfolding apply
-shows-Paste s true h = record { shows = refl; size = refl; plain = h }
-shows-Paste s false h = record { shows = refl; size = refl; plain = h }
 
 -- ---- the mouse
 
+-- a mode of a state, where `with` is the state with each of them: it is set, or reset
+mode-played : {A : Type 0} (number : A → ℕ) (none to from now : A) (with : A → State)
+    → ((m : A) → (number m == 0) ≡ true → m ≡ none)
+    → ((number none == number from) ≡ false
+    → played (reset_event (number from) ∷ []) (with now) ≡ with (cond (not (number now == number from)) now none))
+    → ((number to == 0) ≡ false → played (set_event (number to) ∷ []) (with now) ≡ with to)
+    → played (mode_events (number to) (number from)) (with now) ≡ with (switched number to from now)
+mode-played number none to from now with zero resets sets =
+    (elim (number to == number from) as (λ b. (number to == number from) ≡ b
+    → played (cond b [] (cond (number to == 0) (reset_event (number from) ∷ []) (set_event (number to) ∷ []))) (with now)
+    ≡ with (cond b now (cond ((number to == 0) && not (number now == number from)) now to))) [
+      | true ↦ λ _. refl
+      | false ↦ λ e.
+          (elim (number to == 0) as (λ z. (number to == 0) ≡ z
+          → played (cond z (reset_event (number from) ∷ []) (set_event (number to) ∷ [])) (with now)
+          ≡ with (cond (z && not (number now == number from)) now to)) [
+            | true ↦ λ z.
+                let is = sym (zero to z) in
+                resets (ap (λ m. number m == number from) is ∙ e)
+                ∙ ap (λ m. with (cond (not (number now == number from)) now m)) is
+            | false ↦ λ z. sets z
+          ]) refl
+    ]) refl
+
 is_mouse-number : (m n : MouseProtocolMode) → is_mouse m n ≡ (mouse_number m == mouse_number n)
 is_mouse-number mouse.None mouse.None = refl
-is_mouse-number mouse.None mouse.Press = refl
-is_mouse-number mouse.None mouse.PressRelease = refl
-is_mouse-number mouse.None mouse.ButtonMotion = refl
-is_mouse-number mouse.None mouse.AnyMotion = refl
 is_mouse-number mouse.Press mouse.None = refl
-is_mouse-number mouse.Press mouse.Press = refl
-is_mouse-number mouse.Press mouse.PressRelease = refl
-is_mouse-number mouse.Press mouse.ButtonMotion = refl
-is_mouse-number mouse.Press mouse.AnyMotion = refl
 is_mouse-number mouse.PressRelease mouse.None = refl
-is_mouse-number mouse.PressRelease mouse.Press = refl
-is_mouse-number mouse.PressRelease mouse.PressRelease = refl
-is_mouse-number mouse.PressRelease mouse.ButtonMotion = refl
-is_mouse-number mouse.PressRelease mouse.AnyMotion = refl
 is_mouse-number mouse.ButtonMotion mouse.None = refl
-is_mouse-number mouse.ButtonMotion mouse.Press = refl
-is_mouse-number mouse.ButtonMotion mouse.PressRelease = refl
-is_mouse-number mouse.ButtonMotion mouse.ButtonMotion = refl
-is_mouse-number mouse.ButtonMotion mouse.AnyMotion = refl
 is_mouse-number mouse.AnyMotion mouse.None = refl
-is_mouse-number mouse.AnyMotion mouse.Press = refl
-is_mouse-number mouse.AnyMotion mouse.PressRelease = refl
-is_mouse-number mouse.AnyMotion mouse.ButtonMotion = refl
-is_mouse-number mouse.AnyMotion mouse.AnyMotion = refl
+is_mouse-number m n = refl
 
 mouse-set_is : (m : MouseProtocolMode) (s : State) → (mouse_number m == 0) ≡ false
     → played (set_event (mouse_number m) ∷ []) s ≡ mouse_set m s
 mouse-set_is mouse.None s h = absurd (false≢true (sym h))
-mouse-set_is mouse.Press s h = refl
-mouse-set_is mouse.PressRelease s h = refl
-mouse-set_is mouse.ButtonMotion s h = refl
-mouse-set_is mouse.AnyMotion s h = refl
+mouse-set_is m s h = refl
 
 mouse-reset_is : (m : MouseProtocolMode) (s : State) → (0 == mouse_number m) ≡ false
     → played (reset_event (mouse_number m) ∷ []) s ≡ mouse_reset m s
 mouse-reset_is mouse.None s h = absurd (false≢true (sym h))
-mouse-reset_is mouse.Press s h = refl
-mouse-reset_is mouse.PressRelease s h = refl
-mouse-reset_is mouse.ButtonMotion s h = refl
-mouse-reset_is mouse.AnyMotion s h = refl
+mouse-reset_is m s h = refl
 
 mouse-kept : (b : Bool) (s : State)
     → cond b (mouse_set mouse.None s) s ≡ mouse_set (cond (not b) s.modes.mouse mouse.None) s
@@ -95,10 +69,7 @@ mouse-kept false s = refl
 
 mouse-zero : (m : MouseProtocolMode) → (mouse_number m == 0) ≡ true → m ≡ mouse.None
 mouse-zero mouse.None h = refl
-mouse-zero mouse.Press h = absurd (false≢true h)
-mouse-zero mouse.PressRelease h = absurd (false≢true h)
-mouse-zero mouse.ButtonMotion h = absurd (false≢true h)
-mouse-zero mouse.AnyMotion h = absurd (false≢true h)
+mouse-zero m h = absurd (false≢true h)
 
 -- the mode that a form leads to
 mouse-played : (to from : MouseProtocolMode) (s : State)
@@ -106,57 +77,32 @@ mouse-played : (to from : MouseProtocolMode) (s : State)
     ≡ mouse_set (switched mouse_number to from s.modes.mouse) s
 mouse-played to from s =
     let now = s.modes.mouse in
-    (elim (mouse_number to == mouse_number from) as (λ b. (mouse_number to == mouse_number from) ≡ b
-    → played (cond b [] (cond (mouse_number to == 0) (reset_event (mouse_number from) ∷ [])
-    (set_event (mouse_number to) ∷ []))) s
-    ≡ mouse_set (cond b now (cond ((mouse_number to == 0) && not (mouse_number now == mouse_number from)) now to)) s) [
-      | true ↦ λ _. refl
-      | false ↦ λ e.
-          (elim (mouse_number to == 0) as (λ z. (mouse_number to == 0) ≡ z
-          → played (cond z (reset_event (mouse_number from) ∷ []) (set_event (mouse_number to) ∷ [])) s
-          ≡ mouse_set (cond (z && not (mouse_number now == mouse_number from)) now to) s) [
-            | true ↦ λ z.
-                let is : to ≡ mouse.None = mouse-zero to z in
-                mouse-reset_is from s (ap (λ (m : MouseProtocolMode). mouse_number m == mouse_number from)
-                (sym is) ∙ e)
-                ∙ mouse-kept (is_mouse now from) s
-                ∙ ap (λ b. mouse_set (cond (not b) now mouse.None) s) (is_mouse-number now from)
-                ∙ ap (λ m. mouse_set (cond (not (mouse_number now == mouse_number from)) now m) s) (sym is)
-            | false ↦ λ z. mouse-set_is to s z
-          ]) refl
-    ]) refl
+    mode-played mouse_number mouse.None to from now (λ m. mouse_set m s) mouse-zero
+    (λ h. mouse-reset_is from s h ∙ mouse-kept (is_mouse now from) s
+    ∙ ap (λ b. mouse_set (cond (not b) now mouse.None) s) (is_mouse-number now from))
+    (mouse-set_is to s)
 
 pub shows-Mouse : (s : State) (to from : MouseProtocolMode) → IsPlainState s
     → Shows s (apply (size_shown s) (Mouse to from) (terminal_of s)) (played (events_of (Mouse to from)) s)
 unfolding apply
 shows-Mouse s to from h =
-    let new = switched mouse_number to from s.modes.mouse in
-    shows-at s (played (events_of (Mouse to from)) s) (mouse_set new s)
-    (apply (size_shown s) (Mouse to from) (terminal_of s)) (terminal_of (mouse_set new s))
-    (mouse-played to from s) refl (record { shows = refl; size = refl; plain = h })
+    subst (Shows s _) (sym (mouse-played to from s)) (record { shows = refl; size = refl; plain = h })
 
 is_encoding-number : (m n : MouseProtocolEncoding) → is_encoding m n ≡ (encoding_number m == encoding_number n)
 is_encoding-number encoding.Default encoding.Default = refl
-is_encoding-number encoding.Default encoding.Utf8 = refl
-is_encoding-number encoding.Default encoding.Sgr = refl
 is_encoding-number encoding.Utf8 encoding.Default = refl
-is_encoding-number encoding.Utf8 encoding.Utf8 = refl
-is_encoding-number encoding.Utf8 encoding.Sgr = refl
 is_encoding-number encoding.Sgr encoding.Default = refl
-is_encoding-number encoding.Sgr encoding.Utf8 = refl
-is_encoding-number encoding.Sgr encoding.Sgr = refl
+is_encoding-number m n = refl
 
 encoding-set_is : (m : MouseProtocolEncoding) (s : State) → (encoding_number m == 0) ≡ false
     → played (set_event (encoding_number m) ∷ []) s ≡ encoding_set m s
 encoding-set_is encoding.Default s h = absurd (false≢true (sym h))
-encoding-set_is encoding.Utf8 s h = refl
-encoding-set_is encoding.Sgr s h = refl
+encoding-set_is m s h = refl
 
 encoding-reset_is : (m : MouseProtocolEncoding) (s : State) → (0 == encoding_number m) ≡ false
     → played (reset_event (encoding_number m) ∷ []) s ≡ encoding_reset m s
 encoding-reset_is encoding.Default s h = absurd (false≢true (sym h))
-encoding-reset_is encoding.Utf8 s h = refl
-encoding-reset_is encoding.Sgr s h = refl
+encoding-reset_is m s h = refl
 
 encoding-kept : (b : Bool) (s : State)
     → cond b (encoding_set encoding.Default s) s ≡ encoding_set (cond (not b) s.modes.encoding encoding.Default) s
@@ -165,8 +111,7 @@ encoding-kept false s = refl
 
 encoding-zero : (m : MouseProtocolEncoding) → (encoding_number m == 0) ≡ true → m ≡ encoding.Default
 encoding-zero encoding.Default h = refl
-encoding-zero encoding.Utf8 h = absurd (false≢true h)
-encoding-zero encoding.Sgr h = absurd (false≢true h)
+encoding-zero m h = absurd (false≢true h)
 
 -- the mode that a form leads to
 encoding-played : (to from : MouseProtocolEncoding) (s : State)
@@ -174,47 +119,23 @@ encoding-played : (to from : MouseProtocolEncoding) (s : State)
     ≡ encoding_set (switched encoding_number to from s.modes.encoding) s
 encoding-played to from s =
     let now = s.modes.encoding in
-    (elim (encoding_number to == encoding_number from) as (λ b. (encoding_number to == encoding_number from) ≡ b
-    → played (cond b [] (cond (encoding_number to == 0) (reset_event (encoding_number from) ∷ [])
-    (set_event (encoding_number to) ∷ []))) s
-    ≡ encoding_set (cond b now (cond ((encoding_number to == 0) && not (encoding_number now == encoding_number from))
-    now to)) s) [
-      | true ↦ λ _. refl
-      | false ↦ λ e.
-          (elim (encoding_number to == 0) as (λ z. (encoding_number to == 0) ≡ z
-          → played (cond z (reset_event (encoding_number from) ∷ []) (set_event (encoding_number to) ∷ [])) s
-          ≡ encoding_set (cond (z && not (encoding_number now == encoding_number from)) now to) s) [
-            | true ↦ λ z.
-                let is : to ≡ encoding.Default = encoding-zero to z in
-                encoding-reset_is from s (ap (λ (m : MouseProtocolEncoding). encoding_number m == encoding_number from)
-                (sym is) ∙ e)
-                ∙ encoding-kept (is_encoding now from) s
-                ∙ ap (λ b. encoding_set (cond (not b) now encoding.Default) s) (is_encoding-number now from)
-                ∙ ap (λ m. encoding_set (cond (not (encoding_number now == encoding_number from)) now m) s) (sym is)
-            | false ↦ λ z. encoding-set_is to s z
-          ]) refl
-    ]) refl
+    mode-played encoding_number encoding.Default to from now (λ m. encoding_set m s) encoding-zero
+    (λ h. encoding-reset_is from s h ∙ encoding-kept (is_encoding now from) s
+    ∙ ap (λ b. encoding_set (cond (not b) now encoding.Default) s) (is_encoding-number now from))
+    (encoding-set_is to s)
 
 pub shows-Encoding : (s : State) (to from : MouseProtocolEncoding) → IsPlainState s
     → Shows s (apply (size_shown s) (Encoding to from) (terminal_of s)) (played (events_of (Encoding to from)) s)
 unfolding apply
 shows-Encoding s to from h =
-    let new = switched encoding_number to from s.modes.encoding in
-    shows-at s (played (events_of (Encoding to from)) s) (encoding_set new s)
-    (apply (size_shown s) (Encoding to from) (terminal_of s)) (terminal_of (encoding_set new s))
-    (encoding-played to from s) refl (record { shows = refl; size = refl; plain = h })
+    subst (Shows s _) (sym (encoding-played to from s)) (record { shows = refl; size = refl; plain = h })
 
 -- ---- the cursor's style
 
 style-is : (m : CursorStyle) (s : State)
     → played (sequence (0x20 ∷ []) (style_number m ∷ []) 0x71 ∷ []) s ≡ with_style m s
 style-is style.Default s = refl
-style-is style.BlinkBlock s = refl
-style-is style.SteadyBlock s = refl
-style-is style.BlinkUnderline s = refl
-style-is style.SteadyUnderline s = refl
-style-is style.BlinkVerticalBar s = refl
-style-is style.SteadyVerticalBar s = refl
+style-is m s = refl
 
 style-played : (to from : CursorStyle) (s : State) → played (events_of (Style to from)) s
     ≡ with_style (cond (style_number to == style_number from) s.style to) s
@@ -229,7 +150,4 @@ pub shows-Style : (s : State) (to from : CursorStyle) → IsPlainState s
     → Shows s (apply (size_shown s) (Style to from) (terminal_of s)) (played (events_of (Style to from)) s)
 unfolding apply
 shows-Style s to from h =
-    let new = cond (style_number to == style_number from) s.style to in
-    shows-at s (played (events_of (Style to from)) s) (with_style new s)
-    (apply (size_shown s) (Style to from) (terminal_of s)) (terminal_of (with_style new s)) (style-played to from s) refl
-    (record { shows = refl; size = refl; plain = h })
+    subst (Shows s _) (sym (style-played to from s)) (record { shows = refl; size = refl; plain = h })

@@ -1,16 +1,13 @@
 -- Plain states.
-use Rattle.std.proofs.Common.{◌≡◌, ◌+◌, ◌==◌, Bool, true, false, not, refl, sym, ◌∙◌, subst}
-use Rattle.std.proofs.lemmas.Bool.{and_parts, eqb-true, eq-eqb}
+use Rattle.std.proofs.Common.{◌≡◌, ◌+◌, ◌==◌, ◌<◌, ◌≤◌, true, false, not, refl, sym, ◌∙◌, subst}
+use Rattle.std.proofs.lemmas.Bool.{and_parts, not-true, eqb-true, eq-eqb}
 use Rattle.terminal_model.specs.Term.{Term}
-use Rattle.vt100_core.specs.Grid.{GridView}
+use Rattle.vt100_rows.specs.Sheet.{IsSheet}
+use Rattle.vt100_core.specs.Grid.{GridView, IsAllocated}
 use Rattle.vt100_core.proofs.InputLemmas.{IsDrawable}
 use Rattle.screen_model.specs.State.{State, IsState, is_plain}
 use Rattle.agreement.specs.Plain.{terminal_of, IsPlainGrid, IsPlainState}
 use Rattle.agreement.specs.StateLaws.{Shows, EachPlainStateIsRead}
-
-not-true : (b : Bool) → not b ≡ true → b ≡ false
-not-true true h = sym h
-not-true false h = refl
 
 plain-of : (s : State) → IsState s → is_plain s ≡ true → IsPlainState s
 plain-of s i h =
@@ -55,6 +52,28 @@ is_plain-of s h =
 
 pub plain-read : EachPlainStateIsRead
 plain-read s = (plain-of s, is_plain-of s)
+
+-- a grid of the same size and region, with rows, cursors, modes and kept rows of its own
+pub plain-as : (g h : GridView) → IsPlainGrid g → IsSheet g.height g.width h.rows → IsAllocated h → h.row < g.height
+    → h.col ≤ g.width → h.saved_row < g.height → h.saved_col ≤ g.width → h.origin ≡ false → h.saved_origin ≡ false
+    → h.kept.offset ≡ 0
+    → IsPlainGrid (record h { height = g.height; width = g.width; top = g.top; bottom = g.bottom })
+plain-as g h p sheet some row col saved_row saved_col origin saved_origin offset = record {
+  sheet = sheet;
+  some = some;
+  few_rows = p.few_rows;
+  few_cols = p.few_cols;
+  some_cols = p.some_cols;
+  cursor_row = row;
+  cursor_col = col;
+  saved_row = saved_row;
+  saved_col = saved_col;
+  top = p.top;
+  bottom = p.bottom;
+  origin = origin;
+  saved_origin = saved_origin;
+  offset = offset;
+}
 
 pub drawable : (g : GridView) → IsPlainGrid g → IsDrawable g
 drawable g p = record {

@@ -1,8 +1,8 @@
 -- Forms, lists of forms, and their bytes, played.
-use Rattle.std.proofs.Common.{◌≡◌, List, [], ◌∷◌, ◌++◌, refl, sym, ap}
+use Rattle.std.proofs.Common.{◌≡◌, true, List, [], ◌∷◌, ◌++◌, refl, sym, ap}
 use Rattle.vte_core.specs.Event.{Event}
 use Rattle.vte_core.specs.Added.{added}
-use Rattle.vt100_forms.specs.Form.{Text, MoveTo, MoveRight, EraseChar, ClearRowForward, ClearScreen, ClearAttrs}
+use Rattle.vt100_forms.specs.Form.{Text, MoveTo, MoveRight, EraseChar, ClearRowForward, ClearScreen}
 use Rattle.vt100_forms.specs.Form.{Crlf, Lf, Backspace, SaveCursor, RestoreCursor, HideCursor, Keypad, CursorKeys}
 use Rattle.vt100_forms.specs.Form.{Paste, Mouse, Encoding, Style, Sgr, spell}
 use Rattle.terminal_model.specs.Apply.{apply, run}
@@ -18,34 +18,34 @@ use Rattle.agreement.specs.StateLaws.{EachFormIsPlayed, EachListIsPlayed, EachSp
 use Rattle.agreement.proofs.PlainStates.{shows-at, shows-same, shows-then}
 use Rattle.agreement.proofs.Cursors.{shows-MoveTo, shows-MoveRight, shows-Backspace, shows-SaveCursor}
 use Rattle.agreement.proofs.Cursors.{shows-RestoreCursor}
-use Rattle.agreement.proofs.Modes.{shows-HideCursor, shows-Keypad, shows-CursorKeys, shows-Paste, shows-Mouse}
-use Rattle.agreement.proofs.Modes.{shows-Encoding, shows-Style}
-use Rattle.agreement.proofs.Attributes.{shows-ClearAttrs, shows-Sgr}
+use Rattle.agreement.proofs.Modes.{shows-Mouse, shows-Encoding, shows-Style}
+use Rattle.agreement.proofs.Attributes.{shows-Sgr}
 use Rattle.agreement.proofs.Erasures.{shows-EraseChar, shows-ClearRowForward, shows-ClearScreen}
 use Rattle.agreement.proofs.Feeds.{shows-Lf, shows-Crlf}
 use Rattle.agreement.proofs.Texts.{shows-Text}
 
 pub form-played : EachFormIsPlayed
+unfolding apply
 form-played s (Text cs) h f = shows-Text s cs h f.0
 form-played s (MoveTo r c) h f = shows-MoveTo s r c h
 form-played s (MoveRight n) h f = shows-MoveRight s n h
 form-played s (EraseChar n) h f = shows-EraseChar s n h
 form-played s ClearRowForward h f = shows-ClearRowForward s h
 form-played s ClearScreen h f = shows-ClearScreen s h
-form-played s ClearAttrs h f = shows-ClearAttrs s h
 form-played s Crlf h f = shows-Crlf s h
 form-played s Lf h f = shows-Lf s h
 form-played s Backspace h f = shows-Backspace s h
 form-played s SaveCursor h f = shows-SaveCursor s h
 form-played s RestoreCursor h f = shows-RestoreCursor s h
-form-played s (HideCursor b) h f = shows-HideCursor s b h
-form-played s (Keypad b) h f = shows-Keypad s b h
-form-played s (CursorKeys b) h f = shows-CursorKeys s b h
-form-played s (Paste b) h f = shows-Paste s b h
+form-played s (HideCursor true) h f = record { shows = refl; size = refl; plain = h }
+form-played s (Keypad true) h f = record { shows = refl; size = refl; plain = h }
+form-played s (CursorKeys true) h f = record { shows = refl; size = refl; plain = h }
+form-played s (Paste true) h f = record { shows = refl; size = refl; plain = h }
 form-played s (Mouse to from) h f = shows-Mouse s to from h
 form-played s (Encoding to from) h f = shows-Encoding s to from h
 form-played s (Style to from) h f = shows-Style s to from h
 form-played s (Sgr c) h f = shows-Sgr s c h f.1.0 f.1.1
+form-played s x h f = record { shows = refl; size = refl; plain = h }
 
 pub played-joined : (es gs : List Event) (s : State) → played (es ++ gs) s ≡ played gs (played es s)
 played-joined [] gs s = refl

@@ -6,9 +6,9 @@ use Rattle.std.specs.Char.{IsScalar}
 use Rattle.std.specs.List.{AllByRecursion}
 use Rattle.std.proofs.lemmas.Bool.{cond_both}
 use Rattle.vte_core.specs.Added.{added}
-use Rattle.vt100_forms.specs.Form.{Form, Text, MoveTo, MoveRight, EraseChar, ClearRowForward, ClearScreen, ClearAttrs}
-use Rattle.vt100_forms.specs.Form.{Crlf, Lf, Backspace, SaveCursor, RestoreCursor, HideCursor, Keypad, CursorKeys}
-use Rattle.vt100_forms.specs.Form.{Paste, Mouse, Encoding, Style, Sgr, mouse_number, encoding_number, style_number}
+use Rattle.vt100_forms.specs.declared.modes.CursorStyle.{CursorStyle}
+use Rattle.vt100_forms.specs.Form.{Form, Text, MoveRight, Crlf, Lf, Keypad, CursorKeys, Paste, Mouse, Encoding, Style}
+use Rattle.vt100_forms.specs.Form.{mouse_number, encoding_number, style_number}
 use Rattle.vt100_cells.specs.Cell.{cell_of, columns_of}
 use Rattle.terminal_model.specs.FormText.{IsSentText}
 use Rattle.terminal_model.specs.Term.{Size, Modes, Term}
@@ -28,38 +28,40 @@ use Rattle.agreement.proofs.SentTexts.{like-text}
 -- ---- what forms do to the modes
 
 -- the same modes, and the same style
-pub record SameModes (t u : Term) : Type 0 where
-  pub modes : u.modes ≡ t.modes
-  pub style : u.style ≡ t.style
+pub record AreSame (m n : Modes) (x y : CursorStyle) : Type 0 where
+  pub modes : n ≡ m
+  pub style : y ≡ x
+
+abbrev pub SameModes : Term → Term → Type 0
+SameModes t u = AreSame t.modes u.modes t.style u.style
 
 same : (t : Term) → SameModes t t
 same t = record { modes = refl; style = refl }
 
 same-down : (z : Size) (t : Term) → SameModes t (down z t)
 unfolding down
-same-down z t = cond_both (nat_lt (t.row + 1) z.rows) (record t { row = t.row + 1 }) _ (SameModes t)
-    (λ _. record { modes = refl; style = refl }) (λ _. record { modes = refl; style = refl })
+same-down z t = cond_both (nat_lt (t.row + 1) z.rows) (record t { row = t.row + 1 }) _ (λ u. SameModes t u)
+    (λ _. same t) (λ _. same t)
 
 same-right : (z : Size) (n : ℕ) (t : Term) → SameModes t (apply z (MoveRight n) t)
 unfolding apply
-same-right z n t = cond_both (n == 0) t (record t { col = min (t.col + n) (z.cols - 1) }) (SameModes t)
-    (λ _. record { modes = refl; style = refl }) (λ _. record { modes = refl; style = refl })
+same-right z n t = cond_both (n == 0) t (record t { col = min (t.col + n) (z.cols - 1) }) (λ u. SameModes t u)
+    (λ _. same t) (λ _. same t)
 
 same-wrap : (z : Size) (t : Term) → SameModes t (wrap z t)
 unfolding wrap
-same-wrap z t = let s = same-down z _ in record { modes = s.modes; style = s.style }
+same-wrap z t = same-down z (record t { wrapped = _; col = 0 })
 
 same-fit : (z : Size) (n : ℕ) (t : Term) → SameModes t (made_to_fit z n t)
 unfolding made_to_fit
-same-fit z n t = cond_both (nat_le (t.col + n) z.cols) t (wrap z t) (SameModes t) (λ _. same t) (λ _. same-wrap z t)
+same-fit z n t = cond_both (nat_le (t.col + n) z.cols) t (wrap z t) (λ u. SameModes t u) (λ _. same t) (λ _. same-wrap z t)
 
 same-input : (z : Size) (c : ℕ) (t : Term) → SameModes t (input z c t)
 unfolding input join print with_line
 same-input z c t =
-    let s = same-fit z (columns_of c) t in
-    cond_both (is_dropped z.cols t.col c) t _ (SameModes t) (λ _. same t)
+    cond_both (is_dropped z.cols t.col c) t _ (λ u. SameModes t u) (λ _. same t)
     (λ _. cond_both (columns_of c == 0) (join c t) (print z (cell_of c t.attrs) (made_to_fit z (columns_of c) t))
-    (SameModes t) (λ _. record { modes = refl; style = refl }) (λ _. record { modes = s.modes; style = s.style }))
+    (λ u. SameModes t u) (λ _. same t) (λ _. same-fit z (columns_of c) t))
 
 same-inputs : (z : Size) (cs : List ℕ) (t : Term) → SameModes t (inputs z cs t)
 same-inputs z [] t = same t
@@ -68,34 +70,17 @@ same-inputs z (c ∷ cs) t =
     let rest = same-inputs z cs (input z c t) in
     record { modes = rest.modes ∙ one.modes; style = rest.style ∙ one.style }
 
+alike-after : {m n p q : Modes} {v w x y : CursorStyle} → AreSame m p v x → AreSame n q w y → AreSame m n v w
+    → AreSame p q x y
+alike-after a b h = record { modes = b.modes ∙ h.modes ∙ sym a.modes; style = b.style ∙ h.style ∙ sym a.style }
+
 -- equal modes stay equal
 alike : (z : Size) (f : Form) (t u : Term) → SameModes t u → SameModes (apply z f t) (apply z f u)
 unfolding apply erase with_line
-alike z (Text cs) t u h =
-    let a = same-inputs z cs t in
-    let b = same-inputs z cs u in
-    record { modes = b.modes ∙ h.modes ∙ sym a.modes; style = b.style ∙ h.style ∙ sym a.style }
-alike z (MoveTo r c) t u h = record { modes = h.modes; style = h.style }
-alike z (MoveRight n) t u h =
-    let a = same-right z n t in
-    let b = same-right z n u in
-    record { modes = b.modes ∙ h.modes ∙ sym a.modes; style = b.style ∙ h.style ∙ sym a.style }
-alike z (EraseChar n) t u h = record { modes = h.modes; style = h.style }
-alike z ClearRowForward t u h = record { modes = h.modes; style = h.style }
-alike z ClearScreen t u h = record { modes = h.modes; style = h.style }
-alike z ClearAttrs t u h = record { modes = h.modes; style = h.style }
-alike z Crlf t u h =
-    let a = same-down z (record t { col = 0 }) in
-    let b = same-down z (record u { col = 0 }) in
-    record { modes = b.modes ∙ h.modes ∙ sym a.modes; style = b.style ∙ h.style ∙ sym a.style }
-alike z Lf t u h =
-    let a = same-down z t in
-    let b = same-down z u in
-    record { modes = b.modes ∙ h.modes ∙ sym a.modes; style = b.style ∙ h.style ∙ sym a.style }
-alike z Backspace t u h = record { modes = h.modes; style = h.style }
-alike z SaveCursor t u h = record { modes = h.modes; style = h.style }
-alike z RestoreCursor t u h = record { modes = h.modes; style = h.style }
-alike z (HideCursor b) t u h = record { modes = h.modes; style = h.style }
+alike z (Text cs) t u h = alike-after (same-inputs z cs t) (same-inputs z cs u) h
+alike z (MoveRight n) t u h = alike-after (same-right z n t) (same-right z n u) h
+alike z Crlf t u h = alike-after (same-down z (record t { col = 0 })) (same-down z (record u { col = 0 })) h
+alike z Lf t u h = alike-after (same-down z t) (same-down z u) h
 alike z (Keypad b) t u h = record { modes = ap (λ (m : Modes). record m { keypad = b }) h.modes; style = h.style }
 alike z (CursorKeys b) t u h =
     record { modes = ap (λ (m : Modes). record m { cursor_keys = b }) h.modes; style = h.style }
@@ -112,7 +97,7 @@ alike z (Style to from) t u h = record {
   modes = h.modes;
   style = ap (λ x. cond (style_number to == style_number from) x to) h.style;
 }
-alike z (Sgr c) t u h = record { modes = h.modes; style = h.style }
+alike z f t u h = h
 
 pub run-alike : (z : Size) (fs : List Form) (t u : Term) → SameModes t u → SameModes (run z fs t) (run z fs u)
 run-alike z [] t u h = h
@@ -148,25 +133,7 @@ text-modes s cs h t =
 form-modes : (s : State) (f : Form) → IsPlainState s → IsSentForm f
     → HasModes s (apply (size_shown s) f (terminal_of s)) (played (events_of f) s)
 form-modes s (Text cs) h k = text-modes s cs h k.0
-form-modes s (MoveTo r c) h k = by-shows s _ _ (form-played s (MoveTo r c) h k)
-form-modes s (MoveRight n) h k = by-shows s _ _ (form-played s (MoveRight n) h k)
-form-modes s (EraseChar n) h k = by-shows s _ _ (form-played s (EraseChar n) h k)
-form-modes s ClearRowForward h k = by-shows s _ _ (form-played s ClearRowForward h k)
-form-modes s ClearScreen h k = by-shows s _ _ (form-played s ClearScreen h k)
-form-modes s ClearAttrs h k = by-shows s _ _ (form-played s ClearAttrs h k)
-form-modes s Crlf h k = by-shows s _ _ (form-played s Crlf h k)
-form-modes s Lf h k = by-shows s _ _ (form-played s Lf h k)
-form-modes s Backspace h k = by-shows s _ _ (form-played s Backspace h k)
-form-modes s SaveCursor h k = by-shows s _ _ (form-played s SaveCursor h k)
-form-modes s RestoreCursor h k = by-shows s _ _ (form-played s RestoreCursor h k)
-form-modes s (HideCursor b) h k = by-shows s _ _ (form-played s (HideCursor b) h k)
-form-modes s (Keypad b) h k = by-shows s _ _ (form-played s (Keypad b) h k)
-form-modes s (CursorKeys b) h k = by-shows s _ _ (form-played s (CursorKeys b) h k)
-form-modes s (Paste b) h k = by-shows s _ _ (form-played s (Paste b) h k)
-form-modes s (Mouse to from) h k = by-shows s _ _ (form-played s (Mouse to from) h k)
-form-modes s (Encoding to from) h k = by-shows s _ _ (form-played s (Encoding to from) h k)
-form-modes s (Style to from) h k = by-shows s _ _ (form-played s (Style to from) h k)
-form-modes s (Sgr c) h k = by-shows s _ _ (form-played s (Sgr c) h k)
+form-modes s f h k = by-shows s _ _ (form-played s f h k)
 
 pub sent-list-played : EachSentListIsPlayed
 sent-list-played s [] h f = record { modes = refl; style = refl; size = refl; plain = h }

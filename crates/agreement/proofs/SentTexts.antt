@@ -1,45 +1,98 @@
 -- Texts that may hold U+FE0F: the grid stays plain, and no mode changes.
-use Rattle.std.proofs.Common.{◌≡◌, ℕ, ◌+◌, ◌-◌, ◌<◌, ◌≤◌, ◌==◌, Bool, true, false, not, ◌&&◌, nat_lt}
-use Rattle.std.proofs.Common.{List, [], ◌∷◌, length, set, map, Some, refl, sym, ap, ◌∙◌, arith, length-set, ⊎_elim}
+use Rattle.std.proofs.Common.{◌≡◌, ℕ, ◌+◌, ◌-◌, ◌<◌, ◌≤◌, ◌==◌, Bool, true, false, not, ◌&&◌, nat_lt, nat_le}
+use Rattle.std.proofs.Common.{List, [], ◌∷◌, length, set, map, Some, refl, ap, ◌∙◌, arith, length-set}
 use Rattle.std.specs.Char.{IsScalar}
 use Rattle.std.specs.List.{AllByRecursion}
-use Rattle.std.proofs.lemmas.Bool.{cond_both, ltb-true, cases_lt, cases_Bool}
+use Rattle.std.proofs.lemmas.Bool.{cond_both, ltb-true, not-true, not-false}
 use Rattle.std.proofs.lemmas.Bool.Decides.{nat_tests}
 use Rattle.vte_core.specs.Event.{Print}
 use Rattle.vt100_forms.specs.declared.attrs.Attrs.{Attrs}
-use Rattle.vt100_cells.specs.Cell.{CellView, cell_of, columns_of, drawn_columns}
+use Rattle.vt100_cells.specs.Cell.{CellView, IsCell, cell_of, columns_of, drawn_columns, has_text}
 use Rattle.vt100_cells.specs.Cells.{cell_at}
-use Rattle.vt100_cells.specs.Line.{put, put_unflags, wipe_unflags}
+use Rattle.vt100_cells.specs.Line.{span_of, put, put_unflags, wipe_unflags}
 use Rattle.vt100_cells.proofs.CellLemmas.{IsCell-of, IsCell-with_attrs}
 use Rattle.vt100_cells.proofs.ListLemmas.{length-by_position}
 use Rattle.vt100_rows.specs.Row.{with_wrap, placed, wiped_row, joined_cell, joined_row, is_widening}
 use Rattle.vt100_rows.proofs.RowLemmas.{IsRow-placed, IsRow-with_wrap}
 use Rattle.vt100_rows.proofs.JoinLemmas.{IsRow-joined, IsCell-joined, widened-is}
 use Rattle.terminal_model.specs.Term.{Size}
-use Rattle.terminal_model.specs.Apply.{is_dropped}
 use Rattle.vt100_rows.specs.Sheet.{row_at}
 use Rattle.vt100_rows.proofs.SheetLemmas.{IsSheet-with_row}
 use Rattle.vt100_core.specs.Grid.{GridView, row_of_cursor, with_cursor_row, with_row}
 use Rattle.vt100_core.specs.Picture.{grid_size, Extras}
-use Rattle.vt100_core.specs.Scroll.{fed, left_row, wrapped_on, made_to_fit}
-use Rattle.vt100_core.specs.Text.{PrintedGrid, put_at, carried, joined, spaced, printed}
+use Rattle.vt100_core.specs.Scroll.{Scrolled, fed, left_row, wrapped_on, made_to_fit}
+use Rattle.vt100_core.specs.Text.{PrintedGrid, put_at, carried, joined, printed}
 use Rattle.vt100_core.specs.declared.printed.Printed.TheVariants.{Nothing, Joined}
 use Rattle.vt100_core.proofs.EraseLemmas.{IsRowOf-wiped}
-use Rattle.vt100_core.proofs.TextLemmas.{printed-dropped, printed-joined, printed-spaced, IsDrawn-here, IsMade-made}
+use Rattle.vt100_core.proofs.TextLemmas.{IsDrawn-here, IsMade-made}
 use Rattle.vt100_core.proofs.TextLemmas.{span_of-cell, span_of-wide, or-false, IsSized-wrapped}
-use Rattle.vt100_core.proofs.InputLemmas.{cursor_row}
+use Rattle.vt100_core.proofs.InputLemmas.{IsNext-made, cursor_row}
 use Rattle.screen_model.specs.State.{State, fresh_state}
 use Rattle.screen_model.specs.Effect.{Effect, is_unhandled, calling, steps, effect}
 use Rattle.screen_model.specs.Step.{typed}
 use Rattle.screen_model.specs.Call.{unhandled_char}
 use Rattle.screen_model.specs.Made.{played}
 use Rattle.screen_model.specs.Shown.{extras_of}
+use Rattle.screen_model.proofs.UnscrolledTexts.{printed-either}
 use Rattle.agreement.specs.Plain.{size_shown, IsPlainGrid, IsPlainState}
 use Rattle.agreement.proofs.PlainStates.{drawable}
 use Rattle.agreement.proofs.Cursors.{plain-moved}
 use Rattle.agreement.proofs.Erasures.{plain-rows, plain-row}
-use Rattle.agreement.proofs.Feeds.{IsAside, aside-both, aside-fed, shows-fed}
-use Rattle.agreement.proofs.Texts.{aside-same, aside-row, aside-wrapped, aside-made, plain-made, plain-put}
+use Rattle.agreement.proofs.Feeds.{IsAside, aside-same, aside-both, aside-fed, shows-fed}
+
+-- ---- what wrapping leaves aside
+
+aside-wrapped : (g : GridView) (wrap : Bool) → IsAside g (wrapped_on g wrap).grid
+unfolding wrapped_on
+aside-wrapped g wrap =
+    let g0 = record g { col = 0 } in
+    let h = (fed g0 1).grid in
+    let a = aside-both g g0 h (aside-same g) (aside-fed g0 1) in
+    cond_both ((g.row == g.bottom) && (g.row == 0)) h _ (λ x. IsAside g x) (λ _. a) (λ _. a)
+
+aside-made : (g : GridView) (n : ℕ) → IsAside g (made_to_fit g n true).grid
+aside-made g n =
+    cond_both (nat_le (g.col + n) g.width) (record { grid = g; sunk = [] }) (wrapped_on g true)
+    (λ (x : Scrolled). IsAside g x.grid) (λ _. aside-same g) (λ _. aside-wrapped g true)
+
+plain-made : (g : GridView) (x : Extras) (n : ℕ) → IsPlainGrid g → IsPlainGrid (made_to_fit g n true).grid
+plain-made g x n p =
+    let next = IsNext-made g x n (drawable g p) in
+    let d = next.drawable in
+    let a = aside-made g n in
+    let height = ap (λ z. z.rows) next.size in
+    let width = ap (λ z. z.cols) next.size in
+    record {
+      sheet = d.sheet;
+      some = d.some;
+      few_rows = d.few_rows;
+      few_cols = d.few_cols;
+      some_cols = omega (arith, width, p.some_cols);
+      cursor_row = d.row;
+      cursor_col = d.col;
+      saved_row = omega (arith, a.saved_row, height, p.saved_row);
+      saved_col = omega (arith, a.saved_col, width, p.saved_col);
+      top = d.top;
+      bottom = d.bottom;
+      origin = a.origin ∙ p.origin;
+      saved_origin = a.saved_origin ∙ p.saved_origin;
+      offset = a.offset p.offset;
+    }
+
+plain-put : (g : GridView) (x : CellView) (a : Attrs) (n : ℕ) → IsPlainGrid g → IsCell x → has_text x ≡ true
+    → n ≡ span_of x → g.col + n ≤ g.width → IsPlainGrid (put_at g x a n)
+plain-put g x a n p cell text e l =
+    let v = row_of_cursor g in
+    let r = cursor_row g (drawable g p) in
+    let w = placed v g.col x a in
+    plain-moved (with_cursor_row g w) g.row (g.col + n)
+    (plain-row g w p
+    (record {
+      row = IsRow-placed v g.col x a r.row cell text (omega (arith, r.wide, e, l));
+      wide = length-by_position (length v.cells) (put (cell_at v.cells) g.col x a) ∙ r.wide;
+    })
+    (λ q. ap (λ b. b && not (put_unflags (length v.cells) (cell_at v.cells) g.col x)) q))
+    p.cursor_row l
 
 -- ---- wrapping without a flag
 
@@ -74,14 +127,6 @@ plain-wrapped g p =
     (omega (arith, tall, left-within g p.cursor_row)))
 
 -- ---- a zero-width character
-
-not-true : (b : Bool) → not b ≡ true → b ≡ false
-not-true true h = sym h
-not-true false h = refl
-
-not-false : (b : Bool) → not b ≡ false → b ≡ true
-not-false true h = refl
-not-false false h = sym h
 
 not-one : (n : ℕ) → (n == 1) ≡ false → 0 < n → 2 ≤ n
 not-one n e h = grind (arith, nat_tests)
@@ -158,87 +203,42 @@ plain-joined g c a p s z some =
 
 -- ---- what is left aside
 
-aside-moved : (g h : GridView) (c : ℕ) → IsAside g h → IsAside g (record h { col = c })
-aside-moved g h c a = record {
-  saved_row = a.saved_row;
-  saved_col = a.saved_col;
-  origin = a.origin;
-  saved_origin = a.saved_origin;
-  offset = a.offset;
-  size = a.size;
-}
-
-aside-put : (g h : GridView) (x : CellView) (a : Attrs) (n : ℕ) → IsAside g h → IsAside g (put_at h x a n)
-aside-put g h x a n s =
-    aside-moved g (with_cursor_row h (placed (row_of_cursor h) h.col x a)) (h.col + n)
-    (aside-row g h h.row (placed (row_of_cursor h) h.col x a) s)
-
 aside-carried : (g : GridView) (c : ℕ) (a : Attrs) → IsAside g (carried g c a).grid
 aside-carried g c a =
-    let v = row_of_cursor g in
-    let h = with_cursor_row g (wiped_row v (g.col - 1) g.col a) in
-    aside-put g (wrapped_on h false).grid (record (joined_cell v g.col c) { attrs = a }) a 2
-    (aside-both g h (wrapped_on h false).grid
-    (aside-row g g g.row (wiped_row v (g.col - 1) g.col a) (aside-same g)) (aside-wrapped h false))
+    let h = with_cursor_row g (wiped_row (row_of_cursor g) (g.col - 1) g.col a) in
+    aside-both g h (wrapped_on h false).grid (aside-same g) (aside-wrapped h false)
 
 aside-joined : (g : GridView) (c : ℕ) (a : Attrs) → IsAside g (joined g c a).grid
 aside-joined g c a =
     let v = row_of_cursor g in
     let P : PrintedGrid → Type 0 = λ d. IsAside g d.grid in
-    let w = placed v (g.col - 1) (joined_cell v g.col c) a in
-    cond_both (not (is_widening v g.col c)) (record {
-      grid = with_cursor_row g (joined_row v g.col c);
-      sunk = [];
-      printed = Joined;
-    }) _ P
-    (λ _. aside-row g g g.row (joined_row v g.col c) (aside-same g))
-    (λ _. cond_both (g.width == 1) (record { grid = g; sunk = []; printed = Nothing }) _ P (λ _. aside-same g)
-    (λ _. cond_both (nat_lt g.col g.width) (record {
-      grid = record (with_cursor_row g w) { col = g.col + 1 };
-      sunk = [];
-      printed = Joined;
-    }) (carried g c a) P
-    (λ _. aside-moved g (with_cursor_row g w) (g.col + 1) (aside-row g g g.row w (aside-same g)))
-    (λ _. aside-carried g c a)))
+    cond_both (not (is_widening v g.col c)) _ _ P (λ _. aside-same g)
+    (λ _. cond_both (g.width == 1) _ _ P (λ _. aside-same g)
+    (λ _. cond_both (nat_lt g.col g.width) _ (carried g c a) P (λ _. aside-same g) (λ _. aside-carried g c a)))
 
 -- ---- one character
 
-record IsSound (g h : GridView) : Type 0 where
-  plain : IsPlainGrid h
-  size : grid_size h ≡ grid_size g
+pub record IsSound (g h : GridView) : Type 0 where
+  pub plain : IsPlainGrid h
+  pub size : grid_size h ≡ grid_size g
 
-sound-at : (g : GridView) (c : ℕ) (a : Attrs) (d : PrintedGrid) → printed g c a ≡ d → IsSound g d.grid
-    → IsSound g (printed g c a).grid
-sound-at g c a d e s = rw e s
-
-sound-printed : (g : GridView) (c : ℕ) (x : Extras) → IsPlainGrid g → IsScalar c → IsSound g (printed g c x.attrs).grid
+pub sound-printed : (g : GridView) (c : ℕ) (x : Extras) → IsPlainGrid g → IsScalar c → IsSound g (printed g c x.attrs).grid
 sound-printed g c x p scalar =
     let a = x.attrs in
     let n = columns_of c in
-    ⊎_elim
-    (λ (e : is_dropped g.width g.col c ≡ true).
-    sound-at g c a _ (printed-dropped g c a e) (record { plain = p; size = refl }))
-    (λ (e : is_dropped g.width g.col c ≡ false).
-    let drawn = IsDrawn-here g c n e refl in
-    ⊎_elim
-    (λ (h : 0 < n).
-    let visible = (or-false _ _ e).0 in
+    printed-either (IsSound g) g c a (λ _. record { plain = p; size = refl })
+    (λ e h. let drawn = IsDrawn-here g c n e refl in
     let s = (made_to_fit g n true).grid in
-    sound-at g c a (spaced g c a) (printed-spaced g c a e h)
-    (record {
-      plain = plain-put s (cell_of c a) a n (plain-made g x n p) (IsCell-of c a scalar visible h) refl
+    record {
+      plain = plain-put s (cell_of c a) a n (plain-made g x n p) (IsCell-of c a scalar (or-false _ _ e).0 h) refl
           (span_of-cell c n a refl h) (IsMade-made g n true drawn.fits).fits;
-      size = (aside-put g s (cell_of c a) a n (aside-made g n)).size;
-    }))
-    (λ (h : n ≤ 0).
-    let k : n ≡ 0 = omega (arith, h) in
-    sound-at g c a (joined g c a) (printed-joined g c a e k)
-    (record {
+      size = (aside-made g n).size;
+    })
+    (λ e k. let drawn = IsDrawn-here g c n e refl in
+    record {
       plain = plain-joined g c a p scalar (drawn.drawn ∙ ap Some k) (drawn.after k);
       size = (aside-joined g c a).size;
-    }))
-    (cases_lt 0 n))
-    (cases_Bool (is_dropped g.width g.col c))
+    })
 
 -- ---- the state
 

@@ -20,7 +20,7 @@ use Rattle.vt100_forms.specs.Length.{HasSmallNumbers}
 use Rattle.forms_read.specs.Events.{kept_number, sequence, bare, counted_events, set_event, reset_event, mode_events}
 use Rattle.forms_read.specs.Events.{sgr_events, events_of, events_of_all}
 use Rattle.forms_read.specs.Laws.{IsReadable}
-use Rattle.forms_read.proofs.ReadForms.{mouse-small, encoding-small, list-read}
+use Rattle.forms_read.proofs.ReadForms.{cond-two, mouse-small, encoding-small, list-read}
 use Rattle.terminal_model.proofs.FormTexts.{all-each}
 use Rattle.forms_read.specs.Calls.{set_call, reset_call, mode_calls, style_told, form_calls}
 use Rattle.forms_read.specs.CallLaws.{EachFormCalls, EachListCalls, EachSpellingCalls}
@@ -56,15 +56,11 @@ calls-counted : (last : Option ℕ) (k final : ℕ) (told : ℕ → Call)
     ≡ told (cond (nat_eq (kept_number k) 0) 1 (kept_number k)) ∷ []
     → calls_of_all last (counted_events k final) ≡ cond (k == 0) [] (told (kept_number k) ∷ [])
 calls-counted last k final told one many =
-    (elim (k == 0) as (λ b. (k == 0) ≡ b → calls_of_all last (cond b [] (cond (k == 1) (bare final ∷ [])
-    (sequence [] (k ∷ []) final ∷ []))) ≡ cond b [] (told (kept_number k) ∷ [])) [
-      | true ↦ λ _. refl
-      | false ↦ λ e.
-          cond_both (k == 1) (bare final ∷ []) (sequence [] (k ∷ []) final ∷ [])
-          (λ es. calls_of_all last es ≡ told (kept_number k) ∷ [])
-          (λ q. one ∙ ap (λ j. told (kept_number j) ∷ []) (sym (eqb-true k 1 q)))
-          (λ _. many ∙ ap (λ b. told (cond b 1 (kept_number k)) ∷ []) (kept-some k (nonzero k e)))
-    ]) refl
+    cond-two (λ es cs. calls_of_all last es ≡ cs) (k == 0) _ _ _ _ (λ _. refl)
+    (λ e. cond_both (k == 1) (bare final ∷ []) (sequence [] (k ∷ []) final ∷ [])
+    (λ es. calls_of_all last es ≡ told (kept_number k) ∷ [])
+    (λ q. one ∙ ap (λ j. told (kept_number j) ∷ []) (sym (eqb-true k 1 q)))
+    (λ _. many ∙ ap (λ b. told (cond b 1 (kept_number k)) ∷ []) (kept-some k (nonzero k e))))
 
 -- ---- modes
 
@@ -77,16 +73,9 @@ calls-reset last k h = let kept : kept_number k ≡ k = omega (arith, h) in ap (
 calls-mode : (last : Option ℕ) (to from : ℕ) → to < 2 ^ 16 → from < 2 ^ 16
     → calls_of_all last (mode_events to from) ≡ mode_calls to from
 calls-mode last to from h k =
-    elim (to == from) as (λ b. calls_of_all last (cond b [] (cond (to == 0) (reset_event from ∷ [])
-    (set_event to ∷ []))) ≡ cond b [] (cond (to == 0) (reset_call from ∷ []) (set_call to ∷ []))) [
-      | true ↦ refl
-      | false ↦
-          elim (to == 0) as (λ b. calls_of_all last (cond b (reset_event from ∷ []) (set_event to ∷ []))
-          ≡ cond b (reset_call from ∷ []) (set_call to ∷ [])) [
-            | true ↦ calls-reset last from k
-            | false ↦ calls-set last to h
-          ]
-    ]
+    cond-two (λ es cs. calls_of_all last es ≡ cs) (to == from) _ _ _ _ (λ _. refl)
+    (λ _. cond-two (λ es cs. calls_of_all last es ≡ cs) (to == 0) _ _ _ _ (λ _. calls-reset last from k)
+    (λ _. calls-set last to h))
 
 style-called : (last : Option ℕ) (s : CursorStyle)
     → calls_of_all last (sequence (0x20 ∷ []) (style_number s ∷ []) 0x71 ∷ [])
@@ -97,11 +86,8 @@ style-called last s = refl
 calls-Style : (last : Option ℕ) (to from : CursorStyle)
     → calls_of_all last (events_of (Style to from)) ≡ form_calls (Style to from)
 calls-Style last to from =
-    elim (style_number to == style_number from) as (λ b. calls_of_all last (cond b []
-    (sequence (0x20 ∷ []) (style_number to ∷ []) 0x71 ∷ [])) ≡ cond b [] (call.set_cursor_style (style_told to) ∷ [])) [
-      | true ↦ refl
-      | false ↦ style-called last to
-    ]
+    cond-two (λ es cs. calls_of_all last es ≡ cs) (style_number to == style_number from) _ _ _ _ (λ _. refl)
+    (λ _. style-called last to)
 
 -- ---- attributes
 
@@ -147,4 +133,5 @@ list-called last (f ∷ fs) h =
 
 pub spelling-called : EachSpellingCalls
 spelling-called k past last fs g h =
-    ap (calls_of_all last) (list-read k past fs g h).0 ∙ list-called last fs (all-each IsReadable HasSmallNumbers (λ f k. k.1) fs h)
+    ap (calls_of_all last) (list-read k past fs g h).0
+    ∙ list-called last fs (all-each IsReadable HasSmallNumbers (λ f k. k.1) fs h)

@@ -78,7 +78,8 @@ further-numeric (n ∷ ns) h = (
 )
 
 spelled-numeric : (n : ℕ) (ns : List ℕ) → n < 2 ^ 64 → AreSmall ns → AreNumeric (spelled n ns)
-spelled-numeric n ns h k = all-append (λ b. is_numeric b ≡ true) (decimal n) (further_numbers ns) (digits-numeric (decimal n) (digits-of n h))
+spelled-numeric n ns h k =
+    all-append (λ b. is_numeric b ≡ true) (decimal n) (further_numbers ns) (digits-numeric (decimal n) (digits-of n h))
     (further-numeric ns k)
 
 numeric-private : (b : ℕ) → is_numeric b ≡ true → is_private b ≡ false

@@ -115,12 +115,7 @@ read-style : (k : ℕ) (s : CursorStyle)
     → IsReadAs k (csi (decimal (style_number s) ++ codes " q")) (sequence (0x20 ∷ []) (style_number s ∷ []) 0x71 ∷ [])
 unfolding digits
 read-style k style.Default = read-header k (codes "0 ") 113 _ ((refl, (refl, tt)), refl) refl
-read-style k style.BlinkBlock = read-header k (codes "1 ") 113 _ ((refl, (refl, tt)), refl) refl
-read-style k style.SteadyBlock = read-header k (codes "2 ") 113 _ ((refl, (refl, tt)), refl) refl
-read-style k style.BlinkUnderline = read-header k (codes "3 ") 113 _ ((refl, (refl, tt)), refl) refl
-read-style k style.SteadyUnderline = read-header k (codes "4 ") 113 _ ((refl, (refl, tt)), refl) refl
-read-style k style.BlinkVerticalBar = read-header k (codes "5 ") 113 _ ((refl, (refl, tt)), refl) refl
-read-style k style.SteadyVerticalBar = read-header k (codes "6 ") 113 _ ((refl, (refl, tt)), refl) refl
+read-style k s = read-header k (decimal (style_number s) ++ codes " ") 113 _ ((refl, (refl, tt)), refl) refl
 
 -- ---- attributes
 

@@ -3,7 +3,7 @@ use Rattle.std.proofs.Common.{◌≡◌, ℕ, suc, pos, ◌+◌, ◌-◌, ◌^�
 use Rattle.std.proofs.Common.{List, [], ◌∷◌, ◌++◌, map, Option, None, Some, refl, sym, ap, ◌∙◌, arith}
 use Rattle.std.specs.Prelude.{Contains}
 use Rattle.std.specs.List.{AllByRecursion}
-use Rattle.std.proofs.lemmas.Bool.{false≢true, eqb-true, cond_both}
+use Rattle.std.proofs.lemmas.Bool.{false≢true, eqb-true, eq-eqb, cond_both}
 use Rattle.vte_types.specs.Call as call
 use Rattle.vte_types.specs.Call.{Call}
 use Rattle.vte_types.specs.declared.attr.Attr.{Attr}
@@ -32,10 +32,11 @@ use Rattle.forms_read.specs.Events.{kept_number}
 use Rattle.terminal_model.specs.FormText.{IsSentForm}
 use Rattle.forms_read.proofs.SentTexts.{forms-readable}
 use Rattle.forms_read.specs.Calls.{place_told, foreground_told, background_told, intensity_told, flag_told, change_told}
-use Rattle.forms_read.specs.Calls.{style_told, set_call, reset_call, form_calls, form_calls_all}
+use Rattle.forms_read.specs.Calls.{mode_calls, style_told, set_call, reset_call, form_calls, form_calls_all}
 use Rattle.forms_read.specs.Terminals.{stepped, ReadsAttributes, ReadsCalls, IsSmall, EachFormIsStepped}
 use Rattle.forms_read.specs.Terminals.{EachListIsStepped}
 use Rattle.forms_read.specs.Terminals.{EachSpellingIsStepped}
+use Rattle.forms_read.proofs.ReadForms.{cond-two}
 use Rattle.forms_read.proofs.Calling.{spelling-called}
 
 stepped-joined : (step : Size → Call → Term → Term) (z : Size) (xs ys : List Call) (t : Term)
@@ -81,23 +82,12 @@ module _ (f : Attr → Attrs → Attrs) (r : ReadsAttributes f) where
   intensity-read (Some Bold) = λ x. r.bold x
   intensity-read (Some Dim) = λ x. r.dim x
 
-  italic-read : (o : Option Bool)
-      → IsReadAs f (flag_told a.Italic a.CancelItalic o) (λ x. with_mode x (flag_set 4 o x.mode))
-  italic-read None = λ x. refl
-  italic-read (Some true) = λ x. r.italic x
-  italic-read (Some false) = λ x. r.upright x
-
-  underline-read : (o : Option Bool)
-      → IsReadAs f (flag_told a.Underline a.CancelUnderline o) (λ x. with_mode x (flag_set 8 o x.mode))
-  underline-read None = λ x. refl
-  underline-read (Some true) = λ x. r.underline x
-  underline-read (Some false) = λ x. r.no_line x
-
-  inverse-read : (o : Option Bool)
-      → IsReadAs f (flag_told a.Reverse a.CancelReverse o) (λ x. with_mode x (flag_set 16 o x.mode))
-  inverse-read None = λ x. refl
-  inverse-read (Some true) = λ x. r.inverse x
-  inverse-read (Some false) = λ x. r.positive x
+  flag-read : (on off : Attr) (bit : ℕ) → ((x : Attrs) → f on x ≡ with_mode x (flag_set bit (Some true) x.mode))
+      → ((x : Attrs) → f off x ≡ with_mode x (flag_set bit (Some false) x.mode)) → (o : Option Bool)
+      → IsReadAs f (flag_told on off o) (λ x. with_mode x (flag_set bit o x.mode))
+  flag-read on off bit h k None = λ x. refl
+  flag-read on off bit h k (Some true) = h
+  flag-read on off bit h k (Some false) = k
 
   change-read : (c : Change) → IsByteOption c.fgcolor → IsByteOption c.bgcolor
       → IsReadAs f (change_told c) (λ x. with_change c x)
@@ -108,10 +98,12 @@ module _ (f : Attr → Attrs → Attrs) (r : ReadsAttributes f) where
       let ul = flag_told a.Underline a.CancelUnderline c.underline in
       let one = read-both f fg bg _ _ (fore-read c.fgcolor hf) (back-read c.bgcolor hb) in
       let two = read-both f (fg ++ bg) (intensity_told c.intensity) _ _ one (intensity-read c.intensity) in
-      let three = read-both f (fg ++ bg ++ intensity_told c.intensity) it _ _ two (italic-read c.italic) in
-      let four = read-both f (fg ++ bg ++ intensity_told c.intensity ++ it) ul _ _ three (underline-read c.underline) in
+      let three = read-both f (fg ++ bg ++ intensity_told c.intensity) it _ _ two
+      (flag-read _ _ 4 r.italic r.upright c.italic) in
+      let four = read-both f (fg ++ bg ++ intensity_told c.intensity ++ it) ul _ _ three
+      (flag-read _ _ 8 r.underline r.no_line c.underline) in
       read-both f (fg ++ bg ++ intensity_told c.intensity ++ it ++ ul)
-      (flag_told a.Reverse a.CancelReverse c.inverse) _ _ four (inverse-read c.inverse)
+      (flag_told a.Reverse a.CancelReverse c.inverse) _ _ four (flag-read _ _ 16 r.inverse r.positive c.inverse)
 
 -- ---- modes
 
@@ -153,14 +145,10 @@ module _ (step : Size → Call → Term → Term) (f : Attr → Attrs → Attrs)
   step-MoveRight : (k : ℕ) (t : Term) → stepped step z (form_calls (MoveRight k)) t ≡ apply z (MoveRight k) t
   unfolding apply
   step-MoveRight k t =
-      elim (k == 0) as (λ b. stepped step z (cond b [] (call.move_forward (kept_number k) ∷ [])) t
-      ≡ cond b t (record t { col = min (t.col + k) (z.cols - 1) })) [
-        | true ↦ refl
-        | false ↦
-            let col : min (t.col + kept_number k) (z.cols - 1) ≡ min (t.col + k) (z.cols - 1) =
-            omega (arith, small.1) in
-            s.forward (kept_number k) t ∙ (λ i. record t { col = col i })
-      ]
+      cond-two (λ cs u. stepped step z cs t ≡ u) (k == 0) [] (call.move_forward (kept_number k) ∷ []) t
+      (record t { col = min (t.col + k) (z.cols - 1) }) (λ _. refl)
+      (λ _. let col : min (t.col + kept_number k) (z.cols - 1) ≡ min (t.col + k) (z.cols - 1) = omega (arith, small.1) in
+      s.forward (kept_number k) t ∙ (λ i. record t { col = col i }))
 
   step-EraseChar : (k : ℕ) (t : Term) → stepped step z (form_calls (EraseChar k)) t ≡ apply z (EraseChar k) t
   unfolding apply
@@ -180,82 +168,54 @@ module _ (step : Size → Call → Term → Term) (f : Attr → Attrs → Attrs)
       let at : step z (call.goto (pos 0) 0) t ≡ home = s.goto 0 0 t ∙ (λ k. record t { row = row k; col = col k }) in
       ap (step z _) at ∙ s.clear_screen home (IsTerm-moved z t 0 0 h h.some_row (omega arith)) refl refl
 
+  -- a mode of a terminal, where `with` is the terminal with each of them: it is set, or reset
+  step-mode : {A : Type 0} (number : A → ℕ) (none to from now : A) (with : A → Term) → number none ≡ 0
+      → ((m : A) → (number m == 0) ≡ true → m ≡ none)
+      → ((from ≡ none → ⊥) → step z (reset_call (number from)) (with now) ≡ with (switched number none from now))
+      → ((to ≡ none → ⊥) → step z (set_call (number to)) (with now) ≡ with to)
+      → stepped step z (mode_calls (number to) (number from)) (with now) ≡ with (switched number to from now)
+  step-mode number none to from now with is_zero zero resets sets =
+      (elim (number to == number from) as (λ b. (number to == number from) ≡ b
+      → stepped step z (cond b [] (cond (number to == 0) (reset_call (number from) ∷ []) (set_call (number to) ∷ [])))
+      (with now) ≡ with (cond b now (cond ((number to == 0) && not (number now == number from)) now to))) [
+        | true ↦ λ _. refl
+        | false ↦ λ e.
+            (elim (number to == 0) as (λ b. (number to == 0) ≡ b
+            → stepped step z (cond b (reset_call (number from) ∷ []) (set_call (number to) ∷ [])) (with now)
+            ≡ with (cond (b && not (number now == number from)) now to)) [
+              | true ↦ λ q.
+                  let is = sym (zero to q) in
+                  let other = ap (λ m. number m == number from) is ∙ e in
+                  let none_is = ap (λ m. number m == 0) is ∙ q in
+                  resets (λ w. false≢true (sym other ∙ eq-eqb (number none) (number from) (ap number (sym w))))
+                  ∙ ap (λ b. with (cond b now (cond ((number none == 0) && not (number now == number from)) now none))) other
+                  ∙ ap (λ b. with (cond (b && not (number now == number from)) now none)) none_is
+                  ∙ ap (λ m. with (cond (not (number now == number from)) now m)) is
+              | false ↦ λ q. sets (λ w. false≢true (sym q ∙ eq-eqb (number to) 0 (ap number w ∙ is_zero)))
+            ]) refl
+      ]) refl
+
   step-Mouse : (to from : MouseProtocolMode) (t : Term)
       → stepped step z (form_calls (Mouse to from)) t ≡ apply z (Mouse to from) t
   unfolding apply
   step-Mouse to from t =
-      let now = t.modes.mouse in
-      let u = record t { modes = record (t.modes) { mouse = switched mouse_number to from now } } in
-      cond_both (mouse_number to == mouse_number from) []
-      (cond (mouse_number to == 0) (reset_call (mouse_number from) ∷ []) (set_call (mouse_number to) ∷ []))
-      (λ cs. stepped step z cs t ≡ u)
-      (λ e. λ i. record t {
-        modes = record (t.modes) {
-          mouse = cond (sym e i) now
-              (cond ((mouse_number to == 0) && not (mouse_number now == mouse_number from)) now to);
-        };
-      })
-      (λ e. cond_both (mouse_number to == 0) (reset_call (mouse_number from) ∷ []) (set_call (mouse_number to) ∷ [])
-      (λ cs. stepped step z cs t ≡ u)
-      (λ q. let is = mouse-zero to q in
-      s.mouse_reset from t (λ w. false≢true (sym e ∙ (λ i. mouse_number (is i) == mouse_number (w i))))
-      ∙ ap (λ m. record t { modes = record (t.modes) { mouse = switched mouse_number m from now } }) (sym is))
-      (λ q. s.mouse_set to t (λ w. false≢true (sym q ∙ ap (λ m. mouse_number m == 0) w))
-      ∙ sym (ap (λ b. record t {
-        modes = record (t.modes) {
-          mouse = cond b now (cond ((mouse_number to == 0) && not (mouse_number now == mouse_number from)) now to);
-        };
-      }) e
-      ∙ ap (λ b. record t {
-        modes = record (t.modes) {
-          mouse = cond (b && not (mouse_number now == mouse_number from)) now to;
-        };
-      }) q)))
+      step-mode mouse_number mouse.None to from t.modes.mouse (λ m. record t { modes = record (t.modes) { mouse = m } })
+      refl mouse-zero (s.mouse_reset from t) (s.mouse_set to t)
 
   step-Encoding : (to from : MouseProtocolEncoding) (t : Term)
       → stepped step z (form_calls (Encoding to from)) t ≡ apply z (Encoding to from) t
   unfolding apply
   step-Encoding to from t =
-      let now = t.modes.encoding in
-      let u = record t { modes = record (t.modes) { encoding = switched encoding_number to from now } } in
-      cond_both (encoding_number to == encoding_number from) []
-      (cond (encoding_number to == 0) (reset_call (encoding_number from) ∷ []) (set_call (encoding_number to) ∷ []))
-      (λ cs. stepped step z cs t ≡ u)
-      (λ e. λ i. record t {
-        modes = record (t.modes) {
-          encoding = cond (sym e i) now
-              (cond ((encoding_number to == 0) && not (encoding_number now == encoding_number from)) now to);
-        };
-      })
-      (λ e. cond_both (encoding_number to == 0) (reset_call (encoding_number from) ∷ [])
-      (set_call (encoding_number to) ∷ [])
-      (λ cs. stepped step z cs t ≡ u)
-      (λ q. let is = encoding-zero to q in
-      s.encoding_reset from t (λ w. false≢true (sym e ∙ (λ i. encoding_number (is i) == encoding_number (w i))))
-      ∙ ap (λ m. record t { modes = record (t.modes) { encoding = switched encoding_number m from now } }) (sym is))
-      (λ q. s.encoding_set to t (λ w. false≢true (sym q ∙ ap (λ m. encoding_number m == 0) w))
-      ∙ sym (ap (λ b. record t {
-        modes = record (t.modes) {
-          encoding = cond b now
-              (cond ((encoding_number to == 0) && not (encoding_number now == encoding_number from)) now to);
-        };
-      }) e
-      ∙ ap (λ b. record t {
-        modes = record (t.modes) {
-          encoding = cond (b && not (encoding_number now == encoding_number from)) now to;
-        };
-      }) q)))
+      step-mode encoding_number encoding.Default to from t.modes.encoding
+      (λ m. record t { modes = record (t.modes) { encoding = m } }) refl encoding-zero (s.encoding_reset from t)
+      (s.encoding_set to t)
 
   step-Style : (to from : CursorStyle) (t : Term)
       → stepped step z (form_calls (Style to from)) t ≡ apply z (Style to from) t
   unfolding apply
   step-Style to from t =
-      elim (style_number to == style_number from) as (λ b.
-      stepped step z (cond b [] (call.set_cursor_style (style_told to) ∷ [])) t
-      ≡ record t { style = cond b t.style to }) [
-        | true ↦ refl
-        | false ↦ s.style to t
-      ]
+      cond-two (λ cs m. stepped step z cs t ≡ record t { style = m }) (style_number to == style_number from) []
+      (call.set_cursor_style (style_told to) ∷ []) t.style to (λ _. refl) (λ _. s.style to t)
 
   form-stepped : (x : Form) (t : Term) → IsTerm z t → IsSentForm x → stepped step z (form_calls x) t ≡ apply z x t
   unfolding apply

@@ -143,7 +143,8 @@ spec-told false r g b hr hg hb gs = values-told Background r g b gs hr hg hb
 
 -- ---- the parts of a change
 
-default-told : (fore : Bool) → IsToldBy (color_numbers (first fore) Default) (asked fore (colour_told (own fore) Default) ∷ [])
+default-told : (fore : Bool)
+    → IsToldBy (color_numbers (first fore) Default) (asked fore (colour_told (own fore) Default) ∷ [])
 default-told true gs = refl
 default-told false gs = refl
 

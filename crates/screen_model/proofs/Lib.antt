@@ -4,6 +4,7 @@ pub mod ProperSheets
 pub mod UnscrolledSheets
 pub mod UnscrolledSizes
 pub mod UnscrolledTexts
+pub mod Tables
 pub mod ProperLemmas
 pub mod StateLemmas
 pub mod UnscrolledStates

@@ -10,7 +10,7 @@ use Rattle.vt100_rows.specs.Row.{RowView, IsRow}
 use Rattle.vt100_rows.proofs.RowLemmas.{IsRow-blank}
 use Rattle.vt100_rows.specs.Sheet.{row_at}
 use Rattle.vt100_rows.proofs.SheetLemmas.{row_at_past}
-use Rattle.vt100_core.specs.Grid.{GridView, visible_at}
+use Rattle.vt100_core.specs.Grid.{GridView, IsGrid, visible_at}
 use Rattle.vt100_core.specs.Resize.{resized}
 use Rattle.vt100_core.specs.Scroll.{Scrolled}
 use Rattle.screen_model.specs.State.{State, main_sheet, alternate_sheet, fresh_state}
@@ -21,7 +21,7 @@ use Rattle.screen_model.specs.Holds.{IsAct, AreActs, last_rows, last_cols, Makes
 use Rattle.screen_model.specs.Holds.{MakesCapacity, MakesNoOffset, MakesCells, MakesProperCells, MakesByteColours}
 use Rattle.screen_model.specs.Holds.{KeepsAtSameSize}
 use Rattle.screen_model.proofs.RowTraits.{IsKnown, IsClean, IsCleanRow, sound, clean-row, clean-cell}
-use Rattle.screen_model.proofs.UnscrolledSheets.{Limits, IsUnscrolledSheet}
+use Rattle.screen_model.proofs.SheetTraits.{IsCleanSheet}
 use Rattle.screen_model.proofs.UnscrolledSizes.{resized-same}
 use Rattle.screen_model.proofs.UnscrolledStates.{Bounds, IsUnscrolledState, is-state, well-fresh, well-resized, main-fine}
 use Rattle.screen_model.proofs.ScalarEvents.{IsTold, added-told}
@@ -68,10 +68,10 @@ pub makes-last_size : MakesLastSize
 makes-last_size rows cols capacity acts h =
     let w = made-well rows cols capacity acts h in
     record {
-      height = w.shown.fine.height;
-      width = w.shown.fine.width;
-      other_height = w.other.height;
-      other_width = w.other.width;
+      height = w.shown.fine.limits.height;
+      width = w.shown.fine.limits.width;
+      other_height = w.other.limits.height;
+      other_width = w.other.limits.width;
     }
 
 pub makes-capacity : MakesCapacity
@@ -82,7 +82,7 @@ makes-capacity rows cols capacity acts h =
 pub makes-no_offset : MakesNoOffset
 makes-no_offset rows cols capacity acts h =
     let w = made-well rows cols capacity acts h in
-    record { shown = w.shown.fine.hidden; other = w.other.hidden }
+    record { shown = w.shown.fine.limits.hidden; other = w.other.limits.hidden }
 
 -- ---- cells that are shown
 
@@ -92,15 +92,15 @@ rows-are rows h r =
     (λ (l : length rows ≤ r). subst IsRow (sym (row_at_past rows r l)) (IsRow-blank 0 (omega arith)))
     (cases_lt r (length rows))
 
-shown-row : (l : Limits) (g : GridView) → IsUnscrolledSheet l g → (r : ℕ)
+shown-row : (g : GridView) → IsGrid g → IsCleanSheet sound g → (r : ℕ)
     → IsRow (visible_at g r) × IsCleanRow sound (visible_at g r)
-shown-row l g d r =
+shown-row g i d r =
     let kept = length g.kept.rows - g.kept.offset + r in
     let drawn = r - g.kept.offset in
     cond_both (nat_lt r g.kept.offset) (row_at g.kept.rows kept) (row_at g.rows drawn)
     (λ v. IsRow v × IsCleanRow sound v)
-    (λ _. (rows-are g.kept.rows d.grid.kept.each kept, clean-row sound g.kept.rows d.kept kept))
-    (λ _. (rows-are g.rows (λ k h. (d.grid.sheet.each k h).row) drawn, clean-row sound g.rows d.rows drawn))
+    (λ _. (rows-are g.kept.rows i.kept.each kept, clean-row sound g.kept.rows d.kept kept))
+    (λ _. (rows-are g.rows (λ k h. (i.sheet.each k h).row) drawn, clean-row sound g.rows d.drawn drawn))
 
 known : (x : CellView) → IsClean sound x → Contains x.text 0xFFFD → ⊥
 known x h c = All-contains IsKnown x.text 0xFFFD h.text c refl
@@ -109,19 +109,19 @@ pub makes-cells : MakesCells
 makes-cells rows cols capacity acts h r c =
     let s = made rows cols capacity acts in
     let w = made-well rows cols capacity acts h in
-    let row = shown-row _ s.shown w.shown.fine r in
+    let row = shown-row s.shown w.shown.fine.grid w.clean r in
     (row.0.cells c, known (cell_at (visible_at s.shown r).cells c) (clean-cell sound (visible_at s.shown r) row.1 c))
 
 pub makes-proper_cells : MakesProperCells
 makes-proper_cells rows cols capacity acts h r c =
     let s = made rows cols capacity acts in
     let w = made-well rows cols capacity acts h in
-    (clean-cell sound (visible_at s.shown r) (shown-row _ s.shown w.shown.fine r).1 c).attrs
+    (clean-cell sound (visible_at s.shown r) (shown-row s.shown w.shown.fine.grid w.clean r).1 c).attrs
 
 pub makes-byte_colours : MakesByteColours
 makes-byte_colours rows cols capacity acts h =
     let w = made-well rows cols capacity acts h in
-    record { cells = λ r c. (makes-proper_cells rows cols capacity acts h r c).colors; drawn = w.attrs.colors }
+    record { cells = λ r c. (makes-proper_cells rows cols capacity acts h r c).colors; drawn = w.drawn.attrs.colors }
 
 -- ---- the same size
 

@@ -2,32 +2,24 @@
 use Rattle.std.proofs.Common.{◌≡◌, ℕ, ◌-◌, ◌^◌, ◌<◌, ◌≤◌, Bool, true, false, ◌&&◌, List, [], ◌∷◌, Option, Some, None}
 use Rattle.std.proofs.Common.{refl, arith, nat_eq, nat_lt, if◌then◌else◌}
 use Rattle.std.specs.Int.{is_in_range}
+use Rattle.std.proofs.lemmas.Bool.{cond_both, ltb-true, and_parts}
 use Rattle.std.proofs.lemmas.Bool.Decides.{nat_tests}
 use Rattle.vt100_forms.specs.Attrs.{IsByteColor, IsProper}
 use Rattle.vt100_forms.specs.declared.attrs.Attrs.{Attrs}
 use Rattle.vt100_forms.specs.declared.attrs.Color.{Color}
 use Rattle.vt100_forms.specs.declared.attrs.Color.TheVariants.{Default, Idx, Rgb}
 use Rattle.vt100_forms.proofs.AttrsLemmas.{default-proper, setters_keep_proper}
-use Rattle.screen_model.specs.Lookup.{lookup}
 use Rattle.screen_model.specs.Sgr.{coloured, flag_rows, code_row, target_of, Awaits, nothing, kind, index, red, green}
 use Rattle.screen_model.specs.Sgr.{blue}
 use Rattle.screen_model.specs.Sgr.{Next, goes_on, passed_over, ends, ends_unhandled, rgb_next, index_next, colour_next}
 use Rattle.screen_model.specs.Sgr.{target_next, code_next, single_next, first_next, kind_next, value_next, next, Read}
 use Rattle.screen_model.specs.Sgr.{read_on, read_groups, sgr_read}
+use Rattle.screen_model.proofs.Tables.{Each, ◌&◌, Where, looked-up}
 
 -- ---- the rows of the tables
 
 abbrev Keeps : (Attrs → Attrs) → Type 0
 Keeps f = (a : Attrs) → IsProper a → IsProper (f a)
-
--- each row of a table, and one that was looked up
-abbrev Each : List (ℕ × (Attrs → Attrs)) → Type 0
-Each [] = Unit {0}
-Each (r ∷ rs) = Keeps r.1 × Each rs
-
-abbrev RowKeeps : Option (Attrs → Attrs) → Type 0
-RowKeeps None = Unit {0}
-RowKeeps (Some f) = Keeps f
 
 -- a colour in groups of its own waits for its next value, after these
 abbrev AreBytes : Awaits → Type 0
@@ -48,57 +40,18 @@ coloured-proper : (t : Bool) (x : Color) (a : Attrs) → IsByteColor x → IsPro
 coloured-proper true x a k h = record { small = h.small; one = h.one; colors = (k, h.colors.1) }
 coloured-proper false x a k h = record { small = h.small; one = h.one; colors = (h.colors.0, k) }
 
-row-cond : (b : Bool) (o p : Option (Attrs → Attrs)) → (b ≡ true → RowKeeps o) → RowKeeps p
-    → RowKeeps (if b then o else p)
-row-cond true o p h k = h refl
-row-cond false o p h k = k
-
 next-cond : (b : Bool) (x y : Next) → (b ≡ true → NextIs x) → NextIs y → NextIs (if b then x else y)
 next-cond true x y h k = h refl
 next-cond false x y h k = k
 
-lookup-keeps : (n : ℕ) (rows : List (ℕ × (Attrs → Attrs))) → Each rows → RowKeeps (lookup n rows)
-lookup-keeps n [] h = tt
-lookup-keeps n (r ∷ rs) h = row-cond (nat_eq n r.0) (Some r.1) (lookup n rs) (λ _. h.0) (lookup-keeps n rs h.1)
-
-flags-keep : Each flag_rows
-flags-keep = (
-  λ a h. default-proper,
-  (
-    λ a h. (setters_keep_proper a h).bold,
-    (
-      λ a h. (setters_keep_proper a h).dim,
-      (
-        λ a h. (setters_keep_proper a h).italic true,
-        (
-          λ a h. (setters_keep_proper a h).underline true,
-          (
-            λ a h. (setters_keep_proper a h).inverse true,
-            (
-              λ a h. (setters_keep_proper a h).normal,
-              (
-                λ a h. (setters_keep_proper a h).italic false,
-                (
-                  λ a h. (setters_keep_proper a h).underline false,
-                  (
-                    λ a h. (setters_keep_proper a h).inverse false,
-                    (
-                      λ a. coloured-proper true Default a tt,
-                      (
-                        λ a. coloured-proper false Default a tt,
-                        tt,
-                      ),
-                    ),
-                  ),
-                ),
-              ),
-            ),
-          ),
-        ),
-      ),
-    ),
-  ),
-)
+flags-keep : Each Keeps flag_rows
+flags-keep =
+    (λ a h. default-proper) & (λ a h. (setters_keep_proper a h).bold) & (λ a h. (setters_keep_proper a h).dim)
+    & (λ a h. (setters_keep_proper a h).italic true) & (λ a h. (setters_keep_proper a h).underline true)
+    & (λ a h. (setters_keep_proper a h).inverse true) & (λ a h. (setters_keep_proper a h).normal)
+    & (λ a h. (setters_keep_proper a h).italic false) & (λ a h. (setters_keep_proper a h).underline false)
+    & (λ a h. (setters_keep_proper a h).inverse false) & (λ a. coloured-proper true Default a tt)
+    & (λ a. coloured-proper false Default a tt) & tt
 
 within : (low high n : ℕ) → is_in_range low high n ≡ true → n ≤ high
 within low high n h = grind (arith, nat_tests)
@@ -108,48 +61,34 @@ indexed-keeps : (t : Bool) (low high less n : ℕ) → high < 2 ^ 8 → is_in_ra
 indexed-keeps t low high less n l h a k =
     coloured-proper t (Idx (n - less)) a (omega (arith, l, within low high n h)) k
 
-code-keeps : (n : ℕ) → RowKeeps (code_row n)
+code-keeps : (n : ℕ) → Where Keeps (code_row n)
 code-keeps n =
-    row-cond (is_in_range 30 37 n) (Some (coloured true (Idx (n - 30)))) _
-    (indexed-keeps true 30 37 30 n (omega arith))
-    (row-cond (is_in_range 40 47 n) (Some (coloured false (Idx (n - 40)))) _
-    (indexed-keeps false 40 47 40 n (omega arith))
-    (row-cond (is_in_range 90 97 n) (Some (coloured true (Idx (n - 82)))) _
-    (indexed-keeps true 90 97 82 n (omega arith))
-    (row-cond (is_in_range 100 107 n) (Some (coloured false (Idx (n - 92)))) _
-    (indexed-keeps false 100 107 92 n (omega arith))
-    (lookup-keeps n flag_rows flags-keep))))
+    cond_both (is_in_range 30 37 n) _ _ (λ o. Where Keeps o) (indexed-keeps true 30 37 30 n (omega arith))
+    (λ _. cond_both (is_in_range 40 47 n) _ _ (λ o. Where Keeps o) (indexed-keeps false 40 47 40 n (omega arith))
+    (λ _. cond_both (is_in_range 90 97 n) _ _ (λ o. Where Keeps o) (indexed-keeps true 90 97 82 n (omega arith))
+    (λ _. cond_both (is_in_range 100 107 n) _ _ (λ o. Where Keeps o) (indexed-keeps false 100 107 92 n (omega arith))
+    (λ _. looked-up Keeps n flag_rows flags-keep))))
 
 -- ---- groups
 
-below : (n : ℕ) → nat_lt n 256 ≡ true → n < 2 ^ 8
-below n h = grind (arith, nat_tests)
-
-both : (x y : Bool) → (x && y) ≡ true → (x ≡ true) × (y ≡ true)
-both true y h = (refl, h)
-both false y h = absurd (let no : false ≡ true = h in cc)
-
 colour_next-proper : (t : Bool) (ns : List ℕ) (a : Attrs) → IsProper a → NextIs (colour_next t ns a)
-colour_next-proper t [] a h = tt
-colour_next-proper t (m ∷ []) a h = tt
 colour_next-proper t (m ∷ i ∷ []) a h =
     next-cond (nat_eq m 5) (index_next t i a) passed_over
     (λ _. next-cond (nat_lt i 256) (goes_on nothing (coloured t (Idx i) a)) ends
-    (λ e. (tt, coloured-proper t (Idx i) a (below i e) h)) tt) tt
-colour_next-proper t (m ∷ r ∷ g ∷ []) a h = tt
+    (λ e. (tt, coloured-proper t (Idx i) a (ltb-true i 256 e) h)) tt) tt
 colour_next-proper t (m ∷ r ∷ g ∷ b ∷ []) a h =
     next-cond (nat_eq m 2) (rgb_next t r g b a) passed_over
     (λ _. next-cond (nat_lt r 256 && (nat_lt g 256 && nat_lt b 256)) (goes_on nothing (coloured t (Rgb r g b) a)) ends
-    (λ e. let p = both (nat_lt r 256) (nat_lt g 256 && nat_lt b 256) e in
-    let q = both (nat_lt g 256) (nat_lt b 256) p.1 in
-    (tt, coloured-proper t (Rgb r g b) a (below r p.0, below g q.0, below b q.1) h)) tt) tt
-colour_next-proper t (m ∷ r ∷ g ∷ b ∷ n ∷ ns) a h = tt
+    (λ e. let p = and_parts (nat_lt r 256) (nat_lt g 256 && nat_lt b 256) e in
+    let q = and_parts (nat_lt g 256) (nat_lt b 256) p.1 in
+    (tt, coloured-proper t (Rgb r g b) a (ltb-true r 256 p.0, ltb-true g 256 q.0, ltb-true b 256 q.1) h)) tt) tt
+colour_next-proper t ns a h = tt
 
 target_next-proper : (o : Option Bool) (ns : List ℕ) (a : Attrs) → IsProper a → NextIs (target_next o ns a)
 target_next-proper None ns a h = tt
 target_next-proper (Some t) ns a h = colour_next-proper t ns a h
 
-code_next-proper : (o : Option (Attrs → Attrs)) → RowKeeps o → (a : Attrs) → IsProper a → NextIs (code_next o a)
+code_next-proper : (o : Option (Attrs → Attrs)) → Where Keeps o → (a : Attrs) → IsProper a → NextIs (code_next o a)
 code_next-proper None k a h = tt
 code_next-proper (Some f) k a h = (tt, k a h)
 
@@ -163,16 +102,14 @@ first_next-proper (n ∷ []) a h = single_next-proper (target_of n) n a h
 first_next-proper (n ∷ m ∷ ns) a h = target_next-proper (target_of n) (m ∷ ns) a h
 
 kind_next-proper : (t : Bool) (g : List ℕ) (a : Attrs) → IsProper a → NextIs (kind_next t g a)
-kind_next-proper t [] a h = tt
 kind_next-proper t (n ∷ []) a h =
     next-cond (nat_eq n 2) (goes_on (red t) a) (if nat_eq n 5 then goes_on (index t) a else ends_unhandled)
     (λ _. (tt, h)) (next-cond (nat_eq n 5) (goes_on (index t) a) ends_unhandled (λ _. (tt, h)) tt)
-kind_next-proper t (n ∷ m ∷ ns) a h = tt
+kind_next-proper t ns a h = tt
 
 value_next-proper : (f : ℕ → Next) → ((n : ℕ) → n < 2 ^ 8 → NextIs (f n)) → (g : List ℕ) → NextIs (value_next f g)
-value_next-proper f k [] = tt
-value_next-proper f k (n ∷ []) = next-cond (nat_lt n 256) (f n) ends (λ e. k n (below n e)) tt
-value_next-proper f k (n ∷ m ∷ ns) = tt
+value_next-proper f k (n ∷ []) = next-cond (nat_lt n 256) (f n) ends (λ e. k n (ltb-true n 256 e)) tt
+value_next-proper f k ns = tt
 
 next-proper : (w : Awaits) (g : List ℕ) (a : Attrs) → AreBytes w → IsProper a → NextIs (next w g a)
 next-proper nothing g a v h = first_next-proper g a h

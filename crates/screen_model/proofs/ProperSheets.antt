@@ -7,24 +7,23 @@ use Rattle.vt100_cells.specs.Cell.{default_cell}
 use Rattle.vt100_cells.specs.Cells.{cell_at}
 use Rattle.vt100_rows.specs.Row.{RowView, blank_row}
 use Rattle.vt100_rows.specs.Sheet.{row_at}
-use Rattle.vt100_core.specs.Grid.{GridView, new_grid, allocated, cleared}
+use Rattle.vt100_core.specs.Grid.{GridView, new_grid, allocated}
 use Rattle.vt100_core.specs.declared.scrollback.Scrollback.{Scrollback}
-use Rattle.vt100_core.specs.Cursor.{with_region}
 use Rattle.vt100_core.specs.Erase.{all_erased, all_erased_forward, all_erased_backward, row_erased, columns_erased}
 use Rattle.vt100_core.specs.Erase.{cells_inserted, cells_deleted}
 use Rattle.vt100_core.specs.Lines.{lines_inserted, lines_deleted, scrolled_down, fed_up}
-use Rattle.vt100_core.specs.Scroll.{scrolled_up, fed, scrollback_erased, scrollback_shown}
+use Rattle.vt100_core.specs.Scroll.{scrolled_up, fed, scrollback_shown}
 use Rattle.vt100_core.specs.Resize.{resized}
 use Rattle.vt100_core.specs.Text.{printed, printed_all}
 use Rattle.screen_model.specs.State.{IsProperSheet}
-use Rattle.screen_model.proofs.RowTraits.{IsClean, IsCleanRow, proper, clean-cell, clean-row}
-use Rattle.screen_model.proofs.SheetTraits.{IsCleanSheet, sheet-all_erased, sheet-all_erased_forward}
+use Rattle.screen_model.proofs.RowTraits.{IsClean, IsCleanRow, proper}
+use Rattle.screen_model.proofs.SheetTraits.{IsCleanSheet, sheet-proper, sheet-all_erased, sheet-all_erased_forward}
 use Rattle.screen_model.proofs.SheetTraits.{sheet-all_erased_backward, sheet-row_erased, sheet-columns_erased}
 use Rattle.screen_model.proofs.SheetTraits.{sheet-cells_inserted, sheet-cells_deleted, sheet-lines_inserted}
-use Rattle.screen_model.proofs.SheetTraits.{sheet-lines_deleted, sheet-scrolled_down, sheet-fed_up, sheet-region}
+use Rattle.screen_model.proofs.SheetTraits.{sheet-lines_deleted, sheet-scrolled_down, sheet-fed_up}
 use Rattle.screen_model.proofs.SheetTraits.{sheet-scrolled_up, sheet-fed, sheet-scrollback_shown}
-use Rattle.screen_model.proofs.SheetTraits.{sheet-scrollback_erased, sheet-printed, sheet-new, sheet-allocated}
-use Rattle.screen_model.proofs.SheetTraits.{sheet-cleared, sheet-resized}
+use Rattle.screen_model.proofs.SheetTraits.{sheet-printed, sheet-new, sheet-allocated}
+use Rattle.screen_model.proofs.SheetTraits.{sheet-resized}
 
 -- ---- by positions, and for all rows
 
@@ -38,14 +37,8 @@ rows-clean rows h = All-from_get_or (IsCleanRow proper) rows (blank_row 0) (λ r
 sheet-clean : (g : GridView) → IsProperSheet g → IsCleanSheet proper g
 sheet-clean g h = record { drawn = rows-clean g.rows h.drawn; kept = rows-clean g.kept.rows h.kept }
 
-sheet-proper : (g : GridView) → IsCleanSheet proper g → IsProperSheet g
-sheet-proper g d = record {
-  drawn = λ r k. (clean-cell proper (row_at g.rows r) (clean-row proper g.rows d.drawn r) k).attrs;
-  kept = λ r k. (clean-cell proper (row_at g.kept.rows r) (clean-row proper g.kept.rows d.kept r) k).attrs;
-}
-
 stays : (g h : GridView) → (IsCleanSheet proper g → IsCleanSheet proper h) → IsProperSheet g → IsProperSheet h
-stays g h f d = sheet-proper h (f (sheet-clean g d))
+stays g h f d = sheet-proper proper (λ a p. p) h (f (sheet-clean g d))
 
 -- ---- erasing, and cells and lines that come in and go
 
@@ -85,9 +78,6 @@ proper_scrolled_down g n = stays g (scrolled_down g n) (sheet-scrolled_down prop
 pub proper_fed_up : (g : GridView) (n : ℕ) → IsProperSheet g → IsProperSheet (fed_up g n)
 proper_fed_up g n = stays g (fed_up g n) (sheet-fed_up proper g n)
 
-pub proper_region : (g : GridView) (top bottom : ℕ) → IsProperSheet g → IsProperSheet (with_region g top bottom)
-proper_region g top bottom = stays g (with_region g top bottom) (sheet-region proper g top bottom)
-
 -- ---- scrolling, and printing
 
 pub proper_scrolled_up : (g : GridView) (n : ℕ) → IsProperSheet g → IsProperSheet (scrolled_up g n).grid
@@ -98,9 +88,6 @@ proper_fed g n = stays g (fed g n).grid (sheet-fed proper g n)
 
 pub proper_scrollback_shown : (g : GridView) (n : ℕ) → IsProperSheet g → IsProperSheet (scrollback_shown g n)
 proper_scrollback_shown g n = stays g (scrollback_shown g n) (sheet-scrollback_shown proper g n)
-
-pub proper_scrollback_erased : (g : GridView) → IsProperSheet g → IsProperSheet (scrollback_erased g)
-proper_scrollback_erased g = stays g (scrollback_erased g) (sheet-scrollback_erased proper g)
 
 pub proper_printed : (g : GridView) (c : ℕ) (a : Attrs) → IsProper a → IsProperSheet g
     → IsProperSheet (printed g c a).grid
@@ -114,13 +101,10 @@ proper_printed_all g (c ∷ cs) a p d = proper_printed_all (printed g c a).grid 
 -- ---- whole sheets
 
 pub proper_new : (height width : ℕ) (s : Scrollback) → IsProperSheet (new_grid height width s)
-proper_new height width s = sheet-proper (new_grid height width s) (sheet-new proper height width s)
+proper_new height width s = sheet-proper proper (λ a p. p) (new_grid height width s) (sheet-new proper height width s)
 
 pub proper_allocated : (g : GridView) → IsProperSheet g → IsProperSheet (allocated g)
 proper_allocated g = stays g (allocated g) (sheet-allocated proper g)
-
-pub proper_cleared : (g : GridView) → IsProperSheet g → IsProperSheet (cleared g)
-proper_cleared g = stays g (cleared g) (sheet-cleared proper g)
 
 pub proper_resized : (g : GridView) (height width : ℕ) → IsProperSheet g → IsProperSheet (resized g height width).grid
 proper_resized g height width = stays g (resized g height width).grid (sheet-resized proper g height width)

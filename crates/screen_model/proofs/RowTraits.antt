@@ -1,6 +1,6 @@
 -- What is true of each character and of the attributes that are drawn with stays true of the cells of a row, whatever
 -- edits it. So no edit puts U+FFFD into a row, where none was put in.
-use Rattle.std.proofs.Common.{◌≡◌, ℕ, ◌+◌, ◌-◌, ◌<◌, ◌≤◌, ◌==◌, Bool, cond, not, List, [], ◌∷◌}
+use Rattle.std.proofs.Common.{◌≡◌, ℕ, ◌+◌, ◌-◌, ◌<◌, ◌≤◌, Bool, cond, List, [], ◌∷◌}
 use Rattle.std.proofs.Common.{length, min, arith, sym, subst, nat_lt, All}
 use Rattle.std.proofs.Common.{⊎_elim}
 use Rattle.std.specs.List.{range_with_len}
@@ -14,7 +14,7 @@ use Rattle.vt100_cells.specs.Cells.{cell_at, by_position, trimmed_len}
 use Rattle.vt100_cells.specs.Line.{update, put, base_col, wiped, cut, opened, closed, extended}
 use Rattle.vt100_cells.proofs.ListLemmas.{cell_at_past}
 use Rattle.vt100_rows.specs.Row.{RowView, blank_row, cleared_row, with_wrap, unwrapped, placed, wiped_row, joined_cell}
-use Rattle.vt100_rows.specs.Row.{is_widening, joined_row, join_row, inserted, removed, truncated, grown, resized_row}
+use Rattle.vt100_rows.specs.Row.{joined_row, inserted, removed, truncated, grown, resized_row}
 use Rattle.vt100_rows.specs.Row.{trimmed}
 use Rattle.vt100_rows.specs.Sheet.{row_at, rows_by_position, moved_up, moved_down, opened_line}
 use Rattle.vt100_rows.specs.Sheet.{erased_forward_at, erased_backward_at, first_rows}
@@ -146,17 +146,11 @@ module _ (t : Traits) where
   pub clean-placed : (v : RowView) (i : ℕ) (x : CellView) (a : Attrs) → t.of_attrs a → IsCleanRow v → IsClean x
       → IsCleanRow (placed v i x a)
   clean-placed v i x a p h y =
-      record {
-        cells = cells-by (length v.cells) (put (cell_at v.cells) i x a)
-            (line-put (cell_at v.cells) i x a p (clean-at v.cells h.cells) y);
-      }
+      record { cells = cells-by _ _ (line-put (cell_at v.cells) i x a p (clean-at v.cells h.cells) y) }
 
   pub clean-wiped : (v : RowView) (s e : ℕ) (a : Attrs) → t.of_attrs a → IsCleanRow v → IsCleanRow (wiped_row v s e a)
   clean-wiped v s e a p h =
-      record {
-        cells = cells-by (length v.cells) (wiped (cell_at v.cells) s e a)
-            (line-wiped (cell_at v.cells) s e a p (clean-at v.cells h.cells));
-      }
+      record { cells = cells-by _ _ (line-wiped (cell_at v.cells) s e a p (clean-at v.cells h.cells)) }
 
   pub clean-joined_cell : (v : RowView) (col c : ℕ) → IsCleanRow v → t.of_char c → IsClean (joined_cell v col c)
   clean-joined_cell v col c h k =
@@ -165,22 +159,10 @@ module _ (t : Traits) where
 
   pub clean-joined : (v : RowView) (col c : ℕ) → IsCleanRow v → t.of_char c → IsCleanRow (joined_row v col c)
   clean-joined v col c h k =
-      let f = cell_at v.cells in
       record {
-        cells = cells-by (length v.cells) (update f (base_col f col) (joined_cell v col c))
-            (line-update f (base_col f col) (joined_cell v col c) (clean-at v.cells h.cells)
-            (clean-joined_cell v col c h k));
+        cells = cells-by _ _ (line-update (cell_at v.cells) (base_col (cell_at v.cells) col) (joined_cell v col c)
+            (clean-at v.cells h.cells) (clean-joined_cell v col c h k));
       }
-
-  pub clean-join : (v : RowView) (col c : ℕ) (a : Attrs) → t.of_attrs a → IsCleanRow v → t.of_char c
-      → IsCleanRow (join_row v col c a)
-  clean-join v col c a p h k =
-      clean-either (not (is_widening v col c)) (joined_row v col c) _ (clean-joined v col c h k)
-      (clean-either (length v.cells == 1) v _ h
-      (clean-either (nat_lt col (length v.cells)) (placed v (col - 1) (joined_cell v col c) a)
-      (wiped_row v (col - 1) col a)
-      (clean-placed v (col - 1) (joined_cell v col c) a p h (clean-joined_cell v col c h k))
-      (clean-wiped v (col - 1) col a p h)))
 
   pub clean-inserted : (v : RowView) (i count : ℕ) → IsCleanRow v → IsCleanRow (inserted v i count)
   clean-inserted v i count h =

@@ -5,7 +5,7 @@ use Rattle.std.proofs.Common.{nat_lt, All, ◌⊎◌, inl, inr}
 use Rattle.std.specs.Char.{IsScalar}
 use Rattle.std.specs.Int.{is_in_range}
 use Rattle.std.specs.List.{filter}
-use Rattle.std.proofs.lemmas.Bool.{cond_both, cases_Bool, cases_lt, eqb-true}
+use Rattle.std.proofs.lemmas.Bool.{cond_both, cases_Bool, cases_lt, eqb-true, ltb-true}
 use Rattle.std.proofs.lemmas.Bool.Decides.{nat_tests}
 use Rattle.std.proofs.lemmas.List.Elements.{All-nil, All-cons, All-append, All-map, All-drop}
 use Rattle.vte_core.specs.Event.{Event, Print, Execute, Hook, Put, Unhook, Osc, Csi, Esc}
@@ -22,13 +22,7 @@ use Rattle.screen_model.specs.Made.{events_added}
 
 abbrev pub IsTold : Event → Type 0
 IsTold (Print c) = IsScalar c
-IsTold (Execute b) = Unit {0}
-IsTold (Hook gs ms ignore b) = Unit {0}
-IsTold (Put b) = Unit {0}
-IsTold Unhook = Unit {0}
-IsTold (Osc ps bell) = Unit {0}
-IsTold (Csi gs ms ignore b) = Unit {0}
-IsTold (Esc ms ignore b) = Unit {0}
+IsTold e = Unit {0}
 
 abbrev Told : List Event → Type 0
 Told es = All IsTold es
@@ -65,14 +59,8 @@ record Tail (k lo hi : ℕ) (bs : List ℕ) : Type 0 where
   pub most : b ≤ hi
   pub more : tail_len k 0x80 0xBF rest ≡ k
 
-in-least : (lo hi b : ℕ) → is_in_range lo hi b ≡ true → lo ≤ b
-in-least lo hi b e = grind (arith, nat_tests)
-
-in-most : (lo hi b : ℕ) → is_in_range lo hi b ≡ true → b ≤ hi
-in-most lo hi b e = grind (arith, nat_tests)
-
 in-range : (lo hi b : ℕ) → is_in_range lo hi b ≡ true → (lo ≤ b) × (b ≤ hi)
-in-range lo hi b e = (in-least lo hi b e, in-most lo hi b e)
+in-range lo hi b e = (grind (arith, nat_tests), grind (arith, nat_tests))
 
 tail-first : (k lo hi : ℕ) (bs : List ℕ) → tail_len (suc k) lo hi bs ≡ suc k → Tail k lo hi bs
 tail-first k lo hi [] e = absurd (omega (arith, e))
@@ -94,15 +82,6 @@ whole-one : (a : ℕ) → a < 0x80 → Whole a 1
 unfolding Whole
 whole-one a h bs e = low (first_bits a) (grind (arith, nat_tests))
 
-bits-two : (a : ℕ) → 0xC2 ≤ a → a ≤ 0xDF → first_bits a ≡ a - 0xC0
-bits-two a h l = grind (arith, nat_tests)
-
-bits-three : (a : ℕ) → 0xE0 ≤ a → a ≤ 0xEF → first_bits a ≡ a - 0xE0
-bits-three a h l = grind (arith, nat_tests)
-
-bits-four : (a : ℕ) → 0xF0 ≤ a → a ≤ 0xF4 → first_bits a ≡ a - 0xF0
-bits-four a h l = grind (arith, nat_tests)
-
 least : (a : ℕ) → 0x80 ≤ second_min a
 least a = grind (arith, nat_tests)
 
@@ -123,8 +102,9 @@ unfolding Whole
 whole-two a h l bs e =
     let t = tail-first 0 (second_min a) (second_max a) bs e in
     let x = first_bits a in
+    let bits : x ≡ a - 0xC0 = grind (arith, nat_tests) in
     subst (λ xs. IsScalar (joined x (take 1 xs))) (sym t.is)
-    (low (x * 64 + (t.b - 128)) (omega (arith, bits-two a h l, t.most, most a)))
+    (low (x * 64 + (t.b - 128)) (omega (arith, bits, t.most, most a)))
 
 three-is : (x b c : ℕ) → ((x < 13) ⊎ ((x ≡ 13) × (b ≤ 0x9F))) ⊎ (14 ≤ x) → x ≤ 15 → b ≤ 0xBF → c ≤ 0xBF → 0x80 ≤ b
     → IsScalar ((x * 64 + (b - 128)) * 64 + (c - 128))
@@ -149,7 +129,7 @@ whole-three a h l bs e =
     let t = tail-first 1 (second_min a) (second_max a) bs e in
     let u = tail-first 0 0x80 0xBF t.rest t.more in
     let x = first_bits a in
-    let same = bits-three a h l in
+    let same : x ≡ a - 0xE0 = grind (arith, nat_tests) in
     let is = three-is (a - 0xE0) t.b u.b (which-three a t.b h t.most) (omega (arith, l)) (omega (arith, t.most, most a))
     u.most (omega (arith, t.least, least a)) in
     subst (λ xs. IsScalar (joined x (take 2 xs))) (sym t.is)
@@ -176,7 +156,7 @@ whole-four a h l bs e =
     let v = tail-first 0 0x80 0xBF u.rest u.more in
     let x = first_bits a in
     let y = (a - 0xF0) * 64 + (t.b - 128) in
-    let same = bits-four a h l in
+    let same : x ≡ a - 0xF0 = grind (arith, nat_tests) in
     let is = high ((y * 64 + (u.b - 128)) * 64 + (v.b - 128)) (omega (arith, four-low a t.b h t.least))
     (omega (arith, four-high a t.b l t.most, u.most, v.most)) in
     subst (λ xs. IsScalar (joined x (take 3 xs))) (sym t.is)
@@ -184,24 +164,9 @@ whole-four a h l bs e =
     (subst (λ xs. IsScalar (joined ((x * 64 + (t.b - 128)) * 64 + (u.b - 128)) (take 1 xs))) (sym v.is)
     (subst (λ z. IsScalar (((z * 64 + (t.b - 128)) * 64 + (u.b - 128)) * 64 + (v.b - 128))) (sym same) is)))
 
-len-one : (a : ℕ) → nat_lt a 0x80 ≡ true → char_len a ≡ 1
-len-one a e = grind (arith, nat_tests)
-
-len-two : (a : ℕ) → 0xC2 ≤ a → a ≤ 0xDF → char_len a ≡ 2
-len-two a h l = grind (arith, nat_tests)
-
-len-three : (a : ℕ) → 0xE0 ≤ a → a ≤ 0xEF → char_len a ≡ 3
-len-three a h l = grind (arith, nat_tests)
-
-len-four : (a : ℕ) → 0xF0 ≤ a → a ≤ 0xF4 → char_len a ≡ 4
-len-four a h l = grind (arith, nat_tests)
-
 len-none : (a : ℕ) → nat_lt a 0x80 ≡ false → is_in_range 0xC2 0xDF a ≡ false → is_in_range 0xE0 0xEF a ≡ false
     → is_in_range 0xF0 0xF4 a ≡ false → char_len a ≡ 0
 len-none a e f g h = rw (e, f, g, h) refl
-
-is-less : (m n : ℕ) → nat_lt m n ≡ true → m < n
-is-less m n e = grind (arith, nat_tests)
 
 spelled-scalar : (a : ℕ) (bs : List ℕ) → front_len a bs ≡ char_len a
     → IsScalar (joined (first_bits a) (take (front_len a bs - 1) bs))
@@ -213,19 +178,20 @@ spelled-scalar a bs e =
     → IsScalar (joined (first_bits a) (take (front_len a bs - 1) bs)) = λ n f h.
     subst (λ m. IsScalar (joined (first_bits a) (take (m - 1) bs))) (sym (e ∙ f)) h in
     ⊎_elim
-    (λ (t : nat_lt a 0x80 ≡ true). let n = len-one a t in back 1 n (whole-one a (is-less a 0x80 t) bs (tail 1 n)))
+    (λ (t : nat_lt a 0x80 ≡ true). let n : char_len a ≡ 1 = grind (arith, nat_tests) in
+    back 1 n (whole-one a (ltb-true a 0x80 t) bs (tail 1 n)))
     (λ (f : nat_lt a 0x80 ≡ false). ⊎_elim
     (λ (t : is_in_range 0xC2 0xDF a ≡ true).
     let r = in-range 0xC2 0xDF a t in
-    let n = len-two a r.0 r.1 in back 2 n (whole-two a r.0 r.1 bs (tail 2 n)))
+    let n : char_len a ≡ 2 = grind (arith, nat_tests) in back 2 n (whole-two a r.0 r.1 bs (tail 2 n)))
     (λ (g : is_in_range 0xC2 0xDF a ≡ false). ⊎_elim
     (λ (t : is_in_range 0xE0 0xEF a ≡ true).
     let r = in-range 0xE0 0xEF a t in
-    let n = len-three a r.0 r.1 in back 3 n (whole-three a r.0 r.1 bs (tail 3 n)))
+    let n : char_len a ≡ 3 = grind (arith, nat_tests) in back 3 n (whole-three a r.0 r.1 bs (tail 3 n)))
     (λ (k : is_in_range 0xE0 0xEF a ≡ false). ⊎_elim
     (λ (t : is_in_range 0xF0 0xF4 a ≡ true).
     let r = in-range 0xF0 0xF4 a t in
-    let n = len-four a r.0 r.1 in back 4 n (whole-four a r.0 r.1 bs (tail 4 n)))
+    let n : char_len a ≡ 4 = grind (arith, nat_tests) in back 4 n (whole-four a r.0 r.1 bs (tail 4 n)))
     (λ (t : is_in_range 0xF0 0xF4 a ≡ false). absurd (omega (arith, e, len-none a f g k t)))
     (cases_Bool (is_in_range 0xF0 0xF4 a)))
     (cases_Bool (is_in_range 0xE0 0xEF a)))
@@ -291,26 +257,26 @@ device-told cut s =
     (All-map IsTold Put (filter is_put (before ends_device s)) (λ k d l. tt))
     (device_end-told cut (from ends_device s))
 
+-- what ends a header aborts it, or does what it says, if that is well formed
+header_end-told : (cut : Bool) (h : List ℕ) (b : ℕ) (rest : List ℕ) (acts others : List Event) → Told acts → Told others
+    → Told (cond (is_abort b) (aborted cut b rest) (cond (is_well_formed h) acts others))
+header_end-told cut h b rest acts others p q =
+    if-told (is_abort b) (aborted cut b rest) (cond (is_well_formed h) acts others) (aborted-told cut b rest)
+    (if-told (is_well_formed h) acts others p q)
+
 hook_end-told : (cut : Bool) (h s : List ℕ) → Told (hook_end cut h s)
 hook_end-told cut h [] = none
 hook_end-told cut h (b ∷ rest) =
-    let begins : List Event = Hook (kept_groups h) (kept_intermediates h) (overflows h) b ∷ device cut rest in
-    if-told (is_abort b) (aborted cut b rest) (cond (is_well_formed h) begins (swallowed cut rest))
-    (aborted-told cut b rest)
-    (if-told (is_well_formed h) begins (swallowed cut rest)
-    (then-more (Hook (kept_groups h) (kept_intermediates h) (overflows h) b) (device cut rest) tt
-    (device-told cut rest))
-    (swallowed-told cut rest))
+    let begins = Hook (kept_groups h) (kept_intermediates h) (overflows h) b in
+    header_end-told cut h b rest (begins ∷ device cut rest) (swallowed cut rest)
+    (then-more begins (device cut rest) tt (device-told cut rest)) (swallowed-told cut rest)
 
 csi_end-told : (cut : Bool) (h s : List ℕ) → Told (csi_end cut h s)
 csi_end-told cut h [] = none
 csi_end-told cut h (b ∷ rest) =
-    let acts : List Event = Csi (kept_groups h) (kept_intermediates h) (overflows h) b ∷ text cut rest in
-    if-told (is_abort b) (aborted cut b rest) (cond (is_well_formed h) acts (text cut rest))
-    (aborted-told cut b rest)
-    (if-told (is_well_formed h) acts (text cut rest)
-    (then-more (Csi (kept_groups h) (kept_intermediates h) (overflows h) b) (text cut rest) tt (text-told 0 cut rest))
-    (text-told 0 cut rest))
+    let acts = Csi (kept_groups h) (kept_intermediates h) (overflows h) b in
+    header_end-told cut h b rest (acts ∷ text cut rest) (text cut rest)
+    (then-more acts (text cut rest) tt (text-told 0 cut rest)) (text-told 0 cut rest)
 
 csi-told : (cut : Bool) (s : List ℕ) → Told (csi cut s)
 csi-told cut s =

@@ -6,11 +6,12 @@ use Rattle.std.proofs.lemmas.Bool.{cond_both}
 use Rattle.std.proofs.lemmas.List.Elements.{All-nil, All-set, All-drop, All-take, All-append, All-map, All-weaker}
 use Rattle.std.proofs.lemmas.List.Elements.{All-replicate}
 use Rattle.vt100_forms.specs.declared.attrs.Attrs.{Attrs}
+use Rattle.vt100_forms.specs.Attrs.{IsProper}
+use Rattle.screen_model.specs.State.{IsProperSheet}
 use Rattle.vt100_cells.specs.Cell.{CellView, default_cell, cell_of, columns_of}
-use Rattle.vt100_rows.specs.Row.{RowView, blank_row, trimmed, grown, resized_row, with_wrap, cleared_row, wiped_row}
-use Rattle.vt100_rows.specs.Row.{inserted, removed, placed, joined_row, joined_cell, is_widening}
-use Rattle.vt100_rows.specs.Sheet.{row_at, moved_up, opened_line, changed_between, first_rows}
-use Rattle.vt100_rows.specs.Sheet.{erased_forward_at, erased_backward_at}
+use Rattle.vt100_rows.specs.Row.{RowView, blank_row, trimmed, grown, resized_row, with_wrap, wiped_row}
+use Rattle.vt100_rows.specs.Row.{placed, joined_row, joined_cell, is_widening}
+use Rattle.vt100_rows.specs.Sheet.{row_at, moved_up, changed_between, first_rows}
 use Rattle.terminal_model.specs.Apply.{is_dropped}
 use Rattle.vt100_core.specs.Grid.{KeptPart, GridView, new_grid, allocated, cleared, with_row, with_rows, row_of_cursor}
 use Rattle.vt100_core.specs.Grid.{with_cursor_row, is_in_region}
@@ -25,11 +26,20 @@ use Rattle.vt100_core.specs.Scroll.{scrollback_erased, scrollback_shown}
 use Rattle.vt100_core.specs.Resize.{whole_screen, up_rows, shortened, with_width, down_rows, rows_back, lengthened}
 use Rattle.vt100_core.specs.Resize.{resized}
 use Rattle.vt100_core.specs.Text.{PrintedGrid, put_at, spaced, carried, joined, printed}
-use Rattle.screen_model.proofs.RowTraits.{Traits, IsClean, IsCleanRow, clean-of, clean-either, clean-blank}
+use Rattle.screen_model.proofs.RowTraits.{Traits, IsClean, IsCleanRow, clean-cell, clean-of, clean-either, clean-blank}
 use Rattle.screen_model.proofs.RowTraits.{clean-cleared, clean-with_wrap, clean-placed, clean-wiped, clean-joined_cell}
 use Rattle.screen_model.proofs.RowTraits.{clean-joined, clean-inserted, clean-removed, clean-grown, clean-resized}
 use Rattle.screen_model.proofs.RowTraits.{clean-trimmed, clean-row, clean-rows, clean-moved_up, clean-opened_line}
 use Rattle.screen_model.proofs.RowTraits.{clean-erased_forward, clean-erased_backward, clean-first}
+
+-- what stays true of a row without its blank end is true of the kept rows, after others have left
+pub kept-all : (P : RowView → Type 0) → ((v : RowView) → P v → P (trimmed v)) → (k : KeptPart) (left : List RowView)
+    → All P k.rows → All P left → All P (kept_after k left).rows
+kept-all P trims k left old new =
+    let m = length left - min (length left) k.capacity in
+    All-append P (drop (overflow k (length left)) k.rows) (map trimmed (drop m left))
+    (All-drop P (overflow k (length left)) k.rows old)
+    (All-map P trimmed (drop m left) (All-weaker P (λ v. P (trimmed v)) trims (drop m left) (All-drop P m left new)))
 
 module _ (t : Traits) where
   -- the rows that are drawn on, and the kept ones
@@ -63,44 +73,37 @@ module _ (t : Traits) where
   -- ---- erasing, and cells and lines that come in and go
 
   pub sheet-all_erased : (g : GridView) (a : Attrs) → t.of_attrs a → IsCleanSheet g → IsCleanSheet (all_erased g a)
-  sheet-all_erased g a p d =
-      positions-clean g (λ r. cleared_row (row_at g.rows r) a) d (λ r. clean-cleared t (row_at g.rows r) a p)
+  sheet-all_erased g a p d = positions-clean g _ d (λ r. clean-cleared t (row_at g.rows r) a p)
 
   pub sheet-all_erased_forward : (g : GridView) (a : Attrs) → t.of_attrs a → IsCleanSheet g
       → IsCleanSheet (all_erased_forward g a)
   sheet-all_erased_forward g a p d =
-      positions-clean g (erased_forward_at g.rows g.row g.col g.width a) d
-      (clean-erased_forward t g.rows g.row g.col g.width a p d.drawn)
+      positions-clean g _ d (clean-erased_forward t g.rows g.row g.col g.width a p d.drawn)
 
   pub sheet-all_erased_backward : (g : GridView) (a : Attrs) → t.of_attrs a → IsCleanSheet g
       → IsCleanSheet (all_erased_backward g a)
   sheet-all_erased_backward g a p d =
-      positions-clean g (erased_backward_at g.rows g.row (columns_to_cursor g) a) d
-      (clean-erased_backward t g.rows g.row (columns_to_cursor g) a p d.drawn)
+      positions-clean g _ d (clean-erased_backward t g.rows g.row (columns_to_cursor g) a p d.drawn)
 
   pub sheet-row_erased : (g : GridView) (a : Attrs) → t.of_attrs a → IsCleanSheet g → IsCleanSheet (row_erased g a)
-  sheet-row_erased g a p d =
-      row-clean g g.row (cleared_row (row_of_cursor g) a) d (clean-cleared t (row_of_cursor g) a p)
+  sheet-row_erased g a p d = row-clean g g.row _ d (clean-cleared t (row_of_cursor g) a p)
 
   pub sheet-columns_erased : (g : GridView) (s e : ℕ) (a : Attrs) → t.of_attrs a → IsCleanSheet g
       → IsCleanSheet (columns_erased g s e a)
   sheet-columns_erased g s e a p d =
-      row-clean g g.row (wiped_row (row_of_cursor g) s e a) d
-      (clean-wiped t (row_of_cursor g) s e a p (cursor-clean g d))
+      row-clean g g.row _ d (clean-wiped t (row_of_cursor g) s e a p (cursor-clean g d))
 
   pub sheet-cells_inserted : (g : GridView) (n : ℕ) → IsCleanSheet g → IsCleanSheet (cells_inserted g n)
-  sheet-cells_inserted g n d =
-      row-clean g g.row (inserted (row_of_cursor g) g.col n) d
-      (clean-inserted t (row_of_cursor g) g.col n (cursor-clean g d))
+  sheet-cells_inserted g n d = row-clean g g.row _ d (clean-inserted t (row_of_cursor g) g.col n (cursor-clean g d))
 
   pub sheet-cells_deleted : (g : GridView) (n : ℕ) → IsCleanSheet g → IsCleanSheet (cells_deleted g n)
   sheet-cells_deleted g n d =
-      row-clean g g.row (removed (row_of_cursor g) g.col (min (g.col + n) g.width)) d
+      row-clean g g.row _ d
       (clean-removed t (row_of_cursor g) g.col (min (g.col + n) g.width) (cursor-clean g d))
 
   lines-clean : (g : GridView) (first n : ℕ) → IsCleanSheet g → IsCleanSheet (lines_opened g first n)
   lines-clean g first n d =
-      positions-clean g (opened_line g.rows first (g.bottom + 1) (min n (g.bottom + 1 - first)) g.width) d
+      positions-clean g _ d
       (clean-opened_line t g.rows first (g.bottom + 1) (min n (g.bottom + 1 - first)) g.width d.drawn)
 
   pub sheet-lines_inserted : (g : GridView) (n : ℕ) → IsCleanSheet g → IsCleanSheet (lines_inserted g n)
@@ -136,15 +139,6 @@ module _ (t : Traits) where
       (λ r. clean-either t _ _ _ (clean-grown t (row_at k.rows r) width (clean-row t k.rows h r))
       (clean-row t k.rows h r))
 
-  kept-clean : (k : KeptPart) (left : List RowView) → All (IsCleanRow t) k.rows → All (IsCleanRow t) left
-      → All (IsCleanRow t) (kept_after k left).rows
-  kept-clean k left old new =
-      let m = length left - min (length left) k.capacity in
-      All-append (IsCleanRow t) (drop (overflow k (length left)) k.rows) (map trimmed (drop m left))
-      (All-drop (IsCleanRow t) (overflow k (length left)) k.rows old)
-      (All-map (IsCleanRow t) trimmed (drop m left) (All-weaker (IsCleanRow t) (λ v. IsCleanRow t (trimmed v))
-      (clean-trimmed t) (drop m left) (All-drop (IsCleanRow t) m left new)))
-
   pub sheet-scrolled_up : (g : GridView) (n : ℕ) → IsCleanSheet g → IsCleanSheet (scrolled_up g n).grid
   unfolding scrolled_up
   sheet-scrolled_up g n d =
@@ -155,7 +149,7 @@ module _ (t : Traits) where
             (clean-moved_up t g.rows g.top (g.bottom + 1) (up_count g n) g.width d.drawn);
         kept = cond_both (is_kept_from g) (widened k g.height g.width) g.kept
             (λ (x : KeptPart). All (IsCleanRow t) x.rows)
-            (λ _. widened-clean k g.height g.width (kept-clean g.kept left d.kept
+            (λ _. widened-clean k g.height g.width (kept-all (IsCleanRow t) (clean-trimmed t) g.kept left d.kept
             (All-take (IsCleanRow t) (up_count g n) (drop g.top g.rows)
             (All-drop (IsCleanRow t) g.top g.rows d.drawn))))
             (λ _. d.kept);
@@ -199,8 +193,7 @@ module _ (t : Traits) where
   put-clean : (g : GridView) (x : CellView) (a : Attrs) (n : ℕ) → t.of_attrs a → IsCleanSheet g → IsClean t x
       → IsCleanSheet (put_at g x a n)
   put-clean g x a n p d h =
-      row-clean g g.row (placed (row_of_cursor g) g.col x a) d
-      (clean-placed t (row_of_cursor g) g.col x a p (cursor-clean g d) h)
+      row-clean g g.row _ d (clean-placed t (row_of_cursor g) g.col x a p (cursor-clean g d) h)
 
   carried-clean : (g : GridView) (c : ℕ) (a : Attrs) → t.of_char c → t.of_attrs a → IsCleanSheet g
       → IsCleanSheet (carried g c a).grid
@@ -302,3 +295,9 @@ module _ (t : Traits) where
       (width-clean (shortened s.grid up height) width
       (shorter-clean s.grid up height (sheet-scrolled_up (whole_screen g) up d)))
       (longer-clean (with_width (whole_screen g) width) height (width-clean (whole_screen g) width d)))
+
+  pub sheet-proper : ((a : Attrs) → t.of_attrs a → IsProper a) → (g : GridView) → IsCleanSheet g → IsProperSheet g
+  sheet-proper f g d = record {
+    drawn = λ r k. f _ (clean-cell t (row_at g.rows r) (clean-row t g.rows d.drawn r) k).attrs;
+    kept = λ r k. f _ (clean-cell t (row_at g.kept.rows r) (clean-row t g.kept.rows d.kept r) k).attrs;
+  }

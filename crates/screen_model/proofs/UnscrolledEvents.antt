@@ -11,8 +11,7 @@ use Rattle.vt100_forms.specs.declared.modes.MouseProtocolMode.{MouseProtocolMode
 use Rattle.vt100_forms.specs.declared.modes.MouseProtocolEncoding.{MouseProtocolEncoding}
 use Rattle.vt100_forms.specs.declared.modes.MouseProtocolMode.TheVariants as mouse
 use Rattle.vt100_forms.specs.declared.modes.MouseProtocolEncoding.TheVariants as encoding
-use Rattle.terminal_model.specs.Term.{Modes}
-use Rattle.vte_core.specs.Event.{Event, Print, Execute, Hook, Put, Unhook, Osc, Csi, Esc}
+use Rattle.vte_core.specs.Event.{Event, Print, Execute, Csi, Esc}
 use Rattle.vt100_core.proofs.TextLemmas.{or-false}
 use Rattle.screen_model.specs.Lookup.{lookup}
 use Rattle.screen_model.specs.State.{State}
@@ -20,7 +19,7 @@ use Rattle.screen_model.specs.Call.{Call}
 use Rattle.screen_model.specs.Sgr.{sgr_read}
 use Rattle.screen_model.specs.PrivateModes.{is_mouse, is_encoding, mouse_set, encoding_set, mouse_reset, encoding_reset}
 use Rattle.screen_model.specs.PrivateModes.{set_rows, reset_rows, row_of, row_state, partly_on, modes_from}
-use Rattle.screen_model.specs.Step.{Stepped, Partly, quietly, with_style, with_modes, with_updating, typed}
+use Rattle.screen_model.specs.Step.{Stepped, Partly, quietly, with_style, typed}
 use Rattle.screen_model.specs.Effect.{Effect, effect_or, is_unhandled, control_rows, escape_rows, count, later}
 use Rattle.screen_model.specs.Effect.{number_or}
 use Rattle.screen_model.specs.Effect.{display_rows, line_rows, style_rows, row_partly, display_erased, line_erased}
@@ -29,7 +28,8 @@ use Rattle.screen_model.specs.Effect.{given, window_effect, plain_rows, other_ro
 use Rattle.screen_model.specs.Effect.{plain_effect, csi_call, csi_effect, effect, escape_effect, print_effect, calling}
 use Rattle.screen_model.specs.Effect.{steps}
 use Rattle.screen_model.proofs.RowTraits.{IsKnown}
-use Rattle.screen_model.proofs.UnscrolledStates.{Bounds, IsUnscrolledState, Keeps, KeepsStepped, well-typed, well-repeated}
+use Rattle.screen_model.proofs.UnscrolledStates.{Bounds, IsUnscrolledState, well-with, Keeps, KeepsStepped}
+use Rattle.screen_model.proofs.UnscrolledStates.{well-typed, well-repeated}
 use Rattle.screen_model.proofs.UnscrolledStates.{well-moved_left, well-moved_right, well-tabbed, well-at_column, well-at_row}
 use Rattle.screen_model.proofs.UnscrolledStates.{well-at_place, well-moved_up, well-moved_down, well-line_above}
 use Rattle.screen_model.proofs.UnscrolledStates.{well-line_below}
@@ -39,23 +39,11 @@ use Rattle.screen_model.proofs.UnscrolledStates.{well-erased_right, well-erased_
 use Rattle.screen_model.proofs.UnscrolledStates.{well-cells_added, well-cells_taken, well-lines_added, well-lines_taken}
 use Rattle.screen_model.proofs.UnscrolledStates.{well-region_up, well-region_down, well-origin, well-alternate_shown}
 use Rattle.screen_model.proofs.UnscrolledStates.{well-main_shown, well-alternate_entered, well-alternate_left, well-made_anew}
+use Rattle.screen_model.proofs.Tables.{Each, ◌&◌, Where, looked-up}
 use Rattle.screen_model.proofs.ProperLemmas.{sgr_read-proper}
 use Rattle.screen_model.proofs.ScalarEvents.{IsTold}
 
 -- ---- tables
-
-abbrev Each : {X : Type 0} → (X → Type 0) → List (ℕ × X) → Type 0
-Each P [] = Unit {0}
-Each P (r ∷ rs) = P r.1 × Each P rs
-
-abbrev Where : {X : Type 0} → (X → Type 0) → Option X → Type 0
-Where P None = Unit {0}
-Where P (Some x) = P x
-
-looked-up : {X : Type 0} (P : X → Type 0) (n : ℕ) (rows : List (ℕ × X)) → Each P rows → Where P (lookup n rows)
-looked-up P n [] h = tt
-looked-up P n (r ∷ rs) h =
-    cond_both (nat_eq n r.0) (Some r.1) (lookup n rs) (λ o. Where P o) (λ _. h.0) (λ _. looked-up P n rs h.1)
 
 abbrev KeepsEffect : (State → Effect) → Type 0
 KeepsEffect f = Keeps (λ s. (f s).state)
@@ -66,60 +54,10 @@ effect-or (Some f) k h b s w = h b s w
 
 -- ---- what isn't of a sheet
 
-modes-well : (m : State → Modes) → Keeps (λ s. with_modes s (m s))
-modes-well m b s w = record {
-  bounds = w.bounds;
-  shown = w.shown;
-  other = w.other;
-  main = w.main;
-  attrs = w.attrs;
-  saved_attrs = w.saved_attrs;
-  last = w.last;
-}
-
-hidden-well : (x : Bool) → Keeps (λ s. record s { hidden = x })
-hidden-well x b s w = record {
-  bounds = w.bounds;
-  shown = w.shown;
-  other = w.other;
-  main = w.main;
-  attrs = w.attrs;
-  saved_attrs = w.saved_attrs;
-  last = w.last;
-}
-
-updating-well : (x : Bool) → Keeps (with_updating x)
-updating-well x b s w = record {
-  bounds = w.bounds;
-  shown = w.shown;
-  other = w.other;
-  main = w.main;
-  attrs = w.attrs;
-  saved_attrs = w.saved_attrs;
-  last = w.last;
-}
-
-style-well : (x : CursorStyle) → Keeps (with_style x)
-style-well x b s w = record {
-  bounds = w.bounds;
-  shown = w.shown;
-  other = w.other;
-  main = w.main;
-  attrs = w.attrs;
-  saved_attrs = w.saved_attrs;
-  last = w.last;
-}
-
 attrs-well : (gs : List (List ℕ)) → Keeps (λ s. record s { attrs = (sgr_read gs s.attrs).attrs })
-attrs-well gs b s w = record {
-  bounds = w.bounds;
-  shown = w.shown;
-  other = w.other;
-  main = w.main;
-  attrs = sgr_read-proper gs s.attrs w.attrs;
-  saved_attrs = w.saved_attrs;
-  last = w.last;
-}
+attrs-well gs b s w =
+    well-with b s _ _ _ _ w w.shown w.clean
+    (record { attrs = sgr_read-proper gs s.attrs w.drawn.attrs; saved_attrs = w.drawn.saved_attrs; last = w.drawn.last })
 
 -- ---- private modes
 
@@ -127,71 +65,24 @@ state-if : (b : Bounds) (p : Bool) (s t : State) → IsUnscrolledState b s → I
 state-if b p s t v w = cond_both p s t (λ x. IsUnscrolledState b x) (λ _. v) (λ _. w)
 
 mouse-reset : (m : MouseProtocolMode) → Keeps (mouse_reset m)
-mouse-reset m b s w =
-    state-if b (is_mouse s.modes.mouse m) (mouse_set mouse.None s) s (modes-well (λ t. record
-    (t.modes) { mouse = mouse.None }) b s w) w
+mouse-reset m b s w = state-if b (is_mouse s.modes.mouse m) (mouse_set mouse.None s) s w w
 
 encoding-reset : (m : MouseProtocolEncoding) → Keeps (encoding_reset m)
-encoding-reset m b s w =
-    state-if b (is_encoding s.modes.encoding m) (encoding_set encoding.Default s) s
-    (modes-well (λ t. record (t.modes) { encoding = encoding.Default }) b s w) w
+encoding-reset m b s w = state-if b (is_encoding s.modes.encoding m) (encoding_set encoding.Default s) s w w
+
+-- what changes no sheet and no attributes
+same : (b : Bounds) (s : State) → IsUnscrolledState b s → IsUnscrolledState b s
+same b s w = w
 
 sets-keep : Each Keeps set_rows
-sets-keep = (
-  modes-well _,
-  (
-    well-origin true,
-    (
-      modes-well _,
-      (
-        hidden-well false,
-        (
-          well-alternate_shown,
-          (
-            modes-well _,
-            (
-              modes-well _,
-              (
-                modes-well _,
-                (modes-well _, (modes-well _, (well-alternate_entered, (modes-well _, (updating-well true, tt))))),
-              ),
-            ),
-          ),
-        ),
-      ),
-    ),
-  ),
-)
+sets-keep =
+    same & well-origin true & same & same & well-alternate_shown & same & same & same & same & same
+    & well-alternate_entered & same & same & tt
 
 resets-keep : Each Keeps reset_rows
-resets-keep = (
-  modes-well _,
-  (
-    well-origin false,
-    (
-      mouse-reset _,
-      (
-        hidden-well true,
-        (
-          well-main_shown,
-          (
-            mouse-reset _,
-            (
-              mouse-reset _,
-              (
-                mouse-reset _,
-                (
-                  encoding-reset _,
-                  (encoding-reset _, (well-alternate_left, (modes-well _, (updating-well false, tt)))),
-                ),
-              ),
-            ),
-          ),
-        ),
-      ),
-    ),
-  ),
-)
+resets-keep =
+    same & well-origin false & mouse-reset _ & same & well-main_shown & mouse-reset _ & mouse-reset _ & mouse-reset _
+    & encoding-reset _ & encoding-reset _ & well-alternate_left & same & same & tt
 
 row-looked-up : (rows : List (ℕ × (State → State))) → Each Keeps rows → (g : List ℕ) → Where Keeps (row_of rows g)
 row-looked-up rows h [] = tt
@@ -216,10 +107,10 @@ row-partly None h b s w = w
 row-partly (Some f) h b s w = h b s w
 
 displays-keep : Each KeepsStepped display_rows
-displays-keep = (well-erased_below, (well-erased_above, (well-erased_all, (well-erased_kept, tt))))
+displays-keep = well-erased_below & well-erased_above & well-erased_all & well-erased_kept & tt
 
 lines-keep : Each KeepsStepped line_rows
-lines-keep = (well-erased_right, (well-erased_left, (well-erased_row, tt)))
+lines-keep = well-erased_right & well-erased_left & well-erased_row & tt
 
 display-well : (n : ℕ) → Keeps (λ s. (display_erased n s).state)
 display-well n = row-partly (lookup n display_rows) (looked-up KeepsStepped n display_rows displays-keep)
@@ -230,7 +121,7 @@ line-well n = row-partly (lookup n line_rows) (looked-up KeepsStepped n line_row
 style-row : (o : Option CursorStyle) → Keeps (λ s. (row_partly (option_map (λ x t. quietly
     (with_style x t)) o) s).state)
 style-row None b s w = w
-style-row (Some x) b s w = style-well x b s w
+style-row (Some x) b s w = w
 
 styled-well : (n : ℕ) → Keeps (λ s. (styled n s).state)
 styled-well n = style-row (lookup n style_rows)
@@ -251,86 +142,26 @@ window-well : KeepsOther window_effect
 window-well gs k b s w = effect-if b (nat_eq (unwrap_or (given gs) 0) 8) _ (calling (k ∷ []) s) w w
 
 plains-keep : Each KeepsPlain plain_rows
-plains-keep = (
-  λ gs. well-cells_added (count gs),
-  (
-    λ gs. well-moved_up (count gs),
-    (
-      λ gs. well-moved_down (count gs),
-      (
-        λ gs. well-moved_right (count gs),
-        (
-          λ gs. well-moved_left (count gs),
-          (
-            λ gs. well-line_below (count gs),
-            (
-              λ gs. well-line_above (count gs),
-              (
-                λ gs. well-at_column (count gs - 1),
-                (
-                  λ gs. well-at_column (count gs - 1),
-                  (
-                    λ gs. well-at_row (count gs - 1),
-                    (
-                      λ gs. well-at_place (count gs - 1) (count (later gs) - 1),
-                      (
-                        λ gs. well-at_place (count gs - 1) (count (later gs) - 1),
-                        (
-                          λ gs. well-lines_added (count gs),
-                          (
-                            λ gs. well-lines_taken (count gs),
-                            (
-                              λ gs. well-cells_taken (count gs),
-                              (
-                                λ gs. well-region_up (count gs),
-                                (
-                                  λ gs. well-region_down (count gs),
-                                  (
-                                    λ gs. well-cells_erased (count gs),
-                                    (
-                                      λ gs. well-repeated (count gs),
-                                      (
-                                        λ gs b s w. well-in_region (count gs - 1) (number_or s.shown.height (later gs)
-                                            - 1) b s w,
-                                        tt,
-                                      ),
-                                    ),
-                                  ),
-                                ),
-                              ),
-                            ),
-                          ),
-                        ),
-                      ),
-                    ),
-                  ),
-                ),
-              ),
-            ),
-          ),
-        ),
-      ),
-    ),
-  ),
-)
+plains-keep =
+    (λ gs. well-cells_added (count gs)) & (λ gs. well-moved_up (count gs)) & (λ gs. well-moved_down (count gs))
+    & (λ gs. well-moved_right (count gs)) & (λ gs. well-moved_left (count gs)) & (λ gs. well-line_below (count gs))
+    & (λ gs. well-line_above (count gs)) & (λ gs. well-at_column (count gs - 1)) & (λ gs. well-at_column (count gs - 1))
+    & (λ gs. well-at_row (count gs - 1)) & (λ gs. well-at_place (count gs - 1) (count (later gs) - 1))
+    & (λ gs. well-at_place (count gs - 1) (count (later gs) - 1)) & (λ gs. well-lines_added (count gs))
+    & (λ gs. well-lines_taken (count gs)) & (λ gs. well-cells_taken (count gs)) & (λ gs. well-region_up (count gs))
+    & (λ gs. well-region_down (count gs)) & (λ gs. well-cells_erased (count gs)) & (λ gs. well-repeated (count gs))
+    & (λ gs b s w. well-in_region (count gs - 1) (number_or s.shown.height (later gs) - 1) b s w) & tt
 
 others-keep : Each KeepsOther other_rows
-others-keep = (
-  λ gs k. display-well (number_or 0 gs),
-  (λ gs k. line-well (number_or 0 gs), (λ gs k. attrs-well gs, (window-well, tt))),
-)
+others-keep =
+    (λ gs k. display-well (number_or 0 gs)) & (λ gs k. line-well (number_or 0 gs)) & (λ gs k. attrs-well gs) & window-well
+    & tt
 
 privates-keep : Each KeepsOther private_rows
-privates-keep = (
-  λ gs k. display-well (number_or 0 gs),
-  (
-    λ gs k. line-well (number_or 0 gs),
-    (
-      λ gs k b s w. modes-from set_rows sets-keep gs b (record { state = s; reports = []; unhandled = 0 }) w,
-      (λ gs k b s w. modes-from reset_rows resets-keep gs b (record { state = s; reports = []; unhandled = 0 }) w, tt),
-    ),
-  ),
-)
+privates-keep =
+    (λ gs k. display-well (number_or 0 gs)) & (λ gs k. line-well (number_or 0 gs))
+    & (λ gs k b s w. modes-from set_rows sets-keep gs b (record { state = s; reports = []; unhandled = 0 }) w)
+    & (λ gs k b s w. modes-from reset_rows resets-keep gs b (record { state = s; reports = []; unhandled = 0 }) w) & tt
 
 row-effect : (o : Option (List (List ℕ) → Call → State → Effect)) → Where KeepsOther o → (gs : List (List ℕ)) (k : Call)
     → KeepsEffect (row_effect o gs k)
@@ -357,28 +188,12 @@ csi-well gs (m ∷ ms) final b s w =
 -- ---- all events
 
 controls-keep : Each KeepsEffect control_rows
-controls-keep = (
-  λ b s w. w,
-  (
-    well-moved_left 1,
-    (
-      well-tabbed,
-      (
-        well-line_fed,
-        (well-line_fed, (well-line_fed, (well-at_column 0, (λ b s w. w, (λ b s w. w, tt))))),
-      ),
-    ),
-  ),
-)
+controls-keep =
+    same & well-moved_left 1 & well-tabbed & well-line_fed & well-line_fed & well-line_fed & well-at_column 0 & same & same
+    & tt
 
 escapes-keep : Each KeepsEffect escape_rows
-escapes-keep = (
-  well-saved,
-  (
-    well-restored,
-    (modes-well _, (modes-well _, (well-line_fed_back, (well-made_anew, (λ b s w. w, tt))))),
-  ),
-)
+escapes-keep = well-saved & well-restored & same & same & well-line_fed_back & well-made_anew & same & tt
 
 escape-well : (is : List ℕ) (final : ℕ) → KeepsEffect (escape_effect is final)
 escape-well [] final b s w =
@@ -397,9 +212,6 @@ pub effect-well : (e : Event) → IsTold e → KeepsEffect (effect e)
 effect-well (Print c) h b s w = print-well c h b s w
 effect-well (Execute byte) h b s w =
     effect-or (lookup byte control_rows) _ (looked-up KeepsEffect byte control_rows controls-keep) b s w
-effect-well (Hook gs ms ignore final) h b s w = w
-effect-well (Put byte) h b s w = w
-effect-well Unhook h b s w = w
-effect-well (Osc ps bell) h b s w = w
 effect-well (Csi gs ms ignore final) h b s w = csi-well gs ms final b s w
 effect-well (Esc ms ignore final) h b s w = escape-well ms final b s w
+effect-well e h b s w = w

@@ -1,28 +1,25 @@
 -- What is true of each sheet of a terminal that shows no kept row: it stays true.
-use Rattle.std.proofs.Common.{◌≡◌, ℕ, ◌+◌, ◌-◌, ◌^◌, ◌<◌, ◌≤◌, ◌==◌, Bool, true, false, cond, ◌&&◌, List, []}
-use Rattle.std.proofs.Common.{◌++◌, length, set, drop, map, min, max, refl, sym, ap, ◌∙◌, arith}
+use Rattle.std.proofs.Common.{◌≡◌, ℕ, ◌+◌, ◌-◌, ◌^◌, ◌<◌, ◌≤◌, ◌==◌, Bool, true, cond, ◌&&◌, List, []}
+use Rattle.std.proofs.Common.{◌++◌, length, set, drop, map, min, max, sym, ap, ◌∙◌, arith}
 use Rattle.std.proofs.Common.{subst, length-set, length-append, nat_lt, All}
-use Rattle.std.proofs.lemmas.Bool.{cond_both, false≢true}
+use Rattle.std.proofs.lemmas.Bool.{cond_both, false≢true, ltb-true, and_parts}
 use Rattle.std.proofs.lemmas.Bool.Decides.{nat_tests}
 use Rattle.std.proofs.lemmas.List.{length-map}
 use Rattle.std.proofs.Common.{length-drop}
-use Rattle.std.proofs.lemmas.List.Elements.{All-set, All-drop, All-take, All-append, All-map, All-weaker}
+use Rattle.std.proofs.lemmas.List.Elements.{All-drop, All-take}
 use Rattle.std.proofs.lemmas.List.Elements.{All-from_get_or}
 use Rattle.vt100_forms.specs.declared.attrs.Attrs.{Attrs}
-use Rattle.vt100_forms.specs.Attrs.{IsProper}
-use Rattle.vt100_rows.specs.Row.{RowView, IsRow, blank_row, trimmed, cleared_row, wiped_row, inserted, removed}
+use Rattle.vt100_rows.specs.Row.{RowView, IsRow, blank_row, trimmed}
 use Rattle.vt100_rows.proofs.TrimLemmas.{IsRow-trimmed}
-use Rattle.vt100_rows.specs.Sheet.{row_at, rows_by_position, moved_up, opened_line, erased_forward_at}
-use Rattle.vt100_rows.specs.Sheet.{erased_backward_at}
+use Rattle.vt100_rows.specs.Sheet.{IsSheet, rows_by_position, moved_up}
 use Rattle.vt100_rows.proofs.SheetLemmas.{length-rows_by_position}
 use Rattle.vt100_rows.proofs.MoveLemmas.{IsSheet-moved_up}
-use Rattle.vt100_core.specs.Grid.{KeptPart, IsKept, GridView, IsGrid, IsAllocated}
-use Rattle.vt100_core.specs.Grid.{with_row, with_rows}
-use Rattle.vt100_core.specs.Grid.{row_of_cursor, is_in_region}
+use Rattle.vt100_core.specs.Grid.{KeptPart, IsKept, IsShownWide, GridView, IsGrid, IsAllocated, new_grid}
+use Rattle.vt100_core.specs.Grid.{scrollback_of, with_row, with_rows, is_in_region}
 use Rattle.vt100_core.specs.Cursor.{cursor_at, with_origin, cursor_saved, cursor_restored, with_region, moved_rows_down}
 use Rattle.vt100_core.specs.Cursor.{moved_rows_up}
 use Rattle.vt100_core.specs.Erase.{all_erased, all_erased_forward, all_erased_backward, row_erased, columns_erased}
-use Rattle.vt100_core.specs.Erase.{columns_to_cursor, cells_inserted, cells_deleted}
+use Rattle.vt100_core.specs.Erase.{cells_inserted, cells_deleted}
 use Rattle.vt100_core.specs.Lines.{lines_opened, lines_inserted, lines_deleted, scrolled_down, rows_past_top, fed_up}
 use Rattle.vt100_core.specs.Scroll.{Scrolled, widened, overflow, kept_after, up_count, left_rows, is_kept_from}
 use Rattle.vt100_core.specs.Scroll.{scrolled_up, rows_past_bottom, fed}
@@ -34,10 +31,7 @@ use Rattle.vt100_core.proofs.StayLemmas.{widened-none}
 use Rattle.vt100_core.proofs.EraseLemmas.{IsGrid-row_erased, IsGrid-columns_erased, IsGrid-cells_inserted}
 use Rattle.vt100_core.proofs.EraseLemmas.{IsGrid-cells_deleted, IsGrid-all_erased, IsGrid-all_erased_forward}
 use Rattle.vt100_core.proofs.EraseLemmas.{IsGrid-all_erased_backward}
-use Rattle.screen_model.proofs.RowTraits.{IsCleanRow, sound, clean-cleared}
-use Rattle.screen_model.proofs.RowTraits.{clean-wiped, clean-inserted, clean-removed, clean-trimmed, clean-row}
-use Rattle.screen_model.proofs.RowTraits.{clean-rows}
-use Rattle.screen_model.proofs.RowTraits.{clean-moved_up, clean-opened_line, clean-erased_forward, clean-erased_backward}
+use Rattle.screen_model.proofs.SheetTraits.{kept-all}
 
 -- a sheet's size, and how many rows it keeps, if any
 pub record Limits : Type 0 where
@@ -46,104 +40,76 @@ pub record Limits : Type 0 where
   pub keeps : Bool
   pub capacity : ℕ
 
-pub record IsUnscrolledSheet (l : Limits) (g : GridView) : Type 0 where
-  pub grid : IsGrid g
-  pub height : g.height ≡ l.height
-  pub width : g.width ≡ l.width
-  pub keeps : g.kept.keeps ≡ l.keeps
-  pub capacity : g.kept.capacity ≡ l.capacity
+pub record HasLimits (l : Limits) (rows cols : ℕ) (some : Bool) (most shown : ℕ) : Type 0 where
+  pub height : rows ≡ l.height
+  pub width : cols ≡ l.width
+  pub keeps : some ≡ l.keeps
+  pub capacity : most ≡ l.capacity
   pub few : l.capacity < 2 ^ 64
-  pub hidden : g.kept.offset ≡ 0
-  pub rows : All (IsCleanRow sound) g.rows
-  pub kept : All (IsCleanRow sound) g.kept.rows
+  pub hidden : shown ≡ 0
+
+-- it has this size, keeps so many rows, and shows none of them
+abbrev pub IsUnscrolledSheet : Limits → GridView → Type 0
+IsUnscrolledSheet l g = HasLimits l g.height g.width g.kept.keeps g.kept.capacity g.kept.offset
+
+pub record IsFineSheet (l : Limits) (g : GridView) : Type 0 where
+  pub limits : IsUnscrolledSheet l g
+  pub grid : IsGrid g
 
 -- the same of a sheet with its rows
 pub record IsShownSheet (l : Limits) (g : GridView) : Type 0 where
-  pub fine : IsUnscrolledSheet l g
+  pub fine : IsFineSheet l g
   pub some : IsAllocated g
 
-pub drawn-if : (l : Limits) (b : Bool) (g h : GridView) → IsShownSheet l g → IsShownSheet l h → IsShownSheet l (cond b g h)
+drawn-if : (l : Limits) (b : Bool) (g h : GridView) → IsShownSheet l g → IsShownSheet l h → IsShownSheet l (cond b g h)
 drawn-if l b g h p q = cond_both b g h (λ x. IsShownSheet l x) (λ _. p) (λ _. q)
 
 -- ---- other rows
 
 rows-drawn : (l : Limits) (g : GridView) (rows : List RowView) → IsShownSheet l g → IsGrid (record g { rows = rows })
-    → All (IsCleanRow sound) rows → length rows ≡ length g.rows → IsShownSheet l (record g { rows = rows })
-rows-drawn l g rows d i clean n = record {
-  fine = record {
-    grid = i;
-    height = d.fine.height;
-    width = d.fine.width;
-    keeps = d.fine.keeps;
-    capacity = d.fine.capacity;
-    few = d.fine.few;
-    hidden = d.fine.hidden;
-    rows = clean;
-    kept = d.fine.kept;
-  };
+    → length rows ≡ length g.rows → IsShownSheet l (record g { rows = rows })
+rows-drawn l g rows d i n = record {
+  fine = record { limits = d.fine.limits; grid = i };
   some = omega (arith, n, d.some);
 }
 
 positions-drawn : (l : Limits) (g : GridView) (f : ℕ → RowView) → IsShownSheet l g → IsGrid (with_rows g f)
-    → ((r : ℕ) → IsCleanRow sound (f r)) → IsShownSheet l (with_rows g f)
-positions-drawn l g f d i clean =
-    rows-drawn l g (rows_by_position (length g.rows) f) d i (clean-rows sound (length g.rows) f clean)
-    (length-rows_by_position (length g.rows) f)
+    → IsShownSheet l (with_rows g f)
+positions-drawn l g f d i =
+    rows-drawn l g (rows_by_position (length g.rows) f) d i (length-rows_by_position (length g.rows) f)
 
 pub row-drawn : (l : Limits) (g : GridView) (r : ℕ) (v : RowView) → IsShownSheet l g → IsGrid (with_row g r v)
-    → IsCleanRow sound v → IsShownSheet l (with_row g r v)
-row-drawn l g r v d i clean =
-    rows-drawn l g (set g.rows r v) d i (All-set (IsCleanRow sound) g.rows r v clean d.fine.rows)
-    (length-set g.rows r v)
+    → IsShownSheet l (with_row g r v)
+row-drawn l g r v d i = rows-drawn l g (set g.rows r v) d i (length-set g.rows r v)
 
 -- ---- erasing, and cells and lines that come in and go
 
-pub drawn-all_erased : (l : Limits) (g : GridView) (a : Attrs) → IsProper a → IsShownSheet l g → IsShownSheet l (all_erased g a)
-drawn-all_erased l g a p d =
-    positions-drawn l g (λ r. cleared_row (row_at g.rows r) a) d (IsGrid-all_erased g a d.fine.grid d.some)
-    (λ r. clean-cleared sound (row_at g.rows r) a p)
+pub drawn-all_erased : (l : Limits) (g : GridView) (a : Attrs) → IsShownSheet l g → IsShownSheet l (all_erased g a)
+drawn-all_erased l g a d = positions-drawn l g _ d (IsGrid-all_erased g a d.fine.grid d.some)
 
-pub drawn-all_erased_forward : (l : Limits) (g : GridView) (a : Attrs) → IsProper a → IsShownSheet l g
+pub drawn-all_erased_forward : (l : Limits) (g : GridView) (a : Attrs) → IsShownSheet l g
     → IsShownSheet l (all_erased_forward g a)
-drawn-all_erased_forward l g a p d =
-    positions-drawn l g (erased_forward_at g.rows g.row g.col g.width a) d
-    (IsGrid-all_erased_forward g a d.fine.grid d.some)
-    (clean-erased_forward sound g.rows g.row g.col g.width a p d.fine.rows)
+drawn-all_erased_forward l g a d = positions-drawn l g _ d (IsGrid-all_erased_forward g a d.fine.grid d.some)
 
-pub drawn-all_erased_backward : (l : Limits) (g : GridView) (a : Attrs) → IsProper a → IsShownSheet l g
+pub drawn-all_erased_backward : (l : Limits) (g : GridView) (a : Attrs) → IsShownSheet l g
     → IsShownSheet l (all_erased_backward g a)
-drawn-all_erased_backward l g a p d =
-    positions-drawn l g (erased_backward_at g.rows g.row (columns_to_cursor g) a) d
-    (IsGrid-all_erased_backward g a d.fine.grid d.some)
-    (clean-erased_backward sound g.rows g.row (columns_to_cursor g) a p d.fine.rows)
+drawn-all_erased_backward l g a d = positions-drawn l g _ d (IsGrid-all_erased_backward g a d.fine.grid d.some)
 
-pub drawn-row_erased : (l : Limits) (g : GridView) (a : Attrs) → IsProper a → IsShownSheet l g → IsShownSheet l (row_erased g a)
-drawn-row_erased l g a p d =
-    row-drawn l g g.row (cleared_row (row_of_cursor g) a) d (IsGrid-row_erased g a d.fine.grid d.some)
-    (clean-cleared sound (row_of_cursor g) a p)
+pub drawn-row_erased : (l : Limits) (g : GridView) (a : Attrs) → IsShownSheet l g → IsShownSheet l (row_erased g a)
+drawn-row_erased l g a d = row-drawn l g g.row _ d (IsGrid-row_erased g a d.fine.grid d.some)
 
-pub drawn-columns_erased : (l : Limits) (g : GridView) (s e : ℕ) (a : Attrs) → IsProper a → e ≤ g.width → IsShownSheet l g
+pub drawn-columns_erased : (l : Limits) (g : GridView) (s e : ℕ) (a : Attrs) → e ≤ g.width → IsShownSheet l g
     → IsShownSheet l (columns_erased g s e a)
-drawn-columns_erased l g s e a p h d =
-    row-drawn l g g.row (wiped_row (row_of_cursor g) s e a) d (IsGrid-columns_erased g s e a d.fine.grid d.some h)
-    (clean-wiped sound (row_of_cursor g) s e a p (clean-row sound g.rows d.fine.rows g.row))
+drawn-columns_erased l g s e a h d = row-drawn l g g.row _ d (IsGrid-columns_erased g s e a d.fine.grid d.some h)
 
 pub drawn-cells_inserted : (l : Limits) (g : GridView) (n : ℕ) → IsShownSheet l g → IsShownSheet l (cells_inserted g n)
-drawn-cells_inserted l g n d =
-    row-drawn l g g.row (inserted (row_of_cursor g) g.col n) d (IsGrid-cells_inserted g n d.fine.grid d.some)
-    (clean-inserted sound (row_of_cursor g) g.col n (clean-row sound g.rows d.fine.rows g.row))
+drawn-cells_inserted l g n d = row-drawn l g g.row _ d (IsGrid-cells_inserted g n d.fine.grid d.some)
 
 pub drawn-cells_deleted : (l : Limits) (g : GridView) (n : ℕ) → IsShownSheet l g → IsShownSheet l (cells_deleted g n)
-drawn-cells_deleted l g n d =
-    row-drawn l g g.row (removed (row_of_cursor g) g.col (min (g.col + n) g.width)) d
-    (IsGrid-cells_deleted g n d.fine.grid d.some)
-    (clean-removed sound (row_of_cursor g) g.col (min (g.col + n) g.width) (clean-row sound g.rows d.fine.rows g.row))
+drawn-cells_deleted l g n d = row-drawn l g g.row _ d (IsGrid-cells_deleted g n d.fine.grid d.some)
 
 drawn-lines_opened : (l : Limits) (g : GridView) (first n : ℕ) → IsShownSheet l g → IsShownSheet l (lines_opened g first n)
-drawn-lines_opened l g first n d =
-    positions-drawn l g (opened_line g.rows first (g.bottom + 1) (min n (g.bottom + 1 - first)) g.width) d
-    (IsGrid-lines_opened g first n d.fine.grid d.some)
-    (clean-opened_line sound g.rows first (g.bottom + 1) (min n (g.bottom + 1 - first)) g.width d.fine.rows)
+drawn-lines_opened l g first n d = positions-drawn l g _ d (IsGrid-lines_opened g first n d.fine.grid d.some)
 
 pub drawn-lines_inserted : (l : Limits) (g : GridView) (n : ℕ) → IsShownSheet l g → IsShownSheet l (lines_inserted g n)
 drawn-lines_inserted l g n d =
@@ -155,9 +121,7 @@ drawn-scrolled_down l g n d = drawn-if l (nat_lt 0 n) (lines_opened g g.top n) g
 moved-drawn : (l : Limits) (g : GridView) (first n : ℕ) → IsShownSheet l g
     → IsShownSheet l (with_rows g (moved_up g.rows first (g.bottom + 1) n g.width))
 moved-drawn l g first n d =
-    positions-drawn l g (moved_up g.rows first (g.bottom + 1) n g.width) d
-    (IsGrid-moved_up g first (g.bottom + 1) n d.fine.grid (region_rows g d.fine.grid d.some))
-    (clean-moved_up sound g.rows first (g.bottom + 1) n g.width d.fine.rows)
+    positions-drawn l g _ d (IsGrid-moved_up g first (g.bottom + 1) n d.fine.grid (region_rows g d.fine.grid d.some))
 
 pub drawn-lines_deleted : (l : Limits) (g : GridView) (n : ℕ) → IsShownSheet l g → IsShownSheet l (lines_deleted g n)
 drawn-lines_deleted l g n d =
@@ -167,110 +131,68 @@ drawn-lines_deleted l g n d =
 
 -- ---- the cursor and the region
 
--- where they stand
-pub record Places : Type 0 where
-  pub row : ℕ
-  pub col : ℕ
-  pub saved_row : ℕ
-  pub saved_col : ℕ
-  pub origin : Bool
-  pub saved_origin : Bool
-  pub top : ℕ
-  pub bottom : ℕ
-
-abbrev places_of : GridView → Places
-places_of g = record {
-  row = g.row;
-  col = g.col;
-  saved_row = g.saved_row;
-  saved_col = g.saved_col;
-  origin = g.origin;
-  saved_origin = g.saved_origin;
-  top = g.top;
-  bottom = g.bottom;
-}
-
-abbrev placed_at : GridView → Places → GridView
-placed_at g p = record g {
-  row = p.row;
-  col = p.col;
-  saved_row = p.saved_row;
-  saved_col = p.saved_col;
-  origin = p.origin;
-  saved_origin = p.saved_origin;
-  top = p.top;
-  bottom = p.bottom;
-}
-
-record AreOn (g : GridView) (p : Places) : Type 0 where
-  pub row : p.row < g.height
-  pub col : p.col ≤ g.width
-  pub saved_row : p.saved_row < g.height
-  pub saved_col : p.saved_col ≤ g.width
-  pub region : p.top ≤ p.bottom
-  pub region_end : p.bottom < g.height
-  pub region_lines : p.top ≡ p.bottom → g.height ≡ 1
-
-are-on : (g : GridView) → IsGrid g → AreOn g (places_of g)
-are-on g i = record {
-  row = i.cursor_row;
-  col = i.cursor_col;
-  saved_row = i.saved_row;
-  saved_col = i.saved_col;
-  region = i.region;
-  region_end = i.region_end;
-  region_lines = i.region_lines;
-}
-
-places-grid : (g : GridView) (p : Places) → IsGrid g → IsAllocated g → AreOn g p → IsGrid (placed_at g p)
-places-grid g p i a o = record {
-  sheet = i.sheet;
+-- a grid of the same size, with rows, cursors, a region, modes and kept rows of its own
+pub IsGrid-as : (g h : GridView) → IsGrid g → IsSheet g.height g.width h.rows → h.row < g.height → h.col ≤ g.width
+    → h.saved_row < g.height → h.saved_col ≤ g.width → h.top ≤ h.bottom → h.bottom < g.height
+    → (h.top ≡ h.bottom → g.height ≡ 1) → IsKept h.kept → IsShownWide h.kept g.height g.width
+    → (length h.rows ≡ 0 → record h { height = g.height; width = g.width }
+    ≡ new_grid g.height g.width (scrollback_of h.kept))
+    → IsGrid (record h { height = g.height; width = g.width })
+IsGrid-as g h i sheet row col saved_row saved_col region region_end region_lines kept shown fresh = record {
+  sheet = sheet;
   some_rows = i.some_rows;
   some_cols = i.some_cols;
   few_rows = i.few_rows;
   few_cols = i.few_cols;
-  cursor_row = o.row;
-  cursor_col = o.col;
-  saved_row = o.saved_row;
-  saved_col = o.saved_col;
-  region = o.region;
-  region_end = o.region_end;
-  region_lines = o.region_lines;
-  kept = i.kept;
-  shown = i.shown;
-  fresh = λ z. absurd (omega (arith, z, a));
+  cursor_row = row;
+  cursor_col = col;
+  saved_row = saved_row;
+  saved_col = saved_col;
+  region = region;
+  region_end = region_end;
+  region_lines = region_lines;
+  kept = kept;
+  shown = shown;
+  fresh = fresh;
 }
 
-places-drawn : (l : Limits) (g : GridView) (p : Places) → IsShownSheet l g → AreOn g p → IsShownSheet l (placed_at g p)
-places-drawn l g p d o = record {
-  fine = record {
-    grid = places-grid g p d.fine.grid d.some o;
-    height = d.fine.height;
-    width = d.fine.width;
-    keeps = d.fine.keeps;
-    capacity = d.fine.capacity;
-    few = d.fine.few;
-    hidden = d.fine.hidden;
-    rows = d.fine.rows;
-    kept = d.fine.kept;
-  };
-  some = d.some;
-}
+-- the same rows, with the cursors, the region and the modes of another grid
+region-drawn : (l : Limits) (g h : GridView) → IsShownSheet l g → h.row < g.height → h.col ≤ g.width
+    → h.saved_row < g.height → h.saved_col ≤ g.width → h.top ≤ h.bottom → h.bottom < g.height
+    → (h.top ≡ h.bottom → g.height ≡ 1)
+    → IsShownSheet l (record h { rows = g.rows; height = g.height; width = g.width; kept = g.kept })
+region-drawn l g h d row col saved_row saved_col region region_end region_lines =
+    let i = d.fine.grid in
+    record {
+      fine = record {
+        limits = d.fine.limits;
+        grid = IsGrid-as g (record h { rows = g.rows; kept = g.kept }) i i.sheet row col saved_row saved_col region
+            region_end region_lines i.kept i.shown (λ z. absurd (omega (arith, z, d.some)));
+      };
+      some = d.some;
+    }
+
+-- the region stays
+cursors-drawn : (l : Limits) (g h : GridView) → IsShownSheet l g → h.row < g.height → h.col ≤ g.width
+    → h.saved_row < g.height → h.saved_col ≤ g.width
+    → IsShownSheet l (record g {
+      row = h.row;
+      col = h.col;
+      saved_row = h.saved_row;
+      saved_col = h.saved_col;
+      origin = h.origin;
+      saved_origin = h.saved_origin;
+    })
+cursors-drawn l g h d row col saved_row saved_col =
+    let i = d.fine.grid in
+    region-drawn l g (record h { top = g.top; bottom = g.bottom }) d row col saved_row saved_col i.region i.region_end
+    i.region_lines
 
 -- the cursor goes to a place of the screen
 pub drawn-at : (l : Limits) (g : GridView) (row col : ℕ) → row < g.height → col ≤ g.width → IsShownSheet l g
     → IsShownSheet l (record g { row = row; col = col })
 drawn-at l g row col r c d =
-    let o = are-on g d.fine.grid in
-    places-drawn l g (record (places_of g) { row = row; col = col }) d (record {
-      row = r;
-      col = c;
-      saved_row = o.saved_row;
-      saved_col = o.saved_col;
-      region = o.region;
-      region_end = o.region_end;
-      region_lines = o.region_lines;
-    })
+    cursors-drawn l g (record g { row = row; col = col }) d r c d.fine.grid.saved_row d.fine.grid.saved_col
 
 pub drawn-col : (l : Limits) (g : GridView) (col : ℕ) → col ≤ g.width → IsShownSheet l g → IsShownSheet l (record g { col = col })
 drawn-col l g col c d = drawn-at l g g.row col d.fine.grid.cursor_row c d
@@ -289,75 +211,32 @@ drawn-cursor_at l g row col d =
 
 pub drawn-origin : (l : Limits) (g : GridView) (mode : Bool) → IsShownSheet l g → IsShownSheet l (with_origin g mode)
 drawn-origin l g mode d =
-    let o = are-on g d.fine.grid in
+    let i = d.fine.grid in
     drawn-cursor_at l (record g { origin = mode }) 0 0
-    (places-drawn l g (record (places_of g) { origin = mode }) d (record {
-      row = o.row;
-      col = o.col;
-      saved_row = o.saved_row;
-      saved_col = o.saved_col;
-      region = o.region;
-      region_end = o.region_end;
-      region_lines = o.region_lines;
-    }))
+    (cursors-drawn l g (record g { origin = mode }) d i.cursor_row i.cursor_col i.saved_row i.saved_col)
 
 pub drawn-saved : (l : Limits) (g : GridView) → IsShownSheet l g → IsShownSheet l (cursor_saved g)
 drawn-saved l g d =
-    let o = are-on g d.fine.grid in
-    places-drawn l g (record (places_of g) { saved_row = g.row; saved_col = g.col; saved_origin = g.origin }) d
-    (record {
-      row = o.row;
-      col = o.col;
-      saved_row = o.row;
-      saved_col = o.col;
-      region = o.region;
-      region_end = o.region_end;
-      region_lines = o.region_lines;
-    })
+    let i = d.fine.grid in
+    cursors-drawn l g (cursor_saved g) d i.cursor_row i.cursor_col i.cursor_row i.cursor_col
 
 pub drawn-restored : (l : Limits) (g : GridView) → IsShownSheet l g → IsShownSheet l (cursor_restored g)
 drawn-restored l g d =
-    let o = are-on g d.fine.grid in
-    places-drawn l g (record (places_of g) { row = g.saved_row; col = g.saved_col; origin = g.saved_origin }) d
-    (record {
-      row = o.saved_row;
-      col = o.saved_col;
-      saved_row = o.saved_row;
-      saved_col = o.saved_col;
-      region = o.region;
-      region_end = o.region_end;
-      region_lines = o.region_lines;
-    })
-
-is-less : (m n : ℕ) → nat_lt m n ≡ true → m < n
-is-less m n e = grind (arith, nat_tests)
+    let i = d.fine.grid in
+    cursors-drawn l g (cursor_restored g) d i.saved_row i.saved_col i.saved_row i.saved_col
 
 pub drawn-region : (l : Limits) (g : GridView) (top bottom : ℕ) → IsShownSheet l g → IsShownSheet l (with_region g top bottom)
 drawn-region l g top bottom d =
     let i = d.fine.grid in
-    let o = are-on g i in
     let end = min bottom (g.height - 1) in
     cond_both (nat_lt top end) (record g { top = top; bottom = end; row = top; col = 0 })
     (record g { top = 0; bottom = g.height - 1; row = 0; col = 0 }) (λ x. IsShownSheet l x)
-    (λ e. let less = is-less top end e in
-    places-drawn l g (record (places_of g) { top = top; bottom = end; row = top; col = 0 }) d (record {
-      row = omega (arith, less, i.some_rows);
-      col = omega arith;
-      saved_row = o.saved_row;
-      saved_col = o.saved_col;
-      region = omega (arith, less);
-      region_end = omega (arith, i.some_rows);
-      region_lines = λ same. absurd (omega (arith, less, same));
-    }))
-    (λ _. places-drawn l g (record (places_of g) { top = 0; bottom = g.height - 1; row = 0; col = 0 }) d (record {
-      row = i.some_rows;
-      col = omega arith;
-      saved_row = o.saved_row;
-      saved_col = o.saved_col;
-      region = omega arith;
-      region_end = omega (arith, i.some_rows);
-      region_lines = λ same. omega (arith, i.some_rows, same);
-    }))
+    (λ e. let less = ltb-true top end e in
+    region-drawn l g (record g { top = top; bottom = end; row = top; col = 0 }) d (omega (arith, less, i.some_rows))
+    (omega arith) i.saved_row i.saved_col (omega (arith, less)) (omega (arith, i.some_rows))
+    (λ same. absurd (omega (arith, less, same))))
+    (λ _. region-drawn l g (record g { top = 0; bottom = g.height - 1; row = 0; col = 0 }) d i.some_rows (omega arith)
+    i.saved_row i.saved_col (omega arith) (omega (arith, i.some_rows)) (λ same. omega (arith, i.some_rows, same)))
 
 pub drawn-down : (l : Limits) (g : GridView) (n : ℕ) → IsShownSheet l g → IsShownSheet l (moved_rows_down g n)
 drawn-down l g n d =
@@ -391,15 +270,6 @@ length-kept k left =
     ∙ ap (λ n. n + length (map trimmed (drop m left))) (length-drop (overflow k (length left)) k.rows)
     ∙ ap (λ n. (length k.rows - overflow k (length left)) + n) (length-map (drop m left) trimmed ∙ length-drop m left)
 
-kept-all : (P : RowView → Type 0) → ((v : RowView) → P v → P (trimmed v)) → (k : KeptPart) (left : List RowView)
-    → All P k.rows → All P left → All P (kept-rows k left)
-unfolding kept-rows
-kept-all P trims k left old new =
-    let m = length left - min (length left) k.capacity in
-    All-append P (drop (overflow k (length left)) k.rows) (map trimmed (drop m left))
-    (All-drop P (overflow k (length left)) k.rows old)
-    (All-map P trimmed (drop m left) (All-weaker P (λ v. P (trimmed v)) trims (drop m left) (All-drop P m left new)))
-
 none-shown : (n x : ℕ) → n ≡ 0 → cond (n == 0) 0 x ≡ 0
 none-shown n x e = grind (arith, nat_tests)
 
@@ -411,7 +281,8 @@ kept-after : (k : KeptPart) (left : List RowView) → IsKept k → All IsRow lef
 unfolding kept-rows
 kept-after k left i rows few hidden keeps =
     let n = length-kept k left in
-    let all = kept-all IsRow IsRow-trimmed k left (All-from_get_or IsRow k.rows (blank_row 0) i.each) rows in
+    let all : All IsRow (kept-rows k left) = kept-all IsRow IsRow-trimmed k left
+    (All-from_get_or IsRow k.rows (blank_row 0) i.each) rows in
     let off = kept-hidden k left hidden in
     record {
       each = λ j l. all j (blank_row 0) l;
@@ -422,33 +293,10 @@ kept-after k left i rows few hidden keeps =
       bounded = omega arith;
     }
 
-kept-drawn : (l : Limits) (g : GridView) (rows : List RowView) (k : KeptPart) → IsShownSheet l g
-    → IsGrid (record g { rows = rows; kept = k })
-    → All (IsCleanRow sound) rows → All (IsCleanRow sound) k.rows → length rows ≡ length g.rows → k.keeps ≡ g.kept.keeps
-    → k.capacity ≡ g.kept.capacity → k.offset ≡ 0 → IsShownSheet l (record g { rows = rows; kept = k })
-kept-drawn l g rows k d i clean clean_kept n keeps capacity hidden = record {
-  fine = record {
-    grid = i;
-    height = d.fine.height;
-    width = d.fine.width;
-    keeps = keeps ∙ d.fine.keeps;
-    capacity = capacity ∙ d.fine.capacity;
-    few = d.fine.few;
-    hidden = hidden;
-    rows = clean;
-    kept = clean_kept;
-  };
-  some = omega (arith, n, d.some);
-}
-
 -- ---- scrolling up
 
 sheet-rows : (g : GridView) → IsGrid g → All IsRow g.rows
 sheet-rows g i = All-from_get_or IsRow g.rows (blank_row 0) (λ r h. (i.sheet.each r h).row)
-
-both-are : (p q : Bool) → (p && q) ≡ true → q ≡ true
-both-are true q e = e
-both-are false q e = cc
 
 pub drawn-scrolled_up : (l : Limits) (g : GridView) (n : ℕ) → IsShownSheet l g → IsShownSheet l (scrolled_up g n).grid
 unfolding scrolled_up kept-rows
@@ -458,25 +306,33 @@ drawn-scrolled_up l g n d =
     let f = moved_up g.rows g.top (g.bottom + 1) (up_count g n) g.width in
     let rows = rows_by_position (length g.rows) f in
     let m = length-rows_by_position (length g.rows) f in
-    let clean = clean-rows sound (length g.rows) f (clean-moved_up sound g.rows g.top (g.bottom
-    + 1) (up_count g n) g.width d.fine.rows) in
     let k = kept_after g.kept left in
     cond_both (is_kept_from g) (widened k g.height g.width) g.kept
     (λ (x : KeptPart). IsShownSheet l (record g { rows = rows; kept = x }))
-    (λ e. let off = kept-hidden g.kept left d.fine.hidden in
+    (λ e. let off = kept-hidden g.kept left d.fine.limits.hidden in
     let all_left = All-take IsRow (up_count g n) (drop g.top g.rows) (All-drop IsRow g.top g.rows (sheet-rows g i)) in
-    let clean_left = All-take (IsCleanRow sound) (up_count g n) (drop g.top g.rows)
-    (All-drop (IsCleanRow sound) g.top g.rows d.fine.rows) in
-    let valid = kept-after g.kept left i.kept all_left (omega (arith, d.fine.capacity, d.fine.few)) d.fine.hidden
-    (both-are (g.top == 0) g.kept.keeps e) in
+    let few = d.fine.limits in
+    let valid = kept-after g.kept left i.kept all_left (omega (arith, few.capacity, few.few)) few.hidden
+    (and_parts (g.top == 0) g.kept.keeps e).1 in
     let narrow = IsShownWide-none k g.height g.width off in
     subst (λ (x : KeptPart). IsShownSheet l (record g { rows = rows; kept = x })) (sym
     (widened-none k g.height g.width narrow))
-    (kept-drawn l g rows k d
-    (IsGrid-scrolled g rows k i d.some m
-    (IsSheet-moved_up g.height g.width g.rows g.top (g.bottom + 1) (up_count g n) i.sheet i.some_rows i.few_cols
-    (region_rows g i d.some)) valid narrow)
-    clean (kept-all (IsCleanRow sound) (clean-trimmed sound) g.kept left d.fine.kept clean_left) m refl refl off))
+    (record {
+      fine = record {
+        limits = record {
+          height = few.height;
+          width = few.width;
+          keeps = few.keeps;
+          capacity = few.capacity;
+          few = few.few;
+          hidden = off;
+        };
+        grid = IsGrid-scrolled g rows k i d.some m
+            (IsSheet-moved_up g.height g.width g.rows g.top (g.bottom + 1) (up_count g n) i.sheet i.some_rows i.few_cols
+            (region_rows g i d.some)) valid narrow;
+      };
+      some = omega (arith, m, d.some);
+    }))
     (λ _. moved-drawn l g g.top (up_count g n) d)
 
 pub drawn-fed : (l : Limits) (g : GridView) (n : ℕ) → IsShownSheet l g → IsShownSheet l (fed g n).grid

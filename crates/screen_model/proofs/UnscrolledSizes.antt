@@ -1,21 +1,20 @@
 -- New sheets, other sizes, and what is kept by itself.
-use Rattle.std.proofs.Common.{◌≡◌, ℕ, ◌-◌, ◌^◌, ◌<◌, ◌≤◌, ◌==◌, Bool, true, false, cond, ◌&&◌, List, [], ◌++◌}
-use Rattle.std.proofs.Common.{length, drop, map, min, replicate, refl, sym, ap, ◌∙◌, arith, subst, ⊎_elim}
-use Rattle.std.proofs.Common.{nat_lt, All}
-use Rattle.std.proofs.lemmas.Bool.{cond_both, cases_lt, eqb-true, eq-eqb, false≢true}
+use Rattle.std.proofs.Common.{◌≡◌, ℕ, ◌-◌, ◌^◌, ◌<◌, ◌≤◌, ◌==◌, Bool, false, ◌&&◌, []}
+use Rattle.std.proofs.Common.{length, min, replicate, refl, sym, ap, ◌∙◌, arith, subst, ⊎_elim}
+use Rattle.std.proofs.Common.{nat_lt}
+use Rattle.std.proofs.lemmas.Bool.{cond_both, cases_lt, eqb-true, eq-eqb, ltb-true, ltb-false, and_parts, false≢true}
 use Rattle.std.proofs.lemmas.Bool.Decides.{nat_tests}
 use Rattle.std.proofs.lemmas.List.{length-replicate}
-use Rattle.std.proofs.lemmas.List.Elements.{All-nil, All-take, All-drop, All-append, All-map, All-replicate, All-weaker}
 use Rattle.vt100_cells.specs.Cell.{default_cell}
 use Rattle.vt100_rows.specs.Row.{RowView, blank_row, resized_row}
-use Rattle.vt100_rows.specs.Sheet.{row_at, first_rows}
+use Rattle.vt100_rows.specs.Sheet.{row_at}
 use Rattle.vt100_rows.proofs.SheetLemmas.{length-rows_by_position, IsSheet-blank, IsSheet-none}
 use Rattle.vt100_core.specs.Grid.{KeptPart, IsKept, GridView, IsAllocated, new_grid, keeps_of, capacity_of}
 use Rattle.vt100_core.specs.Grid.{allocated, cleared}
 use Rattle.vt100_core.specs.declared.scrollback.Scrollback.{Scrollback}
 use Rattle.vt100_core.specs.declared.scrollback.Scrollback.TheVariants.{Disabled, Enabled}
 use Rattle.vt100_core.specs.Scroll.{Scrolled, scrolled_up, up_count, scrollback_erased, scrollback_shown}
-use Rattle.vt100_core.specs.Resize.{whole_screen, up_rows, shortened, with_width, down_rows, rows_back, lengthened}
+use Rattle.vt100_core.specs.Resize.{whole_screen, up_rows, shortened, with_width, lengthened}
 use Rattle.vt100_core.specs.Resize.{resized}
 use Rattle.vt100_core.proofs.GridLemmas.{IsNew-of, new-again, no-rows}
 use Rattle.vt100_core.proofs.KeepLemmas.{IsShownWide-none}
@@ -23,9 +22,8 @@ use Rattle.vt100_core.proofs.StayLemmas.{widened-none, scrolls-none}
 use Rattle.vt100_core.proofs.ResizeLemmas.{IsGrid-whole_screen, IsGrid-shortened, IsGrid-with_width, some-shortened}
 use Rattle.vt100_core.proofs.ResizeLemmas.{some-lengthened}
 use Rattle.vt100_core.proofs.LengthenLemmas.{IsGrid-lengthened}
-use Rattle.screen_model.proofs.RowTraits.{IsCleanRow, sound, clean-blank, clean-resized, clean-first, clean-row}
-use Rattle.screen_model.proofs.RowTraits.{clean-rows}
-use Rattle.screen_model.proofs.UnscrolledSheets.{Limits, IsUnscrolledSheet, IsShownSheet, drawn-scrolled_up}
+use Rattle.screen_model.proofs.UnscrolledSheets.{Limits, HasLimits, IsUnscrolledSheet, IsFineSheet, IsShownSheet}
+use Rattle.screen_model.proofs.UnscrolledSheets.{IsGrid-as, drawn-scrolled_up}
 
 -- ---- a new sheet
 
@@ -48,7 +46,7 @@ new-kept s k keeps capacity rows offset off =
 
 pub new-fine : (height width : ℕ) (s : Scrollback) → 0 < height → height < 2 ^ 16 → 0 < width → width < 2 ^ 16
     → capacity_of s < 2 ^ 64
-    → IsUnscrolledSheet (record { height = height; width = width; keeps = keeps_of s; capacity = capacity_of s })
+    → IsFineSheet (record { height = height; width = width; keeps = keeps_of s; capacity = capacity_of s })
     (new_grid height width s)
 new-fine height width s some_rows few_rows some_cols few_cols few =
     let g = new_grid height width s in
@@ -84,106 +82,56 @@ new-fine height width s some_rows few_rows some_cols few_cols few =
           scrolled_off = refl;
         });
       };
-      height = refl;
-      width = refl;
-      keeps = refl;
-      capacity = refl;
-      few = few;
-      hidden = refl;
-      rows = All-nil (IsCleanRow sound);
-      kept = All-nil (IsCleanRow sound);
+      limits = record { height = refl; width = refl; keeps = refl; capacity = refl; few = few; hidden = refl };
     }
 
 -- ---- rows for it
 
-blank-rows : (l : Limits) (g : GridView) → IsUnscrolledSheet l g
+blank-rows : (l : Limits) (g : GridView) → IsFineSheet l g
     → IsShownSheet l (record g { rows = replicate g.height (blank_row g.width) })
 blank-rows l g d =
     let i = d.grid in
     let n = length-replicate g.height (blank_row g.width) in
     record {
       fine = record {
-        grid = record {
-          sheet = IsSheet-blank g.height g.width g.height (λ _. refl) i.few_cols;
-          some_rows = i.some_rows;
-          some_cols = i.some_cols;
-          few_rows = i.few_rows;
-          few_cols = i.few_cols;
-          cursor_row = i.cursor_row;
-          cursor_col = i.cursor_col;
-          saved_row = i.saved_row;
-          saved_col = i.saved_col;
-          region = i.region;
-          region_end = i.region_end;
-          region_lines = i.region_lines;
-          kept = i.kept;
-          shown = i.shown;
-          fresh = λ z. absurd (omega (arith, z, n, i.some_rows));
-        };
-        height = d.height;
-        width = d.width;
-        keeps = d.keeps;
-        capacity = d.capacity;
-        few = d.few;
-        hidden = d.hidden;
-        rows = All-replicate (IsCleanRow sound) g.height (blank_row g.width) (clean-blank sound g.width);
-        kept = d.kept;
+        grid = IsGrid-as g (record g { rows = replicate g.height (blank_row g.width) }) i
+            (IsSheet-blank g.height g.width g.height (λ _. refl) i.few_cols) i.cursor_row i.cursor_col i.saved_row
+            i.saved_col i.region i.region_end i.region_lines i.kept i.shown
+            (λ z. absurd (omega (arith, z, n, i.some_rows)));
+        limits = d.limits;
       };
       some = omega (arith, n, i.some_rows);
     }
 
-some-rows : (n : ℕ) → (n == 0) ≡ false → 0 < n
-some-rows n e = grind (arith, nat_tests)
-
-pub drawn-allocated : (l : Limits) (g : GridView) → IsUnscrolledSheet l g → IsShownSheet l (allocated g)
+pub drawn-allocated : (l : Limits) (g : GridView) → IsFineSheet l g → IsShownSheet l (allocated g)
 drawn-allocated l g d =
     cond_both (length g.rows == 0) (record g { rows = replicate g.height (blank_row g.width) }) g (λ x. IsShownSheet l x)
     (λ _. blank-rows l g d)
-    (λ e. record { fine = d; some = some-rows (length g.rows) e })
+    (λ e. record { fine = d; some = grind (arith, nat_tests) })
 
-pub fine-cleared : (l : Limits) (g : GridView) → IsUnscrolledSheet l g → IsUnscrolledSheet l (cleared g)
+pub fine-cleared : (l : Limits) (g : GridView) → IsFineSheet l g → IsFineSheet l (cleared g)
 fine-cleared l g d =
     let i = d.grid in
     let n = length-replicate (length g.rows) (blank_row g.width) in
     record {
-      grid = record {
-        sheet = IsSheet-blank g.height g.width (length g.rows) i.sheet.count i.few_cols;
-        some_rows = i.some_rows;
-        some_cols = i.some_cols;
-        few_rows = i.few_rows;
-        few_cols = i.few_cols;
-        cursor_row = i.some_rows;
-        cursor_col = omega arith;
-        saved_row = i.some_rows;
-        saved_col = omega arith;
-        region = omega arith;
-        region_end = omega (arith, i.some_rows);
-        region_lines = λ e. omega (arith, i.some_rows, e);
-        kept = i.kept;
-        shown = i.shown;
-        fresh = λ z. let m = IsNew-of g i (sym n ∙ z) in new-again (cleared g) i.kept (record {
-          rows = no-rows (cleared g).rows z;
-          row = refl;
-          col = refl;
-          saved_row = refl;
-          saved_col = refl;
-          origin = refl;
-          saved_origin = refl;
-          top = refl;
-          bottom = refl;
-          kept_rows = m.kept_rows;
-          offset = m.offset;
-          scrolled_off = m.scrolled_off;
-        });
-      };
-      height = d.height;
-      width = d.width;
-      keeps = d.keeps;
-      capacity = d.capacity;
-      few = d.few;
-      hidden = d.hidden;
-      rows = All-replicate (IsCleanRow sound) (length g.rows) (blank_row g.width) (clean-blank sound g.width);
-      kept = d.kept;
+      grid = IsGrid-as g (cleared g) i
+          (IsSheet-blank g.height g.width (length g.rows) i.sheet.count i.few_cols) i.some_rows (omega arith) i.some_rows
+          (omega arith) (omega arith) (omega (arith, i.some_rows)) (λ e. omega (arith, i.some_rows, e)) i.kept i.shown
+          (λ z. let m = IsNew-of g i (sym n ∙ z) in new-again (cleared g) i.kept (record {
+            rows = no-rows (cleared g).rows z;
+            row = refl;
+            col = refl;
+            saved_row = refl;
+            saved_col = refl;
+            origin = refl;
+            saved_origin = refl;
+            top = refl;
+            bottom = refl;
+            kept_rows = m.kept_rows;
+            offset = m.offset;
+            scrolled_off = m.scrolled_off;
+          }));
+      limits = d.limits;
     }
 
 pub drawn-cleared : (l : Limits) (g : GridView) → IsShownSheet l g → IsShownSheet l (cleared g)
@@ -206,6 +154,7 @@ none-shown g e =
 pub drawn-none_kept : (l : Limits) (g : GridView) → IsShownSheet l g → IsShownSheet l (scrollback_erased g)
 drawn-none_kept l g d =
     let i = d.fine.grid in
+    let few = d.fine.limits in
     let k : KeptPart = record (g.kept) { rows = []; offset = 0; scrolled_off = 0 } in
     let kept : IsKept k = record {
       each = λ j h. absurd (omega arith);
@@ -217,31 +166,17 @@ drawn-none_kept l g d =
     } in
     record {
       fine = record {
-        grid = record {
-          sheet = i.sheet;
-          some_rows = i.some_rows;
-          some_cols = i.some_cols;
-          few_rows = i.few_rows;
-          few_cols = i.few_cols;
-          cursor_row = i.cursor_row;
-          cursor_col = i.cursor_col;
-          saved_row = i.saved_row;
-          saved_col = i.saved_col;
-          region = i.region;
-          region_end = i.region_end;
-          region_lines = i.region_lines;
-          kept = kept;
-          shown = IsShownWide-none k g.height g.width refl;
-          fresh = λ z. absurd (omega (arith, z, d.some));
+        grid = IsGrid-as g (record g { kept = k }) i i.sheet i.cursor_row i.cursor_col i.saved_row i.saved_col i.region
+            i.region_end i.region_lines kept (IsShownWide-none k g.height g.width refl)
+            (λ z. absurd (omega (arith, z, d.some)));
+        limits = record {
+          height = few.height;
+          width = few.width;
+          keeps = few.keeps;
+          capacity = few.capacity;
+          few = few.few;
+          hidden = refl;
         };
-        height = d.fine.height;
-        width = d.fine.width;
-        keeps = d.fine.keeps;
-        capacity = d.fine.capacity;
-        few = d.fine.few;
-        hidden = refl;
-        rows = d.fine.rows;
-        kept = All-nil (IsCleanRow sound);
       };
       some = d.some;
     }
@@ -251,94 +186,57 @@ drawn-none_kept l g d =
 abbrev sized : Limits → ℕ → ℕ → Limits
 sized l height width = record l { height = height; width = width }
 
-whole-fine : (l : Limits) (g : GridView) → IsUnscrolledSheet l g → IsUnscrolledSheet l (whole_screen g)
-whole-fine l g d = record {
-  grid = IsGrid-whole_screen g d.grid;
-  height = d.height;
-  width = d.width;
-  keeps = d.keeps;
-  capacity = d.capacity;
-  few = d.few;
-  hidden = refl;
-  rows = d.rows;
-  kept = d.kept;
-}
-
-width-fine : (l : Limits) (g : GridView) (width : ℕ) → IsUnscrolledSheet l g → 0 < width → width < 2 ^ 16
-    → IsUnscrolledSheet (sized l l.height width) (with_width g width)
-width-fine l g width d some small =
-    let f : ℕ → RowView = λ r. resized_row (row_at g.rows r) width default_cell in
+whole-fine : (l : Limits) (g : GridView) → IsFineSheet l g → IsFineSheet l (whole_screen g)
+whole-fine l g d =
+    let few = d.limits in
     record {
-      grid = IsGrid-with_width g width d.grid some small d.hidden;
-      height = d.height;
-      width = refl;
-      keeps = d.keeps;
-      capacity = d.capacity;
-      few = d.few;
-      hidden = d.hidden;
-      rows = clean-rows sound (length g.rows) f
-          (λ r. clean-resized sound (row_at g.rows r) width (clean-row sound g.rows d.rows r));
-      kept = d.kept;
+      limits = record {
+        height = few.height;
+        width = few.width;
+        keeps = few.keeps;
+        capacity = few.capacity;
+        few = few.few;
+        hidden = refl;
+      };
+      grid = IsGrid-whole_screen g d.grid;
     }
 
-shorter-fine : (l : Limits) (g : GridView) (up height : ℕ) → IsUnscrolledSheet l g → 0 < height → height < g.height
-    → g.row - up < height → g.top ≡ 0 → IsUnscrolledSheet (sized l height l.width) (shortened g up height)
+-- as many rows are kept, on a screen of another size
+sized-limits : (l : Limits) (g : GridView) (height width rows cols : ℕ) → IsUnscrolledSheet l g → rows ≡ height
+    → cols ≡ width → HasLimits (sized l height width) rows cols g.kept.keeps g.kept.capacity g.kept.offset
+sized-limits l g height width rows cols few h w = record {
+  height = h;
+  width = w;
+  keeps = few.keeps;
+  capacity = few.capacity;
+  few = few.few;
+  hidden = few.hidden;
+}
+
+width-fine : (l : Limits) (g : GridView) (width : ℕ) → IsFineSheet l g → 0 < width → width < 2 ^ 16
+    → IsFineSheet (sized l l.height width) (with_width g width)
+width-fine l g width d some small = record {
+  limits = sized-limits l g l.height width g.height width d.limits d.limits.height refl;
+  grid = IsGrid-with_width g width d.grid some small d.limits.hidden;
+}
+
+shorter-fine : (l : Limits) (g : GridView) (up height : ℕ) → IsFineSheet l g → 0 < height → height < g.height
+    → g.row - up < height → g.top ≡ 0 → IsFineSheet (sized l height l.width) (shortened g up height)
 shorter-fine l g up height d some lower above top = record {
-  grid = IsGrid-shortened g up height d.grid some lower above top d.hidden;
-  height = refl;
-  width = d.width;
-  keeps = d.keeps;
-  capacity = d.capacity;
-  few = d.few;
-  hidden = d.hidden;
-  rows = clean-rows sound (min height (length g.rows)) (first_rows g.rows height)
-      (clean-first sound g.rows height d.rows);
-  kept = d.kept;
+  limits = sized-limits l g height l.width height g.width d.limits refl d.limits.width;
+  grid = IsGrid-shortened g up height d.grid some lower above top d.limits.hidden;
 }
 
-longer-fine : (l : Limits) (g : GridView) (height : ℕ) → IsUnscrolledSheet l g → g.height ≤ height → height < 2 ^ 16
-    → g.top ≡ 0 → IsUnscrolledSheet (sized l height l.width) (lengthened g height)
-longer-fine l g height d higher small top =
-    let down = down_rows g height in
-    let f : RowView → RowView = λ v. resized_row v g.width default_cell in
-    let newest = drop (length g.kept.rows - down) g.kept.rows in
-    let below = replicate (height - g.height - down) (blank_row g.width) in
-    let back : All (IsCleanRow sound) (rows_back g down) = All-append (IsCleanRow sound)
-    (replicate (down - length g.kept.rows) (blank_row g.width)) (map f newest)
-    (All-replicate (IsCleanRow sound) (down - length g.kept.rows) (blank_row g.width) (clean-blank sound g.width))
-    (All-map (IsCleanRow sound) f newest (All-weaker (IsCleanRow sound) (λ v. IsCleanRow sound (f v))
-    (λ v h. clean-resized sound v g.width h) newest
-    (All-drop (IsCleanRow sound) (length g.kept.rows - down) g.kept.rows d.kept))) in
-    record {
-      grid = IsGrid-lengthened g height d.grid higher small top d.hidden;
-      height = refl;
-      width = d.width;
-      keeps = d.keeps;
-      capacity = d.capacity;
-      few = d.few;
-      hidden = d.hidden;
-      rows = cond_both (length g.rows == 0) [] (rows_back g down ++ g.rows ++ below)
-          (λ (xs : List RowView). All (IsCleanRow sound) xs) (λ _. All-nil (IsCleanRow sound))
-          (λ _. All-append (IsCleanRow sound) (rows_back g down ++ g.rows) below
-          (All-append (IsCleanRow sound) (rows_back g down) g.rows back d.rows)
-          (All-replicate (IsCleanRow sound) (height - g.height - down) (blank_row g.width)
-          (clean-blank sound g.width)));
-      kept = All-take (IsCleanRow sound) (length g.kept.rows - down) g.kept.rows d.kept;
-    }
-
-both-are : (p q : Bool) → (p && q) ≡ true → (p ≡ true) × (q ≡ true)
-both-are true q e = (refl, e)
-both-are false q e = absurd (false≢true e)
-
-not-less : (m n : ℕ) → nat_lt m n ≡ false → n ≤ m
-not-less m n e = grind (arith, nat_tests)
-
-is-less : (m n : ℕ) → nat_lt m n ≡ true → m < n
-is-less m n e = grind (arith, nat_tests)
+longer-fine : (l : Limits) (g : GridView) (height : ℕ) → IsFineSheet l g → g.height ≤ height → height < 2 ^ 16
+    → g.top ≡ 0 → IsFineSheet (sized l height l.width) (lengthened g height)
+longer-fine l g height d higher small top = record {
+  limits = sized-limits l g height l.width height g.width d.limits refl d.limits.width;
+  grid = IsGrid-lengthened g height d.grid higher small top d.limits.hidden;
+}
 
 -- of a sheet without rows none scrolls off
-scrolled-fine : (l : Limits) (g : GridView) (height : ℕ) → IsUnscrolledSheet l g → 0 < height
-    → IsUnscrolledSheet l (scrolled_up (whole_screen g) (up_rows g height)).grid
+scrolled-fine : (l : Limits) (g : GridView) (height : ℕ) → IsFineSheet l g → 0 < height
+    → IsFineSheet l (scrolled_up (whole_screen g) (up_rows g height)).grid
 scrolled-fine l g height d some =
     let whole = whole-fine l g d in
     let up = up_rows g height in
@@ -347,12 +245,12 @@ scrolled-fine l g height d some =
     (λ (a : length g.rows ≤ 0).
     let new = IsNew-of g d.grid (omega arith) in
     let none : up_count (whole_screen g) up ≡ 0 = omega (arith, new.row, d.grid.some_rows) in
-    subst (λ x. IsUnscrolledSheet l x) (scrolls-none (whole_screen g) up none whole.grid.kept whole.grid.shown) whole)
+    subst (λ x. IsFineSheet l x) (scrolls-none (whole_screen g) up none whole.grid.kept whole.grid.shown) whole)
     (cases_lt 0 (length g.rows))
 
-lower-fine : (l : Limits) (g : GridView) (height width : ℕ) → IsUnscrolledSheet l g → 0 < height → height < g.height → 0 < width
+lower-fine : (l : Limits) (g : GridView) (height width : ℕ) → IsFineSheet l g → 0 < height → height < g.height → 0 < width
     → width < 2 ^ 16
-    → IsUnscrolledSheet (sized l height width)
+    → IsFineSheet (sized l height width)
     (with_width (shortened (scrolled_up (whole_screen g) (up_rows g height)).grid (up_rows g height) height) width)
 unfolding scrolled_up
 lower-fine l g height width d some lower some_cols few_cols =
@@ -362,43 +260,37 @@ lower-fine l g height width d some lower some_cols few_cols =
     width-fine (sized l height l.width) (shortened s up height) width
     (shorter-fine l s up height (scrolled-fine l g height d some) some lower above refl) some_cols few_cols
 
-higher-fine : (l : Limits) (g : GridView) (height width : ℕ) → IsUnscrolledSheet l g → g.height ≤ height → height < 2 ^ 16
+higher-fine : (l : Limits) (g : GridView) (height width : ℕ) → IsFineSheet l g → g.height ≤ height → height < 2 ^ 16
     → 0 < width → width < 2 ^ 16
-    → IsUnscrolledSheet (sized l height width) (lengthened (with_width (whole_screen g) width) height)
+    → IsFineSheet (sized l height width) (lengthened (with_width (whole_screen g) width) height)
 higher-fine l g height width d higher few_rows some_cols few_cols =
     longer-fine (sized l l.height width) (with_width (whole_screen g) width) height
     (width-fine l (whole_screen g) width (whole-fine l g d) some_cols few_cols) higher few_rows refl
 
-same-fine : (l : Limits) (g : GridView) (height width : ℕ) → IsUnscrolledSheet l g → height ≡ g.height → width ≡ g.width
-    → IsUnscrolledSheet (sized l height width) g
-same-fine l g height width d h w = record {
-  grid = d.grid;
-  height = sym h;
-  width = sym w;
-  keeps = d.keeps;
-  capacity = d.capacity;
-  few = d.few;
-  hidden = d.hidden;
-  rows = d.rows;
-  kept = d.kept;
-}
-
-pub fine-resized : (l : Limits) (g : GridView) (height width : ℕ) → IsUnscrolledSheet l g → 0 < height → height < 2 ^ 16
-    → 0 < width → width < 2 ^ 16 → IsUnscrolledSheet (sized l height width) (resized g height width).grid
+-- the sheet itself where the size stays, or a lower or a higher one
+resized-either : (P : GridView → Type 0) (g : GridView) (height width : ℕ) → (height ≡ g.height → width ≡ g.width → P g)
+    → (height < g.height
+    → P (with_width (shortened (scrolled_up (whole_screen g) (up_rows g height)).grid (up_rows g height) height) width))
+    → (g.height ≤ height → P (lengthened (with_width (whole_screen g) width) height)) → P (resized g height width).grid
 unfolding resized
+resized-either P g height width same lower higher =
+    cond_both ((height == g.height) && (width == g.width)) (record { grid = g; sunk = [] }) _
+    (λ (x : Scrolled). P x.grid)
+    (λ e. let parts = and_parts (height == g.height) (width == g.width) e in
+    same (eqb-true height g.height parts.0) (eqb-true width g.width parts.1))
+    (λ _. cond_both (nat_lt height g.height) _ _ (λ (x : Scrolled). P x.grid)
+    (λ e. lower (ltb-true height g.height e)) (λ e. higher (ltb-false height g.height e)))
+
+pub fine-resized : (l : Limits) (g : GridView) (height width : ℕ) → IsFineSheet l g → 0 < height → height < 2 ^ 16
+    → 0 < width → width < 2 ^ 16 → IsFineSheet (sized l height width) (resized g height width).grid
 fine-resized l g height width d some_rows few_rows some_cols few_cols =
-    let up = up_rows g height in
-    let s = scrolled_up (whole_screen g) up in
-    let lower : Scrolled = record { grid = with_width (shortened s.grid up height) width; sunk = s.sunk } in
-    let higher : Scrolled = record { grid = lengthened (with_width (whole_screen g) width) height; sunk = [] } in
-    let same : Scrolled = record { grid = g; sunk = [] } in
-    cond_both ((height == g.height) && (width == g.width)) same (cond (nat_lt height g.height) lower higher)
-    (λ (x : Scrolled). IsUnscrolledSheet (sized l height width) x.grid)
-    (λ e. let parts = both-are (height == g.height) (width == g.width) e in
-    same-fine l g height width d (eqb-true height g.height parts.0) (eqb-true width g.width parts.1))
-    (λ _. cond_both (nat_lt height g.height) lower higher (λ (x : Scrolled). IsUnscrolledSheet (sized l height width) x.grid)
-    (λ e. lower-fine l g height width d some_rows (is-less height g.height e) some_cols few_cols)
-    (λ e. higher-fine l g height width d (not-less height g.height e) few_rows some_cols few_cols))
+    resized-either (IsFineSheet (sized l height width)) g height width
+    (λ h w. record {
+      limits = sized-limits l g height width g.height g.width d.limits (sym h) (sym w);
+      grid = d.grid;
+    })
+    (λ e. lower-fine l g height width d some_rows e some_cols few_cols)
+    (λ e. higher-fine l g height width d e few_rows some_cols few_cols)
 
 -- a sheet that has rows keeps some
 lower-some : (l : Limits) (g : GridView) (height width : ℕ) → IsShownSheet l g → 0 < height
@@ -422,27 +314,11 @@ higher-some g height width a =
 
 pub some-resized : (l : Limits) (g : GridView) (height width : ℕ) → IsShownSheet l g → 0 < height
     → IsAllocated (resized g height width).grid
-unfolding resized
 some-resized l g height width d some_rows =
-    let up = up_rows g height in
-    let s = scrolled_up (whole_screen g) up in
-    let lower : Scrolled = record { grid = with_width (shortened s.grid up height) width; sunk = s.sunk } in
-    let higher : Scrolled = record { grid = lengthened (with_width (whole_screen g) width) height; sunk = [] } in
-    let same : Scrolled = record { grid = g; sunk = [] } in
-    cond_both ((height == g.height) && (width == g.width)) same (cond (nat_lt height g.height) lower higher)
-    (λ (x : Scrolled). IsAllocated x.grid) (λ _. d.some)
-    (λ _. cond_both (nat_lt height g.height) lower higher (λ (x : Scrolled). IsAllocated x.grid)
-    (λ _. lower-some l g height width d some_rows) (λ _. higher-some g height width d.some))
+    resized-either IsAllocated g height width (λ _ _. d.some) (λ _. lower-some l g height width d some_rows)
+    (λ _. higher-some g height width d.some)
 
 -- the same size changes nothing
 pub resized-same : (g : GridView) → resized g g.height g.width ≡ record { grid = g; sunk = [] }
 unfolding resized
-resized-same g =
-    let up = up_rows g g.height in
-    let s = scrolled_up (whole_screen g) up in
-    let lower : Scrolled = record { grid = with_width (shortened s.grid up g.height) g.width; sunk = s.sunk } in
-    let higher : Scrolled = record { grid = lengthened (with_width (whole_screen g) g.width) g.height; sunk = [] } in
-    let same : Scrolled = record { grid = g; sunk = [] } in
-    ap (λ b. cond (b && (g.width == g.width)) same (cond (nat_lt g.height g.height) lower higher))
-    (eq-eqb g.height g.height refl)
-    ∙ ap (λ b. cond b same (cond (nat_lt g.height g.height) lower higher)) (eq-eqb g.width g.width refl)
+resized-same g = rw (eq-eqb g.height g.height refl, eq-eqb g.width g.width refl) refl

@@ -6,14 +6,6 @@ use Rattle.vt100_core.specs.Scroll.{scrolled_up, fed, wrapped_on}
 use Rattle.vt100_core.specs.Text.{printed}
 use Rattle.screen_model.proofs.laws.events_stand_where_they_end.Goals as goal
 
-pub returns-clause-text : goal.returns-clause-text
+pub returns : goal.returns
 unfolding char_width printed scrolled_up fed wrapped_on resized
-returns-clause-text c = refl
-
-pub returns-clause-red : goal.returns-clause-red
-unfolding char_width printed scrolled_up fed wrapped_on resized
-returns-clause-red c = refl
-
-pub returns-clause-width : goal.returns-clause-width
-unfolding char_width printed scrolled_up fed wrapped_on resized
-returns-clause-width c = refl
+returns c = record { text = refl; red = refl; width = refl }

@@ -6,14 +6,6 @@ use Rattle.vt100_core.specs.Scroll.{scrolled_up, fed, wrapped_on}
 use Rattle.vt100_core.specs.Text.{printed}
 use Rattle.screen_model.proofs.laws.main_sheet_comes_back.Goals as goal
 
-pub returns-clause-alternate : goal.returns-clause-alternate
+pub returns : goal.returns
 unfolding char_width printed scrolled_up fed wrapped_on resized
-returns-clause-alternate c = refl
-
-pub returns-clause-main : goal.returns-clause-main
-unfolding char_width printed scrolled_up fed wrapped_on resized
-returns-clause-main c = refl
-
-pub returns-clause-cursor : goal.returns-clause-cursor
-unfolding char_width printed scrolled_up fed wrapped_on resized
-returns-clause-cursor c = refl
+returns c = record { alternate = refl; main = refl; cursor = refl }
