@@ -1,8 +1,7 @@
 -- Views of a run's sessions.
-use Rattle.std.proofs.Common.{◌≡◌, ◌∙◌, ℕ, zero, suc, ◌≤◌, ◌<◌, false, List, [], ◌∷◌, ◌++◌, length, take}
+use Rattle.std.proofs.Common.{◌≡◌, ◌∙◌, ℕ, zero, suc, ◌≤◌, false, List, [], ◌∷◌, ◌++◌, length, take}
 use Rattle.std.proofs.Common.{drop, map}
-use Rattle.std.proofs.Common.{Option, None, Some, refl, sym, ap, subst, arith, take-append-drop}
-use Rattle.std.specs.Prelude.{slice_index_or}
+use Rattle.std.proofs.Common.{Option, None, Some, sym, ap, subst, arith, take-append-drop}
 use Rattle.std.specs.List.{list_any, slice_get, concat}
 use Rattle.vte.specs.Moves.{Gives}
 use Rattle.vte.specs.Frames.{Drives}
@@ -31,17 +30,6 @@ use Rattle.relay_streams.proofs.LawLemmas.{given-Gives}
 use Rattle.relay_streams.proofs.PieceLemmas.{concat-cut_by}
 
 -- ---- logs
-
--- what stands at a place
-pub at-get : {X : Type 0} (xs : List X) (n : ℕ) (d : X) → n < length xs → slice_get xs n ≡ Some (slice_index_or xs n d)
-at-get [] n d h = absurd (omega (arith, h))
-at-get (x ∷ xs) zero d h = refl
-at-get (x ∷ xs) (suc n) d h = at-get xs n d (omega (arith, h))
-
-pub past-get : {X : Type 0} (xs : List X) (n : ℕ) → length xs ≤ n → slice_get xs n ≡ None
-past-get [] n h = refl
-past-get (x ∷ xs) zero h = absurd (omega (arith, h))
-past-get (x ∷ xs) (suc n) h = past-get xs n (omega (arith, h))
 
 none-logged : (ts : List Story) (n : ℕ) → slice_get (map (λ t. t.session) ts) n ≡ None → length ts ≤ n
 none-logged [] n is = omega arith

@@ -1,13 +1,16 @@
 -- The frames of pieces after pieces.
-use Rattle.std.proofs.Common.{◌≡◌, ◌∙◌, ℕ, Bool, true, false, ◌||◌, List, [], ◌∷◌, ◌++◌, map, Option, None, refl, sym, ap}
+use Rattle.std.proofs.Common.{◌≡◌, ◌∙◌, ℕ, true, false, ◌||◌, List, [], ◌∷◌, ◌++◌, map, Option, None, refl, sym, ap}
 use Rattle.std.proofs.Common.{append_assoc, append-nil}
 use Rattle.std.specs.List.{concat, list_any}
+use Rattle.std.proofs.lemmas.Bool.{or_from}
+use Rattle.std.proofs.lemmas.List.Folds.{list_any-append}
+use Rattle.std.proofs.Math.Bool.{or-true}
 use Rattle.terminal_model.specs.Term.{Shown}
 use Rattle.screen_model.specs.State.{State, fresh_state}
 use Rattle.screen_model.specs.Made.{Fed, made, made_on, events_added, played}
 use Rattle.vt100.proofs.PlayLemmas.{feeds_join, feeds_nothing}
 use Rattle.termrelay.specs.declared.answer.Answer.{Answer}
-use Rattle.termrelay.specs.declared.answer.Answer.TheVariants.{Full, Difference, Unsure, Unchanged, Behind, Held, TooLong}
+use Rattle.termrelay.specs.declared.answer.Answer.TheVariants.{TooLong}
 use Rattle.relay_streams.specs.Frames.{state_after, asked, answered, is_overlong}
 use Rattle.relay_streams.specs.Pieces.{pieces_of}
 
@@ -45,43 +48,19 @@ relay_text rows cols input = concat (frames_of rows cols (pieces_of input))
 
 -- ---- whether one of the answers is that the frame would be too long
 
-pub or-first : (a b : Bool) → (a || b) ≡ false → a ≡ false
-or-first true b h = absurd (let no : true ≡ false = h in cc)
-or-first false b h = refl
-
-pub or-rest : (a b : Bool) → (a || b) ≡ false → b ≡ false
-or-rest true b h = absurd (let no : true ≡ false = h in cc)
-or-rest false b h = h
-
-or-none : (a b : Bool) → a ≡ false → b ≡ false → (a || b) ≡ false
-or-none true b h k = h
-or-none false b h k = k
-
-or-last : (a b : Bool) → b ≡ true → (a || b) ≡ true
-or-last true b h = refl
-or-last false b h = h
-
 pub overlong-is : (a : Answer) → is_overlong a ≡ true → a ≡ TooLong
-overlong-is Full h = absurd (let no : false ≡ true = h in cc)
-overlong-is Difference h = absurd (let no : false ≡ true = h in cc)
-overlong-is Unsure h = absurd (let no : false ≡ true = h in cc)
-overlong-is Unchanged h = absurd (let no : false ≡ true = h in cc)
-overlong-is Behind h = absurd (let no : false ≡ true = h in cc)
-overlong-is Held h = absurd (let no : false ≡ true = h in cc)
 overlong-is TooLong h = refl
+overlong-is _ h = absurd (let no : false ≡ true = h in cc)
 
 none-more : (xs : List Answer) (a : Answer) → list_any is_overlong xs ≡ false → is_overlong a ≡ false
     → list_any is_overlong (xs ++ a ∷ []) ≡ false
-none-more [] a h k = or-none (is_overlong a) false k refl
-none-more (x ∷ xs) a h k =
-    or-none (is_overlong x) (list_any is_overlong (xs ++ a ∷ []))
-    (or-first (is_overlong x) (list_any is_overlong xs) h)
-    (none-more xs a (or-rest (is_overlong x) (list_any is_overlong xs) h) k)
+none-more xs a h k =
+    list_any-append is_overlong xs (a ∷ [])
+    ∙ or_from (list_any is_overlong xs) (list_any is_overlong (a ∷ [])) h (or_from (is_overlong a) false k refl)
 
 pub one-there : (front more : List Answer) → list_any is_overlong ((front ++ TooLong ∷ []) ++ more) ≡ true
 one-there [] more = refl
-one-there (x ∷ front) more =
-    or-last (is_overlong x) (list_any is_overlong ((front ++ TooLong ∷ []) ++ more)) (one-there front more)
+one-there (x ∷ front) more = ap (λ b. is_overlong x || b) (one-there front more) ∙ or-true (is_overlong x)
 
 -- ---- pieces
 
@@ -97,7 +76,8 @@ pub pieces-make : (rows cols : ℕ) (pieces : List (List ℕ))
 pieces-make rows cols pieces = pieces-join [] (fresh_state rows cols 0) pieces
 
 module _ (rows cols : ℕ) where
-  from-more : (past : List ℕ) (base : Option Shown) (pieces more : List (List ℕ))
+  -- more pieces have more frames
+  pub from-more : (past : List ℕ) (base : Option Shown) (pieces more : List (List ℕ))
       → frames_from rows cols past base (pieces ++ more)
       ≡ frames_from rows cols past base pieces
       ++ frames_from rows cols (past ++ concat pieces) (base_from rows cols past base pieces) more
@@ -109,7 +89,7 @@ module _ (rows cols : ℕ) where
       ∙ ap (λ xs. frames_from rows cols (past ++ p) next ps
       ++ frames_from rows cols xs (base_from rows cols (past ++ p) next ps) more) (append_assoc past p (concat ps)))
 
-  answers-later : (past : List ℕ) (base : Option Shown) (pieces more : List (List ℕ))
+  pub answers-later : (past : List ℕ) (base : Option Shown) (pieces more : List (List ℕ))
       → answers_from rows cols past base (pieces ++ more)
       ≡ answers_from rows cols past base pieces
       ++ answers_from rows cols (past ++ concat pieces) (base_from rows cols past base pieces) more
@@ -131,28 +111,19 @@ module _ (rows cols : ℕ) where
       ∙ ap (λ xs. base_from rows cols xs (base_from rows cols (past ++ p) next ps) more)
       (append_assoc past p (concat ps))
 
-  -- more pieces have more frames
-  pub frames-more : (pieces more : List (List ℕ)) → frames_of rows cols (pieces ++ more)
-      ≡ frames_of rows cols pieces ++ frames_from rows cols (concat pieces) (base_of rows cols pieces) more
-  frames-more pieces more = from-more [] None pieces more
-
-  pub answers-more : (pieces more : List (List ℕ)) → answers_of rows cols (pieces ++ more)
-      ≡ answers_of rows cols pieces ++ answers_from rows cols (concat pieces) (base_of rows cols pieces) more
-  answers-more pieces more = answers-later [] None pieces more
-
   -- one piece more
   pub frames-push : (pieces : List (List ℕ)) (piece : List ℕ) (bytes : List ℕ)
       → bytes ≡ concat pieces ++ piece → frames_of rows cols (pieces ++ piece ∷ [])
       ≡ frames_of rows cols pieces ++ (asked rows cols bytes (base_of rows cols pieces)).owed ∷ []
   frames-push pieces piece bytes is =
-      frames-more pieces (piece ∷ [])
+      from-more [] None pieces (piece ∷ [])
       ∙ ap (λ xs. frames_of rows cols pieces ++ (asked rows cols xs (base_of rows cols pieces)).owed ∷ []) (sym is)
 
   pub answers-push : (pieces : List (List ℕ)) (piece : List ℕ) (bytes : List ℕ)
       → bytes ≡ concat pieces ++ piece → answers_of rows cols (pieces ++ piece ∷ [])
       ≡ answers_of rows cols pieces ++ answered rows cols bytes (base_of rows cols pieces) ∷ []
   answers-push pieces piece bytes is =
-      answers-more pieces (piece ∷ [])
+      answers-later [] None pieces (piece ∷ [])
       ∙ ap (λ xs. answers_of rows cols pieces ++ answered rows cols xs (base_of rows cols pieces) ∷ []) (sym is)
 
   -- where no frame is too long, and neither is that of one piece more

@@ -1,8 +1,9 @@
 -- What commands leave, where the source and the writer tell their bytes.
-use Rattle.std.proofs.Common.{◌≡◌, ℕ, true, List, [], ◌∷◌, ◌++◌, append_assoc, append-nil, Option, None, Some, Ok, Err}
+use Rattle.std.proofs.Common.{◌≡◌, ℕ, true, List, [], ◌∷◌, ◌++◌, append-nil, Option, None, Some, Ok, Err}
 use Rattle.std.proofs.Common.{Result, OnOk, IfSome, take, refl, sym}
 use Rattle.std.proofs.Common.{ap, ◌∙◌, subst}
 use Rattle.std.specs.List.{concat, list_any}
+use Rattle.std.proofs.lemmas.List.Folds.{concat-append}
 use Rattle.std.specs.Io.KnownBytes.{Appends, Keeps}
 use Rattle.std.specs.declared.io.Error.{Error}
 use Rattle.terminal_model.specs.Term.{Size}
@@ -25,7 +26,7 @@ use Rattle.relay_streams.specs.Shown.{IsTextShown, Prints, Shows, sized}
 use Rattle.takers.proofs.AppendLemmas.{TakesFront-none, TakesFront-longer}
 use Rattle.relay_streams.proofs.PieceLemmas.{drained-pieces, drained-front, begun-front, begun-well}
 use Rattle.relay_streams.proofs.FrameLists.{frames_of, frames_from, answers_of, answers_from, base_of, relay_text}
-use Rattle.relay_streams.proofs.FrameLists.{frames-more, answers-more, one-there}
+use Rattle.relay_streams.proofs.FrameLists.{from-more, answers-later, one-there}
 use Rattle.relay_streams.proofs.SessionLemmas.{relayed-answers, frames-of, pumped-of, overlong-of, relayed-as}
 use Rattle.takers.proofs.SendLemmas.{sends-appends, sends-front, text-appends, text-front}
 use Rattle.relay_streams.proofs.LawLemmas.{texts_are_one}
@@ -47,10 +48,6 @@ known_if known bytes P is h = let all : IfSome (Some bytes) P = subst (λ (o : O
 
 Keeps-front : (a b c : Option (List ℕ)) (xs : List ℕ) → TakesFront a b xs → Keeps b c → TakesFront a c xs
 Keeps-front a b c xs (n, took) k = (n, Appends-kept a b c (take n xs) took k)
-
-concat-more : (xs ys : List (List ℕ)) → concat (xs ++ ys) ≡ concat xs ++ concat ys
-concat-more [] ys = refl
-concat-more (x ∷ xs) ys = ap (λ zs. x ++ zs) (concat-more xs ys) ∙ sym (append_assoc x (concat xs) (concat ys))
 
 abbrev stop : RelayError → Result (Unit {0}) RelayError
 stop e = Err e
@@ -80,7 +77,7 @@ module _ (S W : Type 0) (gives : S → ℕ → Result (List ℕ) Error → S →
     front-of rows cols w v pieces frames answer bytes relayed sends (more, are) =
         let rest = frames_from rows cols (concat pieces) (base_of rows cols pieces) more in
         let whole : concat (frames_of rows cols pieces) ++ concat rest ≡ relay_text rows cols bytes =
-        sym (concat-more (frames_of rows cols pieces) rest) ∙ ap concat (sym (frames-more rows cols pieces more))
+        sym (concat-append (frames_of rows cols pieces) rest) ∙ ap concat (sym (from-more rows cols [] None pieces more))
         ∙ ap (λ (ps : List (List ℕ)). concat (frames_of rows cols ps)) (sym are) in
         subst (TakesFront (contents w) (contents v)) whole
         (TakesFront-longer (contents w) (contents v) (concat (frames_of rows cols pieces)) (concat rest)
@@ -109,25 +106,18 @@ module _ (S W : Type 0) (gives : S → ℕ → Result (List ℕ) Error → S →
     streams-whole : (rows cols : ℕ) (s : S) (w : W) (answer : Result (Unit {0}) RelayError) (t : S) (v : W)
         (bytes : List ℕ) → Streams gives takes rows cols s w answer t v → answer ≡ Ok tt → left s ≡ Some bytes
         → (text : List ℕ) × IsRelayText rows cols bytes text × Appends (contents w) (contents v) text
-    streams-whole rows cols s w answer t v bytes (relayed.unread pieces frames rest e d are sends) ok is = absurd (cc)
-    streams-whole rows cols s w answer t v bytes (relayed.unmade pieces frames piece b are sends) ok is = absurd (cc)
-    streams-whole rows cols s w answer t v bytes (relayed.overlong pieces frames piece b are ends sends) ok is =
-        absurd (cc)
-    streams-whole rows cols s w answer t v bytes (relayed.stopped pieces frames e b are sends) ok is = absurd (cc)
     streams-whole rows cols s w answer t v bytes (relayed.sent pieces frames d are sends) ok is = (
       concat frames,
       relayed-as rows cols bytes pieces frames (concat frames) are
           (drained-pieces S gives left gave s pieces t bytes d is) refl,
       sends-appends W takes contents took w v frames (Ok tt) sends refl,
     )
+    streams-whole rows cols s w answer t v bytes _ ok is = absurd (cc)
 
     pub relays-text : (rows cols : ℕ) (s : S) (w : W) (answer : Result (Unit {0}) RelayError) (t : S) (v : W)
         → Relays gives takes flushes rows cols s w answer t v
         → OnOk answer (IfSome (left s) (λ bytes. (text : List ℕ) × IsRelayText rows cols bytes text
         × Appends (contents w) (contents v) text))
-    relays-text rows cols s w answer t v relayed.refused = tt
-    relays-text rows cols s w answer t v (relayed.broken e stream) = tt
-    relays-text rows cols s w answer t v (relayed.unflushed m e stream flush) = tt
     relays-text rows cols s w answer t v (relayed.written m stream flush) =
         if_known (left s) _ (λ bytes is.
         let whole = streams-whole rows cols s w (Ok tt) t m bytes stream refl is in (
@@ -135,6 +125,7 @@ module _ (S W : Type 0) (gives : S → ℕ → Result (List ℕ) Error → S →
           whole.1,
           Appends-kept (contents w) (contents m) (contents v) whole.0 whole.2 (flushed m (Ok tt) v flush),
         ))
+    relays-text rows cols s w answer t v _ = tt
 
     -- what was written is a front of the one text
     fronts : (rows cols key : ℕ) (w v : W) (bytes : List ℕ) (t : Story) → IsRelayed rows cols key (pieces_of bytes) t
@@ -143,7 +134,7 @@ module _ (S W : Type 0) (gives : S → ℕ → Result (List ℕ) Error → S →
     fronts rows cols key w v bytes t is took =
         subst (TakesFront (contents w) (contents v)) (sym (pumped-of rows cols key bytes t is)) took
 
-    pub relays-front : (rows cols : ℕ) (s : S) (w : W) (answer : Result (Unit {0}) RelayError) (t : S) (v : W)
+    relays-front : (rows cols : ℕ) (s : S) (w : W) (answer : Result (Unit {0}) RelayError) (t : S) (v : W)
         → Relays gives takes flushes rows cols s w answer t v
         → IfSome (left s) (λ bytes. (key : ℕ) (u : Story) → IsRelayed rows cols key (pieces_of bytes) u
         → TakesFront (contents w) (contents v) u.session.pumped)
@@ -169,7 +160,7 @@ module _ (S W : Type 0) (gives : S → ℕ → Result (List ℕ) Error → S →
         let first : answers_of rows cols pieces ≡ ends.front ++ TooLong ∷ [] =
         sym (relayed-answers rows cols ends.key pieces ends.story ends.is) ∙ ends.answers in
         let whole : answers_of rows cols all ≡ (ends.front ++ TooLong ∷ []) ++ rest =
-        ap (answers_of rows cols) are ∙ answers-more rows cols pieces more
+        ap (answers_of rows cols) are ∙ answers-later rows cols [] None pieces more
         ∙ ap (λ (xs : List Answer). xs ++ rest) first in
         overlong-of rows cols key all u is ∙ ap (λ (xs : List Answer). list_any is_overlong xs) whole
         ∙ one-there ends.front rest
@@ -180,32 +171,40 @@ module _ (S W : Type 0) (gives : S → ℕ → Result (List ℕ) Error → S →
         → has_overlong u ≡ true
     streams-long rows cols s w answer t v bytes (relayed.unread pieces frames rest e d are sends) long is key u so =
         absurd (no-read d.end e d.answered long)
-    streams-long rows cols s w answer t v bytes (relayed.unmade pieces frames piece b are sends) long is key u so =
-        absurd (cc)
     streams-long rows cols s w answer t v bytes (relayed.overlong pieces frames piece b are ends sends) long is key u so =
         let more = begun-well S gives left gave s (pieces ++ piece ∷ []) t bytes b is in
         long-front rows cols key (pieces ++ piece ∷ []) more.0 (pieces_of bytes) u ends more.1 so
-    streams-long rows cols s w answer t v bytes (relayed.stopped pieces frames e b are sends) long is key u so =
-        absurd (cc)
-    streams-long rows cols s w answer t v bytes (relayed.sent pieces frames d are sends) long is key u so = absurd (cc)
+    streams-long rows cols s w answer t v bytes _ long is key u so = absurd (cc)
 
-    pub relays-long : (rows cols : ℕ) (s : S) (w : W) (answer : Result (Unit {0}) RelayError) (t : S) (v : W)
+    relays-long : (rows cols : ℕ) (s : S) (w : W) (answer : Result (Unit {0}) RelayError) (t : S) (v : W)
         → Relays gives takes flushes rows cols s w answer t v → answer ≡ Err FrameTooLong
         → IfSome (left s) (λ bytes. (key : ℕ) (u : Story) → IsRelayed rows cols key (pieces_of bytes) u
         → has_overlong u ≡ true)
-    relays-long rows cols s w answer t v relayed.refused long = absurd (cc)
     relays-long rows cols s w answer t v (relayed.broken e stream) long =
         if_known (left s) _ (λ bytes is key u so. streams-long rows cols s w (Err e) t v bytes stream long is key u so)
-    relays-long rows cols s w answer t v (relayed.unflushed m e stream flush) long = absurd (cc)
-    relays-long rows cols s w answer t v (relayed.written m stream flush) long = absurd (cc)
+    relays-long rows cols s w answer t v _ long = absurd (cc)
+
+    -- all that its contract says of what it leaves
+    pub relays-told : (rows cols : ℕ) (s : S) (w : W) (answer : Result (Unit {0}) RelayError) (t : S) (v : W)
+        → Relays gives takes flushes rows cols s w answer t v
+        → OnOk answer (IfSome (left s) (λ bytes. (text : List ℕ) × IsRelayText rows cols bytes text
+        × Appends (contents w) (contents v) text))
+        × IfSome (left s) (λ bytes. (key : ℕ) (u : Story) → IsRelayed rows cols key (pieces_of bytes) u
+        → TakesFront (contents w) (contents v) u.session.pumped)
+        × (answer ≡ Err FrameTooLong → IfSome (left s) (λ bytes. (key : ℕ) (u : Story)
+        → IsRelayed rows cols key (pieces_of bytes) u → has_overlong u ≡ true))
+    relays-told rows cols s w answer t v r = (
+      relays-text rows cols s w answer t v r,
+      relays-front rows cols s w answer t v r,
+      relays-long rows cols s w answer t v r,
+    )
 
     pub prints-text : (w : W) (text : List ℕ) (answer : Result (Unit {0}) RelayError) (v : W)
         → Prints takes flushes w text answer v → OnOk answer (Appends (contents w) (contents v) text)
-    prints-text w text answer v (shown.stopped e sends) = tt
-    prints-text w text answer v (shown.unflushed m e sends flush) = tt
     prints-text w text answer v (shown.printed m sends flush) =
         Appends-kept (contents w) (contents m) (contents v) text
         (text-appends W takes contents took w m text (Ok tt) sends refl) (flushed m (Ok tt) v flush)
+    prints-text w text answer v _ = tt
 
     pub prints-front : (w : W) (text : List ℕ) (answer : Result (Unit {0}) RelayError) (v : W)
         → Prints takes flushes w text answer v → TakesFront (contents w) (contents v) text
@@ -233,22 +232,18 @@ module _ (S W : Type 0) (gives : S → ℕ → Result (List ℕ) Error → S →
         → Shows gives takes flushes z s w answer t v
         → OnOk answer (IfSome (left s) (λ bytes. (text : List ℕ) × IsTextShown z (pieces_of bytes) text
         × Appends (contents w) (contents v) text))
-    shows-text z s w answer t v shown.refused = tt
-    shows-text z s w answer t v (shown.unread pieces e d) = tt
     shows-text z s w answer t v (shown.shown pieces text d is prints) =
         on-ok answer (left s) _ (Appends (contents w) (contents v) text) (prints-text w text answer v prints)
         (λ bytes known took. (text, whole-shown z s t pieces text bytes d known is, took))
+    shows-text z s w answer t v _ = tt
 
     pub shows-front : (z : Size) (s : S) (w : W) (answer : Result (Unit {0}) RelayError) (t : S) (v : W)
         → Shows gives takes flushes z s w answer t v
         → IfSome (left s) (λ bytes. (text : List ℕ) → IsTextShown z (pieces_of bytes) text
         → TakesFront (contents w) (contents v) text)
-    shows-front z s w answer t v shown.refused =
-        if_known (left s) _ (λ bytes known text is. TakesFront-none (contents w) text)
-    shows-front z s w answer t v (shown.unread pieces e d) =
-        if_known (left s) _ (λ bytes known text is. TakesFront-none (contents w) text)
     shows-front z s w answer t v (shown.shown pieces text d is prints) =
         if_known (left s) _ (λ bytes known other so.
         subst (TakesFront (contents w) (contents v))
         (texts_are_one z (pieces_of bytes) text other (whole-shown z s t pieces text bytes d known is) so)
         (prints-front w text answer v prints))
+    shows-front z s w answer t v _ = if_known (left s) _ (λ bytes known text is. TakesFront-none (contents w) text)

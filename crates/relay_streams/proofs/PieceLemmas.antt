@@ -1,10 +1,9 @@
 -- Pieces that were read one after another.
 use Rattle.std.proofs.Common.{◌≡◌, ◌≢◌, ℕ, suc, ◌+◌, ◌-◌, ◌*◌, ◌/◌, ◌<◌, ◌≤◌, List, [], ◌∷◌, ◌++◌, Option, None, Some}
 use Rattle.std.proofs.Common.{Ok, Err, Result, length, take, drop, replicate, refl, sym, ap, ◌∙◌, arith, append_assoc}
-use Rattle.std.proofs.Common.{append-nil, length-append, take-append-drop, add_assoc, zero-add, subst, OnOk, min, ◌⊎◌}
-use Rattle.std.proofs.lemmas.Bool.{cases_lt}
-use mathlib.Core.Logic.{⊎_elim}
-use Rattle.std.proofs.lemmas.List.{take_at, drop_at, take_all, drop_all}
+use Rattle.std.proofs.Common.{append-nil, length-append, take-append-drop, add_assoc, zero-add, subst, OnOk, min}
+use Rattle.std.proofs.lemmas.List.{take_at, drop_at, take_min, drop_min}
+use Rattle.std.proofs.lemmas.List.Folds.{concat-append}
 use Rattle.std.proofs.lemmas.Nat.{div-mul-add}
 use Rattle.std.specs.List.{concat}
 use Rattle.std.specs.Io.KnownBytes.{Consumes, IsAtEnd, Keeps}
@@ -30,28 +29,15 @@ concat-cut_by (n ∷ ns) bytes =
 pub concat-pieces : (bytes : List ℕ) → concat (pieces_of bytes) ≡ bytes
 concat-pieces bytes = concat-cut_by (replicate (length bytes / piece_len) piece_len) bytes
 
--- a length that is cut to what is left
-pub take_least : (n : ℕ) (xs : List ℕ) → take n xs ≡ take (min n (length xs)) xs
-take_least n xs =
-    let l : (n < length xs) ⊎ (length xs ≤ n) = cases_lt n (length xs) in
-    ⊎_elim (λ a. let same : n ≡ min n (length xs) = omega (arith, a) in ap (λ j. take j xs) same)
-    (λ a. take_all n xs a ∙ sym (take_all (min n (length xs)) xs (omega (arith, a)))) l
-
-drop_least : (n : ℕ) (xs : List ℕ) → drop n xs ≡ drop (min n (length xs)) xs
-drop_least n xs =
-    let l : (n < length xs) ⊎ (length xs ≤ n) = cases_lt n (length xs) in
-    ⊎_elim (λ a. let same : n ≡ min n (length xs) = omega (arith, a) in ap (λ j. drop j xs) same)
-    (λ a. drop_all n xs a ∙ sym (drop_all (min n (length xs)) xs (omega (arith, a)))) l
-
 -- one piece more of those that are cut
 pub cut-one : (ns : List ℕ) (i n m : ℕ) (bytes : List ℕ) → drop i ns ≡ n ∷ drop (i + 1) ns → m ≡ min n (length bytes)
     → cut_by (drop i ns) bytes ≡ take m bytes ∷ cut_by (drop (i + 1) ns) (drop m bytes)
 cut-one ns i n m bytes at least =
     ap (λ (ks : List ℕ). cut_by ks bytes) at
     ∙ ap (λ (zs : List ℕ). zs ∷ cut_by (drop (i + 1) ns) (drop n bytes))
-    (take_least n bytes ∙ ap (λ k. take k bytes) (sym least))
+    (sym (take_min n bytes) ∙ ap (λ k. take k bytes) (sym least))
     ∙ ap (λ (zs : List ℕ). take m bytes ∷ cut_by (drop (i + 1) ns) zs)
-    (drop_least n bytes ∙ ap (λ k. drop k bytes) (sym least))
+    (sym (drop_min n bytes) ∙ ap (λ k. drop k bytes) (sym least))
 
 -- pieces that follow a full one
 cut-next : (k room : ℕ) (bytes rest : List ℕ) → length bytes ≡ room
@@ -140,12 +126,10 @@ module _ (S : Type 0) (step : S → ℕ → Result (List ℕ) Error → S → Ty
   pub fills-full : (s : S) (room n : ℕ) (bytes : List ℕ) (end : FillEnd) (t : S) → Fills step s room n bytes end t
       → end ≡ Full → length bytes ≡ room
   fills-full s room n bytes end t full e = refl
-  fills-full s room n bytes end t (stopped some) e = absurd (cc)
-  fills-full s room n bytes end t (ended some gave) e = absurd (cc)
-  fills-full s room n bytes end t (failed some fault other) e = absurd (cc)
   fills-full s room n bytes end t (again m fault some broke is rest) e = fills-full m _ _ _ _ t rest e
   fills-full s room n bytes end t (more {bytes = others} m some is fits gave rest) e =
       omega (arith, length-append some others, fits, fills-full m (room - length some) _ others end t rest e)
+  fills-full s room n bytes end t _ e = absurd (cc)
 
   pub fills-short : (s : S) (room n : ℕ) (bytes : List ℕ) (end : FillEnd) (t : S) → Fills step s room n bytes end t
       → end ≢ Full → length bytes < room
@@ -185,12 +169,10 @@ module _ (S : Type 0) (step : S → ℕ → Result (List ℕ) Error → S → Ty
 
     fills-ended : (s : S) (room n : ℕ) (bytes : List ℕ) (end : FillEnd) (t : S) → Fills step s room n bytes end t
         → end ≡ Ended → IsAtEnd (left t)
-    fills-ended s room n bytes end t full e = absurd (cc)
-    fills-ended s room n bytes end t (stopped some) e = absurd (cc)
     fills-ended s room n bytes end t (ended some gave) e = (tells s room (Ok []) t gave).1 refl some
-    fills-ended s room n bytes end t (failed some fault other) e = absurd (cc)
     fills-ended s room n bytes end t (again m fault some broke is rest) e = fills-ended m _ _ _ _ t rest e
     fills-ended s room n bytes end t (more m some is fits gave rest) e = fills-ended m _ _ _ _ t rest e
+    fills-ended s room n bytes end t _ e = absurd (cc)
 
     drains-taken : (room : ℕ) (s : S) (n : ℕ) (pieces : List (List ℕ)) (end : FillEnd) (t : S)
         → Drains step room s n pieces end t → Consumes (left s) (left t) (concat pieces)
@@ -336,8 +318,7 @@ full_end Ended answer len n room is ok short long =
     let e = sym is ∙ ok in
     let same : len ≡ n = cc in
     absurd (omega (arith, same, short (λ no. absurd (cc)), long))
-full_end Failed answer len n room is ok short long = absurd (let e = sym is ∙ ok in cc)
-full_end TooMany answer len n room is ok short long = absurd (let e = sym is ∙ ok in cc)
+full_end _ answer len n room is ok short long = absurd (let e = sym is ∙ ok in cc)
 
 short_end : (end : FillEnd) (answer : Result ℕ RelayError) (len n room : ℕ) → answer ≡ end_answer end len → answer ≡ Ok n
     → (end ≡ Full → len ≡ room) → n < room → (end ≡ Ended) × (n ≡ len)
@@ -347,35 +328,29 @@ short_end Full answer len n room is ok all low =
     absurd (omega (arith, same, all refl, low))
 short_end Ended answer len n room is ok all low =
     (refl, let e = sym is ∙ ok in cc)
-short_end Failed answer len n room is ok all low = absurd (let e = sym is ∙ ok in cc)
-short_end TooMany answer len n room is ok all low = absurd (let e = sym is ∙ ok in cc)
+short_end _ answer len n room is ok all low = absurd (let e = sym is ∙ ok in cc)
 
 well_end : (end : FillEnd) (answer : Result ℕ RelayError) (len n : ℕ) → answer ≡ end_answer end len → answer ≡ Ok n
     → (outcome_of end ≡ done) × (n ≡ len)
 well_end Full answer len n is ok = (refl, let e = sym is ∙ ok in cc)
 well_end Ended answer len n is ok = (refl, let e = sym is ∙ ok in cc)
-well_end Failed answer len n is ok = absurd (let e = sym is ∙ ok in cc)
-well_end TooMany answer len n is ok = absurd (let e = sym is ∙ ok in cc)
+well_end _ answer len n is ok = absurd (let e = sym is ∙ ok in cc)
 
 fault_end : (end : FillEnd) (answer : Result ℕ RelayError) (len : ℕ) (fault : RelayError) → answer ≡ end_answer end len
     → answer ≡ Err fault → (end ≢ Full) × (stop fault ≡ outcome_of end)
 fault_end Full answer len fault is err = absurd (let e = sym is ∙ err in cc)
 fault_end Ended answer len fault is err = absurd (let e = sym is ∙ err in cc)
-fault_end Failed answer len fault is err =
-    (λ no. absurd (cc), let e = sym err ∙ is in cc)
-fault_end TooMany answer len fault is err =
+fault_end _ answer len fault is err =
     (λ no. absurd (cc), let e = sym err ∙ is in cc)
 
 counted_end : (end : FillEnd) (answer : Result ℕ RelayError) (len n count : ℕ) → answer ≡ end_answer end len
     → answer ≡ Ok n → CountsTo end count → (end ≢ TooMany) × (count ≤ max_reads)
 counted_end Full answer len n count is ok most = (λ no. absurd (cc), most)
 counted_end Ended answer len n count is ok most = (λ no. absurd (cc), most)
-counted_end Failed answer len n count is ok most = absurd (let e = sym is ∙ ok in cc)
-counted_end TooMany answer len n count is ok most = absurd (let e = sym is ∙ ok in cc)
+counted_end _ answer len n count is ok most = absurd (let e = sym is ∙ ok in cc)
 
-module _ (S : Type 0) (step : S → ℕ → Result (List ℕ) Error → S → Type 0) (room : ℕ) (old now new : S)
-    (before after : ℕ) (past : List (List ℕ)) (piece : List ℕ) (answer : Result ℕ RelayError)
-    (f : Filled step now room before answer new piece after) where
+module _ {S : Type 0} {step : S → ℕ → Result (List ℕ) Error → S → Type 0} {room : ℕ} {now new : S} {before after : ℕ}
+    {piece : List ℕ} {answer : Result ℕ RelayError} (f : Filled step now room before answer new piece after) where
   -- reads were made, and there may be more
   pub filled_most : (n : ℕ) → answer ≡ Ok n → 0 < room → (after ≤ max_reads) × (before < after)
   filled_most n ok some =
@@ -383,61 +358,57 @@ module _ (S : Type 0) (step : S → ℕ → Result (List ℕ) Error → S → Ty
       let made = fills-made S step now room f.made f.bytes f.end new f.fills some most.0 in
       (most.1, omega (arith, f.counted, made))
 
+  -- its bytes, as they stand in the buffer
+  filled_as : (n : ℕ) (end : FillEnd) → f.end ≡ end → n ≡ length f.bytes
+      → Fills step now room f.made (take n piece) end new
+  filled_as n end is e =
+      subst (λ (k : FillEnd). Fills step now room f.made (take n piece) k new) is
+      (subst (λ (bytes : List ℕ). Fills step now room f.made bytes f.end new)
+      (sym f.front ∙ ap (λ (k : ℕ). take k piece) (sym e)) f.fills)
+
   -- a full piece
-  pub filled_on : (n : ℕ) → answer ≡ Ok n → room ≤ n → DrainsOn step room old now before past
-      → DrainsOn step room old new after (past ++ take n piece ∷ [])
-  filled_on n ok long d =
+  pub filled_on : {old : S} {past : List (List ℕ)} (n : ℕ) → answer ≡ Ok n → room ≤ n
+      → DrainsOn step room old now before past → DrainsOn step room old new after (past ++ take n piece ∷ [])
+  filled_on {old} {past} n ok long d =
       let end = full_end f.end answer (length f.bytes) n room f.answered ok
       (fills-short S step now room f.made f.bytes f.end new f.fills) long in
-      let same : f.bytes ≡ take n piece = sym f.front ∙ ap (λ (k : ℕ). take k piece) (sym end.1) in
-      let fills : Fills step now room f.made (take n piece) Full new =
-      subst (λ (bytes : List ℕ). Fills step now room f.made bytes Full new) same
-      (subst (λ (e : FillEnd). Fills step now room f.made f.bytes e new) end.0 f.fills) in
       subst (λ (k : ℕ). DrainsOn step room old new k (past ++ take n piece ∷ [])) (sym f.counted)
-      (one_more S step room old now new before f.made past (take n piece) d fills)
+      (one_more S step room old now new before f.made past (take n piece) d (filled_as n Full end.0 end.1))
 
   -- the last one
-  pub filled_last : (n : ℕ) → answer ≡ Ok n → n < room → DrainsOn step room old now before past
-      → Drained step room old (past ++ take n piece ∷ []) (Ok tt) new
-  filled_last n ok low d =
+  pub filled_last : {old : S} {past : List (List ℕ)} (n : ℕ) → answer ≡ Ok n → n < room
+      → DrainsOn step room old now before past → Drained step room old (past ++ take n piece ∷ []) (Ok tt) new
+  filled_last {old} {past} n ok low d =
       let end = short_end f.end answer (length f.bytes) n room f.answered ok
       (fills-full S step now room f.made f.bytes f.end new f.fills) low in
-      let same : f.bytes ≡ take n piece = sym f.front ∙ ap (λ (k : ℕ). take k piece) (sym end.1) in
-      let fills : Fills step now room f.made (take n piece) Ended new =
-      subst (λ (bytes : List ℕ). Fills step now room f.made bytes Ended new) same
-      (subst (λ (e : FillEnd). Fills step now room f.made f.bytes e new) end.0 f.fills) in
       let most = counted_end f.end answer (length f.bytes) n after f.answered ok f.most in
-      drained S step room old now new before f.made past (take n piece) Ended (Ok tt) d fills (λ no. absurd (cc))
-      (omega (arith, most.1, f.counted)) refl
+      drained S step room old now new before f.made past (take n piece) Ended (Ok tt) d
+      (filled_as n Ended end.0 end.1) (λ no. absurd (cc)) (omega (arith, most.1, f.counted)) refl
 
   -- one that was read well, full or not
-  pub filled_begun : (n : ℕ) → answer ≡ Ok n → DrainsOn step room old now before past
+  pub filled_begun : {old : S} {past : List (List ℕ)} (n : ℕ) → answer ≡ Ok n → DrainsOn step room old now before past
       → Begun step room old (past ++ take n piece ∷ []) new
-  filled_begun n ok d =
+  filled_begun {old} {past} n ok d =
       let end = well_end f.end answer (length f.bytes) n f.answered ok in
-      let same : f.bytes ≡ take n piece = sym f.front ∙ ap (λ (k : ℕ). take k piece) (sym end.1) in
-      let fills : Fills step now room f.made (take n piece) f.end new =
-      subst (λ (bytes : List ℕ). Fills step now room f.made bytes f.end new) same f.fills in
       record {
         made = before + f.made;
         end = f.end;
-        drains = d.further f.made (take n piece ∷ []) f.end new (last fills);
+        drains = d.further f.made (take n piece ∷ []) f.end new (last (filled_as n f.end refl end.1));
         most = subst (λ (k : ℕ). CountsTo f.end k) f.counted f.most;
         well = end.0;
       }
 
   -- one at which the reading stopped
-  pub filled_fault : (fault : RelayError) → answer ≡ Err fault → DrainsOn step room old now before past
-      → Drained step room old (past ++ f.bytes ∷ []) (Err fault) new
-  filled_fault fault err d =
+  pub filled_fault : {old : S} {past : List (List ℕ)} (fault : RelayError) → answer ≡ Err fault
+      → DrainsOn step room old now before past → Drained step room old (past ++ f.bytes ∷ []) (Err fault) new
+  filled_fault {old} {past} fault err d =
       let end = fault_end f.end answer (length f.bytes) fault f.answered err in
       drained S step room old now new before f.made past f.bytes f.end (Err fault) d f.fills end.0
       (subst (λ (k : ℕ). CountsTo f.end k) f.counted f.most) end.1
 
 -- the bytes of one piece more
 pub concat-push : (pieces : List (List ℕ)) (piece : List ℕ) → concat (pieces ++ piece ∷ []) ≡ concat pieces ++ piece
-concat-push [] piece = append-nil piece
-concat-push (p ∷ ps) piece = ap (λ zs. p ++ zs) (concat-push ps piece) ∙ sym (append_assoc p (concat ps) piece)
+concat-push pieces piece = concat-append pieces (piece ∷ []) ∙ ap (λ zs. concat pieces ++ zs) (append-nil piece)
 
 -- the answer is the fault at which the reading stopped
 pub stopped_so : (S : Type 0) (step : S → ℕ → Result (List ℕ) Error → S → Type 0) (room : ℕ) (old new : S)

@@ -2,6 +2,8 @@
 use Rattle.std.proofs.Common.{◌≡◌, ◌∙◌, ℕ, ◌/◌, Bool, true, false, List, [], ◌∷◌, ◌++◌, length, replicate, map}
 use Rattle.std.proofs.Common.{Option, Some, None, refl, sym, ap, subst, append_assoc, append-nil, if◌then◌else◌, arith, ◌&&◌}
 use Rattle.std.specs.List.{AllByRecursion, concat, list_any}
+use Rattle.std.proofs.lemmas.Bool.{or_parts}
+use Rattle.std.proofs.lemmas.List.Folds.{concat-append}
 use Rattle.std.proofs.lemmas.List.Elements.{All-from_recursion, All-push, All-nil}
 use Rattle.vte_core.specs.Ground.{AtGround}
 use Rattle.vte_core.proofs.GroundLemmas.{ground-nothing}
@@ -27,7 +29,7 @@ use Rattle.relay_streams.specs.Frames.{state_after, idle, answered, asked, is_ov
 use Rattle.relay_streams.specs.Pieces.{cut_by, piece_len, pieces_of}
 use Rattle.relay_streams.specs.Shown.{IsTextShown, screen_text, sized}
 use Rattle.relay_streams.specs.Laws.{RelayedIsShown}
-use Rattle.relay_streams.proofs.FrameLists.{frames_from, answers_from, answers_of, base_from, relay_text, or-first, or-rest}
+use Rattle.relay_streams.proofs.FrameLists.{frames_from, answers_from, answers_of, base_from, relay_text}
 use Rattle.relay_streams.proofs.LawLemmas.{given-Gives}
 use Rattle.relay_streams.proofs.PieceLemmas.{concat-pieces}
 use Rattle.relay_streams.proofs.SessionLemmas.{text-of, overlong-of}
@@ -104,16 +106,12 @@ module _ (z : Size) (small : IsSmall z) where
   all-join P [] ys h k = k
   all-join P (x ∷ xs) ys h k = (h.0, all-join P xs ys h.1 k)
 
-  concat-both : (xs ys : List (List ℕ)) → concat (xs ++ ys) ≡ concat xs ++ concat ys
-  concat-both [] ys = refl
-  concat-both (x ∷ xs) ys = ap (λ zs. x ++ zs) (concat-both xs ys) ∙ sym (append_assoc x (concat xs) (concat ys))
-
   after-leaves : (past one more : List ℕ) (base last : Option Shown) → Leaves past one base
       → Leaves (past ++ one) more last → Leaves past (one ++ more) last
   after-leaves past one more base last h k = record {
     frames = h.frames ++ k.frames;
     each = all-join IsFrame h.frames k.frames h.each k.each;
-    joined = concat-both h.frames k.frames ∙ ap (λ xs. xs ++ concat k.frames) h.joined
+    joined = concat-append h.frames k.frames ∙ ap (λ xs. xs ++ concat k.frames) h.joined
         ∙ ap (λ xs. one ++ xs) k.joined;
     read = subst (λ (xs : List ℕ). HasRead last xs) (append_assoc past one more) k.read;
   }
@@ -203,14 +201,14 @@ module _ (rows cols : ℕ) (height : IsSide rows) (width : IsSide cols) where
       let same : fed ++ p ≡ bytes = ap (λ xs. fed ++ xs) (sym (append-nil p)) ∙ is in
       let last : is_overlong (answered rows cols bytes base) ≡ false =
       ap (λ (xs : List ℕ). is_overlong (answered rows cols xs base)) (sym same)
-      ∙ or-first (is_overlong (answered rows cols (fed ++ p) base)) false fits in
+      ∙ (or_parts (is_overlong (answered rows cols (fed ++ p) base)) false fits).0 in
       ap (λ (xs : List ℕ). (asked rows cols xs base).base) same ∙ asked-sure bytes base r.shot sure ended last
   from-sure past fed base p (q ∷ ps) bytes r is sure ended fits =
       let c = asked rows cols (fed ++ p) base in
       from-sure (past ++ c.owed) (fed ++ p) c.base q ps bytes (asked-leaves past (fed ++ p) base r).read
       (append_assoc fed p (concat (q ∷ ps)) ∙ is) sure ended
-      (or-rest (is_overlong (answered rows cols (fed ++ p) base))
-      (list_any is_overlong (answers_from rows cols (fed ++ p) c.base (q ∷ ps))) fits)
+      (or_parts (is_overlong (answered rows cols (fed ++ p) base))
+      (list_any is_overlong (answers_from rows cols (fed ++ p) c.base (q ∷ ps))) fits).1
 
   some-pieces : (ns bytes : List ℕ) → (p : List ℕ) × (ps : List (List ℕ)) × (cut_by ns bytes ≡ p ∷ ps)
   some-pieces [] bytes = (bytes, [], refl)

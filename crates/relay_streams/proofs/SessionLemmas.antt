@@ -3,7 +3,8 @@ use Rattle.std.proofs.Common.{◌≡◌, ◌∙◌, ℕ, zero, suc, ◌+◌, Boo
 use Rattle.std.proofs.Common.{length, min, Option, Some, None, Result, Ok, Err, refl, sym, ap, subst, arith}
 use Rattle.std.proofs.Common.{if◌then◌else◌, append_assoc, append-nil}
 use Rattle.std.proofs.lemmas.List.{drop_all, take_all, map-append, length-map}
-use Rattle.std.proofs.lemmas.Bool.{eq-eqb}
+use Rattle.std.proofs.lemmas.Bool.{eq-eqb, or_parts}
+use Rattle.std.proofs.lemmas.Option.{slice_get-map}
 use Rattle.std.proofs.lemmas.List.Elements.{All-nil}
 use Rattle.std.specs.List.{concat, list_any}
 use Rattle.std.specs.Option.{option_map}
@@ -31,6 +32,7 @@ use Rattle.relay_theorem.specs.History.{Past, as_told, fresh, Entry, Story, size
 use Rattle.relay_theorem.specs.History.{entries_of, stories_after, RunsTold}
 use Rattle.relay_theorem.specs.Judge.{texts}
 use Rattle.relay_theorem.proofs.HeadlineLemmas.{last-shown}
+use Rattle.relay_theorem.proofs.StoryLemmas.{at-key}
 use Rattle.termview.specs.Seen.{seen}
 use Rattle.relay_streams.specs.Laws.{RelayedFrontsAreShown}
 use Rattle.relay_streams.specs.Frames.{state_after, idle, answered, answer_on, asked, asked_on, is_overlong}
@@ -40,7 +42,7 @@ use Rattle.relay_streams.specs.Sessions.{turn_calls, relay_calls, is_refused, Is
 use Rattle.relay_streams.specs.Sessions.{has_overlong, IsRelayText, EndsOverlong, EachRelayIsASession, EachRelayIsPumped}
 use Rattle.relay_streams.specs.Sessions.{RelayedAreOne, RelayTextsAreOne}
 use Rattle.relay_streams.proofs.FrameLists.{frames_from, frames_of, answers_from, answers_of, base_of, relay_text}
-use Rattle.relay_streams.proofs.FrameLists.{answers-push, overlong-is, or-first, or-rest, pieces-make}
+use Rattle.relay_streams.proofs.FrameLists.{answers-push, overlong-is, pieces-make}
 use Rattle.relay_streams.proofs.PieceLemmas.{concat-push}
 
 -- ---- replies
@@ -60,10 +62,6 @@ moments_from past (p ∷ ps) = map Fed (past ++ p ∷ []) ∷ moments_from (past
 
 abbrev put : HubState as_told → ℕ → Option ClientState → HubState as_told
 put h key slot = record h { clients = with_client h.clients key slot }
-
-at-key : (clients : ℕ → Option ClientState) (key : ℕ) (slot : Option ClientState)
-    → with_client clients key slot key ≡ slot
-at-key clients key slot = ap (λ b. if b then slot else clients key) (eq-eqb key key refl)
 
 one-by : (f : Story → Story) (t : Story) (b : Bool) → b ≡ true → (if b then f t ∷ [] else t ∷ []) ≡ f t ∷ []
 one-by f t true e = refl
@@ -343,15 +341,13 @@ module _ (rows cols key : ℕ) where
   ran-by past base t (p ∷ pieces) h k ts us (r ∷ []) at are ok (g, is, s, run) = absurd run
   ran-by past base t (p ∷ pieces) h k ts us (r ∷ q ∷ []) at are ok (g, is, s, (l, so, f, run)) = absurd run
   ran-by past base t (p ∷ pieces) h k ts us (r ∷ q ∷ v ∷ rs) at are ok (g, is, s, (l, so, f, (m, also, w, run))) =
-      let later = or-rest (is_refused r) (list_any is_refused (q ∷ v ∷ rs)) ok in
-      let last = or-rest (is_refused q) (list_any is_refused (v ∷ rs)) later in
-      let one = turn-by past p base t h g l m r q v ts at are
-      (or-first (is_refused r) (list_any is_refused (q ∷ v ∷ rs)) ok)
-      (or-first (is_refused q) (list_any is_refused (v ∷ rs)) later) s f w in
+      let fed = or_parts (is_refused r) (list_any is_refused (q ∷ v ∷ rs)) ok in
+      let asked = or_parts (is_refused q) (list_any is_refused (v ∷ rs)) fed.1 in
+      let one = turn-by past p base t h g l m r q v ts at are fed.0 asked.0 s f w in
       ran-more past p base t one.story pieces us one.has
       (ran-by (past ++ p ∷ []) (next past p base).base one.story pieces m k
       (stories_after l (Pump key []) v (stories_after g (Frame key) q ts)) us rs one.at one.are
-      (or-rest (is_refused v) (list_any is_refused rs) last) run)
+      (or_parts (is_refused v) (list_any is_refused rs) asked.1).1 run)
 
   -- ---- the client that comes
 
@@ -509,19 +505,14 @@ moment-at past (p ∷ ps) (suc n) m is =
     moment-at (past ++ p ∷ []) ps n m is
     ∙ ap (λ (xs : List (List ℕ)). map Fed xs) (append_assoc past (p ∷ []) (take (suc n) ps))
 
-entry-moment : (es : List Entry) (n : ℕ) (e : Entry) → slice_get es n ≡ Some e
-    → slice_get (map (λ x. x.moment) es) n ≡ Some e.moment
-entry-moment [] n e is = absurd (let no : None ≡ Some e = is in cc)
-entry-moment (x ∷ es) zero e is = ap (λ (o : Option Entry). option_map (λ (y : Entry). y.moment) o) is
-entry-moment (x ∷ es) (suc n) e is = entry-moment es n e is
-
 pub relays-are-pumped : EachRelayIsPumped
 relays-are-pumped rows cols key pieces t r =
     let by = relayed-by rows cols key pieces t r in record {
       size = by.0;
       each = sym (length-map t.entries (λ e. e.text)) ∙ ap length by.1 ∙ one-each rows cols [] None pieces;
       moments = λ n e at. moment-at [] pieces n e.moment
-          (sym (ap (λ xs. slice_get xs n) by.3) ∙ entry-moment t.entries n e at);
+          (sym (ap (λ xs. slice_get xs n) by.3) ∙ slice_get-map (λ (x : Entry). x.moment) t.entries n
+          ∙ ap (option_map (λ (x : Entry). x.moment)) at);
       pumped = by.2 ∙ ap concat (sym by.1) ∙ texts-joined t.entries;
     }
 

@@ -69,18 +69,15 @@ module _ (S W : Type 0) (gives : S → ℕ → Result (List ℕ) Error → S →
   turn-faults s t w m v TooManyReads height width b fit sends turned = absurd turned
 
   -- one that went well
-  pub turn-fits : (m v : W) → Fit past → Turned takes rows cols pieces base key m (Ok tt) v g → Fit pieces
-  turn-fits m v fit turned = fits-on turned.0 fit
-
-  pub turn-sent : (w m v : W) → Sends takes w (frames_of rows cols past) (Ok tt) m
-      → Turned takes rows cols pieces base key m (Ok tt) v g → Sends takes w (frames_of rows cols pieces) (Ok tt) v
-  turn-sent w m v sends turned =
-      subst (λ (texts : List (List ℕ)). Sends takes w texts (Ok tt) v) (sym frames-are)
-      (sends-more W takes w m v (frames_of rows cols past) ((asked rows cols (concat pieces) base).owed ∷ []) (Ok tt)
-      (Ok tt) sends refl (sent.next v turned.1.1 sent.none))
-
-  pub turn-stands : (m v : W) → Turned takes rows cols pieces base key m (Ok tt) v g
-      → Relaying rows cols pieces (base_of rows cols pieces) g key
-  turn-stands m v turned =
-      subst (λ (b : Option Shown). Relaying rows cols pieces b g key)
-      (sym (base-push rows cols past piece (concat pieces) (concat-push past piece))) turned.2
+  pub turn-goes : (w m v : W) → Fit past → Sends takes w (frames_of rows cols past) (Ok tt) m
+      → Turned takes rows cols pieces base key m (Ok tt) v g
+      → Fit pieces × Sends takes w (frames_of rows cols pieces) (Ok tt) v
+      × Relaying rows cols pieces (base_of rows cols pieces) g key
+  turn-goes w m v fit sends turned = (
+    fits-on turned.0 fit,
+    subst (λ (texts : List (List ℕ)). Sends takes w texts (Ok tt) v) (sym frames-are)
+        (sends-more W takes w m v (frames_of rows cols past) ((asked rows cols (concat pieces) base).owed ∷ []) (Ok tt)
+        (Ok tt) sends refl (sent.next v turned.1.1 sent.none)),
+    subst (λ (b : Option Shown). Relaying rows cols pieces b g key)
+        (sym (base-push rows cols past piece (concat pieces) (concat-push past piece))) turned.2,
+  )

@@ -68,10 +68,6 @@ one_opening : (past piece : List ℕ) (n m : ℕ) → OpensAt past piece n → O
 one_opening past piece n m a b =
     one_place n m (λ lt. false_true _ (b.first n lt) a.opened) (λ lt. false_true _ (a.first m lt) b.opened)
 
--- what is parsed and held
-Same : List ℕ → Option (List ℕ) → List ℕ → Option (List ℕ) → Type 0
-Same p h q k = (p ≡ q) × (h ≡ k)
-
 one_settling : (parsed held piece p q : List ℕ) (h k : Option (List ℕ)) (cs ds : List Call) (ts us : List Tick)
     → Settles parsed held piece p h cs ts → Settles parsed held piece q k ds us → (p ≡ q) × (h ≡ k)
 one_settling parsed held piece p q h k cs ds ts us (keeps _ _ _ _ _ none) (keeps _ _ _ _ _ none') = (refl, refl)

@@ -11,7 +11,7 @@ use Rattle.termrelay.specs.declared.call.Reply.{Reply}
 use Rattle.termrelay.specs.declared.call.Reply.TheVariants.{Done, Attached, Answered}
 use Rattle.termrelay.specs.Hub.{HubState, screen_in, with_client, new_client, no_clients, CanFrame, Framed}
 use Rattle.termrelay.specs.Hub.{DetachesFrom, PumpsFrom, pump_answer}
-use Rattle.termrelay.specs.Calls.{Feed, Resize, Attach, Detach, Frame, Pump, WritesAsTold, done, Serves}
+use Rattle.termrelay.specs.Calls.{Feed, Resize, Attach, Detach, Frame, Pump, IsCall, WritesAsTold, done, Serves}
 use Rattle.termrelay.specs.Log.{begun}
 use Rattle.termrelay.proofs.ScriptLemmas.{taken-as-told}
 use Rattle.relay_theorem.specs.History.{as_told, Story, stories_after, RunsTold}
@@ -47,43 +47,39 @@ module _ (rows cols key : ℕ) where
       → own_then (if key == key then Some own else None) later ≡ own_then (Some own) later
   own-first own later = ap (λ b. own_then (if b then Some own else None) later) (eq-eqb key key refl)
 
+  none-more : (h : HubState as_told) (ts : List Story) → CanGoOn h ts []
+  none-more h ts = record { replies = []; hub = h; stories = ts; fed = refl; run = (refl, refl); same = refl }
+
+  -- one of them first
+  one-more : (h g : HubState as_told) (ts : List Story) (own : Own) (owns : List Own) (reply : Reply)
+      → IsCall (alone key own) → Serves h (alone key own) reply g → is_starved reply ≡ false
+      → (r : CanGoOn g (stories_after h (alone key own) reply ts) owns)
+      → own_of key (map (alone key) (own ∷ owns)) (reply ∷ r.replies)
+      ≡ own ∷ own_of key (map (alone key) owns) r.replies
+      → CanGoOn h ts (own ∷ owns)
+  one-more h g ts own owns reply is serves well r same = record {
+    replies = reply ∷ r.replies;
+    hub = r.hub;
+    stories = r.stories;
+    fed = ap (λ b. b || list_any is_starved r.replies) well ∙ r.fed;
+    run = (g, is, serves, r.run);
+    same = same ∙ ap (λ xs. own ∷ xs) r.same;
+  }
+
   goes-on : (l : Life) (owns : List Own) (clients : ℕ → Option ClientState) (ts : List Story)
       → CanLive rows cols l owns → clients key ≡ Some l.client → CanGoOn (hub_at l.acts clients) ts owns
-  goes-on l [] clients ts can at = record {
-    replies = [];
-    hub = hub_at l.acts clients;
-    stories = ts;
-    fed = refl;
-    run = (refl, refl);
-    same = refl;
-  }
+  goes-on l [] clients ts can at = none-more (hub_at l.acts clients) ts
   goes-on l (Acts (Fed bytes) ∷ owns) clients ts can at =
       let act = Acts (Fed bytes) in
-      let h = hub_at l.acts clients in
-      let g = hub_at (l.acts ++ Fed bytes ∷ []) clients in
-      let serves : Serves h (Feed bytes) Done g = (Ok tt, (refl, refl, refl, refl), refl) in
-      let r = goes-on (lives rows cols l act) owns clients ts can at in
-      record {
-        replies = Done ∷ r.replies;
-        hub = r.hub;
-        stories = r.stories;
-        fed = r.fed;
-        run = (g, tt, serves, r.run);
-        same = ap (λ xs. act ∷ xs) r.same;
-      }
+      one-more (hub_at l.acts clients) (hub_at (l.acts ++ Fed bytes ∷ []) clients) ts act owns Done tt
+      (Ok tt, (refl, refl, refl, refl), refl) refl (goes-on (lives rows cols l act) owns clients ts can at) refl
   goes-on l (Acts (Resized height width) ∷ owns) clients ts can at =
       let act = Acts (Resized height width) in
       let h = hub_at l.acts clients in
       let g = hub_at (l.acts ++ Resized height width ∷ []) no_clients in
-      let serves : Serves h (Resize height width) Done g = (Ok tt, (refl, refl, refl, refl), refl) in
-      subst (λ xs. CanGoOn h ts (act ∷ xs)) (sym can.1) (record {
-        replies = Done ∷ [];
-        hub = g;
-        stories = stories_after h (Resize height width) Done ts;
-        fed = refl;
-        run = (g, can.0, serves, (refl, refl));
-        same = refl;
-      })
+      subst (λ xs. CanGoOn h ts (act ∷ xs)) (sym can.1)
+      (one-more h g ts act [] Done can.0 (Ok tt, (refl, refl, refl, refl), refl) refl
+      (none-more g (stories_after h (Resize height width) Done ts)) refl)
   goes-on l (Comes ∷ owns) clients ts can at = absurd can
   goes-on l (Asks ∷ owns) clients ts can at =
       let h = hub_at l.acts clients in
@@ -99,14 +95,8 @@ module _ (rows cols key : ℕ) where
       ) in
       let r = goes-on (lives rows cols l Asks) owns now (stories_after h (Frame key) (Answered answer) ts) can
       (at-key clients key (Some c)) in
-      record {
-        replies = Answered answer ∷ r.replies;
-        hub = r.hub;
-        stories = r.stories;
-        fed = r.fed;
-        run = (g, tt, serves, r.run);
-        same = own-first Asks (own_of key (map (alone key) owns) r.replies) ∙ ap (λ xs. Asks ∷ xs) r.same;
-      }
+      one-more h g ts Asks owns (Answered answer) tt serves refl r
+      (own-first Asks (own_of key (map (alone key) owns) r.replies))
   goes-on l (Pumped takes ∷ owns) clients ts ((end, m, rest, pumps), can) at =
       let h = hub_at l.acts clients in
       let left = left_by rows cols l in
@@ -123,17 +113,9 @@ module _ (rows cols key : ℕ) where
       let after : now key ≡ Some (left (taken rows cols l takes)) =
       at-key clients key (Some (left m))
       ∙ ap (λ i. Some (left i)) (taken-as-told takes rest l.client.owed end m pumps) in
-      let us = stories_after h (Pump key takes) reply ts in
-      let r = goes-on (lives rows cols l (Pumped takes)) owns now us can after in
-      record {
-        replies = reply ∷ r.replies;
-        hub = r.hub;
-        stories = r.stories;
-        fed = ap (λ b. b || list_any is_starved r.replies) (pump-fed end) ∙ r.fed;
-        run = (g, tt, serves, r.run);
-        same = own-first (Pumped takes) (own_of key (map (alone key) owns) r.replies)
-            ∙ ap (λ xs. Pumped takes ∷ xs) r.same;
-      }
+      let r = goes-on (lives rows cols l (Pumped takes)) owns now (stories_after h (Pump key takes) reply ts) can after in
+      one-more h g ts (Pumped takes) owns reply tt serves (pump-fed end) r
+      (own-first (Pumped takes) (own_of key (map (alone key) owns) r.replies))
   goes-on l (Leaves ∷ owns) clients ts can at =
       let h = hub_at l.acts clients in
       let g = hub_at l.acts (with_client clients key None) in
@@ -142,14 +124,9 @@ module _ (rows cols key : ℕ) where
         subst (λ (o : Option ClientState). DetachesFrom h key o (Ok tt) g) (sym at) (refl, (refl, refl)),
         refl,
       ) in
-      subst (λ xs. CanGoOn h ts (Leaves ∷ xs)) (sym can) (record {
-        replies = Done ∷ [];
-        hub = g;
-        stories = stories_after h (Detach key) Done ts;
-        fed = refl;
-        run = (g, tt, serves, (refl, refl));
-        same = own-first Leaves [];
-      })
+      subst (λ xs. CanGoOn h ts (Leaves ∷ xs)) (sym can)
+      (one-more h g ts Leaves [] Done tt serves refl (none-more g (stories_after h (Detach key) Done ts))
+      (own-first Leaves []))
 
   -- ---- from the first act on
 
@@ -166,7 +143,6 @@ module _ (rows cols key : ℕ) where
 
   starts : (acts : List Act) (owns : List Own) → IsKept (hub_at acts no_clients) [] → CanCome rows cols acts owns
       → CanStart (hub_at acts no_clients) owns
-  starts acts [] kept can = absurd can
   starts acts (Acts (Fed bytes) ∷ owns) kept can =
       let h = hub_at acts no_clients in
       let g = hub_at (acts ++ Fed bytes ∷ []) no_clients in
@@ -222,9 +198,7 @@ module _ (rows cols key : ℕ) where
         is = e.story;
         same = ap (λ xs. Comes ∷ xs) r.same;
       }
-  starts acts (Asks ∷ owns) kept can = absurd can
-  starts acts (Pumped takes ∷ owns) kept can = absurd can
-  starts acts (Leaves ∷ owns) kept can = absurd can
+  starts acts _ kept can = absurd can
 
 pub sessions-alone : EachSessionStandsAlone
 sessions-alone rows cols calls replies n t key s fed =

@@ -13,6 +13,7 @@ use Rattle.vte.specs.Hold.{limit}
 use Rattle.vte.specs.Moves.{Move, Gives, given}
 use Rattle.vte.specs.Frames.{IsFrame, IsPart, Drives}
 use Rattle.terminal_model.specs.Term.{Size, Shown, shown_of}
+use Rattle.terminal_model.proofs.FormTexts.{all-each}
 use Rattle.vt100_core.specs.Picture.{grid_size}
 use Rattle.screen_model.specs.State.{State}
 use Rattle.screen_model.specs.Shown.{shown_state}
@@ -20,7 +21,7 @@ use Rattle.screen_model.specs.Made.{made}
 use Rattle.screen_model.specs.Holds.{IsSide}
 use Rattle.forms_read.specs.Terminals.{IsSmall}
 use Rattle.termrelay.specs.Frame.{is_unsure, frame_text, ShowsUnless, Agrees}
-use Rattle.termrelay.specs.Answers.{ClientState, is_frame, same_shown, answer_for, due_from, due, is_too_long}
+use Rattle.termrelay.specs.Answers.{is_frame, same_shown, answer_for, due_from, due, is_too_long}
 use Rattle.termrelay.specs.Answers.{longest_frame}
 use Rattle.termrelay.specs.declared.answer.Answer.{Answer}
 use Rattle.termrelay.specs.declared.answer.Answer.TheVariants.{Full, Difference, Unsure, Unchanged, Behind, Held}
@@ -29,11 +30,10 @@ use Rattle.termview.specs.Seen.{seen}
 use Rattle.termview.proofs.LawLemmas.{whole_shown, none_torn}
 use Rattle.termrelay.specs.Calls.{Call}
 use Rattle.termrelay.specs.declared.call.Reply.{Reply}
-use Rattle.termrelay.specs.Hub.{clients_in}
 use Rattle.relay_theorem.specs.History.{Entry, Story, size_of_story}
-use Rattle.relay_theorem.specs.Judge.{state_at, size_at, shown_at, texts, frame_or, last_frame, whole_in, last_whole}
+use Rattle.relay_theorem.specs.Judge.{state_at, size_at, shown_at, texts, frame_or, last_frame, whole_in}
 use Rattle.relay_theorem.specs.Judge.{judged, IsSure}
-use Rattle.relay_theorem.specs.Laws.{base_then, IsAnswered, AreAnswered, IsTold}
+use Rattle.relay_theorem.specs.Laws.{base_then, IsAnswered, AreAnswered}
 use Rattle.relay_theorem.specs.Headline.{EachTextIsAFrame, WholeSessionsAreShown, LastWholeFrameIsShown, NoSessionIsTorn}
 use Rattle.relay_theorem.specs.Headline.{ReadsSession, last_read, whole_read, ReadsWhole, OneMomentShowsTheSame}
 use Rattle.relay_theorem.specs.Headline.{OneMomentShowsTheSameWhole}
@@ -347,92 +347,32 @@ module _ (rows cols : ℕ) (z : Size) (height : IsSide z.rows) (width : IsSide z
   judged-shown (Some e) past h sure =
       judged-by e (shown_of (seen z past)) (is_unsure z (shown_at rows cols e)) refl h.known sure h.agrees
 
+  -- where just these entries' texts were read
+  pub seen-judged : (es : List Entry) → AreAnswered rows cols z None es → IsSure (last_frame None es)
+      → shown_of (seen z (texts es)) ≡ judged rows cols (last_frame None es)
+  seen-judged es k sure = judged-shown (last_frame None es) (texts es) (read-all None es [] read-nothing k) sure
+
+  pub last-size : (es : List Entry) (e : Entry) → AreAnswered rows cols z None es → last_frame None es ≡ Some e
+      → size_at rows cols e ≡ z
+  last-size es e k is = (subst Known is (read-all None es [] read-nothing k).known).2
+
   -- ---- a front of the frames' texts
 
   not-whole : (p text left : List ℕ) → text ≡ p ++ left → left ≢ [] → length p < length text
   not-whole p text [] e some = absurd (some refl)
   not-whole p text (x ∷ left) e some = omega (arith, ap length e, length-append p (x ∷ left))
 
-  le-true : (m n : ℕ) → m ≤ n → nat_le m n ≡ true
-  le-true m n h = grind (arith, nat_tests)
-
-  le-false : (m n : ℕ) → n < m → nat_le m n ≡ false
-  le-false m n h = grind (arith, nat_tests)
-
-  whole-more : (last : Option Entry) (e : Entry) (es : List Entry) (k more : ℕ) → k ≡ length e.text + more
-      → last_whole last (e ∷ es) k ≡ last_whole (frame_or last e) es more
-  whole-more last e es k more h =
-      let t : nat_le (length e.text) k ≡ true = le-true (length e.text) k (omega (arith, h)) in
-      let m : k - length e.text ≡ more = omega (arith, h) in
-      rw (t, m) refl
-
-  whole-stops : (last : Option Entry) (e : Entry) (es : List Entry) (k : ℕ) → k < length e.text
-      → last_whole last (e ∷ es) k ≡ last
-  whole-stops last e es k h =
-      let t : nat_le (length e.text) k ≡ false = le-false (length e.text) k h in
-      rw t refl
-
   in-more : (e : Entry) (es : List Entry) (k more : ℕ) → k ≡ length e.text + more
       → whole_in (e ∷ es) k ≡ e ∷ whole_in es more
   in-more e es k more h =
-      let t : nat_le (length e.text) k ≡ true = le-true (length e.text) k (omega (arith, h)) in
+      let t : nat_le (length e.text) k ≡ true = grind (arith, nat_tests) in
       let m : k - length e.text ≡ more = omega (arith, h) in
       rw (t, m) refl
 
   in-stops : (e : Entry) (es : List Entry) (k : ℕ) → k < length e.text → whole_in (e ∷ es) k ≡ []
   in-stops e es k h =
-      let t : nat_le (length e.text) k ≡ false = le-false (length e.text) k h in
+      let t : nat_le (length e.text) k ≡ false = grind (arith, nat_tests) in
       rw t refl
-
-  abbrev Goes : List Entry → Type 0
-  Goes es = (last : Option Entry) (past : List ℕ) (whole rest : List (List ℕ)) (p : List ℕ) → HasRead last past
-      → AreAnswered rows cols z (base_of last) es → frame_texts es ≡ whole ++ rest → IsPart p rest
-      → HasRead (last_whole last es (length (concat whole ++ p))) (past ++ concat whole)
-
-  front-by : (frame : Bool) (e : Entry) (es : List Entry) → Goes es → is_frame e.answer ≡ frame
-      → (last : Option Entry) (past : List ℕ) (whole rest : List (List ℕ)) (p : List ℕ) → HasRead last past
-      → AreAnswered rows cols z (base_of last) (e ∷ es) → frames_by frame e (frame_texts es) ≡ whole ++ rest
-      → IsPart p rest → HasRead (last_whole last (e ∷ es) (length (concat whole ++ p))) (past ++ concat whole)
-  front-by false e es go f last past whole rest p h k cut part =
-      let none = entry-none last e k.0 f in
-      let n = length (concat whole ++ p) in
-      let on = go (frame_or last e) (past ++ e.text) whole rest p (read-entry last e past h k.0) (later last e es k)
-      cut part in
-      let same : past ++ e.text ≡ past = ap (λ xs. past ++ xs) none ∙ append-nil past in
-      subst (λ l. HasRead l (past ++ concat whole))
-      (sym (whole-more last e es n n (omega (arith, ap length none))))
-      (subst (λ (xs : List ℕ). HasRead (last_whole (frame_or last e) es n) (xs ++ concat whole)) same on)
-  front-by true e es go f last past [] rest p h k cut part =
-      let begun : IsPart p (e.text ∷ frame_texts es) = subst (λ r. IsPart p r) (sym cut) part in
-      subst (λ l. HasRead l (past ++ []))
-      (sym (whole-stops last e es (length p) (not-whole p e.text begun.0 begun.1 begun.2)))
-      (subst (λ (xs : List ℕ). HasRead last xs) (sym (append-nil past)) h)
-  front-by true e es go f last past (w ∷ whole) rest p h k cut part =
-      let head : e.text ≡ w = cc in
-      let tails : frame_texts es ≡ whole ++ rest = cc in
-      let n = length (concat whole ++ p) in
-      let on = go (frame_or last e) (past ++ e.text) whole rest p (read-entry last e past h k.0) (later last e es k)
-      tails part in
-      let at : (past ++ e.text) ++ concat whole ≡ past ++ (w ++ concat whole) =
-      append_assoc past e.text (concat whole) ∙ ap (λ xs. past ++ (xs ++ concat whole)) head in
-      let count : length ((w ++ concat whole) ++ p) ≡ length e.text + n =
-      omega (
-        arith,
-        ap length head,
-        length-append (w ++ concat whole) p,
-        length-append w (concat whole),
-        length-append (concat whole) p,
-      ) in
-      subst (λ l. HasRead l (past ++ (w ++ concat whole)))
-      (sym (whole-more last e es (length ((w ++ concat whole) ++ p)) n count))
-      (subst (λ (xs : List ℕ). HasRead (last_whole (frame_or last e) es n) xs) at on)
-
-  read-front : (es : List Entry) → Goes es
-  read-front [] last past [] rest p h k cut part =
-      subst (λ (xs : List ℕ). HasRead last xs) (sym (append-nil past)) h
-  read-front [] last past (w ∷ whole) rest p h k cut part = absurd (cc)
-  read-front (e ∷ es) last past whole rest p h k cut part =
-      front-by (is_frame e.answer) e es (read-front es) refl last past whole rest p h k cut part
 
   -- the whole frames' texts are those of the entries that lie wholly in the bytes
   abbrev Covers : List Entry → Type 0
@@ -476,11 +416,6 @@ module _ (rows cols : ℕ) (z : Size) (height : IsSide z.rows) (width : IsSide z
 
   -- ---- in pieces
 
-  each-short : (es : List Entry) → AllByRecursion (λ e. length e.text < limit) es
-      → AllByRecursion (λ e. is_frame e.answer ≡ true → length e.text < limit) es
-  each-short [] h = tt
-  each-short (e ∷ es) h = (λ f. h.0, each-short es h.1)
-
   frames-are : (es : List Entry) → AreAnswered rows cols z None es → AllByRecursion IsFrame (frame_texts es)
   frames-are es k = frames-all IsFrame es (entries-frames None es tt k)
 
@@ -491,33 +426,7 @@ module _ (rows cols : ℕ) (z : Size) (height : IsSide z.rows) (width : IsSide z
       let joined = frames-joined None es k in
       let out = whole_shown z (frame_texts es) moves [] parsed hold (ground-nothing 1024)
       (All-from_recursion IsFrame (frame_texts es) (frames-are es k)) (e ∙ sym joined) leads in
-      let read = read-all None es [] read-nothing k in (
-        out.1,
-        λ sure. ap shown_of (out.0 ∙ ap (seen z) joined) ∙ judged-shown (last_frame None es) (texts es) read sure,
-      )
-
-  -- what the view shows is what is seen of whole frames, of which the last is the one that lies wholly in the pieces
-  pub record IsFront (last : Option Entry) (parsed : List ℕ) : Type 0 where
-    pub whole : List ℕ
-    pub read : HasRead last whole
-    pub shows : seen z parsed ≡ seen z whole
-
-  pub front-read : (es : List Entry) (pieces : List (List ℕ)) (beyond parsed : List ℕ) (hold : Option (List ℕ))
-      → AreAnswered rows cols z None es → concat pieces ++ beyond ≡ texts es
-      → Drives (map Gives pieces) [] None parsed hold → IsFront (last_whole None es (length (concat pieces))) parsed
-  front-read es pieces beyond parsed hold k e leads =
-      let joined = frames-joined None es k in
-      let all-short = frames-all (λ text. length text < limit) es (each-short es (entries-fit None es k)) in
-      let out = none_torn z (frame_texts es) pieces beyond [] parsed hold (ground-nothing 1024)
-      (All-from_recursion IsFrame (frame_texts es) (frames-are es k))
-      (All-from_recursion (λ text. length text < limit) (frame_texts es) all-short) (e ∙ sym joined) leads in
-      let read = read-front es None [] out.whole out.rest out.part read-nothing k out.frames_are out.is_part in
-      let at : length (concat out.whole ++ out.part) ≡ length (concat pieces) = ap length (sym out.bytes_are) in
-      record {
-        whole = concat out.whole;
-        read = subst (λ n. HasRead (last_whole None es n) (concat out.whole)) at read;
-        shows = out.shows;
-      }
+      (out.1, λ sure. ap shown_of (out.0 ∙ ap (seen z) joined) ∙ seen-judged es k sure)
 
   -- the view shows just these entries' texts
   pub front-seen : (es : List Entry) (pieces : List (List ℕ)) (beyond parsed : List ℕ) (hold : Option (List ℕ))
@@ -526,25 +435,15 @@ module _ (rows cols : ℕ) (z : Size) (height : IsSide z.rows) (width : IsSide z
       → seen z parsed ≡ seen z (texts (whole_in es (length (concat pieces))))
   front-seen es pieces beyond parsed hold k e leads =
       let joined = frames-joined None es k in
-      let all-short = frames-all (λ text. length text < limit) es (each-short es (entries-fit None es k)) in
+      let all-short = frames-all (λ text. length text < limit) es
+      (all-each (λ e. length e.text < limit) (λ e. is_frame e.answer ≡ true → length e.text < limit) (λ e h _. h) es
+      (entries-fit None es k)) in
       let out = none_torn z (frame_texts es) pieces beyond [] parsed hold (ground-nothing 1024)
       (All-from_recursion IsFrame (frame_texts es) (frames-are es k))
       (All-from_recursion (λ text. length text < limit) (frame_texts es) all-short) (e ∙ sym joined) leads in
       out.shows
       ∙ ap (seen z) (sym (covers es None out.whole out.rest out.part k out.frames_are out.is_part))
       ∙ ap (λ bytes. seen z (texts (whole_in es (length bytes)))) (sym out.bytes_are)
-
-  pub front-shown : (last : Option Entry) (parsed : List ℕ) → IsFront last parsed → IsSure last
-      → shown_of (seen z parsed) ≡ judged rows cols last
-  front-shown last parsed h sure = ap shown_of h.shows ∙ judged-shown last h.whole h.read sure
-
-  pub last-size : (es : List Entry) (e : Entry) → AreAnswered rows cols z None es → last_frame None es ≡ Some e
-      → size_at rows cols e ≡ z
-  last-size es e k is = (subst Known is (read-all None es [] read-nothing k).known).2
-
-  pub front-size : (last : Option Entry) (e : Entry) (parsed : List ℕ) → IsFront last parsed → last ≡ Some e
-      → size_at rows cols e ≡ z
-  front-size last e parsed h is = (subst Known is h.read.known).2
 
 -- ---- sessions
 
@@ -553,6 +452,19 @@ answered-front : (rows cols : ℕ) (z : Size) (base : Option Shown) (front back 
 answered-front rows cols z base [] back h = tt
 answered-front rows cols z base (e ∷ front) back h =
     (h.0, answered-front rows cols z (base_then rows cols base e) front back h.1)
+
+front-by : (here : Bool) (rows cols : ℕ) (z : Size) (base : Option Shown) (e : Entry) (es : List Entry)
+    → AreAnswered rows cols z base (e ∷ es) → AreAnswered rows cols z base (if here then e ∷ es else [])
+front-by true rows cols z base e es h = h
+front-by false rows cols z base e es h = tt
+
+answered-whole : (rows cols : ℕ) (z : Size) (base : Option Shown) (es : List Entry) (n : ℕ)
+    → AreAnswered rows cols z base es → AreAnswered rows cols z base (whole_in es n)
+answered-whole rows cols z base [] n h = tt
+answered-whole rows cols z base (e ∷ es) n h =
+    let left = n - length e.text in
+    front-by (nat_le (length e.text) n) rows cols z base e (whole_in es left)
+    (h.0, answered-whole rows cols z (base_then rows cols base e) es left h.1)
 
 pub texts-frames : EachTextIsAFrame
 texts-frames rows cols calls replies n t s =
@@ -566,29 +478,6 @@ wholes-shown rows cols calls replies n t front back moves parsed hold s e given_
     (subst (AreAnswered rows cols (size_of_story t) None) e h.entries) in
     whole-shown rows cols (size_of_story t) h.height h.width front moves parsed hold entries given_is leads
 
-front-of : (rows cols : ℕ) (calls : List Call) (replies : List Reply) (n : ℕ) (t : Story) (pieces : List (List ℕ))
-    (parsed : List ℕ) (clients : ℕ → Option ClientState) → ReadsSession rows cols calls replies n t pieces parsed
-    → (h : IsTold rows cols clients t) → IsFront rows cols (size_of_story t) h.height h.width (last_read t pieces) parsed
-front-of rows cols calls replies n t pieces parsed clients r h =
-    let all : concat pieces ++ (r.beyond ++ h.left) ≡ texts t.entries =
-    sym (append_assoc (concat pieces) r.beyond h.left) ∙ ap (λ xs. xs ++ h.left) r.pumped ∙ h.front in
-    front-read rows cols (size_of_story t) h.height h.width t.entries pieces (r.beyond ++ h.left) parsed r.hold h.entries all
-    r.leads
-
-pub last-shown : LastWholeFrameIsShown
-last-shown rows cols calls replies n t pieces parsed r sure =
-    let h = sessions-told rows cols calls replies n t r.session in
-    front-shown rows cols (size_of_story t) h.height h.width (last_read t pieces) parsed
-    (front-of rows cols calls replies n t pieces parsed (clients_in r.session.hub) r h) sure
-
-size-then : (rows cols : ℕ) (calls : List Call) (replies : List Reply) (n : ℕ) (t : Story) (pieces : List (List ℕ))
-    (parsed : List ℕ) (e : Entry) → ReadsSession rows cols calls replies n t pieces parsed → last_read t pieces ≡ Some e
-    → size_at rows cols e ≡ size_of_story t
-size-then rows cols calls replies n t pieces parsed e r is =
-    let h = sessions-told rows cols calls replies n t r.session in
-    front-size rows cols (size_of_story t) h.height h.width (last_read t pieces) e parsed
-    (front-of rows cols calls replies n t pieces parsed (clients_in r.session.hub) r h) is
-
 seen-then : (rows cols : ℕ) (calls : List Call) (replies : List Reply) (n : ℕ) (t : Story) (pieces : List (List ℕ))
     (parsed : List ℕ) → ReadsSession rows cols calls replies n t pieces parsed
     → seen (size_of_story t) parsed ≡ seen (size_of_story t) (texts (whole_read t pieces))
@@ -598,6 +487,21 @@ seen-then rows cols calls replies n t pieces parsed r =
     sym (append_assoc (concat pieces) r.beyond h.left) ∙ ap (λ xs. xs ++ h.left) r.pumped ∙ h.front in
     front-seen rows cols (size_of_story t) h.height h.width t.entries pieces (r.beyond ++ h.left) parsed r.hold h.entries all
     r.leads
+
+pub last-shown : LastWholeFrameIsShown
+last-shown rows cols calls replies n t pieces parsed r sure =
+    let h = sessions-told rows cols calls replies n t r.session in
+    ap shown_of (seen-then rows cols calls replies n t pieces parsed r)
+    ∙ seen-judged rows cols (size_of_story t) h.height h.width (whole_read t pieces)
+    (answered-whole rows cols (size_of_story t) None t.entries (length (concat pieces)) h.entries) sure
+
+size-then : (rows cols : ℕ) (calls : List Call) (replies : List Reply) (n : ℕ) (t : Story) (pieces : List (List ℕ))
+    (parsed : List ℕ) (e : Entry) → ReadsSession rows cols calls replies n t pieces parsed → last_read t pieces ≡ Some e
+    → size_at rows cols e ≡ size_of_story t
+size-then rows cols calls replies n t pieces parsed e r is =
+    let h = sessions-told rows cols calls replies n t r.session in
+    last-size rows cols (size_of_story t) h.height h.width (whole_read t pieces) e
+    (answered-whole rows cols (size_of_story t) None t.entries (length (concat pieces)) h.entries) is
 
 pub none-torn : NoSessionIsTorn
 none-torn rows cols calls replies n t pieces more parsed parsed' r q same =

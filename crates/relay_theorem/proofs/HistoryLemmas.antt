@@ -5,6 +5,8 @@ use Rattle.std.proofs.Common.{append-nil, take-append-drop, arith}
 use Rattle.std.specs.Prelude.{◌==◌, is_some, if◌then◌else◌}
 use Rattle.std.specs.List.{AllByRecursion, list_any}
 use Rattle.std.proofs.lemmas.Bool.{eqb-true, eq-eqb}
+use Rattle.std.proofs.Math.Bool.{or-true, or-false}
+use Rattle.terminal_model.proofs.FormTexts.{all-each}
 use Rattle.std.proofs.lemmas.List.Elements.{All-push, All-nil, recursion_from_All}
 use Rattle.terminal_model.specs.Term.{Size, Shown}
 use Rattle.vt100_core.specs.Picture.{grid_size}
@@ -32,10 +34,10 @@ use Rattle.relay_theorem.specs.History.{entries_of, stories_after, RunsTold}
 use Rattle.relay_theorem.specs.Judge.{texts}
 use Rattle.relay_theorem.specs.Laws.{base_then, base_after, last_text, IsAnswered, AreAnswered, IsServed, IsTold}
 use Rattle.relay_theorem.specs.Laws.{EachSessionIsTold, AtMostOne, EachClientHasASession}
-use Rattle.relay_theorem.proofs.StoryLemmas.{all-map, all-each, all-push, all-at, any-mapped, one-mapped, none-mapped}
+use Rattle.relay_theorem.proofs.StoryLemmas.{all-map, all-push, all-at, any-mapped, one-mapped, none-mapped}
 use Rattle.relay_theorem.proofs.StoryLemmas.{no-one-mapped, any-pushed, one-pushed, pick, only-changed, on-live, on-key}
-use Rattle.relay_theorem.proofs.StoryLemmas.{off-key, other-key, or-true, or-false, picked-on, ends-on, ends-other}
-use Rattle.relay_theorem.proofs.StoryLemmas.{at-key, at-other, at-known}
+use Rattle.relay_theorem.proofs.StoryLemmas.{off-key, other-key, picked-on, ends-on, ends-other}
+use Rattle.relay_theorem.proofs.StoryLemmas.{put, at-key, at-other, at-known}
 
 -- ---- sizes
 
@@ -166,10 +168,6 @@ served-as rows cols clients key t c is at (d, found, s) =
     let same : Some d ≡ Some c = sym found ∙ ap clients is ∙ at in
     let one : d ≡ c = cc in
     subst (λ k. IsServed rows cols t k) one s
-
--- this is at the key
-abbrev put : HubState as_told → ℕ → Option ClientState → HubState as_told
-put h key slot = record h { clients = with_client h.clients key slot }
 
 -- it is told, and while it hasn't ended the screen has its size
 pub record IsIn (h : HubState as_told) (t : Story) : Type 0 where
@@ -490,8 +488,7 @@ module _ (h g : HubState as_told) (ts : List Story) (k : IsKept h ts) where
       is-kept g (record h { parser = record (h.parser) { failed = true } }) ts ts
       (λ i. record { parser = f.1.1 i; clients = f.2 i }) refl (failed-kept h ts k)
   feed-kept bytes (Err hub.Failed) f = is-kept g h ts ts f.1 refl k
-  feed-kept bytes (Err hub.UnknownClient) f = absurd f
-  feed-kept bytes (Err (hub.Write e)) f = absurd f
+  feed-kept bytes _ f = absurd f
 
   -- by the stories after the reply
   abbrev After : Call → Reply → Type 0
@@ -507,8 +504,7 @@ module _ (h g : HubState as_told) (ts : List Story) (k : IsKept h ts) where
       }) us us (λ i. record { parser = f.3 i; clients = f.2 i }) refl (resized-kept h rows cols ts s k)
   resize-kept rows cols (Err hub.Memory) s f = is-kept g h ts ts f.1 refl k
   resize-kept rows cols (Err hub.Failed) s f = is-kept g h ts ts f.1 refl k
-  resize-kept rows cols (Err hub.UnknownClient) s f = absurd f
-  resize-kept rows cols (Err (hub.Write e)) s f = absurd f
+  resize-kept rows cols _ s f = absurd f
 
   attach-kept : (result : Result ℕ HubError) → Attaches h result g → After Attach (replied Attached result)
   attach-kept (Ok key) f =
@@ -517,8 +513,7 @@ module _ (h g : HubState as_told) (ts : List Story) (k : IsKept h ts) where
       (attached-kept h key ts f.1 k)
   attach-kept (Err hub.Memory) f = is-kept g h ts ts f.1 refl k
   attach-kept (Err hub.Failed) f = is-kept g h ts ts f.1 refl k
-  attach-kept (Err hub.UnknownClient) f = absurd f
-  attach-kept (Err (hub.Write e)) f = absurd f
+  attach-kept _ f = absurd f
 
   detach-kept : (key : ℕ) (o : Option ClientState) (result : Result (Unit {0}) HubError)
       → DetachesFrom h key o result g → After (Detach key) (done result)
@@ -592,8 +587,7 @@ module _ (h g : HubState as_told) where
       same-parser (record (h.parser) { acts = h.parser.acts ++ Fed bytes ∷ [] }) refl refl f.3
   feed-stays bytes (Err hub.Memory) f = same-parser (record (h.parser) { failed = true }) refl refl f.1.1
   feed-stays bytes (Err hub.Failed) f = same-hub f.1
-  feed-stays bytes (Err hub.UnknownClient) f = absurd f
-  feed-stays bytes (Err (hub.Write e)) f = absurd f
+  feed-stays bytes _ f = absurd f
 
   resize-stays : (rows cols : ℕ) (result : Result (Unit {0}) HubError) → Resizes h rows cols result g
       → KeepsFirst h g
@@ -601,15 +595,13 @@ module _ (h g : HubState as_told) where
       same-parser (record (h.parser) { acts = h.parser.acts ++ Resized rows cols ∷ [] }) refl refl f.3
   resize-stays rows cols (Err hub.Memory) f = same-hub f.1
   resize-stays rows cols (Err hub.Failed) f = same-hub f.1
-  resize-stays rows cols (Err hub.UnknownClient) f = absurd f
-  resize-stays rows cols (Err (hub.Write e)) f = absurd f
+  resize-stays rows cols _ f = absurd f
 
   attach-stays : (result : Result ℕ HubError) → Attaches h result g → KeepsFirst h g
   attach-stays (Ok key) f = same-past f.2.0
   attach-stays (Err hub.Memory) f = same-hub f.1
   attach-stays (Err hub.Failed) f = same-hub f.1
-  attach-stays (Err hub.UnknownClient) f = absurd f
-  attach-stays (Err (hub.Write e)) f = absurd f
+  attach-stays _ f = absurd f
 
   detach-stays : (key : ℕ) (o : Option ClientState) (result : Result (Unit {0}) HubError)
       → DetachesFrom h key o result g → KeepsFirst h g

@@ -1,16 +1,10 @@
 -- Sessions of two runs, or of two logs, with the same own calls.
-use Rattle.std.proofs.Common.{◌≡◌, ◌∙◌, ℕ, Bool, false, List, [], Option, Some, refl, sym, ap, subst}
-use Rattle.termrelay.specs.Answers.{ClientState}
+use Rattle.std.proofs.Common.{◌≡◌, ◌∙◌, ℕ, Bool, false, List, [], Some, refl, sym, ap, subst}
 use Rattle.termrelay.specs.Hub.{HubState, clients_in}
-use Rattle.termrelay.specs.Calls.{Call}
-use Rattle.termrelay.specs.Log.{SessionView, LogView}
 use Rattle.relay_theorem.specs.History.{as_told, Story}
-use Rattle.relay_theorem.specs.Laws.{IsSession}
 use Rattle.relay_theorem.specs.Isolation.{Own, own_calls, AreAlike, SessionsAreIsolated}
-use Rattle.relay_theorem.specs.Logged.{IsLogged}
 use Rattle.relay_theorem.specs.Isolation.{LoggedSessionsAreIsolated}
-use Rattle.relay_theorem.proofs.ServesLemmas.{logs-follow}
-use Rattle.relay_theorem.proofs.LoggedLemmas.{IsHistory, story-at}
+use Rattle.relay_theorem.proofs.LoggedLemmas.{logged-story}
 use Rattle.relay_theorem.proofs.OwnLemmas.{Life, story_of}
 use Rattle.relay_theorem.proofs.OwnRunLemmas.{Found, session-found}
 
@@ -57,29 +51,6 @@ sessions-isolated rows cols calls others replies answers n m t u s z fed also sa
     (found-alike rows cols t u s.hub z.hub owns a b, found-answered rows cols t u s.hub z.hub owns a b)
 
 -- ---- two logs
-
--- a log's session, and its story
-pub record LoggedStory (rows cols : ℕ) (calls : List Call) (l : LogView) (n : ℕ) (s : SessionView)
-    (clients : ℕ → Option ClientState) : Type 0 where
-  pub story : Story
-  pub session : IsSession rows cols calls l.replies n story
-  pub logged : story.session ≡ s
-  pub kept : clients ≡ clients_in session.hub
-
-logged-story : (rows cols : ℕ) (calls : List Call) (l : LogView) (n : ℕ) (s : SessionView)
-    → (a : IsLogged rows cols calls l n s) → LoggedStory rows cols calls l n s (clients_in a.after)
-logged-story rows cols calls l n s a =
-    let all : IsHistory rows cols calls l.replies a.after l.sessions =
-    subst (λ replies. IsHistory rows cols calls replies a.after l.sessions) (sym a.ran.1)
-    (logs-follow rows cols calls a.ran.0 a.hub a.after l.sessions a.new a.ran.2) in
-    let found = story-at l.sessions all.1 n s all.4 a.is in
-    record {
-      story = found.story;
-      session =
-          record { height = a.height; width = a.width; hub = all.0; stories = all.1; ran = all.2; is = found.is };
-      logged = found.logged;
-      kept = all.3.clients;
-    }
 
 pub logged-isolated : LoggedSessionsAreIsolated
 logged-isolated rows cols calls others l k n m s z a b fed also same =

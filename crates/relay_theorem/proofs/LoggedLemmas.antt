@@ -1,11 +1,12 @@
 -- What a far terminal shows of a log's session.
-use Rattle.std.proofs.Common.{◌≡◌, ◌∙◌, ℕ, zero, suc, List, [], ◌∷◌, map, Some, None, sym, ap, subst, refl}
+use Rattle.std.proofs.Common.{◌≡◌, ◌∙◌, ℕ, zero, suc, List, [], ◌∷◌, map, Option, Some, None, sym, ap, subst, refl}
 use Rattle.std.specs.Prelude.{slice_get}
 use Rattle.terminal_model.specs.Term.{shown_of}
 use Rattle.termview.specs.Seen.{seen}
 use Rattle.termrelay.specs.declared.call.Reply.{Reply}
 use Rattle.termrelay.specs.Calls.{Call}
-use Rattle.termrelay.specs.Hub.{HubState, as_kept}
+use Rattle.termrelay.specs.Answers.{ClientState}
+use Rattle.termrelay.specs.Hub.{HubState, as_kept, clients_in}
 use Rattle.termrelay.specs.Log.{SessionView, LogView}
 use Rattle.relay_theorem.specs.History.{as_told, Story, fresh, size_of_session, RunsTold}
 use Rattle.relay_theorem.specs.Laws.{IsSession}
@@ -35,10 +36,33 @@ pub story-at : (ss : List SessionView) (ts : List Story) (n : ℕ) (s : SessionV
 story-at ss ts n s are e = found-at ts n s (ap (λ xs. slice_get xs n) are ∙ e)
 
 -- the log's sessions are those of a history of its replies
-abbrev pub IsHistory : ℕ → ℕ → List Call → List Reply → HubState as_kept → List SessionView → Type 0
+abbrev IsHistory : ℕ → ℕ → List Call → List Reply → HubState as_kept → List SessionView → Type 0
 IsHistory rows cols calls replies g ss =
     (u : HubState as_told) × (ts : List Story) × RunsTold (fresh rows cols) [] calls replies u ts × Matches g u
     × (map (λ t. t.session) ts ≡ ss)
+
+-- a log's session, and its story
+pub record LoggedStory (rows cols : ℕ) (calls : List Call) (l : LogView) (n : ℕ) (s : SessionView)
+    (clients : ℕ → Option ClientState) : Type 0 where
+  pub story : Story
+  pub session : IsSession rows cols calls l.replies n story
+  pub logged : story.session ≡ s
+  pub kept : clients ≡ clients_in session.hub
+
+pub logged-story : (rows cols : ℕ) (calls : List Call) (l : LogView) (n : ℕ) (s : SessionView)
+    → (a : IsLogged rows cols calls l n s) → LoggedStory rows cols calls l n s (clients_in a.after)
+logged-story rows cols calls l n s a =
+    let all : IsHistory rows cols calls l.replies a.after l.sessions =
+    subst (λ replies. IsHistory rows cols calls replies a.after l.sessions) (sym a.ran.1)
+    (logs-follow rows cols calls a.ran.0 a.hub a.after l.sessions a.new a.ran.2) in
+    let found = story-at l.sessions all.1 n s all.4 a.is in
+    record {
+      story = found.story;
+      session =
+          record { height = a.height; width = a.width; hub = all.0; stories = all.1; ran = all.2; is = found.is };
+      logged = found.logged;
+      kept = all.3.clients;
+    }
 
 abbrev IsRead : ℕ → ℕ → List Call → LogView → ℕ → SessionView → List (List ℕ) → List ℕ → Type 0
 IsRead rows cols calls l n s pieces parsed =
@@ -50,13 +74,7 @@ IsTold rows cols calls l n s = (t : Story) × HasStory rows cols calls l n s t
 story-of : (rows cols : ℕ) (calls : List Call) (l : LogView) (n : ℕ) (s : SessionView) → IsLogged rows cols calls l n s
     → IsTold rows cols calls l n s
 story-of rows cols calls l n s r =
-    let all : IsHistory rows cols calls l.replies r.after l.sessions =
-    subst (λ replies. IsHistory rows cols calls replies r.after l.sessions) (sym r.ran.1)
-    (logs-follow rows cols calls r.ran.0 r.hub r.after l.sessions r.new r.ran.2) in
-    let found = story-at l.sessions all.1 n s all.4 r.is in
-    let session : IsSession rows cols calls l.replies n found.story =
-    record { height = r.height; width = r.width; hub = all.0; stories = all.1; ran = all.2; is = found.is } in
-    (found.story, record { session = session; logged = found.logged })
+    let x = logged-story rows cols calls l n s r in (x.story, record { session = x.session; logged = x.logged })
 
 pub logged-reads : EachLoggedReadIsARead
 logged-reads rows cols calls l n s pieces parsed r =

@@ -35,22 +35,13 @@ both : {A : Type 0} (reply : A → Reply) → IsKind reply → (r : Reply) (a b 
 both reply kind r a b e f = replied-one reply kind b a (sym f ∙ e)
 
 of-done : IsKind (λ (u : Unit {0}). Done)
-of-done = record {
-  one = λ x y e. refl;
-  well = λ x e no. absurd (cc);
-}
+of-done = record { one = λ x y e. refl; well = λ x e no. absurd (cc) }
 
 of-attached : IsKind Attached
-of-attached = record {
-  one = λ x y e. cc;
-  well = λ x e no. absurd (cc);
-}
+of-attached = record { one = λ x y e. cc; well = λ x e no. absurd (cc) }
 
 of-answered : IsKind Answered
-of-answered = record {
-  one = λ x y e. cc;
-  well = λ x e no. absurd (cc);
-}
+of-answered = record { one = λ x y e. cc; well = λ x e no. absurd (cc) }
 
 -- ---- hubs
 
@@ -70,23 +61,20 @@ module _ (h g k : HubState as_told) where
   feeds-one bytes (Ok u) e f = same-hub (e.3 ∙ sym f.3) (e.2 ∙ sym f.2)
   feeds-one bytes (Err hub.Memory) e f = same-hub (e.1.1 ∙ sym f.1.1) (e.2 ∙ sym f.2)
   feeds-one bytes (Err hub.Failed) e f = both-stay e.1 f.1
-  feeds-one bytes (Err hub.UnknownClient) e f = absurd e
-  feeds-one bytes (Err (hub.Write x)) e f = absurd e
+  feeds-one bytes _ e f = absurd e
 
   resizes-one : (rows cols : ℕ) (result : Result (Unit {0}) HubError) → Resizes h rows cols result g
       → Resizes h rows cols result k → g ≡ k
   resizes-one rows cols (Ok u) e f = same-hub (e.3 ∙ sym f.3) (e.2 ∙ sym f.2)
   resizes-one rows cols (Err hub.Memory) e f = both-stay e.1 f.1
   resizes-one rows cols (Err hub.Failed) e f = both-stay e.1 f.1
-  resizes-one rows cols (Err hub.UnknownClient) e f = absurd e
-  resizes-one rows cols (Err (hub.Write x)) e f = absurd e
+  resizes-one rows cols _ e f = absurd e
 
   attaches-one : (result : Result ℕ HubError) → Attaches h result g → Attaches h result k → g ≡ k
   attaches-one (Ok key) e f = both-put key (Some new_client) e.2 f.2
   attaches-one (Err hub.Memory) e f = both-stay e.1 f.1
   attaches-one (Err hub.Failed) e f = both-stay e.1 f.1
-  attaches-one (Err hub.UnknownClient) e f = absurd e
-  attaches-one (Err (hub.Write x)) e f = absurd e
+  attaches-one _ e f = absurd e
 
   detaches-one : (key : ℕ) (o : Option ClientState) (a b : Result (Unit {0}) HubError) → DetachesFrom h key o a g
       → DetachesFrom h key o b k → g ≡ k

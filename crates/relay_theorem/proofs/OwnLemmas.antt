@@ -1,10 +1,12 @@
 -- What a session has, and what one call makes of it.
-use Rattle.std.proofs.Common.{◌≡◌, ◌∙◌, ℕ, zero, suc, ◌+◌, Bool, true, false, ◌||◌, List, [], ◌∷◌, ◌++◌, map, length}
+use Rattle.std.proofs.Common.{◌≡◌, ◌∙◌, ℕ, zero, suc, ◌+◌, Bool, true, false, List, [], ◌∷◌, ◌++◌, map, length}
 use Rattle.std.proofs.Common.{take, drop, Option, Some, None, Result, Ok, Err, refl, sym, ap, subst, arith}
 use Rattle.std.proofs.Common.{if◌then◌else◌}
 use Rattle.std.specs.Prelude.{◌==◌, slice_get}
 use Rattle.std.specs.declared.io.Error.{Error}
+use Rattle.std.specs.Option.{option_map}
 use Rattle.std.proofs.lemmas.Bool.{eqb-true, eq-eqb}
+use Rattle.std.proofs.lemmas.Option.{slice_get-map, slice_get_past}
 use Rattle.takers.specs.Pump.{Pumps}
 use Rattle.vt100_core.specs.Picture.{grid_size}
 use Rattle.screen_model.specs.Made.{Act, Fed, Resized, made}
@@ -33,19 +35,9 @@ use Rattle.relay_theorem.proofs.HistoryLemmas.{IsKept}
 
 -- ---- lists
 
-pub or-first : (a b : Bool) → (a || b) ≡ false → a ≡ false
-or-first true b h = absurd (let no : true ≡ false = h in cc)
-or-first false b h = refl
-
-pub or-rest : (a b : Bool) → (a || b) ≡ false → b ≡ false
-or-rest true b h = absurd (let no : true ≡ false = h in cc)
-or-rest false b h = h
-
 pub got-mapped : {X Y : Type 0} (f : X → Y) (xs : List X) (n : ℕ) (x : X) → slice_get xs n ≡ Some x
     → slice_get (map f xs) n ≡ Some (f x)
-got-mapped f [] n x e = absurd (let no : None ≡ Some x = e in cc)
-got-mapped f (y ∷ xs) zero x e = let same : y ≡ x = cc in ap (λ z. Some (f z)) same
-got-mapped f (y ∷ xs) (suc n) x e = got-mapped f xs n x e
+got-mapped f xs n x e = slice_get-map f xs n ∙ ap (option_map f) e
 
 pub got-front : {X : Type 0} (xs ys : List X) (n : ℕ) (x : X) → slice_get xs n ≡ Some x
     → slice_get (xs ++ ys) n ≡ Some x
@@ -58,10 +50,7 @@ got-last [] x = refl
 got-last (y ∷ xs) x = got-last xs x
 
 pub none-past : {X : Type 0} (xs : List X) (n : ℕ) (x : X) → slice_get xs (length xs + n) ≡ Some x → ⊥
-none-past [] n x e = absurd (let no : None ≡ Some x = e in cc)
-none-past (y ∷ xs) n x e =
-    let next : length (y ∷ xs) + n ≡ suc (length xs + n) = omega arith in
-    none-past xs n x (sym (ap (slice_get (y ∷ xs)) next) ∙ e)
+none-past xs n x e = let no : None ≡ Some x = sym (slice_get_past xs (length xs + n) (omega arith)) ∙ e in absurd (cc)
 
 -- ---- what a session has
 
@@ -229,8 +218,7 @@ module _ (rows cols : ℕ) where
     }
     feed-goes bytes (Err hub.Memory) f fed = absurd (let no : true ≡ false = fed in cc)
     feed-goes bytes (Err hub.Failed) f fed = absurd (let no : false ≡ true = f.0 in cc)
-    feed-goes bytes (Err hub.UnknownClient) f fed = absurd f
-    feed-goes bytes (Err (hub.Write e)) f fed = absurd f
+    feed-goes bytes _ f fed = absurd f
 
     resize-goes : (height width : ℕ) (result : Result (Unit {0}) HubError) → IsSide height × IsSide width
         → Resizes now height width result g → is_starved (done result) ≡ false
@@ -239,8 +227,7 @@ module _ (rows cols : ℕ) where
         (is, got-mapped (with_session ended) ts n (story_of key false l) story)
     resize-goes height width (Err hub.Memory) is f fed = absurd (let no : true ≡ false = fed in cc)
     resize-goes height width (Err hub.Failed) is f fed = absurd (let no : false ≡ true = f.0 in cc)
-    resize-goes height width (Err hub.UnknownClient) is f fed = absurd f
-    resize-goes height width (Err (hub.Write e)) is f fed = absurd f
+    resize-goes height width _ is f fed = absurd f
 
     attach-goes : (result : Result ℕ HubError) → Attaches now result g → is_starved (replied Attached result) ≡ false
         → After Attach (replied Attached result)
@@ -252,8 +239,7 @@ module _ (rows cols : ℕ) where
     }
     attach-goes (Err hub.Memory) f fed = absurd (let no : true ≡ false = fed in cc)
     attach-goes (Err hub.Failed) f fed = absurd (let no : false ≡ true = f.0 in cc)
-    attach-goes (Err hub.UnknownClient) f fed = absurd f
-    attach-goes (Err (hub.Write e)) f fed = absurd f
+    attach-goes _ f fed = absurd f
 
     -- a client that is another's leaves
     left-by : (other : ℕ) (u : Unit {0}) (o : Option ClientState) → (key == other) ≡ false
@@ -297,8 +283,7 @@ module _ (rows cols : ℕ) where
     }
     own-asks (Err hub.Memory) can f fed = absurd (let no : true ≡ false = fed in cc)
     own-asks (Err hub.Failed) can f fed = absurd (let no : false ≡ true = can in cc)
-    own-asks (Err hub.UnknownClient) can f fed = absurd can
-    own-asks (Err (hub.Write e)) can f fed = absurd can
+    own-asks _ can f fed = absurd can
 
     other-asks : (other : ℕ) (o : Option ClientState) (result : Result Answer HubError) → (key == other) ≡ false
         → CanFrame (screen_in now) o result → Framed now other o result g
@@ -313,8 +298,7 @@ module _ (rows cols : ℕ) where
         (other-changed other (with_entries (entries_of now (clients other) answer)) apart) f
     other-asks other (Some c) (Err hub.Memory) apart can f fed = absurd (let no : true ≡ false = fed in cc)
     other-asks other (Some c) (Err hub.Failed) apart can f fed = absurd (let no : false ≡ true = can in cc)
-    other-asks other (Some c) (Err hub.UnknownClient) apart can f fed = absurd can
-    other-asks other (Some c) (Err (hub.Write e)) apart can f fed = absurd can
+    other-asks other (Some c) _ apart can f fed = absurd can
 
     frame-by : (b : Bool) (other : ℕ) (result : Result Answer HubError) → (other == key) ≡ b
         → CanFrame (screen_in now) (clients other) result → Framed now other (clients other) result g

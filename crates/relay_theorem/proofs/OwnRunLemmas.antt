@@ -4,7 +4,7 @@ use Rattle.std.proofs.Common.{Option, Some, None, Result, Ok, Err, refl, sym, ap
 use Rattle.std.proofs.Common.{append-nil, arith, if◌then◌else◌, ◌<◌, length-append}
 use Rattle.std.specs.Prelude.{◌==◌, slice_get}
 use Rattle.std.specs.List.{list_any}
-use Rattle.std.proofs.lemmas.Bool.{eqb-true}
+use Rattle.std.proofs.lemmas.Bool.{eqb-true, or_parts}
 use Rattle.std.proofs.lemmas.Bool.Decides.{nat_tests}
 use Rattle.std.proofs.lemmas.List.{length-map}
 use Rattle.vt100_core.specs.Picture.{grid_size}
@@ -14,7 +14,7 @@ use Rattle.termrelay.specs.Answers.{ClientState}
 use Rattle.termrelay.specs.declared.answer.Answer.{Answer}
 use Rattle.termrelay.specs.declared.call.Take.{Take}
 use Rattle.termrelay.specs.declared.call.Reply.{Reply}
-use Rattle.termrelay.specs.declared.call.Reply.TheVariants.{Done, Attached, Answered, Refused}
+use Rattle.termrelay.specs.declared.call.Reply.TheVariants.{Done, Attached, Answered}
 use Rattle.termrelay.specs.declared.error.HubError.{HubError}
 use Rattle.termrelay.specs.declared.error.HubError.TheVariants as hub
 use Rattle.termrelay.specs.Hub.{HubState, new_client, Puts}
@@ -29,7 +29,7 @@ use Rattle.relay_theorem.specs.Isolation.{is_starved, Own, Acts, Comes, Asks, Pu
 use Rattle.relay_theorem.specs.Isolation.{own_then, own_of, own_calls}
 use Rattle.relay_theorem.proofs.StoryLemmas.{pick, only-changed, at-key}
 use Rattle.relay_theorem.proofs.HistoryLemmas.{IsKept, call-kept, fresh-kept}
-use Rattle.relay_theorem.proofs.OwnLemmas.{or-first, or-rest, got-mapped, got-front, got-last, none-past, Life, past}
+use Rattle.relay_theorem.proofs.OwnLemmas.{got-mapped, got-front, got-last, none-past, Life, past}
 use Rattle.relay_theorem.proofs.OwnLemmas.{story_of, born, lives, tell_on, tell, CanLive, CanCome, Lives, Goes}
 use Rattle.relay_theorem.proofs.OwnLemmas.{call-goes-on}
 
@@ -50,27 +50,15 @@ module _ (rows cols : ℕ) where
     Stays call reply = slice_get (stories_after h call reply ts) n ≡ Some (story_of rows cols key true l)
 
     gone-stays : (call : Call) (reply : Reply) → Stays call reply
-    gone-stays (Feed bytes) reply = at
     gone-stays (Resize height width) Done = got-mapped (with_session ended) ts n (story_of rows cols key true l) at
-    gone-stays (Resize height width) (Attached other) = at
-    gone-stays (Resize height width) (Answered answer) = at
-    gone-stays (Resize height width) (Refused e) = at
-    gone-stays Attach Done = at
     gone-stays Attach (Attached other) =
         got-front ts (record { session = begun h other; entries = [] } ∷ []) n (story_of rows cols key true l) at
-    gone-stays Attach (Answered answer) = at
-    gone-stays Attach (Refused e) = at
     gone-stays (Detach other) Done = gone-changed key other n l (with_session ended) ts (one other) at
-    gone-stays (Detach other) (Attached key) = at
-    gone-stays (Detach other) (Answered answer) = at
-    gone-stays (Detach other) (Refused e) = at
-    gone-stays (Frame other) Done = at
-    gone-stays (Frame other) (Attached key) = at
     gone-stays (Frame other) (Answered answer) =
         gone-changed key other n l (with_entries (entries_of h (h.clients other) answer)) ts (one other) at
-    gone-stays (Frame other) (Refused e) = at
     gone-stays (Pump other takes) reply =
         gone-changed key other n l (with_session (grown (bytes_taken takes (h.clients other)))) ts (one other) at
+    gone-stays _ _ = at
 
   gone-run : (key n : ℕ) (l : Life) (h k : HubState as_told) (ts us : List Story) (calls : List Call)
       (replies : List Reply) → IsKept h ts → slice_get ts n ≡ Some (story_of rows cols key true l)
@@ -132,12 +120,11 @@ module _ (rows cols : ℕ) where
   lives-run key n l h k ts us (call ∷ calls) (reply ∷ replies) kept s fed (g, is, serves, later) =
       let after = stories_after h call reply ts in
       let stays = call-kept h g ts kept call reply is serves in
-      let rest = or-rest (is_starved reply) (list_any is_starved replies) fed in
+      let each = or_parts (is_starved reply) (list_any is_starved replies) fed in
       lives-then key n g k after us (own_of key calls replies)
-      (λ m t. lives-run key n m g k after us calls replies stays t rest later)
+      (λ m t. lives-run key n m g k after us calls replies stays t each.1 later)
       (λ m at. gone-run key n m g k after us calls replies stays at later) l (own_at key call reply)
-      (call-goes-on rows cols key n l h g ts call reply kept s is serves
-      (or-first (is_starved reply) (list_any is_starved replies) fed))
+      (call-goes-on rows cols key n l h g ts call reply kept s is serves each.0)
 
   -- ---- before it comes
 
@@ -188,8 +175,7 @@ module _ (rows cols : ℕ) where
     feed-passes bytes (Ok u) f fed = record { parser = f.3; count = refl; sides = λ owns can. (tt, can) }
     feed-passes bytes (Err hub.Memory) f fed = absurd (let no : true ≡ false = fed in cc)
     feed-passes bytes (Err hub.Failed) f fed = absurd (let no : false ≡ true = f.0 in cc)
-    feed-passes bytes (Err hub.UnknownClient) f fed = absurd f
-    feed-passes bytes (Err (hub.Write e)) f fed = absurd f
+    feed-passes bytes _ f fed = absurd f
 
     resize-passes : (height width : ℕ) (result : Result (Unit {0}) HubError) → IsSide height × IsSide width
         → Resizes before height width result g → is_starved (done result) ≡ false
@@ -201,8 +187,7 @@ module _ (rows cols : ℕ) where
     }
     resize-passes height width (Err hub.Memory) is f fed = absurd (let no : true ≡ false = fed in cc)
     resize-passes height width (Err hub.Failed) is f fed = absurd (let no : false ≡ true = f.0 in cc)
-    resize-passes height width (Err hub.UnknownClient) is f fed = absurd f
-    resize-passes height width (Err (hub.Write e)) is f fed = absurd f
+    resize-passes height width _ is f fed = absurd f
 
     detach-parser : (key : ℕ) (o : Option ClientState) (result : Result (Unit {0}) HubError)
         → DetachesFrom before key o result g → g.parser ≡ past rows cols (acts ++ [])
@@ -367,8 +352,7 @@ module _ (rows cols : ℕ) where
     attach-then (Err hub.Memory) f ok kept later more = absurd (let no : true ≡ false = ok in cc)
     attach-then (Err hub.Failed) f ok kept later more =
         let no : false ≡ true = sym (ap (λ (p : Past). p.failed) parser) ∙ f.0 in absurd (cc)
-    attach-then (Err hub.UnknownClient) f ok kept later more = absurd f
-    attach-then (Err (hub.Write e)) f ok kept later more = absurd f
+    attach-then _ f ok kept later more = absurd f
 
   -- one call more, whichever it is
   module _ (acts : List Act) (h g k : HubState as_told) (ts us : List Story) (calls : List Call) (reply : Reply)
@@ -415,11 +399,10 @@ module _ (rows cols : ℕ) where
   come-run acts h k ts us [] (reply ∷ replies) n t kept parser fed run at = absurd run
   come-run acts h k ts us (call ∷ calls) [] n t kept parser fed run at = absurd run
   come-run acts h k ts us (call ∷ calls) (reply ∷ replies) n t kept parser fed (g, is, serves, later) at =
-      let first = or-first (is_starved reply) (list_any is_starved replies) fed in
-      let rest = or-rest (is_starved reply) (list_any is_starved replies) fed in
+      let each = or_parts (is_starved reply) (list_any is_starved replies) fed in
       let stays = call-kept h g ts kept call reply is serves in
-      call-now acts h g k ts us calls reply replies n t kept parser first rest at call is serves later
-      (λ all m p i. come-run all g k (stories_after h call reply ts) us calls replies m t stays p rest later i)
+      call-now acts h g k ts us calls reply replies n t kept parser each.0 each.1 at call is serves later
+      (λ all m p i. come-run all g k (stories_after h call reply ts) us calls replies m t stays p each.1 later i)
 
   -- the session of a run
   pub session-found : (calls : List Call) (replies : List Reply) (n : ℕ) (t : Story)

@@ -28,14 +28,14 @@ use Rattle.termrelay.specs.Calls.{Call, Feed, Resize, Attach, Detach, Frame, Pum
 use Rattle.termrelay.specs.Calls.{done, replied}
 use Rattle.termrelay.specs.Log.{SessionView, is_of, change_last, begun, ended, grown, bytes_taken, sessions_after}
 use Rattle.termrelay.specs.Log.{RunsLogged}
-use Rattle.takers.proofs.PumpLemmas.{drop-least}
+use Rattle.std.proofs.lemmas.List.{drop_min}
 use Rattle.termrelay.proofs.ScriptLemmas.{takes-nothing, some-owed, first-none, first-fault, first-some, ok-number}
 use Rattle.termrelay.proofs.ScriptLemmas.{pumped-left}
 use Rattle.relay_theorem.specs.History.{as_told, fresh, Story, is_on, with_session, with_entries, entries_of}
 use Rattle.relay_theorem.specs.History.{stories_after, RunsTold}
 use Rattle.relay_theorem.specs.Serves.{IsPumpReply, EachPumpTakesAsTold, EachPumpIsServed, Matches, EachRunHasAHistory}
 use Rattle.relay_theorem.specs.Serves.{EachLogHasAHistory}
-use Rattle.relay_theorem.proofs.StoryLemmas.{shown-changed, unchanged}
+use Rattle.relay_theorem.proofs.StoryLemmas.{put, shown-changed, unchanged}
 
 -- ---- a call on a hub, and on what is told of it
 
@@ -44,10 +44,6 @@ pub record Follows (u : HubState as_told) (call : Call) (reply : Reply) (g : Hub
   pub after : HubState as_told
   pub serves : Serves u call reply after
   pub matches : Matches g after
-
--- another client at a key
-abbrev put : HubState as_told → ℕ → Option ClientState → HubState as_told
-put u key slot = record u { clients = with_client u.clients key slot }
 
 module _ (h : HubState as_kept) (u : HubState as_told) (m : Matches h u) where
   live : is_failed h ≡ false → is_failed u ≡ false
@@ -106,8 +102,7 @@ module _ (h : HubState as_kept) (u : HubState as_told) (m : Matches h u) where
     },
   )
   feed-follows bytes (Err hub.Failed) g f = (u, (dead f.0, refl), unchanged-matches g f.1)
-  feed-follows bytes (Err hub.UnknownClient) g f = absurd f
-  feed-follows bytes (Err (hub.Write e)) g f = absurd f
+  feed-follows bytes _ g f = absurd f
 
   resize-follows : (rows cols : ℕ) (result : Result (Unit {0}) HubError) (g : HubState as_kept)
       → Resizes h rows cols result g → (v : HubState as_told) × Resizes u rows cols result v × Matches g v
@@ -124,8 +119,7 @@ module _ (h : HubState as_kept) (u : HubState as_told) (m : Matches h u) where
       )
   resize-follows rows cols (Err hub.Memory) g f = (u, (live f.0, refl), unchanged-matches g f.1)
   resize-follows rows cols (Err hub.Failed) g f = (u, (dead f.0, refl), unchanged-matches g f.1)
-  resize-follows rows cols (Err hub.UnknownClient) g f = absurd f
-  resize-follows rows cols (Err (hub.Write e)) g f = absurd f
+  resize-follows rows cols _ g f = absurd f
 
   attach-follows : (result : Result ℕ HubError) (g : HubState as_kept) → Attaches h result g
       → (v : HubState as_told) × Attaches u result v × Matches g v
@@ -136,8 +130,7 @@ module _ (h : HubState as_kept) (u : HubState as_told) (m : Matches h u) where
   )
   attach-follows (Err hub.Memory) g f = (u, (live f.0, refl), unchanged-matches g f.1)
   attach-follows (Err hub.Failed) g f = (u, (dead f.0, refl), unchanged-matches g f.1)
-  attach-follows (Err hub.UnknownClient) g f = absurd f
-  attach-follows (Err (hub.Write e)) g f = absurd f
+  attach-follows _ g f = absurd f
 
   detach-follows : (key : ℕ) (o : Option ClientState) (result : Result (Unit {0}) HubError) (g : HubState as_kept)
       → DetachesFrom h key o result g → (v : HubState as_told) × DetachesFrom u key o result v × Matches g v
@@ -162,8 +155,7 @@ module _ (h : HubState as_kept) (u : HubState as_told) (m : Matches h u) where
       let due = ap (λ (v : ScreenView). may_take_memory (answer_for v.state c)) (sym (screen-now on)) ∙ can.1 in
       (u, ((on, due), refl), unchanged-matches g f)
   frame-follows key (Some c) (Err hub.Failed) g can f = (u, (dead can, refl), unchanged-matches g f)
-  frame-follows key (Some c) (Err hub.UnknownClient) g can f = absurd can
-  frame-follows key (Some c) (Err (hub.Write e)) g can f = absurd can
+  frame-follows key (Some c) _ g can f = absurd can
 
   pump-follows : (key : ℕ) (takes rest : List Take) (o : Option ClientState) (result : Result (Unit {0}) HubError)
       (g : HubState as_kept) → PumpsFrom WritesAsTold h key o takes result rest g
@@ -231,34 +223,22 @@ module _ (h : HubState as_kept) (u : HubState as_told) (m : Matches h u) where
 
   call-shown : (call : Call) (reply : Reply) (g : HubState as_kept) (ts : List Story) → Serves h call reply g
       → shown (stories_after u call reply ts) ≡ sessions_after h call reply (shown ts)
-  call-shown (Feed bytes) reply g ts s = refl
   call-shown (Resize rows cols) Done g ts s = ended-shown ts
-  call-shown (Resize rows cols) (Attached key) g ts s = refl
-  call-shown (Resize rows cols) (Answered answer) g ts s = refl
-  call-shown (Resize rows cols) (Refused e) g ts s = refl
-  call-shown Attach Done g ts s = refl
   call-shown Attach (Attached key) g ts (result, f, e) =
       map-append (λ (t : Story). t.session) ts (record { session = begun u key; entries = [] } ∷ [])
       ∙ ap (λ s. shown ts ++ s ∷ []) (same-begun key (attached-live result key g f e))
-  call-shown Attach (Answered answer) g ts s = refl
-  call-shown Attach (Refused e) g ts s = refl
   call-shown (Detach key) Done g ts s =
       shown-changed (is_on key) (is_of key) (with_session ended) ended (λ t. t.session) (λ t. refl) (λ t. refl) ts
-  call-shown (Detach key) (Attached other) g ts s = refl
-  call-shown (Detach key) (Answered answer) g ts s = refl
-  call-shown (Detach key) (Refused e) g ts s = refl
-  call-shown (Frame key) Done g ts s = refl
-  call-shown (Frame key) (Attached other) g ts s = refl
   call-shown (Frame key) (Answered answer) g ts s =
       shown-changed (is_on key) (is_of key) (with_entries (entries_of u (clients_in u key) answer)) (λ x. x)
       (λ t. t.session) (λ t. refl) (λ t. refl) ts
       ∙ unchanged (is_of key) (λ x. x) (λ x. refl) (shown ts)
-  call-shown (Frame key) (Refused e) g ts s = refl
   call-shown (Pump key takes) reply g ts s =
       let bytes = bytes_taken takes (clients_in u key) in
       shown-changed (is_on key) (is_of key) (with_session (grown bytes)) (grown bytes) (λ t. t.session) (λ t. refl)
       (λ t. refl) ts
       ∙ ap (λ bs. change_last (is_of key) (grown bs) (shown ts)) (same-taken key takes)
+  call-shown _ _ g ts s = refl
 
 -- ---- runs
 
@@ -375,7 +355,7 @@ module _ (S : Type 0) (step : S → List ℕ → Result ℕ Error → S → Type
       let later = told-of m t (drop first owed) end k rest in
       let j = min first (length owed) in
       let after : Pumps WritesAsTold later.0 (drop j owed) end k [] =
-      subst (λ bytes. Pumps WritesAsTold later.0 bytes end k []) (drop-least first owed) later.1 in
+      subst (λ bytes. Pumps WritesAsTold later.0 bytes end k []) (sym (drop_min first owed)) later.1 in
       let more : 0 < j = omega (arith, some-owed owed owes) in
       let same : min j (length owed) ≡ j = omega arith in (
         Bytes first ∷ later.0,

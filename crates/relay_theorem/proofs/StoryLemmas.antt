@@ -3,13 +3,15 @@ use Rattle.std.proofs.Common.{◌≡◌, ◌∙◌, ℕ, zero, suc, Bool, true, 
 use Rattle.std.proofs.Common.{Option, Some, None, refl, sym, ap, subst, arith, if◌then◌else◌}
 use Rattle.std.specs.Prelude.{◌==◌, slice_get}
 use Rattle.std.specs.List.{list_any, AllByRecursion}
-use Rattle.std.proofs.lemmas.Bool.{eqb-true, eq-eqb}
+use Rattle.std.proofs.lemmas.Bool.{eqb-true, eq-eqb, or_parts, or_from, and_parts}
+use Rattle.std.proofs.Math.Bool.{or-false}
+use Rattle.std.proofs.lemmas.List.Folds.{list_any-append}
 use Rattle.std.proofs.lemmas.Bool.Decides.{nat_tests}
 use Rattle.termrelay.specs.Answers.{ClientState}
-use Rattle.termrelay.specs.Hub.{with_client}
+use Rattle.termrelay.specs.Hub.{HubState, with_client}
 use Rattle.termrelay.specs.Log.{change_last, ended}
 use Rattle.termrelay.proofs.LogLemmas.{of-key}
-use Rattle.relay_theorem.specs.History.{Story, is_on, with_session}
+use Rattle.relay_theorem.specs.History.{as_told, Story, is_on, with_session}
 use Rattle.relay_theorem.specs.Laws.{AtMostOne}
 
 -- ---- tests
@@ -18,37 +20,9 @@ no-both : (b : Bool) → b ≡ true → b ≡ false → ⊥
 no-both true h k = absurd (let no : true ≡ false = k in cc)
 no-both false h k = absurd (let no : false ≡ true = h in cc)
 
-or-right : (a b : Bool) → (a || b) ≡ false → b ≡ false
-or-right true b h = absurd (let no : true ≡ false = h in cc)
-or-right false b h = h
-
-or-left : (a b : Bool) → (a || b) ≡ false → a ≡ false
-or-left true b h = h
-or-left false b h = refl
-
-or-none : (a b : Bool) → a ≡ false → b ≡ false → (a || b) ≡ false
-or-none true b h k = h
-or-none false b h k = k
-
-or-swap : (a b c : Bool) → (a || (b || c)) ≡ ((a || b) || c)
-or-swap true b c = refl
-or-swap false b c = refl
-
-pub or-false : (b : Bool) → (b || false) ≡ b
-or-false true = refl
-or-false false = refl
-
-pub or-true : (b : Bool) → (b || true) ≡ true
-or-true true = refl
-or-true false = refl
-
 and-none : (a b : Bool) → b ≡ false → (a && b) ≡ false
 and-none true b h = h
 and-none false b h = refl
-
-and-left : (a b : Bool) → (a && b) ≡ true → a ≡ true
-and-left true b h = refl
-and-left false b h = absurd (let no : false ≡ true = h in cc)
 
 not-true : (b : Bool) → not b ≡ true → b ≡ false
 not-true true h = absurd (let no : false ≡ true = h in cc)
@@ -60,11 +34,6 @@ pub all-map : {X Y : Type 0} (P : X → Type 0) (Q : Y → Type 0) (f : X → Y)
     → AllByRecursion P xs → AllByRecursion Q (map f xs)
 all-map P Q f k [] h = tt
 all-map P Q f k (x ∷ xs) h = (k x h.0, all-map P Q f k xs h.1)
-
-pub all-each : {X : Type 0} (P Q : X → Type 0) → ((x : X) → P x → Q x) → (xs : List X) → AllByRecursion P xs
-    → AllByRecursion Q xs
-all-each P Q k [] h = tt
-all-each P Q k (x ∷ xs) h = (k x h.0, all-each P Q k xs h.1)
 
 pub all-push : {X : Type 0} (P : X → Type 0) (xs : List X) (x : X) → AllByRecursion P xs → P x
     → AllByRecursion P (xs ++ x ∷ [])
@@ -90,7 +59,7 @@ module _ {X Y : Type 0} (p : X → Bool) (q : Y → Bool) (f : X → Y) (same : 
 module _ {X Y : Type 0} (q : Y → Bool) (f : X → Y) (none : (x : X) → q (f x) ≡ false) where
   pub none-mapped : (xs : List X) → list_any q (map f xs) ≡ false
   none-mapped [] = refl
-  none-mapped (x ∷ xs) = or-none (q (f x)) (list_any q (map f xs)) (none x) (none-mapped xs)
+  none-mapped (x ∷ xs) = or_from (q (f x)) (list_any q (map f xs)) (none x) (none-mapped xs)
 
   pub no-one-mapped : (xs : List X) → AtMostOne q (map f xs)
   no-one-mapped [] = tt
@@ -98,21 +67,20 @@ module _ {X Y : Type 0} (q : Y → Bool) (f : X → Y) (none : (x : X) → q (f 
 
 module _ {X : Type 0} (test : X → Bool) where
   pub any-pushed : (xs : List X) (y : X) → list_any test (xs ++ y ∷ []) ≡ (list_any test xs || test y)
-  any-pushed [] y = or-false (test y)
-  any-pushed (x ∷ xs) y = ap (λ b. test x || b) (any-pushed xs y) ∙ or-swap (test x) (list_any test xs) (test y)
+  any-pushed xs y = list_any-append test xs (y ∷ []) ∙ ap (λ b. list_any test xs || b) (or-false (test y))
 
   pushed-by : (b : Bool) (xs : List X) (y x : X) → test y ≡ b → AtMostOne test (x ∷ xs)
       → (test y ≡ true → list_any test (x ∷ xs) ≡ false) → test x ≡ true → list_any test (xs ++ y ∷ []) ≡ false
   pushed-by true xs y x e h k is =
-      absurd (no-both (test x) is (or-left (test x) (list_any test xs) (k e)))
-  pushed-by false xs y x e h k is = any-pushed xs y ∙ or-none (list_any test xs) (test y) (h.0 is) e
+      absurd (no-both (test x) is (or_parts (test x) (list_any test xs) (k e)).0)
+  pushed-by false xs y x e h k is = any-pushed xs y ∙ or_from (list_any test xs) (test y) (h.0 is) e
 
   pub one-pushed : (xs : List X) (y : X) → AtMostOne test xs → (test y ≡ true → list_any test xs ≡ false)
       → AtMostOne test (xs ++ y ∷ [])
   one-pushed [] y h k = (λ e. refl, tt)
   one-pushed (x ∷ xs) y h k = (
     λ is. pushed-by (test y) xs y x refl h k is,
-    one-pushed xs y h.1 (λ e. or-right (test x) (list_any test xs) (k e)),
+    one-pushed xs y h.1 (λ e. (or_parts (test x) (list_any test xs) (k e)).1),
   )
 
   module _ (f : X → X) where
@@ -123,8 +91,8 @@ module _ {X : Type 0} (test : X → Bool) where
     none-picked : (xs : List X) → list_any test xs ≡ false → map pick xs ≡ xs
     none-picked [] h = refl
     none-picked (x ∷ xs) h =
-        ap (λ b. (if b then f x else x) ∷ map pick xs) (or-left (test x) (list_any test xs) h)
-        ∙ ap (λ ys. x ∷ ys) (none-picked xs (or-right (test x) (list_any test xs) h))
+        ap (λ b. (if b then f x else x) ∷ map pick xs) (or_parts (test x) (list_any test xs) h).0
+        ∙ ap (λ ys. x ∷ ys) (none-picked xs (or_parts (test x) (list_any test xs) h).1)
 
     only-by : (later here : Bool) (x : X) (xs : List X) → list_any test xs ≡ later → test x ≡ here
         → AtMostOne test (x ∷ xs) → change_last test f xs ≡ map pick xs
@@ -180,7 +148,7 @@ unchanged test f same (x ∷ xs) =
 -- ---- stories of a key
 
 pub on-live : (key : ℕ) (t : Story) → is_on key t ≡ true → t.session.ended ≡ false
-on-live key t h = not-true t.session.ended (and-left (not t.session.ended) (t.session.client == key) h)
+on-live key t h = not-true t.session.ended (and_parts (not t.session.ended) (t.session.client == key) h).0
 
 pub on-key : (key : ℕ) (t : Story) → is_on key t ≡ true → t.session.client ≡ key
 on-key key t h = of-key key t.session h
@@ -228,6 +196,10 @@ pub ends-other : (key other : ℕ) → (other == key) ≡ false → (t : Story)
 ends-other key other apart t = ends-other-by (is_on key t) key other t apart refl
 
 -- ---- clients
+
+-- this is at the key
+abbrev pub put : HubState as_told → ℕ → Option ClientState → HubState as_told
+put h key slot = record h { clients = with_client h.clients key slot }
 
 module _ (clients : ℕ → Option ClientState) (key : ℕ) (slot : Option ClientState) where
   pub at-key : with_client clients key slot key ≡ slot

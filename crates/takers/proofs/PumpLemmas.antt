@@ -1,23 +1,12 @@
 -- Writes one after another.
-use Rattle.std.proofs.Common.{◌≡◌, ◌≢◌, ℕ, List, [], Ok, Result, ◌+◌, ◌-◌, ◌≤◌, ◌<◌, ◌⊎◌, take, drop, length, min, sym}
+use Rattle.std.proofs.Common.{◌≡◌, ◌≢◌, ℕ, List, [], Ok, Result, ◌+◌, ◌≤◌, ◌<◌, drop, length, min, sym}
 use Rattle.std.proofs.Common.{ap, ◌∙◌, arith, length-drop}
-use mathlib.Core.Logic.{⊎_elim}
-use Rattle.std.proofs.lemmas.Bool.{cases_lt}
-use Rattle.std.proofs.lemmas.List.{take_all, drop-drop, drop_all}
+use Rattle.std.proofs.lemmas.List.{drop-drop, drop_min}
 use Rattle.std.specs.declared.io.Error.{Error}
 use Rattle.takers.specs.Pump.{Pumps, all, nothing, fault, some}
 
-pub whole-left : (owed : List ℕ) (taken : ℕ) → take (length owed - taken) (drop taken owed) ≡ drop taken owed
-whole-left owed taken = take_all (length owed - taken) (drop taken owed) (omega (arith, length-drop taken owed))
-
 pub some-left : (owed : List ℕ) (taken : ℕ) → taken < length owed → drop taken owed ≢ []
 some-left owed taken lt = λ none. absurd (omega (arith, ap length none, length-drop taken owed))
-
-pub drop-least : (n : ℕ) (xs : List ℕ) → drop n xs ≡ drop (min n (length xs)) xs
-drop-least n xs =
-    let l : (n < length xs) ⊎ (length xs ≤ n) = cases_lt n (length xs) in
-    ⊎_elim (λ a. let same : n ≡ min n (length xs) = omega (arith, a) in ap (λ j. drop j xs) same)
-    (λ a. drop_all n xs a ∙ sym (drop_all (min n (length xs)) xs (omega (arith, a)))) l
 
 -- a write that answers n has taken m bytes, and what is left is pumped after it
 pub pumps-more : (S : Type 0) (step : S → List ℕ → Result ℕ Error → S → Type 0) (s u t : S) (owed : List ℕ)
@@ -26,7 +15,7 @@ pub pumps-more : (S : Type 0) (step : S → List ℕ → Result ℕ Error → S 
     → Pumps step u (drop (taken + m) owed) answer k t → Pumps step s (drop taken owed) answer (m + k) t
 pumps-more S step s u t owed taken n m k answer lt pos e takes rest =
     let left : drop n (drop taken owed) ≡ drop (taken + m) owed =
-    drop-least n (drop taken owed) ∙ ap (λ j. drop j (drop taken owed)) (sym e) ∙ drop-drop m taken owed in
+    sym (drop_min n (drop taken owed)) ∙ ap (λ j. drop j (drop taken owed)) (sym e) ∙ drop-drop m taken owed in
     let after : Pumps step u (drop n (drop taken owed)) answer k t = rw left rest in
     rw e (some u n k (some-left owed taken lt) pos takes after)
 

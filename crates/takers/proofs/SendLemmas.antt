@@ -1,7 +1,8 @@
 -- Texts that are pumped one after another.
-use Rattle.std.proofs.Common.{◌≡◌, ◌≢◌, ◌∙◌, ◌∷◌, refl, ℕ, ◌+◌, ◌-◌, ◌<◌, List, [], ◌++◌, take, drop, length, min, Option, Ok, Err}
-use Rattle.std.proofs.Common.{Result, sym, ap, append_assoc, arith, length-append, length-drop}
+use Rattle.std.proofs.Common.{◌≡◌, ◌≢◌, ◌∙◌, ◌∷◌, refl, ℕ, ◌<◌, List, [], ◌++◌, take, drop, length, Option, Ok, Err}
+use Rattle.std.proofs.Common.{Result, sym, ap, append_assoc, arith, length-drop}
 use Rattle.std.proofs.Common.{subst, append-nil, take-append-drop}
+use Rattle.std.proofs.Math.Seq.{take-length}
 use Rattle.std.specs.List.{concat}
 use Rattle.std.specs.Io.KnownBytes.{Appends}
 use Rattle.std.specs.declared.io.Error.{Error}
@@ -10,8 +11,7 @@ use Rattle.takers.proofs.PumpLaws.{takes-all, appends-front}
 use Rattle.takers.specs.Output.{TakesFront, TakesPart}
 use Rattle.takers.specs.Sent as sent
 use Rattle.takers.specs.Sent.{Sends, SendsText, done, part, broken}
-use Rattle.takers.proofs.AppendLemmas.{Appends-more, Appends-none, TakesFront-none, TakesFront-then}
-use Rattle.takers.proofs.AppendLemmas.{TakesPart-longer, TakesPart-then, TakesFront-longer}
+use Rattle.takers.proofs.AppendLemmas.{Appends-more, Appends-none, TakesPart-longer, TakesPart-then}
 
 some-length : (xs : List ℕ) → xs ≢ [] → 0 < length xs
 some-length [] ne = absurd (ne refl)
@@ -32,6 +32,14 @@ module _ (W : Type 0) (takes : W → List ℕ → Result ℕ Error → W → Typ
   sends-more w m v texts more first answer (sent.next {texts = others} k pumps rest) is after =
       sent.next k pumps (sends-more k m v others more first answer rest is after)
   sends-more w m v texts more first answer (sent.fault pumps) is after = absurd (cc)
+
+  -- texts are sent as their whole is
+  sends-text : (w v : W) (texts : List (List ℕ)) (answer : Result (Unit {0}) Error) → Sends takes w texts answer v
+      → SendsText takes w (concat texts) answer v
+  sends-text w v texts answer sent.none = done
+  sends-text w v texts answer (sent.next {texts = others} m pumps rest) =
+      part m pumps (sends-text m v others answer rest)
+  sends-text w v texts answer (sent.fault pumps) = broken [] pumps
 
   -- a text after one that was sent whole
   pub text-more : (w m v : W) (text more : List ℕ) (first answer : Result (Unit {0}) Error)
@@ -95,24 +103,6 @@ module _ (W : Type 0) (takes : W → List ℕ → Result ℕ Error → W → Typ
         sym (append-nil (take n owed)) ∙ ap (λ xs. take n owed ++ xs) (sym none) ∙ take-append-drop n owed in
         subst (Appends (contents s) (contents t)) same (pumped-front s owed well n t pumps)
 
-    pub sends-appends : (w v : W) (texts : List (List ℕ)) (answer : Result (Unit {0}) Error)
-        → Sends takes w texts answer v → answer ≡ well → Appends (contents w) (contents v) (concat texts)
-    sends-appends w v texts answer sent.none is = Appends-none (contents w)
-    sends-appends w v texts answer (sent.next {text = text} {texts = others} {n = n} m pumps rest) is =
-        Appends-more (contents w) (contents m) (contents v) text (concat others) (pumped-whole w text n m pumps)
-        (sends-appends m v others answer rest is)
-    sends-appends w v texts answer (sent.fault pumps) is = absurd (cc)
-
-    pub sends-front : (w v : W) (texts : List (List ℕ)) (answer : Result (Unit {0}) Error)
-        → Sends takes w texts answer v → TakesFront (contents w) (contents v) (concat texts)
-    sends-front w v texts answer sent.none = TakesFront-none (contents w) []
-    sends-front w v texts answer (sent.next {text = text} {texts = others} {n = n} m pumps rest) =
-        TakesFront-then (contents w) (contents m) (contents v) text (concat others) (pumped-whole w text n m pumps)
-        (sends-front m v others answer rest)
-    sends-front w v texts answer (sent.fault {text = text} {e = e} {n = n} pumps) =
-        subst (TakesFront (contents w) (contents v)) (sym (append-nil text))
-        (n, pumped-front w text (Err e) n v pumps)
-
     pub text-appends : (w v : W) (text : List ℕ) (answer : Result (Unit {0}) Error)
         → SendsText takes w text answer v → answer ≡ well → Appends (contents w) (contents v) text
     text-appends w v text answer done is = Appends-none (contents w)
@@ -133,9 +123,15 @@ module _ (W : Type 0) (takes : W → List ℕ → Result ℕ Error → W → Typ
 
     pub text-front : (w v : W) (text : List ℕ) (answer : Result (Unit {0}) Error)
         → SendsText takes w text answer v → TakesFront (contents w) (contents v) text
-    text-front w v text answer done = TakesFront-none (contents w) []
-    text-front w v text answer (part {text = one} {rest = others} {n = n} m pumps rest) =
-        TakesFront-then (contents w) (contents m) (contents v) one others (pumped-whole w one n m pumps)
-        (text-front m v others answer rest)
-    text-front w v text answer (broken {text = one} {e = f} {n = n} others pumps) =
-        TakesFront-longer (contents w) (contents v) one others (n, pumped-front w one (bad f) n v pumps)
+    text-front w v text (Ok u) sends =
+        (length text, rw (take-length text) (text-appends w v text (Ok u) sends refl))
+    text-front w v text (Err e) sends = let part = text-part w v text (Err e) e sends refl in (part.0, part.2)
+
+    pub sends-appends : (w v : W) (texts : List (List ℕ)) (answer : Result (Unit {0}) Error)
+        → Sends takes w texts answer v → answer ≡ well → Appends (contents w) (contents v) (concat texts)
+    sends-appends w v texts answer sends is =
+        text-appends w v (concat texts) answer (sends-text w v texts answer sends) is
+
+    pub sends-front : (w v : W) (texts : List (List ℕ)) (answer : Result (Unit {0}) Error)
+        → Sends takes w texts answer v → TakesFront (contents w) (contents v) (concat texts)
+    sends-front w v texts answer sends = text-front w v (concat texts) answer (sends-text w v texts answer sends)

@@ -4,10 +4,10 @@ use Rattle.std.proofs.Common.{nat_eq, length, get_or, Option, None, refl, sym, a
 use Rattle.std.proofs.Common.{append-nil, append_assoc, length-append}
 use Rattle.std.specs.List.{AllByRecursion, list_any}
 use Rattle.std.proofs.lemmas.Bool.{cond_both, cases_lt}
-use Rattle.std.proofs.lemmas.List.{take-append-le}
+use Rattle.std.proofs.lemmas.List.{take-append-le, nil_from_length}
 use Rattle.std.proofs.lemmas.List.Folds.{list_any-append}
 use Rattle.std.proofs.Math.Bool.{or-true}
-use Rattle.vte_core.specs.Event.{Event, Print, Execute, Hook, Put, Unhook, Osc, Csi, Esc}
+use Rattle.vte_core.specs.Event.{Event, Print, Csi}
 use Rattle.vte_core.specs.Shapes.{events}
 use Rattle.vte_core.specs.Ground.{AtGround}
 use Rattle.vte_core.proofs.LawLemmas.{esc-cut}
@@ -31,8 +31,8 @@ use Rattle.vt100_forms.specs.declared.modes.MouseProtocolMode.{MouseProtocolMode
 use Rattle.vt100_forms.specs.declared.modes.MouseProtocolMode.TheVariants as mouse
 use Rattle.vt100_forms.specs.declared.modes.CursorStyle.{CursorStyle}
 use Rattle.vt100_forms.specs.declared.modes.CursorStyle.TheVariants as style
-use Rattle.vt100_forms.specs.Form.{Form, Text, MoveTo, MoveRight, EraseChar, ClearRowForward, ClearScreen, ClearAttrs}
-use Rattle.vt100_forms.specs.Form.{Crlf, Lf, Backspace, SaveCursor, RestoreCursor, HideCursor, Keypad, CursorKeys}
+use Rattle.vt100_forms.specs.Form.{Form, Text, MoveTo, MoveRight, EraseChar}
+use Rattle.vt100_forms.specs.Form.{HideCursor, Keypad, CursorKeys}
 use Rattle.vt100_forms.specs.Form.{Paste, Mouse, Encoding, Style, Sgr, mouse_number, encoding_number, style_number}
 use Rattle.vt100_forms.specs.Form.{sgr_numbers, spell}
 use Rattle.terminal_model.specs.Apply.{run}
@@ -66,13 +66,7 @@ event-opens_nothing (Csi gs (m ∷ []) false f) h =
     cond_both (nat_eq m 63 && nat_eq f 104) gs [] (λ (hs : List (List ℕ)). list_any opens_group hs ≡ false) (λ _. h)
     (λ _. refl)
 event-opens_nothing (Csi gs (m ∷ k ∷ ms) false f) h = refl
-event-opens_nothing (Print x) h = refl
-event-opens_nothing (Execute b) h = refl
-event-opens_nothing (Esc ms ignore b) h = refl
-event-opens_nothing (Osc ps bell) h = refl
-event-opens_nothing (Hook gs ms ignore f) h = refl
-event-opens_nothing (Put b) h = refl
-event-opens_nothing Unhook h = refl
+event-opens_nothing _ h = refl
 
 events-open_nothing : (es : List Event) → Unmarked es → list_any opens es ≡ false
 events-open_nothing [] h = refl
@@ -107,24 +101,15 @@ unmarked-mode to from h k =
 
 mouse-other : (m : MouseProtocolMode) → IsOther (mouse_number m)
 mouse-other mouse.None = refl
-mouse-other mouse.Press = refl
-mouse-other mouse.PressRelease = refl
-mouse-other mouse.ButtonMotion = refl
-mouse-other mouse.AnyMotion = refl
+mouse-other _ = refl
 
 encoding-other : (e : MouseProtocolEncoding) → IsOther (encoding_number e)
 encoding-other encoding.Default = refl
-encoding-other encoding.Utf8 = refl
-encoding-other encoding.Sgr = refl
+encoding-other _ = refl
 
 style-other : (s : CursorStyle) → IsOther (style_number s)
 style-other style.Default = refl
-style-other style.BlinkBlock = refl
-style-other style.SteadyBlock = refl
-style-other style.BlinkUnderline = refl
-style-other style.SteadyUnderline = refl
-style-other style.BlinkVerticalBar = refl
-style-other style.SteadyVerticalBar = refl
+style-other _ = refl
 
 unmarked-sgr : (ns : List ℕ) → Unmarked (sgr_events ns)
 unmarked-sgr [] = refl
@@ -137,27 +122,16 @@ unmarked-form (MoveTo r c) =
     (λ _. refl) (λ _. refl)
 unmarked-form (MoveRight n) = unmarked-counted n 0x43
 unmarked-form (EraseChar n) = unmarked-counted n 0x58
-unmarked-form ClearRowForward = refl
-unmarked-form ClearScreen = refl
-unmarked-form ClearAttrs = refl
-unmarked-form Crlf = refl
-unmarked-form Lf = refl
-unmarked-form Backspace = refl
-unmarked-form SaveCursor = refl
-unmarked-form RestoreCursor = refl
 unmarked-form (HideCursor true) = refl
-unmarked-form (HideCursor false) = refl
 unmarked-form (Keypad true) = refl
-unmarked-form (Keypad false) = refl
 unmarked-form (CursorKeys true) = refl
-unmarked-form (CursorKeys false) = refl
 unmarked-form (Paste true) = refl
-unmarked-form (Paste false) = refl
 unmarked-form (Mouse to from) = unmarked-mode _ _ (mouse-other to) (mouse-other from)
 unmarked-form (Encoding to from) = unmarked-mode _ _ (encoding-other to) (encoding-other from)
 unmarked-form (Style to from) =
     cond_both (style_number to == style_number from) _ _ Unmarked (λ _. refl) (λ _. rw (style-other to) refl)
 unmarked-form (Sgr c) = unmarked-sgr (sgr_numbers c)
+unmarked-form _ = refl
 
 unmarked-forms : (fs : List Form) → Unmarked (events_of_all fs)
 unmarked-forms [] = refl
@@ -193,10 +167,6 @@ end-apart (a ∷ b ∷ c ∷ d ∷ f ∷ g ∷ []) after h e = absurd (omega (ar
 end-apart (a ∷ b ∷ c ∷ d ∷ f ∷ g ∷ i ∷ []) after h e = absurd (omega (arith, ap (λ xs. get_or xs 7 0) e))
 end-apart (a ∷ b ∷ c ∷ d ∷ f ∷ g ∷ i ∷ j ∷ front) after h e = absurd (omega (arith, h))
 
-nil_of : (xs : List ℕ) → length xs ≡ 0 → xs ≡ []
-nil_of [] h = refl
-nil_of (x ∷ xs) h = absurd (omega (arith, h))
-
 -- an end mark stands at the end only, where none is among the events of the body
 ends-once : (body before after : List ℕ) → Unmarked (events 1024 body)
     → body ++ end_mark ≡ before ++ (end_mark ++ after) → after ≡ []
@@ -209,7 +179,7 @@ ends-once body before after none e =
     elim (cases_lt (length rest) 8) [
       | inl short ↦
           let at_end : rest ≡ [] = end-apart rest after short later.2 in
-          nil_of after (omega (arith, size, rest_size, ap length at_end))
+          nil_from_length after (omega (arith, size, rest_size, ap length at_end))
       | inr long ↦
           let inside = cut_later end_mark after rest end_mark later.2 long in
           let marked : list_any is_mark (events 1024 (before ++ (end_mark ++ inside.0))) ≡ false =

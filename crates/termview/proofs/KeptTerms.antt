@@ -4,6 +4,7 @@ use Rattle.std.proofs.Common.{true, false, cond, ◌&&◌, nat_lt, nat_eq, min, 
 use Rattle.std.proofs.Common.{[], ◌∷◌, Option, None, Some, sym, refl, ap, subst, ◌∙◌, arith, ⊎_elim}
 use Rattle.std.specs.List.{AllByRecursion}
 use Rattle.std.proofs.lemmas.Bool.{cond_both, cond-true, cond-false, lt-ltb, le-ltb, cases_lt, false≢true}
+use Rattle.std.proofs.Math.Bool.{and-false}
 use mathlib.Core.Path.{fun_ext}
 use Rattle.vte_core.specs.Shapes.{events}
 use Rattle.vte_types.specs.declared.clear.ClearMode.TheVariants as screen
@@ -39,10 +40,6 @@ narrow false a = refl
 whole : (b : Bool) (a : Attrs) → (cond b (empty_cell a) default_cell).continuation ≡ false
 whole true a = refl
 whole false a = refl
-
-and-false : (b : Bool) → (b && false) ≡ false
-and-false true = refl
-and-false false = refl
 
 IsPaired-erased : (z : Size) (a : Attrs) (r : ℕ) → IsPaired (erased z a r)
 IsPaired-erased z a r = record {
@@ -112,11 +109,11 @@ IsTerm-erase_below z t h =
 
 -- ---- modes
 
-IsTerm-modes : (z : Size) (t : Term) (m : Modes) → IsTerm z t → IsTerm z (record t { modes = m })
-IsTerm-modes z t m h = IsTerm-set z t t.hidden t.attrs m t.style h
+IsTerm-modes : (f : Term → Modes) (z : Size) (t : Term) → IsTerm z t → IsTerm z (record t { modes = f t })
+IsTerm-modes f z t h = IsTerm-set z t t.hidden t.attrs (f t) t.style h
 
-IsTerm-hidden : (z : Size) (t : Term) (b : Bool) → IsTerm z t → IsTerm z (record t { hidden = b })
-IsTerm-hidden z t b h = IsTerm-set z t b t.attrs t.modes t.style h
+IsTerm-hidden : (f : Term → Bool) (z : Size) (t : Term) → IsTerm z t → IsTerm z (record t { hidden = f t })
+IsTerm-hidden f z t h = IsTerm-set z t (f t) t.attrs t.modes t.style h
 
 -- every change of a table keeps it
 abbrev Keeps : Size → ℕ × (Term → Term) → Type 0
@@ -130,52 +127,14 @@ IsTerm-row z (row ∷ rows) each n t h =
     (λ _. IsTerm-row z rows each.1 n t h)
 
 sets-keep : (z : Size) → AllByRecursion (Keeps z) set_rows
-sets-keep z = (
-  λ t h. IsTerm-modes z t _ h,
-  (
-    λ t h. IsTerm-modes z t _ h,
-    (
-      λ t h. IsTerm-hidden z t _ h,
-      (
-        λ t h. IsTerm-modes z t _ h,
-        (
-          λ t h. IsTerm-modes z t _ h,
-          (
-            λ t h. IsTerm-modes z t _ h,
-            (
-              λ t h. IsTerm-modes z t _ h,
-              (λ t h. IsTerm-modes z t _ h, (λ t h. IsTerm-modes z t _ h, tt)),
-            ),
-          ),
-        ),
-      ),
-    ),
-  ),
-)
+sets-keep z =
+    let m = λ (f : Term → Modes). IsTerm-modes f z in
+    (m _, (m _, (IsTerm-hidden _ z, (m _, (m _, (m _, (m _, (m _, (m _, tt)))))))))
 
 resets-keep : (z : Size) → AllByRecursion (Keeps z) reset_rows
-resets-keep z = (
-  λ t h. IsTerm-modes z t _ h,
-  (
-    λ t h. IsTerm-modes z t _ h,
-    (
-      λ t h. IsTerm-hidden z t _ h,
-      (
-        λ t h. IsTerm-modes z t _ h,
-        (
-          λ t h. IsTerm-modes z t _ h,
-          (
-            λ t h. IsTerm-modes z t _ h,
-            (
-              λ t h. IsTerm-modes z t _ h,
-              (λ t h. IsTerm-modes z t _ h, (λ t h. IsTerm-modes z t _ h, tt)),
-            ),
-          ),
-        ),
-      ),
-    ),
-  ),
-)
+resets-keep z =
+    let m = λ (f : Term → Modes). IsTerm-modes f z in
+    (m _, (m _, (IsTerm-hidden _ z, (m _, (m _, (m _, (m _, (m _, (m _, tt)))))))))
 
 IsTerm-style : (z : Size) (s : Option CursorStyle) (t : Term) → IsTerm z t → IsTerm z (with_style s t)
 IsTerm-style z None t h = h
@@ -200,8 +159,8 @@ calls-keep z (call.clear_line line.Right) t h = IsTerm-erase z z.cols t h (omega
 calls-keep z (call.clear_screen screen.Below) t h = IsTerm-erase_below z t h
 calls-keep z call.save_cursor_position t h = IsTerm-apply z SaveCursor t h
 calls-keep z call.restore_cursor_position t h = IsTerm-apply z RestoreCursor t h
-calls-keep z call.set_keypad_application_mode t h = IsTerm-modes z t _ h
-calls-keep z call.unset_keypad_application_mode t h = IsTerm-modes z t _ h
+calls-keep z call.set_keypad_application_mode t h = IsTerm-set z t t.hidden t.attrs _ t.style h
+calls-keep z call.unset_keypad_application_mode t h = IsTerm-set z t t.hidden t.attrs _ t.style h
 calls-keep z (call.set_cursor_style s) t h = IsTerm-style z (style_of s) t h
 calls-keep z (call.set_private_mode m) t h = IsTerm-row z set_rows (sets-keep z) (private_raw_of m) t h
 calls-keep z (call.unset_private_mode m) t h = IsTerm-row z reset_rows (resets-keep z) (private_raw_of m) t h

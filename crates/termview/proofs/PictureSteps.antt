@@ -123,10 +123,6 @@ stays w col c n e h o =
     ∙ ap (λ x. x || ((n == 0) && (col == 0))) (le-ltb w n h)
     ∙ o
 
-and-false : (b : Bool) → (b && false) ≡ false
-and-false true = refl
-and-false false = refl
-
 -- a zero-width one joins
 pub joins-left : (p q : PictureView) (c : ℕ) → drawn_columns c ≡ Some 0 → 0 < p.col → Becomes p q (join c (term_of_picture p))
     → Becomes p q (input p.size c (term_of_picture p))

@@ -1,7 +1,7 @@
 -- The cursor that goes to the next row, and erasing up to the screen's end, by the parts that the code takes.
 use Rattle.std.proofs.Common.{◌≡◌, ℕ, ◌+◌, ◌-◌, ◌<◌, ◌≤◌, ◌==◌, Bool, true, false, cond, ◌&&◌, nat_lt, nat_le}
 use Rattle.std.proofs.Common.{sym, ap, ◌∙◌, arith, ⊎_elim}
-use Rattle.std.proofs.lemmas.Bool.{cond_both, cond-true, cond-false, lt-ltb, ne_eqb, eq-eqb, cases_eq, cases_lt}
+use Rattle.std.proofs.lemmas.Bool.{cond-true, cond-false, lt-ltb, ne_eqb, eq-eqb, cases_eq, cases_lt}
 use Rattle.std.proofs.lemmas.Bool.Decides.{nat_tests}
 use mathlib.Core.Path.{fun_ext}
 use Rattle.vt100_cells.specs.Cell.{CellView, default_cell, is_filled}
@@ -77,15 +77,11 @@ wraps-last z t h e =
     })
     ∙ sym (down-up z (record t { wrapped = update t.wrapped t.row (full z t); col = 0 }) (omega arith))
 
-row-down : (z : Size) (t : Term) → t.row < z.rows → 0 < t.row → 0 < (down z t).row
-unfolding down
-row-down z t l h = cond_both (nat_lt (t.row + 1) z.rows) _ _ (λ (s : Term). 0 < s.row) (λ _. omega arith) (λ _. h)
-
 -- on a screen of one row
-wraps-only : (z : Size) (t : Term) → t.row < z.rows → (down z (at_start t)).row ≤ 0
+pub wraps-gone : (z : Size) (t : Term) → t.row < z.rows → (down z (at_start t)).row ≤ 0
     → down z (at_start t) ≡ wrap z t
 unfolding wrap
-wraps-only z t l q =
+wraps-gone z t l q =
     ⊎_elim
     (λ (h : t.row + 1 < z.rows).
     let e : (down z (at_start t)).row ≡ t.row + 1 = ap (λ (s : Term). s.row) (down-stays z (at_start t) h) in
@@ -111,10 +107,6 @@ wraps-flagged z t l q =
     let e : (down z (at_start t)).row ≡ t.row = ap (λ (s : Term). s.row) (down-up z (at_start t) h) in
     wraps-last z t (omega arith) (omega arith))
     (cases_lt (t.row + 1) z.rows)
-
-pub wraps-gone : (z : Size) (t : Term) → t.row < z.rows → (down z (at_start t)).row ≤ 0
-    → down z (at_start t) ≡ wrap z t
-wraps-gone z t l q = wraps-only z t l q
 
 -- ---- room
 

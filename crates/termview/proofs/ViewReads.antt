@@ -1,8 +1,9 @@
 -- A view reads the calls of forms as they are meant.
 use Rattle.std.proofs.Common.{◌≡◌, ℕ, ◌+◌, ◌<◌, ◌≤◌, ◌==◌, Bool, true, false, cond, not, ◌&&◌, ◌||◌}
-use Rattle.std.proofs.Common.{nat_lt, nat_le, Some, refl, sym, ap, ◌∙◌, arith, ⊎_elim}
+use Rattle.std.proofs.Common.{nat_lt, nat_le, Some, refl, sym, ap, ◌∙◌, arith, rules, ⊎_elim}
 use Rattle.std.proofs.lemmas.Bool.{cond_both, ne_eqb, eq-eqb, lt-ltb, le-ltb, ltb-true, cases_lt}
 use Rattle.std.proofs.lemmas.Bool.Decides.{nat_tests}
+use Rattle.std.proofs.Math.Bool.{and-false}
 use mathlib.Core.Path.{fun_ext}
 use Rattle.vte_types.specs.Call as call
 use Rattle.vte_types.specs.declared.attr.Attr.TheVariants as a
@@ -32,55 +33,7 @@ use Rattle.termview.specs.Step.{view_step}
 -- ---- colours
 
 names : Below (λ i. named_colour (name_of i) ≡ Some (Idx i)) 16
-names = (
-  refl,
-  (
-    refl,
-    (
-      refl,
-      (
-        refl,
-        (
-          refl,
-          (
-            refl,
-            (
-              refl,
-              (
-                refl,
-                (
-                  refl,
-                  (
-                    refl,
-                    (
-                      refl,
-                      (
-                        refl,
-                        (
-                          refl,
-                          (
-                            refl,
-                            (
-                              refl,
-                              (
-                                refl,
-                                tt,
-                              ),
-                            ),
-                          ),
-                        ),
-                      ),
-                    ),
-                  ),
-                ),
-              ),
-            ),
-          ),
-        ),
-      ),
-    ),
-  ),
-)
+names = search rules
 
 named-is : (i : ℕ) → i < 16 → named_colour (name_of i) ≡ Some (Idx i)
 named-is i l = each-below (λ j. named_colour (name_of j) ≡ Some (Idx j)) 16 i names l
@@ -125,10 +78,7 @@ wiped-in f s e x k z l = grind (arith, nat_tests)
 
 half-none : (p q r : Bool) (x y : CellView) → cond (p && ((q && false) || (r && false))) x y ≡ y
 half-none false q r x y = refl
-half-none true false false x y = refl
-half-none true true false x y = refl
-half-none true false true x y = refl
-half-none true true true x y = refl
+half-none true q r x y = simp and-false
 
 wiped-out : (f : ℕ → CellView) (s e : ℕ) (x : Attrs) (k : ℕ) → e ≤ k → f k ≡ default_cell
     → wiped f s e x k ≡ default_cell
@@ -191,10 +141,7 @@ mouse-set : (z : Size) (m : MouseProtocolMode) (t : Term) → (m ≡ mouse.None 
     → view_step z (set_call (mouse_number m)) t ≡ record t { modes = record (t.modes) { mouse = m } }
 unfolding view_step
 mouse-set z mouse.None t ne = absurd (ne refl)
-mouse-set z mouse.Press t ne = refl
-mouse-set z mouse.PressRelease t ne = refl
-mouse-set z mouse.ButtonMotion t ne = refl
-mouse-set z mouse.AnyMotion t ne = refl
+mouse-set z _ t ne = refl
 
 mouse-reset : (z : Size) (m : MouseProtocolMode) (t : Term) → (m ≡ mouse.None → ⊥)
     → view_step z (reset_call (mouse_number m)) t ≡ record t {
@@ -202,17 +149,13 @@ mouse-reset : (z : Size) (m : MouseProtocolMode) (t : Term) → (m ≡ mouse.Non
     }
 unfolding view_step
 mouse-reset z mouse.None t ne = absurd (ne refl)
-mouse-reset z mouse.Press t ne = refl
-mouse-reset z mouse.PressRelease t ne = refl
-mouse-reset z mouse.ButtonMotion t ne = refl
-mouse-reset z mouse.AnyMotion t ne = refl
+mouse-reset z _ t ne = refl
 
 encoding-set : (z : Size) (m : MouseProtocolEncoding) (t : Term) → (m ≡ encoding.Default → ⊥)
     → view_step z (set_call (encoding_number m)) t ≡ record t { modes = record (t.modes) { encoding = m } }
 unfolding view_step
 encoding-set z encoding.Default t ne = absurd (ne refl)
-encoding-set z encoding.Utf8 t ne = refl
-encoding-set z encoding.Sgr t ne = refl
+encoding-set z _ t ne = refl
 
 encoding-reset : (z : Size) (m : MouseProtocolEncoding) (t : Term) → (m ≡ encoding.Default → ⊥)
     → view_step z (reset_call (encoding_number m)) t ≡ record t {
@@ -220,19 +163,13 @@ encoding-reset : (z : Size) (m : MouseProtocolEncoding) (t : Term) → (m ≡ en
     }
 unfolding view_step
 encoding-reset z encoding.Default t ne = absurd (ne refl)
-encoding-reset z encoding.Utf8 t ne = refl
-encoding-reset z encoding.Sgr t ne = refl
+encoding-reset z _ t ne = refl
 
 style-is : (z : Size) (s : CursorStyle) (t : Term)
     → view_step z (call.set_cursor_style (style_told s)) t ≡ record t { style = s }
 unfolding view_step
 style-is z style.Default t = refl
-style-is z style.BlinkBlock t = refl
-style-is z style.SteadyBlock t = refl
-style-is z style.BlinkUnderline t = refl
-style-is z style.SteadyUnderline t = refl
-style-is z style.BlinkVerticalBar t = refl
-style-is z style.SteadyVerticalBar t = refl
+style-is z _ t = refl
 
 input-is : (z : Size) (c : ℕ) (t : Term) → (c ≡ 0xFFFD → ⊥) → view_step z (call.input c) t ≡ input z c t
 unfolding view_step printed

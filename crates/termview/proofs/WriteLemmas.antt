@@ -1,6 +1,6 @@
 -- The texts of columns, sent one after another.
 use Rattle.std.proofs.Common.{◌≡◌, ◌≤◌, ◌<◌, ◌+◌, ◌-◌, ◌==◌, ℕ, zero, suc, List, [], ◌++◌, length}
-use Rattle.std.proofs.Common.{sym, refl, ap, ◌∙◌, subst, append_assoc, arith, Ok, Err, Result}
+use Rattle.std.proofs.Common.{sym, refl, ap, ◌∙◌, append_assoc, arith, Result}
 use Rattle.std.proofs.lemmas.List.{append-nil}
 use Rattle.std.specs.declared.io.Error.{Error}
 use Rattle.vt100_cells.specs.Cell.{CellView, default_cell}

@@ -1,10 +1,11 @@
 use Rattle.std.proofs.Common.{◌≡◌, ◌∙◌, List, false, None, Some, map, ap, sym, subst, arith}
 use Rattle.std.specs.List.{list_any, slice_get}
+use Rattle.std.proofs.lemmas.Option.{slice_get_past, slice_get-get_or}
 use Rattle.termrelay.specs.Calls.{call_of}
 use Rattle.termrelay.specs.Log.{LogView, SessionView, MadeAll, empty_log}
 use Rattle.termrelay.specs.declared.call.Reply.{Reply}
 use Rattle.relay_theorem.specs.Isolation.{is_starved}
-use Rattle.relay_streams.proofs.FarLemmas.{at-get, past-get, none-found, one-found, shows-judged}
+use Rattle.relay_streams.proofs.FarLemmas.{none-found, one-found, shows-judged}
 use Rattle.relay_streams.proofs.far.far_view.Goals as goal
 
 pub returns-clause-view : goal.returns-clause-view
@@ -20,7 +21,7 @@ returns-clause-view c =
     ∙ sym c.has_starved.ensures ∙ c.if-has_starved.false in
     let is : slice_get m.sessions c.args.session ≡ None =
     ap (λ (xs : List SessionView). slice_get xs c.args.session) (sym c.sessions.ensures)
-    ∙ past-get c.sessions.result.now c.args.session c.in-None.ensures.lookup.3 in
+    ∙ slice_get_past c.sessions.result.now c.args.session c.in-None.ensures.lookup.3 in
     none-found c.args.rows.value c.args.cols.value calls h g m c.in_ok-hub.ensures.new ran fed c.args.session
     c.args.take c.args.cuts.now is
 
@@ -40,7 +41,7 @@ returns-in-Some c =
     let lookup = c.in-Some.ensures.lookup in
     let is : slice_get m.sessions c.args.session ≡ Some s =
     ap (λ (xs : List SessionView). slice_get xs c.args.session) (sym c.sessions.ensures)
-    ∙ at-get c.sessions.result.now c.args.session s lookup.3.0 ∙ ap (λ (x : SessionView). Some x) (sym lookup.1) in
+    ∙ slice_get-get_or c.sessions.result.now c.args.session s lookup.3.0 ∙ ap (λ (x : SessionView). Some x) (sym lookup.1) in
     let stands = c.in_ok-view_session-in-Some.ensures.stands in
     let rows = c.args.rows.value in
     let cols = c.args.cols.value in

@@ -4,17 +4,14 @@ use Rattle.relay_streams.proofs.far.view_of.Goals as goal
 
 pub returns-clause-stands : goal.returns-clause-stands
 returns-clause-stands c =
-    let fresh = c.in_ok-view.ensures.exact (λ b e. e ∙ c.new.ensures) in
-    let l = c.give_pieces.ensures.goes [] None fresh in (l.parsed', l.hold', l.leads, l.holds)
+    let l = c.give_pieces.ensures.goes [] None (c.in_ok-view.ensures.exact (λ b e. e ∙ c.new.ensures)) in (l.parsed', l.hold', l.leads, l.holds)
 
 pub returns-clause-rows : goal.returns-clause-rows
 returns-clause-rows c =
-    let fresh = c.in_ok-view.ensures.exact (λ b e. e ∙ c.new.ensures) in
-    let l = c.give_pieces.ensures.goes [] None fresh in
+    let l = c.give_pieces.ensures.goes [] None (c.in_ok-view.ensures.exact (λ b e. e ∙ c.new.ensures)) in
     ap (λ (z : Size). z.rows) l.size ∙ c.in_ok-view.ensures.rows
 
 pub returns-clause-cols : goal.returns-clause-cols
 returns-clause-cols c =
-    let fresh = c.in_ok-view.ensures.exact (λ b e. e ∙ c.new.ensures) in
-    let l = c.give_pieces.ensures.goes [] None fresh in
+    let l = c.give_pieces.ensures.goes [] None (c.in_ok-view.ensures.exact (λ b e. e ∙ c.new.ensures)) in
     ap (λ (z : Size). z.cols) l.size ∙ c.in_ok-view.ensures.cols

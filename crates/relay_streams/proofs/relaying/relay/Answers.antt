@@ -2,7 +2,7 @@ use Rattle.std.proofs.Common.{◌≡◌, Ok, Err, ap, ◌∙◌, rules, arith}
 use Rattle.relay_streams.specs.declared.error.RelayError.TheVariants.{Memory}
 use Rattle.relay_streams.specs.Relayed.{Relays, refused, broken, unflushed, written}
 use Rattle.relay_streams.specs.Turns.{fault_of}
-use Rattle.relay_streams.proofs.OutcomeLemmas.{relays-text, relays-front, relays-long}
+use Rattle.relay_streams.proofs.OutcomeLemmas.{relays-told}
 use Rattle.relay_streams.proofs.StreamLemmas.{attach-refused}
 use Rattle.relay_streams.proofs.TurnLemmas.{first-attached}
 use Rattle.relay_streams.proofs.relaying.relay.Goals as goal
@@ -21,15 +21,9 @@ returns-in_err-client g c =
     let r : Relays g.S.Source.gives g.W.Taker.takes g.W.Sink.flushes c.args.rows.value c.args.cols.value
     c.args.input.now c.args.output.now c.from_residual-in_err-client.result c.args.input.now c.args.output.now =
     rw is refused in
-    record {
-      relays = r;
-      text = relays-text g.row.S.Denot g.row.W.Denot g.S.Source.gives g.W.Taker.takes g.W.Sink.flushes
-          g.W.Sink.contents g.S.Source.left g.met.S.Source.tells g.met.W.Sink.tells g.met.W.Sink.keeps _ _ _ _ _ _ _ r;
-      front = relays-front g.row.S.Denot g.row.W.Denot g.S.Source.gives g.W.Taker.takes g.W.Sink.flushes
-          g.W.Sink.contents g.S.Source.left g.met.S.Source.tells g.met.W.Sink.tells g.met.W.Sink.keeps _ _ _ _ _ _ _ r;
-      too_long = relays-long g.row.S.Denot g.row.W.Denot g.S.Source.gives g.W.Taker.takes g.W.Sink.flushes
-          g.W.Sink.contents g.S.Source.left g.met.S.Source.tells g.met.W.Sink.tells g.met.W.Sink.keeps _ _ _ _ _ _ _ r;
-    }
+    let told = relays-told g.row.S.Denot g.row.W.Denot g.S.Source.gives g.W.Taker.takes g.W.Sink.flushes
+    g.W.Sink.contents g.S.Source.left g.met.S.Source.tells g.met.W.Sink.tells g.met.W.Sink.keeps _ _ _ _ _ _ _ r in
+    record { relays = r; text = told.0; front = told.1; too_long = told.2 }
 
 pub returns-in_err-relay_pieces : goal.returns-in_err-relay_pieces
 returns-in_err-relay_pieces g c =
@@ -42,15 +36,9 @@ returns-in_err-relay_pieces g c =
     c.args.input.now c.args.output.now c.from_residual-in_err-relay_pieces.result c.relay_pieces.new.input
     c.relay_pieces.new.output =
     rw is (broken e (c.in_err-relay_pieces.ensures c.args.rows.value c.args.cols.value at)) in
-    record {
-      relays = r;
-      text = relays-text g.row.S.Denot g.row.W.Denot g.S.Source.gives g.W.Taker.takes g.W.Sink.flushes
-          g.W.Sink.contents g.S.Source.left g.met.S.Source.tells g.met.W.Sink.tells g.met.W.Sink.keeps _ _ _ _ _ _ _ r;
-      front = relays-front g.row.S.Denot g.row.W.Denot g.S.Source.gives g.W.Taker.takes g.W.Sink.flushes
-          g.W.Sink.contents g.S.Source.left g.met.S.Source.tells g.met.W.Sink.tells g.met.W.Sink.keeps _ _ _ _ _ _ _ r;
-      too_long = relays-long g.row.S.Denot g.row.W.Denot g.S.Source.gives g.W.Taker.takes g.W.Sink.flushes
-          g.W.Sink.contents g.S.Source.left g.met.S.Source.tells g.met.W.Sink.tells g.met.W.Sink.keeps _ _ _ _ _ _ _ r;
-    }
+    let told = relays-told g.row.S.Denot g.row.W.Denot g.S.Source.gives g.W.Taker.takes g.W.Sink.flushes
+    g.W.Sink.contents g.S.Source.left g.met.S.Source.tells g.met.W.Sink.tells g.met.W.Sink.keeps _ _ _ _ _ _ _ r in
+    record { relays = r; text = told.0; front = told.1; too_long = told.2 }
 
 pub returns-in-Ok : goal.returns-in-Ok
 returns-in-Ok g c =
@@ -61,15 +49,9 @@ returns-in-Ok g c =
     c.args.input.now c.args.output.now (Ok tt) c.relay_pieces.new.input c.finish.new.self =
     written c.relay_pieces.new.output
     (c.in_ok-relay_pieces.ensures c.args.rows.value c.args.cols.value at) c.in-Ok.ensures.flushes in
-    record {
-      relays = r;
-      text = relays-text g.row.S.Denot g.row.W.Denot g.S.Source.gives g.W.Taker.takes g.W.Sink.flushes
-          g.W.Sink.contents g.S.Source.left g.met.S.Source.tells g.met.W.Sink.tells g.met.W.Sink.keeps _ _ _ _ _ _ _ r;
-      front = relays-front g.row.S.Denot g.row.W.Denot g.S.Source.gives g.W.Taker.takes g.W.Sink.flushes
-          g.W.Sink.contents g.S.Source.left g.met.S.Source.tells g.met.W.Sink.tells g.met.W.Sink.keeps _ _ _ _ _ _ _ r;
-      too_long = relays-long g.row.S.Denot g.row.W.Denot g.S.Source.gives g.W.Taker.takes g.W.Sink.flushes
-          g.W.Sink.contents g.S.Source.left g.met.S.Source.tells g.met.W.Sink.tells g.met.W.Sink.keeps _ _ _ _ _ _ _ r;
-    }
+    let told = relays-told g.row.S.Denot g.row.W.Denot g.S.Source.gives g.W.Taker.takes g.W.Sink.flushes
+    g.W.Sink.contents g.S.Source.left g.met.S.Source.tells g.met.W.Sink.tells g.met.W.Sink.keeps _ _ _ _ _ _ _ r in
+    record { relays = r; text = told.0; front = told.1; too_long = told.2 }
 
 pub returns : goal.returns
 returns g c =
@@ -79,11 +61,6 @@ returns g c =
     let r =
     unflushed c.relay_pieces.new.output c.in-Err.field-0
     (c.in_ok-relay_pieces.ensures c.args.rows.value c.args.cols.value at) c.in-Err.ensures.flushes in
-    record {
-      relays = r;
-      text = tt;
-      front = relays-front g.row.S.Denot g.row.W.Denot g.S.Source.gives g.W.Taker.takes g.W.Sink.flushes
-          g.W.Sink.contents g.S.Source.left g.met.S.Source.tells g.met.W.Sink.tells g.met.W.Sink.keeps _ _ _ _ _ _ _ r;
-      too_long = relays-long g.row.S.Denot g.row.W.Denot g.S.Source.gives g.W.Taker.takes g.W.Sink.flushes
-          g.W.Sink.contents g.S.Source.left g.met.S.Source.tells g.met.W.Sink.tells g.met.W.Sink.keeps _ _ _ _ _ _ _ r;
-    }
+    let told = relays-told g.row.S.Denot g.row.W.Denot g.S.Source.gives g.W.Taker.takes g.W.Sink.flushes
+    g.W.Sink.contents g.S.Source.left g.met.S.Source.tells g.met.W.Sink.tells g.met.W.Sink.keeps _ _ _ _ _ _ _ r in
+    record { relays = r; text = told.0; front = told.1; too_long = told.2 }

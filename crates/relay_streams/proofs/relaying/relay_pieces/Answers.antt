@@ -1,11 +1,12 @@
-use Rattle.std.proofs.Common.{◌≡◌, ℕ, List, [], ◌∷◌, ◌++◌, take, length, arith, refl, Err, rules}
+use Rattle.std.proofs.Common.{◌≡◌, ℕ, List, [], ◌∷◌, ◌++◌, take, length, arith, refl, Err, None, rules}
+use Rattle.relay_streams.specs.Turns.{Relaying}
 use Rattle.relay_streams.specs.Pieces.{piece_len}
 use Rattle.relay_streams.specs.Relayed.{unread, sent}
 use Rattle.takers.specs.Sent.{none}
 use Rattle.relay_streams.proofs.FrameLists.{frames_of, base_of}
 use Rattle.relay_streams.proofs.SessionLemmas.{frames-are-relayed}
 use Rattle.relay_streams.proofs.PieceLemmas.{none_read, filled_most, filled_on, filled_last, filled_fault, filled_begun}
-use Rattle.relay_streams.proofs.StreamLemmas.{turn-faults, turn-fits, turn-sent, turn-stands}
+use Rattle.relay_streams.proofs.StreamLemmas.{turn-faults, turn-goes}
 use Rattle.relay_streams.proofs.relaying.relay_pieces.Goals as goal
 
 pub pieces-init : goal.pieces-init
@@ -26,8 +27,7 @@ returns-in_err-n g c = λ rows cols at.
     let fault = c.in_err-n.field-0.0 in
     let is : c.from_residual.result ≡ Err fault = search rules in
     rw is (unread so_far.past (frames_of rows cols so_far.past) f.bytes fault
-    (filled_fault g.row.S.Denot g.S.Source.gives piece_len c.args.input.now c.pieces.input c.fill.new.input
-    c.pieces.reads c.fill.new.reads so_far.past c.fill.new.piece c.fill.result f fault c.in_err-n.was
+    (filled_fault f fault c.in_err-n.was
     so_far.read) (frames-are-relayed rows cols so_far.past at.height at.width (so_far.fits rows cols at))
     (so_far.sent rows cols at))
 
@@ -40,8 +40,7 @@ returns-in_err-turn g c = λ rows cols at.
     let piece : List ℕ = take n c.fill.new.piece in
     let fault = c.in_err-turn.field-0.0 in
     let is : c.from_residual-in_err-turn.result ≡ Err fault = search rules in
-    let begun = filled_begun g.row.S.Denot g.S.Source.gives piece_len c.args.input.now c.pieces.input c.fill.new.input
-    c.pieces.reads c.fill.new.reads so_far.past c.fill.new.piece c.fill.result f n c.in_ok-n.was so_far.read in
+    let begun = filled_begun f n c.in_ok-n.was so_far.read in
     rw is (turn-faults g.row.S.Denot g.row.W.Denot g.S.Source.gives g.W.Taker.takes rows cols so_far.past piece
     c.args.client c.turn.new.hub c.args.input.now c.fill.new.input c.args.output.now c.pieces.output
     c.turn.new.output fault at.height at.width begun (so_far.fits rows cols at) (so_far.sent rows cols at)
@@ -54,17 +53,13 @@ returns-then-n-lt-PIECE_LEN g c = λ rows cols at.
     let f = rw whole at c.fill.ensures in
     let n = c.in_ok-n.n in
     let piece : List ℕ = take n c.fill.new.piece in
-    let turned = c.in_ok-turn.ensures rows cols so_far.past (base_of rows cols so_far.past) (so_far.at rows cols at) in
     let pieces : List (List ℕ) = so_far.past ++ piece ∷ [] in
-    sent pieces (frames_of rows cols pieces)
-    (filled_last g.row.S.Denot g.S.Source.gives piece_len c.args.input.now c.pieces.input c.fill.new.input
-    c.pieces.reads c.fill.new.reads so_far.past c.fill.new.piece c.fill.result f n c.in_ok-n.was
-    (omega arith) so_far.read)
-    (frames-are-relayed rows cols pieces at.height at.width
-    (turn-fits g.row.S.Denot g.row.W.Denot g.S.Source.gives g.W.Taker.takes rows cols so_far.past piece c.args.client
-    c.turn.new.hub c.pieces.output c.turn.new.output (so_far.fits rows cols at) turned))
-    (turn-sent g.row.S.Denot g.row.W.Denot g.S.Source.gives g.W.Taker.takes rows cols so_far.past piece c.args.client
-    c.turn.new.hub c.args.output.now c.pieces.output c.turn.new.output (so_far.sent rows cols at) turned)
+    let goes = turn-goes g.row.S.Denot g.row.W.Denot g.S.Source.gives g.W.Taker.takes rows cols so_far.past piece
+    c.args.client c.turn.new.hub c.args.output.now c.pieces.output c.turn.new.output (so_far.fits rows cols at)
+    (so_far.sent rows cols at)
+    (c.in_ok-turn.ensures rows cols so_far.past (base_of rows cols so_far.past) (so_far.at rows cols at)) in
+    sent pieces (frames_of rows cols pieces) (filled_last f n c.in_ok-n.was (omega arith) so_far.read)
+    (frames-are-relayed rows cols pieces at.height at.width goes.0) goes.1
 
 pub pieces-preserved : goal.pieces-preserved
 pieces-preserved g c =
@@ -73,25 +68,18 @@ pieces-preserved g c =
     let f = rw whole at c.fill.ensures in
     let n = c.in_ok-n.n in
     let piece : List ℕ = take n c.fill.new.piece in
-    let most = filled_most g.row.S.Denot g.S.Source.gives piece_len c.args.input.now c.pieces.input c.fill.new.input
-    c.pieces.reads c.fill.new.reads so_far.past c.fill.new.piece c.fill.result f n c.in_ok-n.was
-    (omega arith) in
+    let goes = λ (rows cols : ℕ) (at : Relaying rows cols [] None c.args.hub.now c.args.client).
+    turn-goes g.row.S.Denot g.row.W.Denot g.S.Source.gives g.W.Taker.takes rows cols so_far.past piece c.args.client
+    c.turn.new.hub c.args.output.now c.pieces.output c.turn.new.output (so_far.fits rows cols at)
+    (so_far.sent rows cols at)
+    (c.in_ok-turn.ensures rows cols so_far.past (base_of rows cols so_far.past) (so_far.at rows cols at)) in
     record {
-      most = most.0;
+      most = (filled_most f n c.in_ok-n.was (omega arith)).0;
       past = so_far.past ++ piece ∷ [];
-      read = filled_on g.row.S.Denot g.S.Source.gives piece_len c.args.input.now c.pieces.input c.fill.new.input
-          c.pieces.reads c.fill.new.reads so_far.past c.fill.new.piece c.fill.result f n c.in_ok-n.was
-          (omega arith) so_far.read;
-      at = λ rows cols at. turn-stands g.row.S.Denot g.row.W.Denot g.S.Source.gives g.W.Taker.takes rows cols
-          so_far.past piece c.args.client c.turn.new.hub c.pieces.output c.turn.new.output
-          (c.in_ok-turn.ensures rows cols so_far.past (base_of rows cols so_far.past) (so_far.at rows cols at));
-      fits = λ rows cols at. turn-fits g.row.S.Denot g.row.W.Denot g.S.Source.gives g.W.Taker.takes rows cols
-          so_far.past piece c.args.client c.turn.new.hub c.pieces.output c.turn.new.output (so_far.fits rows cols at)
-          (c.in_ok-turn.ensures rows cols so_far.past (base_of rows cols so_far.past) (so_far.at rows cols at));
-      sent = λ rows cols at. turn-sent g.row.S.Denot g.row.W.Denot g.S.Source.gives g.W.Taker.takes rows cols
-          so_far.past piece c.args.client c.turn.new.hub c.args.output.now c.pieces.output
-          c.turn.new.output (so_far.sent rows cols at)
-          (c.in_ok-turn.ensures rows cols so_far.past (base_of rows cols so_far.past) (so_far.at rows cols at));
+      read = filled_on f n c.in_ok-n.was (omega arith) so_far.read;
+      at = λ rows cols at. (goes rows cols at).2;
+      fits = λ rows cols at. (goes rows cols at).0;
+      sent = λ rows cols at. (goes rows cols at).1;
     }
 
 pub pieces-smaller : goal.pieces-smaller
@@ -99,7 +87,5 @@ pieces-smaller g c =
     let so_far = c.pieces.invariant in
     let whole : length c.pieces.piece ≡ piece_len = omega (arith, c.fill.auto.piece) in
     let f = rw whole at c.fill.ensures in
-    let most = filled_most g.row.S.Denot g.S.Source.gives piece_len c.args.input.now c.pieces.input c.fill.new.input
-    c.pieces.reads c.fill.new.reads so_far.past c.fill.new.piece c.fill.result f c.in_ok-n.n c.in_ok-n.was
-    (omega arith) in
+    let most = filled_most f c.in_ok-n.n c.in_ok-n.was (omega arith) in
     omega (arith, most.0, most.1)

@@ -25,8 +25,7 @@ returns-in_err-n g c =
     stopped_so g.row.S.Denot g.S.Source.gives piece_len c.args.input.now c.fill.new.input
     (so_far.past ++ f.bytes ∷ []) c.from_residual.result fault
     (λ ps. Led c.args.view.now ps c.pieces.view) is
-    (filled_fault g.row.S.Denot g.S.Source.gives piece_len c.args.input.now c.pieces.input c.fill.new.input
-    c.pieces.reads c.fill.new.reads so_far.past c.fill.new.piece c.fill.result f fault c.in_err-n.was
+    (filled_fault f fault c.in_err-n.was
     so_far.read)
 
 pub returns-then-n-lt-PIECE_LEN : goal.returns-then-n-lt-PIECE_LEN
@@ -37,9 +36,7 @@ returns-then-n-lt-PIECE_LEN g c =
     let n = c.in_ok-n.n in
     let piece : List ℕ = take n c.fill.new.piece in (
       so_far.past ++ piece ∷ [],
-      filled_last g.row.S.Denot g.S.Source.gives piece_len c.args.input.now c.pieces.input c.fill.new.input
-          c.pieces.reads c.fill.new.reads so_far.past c.fill.new.piece c.fill.result f n c.in_ok-n.was
-          (omega arith) so_far.read,
+      filled_last f n c.in_ok-n.was (omega arith) so_far.read,
       led_on c.args.view.now c.pieces.view c.advance.new.self so_far.past piece so_far.led
           (λ parsed hold at. c.advance.ensures.exact parsed hold c.until_cleared_is_exact.ensures at),
     )
@@ -51,15 +48,10 @@ pieces-preserved g c =
     let f = rw whole at c.fill.ensures in
     let n = c.in_ok-n.n in
     let piece : List ℕ = take n c.fill.new.piece in
-    let most = filled_most g.row.S.Denot g.S.Source.gives piece_len c.args.input.now c.pieces.input c.fill.new.input
-    c.pieces.reads c.fill.new.reads so_far.past c.fill.new.piece c.fill.result f n c.in_ok-n.was
-    (omega arith) in
     record {
-      most = most.0;
+      most = (filled_most f n c.in_ok-n.was (omega arith)).0;
       past = so_far.past ++ piece ∷ [];
-      read = filled_on g.row.S.Denot g.S.Source.gives piece_len c.args.input.now c.pieces.input c.fill.new.input
-          c.pieces.reads c.fill.new.reads so_far.past c.fill.new.piece c.fill.result f n c.in_ok-n.was
-          (omega arith) so_far.read;
+      read = filled_on f n c.in_ok-n.was (omega arith) so_far.read;
       led = led_on c.args.view.now c.pieces.view c.advance.new.self so_far.past piece so_far.led
           (λ parsed hold at. c.advance.ensures.exact parsed hold c.until_cleared_is_exact.ensures at);
     }
@@ -69,7 +61,5 @@ pieces-smaller g c =
     let so_far = c.pieces.invariant in
     let whole : length c.pieces.piece ≡ piece_len = omega (arith, c.fill.auto.piece) in
     let f = rw whole at c.fill.ensures in
-    let most = filled_most g.row.S.Denot g.S.Source.gives piece_len c.args.input.now c.pieces.input c.fill.new.input
-    c.pieces.reads c.fill.new.reads so_far.past c.fill.new.piece c.fill.result f c.in_ok-n.n c.in_ok-n.was
-    (omega arith) in
+    let most = filled_most f c.in_ok-n.n c.in_ok-n.was (omega arith) in
     omega (arith, most.0, most.1)

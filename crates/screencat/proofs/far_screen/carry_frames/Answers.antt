@@ -1,4 +1,5 @@
-use Rattle.std.proofs.Common.{◌≡◌, ℕ, List, [], ◌∷◌, ◌++◌, take, length, refl, arith}
+use Rattle.std.proofs.Common.{◌≡◌, ℕ, List, [], ◌∷◌, ◌++◌, take, length, refl, arith, None}
+use Rattle.relay_streams.specs.Turns.{Relaying}
 use Rattle.std.specs.List.{concat}
 use Rattle.relay_streams.specs.Pieces.{piece_len}
 use Rattle.relay_streams.proofs.FrameLists.{frames_of, base_of, fits-push}
@@ -26,9 +27,7 @@ returns-then-n-lt-PIECE_LEN g c =
     let piece : List ℕ = take n c.fill.new.piece in
     let pieces : List (List ℕ) = so_far.past ++ piece ∷ [] in (
       pieces,
-      filled_last g.row.S.Denot g.S.Source.gives piece_len c.args.input.now c.pieces.input c.fill.new.input
-          c.pieces.reads c.fill.new.reads so_far.past c.fill.new.piece c.fill.result f n c.in_ok-n.was
-          (omega arith) so_far.read,
+      filled_last f n c.in_ok-n.was (omega arith) so_far.read,
       λ rows cols at.
           let brought = c.in_ok-carry_frame.ensures rows cols so_far.past (base_of rows cols so_far.past)
           (so_far.at rows cols at) in (
@@ -48,30 +47,18 @@ pieces-preserved g c =
     let f = rw whole at c.fill.ensures in
     let n = c.in_ok-n.n in
     let piece : List ℕ = take n c.fill.new.piece in
-    let most = filled_most g.row.S.Denot g.S.Source.gives piece_len c.args.input.now c.pieces.input c.fill.new.input
-    c.pieces.reads c.fill.new.reads so_far.past c.fill.new.piece c.fill.result f n c.in_ok-n.was
-    (omega arith) in
+    let brought = λ (rows cols : ℕ) (at : Relaying rows cols [] None c.args.hub.now c.args.client).
+    c.in_ok-carry_frame.ensures rows cols so_far.past (base_of rows cols so_far.past) (so_far.at rows cols at) in
+    let pieces : List (List ℕ) = so_far.past ++ piece ∷ [] in
     record {
-      most = most.0;
-      past = so_far.past ++ piece ∷ [];
-      read = filled_on g.row.S.Denot g.S.Source.gives piece_len c.args.input.now c.pieces.input c.fill.new.input
-          c.pieces.reads c.fill.new.reads so_far.past c.fill.new.piece c.fill.result f n c.in_ok-n.was
-          (omega arith) so_far.read;
-      at = λ rows cols at.
-          let brought = c.in_ok-carry_frame.ensures rows cols so_far.past (base_of rows cols so_far.past)
-          (so_far.at rows cols at) in
-          relays-on rows cols so_far.past piece c.carry_frame.new.hub c.args.client brought.2;
-      fits = λ rows cols at.
-          let brought = c.in_ok-carry_frame.ensures rows cols so_far.past (base_of rows cols so_far.past)
-          (so_far.at rows cols at) in
-          let pieces : List (List ℕ) = so_far.past ++ piece ∷ [] in
-          fits-push rows cols so_far.past piece (concat pieces) (concat-push so_far.past piece)
-          (so_far.fits rows cols at) brought.0;
-      carried = λ rows cols at.
-          let brought = c.in_ok-carry_frame.ensures rows cols so_far.past (base_of rows cols so_far.past)
-          (so_far.at rows cols at) in
-          carries-on rows cols so_far.past piece c.args.view.now c.pieces.view c.carry_frame.new.view
-          (so_far.carried rows cols at) brought.1;
+      most = (filled_most f n c.in_ok-n.was (omega arith)).0;
+      past = pieces;
+      read = filled_on f n c.in_ok-n.was (omega arith) so_far.read;
+      at = λ rows cols at. relays-on rows cols so_far.past piece c.carry_frame.new.hub c.args.client (brought rows cols at).2;
+      fits = λ rows cols at. fits-push rows cols so_far.past piece (concat pieces) (concat-push so_far.past piece)
+          (so_far.fits rows cols at) (brought rows cols at).0;
+      carried = λ rows cols at. carries-on rows cols so_far.past piece c.args.view.now c.pieces.view
+          c.carry_frame.new.view (so_far.carried rows cols at) (brought rows cols at).1;
     }
 
 pub pieces-smaller : goal.pieces-smaller
@@ -79,7 +66,5 @@ pieces-smaller g c =
     let so_far = c.pieces.invariant in
     let whole : length c.pieces.piece ≡ piece_len = omega (arith, c.fill.auto.piece) in
     let f = rw whole at c.fill.ensures in
-    let most = filled_most g.row.S.Denot g.S.Source.gives piece_len c.args.input.now c.pieces.input c.fill.new.input
-    c.pieces.reads c.fill.new.reads so_far.past c.fill.new.piece c.fill.result f c.in_ok-n.n c.in_ok-n.was
-    (omega arith) in
+    let most = filled_most f c.in_ok-n.n c.in_ok-n.was (omega arith) in
     omega (arith, most.0, most.1)

@@ -1,13 +1,13 @@
 use Rattle.std.proofs.Common.{◌≡◌, [], Ok, Err, ◌+◌, drop, length, min}
 use Rattle.std.proofs.Common.{ap, arith, length-drop, add-zero, add_assoc}
-use Rattle.std.proofs.lemmas.List.{drop_all}
+use Rattle.std.proofs.lemmas.List.{drop_all, take_rest}
 use Rattle.takers.specs.Pump.{all, nothing, fault}
-use Rattle.takers.proofs.PumpLemmas.{whole-left, some-left, pumps-more}
+use Rattle.takers.proofs.PumpLemmas.{some-left, pumps-more}
 use Rattle.takers.proofs.taker.pump.Goals as goal
 
 pub returns-in-Ok-eq0 : goal.returns-in-Ok-eq0
 returns-in-Ok-eq0 g c =
-    let takes = rw (whole-left c.args.owed.now c.writes.taken, c.in-Ok-eq0.field-0-test) at c.in-Ok-eq0.ensures.takes in
+    let takes = rw (take_rest c.args.owed.now c.writes.taken, c.in-Ok-eq0.field-0-test) at c.in-Ok-eq0.ensures.takes in
     let done = c.writes.invariant.goes_on (Err c.from.result) 0 c.offer.new.self
     (nothing (some-left c.args.owed.now c.writes.taken (omega arith)) takes c.from.ensures) in
     rw add-zero at done
@@ -17,10 +17,10 @@ writes-preserved g c =
     let owed = c.args.owed.now in
     let taken = c.writes.taken in
     let n = c.in-Ok.n in
-    let takes = rw (whole-left owed taken) at c.in-Ok.ensures.takes in
+    let takes = rw (take_rest owed taken) at c.in-Ok.ensures.takes in
     let m = c.min-taken.result in
     let least : m ≡ min n (length (drop taken owed)) =
-    omega (arith, c.min-taken.ensures, ap length (whole-left owed taken), length-drop taken owed) in
+    omega (arith, c.min-taken.ensures, ap length (take_rest owed taken), length-drop taken owed) in
     record {
       within = omega (arith, least, length-drop taken owed);
       goes_on = λ answer k t rest.
@@ -31,7 +31,7 @@ writes-preserved g c =
 
 pub returns-in-Err : goal.returns-in-Err
 returns-in-Err g c =
-    let takes = rw (whole-left c.args.owed.now c.writes.taken) at c.in-Err.ensures.takes in
+    let takes = rw (take_rest c.args.owed.now c.writes.taken) at c.in-Err.ensures.takes in
     let done = c.writes.invariant.goes_on (Err c.in-Err.e) 0 c.offer.new.self
     (fault (some-left c.args.owed.now c.writes.taken (omega arith)) takes) in
     rw add-zero at done

@@ -1,4 +1,4 @@
-use Rattle.std.proofs.Common.{◌≡◌, ◌+◌, ◌==◌, ℕ, Ok, Err, Result, arith, refl, ap, ◌∙◌, subst, length, rules}
+use Rattle.std.proofs.Common.{◌≡◌, ◌+◌, ◌==◌, Ok, Err, Result, arith, refl, ap, ◌∙◌, subst, length, rules}
 use Rattle.std.specs.Prelude.{encode_utf8_all}
 use Rattle.std.specs.declared.io.Error.{Error}
 use Rattle.vt100_cells.specs.Cell.{CellView}
