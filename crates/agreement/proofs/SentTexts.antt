@@ -131,9 +131,6 @@ plain-wrapped g p =
 not-one : (n : ℕ) → (n == 1) ≡ false → 0 < n → 2 ≤ n
 not-one n e h = grind (arith, nat_tests)
 
-abbrev grid_of : PrintedGrid → GridView
-grid_of d = d.grid
-
 plain-carried : (g : GridView) (c : ℕ) (a : Attrs) → IsPlainGrid g → IsScalar c → drawn_columns c ≡ Some 0 → 2 ≤ g.width
     → is_widening (row_of_cursor g) g.col c ≡ true → IsPlainGrid (carried g c a).grid
 plain-carried g c a p s z l e =

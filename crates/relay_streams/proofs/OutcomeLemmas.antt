@@ -22,7 +22,7 @@ use Rattle.relay_streams.specs.Sessions.{IsRelayed, has_overlong, AreRelayed, En
 use Rattle.takers.specs.Sent.{Sends}
 use Rattle.takers.specs.Pump.{Writes}
 use Rattle.relay_streams.specs.Shown as shown
-use Rattle.relay_streams.specs.Shown.{IsTextShown, Prints, Shows, sized}
+use Rattle.relay_streams.specs.Shown.{IsTextShown, Prints, Shows}
 use Rattle.takers.proofs.AppendLemmas.{TakesFront-none, TakesFront-longer}
 use Rattle.relay_streams.proofs.PieceLemmas.{drained-pieces, drained-front, begun-front, begun-well}
 use Rattle.relay_streams.proofs.FrameLists.{frames_of, frames_from, answers_of, answers_from, base_of, relay_text}
@@ -41,10 +41,6 @@ Appends-kept None b c xs h k = tt
 Appends-kept (Some a) None c xs h k = absurd h
 Appends-kept (Some a) (Some b) None xs h k = absurd k
 Appends-kept (Some a) (Some b) (Some c) xs h k = k ∙ h
-
-pub known_if : (known : Option (List ℕ)) (bytes : List ℕ) (P : List ℕ → Type 0) → known ≡ Some bytes → IfSome known P
-    → P bytes
-known_if known bytes P is h = let all : IfSome (Some bytes) P = subst (λ (o : Option (List ℕ)). IfSome o P) is h in all
 
 Keeps-front : (a b c : Option (List ℕ)) (xs : List ℕ) → TakesFront a b xs → Keeps b c → TakesFront a c xs
 Keeps-front a b c xs (n, took) k = (n, Appends-kept a b c (take n xs) took k)

@@ -2,9 +2,8 @@
 use Rattle.std.proofs.Common.{◌≡◌, ℕ, zero, suc, ◌+◌, Bool, true, false, not, ◌&&◌, ◌||◌, List, ◌++◌, ◌==◌, refl}
 use Rattle.std.proofs.Common.{sym, ap, ◌∙◌, inl, inr, None}
 use Rattle.std.proofs.lemmas.Bool.{cases_Bool, false≢true}
-use Rattle.std.specs.Prelude.{Decides}
 use Rattle.vt100_forms.specs.Form.{spell}
-use Rattle.vt100_cells.specs.CellEq.{cell_eq-refl, cell_eq-true}
+use Rattle.vt100_cells.specs.CellEq.{cell_eq-refl}
 use Rattle.vt100_cells.specs.Cell.{CellView, cell_eq, bool_eq}
 use Rattle.vt100_cells.specs.Cells.{cell_at}
 use Rattle.row_drawing.specs.declared.drawing.Drawing.{Drawing}
@@ -20,13 +19,6 @@ use Rattle.row_drawing.proofs.RowEnd.{closing-none}
 use Rattle.row_drawing.proofs.RowStart.{opening-none}
 use Rattle.row_drawing.proofs.RowWrites.{flush-is_none, finish-is_none, column-is_half, column-is_whole}
 use Rattle.row_drawing.proofs.WritesLemmas.{wrote_then, begun_first, begun_then, wrote_as, wrote_skip}
-
--- what `==` says of cells
-pub cell_eq-Decides : (x y : CellView) → Decides (cell_eq x y) (x ≡ y)
-cell_eq-Decides x y = (
-  cell_eq-true x y,
-  λ e. ap (λ z. cell_eq x z) (sym e) ∙ cell_eq-refl x,
-)
 
 -- two writers that write nothing
 pub skips-then : (f g : Writer) (p : Pen) → f p ≡ skip p → g p ≡ skip p → (f >> g) p ≡ skip p

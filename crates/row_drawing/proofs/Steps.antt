@@ -213,10 +213,6 @@ pub span-space : (a : Attrs) → span_of (cell_of 32 a) ≡ 1
 unfolding char_width
 span-space a = refl
 
-pub space_unflags : (n : ℕ) (f : ℕ → CellView) (c : ℕ) (a : Attrs) → put_unflags n f c (cell_of 32 a) ≡ false
-unfolding char_width
-space_unflags n f c a = refl
-
 no_variation : Contains {X = ℕ} (32 ∷ []) 0xFE0F → ⊥
 no_variation h =
     let zero : h.0 ≡ 0 = omega (arith, h.1) in

@@ -141,9 +141,6 @@ wrote_print x loses p s t col lost h e g = record {
   text_is = h ∙ ap (λ bs. s ++ bs) (sym (append-nil (encode_utf8_all x.text)));
 }
 
-pub begun_print : (x : CellView) (loses : Bool) (p : Pen) (s : List ℕ) → IsBegun s (spell (print x loses p).forms) s
-begun_print x loses p s = begun-none s (spell (print x loses p).forms)
-
 pub wrote_space : (p : Pen) (s t : List ℕ) → t ≡ s ++ encode_utf8_all (32 ∷ [])
     → Wrote space p s (record p { pos = record (p.pos) { col = p.pos.col + 1 } }) t
 unfolding space

@@ -127,9 +127,6 @@ paste-switched z t old new e =
 
 -- ---- all modes
 
-abbrev with_all : Term → Modes → CursorStyle → Term
-with_all t m y = record t { modes = m; style = y }
-
 pub modes-run : (z : Size) (t : Term) (s : Shown) → t.modes.mouse ≡ mouse.None → t.modes.encoding ≡ encoding.Default
     → t.style ≡ style.Default → run z (input_mode_formatted s) t ≡ record t { modes = s.modes; style = s.style }
 unfolding input_mode_formatted apply

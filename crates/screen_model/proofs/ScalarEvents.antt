@@ -70,10 +70,6 @@ tail-first k lo hi (b ∷ bs) e =
     record { b = b; rest = bs; is = refl; least = is.0; most = is.1; more = omega (arith, q) })
     (λ _ q. absurd (omega (arith, q))) e
 
--- by the number of bytes
-spelled : ℕ → ℕ → List ℕ → ℕ
-spelled a n bs = joined (first_bits a) (take (n - 1) bs)
-
 Whole : ℕ → ℕ → Type 0
 Whole a n = (bs : List ℕ) → tail_len (n - 1) (second_min a) (second_max a) bs ≡ n - 1
     → IsScalar (joined (first_bits a) (take (n - 1) bs))

@@ -1,5 +1,5 @@
 -- What an order writes, where the source and the writer tell their bytes.
-use Rattle.std.proofs.Common.{ℕ, List, Option, Ok, Err, Result, OnOk, IfSome}
+use Rattle.std.proofs.Common.{ℕ, List, Option, Result, OnOk, IfSome}
 use Rattle.std.specs.declared.io.Error.{Error}
 use Rattle.std.specs.Io.KnownBytes.{Appends, Keeps}
 use Rattle.takers.specs.Pump.{Writes}

@@ -1,5 +1,5 @@
 -- What is seen as nothing goes through any events.
-use Rattle.std.proofs.Common.{◌≡◌, List, [], ◌∷◌, refl}
+use Rattle.std.proofs.Common.{List, [], ◌∷◌, refl}
 use Rattle.std.specs.Prelude.{⊤}
 use Rattle.vte_core.specs.Event.{Event, Performs}
 

@@ -34,10 +34,6 @@ served-still now next (Some r) same h = record {
   short = subst (λ (z : Size). IsShortFrame z r.owed) same h.short;
 }
 
--- a client that has had no frame
-pub new-served : (now : ScreenView) → IsRecordOf now (record { owed = []; base = None })
-new-served now = record { base = tt; short = omega arith }
-
 -- less is owed than before
 pub left-served : (now : ScreenView) (r : RecordView) (n : ℕ) → IsRecordOf now r
     → IsRecordOf now (record r { owed = drop n r.owed })

@@ -2,47 +2,23 @@
 use Rattle.std.proofs.Common.{◌≡◌, ℕ, ◌<◌, ◌≤◌, ◌==◌, false, cond, ◌&&◌, nat_lt, List, length}
 use Rattle.std.proofs.Common.{set, replicate, sym, ap, ◌∙◌, arith, ⊎_elim}
 use Rattle.std.proofs.lemmas.Bool.{cond_both, cond-true, cond-false, lt-ltb, le-ltb, eqb-true, cases_lt}
-use Rattle.std.proofs.lemmas.List.{get_or-replicate, length-replicate}
+use Rattle.std.proofs.lemmas.List.{length-replicate}
 use mathlib.Core.Path.{fun_ext}
 use Rattle.vt100_cells.specs.Cell.{default_cell, empty_cell}
 use Rattle.vt100_cells.specs.Cells.{cell_at}
 use Rattle.vt100_cells.proofs.ListLemmas.{cell_at_past, cell_at-replicate}
-use Rattle.vt100_rows.specs.Row.{RowView, blank_row, cleared_row, wiped_row}
+use Rattle.vt100_rows.specs.Row.{RowView, cleared_row, wiped_row}
 use Rattle.terminal_model.specs.Term.{Size, Term}
 use Rattle.terminal_model.specs.Apply.{with_line, erase}
 use Rattle.vt100_rows.specs.Sheet.{row_at, rows_by_position, erased_forward_at}
 use Rattle.vt100_rows.specs.Picture.{lines_of, wraps_of}
 use Rattle.vt100_rows.proofs.SheetLemmas.{row_at-set, row_at-by_position, length-rows_by_position}
-use Rattle.vt100_rows.proofs.PictureLemmas.{line-blank, lines-past, wraps-past}
+use Rattle.vt100_rows.proofs.PictureLemmas.{lines-past, wraps-past}
 use Rattle.termview.specs.Picture.{PictureView, term_of_picture, IsPicture}
 use Rattle.termview.specs.Step.{erase_below}
 use Rattle.termview.proofs.RowTerms.{cursor_row, here, erased-is}
 
 -- ---- blank rows
-
-blank-line_at : (height width r : ℕ) → lines_of (replicate height (blank_row width)) r ≡ (λ k. default_cell)
-blank-line_at height width r =
-    ⊎_elim
-    (λ (l : r < height). ap (λ (v : RowView). cell_at v.cells)
-    (get_or-replicate height r (blank_row width) (blank_row 0) l) ∙ line-blank width)
-    (λ (l : height ≤ r). lines-past (replicate height (blank_row width)) r
-    (omega (arith, length-replicate height (blank_row width))))
-    (cases_lt r height)
-
-pub blank-lines : (height width : ℕ) → lines_of (replicate height (blank_row width)) ≡ (λ r k. default_cell)
-blank-lines height width = fun_ext (blank-line_at height width)
-
-blank-wrap_at : (height width r : ℕ) → wraps_of (replicate height (blank_row width)) r ≡ false
-blank-wrap_at height width r =
-    ⊎_elim
-    (λ (l : r < height). ap (λ (v : RowView). v.wrapped)
-    (get_or-replicate height r (blank_row width) (blank_row 0) l))
-    (λ (l : height ≤ r). wraps-past (replicate height (blank_row width)) r
-    (omega (arith, length-replicate height (blank_row width))))
-    (cases_lt r height)
-
-pub blank-wraps : (height width : ℕ) → wraps_of (replicate height (blank_row width)) ≡ (λ r. false)
-blank-wraps height width = fun_ext (blank-wrap_at height width)
 
 -- ---- erased rows
 

@@ -89,11 +89,6 @@ unmarked-counted n final =
 abbrev IsOther : ℕ → Type 0
 IsOther n = nat_eq (kept_number n) 2026 ≡ false
 
-unmarked-one : (marks : List ℕ) (n final : ℕ) → IsOther n → is_mark (sequence marks (n ∷ []) final) ≡ false
-unmarked-one [] n final h = refl
-unmarked-one (m ∷ []) n final h = rw h refl
-unmarked-one (m ∷ k ∷ ms) n final h = refl
-
 unmarked-mode : (to from : ℕ) → IsOther to → IsOther from → Unmarked (mode_events to from)
 unmarked-mode to from h k =
     cond_both (to == from) _ _ Unmarked (λ _. refl)

@@ -38,9 +38,6 @@ pub record IsBetween (g : GridView) (r s n : ℕ) (bytes : List ℕ) (start : �
   pub begins : start ≡ cond (n == 0) s 0
   pub few : n ≤ length g.rows - r
 
-pub IsBetween-start : (g : GridView) (r s n : ℕ) → n ≡ 0 → IsBetween g r s n [] s
-IsBetween-start g r s n e = rw e (record { text = refl; begins = refl; few = omega arith })
-
 later : (n s : ℕ) → 0 ≡ cond (suc n == 0) s 0
 later n s = grind (arith, nat_tests)
 
@@ -110,15 +107,6 @@ between-past g r s q e n k start now h later past en b =
     b.text ∙ ap (λ m. encode_utf8_all (rows_from g r s m)) count ∙ ap encode_utf8_all (sym (append-nil rows))
     ∙ ap encode_utf8_all (sym (between-whole g r s q e false [] (not-below q r h)
     (not-below q (length g.rows) (omega arith)) refl))
-
--- it lies above the start
-pub between-none : (g : GridView) (r s q e : ℕ) (now : List ℕ) → q < r → now ≡ []
-    → now ≡ encode_utf8_all (text_between g r s q e)
-between-none g r s q e now h en =
-    let rows = rows_from g r s (min q (length g.rows) - r) in
-    let row = row_text (visible_at g q) (cond (r == q) s 0) e in
-    en ∙ ap (λ (t : Bool). encode_utf8_all (cond t [] (rows ++ cond (nat_lt q (length g.rows)) row [])))
-    (sym (is-below q r h))
 
 -- ---- the row at a place
 

@@ -15,7 +15,7 @@ use Rattle.vt100.specs.declared.error.ScreenError.{ScreenError}
 use Rattle.vt100.specs.declared.error.ScreenError.TheVariants.{Memory, Failed}
 use Rattle.vt100.specs.Memory.{plain_may_take}
 use Rattle.vt100.specs.Tries.{Tries, TriesParts, Counts, SameBounds, HearsFront, alive, unless_failed}
-use Rattle.vt100.specs.Goes.{Either, Tells, Acts, Fails, Does}
+use Rattle.vt100.specs.Goes.{Either, Tells, Acts, Does}
 
 pub is_alive : (v : ScreenView) → v.failed ≡ false → v ≡ alive v.state
 is_alive v h = λ i. record { state = v.state; failed = h i }
@@ -110,26 +110,6 @@ does_parts {C} step scrolls f k c v n b u d w h x calls = record {
     subst (λ (z : ScreenView). Tells step b z (replicate (f v.state).unhandled k) d w)
         x.tries.screen (subst (λ (m : ℕ). Tells step b u (replicate m k) d w) x.count calls),
   );
-}
-
--- such a call that was refused
-pub does_refused : {C : Type 0} {t : Bool} (step : C → ScreenView → Call → C → ScreenView → Type 0)
-    (scrolls : C → RowView → Bool → C → Type 0) (f : State → Partly) (k : Call) (c : C) (v : ScreenView)
-    (e : ScreenError) (d : C) (w : ScreenView)
-    → v.failed ≡ false → TriesParts scrolls f v c (Err e) w d → SameBounds v.state w.state
-    → (e ≡ Memory → t ≡ true) → Does step scrolls (λ s. partly (f s) k) t c v d w
-does_refused step scrolls f k c v Memory d w h x bounds takes = record {
-  dead = λ e. absurd (false≢true (sym h ∙ e));
-  live = λ e. inr (record {
-    may_take = takes refl;
-    failed = x.tries.memory refl;
-    bounds = bounds;
-    told = x.tries.told refl;
-  });
-}
-does_refused step scrolls f k c v Failed d w h x bounds takes = record {
-  dead = λ e. absurd (false≢true (sym h ∙ e));
-  live = λ e. absurd (false≢true (sym h ∙ x.tries.refused refl));
 }
 
 -- the same effect, in other words

@@ -1,5 +1,5 @@
 -- Callbacks behind a sink of rows.
-use Rattle.std.proofs.Common.{◌≡◌, ◌∙◌, Bool, List, [], ◌∷◌, ◌++◌, ap, refl, sym, subst, append-nil}
+use Rattle.std.proofs.Common.{◌≡◌, ◌∙◌, Bool, List, [], ◌∷◌, ◌++◌, ap, sym, subst, append-nil}
 use Rattle.vt100_rows.specs.Row.{RowView}
 use Rattle.vt100_rows.specs.Sink.{TakesAll}
 use Rattle.screen_model.specs.Step.{Report, reports_of}
@@ -31,8 +31,3 @@ hears_append scrolls c (x ∷ xs) ys b d h k = (h.0, h.1, hears_append scrolls h
 pub hears_whole : {C : Type 0} (scrolls : C → RowView → Bool → C → Type 0) (c : C) (xs : List Report) (d : C)
     → Hears scrolls c xs d → HearsFront scrolls c xs d
 hears_whole scrolls c xs d h = (xs, [], sym (append-nil xs), h)
-
--- the first part of them
-pub hears_part : {C : Type 0} (scrolls : C → RowView → Bool → C → Type 0) (c : C) (xs ys : List Report) (d : C)
-    → Hears scrolls c xs d → HearsFront scrolls c (xs ++ ys) d
-hears_part scrolls c xs ys d h = (xs, ys, refl, h)

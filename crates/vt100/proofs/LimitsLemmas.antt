@@ -3,7 +3,7 @@ use Rattle.std.proofs.Common.{◌≡◌, ◌∙◌, ◌==◌, ◌&&◌, ◌+◌,
 use Rattle.std.proofs.Common.{◌-◌, nat_le, nat_lt, []}
 use Rattle.std.proofs.lemmas.Bool.{cond_both}
 use Rattle.vt100_forms.specs.declared.attrs.Attrs.{Attrs}
-use Rattle.vt100_cells.specs.Cell.{columns_of, cell_of}
+use Rattle.vt100_cells.specs.Cell.{columns_of}
 use Rattle.terminal_model.specs.Apply.{is_dropped}
 use Rattle.vt100_rows.specs.Row.{RowView, placed, wiped_row, joined_cell, joined_row, is_widening, with_wrap}
 use Rattle.vt100_rows.specs.Sheet.{row_at}

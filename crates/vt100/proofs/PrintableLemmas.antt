@@ -48,7 +48,3 @@ last_of-at (x ∷ y ∷ ys) last d some =
 
 pub last_of-is : (xs : List ℕ) (last : Option ℕ) → 0 < length xs → last_of xs last ≡ Some (get_or xs (length xs - 1) 0)
 last_of-is xs last some = last_of-at xs last 0 some
-
-pub last_of-none : (xs : List ℕ) (last : Option ℕ) → length xs ≡ 0 → last_of xs last ≡ last
-last_of-none [] last none = refl
-last_of-none (x ∷ xs) last none = absurd (omega arith)

@@ -1,11 +1,11 @@
 -- Calls that find no memory.
-use Rattle.std.proofs.Common.{◌≡◌, ◌∙◌, ℕ, Bool, true, false, Err, Result, List, sym, subst, nat_lt, arith}
+use Rattle.std.proofs.Common.{◌≡◌, ◌∙◌, ℕ, Bool, true, false, Err, Result, sym, subst, nat_lt, arith}
 use Rattle.std.specs.Prelude.{IsOk}
 use Rattle.std.proofs.lemmas.Bool.Decides.{nat_tests}
 use Rattle.std.proofs.lemmas.Bool.{false≢true}
 use Rattle.vt100_rows.specs.Row.{RowView}
 use Rattle.screen_model.specs.State.{State}
-use Rattle.screen_model.specs.Step.{Stepped, Report}
+use Rattle.screen_model.specs.Step.{Stepped}
 use Rattle.screen_model.specs.Call.{ScreenView, Hears}
 use Rattle.vt100.specs.Tries.{Tries, HearsFront}
 use Rattle.vt100.specs.declared.error.ScreenError.{ScreenError}

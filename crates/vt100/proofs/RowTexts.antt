@@ -1,8 +1,6 @@
 -- The texts of a screen's rows, one by one, and where they lead.
 use Rattle.std.proofs.Common.{◌≡◌, ◌∙◌, ℕ, zero, suc, ◌+◌, ◌<◌, ◌==◌, Bool, true, false, ◌&&◌, List, [], ◌∷◌}
-use Rattle.std.proofs.Common.{length, get_or, Contains, None, refl, sym, ap, subst, arith, nat_lt}
-use Rattle.std.proofs.lemmas.Bool.{false≢true}
-use Rattle.std.proofs.lemmas.Bool.Decides.{nat_tests}
+use Rattle.std.proofs.Common.{length, get_or, Contains, None, refl, sym, ap, subst, arith}
 use Rattle.vt100_forms.specs.Attrs.{default_attrs}
 use Rattle.vt100_forms.specs.Form.{spell}
 use Rattle.vt100_cells.specs.Cell.{CellView}
@@ -90,13 +88,6 @@ length-differing width i (v ∷ vs) [] e = absurd (omega (arith, e))
 length-differing width i (v ∷ vs) (x ∷ es) e = ap suc (length-differing width (i + 1) vs es (omega (arith, e)))
 
 -- ---- the rows of a screen that shows no kept row
-
-lt-true : (m n : ℕ) → m < n → nat_lt m n ≡ true
-lt-true m n h = grind (arith, nat_tests)
-
-and-right : (a b : Bool) → a ≡ true → (a && b) ≡ false → b ≡ false
-and-right true b e p = p
-and-right false b e p = absurd (false≢true e)
 
 and-none : (a b : Bool) → b ≡ false → (a && b) ≡ false
 and-none true b e = e

@@ -1,5 +1,5 @@
 -- The rows of a capture, character by character.
-use Rattle.std.proofs.Common.{◌≡◌, ℕ, suc, ◌+◌, ◌-◌, ◌*◌, ◌<◌, ◌≤◌}
+use Rattle.std.proofs.Common.{◌≡◌, ℕ, ◌+◌, ◌-◌, ◌<◌, ◌≤◌}
 use Rattle.std.proofs.Common.{◌==◌, Bool, true, false, not, ◌&&◌, cond, nat_lt, List}
 use Rattle.std.proofs.Common.{[], ◌∷◌, ◌++◌, length, take, drop, map, refl, sym, ap, subst, ◌∙◌, arith, append_assoc}
 use Rattle.std.proofs.Common.{append-nil, length-append, min}
@@ -108,14 +108,6 @@ IsWalked-start n at bs rest u e ea = record {
   rows = ap (λ xs. rows_from n false 0 [] xs) (ap chars (sym u.1.1) ∙ chars-encodes u.0 u.1.0);
   few = omega arith;
 }
-
--- how far the text goes
-pub walked-length : (n : ℕ) (bs : List ℕ) (inside : Bool) (taken at : ℕ) (rest : List ℕ)
-    → IsWalked n bs inside taken at rest → at + length rest ≡ length bs
-walked-length n bs inside taken at rest h =
-    sym (ap length h.whole ∙ length-append (encode_utf8_all h.done) (encode_utf8_all h.left)
-    ∙ ap (λ k. k + length (encode_utf8_all h.left)) (sym h.place)
-    ∙ ap (λ (xs : List ℕ). at + length xs) (sym h.ahead))
 
 -- one character more
 module _ (n : ℕ) (bs : List ℕ) (inside : Bool) (taken at : ℕ) (rest : List ℕ) (h : IsWalked n bs inside taken at rest)

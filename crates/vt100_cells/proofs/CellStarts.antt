@@ -1,5 +1,5 @@
 -- Cells that are compared in two steps.
-use Rattle.std.proofs.Common.{◌≡◌, ◌&&◌, Bool, true, false, sym, ap, ◌∙◌, refl, inl, inr}
+use Rattle.std.proofs.Common.{◌≡◌, ◌&&◌, true, false, sym, ap, ◌∙◌, refl, inl, inr}
 use Rattle.std.proofs.lemmas.Bool.{and_parts, cases_Bool, false≢true}
 use Rattle.std.proofs.lemmas.Cmp.{nat_list_eq_equiv}
 use Rattle.vt100_forms.specs.Attrs.{attrs_eq}
@@ -28,10 +28,6 @@ pub text_start-of_start : (x y : CellView) → cell_start_eq x y ≡ true → st
 text_start-of_start x y h =
     (and_parts (attrs_eq x.attrs y.attrs && (bool_eq x.wide y.wide && bool_eq x.continuation y.continuation))
     (start_eq x.text y.text) h).1
-
-and-false : (b : Bool) → (b && false) ≡ false
-and-false true = refl
-and-false false = refl
 
 -- the same cells have the same start
 start-of_cell_eq : (x y : CellView) → cell_eq x y ≡ true → cell_start_eq x y ≡ true

@@ -27,11 +27,6 @@ IsPaired-wiped f s e a p = record {
   blank = λ k h. grind (arith, nat_tests, p.blank k);
 }
 
--- erasing one more column
-pub wiped-more : (f : ℕ → CellView) (s e : ℕ) (a : Attrs) (k : ℕ) → IsPaired f → s ≤ e
-    → wiped (wiped f s e a) e (e + 1) a k ≡ wiped f s (e + 1) a k
-wiped-more f s e a k p l = grind (arith, nat_tests, p.next k, p.next e, p.blank e)
-
 -- where the last column isn't emptied it stays
 pub wiped-last : (n : ℕ) (f : ℕ → CellView) (s e : ℕ) (a : Attrs) → IsPaired f → Bounded n f → 0 < n → e ≤ n
     → wipe_unflags n f s e ≡ false → wiped f s e a (n - 1) ≡ f (n - 1)

@@ -1,6 +1,6 @@
 -- Lists of cells and lines as functions of the column.
 use Rattle.std.proofs.Common.{◌≡◌, ℕ, zero, suc, ◌+◌, ◌<◌, ◌≤◌, ◌==◌, true, cond, List, length, get_or, set, replicate}
-use Rattle.std.proofs.Common.{sym, refl, ap, ◌∙◌, arith, length-set, ⊎_elim, [], ◌∷◌, ◌++◌, take, take_all, take-suc}
+use Rattle.std.proofs.Common.{sym, refl, ap, ◌∙◌, arith, length-set, ⊎_elim}
 use Rattle.std.proofs.lemmas.Bool.{cases_eq, false≢true, eq-eqb, ne_eqb, cases_lt, ltb-true, ltb-false}
 use Rattle.std.proofs.lemmas.List.{get_or-set_same, get_or-set_other, get_or_past, get_or-replicate}
 use Rattle.std.proofs.lemmas.List.FromFn.{fill_by_all, get_or-map-range_with_len, length-map-range_with_len}
@@ -113,16 +113,3 @@ looked_up xs k (Some x) e h = sym (slice_get_read xs (length xs) k x.now refl (l
 looked_up xs k None e h = sym (slice_get_past xs k (ltb-false k (length xs) (sym e)))
 
 -- ---- lists that are compared cell by cell
-
--- one cell more
-pub same-next : (xs ys : List CellView) (i : ℕ) (x y : CellView) → i < length xs → i < length ys
-    → x ≡ get_or xs i x → y ≡ get_or ys i y → x ≡ y → take i xs ≡ take i ys → take (i + 1) xs ≡ take (i + 1) ys
-same-next xs ys i x y h k is js f e =
-    let next : i + 1 ≡ suc i = omega arith in
-    ap (λ n. take n xs) next ∙ take-suc xs i x h ∙ ap (λ z. take i xs ++ z ∷ []) (sym is)
-    ∙ (λ j. e j ++ f j ∷ []) ∙ ap (λ z. take i ys ++ z ∷ []) js ∙ sym (take-suc ys i y k)
-    ∙ ap (λ n. take n ys) (sym next)
-
-pub same-all : (xs ys : List CellView) (i : ℕ) → length xs ≡ length ys → length xs ≤ i → take i xs ≡ take i ys
-    → xs ≡ ys
-same-all xs ys i e l h = sym (take_all i xs l) ∙ h ∙ take_all i ys (omega (arith, e, l))

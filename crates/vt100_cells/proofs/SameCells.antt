@@ -5,9 +5,6 @@ use Rattle.vt100_cells.specs.Cell.{CellView}
 use Rattle.vt100_cells.specs.Cells.{AreSame, cell_at}
 use Rattle.vt100_cells.proofs.ListLemmas.{by_position_is}
 
-pub same-none : (f g : ℕ → CellView) (n : ℕ) → AreSame f g n n
-same-none f g n k h l = absurd (omega (arith, h, l))
-
 -- one column more
 pub same-more : (f g : ℕ → CellView) (from n : ℕ) → AreSame f g from n → f n ≡ g n → AreSame f g from (n + 1)
 same-more f g from n h e k a b =

@@ -1,49 +1,20 @@
 -- The text that a grid shows: its lines one after another, and the newlines at the end of a text.
-use Rattle.std.proofs.Common.{◌≡◌, ℕ, zero, suc, ◌+◌, ◌-◌, ◌<◌, ◌≤◌, ◌==◌, Bool, true, false, cond, ◌&&◌, nat_lt, List}
-use Rattle.std.proofs.Common.{[], ◌∷◌, ◌++◌, length, take, drop, get_or, refl, sym, ap, ◌∙◌, arith, append_assoc}
-use Rattle.std.proofs.Common.{append-nil, drop-cons, length-drop, take_all, take-take, length-take-le, ⊎_elim}
+use Rattle.std.proofs.Common.{◌≡◌, ℕ, zero, suc, ◌+◌, ◌-◌, ◌<◌, ◌≤◌, Bool, true, false, cond, ◌&&◌, nat_lt, List}
+use Rattle.std.proofs.Common.{[], ◌∷◌, ◌++◌, length, drop, get_or, sym, ap, ◌∙◌, arith, append_assoc}
+use Rattle.std.proofs.Common.{append-nil, drop-cons, length-drop, ⊎_elim}
 use Rattle.std.specs.Prelude.{encode_utf8_all, encode_utf8}
-use Rattle.std.specs.List.{suffix_len}
 use Rattle.std.proofs.lemmas.Bool.{cases_lt}
 use Rattle.std.proofs.lemmas.Bool.Decides.{nat_tests}
 use Rattle.std.proofs.lemmas.Str.{encodes-append}
-use Rattle.std.proofs.lemmas.List.Sums.{suffix_len-take_yes, suffix_len-take_no, suffix_len-le-length}
 use Rattle.vt100_rows.specs.Row.{RowView, blank_row}
 use Rattle.vt100_rows.specs.Text.{written_text}
 use Rattle.row_drawing.specs.Writes.{IsBegun}
 use Rattle.vt100_rows.proofs.TextLemmas.{IsBegun-within}
 use Rattle.vt100_core.specs.Grid.{GridView, visible, visible_at}
-use Rattle.vt100_core.specs.Contents.{is_below_wrapped, text_line, text_lines, newlines_cut}
+use Rattle.vt100_core.specs.Contents.{is_below_wrapped, text_line, text_lines}
 use Rattle.vt100_rows.proofs.SheetLemmas.{row_at-by_position, length-rows_by_position}
 
 -- ---- the newlines at the end
-
-ends_in : (xs : List ℕ) → length xs ≤ length xs → suffix_len (λ c. c == 10) (take (length xs) xs)
-    ≡ suffix_len (λ c. c == 10) xs
-ends_in xs h = ap (suffix_len (λ c. c == 10)) (take_all (length xs) xs h)
-
--- one of them goes
-pub newlines_cut-one : (xs ys : List ℕ) → 0 < length xs → (get_or xs (length xs - 1) 0 == 10) ≡ true
-    → ys ≡ take (length xs - 1) xs → newlines_cut ys ≡ newlines_cut xs
-newlines_cut-one xs ys some last e =
-    let p = λ (c : ℕ). c == 10 in
-    let n : length ys ≡ length xs - 1 = ap length e ∙ length-take-le (length xs - 1) xs (omega arith) in
-    let more : suffix_len p xs ≡ 1 + suffix_len p ys =
-    sym (ends_in xs (omega arith)) ∙ suffix_len-take_yes p xs (length xs) 0 some (omega arith) last
-    ∙ ap (λ (zs : List ℕ). 1 + suffix_len p zs) (sym e) in
-    let within = suffix_len-le-length p ys in
-    let same : length ys - suffix_len p ys ≡ length xs - suffix_len p xs = omega arith in
-    ap (λ k. take k ys) same ∙ ap (take (length xs - suffix_len p xs)) e
-    ∙ take-take (length xs - suffix_len p xs) (length xs - 1) xs (omega arith)
-
--- there are none
-pub newlines_cut-none : (xs : List ℕ) → 0 < length xs → (get_or xs (length xs - 1) 0 == 10) ≡ false
-    → newlines_cut xs ≡ xs
-newlines_cut-none xs some last =
-    let p = λ (c : ℕ). c == 10 in
-    let no : suffix_len p xs ≡ 0 = sym (ends_in xs (omega arith))
-    ∙ suffix_len-take_no p xs (length xs) 0 some (omega arith) last in
-    take_all (length xs - suffix_len p xs) xs (omega arith)
 
 -- ---- the loop over the rows
 
@@ -54,10 +25,6 @@ pub record IsShown (g : GridView) (n : ℕ) (left : List RowView) (wrapping : Bo
   pub wraps : wrapping ≡ is_below_wrapped g n
   pub bytes : now ≡ old ++ encode_utf8_all (text_lines g n)
   pub few : n ≤ length g.rows
-
-pub IsShown-start : (g : GridView) (left : List RowView) (old : List ℕ) → left ≡ visible g
-    → IsShown g 0 left false old old
-IsShown-start g left old e = record { rows = e; wraps = refl; bytes = sym (append-nil old); few = omega arith }
 
 some-left : (rows left : List RowView) (n : ℕ) (v : RowView) → drop n rows ≡ v ∷ left → n < length rows
 some-left rows left n v e = let l = ap (λ (xs : List RowView). length xs) e in omega (arith, l, length-drop n rows)

@@ -62,9 +62,6 @@ IsRowOf-removed width v s e r h =
 
 -- ---- the cursor's row
 
-pub rows_of : (g : GridView) → IsGrid g → IsAllocated g → length g.rows ≡ g.height
-rows_of g i a = i.sheet.count a
-
 pub cursor_row_of : (g : GridView) → IsGrid g → IsAllocated g → IsRowOf g.width (row_of_cursor g)
 cursor_row_of g i a = i.sheet.each g.row (omega (arith, i.sheet.count a, i.cursor_row))
 

@@ -18,7 +18,7 @@ use Rattle.screen_drawing.proofs.LocalScreens.{grid-local}
 use Rattle.screen_drawing.proofs.SmallScreens.{lists-sent, lists-forms}
 use Rattle.vt100_core.specs.Grid.{GridView}
 use Rattle.vt100_core.specs.Picture.{grid_size, Extras}
-use Rattle.vt100_core.specs.Writers.{drawn_on, redrawn, contents_formatted, differing}
+use Rattle.vt100_core.specs.Writers.{drawn_on, contents_formatted, differing}
 use Rattle.vt100_core.specs.WriterLaws.{IsUnscrolledGrid, IsDrawableGrid, picture_of}
 use Rattle.vt100_core.specs.FormLists.{IsProperGrid, HasNo, IsTrueOfLists, EachListIsSent, EachListIsOfForms, AreShort}
 use Rattle.vt100_core.specs.FormLists.{EachListIsShort, IsShortGrowth, AppendsLocal}

@@ -1,6 +1,6 @@
 -- What is true of a grid stays true.
 use Rattle.std.proofs.Common.{◌≡◌, ℕ, ◌+◌, ◌-◌, ◌<◌, ◌≤◌, Bool, true, false, cond, ◌&&◌, List, [], ◌∷◌, length, set}
-use Rattle.std.proofs.Common.{min, refl, sym, ap, ◌∙◌, arith, length-set, nat_lt, subst}
+use Rattle.std.proofs.Common.{min, refl, sym, ap, ◌∙◌, arith, length-set, nat_lt}
 use Rattle.vt100_rows.specs.Row.{RowView}
 use Rattle.vt100_rows.specs.Sheet.{rows_by_position, IsRowOf, IsSheet, moved_up, opened_line}
 use Rattle.vt100_core.specs.declared.scrollback.Scrollback.{Scrollback}
@@ -196,10 +196,3 @@ IsGrid-scrolled g rows k i a e sheet kept shown = record {
   shown = shown;
   fresh = λ z. absurd (omega arith);
 }
-
-pub IsSheet-height : (g : GridView) (rows : List RowView) → IsGrid g → IsAllocated g
-    → IsSheet (length g.rows) g.width rows → IsSheet g.height g.width rows
-IsSheet-height g rows i a s = subst (λ h. IsSheet h g.width rows) (i.sheet.count a) s
-
-pub IsSheet-count : (g : GridView) → IsGrid g → IsAllocated g → IsSheet (length g.rows) g.width g.rows
-IsSheet-count g i a = subst (λ h. IsSheet h g.width g.rows) (sym (i.sheet.count a)) i.sheet

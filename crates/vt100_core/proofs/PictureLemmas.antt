@@ -11,9 +11,8 @@ use Rattle.terminal_model.specs.Term.{IsTerm}
 use Rattle.vt100_rows.specs.Row.{RowView}
 use Rattle.vt100_rows.specs.Sheet.{row_at, IsSheet}
 use Rattle.vt100_rows.specs.Picture.{lines_of, wraps_of}
-use Rattle.vt100_rows.proofs.SheetLemmas.{rows_equal, row_at-by_position, length-rows_by_position}
 use Rattle.vt100_rows.proofs.PictureLemmas.{lines-past, wraps-past}
-use Rattle.vt100_core.specs.Grid.{GridView, IsGrid, IsAllocated, visible_at, visible}
+use Rattle.vt100_core.specs.Grid.{GridView, IsGrid, IsAllocated, visible_at}
 use Rattle.vt100_core.specs.Picture.{grid_size, visible_lines, visible_wraps, Extras, term_of_grid}
 
 -- ---- where no kept row is shown
@@ -23,12 +22,6 @@ visible_at-drawn g r e =
     let none : nat_lt r g.kept.offset ≡ false = le-ltb r g.kept.offset (omega (arith, e)) in
     let same : r - g.kept.offset ≡ r = omega (arith, e) in
     rw none (ap (row_at g.rows) same)
-
-pub visible-drawn : (g : GridView) → g.kept.offset ≡ 0 → visible g ≡ g.rows
-visible-drawn g e =
-    let n = length-rows_by_position (length g.rows) (visible_at g) in
-    rows_equal (visible g) g.rows n (λ k l. row_at-by_position (length g.rows) (visible_at g) k (omega arith)
-    ∙ visible_at-drawn g k e)
 
 -- ---- a grid's rows are a terminal's lines
 

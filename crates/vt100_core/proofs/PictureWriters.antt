@@ -23,7 +23,7 @@ use Rattle.row_drawing.specs.Writer.{Drawn, Writer, ◌>>◌, skip}
 use Rattle.row_drawing.specs.RowWriter.{row_redraw, row_difference}
 use Rattle.screen_drawing.specs.Cursor as cursor
 use Rattle.screen_drawing.specs.Cursor.{place, is_pen_at, arriving, end_cell, row_with_end, wait}
-use Rattle.screen_drawing.specs.Cursor.{wait_behind, wait_on_empty}
+use Rattle.screen_drawing.specs.Cursor.{wait_behind}
 use Rattle.screen_drawing.specs.Rows.{pen_at, afresh, is_continued, next_redraw, rows_redraw, next_difference}
 use Rattle.screen_drawing.specs.Rows.{rows_difference}
 use Rattle.screen_drawing.specs.Screen.{cursor_placed, grid_redraw, grid_contents_formatted, grid_difference}

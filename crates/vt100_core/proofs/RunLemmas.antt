@@ -173,10 +173,6 @@ pub record IsOnTheWay {S : Type 0} (takes : S → RowView → S
   pub grid : g ≡ (printed_all g0 front a).grid
   pub taken : TakesAll takes s0 (printed_all g0 front a).sunk s
 
-pub on-the-way-first : {S : Type 0} (takes : S → RowView → S
-    → Type 0) (g : GridView) (s : S) (text : List ℕ) (a : Attrs) → IsOnTheWay takes g s text a g s text
-on-the-way-first takes g s text a = record { front = []; parts = refl; grid = refl; taken = refl }
-
 -- what has been taken once n more characters have been printed
 taken-next : {S : Type 0} (takes : S → RowView → S
     → Type 0) (g0 g : GridView) (s0 s t : S) (front xs : List ℕ) (a : Attrs) → g ≡ (printed_all g0 front a).grid
@@ -214,26 +210,7 @@ on-the-way-refused takes g0 g s0 s t text rest a w taken = (
   taken-next takes g0 g s0 s t w.front (take 1 rest) a w.grid w.taken taken,
 )
 
-all-printed : (text front rest : List ℕ) → text ≡ front ++ rest → length rest ≡ 0 → text ≡ front
-all-printed text front [] e z = e ∙ append-nil front
-all-printed text front (x ∷ xs) e z = absurd (omega arith)
-
-pub on-the-way-grid : {S : Type 0} (takes : S → RowView → S
-    → Type 0) (g0 g : GridView) (s0 s : S) (text rest : List ℕ) (a : Attrs) → IsOnTheWay takes g0 s0 text a g s rest
-    → length rest ≡ 0 → g ≡ (printed_all g0 text a).grid
-on-the-way-grid takes g0 g s0 s text rest a w e =
-    w.grid ∙ ap (λ xs. (printed_all g0 xs a).grid) (sym (all-printed text w.front rest w.parts e))
-
-pub on-the-way-sink : {S : Type 0} (takes : S → RowView → S
-    → Type 0) (g0 g : GridView) (s0 s : S) (text rest : List ℕ) (a : Attrs) → IsOnTheWay takes g0 s0 text a g s rest
-    → length rest ≡ 0 → TakesAll takes s0 (printed_all g0 text a).sunk s
-on-the-way-sink takes g0 g s0 s text rest a w e =
-    subst (λ xs. TakesAll takes s0 (printed_all g0 xs a).sunk s) (sym (all-printed text w.front rest w.parts e)) w.taken
-
 -- ---- the code
-
-pub some-columns : (g : GridView) → IsGrid g → 0 < g.width
-some-columns g i = i.some_cols
 
 pub cursor-within : (g : GridView) → IsGrid g → IsAllocated g → g.row < length g.rows
 cursor-within g i a = omega (arith, i.sheet.count a, i.cursor_row)

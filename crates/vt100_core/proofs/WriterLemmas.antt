@@ -109,14 +109,6 @@ line_feeds-begun n m s t u le a b =
 
 -- ---- the row at whose end the cursor waits
 
-pub end-found : (z : Size) (s : Shown) (r : ℕ) → has_text (end_cell z s r) ≡ true → row_with_end z s r ≡ Some r
-end-found z s zero h = rw h refl
-end-found z s (suc r) h = rw h refl
-
-pub end-none : (z : Size) (s : Shown) (r : ℕ) → r ≡ 0 → has_text (end_cell z s r) ≡ false → row_with_end z s r ≡ None
-end-none z s zero e h = rw h refl
-end-none z s (suc r) e h = absurd (omega (arith, e))
-
 pub end-above : (z : Size) (s : Shown) (r q : ℕ) → r ≡ q + 1 → has_text (end_cell z s r) ≡ false
     → row_with_end z s r ≡ row_with_end z s q
 end-above z s zero q e h = absurd (omega (arith, e))
@@ -285,11 +277,6 @@ redrawn-begun g n m width v wrapping p s q t u inside ew ev h begun =
     (lines-begun-suc g n p s q t u h.wrote
     (subst (λ (d : Drawn). IsBegun t (spell d.forms) u) (sym (line-as g n width v wrapping q ew ev h.wraps)) begun))
 
--- all of them
-pub redrawn-end : (g : GridView) (n m : ℕ) (wrapping : Bool) (p : Pen) (s : List ℕ) (q : Pen) (t : List ℕ) → n ≡ m
-    → IsRedrawn g n wrapping p s q t → Wrote (lines_redraw g m) p s q t
-redrawn-end g n m wrapping p s q t e h = subst (λ k. Wrote (lines_redraw g k) p s q t) e h.wrote
-
 -- ---- rows of a difference
 
 -- n rows are drawn; the flags say whether the last of them goes on in the next, and did
@@ -392,11 +379,6 @@ changed-begun g old n m width v w wrapping was flagged p s q t u inside over h b
     changed-begun-up g old (suc n) m p s u (omega (arith, inside))
     (changed-begun-suc g old n p s q t u h.wrote
     (subst (λ (d : Drawn). IsBegun t (spell d.forms) u) (sym same) begun))
-
--- all of them
-pub changed-end : (g old : GridView) (n m : ℕ) (wrapping was : Bool) (p : Pen) (s : List ℕ) (q : Pen) (t : List ℕ)
-    → n ≡ m → IsChanged g old n wrapping was p s q t → Wrote (lines_difference g old m) p s q t
-changed-end g old n m wrapping was p s q t e h = subst (λ k. Wrote (lines_difference g old k) p s q t) e h.wrote
 
 -- ---- whole grids
 

@@ -1,19 +1,18 @@
 -- A zero-width character in a row.
-use Rattle.std.proofs.Common.{◌≡◌, ℕ, ◌+◌, ◌-◌, ◌<◌, ◌≤◌, ◌==◌, Bool, true, false, cond, not, ◌&&◌, ◌||◌, List, [], ◌∷◌}
-use Rattle.std.proofs.Common.{◌++◌, length, set, Some, sym, refl, ap, ◌∙◌, arith, ⊎_elim, nat_lt}
+use Rattle.std.proofs.Common.{◌≡◌, ℕ, ◌+◌, ◌-◌, ◌<◌, ◌≤◌, ◌==◌, Bool, true, false, cond, not, ◌&&◌, ◌||◌, List}
+use Rattle.std.proofs.Common.{length, set, Some, sym, refl, ap, ◌∙◌, arith, nat_lt}
 use Rattle.std.specs.Char.{IsScalar}
 use Rattle.std.proofs.lemmas.List.{set-get_or}
-use Rattle.std.proofs.lemmas.Bool.{false≢true, cases_eq, eq-eqb, ne_eqb, and_parts, cond_both, ltb-true, not-true}
-use Rattle.std.proofs.lemmas.Bool.Decides.{nat_tests}
+use Rattle.std.proofs.lemmas.Bool.{and_parts, cond_both, ltb-true, not-true}
 use Rattle.vt100_forms.specs.declared.attrs.Attrs.{Attrs}
-use Rattle.vt100_cells.specs.Cell.{CellView, IsCell, IsWideAs, has_text, is_filled, has_room, text_with, is_widened_by}
+use Rattle.vt100_cells.specs.Cell.{CellView, IsCell, has_text, has_room, text_with, is_widened_by}
 use Rattle.vt100_cells.specs.Cell.{appended, appended_plain, drawn_columns, default_cell}
-use Rattle.vt100_cells.specs.Line.{IsPaired, Bounded, span_of, update, put, base_col}
+use Rattle.vt100_cells.specs.Line.{span_of, update, put, base_col}
 use Rattle.vt100_cells.specs.Cells.{cell_at, by_position}
 use Rattle.vt100_rows.specs.Row.{RowView, IsRow, joined_cell, is_widening, joined_row, join_row, placed, wiped_row}
 use Rattle.vt100_rows.specs.Row.{joined_plain}
 use Rattle.vt100_cells.proofs.CellLemmas.{IsCell-appended, IsCell-plain}
-use Rattle.vt100_cells.proofs.ListLemmas.{not_first, Bounded-row, set-by_position, length-by_position}
+use Rattle.vt100_cells.proofs.ListLemmas.{Bounded-row, set-by_position, length-by_position}
 use Rattle.vt100_cells.proofs.JoinedCells.{base_col-whole, base_col-within, filled-appended, appended-continuation}
 use Rattle.vt100_cells.proofs.JoinedCells.{appended-wide, same-width, appended-has_text, Bounded-update, update-last}
 use Rattle.vt100_cells.proofs.JoinedCells.{plain-wide, plain-continuation, plain-filled}
@@ -30,22 +29,6 @@ widened-is v col c r h =
     let f = cell_at v.cells in
     let w = (and_parts (joined_cell v col c).wide (not (f (base_col f col)).wide) h).0 in
     (w, appended-has_text (f (base_col f col)) c (r.cells (base_col f col)) w)
-
--- only the cell directly left of the cursor can become wide
-pub widened-base : (v : RowView) (col c : ℕ) → IsRow v → is_widening v col c ≡ true
-    → base_col (cell_at v.cells) col ≡ col - 1
-widened-base v col c r h =
-    let f = cell_at v.cells in
-    let narrow = not-true (f (base_col f col)).wide
-    (and_parts (joined_cell v col c).wide (not (f (base_col f col)).wide) h).1 in
-    (elim (f (col - 1)).continuation as (λ b. (f (col - 1)).continuation ≡ b
-    → (f (cond b (col - 2) (col - 1))).wide ≡ false → cond b (col - 2) (col - 1) ≡ col - 1) [
-      | true ↦ λ e q.
-          let later = not_first f (col - 1) r.paired e in
-          let k : col - 2 + 1 ≡ col - 1 = omega arith in
-          absurd (false≢true (sym q ∙ sym (r.paired.next (col - 2)) ∙ ap (λ j. (f j).continuation) k ∙ e))
-      | false ↦ λ e q. refl
-    ]) refl narrow
 
 -- ---- the rows that result
 

@@ -199,19 +199,3 @@ moves_up_top rows zs ws end n width h l ez ew =
     ∙ length-rows_by_position (length rows) (changed_between (λ v. blank_row width) rows 0 n))
     (λ k m. blanks-part rows zs width 0 n ez k m ∙ ap (λ j.
     cond (nat_le 0 k && nat_lt k j) (blank_row width) (row_at rows k)) (sym (zero-add n))) ew
-
-turned_within : (first end n r count : ℕ) → first + n ≤ end → end ≤ count → (nat_lt r first || nat_le end r) ≡ false
-    → r + n - (end - first) < count
-turned_within first end n r count p h o = grind (arith, nat_tests)
-
-pub IsRowOf-turned_up : (width : ℕ) (rows ws : List RowView) (first end n : ℕ)
-    → ((k : ℕ) → k < length rows → IsRowOf width (row_at rows k)) → first + n ≤ end → end ≤ length rows
-    → ws ≡ rows_by_position (length rows) (turned_up rows first end n) → (r : ℕ) → r < length rows
-    → IsRowOf width (row_at ws r)
-IsRowOf-turned_up width rows ws first end n each p h e r l =
-    rw (ap (λ vs. row_at vs r) e ∙ row_at-by_position (length rows) (turned_up rows first end n) r l)
-    (IsRowOf-cond (nat_lt r first || nat_le end r) width (row_at rows r)
-    (cond (nat_lt (r + n) end) (row_at rows (r + n)) (row_at rows (r + n - (end - first)))) (λ _. each r l)
-    (λ o. IsRowOf-cond (nat_lt (r + n) end) width (row_at rows (r + n)) (row_at rows (r + n - (end - first)))
-    (λ b. each (r + n) (grind (arith, nat_tests)))
-    (λ b. each (r + n - (end - first)) (turned_within first end n r (length rows) p h o))))

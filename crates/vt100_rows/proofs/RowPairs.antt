@@ -78,10 +78,6 @@ pub pairs_row-empty : (v : RowView) (i : ℕ) (xs : List ℕ) (a : Attrs) → le
 pairs_row-empty v i [] a e = pairs_row-none v i a
 pairs_row-empty v i (x ∷ xs) a e = absurd (omega arith)
 
-pub placed_pairs-empty : (v : RowView) (i : ℕ) (xs : List ℕ) (a : Attrs) → length xs ≡ 0 → v ≡ placed_pairs v i xs a
-placed_pairs-empty v i [] a e = refl
-placed_pairs-empty v i (x ∷ xs) a e = absurd (omega arith)
-
 -- each step keeps what is true of a row
 IsRow-each_pair : (xs : List ℕ) (v : RowView) (i : ℕ) (a : Attrs) → IsRow v → All IsWide xs → All IsScalar xs
     → i + 2 * length xs ≤ length v.cells → IsRow (placed_pairs v i xs a)

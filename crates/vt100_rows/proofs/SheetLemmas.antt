@@ -65,10 +65,6 @@ pub changes-more : (f : RowView → RowView) (old rows : List RowView) (first r 
 changes-more f old rows first r v h l e ev k = row_at-set rows r v k l
     ∙ changes-one f old rows first r k v h (e r) (e k) ev
 
-pub changes-none : (f : RowView → RowView) (old : List RowView) (first k : ℕ)
-    → row_at old k ≡ changed_between f old first first k
-changes-none f old first k = grind (arith, nat_tests)
-
 pub all-read : (f : RowView → RowView) (rows : List RowView) (k : ℕ) → k < length rows
     → changed_between f rows 0 (length rows) k ≡ f (row_at rows k)
 all-read f rows k h = grind (arith, nat_tests)

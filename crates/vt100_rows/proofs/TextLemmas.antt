@@ -2,7 +2,7 @@
 use Rattle.std.proofs.Common.{◌≡◌, ℕ, zero, suc, ◌+◌, ◌-◌, ◌<◌, ◌≤◌, ◌==◌, Bool, true, false, cond, not, ◌&&◌, List, []}
 use Rattle.std.proofs.Common.{◌∷◌, ◌++◌, length, replicate, sym, refl, ap, ◌∙◌, arith, append_assoc, append-nil}
 use Rattle.std.proofs.Common.{length-append, min, ⊎_elim}
-use Rattle.std.specs.Prelude.{encode_utf8_all, encode_utf8, Result, Ok, Err, OnErr}
+use Rattle.std.specs.Prelude.{encode_utf8_all, Result, Ok, Err, OnErr}
 use Rattle.std.proofs.lemmas.Bool.{ne_eqb, false≢true, cond_both, cases_lt}
 use Rattle.std.proofs.lemmas.List.{replicate-append-replicate}
 use Rattle.std.proofs.lemmas.Str.{encodes-append, encode_ascii}
@@ -13,9 +13,6 @@ use Rattle.vt100_rows.specs.Text.{column_text, columns_text, line_text, row_text
 use Rattle.row_drawing.specs.Writes.{IsBegun}
 
 -- ---- spaces
-
-pub more_spaces : (n : ℕ) → replicate n 32 ++ encode_utf8 32 ≡ replicate (n + 1) 32
-more_spaces n = ap (λ bs. replicate n 32 ++ bs) (encode_ascii 32 (omega arith)) ∙ replicate-append-replicate n 1 32
 
 encodes-spaces : (n : ℕ) → encode_utf8_all (replicate n 32) ≡ replicate n 32
 encodes-spaces zero = refl
@@ -102,14 +99,6 @@ columns_text-space f s n b g h e =
     columns_text-none f s n b (32 ∷ []) g h (column_text-none f s (s + n) false h e)
     ∙ ap (λ xs. line_text f s (suc n) ++ xs) (replicate-append-replicate b 1 32)
 
-not-not : (b : Bool) → not (not b) ≡ b
-not-not true = refl
-not-not false = refl
-
-no_text : (cs : List ℕ) → (length cs == 0) ≡ true → cs ≡ []
-no_text [] e = refl
-no_text (c ∷ cs) e = absurd (false≢true (sym (ne_eqb (length (c ∷ cs)) 0 (λ q. absurd (omega (arith, q)))) ∙ e))
-
 -- ---- the loop over the columns
 
 -- n columns from s on are written after `old`, but for b spaces
@@ -118,14 +107,6 @@ pub record IsWritten (f : ℕ → CellView) (s n : ℕ) (old now : List ℕ) (b 
   pub gap : columns_text f s n ≡ line_text f s n ++ replicate b 32
   pub shows : shown ≡ not (length (line_text f s n) == 0)
   pub few : b ≤ n
-
-pub IsWritten-start : (f : ℕ → CellView) (s n : ℕ) (old : List ℕ) → n ≡ 0 → IsWritten f s n old old 0 false
-IsWritten-start f s n old e = rw e (record {
-  bytes = sym (append-nil old);
-  gap = refl;
-  shows = refl;
-  few = omega arith;
-})
 
 IsWritten-at : (f : ℕ → CellView) (s n m : ℕ) (old now : List ℕ) (b : ℕ) (shown : Bool) → m ≡ n
     → IsWritten f s n old now b shown → IsWritten f s m old now b shown
@@ -180,33 +161,6 @@ module _ (f : ℕ → CellView) (s col b : ℕ) (old was : List ℕ) (shown : Bo
       })
 
 -- ---- what is written in the end
-
-pub written-whole : (v : RowView) (s n m : ℕ) (wrapping shown : Bool) (old now : List ℕ) (b : ℕ)
-    → m ≡ min (s + n) (length v.cells) - s → IsWritten (cell_at v.cells) s m old now b shown
-    → (wrapping && not shown) ≡ false → now ≡ old ++ encode_utf8_all (written_text v s n wrapping)
-written-whole v s n m wrapping shown old now b e h q =
-    let t = row_text v s (s + n) in
-    let same : line_text (cell_at v.cells) s m ≡ t = ap (line_text (cell_at v.cells) s) e in
-    let no : (wrapping && (length t == 0)) ≡ false =
-    ap (λ r. wrapping && r) (sym (not-not (length t == 0))
-    ∙ ap (λ (cs : List ℕ). not (not (length cs == 0))) (sym same) ∙ ap not (sym h.shows)) ∙ q in
-    h.bytes ∙ ap (λ (cs : List ℕ). old ++ encode_utf8_all cs) same
-    ∙ ap (λ r. old ++ encode_utf8_all (cond r (10 ∷ []) t)) (sym no)
-
-pub written-newline : (v : RowView) (s n m : ℕ) (wrapping shown : Bool) (old was now : List ℕ) (b : ℕ)
-    → m ≡ min (s + n) (length v.cells) - s → IsWritten (cell_at v.cells) s m old was b shown
-    → wrapping ≡ true → shown ≡ false → now ≡ was ++ encode_utf8 10
-    → now ≡ old ++ encode_utf8_all (written_text v s n wrapping)
-written-newline v s n m wrapping shown old was now b e h w q en =
-    let t = row_text v s (s + n) in
-    let same : line_text (cell_at v.cells) s m ≡ t = ap (line_text (cell_at v.cells) s) e in
-    let none : (length t == 0) ≡ true = sym (not-not (length t == 0))
-    ∙ ap (λ (cs : List ℕ). not (not (length cs == 0))) (sym same) ∙ ap not (sym h.shows ∙ q) in
-    let yes : (wrapping && (length t == 0)) ≡ true = ap (λ r. r && (length t == 0)) w ∙ none in
-    let empty : t ≡ [] = no_text t none in
-    let bytes : was ≡ old = h.bytes ∙ ap (λ (cs : List ℕ). old ++ encode_utf8_all cs) (same ∙ empty) ∙ append-nil old in
-    en ∙ ap (λ (bs : List ℕ). bs ++ encode_utf8 10) bytes ∙ ap (λ bs. old ++ bs) (sym (append-nil (encode_utf8 10)))
-    ∙ ap (λ r. old ++ encode_utf8_all (cond r (10 ∷ []) t)) (sym yes)
 
 -- ---- where memory ran out
 

@@ -1,5 +1,5 @@
 -- A row without the default cells at its end.
-use Rattle.std.proofs.Common.{◌≡◌, ℕ, ◌+◌, ◌<◌, ◌≤◌, true, List, length, take, sym, ap, ◌∙◌, arith, length-take}
+use Rattle.std.proofs.Common.{◌≡◌, ◌+◌, length, take, sym, ap, ◌∙◌, arith, length-take}
 use Rattle.std.proofs.lemmas.List.{take_all}
 use Rattle.vt100_cells.specs.Cell.{CellView, is_filled}
 use Rattle.vt100_cells.specs.Cells.{last_cell, trimmed_len}

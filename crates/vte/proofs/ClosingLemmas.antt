@@ -12,7 +12,7 @@ use Rattle.vte.specs.Timeout.{Ticking, Tick, Sets, Clears, Ticked, sets_of}
 use Rattle.vte.specs.Performed.{calls_of_all, openers_of_all}
 use Rattle.vte.specs.Stretch.{added, calls_from, ticks_from}
 use Rattle.vte.specs.Hold as hold
-use Rattle.vte.specs.Hold.{Renews, again, quiet, Settles, keeps, replays, closes, Takes, held_of}
+use Rattle.vte.specs.Hold.{Renews, again, quiet, Settles, keeps, replays, closes, Takes}
 use Rattle.vte.specs.Advances as any
 use Rattle.vte.specs.Advances.{Advances}
 use Rattle.vte.specs.Closings.{is_closing, without_closings, WithClosings, none, call, closing, clearings, Parses}

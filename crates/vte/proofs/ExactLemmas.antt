@@ -7,7 +7,7 @@ use Rattle.vte.specs.Timeout.{Ticking, Tick, Clears, Ticked, Awaits, IsExact}
 use Rattle.vte.specs.Performed.{openers_of_all}
 use Rattle.vte.specs.Stretch.{added, ticks_from}
 use Rattle.vte.specs.Hold as hold
-use Rattle.vte.specs.Hold.{limit, closing, held_of, Renews, again, quiet, Settles, keeps, replays, closes, Takes}
+use Rattle.vte.specs.Hold.{held_of, Renews, again, quiet, Settles, keeps, replays, closes, Takes}
 use Rattle.vte.specs.Advances.{Plainly, Advances, parses, begins, settles, empties}
 use Rattle.vte.specs.Standing.{timeout_of, StandsAt, HoldsAt, Advanced, Taken}
 use Rattle.vte.proofs.RunLemmas.{Ticked-append}

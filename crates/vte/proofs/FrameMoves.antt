@@ -190,9 +190,6 @@ whole_rests T whole part parsed hold e (inside held starts at is) =
     absurd (omega (arith, ap length starts, ap length e))
 whole_rests T whole part parsed hold e (before long at is) = absurd (omega (arith, ap length e, long))
 
-append_itself : (a b : List ℕ) → a ≡ a ++ b → b ≡ []
-append_itself a b e = sym (append_cancel_left a [] b (append-nil a ∙ e))
-
 -- less than a frame cannot come where all frames came
 nothing_left : (T : Type 0) (whole rest : List (List ℕ)) (part : List ℕ) → Frames T rest → IsPart part rest
     → concat (whole ++ rest) ≡ concat whole ++ part → (rest ≡ []) × (part ≡ [])

@@ -309,32 +309,6 @@ kept_three (a ∷ b ∷ c ∷ s) some long begun third =
 
 -- whole characters
 
-pub whole_two : (bs : List ℕ) → 1 < length bs → 1 < char_len (get_or bs 0 0)
-    → goes_on (get_or bs 0 0) [] (get_or bs 1 0) ≡ true → get_or bs 0 0 < 0xE0 → IsWhole (take 2 bs)
-whole_two [] some long begun less = absurd (omega (arith, some))
-whole_two (a ∷ []) some long begun less = absurd (omega (arith, some))
-whole_two (a ∷ b ∷ s) some long begun less =
-    let n : char_len a ≡ 2 = grind (arith, nat_tests) in rw (n, begun) (refl, refl)
-
-pub whole_three : (bs : List ℕ) → 2 < length bs → 1 < char_len (get_or bs 0 0)
-    → goes_on (get_or bs 0 0) [] (get_or bs 1 0) ≡ true → is_in_range 0x80 0xBF (get_or bs 2 0) ≡ true
-    → 0xE0 ≤ get_or bs 0 0 → get_or bs 0 0 < 0xF0 → IsWhole (take 3 bs)
-whole_three [] some long begun third least less = absurd (omega (arith, some))
-whole_three (a ∷ []) some long begun third least less = absurd (omega (arith, some))
-whole_three (a ∷ b ∷ []) some long begun third least less = absurd (omega (arith, some))
-whole_three (a ∷ b ∷ c ∷ s) some long begun third least less =
-    let n : char_len a ≡ 3 = grind (arith, nat_tests) in rw (n, begun, third) (refl, refl)
-
-pub whole_four : (bs : List ℕ) → 3 < length bs → 1 < char_len (get_or bs 0 0)
-    → goes_on (get_or bs 0 0) [] (get_or bs 1 0) ≡ true → is_in_range 0x80 0xBF (get_or bs 2 0) ≡ true
-    → is_in_range 0x80 0xBF (get_or bs 3 0) ≡ true → 0xF0 ≤ get_or bs 0 0 → IsWhole (take 4 bs)
-whole_four [] some long begun third fourth least = absurd (omega (arith, some))
-whole_four (a ∷ []) some long begun third fourth least = absurd (omega (arith, some))
-whole_four (a ∷ b ∷ []) some long begun third fourth least = absurd (omega (arith, some))
-whole_four (a ∷ b ∷ c ∷ []) some long begun third fourth least = absurd (omega (arith, some))
-whole_four (a ∷ b ∷ c ∷ d ∷ s) some long begun third fourth least =
-    let n : char_len a ≡ 4 = grind (arith, nat_tests) in rw (n, begun, third, fourth) (refl, refl)
-
 -- a whole character of more than one byte
 pub whole-told : (bs : List ℕ) → IsWhole bs → 1 < length bs
     → (run_told [] bs ≡ char_event (code_of bs) ∷ []) × (run_rest [] bs ≡ []) × (has_no_esc bs ≡ true)

@@ -11,7 +11,7 @@ use Rattle.vte_core.specs.Text.{char_len, first_bits, joined, char_event, malfor
 use Rattle.vte_core.specs.Header.{is_well_formed}
 use Rattle.vte_core.specs.Shapes.{before, from, cut_at_esc}
 use Rattle.vte_core.specs.GroundText as ground
-use Rattle.vte_core.specs.GroundText.{past_device, past_introduced, past_final, text_of, last_text_of, has_bytes}
+use Rattle.vte_core.specs.GroundText.{past_device, past_introduced, past_final, last_text_of, has_bytes}
 use Rattle.vte_core.specs.GroundText.{ends_in_text}
 use Rattle.vte_core.specs.Pending.{Pending, InText, InEscape, InCsi, InOsc, InHook, InDevice, InSwallowed, kept}
 use Rattle.vte_core.specs.Pending.{goes_on, begun, text_told, final_rest, byte_rest, events_of_byte, after_bytes}

@@ -334,24 +334,6 @@ run-at n p bs k q some is len h =
       is_ground p.state e.0,
     )
 
--- up to the next ESC, where the parser stands in ground text
-pub ground-run : (n : ℕ) (p : Parser n) (bs : List ℕ) (k : ℕ) (q : Pending) → p.state ≡ Ground
-    → k ≡ length (before is_esc bs) → IsAt n p q
-    → (events_from n q (take k bs) ≡ run_told p.unfinished (take k bs))
-    × (after_bytes q (take k bs) ≡ InText (run_rest p.unfinished (take k bs)))
-ground-run n p bs k q s len h =
-    let text : is_text q ≡ true = is_text-at n p q h ∙ ap state_is_text s in
-    let front : take k bs ≡ before is_esc bs = ap (λ (j : ℕ). take j bs) len ∙ take-before bs in
-    text_pending n p q (take k bs) h text (ap has_no_esc front ∙ no_esc-before bs)
-
-pub at-esc : (bs : List ℕ) → length (before is_esc bs) < length bs
-    → get_or (drop (length (before is_esc bs)) bs) 0 0 ≡ 0x1B
-at-esc [] h = absurd (omega (arith, h))
-at-esc (b ∷ bs) h = elim (bool_cases (is_esc b)) [
-  | inl e ↦ rw e (eqb-true b 0x1B e)
-  | inr e ↦ let g = rw e at h in rw e (at-esc bs (omega (arith, g)))
-]
-
 no_run : (q : Pending) (b : ℕ) (s : List ℕ) → (is_text q ≡ true → is_esc b ≡ true) → is_one_step q (b ∷ []) s ≡ true
 no_run q b [] h = refl
 no_run q b (c ∷ s) h =

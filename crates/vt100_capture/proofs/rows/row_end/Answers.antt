@@ -1,4 +1,4 @@
-use Rattle.std.proofs.Common.{◌≡◌, ◌+◌, ◌≤◌, ◌<◌, ◌==◌, true, false}
+use Rattle.std.proofs.Common.{◌≡◌, ◌+◌, ◌==◌, true, false}
 use Rattle.std.proofs.Common.{length, sym, ap, ◌∙◌, arith, length-append, [], ◌∷◌}
 use Rattle.std.proofs.Common.{◌++◌}
 use Rattle.std.specs.Prelude.{encode_utf8, unwrap_or}
@@ -11,7 +11,6 @@ use Rattle.vt100_capture.proofs.RowsLemmas.{step-inside, step-escape, step-plain
 use Rattle.vt100_capture.proofs.RowsLemmas.{joins-none, joins-first, joins-room}
 use Rattle.vt100_capture.proofs.rows.row_end.Goals as goal
 use Rattle.vt100_capture.proofs.rows.row_end.Goals.{else-columns-gt0-via-then-columns-gt0+else-taken-gt0}
-use Rattle.vt100_capture.proofs.rows.row_end.Goals.{}
 use Rattle.vt100_capture.proofs.rows.row_end.Goals.{else-columns-gt0-via-then-columns-gt0+then-taken-gt0+else-taken-columns}
 use Rattle.vt100_capture.proofs.rows.row_end.Goals.{else-columns-gt0-via-else-columns-gt0}
 

@@ -1,4 +1,4 @@
-use Rattle.std.proofs.Common.{◌≡◌, ◌+◌, ◌-◌, ℕ, Option, Some, arith, subst, sym}
+use Rattle.std.proofs.Common.{◌≡◌, ◌+◌, ◌-◌, ℕ, Some, arith, subst, sym}
 use Rattle.vte_types.specs.Lookup.{lookup}
 use Rattle.vte_types.specs.declared.attr.Attr.{Attr}
 use Rattle.vte.specs.Sgr.{singles}

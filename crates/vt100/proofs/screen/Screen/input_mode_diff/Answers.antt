@@ -1,6 +1,5 @@
-use Rattle.std.proofs.Common.{◌≡◌, ℕ, ◌≤◌, List, [], ◌++◌, length, ap, arith, refl}
+use Rattle.std.proofs.Common.{length, ap, arith, refl}
 use Rattle.std.specs.Prelude.{string_bytes}
-use Rattle.vt100_forms.specs.Form.{spell}
 use Rattle.screen_drawing.specs.Modes.{input_mode_diff}
 use Rattle.screen_drawing.proofs.Lengths.{modes_diff-length}
 use Rattle.screen_model.specs.Shown.{shown_state}

@@ -1,6 +1,5 @@
-use Rattle.std.proofs.Common.{◌≡◌, sym, ap, ◌∙◌, subst}
+use Rattle.std.proofs.Common.{sym, ap, ◌∙◌, subst}
 use Rattle.std.specs.Fmt.{WritesInCalls}
-use Rattle.vt100_rows.specs.Row.{RowView}
 use Rattle.vt100_rows.specs.Basic.{basic_text}
 use Rattle.vt100_capture.specs.Capture.{CaptureView}
 use Rattle.vt100_capture.proofs.CaptureLemmas.{captured-newline, captured-plain}

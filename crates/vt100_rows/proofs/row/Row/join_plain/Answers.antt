@@ -1,4 +1,4 @@
-use Rattle.std.proofs.Common.{ap, ◌∙◌, sym, ◌≤◌, length, arith}
+use Rattle.std.proofs.Common.{ap, ◌∙◌, ◌≤◌, length, arith}
 use Rattle.vt100_rows.specs.Row.{RowView, joined_plain}
 use Rattle.vt100_rows.proofs.RowLemmas.{IsRow-at}
 use Rattle.vt100_rows.proofs.JoinLemmas.{IsRow-joined_plain, joins-plain}

@@ -1,6 +1,5 @@
 -- Answers for screen::wrapped::WrappedScreen::text_run.
-use Rattle.std.proofs.Common.{◌≡◌, ◌∙◌, Err, rules}
-use Rattle.vt100_core.specs.Text.{printed_all}
+use Rattle.std.proofs.Common.{◌≡◌, Err, rules}
 use Rattle.screen_model.proofs.ProperSheets.{proper_printed_all}
 use Rattle.vt100.specs.declared.error.ScreenError.TheVariants.{Memory}
 use Rattle.vt100.proofs.ProperScreens.{drawn_screen}
