@@ -15,7 +15,7 @@ use Rattle.vt100_forms.specs.Length.{IsByteOption}
 use Rattle.terminal_model.specs.Apply.{apply}
 use Rattle.forms_read.specs.Events.{kept_number, sgr_events, events_of}
 use Rattle.screen_model.specs.State.{State}
-use Rattle.screen_model.specs.Sgr.{coloured, nothing, index, red, first_next, goes_on, Read, read_groups}
+use Rattle.screen_model.specs.Sgr.{colored, nothing, index, red, first_next, goes_on, Read, read_groups}
 use Rattle.screen_model.specs.Made.{played}
 use Rattle.agreement.specs.Plain.{terminal_of, size_shown, IsPlainState}
 use Rattle.agreement.specs.StateLaws.{Shows}
@@ -44,16 +44,16 @@ read-both ms ns f k h g gs a =
 -- ---- colours
 
 -- a number that sets a colour by itself
-abbrev SetsColour : Bool → ℕ → ℕ → Type 0
-SetsColour fore n i = (a : Attrs) → first_next (kept_number n ∷ []) a ≡ goes_on nothing (coloured fore (Idx i) a)
+abbrev SetsColor : Bool → ℕ → ℕ → Type 0
+SetsColor fore n i = (a : Attrs) → first_next (kept_number n ∷ []) a ≡ goes_on nothing (colored fore (Idx i) a)
 
-low : (fore : Bool) → Below (λ i. SetsColour fore (cond fore 30 40 + i) i) 8
+low : (fore : Bool) → Below (λ i. SetsColor fore (cond fore 30 40 + i) i) 8
 low true =
     (λ a. refl) & (λ a. refl) & (λ a. refl) & (λ a. refl) & (λ a. refl) & (λ a. refl) & (λ a. refl) & (λ a. refl) & tt
 low false =
     (λ a. refl) & (λ a. refl) & (λ a. refl) & (λ a. refl) & (λ a. refl) & (λ a. refl) & (λ a. refl) & (λ a. refl) & tt
 
-bright : (fore : Bool) → Below (λ j. SetsColour fore (cond fore 30 40 + 52 + (8 + j)) (8 + j)) 8
+bright : (fore : Bool) → Below (λ j. SetsColor fore (cond fore 30 40 + 52 + (8 + j)) (8 + j)) 8
 bright true =
     (λ a. refl) & (λ a. refl) & (λ a. refl) & (λ a. refl) & (λ a. refl) & (λ a. refl) & (λ a. refl) & (λ a. refl) & tt
 bright false =
@@ -65,18 +65,18 @@ above P i h l m =
     subst P e (each-below (λ j. P (8 + j)) 8 (i - 8) h (omega (arith, l, m)))
 
 index-read : (fore : Bool) (i : ℕ) (gs : List (List ℕ)) (a : Attrs) → i < 256
-    → read_groups ((kept_number i ∷ []) ∷ gs) (index fore) a ≡ read_groups gs nothing (coloured fore (Idx i) a)
+    → read_groups ((kept_number i ∷ []) ∷ gs) (index fore) a ≡ read_groups gs nothing (colored fore (Idx i) a)
 index-read fore i gs a h =
     let kept : kept_number i ≡ i = omega (arith, h) in
     ap (λ n. read_groups ((n ∷ []) ∷ gs) (index fore) a) kept ∙ rw (lt-ltb i 256 h) refl
 
-indexed-is : (fore : Bool) (i : ℕ) → i < 256 → IsReadBy ((cond fore 30 40 + 8) ∷ 5 ∷ i ∷ []) (coloured fore (Idx i))
+indexed-is : (fore : Bool) (i : ℕ) → i < 256 → IsReadBy ((cond fore 30 40 + 8) ∷ 5 ∷ i ∷ []) (colored fore (Idx i))
 indexed-is true i h gs a = index-read true i gs a h
 indexed-is false i h gs a = index-read false i gs a h
 
 values-read : (fore : Bool) (r g b : ℕ) (gs : List (List ℕ)) (a : Attrs) → r < 256 → g < 256 → b < 256
     → read_groups ((kept_number r ∷ []) ∷ (kept_number g ∷ []) ∷ (kept_number b ∷ []) ∷ gs) (red fore) a
-    ≡ read_groups gs nothing (coloured fore (Rgb r g b) a)
+    ≡ read_groups gs nothing (colored fore (Rgb r g b) a)
 values-read fore r g b gs a hr hg hb =
     let er : kept_number r ≡ r = omega (arith, hr) in
     let eg : kept_number g ≡ g = omega (arith, hg) in
@@ -85,7 +85,7 @@ values-read fore r g b gs a hr hg hb =
     ∙ rw (lt-ltb r 256 hr, lt-ltb g 256 hg, lt-ltb b 256 hb) refl
 
 spec-is : (fore : Bool) (r g b : ℕ) → r < 256 → g < 256 → b < 256
-    → IsReadBy ((cond fore 30 40 + 8) ∷ 2 ∷ r ∷ g ∷ b ∷ []) (coloured fore (Rgb r g b))
+    → IsReadBy ((cond fore 30 40 + 8) ∷ 2 ∷ r ∷ g ∷ b ∷ []) (colored fore (Rgb r g b))
 spec-is true r g b hr hg hb gs a = values-read true r g b gs a hr hg hb
 spec-is false r g b hr hg hb gs a = values-read false r g b gs a hr hg hb
 
@@ -94,28 +94,28 @@ one-is : (n : ℕ) (f : Attrs → Attrs) → ((a : Attrs) → first_next (kept_n
     → IsReadBy (n ∷ []) f
 one-is n f h gs a = rw (h a) refl
 
-colour-is : (t : Bool) (c : Color) → IsByteColor c → IsReadBy (color_numbers (cond t 30 40) c) (coloured t c)
-colour-is true Default h = λ gs a. refl
-colour-is false Default h = λ gs a. refl
-colour-is t (Idx i) h =
-    cond_both (nat_lt i 8) _ _ (λ ns. IsReadBy ns (coloured t (Idx i)))
-    (λ e. one-is (cond t 30 40 + i) (coloured t (Idx i))
-    (each-below (λ j. SetsColour t (cond t 30 40 + j) j) 8 i (low t) (ltb-true i 8 e)))
-    (λ e. cond_both (nat_lt i 16) _ _ (λ ns. IsReadBy ns (coloured t (Idx i)))
-    (λ q. one-is (cond t 30 40 + 52 + i) (coloured t (Idx i))
-    (above (λ j. SetsColour t (cond t 30 40 + 52 + j) j) i (bright t) (ltb-false i 8 e) (ltb-true i 16 q)))
+color-is : (t : Bool) (c : Color) → IsByteColor c → IsReadBy (color_numbers (cond t 30 40) c) (colored t c)
+color-is true Default h = λ gs a. refl
+color-is false Default h = λ gs a. refl
+color-is t (Idx i) h =
+    cond_both (nat_lt i 8) _ _ (λ ns. IsReadBy ns (colored t (Idx i)))
+    (λ e. one-is (cond t 30 40 + i) (colored t (Idx i))
+    (each-below (λ j. SetsColor t (cond t 30 40 + j) j) 8 i (low t) (ltb-true i 8 e)))
+    (λ e. cond_both (nat_lt i 16) _ _ (λ ns. IsReadBy ns (colored t (Idx i)))
+    (λ q. one-is (cond t 30 40 + 52 + i) (colored t (Idx i))
+    (above (λ j. SetsColor t (cond t 30 40 + 52 + j) j) i (bright t) (ltb-false i 8 e) (ltb-true i 16 q)))
     (λ _. indexed-is t i h))
-colour-is t (Rgb r g b) h = spec-is t r g b h.0 h.1 h.2
+color-is t (Rgb r g b) h = spec-is t r g b h.0 h.1 h.2
 
 fore-is : (o : Option Color) → IsByteOption o
     → IsReadBy (color_part 30 o) (λ a. record a { fgcolor = unwrap_or o a.fgcolor })
 fore-is None h = λ gs a. refl
-fore-is (Some c) h = colour-is true c h
+fore-is (Some c) h = color-is true c h
 
 back-is : (o : Option Color) → IsByteOption o
     → IsReadBy (color_part 40 o) (λ a. record a { bgcolor = unwrap_or o a.bgcolor })
 back-is None h = λ gs a. refl
-back-is (Some c) h = colour-is false c h
+back-is (Some c) h = color-is false c h
 
 -- ---- flags
 

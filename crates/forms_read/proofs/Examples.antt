@@ -15,5 +15,5 @@ examples-hold = record {
   saved = refl;
   modes = refl;
   styled = refl;
-  coloured = refl;
+  colored = refl;
 }

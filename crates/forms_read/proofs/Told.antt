@@ -12,7 +12,7 @@ use Rattle.vte_types.specs.declared.color.NamedColor.TheVariants as n
 use Rattle.std.specs.Option.{option_map, option_to_list}
 use Rattle.vte.specs.declared.sgr.Target.{Target}
 use Rattle.vte.specs.declared.sgr.Target.TheVariants.{Foreground, Background}
-use Rattle.vte.specs.Sgr.{target_of, group_attr, coloured, rgb_colour, attributes, nothing, index, red, green, blue}
+use Rattle.vte.specs.Sgr.{target_of, group_attr, colored, rgb_color, attributes, nothing, index, red, green, blue}
 use Rattle.vt100_forms.specs.declared.attrs.Color.{Color}
 use Rattle.vt100_forms.specs.declared.attrs.Color.TheVariants.{Default, Idx, Rgb}
 use Rattle.vt100_forms.specs.declared.term.Intensity.{Intensity}
@@ -21,7 +21,7 @@ use Rattle.vt100_forms.specs.Form.{Change, color_numbers, color_part, intensity_
 use Rattle.vt100_forms.specs.Attrs.{IsByteColor}
 use Rattle.vt100_forms.specs.Length.{IsByteOption}
 use Rattle.forms_read.specs.Events.{kept_number}
-use Rattle.forms_read.specs.Calls.{name_of, colour_told, foreground_told, background_told, intensity_told, flag_told}
+use Rattle.forms_read.specs.Calls.{name_of, color_told, foreground_told, background_told, intensity_told, flag_told}
 use Rattle.forms_read.specs.Calls.{change_told}
 use Rattle.forms_read.proofs.ReadForms.{cond-two}
 
@@ -110,7 +110,7 @@ above P i h l m =
 -- ---- other colours
 
 index-told : (t : Target) (i : ℕ) (gs : List (List ℕ)) → i < 256
-    → attributes (index t) ((kept_number i ∷ []) ∷ gs) ≡ coloured t (Indexed i) ∷ attributes nothing gs
+    → attributes (index t) ((kept_number i ∷ []) ∷ gs) ≡ colored t (Indexed i) ∷ attributes nothing gs
 index-told t i gs h =
     let kept : kept_number i ≡ i = omega (arith, h) in
     ap (λ k. attributes (index t) ((k ∷ []) ∷ gs)) kept ∙ rw (lt-ltb i 256 h) refl
@@ -120,13 +120,13 @@ indexed-told : (fore : Bool) (i : ℕ) → i < 256
 indexed-told true i h gs = index-told Foreground i gs h
 indexed-told false i h gs = index-told Background i gs h
 
-rgb-is : (r g b : ℕ) → r < 256 → g < 256 → b < 256 → rgb_colour r g b ≡ Some (Spec (record { r = r; g = g; b = b }))
+rgb-is : (r g b : ℕ) → r < 256 → g < 256 → b < 256 → rgb_color r g b ≡ Some (Spec (record { r = r; g = g; b = b }))
 rgb-is r g b hr hg hb = rw (lt-ltb r 256 hr, lt-ltb g 256 hg, lt-ltb b 256 hb) refl
 
 -- three values, after 38 or 48 and 2
 values-told : (t : Target) (r g b : ℕ) (gs : List (List ℕ)) → r < 256 → g < 256 → b < 256
     → attributes (red t) ((kept_number r ∷ []) ∷ (kept_number g ∷ []) ∷ (kept_number b ∷ []) ∷ gs)
-    ≡ coloured t (Spec (record { r = r; g = g; b = b })) ∷ attributes nothing gs
+    ≡ colored t (Spec (record { r = r; g = g; b = b })) ∷ attributes nothing gs
 values-told t r g b gs hr hg hb =
     let er : kept_number r ≡ r = omega (arith, hr) in
     let eg : kept_number g ≡ g = omega (arith, hg) in
@@ -134,7 +134,7 @@ values-told t r g b gs hr hg hb =
     (λ i. attributes (red t) ((er i ∷ []) ∷ (eg i ∷ []) ∷ (eb i ∷ []) ∷ gs))
     ∙ ap (λ c. attributes (cond c (green t r) nothing) ((g ∷ []) ∷ (b ∷ []) ∷ gs)) (lt-ltb r 256 hr)
     ∙ ap (λ c. attributes (cond c (blue t r g) nothing) ((b ∷ []) ∷ gs)) (lt-ltb g 256 hg)
-    ∙ ap (λ o. option_to_list (option_map (coloured t) o) ++ attributes nothing gs) (rgb-is r g b hr hg hb)
+    ∙ ap (λ o. option_to_list (option_map (colored t) o) ++ attributes nothing gs) (rgb-is r g b hr hg hb)
 
 spec-told : (fore : Bool) (r g b : ℕ) → r < 256 → g < 256 → b < 256
     → IsToldBy ((first fore + 8) ∷ 2 ∷ r ∷ g ∷ b ∷ []) (asked fore (Spec (record { r = r; g = g; b = b })) ∷ [])
@@ -144,16 +144,16 @@ spec-told false r g b hr hg hb gs = values-told Background r g b gs hr hg hb
 -- ---- the parts of a change
 
 default-told : (fore : Bool)
-    → IsToldBy (color_numbers (first fore) Default) (asked fore (colour_told (own fore) Default) ∷ [])
+    → IsToldBy (color_numbers (first fore) Default) (asked fore (color_told (own fore) Default) ∷ [])
 default-told true gs = refl
 default-told false gs = refl
 
-colour-told : (fore : Bool) (x : Color) → IsByteColor x
-    → IsToldBy (color_numbers (first fore) x) (asked fore (colour_told (own fore) x) ∷ [])
-colour-told fore Default h = default-told fore
-colour-told fore (Idx i) h =
+color-told : (fore : Bool) (x : Color) → IsByteColor x
+    → IsToldBy (color_numbers (first fore) x) (asked fore (color_told (own fore) x) ∷ [])
+color-told fore Default h = default-told fore
+color-told fore (Idx i) h =
     cond_both (nat_lt i 8) ((first fore + i) ∷ []) _
-    (λ ns. IsToldBy ns (asked fore (colour_told (own fore) (Idx i)) ∷ []))
+    (λ ns. IsToldBy ns (asked fore (color_told (own fore) (Idx i)) ∷ []))
     (λ e. let small = ltb-true i 8 e in
     subst (λ b. IsToldBy ((first fore + i) ∷ []) (asked fore (cond b (Named (name_of i)) (Indexed i)) ∷ []))
     (sym (lt-ltb i 16 (omega (arith, small))))
@@ -163,15 +163,15 @@ colour-told fore (Idx i) h =
     (λ q. single-told (first fore + 52 + i) (named fore i)
     (above (λ j. IsSingle (first fore + 52 + j) (named fore j)) i (bright fore) (ltb-false i 8 e) (ltb-true i 16 q)))
     (λ _. indexed-told fore i h))
-colour-told fore (Rgb r g b) h = spec-told fore r g b h.0 h.1 h.2
+color-told fore (Rgb r g b) h = spec-told fore r g b h.0 h.1 h.2
 
 fore-part : (o : Option Color) → IsByteOption o → IsToldBy (color_part 30 o) (foreground_told o)
 fore-part None h = λ gs. refl
-fore-part (Some x) h = colour-told true x h
+fore-part (Some x) h = color-told true x h
 
 back-part : (o : Option Color) → IsByteOption o → IsToldBy (color_part 40 o) (background_told o)
 back-part None h = λ gs. refl
-back-part (Some x) h = colour-told false x h
+back-part (Some x) h = color-told false x h
 
 told-intensity : (o : Option Intensity) → IsToldBy (intensity_part o) (intensity_told o)
 told-intensity None gs = refl

@@ -42,18 +42,18 @@ abbrev pub name_of : ℕ → NamedColor
 name_of i = unwrap_or (lookup i named_rows) n.Foreground
 
 -- a colour, where `own` is the terminal's own one
-abbrev pub colour_told : NamedColor → Color → Told
-colour_told own Default = Named own
-colour_told own (Idx i) = if nat_lt i 16 then Named (name_of i) else Indexed i
-colour_told own (Rgb r g b) = Spec (record { r = r; g = g; b = b })
+abbrev pub color_told : NamedColor → Color → Told
+color_told own Default = Named own
+color_told own (Idx i) = if nat_lt i 16 then Named (name_of i) else Indexed i
+color_told own (Rgb r g b) = Spec (record { r = r; g = g; b = b })
 
 abbrev pub foreground_told : Option Color → List Attr
 foreground_told None = []
-foreground_told (Some x) = a.Foreground (colour_told n.Foreground x) ∷ []
+foreground_told (Some x) = a.Foreground (color_told n.Foreground x) ∷ []
 
 abbrev pub background_told : Option Color → List Attr
 background_told None = []
-background_told (Some x) = a.Background (colour_told n.Background x) ∷ []
+background_told (Some x) = a.Background (color_told n.Background x) ∷ []
 
 abbrev pub intensity_told : Option Intensity → List Attr
 intensity_told None = []

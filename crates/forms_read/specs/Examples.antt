@@ -14,8 +14,8 @@ abbrev pub told : List Form → List Event
 told fs = events 1024 (spell fs)
 
 -- a red background and a foreground of three values
-abbrev pub colours : Form
-colours = Sgr (record no_change { fgcolor = Some (Rgb 1 20 255); bgcolor = Some (Idx 1) })
+abbrev pub colors : Form
+colors = Sgr (record no_change { fgcolor = Some (Rgb 1 20 255); bgcolor = Some (Idx 1) })
 
 pub record EachExampleHolds : Type 0 where
   pub moved : told (MoveTo 1 9 ∷ MoveTo 0 0 ∷ []) ≡ Csi ((2 ∷ []) ∷ (10 ∷ []) ∷ []) [] false 72
@@ -33,5 +33,5 @@ pub record EachExampleHolds : Type 0 where
       ≡ Csi ((25 ∷ []) ∷ []) (63 ∷ []) false 108 ∷ Csi ((1002 ∷ []) ∷ []) (63 ∷ []) false 104
       ∷ Csi ((9 ∷ []) ∷ []) (63 ∷ []) false 108 ∷ []
   pub styled : told (Style style.SteadyVerticalBar style.Default ∷ []) ≡ Csi ((6 ∷ []) ∷ []) (32 ∷ []) false 113 ∷ []
-  pub coloured : told (colours ∷ []) ≡ Csi ((38 ∷ []) ∷ (2 ∷ []) ∷ (1 ∷ []) ∷ (20 ∷ []) ∷ (255 ∷ []) ∷ (41 ∷ []) ∷ [])
+  pub colored : told (colors ∷ []) ≡ Csi ((38 ∷ []) ∷ (2 ∷ []) ∷ (1 ∷ []) ∷ (20 ∷ []) ∷ (255 ∷ []) ∷ (41 ∷ []) ∷ [])
       [] false 109 ∷ []

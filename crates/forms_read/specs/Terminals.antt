@@ -24,7 +24,7 @@ use Rattle.vt100_forms.specs.Form.{Form, ClearScreen, mouse_number, encoding_num
 use Rattle.terminal_model.specs.Term.{Size, Term, IsTerm}
 use Rattle.terminal_model.specs.Apply.{erase, input, down, switched, apply, run}
 use Rattle.terminal_model.specs.FormText.{IsSentForm}
-use Rattle.forms_read.specs.Calls.{colour_told, style_told, set_call, reset_call, form_calls, form_calls_all}
+use Rattle.forms_read.specs.Calls.{color_told, style_told, set_call, reset_call, form_calls, form_calls_all}
 
 -- one call after the other
 abbrev pub stepped : (Size → Call → Term → Term) → Size → List Call → Term → Term
@@ -44,9 +44,9 @@ pub record ReadsAttributes (attribute : Attr → Attrs → Attrs) : Type 0 where
   pub inverse : (x : Attrs) → attribute a.Reverse x ≡ with_inverse true x
   pub positive : (x : Attrs) → attribute a.CancelReverse x ≡ with_inverse false x
   pub foreground : (c : Color) (x : Attrs) → IsByteColor c
-      → attribute (a.Foreground (colour_told n.Foreground c)) x ≡ record x { fgcolor = c }
+      → attribute (a.Foreground (color_told n.Foreground c)) x ≡ record x { fgcolor = c }
   pub background : (c : Color) (x : Attrs) → IsByteColor c
-      → attribute (a.Background (colour_told n.Background c)) x ≡ record x { bgcolor = c }
+      → attribute (a.Background (color_told n.Background c)) x ≡ record x { bgcolor = c }
 
 -- what each call that forms make does to a terminal of this size
 pub record ReadsCalls (step : Size → Call → Term → Term) (attribute : Attr → Attrs → Attrs) (z : Size) : Type 0 where

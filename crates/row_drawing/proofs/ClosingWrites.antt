@@ -6,7 +6,7 @@ use Rattle.vt100_forms.specs.declared.attrs.Attrs.{Attrs}
 use Rattle.vt100_forms.specs.Form.{spell}
 use Rattle.vt100_cells.specs.Cell.{CellView, has_text}
 use Rattle.row_drawing.specs.declared.pen.Pen.{Pen}
-use Rattle.row_drawing.specs.Writer.{Drawn, Writer, ◌>>◌, skip, goto, colour, print, erasing}
+use Rattle.row_drawing.specs.Writer.{Drawn, Writer, ◌>>◌, skip, goto, color, print, erasing}
 use Rattle.row_drawing.specs.RowWriter.{Job, last_col_of, unflag, print_last, mend, owes_end, closing}
 use Rattle.row_drawing.specs.Writes.{IsBegun, Wrote}
 use Rattle.row_drawing.proofs.WritesLemmas.{wrote_then, begun_first, begun_then, wrote_as, begun_as, wrote_skip}
@@ -24,27 +24,27 @@ pub begun_unflag_full : (x : CellView) (p : Pen) (s t : List ℕ) → has_text x
 begun_unflag_full x p s t h b = begun_as (erasing 1 true) (unflag x) p s t (unflag-full x p h) b
 
 empty_as : (x : CellView) (p : Pen) (a : Attrs) → has_text x ≡ false → a ≡ x.attrs
-    → unflag x p ≡ (colour a >> erasing 1 true) p
-empty_as x p a h e = unflag-empty x p h ∙ ap (λ b. (colour b >> erasing 1 true) p) (sym e)
+    → unflag x p ≡ (color a >> erasing 1 true) p
+empty_as x p a h e = unflag-empty x p h ∙ ap (λ b. (color b >> erasing 1 true) p) (sym e)
 
 pub wrote_unflag_empty : (x : CellView) (p : Pen) (s : List ℕ) (a : Attrs) (q : Pen) (t : List ℕ) (r : Pen)
-    (u : List ℕ) → has_text x ≡ false → a ≡ x.attrs → Wrote (colour a) p s q t → Wrote (erasing 1 true) q t r u
+    (u : List ℕ) → has_text x ≡ false → a ≡ x.attrs → Wrote (color a) p s q t → Wrote (erasing 1 true) q t r u
     → Wrote (unflag x) p s r u
 wrote_unflag_empty x p s a q t r u h e v w =
-    wrote_as (colour a >> erasing 1 true) (unflag x) p s r u (empty_as x p a h e) (wrote_then _ _ _ _ _ _ _ _ v w)
+    wrote_as (color a >> erasing 1 true) (unflag x) p s r u (empty_as x p a h e) (wrote_then _ _ _ _ _ _ _ _ v w)
 
-pub begun_unflag_colour : (x : CellView) (p : Pen) (s : List ℕ) (a : Attrs) (t : List ℕ) → has_text x ≡ false
-    → a ≡ x.attrs → IsBegun s (spell (colour a p).forms) t → IsBegun s (spell (unflag x p).forms) t
-begun_unflag_colour x p s a t h e b =
-    begun_as (colour a >> erasing 1 true) (unflag x) p s t (empty_as x p a h e)
-    (begun_first (colour a) (erasing 1 true) p s t b)
+pub begun_unflag_color : (x : CellView) (p : Pen) (s : List ℕ) (a : Attrs) (t : List ℕ) → has_text x ≡ false
+    → a ≡ x.attrs → IsBegun s (spell (color a p).forms) t → IsBegun s (spell (unflag x p).forms) t
+begun_unflag_color x p s a t h e b =
+    begun_as (color a >> erasing 1 true) (unflag x) p s t (empty_as x p a h e)
+    (begun_first (color a) (erasing 1 true) p s t b)
 
 pub begun_unflag_erase : (x : CellView) (p : Pen) (s : List ℕ) (a : Attrs) (q : Pen) (t u : List ℕ)
-    → has_text x ≡ false → a ≡ x.attrs → Wrote (colour a) p s q t → IsBegun t (spell (erasing 1 true q).forms) u
+    → has_text x ≡ false → a ≡ x.attrs → Wrote (color a) p s q t → IsBegun t (spell (erasing 1 true q).forms) u
     → IsBegun s (spell (unflag x p).forms) u
 begun_unflag_erase x p s a q t u h e v b =
-    begun_as (colour a >> erasing 1 true) (unflag x) p s u (empty_as x p a h e)
-    (begun_then (colour a) (erasing 1 true) p s q t u v b)
+    begun_as (color a >> erasing 1 true) (unflag x) p s u (empty_as x p a h e)
+    (begun_then (color a) (erasing 1 true) p s q t u v b)
 
 -- ---- it is printed
 
@@ -52,41 +52,41 @@ pub wrote_last_none : (x : CellView) (p : Pen) (s : List ℕ) → has_text x ≡
 wrote_last_none x p s h = wrote_as skip (print_last x) p s p s (print-last_none x p h) (wrote_skip p s)
 
 last_as : (x : CellView) (p : Pen) (a : Attrs) → has_text x ≡ true → a ≡ x.attrs
-    → print_last x p ≡ (colour a >> print x false) p
-last_as x p a h e = print-last_is x p h ∙ ap (λ b. (colour b >> print x false) p) (sym e)
+    → print_last x p ≡ (color a >> print x false) p
+last_as x p a h e = print-last_is x p h ∙ ap (λ b. (color b >> print x false) p) (sym e)
 
 pub wrote_last : (x : CellView) (p : Pen) (s : List ℕ) (a : Attrs) (q : Pen) (t : List ℕ) (r : Pen) (u : List ℕ)
-    → has_text x ≡ true → a ≡ x.attrs → Wrote (colour a) p s q t → Wrote (print x false) q t r u
+    → has_text x ≡ true → a ≡ x.attrs → Wrote (color a) p s q t → Wrote (print x false) q t r u
     → Wrote (print_last x) p s r u
 wrote_last x p s a q t r u h e v w =
-    wrote_as (colour a >> print x false) (print_last x) p s r u (last_as x p a h e) (wrote_then _ _ _ _ _ _ _ _ v w)
+    wrote_as (color a >> print x false) (print_last x) p s r u (last_as x p a h e) (wrote_then _ _ _ _ _ _ _ _ v w)
 
-pub begun_last_colour : (x : CellView) (p : Pen) (s : List ℕ) (a : Attrs) (t : List ℕ) → has_text x ≡ true
-    → a ≡ x.attrs → IsBegun s (spell (colour a p).forms) t → IsBegun s (spell (print_last x p).forms) t
-begun_last_colour x p s a t h e b =
-    begun_as (colour a >> print x false) (print_last x) p s t (last_as x p a h e)
-    (begun_first (colour a) (print x false) p s t b)
+pub begun_last_color : (x : CellView) (p : Pen) (s : List ℕ) (a : Attrs) (t : List ℕ) → has_text x ≡ true
+    → a ≡ x.attrs → IsBegun s (spell (color a p).forms) t → IsBegun s (spell (print_last x p).forms) t
+begun_last_color x p s a t h e b =
+    begun_as (color a >> print x false) (print_last x) p s t (last_as x p a h e)
+    (begun_first (color a) (print x false) p s t b)
 
 pub begun_last_print : (x : CellView) (p : Pen) (s : List ℕ) (a : Attrs) (q : Pen) (t u : List ℕ)
-    → has_text x ≡ true → a ≡ x.attrs → Wrote (colour a) p s q t → IsBegun t (spell (print x false q).forms) u
+    → has_text x ≡ true → a ≡ x.attrs → Wrote (color a) p s q t → IsBegun t (spell (print x false q).forms) u
     → IsBegun s (spell (print_last x p).forms) u
 begun_last_print x p s a q t u h e v b =
-    begun_as (colour a >> print x false) (print_last x) p s u (last_as x p a h e)
-    (begun_then (colour a) (print x false) p s q t u v b)
+    begun_as (color a >> print x false) (print_last x) p s u (last_as x p a h e)
+    (begun_then (color a) (print x false) p s q t u v b)
 
 -- ---- where the cursor stands
 
-colour-col : (a : Attrs) (p : Pen) → (colour a p).pen.pos.col ≡ p.pos.col
-unfolding colour
-colour-col a p = refl
+color-col : (a : Attrs) (p : Pen) → (color a p).pen.pos.col ≡ p.pos.col
+unfolding color
+color-col a p = refl
 
 erasing-col : (n : ℕ) (b : Bool) (p : Pen) → (erasing n b p).pen.pos.col ≡ p.pos.col
 unfolding erasing
 erasing-col n b p = refl
 
-both-col : (a : Attrs) (p : Pen) → ((colour a >> erasing 1 true) p).pen.pos.col ≡ p.pos.col
+both-col : (a : Attrs) (p : Pen) → ((color a >> erasing 1 true) p).pen.pos.col ≡ p.pos.col
 unfolding ◌>>◌
-both-col a p = erasing-col 1 true (colour a p).pen ∙ colour-col a p
+both-col a p = erasing-col 1 true (color a p).pen ∙ color-col a p
 
 goto-col : (row col : ℕ) (p : Pen) → (goto row col p).pen.pos.col ≡ col
 unfolding goto
@@ -96,10 +96,10 @@ col_of : (f : Writer) (p : Pen) (s : List ℕ) (q : Pen) (t : List ℕ) (n : ℕ
     → q.pos.col ≡ n
 col_of f p s q t n h w = ap (λ (x : Pen). x.pos.col) (sym w.pen_is) ∙ h
 
-pub coloured_fits : (a : Attrs) (p : Pen) (s : List ℕ) (q : Pen) (t : List ℕ) (k : ℕ) → Wrote (colour a) p s q t
+pub colored_fits : (a : Attrs) (p : Pen) (s : List ℕ) (q : Pen) (t : List ℕ) (k : ℕ) → Wrote (color a) p s q t
     → p.pos.col + k < 65536 → q.pos.col + k < 65536
-coloured_fits a p s q t k w l =
-    let same = col_of (colour a) p s q t p.pos.col (colour-col a p) w in omega (arith, same, l)
+colored_fits a p s q t k w l =
+    let same = col_of (color a) p s q t p.pos.col (color-col a p) w in omega (arith, same, l)
 
 unflag-col : (x : CellView) (p : Pen) → (unflag x p).pen.pos.col ≡ p.pos.col
 unflag-col x p =

@@ -16,7 +16,7 @@ use Rattle.terminal_model.specs.Term.{Term}
 use Rattle.terminal_model.specs.Apply.{run}
 use Rattle.row_drawing.specs.declared.pen.Erase.{Erase}
 use Rattle.row_drawing.specs.declared.pen.Pen.{Pen}
-use Rattle.row_drawing.specs.Writer.{Drawn, Writer, ◌>>◌, skip, goto, turn, colour, print, space, back, erasing}
+use Rattle.row_drawing.specs.Writer.{Drawn, Writer, ◌>>◌, skip, goto, turn, color, print, space, back, erasing}
 use Rattle.row_drawing.specs.Writer.{clearing, marking}
 use Rattle.row_drawing.specs.RowWriter.{Job, is_same, wraps, to_erase, is_end, flush_of, flush}
 use Rattle.row_drawing.specs.RowWriter.{arrive, mark_of, mark, draw, column, columns}
@@ -24,7 +24,7 @@ use Rattle.row_drawing.specs.Scene.{Scene, IsScene, scene_size, with_row, flags_
 use Rattle.row_drawing.proofs.Lines.{Line, line-narrow, line-wide, line-erased, line-spaced, spaced-half}
 use Rattle.row_drawing.proofs.Lines.{line-same, line-same_wide}
 use Rattle.row_drawing.proofs.Steps.{Takes, takes-then, takes-as, takes-to, takes-skip, pen, takes-goto}
-use Rattle.row_drawing.proofs.Steps.{takes-colour, takes-turn, takes-marking, takes-back, Flags, kept_or_off}
+use Rattle.row_drawing.proofs.Steps.{takes-color, takes-turn, takes-marking, takes-back, Flags, kept_or_off}
 use Rattle.row_drawing.proofs.Steps.{flags-step}
 use Rattle.row_drawing.proofs.Steps.{IsSendable, takes-space_below, takes-erasing, takes-clearing}
 use Rattle.row_drawing.proofs.RowLeads.{past, edge, Opens, Standing, At, After, after-takes, after-then}
@@ -86,12 +86,12 @@ pub record Arrives (s : Scene) (e : Erase) (p : Pen) (t : Term) : Type 0 where
   pub written : (k : ℕ) → k < e.from → line k ≡ s.job.new k
 
 pub erase-turn : (j : Job) (e : Erase) (p : Pen) → (wraps j 1 p && (e.from == 0)) ≡ true
-    → to_erase j e p ≡ (turn j.row >> space >> back >> colour e.attrs) p
+    → to_erase j e p ≡ (turn j.row >> space >> back >> color e.attrs) p
 unfolding to_erase
 erase-turn j e p h = rw h refl
 
 pub erase-goto : (j : Job) (e : Erase) (p : Pen) → (wraps j 1 p && (e.from == 0)) ≡ false
-    → to_erase j e p ≡ (goto j.row e.from >> colour e.attrs) p
+    → to_erase j e p ≡ (goto j.row e.from >> color e.attrs) p
 unfolding to_erase
 erase-goto j e p h = rw h refl
 
@@ -108,10 +108,10 @@ arrives s F f r k a e lost h ha he inside l standing =
         line = f;
         flags = F;
         kept = not-due s F p e.from 1 (omega arith) stays standing;
-        takes = takes-as z (goto j.row e.from >> colour e.attrs) (to_erase j e) p t _ _ (erase-goto j e p stays)
+        takes = takes-as z (goto j.row e.from >> color e.attrs) (to_erase j e) p t _ _ (erase-goto j e p stays)
             (takes-then z _ _ _ _ _ _ _ _
             (takes-goto z s.term (update s.cells j.row f) F r k a (Some e) lost j.row e.from h.row_in inside)
-            (takes-colour z s.term (update s.cells j.row f) F j.row e.from a j.row e.from (Some e) lost e.attrs ha he));
+            (takes-color z s.term (update s.cells j.row f) F j.row e.from a j.row e.from (Some e) lost e.attrs ha he));
         lines = λ m some blank. line-erased j.old j.new e.from m e.attrs f h.old.paired h.new.paired l some blank;
         half = λ m some q. ap (λ (x : CellView). x.continuation) (sym (l.rest m some)) ∙ q;
         written = l.written;
@@ -134,7 +134,7 @@ arrives s F f r k a e lost h ha he inside l standing =
           (takes-then z _ _ _ _ _ _ _ _
           (takes-then z _ _ _ _ _ _ _ _ (takes-turn z p t j.row) prints)
           (takes-back z s.term (update s.cells j.row g) G j.row 1 a (Some e) lost))
-          (takes-colour z s.term (update s.cells j.row g) G j.row 0 a j.row 0 (Some e) lost e.attrs ha he) in
+          (takes-color z s.term (update s.cells j.row g) G j.row 0 a j.row 0 (Some e) lost e.attrs ha he) in
           record {
             line = g;
             flags = G;
@@ -232,7 +232,7 @@ unfolding draw
 draw-is_same j n p h = rw h refl
 
 pub draw-full : (j : Job) (n : ℕ) (p : Pen) → is_same j n ≡ false → has_text (j.new n) ≡ true
-    → draw j n p ≡ (arrive j n (span_of (j.new n)) >> colour (j.new n).attrs
+    → draw j n p ≡ (arrive j n (span_of (j.new n)) >> color (j.new n).attrs
     >> print (j.new n) (put_unflags j.cols j.old n (j.new n))) p
 unfolding draw
 draw-full j n p h g = rw (h, g) refl

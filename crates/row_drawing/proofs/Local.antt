@@ -15,13 +15,13 @@ use Rattle.terminal_model.specs.Term.{Size, Term}
 use Rattle.terminal_model.specs.Apply.{run}
 use Rattle.terminal_model.specs.Touch.{put_touches, wipe_touches, Within}
 use Rattle.row_drawing.specs.declared.pen.Pen.{Pen}
-use Rattle.row_drawing.specs.Writer.{Drawn, Writer, ◌>>◌, skip, goto, turn, colour, print, space, back, erasing}
+use Rattle.row_drawing.specs.Writer.{Drawn, Writer, ◌>>◌, skip, goto, turn, color, print, space, back, erasing}
 use Rattle.row_drawing.specs.RowWriter.{Job, is_same, wraps, owes_flag, reprint, opening, columns, finish, last_col_of}
 use Rattle.row_drawing.specs.RowWriter.{last_cell_of, unflag, print_last, mend, owes_end, closing, row_redraw}
 use Rattle.row_drawing.specs.RowWriter.{row_difference}
 use Rattle.row_drawing.specs.Scene.{Scene, IsScene, IsReady, scene_size, with_row}
 use Rattle.row_drawing.proofs.Lines.{line-begun, spaced-half}
-use Rattle.row_drawing.proofs.Steps.{Takes, takes-then, takes-as, pen, takes-goto, takes-colour}
+use Rattle.row_drawing.proofs.Steps.{Takes, takes-then, takes-as, pen, takes-goto, takes-color}
 use Rattle.row_drawing.proofs.Steps.{takes-turn}
 use Rattle.row_drawing.proofs.Steps.{takes-back, takes-erasing, takes-space_below, kept_or_off}
 use Rattle.row_drawing.proofs.RowLeads.{At, wraps-now}
@@ -30,7 +30,7 @@ use Rattle.row_drawing.proofs.RowEnd.{IsFilled, last-is, span-few, print-last_is
 use Rattle.row_drawing.proofs.RowEnd.{unflag-empty, mend-wraps, mend-ends, closing-none, closing-some}
 use Rattle.row_drawing.proofs.RowStart.{first-whole, opening-none, opening-some, reprint-wide, reprint-narrow}
 use Rattle.row_drawing.proofs.RowStart.{reprint-empty, opening-leads, redraw-filled}
-use Rattle.row_drawing.proofs.Touches.{Stays, stays-then, stays-as, stays-skip, stays-turn, stays-goto, stays-colour}
+use Rattle.row_drawing.proofs.Touches.{Stays, stays-then, stays-as, stays-skip, stays-turn, stays-goto, stays-color}
 use Rattle.row_drawing.proofs.Touches.{stays-back, stays-print, stays-print_below, stays-space_below, stays-erasing}
 use Rattle.row_drawing.proofs.LocalRow.{IsRoom, or-four, or-split, put-room, wipe-room}
 use Rattle.row_drawing.proofs.LocalColumns.{IsMarked, space-room, columns-within, columns-marked, finish-within}
@@ -139,19 +139,19 @@ opening-at_within s C S r k a lost h ha o first =
           and_from (wraps j (span_of x) p) (0 == 0) (ap (λ i. wraps j (span_of (j.new i)) p) (sym h.whole)
           ∙ both.1) refl in
           let now = wraps-now s (span_of x) p 0 turns in
-          let is : opening j p ≡ (turn j.row >> colour x.attrs >> reprint j x) p =
-          opening-some j p owed ∙ ap (λ i. (turn j.row >> colour (j.new i).attrs >> reprint j (j.new i)) p) h.whole in
+          let is : opening j p ≡ (turn j.row >> color x.attrs >> reprint j x) p =
+          opening-some j p owed ∙ ap (λ i. (turn j.row >> color (j.new i).attrs >> reprint j (j.new i)) p) h.whole in
           let once : Stays S z (reprint j x) (pen j.row 0 x.attrs None lost) (with_row s j.old s.flags r k x.attrs) =
           (elim (cases_Bool (has_text x)) [
             | inl some ↦ reprint-text_within s C S r k lost h o here same some now.above now.row now.over
             | inr none ↦ reprint-empty_within s C S r k lost h o here none now.above now.row now.over
           ]) in
-          stays-as S z (turn j.row >> colour x.attrs >> reprint j x) (opening j) p t is
-          (stays-then S z (turn j.row >> colour x.attrs) (reprint j x) p t _ _
-          (takes-then z (turn j.row) (colour x.attrs) p t _ _ _ _ (takes-turn z p t j.row)
-          (takes-colour z s.term (update s.cells j.row j.old) s.flags r k a j.row 0 None lost x.attrs ha (h.proper 0)))
-          (stays-idle S z (turn j.row) (colour x.attrs) p t (stays-turn S z j.row p t)
-          (λ q u. stays-colour S z x.attrs q u)) once))
+          stays-as S z (turn j.row >> color x.attrs >> reprint j x) (opening j) p t is
+          (stays-then S z (turn j.row >> color x.attrs) (reprint j x) p t _ _
+          (takes-then z (turn j.row) (color x.attrs) p t _ _ _ _ (takes-turn z p t j.row)
+          (takes-color z s.term (update s.cells j.row j.old) s.flags r k a j.row 0 None lost x.attrs ha (h.proper 0)))
+          (stays-idle S z (turn j.row) (color x.attrs) p t (stays-turn S z j.row p t)
+          (λ q u. stays-color S z x.attrs q u)) once))
     ]
 
 opening-within : (s : Scene) (C : ℕ → Type 0) (S : ℕ → ℕ → Type 0) (p : Pen) → IsScene s → IsReady s p → IsRoom s C S
@@ -175,10 +175,10 @@ reprint-marked j x p none =
     (λ _. clear)) (λ _. tt)
 
 pub opening-marked : (j : Job) (p : Pen) → p.erase ≡ None → IsMarked j (opening j p).pen.erase
-unfolding opening ◌>>◌ turn colour skip
+unfolding opening ◌>>◌ turn color skip
 opening-marked j p none =
     let clear : IsMarked j p.erase = subst (IsMarked j) (sym none) tt in
-    cond_both (owes_flag j p) ((turn j.row >> colour (j.new j.start).attrs >> reprint j (j.new j.start)) p) (skip p)
+    cond_both (owes_flag j p) ((turn j.row >> color (j.new j.start).attrs >> reprint j (j.new j.start)) p) (skip p)
     (λ (d : Drawn). IsMarked j d.pen.erase)
     (λ _. reprint-marked j (j.new j.start) (record p {
       pos = record { row = j.row; col = 0 };
@@ -319,10 +319,10 @@ print_last-within s S F g a lost h ha room over =
     let l = last-is s h in
     elim (cases_Bool (has_text x)) [
       | inr none ↦ stays-as S z skip (print_last x) p t (print-last_none x p none) (stays-skip S z p t)
-      | inl some ↦ stays-as S z (colour x.attrs >> print x false) (print_last x) p t (print-last_is x p some)
-          (stays-then S z (colour x.attrs) (print x false) p t _ _
-          (takes-colour z s.term (update s.cells j.row g) F j.row c a j.row c None lost x.attrs ha (h.proper c))
-          (stays-colour S z x.attrs p t)
+      | inl some ↦ stays-as S z (color x.attrs >> print x false) (print_last x) p t (print-last_is x p some)
+          (stays-then S z (color x.attrs) (print x false) p t _ _
+          (takes-color z s.term (update s.cells j.row g) F j.row c a j.row c None lost x.attrs ha (h.proper c))
+          (stays-color S z x.attrs p t)
           (stays-print S z s.term s.cells F j.row c x.attrs g x false _ (sends s h c some) (omega (arith, l.up_to))
           (print-end s S h room g over)))
     ]
@@ -354,11 +354,11 @@ mend-within s S F a lost h ha room =
                 (print_last-within s S (kept_or_off (wipe_unflags j.cols j.new c (c + 1)) F j.row)
                 (wiped j.new c (c + 1) a) a (lost || true) h ha room (wiped-over s a h))
             | inr empty ↦ stays-idle S z (unflag x) (print_last x) p t
-                (stays-as S z (colour x.attrs >> erasing 1 true) (unflag x) p t (unflag-empty x p empty)
-                (stays-then S z (colour x.attrs) (erasing 1 true) p t _ _
-                (takes-colour z s.term (update s.cells j.row j.new) F j.row c a j.row c None lost x.attrs ha
+                (stays-as S z (color x.attrs >> erasing 1 true) (unflag x) p t (unflag-empty x p empty)
+                (stays-then S z (color x.attrs) (erasing 1 true) p t _ _
+                (takes-color z s.term (update s.cells j.row j.new) F j.row c a j.row c None lost x.attrs ha
                 (h.proper c))
-                (stays-colour S z x.attrs p t)
+                (stays-color S z x.attrs p t)
                 (stays-erasing S z s.term s.cells F j.row c 1 (c + 1) x.attrs j.new true _ refl fits
                 (wipe-end s S h room))))
                 (λ q u. stays-as S z skip (print_last x) q u (print-last_none x q empty) (stays-skip S z q u))

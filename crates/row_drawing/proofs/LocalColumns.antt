@@ -14,7 +14,7 @@ use Rattle.terminal_model.specs.Apply.{run}
 use Rattle.terminal_model.specs.Touch.{put_touches}
 use Rattle.row_drawing.specs.declared.pen.Erase.{Erase}
 use Rattle.row_drawing.specs.declared.pen.Pen.{Pen}
-use Rattle.row_drawing.specs.Writer.{Drawn, Writer, ◌>>◌, skip, goto, turn, colour, print, space, back, erasing}
+use Rattle.row_drawing.specs.Writer.{Drawn, Writer, ◌>>◌, skip, goto, turn, color, print, space, back, erasing}
 use Rattle.row_drawing.specs.Writer.{clearing, marking}
 use Rattle.row_drawing.specs.RowWriter.{Job, is_same, wraps, to_erase, is_end, flush_of, flush, finish}
 use Rattle.row_drawing.specs.RowWriter.{arrive}
@@ -28,7 +28,7 @@ use Rattle.row_drawing.proofs.Columns.{erase-turn, erase-goto, arrives, erases, 
 use Rattle.row_drawing.proofs.Columns.{draw-is_same, draw-full, draw-empty, draw-empty_more, column-half, column-whole}
 use Rattle.row_drawing.proofs.Columns.{columns-lead, not-first, open-on, past-whole}
 use Rattle.row_drawing.proofs.RowEnd.{finish-none, finish-some}
-use Rattle.row_drawing.proofs.Touches.{Stays, stays-then, stays-as, stays-skip, stays-turn, stays-goto, stays-colour}
+use Rattle.row_drawing.proofs.Touches.{Stays, stays-then, stays-as, stays-skip, stays-turn, stays-goto, stays-color}
 use Rattle.row_drawing.proofs.Touches.{stays-marking, stays-back, stays-space_below, stays-erasing, stays-clearing}
 use Rattle.row_drawing.proofs.LocalRow.{IsRoom, or-four, wide-there, wipe-room, draws-within}
 
@@ -44,8 +44,8 @@ arrive-erase j c n p = cond_both (wraps j n p && (c == 0)) (turn j.row p) (goto 
     (λ (d : Drawn). d.pen.erase ≡ p.erase) (λ _. refl) (λ _. refl)
 
 full-erase : (j : Job) (c n : ℕ) (a : Attrs) (x : CellView) (b : Bool) (p : Pen)
-    → ((arrive j c n >> colour a >> print x b) p).pen.erase ≡ p.erase
-unfolding ◌>>◌ colour print
+    → ((arrive j c n >> color a >> print x b) p).pen.erase ≡ p.erase
+unfolding ◌>>◌ color print
 full-erase j c n a x b p = arrive-erase j c n p
 
 mark-marked : (j : Job) (c : ℕ) (o : Option Erase) (p : Pen) → p.erase ≡ o → is_same j c ≡ false → IsMarked j o
@@ -61,7 +61,7 @@ draw-marked j c p h =
     let P : Writer → Type 0 = λ f. IsMarked j (f p).pen.erase in
     cond_both (is_same j c) skip _ P (λ _. h)
     (λ differs. cond_both (has_text x)
-    (arrive j c (span_of x) >> colour x.attrs >> print x (put_unflags j.cols j.old c x)) (mark j c) P
+    (arrive j c (span_of x) >> color x.attrs >> print x (put_unflags j.cols j.old c x)) (mark j c) P
     (λ _. subst (IsMarked j) (sym (full-erase j c (span_of x) x.attrs x _ p)) h)
     (λ _. mark-marked j c p.erase p refl differs h))
 
@@ -117,10 +117,10 @@ to_erase-within s C S F f r k a e lost h o ha inside here l =
     let z = scene_size s in
     let t = with_row s f F r k a in
     elim (cases_Bool (wraps j 1 p && (e.from == 0))) [
-      | inr stays ↦ stays-as S z (goto j.row e.from >> colour e.attrs) (to_erase j e) p t (erase-goto j e p stays)
-          (stays-then S z (goto j.row e.from) (colour e.attrs) p t _ _
+      | inr stays ↦ stays-as S z (goto j.row e.from >> color e.attrs) (to_erase j e) p t (erase-goto j e p stays)
+          (stays-then S z (goto j.row e.from) (color e.attrs) p t _ _
           (takes-goto z s.term (update s.cells j.row f) F r k a (Some e) lost j.row e.from h.row_in inside)
-          (stays-goto S z j.row e.from p t refl h.row_in) (stays-colour S z e.attrs _ _))
+          (stays-goto S z j.row e.from p t refl h.row_in) (stays-color S z e.attrs _ _))
       | inl turns ↦
           (let now = wraps-now s 1 p e.from turns in
           let full : is_filled (s.cells r (j.cols - 1)) ≡ true =
@@ -145,11 +145,11 @@ to_erase-within s C S F f r k a e lost h o ha inside here l =
           let two = takes-then z (turn j.row) space p t _ _ _ _ turned prints in
           let three = takes-then z (turn j.row >> space) back p t _ _ _ _ two
           (takes-back z s.term (update s.cells j.row g) G j.row 1 a (Some e) lost) in
-          stays-as S z (turn j.row >> space >> back >> colour e.attrs) (to_erase j e) p t (erase-turn j e p turns)
-          (stays-then S z (turn j.row >> space >> back) (colour e.attrs) p t _ _ three
+          stays-as S z (turn j.row >> space >> back >> color e.attrs) (to_erase j e) p t (erase-turn j e p turns)
+          (stays-then S z (turn j.row >> space >> back) (color e.attrs) p t _ _ three
           (stays-then S z (turn j.row >> space) back p t _ _ two
           (stays-then S z (turn j.row) space p t _ _ turned (stays-turn S z j.row p t) spaced)
-          (stays-back S z _ _)) (stays-colour S z e.attrs _ _)))
+          (stays-back S z _ _)) (stays-color S z e.attrs _ _)))
     ]
 
 -- the columns from the mark up to n are to be empty
@@ -214,7 +214,7 @@ draw-within s C S F f r k a lost n h o ha inside single l =
       | inl same ↦ stays-as S z skip (draw j n) p t (draw-is_same j n p same) (stays-skip S z p t)
       | inr differs ↦ elim (cases_Bool (has_text x)) [
         | inl full ↦ stays-as S z
-            (arrive j n (span_of x) >> colour x.attrs >> print x (put_unflags j.cols j.old n x)) (draw j n) p t
+            (arrive j n (span_of x) >> color x.attrs >> print x (put_unflags j.cols j.old n x)) (draw j n) p t
             (draw-full j n p differs full)
             (draws-within s C S F f r k a lost (put_unflags j.cols j.old n x) n h o ha full single inside
             (o.differs n inside differs) l)

@@ -9,16 +9,16 @@ use Rattle.vt100_cells.specs.Line.{span_of}
 use Rattle.vt100_cells.specs.CellEq.{cell_eq-true}
 use Rattle.terminal_model.specs.Position.{update}
 use Rattle.terminal_model.specs.Touch.{put_touches, wipe_touches}
-use Rattle.row_drawing.specs.Writer.{◌>>◌, goto, turn, colour, print}
+use Rattle.row_drawing.specs.Writer.{◌>>◌, goto, turn, color, print}
 use Rattle.row_drawing.specs.RowWriter.{is_same, wraps}
 use Rattle.row_drawing.specs.RowWriter.{arrive}
 use Rattle.row_drawing.specs.Scene.{Scene, IsScene, scene_size, with_row}
 use Rattle.row_drawing.proofs.Lines.{Line}
-use Rattle.row_drawing.proofs.Steps.{takes-then, takes-as, pen, takes-goto, takes-colour}
+use Rattle.row_drawing.proofs.Steps.{takes-then, takes-as, pen, takes-goto, takes-color}
 use Rattle.row_drawing.proofs.Steps.{takes-turn}
 use Rattle.row_drawing.proofs.RowLeads.{wraps-now, arrive-turn, arrive-goto}
 use Rattle.row_drawing.proofs.Columns.{sends, room-for}
-use Rattle.row_drawing.proofs.Touches.{Stays, stays-then, stays-as, stays-turn, stays-goto, stays-colour}
+use Rattle.row_drawing.proofs.Touches.{Stays, stays-then, stays-as, stays-turn, stays-goto, stays-color}
 use Rattle.row_drawing.proofs.Touches.{stays-print, stays-print_below}
 
 -- ---- what may be touched
@@ -149,7 +149,7 @@ pub draws-within : (s : Scene) (C : ℕ → Type 0) (S : ℕ → ℕ → Type 0)
     → has_text (s.job.new n) ≡ true → (s.job.new n).continuation ≡ false → n < s.job.cols → C n
     → Line s.job.old s.job.new n f
     → Stays S (scene_size s)
-    (arrive s.job n (span_of (s.job.new n)) >> colour (s.job.new n).attrs >> print (s.job.new n) b)
+    (arrive s.job n (span_of (s.job.new n)) >> color (s.job.new n).attrs >> print (s.job.new n) b)
     (pen r k a None lost) (with_row s f F r k a)
 draws-within s C S F f r k a lost b n h o ha full single inside here l =
     let j = s.job in
@@ -164,14 +164,14 @@ draws-within s C S F f r k a lost b n h o ha full single inside here l =
       | inr stays ↦
           (let goes = takes-as z (goto j.row n) (arrive j n (span_of x)) p t _ _ (arrive-goto j n (span_of x) p stays)
           (takes-goto z s.term (update s.cells j.row f) F r k a None lost j.row n h.row_in inside) in
-          let dyes = takes-colour z s.term (update s.cells j.row f) F j.row n a j.row n None lost x.attrs ha
+          let dyes = takes-color z s.term (update s.cells j.row f) F j.row n a j.row n None lost x.attrs ha
           (h.proper n)
           in
-          stays-then S z (arrive j n (span_of x) >> colour x.attrs) (print x b) p t _ _
+          stays-then S z (arrive j n (span_of x) >> color x.attrs) (print x b) p t _ _
           (takes-then z _ _ _ _ _ _ _ _ goes dyes)
-          (stays-then S z (arrive j n (span_of x)) (colour x.attrs) p t _ _ goes
+          (stays-then S z (arrive j n (span_of x)) (color x.attrs) p t _ _ goes
           (stays-as S z (goto j.row n) (arrive j n (span_of x)) p t (arrive-goto j n (span_of x) p stays)
-          (stays-goto S z j.row n p t refl h.row_in)) (stays-colour S z x.attrs _ _))
+          (stays-goto S z j.row n p t refl h.row_in)) (stays-color S z x.attrs _ _))
           (stays-print S z s.term s.cells F j.row n x.attrs f x b _ send room touched))
       | inl turns ↦
           (let now = wraps-now s (span_of x) p n turns in
@@ -180,7 +180,7 @@ draws-within s C S F f r k a lost b n h o ha full single inside here l =
           let below : r + 1 < s.rows = omega (arith, now.row, h.row_in) in
           let goes = takes-as z (turn j.row) (arrive j n (span_of x)) p t _ _ (arrive-turn j n (span_of x) p turns)
           (takes-turn z p t j.row) in
-          let dyes = takes-colour z s.term (update s.cells j.row f) F r k a j.row 0 None lost x.attrs ha (h.proper n) in
+          let dyes = takes-color z s.term (update s.cells j.row f) F r k a j.row 0 None lost x.attrs ha (h.proper n) in
           let touched_first : (i : ℕ) → i < j.cols → put_touches f 0 x i ≡ true → S (r + 1) i = λ i low q.
           subst (λ v. S v i) (sym now.row) (touched i low (ap (λ v. put_touches f v x i) now.first ∙ q)) in
           let Q : ℕ → Type 0 = λ i. Stays S z (print x b) (pen j.row 0 x.attrs None lost)
@@ -189,10 +189,10 @@ draws-within s C S F f r k a lost b n h o ha full single inside here l =
           (stays-print_below S z s.term s.cells F r k x.attrs f x b _ send (omega (arith, room)) now.over below
           full_above
           touched_first) in
-          stays-then S z (arrive j n (span_of x) >> colour x.attrs) (print x b) p t _ _
+          stays-then S z (arrive j n (span_of x) >> color x.attrs) (print x b) p t _ _
           (takes-then z _ _ _ _ _ _ _ _ goes dyes)
-          (stays-then S z (arrive j n (span_of x)) (colour x.attrs) p t _ _ goes
+          (stays-then S z (arrive j n (span_of x)) (color x.attrs) p t _ _ goes
           (stays-as S z (turn j.row) (arrive j n (span_of x)) p t (arrive-turn j n (span_of x) p turns)
-          (stays-turn S z j.row p t)) (stays-colour S z x.attrs _ _))
+          (stays-turn S z j.row p t)) (stays-color S z x.attrs _ _))
           prints)
     ]

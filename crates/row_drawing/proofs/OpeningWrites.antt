@@ -5,7 +5,7 @@ use Rattle.vt100_forms.specs.Form.{spell}
 use Rattle.vt100_cells.specs.Cell.{CellView, has_text}
 use Rattle.vt100_cells.specs.Line.{wipe_unflags}
 use Rattle.row_drawing.specs.declared.pen.Pen.{Pen}
-use Rattle.row_drawing.specs.Writer.{Writer, ◌>>◌, skip, turn, colour, print, space, back, erasing}
+use Rattle.row_drawing.specs.Writer.{Writer, ◌>>◌, skip, turn, color, print, space, back, erasing}
 use Rattle.row_drawing.specs.RowWriter.{Job, owes_flag, reprint, opening, columns, finish, row_redraw}
 use Rattle.row_drawing.specs.Writes.{IsBegun, Wrote}
 use Rattle.row_drawing.proofs.RowStart.{opening-none, opening-some, reprint-some, reprint-wide, reprint-narrow}
@@ -92,8 +92,8 @@ begun_reprint_only j x p s q t u some narrow e f =
 
 -- at the start of a row two columns have room
 pub turned_room : (row : ℕ) (a : Attrs) (p q : Pen) (s : List ℕ) (r : Pen) (t : List ℕ) → q ≡ (turn row p).pen
-    → Wrote (colour a) q s r t → r.pos.col + 2 < 65536
-unfolding turn colour
+    → Wrote (color a) q s r t → r.pos.col + 2 < 65536
+unfolding turn color
 turned_room row a p q s r t e f =
     let start : r.pos.col ≡ 0 = ap (λ (x : Pen). x.pos.col) (sym f.pen_is) ∙ ap (λ (x : Pen). x.pos.col) e in
     omega (arith, start)
@@ -102,32 +102,32 @@ pub wrote_opening_none : (j : Job) (p : Pen) (s : List ℕ) → owes_flag j p �
 wrote_opening_none j p s h = wrote_as skip (opening j) p s p s (opening-none j p h) (wrote_skip p s)
 
 opening-as : (j : Job) (p : Pen) (x : CellView) (a : Attrs) → x ≡ j.new j.start → a ≡ x.attrs → owes_flag j p ≡ true
-    → opening j p ≡ (turn j.row >> colour a >> reprint j x) p
+    → opening j p ≡ (turn j.row >> color a >> reprint j x) p
 opening-as j p x a is ea h =
-    opening-some j p h ∙ ap (λ (y : CellView). (turn j.row >> colour y.attrs >> reprint j y) p) (sym is)
-    ∙ ap (λ c. (turn j.row >> colour c >> reprint j x) p) (sym ea)
+    opening-some j p h ∙ ap (λ (y : CellView). (turn j.row >> color y.attrs >> reprint j y) p) (sym is)
+    ∙ ap (λ c. (turn j.row >> color c >> reprint j x) p) (sym ea)
 
 pub wrote_opening : (j : Job) (p : Pen) (s : List ℕ) (q : Pen) (r : Pen) (t : List ℕ) (v : Pen) (u : List ℕ)
     (x : CellView) (a : Attrs) → x ≡ j.new j.start → a ≡ x.attrs → owes_flag j p ≡ true → q ≡ (turn j.row p).pen
-    → Wrote (colour a) q s r t → Wrote (reprint j x) r t v u → Wrote (opening j) p s v u
+    → Wrote (color a) q s r t → Wrote (reprint j x) r t v u → Wrote (opening j) p s v u
 wrote_opening j p s q r t v u x a is ea h k e f =
-    wrote_as (turn j.row >> colour a >> reprint j x) (opening j) p s v u (opening-as j p x a is ea h)
+    wrote_as (turn j.row >> color a >> reprint j x) (opening j) p s v u (opening-as j p x a is ea h)
     (wrote_then _ _ _ _ _ _ _ _ (wrote_then _ _ _ _ _ _ _ _ (wrote_turn j.row p s q k) e) f)
 
-pub begun_opening_colour : (j : Job) (p : Pen) (s : List ℕ) (q : Pen) (t : List ℕ) (x : CellView) (a : Attrs)
+pub begun_opening_color : (j : Job) (p : Pen) (s : List ℕ) (q : Pen) (t : List ℕ) (x : CellView) (a : Attrs)
     → x ≡ j.new j.start → a ≡ x.attrs → owes_flag j p ≡ true → q ≡ (turn j.row p).pen
-    → IsBegun s (spell (colour a q).forms) t → IsBegun s (spell (opening j p).forms) t
-begun_opening_colour j p s q t x a is ea h k e =
-    begun_as (turn j.row >> colour a >> reprint j x) (opening j) p s t (opening-as j p x a is ea h)
-    (begun_first (turn j.row >> colour a) (reprint j x) p s t
-    (begun_then (turn j.row) (colour a) p s q s t (wrote_turn j.row p s q k) e))
+    → IsBegun s (spell (color a q).forms) t → IsBegun s (spell (opening j p).forms) t
+begun_opening_color j p s q t x a is ea h k e =
+    begun_as (turn j.row >> color a >> reprint j x) (opening j) p s t (opening-as j p x a is ea h)
+    (begun_first (turn j.row >> color a) (reprint j x) p s t
+    (begun_then (turn j.row) (color a) p s q s t (wrote_turn j.row p s q k) e))
 
 pub begun_opening_reprint : (j : Job) (p : Pen) (s : List ℕ) (q : Pen) (r : Pen) (t u : List ℕ) (x : CellView)
     (a : Attrs) → x ≡ j.new j.start → a ≡ x.attrs → owes_flag j p ≡ true → q ≡ (turn j.row p).pen
-    → Wrote (colour a) q s r t → IsBegun t (spell (reprint j x r).forms) u → IsBegun s (spell (opening j p).forms) u
+    → Wrote (color a) q s r t → IsBegun t (spell (reprint j x r).forms) u → IsBegun s (spell (opening j p).forms) u
 begun_opening_reprint j p s q r t u x a is ea h k e f =
-    begun_as (turn j.row >> colour a >> reprint j x) (opening j) p s u (opening-as j p x a is ea h)
-    (begun_then (turn j.row >> colour a) (reprint j x) p s r t u
+    begun_as (turn j.row >> color a >> reprint j x) (opening j) p s u (opening-as j p x a is ea h)
+    (begun_then (turn j.row >> color a) (reprint j x) p s r t u
     (wrote_then _ _ _ _ _ _ _ _ (wrote_turn j.row p s q k) e) f)
 
 -- ---- the row

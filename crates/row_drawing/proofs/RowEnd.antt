@@ -15,14 +15,14 @@ use Rattle.terminal_model.specs.Apply.{run}
 use Rattle.terminal_model.proofs.Positions.{update-same, update-twice, update-other, update-kept}
 use Rattle.row_drawing.specs.declared.pen.Erase.{Erase}
 use Rattle.row_drawing.specs.declared.pen.Pen.{Pen}
-use Rattle.row_drawing.specs.Writer.{Writer, ◌>>◌, skip, goto, colour, print, erasing, clearing}
+use Rattle.row_drawing.specs.Writer.{Writer, ◌>>◌, skip, goto, color, print, erasing, clearing}
 use Rattle.row_drawing.specs.RowWriter.{Job, to_erase, finish_of, finish, last_col_of, last_cell_of, unflag, print_last}
 use Rattle.row_drawing.specs.RowWriter.{mend}
 use Rattle.row_drawing.specs.RowWriter.{closing}
 use Rattle.row_drawing.specs.Scene.{Scene, IsScene, IsDrawn, scene_size, with_row, flags_above}
 use Rattle.row_drawing.proofs.Lines.{Line, one_half, line-whole, line-reprinted, line-restored, line-erased_same}
 use Rattle.row_drawing.proofs.Steps.{Takes, takes-then, takes-as, takes-to, takes-skip, pen, takes-goto}
-use Rattle.row_drawing.proofs.Steps.{takes-colour, Flags, kept_or_off, takes-print, takes-erasing}
+use Rattle.row_drawing.proofs.Steps.{takes-color, Flags, kept_or_off, takes-print, takes-erasing}
 use Rattle.row_drawing.proofs.RowLeads.{past, edge, Opens, Standing, At}
 use Rattle.row_drawing.proofs.Columns.{empty-is, sends, clears, span-wide, span-narrow}
 
@@ -162,7 +162,7 @@ and_last true true c e = e
 and_last true false c e = refl
 and_last false b c e = refl
 
-pub print-last_is : (x : CellView) (p : Pen) → has_text x ≡ true → print_last x p ≡ (colour x.attrs >> print x false) p
+pub print-last_is : (x : CellView) (p : Pen) → has_text x ≡ true → print_last x p ≡ (color x.attrs >> print x false) p
 unfolding print_last
 print-last_is x p h = rw h refl
 
@@ -174,7 +174,7 @@ pub unflag-full : (x : CellView) (p : Pen) → has_text x ≡ true → unflag x 
 unfolding unflag
 unflag-full x p h = rw h refl
 
-pub unflag-empty : (x : CellView) (p : Pen) → has_text x ≡ false → unflag x p ≡ (colour x.attrs >> erasing 1 true) p
+pub unflag-empty : (x : CellView) (p : Pen) → has_text x ≡ false → unflag x p ≡ (color x.attrs >> erasing 1 true) p
 unfolding unflag
 unflag-empty x p h = rw h refl
 
@@ -231,9 +231,9 @@ last-printed s F g a lost h ha some line =
     let z = scene_size s in
     let last = last-is s h in
     let keeps : kept_or_off (put_unflags j.cols g c x) F j.row ≡ F = ap (λ b. kept_or_off b F j.row) (no_third s h g) in
-    takes-as z (colour x.attrs >> print x false) (print_last x) _ _ _ _ (print-last_is x _ some)
+    takes-as z (color x.attrs >> print x false) (print_last x) _ _ _ _ (print-last_is x _ some)
     (takes-then z _ _ _ _ _ _ _ _
-    (takes-colour z s.term (update s.cells j.row g) F j.row c a j.row c None lost x.attrs ha (h.proper c))
+    (takes-color z s.term (update s.cells j.row g) F j.row c a j.row c None lost x.attrs ha (h.proper c))
     (takes-to z (print x false) _ _ _ _ _ _ (ap (λ n. pen j.row n x.attrs None (lost || false)) last.up_to)
     (ap (λ G. with_row s (put g c x x.attrs) G j.row (c + span_of x) x.attrs) keeps
     ∙ ap (λ f. with_row s f F j.row (c + span_of x) x.attrs) line
@@ -403,9 +403,9 @@ closing-at s F r k a lost h ha kept =
                   (takes-then z _ _ _ _ _ _ _ _ goes
                   (takes-as z (unflag x >> print_last x) (mend j x) _ _ _ _ (mend-ends j x _ ends)
                   (takes-then z _ _ _ _ _ _ _ _
-                  (takes-as z (colour x.attrs >> erasing 1 true) (unflag x) _ _ _ _ (unflag-empty x _ empty)
+                  (takes-as z (color x.attrs >> erasing 1 true) (unflag x) _ _ _ _ (unflag-empty x _ empty)
                   (takes-then z _ _ _ _ _ _ _ _
-                  (takes-colour z s.term (update s.cells j.row j.new) F j.row c a j.row c None lost x.attrs ha
+                  (takes-color z s.term (update s.cells j.row j.new) F j.row c a j.row c None lost x.attrs ha
                   (h.proper c)) (last-erased s F x.attrs lost h)))
                   (takes-as z skip (print_last x) _ _ _ _ (print-last_none x _ empty) (takes-skip z _ _))))))
                   (record {

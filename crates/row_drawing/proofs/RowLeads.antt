@@ -15,13 +15,13 @@ use Rattle.terminal_model.proofs.Positions.{update-same}
 use Rattle.terminal_model.proofs.TermLemmas.{span-some}
 use Rattle.row_drawing.specs.declared.pen.Erase.{Erase}
 use Rattle.row_drawing.specs.declared.pen.Pen.{Pen}
-use Rattle.row_drawing.specs.Writer.{Writer, ◌>>◌, goto, turn, colour, print}
+use Rattle.row_drawing.specs.Writer.{Writer, ◌>>◌, goto, turn, color, print}
 use Rattle.row_drawing.specs.RowWriter.{Job, is_same, wraps}
 use Rattle.row_drawing.specs.RowWriter.{arrive}
 use Rattle.row_drawing.specs.Scene.{Scene, IsScene, scene_size, with_row, flags_above}
 use Rattle.row_drawing.proofs.Lines.{Line}
 use Rattle.row_drawing.proofs.Steps.{Takes, takes-then, takes-as, pen, takes-goto}
-use Rattle.row_drawing.proofs.Steps.{takes-colour, takes-turn, Flags, kept_or_off, flags-step}
+use Rattle.row_drawing.proofs.Steps.{takes-color, takes-turn, Flags, kept_or_off, flags-step}
 use Rattle.row_drawing.proofs.Steps.{flags-above, IsSendable, takes-print, takes-print_below}
 
 -- ---- what is true after n columns
@@ -151,7 +151,7 @@ pub draws : (s : Scene) (F : ℕ → Bool) (f : ℕ → CellView) (r k : ℕ) (a
     → IsScene s → IsProper a → IsProper x.attrs → IsSendable x → n + span_of x ≤ s.job.cols
     → (put_unflags s.job.cols f n x ≡ true → b ≡ true) → Standing s F (pen r k a None lost) n
     → Prints s f (pen r k a None lost) (with_row s f F r k a)
-    (arrive s.job n (span_of x) >> colour x.attrs >> print x b) n x b
+    (arrive s.job n (span_of x) >> color x.attrs >> print x b) n x b
 draws s F f r k a lost b n x h ha hx send room loses standing =
     let j = s.job in
     let p = pen r k a None lost in
@@ -169,7 +169,7 @@ draws s F f r k a lost b n x h ha hx send room loses standing =
                 (takes-then z _ _ _ _ _ _ _ _
                 (takes-as z (goto j.row n) (arrive j n (span_of x)) p t _ _ (arrive-goto j n (span_of x) p stays)
                 (takes-goto z s.term (update s.cells j.row f) F r k a None lost j.row n h.row_in inside))
-                (takes-colour z s.term (update s.cells j.row f) F j.row n a j.row n None lost x.attrs ha hx))
+                (takes-color z s.term (update s.cells j.row f) F j.row n a j.row n None lost x.attrs ha hx))
                 (takes-print z s.term s.cells F j.row n f x None lost b send room);
           })
       | inl turns ↦
@@ -205,7 +205,7 @@ draws s F f r k a lost b n x h ha hx send room loses standing =
                 (takes-then z _ _ _ _ _ _ _ _
                 (takes-as z (turn j.row) (arrive j n (span_of x)) p t _ _ (arrive-turn j n (span_of x) p turns)
                 (takes-turn z p t j.row))
-                (takes-colour z s.term (update s.cells j.row f) F r k a j.row 0 None lost x.attrs ha hx))
+                (takes-color z s.term (update s.cells j.row f) F r k a j.row 0 None lost x.attrs ha hx))
                 there;
           })
     ]

@@ -9,7 +9,7 @@ use Rattle.vt100_cells.specs.Cell.{has_text, default_cell}
 use Rattle.vt100_cells.specs.Line.{span_of}
 use Rattle.row_drawing.specs.declared.pen.Erase.{Erase}
 use Rattle.row_drawing.specs.declared.pen.Pen.{Pen}
-use Rattle.row_drawing.specs.Writer.{Drawn, ◌>>◌, skip, goto, turn, colour, print, erasing}
+use Rattle.row_drawing.specs.Writer.{Drawn, ◌>>◌, skip, goto, turn, color, print, erasing}
 use Rattle.row_drawing.specs.RowWriter.{Job, is_same, wraps, flush, finish, finish_of, arrive, draw}
 use Rattle.row_drawing.specs.RowWriter.{column, columns, opening, last_col_of, last_cell_of, row_redraw}
 use Rattle.row_drawing.specs.Scene.{Scene, IsScene, flags_above}
@@ -59,7 +59,7 @@ arrived s n m p closed =
 
 drawn-behind : (s : Scene) (n : ℕ) (p : Pen) → is_same s.job n ≡ false → has_text (s.job.new n) ≡ true
     → p.erase ≡ None → IsBehind s.job (n + span_of (s.job.new n)) (draw s.job n p).pen
-unfolding ◌>>◌ colour print
+unfolding ◌>>◌ color print
 drawn-behind s n p differs some closed =
     let j = s.job in
     let is = draw-full j n p differs some in

@@ -15,13 +15,13 @@ use Rattle.terminal_model.specs.Apply.{run}
 use Rattle.terminal_model.proofs.Positions.{update-kept}
 use Rattle.row_drawing.specs.declared.pen.Erase.{Erase}
 use Rattle.row_drawing.specs.declared.pen.Pen.{Pen}
-use Rattle.row_drawing.specs.Writer.{Writer, ◌>>◌, skip, turn, colour, print, space, back, erasing}
+use Rattle.row_drawing.specs.Writer.{Writer, ◌>>◌, skip, turn, color, print, space, back, erasing}
 use Rattle.row_drawing.specs.RowWriter.{Job, is_same, wraps, owes_flag, reprint, opening, columns, finish, closing}
 use Rattle.row_drawing.specs.RowWriter.{row_redraw, row_difference}
 use Rattle.row_drawing.specs.Scene.{Scene, IsScene, IsReady, scene_size, with_row, flags_above}
 use Rattle.row_drawing.specs.Laws.{EachDifferenceLeads}
 use Rattle.row_drawing.proofs.Lines.{Line, line-begun, line-reprinted, line-spaced, spaced-half}
-use Rattle.row_drawing.proofs.Steps.{Takes, takes-then, takes-as, takes-to, takes-skip, pen, takes-colour, takes-turn}
+use Rattle.row_drawing.proofs.Steps.{Takes, takes-then, takes-as, takes-to, takes-skip, pen, takes-color, takes-turn}
 use Rattle.row_drawing.proofs.Steps.{takes-back, Flags, kept_or_off, flags-step, takes-print_below, takes-space_below}
 use Rattle.row_drawing.proofs.Steps.{takes-erasing}
 use Rattle.row_drawing.proofs.RowLeads.{past, edge, Standing, At, After, after-takes, WrapsNow, wraps-now}
@@ -46,7 +46,7 @@ unfolding opening
 opening-none j p h = rw h refl
 
 pub opening-some : (j : Job) (p : Pen) → owes_flag j p ≡ true
-    → opening j p ≡ (turn j.row >> colour (j.new j.start).attrs >> reprint j (j.new j.start)) p
+    → opening j p ≡ (turn j.row >> color (j.new j.start).attrs >> reprint j (j.new j.start)) p
 unfolding opening
 opening-some j p h = rw h refl
 
@@ -142,7 +142,7 @@ reprints-text : (s : Scene) (r k : ℕ) (a : Attrs) (lost : Bool) → IsScene s 
     → WrapsNow s (span_of (s.job.new 0)) (pen r k a None lost) 0
     → Flags (update s.flags r true) (flags_above s) s.job.row lost
     → Reprints s (pen r k a None lost) (with_row s s.job.old s.flags r k a)
-    (turn s.job.row >> colour (s.job.new 0).attrs >> reprint s.job (s.job.new 0))
+    (turn s.job.row >> color (s.job.new 0).attrs >> reprint s.job (s.job.new 0))
 reprints-text s r k a lost h ha same some now kept =
     let j = s.job in
     let x = j.new 0 in
@@ -172,7 +172,7 @@ reprints-text s r k a lost h ha same some now kept =
     let flags : kept_or_off (put_unflags j.cols j.old 0 x) G j.row ≡ G = ap (λ b. kept_or_off b G j.row)
     (same_unflags s h same) in
     let begins = takes-then z _ _ _ _ _ _ _ _ (takes-turn z p t j.row)
-    (takes-colour z s.term (update s.cells j.row j.old) s.flags r k a j.row 0 None lost x.attrs ha (h.proper 0)) in
+    (takes-color z s.term (update s.cells j.row j.old) s.flags r k a j.row 0 None lost x.attrs ha (h.proper 0)) in
     let backs : Takes z (reprint j x) (pen j.row 0 x.attrs None lost)
     (record (s.term) { cell = update s.cells j.row j.old; wrapped = s.flags; row = r; col = k; attrs = x.attrs })
     (pen j.row 0 x.attrs None (lost || false)) (with_row s j.old G j.row 0 x.attrs) =
@@ -237,7 +237,7 @@ reprints-empty : (s : Scene) (r k : ℕ) (a : Attrs) (lost : Bool) → IsScene s
     → WrapsNow s (span_of (s.job.new 0)) (pen r k a None lost) 0
     → Flags (update s.flags r true) (flags_above s) s.job.row lost
     → Reprints s (pen r k a None lost) (with_row s s.job.old s.flags r k a)
-    (turn s.job.row >> colour (s.job.new 0).attrs >> reprint s.job (s.job.new 0))
+    (turn s.job.row >> color (s.job.new 0).attrs >> reprint s.job (s.job.new 0))
 reprints-empty s r k a lost h ha same none now kept =
     let j = s.job in
     let x = j.new 0 in
@@ -261,7 +261,7 @@ reprints-empty s r k a lost h ha same none now kept =
     (takes-space_below z s.term s.cells s.flags r k j.old x.attrs None lost h.some_col (omega (arith, now.over, span))
     below full) in
     let begins = takes-then z _ _ _ _ _ _ _ _ (takes-turn z p t j.row)
-    (takes-colour z s.term (update s.cells j.row j.old) s.flags r k a j.row 0 None lost x.attrs ha (h.proper 0)) in
+    (takes-color z s.term (update s.cells j.row j.old) s.flags r k a j.row 0 None lost x.attrs ha (h.proper 0)) in
     let erased = takes-erasing z s.term s.cells G j.row 0 1 g x.attrs None lost loses (omega (arith, h.some_col)) in
     record {
       line = wiped g 0 1 x.attrs;
@@ -315,13 +315,13 @@ opening-at s r k a lost h ha ready =
           let kept : Flags (update s.flags r true) (flags_above s) j.row lost = inl
           (ap (λ i. update s.flags i true) (omega (arith, now.row))
           ∙ sym (ap (λ c. cond c (update s.flags (j.row - 1) true) s.flags) now.above)) in
-          let done : Reprints s p t (turn j.row >> colour (j.new 0).attrs >> reprint j (j.new 0)) =
+          let done : Reprints s p t (turn j.row >> color (j.new 0).attrs >> reprint j (j.new 0)) =
           (elim (cases_Bool (has_text (j.new 0))) [
             | inl some ↦ reprints-text s r k a lost h ha same some now kept
             | inr none ↦ reprints-empty s r k a lost h ha same none now kept
           ]) in
-          let is : opening j p ≡ (turn j.row >> colour (j.new 0).attrs >> reprint j (j.new 0)) p =
-          opening-some j p owed ∙ ap (λ i. (turn j.row >> colour (j.new i).attrs >> reprint j (j.new i)) p) h.whole in
+          let is : opening j p ≡ (turn j.row >> color (j.new 0).attrs >> reprint j (j.new 0)) p =
+          opening-some j p owed ∙ ap (λ i. (turn j.row >> color (j.new i).attrs >> reprint j (j.new i)) p) h.whole in
           after-takes s 0 (opening j) p t _ _
           (takes-as z _ (opening j) p t _ _ is done.takes)
           (record {

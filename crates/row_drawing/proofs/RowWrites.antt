@@ -14,7 +14,7 @@ use Rattle.vt100_cells.proofs.LineLemmas.{wide_within}
 use Rattle.vt100_cells.proofs.ListLemmas.{Bounded-row}
 use Rattle.row_drawing.specs.declared.pen.Erase.{Erase}
 use Rattle.row_drawing.specs.declared.pen.Pen.{Pen}
-use Rattle.row_drawing.specs.Writer.{Drawn, Writer, ◌>>◌, skip, goto, turn, colour, print, space, back, erasing}
+use Rattle.row_drawing.specs.Writer.{Drawn, Writer, ◌>>◌, skip, goto, turn, color, print, space, back, erasing}
 use Rattle.row_drawing.specs.Writer.{clearing, marking}
 use Rattle.row_drawing.specs.RowWriter.{Job, is_same, wraps, is_end, to_erase, flush_of, flush, finish_of, finish}
 use Rattle.row_drawing.specs.RowWriter.{arrive}
@@ -57,9 +57,9 @@ begun_arrive_goto j c n p s t h w = begun_as (goto j.row c) (arrive j c n) p s t
 
 pub wrote_to_erase_turn : (j : Job) (e : Erase) (p : Pen) (s : List ℕ) (q : Pen) (r : Pen) (t : List ℕ) (v : Pen)
     (u : List ℕ) (w : Pen) (x : List ℕ) → (wraps j 1 p && (e.from == 0)) ≡ true → q ≡ (turn j.row p).pen
-    → Wrote space q s r t → Wrote back r t v u → Wrote (colour e.attrs) v u w x → Wrote (to_erase j e) p s w x
+    → Wrote space q s r t → Wrote back r t v u → Wrote (color e.attrs) v u w x → Wrote (to_erase j e) p s w x
 wrote_to_erase_turn j e p s q r t v u w x h k a b d =
-    wrote_as (turn j.row >> space >> back >> colour e.attrs) (to_erase j e) p s w x (erase-turn j e p h)
+    wrote_as (turn j.row >> space >> back >> color e.attrs) (to_erase j e) p s w x (erase-turn j e p h)
     (wrote_then _ _ _ _ _ _ _ _ (wrote_then _ _ _ _ _ _ _ _ (wrote_then _ _ _ _ _ _ _ _ (wrote_turn j.row p s q k) a)
     b) d)
 
@@ -67,45 +67,45 @@ pub begun_to_erase_space : (j : Job) (e : Erase) (p : Pen) (s : List ℕ) (q : P
     → (wraps j 1 p && (e.from == 0)) ≡ true → q ≡ (turn j.row p).pen → IsBegun s (spell (space q).forms) t
     → IsBegun s (spell (to_erase j e p).forms) t
 begun_to_erase_space j e p s q t h k a =
-    begun_as (turn j.row >> space >> back >> colour e.attrs) (to_erase j e) p s t (erase-turn j e p h)
-    (begun_first (turn j.row >> space >> back) (colour e.attrs) p s t (begun_first (turn j.row >> space) back p s t
+    begun_as (turn j.row >> space >> back >> color e.attrs) (to_erase j e) p s t (erase-turn j e p h)
+    (begun_first (turn j.row >> space >> back) (color e.attrs) p s t (begun_first (turn j.row >> space) back p s t
     (begun_then (turn j.row) space p s q s t (wrote_turn j.row p s q k) a)))
 
 pub begun_to_erase_back : (j : Job) (e : Erase) (p : Pen) (s : List ℕ) (q : Pen) (r : Pen) (t : List ℕ) (u : List ℕ)
     → (wraps j 1 p && (e.from == 0)) ≡ true → q ≡ (turn j.row p).pen → Wrote space q s r t
     → IsBegun t (spell (back r).forms) u → IsBegun s (spell (to_erase j e p).forms) u
 begun_to_erase_back j e p s q r t u h k a b =
-    begun_as (turn j.row >> space >> back >> colour e.attrs) (to_erase j e) p s u (erase-turn j e p h)
-    (begun_first (turn j.row >> space >> back) (colour e.attrs) p s u
+    begun_as (turn j.row >> space >> back >> color e.attrs) (to_erase j e) p s u (erase-turn j e p h)
+    (begun_first (turn j.row >> space >> back) (color e.attrs) p s u
     (begun_then (turn j.row >> space) back p s r t u (wrote_then _ _ _ _ _ _ _ _ (wrote_turn j.row p s q k) a) b))
 
-pub begun_to_erase_colour : (j : Job) (e : Erase) (p : Pen) (s : List ℕ) (q : Pen) (r : Pen) (t : List ℕ) (v : Pen)
+pub begun_to_erase_color : (j : Job) (e : Erase) (p : Pen) (s : List ℕ) (q : Pen) (r : Pen) (t : List ℕ) (v : Pen)
     (u : List ℕ) (x : List ℕ) → (wraps j 1 p && (e.from == 0)) ≡ true → q ≡ (turn j.row p).pen → Wrote space q s r t
-    → Wrote back r t v u → IsBegun u (spell (colour e.attrs v).forms) x → IsBegun s (spell (to_erase j e p).forms) x
-begun_to_erase_colour j e p s q r t v u x h k a b d =
-    begun_as (turn j.row >> space >> back >> colour e.attrs) (to_erase j e) p s x (erase-turn j e p h)
-    (begun_then (turn j.row >> space >> back) (colour e.attrs) p s v u x
+    → Wrote back r t v u → IsBegun u (spell (color e.attrs v).forms) x → IsBegun s (spell (to_erase j e p).forms) x
+begun_to_erase_color j e p s q r t v u x h k a b d =
+    begun_as (turn j.row >> space >> back >> color e.attrs) (to_erase j e) p s x (erase-turn j e p h)
+    (begun_then (turn j.row >> space >> back) (color e.attrs) p s v u x
     (wrote_then _ _ _ _ _ _ _ _ (wrote_then _ _ _ _ _ _ _ _ (wrote_turn j.row p s q k) a) b) d)
 
 pub wrote_to_erase_goto : (j : Job) (e : Erase) (p : Pen) (s : List ℕ) (q : Pen) (t : List ℕ) (r : Pen) (u : List ℕ)
-    → (wraps j 1 p && (e.from == 0)) ≡ false → Wrote (goto j.row e.from) p s q t → Wrote (colour e.attrs) q t r u
+    → (wraps j 1 p && (e.from == 0)) ≡ false → Wrote (goto j.row e.from) p s q t → Wrote (color e.attrs) q t r u
     → Wrote (to_erase j e) p s r u
 wrote_to_erase_goto j e p s q t r u h a b =
-    wrote_as (goto j.row e.from >> colour e.attrs) (to_erase j e) p s r u (erase-goto j e p h)
+    wrote_as (goto j.row e.from >> color e.attrs) (to_erase j e) p s r u (erase-goto j e p h)
     (wrote_then _ _ _ _ _ _ _ _ a b)
 
 pub begun_to_erase_goto : (j : Job) (e : Erase) (p : Pen) (s t : List ℕ) → (wraps j 1 p && (e.from == 0)) ≡ false
     → IsBegun s (spell (goto j.row e.from p).forms) t → IsBegun s (spell (to_erase j e p).forms) t
 begun_to_erase_goto j e p s t h a =
-    begun_as (goto j.row e.from >> colour e.attrs) (to_erase j e) p s t (erase-goto j e p h)
-    (begun_first (goto j.row e.from) (colour e.attrs) p s t a)
+    begun_as (goto j.row e.from >> color e.attrs) (to_erase j e) p s t (erase-goto j e p h)
+    (begun_first (goto j.row e.from) (color e.attrs) p s t a)
 
 pub begun_to_erase_after : (j : Job) (e : Erase) (p : Pen) (s : List ℕ) (q : Pen) (t u : List ℕ)
     → (wraps j 1 p && (e.from == 0)) ≡ false → Wrote (goto j.row e.from) p s q t
-    → IsBegun t (spell (colour e.attrs q).forms) u → IsBegun s (spell (to_erase j e p).forms) u
+    → IsBegun t (spell (color e.attrs q).forms) u → IsBegun s (spell (to_erase j e p).forms) u
 begun_to_erase_after j e p s q t u h a b =
-    begun_as (goto j.row e.from >> colour e.attrs) (to_erase j e) p s u (erase-goto j e p h)
-    (begun_then (goto j.row e.from) (colour e.attrs) p s q t u a b)
+    begun_as (goto j.row e.from >> color e.attrs) (to_erase j e) p s u (erase-goto j e p h)
+    (begun_then (goto j.row e.from) (color e.attrs) p s q t u a b)
 
 pub flush-is_none : (j : Job) (n : ℕ) (p : Pen) → p.erase ≡ None → flush j n p ≡ skip p
 unfolding flush flush_of
@@ -195,44 +195,44 @@ wrote_draw_same j n p s h = wrote_as skip (draw j n) p s p s (draw-is_same j n p
 
 pub full_draw : (j : Job) (n : ℕ) (p : Pen) (x : CellView) (m : ℕ) (a : Attrs) (b : Bool) → x ≡ j.new n
     → is_same j n ≡ false → has_text x ≡ true → m ≡ span_of x → a ≡ x.attrs
-    → b ≡ put_unflags j.cols j.old n (j.new n) → draw j n p ≡ (arrive j n m >> colour a >> print x b) p
+    → b ≡ put_unflags j.cols j.old n (j.new n) → draw j n p ≡ (arrive j n m >> color a >> print x b) p
 full_draw j n p x m a b is differs some em ea eb =
     draw-full j n p differs (ap has_text (sym is) ∙ some)
-    ∙ ap (λ (y : CellView). (arrive j n (span_of y) >> colour y.attrs >> print y (put_unflags j.cols j.old n
+    ∙ ap (λ (y : CellView). (arrive j n (span_of y) >> color y.attrs >> print y (put_unflags j.cols j.old n
     (j.new n))) p) (sym is)
-    ∙ ap (λ k. (arrive j n k >> colour x.attrs >> print x (put_unflags j.cols j.old n (j.new n))) p) (sym em)
-    ∙ ap (λ c. (arrive j n m >> colour c >> print x (put_unflags j.cols j.old n (j.new n))) p) (sym ea)
-    ∙ ap (λ c. (arrive j n m >> colour a >> print x c) p) (sym eb)
+    ∙ ap (λ k. (arrive j n k >> color x.attrs >> print x (put_unflags j.cols j.old n (j.new n))) p) (sym em)
+    ∙ ap (λ c. (arrive j n m >> color c >> print x (put_unflags j.cols j.old n (j.new n))) p) (sym ea)
+    ∙ ap (λ c. (arrive j n m >> color a >> print x c) p) (sym eb)
 
 pub wrote_draw_full : (j : Job) (n : ℕ) (p : Pen) (s : List ℕ) (q : Pen) (t : List ℕ) (r : Pen) (u : List ℕ) (v : Pen)
     (w : List ℕ) (x : CellView) (m : ℕ) (a : Attrs) (b : Bool)
-    → draw j n p ≡ (arrive j n m >> colour a >> print x b) p → Wrote (arrive j n m) p s q t
-    → Wrote (colour a) q t r u → Wrote (print x b) r u v w → Wrote (draw j n) p s v w
+    → draw j n p ≡ (arrive j n m >> color a >> print x b) p → Wrote (arrive j n m) p s q t
+    → Wrote (color a) q t r u → Wrote (print x b) r u v w → Wrote (draw j n) p s v w
 wrote_draw_full j n p s q t r u v w x m a b is e f g =
-    wrote_as (arrive j n m >> colour a >> print x b) (draw j n) p s v w is
+    wrote_as (arrive j n m >> color a >> print x b) (draw j n) p s v w is
     (wrote_then _ _ _ _ _ _ _ _ (wrote_then _ _ _ _ _ _ _ _ e f) g)
 
 pub begun_draw_arrive : (j : Job) (n : ℕ) (p : Pen) (s t : List ℕ) (x : CellView) (m : ℕ) (a : Attrs) (b : Bool)
-    → draw j n p ≡ (arrive j n m >> colour a >> print x b) p → IsBegun s (spell (arrive j n m p).forms) t
+    → draw j n p ≡ (arrive j n m >> color a >> print x b) p → IsBegun s (spell (arrive j n m p).forms) t
     → IsBegun s (spell (draw j n p).forms) t
 begun_draw_arrive j n p s t x m a b is e =
-    begun_as (arrive j n m >> colour a >> print x b) (draw j n) p s t is
-    (begun_first (arrive j n m >> colour a) (print x b) p s t (begun_first (arrive j n m) (colour a) p s t e))
+    begun_as (arrive j n m >> color a >> print x b) (draw j n) p s t is
+    (begun_first (arrive j n m >> color a) (print x b) p s t (begun_first (arrive j n m) (color a) p s t e))
 
-pub begun_draw_colour : (j : Job) (n : ℕ) (p : Pen) (s : List ℕ) (q : Pen) (t u : List ℕ) (x : CellView) (m : ℕ)
-    (a : Attrs) (b : Bool) → draw j n p ≡ (arrive j n m >> colour a >> print x b) p → Wrote (arrive j n m) p s q t
-    → IsBegun t (spell (colour a q).forms) u → IsBegun s (spell (draw j n p).forms) u
-begun_draw_colour j n p s q t u x m a b is e f =
-    begun_as (arrive j n m >> colour a >> print x b) (draw j n) p s u is
-    (begun_first (arrive j n m >> colour a) (print x b) p s u (begun_then (arrive j n m) (colour a) p s q t u e f))
+pub begun_draw_color : (j : Job) (n : ℕ) (p : Pen) (s : List ℕ) (q : Pen) (t u : List ℕ) (x : CellView) (m : ℕ)
+    (a : Attrs) (b : Bool) → draw j n p ≡ (arrive j n m >> color a >> print x b) p → Wrote (arrive j n m) p s q t
+    → IsBegun t (spell (color a q).forms) u → IsBegun s (spell (draw j n p).forms) u
+begun_draw_color j n p s q t u x m a b is e f =
+    begun_as (arrive j n m >> color a >> print x b) (draw j n) p s u is
+    (begun_first (arrive j n m >> color a) (print x b) p s u (begun_then (arrive j n m) (color a) p s q t u e f))
 
 pub begun_draw_print : (j : Job) (n : ℕ) (p : Pen) (s : List ℕ) (q : Pen) (t : List ℕ) (r : Pen) (u w : List ℕ)
-    (x : CellView) (m : ℕ) (a : Attrs) (b : Bool) → draw j n p ≡ (arrive j n m >> colour a >> print x b) p
-    → Wrote (arrive j n m) p s q t → Wrote (colour a) q t r u → IsBegun u (spell (print x b r).forms) w
+    (x : CellView) (m : ℕ) (a : Attrs) (b : Bool) → draw j n p ≡ (arrive j n m >> color a >> print x b) p
+    → Wrote (arrive j n m) p s q t → Wrote (color a) q t r u → IsBegun u (spell (print x b r).forms) w
     → IsBegun s (spell (draw j n p).forms) w
 begun_draw_print j n p s q t r u w x m a b is e f g =
-    begun_as (arrive j n m >> colour a >> print x b) (draw j n) p s w is
-    (begun_then (arrive j n m >> colour a) (print x b) p s r u w (wrote_then _ _ _ _ _ _ _ _ e f) g)
+    begun_as (arrive j n m >> color a >> print x b) (draw j n) p s w is
+    (begun_then (arrive j n m >> color a) (print x b) p s r u w (wrote_then _ _ _ _ _ _ _ _ e f) g)
 
 draw-is_marked : (j : Job) (n : ℕ) (p : Pen) (e : Option Erase) → is_same j n ≡ false → has_text (j.new n) ≡ false
     → p.erase ≡ e → draw j n p ≡ mark_of j n e p
@@ -275,14 +275,14 @@ arrive-col j c n p =
       | inr goes ↦ ap (λ (d : Drawn). d.pen.pos.col) (arrive-goto j c n p goes)
     ]
 
-colour-col : (a : Attrs) (q : Pen) → (colour a q).pen.pos.col ≡ q.pos.col
-unfolding colour
-colour-col a q = refl
+color-col : (a : Attrs) (q : Pen) → (color a q).pen.pos.col ≡ q.pos.col
+unfolding color
+color-col a q = refl
 
 pub drawn_col : (j : Job) (c n : ℕ) (a : Attrs) (p : Pen) (s : List ℕ) (q : Pen) (t : List ℕ) (r : Pen) (u : List ℕ)
-    → Wrote (arrive j c n) p s q t → Wrote (colour a) q t r u → r.pos.col ≡ c
+    → Wrote (arrive j c n) p s q t → Wrote (color a) q t r u → r.pos.col ≡ c
 drawn_col j c n a p s q t r u e f =
-    ap (λ (x : Pen). x.pos.col) (sym f.pen_is) ∙ colour-col a q ∙ ap (λ (x : Pen). x.pos.col) (sym e.pen_is)
+    ap (λ (x : Pen). x.pos.col) (sym f.pen_is) ∙ color-col a q ∙ ap (λ (x : Pen). x.pos.col) (sym e.pen_is)
     ∙ arrive-col j c n p
 
 -- a cell of a row of few columns ends within the row

@@ -8,7 +8,7 @@ use Rattle.vt100_cells.specs.Cell.{CellView, has_text}
 use Rattle.vt100_cells.specs.Line.{span_of}
 use Rattle.row_drawing.specs.declared.pen.Pen.{Pen}
 use Rattle.row_drawing.specs.Drawing.{BeginsRun, IsAt}
-use Rattle.row_drawing.specs.Writer.{Drawn, ◌>>◌, turn, goto, colour, print}
+use Rattle.row_drawing.specs.Writer.{Drawn, ◌>>◌, turn, goto, color, print}
 use Rattle.row_drawing.specs.RowWriter.{Job, wraps, arrive, draw, column}
 use Rattle.row_drawing.specs.Writes.{Wrote}
 use Rattle.row_drawing.proofs.RowLeads.{arrive-turn, arrive-goto}
@@ -31,24 +31,24 @@ wrote_arrive_here j c n p s here =
     (wrote_goto_here p (record { row = j.row; col = c }) s here)
 
 drawn_on : (j : Job) (c : ℕ) (p : Pen) (x : CellView) → x ≡ j.new c → BeginsRun j c p
-    → draw j c p ≡ (arrive j c (span_of x) >> colour x.attrs >> print x false) p
+    → draw j c p ≡ (arrive j c (span_of x) >> color x.attrs >> print x false) p
 drawn_on j c p x is on =
     full_draw j c p x (span_of x) x.attrs false is on.other (ap has_text is ∙ on.filled) refl refl (sym on.keeps)
 
 -- the cursor comes there, the attributes are set, and then the text is printed
 pub wrote_column_on : (j : Job) (c : ℕ) (p : Pen) (s : List ℕ) (v : Pen) (w : List ℕ) (r : Pen) (u : List ℕ) (q : Pen)
     (t : List ℕ) (x : CellView) → x ≡ j.new c → BeginsRun j c p → Wrote (arrive j c (span_of x)) p s v w
-    → Wrote (colour x.attrs) v w r u → Wrote (print x false) r u q t → Wrote (column j c) p s q t
-wrote_column_on j c p s v w r u q t x is on arrived coloured h =
+    → Wrote (color x.attrs) v w r u → Wrote (print x false) r u q t → Wrote (column j c) p s q t
+wrote_column_on j c p s v w r u q t x is on arrived colored h =
     wrote_column j c p s p s q t on.whole (wrote_flush_none j c p s on.closed)
-    (wrote_draw_full j c p s v w r u q t x (span_of x) x.attrs false (drawn_on j c p x is on) arrived coloured h)
+    (wrote_draw_full j c p s v w r u q t x (span_of x) x.attrs false (drawn_on j c p x is on) arrived colored h)
 
-colour-attrs : (a : Attrs) (p : Pen) → (colour a p).pen.attrs ≡ a
-unfolding colour
-colour-attrs a p = refl
+color-attrs : (a : Attrs) (p : Pen) → (color a p).pen.attrs ≡ a
+unfolding color
+color-attrs a p = refl
 
-pub coloured_attrs : (a : Attrs) (p : Pen) (s : List ℕ) (r : Pen) (u : List ℕ) → Wrote (colour a) p s r u → r.attrs ≡ a
-coloured_attrs a p s r u h = sym (ap (λ (y : Pen). y.attrs) h.pen_is) ∙ colour-attrs a p
+pub colored_attrs : (a : Attrs) (p : Pen) (s : List ℕ) (r : Pen) (u : List ℕ) → Wrote (color a) p s r u → r.attrs ≡ a
+colored_attrs a p s r u h = sym (ap (λ (y : Pen). y.attrs) h.pen_is) ∙ color-attrs a p
 
 -- the cursor stands there when the attributes are set
 arrive-pos : (j : Job) (c n : ℕ) (p : Pen) → (arrive j c n p).pen.pos ≡ record { row = j.row; col = c }
@@ -61,15 +61,15 @@ arrive-pos j c n p =
       | inr goes ↦ ap (λ (d : Drawn). d.pen.pos) (arrive-goto j c n p goes)
     ]
 
-colour-pos : (a : Attrs) (p : Pen) → (colour a p).pen.pos ≡ p.pos
-unfolding colour
-colour-pos a p = refl
+color-pos : (a : Attrs) (p : Pen) → (color a p).pen.pos ≡ p.pos
+unfolding color
+color-pos a p = refl
 
 pub drawn_here : (j : Job) (c n : ℕ) (a : Attrs) (p : Pen) (s : List ℕ) (q : Pen) (t : List ℕ) (r : Pen) (u : List ℕ)
-    → Wrote (arrive j c n) p s q t → Wrote (colour a) q t r u → IsAt j c r
+    → Wrote (arrive j c n) p s q t → Wrote (color a) q t r u → IsAt j c r
 drawn_here j c n a p s q t r u e f =
     let pos : r.pos ≡ record { row = j.row; col = c } =
-    ap (λ (x : Pen). x.pos) (sym f.pen_is) ∙ colour-pos a q ∙ ap (λ (x : Pen). x.pos) (sym e.pen_is)
+    ap (λ (x : Pen). x.pos) (sym f.pen_is) ∙ color-pos a q ∙ ap (λ (x : Pen). x.pos) (sym e.pen_is)
     ∙ arrive-pos j c n p in
     subst (λ (x : Pos). ((x.row == j.row) && (x.col == c)) ≡ true) (sym pos)
     (rw (eq-eqb j.row j.row refl, eq-eqb c c refl) refl)

@@ -9,13 +9,13 @@ use Rattle.vt100_cells.specs.CellEq.{attrs_eq-true}
 use Rattle.vt100_cells.specs.Line.{IsPaired, span_of}
 use Rattle.row_drawing.specs.declared.pen.Pen.{Pen}
 use Rattle.row_drawing.specs.Drawing.{behind, BeginsRun, GoesTo, IsAt, JoinsRun}
-use Rattle.row_drawing.specs.Writer.{colour, print}
+use Rattle.row_drawing.specs.Writer.{color, print}
 use Rattle.row_drawing.specs.RowWriter.{Job, arrive, column, columns}
 use Rattle.row_drawing.specs.Writes.{Wrote}
 use Rattle.row_drawing.proofs.ColumnsWrites.{wrote_columns_next}
 use Rattle.row_drawing.proofs.RunColumn.{wrote_arrive_here, wrote_column_on}
 use Rattle.row_drawing.proofs.RowWrites.{wrote_column_half}
-use Rattle.row_drawing.proofs.WritesLemmas.{colour_same}
+use Rattle.row_drawing.proofs.WritesLemmas.{color_same}
 
 -- the text of one cell
 wrote_text : (x : CellView) (p : Pen) (t : List ℕ) → Wrote (print x false) p t (print x false p).pen (t
@@ -52,7 +52,7 @@ wrote_joined : (j : Job) (c : ℕ) (p : Pen) (a : Attrs) (t : List ℕ) (x : Cel
 wrote_joined j c p a t x is drawn h =
     let same : p.attrs ≡ x.attrs = drawn ∙ joined_attrs j c p a x is h in
     wrote_column_on j c p t p t p t (print x false p).pen (t ++ encode_utf8_all x.text) x is h.begins
-    (wrote_arrive_here j c (span_of x) p t h.here) (colour_same p x.attrs t same) (wrote_text x p t)
+    (wrote_arrive_here j c (span_of x) p t h.here) (color_same p x.attrs t same) (wrote_text x p t)
 
 -- ---- several columns
 
@@ -86,13 +86,13 @@ goes_behind j n m k p t q u x paired is h =
 -- the first cell, to which the cursor is brought, and whose attributes are set before
 pub goes_first : (j : Job) (n k : ℕ) (p : Pen) (s : List ℕ) (v : Pen) (w : List ℕ) (r : Pen) (u : List ℕ) (x : CellView)
     → IsPaired j.new → x ≡ j.new (j.start + n) → BeginsRun j (j.start + n) p
-    → Wrote (arrive j (j.start + n) (span_of x)) p s v w → Wrote (colour x.attrs) v w r u
+    → Wrote (arrive j (j.start + n) (span_of x)) p s v w → Wrote (color x.attrs) v w r u
     → GoesTo j n (behind x n k) p s (print x false r).pen (u ++ encode_utf8_all x.text)
-goes_first j n k p s v w r u x paired is h arrived coloured =
+goes_first j n k p s v w r u x paired is h arrived colored =
     goes_behind j n n k p s (print x false r).pen (u ++ encode_utf8_all x.text) x paired is
     (λ p0 s0 before. wrote_columns_next j n p0 s0 p s (print x false r).pen (u ++ encode_utf8_all x.text) before
     (wrote_column_on j (j.start + n) p s v w r u (print x false r).pen (u ++ encode_utf8_all x.text) x is h arrived
-    coloured (wrote_text x r u)))
+    colored (wrote_text x r u)))
 
 pub goes_then : (j : Job) (n m k : ℕ) (p : Pen) (s : List ℕ) (q : Pen) (t : List ℕ) (r : Pen) (u : List ℕ)
     → GoesTo j n m p s q t → GoesTo j m k q t r u → GoesTo j n k p s r u

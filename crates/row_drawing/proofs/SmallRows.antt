@@ -14,7 +14,7 @@ use Rattle.vt100_cells.specs.Cell.{CellView, has_text}
 use Rattle.vt100_cells.specs.Line.{span_of, put_unflags, wipe_unflags}
 use Rattle.row_drawing.specs.declared.pen.Erase.{Erase}
 use Rattle.row_drawing.specs.declared.pen.Pen.{Pen}
-use Rattle.row_drawing.specs.Writer.{Writer, ◌>>◌, skip, goto, turn, colour, print, space, back, erasing}
+use Rattle.row_drawing.specs.Writer.{Writer, ◌>>◌, skip, goto, turn, color, print, space, back, erasing}
 use Rattle.row_drawing.specs.Writer.{clearing, marking}
 use Rattle.row_drawing.specs.RowWriter.{Job, is_same, wraps, owes_flag, reprint, opening, to_erase, is_end, flush_of}
 use Rattle.row_drawing.specs.RowWriter.{flush, finish_of, finish, arrive, mark_of, mark, draw, column, columns}
@@ -70,9 +70,9 @@ small-turn : (row : ℕ) → Small (turn row)
 unfolding turn IsSmallPen
 small-turn row p s = record { forms = tt; pen = s }
 
-small-colour : (a : Attrs) → HasByteColors a → Small (colour a)
-unfolding colour IsSmallPen
-small-colour a h p s = record { forms = change-small p.attrs a h; pen = (h, s.1) }
+small-color : (a : Attrs) → HasByteColors a → Small (color a)
+unfolding color IsSmallPen
+small-color a h p s = record { forms = change-small p.attrs a h; pen = (h, s.1) }
 
 small-print : (x : CellView) (b : Bool) → Small (print x b)
 unfolding print IsSmallPen
@@ -115,20 +115,20 @@ small-opening : (j : Job) → IsSmallJob j → Small (opening j)
 unfolding opening
 small-opening j h p s =
     let x = j.new j.start in
-    small-here (owes_flag j p) (turn j.row >> colour x.attrs >> reprint j x) skip p s
-    (small-then (turn j.row >> colour x.attrs) (reprint j x)
-    (small-then (turn j.row) (colour x.attrs) (small-turn j.row) (small-colour x.attrs (h.colors j.start)))
+    small-here (owes_flag j p) (turn j.row >> color x.attrs >> reprint j x) skip p s
+    (small-then (turn j.row >> color x.attrs) (reprint j x)
+    (small-then (turn j.row) (color x.attrs) (small-turn j.row) (small-color x.attrs (h.colors j.start)))
     (small-reprint j j.start)) small-skip
 
 small-to_erase : (j : Job) (e : Erase) → IsSmallJob j → e.from < 2 ^ 16 → HasByteColors e.attrs → Small (to_erase j e)
 unfolding to_erase
 small-to_erase j e h l k p s =
-    small-here (wraps j 1 p && (e.from == 0)) (turn j.row >> space >> back >> colour e.attrs)
-    (goto j.row e.from >> colour e.attrs) p s
-    (small-then (turn j.row >> space >> back) (colour e.attrs)
+    small-here (wraps j 1 p && (e.from == 0)) (turn j.row >> space >> back >> color e.attrs)
+    (goto j.row e.from >> color e.attrs) p s
+    (small-then (turn j.row >> space >> back) (color e.attrs)
     (small-then (turn j.row >> space) back (small-then (turn j.row) space (small-turn j.row) small-space) small-back)
-    (small-colour e.attrs k))
-    (small-then (goto j.row e.from) (colour e.attrs) (small-goto j.row e.from h.row l) (small-colour e.attrs k))
+    (small-color e.attrs k))
+    (small-then (goto j.row e.from) (color e.attrs) (small-goto j.row e.from h.row l) (small-color e.attrs k))
 
 small-flush_of : (j : Job) (c : ℕ) (e : Option Erase) → IsSmallJob j → c < j.cols → SmallErase e
     → Small (flush_of j c e)
@@ -175,10 +175,10 @@ small-draw j c h l =
     let x = j.new c in
     let b = put_unflags j.cols j.old c x in
     small-either (is_same j c) skip _ small-skip
-    (small-either (has_text x) (arrive j c (span_of x) >> colour x.attrs >> print x b) (mark j c)
-    (small-then (arrive j c (span_of x) >> colour x.attrs) (print x b)
-    (small-then (arrive j c (span_of x)) (colour x.attrs) (small-arrive j c (span_of x) h l)
-    (small-colour x.attrs (h.colors c))) (small-print x b)) (small-mark j c h l))
+    (small-either (has_text x) (arrive j c (span_of x) >> color x.attrs >> print x b) (mark j c)
+    (small-then (arrive j c (span_of x) >> color x.attrs) (print x b)
+    (small-then (arrive j c (span_of x)) (color x.attrs) (small-arrive j c (span_of x) h l)
+    (small-color x.attrs (h.colors c))) (small-print x b)) (small-mark j c h l))
 
 small-column : (j : Job) (c : ℕ) → IsSmallJob j → c < j.cols → Small (column j c)
 unfolding column
@@ -197,15 +197,15 @@ small-print_last : (j : Job) (k : ℕ) → IsSmallJob j → Small (print_last (j
 unfolding print_last
 small-print_last j k h =
     let x = j.new k in
-    small-either (has_text x) (colour x.attrs >> print x false) skip
-    (small-then (colour x.attrs) (print x false) (small-colour x.attrs (h.colors k)) (small-print x false)) small-skip
+    small-either (has_text x) (color x.attrs >> print x false) skip
+    (small-then (color x.attrs) (print x false) (small-color x.attrs (h.colors k)) (small-print x false)) small-skip
 
 small-unflag : (j : Job) (k : ℕ) → IsSmallJob j → Small (unflag (j.new k))
 unfolding unflag
 small-unflag j k h =
     let x = j.new k in
-    small-either (has_text x) (erasing 1 true) (colour x.attrs >> erasing 1 true) (small-erasing 1 true (omega arith))
-    (small-then (colour x.attrs) (erasing 1 true) (small-colour x.attrs (h.colors k))
+    small-either (has_text x) (erasing 1 true) (color x.attrs >> erasing 1 true) (small-erasing 1 true (omega arith))
+    (small-then (color x.attrs) (erasing 1 true) (small-color x.attrs (h.colors k))
     (small-erasing 1 true (omega arith)))
 
 small-mend : (j : Job) (k : ℕ) → IsSmallJob j → Small (mend j (j.new k))

@@ -20,7 +20,7 @@ use Rattle.terminal_model.proofs.FormLemmas.{run-joined, moves-lead, change-read
 use Rattle.terminal_model.proofs.PrintedCells.{printed}
 use Rattle.row_drawing.specs.declared.pen.Erase.{Erase}
 use Rattle.row_drawing.specs.declared.pen.Pen.{Pen}
-use Rattle.row_drawing.specs.Writer.{Drawn, Writer, ◌>>◌, skip, goto, turn, colour, print, space, back, erasing}
+use Rattle.row_drawing.specs.Writer.{Drawn, Writer, ◌>>◌, skip, goto, turn, color, print, space, back, erasing}
 use Rattle.row_drawing.specs.Writer.{clearing, marking}
 
 -- ---- a writer at a pen, read by a terminal
@@ -71,11 +71,11 @@ takes-goto z t C W r c a e b row col hr hc = record {
       hc;
 }
 
-pub takes-colour : (z : Size) (t : Term) (C : ℕ → ℕ → CellView) (W : ℕ → Bool) (r c : ℕ) (a : Attrs) (k l : ℕ)
+pub takes-color : (z : Size) (t : Term) (C : ℕ → ℕ → CellView) (W : ℕ → Bool) (r c : ℕ) (a : Attrs) (k l : ℕ)
     (e : Option Erase) (b : Bool) (x : Attrs) → IsProper a → IsProper x
-    → Takes z (colour x) (pen k l a e b) (at t C W r c a) (pen k l x e b) (at t C W r c x)
-unfolding colour
-takes-colour z t C W r c a k l e b x ha hx = record {
+    → Takes z (color x) (pen k l a e b) (at t C W r c a) (pen k l x e b) (at t C W r c x)
+unfolding color
+takes-color z t C W r c a k l e b x ha hx = record {
   pen_is = refl;
   term_is = change-read z (at t C W r c a) a x refl ha hx;
 }

@@ -11,7 +11,7 @@ use Rattle.vt100_cells.specs.Cell.{CellView, has_text}
 use Rattle.vt100_cells.specs.Line.{span_of, put_unflags, wipe_unflags}
 use Rattle.row_drawing.specs.declared.pen.Erase.{Erase}
 use Rattle.row_drawing.specs.declared.pen.Pen.{Pen}
-use Rattle.row_drawing.specs.Writer.{Drawn, Writer, ◌>>◌, skip, goto, turn, colour, print, space, back, erasing}
+use Rattle.row_drawing.specs.Writer.{Drawn, Writer, ◌>>◌, skip, goto, turn, color, print, space, back, erasing}
 use Rattle.row_drawing.specs.Writer.{clearing, marking}
 use Rattle.row_drawing.specs.RowWriter.{Job, is_same, wraps, owes_flag, reprint, opening, to_erase, is_end, flush_of}
 use Rattle.row_drawing.specs.RowWriter.{flush, finish_of, finish, arrive, mark_of, mark, draw, column, columns}
@@ -70,9 +70,9 @@ draws-turn : (P : List ℕ → Type 0) (row : ℕ) → Draws P (turn row)
 unfolding turn
 draws-turn P row p = tt
 
-pub draws-colour : (P : List ℕ → Type 0) (a : Attrs) → Draws P (colour a)
-unfolding colour
-draws-colour P a p = change-drawing P p.attrs a
+pub draws-color : (P : List ℕ → Type 0) (a : Attrs) → Draws P (color a)
+unfolding color
+draws-color P a p = change-drawing P p.attrs a
 
 pub draws-print : (P : List ℕ → Type 0) (x : CellView) (b : Bool) → P x.text → Draws P (print x b)
 unfolding print
@@ -120,21 +120,21 @@ draws-reprint P j k h =
 draws-opening : (P : List ℕ → Type 0) (j : Job) → AreTexts P j.new → Draws P (opening j)
 unfolding opening
 draws-opening P j h p =
-    draws-here P (owes_flag j p) (turn j.row >> colour (j.new j.start).attrs >> reprint j (j.new j.start)) skip p
-    (draws-then P (turn j.row >> colour (j.new j.start).attrs) (reprint j (j.new j.start))
-    (draws-then P (turn j.row) (colour (j.new j.start).attrs) (draws-turn P j.row) (draws-colour P _))
+    draws-here P (owes_flag j p) (turn j.row >> color (j.new j.start).attrs >> reprint j (j.new j.start)) skip p
+    (draws-then P (turn j.row >> color (j.new j.start).attrs) (reprint j (j.new j.start))
+    (draws-then P (turn j.row) (color (j.new j.start).attrs) (draws-turn P j.row) (draws-color P _))
     (draws-reprint P j j.start h)) (draws-skip P)
 
 draws-to_erase : (P : List ℕ → Type 0) (j : Job) (e : Erase) → AreTexts P j.new → Draws P (to_erase j e)
 unfolding to_erase
 draws-to_erase P j e h p =
-    draws-here P (wraps j 1 p && (e.from == 0)) (turn j.row >> space >> back >> colour e.attrs)
-    (goto j.row e.from >> colour e.attrs) p
-    (draws-then P (turn j.row >> space >> back) (colour e.attrs)
+    draws-here P (wraps j 1 p && (e.from == 0)) (turn j.row >> space >> back >> color e.attrs)
+    (goto j.row e.from >> color e.attrs) p
+    (draws-then P (turn j.row >> space >> back) (color e.attrs)
     (draws-then P (turn j.row >> space) back
     (draws-then P (turn j.row) space (draws-turn P j.row) (draws-space P h.space)) (draws-back P))
-    (draws-colour P e.attrs))
-    (draws-then P (goto j.row e.from) (colour e.attrs) (draws-goto P j.row e.from) (draws-colour P e.attrs))
+    (draws-color P e.attrs))
+    (draws-then P (goto j.row e.from) (color e.attrs) (draws-goto P j.row e.from) (draws-color P e.attrs))
 
 draws-flush_of : (P : List ℕ → Type 0) (j : Job) (c : ℕ) (e : Option Erase) → AreTexts P j.new
     → Draws P (flush_of j c e)
@@ -179,9 +179,9 @@ draws-draw P j c h =
     let x = j.new c in
     let b = put_unflags j.cols j.old c x in
     draws-either P (is_same j c) skip _ (λ _. draws-skip P)
-    (λ _. draws-either P (has_text x) (arrive j c (span_of x) >> colour x.attrs >> print x b) (mark j c)
-    (λ some. draws-then P (arrive j c (span_of x) >> colour x.attrs) (print x b)
-    (draws-then P (arrive j c (span_of x)) (colour x.attrs) (draws-arrive P j c (span_of x)) (draws-colour P x.attrs))
+    (λ _. draws-either P (has_text x) (arrive j c (span_of x) >> color x.attrs >> print x b) (mark j c)
+    (λ some. draws-then P (arrive j c (span_of x) >> color x.attrs) (print x b)
+    (draws-then P (arrive j c (span_of x)) (color x.attrs) (draws-arrive P j c (span_of x)) (draws-color P x.attrs))
     (draws-print P x b (h.cells c some))) (λ _. draws-mark P j c))
 
 draws-column : (P : List ℕ → Type 0) (j : Job) (c : ℕ) → AreTexts P j.new → Draws P (column j c)
@@ -200,15 +200,15 @@ draws-print_last : (P : List ℕ → Type 0) (j : Job) (k : ℕ) → AreTexts P 
 unfolding print_last
 draws-print_last P j k h =
     let x = j.new k in
-    draws-either P (has_text x) (colour x.attrs >> print x false) skip
-    (λ some. draws-then P (colour x.attrs) (print x false) (draws-colour P x.attrs)
+    draws-either P (has_text x) (color x.attrs >> print x false) skip
+    (λ some. draws-then P (color x.attrs) (print x false) (draws-color P x.attrs)
     (draws-print P x false (h.cells k some))) (λ _. draws-skip P)
 
 draws-unflag : (P : List ℕ → Type 0) (x : CellView) → Draws P (unflag x)
 unfolding unflag
 draws-unflag P x =
-    draws-either P (has_text x) (erasing 1 true) (colour x.attrs >> erasing 1 true) (λ _. draws-erasing P 1 true)
-    (λ _. draws-then P (colour x.attrs) (erasing 1 true) (draws-colour P x.attrs) (draws-erasing P 1 true))
+    draws-either P (has_text x) (erasing 1 true) (color x.attrs >> erasing 1 true) (λ _. draws-erasing P 1 true)
+    (λ _. draws-then P (color x.attrs) (erasing 1 true) (draws-color P x.attrs) (draws-erasing P 1 true))
 
 draws-mend : (P : List ℕ → Type 0) (j : Job) (k : ℕ) → AreTexts P j.new → Draws P (mend j (j.new k))
 unfolding mend

@@ -27,7 +27,7 @@ use Rattle.terminal_model.proofs.Positions.{update-same, update-other}
 use Rattle.terminal_model.proofs.TermLemmas.{span-columns, columns-few}
 use Rattle.terminal_model.proofs.TouchLemmas.{within-joined}
 use Rattle.row_drawing.specs.declared.pen.Pen.{Pen}
-use Rattle.row_drawing.specs.Writer.{Drawn, Writer, ◌>>◌, skip, goto, turn, colour, print, space, back, erasing}
+use Rattle.row_drawing.specs.Writer.{Drawn, Writer, ◌>>◌, skip, goto, turn, color, print, space, back, erasing}
 use Rattle.row_drawing.specs.Writer.{clearing, marking}
 use Rattle.row_drawing.proofs.Steps.{Takes, IsSendable, at, fits-here, fits-below, span-space, sends-space}
 
@@ -302,9 +302,9 @@ pub stays-goto : (S : ℕ → ℕ → Type 0) (z : Size) (row col : ℕ) (p : Pe
 unfolding goto
 stays-goto S z row col p t here room = moves-idle S z p.pos (record { row = row; col = col }) t here room
 
-pub stays-colour : (S : ℕ → ℕ → Type 0) (z : Size) (a : Attrs) (p : Pen) (t : Term) → Stays S z (colour a) p t
-unfolding colour form_touches
-stays-colour S z a p t =
+pub stays-color : (S : ℕ → ℕ → Type 0) (z : Size) (a : Attrs) (p : Pen) (t : Term) → Stays S z (color a) p t
+unfolding color form_touches
+stays-color S z a p t =
     let P : List Form → Type 0 = λ fs. Within S z fs t in
     cond_both (attrs_eq a p.attrs) [] _ P (λ _. tt)
     (λ _. cond_both (attrs_eq a default_attrs) (ClearAttrs ∷ []) (Sgr (changed_attrs p.attrs a) ∷ []) P

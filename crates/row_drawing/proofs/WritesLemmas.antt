@@ -11,7 +11,7 @@ use Rattle.vt100_forms.specs.declared.position.Pos.{Pos}
 use Rattle.std.proofs.lemmas.Bool.{and_parts, eqb-true, ne_eqb, eq-eqb}
 use Rattle.vt100_cells.specs.Line.{span_of}
 use Rattle.row_drawing.specs.declared.pen.Pen.{Pen}
-use Rattle.row_drawing.specs.Writer.{Drawn, Writer, ◌>>◌, skip, goto, colour, print, space, back, erasing}
+use Rattle.row_drawing.specs.Writer.{Drawn, Writer, ◌>>◌, skip, goto, color, print, space, back, erasing}
 use Rattle.row_drawing.specs.Writer.{clearing}
 use Rattle.row_drawing.specs.Writes.{IsBegun, Wrote}
 
@@ -116,21 +116,21 @@ wrote_goto_here p pos s h =
     let cols = eqb-true p.pos.col pos.col both.1 in
     goto_here p pos s (λ i. record { row = rows i; col = cols i })
 
-pub wrote_colour : (a : Attrs) (p : Pen) (s t : List ℕ) → t ≡ s ++ spell (change p.attrs a)
-    → Wrote (colour a) p s (record p { attrs = a }) t
-unfolding colour
-wrote_colour a p s t h = record { pen_is = refl; text_is = h }
+pub wrote_color : (a : Attrs) (p : Pen) (s t : List ℕ) → t ≡ s ++ spell (change p.attrs a)
+    → Wrote (color a) p s (record p { attrs = a }) t
+unfolding color
+wrote_color a p s t h = record { pen_is = refl; text_is = h }
 
 -- the terminal draws with these attributes already
-pub colour_same : (p : Pen) (a : Attrs) (s : List ℕ) → p.attrs ≡ a → Wrote (colour a) p s p s
-unfolding colour
-colour_same p a s e = record {
+pub color_same : (p : Pen) (a : Attrs) (s : List ℕ) → p.attrs ≡ a → Wrote (color a) p s p s
+unfolding color
+color_same p a s e = record {
   pen_is = λ i. record p { attrs = sym e i };
   text_is = sym (append-nil s) ∙ ap (λ fs. s ++ spell fs) (sym (unchanged p.attrs) ∙ ap (change p.attrs) e);
 }
 
-pub wrote_colour_same : (p : Pen) (a : Attrs) (s : List ℕ) → attrs_eq p.attrs a ≡ true → Wrote (colour a) p s p s
-wrote_colour_same p a s h = colour_same p a s (attrs_eq-true p.attrs a h)
+pub wrote_color_same : (p : Pen) (a : Attrs) (s : List ℕ) → attrs_eq p.attrs a ≡ true → Wrote (color a) p s p s
+wrote_color_same p a s h = color_same p a s (attrs_eq-true p.attrs a h)
 
 pub wrote_print : (x : CellView) (loses : Bool) (p : Pen) (s t : List ℕ) (col : ℕ) (lost : Bool)
     → t ≡ s ++ encode_utf8_all x.text → col ≡ p.pos.col + span_of x → lost ≡ (p.lost || loses)

@@ -11,7 +11,7 @@ use Rattle.vt100_cells.specs.Cell.{CellView, has_text, cell_eq, bool_eq}
 use Rattle.vt100_cells.specs.Line.{span_of, put_unflags, wipe_unflags}
 use Rattle.row_drawing.specs.declared.pen.Erase.{Erase}
 use Rattle.row_drawing.specs.declared.pen.Pen.{Pen}
-use Rattle.row_drawing.specs.Writer.{Writer, ◌>>◌, skip, goto, turn, colour, print, space, back, erasing, clearing}
+use Rattle.row_drawing.specs.Writer.{Writer, ◌>>◌, skip, goto, turn, color, print, space, back, erasing, clearing}
 use Rattle.row_drawing.specs.Writer.{marking}
 
 -- A row of so many columns, as it is (`new`) and as the terminal shows it (`old`), drawn from column `start` on; which
@@ -50,15 +50,15 @@ reprint j x =
 
 unfoldable pub opening : Job → Writer
 opening j p =
-    if owes_flag j p then (turn j.row >> colour (j.new j.start).attrs >> reprint j (j.new j.start)) p
+    if owes_flag j p then (turn j.row >> color (j.new j.start).attrs >> reprint j (j.new j.start)) p
     else skip p
 
 -- ---- what is still to be erased
 
 unfoldable pub to_erase : Job → Erase → Writer
 to_erase j e p =
-    if wraps j 1 p && (e.from == 0) then (turn j.row >> space >> back >> colour e.attrs) p
-    else (goto j.row e.from >> colour e.attrs) p
+    if wraps j 1 p && (e.from == 0) then (turn j.row >> space >> back >> color e.attrs) p
+    else (goto j.row e.from >> color e.attrs) p
 
 -- x ends the columns that are erased with the attributes a
 abbrev pub is_end : CellView → Attrs → Bool
@@ -99,7 +99,7 @@ unfoldable pub draw : Job → ℕ → Writer
 draw j c =
     if is_same j c then skip
     else if has_text (j.new c)
-    then (arrive j c (span_of (j.new c)) >> colour (j.new c).attrs
+    then (arrive j c (span_of (j.new c)) >> color (j.new c).attrs
     >> print (j.new c) (put_unflags j.cols j.old c (j.new c)))
     else mark j c
 
@@ -124,11 +124,11 @@ last_cell_of j = j.new (last_col_of j)
 -- An erased last cell takes the flag away. A cell that has a text is printed again; an empty one is erased with its own
 -- attributes.
 unfoldable pub unflag : CellView → Writer
-unflag x = if has_text x then erasing 1 true else (colour x.attrs >> erasing 1 true)
+unflag x = if has_text x then erasing 1 true else (color x.attrs >> erasing 1 true)
 
 -- the last cell is printed, and the cursor waits behind it
 unfoldable pub print_last : CellView → Writer
-print_last x = if has_text x then (colour x.attrs >> print x false) else skip
+print_last x = if has_text x then (color x.attrs >> print x false) else skip
 
 unfoldable pub mend : Job → CellView → Writer
 mend j x = if j.wrapped then print_last x else (unflag x >> print_last x)

@@ -34,8 +34,8 @@ unfoldable pub turn : ℕ → Writer
 turn row p = record { pen = record p { pos = record { row = row; col = 0 } }; forms = [] }
 
 -- the terminal draws with these attributes
-unfoldable pub colour : Attrs → Writer
-colour a p = record { pen = record p { attrs = a }; forms = change p.attrs a }
+unfoldable pub color : Attrs → Writer
+color a p = record { pen = record p { attrs = a }; forms = change p.attrs a }
 
 -- the text of a cell; the row loses its flag where `loses` is set
 unfoldable pub print : CellView → Bool → Writer

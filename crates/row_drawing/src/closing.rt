@@ -137,7 +137,7 @@ impl Pen {
             self.erase(contents, 1, true)?;
             return Ok(());
         }
-        self.colour(contents, cell.attrs())?;
+        self.color(contents, cell.attrs())?;
         self.erase(contents, 1, true)?;
         Ok(())
     }
@@ -151,7 +151,7 @@ impl Pen {
         if !cell.has_contents() {
             return Ok(());
         }
-        self.colour(contents, cell.attrs())?;
+        self.color(contents, cell.attrs())?;
         self.print(contents, cell, false)?;
         Ok(())
     }

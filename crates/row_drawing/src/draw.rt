@@ -98,7 +98,7 @@ impl<'a> Drawing<'a> {
             pen.turn(self.row);
             pen.space(contents)?;
             pen.back(contents)?;
-            pen.colour(contents, erase.attrs)?;
+            pen.color(contents, erase.attrs)?;
             return Ok(());
         }
         let pos = Pos {
@@ -106,7 +106,7 @@ impl<'a> Drawing<'a> {
             col: erase.from,
         };
         pen.goto(contents, pos)?;
-        pen.colour(contents, erase.attrs)?;
+        pen.color(contents, erase.attrs)?;
         Ok(())
     }
 
@@ -154,7 +154,7 @@ impl<'a> Drawing<'a> {
         let cell = at(self.cells, usize::from(col));
         if cell.has_contents() {
             self.arrive(pen, contents, col, span(cell))?;
-            pen.colour(contents, cell.attrs())?;
+            pen.color(contents, cell.attrs())?;
             pen.print(contents, cell, self.loses_by_print(col))?;
             return Ok(());
         }

@@ -56,7 +56,7 @@ impl<'a> Drawing<'a> {
         }
         let first = at(self.cells, usize::from(self.start));
         pen.turn(self.row);
-        pen.colour(contents, first.attrs())?;
+        pen.color(contents, first.attrs())?;
         self.reprint(pen, contents, first)?;
         Ok(())
     }

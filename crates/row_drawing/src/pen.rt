@@ -3,7 +3,7 @@ ghost use Rattle.std.specs.Prelude.{ℕ, ◌≡◌, ◌+◌, ◌<◌, ◌≤◌,
 ghost use Rattle.std.specs.Prelude.{if◌then◌else◌, false};
 ghost use Rattle.vt100_forms.specs.Attrs.{attrs_eq};
 ghost use Rattle.vt100_cells.specs.Line.{span_of};
-ghost use Rattle.row_drawing.specs.Writer.{goto, turn, colour, print, space, back, erasing, clearing, marking};
+ghost use Rattle.row_drawing.specs.Writer.{goto, turn, color, print, space, back, erasing, clearing, marking};
 ghost use Rattle.row_drawing.specs.Writes.{Writes, Wrote};
 
 use std::alloc::AllocError;
@@ -101,14 +101,14 @@ impl Pen {
 
     /// Sets the attributes.
     #[inline(always)]
-    pub fn colour(&mut self, contents: &mut String, attrs: Attrs) -> Result<(), GridError>
-        ensures { Writes (colour attrs) self.old (string_bytes contents.old) (is_ok result) self.new
+    pub fn color(&mut self, contents: &mut String, attrs: Attrs) -> Result<(), GridError>
+        ensures { Writes (color attrs) self.old (string_bytes contents.old) (is_ok result) self.new
             (string_bytes contents.new) }
     {
         if self.draws_with(attrs) {
             return Ok(());
         }
-        self.recolour(contents, attrs)
+        self.recolor(contents, attrs)
     }
 
     #[inline(always)]
@@ -122,10 +122,10 @@ impl Pen {
     /// which the terminal draws.
     // Two cells are compared: so no colour has to be put together first.
     #[inline(always)]
-    pub(crate) fn colour_in(&mut self, run: &mut TextRun, cell: &Cell, like: Option<&Cell>)
+    pub(crate) fn color_in(&mut self, run: &mut TextRun, cell: &Cell, like: Option<&Cell>)
         requires room { length run.old + 58 ≤ 128 }
         requires like { IfSome like (λ x. x.now.attrs ≡ self.old.attrs) }
-        ensures written { (t : List ℕ) → Wrote (colour cell.now.attrs) self.old (t ++ run.old) self.new (t ++ run.new) }
+        ensures written { (t : List ℕ) → Wrote (color cell.now.attrs) self.old (t ++ run.old) self.new (t ++ run.new) }
         ensures room { length run.new ≤ length run.old + 58 }
     {
         if let Some(like) = like {
@@ -133,14 +133,14 @@ impl Pen {
                 return;
             }
         }
-        self.recolour_in(run, cell);
+        self.recolor_in(run, cell);
     }
 
     // Apart, and given the whole cell: so its attributes aren't taken apart where they are only compared.
     #[inline(never)]
-    fn recolour_in(&mut self, run: &mut TextRun, cell: &Cell)
+    fn recolor_in(&mut self, run: &mut TextRun, cell: &Cell)
         requires { length run.old + 58 ≤ 128 }
-        ensures written { (t : List ℕ) → Wrote (colour cell.now.attrs) self.old (t ++ run.old) self.new (t ++ run.new) }
+        ensures written { (t : List ℕ) → Wrote (color cell.now.attrs) self.old (t ++ run.old) self.new (t ++ run.new) }
         ensures room { length run.new ≤ length run.old + 58 }
     {
         let attrs = cell.attrs();
@@ -149,8 +149,8 @@ impl Pen {
     }
 
     #[inline(never)]
-    fn recolour(&mut self, contents: &mut String, attrs: Attrs) -> Result<(), GridError>
-        ensures { Writes (colour attrs) self.old (string_bytes contents.old) (is_ok result) self.new
+    fn recolor(&mut self, contents: &mut String, attrs: Attrs) -> Result<(), GridError>
+        ensures { Writes (color attrs) self.old (string_bytes contents.old) (is_ok result) self.new
             (string_bytes contents.new) }
     {
         attrs.write_escape_code_diff(contents, &self.attrs)?;

@@ -178,7 +178,7 @@ impl<'a> Drawing<'a> {
         let col = self.start + n;
         let cell = at(self.cells, usize::from(col));
         self.arrive_in(pen, run, col, span(cell));
-        pen.colour_in(run, cell, like);
+        pen.color_in(run, cell, like);
         cell.push_text(run);
         pen.pass(cell);
         self.gather(pen, run, cell, behind(cell, n, count), count)

@@ -18,7 +18,7 @@ use Rattle.vt100_cells.proofs.CellTexts.{text-short}
 use Rattle.row_drawing.specs.declared.pen.Erase.{Erase}
 use Rattle.row_drawing.specs.declared.pen.Pen.{Pen}
 use Rattle.row_drawing.specs.Small.{SmallErase, IsSmallPen, IsSmallJob}
-use Rattle.row_drawing.specs.Writer.{Drawn, Writer, ◌>>◌, skip, goto, turn, colour, print, space, back, erasing}
+use Rattle.row_drawing.specs.Writer.{Drawn, Writer, ◌>>◌, skip, goto, turn, color, print, space, back, erasing}
 use Rattle.row_drawing.specs.Writer.{clearing, marking}
 use Rattle.row_drawing.specs.RowWriter.{Job, is_same, wraps, owes_flag, reprint, opening, to_erase, is_end, flush_of}
 use Rattle.row_drawing.specs.RowWriter.{flush, finish_of, finish, arrive, mark_of, mark, draw, column, columns}
@@ -99,9 +99,9 @@ costs-turn : (row : ℕ) → Costs (turn row) 0
 unfolding turn IsSmallPen
 costs-turn row p s = record { bytes = omega arith; small = s }
 
-costs-colour : (a : Attrs) → HasByteColors a → Costs (colour a) 48
-unfolding colour IsSmallPen
-costs-colour a h p s = record { bytes = length-change p.attrs a h; small = (h, s.1) }
+costs-color : (a : Attrs) → HasByteColors a → Costs (color a) 48
+unfolding color IsSmallPen
+costs-color a h p s = record { bytes = length-change p.attrs a h; small = (h, s.1) }
 
 costs-print : (x : CellView) (b : Bool) → IsCell x → Costs (print x b) 21
 unfolding print IsSmallPen
@@ -157,23 +157,23 @@ costs-opening : (j : Job) → IsRowJob j → Costs (opening j) 71
 unfolding opening
 costs-opening j h p s =
     let x = j.new j.start in
-    costs-here (owes_flag j p) (turn j.row >> colour x.attrs >> reprint j x) skip 71 p s
-    (costs-then (turn j.row >> colour x.attrs) (reprint j x) 48 23
-    (costs-then (turn j.row) (colour x.attrs) 0 48 (costs-turn j.row) (costs-colour x.attrs (h.small.colors j.start)))
+    costs-here (owes_flag j p) (turn j.row >> color x.attrs >> reprint j x) skip 71 p s
+    (costs-then (turn j.row >> color x.attrs) (reprint j x) 48 23
+    (costs-then (turn j.row) (color x.attrs) 0 48 (costs-turn j.row) (costs-color x.attrs (h.small.colors j.start)))
     (costs-reprint j j.start h)) (costs-skip 71)
 
 costs-to_erase : (j : Job) (e : Erase) → IsRowJob j → e.from < 2 ^ 16 → HasByteColors e.attrs
     → Costs (to_erase j e) 62
 unfolding to_erase
 costs-to_erase j e h l k p s =
-    costs-here (wraps j 1 p && (e.from == 0)) (turn j.row >> space >> back >> colour e.attrs)
-    (goto j.row e.from >> colour e.attrs) 62 p s
-    (costs-more (turn j.row >> space >> back >> colour e.attrs) 50 62 (omega arith)
-    (costs-then (turn j.row >> space >> back) (colour e.attrs) 2 48
+    costs-here (wraps j 1 p && (e.from == 0)) (turn j.row >> space >> back >> color e.attrs)
+    (goto j.row e.from >> color e.attrs) 62 p s
+    (costs-more (turn j.row >> space >> back >> color e.attrs) 50 62 (omega arith)
+    (costs-then (turn j.row >> space >> back) (color e.attrs) 2 48
     (costs-then (turn j.row >> space) back 1 1
     (costs-then (turn j.row) space 0 1 (costs-turn j.row) costs-space) costs-back)
-    (costs-colour e.attrs k)))
-    (costs-then (goto j.row e.from) (colour e.attrs) 14 48 (costs-goto j.row e.from h.small.row l) (costs-colour e.attrs k))
+    (costs-color e.attrs k)))
+    (costs-then (goto j.row e.from) (color e.attrs) 14 48 (costs-goto j.row e.from h.small.row l) (costs-color e.attrs k))
 
 costs-flush_of : (j : Job) (c : ℕ) (e : Option Erase) → IsRowJob j → c < j.cols → SmallErase e
     → Costs (flush_of j c e) 70
@@ -221,10 +221,10 @@ costs-draw j c h l =
     let x = j.new c in
     let b = put_unflags j.cols j.old c x in
     costs-either (is_same j c) skip _ 83 (λ _. costs-skip 83)
-    (λ _. costs-either (has_text x) (arrive j c (span_of x) >> colour x.attrs >> print x b) (mark j c) 83
-    (λ _. costs-then (arrive j c (span_of x) >> colour x.attrs) (print x b) 62 21
-    (costs-then (arrive j c (span_of x)) (colour x.attrs) 14 48 (costs-arrive j c (span_of x) h l)
-    (costs-colour x.attrs (h.small.colors c))) (costs-print x b (h.cells c)))
+    (λ _. costs-either (has_text x) (arrive j c (span_of x) >> color x.attrs >> print x b) (mark j c) 83
+    (λ _. costs-then (arrive j c (span_of x) >> color x.attrs) (print x b) 62 21
+    (costs-then (arrive j c (span_of x)) (color x.attrs) 14 48 (costs-arrive j c (span_of x) h l)
+    (costs-color x.attrs (h.small.colors c))) (costs-print x b (h.cells c)))
     (λ _. costs-more (mark j c) 0 83 (omega arith) (costs-mark j c h l)))
 
 costs-column : (j : Job) (c : ℕ) → IsRowJob j → c < j.cols → Costs (column j c) 153
@@ -245,17 +245,17 @@ costs-print_last : (j : Job) (k : ℕ) → IsRowJob j → Costs (print_last (j.n
 unfolding print_last
 costs-print_last j k h =
     let x = j.new k in
-    costs-either (has_text x) (colour x.attrs >> print x false) skip 69
-    (λ _. costs-then (colour x.attrs) (print x false) 48 21 (costs-colour x.attrs (h.small.colors k))
+    costs-either (has_text x) (color x.attrs >> print x false) skip 69
+    (λ _. costs-then (color x.attrs) (print x false) 48 21 (costs-color x.attrs (h.small.colors k))
     (costs-print x false (h.cells k))) (λ _. costs-skip 69)
 
 costs-unflag : (j : Job) (k : ℕ) → IsRowJob j → Costs (unflag (j.new k)) 56
 unfolding unflag
 costs-unflag j k h =
     let x = j.new k in
-    costs-either (has_text x) (erasing 1 true) (colour x.attrs >> erasing 1 true) 56
+    costs-either (has_text x) (erasing 1 true) (color x.attrs >> erasing 1 true) 56
     (λ _. costs-more (erasing 1 true) 8 56 (omega arith) (costs-erasing 1 true (omega arith)))
-    (λ _. costs-then (colour x.attrs) (erasing 1 true) 48 8 (costs-colour x.attrs (h.small.colors k))
+    (λ _. costs-then (color x.attrs) (erasing 1 true) 48 8 (costs-color x.attrs (h.small.colors k))
     (costs-erasing 1 true (omega arith)))
 
 costs-mend : (j : Job) (k : ℕ) → IsRowJob j → Costs (mend j (j.new k)) 125

@@ -2,7 +2,7 @@
 use Rattle.std.proofs.Common.{refl}
 use lib.Utf8.{encode}
 use Rattle.unicode_width.specs.Width.{char_width}
-use Rattle.row_drawing.specs.Writer.{◌>>◌, skip, goto, turn, colour, print, space, back, erasing, clearing, marking}
+use Rattle.row_drawing.specs.Writer.{◌>>◌, skip, goto, turn, color, print, space, back, erasing, clearing, marking}
 use Rattle.row_drawing.specs.RowWriter.{reprint, opening, to_erase, flush_of, flush, finish_of, finish, arrive}
 use Rattle.row_drawing.specs.RowWriter.{mark_of, mark, draw, column, columns, unflag, print_last, mend, closing}
 use Rattle.row_drawing.specs.RowWriter.{row_redraw, row_difference}
@@ -15,7 +15,7 @@ use Rattle.screen_drawing.specs.Screen.{cursor_state_formatted}
 use Rattle.screen_drawing.specs.Examples.{EachExampleIsWritten}
 
 pub examples : EachExampleIsWritten
-unfolding ◌>>◌ skip goto turn colour print space back erasing clearing marking reprint opening to_erase flush_of flush
+unfolding ◌>>◌ skip goto turn color print space back erasing clearing marking reprint opening to_erase flush_of flush
     finish_of finish arrive mark_of mark draw column columns unflag print_last mend closing row_redraw row_difference
     char_width encode next_redraw rows_redraw next_difference rows_difference wait_behind wait_on_empty wait
     cursor_position_formatted input_mode_formatted input_mode_diff attributes_formatted cursor_placed grid_redraw

@@ -115,7 +115,7 @@ behind-length z s p a r h ha l =
       arith,
       join-length goes (printed_with a x),
       arriving-length p r c l (last-small z s r h),
-      printed-length a x ha (h.colours r c) (h.cells r c),
+      printed-length a x ha (h.colors r c) (h.cells r c),
     ))
 
 empty-length : (z : Size) (p : Option Pos) (a : Attrs) (r : ℕ) (x : CellView) → z.cols < 2 ^ 16 → r < 2 ^ 16
@@ -150,7 +150,7 @@ wait-length z s p a None h ha e =
     omega (
       arith,
       empty-length z p a s.row (s.cell s.row (z.cols - 1)) h.cols (omega (arith, h.shown.in_rows, h.rows)) ha
-          (h.colours s.row (z.cols - 1)),
+          (h.colors s.row (z.cols - 1)),
     )
 wait-length z s p a (Some r) h ha e =
     let up = e.0 in

@@ -18,12 +18,12 @@ use Rattle.terminal_model.specs.Touch.{put_touches, wipe_touches, form_touches, 
 use Rattle.terminal_model.proofs.Positions.{update-kept}
 use Rattle.terminal_model.proofs.FormLemmas.{change-read, down-room}
 use Rattle.terminal_model.proofs.TouchLemmas.{within-joined}
-use Rattle.row_drawing.specs.Writer.{goto, colour, print, erasing}
+use Rattle.row_drawing.specs.Writer.{goto, color, print, erasing}
 use Rattle.row_drawing.proofs.Steps.{at, pen, sends-space, span-space}
 use Rattle.row_drawing.proofs.Columns.{span-wide, span-narrow}
 use Rattle.row_drawing.proofs.RowEnd.{span-few}
 use Rattle.row_drawing.proofs.LocalRow.{or-four}
-use Rattle.row_drawing.proofs.Touches.{stays-goto, stays-colour, stays-print, stays-erasing}
+use Rattle.row_drawing.proofs.Touches.{stays-goto, stays-color, stays-print, stays-erasing}
 use Rattle.screen_drawing.specs.Cursor.{place, arriving, is_pen_at, end_col, end_cell, row_with_end, printed_with}
 use Rattle.screen_drawing.specs.Cursor.{wait_behind, wait_on_empty, wait, cursor_position_formatted}
 use Rattle.screen_drawing.specs.Laws.{IsDrawable}
@@ -40,8 +40,8 @@ idle S z f t h r k e =
     absurd (both_ways (form_touches z f t r k) (h r k) (and_parts (nat_lt r z.rows && nat_lt k z.cols) _ e).1)
 
 pub change-within : (S : ℕ → ℕ → Type 0) (z : Size) (a b : Attrs) (t : Term) → Within S z (change a b) t
-unfolding colour
-change-within S z a b t = stays-colour S z b (pen 0 0 a None false) t
+unfolding color
+change-within S z a b t = stays-color S z b (pen 0 0 a None false) t
 
 arriving-within : (S : ℕ → ℕ → Type 0) (z : Size) (p : Option Pos) (r c row col : ℕ) (t : Term) → Known p r c
     → t.row ≡ r → row < z.rows → Within S z (arriving p (place row col)) t

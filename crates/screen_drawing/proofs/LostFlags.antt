@@ -8,7 +8,7 @@ use Rattle.vt100_cells.specs.Line.{wipe_unflags}
 use Rattle.vt100_cells.specs.CellEq.{cell_eq-true, cell_eq-of_same}
 use Rattle.row_drawing.specs.declared.pen.Erase.{Erase}
 use Rattle.row_drawing.specs.declared.pen.Pen.{Pen}
-use Rattle.row_drawing.specs.Writer.{Drawn, Writer, ◌>>◌, skip, goto, turn, colour, print, space, back, erasing}
+use Rattle.row_drawing.specs.Writer.{Drawn, Writer, ◌>>◌, skip, goto, turn, color, print, space, back, erasing}
 use Rattle.row_drawing.specs.RowWriter.{Job, is_same, owes_flag, reprint, opening, is_end, flush_of, flush}
 use Rattle.row_drawing.specs.RowWriter.{finish_of, finish, draw, column, columns, last_col_of, last_cell_of, owes_end}
 use Rattle.row_drawing.specs.RowWriter.{print_last, mend, closing, row_redraw, row_difference}
@@ -77,10 +77,10 @@ reprint-kept j x p kept keeps =
 opening-kept : (j : Job) (p : Pen) → p.lost ≡ false
     → (owes_flag j p ≡ true → has_text (j.new j.start) ≡ false → wipe_unflags j.cols j.old 0 1 ≡ false)
     → (opening j p).pen.lost ≡ false
-unfolding opening ◌>>◌ turn colour skip
+unfolding opening ◌>>◌ turn color skip
 opening-kept j p kept keeps =
     let x = j.new j.start in
-    cond_both (owes_flag j p) ((turn j.row >> colour x.attrs >> reprint j x) p) (skip p)
+    cond_both (owes_flag j p) ((turn j.row >> color x.attrs >> reprint j x) p) (skip p)
     (λ (d : Drawn). d.pen.lost ≡ false)
     (λ owed. reprint-kept j x (record p { pos = record { row = j.row; col = 0 }; attrs = x.attrs }) kept (keeps owed))
     (λ _. kept)
@@ -111,7 +111,7 @@ first-keeps s p h on owed none =
 -- ---- the last cell once more
 
 closing-blamed : (K : Type 0) (j : Job) (q : Pen) → j.wrapped ≡ true → IsBlamed K q → IsBlamed K (closing j q).pen
-unfolding closing ◌>>◌ goto print_last colour print skip
+unfolding closing ◌>>◌ goto print_last color print skip
 closing-blamed K j q on b =
     let x = last_cell_of j in
     let u : Pen = record q { pos = record { row = j.row; col = last_col_of j } } in
@@ -121,7 +121,7 @@ closing-blamed K j q on b =
     ]) in
     cond_both (owes_end j q) ((goto j.row (last_col_of j) >> mend j x) q) (skip q) (λ (d : Drawn). IsBlamed K d.pen)
     (λ _. subst (λ (d : Drawn). IsBlamed K d.pen) (sym (mend-wraps j x u on))
-    (cond_both (has_text x) (colour x.attrs >> print x false) skip (λ (f : Writer). IsBlamed K (f u).pen) (λ _. or_none)
+    (cond_both (has_text x) (color x.attrs >> print x false) skip (λ (f : Writer). IsBlamed K (f u).pen) (λ _. or_none)
     (λ _. b)))
     (λ _. b)
 

@@ -39,7 +39,7 @@ pub small-job : (z : Size) (old s : Shown) (i : ℕ) (flagged : Bool) → IsSmal
 small-job z old s i flagged h l = record {
   cols = h.cols;
   row = omega (arith, l, h.rows);
-  colors = h.colours i;
+  colors = h.colors i;
 }
 
 pub small-afresh : (p : Pen) → IsSmallPen p → IsSmallPen (afresh p)
@@ -102,7 +102,7 @@ behind-small z s p a r h ha l =
     cond_both (is_pen_at p (place r z.cols)) [] (goes ++ printed_with a x) AreSmall (λ _. tt)
     (λ _. all-join HasSmallNumbers goes (printed_with a x) (arriving-small p r c l (last-small z s r h))
     (all-join HasSmallNumbers (change a x.attrs) (Text x.text ∷ change x.attrs a)
-    (change-small a x.attrs (h.colours r c)) (tt, change-small x.attrs a ha)))
+    (change-small a x.attrs (h.colors r c)) (tt, change-small x.attrs a ha)))
 
 empty-small : (z : Size) (p : Option Pos) (a : Attrs) (r : ℕ) (x : CellView) → z.cols < 2 ^ 16 → r < 2 ^ 16
     → HasByteColors a → HasByteColors x.attrs → AreSmall (wait_on_empty z p a r x)
@@ -121,7 +121,7 @@ wait-small : (z : Size) (s : Shown) (p : Option Pos) (a : Attrs) (o : Option ℕ
 unfolding wait Ends
 wait-small z s p a None h ha e =
     empty-small z p a s.row (s.cell s.row (z.cols - 1)) h.cols (omega (arith, h.shown.in_rows, h.rows)) ha
-    (h.colours s.row (z.cols - 1))
+    (h.colors s.row (z.cols - 1))
 wait-small z s p a (Some r) h ha e =
     let up = e.0 in
     all-join HasSmallNumbers (wait_behind z s p a r) (replicate (s.row - r) Lf)

@@ -31,8 +31,8 @@ screen rows flags row col = record blank_shown {
   col = col;
 }
 
-abbrev pub coloured : ℕ → Attrs
-coloured i = record { fgcolor = Idx i; bgcolor = Default; mode = 0 }
+abbrev pub colored : ℕ → Attrs
+colored i = record { fgcolor = Idx i; bgcolor = Default; mode = 0 }
 
 abbrev pub letters : Attrs → List ℕ → List CellView
 letters a cs = map (λ c. cell_of c a) cs
@@ -64,11 +64,11 @@ start = HideCursor false ∷ ClearAttrs ∷ ClearScreen ∷ []
 
 -- a word in red, and another one in green over it
 abbrev pub red_word : Shown
-red_word = screen ((plain_cells (codes "text is ") ++ letters (coloured 1) (codes "RED")) ∷ []) [] 0 11
+red_word = screen ((plain_cells (codes "text is ") ++ letters (colored 1) (codes "RED")) ∷ []) [] 0 11
 
 abbrev pub green_word : Shown
-green_word = record (screen ((plain_cells (codes "text is ") ++ letters (coloured 2) (codes "GREEN")) ∷ []) [] 0 13) {
-  attrs = coloured 2;
+green_word = record (screen ((plain_cells (codes "text is ") ++ letters (colored 2) (codes "GREEN")) ∷ []) [] 0 13) {
+  attrs = colored 2;
 }
 
 -- the first row goes on in the second one; its last cell changes, and one in the second row goes
@@ -105,8 +105,8 @@ below_full = screen (plain_cells (codes "ab") ∷ []) [] 1 2
 
 -- all modes
 abbrev pub moded : Shown
-moded = record (screen (letters (coloured 9) (codes "A") ∷ []) [] 0 1) {
-  attrs = coloured 9;
+moded = record (screen (letters (colored 9) (codes "A") ∷ []) [] 0 1) {
+  attrs = colored 9;
   modes = record default_modes {
     keypad = true;
     cursor_keys = true;

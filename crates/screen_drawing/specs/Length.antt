@@ -14,7 +14,7 @@ pub record IsSmallScreen (z : Size) (s : Shown) : Type 0 where
   pub cells : (r k : ℕ) → IsCell (s.cell r k)
   pub rows : z.rows < 2 ^ 16
   pub cols : z.cols < 2 ^ 16
-  pub colours : (r k : ℕ) → HasByteColors (s.cell r k).attrs
+  pub colors : (r k : ℕ) → HasByteColors (s.cell r k).attrs
   pub attrs : HasByteColors s.attrs
 
 -- at most 1,024 bytes a cell, and so many more

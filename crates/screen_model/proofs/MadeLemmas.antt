@@ -18,7 +18,7 @@ use Rattle.screen_model.specs.Step.{reports_of, resized_to}
 use Rattle.screen_model.specs.Effect.{effect}
 use Rattle.screen_model.specs.Made.{Act, Fed, Resized, played, events_added, made_on, made}
 use Rattle.screen_model.specs.Holds.{IsAct, AreActs, last_rows, last_cols, MakesStates, MakesLastSize}
-use Rattle.screen_model.specs.Holds.{MakesCapacity, MakesNoOffset, MakesCells, MakesProperCells, MakesByteColours}
+use Rattle.screen_model.specs.Holds.{MakesCapacity, MakesNoOffset, MakesCells, MakesProperCells, MakesByteColors}
 use Rattle.screen_model.specs.Holds.{KeepsAtSameSize}
 use Rattle.screen_model.proofs.RowTraits.{IsKnown, IsClean, IsCleanRow, sound, clean-row, clean-cell}
 use Rattle.screen_model.proofs.SheetTraits.{IsCleanSheet}
@@ -118,8 +118,8 @@ makes-proper_cells rows cols capacity acts h r c =
     let w = made-well rows cols capacity acts h in
     (clean-cell sound (visible_at s.shown r) (shown-row s.shown w.shown.fine.grid w.clean r).1 c).attrs
 
-pub makes-byte_colours : MakesByteColours
-makes-byte_colours rows cols capacity acts h =
+pub makes-byte_colors : MakesByteColors
+makes-byte_colors rows cols capacity acts h =
     let w = made-well rows cols capacity acts h in
     record { cells = λ r c. (makes-proper_cells rows cols capacity acts h r c).colors; drawn = w.drawn.attrs.colors }
 

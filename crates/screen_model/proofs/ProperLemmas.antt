@@ -9,9 +9,9 @@ use Rattle.vt100_forms.specs.declared.attrs.Attrs.{Attrs}
 use Rattle.vt100_forms.specs.declared.attrs.Color.{Color}
 use Rattle.vt100_forms.specs.declared.attrs.Color.TheVariants.{Default, Idx, Rgb}
 use Rattle.vt100_forms.proofs.AttrsLemmas.{default-proper, setters_keep_proper}
-use Rattle.screen_model.specs.Sgr.{coloured, flag_rows, code_row, target_of, Awaits, nothing, kind, index, red, green}
+use Rattle.screen_model.specs.Sgr.{colored, flag_rows, code_row, target_of, Awaits, nothing, kind, index, red, green}
 use Rattle.screen_model.specs.Sgr.{blue}
-use Rattle.screen_model.specs.Sgr.{Next, goes_on, passed_over, ends, ends_unhandled, rgb_next, index_next, colour_next}
+use Rattle.screen_model.specs.Sgr.{Next, goes_on, passed_over, ends, ends_unhandled, rgb_next, index_next, color_next}
 use Rattle.screen_model.specs.Sgr.{target_next, code_next, single_next, first_next, kind_next, value_next, next, Read}
 use Rattle.screen_model.specs.Sgr.{read_on, read_groups, sgr_read}
 use Rattle.screen_model.proofs.Tables.{Each, ◌&◌, Where, looked-up}
@@ -36,9 +36,9 @@ NextIs passed_over = Unit {0}
 NextIs ends = Unit {0}
 NextIs ends_unhandled = Unit {0}
 
-coloured-proper : (t : Bool) (x : Color) (a : Attrs) → IsByteColor x → IsProper a → IsProper (coloured t x a)
-coloured-proper true x a k h = record { small = h.small; one = h.one; colors = (k, h.colors.1) }
-coloured-proper false x a k h = record { small = h.small; one = h.one; colors = (h.colors.0, k) }
+colored-proper : (t : Bool) (x : Color) (a : Attrs) → IsByteColor x → IsProper a → IsProper (colored t x a)
+colored-proper true x a k h = record { small = h.small; one = h.one; colors = (k, h.colors.1) }
+colored-proper false x a k h = record { small = h.small; one = h.one; colors = (h.colors.0, k) }
 
 next-cond : (b : Bool) (x y : Next) → (b ≡ true → NextIs x) → NextIs y → NextIs (if b then x else y)
 next-cond true x y h k = h refl
@@ -50,16 +50,16 @@ flags-keep =
     & (λ a h. (setters_keep_proper a h).italic true) & (λ a h. (setters_keep_proper a h).underline true)
     & (λ a h. (setters_keep_proper a h).inverse true) & (λ a h. (setters_keep_proper a h).normal)
     & (λ a h. (setters_keep_proper a h).italic false) & (λ a h. (setters_keep_proper a h).underline false)
-    & (λ a h. (setters_keep_proper a h).inverse false) & (λ a. coloured-proper true Default a tt)
-    & (λ a. coloured-proper false Default a tt) & tt
+    & (λ a h. (setters_keep_proper a h).inverse false) & (λ a. colored-proper true Default a tt)
+    & (λ a. colored-proper false Default a tt) & tt
 
 within : (low high n : ℕ) → is_in_range low high n ≡ true → n ≤ high
 within low high n h = grind (arith, nat_tests)
 
 indexed-keeps : (t : Bool) (low high less n : ℕ) → high < 2 ^ 8 → is_in_range low high n ≡ true
-    → Keeps (coloured t (Idx (n - less)))
+    → Keeps (colored t (Idx (n - less)))
 indexed-keeps t low high less n l h a k =
-    coloured-proper t (Idx (n - less)) a (omega (arith, l, within low high n h)) k
+    colored-proper t (Idx (n - less)) a (omega (arith, l, within low high n h)) k
 
 code-keeps : (n : ℕ) → Where Keeps (code_row n)
 code-keeps n =
@@ -71,22 +71,22 @@ code-keeps n =
 
 -- ---- groups
 
-colour_next-proper : (t : Bool) (ns : List ℕ) (a : Attrs) → IsProper a → NextIs (colour_next t ns a)
-colour_next-proper t (m ∷ i ∷ []) a h =
+color_next-proper : (t : Bool) (ns : List ℕ) (a : Attrs) → IsProper a → NextIs (color_next t ns a)
+color_next-proper t (m ∷ i ∷ []) a h =
     next-cond (nat_eq m 5) (index_next t i a) passed_over
-    (λ _. next-cond (nat_lt i 256) (goes_on nothing (coloured t (Idx i) a)) ends
-    (λ e. (tt, coloured-proper t (Idx i) a (ltb-true i 256 e) h)) tt) tt
-colour_next-proper t (m ∷ r ∷ g ∷ b ∷ []) a h =
+    (λ _. next-cond (nat_lt i 256) (goes_on nothing (colored t (Idx i) a)) ends
+    (λ e. (tt, colored-proper t (Idx i) a (ltb-true i 256 e) h)) tt) tt
+color_next-proper t (m ∷ r ∷ g ∷ b ∷ []) a h =
     next-cond (nat_eq m 2) (rgb_next t r g b a) passed_over
-    (λ _. next-cond (nat_lt r 256 && (nat_lt g 256 && nat_lt b 256)) (goes_on nothing (coloured t (Rgb r g b) a)) ends
+    (λ _. next-cond (nat_lt r 256 && (nat_lt g 256 && nat_lt b 256)) (goes_on nothing (colored t (Rgb r g b) a)) ends
     (λ e. let p = and_parts (nat_lt r 256) (nat_lt g 256 && nat_lt b 256) e in
     let q = and_parts (nat_lt g 256) (nat_lt b 256) p.1 in
-    (tt, coloured-proper t (Rgb r g b) a (ltb-true r 256 p.0, ltb-true g 256 q.0, ltb-true b 256 q.1) h)) tt) tt
-colour_next-proper t ns a h = tt
+    (tt, colored-proper t (Rgb r g b) a (ltb-true r 256 p.0, ltb-true g 256 q.0, ltb-true b 256 q.1) h)) tt) tt
+color_next-proper t ns a h = tt
 
 target_next-proper : (o : Option Bool) (ns : List ℕ) (a : Attrs) → IsProper a → NextIs (target_next o ns a)
 target_next-proper None ns a h = tt
-target_next-proper (Some t) ns a h = colour_next-proper t ns a h
+target_next-proper (Some t) ns a h = color_next-proper t ns a h
 
 code_next-proper : (o : Option (Attrs → Attrs)) → Where Keeps o → (a : Attrs) → IsProper a → NextIs (code_next o a)
 code_next-proper None k a h = tt
@@ -115,12 +115,12 @@ next-proper : (w : Awaits) (g : List ℕ) (a : Attrs) → AreBytes w → IsPrope
 next-proper nothing g a v h = first_next-proper g a h
 next-proper (kind t) g a v h = kind_next-proper t g a h
 next-proper (index t) g a v h =
-    value_next-proper (λ i. goes_on nothing (coloured t (Idx i) a)) (λ i l. (tt, coloured-proper t (Idx i) a l h)) g
+    value_next-proper (λ i. goes_on nothing (colored t (Idx i) a)) (λ i l. (tt, colored-proper t (Idx i) a l h)) g
 next-proper (red t) g a v h = value_next-proper (λ r. goes_on (green t r) a) (λ r l. (l, h)) g
 next-proper (green t r) g a v h = value_next-proper (λ gr. goes_on (blue t r gr) a) (λ gr l. ((v, l), h)) g
 next-proper (blue t r gr) g a v h =
-    value_next-proper (λ b. goes_on nothing (coloured t (Rgb r gr b) a))
-    (λ b l. (tt, coloured-proper t (Rgb r gr b) a (v.0, v.1, l) h)) g
+    value_next-proper (λ b. goes_on nothing (colored t (Rgb r gr b) a))
+    (λ b l. (tt, colored-proper t (Rgb r gr b) a (v.0, v.1, l) h)) g
 
 read_on-proper : (rest : Awaits → Attrs → Read)
     → ((w : Awaits) (b : Attrs) → AreBytes w → IsProper b → IsProper (rest w b).attrs)

@@ -82,13 +82,13 @@ MakesProperCells = (rows cols capacity : ℕ) (acts : List Act) → AreActs rows
     → ShowsProperCells (made rows cols capacity acts)
 
 -- the colours of each cell that is shown, and those that are drawn with, are numbered from 0 to 255
-pub record ShowsByteColours (s : State) : Type 0 where
+pub record ShowsByteColors (s : State) : Type 0 where
   pub cells : (r c : ℕ) → HasByteColors (cell_at (visible_at s.shown r).cells c).attrs
   pub drawn : HasByteColors s.attrs
 
-abbrev pub MakesByteColours : Type 0
-MakesByteColours = (rows cols capacity : ℕ) (acts : List Act) → AreActs rows cols capacity acts
-    → ShowsByteColours (made rows cols capacity acts)
+abbrev pub MakesByteColors : Type 0
+MakesByteColors = (rows cols capacity : ℕ) (acts : List Act) → AreActs rows cols capacity acts
+    → ShowsByteColors (made rows cols capacity acts)
 
 -- the size that a terminal has already changes nothing but that the program's update ends, and no row leaves
 abbrev pub KeepsAtSameSize : Type 0

@@ -10,9 +10,9 @@ use Rattle.vt100_forms.specs.declared.attrs.Color.TheVariants.{Default, Idx, Rgb
 use Rattle.screen_model.specs.Lookup.{lookup}
 
 -- the foreground, or the background, gets this colour
-abbrev pub coloured : Bool → Color → Attrs → Attrs
-coloured true x a = record a { fgcolor = x }
-coloured false x a = record a { bgcolor = x }
+abbrev pub colored : Bool → Color → Attrs → Attrs
+colored true x a = record a { fgcolor = x }
+colored false x a = record a { bgcolor = x }
 
 -- ---- a group of one number
 
@@ -21,15 +21,15 @@ flag_rows =
     (0, λ a. default_attrs) ∷ (1, with_bold) ∷ (2, with_dim) ∷ (3, with_italic true) ∷ (4, with_underline true)
     ∷ (7, with_inverse true)
     ∷ (22, with_normal_intensity) ∷ (23, with_italic false) ∷ (24, with_underline false) ∷ (27, with_inverse false)
-    ∷ (39, coloured true Default) ∷ (49, coloured false Default) ∷ []
+    ∷ (39, colored true Default) ∷ (49, colored false Default) ∷ []
 
 -- the eight colours and the bright ones, and the flags
 abbrev pub code_row : ℕ → Option (Attrs → Attrs)
 code_row n =
-    if is_in_range 30 37 n then Some (coloured true (Idx (n - 30)))
-    else if is_in_range 40 47 n then Some (coloured false (Idx (n - 40)))
-    else if is_in_range 90 97 n then Some (coloured true (Idx (n - 82)))
-    else if is_in_range 100 107 n then Some (coloured false (Idx (n - 92)))
+    if is_in_range 30 37 n then Some (colored true (Idx (n - 30)))
+    else if is_in_range 40 47 n then Some (colored false (Idx (n - 40)))
+    else if is_in_range 90 97 n then Some (colored true (Idx (n - 82)))
+    else if is_in_range 100 107 n then Some (colored false (Idx (n - 92)))
     else lookup n flag_rows
 
 -- 38 begins a foreground colour, 48 a background
@@ -59,21 +59,21 @@ pub data Next : Type 0 where
 
 -- a colour where its values are below 256
 abbrev pub rgb_next : Bool → ℕ → ℕ → ℕ → Attrs → Next
-rgb_next t r g b a = if nat_lt r 256 && (nat_lt g 256 && nat_lt b 256) then goes_on nothing (coloured t (Rgb r g b) a)
+rgb_next t r g b a = if nat_lt r 256 && (nat_lt g 256 && nat_lt b 256) then goes_on nothing (colored t (Rgb r g b) a)
     else ends
 
 abbrev pub index_next : Bool → ℕ → Attrs → Next
-index_next t i a = if nat_lt i 256 then goes_on nothing (coloured t (Idx i) a) else ends
+index_next t i a = if nat_lt i 256 then goes_on nothing (colored t (Idx i) a) else ends
 
 -- the numbers of a group after 38 or 48: 2 and three values, 5 and one
-abbrev pub colour_next : Bool → List ℕ → Attrs → Next
-colour_next t (m ∷ i ∷ []) a = if nat_eq m 5 then index_next t i a else passed_over
-colour_next t (m ∷ r ∷ g ∷ b ∷ []) a = if nat_eq m 2 then rgb_next t r g b a else passed_over
-colour_next t ns a = passed_over
+abbrev pub color_next : Bool → List ℕ → Attrs → Next
+color_next t (m ∷ i ∷ []) a = if nat_eq m 5 then index_next t i a else passed_over
+color_next t (m ∷ r ∷ g ∷ b ∷ []) a = if nat_eq m 2 then rgb_next t r g b a else passed_over
+color_next t ns a = passed_over
 
 abbrev pub target_next : Option Bool → List ℕ → Attrs → Next
 target_next None ns a = passed_over
-target_next (Some t) ns a = colour_next t ns a
+target_next (Some t) ns a = color_next t ns a
 
 abbrev pub code_next : Option (Attrs → Attrs) → Attrs → Next
 code_next None a = passed_over
@@ -101,10 +101,10 @@ value_next f ns = ends
 abbrev pub next : Awaits → List ℕ → Attrs → Next
 next nothing g a = first_next g a
 next (kind t) g a = kind_next t g a
-next (index t) g a = value_next (λ i. goes_on nothing (coloured t (Idx i) a)) g
+next (index t) g a = value_next (λ i. goes_on nothing (colored t (Idx i) a)) g
 next (red t) g a = value_next (λ r. goes_on (green t r) a) g
 next (green t r) g a = value_next (λ gr. goes_on (blue t r gr) a) g
-next (blue t r gr) g a = value_next (λ b. goes_on nothing (coloured t (Rgb r gr b) a)) g
+next (blue t r gr) g a = value_next (λ b. goes_on nothing (colored t (Rgb r gr b) a)) g
 
 -- ---- all groups
 

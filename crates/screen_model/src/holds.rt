@@ -3,7 +3,7 @@
 //!
 //! Sizes are from 1 to 65,535, and fewer than 2^64 rows are kept, as the types of the calls say.
 ghost use Rattle.screen_model.specs.Holds.{MakesStates, MakesLastSize, MakesCapacity, MakesNoOffset, MakesCells};
-ghost use Rattle.screen_model.specs.Holds.{MakesProperCells, MakesByteColours, KeepsAtSameSize};
+ghost use Rattle.screen_model.specs.Holds.{MakesProperCells, MakesByteColors, KeepsAtSameSize};
 ghost use Rattle.screen_model.specs.Shown.{EachCellIsTold, EachWrapIsTold, AlikeShowTheSame, EachCharacterIsTold};
 
 /// What bytes and resizes make of a new terminal is a state of one: its sheets are grids of one size, the shown one and the main one have their rows, the
@@ -36,8 +36,8 @@ pub fn proper_cells()
 {}
 
 /// The colours of each cell that is shown, and those that are drawn with, have numbers from 0 to 255.
-pub fn byte_colours()
-    ensures { MakesByteColours }
+pub fn byte_colors()
+    ensures { MakesByteColors }
 {}
 
 /// A resize to the size that the terminal has already changes nothing but that the program's synchronized update ends,

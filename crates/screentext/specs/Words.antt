@@ -20,8 +20,8 @@ value_rule id = record (new_rule id) { long = Some id; value_names = 1 }
 abbrev pub flag_rule : Text → Rule
 flag_rule id = record (new_rule id) { long = Some id; action = Some Count }
 
-abbrev pub colours_rule : Rule
-colours_rule = record (flag_rule (codes "colours")) { aliases = codes "colors" ∷ [] }
+abbrev pub colors_rule : Rule
+colors_rule = record (flag_rule (codes "colors")) { aliases = codes "colors" ∷ [] }
 
 -- the program's name and version, with no words
 abbrev pub program : App
@@ -33,7 +33,7 @@ with_values a = with_rule (with_rule (with_rule (with_rule (with_rule a (new_rul
     (value_rule (codes "at"))) (value_rule (codes "diff"))) (value_rule (codes "history"))
 
 abbrev pub with_flags : App → App
-with_flags a = with_rule (with_rule (with_rule (with_rule a (flag_rule (codes "joined"))) colours_rule) (flag_rule (codes "html")))
+with_flags a = with_rule (with_rule (with_rule (with_rule a (flag_rule (codes "joined"))) colors_rule) (flag_rule (codes "html")))
     (flag_rule (codes "svg"))
 
 -- what `clap` is told of `[ROWS COLS] [--at SECONDS] [--diff SECONDS] [--history N] [--joined] [--colours] [--html | --svg]`
@@ -76,7 +76,7 @@ is_order words = is_order_of (fault_of known words) (matches_of known words)
 
 -- what words that aren't understood are told
 abbrev pub usage_line : List ℕ
-usage_line = codes "usage: screentext [ROWS COLS] [--at SECONDS] [--diff SECONDS] [--history N] [--joined] [--colours] [--html | --svg]"
+usage_line = codes "usage: screentext [ROWS COLS] [--at SECONDS] [--diff SECONDS] [--history N] [--joined] [--colors] [--html | --svg]"
     ++ 0x0A ∷ []
 
 -- what is told where memory is refused

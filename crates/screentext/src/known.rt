@@ -2,7 +2,7 @@
 
 ghost use Rattle.std.specs.Prelude.{◌≡◌, [], ◌∷◌, false, codes, IfOk};
 ghost use Rattle.clap.specs.Words.{app_of, new_rule, rule_of};
-ghost use Rattle.screentext.specs.Words.{colours_rule, flag_rule, known, program as program_app, value_rule};
+ghost use Rattle.screentext.specs.Words.{colors_rule, flag_rule, known, program as program_app, value_rule};
 ghost use Rattle.screentext.specs.Words.{with_flags as with_flags_on, with_values as with_values_on};
 
 use clap::{Arg, ArgAction, Command};
@@ -80,25 +80,25 @@ fn with_flags<'a>(alloc: Global, command: Command<'a>) -> Result<Command<'a>, Al
         "joined",
         "A row that goes on in the next is one line with it",
     );
-    let colours = colours(alloc)?;
+    let colors = colors(alloc)?;
     let html = flag(alloc, "html", "A page in HTML that shows the screen");
     let svg = flag(
         alloc,
         "svg",
         "A picture in SVG of the screen; not with --html",
     );
-    Ok(command.arg(joined)?.arg(colours)?.arg(html)?.arg(svg)?)
+    Ok(command.arg(joined)?.arg(colors)?.arg(html)?.arg(svg)?)
 }
 
-fn colours<'a>(alloc: Global) -> Result<Arg<'a>, AllocError>
-    ensures { IfOk result (λ a. (rule_of a ≡ colours_rule) × (a.global ≡ false)) }
+fn colors<'a>(alloc: Global) -> Result<Arg<'a>, AllocError>
+    ensures { IfOk result (λ a. (rule_of a ≡ colors_rule) × (a.global ≡ false)) }
 {
-    let colours = flag(
+    let colors = flag(
         alloc,
         "colours",
         "Colours and other attributes, as escape sequences (SGR)",
     );
-    Ok(colours.visible_alias("colors")?)
+    Ok(colors.visible_alias("colors")?)
 }
 
 // A positional word.

@@ -65,7 +65,7 @@ fn push_row(out: &mut String, screen: &Screen, row: u16, look: Look) -> Result<(
         let Some(cell) = screen.cell(row, col) else {
             break;
         };
-        if look.colours && style != Style::of(cell) {
+        if look.colors && style != Style::of(cell) {
             style = Style::of(cell);
             push_sgr(out, style)?;
         }
@@ -95,7 +95,7 @@ fn row_end(screen: &Screen, row: u16, look: Look) -> u16 {
 fn is_shown(cell: &Cell, look: Look) -> bool {
     (cell.has_contents() && (look.joined || cell.contents() != " "))
         || cell.is_wide_continuation()
-        || (look.colours && Style::of(cell).shows_on_blanks())
+        || (look.colors && Style::of(cell).shows_on_blanks())
 }
 
 // Appends the text of a cell: a space where it is empty, and nothing for the second column of a wide one.

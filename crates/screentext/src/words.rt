@@ -45,7 +45,7 @@ pub(crate) struct Look {
     /// Whether a row that goes on in the next has no newline, and rows keep the spaces at their ends.
     pub(crate) joined: bool,
     /// Whether colours and other attributes are told, by SGR.
-    pub(crate) colours: bool,
+    pub(crate) colors: bool,
 }
 
 /// Which screen is printed, and how.
@@ -100,7 +100,7 @@ fn order_of(alloc: Global, matches: &ArgMatches<'_>) -> Result<Option<Order>, Te
     let form = form_of(matches.get_count("html") > 0, matches.get_count("svg") > 0);
     let look = Look {
         joined: matches.get_count("joined") > 0,
-        colours: matches.get_count("colours") > 0,
+        colors: matches.get_count("colours") > 0,
     };
     Ok(print_order(size, moment, since, history, form, look))
 }

@@ -64,39 +64,39 @@ erase_below z t =
 -- ---- colours and attributes
 
 -- the 16 colours that have numbers, and the terminal's own
-abbrev pub named_colour : NamedColor → Option Color
-named_colour n.Black = Some (Idx 0)
-named_colour n.Red = Some (Idx 1)
-named_colour n.Green = Some (Idx 2)
-named_colour n.Yellow = Some (Idx 3)
-named_colour n.Blue = Some (Idx 4)
-named_colour n.Magenta = Some (Idx 5)
-named_colour n.Cyan = Some (Idx 6)
-named_colour n.White = Some (Idx 7)
-named_colour n.BrightBlack = Some (Idx 8)
-named_colour n.BrightRed = Some (Idx 9)
-named_colour n.BrightGreen = Some (Idx 10)
-named_colour n.BrightYellow = Some (Idx 11)
-named_colour n.BrightBlue = Some (Idx 12)
-named_colour n.BrightMagenta = Some (Idx 13)
-named_colour n.BrightCyan = Some (Idx 14)
-named_colour n.BrightWhite = Some (Idx 15)
-named_colour n.Foreground = Some Default
-named_colour n.Background = Some Default
-named_colour _ = None
+abbrev pub named_color : NamedColor → Option Color
+named_color n.Black = Some (Idx 0)
+named_color n.Red = Some (Idx 1)
+named_color n.Green = Some (Idx 2)
+named_color n.Yellow = Some (Idx 3)
+named_color n.Blue = Some (Idx 4)
+named_color n.Magenta = Some (Idx 5)
+named_color n.Cyan = Some (Idx 6)
+named_color n.White = Some (Idx 7)
+named_color n.BrightBlack = Some (Idx 8)
+named_color n.BrightRed = Some (Idx 9)
+named_color n.BrightGreen = Some (Idx 10)
+named_color n.BrightYellow = Some (Idx 11)
+named_color n.BrightBlue = Some (Idx 12)
+named_color n.BrightMagenta = Some (Idx 13)
+named_color n.BrightCyan = Some (Idx 14)
+named_color n.BrightWhite = Some (Idx 15)
+named_color n.Foreground = Some Default
+named_color n.Background = Some Default
+named_color _ = None
 
-abbrev pub colour_of : NamedOrNot → Option Color
-colour_of (c.Named named) = named_colour named
-colour_of (c.Spec rgb) = Some (Rgb rgb.r rgb.g rgb.b)
-colour_of (c.Indexed i) = Some (Idx i)
+abbrev pub color_of : NamedOrNot → Option Color
+color_of (c.Named named) = named_color named
+color_of (c.Spec rgb) = Some (Rgb rgb.r rgb.g rgb.b)
+color_of (c.Indexed i) = Some (Idx i)
 
 abbrev pub with_foreground : Option Color → Attrs → Attrs
 with_foreground None x = x
-with_foreground (Some colour) x = record x { fgcolor = colour }
+with_foreground (Some color) x = record x { fgcolor = color }
 
 abbrev pub with_background : Option Color → Attrs → Attrs
 with_background None x = x
-with_background (Some colour) x = record x { bgcolor = colour }
+with_background (Some color) x = record x { bgcolor = color }
 
 -- SGR
 abbrev pub with_attr : Attr → Attrs → Attrs
@@ -110,8 +110,8 @@ with_attr a.Underline x = with_underline true x
 with_attr a.CancelUnderline x = with_underline false x
 with_attr a.Reverse x = with_inverse true x
 with_attr a.CancelReverse x = with_inverse false x
-with_attr (a.Foreground colour) x = with_foreground (colour_of colour) x
-with_attr (a.Background colour) x = with_background (colour_of colour) x
+with_attr (a.Foreground color) x = with_foreground (color_of color) x
+with_attr (a.Background color) x = with_background (color_of color) x
 with_attr _ x = x
 
 -- ---- the cursor's style

@@ -1,6 +1,6 @@
 //! Drawing attributes (SGR).
 ghost use Rattle.std.specs.Prelude.{◌≡◌};
-ghost use Rattle.termview.specs.Step.{with_attr, colour_of, named_colour};
+ghost use Rattle.termview.specs.Step.{with_attr, color_of, named_color};
 
 use vt100_forms::attrs::{Attrs, Color};
 use vte_types::attr::Attr;
@@ -29,7 +29,7 @@ pub(crate) fn set_attribute(attrs: &mut Attrs, attr: Attr)
 
 /// The colour on the screen, if it has it.
 fn color_of(color: AnsiColor) -> Option<Color>
-    ensures { result ≡ colour_of color }
+    ensures { result ≡ color_of color }
 {
     match color {
         AnsiColor::Named(named) => named_color(named),
@@ -40,7 +40,7 @@ fn color_of(color: AnsiColor) -> Option<Color>
 
 /// One of the 16 colours that have numbers, or the terminal's own.
 fn named_color(named: NamedColor) -> Option<Color>
-    ensures { result ≡ named_colour named }
+    ensures { result ≡ named_color named }
 {
     let index = match named {
         NamedColor::Black => 0,

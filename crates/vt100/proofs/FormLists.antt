@@ -96,7 +96,7 @@ small-screen s h = record {
   cells = shown-cells s h;
   rows = h.state.shown.few_rows;
   cols = h.state.shown.few_cols;
-  colours = λ r k. (shown-proper s h r k).colors;
+  colors = λ r k. (shown-proper s h r k).colors;
   attrs = h.state.attrs.colors;
 }
 

@@ -4,7 +4,7 @@ use Rattle.std.specs.Prelude.{if◌then◌else◌}
 use Rattle.vt100_forms.specs.declared.attrs.Attrs.{Attrs}
 use Rattle.vt100_forms.specs.declared.attrs.Color.{Color}
 use Rattle.vt100_forms.specs.declared.attrs.Color.TheVariants.{Rgb}
-use Rattle.screen_model.specs.Sgr.{Read, read_groups, one_more, nothing, coloured}
+use Rattle.screen_model.specs.Sgr.{Read, read_groups, one_more, nothing, colored}
 use Rattle.vt100.specs.declared.screen.sgr.End.{End}
 use Rattle.vt100.specs.declared.screen.sgr.End.TheVariants.{Value, Kind}
 
@@ -23,9 +23,9 @@ group_led (Ok false) a gs = one_more (read_groups gs nothing a)
 group_led (Err e) a gs = ended e a
 
 -- a colour of the foreground, or of the background, is read
-abbrev pub colour_led : Bool → Result Color End → Attrs → List (List ℕ) → Read
-colour_led t (Ok x) a gs = read_groups gs nothing (coloured t x a)
-colour_led t (Err e) a gs = ended e a
+abbrev pub color_led : Bool → Result Color End → Attrs → List (List ℕ) → Read
+color_led t (Ok x) a gs = read_groups gs nothing (colored t x a)
+color_led t (Err e) a gs = ended e a
 
 -- what a row of a table does, where there is one
 abbrev pub code_applied : Option (Attrs → Attrs) → Attrs → Attrs

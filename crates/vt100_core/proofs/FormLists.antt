@@ -31,7 +31,7 @@ small-grid g h = record {
   cells = λ r k. lines-cells g r k h.shown.grid;
   rows = h.shown.grid.few_rows;
   cols = h.shown.grid.few_cols;
-  colours = λ r k. (h.proper r k).colors;
+  colors = λ r k. (h.proper r k).colors;
   attrs = (tt, tt);
 }
 

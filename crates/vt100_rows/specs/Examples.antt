@@ -47,7 +47,7 @@ pub record EachExampleIsWritten : Type 0 where
   pub below_empty : (formatted indented 0 2 1 true None None).forms
       ≡ text (codes " ") ++ Backspace ∷ EraseChar 1 ∷ MoveRight 1 ∷ text (codes "b")
   -- the attributes are set where they change
-  pub coloured : (formatted (lettered (codes "a") green) 0 1 0 false None None).forms
+  pub colored : (formatted (lettered (codes "a") green) 0 1 0 false None None).forms
       ≡ Sgr (record no_change { fgcolor = Some (Idx 2) }) ∷ text (codes "a")
   pub kept : (formatted (lettered (codes "a") green) 0 1 0 false None (Some green)).forms ≡ text (codes "a")
   -- a word is written over another one

@@ -19,8 +19,8 @@ use std::marker::Model;
 use std::ops::Range;
 use vt100_cells::Cell;
 use vt100_cells::line::{
-    at, base_col, clear, clear_cut_half, clear_pair, ends_filled, insert, pairs_end, put, put_pairs,
-    put_run, puts_end, remove, trimmed_len, wipe, wipes_end,
+    at, base_col, clear, clear_cut_half, clear_pair, ends_filled, insert, pairs_end, put,
+    put_pairs, put_run, puts_end, remove, trimmed_len, wipe, wipes_end,
 };
 use vt100_forms::GridError;
 use vt100_forms::attrs::Attrs;

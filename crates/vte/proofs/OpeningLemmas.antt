@@ -23,7 +23,7 @@ use Rattle.vte.specs.Csi.{number_or, identify_calls, counted_rows, repeat_calls,
 use Rattle.vte.specs.Csi.{uncounted_calls, counted_calls, plain_calls, question_rows, other_keys_rows, greater_rows}
 use Rattle.vte.specs.Csi.{scp_calls, style_rows, space_rows, question_dollar_rows, calls_by, marked_rows, csi_calls}
 use Rattle.vte.specs.Csi.{opens_group, opening_groups, placing_calls}
-use Rattle.vte.specs.Osc.{named, end_text, title_calls, colour_of_text, set_or_ask, colour_calls, byte_number}
+use Rattle.vte.specs.Osc.{named, end_text, title_calls, color_of_text, set_or_ask, color_calls, byte_number}
 use Rattle.vte.specs.Osc.{pair_calls, pairs_calls, palette_calls, link_calls, two_digits, dynamic_calls, icon_calls}
 use Rattle.vte.specs.Osc.{shape_rows, shape_calls, cursor_calls, clipboard_calls, index_resets, all_resets, reset_calls}
 use Rattle.vte.specs.Osc.{osc_rows, osc_calls}
@@ -196,7 +196,7 @@ set_or_ask_quiet None prefix i end p = quiet_if (bytes_eq p (codes "?")) _ _ ref
 
 pair_quiet : (i : Option ℕ) (p end : List ℕ) → Quiet (pair_calls i p end)
 pair_quiet None p end = refl
-pair_quiet (Some i) p end = set_or_ask_quiet (colour_of_text p) _ i end p
+pair_quiet (Some i) p end = set_or_ask_quiet (color_of_text p) _ i end p
 
 pairs_quiet : (ps : List (List ℕ)) (end : List ℕ) → Quiet (pairs_calls ps end)
 pairs_quiet [] end = refl
@@ -216,8 +216,8 @@ dynamic_quiet : (n : ℕ) (ps : List (List ℕ)) (end : List ℕ) → Quiet (dyn
 dynamic_quiet n [] end = refl
 dynamic_quiet n (p ∷ ps) end =
     quiet_if (nat_lt 12 n) _ _ refl
-    (quiet-append (colour_calls (two_digits n) (246 + n) end p) (dynamic_calls (n + 1) ps end)
-    (set_or_ask_quiet (colour_of_text p) (two_digits n) (246 + n) end p) (dynamic_quiet (n + 1) ps end))
+    (quiet-append (color_calls (two_digits n) (246 + n) end p) (dynamic_calls (n + 1) ps end)
+    (set_or_ask_quiet (color_of_text p) (two_digits n) (246 + n) end p) (dynamic_quiet (n + 1) ps end))
 
 icon_quiet : (ps : List (List ℕ)) → Quiet (icon_calls ps)
 icon_quiet [] = refl

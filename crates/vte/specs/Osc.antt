@@ -49,11 +49,11 @@ abbrev pub byte_number : List ℕ → Option ℕ
 byte_number ds = if length ds == 0 then None else byte_from 0 ds
 
 -- a colour of three parts, where each is there
-abbrev pub colour_of_parts : Option ℕ → Option ℕ → Option ℕ → Option Rgb
-colour_of_parts None g b = None
-colour_of_parts (Some r) None b = None
-colour_of_parts (Some r) (Some g) None = None
-colour_of_parts (Some r) (Some g) (Some b) = Some (record { r = r; g = g; b = b })
+abbrev pub color_of_parts : Option ℕ → Option ℕ → Option ℕ → Option Rgb
+color_of_parts None g b = None
+color_of_parts (Some r) None b = None
+color_of_parts (Some r) (Some g) None = None
+color_of_parts (Some r) (Some g) (Some b) = Some (record { r = r; g = g; b = b })
 
 -- the first two of hexadecimal digits, or 16 times the one
 abbrev pub first_two : List ℕ → ℕ
@@ -66,12 +66,12 @@ leading ds = if are_hex ds then Some (first_two ds) else None
 abbrev pub third_rows : List (ℕ × ℕ)
 third_rows = (3, 1) ∷ (6, 2) ∷ (9, 3) ∷ (12, 4) ∷ []
 
-abbrev pub colour_of_thirds : ℕ → List ℕ → Option Rgb
-colour_of_thirds n ds = colour_of_parts (leading (take n ds)) (leading (take n (drop n ds)))
+abbrev pub color_of_thirds : ℕ → List ℕ → Option Rgb
+color_of_thirds n ds = color_of_parts (leading (take n ds)) (leading (take n (drop n ds)))
     (leading (take n (drop (2 * n) ds)))
 
-abbrev pub hash_colour : List ℕ → Option Rgb
-hash_colour ds = option_and_then (λ n. colour_of_thirds n ds) (lookup (length ds) third_rows)
+abbrev pub hash_color : List ℕ → Option Rgb
+hash_color ds = option_and_then (λ n. color_of_thirds n ds) (lookup (length ds) third_rows)
 
 -- 1 to 4 digits, scaled so that the greatest number of so many digits is 255, rounded down
 abbrev pub scaled : List ℕ → Option ℕ
@@ -85,12 +85,12 @@ abbrev pub three_parts : List (List ℕ) → Option Rgb
 three_parts [] = None
 three_parts (r ∷ []) = None
 three_parts (r ∷ g ∷ []) = None
-three_parts (r ∷ g ∷ b ∷ []) = colour_of_parts (scaled r) (scaled g) (scaled b)
+three_parts (r ∷ g ∷ b ∷ []) = color_of_parts (scaled r) (scaled g) (scaled b)
 three_parts (r ∷ g ∷ b ∷ x ∷ xs) = None
 
-abbrev pub colour_of_text : List ℕ → Option Rgb
-colour_of_text p =
-    if starts_with nat_eq p (codes "#") then hash_colour (drop 1 p) else
+abbrev pub color_of_text : List ℕ → Option Rgb
+color_of_text p =
+    if starts_with nat_eq p (codes "#") then hash_color (drop 1 p) else
     (if starts_with nat_eq p (codes "rgb:") then three_parts (slice_split (λ c. c == 47) (drop 4 p)) else None)
 
 -- a colour to set under an index, or `?` to ask for it
@@ -98,13 +98,13 @@ abbrev pub set_or_ask : Option Rgb → List ℕ → ℕ → List ℕ → List �
 set_or_ask (Some c) prefix i end p = call.set_color i c ∷ []
 set_or_ask None prefix i end p = if bytes_eq p (codes "?") then call.dynamic_color_sequence prefix i end ∷ [] else []
 
-abbrev pub colour_calls : List ℕ → ℕ → List ℕ → List ℕ → List Call
-colour_calls prefix i end p = set_or_ask (colour_of_text p) prefix i end p
+abbrev pub color_calls : List ℕ → ℕ → List ℕ → List ℕ → List Call
+color_calls prefix i end p = set_or_ask (color_of_text p) prefix i end p
 
 -- 4: pairs of index and colour
 abbrev pub pair_calls : Option ℕ → List ℕ → List ℕ → List Call
 pair_calls None p end = []
-pair_calls (Some i) p end = colour_calls (codes "4;" ++ decimal i) i end p
+pair_calls (Some i) p end = color_calls (codes "4;" ++ decimal i) i end p
 
 abbrev pub pairs_calls : List (List ℕ) → List ℕ → List Call
 pairs_calls [] end = []
@@ -142,7 +142,7 @@ two_digits n = (48 + n / 10) ∷ (48 + n % 10) ∷ []
 abbrev pub dynamic_calls : ℕ → List (List ℕ) → List ℕ → List Call
 dynamic_calls n [] end = []
 dynamic_calls n (p ∷ ps) end = if nat_lt 12 n then []
-    else colour_calls (two_digits n) (246 + n) end p ++ dynamic_calls (n + 1) ps end
+    else color_calls (two_digits n) (246 + n) end p ++ dynamic_calls (n + 1) ps end
 
 -- 22: a pointer by name
 abbrev pub icon_calls : List (List ℕ) → List Call

@@ -43,40 +43,40 @@ abbrev pub underlines : List (ℕ × Attr)
 underlines = (0, a.CancelUnderline) ∷ (2, a.DoubleUnderline) ∷ (3, a.Undercurl) ∷ (4, a.DottedUnderline)
     ∷ (5, a.DashedUnderline) ∷ []
 
-abbrev pub coloured : Target → Color → Attr
-coloured Foreground x = a.Foreground x
-coloured Background x = a.Background x
-coloured Underline x = a.UnderlineColor (Some x)
+abbrev pub colored : Target → Color → Attr
+colored Foreground x = a.Foreground x
+colored Background x = a.Background x
+colored Underline x = a.UnderlineColor (Some x)
 
 abbrev pub target_of : ℕ → Option Target
 target_of n = lookup n ((38, Foreground) ∷ (48, Background) ∷ (58, Underline) ∷ [])
 
 -- the colour of red, green and blue, where each is below 256
-abbrev pub rgb_colour : ℕ → ℕ → ℕ → Option Color
-rgb_colour r g b = if nat_lt r 256 then (if nat_lt g 256
+abbrev pub rgb_color : ℕ → ℕ → ℕ → Option Color
+rgb_color r g b = if nat_lt r 256 then (if nat_lt g 256
     then (if nat_lt b 256 then Some (Spec (record { r = r; g = g; b = b })) else None) else None) else None
 
-abbrev pub indexed_colour : ℕ → Option Color
-indexed_colour i = if nat_lt i 256 then Some (Indexed i) else None
+abbrev pub indexed_color : ℕ → Option Color
+indexed_color i = if nat_lt i 256 then Some (Indexed i) else None
 
 -- the colour that numbers after 38 name
 abbrev pub rgb_of : List ℕ → Option Color
 rgb_of [] = None
 rgb_of (r ∷ []) = None
 rgb_of (r ∷ g ∷ []) = None
-rgb_of (r ∷ g ∷ b ∷ ns) = rgb_colour r g b
+rgb_of (r ∷ g ∷ b ∷ ns) = rgb_color r g b
 
 abbrev pub index_of : List ℕ → Option Color
 index_of [] = None
-index_of (i ∷ ns) = indexed_colour i
+index_of (i ∷ ns) = indexed_color i
 
-abbrev pub colour_of : ℕ → List ℕ → Option Color
-colour_of m ns = if nat_eq m 2 then rgb_of ns else (if nat_eq m 5 then index_of ns else None)
+abbrev pub color_of : ℕ → List ℕ → Option Color
+color_of m ns = if nat_eq m 2 then rgb_of ns else (if nat_eq m 5 then index_of ns else None)
 
 -- the colour in a group, after 38: of more than four numbers the second is skipped
-abbrev pub group_colour : List ℕ → Option Color
-group_colour [] = None
-group_colour (m ∷ ns) = colour_of m (if nat_lt 4 (length (m ∷ ns)) then drop 1 ns else ns)
+abbrev pub group_color : List ℕ → Option Color
+group_color [] = None
+group_color (m ∷ ns) = color_of m (if nat_lt 4 (length (m ∷ ns)) then drop 1 ns else ns)
 
 -- the first number of a group
 abbrev pub first : List ℕ → ℕ
@@ -87,15 +87,15 @@ abbrev pub underline_of : ℕ → List ℕ → Attr
 underline_of style [] = unwrap_or (lookup style underlines) a.Underline
 underline_of style (n ∷ ns) = a.Underline
 
-abbrev pub colour_group : Option Target → List ℕ → Option Attr
-colour_group None ns = None
-colour_group (Some t) ns = option_map (coloured t) (group_colour ns)
+abbrev pub color_group : Option Target → List ℕ → Option Attr
+color_group None ns = None
+color_group (Some t) ns = option_map (colored t) (group_color ns)
 
 -- what one group asks for by itself
 abbrev pub group_attr : List ℕ → Option Attr
 group_attr [] = None
 group_attr (n ∷ []) = lookup n singles
-group_attr (n ∷ m ∷ ns) = if nat_eq n 4 then Some (underline_of m ns) else colour_group (target_of n) (m ∷ ns)
+group_attr (n ∷ m ∷ ns) = if nat_eq n 4 then Some (underline_of m ns) else color_group (target_of n) (m ∷ ns)
 
 -- What the next groups still tell of a colour that began as a group of its own:
 -- nothing, which kind it is, an index, red, green after red, blue after both.
@@ -125,9 +125,9 @@ abbrev pub attributes : Awaits → List (List ℕ) → List Attr
 attributes a [] = []
 attributes nothing (g ∷ gs) = option_to_list (group_attr g) ++ attributes (awaited g) gs
 attributes (selector t) (g ∷ gs) = attributes (chosen t (first g)) gs
-attributes (index t) (g ∷ gs) = option_to_list (option_map (coloured t) (indexed_colour (first g)))
+attributes (index t) (g ∷ gs) = option_to_list (option_map (colored t) (indexed_color (first g)))
     ++ attributes nothing gs
 attributes (red t) (g ∷ gs) = attributes (if nat_lt (first g) 256 then green t (first g) else nothing) gs
 attributes (green t r) (g ∷ gs) = attributes (if nat_lt (first g) 256 then blue t r (first g) else nothing) gs
-attributes (blue t r gr) (g ∷ gs) = option_to_list (option_map (coloured t) (rgb_colour r gr (first g)))
+attributes (blue t r gr) (g ∷ gs) = option_to_list (option_map (colored t) (rgb_color r gr (first g)))
     ++ attributes nothing gs

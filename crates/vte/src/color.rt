@@ -3,7 +3,7 @@ ghost use Rattle.std.specs.Prelude.{◌≡◌, ◌==◌, ◌<◌, ◌≤◌, ◌
 ghost use Rattle.std.specs.Prelude.{if◌then◌else◌};
 ghost use Rattle.std.specs.Char.{is_ascii_digit};
 ghost use Rattle.std.specs.List.{slice_split};
-ghost use Rattle.vte.specs.Osc.{colour_of_text, hash_colour, colour_of_thirds, leading, three_parts, scaled};
+ghost use Rattle.vte.specs.Osc.{color_of_text, hash_color, color_of_thirds, leading, three_parts, scaled};
 ghost use Rattle.vte.specs.Osc.{byte_number};
 
 use crate::split::split_first;
@@ -13,7 +13,7 @@ use vte_types::rgb::Rgb;
 /// The colour that a text names, by X11: `#` and 3, 6, 9 or 12 hexadecimal digits, or `rgb:` and three parts of 1 to 4
 /// of them, with `/` between.
 pub fn parse_color(text: &[u8]) -> Option<Rgb>
-    ensures { result ≡ colour_of_text text.now }
+    ensures { result ≡ color_of_text text.now }
 {
     match text {
         [b'#', digits @ ..] => hash_color(digits),
@@ -24,7 +24,7 @@ pub fn parse_color(text: &[u8]) -> Option<Rgb>
 
 /// The colour of digits after `#`.
 fn hash_color(digits: &[u8]) -> Option<Rgb>
-    ensures { result ≡ hash_colour digits.now }
+    ensures { result ≡ hash_color digits.now }
 {
     match digits.len() {
         3 => thirds(1, digits),
@@ -39,7 +39,7 @@ fn hash_color(digits: &[u8]) -> Option<Rgb>
 fn thirds(third: usize, digits: &[u8]) -> Option<Rgb>
     requires few { (0 < third) × (third ≤ 4) }
     requires whole { length digits.now ≡ 3 * third }
-    ensures { result ≡ colour_of_thirds third digits.now }
+    ensures { result ≡ color_of_thirds third digits.now }
 {
     let r = leading_byte(&digits[0..third])?;
     let g = leading_byte(&digits[third..2 * third])?;

@@ -7,7 +7,7 @@ ghost use Rattle.std.specs.Fmt.{decimal};
 ghost use Rattle.vte_core.specs.Event as e;
 ghost use Rattle.vte_core.specs.Laws.{Fits};
 ghost use Rattle.vte_types.specs.Call.{Calls};
-ghost use Rattle.vte.specs.Osc.{osc_calls, title_calls, text_or_empty, utf8_or_none, link_calls, link_id, colour_calls};
+ghost use Rattle.vte.specs.Osc.{osc_calls, title_calls, text_or_empty, utf8_or_none, link_calls, link_id, color_calls};
 ghost use Rattle.vte.specs.Osc.{palette_calls, dynamic_calls, icon_calls, cursor_calls, clipboard_calls, reset_calls};
 ghost use Rattle.vte.specs.Osc.{all_resets, index_resets, two_digits, AreKept};
 
@@ -151,7 +151,7 @@ fn set_palette<H: Handler>(handler: &mut H, mut pieces: Pieces<'_>, terminator: 
 
 /// Sets or asks for a colour of the palette.
 fn set_indexed<H: Handler>(handler: &mut H, index: u8, color: &[u8], terminator: &str)
-    ensures { Calls H.step handler.old (colour_calls (codes "4;" ++ decimal index) index terminator.now color.now)
+    ensures { Calls H.step handler.old (color_calls (codes "4;" ++ decimal index) index terminator.now color.now)
         handler.new }
 {
     let mut prefix = ArrayString::<64>::new();
@@ -174,7 +174,7 @@ fn set_color<H: Handler>(
     color: &[u8],
     terminator: &str,
 )
-    ensures { Calls H.step handler.old (colour_calls prefix.now index terminator.now color.now) handler.new }
+    ensures { Calls H.step handler.old (color_calls prefix.now index terminator.now color.now) handler.new }
 {
     if let Some(color) = parse_color(color) {
         handler.set_color(index, color);

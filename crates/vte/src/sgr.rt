@@ -5,7 +5,7 @@ ghost use Rattle.vte_types.specs.Call.{Calls, terminal_attribute};
 ghost use Rattle.vte_types.specs.Lookup.{lookup};
 ghost use Rattle.vte_types.specs.declared.attr.Attr.TheVariants as said;
 ghost use Rattle.vte_types.specs.declared.color.Color.TheVariants.{Named};
-ghost use Rattle.vte.specs.Sgr.{singles, rgb_colour, indexed_colour, group_colour, coloured, target_of};
+ghost use Rattle.vte.specs.Sgr.{singles, rgb_color, indexed_color, group_color, colored, target_of};
 ghost use Rattle.vte.specs.Sgr.{first, attributes, nothing, selector, underline_of};
 
 use vte_core::ParamsIter;
@@ -88,7 +88,7 @@ fn single(code: u16) -> Option<Attr>
 
 /// A color by its red, green and blue parts, each at most 255.
 fn rgb(r: u16, g: u16, b: u16) -> Option<Color>
-    ensures { result ≡ rgb_colour r g b }
+    ensures { result ≡ rgb_color r g b }
 {
     if r < 256 && g < 256 && b < 256 {
         Some(Color::Spec(Rgb {
@@ -103,7 +103,7 @@ fn rgb(r: u16, g: u16, b: u16) -> Option<Color>
 
 /// The color of the palette with this index, at most 255.
 fn indexed(i: u16) -> Option<Color>
-    ensures { result ≡ indexed_colour i }
+    ensures { result ≡ indexed_color i }
 {
     if i < 256 {
         Some(Color::Indexed(i as u8))
@@ -114,7 +114,7 @@ fn indexed(i: u16) -> Option<Color>
 
 /// A color whose numbers stand in the group.
 fn color_in_group(numbers: &[u16]) -> Option<Color>
-    ensures { result ≡ group_colour numbers.now }
+    ensures { result ≡ group_color numbers.now }
 {
     match numbers {
         [2, _, r, g, b, ..] => rgb(*r, *g, *b),
@@ -134,7 +134,7 @@ pub enum Target {
 
 /// The attribute of a color.
 fn in_color(target: Target, color: Color) -> Attr
-    ensures { result ≡ coloured target color }
+    ensures { result ≡ colored target color }
 {
     match target {
         Target::Foreground => Attr::Foreground(color),

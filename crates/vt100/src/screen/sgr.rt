@@ -3,7 +3,7 @@ ghost use Rattle.std.specs.Prelude.{◌≡◌, ◌≤◌, ◌<◌, ◌∷◌, []
 ghost use Rattle.vt100_forms.specs.declared.attrs.Attrs.{Attrs};
 ghost use Rattle.screen_model.specs.Sgr.{read_groups, nothing, kind, red, code_row};
 ghost use Rattle.screen_model.specs.Effect.{attributes_read};
-ghost use Rattle.vt100.specs.SgrReading.{first_value, value_read, rgb_read, group_led, colour_led, code_applied};
+ghost use Rattle.vt100.specs.SgrReading.{first_value, value_read, rgb_read, group_led, color_led, code_applied};
 ghost use Rattle.vt100.specs.SgrReading.{read_of};
 ghost use Rattle.vt100.specs.Tries.{Counts};
 ghost use Rattle.vt100.specs.declared.screen.sgr.End.TheVariants.{Value};
@@ -67,8 +67,8 @@ fn read_group(attrs: &mut Attrs, group: &[u16], groups: &mut ParamsIter<'_>) -> 
     ensures shorter { length groups.new ≤ length groups.old }
 {
     match group {
-        [38] => attrs.fgcolor = colour_in_groups(groups)?,
-        [48] => attrs.bgcolor = colour_in_groups(groups)?,
+        [38] => attrs.fgcolor = color_in_groups(groups)?,
+        [48] => attrs.bgcolor = color_in_groups(groups)?,
         [code] => return Ok(read_code(attrs, *code)),
         [38, 2, r, g, b] => attrs.fgcolor = rgb(*r, *g, *b)?,
         [38, 5, i] => attrs.fgcolor = Color::Idx(value(*i)?),
@@ -107,8 +107,8 @@ fn read_code(attrs: &mut Attrs, code: u16) -> bool
 }
 
 /// A colour in groups of its own: its kind, and its values.
-fn colour_in_groups(groups: &mut ParamsIter<'_>) -> Result<Color, End>
-    ensures reads { (t : Bool) (a : Attrs) → read_groups groups.old (kind t) a ≡ colour_led t result a groups.new }
+fn color_in_groups(groups: &mut ParamsIter<'_>) -> Result<Color, End>
+    ensures reads { (t : Bool) (a : Attrs) → read_groups groups.old (kind t) a ≡ color_led t result a groups.new }
     ensures shorter { length groups.new ≤ length groups.old }
 {
     match groups.next() {
@@ -121,7 +121,7 @@ fn colour_in_groups(groups: &mut ParamsIter<'_>) -> Result<Color, End>
 
 /// Red, green and blue in groups of their own.
 fn rgb_in_groups(groups: &mut ParamsIter<'_>) -> Result<Color, End>
-    ensures reads { (t : Bool) (a : Attrs) → read_groups groups.old (red t) a ≡ colour_led t result a groups.new }
+    ensures reads { (t : Bool) (a : Attrs) → read_groups groups.old (red t) a ≡ color_led t result a groups.new }
     ensures shorter { length groups.new ≤ length groups.old }
 {
     let red = next_value(groups)?;

@@ -305,7 +305,7 @@ fn ended_styles() -> &'static [Row] {
     ]
 }
 
-fn colours_from_black_to_green() -> &'static [Row] {
+fn colors_from_black_to_green() -> &'static [Row] {
     &[
         (b"\x1b[30m", "TerminalAttribute(Foreground(Named(Black))) "),
         (b"\x1b[40m", "TerminalAttribute(Background(Named(Black))) "),
@@ -340,7 +340,7 @@ fn colours_from_black_to_green() -> &'static [Row] {
     ]
 }
 
-fn colours_from_yellow_to_magenta() -> &'static [Row] {
+fn colors_from_yellow_to_magenta() -> &'static [Row] {
     &[
         (b"\x1b[33m", "TerminalAttribute(Foreground(Named(Yellow))) "),
         (b"\x1b[43m", "TerminalAttribute(Background(Named(Yellow))) "),
@@ -381,7 +381,7 @@ fn colours_from_yellow_to_magenta() -> &'static [Row] {
     ]
 }
 
-fn colours_from_cyan_to_default() -> &'static [Row] {
+fn colors_from_cyan_to_default() -> &'static [Row] {
     &[
         (b"\x1b[36m", "TerminalAttribute(Foreground(Named(Cyan))) "),
         (b"\x1b[46m", "TerminalAttribute(Background(Named(Cyan))) "),
@@ -438,9 +438,9 @@ fn attributes(rt: HostRuntime) -> Result<(), Fail> {
     for rows in [
         styles(),
         ended_styles(),
-        colours_from_black_to_green(),
-        colours_from_yellow_to_magenta(),
-        colours_from_cyan_to_default(),
+        colors_from_black_to_green(),
+        colors_from_yellow_to_magenta(),
+        colors_from_cyan_to_default(),
         underlines_and_lists(),
     ] {
         all(&rt, rows)?;
@@ -448,7 +448,7 @@ fn attributes(rt: HostRuntime) -> Result<(), Fail> {
     Ok(())
 }
 
-fn indexed_and_rgb_colours() -> &'static [Row] {
+fn indexed_and_rgb_colors() -> &'static [Row] {
     &[
         (
             b"\x1b[38;2;1;2;3;1m\x1b[38;5;200;1m",
@@ -498,8 +498,8 @@ fn indexed_and_rgb_colours() -> &'static [Row] {
 }
 
 #[test]
-fn colours(rt: HostRuntime) -> Result<(), Fail> {
-    all(&rt, indexed_and_rgb_colours())
+fn colors(rt: HostRuntime) -> Result<(), Fail> {
+    all(&rt, indexed_and_rgb_colors())
 }
 
 fn titles_and_palette() -> &'static [Row] {
@@ -528,7 +528,7 @@ fn titles_and_palette() -> &'static [Row] {
     ]
 }
 
-fn links_and_colours() -> &'static [Row] {
+fn links_and_colors() -> &'static [Row] {
     &[
         (
             b"\x1b]8;;http://a;b\x07",
@@ -601,7 +601,7 @@ fn resets() -> &'static [Row] {
 fn operating_system_commands(rt: HostRuntime) -> Result<(), Fail> {
     for rows in [
         titles_and_palette(),
-        links_and_colours(),
+        links_and_colors(),
         shapes_and_clipboard(),
         resets(),
     ] {

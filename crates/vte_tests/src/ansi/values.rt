@@ -186,14 +186,14 @@ const FORMS: &[(NamedColor, NamedColor, NamedColor)] = &[
 ];
 
 #[test]
-fn numbers_of_colours(rt: HostRuntime) {
+fn numbers_of_colors(rt: HostRuntime) {
     for (number, color) in PLAIN_AND_BRIGHT.iter().enumerate() {
         same(&rt, &usize::from(*color as u16), &number);
     }
 }
 
 #[test]
-fn numbers_of_own_and_dim_colours(rt: HostRuntime) {
+fn numbers_of_own_and_dim_colors(rt: HostRuntime) {
     for (number, color) in OWN_AND_DIM.iter().enumerate() {
         same(
             &rt,
@@ -204,7 +204,7 @@ fn numbers_of_own_and_dim_colours(rt: HostRuntime) {
 }
 
 #[test]
-fn dim_and_bright_colours(rt: HostRuntime) {
+fn dim_and_bright_colors(rt: HostRuntime) {
     for (dim, plain, bright) in FORMS {
         let brighter = [dim.to_bright(), plain.to_bright(), bright.to_bright()];
         same(&rt, &brighter, &[*plain, *bright, *bright]);
@@ -214,7 +214,7 @@ fn dim_and_bright_colours(rt: HostRuntime) {
 }
 
 #[test]
-fn colours_without_other_forms(rt: HostRuntime) {
+fn colors_without_other_forms(rt: HostRuntime) {
     for color in [NamedColor::Background, NamedColor::Cursor] {
         same(&rt, &[color.to_bright(), color.to_dim()], &[color, color]);
     }

@@ -3,7 +3,7 @@ use Rattle.std.proofs.Common.{ℕ, ◌+◌, List, [], ◌∷◌, codes, length, 
 use Rattle.std.specs.declared.io.Error.{Error}
 use lib.Utf8.{encode}
 use Rattle.unicode_width.specs.Width.{char_width}
-use Rattle.row_drawing.specs.Writer.{◌>>◌, skip, goto, turn, colour, print, space, back, erasing, clearing, marking}
+use Rattle.row_drawing.specs.Writer.{◌>>◌, skip, goto, turn, color, print, space, back, erasing, clearing, marking}
 use Rattle.row_drawing.specs.RowWriter.{reprint, opening, to_erase, flush_of, flush, finish_of, finish, arrive}
 use Rattle.row_drawing.specs.RowWriter.{mark_of, mark, draw, column, columns, unflag, print_last, mend, closing}
 use Rattle.row_drawing.specs.RowWriter.{row_redraw, row_difference}
@@ -92,7 +92,7 @@ told e =
     (stories_after attached (Feed (codes "a")) Done (stories_after (fresh 1 2) Attach (Attached 0) [])))))))
 
 pub returns : goal.returns
-unfolding ◌>>◌ skip goto turn colour print space back erasing clearing marking reprint opening to_erase flush_of flush
+unfolding ◌>>◌ skip goto turn color print space back erasing clearing marking reprint opening to_erase flush_of flush
     finish_of finish arrive mark_of mark draw column columns unflag print_last mend closing row_redraw row_difference
     char_width encode next_redraw rows_redraw wait_behind wait_on_empty wait cursor_position_formatted
     input_mode_formatted cursor_placed grid_redraw grid_contents_formatted contents_formatted state_formatted printed

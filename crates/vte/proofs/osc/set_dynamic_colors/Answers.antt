@@ -1,6 +1,6 @@
 use Rattle.std.proofs.Common.{◌≡◌, ◌+◌, ℕ, List, Some, None, false, nat_lt, if◌then◌else◌, arith, inl, inr}
 use Rattle.std.proofs.lemmas.Bool.{cases_Bool}
-use Rattle.vte.specs.Osc.{two_digits, colour_calls}
+use Rattle.vte.specs.Osc.{two_digits, color_calls}
 use Rattle.vte.proofs.RunLemmas.{Calls-append}
 use Rattle.vte.proofs.osc.set_dynamic_colors.Goals as goal
 
@@ -20,6 +20,6 @@ loop-color-preserved g c =
       from = omega arith;
       calls = λ end more. c.loop-color.invariant.calls end
           (rw (c.in-Some.ensures.steps, prefix.0)
-          (Calls-append g.H.Handler.step _ _ _ (colour_calls (two_digits n) (246 + n) c.args.terminator.now
+          (Calls-append g.H.Handler.step _ _ _ (color_calls (two_digits n) (246 + n) c.args.terminator.now
           c.in-Some.color.now) _ (rw (prefix.1, index) at c.set_color.ensures) more));
     }

@@ -1,8 +1,8 @@
 use Rattle.std.proofs.Common.{Bor, IfSome, ◌≡◌, ◌++◌, subst, sym, ◌∙◌}
 use Rattle.vt100_cells.specs.Cell.{CellView}
 use Rattle.vt100_cells.specs.CellEq.{attrs_eq-true}
-use Rattle.row_drawing.proofs.WritesLemmas.{colour_same}
-use Rattle.row_drawing.proofs.pen.Pen.colour_in.Goals as goal
+use Rattle.row_drawing.proofs.WritesLemmas.{color_same}
+use Rattle.row_drawing.proofs.pen.Pen.color_in.Goals as goal
 
 pub returns-then-has_attrs_of-clause-written : goal.returns-then-has_attrs_of-clause-written
 returns-then-has_attrs_of-clause-written c =
@@ -10,5 +10,5 @@ returns-then-has_attrs_of-clause-written c =
     let drawn : x ≡ c.args.self.now.attrs =
     subst (λ o. IfSome o (λ (y : Bor CellView). y.now.attrs ≡ c.args.self.now.attrs)) c.in-Some.is c.requires.like in
     let alike = sym c.has_attrs_of.ensures ∙ c.if-has_attrs_of.true in
-    λ t. colour_same c.args.self.now c.args.cell.now.attrs (t ++ c.args.run.now)
+    λ t. color_same c.args.self.now c.args.cell.now.attrs (t ++ c.args.run.now)
     (sym (attrs_eq-true c.args.cell.now.attrs x alike ∙ drawn))
