@@ -72,8 +72,3 @@ pub text-joined : (none head middle whole start body end : List ℕ) → none �
 text-joined none head middle whole start body end empty h m w =
     w ∙ ap (λ xs. xs ++ end) (m ∙ ap (λ xs. xs ++ body) (h ∙ ap (λ xs. xs ++ start) empty))
     ∙ append_assoc start body end
-
-pub two-joined : (head one two whole body more : List ℕ) → one ≡ head ++ body → two ≡ one ++ more → whole ≡ two
-    → whole ≡ head ++ (body ++ more)
-two-joined head one two whole body more h k w =
-    w ∙ k ∙ ap (λ xs. xs ++ more) h ∙ append_assoc head body more

@@ -7,6 +7,7 @@ pub mod ShownLemmas
 pub mod MadeLemmas
 pub mod HubLemmas
 pub mod DueLemmas
+pub mod SureBases
 pub mod FeedLaws
 pub mod LocalFrames
 pub mod LogLemmas

@@ -2,6 +2,7 @@
 ghost use Rattle.std.specs.Prelude.{◌≡◌, ◌≢◌, ◌*◌, ◌≤◌, false, IfOk, IsOkAnd, OnOk, OnErr, Err, Some, None, MatchOption};
 ghost use Rattle.std.specs.Prelude.{IsSome, slice_index_or};
 ghost use Rattle.termrelay.specs.Frame.{IsShortFrame};
+ghost use Rattle.termrelay.specs.Record.{is_unsure_screen};
 ghost use Rattle.termrelay.specs.declared.answer.Answer.TheVariants.{Difference, TooLong};
 ghost use Rattle.termrelay.specs.declared.error.HubError.TheVariants.{Memory, UnknownClient};
 
@@ -215,19 +216,21 @@ impl Hub {
         }
         let base = self.present_base()?;
         self.present = Some(base.clone()?);
-        self.owe(client, text, base);
+        self.owe(client, text, base, answer == Answer::Unsure);
         Ok(answer)
     }
 
-    /// From now on the client is owed a frame's text, and `base` is the screen at it.
-    fn owe(&mut self, client: Client, text: Vec<u8>, base: Rc<Screen>)
+    /// From now on the client is owed a frame's text, and `base` is the screen at it, of which it isn't sure what another
+    /// terminal makes where `unsure` says so.
+    fn owe(&mut self, client: Client, text: Vec<u8>, base: Rc<Screen>, unsure: bool)
         requires known { IsSome (slice_index_or self.old.clients client None) }
         requires present { base.value ≡ self.old.parser.screen }
+        requires unsure { unsure ≡ is_unsure_screen base.value }
         requires short { IsShortFrame (size_in self.old) text.items }
         ensures { Puts self.old client (Some (record { owed = text.items; base = Some (shown_in self.old) })) self.new }
     {
         if let Some(record) = self.clients.get_mut(client.key()) {
-            record.owe(text, base);
+            record.owe(text, base, unsure);
         }
     }
 }

@@ -2,6 +2,7 @@
 #![tactic(auto)]
 
 pub mod answer;
+mod body;
 pub mod call;
 pub mod client;
 pub mod error;

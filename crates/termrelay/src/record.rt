@@ -1,16 +1,21 @@
 //! What a hub keeps of a client.
-ghost use Rattle.std.specs.Prelude.{◌≡◌, ℕ, ◌++◌, [], true, drop, length, nat_lt, Some, None, IfOk, OnErr, Err};
+ghost use Rattle.std.specs.Prelude.{◌≡◌, ℕ, ◌++◌, [], true, drop, length, nat_lt, Some, None, IfOk, OnOk, OnErr, Err};
+ghost use Rattle.std.specs.Prelude.{if◌then◌else◌};
 ghost use Rattle.std.specs.Option.{option_copied, option_map};
+ghost use Rattle.vt100_forms.specs.Form.{spell};
 ghost use Rattle.vt100_core.specs.Picture.{grid_size};
+ghost use Rattle.screen_model.specs.State.{IsState};
 ghost use Rattle.screen_model.specs.Shown.{shown_state};
 ghost use Rattle.vt100.specs.WriterLaws.{IsUnscrolled};
 ghost use Rattle.termrelay.specs.Frame.{frame_text as text_of_frame, body_forms};
 ghost use Rattle.termrelay.specs.Answers.{wanted_of, due, is_frame, longest_frame};
 ghost use Rattle.takers.specs.Pump.{Pumps};
-ghost use Rattle.termrelay.specs.Record.{RecordView, client_of, IsRecordOf, IsBaseOf};
+ghost use Rattle.termrelay.specs.Record.{RecordView, client_of, IsRecordOf, IsBaseOf, is_unsure_screen, sure_base};
+ghost use Rattle.termrelay.specs.declared.answer.Answer.TheVariants.{Unsure};
 ghost use Rattle.termrelay.specs.declared.error.HubError.TheVariants.{Memory};
 
 use crate::answer::Answer;
+use crate::body::{push_difference, push_redraw, push_state};
 use crate::error::HubError;
 use crate::shown::{is_unsure, same_shown};
 use std::alloc::Global;
@@ -35,6 +40,18 @@ pub(crate) fn is_too_long(text: &[u8]) -> bool
     text.len() > LONGEST_FRAME
 }
 
+/// The answer, unless it isn't sure what another terminal makes of the screen.
+fn unless_unsure(now: &Screen, answer: Answer) -> Answer
+    requires { IsState now.now.state }
+    ensures { result ≡ (if is_unsure_screen now.now then Unsure else answer) }
+{
+    if is_unsure(now) {
+        Answer::Unsure
+    } else {
+        answer
+    }
+}
+
 /// What a hub keeps of a client.
 #[derive(Drop)]
 pub(crate) struct Record {
@@ -44,12 +61,14 @@ pub(crate) struct Record {
     taken: usize,
     /// The screen at the last frame.
     base: Option<Rc<Screen>>,
+    /// Whether it isn't sure what another terminal makes of that screen. It was found when the frame was made.
+    unsure: bool,
 }
 
 impl Model for Record {
-    ghost use Rattle.std.specs.Prelude.{drop, ◌≤◌, vec_len};
+    ghost use Rattle.std.specs.Prelude.{◌≡◌, drop, ◌≤◌, vec_len, IfSome};
     ghost use Rattle.std.specs.Option.{option_map};
-    ghost use Rattle.termrelay.specs.Record.{RecordView};
+    ghost use Rattle.termrelay.specs.Record.{RecordView, is_unsure_screen};
 
     ghost Value = { RecordView };
 
@@ -58,7 +77,8 @@ impl Model for Record {
       base = option_map (λ base. base.value) r.base;
     } };
 
-    ghost invariant = { λ r. r.taken ≤ vec_len r.text };
+    ghost invariant = { λ r. (r.taken ≤ vec_len r.text)
+        × IfSome r.base (λ base. r.unsure ≡ is_unsure_screen base.value) };
 }
 
 impl Record {
@@ -70,6 +90,7 @@ impl Record {
             text: Vec::new(alloc),
             taken: 0,
             base: None,
+            unsure: false,
         }
     }
 
@@ -90,6 +111,27 @@ impl Record {
         }
     }
 
+    /// The screen at the last frame, where it is sure what another terminal makes of it.
+    fn sure_base(&self) -> Option<&Screen>
+        ensures { option_copied result ≡ sure_base self.now.base }
+    {
+        if self.unsure { None } else { self.base() }
+    }
+
+    /// What is answered where nothing is owed and the program isn't in an update. Where the screen shows the same as a
+    /// sure base, it is sure too.
+    fn due(&self, now: &Screen) -> Answer
+        requires unscrolled { IsUnscrolled now.now.state }
+        requires served { IsRecordOf now.now self.now }
+        ensures { result ≡ due (grid_size now.now.state.shown) (shown_state now.now.state) (client_of self.now).base }
+    {
+        match self.sure_base() {
+            Some(base) if same_shown(base, now) => Answer::Unchanged,
+            Some(_) => unless_unsure(now, Answer::Difference),
+            None => unless_unsure(now, Answer::Full),
+        }
+    }
+
     /// What a request for a frame is answered, unless the frame is too long.
     pub(crate) fn answer(&self, now: &Screen) -> Answer
         requires unscrolled { IsUnscrolled now.now.state }
@@ -102,15 +144,7 @@ impl Record {
         if now.synchronized_update() {
             return Answer::Held;
         }
-        if is_unsure(now) {
-            return Answer::Unsure;
-        }
-        match self.base() {
-            None => Answer::Full,
-            Some(base) if is_unsure(base) => Answer::Full,
-            Some(base) if same_shown(base, now) => Answer::Unchanged,
-            Some(_) => Answer::Difference,
-        }
+        self.due(now)
     }
 
     /// The text of the frame that is due. It is a difference where that was answered, else a redraw.
@@ -131,27 +165,39 @@ impl Record {
     {
         let mut text = Vec::new(alloc);
         text.extend_from_slice(START_MARK)?;
-        match self.base() {
-            None => text.extend_from_slice(now.state_formatted()?.as_bytes())?,
-            Some(base) if answer == Answer::Difference => {
-                text.extend_from_slice(now.state_diff(base)?.as_bytes())?;
-            }
-            Some(base) => {
-                text.extend_from_slice(now.contents_formatted()?.as_bytes())?;
-                text.extend_from_slice(now.input_mode_diff(base)?.as_bytes())?;
-            }
-        }
+        self.push_body(&mut text, now, answer)?;
         text.extend_from_slice(END_MARK)?;
         Ok(text)
     }
 
-    /// From now on a frame's text is owed, and `base` is the screen at it.
-    pub(crate) fn owe(&mut self, text: Vec<u8>, base: Rc<Screen>)
+    /// Appends what stands between the marks of that frame.
+    fn push_body(&self, text: &mut Vec<u8>, now: &Screen, answer: Answer) -> Result<(), HubError>
+        requires unscrolled { IsUnscrolled now.now.state }
+        requires served { IsRecordOf now.now self.now }
+        requires due { answer ≡ due (grid_size now.now.state.shown) (shown_state now.now.state)
+            (client_of self.now).base }
+        requires frame { is_frame answer ≡ true }
+        ensures text { OnOk result (text.new.items ≡ text.old.items ++ spell (body_forms
+            (grid_size now.now.state.shown) (client_of self.now).base (shown_state now.now.state))) }
+        ensures memory { OnErr result (result ≡ Err Memory) }
+    {
+        match self.base() {
+            None => push_state(text, now),
+            Some(base) if answer == Answer::Difference => push_difference(text, base, now),
+            Some(base) => push_redraw(text, base, now),
+        }
+    }
+
+    /// From now on a frame's text is owed, and `base` is the screen at it, of which it isn't sure what another terminal
+    /// makes where `unsure` says so.
+    pub(crate) fn owe(&mut self, text: Vec<u8>, base: Rc<Screen>, unsure: bool)
+        requires { unsure ≡ is_unsure_screen base.value }
         ensures { self.new ≡ record { owed = text.items; base = Some base.value } }
     {
         self.text = text;
         self.taken = 0;
         self.base = Some(base);
+        self.unsure = unsure;
     }
 
     /// Hands what is owed to a writer. What it took is no longer owed.

@@ -17,13 +17,14 @@ use Rattle.termrelay.specs.declared.error.HubError.TheVariants.{Memory}
 use Rattle.termrelay.specs.Frame.{frame_text, IsShortFrame}
 use Rattle.termrelay.specs.Answers.{ClientState, due, wanted_of, is_too_long, answer_to, answer_for, is_frame, after_answer}
 use Rattle.termrelay.specs.Answers.{may_take_memory}
-use Rattle.termrelay.specs.Record.{RecordView, client_of, IsRecordOf}
+use Rattle.termrelay.specs.Record.{RecordView, client_of, IsRecordOf, is_unsure_screen}
 use Rattle.termrelay.specs.HubFields.{hub_of}
 use Rattle.termrelay.specs.Hub.{HubState, as_kept, clients_in, Puts, CanFrame, Framed, Frames, size_in, shown_in}
 use Rattle.termrelay.specs.Hub.{OwesOneFrame, OwesLocalFrame}
 use Rattle.termrelay.proofs.MadeLemmas.{made-unscrolled}
 use Rattle.termrelay.proofs.AnswerLemmas.{wanted-due, wanted-none, answer-none, answer-long, answer-frame, text-long}
 use Rattle.termrelay.proofs.AnswerLemmas.{answer-memory, never-wanted, text-fits}
+use Rattle.termrelay.proofs.SureBases.{unsure-told}
 use Rattle.termrelay.proofs.HubLemmas.{found-served, owes-one}
 use Rattle.termrelay.proofs.LocalFrames.{due-short, due-local}
 use Rattle.termrelay.proofs.hub.Hub.frame.Goals as goal
@@ -266,6 +267,19 @@ returns-then-is_too_long-clause-small c few e =
     d.text_is d.short cells) ∙ d.long_is ∙ c.if-is_too_long.true)
 
 -- ---- a frame is owed
+
+pub owe-requires-clause-unsure : goal.owe-requires-clause-unsure
+owe-requires-clause-unsure c =
+    let at = goal.at.owe-requires-clause-unsure c in
+    let a = asked at.After-is_frame in
+    let d = drawn at.After-is_too_long a in
+    let client = client_of c.in-Some.record.now in
+    let screen = c.self.inside.parser.screen in
+    let is_base : c.in_ok-base.base.value ≡ screen =
+    c.in_ok-base.ensures.base ∙ ap (λ (h : HubState as_kept). h.parser.screen) (sym c.self.view_is) in
+    c.eq.ensures
+    ∙ unsure-told screen.state client.base client.owed c.answer-answer.result a.wanted d.frame
+    ∙ ap is_unsure_screen (sym is_base)
 
 pub owe-requires-clause-short : goal.owe-requires-clause-short
 owe-requires-clause-short c =

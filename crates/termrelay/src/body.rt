@@ -1,0 +1,53 @@
+//! What stands between the marks of a frame.
+ghost use Rattle.std.specs.Prelude.{◌≡◌, ◌++◌, OnOk, OnErr, Err};
+ghost use Rattle.vt100_forms.specs.Form.{spell};
+ghost use Rattle.screen_drawing.specs.Modes.{input_mode_diff};
+ghost use Rattle.screen_drawing.specs.Screen.{contents_formatted, state_diff, state_formatted};
+ghost use Rattle.vt100_core.specs.Picture.{grid_size};
+ghost use Rattle.screen_model.specs.Shown.{shown_state};
+ghost use Rattle.vt100.specs.WriterLaws.{IsUnscrolled};
+ghost use Rattle.termrelay.specs.declared.error.HubError.TheVariants.{Memory};
+
+use crate::error::HubError;
+use vt100::Screen;
+
+/// Appends what draws the screen on a blank one.
+pub(crate) fn push_state(text: &mut Vec<u8>, now: &Screen) -> Result<(), HubError>
+    requires { IsUnscrolled now.now.state }
+    ensures text { OnOk result (text.new.items ≡ text.old.items
+        ++ spell (state_formatted (grid_size now.now.state.shown) (shown_state now.now.state))) }
+    ensures memory { OnErr result (result ≡ Err Memory) }
+{
+    text.extend_from_slice(now.state_formatted()?.as_bytes())?;
+    Ok(())
+}
+
+/// Appends what takes a terminal from all that the base shows to all that the screen shows.
+pub(crate) fn push_difference(
+    text: &mut Vec<u8>,
+    base: &Screen,
+    now: &Screen,
+) -> Result<(), HubError>
+    requires base { IsUnscrolled base.now.state }
+    requires now { IsUnscrolled now.now.state }
+    requires size { grid_size base.now.state.shown ≡ grid_size now.now.state.shown }
+    ensures text { OnOk result (text.new.items ≡ text.old.items ++ spell
+        (state_diff (grid_size now.now.state.shown) (shown_state base.now.state) (shown_state now.now.state))) }
+    ensures memory { OnErr result (result ≡ Err Memory) }
+{
+    text.extend_from_slice(now.state_diff(base)?.as_bytes())?;
+    Ok(())
+}
+
+/// Appends what draws the screen on one that has the base's modes.
+pub(crate) fn push_redraw(text: &mut Vec<u8>, base: &Screen, now: &Screen) -> Result<(), HubError>
+    requires { IsUnscrolled now.now.state }
+    ensures text { OnOk result (text.new.items ≡ text.old.items
+        ++ (spell (contents_formatted (grid_size now.now.state.shown) (shown_state now.now.state))
+        ++ spell (input_mode_diff (shown_state base.now.state) (shown_state now.now.state)))) }
+    ensures memory { OnErr result (result ≡ Err Memory) }
+{
+    text.extend_from_slice(now.contents_formatted()?.as_bytes())?;
+    text.extend_from_slice(now.input_mode_diff(base)?.as_bytes())?;
+    Ok(())
+}
