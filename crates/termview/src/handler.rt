@@ -4,6 +4,7 @@ ghost use Rattle.termview.specs.Picture.{term_of_picture, Becomes};
 ghost use Rattle.termview.specs.Step.{view_step, line_of};
 
 use crate::picture::Picture;
+use vte_types::attr::Attr;
 use vte_types::call::Call;
 use vte_types::clear::{ClearMode, LineClearMode};
 use vte_types::handler::Handler;
@@ -34,6 +35,22 @@ impl Handler for Picture {
             Call::TerminalAttribute(attr) => self.set_attribute(attr),
             _ => {}
         }
+    }
+
+    // The calls of which frames have most don't go by `call`.
+    #[tactic(auto, unfolding(crate::specs::Step::view_step))]
+    fn input(&mut self, c: char) {
+        self.input(c);
+    }
+
+    #[tactic(auto, unfolding(crate::specs::Step::view_step))]
+    fn goto(&mut self, line: i32, col: usize) {
+        self.goto(row_at(line), col);
+    }
+
+    #[tactic(auto, unfolding(crate::specs::Step::view_step))]
+    fn terminal_attribute(&mut self, attr: Attr) {
+        self.set_attribute(attr);
     }
 }
 
