@@ -39,3 +39,24 @@ all-missed (suc n) m p lt h =
     (λ (l : n ≤ m). let same : n ≡ m = omega (arith, lt, l) in
     ap (λ b. all_below n p && b) (ap p same ∙ h) ∙ and-false (all_below n p))
     (cases_lt m n)
+
+-- tests that agree below n
+pub all-alike : (n : ℕ) (p q : ℕ → Bool) → ((k : ℕ) → k < n → p k ≡ q k) → all_below n p ≡ all_below n q
+all-alike zero p q h = refl
+all-alike (suc n) p q h =
+    let before : all_below n p ≡ all_below n q = all-alike n p q (λ k lt. h k (omega (arith, lt))) in
+    let last : p n ≡ q n = h n (omega arith) in
+    λ i. before i && last i
+
+pub any-alike : (n : ℕ) (p q : ℕ → Bool) → ((k : ℕ) → k < n → p k ≡ q k) → any_below n p ≡ any_below n q
+any-alike zero p q h = refl
+any-alike (suc n) p q h =
+    let before : any_below n p ≡ any_below n q = any-alike n p q (λ k lt. h k (omega (arith, lt))) in
+    let last : p n ≡ q n = h n (omega arith) in
+    λ i. before i || last i
+
+pub all-true : (n : ℕ) (p : ℕ → Bool) → ((k : ℕ) → k < n → p k ≡ true) → all_below n p ≡ true
+all-true zero p h = refl
+all-true (suc n) p h =
+    let before : all_below n p ≡ true = all-true n p (λ k lt. h k (omega (arith, lt))) in
+    ap (λ b. b && p n) before ∙ h n (omega arith)

@@ -2,6 +2,7 @@ pub mod FrameLemmas
 pub mod Marks
 pub mod SureLemmas
 pub mod SameLemmas
+pub mod RowLemmas
 pub mod BelowLemmas
 pub mod ShownLemmas
 pub mod MadeLemmas

@@ -1,10 +1,9 @@
 -- What the calls that ask a screen tell of what it shows, and two screens that are told alike.
-use Rattle.std.proofs.Common.{◌≡◌, ◌∙◌, ℕ, zero, suc, ◌<◌, ◌≤◌, Bool, true, false, not, ◌&&◌, ◌||◌, ◌==◌, Option}
-use Rattle.std.proofs.Common.{Some, None, List, [], ◌∷◌, ◌++◌, length, length-append, arith, Bor, sym, ap, refl}
+use Rattle.std.proofs.Common.{◌≡◌, ◌∙◌, ℕ, zero, suc, ◌<◌, ◌≤◌, Bool, true, false, not, ◌&&◌, ◌||◌, ◌==◌}
+use Rattle.std.proofs.Common.{List, [], ◌∷◌, ◌++◌, length, length-append, arith, sym, ap, refl}
 use Rattle.std.proofs.Common.{encode_utf8, encode_utf8_all, nat_le}
 use mathlib.Core.Bool.{beq}
 use Rattle.std.specs.Cmp.{both_ways}
-use Rattle.std.specs.Option.{option_copied, option_eq}
 use Rattle.std.specs.Char.{len_utf8}
 use Rattle.std.specs.List.{list_any}
 use Rattle.std.proofs.lemmas.Bool.{and_parts, eq-eqb, eqb-true, false_from_ne_true}
@@ -17,10 +16,9 @@ use Rattle.vt100_forms.specs.Form.{mouse_number, encoding_number, style_number}
 use Rattle.vt100_cells.specs.Cell.{CellView, bool_eq, text_eq, cell_eq, empty_cell}
 use Rattle.vt100_cells.specs.CellEq.{attrs_eq-true, cell_eq-refl}
 use Rattle.terminal_model.specs.Term.{Size, Modes, Shown}
-use Rattle.vt100_core.specs.Picture.{grid_size}
 use Rattle.screen_model.specs.State.{State, IsState}
-use Rattle.screen_model.specs.Shown.{shown_state, told_cell, told_wrap}
-use Rattle.screen_model.proofs.ShownLemmas.{each-cell_is_told, each-wrap_is_told, alike-show_the_same}
+use Rattle.screen_model.specs.Shown.{shown_state, told_wrap}
+use Rattle.screen_model.proofs.ShownLemmas.{each-wrap_is_told, alike-show_the_same}
 use Rattle.termrelay.specs.Answers.{all_below, modes_eq, same_shown, EachOneIsSame}
 
 -- ---- tests
@@ -60,43 +58,7 @@ asked-is_long (x ∷ xs) h = asked-one x xs (x == 0xFE0F) refl h (asked-is_long 
 pub short-asks_not : (xs : List ℕ) → length (encode_utf8_all xs) < 3 → list_any (λ c. c == 0xFE0F) xs ≡ false
 short-asks_not xs h = false_from_ne_true _ (λ e. omega (arith, h, asked-is_long xs e))
 
--- ---- cells
-
--- the cell that is told
-pub cell-here : (s : State) (r k : ℕ) → IsState s → r < s.shown.height → k < s.shown.width → (o : Option (Bor CellView))
-    (x : Bor CellView) → option_copied o ≡ told_cell s r k → o ≡ Some x → x.now ≡ (shown_state s).cell r k
-cell-here s r k i h w o x e f =
-    let told = each-cell_is_told s i r k h w in
-    let copied : option_copied o ≡ Some x.now = ap (λ p. option_copied p) f in
-    cc
-
--- no place of the screen is without one
-pub cell-none : (s : State) (r k : ℕ) → IsState s → r < s.shown.height → k < s.shown.width → (o : Option (Bor CellView))
-    → option_copied o ≡ told_cell s r k → o ≡ None → ⊥
-cell-none s r k i h w o e f =
-    let told = each-cell_is_told s i r k h w in
-    let copied : option_copied o ≡ None = ap (λ p. option_copied p) f in
-    cc
-
-equal-told : (a b : Option (Bor CellView)) (x y : CellView) → option_copied a ≡ Some x → option_copied b ≡ Some y
-    → option_eq (λ p q. cell_eq p.now q.now) a b ≡ cell_eq x y
-equal-told (Some p) (Some q) x y e f =
-    let left : p.now ≡ x = cc in
-    let right : q.now ≡ y = cc in
-    ap (λ t. cell_eq t q.now) left ∙ ap (λ t. cell_eq x t) right
-equal-told None b x y e f = absurd cc
-equal-told (Some p) None x y e f = absurd cc
-
--- the cells that two screens of one size tell of a place are compared
-pub cells-compared : (s t : State) (r k : ℕ) → IsState s → IsState t → grid_size s.shown ≡ grid_size t.shown
-    → r < s.shown.height → k < s.shown.width → (a b : Option (Bor CellView)) → option_copied a ≡ told_cell s r k
-    → option_copied b ≡ told_cell t r k
-    → option_eq (λ p q. cell_eq p.now q.now) a b ≡ cell_eq ((shown_state s).cell r k) ((shown_state t).cell r k)
-cells-compared s t r k i j z h w a b e f =
-    let high : r < t.shown.height = rw (ap (λ n. n.rows) z) at h in
-    let wide : k < t.shown.width = rw (ap (λ n. n.cols) z) at w in
-    equal-told a b ((shown_state s).cell r k) ((shown_state t).cell r k) (e ∙ each-cell_is_told s i r k h w)
-    (f ∙ each-cell_is_told t j r k high wide)
+-- ---- rows
 
 -- the flags that two screens tell of a row are compared
 pub wraps-compared : (s t : State) (r : ℕ) → IsState s → IsState t → (a b : Bool) → a ≡ told_wrap s r

@@ -1,7 +1,8 @@
 //! What screens show, by the calls that ask them about it.
-ghost use Rattle.std.specs.Prelude.{◌≡◌, ◌<◌};
+ghost use Rattle.std.specs.Prelude.{◌≡◌, ◌<◌, length};
 ghost use Rattle.vt100_forms.specs.Attrs.{attrs_eq};
 ghost use Rattle.vt100_cells.specs.Cell.{bool_eq, cell_eq};
+ghost use Rattle.vt100_cells.specs.Cells.{AreSame, cell_at};
 ghost use Rattle.vt100_core.specs.Picture.{grid_size};
 ghost use Rattle.screen_model.specs.State.{IsState};
 ghost use Rattle.screen_model.specs.Shown.{shown_state};
@@ -9,6 +10,7 @@ ghost use Rattle.termrelay.specs.Answers.{all_below, modes_eq, same_shown};
 ghost use Rattle.termrelay.specs.Frame.{any_below, asks_for_emoji, is_unsure};
 
 use vt100::{Cell, Screen};
+use vt100_cells::line::same_to;
 
 /// The character that asks for an emoji, by which a terminal may make a cell wide.
 const EMOJI_SELECTOR: char = '\u{fe0f}';
@@ -21,6 +23,33 @@ fn asks_for_emoji(cell: &Cell) -> bool
     text.len() >= EMOJI_SELECTOR.len_utf8() && text.chars().any(|c| c == EMOJI_SELECTOR)
 }
 
+/// The cells that are shown in a row of the screen, from its first column to its last.
+fn cells_of(screen: &Screen, row: u16) -> &[Cell]
+    requires state { IsState screen.now.state }
+    requires inside { row < screen.now.state.shown.height }
+    ensures count { length result.now ≡ screen.now.state.shown.width }
+    ensures cells { AreSame (cell_at result.now) ((shown_state screen.now.state).cell row)
+        0 screen.now.state.shown.width }
+{
+    let (_, cols) = screen.size();
+    match screen.row_cells(row) {
+        Some(cells) => &cells[..usize::from(cols.get())],
+        None => &[],
+    }
+}
+
+/// Whether one of the cells asks for an emoji.
+fn one_asks_for_emoji(cells: &[Cell]) -> bool
+    ensures { result ≡ any_below (length cells.now) (λ k. asks_for_emoji (cell_at cells.now k)) }
+{
+    for cell in cells {
+        if asks_for_emoji(cell) {
+            return true;
+        }
+    }
+    false
+}
+
 /// Whether one of a row's cells asks for an emoji.
 fn is_row_unsure(screen: &Screen, row: u16) -> bool
     requires state { IsState screen.now.state }
@@ -28,15 +57,7 @@ fn is_row_unsure(screen: &Screen, row: u16) -> bool
     ensures { result ≡ any_below screen.now.state.shown.width
         (λ k. asks_for_emoji ((shown_state screen.now.state).cell row k)) }
 {
-    let (_, cols) = screen.size();
-    for col in 0..cols.get() {
-        if let Some(cell) = screen.cell(row, col) {
-            if asks_for_emoji(cell) {
-                return true;
-            }
-        }
-    }
-    false
+    one_asks_for_emoji(cells_of(screen, row))
 }
 
 /// Whether it isn't sure what another terminal makes of the screen: a cell asks for an emoji.
@@ -53,6 +74,14 @@ pub(crate) fn is_unsure(screen: &Screen) -> bool
     false
 }
 
+/// Whether two rows of one width have the same cells.
+fn are_same(cells: &[Cell], others: &[Cell]) -> bool
+    requires { length cells.now ≡ length others.now }
+    ensures { result ≡ all_below (length cells.now) (λ k. cell_eq (cell_at cells.now k) (cell_at others.now k)) }
+{
+    same_to(cells, others, 0, cells.len()) == cells.len()
+}
+
 /// Whether two screens of one size show the same cells in a row.
 fn has_same_cells(screen: &Screen, other: &Screen, row: u16) -> bool
     requires state { IsState screen.now.state }
@@ -62,13 +91,7 @@ fn has_same_cells(screen: &Screen, other: &Screen, row: u16) -> bool
     ensures { result ≡ all_below screen.now.state.shown.width (λ k. cell_eq
         ((shown_state screen.now.state).cell row k) ((shown_state other.now.state).cell row k)) }
 {
-    let (_, cols) = screen.size();
-    for col in 0..cols.get() {
-        if screen.cell(row, col) != other.cell(row, col) {
-            return false;
-        }
-    }
-    true
+    are_same(cells_of(screen, row), cells_of(other, row))
 }
 
 /// Whether two screens of one size show the same cells.

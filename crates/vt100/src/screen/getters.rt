@@ -76,6 +76,17 @@ impl Screen {
         self.grid.visible_cell(Pos { row, col })
     }
 
+    /// The cells of the row that is shown at `row`, counted from 0, from the left: those that [`cell`](Self::cell) tells
+    /// of one by one. A kept row can be wider than the screen.
+    pub fn row_cells(&self, row: u16) -> Option<&[Cell]>
+        ensures { option_copied result ≡ option_map (λ v. v.cells) (visible_row_at self.now.state.shown row) }
+    {
+        match self.grid.visible_row(row) {
+            Some(row) => Some(row.cells()),
+            None => None,
+        }
+    }
+
     /// Whether the text of the row that is shown at `row`, counted from 0, goes on in the next one.
     pub fn row_wrapped(&self, row: u16) -> bool
         ensures { result ≡ unwrap_or (option_map (λ v. v.wrapped) (visible_row_at self.now.state.shown row)) false }
