@@ -111,9 +111,10 @@ fn check_readable(rt: &(impl Abort + AllocGlobal), screen: &Screen) -> Result<()
             len <= capacity,
             offset <= len,
             screen.cell(row, 0).is_some(),
+            screen.row_cells(row).is_some(),
             screen.is_live(),
         ],
-        &[true, true, true, true, true, false],
+        &[true, true, true, true, true, true, false],
     );
     read_all(rt, screen)
 }
