@@ -4,11 +4,11 @@ use Rattle.std.proofs.Common.{List, [], ◌∷◌, length, Option, Some, None, r
 use Rattle.std.proofs.Common.{◌∙◌, inl, inr, subst}
 use Rattle.std.proofs.lemmas.Bool.Decides.{nat_tests}
 use Rattle.std.proofs.lemmas.Bool.{cases_Bool, cases_lt, both_ways, ne_eqb}
-use Rattle.std.proofs.lemmas.Bool.{or_right}
+use Rattle.std.proofs.lemmas.Bool.{or_left, or_right}
 use Rattle.vt100_forms.specs.declared.attrs.Attrs.{Attrs}
-use Rattle.vt100_forms.specs.Attrs.{IsProper}
+use Rattle.vt100_forms.specs.Attrs.{IsProper, attrs_eq}
 use Rattle.vt100_cells.specs.CellEq.{attrs_eq-true, cell_eq-true}
-use Rattle.vt100_cells.specs.Cell.{CellView, IsCell, IsWideAs, cell_of, empty_cell, has_text}
+use Rattle.vt100_cells.specs.Cell.{CellView, IsCell, IsWideAs, cell_of, empty_cell, has_text, is_filled}
 use Rattle.vt100_cells.specs.Line.{span_of, put, put_unflags, wiped, wipe_unflags}
 use Rattle.vt100_cells.proofs.LineLemmas.{wide_within}
 use Rattle.terminal_model.specs.Position.{update}
@@ -26,9 +26,9 @@ use Rattle.row_drawing.proofs.Lines.{line-same, line-same_wide}
 use Rattle.row_drawing.proofs.Steps.{Takes, takes-then, takes-as, takes-to, takes-skip, pen, takes-goto}
 use Rattle.row_drawing.proofs.Steps.{takes-color, takes-turn, takes-marking, takes-back, Flags, kept_or_off}
 use Rattle.row_drawing.proofs.Steps.{flags-step}
-use Rattle.row_drawing.proofs.Steps.{IsSendable, takes-erasing, takes-clearing}
+use Rattle.row_drawing.proofs.Steps.{IsSendable, takes-space_below, takes-erasing, takes-clearing}
 use Rattle.row_drawing.proofs.RowLeads.{past, edge, Opens, Standing, At, After, after-takes, after-then}
-use Rattle.row_drawing.proofs.RowLeads.{wrapped-flags, not-due, wraps-now, draws, takes-space_turned}
+use Rattle.row_drawing.proofs.RowLeads.{wrapped-flags, not-due, wraps-now, draws}
 
 -- ---- cells
 
@@ -59,7 +59,13 @@ span-narrow x w = rw w refl
 
 pub room-for : (s : Scene) → IsScene s → (n : ℕ) → n < s.job.cols → n + span_of (s.job.new n) ≤ s.job.cols
 room-for s h n l =
-    let inside = wide_within s.job.cols s.job.new n h.new.beyond h.new.paired in grind (arith, nat_tests, inside)
+    elim (cases_Bool (s.job.new n).wide) [
+      | inl wide ↦
+          (let inside = wide_within s.job.cols s.job.new n h.new.beyond h.new.paired wide in
+          let span = span-wide (s.job.new n) wide in
+          omega (arith, inside, span))
+      | inr narrow ↦ (let span = span-narrow (s.job.new n) narrow in omega (arith, span))
+    ]
 
 -- ---- columns are erased
 
@@ -112,13 +118,21 @@ arrives s F f r k a e lost h ha he inside l standing =
       }
       | inl turns ↦
           (let now = wraps-now s 1 p e.from turns in
+          let full : is_filled (s.cells r (j.cols - 1)) ≡ true =
+          ap (λ i. is_filled (s.cells i (j.cols - 1))) (omega (arith, now.row)) ∙ h.above_filled now.above in
+          let below : r + 1 < s.rows = omega (arith, now.row, h.row_in) in
           let g : ℕ → CellView = put f 0 (cell_of 32 a) a in
           let G : ℕ → Bool = update F r true in
           let begun : Line j.old j.new 0 f = subst (λ m. Line j.old j.new m f) now.first l in
+          let Q : ℕ → Type 0 = λ i. Takes z space (pen i 0 a (Some e) lost)
+          (record (s.term) { cell = update s.cells i f; wrapped = F; row = r; col = k; attrs = a })
+          (pen i 1 a (Some e) lost)
+          (record (s.term) { cell = update s.cells i g; wrapped = G; row = i; col = 1; attrs = a }) in
+          let prints : Q j.row = subst Q now.row
+          (takes-space_below z s.term s.cells F r k f a (Some e) lost h.some_col now.over below full) in
           let all = takes-then z _ _ _ _ _ _ _ _
           (takes-then z _ _ _ _ _ _ _ _
-          (takes-then z _ _ _ _ _ _ _ _ (takes-turn z p t j.row)
-          (takes-space_turned s F f r k a (Some e) lost h now.above now.row now.over))
+          (takes-then z _ _ _ _ _ _ _ _ (takes-turn z p t j.row) prints)
           (takes-back z s.term (update s.cells j.row g) G j.row 1 a (Some e) lost))
           (takes-color z s.term (update s.cells j.row g) G j.row 0 a j.row 0 (Some e) lost e.attrs ha he) in
           record {
@@ -199,8 +213,19 @@ clears s F f r k a e lost h ha l opens standing =
 pub past-whole : (j : Job) (n : ℕ) → (j.new n).continuation ≡ false → past j n ≡ n
 past-whole j n h = rw h refl
 
+past-half : (j : Job) (n : ℕ) → (j.new n).continuation ≡ true → past j n ≡ n + 1
+past-half j n h = rw h refl
+
 next-past : (s : Scene) → IsScene s → (n : ℕ) → past s.job (n + 1) ≡ n + span_of (s.job.new n)
-next-past s h n = grind (arith, nat_tests, h.new.paired.next n)
+next-past s h n =
+    elim (cases_Bool (s.job.new n).wide) [
+      | inl wide ↦
+          (let sum : n + 1 + 1 ≡ n + 2 = omega arith in
+          past-half s.job (n + 1) (h.new.paired.next n ∙ wide) ∙ sum
+          ∙ ap (λ m. n + m) (sym (span-wide (s.job.new n) wide)))
+      | inr narrow ↦ past-whole s.job (n + 1) (h.new.paired.next n ∙ narrow)
+          ∙ ap (λ m. n + m) (sym (span-narrow (s.job.new n) narrow))
+    ]
 
 pub draw-is_same : (j : Job) (n : ℕ) (p : Pen) → is_same j n ≡ true → draw j n p ≡ skip p
 unfolding draw
@@ -351,7 +376,15 @@ unfolding flush flush_of
 flush-not j n r k a e b h = rw h refl
 
 pub open-on : (x : CellView) (a : Attrs) → is_end x a ≡ false → (has_text x ≡ false) × (x.attrs ≡ a)
-open-on x a h = (grind (arith, nat_tests), attrs_eq-true x.attrs a (grind (arith, nat_tests)))
+open-on x a h =
+    elim (cases_Bool (has_text x)) [
+      | inl full ↦ absurd (both_ways (is_end x a) h (or_left (has_text x) (not (attrs_eq x.attrs a)) full))
+      | inr empty ↦ elim (cases_Bool (attrs_eq x.attrs a)) [
+        | inr other ↦ absurd (both_ways (is_end x a) h (or_right (has_text x) (not (attrs_eq x.attrs a))
+            (ap not other)))
+        | inl same ↦ (empty, attrs_eq-true x.attrs a same)
+      ]
+    ]
 
 column-at : (s : Scene) (F : ℕ → Bool) (f : ℕ → CellView) (r k : ℕ) (a : Attrs) (e : Option Erase) (lost : Bool)
     (n : ℕ) → IsScene s → IsProper a → n < s.job.cols → (s.job.new n).continuation ≡ false
@@ -361,8 +394,7 @@ column-at s F f r k a None lost n h ha inside single l opens standing =
     let p = pen r k a None lost in
     let t = with_row s f F r k a in
     after-then s (n + 1) (flush s.job n) (draw s.job n) p t p t
-    (takes-as (scene_size s) skip (flush s.job n) p t p t (flush-none s.job n r k a lost) (takes-skip
-    (scene_size s) p t))
+    (takes-as (scene_size s) skip (flush s.job n) p t p t (flush-none s.job n r k a lost) (takes-skip (scene_size s) p t))
     (draw-closed s F f r k a lost n h ha inside single l standing)
 column-at s F f r k a (Some e) lost n h ha inside single l opens standing =
     let j = s.job in
@@ -430,7 +462,9 @@ not-first s n h half = ne_eqb n s.job.start (λ e. both_ways (s.job.new 0).conti
 
 half-past : (s : Scene) (n : ℕ) → IsScene s → (s.job.new n).continuation ≡ true
     → past s.job n ≡ past s.job (n + 1)
-half-past s n h half = grind (arith, nat_tests, h.new.paired.blank n half, h.new.paired.next n)
+half-past s n h half =
+    let narrow : (s.job.new n).wide ≡ false = ap (λ (x : CellView). x.wide) (h.new.paired.blank n half) in
+    past-half s.job n half ∙ sym (past-whole s.job (n + 1) (h.new.paired.next n ∙ narrow))
 
 column-half_at : (s : Scene) (F : ℕ → Bool) (f : ℕ → CellView) (r k : ℕ) (a : Attrs) (e : Option Erase) (lost : Bool)
     (n : ℕ) → IsScene s → IsProper a → (s.job.new n).continuation ≡ true
@@ -468,8 +502,7 @@ column-leads s n p t h inside now =
           let base = column-at s now.flags now.line p.pos.row p.pos.col p.attrs p.erase p.lost n h now.proper inside
           single l now.opens st in
           let there = subst (λ (x : Term). After s (n + 1) (flush j n >> draw j n) p x) (sym now.stands) base in
-          subst (λ (d : Drawn). At s (n + 1) d.pen (run (scene_size s) d.forms t)) (sym
-          (column-whole j n p single)) there)
+          subst (λ (d : Drawn). At s (n + 1) d.pen (run (scene_size s) d.forms t)) (sym (column-whole j n p single)) there)
       | inl half ↦ subst (λ (x : Term). After s (n + 1) (column j n) p x) (sym now.stands)
           (column-half_at s now.flags now.line p.pos.row p.pos.col p.attrs p.erase p.lost n h now.proper half now.lines
           now.opens now.standing)

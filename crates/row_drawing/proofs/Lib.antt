@@ -13,7 +13,6 @@ pub mod LocalColumns
 pub mod LocalRow
 pub mod OpeningWrites
 pub mod RowEnd
-pub mod RowForms
 pub mod RowLeads
 pub mod RowRedraw
 pub mod RowStart

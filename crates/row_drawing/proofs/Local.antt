@@ -1,20 +1,21 @@
 -- The cells that the difference of a row touches.
-use Rattle.std.proofs.Common.{◌≡◌, ℕ, ◌+◌, ◌-◌, ◌<◌, ◌≤◌, ◌==◌, Bool, true, false, not, ◌&&◌, ◌||◌, nat_lt}
+use Rattle.std.proofs.Common.{◌≡◌, ℕ, ◌+◌, ◌-◌, ◌<◌, ◌≤◌, ◌==◌, Bool, true, false, cond, not, ◌&&◌, ◌||◌, nat_lt}
 use Rattle.std.proofs.Common.{nat_le}
 use Rattle.std.proofs.Common.{None, refl, arith, sym, ap, ◌∙◌, inl, inr, subst}
 use Rattle.std.proofs.lemmas.Bool.Decides.{nat_tests}
-use Rattle.std.proofs.lemmas.Bool.{cases_Bool, both_ways, and_parts, and_from, eqb-true}
+use Rattle.std.proofs.lemmas.Bool.{cases_Bool, both_ways, and_parts, and_from, eqb-true, leb-true, ltb-true}
+use Rattle.std.proofs.lemmas.Bool.{cond_both}
 use Rattle.vt100_forms.specs.declared.attrs.Attrs.{Attrs}
 use Rattle.vt100_forms.specs.Attrs.{IsProper}
 use Rattle.vt100_cells.specs.CellEq.{cell_eq-true}
-use Rattle.vt100_cells.specs.Cell.{CellView, empty_cell, cell_of, has_text}
+use Rattle.vt100_cells.specs.Cell.{CellView, empty_cell, cell_of, has_text, is_filled}
 use Rattle.vt100_cells.specs.Line.{span_of, put, wiped, wipe_unflags}
 use Rattle.terminal_model.specs.Position.{update}
 use Rattle.terminal_model.specs.Term.{Size, Term}
 use Rattle.terminal_model.specs.Apply.{run}
 use Rattle.terminal_model.specs.Touch.{put_touches, wipe_touches, Within}
 use Rattle.row_drawing.specs.declared.pen.Pen.{Pen}
-use Rattle.row_drawing.specs.Writer.{Writer, ◌>>◌, skip, goto, turn, color, print, space, back, erasing}
+use Rattle.row_drawing.specs.Writer.{Drawn, Writer, ◌>>◌, skip, goto, turn, color, print, space, back, erasing}
 use Rattle.row_drawing.specs.RowWriter.{Job, is_same, wraps, owes_flag, reprint, opening, columns, finish, last_col_of}
 use Rattle.row_drawing.specs.RowWriter.{last_cell_of, unflag, print_last, mend, owes_end, closing, row_redraw}
 use Rattle.row_drawing.specs.RowWriter.{row_difference}
@@ -22,20 +23,17 @@ use Rattle.row_drawing.specs.Scene.{Scene, IsScene, IsReady, scene_size, with_ro
 use Rattle.row_drawing.proofs.Lines.{line-begun, spaced-half}
 use Rattle.row_drawing.proofs.Steps.{Takes, takes-then, takes-as, pen, takes-goto, takes-color}
 use Rattle.row_drawing.proofs.Steps.{takes-turn}
-use Rattle.row_drawing.proofs.Steps.{takes-back, takes-erasing, kept_or_off}
-use Rattle.row_drawing.proofs.RowForms.{keeps-opening}
-use Rattle.row_drawing.proofs.RowLeads.{At, wraps-now, takes-space_turned}
+use Rattle.row_drawing.proofs.Steps.{takes-back, takes-erasing, takes-space_below, kept_or_off}
+use Rattle.row_drawing.proofs.RowLeads.{At, wraps-now}
 use Rattle.row_drawing.proofs.Columns.{empty-is, sends, room-for, span-wide, span-narrow, columns-lead}
 use Rattle.row_drawing.proofs.RowEnd.{IsFilled, last-is, span-few, print-last_is, print-last_none, unflag-full}
 use Rattle.row_drawing.proofs.RowEnd.{unflag-empty, mend-wraps, mend-ends, closing-none, closing-some}
 use Rattle.row_drawing.proofs.RowStart.{first-whole, opening-none, opening-some, reprint-wide, reprint-narrow}
 use Rattle.row_drawing.proofs.RowStart.{reprint-empty, opening-leads, redraw-filled}
 use Rattle.row_drawing.proofs.Touches.{Stays, stays-then, stays-as, stays-skip, stays-turn, stays-goto, stays-color}
-use Rattle.row_drawing.proofs.Touches.{stays-back, stays-print, stays-erasing}
-use Rattle.row_drawing.proofs.LocalRow.{IsRoom, or-four, or-split, put-room, wipe-room, stays-print_turned}
-use Rattle.row_drawing.proofs.LocalRow.{stays-space_turned}
-use Rattle.row_drawing.proofs.LocalColumns.{IsMarked, each-marks, space-room, columns-within, columns-marked}
-use Rattle.row_drawing.proofs.LocalColumns.{finish-within}
+use Rattle.row_drawing.proofs.Touches.{stays-back, stays-print, stays-print_below, stays-space_below, stays-erasing}
+use Rattle.row_drawing.proofs.LocalRow.{IsRoom, or-four, or-split, put-room, wipe-room}
+use Rattle.row_drawing.proofs.LocalColumns.{IsMarked, space-room, columns-within, columns-marked, finish-within}
 
 -- what follows touches nothing, wherever it is read
 stays-idle : (S : ℕ → ℕ → Type 0) (z : Size) (f g : Writer) (p : Pen) (t : Term) → Stays S z f p t
@@ -56,10 +54,18 @@ reprint-text_within s C S r k lost h o here same some above next over =
     let z = scene_size s in
     let p = pen j.row 0 x.attrs None lost in
     let t = with_row s j.old s.flags r k x.attrs in
+    let full : is_filled (s.cells r (j.cols - 1)) ≡ true =
+    ap (λ i. is_filled (s.cells i (j.cols - 1))) (omega (arith, next)) ∙ h.above_filled above in
+    let below : r + 1 < s.rows = omega (arith, next, h.row_in) in
     let fits = room-for s h 0 h.some_col in
     let begun = line-begun j.old j.new (first-whole s h) in
-    let prints = stays-print_turned s S s.flags j.old r k x.attrs x false p h above next over (sends s h 0 some)
-    (omega (arith, fits)) (put-room s C S h o 0 j.old begun h.new.paired.first h.some_col here) in
+    let touched : (i : ℕ) → i < j.cols → put_touches j.old 0 x i ≡ true → S (r + 1) i = λ i low q.
+    subst (λ v. S v i) (sym next) (put-room s C S h o 0 j.old begun h.new.paired.first h.some_col here i low q) in
+    let Q : ℕ → Type 0 = λ i. Stays S z (print x false) p
+    (record (s.term) { cell = update s.cells i j.old; wrapped = s.flags; row = r; col = k; attrs = x.attrs }) in
+    let prints : Q j.row = subst Q next
+    (stays-print_below S z s.term s.cells s.flags r k x.attrs j.old x false p (sends s h 0 some) (omega (arith, fits))
+    over below full touched) in
     elim (cases_Bool x.wide) [
       | inl wide ↦ stays-as S z (print x false >> (back >> back)) (reprint j x) p t (reprint-wide j x p some wide)
           (stays-idle S z (print x false) (back >> back) p t prints
@@ -83,13 +89,24 @@ reprint-empty_within s C S r k lost h o here none above next over =
     let is : x ≡ empty_cell a = empty-is x (h.cells 0) none h.new.paired.first in
     let span : span_of x ≡ 1 = span-narrow x (ap (λ (y : CellView). y.wide) is) in
     let past : j.cols < k + 1 = omega (arith, over, span) in
+    let full : is_filled (s.cells r (j.cols - 1)) ≡ true =
+    ap (λ i. is_filled (s.cells i (j.cols - 1))) (omega (arith, next)) ∙ h.above_filled above in
+    let below : r + 1 < s.rows = omega (arith, next, h.row_in) in
     let begun = line-begun j.old j.new (first-whole s h) in
     let G : ℕ → Bool = update s.flags r true in
     let g : ℕ → CellView = put j.old 0 (cell_of 32 a) a in
     let loses = wipe_unflags j.cols j.old 0 1 in
-    let prints = takes-space_turned s s.flags j.old r k a None lost h above next past in
-    let spaced = stays-space_turned s S s.flags j.old r k a p h above next past
-    (space-room s C S h o j.old a begun here) in
+    let touched : (i : ℕ) → i < j.cols → put_touches j.old 0 (cell_of 32 a) i ≡ true → S (r + 1) i = λ i low q.
+    subst (λ v. S v i) (sym next) (space-room s C S h o j.old a begun here i low q) in
+    let Q : ℕ → Type 0 = λ i. Takes z space (pen i 0 a None lost)
+    (record (s.term) { cell = update s.cells i j.old; wrapped = s.flags; row = r; col = k; attrs = a })
+    (pen i 1 a None lost) (record (s.term) { cell = update s.cells i g; wrapped = G; row = i; col = 1; attrs = a }) in
+    let prints : Q j.row = subst Q next
+    (takes-space_below z s.term s.cells s.flags r k j.old a None lost h.some_col past below full) in
+    let R : ℕ → Type 0 = λ i. Stays S z space p
+    (record (s.term) { cell = update s.cells i j.old; wrapped = s.flags; row = r; col = k; attrs = a }) in
+    let spaced : R j.row = subst R next
+    (stays-space_below S z s.term s.cells s.flags r k a j.old p h.some_col past below full touched) in
     let zero : (i : ℕ) → 0 ≤ i → i < 1 → i ≡ 0 = λ i low high. omega (arith, high) in
     let wiping = wipe-room s C S h o 0 1 g a (λ i low. absurd (omega (arith, low)))
     (λ q. spaced-half j.old j.new 1 a j.old h.old.paired begun (omega arith) q) (omega arith)
@@ -147,8 +164,26 @@ opening-within s C S p h ready o first =
     base
 
 -- nothing waits to be erased after it
+reprint-marked : (j : Job) (x : CellView) (p : Pen) → p.erase ≡ None → IsMarked j (reprint j x p).pen.erase
+unfolding reprint ◌>>◌ print space back erasing
+reprint-marked j x p none =
+    let P : Writer → Type 0 = λ f. IsMarked j (f p).pen.erase in
+    let clear : IsMarked j p.erase = subst (IsMarked j) (sym none) tt in
+    cond_both (has_text x) (print x false >> cond x.wide (back >> back) back)
+    (space >> back >> erasing 1 (wipe_unflags j.cols j.old 0 1)) P
+    (λ _. cond_both x.wide (back >> back) back (λ f. IsMarked j ((print x false >> f) p).pen.erase) (λ _. clear)
+    (λ _. clear)) (λ _. tt)
+
 pub opening-marked : (j : Job) (p : Pen) → p.erase ≡ None → IsMarked j (opening j p).pen.erase
-opening-marked j p none = ((keeps-opening _ _ _ j (each-marks j)).at p (subst (IsMarked j) (sym none) tt)).1
+unfolding opening ◌>>◌ turn color skip
+opening-marked j p none =
+    let clear : IsMarked j p.erase = subst (IsMarked j) (sym none) tt in
+    cond_both (owes_flag j p) ((turn j.row >> color (j.new j.start).attrs >> reprint j (j.new j.start)) p) (skip p)
+    (λ (d : Drawn). IsMarked j d.pen.erase)
+    (λ _. reprint-marked j (j.new j.start) (record p {
+      pos = record { row = j.row; col = 0 };
+      attrs = (j.new j.start).attrs;
+    }) none) (λ _. clear)
 
 -- ---- the last cell once more
 
@@ -227,11 +262,21 @@ print-end s S h room g over k low touched =
     elim (or-four (k == c) ((k == (c + 1)) && (x.wide || (g c).wide)) (((k + 1) == c) && (g k).wide)
     ((k == (c + 2)) && (x.wide && (g (c + 1)).wide)) touched) [
       | inl at_c ↦ subst (S j.row) (sym (eqb-true k c at_c)) room.here
-      | inr (inl next) ↦ grind (arith, nat_tests, room.next, over.there)
-      | inr (inr (inl left)) ↦ grind (arith, nat_tests, over.left k)
+      | inr (inl next) ↦
+          (let both = and_parts (k == (c + 1)) _ next in
+          let wide : x.wide ≡ true = (elim (or-split x.wide (g c).wide both.1) [
+            | inl new ↦ new
+            | inr old ↦ over.there old
+          ]) in
+          subst (S j.row) (sym (eqb-true k (c + 1) both.0)) (room.next wide))
+      | inr (inr (inl left)) ↦
+          (let both = and_parts ((k + 1) == c) _ left in
+          absurd (both_ways (g k).wide (over.left k (eqb-true (k + 1) c both.0)) both.1))
       | inr (inr (inr third)) ↦
-          (let two = span-wide x in
-          grind (arith, nat_tests, l.up_to, two))
+          (let both = and_parts (k == (c + 2)) _ third in
+          let is = eqb-true k (c + 2) both.0 in
+          let two = span-wide x (and_parts x.wide _ both.1).0 in
+          absurd (omega (arith, is, two, l.up_to, low)))
     ]
 
 wipe-end : (s : Scene) (S : ℕ → ℕ → Type 0) → IsScene s → IsEndRoom s S → (k : ℕ) → k < s.job.cols
@@ -240,8 +285,24 @@ wipe-end s S h room k low touched =
     let j = s.job in
     let c = last_col_of j in
     elim (or-split (nat_le c k && nat_lt k (c + 1)) _ touched) [
-      | inl between ↦ (let is : k ≡ c = grind (arith, nat_tests) in subst (S j.row) (sym is) room.here)
-      | inr edges ↦ grind (arith, nat_tests, (new-over s h).left k, h.new.paired.next c, room.next)
+      | inl between ↦
+          (let both = and_parts (nat_le c k) (nat_lt k (c + 1)) between in
+          let from = leb-true c k both.0 in
+          let to = ltb-true k (c + 1) both.1 in
+          let is : c ≡ k = omega (arith, from, to) in
+          subst (S j.row) is room.here)
+      | inr edges ↦ elim (or-split (((k + 1) == c) && (j.new k).wide) ((k == (c + 1)) && (j.new k).continuation)
+          (and_parts (nat_lt c (c + 1)) _ edges).1) [
+            | inl left ↦
+                (let both = and_parts ((k + 1) == c) _ left in
+                absurd (both_ways (j.new k).wide ((new-over s h).left k (eqb-true (k + 1) c both.0)) both.1))
+            | inr right ↦
+                (let both = and_parts (k == (c + 1)) _ right in
+                let is = eqb-true k (c + 1) both.0 in
+                let wide : (j.new c).wide ≡ true = sym (h.new.paired.next c) ∙ ap (λ i. (j.new i).continuation) (sym is)
+                ∙ both.1 in
+                subst (S j.row) (sym is) (room.next wide))
+          ]
     ]
 
 print_last-within : (s : Scene) (S : ℕ → ℕ → Type 0) (F : ℕ → Bool) (g : ℕ → CellView) (a : Attrs) (lost : Bool)

@@ -1,8 +1,7 @@
 -- A row's difference touches local cells.
-use Rattle.std.proofs.Common.{◌≡◌, ℕ, zero, suc, ◌+◌, ◌-◌, ◌<◌, ◌==◌, Bool, true, false, not, ◌&&◌, ◌||◌}
+use Rattle.std.proofs.Common.{◌≡◌, ℕ, zero, suc, ◌+◌, ◌-◌, ◌<◌, ◌≤◌, ◌==◌, Bool, true, false, not, ◌&&◌, ◌||◌}
 use Rattle.std.proofs.Common.{Option, Some, None, refl, arith, sym, ap, ◌∙◌, inl, inr, subst}
-use Rattle.std.proofs.lemmas.Bool.Decides.{nat_tests}
-use Rattle.std.proofs.lemmas.Bool.{both_ways, cond_both, and_parts, not-true}
+use Rattle.std.proofs.lemmas.Bool.{cases_lt, both_ways, cond_both, and_parts, not-true, false≢true}
 use Rattle.vt100_cells.specs.Cell.{is_filled, bool_eq}
 use Rattle.vt100_cells.specs.CellEq.{cell_eq-of_same}
 use Rattle.terminal_model.specs.Term.{Shown}
@@ -129,7 +128,14 @@ near-first s old new p h owed =
 
 inside-row : (s : Scene) → IsScene s → (k : ℕ) → is_same s.job k ≡ false → k < s.job.cols
 inside-row s h k differs =
-    grind (arith, nat_tests, cell_eq-of_same (s.job.new k) (s.job.old k), h.new.beyond k, h.old.beyond k)
+    let j = s.job in
+    elim (cases_lt k j.cols) [
+      | inl inside ↦ inside
+      | inr outside ↦
+          (let past : j.cols ≤ k = omega (arith, outside) in
+          absurd (both_ways (is_same j k) differs (cell_eq-of_same (j.new k) (j.old k)
+          (h.new.beyond k past ∙ sym (h.old.beyond k past)))))
+    ]
 
 near-cause : (s : Scene) (old new : Shown) (p : Pen) → IsScene s → IsPictured s old new
     → IsCause (IsNear (scene_size s) old new s.job.row) s.job p
@@ -139,7 +145,10 @@ near-cause s old new p scene h = record {
 }
 
 flags-apart : (a b : Bool) → not (bool_eq a b) ≡ true → a ≡ b → ⊥
-flags-apart a b h e = grind (arith, nat_tests)
+flags-apart true true h e = false≢true h
+flags-apart true false h e = false≢true (sym e)
+flags-apart false true h e = false≢true e
+flags-apart false false h e = false≢true h
 
 near-last : (s : Scene) (old new : Shown) (p : Pen) → IsScene s → IsReady s p → IsPictured s old new
     → owes_end s.job (row_redraw s.job s.job.cols p).pen ≡ true → IsNear (scene_size s) old new s.job.row

@@ -1,7 +1,8 @@
 -- The cells that the columns of a row's difference touch.
-use Rattle.std.proofs.Common.{◌≡◌, ℕ, zero, suc, ◌+◌, ◌-◌, ◌<◌, ◌≤◌, ◌==◌, Bool, true, false, cond, ◌&&◌, ◌||◌}
-use Rattle.std.proofs.Common.{Option, Some, None, refl, arith, sym, ap, inl, inr, subst}
+use Rattle.std.proofs.Common.{◌≡◌, ℕ, zero, suc, ◌+◌, ◌-◌, ◌<◌, ◌≤◌, ◌==◌, Bool, true, false, cond, not, ◌&&◌, ◌||◌}
+use Rattle.std.proofs.Common.{Option, Some, None, refl, arith, sym, ap, ◌∙◌, inl, inr, subst}
 use Rattle.std.proofs.lemmas.Bool.{cases_Bool, and_parts, or_left, eqb-true, false≢true}
+use Rattle.std.proofs.lemmas.Bool.{cond_both}
 use Rattle.unicode_width.specs.Width.{char_width}
 use Rattle.vt100_forms.specs.declared.attrs.Attrs.{Attrs}
 use Rattle.vt100_forms.specs.Attrs.{IsProper}
@@ -13,27 +14,23 @@ use Rattle.terminal_model.specs.Apply.{run}
 use Rattle.terminal_model.specs.Touch.{put_touches}
 use Rattle.row_drawing.specs.declared.pen.Erase.{Erase}
 use Rattle.row_drawing.specs.declared.pen.Pen.{Pen}
-use Rattle.row_drawing.specs.Writer.{◌>>◌, skip, goto, turn, color, print, space, back, erasing}
+use Rattle.row_drawing.specs.Writer.{Drawn, Writer, ◌>>◌, skip, goto, turn, color, print, space, back, erasing}
 use Rattle.row_drawing.specs.Writer.{clearing, marking}
-use Rattle.row_drawing.specs.RowWriter.{Job, is_same, wraps, to_erase, is_end, flush, finish}
+use Rattle.row_drawing.specs.RowWriter.{Job, is_same, wraps, to_erase, is_end, flush_of, flush, finish}
 use Rattle.row_drawing.specs.RowWriter.{arrive}
-use Rattle.row_drawing.specs.RowWriter.{mark, draw, column, columns}
+use Rattle.row_drawing.specs.RowWriter.{mark_of, mark, draw, column, columns}
 use Rattle.row_drawing.specs.Scene.{Scene, IsScene, scene_size, with_row}
 use Rattle.row_drawing.proofs.Lines.{Line}
-use Rattle.row_drawing.proofs.RowForms.{EachKeeps, keeps-columns}
-use Rattle.std.proofs.Common.{List, [], ◌∷◌}
-use Rattle.std.specs.List.{AllByRecursion}
-use Rattle.vt100_forms.specs.Form.{Form}
-use Rattle.row_drawing.proofs.Steps.{takes-then, takes-as, takes-skip, pen, takes-goto}
-use Rattle.row_drawing.proofs.Steps.{takes-turn, takes-back}
-use Rattle.row_drawing.proofs.RowLeads.{past, edge, Opens, Standing, At, wraps-now, takes-space_turned}
+use Rattle.row_drawing.proofs.Steps.{Takes, takes-then, takes-as, takes-skip, pen, takes-goto}
+use Rattle.row_drawing.proofs.Steps.{takes-turn, takes-back, takes-space_below}
+use Rattle.row_drawing.proofs.RowLeads.{past, edge, Opens, Standing, At, wraps-now}
 use Rattle.row_drawing.proofs.Columns.{erase-turn, erase-goto, arrives, erases, flush-none, flush-some, flush-not}
 use Rattle.row_drawing.proofs.Columns.{draw-is_same, draw-full, draw-empty, draw-empty_more, column-half, column-whole}
 use Rattle.row_drawing.proofs.Columns.{columns-lead, not-first, open-on, past-whole}
 use Rattle.row_drawing.proofs.RowEnd.{finish-none, finish-some}
 use Rattle.row_drawing.proofs.Touches.{Stays, stays-then, stays-as, stays-skip, stays-turn, stays-goto, stays-color}
-use Rattle.row_drawing.proofs.Touches.{stays-marking, stays-back, stays-erasing, stays-clearing}
-use Rattle.row_drawing.proofs.LocalRow.{IsRoom, or-four, wide-there, wipe-room, draws-within, stays-space_turned}
+use Rattle.row_drawing.proofs.Touches.{stays-marking, stays-back, stays-space_below, stays-erasing, stays-clearing}
+use Rattle.row_drawing.proofs.LocalRow.{IsRoom, or-four, wide-there, wipe-room, draws-within}
 
 -- ---- what waits to be erased begins with a column that differs
 
@@ -41,29 +38,53 @@ abbrev pub IsMarked : Job → Option Erase → Type 0
 IsMarked j None = Unit {0}
 IsMarked j (Some e) = is_same j e.from ≡ false
 
-all-any : (fs : List Form) → AllByRecursion (λ _. Unit {0}) fs
-all-any [] = tt
-all-any (f ∷ fs) = (tt, all-any fs)
+arrive-erase : (j : Job) (c n : ℕ) (p : Pen) → (arrive j c n p).pen.erase ≡ p.erase
+unfolding arrive turn goto
+arrive-erase j c n p = cond_both (wraps j n p && (c == 0)) (turn j.row p) (goto j.row c p)
+    (λ (d : Drawn). d.pen.erase ≡ p.erase) (λ _. refl) (λ _. refl)
 
-pub each-marks : (j : Job) → EachKeeps (λ _. Unit {0}) (λ p. IsMarked j p.erase) (λ _. Unit {0}) j
-unfolding goto turn color print space back erasing clearing marking
-each-marks j = record {
-  goes = λ c _. record { at = λ p m. (all-any (goto j.row c p).forms, m) };
-  turns = record { at = λ p m. (tt, m) };
-  colors = λ k. record { at = λ p m. (all-any (color (j.new k).attrs p).forms, m) };
-  waits = λ _ e _ _. (tt, record { at = λ p m. (all-any (color e.attrs p).forms, m) });
-  prints = λ k b _. record { at = λ p m. ((tt, tt), m) };
-  spaces = record { at = λ p m. ((tt, tt), m) };
-  backs = record { at = λ p m. ((tt, tt), m) };
-  erases = λ _ _ b _. record { at = λ p _. ((tt, tt), tt) };
-  erases_one = λ b. record { at = λ p _. ((tt, tt), tt) };
-  clears = record { at = λ p _. ((tt, tt), tt) };
-  marks = λ c _ differs. record { at = λ p _. (tt, differs) };
-  last = tt;
-}
+full-erase : (j : Job) (c n : ℕ) (a : Attrs) (x : CellView) (b : Bool) (p : Pen)
+    → ((arrive j c n >> color a >> print x b) p).pen.erase ≡ p.erase
+unfolding ◌>>◌ color print
+full-erase j c n a x b p = arrive-erase j c n p
+
+mark-marked : (j : Job) (c : ℕ) (o : Option Erase) (p : Pen) → p.erase ≡ o → is_same j c ≡ false → IsMarked j o
+    → IsMarked j (mark_of j c o p).pen.erase
+unfolding mark_of marking skip
+mark-marked j c None p is differs h = differs
+mark-marked j c (Some e) p is differs h = subst (IsMarked j) (sym is) h
+
+draw-marked : (j : Job) (c : ℕ) (p : Pen) → IsMarked j p.erase → IsMarked j (draw j c p).pen.erase
+unfolding draw mark skip
+draw-marked j c p h =
+    let x = j.new c in
+    let P : Writer → Type 0 = λ f. IsMarked j (f p).pen.erase in
+    cond_both (is_same j c) skip _ P (λ _. h)
+    (λ differs. cond_both (has_text x)
+    (arrive j c (span_of x) >> color x.attrs >> print x (put_unflags j.cols j.old c x)) (mark j c) P
+    (λ _. subst (IsMarked j) (sym (full-erase j c (span_of x) x.attrs x _ p)) h)
+    (λ _. mark-marked j c p.erase p refl differs h))
+
+pub flush_of-marked : (j : Job) (c : ℕ) (o : Option Erase) (p : Pen) → p.erase ≡ o → IsMarked j o
+    → IsMarked j (flush_of j c o p).pen.erase
+unfolding flush_of ◌>>◌ erasing skip
+flush_of-marked j c None p is h = subst (IsMarked j) (sym is) tt
+flush_of-marked j c (Some e) p is h =
+    cond_both (is_end (j.new c) e.attrs)
+    (to_erase j e >> erasing (c - e.from) (wipe_unflags j.cols j.old e.from c)) skip
+    (λ (f : Writer). IsMarked j (f p).pen.erase) (λ _. tt) (λ _. subst (IsMarked j) (sym is) h)
+
+pub column-marked : (j : Job) (c : ℕ) (p : Pen) → IsMarked j p.erase → IsMarked j (column j c p).pen.erase
+unfolding column ◌>>◌ skip flush
+column-marked j c p h =
+    cond_both ((j.new c).continuation && not (c == j.start)) skip (flush j c >> draw j c)
+    (λ (f : Writer). IsMarked j (f p).pen.erase) (λ _. h)
+    (λ _. draw-marked j c (flush j c p).pen (flush_of-marked j c p.erase p refl h))
 
 pub columns-marked : (j : Job) (n : ℕ) (p : Pen) → IsMarked j p.erase → IsMarked j (columns j n p).pen.erase
-columns-marked j n p h = ((keeps-columns _ _ _ j (each-marks j) n (λ _ _. tt)).at p h).1
+unfolding columns ◌>>◌ skip
+columns-marked j zero p h = h
+columns-marked j (suc n) p h = column-marked j (j.start + n) (columns j n p).pen (columns-marked j n p h)
 
 -- ---- columns are erased
 
@@ -102,12 +123,24 @@ to_erase-within s C S F f r k a e lost h o ha inside here l =
           (stays-goto S z j.row e.from p t refl h.row_in) (stays-color S z e.attrs _ _))
       | inl turns ↦
           (let now = wraps-now s 1 p e.from turns in
+          let full : is_filled (s.cells r (j.cols - 1)) ≡ true =
+          ap (λ i. is_filled (s.cells i (j.cols - 1))) (omega (arith, now.row)) ∙ h.above_filled now.above in
+          let below : r + 1 < s.rows = omega (arith, now.row, h.row_in) in
           let g : ℕ → CellView = put f 0 (cell_of 32 a) a in
           let G : ℕ → Bool = update F r true in
           let begun : Line j.old j.new 0 f = subst (λ m. Line j.old j.new m f) now.first l in
-          let prints = takes-space_turned s F f r k a (Some e) lost h now.above now.row now.over in
-          let spaced = stays-space_turned s S F f r k a (pen j.row 0 a (Some e) lost) h now.above now.row now.over
-          (space-room s C S h o f a begun (subst C now.first here)) in
+          let touched : (i : ℕ) → i < j.cols → put_touches f 0 (cell_of 32 a) i ≡ true → S (r + 1) i = λ i low q.
+          subst (λ v. S v i) (sym now.row) (space-room s C S h o f a begun (subst C now.first here) i low q) in
+          let Q : ℕ → Type 0 = λ i. Takes z space (pen i 0 a (Some e) lost)
+          (record (s.term) { cell = update s.cells i f; wrapped = F; row = r; col = k; attrs = a })
+          (pen i 1 a (Some e) lost)
+          (record (s.term) { cell = update s.cells i g; wrapped = G; row = i; col = 1; attrs = a }) in
+          let R : ℕ → Type 0 = λ i. Stays S z space (pen i 0 a (Some e) lost)
+          (record (s.term) { cell = update s.cells i f; wrapped = F; row = r; col = k; attrs = a }) in
+          let prints : Q j.row = subst Q now.row
+          (takes-space_below z s.term s.cells F r k f a (Some e) lost h.some_col now.over below full) in
+          let spaced : R j.row = subst R now.row
+          (stays-space_below S z s.term s.cells F r k a f _ h.some_col now.over below full touched) in
           let turned = takes-turn z p t j.row in
           let two = takes-then z (turn j.row) space p t _ _ _ _ turned prints in
           let three = takes-then z (turn j.row >> space) back p t _ _ _ _ two

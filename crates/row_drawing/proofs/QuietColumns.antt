@@ -51,7 +51,7 @@ column-is_kept j c p e h is =
       | inl half ↦ column-is_half j c p half
       | inr whole ↦
           (column-is_whole j c p whole
-          ∙ skips-then (flush j c) (draw j c) p (flush-is_kept j c p e _ h refl goes) (draw-is_kept j c p e h blank))
+          ∙ skips-then (flush j c) (draw j c) p (flush-is_kept j c p e h goes) (draw-is_kept j c p e h blank))
     ]
 
 pub erased_is_quiet : (j : Job) (p : Pen) (a b : ℕ) (e : Erase) (x : CellView) → p.erase ≡ Some e

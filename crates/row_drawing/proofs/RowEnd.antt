@@ -2,13 +2,13 @@
 use Rattle.std.proofs.Common.{◌≡◌, ℕ, ◌+◌, ◌-◌, ◌<◌, ◌≤◌, ◌==◌, Bool, true, false, cond, not, ◌&&◌, ◌||◌}
 use Rattle.std.proofs.Common.{nat_lt, nat_le, Option, Some, None, refl, arith, sym, ap}
 use Rattle.std.proofs.Common.{◌∙◌, inl, inr, subst}
-use Rattle.std.proofs.lemmas.Bool.Decides.{nat_tests}
-use Rattle.std.proofs.lemmas.Bool.{cases_Bool, cases_lt, both_ways, and_from, eq-eqb, lt-ltb, le-leb}
-use Rattle.std.proofs.lemmas.Bool.{or_left, or_right}
+use Rattle.std.proofs.lemmas.Bool.{cases_Bool, cases_lt, both_ways, and_from, eq-eqb, ne_eqb, lt-ltb, le-leb}
+use Rattle.std.proofs.lemmas.Bool.{or_left, or_right, false≢true, cond_both}
 use Rattle.vt100_forms.specs.declared.attrs.Attrs.{Attrs}
 use Rattle.vt100_forms.specs.Attrs.{IsProper}
 use Rattle.vt100_cells.specs.Cell.{CellView, empty_cell, has_text, is_filled, bool_eq}
 use Rattle.vt100_cells.specs.Line.{span_of, put, put_unflags, wiped, wipe_unflags}
+use Rattle.vt100_cells.proofs.LineLemmas.{wide_within}
 use Rattle.terminal_model.specs.Position.{update}
 use Rattle.terminal_model.specs.Term.{Term}
 use Rattle.terminal_model.specs.Apply.{run}
@@ -103,49 +103,64 @@ pub record IsLast (j : Job) : Type 0 where
   pub up_to : last_col_of j + span_of (last_cell_of j) ≡ j.cols
   pub whole : (last_cell_of j).continuation ≡ false
 
--- where the last column has a second half
-wide-before : (s : Scene) → IsScene s → (s.job.new (s.job.cols - 1)).continuation ≡ true
-    → (1 < s.job.cols) × ((s.job.new (s.job.cols - 2)).wide ≡ true)
-wide-before s h half =
-    let j = s.job in
-    elim (cases_lt 1 j.cols) [
-      | inl more ↦ (
-        more,
-        sym (h.new.paired.next (j.cols - 2)) ∙ ap (λ i. (j.new i).continuation) (omega (arith, more))
-            ∙ half,
-      )
-      | inr one ↦ absurd (both_ways (j.new 0).continuation h.new.paired.first
-          (ap (λ i. (j.new i).continuation) (omega (arith, h.some_col)) ∙ half))
-    ]
-
 pub last-is : (s : Scene) → IsScene s → IsLast s.job
 last-is s h =
     let j = s.job in
-    let n = j.cols in
-    let end : n - 1 + 1 ≡ n = omega (arith, h.some_col) in
-    let narrow : (j.new (n - 1)).wide ≡ false = sym (h.new.paired.next (n - 1)) ∙ ap (λ i. (j.new i).continuation) end
-    ∙ ap (λ (x : CellView). x.continuation) (h.new.beyond n (omega arith)) in
-    elim (cases_Bool (j.new (n - 1)).continuation) [
-      | inr single ↦ record { up_to = grind (arith, nat_tests, narrow, end); whole = grind (arith, nat_tests) }
+    elim (cases_Bool (j.new (j.cols - 1)).continuation) [
+      | inr single ↦
+          (let here : last_col_of j ≡ j.cols - 1 = rw single refl in
+          let narrow : (j.new (j.cols - 1)).wide ≡ false = (elim (cases_Bool (j.new (j.cols - 1)).wide) [
+            | inr narrow ↦ narrow
+            | inl wide ↦ (let within = wide_within j.cols j.new (j.cols - 1) h.new.beyond h.new.paired wide in
+                absurd (omega (arith, within, h.some_col)))
+          ]) in
+          let span : span_of (last_cell_of j) ≡ 1 = ap (λ i. span_of (j.new i)) here
+          ∙ span-narrow (j.new (j.cols - 1)) narrow in
+          record {
+            up_to = ap (λ n. last_col_of j + n) span ∙ ap (λ n. n + 1) here ∙ omega (arith, h.some_col);
+            whole = ap (λ i. (j.new i).continuation) here ∙ single;
+          })
       | inl half ↦
-          (let wide = wide-before s h half in
-          let whole = one_half j.new (n - 2) h.new.paired wide.1 in
-          record { up_to = grind (arith, nat_tests, wide.0, wide.1); whole = grind (arith, nat_tests, whole) })
+          (let here : last_col_of j ≡ j.cols - 2 = rw half refl in
+          let two : 1 < j.cols = (elim (cases_lt 1 j.cols) [
+            | inl more ↦ more
+            | inr one ↦ absurd (both_ways (j.new 0).continuation h.new.paired.first
+                (ap (λ i. (j.new i).continuation) (omega (arith, h.some_col)) ∙ half))
+          ]) in
+          let next : j.cols - 2 + 1 ≡ j.cols - 1 = omega (arith, two) in
+          let wide : (j.new (j.cols - 2)).wide ≡ true = sym (h.new.paired.next (j.cols - 2))
+          ∙ ap (λ i. (j.new i).continuation) next ∙ half in
+          let span : span_of (last_cell_of j) ≡ 2 = ap (λ i. span_of (j.new i)) here
+          ∙ span-wide (j.new (j.cols - 2)) wide in
+          record {
+            up_to = ap (λ n. last_col_of j + n) span ∙ ap (λ n. n + 2) here ∙ omega (arith, two);
+            whole = ap (λ i. (j.new i).continuation) here ∙ one_half j.new (j.cols - 2) h.new.paired wide;
+          })
     ]
 
 wide-text : (s : Scene) → IsScene s → (k : ℕ) → (s.job.new k).wide ≡ true → has_text (s.job.new k) ≡ true
 wide-text s h k wide =
-    let single = one_half s.job.new k h.new.paired wide in
-    grind (arith, nat_tests, empty-is (s.job.new k) (h.cells k), single)
+    elim (cases_Bool (has_text (s.job.new k))) [
+      | inl some ↦ some
+      | inr none ↦ absurd (both_ways (s.job.new k).wide (ap (λ (x : CellView). x.wide) (empty-is (s.job.new k)
+          (h.cells k)
+          none (one_half s.job.new k h.new.paired wide))) wide)
+    ]
 
 or_off : (a b : Bool) → b ≡ false → (a || b) ≡ a
-or_off a b e = grind (arith, nat_tests)
+or_off true b e = refl
+or_off false b e = e
 
 pub span-few : (x : CellView) → (1 ≤ span_of x) × (span_of x ≤ 2)
-span-few x = (grind (arith, nat_tests), grind (arith, nat_tests))
+span-few x = (
+  cond_both x.wide 2 1 (λ n. 1 ≤ n) (λ _. omega arith) (λ _. omega arith),
+  cond_both x.wide 2 1 (λ n. n ≤ 2) (λ _. omega arith) (λ _. omega arith),
+)
 
-third_off : (n c : ℕ) (x : CellView) (g : ℕ → CellView) → c + span_of x ≡ n → put_unflags n g c x ≡ false
-third_off n c x g e = grind (arith, nat_tests)
+and_last : (a b c : Bool) → c ≡ false → (a && (b && c)) ≡ false
+and_last true true c e = e
+and_last true false c e = refl
+and_last false b c e = refl
 
 pub print-last_is : (x : CellView) (p : Pen) → has_text x ≡ true → print_last x p ≡ (color x.attrs >> print x false) p
 unfolding print_last
@@ -177,18 +192,34 @@ pub last-text : (s : Scene) → IsScene s → is_filled (s.job.new (s.job.cols -
 last-text s h full =
     let j = s.job in
     elim (cases_Bool (j.new (j.cols - 1)).continuation) [
-      | inr single ↦ grind (arith, nat_tests)
-      | inl half ↦ (let some = wide-text s h (j.cols - 2) (wide-before s h half).1 in grind (arith, nat_tests, some))
+      | inr single ↦
+          (let here : last_col_of j ≡ j.cols - 1 = rw single refl in
+          ap (λ i. has_text (j.new i)) here ∙ sym (or_off (has_text (j.new (j.cols - 1))) _ single) ∙ full)
+      | inl half ↦
+          (let here : last_col_of j ≡ j.cols - 2 = rw half refl in
+          let some : 0 < j.cols - 1 = (elim (cases_lt 0 (j.cols - 1)) [
+            | inl more ↦ more
+            | inr none ↦ absurd (both_ways (j.new 0).continuation h.new.paired.first
+                (ap (λ i. (j.new i).continuation) (omega (arith, none)) ∙ half))
+          ]) in
+          let next : j.cols - 2 + 1 ≡ j.cols - 1 = omega (arith, some) in
+          let wide : (j.new (j.cols - 2)).wide ≡ true = sym (h.new.paired.next (j.cols - 2))
+          ∙ ap (λ i. (j.new i).continuation) next ∙ half in
+          ap (λ i. has_text (j.new i)) here ∙ wide-text s h (j.cols - 2) wide)
     ]
 
 no_third : (s : Scene) → IsScene s → (g : ℕ → CellView)
     → put_unflags s.job.cols g (last_col_of s.job) (last_cell_of s.job) ≡ false
-no_third s h g = third_off s.job.cols (last_col_of s.job) (last_cell_of s.job) g (last-is s h).up_to
+no_third s h g =
+    let j = s.job in
+    let last = last-is s h in
+    let far : ((last_col_of j + 3) == j.cols) ≡ false = ne_eqb (last_col_of j + 3) j.cols (λ e.
+    let some = span-few (last_cell_of j) in absurd (omega (arith, e, last.up_to, some))) in
+    and_last (last_cell_of j).wide (g (last_col_of j + 1)).wide ((last_col_of j + 3) == j.cols) far
 
 -- the last cell is printed over a row that differs there alone
 last-printed : (s : Scene) (F : ℕ → Bool) (g : ℕ → CellView) (a : Attrs) (lost : Bool) → IsScene s → IsProper a
-    → has_text (last_cell_of s.job) ≡ true → put g (last_col_of s.job) (last_cell_of s.job)
-    (last_cell_of s.job).attrs ≡ s.job.new
+    → has_text (last_cell_of s.job) ≡ true → put g (last_col_of s.job) (last_cell_of s.job) (last_cell_of s.job).attrs ≡ s.job.new
     → Takes (scene_size s) (print_last (last_cell_of s.job)) (pen s.job.row (last_col_of s.job) a None lost)
     (with_row s g F s.job.row (last_col_of s.job) a)
     (pen s.job.row s.job.cols (last_cell_of s.job).attrs None (lost || false))
@@ -246,17 +277,27 @@ own-flag s h =
     ]
 
 no-need : (a b lost : Bool) → (not (bool_eq a b) || (a && lost)) ≡ false → (a ≡ b) × ((lost ≡ true) → a ≡ false)
-no-need a b lost h = (grind (arith, nat_tests), λ g. grind (arith, nat_tests))
+no-need true true true h = absurd (false≢true (sym h))
+no-need true true false h = (refl, λ g. absurd (false≢true g))
+no-need true false lost h = absurd (false≢true (sym h))
+no-need false true lost h = absurd (false≢true (sym h))
+no-need false false lost h = (refl, λ g. refl)
 
 -- a row that goes on and kept its flag needs nothing
 no-need_kept : (a b lost : Bool) → a ≡ true → (b && not lost) ≡ true
     → (not (bool_eq a b) || (a && lost)) ≡ false
-no-need_kept a b lost h g = grind (arith, nat_tests)
+no-need_kept true true false h g = refl
+no-need_kept true true true h g = absurd (false≢true g)
+no-need_kept true false lost h g = absurd (false≢true g)
+no-need_kept false b lost h g = absurd (false≢true h)
 
 -- one that goes on and needs nothing kept its flag
 kept-no_need : (a b lost : Bool) → a ≡ true → (not (bool_eq a b) || (a && lost)) ≡ false
     → (b && not lost) ≡ true
-kept-no_need a b lost h g = grind (arith, nat_tests)
+kept-no_need true true false h g = refl
+kept-no_need true true true h g = absurd (false≢true (sym g))
+kept-no_need true false lost h g = absurd (false≢true (sym g))
+kept-no_need false b lost h g = absurd (false≢true h)
 
 pub flags-off : (F V : ℕ → Bool) (i : ℕ) (lost b : Bool) → Flags F V i lost → update F i b ≡ update V i b
 flags-off F V i lost b (inl e) = ap (λ G. update G i b) e

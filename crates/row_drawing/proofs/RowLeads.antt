@@ -1,12 +1,12 @@
 -- A row that is drawn over an earlier one, column by column.
 use Rattle.std.proofs.Common.{◌≡◌, ℕ, ◌+◌, ◌-◌, ◌<◌, ◌≤◌, ◌==◌, Bool, true, false, cond, ◌&&◌, ◌||◌}
-use Rattle.std.proofs.Common.{Option, Some, None, refl, arith, sym, ap}
+use Rattle.std.proofs.Common.{nat_lt, Option, Some, None, refl, arith, sym, ap}
 use Rattle.std.proofs.Common.{◌∙◌, inl, inr, ◌⊎◌, subst}
-use Rattle.std.proofs.lemmas.Bool.Decides.{nat_tests}
-use Rattle.std.proofs.lemmas.Bool.{cases_Bool, both_ways}
+use Rattle.std.proofs.lemmas.Bool.{cases_Bool, both_ways, and_parts, and_from, eqb-true, eq-eqb, ltb-true}
+use Rattle.std.proofs.lemmas.Bool.{lt-ltb}
 use Rattle.vt100_forms.specs.declared.attrs.Attrs.{Attrs}
 use Rattle.vt100_forms.specs.Attrs.{IsProper}
-use Rattle.vt100_cells.specs.Cell.{CellView, empty_cell, cell_of, is_filled}
+use Rattle.vt100_cells.specs.Cell.{CellView, empty_cell, is_filled}
 use Rattle.vt100_cells.specs.Line.{span_of, put, put_unflags}
 use Rattle.terminal_model.specs.Position.{update}
 use Rattle.terminal_model.specs.Term.{Term}
@@ -15,14 +15,14 @@ use Rattle.terminal_model.proofs.Positions.{update-same}
 use Rattle.terminal_model.proofs.TermLemmas.{span-some}
 use Rattle.row_drawing.specs.declared.pen.Erase.{Erase}
 use Rattle.row_drawing.specs.declared.pen.Pen.{Pen}
-use Rattle.row_drawing.specs.Writer.{Writer, ◌>>◌, goto, turn, color, print, space}
+use Rattle.row_drawing.specs.Writer.{Writer, ◌>>◌, goto, turn, color, print}
 use Rattle.row_drawing.specs.RowWriter.{Job, is_same, wraps}
 use Rattle.row_drawing.specs.RowWriter.{arrive}
 use Rattle.row_drawing.specs.Scene.{Scene, IsScene, scene_size, with_row, flags_above}
 use Rattle.row_drawing.proofs.Lines.{Line}
-use Rattle.row_drawing.proofs.Steps.{Takes, takes-then, takes-as, at, pen, takes-goto}
+use Rattle.row_drawing.proofs.Steps.{Takes, takes-then, takes-as, pen, takes-goto}
 use Rattle.row_drawing.proofs.Steps.{takes-color, takes-turn, Flags, kept_or_off, flags-step}
-use Rattle.row_drawing.proofs.Steps.{flags-above, IsSendable, takes-print, takes-print_below, takes-space_below}
+use Rattle.row_drawing.proofs.Steps.{flags-above, IsSendable, takes-print, takes-print_below}
 
 -- ---- what is true after n columns
 
@@ -98,7 +98,12 @@ wrapped-flags s F p m r h above next (inr due) =
 -- where the flag is due, what comes first wraps
 due-wraps : (s : Scene) (F : ℕ → Bool) (p : Pen) (m n : ℕ) → IsDue s F p m → 0 < n
     → (wraps s.job n p && (m == 0)) ≡ true
-due-wraps s F p m n d some = grind (arith, nat_tests, d.above, d.row, d.col, d.none)
+due-wraps s F p m n d some =
+    let over : nat_lt s.job.cols (p.pos.col + n) ≡ true = lt-ltb s.job.cols (p.pos.col + n) (omega (arith, d.col, some))
+    in
+    and_from (wraps s.job n p) (m == 0)
+    (and_from s.job.above _ d.above (and_from (p.pos.row + 1 == s.job.row) _ (eq-eqb (p.pos.row + 1) s.job.row d.row)
+    over)) (eq-eqb m 0 d.none)
 
 pub not-due : (s : Scene) (F : ℕ → Bool) (p : Pen) (m n : ℕ) → 0 < n → (wraps s.job n p && (m == 0)) ≡ false
     → Standing s F p m → Flags F (flags_above s) s.job.row p.lost
@@ -113,47 +118,16 @@ pub record WrapsNow (s : Scene) (n : ℕ) (p : Pen) (m : ℕ) : Type 0 where
   pub first : m ≡ 0
 
 pub wraps-now : (s : Scene) (n : ℕ) (p : Pen) (m : ℕ) → (wraps s.job n p && (m == 0)) ≡ true → WrapsNow s n p m
-wraps-now s n p m h = record {
-  above = grind (arith, nat_tests);
-  row = grind (arith, nat_tests);
-  over = grind (arith, nat_tests);
-  first = grind (arith, nat_tests);
-}
-
--- the row above ends with something that is shown, and this row lies below it
-pub above-shown : (s : Scene) (r : ℕ) → IsScene s → s.job.above ≡ true → r + 1 ≡ s.job.row
-    → (is_filled (s.cells r (s.job.cols - 1)) ≡ true) × (r + 1 < s.rows)
-above-shown s r h above next = (
-  ap (λ i. is_filled (s.cells i (s.job.cols - 1))) (omega (arith, next)) ∙ h.above_filled above,
-  let inside = h.row_in in omega (arith, next, inside),
-)
-
--- from the end of the row above, a cell is printed at the start of this one
-pub takes-print_turned : (s : Scene) (F : ℕ → Bool) (f : ℕ → CellView) (r k : ℕ) (x : CellView) (lost b : Bool)
-    → IsScene s → s.job.above ≡ true → r + 1 ≡ s.job.row → s.job.cols < k + span_of x → IsSendable x
-    → span_of x ≤ s.job.cols
-    → Takes (scene_size s) (print x b) (pen s.job.row 0 x.attrs None lost) (with_row s f F r k x.attrs)
-    (pen s.job.row (0 + span_of x) x.attrs None (lost || b))
-    (with_row s (put f 0 x x.attrs) (kept_or_off (put_unflags s.job.cols f 0 x) (update F r true) s.job.row) s.job.row
-    (0 + span_of x) x.attrs)
-takes-print_turned s F f r k x lost b h above next over send fits =
-    let shown = above-shown s r h above next in
-    let Q : ℕ → Type 0 = λ i. Takes (scene_size s) (print x b) (pen i 0 x.attrs None lost)
-    (at s.term (update s.cells i f) F r k x.attrs) (pen i (0 + span_of x) x.attrs None (lost || b))
-    (at s.term (update s.cells i (put f 0 x x.attrs))
-    (kept_or_off (put_unflags s.job.cols f 0 x) (update F r true) i) i (0 + span_of x) x.attrs) in
-    subst Q next (takes-print_below (scene_size s) s.term s.cells F r k f x None lost b send fits over shown.1 shown.0)
-
-pub takes-space_turned : (s : Scene) (F : ℕ → Bool) (f : ℕ → CellView) (r k : ℕ) (a : Attrs) (e : Option Erase)
-    (lost : Bool) → IsScene s → s.job.above ≡ true → r + 1 ≡ s.job.row → s.job.cols < k + 1
-    → Takes (scene_size s) space (pen s.job.row 0 a e lost) (with_row s f F r k a) (pen s.job.row 1 a e lost)
-    (with_row s (put f 0 (cell_of 32 a) a) (update F r true) s.job.row 1 a)
-takes-space_turned s F f r k a e lost h above next over =
-    let shown = above-shown s r h above next in
-    let Q : ℕ → Type 0 = λ i. Takes (scene_size s) space (pen i 0 a e lost) (at s.term (update s.cells i f) F r k a)
-    (pen i 1 a e lost) (at s.term (update s.cells i (put f 0 (cell_of 32 a) a)) (update F r true) i 1 a) in
-    subst Q next
-    (takes-space_below (scene_size s) s.term s.cells F r k f a e lost h.some_col over shown.1 shown.0)
+wraps-now s n p m h =
+    let parts = and_parts (wraps s.job n p) (m == 0) h in
+    let one = and_parts s.job.above _ parts.0 in
+    let two = and_parts (p.pos.row + 1 == s.job.row) _ one.1 in
+    record {
+      above = one.0;
+      row = eqb-true (p.pos.row + 1) s.job.row two.0;
+      over = ltb-true s.job.cols (p.pos.col + n) two.1;
+      first = eqb-true m 0 parts.1;
+    }
 
 -- ---- a cell is drawn
 
@@ -201,13 +175,29 @@ draws s F f r k a lost b n x h ha hx send room loses standing =
       | inl turns ↦
           (let now = wraps-now s (span_of x) p n turns in
           let kept = wrapped-flags s F p n r h now.above now.row standing in
+          let full : is_filled (s.cells r (j.cols - 1)) ≡ true =
+          ap (λ i. is_filled (s.cells i (j.cols - 1))) (omega (arith, now.row)) ∙ h.above_filled now.above in
+          let below : r + 1 < s.rows = omega (arith, now.row, h.row_in) in
+          let first : 0 ≡ n = sym now.first in
+          let prints = takes-print_below z s.term s.cells F r k f x None lost b send
+          (omega arith) now.over below full in
           let G : ℕ → Bool = kept_or_off (put_unflags j.cols f n x) (update F r true) j.row in
-          let Q : ℕ → Type 0 = λ m. Takes z (print x b) (pen j.row 0 x.attrs None lost) (with_row s f F r k x.attrs)
-          (pen j.row (m + span_of x) x.attrs None (lost || b))
-          (with_row s (put f m x x.attrs) (kept_or_off (put_unflags j.cols f m x) (update F r true) j.row) j.row
-          (m + span_of x) x.attrs) in
-          let there : Q n = subst Q (sym now.first)
-          (takes-print_turned s F f r k x lost b h now.above now.row now.over send (omega arith)) in
+          let Q : ℕ → ℕ → Type 0 = λ i m. Takes z (print x b) (pen i 0 x.attrs None lost)
+          (record (s.term) {
+            cell = update s.cells i f;
+            wrapped = F;
+            row = r;
+            col = k;
+            attrs = x.attrs;
+          }) (pen i (m + span_of x) x.attrs None (lost || b))
+          (record (s.term) {
+            cell = update s.cells i (put f m x x.attrs);
+            wrapped = kept_or_off (put_unflags j.cols f m x) (update F r true) i;
+            row = i;
+            col = m + span_of x;
+            attrs = x.attrs;
+          }) in
+          let there : Q j.row n = subst (Q j.row) first (subst (λ i. Q i 0) now.row prints) in
           record {
             flags = G;
             kept = flags-step (update F r true) (flags_above s) j.row lost (put_unflags j.cols f n x) b kept loses;

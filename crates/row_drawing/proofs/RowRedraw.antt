@@ -98,8 +98,7 @@ columns-behind s p h differs some =
           (arith, span, last.up_to)) in
           subst (λ n. IsBehind j j.cols (columns j n p).pen) all one)
       | inl wide ↦
-          (let all : suc (suc c) ≡ j.cols = (let span = span-wide (last_cell_of j) wide in omega
-          (arith, span, last.up_to))
+          (let all : suc (suc c) ≡ j.cols = (let span = span-wide (last_cell_of j) wide in omega (arith, span, last.up_to))
           in
           let next : c + 1 ≡ j.start + suc c = omega (arith, h.whole) in
           let half : (j.new (j.start + suc c)).continuation ≡ true = ap (λ i. (j.new i).continuation) (sym next)

@@ -2,13 +2,12 @@
 use Rattle.std.proofs.Common.{◌≡◌, ℕ, ◌+◌, ◌-◌, ◌<◌, ◌==◌, Bool, true, false, cond, not, ◌&&◌, ◌||◌}
 use Rattle.std.proofs.Common.{Option, None, refl, arith, sym, ap}
 use Rattle.std.proofs.Common.{◌∙◌, inl, inr, ◌⊎◌, subst, if◌then◌else◌}
-use Rattle.std.proofs.lemmas.Bool.{cases_Bool, both_ways, and_parts, and_from}
+use Rattle.std.proofs.lemmas.Bool.{cases_Bool, cases_lt, both_ways, and_parts, and_from, eq-eqb, lt-ltb}
 use Rattle.std.proofs.lemmas.Bool.{not-true}
-use Rattle.std.proofs.lemmas.Bool.Decides.{nat_tests}
 use Rattle.vt100_forms.specs.declared.attrs.Attrs.{Attrs}
 use Rattle.vt100_forms.specs.Attrs.{IsProper}
 use Rattle.vt100_cells.specs.CellEq.{cell_eq-true}
-use Rattle.vt100_cells.specs.Cell.{CellView, empty_cell, cell_of, has_text}
+use Rattle.vt100_cells.specs.Cell.{CellView, empty_cell, cell_of, has_text, is_filled}
 use Rattle.vt100_cells.specs.Line.{span_of, put, put_unflags, wiped, wipe_unflags}
 use Rattle.terminal_model.specs.Position.{update}
 use Rattle.terminal_model.specs.Term.{Term}
@@ -21,13 +20,11 @@ use Rattle.row_drawing.specs.RowWriter.{Job, is_same, wraps, owes_flag, reprint,
 use Rattle.row_drawing.specs.RowWriter.{row_redraw, row_difference}
 use Rattle.row_drawing.specs.Scene.{Scene, IsScene, IsReady, scene_size, with_row, flags_above}
 use Rattle.row_drawing.specs.Laws.{EachDifferenceLeads}
-use Rattle.row_drawing.proofs.Lines.{Line, space_narrow, line-begun, line-reprinted, spaced-half}
+use Rattle.row_drawing.proofs.Lines.{Line, line-begun, line-reprinted, line-spaced, spaced-half}
 use Rattle.row_drawing.proofs.Steps.{Takes, takes-then, takes-as, takes-to, takes-skip, pen, takes-color, takes-turn}
-use Rattle.row_drawing.proofs.Steps.{takes-back, Flags, kept_or_off, flags-step}
+use Rattle.row_drawing.proofs.Steps.{takes-back, Flags, kept_or_off, flags-step, takes-print_below, takes-space_below}
 use Rattle.row_drawing.proofs.Steps.{takes-erasing}
 use Rattle.row_drawing.proofs.RowLeads.{past, edge, Standing, At, After, after-takes, WrapsNow, wraps-now}
-use Rattle.row_drawing.proofs.RowLeads.{takes-print_turned}
-use Rattle.row_drawing.proofs.RowLeads.{takes-space_turned}
 use Rattle.row_drawing.proofs.Columns.{empty-is, sends, room-for, span-wide, span-narrow, wipe-loses, columns-lead}
 use Rattle.row_drawing.proofs.RowEnd.{IsFilled, filled-takes, finish-leads, closing-leads, drawn-takes, span-few}
 
@@ -40,7 +37,9 @@ above-off false b h = inl refl
 
 waits-wraps : (j : Job) (n : ℕ) (p : Pen) → j.above ≡ true → p.pos.row + 1 ≡ j.row → p.pos.col ≡ j.cols → 0 < n
     → wraps j n p ≡ true
-waits-wraps j n p above row col some = grind (arith, nat_tests)
+waits-wraps j n p above row col some =
+    and_from j.above _ above (and_from (p.pos.row + 1 == j.row) _ (eq-eqb (p.pos.row + 1) j.row row)
+    (lt-ltb j.cols (p.pos.col + n) (omega (arith, col, some))))
 
 pub opening-none : (j : Job) (p : Pen) → owes_flag j p ≡ false → opening j p ≡ skip p
 unfolding opening
@@ -121,13 +120,22 @@ record Reprints (s : Scene) (p : Pen) (t : Term) (g : Writer) : Type 0 where
 pub first-whole : (s : Scene) → IsScene s → (s.job.old 0).continuation ≡ false
 first-whole s h = h.old.paired.first
 
+and_none : (a : Bool) → (a && false) ≡ false
+and_none true = refl
+and_none false = refl
+
 -- over itself, a wide cell empties nothing else
 same_unflags : (s : Scene) → IsScene s → s.job.old 0 ≡ s.job.new 0
     → put_unflags s.job.cols s.job.old 0 (s.job.new 0) ≡ false
 same_unflags s h same =
-    let next = h.old.paired.next 0 in
-    let blank = h.old.paired.blank 1 in
-    grind (arith, nat_tests, next, blank)
+    let j = s.job in
+    elim (cases_Bool (j.new 0).wide) [
+      | inr narrow ↦ ap (λ b. b && ((j.old 1).wide && (3 == j.cols))) narrow
+      | inl wide ↦
+          (let half : (j.old 1).continuation ≡ true = h.old.paired.next 0 ∙ ap (λ (x : CellView). x.wide) same ∙ wide in
+          let narrow : (j.old 1).wide ≡ false = ap (λ (x : CellView). x.wide) (h.old.paired.blank 1 half) in
+          ap (λ b. (j.new 0).wide && (b && (3 == j.cols))) narrow ∙ and_none (j.new 0).wide)
+    ]
 
 reprints-text : (s : Scene) (r k : ℕ) (a : Attrs) (lost : Bool) → IsScene s → IsProper a
     → s.job.old 0 ≡ s.job.new 0 → has_text (s.job.new 0) ≡ true
@@ -141,10 +149,24 @@ reprints-text s r k a lost h ha same some now kept =
     let z = scene_size s in
     let p = pen r k a None lost in
     let t = with_row s j.old s.flags r k a in
+    let full : is_filled (s.cells r (j.cols - 1)) ≡ true =
+    ap (λ i. is_filled (s.cells i (j.cols - 1))) (omega (arith, now.row)) ∙ h.above_filled now.above in
+    let below : r + 1 < s.rows = omega (arith, now.row, h.row_in) in
     let fits = room-for s h 0 h.some_col in
     let G : ℕ → Bool = update s.flags r true in
-    let prints = takes-print_turned s s.flags j.old r k x lost false h now.above now.row now.over (sends s h 0 some)
-    (omega (arith, fits)) in
+    let Q : ℕ → Type 0 = λ i. Takes z (print x false) (pen i 0 x.attrs None lost)
+    (record (s.term) { cell = update s.cells i j.old; wrapped = s.flags; row = r; col = k; attrs = x.attrs })
+    (pen i (0 + span_of x) x.attrs None (lost || false))
+    (record (s.term) {
+      cell = update s.cells i (put j.old 0 x x.attrs);
+      wrapped = kept_or_off (put_unflags j.cols j.old 0 x) G i;
+      row = i;
+      col = 0 + span_of x;
+      attrs = x.attrs;
+    }) in
+    let prints : Q j.row = subst Q now.row
+    (takes-print_below z s.term s.cells s.flags r k j.old x None lost false (sends s h 0 some) (omega (arith, fits))
+    now.over below full) in
     let line : put j.old 0 x x.attrs ≡ j.old = ap (λ y. put j.old 0 y x.attrs) (sym same)
     ∙ line-reprinted j.old 0 x.attrs h.old.paired (first-whole s h) in
     let flags : kept_or_off (put_unflags j.cols j.old 0 x) G j.row ≡ G = ap (λ b. kept_or_off b G j.row)
@@ -193,13 +215,20 @@ spaced-line : (s : Scene) (b : Attrs) → IsScene s → s.job.old 0 ≡ s.job.ne
     → Line s.job.old s.job.new 0 (wiped (put s.job.old 0 (cell_of 32 b) b) 0 1 (s.job.new 0).attrs)
 spaced-line s b h same is =
     let j = s.job in
-    let narrow : (j.old 0).wide ≡ false = ap (λ (x : CellView). x.wide) (same ∙ is) in
-    let single = h.old.paired.next 0 ∙ narrow in
-    let space = space_narrow b in
+    let one : 0 < 1 = omega arith in
+    let l = line-spaced j.old j.new 1 b (j.new 0).attrs j.old h.old.paired (line-begun j.old j.new
+    (first-whole s h)) one
+    (λ k low high. let zero : k ≡ 0 = omega arith in ap j.new zero ∙ is) in
+    let narrow : (j.old 1).continuation ≡ false = h.old.paired.next 0 ∙ ap (λ (x : CellView). x.wide) (same ∙ is) in
     record {
       written = λ k high. absurd (omega arith);
-      rest = λ k low. grind (arith, nat_tests, space, single, narrow);
-      here = λ q. grind (arith, nat_tests);
+      rest = λ k low. elim (cases_lt 1 k) [
+        | inl far ↦ l.rest k far
+        | inr near ↦ (let at_one : k ≡ 1 = omega arith in
+            ap (wiped (put j.old 0 (cell_of 32 b) b) 0 1 (j.new 0).attrs) at_one ∙ l.here narrow
+            ∙ ap j.old (sym at_one))
+      ];
+      here = λ q. l.written 0 one ∙ sym same;
       broken = λ q. absurd (both_ways (j.old 0).continuation (first-whole s h) q);
     }
 
@@ -217,12 +246,20 @@ reprints-empty s r k a lost h ha same none now kept =
     let t = with_row s j.old s.flags r k a in
     let is : x ≡ empty_cell x.attrs = empty-is x (h.cells 0) none h.new.paired.first in
     let span : span_of x ≡ 1 = span-narrow x (ap (λ (y : CellView). y.wide) is) in
+    let full : is_filled (s.cells r (j.cols - 1)) ≡ true =
+    ap (λ i. is_filled (s.cells i (j.cols - 1))) (omega (arith, now.row)) ∙ h.above_filled now.above in
+    let below : r + 1 < s.rows = omega (arith, now.row, h.row_in) in
     let G : ℕ → Bool = update s.flags r true in
     let g : ℕ → CellView = put j.old 0 (cell_of 32 x.attrs) x.attrs in
     let loses = wipe_unflags j.cols j.old 0 1 in
     let b = wipe_unflags j.cols g 0 1 in
-    let prints = takes-space_turned s s.flags j.old r k x.attrs None lost h now.above now.row
-    (omega (arith, now.over, span)) in
+    let Q : ℕ → Type 0 = λ i. Takes z space (pen i 0 x.attrs None lost)
+    (record (s.term) { cell = update s.cells i j.old; wrapped = s.flags; row = r; col = k; attrs = x.attrs })
+    (pen i 1 x.attrs None lost)
+    (record (s.term) { cell = update s.cells i g; wrapped = G; row = i; col = 1; attrs = x.attrs }) in
+    let prints : Q j.row = subst Q now.row
+    (takes-space_below z s.term s.cells s.flags r k j.old x.attrs None lost h.some_col (omega (arith, now.over, span))
+    below full) in
     let begins = takes-then z _ _ _ _ _ _ _ _ (takes-turn z p t j.row)
     (takes-color z s.term (update s.cells j.row j.old) s.flags r k a j.row 0 None lost x.attrs ha (h.proper 0)) in
     let erased = takes-erasing z s.term s.cells G j.row 0 1 g x.attrs None lost loses (omega (arith, h.some_col)) in

@@ -1,8 +1,7 @@
 -- A text that is gathered is what its column's writer prints.
-use Rattle.std.proofs.Common.{◌≡◌, ℕ, ◌==◌, true, false, ◌&&◌, List, refl, sym, ap, ◌∙◌}
+use Rattle.std.proofs.Common.{◌≡◌, ℕ, ◌+◌, ◌==◌, true, false, ◌&&◌, List, refl, sym, ap, ◌∙◌}
 use Rattle.std.proofs.Common.{arith, inl, inr, subst}
-use Rattle.std.proofs.lemmas.Bool.Decides.{nat_tests}
-use Rattle.std.proofs.lemmas.Bool.{cases_Bool, and_parts, eq-eqb, eqb-true}
+use Rattle.std.proofs.lemmas.Bool.{cases_Bool, and_parts, eq-eqb, eqb-true, ne_eqb}
 use Rattle.vt100_forms.specs.declared.attrs.Attrs.{Attrs}
 use Rattle.vt100_forms.specs.declared.position.Pos.{Pos}
 use Rattle.vt100_cells.specs.Cell.{CellView, has_text}
@@ -13,17 +12,22 @@ use Rattle.row_drawing.specs.Writer.{Drawn, ◌>>◌, turn, goto, color, print}
 use Rattle.row_drawing.specs.RowWriter.{Job, wraps, arrive, draw, column}
 use Rattle.row_drawing.specs.Writes.{Wrote}
 use Rattle.row_drawing.proofs.RowLeads.{arrive-turn, arrive-goto}
-use Rattle.row_drawing.proofs.RowWrites.{full_draw, wrote_flush_none, column-is_whole}
-use Rattle.row_drawing.proofs.WritesLemmas.{wrote_goto_here, wrote_both, wrote_by}
+use Rattle.row_drawing.proofs.RowWrites.{full_draw, wrote_arrive_goto, wrote_flush_none, wrote_draw_full, wrote_column}
+use Rattle.row_drawing.proofs.WritesLemmas.{wrote_goto_here}
 
 -- the cursor stands in this row, and not in the one above
 stays_below : (j : Job) (n c : ℕ) (p : Pen) → p.pos.row ≡ j.row → (wraps j n p && (c == 0)) ≡ false
-stays_below j n c p e = grind (arith, nat_tests)
+stays_below j n c p e =
+    let apart : (p.pos.row + 1 == j.row) ≡ false = ne_eqb (p.pos.row + 1) j.row (λ f. omega (arith, e, f)) in
+    elim (cases_Bool j.above) [
+      | inl above ↦ rw (above, apart) refl
+      | inr first ↦ rw first refl
+    ]
 
 pub wrote_arrive_here : (j : Job) (c n : ℕ) (p : Pen) (s : List ℕ) → IsAt j c p → Wrote (arrive j c n) p s p s
 wrote_arrive_here j c n p s here =
     let row = eqb-true p.pos.row j.row (and_parts (p.pos.row == j.row) (p.pos.col == c) here).0 in
-    wrote_by (arrive-goto j c n p (stays_below j n c p row))
+    wrote_arrive_goto j c n p s p s (stays_below j n c p row)
     (wrote_goto_here p (record { row = j.row; col = c }) s here)
 
 drawn_on : (j : Job) (c : ℕ) (p : Pen) (x : CellView) → x ≡ j.new c → BeginsRun j c p
@@ -36,8 +40,8 @@ pub wrote_column_on : (j : Job) (c : ℕ) (p : Pen) (s : List ℕ) (v : Pen) (w 
     (t : List ℕ) (x : CellView) → x ≡ j.new c → BeginsRun j c p → Wrote (arrive j c (span_of x)) p s v w
     → Wrote (color x.attrs) v w r u → Wrote (print x false) r u q t → Wrote (column j c) p s q t
 wrote_column_on j c p s v w r u q t x is on arrived colored h =
-    wrote_by (column-is_whole j c p on.whole) (wrote_both (wrote_flush_none j c p s on.closed)
-    (wrote_by (drawn_on j c p x is on) (wrote_both (wrote_both arrived colored) h)))
+    wrote_column j c p s p s q t on.whole (wrote_flush_none j c p s on.closed)
+    (wrote_draw_full j c p s v w r u q t x (span_of x) x.attrs false (drawn_on j c p x is on) arrived colored h)
 
 color-attrs : (a : Attrs) (p : Pen) → (color a p).pen.attrs ≡ a
 unfolding color

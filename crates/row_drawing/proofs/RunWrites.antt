@@ -14,8 +14,8 @@ use Rattle.row_drawing.specs.RowWriter.{Job, arrive, column, columns}
 use Rattle.row_drawing.specs.Writes.{Wrote}
 use Rattle.row_drawing.proofs.ColumnsWrites.{wrote_columns_next}
 use Rattle.row_drawing.proofs.RunColumn.{wrote_arrive_here, wrote_column_on}
-use Rattle.row_drawing.proofs.RowWrites.{column-is_half}
-use Rattle.row_drawing.proofs.WritesLemmas.{color_same, wrote_by, wrote_skip}
+use Rattle.row_drawing.proofs.RowWrites.{wrote_column_half}
+use Rattle.row_drawing.proofs.WritesLemmas.{color_same}
 
 -- the text of one cell
 wrote_text : (x : CellView) (p : Pen) (t : List ℕ) → Wrote (print x false) p t (print x false p).pen (t
@@ -61,8 +61,7 @@ goes_half : (j : Job) (n m : ℕ) (p : Pen) (t : List ℕ) (q : Pen) (u : List �
     → ((j.new (j.start + m)).continuation && not (j.start + m == j.start)) ≡ true → GoesTo j n m p t q u
     → GoesTo j n (m + 1) p t q u
 goes_half j n m p t q u half h p0 s0 w =
-    wrote_columns_next j m p0 s0 q u q u (h p0 s0 w) (wrote_by (column-is_half j (j.start + m) q half)
-    (wrote_skip q u))
+    wrote_columns_next j m p0 s0 q u q u (h p0 s0 w) (wrote_column_half j (j.start + m) q u half)
 
 second_half : (j : Job) (m : ℕ) → IsPaired j.new → (j.new (j.start + m)).wide ≡ true
     → ((j.new (j.start + (m + 1))).continuation && not (j.start + (m + 1) == j.start)) ≡ true

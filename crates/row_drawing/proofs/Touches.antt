@@ -96,9 +96,29 @@ zeros-touch z (d ∷ ds) i c t r k none h q =
 
 -- ---- the text of a cell
 
+put-base_wide : (f : ℕ → CellView) (i : ℕ) (y : CellView) (a : Attrs) → y.wide ≡ true
+    → base_col (put f i y a) (i + 2) ≡ i
+put-base_wide f i y a w =
+    let next : i + 2 - 1 ≡ i + 1 = omega arith in
+    let second : (put f i y a (i + 1)).continuation ≡ true = grind (arith, nat_tests) in
+    ap (λ j. cond (put f i y a j).continuation (i + 2 - 2) (i + 2 - 1)) next
+    ∙ ap (λ b. cond b (i + 2 - 2) (i + 2 - 1)) second ∙ omega arith
+
+put-base_narrow : (f : ℕ → CellView) (i : ℕ) (y : CellView) (a : Attrs) → y.continuation ≡ false
+    → base_col (put f i y a) (i + 1) ≡ i
+put-base_narrow f i y a c =
+    let here : i + 1 - 1 ≡ i = omega arith in
+    let whole : (put f i y a i).continuation ≡ false = grind (arith, nat_tests) in
+    ap (λ j. cond (put f i y a j).continuation (i + 1 - 2) (i + 1 - 1)) here
+    ∙ ap (λ b. cond b (i + 1 - 2) (i + 1 - 1)) whole ∙ here
+
 put-base : (f : ℕ → CellView) (i : ℕ) (y : CellView) (a : Attrs) → y.continuation ≡ false
     → base_col (put f i y a) (i + span_of y) ≡ i
-put-base f i y a whole = grind (arith, nat_tests)
+put-base f i y a whole =
+    (elim y.wide as (λ w. y.wide ≡ w → base_col (put f i y a) (i + cond w 2 1) ≡ i) [
+      | true ↦ λ e. put-base_wide f i y a e
+      | false ↦ λ e. put-base_narrow f i y a whole
+    ]) refl
 
 print-behind : (z : Size) (y : CellView) (u : Term) → y.continuation ≡ false
     → IsBehind u.row u.col (printed_cell z y u)
