@@ -1,11 +1,12 @@
 -- Only events of sequences open an update, and after each of them the parser asks.
-use Rattle.std.proofs.Common.{◌≡◌, ℕ, zero, suc, ◌+◌, ◌<◌, ◌≤◌, Bool, true, false, List, [], ◌∷◌, ◌++◌, ◌||◌, ◌==◌}
+use Rattle.std.proofs.Common.{◌≡◌, ℕ, zero, suc, ◌+◌, ◌<◌, ◌≤◌, true, false, List, [], ◌∷◌, ◌++◌, ◌||◌, ◌==◌}
 use Rattle.std.proofs.Common.{take, length, get_or, length-append, append_assoc, arith, refl, ap, sym, ◌∙◌, inl, inr}
 use Rattle.std.specs.List.{All, list_any}
 use Rattle.std.proofs.lemmas.Bool.{cases_Bool}
+use Rattle.std.proofs.Math.Bool.{or-true}
 use Rattle.std.proofs.lemmas.List.Elements.{All-head, All-tail}
 use Rattle.std.proofs.Math.Seq.{take-suc, take-append_seam}
-use Rattle.vte_core.specs.Event.{Event, Print, Execute, Hook, Put, Unhook, Osc, Csi, Esc}
+use Rattle.vte_core.specs.Event.{Event, Print, Execute}
 use Rattle.vte_core.specs.GroundText.{ends_in_text}
 use Rattle.vte_core.specs.Stopping.{asks_after}
 use Rattle.vte_core.specs.Laws.{IsCharacter}
@@ -17,12 +18,7 @@ use Rattle.vte.proofs.HoldLemmas.{opens_in-none, opens_in-append}
 one_none : (e : Event) → IsCharacter e → opens e ≡ false
 one_none (Print c) h = refl
 one_none (Execute b) h = refl
-one_none (Hook gs is ignore f) h = absurd h
-one_none (Put b) h = absurd h
-one_none Unhook h = absurd h
-one_none (Osc ps bell) h = absurd h
-one_none (Csi gs is ignore f) h = absurd h
-one_none (Esc is ignore b) h = absurd h
+one_none e h = absurd h
 
 all_none : (es : List Event) → All IsCharacter es → list_any opens es ≡ false
 all_none [] h = refl
@@ -32,14 +28,10 @@ all_none (e ∷ es) h = rw (one_none e (All-head IsCharacter e es h)) (all_none 
 pub text_opens_none : (past : List ℕ) (b : ℕ) → ends_in_text (past ++ b ∷ []) ≡ true → opens_in past (b ∷ []) ≡ false
 text_opens_none past b h = all_none (added past (b ∷ [])) (text-tells 1024 past b h)
 
-or_true : (v : Bool) → (v || true) ≡ true
-or_true true = refl
-or_true false = refl
-
 -- after a byte that isn't ground text the parser asks
 asks_past_text : (past piece : List ℕ) (m : ℕ) → ends_in_text (past ++ take m piece) ≡ false
     → asks_after past piece m ≡ true
-asks_past_text past piece m h = rw h (or_true (m == 0))
+asks_past_text past piece m h = rw h (or-true (m == 0))
 
 front : (past bs : List ℕ) (m : ℕ) → m < length bs → past ++ take (suc m) bs ≡ (past ++ take m bs) ++ get_or bs m 0 ∷ []
 front past bs m lt = ap (λ xs. past ++ xs) (take-suc bs m 0 lt)
@@ -73,8 +65,7 @@ asks_where_opened past bytes b rest h =
     let piece = bytes ++ b ∷ rest in
     let more : length piece ≡ length bytes + length (b ∷ rest) = length-append bytes (b ∷ rest) in
     let m : length bytes + 1 ≡ length (bytes ++ b ∷ []) = sym (length-append bytes (b ∷ [])) in
-    let so_far : past ++ take (length bytes + 1) piece ≡ (past ++ bytes) ++ b ∷ [] =
-    ap (λ xs. past ++ xs) (ap (λ k. take k piece) m
+    let so_far = ap (λ xs. past ++ xs) (ap (λ k. take k piece) m
     ∙ (ap (take (length (bytes ++ b ∷ []))) (sym (append_assoc bytes (b ∷ []) rest))
     ∙ take-append_seam (bytes ++ b ∷ []) rest))
     ∙ sym (append_assoc past bytes (b ∷ [])) in

@@ -7,12 +7,11 @@ use Rattle.vte_core.proofs.AddedLemmas.{added-none, added-first}
 use Rattle.vte_types.specs.Call.{Call, Calls, unset_private_mode}
 use Rattle.vte_types.specs.declared.mode.PrivateMode.TheVariants.{Named}
 use Rattle.vte_types.specs.declared.mode.NamedPrivateMode.TheVariants.{SyncUpdate}
-use Rattle.vte.specs.Csi.{opens_group}
-use Rattle.vte.specs.Timeout.{Ticking, Tick, Sets, Clears, Ticked, sets_of}
-use Rattle.vte.specs.Performed.{calls_of_all, openers_of_all}
-use Rattle.vte.specs.Stretch.{added, calls_from, ticks_from}
+use Rattle.vte.specs.Timeout.{Ticking, Tick, Clears, Ticked}
+use Rattle.vte.specs.Performed.{calls_of_all}
+use Rattle.vte.specs.Stretch.{calls_from, ticks_from}
 use Rattle.vte.specs.Hold as hold
-use Rattle.vte.specs.Hold.{Renews, again, quiet, Settles, keeps, replays, closes, Takes}
+use Rattle.vte.specs.Hold.{Settles, keeps, replays, closes, Takes}
 use Rattle.vte.specs.Advances as any
 use Rattle.vte.specs.Advances.{Advances}
 use Rattle.vte.specs.Closings.{is_closing, without_closings, WithClosings, none, call, closing, clearings, Parses}
@@ -20,6 +19,7 @@ use Rattle.vte.specs.Moves.{Move, given, Runs, ends, gives, stops}
 use Rattle.vte.specs.Laws.{IgnoresClosings}
 use Rattle.vte.proofs.HoldLemmas.{calls_from-append}
 use Rattle.vte.proofs.RunLemmas.{Ticked-append}
+use Rattle.vte.proofs.SetLemmas.{clearings-append, from_clears_none, renewed}
 use Rattle.vte.proofs.LawLemmas.{conserve_any}
 
 -- closings among calls
@@ -72,82 +72,64 @@ closed_parsed p b = record {
       (closing [] zero [] none));
 }
 
-then_parsed : (p q r : List ℕ) (m n : ℕ) (x y : List Call) → Parses p q m x → Parses q r n y
-    → Parses p r (m + n) (x ++ y)
-then_parsed p q r m n x y h k = record {
+then_parsed : {p q r : List ℕ} {m n : ℕ} {x y : List Call} → Parses p q m x → Parses q r n y → Parses p r (m + n) (x ++ y)
+then_parsed {p} {m = m} {n = n} {x = x} {y = y} h k = record {
   bytes = h.bytes ++ k.bytes;
   more = k.more ∙ (ap (λ s. s ++ k.bytes) h.more ∙ append_assoc p h.bytes k.bytes);
   made =
-      let second : WithClosings (calls_from (p ++ h.bytes) k.bytes) n y =
-      subst (λ (s : List ℕ). WithClosings (calls_from s k.bytes) n y) h.more k.made in
+      let second = subst (λ (s : List ℕ). WithClosings (calls_from s k.bytes) n y) h.more k.made in
       subst (λ (cs : List Call). WithClosings cs (m + n) (x ++ y)) (sym (calls_from-append p h.bytes k.bytes))
       (with_more (calls_from p h.bytes) m x (calls_from (p ++ h.bytes) k.bytes) n y h.made second);
 }
 
 -- how often the timeout was cleared
 
-clearings-append : (a b : List Tick) → clearings (a ++ b) ≡ clearings a + clearings b
-clearings-append [] b = omega arith
-clearings-append (Sets ∷ a) b = clearings-append a b
-clearings-append (Clears ∷ a) b = let more = clearings-append a b in omega (arith, more)
-
-sets_clear_none : (gs : List (List ℕ)) → clearings (sets_of gs) ≡ 0
-sets_clear_none [] = refl
-sets_clear_none (g ∷ gs) = elim (cases_Bool (opens_group g))
-    [ inl e ↦ rw e (sets_clear_none gs) | inr e ↦ rw e (sets_clear_none gs) ]
-
-from_clears_none : (p b : List ℕ) → clearings (ticks_from p b) ≡ 0
-from_clears_none p b = sets_clear_none (openers_of_all (added p b))
-
-renews_clear_none : (text : List ℕ) (from : ℕ) (ticks : List Tick) → Renews text from ticks → clearings ticks ≡ 0
-renews_clear_none text from ticks (again k low at) = refl
-renews_clear_none text from ticks (quiet _) = refl
-
 closed_clears : (p b : List ℕ) → clearings (ticks_from p b ++ Clears ∷ []) ≡ 1
 closed_clears p b = clearings-append (ticks_from p b) (Clears ∷ []) ∙ (let e = from_clears_none p b in omega (arith, e))
 
-counted : (p q : List ℕ) (m n : ℕ) (calls : List Call) → m ≡ n → Parses p q m calls → Parses p q n calls
-counted p q m n calls e h = subst (λ (i : ℕ). Parses p q i calls) e h
+counted : {p q : List ℕ} {m n : ℕ} {calls : List Call} → m ≡ n → Parses p q m calls → Parses p q n calls
+counted {p} {q} {calls = calls} e h = subst (λ (i : ℕ). Parses p q i calls) e h
 
 -- one step after another
 
-settled : (parsed held piece parsed' : List ℕ) (hold' : Option (List ℕ)) (calls : List Call) (ticks : List Tick)
+-- after bytes that were parsed
+begun : (p b q : List ℕ) (cs : List Call) (ts : List Tick) → Parses (p ++ b) q (clearings ts) cs
+    → Parses p q (clearings (ticks_from p b ++ ts)) (calls_from p b ++ cs)
+begun p b q cs ts h =
+    let e : zero + clearings ts ≡ clearings (ticks_from p b ++ ts) =
+    omega (arith, clearings-append (ticks_from p b) ts, from_clears_none p b) in
+    counted e (then_parsed (bytes_parsed p b) h)
+
+-- and a closing
+closed : (p b q : List ℕ) (cs : List Call) (ts : List Tick) → Parses (p ++ b) q (clearings ts) cs
+    → Parses p q (clearings ((ticks_from p b ++ Clears ∷ []) ++ ts)) ((calls_from p b ++ hold.closing) ++ cs)
+closed p b q cs ts h =
+    let e : 1 + clearings ts ≡ clearings ((ticks_from p b ++ Clears ∷ []) ++ ts) =
+    omega (arith, clearings-append (ticks_from p b ++ Clears ∷ []) ts, closed_clears p b) in
+    counted e (then_parsed (closed_parsed p b) h)
+
+settled : {parsed held piece parsed' : List ℕ} {hold' : Option (List ℕ)} {calls : List Call} {ticks : List Tick}
     → Settles parsed held piece parsed' hold' calls ticks → Parses parsed parsed' (clearings ticks) calls
-settled parsed held piece parsed' hold' calls ticks (keeps _ _ _ _ r _) =
-    counted _ _ _ _ _ (sym (renews_clear_none _ _ ticks r)) (none_parsed parsed)
-settled parsed held piece parsed' hold' calls ticks (replays _ _ _ renewed r n cut) =
+settled (keeps parsed _ _ ticks r _) = counted (renewed _ _ ticks [] r ∙ ap clearings (append-nil ticks)) (none_parsed parsed)
+settled (replays parsed held piece first r n cut) =
     let b = take n (held ++ piece) in
-    let e : clearings (renewed ++ ticks_from parsed b) ≡ zero =
-    clearings-append renewed (ticks_from parsed b)
-    ∙ (let f = renews_clear_none _ _ renewed r in let g = from_clears_none parsed b in omega (arith, f, g)) in
-    counted _ _ _ _ _ (sym e) (bytes_parsed parsed b)
-settled parsed held piece parsed' hold' calls ticks (closes _ _ _ renewed r c) =
+    counted (sym (from_clears_none parsed b) ∙ renewed _ _ first (ticks_from parsed b) r) (bytes_parsed parsed b)
+settled (closes parsed held piece first r c) =
     let b = held ++ piece in
-    let e : clearings (renewed ++ (ticks_from parsed b ++ Clears ∷ [])) ≡ 1 =
-    clearings-append renewed (ticks_from parsed b ++ Clears ∷ [])
-    ∙ (let f = renews_clear_none _ _ renewed r in let g = closed_clears parsed b in omega (arith, f, g)) in
-    counted _ _ _ _ _ (sym e) (closed_parsed parsed b)
+    counted (sym (closed_clears parsed b) ∙ renewed _ _ first (ticks_from parsed b ++ Clears ∷ []) r)
+    (closed_parsed parsed b)
 
 pub taken_parsed : (parsed : List ℕ) (hold' : Option (List ℕ)) (piece parsed' : List ℕ) (hold'' : Option (List ℕ))
     (calls : List Call) (ticks : List Tick)
     → Takes parsed hold' piece parsed' hold'' calls ticks → Parses parsed parsed' (clearings ticks) calls
 taken_parsed parsed h piece parsed' h' calls ticks (hold.parses _ _ _) = bytes_parsed parsed piece
 taken_parsed parsed h piece parsed' h' calls ticks (hold.begins _ _ n _ _ cs ts at t) =
-    let b = take n piece in
-    let more = taken_parsed (parsed ++ b) (Some []) (drop n piece) parsed' h' cs ts t in
-    let e : zero + clearings ts ≡ clearings (ticks_from parsed b ++ ts) =
-    sym (clearings-append (ticks_from parsed b) ts ∙ (let f = from_clears_none parsed b in omega (arith, f))) in
-    counted _ _ _ _ _ e (then_parsed parsed (parsed
-    ++ b) parsed' zero (clearings ts) (calls_from parsed b) cs (bytes_parsed parsed b) more)
+    begun parsed (take n piece) parsed' cs ts (taken_parsed (parsed
+    ++ take n piece) (Some []) (drop n piece) parsed' h' cs ts t)
 taken_parsed parsed h piece parsed' h' calls ticks (hold.settles _ held _ _ _ _ _ fits s) =
-    settled parsed held piece parsed' h' calls ticks s
+    settled s
 taken_parsed parsed h piece parsed' h' calls ticks (hold.overflows _ held _ _ _ cs ts full t) =
-    let more = taken_parsed (parsed ++ held) None piece parsed' h' cs ts t in
-    let e : 1 + clearings ts ≡ clearings ((ticks_from parsed held ++ Clears ∷ []) ++ ts) =
-    sym (clearings-append (ticks_from parsed held ++ Clears ∷ []) ts
-    ∙ ap (λ k. k + clearings ts) (closed_clears parsed held)) in
-    counted _ _ _ _ _ e (then_parsed parsed (parsed ++ held) parsed' 1 (clearings ts) (calls_from parsed held
-    ++ hold.closing) cs (closed_parsed parsed held) more)
+    closed parsed held parsed' cs ts (taken_parsed (parsed ++ held) None piece parsed' h' cs ts t)
 
 -- the same under any timeout
 module _ {T : Type 0} (ticking : Ticking T) where
@@ -155,31 +137,24 @@ module _ {T : Type 0} (ticking : Ticking T) where
       (calls : List Call)
       → Advances ticking closed t parsed held piece t' parsed' held' calls → (ticks : List Tick)
       × Ticked ticking t ticks t' × Parses parsed parsed' (clearings ticks) calls
-  advanced_parsed closed t parsed held piece t' parsed' held' calls (any.parses _ _ _ _ plain _) =
+  advanced_parsed shut t parsed held piece t' parsed' held' calls (any.parses _ _ _ _ plain _) =
       ([], refl, bytes_parsed parsed piece)
-  advanced_parsed closed t parsed held piece t' parsed' held' calls (any.begins _ _ _ _ n u _ _ _ cs plain at y f) =
+  advanced_parsed shut t parsed held piece t' parsed' held' calls (any.begins _ _ _ _ n u _ _ _ cs plain at y f) =
       let b = take n piece in
-      let (ts, z, more) = advanced_parsed false u (parsed ++ b) [] (drop n piece) t' parsed' held' cs f in
-      let e : zero + clearings ts ≡ clearings (ticks_from parsed b ++ ts) =
-      sym (clearings-append (ticks_from parsed b) ts ∙ (let g = from_clears_none parsed b in omega (arith, g))) in (
+      let (ts, z, more) = advanced_parsed false u (parsed ++ b) [] (drop n piece) t' parsed' held' cs f in (
         ticks_from parsed b ++ ts,
         Ticked-append ticking t u t' (ticks_from parsed b) ts y z,
-        counted _ _ _ _ _ e (then_parsed parsed (parsed
-            ++ b) parsed' zero (clearings ts) (calls_from parsed b) cs (bytes_parsed parsed b) more),
+        begun parsed b parsed' cs ts more,
       )
-  advanced_parsed closed t parsed held piece t' parsed' held' calls
+  advanced_parsed shut t parsed held piece t' parsed' held' calls
       (any.settles _ _ _ _ _ _ hold' _ ticks open_ fits s y) =
-      (ticks, y, settled parsed held piece parsed' hold' calls ticks s)
-  advanced_parsed closed t parsed held piece t' parsed' held' calls
+      (ticks, y, settled s)
+  advanced_parsed shut t parsed held piece t' parsed' held' calls
       (any.empties _ _ _ _ is_open u _ _ _ cs asked must y f) =
-      let (ts, z, more) = advanced_parsed true u (parsed ++ held) [] piece t' parsed' held' cs f in
-      let e : 1 + clearings ts ≡ clearings ((ticks_from parsed held ++ Clears ∷ []) ++ ts) =
-      sym (clearings-append (ticks_from parsed held ++ Clears ∷ []) ts
-      ∙ ap (λ k. k + clearings ts) (closed_clears parsed held)) in (
+      let (ts, z, more) = advanced_parsed true u (parsed ++ held) [] piece t' parsed' held' cs f in (
         (ticks_from parsed held ++ Clears ∷ []) ++ ts,
         Ticked-append ticking t u t' (ticks_from parsed held ++ Clears ∷ []) ts y z,
-        counted _ _ _ _ _ e (then_parsed parsed (parsed ++ held) parsed' 1 (clearings ts) (calls_from parsed held
-            ++ hold.closing) cs (closed_parsed parsed held) more),
+        closed parsed held parsed' cs ts more,
       )
 
   -- all that was given
@@ -193,24 +168,19 @@ module _ {T : Type 0} (ticking : Ticking T) where
       let (ts, y, one) = advanced_parsed false t p h piece u q k cs a in
       let same : p ++ (h ++ (piece ++ given rest)) ≡ q ++ (k ++ given rest) =
       ap (λ s. p ++ s) (sym (append_assoc h piece (given rest))) ∙ (sym (append_assoc p (h ++ piece) (given rest))
-      ∙ (ap (λ s. s ++ given rest) (conserve_any ticking false t p h piece u q k cs a)
+      ∙ (ap (λ s. s ++ given rest) (conserve_any a)
       ∙ append_assoc q k (given rest))) in (
         same ∙ all,
         ts ++ us,
         Ticked-append ticking t u t' ts us y z,
-        counted _ _ _ _ _ (sym (clearings-append ts us))
-            (then_parsed p q p' (clearings ts) (clearings us) cs ds one more),
+        counted (sym (clearings-append ts us)) (then_parsed one more),
       )
   ran moves t p h t' p' h' calls (stops rest _ _ _ u _ _ _ ds y r) =
-      let (all, us, z, more) = ran rest u (p ++ h) [] t' p' h' ds r in
-      let closed = ticks_from p h ++ Clears ∷ [] in
-      let e : 1 + clearings us ≡ clearings (closed ++ us) =
-      sym (clearings-append closed us ∙ ap (λ k. k + clearings us) (closed_clears p h)) in (
+      let (all, us, z, more) = ran rest u (p ++ h) [] t' p' h' ds r in (
         sym (append_assoc p h (given rest)) ∙ all,
-        closed ++ us,
-        Ticked-append ticking t u t' closed us y z,
-        counted _ _ _ _ _ e (then_parsed p (p ++ h) p' 1 (clearings us) (calls_from p h
-            ++ hold.closing) ds (closed_parsed p h) more),
+        (ticks_from p h ++ Clears ∷ []) ++ us,
+        Ticked-append ticking t u t' (ticks_from p h ++ Clears ∷ []) us y z,
+        closed p h p' ds us more,
       )
 
   pub all_ran : (moves : List Move) (t t' : T) (parsed held : List ℕ) (calls : List Call)
@@ -219,6 +189,5 @@ module _ {T : Type 0} (ticking : Ticking T) where
       × WithClosings (calls_of_all None (events 1024 parsed)) (clearings ticks) calls
   all_ran moves t t' parsed held calls r =
       let (all, ticks, y, made) = ran moves t [] [] t' parsed held calls r in
-      let first : calls_from [] made.bytes ≡ calls_of_all None (events 1024 parsed) =
-      ap (calls_of_all None) (added-first 1024 made.bytes ∙ ap (events 1024) (sym made.more)) in
+      let first = ap (calls_of_all None) (added-first 1024 made.bytes ∙ ap (events 1024) (sym made.more)) in
       (all, ticks, y, subst (λ (cs : List Call). WithClosings cs (clearings ticks) calls) first made.made)

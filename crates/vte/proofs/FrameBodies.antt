@@ -1,9 +1,10 @@
 -- What may stand between the marks of a frame.
-use Rattle.std.proofs.Common.{◌≡◌, ◌≢◌, ℕ, ◌+◌, ◌<◌, Bool, true, false, ◌||◌, List, [], ◌∷◌, ◌++◌, if◌then◌else◌, map}
+use Rattle.std.proofs.Common.{◌≡◌, ◌≢◌, ℕ, ◌<◌, Bool, true, false, ◌||◌, List, [], ◌∷◌, ◌++◌, if◌then◌else◌, map}
 use Rattle.std.proofs.Common.{length, refl, sym, ◌∙◌, ap, inl, inr, arith, length-append}
 use Rattle.std.specs.List.{AllByRecursion, concat, list_any}
 use Rattle.std.specs.Str.{chars}
 use Rattle.std.proofs.lemmas.Bool.{cases_lt}
+use Rattle.std.proofs.lemmas.List.{nil_from_length}
 use Rattle.std.proofs.lemmas.List.Folds.{list_any-append}
 use Rattle.vte_core.specs.Event.{Print, Execute}
 use Rattle.vte_core.specs.Text.{char_event}
@@ -41,10 +42,6 @@ no_esc (b ∷ text) [] after h e = h.0 (let same : b ≡ 0x1B = cc in same)
 no_esc (b ∷ text) (c ∷ front) after h e = no_esc text front after h.1 (let same : text ≡ front ++ 0x1B ∷ after = cc
     in same)
 
-nil_of : (xs : List ℕ) → length xs ≡ 0 → xs ≡ []
-nil_of [] h = refl
-nil_of (x ∷ xs) h = absurd (omega (arith, h))
-
 -- so an end mark doesn't begin in it
 begun_in : (text before after rest : List ℕ) → AllByRecursion (λ b. b ≢ 0x1B) text → length before < length text
     → text ≡ before ++ rest → end_mark ++ after ≡ rest ++ end_mark → ⊥
@@ -61,9 +58,8 @@ text_ends_once text before after h e =
           absurd (begun_in text before after cut.0 h inside cut.1 cut.2)
       | inr behind ↦
           let cut = cut_later text end_mark before (end_mark ++ after) e behind in
-          let size : length end_mark ≡ length cut.0 + length (end_mark ++ after) =
-          ap length cut.2 ∙ length-append cut.0 (end_mark ++ after) in
-          nil_of after (omega (arith, size, length-append end_mark after))
+          let size = ap length cut.2 ∙ length-append cut.0 (end_mark ++ after) in
+          nil_from_length after (omega (arith, size, length-append end_mark after))
     ]
 
 pub text_makes_frame : (text : List ℕ) → IsText text → IsFrame (start_mark ++ (text ++ end_mark))

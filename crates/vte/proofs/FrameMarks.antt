@@ -1,16 +1,17 @@
 -- Marks as the parser reads them, and where they stand in a text.
-use Rattle.std.proofs.Common.{◌≡◌, ℕ, zero, suc, ◌+◌, ◌-◌, ◌<◌, Bool, true, false, ◌&&◌, ◌||◌, List, [], ◌∷◌, ◌++◌}
+use Rattle.std.proofs.Common.{◌≡◌, ℕ, zero, suc, ◌+◌, ◌-◌, ◌<◌, ◌≤◌, Bool, true, false, ◌&&◌, ◌||◌, ◌==◌, List, [], ◌∷◌, ◌++◌}
 use Rattle.std.proofs.Common.{length, take, drop, nat_eq, refl, sym, ◌∙◌, ap, inl, inr, arith, length-append}
 use Rattle.std.proofs.Common.{length-drop}
 use Rattle.std.specs.List.{list_any, starts_with}
-use Rattle.std.proofs.lemmas.Bool.{cases_Bool, cases_lt, eqb-true}
-use Rattle.std.proofs.lemmas.List.{take-append-drop, take_at}
+use Rattle.std.proofs.lemmas.Bool.{cases_Bool, cases_lt, eqb-true, or_parts, and_right, agree_below_at}
+use Rattle.std.proofs.lemmas.List.{take-append-drop, take_at, nil_from_length}
 use Rattle.std.proofs.lemmas.List.Folds.{list_any-append}
 use Rattle.std.proofs.Math.Seq.{drop-append-add, drop-append_seam}
 use Rattle.vte_core.specs.Shapes.{events}
-use Rattle.vte_core.specs.Pending.{Pending, InText, InEscape, InCsi, InOsc, InHook, InDevice, InSwallowed, pending}
+use Rattle.vte_core.specs.Pending.{Pending, InText, InEscape, pending}
 use Rattle.vte_core.specs.Pending.{closed, events_from}
 use Rattle.vte_core.specs.Ground.{AtGround}
+use Rattle.vte_core.proofs.AddedLemmas.{added-from}
 use Rattle.vte_core.proofs.GroundLemmas.{ground-added, ground-esc, ground-pending}
 use Rattle.vte_types.specs.Call.{set_private_mode}
 use Rattle.vte_types.specs.declared.mode.PrivateMode.TheVariants.{Named}
@@ -20,26 +21,19 @@ use Rattle.vte.specs.Performed.{calls_of_all}
 use Rattle.vte.specs.Marks.{start_mark, end_mark, stands_at, NoneFrom, IsLast, IsFirstFrom}
 use Rattle.vte.specs.Stretch.{last_of, calls_from, opens_in, OpensAt}
 use Rattle.vte.specs.Hold.{closing}
-use Rattle.vte.proofs.HoldLemmas.{added-from, opens_in-append}
+use Rattle.vte.proofs.HoldLemmas.{opens_in-append, opens_in-none}
 
 -- stretches one after the other
 
-or-none : (a b : Bool) → (a || b) ≡ false → (a ≡ false) × (b ≡ false)
-or-none true b h = absurd (let no : true ≡ false = h in cc)
-or-none false b h = (refl, h)
-
 pub opens_in-parts : (past a b : List ℕ) → opens_in past (a ++ b) ≡ false → (opens_in past a ≡ false)
     × (opens_in (past ++ a) b ≡ false)
-opens_in-parts past a b h = or-none (opens_in past a) (opens_in (past ++ a) b) (sym (opens_in-append past a b) ∙ h)
+opens_in-parts past a b h = or_parts (opens_in past a) (opens_in (past ++ a) b) (sym (opens_in-append past a b) ∙ h)
 
 pub opens_in-later : (past a b : List ℕ) → opens_in past a ≡ false → opens_in past (a ++ b) ≡ opens_in (past ++ a) b
 opens_in-later past a b h = opens_in-append past a b ∙ ap (λ v. v || opens_in (past ++ a) b) h
 
 pub opens_in-sooner : (past a b : List ℕ) → opens_in past a ≡ true → opens_in past (a ++ b) ≡ true
 opens_in-sooner past a b h = opens_in-append past a b ∙ ap (λ v. v || opens_in (past ++ a) b) h
-
-pub opens_in-nothing : (past : List ℕ) → opens_in past [] ≡ false
-opens_in-nothing past = ap (list_any opens) (added-from past [])
 
 -- a front of what opens nothing
 pub opens_in-front : (past bytes : List ℕ) (n : ℕ) → opens_in past bytes ≡ false → opens_in past (take n bytes) ≡ false
@@ -51,17 +45,12 @@ opens_in-front past bytes n h = (opens_in-parts past (take n bytes) (drop n byte
 closed_none : (q : Pending) → list_any opens (closed 1024 q) ≡ false
 closed_none (InText []) = refl
 closed_none (InText (a ∷ t)) = refl
-closed_none (InEscape is) = refl
-closed_none (InCsi h) = refl
-closed_none (InOsc s) = refl
-closed_none (InHook h) = refl
-closed_none InDevice = refl
-closed_none InSwallowed = refl
+closed_none q = refl
 
 -- what ESC begins opens as it does alone
 esc_opens : (past bytes : List ℕ) → opens_in past (27 ∷ bytes) ≡ list_any opens (events_from 1024 (InEscape []) bytes)
 esc_opens past bytes =
-    ap (list_any opens) (added-from past (27 ∷ bytes))
+    ap (list_any opens) (added-from 1024 past (27 ∷ bytes))
     ∙ (list_any-append opens (closed 1024 (pending past)) (events_from 1024 (InEscape []) bytes)
     ∙ ap (λ v. v || list_any opens (events_from 1024 (InEscape []) bytes)) (closed_none (pending past)))
 
@@ -69,18 +58,12 @@ abbrev start_tail : List ℕ
 start_tail = 91 ∷ 63 ∷ 50 ∷ 48 ∷ 50 ∷ 54 ∷ 104 ∷ []
 
 tail_none : (count : ℕ) → count < 7 → list_any opens (events_from 1024 (InEscape []) (take count start_tail)) ≡ false
-tail_none zero h = refl
-tail_none (suc zero) h = refl
-tail_none (suc (suc zero)) h = refl
-tail_none (suc (suc (suc zero))) h = refl
-tail_none (suc (suc (suc (suc zero)))) h = refl
-tail_none (suc (suc (suc (suc (suc zero))))) h = refl
-tail_none (suc (suc (suc (suc (suc (suc zero)))))) h = refl
-tail_none (suc (suc (suc (suc (suc (suc (suc n))))))) h = absurd (omega arith)
+tail_none count h =
+    agree_below_at (λ k. list_any opens (events_from 1024 (InEscape []) (take k start_tail))) (λ k. false) 7 count refl h
 
 -- less than a start mark opens nothing
 pub begun_none : (past : List ℕ) (count : ℕ) → count < 8 → opens_in past (take count start_mark) ≡ false
-begun_none past zero h = opens_in-nothing past
+begun_none past zero h = opens_in-none past
 begun_none past (suc count) h = esc_opens past (take count start_tail) ∙ tail_none count (omega arith)
 
 pub front_none : (past part left : List ℕ) → start_mark ≡ part ++ left → length part < 8 → opens_in past part ≡ false
@@ -104,15 +87,8 @@ pub ground_end : (past : List ℕ) → AtGround 1024 (past ++ end_mark)
 ground_end past = ground-esc 1024 past (91 ∷ 63 ∷ 50 ∷ 48 ∷ 50 ∷ 54 ∷ 108 ∷ []) (ground-pending 1024 end_mark refl)
 
 begun_events : (count : ℕ) → count < 8 → events 1024 (take count start_mark) ≡ []
-begun_events zero h = refl
-begun_events (suc zero) h = refl
-begun_events (suc (suc zero)) h = refl
-begun_events (suc (suc (suc zero))) h = refl
-begun_events (suc (suc (suc (suc zero)))) h = refl
-begun_events (suc (suc (suc (suc (suc zero))))) h = refl
-begun_events (suc (suc (suc (suc (suc (suc zero)))))) h = refl
-begun_events (suc (suc (suc (suc (suc (suc (suc zero))))))) h = refl
-begun_events (suc (suc (suc (suc (suc (suc (suc (suc n)))))))) h = absurd (omega arith)
+begun_events count h = nil_from_length _ (eqb-true _ 0
+    (agree_below_at (λ k. length (events 1024 (take k start_mark)) == 0) (λ k. true) 8 count refl h))
 
 calls_alone : (past bytes : List ℕ) → AtGround 1024 past
     → calls_from past bytes ≡ calls_of_all (last_of past) (events 1024 bytes)
@@ -135,15 +111,11 @@ end_calls past g = calls_alone past end_mark g
 pub at_later : (mark front back : List ℕ) (k : ℕ) → stands_at mark (front ++ back) (length front + k) ≡ stands_at mark back k
 at_later mark front back k = ap (λ text. starts_with nat_eq text mark) (drop-append-add front back k)
 
-and_none : (b : Bool) → b && false ≡ false
-and_none true = refl
-and_none false = refl
-
 starts_short : (mark text : List ℕ) → length text < length mark → starts_with nat_eq text mark ≡ false
 starts_short [] text h = absurd (omega arith)
 starts_short (y ∷ mark) [] h = refl
 starts_short (y ∷ mark) (x ∷ text) h = ap (λ b. nat_eq y x && b) (starts_short mark text (omega arith))
-    ∙ and_none (nat_eq y x)
+    ∙ and_right (nat_eq y x) false refl
 
 -- too little follows for a mark to stand there
 pub none_short : (mark text : List ℕ) (k : ℕ) → length text < length mark → stands_at mark text k ≡ false
@@ -169,32 +141,38 @@ at_cuts mark text k h = sym (take-append-drop k text) ∙ ap (λ zs. take k text
 end_inside : (back : List ℕ) (k : ℕ) → 0 < k → k < 8 → (stands_at start_mark (end_mark ++ back) k ≡ false)
     × (stands_at end_mark (end_mark ++ back) k ≡ false)
 end_inside back zero low high = absurd (omega arith)
-end_inside back (suc zero) low high = (refl, refl)
-end_inside back (suc (suc zero)) low high = (refl, refl)
-end_inside back (suc (suc (suc zero))) low high = (refl, refl)
-end_inside back (suc (suc (suc (suc zero)))) low high = (refl, refl)
-end_inside back (suc (suc (suc (suc (suc zero))))) low high = (refl, refl)
-end_inside back (suc (suc (suc (suc (suc (suc zero)))))) low high = (refl, refl)
-end_inside back (suc (suc (suc (suc (suc (suc (suc zero))))))) low high = (refl, refl)
-end_inside back (suc (suc (suc (suc (suc (suc (suc (suc n)))))))) low high = absurd (omega arith)
+end_inside back (suc k) low high = (
+  agree_below_at (λ j. stands_at start_mark (end_mark ++ back) (suc j)) (λ j. false) 7 k refl (omega arith),
+  agree_below_at (λ j. stands_at end_mark (end_mark ++ back) (suc j)) (λ j. false) 7 k refl (omega arith),
+)
 
 -- no end mark begins inside a start mark
 pub start_inside : (back : List ℕ) (k : ℕ) → k < 8 → stands_at end_mark (start_mark ++ back) k ≡ false
-start_inside back zero h = refl
-start_inside back (suc zero) h = refl
-start_inside back (suc (suc zero)) h = refl
-start_inside back (suc (suc (suc zero))) h = refl
-start_inside back (suc (suc (suc (suc zero)))) h = refl
-start_inside back (suc (suc (suc (suc (suc zero))))) h = refl
-start_inside back (suc (suc (suc (suc (suc (suc zero)))))) h = refl
-start_inside back (suc (suc (suc (suc (suc (suc (suc zero))))))) h = refl
-start_inside back (suc (suc (suc (suc (suc (suc (suc (suc n)))))))) h = absurd (omega arith)
+start_inside back k h = agree_below_at (stands_at end_mark (start_mark ++ back)) (λ j. false) 8 k refl h
 
 pub contrary : (b : Bool) → b ≡ true → b ≡ false → ⊥
 contrary b h k = let e : true ≡ false = sym h ∙ k in cc
 
 pub end_stands : (front back : List ℕ) → stands_at end_mark (front ++ (end_mark ++ back)) (length front) ≡ true
 end_stands front back = ap (λ text. starts_with nat_eq text end_mark) (drop-append_seam front (end_mark ++ back))
+
+-- what stands behind the end mark's first byte stands behind its last, for a mark that doesn't begin inside it
+past_end : (mark front back : List ℕ) (n : ℕ)
+    → ((k : ℕ) → 0 < k → k < 8 → stands_at mark (end_mark ++ back) k ≡ false) → length front < n
+    → stands_at mark (front ++ (end_mark ++ back)) n ≡ true
+    → (length front + 8 ≤ n) × (stands_at mark back (n - length front - 8) ≡ true)
+past_end mark front back n none low at =
+    let d = n - length front in
+    let there : stands_at mark (end_mark ++ back) d ≡ true = sym (at_later mark front (end_mark ++ back) d)
+    ∙ (ap (stands_at mark (front ++ (end_mark ++ back))) (omega (arith, low)) ∙ at) in
+    elim (cases_lt d 8) [
+      | inl inside ↦ absurd (contrary _ there (none d (omega (arith, low)) inside))
+      | inr past ↦ (
+        omega (arith, past),
+        sym (at_later mark end_mark back (d - 8))
+            ∙ (ap (stands_at mark (end_mark ++ back)) (omega (arith, past)) ∙ there),
+      )
+    ]
 
 -- the last end mark, where none stands behind it
 pub last_is : (front back : List ℕ) (e : ℕ) → IsLast end_mark (front ++ (end_mark ++ back)) e
@@ -208,19 +186,9 @@ last_is front back e last none =
       | inr later ↦ elim (cases_lt (length front) e) [
         | inr same ↦ omega (arith, later, same)
         | inl behind ↦
-            let d = e - length front in
-            let place : length front + d ≡ e = omega (arith, behind) in
-            let at : stands_at end_mark (end_mark ++ back) d ≡ true =
-            sym (at_later end_mark front (end_mark ++ back) d) ∙ (ap (stands_at end_mark text) place ∙ last.1) in
-            elim (cases_lt d 8) [
-              | inl inside ↦ absurd (contrary _ at (end_inside back d (omega (arith, behind)) inside).1)
-              | inr past ↦
-                  let at' : stands_at end_mark back (d - 8) ≡ true =
-                  sym (at_later end_mark end_mark back (d - 8))
-                  ∙ (ap (stands_at end_mark (end_mark ++ back)) (omega (arith, past)) ∙ at) in
-                  absurd (contrary _ at' (none (d - 8) (omega arith)
-                  (omega (arith, long, last.0, length-append end_mark back, past, place))))
-            ]
+            let past = past_end end_mark front back e (λ k low high. (end_inside back k low high).1) behind last.1 in
+            absurd (contrary _ past.1 (none (e - length front - 8) (omega arith)
+            (omega (arith, long, last.0, length-append end_mark back, past.0))))
       ]
     ]
 
@@ -234,11 +202,9 @@ first_is front back n first =
     let size : length (front ++ end_mark) ≡ length front + 8 = length-append front end_mark in
     elim (cases_lt n (length front + 8)) [
       | inl sooner ↦
-          let d = n - length front in
-          let place : length front + d ≡ n = omega (arith, first.0) in
-          let at : stands_at start_mark (end_mark ++ rest) d ≡ true =
-          sym (at_later start_mark front (end_mark ++ rest) d) ∙ (ap (stands_at start_mark text) place ∙ first.2) in
-          absurd (contrary _ at (end_inside rest d (omega (arith, first.0)) (omega (arith, sooner, first.0))).0)
+          let past = past_end start_mark front rest n (λ k low high. (end_inside rest k low high).0)
+          (omega (arith, first.0)) first.2 in
+          absurd (omega (arith, past.0, sooner))
       | inr later ↦ elim (cases_lt (length front + 8) n) [
         | inl behind ↦ absurd (contrary _ here (first.3 (length front + 8) (omega arith) behind))
         | inr same ↦ omega (arith, later, same, size)
@@ -249,24 +215,13 @@ first_is front back n first =
 pub no_first : (front back : List ℕ) (n : ℕ) → IsFirstFrom start_mark (front
     ++ (end_mark ++ back)) (length front + 1) n → length back < 8 → ⊥
 no_first front back n first short =
-    let text = front ++ (end_mark ++ back) in
-    let d = n - length front in
-    let place : length front + d ≡ n = omega (arith, first.0) in
-    let at : stands_at start_mark (end_mark ++ back) d ≡ true =
-    sym (at_later start_mark front (end_mark ++ back) d) ∙ (ap (stands_at start_mark text) place ∙ first.2) in
-    elim (cases_lt d 8) [
-      | inl inside ↦ contrary _ at (end_inside back d (omega (arith, first.0)) inside).0
-      | inr past ↦
-          let at' : stands_at start_mark back (d - 8) ≡ true =
-          sym (at_later start_mark end_mark back (d - 8))
-          ∙ (ap (stands_at start_mark (end_mark ++ back)) (omega (arith, past)) ∙ at) in
-          contrary _ at' (none_short start_mark back (d - 8) short)
-    ]
+    let past = past_end start_mark front back n (λ k low high. (end_inside back k low high).0)
+    (omega (arith, first.0)) first.2 in
+    contrary _ past.1 (none_short start_mark back _ short)
 
 pub start_stands : (front back : List ℕ) → NoneFrom start_mark (front
     ++ (end_mark ++ (start_mark ++ back))) (length front + 1) → ⊥
 start_stands front back none =
-    let here : stands_at start_mark (front ++ (end_mark ++ (start_mark ++ back))) (length front + 8) ≡ true =
-    at_later start_mark front (end_mark ++ (start_mark ++ back)) 8 in
+    let here = at_later start_mark front (end_mark ++ (start_mark ++ back)) 8 in
     let long = length-append front (end_mark ++ (start_mark ++ back)) in
     contrary _ here (none (length front + 8) (omega arith) (omega (arith, long)))

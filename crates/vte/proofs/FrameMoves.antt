@@ -3,7 +3,8 @@ use Rattle.std.proofs.Common.{◌≡◌, ℕ, ◌+◌, ◌<◌, ◌≤◌, List,
 use Rattle.std.proofs.Common.{◌∙◌, ap, subst, inl, inr, arith, append_assoc, append-nil, length-append}
 use Rattle.std.specs.List.{All, AllByRecursion, concat}
 use Rattle.std.proofs.lemmas.Bool.{cases_lt}
-use Rattle.std.proofs.lemmas.List.{append_cancel_left, take_at}
+use Rattle.std.proofs.lemmas.List.{append_cancel_left, take_at, nil_from_length}
+use Rattle.std.proofs.lemmas.List.Folds.{concat-append}
 use Rattle.std.proofs.lemmas.List.Elements.{recursion_from_All}
 use Rattle.vte_core.specs.Ground.{AtGround}
 use Rattle.vte_types.specs.Call.{Call}
@@ -13,7 +14,7 @@ use Rattle.vte.specs.Hold.{limit, held_of, Takes}
 use Rattle.vte.specs.Moves.{Move, Gives, Stops, given}
 use Rattle.vte.specs.Frames.{IsFrame, IsPart, Drives, ends, gives, stops, Rests, closed, opened, kept, IsUntorn}
 use Rattle.vte.proofs.FrameMarks.{ground_end}
-use Rattle.vte.proofs.FrameLemmas.{cut_later, concat-append, Frames, frames_back, front_short, RestsBy, outside, inside}
+use Rattle.vte.proofs.FrameLemmas.{cut_later, Frames, frames_back, front_short, RestsBy, outside, inside}
 use Rattle.vte.proofs.FrameLemmas.{before, piece_rests}
 
 -- a front of joined frames is whole frames and part of the next
@@ -60,61 +61,56 @@ record Untorn (T : Type 0) (frames : List (List ℕ)) (past bytes parsed : List 
   rests : RestsBy T (past ++ concat whole) part parsed hold
 
 -- one more piece
-more : (T : Type 0) (frames : List (List ℕ)) (past bytes piece beyond parsed parsed' : List ℕ)
-    (hold hold' : Option (List ℕ)) (calls : List Call) (ticks : List Tick)
+more : {T : Type 0} {frames : List (List ℕ)} {past bytes piece parsed parsed' : List ℕ} {hold hold' : Option (List ℕ)}
+    {calls : List Call} {ticks : List Tick} (beyond : List ℕ)
     → Frames T frames → (bytes ++ piece) ++ beyond ≡ concat frames → Untorn T frames past bytes parsed hold
-    → Takes parsed hold piece parsed' hold' calls ticks
-    → Untorn T frames past (bytes ++ piece) parsed' hold'
-more T frames past bytes piece beyond parsed parsed' hold hold' calls ticks fs e r t =
-    let at : bytes ++ piece ≡ concat r.whole ++ (r.part ++ piece) =
-    ap (λ zs. zs ++ piece) r.bytes_are ∙ append_assoc (concat r.whole) r.part piece in
-    let all : concat r.whole ++ ((r.part ++ piece) ++ beyond) ≡ concat r.whole ++ concat r.rest =
-    sym (append_assoc (concat r.whole) (r.part ++ piece) beyond)
+    → Takes parsed hold piece parsed' hold' calls ticks → Untorn T frames past (bytes ++ piece) parsed' hold'
+more {T} {frames} {past} {bytes} {piece} {parsed} {parsed'} {hold} {hold'} beyond fs e r t =
+    let at = ap (λ zs. zs ++ piece) r.bytes_are ∙ append_assoc (concat r.whole) r.part piece in
+    let all = sym (append_assoc (concat r.whole) (r.part ++ piece) beyond)
     ∙ (ap (λ zs. zs ++ beyond) (sym at) ∙ (e ∙ (ap concat r.frames_are ∙ concat-append r.whole r.rest))) in
-    let cut = cut_frames r.rest (r.part ++ piece) beyond
+    let (front, rest, part, are, is, is_part) = cut_frames r.rest (r.part ++ piece) beyond
     (append_cancel_left (concat r.whole) ((r.part ++ piece) ++ beyond) (concat r.rest) all) in
     let here : Frames T r.rest = frames_back T r.whole r.rest
     (subst (λ (gs : List (List ℕ)). Frames T gs) r.frames_are fs) in
-    let here' : Frames T (cut.0 ++ cut.1) = subst (λ (gs : List (List ℕ)). Frames T gs) cut.3 here in
-    let is_part : IsPart r.part (cut.0 ++ cut.1) = subst (λ (gs : List (List ℕ)). IsPart r.part gs) cut.3 r.is_part in
-    let next = piece_rests T (past ++ concat r.whole) r.part cut.2 piece parsed parsed' hold hold' cut.0 cut.1 r.rests
-    here' is_part cut.4 cut.5 (calls, ticks, t) in
-    let whole : concat (r.whole ++ cut.0) ≡ concat r.whole ++ concat cut.0 = concat-append r.whole cut.0 in
+    let next = piece_rests T (past ++ concat r.whole) r.part part piece parsed parsed' front rest r.rests
+    (subst (λ (gs : List (List ℕ)). Frames T gs) are here)
+    (subst (λ (gs : List (List ℕ)). IsPart r.part gs) are r.is_part) is is_part t in
+    let whole : concat (r.whole ++ front) ≡ concat r.whole ++ concat front = concat-append r.whole front in
     record {
-      whole = r.whole ++ cut.0;
-      rest = cut.1;
-      part = cut.2;
-      frames_are = r.frames_are ∙ (ap (λ zs. r.whole ++ zs) cut.3 ∙ sym (append_assoc r.whole cut.0 cut.1));
-      bytes_are = at ∙ (ap (λ zs. concat r.whole ++ zs) cut.4
-          ∙ (sym (append_assoc (concat r.whole) (concat cut.0) cut.2) ∙ ap (λ zs. zs ++ cut.2) (sym whole)));
-      is_part = cut.5;
-      rests = subst (λ (w : List ℕ). RestsBy T w cut.2 parsed' hold')
-          (append_assoc past (concat r.whole) (concat cut.0) ∙ ap (λ zs. past ++ zs) (sym whole)) next;
+      whole = r.whole ++ front;
+      rest = rest;
+      part = part;
+      frames_are = r.frames_are ∙ (ap (λ zs. r.whole ++ zs) are ∙ sym (append_assoc r.whole front rest));
+      bytes_are = at ∙ (ap (λ zs. concat r.whole ++ zs) is
+          ∙ (sym (append_assoc (concat r.whole) (concat front) part) ∙ ap (λ zs. zs ++ part) (sym whole)));
+      is_part = is_part;
+      rests = subst (λ (w : List ℕ). RestsBy T w part parsed' hold')
+          (append_assoc past (concat r.whole) (concat front) ∙ ap (λ zs. past ++ zs) (sym whole)) next;
     }
 
 -- the update is stopped
-stopped_rests : (T : Type 0) (whole part parsed : List ℕ) (hold : Option (List ℕ)) → T
+stopped_rests : {T : Type 0} {whole part parsed : List ℕ} {hold : Option (List ℕ)} → T
     → RestsBy T whole part parsed hold → RestsBy T whole part (parsed ++ held_of hold) None
-stopped_rests T whole part parsed hold t (outside why at is) =
+stopped_rests {parsed = parsed} t (outside why at is) =
     outside why (ap (λ o. parsed ++ held_of o) is ∙ (append-nil parsed ∙ at)) refl
-stopped_rests T whole part parsed hold t (inside held starts at is) =
+stopped_rests {whole = whole} {parsed = parsed} t (inside held starts at is) =
     outside (inr t) (ap (λ o. parsed ++ held_of o) is
     ∙ (ap (λ xs. xs ++ held) at ∙ (append_assoc whole start_mark held ∙ ap (λ xs. whole ++ xs) (sym starts)))) refl
-stopped_rests T whole part parsed hold t (before long at is) =
+stopped_rests {part = part} {parsed = parsed} t (before long at is) =
     outside (inr t) (ap (λ o. parsed ++ held_of o) is ∙ ap (λ xs. xs ++ part) at) refl
 
-stopped : (T : Type 0) (frames : List (List ℕ)) (past bytes parsed : List ℕ) (hold : Option (List ℕ)) → T
+stopped : {T : Type 0} {frames : List (List ℕ)} {past bytes parsed : List ℕ} {hold : Option (List ℕ)} → T
     → Untorn T frames past bytes parsed hold → Untorn T frames past bytes (parsed ++ held_of hold) None
-stopped T frames past bytes parsed hold t r =
-    record {
-      whole = r.whole;
-      rest = r.rest;
-      part = r.part;
-      frames_are = r.frames_are;
-      bytes_are = r.bytes_are;
-      is_part = r.is_part;
-      rests = stopped_rests T (past ++ concat r.whole) r.part parsed hold t r.rests;
-    }
+stopped t r = record {
+  whole = r.whole;
+  rest = r.rest;
+  part = r.part;
+  frames_are = r.frames_are;
+  bytes_are = r.bytes_are;
+  is_part = r.is_part;
+  rests = stopped_rests t r.rests;
+}
 
 -- the moves stop an update only where T holds
 abbrev pub StopsBy : Type 0 → List Move → Type 0
@@ -122,26 +118,19 @@ StopsBy T [] = Unit {0}
 StopsBy T (Gives piece ∷ moves) = StopsBy T moves
 StopsBy T (Stops ∷ moves) = T × StopsBy T moves
 
-follow : (T : Type 0) (frames : List (List ℕ)) (past beyond bytes : List ℕ) (moves : List Move) (parsed : List ℕ)
-    (hold : Option (List ℕ)) (parsed' : List ℕ) (hold' : Option (List ℕ))
+follow : {T : Type 0} {frames : List (List ℕ)} {past bytes : List ℕ} {moves : List Move} {parsed : List ℕ}
+    {hold : Option (List ℕ)} {parsed' : List ℕ} {hold' : Option (List ℕ)} (beyond : List ℕ)
     → Frames T frames → StopsBy T moves → (bytes ++ given moves) ++ beyond ≡ concat frames
     → Untorn T frames past bytes parsed hold
     → Drives moves parsed hold parsed' hold' → Untorn T frames past (bytes ++ given moves) parsed' hold'
-follow T frames past beyond bytes moves parsed hold parsed' hold' fs why e r (ends _ _) =
+follow {T} {frames} {past} {bytes} beyond fs why e r (ends parsed hold) =
     subst (λ (xs : List ℕ). Untorn T frames past xs parsed hold) (sym (append-nil bytes)) r
-follow T frames past beyond bytes moves parsed hold parsed' hold' fs why e r
-    (gives piece rest _ _ mid mid_hold calls ticks _ _ t l) =
-    let same : bytes ++ (piece ++ given rest) ≡ (bytes ++ piece) ++ given rest =
-    sym (append_assoc bytes piece (given rest)) in
-    let all : (bytes ++ piece) ++ (given rest ++ beyond) ≡ concat frames =
-    sym (append_assoc (bytes ++ piece) (given rest) beyond) ∙ (ap (λ xs. xs ++ beyond) (sym same) ∙ e) in
-    let next = more T frames past bytes piece (given rest ++ beyond) parsed mid hold mid_hold calls ticks fs all r t in
-    subst (λ (xs : List ℕ). Untorn T frames past xs parsed' hold') (sym same)
-    (follow T frames past beyond (bytes ++ piece) rest mid mid_hold parsed' hold' fs why
-    (ap (λ xs. xs ++ beyond) (sym same) ∙ e) next l)
-follow T frames past beyond bytes moves parsed hold parsed' hold' fs why e r (stops rest _ _ _ _ l) =
-    follow T frames past beyond bytes rest (parsed
-    ++ held_of hold) None parsed' hold' fs why.1 e (stopped T frames past bytes parsed hold why.0 r) l
+follow {T} {frames} {past} {bytes} beyond fs why e r (gives piece rest _ _ mid _ calls ticks parsed' hold' t l) =
+    let same : (bytes ++ piece) ++ given rest ≡ bytes ++ (piece ++ given rest) = append_assoc bytes piece (given rest) in
+    let all : ((bytes ++ piece) ++ given rest) ++ beyond ≡ concat frames = ap (λ xs. xs ++ beyond) same ∙ e in
+    let next = more (given rest ++ beyond) fs (sym (append_assoc (bytes ++ piece) (given rest) beyond) ∙ all) r t in
+    subst (λ (xs : List ℕ). Untorn T frames past xs parsed' hold') same (follow beyond fs why all next l)
+follow beyond fs why e r (stops rest _ _ _ _ l) = follow beyond fs why.1 e (stopped why.0 r) l
 
 none_part : (T : Type 0) (frames : List (List ℕ)) → Frames T frames → IsPart [] frames
 none_part T [] fs = refl
@@ -183,12 +172,11 @@ any_stops (Gives piece ∷ moves) = any_stops moves
 any_stops (Stops ∷ moves) = (tt, any_stops moves)
 
 -- with no bytes of a frame left over, none is held
-whole_rests : (T : Type 0) (whole part parsed : List ℕ) (hold : Option (List ℕ)) → part ≡ []
+whole_rests : {T : Type 0} {whole part parsed : List ℕ} {hold : Option (List ℕ)} → part ≡ []
     → RestsBy T whole part parsed hold → (parsed ≡ whole) × (hold ≡ None)
-whole_rests T whole part parsed hold e (outside why at is) = (at ∙ (ap (λ xs. whole ++ xs) e ∙ append-nil whole), is)
-whole_rests T whole part parsed hold e (inside held starts at is) =
-    absurd (omega (arith, ap length starts, ap length e))
-whole_rests T whole part parsed hold e (before long at is) = absurd (omega (arith, ap length e, long))
+whole_rests {whole = whole} e (outside why at is) = (at ∙ (ap (λ xs. whole ++ xs) e ∙ append-nil whole), is)
+whole_rests e (inside held starts at is) = absurd (omega (arith, ap length starts, ap length e))
+whole_rests e (before long at is) = absurd (omega (arith, ap length e, long))
 
 -- less than a frame cannot come where all frames came
 nothing_left : (T : Type 0) (whole rest : List (List ℕ)) (part : List ℕ) → Frames T rest → IsPart part rest
@@ -199,25 +187,20 @@ nothing_left T whole (f ∷ rest) part fs is e =
     (sym (concat-append whole (f ∷ rest)) ∙ e) in
     let long : length (f ++ concat rest) ≡ length f + length (concat rest) = length-append f (concat rest) in
     let size : length f ≡ length part + length is.0 = ap length is.1 ∙ length-append part is.0 in
-    let none : is.0 ≡ [] = nil_of is.0 (omega (arith, long, size, ap length same)) in
+    let none : is.0 ≡ [] = nil_from_length is.0 (omega (arith, long, size, ap length same)) in
     absurd (is.2 none)
-  where
-    nil_of : (xs : List ℕ) → length xs ≡ 0 → xs ≡ []
-    nil_of [] h = refl
-    nil_of (x ∷ xs) h = absurd (omega (arith, h))
 
 pub whole_are_parsed : (frames : List (List ℕ)) (moves : List Move) (past parsed : List ℕ) (hold : Option (List ℕ))
     → All IsFrame frames → given moves ≡ concat frames → Drives moves past None parsed hold
     → (parsed ≡ past ++ concat frames) × (hold ≡ None)
 whole_are_parsed frames moves past parsed hold all e l =
     let fs = loose frames (recursion_from_All IsFrame frames all) in
-    let r = follow (Unit {0}) frames past [] [] moves past None parsed hold fs (any_stops moves)
-    (append-nil (given moves) ∙ e) (at_first (Unit {0}) frames past fs) l in
+    let r = follow [] fs (any_stops moves) (append-nil (given moves) ∙ e) (at_first (Unit {0}) frames past fs) l in
     let here : Frames (Unit {0}) r.rest = frames_back (Unit {0}) r.whole r.rest
     (subst (λ (gs : List (List ℕ)). Frames (Unit {0}) gs) r.frames_are fs) in
     let left = nothing_left (Unit {0}) r.whole r.rest r.part here r.is_part (ap concat (sym r.frames_are)
     ∙ (sym e ∙ r.bytes_are)) in
-    let s = whole_rests (Unit {0}) (past ++ concat r.whole) r.part parsed hold left.1 r.rests in
+    let s = whole_rests left.1 r.rests in
     let whole : r.whole ≡ frames = sym (append-nil r.whole)
     ∙ (ap (λ gs. r.whole ++ gs) (sym left.0) ∙ sym r.frames_are) in
     (s.0 ∙ ap (λ gs. past ++ concat gs) whole, s.1)
@@ -235,12 +218,12 @@ given_pieces : (pieces : List (List ℕ)) → given (map Gives pieces) ≡ conca
 given_pieces [] = refl
 given_pieces (piece ∷ pieces) = ap (λ xs. piece ++ xs) (given_pieces pieces)
 
-rests_so : (whole part parsed : List ℕ) (hold : Option (List ℕ)) → RestsBy ⊥ whole part parsed hold
+rests_so : {whole part parsed : List ℕ} {hold : Option (List ℕ)} → RestsBy ⊥ whole part parsed hold
     → Rests whole part parsed hold
-rests_so whole part parsed hold (outside (inl short) at is) = closed short at is
-rests_so whole part parsed hold (outside (inr t) at is) = absurd t
-rests_so whole part parsed hold (inside held starts at is) = opened held starts at is
-rests_so whole part parsed hold (before long at is) = kept long at is
+rests_so (outside (inl short) at is) = closed short at is
+rests_so (outside (inr t) at is) = absurd t
+rests_so (inside held starts at is) = opened held starts at is
+rests_so (before long at is) = kept long at is
 
 pub never_torn : (frames pieces : List (List ℕ)) (beyond past parsed : List ℕ) (hold : Option (List ℕ))
     → All IsFrame frames → All (λ f. length f < limit) frames → concat pieces ++ beyond ≡ concat frames
@@ -250,8 +233,7 @@ never_torn frames pieces beyond past parsed hold all small e l =
     (recursion_from_All (λ f. length f < limit) frames small) in
     let moves = map Gives pieces in
     let all_given : given moves ++ beyond ≡ concat frames = ap (λ xs. xs ++ beyond) (given_pieces pieces) ∙ e in
-    let r = follow ⊥ frames past beyond [] moves past None parsed hold fs (no_stops pieces) all_given
-    (at_first ⊥ frames past fs) l in
+    let r = follow beyond fs (no_stops pieces) all_given (at_first ⊥ frames past fs) l in
     record {
       whole = r.whole;
       rest = r.rest;
@@ -259,7 +241,7 @@ never_torn frames pieces beyond past parsed hold all small e l =
       frames_are = r.frames_are;
       bytes_are = sym (given_pieces pieces) ∙ r.bytes_are;
       is_part = r.is_part;
-      rests = rests_so (past ++ concat r.whole) r.part parsed hold r.rests;
+      rests = rests_so r.rests;
     }
 
 part_of_start : (part : List ℕ) (rest : List (List ℕ)) → AllByRecursion IsFrame rest → IsPart part rest

@@ -1,10 +1,10 @@
 -- Stretches that follow one another.
-use Rattle.std.proofs.Common.{◌≡◌, ℕ, false, List, [], ◌∷◌, ◌++◌, Option, None, ◌||◌, refl, ap, sym, ◌∙◌, subst}
+use Rattle.std.proofs.Common.{◌≡◌, ℕ, false, List, [], ◌∷◌, ◌++◌, Option, None, ◌||◌, refl, ap, sym, ◌∙◌}
 use Rattle.std.proofs.Common.{append_assoc}
 use Rattle.std.specs.List.{list_any}
+use Rattle.std.proofs.lemmas.List.Folds.{list_any-append}
 use Rattle.vte_core.specs.Event.{Event}
 use Rattle.vte_core.specs.Shapes.{events}
-use Rattle.vte_core.specs.Pending.{pending, events_from}
 use Rattle.vte_core.proofs.AddedLemmas as core
 use Rattle.vte_types.specs.Call.{Call, Calls, unset_private_mode}
 use Rattle.vte_types.specs.declared.mode.PrivateMode.TheVariants.{Named}
@@ -14,13 +14,7 @@ use Rattle.vte.specs.Timeout.{sets_of}
 use Rattle.vte.specs.Performed.{last_after_all, calls_of_all, openers_of_all}
 use Rattle.vte.specs.Stretch.{added, last_of, calls_from, ticks_from, opens_in}
 use Rattle.vte.specs.Hold.{closing}
-use Rattle.vte.proofs.RunLemmas.{Calls-append, sets_of-append, any-append}
-
-pub added-from : (past bytes : List ℕ) → added past bytes ≡ events_from 1024 (pending past) bytes
-added-from past bytes = core.added-from 1024 past bytes
-
-pub added-append : (past a b : List ℕ) → added past (a ++ b) ≡ added past a ++ added (past ++ a) b
-added-append past a b = core.added-append 1024 past a b
+use Rattle.vte.proofs.RunLemmas.{Calls-append, sets_of-append}
 
 last_after_all-append : (last : Option ℕ) (a b : List Event)
     → last_after_all last (a ++ b) ≡ last_after_all (last_after_all last a) b
@@ -41,7 +35,7 @@ calls_of_all-append last (e ∷ a) b =
 
 pub calls_from-append : (past a b : List ℕ) → calls_from past (a ++ b) ≡ calls_from past a ++ calls_from (past ++ a) b
 calls_from-append past a b =
-    ap (calls_of_all (last_of past)) (added-append past a b)
+    ap (calls_of_all (last_of past)) (core.added-append 1024 past a b)
     ∙ (calls_of_all-append (last_of past) (added past a) (added (past ++ a) b)
     ∙ ap (λ l. calls_from past a ++ calls_of_all l (added (past ++ a) b)) (sym (last_of-append past a)))
 
@@ -49,8 +43,8 @@ pub opens_in-none : (past : List ℕ) → opens_in past [] ≡ false
 opens_in-none past = ap (list_any opens) (core.added-none 1024 past)
 
 pub opens_in-append : (past a b : List ℕ) → opens_in past (a ++ b) ≡ (opens_in past a || opens_in (past ++ a) b)
-opens_in-append past a b = ap (list_any opens) (added-append past a b)
-    ∙ any-append opens (added past a) (added (past ++ a) b)
+opens_in-append past a b = ap (list_any opens) (core.added-append 1024 past a b)
+    ∙ list_any-append opens (added past a) (added (past ++ a) b)
 
 openers-append : (a b : List Event) → openers_of_all (a ++ b) ≡ openers_of_all a ++ openers_of_all b
 openers-append [] b = refl
@@ -59,28 +53,19 @@ openers-append (e ∷ a) b = ap (λ gs. openers e ++ gs) (openers-append a b)
 
 pub ticks_from-append : (past a b : List ℕ) → ticks_from past (a ++ b) ≡ ticks_from past a ++ ticks_from (past ++ a) b
 ticks_from-append past a b =
-    ap (λ es. sets_of (openers_of_all es)) (added-append past a b)
+    ap (λ es. sets_of (openers_of_all es)) (core.added-append 1024 past a b)
     ∙ (ap sets_of (openers-append (added past a) (added (past ++ a) b))
     ∙ sets_of-append (openers_of_all (added past a)) (openers_of_all (added (past ++ a) b)))
 
 -- what was printed last, after more bytes
-pub printed_after : (last last' : Option ℕ) (parsed bytes : List ℕ) → last ≡ last_of parsed
+pub printed_after : {last last' : Option ℕ} (parsed bytes : List ℕ) → last ≡ last_of parsed
     → last' ≡ last_after_all last (added parsed bytes) → last' ≡ last_of (parsed ++ bytes)
-printed_after last last' parsed bytes le e = e ∙ (ap (λ l. last_after_all l (added parsed bytes)) le
+printed_after parsed bytes le e = e ∙ (ap (λ l. last_after_all l (added parsed bytes)) le
     ∙ sym (last_of-append parsed bytes))
-
-pub calls_after : {H : Type 0} (step : H → Call → H → Type 0) (h h' : H) (last : Option ℕ) (parsed bytes : List ℕ)
-    → last ≡ last_of parsed → Calls step h (calls_of_all last (added parsed bytes)) h'
-    → Calls step h (calls_from parsed bytes) h'
-calls_after step h h' last parsed bytes le g = subst
-    (λ (l : Option ℕ). Calls step h (calls_of_all l (added parsed bytes)) h') le g
 
 -- the calls of the held bytes, and the one that says that the update was closed
 pub closed_calls : {H : Type 0} (step : H → Call → H → Type 0) (h h' h'' : H) (parsed bytes : List ℕ)
     → Calls step h (calls_from parsed bytes) h' → step h' (unset_private_mode (Named SyncUpdate)) h''
     → Calls step h (calls_from parsed bytes ++ closing) h''
-closed_calls step h h' h'' parsed bytes g u = Calls-append step h h' h'' (calls_from parsed bytes) closing g (
-  h'',
-  u,
-  refl,
-)
+closed_calls step h h' h'' parsed bytes g u =
+    Calls-append step h h' h'' (calls_from parsed bytes) closing g (h'', u, refl)

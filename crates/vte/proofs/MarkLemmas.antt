@@ -1,11 +1,10 @@
 -- Marks in parts of a text.
 use Rattle.std.proofs.Common.{◌≡◌, refl, inl, inr, ℕ, zero, suc, false, List, [], ◌∷◌, ◌++◌, ◌<◌, ◌≤◌, ◌+◌, ◌-◌, ◌==◌}
-use Rattle.std.proofs.Common.{length, take, drop, slice_index, arith, length-drop, ap, sym, ◌∙◌}
-use Rattle.std.proofs.lemmas.List.{drop-drop, drop-append-le, take-append-le, get_or-drop, get_or-take}
-use Rattle.std.proofs.lemmas.Bool.{cases_lt, eq-eqb, eqb-true}
+use Rattle.std.proofs.Common.{length, take, drop, slice_index, arith, length-drop, length-take, ap, sym, ◌∙◌}
+use Rattle.std.proofs.lemmas.List.{drop-drop, drop-append-le, take-append-le, get_or-drop, get_or-take, take_all}
+use Rattle.std.proofs.lemmas.Bool.{cases_lt, eq-eqb, eqb-true, false_from_ne_true}
 use Rattle.memchr.specs.Find.{Nowhere, Passes, is_byte}
 use Rattle.vte.specs.Marks.{stands_at, NoneFrom, end_mark}
-use Rattle.vte.proofs.Splits.{not_true}
 
 -- no mark stands after a place: none stands in what follows it
 pub none_after : (n : ℕ) (text : List ℕ) → NoneFrom end_mark text n → NoneFrom end_mark (drop n text) 0
@@ -41,7 +40,7 @@ not_first : (mark text : List ℕ) (k : ℕ) → 0 < length mark → k < length 
 not_first [] text k some below other = absurd (omega arith)
 not_first (m ∷ mark) [] k some below other = absurd (omega arith)
 not_first (m ∷ mark) (t ∷ text) zero some below other =
-    rw (not_true (m == t) (λ is. other (eq-eqb t m (sym (eqb-true m t is))))) refl
+    rw (false_from_ne_true (m == t) (λ is. other (eq-eqb t m (sym (eqb-true m t is))))) refl
 not_first (m ∷ mark) (t ∷ text) (suc k) some below other = not_first (m ∷ mark) text k some (omega arith) other
 
 -- the same of a stretch of a part of the text, `n` bytes from `from` on
@@ -54,3 +53,12 @@ none_in_part mark text from n i j some fits inside nowhere k low high =
     get_or-take n (drop from text) (k - from) 0 (omega arith)
     ∙ (get_or-drop from text (k - from) 0 ∙ ap (slice_index text) place) in
     not_first mark text k some (omega arith) (λ is. nowhere (k - from) (omega arith) (omega arith) (rw reads is))
+
+-- what is read of a part of the text stands in the text
+pub part_in : (text : List ℕ) (from n at : ℕ) → at < length (take n (drop from text)) → (at < n) × (from + at < length text)
+part_in text from n at h =
+    let size = length-take n (drop from text) in
+    (omega (arith, h, size), omega (arith, h, size, length-drop from text))
+
+pub rest_is : (text : List ℕ) (k : ℕ) → take (length text - k) (drop k text) ≡ drop k text
+rest_is text k = take_all (length text - k) (drop k text) (omega (arith, length-drop k text))

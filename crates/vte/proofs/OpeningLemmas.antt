@@ -1,12 +1,13 @@
 -- Which events are called as the opening of an update.
-use Rattle.std.proofs.Common.{◌≡◌, ℕ, ◌+◌, ◌%◌, ◌==◌, ◌↔◌, Bool, true, false, ◌&&◌, ◌||◌, List, [], ◌∷◌, ◌++◌, Option}
+use Rattle.std.proofs.Common.{◌≡◌, ℕ, ◌+◌, ◌%◌, ◌==◌, ◌↔◌, Bool, true, false, ◌&&◌, List, [], ◌∷◌, ◌++◌, Option}
 use Rattle.std.proofs.Common.{None, Some, IfSome, nat_eq, nat_lt, bytes_eq, if◌then◌else◌, map, unwrap_or, length, drop}
-use Rattle.std.proofs.Common.{find, codes, zero, suc, refl, ap, sym, ◌∙◌, subst, inl, inr}
+use Rattle.std.proofs.Common.{find, codes, suc, refl, ap, sym, ◌∙◌, subst, inl, inr}
 use Rattle.std.specs.List.{list_any, flat_map, range_with_len, starts_with}
 use Rattle.std.specs.Option.{option_to_list}
-use Rattle.std.proofs.lemmas.Bool.{cases_Bool, eqb-true}
+use Rattle.std.proofs.lemmas.Bool.{cases_Bool, eqb-true, and_parts}
+use Rattle.std.proofs.Math.Bool.{or-true}
 use Rattle.std.proofs.lemmas.List.Folds.{list_any-append}
-use Rattle.vte_core.specs.Event.{Event, Print, Execute, Hook, Put, Unhook, Osc, Csi, Esc}
+use Rattle.vte_core.specs.Event.{Event, Execute, Osc, Csi, Esc}
 use Rattle.vte_types.specs.Call.{Call, set_private_mode, reset_color, set_mouse_cursor_icon}
 use Rattle.vte_types.specs.CursorIcon.{name_of, all_icons}
 use Rattle.vte_types.specs.Lookup.{lookup}
@@ -20,12 +21,12 @@ use Rattle.vte.specs.Sgr.{first}
 use Rattle.vte.specs.Escape.{calls_at, execute_rows, plain_escape_rows, hash_escape_rows, charset_index, charset_rows}
 use Rattle.vte.specs.Escape.{charset_calls, escape_calls}
 use Rattle.vte.specs.Csi.{number_or, identify_calls, counted_rows, repeat_calls, uncounted_rows, placing_rows}
-use Rattle.vte.specs.Csi.{uncounted_calls, counted_calls, plain_calls, question_rows, other_keys_rows, greater_rows}
-use Rattle.vte.specs.Csi.{scp_calls, style_rows, space_rows, question_dollar_rows, calls_by, marked_rows, csi_calls}
+use Rattle.vte.specs.Csi.{uncounted_calls, counted_calls, plain_calls, question_rows, other_keys_rows}
+use Rattle.vte.specs.Csi.{scp_calls, style_rows, question_dollar_rows, calls_by, marked_rows, csi_calls}
 use Rattle.vte.specs.Csi.{opens_group, opening_groups, placing_calls}
 use Rattle.vte.specs.Osc.{named, end_text, title_calls, color_of_text, set_or_ask, color_calls, byte_number}
 use Rattle.vte.specs.Osc.{pair_calls, pairs_calls, palette_calls, link_calls, two_digits, dynamic_calls, icon_calls}
-use Rattle.vte.specs.Osc.{shape_rows, shape_calls, cursor_calls, clipboard_calls, index_resets, all_resets, reset_calls}
+use Rattle.vte.specs.Osc.{shape_rows, shape_calls, cursor_calls, clipboard_calls, index_resets, reset_calls}
 use Rattle.vte.specs.Osc.{osc_rows, osc_calls}
 use Rattle.vte.specs.Table.{calls_of, last_after, opens, is_opening}
 use Rattle.vte.specs.Performed.{calls_of_all}
@@ -64,13 +65,13 @@ found {X} P key (row ∷ rows) h = elim (cases_Bool (nat_eq key row.0)) [
   | inr e ↦ rw e (found P key rows h.1)
 ]
 
+or_else : {X : Type 0} (P : X → Type 0) (o : Option X) (other : X) → IfSome o P → P other → P (unwrap_or o other)
+or_else P None other h k = k
+or_else P (Some x) other h k = h
+
 found_or : {X : Type 0} (P : ℕ → X → Type 0) (key : ℕ) (rows : List (ℕ × X)) (other : X) → Rows P rows → P key other
     → P key (unwrap_or (lookup key rows) other)
-found_or P key [] other h k = k
-found_or P key (row ∷ rows) other h k = elim (cases_Bool (nat_eq key row.0)) [
-  | inl e ↦ rw e (subst (λ (j : ℕ). P j row.1) (sym (eqb-true key row.0 e)) h.0)
-  | inr e ↦ rw e (found_or P key rows other h.1 k)
-]
+found_or P key rows other h k = or_else (P key) (lookup key rows) other (found P key rows h) k
 
 named_or : {X : Type 0} (P : X → Type 0) (name : List ℕ) (rows : List (List ℕ × X)) (other : X)
     → Rows (λ k x. P x) rows → P other → P (unwrap_or (named name rows) other)
@@ -89,9 +90,6 @@ quiet_by f rows gs h = found_or (λ k c. Quiet (c gs)) f rows (λ xs. []) h refl
 
 -- controls and escape sequences
 
-execute_quiet : (b : ℕ) → Quiet (calls_at b execute_rows)
-execute_quiet b = quiet_at b execute_rows search
-
 charset_quiet : (o : Option CharsetIndex) (b : ℕ) → Quiet (charset_calls o b)
 charset_quiet None b = refl
 charset_quiet (Some g) b = quiet_at b (charset_rows g) search
@@ -105,9 +103,8 @@ escape_quiet (x ∷ y ∷ ms) b = refl
 -- control sequences without intermediates
 
 repeat_quiet : (last : Option ℕ) (n : ℕ) → Quiet (repeat_calls last n)
-repeat_quiet None n = refl
-repeat_quiet (Some x) zero = refl
 repeat_quiet (Some x) (suc n) = repeat_quiet (Some x) n
+repeat_quiet last n = refl
 
 placing_quiet : (o : Option (List (List ℕ) → Call)) (gs : List (List ℕ)) → IfSome o (λ c. is_opening (c gs) ≡ false)
     → Quiet (placing_calls o gs)
@@ -136,21 +133,14 @@ identify_quiet : (gs : List (List ℕ)) (ms : List ℕ) → Quiet (identify_call
 identify_quiet gs ms = quiet_if (nat_eq (number_or 0 gs) 0) _ _ refl refl
 
 scp_quiet : (p : Option ScpCharPath) (u : Option ScpUpdateMode) → Quiet (scp_calls p u)
-scp_quiet None u = refl
-scp_quiet (Some p) None = refl
 scp_quiet (Some p) (Some u) = refl
+scp_quiet p u = refl
 
 other_keys_quiet : (n : ℕ) → Quiet (calls_at n other_keys_rows)
 other_keys_quiet n = quiet_at n other_keys_rows search
 
-greater_quiet : (f : ℕ) (gs : List (List ℕ)) → Quiet (calls_by f greater_rows gs)
-greater_quiet f gs = quiet_by f greater_rows gs (search (quiet_if, other_keys_quiet))
-
 style_quiet : (n : ℕ) → Quiet (calls_at n style_rows)
 style_quiet n = quiet_at n style_rows search
-
-space_quiet : (f : ℕ) (gs : List (List ℕ)) → Quiet (calls_by f space_rows gs)
-space_quiet f gs = quiet_by f space_rows gs (search (scp_quiet, style_quiet))
 
 not_so : (cs : List Call) → true ≡ false → Quiet cs
 not_so cs h = absurd (let no : true ≡ false = h in cc)
@@ -164,7 +154,7 @@ question_quiet f gs = found_or (λ k c. nat_eq k 104 ≡ false
 marked_quiet : (x f : ℕ) (gs : List (List ℕ)) → nat_eq x 63 ≡ false
     → Quiet (calls_by f (unwrap_or (lookup x marked_rows) []) gs)
 marked_quiet x f gs = found_or (λ k rows. nat_eq k 63 ≡ false
-    → Quiet (calls_by f rows gs)) x marked_rows [] (search (not_so, quiet_by, greater_quiet, space_quiet)) (λ e. refl)
+    → Quiet (calls_by f rows gs)) x marked_rows [] (search (not_so, quiet_by, quiet_if, other_keys_quiet, scp_quiet, style_quiet)) (λ e. refl)
 
 -- ? h
 
@@ -199,18 +189,16 @@ pair_quiet None p end = refl
 pair_quiet (Some i) p end = set_or_ask_quiet (color_of_text p) _ i end p
 
 pairs_quiet : (ps : List (List ℕ)) (end : List ℕ) → Quiet (pairs_calls ps end)
-pairs_quiet [] end = refl
-pairs_quiet (i ∷ []) end = refl
 pairs_quiet (i ∷ p ∷ ps) end = quiet-append (pair_calls (byte_number i) p end) (pairs_calls ps end)
     (pair_quiet (byte_number i) p end) (pairs_quiet ps end)
+pairs_quiet ps end = refl
 
 palette_quiet : (ps : List (List ℕ)) (end : List ℕ) → Quiet (palette_calls ps end)
 palette_quiet ps end = quiet_if (length ps % 2 == 0) _ _ (pairs_quiet ps end) refl
 
 link_quiet : (ps : List (List ℕ)) → Quiet (link_calls ps)
-link_quiet [] = refl
-link_quiet (p ∷ []) = refl
 link_quiet (p ∷ u ∷ us) = refl
+link_quiet ps = refl
 
 dynamic_quiet : (n : ℕ) (ps : List (List ℕ)) (end : List ℕ) → Quiet (dynamic_calls n ps end)
 dynamic_quiet n [] end = refl
@@ -220,10 +208,9 @@ dynamic_quiet n (p ∷ ps) end =
     (set_or_ask_quiet (color_of_text p) (two_digits n) (246 + n) end p) (dynamic_quiet (n + 1) ps end))
 
 icon_quiet : (ps : List (List ℕ)) → Quiet (icon_calls ps)
-icon_quiet [] = refl
 icon_quiet (p ∷ []) = quiet_map set_mouse_cursor_icon
     (option_to_list (find (λ icon. bytes_eq (name_of icon) p) all_icons)) (λ i. refl)
-icon_quiet (p ∷ q ∷ ps) = refl
+icon_quiet ps = refl
 
 shape_quiet : (bs : List ℕ) → Quiet (shape_calls bs)
 shape_quiet [] = refl
@@ -234,18 +221,13 @@ cursor_quiet [] = refl
 cursor_quiet (p ∷ ps) = quiet_if (starts_with nat_eq p (codes "CursorShape=")) _ _ (shape_quiet (drop 12 p)) refl
 
 clipboard_quiet : (ps : List (List ℕ)) (end : List ℕ) → Quiet (clipboard_calls ps end)
-clipboard_quiet [] end = refl
-clipboard_quiet (s ∷ []) end = refl
 clipboard_quiet (s ∷ d ∷ ps) end = quiet_if (bytes_eq d (codes "?")) _ _ refl refl
-
-all_quiet : Quiet all_resets
-all_quiet = quiet_map reset_color (range_with_len 0 256) (λ i. refl)
+clipboard_quiet ps end = refl
 
 reset_quiet : (ps : List (List ℕ)) → Quiet (reset_calls ps)
-reset_quiet [] = all_quiet
-reset_quiet ([] ∷ ps) = all_quiet
 reset_quiet ((b ∷ bs) ∷ ps) = quiet_flat_map index_resets ((b ∷ bs)
     ∷ ps) (λ p. quiet_map reset_color (option_to_list (byte_number p)) (λ i. refl))
+reset_quiet _ = quiet_map reset_color (range_with_len 0 256) (λ i. refl)
 
 osc_quiet : (ps : List (List ℕ)) (bell : Bool) → Quiet (osc_calls ps bell)
 osc_quiet [] bell = refl
@@ -271,16 +253,12 @@ other_sequence last gs x f h = elim (cases_Bool (nat_eq x 63)) [
   | inr e ↦ marked_quiet x f gs e
 ]
 
-both_true : (a b : Bool) → (a && b) ≡ true → (a ≡ true) × (b ≡ true)
-both_true true b h = (refl, h)
-both_true false b h = absurd (let no : false ≡ true = h in cc)
-
 sequence_opens : (last : Option ℕ) (gs : List (List ℕ)) (ms : List ℕ) (f : ℕ)
     → list_any is_opening (csi_calls last gs ms f) ≡ list_any opens_group (opening_groups gs ms f)
 sequence_opens last gs [] f = quiet_if (nat_eq f 99) _ _ (identify_quiet gs []) (plain_quiet last gs f)
 sequence_opens last gs (x ∷ []) f = elim (cases_Bool (nat_eq x 63 && nat_eq f 104)) [
   | inl e ↦
-      let both = both_true (nat_eq x 63) (nat_eq f 104) e in
+      let both = and_parts (nat_eq x 63) (nat_eq f 104) e in
       subst (λ (y : ℕ). list_any is_opening (csi_calls last gs (y ∷ []) f)
       ≡ list_any opens_group (opening_groups gs (y ∷ []) f)) (sym (eqb-true x 63 both.0))
       (subst (λ (g : ℕ). list_any is_opening (csi_calls last gs (63 ∷ []) g)
@@ -292,15 +270,11 @@ sequence_opens last gs (x ∷ y ∷ []) f = quiet_if (nat_eq f 99) _ _ (identify
 sequence_opens last gs (x ∷ y ∷ z ∷ ms) f = quiet_if (nat_eq f 99) _ _ (identify_quiet gs (x ∷ y ∷ z ∷ ms)) refl
 
 pub opens_as_called : (last : Option ℕ) (e : Event) → list_any is_opening (calls_of last e) ≡ opens e
-opens_as_called last (Print x) = refl
-opens_as_called last (Execute b) = execute_quiet b
-opens_as_called last (Csi gs ms true f) = refl
+opens_as_called last (Execute b) = quiet_at b execute_rows search
 opens_as_called last (Csi gs ms false f) = sequence_opens last gs ms f
 opens_as_called last (Esc ms ignore b) = escape_quiet ms b
 opens_as_called last (Osc ps bell) = osc_quiet ps bell
-opens_as_called last (Hook gs ms ignore f) = refl
-opens_as_called last (Put b) = refl
-opens_as_called last Unhook = refl
+opens_as_called last e = refl
 
 pub opens_as_all_called : (last : Option ℕ) (es : List Event)
     → list_any is_opening (calls_of_all last es) ≡ list_any opens es
@@ -336,7 +310,7 @@ question_start : (gs : List (List ℕ)) (x f : ℕ) → list_any opens_group (op
     → IsStart (Csi gs (x ∷ []) false f)
 question_start gs x f h = elim (cases_Bool (nat_eq x 63 && nat_eq f 104)) [
   | inl e ↦
-      let both = both_true (nat_eq x 63) (nat_eq f 104) e in
+      let both = and_parts (nat_eq x 63) (nat_eq f 104) e in
       let s = has_start gs (rw e at h) in
       let xs : x ≡ 63 = eqb-true x 63 both.0 in
       let fs : f ≡ 104 = eqb-true f 104 both.1 in
@@ -350,10 +324,6 @@ starts : (e : Event) → opens e ≡ true → IsStart e
 starts (Csi gs ms true f) h = never_so (Csi gs ms true f) h
 starts (Csi gs (x ∷ []) false f) h = question_start gs x f h
 starts e h = never_so e h
-
-or-true : (a : Bool) → (a || true) ≡ true
-or-true true = refl
-or-true false = refl
 
 start_opens : (e : Event) → IsStart e → opens e ≡ true
 start_opens e s = rw (s.is) (list_any-append opens_group s.before ((2026 ∷ s.more) ∷ s.after)

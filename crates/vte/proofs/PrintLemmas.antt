@@ -1,7 +1,8 @@
 -- Printed text, handed to a handler, with the last character stored once, after it.
-use Rattle.std.proofs.Common.{◌≡◌, ◌∙◌, sym, ap, refl, ℕ, Bool, true, false, List, [], ◌∷◌, ◌++◌, Option, Some, ◌||◌}
-use Rattle.std.proofs.Common.{map, take, length, ◌≤◌, arith, subst}
-use Rattle.std.proofs.lemmas.Grind.{common_steps}
+use Rattle.std.proofs.Common.{◌≡◌, ◌∙◌, sym, ap, refl, ℕ, List, [], ◌∷◌, ◌++◌, Option, Some}
+use Rattle.std.proofs.Common.{map, subst}
+use Rattle.std.proofs.Math.Bool.{or-false}
+use Rattle.std.proofs.lemmas.List.{map-append}
 use Rattle.vte_core.specs.Event.{Event, Print, Performs}
 use Rattle.vte_types.specs.Call.{Call, Calls, input}
 use Rattle.vte.specs.Timeout.{Ticking}
@@ -23,10 +24,6 @@ printed p h last = record p {
   state = record p.state { now = record p.state.now { preceding_char = last } };
 }
 
-still : (b : Bool) → b ≡ (b || false)
-still true = refl
-still false = refl
-
 -- a handler that was told characters, with the last of them: as events
 pub printed-all : {H T : Type 0} (step : H → Call → H → Type 0) (ticking : Ticking T)
     (p : Performer H T) (cs : List ℕ) (h : H) (last : Option ℕ) → Calls step p.handler.now (map input cs) h
@@ -37,22 +34,18 @@ printed-all step ticking p [] h last calls is =
 printed-all step ticking p (c ∷ cs) h last calls is = (
   printed p calls.0 (Some c),
   (
-    record { calls = λ fits. (calls.0, calls.1, refl); printed = refl; ticked = refl; ends = still p.terminated },
+    record { calls = λ fits. (calls.0, calls.1, refl); printed = refl; ticked = refl; ends = sym (or-false p.terminated) },
     refl,
     refl,
   ),
   printed-all step ticking (printed p calls.0 (Some c)) cs h last calls.2 is,
 )
 
-map-last : (cs : List ℕ) (c : ℕ) → map input cs ++ input c ∷ [] ≡ map input (cs ++ c ∷ [])
-map-last [] c = refl
-map-last (x ∷ cs) c = ap (λ (xs : List Call). input x ∷ xs) (map-last cs c)
-
 -- one more character, told
 pub input-more : {H : Type 0} (step : H → Call → H → Type 0) (s m t : H) (cs : List ℕ) (c : ℕ) (ds : List ℕ)
     → ds ≡ cs ++ c ∷ [] → Calls step s (map input cs) m → step m (input c) t → Calls step s (map input ds) t
 input-more step s m t cs c ds is before told =
-    subst (λ (xs : List Call). Calls step s xs t) (map-last cs c ∙ ap (map input) (sym is))
+    subst (λ (xs : List Call). Calls step s xs t) (sym (map-append input cs (c ∷ [])) ∙ ap (map input) (sym is))
     (Calls-append step s m t (map input cs) (input c ∷ []) before (t, told, refl))
 
 last-more : (before : Option ℕ) (cs : List ℕ) (c : ℕ) → Some c ≡ last_after_all before (map Print (cs ++ c ∷ []))
@@ -63,6 +56,3 @@ last-more before (x ∷ cs) c = last-more (Some x) cs c
 pub last-is : (before : Option ℕ) (cs : List ℕ) (c : ℕ) (ds : List ℕ) → ds ≡ cs ++ c ∷ []
     → Some c ≡ last_after_all before (map Print ds)
 last-is before cs c ds is = last-more before cs c ∙ ap (λ xs. last_after_all before (map Print xs)) (sym is)
-
-pub all_taken : (xs : List ℕ) (i : ℕ) → length xs ≤ i → take i xs ≡ xs
-all_taken xs i h = grind (arith, common_steps)

@@ -1,20 +1,18 @@
 -- Runs of a performer, step by step.
-use Rattle.std.proofs.Common.{◌≡◌, ℕ, Bool, true, false, List, [], ◌∷◌, ◌++◌, Option, ◌||◌, refl, ap, sym, ◌∙◌, subst}
+use Rattle.std.proofs.Common.{◌≡◌, ℕ, Bool, List, [], ◌∷◌, ◌++◌, Option, ◌||◌, refl, ap, sym, ◌∙◌, subst}
 use Rattle.std.specs.List.{All, list_any}
 use Rattle.std.proofs.lemmas.Bool.{cases_Bool}
+use Rattle.std.proofs.Math.Bool.{or-false, or_assoc}
 use Rattle.std.proofs.Common.{inl, inr}
 use Rattle.std.proofs.lemmas.List.Elements.{All-head, All-tail}
 use Rattle.vte_core.specs.Event.{Event, Performs}
 use Rattle.vte_core.specs.Laws.{Fits}
-use Rattle.vte_core.specs.Shapes.{events}
-use Rattle.vte_core.proofs.AddedLemmas.{added-is}
 use Rattle.vte_types.specs.Call.{Call, Calls}
 use Rattle.vte.specs.Csi.{opens_group}
 use Rattle.vte.specs.Table.{calls_of, last_after, openers, opens}
 use Rattle.vte.specs.Timeout.{Ticking, Tick, Sets, Clears, Ticked, sets_of}
 use Rattle.vte.specs.declared.performer.ProcessorState.{ProcessorState}
 use Rattle.vte.specs.Performed.{Performed, PerformedAll, last_after_all, calls_of_all, openers_of_all}
-use Rattle.vte.specs.Stretch.{added}
 
 pub Calls-append : {S : Type 0} (step : S → Call → S → Type 0) (s m t : S) (a b : List Call) → Calls step s a m
     → Calls step m b t → Calls step s (a ++ b) t
@@ -34,21 +32,9 @@ sets_of-append (g ∷ a) b = elim (cases_Bool (opens_group g)) [
   | inr e ↦ rw e (sets_of-append a b)
 ]
 
-or-false : (b : Bool) → (b || false) ≡ b
-or-false true = refl
-or-false false = refl
-
-pub or-assoc : (a b c : Bool) → ((a || b) || c) ≡ (a || (b || c))
-or-assoc true b c = refl
-or-assoc false b c = refl
-
 or-any : (b : Bool) (e : Event) (es : List Event)
     → (b || list_any opens (e ∷ es)) ≡ ((b || opens e) || list_any opens es)
-or-any b e es = sym (or-assoc b (opens e) (list_any opens es))
-
-pub any-append : {X : Type 0} (p : X → Bool) (a b : List X) → list_any p (a ++ b) ≡ (list_any p a || list_any p b)
-any-append p [] b = refl
-any-append p (x ∷ a) b = ap (λ v. p x || v) (any-append p a b) ∙ sym (or-assoc (p x) (list_any p a) (list_any p b))
+or-any b e es = sym (or_assoc b (opens e) (list_any opens es))
 
 -- what each step does, a run does
 pub performs_all : {P H T : Type 0} (step : H → Call → H → Type 0) (ticking : Ticking T)
@@ -68,8 +54,7 @@ performs_all step ticking h s ended steps each p (e ∷ es) q fits g =
     let one = each p e g.0 g.1 in
     let more = performs_all step ticking h s ended steps each g.0 es q (All-tail (Fits 1024) e es fits) g.2 in
     let last = (s p).preceding_char in
-    let calls : Calls step (h g.0) (calls_of_all (last_after last e) es) (h q) =
-    subst (λ (l : Option ℕ). Calls step (h g.0) (calls_of_all l es) (h q)) one.printed more.calls in
+    let calls = subst (λ (l : Option ℕ). Calls step (h g.0) (calls_of_all l es) (h q)) one.printed more.calls in
     record {
       calls = Calls-append step (h p) (h g.0) (h q) (calls_of last e) (calls_of_all (last_after last e) es)
           (one.calls (All-head (Fits 1024) e es fits)) calls;
@@ -87,8 +72,3 @@ pub keeps_all : {P N : Type 0} (f : P → N) (steps : P → Event → P → Type
     → (p : P) (es : List Event) (q : P) → Performs steps p es q → f q ≡ f p
 keeps_all f steps each p [] q g = ap f g
 keeps_all f steps each p (e ∷ es) q g = keeps_all f steps each g.0 es q g.2 ∙ each p e g.0 g.1
-
--- events that bytes add to a stream are those that they add after its past
-pub told_is : (past bs : List ℕ) (es : List Event) → events 1024 (past ++ bs) ≡ events 1024 past ++ es
-    → es ≡ added past bs
-told_is past bs es h = added-is 1024 past bs es h

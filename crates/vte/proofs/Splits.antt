@@ -21,10 +21,6 @@ split_nowhere p (x ∷ xs) before =
     slice_split-cons_no p x xs (before 0 (omega arith))
     ∙ ap (onto_first x) (split_nowhere p xs (λ k low. before (suc k) (omega arith)))
 
-pub not_true : (b : Bool) → (b ≡ true → ⊥) → b ≡ false
-not_true true h = absurd (h refl)
-not_true false h = refl
-
 -- there is a first part
 pub some_part : (p : ℕ → Bool) (xs : List ℕ) → (y : List ℕ) × (ys : List (List ℕ)) × (slice_split p xs ≡ y ∷ ys)
 some_part p [] = ([], [], refl)

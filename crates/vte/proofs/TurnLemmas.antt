@@ -1,68 +1,49 @@
 -- One turn of the processor, over plain variables.
 use Rattle.std.proofs.Common.{◌≡◌, ℕ, Bool, true, false, List, [], ◌++◌, ◌<◌, Option, None, Some, MatchOption, refl}
-use Rattle.std.proofs.Common.{sym, subst, take, drop, length, append_assoc}
+use Rattle.std.proofs.Common.{take, drop, length, append_assoc}
 use Rattle.vte_types.specs.Call.{Call}
 use Rattle.vte.specs.Timeout.{Ticking}
 use Rattle.vte.specs.declared.processor.Processor.{Processor}
 use Rattle.vte.specs.Stretch.{calls_from}
 use Rattle.vte.specs.Hold.{limit, closing, held_of}
-use Rattle.vte.specs.Advances.{Plainly, IsEmptied, Advances, parses, begins, settles, empties}
+use Rattle.vte.specs.Advances.{Plainly, IsEmptied, parses, begins, settles, empties}
 use Rattle.vte.specs.Standing.{timeout_of, StandsAt, Advanced, Emptied, Held, Begun, Unopened, GoesOn}
 use Rattle.vte.proofs.RunLemmas.{Calls-append}
 
-module _ {T A H : Type 0} (ticking : Ticking T) (step : H → Call → H → Type 0) where
+module _ {T A H : Type 0} {ticking : Ticking T} {step : H → Call → H → Type 0} where
   -- nothing was opened
-  pub unopened_advances : (closed : Bool) (old : Processor T A) (parsed piece : List ℕ) (h : H) (new : Processor T A)
-      (h' : H)
+  unopened : {closed : Bool} {old : Processor T A} {parsed piece : List ℕ} {h : H} {new : Processor T A} {h' : H}
       → Plainly ticking closed (timeout_of old) → Unopened ticking step old parsed [] piece h new h'
       → Advanced ticking step closed old parsed [] piece h new h'
-  unopened_advances closed old parsed piece h new h' plain u = record {
+  unopened {closed} {old} {parsed} {piece} plain u = record {
     parsed' = parsed ++ piece;
     held' = [];
     calls = calls_from parsed piece;
-    advances = subst (λ (t : T). Advances ticking closed (timeout_of old) parsed [] piece t (parsed
-        ++ piece) [] (calls_from parsed piece)) (sym u.same)
-        (parses closed (timeout_of old) parsed piece plain u.none);
+    advances = rw (u.same) (parses closed (timeout_of old) parsed piece plain u.none);
     stands = u.stands;
     goes = u.goes;
   }
 
   -- an update was opened in the piece: it goes on from there
-  pub begun_goes_on : (old : Processor T A) (parsed piece : List ℕ) (n : ℕ) (h : H) (new : Processor T A) (h' : H)
+  begun : {old : Processor T A} {parsed piece : List ℕ} {n : ℕ} {h : H} {new : Processor T A} {h' : H}
       → ticking.answers (timeout_of old) false → Begun ticking step old parsed [] piece n h new h'
       → GoesOn ticking step old parsed [] piece (drop n piece) h new h'
-  begun_goes_on old parsed piece n h new h' plain b = record {
+  begun {old} {parsed} {piece} {n} {new = new} plain b = record {
     parsed' = parsed ++ take n piece;
     held' = [];
     calls = calls_from parsed (take n piece);
     stands = b.parsed_so.stands;
     goes = b.parsed_so.goes;
-    further = λ t q k cs a. begins false (timeout_of old) parsed piece n (timeout_of new) t q k cs plain b.opens
-        b.parsed_so.ticked a;
+    further = λ t q k cs. begins false (timeout_of old) parsed piece n (timeout_of new) t q k cs plain b.opens
+        b.parsed_so.ticked;
   }
 
-  -- a turn with nothing held
-  pub plain_turn : (r : Option ℕ) (old : Processor T A) (parsed held piece : List ℕ) (h : H) (new : Processor T A)
-      (h' : H) → held ≡ [] → ticking.answers (timeout_of old) false
-      → MatchOption r (Unopened ticking step old parsed held piece h new h')
-      (λ n. Begun ticking step old parsed held piece n h new h')
-      → MatchOption r (Advanced ticking step false old parsed held piece h new h')
-      (λ n. GoesOn ticking step old parsed held piece (drop n piece) h new h')
-  plain_turn None old parsed held piece h new h' none plain m =
-      subst (λ (k : List ℕ). Advanced ticking step false old parsed k piece h new h') (sym none)
-      (unopened_advances false old parsed piece h new h' plain
-      (subst (λ (k : List ℕ). Unopened ticking step old parsed k piece h new h') none m))
-  plain_turn (Some n) old parsed held piece h new h' none plain m =
-      subst (λ (k : List ℕ). GoesOn ticking step old parsed k piece (drop n piece) h new h') (sym none)
-      (begun_goes_on old parsed piece n h new h' plain
-      (subst (λ (k : List ℕ). Begun ticking step old parsed k piece n h new h') none m))
-
   -- a piece for which there was room
-  pub held_advances : (old : Processor T A) (parsed held piece : List ℕ) (h : H) (new : Processor T A) (h' : H)
+  pub held_advances : {old : Processor T A} {parsed held piece : List ℕ} {h : H} {new : Processor T A} {h' : H}
       → ticking.answers (timeout_of old) true → length (held ++ piece) < limit
       → Held ticking step old parsed held piece h new h'
       → Advanced ticking step false old parsed held piece h new h'
-  held_advances old parsed held piece h new h' open_ fits k = record {
+  held_advances {old} {parsed} {held} {piece} {new = new} open_ fits k = record {
     parsed' = k.parsed';
     held' = held_of k.hold';
     calls = k.calls;
@@ -72,77 +53,24 @@ module _ {T A H : Type 0} (ticking : Ticking T) (step : H → Call → H → Typ
     goes = k.goes;
   }
 
-  module _ (old mid : Processor T A) (parsed held piece : List ℕ) (h h1 : H) (is_open : Bool)
-      (asked : ticking.answers (timeout_of old) is_open) (must : IsEmptied is_open held piece)
-      (emptied : Emptied ticking step old parsed held h mid h1) (new : Processor T A) (h' : H) where
-    unopened_after : Unopened ticking step mid (parsed ++ held) [] piece h1 new h'
-        → Advanced ticking step false old parsed held piece h new h'
-    unopened_after u =
-        let a = unopened_advances true mid (parsed ++ held) piece h1 new h' tt u in
-        record {
-          parsed' = a.parsed';
-          held' = a.held';
-          calls = (calls_from parsed held ++ closing) ++ a.calls;
-          advances = empties (timeout_of old) parsed held piece is_open (timeout_of mid) (timeout_of new) a.parsed'
-              a.held' a.calls asked must emptied.ticked a.advances;
-          stands = a.stands;
-          goes = Calls-append step h h1 h' (calls_from parsed held ++ closing) a.calls emptied.goes a.goes;
-        }
-
-    begun_after : (n : ℕ) → Begun ticking step mid (parsed ++ held) [] piece n h1 new h'
-        → GoesOn ticking step old parsed held piece (drop n piece) h new h'
-    begun_after n b =
-        let calls = calls_from (parsed ++ held) (take n piece) in
-        record {
-          parsed' = (parsed ++ held) ++ take n piece;
-          held' = [];
-          calls = (calls_from parsed held ++ closing) ++ calls;
-          stands = b.parsed_so.stands;
-          goes = Calls-append step h h1 h' (calls_from parsed held ++ closing) calls emptied.goes b.parsed_so.goes;
-          further = λ t q k cs a.
-              subst (λ (ks : List Call). Advances ticking false (timeout_of old) parsed held piece t q k
-              ks) (sym (append_assoc (calls_from parsed held ++ closing) calls cs))
-              (empties (timeout_of old) parsed held piece is_open (timeout_of mid) t q k (calls
-              ++ cs) asked must emptied.ticked
-              (begins true (timeout_of mid) (parsed
-              ++ held) piece n (timeout_of new) t q k cs tt b.opens b.parsed_so.ticked a));
-        }
-
-    -- a turn before which the hold was emptied
-    pub turn_after : (r : Option ℕ) → MatchOption r (Unopened ticking step mid (parsed ++ held) [] piece h1 new h')
-        (λ n. Begun ticking step mid (parsed ++ held) [] piece n h1 new h')
-        → MatchOption r (Advanced ticking step false old parsed held piece h new h')
-        (λ n. GoesOn ticking step old parsed held piece (drop n piece) h new h')
-    turn_after None m = unopened_after m
-    turn_after (Some n) m = begun_after n m
-
   -- nothing of a piece was taken yet
-  pub goes_on_at_start : (p : Processor T A) (parsed held piece : List ℕ) (h : H) → StandsAt p parsed held
+  pub goes_on_at_start : {p : Processor T A} {parsed held piece : List ℕ} {h : H} → StandsAt p parsed held
       → GoesOn ticking step p parsed held piece piece h p h
-  goes_on_at_start p parsed held piece h s = record {
-    parsed' = parsed;
-    held' = held;
-    calls = [];
-    stands = s;
-    goes = refl;
-    further = λ t q k cs a. a;
-  }
+  goes_on_at_start {parsed = parsed} {held} s =
+      record { parsed' = parsed; held' = held; calls = []; stands = s; goes = refl; further = λ t q k cs a. a }
 
-  module _ (old : Processor T A) (parsed held piece rest : List ℕ) (h : H) (mid : Processor T A) (h1 : H)
-      (so_far : GoesOn ticking step old parsed held piece rest h mid h1)
-      (new : Processor T A) (h' : H) where
+  module _ {old mid new : Processor T A} {parsed held piece rest : List ℕ} {h h1 h' : H}
+      (so_far : GoesOn ticking step old parsed held piece rest h mid h1) where
     -- one turn more
-    pub goes_on_more : (rest2 : List ℕ) → GoesOn ticking step mid so_far.parsed' so_far.held' rest rest2 h1
-        new h' → GoesOn ticking step old parsed held piece rest2 h new h'
-    goes_on_more rest2 a = record {
+    pub goes_on_more : {left : List ℕ} → GoesOn ticking step mid so_far.parsed' so_far.held' rest left h1 new h'
+        → GoesOn ticking step old parsed held piece left h new h'
+    goes_on_more a = record {
       parsed' = a.parsed';
       held' = a.held';
       calls = so_far.calls ++ a.calls;
       stands = a.stands;
       goes = Calls-append step h h1 h' so_far.calls a.calls so_far.goes a.goes;
-      further = λ t q k cs f.
-          subst (λ (ks : List Call). Advances ticking false (timeout_of old) parsed held piece t q k ks)
-          (sym (append_assoc so_far.calls a.calls cs))
+      further = λ t q k cs f. rw (append_assoc so_far.calls a.calls cs)
           (so_far.further t q k (a.calls ++ cs) (a.further t q k cs f));
     }
 
@@ -157,3 +85,48 @@ module _ {T A H : Type 0} (ticking : Ticking T) (step : H → Call → H → Typ
       stands = a.stands;
       goes = Calls-append step h h1 h' so_far.calls a.calls so_far.goes a.goes;
     }
+
+module _ {T A H : Type 0} (ticking : Ticking T) (step : H → Call → H → Type 0) where
+  -- a turn with nothing held
+  pub plain_turn : (r : Option ℕ) (old : Processor T A) (parsed held piece : List ℕ) (h : H) (new : Processor T A)
+      (h' : H) → held ≡ [] → ticking.answers (timeout_of old) false
+      → MatchOption r (Unopened ticking step old parsed held piece h new h')
+      (λ n. Begun ticking step old parsed held piece n h new h')
+      → MatchOption r (Advanced ticking step false old parsed held piece h new h')
+      (λ n. GoesOn ticking step old parsed held piece (drop n piece) h new h')
+  plain_turn None old parsed held piece h new h' none plain m = rw none (unopened plain (rw none at m))
+  plain_turn (Some n) old parsed held piece h new h' none plain m = rw none (begun plain (rw none at m))
+
+  -- a turn before which the hold was emptied
+  pub turn_after : (old mid : Processor T A) (parsed held piece : List ℕ) (h h1 : H) (is_open : Bool)
+      → ticking.answers (timeout_of old) is_open → IsEmptied is_open held piece
+      → Emptied ticking step old parsed held h mid h1 → (new : Processor T A) (h' : H) (r : Option ℕ)
+      → MatchOption r (Unopened ticking step mid (parsed ++ held) [] piece h1 new h')
+      (λ n. Begun ticking step mid (parsed ++ held) [] piece n h1 new h')
+      → MatchOption r (Advanced ticking step false old parsed held piece h new h')
+      (λ n. GoesOn ticking step old parsed held piece (drop n piece) h new h')
+  turn_after old mid parsed held piece h h1 is_open asked must emptied new h' None u =
+      let a : Advanced ticking step true mid (parsed ++ held) [] piece h1 new h' = unopened tt u in
+      record {
+        parsed' = a.parsed';
+        held' = a.held';
+        calls = (calls_from parsed held ++ closing) ++ a.calls;
+        advances = empties (timeout_of old) parsed held piece is_open (timeout_of mid) (timeout_of new) a.parsed'
+            a.held' a.calls asked must emptied.ticked a.advances;
+        stands = a.stands;
+        goes = Calls-append step h h1 h' (calls_from parsed held ++ closing) a.calls emptied.goes a.goes;
+      }
+  turn_after old mid parsed held piece h h1 is_open asked must emptied new h' (Some n) b =
+      let calls = calls_from (parsed ++ held) (take n piece) in
+      record {
+        parsed' = (parsed ++ held) ++ take n piece;
+        held' = [];
+        calls = (calls_from parsed held ++ closing) ++ calls;
+        stands = b.parsed_so.stands;
+        goes = Calls-append step h h1 h' (calls_from parsed held ++ closing) calls emptied.goes b.parsed_so.goes;
+        further = λ t q k cs a. rw (append_assoc (calls_from parsed held ++ closing) calls cs)
+            (empties (timeout_of old) parsed held piece is_open (timeout_of mid) t q k (calls
+            ++ cs) asked must emptied.ticked
+            (begins true (timeout_of mid) (parsed
+            ++ held) piece n (timeout_of new) t q k cs tt b.opens b.parsed_so.ticked a));
+      }

@@ -37,8 +37,6 @@ returns-in_err-number c =
     let number = c.loop-digit.number in
     let digit = c.in-Some.digit.now in
     let after = c.in-Some.after.now in
-    let none : byte_from number (digit ∷ after) ≡ None =
-    refused number digit after (none_if _ _ c.in_err-number.ensures) in
-    let all : byte_from 0 c.args.digits.now ≡ None =
-    sym c.loop-digit.invariant.same ∙ (ap (byte_from number) c.in-Some.ensures.cases.0 ∙ none) in
+    let none = refused number digit after (none_if _ _ c.in_err-number.ensures) in
+    let all = sym c.loop-digit.invariant.same ∙ (ap (byte_from number) c.in-Some.ensures.cases.0 ∙ none) in
     c.from_residual.ensures ∙ sym (number_none c.args.digits.now all)

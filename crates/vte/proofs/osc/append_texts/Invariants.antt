@@ -9,6 +9,3 @@ invariant-loop-piece l =
     length (l.initial.text.bytes ++ flat_map (λ p. 59 ∷ p) (filter is_utf8 l.initial.pieces)) ≤ 1040
     → l.text.bytes ++ flat_map (λ p. 59 ∷ p) (filter is_utf8 l.pieces)
     ≡ l.initial.text.bytes ++ flat_map (λ p. 59 ∷ p) (filter is_utf8 l.initial.pieces)
-
-abbrev pub decreases-loop-piece : goal.decreases-loop-piece
-decreases-loop-piece l = length l.pieces

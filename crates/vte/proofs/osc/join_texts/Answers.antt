@@ -12,8 +12,7 @@ returns-in-Some-text_of c empty fits =
     let text = some_text piece c.in-Some-text_of.first.now c.in-Some-text_of.ensures in
     let cut : filter is_utf8 c.args.pieces ≡ piece ∷ rest =
     sym c.loop-piece.invariant.texts ∙ (ap (filter is_utf8) c.in-Some.ensures.steps ∙ rw text.0 refl) in
-    let whole : join_with_byte 59 (filter is_utf8 c.args.pieces) ≡ piece ++ more =
-    ap (join_with_byte 59) cut ∙ join-cons piece rest in
+    let whole = ap (join_with_byte 59) cut ∙ join-cons piece rest in
     let room : length (piece ++ more) ≤ 1040 = rw whole at fits in
     let begun = c.begin.ensures (ap (λ t. t.bytes) c.loop-piece.invariant.text
     ∙ empty) (omega (arith, room, length-append piece more, ap length text.1)) ∙ text.1 in

@@ -1,4 +1,4 @@
-use Rattle.std.proofs.Common.{◌≡◌, filter, length}
+use Rattle.std.proofs.Common.{◌≡◌, filter}
 use Rattle.std.specs.Str.{is_utf8}
 use Rattle.vte.proofs.osc.join_texts.Given as goal
 
@@ -8,6 +8,3 @@ invariant-loop-piece l = record {
   texts : filter is_utf8 l.pieces ≡ filter is_utf8 l.initial.pieces;
   text : l.text ≡ l.initial.text;
 }
-
-abbrev pub decreases-loop-piece : goal.decreases-loop-piece
-decreases-loop-piece l = length l.pieces

@@ -1,4 +1,3 @@
-use Rattle.std.proofs.Common.{length}
 use Rattle.std.specs.List.{flat_map}
 use Rattle.vte_types.specs.Call.{Calls}
 use Rattle.vte.specs.Osc.{index_resets}
@@ -9,6 +8,3 @@ abbrev pub invariant-loop-piece : goal.invariant-loop-piece
 invariant-loop-piece g l =
     (end : _) → Calls g.H.Handler.step l.handler (flat_map index_resets l.pieces) end
     → Calls g.H.Handler.step l.initial.handler (flat_map index_resets l.initial.pieces) end
-
-abbrev pub decreases-loop-piece : goal.decreases-loop-piece
-decreases-loop-piece g l = length l.pieces

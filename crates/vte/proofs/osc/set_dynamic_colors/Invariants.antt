@@ -1,4 +1,4 @@
-use Rattle.std.proofs.Common.{◌≤◌, length}
+use Rattle.std.proofs.Common.{◌≤◌}
 use Rattle.vte_types.specs.Call.{Calls}
 use Rattle.vte.specs.Osc.{dynamic_calls}
 use Rattle.vte.proofs.osc.set_dynamic_colors.Given as goal
@@ -10,6 +10,3 @@ invariant-loop-color g l = record {
   calls : (end : _) → Calls g.H.Handler.step l.handler (dynamic_calls l.number l.pieces l.terminator) end
       → Calls g.H.Handler.step l.initial.handler (dynamic_calls l.initial.number l.initial.pieces l.terminator) end;
 }
-
-abbrev pub decreases-loop-color : goal.decreases-loop-color
-decreases-loop-color g l = length l.pieces

@@ -1,4 +1,4 @@
-use Rattle.std.proofs.Common.{◌≡◌, ◌∙◌, ◌∷◌, [], sym, List, ℕ, Some, None, length, map, option_map, ◌==◌, true, false}
+use Rattle.std.proofs.Common.{◌≡◌, ◌∙◌, ◌∷◌, [], ap, sym, List, ℕ, Some, None, length, map, option_map, ◌==◌, true, false}
 use Rattle.std.proofs.Common.{refl}
 use Rattle.std.specs.List.{join_with_byte}
 use Rattle.vte_types.specs.Call as call
@@ -7,14 +7,12 @@ use Rattle.vte.specs.Osc.{link_calls, link_to, link_id, text_or_empty, AreKept}
 use Rattle.vte.proofs.Joins.{texts_fit, kept_after}
 use Rattle.vte.proofs.osc.set_hyperlink.Goals as goal
 
-one_call : (ps : List (List ℕ)) (p : List ℕ) (rest : List (List ℕ)) (u : List ℕ) (us : List (List ℕ)) → ps ≡ p ∷ rest
-    → rest ≡ u ∷ us
+one_call : (ps : List (List ℕ)) (p u : List ℕ) (us : List (List ℕ)) → ps ≡ p ∷ u ∷ us
     → link_calls ps ≡ call.set_hyperlink (link_to p (join_with_byte 59 (map text_or_empty (u ∷ us)))) ∷ []
-one_call ps p rest u us e f = rw (e, f) refl
+one_call ps p u us e = rw e refl
 
-kept_rest : (ps : List (List ℕ)) (p : List ℕ) (rest : List (List ℕ)) (u : List ℕ) (us : List (List ℕ)) → ps ≡ p ∷ rest
-    → rest ≡ u ∷ us → AreKept ps → AreKept (u ∷ us)
-kept_rest ps p rest u us e f kept = let all : AreKept (p ∷ (u ∷ us)) = rw (e, f) at kept
+kept_rest : (ps : List (List ℕ)) (p u : List ℕ) (us : List (List ℕ)) → ps ≡ p ∷ u ∷ us → AreKept ps → AreKept (u ∷ us)
+kept_rest ps p u us e kept = let all : AreKept (p ∷ (u ∷ us)) = rw e at kept
     in kept_after p (u ∷ us) all.pieces all.bytes
 
 no_link : (p uri : List ℕ) → (length uri == 0) ≡ true → link_to p uri ≡ None
@@ -26,11 +24,10 @@ some_link p uri l e i u = rw (e, ← i, ← u) refl
 
 pub returns-then-is_empty : goal.returns-then-is_empty
 returns-then-is_empty g c kept =
-    let first = c.in-Some.ensures.steps in
-    let second = c.in-Some-next.ensures.steps in
-    let text = c.join_pieces.ensures c.new-uri.ensures (texts_fit _ (kept_rest _ _ _ _ _ first second kept)) in
+    let is = c.in-Some.ensures.steps ∙ ap (λ r. c.in-Some.params.now ∷ r) c.in-Some-next.ensures.steps in
+    let text = c.join_pieces.ensures c.new-uri.ensures (texts_fit _ (kept_rest _ _ _ _ is kept)) in
     let gone = rw (c.as_str-uri.ensures.value ∙ text) at (sym c.if-is_empty.ensures) in
-    rw (one_call _ _ _ _ _ first second, no_link c.in-Some.params.now _ gone) (
+    rw (one_call _ _ _ _ is, no_link c.in-Some.params.now _ gone) (
       c.set_hyperlink.new.self,
       c.set_hyperlink.ensures,
       refl,
@@ -38,11 +35,10 @@ returns-then-is_empty g c kept =
 
 pub returns : goal.returns
 returns g c kept =
-    let first = c.in-Some.ensures.steps in
-    let second = c.in-Some-next.ensures.steps in
-    let text = c.join_pieces.ensures c.new-uri.ensures (texts_fit _ (kept_rest _ _ _ _ _ first second kept)) in
+    let is = c.in-Some.ensures.steps ∙ ap (λ r. c.in-Some.params.now ∷ r) c.in-Some-next.ensures.steps in
+    let text = c.join_pieces.ensures c.new-uri.ensures (texts_fit _ (kept_rest _ _ _ _ is kept)) in
     let uri = c.as_str-uri.ensures.value ∙ text in
     let there = rw uri at (sym c.if-is_empty.ensures) in
     let link : Link = record { id = option_map (λ t. t.now) c.find_id.result; uri = c.as_str-uri.result.now } in
-    rw (one_call _ _ _ _ _ first second, some_link c.in-Some.params.now _ link there c.find_id.ensures uri)
+    rw (one_call _ _ _ _ is, some_link c.in-Some.params.now _ link there c.find_id.ensures uri)
     (c.set_hyperlink-2.new.self, c.set_hyperlink-2.ensures, refl)

@@ -9,8 +9,5 @@ loop-index-preserved-in-Some-parse_number g c end more =
 
 pub loop-index-preserved : goal.loop-index-preserved
 loop-index-preserved g c end more =
-    c.loop-index.invariant end (rw (
-      c.in-Some.ensures.steps,
-      c.in-Some-next.ensures.steps,
-      ← c.in_default-parse_number.ensures,
-    ) more)
+    c.loop-index.invariant end
+    (rw (c.in-Some.ensures.steps, c.in-Some-next.ensures.steps, ← c.in_default-parse_number.ensures) more)

@@ -1,7 +1,7 @@
-use Rattle.vte_core.proofs.AddedLemmas.{added-fits}
+use Rattle.vte_core.proofs.AddedLemmas.{added-fits, added-is}
 use Rattle.vte_core.proofs.Telling.{same_events}
 use Rattle.vte.specs.Stretch.{added}
-use Rattle.vte.proofs.RunLemmas.{performs_all, keeps_all, told_is}
+use Rattle.vte.proofs.RunLemmas.{performs_all, keeps_all}
 use Rattle.vte.proofs.parse.advance.Goals as goal
 
 pub returns-clause-same_handler : goal.returns-clause-same_handler
@@ -15,7 +15,7 @@ returns-clause-same_state g c = keeps_all (λ p. p.state.ghost_name) _ (λ p e q
 pub returns-clause-performed : goal.returns-clause-performed
 returns-clause-performed g c past stands =
     let told = c.advance.ensures.told in
-    let is = told_is past c.args.bytes.now told.told (told.added past stands) in
+    let is = added-is 1024 past c.args.bytes.now told.told (told.added past stands) in
     performs_all g.H.Handler.step g.T.Timeout.ticking (λ p. p.handler.now) (λ p. p.state.now)
     (λ p. p.terminated) _ (λ p e q s. s.0) _
     (added past c.args.bytes.now) _ (added-fits 1024 past c.args.bytes.now)

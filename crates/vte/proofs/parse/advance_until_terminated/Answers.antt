@@ -1,8 +1,8 @@
 use Rattle.std.proofs.Common.{◌≡◌, ◌∙◌, ◌<◌, ap, sym, [], ℕ, take, true, false, refl, arith}
-use Rattle.vte_core.proofs.AddedLemmas.{added-fits}
+use Rattle.vte_core.proofs.AddedLemmas.{added-fits, added-is}
 use Rattle.vte_core.proofs.Telling.{same_events}
 use Rattle.vte.specs.Stretch.{added}
-use Rattle.vte.proofs.RunLemmas.{performs_all, keeps_all, told_is}
+use Rattle.vte.proofs.RunLemmas.{performs_all, keeps_all}
 use Rattle.vte.proofs.parse.advance_until_terminated.Goals as goal
 
 pub returns-clause-same_handler : goal.returns-clause-same_handler
@@ -17,7 +17,7 @@ pub returns-clause-performed : goal.returns-clause-performed
 returns-clause-performed g c past stands =
     let told = c.advance_until_terminated.ensures.told in
     let bytes = take c.advance_until_terminated.result c.args.bytes.now in
-    let is = told_is past bytes told.told (told.added past stands) in
+    let is = added-is 1024 past bytes told.told (told.added past stands) in
     performs_all g.H.Handler.step g.T.Timeout.ticking (λ p. p.handler.now) (λ p. p.state.now)
     (λ p. p.terminated) _ (λ p e q s. s.0) _
     (added past bytes) _ (added-fits 1024 past bytes) (same_events _ _ _ told.told (added past bytes) is told.performed)

@@ -1,12 +1,12 @@
 use Rattle.std.proofs.Common.{◌≡◌, ◌∙◌, sym, ap, subst, List, ℕ, map, map-id, refl, take, get_or, ◌+◌}
-use Rattle.std.proofs.lemmas.List.{take_more}
+use Rattle.std.proofs.lemmas.List.{take_more, take_all}
 use Rattle.std.proofs.lemmas.Str.{chars-IsAscii}
 use Rattle.std.proofs.lemmas.Iterator.{YieldsList-from_chars}
 use Rattle.std.proofs.lemmas.Iterator.Consumers.{YieldsList-end}
 use Rattle.vte_core.specs.Event.{Print}
 use Rattle.vte_types.specs.Call.{Calls, input}
 use Rattle.vte.specs.Performed.{last_after_all}
-use Rattle.vte.proofs.PrintLemmas.{input-more, last-is, all_taken}
+use Rattle.vte.proofs.PrintLemmas.{input-more, last-is}
 use Rattle.vte.proofs.performer.input_all.Goals as goal
 
 pub loop-c-preserved : goal.loop-c-preserved
@@ -44,7 +44,7 @@ returns-clause-last g c =
 pub returns-then-is_ascii-clause-calls : goal.returns-then-is_ascii-clause-calls
 returns-then-is_ascii-clause-calls g c =
     let bs = c.as_bytes-byte-items.result.now in
-    let all : take c.loop-byte.byte-index bs ≡ bs = all_taken bs c.loop-byte.byte-index c.loop-byte-test.false in
+    let all : take c.loop-byte.byte-index bs ≡ bs = take_all c.loop-byte.byte-index bs c.loop-byte-test.false in
     subst (λ (cs : List ℕ). Calls g.H.Handler.step c.args.handler.now (map input cs) c.loop-byte.handler)
     (all ∙ (c.as_bytes-byte-items.ensures.value ∙ sym (chars-IsAscii c.args.text.now c.if-is_ascii.ensures.cases)))
     c.loop-byte.invariant.calls
@@ -52,6 +52,6 @@ returns-then-is_ascii-clause-calls g c =
 pub returns-then-is_ascii-clause-last : goal.returns-then-is_ascii-clause-last
 returns-then-is_ascii-clause-last g c =
     let bs = c.as_bytes-byte-items.result.now in
-    let all : take c.loop-byte.byte-index bs ≡ bs = all_taken bs c.loop-byte.byte-index c.loop-byte-test.false in
+    let all : take c.loop-byte.byte-index bs ≡ bs = take_all c.loop-byte.byte-index bs c.loop-byte-test.false in
     c.loop-byte.invariant.last ∙ ap (λ cs. last_after_all c.args.before (map Print cs))
     (all ∙ (c.as_bytes-byte-items.ensures.value ∙ sym (chars-IsAscii c.args.text.now c.if-is_ascii.ensures.cases)))

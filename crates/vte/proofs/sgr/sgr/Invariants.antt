@@ -1,4 +1,4 @@
-use Rattle.std.proofs.Common.{length, map}
+use Rattle.std.proofs.Common.{map}
 use Rattle.vte_types.specs.Call.{Calls, terminal_attribute}
 use Rattle.vte.specs.Sgr.{attributes, nothing}
 use Rattle.vte.proofs.sgr.sgr.Given as goal
@@ -8,6 +8,3 @@ abbrev pub invariant-loop-group : goal.invariant-loop-group
 invariant-loop-group g l =
     (end : _) → Calls g.H.Handler.step l.handler (map terminal_attribute (attributes nothing l.groups)) end
     → Calls g.H.Handler.step l.initial.handler (map terminal_attribute (attributes nothing l.initial.groups)) end
-
-abbrev pub decreases-loop-group : goal.decreases-loop-group
-decreases-loop-group g l = length l.groups

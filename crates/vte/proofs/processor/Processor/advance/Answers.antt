@@ -4,27 +4,20 @@ use Rattle.vte.proofs.ExactLemmas.{taken}
 use Rattle.vte.proofs.processor.Processor.advance.Goals as goal
 
 pub loop-read-init : goal.loop-read-init
-loop-read-init g c parsed held at = goes_on_at_start g.T.Timeout.ticking
-    g.H.Handler.step _ parsed held _ _ at
+loop-read-init g c parsed held at = goes_on_at_start at
 
 pub loop-read-preserved : goal.loop-read-preserved
 loop-read-preserved g c parsed held at =
     let so_far = c.loop-read.invariant parsed held at in
-    let more = c.in-Some.ensures.led so_far.parsed' so_far.held' so_far.stands in
-    rw c.past-rest.ensures (goes_on_more g.T.Timeout.ticking g.H.Handler.step _
-    parsed held _ _ _ _ _ so_far _ _ _ more)
+    rw c.past-rest.ensures (goes_on_more so_far (c.in-Some.ensures.led so_far.parsed' so_far.held' so_far.stands))
 
 pub returns-clause-advanced : goal.returns-clause-advanced
 returns-clause-advanced g c parsed held at =
     let so_far = c.loop-read.invariant parsed held at in
-    let last = c.in_default.ensures.led so_far.parsed' so_far.held' so_far.stands in
-    advanced_at_end g.T.Timeout.ticking g.H.Handler.step _ parsed held _ _ _ _ _
-    so_far _ _ last
+    advanced_at_end so_far (c.in_default.ensures.led so_far.parsed' so_far.held' so_far.stands)
 
 pub returns-clause-exact : goal.returns-clause-exact
 returns-clause-exact g c parsed hold exact at =
     let so_far = c.loop-read.invariant parsed (held_of hold) at.stands in
-    let last = c.in_default.ensures.led so_far.parsed' so_far.held' so_far.stands in
     taken g.T.Timeout.ticking exact g.H.Handler.step _ parsed hold _ _ _ _ at
-    (advanced_at_end g.T.Timeout.ticking g.H.Handler.step _ parsed (held_of hold) _
-    _ _ _ _ so_far _ _ last)
+    (advanced_at_end so_far (c.in_default.ensures.led so_far.parsed' so_far.held' so_far.stands))

@@ -1,10 +1,10 @@
-use Rattle.std.proofs.Common.{◌≡◌, ◌∙◌, sym, [], true, false, take, arith}
+use Rattle.std.proofs.Common.{◌≡◌, ◌∙◌, sym, [], take, arith}
 use Rattle.std.proofs.lemmas.List.{take_all}
 use Rattle.vte.specs.Timeout.{sets_of}
 use Rattle.vte.specs.Performed.{openers_of_all}
-use Rattle.vte.specs.Stretch.{added, opens_in}
+use Rattle.vte.specs.Stretch.{added}
 use Rattle.vte.proofs.AskLemmas.{none_before}
-use Rattle.vte.proofs.HoldLemmas.{printed_after, calls_after}
+use Rattle.vte.proofs.HoldLemmas.{printed_after}
 use Rattle.vte.proofs.SetLemmas.{any_openers, sets_none}
 use Rattle.vte.proofs.processor.Processor.begin.Goals as goal
 
@@ -19,22 +19,21 @@ returns-then-opened-clause-led g c parsed held at =
     let p = c.parse_until_opened-read.ensures in
     let n = c.parse_until_opened-read.result.0 in
     let run = p.performed parsed at.has_read in
-    let any : opens_in parsed (take n c.args.piece.now) ≡ true = sym run.ends ∙ c.if-opened.true in
     record {
       opens = record {
         within = p.within;
-        opened = any;
+        opened = sym run.ends ∙ c.if-opened.true;
         first = none_before parsed c.args.piece.now n p.within (p.first parsed at.has_read);
       };
       parsed_so = record {
         stands = record {
           has_read = p.stands parsed at.has_read;
-          printed = printed_after _ _ parsed (take n c.args.piece.now) at.printed run.printed;
+          printed = printed_after parsed (take n c.args.piece.now) at.printed run.printed;
           holds = at.holds;
           no_end = at.no_end;
         };
         ticked = run.ticked;
-        goes = calls_after g.H.Handler.step _ _ _ parsed (take n c.args.piece.now) at.printed run.calls;
+        goes = rw at.printed at run.calls;
       };
     }
 
@@ -45,7 +44,7 @@ returns-else-opened-clause-led g c parsed held at =
     let all : take n c.args.piece.now ≡ c.args.piece.now =
     take_all n c.args.piece.now (omega (arith, p.whole c.if-opened.false)) in
     let run = rw all at (p.performed parsed at.has_read) in
-    let none : opens_in parsed c.args.piece.now ≡ false = sym run.ends ∙ c.if-opened.false in
+    let none = sym run.ends ∙ c.if-opened.false in
     let quiet : sets_of (openers_of_all (added parsed c.args.piece.now)) ≡ [] =
     sets_none (openers_of_all (added parsed c.args.piece.now)) (any_openers (added parsed c.args.piece.now)
     ∙ none) in
@@ -54,9 +53,9 @@ returns-else-opened-clause-led g c parsed held at =
       same = rw quiet at run.ticked;
       stands = record {
         has_read = rw all at (p.stands parsed at.has_read);
-        printed = printed_after _ _ parsed c.args.piece.now at.printed run.printed;
+        printed = printed_after parsed c.args.piece.now at.printed run.printed;
         holds = at.holds;
         no_end = at.no_end;
       };
-      goes = calls_after g.H.Handler.step _ _ _ parsed c.args.piece.now at.printed run.calls;
+      goes = rw at.printed at run.calls;
     }

@@ -2,7 +2,7 @@ use Rattle.std.proofs.Common.{◌≡◌, ◌∙◌, ◌∷◌, [], refl}
 use Rattle.vte.specs.Timeout.{Clears}
 use Rattle.vte.specs.Stretch.{ticks_from}
 use Rattle.vte.proofs.RunLemmas.{Ticked-append}
-use Rattle.vte.proofs.HoldLemmas.{printed_after, calls_after, closed_calls}
+use Rattle.vte.proofs.HoldLemmas.{printed_after, closed_calls}
 use Rattle.vte.proofs.MarkLemmas.{none_in_empty}
 use Rattle.vte.proofs.processor.Processor.empty.Goals as goal
 
@@ -13,12 +13,11 @@ returns g c parsed held reads printed items =
     record {
       stands = record {
         has_read = rw is at (c.parse.ensures.stands parsed reads);
-        printed = printed_after _ _ parsed held printed run.printed;
+        printed = printed_after parsed held printed run.printed;
         holds = c.clear.ensures.items;
         no_end = none_in_empty;
       };
       ticked = Ticked-append g.T.Timeout.ticking _ _ _ (ticks_from parsed held) (Clears
           ∷ []) run.ticked (c.clear_timeout.new.self, c.clear_timeout.ensures, refl);
-      goes = closed_calls g.H.Handler.step _ _ _ parsed held
-          (calls_after g.H.Handler.step _ _ _ parsed held printed run.calls) c.unset_private_mode.ensures;
+      goes = closed_calls g.H.Handler.step _ _ _ parsed held (rw printed at run.calls) c.unset_private_mode.ensures;
     }

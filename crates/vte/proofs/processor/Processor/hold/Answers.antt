@@ -6,8 +6,7 @@ use Rattle.vte.proofs.processor.Processor.hold.Goals as goal
 
 pub returns-in_default : goal.returns-in_default
 returns-in_default g c parsed held at =
-    let all : c.take_in.new.held.items ≡ held ++ c.args.piece.now =
-    c.take_in.ensures.items ∙ ap (λ x. x ++ c.args.piece.now) at.holds in
+    let all = rw at.holds at c.take_in.ensures.items in
     let seen : c.saturating_sub-seen.result ≡ unseen held =
     omega (arith, c.saturating_sub-seen.ensures, c.len.ensures, ap length at.holds, c.args.self.now.held.ok.0)
     in
@@ -28,8 +27,7 @@ returns-in_default g c parsed held at =
 
 pub returns-in-Some-first_mark : goal.returns-in-Some-first_mark
 returns-in-Some-first_mark g c parsed held at =
-    let all : c.take_in.new.held.items ≡ held ++ c.args.piece.now =
-    c.take_in.ensures.items ∙ ap (λ x. x ++ c.args.piece.now) at.holds in
+    let all = rw at.holds at c.take_in.ensures.items in
     let seen : c.saturating_sub-seen.result ≡ unseen held =
     omega (arith, c.saturating_sub-seen.ensures, c.len.ensures, ap length at.holds, c.args.self.now.held.ok.0)
     in
@@ -52,8 +50,7 @@ returns-in-Some-first_mark g c parsed held at =
 
 pub returns-in-None : goal.returns-in-None
 returns-in-None g c parsed held at =
-    let all : c.take_in.new.held.items ≡ held ++ c.args.piece.now =
-    c.take_in.ensures.items ∙ ap (λ x. x ++ c.args.piece.now) at.holds in
+    let all = rw at.holds at c.take_in.ensures.items in
     let seen : c.saturating_sub-seen.result ≡ unseen held =
     omega (arith, c.saturating_sub-seen.ensures, c.len.ensures, ap length at.holds, c.args.self.now.held.ok.0)
     in

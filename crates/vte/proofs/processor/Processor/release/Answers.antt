@@ -1,5 +1,5 @@
 use Rattle.std.proofs.Common.{◌≡◌, ◌∙◌, ap, take, drop}
-use Rattle.vte.proofs.HoldLemmas.{printed_after, calls_after}
+use Rattle.vte.proofs.HoldLemmas.{printed_after}
 use Rattle.vte.proofs.MarkLemmas.{none_after}
 use Rattle.vte.proofs.processor.Processor.release.Goals as goal
 
@@ -11,10 +11,10 @@ returns g c parsed held reads printed items none =
     record {
       stands = record {
         has_read = rw is at (c.parse.ensures.stands parsed reads);
-        printed = printed_after _ _ parsed (take n held) printed run.printed;
+        printed = printed_after parsed (take n held) printed run.printed;
         holds = c.drop_front.ensures.items ∙ ap (drop n) items;
         no_end = none_after n held none;
       };
       ticked = run.ticked;
-      goes = calls_after g.H.Handler.step _ _ _ parsed (take n held) printed run.calls;
+      goes = rw printed at run.calls;
     }

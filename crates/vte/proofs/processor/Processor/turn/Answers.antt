@@ -1,6 +1,7 @@
-use Rattle.std.proofs.Common.{◌≡◌, ◌<◌, ◌≤◌, ◌==◌, ◌∙◌, sym, List, ℕ, [], ◌∷◌, ◌++◌, length, length-append, ap, arith}
-use Rattle.std.proofs.Common.{false, refl}
+use Rattle.std.proofs.Common.{◌≡◌, ◌<◌, ◌≤◌, ◌==◌, ◌∙◌, sym, ℕ, [], ◌++◌, length, length-append, ap, arith}
+use Rattle.std.proofs.Common.{false}
 use Rattle.std.proofs.lemmas.Bool.{eqb-true}
+use Rattle.std.proofs.lemmas.List.{nil_from_length}
 use Rattle.std.proofs.lemmas.Bool.Decides.{nat_tests}
 use Rattle.vte.specs.Hold.{limit}
 use Rattle.vte.specs.Advances.{IsEmptied}
@@ -9,10 +10,6 @@ use Rattle.vte.proofs.processor.Processor.turn.Goals as goal
 use Rattle.vte.proofs.processor.Processor.turn.Goals.{then-pending_timeout+else-piece-len}
 use Rattle.vte.proofs.processor.Processor.turn.Goals.{else-pending_timeout+else-is_empty}
 
-no_bytes : (xs : List ℕ) → length xs ≡ 0 → xs ≡ []
-no_bytes [] h = refl
-no_bytes (x ∷ xs) h = absurd (omega (arith, h))
-
 positive : (n : ℕ) → (n == 0) ≡ false → 0 < n
 positive n h = grind (arith, nat_tests)
 
@@ -20,7 +17,7 @@ pub returns-then-is_empty-clause-led : goal.returns-then-is_empty-clause-led
 returns-then-is_empty-clause-led g c parsed held at =
     let plain = rw c.if-pending_timeout.false at c.pending_timeout.ensures in
     let none = eqb-true _ 0 (sym c.is_empty.ensures ∙ c.if-is_empty.true) in
-    let empty : held ≡ [] = no_bytes held (omega (arith, ap length at.holds, c.args.self.now.held.ok.0, none)) in
+    let empty : held ≡ [] = nil_from_length held (omega (arith, ap length at.holds, c.args.self.now.held.ok.0, none)) in
     plain_turn g.T.Timeout.ticking g.H.Handler.step c.begin.result _ parsed held
     c.args.piece.now _ _ _ empty plain (c.begin.ensures.led parsed held at)
 
@@ -37,8 +34,7 @@ returns-then-piece-len-clause-led g c parsed held at =
       c.args.self.now.held.ok.0,
       c.args.self.now.bounded,
     ) in
-    held_advances g.T.Timeout.ticking g.H.Handler.step _ _ _ _ _ _ _ pending fits
-    (c.hold.ensures parsed held at)
+    held_advances pending fits (c.hold.ensures parsed held at)
 
 pub returns-clause-led : goal.returns-clause-led
 returns-clause-led g c parsed held at =
