@@ -1,11 +1,12 @@
 -- The text between two places of a screen, written row by row.
-use Rattle.std.proofs.Common.{◌≡◌, ℕ, suc, ◌+◌, ◌-◌, ◌<◌, ◌≤◌, ◌==◌, Bool, true, false, cond, nat_lt, min, List}
-use Rattle.std.proofs.Common.{[], ◌∷◌, ◌++◌, length, refl, sym, ap, ◌∙◌, arith, append_assoc, append-nil}
+use Rattle.std.proofs.Common.{◌≡◌, ℕ, suc, ◌+◌, ◌-◌, ◌<◌, ◌≤◌, ◌==◌, Bool, true, false, cond, nat_lt, min, List, []}
+use Rattle.std.proofs.Common.{◌∷◌, ◌++◌, length, refl, sym, ap, ◌∙◌, arith, append_assoc, append-nil}
 use Rattle.std.specs.Prelude.{encode_utf8_all, encode_utf8, Some, None}
 use Rattle.std.proofs.lemmas.Str.{encodes-append}
 use Rattle.std.proofs.lemmas.Bool.Decides.{nat_tests}
 use Rattle.vt100_cells.specs.Cells.{cell_at}
 use Rattle.vt100_rows.specs.Row.{RowView}
+use Rattle.vt100_rows.proofs.WidthLemmas.{lt_ltb}
 use Rattle.vt100_rows.specs.Text.{row_text, line_text, written_text}
 use Rattle.vt100_core.specs.Grid.{GridView, visible_at, visible_row_at}
 use Rattle.vt100_core.proofs.ShowLemmas.{shown-some, shown-none}
@@ -76,9 +77,6 @@ same-start r q s h = grind (arith, nat_tests)
 not-below : (q r : ℕ) → r ≤ q → nat_lt q r ≡ false
 not-below q r h = grind (arith, nat_tests)
 
-is-below : (q r : ℕ) → q < r → nat_lt q r ≡ true
-is-below q r h = grind (arith, nat_tests)
-
 -- the end lies on the screen
 pub between-on : (g : GridView) (r s q e n k : ℕ) (v : RowView) (start : ℕ) (was now : List ℕ) → r ≤ q
     → q < length g.rows → n ≡ q - r → k ≡ e - start → v ≡ visible_at g q → IsBetween g r s n was start
@@ -95,7 +93,7 @@ between-on g r s q e n k v start was now h on en ek ev b enow =
     ∙ ap (λ x. row_text x start e) ev ∙ ap (λ x. row_text (visible_at g q) x e) from)
     ∙ sym (encodes-append rows last)
     ∙ ap encode_utf8_all
-    (sym (between-whole g r s q e true last (not-below q r h) (is-below q (length g.rows) on) refl))
+    (sym (between-whole g r s q e true last (not-below q r h) (lt_ltb q (length g.rows) on) refl))
 
 -- a row between lies below the screen, or the end does
 pub between-past : (g : GridView) (r s q e n k : ℕ) (start : ℕ) (now : List ℕ) → r ≤ q → k ≤ q → length g.rows ≤ k

@@ -1,6 +1,5 @@
 -- Sheets keep their sizes, and how many rows they keep at most.
-use Rattle.std.proofs.Common.{◌≡◌, refl, sym}
-use Rattle.std.proofs.Common.{subst}
+use Rattle.std.proofs.Common.{◌≡◌, Bool, true, false, cond, refl, sym, subst}
 use Rattle.vt100_core.specs.Grid.{GridView, SameLimits}
 use Rattle.vt100_core.proofs.GridLemmas.{SameLimits-trans}
 use Rattle.screen_model.specs.State.{State, main_sheet, alternate_sheet}
@@ -21,4 +20,7 @@ bounds_trans s t u p q = record {
 pub bounds_is : (s t u : State) → t ≡ u → SameBounds s u → SameBounds s t
 bounds_is s t u e h = subst (λ x. SameBounds s x) (sym e) h
 
--- ---- what sets a private mode
+pub limits-if : (b : Bool) (g h k l : GridView) → SameLimits g h → SameLimits k l
+    → SameLimits (cond b g k) (cond b h l)
+limits-if true g h k l p q = p
+limits-if false g h k l p q = q

@@ -1,6 +1,6 @@
 -- A screen's lists are those of what it shows, whose forms, lengths and cells are known.
-use Rattle.std.proofs.Common.{◌≡◌, ℕ, suc, ◌+◌, ◌<◌, ◌≤◌, ◌^◌, Bool, false, ◌&&◌, ◌==◌, List, [], ◌∷◌, ◌++◌, length, None, refl}
-use Rattle.std.proofs.Common.{sym, ap, subst, arith, Contains, nat_lt}
+use Rattle.std.proofs.Common.{◌≡◌, ℕ, suc, ◌+◌, ◌<◌, ◌≤◌, ◌^◌, Bool, false, ◌&&◌, ◌==◌, List, [], ◌∷◌, ◌++◌, length}
+use Rattle.std.proofs.Common.{None, refl, sym, ap, subst, arith, Contains, nat_lt}
 use Rattle.std.specs.List.{AllByRecursion}
 use Rattle.std.proofs.lemmas.Bool.{cond_both}
 use Rattle.vt100_forms.specs.Attrs.{default_attrs, IsProper, HasByteColors}
@@ -18,8 +18,6 @@ use Rattle.vt100_rows.proofs.SentTexts as rows
 use Rattle.vt100_rows.specs.Sheet.{row_at}
 use Rattle.screen_drawing.specs.Laws as writers
 use Rattle.screen_drawing.specs.Length.{IsWithin}
-use Rattle.screen_drawing.specs.Length as writers_length
-use Rattle.screen_drawing.specs.Screen as picture
 use Rattle.screen_drawing.proofs.Modes.{modes-set, modes-changed, attributes-set}
 use Rattle.screen_drawing.proofs.SmallScreens.{lists-sent, lists-forms}
 use Rattle.screen_drawing.specs.Local.{IsLocalList}

@@ -5,21 +5,24 @@ use Rattle.vt100_rows.specs.Sink.{TakesAll}
 use Rattle.screen_model.specs.Step.{Report, reports_of}
 use Rattle.screen_model.specs.Call.{Hears}
 use Rattle.vt100.specs.Tries.{HearsFront}
+use Rattle.vt100.specs.declared.screen.reported.Reporter.{Reporter}
 
--- a sink whose takings are the callbacks' hearings, and which keeps its flag and the place of the callbacks
-pub hears_all : {S C N : Type 0} (scrolls : C → RowView → Bool → C → Type 0) (takes : S → RowView → S → Type 0)
-    (callbacks : S → C) (alternate : S → Bool) (name : S → N)
-    → ((s : S) (v : RowView) (t : S) → takes s v t → scrolls (callbacks s) v (alternate s) (callbacks t)
-    × (alternate t ≡ alternate s) × (name t ≡ name s))
-    → (s : S) (rows : List RowView) (t : S) → TakesAll takes s rows t
-    → Hears scrolls (callbacks s) (reports_of (alternate s) rows) (callbacks t) × (name t ≡ name s)
-hears_all scrolls takes callbacks alternate name each s [] t h = (ap callbacks h, ap name (sym h))
-hears_all {S} {C} {N} scrolls takes callbacks alternate name each s (v ∷ vs) t h =
-    let one = each s v h.0 h.1 in
-    let rest = hears_all scrolls takes callbacks alternate name each h.0 vs t h.2 in
-    let later : Hears scrolls (callbacks h.0) (reports_of (alternate s) vs) (callbacks t) =
-    subst (λ (a : Bool). Hears scrolls (callbacks h.0) (reports_of a vs) (callbacks t)) one.1 rest.0 in
-    ((callbacks h.0, one.0, later), rest.1 ∙ one.2)
+-- what a reporter does with a row
+abbrev pub Reports : {C : Type 0} → (C → RowView → Bool → C → Type 0) → Reporter C → RowView → Reporter C → Type 0
+Reports scrolls s v t = scrolls s.callbacks.now v s.alternate_screen t.callbacks.now
+    × (t.alternate_screen ≡ s.alternate_screen) × (t.callbacks.ghost_name ≡ s.callbacks.ghost_name)
+
+-- the callbacks of a reporter hear of the rows, and stay where they are
+pub hears_all : {C : Type 0} (scrolls : C → RowView → Bool → C → Type 0) (s : Reporter C) (rows : List RowView)
+    (t : Reporter C) → TakesAll (Reports scrolls) s rows t
+    → Hears scrolls s.callbacks.now (reports_of s.alternate_screen rows) t.callbacks.now
+    × (t.callbacks.ghost_name ≡ s.callbacks.ghost_name)
+hears_all {C} scrolls s [] t h =
+    (ap (λ (x : Reporter C). x.callbacks.now) h, ap (λ (x : Reporter C). x.callbacks.ghost_name) (sym h))
+hears_all scrolls s (v ∷ vs) t h =
+    let rest = hears_all scrolls h.0 vs t h.2 in
+    let later = subst (λ (a : Bool). Hears scrolls h.0.callbacks.now (reports_of a vs) t.callbacks.now) h.1.1 rest.0 in
+    ((h.0.callbacks.now, h.1.0, later), rest.1 ∙ h.1.2)
 
 -- one list of reports after another
 pub hears_append : {C : Type 0} (scrolls : C → RowView → Bool → C → Type 0) (c : C) (xs ys : List Report) (b d : C)

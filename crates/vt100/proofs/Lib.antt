@@ -5,15 +5,12 @@ pub mod SettledLemmas
 pub mod RepeatLemmas
 pub mod PlayLemmas
 pub mod PrintableLemmas
-pub mod ResizeLemmas
 pub mod RunLemmas
 pub mod SizeLemmas
 pub mod ProperScreens
-pub mod TextLemmas
 pub mod BetweenLemmas
 pub mod BoundsLemmas
 pub mod LimitsLemmas
-pub mod MemoryLemmas
 pub mod ShownLemmas
 pub mod WriteLemmas
 pub mod RowsLemmas

@@ -1,11 +1,11 @@
 -- Printing keeps a sheet's size, and how many rows it keeps at most.
-use Rattle.std.proofs.Common.{◌≡◌, ◌∙◌, ◌==◌, ◌&&◌, ◌+◌, ℕ, zero, suc, Bool, true, false, not, cond, refl, sym, ap}
-use Rattle.std.proofs.Common.{◌-◌, nat_le, nat_lt, []}
+use Rattle.std.proofs.Common.{◌≡◌, ◌∙◌, ◌==◌, ◌&&◌, ◌+◌, ℕ, zero, suc, Bool, true, false, not, cond, refl, sym, ap, ◌-◌}
+use Rattle.std.proofs.Common.{nat_le, nat_lt, []}
 use Rattle.std.proofs.lemmas.Bool.{cond_both}
 use Rattle.vt100_forms.specs.declared.attrs.Attrs.{Attrs}
 use Rattle.vt100_cells.specs.Cell.{columns_of}
 use Rattle.terminal_model.specs.Apply.{is_dropped}
-use Rattle.vt100_rows.specs.Row.{RowView, placed, wiped_row, joined_cell, joined_row, is_widening, with_wrap}
+use Rattle.vt100_rows.specs.Row.{placed, wiped_row, joined_cell, joined_row, is_widening, with_wrap}
 use Rattle.vt100_rows.specs.Sheet.{row_at}
 use Rattle.vt100_core.specs.Grid.{KeptPart, GridView, SameKeeping, SameLimits, is_in_region, with_row, with_cursor_row}
 use Rattle.vt100_core.specs.Grid.{row_of_cursor}
@@ -18,7 +18,7 @@ use Rattle.screen_model.specs.State.{State, main_sheet, alternate_sheet}
 use Rattle.screen_model.specs.Step.{typed, typed_times}
 use Rattle.vt100.specs.Memory.{keeps_rows}
 use Rattle.vt100.specs.Tries.{SameBounds}
-use Rattle.vt100.proofs.BoundsLemmas.{limits_same}
+use Rattle.vt100.proofs.BoundsLemmas.{limits-if, limits_same}
 
 limits-scrolled : (g : GridView) (n : ℕ) → SameLimits g (scrolled_up g n).grid
 unfolding scrolled_up
@@ -40,9 +40,6 @@ limits-fed g n =
     (λ _. record { height = s.height; width = s.width; kept = s.kept })
     (λ _. record { height = refl; width = refl; kept = record { keeps = refl; capacity = refl } })
 
-limits-row : (g h : GridView) (r : ℕ) (v : RowView) → SameLimits g h → SameLimits g (with_row h r v)
-limits-row g h r v s = record { height = s.height; width = s.width; kept = s.kept }
-
 limits-wrapped : (g : GridView) (wrap : Bool) → SameLimits g (wrapped_on g wrap).grid
 unfolding wrapped_on
 limits-wrapped g wrap =
@@ -52,7 +49,7 @@ limits-wrapped g wrap =
     let s : SameLimits g h = record { height = moved.height; width = moved.width; kept = moved.kept } in
     let v = with_wrap (row_at h.rows (left_row g)) (wrap && ((left_row g + 1) == h.row)) in
     cond_both ((g.row == g.bottom) && (g.row == 0)) h (with_row h (left_row g) v) (λ (x : GridView). SameLimits g x)
-    (λ _. s) (λ _. limits-row g h (left_row g) v s)
+    (λ _. s) (λ _. record { height = s.height; width = s.width; kept = s.kept })
 
 limits-made : (g : GridView) (columns : ℕ) (wrap : Bool) → SameLimits g (made_to_fit g columns wrap).grid
 limits-made g columns wrap =
@@ -103,18 +100,13 @@ limits_printed g c a =
 limits-typed : (c : ℕ) (s : State) → SameLimits s.shown (typed c s).state.shown
 limits-typed c s = limits_printed s.shown c s.attrs
 
-limits-chosen : (b : Bool) (g h k l : GridView) → SameLimits g h → SameLimits k l
-    → SameLimits (cond b g k) (cond b h l)
-limits-chosen true g h k l p q = p
-limits-chosen false g h k l p q = q
-
 pub bounds_typed : (c : ℕ) (s : State) → SameBounds s (typed c s).state
 bounds_typed c s =
     let g = (printed s.shown c s.attrs).grid in
     let h = limits_printed s.shown c s.attrs in
     record {
-      main = limits-chosen s.alternate s.other s.other s.shown g (limits_same s.other) h;
-      alternate = limits-chosen s.alternate s.shown g s.other s.other h (limits_same s.other);
+      main = limits-if s.alternate s.other s.other s.shown g (limits_same s.other) h;
+      alternate = limits-if s.alternate s.shown g s.other s.other h (limits_same s.other);
     }
 
 limits-back : (g h k : GridView) → SameLimits g h → SameLimits g k → SameLimits h k

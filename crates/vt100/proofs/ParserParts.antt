@@ -20,8 +20,8 @@ use mir.Val.{Val}
 use Prim.Native.Nat.{ℕ, ◌+◌, zero}
 use prog.Memory.{align, size, up}
 use seplogic.Ra.Ura.{Ura}
-use types.Kit.{‵, ◌⊛◌, raw, ◌$◌, ◌∵◌, !, qed, move, split, fsplit, fsplit3, fjoin, fpick, fpack}
-use types.Kit.{use0, use1, use2, done, keep, by}
+use types.Kit.{‵, ◌⊛◌, raw, ◌$◌, ◌∵◌, !, qed, move, split, fsplit, fsplit3, fjoin, fpick, fpack, use0, use1, use2, done}
+use types.Kit.{keep, by}
 use types.Logic.{Logic, sem}
 use Rattle.vte_core.specs.contracts.parser.Parser as reader
 use Rattle.screen_model.specs.Call.{ScreenView}

@@ -1,28 +1,28 @@
 -- Events that a screen has gone through, and what acts make.
-use Rattle.std.proofs.Common.{◌≡◌, ◌∙◌, ◌⊎◌, ℕ, Bool, true, false, List, [], ◌∷◌, ◌++◌, ap, refl, sym, subst}
-use Rattle.std.proofs.Common.{inl, inr, append_assoc, append-nil, Ok, Err, Result, OnOk, All, ◌||◌}
+use Rattle.std.proofs.Common.{◌≡◌, ◌∙◌, ℕ, Bool, true, false, List, [], ◌∷◌, ◌++◌, ap, refl, sym, subst, inl, inr}
+use Rattle.std.proofs.Common.{append_assoc, append-nil, Ok, Err, Result, OnOk, All, ◌||◌}
 use Rattle.std.proofs.lemmas.List.Elements.{All-head, All-tail}
-use Rattle.std.proofs.lemmas.Bool.{false≢true}
+use Rattle.std.proofs.lemmas.Bool.{cases_Bool, false≢true}
 use Rattle.vte_core.specs.Event.{Event, Performs}
 use Rattle.vte_core.specs.declared.parser.Parser.{Parser}
 use Rattle.vte_core.specs.Standing.{Stands}
 use Rattle.vte_core.specs.Told.{Told}
 use Rattle.vte_core.specs.Added.{added}
 use Rattle.vte_core.proofs.AddedLemmas.{added-is, added-append, added-none}
+use Rattle.vt100_cells.proofs.CellLemmas.{or-true}
 use Rattle.vt100_rows.specs.Row.{RowView}
-use Rattle.screen_model.specs.State.{State}
+use Rattle.screen_model.specs.State.{State, main_sheet, alternate_sheet}
 use Rattle.screen_model.specs.Step.{resized_to}
 use Rattle.screen_model.specs.Call.{Call, ScreenView}
 use Rattle.screen_model.specs.Effect.{effect}
-use Rattle.screen_model.specs.Made.{Act, Fed, Resized, played, events_added, bytes_fed, made_on, made}
+use Rattle.screen_model.specs.Made.{Act, Fed, Resized, played, events_added, bytes_fed, made_on}
 use Rattle.vt100.specs.declared.screen.wrapped.WrappedScreen.{WrappedScreen}
 use Rattle.vt100.specs.declared.error.ScreenError.{ScreenError}
 use Rattle.vt100.specs.Tries.{Tries, SameBounds, alive}
-use Rattle.vt100.specs.Goes.{Either, Tells, Goes, GoesThrough}
+use Rattle.vt100.specs.Goes.{Either, Tells, Fails, Goes, GoesThrough}
 use Rattle.vt100.specs.Memory.{may_take_memory, some_may_take}
 use Rattle.vt100.specs.Parsing.{ParserView, ParserStandsAt, KeepsScreens}
 use Rattle.vt100.specs.Laws.{PlaysEvents, FeedsMake, FeedsJoin, FeedsNothing, ActsFollow, ResizedScreensArePutIn}
-use Rattle.screen_model.specs.State.{main_sheet, alternate_sheet}
 use Rattle.screen_model.specs.Holds.{AreActs}
 use Rattle.vt100_core.specs.Grid.{GridView, SameLimits}
 use Rattle.screen_model.proofs.UnscrolledSheets.{Limits, IsUnscrolledSheet}
@@ -32,10 +32,6 @@ use Rattle.screen_model.proofs.ScalarEvents.{IsTold, added-told}
 use Rattle.screen_model.proofs.MadeLemmas.{bounded, first_bounds, made-well}
 use Rattle.vt100.proofs.BoundsLemmas.{bounds_same, bounds_is, bounds_trans}
 use Rattle.vt100.proofs.EventLemmas.{is_alive}
-
-both : (b : Bool) → (b ≡ true) ⊎ (b ≡ false)
-both true = inl refl
-both false = inr refl
 
 -- ---- a performer's steps
 
@@ -73,42 +69,12 @@ tells_keeps {C} step keeps c v (k ∷ ks) d w h =
     ] in
     cases v.failed h
 
-one_played : {C : Type 0} (step : C → ScreenView → Call → C → ScreenView → Type 0)
-    (scrolls : C → RowView → Bool → C → Type 0) → KeepsScreens step → (e : Event) (c : C) (v : ScreenView) (d : C)
-    (w : ScreenView) → v.failed ≡ false → Goes step scrolls e c v d w → w.failed ≡ false
-    → w ≡ alive (effect e v.state).state
-one_played step scrolls keeps e c v d w h g live =
-    elim (g.live h) [
-      | inl a ↦ tells_keeps step keeps a.0 (alive (effect e v.state).state) (effect e v.state).calls d w a.2
-      | inr x ↦ absurd (false≢true (sym live ∙ x.failed))
-    ]
-
-failed_stays : {C : Type 0} (step : C → ScreenView → Call → C → ScreenView → Type 0)
+failed_same : {C : Type 0} (step : C → ScreenView → Call → C → ScreenView → Type 0)
     (scrolls : C → RowView → Bool → C → Type 0) (es : List Event) (c : C) (v : ScreenView) (d : C) (w : ScreenView)
-    → v.failed ≡ true → GoesThrough step scrolls es c v d w → w.failed ≡ true
-failed_stays step scrolls [] c v d w h g = ap (λ (x : ScreenView). x.failed) g.1 ∙ h
-failed_stays step scrolls (e ∷ es) c v d w h (b, u, one, more) =
-    failed_stays step scrolls es b u d w (ap (λ (x : ScreenView). x.failed) (one.dead h).1 ∙ h) more
-
-pub all_played : {C : Type 0} (step : C → ScreenView → Call → C → ScreenView → Type 0)
-    (scrolls : C → RowView → Bool → C → Type 0) → KeepsScreens step → (es : List Event) (c : C) (v : ScreenView) (d : C)
-    (w : ScreenView) → v.failed ≡ false → GoesThrough step scrolls es c v d w → w.failed ≡ false
-    → w ≡ alive (played es v.state)
-all_played step scrolls keeps [] c v d w h g live = g.1 ∙ is_alive v h
-all_played step scrolls keeps (e ∷ es) c v d w h (b, u, one, more) live =
-    elim (both u.failed) [
-      | inl f ↦ absurd (false≢true (sym live ∙ failed_stays step scrolls es b u d w f more))
-      | inr f ↦ all_played step scrolls keeps es b u d w f more live
-          ∙ ap (λ (x : ScreenView). alive (played es x.state)) (one_played step scrolls keeps e c v b u h one f)
-    ]
-
-pub plays_events : PlaysEvents
-plays_events es s w g live = all_played (λ c x k d y. x ≡ y) (λ c r a d. c ≡ d) (λ c v k d w h. sym h) es tt
-    (alive s) tt w
-    refl g live
-
-pub feeds_make : FeedsMake
-feeds_make past bytes s w g live = plays_events (events_added past bytes) s w g live
+    → v.failed ≡ true → GoesThrough step scrolls es c v d w → w ≡ v
+failed_same step scrolls [] c v d w h g = g.1
+failed_same step scrolls (e ∷ es) c v d w h (b, u, one, more) =
+    failed_same step scrolls es b u d w (ap (λ (x : ScreenView). x.failed) (one.dead h).1 ∙ h) more ∙ (one.dead h).1
 
 -- ---- what acts make
 
@@ -129,14 +95,11 @@ feeds_join past s a b acts =
     (append_assoc past a b)
     ∙ ap (λ (t : State). made_on (past ++ (a ++ b)) t acts) (sym (feeds_after past s a b))
 
-none_added : (past : List ℕ) → events_added past [] ≡ []
-unfolding added
-none_added past = added-none 1024 past
-
 pub feeds_nothing : FeedsNothing
+unfolding added
 feeds_nothing past s acts =
     ap (λ (p : List ℕ). made_on p (played (events_added past []) s) acts) (append-nil past)
-    ∙ ap (λ (es : List Event). made_on past (played es s) acts) (none_added past)
+    ∙ ap (λ (es : List Event). made_on past (played es s) acts) (added-none 1024 past)
 
 made_after : (past : List ℕ) (s : State) (acts more : List Act)
     → made_on past s (acts ++ more) ≡ made_on (past ++ bytes_fed acts) (made_on past s acts) more
@@ -156,27 +119,131 @@ bytes_after (Fed bs ∷ acts) more = ap (λ (p : List ℕ). bs ++ p) (bytes_afte
     ∙ sym (append_assoc bs (bytes_fed acts) (bytes_fed more))
 bytes_after (Resized rows cols ∷ acts) more = bytes_after acts more
 
--- ---- where a parser stands
+fine-limits : (l : Limits) (g h : GridView) → IsUnscrolledSheet l g → IsUnscrolledSheet l h → SameLimits g h
+fine-limits l g h p q = record {
+  height = q.height ∙ sym p.height;
+  width = q.width ∙ sym p.width;
+  kept = record { keeps = q.keeps ∙ sym p.keeps; capacity = q.capacity ∙ sym p.capacity };
+}
 
-pub stands_fed : {C : Type 0} (step : C → ScreenView → Call → C → ScreenView → Type 0)
-    (scrolls : C → RowView → Bool → C → Type 0) → KeepsScreens step → (p q : ParserView C) (bytes : List ℕ)
-    → ((past : List ℕ) → Stands 1024 p.reader past → Stands 1024 q.reader (past ++ bytes))
-    → ((past : List ℕ) → Stands 1024 p.reader past → GoesThrough step scrolls (events_added past bytes)
-    p.callbacks p.screen q.callbacks q.screen)
-    → q.screen.failed ≡ false → (rows cols capacity : ℕ) (acts : List Act) → ParserStandsAt p rows cols capacity acts
-    → ParserStandsAt q rows cols capacity (acts ++ Fed bytes ∷ [])
-stands_fed step scrolls keeps p q bytes reads goes live rows cols capacity acts at =
-    let past = bytes_fed acts in
-    let s = made rows cols capacity acts in
-    let alive_there = ap (λ (x : ScreenView). x.failed) at.screen in
-    let shown = all_played step scrolls keeps (events_added past bytes) p.callbacks p.screen q.callbacks q.screen
-    alive_there (goes past at.has_read) live
-    ∙ ap (λ (x : ScreenView). alive (played (events_added past bytes) x.state)) at.screen in
-    record {
-      has_read = subst (λ (b : List ℕ). Stands 1024 q.reader b) (ap (λ (b : List ℕ). past ++ b) (sym (append-nil bytes))
-          ∙ sym (bytes_after acts (Fed bytes ∷ []))) (reads past at.has_read);
-      screen = shown ∙ ap alive (sym (acts_follow rows cols capacity acts (Fed bytes ∷ [])));
-    }
+well-bounds : (b : Bounds) (s t : State) → IsUnscrolledState b s → IsUnscrolledState b t → SameBounds s t
+well-bounds b s t p q = record {
+  main = fine-limits (limits b false) (main_sheet s) (main_sheet t) (main-fine b s p) (main-fine b t q);
+  alternate = fine-limits (limits b true) (alternate_sheet s) (alternate_sheet t) (alternate-fine b s p)
+      (alternate-fine b t q);
+}
+
+module _ {C : Type 0} (step : C → ScreenView → Call → C → ScreenView → Type 0)
+    (scrolls : C → RowView → Bool → C → Type 0) (keeps : KeepsScreens step) where
+  one_played : (e : Event) (c : C) (v : ScreenView) (d : C) (w : ScreenView) → v.failed ≡ false
+      → Goes step scrolls e c v d w → w.failed ≡ false → w ≡ alive (effect e v.state).state
+  one_played e c v d w h g live =
+      elim (g.live h) [
+        | inl a ↦ tells_keeps step keeps a.0 (alive (effect e v.state).state) (effect e v.state).calls d w a.2
+        | inr x ↦ absurd (false≢true (sym live ∙ x.failed))
+      ]
+
+  pub all_played : (es : List Event) (c : C) (v : ScreenView) (d : C) (w : ScreenView) → v.failed ≡ false
+      → GoesThrough step scrolls es c v d w → w.failed ≡ false → w ≡ alive (played es v.state)
+  all_played [] c v d w h g live = g.1 ∙ is_alive v h
+  all_played (e ∷ es) c v d w h (b, u, one, more) live =
+      elim (cases_Bool u.failed) [
+        | inl f ↦
+            let same = failed_same step scrolls es b u d w f more in
+            absurd (false≢true (sym live ∙ ap (λ (x : ScreenView). x.failed) same ∙ f))
+        | inr f ↦ all_played es b u d w f more live
+            ∙ ap (λ (x : ScreenView). alive (played es x.state)) (one_played e c v b u h one f)
+      ]
+
+  -- ---- where a parser stands
+
+  pub stands_fed : (p q : ParserView C) (bytes : List ℕ)
+      → ((past : List ℕ) → Stands 1024 p.reader past → Stands 1024 q.reader (past ++ bytes))
+      → ((past : List ℕ) → Stands 1024 p.reader past
+      → GoesThrough step scrolls (events_added past bytes) p.callbacks p.screen q.callbacks q.screen)
+      → q.screen.failed ≡ false → (rows cols capacity : ℕ) (acts : List Act) → ParserStandsAt p rows cols capacity acts
+      → ParserStandsAt q rows cols capacity (acts ++ Fed bytes ∷ [])
+  stands_fed p q bytes reads goes live rows cols capacity acts at =
+      let past = bytes_fed acts in
+      let alive_there = ap (λ (x : ScreenView). x.failed) at.screen in
+      let shown = all_played (events_added past bytes) p.callbacks p.screen q.callbacks q.screen
+      alive_there (goes past at.has_read) live
+      ∙ ap (λ (x : ScreenView). alive (played (events_added past bytes) x.state)) at.screen in
+      record {
+        has_read = subst (λ (b : List ℕ). Stands 1024 q.reader b) (ap (λ (b : List ℕ). past ++ b) (sym (append-nil bytes))
+            ∙ sym (bytes_after acts (Fed bytes ∷ []))) (reads past at.has_read);
+        screen = shown ∙ ap alive (sym (acts_follow rows cols capacity acts (Fed bytes ∷ [])));
+      }
+
+  -- ---- sheets keep their bounds
+
+  -- an event after which the screen has failed
+  one_failed : (e : Event) (c : C) (v : ScreenView) (d : C) (w : ScreenView) → v.failed ≡ false
+      → Goes step scrolls e c v d w → w.failed ≡ true
+      → Fails scrolls (may_take_memory e v.state) (effect e v.state).reports c v d w
+  one_failed e c v d w h g failed =
+      elim (g.live h) [
+        | inl a ↦
+            let is = tells_keeps step keeps a.0 (alive (effect e v.state).state) (effect e v.state).calls d w a.2 in
+            absurd (false≢true (sym (ap (λ (x : ScreenView). x.failed) is) ∙ failed))
+        | inr x ↦ x
+      ]
+
+  events_bounded : (b : Bounds) (es : List Event) → All IsTold es → (c : C) (v : ScreenView) (d : C) (w : ScreenView)
+      → v.failed ≡ false → IsUnscrolledState b v.state → GoesThrough step scrolls es c v d w
+      → SameBounds v.state w.state
+  events_bounded b [] told c v d w h well g =
+      bounds_is v.state w.state v.state (ap (λ (x : ScreenView). x.state) g.1) (bounds_same v.state)
+  events_bounded b (e ∷ es) told c v d w h well (m, u, one, more) =
+      elim (cases_Bool u.failed) [
+        | inl f ↦
+            bounds_is v.state w.state u.state
+            (ap (λ (x : ScreenView). x.state) (failed_same step scrolls es m u d w f more))
+            (one_failed e c v m u h one f).bounds
+        | inr f ↦
+            let is = ap (λ (x : ScreenView). x.state) (one_played e c v m u h one f) in
+            let next : IsUnscrolledState b u.state = subst (λ (x : State). IsUnscrolledState b x) (sym is)
+            (effect-well e (All-head IsTold e es told) b v.state well) in
+            bounds_trans v.state u.state w.state (well-bounds b v.state u.state well next)
+            (events_bounded b es (All-tail IsTold e es told) m u d w f next more)
+      ]
+
+  pub fed_bounded : (p : ParserView C) (q : WrappedScreen C) (bytes : List ℕ) → Told (Steps step scrolls) 1024 p.reader
+      (record { screen = p.screen; callbacks = p.callbacks }) bytes q
+      → (rows cols capacity : ℕ) (acts : List Act) → AreActs rows cols capacity acts
+      → ParserStandsAt p rows cols capacity acts → SameBounds p.screen.state q.screen.state
+  fed_bounded p q bytes told rows cols capacity acts are at =
+      let past = bytes_fed acts in
+      let from : WrappedScreen C = record { screen = p.screen; callbacks = p.callbacks } in
+      let b = bounded (first_bounds rows cols capacity) acts in
+      let well : IsUnscrolledState b p.screen.state = subst (λ (x : State). IsUnscrolledState b x)
+      (sym (ap (λ (x : ScreenView). x.state) at.screen)) (made-well rows cols capacity acts are) in
+      events_bounded b (events_added past bytes) (added-told past bytes) p.callbacks p.screen q.callbacks q.screen
+      (ap (λ (x : ScreenView). x.failed) at.screen) well
+      (goes_told step scrolls p.reader from bytes q told past at.has_read)
+
+  -- ---- where memory may be taken
+
+  pub some_taken : (es : List Event) (c : C) (v : ScreenView) (d : C) (w : ScreenView) → v.failed ≡ false
+      → GoesThrough step scrolls es c v d w → w.failed ≡ true → some_may_take es v.state ≡ true
+  some_taken [] c v d w h g failed =
+      absurd (false≢true (sym h ∙ sym (ap (λ (x : ScreenView). x.failed) g.1) ∙ failed))
+  some_taken (e ∷ es) c v d w h (b, u, one, more) failed =
+      let rest = some_may_take es (effect e v.state).state in
+      elim (cases_Bool u.failed) [
+        | inl f ↦ ap (λ (x : Bool). x || rest) (one_failed e c v b u h one f).may_take
+        | inr f ↦
+            let is = ap (λ (x : ScreenView). x.state) (one_played e c v b u h one f) in
+            ap (λ (x : Bool). may_take_memory e v.state || x) (ap (some_may_take es) (sym is)
+            ∙ some_taken es b u d w f more failed) ∙ or-true (may_take_memory e v.state)
+      ]
+
+pub plays_events : PlaysEvents
+plays_events es s w g live = all_played (λ c x k d y. x ≡ y) (λ c r a d. c ≡ d) (λ c v k d w h. sym h) es tt
+    (alive s) tt w refl g live
+
+pub feeds_make : FeedsMake
+feeds_make past bytes s w g live = plays_events (events_added past bytes) s w g live
 
 pub stands_resized : {C : Type 0} (p q : ParserView C) (height width : ℕ) → q.reader ≡ p.reader
     → q.screen ≡ alive (resized_to height width p.screen.state).state
@@ -202,112 +269,3 @@ resized_stands scrolls p q height width (Err e) reader t rows cols capacity acts
 pub put_in : ResizedScreensArePutIn
 put_in p w height width rows cols capacity acts at screen =
     stands_resized p (record p { screen = w }) height width refl screen rows cols capacity acts at
-
--- ---- sheets keep their bounds
-
-fine-limits : (l : Limits) (g h : GridView) → IsUnscrolledSheet l g → IsUnscrolledSheet l h → SameLimits g h
-fine-limits l g h p q = record {
-  height = q.height ∙ sym p.height;
-  width = q.width ∙ sym p.width;
-  kept = record { keeps = q.keeps ∙ sym p.keeps; capacity = q.capacity ∙ sym p.capacity };
-}
-
-well-bounds : (b : Bounds) (s t : State) → IsUnscrolledState b s → IsUnscrolledState b t → SameBounds s t
-well-bounds b s t p q = record {
-  main = fine-limits (limits b false) (main_sheet s) (main_sheet t) (main-fine b s p) (main-fine b t q);
-  alternate = fine-limits (limits b true) (alternate_sheet s) (alternate_sheet t) (alternate-fine b s p)
-      (alternate-fine b t q);
-}
-
-failed_same : {C : Type 0} (step : C → ScreenView → Call → C → ScreenView → Type 0)
-    (scrolls : C → RowView → Bool → C → Type 0) (es : List Event) (c : C) (v : ScreenView) (d : C) (w : ScreenView)
-    → v.failed ≡ true → GoesThrough step scrolls es c v d w → w ≡ v
-failed_same step scrolls [] c v d w h g = g.1
-failed_same step scrolls (e ∷ es) c v d w h (b, u, one, more) =
-    failed_same step scrolls es b u d w (ap (λ (x : ScreenView). x.failed) (one.dead h).1 ∙ h) more ∙ (one.dead h).1
-
--- an event after which the screen has failed
-one_bounded : {C : Type 0} (step : C → ScreenView → Call → C → ScreenView → Type 0)
-    (scrolls : C → RowView → Bool → C → Type 0) → KeepsScreens step → (e : Event) (c : C) (v : ScreenView) (d : C)
-    (w : ScreenView) → v.failed ≡ false → Goes step scrolls e c v d w → w.failed ≡ true → SameBounds v.state w.state
-one_bounded step scrolls keeps e c v d w h g failed =
-    elim (g.live h) [
-      | inl a ↦
-          let is = tells_keeps step keeps a.0 (alive (effect e v.state).state) (effect e v.state).calls d w a.2 in
-          absurd (false≢true (sym (ap (λ (x : ScreenView). x.failed) is) ∙ failed))
-      | inr x ↦ x.bounds
-    ]
-
-events_bounded : {C : Type 0} (step : C → ScreenView → Call → C → ScreenView → Type 0)
-    (scrolls : C → RowView → Bool → C → Type 0) → KeepsScreens step → (b : Bounds) (es : List Event)
-    → All IsTold es → (c : C) (v : ScreenView) (d : C) (w : ScreenView) → v.failed ≡ false → IsUnscrolledState b v.state
-    → GoesThrough step scrolls es c v d w → SameBounds v.state w.state
-events_bounded step scrolls keeps b [] told c v d w h well g =
-    bounds_is v.state w.state v.state (ap (λ (x : ScreenView). x.state) g.1) (bounds_same v.state)
-events_bounded step scrolls keeps b (e ∷ es) told c v d w h well (m, u, one, more) =
-    elim (both u.failed) [
-      | inl f ↦
-          bounds_is v.state w.state u.state
-          (ap (λ (x : ScreenView). x.state) (failed_same step scrolls es m u d w f more))
-          (one_bounded step scrolls keeps e c v m u h one f)
-      | inr f ↦
-          let is = ap (λ (x : ScreenView). x.state) (one_played step scrolls keeps e c v m u h one f) in
-          let next : IsUnscrolledState b u.state = subst (λ (x : State). IsUnscrolledState b x) (sym is)
-          (effect-well e (All-head IsTold e es told) b v.state well) in
-          bounds_trans v.state u.state w.state (well-bounds b v.state u.state well next)
-          (events_bounded step scrolls keeps b es (All-tail IsTold e es told) m u d w f next more)
-    ]
-
-pub fed_bounded : {C : Type 0} (step : C → ScreenView → Call → C → ScreenView → Type 0)
-    (scrolls : C → RowView → Bool → C → Type 0) → KeepsScreens step → (p q : ParserView C) (bytes : List ℕ)
-    → ((past : List ℕ) → Stands 1024 p.reader past → GoesThrough step scrolls (events_added past bytes)
-    p.callbacks p.screen q.callbacks q.screen)
-    → (rows cols capacity : ℕ) (acts : List Act) → AreActs rows cols capacity acts
-    → ParserStandsAt p rows cols capacity acts → SameBounds p.screen.state q.screen.state
-fed_bounded step scrolls keeps p q bytes goes rows cols capacity acts are at =
-    let past = bytes_fed acts in
-    let b = bounded (first_bounds rows cols capacity) acts in
-    let well : IsUnscrolledState b p.screen.state = subst (λ (x : State). IsUnscrolledState b x)
-    (sym (ap (λ (x : ScreenView). x.state) at.screen))
-    (made-well rows cols capacity acts are) in
-    events_bounded step scrolls keeps b (events_added past bytes) (added-told past bytes) p.callbacks p.screen
-    q.callbacks q.screen (ap (λ (x : ScreenView). x.failed) at.screen) well (goes past at.has_read)
-
--- ---- where memory may be taken
-
-first-or : (a b : Bool) → a ≡ true → (a || b) ≡ true
-first-or true b e = refl
-first-or false b e = absurd (false≢true e)
-
-second-or : (a b : Bool) → b ≡ true → (a || b) ≡ true
-second-or true b e = refl
-second-or false b e = e
-
--- an event after which the screen has failed
-one_taken : {C : Type 0} (step : C → ScreenView → Call → C → ScreenView → Type 0)
-    (scrolls : C → RowView → Bool → C → Type 0) → KeepsScreens step → (e : Event) (c : C) (v : ScreenView) (d : C)
-    (w : ScreenView) → v.failed ≡ false → Goes step scrolls e c v d w → w.failed ≡ true
-    → may_take_memory e v.state ≡ true
-one_taken step scrolls keeps e c v d w h g failed =
-    elim (g.live h) [
-      | inl a ↦
-          let is = tells_keeps step keeps a.0 (alive (effect e v.state).state) (effect e v.state).calls d w a.2 in
-          absurd (false≢true (sym (ap (λ (x : ScreenView). x.failed) is) ∙ failed))
-      | inr x ↦ x.may_take
-    ]
-
-pub some_taken : {C : Type 0} (step : C → ScreenView → Call → C → ScreenView → Type 0)
-    (scrolls : C → RowView → Bool → C → Type 0) → KeepsScreens step → (es : List Event) (c : C) (v : ScreenView) (d : C)
-    (w : ScreenView) → v.failed ≡ false → GoesThrough step scrolls es c v d w → w.failed ≡ true
-    → some_may_take es v.state ≡ true
-some_taken step scrolls keeps [] c v d w h g failed =
-    absurd (false≢true (sym h ∙ sym (ap (λ (x : ScreenView). x.failed) g.1) ∙ failed))
-some_taken step scrolls keeps (e ∷ es) c v d w h (b, u, one, more) failed =
-    let rest = some_may_take es (effect e v.state).state in
-    elim (both u.failed) [
-      | inl f ↦ first-or (may_take_memory e v.state) rest (one_taken step scrolls keeps e c v b u h one f)
-      | inr f ↦
-          let is = ap (λ (x : ScreenView). x.state) (one_played step scrolls keeps e c v b u h one f) in
-          second-or (may_take_memory e v.state) rest (ap (some_may_take es) (sym is)
-          ∙ some_taken step scrolls keeps es b u d w f more failed)
-    ]

@@ -3,7 +3,7 @@ use Rattle.std.proofs.Common.{◌≡◌, ◌∙◌, ◌==◌, ℕ, Option, true,
 use Rattle.std.proofs.lemmas.Bool.{cond_both, false≢true}
 use Rattle.vt100_forms.specs.Attrs.{IsProper, default_attrs}
 use Rattle.vt100_rows.specs.Row.{blank_row}
-use Rattle.vt100_core.specs.Grid.{GridView, IsAllocated, new_grid, allocated}
+use Rattle.vt100_core.specs.Grid.{GridView, IsAllocated, SameLimits, new_grid, allocated}
 use Rattle.vt100_core.specs.declared.scrollback.Scrollback.TheVariants.{Disabled, Enabled}
 use Rattle.vt100_core.specs.Scroll.{scrollback_shown}
 use Rattle.vt100_core.specs.Resize.{resized}
@@ -15,15 +15,14 @@ use Rattle.vt100.specs.declared.screen.Screen.TheInside.{Inside}
 use Rattle.vt100.proofs.SizeLemmas.{resized_height, resized_width}
 
 -- the shown sheet has changed, and the last character
-pub drawn_screen : (s : Inside) (g : GridView) (last : Option ℕ) → IsInside s → IsAllocated g
-    → g.height ≡ s.grid.height → g.width ≡ s.grid.width → g.kept.keeps ≡ s.grid.kept.keeps
+pub drawn_screen : (s : Inside) (g : GridView) (last : Option ℕ) → IsInside s → IsAllocated g → SameLimits s.grid g
     → (IsProperSheet s.grid → IsProperSheet g) → IsInside (record s { grid = g; last_char = last })
-drawn_screen s g last i some height width keeps proper = record {
+drawn_screen s g last i some limits proper = record {
   shown = some;
   main = i.main;
-  height = λ live. i.height live ∙ sym height;
-  width = λ live. i.width live ∙ sym width;
-  shown_keeps = keeps ∙ i.shown_keeps;
+  height = λ live. i.height live ∙ sym limits.height;
+  width = λ live. i.width live ∙ sym limits.width;
+  shown_keeps = limits.kept.keeps ∙ i.shown_keeps;
   other_keeps = i.other_keeps;
   attrs = i.attrs;
   saved_attrs = i.saved_attrs;

@@ -1,7 +1,7 @@
 -- A character that is printed again and again.
-use Rattle.std.proofs.Common.{◌≡◌, ◌∙◌, ◌+◌, ◌<◌, ◌⊎◌, ◌++◌, ℕ, zero, suc, Bool, true, false, List, [], Option, Some, Ok, Err}
-use Rattle.std.proofs.Common.{add-one, ap, refl, nat_lt, sym, subst, inl, inr, arith, append_assoc, append-nil}
-use Rattle.std.proofs.lemmas.Bool.{false≢true}
+use Rattle.std.proofs.Common.{◌≡◌, ◌∙◌, ◌+◌, ◌<◌, ◌⊎◌, ◌++◌, ℕ, zero, suc, Bool, false, List, [], Option, Some, Ok, Err}
+use Rattle.std.proofs.Common.{add-one, ap, nat_lt, sym, subst, inl, inr, arith, append_assoc, append-nil}
+use Rattle.std.proofs.lemmas.Bool.{cases_Bool, false≢true}
 use Rattle.std.proofs.lemmas.Bool.Decides.{nat_tests}
 use Rattle.vt100_rows.specs.Row.{RowView}
 use Rattle.screen_model.specs.State.{State}
@@ -44,12 +44,8 @@ repeated_tries scrolls n ch v w c d live is_last is_w hears = record {
 
 -- ---- a refusal on the way
 
-either : (b : Bool) → (b ≡ true) ⊎ (b ≡ false)
-either true = inl refl
-either false = inr refl
-
 near : (i n : ℕ) → i < suc n → (i < n) ⊎ (i ≡ n)
-near i n h = elim (either (nat_lt i n)) [
+near i n h = elim (cases_Bool (nat_lt i n)) [
   | inl e ↦ inl (grind (arith, nat_tests))
   | inr e ↦ inr (grind (arith, nat_tests))
 ]
@@ -97,7 +93,6 @@ pub repeated_refused : {C : Type 0} (scrolls : C → RowView → Bool → C → 
     → Hears scrolls c (typed_times i ch v.state).reports b → Tries {A = Unit {0}} scrolls (typed ch) u b (Err e) w d
     → Tries {A = Unit {0}} scrolls (repeated n) v c (Err e) w d
 repeated_refused {C} scrolls n i ch v u w c b d e live within is_last is_u heard h =
-    let lives : u.failed ≡ false = ap (λ (x : ScreenView). x.failed) is_u in
     let o = times_more n i ch v.state within in
     record {
       live = tt;
@@ -108,6 +103,6 @@ repeated_refused {C} scrolls n i ch v u w c b d e live within is_last is_u heard
           (front_after scrolls (typed_times n ch v.state).reports (typed_times i ch v.state).reports
           (typed ch (typed_times i ch v.state).state).reports o.0 c b d o.1 heard
           (subst (λ (y : ScreenView). HearsFront scrolls b (typed ch y.state).reports d) is_u (h.told x)));
-      refused = λ x. absurd (false≢true (sym lives ∙ h.refused x));
+      refused = λ x. absurd (false≢true (sym (ap (λ (y : ScreenView). y.failed) is_u) ∙ h.refused x));
       dead = λ x. absurd (false≢true (sym live ∙ x));
     }

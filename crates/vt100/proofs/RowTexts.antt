@@ -1,6 +1,6 @@
 -- The texts of a screen's rows, one by one, and where they lead.
-use Rattle.std.proofs.Common.{◌≡◌, ◌∙◌, ℕ, zero, suc, ◌+◌, ◌<◌, ◌==◌, Bool, true, false, ◌&&◌, List, [], ◌∷◌}
-use Rattle.std.proofs.Common.{length, get_or, Contains, None, refl, sym, ap, subst, arith}
+use Rattle.std.proofs.Common.{◌≡◌, ◌∙◌, ℕ, zero, suc, ◌+◌, ◌<◌, ◌==◌, Bool, true, false, ◌&&◌, List, [], ◌∷◌, length}
+use Rattle.std.proofs.Common.{get_or, Contains, None, refl, sym, ap, subst, arith}
 use Rattle.vt100_forms.specs.Attrs.{default_attrs}
 use Rattle.vt100_forms.specs.Form.{spell}
 use Rattle.vt100_cells.specs.Cell.{CellView}
@@ -22,7 +22,8 @@ use Rattle.vt100_core.proofs.PictureLemmas.{visible_at-drawn, visible_wraps-draw
 use Rattle.screen_model.specs.State.{State}
 use Rattle.screen_model.specs.Shown.{shown_state}
 use Rattle.vt100.specs.Writers.{each_formatted, each_diff, rows_formatted, rows_diff}
-use Rattle.vt100.specs.WriterLaws.{IsUnscrolled, IsPlainLine, IsKnownLine, text_at, EachRowTextLeads, EachRowDifferenceLeads}
+use Rattle.vt100.specs.WriterLaws.{IsUnscrolled, IsPlainLine, IsKnownLine, text_at, EachRowTextLeads}
+use Rattle.vt100.specs.WriterLaws.{EachRowDifferenceLeads}
 use Rattle.vt100.proofs.ShownLemmas.{cells-are}
 
 -- ---- the text of each row

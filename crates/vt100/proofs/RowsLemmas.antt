@@ -1,6 +1,6 @@
 -- The texts of a screen's rows as forms.
-use Rattle.std.proofs.Common.{◌≡◌, ℕ, ◌<◌, ◌^◌, List, [], ◌∷◌, length, refl, arith, Option, None, Result}
-use Rattle.std.proofs.Common.{sym, ap, ◌∙◌, subst}
+use Rattle.std.proofs.Common.{◌≡◌, ℕ, ◌<◌, ◌^◌, List, [], ◌∷◌, length, refl, arith, Option, None, Result, sym, ap, ◌∙◌}
+use Rattle.std.proofs.Common.{subst}
 use Rattle.vt100.specs.declared.error.ScreenError.{ScreenError}
 use Rattle.vt100.specs.Texts.{YieldsText}
 use Rattle.vt100_rows.specs.Row.{RowView}

@@ -8,7 +8,7 @@ use Rattle.std.specs.Str.{IsUtf8, chars}
 use Rattle.std.proofs.lemmas.Grind.{common_steps}
 use Rattle.std.proofs.lemmas.Str.{chars_past_char, chars-nil}
 use Rattle.vte_core.proofs.Telling.{performs-append, same_events}
-use Rattle.std.proofs.lemmas.Bool.{false≢true}
+use Rattle.std.proofs.lemmas.Bool.{cases_Bool, false≢true}
 use Rattle.std.proofs.lemmas.Bool.Decides.{nat_tests}
 use Rattle.std.proofs.lemmas.List.Elements.{All-drop}
 use Rattle.vt100_cells.specs.Cell.{IsPrintable, columns_of, is_undrawable}
@@ -33,9 +33,10 @@ use Rattle.vt100.specs.Memory.{keeps_rows}
 use Rattle.vt100.specs.Tries.{Tries, SameBounds, HearsFront, alive}
 use Rattle.vt100.specs.Goes.{Fails, Goes, GoesThrough}
 use Rattle.vt100.specs.Runs.{IsHandled, typed_all, last_of, PrintsFront}
-use Rattle.vt100.proofs.HearLemmas.{hears_all}
+use Rattle.vt100.specs.declared.screen.reported.Reporter.{Reporter}
+use Rattle.vt100.proofs.HearLemmas.{Reports, hears_all}
 use Rattle.vt100.proofs.PrintableLemmas.{printable-chars}
-use Rattle.vt100.proofs.EventLemmas.{is_alive, does_as, does_none, does_where}
+use Rattle.vt100.proofs.EventLemmas.{is_alive, does_as, does_live, does_none, does_where}
 use Rattle.vt100.proofs.LimitsLemmas.{bounds_typed, bounds_back, keeps_typed}
 use Rattle.vt100.proofs.RefusedLemmas.{tries_front, refused_keeps}
 use Rattle.vt100.proofs.PlayLemmas.{Steps}
@@ -157,15 +158,11 @@ run_refused scrolls xs v c d w live p failed told =
 
 -- ---- what the callbacks heard of a run, and that they stay where they are
 
-pub run_heard : {S C N E : Type 0} (scrolls : C → RowView → Bool → C → Type 0) (takes : S → RowView → S → Type 0)
-    (callbacks : S → C) (alternate : S → Bool) (name : S → N)
-    → ((s : S) (v : RowView) (t : S) → takes s v t → scrolls (callbacks s) v (alternate s) (callbacks t)
-    × (alternate t ≡ alternate s) × (name t ≡ name s))
-    → (result : Result (Unit {0}) E) (s : S) (rows : List RowView) (t : S) → OnOk result (TakesAll takes s rows t)
-    → OnOk result (Hears scrolls (callbacks s) (reports_of (alternate s) rows) (callbacks t))
-run_heard scrolls takes callbacks alternate name each (Ok u) s rows t h =
-    (hears_all scrolls takes callbacks alternate name each s rows t h).0
-run_heard scrolls takes callbacks alternate name each (Err e) s rows t h = tt
+pub run_heard : {C E : Type 0} (scrolls : C → RowView → Bool → C → Type 0) (result : Result (Unit {0}) E)
+    (s : Reporter C) (rows : List RowView) (t : Reporter C) → OnOk result (TakesAll (Reports scrolls) s rows t)
+    → OnOk result (Hears scrolls s.callbacks.now (reports_of s.alternate_screen rows) t.callbacks.now)
+run_heard scrolls (Ok u) s rows t h = (hears_all scrolls s rows t h).0
+run_heard scrolls (Err e) s rows t h = tt
 
 -- the rows that leave while some characters are printed, and then others
 sunk-append : (g : GridView) (xs ys : List ℕ) (a : Attrs) → (printed_all g (xs ++ ys) a).sunk
@@ -178,36 +175,28 @@ sunk-append g (x ∷ xs) ys a =
     ∙ sym (append_assoc first.sunk others.sunk (printed_all others.grid ys a).sunk)
 
 -- at a refusal they heard of the rows that left while a front was printed
-pub front_heard : {S C N E : Type 0} (scrolls : C → RowView → Bool → C → Type 0) (takes : S → RowView → S → Type 0)
-    (callbacks : S → C) (alternate : S → Bool) (name : S → N)
-    → ((s : S) (v : RowView) (t : S) → takes s v t → scrolls (callbacks s) v (alternate s) (callbacks t)
-    × (alternate t ≡ alternate s) × (name t ≡ name s))
-    → (result : Result (Unit {0}) E) (s : S) (g : GridView) (xs : List ℕ) (a : Attrs) (t : S)
-    → OnErr result (TakesFront takes s g xs a t)
-    → OnErr result (HearsFront scrolls (callbacks s) (reports_of (alternate s) (printed_all g xs a).sunk) (callbacks t))
-front_heard scrolls takes callbacks alternate name each (Ok u) s g xs a t h = tt
-front_heard scrolls takes callbacks alternate name each (Err e) s g xs a t h =
+pub front_heard : {C E : Type 0} (scrolls : C → RowView → Bool → C → Type 0) (result : Result (Unit {0}) E)
+    (s : Reporter C) (g : GridView) (xs : List ℕ) (a : Attrs) (t : Reporter C)
+    → OnErr result (TakesFront (Reports scrolls) s g xs a t) → OnErr result (HearsFront scrolls s.callbacks.now
+    (reports_of s.alternate_screen (printed_all g xs a).sunk) t.callbacks.now)
+front_heard scrolls (Ok u) s g xs a t h = tt
+front_heard scrolls (Err e) s g xs a t h =
     let front = printed_all g h.0 a in
-    let rest = printed_all front.grid h.1 a in (
-      reports_of (alternate s) front.sunk,
-      reports_of (alternate s) rest.sunk,
-      ap (λ (ys : List ℕ). reports_of (alternate s) (printed_all g ys a).sunk) h.2
-          ∙ ap (reports_of (alternate s)) (sunk-append g h.0 h.1 a)
-          ∙ sym (reports-append (alternate s) front.sunk rest.sunk),
-      (hears_all scrolls takes callbacks alternate name each s front.sunk t h.3).0,
+    let rest = printed_all front.grid h.1 a in
+    let reports = reports_of s.alternate_screen in (
+      reports front.sunk,
+      reports rest.sunk,
+      ap (λ (ys : List ℕ). reports (printed_all g ys a).sunk) h.2 ∙ ap reports (sunk-append g h.0 h.1 a)
+          ∙ sym (reports-append s.alternate_screen front.sunk rest.sunk),
+      (hears_all scrolls s front.sunk t h.3).0,
     )
 
-pub run_same : {S C N E : Type 0} (scrolls : C → RowView → Bool → C → Type 0) (takes : S → RowView → S → Type 0)
-    (callbacks : S → C) (alternate : S → Bool) (name : S → N)
-    → ((s : S) (v : RowView) (t : S) → takes s v t → scrolls (callbacks s) v (alternate s) (callbacks t)
-    × (alternate t ≡ alternate s) × (name t ≡ name s))
-    → (result : Result (Unit {0}) E) (s : S) (g : GridView) (xs : List ℕ) (a : Attrs) (t : S)
-    → OnOk result (TakesAll takes s (printed_all g xs a).sunk t) → OnErr result (TakesFront takes s g xs a t)
-    → name t ≡ name s
-run_same scrolls takes callbacks alternate name each (Ok u) s g xs a t h k =
-    (hears_all scrolls takes callbacks alternate name each s (printed_all g xs a).sunk t h).1
-run_same scrolls takes callbacks alternate name each (Err e) s g xs a t h k =
-    (hears_all scrolls takes callbacks alternate name each s (printed_all g k.0 a).sunk t k.3).1
+pub run_same : {C E : Type 0} (scrolls : C → RowView → Bool → C → Type 0) (result : Result (Unit {0}) E)
+    (s : Reporter C) (g : GridView) (xs : List ℕ) (a : Attrs) (t : Reporter C)
+    → OnOk result (TakesAll (Reports scrolls) s (printed_all g xs a).sunk t)
+    → OnErr result (TakesFront (Reports scrolls) s g xs a t) → t.callbacks.ghost_name ≡ s.callbacks.ghost_name
+run_same scrolls (Ok u) s g xs a t h k = (hears_all scrolls s (printed_all g xs a).sunk t h).1
+run_same scrolls (Err e) s g xs a t h k = (hears_all scrolls s (printed_all g k.0 a).sunk t k.3).1
 
 -- ---- a run, event by event
 
@@ -221,46 +210,6 @@ hears-split scrolls c [] ys d h = (c, refl, h)
 hears-split scrolls c (x ∷ xs) ys d h =
     let r = hears-split scrolls h.0 xs ys d h.2 in
     (r.0, (h.0, h.1, r.1), r.2)
-
--- one character of a run
-goes-typed : {C : Type 0} (step : C → ScreenView → Call → C → ScreenView → Type 0)
-    (scrolls : C → RowView → Bool → C → Type 0) (ch : ℕ) (c : C) (v : ScreenView) (d : C) (w : ScreenView)
-    → is_unhandled ch ≡ false → v.failed ≡ false → (Hears scrolls c (typed ch v.state).reports d
-    × (w ≡ alive (typed ch v.state).state)) ⊎ Fails scrolls (keeps_rows v.state) (typed ch v.state).reports c v d w
-    → Goes step scrolls (Print ch) c v d w
-goes-typed step scrolls ch c v d w p live h =
-    does_where step scrolls _ c v d w (ap (λ (b : Bool). not b && keeps_rows v.state) (sym p))
-    (does_as step scrolls (λ t. steps (typed ch t)) _ c v d w
-    (ap (λ (b : Bool). cond b (calling (said.unhandled_char ch ∷ []) v.state) (steps (typed ch v.state)))
-    (sym p))
-    (record {
-      dead = λ e. absurd (false≢true (sym live ∙ e));
-      live = λ e. elim h [
-        | inl a ↦ inl (d, a.0, (refl, a.1))
-        | inr f ↦ inr f
-      ];
-    }))
-
-goes-failed : {C : Type 0} (step : C → ScreenView → Call → C → ScreenView → Type 0)
-    (scrolls : C → RowView → Bool → C → Type 0) (xs : List ℕ) (c : C) (v : ScreenView) → v.failed ≡ true
-    → GoesThrough step scrolls (map Print xs) c v c v
-goes-failed step scrolls [] c v h = (refl, refl)
-goes-failed step scrolls (x ∷ xs) c v h =
-    (c, v, does_none step scrolls _ c v h, goes-failed step scrolls xs c v h)
-
-goes-run : {C : Type 0} (step : C → ScreenView → Call → C → ScreenView → Type 0)
-    (scrolls : C → RowView → Bool → C → Type 0) (xs : List ℕ) (c : C) (v : ScreenView) (d : C) (w : ScreenView)
-    → All IsHandled xs → v.failed ≡ false → Hears scrolls c (typed_all xs v.state).reports d
-    → w ≡ alive (typed_all xs v.state).state → GoesThrough step scrolls (map Print xs) c v d w
-goes-run step scrolls [] c v d w p live hears screen = (sym hears, screen ∙ sym (is_alive v live))
-goes-run step scrolls (x ∷ xs) c v d w p live hears screen =
-    let t = typed x v.state in
-    let s = hears-split scrolls c t.reports (typed_all xs t.state).reports d hears in (
-      s.0,
-      alive t.state,
-      goes-typed step scrolls x c v s.0 (alive t.state) (p zero 0 (omega arith)) live (inl (s.1, refl)),
-      goes-run step scrolls xs s.0 (alive t.state) d w (All-drop IsHandled 1 (x ∷ xs) p) refl s.2 screen,
-    )
 
 -- a front of two lists ends in the first of them, or has all of it
 abbrev Parts : List Report → List Report → List Report → List Report → Type 0
@@ -278,145 +227,160 @@ parts (x ∷ xs) ys (f ∷ front) rest e =
       | inr p ↦ inr (p.0, (λ i. sym heads i ∷ p.1 i), p.2)
     ]
 
--- the screen fails at one of some characters, where it is w then
-goes-refused : {C : Type 0} (step : C → ScreenView → Call → C → ScreenView → Type 0)
-    (scrolls : C → RowView → Bool → C → Type 0) (x : ℕ) (xs : List ℕ) (c : C) (v : ScreenView) (d : C) (w : ScreenView)
-    → All IsHandled (x ∷ xs) → v.failed ≡ false → w.failed ≡ true → keeps_rows v.state ≡ true
-    → SameBounds v.state w.state → HearsFront scrolls c (typed_all (x ∷ xs) v.state).reports d
-    → GoesThrough step scrolls (map Print (x ∷ xs)) c v d w
-goes-refused step scrolls x [] c v d w p live failed keeps bounds told = (
-  d,
-  w,
-  goes-typed step scrolls x c v d w (p zero 0 (omega arith)) live (inr (record {
-    may_take = keeps;
-    failed = failed;
-    bounds = bounds;
-    told = (told.0, told.1, sym (append-nil (typed x v.state).reports) ∙ told.2, told.3);
-  })),
-  goes-failed step scrolls [] d w failed,
-)
-goes-refused step scrolls x (y ∷ ys) c v d w p live failed keeps bounds told =
-    let t = typed x v.state in
-    let handled = p zero 0 (omega arith) in
-    elim (parts t.reports (typed_all (y ∷ ys) t.state).reports told.0 told.1 told.2) [
-      | inl here ↦ (
-        d,
-        w,
-        goes-typed step scrolls x c v d w handled live (inr (record {
-          may_take = keeps;
-          failed = failed;
-          bounds = bounds;
-          told = (told.0, here.0, here.1, told.3);
-        })),
-        goes-failed step scrolls (y ∷ ys) d w failed,
-      )
-      | inr later ↦
-          let s = hears-split scrolls c t.reports later.0 d
-          (subst (λ (rs : List Report). Hears scrolls c rs d) later.1 told.3) in (
-            s.0,
-            alive t.state,
-            goes-typed step scrolls x c v s.0 (alive t.state) handled live (inl (s.1, refl)),
-            goes-refused step scrolls y ys s.0 (alive t.state) d w (All-drop IsHandled 1 (x ∷ y ∷ ys) p) refl failed
-                (keeps_typed x v.state ∙ keeps)
-                (bounds_back v.state t.state w.state (bounds_typed x v.state) bounds)
-                (later.0, told.1, later.2, s.2),
-          )
-    ]
-
-either-failed : (b : Bool) → (b ≡ true) ⊎ (b ≡ false)
-either-failed true = inl refl
-either-failed false = inr refl
-
 memory-failed : {A : Type 0} (x y : Result A ScreenError) → x ≡ Err Memory → y ≡ Err Failed → x ≡ y → false ≡ true
 memory-failed x y p q e = cc
-
-pub goes-tries : {C : Type 0} (step : C → ScreenView → Call → C → ScreenView → Type 0)
-    (scrolls : C → RowView → Bool → C → Type 0) (xs : List ℕ) (c : C) (v : ScreenView)
-    (result : Result (Unit {0}) ScreenError) (d : C) (w : ScreenView) → 0 < length xs → All IsHandled xs
-    → Tries scrolls (typed_all xs) v c result w d → SameBounds v.state w.state
-    → (v.failed ≡ false → v.state.shown.kept.capacity ≡ 0 → IsOk result)
-    → GoesThrough step scrolls (map Print xs) c v d w
-goes-tries step scrolls xs c v (Ok a) d w some p t k keeps =
-    goes-run step scrolls xs c v d w p t.live t.hears t.screen
-goes-tries step scrolls [] c v (Err Memory) d w some p t k keeps = absurd (omega arith)
-goes-tries step scrolls (x ∷ xs) c v (Err Memory) d w some p t k keeps =
-    elim (either-failed v.failed) [
-      | inl f ↦ absurd (false≢true (memory-failed {A = Unit {0}} (Err Memory) (Err Failed) refl refl (t.dead f).0))
-      | inr f ↦ goes-refused step scrolls x xs c v d w p f (t.memory refl)
-          (refused_keeps {A = Unit {0}} v.state.shown.kept.capacity (Err Memory) keeps f refl) k (t.told refl)
-    ]
-goes-tries {C} step scrolls xs c v (Err Failed) d w some p t k keeps =
-    let f = t.refused refl in
-    let same = t.dead f in
-    subst (λ (x : C). GoesThrough step scrolls (map Print xs) c v x w) (sym same.2)
-    (subst (λ (x : ScreenView). GoesThrough step scrolls (map Print xs) c v c x) (sym same.1)
-    (goes-failed step scrolls xs c v f))
-
--- ---- a performer's steps
-
-pub performs-goes : {C : Type 0} (step : C → ScreenView → Call → C → ScreenView → Type 0)
-    (scrolls : C → RowView → Bool → C → Type 0) (es : List Event) (p q : WrappedScreen C)
-    → GoesThrough step scrolls es p.callbacks p.screen q.callbacks q.screen → Performs (Steps step scrolls) p es q
-performs-goes step scrolls [] p q h = λ i. record { screen = h.1 i; callbacks = h.0 i }
-performs-goes {C} step scrolls (e ∷ es) p q h =
-    let m : WrappedScreen C = record { screen = h.1; callbacks = h.0 } in
-    (m, h.2, performs-goes step scrolls es m q h.3)
-
--- ---- the front of a text
-
--- printable ASCII
-pub front-run : {C : Type 0} (step : C → ScreenView → Call → C → ScreenView → Type 0)
-    (scrolls : C → RowView → Bool → C → Type 0) (bs : List ℕ) (n : ℕ) (c : C) (v : ScreenView)
-    (result : Result (Unit {0}) ScreenError) (d : C) (w : ScreenView) → 0 < n → n ≤ length bs
-    → All IsPrintable (take n bs) → Tries scrolls (typed_all (take n bs)) v c result w d → SameBounds v.state w.state
-    → (v.failed ≡ false → v.state.shown.kept.capacity ≡ 0 → IsOk result)
-    → PrintsFront step scrolls bs (drop n bs) c v d w
-front-run step scrolls bs n c v result d w pos within p t k keeps =
-    let some : 0 < length (take n bs) = grind (arith, common_steps) in (
-      take n bs,
-      printable-chars bs n p,
-      goes-tries step scrolls (take n bs) c v result d w some
-          (λ i e l. printable-handled (get_or (take n bs) i e) (p i e l)) t k keeps,
-    )
-
--- some characters
-pub front-some : {C : Type 0} (step : C → ScreenView → Call → C → ScreenView → Type 0)
-    (scrolls : C → RowView → Bool → C → Type 0) (bs rest front : List ℕ) (c : C) (v : ScreenView)
-    (result : Result (Unit {0}) ScreenError) (d : C) (w : ScreenView) → 0 < length front → All IsHandled front
-    → chars bs ≡ front ++ chars rest
-    → Tries scrolls (typed_all front) v c result w d → SameBounds v.state w.state
-    → (v.failed ≡ false → v.state.shown.kept.capacity ≡ 0 → IsOk result)
-    → PrintsFront step scrolls bs rest c v d w
-front-some step scrolls bs rest front c v result d w some p e t k keeps =
-    (front, e, goes-tries step scrolls front c v result d w some p t k keeps)
-
--- a character
-pub front-char : {C : Type 0} (step : C → ScreenView → Call → C → ScreenView → Type 0)
-    (scrolls : C → RowView → Bool → C → Type 0) (bs rest : List ℕ) (ch : ℕ) (c : C) (v : ScreenView) (d : C)
-    (w : ScreenView) → IsUtf8 bs → bs ≡ encode_utf8 ch ++ rest → Goes step scrolls (Print ch) c v d w
-    → PrintsFront step scrolls bs rest c v d w
-front-char step scrolls bs rest ch c v d w u e goes =
-    (ch ∷ [], chars_past_char bs rest ch u e, (d, w, goes, (refl, refl)))
 
 map-append : (xs ys : List ℕ) → map Print xs ++ map Print ys ≡ map Print (xs ++ ys)
 map-append [] ys = refl
 map-append (x ∷ xs) ys = ap (λ (es : List Event). Print x ∷ es) (map-append xs ys)
 
--- and then the others
-pub front-then : {C : Type 0} (step : C → ScreenView → Call → C → ScreenView → Type 0)
-    (scrolls : C → RowView → Bool → C → Type 0) (bs rest : List ℕ) (p m q : WrappedScreen C)
-    → PrintsFront step scrolls bs rest p.callbacks p.screen m.callbacks m.screen
-    → Performs (Steps step scrolls) m (map Print (chars rest)) q
-    → Performs (Steps step scrolls) p (map Print (chars bs)) q
-front-then step scrolls bs rest p m q h more =
-    same_events (Steps step scrolls) p q (map Print h.0 ++ map Print (chars rest)) (map Print (chars bs))
-    (map-append h.0 (chars rest) ∙ ap (map Print) (sym h.1))
-    (performs-append (Steps step scrolls) p m q (map Print h.0) (map Print (chars rest))
-    (performs-goes step scrolls (map Print h.0) p m h.2) more)
+module _ {C : Type 0} (step : C → ScreenView → Call → C → ScreenView → Type 0)
+    (scrolls : C → RowView → Bool → C → Type 0) where
+  -- one character of a run
+  goes-typed : (ch : ℕ) (c : C) (v : ScreenView) (d : C) (w : ScreenView) → is_unhandled ch ≡ false → v.failed ≡ false
+      → (Hears scrolls c (typed ch v.state).reports d × (w ≡ alive (typed ch v.state).state)) ⊎ Fails scrolls
+      (keeps_rows v.state) (typed ch v.state).reports c v d w → Goes step scrolls (Print ch) c v d w
+  goes-typed ch c v d w p live h =
+      does_where (ap (λ (b : Bool). not b && keeps_rows v.state) (sym p)) (does_as (λ t. steps (typed ch t))
+      (ap (λ (b : Bool). cond b (calling (said.unhandled_char ch ∷ []) v.state) (steps (typed ch v.state))) (sym p))
+      (does_live (λ t. steps (typed ch t)) live (elim h [
+        | inl a ↦ inl (d, a.0, (refl, a.1))
+        | inr f ↦ inr f
+      ])))
 
-pub front-end : {C : Type 0} (step : C → ScreenView → Call → C → ScreenView → Type 0)
-    (scrolls : C → RowView → Bool → C → Type 0) (bs : List ℕ) (p : WrappedScreen C) → length bs ≡ 0
-    → Performs (Steps step scrolls) p (map Print (chars bs)) p
-front-end step scrolls [] p none =
-    same_events (Steps step scrolls) p p [] (map Print (chars [])) (ap (map Print) (sym chars-nil)) refl
-front-end step scrolls (x ∷ xs) p none = absurd (omega arith)
+  goes-failed : (xs : List ℕ) (c : C) (v : ScreenView) → v.failed ≡ true
+      → GoesThrough step scrolls (map Print xs) c v c v
+  goes-failed [] c v h = (refl, refl)
+  goes-failed (x ∷ xs) c v h = (c, v, does_none h, goes-failed xs c v h)
+
+  goes-run : (xs : List ℕ) (c : C) (v : ScreenView) (d : C) (w : ScreenView) → All IsHandled xs → v.failed ≡ false
+      → Hears scrolls c (typed_all xs v.state).reports d → w ≡ alive (typed_all xs v.state).state
+      → GoesThrough step scrolls (map Print xs) c v d w
+  goes-run [] c v d w p live hears screen = (sym hears, screen ∙ sym (is_alive v live))
+  goes-run (x ∷ xs) c v d w p live hears screen =
+      let t = typed x v.state in
+      let s = hears-split scrolls c t.reports (typed_all xs t.state).reports d hears in (
+        s.0,
+        alive t.state,
+        goes-typed x c v s.0 (alive t.state) (p zero 0 (omega arith)) live (inl (s.1, refl)),
+        goes-run xs s.0 (alive t.state) d w (All-drop IsHandled 1 (x ∷ xs) p) refl s.2 screen,
+      )
+
+  -- the screen fails at one of some characters, where it is w then
+  goes-refused : (x : ℕ) (xs : List ℕ) (c : C) (v : ScreenView) (d : C) (w : ScreenView) → All IsHandled (x ∷ xs)
+      → v.failed ≡ false → w.failed ≡ true → keeps_rows v.state ≡ true → SameBounds v.state w.state
+      → HearsFront scrolls c (typed_all (x ∷ xs) v.state).reports d
+      → GoesThrough step scrolls (map Print (x ∷ xs)) c v d w
+  goes-refused x [] c v d w p live failed keeps bounds told = (
+    d,
+    w,
+    goes-typed x c v d w (p zero 0 (omega arith)) live (inr (record {
+      may_take = keeps;
+      failed = failed;
+      bounds = bounds;
+      told = (told.0, told.1, sym (append-nil (typed x v.state).reports) ∙ told.2, told.3);
+    })),
+    goes-failed [] d w failed,
+  )
+  goes-refused x (y ∷ ys) c v d w p live failed keeps bounds told =
+      let t = typed x v.state in
+      let handled = p zero 0 (omega arith) in
+      elim (parts t.reports (typed_all (y ∷ ys) t.state).reports told.0 told.1 told.2) [
+        | inl here ↦ (
+          d,
+          w,
+          goes-typed x c v d w handled live (inr (record {
+            may_take = keeps;
+            failed = failed;
+            bounds = bounds;
+            told = (told.0, here.0, here.1, told.3);
+          })),
+          goes-failed (y ∷ ys) d w failed,
+        )
+        | inr later ↦
+            let s = hears-split scrolls c t.reports later.0 d
+            (subst (λ (rs : List Report). Hears scrolls c rs d) later.1 told.3) in (
+              s.0,
+              alive t.state,
+              goes-typed x c v s.0 (alive t.state) handled live (inl (s.1, refl)),
+              goes-refused y ys s.0 (alive t.state) d w (All-drop IsHandled 1 (x ∷ y ∷ ys) p) refl failed
+                  (keeps_typed x v.state ∙ keeps)
+                  (bounds_back v.state t.state w.state (bounds_typed x v.state) bounds)
+                  (later.0, told.1, later.2, s.2),
+            )
+      ]
+
+  pub goes-tries : (xs : List ℕ) (c : C) (v : ScreenView) (result : Result (Unit {0}) ScreenError) (d : C)
+      (w : ScreenView) → 0 < length xs → All IsHandled xs → Tries scrolls (typed_all xs) v c result w d
+      → SameBounds v.state w.state → (v.failed ≡ false → v.state.shown.kept.capacity ≡ 0 → IsOk result)
+      → GoesThrough step scrolls (map Print xs) c v d w
+  goes-tries xs c v (Ok a) d w some p t k keeps = goes-run xs c v d w p t.live t.hears t.screen
+  goes-tries [] c v (Err Memory) d w some p t k keeps = absurd (omega arith)
+  goes-tries (x ∷ xs) c v (Err Memory) d w some p t k keeps =
+      elim (cases_Bool v.failed) [
+        | inl f ↦ absurd (false≢true (memory-failed {A = Unit {0}} (Err Memory) (Err Failed) refl refl (t.dead f).0))
+        | inr f ↦ goes-refused x xs c v d w p f (t.memory refl)
+            (refused_keeps {A = Unit {0}} v.state.shown.kept.capacity (Err Memory) keeps f refl) k (t.told refl)
+      ]
+  goes-tries xs c v (Err Failed) d w some p t k keeps =
+      let f = t.refused refl in
+      let same = t.dead f in
+      subst (λ (x : C). GoesThrough step scrolls (map Print xs) c v x w) (sym same.2)
+      (subst (λ (x : ScreenView). GoesThrough step scrolls (map Print xs) c v c x) (sym same.1)
+      (goes-failed xs c v f))
+
+  -- ---- a performer's steps
+
+  pub performs-goes : (es : List Event) (p q : WrappedScreen C)
+      → GoesThrough step scrolls es p.callbacks p.screen q.callbacks q.screen → Performs (Steps step scrolls) p es q
+  performs-goes [] p q h = λ i. record { screen = h.1 i; callbacks = h.0 i }
+  performs-goes (e ∷ es) p q h =
+      let m : WrappedScreen C = record { screen = h.1; callbacks = h.0 } in
+      (m, h.2, performs-goes es m q h.3)
+
+  -- ---- the front of a text
+
+  -- printable ASCII
+  pub front-run : (bs : List ℕ) (n : ℕ) (c : C) (v : ScreenView) (result : Result (Unit {0}) ScreenError) (d : C)
+      (w : ScreenView) → 0 < n → n ≤ length bs → All IsPrintable (take n bs)
+      → Tries scrolls (typed_all (take n bs)) v c result w d → SameBounds v.state w.state
+      → (v.failed ≡ false → v.state.shown.kept.capacity ≡ 0 → IsOk result)
+      → PrintsFront step scrolls bs (drop n bs) c v d w
+  front-run bs n c v result d w pos within p t k keeps =
+      let some : 0 < length (take n bs) = grind (arith, common_steps) in (
+        take n bs,
+        printable-chars bs n p,
+        goes-tries (take n bs) c v result d w some
+            (λ i e l. printable-handled (get_or (take n bs) i e) (p i e l)) t k keeps,
+      )
+
+  -- some characters
+  pub front-some : (bs rest front : List ℕ) (c : C) (v : ScreenView) (result : Result (Unit {0}) ScreenError) (d : C)
+      (w : ScreenView) → 0 < length front → All IsHandled front → chars bs ≡ front ++ chars rest
+      → Tries scrolls (typed_all front) v c result w d → SameBounds v.state w.state
+      → (v.failed ≡ false → v.state.shown.kept.capacity ≡ 0 → IsOk result) → PrintsFront step scrolls bs rest c v d w
+  front-some bs rest front c v result d w some p e t k keeps =
+      (front, e, goes-tries front c v result d w some p t k keeps)
+
+  -- a character
+  pub front-char : (bs rest : List ℕ) (ch : ℕ) (c : C) (v : ScreenView) (d : C) (w : ScreenView) → IsUtf8 bs
+      → bs ≡ encode_utf8 ch ++ rest → Goes step scrolls (Print ch) c v d w → PrintsFront step scrolls bs rest c v d w
+  front-char bs rest ch c v d w u e goes =
+      (ch ∷ [], chars_past_char bs rest ch u e, (d, w, goes, (refl, refl)))
+
+  -- and then the others
+  pub front-then : (bs rest : List ℕ) (p m q : WrappedScreen C)
+      → PrintsFront step scrolls bs rest p.callbacks p.screen m.callbacks m.screen
+      → Performs (Steps step scrolls) m (map Print (chars rest)) q
+      → Performs (Steps step scrolls) p (map Print (chars bs)) q
+  front-then bs rest p m q h more =
+      same_events (Steps step scrolls) p q (map Print h.0 ++ map Print (chars rest)) (map Print (chars bs))
+      (map-append h.0 (chars rest) ∙ ap (map Print) (sym h.1))
+      (performs-append (Steps step scrolls) p m q (map Print h.0) (map Print (chars rest))
+      (performs-goes (map Print h.0) p m h.2) more)
+
+  pub front-end : (bs : List ℕ) (p : WrappedScreen C) → length bs ≡ 0
+      → Performs (Steps step scrolls) p (map Print (chars bs)) p
+  front-end [] p none =
+      same_events (Steps step scrolls) p p [] (map Print (chars [])) (ap (map Print) (sym chars-nil)) refl
+  front-end (x ∷ xs) p none = absurd (omega arith)

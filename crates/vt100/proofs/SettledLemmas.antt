@@ -16,9 +16,7 @@ pub at-err : {T E P : Type 0} (r : Result T E) → IsErr r → OnErr r P → P
 at-err (Ok x) e h = absurd (false≢true e)
 at-err (Err x) e h = h
 
--- ---- another size
-
--- the screen is one, also where it has failed
+-- a screen of another size is one, also where it has failed
 pub settled_screen : {E : Type 0} (s : Inside) (g h : GridView) (rows cols : ℕ) (answer : Result (Unit {0}) E)
     (result : Result (Unit {0}) ScreenError) (failed : Bool) → IsInside s
     → IfOk result (λ x. answer ≡ Ok x) → OnOk result (failed ≡ s.failed) → OnErr result (failed ≡ true)
@@ -43,5 +41,3 @@ settled_screen s g h rows cols answer (Err e) failed i done same marked is other
       proper = λ live. absurd (false≢true (sym live ∙ marked));
       other_proper = λ live. absurd (false≢true (sym live ∙ marked));
     }
-
--- ---- without callbacks

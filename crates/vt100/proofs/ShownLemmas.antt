@@ -25,9 +25,8 @@ use Rattle.vt100_rows.specs.Picture.{lines_of}
 use Rattle.screen_model.specs.State.{State}
 use Rattle.screen_model.specs.Shown.{shown_state, extras_of}
 use Rattle.vt100.specs.Writers.{contents_formatted, state_formatted, contents_diff, state_diff, cursor_state_formatted}
-use Rattle.vt100.specs.WriterLaws.{IsUnscrolled, EachRedrawIsOfShown}
-use Rattle.vt100.specs.WriterLaws.{EachDifferenceIsOfShown, EachScreenIsDrawable, EachRedrawLeads}
-use Rattle.vt100.specs.WriterLaws.{EachDifferenceLeads}
+use Rattle.vt100.specs.WriterLaws.{IsUnscrolled, EachRedrawIsOfShown, EachDifferenceIsOfShown, EachScreenIsDrawable}
+use Rattle.vt100.specs.WriterLaws.{EachRedrawLeads, EachDifferenceLeads}
 
 grid-unscrolled : (s : State) → IsUnscrolled s → core.IsUnscrolledGrid s.shown
 grid-unscrolled s h = record { grid = h.state.shown; some = h.state.drawn; offset = h.offset }

@@ -1,4 +1,3 @@
--- Answers for laws::differences_of_rows_lead.
 use Rattle.vt100.proofs.RowTexts.{row-differences_lead}
 use Rattle.vt100.proofs.laws.differences_of_rows_lead.Goals as goal
 

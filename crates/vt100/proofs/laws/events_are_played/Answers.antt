@@ -1,4 +1,3 @@
--- Answers for laws::events_are_played.
 use Rattle.vt100.proofs.PlayLemmas.{plays_events, feeds_make}
 use Rattle.vt100.proofs.laws.events_are_played.Goals as goal
 

@@ -1,4 +1,3 @@
--- Answers for laws::feeds_are_joined.
 use Rattle.vt100.proofs.PlayLemmas.{feeds_join, feeds_nothing, acts_follow}
 use Rattle.vt100.proofs.laws.feeds_are_joined.Goals as goal
 

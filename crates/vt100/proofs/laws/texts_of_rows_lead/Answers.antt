@@ -1,4 +1,3 @@
--- Answers for laws::texts_of_rows_lead.
 use Rattle.vt100.proofs.RowTexts.{row-texts_lead}
 use Rattle.vt100.proofs.laws.texts_of_rows_lead.Goals as goal
 

@@ -1,4 +1,3 @@
--- Answers for runs::are_printable.
 use Rattle.std.proofs.Common.{◌≡◌, ◌≤◌, ℕ, List, length, take, subst, arith}
 use Rattle.std.specs.Prelude.{All}
 use Rattle.std.proofs.lemmas.Grind.{common_steps}
@@ -10,11 +9,9 @@ all_taken : (xs : List ℕ) (i : ℕ) → length xs ≤ i → take i xs ≡ xs
 all_taken xs i h = grind (arith, common_steps)
 
 pub loop-byte-preserved : goal.loop-byte-preserved
-loop-byte-preserved c =
-    printable-more c.args.bytes.now c.loop-byte.byte-index c.loop-byte.are_printable c.loop-byte-test.true
-    c.loop-byte.invariant
+loop-byte-preserved c = printable-more c.args.bytes.now c.loop-byte.byte-index c.loop-byte.are_printable
+    c.loop-byte-test.true c.loop-byte.invariant
 
 pub returns : goal.returns
-returns c h =
-    subst (λ (xs : List ℕ). All IsPrintable xs)
-    (all_taken c.args.bytes.now c.loop-byte.byte-index c.loop-byte-test.false) (c.loop-byte.invariant h)
+returns c h = subst (λ (xs : List ℕ). All IsPrintable xs) (all_taken c.args.bytes.now c.loop-byte.byte-index
+    c.loop-byte-test.false) (c.loop-byte.invariant h)

@@ -1,4 +1,3 @@
--- Invariants of runs::are_printable.
 use Rattle.std.proofs.Common.{take}
 use Rattle.std.specs.Prelude.{All}
 use Rattle.std.specs.Bool.{IsTrue}

@@ -1,7 +1,5 @@
--- Answers for parser::Parser::process.
 use Rattle.std.proofs.Common.{◌≡◌, ◌∙◌, false, sym, arith}
 use Rattle.vt100.proofs.PlayLemmas.{goes_told, stands_fed, fed_bounded, some_taken}
-use Rattle.vt100.specs.Parsing.{ParserView}
 use Rattle.vt100.proofs.parser.Parser.process.Goals as goal
 
 pub returns-then-failed-2-clause-goes : goal.returns-then-failed-2-clause-goes
@@ -22,29 +20,16 @@ returns-clause-made g c =
 
 pub returns-then-failed-2-clause-bounds : goal.returns-then-failed-2-clause-bounds
 returns-then-failed-2-clause-bounds g c = rw (← c.self.view_is) (λ keeps rows cols capacity acts are at.
-    let after : ParserView g.row.CB.Denot = record {
-      reader = c.advance.new.self;
-      screen = c.advance.new.performer.screen;
-      callbacks = c.advance.new.performer.callbacks;
-    } in
-    fed_bounded g.CB.Callbacks.step g.CB.Callbacks.scrolls keeps _ after c.args.bytes.now
-    (λ past read. goes_told g.CB.Callbacks.step g.CB.Callbacks.scrolls _ _ _ _ c.advance.ensures.told past read)
-    rows cols capacity acts are at)
+    fed_bounded g.CB.Callbacks.step g.CB.Callbacks.scrolls keeps _ _ _ c.advance.ensures.told rows cols capacity acts
+    are at)
 
 pub returns-clause-bounds : goal.returns-clause-bounds
 returns-clause-bounds g c = rw (← c.self.view_is) (λ keeps rows cols capacity acts are at.
-    let after : ParserView g.row.CB.Denot = record {
-      reader = c.advance.new.self;
-      screen = c.advance.new.performer.screen;
-      callbacks = c.advance.new.performer.callbacks;
-    } in
-    fed_bounded g.CB.Callbacks.step g.CB.Callbacks.scrolls keeps _ after c.args.bytes.now
-    (λ past read. goes_told g.CB.Callbacks.step g.CB.Callbacks.scrolls _ _ _ _ c.advance.ensures.told past read)
-    rows cols capacity acts are at)
+    fed_bounded g.CB.Callbacks.step g.CB.Callbacks.scrolls keeps _ _ _ c.advance.ensures.told rows cols capacity acts
+    are at)
 
 pub returns-then-failed-2-clause-takes : goal.returns-then-failed-2-clause-takes
-returns-then-failed-2-clause-takes g c = rw (← c.self.view_is) (λ keeps _ past read.
-    some_taken g.CB.Callbacks.step g.CB.Callbacks.scrolls keeps _ _ _ _ _
-    (sym c.failed.ensures ∙ c.if-failed.false)
+returns-then-failed-2-clause-takes g c = rw (← c.self.view_is) (λ keeps _ past read. some_taken g.CB.Callbacks.step
+    g.CB.Callbacks.scrolls keeps _ _ _ _ _ (sym c.failed.ensures ∙ c.if-failed.false)
     (goes_told g.CB.Callbacks.step g.CB.Callbacks.scrolls _ _ _ _ c.advance.ensures.told past read)
     (sym c.failed-2.ensures ∙ c.if-failed-2.true))

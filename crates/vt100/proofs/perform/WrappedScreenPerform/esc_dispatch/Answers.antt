@@ -1,4 +1,3 @@
--- Answers for perform::WrappedScreenPerform::esc_dispatch.
 use Rattle.std.proofs.Common.{◌∙◌, ◌<◌, [], ◌∷◌, length, sym, arith}
 use Rattle.screen_model.specs.Call as said
 use Rattle.screen_model.specs.Effect.{first, second, calling}
@@ -11,7 +10,6 @@ returns-in_default g c =
     let some : 0 < length ms = omega arith in
     let one = rw c.first_two-marks.ensures.first at c.unhandled_escape.ensures in
     let two = rw c.first_two-marks.ensures.second at one in
-    does_as g.CB.Callbacks.step g.CB.Callbacks.scrolls (calling (said.unhandled_escape (first ms)
-    (second ms) c.args.byte ∷ [])) _ _ _ _ _
+    does_as (calling (said.unhandled_escape (first ms) (second ms) c.args.byte ∷ []))
     (escape_more ms c.args.byte c.args.self.now.screen.state some)
-    (does_call g.CB.Callbacks.step g.CB.Callbacks.scrolls _ _ _ _ _ (sym c.failed.ensures ∙ c.if-failed.false) two)
+    (does_call _ (sym c.failed.ensures ∙ c.if-failed.false) two)

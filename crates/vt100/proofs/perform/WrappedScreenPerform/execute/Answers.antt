@@ -1,4 +1,3 @@
--- Answers for perform::WrappedScreenPerform::execute.
 use Rattle.std.proofs.Common.{◌≡◌, ◌∙◌, ◌⊎◌, inl, inr, sym, ap, arith, None, [], ◌∷◌}
 use Rattle.std.proofs.lemmas.Bool.Decides.{nat_tests}
 use Rattle.screen_model.specs.Lookup.{lookup}
@@ -11,51 +10,42 @@ use Rattle.vt100.proofs.RefusedLemmas.{refused_keeps}
 use Rattle.vt100.proofs.perform.WrappedScreenPerform.execute.Goals as goal
 
 pub returns-in-7 : goal.returns-in-7
-returns-in-7 g c = rw c.in-7.is (does_call g.CB.Callbacks.step g.CB.Callbacks.scrolls said.audible_bell _ _ _ _
+returns-in-7 g c = rw c.in-7.is (does_call said.audible_bell
     (sym c.failed.ensures ∙ c.if-failed.false) c.audible_bell.ensures)
 
 pub returns-in-8 : goal.returns-in-8
-returns-in-8 g c = rw c.in-8.is (does_change g.CB.Callbacks.step g.CB.Callbacks.scrolls
-    (moved_left 1) _ _ _ _ c.bs.ensures.screen
-    c.bs.ensures.callbacks)
+returns-in-8 g c = rw c.in-8.is (does_change (moved_left 1) c.bs.ensures.screen c.bs.ensures.callbacks)
 
 pub returns-in-9 : goal.returns-in-9
-returns-in-9 g c = rw c.in-9.is
-    (does_change g.CB.Callbacks.step g.CB.Callbacks.scrolls tabbed _ _ _ _ c.tab.ensures.screen
-    c.tab.ensures.callbacks)
+returns-in-9 g c = rw c.in-9.is (does_change tabbed c.tab.ensures.screen c.tab.ensures.callbacks)
 
 pub returns-in-10 : goal.returns-in-10
-returns-in-10 g c = rw c.in-10.is
-    (does_steps g.CB.Callbacks.step g.CB.Callbacks.scrolls line_fed _ _ _ _ _ c.lf.ensures.tries
-    (on-err c.lf.result c.lf.ensures.bounds) (refused_keeps _ _ c.lf.ensures.keeps_none))
+returns-in-10 g c = rw c.in-10.is (does_steps line_fed _ c.lf.ensures.tries (on-err c.lf.result c.lf.ensures.bounds)
+    (refused_keeps _ _ c.lf.ensures.keeps_none))
 
 pub returns-in-11 : goal.returns-in-11
-returns-in-11 g c = rw c.in-11.is
-    (does_steps g.CB.Callbacks.step g.CB.Callbacks.scrolls line_fed _ _ _ _ _ c.vt.ensures.tries
-    (on-err c.vt.result c.vt.ensures.bounds) (refused_keeps _ _ c.vt.ensures.keeps_none))
+returns-in-11 g c = rw c.in-11.is (does_steps line_fed _ c.vt.ensures.tries (on-err c.vt.result c.vt.ensures.bounds)
+    (refused_keeps _ _ c.vt.ensures.keeps_none))
 
 pub returns-in-12 : goal.returns-in-12
-returns-in-12 g c = rw c.in-12.is
-    (does_steps g.CB.Callbacks.step g.CB.Callbacks.scrolls line_fed _ _ _ _ _ c.ff.ensures.tries
-    (on-err c.ff.result c.ff.ensures.bounds) (refused_keeps _ _ c.ff.ensures.keeps_none))
+returns-in-12 g c = rw c.in-12.is (does_steps line_fed _ c.ff.ensures.tries (on-err c.ff.result c.ff.ensures.bounds)
+    (refused_keeps _ _ c.ff.ensures.keeps_none))
 
 pub returns-in-13 : goal.returns-in-13
-returns-in-13 g c = rw c.in-13.is (does_change g.CB.Callbacks.step g.CB.Callbacks.scrolls
-    (at_column 0) _ _ _ _ c.cr.ensures.screen
-    c.cr.ensures.callbacks)
+returns-in-13 g c = rw c.in-13.is (does_change (at_column 0) c.cr.ensures.screen c.cr.ensures.callbacks)
 
 pub returns-in-14 : goal.returns-in-14
 returns-in-14 g c =
     let is : (c.args.byte ≡ 14) ⊎ (c.args.byte ≡ 15) = grind arith in
     elim is [
-      | inl e ↦ rw e (does_nothing g.CB.Callbacks.step g.CB.Callbacks.scrolls _ _)
-      | inr e ↦ rw e (does_nothing g.CB.Callbacks.step g.CB.Callbacks.scrolls _ _)
+      | inl e ↦ rw e does_nothing
+      | inr e ↦ rw e does_nothing
     ]
 
 pub returns-in_default : goal.returns-in_default
 returns-in_default g c =
     let none : lookup c.args.byte control_rows ≡ None = grind (arith, nat_tests) in
-    does_as g.CB.Callbacks.step g.CB.Callbacks.scrolls (calling (said.unhandled_control c.args.byte ∷ [])) _ _ _ _ _
+    does_as (calling (said.unhandled_control c.args.byte ∷ []))
     (ap (λ o. effect_or o (said.unhandled_control c.args.byte) c.args.self.now.screen.state) (sym none))
-    (does_call g.CB.Callbacks.step g.CB.Callbacks.scrolls (said.unhandled_control c.args.byte) _ _ _ _
+    (does_call (said.unhandled_control c.args.byte)
     (sym c.failed.ensures ∙ c.if-failed.false) c.unhandled_control.ensures)

@@ -1,4 +1,3 @@
--- Answers for perform::WrappedScreenPerform::print.
 use Rattle.std.proofs.Common.{◌≡◌, ◌∙◌, [], ◌∷◌, Bool, true, false, cond, not, ◌&&◌, ap, sym}
 use Rattle.screen_model.specs.Call as said
 use Rattle.screen_model.specs.Effect.{is_unhandled, calling, steps}
@@ -14,19 +13,16 @@ returns-then-is_unhandled g c =
     let ch = c.args.c in
     let s = c.args.self.now.screen.state in
     let is : is_unhandled ch ≡ true = sym c.is_unhandled.ensures ∙ c.if-is_unhandled.true in
-    does_as g.CB.Callbacks.step g.CB.Callbacks.scrolls (calling (said.unhandled_char ch ∷ [])) _ _ _ _ _
+    does_as (calling (said.unhandled_char ch ∷ []))
     (ap (λ (b : Bool). cond b (calling (said.unhandled_char ch ∷ []) s) (steps (typed ch s))) (sym is))
-    (does_call g.CB.Callbacks.step g.CB.Callbacks.scrolls (said.unhandled_char ch) _ _ _ _
-    (sym c.failed.ensures ∙ c.if-failed.false) c.unhandled_char.ensures)
+    (does_call (said.unhandled_char ch) (sym c.failed.ensures ∙ c.if-failed.false) c.unhandled_char.ensures)
 
 pub returns-else-is_unhandled : goal.returns-else-is_unhandled
 returns-else-is_unhandled g c =
     let ch = c.args.c in
     let s = c.args.self.now.screen.state in
     let is : is_unhandled ch ≡ false = sym c.is_unhandled.ensures ∙ c.if-is_unhandled.false in
-    does_where g.CB.Callbacks.step g.CB.Callbacks.scrolls _ _ _ _ _
-    (ap (λ (b : Bool). not b && keeps_rows s) (sym is))
-    (does_as g.CB.Callbacks.step g.CB.Callbacks.scrolls (λ t. steps (typed ch t)) _ _ _ _ _
+    does_where (ap (λ (b : Bool). not b && keeps_rows s) (sym is)) (does_as (λ t. steps (typed ch t))
     (ap (λ (b : Bool). cond b (calling (said.unhandled_char ch ∷ []) s) (steps (typed ch s))) (sym is))
-    (does_steps g.CB.Callbacks.step g.CB.Callbacks.scrolls (typed ch) _ _ _ _ _ c.text.ensures.tries
+    (does_steps (typed ch) _ c.text.ensures.tries
     (on-err c.text.result c.text.ensures.bounds) (refused_keeps _ _ c.text.ensures.keeps_none)))

@@ -1,4 +1,3 @@
--- Answers for perform::WrappedScreenPerform::print_str.
 use Rattle.std.proofs.Common.{rules, ◌≡◌, length, arith}
 use Rattle.std.proofs.lemmas.Bool.Decides.{nat_tests}
 use Rattle.vt100.proofs.RunLemmas.{front-then, front-end}

@@ -1,4 +1,3 @@
--- Invariants of perform::WrappedScreenPerform::print_str.
 use Rattle.std.proofs.Common.{map, length}
 use Rattle.std.specs.Str.{chars}
 use Rattle.vte_core.specs.Event.{Print, Performs}

@@ -1,4 +1,3 @@
--- Answers for screen::Screen::enter_alternate_grid.
 use Rattle.std.proofs.Common.{◌∙◌}
 use Rattle.vt100.proofs.ProperScreens.{entered_screen, stayed_screen}
 use Rattle.vt100.proofs.SettledLemmas.{at-ok}

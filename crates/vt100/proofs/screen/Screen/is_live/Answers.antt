@@ -1,4 +1,3 @@
--- Answers for screen::Screen::is_live.
 use Rattle.vt100.specs.ScreenFields.{screen_inside}
 use Rattle.screen_model.proofs.StateLemmas.{state_whole}
 use Rattle.vt100.proofs.screen.Screen.is_live.Goals as goal

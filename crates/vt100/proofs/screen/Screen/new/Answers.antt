@@ -1,4 +1,3 @@
--- Answers for screen::Screen::new.
 use Rattle.std.proofs.Common.{refl, rules}
 use Rattle.vt100.proofs.ProperScreens.{fresh_screen}
 use Rattle.vt100.proofs.screen.Screen.new.Goals as goal

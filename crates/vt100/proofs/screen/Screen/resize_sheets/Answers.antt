@@ -1,4 +1,3 @@
--- Answers for screen::Screen::resize_sheets.
 use Rattle.vt100.proofs.SettledLemmas.{settled_screen}
 use Rattle.vt100.proofs.screen.Screen.resize_sheets.Goals as goal
 

@@ -2,6 +2,5 @@ use Rattle.vt100.proofs.RowsLemmas.{few_visible}
 use Rattle.vt100.proofs.screen.Screen.rows_formatted.Goals as goal
 
 pub new-requires : goal.new-requires
-new-requires c =
-    few_visible c.self.inside.grid c.visible_rows.result c.is_allocated.ensures.valid c.self.invariant.shown
-    c.visible_rows.ensures
+new-requires c = few_visible c.self.inside.grid c.visible_rows.result c.is_allocated.ensures.valid
+    c.self.invariant.shown c.visible_rows.ensures

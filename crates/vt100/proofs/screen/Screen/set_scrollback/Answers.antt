@@ -1,4 +1,3 @@
--- Answers for screen::Screen::set_scrollback.
 use Rattle.screen_model.proofs.ProperSheets.{proper_scrollback_shown}
 use Rattle.vt100.proofs.ProperScreens.{drawn_screen}
 use Rattle.vt100.proofs.SettledLemmas.{at-ok}
@@ -7,7 +6,6 @@ use Rattle.vt100.proofs.screen.Screen.set_scrollback.Goals as goal
 pub invariant_of-self-2 : goal.invariant_of-self-2
 invariant_of-self-2 c =
     let is = at-ok c.set_scrollback.result _ c.in_ok-settle.ensures.done c.set_scrollback.ensures.grid in
-    let limits = c.set_scrollback.ensures.limits in
     rw c.in_ok-settle.ensures.same
-    (drawn_screen _ _ _ c.self.invariant c.set_scrollback.ensures.allocated limits.height limits.width limits.kept.keeps
+    (drawn_screen _ _ _ c.self.invariant c.set_scrollback.ensures.allocated c.set_scrollback.ensures.limits
     (rw is (proper_scrollback_shown c.self.inside.grid c.args.rows)))

@@ -1,6 +1,4 @@
 use Rattle.std.specs.Prelude.{string_bytes}
-use Rattle.screen_drawing.specs.Screen as picture
-use Rattle.vt100_core.specs.Picture.{grid_size}
 use Rattle.screen_model.specs.Shown.{shown_state}
 use Rattle.vt100.specs.Writers.{contents_diff, state_diff}
 use Rattle.vt100.proofs.ShownLemmas.{difference-of_shown}
@@ -14,34 +12,25 @@ pub returns-clause-shown : goal.returns-clause-shown
 returns-clause-shown c o h e =
     let old = c.args.prev.now.state in
     let new = c.args.self.now.state in
-    let x = shown_state old in
-    let y = shown_state new in
     let start = string_bytes c.new-contents.result in
-    let end = string_bytes c.write_input_mode_diff.new.contents in
-    as_shown (state_diff old new) (picture.state_diff (grid_size new.shown) x y) start end c.new-contents.ensures.bytes
-    (appended_then (contents_diff old new) (input_mode_diff x y) start (string_bytes c.write_contents_diff.new.contents)
-    end c.in_ok-write_contents_diff.ensures c.in_ok-write_input_mode_diff.ensures)
-    (difference-of_shown old new o h e).state
+    as_shown (state_diff old new) _ start _ c.new-contents.ensures.bytes
+    (appended_then (contents_diff old new) (input_mode_diff (shown_state old) (shown_state new)) start _ _
+    c.in_ok-write_contents_diff.ensures c.in_ok-write_input_mode_diff.ensures) (difference-of_shown old new o h e).state
 
 pub returns-clause-short : goal.returns-clause-short
 returns-clause-short c o h e =
     let old = c.args.prev.now.state in
     let new = c.args.self.now.state in
     let start = string_bytes c.new-contents.result in
-    let end = string_bytes c.write_input_mode_diff.new.contents in
-    text-short (grid_size new.shown) 1008 (state_diff old new) start end c.new-contents.ensures.bytes
-    (appended_then (contents_diff old new) (input_mode_diff (shown_state old) (shown_state new)) start
-    (string_bytes c.write_contents_diff.new.contents) end c.in_ok-write_contents_diff.ensures
-    c.in_ok-write_input_mode_diff.ensures) (screen-short old new o h e).state_diff
+    text-short _ _ (state_diff old new) start _ c.new-contents.ensures.bytes
+    (appended_then (contents_diff old new) (input_mode_diff (shown_state old) (shown_state new)) start _ _
+    c.in_ok-write_contents_diff.ensures c.in_ok-write_input_mode_diff.ensures) (screen-short old new o h e).state_diff
 
 pub returns-clause-local : goal.returns-clause-local
 returns-clause-local c o h e plain =
     let old = c.args.prev.now.state in
     let new = c.args.self.now.state in
     let start = string_bytes c.new-contents.result in
-    let end = string_bytes c.write_input_mode_diff.new.contents in
-    text-local (grid_size new.shown) (shown_state old) (shown_state new) (state_diff old new) start end
-    c.new-contents.ensures.bytes
-    (appended_then (contents_diff old new) (input_mode_diff (shown_state old) (shown_state new)) start
-    (string_bytes c.write_contents_diff.new.contents) end c.in_ok-write_contents_diff.ensures
-    c.in_ok-write_input_mode_diff.ensures) (state_diff-local old new o h e plain)
+    text-local _ (shown_state old) (shown_state new) (state_diff old new) start _ c.new-contents.ensures.bytes
+    (appended_then (contents_diff old new) (input_mode_diff (shown_state old) (shown_state new)) start _ _
+    c.in_ok-write_contents_diff.ensures c.in_ok-write_input_mode_diff.ensures) (state_diff-local old new o h e plain)

@@ -1,7 +1,5 @@
 use Rattle.std.proofs.Common.{refl}
 use Rattle.std.specs.Prelude.{string_bytes}
-use Rattle.screen_drawing.specs.Screen as picture
-use Rattle.vt100_core.specs.Picture.{grid_size}
 use Rattle.screen_model.specs.Shown.{shown_state}
 use Rattle.vt100.specs.Writers.{contents_formatted, state_formatted}
 use Rattle.vt100.proofs.ShownLemmas.{redraw-of_shown}
@@ -14,20 +12,16 @@ use Rattle.vt100.proofs.screen.Screen.state_formatted.Goals as goal
 pub returns-clause-shown : goal.returns-clause-shown
 returns-clause-shown c h =
     let s = c.args.self.now.state in
-    let x = shown_state s in
     let start = string_bytes c.new-contents.result in
-    let end = string_bytes c.write_input_mode_formatted.new.contents in
-    as_shown (state_formatted s) (picture.state_formatted (grid_size s.shown) x) start end c.new-contents.ensures.bytes
-    (appended_then (contents_formatted s) (input_mode_formatted x) start
-    (string_bytes c.write_contents_formatted.new.contents) end c.in_ok-write_contents_formatted.ensures
-    c.in_ok-write_input_mode_formatted.ensures) (redraw-of_shown s h).state
+    as_shown (state_formatted s) _ start _ c.new-contents.ensures.bytes
+    (appended_then (contents_formatted s) (input_mode_formatted (shown_state s)) start _ _
+    c.in_ok-write_contents_formatted.ensures c.in_ok-write_input_mode_formatted.ensures) (redraw-of_shown s h).state
 
 pub returns-clause-short : goal.returns-clause-short
 returns-clause-short c h =
     let s = c.args.self.now.state in
     let start = string_bytes c.new-contents.result in
-    let end = string_bytes c.write_input_mode_formatted.new.contents in
-    text-short (grid_size s.shown) 1008 (state_formatted s) start end c.new-contents.ensures.bytes
-    (appended_then (contents_formatted s) (input_mode_formatted (shown_state s)) start
-    (string_bytes c.write_contents_formatted.new.contents) end c.in_ok-write_contents_formatted.ensures
-    c.in_ok-write_input_mode_formatted.ensures) (screen-short s s h h refl).state_formatted
+    text-short _ _ (state_formatted s) start _ c.new-contents.ensures.bytes
+    (appended_then (contents_formatted s) (input_mode_formatted (shown_state s)) start _ _
+    c.in_ok-write_contents_formatted.ensures c.in_ok-write_input_mode_formatted.ensures)
+    (screen-short s s h h refl).state_formatted

@@ -26,12 +26,10 @@ returns c =
     let r3 = c.new.result ∷ r4 in
     let r2 = f3 ++ r3 in
     let r1 = f2 ++ r2 in
-    rw (← c.self.view_is, ← c.prev.view_is)
-    (written_then r f1 r1 (input_mode_diff x y) s t1 u
+    rw (← c.self.view_is, ← c.prev.view_is) (written_then r f1 r1 (input_mode_diff x y) s t1 u
     (changes-are x y c.new-keypad.result c.new-cursor_keys.result c.new-paste.result c.new.result c.new-2.result
     c.new-3.result c.new-keypad.ensures c.new-cursor_keys.ensures c.new-paste.ensures c.new.ensures c.new-2.ensures
-    c.new-3.ensures) c.in_ok-write_change.ensures
-    (written_then r f2 r2 r1 t1 t2 u refl c.in_ok-write_change-2.ensures
+    c.new-3.ensures) c.in_ok-write_change.ensures (written_then r f2 r2 r1 t1 t2 u refl c.in_ok-write_change-2.ensures
     (written_then r f3 r3 r2 t2 t3 u refl c.in_ok-write_change-3.ensures
     (written_then r (c.new.result ∷ []) r4 r3 t3 t4 u refl c.in_ok-write_buf.ensures.bytes
     (written_then r (c.new-2.result ∷ []) r5 r4 t4 t5 u refl c.in_ok-write_buf-2.ensures.bytes

@@ -25,8 +25,7 @@ returns c =
     let r3 = c.new-4.result ∷ r4 in
     let r2 = f3 ∷ r3 in
     let r1 = f2 ∷ r2 in
-    rw (← c.self.view_is)
-    (written_then r (f1 ∷ []) r1 (input_mode_formatted x) s t1 u
+    rw (← c.self.view_is) (written_then r (f1 ∷ []) r1 (input_mode_formatted x) s t1 u
     (modes-are x f1 f2 f3 c.new-4.result c.new-5.result c.new-6.result c.new.ensures c.new-2.ensures c.new-3.ensures
     c.new-4.ensures c.new-5.ensures c.new-6.ensures) c.in_ok-write_buf.ensures.bytes
     (written_then r (f2 ∷ []) r2 r1 t1 t2 u refl c.in_ok-write_buf-2.ensures.bytes

@@ -1,15 +1,11 @@
--- Answers for screen::reported::print_run.
 use Rattle.vt100.proofs.RunLemmas.{run_heard, run_same, front_heard}
 use Rattle.vt100.proofs.screen.reported.print_run.Goals as goal
 
 pub returns-clause-same : goal.returns-clause-same
-returns-clause-same g c = run_same g.CB.Callbacks.scrolls _ (λ s. s.callbacks.now) (λ s. s.alternate_screen)
-    (λ s. s.callbacks.ghost_name) (λ s v t h. h) _ _ _ _ _ _ c.text_run.ensures.sink c.text_run.ensures.begun
+returns-clause-same g c = run_same g.CB.Callbacks.scrolls _ _ _ _ _ _ c.text_run.ensures.sink c.text_run.ensures.begun
 
 pub returns-clause-hears : goal.returns-clause-hears
-returns-clause-hears g c = run_heard g.CB.Callbacks.scrolls _ (λ s. s.callbacks.now) (λ s. s.alternate_screen)
-    (λ s. s.callbacks.ghost_name) (λ s v t h. h) _ _ _ _ c.text_run.ensures.sink
+returns-clause-hears g c = run_heard g.CB.Callbacks.scrolls _ _ _ _ c.text_run.ensures.sink
 
 pub returns-clause-told : goal.returns-clause-told
-returns-clause-told g c = front_heard g.CB.Callbacks.scrolls _ (λ s. s.callbacks.now) (λ s. s.alternate_screen)
-    (λ s. s.callbacks.ghost_name) (λ s v t h. h) _ _ _ _ _ _ c.text_run.ensures.begun
+returns-clause-told g c = front_heard g.CB.Callbacks.scrolls _ _ _ _ _ _ c.text_run.ensures.begun

@@ -1,11 +1,8 @@
--- Answers for screen::reported::resize.
 use Rattle.vt100.proofs.HearLemmas.{hears_all}
 use Rattle.vt100.proofs.screen.reported.resize.Goals as goal
 
 pub returns-clause-same : goal.returns-clause-same
-returns-clause-same g c = (hears_all g.CB.Callbacks.scrolls _ (λ s. s.callbacks.now) (λ s. s.alternate_screen)
-    (λ s. s.callbacks.ghost_name) (λ s v t h. h) _ _ _ c.set_size.ensures.sink).1
+returns-clause-same g c = (hears_all g.CB.Callbacks.scrolls _ _ _ c.set_size.ensures.sink).1
 
 pub returns-clause-hears : goal.returns-clause-hears
-returns-clause-hears g c = (hears_all g.CB.Callbacks.scrolls _ (λ s. s.callbacks.now) (λ s. s.alternate_screen)
-    (λ s. s.callbacks.ghost_name) (λ s v t h. h) _ _ _ c.set_size.ensures.sink).0
+returns-clause-hears g c = (hears_all g.CB.Callbacks.scrolls _ _ _ c.set_size.ensures.sink).0

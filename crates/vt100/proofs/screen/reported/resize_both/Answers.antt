@@ -1,4 +1,3 @@
--- Answers for screen::reported::resize_both.
 use Rattle.std.proofs.Common.{rules, ◌++◌, true, false}
 use Rattle.vt100_rows.proofs.TextLemmas.{on-err}
 use Rattle.vt100_core.specs.Resize.{resized}

@@ -1,4 +1,3 @@
--- Invariants of screen::sgr::read_groups.
 use Rattle.std.proofs.Common.{◌≡◌, ◌+◌, ◌≤◌, length}
 use Rattle.screen_model.specs.Sgr.{read_groups, nothing}
 use Rattle.vt100.proofs.screen.sgr.read_groups.Given as goal

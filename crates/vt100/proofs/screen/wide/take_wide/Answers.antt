@@ -1,5 +1,5 @@
-use Rattle.std.proofs.Common.{rules, ◌∙◌, ◌++◌, ◌∷◌, [], ℕ, List, length, append_assoc, length-append, ap, sym}
-use Rattle.std.proofs.Common.{subst, arith}
+use Rattle.std.proofs.Common.{rules, ◌∙◌, ◌++◌, ◌∷◌, [], ℕ, List, length, append_assoc, length-append, ap, sym, subst}
+use Rattle.std.proofs.Common.{arith}
 use Rattle.std.specs.Prelude.{All}
 use Rattle.std.specs.Str.{chars}
 use Rattle.std.proofs.lemmas.List.Elements.{All-push}
@@ -19,8 +19,7 @@ loop-rest-preserved c =
       parts = c.loop-rest.invariant.parts ∙ ap (λ (ys : List ℕ). xs ++ ys) c.in-Some.ensures.parts
           ∙ sym (append_assoc xs (x ∷ []) (chars left)) ∙ ap (λ (ys : List ℕ). ys ++ chars left) (sym pushed);
       shorter = omega (arith, count, c.in-Some.ensures.shorter, c.loop-rest.invariant.shorter);
-      wide = subst (All IsWide) (sym pushed)
-          (All-push IsWide xs x c.loop-rest.invariant.wide c.in-Some.ensures.wide);
+      wide = subst (All IsWide) (sym pushed) (All-push IsWide xs x c.loop-rest.invariant.wide c.in-Some.ensures.wide);
       handled = subst (All IsHandled) (sym pushed)
           (All-push IsHandled xs x c.loop-rest.invariant.handled c.in-Some.ensures.handled);
     }

@@ -1,4 +1,3 @@
--- Answers for screen::wrapped::last_of.
 use Rattle.std.proofs.Common.{◌<◌, length, sym, arith}
 use Rattle.vt100.proofs.PrintableLemmas.{last_of-is}
 use Rattle.vt100.proofs.screen.wrapped.last_of.Goals as goal

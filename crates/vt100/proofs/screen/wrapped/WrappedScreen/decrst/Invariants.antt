@@ -1,4 +1,3 @@
--- Invariants of screen::wrapped::WrappedScreen::decrst.
 use Rattle.std.proofs.Common.{◌≡◌, ◌+◌, ◌≤◌, [], length, false}
 use Rattle.screen_model.specs.PrivateModes.{modes_from, modes_reset, reset_rows}
 use Rattle.vt100.proofs.screen.wrapped.WrappedScreen.decrst.Given as goal

@@ -1,4 +1,3 @@
--- Invariants of screen::wrapped::WrappedScreen::decset.
 use Rattle.std.proofs.Common.{◌≡◌, ◌+◌, ◌≤◌, [], length, true, false}
 use Rattle.std.specs.List.{list_any}
 use Rattle.screen_model.specs.PrivateModes.{modes_from, modes_set, set_rows}

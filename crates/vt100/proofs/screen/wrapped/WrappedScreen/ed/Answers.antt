@@ -1,4 +1,3 @@
--- Answers for screen::wrapped::WrappedScreen::ed.
 use Rattle.std.proofs.Common.{rules}
 use Rattle.screen_model.proofs.ProperSheets.{proper_all_erased_forward, proper_all_erased_backward, proper_all_erased}
 use Rattle.vt100.proofs.ProperScreens.{drawn_screen}
@@ -6,17 +5,12 @@ use Rattle.vt100.proofs.screen.wrapped.WrappedScreen.ed.Goals as goal
 
 pub invariant_of-self : goal.invariant_of-self
 invariant_of-self g c = drawn_screen _ _ _ c.self.invariant c.erase_all_forward.ensures.allocated (search rules)
-    (search rules) (search rules)
-    (rw c.erase_all_forward.ensures.grid
-    (proper_all_erased_forward c.self.inside.0.0.grid _ c.self.invariant.attrs))
+    (rw c.erase_all_forward.ensures.grid (proper_all_erased_forward c.self.inside.0.0.grid _ c.self.invariant.attrs))
 
 pub invariant_of-self-in-1 : goal.invariant_of-self-in-1
 invariant_of-self-in-1 g c = drawn_screen _ _ _ c.self.invariant c.erase_all_backward.ensures.allocated (search rules)
-    (search rules) (search rules)
-    (rw c.erase_all_backward.ensures.grid
-    (proper_all_erased_backward c.self.inside.0.0.grid _ c.self.invariant.attrs))
+    (rw c.erase_all_backward.ensures.grid (proper_all_erased_backward c.self.inside.0.0.grid _ c.self.invariant.attrs))
 
 pub invariant_of-self-in-2 : goal.invariant_of-self-in-2
 invariant_of-self-in-2 g c = drawn_screen _ _ _ c.self.invariant c.erase_all.ensures.allocated (search rules)
-    (search rules) (search rules)
     (rw c.erase_all.ensures.grid (proper_all_erased c.self.inside.0.0.grid _ c.self.invariant.attrs))

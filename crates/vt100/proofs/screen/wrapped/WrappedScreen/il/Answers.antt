@@ -1,4 +1,3 @@
--- Answers for screen::wrapped::WrappedScreen::il.
 use Rattle.std.proofs.Common.{rules}
 use Rattle.screen_model.proofs.ProperSheets.{proper_lines_inserted}
 use Rattle.vt100.proofs.ProperScreens.{drawn_screen}
@@ -6,5 +5,4 @@ use Rattle.vt100.proofs.screen.wrapped.WrappedScreen.il.Goals as goal
 
 pub invariant_of-self : goal.invariant_of-self
 invariant_of-self g c = drawn_screen _ _ _ c.self.invariant c.insert_lines.ensures.allocated (search rules)
-    (search rules) (search rules)
     (rw c.insert_lines.ensures.grid (proper_lines_inserted c.self.inside.0.0.grid c.args.count))

@@ -1,4 +1,3 @@
--- Answers for screen::wrapped::WrappedScreen::lf.
 use Rattle.std.proofs.Common.{◌≡◌, Err, rules}
 use Rattle.vt100_core.specs.Scroll.{fed}
 use Rattle.screen_model.proofs.ProperSheets.{proper_fed}
@@ -16,7 +15,6 @@ returns-in_err-settle-clause-tries g c =
 pub invariant_of-self-2 : goal.invariant_of-self-2
 invariant_of-self-2 g c =
     let is : c.line_feed-fed.new.grid ≡ (fed c.self.inside.0.0.grid 1).grid = search rules in
-    let limits = c.line_feed-fed.ensures.limits in
     rw c.in_ok-settle.ensures.same
-    (drawn_screen _ _ _ c.self.invariant c.line_feed-fed.ensures.allocated limits.height limits.width limits.kept.keeps
+    (drawn_screen _ _ _ c.self.invariant c.line_feed-fed.ensures.allocated c.line_feed-fed.ensures.limits
     (rw is (proper_fed c.self.inside.0.0.grid 1)))

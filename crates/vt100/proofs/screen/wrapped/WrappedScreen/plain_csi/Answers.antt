@@ -1,99 +1,81 @@
--- Answers for perform::WrappedScreen::plain_csi.
 use Rattle.std.proofs.Common.{◌≡◌, ◌⊎◌, ◌-◌, inl, inr, arith}
 use Rattle.screen_model.specs.Effect.{changes, count, later, number_or}
-use Rattle.screen_model.specs.Step.{cells_added, cursor_up, cursor_down, moved_right, moved_left, line_below, line_above}
-use Rattle.screen_model.specs.Step.{at_column, at_row, at_place, lines_added, lines_taken, cells_taken, region_up}
-use Rattle.screen_model.specs.Step.{region_down, cells_erased, repeated, in_region}
+use Rattle.screen_model.specs.Step.{cells_added, cursor_up, cursor_down, moved_right, moved_left, line_below}
+use Rattle.screen_model.specs.Step.{line_above, at_column, at_row, at_place, lines_added, lines_taken, cells_taken}
+use Rattle.screen_model.specs.Step.{region_up, region_down, cells_erased, repeated, in_region}
 use Rattle.vt100_rows.proofs.TextLemmas.{on-err}
 use Rattle.vt100.proofs.EventLemmas.{does_as, does_change, does_steps, plain_does}
 use Rattle.vt100.proofs.RefusedLemmas.{refused_keeps}
 use Rattle.vt100.proofs.screen.wrapped.WrappedScreen.plain_csi.Goals as goal
 
 pub returns-in-64 : goal.returns-in-64
-returns-in-64 g c = plain_does g.CB.Callbacks.step g.CB.Callbacks.scrolls _ _ _ _ _ _ _ c.in-64.is
-    (does_change g.CB.Callbacks.step g.CB.Callbacks.scrolls (cells_added (count c.args.params.now)) _ _ _ _
+returns-in-64 g c = plain_does _ c.in-64.is (does_change (cells_added (count c.args.params.now))
     (rw c.canonicalize_params_1.ensures at c.ich.ensures.screen) c.ich.ensures.callbacks)
 
 pub returns-in-A : goal.returns-in-A
-returns-in-A g c = plain_does g.CB.Callbacks.step g.CB.Callbacks.scrolls _ _ _ _ _ _ _ c.in-A.is
-    (does_change g.CB.Callbacks.step g.CB.Callbacks.scrolls (cursor_up (count c.args.params.now)) _ _ _ _
+returns-in-A g c = plain_does _ c.in-A.is (does_change (cursor_up (count c.args.params.now))
     (rw c.canonicalize_params_1-in-A.ensures at c.cuu.ensures.screen) c.cuu.ensures.callbacks)
 
 pub returns-in-B : goal.returns-in-B
-returns-in-B g c = plain_does g.CB.Callbacks.step g.CB.Callbacks.scrolls _ _ _ _ _ _ _ c.in-B.is
-    (does_change g.CB.Callbacks.step g.CB.Callbacks.scrolls (cursor_down (count c.args.params.now)) _ _ _ _
+returns-in-B g c = plain_does _ c.in-B.is (does_change (cursor_down (count c.args.params.now))
     (rw c.canonicalize_params_1-in-B.ensures at c.cud.ensures.screen) c.cud.ensures.callbacks)
 
 pub returns-in-C : goal.returns-in-C
-returns-in-C g c = plain_does g.CB.Callbacks.step g.CB.Callbacks.scrolls _ _ _ _ _ _ _ c.in-C.is
-    (does_change g.CB.Callbacks.step g.CB.Callbacks.scrolls (moved_right (count c.args.params.now)) _ _ _ _
+returns-in-C g c = plain_does _ c.in-C.is (does_change (moved_right (count c.args.params.now))
     (rw c.canonicalize_params_1-in-C.ensures at c.cuf.ensures.screen) c.cuf.ensures.callbacks)
 
 pub returns-in-D : goal.returns-in-D
-returns-in-D g c = plain_does g.CB.Callbacks.step g.CB.Callbacks.scrolls _ _ _ _ _ _ _ c.in-D.is
-    (does_change g.CB.Callbacks.step g.CB.Callbacks.scrolls (moved_left (count c.args.params.now)) _ _ _ _
+returns-in-D g c = plain_does _ c.in-D.is (does_change (moved_left (count c.args.params.now))
     (rw c.canonicalize_params_1-in-D.ensures at c.cub.ensures.screen) c.cub.ensures.callbacks)
 
 pub returns-in-E : goal.returns-in-E
-returns-in-E g c = plain_does g.CB.Callbacks.step g.CB.Callbacks.scrolls _ _ _ _ _ _ _ c.in-E.is
-    (does_change g.CB.Callbacks.step g.CB.Callbacks.scrolls (line_below (count c.args.params.now)) _ _ _ _
+returns-in-E g c = plain_does _ c.in-E.is (does_change (line_below (count c.args.params.now))
     (rw c.canonicalize_params_1-in-E.ensures at c.cnl.ensures.screen) c.cnl.ensures.callbacks)
 
 pub returns-in-F : goal.returns-in-F
-returns-in-F g c = plain_does g.CB.Callbacks.step g.CB.Callbacks.scrolls _ _ _ _ _ _ _ c.in-F.is
-    (does_change g.CB.Callbacks.step g.CB.Callbacks.scrolls (line_above (count c.args.params.now)) _ _ _ _
+returns-in-F g c = plain_does _ c.in-F.is (does_change (line_above (count c.args.params.now))
     (rw c.canonicalize_params_1-in-F.ensures at c.cpl.ensures.screen) c.cpl.ensures.callbacks)
 
 pub returns-in-G : goal.returns-in-G
-returns-in-G g c = plain_does g.CB.Callbacks.step g.CB.Callbacks.scrolls _ _ _ _ _ _ _ c.in-G.is
-    (does_change g.CB.Callbacks.step g.CB.Callbacks.scrolls (at_column (count c.args.params.now - 1)) _ _ _ _
+returns-in-G g c = plain_does _ c.in-G.is (does_change (at_column (count c.args.params.now - 1))
     (rw c.canonicalize_params_1-in-G.ensures at c.cha.ensures.screen) c.cha.ensures.callbacks)
 
 pub returns-in-L : goal.returns-in-L
-returns-in-L g c = plain_does g.CB.Callbacks.step g.CB.Callbacks.scrolls _ _ _ _ _ _ _ c.in-L.is
-    (does_change g.CB.Callbacks.step g.CB.Callbacks.scrolls (lines_added (count c.args.params.now)) _ _ _ _
+returns-in-L g c = plain_does _ c.in-L.is (does_change (lines_added (count c.args.params.now))
     (rw c.canonicalize_params_1-in-L.ensures at c.il.ensures.screen) c.il.ensures.callbacks)
 
 pub returns-in-M : goal.returns-in-M
-returns-in-M g c = plain_does g.CB.Callbacks.step g.CB.Callbacks.scrolls _ _ _ _ _ _ _ c.in-M.is
-    (does_change g.CB.Callbacks.step g.CB.Callbacks.scrolls (lines_taken (count c.args.params.now)) _ _ _ _
+returns-in-M g c = plain_does _ c.in-M.is (does_change (lines_taken (count c.args.params.now))
     (rw c.canonicalize_params_1-in-M.ensures at c.dl.ensures.screen) c.dl.ensures.callbacks)
 
 pub returns-in-P : goal.returns-in-P
-returns-in-P g c = plain_does g.CB.Callbacks.step g.CB.Callbacks.scrolls _ _ _ _ _ _ _ c.in-P.is
-    (does_change g.CB.Callbacks.step g.CB.Callbacks.scrolls (cells_taken (count c.args.params.now)) _ _ _ _
+returns-in-P g c = plain_does _ c.in-P.is (does_change (cells_taken (count c.args.params.now))
     (rw c.canonicalize_params_1-in-P.ensures at c.dch.ensures.screen) c.dch.ensures.callbacks)
 
 pub returns-in-S : goal.returns-in-S
-returns-in-S g c = plain_does g.CB.Callbacks.step g.CB.Callbacks.scrolls _ _ _ _ _ _ _ c.in-S.is
-    (does_steps g.CB.Callbacks.step g.CB.Callbacks.scrolls (region_up (count c.args.params.now)) _ _ _ _ _
+returns-in-S g c = plain_does _ c.in-S.is (does_steps (region_up (count c.args.params.now)) _
     (rw c.canonicalize_params_1-in-S.ensures at c.su.ensures.tries) (on-err c.su.result c.su.ensures.bounds)
     (refused_keeps _ _ c.su.ensures.keeps_none))
 
 pub returns-in-T : goal.returns-in-T
-returns-in-T g c = plain_does g.CB.Callbacks.step g.CB.Callbacks.scrolls _ _ _ _ _ _ _ c.in-T.is
-    (does_change g.CB.Callbacks.step g.CB.Callbacks.scrolls (region_down (count c.args.params.now)) _ _ _ _
+returns-in-T g c = plain_does _ c.in-T.is (does_change (region_down (count c.args.params.now))
     (rw c.canonicalize_params_1-in-T.ensures at c.sd.ensures.screen) c.sd.ensures.callbacks)
 
 pub returns-in-X : goal.returns-in-X
-returns-in-X g c = plain_does g.CB.Callbacks.step g.CB.Callbacks.scrolls _ _ _ _ _ _ _ c.in-X.is
-    (does_change g.CB.Callbacks.step g.CB.Callbacks.scrolls (cells_erased (count c.args.params.now)) _ _ _ _
+returns-in-X g c = plain_does _ c.in-X.is (does_change (cells_erased (count c.args.params.now))
     (rw c.canonicalize_params_1-in-X.ensures at c.ech.ensures.screen) c.ech.ensures.callbacks)
 
 pub returns-in-96 : goal.returns-in-96
-returns-in-96 g c = plain_does g.CB.Callbacks.step g.CB.Callbacks.scrolls _ _ _ _ _ _ _ c.in-96.is
-    (does_change g.CB.Callbacks.step g.CB.Callbacks.scrolls (at_column (count c.args.params.now - 1)) _ _ _ _
+returns-in-96 g c = plain_does _ c.in-96.is (does_change (at_column (count c.args.params.now - 1))
     (rw c.canonicalize_params_1-in-96.ensures at c.hpa.ensures.screen) c.hpa.ensures.callbacks)
 
 pub returns-in-b : goal.returns-in-b
-returns-in-b g c = plain_does g.CB.Callbacks.step g.CB.Callbacks.scrolls _ _ _ _ _ _ _ c.in-b.is
-    (does_steps g.CB.Callbacks.step g.CB.Callbacks.scrolls (repeated (count c.args.params.now)) _ _ _ _ _
+returns-in-b g c = plain_does _ c.in-b.is (does_steps (repeated (count c.args.params.now)) _
     (rw c.canonicalize_params_1-in-b.ensures at c.rep.ensures.tries) (on-err c.rep.result c.rep.ensures.bounds)
     (refused_keeps _ _ c.rep.ensures.keeps_none))
 
 pub returns-in-d : goal.returns-in-d
-returns-in-d g c = plain_does g.CB.Callbacks.step g.CB.Callbacks.scrolls _ _ _ _ _ _ _ c.in-d.is
-    (does_change g.CB.Callbacks.step g.CB.Callbacks.scrolls (at_row (count c.args.params.now - 1)) _ _ _ _
+returns-in-d g c = plain_does _ c.in-d.is (does_change (at_row (count c.args.params.now - 1))
     (rw c.canonicalize_params_1-in-d.ensures at c.vpa.ensures.screen) c.vpa.ensures.callbacks)
 
 pub returns-in-H : goal.returns-in-H
@@ -102,15 +84,10 @@ returns-in-H g c =
     let one = rw c.canonicalize_params_2.ensures.first at c.cup.ensures.screen in
     let two = rw c.canonicalize_params_2.ensures.second at one in
     let is : (c.args.action ≡ 72) ⊎ (c.args.action ≡ 102) = grind arith in
+    let place = at_place (count gs - 1) (count (later gs) - 1) in
     elim is [
-      | inl e ↦ plain_does g.CB.Callbacks.step g.CB.Callbacks.scrolls _ _ _ _ _ _ _ e
-          (does_change g.CB.Callbacks.step g.CB.Callbacks.scrolls (at_place (count gs - 1) (count
-          (later gs) - 1)) _ _ _ _
-          two c.cup.ensures.callbacks)
-      | inr e ↦ plain_does g.CB.Callbacks.step g.CB.Callbacks.scrolls _ _ _ _ _ _ _ e
-          (does_change g.CB.Callbacks.step g.CB.Callbacks.scrolls (at_place (count gs - 1) (count
-          (later gs) - 1)) _ _ _ _
-          two c.cup.ensures.callbacks)
+      | inl e ↦ plain_does _ e (does_change place two c.cup.ensures.callbacks)
+      | inr e ↦ plain_does _ e (does_change place two c.cup.ensures.callbacks)
     ]
 
 pub returns-in-r : goal.returns-in-r
@@ -120,8 +97,6 @@ returns-in-r g c =
     let r = c.canonicalize_params_2-in-r.result in
     let top : r.0 ≡ number_or 1 gs = c.canonicalize_params_2-in-r.ensures.first in
     let bottom : r.1 ≡ number_or s.shown.height (later gs) = grind arith in
-    plain_does g.CB.Callbacks.step g.CB.Callbacks.scrolls _ _ _ _ _ _ _ c.in-r.is
-    (does_as g.CB.Callbacks.step g.CB.Callbacks.scrolls (λ t. changes (in_region (r.0 - 1) (r.1 - 1) t)) _ _ _ _ _
-    (λ i. changes (in_region (top i - 1) (bottom i - 1) s))
-    (does_change g.CB.Callbacks.step g.CB.Callbacks.scrolls (in_region (r.0 - 1) (r.1 - 1)) _ _ _ _
+    plain_does _ c.in-r.is (does_as (λ t. changes (in_region (r.0 - 1) (r.1 - 1) t))
+    (λ i. changes (in_region (top i - 1) (bottom i - 1) s)) (does_change (in_region (r.0 - 1) (r.1 - 1))
     c.decstbm.ensures.screen c.decstbm.ensures.callbacks))

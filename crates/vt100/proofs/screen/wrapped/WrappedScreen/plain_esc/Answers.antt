@@ -1,4 +1,3 @@
--- Answers for perform::WrappedScreen::plain_esc.
 use Rattle.std.proofs.Common.{◌≡◌, [], ◌∷◌, refl, sym, ap, arith, true, false, None}
 use Rattle.std.proofs.lemmas.Bool.Decides.{nat_tests}
 use Rattle.screen_model.specs.Lookup.{lookup}
@@ -9,43 +8,30 @@ use Rattle.vt100.proofs.EventLemmas.{does_as, does_change, does_steps, does_call
 use Rattle.vt100.proofs.screen.wrapped.WrappedScreen.plain_esc.Goals as goal
 
 pub returns-in-55 : goal.returns-in-55
-returns-in-55 g c = rw c.in-55.is
-    (does_change g.CB.Callbacks.step g.CB.Callbacks.scrolls saved _ _ _ _ c.decsc.ensures.screen
-    c.decsc.ensures.callbacks)
+returns-in-55 g c = rw c.in-55.is (does_change saved c.decsc.ensures.screen c.decsc.ensures.callbacks)
 
 pub returns-in-56 : goal.returns-in-56
-returns-in-56 g c = rw c.in-56.is
-    (does_change g.CB.Callbacks.step g.CB.Callbacks.scrolls restored _ _ _ _ c.decrc.ensures.screen
-    c.decrc.ensures.callbacks)
+returns-in-56 g c = rw c.in-56.is (does_change restored c.decrc.ensures.screen c.decrc.ensures.callbacks)
 
 pub returns-in-61 : goal.returns-in-61
-returns-in-61 g c = rw c.in-61.is (does_change g.CB.Callbacks.step g.CB.Callbacks.scrolls
-    (with_keypad true) _ _ _ _ c.deckpam.ensures.screen
-    c.deckpam.ensures.callbacks)
+returns-in-61 g c = rw c.in-61.is (does_change (with_keypad true) c.deckpam.ensures.screen c.deckpam.ensures.callbacks)
 
 pub returns-in-62 : goal.returns-in-62
-returns-in-62 g c = rw c.in-62.is (does_change g.CB.Callbacks.step g.CB.Callbacks.scrolls
-    (with_keypad false) _ _ _ _ c.deckpnm.ensures.screen
-    c.deckpnm.ensures.callbacks)
+returns-in-62 g c = rw c.in-62.is (does_change (with_keypad false) c.deckpnm.ensures.screen c.deckpnm.ensures.callbacks)
 
 pub returns-in-77 : goal.returns-in-77
-returns-in-77 g c = rw c.in-77.is
-    (does_change g.CB.Callbacks.step g.CB.Callbacks.scrolls line_fed_back _ _ _ _ c.ri.ensures.screen
-    c.ri.ensures.callbacks)
+returns-in-77 g c = rw c.in-77.is (does_change line_fed_back c.ri.ensures.screen c.ri.ensures.callbacks)
 
 pub returns-in-99 : goal.returns-in-99
-returns-in-99 g c = rw c.in-99.is (does_steps g.CB.Callbacks.step g.CB.Callbacks.scrolls (λ s. quietly
-    (made_anew s)) _ _ _ _ _ c.ris.ensures.tries c.ris.ensures.bounds (λ live e. refl))
+returns-in-99 g c = rw c.in-99.is (does_steps (λ s. quietly
+    (made_anew s)) _ c.ris.ensures.tries c.ris.ensures.bounds (λ live e. refl))
 
 pub returns-in-103 : goal.returns-in-103
-returns-in-103 g c = rw c.in-103.is (does_call g.CB.Callbacks.step g.CB.Callbacks.scrolls said.visual_bell _ _ _ _
-    c.requires c.visual_bell.ensures)
+returns-in-103 g c = rw c.in-103.is (does_call said.visual_bell c.requires c.visual_bell.ensures)
 
 pub returns-in_default : goal.returns-in_default
 returns-in_default g c =
     let none : lookup c.args.byte escape_rows ≡ None = grind (arith, nat_tests) in
     let k = said.unhandled_escape None None c.args.byte in
-    does_as g.CB.Callbacks.step g.CB.Callbacks.scrolls (calling (k ∷ [])) _ _ _ _ _ (ap
-    (λ o. effect_or o k c.args.self.now.screen.state) (sym none))
-    (does_call g.CB.Callbacks.step g.CB.Callbacks.scrolls k _ _ _ _
+    does_as (calling (k ∷ [])) (ap (λ o. effect_or o k c.args.self.now.screen.state) (sym none)) (does_call k
     c.requires c.unhandled_escape.ensures)

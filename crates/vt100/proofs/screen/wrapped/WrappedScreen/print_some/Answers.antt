@@ -1,4 +1,3 @@
--- Answers for perform::WrappedScreen::print_some.
 use Rattle.std.proofs.Common.{◌≡◌, ◌∙◌, ◌≤◌, ℕ, List, length, take, sym, subst, arith}
 use Rattle.std.specs.Prelude.{All}
 use Rattle.vt100_cells.specs.Cell.{IsPrintable}

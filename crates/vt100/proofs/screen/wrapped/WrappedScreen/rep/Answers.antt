@@ -1,4 +1,3 @@
--- Answers for screen::wrapped::WrappedScreen::rep.
 use Rattle.std.proofs.Common.{◌≡◌, ◌∙◌, false, Some, Err, ap, arith, rules}
 use Rattle.std.proofs.lemmas.Bool.{false≢true}
 use Rattle.screen_model.specs.Call.{ScreenView, Hears}
@@ -55,6 +54,5 @@ returns-after-loop-i-clause-tries g c =
     c.args.self.now.callbacks c.loop-i.self.callbacks live last screen hears
 
 pub returns-in_err-text-clause-bounds : goal.returns-in_err-text-clause-bounds
-returns-in_err-text-clause-bounds g c =
-    bounds_trans c.args.self.now.screen.state c.loop-i.self.screen.state c.text.new.self.screen.state
-    c.loop-i.invariant.bounds c.text.ensures.bounds
+returns-in_err-text-clause-bounds g c = bounds_trans c.args.self.now.screen.state c.loop-i.self.screen.state
+    c.text.new.self.screen.state c.loop-i.invariant.bounds c.text.ensures.bounds

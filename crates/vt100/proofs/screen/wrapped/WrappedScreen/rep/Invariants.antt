@@ -1,4 +1,3 @@
--- Invariants of screen::wrapped::WrappedScreen::rep.
 use Rattle.std.proofs.Common.{◌≡◌}
 use Rattle.screen_model.specs.Step.{typed_times}
 use Rattle.screen_model.specs.Call.{Hears}

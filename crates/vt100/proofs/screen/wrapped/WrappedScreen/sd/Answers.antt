@@ -1,4 +1,3 @@
--- Answers for screen::wrapped::WrappedScreen::sd.
 use Rattle.std.proofs.Common.{rules}
 use Rattle.screen_model.proofs.ProperSheets.{proper_scrolled_down}
 use Rattle.vt100.proofs.ProperScreens.{drawn_screen}
@@ -6,5 +5,4 @@ use Rattle.vt100.proofs.screen.wrapped.WrappedScreen.sd.Goals as goal
 
 pub invariant_of-self : goal.invariant_of-self
 invariant_of-self g c = drawn_screen _ _ _ c.self.invariant c.scroll_down.ensures.allocated (search rules)
-    (search rules) (search rules)
     (rw c.scroll_down.ensures.grid (proper_scrolled_down c.self.inside.0.0.grid c.args.count))

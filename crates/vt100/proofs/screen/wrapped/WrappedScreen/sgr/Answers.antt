@@ -1,4 +1,3 @@
--- Answers for screen::wrapped::WrappedScreen::sgr.
 use Rattle.std.proofs.Common.{ap}
 use Rattle.screen_model.specs.Sgr.{Read, nothing}
 use Rattle.screen_model.proofs.ProperLemmas.{read_groups-proper}

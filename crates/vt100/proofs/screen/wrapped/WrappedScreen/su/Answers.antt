@@ -1,4 +1,3 @@
--- Answers for screen::wrapped::WrappedScreen::su.
 use Rattle.std.proofs.Common.{◌≡◌, Err, rules}
 use Rattle.vt100_core.specs.Scroll.{scrolled_up}
 use Rattle.screen_model.proofs.ProperSheets.{proper_scrolled_up}
@@ -16,7 +15,6 @@ returns-in_err-settle-clause-tries g c =
 pub invariant_of-self-2 : goal.invariant_of-self-2
 invariant_of-self-2 g c =
     let is : c.scroll_up-scrolled.new.grid ≡ (scrolled_up c.self.inside.0.0.grid c.args.count).grid = search rules in
-    let limits = c.scroll_up-scrolled.ensures.limits in
     rw c.in_ok-settle.ensures.same
-    (drawn_screen _ _ _ c.self.invariant c.scroll_up-scrolled.ensures.allocated limits.height limits.width limits.kept.keeps
+    (drawn_screen _ _ _ c.self.invariant c.scroll_up-scrolled.ensures.allocated c.scroll_up-scrolled.ensures.limits
     (rw is (proper_scrolled_up c.self.inside.0.0.grid c.args.count)))

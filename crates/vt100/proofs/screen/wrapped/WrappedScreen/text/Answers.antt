@@ -1,4 +1,3 @@
--- Answers for screen::wrapped::WrappedScreen::text.
 use Rattle.std.proofs.Common.{◌≡◌, Err, rules}
 use Rattle.vt100_core.specs.Text.{printed}
 use Rattle.screen_model.proofs.ProperSheets.{proper_printed}
@@ -17,7 +16,6 @@ pub invariant_of-self-2 : goal.invariant_of-self-2
 invariant_of-self-2 g c =
     let is : c.print-printed.new.grid
     ≡ (printed c.self.inside.0.0.grid c.args.c c.self.inside.0.0.attrs).grid = search rules in
-    let limits = c.print-printed.ensures.limits in
     rw c.in_ok-printed.ensures.same
-    (drawn_screen _ _ _ c.self.invariant c.print-printed.ensures.allocated limits.height limits.width limits.kept.keeps
+    (drawn_screen _ _ _ c.self.invariant c.print-printed.ensures.allocated c.print-printed.ensures.limits
     (rw is (proper_printed c.self.inside.0.0.grid c.args.c _ c.self.invariant.attrs)))

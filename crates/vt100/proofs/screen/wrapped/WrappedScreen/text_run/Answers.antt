@@ -1,4 +1,3 @@
--- Answers for screen::wrapped::WrappedScreen::text_run.
 use Rattle.std.proofs.Common.{◌≡◌, Err, rules}
 use Rattle.screen_model.proofs.ProperSheets.{proper_printed_all}
 use Rattle.vt100.specs.declared.error.ScreenError.TheVariants.{Memory}
@@ -26,8 +25,6 @@ returns-clause-tries g c =
 pub invariant_of-self-2 : goal.invariant_of-self-2
 invariant_of-self-2 g c =
     let is = at-ok c.print_run-printed.result _ c.in_ok-settle.ensures.done c.print_run-printed.ensures.grid in
-    let limits = c.print_run-printed.ensures.limits in
     rw c.in_ok-settle.ensures.same
-    (drawn_screen _ _ _ c.self.invariant c.print_run-printed.ensures.allocated limits.height limits.width
-    limits.kept.keeps
+    (drawn_screen _ _ _ c.self.invariant c.print_run-printed.ensures.allocated c.print_run-printed.ensures.limits
     (rw is (proper_printed_all c.self.inside.0.0.grid c.args.text.now _ c.self.invariant.attrs)))

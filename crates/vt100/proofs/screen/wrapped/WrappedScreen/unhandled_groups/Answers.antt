@@ -1,4 +1,3 @@
--- Answers for perform::WrappedScreen::unhandled_groups.
 use Rattle.std.proofs.Common.{◌≡◌, ◌∙◌, ◌-◌, ◌+◌, suc, sym, arith}
 use Rattle.vt100.proofs.EventLemmas.{tells_failed, tells_more}
 use Rattle.vt100.proofs.screen.wrapped.WrappedScreen.unhandled_groups.Goals as goal

@@ -1,4 +1,3 @@
--- Answers for screen::wide::WrappedScreen::wide_run.
 use Rattle.std.proofs.Common.{◌≡◌, ◌≤◌, Err, rules, subst, sym}
 use Rattle.screen_model.proofs.ProperSheets.{proper_printed_all}
 use Rattle.vt100.specs.declared.error.ScreenError.TheVariants.{Memory}
@@ -29,8 +28,6 @@ returns-clause-tries g c =
 pub invariant_of-self-2 : goal.invariant_of-self-2
 invariant_of-self-2 g c =
     let is = at-ok c.print_wide_run-printed.result _ c.in_ok-settle.ensures.done c.print_wide_run-printed.ensures.grid in
-    let limits = c.print_wide_run-printed.ensures.limits in
-    rw c.in_ok-settle.ensures.same
-    (drawn_screen _ _ _ c.self.invariant c.print_wide_run-printed.ensures.allocated limits.height limits.width
-    limits.kept.keeps
-    (rw is (proper_printed_all c.self.inside.0.0.grid c.args.text.now _ c.self.invariant.attrs)))
+    rw c.in_ok-settle.ensures.same (drawn_screen _ _ _ c.self.invariant c.print_wide_run-printed.ensures.allocated
+    c.print_wide_run-printed.ensures.limits (rw is (proper_printed_all c.self.inside.0.0.grid c.args.text.now _
+    c.self.invariant.attrs)))

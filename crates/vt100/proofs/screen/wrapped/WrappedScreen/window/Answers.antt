@@ -1,4 +1,3 @@
--- Answers for perform::WrappedScreen::window.
 use Rattle.std.proofs.Common.{◌≡◌, ◌∙◌, ℕ, [], ◌∷◌, nat_eq, cond, ap, sym, arith, unwrap_or}
 use Rattle.screen_model.specs.Call as said
 use Rattle.screen_model.specs.Effect.{given, later, calling, csi_call}
@@ -13,11 +12,9 @@ returns-in-8 g c =
     let rows : c.requested_size-request.result.0 ≡ unwrap_or (given (later gs)) s.shown.height = grind arith in
     let cols : c.requested_size-request.result.1 ≡ unwrap_or (given (later (later gs))) s.shown.width = grind arith in
     let asked = λ (r : ℕ) (n : ℕ). calling (said.resize r n ∷ []) s in
-    does_as g.CB.Callbacks.step g.CB.Callbacks.scrolls (calling
-    (said.resize c.requested_size-request.result.0 c.requested_size-request.result.1 ∷ [])) _ _ _ _ _
+    does_as (calling (said.resize c.requested_size-request.result.0 c.requested_size-request.result.1 ∷ []))
     (ap (λ (r : ℕ). asked r c.requested_size-request.result.1) rows
     ∙ ap (λ (n : ℕ). asked (unwrap_or (given (later gs)) s.shown.height) n) cols
     ∙ ap (λ (n : ℕ). cond (nat_eq n 8) (asked (unwrap_or (given (later gs)) s.shown.height)
     (unwrap_or (given (later (later gs))) s.shown.width)) (calling (csi_call [] gs c.args.action ∷ []) s)) (sym is))
-    (does_call g.CB.Callbacks.step g.CB.Callbacks.scrolls _ _ _ _ _
-    c.requires c.resize.ensures)
+    (does_call _ c.requires c.resize.ensures)

@@ -1,1 +1,0 @@
--- A screen of another size, on which the program's update ends.
