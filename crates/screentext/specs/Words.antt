@@ -21,7 +21,7 @@ abbrev pub flag_rule : Text → Rule
 flag_rule id = record (new_rule id) { long = Some id; action = Some Count }
 
 abbrev pub colors_rule : Rule
-colors_rule = record (flag_rule (codes "colors")) { aliases = codes "colors" ∷ [] }
+colors_rule = record (flag_rule (codes "colours")) { aliases = codes "colors" ∷ [] }
 
 -- the program's name and version, with no words
 abbrev pub program : App
@@ -76,7 +76,7 @@ is_order words = is_order_of (fault_of known words) (matches_of known words)
 
 -- what words that aren't understood are told
 abbrev pub usage_line : List ℕ
-usage_line = codes "usage: screentext [ROWS COLS] [--at SECONDS] [--diff SECONDS] [--history N] [--joined] [--colors] [--html | --svg]"
+usage_line = codes "usage: screentext [ROWS COLS] [--at SECONDS] [--diff SECONDS] [--history N] [--joined] [--colours] [--html | --svg]"
     ++ 0x0A ∷ []
 
 -- what is told where memory is refused

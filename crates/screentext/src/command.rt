@@ -20,7 +20,7 @@ const MEMORY_LINE: &[u8] = b"screentext: memory\n";
 
 const USAGE_LINE: &[u8] =
     b"usage: screentext [ROWS COLS] [--at SECONDS] [--diff SECONDS] [--history N] [--joined] \
-[--colors] [--html | --svg]\n";
+[--colours] [--html | --svg]\n";
 
 /// Runs the program on the words after its name, and answers its exit status.
 ///

@@ -11,7 +11,7 @@ use std::test::Fail;
 
 const USAGE: &[u8] =
     b"usage: screentext [ROWS COLS] [--at SECONDS] [--diff SECONDS] [--history N] [--joined] \
-[--colors] [--html | --svg]\n";
+[--colours] [--html | --svg]\n";
 
 /// A screen of two rows: `a` from the beginning, `b` from half a second on.
 const CAST: &[u8] = b"{\"version\": 2, \"width\": 4, \"height\": 2}\n\
