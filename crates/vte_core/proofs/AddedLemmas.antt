@@ -1,5 +1,6 @@
 -- What bytes add to the events of a stream.
-use Rattle.std.proofs.Common.{◌≡◌, ℕ, List, [], ◌∷◌, ◌++◌, length, drop, refl, sym, ◌∙◌, ap, subst, append_assoc}
+use Rattle.std.proofs.Common.{◌≡◌, ℕ, List, [], ◌++◌, length, drop, refl, sym, ◌∙◌, ap, subst, append_assoc}
+use Rattle.std.proofs.Math.Seq.{drop-append_seam}
 use Rattle.std.specs.List.{All}
 use Rattle.vte_core.specs.Event.{Event}
 use Rattle.vte_core.specs.Shapes.{events}
@@ -9,15 +10,11 @@ use Rattle.vte_core.specs.Laws.{KeepsBeginnings, AddsInOrder, AddsFitting, Fits}
 use Rattle.vte_core.proofs.Machine.{events-past}
 use Rattle.vte_core.proofs.LawLemmas.{from-fits}
 
-drop-front : (xs ys : List Event) → drop (length xs) (xs ++ ys) ≡ ys
-drop-front [] ys = refl
-drop-front (x ∷ xs) ys = drop-front xs ys
-
 -- what a stream has beyond its past is what the bytes add
 pub added-is : (n : ℕ) (past bytes : List ℕ) (es : List Event) → events n (past ++ bytes) ≡ events n past ++ es
     → es ≡ added n past bytes
 unfolding added
-added-is n past bytes es h = sym (ap (drop (length (events n past))) h ∙ drop-front (events n past) es)
+added-is n past bytes es h = sym (ap (drop (length (events n past))) h ∙ drop-append_seam (events n past) es)
 
 -- told byte by byte
 pub added-from : (n : ℕ) (past bytes : List ℕ) → added n past bytes ≡ events_from n (pending past) bytes

@@ -1,7 +1,7 @@
 -- Text, byte by byte.
 use Rattle.std.proofs.Common.{◌≡◌, ℕ, zero, suc, ◌+◌, ◌-◌, ◌<◌, ◌≤◌, ◌≢◌, Bool, true, false, List, [], ◌∷◌, ◌++◌, ◌⊎◌}
 use Rattle.std.proofs.Common.{length, take, nat_lt, ◌==◌, if◌then◌else◌, refl, sym, ◌∙◌, ap, inl, inr, append_assoc}
-use Rattle.std.proofs.Common.{arith, length-append, sub-one}
+use Rattle.std.proofs.Common.{append-nil, arith, length-append, sub-one}
 use Rattle.std.proofs.lemmas.Bool.{eqb-true, eq-eqb, lt-ltb}
 use Rattle.std.proofs.lemmas.Bool.Decides.{nat_tests}
 use Rattle.std.proofs.Math.Seq.{take-append-add}
@@ -10,6 +10,11 @@ use Rattle.vte_core.specs.Event.{Event, Print}
 use Rattle.vte_core.specs.Text.{text, text_after, front_len, front_event, char_len, second_min, second_max, tail_len}
 use Rattle.vte_core.specs.Text.{first_bits, joined, char_event, malformed_event}
 use Rattle.vte_core.specs.Pending.{goes_on, begun, begun_rest, text_told, text_rest, IsUnfinished, closed, InText}
+
+-- what holds of both of its branches holds of an `if`
+pub if_holds : {A : Type 0} (P : A → Type 0) (v : Bool) (x y : A) → P x → P y → P (if v then x else y)
+if_holds P true x y h k = h
+if_holds P false x y h k = k
 
 pub bool_cases : (v : Bool) → (v ≡ true) ⊎ (v ≡ false)
 bool_cases true = inl refl
@@ -169,13 +174,9 @@ pub text-byte : (cut : Bool) (u : List ℕ) (b : ℕ) (s : List ℕ) → IsUnfin
 text-byte cut [] b s h = text-begun cut b s
 text-byte cut (a ∷ t) b s h = text-pending cut a t b s h
 
-either_way : (v : Bool) (es : List Event) → es ≡ (if v then es else es)
+pub either_way : (v : Bool) (es : List Event) → es ≡ (if v then es else es)
 either_way true es = refl
 either_way false es = refl
-
-append-none : (es : List Event) → es ++ [] ≡ es
-append-none [] = refl
-append-none (e ∷ es) = ap (λ xs. e ∷ xs) (append-none es)
 
 -- the end of text
 pub text-end : (n : ℕ) (cut : Bool) (u : List ℕ) → IsUnfinished u
@@ -186,7 +187,7 @@ text-end n cut (a ∷ t) h =
     let ev = front-cut cut a (suc (length t)) t f (omega (arith, h.1)) (omega arith) in
     text-front cut a (length t) t _ f ev ∙ (ap (λ xs. (if cut then Print 0xFFFD ∷ [] else [])
     ++ xs) (text-skip_all cut t)
-    ∙ append-none (if cut then Print 0xFFFD ∷ [] else []))
+    ∙ append-nil (if cut then Print 0xFFFD ∷ [] else []))
 
 pub IsUnfinished-rest : (u : List ℕ) (b : ℕ) → IsUnfinished u → IsUnfinished (text_rest u b)
 IsUnfinished-rest [] b h = IsUnfinished-begun b

@@ -1,14 +1,14 @@
 -- The data of a device string.
-use Rattle.std.proofs.Common.{◌≡◌, ℕ, true, false, List, [], ◌∷◌, map, refl, sym, ◌∙◌, ap, arith}
+use Rattle.std.proofs.Common.{◌≡◌, ℕ, true, false, List, [], ◌∷◌, map, refl, ap, arith}
 use Rattle.std.proofs.lemmas.Bool.Decides.{nat_tests}
 use Rattle.vte_core.specs.Event.{Event, Put}
 use Rattle.vte_core.specs.Bytes.{each, is_esc, is_device_data, ends_device, is_put}
-use Rattle.vte_core.specs.Pending.{Pending, InText, InEscape, InCsi, InOsc, InHook, InDevice, InSwallowed, events_from}
-use Rattle.vte_core.specs.Pending.{after_bytes}
+use Rattle.vte_core.specs.Pending.{Pending, InDevice, events_from, after_bytes}
 use Rattle.vte_core.specs.Standing.{IsAt}
 use Rattle.vte_core.specs.declared.parser.Parser.{Parser}
 use Rattle.vte_core.specs.declared.parser.State.TheVariants.{DcsPassthrough}
 use Rattle.vte_core.proofs.PhaseLemmas.{each-first}
+use Rattle.vte_core.proofs.Quiet.{by_state}
 
 -- it is put, byte by byte
 put_on : (n : ℕ) (xs : List ℕ) → each is_device_data xs ≡ true → (events_from n InDevice xs ≡ map Put xs)
@@ -25,10 +25,8 @@ put_on n (b ∷ xs) h =
 pub device-at : (n : ℕ) (p : Parser n) (q : Pending) (xs : List ℕ) → p.state ≡ DcsPassthrough
     → each is_device_data xs ≡ true → IsAt n p q
     → (events_from n q xs ≡ map Put xs) × IsAt n p (after_bytes q xs)
-device-at n p (InText u) xs s e at = let no = sym s ∙ at.0 in cc
-device-at n p (InEscape is) xs s e at = let no = sym s ∙ at.0 in cc
-device-at n p (InCsi h) xs s e at = let no = sym s ∙ at.0 in cc
-device-at n p (InOsc d) xs s e at = let no = sym s ∙ at.0 in cc
-device-at n p (InHook h) xs s e at = let no = sym s ∙ at.0 in cc
-device-at n p InDevice xs s e at = let m = put_on n xs e in (m.0, rw m.1 at)
-device-at n p InSwallowed xs s e at = let no = sym s ∙ at.0 in cc
+device-at n p q xs s e at =
+    let is = by_state n p DcsPassthrough q s at in
+    let here = rw is at at in
+    let m = put_on n xs e in
+    rw is (m.0, rw m.1 here)

@@ -1,7 +1,6 @@
 -- Ground text, front by front.
 use Rattle.std.proofs.Common.{◌≡◌, ℕ, zero, suc, ◌+◌, ◌-◌, ◌*◌, ◌<◌, ◌≤◌, true, false, List, [], ◌∷◌, ◌++◌, length}
-use Rattle.std.proofs.Common.{take, drop}
-use Rattle.std.proofs.Common.{get_or, nat_lt, ◌==◌, refl, sym, ◌∙◌, ap, arith, inl, inr, append_assoc}
+use Rattle.std.proofs.Common.{take, drop, get_or, nat_lt, ◌==◌, refl, sym, ◌∙◌, ap, arith, inl, inr, append_assoc}
 use Rattle.std.proofs.lemmas.Bool.Decides.{nat_tests}
 use Rattle.std.proofs.lemmas.List.{drop-drop, drop_all, append-nil}
 use Rattle.std.specs.Int.{is_in_range}
@@ -53,6 +52,14 @@ reads_front step u old bs k new v s l h p r =
       rest = ap (run_rest u) e ∙ (run_rest-append u (take k bs) left ∙ ap (λ (w : List ℕ). run_rest w left) (sym r));
     }
 
+-- the same, where nothing is unfinished
+pub reads_alone : {S : Type 0} (step : S → Event → S → Type 0) (old : S) (bs front : List ℕ) (k : ℕ) (new : S)
+    (v : List ℕ) (es : List Event) → 0 < k → k ≤ length bs → take k bs ≡ front
+    → (run_told [] front ≡ es) × (run_rest [] front ≡ v) × (has_no_esc front ≡ true)
+    → Performs step old es new → ReadsText step [] old bs k new v
+reads_alone step old bs front k new v es s l is r p =
+    reads_front step [] old bs k new v s l (rw is r.2) (rw (is, r.0) p) (rw is (sym r.1))
+
 -- one byte
 pub reads_byte : {S : Type 0} (step : S → Event → S → Type 0) (u : List ℕ) (old : S) (bs : List ℕ) (new : S)
     (v : List ℕ)
@@ -61,15 +68,7 @@ pub reads_byte : {S : Type 0} (step : S → Event → S → Type 0) (u : List �
 reads_byte step u old [] new v some e p r = absurd (omega (arith, some))
 reads_byte step u old (b ∷ s) new v some e p r =
     let f : is_esc b ≡ false = e in
-    record {
-      some = omega arith;
-      within = omega arith;
-      no_esc = rw f refl;
-      told = text_told u b;
-      performed = p;
-      added = rw f (ap (λ (w : List ℕ). text_told u b ++ run_told w (before is_esc s)) (sym r));
-      rest = rw f (ap (λ (w : List ℕ). run_rest w (before is_esc s)) (sym r));
-    }
+    reads_front step u old (b ∷ s) 1 new v (omega arith) (omega arith) (rw f refl) (rw (append-nil (text_told u b)) p) r
 
 -- a byte that doesn't go on the character that was begun: what is read after that character's U+FFFD
 cut-anew : (a : ℕ) (t : List ℕ) (b : ℕ) (s : List ℕ) → goes_on a t b ≡ false
@@ -107,7 +106,7 @@ cut-one : (a b : ℕ) (s : List ℕ) → 1 < char_len a → goes_on a [] b ≡ f
 cut-one a b s long off =
     let one : (char_len a == 1) ≡ false = grind (arith, nat_tests) in
     let none : (char_len a == 0) ≡ false = grind (arith, nat_tests) in
-    (rw (one, none, off) refl, rw (one, none, off) refl)
+    rw (one, none, off) (refl, refl)
 
 cut-two : (a b c : ℕ) (s : List ℕ) → 2 < char_len a → goes_on a [] b ≡ true → is_in_range 0x80 0xBF c ≡ false
     → (run_told [] (a ∷ b ∷ c ∷ s) ≡ Print 0xFFFD ∷ run_told [] (c ∷ s))
@@ -116,7 +115,7 @@ cut-two a b c s long begun off =
     let one : (char_len a == 1) ≡ false = grind (arith, nat_tests) in
     let none : (char_len a == 0) ≡ false = grind (arith, nat_tests) in
     let two : (2 == char_len a) ≡ false = grind (arith, nat_tests) in
-    (rw (one, none, begun, two, off) refl, rw (one, none, begun, two, off) refl)
+    rw (one, none, begun, two, off) (refl, refl)
 
 cut-three : (a b c d : ℕ) (s : List ℕ) → 3 < char_len a → goes_on a [] b ≡ true → is_in_range 0x80 0xBF c ≡ true
     → is_in_range 0x80 0xBF d ≡ false
@@ -127,11 +126,7 @@ cut-three a b c d s long begun on off =
     let none : (char_len a == 0) ≡ false = grind (arith, nat_tests) in
     let two : (2 == char_len a) ≡ false = grind (arith, nat_tests) in
     let three : (3 == char_len a) ≡ false = grind (arith, nat_tests) in
-    (rw (one, none, begun, two, on, three, off) refl, rw (one, none, begun, two, on, three, off) refl)
-
-stray : (a : ℕ) (s : List ℕ) → char_len a ≡ 0
-    → (run_told [] (a ∷ s) ≡ malformed_event 1 a ∷ run_told [] s) × (run_rest [] (a ∷ s) ≡ run_rest [] s)
-stray a s none = (rw none refl, rw none refl)
+    rw (one, none, begun, two, on, three, off) (refl, refl)
 
 malformed-told : (a b : ℕ) (s : List ℕ) → 0x80 ≤ a → (1 < char_len a → goes_on a [] b ≡ false)
     → (run_told [] (a ∷ b ∷ s) ≡ malformed_event 1 a ∷ run_told [] (b ∷ s))
@@ -143,7 +138,7 @@ malformed-told a b s high off =
           let cut = cut-one a b s long (off long) in
           let is : malformed_event 1 a ≡ Print 0xFFFD = malformed-high 1 a (lead-high a long) in
           (cut.0 ∙ ap (λ (x : Event). x ∷ run_told [] (b ∷ s)) (sym is), cut.1)
-      | inr e ↦ stray a (b ∷ s) (grind (arith, nat_tests))
+      | inr e ↦ let none : char_len a ≡ 0 = grind (arith, nat_tests) in rw none (refl, refl)
     ]
 
 pub reads_malformed : {S : Type 0} (step : S → Event → S → Type 0) (old : S) (bs : List ℕ) (new : S) → 1 < length bs
@@ -264,20 +259,7 @@ pub of_four : (a : ℕ) → 1 < char_len a → 0xF0 ≤ a → 3 < char_len a
 of_four a long least = grind (arith, nat_tests)
 
 at_most_four : (a : ℕ) → char_len a ≤ 4
-at_most_four a =
-    elim (bool_cases (nat_lt a 0x80)) [
-      | inl e ↦ rw e (omega arith)
-      | inr e ↦ rw e (elim (bool_cases (is_in_range 0xC2 0xDF a)) [
-        | inl f ↦ rw f (omega arith)
-        | inr f ↦ rw f (elim (bool_cases (is_in_range 0xE0 0xEF a)) [
-          | inl g ↦ rw g (omega arith)
-          | inr g ↦ rw g (elim (bool_cases (is_in_range 0xF0 0xF4 a)) [
-            | inl h ↦ rw h (omega arith)
-            | inr h ↦ rw h (omega arith)
-          ])
-        ])
-      ])
-    ]
+at_most_four a = grind (arith, nat_tests)
 
 lead-no_esc : (a : ℕ) → 1 < char_len a → is_esc a ≡ false
 lead-no_esc a long = grind (arith, nat_tests)

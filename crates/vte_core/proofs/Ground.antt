@@ -1,5 +1,5 @@
 -- Ground text: controls and characters of ASCII, and where it ends.
-use Rattle.std.proofs.Common.{◌≡◌, ℕ, zero, suc, ◌<◌, ◌≤◌, Bool, true, false, List, [], ◌∷◌, ◌++◌, map, length, take}
+use Rattle.std.proofs.Common.{◌≡◌, ℕ, zero, suc, ◌<◌, ◌≤◌, true, false, List, [], ◌∷◌, ◌++◌, map, length, take}
 use Rattle.std.proofs.Common.{get_or, nat_lt, inl, inr, refl, ◌∙◌, ap, arith}
 use Rattle.std.proofs.lemmas.Bool.Decides.{nat_tests}
 use Rattle.std.specs.Int.{is_in_range}
@@ -12,10 +12,6 @@ use Rattle.vte_core.specs.Runs.{run_told, run_rest, has_no_esc, printed_len}
 use Rattle.vte_core.proofs.Characters.{bool_cases}
 use Rattle.vte_core.proofs.PhaseLemmas.{each-first}
 use Rattle.vte_core.proofs.Runs.{one, printed-both, no_esc-both}
-
-pub each-append : (p : ℕ → Bool) (xs ys : List ℕ) → each p xs ≡ true → each p ys ≡ true → each p (xs ++ ys) ≡ true
-each-append p [] ys h k = k
-each-append p (x ∷ xs) ys h k = let g = each-first p x xs h in rw g.0 (each-append p xs ys g.1 k)
 
 pub no_esc-append : (xs ys : List ℕ) → has_no_esc xs ≡ true → has_no_esc ys ≡ true → has_no_esc (xs ++ ys) ≡ true
 no_esc-append [] ys h k = k
@@ -37,10 +33,6 @@ c0-run (b ∷ xs) h =
       first.1 ∙ more.1,
       rw esc more.2,
     )
-
-pub map-execute : (xs ys : List ℕ) → map Execute xs ++ map Execute ys ≡ map Execute (xs ++ ys)
-map-execute [] ys = refl
-map-execute (x ∷ xs) ys = ap (λ (es : List Event). Execute x ∷ es) (map-execute xs ys)
 
 -- characters of ASCII are printed, one by one
 pub plain-run : (xs : List ℕ) → each is_plain xs ≡ true → (run_told [] xs ≡ map Print xs) × (run_rest [] xs ≡ [])

@@ -1,23 +1,26 @@
 -- Where a parser is at ground.
 use Rattle.std.proofs.Common.{◌≡◌, ◌≢◌, ℕ, Bool, true, false, ◌||◌, List, [], ◌∷◌, ◌++◌, map, take, length, nat_lt}
 use Rattle.std.proofs.Common.{◌==◌, refl, sym, ◌∙◌, ap, arith, append_assoc, append-nil}
+use Rattle.std.proofs.lemmas.Bool.{or_parts}
 use Rattle.std.proofs.lemmas.Bool.Decides.{nat_tests}
 use Rattle.std.specs.Int.{is_in_range}
 use Rattle.std.specs.List.{AllByRecursion}
 use Rattle.std.specs.Str.{chars}
 use Rattle.vte_core.specs.Event.{Event, Esc}
-use Rattle.vte_core.specs.Bytes.{is_esc, is_abort, is_control, is_intermediate, is_header, ends_header, ends_escape}
+use Rattle.vte_core.specs.Bytes.{each, is_esc, is_abort, is_control, is_intermediate, is_header, ends_header}
+use Rattle.vte_core.specs.Bytes.{ends_escape}
 use Rattle.vte_core.specs.Text.{char_event}
 use Rattle.vte_core.specs.Shapes.{events}
 use Rattle.vte_core.specs.Added.{added}
-use Rattle.vte_core.specs.Pending.{Pending, InText, InEscape, InCsi, pending, text_told, text_rest, final_told}
+use Rattle.vte_core.specs.Pending.{Pending, InText, InEscape, InCsi, pending, final_told}
 use Rattle.vte_core.specs.Pending.{final_rest, events_of_byte, after_byte, after_bytes, events_from}
-use Rattle.vte_core.specs.Runs.{run_told, run_rest}
+use Rattle.vte_core.specs.Runs.{has_no_esc}
 use Rattle.vte_core.specs.Ground.{AtGround, is_introducer, IsEscape, IsSequence, IsText, header_event}
-use Rattle.vte_core.proofs.Machine.{events-past, events-told}
+use Rattle.vte_core.proofs.Machine.{events-past, events-told, events_from-append, after_bytes-append}
+use Rattle.vte_core.proofs.Quiet.{Keeps, all_kept, header-csi}
 use Rattle.vte_core.proofs.LawLemmas.{esc-cut, abort-cut}
 use Rattle.vte_core.proofs.AddedLemmas.{added-is}
-use Rattle.vte_core.proofs.Runs.{run-text}
+use Rattle.vte_core.proofs.Runs.{run-text, run-events}
 
 pub ground-nothing : (n : ℕ) → AtGround n []
 ground-nothing n = λ bytes. refl
@@ -49,175 +52,94 @@ ground-pending n past e = λ bytes.
 
 -- escapes
 
-intermediate-goes_on : (q : List ℕ) (b : ℕ) → is_intermediate b ≡ true
-    → after_byte (InEscape q) b ≡ InEscape (q ++ b ∷ [])
-intermediate-goes_on q b h =
+intermediate-kept : (n b : ℕ) → is_intermediate b ≡ true → Keeps n InEscape b
+intermediate-kept n b h q =
     let e : is_esc b ≡ false = grind (arith, nat_tests) in
     let f : ends_escape b ≡ false = grind (arith, nat_tests) in
-    rw (e, f, h) refl
+    let g : is_control b ≡ false = grind (arith, nat_tests) in
+    (rw (g, e, f) refl, rw (e, f, h) refl)
 
-or-none : (a b : Bool) → (a || b) ≡ false → (a ≡ false) × (b ≡ false)
-or-none true b h = absurd (let no : true ≡ false = h in cc)
-or-none false b h = (refl, h)
+each-all : (p : ℕ → Bool) (xs : List ℕ) → AllByRecursion (λ b. p b ≡ true) xs → each p xs ≡ true
+each-all p [] h = refl
+each-all p (x ∷ xs) h = rw h.0 (each-all p xs h.1)
 
-final-plain : (b : ℕ) → is_introducer b ≡ false → final_rest [] b ≡ InText []
+-- a byte after those that are kept
+kept-then : (n : ℕ) (f : List ℕ → Pending) (p : ℕ → Bool) (xs : List ℕ) (b : ℕ)
+    → ((c : ℕ) → p c ≡ true → Keeps n f c) → AllByRecursion (λ c. p c ≡ true) xs
+    → (events_from n (f []) (xs ++ b ∷ []) ≡ events_of_byte n (f xs) b)
+    × (after_bytes (f []) (xs ++ b ∷ []) ≡ after_byte (f xs) b)
+kept-then n f p xs b keeps h =
+    let m = all_kept n f p [] xs keeps (each-all p xs h) in
+    rw (events_from-append n (f []) xs (b ∷ []), after_bytes-append (f []) xs (b ∷ []), m.0, m.1)
+    (append-nil (events_of_byte n (f xs) b), refl)
+
+abbrev esc_event : List ℕ → ℕ → List Event
+esc_event q b = Esc (take 2 q) (nat_lt 2 (length q)) b ∷ []
+
+final-plain : (b : ℕ) → is_introducer b ≡ false → (final_told [] b ≡ esc_event [] b) × (final_rest [] b ≡ InText [])
 final-plain b h =
-    let csi : (b == 0x5B ≡ false) × _ = or-none (b == 0x5B) (b == 0x5D
-    || (b == 0x50 || (b == 0x58 || (b == 0x5E || b == 0x5F)))) h in
-    let osc : (b == 0x5D ≡ false) × _ = or-none (b == 0x5D) (b == 0x50
-    || (b == 0x58 || (b == 0x5E || b == 0x5F))) csi.1 in
-    let dcs : (b == 0x50 ≡ false) × ((b == 0x58 || (b == 0x5E || b == 0x5F)) ≡ false) =
-    or-none (b == 0x50) (b == 0x58 || (b == 0x5E || b == 0x5F)) osc.1 in
-    rw (csi.0, osc.0, dcs.0, dcs.1) refl
+    let csi = or_parts (b == 0x5B) (b == 0x5D || (b == 0x50 || (b == 0x58 || (b == 0x5E || b == 0x5F)))) h in
+    let osc = or_parts (b == 0x5D) (b == 0x50 || (b == 0x58 || (b == 0x5E || b == 0x5F))) csi.1 in
+    let dcs = or_parts (b == 0x50) (b == 0x58 || (b == 0x5E || b == 0x5F)) osc.1 in
+    rw (csi.0, osc.0, dcs.0, dcs.1) (refl, refl)
 
-final-escape : (q : List ℕ) (b : ℕ) → (q ≡ [] → is_introducer b ≡ false) → final_rest q b ≡ InText []
+final-escape : (q : List ℕ) (b : ℕ) → (q ≡ [] → is_introducer b ≡ false)
+    → (final_told q b ≡ esc_event q b) × (final_rest q b ≡ InText [])
 final-escape [] b h = final-plain b (h refl)
-final-escape (i ∷ q) b h = let e : (length (i ∷ q) == 0) ≡ false = grind (arith, nat_tests) in rw e refl
+final-escape (i ∷ q) b h = let e : (length (i ∷ q) == 0) ≡ false = grind (arith, nat_tests) in rw e (refl, refl)
 
-final-ends : (q : List ℕ) (b : ℕ) → is_in_range 0x30 0x7E b ≡ true → (q ≡ [] → is_introducer b ≡ false)
-    → after_byte (InEscape q) b ≡ InText []
-final-ends q b h k =
+final-ends : (n : ℕ) (q : List ℕ) (b : ℕ) → is_in_range 0x30 0x7E b ≡ true → (q ≡ [] → is_introducer b ≡ false)
+    → (events_of_byte n (InEscape q) b ≡ esc_event q b) × (after_byte (InEscape q) b ≡ InText [])
+final-ends n q b h k =
     let e : is_esc b ≡ false = grind (arith, nat_tests) in
     let f : ends_escape b ≡ true = grind (arith, nat_tests) in
     let g : is_abort b ≡ false = grind (arith, nat_tests) in
     rw (e, f, g) (final-escape q b k)
 
-escape-ends : (q between : List ℕ) (b : ℕ) → AllByRecursion (λ i. is_intermediate i ≡ true) between
-    → is_in_range 0x30 0x7E b ≡ true
-    → (q ++ between ≡ [] → is_introducer b ≡ false) → after_bytes (InEscape q) (between ++ b ∷ []) ≡ InText []
-escape-ends q [] b h k plain = final-ends q b k (λ e. plain (rw e refl))
-escape-ends q (i ∷ between) b h k plain =
-    ap (λ (p : Pending). after_bytes p (between ++ b ∷ [])) (intermediate-goes_on q i h.0)
-    ∙ escape-ends (q ++ i ∷ []) between b h.1 k (λ e. plain (sym (append_assoc q (i ∷ []) between) ∙ e))
-
 pub ground-escape : (n : ℕ) (between : List ℕ) (b : ℕ) → IsEscape between b → AtGround n (0x1B ∷ (between ++ b ∷ []))
-ground-escape n between b h = ground-pending n (0x1B ∷ (between ++ b ∷ [])) (escape-ends [] between b h.0 h.1 h.2)
+ground-escape n between b h = ground-pending n (0x1B ∷ (between ++ b ∷ []))
+    ((kept-then n InEscape is_intermediate between b (intermediate-kept n) h.0).1 ∙ (final-ends n between b h.1 h.2).1)
 
 -- control sequences
 
-header-goes_on : (q : List ℕ) (b : ℕ) → is_header b ≡ true → after_byte (InCsi q) b ≡ InCsi (q ++ b ∷ [])
-header-goes_on q b h =
-    let e : is_esc b ≡ false = grind (arith, nat_tests) in
-    let f : ends_header b ≡ false = grind (arith, nat_tests) in
-    rw (e, f, h) refl
-
-header-ends : (q : List ℕ) (b : ℕ) → is_in_range 0x40 0x7E b ≡ true → after_byte (InCsi q) b ≡ InText []
-header-ends q b h =
+header-ends : (n : ℕ) (q : List ℕ) (b : ℕ) → is_in_range 0x40 0x7E b ≡ true
+    → (events_of_byte n (InCsi q) b ≡ header_event q b) × (after_byte (InCsi q) b ≡ InText [])
+header-ends n q b h =
     let e : is_esc b ≡ false = grind (arith, nat_tests) in
     let f : ends_header b ≡ true = grind (arith, nat_tests) in
-    rw (e, f) refl
-
-sequence-ends : (q header : List ℕ) (b : ℕ) → AllByRecursion (λ i. is_header i ≡ true) header
-    → is_in_range 0x40 0x7E b ≡ true → after_bytes (InCsi q) (header ++ b ∷ []) ≡ InText []
-sequence-ends q [] b h k = header-ends q b k
-sequence-ends q (i ∷ header) b h k =
-    ap (λ (p : Pending). after_bytes p (header ++ b ∷ [])) (header-goes_on q i h.0)
-    ∙ sequence-ends (q ++ i ∷ []) header b h.1 k
+    let g : is_abort b ≡ false = grind (arith, nat_tests) in
+    rw (e, f, g) (refl, refl)
 
 pub ground-sequence : (n : ℕ) (header : List ℕ) (b : ℕ) → IsSequence header b
     → AtGround n (0x1B ∷ 0x5B ∷ (header ++ b ∷ []))
-ground-sequence n header b h = ground-pending n (0x1B ∷ 0x5B ∷ (header ++ b ∷ [])) (sequence-ends [] header b h.0 h.1)
+ground-sequence n header b h = ground-pending n (0x1B ∷ 0x5B ∷ (header ++ b ∷ []))
+    ((kept-then n InCsi is_header header b (header-csi n) h.0).1 ∙ (header-ends n header b h.1).1)
 
 -- text
 
-not_esc : (b : ℕ) → b ≢ 0x1B → is_esc b ≡ false
-not_esc b h = grind (arith, nat_tests)
-
-text-stays : (u bytes : List ℕ) → AllByRecursion (λ b. b ≢ 0x1B) bytes
-    → after_bytes (InText u) bytes ≡ InText (run_rest u bytes)
-text-stays u [] h = refl
-text-stays u (b ∷ bytes) h = rw (not_esc b h.0) (text-stays (text_rest u b) bytes h.1)
+without_esc : (bytes : List ℕ) → AllByRecursion (λ b. b ≢ 0x1B) bytes → has_no_esc bytes ≡ true
+without_esc [] h = refl
+without_esc (b ∷ bytes) h =
+    let ne : b ≢ 0x1B = h.0 in
+    let e : is_esc b ≡ false = grind (arith, nat_tests) in
+    rw e (without_esc bytes h.1)
 
 pub ground-text : (n : ℕ) (text : List ℕ) → IsText text → AtGround n text
-ground-text n text h = ground-pending n text (text-stays [] text h.1 ∙ ap InText (run-text text h.0).1)
+ground-text n text h = ground-pending n text
+    ((run-events n [] text (without_esc text h.1)).1 ∙ ap InText (run-text text h.0).1)
 
 -- what whole sequences and texts tell
 
-intermediate-quiet : (n : ℕ) (q : List ℕ) (b : ℕ) → is_intermediate b ≡ true → events_of_byte n (InEscape q) b ≡ []
-intermediate-quiet n q b h =
-    let e : is_esc b ≡ false = grind (arith, nat_tests) in
-    let f : ends_escape b ≡ false = grind (arith, nat_tests) in
-    let g : is_control b ≡ false = grind (arith, nat_tests) in
-    rw (g, e, f) refl
-
-final-plain_told : (b : ℕ) → is_introducer b ≡ false → final_told [] b ≡ Esc [] false b ∷ []
-final-plain_told b h =
-    let csi : (b == 0x5B ≡ false) × _ = or-none (b == 0x5B) (b == 0x5D
-    || (b == 0x50 || (b == 0x58 || (b == 0x5E || b == 0x5F)))) h in
-    let osc : (b == 0x5D ≡ false) × _ = or-none (b == 0x5D) (b == 0x50
-    || (b == 0x58 || (b == 0x5E || b == 0x5F))) csi.1 in
-    let dcs : (b == 0x50 ≡ false) × ((b == 0x58 || (b == 0x5E || b == 0x5F)) ≡ false) =
-    or-none (b == 0x50) (b == 0x58 || (b == 0x5E || b == 0x5F)) osc.1 in
-    rw (csi.0, osc.0, dcs.0, dcs.1) refl
-
-abbrev esc_event : List ℕ → ℕ → List Event
-esc_event q b = Esc (take 2 q) (nat_lt 2 (length q)) b ∷ []
-
-final-escape_told : (q : List ℕ) (b : ℕ) → (q ≡ [] → is_introducer b ≡ false) → final_told q b ≡ esc_event q b
-final-escape_told [] b h = final-plain_told b (h refl)
-final-escape_told (i ∷ q) b h = let e : (length (i ∷ q) == 0) ≡ false = grind (arith, nat_tests) in rw e refl
-
-final-told : (n : ℕ) (q : List ℕ) (b : ℕ) → is_in_range 0x30 0x7E b ≡ true → (q ≡ [] → is_introducer b ≡ false)
-    → events_of_byte n (InEscape q) b ≡ esc_event q b
-final-told n q b h k =
-    let e : is_esc b ≡ false = grind (arith, nat_tests) in
-    let f : ends_escape b ≡ true = grind (arith, nat_tests) in
-    let g : is_abort b ≡ false = grind (arith, nat_tests) in
-    rw (e, f, g) (final-escape_told q b k)
-
-escape-told : (n : ℕ) (q between : List ℕ) (b : ℕ) → AllByRecursion (λ i. is_intermediate i ≡ true) between
-    → is_in_range 0x30 0x7E b ≡ true
-    → (q ++ between ≡ [] → is_introducer b ≡ false)
-    → events_from n (InEscape q) (between ++ b ∷ []) ≡ esc_event (q ++ between) b
-escape-told n q [] b h k plain =
-    append-nil (events_of_byte n (InEscape q) b) ∙ (final-told n q b k (λ e. plain (append-nil q ∙ e))
-    ∙ ap (λ is. esc_event is b) (sym (append-nil q)))
-escape-told n q (i ∷ between) b h k plain =
-    ap (λ (es : List Event). es ++ events_from n (after_byte (InEscape q) i) (between ++ b ∷ []))
-    (intermediate-quiet n q i h.0)
-    ∙ (ap (λ (p : Pending). events_from n p (between ++ b ∷ [])) (intermediate-goes_on q i h.0)
-    ∙ (escape-told n (q ++ i ∷ []) between b h.1 k (λ e. plain (sym (append_assoc q (i ∷ []) between) ∙ e))
-    ∙ ap (λ is. esc_event is b) (append_assoc q (i ∷ []) between)))
-
 pub escape-tells : (n : ℕ) (between : List ℕ) (b : ℕ) → IsEscape between b
     → events n (0x1B ∷ (between ++ b ∷ [])) ≡ esc_event between b
-escape-tells n between b h = events-told n (0x1B ∷ (between ++ b ∷ [])) ∙ escape-told n [] between b h.0 h.1 h.2
-
-header-quiet : (n : ℕ) (q : List ℕ) (b : ℕ) → is_header b ≡ true → events_of_byte n (InCsi q) b ≡ []
-header-quiet n q b h =
-    let e : is_esc b ≡ false = grind (arith, nat_tests) in
-    let f : ends_header b ≡ false = grind (arith, nat_tests) in
-    let g : is_control b ≡ false = grind (arith, nat_tests) in
-    rw (g, e, f) refl
-
-header-told : (n : ℕ) (q : List ℕ) (b : ℕ) → is_in_range 0x40 0x7E b ≡ true
-    → events_of_byte n (InCsi q) b ≡ header_event q b
-header-told n q b h =
-    let e : is_esc b ≡ false = grind (arith, nat_tests) in
-    let f : ends_header b ≡ true = grind (arith, nat_tests) in
-    let g : is_abort b ≡ false = grind (arith, nat_tests) in
-    rw (e, f, g) refl
-
-sequence-told : (n : ℕ) (q header : List ℕ) (b : ℕ) → AllByRecursion (λ i. is_header i ≡ true) header
-    → is_in_range 0x40 0x7E b ≡ true
-    → events_from n (InCsi q) (header ++ b ∷ []) ≡ header_event (q ++ header) b
-sequence-told n q [] b h k =
-    append-nil (events_of_byte n (InCsi q) b) ∙ (header-told n q b k
-    ∙ ap (λ hs. header_event hs b) (sym (append-nil q)))
-sequence-told n q (i ∷ header) b h k =
-    ap (λ (es : List Event). es ++ events_from n (after_byte (InCsi q) i) (header ++ b ∷ [])) (header-quiet n q i h.0)
-    ∙ (ap (λ (p : Pending). events_from n p (header ++ b ∷ [])) (header-goes_on q i h.0)
-    ∙ (sequence-told n (q ++ i ∷ []) header b h.1 k ∙ ap (λ hs. header_event hs b) (append_assoc q (i ∷ []) header)))
+escape-tells n between b h = events-told n (0x1B ∷ (between ++ b ∷ []))
+    ∙ ((kept-then n InEscape is_intermediate between b (intermediate-kept n) h.0).0
+    ∙ (final-ends n between b h.1 h.2).0)
 
 pub sequence-tells : (n : ℕ) (header : List ℕ) (b : ℕ) → IsSequence header b
     → events n (0x1B ∷ 0x5B ∷ (header ++ b ∷ [])) ≡ header_event header b
-sequence-tells n header b h = events-told n (0x1B ∷ 0x5B ∷ (header ++ b ∷ [])) ∙ sequence-told n [] header b h.0 h.1
-
-text-told : (n : ℕ) (u bytes : List ℕ) → AllByRecursion (λ b. b ≢ 0x1B) bytes
-    → events_from n (InText u) bytes ≡ run_told u bytes
-text-told n u [] h = refl
-text-told n u (b ∷ bytes) h = rw (not_esc b h.0) (ap (λ (es : List Event). text_told u b
-    ++ es) (text-told n (text_rest u b) bytes h.1))
+sequence-tells n header b h = events-told n (0x1B ∷ 0x5B ∷ (header ++ b ∷ []))
+    ∙ ((kept-then n InCsi is_header header b (header-csi n) h.0).0 ∙ (header-ends n header b h.1).0)
 
 pub text-tells : (n : ℕ) (text : List ℕ) → IsText text → events n text ≡ map char_event (chars text)
-text-tells n text h = events-told n text ∙ (text-told n [] text h.1 ∙ (run-text text h.0).0)
+text-tells n text h = events-told n text ∙ ((run-events n [] text (without_esc text h.1)).0 ∙ (run-text text h.0).0)

@@ -1,25 +1,33 @@
 -- Ground text, byte by byte.
-use Rattle.std.proofs.Common.{◌≡◌, ℕ, Bool, true, false, not, ◌&&◌, ◌||◌, List, [], ◌∷◌, ◌++◌, ◌+◌, length, nat_lt}
-use Rattle.std.proofs.Common.{◌==◌, if◌then◌else◌, refl, sym, ◌∙◌, ap, subst, inl, inr, append_assoc, append-nil}
+use Rattle.std.proofs.Common.{◌≡◌, ℕ, Bool, true, false, not, ◌&&◌, ◌||◌, List, [], ◌∷◌, ◌++◌, length}
+use Rattle.std.proofs.Common.{◌==◌, if◌then◌else◌, refl, sym, ◌∙◌, ap, subst, inl, inr, append-nil}
 use Rattle.std.specs.List.{All, filter}
-use Rattle.std.specs.Int.{is_in_range}
-use Rattle.std.proofs.lemmas.List.Elements.{All-nil, All-cons}
-use Rattle.vte_core.specs.Event.{Event, Print}
+use Rattle.std.proofs.Math.Bool.{and-true, and-false}
+use Rattle.vte_core.specs.Event.{Event}
 use Rattle.vte_core.specs.Bytes.{is_esc, is_abort, is_control, is_intermediate, is_header, ends_header, ends_escape}
 use Rattle.vte_core.specs.Bytes.{ends_osc, ends_device}
-use Rattle.vte_core.specs.Text.{char_len, first_bits, joined, char_event, malformed_event}
 use Rattle.vte_core.specs.Header.{is_well_formed}
 use Rattle.vte_core.specs.Shapes.{before, from, cut_at_esc}
 use Rattle.vte_core.specs.GroundText as ground
-use Rattle.vte_core.specs.GroundText.{past_device, past_introduced, past_final, last_text_of, has_bytes}
-use Rattle.vte_core.specs.GroundText.{ends_in_text}
+use Rattle.vte_core.specs.GroundText.{past_device, past_introduced, past_final, last_text_of, has_bytes, ends_in_text}
 use Rattle.vte_core.specs.Pending.{Pending, InText, InEscape, InCsi, InOsc, InHook, InDevice, InSwallowed, kept}
-use Rattle.vte_core.specs.Pending.{goes_on, begun, text_told, final_rest, byte_rest, events_of_byte, after_bytes}
-use Rattle.vte_core.specs.Pending.{pending}
+use Rattle.vte_core.specs.Pending.{final_rest, byte_rest, events_of_byte, after_bytes, pending}
 use Rattle.vte_core.specs.Stopping.{is_text}
 use Rattle.vte_core.specs.Laws.{IsCharacter, TellsCharacters}
 use Rattle.vte_core.proofs.AddedLemmas.{added-from}
+use Rattle.vte_core.proofs.LawLemmas.{text_holds}
+use Rattle.vte_core.proofs.Machine.{filter-kept}
 use Rattle.vte_core.proofs.Characters.{bool_cases}
+
+-- text is pending
+pub text_is : (q : Pending) → is_text q ≡ true → (u : List ℕ) × (q ≡ InText u)
+text_is (InText u) h = (u, refl)
+text_is (InEscape is) h = cc
+text_is (InCsi x) h = cc
+text_is (InOsc d) h = cc
+text_is (InHook x) h = cc
+text_is InDevice h = cc
+text_is InSwallowed h = cc
 
 -- the ground text that a segment ends in, read from what is pending
 abbrev pub text_on : Pending → List ℕ → List ℕ
@@ -30,14 +38,6 @@ text_on (InOsc d) s = ground.past ends_osc s
 text_on (InHook h) s = past_device (h ++ filter is_header (before ends_header s)) (from ends_header s)
 text_on InDevice s = ground.past ends_device s
 text_on InSwallowed s = ground.past is_abort s
-
-filter-kept : (keep : ℕ → Bool) (h : List ℕ) (b : ℕ) (s : List ℕ)
-    → h ++ filter keep (b ∷ s) ≡ (h ++ kept keep b) ++ filter keep s
-filter-kept keep h b s =
-    elim (bool_cases (keep b)) [
-      | inl e ↦ rw e (sym (append_assoc h (b ∷ []) (filter keep s)))
-      | inr e ↦ rw e (ap (λ (k : List ℕ). k ++ filter keep s) (sym (append-nil h)))
-    ]
 
 -- a byte that ends the shape, and one that doesn't
 past-byte : (p : ℕ → Bool) (q : Pending) (b : ℕ) (s : List ℕ) → text_on q s ≡ ground.past p s
@@ -97,9 +97,6 @@ none_left (InHook h) = refl
 none_left InDevice = refl
 none_left InSwallowed = refl
 
-last_of_shape : (q : Pending) (b : ℕ) → is_text q ≡ false → has_bytes (text_on q (b ∷ [])) ≡ is_text q
-last_of_shape q b h = ap has_bytes (shape-byte q b [] h ∙ none_left (byte_rest q b)) ∙ sym h
-
 -- the ground text that the bytes end in, read from what is pending
 abbrev pub last_on : Pending → List ℕ → List ℕ
 last_on q bs = last_text_of (text_on q (cut_at_esc bs).0) (cut_at_esc bs).1
@@ -119,46 +116,28 @@ grown c (d ∷ bs) b =
       | inr e ↦ rw e (grown_by c d (cut_at_esc (bs ++ b ∷ [])).0 (cut_at_esc (bs ++ b ∷ [])).1)
     ]
 
-shape_more : (q : Pending) (c : ℕ) (bs : List ℕ) (b : ℕ) → is_text q ≡ false
-    → let r = cut_at_esc (bs ++ b ∷ []) in has_bytes (last_text_of (text_on q (c ∷ r.0)) r.1)
-    ≡ has_bytes (last_on (byte_rest q c) (bs ++ b ∷ []))
-shape_more q c bs b h =
-    let r = cut_at_esc (bs ++ b ∷ []) in ap (λ (s : List ℕ). has_bytes (last_text_of s r.1)) (shape-byte q c r.0 h)
-
 byte_more : (q : Pending) (c : ℕ) (bs : List ℕ) (b : ℕ) → let r = cut_at_esc (bs ++ b ∷ [])
     in has_bytes (last_text_of (text_on q (c ∷ r.0)) r.1) ≡ has_bytes (last_on (byte_rest q c) (bs ++ b ∷ []))
-byte_more (InText u) c bs b = grown c bs b
-byte_more (InEscape is) c bs b = shape_more (InEscape is) c bs b refl
-byte_more (InCsi h) c bs b = shape_more (InCsi h) c bs b refl
-byte_more (InOsc d) c bs b = shape_more (InOsc d) c bs b refl
-byte_more (InHook h) c bs b = shape_more (InHook h) c bs b refl
-byte_more InDevice c bs b = shape_more InDevice c bs b refl
-byte_more InSwallowed c bs b = shape_more InSwallowed c bs b refl
+byte_more q c bs b = elim (bool_cases (is_text q)) [
+  | inl e ↦ let (u, is) = text_is q e in rw is (grown c bs b)
+  | inr e ↦
+      let r = cut_at_esc (bs ++ b ∷ []) in
+      ap (λ (s : List ℕ). has_bytes (last_text_of s r.1)) (shape-byte q c r.0 e)
+]
 
 last_byte : (q : Pending) (b : ℕ) → has_bytes (text_on q (b ∷ [])) ≡ is_text q
-last_byte (InText u) b = refl
-last_byte (InEscape is) b = last_of_shape (InEscape is) b refl
-last_byte (InCsi h) b = last_of_shape (InCsi h) b refl
-last_byte (InOsc d) b = last_of_shape (InOsc d) b refl
-last_byte (InHook h) b = last_of_shape (InHook h) b refl
-last_byte InDevice b = last_of_shape InDevice b refl
-last_byte InSwallowed b = last_of_shape InSwallowed b refl
-
-and_true : (v : Bool) → (v && true) ≡ v
-and_true true = refl
-and_true false = refl
-
-and_false : (v : Bool) → (v && false) ≡ false
-and_false true = refl
-and_false false = refl
+last_byte q b = elim (bool_cases (is_text q)) [
+  | inl e ↦ let (u, is) = text_is q e in rw is refl
+  | inr e ↦ ap has_bytes (shape-byte q b [] e ∙ none_left (byte_rest q b)) ∙ sym e
+]
 
 -- the last byte is ground text where text was pending before it, and it isn't ESC
 ends_on : (q : Pending) (bs : List ℕ) (b : ℕ) → has_bytes (last_on q (bs ++ b ∷ []))
     ≡ (is_text (after_bytes q bs) && not (is_esc b))
 ends_on q [] b =
     elim (bool_cases (is_esc b)) [
-      | inl e ↦ rw e (sym (and_false (is_text q)))
-      | inr e ↦ rw e (last_byte q b ∙ sym (and_true (is_text q)))
+      | inl e ↦ rw e (sym (and-false (is_text q)))
+      | inr e ↦ rw e (last_byte q b ∙ sym (and-true (is_text q)))
     ]
 ends_on q (c ∷ bs) b =
     elim (bool_cases (is_esc c)) [
@@ -172,47 +151,19 @@ ends_in_text-last past b = ends_on (InText []) past b
 
 -- ground text prints characters and executes controls
 
-one : (e : Event) → IsCharacter e → All IsCharacter (e ∷ [])
-one e h = All-cons IsCharacter e [] h (All-nil IsCharacter)
-
-char_is : (c : ℕ) → IsCharacter (char_event c)
-char_is c = elim (bool_cases (nat_lt c 0x20 || is_in_range 0x80 0x9F c)) [ inl e ↦ rw e tt | inr e ↦ rw e tt ]
-
-malformed_is : (k a : ℕ) → IsCharacter (malformed_event k a)
-malformed_is k a = elim (bool_cases (k == 1 && is_in_range 0x80 0x9F a)) [ inl e ↦ rw e tt | inr e ↦ rw e tt ]
-
-begun_are : (b : ℕ) → All IsCharacter (begun b)
-begun_are b =
-    elim (bool_cases (char_len b == 1)) [
-      | inl e ↦ rw e (one (char_event (first_bits b)) (char_is (first_bits b)))
-      | inr e ↦ rw e (elim (bool_cases (char_len b == 0)) [
-        | inl f ↦ rw f (one (malformed_event 1 b) (malformed_is 1 b))
-        | inr f ↦ rw f (All-nil IsCharacter)
-      ])
-    ]
-
-told_are : (u : List ℕ) (b : ℕ) → All IsCharacter (text_told u b)
-told_are [] b = begun_are b
-told_are (a ∷ t) b =
-    elim (bool_cases (goes_on a t b)) [
-      | inl e ↦ rw e (elim (bool_cases (length t + 2 == char_len a)) [
-        | inl f ↦ rw f (one (char_event (joined (first_bits a) (t ++ b ∷ [])))
-            (char_is (joined (first_bits a) (t ++ b ∷ []))))
-        | inr f ↦ rw f (All-nil IsCharacter)
-      ])
-      | inr e ↦ rw e (All-cons IsCharacter (Print 0xFFFD) (begun b) tt (begun_are b))
-    ]
-
 of_byte_are : (n : ℕ) (q : Pending) (b : ℕ) → (is_text q && not (is_esc b)) ≡ true
     → All IsCharacter (events_of_byte n q b)
-of_byte_are n (InText u) b h = elim (bool_cases (is_esc b))
-    [ inl e ↦ absurd (let no : false ≡ true = rw e at h in cc) | inr e ↦ rw e (told_are u b) ]
-of_byte_are n (InEscape is) b h = absurd (let no : false ≡ true = h in cc)
-of_byte_are n (InCsi x) b h = absurd (let no : false ≡ true = h in cc)
-of_byte_are n (InOsc s) b h = absurd (let no : false ≡ true = h in cc)
-of_byte_are n (InHook x) b h = absurd (let no : false ≡ true = h in cc)
-of_byte_are n InDevice b h = absurd (let no : false ≡ true = h in cc)
-of_byte_are n InSwallowed b h = absurd (let no : false ≡ true = h in cc)
+of_byte_are n (InText u) b h =
+    elim (bool_cases (is_esc b)) [
+      | inl e ↦ absurd (let no : false ≡ true = rw e at h in cc)
+      | inr e ↦ rw e (text_holds IsCharacter (λ c. tt) (λ c. tt) u b)
+    ]
+of_byte_are n (InEscape is) b h = cc
+of_byte_are n (InCsi x) b h = cc
+of_byte_are n (InOsc s) b h = cc
+of_byte_are n (InHook x) b h = cc
+of_byte_are n InDevice b h = cc
+of_byte_are n InSwallowed b h = cc
 
 pub text-tells : TellsCharacters
 text-tells n past b h =

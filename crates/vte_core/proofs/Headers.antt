@@ -1,21 +1,14 @@
 -- The numbers of a header.
 use Rattle.std.proofs.Common.{◌≡◌, ◌≢◌, ℕ, zero, suc, ◌+◌, ◌-◌, ◌<◌, ◌≤◌, min, Bool, true, false, List, [], ◌∷◌, ◌++◌}
-use Rattle.std.proofs.Common.{map, length, take, nat_lt, refl, sym, ◌∙◌, ap, arith, length-append, inl, inr}
-use Rattle.std.proofs.lemmas.Grind.{common_steps}
-use Rattle.std.proofs.lemmas.List.{take-append-le}
+use Rattle.std.proofs.Common.{length, take, nat_lt, refl, sym, ◌∙◌, ap, arith, length-append, inl, inr}
+use Rattle.std.proofs.lemmas.List.{take-append-le, take_all, length-take}
 use Rattle.std.proofs.lemmas.Bool.{lt-ltb, cases_lt}
 use Rattle.std.proofs.lemmas.Bool.Decides.{nat_tests}
-use Rattle.std.specs.List.{concat, slice_split, onto_first, fold}
+use Rattle.std.specs.List.{concat, slice_split, onto_first}
 use Rattle.vte_core.specs.Store.{total}
 use Rattle.vte_core.specs.Header.{first_numbers}
 use Rattle.vte_core.specs.Reading.{with_group}
 use Rattle.vte_core.proofs.Characters.{bool_cases}
-
-take_all : (k : ℕ) (xs : List ℕ) → length xs ≤ k → take k xs ≡ xs
-take_all k xs h = grind (arith, common_steps)
-
-length-take : (k : ℕ) (xs : List ℕ) → length (take k xs) ≡ min k (length xs)
-length-take k xs = grind (arith, common_steps)
 
 first_numbers-nil : (m : ℕ) → first_numbers m [] ≡ []
 first_numbers-nil zero = refl
@@ -180,11 +173,3 @@ split-no p (x ∷ xs) b e =
       | inl f ↦ let (s, ss, g) = split_some p xs in rw f (ap (λ r. [] ∷ r) (split-no p xs b e) ∙ rw g refl)
       | inr f ↦ rw f (ap (onto_first x) (split-no p xs b e) ∙ onto-both b x (slice_split p xs))
     ]
-
-pub fold-last : (f : ℕ → ℕ → ℕ) (a : ℕ) (xs : List ℕ) (b : ℕ) → fold f a (xs ++ b ∷ []) ≡ f (fold f a xs) b
-fold-last f a [] b = refl
-fold-last f a (x ∷ xs) b = fold-last f (f a x) xs b
-
-pub map-last : {A B : Type 0} (f : A → B) (xs : List A) (x : A) → map f (xs ++ x ∷ []) ≡ map f xs ++ f x ∷ []
-map-last f [] x = refl
-map-last f (y ∷ ys) x = ap (λ r. f y ∷ r) (map-last f ys x)

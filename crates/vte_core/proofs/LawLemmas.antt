@@ -1,11 +1,10 @@
 -- Laws of the events of a byte stream.
 use Rattle.std.proofs.Common.{◌≡◌, ℕ, zero, suc, ◌+◌, ◌-◌, ◌≤◌, Bool, true, false, ◌&&◌, ◌||◌, List, [], ◌∷◌, ◌++◌}
-use Rattle.std.proofs.Common.{length, take, nat_lt, ◌==◌, refl, sym, ◌∙◌, ap, inl, inr, append_assoc, arith}
-use Rattle.std.proofs.Common.{length-append, length-take}
+use Rattle.std.proofs.Common.{length, take, ◌==◌, refl, sym, ◌∙◌, ap, append_assoc, arith}
+use Rattle.std.proofs.Common.{length-append, length-take, if◌then◌else◌}
 use Rattle.std.proofs.lemmas.Bool.Decides.{nat_tests}
 use Rattle.std.proofs.lemmas.List.Elements.{All-nil, All-cons, All-append}
 use Rattle.std.proofs.lemmas.List.Splits.{length-slice_split}
-use Rattle.std.specs.Int.{is_in_range}
 use Rattle.std.specs.List.{All, concat, slice_split}
 use Rattle.vte_core.specs.Event.{Event, Print, Execute, Hook, Put, Unhook, Osc, Csi, Esc}
 use Rattle.vte_core.specs.Bytes.{is_esc, is_abort, is_control, is_put, ends_header, ends_escape, ends_osc, ends_device}
@@ -14,20 +13,22 @@ use Rattle.vte_core.specs.Header.{is_well_formed}
 use Rattle.vte_core.specs.Shapes.{events, first_bytes, osc_pieces}
 use Rattle.vte_core.specs.Pending.{Pending, InText, InEscape, InCsi, InOsc, InHook, InDevice, InSwallowed, pending}
 use Rattle.vte_core.specs.Pending.{told, goes_on, begun, text_told, closed, final_told, byte_told, events_of_byte}
-use Rattle.vte_core.specs.Pending.{after_byte, events_from, after_bytes}
+use Rattle.vte_core.specs.Pending.{after_byte, events_from}
 use Rattle.vte_core.specs.Laws.{Fits}
-use Rattle.vte_core.proofs.Characters.{bool_cases}
+use Rattle.vte_core.proofs.Characters.{if_holds}
 use Rattle.vte_core.proofs.Machine.{events-past, events-told, after_bytes-append}
 
 -- ESC
 
+-- what follows a byte is told from what is pending after it
+cut-after : (n : ℕ) (s : List ℕ) (b : ℕ) (t : List ℕ)
+    → events n (s ++ b ∷ t) ≡ events n (s ++ b ∷ []) ++ events_from n (after_byte (pending s) b) t
+cut-after n s b t = ap (events n) (sym (append_assoc s (b ∷ []) t)) ∙ (events-past n (s ++ b ∷ []) t
+    ∙ ap (λ (q : Pending). events n (s ++ b ∷ []) ++ events_from n q t) (after_bytes-append (InText []) s (b ∷ [])))
+
 pub esc-cut : (n : ℕ) (s t : List ℕ) → events n (s ++ 0x1B ∷ t) ≡ events n (s ++ 0x1B ∷ []) ++ events n (0x1B ∷ t)
-esc-cut n s t =
-    let front : (s ++ 0x1B ∷ []) ++ t ≡ s ++ 0x1B ∷ t = append_assoc s (0x1B ∷ []) t in
-    ap (events n) (sym front) ∙ (events-past n (s ++ 0x1B ∷ []) t
-    ∙ ap (λ (es : List Event). events n (s ++ 0x1B ∷ [])
-    ++ es) (ap (λ (q : Pending). events_from n q t) (after_bytes-append (InText []) s (0x1B ∷ []))
-    ∙ sym (events-told n (0x1B ∷ t))))
+esc-cut n s t = cut-after n s 0x1B t
+    ∙ ap (λ (es : List Event). events n (s ++ 0x1B ∷ []) ++ es) (sym (events-told n (0x1B ∷ t)))
 
 -- CAN and SUB
 
@@ -54,13 +55,8 @@ after-abort InSwallowed b h = rw (abort-not_esc b h, h) refl
 
 pub abort-cut : (b : ℕ) → is_abort b ≡ true → (n : ℕ) (s t : List ℕ)
     → events n (s ++ b ∷ t) ≡ events n (s ++ b ∷ []) ++ events n t
-abort-cut b h n s t =
-    let front : (s ++ b ∷ []) ++ t ≡ s ++ b ∷ t = append_assoc s (b ∷ []) t in
-    let none : pending (s ++ b ∷ []) ≡ InText [] =
-    after_bytes-append (InText []) s (b ∷ []) ∙ after-abort (after_bytes (InText []) s) b h in
-    ap (events n) (sym front) ∙ (events-past n (s ++ b ∷ []) t
-    ∙ ap (λ (es : List Event). events n (s ++ b ∷ []) ++ es) (ap (λ (q : Pending). events_from n q t) none
-    ∙ sym (events-told n t)))
+abort-cut b h n s t = cut-after n s b t
+    ∙ rw (after-abort (pending s) b h) (ap (λ (es : List Event). events n (s ++ b ∷ []) ++ es) (sym (events-told n t)))
 
 -- the pieces of an operating system command
 
@@ -86,107 +82,78 @@ pieces-fit n s bell =
     let kept : length (take 16 (first_bytes n parts)) ≡ _ = length-take 16 (first_bytes n parts) in
     (omega (arith, some, same, kept), omega (arith, kept), few-bytes 16 n parts)
 
-one-fits : (n : ℕ) (e : Event) → Fits n e → All (Fits n) (e ∷ [])
-one-fits n e h = All-cons (Fits n) e [] h (All-nil (Fits n))
+-- what holds of each character and control holds of all that a byte of text tells
+
+pub all_one : (P : Event → Type 0) (e : Event) → P e → All P (e ∷ [])
+all_one P e h = All-cons P e [] h (All-nil P)
+
+char_holds : (P : Event → Type 0) → ((c : ℕ) → P (Print c)) → ((b : ℕ) → P (Execute b)) → (c : ℕ)
+    → All P (char_event c ∷ [])
+char_holds P print execute c = all_one P (char_event c) (if_holds P _ _ _ (execute c) (print c))
+
+begun_holds : (P : Event → Type 0) → ((c : ℕ) → P (Print c)) → ((b : ℕ) → P (Execute b)) → (b : ℕ)
+    → All P (begun b)
+begun_holds P print execute b =
+    if_holds (All P) (char_len b == 1) _ _ (char_holds P print execute (first_bits b))
+    (if_holds (All P) (char_len b == 0) _ _
+    (all_one P (malformed_event 1 b) (if_holds P _ _ _ (execute b) (print 0xFFFD))) (All-nil P))
+
+pub text_holds : (P : Event → Type 0) → ((c : ℕ) → P (Print c)) → ((b : ℕ) → P (Execute b)) → (u : List ℕ) (b : ℕ)
+    → All P (text_told u b)
+text_holds P print execute [] b = begun_holds P print execute b
+text_holds P print execute (a ∷ t) b =
+    if_holds (All P) (goes_on a t b) _ _
+    (if_holds (All P) (length t + 2 == char_len a) _ _
+    (char_holds P print execute (joined (first_bits a) (t ++ b ∷ []))) (All-nil P))
+    (All-cons P (Print 0xFFFD) (begun b) (print 0xFFFD) (begun_holds P print execute b))
+
+fits_if : (n : ℕ) (v : Bool) (es ds : List Event) → All (Fits n) es → All (Fits n) ds
+    → All (Fits n) (if v then es else ds)
+fits_if n = if_holds (All (Fits n))
 
 told-fits : (n : ℕ) (p : ℕ → Bool) (f : ℕ → Event) (b : ℕ) → Fits n (f b) → All (Fits n) (told p f b)
-told-fits n p f b h = elim (bool_cases (p b)) [ inl e ↦ rw e (one-fits n (f b) h) | inr e ↦ rw e (All-nil (Fits n)) ]
-
-char-fits : (n c : ℕ) → Fits n (char_event c)
-char-fits n c = elim (bool_cases (nat_lt c 0x20 || is_in_range 0x80 0x9F c)) [ inl e ↦ rw e tt | inr e ↦ rw e tt ]
-
-malformed-fits : (n k a : ℕ) → Fits n (malformed_event k a)
-malformed-fits n k a = elim (bool_cases (k == 1 && is_in_range 0x80 0x9F a)) [ inl e ↦ rw e tt | inr e ↦ rw e tt ]
-
-begun-fits : (n b : ℕ) → All (Fits n) (begun b)
-begun-fits n b =
-    elim (bool_cases (char_len b == 1)) [
-      | inl e ↦ rw e (one-fits n (char_event (first_bits b)) (char-fits n (first_bits b)))
-      | inr e ↦ rw e (elim (bool_cases (char_len b == 0)) [
-        | inl f ↦ rw f (one-fits n (malformed_event 1 b) (malformed-fits n 1 b))
-        | inr f ↦ rw f (All-nil (Fits n))
-      ])
-    ]
-
-text-fits : (n : ℕ) (u : List ℕ) (b : ℕ) → All (Fits n) (text_told u b)
-text-fits n [] b = begun-fits n b
-text-fits n (a ∷ t) b =
-    elim (bool_cases (goes_on a t b)) [
-      | inl e ↦ rw e (elim (bool_cases (length t + 2 == char_len a)) [
-        | inl f ↦ rw f (one-fits n (char_event (joined (first_bits a) (t ++ b ∷ [])))
-            (char-fits n (joined (first_bits a) (t ++ b ∷ []))))
-        | inr f ↦ rw f (All-nil (Fits n))
-      ])
-      | inr e ↦ rw e (All-cons (Fits n) (Print 0xFFFD) (begun b) tt (begun-fits n b))
-    ]
+told-fits n p f b h = fits_if n (p b) _ _ (all_one (Fits n) (f b) h) (All-nil (Fits n))
 
 closed-fits : (n : ℕ) (q : Pending) → All (Fits n) (closed n q)
 closed-fits n (InText []) = All-nil (Fits n)
-closed-fits n (InText (a ∷ t)) = one-fits n (Print 0xFFFD) tt
+closed-fits n (InText (a ∷ t)) = all_one (Fits n) (Print 0xFFFD) tt
 closed-fits n (InEscape is) = All-nil (Fits n)
 closed-fits n (InCsi x) = All-nil (Fits n)
-closed-fits n (InOsc s) = one-fits n (Osc (osc_pieces n s) false) (pieces-fit n s false)
+closed-fits n (InOsc s) = all_one (Fits n) (Osc (osc_pieces n s) false) (pieces-fit n s false)
 closed-fits n (InHook x) = All-nil (Fits n)
-closed-fits n InDevice = one-fits n Unhook tt
+closed-fits n InDevice = all_one (Fits n) Unhook tt
 closed-fits n InSwallowed = All-nil (Fits n)
 
 final-fits : (n : ℕ) (is : List ℕ) (b : ℕ) → All (Fits n) (final_told is b)
 final-fits n is b =
-    elim (bool_cases (length is == 0 && b == 0x5B)) [
-      | inl e ↦ rw e (All-nil (Fits n))
-      | inr e ↦ rw e (elim (bool_cases (length is == 0 && b == 0x5D)) [
-        | inl f ↦ rw f (All-nil (Fits n))
-        | inr f ↦ rw f (elim (bool_cases (length is == 0 && b == 0x50)) [
-          | inl g ↦ rw g (All-nil (Fits n))
-          | inr g ↦ rw g (elim (bool_cases (length is == 0 && (b == 0x58 || (b == 0x5E || b == 0x5F)))) [
-            | inl h ↦ rw h (All-nil (Fits n))
-            | inr h ↦ rw h (one-fits n (Esc (take 2 is) (nat_lt 2 (length is)) b) tt)
-          ])
-        ])
-      ])
-    ]
+    let none = All-nil (Fits n) in
+    fits_if n (length is == 0 && b == 0x5B) _ _ none (fits_if n (length is == 0 && b == 0x5D) _ _ none
+    (fits_if n (length is == 0 && b == 0x50) _ _ none
+    (fits_if n (length is == 0 && (b == 0x58 || (b == 0x5E || b == 0x5F))) _ _ none (all_one (Fits n) (Esc _ _ b) tt))))
 
 byte-fits : (n : ℕ) (q : Pending) (b : ℕ) → All (Fits n) (byte_told n q b)
-byte-fits n (InText u) b = text-fits n u b
+byte-fits n (InText u) b = text_holds (Fits n) (λ c. tt) (λ c. tt) u b
 byte-fits n (InEscape is) b =
-    elim (bool_cases (ends_escape b)) [
-      | inl e ↦ rw e (elim (bool_cases (is_abort b))
-          [ inl f ↦ rw f (one-fits n (Execute b) tt) | inr f ↦ rw f (final-fits n is b) ])
-      | inr e ↦ rw e (told-fits n is_control Execute b tt)
-    ]
+    fits_if n (ends_escape b) _ _ (fits_if n (is_abort b) _ _ (all_one (Fits n) (Execute b) tt) (final-fits n is b))
+    (told-fits n is_control Execute b tt)
 byte-fits n (InCsi x) b =
-    elim (bool_cases (ends_header b)) [
-      | inl e ↦ rw e (elim (bool_cases (is_abort b)) [
-        | inl f ↦ rw f (one-fits n (Execute b) tt)
-        | inr f ↦ rw f (elim (bool_cases (is_well_formed x))
-            [ inl g ↦ rw g (one-fits n (Csi _ _ _ b) tt) | inr g ↦ rw g (All-nil (Fits n)) ])
-      ])
-      | inr e ↦ rw e (told-fits n is_control Execute b tt)
-    ]
+    fits_if n (ends_header b) _ _ (fits_if n (is_abort b) _ _ (all_one (Fits n) (Execute b) tt)
+    (fits_if n (is_well_formed x) _ _ (all_one (Fits n) (Csi _ _ _ b) tt) (All-nil (Fits n))))
+    (told-fits n is_control Execute b tt)
 byte-fits n (InOsc s) b =
-    elim (bool_cases (ends_osc b)) [
-      | inl e ↦ rw e (All-cons (Fits n) (Osc (osc_pieces n s) (b == 0x07)) (told is_abort Execute b)
-          (pieces-fit n s (b == 0x07)) (told-fits n is_abort Execute b tt))
-      | inr e ↦ rw e (All-nil (Fits n))
-    ]
+    fits_if n (ends_osc b) _ _ (All-cons (Fits n) (Osc (osc_pieces n s) (b == 0x07)) (told is_abort Execute b)
+    (pieces-fit n s (b == 0x07)) (told-fits n is_abort Execute b tt)) (All-nil (Fits n))
 byte-fits n (InHook x) b =
-    elim (bool_cases (ends_header b)) [
-      | inl e ↦ rw e (elim (bool_cases (is_abort b)) [
-        | inl f ↦ rw f (one-fits n (Execute b) tt)
-        | inr f ↦ rw f (elim (bool_cases (is_well_formed x))
-            [ inl g ↦ rw g (one-fits n (Hook _ _ _ b) tt) | inr g ↦ rw g (All-nil (Fits n)) ])
-      ])
-      | inr e ↦ rw e (All-nil (Fits n))
-    ]
+    fits_if n (ends_header b) _ _ (fits_if n (is_abort b) _ _ (all_one (Fits n) (Execute b) tt)
+    (fits_if n (is_well_formed x) _ _ (all_one (Fits n) (Hook _ _ _ b) tt) (All-nil (Fits n)))) (All-nil (Fits n))
 byte-fits n InDevice b =
-    elim (bool_cases (ends_device b)) [
-      | inl e ↦ rw e (All-cons (Fits n) Unhook (told is_abort Execute b) tt (told-fits n is_abort Execute b tt))
-      | inr e ↦ rw e (told-fits n is_put Put b tt)
-    ]
+    fits_if n (ends_device b) _ _
+    (All-cons (Fits n) Unhook (told is_abort Execute b) tt (told-fits n is_abort Execute b tt))
+    (told-fits n is_put Put b tt)
 byte-fits n InSwallowed b = told-fits n is_abort Execute b tt
 
 of_byte-fits : (n : ℕ) (q : Pending) (b : ℕ) → All (Fits n) (events_of_byte n q b)
-of_byte-fits n q b = elim (bool_cases (is_esc b)) [ inl e ↦ rw e (closed-fits n q) | inr e ↦ rw e (byte-fits n q b) ]
+of_byte-fits n q b = fits_if n (is_esc b) _ _ (closed-fits n q) (byte-fits n q b)
 
 pub from-fits : (n : ℕ) (q : Pending) (bs : List ℕ) → All (Fits n) (events_from n q bs)
 from-fits n q [] = All-nil (Fits n)

@@ -1,6 +1,6 @@
 -- The events of bytes, told byte by byte.
 use Rattle.std.proofs.Common.{◌≡◌, ℕ, Bool, true, false, not, ◌&&◌, ◌||◌, List, [], ◌∷◌, ◌++◌, map, length, ◌==◌}
-use Rattle.std.proofs.Common.{if◌then◌else◌, cond, refl, sym, ◌∙◌, ap, inl, inr, append_assoc}
+use Rattle.std.proofs.Common.{if◌then◌else◌, cond, refl, sym, ◌∙◌, ap, inl, inr, append_assoc, append-nil}
 use Rattle.std.specs.List.{filter}
 use Rattle.vte_core.specs.Event.{Event, Execute, Put}
 use Rattle.vte_core.specs.Bytes.{is_esc, is_abort, is_control, is_intermediate, is_header, ends_header, ends_escape}
@@ -9,14 +9,10 @@ use Rattle.vte_core.specs.Text.{text}
 use Rattle.vte_core.specs.Header.{is_well_formed}
 use Rattle.vte_core.specs.Shapes.{before, from, executed, swallowed, device_end, device, hook_end, csi_end, osc_end}
 use Rattle.vte_core.specs.Shapes.{introduced, escape_end, escape, cut_at_esc, segments, events}
-use Rattle.vte_core.proofs.Characters.{bool_cases, text-byte, text-end, IsUnfinished-rest}
+use Rattle.vte_core.proofs.Characters.{bool_cases, if_holds, either_way, text-byte, text-end, IsUnfinished-rest}
 use Rattle.vte_core.specs.Pending.{Pending, InText, InEscape, InCsi, InOsc, InHook, InDevice, InSwallowed, kept, told}
 use Rattle.vte_core.specs.Pending.{closed, final_told, final_rest, byte_told, byte_rest, events_of_byte, after_byte}
 use Rattle.vte_core.specs.Pending.{events_from, after_bytes, pending, IsSound}
-
-append-nil : {A : Type 0} (xs : List A) → xs ++ [] ≡ xs
-append-nil [] = refl
-append-nil (x ∷ xs) = ap (λ ys. x ∷ ys) (append-nil xs)
 
 -- the rest of the definition, read from what is pending
 abbrev pub go_on : ℕ → Pending → Bool → List ℕ → List Event
@@ -30,33 +26,17 @@ go_on n (InHook h) cut s = hook_end cut (h ++ filter is_header (before ends_head
 go_on n InDevice cut s = device cut s
 go_on n InSwallowed cut s = swallowed cut s
 
-either_way : (v : Bool) (es : List Event) → es ≡ (if v then es else es)
-either_way true es = refl
-either_way false es = refl
-
 filter-told : (r : ℕ → Bool) (f : ℕ → Event) (b : ℕ) (s : List ℕ)
     → map f (filter r (b ∷ s)) ≡ told r f b ++ map f (filter r s)
 filter-told r f b s =
     elim (r b) as (λ v. map f (cond v (b ∷ filter r s) (filter r s)) ≡ cond v (f b ∷ []) []
     ++ map f (filter r s)) [ true ↦ refl | false ↦ refl ]
 
-filter-kept : (keep : ℕ → Bool) (h : List ℕ) (b : ℕ) (s : List ℕ)
+pub filter-kept : (keep : ℕ → Bool) (h : List ℕ) (b : ℕ) (s : List ℕ)
     → h ++ filter keep (b ∷ s) ≡ (h ++ kept keep b) ++ filter keep s
 filter-kept keep h b s =
     elim (keep b) as (λ v. h ++ cond v (b ∷ filter keep s) (filter keep s) ≡ (h ++ cond v (b ∷ []) []) ++ filter keep s)
     [ true ↦ sym (append_assoc h (b ∷ []) (filter keep s)) | false ↦ ap (λ k. k ++ filter keep s) (sym (append-nil h)) ]
-
-before-no : (p : ℕ → Bool) (b : ℕ) (s : List ℕ) → p b ≡ false → before p (b ∷ s) ≡ b ∷ before p s
-before-no p b s e = rw e refl
-
-before-yes : (p : ℕ → Bool) (b : ℕ) (s : List ℕ) → p b ≡ true → before p (b ∷ s) ≡ []
-before-yes p b s e = rw e refl
-
-from-no : (p : ℕ → Bool) (b : ℕ) (s : List ℕ) → p b ≡ false → from p (b ∷ s) ≡ from p s
-from-no p b s e = rw e refl
-
-from-yes : (p : ℕ → Bool) (b : ℕ) (s : List ℕ) → p b ≡ true → from p (b ∷ s) ≡ b ∷ s
-from-yes p b s e = rw e refl
 
 -- a byte that doesn't end the shape
 skip-told : (p r keep : ℕ → Bool) (f : ℕ → Event) (fin : List ℕ → List ℕ
@@ -64,23 +44,22 @@ skip-told : (p r keep : ℕ → Bool) (f : ℕ → Event) (fin : List ℕ → Li
     → map f (filter r (before p (b ∷ s))) ++ fin (h ++ filter keep (before p (b ∷ s))) (from p (b ∷ s))
     ≡ told r f b ++ (map f (filter r (before p s)) ++ fin ((h ++ kept keep b) ++ filter keep (before p s)) (from p s))
 skip-told p r keep f fin h b s e =
-    rw (before-no p b s e, from-no p b s e, filter-told r f b (before p s), filter-kept keep h b (before p s))
-    (append_assoc (told r f b) _ _)
+    rw (e, filter-told r f b (before p s), filter-kept keep h b (before p s)) (append_assoc (told r f b) _ _)
 
 skip-kept : (p keep : ℕ → Bool) (fin : List ℕ → List ℕ → List Event) (h : List ℕ) (b : ℕ) (s : List ℕ) → p b ≡ false
     → fin (h ++ filter keep (before p (b ∷ s))) (from p (b ∷ s))
     ≡ fin ((h ++ kept keep b) ++ filter keep (before p s)) (from p s)
-skip-kept p keep fin h b s e = rw (before-no p b s e, from-no p b s e, filter-kept keep h b (before p s)) refl
+skip-kept p keep fin h b s e = rw (e, filter-kept keep h b (before p s)) refl
 
 -- the byte that ends it
 stop-told : (p r keep : ℕ → Bool) (f : ℕ → Event) (fin : List ℕ → List ℕ
     → List Event) (h : List ℕ) (b : ℕ) (s : List ℕ) → p b ≡ true
     → map f (filter r (before p (b ∷ s))) ++ fin (h ++ filter keep (before p (b ∷ s))) (from p (b ∷ s)) ≡ fin h (b ∷ s)
-stop-told p r keep f fin h b s e = rw (before-yes p b s e, from-yes p b s e, append-nil h) refl
+stop-told p r keep f fin h b s e = rw (e, append-nil h) refl
 
 stop-kept : (p keep : ℕ → Bool) (fin : List ℕ → List ℕ → List Event) (h : List ℕ) (b : ℕ) (s : List ℕ) → p b ≡ true
     → fin (h ++ filter keep (before p (b ∷ s))) (from p (b ∷ s)) ≡ fin h (b ∷ s)
-stop-kept p keep fin h b s e = rw (before-yes p b s e, from-yes p b s e, append-nil h) refl
+stop-kept p keep fin h b s e = rw (e, append-nil h) refl
 
 -- the local equations of a byte that isn't ESC
 
@@ -207,25 +186,14 @@ go_on-byte n InDevice cut b s h = device-byte n cut b s
 go_on-byte n InSwallowed cut b s h = swallowed-byte n cut b s
 
 -- what is pending stays sound
+sound_if : (v : Bool) (q r : Pending) → IsSound q → IsSound r → IsSound (if v then q else r)
+sound_if = if_holds IsSound
+
 sound_final : (is : List ℕ) (b : ℕ) → IsSound (final_rest is b)
 sound_final is b =
-    elim (bool_cases (length is == 0 && b == 0x5B)) [
-      | inl e ↦ rw e tt
-      | inr e ↦ rw e (elim (bool_cases (length is == 0 && b == 0x5D)) [
-        | inl f ↦ rw f tt
-        | inr f ↦ rw f (elim (bool_cases (length is == 0 && b == 0x50)) [
-          | inl g ↦ rw g tt
-          | inr g ↦ rw g (elim (bool_cases (length is == 0 && (b == 0x58 || (b == 0x5E || b == 0x5F)))) [
-            | inl h ↦ rw h tt
-            | inr h ↦ rw h tt
-          ])
-        ])
-      ])
-    ]
-
-sound_if : (v : Bool) (q r : Pending) → IsSound q → IsSound r → IsSound (if v then q else r)
-sound_if true q r h k = h
-sound_if false q r h k = k
+    sound_if (length is == 0 && b == 0x5B) _ _ tt (sound_if (length is == 0 && b == 0x5D) _ _ tt
+    (sound_if (length is == 0 && b == 0x50) _ _ tt
+    (sound_if (length is == 0 && (b == 0x58 || (b == 0x5E || b == 0x5F))) _ _ tt tt)))
 
 pub IsSound-byte : (q : Pending) (b : ℕ) → IsSound q → IsSound (after_byte q b)
 IsSound-byte (InText u) b h = sound_if (is_esc b) _ _ tt (IsUnfinished-rest u b h)

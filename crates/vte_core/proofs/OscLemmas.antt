@@ -1,18 +1,16 @@
 -- The data of an OSC.
 use Rattle.std.proofs.Common.{◌≡◌, ℕ, zero, suc, ◌+◌, ◌-◌, ◌<◌, ◌≤◌, min, true, false, List, [], ◌∷◌, ◌++◌, map, length}
 use Rattle.std.proofs.Common.{take, drop, set, get_or, ◌==◌, refl, sym, ◌∙◌, ap, arith, append_assoc, length-append}
-use Rattle.std.proofs.Common.{slice_range, subst, ◌⊎◌, inl, inr, nat_lt}
+use Rattle.std.proofs.Common.{slice_range, subst, inl, inr}
 use Rattle.std.proofs.lemmas.Grind.{common_steps}
-use Rattle.std.proofs.lemmas.List.{take-append-le}
-use Rattle.std.proofs.Math.Seq.{drop-cons, take-suc-set}
-use Rattle.std.proofs.lemmas.Bool.{ltb-true}
+use Rattle.std.proofs.lemmas.List.{take-append-le, take-take, take_all, length-take, append-nil, map-append, drop_more}
+use Rattle.std.proofs.Math.Seq.{take-nil, take-suc-set, take-append_seam}
+use Rattle.std.proofs.lemmas.Bool.{cases_lt}
 use Rattle.std.proofs.lemmas.Bool.Decides.{nat_tests}
-use Rattle.std.proofs.Math.Seq.{take-append_seam}
-use Rattle.vte_core.proofs.Characters.{bool_cases}
 use Rattle.std.specs.List.{concat}
 use Rattle.vte_core.specs.Store.{total, cut_at, EndsRise, ends_from, ReadsOsc}
 use Rattle.vte_core.specs.Shapes.{first_bytes, osc_pieces}
-use Rattle.vte_core.proofs.Headers.{split-yes, split-no, onto_last, onto_last-last, map-last}
+use Rattle.vte_core.proofs.Headers.{split-yes, split-no, onto_last, onto_last-last}
 
 pub rise_in : (start : ℕ) (ends xs : List ℕ) → EndsRise start ends xs → start ≤ length xs
 rise_in start [] xs h = h
@@ -37,13 +35,9 @@ take-full zero xs y h = refl
 take-full (suc m) [] y h = absurd (omega arith)
 take-full (suc m) (x ∷ xs) y h = ap (λ r. x ∷ r) (take-full m xs y (omega arith))
 
-append-none : (xs : List ℕ) → xs ++ [] ≡ xs
-append-none [] = refl
-append-none (x ∷ xs) = ap (λ r. x ∷ r) (append-none xs)
-
 concat-byte : (ps : List (List ℕ)) (p : List ℕ) (b : ℕ)
     → concat (ps ++ (p ++ b ∷ []) ∷ []) ≡ concat (ps ++ p ∷ []) ++ b ∷ []
-concat-byte [] p b = append_assoc p (b ∷ []) [] ∙ (ap (λ r. p ++ r) refl ∙ sym (ap (λ r. r ++ b ∷ []) (append-none p)))
+concat-byte [] p b = append_assoc p (b ∷ []) [] ∙ (ap (λ r. p ++ r) refl ∙ sym (ap (λ r. r ++ b ∷ []) (append-nil p)))
 concat-byte (q ∷ ps) p b = ap (λ r. q ++ r) (concat-byte ps p b) ∙ sym (append_assoc q (concat (ps ++ p ∷ [])) (b ∷ []))
 
 concat-none : (ps : List (List ℕ)) → concat (ps ++ [] ∷ []) ≡ concat ps
@@ -57,8 +51,15 @@ ends_from-last n k (q ∷ ps) p =
     ap (λ r. min n (k + length q) ∷ r) (ends_from-last n (k + length q) ps p
     ∙ ap (λ j. ends_from n (k + length q) ps ++ min n j ∷ []) (omega (arith, length-append q (concat (ps ++ p ∷ [])))))
 
-length-take : (k : ℕ) (xs : List ℕ) → length (take k xs) ≡ min k (length xs)
-length-take k xs = grind (arith, common_steps)
+-- no data
+pub reads-nothing : (n : ℕ) (x : List ℕ × List ℕ) → x.0 ≡ [] → x.1 ≡ [] → ReadsOsc n x []
+reads-nothing n x b e = record {
+  parts = [];
+  last = [];
+  by_parts = refl;
+  bytes = b ∙ sym (take-nil n);
+  ends = e;
+}
 
 -- a data byte
 pub osc-byte : (n : ℕ) (x : List ℕ × List ℕ) (s : List ℕ) (b : ℕ) (bytes : List ℕ) → (b == 0x3B) ≡ false
@@ -109,23 +110,6 @@ cut-take zero start ends xs = refl
 cut-take (suc m) start [] xs = refl
 cut-take (suc m) start (end ∷ ends) xs = ap (λ r. slice_range xs start end ∷ r) (cut-take m end ends xs)
 
-cases_le : (a b : ℕ) → (a ≤ b) ⊎ (b < a)
-cases_le a b = elim (bool_cases (nat_lt b a)) [ inl e ↦ inr (ltb-true b a e) | inr e ↦ inl (grind (arith, nat_tests)) ]
-
-take_whole : (k : ℕ) (xs : List ℕ) → length xs ≤ k → take k xs ≡ xs
-take_whole k xs h = grind (arith, common_steps)
-
-take_twice : (k : ℕ) (xs : List ℕ) → take k (take k xs) ≡ take k xs
-take_twice zero xs = refl
-take_twice (suc k) [] = refl
-take_twice (suc k) (x ∷ xs) = ap (λ r. x ∷ r) (take_twice k xs)
-
-take_less : (j k : ℕ) (xs : List ℕ) → j ≤ k → take j (take k xs) ≡ take j xs
-take_less zero k xs h = refl
-take_less (suc j) zero xs h = absurd (omega arith)
-take_less (suc j) (suc k) [] h = refl
-take_less (suc j) (suc k) (x ∷ xs) h = ap (λ r. x ∷ r) (take_less j k xs (omega arith))
-
 drop_take : (n k : ℕ) (pre xs : List ℕ) → length pre ≡ k → k ≤ n → drop k (take n (pre ++ xs)) ≡ take (n - k) xs
 drop_take n k [] xs h l = rw (sym h) (ap (λ j. take j xs) (omega arith))
 drop_take n zero (x ∷ pre) xs h l = absurd (omega (arith, h))
@@ -136,27 +120,28 @@ drop_take (suc n) (suc k) (x ∷ pre) xs h l = drop_take n k pre xs (omega (arit
 range-piece : (n k : ℕ) (pre p rest : List ℕ) → length pre ≡ k
     → slice_range (take n (pre ++ (p ++ rest))) (min n k) (min n (k + length p)) ≡ take (n - k) p
 range-piece n k pre p rest h =
-    elim (cases_le n k) [
+    elim (cases_lt k n) [
       | inl e ↦
+          let a : min n k ≡ k = omega (arith, e) in
+          let d : drop k (take n (pre ++ (p ++ rest))) ≡ take (n - k) (p ++ rest) =
+          drop_take n k pre (p ++ rest) h (omega (arith, e)) in
+          rw (a, d) (elim (cases_lt (k + length p) n) [
+            | inl f ↦
+                let b : min n (k + length p) ≡ k + length p = omega (arith, f) in
+                let c : k + length p - k ≡ length p = omega arith in
+                rw (b, c) (take-take (length p) (n - k) (p ++ rest) (omega (arith, f))
+                ∙ (take-append_seam p rest ∙ sym (take_all (n - k) p (omega (arith, f)))))
+            | inr f ↦
+                let b : min n (k + length p) ≡ n = omega (arith, f) in
+                rw b (take-take (n - k) (n - k) (p ++ rest) (omega arith)
+                ∙ take-append-le (n - k) p rest (omega (arith, f)))
+          ])
+      | inr e ↦
           let a : min n k ≡ n = omega (arith, e) in
           let b : min n (k + length p) ≡ n = omega (arith, e) in
           let c : n - k ≡ 0 = omega (arith, e) in
           let z : n - n ≡ 0 = omega arith in
           rw (a, b, c, z) refl
-      | inr e ↦
-          let a : min n k ≡ k = omega (arith, e) in
-          let d : drop k (take n (pre ++ (p ++ rest))) ≡ take (n - k) (p ++ rest) =
-          drop_take n k pre (p ++ rest) h (omega (arith, e)) in
-          rw (a, d) (elim (cases_le n (k + length p)) [
-            | inl f ↦
-                let b : min n (k + length p) ≡ n = omega (arith, f) in
-                rw b (take_twice (n - k) (p ++ rest) ∙ take-append-le (n - k) p rest (omega (arith, f)))
-            | inr f ↦
-                let b : min n (k + length p) ≡ k + length p = omega (arith, f) in
-                let c : k + length p - k ≡ length p = omega arith in
-                rw (b, c) (take_less (length p) (n - k) (p ++ rest) (omega (arith, f))
-                ∙ (take-append_seam p rest ∙ sym (take_whole (n - k) p (omega (arith, f)))))
-          ])
     ]
 
 cut-first : (n k : ℕ) (ps : List (List ℕ)) (pre : List ℕ) → length pre ≡ k
@@ -189,30 +174,24 @@ tell_step f xs x i start end rest bytes all h e k =
     let more : take (i + 1) (set xs i x) ≡ take i xs ++ x ∷ [] =
     (let m : i + 1 ≡ suc i = omega arith in ap (λ j. take j (set xs i x)) m) ∙ take-suc-set xs i x h in
     ap (λ y. map f y ++ cut_at end rest bytes) more
-    ∙ (ap (λ y. y ++ cut_at end rest bytes) (map-last f (take i xs) x)
+    ∙ (ap (λ y. y ++ cut_at end rest bytes) (map-append f (take i xs) (x ∷ []))
     ∙ (append_assoc (map f (take i xs)) (f x ∷ []) (cut_at end rest bytes)
     ∙ (ap (λ y. map f (take i xs) ++ y ∷ cut_at end rest bytes) e ∙ k)))
 
 pub rise_at : (start : ℕ) (ends xs : List ℕ) (i : ℕ) → i < length ends → EndsRise start (drop i ends) xs
     → (start ≤ get_or ends i 0) × EndsRise (get_or ends i 0) (drop (i + 1) ends) xs
-rise_at start ends xs i h k =
-    let e : drop i ends ≡ get_or ends i 0 ∷ drop (i + 1) ends =
-    drop-cons ends i 0 h ∙ (let m : suc i ≡ i + 1 = omega arith in ap (λ j. get_or ends i 0 ∷ drop j ends) m) in
-    rw e at k
+rise_at start ends xs i h k = rw (drop_more ends i 0 h) at k
 
 pub cut_next : (start : ℕ) (ends xs : List ℕ) (i : ℕ) → i < length ends
     → cut_at start (drop i ends) xs ≡ slice_range xs start (get_or ends i 0)
     ∷ cut_at (get_or ends i 0) (drop (i + 1) ends) xs
-cut_next start ends xs i h =
-    let e : drop i ends ≡ get_or ends i 0 ∷ drop (i + 1) ends =
-    drop-cons ends i 0 h ∙ (let m : suc i ≡ i + 1 = omega arith in ap (λ j. get_or ends i 0 ∷ drop j ends) m) in
-    ap (λ y. cut_at start y xs) e
+cut_next start ends xs i h = ap (λ y. cut_at start y xs) (drop_more ends i 0 h)
 
 pub not_full : (k m : ℕ) → false ≡ (k == m) → k ≤ m → k < m
 not_full k m h l = grind (arith, nat_tests)
 
-pub is_full : (k m : ℕ) → true ≡ (k == m) → m ≤ k
-is_full k m h = grind (arith, nat_tests)
+pub is_full : (k m j : ℕ) → true ≡ (k == m) → k ≡ j → m ≤ j
+is_full k m j h e = grind (arith, nat_tests)
 
 pub bytes-room : (n : ℕ) (x : List ℕ × List ℕ) (s : List ℕ) (b : ℕ) (r : ReadsOsc n x s) → length x.0 < n
     → x.0 ++ b ∷ [] ≡ take n (concat (r.parts ++ r.last ∷ []) ++ b ∷ [])

@@ -1,7 +1,8 @@
 -- How far a header has come, byte by byte.
 use Rattle.std.proofs.Common.{◌≡◌, ◌<◌, ℕ, length, Bool, true, false, not, ◌&&◌, ◌||◌, inl, inr, List, [], ◌∷◌, ◌++◌}
-use Rattle.std.proofs.Common.{if◌then◌else◌, refl, sym, ◌∙◌, ap, arith, append_assoc}
+use Rattle.std.proofs.Common.{if◌then◌else◌, refl, sym, ◌∙◌, ap, arith, append_assoc, append-nil}
 use Rattle.std.proofs.lemmas.Bool.Decides.{nat_tests}
+use Rattle.std.proofs.Math.Bool.{and-true, and_assoc}
 use Rattle.std.specs.List.{filter}
 use Rattle.vte_core.specs.Bytes.{is_numeric, is_intermediate, is_private, is_header, each}
 use Rattle.vte_core.specs.Header.{unmarked, in_order, only_intermediates, is_well_formed, intermediates}
@@ -10,35 +11,26 @@ use Rattle.vte_core.specs.declared.header.Phase.{Phase}
 use Rattle.vte_core.specs.declared.header.Phase.TheVariants.{Start, InNumbers, InIntermediates, Ignored}
 use Rattle.vte_core.proofs.Characters.{bool_cases}
 
-and-assoc : (a b c : Bool) → (a && b) && c ≡ a && (b && c)
-and-assoc true b c = refl
-and-assoc false b c = refl
-
-and-true : (a : Bool) → (a && true) ≡ a
-and-true true = refl
-and-true false = refl
-
 numeric-last : (xs : List ℕ) (b : ℕ) → each is_numeric (xs ++ b ∷ []) ≡ (each is_numeric xs && is_numeric b)
 numeric-last [] b = and-true (is_numeric b)
 numeric-last (x ∷ xs) b = ap (λ r. is_numeric x && r) (numeric-last xs b)
-    ∙ sym (and-assoc (is_numeric x) (each is_numeric xs) (is_numeric b))
+    ∙ sym (and_assoc (is_numeric x) (each is_numeric xs) (is_numeric b))
 
 pub each-first : (p : ℕ → Bool) (b : ℕ) (xs : List ℕ) → each p (b ∷ xs) ≡ true → (p b ≡ true) × (each p xs ≡ true)
 each-first p b xs h = elim (bool_cases (p b)) [ inl e ↦ (e, let g = rw e at h in g) | inr e ↦ let g = rw e at h in cc ]
 
+pub each-append : (p : ℕ → Bool) (xs ys : List ℕ) → each p xs ≡ true → each p ys ≡ true → each p (xs ++ ys) ≡ true
+each-append p [] ys h k = k
+each-append p (x ∷ xs) ys h k = let g = each-first p x xs h in rw g.0 (each-append p xs ys g.1 k)
+
 pub each-more : (p : ℕ → Bool) (xs : List ℕ) (b : ℕ) → each p xs ≡ true → p b ≡ true → each p (xs ++ b ∷ []) ≡ true
-each-more p [] b h e = rw e refl
-each-more p (x ∷ xs) b h e = elim (bool_cases (p x)) [
-  | inl f ↦ let g = rw f at h
-      in rw f (each-more p xs b g e)
-  | inr f ↦ let g = rw f at h in cc
-]
+each-more p xs b h e = each-append p xs (b ∷ []) h (rw e refl)
 
 only_intermediates-last : (xs : List ℕ) (b : ℕ) → only_intermediates (xs ++ b ∷ [])
     ≡ (only_intermediates xs && is_intermediate b)
 only_intermediates-last [] b = and-true (is_intermediate b)
 only_intermediates-last (x ∷ xs) b = ap (λ r. is_intermediate x && r) (only_intermediates-last xs b)
-    ∙ sym (and-assoc (is_intermediate x) (only_intermediates xs) (is_intermediate b))
+    ∙ sym (and_assoc (is_intermediate x) (only_intermediates xs) (is_intermediate b))
 
 one_byte : (n i : Bool) → (if n then true else (i && true)) ≡ (n || i)
 one_byte true i = refl
@@ -112,22 +104,18 @@ well_formed-phase [] = refl
 well_formed-phase (a ∷ t) = kept-cases (each is_numeric (unmarked (a ∷ t))) (in_order (unmarked (a ∷ t)))
     (in_order-numeric (unmarked (a ∷ t)))
 
-pub append-none : (xs : List ℕ) → xs ++ [] ≡ xs
-append-none [] = refl
-append-none (x ∷ xs) = ap (λ r. x ∷ r) (append-none xs)
-
 pub numeric-yes : (h : List ℕ) (b : ℕ) → is_numeric b ≡ true
     → (filter is_numeric (h ++ b ∷ []) ≡ filter is_numeric h ++ b ∷ [])
     × (intermediates (h ++ b ∷ []) ≡ intermediates h)
 numeric-yes h b e = (
   filter-last is_numeric h b ∙ rw e refl,
-  filter-last (λ c. not (is_numeric c)) h b ∙ rw e (append-none (intermediates h)),
+  filter-last (λ c. not (is_numeric c)) h b ∙ rw e (append-nil (intermediates h)),
 )
 
 pub numeric-no : (h : List ℕ) (b : ℕ) → is_numeric b ≡ false → (filter is_numeric (h ++ b ∷ []) ≡ filter is_numeric h)
     × (intermediates (h ++ b ∷ []) ≡ intermediates h ++ b ∷ [])
 numeric-no h b e = (
-  filter-last is_numeric h b ∙ rw e (append-none (filter is_numeric h)),
+  filter-last is_numeric h b ∙ rw e (append-nil (filter is_numeric h)),
   filter-last (λ c. not (is_numeric c)) h b ∙ rw e refl,
 )
 
@@ -147,19 +135,11 @@ numeric_twice InIntermediates = refl
 numeric_twice Ignored = refl
 
 -- some of them, one after another
-pub numerics-phase : (h : List ℕ) (b : ℕ) (xs : List ℕ) → each is_numeric (b ∷ xs) ≡ true
-    → phase_of (h ++ b ∷ xs) ≡ next_by true false (phase_of h)
-numerics-phase h b [] g = let e = each-first is_numeric b [] g in numeric-phase h b e.0
-numerics-phase h b (c ∷ xs) g =
-    let e = each-first is_numeric b (c ∷ xs) g in
-    ap phase_of (sym (append_assoc h (b ∷ []) (c ∷ xs))) ∙ (numerics-phase (h ++ b ∷ []) c xs e.1
-    ∙ (ap (next_by true false) (numeric-phase h b e.0) ∙ numeric_twice (phase_of h)))
-
 pub numerics-kept : (h xs : List ℕ) → each is_numeric xs ≡ true
     → (filter is_numeric (h ++ xs) ≡ filter is_numeric h ++ xs) × (intermediates (h ++ xs) ≡ intermediates h)
 numerics-kept h [] g = (
-  ap (filter is_numeric) (append-none h) ∙ sym (append-none (filter is_numeric h)),
-  ap intermediates (append-none h),
+  ap (filter is_numeric) (append-nil h) ∙ sym (append-nil (filter is_numeric h)),
+  ap intermediates (append-nil h),
 )
 numerics-kept h (b ∷ xs) g =
     let e = each-first is_numeric b xs g in
@@ -174,7 +154,11 @@ numerics-kept h (b ∷ xs) g =
 pub numerics-some : (h xs : List ℕ) → each is_numeric xs ≡ true → 0 < length xs
     → phase_of (h ++ xs) ≡ next_by true false (phase_of h)
 numerics-some h [] g some = absurd (omega (arith, some))
-numerics-some h (b ∷ xs) g some = numerics-phase h b xs g
+numerics-some h (b ∷ []) g some = numeric-phase h b (each-first is_numeric b [] g).0
+numerics-some h (b ∷ c ∷ xs) g some =
+    let e = each-first is_numeric b (c ∷ xs) g in
+    ap phase_of (sym (append_assoc h (b ∷ []) (c ∷ xs))) ∙ (numerics-some (h ++ b ∷ []) (c ∷ xs) e.1 (omega arith)
+    ∙ (ap (next_by true false) (numeric-phase h b e.0) ∙ numeric_twice (phase_of h)))
 
 pub numeric-header : (xs : List ℕ) → each is_numeric xs ≡ true → each is_header xs ≡ true
 numeric-header [] h = refl

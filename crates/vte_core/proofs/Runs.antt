@@ -1,9 +1,9 @@
 -- Ground text in runs of whole characters.
 use Rattle.std.proofs.Common.{◌≡◌, ℕ, zero, suc, ◌+◌, ◌-◌, ◌*◌, ◌/◌, ◌%◌, ◌<◌, ◌≤◌, Bool, true, false, not, ◌&&◌, List}
 use Rattle.std.proofs.Common.{[], ◌∷◌, ◌++◌, ◌⊎◌, inl, inr, map, nat_lt, length, take, drop, get_or, ◌==◌, refl, sym}
-use Rattle.std.proofs.Common.{◌∙◌, ap, subst, arith, append_assoc, length-take}
+use Rattle.std.proofs.Common.{◌∙◌, ap, arith, append_assoc, length-take, length-drop}
 use Rattle.std.proofs.lemmas.Bool.Decides.{nat_tests}
-use Rattle.std.proofs.lemmas.Bool.{ltb-true, eqb-true, eq-eqb}
+use Rattle.std.proofs.lemmas.Bool.{and_parts, ltb-true, eqb-true, eq-eqb}
 use lib.Utf8.{scalar_cases}
 use Rattle.std.specs.Int.{is_in_range}
 use Rattle.std.specs.Char.{encode_utf8, IsScalar}
@@ -14,20 +14,20 @@ use Rattle.vte_core.specs.Event.{Event, Performs, Print}
 use Rattle.vte_core.specs.Bytes.{is_esc}
 use Rattle.vte_core.specs.Text.{char_len, second_min, second_max, first_bits, char_event}
 use Rattle.vte_core.specs.Shapes.{before, from}
-use Rattle.vte_core.specs.Pending.{Pending, InText, InEscape, InCsi, InOsc, InHook, InDevice, InSwallowed, text_told}
-use Rattle.vte_core.specs.Pending.{text_rest, events_of_byte, events_from, after_byte, after_bytes}
-use Rattle.vte_core.specs.Runs.{run_told, run_rest, has_no_esc, is_one_step, is_printed, printed_len}
+use Rattle.vte_core.specs.Pending.{Pending, InText, text_told, text_rest, events_of_byte, events_from, after_byte}
+use Rattle.vte_core.specs.Pending.{after_bytes}
+use Rattle.vte_core.specs.Runs.{Tells, run_told, run_rest, has_no_esc, is_one_step, is_printed, printed_len}
 use Rattle.vte_core.specs.Standing.{IsAt, state_is_text}
 use Rattle.vte_core.specs.declared.parser.Parser.{Parser}
-use Rattle.vte_core.specs.declared.parser.State.{State}
-use Rattle.vte_core.specs.declared.parser.State.TheVariants.{Ground, Escape, Csi, OscString, DcsHeader, DcsPassthrough}
-use Rattle.vte_core.specs.declared.parser.State.TheVariants.{SosPmApcString}
+use Rattle.vte_core.specs.declared.parser.State.TheVariants.{Ground}
 use Rattle.vte_core.specs.Stopping.{StopsAt, runs_on, is_text}
 use Rattle.vte_core.proofs.Characters.{bool_cases}
 use lib.Seq.{take-add}
 use Rattle.std.proofs.lemmas.List.{take-append-drop, drop-drop, drop_more}
 use Rattle.vte_core.proofs.Machine.{events_from-append, after_bytes-append}
+use Rattle.vte_core.proofs.GroundTextLemmas.{text_is}
 use Rattle.vte_core.proofs.StopLemmas.{whole_rest, is_text-at}
+use Rattle.vte_core.proofs.Telling.{performs-append}
 
 -- a character of one byte, of two, three and four
 
@@ -55,10 +55,7 @@ pub four : (a b d e c : ℕ) (rest : List ℕ) → char_len a ≡ 4 → is_in_ra
     → ((first_bits a * 64 + (b - 128)) * 64 + (d - 128)) * 64 + (e - 128) ≡ c
     → (run_told [] (a ∷ b ∷ d ∷ e ∷ rest) ≡ char_event c ∷ run_told [] rest)
     × (run_rest [] (a ∷ b ∷ d ∷ e ∷ rest) ≡ run_rest [] rest)
-four a b d e c rest n s t u is = (
-  rw (n, s, n, t, n, u, n) (ap (λ x. char_event x ∷ run_told [] rest) is),
-  rw (n, s, n, t, n, u, n) refl,
-)
+four a b d e c rest n s t u is = rw (n, s, n, t, n, u, n) (ap (λ x. char_event x ∷ run_told [] rest) is, refl)
 
 encode-two : (c : ℕ) → 128 ≤ c → c < 2048 → (char_len (192 + c / 64) ≡ 2)
     × (is_in_range (second_min (192 + c / 64)) (second_max (192 + c / 64)) (128 + c % 64) ≡ true)
@@ -101,10 +98,6 @@ encode-four c x y z h k p q w =
 nat_not : (a b : ℕ) → nat_lt a b ≡ false → b ≤ a
 nat_not a b h = grind (arith, nat_tests)
 
-and_both : (a b : Bool) → (a && b) ≡ true → (a ≡ true) × (b ≡ true)
-and_both true b h = (refl, h)
-and_both false b h = cc
-
 -- a whole character tells itself, and leaves nothing
 run-char : (c : ℕ) (rest : List ℕ) → IsScalar c → (run_told [] (encode_utf8 c ++ rest) ≡ char_event c
     ∷ run_told [] rest) × (run_rest [] (encode_utf8 c ++ rest) ≡ run_rest [] rest)
@@ -134,7 +127,7 @@ run-chars : (cs : List ℕ) → all_scalars cs ≡ true → (run_told [] (encode
     × (run_rest [] (encode_utf8_all cs) ≡ [])
 run-chars [] h = (refl, refl)
 run-chars (c ∷ cs) h =
-    let g = and_both _ _ h in
+    let g = and_parts _ _ h in
     let first = run-char c (encode_utf8_all cs) g.0 in
     let more = run-chars cs g.1 in
     (first.0 ∙ ap (λ es. char_event c ∷ es) more.0, first.1 ∙ more.1)
@@ -231,30 +224,18 @@ stop_steps {S} step terminated n q asked [] rest old mid k new o e p r = cc
 stop_steps {S} step terminated n q asked (b ∷ []) rest old mid k new o e p r =
     let d = performs-split step old mid (events_of_byte n q b) [] p in
     let same : mid ≡ d.0 = d.2 in
-    let m : suc k ≡ 1 + k = omega arith in
-    subst (λ (j : ℕ). StopsAt step terminated n q asked (b ∷ rest) old j new) m
-    (rw e (
-      mid,
-      k,
-      refl,
-      subst (λ (x : S). Performs step old (events_of_byte n q b) x) (sym same) d.1,
-      subst (λ (v : Bool). StopsAt step terminated n (after_byte q b) v rest mid k new) (sym o) r,
-    ))
+    rw e (mid, k, omega arith, rw same d.1, rw o r)
 stop_steps {S} step terminated n q asked (b ∷ c ∷ bs) rest old mid k new o e p r =
-    let both = and_both (runs_on q b (c ∷ bs)) (is_one_step (after_byte q b) (c ∷ bs) rest) o in
+    let both = and_parts (runs_on q b (c ∷ bs)) (is_one_step (after_byte q b) (c ∷ bs) rest) o in
     let on : runs_on q b (c ∷ (bs ++ rest)) ≡ true = both.0 in
     let d = performs-split step old mid (events_of_byte n q b) (events_from n (after_byte q b) (c ∷ bs)) p in
-    let m : suc (length (c ∷ bs) + k) ≡ length (b ∷ c ∷ bs) + k = omega arith in
-    subst (λ (j : ℕ). StopsAt step terminated n q asked (b ∷ c ∷ (bs ++ rest)) old j new) m
-    (rw e (
+    rw e (
       d.0,
       length (c ∷ bs) + k,
-      refl,
+      omega arith,
       d.1,
-      subst (λ (v : Bool). StopsAt step terminated n (after_byte q b) v (c
-          ∷ (bs ++ rest)) d.0 (length (c ∷ bs) + k) new) (ap not (sym on))
-          (stop_steps step terminated n (after_byte q b) false (c ∷ bs) rest d.0 mid k new both.1 refl d.2 r),
-    ))
+      rw on (stop_steps step terminated n (after_byte q b) false (c ∷ bs) rest d.0 mid k new both.1 refl d.2 r),
+    )
 
 pub nil_of_len : (xs : List ℕ) → (length xs == 0) ≡ true → xs ≡ []
 nil_of_len [] h = refl
@@ -264,46 +245,16 @@ nil_of_len (x ∷ xs) h = absurd (omega (arith, eqb-true (length (x ∷ xs)) 0 h
 pub read_more : (bs : List ℕ) (i k : ℕ) → take (i + k) bs ≡ take i bs ++ take k (take (length bs - i) (drop i bs))
 read_more bs i k = take-add i k bs ∙ ap (λ xs. take i bs ++ take k xs) (sym (whole_rest bs i))
 
--- where the parser reads ground text
+pub within_more : (bs : List ℕ) (i k : ℕ) → i ≤ length bs → k ≤ length (take (length bs - i) (drop i bs))
+    → i + k ≤ length bs
+within_more bs i k h l = omega (arith, h, l, length-take (length bs - i) (drop i bs), length-drop i bs)
 
-text_pending : (n : ℕ) (p : Parser n) (q : Pending) (run : List ℕ) → IsAt n p q → is_text q ≡ true
-    → has_no_esc run ≡ true
-    → (events_from n q run ≡ run_told p.unfinished run) × (after_bytes q run ≡ InText (run_rest p.unfinished run))
-text_pending n p (InText u) run h t e = let r = run-events n u run e
-    in (
-      r.0 ∙ ap (λ (v : List ℕ). run_told v run) (sym h.1),
-      r.1 ∙ ap (λ (v : List ℕ). InText (run_rest v run)) (sym h.1),
-    )
-text_pending n p (InEscape is) run h t e = cc
-text_pending n p (InCsi x) run h t e = cc
-text_pending n p (InOsc x) run h t e = cc
-text_pending n p (InHook x) run h t e = cc
-text_pending n p InDevice run h t e = cc
-text_pending n p InSwallowed run h t e = cc
+-- where the parser reads ground text
 
 pub before-len : (s : List ℕ) → length (before is_esc s) ≤ length s
 before-len [] = omega arith
 before-len (b ∷ s) = elim (bool_cases (is_esc b))
     [ inl e ↦ rw e (omega arith) | inr e ↦ rw e (let r = before-len s in omega (arith, r)) ]
-
-step-at : (q : Pending) (bs : List ℕ) → is_text q ≡ true → 0 < length (before is_esc bs)
-    → is_one_step q (before is_esc bs) (from is_esc bs) ≡ true
-step-at (InText u) bs t h = step-run u bs h
-step-at (InEscape is) bs t h = cc
-step-at (InCsi x) bs t h = cc
-step-at (InOsc x) bs t h = cc
-step-at (InHook x) bs t h = cc
-step-at InDevice bs t h = cc
-step-at InSwallowed bs t h = cc
-
-is_ground : (s : State) → state_is_text s ≡ true → s ≡ Ground
-is_ground Ground h = refl
-is_ground Escape h = cc
-is_ground Csi h = cc
-is_ground OscString h = cc
-is_ground DcsHeader h = cc
-is_ground DcsPassthrough h = cc
-is_ground SosPmApcString h = cc
 
 pub some-before : (bs : List ℕ) → 0 < length bs → is_esc (get_or bs 0 0) ≡ false → 0 < length (before is_esc bs)
 some-before [] h e = absurd (omega (arith, h))
@@ -322,16 +273,14 @@ pub run-at : (n : ℕ) (p : Parser n) (bs : List ℕ) (k : ℕ) (q : Pending) �
     × (is_one_step q (take k bs) (drop k bs) ≡ true) × (p.state ≡ Ground)
 run-at n p bs k q some is len h =
     let e = text-byte (state_is_text p.state) (is_esc (get_or bs 0 0)) is in
-    let text : is_text q ≡ true = is_text-at n p q h ∙ e.0 in
-    let front : take k bs ≡ before is_esc bs = ap (λ (j : ℕ). take j bs) len ∙ take-before bs in
-    let back : drop k bs ≡ from is_esc bs = ap (λ (j : ℕ). drop j bs) len ∙ drop-before bs in
-    let r = text_pending n p q (take k bs) h text (ap has_no_esc front ∙ no_esc-before bs) in
-    let step = step-at q bs text (some-before bs some e.1) in (
-      r.0,
-      r.1,
-      ap (λ (xs : List ℕ). is_one_step q xs (drop k bs)) front
-          ∙ (ap (is_one_step q (before is_esc bs)) back ∙ step),
-      is_ground p.state e.0,
+    let (u, q_is) = text_is q (is_text-at n p q h ∙ e.0) in
+    let here = rw q_is at h in
+    let r = run-events n u (before is_esc bs) (no_esc-before bs) in
+    rw (len, take-before bs, drop-before bs, q_is) (
+      r.0 ∙ ap (λ (v : List ℕ). run_told v (before is_esc bs)) (sym here.1),
+      r.1 ∙ ap (λ (v : List ℕ). InText (run_rest v (before is_esc bs))) (sym here.1),
+      step-run u bs (some-before bs some e.1),
+      here.0,
     )
 
 no_run : (q : Pending) (b : ℕ) (s : List ℕ) → (is_text q ≡ true → is_esc b ≡ true) → is_one_step q (b ∷ []) s ≡ true
@@ -354,15 +303,36 @@ byte-at n p (b ∷ s) q some none h = no_run q b s (λ t.
           in cc
     ])
 
--- one more step of the parser
-pub one_more_step : (n : ℕ) (q : Pending) (front piece all : List ℕ) (es ds : List Event) → all ≡ front ++ piece
-    → es ≡ events_from n q front → ds ≡ events_from n (after_bytes q front) piece
-    → (es ++ ds ≡ events_from n q all) × (after_bytes q all ≡ after_bytes (after_bytes q front) piece)
-one_more_step n q front piece all es ds e p r = (
-  ap (λ (xs : List Event). xs ++ ds) p ∙ (ap (λ (ys : List Event). events_from n q front ++ ys) r
-      ∙ (sym (events_from-append n q front piece) ∙ ap (events_from n q) (sym e))),
-  ap (after_bytes q) e ∙ after_bytes-append q front piece,
-)
+-- where the parser stands after two pieces, and what they tell
+
+pub stands_on : (n : ℕ) (p mid new : Parser n) (front piece all : List ℕ) → all ≡ front ++ piece
+    → ((q : Pending) → IsAt n p q → IsAt n mid (after_bytes q front))
+    → ((q : Pending) → IsAt n mid q → IsAt n new (after_bytes q piece))
+    → (q : Pending) → IsAt n p q → IsAt n new (after_bytes q all)
+stands_on n p mid new front piece all e first next q h =
+    rw (e, after_bytes-append q front piece) (next (after_bytes q front) (first q h))
+
+pub stands_further : (n : ℕ) (p mid new : Parser n) (bs : List ℕ) (i k : ℕ)
+    → ((q : Pending) → IsAt n p q → IsAt n mid (after_bytes q (take i bs)))
+    → ((q : Pending) → IsAt n mid q → IsAt n new (after_bytes q (take k (take (length bs - i) (drop i bs)))))
+    → (q : Pending) → IsAt n p q → IsAt n new (after_bytes q (take (i + k) bs))
+stands_further n p mid new bs i k =
+    stands_on n p mid new (take i bs) (take k (take (length bs - i) (drop i bs))) (take (i + k) bs) (read_more bs i k)
+
+pub tells_more : {S : Type 0} (step : S → Event → S → Type 0) (n : ℕ) (p mid : Parser n) (old between new : S)
+    (front piece all : List ℕ) → all ≡ front ++ piece
+    → ((q : Pending) → IsAt n p q → IsAt n mid (after_bytes q front))
+    → Tells step n p old front between → Tells step n mid between piece new → Tells step n p old all new
+tells_more step n p mid old between new front piece all e at a b = record {
+  told = a.told ++ b.told;
+  performed = performs-append step old between new a.told b.told a.performed b.performed;
+  added = λ q h. rw (
+    e,
+    events_from-append n q front piece,
+    a.added q h,
+    b.added (after_bytes q front) (at q h),
+  ) refl;
+}
 
 -- the piece that a step read of what is left, and the rest of it
 pub piece_and_rest : (bs : List ℕ) (i k : ℕ) → k ≤ length (take (length bs - i) (drop i bs))
@@ -489,7 +459,7 @@ printed-chars : (cs : List ℕ) → all_scalars cs ≡ true → printed_len (enc
     → map char_event cs ≡ map Print cs
 printed-chars [] h p = refl
 printed-chars (c ∷ cs) h p =
-    let g = and_both _ _ h in
+    let g = and_parts _ _ h in
     let k = printed-char c (encode_utf8_all cs) g.0 p in
     ap (λ (e : Event). e ∷ map char_event cs) k.0 ∙ ap (λ (es : List Event). Print c ∷ es) (printed-chars cs g.1 k.1)
 

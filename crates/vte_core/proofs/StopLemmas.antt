@@ -1,10 +1,13 @@
 -- Where `advance_until_terminated` stops.
-use Rattle.std.proofs.Common.{◌≡◌, ℕ, zero, suc, ◌+◌, ◌-◌, ◌<◌, ◌≤◌, Bool, true, false, not, ◌&&◌, ◌||◌, ◌==◌, List, []}
+use Rattle.std.proofs.Common.{◌≡◌, ℕ, zero, suc, ◌-◌, ◌<◌, ◌≤◌, Bool, true, false, not, ◌&&◌, ◌||◌, ◌==◌, List, []}
 use Rattle.std.proofs.Common.{◌∷◌, ◌++◌, append_assoc, length, take, drop, get_or, refl, sym, ◌∙◌, ap, subst, arith}
 use Rattle.std.proofs.Common.{inl, inr}
 use Rattle.std.proofs.lemmas.Grind.{common_steps}
 use Rattle.std.proofs.lemmas.Bool.Decides.{nat_tests}
-use Rattle.std.proofs.Math.Seq.{drop-cons, take-suc}
+use Rattle.std.proofs.lemmas.Bool.{and_parts}
+use Rattle.std.proofs.lemmas.List.{drop_more, drop_all}
+use Rattle.std.proofs.Math.Bool.{or-true}
+use Rattle.std.proofs.Math.Seq.{take-suc, take-nil}
 use Rattle.vte_core.specs.Event.{Event, Performs}
 use Rattle.vte_core.specs.Pending.{Pending, InText, InEscape, InCsi, InOsc, InHook, InDevice, InSwallowed}
 use Rattle.vte_core.specs.Pending.{events_of_byte, after_byte, after_bytes, events_from, pending}
@@ -21,12 +24,6 @@ use Rattle.vte_core.specs.Stopping.{StopsAt, Stops, is_text, runs_on, ends_run, 
 use Rattle.vte_core.specs.Standing.{IsAt, state_is_text}
 use Rattle.vte_core.specs.declared.parser.Parser.{Parser}
 
-next_byte : (bs : List ℕ) (i : ℕ) → i < length bs → drop i bs ≡ get_or bs i 0 ∷ drop (i + 1) bs
-next_byte bs i h = let m : suc i ≡ i + 1 = omega arith in drop-cons bs i 0 h ∙ ap (λ j. get_or bs i 0 ∷ drop j bs) m
-
-no_byte : (bs : List ℕ) (i : ℕ) → length bs ≤ i → drop i bs ≡ []
-no_byte bs i h = grind (arith, common_steps)
-
 pub is_text-at : (n : ℕ) (p : Parser n) (q : Pending) → IsAt n p q → is_text q ≡ state_is_text p.state
 is_text-at n p (InText u) h = rw h.0 refl
 is_text-at n p (InEscape is) h = rw h.0 refl
@@ -36,95 +33,92 @@ is_text-at n p (InHook x) h = rw h.0 refl
 is_text-at n p InDevice h = rw h.0 refl
 is_text-at n p InSwallowed h = rw h.0 refl
 
-pub stop_now : {S : Type 0} (step : S → Event → S → Type 0) (terminated : S
-    → Bool) (n : ℕ) (q : Pending) (asked : Bool) (bs : List ℕ) (i : ℕ) (old : S)
-    → i < length bs → (asked && terminated old) ≡ true → StopsAt step terminated n q asked (drop i bs) old 0 old
-stop_now {S} step terminated n q asked bs i old h e =
-    subst (λ xs. StopsAt step terminated n q asked xs old 0 old) (sym (next_byte bs i h)) (rw e (refl, refl))
-
-pub stop_end : {S : Type 0} (step : S → Event → S → Type 0) (terminated : S
-    → Bool) (n : ℕ) (q : Pending) (asked : Bool) (bs : List ℕ) (i : ℕ) (old : S)
-    → length bs ≤ i → StopsAt step terminated n q asked (drop i bs) old 0 old
-stop_end {S} step terminated n q asked bs i old h =
-    subst (λ xs. StopsAt step terminated n q asked xs old 0 old) (sym (no_byte bs i h)) (refl, refl)
-
 pub whole_rest : (bs : List ℕ) (j : ℕ) → take (length bs - j) (drop j bs) ≡ drop j bs
 whole_rest bs j = grind (arith, common_steps)
 
-take-zero : (k : ℕ) → let none : List ℕ = [] in take k none ≡ none
-take-zero zero = refl
-take-zero (suc k) = refl
+module _ {S : Type 0} (step : S → Event → S → Type 0) (terminated : S → Bool) (n : ℕ) where
+  pub stop_now : (q : Pending) (asked : Bool) (bs : List ℕ) (i : ℕ) (old : S)
+      → i < length bs → (asked && terminated old) ≡ true → StopsAt step terminated n q asked (drop i bs) old 0 old
+  stop_now q asked bs i old h e =
+      subst (λ xs. StopsAt step terminated n q asked xs old 0 old) (sym (drop_more bs i 0 h)) (rw e (refl, refl))
 
--- up to where it stops, the performer has gone through the events of the bytes read
-pub stops-performs : {S : Type 0} (step : S → Event → S → Type 0) (terminated : S
-    → Bool) (n : ℕ) (q : Pending) (asked : Bool) (bs : List ℕ) (old : S) (k : ℕ) (new : S)
-    → StopsAt step terminated n q asked bs old k new → Performs step old (events_from n q (take k bs)) new
-stops-performs {S} step terminated n q asked [] old k new h = rw (take-zero k) h.1
-stops-performs {S} step terminated n q asked (b ∷ bs) old k new h =
-    elim (bool_cases (asked && terminated old)) [
-      | inl e ↦ let g = rw e at h in rw g.0 g.1
-      | inr e ↦
-          let (mid, j, i, p, r) = rw e at h in
-          rw i (performs-append step old mid new (events_of_byte n q b) (events_from n (after_byte q b) (take j bs)) p
-          (stops-performs step terminated n (after_byte q b) (not (runs_on q b bs)) bs mid j new r))
-    ]
+  pub stop_end : (q : Pending) (asked : Bool) (bs : List ℕ) (i : ℕ) (old : S)
+      → length bs ≤ i → StopsAt step terminated n q asked (drop i bs) old 0 old
+  stop_end q asked bs i old h =
+      subst (λ xs. StopsAt step terminated n q asked xs old 0 old) (sym (drop_all i bs h)) (refl, refl)
 
-and_true : (a b : Bool) → (a && b) ≡ true → (a ≡ true) × (b ≡ true)
-and_true true b h = (refl, h)
-and_true false b h = cc
+  -- up to where it stops, the performer has gone through the events of the bytes read
+  pub stops-performs : (q : Pending) (asked : Bool) (bs : List ℕ) (old : S) (k : ℕ) (new : S)
+      → StopsAt step terminated n q asked bs old k new → Performs step old (events_from n q (take k bs)) new
+  stops-performs q asked [] old k new h = rw (take-nil k) h.1
+  stops-performs q asked (b ∷ bs) old k new h =
+      elim (bool_cases (asked && terminated old)) [
+        | inl e ↦ let g = rw e at h in rw g.0 g.1
+        | inr e ↦
+            let (mid, j, i, p, r) = rw e at h in
+            rw i (performs-append step old mid new (events_of_byte n q b) (events_from n (after_byte q b) (take j bs)) p
+            (stops-performs (after_byte q b) (not (runs_on q b bs)) bs mid j new r))
+      ]
 
--- where it stops before the last byte, it asks and is told to
-pub stops-asked : {S : Type 0} (step : S → Event → S → Type 0) (terminated : S
-    → Bool) (n : ℕ) (q : Pending) (asked : Bool) (bs : List ℕ) (old : S) (k : ℕ) (new : S)
-    → StopsAt step terminated n q asked bs old k new → k < length bs → (asks_at q asked bs k ≡ true)
-    × (terminated new ≡ true)
-stops-asked {S} step terminated n q asked [] old k new h lt = absurd (omega (arith, lt))
-stops-asked {S} step terminated n q asked (b ∷ bs) old k new h lt =
-    elim (bool_cases (asked && terminated old)) [
-      | inl e ↦
-          let g = rw e at h in
-          let both = and_true asked (terminated old) e in
-          rw (g.0, g.1) both
-      | inr e ↦
-          let (mid, j, i, p, r) = rw e at h in
-          rw i (stops-asked step terminated n (after_byte q b) (not (runs_on q b bs)) bs mid j new r
-          (omega (arith, lt, i)))
-    ]
+  -- where it stops before the last byte, it asks and is told to
+  pub stops-asked : (q : Pending) (asked : Bool) (bs : List ℕ) (old : S) (k : ℕ) (new : S)
+      → StopsAt step terminated n q asked bs old k new → k < length bs → (asks_at q asked bs k ≡ true)
+      × (terminated new ≡ true)
+  stops-asked q asked [] old k new h lt = absurd (omega (arith, lt))
+  stops-asked q asked (b ∷ bs) old k new h lt =
+      elim (bool_cases (asked && terminated old)) [
+        | inl e ↦
+            let g = rw e at h in
+            let both = and_parts asked (terminated old) e in
+            rw (g.0, g.1) both
+        | inr e ↦
+            let (mid, j, i, p, r) = rw e at h in
+            rw i (stops-asked (after_byte q b) (not (runs_on q b bs)) bs mid j new r
+            (omega (arith, lt, i)))
+      ]
 
-not_asked : (asked is : Bool) → (asked && is) ≡ false → asked ≡ true → is ≡ false
-not_asked asked is e a = let g = rw a at e in g
+  -- a point at which it asked before it stopped
+  pub stops-passed : (q : Pending) (asked : Bool) (bs : List ℕ) (old : S) (k : ℕ) (new : S) (m : ℕ)
+      → StopsAt step terminated n q asked bs old k new → m < k → asks_at q asked bs m ≡ true
+      → PassedBy step terminated n q bs m old k new
+  stops-passed q asked [] old k new m h lt a = absurd (omega (arith, lt, h.0))
+  stops-passed q asked (b ∷ bs) old k new zero h lt a =
+      elim (bool_cases (asked && terminated old)) [
+        | inl e ↦ let g = rw e at h in absurd (omega (arith, lt, g.0))
+        | inr e ↦ record {
+          mid = old;
+          before = refl;
+          goes_on = let was : asked ≡ true = a in rw was at e;
+          after = stops-performs q asked (b ∷ bs) old k new h;
+        }
+      ]
+  stops-passed q asked (b ∷ bs) old k new (suc m) h lt a =
+      elim (bool_cases (asked && terminated old)) [
+        | inl e ↦ let g = rw e at h in absurd (omega (arith, lt, g.0))
+        | inr e ↦
+            let (mid, j, i, p, r) = rw e at h in
+            let rest = stops-passed (after_byte q b) (not (runs_on q b bs)) bs mid j new m r
+            (omega (arith, lt, i)) a in
+            rw i (record {
+              mid = rest.mid;
+              before = performs-append step old mid rest.mid (events_of_byte n q b)
+                  (events_from n (after_byte q b) (take m bs)) p rest.before;
+              goes_on = rest.goes_on;
+              after = rest.after;
+            })
+      ]
 
--- a point at which it asked before it stopped
-pub stops-passed : {S : Type 0} (step : S → Event → S → Type 0) (terminated : S
-    → Bool) (n : ℕ) (q : Pending) (asked : Bool) (bs : List ℕ) (old : S) (k : ℕ) (new : S) (m : ℕ)
-    → StopsAt step terminated n q asked bs old k new → m < k → asks_at q asked bs m ≡ true
-    → PassedBy step terminated n q bs m old k new
-stops-passed {S} step terminated n q asked [] old k new m h lt a = absurd (omega (arith, lt, h.0))
-stops-passed {S} step terminated n q asked (b ∷ bs) old k new zero h lt a =
-    elim (bool_cases (asked && terminated old)) [
-      | inl e ↦ let g = rw e at h in absurd (omega (arith, lt, g.0))
-      | inr e ↦ record {
-        mid = old;
-        before = refl;
-        goes_on = not_asked asked (terminated old) e a;
-        after = stops-performs step terminated n q asked (b ∷ bs) old k new h;
-      }
-    ]
-stops-passed {S} step terminated n q asked (b ∷ bs) old k new (suc m) h lt a =
-    elim (bool_cases (asked && terminated old)) [
-      | inl e ↦ let g = rw e at h in absurd (omega (arith, lt, g.0))
-      | inr e ↦
-          let (mid, j, i, p, r) = rw e at h in
-          let rest = stops-passed step terminated n (after_byte q b) (not (runs_on q b bs)) bs mid j new m r
-          (omega (arith, lt, i)) a in
-          rw i (record {
-            mid = rest.mid;
-            before = performs-append step old mid rest.mid (events_of_byte n q b)
-                (events_from n (after_byte q b) (take m bs)) p rest.before;
-            goes_on = rest.goes_on;
-            after = rest.after;
-          })
-    ]
+  stops-within : (q : Pending) (asked : Bool) (bs : List ℕ) (old : S) (k : ℕ) (new : S)
+      → StopsAt step terminated n q asked bs old k new → k ≤ length bs
+  stops-within q asked [] old k new h = omega (arith, h.0)
+  stops-within q asked (b ∷ bs) old k new h =
+      elim (bool_cases (asked && terminated old)) [
+        | inl e ↦ let g = rw e at h in omega (arith, g.0)
+        | inr e ↦
+            let (mid, j, i, p, r) = rw e at h in
+            let more = stops-within (after_byte q b) (not (runs_on q b bs)) bs mid j new r in
+            omega (arith, i, more)
+      ]
 
 -- in the words of the whole texts
 
@@ -148,10 +142,6 @@ ends-next past bs m lt =
     ap ends_in_text split ∙ (ends_in_text-last (past ++ take m bs) b
     ∙ ap (λ q. is_text q && not (is_esc b)) (pending-more past (take m bs)))
 
-or_true : (v : Bool) → (v || true) ≡ true
-or_true true = refl
-or_true false = refl
-
 not_both : (v w : Bool) → not (v && not w) ≡ (not v || w)
 not_both true true = refl
 not_both true false = refl
@@ -159,7 +149,7 @@ not_both false w = refl
 
 runs-said : (q : Pending) (b : ℕ) (rest : List ℕ)
     → not (runs_on q b rest) ≡ (not (is_text q && not (is_esc b)) || ends_run rest)
-runs-said q b [] = sym (or_true (not (is_text q && not (is_esc b))))
+runs-said q b [] = sym (or-true (not (is_text q && not (is_esc b))))
 runs-said q b (c ∷ rest) = not_both (is_text q && not (is_esc b)) (is_esc c)
 
 pub asks-said : AsksAsSaid
@@ -171,19 +161,6 @@ asks-said past piece (suc m) within =
     let lt : m < length piece = omega (arith, within) in
     rw some (asks-next (pending past) true piece m lt ∙ (runs-said q (get_or piece m 0) rest
     ∙ ap (λ v. not v || ends_run rest) (sym (ends-next past piece m lt))))
-
-stops-within : {S : Type 0} (step : S → Event → S → Type 0) (terminated : S
-    → Bool) (n : ℕ) (q : Pending) (asked : Bool) (bs : List ℕ) (old : S) (k : ℕ) (new : S)
-    → StopsAt step terminated n q asked bs old k new → k ≤ length bs
-stops-within {S} step terminated n q asked [] old k new h = omega (arith, h.0)
-stops-within {S} step terminated n q asked (b ∷ bs) old k new h =
-    elim (bool_cases (asked && terminated old)) [
-      | inl e ↦ let g = rw e at h in omega (arith, g.0)
-      | inr e ↦
-          let (mid, j, i, p, r) = rw e at h in
-          let more = stops-within step terminated n (after_byte q b) (not (runs_on q b bs)) bs mid j new r in
-          omega (arith, i, more)
-    ]
 
 pub stops-said : {S : Type 0} (step : S → Event → S → Type 0) (terminated : S
     → Bool) (n : ℕ) (past piece : List ℕ) (old : S) (k : ℕ) (new : S)

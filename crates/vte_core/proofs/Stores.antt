@@ -91,103 +91,90 @@ IsStore numbers ends len groups = EndsFit 0 (take groups ends) (take len numbers
 length_front : (xs : List ℕ) (k : ℕ) → length xs ≡ 32 → k ≤ 32 → length (take k xs) ≡ k
 length_front xs k h l = grind (arith, common_steps)
 
-pub total-store : (numbers ends : List ℕ) (len groups : ℕ) (old : List (List ℕ)) → IsStore numbers ends len groups
-    → cut_at 0 (take groups ends) (take len numbers) ≡ old → total old ≡ len
-total-store numbers ends len groups old (fit, a, b, c, d) v =
-    ap total (sym v) ∙ omega (
-      arith,
-      total-cut 0 (take groups ends) (take len numbers) fit,
-      length_front numbers len c a,
-    )
+-- such stores, and the groups that they hold
+module _ (numbers ends : List ℕ) (len groups : ℕ) (old : List (List ℕ)) (s : IsStore numbers ends len groups)
+    (v : cut_at 0 (take groups ends) (take len numbers) ≡ old) where
+  pub total-store : total old ≡ len
+  total-store = ap total (sym v) ∙ omega (
+    arith,
+    total-cut 0 (take groups ends) (take len numbers) s.0,
+    length_front numbers len s.3 s.1,
+  )
 
-pub numbers_below : (numbers ends : List ℕ) (len groups : ℕ) (old : List (List ℕ)) → IsStore numbers ends len groups
-    → cut_at 0 (take groups ends) (take len numbers) ≡ old → total old < 32 → len < 32
-numbers_below numbers ends len groups old s v h = omega (arith, total-store numbers ends len groups old s v, h)
+  pub numbers_below : total old < 32 → len < 32
+  numbers_below h = omega (arith, total-store, h)
 
-pub groups_below : (numbers ends : List ℕ) (len groups : ℕ) (old : List (List ℕ)) → IsStore numbers ends len groups
-    → cut_at 0 (take groups ends) (take len numbers) ≡ old → total old < 32 → groups < 32
-groups_below numbers ends len groups old (fit, a, b, c, d) v h =
-    omega (
-      arith,
-      total-store numbers ends len groups old (fit, a, b, c, d) v,
-      h,
-      ends_below 0 (take groups ends) (take len numbers) fit,
-      length_front numbers len c a,
-      length_front ends groups d b,
-    )
+  pub groups_below : total old < 32 → groups < 32
+  groups_below h =
+      omega (
+        arith,
+        total-store,
+        h,
+        ends_below 0 (take groups ends) (take len numbers) s.0,
+        length_front numbers len s.3 s.1,
+        length_front ends groups s.4 s.2,
+      )
 
-pub groups_few : (numbers ends : List ℕ) (len groups : ℕ) (old : List (List ℕ)) → IsStore numbers ends len groups
-    → cut_at 0 (take groups ends) (take len numbers) ≡ old → length old ≤ 32
-groups_few numbers ends len groups old (fit, a, b, c, d) v =
-    let count : length old ≡ length (take groups ends) =
-    ap length (sym v) ∙ length-cut 0 (take groups ends) (take len numbers) in
-    omega (arith, b, length_front ends groups d b, count)
+  groups_count : length old ≡ groups
+  groups_count = ap length (sym v) ∙ (length-cut 0 (take groups ends) (take len numbers)
+      ∙ length_front ends groups s.4 s.2)
 
-pub groups_some : (numbers ends : List ℕ) (len groups : ℕ) (old : List (List ℕ))
-    → cut_at 0 (take groups ends) (take len numbers) ≡ old → 0 < length old → 0 < groups
-groups_some numbers ends len groups old v h =
-    let size : length (take groups ends) ≤ groups = grind (arith, common_steps)
-    in omega (arith, h, ap length v, length-cut 0 (take groups ends) (take len numbers))
+  pub groups_few : length old ≤ 32
+  groups_few = omega (arith, s.2, groups_count)
 
-pub pushed_one : (numbers ends : List ℕ) (len groups n : ℕ) (old : List (List ℕ)) → IsStore numbers ends len groups
-    → cut_at 0 (take groups ends) (take len numbers) ≡ old → total old < 32
-    → (cut_at 0 (take (groups + 1) (set ends groups (len + 1))) (take (len + 1) (set numbers len n)) ≡ old ++ (n ∷ [])
-    ∷ []) × IsStore (set numbers len n) (set ends groups (len + 1)) (len + 1) (groups + 1)
-pushed_one numbers ends len groups n old (fit, a, b, c, d) v h =
-    let below = numbers_below numbers ends len groups old (fit, a, b, c, d) v h in
-    let few = groups_below numbers ends len groups old (fit, a, b, c, d) v h in
-    let xs : take (len + 1) (set numbers len n) ≡ take len numbers ++ n ∷ [] =
-    take_more_set numbers len n (omega (arith, c, below)) in
-    let es : take (groups + 1) (set ends groups (len + 1)) ≡ take groups ends ++ (len + 1) ∷ [] =
-    take_more_set ends groups (len + 1) (omega (arith, d, few)) in
-    let size : len + 1 ≡ length (take len numbers ++ n ∷ []) =
-    omega (arith, length-append (take len numbers) (n ∷ []), length_front numbers len c a) in
-    let ends_are : take (groups + 1) (set ends groups (len + 1)) ≡ take groups ends
-    ++ length (take len numbers ++ n ∷ []) ∷ [] = es ∙ ap (λ k. take groups ends ++ k ∷ []) size in (
-      rw (ends_are, xs) (cut-append 0 (take groups ends) (take len numbers) (n ∷ []) fit
-          ∙ ap (λ gs. gs ++ (n ∷ []) ∷ []) v),
-      (
-        rw (ends_are, xs) (fit-append 0 (take groups ends) (take len numbers) (n ∷ []) fit (omega arith)),
-        omega (arith, below),
-        omega (arith, few),
-        length-set numbers len n ∙ c,
-        length-set ends groups (len + 1) ∙ d,
-      ),
-    )
+  one_more : (n : ℕ) → total old < 32 → take (len + 1) (set numbers len n) ≡ take len numbers ++ n ∷ []
+  one_more n h = take_more_set numbers len n (omega (arith, s.3, numbers_below h))
 
-pub extended : (numbers ends : List ℕ) (len groups n : ℕ) (old : List (List ℕ)) → IsStore numbers ends len groups
-    → cut_at 0 (take groups ends) (take len numbers) ≡ old → total old < 32 → 0 < length old
-    → (cut_at 0 (take groups (set ends (groups - 1) (len + 1))) (take (len + 1) (set numbers len n)) ≡ onto_last n old)
-    × IsStore (set numbers len n) (set ends (groups - 1) (len + 1)) (len + 1) groups
-extended numbers ends len groups n old (fit, a, b, c, d) v h some =
-    let below = numbers_below numbers ends len groups old (fit, a, b, c, d) v h in
-    let one = groups_some numbers ends len groups old v some in
-    let last : groups - 1 + 1 ≡ groups = omega (arith, one) in
-    let front = take (groups - 1) ends in
-    let end = get_or ends (groups - 1) 0 in
-    let was : take groups ends ≡ front ++ end ∷ [] =
-    ap (λ k. take k ends) (sym last) ∙ take_more ends (groups - 1) 0 (omega (arith, d, b, one)) in
-    let xs : take (len + 1) (set numbers len n) ≡ take len numbers ++ n ∷ [] =
-    take_more_set numbers len n (omega (arith, c, below)) in
-    let es : take groups (set ends (groups - 1) (len + 1)) ≡ front ++ (len + 1) ∷ [] =
-    ap (λ k. take k (set ends (groups - 1) (len + 1))) (sym last)
-    ∙ take_more_set ends (groups - 1) (len + 1) (omega (arith, d, b, one)) in
-    let size : len + 1 ≡ length (take len numbers ++ n ∷ []) =
-    omega (arith, length-append (take len numbers) (n ∷ []), length_front numbers len c a) in
-    let ends_are : take groups (set ends (groups - 1) (len + 1)) ≡ front ++ length (take len numbers ++ n ∷ []) ∷ [] =
-    es ∙ ap (λ k. front ++ k ∷ []) size in
-    let fits : EndsFit 0 (front ++ end ∷ []) (take len numbers) = subst (λ ys. EndsFit 0 ys (take len numbers)) was fit
-    in (
-      rw (ends_are, xs) (cut-extend 0 front end (take len numbers) n fits
-          ∙ ap (onto_last n) (ap (λ ys. cut_at 0 ys (take len numbers)) (sym was) ∙ v)),
-      (
-        rw (ends_are, xs) (fit-extend 0 front end (take len numbers) n fits),
-        omega (arith, below),
-        b,
-        length-set numbers len n ∙ c,
-        length-set ends (groups - 1) (len + 1) ∙ d,
-      ),
-    )
+  size_more : (n : ℕ) → len + 1 ≡ length (take len numbers ++ n ∷ [])
+  size_more n = omega (arith, length-append (take len numbers) (n ∷ []), length_front numbers len s.3 s.1)
+
+  pub pushed_one : (n : ℕ) → total old < 32
+      → (cut_at 0 (take (groups + 1) (set ends groups (len + 1))) (take (len + 1) (set numbers len n))
+      ≡ old ++ (n ∷ []) ∷ []) × IsStore (set numbers len n) (set ends groups (len + 1)) (len + 1) (groups + 1)
+  pushed_one n h =
+      let below = numbers_below h in
+      let few = groups_below h in
+      let ends_are : take (groups + 1) (set ends groups (len + 1)) ≡ take groups ends
+      ++ length (take len numbers ++ n ∷ []) ∷ [] =
+      take_more_set ends groups (len + 1) (omega (arith, s.4, few))
+      ∙ ap (λ k. take groups ends ++ k ∷ []) (size_more n) in (
+        rw (ends_are, one_more n h) (cut-append 0 (take groups ends) (take len numbers) (n ∷ []) s.0
+            ∙ ap (λ gs. gs ++ (n ∷ []) ∷ []) v),
+        (
+          rw (ends_are, one_more n h) (fit-append 0 (take groups ends) (take len numbers) (n ∷ []) s.0 (omega arith)),
+          omega (arith, below),
+          omega (arith, few),
+          length-set numbers len n ∙ s.3,
+          length-set ends groups (len + 1) ∙ s.4,
+        ),
+      )
+
+  pub extended : (n : ℕ) → total old < 32 → 0 < length old
+      → (cut_at 0 (take groups (set ends (groups - 1) (len + 1))) (take (len + 1) (set numbers len n))
+      ≡ onto_last n old) × IsStore (set numbers len n) (set ends (groups - 1) (len + 1)) (len + 1) groups
+  extended n h some =
+      let below = numbers_below h in
+      let one : 0 < groups = omega (arith, some, groups_count) in
+      let last : groups - 1 + 1 ≡ groups = omega (arith, one) in
+      let front = take (groups - 1) ends in
+      let end = get_or ends (groups - 1) 0 in
+      let was : take groups ends ≡ front ++ end ∷ [] =
+      ap (λ k. take k ends) (sym last) ∙ take_more ends (groups - 1) 0 (omega (arith, s.4, s.2, one)) in
+      let ends_are : take groups (set ends (groups - 1) (len + 1)) ≡ front ++ length (take len numbers ++ n ∷ []) ∷ [] =
+      ap (λ k. take k (set ends (groups - 1) (len + 1))) (sym last)
+      ∙ (take_more_set ends (groups - 1) (len + 1) (omega (arith, s.4, s.2, one))
+      ∙ ap (λ k. front ++ k ∷ []) (size_more n)) in
+      let fits = subst (λ ys. EndsFit 0 ys (take len numbers)) was s.0 in (
+        rw (ends_are, one_more n h) (cut-extend 0 front end (take len numbers) n fits
+            ∙ ap (onto_last n) (ap (λ ys. cut_at 0 ys (take len numbers)) (sym was) ∙ v)),
+        (
+          rw (ends_are, one_more n h) (fit-extend 0 front end (take len numbers) n fits),
+          omega (arith, below),
+          s.2,
+          length-set numbers len n ∙ s.3,
+          length-set ends (groups - 1) (len + 1) ∙ s.4,
+        ),
+      )
 
 onto_last-length : (b : ℕ) (ss : List (List ℕ)) → 0 < length ss → length (onto_last b ss) ≡ length ss
 unfolding onto_last

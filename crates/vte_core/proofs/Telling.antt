@@ -1,5 +1,6 @@
 -- Steps of a performer.
-use Rattle.std.proofs.Common.{◌≡◌, List, [], ◌∷◌, ◌++◌, subst}
+use Rattle.std.proofs.Common.{◌≡◌, ◌<◌, ◌+◌, ℕ, List, [], ◌∷◌, ◌++◌, length, map, take, get_or, refl, subst}
+use Rattle.std.proofs.lemmas.List.{map-append, take_more}
 use Rattle.vte_core.specs.Event.{Event, Performs}
 
 pub same_step : {S : Type 0} (step : S → Event → S → Type 0) (old new : S) (d e : Event) → d ≡ e → step old d new
@@ -14,3 +15,15 @@ pub performs-append : {S : Type 0} (step : S → Event → S → Type 0) (old mi
     → Performs step old es mid → Performs step mid fs new → Performs step old (es ++ fs) new
 performs-append {S} step old mid new [] fs h k = subst (λ (x : S). Performs step x fs new) h k
 performs-append {S} step old mid new (e ∷ es) fs (m, s, h) k = (m, s, performs-append step m mid new es fs h k)
+
+-- one more event of a kind, after those of the elements before it
+pub performs-last : {S : Type 0} (step : S → Event → S → Type 0) (f : ℕ → Event) (xs : List ℕ) (x : ℕ) (old mid new : S)
+    → Performs step old (map f xs) mid → step mid (f x) new → Performs step old (map f (xs ++ x ∷ [])) new
+performs-last {S} step f xs x old mid new h s =
+    rw (map-append f xs (x ∷ [])) (performs-append step old mid new (map f xs) (f x ∷ []) h (new, s, refl))
+
+pub performs-next : {S : Type 0} (step : S → Event → S → Type 0) (f : ℕ → Event) (xs : List ℕ) (i : ℕ)
+    (old mid new : S) → i < length xs → Performs step old (map f (take i xs)) mid → step mid (f (get_or xs i 0)) new
+    → Performs step old (map f (take (i + 1) xs)) new
+performs-next {S} step f xs i old mid new lt h s =
+    rw (take_more xs i 0 lt) (performs-last step f (take i xs) (get_or xs i 0) old mid new h s)

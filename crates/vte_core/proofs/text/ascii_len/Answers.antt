@@ -1,8 +1,7 @@
-use Rattle.std.proofs.Common.{◌≡◌, ◌∙◌, ◌+◌, ◌-◌, ℕ, true, ap, sym, arith, take, drop}
+use Rattle.std.proofs.Common.{◌≡◌, ◌∙◌, ◌+◌, ◌-◌, ℕ, true, ap, sym, arith, take, drop, List, length}
 use Rattle.vte_core.specs.Bytes.{each, is_plain}
-use Rattle.vte_core.proofs.Ground.{each-append}
-use Rattle.vte_core.proofs.Runs.{read_more}
-use Rattle.std.proofs.Common.{List, length, length-take, length-drop}
+use Rattle.vte_core.proofs.PhaseLemmas.{each-append}
+use Rattle.vte_core.proofs.Runs.{read_more, within_more}
 use Rattle.vte_core.proofs.text.ascii_len.Goals as goal
 use lib.Seq.{take-add}
 
@@ -26,14 +25,7 @@ loop-len-2-init c =
     let k = c.short_len-len.result in
     let piece : List ℕ = take k (take (length bs - i) (drop i bs)) in
     record {
-      within = omega (
-        arith,
-        c.short_len-len.ensures.within,
-        c.loop-len.invariant.within,
-        length-take (length bs
-            - i) (drop i bs),
-        length-drop i bs,
-      );
+      within = within_more bs i k c.loop-len.invariant.within c.short_len-len.ensures.within;
       plain = ap (each is_plain) (read_more bs i k)
           ∙ each-append is_plain (take i bs) piece c.loop-len.invariant.plain c.short_len-len.ensures.plain;
     }

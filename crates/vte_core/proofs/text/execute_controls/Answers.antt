@@ -1,12 +1,11 @@
-use Rattle.std.proofs.Common.{◌≡◌, ◌∙◌, ◌+◌, ◌-◌, ◌≤◌, ◌++◌, ◌∷◌, [], ℕ, List, true, ap, sym, refl, arith, take, drop}
+use Rattle.std.proofs.Common.{◌≡◌, ◌∙◌, ◌+◌, ◌-◌, ◌≤◌, ◌++◌, ◌∷◌, [], ℕ, List, true, ap, sym, arith, take, drop}
 use Rattle.std.proofs.Common.{get_or, map, length}
-use Rattle.std.proofs.lemmas.List.{take_more}
+use Rattle.std.proofs.lemmas.List.{take_more, map-append}
 use Rattle.std.proofs.lemmas.Bool.Decides.{nat_tests}
 use Rattle.vte_core.specs.Bytes.{each, is_c0}
 use Rattle.vte_core.specs.Event.{Event, Execute}
-use Rattle.vte_core.proofs.PhaseLemmas.{each-more}
-use Rattle.vte_core.proofs.Ground.{each-append, map-execute}
-use Rattle.vte_core.proofs.Telling.{performs-append, same_events}
+use Rattle.vte_core.proofs.PhaseLemmas.{each-append, each-more}
+use Rattle.vte_core.proofs.Telling.{performs-append, performs-next, same_events}
 use Rattle.vte_core.proofs.text.execute_controls.Goals as goal
 use lib.Seq.{take-add}
 
@@ -27,7 +26,7 @@ loop-read-preserved g c =
       controls = ap (each is_c0) more
           ∙ each-append is_c0 (take i bs) block inv.controls (c.are_controls.ensures c.if-are_controls.true);
       told = same_events g.P.Perform.step c.args.performer.now c.execute_all.new.performer (es ++ ds)
-          (map Execute (take (i + 16) bs)) (map-execute (take i bs) block ∙ ap (map Execute) (sym more))
+          (map Execute (take (i + 16) bs)) (sym (map-append Execute (take i bs) block) ∙ ap (map Execute) (sym more))
           (performs-append g.P.Perform.step c.args.performer.now c.loop-read.performer c.execute_all.new.performer
           es ds inv.told c.execute_all.ensures);
     }
@@ -40,13 +39,9 @@ loop-read-2-preserved g c =
     let inv = c.loop-read-2.invariant in
     let more : take (i + 1) bs ≡ take i bs ++ b ∷ [] = take_more bs i 0 c.loop-read-2-test.true in
     let is : is_c0 b ≡ true = grind (arith, nat_tests, c.if-bytes-read-lt32.true, c.if-bytes-read-ne27.true) in
-    let es : List Event = map Execute (take i bs) in
-    let ds : List Event = Execute b ∷ [] in
     record {
       within = omega arith;
       controls = ap (each is_c0) more ∙ each-more is_c0 (take i bs) b inv.controls is;
-      told = same_events g.P.Perform.step c.args.performer.now c.execute.new.self (es ++ ds)
-          (map Execute (take (i + 1) bs)) (map-execute (take i bs) (b ∷ []) ∙ ap (map Execute) (sym more))
-          (performs-append g.P.Perform.step c.args.performer.now c.loop-read-2.performer c.execute.new.self es ds
-          inv.told (c.execute.new.self, c.execute.ensures, refl));
+      told = performs-next g.P.Perform.step Execute bs i c.args.performer.now c.loop-read-2.performer
+          c.execute.new.self c.loop-read-2-test.true inv.told c.execute.ensures;
     }

@@ -3,9 +3,8 @@ use Rattle.std.proofs.Common.{take, drop, get_or, length, length-take, length-dr
 use Rattle.std.proofs.lemmas.List.{take_more, get_or-drop}
 use Rattle.vte_core.specs.Bytes.{each, is_header, is_numeric}
 use Rattle.vte_core.specs.Phases.{ReadsHeader}
-use Rattle.vte_core.proofs.PhaseLemmas.{each-more, numeric-header}
-use Rattle.vte_core.proofs.Ground.{each-append}
-use Rattle.vte_core.proofs.Runs.{read_more}
+use Rattle.vte_core.proofs.PhaseLemmas.{each-append, each-more, numeric-header}
+use Rattle.vte_core.proofs.Runs.{read_more, within_more}
 use Rattle.vte_core.proofs.StopLemmas.{whole_rest}
 use Rattle.vte_core.proofs.header.Header.read.Goals as goal
 
@@ -33,13 +32,7 @@ loop-read-preserved c =
     let next : get_or after k 0 ≡ get_or bs (i + 1 + k) 0 =
     ap (λ (xs : List ℕ). get_or xs k 0) (whole_rest bs (i + 1)) ∙ get_or-drop (i + 1) bs k 0 in
     record {
-      within = omega (
-        arith,
-        numbers.within,
-        c.loop-read-test.true,
-        length-take (length bs - (i + 1)) (drop (i + 1) bs),
-        length-drop (i + 1) bs,
-      );
+      within = within_more bs (i + 1) k (omega (arith, c.loop-read-test.true)) numbers.within;
       header = ap (each is_header) more ∙ each-append is_header (take (i + 1) bs) piece
           (ap (each is_header) one ∙ each-more is_header (take i bs) b inv.header is)
           (numeric-header piece numbers.numeric);

@@ -1,20 +1,6 @@
-use Rattle.std.proofs.Common.{refl, []}
+use Rattle.std.proofs.Common.{refl}
+use Rattle.vte_core.proofs.Numbered.{numbers-none}
 use Rattle.vte_core.proofs.numbers.Numbers.new.Goals as goal
 
 pub returns : goal.returns
-returns c = (
-  [],
-  [],
-  record {
-    parts = [];
-    last = [];
-    last_parts = [];
-    digits = [];
-    by_groups = refl;
-    by_numbers = refl;
-    are_groups = refl;
-    are_group = refl;
-    is_number = refl;
-  },
-  record { params = c.new.ensures; is_open = refl; many = refl },
-)
+returns c = numbers-none _ c.new.ensures refl refl

@@ -1,15 +1,11 @@
-use Rattle.std.proofs.Common.{◌≤◌, ◌<◌, ◌∙◌, ◌++◌, ◌∷◌, [], ap, arith, length, List, ℕ}
+use Rattle.std.proofs.Common.{◌<◌, ◌∙◌, ◌++◌, ◌∷◌, [], ap, length, List, ℕ}
 use Rattle.vte_core.proofs.OscLemmas.{rise-last, end-room, end-full, not_full, is_full, reads-by, cut-pieces}
 use Rattle.vte_core.proofs.osc_data.OscData.end_piece.Goals as goal
 
 pub returns-then-is_full : goal.returns-then-is_full
 returns-then-is_full g c = λ s r.
     let x = c.args.self.now in
-    let many : 16 ≤ length x.1 = omega (
-      arith,
-      is_full _ 16 c.if-is_full.ensures.value,
-      ap (λ y. length y.1) c.self.view_is,
-    ) in
+    let many = is_full _ 16 (length x.1) c.if-is_full.ensures.value (ap (λ y. length y.1) c.self.view_is) in
     cut-pieces g.row.N x s x.1 r (end-full g.row.N x s r many)
 
 pub invariant_of-self : goal.invariant_of-self

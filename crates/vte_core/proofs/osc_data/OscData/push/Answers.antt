@@ -1,4 +1,4 @@
-use Rattle.std.proofs.Common.{◌≤◌, ◌<◌, ◌∙◌, ◌++◌, ◌∷◌, [], ap, arith, List, ℕ, length, ◌≢◌}
+use Rattle.std.proofs.Common.{◌<◌, ◌∙◌, ◌++◌, ◌∷◌, [], ap, arith, List, ℕ, length, ◌≢◌}
 use Rattle.std.proofs.lemmas.Bool.{eq-eqb}
 use Rattle.std.proofs.lemmas.Bool.Decides.{nat_tests}
 use Rattle.vte_core.proofs.OscLemmas.{rise-last, rise-more, osc-byte, osc-semicolon, end-room, end-full, not_full}
@@ -28,11 +28,7 @@ returns-then-not-is_full g c = λ s r.
 pub returns-else-not-is_full : goal.returns-else-not-is_full
 returns-else-not-is_full g c = λ s r.
     let x = c.args.self.now in
-    let many : 16 ≤ length x.1 = omega (
-      arith,
-      is_full _ 16 c.if-not-is_full.ensures.value,
-      ap (λ y. length y.1) c.self.view_is,
-    ) in
+    let many = is_full _ 16 (length x.1) c.if-not-is_full.ensures.value (ap (λ y. length y.1) c.self.view_is) in
     osc-semicolon g.row.N x s c.args.byte x.1 (eq-eqb c.args.byte 59 c.if-byte-eq59.true) r
     (end-full g.row.N x s r many)
 
@@ -50,9 +46,5 @@ pub returns-else-not-is_full-2 : goal.returns-else-not-is_full-2
 returns-else-not-is_full-2 g c = λ s r.
     let x = c.args.self.now in
     let ne : c.args.byte ≢ 59 = c.if-byte-eq59.false in
-    let full : g.row.N ≤ length x.0 = omega (
-      arith,
-      is_full _ g.row.N c.if-not-is_full-2.ensures.value,
-      ap (λ y. length y.0) c.self.view_is,
-    ) in
+    let full = is_full _ g.row.N (length x.0) c.if-not-is_full-2.ensures.value (ap (λ y. length y.0) c.self.view_is) in
     osc-byte g.row.N x s c.args.byte x.0 (grind (arith, nat_tests, ne)) r (bytes-full g.row.N x s c.args.byte r full)

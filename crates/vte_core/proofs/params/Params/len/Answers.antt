@@ -3,13 +3,12 @@ use Rattle.vte_core.proofs.Stores.{total-store}
 use Rattle.vte_core.proofs.params.Params.len.Goals as goal
 
 pub returns-clause-value : goal.returns-clause-value
-returns-clause-value c = sym (total-store c.self.inside.numbers c.self.inside.ends c.self.inside.len
-    c.self.inside.groups c.args.self.now c.self.invariant c.self.view_is)
+returns-clause-value c = sym (total-store _ _ _ _ _ c.self.invariant c.self.view_is)
 
 pub returns-clause-few : goal.returns-clause-few
 returns-clause-few c = omega (
   arith,
   c.self.invariant.1,
-  total-store c.self.inside.numbers c.self.inside.ends c.self.inside.len c.self.inside.groups c.args.self.now
+  total-store _ _ _ _ _
       c.self.invariant c.self.view_is,
 )

@@ -1,16 +1,16 @@
 use Rattle.std.proofs.Common.{◌≡◌, ◌∙◌, sym, ap, arith, List, ℕ, Bool, true, false, ◌-◌, suc, zero, ◌+◌, [], ◌++◌, take}
-use Rattle.std.proofs.Common.{drop, length, length-take, length-drop, subst, refl, ◌≤◌, ◌<◌}
+use Rattle.std.proofs.Common.{drop, length, length-take, subst, refl, ◌≤◌, ◌<◌}
 use Rattle.std.proofs.lemmas.Grind.{common_steps}
+use Rattle.std.proofs.Math.Nat.{zero-add}
 use Rattle.std.specs.Bool.{IsTrue}
 use Rattle.vte_core.specs.Event.{Event}
 use Rattle.vte_core.specs.Pending.{Pending, InText, pending, after_bytes, events_from}
 use Rattle.vte_core.specs.Shapes.{events}
 use Rattle.vte_core.specs.Standing.{IsAt}
-use Rattle.vte_core.specs.Stopping.{StopsAt}
 use Rattle.vte_core.proofs.StopLemmas.{stop_now, stop_end, stops-said}
-use Rattle.vte_core.proofs.Runs.{read_more, one_more_step, piece_and_rest}
+use Rattle.vte_core.proofs.Runs.{read_more, within_more, stands_further, tells_more, piece_and_rest}
 use Rattle.vte_core.proofs.Quiet.{step_stops}
-use Rattle.vte_core.proofs.Telling.{same_events, performs-append}
+use Rattle.vte_core.proofs.Telling.{same_events}
 use Rattle.vte_core.proofs.Machine.{after_bytes-append, events-past}
 use Rattle.vte_core.proofs.parser.Parser.advance_until_terminated.Goals as goal
 
@@ -22,9 +22,7 @@ loop-read-init g c = record {
   none = λ h. refl;
   stands = λ q h. h;
   added = λ q h. refl;
-  stops = λ q h k new r. let m : k ≡ 0 + k = omega arith
-      in subst (λ (j : ℕ). StopsAt g.P.Perform.step g.P.Perform.is_terminated g.row.N q true c.args.bytes.now
-      c.args.performer.now j new) m r;
+  stops = λ q h k new r. rw (zero-add k) r;
   first = λ h. (refl, refl);
   later = λ h. absurd (omega (arith, h));
 }
@@ -40,54 +38,34 @@ loop-read-preserved g c =
     let k = c.read_some-read.result in
     let inv = c.loop-read.invariant in
     let tells = c.read_some-read.ensures.told in
+    let all = tells_more g.P.Perform.step g.row.N c.args.self.now c.loop-read.self _ _ _ _ _ _ (read_more bs i k)
+    inv.stands (record { told = inv.told; performed = inv.performed; added = inv.added }) tells in
     let piece : List ℕ = take k (take (length bs - i) (drop i bs)) in
     let more : take (i + k) bs ≡ take i bs ++ piece = read_more bs i k in
     let quiet : g.P.Perform.is_terminated c.loop-read.performer ≡ false =
     sym c.terminated.ensures ∙ c.if-terminated.false in
     record {
-      within = omega (
-        arith,
-        c.read_some-read.ensures.within,
-        length-take (length bs - i) (drop i bs),
-        length-drop i bs,
-      );
-      told = inv.told ++ tells.told;
-      performed = performs-append g.P.Perform.step c.args.performer.now c.loop-read.performer
-          c.read_some-read.new.performer inv.told tells.told inv.performed tells.performed;
+      within = within_more bs i k inv.within c.read_some-read.ensures.within;
+      told = all.told;
+      performed = all.performed;
       none = λ h. absurd (omega (arith, h, c.read_some-read.ensures.some));
-      stands = λ q h.
-          let now = after_bytes q (take i bs) in
-          let at = inv.stands q h in
-          let step = one_more_step g.row.N q (take i bs) piece (take (i + k) bs) inv.told tells.told more
-          (inv.added q h) (tells.added now at) in
-          subst (λ (r : Pending). IsAt g.row.N c.read_some-read.new.self r) (sym step.1)
-          (c.read_some-read.ensures.stands now at);
-      added = λ q h. (one_more_step g.row.N q (take i bs) piece (take (i + k) bs) inv.told tells.told more
-          (inv.added q h) (tells.added (after_bytes q (take i bs)) (inv.stands q h))).0;
+      stands = stands_further _ _ _ _ bs i k inv.stands c.read_some-read.ensures.stands;
+      added = all.added;
       stops = λ q h j new r.
           let now = after_bytes q (take i bs) in
           let at = inv.stands q h in
           let rest : List ℕ = drop k (take (length bs - i) (drop i bs)) in
           let parts = piece_and_rest bs i k c.read_some-read.ensures.within in
-          let step = one_more_step g.row.N q (take i bs) piece (take (i + k) bs) inv.told tells.told more
-          (inv.added q h) (tells.added now at) in
-          let left : StopsAt g.P.Perform.step g.P.Perform.is_terminated g.row.N (after_bytes now piece) true rest
-          c.read_some-read.new.performer j new =
-          subst (λ (x : Pending). StopsAt g.P.Perform.step g.P.Perform.is_terminated g.row.N x true rest
-          c.read_some-read.new.performer j new) step.1
-          (subst (λ (xs : List ℕ). StopsAt g.P.Perform.step g.P.Perform.is_terminated g.row.N
-          (after_bytes q (take (i + k) bs)) true xs c.read_some-read.new.performer j new) parts.2 r) in
+          let after : after_bytes q (take (i + k) bs) ≡ after_bytes now piece =
+          ap (after_bytes q) more ∙ after_bytes-append q (take i bs) piece in
+          let left = rw (parts.2, after) at r in
           let gone = same_events g.P.Perform.step c.loop-read.performer c.read_some-read.new.performer tells.told
           (events_from g.row.N now piece) (tells.added now at) tells.performed in
           let whole = step_stops g.P.Perform.step g.P.Perform.is_terminated g.row.N now piece rest
           c.loop-read.performer c.read_some-read.new.performer j new (c.read_some-read.ensures.step now at)
           quiet gone left in
-          let m : i + (length piece + j) ≡ i + k + j = omega (arith, parts.1) in
-          subst (λ (x : ℕ). StopsAt g.P.Perform.step g.P.Perform.is_terminated g.row.N q true bs c.args.performer.now x
-          new) m
-          (inv.stops q h (length piece + j) new (subst
-          (λ (xs : List ℕ). StopsAt g.P.Perform.step g.P.Perform.is_terminated g.row.N now true xs
-          c.loop-read.performer (length piece + j) new) parts.0 whole));
+          let m : i + k + j ≡ i + (length piece + j) = omega (arith, parts.1) in
+          rw m (inv.stops q h (length piece + j) new (rw parts.0 at whole));
       first = λ h. absurd (omega (arith, h, c.read_some-read.ensures.some));
       later = λ h. zero_or i (g.P.Perform.is_terminated c.args.performer.now)
           (λ z. ap g.P.Perform.is_terminated (sym (inv.first z).0) ∙ quiet) inv.later;
@@ -99,16 +77,13 @@ returns-then-terminated-clause-stands g c = λ past h.
     (sym (after_bytes-append (InText []) past (take c.loop-read.read c.args.bytes.now)))
     (c.loop-read.invariant.stands (pending past) h)
 
-take_none : (i : ℕ) (xs : List ℕ) → i ≤ length xs → take i xs ≡ [] → i ≡ 0
-take_none i xs h e = omega (arith, ap length e, length-take i xs)
-
 pub returns-then-terminated-clause-told : goal.returns-then-terminated-clause-told
 returns-then-terminated-clause-told g c =
     let inv = c.loop-read.invariant in
     record {
       told = inv.told;
       performed = inv.performed;
-      none = λ h. inv.none (take_none c.loop-read.read c.args.bytes.now inv.within h);
+      none = λ h. inv.none (omega (arith, ap length h, length-take c.loop-read.read c.args.bytes.now, inv.within));
       added = λ past h. events-past g.row.N past (take c.loop-read.read c.args.bytes.now)
           ∙ ap (λ (es : List Event). events g.row.N past ++ es) (sym (inv.added (pending past) h));
     }
@@ -117,9 +92,7 @@ pub returns-then-terminated-clause-stops : goal.returns-then-terminated-clause-s
 returns-then-terminated-clause-stops g c = λ past h.
     let m : c.loop-read.read + 0 ≡ c.loop-read.read = omega arith in
     stops-said _ _ g.row.N past c.args.bytes.now _ _ _
-    (subst (λ k. StopsAt g.P.Perform.step g.P.Perform.is_terminated g.row.N (pending past) true c.args.bytes.now
-    c.args.performer.now k c.loop-read.performer) m
-    (c.loop-read.invariant.stops (pending past) h 0 c.loop-read.performer
+    (rw m at (c.loop-read.invariant.stops (pending past) h 0 c.loop-read.performer
     (stop_now g.P.Perform.step g.P.Perform.is_terminated g.row.N
     (after_bytes (pending past) (take c.loop-read.read c.args.bytes.now)) true c.args.bytes.now c.loop-read.read
     c.loop-read.performer c.loop-read-test.true (sym c.terminated.ensures ∙ c.if-terminated.true))))
@@ -154,7 +127,7 @@ returns-clause-told g c =
     record {
       told = inv.told;
       performed = inv.performed;
-      none = λ h. inv.none (take_none c.loop-read.read bs inv.within (all ∙ h));
+      none = λ h. inv.none (omega (arith, ap length (all ∙ h), length-take c.loop-read.read bs, inv.within));
       added = λ past h. events-past g.row.N past (take (length bs) bs)
           ∙ ap (λ (es : List Event). events g.row.N past ++ es) (ap (events_from g.row.N (pending past)) (sym all)
           ∙ sym (inv.added (pending past) h));
@@ -164,9 +137,7 @@ pub returns-clause-stops : goal.returns-clause-stops
 returns-clause-stops g c = λ past h.
     let m : c.loop-read.read + 0 ≡ length c.args.bytes.now = omega (arith, c.loop-read.invariant.within) in
     stops-said _ _ g.row.N past c.args.bytes.now _ _ _
-    (subst (λ k. StopsAt g.P.Perform.step g.P.Perform.is_terminated g.row.N (pending past) true c.args.bytes.now
-    c.args.performer.now k c.loop-read.performer) m
-    (c.loop-read.invariant.stops (pending past) h 0 c.loop-read.performer
+    (rw m at (c.loop-read.invariant.stops (pending past) h 0 c.loop-read.performer
     (stop_end g.P.Perform.step g.P.Perform.is_terminated g.row.N
     (after_bytes (pending past) (take c.loop-read.read c.args.bytes.now)) true c.args.bytes.now c.loop-read.read
     c.loop-read.performer c.loop-read-test.false)))

@@ -1,41 +1,26 @@
-use Rattle.std.proofs.Common.{refl, take}
+use Rattle.std.proofs.Common.{take}
 use Rattle.vte_core.proofs.Quiet.{header-at, osc-at, swallowed-at}
 use Rattle.vte_core.proofs.parser.Parser.read_quiet.Goals as goal
 
 pub returns-in-Csi-clause-stands : goal.returns-in-Csi-clause-stands
 returns-in-Csi-clause-stands g c = λ q h.
-    (header-at g.row.N c.args.self.now _ q (take c.read.result c.args.bytes.now) c.in-Csi.is refl refl
+    (header-at g.row.N c.args.self.now c.read.new.self q (take c.read.result c.args.bytes.now) c.in-Csi.is
     c.read.ensures.header c.read.ensures.reads h).1
 
 pub returns-in-Csi-clause-quiet : goal.returns-in-Csi-clause-quiet
 returns-in-Csi-clause-quiet g c = λ q h.
-    (header-at g.row.N c.args.self.now (record {
-      state = c.args.self.now.state;
-      unfinished = c.args.self.now.unfinished;
-      intermediates = c.args.self.now.intermediates;
-      header = c.read.new.self;
-      osc = c.args.self.now.osc;
-    })
-    q (take c.read.result c.args.bytes.now) c.in-Csi.is refl refl c.read.ensures.header
-    c.read.ensures.reads h).0
+    (header-at g.row.N c.args.self.now c.read.new.self q (take c.read.result c.args.bytes.now) c.in-Csi.is
+    c.read.ensures.header c.read.ensures.reads h).0
 
 pub returns-in-OscString-clause-stands : goal.returns-in-OscString-clause-stands
 returns-in-OscString-clause-stands g c = λ q h.
-    (osc-at g.row.N c.args.self.now _ q (take c.read-in-OscString.result c.args.bytes.now) c.in-OscString.is refl refl
-    c.read-in-OscString.ensures.all_data c.read-in-OscString.ensures.reads h).1
+    (osc-at g.row.N c.args.self.now c.read-in-OscString.new.self q (take c.read-in-OscString.result c.args.bytes.now)
+    c.in-OscString.is c.read-in-OscString.ensures.all_data c.read-in-OscString.ensures.reads h).1
 
 pub returns-in-OscString-clause-quiet : goal.returns-in-OscString-clause-quiet
 returns-in-OscString-clause-quiet g c = λ q h.
-    (osc-at g.row.N c.args.self.now (record {
-      state = c.args.self.now.state;
-      unfinished = c.args.self.now.unfinished;
-      intermediates = c.args.self.now.intermediates;
-      header = c.args.self.now.header;
-      osc = c.read-in-OscString.new.self;
-    })
-    q (take c.read-in-OscString.result c.args.bytes.now) c.in-OscString.is refl refl
-    c.read-in-OscString.ensures.all_data c.read-in-OscString.ensures.reads
-    h).0
+    (osc-at g.row.N c.args.self.now c.read-in-OscString.new.self q (take c.read-in-OscString.result c.args.bytes.now)
+    c.in-OscString.is c.read-in-OscString.ensures.all_data c.read-in-OscString.ensures.reads h).0
 
 pub returns-in-SosPmApcString-clause-stands : goal.returns-in-SosPmApcString-clause-stands
 returns-in-SosPmApcString-clause-stands g c = λ q h.

@@ -1,37 +1,19 @@
-use Rattle.std.proofs.Common.{◌∙◌, ◌+◌, ◌-◌, ℕ, List, sym, subst, length, take, drop}
-use Rattle.vte_core.specs.Pending.{Pending, after_bytes}
+use Rattle.std.proofs.Common.{◌+◌, ◌-◌, ℕ, List, sym, subst, length, take, drop}
+use Rattle.vte_core.specs.Pending.{after_bytes}
 use Rattle.vte_core.specs.Runs.{IsStep}
-use Rattle.vte_core.specs.Standing.{IsAt}
-use Rattle.vte_core.proofs.Runs.{read_more, piece_and_rest}
-use Rattle.vte_core.proofs.Quiet.{quiet_then, quiet-step, one-step}
+use Rattle.vte_core.proofs.Runs.{read_more, piece_and_rest, stands_further, tells_more}
+use Rattle.vte_core.proofs.Quiet.{tells_nothing, quiet-step, one-step}
 use Rattle.vte_core.proofs.parser.Parser.read_step.Goals as goal
 
 pub returns-clause-stands : goal.returns-clause-stands
-returns-clause-stands g c = λ q h.
-    let bs = c.args.bytes.now in
-    let k = c.read_quiet-quiet.result in
-    let j = c.read_one.result in
-    let quiet = c.read_quiet-quiet.ensures in
-    let both = quiet_then g.row.N q (take k bs) (take j (take (length bs - k) (drop k bs))) (take (k + j) bs)
-    (read_more bs k j) (quiet.quiet q h) in
-    subst (λ (r : Pending). IsAt g.row.N c.read_one.new.self r) (sym both.1)
-    (c.read_one.ensures.stands (after_bytes q (take k bs)) (quiet.stands q h))
+returns-clause-stands g c = stands_further g.row.N c.args.self.now c.read_quiet-quiet.new.self c.read_one.new.self
+    c.args.bytes.now c.read_quiet-quiet.result c.read_one.result c.read_quiet-quiet.ensures.stands
+    c.read_one.ensures.stands
 
 pub returns-clause-told : goal.returns-clause-told
-returns-clause-told g c =
-    let bs = c.args.bytes.now in
-    let k = c.read_quiet-quiet.result in
-    let j = c.read_one.result in
-    let quiet = c.read_quiet-quiet.ensures in
-    let tells = c.read_one.ensures.told in
-    record {
-      told = tells.told;
-      performed = tells.performed;
-      added = λ q h.
-          let both = quiet_then g.row.N q (take k bs) (take j (take (length bs - k) (drop k bs))) (take (k + j) bs)
-          (read_more bs k j) (quiet.quiet q h) in
-          tells.added (after_bytes q (take k bs)) (quiet.stands q h) ∙ sym both.0;
-    }
+returns-clause-told g c = tells_more g.P.Perform.step g.row.N c.args.self.now c.read_quiet-quiet.new.self _ _ _ _ _ _
+    (read_more c.args.bytes.now c.read_quiet-quiet.result c.read_one.result) c.read_quiet-quiet.ensures.stands
+    (tells_nothing _ _ _ _ _ c.read_quiet-quiet.ensures.quiet) c.read_one.ensures.told
 
 pub returns-clause-step : goal.returns-clause-step
 returns-clause-step g c = λ q h.

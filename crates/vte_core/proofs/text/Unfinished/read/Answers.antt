@@ -1,13 +1,12 @@
-use Rattle.std.proofs.Common.{◌≡◌, ◌-◌, ◌++◌, arith, true, length, take, drop, get_or, length-take, length-drop, ap}
-use Rattle.std.proofs.Common.{◌∙◌}
+use Rattle.std.proofs.Common.{◌≡◌, ◌-◌, ◌++◌, arith, true, length, take, drop, get_or, ap, ◌∙◌}
 use Rattle.std.proofs.lemmas.Bool.{eq-eqb}
 use Rattle.vte_core.specs.Bytes.{is_esc}
-use Rattle.vte_core.specs.Runs.{run_told, has_no_esc}
+use Rattle.vte_core.specs.Runs.{has_no_esc}
 use Rattle.vte_core.specs.Shapes.{before}
 use Rattle.vte_core.proofs.Fronts.{reads_more, reads_all}
-use Rattle.vte_core.proofs.Runs.{read_more}
+use Rattle.vte_core.proofs.Runs.{read_more, within_more}
 use Rattle.vte_core.proofs.Ground.{no_esc-append, text_end}
-use Rattle.vte_core.proofs.Telling.{performs-append, same_events}
+use Rattle.vte_core.proofs.Telling.{performs-append}
 use Rattle.vte_core.proofs.text.Unfinished.read.Goals as goal
 
 pub loop-read-preserved : goal.loop-read-preserved
@@ -20,7 +19,7 @@ loop-read-preserved g c =
     let more = reads_more g.P.Perform.step c.args.self.now c.loop-read.self c.loop-read.performer bs i k
     c.read_some-read.new.performer c.read_some-read.new.self inv.told inv.within inv.no_esc inv.added inv.rest reads in
     record {
-      within = omega (arith, reads.within, length-take (length bs - i) (drop i bs), length-drop i bs);
+      within = within_more bs i k inv.within reads.within;
       no_esc = ap has_no_esc (read_more bs i k)
           ∙ no_esc-append (take i bs) (take k (take (length bs - i) (drop i bs))) inv.no_esc reads.no_esc;
       told = inv.told ++ reads.told;
@@ -40,8 +39,7 @@ returns-else-bytes-read-ne27 g c =
     let all = reads_all c.args.self.now c.loop-read.self bs i inv.told len inv.added inv.rest in
     record {
       len = len;
-      told = same_events g.P.Perform.step c.args.performer.now c.loop-read.performer inv.told
-          (run_told c.args.self.now (take i bs)) all.0 inv.performed;
+      told = rw all.0 at inv.performed;
       rest = all.1;
     }
 
@@ -55,7 +53,6 @@ returns-after-loop-read g c =
     let all = reads_all c.args.self.now c.loop-read.self bs i inv.told len inv.added inv.rest in
     record {
       len = len;
-      told = same_events g.P.Perform.step c.args.performer.now c.loop-read.performer inv.told
-          (run_told c.args.self.now (take i bs)) all.0 inv.performed;
+      told = rw all.0 at inv.performed;
       rest = all.1;
     }

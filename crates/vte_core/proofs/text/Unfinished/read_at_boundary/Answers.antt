@@ -1,14 +1,12 @@
-use Rattle.std.proofs.Common.{◌≡◌, ◌∙◌, ◌+◌, ◌-◌, ◌++◌, ◌∷◌, sym, ap, arith, List, ℕ, [], true, false, map, take, drop}
-use Rattle.std.proofs.Common.{get_or, length, length-take, length-drop}
+use Rattle.std.proofs.Common.{◌≡◌, ◌∙◌, ◌+◌, ◌-◌, ◌++◌, ◌∷◌, ap, arith, List, ℕ, [], true, false, map, take, drop}
+use Rattle.std.proofs.Common.{get_or, length}
 use Rattle.std.proofs.lemmas.Bool.Decides.{nat_tests}
 use Rattle.std.proofs.lemmas.List.{take_more}
 use Rattle.vte_core.specs.Bytes.{is_esc, is_c0}
 use Rattle.vte_core.specs.Event.{Execute}
-use Rattle.vte_core.specs.Runs.{run_told, run_rest, has_no_esc}
-use Rattle.vte_core.proofs.Fronts.{reads_front}
-use Rattle.vte_core.proofs.Runs.{read_more}
+use Rattle.vte_core.proofs.Fronts.{reads_alone}
+use Rattle.vte_core.proofs.Runs.{read_more, within_more}
 use Rattle.vte_core.proofs.Ground.{c0-run}
-use Rattle.vte_core.proofs.Telling.{same_events}
 use Rattle.vte_core.proofs.text.Unfinished.read_at_boundary.Goals as goal
 
 pub returns-then-bytes-lt32 : goal.returns-then-bytes-lt32
@@ -17,24 +15,12 @@ returns-then-bytes-lt32 g c =
     let b = get_or bs 0 0 in
     let k = c.execute_controls.result in
     let rest : List ℕ = take k (take (length bs - 1) (drop 1 bs)) in
-    let none : c.args.self.now ≡ [] = c.requires.none in
     let one : take 1 bs ≡ b ∷ [] = take_more bs 0 0 c.requires.some in
     let front : take (1 + k) bs ≡ b ∷ rest = read_more bs 1 k ∙ ap (λ (xs : List ℕ). xs ++ rest) one in
     let esc : is_esc b ≡ false = c.requires.text in
     let is : is_c0 b ≡ true = grind (arith, nat_tests, c.if-bytes-lt32.true, esc) in
     let r = c0-run (b ∷ rest) (rw is c.execute_controls.ensures.controls) in
-    let told = same_events g.P.Perform.step c.args.performer.now c.execute_controls.new.performer
-    (map Execute (b ∷ rest)) (run_told c.args.self.now (take (1 + k) bs))
-    (sym r.0 ∙ (ap (λ (u : List ℕ). run_told u (b ∷ rest)) (sym none)
-    ∙ ap (run_told c.args.self.now) (sym front)))
-    (c.execute.new.self, c.execute.ensures, c.execute_controls.ensures.told) in
-    reads_front g.P.Perform.step c.args.self.now c.args.performer.now bs (1 + k) c.execute_controls.new.performer
-    c.args.self.now (omega arith) (omega (
-      arith,
-      c.execute_controls.ensures.within,
-      length-take (length bs - 1) (drop 1 bs),
-      length-drop 1 bs,
-      c.requires.some,
-    )) (ap has_no_esc front ∙ r.2) told
-    (none ∙ (sym r.1 ∙ (ap (λ (u : List ℕ). run_rest u (b ∷ rest)) (sym none)
-    ∙ ap (run_rest c.args.self.now) (sym front))))
+    let within = within_more bs 1 k c.requires.some c.execute_controls.ensures.within in
+    rw c.requires.none (reads_alone g.P.Perform.step c.args.performer.now bs (b ∷ rest) (1 + k)
+    c.execute_controls.new.performer [] (map Execute (b ∷ rest)) (omega arith) within front r
+    (c.execute.new.self, c.execute.ensures, c.execute_controls.ensures.told))

@@ -1,10 +1,8 @@
-use Rattle.std.proofs.Common.{◌≡◌, ◌∙◌, ◌<◌, sym, ap, refl, arith, false, get_or, List, ℕ, [], take, length-take}
+use Rattle.std.proofs.Common.{◌≡◌, ◌∙◌, ◌<◌, sym, refl, arith, false, get_or, [], take, length-take}
 use Rattle.std.proofs.lemmas.Bool.Decides.{nat_tests}
 use Rattle.vte_core.specs.Bytes.{is_esc}
 use Rattle.vte_core.specs.Text.{char_len}
-use Rattle.vte_core.specs.Runs.{run_told, run_rest}
-use Rattle.vte_core.proofs.Telling.{same_events}
-use Rattle.vte_core.proofs.Fronts.{reads_two, reads_three, reads_byte, reads_front, of_three, of_four, kept_three}
+use Rattle.vte_core.proofs.Fronts.{reads_two, reads_three, reads_byte, reads_alone, of_three, of_four, kept_three}
 use Rattle.vte_core.proofs.text.Unfinished.read_malformed.Goals as goal
 
 pub returns-in-len3-up : goal.returns-in-len3-up
@@ -43,12 +41,9 @@ keep-requires g c =
 pub returns-in-27 : goal.returns-in-27
 returns-in-27 g c =
     let bs = c.args.bytes.now in
-    let u = c.args.self.now in
     let kept = kept_three bs (omega (arith, c.in-len4-up.len_at_least))
     (of_four (get_or bs 0 0) c.requires.begun c.if-first-ge240-2.true) c.requires.goes_on
     (sym c.is_tail-then-first-ge240-2.ensures ∙ c.if-is_tail-2.true) in
-    reads_front g.P.Perform.step u c.args.performer.now bs 3 c.args.performer.now c.keep.new.self (omega arith)
-    (omega (arith, c.in-len4-up.len_at_least)) kept.3
-    (same_events g.P.Perform.step c.args.performer.now c.args.performer.now [] (run_told u (take 3 bs))
-    (sym (ap (λ (v : List ℕ). run_told v (take 3 bs)) c.requires.none ∙ kept.1)) refl)
-    (c.keep.ensures ∙ sym (ap (λ (v : List ℕ). run_rest v (take 3 bs)) c.requires.none ∙ kept.2))
+    rw (c.requires.none, c.keep.ensures) (reads_alone g.P.Perform.step c.args.performer.now bs (take 3 bs) 3
+    c.args.performer.now (take 3 bs) [] (omega arith) (omega (arith, c.in-len4-up.len_at_least)) refl
+    (kept.1, kept.2, kept.3) refl)

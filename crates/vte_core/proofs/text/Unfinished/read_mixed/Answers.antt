@@ -1,4 +1,4 @@
-use Rattle.std.proofs.Common.{◌≡◌, ◌≤◌, sym, arith, length-take, take}
+use Rattle.std.proofs.Common.{ℕ, ◌≡◌, ◌≤◌, sym, arith, length-take, take}
 use Rattle.std.proofs.lemmas.List.{take-take}
 use Rattle.vte_core.proofs.Fronts.{reads_front, reads_byte}
 use Rattle.vte_core.proofs.Ground.{printed-no_esc}
@@ -6,18 +6,10 @@ use Rattle.vte_core.proofs.Runs.{all_printed-take}
 use Rattle.vte_core.proofs.text.Unfinished.read_mixed.Goals as goal
 
 pub slice_bounds-read_front-end : goal.slice_bounds-read_front-end
-slice_bounds-read_front-end g c = omega (
-  arith,
-  length-take c.text_len-len.result c.args.bytes.now,
-  c.text_len-len.ensures.within,
-)
+slice_bounds-read_front-end g c = omega (arith, length-take {A = ℕ}, c.text_len-len.ensures.within)
 
 pub slice_bounds-read_printed-end : goal.slice_bounds-read_printed-end
-slice_bounds-read_printed-end g c = omega (
-  arith,
-  length-take c.text_len-len.result c.args.bytes.now,
-  c.text_len-len.ensures.within,
-)
+slice_bounds-read_printed-end g c = omega (arith, length-take {A = ℕ}, c.text_len-len.ensures.within)
 
 pub returns-then-len-eq0 : goal.returns-then-len-eq0
 returns-then-len-eq0 g c = reads_byte g.P.Perform.step c.args.self.now c.args.performer.now c.args.bytes.now
