@@ -1,7 +1,6 @@
 -- Every cell that an edit makes is one that a cell can be.
 use Rattle.std.proofs.Common.{◌≡◌, ℕ, zero, suc, ◌<◌, ◌≤◌, ◌==◌, inl, inr, ⊎_elim, Bool, true, false, ◌||◌, List, []}
-use Rattle.std.proofs.Common.{◌∷◌, ◌++◌, length, Some, nat_lt, sym, refl, ap, subst, ◌∙◌, arith, rules}
-use Rattle.std.proofs.Common.{length-append}
+use Rattle.std.proofs.Common.{◌∷◌, ◌++◌, length, Some, nat_lt, sym, refl, ap, subst, ◌∙◌, arith, rules, length-append}
 use Rattle.std.specs.Prelude.{All, Contains}
 use Rattle.std.specs.Char.{IsScalar}
 use Rattle.std.proofs.lemmas.Bool.{cases_lt, false≢true, eqb-true, and_parts, cond_both}
@@ -122,7 +121,18 @@ wide-with (y ∷ ys) c w b h e = wide-snoc y ys c w b h e
 pub widened_by-is : (cs : List ℕ) (c : ℕ) → is_widened_by cs c ≡ true → c ≡ 0xFE0F
 widened_by-is cs c h = eqb-true c 0xFE0F (and_parts (c == 0xFE0F) (nat_lt 1 (str_width false (text_with cs c))) h).0
 
--- the cell that has taken the character
+-- the cell that has taken the character, as wide as w says
+IsCell-taken : (x : CellView) (c : ℕ) (w : Bool) → IsCell x → IsScalar c → drawn_columns c ≡ Some 0
+    → x.continuation ≡ false → has_room x.text ≡ true → IsWideAs (text_with x.text c) w
+    → IsCell (record { text = text_with x.text c; wide = w; continuation = x.continuation; attrs = x.attrs })
+IsCell-taken x c w h s z n r wide = record {
+  characters = text-with x.text c h.characters (drawn-is c 0 z).1;
+  short = short-with x.text c h.short r;
+  scalars = scalars-with x.text c h.scalars s;
+  wide = wide;
+  blank = λ e. absurd (false≢true (sym n ∙ e));
+}
+
 pub IsCell-with : (x : CellView) (c : ℕ) → IsCell x → IsScalar c → drawn_columns c ≡ Some 0 → x.continuation ≡ false
     → has_room x.text ≡ true
     → IsCell (record {
@@ -131,13 +141,8 @@ pub IsCell-with : (x : CellView) (c : ℕ) → IsCell x → IsScalar c → drawn
       continuation = x.continuation;
       attrs = x.attrs;
     })
-IsCell-with x c h s z n r = record {
-  characters = text-with x.text c h.characters (drawn-is c 0 z).1;
-  short = short-with x.text c h.short r;
-  scalars = scalars-with x.text c h.scalars s;
-  wide = wide-with x.text c x.wide (is_widened_by x.text c) h.wide (widened_by-is x.text c);
-  blank = λ e. absurd (false≢true (sym n ∙ e));
-}
+IsCell-with x c h s z n r = IsCell-taken x c (x.wide || is_widened_by x.text c) h s z n r
+    (wide-with x.text c x.wide (is_widened_by x.text c) h.wide (widened_by-is x.text c))
 
 pub IsCell-appended : (x : CellView) (c : ℕ) → IsCell x → IsScalar c → drawn_columns c ≡ Some 0
     → x.continuation ≡ false → IsCell (appended x c)
@@ -152,16 +157,9 @@ pub IsCell-with_plain : (x : CellView) (c : ℕ) → IsCell x → IsScalar c →
       continuation = x.continuation;
       attrs = x.attrs;
     })
-IsCell-with_plain x c h s z n r =
-    let with = IsCell-with x c h s z n r in
-    record {
-      characters = with.characters;
-      short = with.short;
-      scalars = with.scalars;
-      wide = subst (IsWideAs (text_with x.text c)) (or-false x.wide)
-          (wide-with x.text c x.wide false h.wide (λ e. absurd (false≢true e)));
-      blank = with.blank;
-    }
+IsCell-with_plain x c h s z n r = IsCell-taken x c x.wide h s z n r
+    (subst (IsWideAs (text_with x.text c)) (or-false x.wide)
+    (wide-with x.text c x.wide false h.wide (λ e. absurd (false≢true e))))
 
 pub IsCell-plain : (x : CellView) (c : ℕ) → IsCell x → IsScalar c → drawn_columns c ≡ Some 0
     → x.continuation ≡ false → IsCell (appended_plain x c)
@@ -190,33 +188,26 @@ scalar-printable c p = search rules
 pub IsCell-printable : (c : ℕ) (a : Attrs) → IsPrintable c → IsCell (cell_of c a)
 IsCell-printable c a p = let d = printable-is c p in IsCell-of c a (scalar-printable c p) d.0 (omega (arith, d.1))
 
--- a space's cell with another character
-pub replaced-is : (x : CellView) (t : List ℕ) (c : ℕ) (a : Attrs) → x ≡ cell_of 32 a → IsPrintable c → t ≡ c ∷ []
-    → record { text = t; wide = x.wide; continuation = x.continuation; attrs = x.attrs } ≡ cell_of c a
-replaced-is x t c a e p et =
-    let w = ap (λ (y : CellView). y.wide) e ∙ ap (λ n. n == 2) (space_is_narrow ∙ sym (printable-is c p).1) in
-    let q = ap (λ (y : CellView). y.continuation) e in
-    let b = ap (λ (y : CellView). y.attrs) e in
-    λ i. record { text = et i; wide = w i; continuation = q i; attrs = b i }
-
-pub IsCell-replaced : (x : CellView) (t : List ℕ) (c : ℕ) (a : Attrs) → x ≡ cell_of 32 a → IsPrintable c → t ≡ c ∷ []
-    → IsCell (record { text = t; wide = x.wide; continuation = x.continuation; attrs = x.attrs })
-IsCell-replaced x t c a e p et = rw (replaced-is x t c a e p et) (IsCell-printable c a p)
-
--- an ideographic space's cell with another wide character
-pub wide_replaced-is : (x : CellView) (t : List ℕ) (c : ℕ) (a : Attrs) → x ≡ cell_of 0x3000 a → IsWide c → t ≡ c ∷ []
-    → record { text = t; wide = x.wide; continuation = x.continuation; attrs = x.attrs } ≡ cell_of c a
-wide_replaced-is x t c a e p et =
-    let w = ap (λ (y : CellView). y.wide) e
-    ∙ ap (λ n. n == 2) ((drawn-is 0x3000 2 wide_space_is_drawn).1 ∙ sym (drawn-is c 2 p).1) in
-    let q = ap (λ (y : CellView). y.continuation) e in
-    let b = ap (λ (y : CellView). y.attrs) e in
-    λ i. record { text = et i; wide = w i; continuation = q i; attrs = b i }
-
 pub IsCell-wide : (c : ℕ) (a : Attrs) → IsScalar c → IsWide c → IsCell (cell_of c a)
 IsCell-wide c a s p = let d = drawn-is c 2 p in IsCell-of c a s d.0 (omega (arith, d.1))
 
-pub IsCell-wide_replaced : (x : CellView) (t : List ℕ) (c : ℕ) (a : Attrs) → x ≡ cell_of 0x3000 a → IsScalar c
-    → IsWide c → t ≡ c ∷ []
-    → IsCell (record { text = t; wide = x.wide; continuation = x.continuation; attrs = x.attrs })
-IsCell-wide_replaced x t c a e s p et = rw (wide_replaced-is x t c a e p et) (IsCell-wide c a s p)
+-- the cell of d with another character, as wide as d
+replaced-like : (x : CellView) (t : List ℕ) (c d : ℕ) (a : Attrs) → x ≡ cell_of d a → columns_of d ≡ columns_of c
+    → t ≡ c ∷ []
+    → record { text = t; wide = x.wide; continuation = x.continuation; attrs = x.attrs } ≡ cell_of c a
+replaced-like x t c d a e same et =
+    let w = ap (λ (y : CellView). y.wide) e ∙ ap (λ n. n == 2) same in
+    let q = ap (λ (y : CellView). y.continuation) e in
+    let b = ap (λ (y : CellView). y.attrs) e in
+    λ i. record { text = et i; wide = w i; continuation = q i; attrs = b i }
+
+-- a space's cell
+pub replaced-is : (x : CellView) (t : List ℕ) (c : ℕ) (a : Attrs) → x ≡ cell_of 32 a → IsPrintable c → t ≡ c ∷ []
+    → record { text = t; wide = x.wide; continuation = x.continuation; attrs = x.attrs } ≡ cell_of c a
+replaced-is x t c a e p et = replaced-like x t c 32 a e (space_is_narrow ∙ sym (printable-is c p).1) et
+
+-- an ideographic space's cell
+pub wide_replaced-is : (x : CellView) (t : List ℕ) (c : ℕ) (a : Attrs) → x ≡ cell_of 0x3000 a → IsWide c → t ≡ c ∷ []
+    → record { text = t; wide = x.wide; continuation = x.continuation; attrs = x.attrs } ≡ cell_of c a
+wide_replaced-is x t c a e p et =
+    replaced-like x t c 0x3000 a e ((drawn-is 0x3000 2 wide_space_is_drawn).1 ∙ sym (drawn-is c 2 p).1) et

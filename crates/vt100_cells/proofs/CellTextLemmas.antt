@@ -1,13 +1,12 @@
 -- A text with one more character.
-use Rattle.std.proofs.Common.{◌≡◌, ℕ, zero, suc, ◌+◌, ◌-◌, ◌<◌, ◌≤◌, Bool, true, false, ◌&&◌, List, [], ◌∷◌, ◌++◌}
-use Rattle.std.proofs.Common.{length, take}
+use Rattle.std.proofs.Common.{◌≡◌, ℕ, zero, suc, ◌+◌, ◌-◌, ◌<◌, ◌≤◌, true, ◌&&◌, List, [], ◌∷◌, ◌++◌, length, take}
 use Rattle.std.proofs.Common.{take_all, drop, set, replicate, sym, refl, ap, ◌∙◌, arith, length-append, length-take}
-use Rattle.std.proofs.Common.{length-drop}
-use Rattle.std.proofs.Common.{nat_eq, nat_lt, rules, append-nil, ◌/◌, ◌%◌}
+use Rattle.std.proofs.Common.{length-drop, nat_eq, nat_lt, rules, append-nil, ◌/◌, ◌%◌}
 use Rattle.std.specs.Prelude.{encode_utf8_all, chars, IsUtf8, slice_index}
 use Rattle.std.specs.Char.{IsScalar, encode_utf8}
 use Rattle.std.specs.Str.{IsAscii}
 use Rattle.std.proofs.lemmas.Bool.{ltb-true, and_parts, eqb-true, eq-eqb}
+use Rattle.std.proofs.Math.Bool.{and-true, and_assoc}
 use Rattle.std.proofs.lemmas.Cmp.{nat_list_eq_equiv}
 use Rattle.std.specs.Cmp.{both_ways}
 use Rattle.vt100_cells.specs.CellEq.{text_eq-true}
@@ -19,8 +18,8 @@ use Rattle.std.proofs.lemmas.Slice.{take-put_mid, drop-put_mid}
 use borrow.Rule.Slice.PartMut.{put_mid}
 use Rattle.vt100_cells.specs.declared.cell_text.CellText.TheInside.{Inside}
 use Rattle.vt100_cells.specs.Cell.{has_room, text_eq}
-use Rattle.vt100_cells.specs.CellFields.{IsText, text_of, length-text_of, fields_of, fields_of-text_of}
-use Rattle.vt100_cells.specs.CellFields.{padded, start_eq, is_short}
+use Rattle.vt100_cells.specs.CellFields.{IsText, text_of, length-text_of, fields_of, fields_of-text_of, padded}
+use Rattle.vt100_cells.specs.CellFields.{start_eq, is_short}
 
 pub len-text_of : (t : Inside) (cs : List ℕ) → IsText t → text_of t ≡ cs → t.len ≡ length (encode_utf8_all cs)
 len-text_of t cs h e = sym (length-text_of t h) ∙ ap (λ x. length (encode_utf8_all x)) e
@@ -54,25 +53,25 @@ text_of-pushed t k ys h e f =
 chars-encode : (c : ℕ) → IsScalar c → chars (encode_utf8 c) ≡ c ∷ []
 chars-encode c h = ap chars (sym (append-nil (encode_utf8 c))) ∙ chars-encodes (c ∷ []) (search (rules, h))
 
--- the same where the numbers and the bytes are those of the code
-pub IsText-push : (t : Inside) (cs : List ℕ) (m k : ℕ) (ys : List ℕ) (c : ℕ) → IsText t → text_of t ≡ cs
-    → has_room cs ≡ true → ys ≡ encode_utf8 c → m ≡ length (encode_utf8 c) → k ≡ m → IsUtf8 (encode_utf8 c)
-    → IsText (record { bytes = put_mid t.len k t.bytes ys; len = t.len + m })
-IsText-push t cs m k ys c h v l e em ek u =
-    let n = len-text_of t cs h v in
-    let b = (len_utf8_bounds c).1 in
-    let room : length (encode_utf8_all cs) < 18 = ltb-true (length (encode_utf8_all cs)) 18 l in
-    rw (ek, em, e) (IsText-pushed t (length (encode_utf8 c)) (encode_utf8 c) h u refl (omega (arith, length-encode c)))
+-- the fields are those of a text
+abbrev pub IsTextOf : Inside → List ℕ → Type 0
+IsTextOf t cs = IsText t × (text_of t ≡ cs)
 
-pub text_of-push : (t : Inside) (cs : List ℕ) (m k : ℕ) (ys : List ℕ) (c : ℕ) → IsText t → text_of t ≡ cs
+-- the same where the numbers and the bytes are those of the code
+pub text-push : (t : Inside) (cs : List ℕ) (m k : ℕ) (ys : List ℕ) (c : ℕ) → IsText t → text_of t ≡ cs
     → has_room cs ≡ true → ys ≡ encode_utf8 c → m ≡ length (encode_utf8 c) → k ≡ m → IsScalar c
-    → text_of (record { bytes = put_mid t.len k t.bytes ys; len = t.len + m }) ≡ cs ++ c ∷ []
-text_of-push t cs m k ys c h v l e em ek u =
+    → IsTextOf (record { bytes = put_mid t.len k t.bytes ys; len = t.len + m }) (cs ++ c ∷ [])
+text-push t cs m k ys c h v l e em ek s =
     let n = len-text_of t cs h v in
     let b = (len_utf8_bounds c).1 in
     let room : length (encode_utf8_all cs) < 18 = ltb-true (length (encode_utf8_all cs)) 18 l in
-    rw (ek, em, e) (text_of-pushed t (length (encode_utf8 c)) (encode_utf8 c) h refl (omega (arith, length-encode c))
-    ∙ ap (λ x. x ++ chars (encode_utf8 c)) v ∙ ap (λ x. cs ++ x) (chars-encode c u))
+    let j = length (encode_utf8 c) in
+    let fits : t.len + j ≤ 21 = omega (arith, length-encode c) in
+    rw (ek, em, e) (
+      IsText-pushed t j (encode_utf8 c) h (IsUtf8-encode c s) refl fits,
+      text_of-pushed t j (encode_utf8 c) h refl fits ∙ ap (λ x. x ++ chars (encode_utf8 c)) v
+          ∙ ap (λ x. cs ++ x) (chars-encode c s),
+    )
 
 -- ---- one ASCII character
 
@@ -91,20 +90,18 @@ IsText-ascii c h = record {
 pub text_of-ascii : (c : ℕ) → c < 128 → text_of (record { bytes = c ∷ replicate 20 0; len = 1 }) ≡ c ∷ []
 text_of-ascii c h = chars-IsAscii (c ∷ []) (IsAscii-one c h)
 
+-- the fields of a text whose bytes are known
+known-fields : (t : Inside) (cs bs : List ℕ) → IsText t → text_of t ≡ cs → encode_utf8_all cs ≡ bs
+    → t ≡ record { bytes = bs ++ replicate (21 - length bs) 0; len = length bs }
+known-fields t cs bs h e known = sym (fields_of-text_of t h) ∙ ap fields_of e
+    ∙ ap (λ xs. record { bytes = xs ++ replicate (21 - length xs) 0; len = length xs }) known
+
 -- the character of a space's text is replaced
-space-fields : (t : Inside) → IsText t → text_of t ≡ 32 ∷ [] → t ≡ record { bytes = 32 ∷ replicate 20 0; len = 1 }
-space-fields t h e =
-    let one : encode_utf8_all (32 ∷ []) ≡ 32 ∷ [] = ap (λ bs. bs ++ []) (encode_ascii 32 (omega arith)) in
-    sym (fields_of-text_of t h) ∙ ap fields_of e ∙ ap (λ bs.
-    record { bytes = bs ++ replicate (21 - length bs) 0; len = length bs }) one
-
-pub IsText-replaced : (t : Inside) (c : ℕ) → IsText t → text_of t ≡ 32 ∷ [] → c < 128
-    → IsText (record { bytes = set t.bytes 0 c; len = t.len })
-IsText-replaced t c h e l = rw (space-fields t h e) (IsText-ascii c l)
-
-pub text_of-replaced : (t : Inside) (c : ℕ) → IsText t → text_of t ≡ 32 ∷ [] → c < 128
-    → text_of (record { bytes = set t.bytes 0 c; len = t.len }) ≡ c ∷ []
-text_of-replaced t c h e l = rw (space-fields t h e) (text_of-ascii c l)
+pub text-replaced : (t : Inside) (c : ℕ) → IsText t → text_of t ≡ 32 ∷ [] → c < 128
+    → IsTextOf (record { bytes = set t.bytes 0 c; len = t.len }) (c ∷ [])
+text-replaced t c h e l =
+    rw (known-fields t (32 ∷ []) (32 ∷ []) h e (ap (λ bs. bs ++ []) (encode_ascii 32 (omega arith))))
+    (IsText-ascii c l, text_of-ascii c l)
 
 -- ---- one character of three bytes
 
@@ -124,51 +121,26 @@ IsText-none = record {
 text_of-none : text_of (record { bytes = replicate 21 0; len = 0 }) ≡ []
 text_of-none = chars-encodes [] refl
 
-IsText-three : (c : ℕ) → IsScalar c → 0x800 ≤ c → c < 0x1_0000
-    → IsText (record {
+text-three : (c : ℕ) → IsScalar c → 0x800 ≤ c → c < 0x1_0000
+    → IsTextOf (record {
       bytes = (224 + c / 4096) ∷ (128 + c / 64 % 64) ∷ (128 + c % 64) ∷ replicate 18 0;
       len = 3;
-    })
-IsText-three c s l h =
+    }) (c ∷ [])
+text-three c s l h =
     let e = encode-three c l h in
-    IsText-push (record { bytes = replicate 21 0; len = 0 }) [] 3 3
-    ((224 + c / 4096) ∷ (128 + c / 64 % 64) ∷ (128 + c % 64) ∷ []) c IsText-none text_of-none refl (sym e)
-    (sym (ap length e)) refl (IsUtf8-encode c s)
-
-text_of-three : (c : ℕ) → IsScalar c → 0x800 ≤ c → c < 0x1_0000
-    → text_of (record {
-      bytes = (224 + c / 4096) ∷ (128 + c / 64 % 64) ∷ (128 + c % 64) ∷ replicate 18 0;
-      len = 3;
-    }) ≡ c ∷ []
-text_of-three c s l h =
-    let e = encode-three c l h in
-    text_of-push (record { bytes = replicate 21 0; len = 0 }) [] 3 3
+    text-push (record { bytes = replicate 21 0; len = 0 }) [] 3 3
     ((224 + c / 4096) ∷ (128 + c / 64 % 64) ∷ (128 + c % 64) ∷ []) c IsText-none text_of-none refl (sym e)
     (sym (ap length e)) refl s
 
 -- an ideographic space is replaced
-wide_space-fields : (t : Inside) → IsText t → text_of t ≡ 0x3000 ∷ []
-    → t ≡ record { bytes = 227 ∷ 128 ∷ 128 ∷ replicate 18 0; len = 3 }
-wide_space-fields t h e =
-    let one : encode_utf8_all (0x3000 ∷ []) ≡ 227 ∷ 128 ∷ 128 ∷ [] =
-    ap (λ bs. bs ++ []) (encode-three 0x3000 (omega arith) (omega arith)) in
-    sym (fields_of-text_of t h) ∙ ap fields_of e ∙ ap (λ bs.
-    record { bytes = bs ++ replicate (21 - length bs) 0; len = length bs }) one
-
-pub IsText-wide : (t : Inside) (c : ℕ) → IsText t → text_of t ≡ 0x3000 ∷ [] → IsScalar c → 0x800 ≤ c → c < 0x1_0000
-    → IsText (record {
+pub text-wide : (t : Inside) (c : ℕ) → IsText t → text_of t ≡ 0x3000 ∷ [] → IsScalar c → 0x800 ≤ c → c < 0x1_0000
+    → IsTextOf (record {
       bytes = set (set (set t.bytes 0 (224 + c / 4096)) 1 (128 + c / 64 % 64)) 2 (128 + c % 64);
       len = t.len;
-    })
-IsText-wide t c h e s l u = rw (wide_space-fields t h e) (IsText-three c s l u)
-
-pub text_of-wide : (t : Inside) (c : ℕ) → IsText t → text_of t ≡ 0x3000 ∷ [] → IsScalar c → 0x800 ≤ c
-    → c < 0x1_0000
-    → text_of (record {
-      bytes = set (set (set t.bytes 0 (224 + c / 4096)) 1 (128 + c / 64 % 64)) 2 (128 + c % 64);
-      len = t.len;
-    }) ≡ c ∷ []
-text_of-wide t c h e s l u = rw (wide_space-fields t h e) (text_of-three c s l u)
+    }) (c ∷ [])
+text-wide t c h e s l u =
+    rw (known-fields t (0x3000 ∷ []) (227 ∷ 128 ∷ 128 ∷ []) h e
+    (ap (λ bs. bs ++ []) (encode-three 0x3000 (omega arith) (omega arith)))) (text-three c s l u)
 
 -- texts are the same where their fields are
 pub same-fields : (t u : Inside) → IsText t → IsText u
@@ -186,43 +158,36 @@ same-fields t u ht hu = both_ways (nat_eq t.len u.len && text_eq t.bytes u.bytes
 
 -- ---- starts and rests
 
-pub start-fields : (t u : Inside) → IsText t → IsText u
-    → (nat_eq t.len u.len && text_eq (take 5 t.bytes) (take 5 u.bytes)) ≡ start_eq (text_of t) (text_of u)
-start-fields t u ht hu =
-    let m = length-text_of t ht in
-    let n = length-text_of u hu in
-    let p = fields_of-text_of t ht in
-    let q = fields_of-text_of u hu in
-    λ i. nat_eq (sym m i) (sym n i) && text_eq (take 5 (sym p i).bytes) (take 5 (sym q i).bytes)
+pub short-fields : (t : Inside) (cs : List ℕ) → IsText t → text_of t ≡ cs → nat_lt t.len 6 ≡ is_short cs
+short-fields t cs h e = ap (λ n. nat_lt n 6) (sym (length-text_of t h)) ∙ ap is_short e
 
-pub short-fields : (t : Inside) → IsText t → nat_lt t.len 6 ≡ is_short (text_of t)
-short-fields t h = ap (λ n. nat_lt n 6) (sym (length-text_of t h))
+module _ (t u : Inside) (cs ds : List ℕ) (ht : IsText t) (hu : IsText u) (et : text_of t ≡ cs) (eu : text_of u ≡ ds)
+  where
+    pub start-fields : (nat_eq t.len u.len && text_eq (take 5 t.bytes) (take 5 u.bytes)) ≡ start_eq cs ds
+    start-fields =
+        let m = length-text_of t ht in
+        let n = length-text_of u hu in
+        let p = fields_of-text_of t ht in
+        let q = fields_of-text_of u hu in
+        (λ i. nat_eq (sym m i) (sym n i) && text_eq (take 5 (sym p i).bytes) (take 5 (sym q i).bytes))
+        ∙ (λ i. start_eq (et i) (eu i))
 
-take-short : (n : ℕ) (xs : List ℕ) → n ≤ 5 → take n (take 5 xs) ≡ take n xs
-take-short n xs h = take-take n 5 xs h
+    -- short texts with the same start are the same
+    pub short-same : is_short cs ≡ true → start_eq cs ds ≡ true → cs ≡ ds
+    short-same short h =
+        let p = and_parts (nat_eq t.len u.len) (text_eq (take 5 t.bytes) (take 5 u.bytes)) (start-fields ∙ h) in
+        let n = eqb-true t.len u.len p.0 in
+        let bs = text_eq-true (take 5 t.bytes) (take 5 u.bytes) p.1 in
+        let le : t.len ≤ 5 = omega (arith, ltb-true t.len 6 (short-fields t cs ht et ∙ short)) in
+        sym et
+        ∙ ap chars (sym (take-take t.len 5 t.bytes le) ∙ ap (take t.len) bs ∙ take-take t.len 5 u.bytes le
+        ∙ ap (λ k. take k u.bytes) n) ∙ eu
 
--- short texts with the same start are the same
-pub short-same : (t u : Inside) → IsText t → IsText u → nat_lt t.len 6 ≡ true
-    → (nat_eq t.len u.len && text_eq (take 5 t.bytes) (take 5 u.bytes)) ≡ true
-    → true ≡ text_eq (text_of t) (text_of u)
-short-same t u ht hu short h =
-    let p = and_parts (nat_eq t.len u.len) (text_eq (take 5 t.bytes) (take 5 u.bytes)) h in
-    let n = eqb-true t.len u.len p.0 in
-    let bs = text_eq-true (take 5 t.bytes) (take 5 u.bytes) p.1 in
-    let less : t.len < 6 = ltb-true t.len 6 short in
-    let le : t.len ≤ 5 = omega (arith, less) in
-    let e : text_of t ≡ text_of u =
-    ap chars (sym (take-short t.len t.bytes le) ∙ ap (take t.len) bs ∙ take-short t.len u.bytes le
-    ∙ ap (λ k. take k u.bytes) n) in
-    sym (ap (text_eq (text_of t)) (sym e) ∙ nat_list_eq_equiv.refl (text_of t))
-
--- where the starts are the same, texts are the same where all bytes are
-pub rest-same : (t u : Inside) → IsText t → IsText u
-    → (nat_eq t.len u.len && text_eq (take 5 t.bytes) (take 5 u.bytes)) ≡ true
-    → text_eq t.bytes u.bytes ≡ text_eq (text_of t) (text_of u)
-rest-same t u ht hu h =
-    let p = and_parts (nat_eq t.len u.len) (text_eq (take 5 t.bytes) (take 5 u.bytes)) h in
-    ap (λ b. b && text_eq t.bytes u.bytes) (sym p.0) ∙ same-fields t u ht hu
+    -- where the starts are the same, texts are the same where all bytes are
+    pub rest-same : start_eq cs ds ≡ true → text_eq t.bytes u.bytes ≡ text_eq cs ds
+    rest-same h =
+        let p = and_parts (nat_eq t.len u.len) (text_eq (take 5 t.bytes) (take 5 u.bytes)) (start-fields ∙ h) in
+        ap (λ b. b && text_eq t.bytes u.bytes) (sym p.0) ∙ same-fields t u ht hu ∙ (λ i. text_eq (et i) (eu i))
 
 -- the same texts have the same start
 pub start_eq-of_same : (x y : List ℕ) → text_eq x y ≡ true → start_eq x y ≡ true
@@ -233,23 +198,15 @@ start_eq-of_same x y h =
 
 -- ---- texts that are compared byte by byte
 
-and-last : (b : Bool) → (b && true) ≡ b
-and-last true = refl
-and-last false = refl
-
-and-moved : (a b c : Bool) → (a && (b && c)) ≡ ((a && b) && c)
-and-moved true b c = refl
-and-moved false b c = refl
-
 text_eq-step : (xs ys : List ℕ) (i : ℕ) → i < length xs → i < length ys
     → text_eq (take (suc i) xs) (take (suc i) ys) ≡ (text_eq (take i xs) (take i ys)
     && nat_eq (slice_index xs i) (slice_index ys i))
 text_eq-step [] ys i h k = absurd (omega (arith, h))
 text_eq-step (x ∷ xs) [] i h k = absurd (omega (arith, k))
-text_eq-step (x ∷ xs) (y ∷ ys) zero h k = and-last (nat_eq x y)
+text_eq-step (x ∷ xs) (y ∷ ys) zero h k = and-true (nat_eq x y)
 text_eq-step (x ∷ xs) (y ∷ ys) (suc i) h k =
     ap (λ b. nat_eq x y && b) (text_eq-step xs ys i (omega (arith, h)) (omega (arith, k)))
-    ∙ and-moved (nat_eq x y) (text_eq (take i xs) (take i ys)) (nat_eq (slice_index xs i) (slice_index ys i))
+    ∙ sym (and_assoc (nat_eq x y) (text_eq (take i xs) (take i ys)) (nat_eq (slice_index xs i) (slice_index ys i)))
 
 -- one byte more
 pub text_eq-next : (xs ys : List ℕ) (i : ℕ) → i < length xs → i < length ys

@@ -1,8 +1,8 @@
 -- What the code does to one cell and to several, column by column.
 use Rattle.std.proofs.Common.{◌≡◌, ℕ, zero, suc, ◌+◌, ◌-◌, ◌<◌, ◌≤◌, ◌==◌, true, false, cond, ◌&&◌, List, length, set}
-use Rattle.std.proofs.Common.{take, drop, replicate, sym, refl, ap, ◌∙◌, arith, length-set, length-append, length-take}
-use Rattle.std.proofs.Common.{length-drop, ⊎_elim, nat_lt, nat_le}
-use Rattle.std.proofs.lemmas.Bool.{cases_lt}
+use Rattle.std.proofs.Common.{take, drop, replicate, sym, refl, ap, ◌∙◌, arith, length-append, length-take, length-drop}
+use Rattle.std.proofs.Common.{⊎_elim, nat_lt, nat_le}
+use Rattle.std.proofs.lemmas.Bool.{cases_lt, ne_eqb}
 use Rattle.std.proofs.lemmas.Bool.Decides.{nat_tests}
 use Rattle.std.proofs.lemmas.List.{places, length-replicate}
 use borrow.Rule.Slice.PartMut.{put_mid}
@@ -11,18 +11,14 @@ use Rattle.vt100_cells.specs.Cell.{CellView, empty_cell, continuation_cell, cell
 use Rattle.vt100_cells.specs.Line.{IsPaired, put, pair_wiped, wiped, left_cleared, right_cleared}
 use Rattle.vt100_cells.specs.Cells.{cell_at, by_position}
 use Rattle.vt100_cells.proofs.ListLemmas.{cell_at_past, by_position_is, set-by_position, same-by_position}
-use Rattle.vt100_cells.proofs.ListLemmas.{by_position-same, sets, reads, reads_len, cell_at-set, second_half_within}
+use Rattle.vt100_cells.proofs.ListLemmas.{by_position-same, sets, reads, reads_len, second_half_within}
 
 -- ---- the halves that are left at either side
-
-left-wide : (f : ℕ → CellView) (i k : ℕ) → 0 < i → (f (i - 1)).wide ≡ true
-    → cond (k == (i - 1)) (empty_cell (f (i - 1)).attrs) (f k) ≡ left_cleared f i k
-left-wide f i k h w = grind (arith, nat_tests)
 
 pub clears-left : (xs : List CellView) (i : ℕ) → 0 < i → i < length xs → (cell_at xs (i - 1)).wide ≡ true
     → set xs (i - 1) (empty_cell (cell_at xs (i - 1)).attrs) ≡ by_position (length xs) (left_cleared (cell_at xs) i)
 clears-left xs i h l w = set-by_position xs (i - 1) (empty_cell (cell_at xs (i - 1)).attrs)
-    (left_cleared (cell_at xs) i) (omega arith) (λ k. left-wide (cell_at xs) i k h w)
+    (left_cleared (cell_at xs) i) (omega arith) (λ k. grind (arith, nat_tests))
 
 left-narrow : (f : ℕ → CellView) (i k : ℕ) → (0 < i → (f (i - 1)).wide ≡ false) → f k ≡ left_cleared f i k
 left-narrow f zero k w = grind (arith, nat_tests)
@@ -32,21 +28,14 @@ pub clears-no_left : (xs : List CellView) (i : ℕ) → (0 < i → (cell_at xs (
     → xs ≡ by_position (length xs) (left_cleared (cell_at xs) i)
 clears-no_left xs i w = same-by_position xs (left_cleared (cell_at xs) i) (λ k. left-narrow (cell_at xs) i k w)
 
-right-one : (f : ℕ → CellView) (e k : ℕ) → (f e).continuation ≡ true
-    → cond (k == e) (empty_cell (f e).attrs) (f k) ≡ right_cleared f e k
-right-one f e k c = grind (arith, nat_tests)
-
 pub clears-right : (xs : List CellView) (e : ℕ) → e < length xs → (cell_at xs e).continuation ≡ true
     → set xs e (empty_cell (cell_at xs e).attrs) ≡ by_position (length xs) (right_cleared (cell_at xs) e)
 clears-right xs e h c = set-by_position xs e (empty_cell (cell_at xs e).attrs) (right_cleared (cell_at xs) e) h
-    (λ k. right-one (cell_at xs) e k c)
-
-right-none : (f : ℕ → CellView) (e k : ℕ) → (f e).continuation ≡ false → f k ≡ right_cleared f e k
-right-none f e k c = grind (arith, nat_tests)
+    (λ k. grind (arith, nat_tests))
 
 pub clears-no_right : (xs : List CellView) (e : ℕ) → (cell_at xs e).continuation ≡ false
     → xs ≡ by_position (length xs) (right_cleared (cell_at xs) e)
-clears-no_right xs e c = same-by_position xs (right_cleared (cell_at xs) e) (λ k. right-none (cell_at xs) e k c)
+clears-no_right xs e c = same-by_position xs (right_cleared (cell_at xs) e) (λ k. grind (arith, nat_tests))
 
 -- a second half stands within the row
 pub continuation_within : (xs : List CellView) (e : ℕ) → (cell_at xs e).continuation ≡ true → e < length xs
@@ -55,10 +44,6 @@ continuation_within xs e c =
     in absurd (let no : true ≡ false = sym c ∙ ap (λ (x : CellView). x.continuation) d in cc)) (cases_lt e (length xs))
 
 -- ---- columns that are erased
-
-wiped-read : (n : ℕ) (f : ℕ → CellView) (s e : ℕ) (a : Attrs) (k : ℕ) → s < e
-    → ((cond (nat_le s k && nat_lt k e) (empty_cell a) (right_cleared (left_cleared f s) e k))) ≡ wiped f s e a k
-wiped-read n f s e a k h = grind (arith, nat_tests)
 
 filled-read : (zs ws : List CellView) (s n k : ℕ) (x : CellView) → s + n ≤ length zs → k < length zs
     → ws ≡ replicate n x → cell_at (put_mid s n zs ws) k ≡ cond (nat_le s k && nat_lt k (s + n)) x (cell_at zs k)
@@ -87,26 +72,9 @@ wipes xs ys zs ws s e m a x h l em ey ez ew ex =
     let es : s + m ≡ e = omega arith in
     filled-read zs ws s m k (empty_cell a) (omega arith) (omega arith) ew2
     ∙ ap (λ j. cond (nat_le s k && nat_lt k j) (empty_cell a) (cell_at zs k)) es
-    ∙ ap (cond (nat_le s k && nat_lt k e) (empty_cell a)) rz ∙ wiped-read n f s e a k h)
+    ∙ ap (cond (nat_le s k && nat_lt k e) (empty_cell a)) rz ∙ grind (arith, nat_tests))
 
 -- ---- a cell that is put, column by column
-
-put-wide_wide : (f : ℕ → CellView) (i k : ℕ) (x : CellView) (a : Attrs) → x.wide ≡ true → (f (i + 1)).wide ≡ true
-    → cond (k == (i + 2)) (empty_cell a) (cond (k == (i + 1)) continuation_cell (cond (k == i) x (left_cleared f i k)))
-    ≡ put f i x a k
-put-wide_wide f i k x a w n = grind (arith, nat_tests)
-
-put-wide_narrow : (f : ℕ → CellView) (i k : ℕ) (x : CellView) (a : Attrs) → x.wide ≡ true → (f (i + 1)).wide ≡ false
-    → cond (k == (i + 1)) continuation_cell (cond (k == i) x (left_cleared f i k)) ≡ put f i x a k
-put-wide_narrow f i k x a w n = grind (arith, nat_tests)
-
-put-narrow_wide : (f : ℕ → CellView) (i k : ℕ) (x : CellView) (a : Attrs) → x.wide ≡ false → (f i).wide ≡ true
-    → cond (k == (i + 1)) (cell_of 32 a) (cond (k == i) x (left_cleared f i k)) ≡ put f i x a k
-put-narrow_wide f i k x a w n = grind (arith, nat_tests)
-
-put-narrow_narrow : (f : ℕ → CellView) (i k : ℕ) (x : CellView) (a : Attrs) → x.wide ≡ false → (f i).wide ≡ false
-    → cond (k == i) x (left_cleared f i k) ≡ put f i x a k
-put-narrow_narrow f i k x a w n = grind (arith, nat_tests)
 
 module _ (xs ys : List CellView) (i : ℕ) (x : CellView) (a : Attrs) (cleared : ys
     ≡ by_position (length xs) (left_cleared (cell_at xs) i)) where
@@ -116,19 +84,19 @@ module _ (xs ys : List CellView) (i : ℕ) (x : CellView) (a : Attrs) (cleared :
   pub puts-narrow_narrow : x.wide ≡ false → (cell_at xs i).wide ≡ false
       → set ys i x ≡ by_position (length xs) (put (cell_at xs) i x a)
   puts-narrow_narrow w n = first ∙ by_position-same (length xs) _ (put (cell_at xs) i x a)
-      (λ k. put-narrow_narrow (cell_at xs) i k x a w n)
+      (λ k. grind (arith, nat_tests))
 
   pub puts-narrow_wide : (y : CellView) → y ≡ cell_of 32 a → x.wide ≡ false → (cell_at xs i).wide ≡ true
       → set (set ys i x) (i + 1) y ≡ by_position (length xs) (put (cell_at xs) i x a)
   puts-narrow_wide y ey w n = ap (set (set ys i x) (i + 1)) ey
       ∙ sets (length xs) _ (set ys i x) (i + 1) (cell_of 32 a) first
-      ∙ by_position-same (length xs) _ (put (cell_at xs) i x a) (λ k. put-narrow_wide (cell_at xs) i k x a w n)
+      ∙ by_position-same (length xs) _ (put (cell_at xs) i x a) (λ k. grind (arith, nat_tests))
 
   pub puts-wide_narrow : (y : CellView) → y ≡ continuation_cell → x.wide ≡ true → (cell_at xs (i + 1)).wide ≡ false
       → set (set ys i x) (i + 1) y ≡ by_position (length xs) (put (cell_at xs) i x a)
   puts-wide_narrow y ey w n = ap (set (set ys i x) (i + 1)) ey
       ∙ sets (length xs) _ (set ys i x) (i + 1) continuation_cell first
-      ∙ by_position-same (length xs) _ (put (cell_at xs) i x a) (λ k. put-wide_narrow (cell_at xs) i k x a w n)
+      ∙ by_position-same (length xs) _ (put (cell_at xs) i x a) (λ k. grind (arith, nat_tests))
 
   pub puts-wide_wide : (y z : CellView) → y ≡ continuation_cell → z ≡ empty_cell a → x.wide ≡ true
       → (cell_at xs (i + 1)).wide ≡ true → set (set (set ys i x) (i + 1) y) (i + 2) z
@@ -136,56 +104,32 @@ module _ (xs ys : List CellView) (i : ℕ) (x : CellView) (a : Attrs) (cleared :
   puts-wide_wide y z ey ez w n = ap (set (set (set ys i x) (i + 1) y) (i + 2)) ez
       ∙ sets (length xs) _ (set (set ys i x) (i + 1) y) (i + 2) (empty_cell a) (ap (set (set ys i x) (i + 1)) ey
       ∙ sets (length xs) _ (set ys i x) (i + 1) continuation_cell first)
-      ∙ by_position-same (length xs) _ (put (cell_at xs) i x a) (λ k. put-wide_wide (cell_at xs) i k x a w n)
+      ∙ by_position-same (length xs) _ (put (cell_at xs) i x a) (λ k. grind (arith, nat_tests))
 
 -- ---- both halves of a wide cell
 
-pair-wide : (f : ℕ → CellView) (i k : ℕ) → IsPaired f → (f i).wide ≡ true
-    → cond (k == (i + 1)) (empty_cell (f (i + 1)).attrs) (cond (k == i) (empty_cell (f i).attrs) (f k))
-    ≡ pair_wiped f i k
-pair-wide f i k p w = grind (arith, nat_tests, p.blank i)
-
-pair-continuation : (f : ℕ → CellView) (j k : ℕ) → IsPaired f → (f (j + 1)).continuation ≡ true
-    → cond (k == (j + 1)) (empty_cell (f (j + 1)).attrs) (cond (k == j) (empty_cell (f j).attrs) (f k))
-    ≡ pair_wiped f (j + 1) k
-pair-continuation f j k p c = grind (arith, nat_tests, p.blank (j + 1))
-
-pair-neither : (f : ℕ → CellView) (i k : ℕ) → (f i).wide ≡ false → (f i).continuation ≡ false → f k ≡ pair_wiped f i k
-pair-neither f i k w c = grind (arith, nat_tests)
-
 -- two cells that stand side by side are emptied, the left one first
-empties-two : (xs : List CellView) (j : ℕ) (k : ℕ) → j + 1 < length xs
-    → cell_at (set (set xs j (empty_cell (cell_at xs j).attrs)) (j + 1)
-    (empty_cell (cell_at (set xs j (empty_cell (cell_at xs j).attrs)) (j + 1)).attrs)) k
-    ≡ cond (k == (j + 1)) (empty_cell (cell_at xs (j + 1)).attrs)
-    (cond (k == j) (empty_cell (cell_at xs j).attrs) (cell_at xs k))
-empties-two xs j k h =
-    let y = empty_cell (cell_at xs j).attrs in
-    let same : cell_at (set xs j y) (j + 1) ≡ cell_at xs (j + 1) =
-    cell_at-set xs j y (j + 1) (omega arith)
-    ∙ (let e : ((j + 1) == j) ≡ false = grind (arith, nat_tests) in ap (λ b. cond b y (cell_at xs (j + 1))) e)
-    in
-    ap (λ (c : CellView). cell_at (set (set xs j y) (j + 1) (empty_cell c.attrs)) k) same
-    ∙ cell_at-set (set xs j y) (j + 1) (empty_cell (cell_at xs (j + 1)).attrs) k (omega (arith, length-set xs j y))
-    ∙ ap (cond (k == (j + 1)) (empty_cell (cell_at xs (j + 1)).attrs)) (cell_at-set xs j y k (omega arith))
-
 pair-of : (xs ys zs : List CellView) (j i : ℕ) → j + 1 < length xs → ys ≡ set xs j (empty_cell (cell_at xs j).attrs)
     → zs ≡ set ys (j + 1) (empty_cell (cell_at ys (j + 1)).attrs)
     → ((k : ℕ) → cond (k == (j + 1)) (empty_cell (cell_at xs (j + 1)).attrs)
     (cond (k == j) (empty_cell (cell_at xs j).attrs) (cell_at xs k)) ≡ pair_wiped (cell_at xs) i k)
     → zs ≡ by_position (length xs) (pair_wiped (cell_at xs) i)
 pair-of xs ys zs j i h ey ez same =
-    let e : zs ≡ set (set xs j (empty_cell (cell_at xs j).attrs)) (j + 1)
-    (empty_cell (cell_at (set xs j (empty_cell (cell_at xs j).attrs)) (j + 1)).attrs) =
-    ez ∙ ap (λ (l : List CellView). set l (j + 1) (empty_cell (cell_at l (j + 1)).attrs)) ey in
-    e ∙ by_position_is (length xs) (pair_wiped (cell_at xs) i) _ (simp length-set refl) (λ k _. empties-two xs j k h
-    ∙ same k)
+    let f = cell_at xs in
+    let n = length xs in
+    let y = empty_cell (f j).attrs in
+    let g : ℕ → CellView = λ k. cond (k == j) y (f k) in
+    let ry = ey ∙ set-by_position xs j y g (omega arith) (λ k. refl) in
+    let kept : cell_at ys (j + 1) ≡ f (j + 1) =
+    reads n g ys ry (j + 1) h ∙ ap (λ b. cond b y (f (j + 1))) (ne_eqb (j + 1) j (λ e. absurd (omega (arith, e)))) in
+    ez ∙ ap (λ (c : CellView). set ys (j + 1) (empty_cell c.attrs)) kept
+    ∙ sets n g ys (j + 1) (empty_cell (f (j + 1)).attrs) ry ∙ by_position-same n _ (pair_wiped f i) same
 
 pub clears-wide : (xs ys zs : List CellView) (i : ℕ) → IsPaired (cell_at xs) → (cell_at xs i).wide ≡ true
     → ys ≡ set xs i (empty_cell (cell_at xs i).attrs) → zs ≡ set ys (i + 1) (empty_cell (cell_at ys (i + 1)).attrs)
     → zs ≡ by_position (length xs) (pair_wiped (cell_at xs) i)
 clears-wide xs ys zs i p w ey ez = pair-of xs ys zs i i (second_half_within xs i p w) ey ez
-    (λ k. pair-wide (cell_at xs) i k p w)
+    (λ k. grind (arith, nat_tests, p.blank i))
 
 pub clears-continuation : (xs ys zs : List CellView) (i j : ℕ) → IsPaired (cell_at xs) → i ≡ j + 1 → i < length xs
     → (cell_at xs i).continuation ≡ true
@@ -194,9 +138,9 @@ pub clears-continuation : (xs ys zs : List CellView) (i j : ℕ) → IsPaired (c
 clears-continuation xs ys zs i j p e l c ey ez =
     let c2 : (cell_at xs (j + 1)).continuation ≡ true = ap (λ n. (cell_at xs n).continuation) (sym e) ∙ c in
     pair-of xs ys zs j (j + 1) (omega arith) ey (ez
-    ∙ ap (λ n. set ys n (empty_cell (cell_at ys n).attrs)) e) (λ k. pair-continuation (cell_at xs) j k p c2)
+    ∙ ap (λ n. set ys n (empty_cell (cell_at ys n).attrs)) e) (λ k. grind (arith, nat_tests, p.blank (j + 1)))
     ∙ ap (λ n. by_position (length xs) (pair_wiped (cell_at xs) n)) (sym e)
 
 pub clears-neither : (xs : List CellView) (i : ℕ) → (cell_at xs i).wide ≡ false → (cell_at xs i).continuation ≡ false
     → xs ≡ by_position (length xs) (pair_wiped (cell_at xs) i)
-clears-neither xs i w c = same-by_position xs (pair_wiped (cell_at xs) i) (λ k. pair-neither (cell_at xs) i k w c)
+clears-neither xs i w c = same-by_position xs (pair_wiped (cell_at xs) i) (λ k. grind (arith, nat_tests))

@@ -18,15 +18,12 @@ whole_if_wide f i p w = (elim (f i).continuation as (λ b. (f i).continuation �
 
 -- it is no second half
 pub base_col-whole : (f : ℕ → CellView) (col : ℕ) → IsPaired f → (f (base_col f col)).continuation ≡ false
-base_col-whole f col p = (elim (f (col - 1)).continuation as (λ b. (f (col - 1)).continuation ≡ b
-    → (f (cond b (col - 2) (col - 1))).continuation ≡ false) [
-      | true ↦ λ e.
-          let later = not_first f (col - 1) p e in
-          let k : col - 2 + 1 ≡ col - 1 = omega arith in
-          let wide : (f (col - 2)).wide ≡ true = sym (p.next (col - 2)) ∙ ap (λ j. (f j).continuation) k ∙ e in
-          whole_if_wide f (col - 2) p wide
-      | false ↦ λ e. e
-    ]) refl
+base_col-whole f col p =
+    cond_both (f (col - 1)).continuation (col - 2) (col - 1) (λ i. (f i).continuation ≡ false)
+    (λ e. let later = not_first f (col - 1) p e in
+    let k : col - 2 + 1 ≡ col - 1 = omega arith in
+    whole_if_wide f (col - 2) p (sym (p.next (col - 2)) ∙ ap (λ j. (f j).continuation) k ∙ e))
+    (λ e. e)
 
 pub base_col-within : (f : ℕ → CellView) (n col : ℕ) → 0 < col → col ≤ n → base_col f col < n
 base_col-within f n col h l = cond_both (f (col - 1)).continuation (col - 2) (col - 1) (λ i. i < n) (λ _. omega arith)

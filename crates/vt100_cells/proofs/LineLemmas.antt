@@ -1,10 +1,9 @@
 -- What edits keep true of a line.
-use Rattle.std.proofs.Common.{◌≡◌, ℕ, ◌+◌, ◌-◌, ◌<◌, ◌≤◌, ◌==◌, true, false, cond, ⊎_elim, ◌⊎◌, sym, refl, ap, ◌∙◌}
-use Rattle.std.proofs.Common.{arith}
-use Rattle.std.proofs.lemmas.Bool.{cases_eq, cases_lt, cases_order, ne_eqb, false≢true}
+use Rattle.std.proofs.Common.{◌≡◌, ℕ, ◌+◌, ◌-◌, ◌<◌, ◌≤◌, true, false, cond, ⊎_elim, ◌⊎◌, sym, refl, ap, ◌∙◌, arith}
+use Rattle.std.proofs.lemmas.Bool.{cases_eq, cases_lt, cases_order, false≢true}
 use Rattle.std.proofs.lemmas.Bool.Decides.{nat_tests}
 use Rattle.vt100_forms.specs.declared.attrs.Attrs.{Attrs}
-use Rattle.vt100_cells.specs.Cell.{CellView, default_cell, continuation_cell, cell_of, is_filled}
+use Rattle.vt100_cells.specs.Cell.{CellView, continuation_cell, cell_of, is_filled}
 use Rattle.vt100_cells.specs.Line.{IsPaired, Bounded, span_of, update, put, put_unflags, pair_wiped, wiped}
 use Rattle.vt100_cells.specs.Line.{wipe_unflags}
 use Rattle.vt100_cells.proofs.WidthLemmas.{space_is_narrow}
@@ -50,24 +49,12 @@ pub Bounded-put_narrow : (n : ℕ) (f : ℕ → CellView) (i : ℕ) (x : CellVie
     → i < n → x.wide ≡ false → Bounded n (put f i x a)
 Bounded-put_narrow n f i x a b p l w k h = grind (arith, nat_tests, b k h, p.next i)
 
--- directly past the end nothing wide began
-put-past : (n : ℕ) (f : ℕ → CellView) (i : ℕ) (x : CellView) (a : Attrs) (k : ℕ) → Bounded n f → IsPaired f → n ≤ k
-    → (k == i) ≡ false → (k == (i + 1)) ≡ false → ((k + 1) == i) ≡ false → k ≡ i + 2 → put f i x a k ≡ default_cell
-put-past n f i x a k b p h e1 e2 e3 e =
-    let u : f (i + 1 + 1) ≡ default_cell = b (i + 1 + 1) (omega (arith, e, h)) in
-    let v : (f (i + 1)).wide ≡ false = sym (p.next (i + 1)) ∙ ap (λ (c : CellView). c.continuation) u in
-    grind (arith, nat_tests, v, b k h)
-
 pub Bounded-put_wide : (n : ℕ) (f : ℕ → CellView) (i : ℕ) (x : CellView) (a : Attrs) → Bounded n f → IsPaired f
     → i + 1 < n → x.wide ≡ true → Bounded n (put f i x a)
 Bounded-put_wide n f i x a b p l w k h =
-    let e1 : (k == i) ≡ false = grind (arith, nat_tests) in
-    let e2 : (k == (i + 1)) ≡ false = grind (arith, nat_tests) in
-    let e3 : ((k + 1) == i) ≡ false = grind (arith, nat_tests) in
-    ⊎_elim
-    (λ (e : k ≡ i + 2). put-past n f i x a k b p h e1 e2 e3 e)
-    (λ ne. let e4 : (k == (i + 2)) ≡ false = ne_eqb k (i + 2) ne in rw (e1, e2, e3, e4) (b k h))
-    (cases_eq k (i + 2))
+    let narrow : i + 1 + 1 ≡ k → (f (i + 1)).wide ≡ false = λ e. sym (p.next (i + 1))
+    ∙ ap (λ j. (f j).continuation) e ∙ ap (λ (c : CellView). c.continuation) (b k h) in
+    grind (arith, nat_tests, narrow, b k h)
 
 pub Bounded-put : (n : ℕ) (f : ℕ → CellView) (i : ℕ) (x : CellView) (a : Attrs) → Bounded n f → IsPaired f
     → i + span_of x ≤ n → Bounded n (put f i x a)
@@ -82,58 +69,22 @@ pub put-same : (f : ℕ → CellView) (i : ℕ) (x : CellView) (a : Attrs) (k : 
     → x.wide ≡ (f i).wide → put f i x a k ≡ update f i x k
 put-same f i x a k p c w = grind (arith, nat_tests, p.next k, p.next i, p.blank k, p.next (i + 1))
 
-put-next-left : (f : ℕ → CellView) (i k : ℕ) (x : CellView) (a : Attrs) → IsPaired f → k + 1 < i
-    → (put f i x a (k + 1)).continuation ≡ (put f i x a k).wide
-put-next-left f i k x a p h = grind (arith, nat_tests, p.next k, p.blank (k + 1))
-
-put-next-before : (f : ℕ → CellView) (j : ℕ) (x : CellView) (a : Attrs) → x.continuation ≡ false
-    → (put f (j + 1) x a (j + 1)).continuation ≡ (put f (j + 1) x a j).wide
-put-next-before f j x a n = grind (arith, nat_tests)
-
-put-next-at : (f : ℕ → CellView) (i : ℕ) (x : CellView) (a : Attrs) → IsPaired f
-    → (put f i x a (i + 1)).continuation ≡ (put f i x a i).wide
-put-next-at f i x a p = grind (arith, nat_tests, p.next i)
-
-put-next-after : (f : ℕ → CellView) (i : ℕ) (x : CellView) (a : Attrs) → IsPaired f
-    → (put f i x a (i + 2)).continuation ≡ (put f i x a (i + 1)).wide
-put-next-after f i x a p =
-    let space = space_is_narrow in
-    let n = p.next (i + 1) in
-    let e : i + 1 + 1 ≡ i + 2 = omega arith in
-    let n2 : (f (i + 2)).continuation ≡ (f (i + 1)).wide = ap (λ j. (f j).continuation) (sym e) ∙ n in
-    grind (arith, nat_tests, p.next i, p.blank (i + 1))
-
-put-next-third : (f : ℕ → CellView) (i : ℕ) (x : CellView) (a : Attrs) → (f (i + 3)).continuation ≡ (f (i + 2)).wide
-    → (f (i + 2)).continuation ≡ (f (i + 1)).wide
-    → ((f (i + 2)).continuation ≡ true → f (i + 2) ≡ continuation_cell)
-    → (put f i x a (i + 3)).continuation ≡ (put f i x a (i + 2)).wide
-put-next-third f i x a m n b = grind (arith, nat_tests, b)
-
-put-next-right : (f : ℕ → CellView) (i k : ℕ) (x : CellView) (a : Attrs) → IsPaired f → i + 2 < k
-    → (put f i x a (k + 1)).continuation ≡ (put f i x a k).wide
-put-next-right f i k x a p h = grind (arith, nat_tests, p.next k)
-
 put-next : (f : ℕ → CellView) (i k : ℕ) (x : CellView) (a : Attrs) → IsPaired f → x.continuation ≡ false
     → (put f i x a (k + 1)).continuation ≡ (put f i x a k).wide
 put-next f i k x a p n =
-    ⊎_elim (λ (e : k ≡ i). ap (λ j. (put f i x a (j + 1)).continuation) e ∙ put-next-at f i x a p
-    ∙ ap (λ j. (put f i x a j).wide) (sym e))
+    ⊎_elim (λ (e : k ≡ i). rw e (grind (arith, nat_tests, p.next i)))
     (⊎_elim
-    (λ (l : k < i). ⊎_elim (λ (m : k + 1 < i). put-next-left f i k x a p m)
-    (λ m. let e : k + 1 ≡ i = omega arith in
-    ap (λ j. (put f j x a (k + 1)).continuation) (sym e) ∙ put-next-before f k x a n ∙ ap (λ j. (put f j x a k).wide) e)
+    (λ (l : k < i). ⊎_elim (λ (m : k + 1 < i). grind (arith, nat_tests, p.next k, p.blank (k + 1)))
+    (λ m. let e : i ≡ k + 1 = omega arith in rw e (grind (arith, nat_tests)))
     (cases_lt (k + 1) i))
-    (λ (l : i < k). ⊎_elim (λ (m : i + 1 < k). ⊎_elim (λ (q : i + 2 < k). put-next-right f i k x a p q)
-    (λ q. let e : k ≡ i + 2 = omega arith in let g : k + 1 ≡ i + 3 = omega arith in
-    let h : i + 2 + 1 ≡ i + 3 = omega arith in let d : i + 1 + 1 ≡ i + 2 = omega arith in
-    ap (λ j. (put f i x a j).continuation) g
-    ∙ put-next-third f i x a (ap (λ j. (f j).continuation) (sym h)
-    ∙ p.next (i + 2)) (ap (λ j. (f j).continuation) (sym d) ∙ p.next (i + 1)) (p.blank (i + 2))
-    ∙ ap (λ j. (put f i x a j).wide) (sym e))
-    (cases_lt (i + 2) k))
-    (λ m. let e : k ≡ i + 1 = omega arith in let g : k + 1 ≡ i + 2 = omega arith in
-    ap (λ j. (put f i x a j).continuation) g ∙ put-next-after f i x a p ∙ ap (λ j. (put f i x a j).wide) (sym e))
-    (cases_lt (i + 1) k)))
+    (λ (l : i < k). ⊎_elim (λ (m : i + 2 < k). grind (arith, nat_tests, p.next k))
+    (λ m. ⊎_elim
+    (λ (e : k ≡ i + 1). let space = space_is_narrow in
+    rw e (grind (arith, nat_tests, p.next i, p.next (i + 1), p.blank (i + 1))))
+    (λ ne. let e : k ≡ i + 1 + 1 = omega arith in
+    rw e (grind (arith, nat_tests, p.next (i + 1 + 1), p.next (i + 1), p.blank (i + 1 + 1))))
+    (cases_eq k (i + 1)))
+    (cases_lt (i + 2) k)))
     (cases_order k i)
 
 pub IsPaired-put : (f : ℕ → CellView) (i : ℕ) (x : CellView) (a : Attrs) → IsPaired f → x.continuation ≡ false

@@ -1,10 +1,9 @@
 -- Lists of cells and lines as functions of the column.
 use Rattle.std.proofs.Common.{◌≡◌, ℕ, zero, suc, ◌+◌, ◌<◌, ◌≤◌, ◌==◌, true, cond, List, length, get_or, set, replicate}
-use Rattle.std.proofs.Common.{sym, refl, ap, ◌∙◌, arith, length-set, ⊎_elim}
-use Rattle.std.proofs.lemmas.Bool.{cases_eq, false≢true, eq-eqb, ne_eqb, cases_lt, ltb-true, ltb-false}
+use Rattle.std.proofs.Common.{sym, refl, ap, ◌∙◌, arith, length-set, ⊎_elim, Bor, Option, Some, None, nat_lt}
+use Rattle.std.proofs.lemmas.Bool.{cond_both, false≢true, eqb-true, eqb-false, cases_lt, ltb-true, ltb-false}
 use Rattle.std.proofs.lemmas.List.{get_or-set_same, get_or-set_other, get_or_past, get_or-replicate}
 use Rattle.std.proofs.lemmas.List.FromFn.{fill_by_all, get_or-map-range_with_len, length-map-range_with_len}
-use Rattle.std.proofs.Common.{Bor, Option, Some, None, nat_lt}
 use Rattle.std.specs.Prelude.{IfSome, slice_get}
 use Rattle.std.specs.Option.{is_some, option_copied}
 use Rattle.std.proofs.lemmas.Option.{slice_get_past, slice_get_read}
@@ -35,19 +34,16 @@ Bounded-row cells k l = cell_at_past cells k l
 pub cell_at-set : (cells : List CellView) (i : ℕ) (x : CellView) (k : ℕ) → i < length cells
     → cell_at (set cells i x) k ≡ cond (k == i) x (cell_at cells k)
 cell_at-set cells i x k h =
-    ⊎_elim
-    (λ (e : k ≡ i). ap (λ j. get_or (set cells i x) j default_cell) e ∙ get_or-set_same cells i x default_cell h
-    ∙ ap (λ b. cond b x (cell_at cells k)) (sym (eq-eqb k i e)))
-    (λ ne. get_or-set_other cells i k x default_cell ne ∙ ap (λ b. cond b x (cell_at cells k)) (sym (ne_eqb k i ne)))
-    (cases_eq k i)
+    cond_both (k == i) x (cell_at cells k) (λ y. cell_at (set cells i x) k ≡ y)
+    (λ e. rw (eqb-true k i e) (get_or-set_same cells i x default_cell h))
+    (λ e. get_or-set_other cells i k x default_cell (eqb-false k i e))
 
 pub cell_at-set_within : (cells : List CellView) (i : ℕ) (x : CellView) (k : ℕ) → k < length cells
     → cell_at (set cells i x) k ≡ cond (k == i) x (cell_at cells k)
 cell_at-set_within cells i x k h =
-    ⊎_elim
-    (λ (e : k ≡ i). cell_at-set cells i x k (omega arith))
-    (λ ne. get_or-set_other cells i k x default_cell ne ∙ ap (λ b. cond b x (cell_at cells k)) (sym (ne_eqb k i ne)))
-    (cases_eq k i)
+    cond_both (k == i) x (cell_at cells k) (λ y. cell_at (set cells i x) k ≡ y)
+    (λ e. let same = eqb-true k i e in rw same (get_or-set_same cells i x default_cell (omega arith)))
+    (λ e. get_or-set_other cells i k x default_cell (eqb-false k i e))
 
 pub cell_at-replicate : (n : ℕ) (x : CellView) (k : ℕ) → k < n → cell_at (replicate n x) k ≡ x
 cell_at-replicate n x k l = get_or-replicate n k x default_cell l
@@ -111,5 +107,3 @@ pub looked_up : (xs : List CellView) (k : ℕ) (r : Option (Bor CellView)) → i
     → IfSome r (λ x. x.now ≡ get_or xs k x.now) → option_copied r ≡ slice_get xs k
 looked_up xs k (Some x) e h = sym (slice_get_read xs (length xs) k x.now refl (ltb-true k (length xs) (sym e)) h)
 looked_up xs k None e h = sym (slice_get_past xs k (ltb-false k (length xs) (sym e)))
-
--- ---- lists that are compared cell by cell

@@ -2,7 +2,7 @@
 use Rattle.std.proofs.Common.{◌≡◌, ℕ, ◌+◌, ◌-◌, ◌<◌, ◌≤◌, true, false, ⊎_elim, sym, ap, ◌∙◌, arith}
 use Rattle.std.proofs.lemmas.Bool.{cases_lt}
 use Rattle.std.proofs.lemmas.Bool.Decides.{nat_tests}
-use Rattle.vt100_cells.specs.Cell.{CellView, default_cell, continuation_cell}
+use Rattle.vt100_cells.specs.Cell.{CellView}
 use Rattle.vt100_cells.specs.Line.{IsPaired, Bounded, cut, opened, closed, extended}
 
 -- ---- the end of the line
@@ -19,22 +19,6 @@ IsPaired-cut n f p = record {
 
 -- ---- cells that come in
 
-opened-next-left : (f : ℕ → CellView) (i m k : ℕ) → IsPaired f → k + 1 < i
-    → (opened f i m (k + 1)).continuation ≡ (opened f i m k).wide
-opened-next-left f i m k p h = grind (arith, nat_tests, p.next k)
-
-opened-next-before : (f : ℕ → CellView) (j m : ℕ) → IsPaired f → 0 < m
-    → (opened f (j + 1) m (j + 1)).continuation ≡ (opened f (j + 1) m j).wide
-opened-next-before f j m p pos = grind (arith, nat_tests, p.next j)
-
-opened-next-gap : (f : ℕ → CellView) (i m k : ℕ) → i ≤ k → k + 1 < i + m
-    → (opened f i m (k + 1)).continuation ≡ (opened f i m k).wide
-opened-next-gap f i m k h l = grind (arith, nat_tests)
-
-opened-next-seam : (f : ℕ → CellView) (i m : ℕ) → (opened f i (m + 1) (i + (m + 1))).continuation
-    ≡ (opened f i (m + 1) (i + m)).wide
-opened-next-seam f i m = grind (arith, nat_tests)
-
 opened-next-after : (f : ℕ → CellView) (i m k : ℕ) → i + m ≤ k → 0 < m
     → (f (k + 1 - m)).continuation ≡ (f (k - m)).wide → ((f i).continuation ≡ true → (f i).wide ≡ false)
     → (opened f i m (k + 1)).continuation ≡ (opened f i m k).wide
@@ -43,21 +27,17 @@ opened-next-after f i m k h pos e b = grind (arith, nat_tests, b)
 opened-next : (f : ℕ → CellView) (i m k : ℕ) → IsPaired f → 0 < m
     → (opened f i m (k + 1)).continuation ≡ (opened f i m k).wide
 opened-next f i m k p pos =
-    ⊎_elim (λ (a : k + 1 < i). opened-next-left f i m k p a)
+    ⊎_elim (λ (a : k + 1 < i). grind (arith, nat_tests, p.next k))
     (λ (a : i ≤ k + 1). ⊎_elim
-    (λ (b : k < i). let e : k + 1 ≡ i = omega arith in
-    ap (λ j. (opened f j m (k + 1)).continuation) (sym e) ∙ opened-next-before f k m p pos
-    ∙ ap (λ j. (opened f j m k).wide) e)
-    (λ (b : i ≤ k). ⊎_elim (λ (d : k + 1 < i + m). opened-next-gap f i m k b d)
+    (λ (b : k < i). let e : i ≡ k + 1 = omega arith in rw e (grind (arith, nat_tests, p.next k)))
+    (λ (b : i ≤ k). ⊎_elim (λ (d : k + 1 < i + m). grind (arith, nat_tests))
     (λ (d : i + m ≤ k + 1). ⊎_elim
-    (λ (q : k < i + m). let em : m - 1 + 1 ≡ m = omega arith in let ek : i + (m - 1) ≡ k = omega arith in
-    let el : i + (m - 1 + 1) ≡ k + 1 = omega arith in
-    ap (λ j. (opened f i m j).continuation) (sym el) ∙ ap (λ j. (opened f i j (i + (m - 1 + 1))).continuation) (sym em)
-    ∙ opened-next-seam f i (m - 1) ∙ ap (λ j. (opened f i j (i + (m - 1))).wide) em
-    ∙ ap (λ j. (opened f i m j).wide) ek)
+    (λ (q : k < i + m). let at : k + 1 - m ≡ i = omega arith in
+    let same : f (k + 1 - m) ≡ f i = ap f at in
+    grind (arith, nat_tests))
     (λ (q : i + m ≤ k). let e : k - m + 1 ≡ k + 1 - m = omega arith in
-    opened-next-after f i m k q pos (ap (λ j. (f j).continuation) (sym e)
-    ∙ p.next (k - m)) (λ h. ap (λ (c : CellView). c.wide) (p.blank i h)))
+    opened-next-after f i m k q pos (ap (λ j. (f j).continuation) (sym e) ∙ p.next (k - m))
+    (λ h. ap (λ (c : CellView). c.wide) (p.blank i h)))
     (cases_lt k (i + m)))
     (cases_lt (k + 1) (i + m)))
     (cases_lt k i))
@@ -73,32 +53,16 @@ IsPaired-opened f i m p pos = record {
 
 -- ---- cells that go
 
-closed-next-far : (m : ℕ) (f : ℕ → CellView) (s n k : ℕ) → IsPaired f → k + 1 < s
-    → (closed m f s n (k + 1)).continuation ≡ (closed m f s n k).wide
-closed-next-far m f s n k p h = grind (arith, nat_tests, p.next k, p.blank (k + 1))
-
-closed-next-seam : (m : ℕ) (f : ℕ → CellView) (s n : ℕ) → IsPaired f → s + 1 + n ≤ m
-    → (closed m f (s + 1) n (s + 1)).continuation ≡ (closed m f (s + 1) n s).wide
-closed-next-seam m f s n p h = grind (arith, nat_tests)
-
-closed-next-after : (m : ℕ) (f : ℕ → CellView) (s n k : ℕ) → IsPaired f → s ≤ k → s + n ≤ m → 0 < n
-    → (f (k + 1 + n)).continuation ≡ (f (k + n)).wide
-    → ((f (k + n)).continuation ≡ true → f (k + n) ≡ continuation_cell)
-    → (m ≤ k + n → f (k + n) ≡ default_cell) → (m ≤ k + 1 + n → f (k + 1 + n) ≡ default_cell)
-    → (closed m f s n (k + 1)).continuation ≡ (closed m f s n k).wide
-closed-next-after m f s n k p h l pos e b d1 d2 = grind (arith, nat_tests, b, d1, d2)
-
 closed-next : (m : ℕ) (f : ℕ → CellView) (s n k : ℕ) → IsPaired f → Bounded m f → s + n ≤ m → 0 < n
     → (closed m f s n (k + 1)).continuation ≡ (closed m f s n k).wide
 closed-next m f s n k p past l pos =
-    ⊎_elim (λ (a : k + 1 < s). closed-next-far m f s n k p a)
+    ⊎_elim (λ (a : k + 1 < s). grind (arith, nat_tests, p.next k, p.blank (k + 1)))
     (λ (a : s ≤ k + 1). ⊎_elim
-    (λ (b : k < s). let e : k + 1 ≡ s = omega arith in
-    ap (λ j. (closed m f j n (k + 1)).continuation) (sym e) ∙ closed-next-seam m f k n p (omega arith)
-    ∙ ap (λ j. (closed m f j n k).wide) e)
+    (λ (b : k < s). let e : s ≡ k + 1 = omega arith in rw e (grind (arith, nat_tests)))
     (λ (b : s ≤ k). let e : k + n + 1 ≡ k + 1 + n = omega arith in
-    closed-next-after m f s n k p b l pos (ap (λ j. (f j).continuation) (sym e)
-    ∙ p.next (k + n)) (p.blank (k + n)) (past (k + n)) (past (k + 1 + n)))
+    let next : (f (k + 1 + n)).continuation ≡ (f (k + n)).wide =
+    ap (λ j. (f j).continuation) (sym e) ∙ p.next (k + n) in
+    grind (arith, nat_tests, p.blank (k + n), past (k + n), past (k + 1 + n)))
     (cases_lt k s))
     (cases_lt (k + 1) s)
 

@@ -1,18 +1,16 @@
 -- A run of wide characters, put on a line.
 use Rattle.std.proofs.Common.{◌≡◌, ℕ, zero, suc, ◌+◌, ◌-◌, ◌*◌, ◌<◌, ◌≤◌, ◌==◌, Bool, true, false, cond, not, ◌&&◌}
-use Rattle.std.proofs.Common.{List, [], ◌∷◌, length, set, slice_index, sym, refl, ap, ◌∙◌, arith, ⊎_elim}
-use Rattle.std.proofs.Common.{nat_lt, nat_le, length-append, length-take, length-drop, length-set}
-use Rattle.std.proofs.lemmas.Bool.{cases_lt, cases_order, eq-eqb}
+use Rattle.std.proofs.Common.{List, [], ◌∷◌, length, set, slice_index, sym, refl, ap, ◌∙◌, arith, ⊎_elim, nat_lt}
+use Rattle.std.proofs.Common.{nat_le, length-set}
+use Rattle.std.proofs.lemmas.Bool.{cases_lt, cases_order}
 use Rattle.std.proofs.lemmas.Bool.Decides.{nat_tests}
 use borrow.Rule.Slice.PartMut.{put_mid}
 use Rattle.vt100_forms.specs.declared.attrs.Attrs.{Attrs}
 use Rattle.vt100_cells.specs.Cell.{CellView, cell_of, empty_cell, continuation_cell}
 use Rattle.vt100_cells.specs.Cells.{cell_at, by_position}
 use Rattle.vt100_cells.specs.Line.{IsPaired, put, put_unflags, left_cleared, pairs_of, printed_pairs, pairs_unflag}
-use Rattle.vt100_cells.proofs.ListLemmas.{by_position_is, same-by_position, set-by_position, reads, reads_len}
-use Rattle.vt100_cells.proofs.ListLemmas.{cell_at-set_within}
-use Rattle.vt100_cells.proofs.EditLemmas.{continuation_within}
-use Rattle.vt100_cells.proofs.RunLemmas.{written-read}
+use Rattle.vt100_cells.proofs.ListLemmas.{by_position_is, same-by_position, cell_at-set_within}
+use Rattle.vt100_cells.proofs.RunLemmas.{right_made, writes-part}
 
 -- ---- the cells of such characters
 
@@ -20,51 +18,25 @@ pub length-pairs_of : (xs : List ℕ) (a : Attrs) → length (pairs_of xs a) ≡
 length-pairs_of [] a = refl
 length-pairs_of (x ∷ xs) a = let n = length-pairs_of xs a in omega (arith, n)
 
-pair-first : (x : ℕ) (xs : List ℕ) (a : Attrs) (k : ℕ) → k ≡ 0 → cell_at (pairs_of (x ∷ xs) a) k ≡ cell_of x a
-pair-first x xs a k e = ap (cell_at (pairs_of (x ∷ xs) a)) e
-
-pair-second : (x : ℕ) (xs : List ℕ) (a : Attrs) (k : ℕ) → k ≡ 1
-    → cell_at (pairs_of (x ∷ xs) a) k ≡ continuation_cell
-pair-second x xs a k e = ap (cell_at (pairs_of (x ∷ xs) a)) e
-
 pair-later : (x : ℕ) (xs : List ℕ) (a : Attrs) (j k : ℕ) → j ≡ suc (suc k)
     → cell_at (pairs_of (x ∷ xs) a) j ≡ cell_at (pairs_of xs a) k
 pair-later x xs a j k e = ap (cell_at (pairs_of (x ∷ xs) a)) e
 
-pairs-even : (xs : List ℕ) (j : ℕ) (a : Attrs) → j < length xs
-    → cell_at (pairs_of xs a) (2 * j) ≡ cell_of (slice_index xs j) a
-pairs-even [] j a h = absurd (omega arith)
-pairs-even (x ∷ xs) zero a h = refl
-pairs-even (x ∷ xs) (suc j) a h = pair-later x xs a (2 * suc j) (2 * j) (omega arith)
-    ∙ pairs-even xs j a (omega arith)
-
-pairs-odd : (xs : List ℕ) (j : ℕ) (a : Attrs) → j < length xs
-    → cell_at (pairs_of xs a) (2 * j + 1) ≡ continuation_cell
-pairs-odd [] j a h = absurd (omega arith)
-pairs-odd (x ∷ xs) zero a h = refl
-pairs-odd (x ∷ xs) (suc j) a h = pair-later x xs a (2 * suc j + 1) (2 * j + 1) (omega arith)
-    ∙ pairs-odd xs j a (omega arith)
+pairs-at : (xs : List ℕ) (j : ℕ) (a : Attrs) → j < length xs
+    → (cell_at (pairs_of xs a) (2 * j) ≡ cell_of (slice_index xs j) a)
+    × (cell_at (pairs_of xs a) (2 * j + 1) ≡ continuation_cell)
+pairs-at [] j a h = absurd (omega arith)
+pairs-at (x ∷ xs) zero a h = (refl, refl)
+pairs-at (x ∷ xs) (suc j) a h = let rest = pairs-at xs j a (omega arith) in (
+  pair-later x xs a (2 * suc j) (2 * j) (omega arith) ∙ rest.0,
+  pair-later x xs a (2 * suc j + 1) (2 * j + 1) (omega arith) ∙ rest.1,
+)
 
 -- ---- two cells are written after those that are right
 
 two-written : (f g : ℕ → CellView) (i k : ℕ) (y r s : CellView) → k < i + 2 → ((j : ℕ) → j < i → f j ≡ g j)
     → y ≡ g i → r ≡ g (i + 1) → cond (k == (i + 1)) r (cond (k == i) y (cond (k == i) s (f k))) ≡ g k
-two-written f g i k y r s l h ey er =
-    ⊎_elim
-    (λ (e : k ≡ i).
-    let t : (k == (i + 1)) ≡ false = grind (arith, nat_tests) in
-    let u : (k == i) ≡ true = eq-eqb k i e in
-    rw (t, u) (ey ∙ ap g (sym e)))
-    (⊎_elim
-    (λ (m : k < i).
-    let t : (k == (i + 1)) ≡ false = grind (arith, nat_tests) in
-    let u : (k == i) ≡ false = grind (arith, nat_tests) in
-    rw (t, u) (h k m))
-    (λ (m : i < k).
-    let e : k ≡ i + 1 = omega arith in
-    let t : (k == (i + 1)) ≡ true = eq-eqb k (i + 1) e in
-    rw t (er ∙ ap g (sym e))))
-    (cases_order k i)
+two-written f g i k y r s l h ey er = grind (arith, nat_tests, h k)
 
 pub writes-pair : (cells : List CellView) (text : List ℕ) (i j x : ℕ) (s y r : CellView) (a : Attrs) → i ≡ 2 * j
     → j < length text → length cells ≡ 2 * length text → x ≡ slice_index text j → y ≡ cell_of x a
@@ -74,9 +46,9 @@ writes-pair cells text i j x s y r a ei h n ex ey er w k l =
     let zs = set (set cells i s) i y in
     let n1 = length-set cells i s in
     let n2 = length-set (set cells i s) i y in
-    let even : y ≡ cell_at (pairs_of text a) i = ey ∙ ap (λ c. cell_of c a) ex ∙ sym (pairs-even text j a h)
+    let even : y ≡ cell_at (pairs_of text a) i = ey ∙ ap (λ c. cell_of c a) ex ∙ sym ((pairs-at text j a h).0)
     ∙ ap (cell_at (pairs_of text a)) (sym ei) in
-    let odd : r ≡ cell_at (pairs_of text a) (i + 1) = er ∙ sym (pairs-odd text j a h)
+    let odd : r ≡ cell_at (pairs_of text a) (i + 1) = er ∙ sym ((pairs-at text j a h).1)
     ∙ ap (λ m. cell_at (pairs_of text a) (m + 1)) (sym ei) in
     cell_at-set_within zs (i + 1) r k (omega (arith, n1, n2))
     ∙ ap (cond (k == (i + 1)) r) (cell_at-set_within (set cells i s) i y k (omega (arith, n1))
@@ -93,76 +65,30 @@ are-pairs cells text a n w =
 
 -- ---- what the code writes, column by column
 
--- the second half of a wide cell at e is empty
-abbrev pub right_emptied : (ℕ → CellView) → ℕ → Attrs → ℕ → CellView
-right_emptied f e a k = cond ((k == e) && (f k).continuation) (empty_cell a) (f k)
-
-emptied-one : (f : ℕ → CellView) (e : ℕ) (a : Attrs) (k : ℕ) → (f e).continuation ≡ true
-    → cond (k == e) (empty_cell a) (f k) ≡ right_emptied f e a k
-emptied-one f e a k c = grind (arith, nat_tests)
-
-pub empties-right : (ys : List CellView) (e : ℕ) (x : CellView) (a : Attrs) → x ≡ empty_cell a
-    → (cell_at ys e).continuation ≡ true → set ys e x ≡ by_position (length ys) (right_emptied (cell_at ys) e a)
-empties-right ys e x a ex c = ap (set ys e) ex ∙ set-by_position ys e (empty_cell a) (right_emptied (cell_at ys) e a)
-    (continuation_within ys e c) (λ k. emptied-one (cell_at ys) e a k c)
-
-emptied-none : (f : ℕ → CellView) (e : ℕ) (a : Attrs) (k : ℕ) → (f e).continuation ≡ false
-    → f k ≡ right_emptied f e a k
-emptied-none f e a k c = grind (arith, nat_tests)
-
-pub empties-no_right : (ys : List CellView) (e : ℕ) (a : Attrs) → (cell_at ys e).continuation ≡ false
-    → ys ≡ by_position (length ys) (right_emptied (cell_at ys) e a)
-empties-no_right ys e a c = same-by_position ys (right_emptied (cell_at ys) e a)
-    (λ k. emptied-none (cell_at ys) e a k c)
-
-pairs-read : (f : ℕ → CellView) (i e : ℕ) (ts : List ℕ) (a : Attrs) (k : ℕ) → 0 < length ts → e ≡ i + 2 * length ts
-    → cond (nat_le i k && nat_lt k (i + 2 * length ts)) (cell_at (pairs_of ts a) (k - i))
-    (right_emptied (left_cleared f i) e a k) ≡ printed_pairs f i ts a k
-pairs-read f i e ts a k h q = grind (arith, nat_tests)
-
--- xs is the row, ys the row without a half on the left, zs without one on the right, ws the characters' cells
 pub writes-pairs : (xs ys zs ws : List CellView) (i e m : ℕ) (ts : List ℕ) (a b : Attrs) → 0 < length ts
     → e ≡ i + 2 * length ts → e ≤ length xs → m ≡ e - i → b ≡ a
     → ys ≡ by_position (length xs) (left_cleared (cell_at xs) i)
-    → zs ≡ by_position (length ys) (right_emptied (cell_at ys) e a)
+    → zs ≡ by_position (length ys) (right_made (cell_at ys) e (empty_cell a))
     → ws ≡ pairs_of ts b
     → put_mid i m zs ws ≡ by_position (length xs) (printed_pairs (cell_at xs) i ts a)
 writes-pairs xs ys zs ws i e m ts a b some ee within em eb ey ez ew =
     let f = cell_at xs in
-    let n = length xs in
-    let ly = reads_len n (left_cleared f i) ys ey in
-    let lz : length zs ≡ n = reads_len (length ys) (right_emptied (cell_at ys) e a) zs ez ∙ ly in
+    let n = 2 * length ts in
+    let all : m ≡ n = omega arith in
     let ew2 : ws ≡ pairs_of ts a = ew ∙ ap (pairs_of ts) eb in
-    let all : m ≡ 2 * length ts = omega arith in
-    let lw : length ws ≡ m = ap length ew2 ∙ length-pairs_of ts a ∙ sym all in
-    by_position_is n (printed_pairs f i ts a) (put_mid i m zs ws)
-    (simp (length-append, length-take, length-drop) (omega arith))
-    (λ k q.
-    let rz : cell_at zs k ≡ right_emptied (left_cleared f i) e a k =
-    reads (length ys) (right_emptied (cell_at ys) e a) zs ez k (omega arith)
-    ∙ ap (λ (c : CellView). cond ((k == e) && c.continuation) (empty_cell a) c)
-    (reads n (left_cleared f i) ys ey k q) in
-    written-read zs ws i m k (omega arith) (omega arith) lw
-    ∙ ap (λ j. cond (nat_le i k && nat_lt k (i + j)) (cell_at ws (k - i)) (cell_at zs k)) all
-    ∙ ap (cond (nat_le i k && nat_lt k (i + 2 * length ts)) (cell_at ws (k - i))) rz
-    ∙ ap (λ vs. cond (nat_le i k && nat_lt k (i + 2 * length ts)) (cell_at vs (k - i))
-    (right_emptied (left_cleared f i) e a k)) ew2
-    ∙ pairs-read f i e ts a k some ee)
+    ap (λ j. put_mid i j zs ws) all
+    ∙ writes-part xs ys zs ws i n (empty_cell a) (printed_pairs f i ts a) (omega arith)
+    (ap length ew2 ∙ length-pairs_of ts a) ey
+    (ez ∙ ap (λ j. by_position (length ys) (right_made (cell_at ys) j (empty_cell a))) ee)
+    (λ k. ap (λ vs. cond (nat_le i k && nat_lt k (i + n)) (cell_at vs (k - i))
+    (right_made (left_cleared f i) (i + n) (empty_cell a) k)) ew2
+    ∙ grind (arith, nat_tests))
 
 -- ---- one wide cell, as it is put
 
-module _ (f : ℕ → CellView) (i : ℕ) (x : CellView) (a : Attrs) (k : ℕ) (wide : x.wide ≡ true) where
-  put-left : k < i → put f i x a k ≡ cond (((k + 1) == i) && (f k).wide) (empty_cell (f k).attrs) (f k)
-  put-left h = grind (arith, nat_tests)
-
-  put-at : k ≡ i → put f i x a k ≡ x
-  put-at h = grind (arith, nat_tests)
-
-  put-next : k ≡ i + 1 → put f i x a k ≡ continuation_cell
-  put-next h = grind (arith, nat_tests)
-
-  put-past : i + 2 ≤ k → put f i x a k ≡ cond ((k == (i + 2)) && (f (i + 1)).wide) (empty_cell a) (f k)
-  put-past h = grind (arith, nat_tests)
+put-past : (f : ℕ → CellView) (i : ℕ) (x : CellView) (a : Attrs) (k : ℕ) → x.wide ≡ true → i + 2 ≤ k
+    → put f i x a k ≡ cond ((k == (i + 2)) && (f (i + 1)).wide) (empty_cell a) (f k)
+put-past f i x a k wide h = grind (arith, nat_tests)
 
 -- ---- one character and then the others: g is the line once the first is put
 
@@ -172,12 +98,17 @@ module _ (f g : ℕ → CellView) (i x : ℕ) (xs : List ℕ) (a : Attrs) (k : �
   step-left h e = grind (arith, nat_tests)
 
   step-at : k ≡ i → g k ≡ cell_of x a → printed_pairs g (i + 2) xs a k ≡ printed_pairs f i (x ∷ xs) a k
-  step-at h e = let first = pair-first x xs a (k - i) (omega arith) in grind (arith, nat_tests)
+  step-at h e =
+      let none : k - i ≡ 0 = omega arith in
+      let first : cell_at (pairs_of (x ∷ xs) a) (k - i) ≡ cell_of x a = ap (cell_at (pairs_of (x ∷ xs) a)) none in
+      grind (arith, nat_tests)
 
   step-next : k ≡ i + 1 → g k ≡ continuation_cell
       → printed_pairs g (i + 2) xs a k ≡ printed_pairs f i (x ∷ xs) a k
   step-next h e =
-      let second = pair-second x xs a (k - i) (omega arith) in
+      let one : k - i ≡ 1 = omega arith in
+      let second : cell_at (pairs_of (x ∷ xs) a) (k - i) ≡ continuation_cell =
+      ap (cell_at (pairs_of (x ∷ xs) a)) one in
       let narrow : (g k).wide ≡ false = ap (λ (c : CellView). c.wide) e in
       grind (arith, nat_tests)
 
@@ -204,12 +135,12 @@ pub pairs-step : (f : ℕ → CellView) (i x : ℕ) (xs : List ℕ) (a : Attrs) 
 pairs-step f i x xs a k wide p =
     let c = cell_of x a in
     let g = put f i c a in
-    ⊎_elim (λ (e : k ≡ i). step-at f g i x xs a k e (put-at f i c a k wide e))
-    (⊎_elim (λ (l : k < i). step-left f g i x xs a k l (put-left f i c a k wide l))
+    ⊎_elim (λ (e : k ≡ i). step-at f g i x xs a k e (grind (arith, nat_tests)))
+    (⊎_elim (λ (l : k < i). step-left f g i x xs a k l (grind (arith, nat_tests)))
     (λ (l : i < k).
     ⊎_elim
     (λ (m : k < i + 2).
-    let e : k ≡ i + 1 = omega arith in step-next f g i x xs a k e (put-next f i c a k wide e))
+    let e : k ≡ i + 1 = omega arith in step-next f g i x xs a k e (grind (arith, nat_tests)))
     (λ (m : i + 2 ≤ k).
     ⊎_elim (λ (q : k < i + 2 + 2 * length xs). step-in f g i x xs a k m q)
     (λ (q : i + 2 + 2 * length xs ≤ k). step-past f g i x xs a k p q (put-past f i c a k wide m))

@@ -9,7 +9,8 @@ use Rattle.vt100_cells.specs.Cell.{CellView, default_cell, empty_cell, continuat
 use Rattle.vt100_cells.specs.Line.{cut, opened, closed, left_cleared, right_cleared, shifted_right, mended}
 use Rattle.vt100_cells.specs.Line.{shifted_left}
 use Rattle.vt100_cells.specs.Cells.{cell_at, by_position}
-use Rattle.vt100_cells.proofs.ListLemmas.{by_position_is, cell_at_past, cell_at-set_within, reads, reads_len}
+use Rattle.vt100_cells.proofs.ListLemmas.{by_position_is, by_position-same, cell_at_past, cell_at-set_within, reads}
+use Rattle.vt100_cells.proofs.ListLemmas.{reads_len}
 
 -- ---- to the right
 
@@ -44,10 +45,6 @@ shifts-right xs ys zs mid i n m x h e em ey ez ex =
 
 -- ---- the end of the row
 
-cuts : (n : ℕ) (f : ℕ → CellView) (k : ℕ) → k < n → (f (n - 1)).wide ≡ true
-    → cond (k == (n - 1)) (empty_cell (f (n - 1)).attrs) (f k) ≡ cut n f k
-cuts n f k h w = grind (arith, nat_tests)
-
 pub cuts-wide : (xs : List CellView) → 0 < length xs → (cell_at xs (length xs - 1)).wide ≡ true
     → set xs (length xs - 1) (empty_cell (cell_at xs (length xs - 1)).attrs)
     ≡ by_position (length xs) (cut (length xs) (cell_at xs))
@@ -55,15 +52,12 @@ cuts-wide xs h w =
     let x = empty_cell (cell_at xs (length xs - 1)).attrs in
     by_position_is (length xs) (cut (length xs) (cell_at xs)) (set xs (length xs - 1) x)
     (length-set xs (length xs - 1) x)
-    (λ k l. cell_at-set_within xs (length xs - 1) x k l ∙ cuts (length xs) (cell_at xs) k l w)
-
-cut-narrow : (n : ℕ) (f : ℕ → CellView) (k : ℕ) → (0 < n → (f (n - 1)).wide ≡ false) → k < n → f k ≡ cut n f k
-cut-narrow n f k w h = let w2 = w (omega arith) in grind (arith, nat_tests)
+    (λ k l. cell_at-set_within xs (length xs - 1) x k l ∙ grind (arith, nat_tests))
 
 pub cuts-narrow : (xs : List CellView) → (0 < length xs → (cell_at xs (length xs - 1)).wide ≡ false)
     → xs ≡ by_position (length xs) (cut (length xs) (cell_at xs))
 cuts-narrow xs w = by_position_is (length xs) (cut (length xs) (cell_at xs)) xs refl
-    (λ k h. cut-narrow (length xs) (cell_at xs) k w h)
+    (λ k h. let narrow = w (omega arith) in grind (arith, nat_tests))
 
 cut-like : (n : ℕ) (f g : ℕ → CellView) (k : ℕ) → f k ≡ g k → cut n f k ≡ cut n g k
 cut-like n f g k e = ap (λ (c : CellView). cond (nat_le n k) default_cell
@@ -71,27 +65,26 @@ cut-like n f g k e = ap (λ (c : CellView). cond (nat_le n k) default_cell
 
 -- ---- a pair that an insertion split
 
-mends : (xs : List CellView) (i j k : ℕ) → k < length xs
-    → cell_at (set (set xs j default_cell) i continuation_cell) k ≡ mended (cell_at xs) i j k
-mends xs i j k h =
-    cell_at-set_within (set xs j default_cell) i continuation_cell k (omega (arith, length-set xs j default_cell))
-    ∙ ap (λ c. cond (k == i) continuation_cell c) (cell_at-set_within xs j default_cell k h)
-
 pub mends-pair : (xs : List CellView) (i j : ℕ) (x y : CellView) → x ≡ default_cell → y ≡ continuation_cell
     → set (set xs j x) i y ≡ by_position (length xs) (mended (cell_at xs) i j)
 mends-pair xs i j x y ex ey =
     ap (λ d. set (set xs j d) i y) ex ∙ ap (λ d. set (set xs j default_cell) i d) ey
     ∙ by_position_is (length xs) (mended (cell_at xs) i j) (set (set xs j default_cell) i continuation_cell)
-    (length-set (set xs j default_cell) i continuation_cell ∙ length-set xs j default_cell) (λ k h. mends xs i j k h)
+    (length-set (set xs j default_cell) i continuation_cell ∙ length-set xs j default_cell) (λ k h.
+    cell_at-set_within (set xs j default_cell) i continuation_cell k (omega (arith, length-set xs j default_cell))
+    ∙ ap (λ c. cond (k == i) continuation_cell c) (cell_at-set_within xs j default_cell k h))
 
 -- ---- the whole insertion
 
-opened-whole : (f : ℕ → CellView) (i n k : ℕ) → (f i).continuation ≡ false → shifted_right f i n k ≡ opened f i n k
-opened-whole f i n k c = grind (arith, nat_tests)
-
-opened-mended : (f g : ℕ → CellView) (i n k : ℕ) → 0 < n → (f i).continuation ≡ true → g k ≡ shifted_right f i n k
-    → mended g i (i + n) k ≡ opened f i n k
-opened-mended f g i n k pos c e = grind (arith, nat_tests)
+-- zs is the row g, of as many cells as xs, and ws without a half at its end
+cuts-end : (xs zs ws : List CellView) (g : ℕ → CellView) → zs ≡ by_position (length xs) g
+    → ws ≡ by_position (length zs) (cut (length zs) (cell_at zs)) → ws ≡ by_position (length xs) (cut (length xs) g)
+cuts-end xs zs ws g ez ew =
+    let n = length xs in
+    let lz = reads_len n g zs ez in
+    let whole : ws ≡ by_position n (cut n (cell_at zs)) = ew ∙ ap (λ m. by_position m (cut m (cell_at zs))) lz in
+    by_position_is n (cut n g) ws (reads_len n (cut n (cell_at zs)) ws whole)
+    (λ k h. reads n (cut n (cell_at zs)) ws whole k h ∙ cut-like n (cell_at zs) g k (reads n g zs ez k h))
 
 -- xs is the row, ys the row after the shift, zs that after a mended pair, ws the result
 pub inserts-whole : (xs ys ws : List CellView) (i n : ℕ) → (cell_at xs i).continuation ≡ false
@@ -100,14 +93,8 @@ pub inserts-whole : (xs ys ws : List CellView) (i n : ℕ) → (cell_at xs i).co
     → ws ≡ by_position (length xs) (cut (length xs) (opened (cell_at xs) i n))
 inserts-whole xs ys ws i n c ey ew =
     let f = cell_at xs in
-    let ly = reads_len (length xs) (shifted_right f i n) ys ey in
-    let lw = reads_len (length ys) (cut (length ys) (cell_at ys)) ws ew ∙ ly in
-    by_position_is (length xs) (cut (length xs) (opened f i n)) ws lw
-    (λ k h.
-    let same : cell_at ys k ≡ opened f i n k = reads (length xs) (shifted_right f i n) ys ey k h
-    ∙ opened-whole f i n k c in
-    reads (length ys) (cut (length ys) (cell_at ys)) ws ew k (omega arith) ∙ ap (λ m. cut m (cell_at ys) k) ly
-    ∙ cut-like (length xs) (cell_at ys) (opened f i n) k same)
+    cuts-end xs ys ws (opened f i n)
+    (ey ∙ by_position-same (length xs) (shifted_right f i n) (opened f i n) (λ k. grind (arith, nat_tests))) ew
 
 pub inserts-mended : (xs ys zs ws : List CellView) (i n : ℕ) → 0 < n → (cell_at xs i).continuation ≡ true
     → ys ≡ by_position (length xs) (shifted_right (cell_at xs) i n)
@@ -116,16 +103,12 @@ pub inserts-mended : (xs ys zs ws : List CellView) (i n : ℕ) → 0 < n → (ce
     → ws ≡ by_position (length xs) (cut (length xs) (opened (cell_at xs) i n))
 inserts-mended xs ys zs ws i n pos c ey ez ew =
     let f = cell_at xs in
+    let g = mended (cell_at ys) i (i + n) in
     let ly = reads_len (length xs) (shifted_right f i n) ys ey in
-    let lz = reads_len (length ys) (mended (cell_at ys) i (i + n)) zs ez ∙ ly in
-    let lw = reads_len (length zs) (cut (length zs) (cell_at zs)) ws ew ∙ lz in
-    by_position_is (length xs) (cut (length xs) (opened f i n)) ws lw
-    (λ k h.
-    let ry = reads (length xs) (shifted_right f i n) ys ey k h in
-    let same : cell_at zs k ≡ opened f i n k = reads (length ys) (mended (cell_at ys) i (i + n)) zs ez k (omega arith)
-    ∙ opened-mended f (cell_at ys) i n k pos c ry in
-    reads (length zs) (cut (length zs) (cell_at zs)) ws ew k (omega arith) ∙ ap (λ m. cut m (cell_at zs) k) lz
-    ∙ cut-like (length xs) (cell_at zs) (opened f i n) k same)
+    cuts-end xs zs ws (opened f i n)
+    (by_position_is (length xs) (opened f i n) zs (reads_len (length ys) g zs ez ∙ ly)
+    (λ k h. let e = reads (length xs) (shifted_right f i n) ys ey k h in
+    reads (length ys) g zs ez k (omega arith) ∙ grind (arith, nat_tests))) ew
 
 -- ---- to the left
 

@@ -1,6 +1,5 @@
 -- Texts of at most four bytes.
-use Rattle.std.proofs.Common.{◌≡◌, ℕ, ◌≤◌, true, ◌&&◌, List, length, take, nat_eq, arith, sym, ap}
-use Rattle.std.proofs.Common.{◌∙◌}
+use Rattle.std.proofs.Common.{◌≡◌, ℕ, ◌≤◌, true, ◌&&◌, List, length, take, nat_eq, arith, sym, ap, ◌∙◌}
 use Rattle.std.specs.Prelude.{encode_utf8_all, IsTrue, not, ◌↔◌}
 use Rattle.std.specs.Cmp.Derive.{both_true}
 use Rattle.std.proofs.Math.Dec.{leb}

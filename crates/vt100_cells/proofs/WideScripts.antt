@@ -17,7 +17,7 @@ is_wide_kind kinds.Wide = true
 is_wide_kind _ = false
 
 -- kana, ideographs and Hangul
-abbrev wide_scripts : List Range
+abbrev pub wide_scripts : List Range
 wide_scripts = (0x3041, 0x3096) ∷ (0x30A0, 0x30FF) ∷ (0x4E00, 0x9FFF) ∷ (0xAC00, 0xD7A3) ∷ []
 
 -- where c stands in such a script, its kind is wide
@@ -52,25 +52,7 @@ width-wide c l h = let two = of_wide c (kind c) h in grind (arith, nat_tests)
 or-second : (b : Bool) (d : Bool) → b ≡ true → (not b || d) ≡ true → d ≡ true
 or-second b d e h = ap (λ x. not x || d) (sym e) ∙ h
 
-drawn-wide : (c : ℕ) → c ≤ 0xD7A3 → in_ranges wide_scripts c ≡ true → 0x3000 ≤ c → Some 2 ≡ drawn_columns c
+pub drawn-wide : (c : ℕ) → c ≤ 0xD7A3 → in_ranges wide_scripts c ≡ true → 0x3000 ≤ c → Some 2 ≡ drawn_columns c
 drawn-wide c l i h =
     let w = width-wide c h (or-second (in_ranges wide_scripts c) (is_wide_kind (kind c)) i (scripts-wide c (omega arith))) in
     rw w refl
-
--- ---- each of them
-
-pub drawn-hiragana : (c : ℕ) → 0x3041 ≤ c → c ≤ 0x3096 → Some 2 ≡ drawn_columns c
-unfolding in_ranges
-drawn-hiragana c l h = drawn-wide c (omega arith) (grind (arith, nat_tests)) (omega arith)
-
-pub drawn-katakana : (c : ℕ) → 0x30A0 ≤ c → c ≤ 0x30FF → Some 2 ≡ drawn_columns c
-unfolding in_ranges
-drawn-katakana c l h = drawn-wide c (omega arith) (grind (arith, nat_tests)) (omega arith)
-
-pub drawn-ideographs : (c : ℕ) → 0x4E00 ≤ c → c ≤ 0x9FFF → Some 2 ≡ drawn_columns c
-unfolding in_ranges
-drawn-ideographs c l h = drawn-wide c (omega arith) (grind (arith, nat_tests)) (omega arith)
-
-pub drawn-hangul : (c : ℕ) → 0xAC00 ≤ c → c ≤ 0xD7A3 → Some 2 ≡ drawn_columns c
-unfolding in_ranges
-drawn-hangul c l h = drawn-wide c (omega arith) (grind (arith, nat_tests)) (omega arith)

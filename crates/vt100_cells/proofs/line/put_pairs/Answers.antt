@@ -1,8 +1,9 @@
 use Rattle.std.proofs.Common.{arith, ◌≡◌, ◌∙◌, ◌+◌, ◌*◌, length, true, false, ap}
-use Rattle.vt100_cells.specs.Cell.{CellView}
+use Rattle.vt100_cells.specs.Cell.{CellView, empty_cell}
 use Rattle.vt100_cells.specs.Cells.{cell_at}
 use Rattle.vt100_cells.proofs.WidthLemmas.{wide_space_is_drawn}
-use Rattle.vt100_cells.proofs.PairLemmas.{empties-right, empties-no_right, writes-pairs}
+use Rattle.vt100_cells.proofs.PairLemmas.{writes-pairs}
+use Rattle.vt100_cells.proofs.RunLemmas.{makes-right, makes-no_right}
 use Rattle.vt100_cells.proofs.line.put_pairs.Goals as goal
 use Rattle.vt100_cells.proofs.line.put_pairs.Goals.{then-is_continuation_at, else-is_continuation_at}
 
@@ -20,9 +21,9 @@ returns-clause-cells c =
     elim c.if-is_continuation_at.branch [
       | then-is_continuation_at w ↦
           let half : (cell_at ys e).continuation ≡ true = cc in
-          whole (w.cells-is ∙ empties-right ys e c.empty-blank.result a c.empty-blank.ensures half)
+          whole (w.cells-is ∙ makes-right ys e c.empty-blank.result (empty_cell a) c.empty-blank.ensures half)
           c.write_pairs.ensures.cells
       | else-is_continuation_at w ↦
           let none : (cell_at ys e).continuation ≡ false = cc in
-          whole (w.cells-is ∙ empties-no_right ys e a none) c.write_pairs.ensures.cells
+          whole (w.cells-is ∙ makes-no_right ys e (empty_cell a) none) c.write_pairs.ensures.cells
     ]

@@ -1,8 +1,8 @@
 use Rattle.std.proofs.Common.{arith, ◌≡◌, ◌∙◌, ◌+◌, length, true, false, ap}
-use Rattle.vt100_cells.specs.Cell.{CellView}
+use Rattle.vt100_cells.specs.Cell.{CellView, cell_of}
 use Rattle.vt100_cells.specs.Cells.{cell_at}
 use Rattle.vt100_cells.proofs.WidthLemmas.{space_is_drawn}
-use Rattle.vt100_cells.proofs.RunLemmas.{spaces-right, spaces-no_right, writes-run}
+use Rattle.vt100_cells.proofs.RunLemmas.{makes-right, makes-no_right, writes-run}
 use Rattle.vt100_cells.proofs.line.put_run.Goals as goal
 use Rattle.vt100_cells.proofs.line.put_run.Goals.{then-is_continuation_at, else-is_continuation_at}
 
@@ -20,9 +20,9 @@ returns c =
     elim c.if-is_continuation_at.branch [
       | then-is_continuation_at w ↦
           let half : (cell_at ys e).continuation ≡ true = cc in
-          whole (w.cells-is ∙ spaces-right ys e c.of_char-space.result a c.of_char-space.ensures half)
+          whole (w.cells-is ∙ makes-right ys e c.of_char-space.result (cell_of 32 a) c.of_char-space.ensures half)
           c.write_run.ensures
       | else-is_continuation_at w ↦
           let none : (cell_at ys e).continuation ≡ false = cc in
-          whole (w.cells-is ∙ spaces-no_right ys e a none) c.write_run.ensures
+          whole (w.cells-is ∙ makes-no_right ys e (cell_of 32 a) none) c.write_run.ensures
     ]

@@ -1,8 +1,7 @@
 use Rattle.std.proofs.Common.{ap, arith, ◌∙◌, length}
 use Rattle.std.specs.Prelude.{encode_utf8_all}
 use Rattle.std.proofs.lemmas.Bool.{ltb-true}
-use Rattle.std.proofs.lemmas.Str.{IsUtf8-encode}
-use Rattle.vt100_cells.proofs.CellTextLemmas.{len-text_of, IsText-push, text_of-push}
+use Rattle.vt100_cells.proofs.CellTextLemmas.{len-text_of, text-push}
 use Rattle.vt100_cells.proofs.cell_text.CellText.push.Goals as goal
 
 pub slice_bounds-copy_up_to_four-end : goal.slice_bounds-copy_up_to_four-end
@@ -13,14 +12,14 @@ slice_bounds-copy_up_to_four-end c =
 
 pub invariant_of-self : goal.invariant_of-self
 invariant_of-self c =
-    IsText-push c.self.inside c.args.self.now _ _ c.copy_up_to_four.new.to c.args.c c.self.invariant c.self.view_is
+    (text-push c.self.inside c.args.self.now _ _ c.copy_up_to_four.new.to c.args.c c.self.invariant c.self.view_is
     c.requires
     (c.copy_up_to_four.ensures ∙ c.as_bytes.ensures.value ∙ c.encode_utf8-encoded.ensures.value)
-    (ap length c.encode_utf8-encoded.ensures.value) (omega arith) (IsUtf8-encode c.args.c c.ranges.c.0)
+    (ap length c.encode_utf8-encoded.ensures.value) (omega arith) c.ranges.c.0).0
 
 pub returns : goal.returns
 returns c =
-    text_of-push c.self.inside c.args.self.now _ _ c.copy_up_to_four.new.to c.args.c c.self.invariant c.self.view_is
+    (text-push c.self.inside c.args.self.now _ _ c.copy_up_to_four.new.to c.args.c c.self.invariant c.self.view_is
     c.requires
     (c.copy_up_to_four.ensures ∙ c.as_bytes.ensures.value ∙ c.encode_utf8-encoded.ensures.value)
-    (ap length c.encode_utf8-encoded.ensures.value) (omega arith) c.ranges.c.0
+    (ap length c.encode_utf8-encoded.ensures.value) (omega arith) c.ranges.c.0).1
