@@ -1,12 +1,10 @@
 -- Rows that come back at the top.
 use Rattle.std.proofs.Common.{◌≡◌, ℕ, ◌+◌, ◌-◌, ◌^◌, ◌<◌, ◌≤◌, List, ◌++◌, length, take, drop, map, replicate}
 use Rattle.std.proofs.Common.{append_assoc, min, refl, sym, ap, ◌∙◌, arith, length-take, length-take-le, length-drop}
-use Rattle.std.proofs.Common.{length-append, ⊎_elim}
-use Rattle.std.proofs.lemmas.Bool.{cases_lt}
+use Rattle.std.proofs.Common.{length-append}
 use Rattle.std.proofs.lemmas.Bool.Decides.{nat_tests}
-use Rattle.std.proofs.lemmas.List.{length-map, length-replicate, replicate-append-replicate, take_at, drop_at}
-use Rattle.std.proofs.lemmas.List.{get_or-append_right, get_or-map, get_or-drop, get_or-take}
-use Rattle.std.proofs.Math.ListN.{get_or-append}
+use Rattle.std.proofs.lemmas.List.{places, length-map, length-replicate, replicate-append-replicate, take_at, drop_at}
+use Rattle.std.proofs.lemmas.List.{get_or-map}
 use Rattle.vt100_forms.specs.Attrs.{default_attrs}
 use Rattle.vt100_cells.specs.Cell.{default_cell}
 use Rattle.vt100_rows.specs.Row.{RowView, IsRow, blank_row, resized_row}
@@ -19,28 +17,10 @@ pub IsRow-resized_default : (v : RowView) (width : ℕ) → IsRow v → width < 
     → IsRow (resized_row v width default_cell)
 IsRow-resized_default v width r h = IsRow-resized v width default_cell r (IsCell-empty default_attrs) refl refl h
 
-before-first : (f : RowView → RowView) (old : List RowView) (first k : ℕ) → k < first
-    → changed_between f old first (length old) k ≡ row_at old k
-before-first f old first k h = grind (arith, nat_tests)
-
-from-first : (f : RowView → RowView) (old : List RowView) (first k : ℕ) → first ≤ k → k < length old
-    → changed_between f old first (length old) k ≡ f (row_at old k)
-from-first f old first k h l = grind (arith, nat_tests)
-
 changed-at : (f : RowView → RowView) (old : List RowView) (first k : ℕ) → first ≤ length old → k < length old
     → row_at (take first old ++ map f (drop first old)) k ≡ changed_between f old first (length old) k
 changed-at f old first k h l =
-    let lt : length (take first old) ≡ first = simp length-take (omega arith) in
-    let ld : length (drop first old) ≡ length old - first = length-drop first old in
-    ⊎_elim
-    (λ (b : k < first). get_or-append (take first old) (map f (drop first old)) (blank_row 0) k (omega arith)
-    ∙ get_or-take first old k (blank_row 0) b ∙ sym (before-first f old first k b))
-    (λ (b : first ≤ k). let e : first + (k - first) ≡ k = omega arith in
-    get_or-append_right (take first old) (map f (drop first old)) first k (blank_row 0) lt b
-    ∙ get_or-map f (drop first old) (k - first) (blank_row 0) (blank_row 0) (omega arith)
-    ∙ ap f (get_or-drop first old (k - first) (blank_row 0) ∙ ap (λ j. row_at old j) e)
-    ∙ sym (from-first f old first k b l))
-    (cases_lt k first)
+    grind (arith, places, nat_tests, get_or-map f (drop first old) (k - first) (blank_row 0) (blank_row 0))
 
 pub changed-end : (f : RowView → RowView) (old rows : List RowView) (first end : ℕ) → first ≤ length old
     → end ≡ length old → length rows ≡ length old → ((k : ℕ) → row_at rows k ≡ changed_between f old first end k)

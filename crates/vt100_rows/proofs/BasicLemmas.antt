@@ -1,11 +1,12 @@
 -- Writing one text after another, and what a cell writes.
-use Rattle.std.proofs.Common.{◌≡◌, ◌<◌, ◌==◌, nat_lt, ℕ, zero, suc, List, [], ◌∷◌, ◌++◌, append-nil, refl, sym, ap}
-use Rattle.std.proofs.Common.{subst, ◌∙◌, Bool, true, false, cond, not, arith, length, ◌⊎◌, inl, inr}
+use Rattle.std.proofs.Common.{◌≡◌, ◌<◌, ◌==◌, ℕ, zero, suc, List, [], ◌∷◌, ◌++◌, append-nil, refl, sym, ap, subst, ◌∙◌}
+use Rattle.std.proofs.Common.{Bool, true, false, cond, not, arith, length, inl, inr}
 use Rattle.std.specs.Prelude.{encode_utf8_all, encode_utf8, Result, Ok, Err, OnOk, IsOk}
 use Rattle.std.specs.List.{FoldsTo, concat}
 use Rattle.std.specs.Fmt.{WritesInCalls}
 use Rattle.std.proofs.lemmas.List.Folds.{concat-append}
 use Rattle.std.proofs.lemmas.Str.{encode_ascii, length-le-encodes}
+use Rattle.std.proofs.lemmas.Bool.{cases_Bool, cases_lt}
 use Rattle.std.proofs.lemmas.Bool.Decides.{nat_tests}
 use Rattle.vt100_forms.specs.declared.attrs.Attrs.{Attrs}
 use Rattle.vt100_forms.specs.Form.{spell, change}
@@ -74,14 +75,10 @@ some-text : (b : Bool) (xs : List ℕ) → not (length xs == 0) ≡ b → 0 < le
 some-text true xs e = grind (arith, nat_tests)
 some-text false xs e = omega arith
 
-either : (b : Bool) → (b ≡ true) ⊎ (b ≡ false)
-either true = inl refl
-either false = inr refl
-
 -- a cell that isn't the second half of a wide character writes something
 pub basic_cell-some : (a : Attrs) (x : CellView) → x.continuation ≡ false → basic_cell a x ≡ [] → ⊥
 basic_cell-some a x h e =
-    elim (either (is_default x)) [
+    elim (cases_Bool (is_default x)) [
       | inl d ↦
           let none : 1 ≡ 0 = ap length (sym (basic_cell-default a x h d) ∙ e) in
           omega (arith, none)
@@ -131,21 +128,15 @@ module _ {W : Type 0} (gives : W → List ℕ → W → Type 0) (f : ℕ → Cel
     attrs = ec ∙ ap (λ y. attrs_after y x) h.attrs ∙ ap (attrs_after (basic_attrs f a n)) ex;
   })
 
-near : (i n : ℕ) → i < suc n → (i < n) ⊎ (i ≡ n)
-near i n h = elim (either (nat_lt i n)) [
-  | inl e ↦ inl (grind (arith, nat_tests))
-  | inr e ↦ inr (grind (arith, nat_tests))
-]
-
 -- where the first columns write nothing, none of them does
 columns-none : (f : ℕ → CellView) (a : Attrs) (i n : ℕ) → i < n → basic_columns f a n ≡ []
     → basic_cell (basic_attrs f a i) (f i) ≡ []
 columns-none f a i zero h e = absurd (omega (arith, h))
 columns-none f a i (suc n) h e =
     let last = basic_cell (basic_attrs f a n) (f n) in
-    elim (near i n h) [
+    elim (cases_lt i n) [
       | inl l ↦ columns-none f a i n l (nil-left (basic_columns f a n) last e)
-      | inr is ↦ rw is (nil-right (basic_columns f a n) last e)
+      | inr l ↦ (let is : i ≡ n = omega arith in rw is (nil-right (basic_columns f a n) last e))
     ]
 
 pub no-column : (f : ℕ → CellView) (a : Attrs) (i n : ℕ) (x : CellView) (b : Attrs) → i < n → x ≡ f i

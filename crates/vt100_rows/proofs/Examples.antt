@@ -1,9 +1,9 @@
 -- The small rows compute.
 use Rattle.std.proofs.Common.{refl}
 use Rattle.row_drawing.specs.Writer.{◌>>◌, skip, goto, turn, color, print, space, back, erasing, clearing, marking}
-use Rattle.row_drawing.specs.RowWriter.{reprint, opening, to_erase, flush_of, flush, finish_of, finish, arrive}
-use Rattle.row_drawing.specs.RowWriter.{mark_of, mark, draw, column, columns, unflag, print_last, mend, closing}
-use Rattle.row_drawing.specs.RowWriter.{row_redraw, row_difference}
+use Rattle.row_drawing.specs.RowWriter.{reprint, opening, to_erase, flush_of, flush, finish_of, finish, arrive, mark_of}
+use Rattle.row_drawing.specs.RowWriter.{mark, draw, column, columns, unflag, print_last, mend, closing, row_redraw}
+use Rattle.row_drawing.specs.RowWriter.{row_difference}
 use Rattle.vt100_rows.specs.Examples.{EachExampleIsWritten}
 
 pub examples : EachExampleIsWritten

@@ -1,12 +1,12 @@
 -- A zero-width character in a row.
-use Rattle.std.proofs.Common.{◌≡◌, ℕ, ◌+◌, ◌-◌, ◌<◌, ◌≤◌, ◌==◌, Bool, true, false, cond, not, ◌&&◌, ◌||◌, List}
-use Rattle.std.proofs.Common.{length, set, Some, sym, refl, ap, ◌∙◌, arith, nat_lt}
+use Rattle.std.proofs.Common.{◌≡◌, ℕ, ◌+◌, ◌-◌, ◌<◌, ◌≤◌, ◌==◌, Bool, true, false, cond, not, ◌&&◌, ◌||◌, List, length}
+use Rattle.std.proofs.Common.{set, Some, sym, refl, ap, ◌∙◌, arith, nat_lt}
 use Rattle.std.specs.Char.{IsScalar}
 use Rattle.std.proofs.lemmas.List.{set-get_or}
 use Rattle.std.proofs.lemmas.Bool.{and_parts, cond_both, ltb-true, not-true}
 use Rattle.vt100_forms.specs.declared.attrs.Attrs.{Attrs}
-use Rattle.vt100_cells.specs.Cell.{CellView, IsCell, has_text, has_room, text_with, is_widened_by}
-use Rattle.vt100_cells.specs.Cell.{appended, appended_plain, drawn_columns, default_cell}
+use Rattle.vt100_cells.specs.Cell.{CellView, IsCell, has_text, has_room, text_with, is_widened_by, is_filled, appended}
+use Rattle.vt100_cells.specs.Cell.{appended_plain, drawn_columns, default_cell}
 use Rattle.vt100_cells.specs.Line.{span_of, update, put, base_col}
 use Rattle.vt100_cells.specs.Cells.{cell_at, by_position}
 use Rattle.vt100_rows.specs.Row.{RowView, IsRow, joined_cell, is_widening, joined_row, join_row, placed, wiped_row}
@@ -32,21 +32,31 @@ widened-is v col c r h =
 
 -- ---- the rows that result
 
+-- another cell at i, of the same width
+IsRow-updated : (v : RowView) (i : ℕ) (x : CellView) → IsRow v → i < length v.cells
+    → (cell_at v.cells i).continuation ≡ false → x.continuation ≡ false → x.wide ≡ (cell_at v.cells i).wide → IsCell x
+    → (is_filled (cell_at v.cells i) ≡ true → is_filled x ≡ true)
+    → IsRow (record { cells = by_position (length v.cells) (update (cell_at v.cells) i x); wrapped = v.wrapped })
+IsRow-updated v i x r h whole kept same valid filled =
+    let f = cell_at v.cells in
+    let n = length v.cells in
+    let a = (f i).attrs in
+    IsRow-by_position n (update f i x) v.wrapped r.narrow
+    (IsPaired-like (update f i x) (put f i x a) (λ k. sym (put-same f i x a k r.paired whole same))
+    (IsPaired-put f i x a r.paired kept))
+    (Bounded-update n f i x (Bounded-row v.cells) h) (IsCell-update f i x r.cells valid)
+    (λ w. update-last f i (n - 1) x filled (r.filled w))
+
 pub IsRow-joined : (v : RowView) (col c : ℕ) → IsRow v → IsScalar c → drawn_columns c ≡ Some 0 → 0 < col
     → col ≤ length v.cells → is_widening v col c ≡ false → IsRow (joined_row v col c)
 IsRow-joined v col c r s z h l narrow =
     let f = cell_at v.cells in
-    let n = length v.cells in
     let i = base_col f col in
     let x = joined_cell v col c in
     let whole = base_col-whole f col r.paired in
-    let same = same-width x.wide (f i).wide (appended-wide (f i) c) narrow in
-    IsRow-by_position n (update f i x) v.wrapped r.narrow
-    (IsPaired-like (update f i x) (put f i x (f i).attrs) (λ k. sym (put-same f i x (f i).attrs k r.paired whole same))
-    (IsPaired-put f i x (f i).attrs r.paired (appended-continuation (f i) c ∙ whole)))
-    (Bounded-update n f i x (Bounded-row v.cells) (base_col-within f n col h l))
-    (IsCell-update f i x r.cells (IsCell-appended (f i) c (r.cells i) s z whole))
-    (λ w. update-last f i (n - 1) x (filled-appended (f i) c) (r.filled w))
+    IsRow-updated v i x r (base_col-within f (length v.cells) col h l) whole (appended-continuation (f i) c ∙ whole)
+    (same-width x.wide (f i).wide (appended-wide (f i) c) narrow) (IsCell-appended (f i) c (r.cells i) s z whole)
+    (filled-appended (f i) c)
 
 pub IsCell-joined : (v : RowView) (col c : ℕ) → IsRow v → IsScalar c → drawn_columns c ≡ Some 0
     → IsCell (joined_cell v col c)
@@ -82,24 +92,33 @@ length-join v col c a =
     (λ w. length w.cells ≡ n)
     (λ _. length-by_position n _) (λ _. length-by_position n _)))
 
--- what the code does where no cell becomes wide
+-- what the code does to the cells
+joins-cells : (F : CellView → CellView) (v : RowView) (xs ys : List CellView) (col n i : ℕ) (x y : CellView)
+    → xs ≡ v.cells → ys ≡ v.cells → n ≡ col → i ≡ base_col (cell_at xs) n → y ≡ cell_at ys i → x ≡ F y → 0 < col
+    → col ≤ length v.cells
+    → (y ≡ cell_at v.cells (base_col (cell_at v.cells) col)) × (set v.cells i x ≡ by_position (length v.cells)
+    (update (cell_at v.cells) (base_col (cell_at v.cells) col) (F (cell_at v.cells (base_col (cell_at v.cells) col)))))
+joins-cells F v xs ys col n i x y exs eys en ei ey ex h l =
+    let f = cell_at v.cells in
+    let j = base_col f col in
+    let at_j : i ≡ j = ei ∙ ap (λ (zs : List CellView). base_col (cell_at zs) n) exs ∙ ap (base_col f) en in
+    let old : y ≡ f j = ey ∙ ap (λ (zs : List CellView). cell_at zs i) eys ∙ ap f at_j in (
+      old,
+      ap (λ m. set v.cells m x) at_j ∙ ap (set v.cells j) (ex ∙ ap F old)
+          ∙ set-by_position v.cells j (F (f j)) (update f j (F (f j))) (base_col-within f (length v.cells) col h l)
+          (λ k. refl),
+    )
+
+-- where no cell becomes wide
 pub joins-in_place : (v : RowView) (xs ys : List CellView) (col n i c : ℕ) (x y : CellView) (a : Attrs) → xs ≡ v.cells
     → ys ≡ v.cells → n ≡ col → i ≡ base_col (cell_at xs) n → y ≡ cell_at ys i → x ≡ appended y c
     → (x.wide && not y.wide) ≡ false → 0 < col → col ≤ length v.cells
     → record { cells = set v.cells i x; wrapped = v.wrapped } ≡ join_row v col c a
 joins-in_place v xs ys col n i c x y a exs eys en ei ey ex narrow h l =
-    let f = cell_at v.cells in
-    let j = base_col f col in
-    let at_j : i ≡ j = ei ∙ ap (λ (zs : List CellView). base_col (cell_at zs) n) exs ∙ ap (base_col f) en in
-    let old : y ≡ f j = ey ∙ ap (λ (zs : List CellView). cell_at zs i) eys ∙ ap f at_j in
-    let new : x ≡ joined_cell v col c = ex ∙ ap (λ z. appended z c) old in
-    let same : is_widening v col c ≡ false = ap (λ (z : CellView). z.wide && not (f j).wide) (sym new)
-    ∙ ap (λ (z : CellView). x.wide && not z.wide) (sym old) ∙ narrow in
-    let cells : set v.cells i x ≡ by_position (length v.cells) (update f j (joined_cell v col c)) =
-    ap (λ m. set v.cells m x) at_j ∙ ap (set v.cells j) new
-    ∙ set-by_position v.cells j (joined_cell v col c) (update f j (joined_cell v col c))
-    (base_col-within f (length v.cells) col h l) (λ k. refl) in
-    (λ k. record { cells = cells k; wrapped = v.wrapped })
+    let both = joins-cells (λ z. appended z c) v xs ys col n i x y exs eys en ei ey ex h l in
+    let same : is_widening v col c ≡ false = ap (λ (z : CellView). (appended z c).wide && not z.wide) (sym both.0)
+    ∙ ap (λ (z : CellView). z.wide && not y.wide) (sym ex) ∙ narrow in
+    (λ k. record { cells = both.1 k; wrapped = v.wrapped })
     ∙ ap (λ b. cond (not b) (joined_row v col c)
     (cond (length v.cells == 1) v (cond (nat_lt col (length v.cells)) (placed v (col - 1) (joined_cell v col c) a)
     (wiped_row v (col - 1) col a)))) (sym same)
@@ -134,29 +153,15 @@ pub IsRow-joined_plain : (v : RowView) (col c : ℕ) → IsRow v → IsScalar c 
     → col ≤ length v.cells → IsRow (joined_plain v col c)
 IsRow-joined_plain v col c r s z h l =
     let f = cell_at v.cells in
-    let n = length v.cells in
     let i = base_col f col in
-    let x = appended_plain (f i) c in
     let whole = base_col-whole f col r.paired in
-    IsRow-by_position n (update f i x) v.wrapped r.narrow
-    (IsPaired-like (update f i x) (put f i x (f i).attrs)
-    (λ k. sym (put-same f i x (f i).attrs k r.paired whole (plain-wide (f i) c)))
-    (IsPaired-put f i x (f i).attrs r.paired (plain-continuation (f i) c ∙ whole)))
-    (Bounded-update n f i x (Bounded-row v.cells) (base_col-within f n col h l))
-    (IsCell-update f i x r.cells (IsCell-plain (f i) c (r.cells i) s z whole))
-    (λ w. update-last f i (n - 1) x (plain-filled (f i) c) (r.filled w))
+    IsRow-updated v i (appended_plain (f i) c) r (base_col-within f (length v.cells) col h l) whole
+    (plain-continuation (f i) c ∙ whole) (plain-wide (f i) c) (IsCell-plain (f i) c (r.cells i) s z whole)
+    (plain-filled (f i) c)
 
 pub joins-plain : (v : RowView) (xs ys : List CellView) (col n i c : ℕ) (x y : CellView) → xs ≡ v.cells
     → ys ≡ v.cells → n ≡ col → i ≡ base_col (cell_at xs) n → y ≡ cell_at ys i → x ≡ appended_plain y c → 0 < col
     → col ≤ length v.cells → record { cells = set v.cells i x; wrapped = v.wrapped } ≡ joined_plain v col c
 joins-plain v xs ys col n i c x y exs eys en ei ey ex h l =
-    let f = cell_at v.cells in
-    let j = base_col f col in
-    let at_j : i ≡ j = ei ∙ ap (λ (zs : List CellView). base_col (cell_at zs) n) exs ∙ ap (base_col f) en in
-    let old : y ≡ f j = ey ∙ ap (λ (zs : List CellView). cell_at zs i) eys ∙ ap f at_j in
-    let new : x ≡ appended_plain (f j) c = ex ∙ ap (λ z. appended_plain z c) old in
-    let cells : set v.cells i x ≡ by_position (length v.cells) (update f j (appended_plain (f j) c)) =
-    ap (λ m. set v.cells m x) at_j ∙ ap (set v.cells j) new
-    ∙ set-by_position v.cells j (appended_plain (f j) c) (update f j (appended_plain (f j) c))
-    (base_col-within f (length v.cells) col h l) (λ k. refl) in
-    λ k. record { cells = cells k; wrapped = v.wrapped }
+    let both = joins-cells (λ z. appended_plain z c) v xs ys col n i x y exs eys en ei ey ex h l in
+    λ k. record { cells = both.1 k; wrapped = v.wrapped }

@@ -1,8 +1,8 @@
 -- Rows that are kept.
-use Rattle.std.proofs.Common.{◌≡◌, ℕ, ◌+◌, ◌^◌, ◌<◌, ◌≤◌, ◌==◌, Bool, true, false, cond, List, [], ◌∷◌, ◌++◌, replicate}
-use Rattle.std.proofs.Common.{min, slice_range, append_assoc, length, set, map, refl, sym, ap, ◌∙◌, arith}
-use Rattle.std.proofs.Common.{length-append, ⊎_elim}
-use Rattle.std.proofs.lemmas.Bool.{cases_lt}
+use Rattle.std.proofs.Common.{◌≡◌, ℕ, ◌+◌, ◌^◌, ◌<◌, ◌≤◌, ◌==◌, false, List, [], ◌∷◌, ◌++◌, replicate, min, slice_range}
+use Rattle.std.proofs.Common.{append_assoc, length, set, map, refl, sym, ap, ◌∙◌, arith, length-append, length-set}
+use Rattle.std.proofs.Common.{nat_lt, ⊎_elim}
+use Rattle.std.proofs.lemmas.Bool.{cases_lt, cond_both, ltb-false}
 use Rattle.std.proofs.lemmas.Bool.Decides.{nat_tests}
 use Rattle.std.proofs.lemmas.List.{get_or_push, map-append, get_or-replicate, length-replicate, ext_get_or}
 use Rattle.std.proofs.Math.ListN.{get_or-append}
@@ -12,20 +12,16 @@ use Rattle.vt100_cells.specs.Line.{cut, extended}
 use Rattle.vt100_cells.specs.Cells.{cell_at, by_position}
 use Rattle.vt100_rows.specs.Row.{RowView, IsRow, blank_row, truncated, grown, trimmed}
 use Rattle.vt100_forms.specs.Attrs.{default_attrs}
-use Rattle.vt100_rows.proofs.RowLemmas.{IsRow-grown}
+use Rattle.vt100_rows.proofs.RowLemmas.{IsRow-grown, grown-is}
 use Rattle.vt100_cells.proofs.CellLemmas.{IsCell-empty}
 use Rattle.vt100_cells.proofs.ListLemmas.{cell_at-by_position, length-by_position}
 use Rattle.vt100_rows.specs.Sheet.{row_at, changed_between}
 use Rattle.vt100_rows.proofs.SheetLemmas.{row_at-set}
 
-IsRow-choice : (b : Bool) (v w : RowView) → IsRow v → IsRow w → IsRow (cond b v w)
-IsRow-choice true v w p q = p
-IsRow-choice false v w p q = q
-
 pub IsRow-set : (rows : List RowView) (r : ℕ) (v : RowView) → ((k : ℕ) → k < length rows → IsRow (row_at rows k))
-    → IsRow v → r < length rows → (k : ℕ) → k < length rows → IsRow (row_at (set rows r v) k)
+    → IsRow v → r < length rows → (k : ℕ) → k < length (set rows r v) → IsRow (row_at (set rows r v) k)
 IsRow-set rows r v each row h k l = rw (row_at-set rows r v k h)
-    (IsRow-choice (k == r) v (row_at rows k) row (each k l))
+    (cond_both (k == r) v (row_at rows k) IsRow (λ _. row) (λ _. each k (omega (arith, length-set rows r v))))
 
 pub IsRow-push : (rows : List RowView) (v : RowView) → ((k : ℕ) → k < length rows → IsRow (row_at rows k)) → IsRow v
     → (k : ℕ) → k < length (rows ++ v ∷ []) → IsRow (row_at (rows ++ v ∷ []) k)
@@ -59,43 +55,21 @@ wide_along v w width e h = rw e h
 pub grown-longer : (v : RowView) (width : ℕ) → width ≤ length v.cells → grown v width default_cell ≡ v
 grown-longer v width l = grind (arith, nat_tests)
 
-grown-shorter : (v : RowView) (width : ℕ) → length v.cells < width
-    → grown v width default_cell ≡ record {
-      cells = by_position width (extended (length v.cells) (cell_at v.cells) default_cell);
-      wrapped = false;
-    }
-grown-shorter v width l = grind (arith, nat_tests)
-
-grown-wide_shorter : (v : RowView) (width : ℕ) → length v.cells < width
-    → width ≤ length (grown v width default_cell).cells
-grown-wide_shorter v width l =
-    let x : RowView = record {
-      cells = by_position width (extended (length v.cells) (cell_at v.cells) default_cell);
-      wrapped = false;
-    } in
-    wide_along (grown v width default_cell) x width (grown-shorter v width l)
-    (omega (arith, length-by_position width (extended (length v.cells) (cell_at v.cells) default_cell)))
-
-grown-wide_longer : (v : RowView) (width : ℕ) → width ≤ length v.cells
-    → width ≤ length (grown v width default_cell).cells
-grown-wide_longer v width l = wide_along (grown v width default_cell) v width (grown-longer v width l) l
-
 pub grown-wide : (v : RowView) (width : ℕ) → width ≤ length (grown v width default_cell).cells
 grown-wide v width =
-    ⊎_elim (λ (l : length v.cells < width). grown-wide_shorter v width l)
-    (λ (l : width ≤ length v.cells). grown-wide_longer v width l) (cases_lt (length v.cells) width)
+    let more = extended (length v.cells) (cell_at v.cells) default_cell in
+    cond_both (nat_lt (length v.cells) width) (record { cells = by_position width more; wrapped = false }) v
+    (λ (x : RowView). width ≤ length x.cells) (λ _. omega (arith, length-by_position width more))
+    (ltb-false (length v.cells) width)
 
 -- ---- a row that becomes blank
-
-added : (m k : ℕ) (f : ℕ → CellView) → m ≡ 0 → extended m f default_cell k ≡ default_cell
-added m k f e = grind (arith, nat_tests)
 
 all-added : (m n : ℕ) (f : ℕ → CellView) → m ≡ 0 → by_position n (extended m f default_cell) ≡ replicate n default_cell
 all-added m n f e =
     let l = length-by_position n (extended m f default_cell) in
-    ext_get_or default_cell (by_position n (extended m f default_cell)) (replicate n default_cell) (l
-    ∙ sym (length-replicate n default_cell))
-    (λ k h. cell_at-by_position n (extended m f default_cell) k (omega (arith, l)) ∙ added m k f e
+    ext_get_or default_cell _ _ (l ∙ sym (length-replicate n default_cell))
+    (λ k h. let same : extended m f default_cell k ≡ default_cell = grind (arith, nat_tests) in
+    cell_at-by_position n (extended m f default_cell) k (omega (arith, l)) ∙ same
     ∙ sym (get_or-replicate n k default_cell default_cell (omega (arith, l))))
 
 none-kept : (v : RowView) → length (truncated v 0).cells ≡ 0
@@ -107,7 +81,7 @@ blank-again v width =
     let w = truncated v 0 in
     ⊎_elim
     (λ (l : 0 < width).
-    grown-shorter w width (omega (arith, none-kept v))
+    sym (grown-is w width default_cell (omega (arith, none-kept v)))
     ∙ ap (λ (xs : List CellView). record { cells = xs; wrapped = false })
     (all-added (length w.cells) width (cell_at w.cells) (none-kept v)))
     (λ (l : width ≤ 0).

@@ -1,5 +1,5 @@
 -- The lines of changed rows.
-use Rattle.std.proofs.Common.{◌≡◌, ℕ, ◌+◌, ◌-◌, ◌<◌, ◌≤◌, ◌==◌, false, cond, ◌&&◌, nat_lt, List, length}
+use Rattle.std.proofs.Common.{◌≡◌, ℕ, ◌+◌, ◌-◌, ◌<◌, ◌≤◌, ◌==◌, Bool, true, false, cond, ◌&&◌, nat_lt, List, length}
 use Rattle.std.proofs.Common.{set, sym, refl, ap, ◌∙◌, arith, ⊎_elim}
 use Rattle.std.proofs.lemmas.Bool.{cond_both, cases_lt, le-ltb}
 use Rattle.std.proofs.lemmas.Bool.Decides.{nat_tests}
@@ -28,81 +28,54 @@ lines-past rows r h = ap (λ (v : RowView). cell_at v.cells) (row_at_past rows r
 pub wraps-past : (rows : List RowView) (r : ℕ) → length rows ≤ r → wraps_of rows r ≡ false
 wraps-past rows r h = ap (λ (v : RowView). v.wrapped) (row_at_past rows r h)
 
--- ---- another row
+-- ---- another row, seen by g
 
-line-set_at : (rows : List RowView) (r : ℕ) (v : RowView) (k : ℕ) → r < length rows
-    → lines_of (set rows r v) k ≡ update (lines_of rows) r (cell_at v.cells) k
+seen-set : {A : Type 0} (g : RowView → A) (rows : List RowView) (r : ℕ) (v : RowView) → r < length rows
+    → (λ k. g (row_at (set rows r v) k)) ≡ update (λ k. g (row_at rows k)) r (g v)
 unfolding update
-line-set_at rows r v k h =
-    ap (λ (w : RowView). cell_at w.cells) (row_at-set rows r v k h)
-    ∙ cond_both (k == r) v (row_at rows k) (λ w. cell_at w.cells ≡ cond (k == r) (cell_at v.cells) (lines_of rows k))
-    (λ e. rw e refl) (λ e. rw e refl)
+seen-set g rows r v h = fun_ext (λ k. ap g (row_at-set rows r v k h)
+    ∙ cond_both (k == r) v (row_at rows k) (λ w. g w ≡ cond (k == r) (g v) (g (row_at rows k)))
+    (λ e. rw e refl) (λ e. rw e refl))
 
 pub lines-set : (rows : List RowView) (r : ℕ) (v : RowView) → r < length rows
     → lines_of (set rows r v) ≡ update (lines_of rows) r (cell_at v.cells)
-lines-set rows r v h = fun_ext (λ k. line-set_at rows r v k h)
-
-wrap-set_at : (rows : List RowView) (r : ℕ) (v : RowView) (k : ℕ) → r < length rows
-    → wraps_of (set rows r v) k ≡ update (wraps_of rows) r v.wrapped k
-unfolding update
-wrap-set_at rows r v k h =
-    ap (λ (w : RowView). w.wrapped) (row_at-set rows r v k h)
-    ∙ cond_both (k == r) v (row_at rows k) (λ w. w.wrapped ≡ cond (k == r) v.wrapped (wraps_of rows k))
-    (λ e. rw e refl) (λ e. rw e refl)
+lines-set rows r v h = seen-set (λ w. cell_at w.cells) rows r v h
 
 pub wraps-set : (rows : List RowView) (r : ℕ) (v : RowView) → r < length rows
     → wraps_of (set rows r v) ≡ update (wraps_of rows) r v.wrapped
-wraps-set rows r v h = fun_ext (λ k. wrap-set_at rows r v k h)
+wraps-set rows r v h = seen-set (λ w. w.wrapped) rows r v h
 
 -- ---- all rows a line up
 
-row-up : (rows : List RowView) (width r : ℕ) → r < length rows
-    → moved_up rows 0 (length rows) 1 width r ≡ cond (nat_lt (r + 1) (length rows)) (row_at rows (r + 1))
-    (blank_row width)
-row-up rows width r h = grind (arith, nat_tests)
-
-line-up_at : (rows : List RowView) (width r : ℕ)
-    → lines_of (rows_by_position (length rows) (moved_up rows 0 (length rows) 1 width)) r
-    ≡ cond (nat_lt (r + 1) (length rows)) (lines_of rows (r + 1)) (λ k. default_cell)
-line-up_at rows width r =
-    let moved = rows_by_position (length rows) (moved_up rows 0 (length rows) 1 width) in
-    let n = length-rows_by_position (length rows) (moved_up rows 0 (length rows) 1 width) in
+-- each row stands a line further up, and a blank one comes, which g sees as it sees one past the last
+seen-up : {A : Type 0} (g : RowView → A) (rows : List RowView) (width r : ℕ) → g (blank_row width) ≡ g (blank_row 0)
+    → g (row_at (rows_by_position (length rows) (moved_up rows 0 (length rows) 1 width)) r)
+    ≡ cond (nat_lt (r + 1) (length rows)) (g (row_at rows (r + 1))) (g (blank_row 0))
+seen-up g rows width r blank =
+    let n = length rows in
+    let up = moved_up rows 0 n 1 width in
+    let next = nat_lt (r + 1) n in
     ⊎_elim
-    (λ (l : r < length rows).
-    ap (λ (w : RowView). cell_at w.cells) (row_at-by_position (length rows) (moved_up rows 0 (length rows) 1 width) r l
-    ∙ row-up rows width r l)
-    ∙ cond_both (nat_lt (r + 1) (length rows)) (row_at rows (r + 1)) (blank_row width) (λ w. cell_at w.cells
-    ≡ cond (nat_lt (r + 1) (length rows)) (lines_of rows (r + 1)) (λ k. default_cell))
-    (λ e. rw e refl) (λ e. rw e (line-blank width)))
-    (λ (l : length rows ≤ r).
-    let last : nat_lt (r + 1) (length rows) ≡ false = le-ltb (r + 1) (length rows) (omega arith) in
-    lines-past moved r (omega arith) ∙ ap (λ b. cond b (lines_of rows (r + 1)) (λ k. default_cell)) (sym last))
-    (cases_lt r (length rows))
+    (λ (l : r < n). let moved : up r ≡ cond next (row_at rows (r + 1)) (blank_row width) = grind (arith, nat_tests) in
+    ap g (row_at-by_position n up r l ∙ moved)
+    ∙ cond_both next (row_at rows (r + 1)) (blank_row width)
+    (λ w. g w ≡ cond next (g (row_at rows (r + 1))) (g (blank_row 0))) (λ e. rw e refl) (λ e. rw e blank))
+    (λ (l : n ≤ r). ap g (row_at_past (rows_by_position n up) r (omega (arith, length-rows_by_position n up)))
+    ∙ ap (λ b. cond b (g (row_at rows (r + 1))) (g (blank_row 0))) (sym (le-ltb (r + 1) n (omega arith))))
+    (cases_lt r n)
 
--- each row stands a line further up, and a blank one comes
 pub lines-up : (rows : List RowView) (width : ℕ)
     → lines_of (rows_by_position (length rows) (moved_up rows 0 (length rows) 1 width))
     ≡ (λ r. cond (nat_lt (r + 1) (length rows)) (lines_of rows (r + 1)) (λ k. default_cell))
-lines-up rows width = fun_ext (line-up_at rows width)
+lines-up rows width = fun_ext (λ r. seen-up (λ w. cell_at w.cells) rows width r (line-blank width ∙ sym (line-blank 0))
+    ∙ ap (cond (nat_lt (r + 1) (length rows)) (lines_of rows (r + 1))) (line-blank 0))
 
-wrap-up_at : (rows : List RowView) (width r : ℕ) → wraps_of
-    (rows_by_position (length rows) (moved_up rows 0 (length rows) 1 width)) r
-    ≡ (nat_lt (r + 1) (length rows) && wraps_of rows (r + 1))
-wrap-up_at rows width r =
-    let moved = rows_by_position (length rows) (moved_up rows 0 (length rows) 1 width) in
-    let n = length-rows_by_position (length rows) (moved_up rows 0 (length rows) 1 width) in
-    ⊎_elim
-    (λ (l : r < length rows).
-    ap (λ (w : RowView). w.wrapped) (row_at-by_position (length rows) (moved_up rows 0 (length rows) 1 width) r l
-    ∙ row-up rows width r l)
-    ∙ cond_both (nat_lt (r + 1) (length rows)) (row_at rows (r + 1)) (blank_row width) (λ w. w.wrapped
-    ≡ (nat_lt (r + 1) (length rows) && wraps_of rows (r + 1))) (λ e. rw e refl) (λ e. rw e refl))
-    (λ (l : length rows ≤ r).
-    let last : nat_lt (r + 1) (length rows) ≡ false = le-ltb (r + 1) (length rows) (omega arith) in
-    wraps-past moved r (omega arith) ∙ ap (λ b. b && wraps_of rows (r + 1)) (sym last))
-    (cases_lt r (length rows))
+cond-and : (b c : Bool) → cond b c false ≡ (b && c)
+cond-and true c = refl
+cond-and false c = refl
 
 pub wraps-up : (rows : List RowView) (width : ℕ) → wraps_of
     (rows_by_position (length rows) (moved_up rows 0 (length rows) 1 width))
     ≡ (λ r. nat_lt (r + 1) (length rows) && wraps_of rows (r + 1))
-wraps-up rows width = fun_ext (wrap-up_at rows width)
+wraps-up rows width = fun_ext (λ r. seen-up (λ w. w.wrapped) rows width r refl
+    ∙ cond-and (nat_lt (r + 1) (length rows)) (wraps_of rows (r + 1)))

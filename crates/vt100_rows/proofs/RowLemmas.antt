@@ -1,10 +1,11 @@
 -- Each call of a row gives a row.
 use Rattle.std.proofs.Common.{◌≡◌, ℕ, ◌+◌, ◌-◌, ◌^◌, ◌<◌, ◌≤◌, ◌==◌, Bool, true, false, cond, not, ◌&&◌, ◌||◌, List, []}
-use Rattle.std.proofs.Common.{◌∷◌, ◌++◌, length, take, drop, min, length-append, length-take, replicate, sym, refl, ap}
-use Rattle.std.proofs.Common.{◌∙◌, arith, nat_lt, nat_le, ⊎_elim}
-use Rattle.std.proofs.lemmas.Bool.{false≢true, cases_lt, and_parts, not-true, cond_both, ltb-true, lt-ltb, le-ltb}
+use Rattle.std.proofs.Common.{◌∷◌, ◌++◌, length, take, min, length-append, length-take, replicate, sym, refl, ap, ◌∙◌}
+use Rattle.std.proofs.Common.{arith, nat_lt, nat_le, ⊎_elim}
+use Rattle.std.proofs.Math.Bool.{and-true}
+use Rattle.std.proofs.lemmas.Bool.{false≢true, cases_lt, and_parts, not-true, cond_both, ltb-true, le-ltb}
 use Rattle.std.proofs.lemmas.Bool.Decides.{nat_tests}
-use Rattle.std.proofs.lemmas.List.{places, length-replicate, get_or-take, take-append-le, take_all}
+use Rattle.std.proofs.lemmas.List.{places, length-replicate, get_or-take}
 use Rattle.vt100_forms.specs.declared.attrs.Attrs.{Attrs}
 use Rattle.vt100_forms.specs.Attrs.{default_attrs}
 use Rattle.vt100_cells.specs.Cell.{CellView, IsCell, default_cell, empty_cell, is_filled, has_text}
@@ -34,10 +35,6 @@ IsPaired-like f g e p = record {
   next = λ k. ap (λ (c : CellView). c.continuation) (e (k + 1)) ∙ p.next k ∙ ap (λ (c : CellView). c.wide) (sym (e k));
   blank = λ k h. e k ∙ p.blank k (ap (λ (c : CellView). c.continuation) (sym (e k)) ∙ h);
 }
-
-and-true : (b : Bool) → (b && true) ≡ b
-and-true true = refl
-and-true false = refl
 
 -- n cells of a line are a row
 pub IsRow-by_position : (n : ℕ) (f : ℕ → CellView) (wrapped : Bool) → n < 2 ^ 16 → IsPaired f → Bounded n f
@@ -191,15 +188,11 @@ IsRow-truncated v n r =
     unflagged m (cut m f) small (IsPaired-cut m f r.paired) (Bounded-cut m f) (IsCell-cut m f r.cells)
 
 -- a longer line ends in a narrow cell, so that its end cuts nothing
-extended-cut : (m n : ℕ) (f : ℕ → CellView) (x : CellView) (k : ℕ) → m < n → x.wide ≡ false → k < n
-    → extended m f x k ≡ cut n (extended m f x) k
-extended-cut m n f x k h w l = grind (arith, nat_tests)
-
 pub grown-by_position : (m n : ℕ) (f : ℕ → CellView) (x : CellView) → m < n → x.wide ≡ false
     → by_position n (extended m f x) ≡ by_position n (cut n (extended m f x))
 grown-by_position m n f x h w =
     by_position_is n (cut n (extended m f x)) (by_position n (extended m f x)) (length-by_position n (extended m f x))
-    (λ k l. cell_at-by_position n (extended m f x) k l ∙ extended-cut m n f x k h w l)
+    (λ k l. cell_at-by_position n (extended m f x) k l ∙ grind (arith, nat_tests))
 
 pub IsRow-grown : (v : RowView) (n : ℕ) (x : CellView) → IsRow v → IsCell x → x.wide ≡ false → x.continuation ≡ false
     → n < 2 ^ 16 → IsRow (grown v n x)
@@ -223,23 +216,15 @@ IsRow-resized v n x r c w q small =
     (λ _. IsRow-grown v n x r c w q small)
 
 -- a longer row
-extended-read : (xs : List CellView) (n k : ℕ) (x : CellView) → length xs < n → k < n
-    → cell_at (take n xs ++ replicate (n - length xs) x) k ≡ extended (length xs) (cell_at xs) x k
-extended-read xs n k x h l = grind (arith, places, nat_tests)
-
 pub grows : (xs : List CellView) (n : ℕ) (x : CellView) → length xs < n
     → take n xs ++ replicate (n - length xs) x ≡ by_position n (extended (length xs) (cell_at xs) x)
 grows xs n x h =
     by_position_is n (extended (length xs) (cell_at xs) x) (take n xs ++ replicate (n - length xs) x)
-    (simp (length-append, length-take, length-replicate) (omega arith)) (λ k l. extended-read xs n k x h l)
+    (simp (length-append, length-take, length-replicate) (omega arith)) (λ k l. grind (arith, places, nat_tests))
 
 pub grown-is : (v : RowView) (n : ℕ) (x : CellView) → length v.cells < n
     → record { cells = by_position n (extended (length v.cells) (cell_at v.cells) x); wrapped = false } ≡ grown v n x
-grown-is v n x h = ap (λ b. cond b (record {
-  cells = by_position n (extended (length v.cells) (cell_at v.cells) x);
-  wrapped = false;
-}) v)
-    (sym (lt-ltb (length v.cells) n h))
+grown-is v n x h = grind (arith, nat_tests)
 
 -- a shorter one
 cut-take : (xs : List CellView) (n m k : ℕ) → m ≡ min n (length xs) → k < m
@@ -260,19 +245,11 @@ truncates xs ys n e =
     (length-by_position m (cut m (cell_at (take n xs))))
     (λ k h. cell_at-by_position m (cut m (cell_at (take n xs))) k h ∙ cut-take xs n m k refl h)
 
--- what a vector holds after all of it was lent
-pub refilled : (n : ℕ) (ys xs : List CellView) → n ≡ length xs → length ys ≡ length xs
-    → take n (ys ++ drop (length ys) xs) ≡ ys
-refilled n ys xs e l = take-append-le n ys (drop (length ys) xs) (omega arith) ∙ take_all n ys (omega arith)
-
 -- ---- what changes nothing
-
-wiped-none : (f : ℕ → CellView) (s e : ℕ) (a : Attrs) (k : ℕ) → e ≤ s → f k ≡ wiped f s e a k
-wiped-none f s e a k h = grind (arith, nat_tests)
 
 pub wiped_row-none : (v : RowView) (s e : ℕ) (a : Attrs) → e ≤ s → v ≡ wiped_row v s e a
 wiped_row-none v s e a h =
-    let same = same-by_position v.cells (wiped (cell_at v.cells) s e a) (λ k. wiped-none (cell_at v.cells) s e a k h) in
+    let same = same-by_position v.cells (wiped (cell_at v.cells) s e a) (λ k. grind (arith, nat_tests)) in
     let no : nat_lt s e ≡ false = le-ltb s e h in
     let flag : v.wrapped ≡ (v.wrapped && not (wipe_unflags (length v.cells) (cell_at v.cells) s e)) =
     sym (and-true v.wrapped) ∙ ap (λ b. v.wrapped

@@ -1,6 +1,6 @@
 -- A run of printable ASCII characters, put on a row.
-use Rattle.std.proofs.Common.{◌≡◌, ℕ, zero, ◌+◌, ◌≤◌, ◌==◌, Bool, true, false, cond, not, ◌&&◌, List, [], ◌∷◌}
-use Rattle.std.proofs.Common.{length, sym, refl, ap, ◌∙◌, arith}
+use Rattle.std.proofs.Common.{◌≡◌, ℕ, zero, ◌+◌, ◌≤◌, ◌==◌, Bool, true, false, cond, not, ◌&&◌, List, [], ◌∷◌, length}
+use Rattle.std.proofs.Common.{sym, refl, ap, ◌∙◌, arith}
 use Rattle.std.specs.Prelude.{All}
 use Rattle.std.proofs.lemmas.List.Elements.{All-drop}
 use Rattle.vt100_forms.specs.declared.attrs.Attrs.{Attrs}
@@ -31,10 +31,11 @@ run_row-like : (v w : RowView) (i : ℕ) (xs : List ℕ) (a : Attrs) (f : ℕ �
     → run_row w i xs a ≡ record { cells = by_position (length v.cells) (printed_run f i xs a); wrapped = v.wrapped }
 run_row-like v w i xs a f n e b = λ j. record { cells = by_position (n j) (printed_run (e j) i xs a); wrapped = b j }
 
-pub run_row-each : (xs : List ℕ) (v : RowView) (i : ℕ) (a : Attrs) → IsRow v → All IsPrintable xs
-    → i + length xs ≤ length v.cells → run_row v i xs a ≡ placed_each v i xs a
-run_row-each [] v i a r p l = sym (run_row-none v i a)
-run_row-each (x ∷ xs) v i a r p l =
+-- all at once is one after another, and each step keeps what is true of a row
+run_row-both : (xs : List ℕ) (v : RowView) (i : ℕ) (a : Attrs) → IsRow v → All IsPrintable xs
+    → i + length xs ≤ length v.cells → (run_row v i xs a ≡ placed_each v i xs a) × IsRow (placed_each v i xs a)
+run_row-both [] v i a r p l = (sym (run_row-none v i a), r)
+run_row-both (x ∷ xs) v i a r p l =
     let f = cell_at v.cells in
     let n = length v.cells in
     let px : IsPrintable x = p zero 0 (omega arith) in
@@ -45,29 +46,26 @@ run_row-each (x ∷ xs) v i a r p l =
     let valid = IsCell-printable x a px in
     let valid_row = IsRow-placed v i (cell_of x a) a r valid refl (omega (arith, span)) in
     let line = line-placed v i (cell_of x a) a r (omega (arith, span)) in
-    let flag = and-not-narrow v.wrapped ((cell_of x a).wide) ((f (i + 1)).wide && ((i + 3) == n)) narrow in
-    sym (ap (λ (cells : List CellView). record { cells = cells; wrapped = v.wrapped })
-    (by_position-same n (printed_run (put f i (cell_of x a) a) (i + 1) xs a) (printed_run f i (x ∷ xs) a)
-    (λ k. run-step f i x xs a narrow k r.paired)))
-    ∙ sym (run_row-like v w (i + 1) xs a (put f i (cell_of x a) a) lw line flag)
-    ∙ run_row-each xs w (i + 1) a valid_row (All-drop IsPrintable 1 (x ∷ xs) p) (omega (arith, lw))
+    let rest = run_row-both xs w (i + 1) a valid_row (All-drop IsPrintable 1 (x ∷ xs) p) (omega (arith, lw)) in
+    let flag = and-not-narrow v.wrapped ((cell_of x a).wide) ((f (i + 1)).wide && ((i + 3) == n)) narrow in (
+      sym (ap (λ (cells : List CellView). record { cells = cells; wrapped = v.wrapped })
+          (by_position-same n (printed_run (put f i (cell_of x a) a) (i + 1) xs a) (printed_run f i (x ∷ xs) a)
+          (λ k. run-step f i x xs a narrow k r.paired)))
+          ∙ sym (run_row-like v w (i + 1) xs a (put f i (cell_of x a) a) lw line flag) ∙ rest.0,
+      rest.1,
+    )
+
+pub run_row-each : (xs : List ℕ) (v : RowView) (i : ℕ) (a : Attrs) → IsRow v → All IsPrintable xs
+    → i + length xs ≤ length v.cells → run_row v i xs a ≡ placed_each v i xs a
+run_row-each xs v i a r p l = (run_row-both xs v i a r p l).0
+
+pub IsRow-each : (xs : List ℕ) (v : RowView) (i : ℕ) (a : Attrs) → IsRow v → All IsPrintable xs
+    → i + length xs ≤ length v.cells → IsRow (placed_each v i xs a)
+IsRow-each xs v i a r p l = (run_row-both xs v i a r p l).1
 
 pub run_row-empty : (v : RowView) (i : ℕ) (xs : List ℕ) (a : Attrs) → length xs ≡ 0 → v ≡ run_row v i xs a
 run_row-empty v i [] a e = run_row-none v i a
 run_row-empty v i (x ∷ xs) a e = absurd (omega arith)
-
--- each step keeps what is true of a row
-pub IsRow-each : (xs : List ℕ) (v : RowView) (i : ℕ) (a : Attrs) → IsRow v → All IsPrintable xs
-    → i + length xs ≤ length v.cells → IsRow (placed_each v i xs a)
-IsRow-each [] v i a r p l = r
-IsRow-each (x ∷ xs) v i a r p l =
-    let px : IsPrintable x = p zero 0 (omega arith) in
-    let span = span-narrow (cell_of x a) (narrow-printable x a px) in
-    let w = placed v i (cell_of x a) a in
-    let lw : length w.cells ≡ length v.cells = length-by_position (length v.cells)
-    (put (cell_at v.cells) i (cell_of x a) a) in
-    IsRow-each xs w (i + 1) a (IsRow-placed v i (cell_of x a) a r (IsCell-printable x a px) refl (omega (arith, span)))
-    (All-drop IsPrintable 1 (x ∷ xs) p) (omega (arith, lw))
 
 pub IsRow-run : (v : RowView) (i : ℕ) (xs : List ℕ) (a : Attrs) → IsRow v → All IsPrintable xs
     → i + length xs ≤ length v.cells → IsRow (run_row v i xs a)

@@ -1,5 +1,5 @@
 -- The texts among the forms of a row.
-use Rattle.std.proofs.Common.{◌≡◌, ℕ, ◌+◌, ◌-◌, ◌<◌, ◌≤◌, Bool, true, nat_lt, List, length, min, arith}
+use Rattle.std.proofs.Common.{ℕ, ◌+◌, ◌-◌, ◌<◌, ◌≤◌, Bool, nat_lt, List, length, min, arith}
 use Rattle.std.specs.Prelude.{◌^◌}
 use Rattle.std.specs.List.{AllByRecursion}
 use Rattle.std.proofs.lemmas.Bool.{cond_both, ltb-true}
@@ -20,22 +20,29 @@ use Rattle.row_drawing.proofs.DrawnTexts.{texts}
 use Rattle.row_drawing.proofs.SmallRows.{small-skip, small-row_redraw, small-row_difference}
 use Rattle.vt100_rows.specs.Row.{RowView, IsRow}
 use Rattle.vt100_rows.specs.Forms.{redraw_job, redraw, difference_job, difference}
-use Rattle.vt100_rows.specs.Laws.{IsKnownRow, IsTrueOfForms, EachTextIsSent, EachTextIsAForm}
-use Rattle.vt100_rows.specs.Laws.{EachHasNoMark, IsSmallRow, IsTrueOfSmallForms, EachListIsSent, EachListIsOfForms}
+use Rattle.vt100_rows.specs.Laws.{IsKnownRow, IsTrueOfForms, EachTextIsSent, EachTextIsAForm, EachHasNoMark, IsSmallRow}
+use Rattle.vt100_rows.specs.Laws.{IsTrueOfSmallForms, EachListIsSent, EachListIsOfForms}
 
 -- ---- any part of a row
 
+-- what is true where something is drawn, and where nothing is, is true of both writers
+both-writers : (Q : Writer → Type 0) (v earlier : RowView) (start width row : ℕ) (above was_above : Bool) → Q skip
+    → ((n : ℕ) → start + n ≤ length v.cells → Q (row_redraw (redraw_job v start row above) n))
+    → ((n : ℕ) → start + n ≤ length v.cells → Q (row_difference (difference_job v earlier start row above was_above) n))
+    → Q (redraw v start width row above) × Q (difference v earlier start width row above was_above)
+both-writers Q v earlier start width row above was_above none drawn changed =
+    let cols = min (length v.cells) (length earlier.cells) in (
+      cond_both (nat_lt start (length v.cells)) _ skip Q
+          (λ e. drawn (min width (length v.cells - start)) (omega (arith, ltb-true start (length v.cells) e)))
+          (λ _. none),
+      cond_both (nat_lt start cols) _ skip Q
+          (λ e. changed (min width (cols - start)) (omega (arith, ltb-true start cols e))) (λ _. none),
+    )
+
 forms-drawing : (P : List ℕ → Type 0) (v : RowView) → AreTexts P (cell_at v.cells) → IsTrueOfForms (AllDrawing P) v
 forms-drawing P v h earlier start width row above was_above p =
-    let cols = min (length v.cells) (length earlier.cells) in
-    let Q : Writer → Type 0 = λ f. AllDrawing P (f p).forms in
-    let j = redraw_job v start row above in
-    let k = difference_job v earlier start row above was_above in (
-      cond_both (nat_lt start (length v.cells)) (row_redraw j (min width (length v.cells - start))) skip Q
-          (λ _. draws-row_redraw P j _ h p) (λ _. draws-skip P p),
-      cond_both (nat_lt start cols) (row_difference k (min width (cols - start))) skip Q
-          (λ _. draws-row_difference P k _ h p) (λ _. draws-skip P p),
-    )
+    both-writers (λ f. AllDrawing P (f p).forms) v earlier start width row above was_above (draws-skip P p)
+    (λ n _. draws-row_redraw P _ n h p) (λ n _. draws-row_difference P _ n h p)
 
 forms-map : (Q R : List Form → Type 0) (v : RowView) → ((fs : List Form) → Q fs → R fs) → IsTrueOfForms Q v
     → IsTrueOfForms R v
@@ -83,25 +90,11 @@ small-difference : (v earlier : RowView) (start row : ℕ) (above was_above : Bo
     → IsSmallJob (difference_job v earlier start row above was_above)
 small-difference v earlier start row above was_above h l = record { cols = h.cols; row = l; colors = h.colors }
 
-within : (start width cols n : ℕ) → nat_lt start cols ≡ true → cols ≤ n → start + min width (cols - start) ≤ n
-within start width cols n h l = omega (arith, ltb-true start cols h, l)
-
 forms-small : (v : RowView) → IsSmallRow v → IsTrueOfSmallForms AreSmall v
 forms-small v h earlier start width row above was_above p l s =
-    let wide = length v.cells in
-    let cols = min wide (length earlier.cells) in
-    let Q : Writer → Type 0 = λ f. AreSmall (f p).forms in
-    let j = redraw_job v start row above in
-    let k = difference_job v earlier start row above was_above in (
-      cond_both (nat_lt start wide) (row_redraw j (min width (wide - start))) skip Q
-          (λ e. (small-row_redraw j (min width (wide - start)) (small-redraw v start row above h l)
-          (within start width wide wide e (omega arith)) p s).forms)
-          (λ _. (small-skip p s).forms),
-      cond_both (nat_lt start cols) (row_difference k (min width (cols - start))) skip Q
-          (λ e. (small-row_difference k (min width (cols - start))
-          (small-difference v earlier start row above was_above h l) (within start width cols wide e (omega arith)) p
-          s).forms) (λ _. (small-skip p s).forms),
-    )
+    both-writers (λ f. AreSmall (f p).forms) v earlier start width row above was_above (small-skip p s).forms
+    (λ n m. (small-row_redraw _ n (small-redraw v start row above h l) m p s).forms)
+    (λ n m. (small-row_difference _ n (small-difference v earlier start row above was_above h l) m p s).forms)
 
 -- forms whose texts are as P says
 with-numbers : (P : List ℕ → Type 0) (v : RowView) → IsSmallRow v → IsTrueOfForms (AllDrawing P) v

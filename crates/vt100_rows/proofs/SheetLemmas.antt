@@ -1,11 +1,11 @@
 -- Lists of rows by positions.
 use Rattle.std.proofs.Common.{◌≡◌, ℕ, ◌+◌, ◌-◌, ◌^◌, ◌<◌, ◌≤◌, ◌==◌, Bool, true, false, cond, ◌&&◌, List, length}
 use Rattle.std.proofs.Common.{get_or, set, replicate, sym, refl, ap, ◌∙◌, arith, length-set, nat_lt, nat_le, ⊎_elim}
-use Rattle.std.proofs.lemmas.Bool.{cases_eq, eq-eqb, ne_eqb, cases_lt}
+use Rattle.std.proofs.Common.{take, drop, ◌++◌}
+use Rattle.std.proofs.lemmas.Bool.{cond_both, eqb-true, eqb-false, cases_lt}
 use Rattle.std.proofs.lemmas.Bool.Decides.{nat_tests}
 use Rattle.std.proofs.lemmas.List.{get_or-set_same, get_or-set_other, get_or_past, get_or-replicate, length-replicate}
 use Rattle.std.proofs.lemmas.List.{ext_get_or, take-append-le, take_all}
-use Rattle.std.proofs.Common.{take, drop, ◌++◌}
 use Rattle.std.proofs.lemmas.List.FromFn.{fill_by_all, get_or-map-range_with_len, length-map-range_with_len}
 use Rattle.vt100_cells.specs.Cell.{default_cell}
 use Rattle.vt100_rows.specs.Row.{RowView, blank_row}
@@ -17,11 +17,9 @@ use Rattle.vt100_rows.specs.Sheet.{row_at, rows_by_position, IsRowOf, IsSheet, c
 pub row_at-set : (rows : List RowView) (r : ℕ) (v : RowView) (k : ℕ) → r < length rows
     → row_at (set rows r v) k ≡ cond (k == r) v (row_at rows k)
 row_at-set rows r v k h =
-    ⊎_elim
-    (λ (e : k ≡ r). ap (λ j. get_or (set rows r v) j (blank_row 0)) e ∙ get_or-set_same rows r v (blank_row 0) h
-    ∙ ap (λ b. cond b v (row_at rows k)) (sym (eq-eqb k r e)))
-    (λ ne. get_or-set_other rows r k v (blank_row 0) ne ∙ ap (λ b. cond b v (row_at rows k)) (sym (ne_eqb k r ne)))
-    (cases_eq k r)
+    cond_both (k == r) v (row_at rows k) (λ w. row_at (set rows r v) k ≡ w)
+    (λ e. rw (eqb-true k r e) (get_or-set_same rows r v (blank_row 0) h))
+    (λ e. get_or-set_other rows r k v (blank_row 0) (eqb-false k r e))
 
 pub rows_by_position_is : (n : ℕ) (f : ℕ → RowView) (rows : List RowView) → length rows ≡ n
     → ((k : ℕ) → k < n → row_at rows k ≡ f k) → rows ≡ rows_by_position n f
@@ -33,18 +31,25 @@ row_at-by_position n f k h = get_or-map-range_with_len f 0 n k k (blank_row 0) h
 pub length-rows_by_position : (n : ℕ) (f : ℕ → RowView) → length (rows_by_position n f) ≡ n
 length-rows_by_position n f = length-map-range_with_len f 0 n
 
+-- rows of which each is known
+pub row_at-read : (n : ℕ) (f : ℕ → RowView) (rows : List RowView) (k : ℕ) → rows ≡ rows_by_position n f → k < n
+    → row_at rows k ≡ f k
+row_at-read n f rows k e h = ap (λ vs. row_at vs k) e ∙ row_at-by_position n f k h
+
+pub length-read : (n : ℕ) (f : ℕ → RowView) (rows : List RowView) → rows ≡ rows_by_position n f → length rows ≡ n
+length-read n f rows e = ap length e ∙ length-rows_by_position n f
+
+pub read_again : (n m : ℕ) (f g : ℕ → RowView) (rows : List RowView) → rows ≡ rows_by_position m f → m ≡ n
+    → ((k : ℕ) → k < n → f k ≡ g k) → rows ≡ rows_by_position n g
+read_again n m f g rows e same each = rows_by_position_is n g rows (length-read m f rows e ∙ same)
+    (λ k h. row_at-read m f rows k e (omega arith) ∙ each k h)
+
 pub row_at_past : (rows : List RowView) (k : ℕ) → length rows ≤ k → row_at rows k ≡ blank_row 0
 row_at_past rows k h = get_or_past rows k (blank_row 0) h
 
 pub rows_equal : (rows others : List RowView) → length rows ≡ length others
     → ((k : ℕ) → k < length rows → row_at rows k ≡ row_at others k) → rows ≡ others
 rows_equal rows others e h = ext_get_or (blank_row 0) rows others e h
-
-pub all_blank : (n width : ℕ) (rows : List RowView) → length rows ≡ n
-    → ((k : ℕ) → k < n → row_at rows k ≡ blank_row width) → rows ≡ replicate n (blank_row width)
-all_blank n width rows e h =
-    rows_equal rows (replicate n (blank_row width)) (e ∙ sym (length-replicate n (blank_row width)))
-    (λ k l. h k (omega (arith, e)) ∙ sym (get_or-replicate n k (blank_row width) (blank_row 0) (omega (arith, e))))
 
 -- what a Vec holds after its elements were lent as a slice
 pub refilled : {X : Type 0} (n : ℕ) (ys xs : List X) → n ≡ length xs → length ys ≡ length xs
@@ -53,21 +58,21 @@ refilled n ys xs e l = take-append-le n ys (drop (length ys) xs) (omega arith) �
 
 -- ---- a row more has changed
 
-changes-one : (f : RowView → RowView) (old rows : List RowView) (first r k : ℕ) (v : RowView) → first ≤ r
-    → row_at rows r ≡ changed_between f old first r r → row_at rows k ≡ changed_between f old first r k
-    → v ≡ f (row_at rows r)
-    → cond (k == r) v (row_at rows k) ≡ changed_between f old first (r + 1) k
-changes-one f old rows first r k v h er ek ev = grind (arith, nat_tests)
-
 pub changes-more : (f : RowView → RowView) (old rows : List RowView) (first r : ℕ) (v : RowView) → first ≤ r
     → r < length rows → ((k : ℕ) → row_at rows k ≡ changed_between f old first r k) → v ≡ f (row_at rows r)
     → (k : ℕ) → row_at (set rows r v) k ≡ changed_between f old first (r + 1) k
-changes-more f old rows first r v h l e ev k = row_at-set rows r v k l
-    ∙ changes-one f old rows first r k v h (e r) (e k) ev
+changes-more f old rows first r v h l e ev k = row_at-set rows r v k l ∙ grind (arith, nat_tests, e r, e k)
 
 pub all-read : (f : RowView → RowView) (rows : List RowView) (k : ℕ) → k < length rows
     → changed_between f rows 0 (length rows) k ≡ f (row_at rows k)
 all-read f rows k h = grind (arith, nat_tests)
+
+pub changes-done : (f : RowView → RowView) (old rows : List RowView) (first r end : ℕ) → length rows ≡ length old
+    → r ≡ end → ((k : ℕ) → row_at rows k ≡ changed_between f old first r k)
+    → rows ≡ rows_by_position (length old) (changed_between f old first end)
+changes-done f old rows first r end n done read =
+    rows_by_position_is (length old) (changed_between f old first end) rows n
+    (λ k _. read k ∙ ap (λ j. changed_between f old first j k) done)
 
 -- ---- what is true of the rows of a screen
 
@@ -97,13 +102,9 @@ IsSheet-with_row height width rows r v i h row last = record {
   count = λ l. length-set rows r v ∙ i.count (omega (arith, length-set rows r v));
   each = λ k l. rw (row_at-set rows r v k h) (IsRowOf-cond (k == r) width v (row_at rows k) (λ _. row)
       (λ _. i.each k (omega (arith, length-set rows r v))));
-  last =
-      ap (λ (x : RowView). x.wrapped) (row_at-set rows r v (height - 1) h)
-      ∙ ⊎_elim
-      (λ (e : height - 1 ≡ r). ap (λ b. (cond b v (row_at rows (height - 1))).wrapped) (eq-eqb (height - 1) r e)
-      ∙ last (omega (arith, i.count (omega arith))))
-      (λ ne. ap (λ b. (cond b v (row_at rows (height - 1))).wrapped) (ne_eqb (height - 1) r ne) ∙ i.last)
-      (cases_eq (height - 1) r);
+  last = ap (λ (x : RowView). x.wrapped) (row_at-set rows r v (height - 1) h)
+      ∙ wrapped-cond ((height - 1) == r) v (row_at rows (height - 1))
+      (λ b. last (omega (arith, i.count (omega arith), eqb-true (height - 1) r b))) (λ _. i.last);
 }
 
 pub IsSheet-by_position : (height width n : ℕ) (f : ℕ → RowView) → 0 < height → (0 < n → n ≡ height)
@@ -138,19 +139,28 @@ IsSheet-blank height width n count small =
           (cases_lt (height - 1) n);
     }
 
-resets-one : (rows : List RowView) (width k : ℕ) → k < length rows → length (row_at rows k).cells ≡ width
-    → changed_between (λ v. blank_row (length v.cells)) rows 0 (length rows) k ≡ blank_row width
-resets-one rows width k h w = grind (arith, nat_tests)
+-- rows of one width that are made blank
+pub resets-part : (rows ws : List RowView) (width first end : ℕ)
+    → ((r : ℕ) → r < length rows → IsRowOf width (row_at rows r))
+    → ws ≡ rows_by_position (length rows) (changed_between (λ v. blank_row (length v.cells)) rows first end)
+    → ws ≡ rows_by_position (length rows) (changed_between (λ v. blank_row width) rows first end)
+resets-part rows ws width first end each e =
+    read_again (length rows) (length rows) (changed_between (λ v. blank_row (length v.cells)) rows first end)
+    (changed_between (λ v. blank_row width) rows first end) ws e refl
+    (λ k h. ap (λ n. cond (nat_le first k && nat_lt k end) (blank_row n) (row_at rows k)) (each k h).wide)
 
 pub resets-all : (rows ws : List RowView) (width : ℕ) → ((r : ℕ) → r < length rows → IsRowOf width (row_at rows r))
     → ws ≡ rows_by_position (length rows) (changed_between (λ v. blank_row (length v.cells)) rows 0 (length rows))
     → ws ≡ replicate (length rows) (blank_row width)
 resets-all rows ws width each e =
-    let f : RowView → RowView = λ v. blank_row (length v.cells) in
-    all_blank (length rows) width ws (ap length e
-    ∙ length-rows_by_position (length rows) (changed_between f rows 0 (length rows)))
-    (λ k h. ap (λ vs. row_at vs k) e ∙ row_at-by_position (length rows) (changed_between f rows 0 (length rows)) k h
-    ∙ resets-one rows width k h (each k h).wide)
+    let n = length rows in
+    let blank = blank_row width in
+    let reset = resets-part rows ws width 0 n each e in
+    let count = length-read n (changed_between (λ v. blank) rows 0 n) ws reset in
+    rows_equal ws (replicate n blank) (count ∙ sym (length-replicate n blank))
+    (λ k h. let l : k < n = omega arith in
+    row_at-read n (changed_between (λ v. blank) rows 0 n) ws k reset l ∙ all-read (λ v. blank) rows k l
+    ∙ sym (get_or-replicate n k blank (blank_row 0) l))
 
 pub IsSheet-with_blank : (height width : ℕ) (rows : List RowView) (r : ℕ) (v : RowView) → IsSheet height width rows
     → r < length rows → width < 2 ^ 16 → v ≡ blank_row width → IsSheet height width (set rows r v)

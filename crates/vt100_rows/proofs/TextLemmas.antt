@@ -3,7 +3,8 @@ use Rattle.std.proofs.Common.{◌≡◌, ℕ, zero, suc, ◌+◌, ◌-◌, ◌<�
 use Rattle.std.proofs.Common.{◌∷◌, ◌++◌, length, replicate, sym, refl, ap, ◌∙◌, arith, append_assoc, append-nil}
 use Rattle.std.proofs.Common.{length-append, min, ⊎_elim}
 use Rattle.std.specs.Prelude.{encode_utf8_all, Result, Ok, Err, OnErr}
-use Rattle.std.proofs.lemmas.Bool.{ne_eqb, false≢true, cond_both, cases_lt}
+use Rattle.std.proofs.lemmas.Bool.{false≢true, cond_both, cases_lt}
+use Rattle.std.proofs.lemmas.Bool.Decides.{nat_tests}
 use Rattle.std.proofs.lemmas.List.{replicate-append-replicate}
 use Rattle.std.proofs.lemmas.Str.{encodes-append, encode_ascii}
 use Rattle.vt100_cells.specs.Cell.{CellView, has_text}
@@ -33,13 +34,13 @@ line_text-has f s n b g h =
     ∙ ap (λ (cs : List ℕ). cs ++ column_text f s (s + n)) g
     ∙ ap (λ cs. (line_text f s n ++ replicate b 32) ++ cs) (column_text-has f s (s + n) h)
 
-pub columns_text-has : (f : ℕ → CellView) (s n : ℕ) → has_text (f (s + n)) ≡ true
+columns_text-has : (f : ℕ → CellView) (s n : ℕ) → has_text (f (s + n)) ≡ true
     → columns_text f s (suc n) ≡ line_text f s (suc n) ++ replicate 0 32
 columns_text-has f s n h = sym (ap (λ t. cond t (columns_text f s (suc n)) (line_text f s n)) h)
     ∙ sym (append-nil (line_text f s (suc n)))
 
 -- what the code appends there
-pub writes-text : (f : ℕ → CellView) (s n b : ℕ) (old was spaced now : List ℕ)
+writes-text : (f : ℕ → CellView) (s n b : ℕ) (old was spaced now : List ℕ)
     → columns_text f s n ≡ line_text f s n ++ replicate b 32 → has_text (f (s + n)) ≡ true
     → was ≡ old ++ encode_utf8_all (line_text f s n) → spaced ≡ was ++ replicate b 32
     → now ≡ spaced ++ encode_utf8_all (f (s + n)).text
@@ -56,48 +57,35 @@ writes-text f s n b old was spaced now g h ew es en =
     ∙ append_assoc old (encode_utf8_all ls ++ replicate b 32) (encode_utf8_all t) ∙ ap (λ bs. old ++ bs) (sym whole)
 
 some-text : (xs ys : List ℕ) → not (length ys == 0) ≡ true → not (length (xs ++ ys) == 0) ≡ true
-some-text xs [] h = absurd (false≢true h)
-some-text xs (y ∷ ys) h = ap not (ne_eqb (length (xs ++ y ∷ ys)) 0
-    (λ e. absurd (omega (arith, e, length-append xs (y ∷ ys)))))
+some-text xs ys h = grind (arith, nat_tests, length-append xs ys)
 
-pub shows-text : (f : ℕ → CellView) (s n b : ℕ) → columns_text f s n ≡ line_text f s n ++ replicate b 32
+shows-text : (f : ℕ → CellView) (s n b : ℕ) → columns_text f s n ≡ line_text f s n ++ replicate b 32
     → has_text (f (s + n)) ≡ true → true ≡ not (length (line_text f s (suc n)) == 0)
 shows-text f s n b g h = sym (ap (λ (cs : List ℕ). not (length cs == 0)) (line_text-has f s n b g h)
     ∙ some-text (line_text f s n ++ replicate b 32) (f (s + n)).text h)
 
 -- where none stands
-pub line_text-none : (f : ℕ → CellView) (s n : ℕ) → has_text (f (s + n)) ≡ false
+line_text-none : (f : ℕ → CellView) (s n : ℕ) → has_text (f (s + n)) ≡ false
     → line_text f s (suc n) ≡ line_text f s n
 line_text-none f s n h = ap (λ t. cond t (columns_text f s (suc n)) (line_text f s n)) h
 
-columns_text-none : (f : ℕ → CellView) (s n b : ℕ) (cs : List ℕ)
-    → columns_text f s n ≡ line_text f s n ++ replicate b 32 → has_text (f (s + n)) ≡ false
-    → column_text f s (s + n) ≡ cs → columns_text f s (suc n) ≡ line_text f s (suc n) ++ (replicate b 32 ++ cs)
-columns_text-none f s n b cs g h e =
-    ap (λ (xs : List ℕ). xs ++ column_text f s (s + n)) g ∙ ap (λ xs. (line_text f s n ++ replicate b 32) ++ xs) e
-    ∙ append_assoc (line_text f s n) (replicate b 32) cs
-    ∙ ap (λ (xs : List ℕ). xs ++ (replicate b 32 ++ cs)) (sym (line_text-none f s n h))
+spaces-more : (q : Bool) (b : ℕ) → ◌++◌ {A = ℕ} (replicate b 32) (cond q [] (32 ∷ [])) ≡ replicate (cond q b (b + 1)) 32
+spaces-more true b = append-nil (replicate b 32)
+spaces-more false b = replicate-append-replicate b 1 32
 
-column_text-none : (f : ℕ → CellView) (s k : ℕ) (q : Bool) → has_text (f k) ≡ false
-    → ((f k).continuation && not (k == s)) ≡ q → column_text f s k ≡ cond q [] (32 ∷ [])
-column_text-none f s k q h e = ap (λ t. cond t (f k).text (cond ((f k).continuation && not (k == s)) [] (32 ∷ []))) h
-    ∙ ap (λ t. cond t [] (32 ∷ [])) e
-
-pub columns_text-half : (f : ℕ → CellView) (s n b : ℕ) → columns_text f s n ≡ line_text f s n ++ replicate b 32
-    → has_text (f (s + n)) ≡ false
-    → ((f (s + n)).continuation && not ((s + n) == s)) ≡ true
-    → columns_text f s (suc n) ≡ line_text f s (suc n) ++ replicate b 32
-columns_text-half f s n b g h e =
-    columns_text-none f s n b [] g h (column_text-none f s (s + n) true h e)
-    ∙ ap (λ xs. line_text f s (suc n) ++ xs) (append-nil (replicate b 32))
-
-pub columns_text-space : (f : ℕ → CellView) (s n b : ℕ) → columns_text f s n ≡ line_text f s n ++ replicate b 32
-    → has_text (f (s + n)) ≡ false
-    → ((f (s + n)).continuation && not ((s + n) == s)) ≡ false
-    → columns_text f s (suc n) ≡ line_text f s (suc n) ++ replicate (b + 1) 32
-columns_text-space f s n b g h e =
-    columns_text-none f s n b (32 ∷ []) g h (column_text-none f s (s + n) false h e)
-    ∙ ap (λ xs. line_text f s (suc n) ++ xs) (replicate-append-replicate b 1 32)
+-- the second half of a wide cell adds nothing, and an empty cell a space
+columns_text-none : (f : ℕ → CellView) (s n b : ℕ) (q : Bool) → columns_text f s n ≡ line_text f s n ++ replicate b 32
+    → has_text (f (s + n)) ≡ false → ((f (s + n)).continuation && not ((s + n) == s)) ≡ q
+    → columns_text f s (suc n) ≡ line_text f s (suc n) ++ replicate (cond q b (b + 1)) 32
+columns_text-none f s n b q g h e =
+    let x = f (s + n) in
+    ap (λ (xs : List ℕ). xs ++ column_text f s (s + n)) g
+    ∙ ap (λ xs. (line_text f s n ++ replicate b 32) ++ xs)
+    (ap (λ t. cond t x.text (cond (x.continuation && not ((s + n) == s)) [] (32 ∷ []))) h
+    ∙ ap (λ t. cond t [] (32 ∷ [])) e)
+    ∙ append_assoc (line_text f s n) (replicate b 32) (cond q [] (32 ∷ []))
+    ∙ ap (λ xs. line_text f s n ++ xs) (spaces-more q b)
+    ∙ ap (λ (xs : List ℕ). xs ++ replicate (cond q b (b + 1)) 32) (sym (line_text-none f s n h))
 
 -- ---- the loop over the columns
 
@@ -132,35 +120,19 @@ module _ (f : ℕ → CellView) (s col b : ℕ) (old was : List ℕ) (shown : Bo
         few = omega arith;
       })
 
-  blank : (q : Bool) → has_text (f col) ≡ false → ((f col).continuation && not (col == s)) ≡ q
-      → (has_text (f (s + (col - s))) ≡ false) × (((f (s + (col - s))).continuation && not ((s + (col - s)) == s)) ≡ q)
-  blank q t e = (ap (λ k. has_text (f k)) here ∙ t, ap (λ k. (f k).continuation && not (k == s)) here ∙ e)
-
-  pub IsWritten-space : has_text (f col) ≡ false → ((f col).continuation && not (col == s)) ≡ false
-      → IsWritten f s (col + 1 - s) old was (b + 1) shown
-  IsWritten-space t e =
-      let both = blank false t e in
-      let same = line_text-none f s (col - s) both.0 in
-      IsWritten-at f s (suc (col - s)) (col + 1 - s) old was (b + 1) shown one_more (record {
+  -- the second half of a wide cell, or an empty one
+  pub IsWritten-none : (q : Bool) → has_text (f col) ≡ false → ((f col).continuation && not (col == s)) ≡ q
+      → IsWritten f s (col + 1 - s) old was (cond q b (b + 1)) shown
+  IsWritten-none q t e =
+      let empty : has_text (f (s + (col - s))) ≡ false = ap (λ k. has_text (f k)) here ∙ t in
+      let same = line_text-none f s (col - s) empty in
+      IsWritten-at f s (suc (col - s)) (col + 1 - s) old was (cond q b (b + 1)) shown one_more (record {
         bytes = h.bytes ∙ ap (λ (cs : List ℕ). old ++ encode_utf8_all cs) (sym same);
-        gap = columns_text-space f s (col - s) b h.gap both.0 both.1;
+        gap = columns_text-none f s (col - s) b q h.gap empty
+            (ap (λ k. (f k).continuation && not (k == s)) here ∙ e);
         shows = h.shows ∙ ap (λ (cs : List ℕ). not (length cs == 0)) (sym same);
-        few = let l = h.few in omega arith;
+        few = let l = h.few in cond_both q b (b + 1) (λ n. n ≤ suc (col - s)) (λ _. omega arith) (λ _. omega arith);
       })
-
-  pub IsWritten-half : has_text (f col) ≡ false → ((f col).continuation && not (col == s)) ≡ true
-      → IsWritten f s (col + 1 - s) old was b shown
-  IsWritten-half t e =
-      let both = blank true t e in
-      let same = line_text-none f s (col - s) both.0 in
-      IsWritten-at f s (suc (col - s)) (col + 1 - s) old was b shown one_more (record {
-        bytes = h.bytes ∙ ap (λ (cs : List ℕ). old ++ encode_utf8_all cs) (sym same);
-        gap = columns_text-half f s (col - s) b h.gap both.0 both.1;
-        shows = h.shows ∙ ap (λ (cs : List ℕ). not (length cs == 0)) (sym same);
-        few = let l = h.few in omega arith;
-      })
-
--- ---- what is written in the end
 
 -- ---- where memory ran out
 
@@ -203,7 +175,7 @@ module _ (f : ℕ → CellView) (s n : ℕ) (stands : has_text (f (s + n)) ≡ t
       in ([], ap (λ j. columns_text f s (suc j)) e ∙ sym (append-nil first)))
       (cases_lt n k)
 
-  pub line-more : (k : ℕ) → n < k → (rest : List ℕ) × (line_text f s k ≡ first ++ rest)
+  line-more : (k : ℕ) → n < k → (rest : List ℕ) × (line_text f s k ≡ first ++ rest)
   line-more zero h = absurd (omega (arith, h))
   line-more (suc k) h =
       ⊎_elim
@@ -218,21 +190,20 @@ module _ (f : ℕ → CellView) (s n : ℕ) (stands : has_text (f (s + n)) ≡ t
       (cases_lt n k)
 
 some-front : (xs ys : List ℕ) → not (length xs == 0) ≡ true → not (length (xs ++ ys) == 0) ≡ true
-some-front [] ys h = absurd (false≢true h)
-some-front (x ∷ xs) ys h = ap not (ne_eqb (length (x ∷ xs ++ ys)) 0
-    (λ e. absurd (omega (arith, e, length-append (x ∷ xs) ys))))
+some-front xs ys h = grind (arith, nat_tests, length-append xs ys)
 
 pub on-err : {T E P : Type 0} (r : Result T E) → P → OnErr r P
 on-err (Ok x) p = tt
 on-err (Err e) p = p
 
 -- memory ran out at a column where a text stands
-pub IsBegun-text : (v : RowView) (s n col b : ℕ) (wrapping shown : Bool) (old was now : List ℕ) → s ≤ col
-    → col < min (s + n) (length v.cells) → IsWritten (cell_at v.cells) s (col - s) old was b shown
-    → has_text (cell_at v.cells col) ≡ true → IsBegun was (replicate b 32) now
-    → IsBegun old (encode_utf8_all (written_text v s n wrapping)) now
-IsBegun-text v s n col b wrapping shown old was now later within h stands begun =
+pub IsBegun-text : (v : RowView) (s start n col b : ℕ) (wrapping shown : Bool) (old was now : List ℕ) (x : CellView)
+    → s ≡ start → s ≤ col → col < min (s + n) (length v.cells)
+    → IsWritten (cell_at v.cells) s (col - s) old was b shown → x ≡ cell_at v.cells col → has_text x ≡ true
+    → IsBegun was (replicate b 32) now → IsBegun old (encode_utf8_all (written_text v start n wrapping)) now
+IsBegun-text v s start n col b wrapping shown old was now x es later within h ex has begun = rw (← es) (
     let f = cell_at v.cells in
+    let stands = ap has_text (sym ex) ∙ has in
     let k = col - s in
     let m = min (s + n) (length v.cells) - s in
     let at : s + k ≡ col = omega arith in
@@ -253,7 +224,7 @@ IsBegun-text v s n col b wrapping shown old was now later within h stands begun 
     ∙ encodes-append (ls ++ replicate b 32) (t ++ more.0)
     ∙ ap (λ (bs : List ℕ). bs ++ encode_utf8_all (t ++ more.0)) (encodes-append ls (replicate b 32)
     ∙ ap (λ bs. encode_utf8_all ls ++ bs) (encodes-spaces b)))
-    begun
+    begun)
   where
     and-none : (p q : Bool) → not q ≡ true → (p && q) ≡ false
     and-none true true e = absurd (false≢true e)

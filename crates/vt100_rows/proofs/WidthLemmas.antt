@@ -1,62 +1,44 @@
 -- Another size of a list of rows.
-use Rattle.std.proofs.Common.{◌≡◌, ℕ, ◌-◌, ◌^◌, ◌<◌, ◌≤◌, ◌==◌, true, false, cond, ◌&&◌, List, length, set, take, min}
-use Rattle.std.proofs.Common.{refl, sym, ap, ◌∙◌, arith, length-set, length-take, nat_lt, nat_le, ⊎_elim, subst}
-use Rattle.std.proofs.lemmas.Bool.{cond_both, cases_lt, ltb-true, ltb-false}
+use Rattle.std.proofs.Common.{◌≡◌, ℕ, ◌-◌, ◌^◌, ◌<◌, ◌≤◌, Bool, true, false, cond, ◌&&◌, List, length, set, take, min}
+use Rattle.std.proofs.Common.{refl, sym, ap, ◌∙◌, arith, length-take, nat_lt, nat_le, ⊎_elim, subst}
+use Rattle.std.proofs.lemmas.Bool.{cond_both, cases_lt, ltb-true, ltb-false, le-ltb}
 use Rattle.std.proofs.lemmas.Bool.Decides.{nat_tests}
-use Rattle.std.proofs.lemmas.List.{places}
+use Rattle.std.proofs.lemmas.List.{places, set-get_or}
 use Rattle.vt100_forms.specs.Attrs.{default_attrs}
 use Rattle.vt100_cells.specs.Cell.{default_cell}
 use Rattle.vt100_cells.specs.Line.{cut, extended}
 use Rattle.vt100_cells.specs.Cells.{cell_at, by_position}
-use Rattle.vt100_rows.specs.Row.{RowView, truncated, grown, resized_row, unwrapped}
+use Rattle.vt100_rows.specs.Row.{RowView, blank_row, truncated, grown, resized_row, unwrapped}
 use Rattle.vt100_rows.proofs.RowLemmas.{IsRow-truncated, IsRow-resized}
 use Rattle.vt100_cells.proofs.CellLemmas.{IsCell-empty}
 use Rattle.vt100_cells.proofs.ListLemmas.{length-by_position}
-use Rattle.vt100_rows.specs.Sheet.{row_at, rows_by_position, IsRowOf, IsSheet, changed_between}
-use Rattle.vt100_rows.specs.Sheet.{first_rows}
-use Rattle.vt100_rows.proofs.SheetLemmas.{row_at-set, row_at-by_position, rows_by_position_is, length-rows_by_position}
-use Rattle.vt100_rows.proofs.SheetLemmas.{IsRowOf-cond, wrapped-cond, IsSheet-by_position, rows_equal, all-read}
+use Rattle.vt100_rows.specs.Sheet.{row_at, rows_by_position, IsRowOf, IsSheet, changed_between, first_rows}
+use Rattle.vt100_rows.proofs.SheetLemmas.{rows_by_position_is, length-read, read_again, changes-done, IsRowOf-cond}
+use Rattle.vt100_rows.proofs.SheetLemmas.{wrapped-cond, IsSheet-by_position, rows_equal, all-read}
+use Rattle.vt100_rows.proofs.MoveLemmas.{unwraps}
 use Rattle.vt100_rows.proofs.KeptLemmas.{IsRow-grown_default, grown-wide}
 
 first-read : (rows : List RowView) (height k : ℕ) → k < min height (length rows)
     → row_at (take height rows) k ≡ row_at rows k
 first-read rows height k h = grind (arith, places)
 
-first-unwrapped : (rows : List RowView) (height k : ℕ) (v : RowView) → 0 < height
-    → v ≡ unwrapped (row_at rows (height - 1)) → cond (k == (height - 1)) v (row_at rows k) ≡ first_rows rows height k
-first-unwrapped rows height k v h e = grind (arith, nat_tests)
-
-first-whole : (rows : List RowView) (height k : ℕ) → k < length rows → length rows < height
-    → row_at rows k ≡ first_rows rows height k
-first-whole rows height k h l = grind (arith, nat_tests)
-
 pub firsts : (rows ys ws : List RowView) (height at : ℕ) (v : RowView) → 0 < height → height ≤ length rows
     → ys ≡ take height rows → at ≡ height - 1 → v ≡ unwrapped (row_at ys at) → ws ≡ set ys at v
     → ws ≡ rows_by_position (min height (length rows)) (first_rows rows height)
 firsts rows ys ws height at v h l ey ea ev ew =
-    let n : length ys ≡ min height (length rows) = ap length ey ∙ simp length-take (omega arith) in
-    rows_by_position_is (min height (length rows)) (first_rows rows height) ws (ap length ew ∙ length-set ys at v ∙ n)
-    (λ k m. ap (λ vs. row_at vs k) ew ∙ row_at-set ys at v k (omega arith)
-    ∙ ap (λ j. cond (k == j) v (row_at ys k)) ea ∙ ap (λ x. cond (k == (height - 1)) v x) (ap (λ vs. row_at vs k) ey
-    ∙ first-read rows height k m)
-    ∙ first-unwrapped rows height k v h (ev ∙ ap (λ j. unwrapped (row_at ys j)) ea
-    ∙ ap unwrapped (ap (λ vs. row_at vs (height - 1)) ey ∙ first-read rows height (height - 1) (omega arith))))
+    unwraps (row_at rows) ys ws (min height (length rows)) height at v h (omega arith) ea
+    (ap length ey ∙ simp length-take (omega arith))
+    (λ k m. ap (λ vs. row_at vs k) ey ∙ first-read rows height k m) ev ew
 
 pub firsts-all : (rows ys : List RowView) (height : ℕ) → length rows < height → ys ≡ take height rows
     → ys ≡ rows_by_position (min height (length rows)) (first_rows rows height)
 firsts-all rows ys height l ey =
     let n : length ys ≡ min height (length rows) = ap length ey ∙ simp length-take (omega arith) in
     rows_by_position_is (min height (length rows)) (first_rows rows height) ys n
-    (λ k m. ap (λ vs. row_at vs k) ey ∙ first-read rows height k m ∙ first-whole rows height k (omega arith) l)
-
-not-below : (m n : ℕ) → nat_lt m n ≡ false → m ≤ n → m ≡ n
-not-below m n e h = grind (arith, nat_tests)
+    (λ k m. ap (λ vs. row_at vs k) ey ∙ first-read rows height k m ∙ grind (arith, nat_tests))
 
 pub lt_ltb : (m n : ℕ) → m < n → nat_lt m n ≡ true
 lt_ltb m n h = grind (arith, nat_tests)
-
-not-less : (m n : ℕ) → n ≤ m → nat_lt m n ≡ false
-not-less m n h = grind (arith, nat_tests)
 
 length-truncated : (v : RowView) (n : ℕ) → n ≤ length v.cells → length (truncated v n).cells ≡ n
 length-truncated v n h = length-by_position (min n (length v.cells)) (cut (min n (length v.cells)) (cell_at v.cells))
@@ -70,7 +52,7 @@ length-grown v n h =
     }) v
     (λ (x : RowView). length x.cells ≡ n)
     (λ _. length-by_position n (extended (length v.cells) (cell_at v.cells) default_cell))
-    (λ e. not-below (length v.cells) n e h)
+    (λ e. omega (arith, ltb-false (length v.cells) n e))
 
 pub length-resized : (v : RowView) (n : ℕ) → length (resized_row v n default_cell).cells ≡ n
 length-resized v n =
@@ -90,54 +72,37 @@ pub changes-all : (f : RowView → RowView) (rows ws : List RowView) (n : ℕ) �
     → ((k : ℕ) → row_at ws k ≡ changed_between f rows 0 n k)
     → ws ≡ rows_by_position (length rows) (λ r. f (row_at rows r))
 changes-all f rows ws n l e read =
-    rows_by_position_is (length rows) (λ r. f (row_at rows r)) ws l
-    (λ k h. read k ∙ ap (λ m. changed_between f rows 0 m k) e ∙ all-read f rows k h)
-
-rows_alike : (n : ℕ) (f g : ℕ → RowView) → ((k : ℕ) → k < n → f k ≡ g k) → rows_by_position n f ≡ rows_by_position n g
-rows_alike n f g e = rows_by_position_is n g (rows_by_position n f) (length-rows_by_position n f)
-    (λ k h. row_at-by_position n f k h ∙ e k h)
-
-resized-shorter : (v : RowView) (to : ℕ) → to < length v.cells → truncated v to ≡ resized_row v to default_cell
-resized-shorter v to h = ap (λ b. cond b (truncated v to) (grown v to default_cell))
-    (sym (lt_ltb to (length v.cells) h))
+    read_again (length rows) (length rows) (changed_between f rows 0 (length rows)) (λ r. f (row_at rows r)) ws
+    (changes-done f rows ws 0 n (length rows) l e read) refl (all-read f rows)
 
 pub resized-longer : (v : RowView) (to : ℕ) → length v.cells ≤ to
     → grown v to default_cell ≡ resized_row v to default_cell
 resized-longer v to h = ap (λ b. cond b (truncated v to) (grown v to default_cell))
-    (sym (not-less to (length v.cells) h))
+    (sym (le-ltb to (length v.cells) h))
 
 pub narrows : (rows : List RowView) (from to : ℕ) → IsSheet (length rows) from rows → to < from
     → rows_by_position (length rows) (changed_between (λ v. truncated v to) rows 0 (length rows))
     ≡ rows_by_position (length rows) (λ r. resized_row (row_at rows r) to default_cell)
 narrows rows from to i h =
-    rows_alike (length rows) (changed_between (λ v. truncated v to) rows 0 (length rows))
-    (λ r. resized_row (row_at rows r) to default_cell)
-    (λ k l. all-read (λ v. truncated v to) rows k l
-    ∙ resized-shorter (row_at rows k) to (omega (arith, (i.each k l).wide)))
+    let n = length rows in
+    let f = changed_between (λ v. truncated v to) rows 0 n in
+    read_again n n f (λ r. resized_row (row_at rows r) to default_cell) (rows_by_position n f) refl refl
+    (λ k l. let v = row_at rows k in
+    all-read (λ w. truncated w to) rows k l ∙ ap (λ b. cond b (truncated v to) (grown v to default_cell))
+    (sym (lt_ltb to (length v.cells) (omega (arith, (i.each k l).wide)))))
 
 pub widens : (rows : List RowView) (from to : ℕ) → IsSheet (length rows) from rows → from ≤ to
     → rows_by_position (length rows) (λ r. grown (row_at rows r) to default_cell)
     ≡ rows_by_position (length rows) (λ r. resized_row (row_at rows r) to default_cell)
 widens rows from to i h =
-    rows_alike (length rows) (λ r. grown (row_at rows r) to default_cell)
-    (λ r. resized_row (row_at rows r) to default_cell)
+    let n = length rows in
+    let f : ℕ → RowView = λ r. grown (row_at rows r) to default_cell in
+    read_again n n f (λ r. resized_row (row_at rows r) to default_cell) (rows_by_position n f) refl refl
     (λ k l. resized-longer (row_at rows k) to (omega (arith, (i.each k l).wide)))
 
-left_alone : (rows : List RowView) (r k : ℕ) (v : RowView) → v ≡ row_at rows r
-    → cond (k == r) v (row_at rows k) ≡ row_at rows k
-left_alone rows r k v e = grind (arith, nat_tests)
-
-pub same_read : (rows : List RowView) (r : ℕ) (v : RowView) → r < length rows → v ≡ row_at rows r → (k : ℕ)
+pub same_read : (rows : List RowView) (r : ℕ) (v : RowView) → v ≡ row_at rows r → (k : ℕ)
     → row_at (set rows r v) k ≡ row_at rows k
-same_read rows r v h e k = row_at-set rows r v k h ∙ left_alone rows r k v e
-
-changed-in : (f : RowView → RowView) (rows : List RowView) (end k : ℕ) → (nat_le 0 k && nat_lt k end) ≡ true
-    → changed_between f rows 0 end k ≡ f (row_at rows k)
-changed-in f rows end k e = ap (λ b. cond b (f (row_at rows k)) (row_at rows k)) e
-
-changed-out : (f : RowView → RowView) (rows : List RowView) (end k : ℕ) → (nat_le 0 k && nat_lt k end) ≡ false
-    → changed_between f rows 0 end k ≡ row_at rows k
-changed-out f rows end k e = ap (λ b. cond b (f (row_at rows k)) (row_at rows k)) e
+same_read rows r v e k = ap (λ vs. row_at vs k) (ap (set rows r) e ∙ set-get_or rows r (blank_row 0))
 
 IsRowOf-back : (from to : ℕ) (v w : RowView) → IsRowOf from v → from ≤ to → to < 2 ^ 16 → w ≡ grown v to default_cell
     → IsRowOf from (truncated w from)
@@ -154,17 +119,17 @@ pub IsSheet-back : (rows ys ws : List RowView) (from to end : ℕ) → IsSheet (
 IsSheet-back rows ys ws from to end i h small l read e =
     let f : ℕ → RowView = changed_between (λ v. truncated v from) ys 0 end in
     let ew : ws ≡ rows_by_position (length rows) f = e ∙ ap (λ n. rows_by_position n f) l in
+    let choice = λ (k : ℕ) (b : Bool) (is : (nat_le 0 k && nat_lt k end) ≡ b).
+    ap (λ q. cond q (grown (row_at rows k) to default_cell) (row_at rows k)) is in
     ⊎_elim
     (λ (some : 0 < length rows). rw ew (IsSheet-by_position (length rows) from (length rows) f some i.count
     (λ r m. IsRowOf-cond (nat_le 0 r && nat_lt r end) from (truncated (row_at ys r) from) (row_at ys r)
-    (λ b. IsRowOf-back from to (row_at rows r) (row_at ys r) (i.each r m) h small (read r
-    ∙ changed-in (λ v. grown v to default_cell) rows end r b))
-    (λ b. rw (read r ∙ changed-out (λ v. grown v to default_cell) rows end r b) (i.each r m)))
+    (λ b. IsRowOf-back from to (row_at rows r) (row_at ys r) (i.each r m) h small (read r ∙ choice r true b))
+    (λ b. rw (read r ∙ choice r false b) (i.each r m)))
     (λ m. wrapped-cond (nat_le 0 (length rows - 1)
     && nat_lt (length rows - 1) end) (truncated (row_at ys (length rows - 1)) from) (row_at ys (length rows - 1))
     (λ _. refl)
-    (λ b. ap (λ (v : RowView). v.wrapped) (read (length rows - 1)
-    ∙ changed-out (λ v. grown v to default_cell) rows end (length rows - 1) b) ∙ i.last))))
+    (λ b. ap (λ (v : RowView). v.wrapped) (read (length rows - 1) ∙ choice (length rows - 1) false b) ∙ i.last))))
     (λ (none : length rows ≤ 0). subst (λ (xs : List RowView). IsSheet (length rows) from xs)
-    (rows_equal rows ws (sym (ap length ew ∙ length-rows_by_position (length rows) f)) (λ k m. absurd (omega arith))) i)
+    (rows_equal rows ws (sym (length-read (length rows) f ws ew)) (λ k m. absurd (omega arith))) i)
     (cases_lt 0 (length rows))

@@ -1,7 +1,6 @@
 use Rattle.std.proofs.Common.{true, false, sym, ◌∙◌, append-nil}
 use Rattle.std.specs.Prelude.{encode_utf8}
-use Rattle.vt100_rows.proofs.BasicLemmas.{on-ok, from-ok, writes-default, writes-own}
-use Rattle.vt100_rows.proofs.BasicLemmas.{basic_cell-some}
+use Rattle.vt100_rows.proofs.BasicLemmas.{on-ok, from-ok, writes-default, writes-own, basic_cell-some}
 use Rattle.vt100_rows.proofs.basic.write_cell.Goals as goal
 
 pub returns-then-is_default-clause-text : goal.returns-then-is_default-clause-text

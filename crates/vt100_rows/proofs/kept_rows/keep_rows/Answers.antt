@@ -2,8 +2,8 @@ use Rattle.std.proofs.Common.{arith, ap, ◌∙◌, ◌≡◌, ◌<◌, ◌++◌
 use Rattle.std.proofs.lemmas.List.{get_or_default}
 use Rattle.vt100_rows.specs.Row.{RowView, IsRow, blank_row}
 use Rattle.vt100_rows.proofs.TrimLemmas.{IsRow-trimmed}
-use Rattle.vt100_rows.specs.Sheet.{changed_between, row_at}
-use Rattle.vt100_rows.proofs.SheetLemmas.{rows_by_position_is, changes-more, IsSheet-with_blank}
+use Rattle.vt100_rows.specs.Sheet.{row_at}
+use Rattle.vt100_rows.proofs.SheetLemmas.{changes-more, changes-done, IsSheet-with_blank}
 use Rattle.vt100_rows.proofs.KeptLemmas.{IsRow-push, keeps-more}
 use Rattle.vt100_rows.proofs.kept_rows.keep_rows.Goals as goal
 
@@ -47,7 +47,5 @@ returns-in_err-push_back-clause-each_kept c = rw c.in_err-push_back.ensures.item
 
 pub returns-clause-rows : goal.returns-clause-rows
 returns-clause-rows c =
-    let f : RowView → RowView = λ v. blank_row c.args.width in
-    let done : c.loop-r.r ≡ c.args.end = omega (arith, c.requires.in_part) in
-    rows_by_position_is _ (changed_between f c.args.rows.now c.args.first c.args.end) c.loop-r.rows c.loop-r.auto.rows
-    (λ k h. c.loop-r.invariant.blank k ∙ ap (λ r. changed_between f c.args.rows.now c.args.first r k) done)
+    changes-done (λ v. blank_row c.args.width) c.args.rows.now c.loop-r.rows c.args.first c.loop-r.r c.args.end
+    c.loop-r.auto.rows (omega (arith, c.requires.in_part)) c.loop-r.invariant.blank

@@ -21,10 +21,9 @@ loop-j-preserved c =
     record {
       changed = changes-more f c.args.rows.now.items rows (length c.args.rows.now.items - c.args.n) c.loop-j.j
           c.resize.new.self (omega arith) within c.loop-j.invariant.changed sized;
-      each = λ k l. IsRow-set rows c.loop-j.j c.resize.new.self c.loop-j.invariant.each
+      each = IsRow-set rows c.loop-j.j c.resize.new.self c.loop-j.invariant.each
           (rw sized (IsRow-resized_default (row_at rows c.loop-j.j) c.args.width
-          (c.loop-j.invariant.each c.loop-j.j within) (omega arith))) within k
-          (omega (arith, length-set rows c.loop-j.j c.resize.new.self));
+          (c.loop-j.invariant.each c.loop-j.j within) (omega arith))) within;
       count = length-set rows c.loop-j.j c.resize.new.self ∙ c.loop-j.invariant.count;
     }
 
@@ -34,9 +33,8 @@ returns-in_err-resize-clause-each c =
     let within : c.loop-j.j < length rows = omega (arith, c.loop-j.invariant.count) in
     let row : c.index_mut.result.now ≡ row_at rows c.loop-j.j =
     c.index_mut.ensures.value ∙ get_or_default rows c.loop-j.j c.index_mut.result.now (blank_row 0) within in
-    λ k l. IsRow-set rows c.loop-j.j c.resize.new.self c.loop-j.invariant.each
-    (rw (c.in_err-resize.ensures.err ∙ row) (c.loop-j.invariant.each c.loop-j.j within)) within k
-    (omega (arith, length-set rows c.loop-j.j c.resize.new.self))
+    IsRow-set rows c.loop-j.j c.resize.new.self c.loop-j.invariant.each
+    (rw (c.in_err-resize.ensures.err ∙ row) (c.loop-j.invariant.each c.loop-j.j within)) within
 
 pub returns-clause-rows : goal.returns-clause-rows
 returns-clause-rows c =

@@ -3,8 +3,8 @@ use Rattle.std.proofs.lemmas.Bool.{false≢true}
 use Rattle.std.proofs.lemmas.List.{get_or_default}
 use Rattle.vt100_cells.specs.Cell.{CellView, default_cell}
 use Rattle.vt100_rows.specs.Row.{RowView, grown, blank_row}
-use Rattle.vt100_rows.specs.Sheet.{changed_between, row_at}
-use Rattle.vt100_rows.proofs.SheetLemmas.{rows_by_position_is, changes-more}
+use Rattle.vt100_rows.specs.Sheet.{row_at}
+use Rattle.vt100_rows.proofs.SheetLemmas.{changes-more, changes-done}
 use Rattle.vt100_rows.proofs.KeptLemmas.{IsRow-set, IsRow-grown_default, not_yet, wide_along}
 use Rattle.vt100_rows.proofs.kept_rows.widen.Goals as goal
 
@@ -21,10 +21,9 @@ loop-j-preserved c =
     record {
       grown = changes-more f c.args.rows.now.items rows c.args.first c.loop-j.j c.grow.new.self (omega arith) within
           c.loop-j.invariant.grown wider;
-      each = λ k l. IsRow-set rows c.loop-j.j c.grow.new.self c.loop-j.invariant.each
+      each = IsRow-set rows c.loop-j.j c.grow.new.self c.loop-j.invariant.each
           (rw wider (IsRow-grown_default (row_at rows c.loop-j.j) c.args.width
-          (c.loop-j.invariant.each c.loop-j.j within) (omega arith))) within k
-          (omega (arith, length-set rows c.loop-j.j c.grow.new.self));
+          (c.loop-j.invariant.each c.loop-j.j within) (omega arith))) within;
       count = length-set rows c.loop-j.j c.grow.new.self ∙ c.loop-j.invariant.count;
     }
 
@@ -34,9 +33,8 @@ returns-in_err-grow-clause-each c =
     let within : c.loop-j.j < length rows = omega (arith, c.loop-j.invariant.count, c.requires.in_rows) in
     let row : c.index_mut.result.now ≡ row_at rows c.loop-j.j =
     c.index_mut.ensures.value ∙ get_or_default rows c.loop-j.j c.index_mut.result.now (blank_row 0) within in
-    λ k l. IsRow-set rows c.loop-j.j c.grow.new.self c.loop-j.invariant.each
-    (rw (c.in_err-grow.ensures.err ∙ row) (c.loop-j.invariant.each c.loop-j.j within)) within k
-    (omega (arith, length-set rows c.loop-j.j c.grow.new.self))
+    IsRow-set rows c.loop-j.j c.grow.new.self c.loop-j.invariant.each
+    (rw (c.in_err-grow.ensures.err ∙ row) (c.loop-j.invariant.each c.loop-j.j within)) within
 
 pub returns-in_err-grow-clause-wide : goal.returns-in_err-grow-clause-wide
 returns-in_err-grow-clause-wide c all =
@@ -52,8 +50,5 @@ returns-in_err-grow-clause-wide c all =
 
 pub returns-clause-rows : goal.returns-clause-rows
 returns-clause-rows c =
-    let f : RowView → RowView = λ v. grown v c.args.width default_cell in
-    let done : c.loop-j.j ≡ c.args.end = omega (arith, c.requires.in_part) in
-    rows_by_position_is _ (changed_between f c.args.rows.now.items c.args.first c.args.end) c.loop-j.rows.items
-    c.loop-j.invariant.count
-    (λ k h. c.loop-j.invariant.grown k ∙ ap (λ r. changed_between f c.args.rows.now.items c.args.first r k) done)
+    changes-done (λ v. grown v c.args.width default_cell) c.args.rows.now.items c.loop-j.rows.items c.args.first
+    c.loop-j.j c.args.end c.loop-j.invariant.count (omega (arith, c.requires.in_part)) c.loop-j.invariant.grown

@@ -1,12 +1,9 @@
-use Rattle.std.proofs.Common.{arith, ap, ◌∙◌, ◌≡◌, length}
-use Rattle.vt100_rows.specs.Row.{RowView, blank_row}
-use Rattle.vt100_rows.specs.Sheet.{changed_between}
-use Rattle.vt100_rows.proofs.SheetLemmas.{rows_by_position_is}
+use Rattle.std.proofs.Common.{arith, length}
+use Rattle.vt100_rows.specs.Row.{blank_row}
+use Rattle.vt100_rows.proofs.SheetLemmas.{changes-done}
 use Rattle.vt100_rows.proofs.rows_edit.reset_between.Goals as goal
 
 pub returns : goal.returns
 returns c =
-    let f : RowView → RowView = λ v. blank_row (length v.cells) in
-    let done : c.loop-r.r ≡ c.args.end = omega (arith, c.requires.in_part) in
-    rows_by_position_is _ (changed_between f c.args.rows.now c.args.first c.args.end) c.loop-r.rows c.loop-r.auto.rows
-    (λ k h. c.loop-r.invariant k ∙ ap (λ r. changed_between f c.args.rows.now c.args.first r k) done)
+    changes-done (λ v. blank_row (length v.cells)) c.args.rows.now c.loop-r.rows c.args.first c.loop-r.r c.args.end
+    c.loop-r.auto.rows (omega (arith, c.requires.in_part)) c.loop-r.invariant

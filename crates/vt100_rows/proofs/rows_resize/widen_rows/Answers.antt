@@ -27,7 +27,7 @@ returns-in-Err-clause-sheet c =
     IsSheet-back c.args.rows.now (set rows c.loop-r.r c.grow.new.self) c.narrow_rows.new.rows c.args.from c.args.to
     c.loop-r.r c.requires.sheet c.requires.wider (omega arith)
     (length-set rows c.loop-r.r c.grow.new.self ∙ c.loop-r.auto.rows)
-    (λ k. same_read rows c.loop-r.r c.grow.new.self within same k ∙ c.loop-r.invariant k) c.narrow_rows.ensures
+    (λ k. same_read rows c.loop-r.r c.grow.new.self same k ∙ c.loop-r.invariant k) c.narrow_rows.ensures
 
 pub returns-clause-rows : goal.returns-clause-rows
 returns-clause-rows c =

@@ -2,7 +2,8 @@ use Rattle.std.proofs.Common.{ap, ◌∙◌, length, false, List}
 use Rattle.vt100_cells.specs.Cell.{CellView}
 use Rattle.vt100_cells.specs.Cells.{inserted_cells}
 use Rattle.vt100_rows.specs.Row.{RowView, inserted}
-use Rattle.vt100_rows.proofs.RowLemmas.{IsRow-at, IsRow-inserted, refilled}
+use Rattle.vt100_rows.proofs.RowLemmas.{IsRow-at, IsRow-inserted}
+use Rattle.vt100_rows.proofs.SheetLemmas.{refilled}
 use Rattle.vt100_rows.proofs.row.Row.insert.Goals as goal
 
 pub returns : goal.returns

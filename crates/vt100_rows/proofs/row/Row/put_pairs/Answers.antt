@@ -15,8 +15,8 @@ invariant_of-self c =
 pub returns-after-pairs_end-clause-each : goal.returns-after-pairs_end-clause-each
 returns-after-pairs_end-clause-each c =
     let same : _ ≡ pairs_row c.args.self.now c.args.col c.args.text.now c.args.attrs = grind (arith, common_steps) in
-    same ∙ pairs_row-each c.args.text.now c.args.self.now c.args.col c.args.attrs
-    (rw (← c.self.view_is) c.self.invariant) c.requires.wide c.put_pairs.ensures.characters c.requires.in_row
+    same ∙ (pairs_row-each c.args.text.now c.args.self.now c.args.col c.args.attrs
+    (rw (← c.self.view_is) c.self.invariant) c.requires.wide c.put_pairs.ensures.characters c.requires.in_row).0
 
 pub returns-else-not-is_empty-clause-row : goal.returns-else-not-is_empty-clause-row
 returns-else-not-is_empty-clause-row c =

@@ -1,6 +1,7 @@
 use Rattle.std.proofs.Common.{ap, ◌∙◌, ◌≡◌, length, take, false}
 use Rattle.vt100_rows.specs.Row.{RowView, truncated}
-use Rattle.vt100_rows.proofs.RowLemmas.{IsRow-at, IsRow-truncated, truncates, refilled}
+use Rattle.vt100_rows.proofs.RowLemmas.{IsRow-at, IsRow-truncated, truncates}
+use Rattle.vt100_rows.proofs.SheetLemmas.{refilled}
 use Rattle.vt100_rows.proofs.row.Row.truncate.Goals as goal
 
 pub returns : goal.returns

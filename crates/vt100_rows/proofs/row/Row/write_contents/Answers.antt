@@ -1,15 +1,12 @@
-use Rattle.std.proofs.Common.{◌≡◌, ◌+◌, ◌<◌, ◌++◌, true, false, not, ◌&&◌, ◌==◌, ap, ◌∙◌, sym, subst, arith, length}
-use Rattle.std.proofs.Common.{min, List}
+use Rattle.std.proofs.Common.{◌≡◌, ◌+◌, ◌<◌, ◌++◌, true, false, not, ◌&&◌, ◌==◌, ap, ◌∙◌, sym, arith, length, min, List}
 use Rattle.std.specs.Prelude.{string_bytes, encode_utf8_all}
 use Rattle.vt100_cells.specs.Cell.{CellView, has_text}
 use Rattle.vt100_cells.specs.Cells.{cell_at}
 use Rattle.vt100_rows.specs.Row.{RowView}
-use Rattle.vt100_rows.specs.Text.{written_text}
 use Rattle.row_drawing.specs.Writes.{IsBegun}
 use Rattle.vt100_cells.proofs.TrimLemmas.{not-false}
 use Rattle.std.proofs.lemmas.Bool.{not-true}
-use Rattle.vt100_rows.proofs.TextLemmas.{IsWritten-text, IsWritten-space, IsWritten-half, IsBegun-text, IsBegun-spaces}
-use Rattle.vt100_rows.proofs.TextLemmas.{on-err}
+use Rattle.vt100_rows.proofs.TextLemmas.{IsWritten-text, IsWritten-none, IsBegun-text, IsBegun-spaces, on-err}
 use Rattle.vt100_rows.proofs.row.Row.write_contents.Goals as goal
 use Rattle.vt100_rows.proofs.row.Row.write_contents.Goals.{then-has_contents+in_ok-push_spaces+in_ok-push_str}
 use Rattle.vt100_rows.proofs.row.Row.write_contents.Goals.{else-has_contents+then-is_empty_column}
@@ -39,15 +36,15 @@ loop-col-preserved c =
           ap (λ (x : CellView). not (x.continuation && not (k == s))) (sym here) ∙ sym w.is_empty_column.ensures
           ∙ w.if-is_empty_column.true in
           rw (w.contents-is, w.blanks-is, w.shown-is)
-          (IsWritten-space f s k c.loop-col.blanks old was c.loop-col.shown c.loop-col.auto.col c.loop-col.invariant
-          (sym has ∙ w.if-has_contents.false) (not-true _ empty))
+          (IsWritten-none f s k c.loop-col.blanks old was c.loop-col.shown c.loop-col.auto.col c.loop-col.invariant
+          false (sym has ∙ w.if-has_contents.false) (not-true _ empty))
       | else-has_contents+else-is_empty_column w ↦
           let half : not ((f k).continuation && not (k == s)) ≡ false =
           ap (λ (x : CellView). not (x.continuation && not (k == s))) (sym here) ∙ sym w.is_empty_column.ensures
           ∙ w.if-is_empty_column.false in
           rw (w.contents-is, w.blanks-is, w.shown-is)
-          (IsWritten-half f s k c.loop-col.blanks old was c.loop-col.shown c.loop-col.auto.col c.loop-col.invariant
-          (sym has ∙ w.if-has_contents.false) (not-false _ half))
+          (IsWritten-none f s k c.loop-col.blanks old was c.loop-col.shown c.loop-col.auto.col c.loop-col.invariant
+          true (sym has ∙ w.if-has_contents.false) (not-false _ half))
     ]
 
 pub returns-in_err-push_spaces-clause-begun : goal.returns-in_err-push_spaces-clause-begun
@@ -57,25 +54,14 @@ returns-in_err-push_spaces-clause-begun c =
     let was = string_bytes c.loop-col.contents in
     let cells = ap (λ (x : RowView). length x.cells) c.self.view_is in
     let within : c.loop-col.col < min (c.from-start.result + c.args.width) (length v.cells) =
-    omega (
-      arith,
-      c.loop-col-test.true,
-      c.max-end.ensures,
-      c.min.ensures,
-      c.from.ensures,
-      c.len.ensures,
-      c.loop-col.auto.col,
-      cells,
-    ) in
+    omega (arith, c.max-end.ensures, c.min.ensures, c.from.ensures, c.len.ensures) in
     let here = c.at-cell.ensures ∙ ap (λ (xs : List CellView). cell_at xs c.loop-col.col) (c.deref.ensures.value
     ∙ ap (λ (x : RowView). x.cells) c.self.view_is) in
-    let has = sym (c.has_contents.ensures ∙ ap has_text here) ∙ c.if-has_contents.true in
     on-err c.from_residual.result
-    (subst (λ s. IsBegun old (encode_utf8_all (written_text v s c.args.width c.args.wrapping))
-    (string_bytes c.push_spaces.new.contents)) c.from-start.ensures
-    (IsBegun-text v c.from-start.result c.args.width c.loop-col.col c.loop-col.blanks c.args.wrapping c.loop-col.shown
-    old was (string_bytes c.push_spaces.new.contents) c.loop-col.auto.col within c.loop-col.invariant has
-    c.in_err-push_spaces.ensures.begun))
+    (IsBegun-text v c.from-start.result c.args.start c.args.width c.loop-col.col c.loop-col.blanks c.args.wrapping
+    c.loop-col.shown old was (string_bytes c.push_spaces.new.contents) c.at-cell.result.now c.from-start.ensures
+    c.loop-col.auto.col within c.loop-col.invariant here (sym c.has_contents.ensures ∙ c.if-has_contents.true)
+    c.in_err-push_spaces.ensures.begun)
 
 pub returns-in_err-push_str-clause-begun : goal.returns-in_err-push_str-clause-begun
 returns-in_err-push_str-clause-begun c =
@@ -84,23 +70,12 @@ returns-in_err-push_str-clause-begun c =
     let was = string_bytes c.loop-col.contents in
     let cells = ap (λ (x : RowView). length x.cells) c.self.view_is in
     let within : c.loop-col.col < min (c.from-start.result + c.args.width) (length v.cells) =
-    omega (
-      arith,
-      c.loop-col-test.true,
-      c.max-end.ensures,
-      c.min.ensures,
-      c.from.ensures,
-      c.len.ensures,
-      c.loop-col.auto.col,
-      cells,
-    ) in
+    omega (arith, c.max-end.ensures, c.min.ensures, c.from.ensures, c.len.ensures) in
     let here = c.at-cell.ensures ∙ ap (λ (xs : List CellView). cell_at xs c.loop-col.col) (c.deref.ensures.value
     ∙ ap (λ (x : RowView). x.cells) c.self.view_is) in
-    let has = sym (c.has_contents.ensures ∙ ap has_text here) ∙ c.if-has_contents.true in
     on-err c.from_residual-in_err-push_str.result
-    (subst (λ s. IsBegun old (encode_utf8_all (written_text v s c.args.width c.args.wrapping))
-    (string_bytes c.push_str.new.self)) c.from-start.ensures
-    (IsBegun-text v c.from-start.result c.args.width c.loop-col.col c.loop-col.blanks c.args.wrapping c.loop-col.shown
-    old was (string_bytes c.push_str.new.self) c.loop-col.auto.col within c.loop-col.invariant has
+    (IsBegun-text v c.from-start.result c.args.start c.args.width c.loop-col.col c.loop-col.blanks c.args.wrapping
+    c.loop-col.shown old was (string_bytes c.push_str.new.self) c.at-cell.result.now c.from-start.ensures
+    c.loop-col.auto.col within c.loop-col.invariant here (sym c.has_contents.ensures ∙ c.if-has_contents.true)
     (IsBegun-spaces c.loop-col.blanks c.loop-col.blanks was (string_bytes c.push_str.new.self) (omega arith)
-    (c.in_err-push_str.ensures.bytes ∙ c.in_ok-push_spaces.ensures.text))))
+    (c.in_err-push_str.ensures.bytes ∙ c.in_ok-push_spaces.ensures.text)))
