@@ -1,6 +1,6 @@
 -- How many bytes rows and the cursor take.
 use Rattle.std.proofs.Common.{◌≡◌, ℕ, zero, suc, ◌+◌, ◌-◌, ◌*◌, ◌<◌, ◌≤◌, ◌==◌, Bool, true, false, cond, not, ◌&&◌}
-use Rattle.std.proofs.Common.{◌||◌, nat_lt, List, [], ◌∷◌, ◌++◌, length, length-append, Option, Some, None, refl, arith}
+use Rattle.std.proofs.Common.{nat_lt, List, [], ◌∷◌, ◌++◌, length, length-append, Option, Some, None, refl, arith}
 use Rattle.std.specs.Prelude.{◌^◌}
 use Rattle.std.proofs.lemmas.Bool.{cond_both}
 use lib.Utf8.{encode}
@@ -12,17 +12,17 @@ use Rattle.vt100_forms.specs.Form.{spelling, spell}
 use Rattle.vt100_forms.specs.Attrs.{HasByteColors}
 use Rattle.vt100_forms.specs.Length.{HasSmallNumbers, longest}
 use Rattle.vt100_forms.proofs.Lengths.{length-spelling, length-change}
-use Rattle.vt100_cells.specs.Cell.{CellView, IsCell, has_text, bool_eq}
-use Rattle.vt100_cells.specs.Line.{span_of, put_unflags, wipe_unflags}
+use Rattle.vt100_cells.specs.Cell.{CellView, IsCell, has_text}
+use Rattle.vt100_cells.specs.Line.{span_of}
 use Rattle.vt100_cells.proofs.CellTexts.{text-short}
 use Rattle.row_drawing.specs.declared.pen.Erase.{Erase}
 use Rattle.row_drawing.specs.declared.pen.Pen.{Pen}
 use Rattle.row_drawing.specs.Small.{SmallErase, IsSmallPen, IsSmallJob}
 use Rattle.row_drawing.specs.Writer.{Drawn, Writer, ◌>>◌, skip, goto, turn, color, print, space, back, erasing}
 use Rattle.row_drawing.specs.Writer.{clearing, marking}
-use Rattle.row_drawing.specs.RowWriter.{Job, is_same, wraps, owes_flag, reprint, opening, to_erase, is_end, flush_of}
-use Rattle.row_drawing.specs.RowWriter.{flush, finish_of, finish, arrive, mark_of, mark, draw, column, columns}
-use Rattle.row_drawing.specs.RowWriter.{last_col_of, last_cell_of, unflag, print_last, mend, closing, row_redraw}
+use Rattle.row_drawing.specs.RowWriter.{Job, is_same, wraps, owes_flag, owes_end, reprint, opening, to_erase}
+use Rattle.row_drawing.specs.RowWriter.{is_end, flush_of, flush, finish_of, finish, arrive, mark_of, mark, draw}
+use Rattle.row_drawing.specs.RowWriter.{column, columns, last_col_of, unflag, print_last, mend, closing, row_redraw}
 use Rattle.row_drawing.specs.RowWriter.{row_difference}
 
 -- ---- lists of forms
@@ -63,9 +63,9 @@ pub record Spends (n : ℕ) (d : Drawn) : Type 0 where
 abbrev pub Costs : Writer → ℕ → Type 0
 Costs f n = (p : Pen) → IsSmallPen p → Spends n (f p)
 
-pub costs-then : (f g : Writer) (m n : ℕ) → Costs f m → Costs g n → Costs (f >> g) (m + n)
+costs-then : {f g : Writer} {m n : ℕ} → Costs f m → Costs g n → Costs (f >> g) (m + n)
 unfolding ◌>>◌
-costs-then f g m n h k p s =
+costs-then {f = f} {g = g} h k p s =
     let a = h p s in
     let b = k (f p).pen a.small in
     record {
@@ -73,20 +73,19 @@ costs-then f g m n h k p s =
       small = b.small;
     }
 
-pub costs-more : (f : Writer) (m n : ℕ) → m ≤ n → Costs f m → Costs f n
-costs-more f m n l h p s = let a = h p s in record { bytes = omega (arith, a.bytes, l); small = a.small }
+costs-more : {f : Writer} {m n : ℕ} → Costs f m → m ≤ n → Costs f n
+costs-more h l p s = let a = h p s in record { bytes = omega (arith, a.bytes, l); small = a.small }
 
-costs-either : (b : Bool) (f g : Writer) (n : ℕ) → (b ≡ true → Costs f n) → (b ≡ false → Costs g n)
-    → Costs (cond b f g) n
-costs-either b f g n h k = cond_both b f g (λ w. Costs w n) h k
+costs-either : (b : Bool) {f g : Writer} {n : ℕ} → Costs f n → Costs g n → Costs (cond b f g) n
+costs-either b {f = f} {g = g} {n = n} h k = cond_both b f g (λ w. Costs w n) (λ _. h) (λ _. k)
 
-costs-here : (b : Bool) (f g : Writer) (n : ℕ) (p : Pen) → IsSmallPen p → Costs f n → Costs g n
+costs-here : (b : Bool) {f g : Writer} {n : ℕ} (p : Pen) → IsSmallPen p → Costs f n → Costs g n
     → Spends n (cond b (f p) (g p))
-costs-here b f g n p s h k = cond_both b (f p) (g p) (Spends n) (λ _. h p s) (λ _. k p s)
+costs-here b {f = f} {g = g} {n = n} p s h k = cond_both b (f p) (g p) (Spends n) (λ _. h p s) (λ _. k p s)
 
-pub costs-skip : (n : ℕ) → Costs skip n
+costs-skip : {n : ℕ} → Costs skip n
 unfolding skip
-costs-skip n p s = record { bytes = omega arith; small = s }
+costs-skip p s = record { bytes = omega arith; small = s }
 
 costs-goto : (row col : ℕ) → row < 2 ^ 16 → col < 2 ^ 16 → Costs (goto row col) 14
 unfolding goto IsSmallPen
@@ -143,47 +142,38 @@ pub record IsRowJob (j : Job) : Type 0 where
 costs-reprint : (j : Job) (k : ℕ) → IsRowJob j → Costs (reprint j (j.new k)) 23
 unfolding reprint
 costs-reprint j k h =
-    let x = j.new k in
-    let w = wipe_unflags j.cols j.old 0 1 in
-    costs-either (has_text x) (print x false >> cond x.wide (back >> back) back) (space >> back >> erasing 1 w) 23
-    (λ _. costs-then (print x false) (cond x.wide (back >> back) back) 21 2 (costs-print x false (h.cells k))
-    (costs-either x.wide (back >> back) back 2 (λ _. costs-then back back 1 1 costs-back costs-back)
-    (λ _. costs-more back 1 2 (omega arith) costs-back)))
-    (λ _. costs-more (space >> back >> erasing 1 w) 10 23 (omega arith)
-    (costs-then (space >> back) (erasing 1 w) 2 8 (costs-then space back 1 1 costs-space costs-back)
-    (costs-erasing 1 w (omega arith))))
+    costs-either (has_text (j.new k))
+    (costs-then (costs-print _ false (h.cells k))
+    (costs-either (j.new k).wide (costs-then costs-back costs-back) (costs-more costs-back (omega arith))))
+    (costs-more (costs-then (costs-then costs-space costs-back) (costs-erasing 1 _ (omega arith)))
+    (omega arith))
 
 costs-opening : (j : Job) → IsRowJob j → Costs (opening j) 71
 unfolding opening
 costs-opening j h p s =
-    let x = j.new j.start in
-    costs-here (owes_flag j p) (turn j.row >> color x.attrs >> reprint j x) skip 71 p s
-    (costs-then (turn j.row >> color x.attrs) (reprint j x) 48 23
-    (costs-then (turn j.row) (color x.attrs) 0 48 (costs-turn j.row) (costs-color x.attrs (h.small.colors j.start)))
-    (costs-reprint j j.start h)) (costs-skip 71)
+    costs-here (owes_flag j p) p s
+    (costs-then (costs-then (costs-turn j.row) (costs-color _ (h.small.colors j.start)))
+    (costs-reprint j j.start h))
+    costs-skip
 
 costs-to_erase : (j : Job) (e : Erase) → IsRowJob j → e.from < 2 ^ 16 → HasByteColors e.attrs
     → Costs (to_erase j e) 62
 unfolding to_erase
 costs-to_erase j e h l k p s =
-    costs-here (wraps j 1 p && (e.from == 0)) (turn j.row >> space >> back >> color e.attrs)
-    (goto j.row e.from >> color e.attrs) 62 p s
-    (costs-more (turn j.row >> space >> back >> color e.attrs) 50 62 (omega arith)
-    (costs-then (turn j.row >> space >> back) (color e.attrs) 2 48
-    (costs-then (turn j.row >> space) back 1 1
-    (costs-then (turn j.row) space 0 1 (costs-turn j.row) costs-space) costs-back)
-    (costs-color e.attrs k)))
-    (costs-then (goto j.row e.from) (color e.attrs) 14 48 (costs-goto j.row e.from h.small.row l) (costs-color e.attrs k))
+    let colors = costs-color e.attrs k in
+    costs-here (wraps j 1 p && (e.from == 0)) p s
+    (costs-more (costs-then (costs-then (costs-then (costs-turn j.row) costs-space) costs-back) colors)
+    (omega arith))
+    (costs-then (costs-goto j.row e.from h.small.row l) colors)
 
 costs-flush_of : (j : Job) (c : ℕ) (e : Option Erase) → IsRowJob j → c < j.cols → SmallErase e
     → Costs (flush_of j c e) 70
 unfolding flush_of SmallErase
-costs-flush_of j c None h l s = costs-skip 70
+costs-flush_of j c None h l s = costs-skip
 costs-flush_of j c (Some e) h l s =
-    let w = wipe_unflags j.cols j.old e.from c in
-    costs-either (is_end (j.new c) e.attrs) (to_erase j e >> erasing (c - e.from) w) skip 70
-    (λ _. costs-then (to_erase j e) (erasing (c - e.from) w) 62 8 (costs-to_erase j e h s.0 s.1)
-    (costs-erasing (c - e.from) w (omega (arith, l, h.small.cols)))) (λ _. costs-skip 70)
+    costs-either (is_end (j.new c) e.attrs)
+    (costs-then (costs-to_erase j e h s.0 s.1) (costs-erasing (c - e.from) _ (omega (arith, l, h.small.cols))))
+    costs-skip
 
 costs-flush : (j : Job) (c : ℕ) → IsRowJob j → c < j.cols → Costs (flush j c) 70
 unfolding flush IsSmallPen
@@ -191,9 +181,8 @@ costs-flush j c h l p s = costs-flush_of j c p.erase h l s.1 p s
 
 costs-finish_of : (j : Job) (e : Option Erase) → IsRowJob j → SmallErase e → Costs (finish_of j e) 65
 unfolding finish_of SmallErase
-costs-finish_of j None h s = costs-skip 65
-costs-finish_of j (Some e) h s =
-    costs-then (to_erase j e) clearing 62 3 (costs-to_erase j e h s.0 s.1) costs-clearing
+costs-finish_of j None h s = costs-skip
+costs-finish_of j (Some e) h s = costs-then (costs-to_erase j e h s.0 s.1) costs-clearing
 
 costs-finish : (j : Job) → IsRowJob j → Costs (finish j) 65
 unfolding finish IsSmallPen
@@ -202,14 +191,13 @@ costs-finish j h p s = costs-finish_of j p.erase h s.1 p s
 costs-arrive : (j : Job) (c n : ℕ) → IsRowJob j → c < j.cols → Costs (arrive j c n) 14
 unfolding arrive
 costs-arrive j c n h l p s =
-    costs-here (wraps j n p && (c == 0)) (turn j.row) (goto j.row c) 14 p s
-    (costs-more (turn j.row) 0 14 (omega arith) (costs-turn j.row))
+    costs-here (wraps j n p && (c == 0)) p s (costs-more (costs-turn j.row) (omega arith))
     (costs-goto j.row c h.small.row (omega (arith, l, h.small.cols)))
 
 costs-mark_of : (j : Job) (c : ℕ) (e : Option Erase) → IsRowJob j → c < j.cols → Costs (mark_of j c e) 0
 unfolding mark_of
 costs-mark_of j c None h l = costs-marking c (j.new c).attrs (omega (arith, l, h.small.cols)) (h.small.colors c)
-costs-mark_of j c (Some e) h l = costs-skip 0
+costs-mark_of j c (Some e) h l = costs-skip
 
 costs-mark : (j : Job) (c : ℕ) → IsRowJob j → c < j.cols → Costs (mark j c) 0
 unfolding mark
@@ -219,52 +207,45 @@ costs-draw : (j : Job) (c : ℕ) → IsRowJob j → c < j.cols → Costs (draw j
 unfolding draw
 costs-draw j c h l =
     let x = j.new c in
-    let b = put_unflags j.cols j.old c x in
-    costs-either (is_same j c) skip _ 83 (λ _. costs-skip 83)
-    (λ _. costs-either (has_text x) (arrive j c (span_of x) >> color x.attrs >> print x b) (mark j c) 83
-    (λ _. costs-then (arrive j c (span_of x) >> color x.attrs) (print x b) 62 21
-    (costs-then (arrive j c (span_of x)) (color x.attrs) 14 48 (costs-arrive j c (span_of x) h l)
-    (costs-color x.attrs (h.small.colors c))) (costs-print x b (h.cells c)))
-    (λ _. costs-more (mark j c) 0 83 (omega arith) (costs-mark j c h l)))
+    costs-either (is_same j c) costs-skip
+    (costs-either (has_text x)
+    (costs-then (costs-then (costs-arrive j c (span_of x) h l) (costs-color x.attrs (h.small.colors c)))
+    (costs-print x _ (h.cells c)))
+    (costs-more (costs-mark j c h l) (omega arith)))
 
 costs-column : (j : Job) (c : ℕ) → IsRowJob j → c < j.cols → Costs (column j c) 153
 unfolding column
 costs-column j c h l =
-    costs-either ((j.new c).continuation && not (c == j.start)) skip (flush j c >> draw j c) 153 (λ _. costs-skip 153)
-    (λ _. costs-then (flush j c) (draw j c) 70 83 (costs-flush j c h l) (costs-draw j c h l))
+    costs-either ((j.new c).continuation && not (c == j.start)) costs-skip
+    (costs-then (costs-flush j c h l) (costs-draw j c h l))
 
 costs-columns : (j : Job) (n : ℕ) → IsRowJob j → n ≤ j.cols → Costs (columns j n) (153 * n)
 unfolding columns
-costs-columns j zero h l = costs-skip (153 * 0)
+costs-columns j zero h l = costs-skip
 costs-columns j (suc n) h l =
-    costs-more (columns j n >> column j (j.start + n)) (153 * n + 153) (153 * suc n) (omega arith)
-    (costs-then (columns j n) (column j (j.start + n)) (153 * n) 153 (costs-columns j n h (omega arith))
+    costs-more (costs-then (costs-columns j n h (omega arith))
     (costs-column j (j.start + n) h (omega (arith, h.start, l))))
+    (omega arith)
 
 costs-print_last : (j : Job) (k : ℕ) → IsRowJob j → Costs (print_last (j.new k)) 69
 unfolding print_last
 costs-print_last j k h =
-    let x = j.new k in
-    costs-either (has_text x) (color x.attrs >> print x false) skip 69
-    (λ _. costs-then (color x.attrs) (print x false) 48 21 (costs-color x.attrs (h.small.colors k))
-    (costs-print x false (h.cells k))) (λ _. costs-skip 69)
+    costs-either (has_text (j.new k))
+    (costs-then (costs-color _ (h.small.colors k)) (costs-print _ false (h.cells k)))
+    costs-skip
 
 costs-unflag : (j : Job) (k : ℕ) → IsRowJob j → Costs (unflag (j.new k)) 56
 unfolding unflag
 costs-unflag j k h =
-    let x = j.new k in
-    costs-either (has_text x) (erasing 1 true) (color x.attrs >> erasing 1 true) 56
-    (λ _. costs-more (erasing 1 true) 8 56 (omega arith) (costs-erasing 1 true (omega arith)))
-    (λ _. costs-then (color x.attrs) (erasing 1 true) 48 8 (costs-color x.attrs (h.small.colors k))
-    (costs-erasing 1 true (omega arith)))
+    let erases = costs-erasing 1 true (omega arith) in
+    costs-either (has_text (j.new k)) (costs-more erases (omega arith))
+    (costs-then (costs-color _ (h.small.colors k)) erases)
 
 costs-mend : (j : Job) (k : ℕ) → IsRowJob j → Costs (mend j (j.new k)) 125
 unfolding mend
 costs-mend j k h =
-    let x = j.new k in
-    costs-either j.wrapped (print_last x) (unflag x >> print_last x) 125
-    (λ _. costs-more (print_last x) 69 125 (omega arith) (costs-print_last j k h))
-    (λ _. costs-then (unflag x) (print_last x) 56 69 (costs-unflag j k h) (costs-print_last j k h))
+    let prints = costs-print_last j k h in
+    costs-either j.wrapped (costs-more prints (omega arith)) (costs-then (costs-unflag j k h) prints)
 
 last-within : (j : Job) → IsRowJob j → last_col_of j < 2 ^ 16
 last-within j h =
@@ -274,27 +255,21 @@ last-within j h =
 costs-closing : (j : Job) → IsRowJob j → Costs (closing j) 139
 unfolding closing
 costs-closing j h p s =
-    costs-here (not (bool_eq j.wrapped j.was_wrapped) || (j.wrapped && p.lost))
-    (goto j.row (last_col_of j) >> mend j (last_cell_of j)) skip 139 p s
-    (costs-then (goto j.row (last_col_of j)) (mend j (last_cell_of j)) 14 125
-    (costs-goto j.row (last_col_of j) h.small.row (last-within j h)) (costs-mend j (last_col_of j) h)) (costs-skip 139)
+    costs-here (owes_end j p) p s
+    (costs-then (costs-goto j.row (last_col_of j) h.small.row (last-within j h))
+    (costs-mend j (last_col_of j) h))
+    costs-skip
 
-costs-redraw : (j : Job) → IsRowJob j → Costs (row_redraw j j.cols) (153 * j.cols + 136)
+costs-redraw : (j : Job) → IsRowJob j → Costs (row_redraw j j.cols) (71 + 153 * j.cols + 65)
 unfolding row_redraw
 costs-redraw j h =
-    let f = opening j >> columns j j.cols in
-    costs-more (f >> finish j) (71 + 153 * j.cols + 65) (153 * j.cols + 136) (omega arith)
-    (costs-then f (finish j) (71 + 153 * j.cols) 65
-    (costs-then (opening j) (columns j j.cols) 71 (153 * j.cols) (costs-opening j h)
-    (costs-columns j j.cols h (omega arith))) (costs-finish j h))
+    costs-then (costs-then (costs-opening j h) (costs-columns j j.cols h (omega arith))) (costs-finish j h)
 
 -- 428 bytes a column
 pub costs-row_redraw : (j : Job) → IsRowJob j → Costs (row_redraw j j.cols) (428 * j.cols)
-costs-row_redraw j h =
-    costs-more (row_redraw j j.cols) (153 * j.cols + 136) (428 * j.cols) (omega (arith, h.some)) (costs-redraw j h)
+costs-row_redraw j h = costs-more (costs-redraw j h) (omega (arith, h.some))
 
 pub costs-row_difference : (j : Job) → IsRowJob j → Costs (row_difference j j.cols) (428 * j.cols)
 unfolding row_difference
 costs-row_difference j h =
-    costs-more (row_redraw j j.cols >> closing j) (153 * j.cols + 136 + 139) (428 * j.cols) (omega (arith, h.some))
-    (costs-then (row_redraw j j.cols) (closing j) (153 * j.cols + 136) 139 (costs-redraw j h) (costs-closing j h))
+    costs-more (costs-then (costs-redraw j h) (costs-closing j h)) (omega (arith, h.some))

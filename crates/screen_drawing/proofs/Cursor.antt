@@ -19,7 +19,7 @@ use Rattle.terminal_model.specs.Apply.{apply, run}
 use Rattle.terminal_model.proofs.Positions.{update-kept}
 use Rattle.terminal_model.proofs.FormLemmas.{run-joined, moves-lead, change-read, down-room}
 use Rattle.row_drawing.specs.Writer.{print, erasing}
-use Rattle.row_drawing.specs.Scene.{Scene, IsScene, IsLine}
+use Rattle.row_drawing.specs.Scene.{Scene, IsScene}
 use Rattle.row_drawing.proofs.Lines.{line-reprinted}
 use Rattle.row_drawing.proofs.Steps.{at, kept_or_off, IsSendable, takes-print, takes-erasing, sends-space, Takes, pen}
 use Rattle.row_drawing.proofs.Columns.{empty-is, sends, span-narrow}
@@ -27,6 +27,7 @@ use Rattle.row_drawing.proofs.RowEnd.{last-is, span-few}
 use Rattle.screen_drawing.specs.Cursor.{place, arriving, is_pen_at, end_col, end_cell, row_with_end, printed_with}
 use Rattle.screen_drawing.specs.Cursor.{wait_behind, wait_on_empty, wait, cursor_position_formatted}
 use Rattle.screen_drawing.specs.Screen.{cursor_state_formatted}
+use Rattle.screen_drawing.proofs.Rows.{line-of}
 use Rattle.screen_drawing.specs.Laws.{IsDrawable, CursorIsAt, EachCursorIsPlaced, EachCursorStateIsSet}
 use Rattle.vt100_forms.proofs.AttrsLemmas.{default-proper}
 
@@ -51,21 +52,14 @@ still z t s r = record {
   flags = s.wrapped;
 }
 
-pub is-line : (z : Size) (s : Shown) (r : ℕ) → IsDrawable z s → IsLine z.cols (s.cell r) (s.wrapped r)
-is-line z s r h = record {
-  paired = h.shown.paired r;
-  beyond = h.shown.beyond r;
-  filled = h.shown.filled r;
-}
-
 still-scene : (z : Size) (t : Term) (s : Shown) (r : ℕ) → IsDrawable z s → r < z.rows → IsScene (still z t s r)
 unfolding still
 still-scene z t s r h l = record {
   whole = refl;
   some_col = h.shown.some_col;
   row_in = l;
-  old = is-line z s r h;
-  new = is-line z s r h;
+  old = line-of z s r h.shown;
+  new = line-of z s r h.shown;
   cells = h.cells r;
   plain = h.plain r;
   proper = h.proper r;

@@ -2,7 +2,7 @@ pub mod Rows
 pub mod Modes
 pub mod Cursor
 pub mod Screens
-pub mod Drawing
+pub mod Lists
 pub mod Texts
 pub mod Examples
 pub mod SmallScreens

@@ -2,7 +2,7 @@
 use Rattle.std.proofs.Common.{◌≡◌, ℕ, zero, suc, ◌+◌, ◌-◌, ◌<◌, ◌==◌, Bool, true, false, ◌&&◌, ◌||◌, nat_lt, nat_le}
 use Rattle.std.proofs.Common.{List, [], ◌∷◌, ◌++◌, Option, Some, None, refl, arith, sym, ap, subst, ◌∙◌, inl, inr}
 use Rattle.std.specs.Prelude.{replicate}
-use Rattle.std.proofs.lemmas.Bool.{cond_both, both_ways, and_parts, or_cases, eqb-true, leb-true, ltb-false}
+use Rattle.std.proofs.lemmas.Bool.{cond_both, both_ways, false≢true, and_parts, or_cases, eqb-true, leb-true, ltb-false}
 use Rattle.std.proofs.lemmas.Bool.Decides.{nat_tests}
 use Rattle.unicode_width.specs.Width.{char_width}
 use Rattle.vt100_forms.specs.declared.attrs.Attrs.{Attrs}
@@ -10,7 +10,7 @@ use Rattle.vt100_forms.specs.declared.position.Pos.{Pos}
 use Rattle.vt100_forms.specs.Attrs.{IsProper, default_attrs}
 use Rattle.vt100_forms.specs.Form.{Form, Text, MoveTo, EraseChar, Lf, Backspace, SaveCursor, RestoreCursor, change}
 use Rattle.vt100_cells.specs.Cell.{CellView, has_text, empty_cell, cell_of}
-use Rattle.vt100_cells.specs.Line.{IsPaired, put}
+use Rattle.vt100_cells.specs.Line.{span_of, put}
 use Rattle.terminal_model.specs.Position.{update}
 use Rattle.terminal_model.specs.Term.{Size, Shown, Term}
 use Rattle.terminal_model.specs.Apply.{apply}
@@ -19,7 +19,7 @@ use Rattle.terminal_model.proofs.Positions.{update-kept}
 use Rattle.terminal_model.proofs.FormLemmas.{change-read, down-room}
 use Rattle.terminal_model.proofs.TouchLemmas.{within-joined}
 use Rattle.row_drawing.specs.Writer.{goto, color, print, erasing}
-use Rattle.row_drawing.proofs.Steps.{at, pen, sends-space, span-space}
+use Rattle.row_drawing.proofs.Steps.{at, pen, IsSendable, sends-space, span-space}
 use Rattle.row_drawing.proofs.Columns.{span-wide, span-narrow}
 use Rattle.row_drawing.proofs.RowEnd.{span-few}
 use Rattle.row_drawing.proofs.LocalRow.{or-four}
@@ -28,7 +28,7 @@ use Rattle.screen_drawing.specs.Cursor.{place, arriving, is_pen_at, end_col, end
 use Rattle.screen_drawing.specs.Cursor.{wait_behind, wait_on_empty, wait, cursor_position_formatted}
 use Rattle.screen_drawing.specs.Laws.{IsDrawable}
 use Rattle.screen_drawing.specs.Local.{row_or, waiting_row}
-use Rattle.screen_drawing.proofs.Cursor.{IsLast, last-of, Known, arrives, no-text_end, space-printed}
+use Rattle.screen_drawing.proofs.Cursor.{last-of, Known, arrives, no-text_end, space-printed}
 use Rattle.screen_drawing.proofs.Cursor.{waits-behind, Ends, ends}
 
 -- ---- forms that touch nothing
@@ -65,199 +65,164 @@ fed-within S z t C W a c (suc n) r row e l =
           (fed-within S z t C W a c n (r + 1) row (omega (arith, e)) l),
     )
 
--- ---- the last cell is printed again
+-- ---- the end of a row
 
 -- the last cell of row r may be touched, with its other half
 pub record IsEndRoom (S : ℕ → ℕ → Type 0) (z : Size) (s : Shown) (r : ℕ) : Type 0 where
   pub last : (k : ℕ) → k + 1 ≡ z.cols → S r k
   pub first : (k : ℕ) → k + 2 ≡ z.cols → (s.cell r k).wide ≡ true → S r k
 
-end-touched : (S : ℕ → ℕ → Type 0) (z : Size) (s : Shown) (r : ℕ) → IsPaired (s.cell r) → IsLast z s r
-    → IsEndRoom S z s r → (k : ℕ) → k < z.cols
-    → put_touches (s.cell r) (end_col z s r) (end_cell z s r) k ≡ true → S r k
-end-touched S z s r paired last room k low touched =
-    let f = s.cell r in
-    let c = end_col z s r in
-    let x = end_cell z s r in
-    let few = span-few x in
-    elim (or-four (k == c) ((k == (c + 1)) && (x.wide || (f c).wide)) (((k + 1) == c) && (f k).wide)
-    ((k == (c + 2)) && (x.wide && (f (c + 1)).wide)) touched) [
-      | inl at_c ↦
-          (let is = eqb-true k c at_c in
-          (elim x.wide as (λ w. x.wide ≡ w → S r k) [
-            | true ↦ λ e. room.first k (let two = span-wide x e in omega (arith, is, two, last.up_to))
-                (ap (λ i. (f i).wide) is ∙ e)
-            | false ↦ λ e. room.last k (let one = span-narrow x e in omega (arith, is, one, last.up_to))
-          ]) refl)
-      | inr (inl next) ↦
-          (let both = and_parts (k == (c + 1)) _ next in
-          let is = eqb-true k (c + 1) both.0 in
-          room.last k (omega (arith, is, low, few, last.up_to)))
-      | inr (inr (inl left)) ↦
-          (let both = and_parts ((k + 1) == c) _ left in
-          absurd (both_ways x.continuation last.whole (ap (λ i. (f i).continuation) (sym (eqb-true (k + 1) c both.0))
-          ∙ paired.next k ∙ both.1)))
-      | inr (inr (inr third)) ↦
-          (let both = and_parts (k == (c + 2)) _ third in
-          let is = eqb-true k (c + 2) both.0 in
-          let two = span-wide x (and_parts x.wide _ both.1).0 in
-          absurd (omega (arith, is, two, last.up_to, low)))
-    ]
-
-printed-within : (S : ℕ → ℕ → Type 0) (z : Size) (t : Term) (s : Shown) (r : ℕ) → IsDrawable z s → r < z.rows
-    → has_text (end_cell z s r) ≡ true → IsEndRoom S z s r
-    → Within S z (Text (end_cell z s r).text ∷ [])
-    (at t s.cell s.wrapped r (end_col z s r) (end_cell z s r).attrs)
-unfolding print
-printed-within S z t s r h l some room =
-    let f = s.cell r in
-    let c = end_col z s r in
-    let x = end_cell z s r in
-    let last = last-of z t s r h l in
-    subst (λ (C : ℕ → ℕ → CellView). Within S z (Text x.text ∷ []) (at t C s.wrapped r c x.attrs))
-    (update-kept s.cell r f refl)
-    (stays-print S z t s.cell s.wrapped r c x.attrs f x false (pen r c x.attrs None false) (last.sent some)
-    (omega (arith, last.up_to)) (end-touched S z s r (h.shown.paired r) last room))
-
-behind-within : (S : ℕ → ℕ → Type 0) (z : Size) (t : Term) (s : Shown) (p : Option Pos) (a : Attrs) (r c row : ℕ)
-    → IsDrawable z s → IsProper a → Known p r c → row < z.rows → has_text (end_cell z s row) ≡ true
-    → IsEndRoom S z s row → Within S z (wait_behind z s p a row) (at t s.cell s.wrapped r c a)
-unfolding wait_behind
-behind-within S z t s p a r c row h ha k l some room =
-    let C = s.cell in
-    let W = s.wrapped in
-    let last = last-of z t s row h l in
-    let few = span-few (end_cell z s row) in
-    let n = end_col z s row in
-    let x = end_cell z s row in
-    let goes = arriving p (place row n) in
-    let u = at t C W r c a in
-    let there = at t C W row n a in
-    let print_there : Within S z (Text x.text ∷ []) (at t C W row n x.attrs) = printed-within S z t s row h l some room
-    in
-    let both : Within S z (Text x.text ∷ change x.attrs a) (at t C W row n x.attrs) =
-    (print_there.0, change-within S z x.attrs a _) in
-    cond_both (is_pen_at p (place row z.cols)) [] (goes ++ printed_with a x) (λ fs. Within S z fs u) (λ _. tt)
-    (λ _. within-joined S z goes (printed_with a x) u (arriving-within S z p r c row n u k refl l)
-    (subst (Within S z (printed_with a x))
-    (sym (arrives z t C W a p r c row n k l (omega (arith, last.up_to, few))))
-    (within-joined S z (change a x.attrs) (Text x.text ∷ change x.attrs a) there (change-within S z a x.attrs there)
-    (subst (Within S z (Text x.text ∷ change x.attrs a))
-    (sym (change-read z there a x.attrs refl ha (h.proper row n))) both))))
-
--- ---- a space is printed in the last column, and erased
-
 spaced-left : (f : ℕ → CellView) (n : ℕ) (x : CellView) (a : Attrs) (k : ℕ) → k + 1 ≡ n
     → (put f n x a k).wide ≡ false
 spaced-left f n x a k e = grind (arith, nat_tests)
 
-space-touched : (S : ℕ → ℕ → Type 0) (z : Size) (s : Shown) (r n : ℕ) (a : Attrs) → IsPaired (s.cell r)
-    → n + 1 ≡ z.cols → (s.cell r n).continuation ≡ false → IsEndRoom S z s r → (k : ℕ) → k < z.cols
-    → put_touches (s.cell r) n (cell_of 32 a) k ≡ true → S r k
-space-touched S z s r n a paired end single room k low touched =
-    let f = s.cell r in
-    let x = cell_of 32 a in
-    elim (or-four (k == n) ((k == (n + 1)) && (x.wide || (f n).wide)) (((k + 1) == n) && (f k).wide)
-    ((k == (n + 2)) && (x.wide && (f (n + 1)).wide)) touched) [
-      | inl at_n ↦ (let is = eqb-true k n at_n in room.last k (omega (arith, is, end)))
-      | inr (inl next) ↦ (let is = eqb-true k (n + 1) (and_parts (k == (n + 1)) _ next).0
-          in absurd (omega (arith, is, end, low)))
-      | inr (inr (inl left)) ↦
-          (let both = and_parts ((k + 1) == n) _ left in
-          absurd (both_ways (f n).continuation single (ap (λ i. (f i).continuation) (sym (eqb-true (k + 1) n both.0))
-          ∙ paired.next k ∙ both.1)))
-      | inr (inr (inr third)) ↦ (let is = eqb-true k (n + 2) (and_parts (k == (n + 2)) _ third).0
-          in absurd (omega (arith, is, end, low)))
-    ]
+module _ (S : ℕ → ℕ → Type 0) (z : Size) (s : Shown) (h : IsDrawable z s) (r : ℕ) (l : r < z.rows)
+    (room : IsEndRoom S z s r) where
+  -- what is printed at the end of the row, and is wide only where a wide cell stood, touches no other cell
+  put-touched : (c : ℕ) (x : CellView) → c + span_of x ≡ z.cols → (s.cell r c).continuation ≡ false
+      → (x.wide ≡ true → (s.cell r c).wide ≡ true) → (k : ℕ) → k < z.cols
+      → put_touches (s.cell r) c x k ≡ true → S r k
+  put-touched c x end single wide k low touched =
+      let f = s.cell r in
+      let few = span-few x in
+      elim (or-four (k == c) ((k == (c + 1)) && (x.wide || (f c).wide)) (((k + 1) == c) && (f k).wide)
+      ((k == (c + 2)) && (x.wide && (f (c + 1)).wide)) touched) [
+        | inl at_c ↦
+            (let is = eqb-true k c at_c in
+            (elim x.wide as (λ w. x.wide ≡ w → S r k) [
+              | true ↦ λ e. room.first k (let two = span-wide x e in omega (arith, is, two, end))
+                  (ap (λ i. (f i).wide) is ∙ wide e)
+              | false ↦ λ e. room.last k (let one = span-narrow x e in omega (arith, is, one, end))
+            ]) refl)
+        | inr (inl next) ↦
+            (let is = eqb-true k (c + 1) (and_parts (k == (c + 1)) _ next).0 in
+            room.last k (omega (arith, is, low, few, end)))
+        | inr (inr (inl left)) ↦
+            (let both = and_parts ((k + 1) == c) _ left in
+            absurd (both_ways (f c).continuation single (ap (λ i. (f i).continuation)
+            (sym (eqb-true (k + 1) c both.0)) ∙ (h.shown.paired r).next k ∙ both.1)))
+        | inr (inr (inr third)) ↦
+            (let both = and_parts (k == (c + 2)) _ third in
+            let is = eqb-true k (c + 2) both.0 in
+            let two = span-wide x (and_parts x.wide _ both.1).0 in
+            absurd (omega (arith, is, two, end, low)))
+      ]
 
-wipe-touched : (S : ℕ → ℕ → Type 0) (z : Size) (s : Shown) (r n : ℕ) (a : Attrs) → n + 1 ≡ z.cols
-    → IsEndRoom S z s r → (k : ℕ) → k < z.cols
-    → wipe_touches (put (s.cell r) n (cell_of 32 a) a) n (n + 1) k ≡ true → S r k
-wipe-touched S z s r n a end room k low touched =
-    let g = put (s.cell r) n (cell_of 32 a) a in
-    elim (or_cases (nat_le n k && nat_lt k (n + 1)) _ touched) [
-      | inl between ↦
-          (let from = leb-true n k (and_parts (nat_le n k) (nat_lt k (n + 1)) between).0 in
-          room.last k (omega (arith, from, end, low)))
-      | inr edges ↦ elim (or_cases (((k + 1) == n) && (g k).wide) ((k == (n + 1)) && (g k).continuation)
-          (and_parts (nat_lt n (n + 1)) _ edges).1) [
-            | inl left ↦
-                (let both = and_parts ((k + 1) == n) _ left in
-                absurd (both_ways (g k).wide (spaced-left (s.cell r) n (cell_of 32 a) a k
-                (eqb-true (k + 1) n both.0)) both.1))
-            | inr right ↦ (let is = eqb-true k (n + 1) (and_parts (k == (n + 1)) _ right).0
-                in absurd (omega (arith, is, end, low)))
-          ]
-    ]
+  print-within : (t : Term) (c : ℕ) (x : CellView) (a : Attrs) → IsSendable x → c + span_of x ≡ z.cols
+      → (s.cell r c).continuation ≡ false → (x.wide ≡ true → (s.cell r c).wide ≡ true)
+      → Within S z (Text x.text ∷ []) (at t s.cell s.wrapped r c a)
+  unfolding print
+  print-within t c x a send end single wide =
+      let f = s.cell r in
+      subst (λ (C : ℕ → ℕ → CellView). Within S z (Text x.text ∷ []) (at t C s.wrapped r c a))
+      (update-kept s.cell r f refl)
+      (stays-print S z t s.cell s.wrapped r c a f x false (pen r c a None false) send (omega (arith, end))
+      (put-touched c x end single wide))
 
-space-within : (S : ℕ → ℕ → Type 0) (z : Size) (t : Term) (s : Shown) (r n : ℕ) (a : Attrs) → IsPaired (s.cell r)
-    → n + 1 ≡ z.cols → (s.cell r n).continuation ≡ false → IsEndRoom S z s r
-    → Within S z (Text (32 ∷ []) ∷ []) (at t s.cell s.wrapped r n a)
-unfolding print char_width
-space-within S z t s r n a paired end single room =
-    let f = s.cell r in
-    let one = span-space a in
-    subst (λ (C : ℕ → ℕ → CellView). Within S z (Text (32 ∷ []) ∷ []) (at t C s.wrapped r n a))
-    (update-kept s.cell r f refl)
-    (stays-print S z t s.cell s.wrapped r n a f (cell_of 32 a) false (pen r n a None false) (sends-space a)
-    (omega (arith, one, end)) (space-touched S z s r n a paired end single room))
+  -- ---- the last cell is printed again
 
-erase-within : (S : ℕ → ℕ → Type 0) (z : Size) (t : Term) (s : Shown) (r n : ℕ) (a b : Attrs) → n + 1 ≡ z.cols
-    → IsEndRoom S z s r
-    → Within S z (EraseChar 1 ∷ [])
-    (at t (update s.cell r (put (s.cell r) n (cell_of 32 a) a)) s.wrapped r (n + 1 - 1) b)
-unfolding erasing
-erase-within S z t s r n a b end room =
-    let g = put (s.cell r) n (cell_of 32 a) a in
-    let back : n ≡ n + 1 - 1 = omega arith in
-    subst (λ c. Within S z (EraseChar 1 ∷ []) (at t (update s.cell r g) s.wrapped r c b)) back
-    (stays-erasing S z t s.cell s.wrapped r n 1 (n + 1) b g false (pen r n b None false) refl (omega (arith, end))
-    (wipe-touched S z s r n a end room))
+  behind-within : (t : Term) (p : Option Pos) (a : Attrs) (i c : ℕ) → IsProper a → Known p i c
+      → has_text (end_cell z s r) ≡ true → Within S z (wait_behind z s p a r) (at t s.cell s.wrapped i c a)
+  unfolding wait_behind
+  behind-within t p a i c ha k some =
+      let C = s.cell in
+      let W = s.wrapped in
+      let last = last-of z t s r h l in
+      let n = end_col z s r in
+      let x = end_cell z s r in
+      let few = span-few x in
+      let goes = arriving p (place r n) in
+      let back = change x.attrs a in
+      let u = at t C W i c a in
+      let there = at t C W r n a in
+      let prints = print-within t n x x.attrs (last.sent some) last.up_to last.whole (λ e. e) in
+      cond_both (is_pen_at p (place r z.cols)) [] (goes ++ printed_with a x) (λ fs. Within S z fs u) (λ _. tt)
+      (λ _. within-joined S z goes (printed_with a x) u (arriving-within S z p i c r n u k refl l)
+      (subst (Within S z (printed_with a x))
+      (sym (arrives z t C W a p i c r n k l (omega (arith, last.up_to, few))))
+      (within-joined S z (change a x.attrs) (Text x.text ∷ back) there (change-within S z a x.attrs there)
+      (subst (Within S z (Text x.text ∷ back)) (sym (change-read z there a x.attrs refl ha (h.proper r n)))
+      (prints.0, change-within S z x.attrs a _)))))
 
-wipes-within : (S : ℕ → ℕ → Type 0) (z : Size) (t : Term) (s : Shown) (r n : ℕ) (a b : Attrs) → n + 1 ≡ z.cols
-    → IsEndRoom S z s r
-    → Within S z (SaveCursor ∷ Backspace ∷ EraseChar 1 ∷ RestoreCursor ∷ change b a)
-    (at t (update s.cell r (put (s.cell r) n (cell_of 32 a) a)) s.wrapped r (n + 1) b)
-unfolding apply form_touches
-wipes-within S z t s r n a b end room =
-    let v : Term = record t { saved_row = r; saved_col = n + 1; saved_attrs = b } in
-    let erased = erase-within S z v s r n a b end room in (
-      idle S z SaveCursor _ (λ i k. refl),
-      (
-        idle S z Backspace _ (λ i k. refl),
-        (erased.0, (idle S z RestoreCursor _ (λ i k. refl), change-within S z b a _)),
-      ),
-    )
+  -- ---- a space is printed in the last column, and erased
 
-empty-within : (S : ℕ → ℕ → Type 0) (z : Size) (t : Term) (s : Shown) (p : Option Pos) (a : Attrs) (r c row : ℕ)
-    → IsDrawable z s → IsProper a → Known p r c → row < z.rows → has_text (end_cell z s row) ≡ false
-    → IsEndRoom S z s row
-    → Within S z (wait_on_empty z p a row (s.cell row (z.cols - 1))) (at t s.cell s.wrapped r c a)
-unfolding wait_on_empty
-empty-within S z t s p a r c row h ha k l none room =
-    let C = s.cell in
-    let W = s.wrapped in
-    let n = z.cols - 1 in
-    let x = C row n in
-    let b = x.attrs in
-    let end : n + 1 ≡ z.cols = omega (arith, h.shown.some_col) in
-    let is : x ≡ empty_cell b = no-text_end z t s row h l none in
-    let single : x.continuation ≡ false = ap (λ (y : CellView). y.continuation) is in
-    let g = put (C row) n (cell_of 32 a) a in
-    let goes = arriving p (place row n) in
-    let dyes = change a b in
-    let tail = SaveCursor ∷ Backspace ∷ EraseChar 1 ∷ RestoreCursor ∷ change b a in
-    let u = at t C W r c a in
-    let there = at t C W row n a in
-    let after = at t (update C row g) W row (n + 1) a in
-    let prints = space-within S z t s row n a (h.shown.paired row) end single room in
-    let rest : Within S z (dyes ++ tail) after = within-joined S z dyes tail after (change-within S z a b after)
-    (subst (Within S z tail) (sym (change-read z after a b refl ha (h.proper row n)))
-    (wipes-within S z t s row n a b end room)) in
-    within-joined S z goes (Text (32 ∷ []) ∷ (dyes ++ tail)) u (arriving-within S z p r c row n u k refl l)
-    (subst (Within S z (Text (32 ∷ []) ∷ (dyes ++ tail)))
-    (sym (arrives z t C W a p r c row n k l (omega (arith, end))))
-    (prints.0, subst (Within S z (dyes ++ tail)) (sym (space-printed z t C W row n a (omega (arith, end)))) rest))
+  wipe-touched : (n : ℕ) (a : Attrs) → n + 1 ≡ z.cols → (k : ℕ) → k < z.cols
+      → wipe_touches (put (s.cell r) n (cell_of 32 a) a) n (n + 1) k ≡ true → S r k
+  wipe-touched n a end k low touched =
+      let g = put (s.cell r) n (cell_of 32 a) a in
+      elim (or_cases (nat_le n k && nat_lt k (n + 1)) _ touched) [
+        | inl between ↦
+            (let from = leb-true n k (and_parts (nat_le n k) (nat_lt k (n + 1)) between).0 in
+            room.last k (omega (arith, from, end, low)))
+        | inr edges ↦ elim (or_cases (((k + 1) == n) && (g k).wide) ((k == (n + 1)) && (g k).continuation)
+            (and_parts (nat_lt n (n + 1)) _ edges).1) [
+              | inl left ↦
+                  (let both = and_parts ((k + 1) == n) _ left in
+                  absurd (both_ways (g k).wide (spaced-left (s.cell r) n (cell_of 32 a) a k
+                  (eqb-true (k + 1) n both.0)) both.1))
+              | inr right ↦ (let is = eqb-true k (n + 1) (and_parts (k == (n + 1)) _ right).0
+                  in absurd (omega (arith, is, end, low)))
+            ]
+      ]
+
+  erase-within : (t : Term) (n : ℕ) (a b : Attrs) → n + 1 ≡ z.cols
+      → Within S z (EraseChar 1 ∷ [])
+      (at t (update s.cell r (put (s.cell r) n (cell_of 32 a) a)) s.wrapped r (n + 1 - 1) b)
+  unfolding erasing
+  erase-within t n a b end =
+      let g = put (s.cell r) n (cell_of 32 a) a in
+      let back : n ≡ n + 1 - 1 = omega arith in
+      subst (λ c. Within S z (EraseChar 1 ∷ []) (at t (update s.cell r g) s.wrapped r c b)) back
+      (stays-erasing S z t s.cell s.wrapped r n 1 (n + 1) b g false (pen r n b None false) refl
+      (omega (arith, end))
+      (wipe-touched n a end))
+
+  wipes-within : (t : Term) (n : ℕ) (a b : Attrs) → n + 1 ≡ z.cols
+      → Within S z (SaveCursor ∷ Backspace ∷ EraseChar 1 ∷ RestoreCursor ∷ change b a)
+      (at t (update s.cell r (put (s.cell r) n (cell_of 32 a) a)) s.wrapped r (n + 1) b)
+  unfolding apply form_touches
+  wipes-within t n a b end =
+      let v : Term = record t { saved_row = r; saved_col = n + 1; saved_attrs = b } in
+      let erased = erase-within v n a b end in (
+        idle S z SaveCursor _ (λ i k. refl),
+        (
+          idle S z Backspace _ (λ i k. refl),
+          (erased.0, (idle S z RestoreCursor _ (λ i k. refl), change-within S z b a _)),
+        ),
+      )
+
+  empty-within : (t : Term) (p : Option Pos) (a : Attrs) (i c : ℕ) → IsProper a → Known p i c
+      → has_text (end_cell z s r) ≡ false
+      → Within S z (wait_on_empty z p a r (s.cell r (z.cols - 1))) (at t s.cell s.wrapped i c a)
+  unfolding wait_on_empty char_width
+  empty-within t p a i c ha k none =
+      let C = s.cell in
+      let W = s.wrapped in
+      let n = z.cols - 1 in
+      let x = C r n in
+      let b = x.attrs in
+      let end : n + 1 ≡ z.cols = omega (arith, h.shown.some_col) in
+      let is : x ≡ empty_cell b = no-text_end z t s r h l none in
+      let g = put (C r) n (cell_of 32 a) a in
+      let one = span-space a in
+      let goes = arriving p (place r n) in
+      let dyes = change a b in
+      let tail = SaveCursor ∷ Backspace ∷ EraseChar 1 ∷ RestoreCursor ∷ change b a in
+      let u = at t C W i c a in
+      let after = at t (update C r g) W r (n + 1) a in
+      let prints = print-within t n (cell_of 32 a) a (sends-space a) (omega (arith, one, end))
+      (ap (λ (y : CellView). y.continuation) is) (λ e. absurd (false≢true e)) in
+      let rest : Within S z (dyes ++ tail) after =
+      within-joined S z dyes tail after (change-within S z a b after)
+      (subst (Within S z tail) (sym (change-read z after a b refl ha (h.proper r n)))
+      (wipes-within t n a b end)) in
+      within-joined S z goes (Text (32 ∷ []) ∷ (dyes ++ tail)) u (arriving-within S z p i c r n u k refl l)
+      (subst (Within S z (Text (32 ∷ []) ∷ (dyes ++ tail)))
+      (sym (arrives z t C W a p i c r n k l (omega (arith, end)))) (
+        prints.0,
+        subst (Within S z (dyes ++ tail)) (sym (space-printed z t C W r n a (omega (arith, end))))
+            rest,
+      ))
 
 -- ---- the cursor
 
@@ -266,13 +231,13 @@ waits-within : (S : ℕ → ℕ → Type 0) (z : Size) (t : Term) (s : Shown) (p
     → IsEndRoom S z s (row_or s.row o) → Within S z (wait z s p a o) (at t s.cell s.wrapped r c a)
 unfolding wait Ends
 waits-within S z t s p a r c None h ha k e room =
-    empty-within S z t s p a r c s.row h ha k h.shown.in_rows e room
+    empty-within S z s h s.row h.shown.in_rows room t p a r c ha k e
 waits-within S z t s p a r c (Some i) h ha k e room =
     let up = e.0 in
     let inside : i < z.rows = omega (arith, up, h.shown.in_rows) in
-    let u = at t s.cell s.wrapped r c a in
     let down = replicate (s.row - i) Lf in
-    within-joined S z (wait_behind z s p a i) down u (behind-within S z t s p a r c i h ha k inside e.1 room)
+    within-joined S z (wait_behind z s p a i) down (at t s.cell s.wrapped r c a)
+    (behind-within S z s h i inside room t p a r c ha k e.1)
     (subst (Within S z down) (sym (waits-behind z t s p a r c i h ha k inside e.1))
     (fed-within S z t s.cell s.wrapped a z.cols (s.row - i) i s.row (omega (arith, up)) h.shown.in_rows))
 

@@ -4,7 +4,6 @@ use Rattle.std.proofs.Common.{sym, subst, ◌∙◌, inl, inr}
 use Rattle.std.proofs.lemmas.Bool.{cases_Bool, and_cases, both_ways, false≢true}
 use Rattle.vt100_forms.specs.Attrs.{IsProper}
 use Rattle.terminal_model.specs.Term.{Size, Shown, Term, IsShown}
-use Rattle.terminal_model.specs.Apply.{run}
 use Rattle.terminal_model.specs.Touch.{Within}
 use Rattle.terminal_model.specs.Local.{DiffersIn, IsLocal}
 use Rattle.row_drawing.specs.declared.pen.Pen.{Pen}
@@ -30,7 +29,7 @@ owed-next z t old new i p u ho hn l b on off =
     let flagged = is_continued old.wrapped i && not p.lost in
     let s = scene_of z t old new i flagged b.flags in
     let q = (row_difference s.job z.cols (afresh p)).pen in
-    let h = scene-is z t old new i flagged p u b ho hn l refl in
+    let h = scene-is z t old new i flagged p u b refl ho hn l in
     let back : i ≡ suc i - 1 = omega arith in
     subst (DiffersIn z old new) back
     (elim (and_cases (old.wrapped i) (not q.lost) off) [
@@ -49,9 +48,9 @@ unfolding IsOwed next_difference
 next-within z t old new i p u ho hn l b owed =
     let flagged = is_continued old.wrapped i && not p.lost in
     let s = scene_of z t old new i flagged b.flags in
-    let done = row_difference s.job z.cols (afresh p) in
-    subst (Within (IsLocal z old new) z done.forms) (sym (here-is z t old new i flagged p u b))
-    (difference-local s old new (afresh p) (scene-is z t old new i flagged p u b ho hn l refl)
+    subst (Within (IsLocal z old new) z (row_difference s.job z.cols (afresh p)).forms)
+    (sym (here-is z t old new i flagged p u b refl))
+    (difference-local s old new (afresh p) (scene-is z t old new i flagged p u b refl ho hn l)
     (ready-is z t old new i flagged p u b refl) (record {
       old_cells = refl;
       new_cells = refl;
@@ -65,8 +64,7 @@ rows-owed : (z : Size) (t : Term) (old new : Shown) (p : Pen) (n : ℕ) → IsSh
 unfolding IsOwed rows_difference ◌>>◌
 rows-owed z t old new p zero ho hn ha closed l on = absurd (false≢true on)
 rows-owed z t old new p (suc n) ho hn ha closed l on =
-    let f = rows_difference z old new n in
-    owed-next z t old new n (f p).pen (run z (f p).forms (showing t old p)) ho hn (omega arith)
+    owed-next z t old new n _ _ ho hn (omega arith)
     (differences z t old new p n ho hn ha closed (omega arith)) on
 
 rows-within : (z : Size) (t : Term) (old new : Shown) (p : Pen) (n : ℕ) → IsShown z old → IsDrawable z new
@@ -75,13 +73,11 @@ rows-within : (z : Size) (t : Term) (old new : Shown) (p : Pen) (n : ℕ) → Is
 unfolding rows_difference skip
 rows-within z t old new p zero ho hn ha closed l = tt
 rows-within z t old new p (suc n) ho hn ha closed l =
-    let f = rows_difference z old new n in
-    let x = showing t old p in
     let less : n ≤ z.rows = omega arith in
-    let v = run z (f p).forms x in
-    stays-then (IsLocal z old new) z f (next_difference z old new n) p x (f p).pen v
+    stays-then (IsLocal z old new) z (rows_difference z old new n) (next_difference z old new n)
+    p (showing t old p) _ _
     (record { pen_is = refl; term_is = refl }) (rows-within z t old new p n ho hn ha closed less)
-    (next-within z t old new n (f p).pen v ho hn (omega arith) (differences z t old new p n ho hn ha closed less)
+    (next-within z t old new n _ _ ho hn (omega arith) (differences z t old new p n ho hn ha closed less)
     (rows-owed z t old new p n ho hn ha closed less))
 
 pub rows-local : EachRowsDifferenceIsLocal

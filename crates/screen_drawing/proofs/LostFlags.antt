@@ -28,38 +28,37 @@ IsBlamed K q = q.lost ≡ true → K
 
 -- ---- columns
 
-draw-blamed : (K : Type 0) (j : Job) (c : ℕ) (q : Pen) → IsCause K j → IsBlamed K q → IsBlamed K (draw j c q).pen
-unfolding draw skip
-draw-blamed K j c q h b =
-    cond_both (is_same j c) skip _ (λ (f : Writer). IsBlamed K (f q).pen) (λ _. b) (λ differs _. h c differs)
+module _ (K : Type 0) (j : Job) (cause : IsCause K j) where
+  draw-blamed : (c : ℕ) (q : Pen) → IsBlamed K q → IsBlamed K (draw j c q).pen
+  unfolding draw skip
+  draw-blamed c q b =
+      cond_both (is_same j c) skip _ (λ (f : Writer). IsBlamed K (f q).pen) (λ _. b) (λ differs _. cause c differs)
 
-flush_of-blamed : (K : Type 0) (j : Job) (c : ℕ) (o : Option Erase) (q : Pen) → IsCause K j → IsMarked j o
-    → IsBlamed K q → IsBlamed K (flush_of j c o q).pen
-unfolding flush_of skip
-flush_of-blamed K j c None q h m b = b
-flush_of-blamed K j c (Some e) q h m b =
-    cond_both (is_end (j.new c) e.attrs) _ skip (λ (f : Writer). IsBlamed K (f q).pen) (λ _ _. h e.from m) (λ _. b)
+  flush_of-blamed : (c : ℕ) (o : Option Erase) (q : Pen) → IsMarked j o → IsBlamed K q
+      → IsBlamed K (flush_of j c o q).pen
+  unfolding flush_of skip
+  flush_of-blamed c None q m b = b
+  flush_of-blamed c (Some e) q m b =
+      cond_both (is_end (j.new c) e.attrs) _ skip (λ (f : Writer). IsBlamed K (f q).pen) (λ _ _. cause e.from m)
+      (λ _. b)
 
-column-blamed : (K : Type 0) (j : Job) (c : ℕ) (q : Pen) → IsCause K j → IsMarked j q.erase → IsBlamed K q
-    → IsBlamed K (column j c q).pen
-unfolding column ◌>>◌ skip flush
-column-blamed K j c q h m b =
-    cond_both ((j.new c).continuation && not (c == j.start)) skip (flush j c >> draw j c)
-    (λ (f : Writer). IsBlamed K (f q).pen) (λ _. b)
-    (λ _. draw-blamed K j c (flush j c q).pen h (flush_of-blamed K j c q.erase q h m b))
+  column-blamed : (c : ℕ) (q : Pen) → IsMarked j q.erase → IsBlamed K q → IsBlamed K (column j c q).pen
+  unfolding column ◌>>◌ skip flush
+  column-blamed c q m b =
+      cond_both ((j.new c).continuation && not (c == j.start)) skip (flush j c >> draw j c)
+      (λ (f : Writer). IsBlamed K (f q).pen) (λ _. b)
+      (λ _. draw-blamed c (flush j c q).pen (flush_of-blamed c q.erase q m b))
 
-columns-blamed : (K : Type 0) (j : Job) (n : ℕ) (q : Pen) → IsCause K j → IsMarked j q.erase → IsBlamed K q
-    → IsBlamed K (columns j n q).pen
-unfolding columns ◌>>◌ skip
-columns-blamed K j zero q h m b = b
-columns-blamed K j (suc n) q h m b =
-    column-blamed K j (j.start + n) (columns j n q).pen h (columns-marked j n q m) (columns-blamed K j n q h m b)
+  columns-blamed : (n : ℕ) (q : Pen) → IsMarked j q.erase → IsBlamed K q → IsBlamed K (columns j n q).pen
+  unfolding columns ◌>>◌ skip
+  columns-blamed zero q m b = b
+  columns-blamed (suc n) q m b =
+      column-blamed (j.start + n) (columns j n q).pen (columns-marked j n q m) (columns-blamed n q m b)
 
-finish_of-blamed : (K : Type 0) (j : Job) (o : Option Erase) (q : Pen) → IsCause K j → IsMarked j o
-    → IsBlamed K q → IsBlamed K (finish_of j o q).pen
-unfolding finish_of skip
-finish_of-blamed K j None q h m b = b
-finish_of-blamed K j (Some e) q h m b = λ _. h e.from m
+  finish_of-blamed : (o : Option Erase) (q : Pen) → IsMarked j o → IsBlamed K q → IsBlamed K (finish_of j o q).pen
+  unfolding finish_of skip
+  finish_of-blamed None q m b = b
+  finish_of-blamed (Some e) q m b = λ _. cause e.from m
 
 -- ---- the first cell once more
 
@@ -137,7 +136,8 @@ lost-cause K s p h closed kept on cause =
     let m = opening-marked j p closed in
     let start : IsBlamed K q = λ lost. absurd (both_ways q.lost (opening-kept j p kept (first-keeps s p h on)) lost) in
     closing-blamed K j (finish j u).pen on
-    (finish_of-blamed K j u.erase u cause (columns-marked j j.cols q m) (columns-blamed K j j.cols q cause m start))
+    (finish_of-blamed K j cause u.erase u (columns-marked j j.cols q m)
+    (columns-blamed K j cause j.cols q m start))
 
 -- what differs is a column of the row
 pub inside-row : (s : Scene) → IsScene s → (k : ℕ) → is_same s.job k ≡ false → k < s.job.cols

@@ -13,7 +13,7 @@ use Rattle.terminal_model.proofs.Positions.{update-same, update-other, update-ke
 use Rattle.terminal_model.proofs.Positions.{splice-update, splice-whole}
 use Rattle.terminal_model.proofs.FormLemmas.{run-joined}
 use Rattle.row_drawing.specs.declared.pen.Pen.{Pen}
-use Rattle.row_drawing.specs.Writer.{Writer, ◌>>◌, skip}
+use Rattle.row_drawing.specs.Writer.{Drawn, Writer, ◌>>◌, skip}
 use Rattle.row_drawing.specs.RowWriter.{row_redraw, row_difference}
 use Rattle.row_drawing.specs.Scene.{Scene, IsScene, IsReady, IsDrawn, IsLine, with_row}
 use Rattle.row_drawing.proofs.Steps.{at}
@@ -69,98 +69,98 @@ scene_of z t old new i flagged F = record {
   flags = F;
 }
 
-line-of : (z : Size) (s : Shown) (r : ℕ) → IsShown z s → IsLine z.cols (s.cell r) (s.wrapped r)
+pub line-of : (z : Size) (s : Shown) (r : ℕ) → IsShown z s → IsLine z.cols (s.cell r) (s.wrapped r)
 line-of z s r h = record { paired = h.paired r; beyond = h.beyond r; filled = h.filled r }
 
--- the flag of row i is that of the old screen
-own-flag : (z : Size) (t : Term) (old new : Shown) (i : ℕ) (p : Pen) (u : Term) (b : Between z t old new i p u)
-    → b.flags i ≡ old.wrapped i
-own-flag z t old new i p u b =
-    let le : i ≤ i = omega arith in
-    let all : cond (is_continued new.wrapped i) (update b.flags (i - 1) true) b.flags i ≡ old.wrapped i =
-    ap (λ (G : ℕ → Bool). G i) b.flagged ∙ splice-past old.wrapped 0 i new.wrapped i le in
-    elim (cases_Bool (is_continued new.wrapped i)) [
-      | inl on ↦
-          (let later = continued-later new.wrapped i on in
-          sym (update-other b.flags (i - 1) i true (λ e. absurd (omega (arith, e, later))))
-          ∙ ap (λ c. cond c (update b.flags (i - 1) true) b.flags i) (sym on) ∙ all)
-      | inr off ↦ ap (λ c. cond c (update b.flags (i - 1) true) b.flags i) (sym off) ∙ all
-    ]
+module _ (z : Size) (t : Term) (old new : Shown) (i : ℕ) (flagged : Bool) (p : Pen) (u : Term)
+    (b : Between z t old new i p u) (told : flagged ≡ (is_continued old.wrapped i && not p.lost)) where
+  -- the flag of row i is that of the old screen
+  own-flag : b.flags i ≡ old.wrapped i
+  own-flag =
+      let le : i ≤ i = omega arith in
+      let all : cond (is_continued new.wrapped i) (update b.flags (i - 1) true) b.flags i ≡ old.wrapped i =
+      ap (λ (G : ℕ → Bool). G i) b.flagged ∙ splice-past old.wrapped 0 i new.wrapped i le in
+      elim (cases_Bool (is_continued new.wrapped i)) [
+        | inl on ↦
+            (let later = continued-later new.wrapped i on in
+            sym (update-other b.flags (i - 1) i true (λ e. absurd (omega (arith, e, later))))
+            ∙ ap (λ c. cond c (update b.flags (i - 1) true) b.flags i) (sym on) ∙ all)
+        | inr off ↦ ap (λ c. cond c (update b.flags (i - 1) true) b.flags i) (sym off) ∙ all
+      ]
 
-pub scene-is : (z : Size) (t : Term) (old new : Shown) (i : ℕ) (flagged : Bool) (p : Pen) (u : Term)
-    (b : Between z t old new i p u) → IsShown z old → IsDrawable z new → i < z.rows
-    → flagged ≡ (is_continued old.wrapped i && not p.lost) → IsScene (scene_of z t old new i flagged b.flags)
-scene-is z t old new i flagged p u b ho hn l e = record {
-  whole = refl;
-  some_col = hn.shown.some_col;
-  row_in = l;
-  old = line-of z old i ho;
-  new = line-of z new i hn.shown;
-  cells = hn.cells i;
-  plain = hn.plain i;
-  proper = hn.proper i;
-  flag = own-flag z t old new i p u b;
-  below_first = continued-later new.wrapped i;
-  above_filled = λ on.
-      let later = continued-later new.wrapped i on in
-      ap (λ (f : ℕ → CellView). is_filled (f (z.cols - 1)))
-      (splice-in old.cell 0 i new.cell (i - 1) (omega arith) (omega (arith, later)))
-      ∙ hn.shown.filled (i - 1) (sym (continued-is new.wrapped i later) ∙ on);
-  above_flag = λ on k. b.keeps on (sym e ∙ k);
-}
+  pub scene-is : IsShown z old → IsDrawable z new → i < z.rows
+      → IsScene (scene_of z t old new i flagged b.flags)
+  scene-is ho hn l = record {
+    whole = refl;
+    some_col = hn.shown.some_col;
+    row_in = l;
+    old = line-of z old i ho;
+    new = line-of z new i hn.shown;
+    cells = hn.cells i;
+    plain = hn.plain i;
+    proper = hn.proper i;
+    flag = own-flag;
+    below_first = continued-later new.wrapped i;
+    above_filled = λ on.
+        let later = continued-later new.wrapped i on in
+        ap (λ (f : ℕ → CellView). is_filled (f (z.cols - 1)))
+        (splice-in old.cell 0 i new.cell (i - 1) (omega arith) (omega (arith, later)))
+        ∙ hn.shown.filled (i - 1) (sym (continued-is new.wrapped i later) ∙ on);
+    above_flag = λ on k. b.keeps on (sym told ∙ k);
+  }
 
-pub ready-is : (z : Size) (t : Term) (old new : Shown) (i : ℕ) (flagged : Bool) (p : Pen) (u : Term)
-    (b : Between z t old new i p u) → flagged ≡ (is_continued old.wrapped i && not p.lost)
-    → IsReady (scene_of z t old new i flagged b.flags) (afresh p)
-ready-is z t old new i flagged p u b e = record {
-  closed = b.closed;
-  kept = refl;
-  proper = b.proper;
-  waits = λ on k. b.waits on (sym e ∙ k);
-}
+  pub ready-is : IsReady (scene_of z t old new i flagged b.flags) (afresh p)
+  ready-is =
+      record { closed = b.closed; kept = refl; proper = b.proper; waits = λ on k. b.waits on (sym told ∙ k) }
 
--- the terminal before row i, as the row's laws see it
-pub here-is : (z : Size) (t : Term) (old new : Shown) (i : ℕ) (flagged : Bool) (p : Pen) (u : Term)
-    (b : Between z t old new i p u)
-    → u ≡ with_row (scene_of z t old new i flagged b.flags) (old.cell i) b.flags p.pos.row p.pos.col p.attrs
-here-is z t old new i flagged p u b =
-    let le : i ≤ i = omega arith in
-    b.stands ∙ ap (λ C. at t C b.flags p.pos.row p.pos.col p.attrs)
-    (sym (update-kept (splice old.cell 0 i new.cell) i (old.cell i)
-    (sym (splice-past old.cell 0 i new.cell i le))))
+  -- the terminal before row i, as the row's laws see it
+  pub here-is : u
+      ≡ with_row (scene_of z t old new i flagged b.flags) (old.cell i) b.flags p.pos.row p.pos.col p.attrs
+  here-is =
+      let le : i ≤ i = omega arith in
+      b.stands ∙ ap (λ C. at t C b.flags p.pos.row p.pos.col p.attrs)
+      (sym (update-kept (splice old.cell 0 i new.cell) i (old.cell i)
+      (sym (splice-past old.cell 0 i new.cell i le))))
 
--- row i is drawn
-between-next : (z : Size) (t : Term) (old new : Shown) (i : ℕ) (flagged : Bool) (p : Pen) (u : Term)
-    (b : Between z t old new i p u) (q : Pen) (v : Term) → IsDrawn (scene_of z t old new i flagged b.flags) q v
-    → Between z t old new (suc i) q v
-between-next z t old new i flagged p u b q v d =
-    let F = d.flags in
-    let V = cond (is_continued new.wrapped i) (update b.flags (i - 1) true) b.flags in
-    let w = new.wrapped i in
-    let back : suc i - 1 ≡ i = omega arith in
-    let next : i + 1 ≡ suc i = omega arith in
-    let le : 0 ≤ i = omega arith in
-    let full : update V i w ≡ splice old.wrapped 0 (suc i) new.wrapped =
-    ap (λ G. update G i w) b.flagged ∙ splice-update old.wrapped 0 i new.wrapped w le refl
-    ∙ ap (λ n. splice old.wrapped 0 n new.wrapped) next in
-    record {
-      flags = F;
-      stands = d.stands ∙ ap (λ C. at t C F q.pos.row q.pos.col q.attrs)
-          (splice-update old.cell 0 i new.cell (new.cell i) le refl ∙ ap (λ n. splice old.cell 0 n new.cell) next);
-      proper = d.proper;
-      closed = d.closed;
-      flagged = (elim d.flagged [
-        | inl e ↦ elim (cases_Bool w) [
-          | inl on ↦ ap (λ c. cond c (update F (suc i - 1) true) F) on ∙ ap (λ k. update F k true) back
-              ∙ update-kept F i true (sym (ap (λ (G : ℕ → Bool). G i) e ∙ update-same V i w ∙ on)) ∙ e ∙ full
-          | inr off ↦ ap (λ c. cond c (update F (suc i - 1) true) F) off ∙ e ∙ full
-        ]
-        | inr e ↦ ap (λ c. cond c (update F (suc i - 1) true) F) e.0 ∙ ap (λ k. update F k true) back
-            ∙ e.3 ∙ ap (λ c. update V i c) (sym e.0) ∙ full
-      ]);
-      keeps = λ on k. ap F back ∙ d.keeps on k;
-      waits = λ on k. (let place = d.waits on k in (omega (arith, place.0), place.1));
-    }
+  -- row i is drawn
+  between-next : (d : Drawn)
+      → IsDrawn (scene_of z t old new i flagged b.flags) d.pen (run z d.forms
+      (with_row (scene_of z t old new i flagged b.flags) (old.cell i) b.flags p.pos.row p.pos.col p.attrs))
+      → Between z t old new (suc i) d.pen (run z d.forms u)
+  between-next drawn there =
+      let s = scene_of z t old new i flagged b.flags in
+      let q = drawn.pen in
+      let d : IsDrawn s q (run z drawn.forms u) =
+      subst (λ x. IsDrawn s q (run z drawn.forms x)) (sym here-is) there in
+      let F = d.flags in
+      let V = cond (is_continued new.wrapped i) (update b.flags (i - 1) true) b.flags in
+      let w = new.wrapped i in
+      let back : suc i - 1 ≡ i = omega arith in
+      let next : i + 1 ≡ suc i = omega arith in
+      let le : 0 ≤ i = omega arith in
+      let full : update V i w ≡ splice old.wrapped 0 (suc i) new.wrapped =
+      ap (λ G. update G i w) b.flagged ∙ splice-update old.wrapped 0 i new.wrapped w le refl
+      ∙ ap (λ n. splice old.wrapped 0 n new.wrapped) next in
+      record {
+        flags = F;
+        stands = d.stands ∙ ap (λ C. at t C F q.pos.row q.pos.col q.attrs)
+            (splice-update old.cell 0 i new.cell (new.cell i) le refl
+            ∙ ap (λ n. splice old.cell 0 n new.cell) next);
+        proper = d.proper;
+        closed = d.closed;
+        flagged = (elim d.flagged [
+          | inl e ↦ elim (cases_Bool w) [
+            | inl on ↦ ap (λ c. cond c (update F (suc i - 1) true) F) on ∙ ap (λ k. update F k true) back
+                ∙ update-kept F i true (sym (ap (λ (G : ℕ → Bool). G i) e ∙ update-same V i w ∙ on))
+                ∙ e ∙ full
+            | inr off ↦ ap (λ c. cond c (update F (suc i - 1) true) F) off ∙ e ∙ full
+          ]
+          | inr e ↦ ap (λ c. cond c (update F (suc i - 1) true) F) e.0 ∙ ap (λ k. update F k true) back
+              ∙ e.3 ∙ ap (λ c. update V i c) (sym e.0) ∙ full
+        ]);
+        keeps = λ on k. ap F back ∙ d.keeps on k;
+        waits = λ on k. (let place = d.waits on k in (omega (arith, place.0), place.1));
+      }
 
 -- ---- all rows
 
@@ -178,11 +178,9 @@ unfolding next_difference
 difference-next z t old new i p u ho hn l b =
     let flagged = is_continued old.wrapped i && not p.lost in
     let s = scene_of z t old new i flagged b.flags in
-    let done = row_difference s.job z.cols (afresh p) in
-    between-next z t old new i flagged p u b done.pen (run z done.forms u)
-    (subst (λ x. IsDrawn s done.pen (run z done.forms x)) (sym (here-is z t old new i flagged p u b))
-    (difference-leads s (afresh p) (scene-is z t old new i flagged p u b ho hn l refl)
-    (ready-is z t old new i flagged p u b refl)))
+    between-next z t old new i flagged p u b refl (row_difference s.job z.cols (afresh p))
+    (difference-leads s (afresh p) (scene-is z t old new i flagged p u b refl ho hn l)
+    (ready-is z t old new i flagged p u b refl))
 
 pub differences : (z : Size) (t : Term) (old new : Shown) (p : Pen) (n : ℕ) → IsShown z old → IsDrawable z new
     → IsProper p.attrs → p.erase ≡ None → n ≤ z.rows
@@ -191,9 +189,9 @@ pub differences : (z : Size) (t : Term) (old new : Shown) (p : Pen) (n : ℕ) �
 unfolding rows_difference skip
 differences z t old new p zero ho hn ha closed l = begun z t old new p ha closed
 differences z t old new p (suc n) ho hn ha closed l =
-    let f = rows_difference z old new n in
-    next-joined z t old new (suc n) f (next_difference z old new n) p (showing t old p)
-    (difference-next z t old new n (f p).pen (run z (f p).forms (showing t old p)) ho hn (omega arith)
+    next-joined z t old new (suc n) (rows_difference z old new n) (next_difference z old new n)
+    p (showing t old p)
+    (difference-next z t old new n _ _ ho hn (omega arith)
     (differences z t old new p n ho hn ha closed (omega arith)))
 
 blank-paired : IsPaired (λ k. default_cell)
@@ -224,14 +222,12 @@ redraw-next : (z : Size) (t : Term) (s : Shown) (i : ℕ) (p : Pen) (u : Term) �
     → Between z t blank_shown s (suc i) (next_redraw z s i p).pen (run z (next_redraw z s i p).forms u)
 unfolding next_redraw
 redraw-next z t s i p u h l b =
-    let k = scene_of z t blank_shown s i false b.flags in
-    let done = row_redraw k.job z.cols (afresh p) in
     let none = none-flagged i (not p.lost) in
-    between-next z t blank_shown s i false p u b done.pen (run z done.forms u)
-    (subst (λ x. IsDrawn k done.pen (run z done.forms x)) (sym (here-is z t blank_shown s i false p u b))
+    let k = scene_of z t blank_shown s i false b.flags in
+    between-next z t blank_shown s i false p u b none (row_redraw k.job z.cols (afresh p))
     (redraw-leads k (afresh p)
-    (scene-is z t blank_shown s i false p u b (blank-shown z h.shown.some_row h.shown.some_col) h l none)
-    (ready-is z t blank_shown s i false p u b none) (λ c. refl) refl))
+    (scene-is z t blank_shown s i false p u b none (blank-shown z h.shown.some_row h.shown.some_col) h l)
+    (ready-is z t blank_shown s i false p u b none) (λ c. refl) refl)
 
 redraws : (z : Size) (t : Term) (s : Shown) (p : Pen) (n : ℕ) → IsDrawable z s → IsProper p.attrs → p.erase ≡ None
     → n ≤ z.rows
@@ -240,10 +236,8 @@ redraws : (z : Size) (t : Term) (s : Shown) (p : Pen) (n : ℕ) → IsDrawable z
 unfolding rows_redraw skip
 redraws z t s p zero h ha closed l = begun z t blank_shown s p ha closed
 redraws z t s p (suc n) h ha closed l =
-    let f = rows_redraw z s n in
-    next-joined z t blank_shown s (suc n) f (next_redraw z s n) p (showing t blank_shown p)
-    (redraw-next z t s n (f p).pen (run z (f p).forms (showing t blank_shown p)) h (omega arith)
-    (redraws z t s p n h ha closed (omega arith)))
+    next-joined z t blank_shown s (suc n) (rows_redraw z s n) (next_redraw z s n) p (showing t blank_shown p)
+    (redraw-next z t s n _ _ h (omega arith) (redraws z t s p n h ha closed (omega arith)))
 
 -- ---- the last row is drawn
 

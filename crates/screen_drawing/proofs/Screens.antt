@@ -32,31 +32,32 @@ use Rattle.screen_drawing.proofs.Rows.{IsDone, redraw-done, difference-done}
 
 -- ---- lists of forms, whatever is saved
 
-Reaches : Size → List Form → Shown → Shown → Type 0
-Reaches z fs a b = (v : Saved) → shown_of (run z fs (term_of a v)) ≡ b
+record Reaches (z : Size) (fs : List Form) (a b : Shown) : Type 0 where
+  leads : (v : Saved) → shown_of (run z fs (term_of a v)) ≡ b
 
-joined : (z : Size) (fs gs : List Form) (a b c : Shown) → Reaches z fs a b → Reaches z gs b c
+joined : {z : Size} {fs gs : List Form} {a b c : Shown} → Reaches z fs a b → Reaches z gs b c
     → Reaches z (fs ++ gs) a c
-unfolding Reaches
-joined z fs gs a b c f g v =
-    let u = run z fs (term_of a v) in
-    ap shown_of (run-joined z fs gs (term_of a v))
-    ∙ ap (λ (x : Shown). shown_of (run z gs (term_of x (saved_of u)))) (f v) ∙ g (saved_of u)
-
-grid_reaches : (z : Size) (fs : List Form) (a b : Shown) → ((v : Saved) → shown_of (run z fs (term_of a v)) ≡ b)
-    → Reaches z fs a b
-unfolding Reaches
-grid_reaches z fs a b h = h
+joined {z = z} {fs = fs} {gs = gs} {a = a} f g = record {
+  leads = λ v.
+      let u = run z fs (term_of a v) in
+      ap shown_of (run-joined z fs gs (term_of a v))
+      ∙ ap (λ (x : Shown). shown_of (run z gs (term_of x (saved_of u)))) (f.leads v) ∙ g.leads (saved_of u);
+}
 
 changes : (z : Size) (s : Shown) (old new : Attrs) → s.attrs ≡ old → IsProper old → IsProper new
     → Reaches z (change old new) s (record s { attrs = new })
-unfolding Reaches
-changes z s old new e ho hn v = ap shown_of (change-read z (term_of s v) old new e ho hn)
+changes z s old new e ho hn =
+    record { leads = λ v. ap shown_of (change-read z (term_of s v) old new e ho hn) }
 
 hides : (z : Size) (s : Shown) (old new : Bool) → s.hidden ≡ old
     → Reaches z (switch HideCursor old new) s (record s { hidden = new })
-unfolding Reaches
-hides z s old new e v = ap shown_of (hide-switched z (term_of s v) old new e)
+hides z s old new e = record { leads = λ v. ap shown_of (hide-switched z (term_of s v) old new e) }
+
+changes-modes : (z : Size) (old new from : Shown) → from.modes ≡ old.modes → from.style ≡ old.style
+    → Reaches z (input_mode_diff old new) from (with_modes new.modes new.style from)
+changes-modes z old new from em es = record {
+  leads = λ v. ap shown_of (modes-run_changed z (term_of from v) old new em es);
+}
 
 -- ---- grids
 
@@ -120,79 +121,68 @@ beside b m y s = record s { hidden = b; modes = m; style = y }
 
 redraws : (z : Size) (s from : Shown) → IsDrawableScreen z s
     → Reaches z (contents_formatted z s) from (with_modes from.modes from.style s)
-unfolding Reaches contents_formatted apply
-redraws z s from h v =
-    let t : Term = record (term_of from v) { hidden = s.hidden } in
-    let fs = grid_contents_formatted z s in
-    let a = (grid_redraw z s).pen.attrs in
-    let g = redraw-grid z t s h.drawable in
-    let u = run z fs t in
-    ap shown_of (run-joined z fs (change a s.attrs) t)
-    ∙ ap (λ (x : Shown). shown_of (run z (change a s.attrs) (term_of x (saved_of u)))) g.leads
-    ∙ changes z (record (with_modes from.modes from.style s) { attrs = a }) a s.attrs refl g.proper h.attrs
-    (saved_of u)
+unfolding contents_formatted apply
+redraws z s from h = record {
+  leads = λ v.
+      let t : Term = record (term_of from v) { hidden = s.hidden } in
+      let fs = grid_contents_formatted z s in
+      let a = (grid_redraw z s).pen.attrs in
+      let g = redraw-grid z t s h.drawable in
+      let u = run z fs t in
+      ap shown_of (run-joined z fs (change a s.attrs) t)
+      ∙ ap (λ (x : Shown). shown_of (run z (change a s.attrs) (term_of x (saved_of u)))) g.leads
+      ∙ (changes z (record (with_modes from.modes from.style s) { attrs = a }) a s.attrs
+      refl g.proper h.attrs).leads
+      (saved_of u);
+}
 
 differs : (z : Size) (old new : Shown) (m : Modes) (y : CursorStyle) → IsShown z old → IsProper old.attrs
     → IsDrawableScreen z new → Reaches z (contents_diff z old new) (with_modes m y old) (with_modes m y new)
 unfolding contents_diff
 differs z old new m y ho ha hn =
-    let b = new.hidden in
-    let first = beside b m y old in
+    let first = beside new.hidden m y old in
     let a = (grid_difference z old new).pen.attrs in
-    let second : Shown = record (beside b m y new) { attrs = a } in
-    let g : (v : Saved) → IsGridDone z (term_of first v) new a (grid_difference z old new).forms (term_of first v) =
-    λ v. difference-grid z (term_of first v) old new ho ha hn.drawable in
-    let one = hides z (with_modes m y old) old.hidden b refl in
-    let fs = (grid_difference z old new).forms in
-    let two : Reaches z fs first second = grid_reaches z fs first second (λ v. (g v).leads) in
-    joined z (switch HideCursor old.hidden b ++ (grid_difference z old new).forms) (change a new.attrs)
-    (with_modes m y old) second (with_modes m y new)
-    (joined z (switch HideCursor old.hidden b) (grid_difference z old new).forms (with_modes m y old) first second one
-    two) (changes z second a new.attrs refl (g none_saved).proper hn.attrs)
+    let second : Shown = record (beside new.hidden m y new) { attrs = a } in
+    let g = λ (v : Saved). difference-grid z (term_of first v) old new ho ha hn.drawable in
+    let grid : Reaches z (grid_difference z old new).forms first second =
+    record { leads = λ v. (g v).leads } in
+    joined (joined (hides z (with_modes m y old) old.hidden new.hidden refl) grid)
+    (changes z second a new.attrs refl (g none_saved).proper hn.attrs)
 
 pub redraw_leads : EachRedrawLeads
-unfolding Reaches
-redraw_leads z s from h v hv = redraws z s from h v
+redraw_leads z s from h v hv = (redraws z s from h).leads v
 
 pub difference_leads : EachDifferenceLeads
-unfolding Reaches
-difference_leads z old new m y ho ha hn v hv = differs z old new m y ho ha hn v
+difference_leads z old new m y ho ha hn v hv = (differs z old new m y ho ha hn).leads v
 
 pub state-redraw_leads : EachStateRedrawLeads
-unfolding Reaches state_formatted
+unfolding state_formatted
 state-redraw_leads z s from h em ee es v hv =
-    joined z (contents_formatted z s) (input_mode_formatted s) from (with_modes from.modes from.style s) s
-    (redraws z s from h)
-    (λ w. ap shown_of (modes-run z (term_of (with_modes from.modes from.style s) w) s em ee es)) v
+    let drawn = with_modes from.modes from.style s in
+    let sets : Reaches z (input_mode_formatted s) drawn s =
+    record { leads = λ w. ap shown_of (modes-run z (term_of drawn w) s em ee es) } in
+    (joined (redraws z s from h) sets).leads v
 
 pub state-difference_leads : EachStateDifferenceLeads
-unfolding Reaches state_diff
+unfolding state_diff
 state-difference_leads z old new ho ha hn v hv =
-    joined z (contents_diff z old new) (input_mode_diff old new) old (with_modes old.modes old.style new) new
-    (differs z old new old.modes old.style ho ha hn)
-    (λ w. ap shown_of (modes-run_changed z (term_of (with_modes old.modes old.style new) w) old new refl refl)) v
+    (joined (differs z old new old.modes old.style ho ha hn)
+    (changes-modes z old new (with_modes old.modes old.style new) refl refl)).leads v
 
 pub later-redraw_leads : EachLaterRedrawLeads
-unfolding Reaches
 later-redraw_leads z old new from h em es v hv =
-    joined z (contents_formatted z new) (input_mode_diff old new) from (with_modes from.modes from.style new) new
-    (redraws z new from h)
-    (λ w. ap shown_of (modes-run_changed z (term_of (with_modes from.modes from.style new) w) old new em es)) v
+    (joined (redraws z new from h)
+    (changes-modes z old new (with_modes from.modes from.style new) em es)).leads v
 
 -- ---- chains
 
 chains : (z : Size) (s : Shown) (xs : List Shown) (m : Modes) (y : CursorStyle) → IsDrawableScreen z s
     → AllByRecursion (IsDrawableScreen z) xs
     → Reaches z (contents_diffs z s xs) (with_modes m y s) (with_modes m y (last_shown s xs))
-unfolding Reaches
-chains z s [] m y h hs v = refl
-chains z s (x ∷ xs) m y h hs v =
-    joined z (contents_diff z s x) (contents_diffs z x xs) (with_modes m y s) (with_modes m y x)
-    (with_modes m y (last_shown x xs)) (differs z s x m y h.drawable.shown h.attrs hs.0) (chains z x xs m y hs.0 hs.1) v
+chains z s [] m y h hs = record { leads = λ v. refl }
+chains z s (x ∷ xs) m y h hs =
+    joined (differs z s x m y h.drawable.shown h.attrs hs.0) (chains z x xs m y hs.0 hs.1)
 
 pub chain-leads : EachChainLeads
-unfolding Reaches
 chain-leads z s from xs h hs v hv =
-    joined z (contents_formatted z s) (contents_diffs z s xs) from (with_modes from.modes from.style s)
-    (with_modes from.modes from.style (last_shown s xs)) (redraws z s from h)
-    (chains z s xs from.modes from.style h hs) v
+    (joined (redraws z s from h) (chains z s xs from.modes from.style h hs)).leads v
