@@ -14,8 +14,6 @@ use Rattle.vt100_core.specs.Grid.{GridView, visible, visible_at}
 use Rattle.vt100_core.specs.Contents.{is_below_wrapped, text_line, text_lines}
 use Rattle.vt100_rows.proofs.SheetLemmas.{row_at-by_position, length-rows_by_position}
 
--- ---- the newlines at the end
-
 -- ---- the loop over the rows
 
 -- n rows are written after `old`, and `left` are the others; `wrapping` says whether the last of the n goes on in the

@@ -18,8 +18,6 @@ use Rattle.vt100_rows.proofs.SheetLemmas.{length-rows_by_position, IsSheet-by_po
 use Rattle.vt100_rows.proofs.SheetLemmas.{IsRowOf-cond, wrapped-cond}
 use Rattle.vt100_core.proofs.GridLemmas.{IsGrid-rows, IsGrid-with_row}
 
--- ---- the code
-
 -- ---- rows stay what they are
 
 pub IsRowOf-cleared : (width : ℕ) (v : RowView) (a : Attrs) → IsRowOf width v → IsRowOf width (cleared_row v a)

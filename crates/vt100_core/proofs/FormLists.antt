@@ -20,7 +20,7 @@ use Rattle.vt100_core.specs.Grid.{GridView}
 use Rattle.vt100_core.specs.Picture.{grid_size, Extras}
 use Rattle.vt100_core.specs.Writers.{drawn_on, contents_formatted, differing}
 use Rattle.vt100_core.specs.WriterLaws.{IsUnscrolledGrid, IsDrawableGrid, picture_of}
-use Rattle.vt100_core.specs.FormLists.{IsProperGrid, HasNo, IsTrueOfLists, EachListIsSent, EachListIsOfForms, AreShort}
+use Rattle.vt100_core.specs.FormLists.{IsProperGrid, HasNo, IsTrueOfLists, EachListIsSent, EachListIsOfForms}
 use Rattle.vt100_core.specs.FormLists.{EachListIsShort, IsShortGrowth, AppendsLocal}
 use Rattle.vt100_core.proofs.PictureWriters.{plain_extras, shown-grid, lines-cells, contents-is, redrawn-of_picture}
 use Rattle.vt100_core.proofs.PictureWriters.{differing-of_pictures, grid-drawable}

@@ -11,8 +11,8 @@ use Rattle.vt100_core.specs.Lines.{lines_opened, lines_inserted, lines_deleted, 
 use Rattle.vt100_rows.proofs.SheetLemmas.{length-rows_by_position, IsSheet-with_row}
 use Rattle.vt100_rows.proofs.MoveLemmas.{IsSheet-moved_up, IsSheet-opened_line}
 
-pub IsGrid-at : (g h : GridView) → g ≡ h → IsGrid h → IsGrid g
-IsGrid-at g h e i = rw e i
+pub IsGrid-at : {g h : GridView} → IsGrid h → g ≡ h → IsGrid g
+IsGrid-at i e = rw e i
 
 pub IsGrid-cond : (b : Bool) (g h : GridView) → (b ≡ true → IsGrid g) → (b ≡ false → IsGrid h) → IsGrid (cond b g h)
 IsGrid-cond true g h p q = p refl
@@ -100,38 +100,33 @@ new-again g k n =
       };
     }
 
-pub IsGrid-rows : (g : GridView) (rows : List RowView) → IsGrid g → length rows ≡ length g.rows
-    → IsSheet g.height g.width rows → IsGrid (record g { rows = rows })
-IsGrid-rows g rows i e sheet = record {
+-- other rows, another column and other kept rows
+pub IsGrid-parts : (g : GridView) (rows : List RowView) (col : ℕ) (k : KeptPart) → IsGrid g
+    → IsSheet g.height g.width rows → col ≤ g.width → IsKept k → IsShownWide k g.height g.width
+    → (length rows ≡ 0 → record g { rows = rows; col = col; kept = k }
+    ≡ new_grid g.height g.width (scrollback_of k)) → IsGrid (record g { rows = rows; col = col; kept = k })
+IsGrid-parts g rows col k i sheet cursor kept shown fresh = record {
   sheet = sheet;
   some_rows = i.some_rows;
   some_cols = i.some_cols;
   few_rows = i.few_rows;
   few_cols = i.few_cols;
   cursor_row = i.cursor_row;
-  cursor_col = i.cursor_col;
+  cursor_col = cursor;
   saved_row = i.saved_row;
   saved_col = i.saved_col;
   region = i.region;
   region_end = i.region_end;
   region_lines = i.region_lines;
-  kept = i.kept;
-  shown = i.shown;
-  fresh = λ z. let n = IsNew-of g i (sym e ∙ z) in new-again (record g { rows = rows }) i.kept (record {
-    rows = no-rows rows z;
-    row = n.row;
-    col = n.col;
-    saved_row = n.saved_row;
-    saved_col = n.saved_col;
-    origin = n.origin;
-    saved_origin = n.saved_origin;
-    top = n.top;
-    bottom = n.bottom;
-    kept_rows = n.kept_rows;
-    offset = n.offset;
-    scrolled_off = n.scrolled_off;
-  });
+  kept = kept;
+  shown = shown;
+  fresh = fresh;
 }
+
+pub IsGrid-rows : (g : GridView) (rows : List RowView) → IsGrid g → length rows ≡ length g.rows
+    → IsSheet g.height g.width rows → IsGrid (record g { rows = rows })
+IsGrid-rows g rows i e sheet = IsGrid-parts g rows g.col g.kept i sheet i.cursor_col i.kept i.shown
+    (λ z. let new = i.fresh (sym e ∙ z) in λ j. record (new j) { rows = no-rows rows z j })
 
 pub IsGrid-with_row : (g : GridView) (r : ℕ) (v : RowView) → IsGrid g → r < length g.rows → IsRowOf g.width v
     → ((r + 1) ≡ g.height → v.wrapped ≡ false) → IsGrid (with_row g r v)
@@ -158,15 +153,6 @@ pub IsGrid-scrolled_down : (g : GridView) (n : ℕ) → IsGrid g → IsAllocated
 IsGrid-scrolled_down g n i a = IsGrid-cond (nat_lt 0 n) (lines_opened g g.top n) g
     (λ _. IsGrid-lines_opened g g.top n i a) (λ _. i)
 
-pub IsGrid-lines_deleted : (g : GridView) (n : ℕ) → IsGrid g → IsAllocated g → IsGrid (lines_deleted g n)
-IsGrid-lines_deleted g n i a =
-    let f = moved_up g.rows g.row (g.bottom + 1) (min n (g.bottom + 1 - g.row)) g.width in
-    IsGrid-cond (is_in_region g) (with_rows g f) g
-    (λ _. IsGrid-rows g (rows_by_position (length g.rows) f) i (length-rows_by_position (length g.rows) f)
-    (IsSheet-moved_up g.height g.width g.rows g.row (g.bottom + 1) (min n (g.bottom + 1 - g.row)) i.sheet i.some_rows
-    i.few_cols (region_rows g i a)))
-    (λ _. i)
-
 pub IsGrid-moved_up : (g : GridView) (first end n : ℕ) → IsGrid g → end ≤ length g.rows
     → IsGrid (with_rows g (moved_up g.rows first end n g.width))
 IsGrid-moved_up g first end n i h =
@@ -174,25 +160,14 @@ IsGrid-moved_up g first end n i h =
     (length-rows_by_position (length g.rows) (moved_up g.rows first end n g.width))
     (IsSheet-moved_up g.height g.width g.rows first end n i.sheet i.some_rows i.few_cols h)
 
+pub IsGrid-lines_deleted : (g : GridView) (n : ℕ) → IsGrid g → IsAllocated g → IsGrid (lines_deleted g n)
+IsGrid-lines_deleted g n i a = IsGrid-cond (is_in_region g) _ g
+    (λ _. IsGrid-moved_up g g.row (g.bottom + 1) (min n (g.bottom + 1 - g.row)) i (region_rows g i a)) (λ _. i)
+
 -- ---- rows that have scrolled off
 
 pub IsGrid-scrolled : (g : GridView) (rows : List RowView) (k : KeptPart) → IsGrid g → IsAllocated g
     → length rows ≡ length g.rows → IsSheet g.height g.width rows → IsKept k → IsShownWide k g.height g.width
     → IsGrid (record g { rows = rows; kept = k })
-IsGrid-scrolled g rows k i a e sheet kept shown = record {
-  sheet = sheet;
-  some_rows = i.some_rows;
-  some_cols = i.some_cols;
-  few_rows = i.few_rows;
-  few_cols = i.few_cols;
-  cursor_row = i.cursor_row;
-  cursor_col = i.cursor_col;
-  saved_row = i.saved_row;
-  saved_col = i.saved_col;
-  region = i.region;
-  region_end = i.region_end;
-  region_lines = i.region_lines;
-  kept = kept;
-  shown = shown;
-  fresh = λ z. absurd (omega arith);
-}
+IsGrid-scrolled g rows k i a e sheet kept shown =
+    IsGrid-parts g rows g.col k i sheet i.cursor_col kept shown (λ z. absurd (omega arith))

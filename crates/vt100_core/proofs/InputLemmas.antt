@@ -2,7 +2,7 @@
 use Rattle.std.proofs.Common.{◌≡◌, ℕ, ◌+◌, ◌-◌, ◌^◌, ◌<◌, ◌≤◌, ◌==◌, Bool, true, false, cond, not, ◌&&◌, ◌||◌, nat_lt}
 use Rattle.std.proofs.Common.{nat_le, List, [], length, set, min, sym, refl, ap, subst, ◌∙◌, arith, length-set, ⊎_elim}
 use Rattle.std.proofs.lemmas.Bool.{cond_both, cond-true, cond-false, lt-ltb, le-ltb, ne_eqb, eqb-true, and_from}
-use Rattle.std.proofs.lemmas.Bool.{eq-eqb, cases_eq, cases_lt, cases_Bool}
+use Rattle.std.proofs.lemmas.Bool.{eq-eqb, cases_lt, cases_Bool}
 use Rattle.std.proofs.lemmas.Bool.Decides.{nat_tests}
 use mathlib.Core.Path.{fun_ext}
 use Rattle.vt100_forms.specs.declared.attrs.Attrs.{Attrs}
@@ -25,7 +25,7 @@ use Rattle.vt100_rows.proofs.SheetLemmas.{IsSheet-with_row, row_at-by_position, 
 use Rattle.vt100_rows.proofs.SheetLemmas.{rows_by_position_is}
 use Rattle.vt100_rows.proofs.MoveLemmas.{IsSheet-moved_up}
 use Rattle.vt100_rows.proofs.PictureLemmas.{lines-set, wraps-set, lines-up, wraps-up}
-use Rattle.vt100_core.specs.Grid.{GridView, row_of_cursor, with_cursor_row, with_row, is_in_region}
+use Rattle.vt100_core.specs.Grid.{KeptPart, GridView, row_of_cursor, with_cursor_row, with_row, is_in_region}
 use Rattle.vt100_core.specs.Picture.{grid_size, Extras, term_of_grid, IsPlain, widens, EachPrintIsInput}
 use Rattle.vt100_core.specs.Scroll.{Scrolled, made_to_fit, wrapped_on, fed, scrolled_up}
 use Rattle.vt100_core.specs.Scroll.{left_row}
@@ -50,17 +50,23 @@ here g d = omega (arith, d.sheet.count d.some, d.row)
 pub cursor_row : (g : GridView) → IsDrawable g → IsRowOf g.width (row_of_cursor g)
 cursor_row g d = d.sheet.each g.row (here g d)
 
-pub IsDrawable-col : (g : GridView) (col : ℕ) → IsDrawable g → col ≤ g.width → IsDrawable (record g { col = col })
-IsDrawable-col g col d h = record {
-  sheet = d.sheet;
-  some = d.some;
+-- other rows, another cursor and other kept rows
+pub IsDrawable-parts : (g : GridView) (rows : List RowView) (row col : ℕ) (k : KeptPart) → IsDrawable g
+    → IsSheet g.height g.width rows → 0 < length rows → row < g.height → col ≤ g.width
+    → IsDrawable (record g { rows = rows; row = row; col = col; kept = k })
+IsDrawable-parts g rows row col k d sheet some in_rows in_cols = record {
+  sheet = sheet;
+  some = some;
   few_rows = d.few_rows;
   few_cols = d.few_cols;
-  row = d.row;
-  col = h;
+  row = in_rows;
+  col = in_cols;
   top = d.top;
   bottom = d.bottom;
 }
+
+pub IsDrawable-col : (g : GridView) (col : ℕ) → IsDrawable g → col ≤ g.width → IsDrawable (record g { col = col })
+IsDrawable-col g col d h = IsDrawable-parts g g.rows g.row col g.kept d d.sheet d.some d.row h
 
 -- ---- another row at the cursor
 
@@ -134,9 +140,7 @@ fed-same : (g : GridView) (n count : ℕ) → IsDrawable g → count ≡ n
     → rows_by_position (length g.rows) (moved_up g.rows g.top (g.bottom + 1) count g.width) ≡ fed_rows g n
 fed-same g n count d e =
     let end : g.bottom + 1 ≡ length g.rows = d.bottom ∙ sym (d.sheet.count d.some) in
-    ap (λ m. rows_by_position (length g.rows) (moved_up g.rows m (g.bottom + 1) count g.width)) d.top
-    ∙ ap (λ m. rows_by_position (length g.rows) (moved_up g.rows 0 m count g.width)) end
-    ∙ ap (λ m. rows_by_position (length g.rows) (moved_up g.rows 0 (length g.rows) m g.width)) e
+    λ i. rows_by_position (length g.rows) (moved_up g.rows (d.top i) (end i) (e i) g.width)
 
 -- but for what is kept
 pub fed-is : (g : GridView) (n m : ℕ) → IsDrawable g
@@ -268,27 +272,12 @@ down-up z t h = cond-false (nat_lt (t.row + 1) z.rows) _ _ (le-ltb (t.row + 1) z
 flags-up : (w : ℕ → Bool) (row n : ℕ) (b : Bool) (r : ℕ) → 0 < row → row + 1 ≡ n
     → update (λ k. nat_lt (k + 1) n && w (k + 1)) (row - 1) b r ≡ (nat_lt (r + 1) n && update w row b (r + 1))
 unfolding update
-flags-up w row n b r h e =
-    ⊎_elim
-    (λ (q : r ≡ row - 1).
-    let at : (r == (row - 1)) ≡ true = eq-eqb r (row - 1) q in
-    let next : ((r + 1) == row) ≡ true = eq-eqb (r + 1) row (omega arith) in
-    let within : nat_lt (r + 1) n ≡ true = lt-ltb (r + 1) n (omega arith) in
-    ap (λ c. cond c b (nat_lt (r + 1) n && w (r + 1))) at
-    ∙ sym (ap (λ c. c && cond ((r + 1) == row) b (w (r + 1))) within ∙ ap (λ c. cond c b (w (r + 1))) next))
-    (λ ne.
-    let off : (r == (row - 1)) ≡ false = ne_eqb r (row - 1) ne in
-    let other : ((r + 1) == row) ≡ false = ne_eqb (r + 1) row (λ q. ne (omega (arith, q))) in
-    ap (λ c. cond c b (nat_lt (r + 1) n && w (r + 1))) off
-    ∙ sym (ap (λ c. nat_lt (r + 1) n && cond c b (w (r + 1))) other))
-    (cases_eq r (row - 1))
+flags-up w row n b r h e = grind (arith, nat_tests)
 
 flags-first : (w : ℕ → Bool) (row n : ℕ) (b : Bool) (r : ℕ) → row ≡ 0
     → (nat_lt (r + 1) n && w (r + 1)) ≡ (nat_lt (r + 1) n && update w row b (r + 1))
 unfolding update
-flags-first w row n b r z =
-    let other : ((r + 1) == row) ≡ false = ne_eqb (r + 1) row (λ q. absurd (omega (arith, q))) in
-    sym (ap (λ c. nat_lt (r + 1) n && cond c b (w (r + 1))) other)
+flags-first w row n b r z = grind (arith, nat_tests)
 
 term-middle : (g : GridView) (x : Extras) → IsDrawable g → g.row + 1 < g.height
     → term_of_grid (gone_on g) x ≡ wrap (grid_size g) (term_of_grid g x)
@@ -356,16 +345,8 @@ term-only g x d z e =
 
 IsDrawable-rows : (g : GridView) (rows : List RowView) (row : ℕ) → IsDrawable g → IsSheet g.height g.width rows
     → length rows ≡ length g.rows → row < g.height → IsDrawable (record g { rows = rows; col = 0; row = row })
-IsDrawable-rows g rows row d s count h = record {
-  sheet = s;
-  some = omega (arith, d.some);
-  few_rows = d.few_rows;
-  few_cols = d.few_cols;
-  row = h;
-  col = omega arith;
-  top = d.top;
-  bottom = d.bottom;
-}
+IsDrawable-rows g rows row d s count h =
+    IsDrawable-parts g rows row 0 g.kept d s (omega (arith, d.some)) h (omega arith)
 
 IsSheet-fed : (g : GridView) → IsDrawable g → IsSheet g.height g.width (fed_rows g 1)
 IsSheet-fed g d = IsSheet-moved_up g.height g.width g.rows 0 (length g.rows) 1 d.sheet (omega (arith, d.row)) d.few_cols
@@ -380,19 +361,12 @@ pub record IsNext (g : GridView) (x : Extras) (t : Term) (h : GridView) : Type 0
 IsNext-kept : (g h h' : GridView) (x : Extras) (t : Term) → record h { kept = g.kept } ≡ h' → IsNext g x t h'
     → IsNext g x t h
 IsNext-kept g h h' x t e n =
-    let bare : IsNext g x t (record h { kept = g.kept }) = subst (IsNext g x t) (sym e) n in record {
+    let bare : IsNext g x t (record h { kept = g.kept }) = subst (IsNext g x t) (sym e) n in
+    let d = bare.drawable in
+    record {
       shows = bare.shows;
       size = bare.size;
-      drawable = record {
-        sheet = bare.drawable.sheet;
-        some = bare.drawable.some;
-        few_rows = bare.drawable.few_rows;
-        few_cols = bare.drawable.few_cols;
-        row = bare.drawable.row;
-        col = bare.drawable.col;
-        top = bare.drawable.top;
-        bottom = bare.drawable.bottom;
-      };
+      drawable = IsDrawable-parts (record h { kept = g.kept }) h.rows h.row h.col h.kept d d.sheet d.some d.row d.col;
     }
 
 IsNext-wrapped : (g : GridView) (x : Extras) → IsDrawable g

@@ -7,12 +7,11 @@ use Rattle.std.proofs.lemmas.Bool.{cond_both, ne_eqb, cases_lt, cases_Bool}
 use Rattle.vt100_forms.specs.declared.attrs.Attrs.{Attrs}
 use Rattle.vt100_cells.specs.Cell.{CellView, IsCell, cell_of, columns_of, has_room, has_text, text_with, appended}
 use Rattle.vt100_cells.specs.Cells.{cell_at}
-use Rattle.vt100_cells.specs.Line.{span_of, put, put_unflags, base_col}
+use Rattle.vt100_cells.specs.Line.{span_of, base_col}
 use Rattle.unicode_width.specs.Width.{str_width}
 use Rattle.vt100_cells.proofs.CellLemmas.{IsCell-of}
 use Rattle.vt100_cells.proofs.ListLemmas.{length-by_position}
 use Rattle.vt100_rows.specs.Row.{RowView, placed, joined_row, is_widening}
-use Rattle.vt100_rows.proofs.RowLemmas.{IsRow-placed}
 use Rattle.vt100_rows.proofs.JoinLemmas.{IsRow-joined}
 use Rattle.terminal_model.specs.Apply.{is_dropped, input, inputs, apply}
 use Rattle.vt100_rows.specs.Sheet.{row_at, IsRowOf}
@@ -22,9 +21,9 @@ use Rattle.vt100_core.specs.Picture.{grid_size, Extras, term_of_grid, EachTextIs
 use Rattle.vt100_core.specs.Scroll.{made_to_fit}
 use Rattle.vt100_core.specs.Text.{PrintedGrid, put_at, printed, printed_all}
 use Rattle.vt100_core.proofs.TextLemmas.{printed-dropped, printed-joined, printed-spaced, IsDrawn-here}
-use Rattle.vt100_core.proofs.TextLemmas.{span_of-cell, IsMade-made, or-false}
-use Rattle.vt100_core.proofs.InputLemmas.{IsDrawable, IsDrawable-col, IsDrawable-plain, IsNext, IsNext-made, here}
-use Rattle.vt100_core.proofs.InputLemmas.{cursor_row, spaced-is, joined-plain, joined-is}
+use Rattle.vt100_core.proofs.TextLemmas.{span_of-cell, IsMade-made, IsRowOf-placed, unwrapped-placed, or-false}
+use Rattle.vt100_core.proofs.InputLemmas.{IsDrawable, IsDrawable-parts, IsDrawable-col, IsDrawable-plain, IsNext}
+use Rattle.vt100_core.proofs.InputLemmas.{IsNext-made, here, cursor_row, spaced-is, joined-plain, joined-is}
 use Rattle.vt100_core.proofs.InputLemmas.{input-dropped, input-joined, input-spaced}
 
 -- ---- only U+FE0F makes a cell wide
@@ -51,31 +50,19 @@ narrow-plain v col c ne = plain-narrow (cell_at v.cells (base_col (cell_at v.cel
 
 IsDrawable-row : (g : GridView) (v : RowView) → IsDrawable g → IsRowOf g.width v
     → ((row_of_cursor g).wrapped ≡ false → v.wrapped ≡ false) → IsDrawable (with_cursor_row g v)
-IsDrawable-row g v d row keeps = record {
-  sheet = IsSheet-with_row g.height g.width g.rows g.row v d.sheet (here g d) row (λ e.
-      let at : g.row ≡ g.height - 1 = omega (arith, e) in
-      keeps (ap (λ k. (row_at g.rows k).wrapped) at ∙ d.sheet.last));
-  some = omega (arith, length-set g.rows g.row v, d.some);
-  few_rows = d.few_rows;
-  few_cols = d.few_cols;
-  row = d.row;
-  col = d.col;
-  top = d.top;
-  bottom = d.bottom;
-}
+IsDrawable-row g v d row keeps =
+    IsDrawable-parts g _ g.row g.col g.kept d
+    (IsSheet-with_row g.height g.width g.rows g.row v d.sheet (here g d) row (λ e.
+    let at : g.row ≡ g.height - 1 = omega (arith, e) in keeps (ap (λ k. (row_at g.rows k).wrapped) at ∙ d.sheet.last)))
+    (omega (arith, length-set g.rows g.row v, d.some)) d.row d.col
 
 IsDrawable-put : (g : GridView) (x : CellView) (a : Attrs) (n : ℕ) → IsDrawable g → IsCell x → has_text x ≡ true
     → n ≡ span_of x → g.col + n ≤ g.width → IsDrawable (put_at g x a n)
 IsDrawable-put g x a n d cell text e l =
     let v = row_of_cursor g in
-    let r = cursor_row g d in
     IsDrawable-col (with_cursor_row g (placed v g.col x a)) (g.col + n)
     (IsDrawable-row g (placed v g.col x a) d
-    (record {
-      row = IsRow-placed v g.col x a r.row cell text (omega (arith, r.wide, e));
-      wide = length-by_position (length v.cells) (put (cell_at v.cells) g.col x a) ∙ r.wide;
-    })
-    (λ w. ap (λ b. b && not (put_unflags (length v.cells) (cell_at v.cells) g.col x)) w))
+    (IsRowOf-placed g.width v g.col x a (cursor_row g d) cell text (omega (arith, e))) (unwrapped-placed v g.col x a))
     l
 
 IsNext-printed : (g : GridView) (x : Extras) (c : ℕ) → IsDrawable g → IsScalar c → (c ≡ 0xFE0F → ⊥)

@@ -15,12 +15,8 @@ use Rattle.vt100_rows.proofs.WidthLemmas.{length-resized}
 use Rattle.vt100_core.specs.Grid.{KeptPart, IsKept, GridView, IsGrid, IsAllocated}
 use Rattle.vt100_core.specs.Resize.{down_rows, rows_back, lengthened}
 use Rattle.vt100_rows.proofs.SheetLemmas.{IsRowOf-blank, IsSheet-none}
-use Rattle.vt100_core.proofs.GridLemmas.{IsNew-of, new-again, no-rows}
+use Rattle.vt100_core.proofs.GridLemmas.{IsNew-of, no-rows}
 use Rattle.vt100_core.proofs.KeepLemmas.{IsShownWide-none}
-
--- ---- the rows from `first` on have changed
-
--- ---- rows that were put at the end have turned to the top
 
 -- ---- what is true of the rows of a screen
 
@@ -158,20 +154,21 @@ IsGrid-lengthened g height i h small top off = record {
   region_lines = λ e. omega (arith, i.some_rows);
   kept = IsKept-fewer g.kept (down_rows g height) i.kept off;
   shown = IsShownWide-none (lengthened g height).kept height g.width off;
-  fresh = λ z. let n = IsNew-of g i (none-yet g height z)
-      in new-again (lengthened g height) (IsKept-fewer g.kept (down_rows g height) i.kept off) (record {
-        rows = no-rows (lengthened g height).rows z;
-        row = omega (arith, n.row, n.scrolled_off);
-        col = n.col;
-        saved_row = omega (arith, n.saved_row, n.scrolled_off);
-        saved_col = n.saved_col;
-        origin = n.origin;
-        saved_origin = n.saved_origin;
-        top = n.top;
-        bottom = refl;
-        kept_rows = ap (λ (xs : List RowView). take (length g.kept.rows - down_rows g height) xs) n.kept_rows
-            ∙ take-nil (length g.kept.rows - down_rows g height);
-        offset = n.offset;
-        scrolled_off = omega (arith, n.scrolled_off);
-      });
+  fresh = λ z.
+      let n = IsNew-of g i (none-yet g height z) in
+      let down = down_rows g height in
+      let row : g.row + down ≡ 0 = omega (arith, n.row, n.scrolled_off) in
+      let saved : g.saved_row + down ≡ 0 = omega (arith, n.saved_row, n.scrolled_off) in
+      let count : g.kept.scrolled_off - down ≡ 0 = omega (arith, n.scrolled_off) in
+      let kept = ap (λ (xs : List RowView). take (length g.kept.rows - down) xs) n.kept_rows
+      ∙ take-nil (length g.kept.rows - down) in
+      let new = i.fresh (none-yet g height z) in
+      λ j. record (new j) {
+        rows = no-rows (lengthened g height).rows z j;
+        height = height;
+        row = row j;
+        saved_row = saved j;
+        bottom = height - 1;
+        kept = record ((new j).kept) { rows = kept j; scrolled_off = count j };
+      };
 }

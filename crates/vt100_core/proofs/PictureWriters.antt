@@ -19,7 +19,7 @@ use Rattle.terminal_model.specs.Term.{Size, IsShown, blank_shown}
 use Rattle.terminal_model.specs.Leads.{Leads}
 use Rattle.terminal_model.proofs.FormLemmas.{IsShown-of}
 use Rattle.row_drawing.specs.declared.pen.Pen.{Pen}
-use Rattle.row_drawing.specs.Writer.{Drawn, Writer, ◌>>◌, skip}
+use Rattle.row_drawing.specs.Writer.{Drawn, ◌>>◌, skip}
 use Rattle.row_drawing.specs.RowWriter.{row_redraw, row_difference}
 use Rattle.screen_drawing.specs.Cursor as cursor
 use Rattle.screen_drawing.specs.Cursor.{place, is_pen_at, arriving, end_cell, row_with_end, wait}
@@ -107,10 +107,8 @@ redraw-is v n i above was p some wide h =
     let count : min n (length v.cells - 0) ≡ n = omega (arith, wide) in
     let whole = ap (λ b. cond b (row_redraw (redraw_job v 0 i above) (min n (length v.cells - 0))) skip p)
     (lt-ltb 0 (length v.cells) inside) in
-    whole ∙ ap (λ k. row_redraw (redraw_job v 0 i above) k p) count
-    ∙ ap (λ (f : ℕ → CellView). row_redraw (record (redraw_job v 0 i above) { old = f }) n p) no-cells
-    ∙ ap (λ k. row_redraw (record (redraw_job v 0 i above) { old = λ k. default_cell; cols = k }) n p) wide
-    ∙ ap (λ b. row_redraw (record (redraw_job v 0 i b) { old = λ k. default_cell; cols = n }) n p) h
+    whole
+    ∙ (λ j. row_redraw (record (redraw_job v 0 i (h j)) { old = no-cells j; cols = wide j }) (count j) p)
 
 line-redraw_is : (g : GridView) (x : Extras) (i : ℕ) → IsUnscrolledGrid g → i < g.height
     → line_redraw g i ≡ next_redraw (grid_size g) (picture_of g x) i
@@ -141,10 +139,7 @@ difference-is v w n i above above' was was' p some wide other h k =
     let count : min n (cols - 0) ≡ n = omega (arith, wide, other) in
     let whole = ap (λ b. cond b (row_difference (difference_job v w 0 i above was) (min n (cols - 0))) skip p)
     (lt-ltb 0 cols inside) in
-    whole ∙ ap (λ m. row_difference (difference_job v w 0 i above was) m p) count
-    ∙ ap (λ m. row_difference (record (difference_job v w 0 i above was) { cols = m }) n p) wide
-    ∙ ap (λ b. row_difference (record (difference_job v w 0 i b was) { cols = n }) n p) h
-    ∙ ap (λ b. row_difference (record (difference_job v w 0 i above' b) { cols = n }) n p) k
+    whole ∙ (λ j. row_difference (record (difference_job v w 0 i (h j) (k j)) { cols = wide j }) (count j) p)
 
 line-difference_is : (g old : GridView) (x y : Extras) (i : ℕ) → IsUnscrolledGrid g → IsUnscrolledGrid old
     → grid_size old ≡ grid_size g → i < g.height
@@ -169,17 +164,13 @@ line-difference_is g old x y i h o e l =
 
 -- ---- all rows
 
-both : (f g h k : Writer) → f ≡ g → h ≡ k → (f >> h) ≡ (g >> k)
-both f g h k e d = ap (λ (w : Writer). w >> h) e ∙ ap (λ (w : Writer). g >> w) d
-
 lines-redraw_is : (g : GridView) (x : Extras) (n : ℕ) → IsUnscrolledGrid g → n ≤ g.height
     → lines_redraw g n ≡ rows_redraw (grid_size g) (picture_of g x) n
 unfolding lines_redraw rows_redraw
 lines-redraw_is g x zero h l = refl
 lines-redraw_is g x (suc n) h l =
-    both (lines_redraw g n) (rows_redraw (grid_size g) (picture_of g x) n) (line_redraw g n)
-    (next_redraw (grid_size g) (picture_of g x) n) (lines-redraw_is g x n h (omega (arith, l)))
-    (line-redraw_is g x n h (omega (arith, l)))
+    let first = lines-redraw_is g x n h (omega (arith, l)) in
+    let next = line-redraw_is g x n h (omega (arith, l)) in λ j. first j >> next j
 
 lines-difference_is : (g old : GridView) (x y : Extras) (n : ℕ) → IsUnscrolledGrid g → IsUnscrolledGrid old
     → grid_size old ≡ grid_size g → n ≤ g.height
@@ -187,23 +178,18 @@ lines-difference_is : (g old : GridView) (x y : Extras) (n : ℕ) → IsUnscroll
 unfolding lines_difference rows_difference
 lines-difference_is g old x y zero h o e l = refl
 lines-difference_is g old x y (suc n) h o e l =
-    both (lines_difference g old n) (rows_difference (grid_size g) (picture_of old y) (picture_of g x) n)
-    (line_difference g old n) (next_difference (grid_size g) (picture_of old y) (picture_of g x) n)
-    (lines-difference_is g old x y n h o e (omega (arith, l)))
-    (line-difference_is g old x y n h o e (omega (arith, l)))
+    let first = lines-difference_is g old x y n h o e (omega (arith, l)) in
+    let next = line-difference_is g old x y n h o e (omega (arith, l)) in λ j. first j >> next j
 
 -- ---- grids
 
 pub redrawn-of_picture : EachRedrawIsOfPicture
 unfolding redrawn grid_redraw
 redrawn-of_picture g x h =
-    let count = h.grid.sheet.count h.some in
     let p = pen_at 0 0 default_attrs in
-    let placed = cursor_placed (grid_size g) (drawn_on g) in
-    ap (λ n. (lines_redraw g n >> placed) p) count
-    ∙ ap (λ (w : Writer). w p)
-    (both (lines_redraw g g.height) (rows_redraw (grid_size g) (picture_of g x) g.height) placed
-    (cursor_placed (grid_size g) (picture_of g x)) (lines-redraw_is g x g.height h (omega arith)) (placed-same g x))
+    let rows = lines-redraw_is g x g.height h (omega arith) in
+    ap (λ n. (lines_redraw g n >> cursor_placed (grid_size g) (drawn_on g)) p) (h.grid.sheet.count h.some)
+    ∙ (λ j. (rows j >> placed-same g x j) p)
 
 pub differing-of_pictures : EachDifferenceIsOfPictures
 unfolding differing grid_difference
@@ -213,12 +199,9 @@ differing-of_pictures g old x y h o e =
     let height = ap (λ (z : Size). z.rows) e in
     let all : min (length g.rows) (length old.rows) ≡ g.height = omega (arith, count, others, height) in
     let p = pen_at old.row old.col y.attrs in
-    let placed = cursor_placed (grid_size g) (drawn_on g) in
-    ap (λ n. (lines_difference g old n >> placed) p) all
-    ∙ ap (λ (w : Writer). w p)
-    (both (lines_difference g old g.height) (rows_difference (grid_size g) (picture_of old y) (picture_of g x) g.height)
-    placed (cursor_placed (grid_size g) (picture_of g x)) (lines-difference_is g old x y g.height h o e (omega arith))
-    (placed-same g x))
+    let rows = lines-difference_is g old x y g.height h o e (omega arith) in
+    ap (λ n. (lines_difference g old n >> cursor_placed (grid_size g) (drawn_on g)) p) all
+    ∙ (λ j. (rows j >> placed-same g x j) p)
 
 -- ---- where they lead
 

@@ -2,7 +2,7 @@
 use Rattle.std.proofs.Common.{◌≡◌, ℕ, ◌+◌, ◌-◌, ◌<◌, ◌≤◌, ◌==◌, Bool, true, false, cond, ◌&&◌, List, [], ◌++◌}
 use Rattle.std.proofs.Common.{length, take, drop, map, min, refl, sym, ap, ◌∙◌, arith, length-append, length-drop}
 use Rattle.std.proofs.Common.{replicate, nat_lt, ⊎_elim}
-use Rattle.std.proofs.lemmas.Bool.{cases_lt, cond_both, eqb-true, and_parts}
+use Rattle.std.proofs.lemmas.Bool.{cases_lt, cond_both, eqb-true, ne_eqb, ltb-true, ltb-false, and_parts}
 use Rattle.std.proofs.lemmas.Bool.Decides.{nat_tests}
 use Rattle.std.proofs.lemmas.List.{length-replicate, length-map, get_or-replicate, get_or-append_right, get_or-map}
 use Rattle.std.proofs.lemmas.List.{get_or-drop, take_all, drop_all}
@@ -194,43 +194,40 @@ module _ (g : GridView) (height width r : ℕ) (i : IsGrid g) (a : IsAllocated g
       (cases_lt r (down + g.height)))
       (cases_lt r down)
 
-some-rows : (n : ℕ) → 0 < n → (n == 0) ≡ false
-some-rows n h = grind (arith, nat_tests)
-
 places-higher : (g : GridView) (height width r : ℕ) → IsGrid g → IsAllocated g → r < height → g.height ≤ height
     → row_at (lengthened (with_width (whole_screen g) width) height).rows r ≡ resized_row_at g height width r
 places-higher g height width r i a h higher =
     let rows = ((blanks g height width r i a h higher ++ back g height width r i a h higher)
     ++ own g height width r i a h higher) ++ below g height width r i a h higher in
     let n = length-own g height width r i a h higher in
-    ap (λ b. row_at (cond b [] rows) r) (some-rows (length (own g height width r i a h higher))
-    (omega (arith, n, i.some_rows))) ∙ in-each g height width r i a h higher
-
-not-lower : (m n : ℕ) → nat_lt m n ≡ false → n ≤ m
-not-lower m n e = grind (arith, nat_tests)
-
-is-lower : (m n : ℕ) → nat_lt m n ≡ true → m < n
-is-lower m n e = grind (arith, nat_tests)
+    ap (λ b. row_at (cond b [] rows) r) (ne_eqb (length (own g height width r i a h higher)) 0
+    (λ z. absurd (omega (arith, n, i.some_rows, z)))) ∙ in-each g height width r i a h higher
 
 -- ---- all together
 
+-- the size that the screen has, a lower screen, or another one
+resized-cases : (g : GridView) (height width : ℕ) (P : Scrolled → Type 0)
+    → (height ≡ g.height → width ≡ g.width → P (record { grid = g; sunk = [] }))
+    → (height < g.height → P (record {
+      grid = with_width
+          (shortened (scrolled_up (whole_screen g) (up_rows g height)).grid (up_rows g height) height) width;
+      sunk = (scrolled_up (whole_screen g) (up_rows g height)).sunk;
+    }))
+    → (g.height ≤ height → P (record { grid = lengthened (with_width (whole_screen g) width) height; sunk = [] }))
+    → P (resized g height width)
+unfolding resized
+resized-cases g height width P same lower higher =
+    cond_both ((height == g.height) && (width == g.width)) _ _ P
+    (λ e. let p = and_parts (height == g.height) (width == g.width) e
+    in same (eqb-true height g.height p.0) (eqb-true width g.width p.1))
+    (λ _. cond_both (nat_lt height g.height) _ _ P (λ e. lower (ltb-true height g.height e))
+    (λ e. higher (ltb-false height g.height e)))
+
 pub places_rows : (g : GridView) (height width r : ℕ) → IsGrid g → IsAllocated g → r < height
     → row_at (resized g height width).grid.rows r ≡ resized_row_at g height width r
-unfolding resized
 places_rows g height width r i a h =
-    let same : Scrolled = record { grid = g; sunk = [] } in
-    let s = scrolled_up (whole_screen g) (up_rows g height) in
-    let low : Scrolled = record { grid = with_width (shortened s.grid (up_rows g height) height) width; sunk = s.sunk }
-    in
-    let high : Scrolled = record { grid = lengthened (with_width (whole_screen g) width) height; sunk = [] } in
-    cond_both ((height == g.height) && (width == g.width)) same (cond (nat_lt height g.height) low high)
-    (λ (x : Scrolled). row_at x.grid.rows r ≡ resized_row_at g height width r)
-    (λ e. let p = and_parts (height == g.height) (width == g.width) e
-    in places-same g height width r i a h (eqb-true height g.height p.0) (eqb-true width g.width p.1))
-    (λ _. cond_both (nat_lt height g.height) low high (λ (x : Scrolled). row_at x.grid.rows r
-    ≡ resized_row_at g height width r)
-    (λ e. places-lower g height width r i a h (is-lower height g.height e))
-    (λ e. places-higher g height width r i a h (not-lower height g.height e)))
+    resized-cases g height width (λ (x : Scrolled). row_at x.grid.rows r ≡ resized_row_at g height width r)
+    (places-same g height width r i a h) (places-lower g height width r i a h) (places-higher g height width r i a h)
 
 -- ---- what is kept
 
@@ -274,19 +271,9 @@ scrolled-kept g up i h =
 
 pub keeps_rows : (g : GridView) (height width : ℕ) → IsGrid g → IsAllocated g → 0 < height
     → (resized g height width).grid.kept.rows ≡ kept_rows_left g height
-unfolding resized
 keeps_rows g height width i a some =
-    let same : Scrolled = record { grid = g; sunk = [] } in
-    let s = scrolled_up (whole_screen g) (up_rows g height) in
-    let low : Scrolled = record { grid = with_width (shortened s.grid (up_rows g height) height) width; sunk = s.sunk }
-    in
-    let high : Scrolled = record { grid = lengthened (with_width (whole_screen g) width) height; sunk = [] } in
     let rows = (kept_after g.kept (take (up_rows g height) g.rows)).rows in
-    cond_both ((height == g.height) && (width == g.width)) same (cond (nat_lt height g.height) low high)
-    (λ (x : Scrolled). x.grid.kept.rows ≡ kept_rows_left g height)
-    (λ e. let same-height = eqb-true height g.height (and_parts (height == g.height) (width == g.width) e).0 in
-    all-left g.kept.rows (down_rows g height) (omega arith) ∙ keeps-others g height i (omega arith))
-    (λ _. cond_both (nat_lt height g.height) low high (λ (x : Scrolled). x.grid.kept.rows ≡ kept_rows_left g height)
-    (λ e. let lower = is-lower height g.height e in scrolled-kept g (up_rows g height) i (omega arith)
-    ∙ all-left rows (down_rows g height) (omega arith))
-    (λ e. keeps-others g height i (not-lower height g.height e)))
+    resized-cases g height width (λ (x : Scrolled). x.grid.kept.rows ≡ kept_rows_left g height)
+    (λ e _. all-left g.kept.rows (down_rows g height) (omega arith) ∙ keeps-others g height i (omega arith))
+    (λ lower. scrolled-kept g (up_rows g height) i (omega arith) ∙ all-left rows (down_rows g height) (omega arith))
+    (keeps-others g height i)

@@ -8,19 +8,16 @@ use Rattle.vt100_cells.specs.Cell.{default_cell}
 use Rattle.vt100_cells.specs.Line.{extended}
 use Rattle.vt100_cells.specs.Cells.{cell_at, by_position}
 use Rattle.vt100_rows.specs.Row.{RowView, blank_row, truncated, grown, resized_row, unwrapped}
-use Rattle.vt100_rows.specs.Sheet.{row_at, rows_by_position, IsSheet}
-use Rattle.vt100_rows.specs.Sheet.{first_rows}
+use Rattle.vt100_rows.specs.Sheet.{row_at, rows_by_position, IsSheet, first_rows}
 use Rattle.vt100_core.specs.Resize.{whole_screen, up_rows, shortened, with_width, down_rows, rows_back, lengthened}
 use Rattle.vt100_core.specs.Resize.{resized}
 use Rattle.vt100_rows.proofs.WidthLemmas.{lt_ltb, IsRowOf-resized}
-use Rattle.vt100_rows.specs.Sheet.{first_rows}
 use Rattle.vt100_core.specs.Grid.{KeptPart, IsKept, GridView, IsGrid, IsAllocated}
-use Rattle.vt100_core.specs.Scroll.{Scrolled}
-use Rattle.vt100_core.specs.Scroll.{scrolled_up}
+use Rattle.vt100_core.specs.Scroll.{Scrolled, scrolled_up}
 use Rattle.vt100_rows.proofs.SheetLemmas.{length-rows_by_position, IsSheet-by_position}
 use Rattle.vt100_rows.proofs.SheetLemmas.{IsRowOf-cond, wrapped-cond, IsSheet-none}
 use Rattle.vt100_rows.proofs.MoveLemmas.{IsRowOf-unwrapped}
-use Rattle.vt100_core.proofs.GridLemmas.{IsNew-of, new-again, no-rows}
+use Rattle.vt100_core.proofs.GridLemmas.{IsNew-of, no-rows}
 use Rattle.vt100_core.proofs.KeepLemmas.{IsShownWide-none}
 
 -- ---- as many rows as there are
@@ -71,20 +68,17 @@ IsGrid-shortened g up height i some lower above top hidden =
       region_lines = λ e. omega (arith, top);
       kept = i.kept;
       shown = IsShownWide-none g.kept height g.width hidden;
-      fresh = λ z. let n = IsNew-of g i (none z) in new-again (shortened g up height) i.kept (record {
-        rows = no-rows (shortened g up height).rows z;
-        row = omega (arith, n.row);
-        col = n.col;
-        saved_row = omega (arith, n.saved_row);
-        saved_col = n.saved_col;
-        origin = n.origin;
-        saved_origin = n.saved_origin;
-        top = n.top;
-        bottom = refl;
-        kept_rows = n.kept_rows;
-        offset = n.offset;
-        scrolled_off = n.scrolled_off;
-      });
+      fresh = λ z.
+          let n = IsNew-of g i (none z) in
+          let row : g.row - up ≡ 0 = omega (arith, n.row) in
+          let saved : min (g.saved_row - up) (height - 1) ≡ 0 = omega (arith, n.saved_row) in
+          λ j. record (i.fresh (none z) j) {
+            rows = no-rows (shortened g up height).rows z j;
+            height = height;
+            row = row j;
+            saved_row = saved j;
+            bottom = height - 1;
+          };
     }
 
 resized-unwrapped : (v : RowView) (width : ℕ) → v.wrapped ≡ false → (resized_row v width default_cell).wrapped ≡ false
@@ -123,20 +117,16 @@ IsGrid-with_width g width i some small hidden =
       region_lines = i.region_lines;
       kept = i.kept;
       shown = IsShownWide-none g.kept g.height width hidden;
-      fresh = λ z. let m = IsNew-of g i (sym n ∙ z) in new-again (with_width g width) i.kept (record {
-        rows = no-rows (with_width g width).rows z;
-        row = m.row;
-        col = omega (arith, m.col);
-        saved_row = m.saved_row;
-        saved_col = omega (arith, m.saved_col);
-        origin = m.origin;
-        saved_origin = m.saved_origin;
-        top = m.top;
-        bottom = m.bottom;
-        kept_rows = m.kept_rows;
-        offset = m.offset;
-        scrolled_off = m.scrolled_off;
-      });
+      fresh = λ z.
+          let m = IsNew-of g i (sym n ∙ z) in
+          let col : min g.col (width - 1) ≡ 0 = omega (arith, m.col) in
+          let saved : min g.saved_col (width - 1) ≡ 0 = omega (arith, m.saved_col) in
+          λ j. record (i.fresh (sym n ∙ z) j) {
+            rows = no-rows (with_width g width).rows z j;
+            width = width;
+            col = col j;
+            saved_col = saved j;
+          };
     }
 
 IsKept-hidden : (k : KeptPart) → IsKept k → IsKept (record k { offset = 0 })
@@ -165,20 +155,7 @@ IsGrid-whole_screen g i = record {
   region_lines = λ e. omega (arith, i.some_rows);
   kept = IsKept-hidden g.kept i.kept;
   shown = IsShownWide-none (whole_screen g).kept g.height g.width refl;
-  fresh = λ z. let n = IsNew-of g i z in new-again (whole_screen g) (IsKept-hidden g.kept i.kept) (record {
-    rows = n.rows;
-    row = n.row;
-    col = n.col;
-    saved_row = n.saved_row;
-    saved_col = n.saved_col;
-    origin = n.origin;
-    saved_origin = n.saved_origin;
-    top = refl;
-    bottom = refl;
-    kept_rows = n.kept_rows;
-    offset = refl;
-    scrolled_off = n.scrolled_off;
-  });
+  fresh = λ z. ap whole_screen (i.fresh z);
 }
 
 -- ---- a lower screen

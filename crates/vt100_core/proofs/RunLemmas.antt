@@ -1,8 +1,9 @@
 -- Printing a run of printable ASCII characters.
-use Rattle.std.proofs.Common.{◌≡◌, ℕ, zero, ◌+◌, ◌<◌, ◌≤◌, ◌==◌, Bool, true, false, cond, ◌&&◌, ◌||◌, List, [], ◌∷◌}
+use Rattle.std.proofs.Common.{◌≡◌, ℕ, zero, ◌+◌, ◌<◌, ◌≤◌, ◌==◌, Bool, true, false, ◌&&◌, ◌||◌, List, [], ◌∷◌}
 use Rattle.std.proofs.Common.{◌++◌, length, set, take, drop, sym, refl, ap, ◌∙◌, arith, nat_lt, nat_le, length-set}
-use Rattle.std.proofs.Common.{append-nil, append_assoc, add-zero, subst}
+use Rattle.std.proofs.Common.{append-nil, append_assoc, subst}
 use Rattle.std.specs.Prelude.{All}
+use Rattle.std.proofs.lemmas.Bool.{cond-true, le-leb}
 use Rattle.std.proofs.lemmas.Bool.Decides.{nat_tests}
 use Rattle.std.proofs.lemmas.List.Elements.{All-drop}
 use Rattle.std.proofs.lemmas.List.{get_or-set_same, set-get_or, set-set, take-append-drop}
@@ -14,128 +15,139 @@ use Rattle.vt100_cells.proofs.WidthLemmas.{printable-is}
 use Rattle.vt100_cells.proofs.ListLemmas.{length-by_position}
 use Rattle.vt100_rows.specs.Row.{RowView, blank_row, placed, placed_each}
 use Rattle.vt100_rows.proofs.RowRuns.{run_row-each, IsRow-each}
-use Rattle.vt100_rows.specs.Sheet.{IsRowOf}
 use Rattle.vt100_rows.specs.Sink.{TakesAll}
 use Rattle.vt100_rows.proofs.SinkLemmas.{TakesAll-append}
 use Rattle.vt100_core.specs.declared.printed.Printed.TheVariants.{Spacing}
 use Rattle.vt100_core.specs.Grid.{GridView, IsGrid, IsAllocated, row_of_cursor, with_cursor_row}
 use Rattle.vt100_core.specs.Scroll.{Scrolled, wrapped_on, made_to_fit}
 use Rattle.vt100_core.specs.Text.{PrintedGrid, put_at, printed, printed_all, TakesFront}
-use Rattle.vt100_core.proofs.EraseLemmas.{IsGrid-cursor_row, cursor_row_of}
-use Rattle.vt100_core.proofs.TextLemmas.{IsGrid-col, printed-spaced}
+use Rattle.vt100_core.proofs.EraseLemmas.{cursor_row_of}
+use Rattle.vt100_core.proofs.TextLemmas.{IsGrid-put_row, printed-spaced}
 
 -- the characters at the cursor, and the cursor behind them
 abbrev pub run_at : GridView → List ℕ → Attrs → GridView
 run_at g xs a = record (with_cursor_row g (placed_each (row_of_cursor g) g.col xs a)) { col = g.col + length xs }
 
--- ---- one printable character
+-- ---- characters of so many columns
 
-not-dropped : (u : Bool) (k w col : ℕ) → u ≡ false → k ≡ 1 → 0 < w
+not-dropped : (u : Bool) (k n w col : ℕ) → u ≡ false → k ≡ n → 0 < n → n ≤ w
     → (u || (nat_lt w k || ((k == 0) && (col == 0)))) ≡ false
-not-dropped u k w col eu ek h = grind (arith, nat_tests)
+not-dropped u k n w col eu ek some h = grind (arith, nat_tests)
 
 -- n columns of a character that goes to the grid h
 abbrev pub drawn_at : Scrolled → ℕ → Attrs → ℕ → PrintedGrid
 drawn_at s c a n = record { grid = put_at s.grid (cell_of c a) a n; sunk = s.sunk; printed = Spacing }
 
+pub printed-of : (g : GridView) (c : ℕ) (a : Attrs) (n : ℕ) → (is_undrawable c ≡ false) × (columns_of c ≡ n) → 0 < n
+    → n ≤ g.width → printed g c a ≡ drawn_at (made_to_fit g n true) c a n
+printed-of g c a n d some w =
+    printed-spaced g c a (not-dropped (is_undrawable c) (columns_of c) n g.width g.col d.0 d.1 some w)
+    (omega (arith, d.1))
+    ∙ ap (λ m. drawn_at (made_to_fit g m true) c a m) d.1
+
 pub printed-printable : (g : GridView) (c : ℕ) (a : Attrs) → IsPrintable c → 0 < g.width
     → printed g c a ≡ drawn_at (made_to_fit g 1 true) c a 1
-printed-printable g c a p w =
-    let d = printable-is c p in
-    printed-spaced g c a (not-dropped (is_undrawable c) (columns_of c) g.width g.col d.0 d.1 w) (omega (arith, d.1))
-    ∙ ap (λ n. drawn_at (made_to_fit g n true) c a n) d.1
+printed-printable g c a p w = printed-of g c a 1 (printable-is c p) (omega arith) w
 
-pub fits-true : (m n : ℕ) → m ≤ n → nat_le m n ≡ true
-fits-true m n h = grind (arith, nat_tests)
-
-pub made-here : (g : GridView) → g.col + 1 ≤ g.width → made_to_fit g 1 true ≡ record { grid = g; sunk = [] }
-made-here g h = ap (λ b. cond b (let s : Scrolled = record { grid = g; sunk = [] } in s) (wrapped_on g true))
-    (fits-true (g.col + 1) g.width h)
+made-here : (g : GridView) (n : ℕ) → g.col + n ≤ g.width → made_to_fit g n true ≡ record { grid = g; sunk = [] }
+made-here g n h = cond-true (nat_le (g.col + n) g.width) _ (wrapped_on g true) (le-leb (g.col + n) g.width h)
 
 -- ---- a run in one row
 
-with-first : (g : GridView) (x : ℕ) (xs : List ℕ) (a : Attrs) → g.row < length g.rows
-    → run_at (put_at g (cell_of x a) a 1) xs a ≡ run_at g (x ∷ xs) a
-with-first g x xs a h =
-    let w = placed (row_of_cursor g) g.col (cell_of x a) a in
-    let r = ap (λ (u : RowView). set (set g.rows g.row w) g.row (placed_each u (g.col + 1) xs a))
-    (get_or-set_same g.rows g.row w (blank_row 0) h) ∙ set-set g.rows g.row w (placed_each w (g.col + 1) xs a)
-    in
-    let n : g.col + 1 + length xs ≡ g.col + length (x ∷ xs) = omega arith in
-    λ i. record g { rows = r i; col = n i }
-
-run_at-none : (g : GridView) (a : Attrs) → g ≡ run_at g [] a
-run_at-none g a =
-    let r = sym (set-get_or g.rows g.row (blank_row 0)) in
-    let n : g.col ≡ g.col + 0 = sym (add-zero g.col) in
-    λ i. record g { rows = r i; col = n i }
-
 -- what is printed after a first character
-abbrev pub after_first : PrintedGrid → List ℕ → Attrs → Scrolled
+abbrev after_first : PrintedGrid → List ℕ → Attrs → Scrolled
 after_first d xs a = record { grid = (printed_all d.grid xs a).grid; sunk = d.sunk ++ (printed_all d.grid xs a).sunk }
 
-printed_all-here : (xs : List ℕ) (g : GridView) (a : Attrs) → All IsPrintable xs → g.col + length xs ≤ g.width
-    → g.row < length g.rows → printed_all g xs a ≡ record { grid = run_at g xs a; sunk = [] }
-printed_all-here [] g a p h l = ap (λ (k : GridView). let s : Scrolled = record { grid = k; sunk = [] }
-    in s) (run_at-none g a)
-printed_all-here (x ∷ xs) g a p h l =
-    let g1 = put_at g (cell_of x a) a 1 in
-    let first = printed-printable g x a (p zero 0 (omega arith)) (omega arith)
-    ∙ ap (λ (s : Scrolled). drawn_at s x a 1) (made-here g (omega arith)) in
-    let count = length-set g.rows g.row (placed (row_of_cursor g) g.col (cell_of x a) a) in
-    ap (λ (d : PrintedGrid). after_first d xs a) first
-    ∙ ap (λ (o : Scrolled). let s : Scrolled = record { grid = o.grid; sunk = o.sunk }
-    in s) (printed_all-here xs g1 a (All-drop IsPrintable 1 (x ∷ xs) p) (omega arith) (omega (arith, count)))
-    ∙ ap (λ (k : GridView). let s : Scrolled = record { grid = k; sunk = [] } in s) (with-first g x xs a l)
+-- characters of n columns each, the columns that a text of them takes, and the row in which such a text is put
+pub record IsRun (n : ℕ) (IsOne : ℕ → Type 0) (columns : List ℕ → ℕ)
+    (put_in : RowView → ℕ → List ℕ → Attrs → RowView) : Type 0 where
+  pub row_of_none : (v : RowView) (i : ℕ) (a : Attrs) → put_in v i [] a ≡ v
+  pub row_of_more : (v : RowView) (i x : ℕ) (xs : List ℕ) (a : Attrs)
+      → put_in (placed v i (cell_of x a) a) (i + n) xs a ≡ put_in v i (x ∷ xs) a
+  pub none : columns [] ≡ 0
+  pub more : (x : ℕ) (xs : List ℕ) → columns (x ∷ xs) ≡ n + columns xs
+  pub one : (g : GridView) (c : ℕ) (a : Attrs) → IsOne c → n ≤ g.width
+      → printed g c a ≡ drawn_at (made_to_fit g n true) c a n
 
--- the first row of a run: h is the grid once its first character fits
-in-row : (g : GridView) (xs : List ℕ) (a : Attrs) (s : Scrolled) → 0 < length xs → All IsPrintable xs → 0 < g.width
-    → made_to_fit g 1 true ≡ s → s.grid.col + length xs ≤ s.grid.width → s.grid.row < length s.grid.rows
-    → printed_all g xs a ≡ record { grid = run_at s.grid xs a; sunk = s.sunk }
-in-row g [] a s some p w e h l = absurd (omega arith)
-in-row g (x ∷ xs) a s some p w e h l =
-    let g1 = put_at s.grid (cell_of x a) a 1 in
-    let first = printed-printable g x a (p zero 0 (omega arith)) w ∙ ap (λ (t : Scrolled). drawn_at t x a 1) e in
-    let count = length-set s.grid.rows s.grid.row (placed (row_of_cursor s.grid) s.grid.col (cell_of x a) a) in
-    ap (λ (d : PrintedGrid). after_first d xs a) first
-    ∙ ap (λ (o : Scrolled). let t : Scrolled = record { grid = o.grid; sunk = s.sunk ++ o.sunk }
-    in t) (printed_all-here xs g1 a (All-drop IsPrintable 1 (x ∷ xs) p) (omega arith) (omega (arith, count)))
-    ∙ (λ i. record { grid = with-first s.grid x xs a l i; sunk = append-nil s.sunk i })
+pub printable-run : IsRun 1 IsPrintable length placed_each
+printable-run = record {
+  row_of_none = λ v i a. refl;
+  row_of_more = λ v i x xs a. refl;
+  none = refl;
+  more = λ x xs. omega arith;
+  one = printed-printable;
+}
 
-pub in-row-grid : (g h k : GridView) (xs : List ℕ) (a : Attrs) → 0 < length xs → All IsPrintable xs → 0 < g.width
-    → h ≡ (made_to_fit g 1 true).grid → h.col + length xs ≤ h.width → h.row < length h.rows → k ≡ run_at h xs a
-    → k ≡ (printed_all g xs a).grid
-in-row-grid g h k xs a some p w e fits l ek =
-    let s = made_to_fit g 1 true in
-    ek ∙ ap (λ (y : GridView). run_at y xs a) e ∙ sym
-    (ap (λ (o : Scrolled). o.grid) (in-row g xs a s some p w refl (rw (← e) fits) (rw (← e) l)))
+module _ {n : ℕ} {IsOne : ℕ → Type 0} {columns : List ℕ → ℕ} {put_in : RowView → ℕ → List ℕ → Attrs → RowView}
+    (run : IsRun n IsOne columns put_in) where
+  -- the text at the cursor, and the cursor behind it
+  abbrev text_at : GridView → List ℕ → Attrs → GridView
+  text_at g xs a = record (with_cursor_row g (put_in (row_of_cursor g) g.col xs a)) { col = g.col + columns xs }
 
-pub in-row-sunk : (g h : GridView) (xs : List ℕ) (a : Attrs) → 0 < length xs → All IsPrintable xs → 0 < g.width
-    → h ≡ (made_to_fit g 1 true).grid → h.col + length xs ≤ h.width → h.row < length h.rows
-    → (made_to_fit g 1 true).sunk ≡ (printed_all g xs a).sunk
-in-row-sunk g h xs a some p w e fits l =
-    let s = made_to_fit g 1 true in
-    sym (ap (λ (o : Scrolled). o.sunk) (in-row g xs a s some p w refl (rw (← e) fits) (rw (← e) l)))
+  with-first : (g : GridView) (x : ℕ) (xs : List ℕ) (a : Attrs) → g.row < length g.rows
+      → text_at (put_at g (cell_of x a) a n) xs a ≡ text_at g (x ∷ xs) a
+  with-first g x xs a h =
+      let w = placed (row_of_cursor g) g.col (cell_of x a) a in
+      let r = ap (λ (u : RowView). set (set g.rows g.row w) g.row (put_in u (g.col + n) xs a))
+      (get_or-set_same g.rows g.row w (blank_row 0) h) ∙ set-set g.rows g.row w (put_in w (g.col + n) xs a)
+      ∙ ap (λ (u : RowView). set g.rows g.row u) (run.row_of_more (row_of_cursor g) g.col x xs a) in
+      let count : g.col + n + columns xs ≡ g.col + columns (x ∷ xs) = omega (arith, run.more x xs) in
+      λ i. record g { rows = r i; col = count i }
 
--- what leaves where the first character is made to fit
-pub first-sunk : (g : GridView) (xs : List ℕ) (a : Attrs) → 0 < length xs → All IsPrintable xs → 0 < g.width
-    → (made_to_fit g 1 true).sunk ≡ (printed_all g (take 1 xs) a).sunk
-first-sunk g [] a some p w = absurd (omega arith)
-first-sunk g (x ∷ xs) a some p w =
-    sym (append-nil (printed g x a).sunk
-    ∙ ap (λ (d : PrintedGrid). d.sunk) (printed-printable g x a (p zero 0 (omega arith)) w))
+  text_at-none : (g : GridView) (a : Attrs) → g ≡ text_at g [] a
+  text_at-none g a =
+      let r = sym (set-get_or g.rows g.row (blank_row 0))
+      ∙ ap (λ (u : RowView). set g.rows g.row u) (sym (run.row_of_none (row_of_cursor g) g.col a)) in
+      let count : g.col ≡ g.col + columns [] = omega (arith, run.none) in
+      λ i. record g { rows = r i; col = count i }
+
+  all-here : (xs : List ℕ) (g : GridView) (a : Attrs) → All IsOne xs → g.col + columns xs ≤ g.width → n ≤ g.width
+      → g.row < length g.rows → printed_all g xs a ≡ record { grid = text_at g xs a; sunk = [] }
+  all-here [] g a p h w l = ap (λ (k : GridView). let s : Scrolled = record { grid = k; sunk = [] }
+      in s) (text_at-none g a)
+  all-here (x ∷ xs) g a p h w l =
+      let more = run.more x xs in
+      let first = run.one g x a (p zero 0 (omega arith)) w
+      ∙ ap (λ (s : Scrolled). drawn_at s x a n) (made-here g n (omega arith)) in
+      let count = length-set g.rows g.row (placed (row_of_cursor g) g.col (cell_of x a) a) in
+      ap (λ (d : PrintedGrid). after_first d xs a) first
+      ∙ ap (λ (o : Scrolled). let s : Scrolled = record { grid = o.grid; sunk = o.sunk } in s)
+      (all-here xs (put_at g (cell_of x a) a n) a (All-drop IsOne 1 (x ∷ xs) p) (omega arith) w (omega (arith, count)))
+      ∙ ap (λ (k : GridView). let s : Scrolled = record { grid = k; sunk = [] } in s) (with-first g x xs a l)
+
+  -- the first row of a run: s is where its first character fits
+  in-row : (g : GridView) (xs : List ℕ) (a : Attrs) (s : Scrolled) → 0 < length xs → All IsOne xs → n ≤ g.width
+      → made_to_fit g n true ≡ s → n ≤ s.grid.width → s.grid.col + columns xs ≤ s.grid.width
+      → s.grid.row < length s.grid.rows → printed_all g xs a ≡ record { grid = text_at s.grid xs a; sunk = s.sunk }
+  in-row g [] a s some p w e room h l = absurd (omega arith)
+  in-row g (x ∷ xs) a s some p w e room h l =
+      let more = run.more x xs in
+      let first = run.one g x a (p zero 0 (omega arith)) w ∙ ap (λ (t : Scrolled). drawn_at t x a n) e in
+      let count = length-set s.grid.rows s.grid.row (placed (row_of_cursor s.grid) s.grid.col (cell_of x a) a) in
+      ap (λ (d : PrintedGrid). after_first d xs a) first
+      ∙ ap (λ (o : Scrolled). let t : Scrolled = record { grid = o.grid; sunk = s.sunk ++ o.sunk } in t)
+      (all-here xs (put_at s.grid (cell_of x a) a n) a (All-drop IsOne 1 (x ∷ xs) p) (omega arith) room
+      (omega (arith, count)))
+      ∙ (λ i. record { grid = with-first s.grid x xs a l i; sunk = append-nil s.sunk i })
+
+  -- what is printed of a text that fits where its first character does
+  pub in-row-all : (g h : GridView) (xs : List ℕ) (a : Attrs) → 0 < length xs → All IsOne xs → n ≤ g.width
+      → h ≡ (made_to_fit g n true).grid → n ≤ h.width → h.col + columns xs ≤ h.width → h.row < length h.rows
+      → record { grid = text_at h xs a; sunk = (made_to_fit g n true).sunk } ≡ printed_all g xs a
+  in-row-all g h xs a some p w e room fits l =
+      ap (λ (y : GridView). let s : Scrolled = record { grid = text_at y xs a; sunk = (made_to_fit g n true).sunk }
+      in s) e
+      ∙ sym (in-row g xs a (made_to_fit g n true) some p w refl (rw (← e) room) (rw (← e) fits) (rw (← e) l))
+
+  -- what leaves where the first character is made to fit
+  pub first-sunk : (g : GridView) (xs : List ℕ) (a : Attrs) → 0 < length xs → All IsOne xs → n ≤ g.width
+      → (made_to_fit g n true).sunk ≡ (printed_all g (take 1 xs) a).sunk
+  first-sunk g [] a some p w = absurd (omega arith)
+  first-sunk g (x ∷ xs) a some p w =
+      sym (append-nil (printed g x a).sunk
+      ∙ ap (λ (d : PrintedGrid). d.sunk) (run.one g x a (p zero 0 (omega arith)) w))
 
 -- ---- what is true of a grid stays true
-
-wrapped-each : (xs : List ℕ) (v : RowView) (i width : ℕ) (a : Attrs) → IsRowOf width v → All IsPrintable xs
-    → i + length xs ≤ width → IsRowOf width (placed_each v i xs a)
-wrapped-each xs v i width a r p h =
-    let e = run_row-each xs v i a r.row p (omega (arith, r.wide)) in
-    record {
-      row = IsRow-each xs v i a r.row p (omega (arith, r.wide));
-      wide = sym (ap (λ (u : RowView). length u.cells) e)
-          ∙ length-by_position (length v.cells) (printed_run (cell_at v.cells) i xs a) ∙ r.wide;
-    }
 
 pub IsGrid-run_at : (g : GridView) (xs : List ℕ) (a : Attrs) → IsGrid g → IsAllocated g → All IsPrintable xs
     → g.col + length xs ≤ g.width → IsGrid (run_at g xs a)
@@ -143,11 +155,13 @@ IsGrid-run_at g xs a i l p h =
     let v = row_of_cursor g in
     let r = cursor_row_of g i l in
     let e = run_row-each xs v g.col a r.row p (omega (arith, r.wide)) in
-    IsGrid-col (with_cursor_row g (placed_each v g.col xs a)) (g.col + length xs)
-    (IsGrid-cursor_row g (placed_each v g.col xs a) i l (wrapped-each xs v g.col g.width a r p h)
-    (λ w. sym (ap (λ (u : RowView). u.wrapped) e) ∙ w))
-    (omega (arith, length-set g.rows g.row (placed_each v g.col xs a)))
-    h
+    IsGrid-put_row g (placed_each v g.col xs a) (length xs) i l
+    (record {
+      row = IsRow-each xs v g.col a r.row p (omega (arith, r.wide));
+      wide = sym (ap (λ (u : RowView). length u.cells) e)
+          ∙ length-by_position (length v.cells) (printed_run (cell_at v.cells) g.col xs a) ∙ r.wide;
+    })
+    (λ w. sym (ap (λ (u : RowView). u.wrapped) e) ∙ w) h
 
 -- ---- one row after another
 

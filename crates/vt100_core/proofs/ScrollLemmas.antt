@@ -1,7 +1,7 @@
 -- Scrolling up.
 use Rattle.std.proofs.Common.{◌≡◌, ℕ, ◌+◌, ◌<◌, ◌==◌, Bool, true, false, cond, not, ◌&&◌, List, [], length, take, drop}
 use Rattle.std.proofs.Common.{min, refl, sym, ap, ◌∙◌, arith, nat_le, subst}
-use Rattle.std.proofs.lemmas.Bool.{eq-eqb, eqb-true, and_parts}
+use Rattle.std.proofs.lemmas.Bool.{eq-eqb, eqb-true, and_parts, and_from, cond-true}
 use Rattle.std.proofs.lemmas.Bool.Decides.{nat_tests}
 use Rattle.vt100_rows.specs.Row.{RowView, with_wrap}
 use Rattle.vt100_rows.proofs.RowLemmas.{IsRow-with_wrap}
@@ -29,9 +29,6 @@ IsShownWide-as k m height height' width width' e f g wide =
     subst (λ w. IsShownWide k height w) (sym g) (subst (λ h. IsShownWide k h width') (sym f)
     (subst (λ (x : KeptPart). IsShownWide x height' width') (sym e) wide))
 
-both-true : (p q : Bool) → p ≡ true → q ≡ true → (p && q) ≡ true
-both-true p q e f = ap (λ b. b && q) e ∙ f
-
 count-same : (g : GridView) (count end n : ℕ) → g.top ≡ 0 → end ≡ g.bottom + 1 → n ≡ min count end
     → n ≡ up_count g count
 count-same g count end n t e f = omega arith
@@ -46,19 +43,12 @@ scrolls-off g count end n width height rows k t keeps ee en ew eh er ek =
     let c = count-same g count end n t ee en in
     let same_rows : rows ≡ rows_by_position (length g.rows)
     (moved_up g.rows g.top (g.bottom + 1) (up_count g count) g.width) =
-    er ∙ ap (λ m. rows_by_position (length g.rows) (moved_up g.rows m end n width)) (sym t)
-    ∙ ap (λ m. rows_by_position (length g.rows) (moved_up g.rows g.top m n width)) ee
-    ∙ ap (λ m. rows_by_position (length g.rows) (moved_up g.rows g.top (g.bottom + 1) m width)) c
-    ∙ ap (λ m. rows_by_position (length g.rows) (moved_up g.rows g.top (g.bottom + 1) (up_count g count) m)) ew in
-    let left : take n g.rows ≡ left_rows g count =
-    ap (λ m. take m g.rows) c ∙ ap (λ m. take (up_count g count) (drop m g.rows)) (sym t) in
+    er ∙ (λ i. rows_by_position (length g.rows) (moved_up g.rows (sym t i) (ee i) (c i) (ew i))) in
+    let left : take n g.rows ≡ left_rows g count = λ i. take (c i) (drop (sym t i) g.rows) in
     let same_kept : k ≡ cond (is_kept_from g) (widened (kept_after g.kept (left_rows g count)) g.height g.width)
     g.kept =
-    ek ∙ ap (λ (xs : List RowView). widened (kept_after g.kept xs) height width) left
-    ∙ ap (λ m. widened (kept_after g.kept (left_rows g count)) m width) eh
-    ∙ ap (λ m. widened (kept_after g.kept (left_rows g count)) g.height m) ew
-    ∙ sym (ap (λ b. cond b (widened (kept_after g.kept (left_rows g count)) g.height g.width) g.kept)
-    (both-true (g.top == 0) g.kept.keeps (eq-eqb g.top 0 t) keeps)) in
+    ek ∙ (λ i. widened (kept_after g.kept (left i)) (eh i) (ew i))
+    ∙ sym (cond-true (is_kept_from g) _ g.kept (and_from (g.top == 0) g.kept.keeps (eq-eqb g.top 0 t) keeps)) in
     λ i. record (with_rows g (moved_up g.rows g.top (g.bottom + 1) (up_count g count) g.width)) {
       rows = same_rows i;
       kept = same_kept i;
@@ -69,8 +59,7 @@ pub sunk-kept : (g : GridView) (count end n : ℕ) → g.top ≡ 0 → g.kept.ke
 unfolding scrolled_up
 sunk-kept g count end n t keeps ee en =
     let c = count-same g count end n t ee en in
-    let left : take n g.rows ≡ left_rows g count =
-    ap (λ m. take m g.rows) c ∙ ap (λ m. take (up_count g count) (drop m g.rows)) (sym t) in
+    let left : take n g.rows ≡ left_rows g count = λ i. take (c i) (drop (sym t i) g.rows) in
     ap (λ (xs : List RowView). pushed_out g.kept xs) left
     ∙ sym (ap (λ b. cond (not b) [] (cond g.kept.keeps (pushed_out g.kept (left_rows g count)) (left_rows g count)))
     (eq-eqb g.top 0 t)

@@ -1,7 +1,7 @@
 -- Where no line scrolls nothing else changes.
 use Rattle.std.proofs.Common.{◌≡◌, ℕ, ◌+◌, ◌-◌, ◌^◌, ◌<◌, ◌≤◌, ◌==◌, Bool, true, false, cond, not, ◌&&◌, List, [], ◌++◌}
 use Rattle.std.proofs.Common.{length, take, drop, map, min, refl, sym, ap, ◌∙◌, arith, nat_lt, nat_le}
-use Rattle.std.proofs.lemmas.Bool.{cond_both}
+use Rattle.std.proofs.lemmas.Bool.{cond_both, cond-true}
 use Rattle.std.proofs.lemmas.Bool.Decides.{nat_tests}
 use Rattle.std.proofs.lemmas.List.{append-nil}
 use Rattle.std.proofs.Math.Seq.{drop-nil, take-nil}
@@ -100,8 +100,7 @@ sinks-none g n e h =
 feeds : (g : GridView) (n : ℕ) → is_in_region g ≡ true
     → scrolled_up (moved_rows_down g n) (rows_past_bottom g n) ≡ fed g n
 unfolding fed
-feeds g n e = sym (ap (λ b. cond b (scrolled_up (moved_rows_down g n) (rows_past_bottom g n)) (let s : Scrolled =
-    record { grid = moved_rows_down g n; sunk = [] } in s)) e)
+feeds g n e = sym (cond-true (is_in_region g) _ _ e)
 
 no-lines : (g : GridView) (m : ℕ) → m ≡ 0 → up_count g m ≡ 0
 no-lines g m e = omega arith

@@ -4,7 +4,7 @@ use Rattle.std.proofs.Common.{length, min, refl, sym, ap, ◌∙◌, arith, nat_
 use Rattle.std.specs.Prelude.{Some, None, unwrap_or}
 use Rattle.unicode_width.specs.Width.{char_width}
 use Rattle.std.specs.Char.{IsScalar}
-use Rattle.std.proofs.lemmas.Bool.{cond_both}
+use Rattle.std.proofs.lemmas.Bool.{cond_both, cond-true, cond-false, lt-ltb, le-ltb, ltb-false, leb-true}
 use Rattle.std.proofs.lemmas.Bool.Decides.{nat_tests}
 use Rattle.std.proofs.lemmas.List.{set-get_or}
 use Rattle.vt100_forms.specs.declared.attrs.Attrs.{Attrs}
@@ -19,7 +19,7 @@ use Rattle.vt100_rows.proofs.RowLemmas.{IsRow-placed}
 use Rattle.vt100_rows.proofs.JoinLemmas.{IsRow-join, length-join}
 use Rattle.vt100_cells.proofs.ListLemmas.{length-by_position}
 use Rattle.vt100_core.specs.declared.printed.Printed.TheVariants.{Nothing, Joined}
-use Rattle.vt100_rows.specs.Sheet.{row_at, moved_up}
+use Rattle.vt100_rows.specs.Sheet.{row_at, moved_up, IsRowOf}
 use Rattle.vt100_core.specs.Grid.{GridView, IsGrid, IsAllocated, with_row, with_cursor_row, row_of_cursor, is_in_region}
 use Rattle.vt100_core.specs.Cursor.{moved_rows_down}
 use Rattle.vt100_core.specs.Scroll.{Scrolled, scrolled_up, up_count, rows_past_bottom, fed, left_row, wrapped_on}
@@ -27,6 +27,7 @@ use Rattle.vt100_core.specs.Scroll.{made_to_fit}
 use Rattle.vt100_core.specs.Text.{PrintedGrid, put_at, spaced, carried, joined, printed}
 use Rattle.terminal_model.specs.Apply.{is_dropped}
 use Rattle.vt100_rows.proofs.SheetLemmas.{length-rows_by_position}
+use Rattle.vt100_core.proofs.GridLemmas.{IsGrid-parts}
 use Rattle.vt100_core.proofs.EraseLemmas.{IsGrid-cursor_row, cursor_row_of}
 use Rattle.vt100_core.proofs.ScrollLemmas.{too-wide}
 
@@ -65,9 +66,6 @@ IsSized-wrapped g wrap =
     (λ _. IsSized-row g0 h (left_row g) (with_wrap (row_at h.rows (left_row g)) (wrap && ((left_row g + 1) == h.row)))
     s)
 
-fits-here : (m n : ℕ) → nat_le m n ≡ true → m ≤ n
-fits-here m n e = grind (arith, nat_tests)
-
 pub record IsMade (g h : GridView) (columns : ℕ) : Type 0 where
   pub count : length h.rows ≡ length g.rows
   pub width : h.width ≡ g.width
@@ -79,44 +77,39 @@ IsMade-made g columns wrap h =
     let s = IsSized-wrapped g wrap in
     cond_both (nat_le (g.col + columns) g.width) (record { grid = g; sunk = [] }) (wrapped_on g wrap)
     (λ (x : Scrolled). IsMade g x.grid columns)
-    (λ e. record { count = refl; width = refl; fits = fits-here (g.col + columns) g.width e })
+    (λ e. record { count = refl; width = refl; fits = leb-true (g.col + columns) g.width e })
     (λ _. record { count = s.count; width = s.width; fits = omega (arith, s.col, s.width) })
 
 -- ---- a cell at the cursor
 
 pub IsGrid-col : (g : GridView) (col : ℕ) → IsGrid g → IsAllocated g → col ≤ g.width → IsGrid (record g { col = col })
-IsGrid-col g col i a h = record {
-  sheet = i.sheet;
-  some_rows = i.some_rows;
-  some_cols = i.some_cols;
-  few_rows = i.few_rows;
-  few_cols = i.few_cols;
-  cursor_row = i.cursor_row;
-  cursor_col = h;
-  saved_row = i.saved_row;
-  saved_col = i.saved_col;
-  region = i.region;
-  region_end = i.region_end;
-  region_lines = i.region_lines;
-  kept = i.kept;
-  shown = i.shown;
-  fresh = λ z. absurd (omega arith);
+IsGrid-col g col i a h = IsGrid-parts g g.rows col g.kept i i.sheet h i.kept i.shown (λ z. absurd (omega arith))
+
+-- the row at the cursor, and the cursor n columns on
+pub IsGrid-put_row : (g : GridView) (v : RowView) (n : ℕ) → IsGrid g → IsAllocated g → IsRowOf g.width v
+    → ((row_of_cursor g).wrapped ≡ false → v.wrapped ≡ false) → g.col + n ≤ g.width
+    → IsGrid (record (with_cursor_row g v) { col = g.col + n })
+IsGrid-put_row g v n i l row keeps h = IsGrid-col (with_cursor_row g v) (g.col + n)
+    (IsGrid-cursor_row g v i l row keeps) (omega (arith, length-set g.rows g.row v)) h
+
+pub IsRowOf-placed : (width : ℕ) (v : RowView) (i : ℕ) (x : CellView) (a : Attrs) → IsRowOf width v → IsCell x
+    → has_text x ≡ true → i + span_of x ≤ width → IsRowOf width (placed v i x a)
+IsRowOf-placed width v i x a r cell text h = record {
+  row = IsRow-placed v i x a r.row cell text (omega (arith, r.wide));
+  wide = length-by_position (length v.cells) (put (cell_at v.cells) i x a) ∙ r.wide;
 }
+
+pub unwrapped-placed : (v : RowView) (i : ℕ) (x : CellView) (a : Attrs) → v.wrapped ≡ false
+    → (placed v i x a).wrapped ≡ false
+unwrapped-placed v i x a w = ap (λ b. b && not (put_unflags (length v.cells) (cell_at v.cells) i x)) w
 
 pub IsGrid-put_at : (g : GridView) (x : CellView) (a : Attrs) (n : ℕ) → IsGrid g → IsAllocated g → IsCell x
     → has_text x ≡ true → n ≡ span_of x → g.col + n ≤ g.width → IsGrid (put_at g x a n)
 IsGrid-put_at g x a n i l cell text e h =
     let v = row_of_cursor g in
-    let r = cursor_row_of g i l in
-    IsGrid-col (with_cursor_row g (placed v g.col x a)) (g.col + n)
-    (IsGrid-cursor_row g (placed v g.col x a) i l
-    (record {
-      row = IsRow-placed v g.col x a r.row cell text (omega (arith, r.wide, e));
-      wide = length-by_position (length v.cells) (put (cell_at v.cells) g.col x a) ∙ r.wide;
-    })
-    (λ w. ap (λ b. b && not (put_unflags (length v.cells) (cell_at v.cells) g.col x)) w))
-    (omega (arith, length-set g.rows g.row (placed v g.col x a)))
-    h
+    IsGrid-put_row g (placed v g.col x a) n i l
+    (IsRowOf-placed g.width v g.col x a (cursor_row_of g i l) cell text (omega (arith, e)))
+    (unwrapped-placed v g.col x a) h
 
 span-same : (k n : ℕ) → min 2 k ≡ n → 0 < n → n ≡ cond (n == 2) 2 1
 span-same k n e h = grind (arith, nat_tests)
@@ -207,21 +200,27 @@ drawn_by g c a wide one room =
     })
     (carried g c a)))
 
-by-is : {X : Type 0} (f : Bool → Bool → Bool → X) (p q r p' q' r' : Bool) → p ≡ p' → q ≡ q' → r ≡ r'
-    → f p q r ≡ f p' q' r'
-by-is f p q r p' q' r' a b c = ap (λ x. f x q r) a ∙ ap (λ x. f p' x r) b ∙ ap (λ x. f p' q' x) c
-
 module _ (g : GridView) (c : ℕ) (a : Attrs) (h : GridView) (width-is : length (row_of_cursor g).cells ≡ g.width)
     (after : h ≡ with_cursor_row g (join_row (row_of_cursor g) g.col c a)) where
+  -- where the three tests are known
+  row-by : (wide one room : Bool) → is_widening (row_of_cursor g) g.col c ≡ wide
+      → (length (row_of_cursor g).cells == 1) ≡ one → nat_lt g.col (length (row_of_cursor g).cells) ≡ room
+      → h ≡ with_cursor_row g (row_by (row_of_cursor g) g.col c a wide one room)
+  row-by wide one room p q r =
+      after ∙ (λ i. with_cursor_row g (row_by (row_of_cursor g) g.col c a (p i) (q i) (r i)))
+
+  drawn-by : (wide one room : Bool) → is_widening (row_of_cursor g) g.col c ≡ wide
+      → (length (row_of_cursor g).cells == 1) ≡ one → nat_lt g.col (length (row_of_cursor g).cells) ≡ room
+      → joined g c a ≡ drawn_by g c a wide one room
+  drawn-by wide one room p q r =
+      let one' = ap (λ n. n == 1) (sym width-is) ∙ q in
+      let room' = ap (λ n. nat_lt g.col n) (sym width-is) ∙ r in λ i. drawn_by g c a (p i) (one' i) (room' i)
+
   pub in-place : is_widening (row_of_cursor g) g.col c ≡ false → (h ≡ (joined g c a).grid) × ((joined g c a).sunk ≡ [])
       × ((joined g c a).printed ≡ Joined)
   in-place e =
-      let v = row_of_cursor g in
-      let d = by-is (drawn_by g c a) (is_widening v g.col c) (g.width == 1) (nat_lt g.col g.width) false (g.width == 1)
-      (nat_lt g.col g.width) e refl refl in
-      let row = by-is (row_by v g.col c a) (is_widening v g.col c) (length v.cells == 1)
-      (nat_lt g.col (length v.cells)) false (length v.cells == 1) (nat_lt g.col (length v.cells)) e refl refl in (
-        after ∙ ap (λ (x : RowView). with_cursor_row g x) row ∙ sym (ap (λ (x : PrintedGrid). x.grid) d),
+      let d = drawn-by false _ _ e refl refl in (
+        row-by false _ _ e refl refl ∙ sym (ap (λ (x : PrintedGrid). x.grid) d),
         ap (λ (x : PrintedGrid). x.sunk) d,
         ap (λ (x : PrintedGrid). x.printed) d,
       )
@@ -229,13 +228,8 @@ module _ (g : GridView) (c : ℕ) (a : Attrs) (h : GridView) (width-is : length 
   pub ignored : is_widening (row_of_cursor g) g.col c ≡ true → (length (row_of_cursor g).cells == 1) ≡ true
       → (h ≡ (joined g c a).grid) × ((joined g c a).sunk ≡ []) × ((joined g c a).printed ≡ Nothing)
   ignored e one =
-      let v = row_of_cursor g in
-      let one' : (g.width == 1) ≡ true = ap (λ n. n == 1) (sym width-is) ∙ one in
-      let d = by-is (drawn_by g c a) (is_widening v g.col c) (g.width == 1) (nat_lt g.col g.width) true true
-      (nat_lt g.col g.width) e one' refl in
-      let row = by-is (row_by v g.col c a) (is_widening v g.col c) (length v.cells == 1)
-      (nat_lt g.col (length v.cells)) true true (nat_lt g.col (length v.cells)) e one refl in (
-        after ∙ ap (λ (x : RowView). with_cursor_row g x) row
+      let d = drawn-by true true _ e one refl in (
+        row-by true true _ e one refl
             ∙ ap (λ (xs : List RowView). record g { rows = xs }) (set-get_or g.rows g.row (blank_row 0))
             ∙ sym (ap (λ (x : PrintedGrid). x.grid) d),
         ap (λ (x : PrintedGrid). x.sunk) d,
@@ -247,12 +241,8 @@ module _ (g : GridView) (c : ℕ) (a : Attrs) (h : GridView) (width-is : length 
       → (record h { col = g.col + 1 } ≡ (joined g c a).grid) × ((joined g c a).sunk ≡ [])
       × ((joined g c a).printed ≡ Joined)
   widens e one room =
-      let v = row_of_cursor g in
-      let d = by-is (drawn_by g c a) (is_widening v g.col c) (g.width == 1) (nat_lt g.col g.width) true false true e
-      (ap (λ n. n == 1) (sym width-is) ∙ one) (ap (λ n. nat_lt g.col n) (sym width-is) ∙ room) in
-      let row = by-is (row_by v g.col c a) (is_widening v g.col c) (length v.cells == 1)
-      (nat_lt g.col (length v.cells)) true false true e one room in (
-        ap (λ (x : GridView). record x { col = g.col + 1 }) (after ∙ ap (λ (x : RowView). with_cursor_row g x) row)
+      let d = drawn-by true false true e one room in (
+        ap (λ (x : GridView). record x { col = g.col + 1 }) (row-by true false true e one room)
             ∙ sym (ap (λ (x : PrintedGrid). x.grid) d),
         ap (λ (x : PrintedGrid). x.sunk) d,
         ap (λ (x : PrintedGrid). x.printed) d,
@@ -261,13 +251,7 @@ module _ (g : GridView) (c : ℕ) (a : Attrs) (h : GridView) (width-is : length 
   pub carries : is_widening (row_of_cursor g) g.col c ≡ true → (length (row_of_cursor g).cells == 1) ≡ false
       → nat_lt g.col (length (row_of_cursor g).cells) ≡ false
       → (h ≡ with_cursor_row g (wiped_row (row_of_cursor g) (g.col - 1) g.col a)) × (joined g c a ≡ carried g c a)
-  carries e one room =
-      let v = row_of_cursor g in
-      let d = by-is (drawn_by g c a) (is_widening v g.col c) (g.width == 1) (nat_lt g.col g.width) true false false e
-      (ap (λ n. n == 1) (sym width-is) ∙ one) (ap (λ n. nat_lt g.col n) (sym width-is) ∙ room) in
-      let row = by-is (row_by v g.col c a) (is_widening v g.col c) (length v.cells == 1)
-      (nat_lt g.col (length v.cells)) true false false e one room in
-      (after ∙ ap (λ (x : RowView). with_cursor_row g x) row, d)
+  carries e one room = (row-by true false false e one room, drawn-by true false false e one room)
 
 -- the cell goes on to the next row
 pub carried-is : (g h : GridView) (c : ℕ) (a : Attrs) (x : CellView) → g.width < g.col + 2
@@ -300,9 +284,6 @@ pub or-false : (p q : Bool) → (p || q) ≡ false → (p ≡ false) × (q ≡ f
 or-false true q e = cc
 or-false false q e = (refl, e)
 
-fits-drawn : (width n : ℕ) → nat_lt width n ≡ false → n ≤ width
-fits-drawn width n e = grind (arith, nat_tests)
-
 after-first : (n col : ℕ) → ((n == 0) && (col == 0)) ≡ false → n ≡ 0 → 0 < col
 after-first n col e z = grind (arith, nat_tests)
 
@@ -322,7 +303,7 @@ IsDrawn-here g c n e k =
       kept = e;
       columns = k;
       drawn = ap (λ b. cond b None (Some (columns_of c))) u.0 ∙ ap Some k;
-      fits = omega (arith, fits-drawn g.width (columns_of c) r.0, k);
+      fits = omega (arith, ltb-false g.width (columns_of c) r.0, k);
       after = λ z. after-first (columns_of c) g.col r.1 (k ∙ z);
     }
 
@@ -332,33 +313,22 @@ IsDrawn-shown g c n shown =
     let is = shown-is (is_dropped g.width g.col c) (columns_of c) n shown in
     IsDrawn-here g c n is.0 is.1
 
-none-left : (n : ℕ) → n ≡ 0 → nat_lt 0 n ≡ false
-none-left n e = grind (arith, nat_tests)
-
-some-left : (n : ℕ) → 0 < n → nat_lt 0 n ≡ true
-some-left n h = grind (arith, nat_tests)
-
 pub printed-dropped : (g : GridView) (c : ℕ) (a : Attrs) → is_dropped g.width g.col c ≡ true
     → printed g c a ≡ record { grid = g; sunk = []; printed = Nothing }
 unfolding printed
-printed-dropped g c a e = ap (λ b. cond b (let d : PrintedGrid = record { grid = g; sunk = []; printed = Nothing }
-    in d) (cond (nat_lt 0 (columns_of c)) (spaced g c a) (joined g c a))) e
+printed-dropped g c a e = cond-true (is_dropped g.width g.col c) _ _ e
 
 pub printed-joined : (g : GridView) (c : ℕ) (a : Attrs) → is_dropped g.width g.col c ≡ false → columns_of c ≡ 0
     → printed g c a ≡ joined g c a
 unfolding printed
-printed-joined g c a e k =
-    ap (λ b. cond b (let d : PrintedGrid = record { grid = g; sunk = []; printed = Nothing }
-    in d) (cond (nat_lt 0 (columns_of c)) (spaced g c a) (joined g c a))) e
-    ∙ ap (λ b. cond b (spaced g c a) (joined g c a)) (none-left (columns_of c) k)
+printed-joined g c a e k = cond-false (is_dropped g.width g.col c) _ _ e
+    ∙ cond-false (nat_lt 0 (columns_of c)) _ _ (le-ltb 0 (columns_of c) (omega (arith, k)))
 
 pub printed-spaced : (g : GridView) (c : ℕ) (a : Attrs) → is_dropped g.width g.col c ≡ false → 0 < columns_of c
     → printed g c a ≡ spaced g c a
 unfolding printed
-printed-spaced g c a e h =
-    ap (λ b. cond b (let d : PrintedGrid = record { grid = g; sunk = []; printed = Nothing }
-    in d) (cond (nat_lt 0 (columns_of c)) (spaced g c a) (joined g c a))) e
-    ∙ ap (λ b. cond b (spaced g c a) (joined g c a)) (some-left (columns_of c) h)
+printed-spaced g c a e h = cond-false (is_dropped g.width g.col c) _ _ e
+    ∙ cond-true (nat_lt 0 (columns_of c)) _ _ (lt-ltb 0 (columns_of c) h)
 
 pub two-columns : (n : ℕ) → (n == 1) ≡ false → 0 < n → 2 ≤ n
 two-columns n e h = grind (arith, nat_tests)

@@ -11,7 +11,7 @@ use Rattle.vt100_forms.specs.Attrs.{default_attrs}
 use Rattle.vt100_cells.specs.Cell.{CellView, has_text}
 use Rattle.terminal_model.specs.Term.{Size, Shown}
 use Rattle.row_drawing.specs.declared.pen.Pen.{Pen}
-use Rattle.row_drawing.specs.Writer.{Drawn, ◌>>◌}
+use Rattle.row_drawing.specs.Writer.{Drawn, Writer, ◌>>◌}
 use Rattle.row_drawing.specs.Writes.{IsBegun, Wrote}
 use Rattle.row_drawing.proofs.WritesLemmas.{spell-joined, begun-more, begun-later, wrote_then, begun_first, begun_then}
 use Rattle.row_drawing.proofs.WritesLemmas.{wrote_skip}
@@ -133,18 +133,14 @@ unfolding wait_behind
 wait_behind-some z s p a r col k x e h ek ex =
     let off : is_pen_at p (place r z.cols) ≡ false = ap (λ k. is_pen_at p (place r k)) (sym e) ∙ h in
     let rest = arriving p (place r (end_col z s r)) ++ printed_with a (end_cell z s r) in
-    ap (λ b. cond b [] rest) off
-    ∙ ap (λ n. arriving p (place r n) ++ printed_with a (end_cell z s r)) (sym ek)
-    ∙ ap (λ y. arriving p (place r k) ++ printed_with a y) (sym ex)
+    ap (λ b. cond b [] rest) off ∙ (λ i. arriving p (place r (sym ek i)) ++ printed_with a (sym ex i))
 
 pub wait_on_empty-is : (z : Size) (p : Option Pos) (a : Attrs) (r : ℕ) (x : CellView) (row col : ℕ) (b : Attrs)
     → row ≡ r → col ≡ z.cols - 1 → b ≡ x.attrs
     → wait_on_empty z p a r x ≡ arriving p (place row col) ++ (Text (32 ∷ []) ∷ replaced a b)
 unfolding wait_on_empty
 wait_on_empty-is z p a r x row col b er e h =
-    ap (λ k. arriving p (place k (z.cols - 1)) ++ (Text (32 ∷ []) ∷ replaced a x.attrs)) (sym er)
-    ∙ ap (λ k. arriving p (place row k) ++ (Text (32 ∷ []) ∷ replaced a x.attrs)) (sym e)
-    ∙ ap (λ c. arriving p (place row col) ++ (Text (32 ∷ []) ∷ replaced a c)) (sym h)
+    λ i. arriving p (place (sym er i) (sym e i)) ++ (Text (32 ∷ []) ∷ replaced a (sym h i))
 
 -- ---- the cursor is placed
 
@@ -199,6 +195,43 @@ cursor-on_empty g p a b eb h off e =
     cursor-as g p a b eb ∙ cursor-waits (grid_size g) (drawn_on g) p b None h off e
     ∙ wait-none (grid_size g) (drawn_on g) p b
 
+-- ---- one row after another
+
+-- one writer draws what the other draws with another pen
+wrote-as : (f h : Writer) (q x : Pen) (t : List ℕ) (r : Pen) (u : List ℕ) → f q ≡ h x → Wrote h x t r u
+    → Wrote f q t r u
+wrote-as f h q x t r u e w = record {
+  pen_is = ap (λ (d : Drawn). d.pen) e ∙ w.pen_is;
+  text_is = w.text_is ∙ ap (λ (d : Drawn). t ++ spell d.forms) (sym e);
+}
+
+-- `all n` draws the first n rows, and `row n` the next
+module _ (all row : ℕ → Writer) (next : (n : ℕ) → all (suc n) ≡ (all n >> row n)) where
+  rows-suc : (n m : ℕ) (p : Pen) (s : List ℕ) (q : Pen) (t : List ℕ) (r : Pen) (u : List ℕ) → suc n ≡ m
+      → Wrote (all n) p s q t → Wrote (row n) q t r u → Wrote (all m) p s r u
+  rows-suc n m p s q t r u e a b =
+      subst (λ (w : Writer). Wrote w p s r u) (sym (next n) ∙ ap all e) (wrote_then (all n) (row n) p s q t r u a b)
+
+  rows-begun-up : (n m : ℕ) (p : Pen) (s t : List ℕ) → n ≤ m → IsBegun s (spell (all n p).forms) t
+      → IsBegun s (spell (all m p).forms) t
+  rows-begun-up n zero p s t le h =
+      let same : n ≡ 0 = omega (arith, le) in subst (λ k. IsBegun s (spell (all k p).forms) t) same h
+  rows-begun-up n (suc m) p s t le h =
+      elim (cases_lt n (m + 1)) [
+        | inl before ↦ subst (λ (w : Writer). IsBegun s (spell (w p).forms) t) (sym (next m))
+            (begun_first (all m) (row m) p s t (rows-begun-up n m p s t (omega (arith, before)) h))
+        | inr after ↦ (let same : n ≡ suc m = omega (arith, le, after) in
+            subst (λ k. IsBegun s (spell (all k p).forms) t) same h)
+      ]
+
+  -- row n is refused
+  rows-begun : (n m : ℕ) (p : Pen) (s : List ℕ) (q : Pen) (t u : List ℕ) → n < m → Wrote (all n) p s q t
+      → IsBegun t (spell (row n q).forms) u → IsBegun s (spell (all m p).forms) u
+  rows-begun n m p s q t u inside a b =
+      rows-begun-up (suc n) m p s u (omega (arith, inside))
+      (subst (λ (w : Writer). IsBegun s (spell (w p).forms) u) (sym (next n))
+      (begun_then (all n) (row n) p s q t u a b))
+
 -- ---- rows of a redraw
 
 -- n rows are drawn; `wrapping` says whether the last of them goes on in the next
@@ -211,27 +244,15 @@ pub redrawn-start : (g : GridView) (p : Pen) (s : List ℕ) → IsRedrawn g 0 fa
 unfolding lines_redraw
 redrawn-start g p s = record { wrote = wrote_skip p s; wraps = refl }
 
+redraw-suc : (g : GridView) (n : ℕ) → lines_redraw g (suc n) ≡ (lines_redraw g n >> line_redraw g n)
+unfolding lines_redraw
+redraw-suc g n = refl
+
 line-as : (g : GridView) (n width : ℕ) (v : RowView) (wrapping : Bool) (q : Pen) → width ≡ g.width
     → v ≡ visible_at g n → wrapping ≡ is_below_wrapped g n
     → line_redraw g n q ≡ redraw v 0 width n wrapping (afresh q)
 unfolding line_redraw
-line-as g n width v wrapping q e f h =
-    ap (λ k. redraw (visible_at g n) 0 k n (is_below_wrapped g n) (afresh q)) (sym e)
-    ∙ ap (λ x. redraw x 0 width n (is_below_wrapped g n) (afresh q)) (sym f)
-    ∙ ap (λ b. redraw v 0 width n b (afresh q)) (sym h)
-
-line-wrote : (g : GridView) (n width : ℕ) (v : RowView) (wrapping : Bool) (q : Pen) (t : List ℕ) (r : Pen) (u : List ℕ)
-    → line_redraw g n q ≡ redraw v 0 width n wrapping (afresh q)
-    → Wrote (redraw v 0 width n wrapping) (afresh q) t r u → Wrote (line_redraw g n) q t r u
-line-wrote g n width v wrapping q t r u e h = record {
-  pen_is = ap (λ (d : Drawn). d.pen) e ∙ h.pen_is;
-  text_is = h.text_is ∙ ap (λ (d : Drawn). t ++ spell d.forms) (sym e);
-}
-
-lines-suc : (g : GridView) (n : ℕ) (p : Pen) (s : List ℕ) (q : Pen) (t : List ℕ) (r : Pen) (u : List ℕ)
-    → Wrote (lines_redraw g n) p s q t → Wrote (line_redraw g n) q t r u → Wrote (lines_redraw g (suc n)) p s r u
-unfolding lines_redraw
-lines-suc g n p s q t r u a b = wrote_then (lines_redraw g n) (line_redraw g n) p s q t r u a b
+line-as g n width v wrapping q e f h = λ i. redraw (sym f i) 0 (sym e i) n (sym h i) (afresh q)
 
 pub redrawn-next : (g : GridView) (n m width : ℕ) (v : RowView) (wrapping wraps : Bool) (p : Pen) (s : List ℕ) (q : Pen)
     (t : List ℕ) (r : Pen) (u : List ℕ) → m ≡ n + 1 → width ≡ g.width → v ≡ visible_at g n → wraps ≡ v.wrapped
@@ -239,33 +260,12 @@ pub redrawn-next : (g : GridView) (n m width : ℕ) (v : RowView) (wrapping wrap
     → IsRedrawn g m wraps p s r u
 redrawn-next g n m width v wrapping wraps p s q t r u em ew ev e h row =
     let next : suc n ≡ m = omega (arith, em) in
-    subst (λ k. IsRedrawn g k wraps p s r u) next (record {
-      wrote = lines-suc g n p s q t r u h.wrote
-          (line-wrote g n width v wrapping q t r u (line-as g n width v wrapping q ew ev h.wraps) row);
-      wraps = e ∙ ap (λ (x : RowView). x.wrapped) ev ∙ below-next g n;
-    })
-
-lines-begun-suc : (g : GridView) (n : ℕ) (p : Pen) (s : List ℕ) (q : Pen) (t u : List ℕ)
-    → Wrote (lines_redraw g n) p s q t → IsBegun t (spell (line_redraw g n q).forms) u
-    → IsBegun s (spell (lines_redraw g (suc n) p).forms) u
-unfolding lines_redraw
-lines-begun-suc g n p s q t u a b = begun_then (lines_redraw g n) (line_redraw g n) p s q t u a b
-
-lines-begun-more : (g : GridView) (n : ℕ) (p : Pen) (s t : List ℕ) → IsBegun s (spell (lines_redraw g n p).forms) t
-    → IsBegun s (spell (lines_redraw g (suc n) p).forms) t
-unfolding lines_redraw
-lines-begun-more g n p s t a = begun_first (lines_redraw g n) (line_redraw g n) p s t a
-
-lines-begun-up : (g : GridView) (n m : ℕ) (p : Pen) (s t : List ℕ) → n ≤ m
-    → IsBegun s (spell (lines_redraw g n p).forms) t → IsBegun s (spell (lines_redraw g m p).forms) t
-lines-begun-up g n zero p s t le h =
-    let all : n ≡ 0 = omega (arith, le) in subst (λ k. IsBegun s (spell (lines_redraw g k p).forms) t) all h
-lines-begun-up g n (suc m) p s t le h =
-    elim (cases_lt n (m + 1)) [
-      | inl before ↦ lines-begun-more g m p s t (lines-begun-up g n m p s t (omega (arith, before)) h)
-      | inr after ↦ (let all : n ≡ suc m = omega (arith, le, after) in
-          subst (λ k. IsBegun s (spell (lines_redraw g k p).forms) t) all h)
-    ]
+    record {
+      wrote = rows-suc (lines_redraw g) (line_redraw g) (redraw-suc g) n m p s q t r u next h.wrote
+          (wrote-as (line_redraw g n) (redraw v 0 width n wrapping) q (afresh q) t r u
+          (line-as g n width v wrapping q ew ev h.wraps) row);
+      wraps = e ∙ ap (λ (x : RowView). x.wrapped) ev ∙ below-next g n ∙ ap (is_below_wrapped g) next;
+    }
 
 -- a row is refused
 pub redrawn-begun : (g : GridView) (n m width : ℕ) (v : RowView) (wrapping : Bool) (p : Pen) (s : List ℕ) (q : Pen)
@@ -273,9 +273,8 @@ pub redrawn-begun : (g : GridView) (n m width : ℕ) (v : RowView) (wrapping : B
     → IsBegun t (spell (redraw v 0 width n wrapping (afresh q)).forms) u
     → IsBegun s (spell (lines_redraw g m p).forms) u
 redrawn-begun g n m width v wrapping p s q t u inside ew ev h begun =
-    lines-begun-up g (suc n) m p s u (omega (arith, inside))
-    (lines-begun-suc g n p s q t u h.wrote
-    (subst (λ (d : Drawn). IsBegun t (spell d.forms) u) (sym (line-as g n width v wrapping q ew ev h.wraps)) begun))
+    rows-begun (lines_redraw g) (line_redraw g) (redraw-suc g) n m p s q t u inside h.wrote
+    (subst (λ (d : Drawn). IsBegun t (spell d.forms) u) (sym (line-as g n width v wrapping q ew ev h.wraps)) begun)
 
 -- ---- rows of a difference
 
@@ -304,29 +303,13 @@ over-as : (g old : GridView) (n width : ℕ) (v w : RowView) (wrapping was flagg
     → line_difference g old n q ≡ difference v w 0 width n wrapping flagged (afresh q)
 unfolding line_difference
 over-as g old n width v w wrapping was flagged q h e f =
-    let p = afresh q in
-    let above = is_below_wrapped g n in
-    let was_above : Bool = is_below_wrapped old n && not q.lost in
-    let flag : was_above ≡ flagged = ap (λ b. b && not q.lost) (sym f) ∙ sym h.flag in
-    ap (λ k. difference (visible_at g n) (visible_at old n) 0 k n above was_above p) (sym h.wide)
-    ∙ ap (λ x. difference x (visible_at old n) 0 width n above was_above p) (sym h.row)
-    ∙ ap (λ x. difference v x 0 width n above was_above p) (sym h.earlier)
-    ∙ ap (λ b. difference v w 0 width n b was_above p) (sym e)
-    ∙ ap (λ b. difference v w 0 width n wrapping b p) flag
+    let flag = ap (λ b. b && not q.lost) (sym f) ∙ sym h.flag in
+    λ i. difference (sym h.row i) (sym h.earlier i) 0 (sym h.wide i) n (sym e i) (flag i) (afresh q)
 
-over-wrote : (g old : GridView) (n width : ℕ) (v w : RowView) (wrapping flagged : Bool) (q : Pen) (t : List ℕ) (r : Pen)
-    (u : List ℕ) → line_difference g old n q ≡ difference v w 0 width n wrapping flagged (afresh q)
-    → Wrote (difference v w 0 width n wrapping flagged) (afresh q) t r u → Wrote (line_difference g old n) q t r u
-over-wrote g old n width v w wrapping flagged q t r u e h = record {
-  pen_is = ap (λ (d : Drawn). d.pen) e ∙ h.pen_is;
-  text_is = h.text_is ∙ ap (λ (d : Drawn). t ++ spell d.forms) (sym e);
-}
-
-changed-suc : (g old : GridView) (n : ℕ) (p : Pen) (s : List ℕ) (q : Pen) (t : List ℕ) (r : Pen) (u : List ℕ)
-    → Wrote (lines_difference g old n) p s q t → Wrote (line_difference g old n) q t r u
-    → Wrote (lines_difference g old (suc n)) p s r u
+difference-suc : (g old : GridView) (n : ℕ)
+    → lines_difference g old (suc n) ≡ (lines_difference g old n >> line_difference g old n)
 unfolding lines_difference
-changed-suc g old n p s q t r u a b = wrote_then (lines_difference g old n) (line_difference g old n) p s q t r u a b
+difference-suc g old n = refl
 
 pub changed-next : (g old : GridView) (n m width : ℕ) (v w : RowView) (wrapping was flagged wraps wrapped : Bool)
     (p : Pen) (s : List ℕ) (q : Pen) (t : List ℕ) (r : Pen) (u : List ℕ) → m ≡ n + 1 → wraps ≡ v.wrapped
@@ -335,38 +318,14 @@ pub changed-next : (g old : GridView) (n m width : ℕ) (v w : RowView) (wrappin
     → Wrote (difference v w 0 width n wrapping flagged) (afresh q) t r u → IsChanged g old m wraps wrapped p s r u
 changed-next g old n m width v w wrapping was flagged wraps wrapped p s q t r u em e f over h row =
     let next : suc n ≡ m = omega (arith, em) in
-    subst (λ k. IsChanged g old k wraps wrapped p s r u) next (record {
-      wrote = changed-suc g old n p s q t r u h.wrote
-          (over-wrote g old n width v w wrapping flagged q t r u
+    record {
+      wrote = rows-suc (lines_difference g old) (line_difference g old) (difference-suc g old) n m p s q t r u next
+          h.wrote
+          (wrote-as (line_difference g old n) (difference v w 0 width n wrapping flagged) q (afresh q) t r u
           (over-as g old n width v w wrapping was flagged q over h.wraps h.wrapped) row);
-      wraps = e ∙ ap (λ (x : RowView). x.wrapped) over.row ∙ below-next g n;
-      wrapped = f ∙ ap (λ (x : RowView). x.wrapped) over.earlier ∙ below-next old n;
-    })
-
-changed-begun-suc : (g old : GridView) (n : ℕ) (p : Pen) (s : List ℕ) (q : Pen) (t u : List ℕ)
-    → Wrote (lines_difference g old n) p s q t → IsBegun t (spell (line_difference g old n q).forms) u
-    → IsBegun s (spell (lines_difference g old (suc n) p).forms) u
-unfolding lines_difference
-changed-begun-suc g old n p s q t u a b = begun_then (lines_difference g old n) (line_difference g old n) p s q t u a b
-
-changed-begun-more : (g old : GridView) (n : ℕ) (p : Pen) (s t : List ℕ)
-    → IsBegun s (spell (lines_difference g old n p).forms) t
-    → IsBegun s (spell (lines_difference g old (suc n) p).forms) t
-unfolding lines_difference
-changed-begun-more g old n p s t a = begun_first (lines_difference g old n) (line_difference g old n) p s t a
-
-changed-begun-up : (g old : GridView) (n m : ℕ) (p : Pen) (s t : List ℕ) → n ≤ m
-    → IsBegun s (spell (lines_difference g old n p).forms) t
-    → IsBegun s (spell (lines_difference g old m p).forms) t
-changed-begun-up g old n zero p s t le h =
-    let all : n ≡ 0 = omega (arith, le) in subst (λ k. IsBegun s (spell (lines_difference g old k p).forms) t) all h
-changed-begun-up g old n (suc m) p s t le h =
-    elim (cases_lt n (m + 1)) [
-      | inl before ↦ changed-begun-more g old m p s t
-          (changed-begun-up g old n m p s t (omega (arith, before)) h)
-      | inr after ↦ (let all : n ≡ suc m = omega (arith, le, after) in
-          subst (λ k. IsBegun s (spell (lines_difference g old k p).forms) t) all h)
-    ]
+      wraps = e ∙ ap (λ (x : RowView). x.wrapped) over.row ∙ below-next g n ∙ ap (is_below_wrapped g) next;
+      wrapped = f ∙ ap (λ (x : RowView). x.wrapped) over.earlier ∙ below-next old n ∙ ap (is_below_wrapped old) next;
+    }
 
 -- a row is refused
 pub changed-begun : (g old : GridView) (n m width : ℕ) (v w : RowView) (wrapping was flagged : Bool) (p : Pen)
@@ -376,86 +335,79 @@ pub changed-begun : (g old : GridView) (n m width : ℕ) (v w : RowView) (wrappi
     → IsBegun s (spell (lines_difference g old m p).forms) u
 changed-begun g old n m width v w wrapping was flagged p s q t u inside over h begun =
     let same = over-as g old n width v w wrapping was flagged q over h.wraps h.wrapped in
-    changed-begun-up g old (suc n) m p s u (omega (arith, inside))
-    (changed-begun-suc g old n p s q t u h.wrote
-    (subst (λ (d : Drawn). IsBegun t (spell d.forms) u) (sym same) begun))
+    rows-begun (lines_difference g old) (line_difference g old) (difference-suc g old) n m p s q t u inside h.wrote
+    (subst (λ (d : Drawn). IsBegun t (spell d.forms) u) (sym same) begun)
 
 -- ---- whole grids
 
-pub redrawn-forms : (g : GridView) (s : List ℕ) (q : Pen) (t : List ℕ)
-    → Wrote (lines_redraw g (length g.rows)) (pen_at 0 0 default_attrs) s q t
-    → (redrawn g).forms ≡ (lines_redraw g (length g.rows) (pen_at 0 0 default_attrs)).forms
-    ++ cursor_position_formatted g (Some q.pos) (Some q.attrs)
-unfolding redrawn ◌>>◌ cursor_placed
-redrawn-forms g s q t h =
-    ap (λ (x : Pen). (lines_redraw g (length g.rows) (pen_at 0 0 default_attrs)).forms
-    ++ cursor_position_formatted g (Some x.pos) (Some x.attrs)) h.pen_is
+-- the rows are drawn by f, and then the cursor is placed
+module _ (g : GridView) (f : Writer) (start : Pen) where
+  abbrev placed : Drawn
+  placed = (f >> cursor_placed (grid_size g) (drawn_on g)) start
+
+  placed-forms : (s : List ℕ) (q : Pen) (t : List ℕ) → Wrote f start s q t
+      → placed.forms ≡ (f start).forms ++ cursor_position_formatted g (Some q.pos) (Some q.attrs)
+  unfolding ◌>>◌ cursor_placed
+  placed-forms s q t h = ap (λ (x : Pen). (f start).forms
+      ++ cursor_position_formatted g (Some x.pos) (Some x.attrs)) h.pen_is
+
+  placed-attrs : (s : List ℕ) (q : Pen) (t : List ℕ) → Wrote f start s q t → q.attrs ≡ placed.pen.attrs
+  unfolding ◌>>◌ cursor_placed
+  placed-attrs s q t h = ap (λ (x : Pen). x.attrs) (sym h.pen_is)
+
+  -- the rows are refused
+  placed-rows : (p : Pen) (s t : List ℕ) → p ≡ start → IsBegun s (spell (f p).forms) t
+      → IsBegun s (spell placed.forms) t
+  placed-rows p s t e h =
+      let q = (f start).pen in
+      let all = placed-forms s q (s ++ spell (f start).forms) (record { pen_is = refl; text_is = refl }) in
+      subst (λ fs. IsBegun s (spell fs) t) (sym all)
+      (begun_front (f start).forms (cursor_position_formatted g (Some q.pos) (Some q.attrs)) s t
+      (subst (λ x. IsBegun s (spell (f x).forms) t) e h))
+
+  -- they are drawn, and then the cursor is placed, or this is refused
+  placed-cursor : (p : Pen) (s : List ℕ) (q : Pen) (t : List ℕ) (b : Bool) (u : List ℕ) → p ≡ start → Wrote f p s q t
+      → Appends (cursor_position_formatted g (Some q.pos) (Some q.attrs)) t b u → Appends placed.forms s b u
+  placed-cursor p s q t b u e h r =
+      let drawn = subst (λ x. Wrote f x s q t) e h in
+      appends_rest (f start).forms (cursor_position_formatted g (Some q.pos) (Some q.attrs)) placed.forms s t b u
+      (placed-forms s q t drawn) drawn.text_is r
 
 pub redrawn-attrs : (g : GridView) (s : List ℕ) (q : Pen) (t : List ℕ)
     → Wrote (lines_redraw g (length g.rows)) (pen_at 0 0 default_attrs) s q t → q.attrs ≡ (redrawn g).pen.attrs
-unfolding redrawn ◌>>◌ cursor_placed
-redrawn-attrs g s q t h = ap (λ (x : Pen). x.attrs) (sym h.pen_is)
+unfolding redrawn
+redrawn-attrs g = placed-attrs g (lines_redraw g (length g.rows)) (pen_at 0 0 default_attrs)
 
-pub differing-forms : (g old : GridView) (a : Attrs) (s : List ℕ) (q : Pen) (t : List ℕ)
-    → Wrote (lines_difference g old (min (length g.rows) (length old.rows))) (pen_at old.row old.col a) s q t
-    → (differing g old a).forms
-    ≡ (lines_difference g old (min (length g.rows) (length old.rows)) (pen_at old.row old.col a)).forms
-    ++ cursor_position_formatted g (Some q.pos) (Some q.attrs)
-unfolding differing ◌>>◌ cursor_placed
-differing-forms g old a s q t h =
-    ap (λ (x : Pen). (lines_difference g old (min (length g.rows) (length old.rows)) (pen_at old.row old.col a)).forms
-    ++ cursor_position_formatted g (Some x.pos) (Some x.attrs)) h.pen_is
+pub redrawn-rows : (g : GridView) (p : Pen) (s t : List ℕ) → p ≡ pen_at 0 0 default_attrs
+    → IsBegun s (spell (lines_redraw g (length g.rows) p).forms) t → IsBegun s (spell (redrawn g).forms) t
+unfolding redrawn
+redrawn-rows g = placed-rows g (lines_redraw g (length g.rows)) (pen_at 0 0 default_attrs)
+
+pub redrawn-cursor : (g : GridView) (p : Pen) (s : List ℕ) (q : Pen) (t : List ℕ) (b : Bool) (u : List ℕ)
+    → p ≡ pen_at 0 0 default_attrs → Wrote (lines_redraw g (length g.rows)) p s q t
+    → Appends (cursor_position_formatted g (Some q.pos) (Some q.attrs)) t b u → Appends (redrawn g).forms s b u
+unfolding redrawn
+redrawn-cursor g = placed-cursor g (lines_redraw g (length g.rows)) (pen_at 0 0 default_attrs)
+
+-- the rows that two grids have
+abbrev common_rows : GridView → GridView → Writer
+common_rows g old = lines_difference g old (min (length g.rows) (length old.rows))
 
 pub differing-attrs : (g old : GridView) (a : Attrs) (s : List ℕ) (q : Pen) (t : List ℕ)
     → Wrote (lines_difference g old (min (length g.rows) (length old.rows))) (pen_at old.row old.col a) s q t
     → q.attrs ≡ (differing g old a).pen.attrs
-unfolding differing ◌>>◌ cursor_placed
-differing-attrs g old a s q t h = ap (λ (x : Pen). x.attrs) (sym h.pen_is)
+unfolding differing
+differing-attrs g old a = placed-attrs g (common_rows g old) (pen_at old.row old.col a)
 
--- the rows of a redraw are refused
-pub redrawn-rows : (g : GridView) (p : Pen) (s t : List ℕ) → p ≡ pen_at 0 0 default_attrs
-    → IsBegun s (spell (lines_redraw g (length g.rows) p).forms) t → IsBegun s (spell (redrawn g).forms) t
-redrawn-rows g p s t e h =
-    let f = lines_redraw g (length g.rows) in
-    let q = (f (pen_at 0 0 default_attrs)).pen in
-    let all = redrawn-forms g s q (s ++ spell (f (pen_at 0 0 default_attrs)).forms) (record {
-      pen_is = refl;
-      text_is = refl;
-    }) in
-    subst (λ fs. IsBegun s (spell fs) t) (sym all)
-    (begun_front (f (pen_at 0 0 default_attrs)).forms (cursor_position_formatted g (Some q.pos) (Some q.attrs)) s t
-    (subst (λ x. IsBegun s (spell (f x).forms) t) e h))
-
--- they are drawn, and then the cursor is placed, or this is refused
-pub redrawn-cursor : (g : GridView) (p : Pen) (s : List ℕ) (q : Pen) (t : List ℕ) (b : Bool) (u : List ℕ)
-    → p ≡ pen_at 0 0 default_attrs → Wrote (lines_redraw g (length g.rows)) p s q t
-    → Appends (cursor_position_formatted g (Some q.pos) (Some q.attrs)) t b u → Appends (redrawn g).forms s b u
-redrawn-cursor g p s q t b u e h r =
-    let f = lines_redraw g (length g.rows) in
-    let drawn = subst (λ x. Wrote f x s q t) e h in
-    appends_rest (f (pen_at 0 0 default_attrs)).forms (cursor_position_formatted g (Some q.pos) (Some q.attrs))
-    (redrawn g).forms s t b u (redrawn-forms g s q t drawn) drawn.text_is r
-
--- the rows of a difference are refused
 pub differing-rows : (g old : GridView) (a : Attrs) (p : Pen) (s t : List ℕ) → p ≡ pen_at old.row old.col a
     → IsBegun s (spell (lines_difference g old (min (length g.rows) (length old.rows)) p).forms) t
     → IsBegun s (spell (differing g old a).forms) t
-differing-rows g old a p s t e h =
-    let f = lines_difference g old (min (length g.rows) (length old.rows)) in
-    let o = pen_at old.row old.col a in
-    let q = (f o).pen in
-    let all = differing-forms g old a s q (s ++ spell (f o).forms) (record { pen_is = refl; text_is = refl }) in
-    subst (λ fs. IsBegun s (spell fs) t) (sym all)
-    (begun_front (f o).forms (cursor_position_formatted g (Some q.pos) (Some q.attrs)) s t
-    (subst (λ x. IsBegun s (spell (f x).forms) t) e h))
+unfolding differing
+differing-rows g old a = placed-rows g (common_rows g old) (pen_at old.row old.col a)
 
 pub differing-cursor : (g old : GridView) (a : Attrs) (p : Pen) (s : List ℕ) (q : Pen) (t : List ℕ) (b : Bool)
     (u : List ℕ) → p ≡ pen_at old.row old.col a
     → Wrote (lines_difference g old (min (length g.rows) (length old.rows))) p s q t
     → Appends (cursor_position_formatted g (Some q.pos) (Some q.attrs)) t b u → Appends (differing g old a).forms s b u
-differing-cursor g old a p s q t b u e h r =
-    let f = lines_difference g old (min (length g.rows) (length old.rows)) in
-    let o = pen_at old.row old.col a in
-    let drawn = subst (λ x. Wrote f x s q t) e h in
-    appends_rest (f o).forms (cursor_position_formatted g (Some q.pos) (Some q.attrs)) (differing g old a).forms s t b u
-    (differing-forms g old a s q t drawn) drawn.text_is r
+unfolding differing
+differing-cursor g old a = placed-cursor g (common_rows g old) (pen_at old.row old.col a)

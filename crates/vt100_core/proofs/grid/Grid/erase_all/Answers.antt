@@ -1,11 +1,11 @@
 use Rattle.std.proofs.Common.{arith}
 use Rattle.std.proofs.lemmas.Grind.{common_steps}
-use Rattle.vt100_core.specs.Erase.{all_erased}
 use Rattle.vt100_core.proofs.GridLemmas.{IsGrid-at}
 use Rattle.vt100_core.proofs.EraseLemmas.{IsGrid-all_erased}
 use Rattle.vt100_core.proofs.grid.Grid.erase_all.Goals as goal
 
 pub invariant_of-self : goal.invariant_of-self
 invariant_of-self c =
-    IsGrid-at _ (all_erased c.args.self.now c.args.attrs) (grind (arith, common_steps))
+    IsGrid-at
     (IsGrid-all_erased c.args.self.now c.args.attrs (rw (← c.self.view_is) c.self.invariant) c.requires)
+    (grind (arith, common_steps))

@@ -3,7 +3,6 @@ use Rattle.vt100_rows.specs.Row.{RowView, join_row}
 use Rattle.vt100_rows.specs.Sink.{TakesAll}
 use Rattle.vt100_core.specs.Grid.{GridView, IsAllocated, row_of_cursor}
 use Rattle.vt100_core.specs.GridFields.{grid_of}
-use Rattle.vt100_core.specs.Text.{joined}
 use Rattle.vt100_rows.proofs.SinkLemmas.{TakesAll-list}
 use Rattle.vt100_core.proofs.TextLemmas.{IsGrid-col}
 use Rattle.vt100_core.proofs.JoinLemmas.{joins-in-place, joins-ignored, joins-widened, joins-carried}
@@ -11,67 +10,50 @@ use Rattle.vt100_core.proofs.grid.Grid.join.Goals as goal
 
 pub returns-in-InPlace-clause-grid : goal.returns-in-InPlace-clause-grid
 returns-in-InPlace-clause-grid g c =
-    let is = joins-in-place c.args.self.now c.args.c c.args.attrs c.join_in_row.new.self
-    c.join_in_row.ensures.valid c.requires.allocated c.join_in_row.ensures.grid
-    c.in-InPlace.ensures.answer in
-    is.0
+    (joins-in-place _ _ _ _ c.join_in_row.ensures.valid c.requires.allocated
+    c.join_in_row.ensures.grid c.in-InPlace.ensures.answer).0
 
 pub returns-in-InPlace-clause-sink : goal.returns-in-InPlace-clause-sink
 returns-in-InPlace-clause-sink g c =
-    let is = joins-in-place c.args.self.now c.args.c c.args.attrs c.join_in_row.new.self
-    c.join_in_row.ensures.valid c.requires.allocated c.join_in_row.ensures.grid
+    let is = joins-in-place _ _ _ _ c.join_in_row.ensures.valid c.requires.allocated c.join_in_row.ensures.grid
     c.in-InPlace.ensures.answer in
-    TakesAll-list g.S.RowSink.takes c.args.sink.now c.args.sink.now []
-    (joined c.args.self.now c.args.c c.args.attrs).sunk (sym is.1) refl
+    TakesAll-list g.S.RowSink.takes c.args.sink.now c.args.sink.now [] _ (sym is.1) refl
 
 pub returns-in-InPlace-clause-answer : goal.returns-in-InPlace-clause-answer
 returns-in-InPlace-clause-answer g c =
-    let is = joins-in-place c.args.self.now c.args.c c.args.attrs c.join_in_row.new.self
-    c.join_in_row.ensures.valid c.requires.allocated c.join_in_row.ensures.grid
-    c.in-InPlace.ensures.answer in
-    sym is.2
+    sym (joins-in-place _ _ _ _ c.join_in_row.ensures.valid c.requires.allocated
+    c.join_in_row.ensures.grid c.in-InPlace.ensures.answer).2
 
 pub returns-in-Ignored-clause-grid : goal.returns-in-Ignored-clause-grid
 returns-in-Ignored-clause-grid g c =
-    let is = joins-ignored c.args.self.now c.args.c c.args.attrs c.join_in_row.new.self
-    c.join_in_row.ensures.valid c.requires.allocated c.join_in_row.ensures.grid
-    c.in-Ignored.ensures.answer in
-    is.0
+    (joins-ignored _ _ _ _ c.join_in_row.ensures.valid c.requires.allocated
+    c.join_in_row.ensures.grid c.in-Ignored.ensures.answer).0
 
 pub returns-in-Ignored-clause-sink : goal.returns-in-Ignored-clause-sink
 returns-in-Ignored-clause-sink g c =
-    let is = joins-ignored c.args.self.now c.args.c c.args.attrs c.join_in_row.new.self
-    c.join_in_row.ensures.valid c.requires.allocated c.join_in_row.ensures.grid
+    let is = joins-ignored _ _ _ _ c.join_in_row.ensures.valid c.requires.allocated c.join_in_row.ensures.grid
     c.in-Ignored.ensures.answer in
-    TakesAll-list g.S.RowSink.takes c.args.sink.now c.args.sink.now []
-    (joined c.args.self.now c.args.c c.args.attrs).sunk (sym is.1) refl
+    TakesAll-list g.S.RowSink.takes c.args.sink.now c.args.sink.now [] _ (sym is.1) refl
 
 pub returns-in-Ignored-clause-answer : goal.returns-in-Ignored-clause-answer
 returns-in-Ignored-clause-answer g c =
-    let is = joins-ignored c.args.self.now c.args.c c.args.attrs c.join_in_row.new.self
-    c.join_in_row.ensures.valid c.requires.allocated c.join_in_row.ensures.grid
-    c.in-Ignored.ensures.answer in
-    sym is.2
+    sym (joins-ignored _ _ _ _ c.join_in_row.ensures.valid c.requires.allocated
+    c.join_in_row.ensures.grid c.in-Ignored.ensures.answer).2
 
 pub returns-in-Widened-clause-sink : goal.returns-in-Widened-clause-sink
 returns-in-Widened-clause-sink g c =
-    let is = joins-widened c.args.self.now c.args.c c.args.attrs c.join_in_row.new.self
-    c.join_in_row.ensures.valid c.requires.allocated c.join_in_row.ensures.grid
+    let is = joins-widened _ _ _ _ c.join_in_row.ensures.valid c.requires.allocated c.join_in_row.ensures.grid
     c.in-Widened.ensures.answer in
-    TakesAll-list g.S.RowSink.takes c.args.sink.now c.args.sink.now []
-    (joined c.args.self.now c.args.c c.args.attrs).sunk (sym is.sunk) refl
+    TakesAll-list g.S.RowSink.takes c.args.sink.now c.args.sink.now [] _ (sym is.sunk) refl
 
 pub returns-in-Widened-clause-answer : goal.returns-in-Widened-clause-answer
 returns-in-Widened-clause-answer g c =
-    let is = joins-widened c.args.self.now c.args.c c.args.attrs c.join_in_row.new.self
-    c.join_in_row.ensures.valid c.requires.allocated c.join_in_row.ensures.grid
-    c.in-Widened.ensures.answer in
-    sym is.printed
+    sym (joins-widened _ _ _ _ c.join_in_row.ensures.valid c.requires.allocated
+    c.join_in_row.ensures.grid c.in-Widened.ensures.answer).printed
 
 pub overflow_add-self : goal.overflow_add-self
 overflow_add-self g c =
-    let is = joins-widened c.args.self.now c.args.c c.args.attrs c.join_in_row.new.self
-    c.join_in_row.ensures.valid c.requires.allocated c.join_in_row.ensures.grid
+    let is = joins-widened _ _ _ _ c.join_in_row.ensures.valid c.requires.allocated c.join_in_row.ensures.grid
     c.in-Widened.ensures.answer in
     let col : c.self.inside.pos.col ≡ c.args.self.now.col =
     ap (λ (y : GridView). y.col) (c.self.view_is ∙ c.join_in_row.ensures.grid) in
@@ -79,8 +61,7 @@ overflow_add-self g c =
 
 pub invariant_of-self : goal.invariant_of-self
 invariant_of-self g c =
-    let is = joins-widened c.args.self.now c.args.c c.args.attrs c.join_in_row.new.self
-    c.join_in_row.ensures.valid c.requires.allocated c.join_in_row.ensures.grid
+    let is = joins-widened _ _ _ _ c.join_in_row.ensures.valid c.requires.allocated c.join_in_row.ensures.grid
     c.in-Widened.ensures.answer in
     let col : c.self.inside.pos.col ≡ c.args.self.now.col =
     ap (λ (y : GridView). y.col) (c.self.view_is ∙ c.join_in_row.ensures.grid) in
@@ -92,8 +73,7 @@ invariant_of-self g c =
 
 pub returns-in-Widened-clause-grid : goal.returns-in-Widened-clause-grid
 returns-in-Widened-clause-grid g c =
-    let is = joins-widened c.args.self.now c.args.c c.args.attrs c.join_in_row.new.self
-    c.join_in_row.ensures.valid c.requires.allocated c.join_in_row.ensures.grid
+    let is = joins-widened _ _ _ _ c.join_in_row.ensures.valid c.requires.allocated c.join_in_row.ensures.grid
     c.in-Widened.ensures.answer in
     let col : c.self.inside.pos.col ≡ c.args.self.now.col =
     ap (λ (y : GridView). y.col) (c.self.view_is ∙ c.join_in_row.ensures.grid) in
@@ -111,58 +91,46 @@ carry-requires-clause-allocated g c = omega (
 
 pub carry-requires-clause-valid : goal.carry-requires-clause-valid
 carry-requires-clause-valid g c =
-    let is = joins-carried c.args.self.now c.args.c c.args.attrs c.join_in_row.new.self
-    c.join_in_row.ensures.valid c.requires.allocated c.join_in_row.ensures.grid
-    c.in-Carried.cell c.in-Carried.ensures.answer in
-    is.valid c.ranges.c.0 c.requires.zero_width
+    (joins-carried _ _ _ _ c.join_in_row.ensures.valid c.requires.allocated
+    c.join_in_row.ensures.grid _ c.in-Carried.ensures.answer).valid c.ranges.c.0 c.requires.zero_width
 
 pub carry-requires-clause-text : goal.carry-requires-clause-text
 carry-requires-clause-text g c =
-    let is = joins-carried c.args.self.now c.args.c c.args.attrs c.join_in_row.new.self
-    c.join_in_row.ensures.valid c.requires.allocated c.join_in_row.ensures.grid
-    c.in-Carried.cell c.in-Carried.ensures.answer in
-    is.text
+    (joins-carried _ _ _ _ c.join_in_row.ensures.valid c.requires.allocated
+    c.join_in_row.ensures.grid _ c.in-Carried.ensures.answer).text
 
 pub carry-requires-clause-wide : goal.carry-requires-clause-wide
 carry-requires-clause-wide g c =
-    let is = joins-carried c.args.self.now c.args.c c.args.attrs c.join_in_row.new.self
-    c.join_in_row.ensures.valid c.requires.allocated c.join_in_row.ensures.grid
-    c.in-Carried.cell c.in-Carried.ensures.answer in
-    is.wide
+    (joins-carried _ _ _ _ c.join_in_row.ensures.valid c.requires.allocated
+    c.join_in_row.ensures.grid _ c.in-Carried.ensures.answer).wide
 
 pub carry-requires-clause-fits : goal.carry-requires-clause-fits
 carry-requires-clause-fits g c =
-    let is = joins-carried c.args.self.now c.args.c c.args.attrs c.join_in_row.new.self
-    c.join_in_row.ensures.valid c.requires.allocated c.join_in_row.ensures.grid
-    c.in-Carried.cell c.in-Carried.ensures.answer in
+    let is = joins-carried _ _ _ _ c.join_in_row.ensures.valid c.requires.allocated c.join_in_row.ensures.grid _
+    c.in-Carried.ensures.answer in
     omega (arith, is.fits, ap (λ (y : GridView). y.width) c.join_in_row.ensures.grid)
 
 pub returns-in_ok-carry-in-Carried-clause-grid : goal.returns-in_ok-carry-in-Carried-clause-grid
 returns-in_ok-carry-in-Carried-clause-grid g c =
-    let is = joins-carried c.args.self.now c.args.c c.args.attrs c.join_in_row.new.self
-    c.join_in_row.ensures.valid c.requires.allocated c.join_in_row.ensures.grid
-    c.in-Carried.cell c.in-Carried.ensures.answer in
+    let is = joins-carried _ _ _ _ c.join_in_row.ensures.valid c.requires.allocated c.join_in_row.ensures.grid _
+    c.in-Carried.ensures.answer in
     c.in_ok-carry-in-Carried.ensures.grid ∙ is.grid
 
 pub returns-in_ok-carry-in-Carried-clause-sink : goal.returns-in_ok-carry-in-Carried-clause-sink
 returns-in_ok-carry-in-Carried-clause-sink g c =
-    let is = joins-carried c.args.self.now c.args.c c.args.attrs c.join_in_row.new.self
-    c.join_in_row.ensures.valid c.requires.allocated c.join_in_row.ensures.grid
-    c.in-Carried.cell c.in-Carried.ensures.answer in
+    let is = joins-carried _ _ _ _ c.join_in_row.ensures.valid c.requires.allocated c.join_in_row.ensures.grid _
+    c.in-Carried.ensures.answer in
     subst (λ (rows : List RowView). TakesAll g.S.RowSink.takes c.args.sink.now rows c.carry.new.sink) is.sunk
     c.in_ok-carry-in-Carried.ensures.sink
 
 pub returns-in_err-carry-in-Carried-clause-sink : goal.returns-in_err-carry-in-Carried-clause-sink
 returns-in_err-carry-in-Carried-clause-sink g c =
-    let is = joins-carried c.args.self.now c.args.c c.args.attrs c.join_in_row.new.self
-    c.join_in_row.ensures.valid c.requires.allocated c.join_in_row.ensures.grid
-    c.in-Carried.cell c.in-Carried.ensures.answer in
+    let is = joins-carried _ _ _ _ c.join_in_row.ensures.valid c.requires.allocated c.join_in_row.ensures.grid _
+    c.in-Carried.ensures.answer in
     subst (λ (rows : List RowView). TakesAll g.S.RowSink.takes c.args.sink.now rows c.carry.new.sink) is.sunk
     c.in_err-carry-in-Carried.ensures.sink
 
 pub returns-in_ok-carry-in-Carried-clause-answer : goal.returns-in_ok-carry-in-Carried-clause-answer
 returns-in_ok-carry-in-Carried-clause-answer g c =
-    let is = joins-carried c.args.self.now c.args.c c.args.attrs c.join_in_row.new.self
-    c.join_in_row.ensures.valid c.requires.allocated c.join_in_row.ensures.grid
-    c.in-Carried.cell c.in-Carried.ensures.answer in
-    is.printed
+    (joins-carried _ _ _ _ c.join_in_row.ensures.valid c.requires.allocated
+    c.join_in_row.ensures.grid _ c.in-Carried.ensures.answer).printed

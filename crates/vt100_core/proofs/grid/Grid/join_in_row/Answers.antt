@@ -1,7 +1,5 @@
 use Rattle.std.proofs.Common.{arith}
 use Rattle.std.proofs.lemmas.Grind.{common_steps}
-use Rattle.vt100_rows.specs.Row.{join_row}
-use Rattle.vt100_core.specs.Grid.{with_cursor_row, row_of_cursor}
 use Rattle.vt100_core.proofs.GridLemmas.{IsGrid-at}
 use Rattle.vt100_core.proofs.TextLemmas.{IsGrid-join}
 use Rattle.vt100_core.proofs.grid.Grid.join_in_row.Goals as goal
@@ -9,7 +7,7 @@ use Rattle.vt100_core.proofs.grid.Grid.join_in_row.Goals as goal
 pub invariant_of-self : goal.invariant_of-self
 invariant_of-self c =
     let s = c.args.self.now in
-    IsGrid-at _ (with_cursor_row s (join_row (row_of_cursor s) s.col c.args.c c.args.attrs))
-    (grind (arith, common_steps))
+    IsGrid-at
     (IsGrid-join s c.args.c c.args.attrs (rw (← c.self.view_is) c.self.invariant) c.requires.allocated c.ranges.c.0
     c.requires.zero_width c.requires.after_some)
+    (grind (arith, common_steps))

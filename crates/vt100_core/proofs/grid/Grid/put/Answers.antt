@@ -3,7 +3,6 @@ use Rattle.std.proofs.lemmas.Grind.{common_steps}
 use Rattle.vt100_cells.specs.Cell.{cell_of}
 use Rattle.vt100_cells.proofs.CellLemmas.{IsCell-of}
 use Rattle.vt100_cells.proofs.WidthLemmas.{drawn-is}
-use Rattle.vt100_core.specs.Text.{put_at}
 use Rattle.vt100_core.proofs.GridLemmas.{IsGrid-at}
 use Rattle.vt100_core.proofs.TextLemmas.{IsGrid-put_at, span_of-cell}
 use Rattle.vt100_core.proofs.grid.Grid.put.Goals as goal
@@ -11,9 +10,8 @@ use Rattle.vt100_core.proofs.grid.Grid.put.Goals as goal
 pub invariant_of-self : goal.invariant_of-self
 invariant_of-self c =
     let d = drawn-is c.args.c c.args.columns c.requires.drawn in
-    IsGrid-at _ (put_at c.args.self.now (cell_of c.args.c c.args.attrs) c.args.attrs c.args.columns)
-    (grind (arith, common_steps))
-    (IsGrid-put_at c.args.self.now (cell_of c.args.c c.args.attrs) c.args.attrs c.args.columns
+    IsGrid-at (IsGrid-put_at c.args.self.now (cell_of c.args.c c.args.attrs) c.args.attrs c.args.columns
     (rw (← c.self.view_is) c.self.invariant) c.requires.allocated
     (IsCell-of c.args.c c.args.attrs c.ranges.c.0 d.0 (omega (arith, d.1, c.requires.some))) refl
     (span_of-cell c.args.c c.args.columns c.args.attrs d.1 c.requires.some) c.requires.fits)
+    (grind (arith, common_steps))

@@ -2,7 +2,7 @@ use Rattle.std.proofs.Common.{arith, ap, subst, sym, ◌∙◌, ◌≡◌, ◌+�
 use Rattle.std.proofs.lemmas.Grind.{common_steps}
 use Rattle.vt100_rows.specs.Row.{RowView}
 use Rattle.vt100_rows.specs.Sheet.{rows_by_position, moved_up}
-use Rattle.vt100_core.specs.Grid.{GridView, IsGrid, IsAllocated, with_rows}
+use Rattle.vt100_core.specs.Grid.{GridView, IsGrid, IsAllocated}
 use Rattle.vt100_core.specs.GridFields.{grid_of}
 use Rattle.vt100_core.specs.KeptFields.{kept_of}
 use Rattle.vt100_core.specs.Scroll.{up_count, widened, kept_after, pushed_out, scrolled_up}
@@ -17,71 +17,57 @@ use Rattle.vt100_core.proofs.grid.Grid.scroll_up.Goals as goal
 pub invariant_of-self : goal.invariant_of-self
 invariant_of-self g c =
     let s = c.args.self.now in
-    IsGrid-at _ (with_rows s (moved_up s.rows s.top (s.bottom + 1) (up_count s c.args.count) s.width))
-    (grind (arith, common_steps))
+    IsGrid-at
     (IsGrid-moved_up s s.top (s.bottom + 1) (up_count s c.args.count) (rw (← c.self.view_is) c.self.invariant)
     (region_rows s (rw (← c.self.view_is) c.self.invariant) c.requires))
+    (grind (arith, common_steps))
 
 pub invariant_of-self-else-self : goal.invariant_of-self-else-self
 invariant_of-self-else-self g c =
     let s = c.args.self.now in
-    IsGrid-at _ (with_rows s (moved_up s.rows s.top (s.bottom + 1) (up_count s c.args.count) s.width))
-    (grind (arith, common_steps))
+    IsGrid-at
     (IsGrid-moved_up s s.top (s.bottom + 1) (up_count s c.args.count) (rw (← c.self.view_is) c.self.invariant)
     (region_rows s (rw (← c.self.view_is) c.self.invariant) c.requires))
+    (grind (arith, common_steps))
 
 pub invariant_of-self-in-Continue-1 : goal.invariant_of-self-in-Continue-1
 invariant_of-self-in-Continue-1 g c =
-    let lent = c.deref_mut-then-self.result.now in
-    let same : lent ≡ c.self.inside.rows.items = c.deref_mut-then-self.ensures.value in
-    let count : length c.scroll_off.new.rows ≡ length c.self.inside.rows.items =
-    c.scroll_off.auto.rows ∙ ap (λ (xs : List RowView). length xs) same in
-    let back = refilled c.self.inside.rows.len c.scroll_off.new.rows c.self.inside.rows.items c.self.inside.rows.ok.0
-    count in
-    let some : IsAllocated (grid_of c.self.inside) =
-    subst (λ (x : GridView). IsAllocated x) (sym c.self.view_is) c.requires in
-    IsGrid-at _ (record (grid_of c.self.inside) { rows = c.scroll_off.new.rows; kept = kept_of c.scroll_off.new.self })
-    (ap (λ (xs : List RowView). record (grid_of c.self.inside) { rows = xs; kept = kept_of c.scroll_off.new.self })
-    back)
-    (IsGrid-scrolled (grid_of c.self.inside) c.scroll_off.new.rows (kept_of c.scroll_off.new.self) c.self.invariant
-    some count
-    (IsSheet-as (length lent) c.self.inside.size.rows.value c.cols-then-self.result c.self.inside.size.cols.value
-    c.scroll_off.new.rows (ap (λ (xs : List RowView). length xs) same
+    let own = grid_of c.self.inside in
+    let same = c.deref_mut-then-self.ensures.value in
+    let count = c.scroll_off.auto.rows ∙ ap (λ (xs : List RowView). length xs) same in
+    let back = refilled c.self.inside.rows.len c.scroll_off.new.rows own.rows c.self.inside.rows.ok.0 count in
+    let some = subst (λ (x : GridView). IsAllocated x) (sym c.self.view_is) c.requires in
+    IsGrid-at
+    (IsGrid-scrolled own c.scroll_off.new.rows (kept_of c.scroll_off.new.self) c.self.invariant some count
+    (IsSheet-as _ own.height _ own.width c.scroll_off.new.rows (ap (λ (xs : List RowView). length xs) same
     ∙ c.self.invariant.sheet.count some) c.cols-then-self.ensures c.scroll_off.ensures.sheet)
     c.scroll_off.ensures.valid
     (IsShownWide-is _ _ _ _ _ _ c.in_ok-scroll_off.ensures.kept c.rows.ensures c.cols-then-self.ensures))
+    (ap (λ (xs : List RowView). record own { rows = xs; kept = kept_of c.scroll_off.new.self }) back)
 
 pub invariant_of-self-in_err-scroll_off : goal.invariant_of-self-in_err-scroll_off
 invariant_of-self-in_err-scroll_off g c =
-    let lent = c.deref_mut-then-self.result.now in
-    let same : lent ≡ c.self.inside.rows.items = c.deref_mut-then-self.ensures.value in
-    let count : length c.scroll_off.new.rows ≡ length c.self.inside.rows.items =
-    c.scroll_off.auto.rows ∙ ap (λ (xs : List RowView). length xs) same in
-    let back = refilled c.self.inside.rows.len c.scroll_off.new.rows c.self.inside.rows.items c.self.inside.rows.ok.0
-    count in
-    let some : IsAllocated (grid_of c.self.inside) =
-    subst (λ (x : GridView). IsAllocated x) (sym c.self.view_is) c.requires in
-    IsGrid-at _ (record (grid_of c.self.inside) { rows = c.scroll_off.new.rows; kept = kept_of c.scroll_off.new.self })
-    (ap (λ (xs : List RowView). record (grid_of c.self.inside) { rows = xs; kept = kept_of c.scroll_off.new.self })
-    back)
-    (IsGrid-scrolled (grid_of c.self.inside) c.scroll_off.new.rows (kept_of c.scroll_off.new.self) c.self.invariant
-    some count
-    (IsSheet-as (length lent) c.self.inside.size.rows.value c.cols-then-self.result c.self.inside.size.cols.value
-    c.scroll_off.new.rows (ap (λ (xs : List RowView). length xs) same
+    let own = grid_of c.self.inside in
+    let same = c.deref_mut-then-self.ensures.value in
+    let count = c.scroll_off.auto.rows ∙ ap (λ (xs : List RowView). length xs) same in
+    let back = refilled c.self.inside.rows.len c.scroll_off.new.rows own.rows c.self.inside.rows.ok.0 count in
+    let some = subst (λ (x : GridView). IsAllocated x) (sym c.self.view_is) c.requires in
+    IsGrid-at
+    (IsGrid-scrolled own c.scroll_off.new.rows (kept_of c.scroll_off.new.self) c.self.invariant some count
+    (IsSheet-as _ own.height _ own.width c.scroll_off.new.rows (ap (λ (xs : List RowView). length xs) same
     ∙ c.self.invariant.sheet.count some) c.cols-then-self.ensures c.scroll_off.ensures.sheet)
     c.scroll_off.ensures.valid
     (IsShownWide-none (kept_of c.scroll_off.new.self) c.self.inside.size.rows.value c.self.inside.size.cols.value
     c.in_err-scroll_off.ensures.hidden))
+    (ap (λ (xs : List RowView). record own { rows = xs; kept = kept_of c.scroll_off.new.self }) back)
 
 pub returns-in_ok-scroll_off-clause-grid : goal.returns-in_ok-scroll_off-clause-grid
 returns-in_ok-scroll_off-clause-grid g c =
     let lent = c.deref_mut-then-self.result.now in
     let same : lent ≡ c.self.inside.rows.items = c.deref_mut-then-self.ensures.value in
-    let count : length c.scroll_off.new.rows ≡ length c.self.inside.rows.items =
-    c.scroll_off.auto.rows ∙ ap (λ (xs : List RowView). length xs) same in
-    let back = refilled c.self.inside.rows.len c.scroll_off.new.rows c.self.inside.rows.items c.self.inside.rows.ok.0
-    count in
     let s = grid_of c.self.inside in
+    let back = refilled c.self.inside.rows.len c.scroll_off.new.rows s.rows c.self.inside.rows.ok.0
+    (c.scroll_off.auto.rows ∙ ap (λ (xs : List RowView). length xs) same) in
     let end = c.from-end.result + 1 in
     let n = c.min-n.result in
     let top : s.top ≡ 0 = omega arith in

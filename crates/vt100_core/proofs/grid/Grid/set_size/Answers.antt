@@ -2,7 +2,7 @@ use Rattle.std.proofs.Common.{arith, ap, sym, subst, ◌∙◌, ◌≡◌, ◌<�
 use Rattle.std.proofs.lemmas.Bool.{cases_lt}
 use Rattle.std.proofs.lemmas.Grind.{common_steps}
 use Rattle.vt100_core.specs.Grid.{GridView, IsGrid, IsAllocated}
-use Rattle.vt100_core.specs.Resize.{whole_screen, up_rows, resized}
+use Rattle.vt100_core.specs.Resize.{whole_screen, up_rows}
 use Rattle.vt100_core.specs.Scroll.{scrolled_up}
 use Rattle.vt100_rows.specs.Sink.{TakesAll}
 use Rattle.vt100_core.proofs.ResizeLemmas.{IsGrid-whole_screen, lowers, lowers-sunk, some-shortened, some-lengthened}
@@ -51,25 +51,20 @@ returns-in_ok-set_width-clause-sink g c =
     let up = c.saturating_sub-up.result in
     let height = c.args.size.rows.value in
     let valid : IsGrid s = rw (← c.self.view_is) c.self.invariant in
-    let whole : c.show_whole_screen.new.self ≡ whole_screen s = c.show_whole_screen.ensures in
     let lower : height < s.height = grind (arith, common_steps) in
     let count : up ≡ up_rows s height = grind (arith, lower, common_steps) in
-    let taken : TakesAll g.S.RowSink.takes c.args.sink.now (scrolled_up (whole_screen s) up).sunk c.if-up-gt0.sink =
+    let sunk = lowers-sunk s up height c.args.size.cols.value lower count in
     elim c.if-up-gt0.branch [
       | then-up-gt0+in_ok-scroll_up w ↦
-          subst (λ t. TakesAll g.S.RowSink.takes c.args.sink.now (scrolled_up (whole_screen s) up).sunk t)
-          (sym w.sink-is)
-          (TakesAll-list g.S.RowSink.takes c.args.sink.now w.scroll_up.new.sink
-          (scrolled_up c.show_whole_screen.new.self up).sunk (scrolled_up (whole_screen s) up).sunk
-          (ap (λ (x : GridView). (scrolled_up x up).sunk) whole) w.scroll_up.ensures.sink)
+          TakesAll-list g.S.RowSink.takes c.args.sink.now c.if-up-gt0.sink
+          (scrolled_up c.show_whole_screen.new.self up).sunk _
+          (ap (λ (x : GridView). (scrolled_up x up).sunk) c.show_whole_screen.ensures ∙ sunk)
+          (subst (λ t. TakesAll g.S.RowSink.takes _ _ t) (sym w.sink-is) w.scroll_up.ensures.sink)
       | else-up-gt0 w ↦
           let none : 0 ≡ up = omega arith in
-          TakesAll-list g.S.RowSink.takes c.args.sink.now c.if-up-gt0.sink [] (scrolled_up (whole_screen s) up).sunk
-          (sinks-none (whole_screen s) up (omega arith) valid.kept.fits) (sym w.sink-is)
-    ] in
-    TakesAll-list g.S.RowSink.takes c.args.sink.now c.if-up-gt0.sink (scrolled_up (whole_screen s) up).sunk
-    (resized s height c.args.size.cols.value).sunk
-    (lowers-sunk s up height c.args.size.cols.value lower count) taken
+          TakesAll-list g.S.RowSink.takes c.args.sink.now c.if-up-gt0.sink [] _
+          (sinks-none (whole_screen s) up (omega arith) valid.kept.fits ∙ sunk) (sym w.sink-is)
+    ]
 
 pub returns-in_err-set_width-clause-sink : goal.returns-in_err-set_width-clause-sink
 returns-in_err-set_width-clause-sink g c =
@@ -77,37 +72,31 @@ returns-in_err-set_width-clause-sink g c =
     let up = c.saturating_sub-up.result in
     let height = c.args.size.rows.value in
     let valid : IsGrid s = rw (← c.self.view_is) c.self.invariant in
-    let whole : c.show_whole_screen.new.self ≡ whole_screen s = c.show_whole_screen.ensures in
     let lower : height < s.height = grind (arith, common_steps) in
     let count : up ≡ up_rows s height = grind (arith, lower, common_steps) in
-    let taken : TakesAll g.S.RowSink.takes c.args.sink.now (scrolled_up (whole_screen s) up).sunk c.if-up-gt0.sink =
+    let sunk = lowers-sunk s up height c.args.size.cols.value lower count in
     elim c.if-up-gt0.branch [
       | then-up-gt0+in_ok-scroll_up w ↦
-          subst (λ t. TakesAll g.S.RowSink.takes c.args.sink.now (scrolled_up (whole_screen s) up).sunk t)
-          (sym w.sink-is)
-          (TakesAll-list g.S.RowSink.takes c.args.sink.now w.scroll_up.new.sink
-          (scrolled_up c.show_whole_screen.new.self up).sunk (scrolled_up (whole_screen s) up).sunk
-          (ap (λ (x : GridView). (scrolled_up x up).sunk) whole) w.scroll_up.ensures.sink)
+          TakesAll-list g.S.RowSink.takes c.args.sink.now c.if-up-gt0.sink
+          (scrolled_up c.show_whole_screen.new.self up).sunk _
+          (ap (λ (x : GridView). (scrolled_up x up).sunk) c.show_whole_screen.ensures ∙ sunk)
+          (subst (λ t. TakesAll g.S.RowSink.takes _ _ t) (sym w.sink-is) w.scroll_up.ensures.sink)
       | else-up-gt0 w ↦
           let none : 0 ≡ up = omega arith in
-          TakesAll-list g.S.RowSink.takes c.args.sink.now c.if-up-gt0.sink [] (scrolled_up (whole_screen s) up).sunk
-          (sinks-none (whole_screen s) up (omega arith) valid.kept.fits) (sym w.sink-is)
-    ] in
-    TakesAll-list g.S.RowSink.takes c.args.sink.now c.if-up-gt0.sink (scrolled_up (whole_screen s) up).sunk
-    (resized s height c.args.size.cols.value).sunk
-    (lowers-sunk s up height c.args.size.cols.value lower count) taken
+          TakesAll-list g.S.RowSink.takes c.args.sink.now c.if-up-gt0.sink [] _
+          (sinks-none (whole_screen s) up (omega arith) valid.kept.fits ∙ sunk) (sym w.sink-is)
+    ]
 
 pub returns-in_err-scroll_up-clause-sink : goal.returns-in_err-scroll_up-clause-sink
 returns-in_err-scroll_up-clause-sink g c =
     let s = c.args.self.now in
     let up = c.saturating_sub-up.result in
     let height = c.args.size.rows.value in
-    let whole : c.show_whole_screen.new.self ≡ whole_screen s = c.show_whole_screen.ensures in
     let lower : height < s.height = grind (arith, common_steps) in
     let count : up ≡ up_rows s height = grind (arith, lower, common_steps) in
     TakesAll-list g.S.RowSink.takes c.args.sink.now c.scroll_up.new.sink
-    (scrolled_up c.show_whole_screen.new.self up).sunk (resized s height c.args.size.cols.value).sunk
-    (ap (λ (x : GridView). (scrolled_up x up).sunk) whole
+    (scrolled_up c.show_whole_screen.new.self up).sunk _
+    (ap (λ (x : GridView). (scrolled_up x up).sunk) c.show_whole_screen.ensures
     ∙ lowers-sunk s up height c.args.size.cols.value lower count) c.scroll_up.ensures.sink
 
 pub returns-in_ok-set_width-clause-allocated : goal.returns-in_ok-set_width-clause-allocated

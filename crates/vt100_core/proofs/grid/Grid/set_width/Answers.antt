@@ -3,7 +3,6 @@ use Rattle.std.proofs.lemmas.Grind.{common_steps}
 use Rattle.vt100_rows.specs.Row.{RowView}
 use Rattle.vt100_rows.specs.Sheet.{IsSheet}
 use Rattle.vt100_core.specs.GridFields.{grid_of}
-use Rattle.vt100_core.specs.Resize.{with_width}
 use Rattle.vt100_rows.proofs.SheetLemmas.{refilled}
 use Rattle.vt100_core.proofs.GridLemmas.{IsGrid-at, IsGrid-rows}
 use Rattle.vt100_core.proofs.ResizeLemmas.{IsSheet-height_as, IsGrid-with_width}
@@ -31,16 +30,15 @@ invariant_of-self c =
     subst (λ w. IsSheet (length own.rows.items) w c.resize_rows.new.rows) c.cols.ensures
     (subst (λ (xs : List RowView). IsSheet (length xs) c.cols.result c.resize_rows.new.rows) same
     c.in_err-resize_rows.ensures.sheet) in
-    IsGrid-at _ (record (grid_of own) { rows = c.resize_rows.new.rows })
-    (ap (λ (xs : List RowView). record (grid_of own) { rows = xs }) back)
-    (IsGrid-rows (grid_of own) c.resize_rows.new.rows c.self.invariant count
+    IsGrid-at (IsGrid-rows (grid_of own) c.resize_rows.new.rows c.self.invariant count
     (IsSheet-height_as (length own.rows.items) own.size.rows.value own.size.cols.value c.resize_rows.new.rows
     (λ l. c.self.invariant.sheet.count (omega (arith, count))) sheet))
+    (ap (λ (xs : List RowView). record (grid_of own) { rows = xs }) back)
 
 pub invariant_of-self-2 : goal.invariant_of-self-2
 invariant_of-self-2 c =
     let s = c.args.self.now in
-    IsGrid-at _ (with_width s c.args.cols.value) (grind (arith, common_steps))
-    (IsGrid-with_width s c.args.cols.value (rw (← c.self.view_is) c.self.invariant)
+    IsGrid-at (IsGrid-with_width s c.args.cols.value (rw (← c.self.view_is) c.self.invariant)
     (omega (arith, c.get.ensures.nonzero, c.get.ensures.value)) (omega (arith, c.get.ensures.value))
     c.requires.hidden)
+    (grind (arith, common_steps))
