@@ -5,6 +5,7 @@
 //! - `calls`: `vte` makes the calls of a handler of it, which are counted.
 //! - `screen`: a terminal's screen reads it, from the blank screen on.
 //! - `view`: a far terminal reads it.
+//! - `hub`: a hub reads it, and makes and sends a client's frame behind each piece.
 //! - `redraw`: the screen that it leaves is written whole.
 //! - `difference`: what its last 2,000 bytes have changed is written.
 //! - `same`: the screen that it leaves is compared with an equal one, and the difference, which is nothing, is written.
@@ -13,7 +14,7 @@
 //! - `frame`: a row is written over, and the client's frame, a difference, is made and sent.
 //! - `client`: a new client is sent its first frame.
 //!
-//! The first four read the whole stream each time; the others read it once. `all` is one after another.
+//! The first five read the whole stream each time; the others read it once. `all` is one after another.
 #![tactic(auto)]
 
 mod counting;

@@ -1,6 +1,6 @@
 //! Work of a hub.
 
-use crate::work::{Job, Work, row_at};
+use crate::work::{Job, PIECE_LEN, Work, row_at};
 use std::alloc::Global;
 use termrelay::{Client, Hub};
 
@@ -9,6 +9,20 @@ impl<'a> Job<'a> {
     pub(crate) fn relayed(&self, work: Work) -> Option<usize> {
         let mut hub = Hub::new(self.alloc, self.rows, self.cols).ok()?;
         relay(self, &mut hub, work)
+    }
+
+    /// Has a hub read the stream, and sends its client a frame behind each piece.
+    pub(crate) fn hub(&self) -> Option<usize> {
+        let mut hub = Hub::new(self.alloc, self.rows, self.cols).ok()?;
+        let client = hub.attach().ok()?;
+        let mut count: usize = 0;
+        for _ in 0..self.times {
+            for piece in self.stream.chunks(PIECE_LEN) {
+                hub.feed(piece).ok()?;
+                count = count.wrapping_add(send(self.alloc, &mut hub, client)?);
+            }
+        }
+        Some(count)
     }
 }
 

@@ -10,6 +10,7 @@ pub(crate) enum Work {
     Calls,
     Screen,
     View,
+    Hub,
     Redraw,
     Difference,
     Same,
@@ -20,11 +21,12 @@ pub(crate) enum Work {
 }
 
 /// The kinds of work, by name.
-pub(crate) const WORKS: [(&str, Work); 11] = [
+pub(crate) const WORKS: [(&str, Work); 12] = [
     ("events", Work::Events),
     ("calls", Work::Calls),
     ("screen", Work::Screen),
     ("view", Work::View),
+    ("hub", Work::Hub),
     ("redraw", Work::Redraw),
     ("difference", Work::Difference),
     ("same", Work::Same),
@@ -66,6 +68,7 @@ impl<'a> Job<'a> {
             Work::Calls => self.calls(),
             Work::Screen => self.screen(),
             Work::View => self.view(),
+            Work::Hub => self.hub(),
             Work::Redraw | Work::Same | Work::Row => self.written(work),
             Work::Difference => self.difference(),
             Work::Unchanged | Work::Frame | Work::Client => self.relayed(work),
