@@ -13,7 +13,9 @@ pub mod LocalColumns
 pub mod LocalRow
 pub mod OpeningWrites
 pub mod RowEnd
+pub mod RowForms
 pub mod RowLeads
+pub mod RowReads
 pub mod RowRedraw
 pub mod RowStart
 pub mod RowWrites

@@ -1,7 +1,8 @@
 -- A row's difference touches local cells.
-use Rattle.std.proofs.Common.{◌≡◌, ℕ, zero, suc, ◌+◌, ◌-◌, ◌<◌, ◌≤◌, ◌==◌, Bool, true, false, not, ◌&&◌, ◌||◌}
+use Rattle.std.proofs.Common.{◌≡◌, ℕ, zero, suc, ◌+◌, ◌-◌, ◌<◌, ◌==◌, Bool, true, false, not, ◌&&◌, ◌||◌}
 use Rattle.std.proofs.Common.{Option, Some, None, refl, arith, sym, ap, ◌∙◌, inl, inr, subst}
-use Rattle.std.proofs.lemmas.Bool.{cases_lt, both_ways, cond_both, and_parts, not-true, false≢true}
+use Rattle.std.proofs.lemmas.Bool.Decides.{nat_tests}
+use Rattle.std.proofs.lemmas.Bool.{both_ways, cond_both, and_parts, not-true}
 use Rattle.vt100_cells.specs.Cell.{is_filled, bool_eq}
 use Rattle.vt100_cells.specs.CellEq.{cell_eq-of_same}
 use Rattle.terminal_model.specs.Term.{Shown}
@@ -15,7 +16,8 @@ use Rattle.row_drawing.specs.Scene.{Scene, IsScene, IsReady, scene_size}
 use Rattle.row_drawing.specs.Laws.{IsPictured, EachDifferenceIsLocal}
 use Rattle.row_drawing.proofs.LocalRow.{IsRoom, or-split}
 use Rattle.row_drawing.proofs.LocalColumns.{IsMarked, columns-marked}
-use Rattle.row_drawing.proofs.Local.{difference-within, opening-marked}
+use Rattle.row_drawing.proofs.Local.{opening-marked}
+use Rattle.row_drawing.proofs.RowStart.{difference-drawn}
 
 -- ---- why a row may lose its flag
 
@@ -128,14 +130,7 @@ near-first s old new p h owed =
 
 inside-row : (s : Scene) → IsScene s → (k : ℕ) → is_same s.job k ≡ false → k < s.job.cols
 inside-row s h k differs =
-    let j = s.job in
-    elim (cases_lt k j.cols) [
-      | inl inside ↦ inside
-      | inr outside ↦
-          (let past : j.cols ≤ k = omega (arith, outside) in
-          absurd (both_ways (is_same j k) differs (cell_eq-of_same (j.new k) (j.old k)
-          (h.new.beyond k past ∙ sym (h.old.beyond k past)))))
-    ]
+    grind (arith, nat_tests, cell_eq-of_same (s.job.new k) (s.job.old k), h.new.beyond k, h.old.beyond k)
 
 near-cause : (s : Scene) (old new : Shown) (p : Pen) → IsScene s → IsPictured s old new
     → IsCause (IsNear (scene_size s) old new s.job.row) s.job p
@@ -145,10 +140,7 @@ near-cause s old new p scene h = record {
 }
 
 flags-apart : (a b : Bool) → not (bool_eq a b) ≡ true → a ≡ b → ⊥
-flags-apart true true h e = false≢true h
-flags-apart true false h e = false≢true (sym e)
-flags-apart false true h e = false≢true e
-flags-apart false false h e = false≢true h
+flags-apart a b h e = grind (arith, nat_tests)
 
 near-last : (s : Scene) (old new : Shown) (p : Pen) → IsScene s → IsReady s p → IsPictured s old new
     → owes_end s.job (row_redraw s.job s.job.cols p).pen ≡ true → IsNear (scene_size s) old new s.job.row
@@ -166,6 +158,6 @@ difference-local s old new p scene ready h =
     let j = s.job in
     let z = scene_size s in
     let end : j.cols - 1 + 1 ≡ j.cols = omega (arith, scene.some_col) in
-    difference-within s (IsCloseCell z old new j.row) (IsLocal z old new) p scene ready (row-room s old new h)
+    (difference-drawn s scene (IsCloseCell z old new j.row) (IsLocal z old new) (row-room s old new h) p ready
     (λ owed. inr (near-first s old new p h owed, inr (inl refl)))
-    (λ needs. inr (near-last s old new p scene ready h needs, inr (inr end)))
+    (λ needs. inr (near-last s old new p scene ready h needs, inr (inr end)))).stays

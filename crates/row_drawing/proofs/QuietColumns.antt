@@ -1,7 +1,6 @@
 -- Columns for which nothing is written.
-use Rattle.std.proofs.Common.{◌≡◌, ℕ, zero, suc, ◌+◌, ◌-◌, ◌≤◌, ◌==◌, false, not, ◌&&◌, List}
-use Rattle.std.proofs.Common.{refl, sym, ap, ◌∙◌, arith, subst, inl, inr, Some, None}
-use Rattle.std.proofs.lemmas.Bool.{cases_Bool}
+use Rattle.std.proofs.Common.{◌≡◌, ℕ, zero, suc, ◌+◌, ◌-◌, ◌≤◌, false, not, List}
+use Rattle.std.proofs.Common.{refl, sym, ap, ◌∙◌, arith, subst, Some, None}
 use Rattle.vt100_cells.specs.Cell.{CellView, has_text, cell_eq, empty_cell}
 use Rattle.vt100_cells.specs.CellEq.{attrs_eq-refl, cell_eq-refl}
 use Rattle.vt100_cells.specs.Cells.{AreSame}
@@ -9,12 +8,11 @@ use Rattle.row_drawing.specs.declared.pen.Erase.{Erase}
 use Rattle.row_drawing.specs.declared.pen.Pen.{Pen}
 use Rattle.row_drawing.specs.Drawing.{AreQuiet}
 use Rattle.row_drawing.specs.Writer.{skip}
-use Rattle.row_drawing.specs.RowWriter.{Job, is_same, is_end, flush, mark, mark_of, draw, column, columns}
+use Rattle.row_drawing.specs.RowWriter.{Job, is_end, column, columns}
 use Rattle.row_drawing.specs.Writes.{Wrote}
-use Rattle.row_drawing.proofs.Columns.{draw-is_same}
+use Rattle.row_drawing.proofs.Columns.{draw-passes, flush-is_kept}
 use Rattle.row_drawing.proofs.ColumnsWrites.{wrote_columns_next}
-use Rattle.row_drawing.proofs.KeptRows.{column-settled, skips-then}
-use Rattle.row_drawing.proofs.RowWrites.{flush-is_kept, column-is_half, column-is_whole}
+use Rattle.row_drawing.proofs.KeptRows.{column-settled, column-skips}
 use Rattle.row_drawing.proofs.WritesLemmas.{wrote_as, wrote_skip}
 
 -- ---- what the terminal shows already
@@ -25,34 +23,13 @@ same_is_quiet j p a b closed same c h l =
 
 -- ---- what is erased with the columns before it
 
-mark-is_kept : (j : Job) (c : ℕ) (p : Pen) (e : Erase) → p.erase ≡ Some e → mark j c p ≡ skip p
-unfolding mark mark_of
-mark-is_kept j c p e h = ap (λ o. mark_of j c o p) h
-
-draw-is_other : (j : Job) (c : ℕ) (p : Pen) → is_same j c ≡ false → has_text (j.new c) ≡ false → draw j c p ≡ mark j c p
-unfolding draw
-draw-is_other j c p other blank = rw (other, blank) refl
-
-draw-is_kept : (j : Job) (c : ℕ) (p : Pen) (e : Erase) → p.erase ≡ Some e → has_text (j.new c) ≡ false
-    → draw j c p ≡ skip p
-draw-is_kept j c p e h blank =
-    elim (cases_Bool (is_same j c)) [
-      | inl same ↦ draw-is_same j c p same
-      | inr other ↦ draw-is_other j c p other blank ∙ mark-is_kept j c p e h
-    ]
-
 column-is_kept : (j : Job) (c : ℕ) (p : Pen) (e : Erase) → p.erase ≡ Some e → j.new c ≡ empty_cell e.attrs
     → column j c p ≡ skip p
 column-is_kept j c p e h is =
     let blank : has_text (j.new c) ≡ false = ap has_text is in
     let goes : is_end (j.new c) e.attrs ≡ false =
     ap (λ x. is_end x e.attrs) is ∙ ap not (attrs_eq-refl e.attrs) in
-    elim (cases_Bool ((j.new c).continuation && not (c == j.start))) [
-      | inl half ↦ column-is_half j c p half
-      | inr whole ↦
-          (column-is_whole j c p whole
-          ∙ skips-then (flush j c) (draw j c) p (flush-is_kept j c p e h goes) (draw-is_kept j c p e h blank))
-    ]
+    column-skips j c p (flush-is_kept j c p e _ h refl goes) (draw-passes j c p e h blank)
 
 pub erased_is_quiet : (j : Job) (p : Pen) (a b : ℕ) (e : Erase) (x : CellView) → p.erase ≡ Some e
     → x ≡ empty_cell e.attrs → AreSame j.new (λ _. x) a b → AreQuiet j p a b

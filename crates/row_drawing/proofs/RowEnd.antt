@@ -1,30 +1,30 @@
 -- The end of a row that is drawn: what is still to be erased, and the row's flag.
-use Rattle.std.proofs.Common.{◌≡◌, ℕ, ◌+◌, ◌-◌, ◌<◌, ◌≤◌, ◌==◌, Bool, true, false, cond, not, ◌&&◌, ◌||◌}
-use Rattle.std.proofs.Common.{nat_lt, nat_le, Option, Some, None, refl, arith, sym, ap}
-use Rattle.std.proofs.Common.{◌∙◌, inl, inr, subst}
-use Rattle.std.proofs.lemmas.Bool.{cases_Bool, cases_lt, both_ways, and_from, eq-eqb, ne_eqb, lt-ltb, le-leb}
-use Rattle.std.proofs.lemmas.Bool.{or_left, or_right, false≢true, cond_both}
+use Rattle.std.proofs.Common.{◌≡◌, ℕ, ◌+◌, ◌-◌, ◌<◌, ◌≤◌, ◌==◌, Bool, true, false, cond, not, ◌&&◌, ◌||◌, nat_lt}
+use Rattle.std.proofs.Common.{nat_le, Option, Some, None, refl, arith, sym, ap, ◌∙◌, inl, inr, subst}
+use Rattle.std.proofs.lemmas.Bool.Decides.{nat_tests}
+use Rattle.std.proofs.lemmas.Bool.{cases_Bool, cases_lt, both_ways, and_from, eqb-true, eq-eqb, lt-ltb, le-leb, or_left, or_right}
 use Rattle.vt100_forms.specs.declared.attrs.Attrs.{Attrs}
 use Rattle.vt100_forms.specs.Attrs.{IsProper}
-use Rattle.vt100_cells.specs.Cell.{CellView, empty_cell, has_text, is_filled, bool_eq}
+use Rattle.vt100_cells.specs.Cell.{CellView, has_text, is_filled, bool_eq}
 use Rattle.vt100_cells.specs.Line.{span_of, put, put_unflags, wiped, wipe_unflags}
-use Rattle.vt100_cells.proofs.LineLemmas.{wide_within}
+use Rattle.vt100_cells.proofs.JoinedCells.{whole_if_wide}
 use Rattle.terminal_model.specs.Position.{update}
 use Rattle.terminal_model.specs.Term.{Term}
-use Rattle.terminal_model.specs.Apply.{run}
+use Rattle.terminal_model.specs.Touch.{put_touches, wipe_touches}
 use Rattle.terminal_model.proofs.Positions.{update-same, update-twice, update-other, update-kept}
 use Rattle.row_drawing.specs.declared.pen.Erase.{Erase}
 use Rattle.row_drawing.specs.declared.pen.Pen.{Pen}
-use Rattle.row_drawing.specs.Writer.{Writer, ◌>>◌, skip, goto, color, print, erasing, clearing}
-use Rattle.row_drawing.specs.RowWriter.{Job, to_erase, finish_of, finish, last_col_of, last_cell_of, unflag, print_last}
-use Rattle.row_drawing.specs.RowWriter.{mend}
-use Rattle.row_drawing.specs.RowWriter.{closing}
-use Rattle.row_drawing.specs.Scene.{Scene, IsScene, IsDrawn, scene_size, with_row, flags_above}
-use Rattle.row_drawing.proofs.Lines.{Line, one_half, line-whole, line-reprinted, line-restored, line-erased_same}
-use Rattle.row_drawing.proofs.Steps.{Takes, takes-then, takes-as, takes-to, takes-skip, pen, takes-goto}
-use Rattle.row_drawing.proofs.Steps.{takes-color, Flags, kept_or_off, takes-print, takes-erasing}
-use Rattle.row_drawing.proofs.RowLeads.{past, edge, Opens, Standing, At}
-use Rattle.row_drawing.proofs.Columns.{empty-is, sends, clears, span-wide, span-narrow}
+use Rattle.row_drawing.specs.Writer.{◌>>◌, skip, goto, color, print, erasing}
+use Rattle.row_drawing.specs.RowWriter.{Job, finish, last_col_of, last_cell_of, unflag, print_last}
+use Rattle.row_drawing.specs.RowWriter.{mend, owes_end, closing}
+use Rattle.row_drawing.specs.Scene.{Scene, IsScene, IsDrawn, with_row, flags_above}
+use Rattle.row_drawing.proofs.Lines.{Line, line-whole, line-reprinted, line-restored, line-erased_same}
+use Rattle.row_drawing.proofs.Steps.{pen, Flags, kept_or_off}
+use Rattle.row_drawing.proofs.LocalRow.{IsRoom, or-four, or-split}
+use Rattle.row_drawing.proofs.RowReads.{Reads, reads-then, reads-as, reads-to, reads-skip, reads-goto, reads-color}
+use Rattle.row_drawing.proofs.RowReads.{reads-print, reads-erasing, Ends, ends, ends-as, ends-then}
+use Rattle.row_drawing.proofs.RowLeads.{flags-on, past, edge, Opens, Standing, At}
+use Rattle.row_drawing.proofs.Columns.{finish-is_none, finish-is_some, empty-is, sends, clears, span-wide, span-narrow}
 
 -- ---- all columns are drawn
 
@@ -35,67 +35,42 @@ pub record IsFilled (s : Scene) (p : Pen) (t : Term) : Type 0 where
   pub closed : p.erase ≡ None
   pub proper : IsProper p.attrs
 
-pub filled-takes : (s : Scene) (f : Writer) (p : Pen) (t : Term) (q : Pen) (u : Term) → Takes (scene_size s) f p t q u
-    → IsFilled s q u → IsFilled s (f p).pen (run (scene_size s) (f p).forms t)
-filled-takes s f p t q u k h =
-    let first : IsFilled s (f p).pen u = subst (λ (x : Pen). IsFilled s x u) (sym k.pen_is) h in
-    subst (λ (x : Term). IsFilled s (f p).pen x) (sym k.term_is) first
+module _ (s : Scene) (h : IsScene s) (C : ℕ → Type 0) (S : ℕ → ℕ → Type 0) (o : IsRoom s C S) where
+  finish-at : (F : ℕ → Bool) (f : ℕ → CellView) (r k : ℕ) (a : Attrs) (e : Option Erase) (lost : Bool) → IsProper a
+      → Line s.job.old s.job.new (edge e s.job.cols) f → Opens s.job s.job.cols e
+      → Standing s F (pen r k a e lost) (edge e s.job.cols)
+      → Ends S s (IsFilled s) (finish s.job) (pen r k a e lost) (with_row s f F r k a)
+  finish-at F f r k a None lost ha l opens standing =
+      let j = s.job in
+      ends (reads-as (finish-is_none j _ refl) reads-skip) (record {
+        flags = F;
+        kept = (elim standing [ inl kept ↦ kept | inr due ↦ absurd (omega (arith, due.none, h.some_col)) ]);
+        stands = ap (λ g. with_row s g F r k a) (line-whole j.old j.new j.cols f l h.old.beyond h.new.beyond);
+        closed = refl;
+        proper = ha;
+      })
+  finish-at F f r k a (Some e) lost ha l opens standing =
+      let j = s.job in
+      let done = clears s h C S o F f r k a e lost ha l opens standing in
+      ends (reads-as (finish-is_some j _ e refl) done.reads) (record {
+        flags = done.flags;
+        kept = done.kept;
+        stands = ap (λ g. with_row s g done.flags j.row e.from e.attrs)
+            (line-whole j.old j.new j.cols done.line done.lines h.old.beyond h.new.beyond);
+        closed = refl;
+        proper = opens.1;
+      })
 
-pub finish-none : (j : Job) (r k : ℕ) (a : Attrs) (b : Bool) → finish j (pen r k a None b) ≡ skip (pen r k a None b)
-unfolding finish finish_of
-finish-none j r k a b = refl
-
-pub finish-some : (j : Job) (r k : ℕ) (a : Attrs) (e : Erase) (b : Bool)
-    → finish j (pen r k a (Some e) b) ≡ (to_erase j e >> clearing) (pen r k a (Some e) b)
-unfolding finish finish_of
-finish-some j r k a e b = refl
-
-finish-at : (s : Scene) (F : ℕ → Bool) (f : ℕ → CellView) (r k : ℕ) (a : Attrs) (e : Option Erase) (lost : Bool)
-    → IsScene s → IsProper a → Line s.job.old s.job.new (edge e s.job.cols) f → Opens s.job s.job.cols e
-    → Standing s F (pen r k a e lost) (edge e s.job.cols)
-    → IsFilled s (finish s.job (pen r k a e lost)).pen
-    (run (scene_size s) (finish s.job (pen r k a e lost)).forms (with_row s f F r k a))
-finish-at s F f r k a None lost h ha l opens standing =
-    let j = s.job in
-    let p = pen r k a None lost in
-    let t = with_row s f F r k a in
-    let whole = line-whole j.old j.new j.cols f l h.old.beyond h.new.beyond in
-    filled-takes s (finish j) p t p t
-    (takes-as (scene_size s) skip (finish j) p t p t (finish-none j r k a lost) (takes-skip (scene_size s) p t))
-    (record {
-      flags = F;
-      kept = (elim standing [ inl kept ↦ kept | inr due ↦ absurd (omega (arith, due.none, h.some_col)) ]);
-      stands = ap (λ g. with_row s g F r k a) whole;
-      closed = refl;
-      proper = ha;
-    })
-finish-at s F f r k a (Some e) lost h ha l opens standing =
-    let j = s.job in
-    let p = pen r k a (Some e) lost in
-    let t = with_row s f F r k a in
-    let done = clears s F f r k a e lost h ha l opens standing in
-    let whole = line-whole j.old j.new j.cols done.line done.lines h.old.beyond h.new.beyond in
-    filled-takes s (finish j) p t _ _
-    (takes-as (scene_size s) _ (finish j) p t _ _ (finish-some j r k a e lost) done.takes)
-    (record {
-      flags = done.flags;
-      kept = done.kept;
-      stands = ap (λ g. with_row s g done.flags j.row e.from e.attrs) whole;
-      closed = refl;
-      proper = opens.1;
-    })
-
-pub finish-leads : (s : Scene) (p : Pen) (t : Term) → IsScene s → At s s.job.cols p t
-    → IsFilled s (finish s.job p).pen (run (scene_size s) (finish s.job p).forms t)
-finish-leads s p t h now =
-    let j = s.job in
-    let le : j.cols ≤ j.cols = omega arith in
-    let whole : past j j.cols ≡ j.cols = ap (λ (x : CellView). cond x.continuation (j.cols + 1) j.cols)
-    (h.new.beyond j.cols le) in
-    let l = subst (λ m. Line j.old j.new (edge p.erase m) now.line) whole now.lines in
-    let st = subst (λ m. Standing s now.flags p (edge p.erase m)) whole now.standing in
-    subst (λ (x : Term). IsFilled s (finish j p).pen (run (scene_size s) (finish j p).forms x)) (sym now.stands)
-    (finish-at s now.flags now.line p.pos.row p.pos.col p.attrs p.erase p.lost h now.proper l now.opens st)
+  pub finish-leads : (p : Pen) (t : Term) → At s s.job.cols p t → Ends S s (IsFilled s) (finish s.job) p t
+  finish-leads p t now =
+      let j = s.job in
+      let le : j.cols ≤ j.cols = omega arith in
+      let whole : past j j.cols ≡ j.cols = ap (λ (x : CellView). cond x.continuation (j.cols + 1) j.cols)
+      (h.new.beyond j.cols le) in
+      let l = subst (λ m. Line j.old j.new (edge p.erase m) now.line) whole now.lines in
+      let st = subst (λ m. Standing s now.flags p (edge p.erase m)) whole now.standing in
+      subst (λ (x : Term). Ends S s (IsFilled s) (finish j) p x) (sym now.stands)
+      (finish-at now.flags now.line p.pos.row p.pos.col p.attrs p.erase p.lost now.proper l now.opens st)
 
 -- ---- the last cell
 
@@ -103,64 +78,49 @@ pub record IsLast (j : Job) : Type 0 where
   pub up_to : last_col_of j + span_of (last_cell_of j) ≡ j.cols
   pub whole : (last_cell_of j).continuation ≡ false
 
+-- where the last column has a second half
+wide-before : (s : Scene) → IsScene s → (s.job.new (s.job.cols - 1)).continuation ≡ true
+    → (1 < s.job.cols) × ((s.job.new (s.job.cols - 2)).wide ≡ true)
+wide-before s h half =
+    let j = s.job in
+    elim (cases_lt 1 j.cols) [
+      | inl more ↦ (
+        more,
+        sym (h.new.paired.next (j.cols - 2)) ∙ ap (λ i. (j.new i).continuation) (omega (arith, more))
+            ∙ half,
+      )
+      | inr one ↦ absurd (both_ways (j.new 0).continuation h.new.paired.first
+          (ap (λ i. (j.new i).continuation) (omega (arith, h.some_col)) ∙ half))
+    ]
+
 pub last-is : (s : Scene) → IsScene s → IsLast s.job
 last-is s h =
     let j = s.job in
-    elim (cases_Bool (j.new (j.cols - 1)).continuation) [
-      | inr single ↦
-          (let here : last_col_of j ≡ j.cols - 1 = rw single refl in
-          let narrow : (j.new (j.cols - 1)).wide ≡ false = (elim (cases_Bool (j.new (j.cols - 1)).wide) [
-            | inr narrow ↦ narrow
-            | inl wide ↦ (let within = wide_within j.cols j.new (j.cols - 1) h.new.beyond h.new.paired wide in
-                absurd (omega (arith, within, h.some_col)))
-          ]) in
-          let span : span_of (last_cell_of j) ≡ 1 = ap (λ i. span_of (j.new i)) here
-          ∙ span-narrow (j.new (j.cols - 1)) narrow in
-          record {
-            up_to = ap (λ n. last_col_of j + n) span ∙ ap (λ n. n + 1) here ∙ omega (arith, h.some_col);
-            whole = ap (λ i. (j.new i).continuation) here ∙ single;
-          })
+    let n = j.cols in
+    let end : n - 1 + 1 ≡ n = omega (arith, h.some_col) in
+    let narrow : (j.new (n - 1)).wide ≡ false = sym (h.new.paired.next (n - 1)) ∙ ap (λ i. (j.new i).continuation) end
+    ∙ ap (λ (x : CellView). x.continuation) (h.new.beyond n (omega arith)) in
+    elim (cases_Bool (j.new (n - 1)).continuation) [
+      | inr single ↦ record { up_to = grind (arith, nat_tests, narrow, end); whole = grind (arith, nat_tests) }
       | inl half ↦
-          (let here : last_col_of j ≡ j.cols - 2 = rw half refl in
-          let two : 1 < j.cols = (elim (cases_lt 1 j.cols) [
-            | inl more ↦ more
-            | inr one ↦ absurd (both_ways (j.new 0).continuation h.new.paired.first
-                (ap (λ i. (j.new i).continuation) (omega (arith, h.some_col)) ∙ half))
-          ]) in
-          let next : j.cols - 2 + 1 ≡ j.cols - 1 = omega (arith, two) in
-          let wide : (j.new (j.cols - 2)).wide ≡ true = sym (h.new.paired.next (j.cols - 2))
-          ∙ ap (λ i. (j.new i).continuation) next ∙ half in
-          let span : span_of (last_cell_of j) ≡ 2 = ap (λ i. span_of (j.new i)) here
-          ∙ span-wide (j.new (j.cols - 2)) wide in
-          record {
-            up_to = ap (λ n. last_col_of j + n) span ∙ ap (λ n. n + 2) here ∙ omega (arith, two);
-            whole = ap (λ i. (j.new i).continuation) here ∙ one_half j.new (j.cols - 2) h.new.paired wide;
-          })
+          (let wide = wide-before s h half in
+          let whole = whole_if_wide j.new (n - 2) h.new.paired wide.1 in
+          record { up_to = grind (arith, nat_tests, wide.0, wide.1); whole = grind (arith, nat_tests, whole) })
     ]
 
 wide-text : (s : Scene) → IsScene s → (k : ℕ) → (s.job.new k).wide ≡ true → has_text (s.job.new k) ≡ true
 wide-text s h k wide =
-    elim (cases_Bool (has_text (s.job.new k))) [
-      | inl some ↦ some
-      | inr none ↦ absurd (both_ways (s.job.new k).wide (ap (λ (x : CellView). x.wide) (empty-is (s.job.new k)
-          (h.cells k)
-          none (one_half s.job.new k h.new.paired wide))) wide)
-    ]
+    let single = whole_if_wide s.job.new k h.new.paired wide in
+    grind (arith, nat_tests, empty-is (s.job.new k) (h.cells k), single)
 
 or_off : (a b : Bool) → b ≡ false → (a || b) ≡ a
-or_off true b e = refl
-or_off false b e = e
+or_off a b e = grind (arith, nat_tests)
 
 pub span-few : (x : CellView) → (1 ≤ span_of x) × (span_of x ≤ 2)
-span-few x = (
-  cond_both x.wide 2 1 (λ n. 1 ≤ n) (λ _. omega arith) (λ _. omega arith),
-  cond_both x.wide 2 1 (λ n. n ≤ 2) (λ _. omega arith) (λ _. omega arith),
-)
+span-few x = (grind (arith, nat_tests), grind (arith, nat_tests))
 
-and_last : (a b c : Bool) → c ≡ false → (a && (b && c)) ≡ false
-and_last true true c e = e
-and_last true false c e = refl
-and_last false b c e = refl
+third_off : (n c : ℕ) (x : CellView) (g : ℕ → CellView) → c + span_of x ≡ n → put_unflags n g c x ≡ false
+third_off n c x g e = grind (arith, nat_tests)
 
 pub print-last_is : (x : CellView) (p : Pen) → has_text x ≡ true → print_last x p ≡ (color x.attrs >> print x false) p
 unfolding print_last
@@ -192,112 +152,36 @@ pub last-text : (s : Scene) → IsScene s → is_filled (s.job.new (s.job.cols -
 last-text s h full =
     let j = s.job in
     elim (cases_Bool (j.new (j.cols - 1)).continuation) [
-      | inr single ↦
-          (let here : last_col_of j ≡ j.cols - 1 = rw single refl in
-          ap (λ i. has_text (j.new i)) here ∙ sym (or_off (has_text (j.new (j.cols - 1))) _ single) ∙ full)
-      | inl half ↦
-          (let here : last_col_of j ≡ j.cols - 2 = rw half refl in
-          let some : 0 < j.cols - 1 = (elim (cases_lt 0 (j.cols - 1)) [
-            | inl more ↦ more
-            | inr none ↦ absurd (both_ways (j.new 0).continuation h.new.paired.first
-                (ap (λ i. (j.new i).continuation) (omega (arith, none)) ∙ half))
-          ]) in
-          let next : j.cols - 2 + 1 ≡ j.cols - 1 = omega (arith, some) in
-          let wide : (j.new (j.cols - 2)).wide ≡ true = sym (h.new.paired.next (j.cols - 2))
-          ∙ ap (λ i. (j.new i).continuation) next ∙ half in
-          ap (λ i. has_text (j.new i)) here ∙ wide-text s h (j.cols - 2) wide)
+      | inr single ↦ grind (arith, nat_tests)
+      | inl half ↦ (let some = wide-text s h (j.cols - 2) (wide-before s h half).1 in grind (arith, nat_tests, some))
     ]
 
 no_third : (s : Scene) → IsScene s → (g : ℕ → CellView)
     → put_unflags s.job.cols g (last_col_of s.job) (last_cell_of s.job) ≡ false
-no_third s h g =
-    let j = s.job in
-    let last = last-is s h in
-    let far : ((last_col_of j + 3) == j.cols) ≡ false = ne_eqb (last_col_of j + 3) j.cols (λ e.
-    let some = span-few (last_cell_of j) in absurd (omega (arith, e, last.up_to, some))) in
-    and_last (last_cell_of j).wide (g (last_col_of j + 1)).wide ((last_col_of j + 3) == j.cols) far
-
--- the last cell is printed over a row that differs there alone
-last-printed : (s : Scene) (F : ℕ → Bool) (g : ℕ → CellView) (a : Attrs) (lost : Bool) → IsScene s → IsProper a
-    → has_text (last_cell_of s.job) ≡ true → put g (last_col_of s.job) (last_cell_of s.job) (last_cell_of s.job).attrs ≡ s.job.new
-    → Takes (scene_size s) (print_last (last_cell_of s.job)) (pen s.job.row (last_col_of s.job) a None lost)
-    (with_row s g F s.job.row (last_col_of s.job) a)
-    (pen s.job.row s.job.cols (last_cell_of s.job).attrs None (lost || false))
-    (with_row s s.job.new F s.job.row s.job.cols (last_cell_of s.job).attrs)
-last-printed s F g a lost h ha some line =
-    let j = s.job in
-    let c = last_col_of j in
-    let x = last_cell_of j in
-    let z = scene_size s in
-    let last = last-is s h in
-    let keeps : kept_or_off (put_unflags j.cols g c x) F j.row ≡ F = ap (λ b. kept_or_off b F j.row) (no_third s h g) in
-    takes-as z (color x.attrs >> print x false) (print_last x) _ _ _ _ (print-last_is x _ some)
-    (takes-then z _ _ _ _ _ _ _ _
-    (takes-color z s.term (update s.cells j.row g) F j.row c a j.row c None lost x.attrs ha (h.proper c))
-    (takes-to z (print x false) _ _ _ _ _ _ (ap (λ n. pen j.row n x.attrs None (lost || false)) last.up_to)
-    (ap (λ G. with_row s (put g c x x.attrs) G j.row (c + span_of x) x.attrs) keeps
-    ∙ ap (λ f. with_row s f F j.row (c + span_of x) x.attrs) line
-    ∙ ap (λ n. with_row s j.new F j.row n x.attrs) last.up_to)
-    (takes-print z s.term s.cells F j.row c g x None lost false (sends s h c some) (omega (arith, last.up_to)))))
-
--- it is erased, and the flag is off
-last-erased : (s : Scene) (F : ℕ → Bool) (a : Attrs) (lost : Bool) → IsScene s
-    → Takes (scene_size s) (erasing 1 true) (pen s.job.row (last_col_of s.job) a None lost)
-    (with_row s s.job.new F s.job.row (last_col_of s.job) a) (pen s.job.row (last_col_of s.job) a None (lost || true))
-    (with_row s (wiped s.job.new (last_col_of s.job) (last_col_of s.job + 1) a) (update F s.job.row false) s.job.row
-    (last_col_of s.job) a)
-last-erased s F a lost h =
-    let j = s.job in
-    let c = last_col_of j in
-    let x = last_cell_of j in
-    let z = scene_size s in
-    let last = last-is s h in
-    let some = span-few x in
-    let test : wipe_unflags j.cols j.new c (c + 1) ≡ true = and_from (nat_lt c (c + 1)) _
-    (lt-ltb c (c + 1) (omega arith))
-    (elim (cases_Bool x.wide) [
-      | inr narrow ↦ or_left (nat_le j.cols (c + 1)) _ (le-leb j.cols (c + 1)
-          (let one = span-narrow x narrow in omega (arith, last.up_to, one)))
-      | inl wide ↦ or_right (nat_le j.cols (c + 1)) _ (and_from ((c + 1 + 1) == j.cols) _ (eq-eqb (c + 1 + 1) j.cols
-          (let two = span-wide x wide in omega (arith, last.up_to, two))) (h.new.paired.next c ∙ wide))
-    ]) in
-    takes-to z (erasing 1 true) _ _ _ _ _ _ refl
-    (ap (λ b. with_row s (wiped j.new c (c + 1) a) (kept_or_off b F j.row) j.row c a) test)
-    (takes-erasing z s.term s.cells F j.row c 1 j.new a None lost true (omega (arith, last.up_to, some)))
+no_third s h g = third_off s.job.cols (last_col_of s.job) (last_cell_of s.job) g (last-is s h).up_to
 
 -- ---- the flag
 
 own-flag : (s : Scene) → IsScene s → flags_above s s.job.row ≡ s.job.was_wrapped
 own-flag s h =
     elim (cases_Bool s.job.above) [
-      | inl above ↦ ap (λ b. cond b (update s.flags (s.job.row - 1) true) s.flags s.job.row) above
-          ∙ update-other s.flags (s.job.row - 1) s.job.row true
+      | inl above ↦ ap (λ G. G s.job.row) (flags-on s above) ∙ update-other s.flags (s.job.row - 1) s.job.row true
           (λ e. let some = h.below_first above in absurd (omega (arith, e, some))) ∙ h.flag
       | inr none ↦ ap (λ b. cond b (update s.flags (s.job.row - 1) true) s.flags s.job.row) none ∙ h.flag
     ]
 
 no-need : (a b lost : Bool) → (not (bool_eq a b) || (a && lost)) ≡ false → (a ≡ b) × ((lost ≡ true) → a ≡ false)
-no-need true true true h = absurd (false≢true (sym h))
-no-need true true false h = (refl, λ g. absurd (false≢true g))
-no-need true false lost h = absurd (false≢true (sym h))
-no-need false true lost h = absurd (false≢true (sym h))
-no-need false false lost h = (refl, λ g. refl)
+no-need a b lost h = (grind (arith, nat_tests), λ g. grind (arith, nat_tests))
 
 -- a row that goes on and kept its flag needs nothing
 no-need_kept : (a b lost : Bool) → a ≡ true → (b && not lost) ≡ true
     → (not (bool_eq a b) || (a && lost)) ≡ false
-no-need_kept true true false h g = refl
-no-need_kept true true true h g = absurd (false≢true g)
-no-need_kept true false lost h g = absurd (false≢true g)
-no-need_kept false b lost h g = absurd (false≢true h)
+no-need_kept a b lost h g = grind (arith, nat_tests)
 
 -- one that goes on and needs nothing kept its flag
 kept-no_need : (a b lost : Bool) → a ≡ true → (not (bool_eq a b) || (a && lost)) ≡ false
     → (b && not lost) ≡ true
-kept-no_need true true false h g = refl
-kept-no_need true true true h g = absurd (false≢true (sym g))
-kept-no_need true false lost h g = absurd (false≢true (sym g))
-kept-no_need false b lost h g = absurd (false≢true h)
+kept-no_need a b lost h g = grind (arith, nat_tests)
 
 pub flags-off : (F V : ℕ → Bool) (i : ℕ) (lost b : Bool) → Flags F V i lost → update F i b ≡ update V i b
 flags-off F V i lost b (inl e) = ap (λ G. update G i b) e
@@ -320,52 +204,171 @@ pub closing-some : (j : Job) (p : Pen) → (not (bool_eq j.wrapped j.was_wrapped
 unfolding closing
 closing-some j p h = rw h refl
 
-pub drawn-takes : (s : Scene) (f : Writer) (p : Pen) (t : Term) (q : Pen) (u : Term) → Takes (scene_size s) f p t q u
-    → IsDrawn s q u → IsDrawn s (f p).pen (run (scene_size s) (f p).forms t)
-drawn-takes s f p t q u k h =
-    let first : IsDrawn s (f p).pen u = subst (λ (x : Pen). IsDrawn s x u) (sym k.pen_is) h in
-    subst (λ (x : Term). IsDrawn s (f p).pen x) (sym k.term_is) first
+-- ---- the last cell may be touched
 
-closing-at : (s : Scene) (F : ℕ → Bool) (r k : ℕ) (a : Attrs) (lost : Bool) → IsScene s → IsProper a
-    → Flags F (flags_above s) s.job.row lost
-    → IsDrawn s (closing s.job (pen r k a None lost)).pen
-    (run (scene_size s) (closing s.job (pen r k a None lost)).forms (with_row s s.job.new F r k a))
-closing-at s F r k a lost h ha kept =
+-- its columns may be touched
+record IsEndRoom (s : Scene) (S : ℕ → ℕ → Type 0) : Type 0 where
+  here : S s.job.row (last_col_of s.job)
+  next : (last_cell_of s.job).wide ≡ true → S s.job.row (last_col_of s.job + 1)
+
+end-room : (s : Scene) (C : ℕ → Type 0) (S : ℕ → ℕ → Type 0) → IsScene s → IsRoom s C S → C (s.job.cols - 1)
+    → IsEndRoom s S
+end-room s C S h o last =
     let j = s.job in
-    let z = scene_size s in
-    let x = last_cell_of j in
     let c = last_col_of j in
-    let p = pen r k a None lost in
-    let t = with_row s j.new F r k a in
-    let last = last-is s h in
-    let some = span-few x in
-    let inside : c < j.cols = omega (arith, last.up_to, some) in
-    let goes = takes-goto z s.term (update s.cells j.row j.new) F r k a None lost j.row c h.row_in inside in
-    elim (cases_Bool (not (bool_eq j.wrapped j.was_wrapped) || (j.wrapped && lost))) [
-      | inr fine ↦
-          (let none = no-need j.wrapped j.was_wrapped lost fine in
-          let on = flags-kept s F lost h none.0 none.1 kept in
-          drawn-takes s (closing j) p t p t
-          (takes-as z skip (closing j) p t p t (closing-none j p fine) (takes-skip z p t))
-          (record {
-            flags = F;
-            stands = refl;
-            proper = ha;
-            closed = refl;
-            flagged = inl on;
-            keeps = λ wraps _. ap (λ G. G j.row) on ∙ update-same (flags_above s) j.row j.wrapped ∙ wraps;
-            waits = λ wraps g. absurd (both_ways (j.was_wrapped && not lost) g
-                (kept-no_need j.wrapped j.was_wrapped lost wraps fine));
-          }))
-      | inl needs ↦ elim (cases_Bool j.wrapped) [
-        | inl wraps ↦
-            (let full = last-text s h (h.new.filled wraps) in
-            drawn-takes s (closing j) p t _ _
-            (takes-as z _ (closing j) p t _ _ (closing-some j p needs)
-            (takes-then z _ _ _ _ _ _ _ _ goes
-            (takes-as z (print_last x) (mend j x) _ _ _ _ (mend-wraps j x _ wraps)
-            (last-printed s F j.new a lost h ha full (line-reprinted j.new c x.attrs h.new.paired last.whole)))))
-            (record {
+    let l = last-is s h in
+    let end : j.cols - 1 < j.cols = omega (arith, h.some_col) in
+    elim (cases_Bool (last_cell_of j).wide) [
+      | inr narrow ↦
+          (let one = span-narrow (last_cell_of j) narrow in
+          let is : j.cols - 1 ≡ c = omega (arith, one, l.up_to) in
+          record {
+            here = subst (S j.row) is (o.close (j.cols - 1) end last);
+            next = λ wide. absurd (both_ways (last_cell_of j).wide narrow wide);
+          })
+      | inl wide ↦
+          (let two = span-wide (last_cell_of j) wide in
+          let is : j.cols - 1 ≡ c + 1 = omega (arith, two, l.up_to) in
+          let half : (j.new (c + 1)).continuation ≡ true = h.new.paired.next c ∙ wide in
+          record {
+            here = o.first c (omega (arith, two, l.up_to)) (subst C is last)
+                (or_right (j.old (c + 1)).continuation _ half);
+            next = λ _. subst (S j.row) is (o.close (j.cols - 1) end last);
+          })
+    ]
+
+-- the line shows nothing wide directly left of the last cell, and there at most what is wide itself
+record IsOverEnd (s : Scene) (g : ℕ → CellView) : Type 0 where
+  left : (k : ℕ) → k + 1 ≡ last_col_of s.job → (g k).wide ≡ false
+  there : (g (last_col_of s.job)).wide ≡ true → (last_cell_of s.job).wide ≡ true
+
+new-over : (s : Scene) → IsScene s → IsOverEnd s s.job.new
+new-over s h =
+    let j = s.job in
+    record {
+      left = λ k e. sym (h.new.paired.next k) ∙ ap (λ i. (j.new i).continuation) e ∙ (last-is s h).whole;
+      there = λ q. q;
+    }
+
+wiped-narrow : (f : ℕ → CellView) (c : ℕ) (a : Attrs) (k : ℕ) → k + 1 ≡ c → (f k).wide ≡ false
+    → (wiped f c (c + 1) a k).wide ≡ false
+wiped-narrow f c a k e h = grind (arith, nat_tests)
+
+wiped-none : (f : ℕ → CellView) (c : ℕ) (a : Attrs) → (wiped f c (c + 1) a c).wide ≡ false
+wiped-none f c a = grind (arith, nat_tests)
+
+wiped-over : (s : Scene) (a : Attrs) → IsScene s
+    → IsOverEnd s (wiped s.job.new (last_col_of s.job) (last_col_of s.job + 1) a)
+wiped-over s a h =
+    let j = s.job in
+    let c = last_col_of j in
+    record {
+      left = λ k e. wiped-narrow j.new c a k e ((new-over s h).left k e);
+      there = λ q. absurd (both_ways _ (wiped-none j.new c a) q);
+    }
+
+print-end : (s : Scene) (S : ℕ → ℕ → Type 0) → IsScene s → IsEndRoom s S → (g : ℕ → CellView) → IsOverEnd s g → (k : ℕ)
+    → k < s.job.cols → put_touches g (last_col_of s.job) (last_cell_of s.job) k ≡ true → S s.job.row k
+print-end s S h room g over k low touched =
+    let j = s.job in
+    let c = last_col_of j in
+    let x = last_cell_of j in
+    let l = last-is s h in
+    elim (or-four (k == c) ((k == (c + 1)) && (x.wide || (g c).wide)) (((k + 1) == c) && (g k).wide)
+    ((k == (c + 2)) && (x.wide && (g (c + 1)).wide)) touched) [
+      | inl at_c ↦ subst (S j.row) (sym (eqb-true k c at_c)) room.here
+      | inr (inl next) ↦ grind (arith, nat_tests, room.next, over.there)
+      | inr (inr (inl left)) ↦ grind (arith, nat_tests, over.left k)
+      | inr (inr (inr third)) ↦
+          (let two = span-wide x in
+          grind (arith, nat_tests, l.up_to, two))
+    ]
+
+wipe-end : (s : Scene) (S : ℕ → ℕ → Type 0) → IsScene s → IsEndRoom s S → (k : ℕ) → k < s.job.cols
+    → wipe_touches s.job.new (last_col_of s.job) (last_col_of s.job + 1) k ≡ true → S s.job.row k
+wipe-end s S h room k low touched =
+    let j = s.job in
+    let c = last_col_of j in
+    elim (or-split (nat_le c k && nat_lt k (c + 1)) _ touched) [
+      | inl between ↦ (let is : k ≡ c = grind (arith, nat_tests) in subst (S j.row) (sym is) room.here)
+      | inr edges ↦ grind (arith, nat_tests, (new-over s h).left k, h.new.paired.next c, room.next)
+    ]
+
+-- ---- it is drawn once more
+
+-- a row that ends here is drawn
+drawn-ended : {r k : ℕ} {a : Attrs} {lost : Bool} {t : Term} (s : Scene) (F : ℕ → Bool) → IsProper a
+    → F ≡ update (flags_above s) s.job.row s.job.wrapped → s.job.wrapped ≡ false
+    → t ≡ with_row s s.job.new F r k a → IsDrawn s (pen r k a None lost) t
+drawn-ended s F ha on off is = record {
+  flags = F;
+  stands = is;
+  proper = ha;
+  closed = refl;
+  flagged = inl on;
+  keeps = λ wraps _. absurd (both_ways s.job.wrapped off wraps);
+  waits = λ wraps _. absurd (both_ways s.job.wrapped off wraps);
+}
+
+module _ (s : Scene) (h : IsScene s) (S : ℕ → ℕ → Type 0) (room : IsEndRoom s S) where
+  -- the last cell is printed over a row that differs there alone
+  last-printed : (F : ℕ → Bool) (g : ℕ → CellView) (a : Attrs) (lost : Bool) → IsProper a → IsOverEnd s g
+      → has_text (last_cell_of s.job) ≡ true → put g (last_col_of s.job) (last_cell_of s.job)
+      (last_cell_of s.job).attrs ≡ s.job.new
+      → Reads S s (print_last (last_cell_of s.job)) (pen s.job.row (last_col_of s.job) a None lost)
+      (with_row s g F s.job.row (last_col_of s.job) a)
+      (pen s.job.row s.job.cols (last_cell_of s.job).attrs None (lost || false))
+      (with_row s s.job.new F s.job.row s.job.cols (last_cell_of s.job).attrs)
+  last-printed F g a lost ha over some line =
+      let j = s.job in
+      let c = last_col_of j in
+      let x = last_cell_of j in
+      let last = last-is s h in
+      let keeps : kept_or_off (put_unflags j.cols g c x) F j.row ≡ F = ap (λ b. kept_or_off b F j.row)
+      (no_third s h g) in
+      reads-as (print-last_is x _ some) (reads-then (reads-color _ ha (h.proper c))
+      (reads-to (ap (λ n. pen j.row n x.attrs None (lost || false)) last.up_to)
+      (ap (λ G. with_row s (put g c x x.attrs) G j.row (c + span_of x) x.attrs) keeps
+      ∙ ap (λ f. with_row s f F j.row (c + span_of x) x.attrs) line
+      ∙ ap (λ n. with_row s j.new F j.row n x.attrs) last.up_to)
+      (reads-print g false (sends s h c some) (omega (arith, last.up_to)) (print-end s S h room g over))))
+
+  -- it is erased, and the flag is off
+  last-erased : (F : ℕ → Bool) (a : Attrs) (lost : Bool)
+      → Reads S s (erasing 1 true) (pen s.job.row (last_col_of s.job) a None lost)
+      (with_row s s.job.new F s.job.row (last_col_of s.job) a) (pen s.job.row (last_col_of s.job) a None (lost || true))
+      (with_row s (wiped s.job.new (last_col_of s.job) (last_col_of s.job + 1) a) (update F s.job.row false) s.job.row
+      (last_col_of s.job) a)
+  last-erased F a lost =
+      let j = s.job in
+      let c = last_col_of j in
+      let x = last_cell_of j in
+      let last = last-is s h in
+      let some = span-few x in
+      let test : wipe_unflags j.cols j.new c (c + 1) ≡ true = and_from (nat_lt c (c + 1)) _
+      (lt-ltb c (c + 1) (omega arith))
+      (elim (cases_Bool x.wide) [
+        | inr narrow ↦ or_left (nat_le j.cols (c + 1)) _ (le-leb j.cols (c + 1)
+            (let one = span-narrow x narrow in omega (arith, last.up_to, one)))
+        | inl wide ↦ or_right (nat_le j.cols (c + 1)) _ (and_from ((c + 1 + 1) == j.cols) _ (eq-eqb (c + 1 + 1) j.cols
+            (let two = span-wide x wide in omega (arith, last.up_to, two))) (h.new.paired.next c ∙ wide))
+      ]) in
+      reads-to refl (ap (λ b. with_row s (wiped j.new c (c + 1) a) (kept_or_off b F j.row) j.row c a) test)
+      (reads-erasing j.new 1 true (c + 1) refl (omega (arith, last.up_to, some)) (wipe-end s S h room))
+
+  -- the row's flag changes, or it was lost
+  mends : (F : ℕ → Bool) (a : Attrs) (lost : Bool) → IsProper a → Flags F (flags_above s) s.job.row lost
+      → (not (bool_eq s.job.wrapped s.job.was_wrapped) || (s.job.wrapped && lost)) ≡ true
+      → Ends S s (IsDrawn s) (mend s.job (last_cell_of s.job)) (pen s.job.row (last_col_of s.job) a None lost)
+      (with_row s s.job.new F s.job.row (last_col_of s.job) a)
+  mends F a lost ha kept needs =
+      let j = s.job in
+      let x = last_cell_of j in
+      let c = last_col_of j in
+      let last = last-is s h in
+      elim (cases_Bool j.wrapped) [
+        | inl wraps ↦ ends (reads-as (mend-wraps j x _ wraps) (last-printed F j.new a lost ha (new-over s h)
+            (last-text s h (h.new.filled wraps)) (line-reprinted j.new c x.attrs h.new.paired last.whole))) (record {
               flags = F;
               stands = refl;
               proper = h.proper c;
@@ -374,59 +377,58 @@ closing-at s F r k a lost h ha kept =
               keeps = λ _ g. absurd (both_ways _ (no-need_kept j.wrapped j.was_wrapped lost wraps
                   (ap (λ b. j.was_wrapped && not b) (sym (or_off lost false refl)) ∙ g)) needs);
               waits = λ _ _. (refl, refl);
-            }))
-        | inr ends ↦
+            })
+        | inr ends_here ↦
             (let off : update F j.row false ≡ update (flags_above s) j.row j.wrapped =
-            flags-off F (flags_above s) j.row lost false kept ∙ ap (update (flags_above s) j.row) (sym ends) in
-            elim (cases_Bool (has_text x)) [
-              | inl full ↦ drawn-takes s (closing j) p t _ _
-                  (takes-as z _ (closing j) p t _ _ (closing-some j p needs)
-                  (takes-then z _ _ _ _ _ _ _ _ goes
-                  (takes-as z (unflag x >> print_last x) (mend j x) _ _ _ _ (mend-ends j x _ ends)
-                  (takes-then z _ _ _ _ _ _ _ _
-                  (takes-as z (erasing 1 true) (unflag x) _ _ _ _ (unflag-full x _ full) (last-erased s F a lost h))
-                  (last-printed s (update F j.row false) (wiped j.new c (c + 1) a) a (lost || true) h ha full
-                  (line-restored j.new c a x.attrs h.new.paired last.whole))))))
-                  (record {
-                    flags = update F j.row false;
-                    stands = refl;
-                    proper = h.proper c;
-                    closed = refl;
-                    flagged = inl off;
-                    keeps = λ wraps _. absurd (both_ways j.wrapped ends wraps);
-                    waits = λ wraps _. absurd (both_ways j.wrapped ends wraps);
-                  })
-              | inr empty ↦
-                  (let is : j.new c ≡ empty_cell x.attrs = empty-is x (h.cells c) empty last.whole in
-                  drawn-takes s (closing j) p t _ _
-                  (takes-as z _ (closing j) p t _ _ (closing-some j p needs)
-                  (takes-then z _ _ _ _ _ _ _ _ goes
-                  (takes-as z (unflag x >> print_last x) (mend j x) _ _ _ _ (mend-ends j x _ ends)
-                  (takes-then z _ _ _ _ _ _ _ _
-                  (takes-as z (color x.attrs >> erasing 1 true) (unflag x) _ _ _ _ (unflag-empty x _ empty)
-                  (takes-then z _ _ _ _ _ _ _ _
-                  (takes-color z s.term (update s.cells j.row j.new) F j.row c a j.row c None lost x.attrs ha
-                  (h.proper c)) (last-erased s F x.attrs lost h)))
-                  (takes-as z skip (print_last x) _ _ _ _ (print-last_none x _ empty) (takes-skip z _ _))))))
-                  (record {
-                    flags = update F j.row false;
-                    stands = ap (λ g. with_row s g (update F j.row false) j.row c x.attrs)
-                        (line-erased_same j.new c x.attrs h.new.paired is);
-                    proper = h.proper c;
-                    closed = refl;
-                    flagged = inl off;
-                    keeps = λ wraps _. absurd (both_ways j.wrapped ends wraps);
-                    waits = λ wraps _. absurd (both_ways j.wrapped ends wraps);
-                  }))
-            ])
+            flags-off F (flags_above s) j.row lost false kept ∙ ap (update (flags_above s) j.row) (sym ends_here) in
+            ends-as {f = unflag x >> print_last x} (mend-ends j x _ ends_here) (elim (cases_Bool (has_text x)) [
+              | inl full ↦ ends (reads-then (reads-as (unflag-full x _ full) (last-erased F a lost))
+                  (last-printed (update F j.row false) (wiped j.new c (c + 1) a) a (lost || true) ha
+                  (wiped-over s a h) full (line-restored j.new c a x.attrs h.new.paired last.whole)))
+                  (drawn-ended s _ (h.proper c) off ends_here refl)
+              | inr empty ↦ ends (reads-then (reads-as (unflag-empty x _ empty) (reads-then
+                  (reads-color _ ha (h.proper c)) (last-erased F x.attrs lost)))
+                  (reads-as (print-last_none x _ empty) reads-skip))
+                  (drawn-ended s _ (h.proper c) off ends_here
+                  (ap (λ g. with_row s g (update F j.row false) j.row c x.attrs)
+                  (line-erased_same j.new c x.attrs h.new.paired (empty-is x (h.cells c) empty last.whole))))
+            ]))
       ]
-    ]
 
-pub closing-leads : (s : Scene) (p : Pen) (t : Term) → IsScene s → IsFilled s p t
-    → IsDrawn s (closing s.job p).pen (run (scene_size s) (closing s.job p).forms t)
-closing-leads s p t h now =
-    let j = s.job in
-    let P : Option Erase → Term → Type 0 = λ e x. IsDrawn s (closing j (pen p.pos.row p.pos.col p.attrs e p.lost)).pen
-    (run (scene_size s) (closing j (pen p.pos.row p.pos.col p.attrs e p.lost)).forms x) in
-    subst (λ e. P e t) (sym now.closed) (subst (P None) (sym now.stands)
-    (closing-at s now.flags p.pos.row p.pos.col p.attrs p.lost h now.proper now.kept))
+module _ (s : Scene) (h : IsScene s) (C : ℕ → Type 0) (S : ℕ → ℕ → Type 0) (o : IsRoom s C S) where
+  closing-at : (F : ℕ → Bool) (r k : ℕ) (a : Attrs) (lost : Bool) → IsProper a
+      → Flags F (flags_above s) s.job.row lost
+      → (owes_end s.job (pen r k a None lost) ≡ true → C (s.job.cols - 1))
+      → Ends S s (IsDrawn s) (closing s.job) (pen r k a None lost) (with_row s s.job.new F r k a)
+  closing-at F r k a lost ha kept owed =
+      let j = s.job in
+      let p = pen r k a None lost in
+      let last = last-is s h in
+      let some = span-few (last_cell_of j) in
+      elim (cases_Bool (owes_end j p)) [
+        | inr fine ↦
+            (let none = no-need j.wrapped j.was_wrapped lost fine in
+            let on = flags-kept s F lost h none.0 none.1 kept in
+            ends (reads-as (closing-none j p fine) reads-skip) (record {
+              flags = F;
+              stands = refl;
+              proper = ha;
+              closed = refl;
+              flagged = inl on;
+              keeps = λ wraps _. ap (λ G. G j.row) on ∙ update-same (flags_above s) j.row j.wrapped ∙ wraps;
+              waits = λ wraps g. absurd (both_ways (j.was_wrapped && not lost) g
+                  (kept-no_need j.wrapped j.was_wrapped lost wraps fine));
+            }))
+        | inl needs ↦ ends-as (closing-some j p needs)
+            (ends-then (reads-goto _ h (omega (arith, last.up_to, some)))
+            (mends s h S (end-room s C S h o (owed needs)) F a lost ha kept needs))
+      ]
+
+  pub closing-leads : (p : Pen) (t : Term) → IsFilled s p t → (owes_end s.job p ≡ true → C (s.job.cols - 1))
+      → Ends S s (IsDrawn s) (closing s.job) p t
+  closing-leads p t now owed =
+      let j = s.job in
+      let P : Option Erase → Term → Type 0 = λ e x.
+      Ends S s (IsDrawn s) (closing j) (pen p.pos.row p.pos.col p.attrs e p.lost) x in
+      subst (λ e. P e t) (sym now.closed) (subst (P None) (sym now.stands)
+      (closing-at now.flags p.pos.row p.pos.col p.attrs p.lost now.proper now.kept owed))

@@ -1,28 +1,32 @@
 -- A row that is drawn over an earlier one, column by column.
-use Rattle.std.proofs.Common.{◌≡◌, ℕ, ◌+◌, ◌-◌, ◌<◌, ◌≤◌, ◌==◌, Bool, true, false, cond, ◌&&◌, ◌||◌}
-use Rattle.std.proofs.Common.{nat_lt, Option, Some, None, refl, arith, sym, ap}
-use Rattle.std.proofs.Common.{◌∙◌, inl, inr, ◌⊎◌, subst}
-use Rattle.std.proofs.lemmas.Bool.{cases_Bool, both_ways, and_parts, and_from, eqb-true, eq-eqb, ltb-true}
-use Rattle.std.proofs.lemmas.Bool.{lt-ltb}
+use Rattle.std.proofs.Common.{◌≡◌, ℕ, ◌+◌, ◌-◌, ◌<◌, ◌≤◌, ◌==◌, Bool, true, false, cond, ◌&&◌, ◌||◌, Option, Some, None}
+use Rattle.std.proofs.Common.{refl, arith, sym, ap, ◌∙◌, inl, inr, ◌⊎◌, subst}
+use Rattle.std.proofs.lemmas.Bool.Decides.{nat_tests}
+use Rattle.std.proofs.lemmas.Bool.{cases_Bool, both_ways, and_parts, eqb-true}
+use Rattle.unicode_width.specs.Width.{char_width}
+use Rattle.vt100_forms.specs.Form.{Text}
 use Rattle.vt100_forms.specs.declared.attrs.Attrs.{Attrs}
+use Rattle.vt100_forms.specs.declared.position.Pos.{Pos}
 use Rattle.vt100_forms.specs.Attrs.{IsProper}
-use Rattle.vt100_cells.specs.Cell.{CellView, empty_cell, is_filled}
+use Rattle.vt100_cells.specs.Cell.{CellView, empty_cell, cell_of, is_filled}
 use Rattle.vt100_cells.specs.Line.{span_of, put, put_unflags}
 use Rattle.terminal_model.specs.Position.{update}
 use Rattle.terminal_model.specs.Term.{Term}
-use Rattle.terminal_model.specs.Apply.{run}
-use Rattle.terminal_model.proofs.Positions.{update-same}
+use Rattle.terminal_model.specs.Touch.{put_touches}
+use Rattle.terminal_model.specs.Apply.{print as printed_cell}
+use Rattle.terminal_model.proofs.Positions.{update-same, update-other}
 use Rattle.terminal_model.proofs.TermLemmas.{span-some}
 use Rattle.row_drawing.specs.declared.pen.Erase.{Erase}
 use Rattle.row_drawing.specs.declared.pen.Pen.{Pen}
-use Rattle.row_drawing.specs.Writer.{Writer, ◌>>◌, goto, turn, color, print}
-use Rattle.row_drawing.specs.RowWriter.{Job, is_same, wraps}
-use Rattle.row_drawing.specs.RowWriter.{arrive}
+use Rattle.row_drawing.specs.Writer.{Drawn, Writer, ◌>>◌, goto, turn, color, print, space}
+use Rattle.row_drawing.specs.RowWriter.{Job, is_same, wraps, arrive}
 use Rattle.row_drawing.specs.Scene.{Scene, IsScene, scene_size, with_row, flags_above}
 use Rattle.row_drawing.proofs.Lines.{Line}
-use Rattle.row_drawing.proofs.Steps.{Takes, takes-then, takes-as, pen, takes-goto}
-use Rattle.row_drawing.proofs.Steps.{takes-color, takes-turn, Flags, kept_or_off, flags-step}
-use Rattle.row_drawing.proofs.Steps.{flags-above, IsSendable, takes-print, takes-print_below}
+use Rattle.row_drawing.proofs.Steps.{at, pen, Flags, kept_or_off, flags-step, flags-above, IsSendable}
+use Rattle.row_drawing.proofs.Steps.{text-printed, fits-below, print-line, sends-space}
+use Rattle.row_drawing.proofs.Touches.{form-within, text-from, first-below}
+use Rattle.row_drawing.proofs.RowReads.{Reads, reads-then, reads-as, reads-turn, reads-goto, reads-color, reads-print}
+use Rattle.row_drawing.proofs.RowReads.{Ends}
 
 -- ---- what is true after n columns
 
@@ -35,22 +39,23 @@ abbrev pub edge : Option Erase → ℕ → ℕ
 edge None n = n
 edge (Some e) n = e.from
 
--- what is still to be erased is empty, with these attributes
+-- what is still to be erased is empty, with these attributes, and its first column differs
 abbrev pub Opens : Job → ℕ → Option Erase → Type 0
 Opens j n None = Unit {0}
 Opens j n (Some e) = (e.from < n) × IsProper e.attrs × ((k : ℕ) → e.from ≤ k → k < n → j.new k ≡ empty_cell e.attrs)
+    × (is_same j e.from ≡ false)
 
 -- nothing is drawn yet, and the row above has no flag: what is drawn first stands in the first column
-pub record IsDue (s : Scene) (F : ℕ → Bool) (p : Pen) (m : ℕ) : Type 0 where
+pub record IsDue (s : Scene) (F : ℕ → Bool) (p : Pos) (m : ℕ) : Type 0 where
   pub unset : F ≡ s.flags
   pub above : s.job.above ≡ true
-  pub row : p.pos.row + 1 ≡ s.job.row
-  pub col : p.pos.col ≡ s.job.cols
+  pub row : p.row + 1 ≡ s.job.row
+  pub col : p.col ≡ s.job.cols
   pub none : m ≡ 0
   pub differs : is_same s.job 0 ≡ false
 
 abbrev pub Standing : Scene → (ℕ → Bool) → Pen → ℕ → Type 0
-Standing s F p m = Flags F (flags_above s) s.job.row p.lost ⊎ IsDue s F p m
+Standing s F p m = Flags F (flags_above s) s.job.row p.lost ⊎ IsDue s F p.pos m
 
 pub record At (s : Scene) (n : ℕ) (p : Pen) (t : Term) : Type 0 where
   pub line : ℕ → CellView
@@ -61,49 +66,44 @@ pub record At (s : Scene) (n : ℕ) (p : Pen) (t : Term) : Type 0 where
   pub proper : IsProper p.attrs
   pub standing : Standing s flags p (edge p.erase (past s.job n))
 
-abbrev pub After : Scene → ℕ → Writer → Pen → Term → Type 0
-After s n f p t = At s n (f p).pen (run (scene_size s) (f p).forms t)
+pub at-row : {s : Scene} {n r k : ℕ} {a : Attrs} {e : Option Erase} {lost : Bool} (F : ℕ → Bool) (f : ℕ → CellView)
+    → IsProper a → Line s.job.old s.job.new (edge e (past s.job n)) f → Opens s.job n e
+    → Standing s F (pen r k a e lost) (edge e (past s.job n)) → At s n (pen r k a e lost) (with_row s f F r k a)
+at-row F f ha l opens standing = record {
+  line = f;
+  flags = F;
+  stands = refl;
+  lines = l;
+  opens = opens;
+  proper = ha;
+  standing = standing;
+}
 
-pub after-takes : (s : Scene) (n : ℕ) (f : Writer) (p : Pen) (t : Term) (q : Pen) (u : Term)
-    → Takes (scene_size s) f p t q u → At s n q u → After s n f p t
-after-takes s n f p t q u k h =
-    let first : At s n (f p).pen u = subst (λ (x : Pen). At s n x u) (sym k.pen_is) h in
-    subst (λ (x : Term). At s n (f p).pen x) (sym k.term_is) first
-
-pub after-then : (s : Scene) (n : ℕ) (f g : Writer) (p : Pen) (t : Term) (q : Pen) (u : Term)
-    → Takes (scene_size s) f p t q u → After s n g q u → After s n (f >> g) p t
-after-then s n f g p t q u k h =
-    after-takes s n (f >> g) p t (g q).pen (run (scene_size s) (g q).forms u)
-    (takes-then (scene_size s) f g p t q u (g q).pen (run (scene_size s) (g q).forms u) k
-    (record { pen_is = refl; term_is = refl })) h
+abbrev pub After : (ℕ → ℕ → Type 0) → Scene → ℕ → Writer → Pen → Term → Type 0
+After S s n f p t = Ends S s (At s n) f p t
 
 -- ---- the row above
 
--- its flag, as it should be
-above-on : (s : Scene) → s.job.above ≡ true → flags_above s (s.job.row - 1) ≡ true
-above-on s h = ap (λ b. cond b (update s.flags (s.job.row - 1) true) s.flags (s.job.row - 1)) h
-    ∙ update-same s.flags (s.job.row - 1) true
+-- its flag is to be on
+pub flags-on : (s : Scene) → s.job.above ≡ true → flags_above s ≡ update s.flags (s.job.row - 1) true
+flags-on s h = ap (λ b. cond b (update s.flags (s.job.row - 1) true) s.flags) h
 
 -- once a character is printed from its end
 pub wrapped-flags : (s : Scene) (F : ℕ → Bool) (p : Pen) (m r : ℕ) → IsScene s → s.job.above ≡ true
     → r + 1 ≡ s.job.row → Standing s F p m → Flags (update F r true) (flags_above s) s.job.row p.lost
 wrapped-flags s F p m r h above next (inl kept) =
     let is : s.job.row - 1 ≡ r = omega (arith, next) in
-    flags-above F (flags_above s) s.job.row r p.lost next (ap (flags_above s) (sym is) ∙ above-on s above) kept
+    flags-above F (flags_above s) s.job.row r p.lost next
+    (ap (flags_above s) (sym is) ∙ ap (λ G. G (s.job.row - 1)) (flags-on s above)
+    ∙ update-same s.flags (s.job.row - 1) true) kept
 wrapped-flags s F p m r h above next (inr due) =
     let is : r ≡ s.job.row - 1 = omega (arith, next) in
-    inl (ap (λ G. update G r true) due.unset ∙ ap (λ i. update s.flags i true) is
-    ∙ sym (ap (λ b. cond b (update s.flags (s.job.row - 1) true) s.flags) above))
+    inl (ap (λ G. update G r true) due.unset ∙ ap (λ i. update s.flags i true) is ∙ sym (flags-on s above))
 
 -- where the flag is due, what comes first wraps
-due-wraps : (s : Scene) (F : ℕ → Bool) (p : Pen) (m n : ℕ) → IsDue s F p m → 0 < n
+due-wraps : (s : Scene) (F : ℕ → Bool) (p : Pen) (m n : ℕ) → IsDue s F p.pos m → 0 < n
     → (wraps s.job n p && (m == 0)) ≡ true
-due-wraps s F p m n d some =
-    let over : nat_lt s.job.cols (p.pos.col + n) ≡ true = lt-ltb s.job.cols (p.pos.col + n) (omega (arith, d.col, some))
-    in
-    and_from (wraps s.job n p) (m == 0)
-    (and_from s.job.above _ d.above (and_from (p.pos.row + 1 == s.job.row) _ (eq-eqb (p.pos.row + 1) s.job.row d.row)
-    over)) (eq-eqb m 0 d.none)
+due-wraps s F p m n d some = grind (arith, nat_tests, d.above, d.row, d.col, d.none)
 
 pub not-due : (s : Scene) (F : ℕ → Bool) (p : Pen) (m n : ℕ) → 0 < n → (wraps s.job n p && (m == 0)) ≡ false
     → Standing s F p m → Flags F (flags_above s) s.job.row p.lost
@@ -118,24 +118,67 @@ pub record WrapsNow (s : Scene) (n : ℕ) (p : Pen) (m : ℕ) : Type 0 where
   pub first : m ≡ 0
 
 pub wraps-now : (s : Scene) (n : ℕ) (p : Pen) (m : ℕ) → (wraps s.job n p && (m == 0)) ≡ true → WrapsNow s n p m
-wraps-now s n p m h =
-    let parts = and_parts (wraps s.job n p) (m == 0) h in
-    let one = and_parts s.job.above _ parts.0 in
-    let two = and_parts (p.pos.row + 1 == s.job.row) _ one.1 in
-    record {
-      above = one.0;
-      row = eqb-true (p.pos.row + 1) s.job.row two.0;
-      over = ltb-true s.job.cols (p.pos.col + n) two.1;
-      first = eqb-true m 0 parts.1;
-    }
+wraps-now s n p m h = record {
+  above = grind (arith, nat_tests);
+  row = grind (arith, nat_tests);
+  over = grind (arith, nat_tests);
+  first = grind (arith, nat_tests);
+}
+
+-- from the end of the row above, a cell is printed at the start of this one
+pub reads-print_turned : {S : ℕ → ℕ → Type 0} {a : Attrs} {m : ℕ} (s : Scene) (F : ℕ → Bool) (f : ℕ → CellView)
+    (r k : ℕ) (x : CellView) (e : Option Erase) (lost b : Bool) → IsScene s
+    → WrapsNow s (span_of x) (pen r k a e lost) m → IsSendable x → span_of x ≤ s.job.cols
+    → ((i : ℕ) → i < s.job.cols → put_touches f 0 x i ≡ true → S s.job.row i)
+    → Reads S s (print x b) (pen s.job.row 0 x.attrs e lost) (with_row s f F r k x.attrs)
+    (pen s.job.row (0 + span_of x) x.attrs e (lost || b))
+    (with_row s (put f 0 x x.attrs) (kept_or_off (put_unflags s.job.cols f 0 x) (update F r true) s.job.row) s.job.row
+    (0 + span_of x) x.attrs)
+unfolding print
+reads-print_turned {S = S} s F f r k x e lost b h now send fits touched =
+    let z = scene_size s in
+    let D : ℕ → ℕ → CellView = update s.cells (r + 1) f in
+    let u = at s.term D F r k x.attrs in
+    let full : is_filled (D r (z.cols - 1)) ≡ true = ap (λ (g : ℕ → CellView). is_filled (g (z.cols - 1)))
+    (update-other s.cells (r + 1) r f (λ q. absurd (omega (arith, q))))
+    ∙ ap (λ i. is_filled (s.cells i (z.cols - 1))) (omega (arith, now.row)) ∙ h.above_filled now.above in
+    let room : r + 1 < z.rows = omega (arith, now.row, h.row_in) in
+    let Q : ℕ → Type 0 = λ i. Reads S s (print x b) (pen i 0 x.attrs e lost)
+    (at s.term (update s.cells i f) F r k x.attrs) (pen i (0 + span_of x) x.attrs e (lost || b))
+    (at s.term (update s.cells i (put f 0 x x.attrs))
+    (kept_or_off (put_unflags s.job.cols f 0 x) (update F r true) i) i (0 + span_of x) x.attrs) in
+    subst Q now.row (record {
+      takes = record {
+        pen_is = refl;
+        term_is = text-printed z u x send.cell send.some send.plain refl fits
+            ∙ ap (printed_cell z x) (fits-below z (span_of x) s.term D F r k x.attrs now.over room full)
+            ∙ print-line z s.term s.cells (update F r true) (r + 1) 0 x.attrs f x;
+      };
+      stays = form-within S z (Text x.text) u (λ i l low q.
+          let there = text-from z x u (r + 1) 0 (D (r + 1)) send
+          (λ d ds head. first-below z x d ds s.term D F r k x.attrs head fits now.over room full) i l q in
+          subst (λ v. S v l) (sym (there.0 ∙ now.row)) (touched l low
+          (ap (λ g. put_touches g 0 x l) (sym (update-same s.cells (r + 1) f)) ∙ there.1)));
+    })
+
+pub reads-space_turned : {S : ℕ → ℕ → Type 0} {b : Attrs} {m : ℕ} (s : Scene) (F : ℕ → Bool) (f : ℕ → CellView)
+    (r k : ℕ) (a : Attrs) (e : Option Erase) (lost : Bool) → IsScene s → WrapsNow s 1 (pen r k b e lost) m
+    → ((i : ℕ) → i < s.job.cols → put_touches f 0 (cell_of 32 a) i ≡ true → S s.job.row i)
+    → Reads S s space (pen s.job.row 0 a e lost) (with_row s f F r k a) (pen s.job.row 1 a e lost)
+    (with_row s (put f 0 (cell_of 32 a) a) (update F r true) s.job.row 1 a)
+unfolding print space char_width
+reads-space_turned s F f r k a e lost h now touched =
+    let printed = reads-print_turned s F f r k (cell_of 32 a) e lost false h now (sends-space a) (omega (arith, h.some_col))
+    touched in
+    record { takes = record { pen_is = refl; term_is = printed.takes.term_is }; stays = printed.stays }
 
 -- ---- a cell is drawn
 
-pub record Prints (s : Scene) (f : ℕ → CellView) (p : Pen) (t : Term) (g : Writer) (n : ℕ) (x : CellView) (b : Bool)
-    : Type 0 where
+pub record Prints (S : ℕ → ℕ → Type 0) (s : Scene) (f : ℕ → CellView) (p : Pen) (t : Term) (g : Writer) (n : ℕ)
+    (x : CellView) (b : Bool) : Type 0 where
   pub flags : ℕ → Bool
   pub kept : Flags flags (flags_above s) s.job.row (p.lost || b)
-  pub takes : Takes (scene_size s) g p t (pen s.job.row (n + span_of x) x.attrs None (p.lost || b))
+  pub reads : Reads S s g p t (pen s.job.row (n + span_of x) x.attrs None (p.lost || b))
       (with_row s (put f n x x.attrs) flags s.job.row (n + span_of x) x.attrs)
 
 pub arrive-turn : (j : Job) (c n : ℕ) (p : Pen) → (wraps j n p && (c == 0)) ≡ true → arrive j c n p ≡ turn j.row p
@@ -146,66 +189,50 @@ pub arrive-goto : (j : Job) (c n : ℕ) (p : Pen) → (wraps j n p && (c == 0)) 
 unfolding arrive
 arrive-goto j c n p h = rw h refl
 
+-- the cursor comes there, and nothing else of the pen changes
+pub arrive-pen : (j : Job) (c n : ℕ) (p : Pen)
+    → (arrive j c n p).pen ≡ record p { pos = record { row = j.row; col = c } }
+unfolding turn goto
+arrive-pen j c n p =
+    elim (cases_Bool (wraps j n p && (c == 0))) [
+      | inl turns ↦ (let first = sym (eqb-true c 0 (and_parts (wraps j n p) (c == 0) turns).1) in
+          ap (λ (d : Drawn). d.pen) (arrive-turn j c n p turns)
+          ∙ (λ i. record p { pos = record { row = j.row; col = first i } }))
+      | inr goes ↦ ap (λ (d : Drawn). d.pen) (arrive-goto j c n p goes)
+    ]
+
 -- the cell x is drawn at n
-pub draws : (s : Scene) (F : ℕ → Bool) (f : ℕ → CellView) (r k : ℕ) (a : Attrs) (lost b : Bool) (n : ℕ) (x : CellView)
-    → IsScene s → IsProper a → IsProper x.attrs → IsSendable x → n + span_of x ≤ s.job.cols
+pub draws : (S : ℕ → ℕ → Type 0) (s : Scene) (F : ℕ → Bool) (f : ℕ → CellView) (r k : ℕ) (a : Attrs) (lost b : Bool)
+    (n : ℕ) (x : CellView) → IsScene s → IsProper a → IsProper x.attrs → IsSendable x → n + span_of x ≤ s.job.cols
     → (put_unflags s.job.cols f n x ≡ true → b ≡ true) → Standing s F (pen r k a None lost) n
-    → Prints s f (pen r k a None lost) (with_row s f F r k a)
+    → ((i : ℕ) → i < s.job.cols → put_touches f n x i ≡ true → S s.job.row i)
+    → Prints S s f (pen r k a None lost) (with_row s f F r k a)
     (arrive s.job n (span_of x) >> color x.attrs >> print x b) n x b
-draws s F f r k a lost b n x h ha hx send room loses standing =
+draws S s F f r k a lost b n x h ha hx send room loses standing touched =
     let j = s.job in
     let p = pen r k a None lost in
-    let z = scene_size s in
-    let t = with_row s f F r k a in
     let some = span-some x in
     elim (cases_Bool (wraps j (span_of x) p && (n == 0))) [
-      | inr stays ↦
-          (let kept = not-due s F p n (span_of x) (omega arith) stays standing in
-          let inside : n < j.cols = omega arith in
-          record {
-            flags = kept_or_off (put_unflags j.cols f n x) F j.row;
-            kept = flags-step F (flags_above s) j.row lost (put_unflags j.cols f n x) b kept loses;
-            takes = takes-then z _ _ _ _ _ _ _ _
-                (takes-then z _ _ _ _ _ _ _ _
-                (takes-as z (goto j.row n) (arrive j n (span_of x)) p t _ _ (arrive-goto j n (span_of x) p stays)
-                (takes-goto z s.term (update s.cells j.row f) F r k a None lost j.row n h.row_in inside))
-                (takes-color z s.term (update s.cells j.row f) F j.row n a j.row n None lost x.attrs ha hx))
-                (takes-print z s.term s.cells F j.row n f x None lost b send room);
-          })
+      | inr stays ↦ record {
+        flags = kept_or_off (put_unflags j.cols f n x) F j.row;
+        kept = flags-step F (flags_above s) j.row lost (put_unflags j.cols f n x) b
+            (not-due s F p n (span_of x) (omega arith) stays standing) loses;
+        reads = reads-then (reads-then (reads-as (arrive-goto j n (span_of x) p stays) (reads-goto _ h (omega arith)))
+            (reads-color _ ha hx)) (reads-print _ _ send room touched);
+      }
       | inl turns ↦
           (let now = wraps-now s (span_of x) p n turns in
-          let kept = wrapped-flags s F p n r h now.above now.row standing in
-          let full : is_filled (s.cells r (j.cols - 1)) ≡ true =
-          ap (λ i. is_filled (s.cells i (j.cols - 1))) (omega (arith, now.row)) ∙ h.above_filled now.above in
-          let below : r + 1 < s.rows = omega (arith, now.row, h.row_in) in
-          let first : 0 ≡ n = sym now.first in
-          let prints = takes-print_below z s.term s.cells F r k f x None lost b send
-          (omega arith) now.over below full in
-          let G : ℕ → Bool = kept_or_off (put_unflags j.cols f n x) (update F r true) j.row in
-          let Q : ℕ → ℕ → Type 0 = λ i m. Takes z (print x b) (pen i 0 x.attrs None lost)
-          (record (s.term) {
-            cell = update s.cells i f;
-            wrapped = F;
-            row = r;
-            col = k;
-            attrs = x.attrs;
-          }) (pen i (m + span_of x) x.attrs None (lost || b))
-          (record (s.term) {
-            cell = update s.cells i (put f m x x.attrs);
-            wrapped = kept_or_off (put_unflags j.cols f m x) (update F r true) i;
-            row = i;
-            col = m + span_of x;
-            attrs = x.attrs;
-          }) in
-          let there : Q j.row n = subst (Q j.row) first (subst (λ i. Q i 0) now.row prints) in
+          let Q : ℕ → Type 0 = λ m. Reads S s (print x b) (pen j.row 0 x.attrs None lost) (with_row s f F r k x.attrs)
+          (pen j.row (m + span_of x) x.attrs None (lost || b))
+          (with_row s (put f m x x.attrs) (kept_or_off (put_unflags j.cols f m x) (update F r true) j.row) j.row
+          (m + span_of x) x.attrs) in
+          let there : Q n = subst Q (sym now.first) (reads-print_turned s F f r k x None lost b h now send (omega arith)
+          (λ i low q. touched i low (ap (λ v. put_touches f v x i) now.first ∙ q))) in
           record {
-            flags = G;
-            kept = flags-step (update F r true) (flags_above s) j.row lost (put_unflags j.cols f n x) b kept loses;
-            takes = takes-then z _ _ _ _ _ _ _ _
-                (takes-then z _ _ _ _ _ _ _ _
-                (takes-as z (turn j.row) (arrive j n (span_of x)) p t _ _ (arrive-turn j n (span_of x) p turns)
-                (takes-turn z p t j.row))
-                (takes-color z s.term (update s.cells j.row f) F r k a j.row 0 None lost x.attrs ha hx))
-                there;
+            flags = kept_or_off (put_unflags j.cols f n x) (update F r true) j.row;
+            kept = flags-step (update F r true) (flags_above s) j.row lost (put_unflags j.cols f n x) b
+                (wrapped-flags s F p n r h now.above now.row standing) loses;
+            reads = reads-then (reads-then (reads-as (arrive-turn j n (span_of x) p turns) reads-turn)
+                (reads-color _ ha hx)) there;
           })
     ]

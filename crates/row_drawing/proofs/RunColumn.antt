@@ -1,33 +1,29 @@
 -- A text that is gathered is what its column's writer prints.
-use Rattle.std.proofs.Common.{◌≡◌, ℕ, ◌+◌, ◌==◌, true, false, ◌&&◌, List, refl, sym, ap, ◌∙◌}
-use Rattle.std.proofs.Common.{arith, inl, inr, subst}
-use Rattle.std.proofs.lemmas.Bool.{cases_Bool, and_parts, eq-eqb, eqb-true, ne_eqb}
+use Rattle.std.proofs.Common.{◌≡◌, ℕ, ◌==◌, true, false, ◌&&◌, List, refl, sym, ap, ◌∙◌, arith, subst}
+use Rattle.std.proofs.lemmas.Bool.Decides.{nat_tests}
+use Rattle.std.proofs.lemmas.Bool.{and_parts, eq-eqb, eqb-true}
 use Rattle.vt100_forms.specs.declared.attrs.Attrs.{Attrs}
 use Rattle.vt100_forms.specs.declared.position.Pos.{Pos}
 use Rattle.vt100_cells.specs.Cell.{CellView, has_text}
 use Rattle.vt100_cells.specs.Line.{span_of}
 use Rattle.row_drawing.specs.declared.pen.Pen.{Pen}
 use Rattle.row_drawing.specs.Drawing.{BeginsRun, IsAt}
-use Rattle.row_drawing.specs.Writer.{Drawn, ◌>>◌, turn, goto, color, print}
+use Rattle.row_drawing.specs.Writer.{◌>>◌, color, print}
 use Rattle.row_drawing.specs.RowWriter.{Job, wraps, arrive, draw, column}
 use Rattle.row_drawing.specs.Writes.{Wrote}
-use Rattle.row_drawing.proofs.RowLeads.{arrive-turn, arrive-goto}
-use Rattle.row_drawing.proofs.RowWrites.{full_draw, wrote_arrive_goto, wrote_flush_none, wrote_draw_full, wrote_column}
-use Rattle.row_drawing.proofs.WritesLemmas.{wrote_goto_here}
+use Rattle.row_drawing.proofs.RowLeads.{arrive-pen, arrive-goto}
+use Rattle.row_drawing.proofs.Columns.{column-is_whole}
+use Rattle.row_drawing.proofs.RowWrites.{full_draw, wrote_flush_none}
+use Rattle.row_drawing.proofs.WritesLemmas.{wrote_goto_here, wrote_both, wrote_by}
 
 -- the cursor stands in this row, and not in the one above
 stays_below : (j : Job) (n c : ℕ) (p : Pen) → p.pos.row ≡ j.row → (wraps j n p && (c == 0)) ≡ false
-stays_below j n c p e =
-    let apart : (p.pos.row + 1 == j.row) ≡ false = ne_eqb (p.pos.row + 1) j.row (λ f. omega (arith, e, f)) in
-    elim (cases_Bool j.above) [
-      | inl above ↦ rw (above, apart) refl
-      | inr first ↦ rw first refl
-    ]
+stays_below j n c p e = grind (arith, nat_tests)
 
 pub wrote_arrive_here : (j : Job) (c n : ℕ) (p : Pen) (s : List ℕ) → IsAt j c p → Wrote (arrive j c n) p s p s
 wrote_arrive_here j c n p s here =
     let row = eqb-true p.pos.row j.row (and_parts (p.pos.row == j.row) (p.pos.col == c) here).0 in
-    wrote_arrive_goto j c n p s p s (stays_below j n c p row)
+    wrote_by (arrive-goto j c n p (stays_below j n c p row))
     (wrote_goto_here p (record { row = j.row; col = c }) s here)
 
 drawn_on : (j : Job) (c : ℕ) (p : Pen) (x : CellView) → x ≡ j.new c → BeginsRun j c p
@@ -40,49 +36,24 @@ pub wrote_column_on : (j : Job) (c : ℕ) (p : Pen) (s : List ℕ) (v : Pen) (w 
     (t : List ℕ) (x : CellView) → x ≡ j.new c → BeginsRun j c p → Wrote (arrive j c (span_of x)) p s v w
     → Wrote (color x.attrs) v w r u → Wrote (print x false) r u q t → Wrote (column j c) p s q t
 wrote_column_on j c p s v w r u q t x is on arrived colored h =
-    wrote_column j c p s p s q t on.whole (wrote_flush_none j c p s on.closed)
-    (wrote_draw_full j c p s v w r u q t x (span_of x) x.attrs false (drawn_on j c p x is on) arrived colored h)
-
-color-attrs : (a : Attrs) (p : Pen) → (color a p).pen.attrs ≡ a
-unfolding color
-color-attrs a p = refl
+    wrote_by (column-is_whole j c p on.whole) (wrote_both (wrote_flush_none j c p s on.closed)
+    (wrote_by (drawn_on j c p x is on) (wrote_both (wrote_both arrived colored) h)))
 
 pub colored_attrs : (a : Attrs) (p : Pen) (s : List ℕ) (r : Pen) (u : List ℕ) → Wrote (color a) p s r u → r.attrs ≡ a
-colored_attrs a p s r u h = sym (ap (λ (y : Pen). y.attrs) h.pen_is) ∙ color-attrs a p
+unfolding color
+colored_attrs a p s r u h = sym (ap (λ (y : Pen). y.attrs) h.pen_is)
 
 -- the cursor stands there when the attributes are set
-arrive-pos : (j : Job) (c n : ℕ) (p : Pen) → (arrive j c n p).pen.pos ≡ record { row = j.row; col = c }
-unfolding turn goto
-arrive-pos j c n p =
-    elim (cases_Bool (wraps j n p && (c == 0))) [
-      | inl turns ↦ (let first : c ≡ 0 = eqb-true c 0 (and_parts (wraps j n p) (c == 0) turns).1 in
-          ap (λ (d : Drawn). d.pen.pos) (arrive-turn j c n p turns)
-          ∙ (λ i. record { row = j.row; col = sym first i }))
-      | inr goes ↦ ap (λ (d : Drawn). d.pen.pos) (arrive-goto j c n p goes)
-    ]
-
-color-pos : (a : Attrs) (p : Pen) → (color a p).pen.pos ≡ p.pos
-unfolding color
-color-pos a p = refl
-
 pub drawn_here : (j : Job) (c n : ℕ) (a : Attrs) (p : Pen) (s : List ℕ) (q : Pen) (t : List ℕ) (r : Pen) (u : List ℕ)
     → Wrote (arrive j c n) p s q t → Wrote (color a) q t r u → IsAt j c r
+unfolding color
 drawn_here j c n a p s q t r u e f =
     let pos : r.pos ≡ record { row = j.row; col = c } =
-    ap (λ (x : Pen). x.pos) (sym f.pen_is) ∙ color-pos a q ∙ ap (λ (x : Pen). x.pos) (sym e.pen_is)
-    ∙ arrive-pos j c n p in
+    ap (λ (x : Pen). x.pos) (sym f.pen_is) ∙ ap (λ (x : Pen). x.pos) (sym e.pen_is ∙ arrive-pen j c n p) in
     subst (λ (x : Pos). ((x.row == j.row) && (x.col == c)) ≡ true) (sym pos)
     (rw (eq-eqb j.row j.row refl, eq-eqb c c refl) refl)
 
 -- the attributes stay as the cursor comes there
-arrive-attrs : (j : Job) (c n : ℕ) (p : Pen) → (arrive j c n p).pen.attrs ≡ p.attrs
-unfolding turn goto
-arrive-attrs j c n p =
-    elim (cases_Bool (wraps j n p && (c == 0))) [
-      | inl turns ↦ ap (λ (d : Drawn). d.pen.attrs) (arrive-turn j c n p turns)
-      | inr goes ↦ ap (λ (d : Drawn). d.pen.attrs) (arrive-goto j c n p goes)
-    ]
-
 pub arrived_attrs : (j : Job) (c n : ℕ) (p : Pen) (s : List ℕ) (v : Pen) (w : List ℕ) → Wrote (arrive j c n) p s v w
     → v.attrs ≡ p.attrs
-arrived_attrs j c n p s v w h = sym (ap (λ (y : Pen). y.attrs) h.pen_is) ∙ arrive-attrs j c n p
+arrived_attrs j c n p s v w h = ap (λ (y : Pen). y.attrs) (sym h.pen_is ∙ arrive-pen j c n p)

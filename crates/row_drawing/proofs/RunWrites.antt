@@ -1,9 +1,10 @@
 -- Texts that are gathered, and then appended together.
-use Rattle.std.proofs.Common.{◌≡◌, ℕ, ◌+◌, ◌==◌, Bool, true, false, ◌&&◌, ◌||◌, not, List, ◌++◌, refl, sym, ap, ◌∙◌}
+use Rattle.std.proofs.Common.{◌≡◌, ℕ, ◌+◌, ◌==◌, true, false, ◌&&◌, not, List, ◌++◌, refl, sym, ap, ◌∙◌}
 use Rattle.std.proofs.Common.{append-nil, append_assoc, arith, inl, inr, subst, ◌<◌, ◌≤◌}
 use Rattle.std.specs.Prelude.{encode_utf8_all, nat_lt, if◌then◌else◌}
 use Rattle.std.proofs.lemmas.Bool.{and_parts, cases_Bool, eq-eqb, eqb-true, lt-ltb, ltb-true, ne_eqb}
 use Rattle.vt100_forms.specs.declared.attrs.Attrs.{Attrs}
+use Rattle.vt100_cells.proofs.CellLemmas.{or-false}
 use Rattle.vt100_cells.specs.Cell.{CellView}
 use Rattle.vt100_cells.specs.CellEq.{attrs_eq-true}
 use Rattle.vt100_cells.specs.Line.{IsPaired, span_of}
@@ -14,8 +15,8 @@ use Rattle.row_drawing.specs.RowWriter.{Job, arrive, column, columns}
 use Rattle.row_drawing.specs.Writes.{Wrote}
 use Rattle.row_drawing.proofs.ColumnsWrites.{wrote_columns_next}
 use Rattle.row_drawing.proofs.RunColumn.{wrote_arrive_here, wrote_column_on}
-use Rattle.row_drawing.proofs.RowWrites.{wrote_column_half}
-use Rattle.row_drawing.proofs.WritesLemmas.{color_same}
+use Rattle.row_drawing.proofs.Columns.{column-is_half}
+use Rattle.row_drawing.proofs.WritesLemmas.{color_same, wrote_by, wrote_skip}
 
 -- the text of one cell
 wrote_text : (x : CellView) (p : Pen) (t : List ℕ) → Wrote (print x false) p t (print x false p).pen (t
@@ -25,10 +26,6 @@ wrote_text x p t = record {
   pen_is = refl;
   text_is = ap (λ bs. t ++ bs) (sym (append-nil (encode_utf8_all x.text)));
 }
-
-or-false : (b : Bool) → (b || false) ≡ b
-or-false true = refl
-or-false false = refl
 
 -- the pen after it
 pub passed : (x : CellView) (p : Pen) (n : ℕ) → n ≡ span_of x
@@ -61,7 +58,8 @@ goes_half : (j : Job) (n m : ℕ) (p : Pen) (t : List ℕ) (q : Pen) (u : List �
     → ((j.new (j.start + m)).continuation && not (j.start + m == j.start)) ≡ true → GoesTo j n m p t q u
     → GoesTo j n (m + 1) p t q u
 goes_half j n m p t q u half h p0 s0 w =
-    wrote_columns_next j m p0 s0 q u q u (h p0 s0 w) (wrote_column_half j (j.start + m) q u half)
+    wrote_columns_next j m p0 s0 q u q u (h p0 s0 w) (wrote_by (column-is_half j (j.start + m) q half)
+    (wrote_skip q u))
 
 second_half : (j : Job) (m : ℕ) → IsPaired j.new → (j.new (j.start + m)).wide ≡ true
     → ((j.new (j.start + (m + 1))).continuation && not (j.start + (m + 1) == j.start)) ≡ true

@@ -1,13 +1,10 @@
 -- What single forms do to a terminal of which one row is drawn.
-use Rattle.std.proofs.Common.{◌≡◌, ℕ, ◌+◌, ◌-◌, ◌<◌, ◌≤◌, Bool, true, false, cond, not, ◌||◌}
-use Rattle.std.proofs.Common.{nat_le, min, [], ◌∷◌, length, Option, Some, None, refl, arith, sym, ap, ◌∙◌}
-use Rattle.std.proofs.Common.{inl, inr, ◌⊎◌}
+use Rattle.std.proofs.Common.{◌≡◌, ℕ, ◌+◌, ◌-◌, ◌<◌, ◌≤◌, Bool, true, false, cond, not, ◌||◌, min, [], ◌∷◌}
+use Rattle.std.proofs.Common.{length, Option, None, refl, arith, sym, ap, ◌∙◌, inl, inr, ◌⊎◌}
 use Rattle.std.specs.Prelude.{Contains, slice_index_or}
-use Rattle.std.proofs.lemmas.Bool.Decides.{nat_tests}
-use Rattle.std.proofs.lemmas.Bool.{le-leb, or_right, or_left}
+use Rattle.std.proofs.lemmas.Bool.{le-leb, lt-leb, or_right, or_left}
 use Rattle.unicode_width.specs.Width.{char_width}
 use Rattle.vt100_forms.specs.declared.attrs.Attrs.{Attrs}
-use Rattle.vt100_forms.specs.Attrs.{IsProper}
 use Rattle.vt100_forms.specs.Form.{Text}
 use Rattle.vt100_cells.specs.Cell.{CellView, IsCell, cell_of, is_filled}
 use Rattle.vt100_cells.specs.Line.{span_of, put, put_unflags, wiped, wipe_unflags}
@@ -15,43 +12,18 @@ use Rattle.vt100_cells.proofs.CellLemmas.{IsCell-space}
 use Rattle.terminal_model.specs.Position.{update}
 use Rattle.terminal_model.specs.Term.{Size, Term}
 use Rattle.terminal_model.specs.Apply.{with_line, erase, print as printed_cell, wrap, made_to_fit, apply, run}
-use Rattle.terminal_model.proofs.Positions.{update-same, update-twice, update-other, update-apart, update-kept}
-use Rattle.terminal_model.proofs.FormLemmas.{run-joined, moves-lead, change-read, down-room}
+use Rattle.terminal_model.proofs.Positions.{update-same, update-twice, update-apart, update-kept}
+use Rattle.terminal_model.proofs.FormLemmas.{down-room}
 use Rattle.terminal_model.proofs.PrintedCells.{printed}
 use Rattle.row_drawing.specs.declared.pen.Erase.{Erase}
 use Rattle.row_drawing.specs.declared.pen.Pen.{Pen}
-use Rattle.row_drawing.specs.Writer.{Drawn, Writer, ◌>>◌, skip, goto, turn, color, print, space, back, erasing}
-use Rattle.row_drawing.specs.Writer.{clearing, marking}
+use Rattle.row_drawing.specs.Writer.{Writer, print, erasing}
 
 -- ---- a writer at a pen, read by a terminal
 
 pub record Takes (z : Size) (f : Writer) (p : Pen) (t : Term) (q : Pen) (u : Term) : Type 0 where
   pub pen_is : (f p).pen ≡ q
   pub term_is : run z (f p).forms t ≡ u
-
-pub takes-then : (z : Size) (f g : Writer) (p : Pen) (t : Term) (q : Pen) (u : Term) (r : Pen) (v : Term)
-    → Takes z f p t q u → Takes z g q u r v → Takes z (f >> g) p t r v
-unfolding ◌>>◌
-takes-then z f g p t q u r v a b = record {
-  pen_is = ap (λ x. (g x).pen) a.pen_is ∙ b.pen_is;
-  term_is = run-joined z (f p).forms (g (f p).pen).forms t
-      ∙ ap (λ x. run z (g x).forms (run z (f p).forms t)) a.pen_is ∙ ap (run z (g q).forms) a.term_is ∙ b.term_is;
-}
-
-pub takes-as : (z : Size) (f g : Writer) (p : Pen) (t : Term) (q : Pen) (u : Term) → g p ≡ f p → Takes z f p t q u
-    → Takes z g p t q u
-takes-as z f g p t q u e k = record {
-  pen_is = ap (λ (x : Drawn). x.pen) e ∙ k.pen_is;
-  term_is = ap (λ (x : Drawn). run z x.forms t) e ∙ k.term_is;
-}
-
-pub takes-to : (z : Size) (f : Writer) (p : Pen) (t : Term) (q q' : Pen) (u u' : Term) → q ≡ q' → u ≡ u'
-    → Takes z f p t q u → Takes z f p t q' u'
-takes-to z f p t q q' u u' e g k = record { pen_is = k.pen_is ∙ e; term_is = k.term_is ∙ g }
-
-pub takes-skip : (z : Size) (p : Pen) (t : Term) → Takes z skip p t p t
-unfolding skip
-takes-skip z p t = record { pen_is = refl; term_is = refl }
 
 -- ---- terminals and pens by their parts
 
@@ -60,40 +32,6 @@ at t C W r c a = record t { cell = C; wrapped = W; row = r; col = c; attrs = a }
 
 abbrev pub pen : ℕ → ℕ → Attrs → Option Erase → Bool → Pen
 pen r c a e b = record { pos = record { row = r; col = c }; attrs = a; erase = e; lost = b }
-
-pub takes-goto : (z : Size) (t : Term) (C : ℕ → ℕ → CellView) (W : ℕ → Bool) (r c : ℕ) (a : Attrs) (e : Option Erase)
-    (b : Bool) (row col : ℕ) → row < z.rows → col < z.cols
-    → Takes z (goto row col) (pen r c a e b) (at t C W r c a) (pen row col a e b) (at t C W row col a)
-unfolding goto
-takes-goto z t C W r c a e b row col hr hc = record {
-  pen_is = refl;
-  term_is = moves-lead z (at t C W r c a) (record { row = r; col = c }) (record { row = row; col = col }) refl refl hr
-      hc;
-}
-
-pub takes-color : (z : Size) (t : Term) (C : ℕ → ℕ → CellView) (W : ℕ → Bool) (r c : ℕ) (a : Attrs) (k l : ℕ)
-    (e : Option Erase) (b : Bool) (x : Attrs) → IsProper a → IsProper x
-    → Takes z (color x) (pen k l a e b) (at t C W r c a) (pen k l x e b) (at t C W r c x)
-unfolding color
-takes-color z t C W r c a k l e b x ha hx = record {
-  pen_is = refl;
-  term_is = change-read z (at t C W r c a) a x refl ha hx;
-}
-
-pub takes-turn : (z : Size) (p : Pen) (t : Term) (row : ℕ)
-    → Takes z (turn row) p t (record p { pos = record { row = row; col = 0 } }) t
-unfolding turn
-takes-turn z p t row = record { pen_is = refl; term_is = refl }
-
-pub takes-marking : (z : Size) (t : Term) (n r k : ℕ) (a x : Attrs) (b : Bool)
-    → Takes z (marking n x) (pen r k a None b) t (pen r k a (Some (record { from = n; attrs = x })) b) t
-unfolding marking
-takes-marking z t n r k a x b = record { pen_is = refl; term_is = refl }
-
-pub takes-back : (z : Size) (t : Term) (C : ℕ → ℕ → CellView) (W : ℕ → Bool) (r c : ℕ) (a : Attrs) (e : Option Erase)
-    (b : Bool) → Takes z back (pen r c a e b) (at t C W r c a) (pen r (c - 1) a e b) (at t C W r (c - 1) a)
-unfolding back apply
-takes-back z t C W r c a e b = record { pen_is = refl; term_is = refl }
 
 -- ---- flags
 
@@ -139,15 +77,12 @@ pub fits-here : (z : Size) (n : ℕ) (t : Term) → t.col + n ≤ z.cols → mad
 unfolding made_to_fit
 fits-here z n t l = rw (le-leb (t.col + n) z.cols l) refl
 
-leb-false_of : (m n : ℕ) → n < m → nat_le m n ≡ false
-leb-false_of m n l = grind (arith, nat_tests)
-
 pub fits-below : (z : Size) (n : ℕ) (t : Term) (C : ℕ → ℕ → CellView) (W : ℕ → Bool) (r c : ℕ) (a : Attrs)
     → z.cols < c + n → r + 1 < z.rows → is_filled (C r (z.cols - 1)) ≡ true
     → made_to_fit z n (at t C W r c a) ≡ at t C (update W r true) (r + 1) 0 a
 unfolding made_to_fit wrap
 fits-below z n t C W r c a l room full =
-    rw (leb-false_of (c + n) z.cols l, full) (down-room z (at t C (update W r true) r 0 a) room)
+    rw (lt-leb (c + n) z.cols l, full) (down-room z (at t C (update W r true) r 0 a) room)
 
 pub print-line : (z : Size) (t : Term) (C : ℕ → ℕ → CellView) (W : ℕ → Bool) (i c : ℕ) (a : Attrs) (f : ℕ → CellView)
     (x : CellView)
@@ -188,25 +123,6 @@ takes-print z t C W i c f x e lost loses s l = record {
       ∙ print-line z t C W i c x.attrs f x;
 }
 
--- the cursor stands in the row above, and too few columns are left there
-pub takes-print_below : (z : Size) (t : Term) (C : ℕ → ℕ → CellView) (W : ℕ → Bool) (r c : ℕ) (f : ℕ → CellView)
-    (x : CellView) (e : Option Erase) (lost loses : Bool) → IsSendable x → span_of x ≤ z.cols → z.cols < c + span_of x
-    → r + 1 < z.rows → is_filled (C r (z.cols - 1)) ≡ true
-    → Takes z (print x loses) (pen (r + 1) 0 x.attrs e lost) (at t (update C (r + 1) f) W r c x.attrs)
-    (pen (r + 1) (0 + span_of x) x.attrs e (lost || loses))
-    (at t (update C (r + 1) (put f 0 x x.attrs)) (kept_or_off (put_unflags z.cols f 0 x) (update W r true) (r + 1))
-    (r + 1) (0 + span_of x) x.attrs)
-unfolding print
-takes-print_below z t C W r c f x e lost loses s l over room full =
-    let kept : update C (r + 1) f r ≡ C r = update-other C (r + 1) r f (λ q. absurd (omega arith)) in
-    record {
-      pen_is = refl;
-      term_is = text-printed z (at t (update C (r + 1) f) W r c x.attrs) x s.cell s.some s.plain refl l
-          ∙ ap (printed_cell z x) (fits-below z (span_of x) t (update C (r + 1) f) W r c x.attrs over room
-          (ap (λ (g : ℕ → CellView). is_filled (g (z.cols - 1))) kept ∙ full))
-          ∙ print-line z t C (update W r true) (r + 1) 0 x.attrs f x;
-    }
-
 -- ---- a space
 
 pub span-space : (a : Attrs) → span_of (cell_of 32 a) ≡ 1
@@ -226,29 +142,6 @@ sends-space a = record {
   plain = λ h. no_variation h;
 }
 
-space_term : (z : Size) (t : Term) (C : ℕ → ℕ → CellView) (W : ℕ → Bool) (r c : ℕ) (f : ℕ → CellView)
-    (a : Attrs) (e : Option Erase) (lost : Bool)
-    → Takes z (print (cell_of 32 a) false) (pen (r + 1) 0 a e lost) (at t (update C (r + 1) f) W r c a)
-    (pen (r + 1) (0 + span_of (cell_of 32 a)) a e (lost || false))
-    (at t (update C (r + 1) (put f 0 (cell_of 32 a) a))
-    (kept_or_off (put_unflags z.cols f 0 (cell_of 32 a)) (update W r true) (r + 1)) (r + 1)
-    (0 + span_of (cell_of 32 a)) a)
-    → run z (Text (32 ∷ []) ∷ []) (at t (update C (r + 1) f) W r c a)
-    ≡ at t (update C (r + 1) (put f 0 (cell_of 32 a) a)) (update W r true) (r + 1) 1 a
-unfolding print char_width
-space_term z t C W r c f a e lost h = h.term_is
-
-pub takes-space_below : (z : Size) (t : Term) (C : ℕ → ℕ → CellView) (W : ℕ → Bool) (r c : ℕ) (f : ℕ → CellView)
-    (a : Attrs) (e : Option Erase) (lost : Bool) → 0 < z.cols → z.cols < c + 1 → r + 1 < z.rows
-    → is_filled (C r (z.cols - 1)) ≡ true
-    → Takes z space (pen (r + 1) 0 a e lost) (at t (update C (r + 1) f) W r c a) (pen (r + 1) 1 a e lost)
-    (at t (update C (r + 1) (put f 0 (cell_of 32 a) a)) (update W r true) (r + 1) 1 a)
-unfolding space char_width
-takes-space_below z t C W r c f a e lost some over room full =
-    let below = takes-print_below z t C W r c f (cell_of 32 a) e lost false (sends-space a) (omega arith) (omega arith)
-    room full in
-    record { pen_is = refl; term_is = space_term z t C W r c f a e lost below }
-
 -- ---- columns are erased
 
 pub takes-erasing : (z : Size) (t : Term) (C : ℕ → ℕ → CellView) (W : ℕ → Bool) (i c m : ℕ) (f : ℕ → CellView)
@@ -262,10 +155,3 @@ takes-erasing z t C W i c m f a e lost loses l =
       pen_is = refl;
       term_is = ap (λ n. erase z n (at t (update C i f) W i c a)) up_to ∙ erase-line z t C W i c (c + m) a f;
     }
-
-pub takes-clearing : (z : Size) (t : Term) (C : ℕ → ℕ → CellView) (W : ℕ → Bool) (i c : ℕ) (f : ℕ → CellView)
-    (a : Attrs) (e : Option Erase) (lost : Bool)
-    → Takes z clearing (pen i c a e lost) (at t (update C i f) W i c a) (pen i c a None true)
-    (at t (update C i (wiped f c z.cols a)) (kept_or_off (wipe_unflags z.cols f c z.cols) W i) i c a)
-unfolding clearing apply
-takes-clearing z t C W i c f a e lost = record { pen_is = refl; term_is = erase-line z t C W i c z.cols a f }

@@ -1,35 +1,31 @@
 -- The cells that single writers touch.
-use Rattle.std.proofs.Common.{◌≡◌, ℕ, suc, ◌+◌, ◌-◌, ◌<◌, ◌≤◌, ◌==◌, Bool, true, false, cond, ◌&&◌, ◌||◌, nat_lt}
-use Rattle.std.proofs.Common.{nat_le}
-use Rattle.std.proofs.Common.{List, [], ◌∷◌, min, refl, arith, sym, ap, ◌∙◌, inl, inr, ◌⊎◌, subst}
+use Rattle.std.proofs.Common.{◌≡◌, ℕ, suc, ◌+◌, ◌-◌, ◌<◌, ◌≤◌, ◌==◌, Bool, true, false, cond, ◌&&◌, nat_lt}
+use Rattle.std.proofs.Common.{nat_le, List, [], ◌∷◌, min, refl, arith, sym, ap, ◌∙◌, inl, inr, subst}
 use Rattle.std.specs.Prelude.{Contains, All}
-use Rattle.std.proofs.lemmas.Bool.{both_ways, cond_both, and_parts, eqb-true, eq-eqb, ne_eqb, le-ltb, le-leb, or_left}
+use Rattle.std.proofs.lemmas.Bool.{lt-leb, both_ways, cond_both, and_parts, eqb-true, eq-eqb, ne_eqb, le-ltb, le-leb, or_left}
 use Rattle.std.proofs.lemmas.Bool.{false≢true, ltb-true}
 use Rattle.std.proofs.lemmas.Bool.Decides.{nat_tests}
 use Rattle.vt100_forms.specs.declared.attrs.Attrs.{Attrs}
 use Rattle.vt100_forms.specs.declared.position.Pos.{Pos}
-use Rattle.vt100_forms.specs.Attrs.{attrs_eq, default_attrs}
-use Rattle.vt100_forms.specs.Form.{Form, Text, MoveTo, MoveRight, EraseChar, ClearRowForward, ClearAttrs, Crlf}
-use Rattle.vt100_forms.specs.Form.{Backspace}
+use Rattle.vt100_forms.specs.Form.{Form, Text, MoveTo, MoveRight, EraseChar, ClearAttrs, Crlf}
 use Rattle.vt100_forms.specs.Form.{Sgr, changed_attrs, moves}
 use Rattle.vt100_cells.specs.Cell.{CellView, IsCell, IsCellText, IsWideAs, cell_of, columns_of, appended_plain}
-use Rattle.vt100_cells.specs.Cell.{is_filled}
-use Rattle.vt100_cells.specs.Cell.{is_undrawable}
+use Rattle.vt100_cells.specs.Cell.{is_filled, is_undrawable}
 use Rattle.vt100_cells.specs.Line.{span_of, put, base_col}
 use Rattle.vt100_cells.proofs.JoinedCells.{plain-continuation}
 use Rattle.terminal_model.specs.Position.{update}
 use Rattle.terminal_model.specs.Term.{Size, Term}
-use Rattle.terminal_model.specs.Apply.{with_line, print as printed_cell, join, is_dropped, input}
-use Rattle.terminal_model.specs.Apply.{run}
+use Rattle.terminal_model.specs.Apply.{with_line, print as printed_cell, join, is_dropped, input, run}
 use Rattle.terminal_model.specs.Touch.{put_touches, wipe_touches, input_touches, inputs_touch, form_touches}
 use Rattle.terminal_model.specs.Touch.{touches, Within}
-use Rattle.terminal_model.proofs.Positions.{update-same, update-other}
+use Rattle.terminal_model.proofs.Positions.{update-same}
 use Rattle.terminal_model.proofs.TermLemmas.{span-columns, columns-few}
 use Rattle.terminal_model.proofs.TouchLemmas.{within-joined}
 use Rattle.row_drawing.specs.declared.pen.Pen.{Pen}
-use Rattle.row_drawing.specs.Writer.{Drawn, Writer, ◌>>◌, skip, goto, turn, color, print, space, back, erasing}
-use Rattle.row_drawing.specs.Writer.{clearing, marking}
-use Rattle.row_drawing.proofs.Steps.{Takes, IsSendable, at, fits-here, fits-below, span-space, sends-space}
+use Rattle.row_drawing.specs.Writer.{Writer, ◌>>◌, goto, color, print, erasing}
+use Rattle.row_drawing.proofs.RowForms.{moves-cases, change-cases}
+use Rattle.row_drawing.proofs.LocalRow.{or-split, touches-wider}
+use Rattle.row_drawing.proofs.Steps.{Takes, IsSendable, at, fits-here, fits-below}
 
 -- ---- zero-width characters
 
@@ -79,16 +75,12 @@ zero-touches z d i c t r k none h =
     (eqb-true r t.row both.0 ∙ h.row, eqb-true k _ both.1 ∙ h.base))
     (λ e _. absurd (both_ways (columns_of d == 0) e (eq-eqb (columns_of d) 0 none))))
 
-or-cases : (a b : Bool) → (a || b) ≡ true → (a ≡ true) ⊎ (b ≡ true)
-or-cases true b h = inl refl
-or-cases false b h = inr h
-
 zeros-touch : (z : Size) (ds : List ℕ) (i c : ℕ) (t : Term) (r k : ℕ) → All (λ d. columns_of d ≡ 0) ds
     → IsBehind i c t → inputs_touch z ds t r k ≡ true → (r ≡ i) × (k ≡ c)
 zeros-touch z [] i c t r k none h q = absurd (false≢true q)
 zeros-touch z (d ∷ ds) i c t r k none h q =
     let e : columns_of d ≡ 0 = none 0 d (omega arith) in
-    elim (or-cases (input_touches z d t r k) _ q) [
+    elim (or-split (input_touches z d t r k) _ q) [
       | inl first ↦ zero-touches z d i c t r k e h first
       | inr later ↦ zeros-touch z ds i c (input z d t) r k (λ j x l. none (suc j) x (omega arith))
           (input-behind z d i c t e h) later
@@ -96,29 +88,9 @@ zeros-touch z (d ∷ ds) i c t r k none h q =
 
 -- ---- the text of a cell
 
-put-base_wide : (f : ℕ → CellView) (i : ℕ) (y : CellView) (a : Attrs) → y.wide ≡ true
-    → base_col (put f i y a) (i + 2) ≡ i
-put-base_wide f i y a w =
-    let next : i + 2 - 1 ≡ i + 1 = omega arith in
-    let second : (put f i y a (i + 1)).continuation ≡ true = grind (arith, nat_tests) in
-    ap (λ j. cond (put f i y a j).continuation (i + 2 - 2) (i + 2 - 1)) next
-    ∙ ap (λ b. cond b (i + 2 - 2) (i + 2 - 1)) second ∙ omega arith
-
-put-base_narrow : (f : ℕ → CellView) (i : ℕ) (y : CellView) (a : Attrs) → y.continuation ≡ false
-    → base_col (put f i y a) (i + 1) ≡ i
-put-base_narrow f i y a c =
-    let here : i + 1 - 1 ≡ i = omega arith in
-    let whole : (put f i y a i).continuation ≡ false = grind (arith, nat_tests) in
-    ap (λ j. cond (put f i y a j).continuation (i + 1 - 2) (i + 1 - 1)) here
-    ∙ ap (λ b. cond b (i + 1 - 2) (i + 1 - 1)) whole ∙ here
-
 put-base : (f : ℕ → CellView) (i : ℕ) (y : CellView) (a : Attrs) → y.continuation ≡ false
     → base_col (put f i y a) (i + span_of y) ≡ i
-put-base f i y a whole =
-    (elim y.wide as (λ w. y.wide ≡ w → base_col (put f i y a) (i + cond w 2 1) ≡ i) [
-      | true ↦ λ e. put-base_wide f i y a e
-      | false ↦ λ e. put-base_narrow f i y a whole
-    ]) refl
+put-base f i y a whole = grind (arith, nat_tests)
 
 print-behind : (z : Size) (y : CellView) (u : Term) → y.continuation ≡ false
     → IsBehind u.row u.col (printed_cell z y u)
@@ -129,17 +101,11 @@ print-behind z y u whole = record {
       ∙ put-base (u.cell u.row) u.col y u.attrs whole;
 }
 
-put_touches-like : (f : ℕ → CellView) (i : ℕ) (x y : CellView) (k : ℕ) → y.wide ≡ x.wide
-    → put_touches f i y k ≡ true → put_touches f i x k ≡ true
-put_touches-like f i x y k w h =
-    ap (λ b. (k == i) || (((k == (i + 1)) && (b || (f i).wide)) || ((((k + 1) == i) && (f k).wide)
-    || ((k == (i + 2)) && (b && (f (i + 1)).wide))))) (sym w) ∙ h
-
 put_touches-at : (f : ℕ → CellView) (i : ℕ) (x : CellView) (k : ℕ) → k ≡ i → put_touches f i x k ≡ true
 put_touches-at f i x k e = or_left (k == i) _ (eq-eqb k i e)
 
 -- the first character is put at column n of row i, over the line f
-record IsFirst (z : Size) (x : CellView) (c : ℕ) (t : Term) (i n : ℕ) (f : ℕ → CellView) : Type 0 where
+pub record IsFirst (z : Size) (x : CellView) (c : ℕ) (t : Term) (i n : ℕ) (f : ℕ → CellView) : Type 0 where
   touched : (r k : ℕ) → input_touches z c t r k ≡ true → (r ≡ i) × (put_touches f n x k ≡ true)
   behind : IsBehind i n (input z c t)
 
@@ -147,14 +113,14 @@ first-text : (z : Size) (x : CellView) (c : ℕ) (cs : List ℕ) (t : Term) (i n
     → IsFirst z x c t i n f → All (λ d. columns_of d ≡ 0) cs → inputs_touch z (c ∷ cs) t r k ≡ true
     → (r ≡ i) × (put_touches f n x k ≡ true)
 first-text z x c cs t i n f r k h none q =
-    elim (or-cases (input_touches z c t r k) _ q) [
+    elim (or-split (input_touches z c t r k) _ q) [
       | inl first ↦ h.touched r k first
       | inr later ↦ (let there = zeros-touch z cs i n (input z c t) r k none h.behind later in
           (there.0, put_touches-at f n x k there.1))
     ]
 
 -- what the first character of a cell's text is
-record IsHead (x : CellView) (c : ℕ) (cs : List ℕ) : Type 0 where
+pub record IsHead (x : CellView) (c : ℕ) (cs : List ℕ) : Type 0 where
   drawn : is_undrawable c ≡ false
   some : (columns_of c == 0) ≡ false
   wide : (columns_of c == 2) ≡ x.wide
@@ -198,15 +164,13 @@ first-here z x c cs t h room =
     record {
       touched = λ r k q.
           let both = and_parts (r == t.row) _ ((rw (kept, some, le) refl) ∙ q) in
-          (eqb-true r t.row both.0, put_touches-like (t.cell t.row) t.col x (cell_of c t.attrs) k h.wide both.1);
+          let wider = touches-wider (t.cell t.row) t.col x (cell_of c t.attrs) k (λ e. sym h.wide ∙ e) both.1 in
+          (eqb-true r t.row both.0, wider);
       behind = subst (IsBehind t.row t.col) (sym (rw (kept, some) (ap (printed_cell z (cell_of c t.attrs))
           (fits-here z (columns_of c) t fits)))) (print-behind z (cell_of c t.attrs) t refl);
     }
 
-leb-off : (m n : ℕ) → n < m → nat_le m n ≡ false
-leb-off m n l = grind (arith, nat_tests)
-
-first-below : (z : Size) (x : CellView) (c : ℕ) (cs : List ℕ) (t : Term) (C : ℕ → ℕ → CellView) (W : ℕ → Bool)
+pub first-below : (z : Size) (x : CellView) (c : ℕ) (cs : List ℕ) (t : Term) (C : ℕ → ℕ → CellView) (W : ℕ → Bool)
     (r n : ℕ) (a : Attrs) → IsHead x c cs → span_of x ≤ z.cols → z.cols < n + span_of x → r + 1 < z.rows
     → is_filled (C r (z.cols - 1)) ≡ true → IsFirst z x c (at t C W r n a) (r + 1) 0 (C (r + 1))
 unfolding input input_touches
@@ -215,18 +179,18 @@ first-below z x c cs t C W r n a h l over room full =
     let past : z.cols < n + columns_of c = omega (arith, over, h.span) in
     let kept = kept_first z c u h.drawn h.some (omega (arith, l, h.span)) in
     let some = h.some in
-    let off = leb-off (n + columns_of c) z.cols past in
-    let inner : nat_le z.rows (r + 1) ≡ false = leb-off z.rows (r + 1) room in
+    let off = lt-leb (n + columns_of c) z.cols past in
+    let inner : nat_le z.rows (r + 1) ≡ false = lt-leb z.rows (r + 1) room in
     record {
       touched = λ i k q.
           let both = and_parts (i == (r + 1)) _ ((rw (kept, some, off, inner) refl) ∙ q) in
-          (eqb-true i (r + 1) both.0, put_touches-like (C (r + 1)) 0 x (cell_of c a) k h.wide both.1);
+          (eqb-true i (r + 1) both.0, touches-wider (C (r + 1)) 0 x (cell_of c a) k (λ e. sym h.wide ∙ e) both.1);
       behind = subst (IsBehind (r + 1) 0) (sym (rw (kept, some) (ap (printed_cell z (cell_of c a))
           (fits-below z (columns_of c) t C W r n a past room full))))
           (print-behind z (cell_of c a) (at t C (update W r true) (r + 1) 0 a) refl);
     }
 
-text-from : (z : Size) (x : CellView) (t : Term) (i n : ℕ) (f : ℕ → CellView) → IsSendable x
+pub text-from : (z : Size) (x : CellView) (t : Term) (i n : ℕ) (f : ℕ → CellView) → IsSendable x
     → ((c : ℕ) (cs : List ℕ) → IsHead x c cs → IsFirst z x c t i n f) → (r k : ℕ)
     → form_touches z (Text x.text) t r k ≡ true → (r ≡ i) × (put_touches f n x k ≡ true)
 unfolding form_touches
@@ -252,24 +216,7 @@ stays-then S z f g p t q u k a b =
     (subst (λ (x : Pen). Within S z (g x).forms (run z (f p).forms t)) (sym k.pen_is)
     (subst (λ (v : Term). Within S z (g q).forms v) (sym k.term_is) b))
 
-pub stays-as : (S : ℕ → ℕ → Type 0) (z : Size) (f g : Writer) (p : Pen) (t : Term) → g p ≡ f p → Stays S z f p t
-    → Stays S z g p t
-stays-as S z f g p t e a = subst (λ (d : Drawn). Within S z d.forms t) (sym e) a
-
-pub stays-skip : (S : ℕ → ℕ → Type 0) (z : Size) (p : Pen) (t : Term) → Stays S z skip p t
-unfolding skip
-stays-skip S z p t = tt
-
-pub stays-turn : (S : ℕ → ℕ → Type 0) (z : Size) (row : ℕ) (p : Pen) (t : Term) → Stays S z (turn row) p t
-unfolding turn
-stays-turn S z row p t = tt
-
-pub stays-marking : (S : ℕ → ℕ → Type 0) (z : Size) (n : ℕ) (a : Attrs) (p : Pen) (t : Term)
-    → Stays S z (marking n a) p t
-unfolding marking
-stays-marking S z n a p t = tt
-
-form-within : (S : ℕ → ℕ → Type 0) (z : Size) (f : Form) (t : Term)
+pub form-within : (S : ℕ → ℕ → Type 0) (z : Size) (f : Form) (t : Term)
     → ((r k : ℕ) → k < z.cols → form_touches z f t r k ≡ true → S r k) → Within S z (f ∷ []) t
 unfolding touches
 form-within S z f t h = (
@@ -279,7 +226,7 @@ form-within S z f t h = (
   tt,
 )
 
-form-idle : (S : ℕ → ℕ → Type 0) (z : Size) (f : Form) (t : Term) → ((r k : ℕ) → form_touches z f t r k ≡ false)
+pub form-idle : (S : ℕ → ℕ → Type 0) (z : Size) (f : Form) (t : Term) → ((r k : ℕ) → form_touches z f t r k ≡ false)
     → Within S z (f ∷ []) t
 form-idle S z f t h = form-within S z f t (λ r k l e. absurd (both_ways (form_touches z f t r k) (h r k) e))
 
@@ -287,15 +234,10 @@ moves-idle : (S : ℕ → ℕ → Type 0) (z : Size) (p q : Pos) (t : Term) → 
     → Within S z (moves p q) t
 unfolding form_touches
 moves-idle S z p q t here room =
-    let P : List Form → Type 0 = λ fs. Within S z fs t in
-    cond_both ((q.row == p.row + 1) && (q.col == 0)) (Crlf ∷ []) _ P
-    (λ h.
-    let next : q.row ≡ p.row + 1 = eqb-true q.row (p.row + 1) (and_parts (q.row == p.row + 1) (q.col == 0) h).0 in
-    form-idle S z Crlf t (λ r k. leb-off z.rows (t.row + 1) (omega (arith, next, here))))
-    (λ _. cond_both ((p.row == q.row) && (p.col == q.col)) [] _ P (λ _. tt)
-    (λ _. cond_both ((p.row == q.row) && nat_lt p.col q.col) (MoveRight (q.col - p.col) ∷ [])
-    (MoveTo q.row q.col ∷ []) P (λ _. form-idle S z (MoveRight (q.col - p.col)) t (λ r k. refl))
-    (λ _. form-idle S z (MoveTo q.row q.col) t (λ r k. refl))))
+    moves-cases (λ fs. Within S z fs t) p q
+    (λ next. form-idle S z Crlf t (λ r k. lt-leb z.rows (t.row + 1) (omega (arith, next, here)))) tt
+    (form-idle S z (MoveRight (q.col - p.col)) t (λ r k. refl))
+    (form-idle S z (MoveTo q.row q.col) t (λ r k. refl))
 
 pub stays-goto : (S : ℕ → ℕ → Type 0) (z : Size) (row col : ℕ) (p : Pen) (t : Term) → t.row ≡ p.pos.row → row < z.rows
     → Stays S z (goto row col) p t
@@ -305,15 +247,8 @@ stays-goto S z row col p t here room = moves-idle S z p.pos (record { row = row;
 pub stays-color : (S : ℕ → ℕ → Type 0) (z : Size) (a : Attrs) (p : Pen) (t : Term) → Stays S z (color a) p t
 unfolding color form_touches
 stays-color S z a p t =
-    let P : List Form → Type 0 = λ fs. Within S z fs t in
-    cond_both (attrs_eq a p.attrs) [] _ P (λ _. tt)
-    (λ _. cond_both (attrs_eq a default_attrs) (ClearAttrs ∷ []) (Sgr (changed_attrs p.attrs a) ∷ []) P
-    (λ _. form-idle S z ClearAttrs t (λ r k. refl)) (λ _. form-idle S z (Sgr (changed_attrs p.attrs a)) t
-    (λ r k. refl)))
-
-pub stays-back : (S : ℕ → ℕ → Type 0) (z : Size) (p : Pen) (t : Term) → Stays S z back p t
-unfolding back form_touches
-stays-back S z p t = form-idle S z Backspace t (λ r k. refl)
+    change-cases (λ fs. Within S z fs t) p.attrs a tt (form-idle S z ClearAttrs t (λ r k. refl))
+    (form-idle S z (Sgr (changed_attrs p.attrs a)) t (λ r k. refl))
 
 pub stays-print : (S : ℕ → ℕ → Type 0) (z : Size) (t : Term) (C : ℕ → ℕ → CellView) (W : ℕ → Bool) (i c : ℕ) (a : Attrs)
     (f : ℕ → CellView) (x : CellView) (loses : Bool) (p : Pen) → IsSendable x → c + span_of x ≤ z.cols
@@ -328,35 +263,7 @@ stays-print S z t C W i c a f x loses p send room h =
     subst (λ j. S j k) (sym there.0) (h k l
     (ap (λ g. put_touches g c x k) (sym (update-same C i f)) ∙ there.1)))
 
-pub stays-print_below : (S : ℕ → ℕ → Type 0) (z : Size) (t : Term) (C : ℕ → ℕ → CellView) (W : ℕ → Bool) (i c : ℕ)
-    (a : Attrs) (f : ℕ → CellView) (x : CellView) (loses : Bool) (p : Pen) → IsSendable x → span_of x ≤ z.cols
-    → z.cols < c + span_of x → i + 1 < z.rows → is_filled (C i (z.cols - 1)) ≡ true
-    → ((k : ℕ) → k < z.cols → put_touches f 0 x k ≡ true → S (i + 1) k)
-    → Stays S z (print x loses) p (at t (update C (i + 1) f) W i c a)
-unfolding print
-stays-print_below S z t C W i c a f x loses p send l over room full h =
-    let D : ℕ → ℕ → CellView = update C (i + 1) f in
-    let u = at t D W i c a in
-    let kept : D i ≡ C i = update-other C (i + 1) i f (λ q. absurd (omega (arith, q))) in
-    let shown = ap (λ (g : ℕ → CellView). is_filled (g (z.cols - 1))) kept ∙ full in
-    form-within S z (Text x.text) u (λ r k m e.
-    let there = text-from z x u (i + 1) 0 (D (i + 1)) send
-    (λ d ds head. first-below z x d ds t D W i c a head l over room shown) r k e in
-    subst (λ j. S j k) (sym there.0) (h k m
-    (ap (λ g. put_touches g 0 x k) (sym (update-same C (i + 1) f)) ∙ there.1)))
-
-pub stays-space_below : (S : ℕ → ℕ → Type 0) (z : Size) (t : Term) (C : ℕ → ℕ → CellView) (W : ℕ → Bool) (i c : ℕ)
-    (a : Attrs) (f : ℕ → CellView) (p : Pen) → 0 < z.cols → z.cols < c + 1 → i + 1 < z.rows
-    → is_filled (C i (z.cols - 1)) ≡ true
-    → ((k : ℕ) → k < z.cols → put_touches f 0 (cell_of 32 a) k ≡ true → S (i + 1) k)
-    → Stays S z space p (at t (update C (i + 1) f) W i c a)
-unfolding space print
-stays-space_below S z t C W i c a f p some over room full h =
-    let one = span-space a in
-    stays-print_below S z t C W i c a f (cell_of 32 a) false p (sends-space a) (omega (arith, one, some))
-    (omega (arith, one, over)) room full h
-
-erase-within : (S : ℕ → ℕ → Type 0) (z : Size) (g : Form) (t : Term) (C : ℕ → ℕ → CellView) (W : ℕ → Bool) (i c e : ℕ)
+pub erase-within : (S : ℕ → ℕ → Type 0) (z : Size) (g : Form) (t : Term) (C : ℕ → ℕ → CellView) (W : ℕ → Bool) (i c e : ℕ)
     (a : Attrs) (f : ℕ → CellView)
     → ((r k : ℕ) → form_touches z g (at t (update C i f) W i c a) r k
     ≡ ((r == i) && wipe_touches (update C i f i) c e k))
@@ -376,10 +283,3 @@ stays-erasing S z t C W i c m e a f loses p whole l h =
     let up_to : min (c + m) z.cols ≡ e = omega (arith, whole, l) in
     erase-within S z (EraseChar m) t C W i c e a f
     (λ r k. ap (λ n. (r == i) && wipe_touches (update C i f i) c n k) up_to) h
-
-pub stays-clearing : (S : ℕ → ℕ → Type 0) (z : Size) (t : Term) (C : ℕ → ℕ → CellView) (W : ℕ → Bool) (i c : ℕ)
-    (a : Attrs) (f : ℕ → CellView) (p : Pen) → ((k : ℕ) → k < z.cols → wipe_touches f c z.cols k ≡ true → S i k)
-    → Stays S z clearing p (at t (update C i f) W i c a)
-unfolding clearing form_touches
-stays-clearing S z t C W i c a f p h =
-    erase-within S z ClearRowForward t C W i c z.cols a f (λ r k. refl) h

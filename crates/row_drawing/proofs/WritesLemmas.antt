@@ -11,8 +11,7 @@ use Rattle.vt100_forms.specs.declared.position.Pos.{Pos}
 use Rattle.std.proofs.lemmas.Bool.{and_parts, eqb-true, ne_eqb, eq-eqb}
 use Rattle.vt100_cells.specs.Line.{span_of}
 use Rattle.row_drawing.specs.declared.pen.Pen.{Pen}
-use Rattle.row_drawing.specs.Writer.{Drawn, Writer, ◌>>◌, skip, goto, color, print, space, back, erasing}
-use Rattle.row_drawing.specs.Writer.{clearing}
+use Rattle.row_drawing.specs.Writer.{Drawn, Writer, ◌>>◌, skip, goto, color, print, space, back, erasing, clearing}
 use Rattle.row_drawing.specs.Writes.{IsBegun, Wrote}
 
 pub spell-joined : (fs gs : List Form) → spell (fs ++ gs) ≡ spell fs ++ spell gs
@@ -78,9 +77,30 @@ wrote_as f g p s q t e a = record {
   text_is = a.text_is ∙ ap (λ (d : Drawn). s ++ spell d.forms) (sym e);
 }
 
-pub begun_as : (f g : Writer) (p : Pen) (s t : List ℕ) → g p ≡ f p → IsBegun s (spell (f p).forms) t
-    → IsBegun s (spell (g p).forms) t
-begun_as f g p s t e h = subst (λ (d : Drawn). IsBegun s (spell d.forms) t) (sym e) h
+-- a call that was refused, of which a part of the forms may have been appended
+pub record Began (f : Writer) (p : Pen) (s t : List ℕ) : Type 0 where
+  pub is : IsBegun s (spell (f p).forms) t
+
+pub began_first : {f : Writer} (g : Writer) {p : Pen} {s t : List ℕ} → Began f p s t → Began (f >> g) p s t
+began_first {f = f} g {p = p} {s = s} {t = t} h = record { is = begun_first f g p s t h.is }
+
+pub began_then : {f g : Writer} {p : Pen} {s : List ℕ} {q : Pen} {t u : List ℕ} → Wrote f p s q t → Began g q t u
+    → Began (f >> g) p s u
+began_then {f = f} {g = g} {p = p} {s = s} {q = q} {t = t} {u = u} a h = record {
+  is = begun_then f g p s q t u a h.is;
+}
+
+pub began_as : {f g : Writer} {p : Pen} {s t : List ℕ} → g p ≡ f p → Began f p s t → Began g p s t
+began_as {s = s} {t = t} e h = record { is = subst (λ (d : Drawn). IsBegun s (spell d.forms) t) (sym e) h.is }
+
+-- where the writers and the places are inferred
+pub wrote_both : {f g : Writer} {p : Pen} {s : List ℕ} {q : Pen} {t : List ℕ} {r : Pen} {u : List ℕ} → Wrote f p s q t
+    → Wrote g q t r u → Wrote (f >> g) p s r u
+wrote_both a b = wrote_then _ _ _ _ _ _ _ _ a b
+
+pub wrote_by : {f g : Writer} {p : Pen} {s : List ℕ} {q : Pen} {t : List ℕ} → g p ≡ f p → Wrote f p s q t
+    → Wrote g p s q t
+wrote_by e a = wrote_as _ _ _ _ _ _ e a
 
 pub wrote_skip : (p : Pen) (s : List ℕ) → Wrote skip p s p s
 unfolding skip

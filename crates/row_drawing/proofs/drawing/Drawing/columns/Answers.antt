@@ -50,7 +50,8 @@ loop-n-preserved-then-begins_run c =
       drawn = c.texts-n.ensures.written u p s (subst (λ bs. Wrote (columns j c.loop-n.n) p s c.loop-n.pen bs)
           (sym c.in_ok-make_room.ensures.kept) c.loop-n.invariant.drawn);
       begun = begun_columns_moved j c.loop-n.n c.args.count p s c.loop-n.pen (string_bytes c.loop-n.contents)
-          c.loop-n.run u c.loop-n.invariant.within c.loop-n.invariant.drawn c.loop-n.invariant.begun c.in_ok-make_room.ensures.moved;
+          c.loop-n.run u c.loop-n.invariant.within c.loop-n.invariant.drawn c.loop-n.invariant.begun
+          c.in_ok-make_room.ensures.moved;
       like = ap (λ (x : CellView). x.attrs) (c.at.ensures ∙ ap (cell_at c.args.self.now.cells.now) c.from.ensures)
           ∙ c.texts-n.ensures.like;
     }

@@ -1,35 +1,25 @@
-use Rattle.std.specs.Prelude.{string_bytes}
 use Rattle.row_drawing.specs.Drawing.{job_of}
 use Rattle.row_drawing.specs.RowWriter.{finish}
-use Rattle.row_drawing.proofs.RowWrites.{begun_finish_first, begun_finish_then, on_err, wrote_finish_none}
-use Rattle.row_drawing.proofs.RowWrites.{wrote_finish_some}
+use Rattle.row_drawing.proofs.Columns.{finish-is_none, finish-is_some}
+use Rattle.row_drawing.proofs.RowWrites.{refused}
+use Rattle.row_drawing.proofs.WritesLemmas.{began_first, began_then, began_as, wrote_both, wrote_by, wrote_skip}
 use Rattle.row_drawing.proofs.drawing.Drawing.finish.Goals as goal
 
 pub returns-in_default : goal.returns-in_default
 returns-in_default c =
-    wrote_finish_none _ _ _ c.in_default.is
+    wrote_by (finish-is_none _ _ c.in_default.is) (wrote_skip _ _)
 
 pub returns-in_err-to_erase : goal.returns-in_err-to_erase
 returns-in_err-to_erase c =
-    let j = job_of c.args.self.now in
-    let e = c.in-Some.erase in
-    let p = c.args.pen.now in
-    let s = string_bytes c.args.contents.now in
-    let t = string_bytes c.to_erase.new.contents in
-    on_err c.from_residual.result (finish j) p s c.to_erase.new.pen t c.from_residual.ensures.0
-    (begun_finish_first j p s t e c.in-Some.is c.in_err-to_erase.ensures)
+    refused _ (finish (job_of c.args.self.now)) c.args.pen.now _ _ _ c.from_residual.ensures.0
+    (began_as (finish-is_some _ _ _ c.in-Some.is) (began_first _ (record { is = c.in_err-to_erase.ensures })))
 
 pub returns-in_err-clear : goal.returns-in_err-clear
 returns-in_err-clear c =
-    let j = job_of c.args.self.now in
-    let e = c.in-Some.erase in
-    let p = c.args.pen.now in
-    let s = string_bytes c.args.contents.now in
-    let t = string_bytes c.to_erase.new.contents in
-    let u = string_bytes c.clear.new.contents in
-    on_err c.from_residual-in_err-clear.result (finish j) p s c.clear.new.self u c.from_residual-in_err-clear.ensures.0
-    (begun_finish_then j p s c.to_erase.new.pen t u e c.in-Some.is c.in_ok-to_erase.ensures c.in_err-clear.ensures)
+    refused _ (finish (job_of c.args.self.now)) c.args.pen.now _ _ _ c.from_residual-in_err-clear.ensures.0
+    (began_as (finish-is_some _ _ _ c.in-Some.is) (began_then c.in_ok-to_erase.ensures
+    (record { is = c.in_err-clear.ensures })))
 
 pub returns : goal.returns
 returns c =
-    wrote_finish_some _ _ _ _ _ _ _ c.in-Some.erase c.in-Some.is c.in_ok-to_erase.ensures c.in_ok-clear.ensures
+    wrote_by (finish-is_some _ _ _ c.in-Some.is) (wrote_both c.in_ok-to_erase.ensures c.in_ok-clear.ensures)

@@ -1,47 +1,30 @@
-use Rattle.std.specs.Prelude.{string_bytes}
 use Rattle.row_drawing.specs.Drawing.{job_of}
 use Rattle.row_drawing.specs.RowWriter.{row_redraw}
-use Rattle.row_drawing.proofs.OpeningWrites.{begun_redraw_columns, begun_redraw_finish, begun_redraw_opening}
-use Rattle.row_drawing.proofs.OpeningWrites.{wrote_redraw}
-use Rattle.row_drawing.proofs.RowWrites.{on_err}
+use Rattle.row_drawing.proofs.OpeningWrites.{redraw-is}
+use Rattle.row_drawing.proofs.RowWrites.{refused}
+use Rattle.row_drawing.proofs.WritesLemmas.{began_first, began_then, began_as, wrote_both, wrote_by}
 use Rattle.row_drawing.proofs.drawing.Drawing.redraw_behind.Goals as goal
 
 pub returns-in_err-opening : goal.returns-in_err-opening
 returns-in_err-opening c =
-    let j = job_of c.args.self.now in
-    let n = c.args.count in
-    let p = c.args.pen.now in
-    let s = string_bytes c.args.contents.now in
-    let t = string_bytes c.opening.new.contents in
-    on_err c.from_residual.result (row_redraw j n) p s c.opening.new.pen t c.from_residual.ensures.0
-    (begun_redraw_opening j n p s t c.in_err-opening.ensures)
+    refused _ (row_redraw (job_of c.args.self.now) c.args.count) c.args.pen.now _ _ _ c.from_residual.ensures.0
+    (began_as (redraw-is _ _ _) (began_first _ (began_first _ (record { is = c.in_err-opening.ensures }))))
 
 pub returns-in_err-columns : goal.returns-in_err-columns
 returns-in_err-columns c =
-    let j = job_of c.args.self.now in
-    let n = c.args.count in
-    let p = c.args.pen.now in
-    let s = string_bytes c.args.contents.now in
-    let t = string_bytes c.opening.new.contents in
-    let u = string_bytes c.columns.new.contents in
-    on_err c.from_residual-in_err-columns.result (row_redraw j n) p s c.columns.new.pen u
+    refused _ (row_redraw (job_of c.args.self.now) c.args.count) c.args.pen.now _ _ _
     c.from_residual-in_err-columns.ensures.0
-    (begun_redraw_columns j n p s c.opening.new.pen t u c.in_ok-opening.ensures c.in_err-columns.ensures)
+    (began_as (redraw-is _ _ _) (began_first _ (began_then c.in_ok-opening.ensures
+    (record { is = c.in_err-columns.ensures }))))
 
 pub returns-in_err-finish : goal.returns-in_err-finish
 returns-in_err-finish c =
-    let j = job_of c.args.self.now in
-    let n = c.args.count in
-    let p = c.args.pen.now in
-    let s = string_bytes c.args.contents.now in
-    let t = string_bytes c.opening.new.contents in
-    let u = string_bytes c.columns.new.contents in
-    let w = string_bytes c.finish.new.contents in
-    on_err c.from_residual-in_err-finish.result (row_redraw j n) p s c.finish.new.pen w
+    refused _ (row_redraw (job_of c.args.self.now) c.args.count) c.args.pen.now _ _ _
     c.from_residual-in_err-finish.ensures.0
-    (begun_redraw_finish j n p s c.opening.new.pen t c.columns.new.pen u w c.in_ok-opening.ensures
-    c.in_ok-columns.ensures c.in_err-finish.ensures)
+    (began_as (redraw-is _ _ _) (began_then (wrote_both c.in_ok-opening.ensures c.in_ok-columns.ensures)
+    (record { is = c.in_err-finish.ensures })))
 
 pub returns : goal.returns
 returns c =
-    wrote_redraw _ _ _ _ _ _ _ _ _ _ c.in_ok-opening.ensures c.in_ok-columns.ensures c.in_ok-finish.ensures
+    wrote_by (redraw-is _ _ _) (wrote_both (wrote_both c.in_ok-opening.ensures c.in_ok-columns.ensures)
+    c.in_ok-finish.ensures)
