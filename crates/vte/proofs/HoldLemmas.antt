@@ -14,7 +14,8 @@ use Rattle.vte.specs.Timeout.{sets_of}
 use Rattle.vte.specs.Performed.{last_after_all, calls_of_all, openers_of_all}
 use Rattle.vte.specs.Stretch.{added, last_of, calls_from, ticks_from, opens_in}
 use Rattle.vte.specs.Hold.{closing}
-use Rattle.vte.proofs.RunLemmas.{Calls-append, sets_of-append}
+use Rattle.vte_types.proofs.CallLemmas.{Calls-append}
+use Rattle.vte.proofs.RunLemmas.{sets_of-append}
 
 last_after_all-append : (last : Option ℕ) (a b : List Event)
     → last_after_all last (a ++ b) ≡ last_after_all (last_after_all last a) b

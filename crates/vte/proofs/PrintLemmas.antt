@@ -1,13 +1,16 @@
 -- Printed text, handed to a handler, with the last character stored once, after it.
 use Rattle.std.proofs.Common.{◌≡◌, ◌∙◌, sym, ap, refl, ℕ, List, [], ◌∷◌, ◌++◌, Option, Some}
-use Rattle.std.proofs.Common.{map, subst}
+use Rattle.std.proofs.Common.{map, subst, take, length, append-nil}
+use Rattle.std.specs.Char.{IsScalar}
+use Rattle.std.specs.Str.{IsUtf8, chars}
+use Rattle.std.proofs.Math.Seq.{take-append_seam}
+use Rattle.std.specs.Prelude.{encode_utf8}
+use Rattle.std.proofs.lemmas.Str.{IsUtf8-encode, IsUtf8-take, IsCharBoundary-at_seam, chars-append, chars_past_char, chars-nil}
 use Rattle.std.proofs.Math.Bool.{or-false}
-use Rattle.std.proofs.lemmas.List.{map-append}
 use Rattle.vte_core.specs.Event.{Event, Print, Performs}
 use Rattle.vte_types.specs.Call.{Call, Calls, input}
 use Rattle.vte.specs.Timeout.{Ticking}
 use Rattle.vte.specs.Performed.{Performed, last_after_all}
-use Rattle.vte.proofs.RunLemmas.{Calls-append}
 use Rattle.vte.specs.declared.performer.Performer.{Performer}
 
 -- what an event does to a performer
@@ -41,13 +44,6 @@ printed-all step ticking p (c ∷ cs) h last calls is = (
   printed-all step ticking (printed p calls.0 (Some c)) cs h last calls.2 is,
 )
 
--- one more character, told
-pub input-more : {H : Type 0} (step : H → Call → H → Type 0) (s m t : H) (cs : List ℕ) (c : ℕ) (ds : List ℕ)
-    → ds ≡ cs ++ c ∷ [] → Calls step s (map input cs) m → step m (input c) t → Calls step s (map input ds) t
-input-more step s m t cs c ds is before told =
-    subst (λ (xs : List Call). Calls step s xs t) (sym (map-append input cs (c ∷ [])) ∙ ap (map input) (sym is))
-    (Calls-append step s m t (map input cs) (input c ∷ []) before (t, told, refl))
-
 last-more : (before : Option ℕ) (cs : List ℕ) (c : ℕ) → Some c ≡ last_after_all before (map Print (cs ++ c ∷ []))
 last-more before [] c = refl
 last-more before (x ∷ cs) c = last-more (Some x) cs c
@@ -56,3 +52,14 @@ last-more before (x ∷ cs) c = last-more (Some x) cs c
 pub last-is : (before : Option ℕ) (cs : List ℕ) (c : ℕ) (ds : List ℕ) → ds ≡ cs ++ c ∷ []
     → Some c ≡ last_after_all before (map Print ds)
 last-is before cs c ds is = last-more before cs c ∙ ap (λ xs. last_after_all before (map Print xs)) (sym is)
+
+-- the last character of a text that ends with one
+pub last-read : (before : Option ℕ) (bs front : List ℕ) (c : ℕ) → IsUtf8 bs → IsScalar c → bs ≡ front ++ encode_utf8 c
+    → Some c ≡ last_after_all before (map Print (chars bs))
+last-read before bs front c utf8 scalar e =
+    let one = IsUtf8-encode c scalar in
+    let whole = subst IsUtf8 (ap (take (length front)) e ∙ take-append_seam front (encode_utf8 c))
+    (IsUtf8-take bs (length front) utf8 (IsCharBoundary-at_seam bs front (encode_utf8 c) e one)) in
+    last-is before (chars front) c (chars bs) (ap chars e ∙ chars-append front (encode_utf8 c) whole
+    ∙ ap (λ xs. chars front ++ xs) (chars_past_char (encode_utf8 c) [] c one (sym (append-nil (encode_utf8 c)))
+    ∙ ap (λ xs. c ∷ xs) chars-nil))

@@ -8,16 +8,12 @@ use Rattle.std.proofs.lemmas.List.Elements.{All-head, All-tail}
 use Rattle.vte_core.specs.Event.{Event, Performs}
 use Rattle.vte_core.specs.Laws.{Fits}
 use Rattle.vte_types.specs.Call.{Call, Calls}
+use Rattle.vte_types.proofs.CallLemmas.{Calls-append}
 use Rattle.vte.specs.Csi.{opens_group}
 use Rattle.vte.specs.Table.{calls_of, last_after, openers, opens}
 use Rattle.vte.specs.Timeout.{Ticking, Tick, Sets, Clears, Ticked, sets_of}
 use Rattle.vte.specs.declared.performer.ProcessorState.{ProcessorState}
 use Rattle.vte.specs.Performed.{Performed, PerformedAll, last_after_all, calls_of_all, openers_of_all}
-
-pub Calls-append : {S : Type 0} (step : S → Call → S → Type 0) (s m t : S) (a b : List Call) → Calls step s a m
-    → Calls step m b t → Calls step s (a ++ b) t
-Calls-append {S} step s m t [] b h k = subst (λ (x : S). Calls step x b t) h k
-Calls-append {S} step s m t (c ∷ a) b h k = (h.0, h.1, Calls-append step h.0 m t a b h.2 k)
 
 pub Ticked-append : {T : Type 0} (ticking : Ticking T) (s m t : T) (a b : List Tick)
     → Ticked ticking s a m → Ticked ticking m b t → Ticked ticking s (a ++ b) t

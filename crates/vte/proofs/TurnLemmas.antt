@@ -8,7 +8,7 @@ use Rattle.vte.specs.Stretch.{calls_from}
 use Rattle.vte.specs.Hold.{limit, closing, held_of}
 use Rattle.vte.specs.Advances.{Plainly, IsEmptied, parses, begins, settles, empties}
 use Rattle.vte.specs.Standing.{timeout_of, StandsAt, Advanced, Emptied, Held, Begun, Unopened, GoesOn}
-use Rattle.vte.proofs.RunLemmas.{Calls-append}
+use Rattle.vte_types.proofs.CallLemmas.{Calls-append}
 
 module _ {T A H : Type 0} {ticking : Ticking T} {step : H → Call → H → Type 0} where
   -- nothing was opened

@@ -1,9 +1,4 @@
 //! The performer between a parser and a handler.
-ghost use Rattle.std.specs.Prelude.{◌≡◌, map};
-ghost use Rattle.std.specs.Str.{chars};
-ghost use Rattle.vte_core.specs.Event.{Print};
-ghost use Rattle.vte_types.specs.Call.{Calls, input};
-ghost use Rattle.vte.specs.Performed.{last_after_all};
 
 use crate::csi::csi;
 use crate::escape::{escape, execute};
@@ -11,9 +6,6 @@ use crate::osc::osc;
 use crate::timeout::Timeout;
 use vte_core::{Event, Params, Perform};
 use vte_types::handler::Handler;
-
-/// From how many bytes on it's worth while to ask whether a text is ASCII alone, which needs no decoding.
-const LONG_TEXT: usize = 16;
 
 /// What is kept from event to event.
 #[derive(Drop)]
@@ -30,28 +22,6 @@ pub struct Performer<'a, H, T> {
     pub handler: &'a mut H,
     /// Whether an update was opened.
     pub terminated: bool,
-}
-
-/// Hands the characters of a text to a handler, one by one. Answers the last one, or `before` where there is none.
-#[inline]
-fn input_all<H: Handler>(handler: &mut H, text: &str, before: Option<char>) -> Option<char>
-    ensures calls { Calls H.step handler.old (map input (chars text.now)) handler.new }
-    ensures last { result ≡ last_after_all before (map Print (chars text.now)) }
-{
-    let mut last = before;
-    if text.len() >= LONG_TEXT && text.is_ascii() {
-        for byte in text.as_bytes() {
-            let c = *byte as char;
-            handler.input(c);
-            last = Some(c);
-        }
-        return last;
-    }
-    for c in text.chars() {
-        handler.input(c);
-        last = Some(c);
-    }
-    last
 }
 
 impl<'a, H: Handler, T: Timeout> Perform for Performer<'a, H, T> {
@@ -97,7 +67,10 @@ impl<'a, H: Handler, T: Timeout> Perform for Performer<'a, H, T> {
     }
 
     fn print_str(&mut self, text: &str) {
-        self.state.preceding_char = input_all(self.handler, text, self.state.preceding_char);
+        self.handler.input_str(text);
+        if let Some(last) = text.chars().next_back() {
+            self.state.preceding_char = Some(last);
+        }
     }
 
     fn execute(&mut self, byte: u8) {

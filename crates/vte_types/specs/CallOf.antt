@@ -1,5 +1,4 @@
 -- What a call says.
-use Rattle.std.specs.Prelude.{ℕ, List, Option}
 use Rattle.std.specs.Option.{option_map}
 use Rattle.vte_types.specs.Call as said
 use Rattle.vte_types.specs.Call.{link_of}

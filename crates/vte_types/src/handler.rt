@@ -1,7 +1,9 @@
 //! The trait that receives a terminal's calls.
 ghost use Rattle.std.specs.Option.{option_map};
+ghost use Rattle.std.specs.Prelude.{map};
+ghost use Rattle.std.specs.Str.{chars};
 ghost use Rattle.vte_types.specs.Call as said;
-ghost use Rattle.vte_types.specs.Call.{link_of};
+ghost use Rattle.vte_types.specs.Call.{Calls, link_of};
 ghost use Rattle.vte_types.specs.CallOf.{call_of};
 
 use crate::attr::Attr;
@@ -15,6 +17,9 @@ use crate::keyboard::{KeyboardModes, KeyboardModesApplyBehavior, ModifyOtherKeys
 use crate::mode::{Mode, PrivateMode};
 use crate::rgb::Rgb;
 use crate::scp::{ScpCharPath, ScpUpdateMode};
+
+/// From how many bytes on it's worth while to ask whether a text is ASCII alone, which needs no decoding.
+const LONG_TEXT: usize = 16;
 
 /// Receives the calls that a terminal's input asks for.
 ///
@@ -57,6 +62,22 @@ pub trait Handler {
         ensures { step self.old (said.input c) self.new }
     {
         self.call(Call::Input(c))
+    }
+
+    /// Writes the characters of a text at the cursor, one after another, as [`input`](Self::input) writes each of them.
+    /// A handler that takes many at once sooner than one by one may write this method of its own.
+    fn input_str(&mut self, text: &str)
+        ensures { Calls step self.old (map said.input (chars text.now)) self.new }
+    {
+        if text.len() >= LONG_TEXT && text.is_ascii() {
+            for byte in text.as_bytes() {
+                self.input(*byte as char);
+            }
+            return;
+        }
+        for c in text.chars() {
+            self.input(c);
+        }
     }
 
     /// Moves the cursor to a line and a column, both from 0 (CUP, HVP).

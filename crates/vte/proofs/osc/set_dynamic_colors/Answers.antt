@@ -1,7 +1,7 @@
 use Rattle.std.proofs.Common.{◌≡◌, ◌+◌, ℕ, List, Some, None, false, nat_lt, if◌then◌else◌, arith, inl, inr}
 use Rattle.std.proofs.lemmas.Bool.{cases_Bool}
 use Rattle.vte.specs.Osc.{two_digits, color_calls}
-use Rattle.vte.proofs.RunLemmas.{Calls-append}
+use Rattle.vte_types.proofs.CallLemmas.{Calls-append}
 use Rattle.vte.proofs.osc.set_dynamic_colors.Goals as goal
 
 prefix_is : (n : ℕ) (f : List ℕ) → Some f ≡ (if nat_lt 12 n then None else Some (two_digits n)) → (nat_lt 12 n ≡ false)

@@ -1,4 +1,4 @@
-use Rattle.vte.proofs.RunLemmas.{Calls-append}
+use Rattle.vte_types.proofs.CallLemmas.{Calls-append}
 use Rattle.vte.proofs.osc.set_palette.Goals as goal
 
 pub loop-index-preserved-in-Some-parse_number : goal.loop-index-preserved-in-Some-parse_number
