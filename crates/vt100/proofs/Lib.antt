@@ -4,7 +4,7 @@ pub mod RefusedLemmas
 pub mod SettledLemmas
 pub mod RepeatLemmas
 pub mod PlayLemmas
-pub mod PrintableLemmas
+pub mod LastLemmas
 pub mod RunLemmas
 pub mod SizeLemmas
 pub mod ProperScreens

@@ -35,7 +35,7 @@ use Rattle.vt100.specs.Goes.{Fails, Goes, GoesThrough}
 use Rattle.vt100.specs.Runs.{IsHandled, typed_all, last_of, PrintsFront}
 use Rattle.vt100.specs.declared.screen.reported.Reporter.{Reporter}
 use Rattle.vt100.proofs.HearLemmas.{Reports, hears_all}
-use Rattle.vt100.proofs.PrintableLemmas.{printable-chars}
+use Rattle.vt100_rows.proofs.PrintableLemmas.{printable-chars}
 use Rattle.vt100.proofs.EventLemmas.{is_alive, does_as, does_live, does_none, does_where}
 use Rattle.vt100.proofs.LimitsLemmas.{bounds_typed, bounds_back, keeps_typed}
 use Rattle.vt100.proofs.RefusedLemmas.{tries_front, refused_keeps}

@@ -6,7 +6,6 @@ pub mod error;
 pub mod laws;
 pub mod parser;
 mod perform;
-mod runs;
 pub mod screen;
 
 pub use callbacks::{Call, Callbacks};

@@ -14,10 +14,10 @@ ghost use Rattle.vt100.specs.Memory.{escape_may_take, plain_may_take, private_ma
 ghost use Rattle.vt100.specs.Runs.{PrintsFront};
 
 use crate::callbacks::Callbacks;
-use crate::runs::printable_len;
 use crate::screen::WrappedScreen;
 use arrayvec::ArrayVec;
 use std::num::NonZeroU16;
+use vt100_rows::printable::printable_len;
 use vte_core::{Event, Params, ParamsIter, Perform};
 
 impl<CB: Callbacks> Perform for WrappedScreen<CB> {

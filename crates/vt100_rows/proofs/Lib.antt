@@ -17,3 +17,4 @@ pub mod KeptLemmas
 pub mod BackLemmas
 pub mod WidthLemmas
 pub mod PictureLemmas
+pub mod PrintableLemmas

@@ -1,5 +1,5 @@
 -- What the forms of a whole row do to a terminal.
-use Rattle.std.specs.Prelude.{ℕ, ◌≡◌, ◌^◌, ◌<◌, ◌≤◌, Bool, false, List, ◌++◌, length, Contains, Option, Some, unwrap_or}
+use Rattle.std.specs.Prelude.{ℕ, ◌≡◌, ◌^◌, ◌<◌, ◌≤◌, Bool, false, List, length, Contains, Option, Some, unwrap_or}
 use Rattle.vt100_forms.specs.declared.attrs.Attrs.{Attrs}
 use Rattle.vt100_forms.specs.declared.position.Pos.{Pos}
 use Rattle.vt100_forms.specs.Attrs.{IsProper, HasByteColors, default_attrs}

@@ -12,6 +12,7 @@ mod basic;
 mod join;
 pub mod kept_rows;
 pub mod laws;
+pub mod printable;
 mod row;
 pub mod row_sink;
 pub mod rows_back;

@@ -1,5 +1,5 @@
 use Rattle.std.proofs.Common.{◌<◌, ◌∙◌, Some, length, sym, ap, arith}
-use Rattle.vt100.proofs.PrintableLemmas.{last_of-at}
+use Rattle.vt100.proofs.LastLemmas.{last_of-at}
 use Rattle.vt100.proofs.screen.wide.last_of.Goals as goal
 
 pub returns-in-len1-up : goal.returns-in-len1-up

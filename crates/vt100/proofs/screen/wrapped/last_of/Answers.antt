@@ -1,5 +1,5 @@
 use Rattle.std.proofs.Common.{◌<◌, length, sym, arith}
-use Rattle.vt100.proofs.PrintableLemmas.{last_of-is}
+use Rattle.vt100.proofs.LastLemmas.{last_of-is}
 use Rattle.vt100.proofs.screen.wrapped.last_of.Goals as goal
 
 pub returns-in-len1-up : goal.returns-in-len1-up

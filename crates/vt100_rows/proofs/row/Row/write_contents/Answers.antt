@@ -3,7 +3,6 @@ use Rattle.std.specs.Prelude.{string_bytes, encode_utf8_all}
 use Rattle.vt100_cells.specs.Cell.{CellView, has_text}
 use Rattle.vt100_cells.specs.Cells.{cell_at}
 use Rattle.vt100_rows.specs.Row.{RowView}
-use Rattle.row_drawing.specs.Writes.{IsBegun}
 use Rattle.vt100_cells.proofs.TrimLemmas.{not-false}
 use Rattle.std.proofs.lemmas.Bool.{not-true}
 use Rattle.vt100_rows.proofs.TextLemmas.{IsWritten-text, IsWritten-none, IsBegun-text, IsBegun-spaces, on-err}

@@ -4,7 +4,7 @@ use Rattle.vt100_cells.specs.Cell.{IsPrintable}
 use Rattle.vt100.specs.declared.screen.wrapped.WrappedScreen.{WrappedScreen}
 use Rattle.vt100.specs.Tries.{Tries}
 use Rattle.vt100.specs.Runs.{typed_all, PrintsFront}
-use Rattle.vt100.proofs.PrintableLemmas.{printable-boundary}
+use Rattle.vt100_rows.proofs.PrintableLemmas.{printable-boundary}
 use Rattle.vt100.proofs.RunLemmas.{front-run, front-char}
 use Rattle.vt100.proofs.screen.wrapped.WrappedScreen.print_some.Goals as goal
 use Rattle.vt100.proofs.screen.wrapped.WrappedScreen.print_some.Goals.{in-Some-next, in_default-next}

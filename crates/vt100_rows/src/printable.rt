@@ -1,14 +1,16 @@
 //! Runs of printable ASCII.
-ghost use Rattle.std.specs.Prelude.{◌≡◌, ◌≤◌, length, take, All, IsTrue};
+ghost use Rattle.std.specs.Prelude.{◌≡◌, ◌≤◌, ◌<◌, length, take, get_or, All, IsTrue, false};
 ghost use Rattle.vt100_cells.specs.Cell.{IsPrintable};
 
 /// How many bytes are tested at once.
 const BLOCK_LEN: usize = 16;
 
-/// How many bytes at the front are printable ASCII.
-pub(crate) fn printable_len(bytes: &[u8]) -> usize
+/// How many bytes at the front are printable ASCII, which [`Row::put_run`](crate::Row::put_run) takes: those before the
+/// first that isn't.
+pub fn printable_len(bytes: &[u8]) -> usize
     ensures within { result ≤ length bytes.now }
     ensures printable { All IsPrintable (take result bytes.now) }
+    ensures whole { result < length bytes.now → IsPrintable (get_or bytes.now result 0) → ⊥ }
 {
     let mut len = 0;
     while bytes.len() - len >= BLOCK_LEN && are_printable(&bytes[len..len + BLOCK_LEN]) {
@@ -23,7 +25,8 @@ pub(crate) fn printable_len(bytes: &[u8]) -> usize
 /// Whether a byte is printable ASCII.
 #[inline(always)]
 fn is_printable(byte: u8) -> bool
-    ensures { IsTrue result → IsPrintable byte }
+    ensures printable { IsTrue result → IsPrintable byte }
+    ensures other { result ≡ false → IsPrintable byte → ⊥ }
 {
     (0x20..=0x7E).contains(&byte)
 }

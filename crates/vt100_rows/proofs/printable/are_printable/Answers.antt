@@ -2,8 +2,8 @@ use Rattle.std.proofs.Common.{◌≡◌, ◌≤◌, ℕ, List, length, take, sub
 use Rattle.std.specs.Prelude.{All}
 use Rattle.std.proofs.lemmas.Grind.{common_steps}
 use Rattle.vt100_cells.specs.Cell.{IsPrintable}
-use Rattle.vt100.proofs.PrintableLemmas.{printable-more}
-use Rattle.vt100.proofs.runs.are_printable.Goals as goal
+use Rattle.vt100_rows.proofs.PrintableLemmas.{printable-more}
+use Rattle.vt100_rows.proofs.printable.are_printable.Goals as goal
 
 all_taken : (xs : List ℕ) (i : ℕ) → length xs ≤ i → take i xs ≡ xs
 all_taken xs i h = grind (arith, common_steps)

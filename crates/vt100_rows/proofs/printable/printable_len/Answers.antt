@@ -2,7 +2,7 @@ use Rattle.std.proofs.Common.{◌≡◌, ◌+◌, ◌-◌, ℕ, sym, subst, arit
 use Rattle.std.specs.Prelude.{All}
 use Rattle.std.proofs.lemmas.List.Elements.{All-append, All-more}
 use Rattle.vt100_cells.specs.Cell.{IsPrintable}
-use Rattle.vt100.proofs.runs.printable_len.Goals as goal
+use Rattle.vt100_rows.proofs.printable.printable_len.Goals as goal
 use lib.Seq.{take-add}
 
 pub loop-len-preserved : goal.loop-len-preserved
@@ -22,5 +22,5 @@ pub loop-len-2-preserved : goal.loop-len-2-preserved
 loop-len-2-preserved c = record {
   within = omega (arith, c.loop-len-2-test.true);
   printable = All-more IsPrintable c.args.bytes.now c.loop-len-2.len 0 c.loop-len-2-test.true
-      c.loop-len-2.invariant.printable (c.is_printable.ensures c.if-is_printable.true);
+      c.loop-len-2.invariant.printable (c.is_printable.ensures.printable c.if-is_printable.true);
 }

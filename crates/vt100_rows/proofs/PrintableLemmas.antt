@@ -1,13 +1,12 @@
 -- Bytes that are printable ASCII.
-use Rattle.std.proofs.Common.{◌≡◌, ◌∙◌, ◌+◌, ◌-◌, ◌<◌, ◌≤◌, ◌&&◌, ℕ, zero, suc, Bool, List, [], ◌∷◌, ◌++◌, ap, sym}
-use Rattle.std.proofs.Common.{refl, Option, Some, length, take, drop, get_or, nat_lt, arith, take-append-drop}
+use Rattle.std.proofs.Common.{◌≡◌, ◌∙◌, ◌+◌, ◌<◌, ◌≤◌, ◌&&◌, ℕ, zero, suc, Bool, List, [], ◌∷◌, ◌++◌, ap, sym}
+use Rattle.std.proofs.Common.{length, take, drop, get_or, nat_lt, arith, take-append-drop}
 use Rattle.std.specs.Prelude.{All, IsTrue}
 use Rattle.std.specs.Str.{IsAscii, IsUtf8, IsCharBoundary, chars}
 use Rattle.std.proofs.lemmas.Bool.{and_parts, leb-true, ltb-true}
 use Rattle.std.proofs.lemmas.List.Elements.{All-drop, All-more}
 use Rattle.std.proofs.lemmas.Str.{IsUtf8-from_ascii, IsCharBoundary-from_take, chars-append, chars-IsAscii}
 use Rattle.vt100_cells.specs.Cell.{IsPrintable}
-use Rattle.vt100.specs.Runs.{last_of}
 use lib.Dec.{leb}
 
 -- one more
@@ -35,16 +34,3 @@ printable-chars bs n p =
     let ascii = printable-ascii (take n bs) p in
     ap chars (sym (take-append-drop n bs)) ∙ chars-append (take n bs) (drop n bs) (IsUtf8-from_ascii (take n bs) ascii)
     ∙ ap (λ (xs : List ℕ). xs ++ chars (drop n bs)) (chars-IsAscii (take n bs) ascii)
-
-pub last_of-at : (xs : List ℕ) (last : Option ℕ) (d : ℕ) → 0 < length xs
-    → last_of xs last ≡ Some (get_or xs (length xs - 1) d)
-last_of-at [] last d some = absurd (omega arith)
-last_of-at (x ∷ []) last d some = refl
-last_of-at (x ∷ y ∷ ys) last d some =
-    let e : length (y ∷ ys) - 1 ≡ length ys = omega arith in
-    let f : length (x ∷ y ∷ ys) - 1 ≡ suc (length ys) = omega arith in
-    last_of-at (y ∷ ys) (Some x) d (omega arith) ∙ ap (λ n. Some (get_or (y ∷ ys) n d)) e
-    ∙ sym (ap (λ n. Some (get_or (x ∷ y ∷ ys) n d)) f)
-
-pub last_of-is : (xs : List ℕ) (last : Option ℕ) → 0 < length xs → last_of xs last ≡ Some (get_or xs (length xs - 1) 0)
-last_of-is xs last some = last_of-at xs last 0 some

@@ -1,7 +1,7 @@
 use Rattle.std.proofs.Common.{◌-◌, ◌≤◌, length, take}
 use Rattle.std.specs.Prelude.{All}
 use Rattle.vt100_cells.specs.Cell.{IsPrintable}
-use Rattle.vt100.proofs.runs.printable_len.Given as goal
+use Rattle.vt100_rows.proofs.printable.printable_len.Given as goal
 
 abbrev pub invariant-loop-len : goal.invariant-loop-len
 invariant-loop-len l = record { within : l.len ≤ length l.bytes; printable : All IsPrintable (take l.len l.bytes) }
