@@ -43,7 +43,7 @@ IsPicture-rows p rows col i s e h = record {
 }
 
 -- another row at the cursor, which goes on only where the one there did
-IsPicture-row : (p : PictureView) (v : RowView) (col : ℕ) → IsPicture p → IsRowOf p.size.cols v
+pub IsPicture-row : (p : PictureView) (v : RowView) (col : ℕ) → IsPicture p → IsRowOf p.size.cols v
     → ((cursor_row p).wrapped ≡ false → v.wrapped ≡ false) → col ≤ p.size.cols
     → IsPicture (record p { rows = set p.rows p.row v; col = col })
 IsPicture-row p v col i row keeps h =

@@ -10,3 +10,4 @@ pub mod KeptTerms
 pub mod ViewReads
 pub mod Spellings
 pub mod FramedForms
+pub mod RunSteps

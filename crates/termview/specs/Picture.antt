@@ -1,11 +1,14 @@
 -- What a contract sees of a picture, and what is true of each.
-use Rattle.std.specs.Prelude.{ℕ, ◌<◌, ◌≤◌, ◌≡◌, ◌^◌, Bool, List, length}
+use Rattle.std.specs.Prelude.{ℕ, ◌<◌, ◌≤◌, ◌≡◌, ◌^◌, ◌++◌, Bool, List, length, map}
+use Rattle.std.specs.Str.{chars}
+use Rattle.vte_types.specs.Call.{Call, Calls, input}
 use Rattle.vt100_forms.specs.declared.attrs.Attrs.{Attrs}
 use Rattle.vt100_forms.specs.declared.modes.CursorStyle.{CursorStyle}
 use Rattle.vt100_rows.specs.Row.{RowView}
 use Rattle.terminal_model.specs.Term.{Size, Modes, Term}
 use Rattle.vt100_rows.specs.Sheet.{IsSheet}
 use Rattle.vt100_rows.specs.Picture.{lines_of, wraps_of}
+use Rattle.termview.specs.Step.{view_step}
 
 pub record PictureView : Type 0 where
   pub size : Size
@@ -54,3 +57,11 @@ pub record IsPicture (p : PictureView) : Type 0 where
 pub record Becomes (p q : PictureView) (t : Term) : Type 0 where
   pub size : q.size ≡ p.size
   pub shows : term_of_picture q ≡ t
+
+-- a picture does what a call asks for
+abbrev pub Does : PictureView → Call → PictureView → Type 0
+Does p c q = Becomes p q (view_step p.size c (term_of_picture p))
+
+-- the characters at the front of a text, of which these bytes are left, have been shown
+abbrev pub ShowsFront : List ℕ → List ℕ → PictureView → PictureView → Type 0
+ShowsFront text left p q = (front : List ℕ) × (chars text ≡ front ++ chars left) × Calls Does p (map input front) q

@@ -43,6 +43,13 @@ impl Handler for Picture {
         self.input(c);
     }
 
+    fn input_str(&mut self, text: &str) {
+        let mut rest = text;
+        while !rest.is_empty() {
+            rest = self.input_some(rest);
+        }
+    }
+
     #[tactic(auto, unfolding(crate::specs::Step::view_step))]
     fn goto(&mut self, line: i32, col: usize) {
         self.goto(row_at(line), col);

@@ -1,13 +1,18 @@
 //! The picture of a terminal.
 ghost use Rattle.std.specs.Prelude.{◌≡◌, ℕ, ◌+◌, ◌-◌, ◌<◌, ◌≤◌, ◌==◌, Some, true, false, min, length, IfOk};
-ghost use Rattle.vt100_cells.specs.Cell.{cell_of, drawn_columns};
+ghost use Rattle.std.specs.Prelude.{All, map, set, take};
+ghost use Rattle.vte_types.specs.Call as said;
+ghost use Rattle.vte_types.specs.Call.{Calls};
+ghost use Rattle.vt100_cells.specs.Cell.{cell_of, drawn_columns, IsPrintable};
 ghost use Rattle.std.specs.Option.{option_copied};
 ghost use Rattle.vt100_cells.specs.Cells.{cell_at};
+ghost use Rattle.vt100_rows.specs.Row.{placed_each};
+ghost use Rattle.vt100_rows.specs.Sheet.{row_at};
 ghost use Rattle.vt100_rows.specs.Text.{line_text};
 ghost use Rattle.terminal_model.specs.Term.{blank_term};
 ghost use Rattle.terminal_model.specs.Apply.{erase, input, print, join, down, wrap, made_to_fit};
 ghost use Rattle.termview.specs.Step.{printed, erase_below, cursor_saved, cursor_restored, flag_above};
-ghost use Rattle.termview.specs.Picture.{term_of_picture, Becomes};
+ghost use Rattle.termview.specs.Picture.{term_of_picture, Becomes, Does, ShowsFront};
 ghost use Rattle.termview.specs.Seen.{cell_shown, text_shown};
 
 use crate::error::ViewError;
@@ -16,6 +21,7 @@ use std::marker::Model;
 use vt100_cells::{Cell, columns};
 use vt100_forms::attrs::Attrs;
 use vt100_forms::{CursorStyle, MouseProtocolEncoding, MouseProtocolMode, Pos};
+use vt100_rows::printable::printable_len;
 use vt100_rows::rows_edit::{blank_rows, erase_forward, move_up};
 use vt100_rows::{Row, Size};
 
@@ -89,6 +95,67 @@ impl Picture {
             Some(0) => self.join(c),
             Some(columns) => self.print(c, columns),
         }
+    }
+
+    /// Shows the printable ASCII at the front of a text at once, or else its first character; returns what is left.
+    pub(crate) fn input_some<'a>(&mut self, text: &'a str) -> &'a str
+        requires { 0 < length text.now }
+        ensures shorter { length result.now < length text.now }
+        ensures shown { ShowsFront text.now result.now self.old self.new }
+    {
+        let len = printable_len(text.as_bytes());
+        if len > 0 {
+            self.input_run(&text.as_bytes()[..len]);
+            return &text[len..];
+        }
+        let mut chars = text.chars();
+        if let Some(c) = chars.next() {
+            self.input(c);
+        }
+        chars.as_str()
+    }
+
+    /// Shows characters of printable ASCII, row by row, as [`input`](Self::input) shows each in turn.
+    fn input_run(&mut self, text: &[u8])
+        requires { All IsPrintable text.now }
+        ensures { Calls Does self.old (map said.input text.now) self.new }
+    {
+        let mut rest = text;
+        while !rest.is_empty() {
+            let n = self.input_row(rest);
+            rest = &rest[n..];
+        }
+    }
+
+    /// Shows the first of the characters, as many as go into a row. How many they are.
+    fn input_row(&mut self, text: &[u8]) -> usize
+        requires some { 0 < length text.now }
+        requires printable { All IsPrintable text.now }
+        ensures some { 0 < result }
+        ensures within { result ≤ length text.now }
+        ensures shown { Calls Does self.old (map said.input (take result text.now)) self.new }
+    {
+        let cols = self.size.cols();
+        self.make_room(1);
+        let room = cols - self.pos.col;
+        let n = text.len().min(usize::from(room));
+        self.put_run(&text[..n]);
+        n
+    }
+
+    /// Puts the characters at the cursor, whose row has room for them.
+    fn put_run(&mut self, text: &[u8])
+        requires printable { All IsPrintable text.now }
+        requires fits { self.old.col + length text.now ≤ self.old.size.cols }
+        ensures { self.new ≡ record self.old {
+          rows = set self.old.rows self.old.row (placed_each (row_at self.old.rows self.old.row) self.old.col text.now
+              self.old.attrs);
+          col = self.old.col + length text.now;
+        } }
+    {
+        let col = self.pos.col;
+        self.rows[usize::from(self.pos.row)].put_run(col, text, self.attrs);
+        self.pos.col = col + text.len() as u16;
     }
 
     /// Has a zero-width character join the cell to the cursor's left, if there is one.
