@@ -55,4 +55,8 @@ impl Handler for Counting {
     fn call(&mut self, _call: Call<'_>) {
         self.add(1);
     }
+
+    fn input_str(&mut self, text: &str) {
+        self.add(text.len());
+    }
 }
