@@ -18,3 +18,4 @@ pub mod BackLemmas
 pub mod WidthLemmas
 pub mod PictureLemmas
 pub mod PrintableLemmas
+pub mod BlankLemmas

@@ -1,7 +1,8 @@
 -- What a contract sees of a row, what is true of every row, and what each call does to it.
-use Rattle.std.specs.Prelude.{ℕ, ◌+◌, ◌-◌, ◌^◌, ◌<◌, ◌≡◌, ◌==◌, Bool, true, false, not, ◌&&◌, nat_lt, min, List}
-use Rattle.std.specs.Prelude.{[], ◌∷◌, length, take, replicate, if◌then◌else◌}
+use Rattle.std.specs.Prelude.{ℕ, ◌+◌, ◌-◌, ◌^◌, ◌<◌, ◌≤◌, ◌≡◌, ◌==◌, Bool, true, false, not, ◌&&◌, nat_lt, min, List}
+use Rattle.std.specs.Prelude.{◌⊎◌, [], ◌∷◌, length, take, replicate, if◌then◌else◌}
 use Rattle.vt100_forms.specs.declared.attrs.Attrs.{Attrs}
+use Rattle.vt100_forms.specs.Attrs.{default_attrs}
 use Rattle.vt100_rows.specs.declared.join.Join.{Join}
 use Rattle.vt100_rows.specs.declared.join.Join.TheVariants.{InPlace, Ignored, Widened, Carried}
 use Rattle.vt100_cells.specs.Cell.{CellView, IsCell, default_cell, empty_cell, cell_of, is_filled, appended}
@@ -22,6 +23,21 @@ pub record IsRow (v : RowView) : Type 0 where
   pub cells : (k : ℕ) → IsCell (cell_at v.cells k)
   pub filled : v.wrapped ≡ true → is_filled (last_cell v.cells) ≡ true
   pub narrow : length v.cells < 2 ^ 16
+
+-- every cell from column n on is a default cell
+abbrev pub IsBlankFrom : List CellView → ℕ → Type 0
+IsBlankFrom cells n = (k : ℕ) → n ≤ k → cell_at cells k ≡ default_cell
+
+-- what is true of a row's fields
+pub record IsRowFields (cells : List CellView) (wrapped : Bool) (filled : ℕ) : Type 0 where
+  pub row : IsRow (record { cells = cells; wrapped = wrapped })
+  pub blank : IsBlankFrom cells filled
+
+-- how a row that was blank from column f on may be noted to be blank from m on, where the columns from s up to e were
+-- emptied with the attributes a
+abbrev pub IsFilledAfter : ℕ → ℕ → ℕ → Attrs → ℕ → Type 0
+IsFilledAfter f s e a m =
+    (m ≡ 65535) ⊎ ((a ≡ default_attrs) × ((m ≡ f) ⊎ ((f ≤ e) × (m ≡ min f s))))
 
 -- ---- whole rows
 

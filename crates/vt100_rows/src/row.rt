@@ -3,9 +3,10 @@ ghost use Rattle.std.specs.Prelude.{◌≡◌, ℕ, ◌+◌, ◌-◌, ◌*◌, �
 ghost use Rattle.std.specs.Prelude.{IfOk, IsOk, OnOk, OnErr, slice_get, string_bytes, encode_utf8_all, replicate, All};
 ghost use Rattle.std.specs.Option.{option_copied};
 ghost use Rattle.std.specs.Char.{IsScalar};
-ghost use Rattle.vt100_cells.specs.Cell.{cell_of, has_text, drawn_columns, IsPrintable, IsWide};
+ghost use Rattle.vt100_cells.specs.Cell.{cell_of, default_cell, has_text, drawn_columns, IsPrintable, IsWide};
 ghost use Rattle.vt100_cells.specs.Line.{span_of};
-ghost use Rattle.vt100_rows.specs.Row.{blank_row, cleared_row, with_wrap, placed, wiped_row, pair_cleared, join_row};
+ghost use Rattle.vt100_rows.specs.Row.{IsBlankFrom, IsFilledAfter, blank_row, cleared_row, with_wrap, placed, wiped_row, pair_cleared};
+ghost use Rattle.vt100_rows.specs.Row.{join_row};
 ghost use Rattle.vt100_rows.specs.Row.{join_answer, inserted, removed, truncated, grown, resized_row, trimmed, run_row};
 ghost use Rattle.vt100_rows.specs.Row.{placed_each, pairs_row, placed_pairs, joined_plain};
 ghost use Rattle.vt100_rows.specs.Text.{written_text};
@@ -25,21 +26,26 @@ use vt100_cells::line::{
 use vt100_forms::GridError;
 use vt100_forms::attrs::Attrs;
 
+/// Stands for a column behind every cell, where a row's cells may all show something.
+const ANY: u16 = u16::MAX;
+
 /// One row of a terminal: its cells, and whether its text goes on in the row below.
 #[derive(Debug, Drop)]
 pub struct Row {
     cells: Vec<Cell>,
     wrapped: bool,
+    /// From this column on every cell is a default cell.
+    filled: u16,
 }
 
 impl Model for Row {
-    ghost use Rattle.vt100_rows.specs.Row.{RowView, IsRow};
+    ghost use Rattle.vt100_rows.specs.Row.{RowView, IsRowFields};
 
     ghost Value = { RowView };
 
     ghost view = { λ r. record { cells = r.cells.items; wrapped = r.wrapped } };
 
-    ghost invariant = { λ r. IsRow (record { cells = r.cells.items; wrapped = r.wrapped }) };
+    ghost invariant = { λ r. IsRowFields r.cells.items r.wrapped r.filled };
 }
 
 impl Row {
@@ -52,6 +58,7 @@ impl Row {
         Ok(Row {
             cells,
             wrapped: false,
+            filled: 0,
         })
     }
 
@@ -63,6 +70,7 @@ impl Row {
         Ok(Row {
             cells,
             wrapped: self.wrapped,
+            filled: self.filled,
         })
     }
 
@@ -86,17 +94,23 @@ impl Row {
     pub fn clear(&mut self, attrs: Attrs)
         ensures { self.new ≡ cleared_row self.old attrs }
     {
-        clear(&mut self.cells, attrs);
-        self.wrapped = false;
+        if attrs == Attrs::new() {
+            self.reset();
+        } else {
+            clear(&mut self.cells, attrs);
+            self.wrapped = false;
+            self.filled = ANY;
+        }
     }
 
     /// Makes every cell a default cell.
     pub fn reset(&mut self)
         ensures { self.new ≡ blank_row (length self.old.cells) }
     {
-        // LLVM knows that all bytes of a default cell are 0.
-        self.cells.fill(Cell::new());
+        let end = usize::from(self.filled).min(self.cells.len());
+        reset_front(&mut self.cells, end);
         self.wrapped = false;
+        self.filled = 0;
     }
 
     /// The cell at column `col`, if the row goes that far.
@@ -113,6 +127,7 @@ impl Row {
         ensures { self.new ≡ inserted self.old i count }
     {
         self.wrapped = false;
+        self.filled = ANY;
         insert(&mut self.cells, usize::from(i), usize::from(count));
     }
 
@@ -122,6 +137,7 @@ impl Row {
         ensures { self.new ≡ removed self.old range.start range.end }
     {
         self.wrapped = false;
+        self.filled = ANY;
         let start = usize::from(range.start);
         let end = usize::from(range.end);
         if start < end {
@@ -140,6 +156,7 @@ impl Row {
             self.wrapped = false;
         }
         wipe(&mut self.cells, i, i + 1, attrs);
+        self.filled = ANY;
     }
 
     /// Empties the cells of the range, as [`erase`](Self::erase) of each of them does. For the grid alone.
@@ -153,10 +170,12 @@ impl Row {
         if start >= end {
             return;
         }
+        let filled = filled_after(self.filled, range, attrs);
         if wipes_end(&self.cells, start, end) {
             self.wrapped = false;
         }
         wipe(&mut self.cells, start, end, attrs);
+        self.filled = filled;
     }
 
     /// Cuts the row after `len` cells; a shorter row keeps its cells. Either way it isn't wrapped any more.
@@ -165,6 +184,7 @@ impl Row {
     {
         self.cells.truncate(usize::from(len));
         self.wrapped = false;
+        self.filled = ANY;
         clear_cut_half(&mut self.cells);
     }
 
@@ -182,6 +202,7 @@ impl Row {
             self.cells.reserve_exact(len - self.cells.len())?;
             self.cells.resize(len, cell)?;
             self.wrapped = false;
+            self.filled = ANY;
         }
         Ok(())
     }
@@ -208,6 +229,7 @@ impl Row {
         ensures { self.new ≡ trimmed self.old }
     {
         let len = trimmed_len(&self.cells);
+        self.filled = ANY;
         self.cells.truncate(len);
         self.cells.shrink_to_fit();
     }
@@ -232,6 +254,7 @@ impl Row {
         requires { col < length self.old.cells }
         ensures { self.new ≡ pair_cleared self.old col }
     {
+        self.filled = ANY;
         let filled = clear_pair(&mut self.cells, usize::from(col));
         self.wrapped = self.wrapped && filled;
     }
@@ -264,11 +287,13 @@ impl Row {
         requires in_row { col + span_of cell ≤ length self.old.cells }
         ensures { self.new ≡ placed self.old col cell attrs }
     {
+        let filled = self.filled.max(col.saturating_add(3));
         let col = usize::from(col);
         if puts_end(&self.cells, col, cell) {
             self.wrapped = false;
         }
         put(&mut self.cells, col, cell, attrs);
+        self.filled = filled;
     }
 
     /// Puts the characters of `text`, which are printable ASCII, at column `col` and after it, as [`put`](Self::put) of
@@ -280,6 +305,7 @@ impl Row {
         ensures each { self.new ≡ placed_each self.old col text.now attrs }
     {
         if !text.is_empty() {
+            self.filled = self.filled.max((col + text.len() as u16).saturating_add(1));
             put_run(&mut self.cells, usize::from(col), text, attrs);
         }
     }
@@ -295,11 +321,15 @@ impl Row {
         ensures characters { All IsScalar text.now }
     {
         if !text.is_empty() {
+            let filled = self
+                .filled
+                .max((col + 2 * text.len() as u16).saturating_add(1));
             let col = usize::from(col);
             if pairs_end(&self.cells, col, text) {
                 self.wrapped = false;
             }
             put_pairs(&mut self.cells, col, text, attrs);
+            self.filled = filled;
         }
     }
 
@@ -323,6 +353,7 @@ impl Row {
         let cell = *at(&self.cells, base);
         let joined = cell.joined(c);
         if !is_widened(&cell, &joined) {
+            self.filled = self.filled.max(col);
             self.cells[base] = joined;
             Join::InPlace
         } else if self.cells.len() == 1 {
@@ -346,6 +377,7 @@ impl Row {
     {
         let base = base_col(&self.cells, usize::from(col));
         let cell = *at(&self.cells, base);
+        self.filled = self.filled.max(col);
         self.cells[base] = cell.joined_plain(c);
     }
 }
@@ -390,6 +422,32 @@ impl Row {
         }
         Ok(())
     }
+}
+
+/// From which column on a row is blank that was so from `filled` on, and whose cells of the range have been emptied with
+/// these attributes.
+#[inline]
+fn filled_after(filled: u16, range: Range<u16>, attrs: Attrs) -> u16
+    ensures { IsFilledAfter filled range.start range.end attrs result }
+{
+    if attrs != Attrs::new() {
+        ANY
+    } else if filled <= range.end {
+        filled.min(range.start)
+    } else {
+        filled
+    }
+}
+
+/// Makes the first `end` cells default cells, which those behind are.
+// LLVM knows that all bytes of a default cell are 0.
+#[inline]
+fn reset_front(cells: &mut [Cell], end: usize)
+    requires in_row { end ≤ length cells.old }
+    requires blank { IsBlankFrom cells.old end }
+    ensures { cells.new ≡ replicate (length cells.old) default_cell }
+{
+    cells[..end].fill(Cell::new());
 }
 
 /// Whether a cell that was `cell`, and is `joined` now, takes a column more.

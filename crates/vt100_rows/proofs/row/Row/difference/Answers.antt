@@ -17,6 +17,6 @@ returns-then-cols-start c =
 
 pub invariant_of-drawing : goal.invariant_of-drawing
 invariant_of-drawing c = record {
-  few = subst (λ (xs : List CellView). length xs < 65536) (sym c.deref.ensures.value) c.self.invariant.narrow;
-  paired = subst (λ (xs : List CellView). IsPaired (cell_at xs)) (sym c.deref.ensures.value) c.self.invariant.paired;
+  few = subst (λ (xs : List CellView). length xs < 65536) (sym c.deref.ensures.value) c.self.invariant.row.narrow;
+  paired = subst (λ (xs : List CellView). IsPaired (cell_at xs)) (sym c.deref.ensures.value) c.self.invariant.row.paired;
 }

@@ -1,7 +1,8 @@
 use Rattle.std.proofs.Common.{arith, ap, ◌∙◌, ◌-◌, ◌<◌, ◌++◌, length, take, replicate, false}
 use Rattle.std.specs.Prelude.{vec_len}
 use Rattle.vt100_rows.specs.Row.{RowView, grown}
-use Rattle.vt100_rows.proofs.RowLemmas.{IsRow-at, IsRow-grown, grown-is, grows}
+use Rattle.vt100_rows.proofs.RowLemmas.{IsRow-grown, grown-is, grows}
+use Rattle.vt100_rows.proofs.BlankLemmas.{fields-any}
 use Rattle.vt100_rows.proofs.row.Row.grow.Goals as goal
 
 pub returns-in_ok-resize-clause-ok : goal.returns-in_ok-resize-clause-ok
@@ -20,6 +21,6 @@ returns-in_ok-resize-clause-ok c =
 
 pub invariant_of-self-then-len : goal.invariant_of-self-then-len
 invariant_of-self-then-len c =
-    IsRow-at _ (grown c.args.self.now c.args.len c.args.cell) (returns-in_ok-resize-clause-ok c)
-    (IsRow-grown c.args.self.now c.args.len c.args.cell (rw (← c.self.view_is) c.self.invariant)
+    fields-any _ _ (grown c.args.self.now c.args.len c.args.cell) (returns-in_ok-resize-clause-ok c)
+    (IsRow-grown c.args.self.now c.args.len c.args.cell (rw (← c.self.view_is) c.self.invariant.row)
     c.is_wide.ensures.valid c.requires.narrow c.requires.whole (omega arith))

@@ -2,8 +2,9 @@ use Rattle.std.proofs.Common.{ap, ◌∙◌, length, false, List}
 use Rattle.vt100_cells.specs.Cell.{CellView}
 use Rattle.vt100_cells.specs.Cells.{inserted_cells}
 use Rattle.vt100_rows.specs.Row.{RowView, inserted}
-use Rattle.vt100_rows.proofs.RowLemmas.{IsRow-at, IsRow-inserted}
+use Rattle.vt100_rows.proofs.RowLemmas.{IsRow-inserted}
 use Rattle.vt100_rows.proofs.SheetLemmas.{refilled}
+use Rattle.vt100_rows.proofs.BlankLemmas.{fields-any}
 use Rattle.vt100_rows.proofs.row.Row.insert.Goals as goal
 
 pub returns : goal.returns
@@ -19,5 +20,5 @@ returns c =
 
 pub invariant_of-self : goal.invariant_of-self
 invariant_of-self c =
-    IsRow-at _ (inserted c.args.self.now c.args.i c.args.count) (returns c)
-    (IsRow-inserted c.args.self.now c.args.i c.args.count (rw (← c.self.view_is) c.self.invariant))
+    fields-any _ _ (inserted c.args.self.now c.args.i c.args.count) (returns c)
+    (IsRow-inserted c.args.self.now c.args.i c.args.count (rw (← c.self.view_is) c.self.invariant.row))

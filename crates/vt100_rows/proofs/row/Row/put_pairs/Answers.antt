@@ -1,22 +1,26 @@
-use Rattle.std.proofs.Common.{arith, ◌∙◌, ◌≡◌, ◌==◌, length, true}
+use Rattle.std.proofs.Common.{subst, arith, ◌∙◌, ◌≡◌, ◌==◌, length, true}
 use Rattle.std.proofs.lemmas.Bool.{eqb-true}
 use Rattle.std.proofs.lemmas.Grind.{common_steps}
-use Rattle.vt100_rows.specs.Row.{pairs_row}
-use Rattle.vt100_rows.proofs.RowLemmas.{IsRow-at}
+use Rattle.vt100_rows.specs.Row.{RowView, IsRow, IsBlankFrom, pairs_row}
 use Rattle.vt100_rows.proofs.RowPairs.{IsRow-pairs, pairs_row-each, pairs_row-empty}
+use Rattle.vt100_rows.proofs.BlankLemmas.{fields-at, blank-pairs}
 use Rattle.vt100_rows.proofs.row.Row.put_pairs.Goals as goal
 
 pub invariant_of-self : goal.invariant_of-self
 invariant_of-self c =
-    IsRow-at _ (pairs_row c.args.self.now c.args.col c.args.text.now c.args.attrs) (grind (arith, common_steps))
-    (IsRow-pairs c.args.self.now c.args.col c.args.text.now c.args.attrs (rw (← c.self.view_is) c.self.invariant)
+    fields-at _ _ _ (pairs_row c.args.self.now c.args.col c.args.text.now c.args.attrs) (grind (arith, common_steps))
+    (IsRow-pairs c.args.self.now c.args.col c.args.text.now c.args.attrs (rw (← c.self.view_is) c.self.invariant.row)
     c.requires.wide c.put_pairs.ensures.characters c.requires.in_row)
+    (let r : IsRow c.args.self.now = rw (← c.self.view_is) c.self.invariant.row in
+    let b : IsBlankFrom c.args.self.now.cells c.self.inside.filled = subst (λ (v : RowView). IsBlankFrom v.cells c.self.inside.filled) c.self.view_is c.self.invariant.blank in
+    blank-pairs c.args.self.now.cells c.self.inside.filled c.max-filled.result c.args.col c.args.text.now c.args.attrs r.narrow b
+    (omega (arith, c.max-filled.ensures)) (λ h. grind (arith, common_steps)))
 
 pub returns-after-pairs_end-clause-each : goal.returns-after-pairs_end-clause-each
 returns-after-pairs_end-clause-each c =
     let same : _ ≡ pairs_row c.args.self.now c.args.col c.args.text.now c.args.attrs = grind (arith, common_steps) in
     same ∙ (pairs_row-each c.args.text.now c.args.self.now c.args.col c.args.attrs
-    (rw (← c.self.view_is) c.self.invariant) c.requires.wide c.put_pairs.ensures.characters c.requires.in_row).0
+    (rw (← c.self.view_is) c.self.invariant.row) c.requires.wide c.put_pairs.ensures.characters c.requires.in_row).0
 
 pub returns-else-not-is_empty-clause-row : goal.returns-else-not-is_empty-clause-row
 returns-else-not-is_empty-clause-row c =

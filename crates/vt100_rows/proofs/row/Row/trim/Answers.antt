@@ -2,10 +2,10 @@ use Rattle.std.proofs.Common.{arith}
 use Rattle.std.proofs.lemmas.Grind.{common_steps}
 use Rattle.vt100_rows.specs.Row.{trimmed}
 use Rattle.vt100_rows.proofs.TrimLemmas.{IsRow-trimmed}
-use Rattle.vt100_rows.proofs.RowLemmas.{IsRow-at}
+use Rattle.vt100_rows.proofs.BlankLemmas.{fields-any}
 use Rattle.vt100_rows.proofs.row.Row.trim.Goals as goal
 
 pub invariant_of-self : goal.invariant_of-self
 invariant_of-self c =
-    IsRow-at _ (trimmed c.args.self.now) (grind (arith, common_steps))
-    (IsRow-trimmed c.args.self.now (rw (← c.self.view_is) c.self.invariant))
+    fields-any _ _ (trimmed c.args.self.now) (grind (arith, common_steps))
+    (IsRow-trimmed c.args.self.now (rw (← c.self.view_is) c.self.invariant.row))

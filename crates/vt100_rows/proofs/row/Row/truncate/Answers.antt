@@ -1,7 +1,8 @@
 use Rattle.std.proofs.Common.{ap, ◌∙◌, ◌≡◌, length, take, false}
 use Rattle.vt100_rows.specs.Row.{RowView, truncated}
-use Rattle.vt100_rows.proofs.RowLemmas.{IsRow-at, IsRow-truncated, truncates}
+use Rattle.vt100_rows.proofs.RowLemmas.{IsRow-truncated, truncates}
 use Rattle.vt100_rows.proofs.SheetLemmas.{refilled}
+use Rattle.vt100_rows.proofs.BlankLemmas.{fields-any}
 use Rattle.vt100_rows.proofs.row.Row.truncate.Goals as goal
 
 pub returns : goal.returns
@@ -17,5 +18,5 @@ returns c =
 
 pub invariant_of-self : goal.invariant_of-self
 invariant_of-self c =
-    IsRow-at _ (truncated c.args.self.now c.args.len) (returns c)
-    (IsRow-truncated c.args.self.now c.args.len (rw (← c.self.view_is) c.self.invariant))
+    fields-any _ _ (truncated c.args.self.now c.args.len) (returns c)
+    (IsRow-truncated c.args.self.now c.args.len (rw (← c.self.view_is) c.self.invariant.row))
