@@ -23,9 +23,7 @@ is_alive v h = λ i. record { state = v.state; failed = h i }
 pub tells_failed : {C : Type 0} (step : C → ScreenView → Call → C → ScreenView → Type 0) (c : C) (v : ScreenView)
     (ks : List Call) → v.failed ≡ true → Tells step c v ks c v
 tells_failed step c v [] h = (refl, refl)
-tells_failed {C} step c v (k ∷ ks) h =
-    subst (λ (x : Bool). Either x ((c ≡ c) × (v ≡ v)) ((a : C) × (z : ScreenView) × step c v k a z
-    × Tells step a z ks c v)) (sym h) (refl, refl)
+tells_failed step c v (k ∷ ks) h = rw h (refl, refl)
 
 pub tells_more : {C : Type 0} (step : C → ScreenView → Call → C → ScreenView → Type 0) (c : C) (v : ScreenView)
     (k : Call) (ks : List Call) (b : C) (u : ScreenView) (d : C) (w : ScreenView) → v.failed ≡ false → step c v k b u
@@ -112,13 +110,8 @@ module _ {C : Type 0} {step : C → ScreenView → Call → C → ScreenView →
   does_unhandled : {t : Bool} {c d : C} {v w : ScreenView} (f : State → Partly) (k : Call) (n : ℕ) (b : C)
       (u : ScreenView) → v.failed ≡ false → Hears scrolls c (f v.state).reports b → u ≡ alive (f v.state).state
       → n ≡ (f v.state).unhandled → Tells step b u (replicate n k) d w → Does step scrolls (λ s. partly (f s) k) t c v d w
-  does_unhandled {t} {c} {d} {v} {w} f k n b u h hears screen count calls =
-      let all = subst (λ (m : ℕ). Tells step b u (replicate m k) d w) count calls in
-      does_live (λ s. partly (f s) k) h (inl (
-        b,
-        hears,
-        subst (λ (z : ScreenView). Tells step b z (replicate (f v.state).unhandled k) d w) screen all,
-      ))
+  does_unhandled f k n b u h hears screen count calls =
+      does_live (λ s. partly (f s) k) h (inl (b, hears, rw (count, screen) at calls))
 
   pub does_counts : {t : Bool} {c b d : C} {v u w : ScreenView} {n : ℕ} (f : State → Partly) (k : Call)
       → v.failed ≡ false → Counts scrolls f v c n u b → Tells step b u (replicate n k) d w
@@ -141,7 +134,7 @@ module _ {C : Type 0} {step : C → ScreenView → Call → C → ScreenView →
   -- the same, where memory may be taken alike
   pub does_where : {t u : Bool} {f : State → Effect} {c d : C} {v w : ScreenView} → t ≡ u
       → Does step scrolls f t c v d w → Does step scrolls f u c v d w
-  does_where {t} {u} {f} {c} {d} {v} {w} e x = subst (λ (b : Bool). Does step scrolls f b c v d w) e x
+  does_where e x = rw e at x
 
   -- ---- rows of tables
 
@@ -149,15 +142,12 @@ module _ {C : Type 0} {step : C → ScreenView → Call → C → ScreenView →
       (t : ℕ → Bool) (gs : List (List ℕ)) (k : Call) → a ≡ b
       → Does step scrolls (row_effect (lookup b rows) gs k) (t b) c v d w
       → Does step scrolls (row_effect (lookup a rows) gs k) (t a) c v d w
-  row_does {a} {b} {c} {d} {v} {w} rows t gs k e x =
-      subst (λ (n : ℕ). Does step scrolls (row_effect (lookup n rows) gs k) (t n) c v d w) (sym e) x
+  row_does rows t gs k e x = rw e x
 
   pub plain_does : {a b : ℕ} {c d : C} {v w : ScreenView} (gs : List (List ℕ)) → a ≡ b
       → Does step scrolls (plain_effect (lookup b plain_rows) gs b) (plain_may_take b v.state) c v d w
       → Does step scrolls (plain_effect (lookup a plain_rows) gs a) (plain_may_take a v.state) c v d w
-  plain_does {a} {b} {c} {d} {v} {w} gs e x =
-      subst (λ (n : ℕ). Does step scrolls (plain_effect (lookup n plain_rows) gs n) (plain_may_take n v.state) c v d w)
-      (sym e) x
+  plain_does gs e x = rw e x
 
 pub escape_more : (ms : List ℕ) (b : ℕ) (s : State) → 0 < length ms
     → calling (unhandled_escape (first ms) (second ms) b ∷ []) s ≡ escape_effect ms b s

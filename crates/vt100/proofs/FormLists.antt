@@ -1,15 +1,14 @@
 -- A screen's lists are those of what it shows, whose forms, lengths and cells are known.
-use Rattle.std.proofs.Common.{◌≡◌, ℕ, suc, ◌+◌, ◌<◌, ◌≤◌, ◌^◌, Bool, false, ◌&&◌, ◌==◌, List, [], ◌∷◌, ◌++◌, length}
-use Rattle.std.proofs.Common.{None, refl, sym, ap, subst, arith, Contains, nat_lt}
+use Rattle.std.proofs.Common.{◌≡◌, ℕ, suc, ◌+◌, ◌<◌, ◌≤◌, ◌^◌, Bool, false, ◌&&◌, ◌==◌, List, [], ◌∷◌, length, None}
+use Rattle.std.proofs.Common.{refl, sym, ap, subst, arith, Contains, nat_lt}
 use Rattle.std.specs.List.{AllByRecursion}
 use Rattle.std.proofs.lemmas.Bool.{cond_both}
 use Rattle.vt100_forms.specs.Attrs.{default_attrs, IsProper, HasByteColors}
-use Rattle.vt100_forms.specs.Form.{Form, spell}
+use Rattle.vt100_forms.specs.Form.{Form}
 use Rattle.vt100_cells.specs.Cell.{CellView, IsCell, default_cell}
 use Rattle.vt100_cells.specs.Cells.{cell_at}
 use Rattle.vt100_cells.proofs.CellLemmas.{IsCell-empty}
 use Rattle.terminal_model.specs.FormText.{AreForms, AreSentForms}
-use Rattle.terminal_model.specs.Term.{Size, Shown, IsShown}
 use Rattle.row_drawing.specs.Small.{SmallErase, IsSmallPen}
 use Rattle.vt100_rows.specs.Row.{RowView}
 use Rattle.vt100_rows.specs.Forms.{formatted, differing}
@@ -18,7 +17,6 @@ use Rattle.vt100_rows.proofs.SentTexts as rows
 use Rattle.vt100_rows.specs.Sheet.{row_at}
 use Rattle.screen_drawing.specs.Laws as writers
 use Rattle.screen_drawing.specs.Length.{IsWithin}
-use Rattle.screen_drawing.proofs.Modes.{modes-set, modes-changed, attributes-set}
 use Rattle.screen_drawing.proofs.SmallScreens.{lists-sent, lists-forms}
 use Rattle.screen_drawing.specs.Local.{IsLocalList}
 use Rattle.screen_drawing.proofs.Lengths.{each-short}
@@ -30,28 +28,14 @@ use Rattle.screen_model.specs.State.{State}
 use Rattle.screen_model.specs.Shown.{shown_state}
 use Rattle.screen_model.specs.Made.{made}
 use Rattle.screen_model.proofs.MadeLemmas.{makes-cells}
-use Rattle.vt100.specs.Writers.{contents_formatted, state_formatted, contents_diff, state_diff, cursor_state_formatted}
-use Rattle.vt100.specs.Writers.{each_formatted, each_diff}
+use Rattle.vt100.specs.Writers.{contents_diff, state_diff, each_formatted, each_diff}
 use Rattle.vt100.specs.WriterLaws.{IsUnscrolled, IsPlainlyShown}
-use Rattle.vt100.specs.FormLists.{EachModeLeads, EachModeChangeLeads, EachAttributeLeads, EachScreenIsKnown}
-use Rattle.vt100.specs.FormLists.{EachMadeScreenIsKnown, IsTrueOfLists, EachListIsSent, EachListIsOfForms, IsSpelled}
-use Rattle.vt100.specs.FormLists.{IsTrueOfRows, EachRowIsSent, EachRowIsOfForms, EachListIsShort, EachScreenIsSmall}
-use Rattle.vt100.specs.FormLists.{IsShortText, IsLocalText}
-use Rattle.vt100.proofs.ShownLemmas.{cells-are, shown-is, contents-is, state-is, cursor-is, changed-is, all-changed_is}
+use Rattle.vt100.specs.FormLists.{EachScreenIsKnown, EachMadeScreenIsKnown, IsTrueOfLists, EachListIsSent}
+use Rattle.vt100.specs.FormLists.{EachListIsOfForms, IsSpelled, IsTrueOfRows, EachRowIsSent, EachRowIsOfForms}
+use Rattle.vt100.specs.FormLists.{EachListIsShort, EachScreenIsSmall}
+use Rattle.vt100.proofs.ShownLemmas.{cells-are, shown-is, old-shown, redraw-of_shown, difference-of_shown}
 use Rattle.vt100.proofs.ShownLemmas.{screen-drawable}
-use Rattle.vt100.proofs.WriteLemmas.{as_shown}
 use Rattle.vt100.proofs.RowTexts.{row-is, shown-many, IsReadyRow, ready-row}
-
--- ---- modes and attributes
-
-pub modes-lead : EachModeLeads
-modes-lead s z from m e y = modes-set z (shown_state s) from m e y
-
-pub mode-changes_lead : EachModeChangeLeads
-mode-changes_lead old new z from m y = modes-changed z (shown_state old) (shown_state new) from m y
-
-pub attributes-lead : EachAttributeLeads
-attributes-lead s z from h = attributes-set z (shown_state s) from h.attrs
 
 -- ---- what is shown
 
@@ -104,16 +88,19 @@ of-shown : (Q : List Form → Type 0) (old new : State) → IsUnscrolled old →
     → grid_size old.shown ≡ grid_size new.shown
     → writers.IsTrueOfLists Q HasByteColors (grid_size new.shown) (shown_state old) (shown_state new)
     → IsTrueOfLists Q old new
-of-shown Q old new o h e q = record {
-  state_formatted = subst Q (sym (state-is new h)) q.state_formatted;
-  contents_formatted = subst Q (sym (contents-is new h)) q.contents_formatted;
-  state_diff = subst Q (sym (all-changed_is old new o h e)) q.state_diff;
-  contents_diff = subst Q (sym (changed-is old new o h e)) q.contents_diff;
-  cursor_state_formatted = subst Q (sym (cursor-is new h)) q.cursor_state_formatted;
-  input_mode_formatted = q.input_mode_formatted;
-  input_mode_diff = q.input_mode_diff;
-  attributes_formatted = q.attributes_formatted;
-}
+of-shown Q old new o h e q =
+    let is = redraw-of_shown new h in
+    let differs = difference-of_shown old new o h e in
+    record {
+      state_formatted = subst Q (sym is.state) q.state_formatted;
+      contents_formatted = subst Q (sym is.contents) q.contents_formatted;
+      state_diff = subst Q (sym differs.state) q.state_diff;
+      contents_diff = subst Q (sym differs.contents) q.contents_diff;
+      cursor_state_formatted = subst Q (sym is.cursor) q.cursor_state_formatted;
+      input_mode_formatted = q.input_mode_formatted;
+      input_mode_diff = q.input_mode_diff;
+      attributes_formatted = q.attributes_formatted;
+    }
 
 pub screen-sent : EachListIsSent
 screen-sent old new o h e known =
@@ -129,48 +116,33 @@ screen-forms old new o h e known plain =
 pub screen-short : EachListIsShort
 screen-short old new o h e =
     let z = grid_size new.shown in
+    let is = redraw-of_shown new h in
+    let differs = difference-of_shown old new o h e in
     let all = each-short z (shown_state old) (shown_state new) o.state.attrs.colors (small-screen new h) in
     record {
-      contents_formatted = subst (IsWithin z 512) (sym (contents-is new h)) all.contents_formatted;
-      contents_diff = subst (IsWithin z 512) (sym (changed-is old new o h e)) all.contents_diff;
-      state_formatted = subst (IsWithin z 1008) (sym (state-is new h)) all.state_formatted;
-      state_diff = subst (IsWithin z 1008) (sym (all-changed_is old new o h e)) all.state_diff;
+      contents_formatted = subst (IsWithin z 512) (sym is.contents) all.contents_formatted;
+      contents_diff = subst (IsWithin z 512) (sym differs.contents) all.contents_diff;
+      state_formatted = subst (IsWithin z 1008) (sym is.state) all.state_formatted;
+      state_diff = subst (IsWithin z 1008) (sym differs.state) all.state_diff;
       input_mode_formatted = all.input_mode_formatted;
       input_mode_diff = all.input_mode_diff;
     }
 
--- a text that begins empty
-pub text-short : (z : Size) (more : ℕ) (fs : List Form) (s t : List ℕ) → s ≡ [] → t ≡ s ++ spell fs → IsWithin z more fs
-    → IsShortText z more t
-text-short z more fs s t e a w = subst (IsShortText z more) (sym (as_shown fs fs s t e a refl)) w
-
-pub text-local : (z : Size) (old new : Shown) (fs : List Form) (s t : List ℕ) → s ≡ [] → t ≡ s ++ spell fs
-    → IsLocalList z old new fs → IsLocalText z old new t
-text-local z old new fs s t e a l = (fs, as_shown fs fs s t e a refl, l)
-
--- ---- which cells they touch
-
-old-shown : (old new : State) → IsUnscrolled old → grid_size old.shown ≡ grid_size new.shown
-    → IsShown (grid_size new.shown) (shown_state old)
-old-shown old new o e = subst (λ (z : Size). IsShown z (shown_state old)) e (shown-is old o)
-
-pub contents_diff-local : (old new : State) → IsUnscrolled old → IsUnscrolled new
+-- which cells two lists of differences touch
+pub differences-local : (old new : State) → IsUnscrolled old → IsUnscrolled new
     → grid_size old.shown ≡ grid_size new.shown → IsPlainlyShown (shown_state new)
     → IsLocalList (grid_size new.shown) (shown_state old) (shown_state new) (contents_diff old new)
-contents_diff-local old new o h e plain =
+    × IsLocalList (grid_size new.shown) (shown_state old) (shown_state new) (state_diff old new)
+differences-local old new o h e plain =
     let z = grid_size new.shown in
-    subst (IsLocalList z (shown_state old) (shown_state new)) (sym (changed-is old new o h e))
-    (contents-local z (shown_state old) (shown_state new) (old-shown old new o e) o.state.attrs
-    (screen-drawable new h plain))
-
-pub state_diff-local : (old new : State) → IsUnscrolled old → IsUnscrolled new
-    → grid_size old.shown ≡ grid_size new.shown → IsPlainlyShown (shown_state new)
-    → IsLocalList (grid_size new.shown) (shown_state old) (shown_state new) (state_diff old new)
-state_diff-local old new o h e plain =
-    let z = grid_size new.shown in
-    subst (IsLocalList z (shown_state old) (shown_state new)) (sym (all-changed_is old new o h e))
-    (difference-local z (shown_state old) (shown_state new) (old-shown old new o e) o.state.attrs
-    (screen-drawable new h plain))
+    let x = shown_state old in
+    let y = shown_state new in
+    let is = difference-of_shown old new o h e in
+    let start = old-shown old new o e in
+    let d = screen-drawable new h plain in (
+      subst (IsLocalList z x y) (sym is.contents) (contents-local z x y start o.state.attrs d),
+      subst (IsLocalList z x y) (sym is.state) (difference-local z x y start o.state.attrs d),
+    )
 
 -- ---- rows
 

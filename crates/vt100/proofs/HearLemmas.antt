@@ -1,10 +1,17 @@
--- Callbacks behind a sink of rows.
-use Rattle.std.proofs.Common.{◌≡◌, ◌∙◌, Bool, List, [], ◌∷◌, ◌++◌, ap, sym, subst, append-nil}
+-- Callbacks behind a sink of rows, and calls of a screen that go through or find no memory.
+use Rattle.std.proofs.Common.{◌≡◌, ◌∙◌, ℕ, Bool, true, false, List, [], ◌∷◌, ◌++◌, ap, sym, subst, append-nil, nat_lt}
+use Rattle.std.proofs.Common.{Ok, Err, Result, arith}
+use Rattle.std.specs.Prelude.{IsOk}
+use Rattle.std.proofs.lemmas.Bool.Decides.{nat_tests}
+use Rattle.std.proofs.lemmas.Bool.{false≢true}
 use Rattle.vt100_rows.specs.Row.{RowView}
 use Rattle.vt100_rows.specs.Sink.{TakesAll}
-use Rattle.screen_model.specs.Step.{Report, reports_of}
-use Rattle.screen_model.specs.Call.{Hears}
-use Rattle.vt100.specs.Tries.{HearsFront}
+use Rattle.screen_model.specs.State.{State}
+use Rattle.screen_model.specs.Step.{Report, Stepped, reports_of}
+use Rattle.screen_model.specs.Call.{ScreenView, Hears}
+use Rattle.vt100.specs.Tries.{Tries, HearsFront, alive}
+use Rattle.vt100.specs.declared.error.ScreenError.{ScreenError}
+use Rattle.vt100.specs.declared.error.ScreenError.TheVariants.{Memory}
 use Rattle.vt100.specs.declared.screen.reported.Reporter.{Reporter}
 
 -- what a reporter does with a row
@@ -12,25 +19,68 @@ abbrev pub Reports : {C : Type 0} → (C → RowView → Bool → C → Type 0) 
 Reports scrolls s v t = scrolls s.callbacks.now v s.alternate_screen t.callbacks.now
     × (t.alternate_screen ≡ s.alternate_screen) × (t.callbacks.ghost_name ≡ s.callbacks.ghost_name)
 
--- the callbacks of a reporter hear of the rows, and stay where they are
-pub hears_all : {C : Type 0} (scrolls : C → RowView → Bool → C → Type 0) (s : Reporter C) (rows : List RowView)
-    (t : Reporter C) → TakesAll (Reports scrolls) s rows t
-    → Hears scrolls s.callbacks.now (reports_of s.alternate_screen rows) t.callbacks.now
-    × (t.callbacks.ghost_name ≡ s.callbacks.ghost_name)
-hears_all {C} scrolls s [] t h =
-    (ap (λ (x : Reporter C). x.callbacks.now) h, ap (λ (x : Reporter C). x.callbacks.ghost_name) (sym h))
-hears_all scrolls s (v ∷ vs) t h =
-    let rest = hears_all scrolls h.0 vs t h.2 in
-    let later = subst (λ (a : Bool). Hears scrolls h.0.callbacks.now (reports_of a vs) t.callbacks.now) h.1.1 rest.0 in
-    ((h.0.callbacks.now, h.1.0, later), rest.1 ∙ h.1.2)
+module _ {C : Type 0} (scrolls : C → RowView → Bool → C → Type 0) where
+  -- the callbacks of a reporter hear of the rows, and stay where they are
+  pub hears_all : (s : Reporter C) (rows : List RowView) (t : Reporter C) → TakesAll (Reports scrolls) s rows t
+      → Hears scrolls s.callbacks.now (reports_of s.alternate_screen rows) t.callbacks.now
+      × (t.callbacks.ghost_name ≡ s.callbacks.ghost_name)
+  hears_all s [] t h =
+      (ap (λ (x : Reporter C). x.callbacks.now) h, ap (λ (x : Reporter C). x.callbacks.ghost_name) (sym h))
+  hears_all s (v ∷ vs) t h =
+      let rest = hears_all h.0 vs t h.2 in
+      let later = subst (λ (a : Bool). Hears scrolls h.0.callbacks.now (reports_of a vs) t.callbacks.now) h.1.1 rest.0 in
+      ((h.0.callbacks.now, h.1.0, later), rest.1 ∙ h.1.2)
 
--- one list of reports after another
-pub hears_append : {C : Type 0} (scrolls : C → RowView → Bool → C → Type 0) (c : C) (xs ys : List Report) (b d : C)
-    → Hears scrolls c xs b → Hears scrolls b ys d → Hears scrolls c (xs ++ ys) d
-hears_append {C} scrolls c [] ys b d h k = subst (λ (x : C). Hears scrolls x ys d) (sym h) k
-hears_append scrolls c (x ∷ xs) ys b d h k = (h.0, h.1, hears_append scrolls h.0 xs ys b d h.2 k)
+  -- one list of reports after another
+  pub hears_append : (c : C) (xs ys : List Report) (b d : C) → Hears scrolls c xs b → Hears scrolls b ys d
+      → Hears scrolls c (xs ++ ys) d
+  hears_append c [] ys b d h k = subst (λ (x : C). Hears scrolls x ys d) (sym h) k
+  hears_append c (x ∷ xs) ys b d h k = (h.0, h.1, hears_append h.0 xs ys b d h.2 k)
 
--- all of some rows
-pub hears_whole : {C : Type 0} (scrolls : C → RowView → Bool → C → Type 0) (c : C) (xs : List Report) (d : C)
-    → Hears scrolls c xs d → HearsFront scrolls c xs d
-hears_whole scrolls c xs d h = (xs, [], sym (append-nil xs), h)
+  -- all of some rows
+  pub hears_whole : (c : C) (xs : List Report) (d : C) → Hears scrolls c xs d → HearsFront scrolls c xs d
+  hears_whole c xs d h = (xs, [], sym (append-nil xs), h)
+
+  -- ---- calls
+
+  pub tries_ok : {A : Type 0} (f : State → Stepped) (v : ScreenView) (c : C) (a : A) (w : ScreenView) (d : C)
+      → v.failed ≡ false → w ≡ alive (f v.state).state → Hears scrolls c (f v.state).reports d
+      → Tries scrolls f v c (Ok a) w d
+  tries_ok f v c a w d live screen hears = record {
+    live = live;
+    screen = screen;
+    hears = hears;
+    memory = λ e. cc;
+    told = λ e. cc;
+    refused = λ e. cc;
+    dead = λ e. absurd (false≢true (sym live ∙ e));
+  }
+
+  -- the screen has failed, and the callbacks were told of the first of the rows
+  pub tries_front : {A : Type 0} (f : State → Stepped) (v : ScreenView) (c : C) (w : ScreenView) (d : C)
+      → v.failed ≡ false → w.failed ≡ true → HearsFront scrolls c (f v.state).reports d
+      → Tries {A = A} scrolls f v c (Err Memory) w d
+  tries_front f v c w d live failed told = record {
+    live = tt;
+    screen = tt;
+    hears = tt;
+    memory = λ _. failed;
+    told = λ _. told;
+    refused = λ e. cc;
+    dead = λ e. absurd (false≢true (sym live ∙ e));
+  }
+
+  -- or of all of them
+  pub tries_refused : {A : Type 0} (f : State → Stepped) (v : ScreenView) (c : C) (w : ScreenView) (d : C)
+      → v.failed ≡ false → w.failed ≡ true → Hears scrolls c (f v.state).reports d
+      → Tries {A = A} scrolls f v c (Err Memory) w d
+  tries_refused f v c w d live failed told = tries_front f v c w d live failed (hears_whole c (f v.state).reports d told)
+
+some-kept : (n : ℕ) → (n ≡ 0 → ⊥) → nat_lt 0 n ≡ true
+some-kept n h = grind (arith, nat_tests)
+
+-- a call that is refused only where rows are kept
+pub refused_keeps : {A L : Type 0} (capacity : ℕ) (result : Result A ScreenError)
+    → (L → capacity ≡ 0 → IsOk result) → L → result ≡ Err Memory → nat_lt 0 capacity ≡ true
+refused_keeps {A} capacity result h live e =
+    some-kept capacity (λ none. false≢true (subst (λ (r : Result A ScreenError). IsOk r) e (h live none)))

@@ -1,7 +1,5 @@
 pub mod EventLemmas
 pub mod HearLemmas
-pub mod RefusedLemmas
-pub mod SettledLemmas
 pub mod RepeatLemmas
 pub mod PlayLemmas
 pub mod LastLemmas
@@ -9,11 +7,9 @@ pub mod RunLemmas
 pub mod SizeLemmas
 pub mod ProperScreens
 pub mod BetweenLemmas
-pub mod BoundsLemmas
 pub mod LimitsLemmas
 pub mod ShownLemmas
 pub mod WriteLemmas
-pub mod RowsLemmas
 pub mod RowTexts
 pub mod FormLists
 mod LendTwo

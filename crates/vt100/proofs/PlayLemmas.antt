@@ -19,7 +19,7 @@ use Rattle.screen_model.specs.Made.{Act, Fed, Resized, played, events_added, byt
 use Rattle.vt100.specs.declared.screen.wrapped.WrappedScreen.{WrappedScreen}
 use Rattle.vt100.specs.declared.error.ScreenError.{ScreenError}
 use Rattle.vt100.specs.Tries.{Tries, SameBounds, alive}
-use Rattle.vt100.specs.Goes.{Either, Tells, Fails, Goes, GoesThrough}
+use Rattle.vt100.specs.Goes.{Tells, Fails, Goes, GoesThrough}
 use Rattle.vt100.specs.Memory.{may_take_memory, some_may_take}
 use Rattle.vt100.specs.Parsing.{ParserView, ParserStandsAt, KeepsScreens}
 use Rattle.vt100.specs.Laws.{PlaysEvents, FeedsMake, FeedsJoin, FeedsNothing, ActsFollow, ResizedScreensArePutIn}
@@ -30,7 +30,7 @@ use Rattle.screen_model.proofs.UnscrolledStates.{Bounds, IsUnscrolledState, limi
 use Rattle.screen_model.proofs.UnscrolledEvents.{effect-well}
 use Rattle.screen_model.proofs.ScalarEvents.{IsTold, added-told}
 use Rattle.screen_model.proofs.MadeLemmas.{bounded, first_bounds, made-well}
-use Rattle.vt100.proofs.BoundsLemmas.{bounds_same, bounds_is, bounds_trans}
+use Rattle.vt100.proofs.LimitsLemmas.{bounds_same, bounds_trans}
 use Rattle.vt100.proofs.EventLemmas.{is_alive}
 
 -- ---- a performer's steps
@@ -46,35 +46,14 @@ goes_through step scrolls [] p q h = (ap (λ x. x.callbacks) h, ap (λ x. x.scre
 goes_through step scrolls (e ∷ es) p q (m, s, h) = (m.callbacks, m.screen, s, goes_through step scrolls es m q h)
 
 -- what a call of the reader told
-pub goes_told : {C : Type 0} (step : C → ScreenView → Call → C → ScreenView → Type 0)
-    (scrolls : C → RowView → Bool → C → Type 0) (r : Parser 1024) (p : WrappedScreen C) (bytes : List ℕ)
-    (q : WrappedScreen C) → Told (Steps step scrolls) 1024 r p bytes q → (past : List ℕ) → Stands 1024 r past
+pub goes_told : {C : Type 0} {step : C → ScreenView → Call → C → ScreenView → Type 0}
+    {scrolls : C → RowView → Bool → C → Type 0} {r : Parser 1024} {p : WrappedScreen C} {bytes : List ℕ}
+    {q : WrappedScreen C} → Told (Steps step scrolls) 1024 r p bytes q → (past : List ℕ) → Stands 1024 r past
     → GoesThrough step scrolls (events_added past bytes) p.callbacks p.screen q.callbacks q.screen
 unfolding added
-goes_told {C} step scrolls r p bytes q t past stands =
+goes_told {C} {step} {scrolls} {r} {p} {bytes} {q} t past stands =
     subst (λ (es : List Event). GoesThrough step scrolls es p.callbacks p.screen q.callbacks q.screen)
     (added-is 1024 past bytes t.told (t.added past stands)) (goes_through step scrolls t.told p q t.performed)
-
--- ---- callbacks that leave the screen as it is
-
-tells_keeps : {C : Type 0} (step : C → ScreenView → Call → C → ScreenView → Type 0) → KeepsScreens step
-    → (c : C) (v : ScreenView) (ks : List Call) (d : C) (w : ScreenView) → Tells step c v ks d w → w ≡ v
-tells_keeps step keeps c v [] d w h = h.1
-tells_keeps {C} step keeps c v (k ∷ ks) d w h =
-    let cases : (b : Bool) → Either b ((d ≡ c) × (w ≡ v)) ((a : C) × (u : ScreenView) × step c v k a u
-    × Tells step a u ks d w) → w ≡ v = λ b. elim b as (λ x. Either x ((d ≡ c) × (w ≡ v)) ((a : C) × (u : ScreenView)
-    × step c v k a u × Tells step a u ks d w) → w ≡ v) [
-      | true ↦ λ p. p.1
-      | false ↦ λ q. tells_keeps step keeps q.0 q.1 ks d w q.3 ∙ keeps c v k q.0 q.1 q.2
-    ] in
-    cases v.failed h
-
-failed_same : {C : Type 0} (step : C → ScreenView → Call → C → ScreenView → Type 0)
-    (scrolls : C → RowView → Bool → C → Type 0) (es : List Event) (c : C) (v : ScreenView) (d : C) (w : ScreenView)
-    → v.failed ≡ true → GoesThrough step scrolls es c v d w → w ≡ v
-failed_same step scrolls [] c v d w h g = g.1
-failed_same step scrolls (e ∷ es) c v d w h (b, u, one, more) =
-    failed_same step scrolls es b u d w (ap (λ (x : ScreenView). x.failed) (one.dead h).1 ∙ h) more ∙ (one.dead h).1
 
 -- ---- what acts make
 
@@ -86,14 +65,10 @@ feeds_after : (past : List ℕ) (s : State) (a b : List ℕ) → played (events_
     ≡ played (events_added (past ++ a) b) (played (events_added past a) s)
 unfolding added
 feeds_after past s a b =
-    ap (λ (es : List Event). played es s) (added-append 1024 past a b)
-    ∙ played_append (events_added past a) (events_added (past ++ a) b) s
+    rw (added-append 1024 past a b) (played_append (events_added past a) (events_added (past ++ a) b) s)
 
 pub feeds_join : FeedsJoin
-feeds_join past s a b acts =
-    ap (λ (p : List ℕ). made_on p (played (events_added (past ++ a) b) (played (events_added past a) s)) acts)
-    (append_assoc past a b)
-    ∙ ap (λ (t : State). made_on (past ++ (a ++ b)) t acts) (sym (feeds_after past s a b))
+feeds_join past s a b acts = rw (feeds_after past s a b, append_assoc past a b) refl
 
 pub feeds_nothing : FeedsNothing
 unfolding added
@@ -105,9 +80,7 @@ made_after : (past : List ℕ) (s : State) (acts more : List Act)
     → made_on past s (acts ++ more) ≡ made_on (past ++ bytes_fed acts) (made_on past s acts) more
 made_after past s [] more = ap (λ (p : List ℕ). made_on p s more) (sym (append-nil past))
 made_after past s (Fed bs ∷ acts) more =
-    made_after (past ++ bs) (played (events_added past bs) s) acts more
-    ∙ ap (λ (p : List ℕ). made_on p (made_on (past ++ bs) (played (events_added past bs) s) acts) more)
-    (append_assoc past bs (bytes_fed acts))
+    rw (← append_assoc past bs (bytes_fed acts)) (made_after (past ++ bs) (played (events_added past bs) s) acts more)
 made_after past s (Resized rows cols ∷ acts) more = made_after past (resized_to rows cols s).state acts more
 
 pub acts_follow : ActsFollow
@@ -135,11 +108,28 @@ well-bounds b s t p q = record {
 
 module _ {C : Type 0} (step : C → ScreenView → Call → C → ScreenView → Type 0)
     (scrolls : C → RowView → Bool → C → Type 0) (keeps : KeepsScreens step) where
+  -- ---- callbacks that leave the screen as it is
+
+  tells_keeps : (c : C) (v : ScreenView) (ks : List Call) (d : C) (w : ScreenView) → Tells step c v ks d w → w ≡ v
+  tells_keeps c v [] d w h = h.1
+  tells_keeps c v (k ∷ ks) d w h = elim (cases_Bool v.failed) [
+    | inl f ↦ (rw f at h).1 ∙ sym (λ i. record { state = v.state; failed = f i })
+    | inr f ↦
+        let q = rw f at h in
+        tells_keeps q.0 q.1 ks d w q.3 ∙ keeps c (alive v.state) k q.0 q.1 q.2 ∙ sym (is_alive v f)
+  ]
+
+  failed_same : (es : List Event) (c : C) (v : ScreenView) (d : C) (w : ScreenView) → v.failed ≡ true
+      → GoesThrough step scrolls es c v d w → w ≡ v
+  failed_same [] c v d w h g = g.1
+  failed_same (e ∷ es) c v d w h (b, u, one, more) =
+      failed_same es b u d w (ap (λ (x : ScreenView). x.failed) (one.dead h).1 ∙ h) more ∙ (one.dead h).1
+
   one_played : (e : Event) (c : C) (v : ScreenView) (d : C) (w : ScreenView) → v.failed ≡ false
       → Goes step scrolls e c v d w → w.failed ≡ false → w ≡ alive (effect e v.state).state
   one_played e c v d w h g live =
       elim (g.live h) [
-        | inl a ↦ tells_keeps step keeps a.0 (alive (effect e v.state).state) (effect e v.state).calls d w a.2
+        | inl a ↦ tells_keeps a.0 (alive (effect e v.state).state) (effect e v.state).calls d w a.2
         | inr x ↦ absurd (false≢true (sym live ∙ x.failed))
       ]
 
@@ -148,9 +138,7 @@ module _ {C : Type 0} (step : C → ScreenView → Call → C → ScreenView →
   all_played [] c v d w h g live = g.1 ∙ is_alive v h
   all_played (e ∷ es) c v d w h (b, u, one, more) live =
       elim (cases_Bool u.failed) [
-        | inl f ↦
-            let same = failed_same step scrolls es b u d w f more in
-            absurd (false≢true (sym live ∙ ap (λ (x : ScreenView). x.failed) same ∙ f))
+        | inl f ↦ absurd (false≢true (sym live ∙ rw (failed_same es b u d w f more) f))
         | inr f ↦ all_played es b u d w f more live
             ∙ ap (λ (x : ScreenView). alive (played es x.state)) (one_played e c v b u h one f)
       ]
@@ -170,8 +158,7 @@ module _ {C : Type 0} (step : C → ScreenView → Call → C → ScreenView →
       alive_there (goes past at.has_read) live
       ∙ ap (λ (x : ScreenView). alive (played (events_added past bytes) x.state)) at.screen in
       record {
-        has_read = subst (λ (b : List ℕ). Stands 1024 q.reader b) (ap (λ (b : List ℕ). past ++ b) (sym (append-nil bytes))
-            ∙ sym (bytes_after acts (Fed bytes ∷ []))) (reads past at.has_read);
+        has_read = rw (bytes_after acts (Fed bytes ∷ []), append-nil) (reads past at.has_read);
         screen = shown ∙ ap alive (sym (acts_follow rows cols capacity acts (Fed bytes ∷ [])));
       }
 
@@ -184,26 +171,21 @@ module _ {C : Type 0} (step : C → ScreenView → Call → C → ScreenView →
   one_failed e c v d w h g failed =
       elim (g.live h) [
         | inl a ↦
-            let is = tells_keeps step keeps a.0 (alive (effect e v.state).state) (effect e v.state).calls d w a.2 in
-            absurd (false≢true (sym (ap (λ (x : ScreenView). x.failed) is) ∙ failed))
+            let is = tells_keeps a.0 (alive (effect e v.state).state) (effect e v.state).calls d w a.2 in
+            absurd (false≢true (rw is at failed))
         | inr x ↦ x
       ]
 
   events_bounded : (b : Bounds) (es : List Event) → All IsTold es → (c : C) (v : ScreenView) (d : C) (w : ScreenView)
       → v.failed ≡ false → IsUnscrolledState b v.state → GoesThrough step scrolls es c v d w
       → SameBounds v.state w.state
-  events_bounded b [] told c v d w h well g =
-      bounds_is v.state w.state v.state (ap (λ (x : ScreenView). x.state) g.1) (bounds_same v.state)
+  events_bounded b [] told c v d w h well g = rw g.1 (bounds_same v.state)
   events_bounded b (e ∷ es) told c v d w h well (m, u, one, more) =
       elim (cases_Bool u.failed) [
-        | inl f ↦
-            bounds_is v.state w.state u.state
-            (ap (λ (x : ScreenView). x.state) (failed_same step scrolls es m u d w f more))
-            (one_failed e c v m u h one f).bounds
+        | inl f ↦ rw (failed_same es m u d w f more) (one_failed e c v m u h one f).bounds
         | inr f ↦
             let is = ap (λ (x : ScreenView). x.state) (one_played e c v m u h one f) in
-            let next : IsUnscrolledState b u.state = subst (λ (x : State). IsUnscrolledState b x) (sym is)
-            (effect-well e (All-head IsTold e es told) b v.state well) in
+            let next : IsUnscrolledState b u.state = rw is (effect-well e (All-head IsTold e es told) b v.state well) in
             bounds_trans v.state u.state w.state (well-bounds b v.state u.state well next)
             (events_bounded b es (All-tail IsTold e es told) m u d w f next more)
       ]
@@ -214,13 +196,11 @@ module _ {C : Type 0} (step : C → ScreenView → Call → C → ScreenView →
       → ParserStandsAt p rows cols capacity acts → SameBounds p.screen.state q.screen.state
   fed_bounded p q bytes told rows cols capacity acts are at =
       let past = bytes_fed acts in
-      let from : WrappedScreen C = record { screen = p.screen; callbacks = p.callbacks } in
       let b = bounded (first_bounds rows cols capacity) acts in
-      let well : IsUnscrolledState b p.screen.state = subst (λ (x : State). IsUnscrolledState b x)
-      (sym (ap (λ (x : ScreenView). x.state) at.screen)) (made-well rows cols capacity acts are) in
+      let well : IsUnscrolledState b p.screen.state = rw at.screen (made-well rows cols capacity acts are) in
       events_bounded b (events_added past bytes) (added-told past bytes) p.callbacks p.screen q.callbacks q.screen
       (ap (λ (x : ScreenView). x.failed) at.screen) well
-      (goes_told step scrolls p.reader from bytes q told past at.has_read)
+      (goes_told told past at.has_read)
 
   -- ---- where memory may be taken
 
@@ -250,9 +230,7 @@ pub stands_resized : {C : Type 0} (p q : ParserView C) (height width : ℕ) → 
     → (rows cols capacity : ℕ) (acts : List Act) → ParserStandsAt p rows cols capacity acts
     → ParserStandsAt q rows cols capacity (acts ++ Resized height width ∷ [])
 stands_resized p q height width reader screen rows cols capacity acts at = record {
-  has_read = subst (λ (b : List ℕ). Stands 1024 q.reader b)
-      (sym (append-nil (bytes_fed acts)) ∙ sym (bytes_after acts (Resized height width ∷ [])))
-      (subst (λ (r : Parser 1024). Stands 1024 r (bytes_fed acts)) (sym reader) at.has_read);
+  has_read = rw (bytes_after acts (Resized height width ∷ []), append-nil, reader) at.has_read;
   screen = screen ∙ ap (λ (x : ScreenView). alive (resized_to height width x.state).state) at.screen
       ∙ ap alive (sym (acts_follow rows cols capacity acts (Resized height width ∷ [])));
 }

@@ -1,28 +1,32 @@
 -- The texts of a screen's rows, one by one, and where they lead.
-use Rattle.std.proofs.Common.{◌≡◌, ◌∙◌, ℕ, zero, suc, ◌+◌, ◌<◌, ◌==◌, Bool, true, false, ◌&&◌, List, [], ◌∷◌, length}
+use Rattle.std.proofs.Common.{◌≡◌, ◌∙◌, ℕ, zero, suc, ◌+◌, ◌<◌, ◌^◌, ◌==◌, Bool, false, ◌&&◌, List, [], ◌∷◌, length}
 use Rattle.std.proofs.Common.{get_or, Contains, None, refl, sym, ap, subst, arith}
+use Rattle.std.proofs.lemmas.Bool.{and_right}
 use Rattle.vt100_forms.specs.Attrs.{default_attrs}
 use Rattle.vt100_forms.specs.Form.{spell}
+use Rattle.vt100_forms.specs.declared.position.Pos.{Pos}
 use Rattle.vt100_cells.specs.Cell.{CellView}
 use Rattle.vt100_cells.specs.Cells.{cell_at}
-use Rattle.terminal_model.specs.Term.{Size}
+use Rattle.terminal_model.specs.Term.{Size, Term}
 use Rattle.terminal_model.specs.Apply.{run}
+use Rattle.terminal_model.specs.FormText.{AreForms}
+use Rattle.row_drawing.specs.Writer.{Drawn}
 use Rattle.vt100_rows.specs.Row.{RowView, IsRow}
 use Rattle.vt100_rows.specs.Forms.{formatted, differing}
-use Rattle.vt100_rows.specs.Laws.{IsPlainRow, IsKnownRow, IsSmallRow, IsRowDrawn, row_screen}
+use Rattle.vt100_rows.specs.Laws.{IsPlainRow, IsKnownRow, IsSmallRow, IsRowDrawn, IsTrueOfSmallForms, row_screen}
 use Rattle.row_drawing.specs.Small.{SmallErase, IsSmallPen}
 use Rattle.vt100_rows.proofs.DrawnRows.{row-drawn, difference-drawn}
 use Rattle.vt100_rows.proofs.SentTexts.{lists-forms}
 use Rattle.vt100_rows.specs.Sheet.{row_at, IsRowOf}
 use Rattle.vt100_rows.proofs.SheetLemmas.{row_at-by_position, length-rows_by_position}
 use Rattle.screen_drawing.specs.Rows.{is_continued}
-use Rattle.vt100_core.specs.Grid.{visible, visible_at}
+use Rattle.vt100_core.specs.Grid.{GridView, IsGrid, IsAllocated, visible, visible_at}
 use Rattle.vt100_core.specs.Picture.{grid_size}
 use Rattle.vt100_core.proofs.PictureLemmas.{visible_at-drawn, visible_wraps-drawn}
 use Rattle.screen_model.specs.State.{State}
 use Rattle.screen_model.specs.Shown.{shown_state}
 use Rattle.vt100.specs.Writers.{each_formatted, each_diff, rows_formatted, rows_diff}
-use Rattle.vt100.specs.WriterLaws.{IsUnscrolled, IsPlainLine, IsKnownLine, text_at, EachRowTextLeads}
+use Rattle.vt100.specs.WriterLaws.{IsUnscrolled, IsPlainLine, IsKnownLine, DrawsRow, text_at, EachRowTextLeads}
 use Rattle.vt100.specs.WriterLaws.{EachRowDifferenceLeads}
 use Rattle.vt100.proofs.ShownLemmas.{cells-are}
 
@@ -90,15 +94,17 @@ length-differing width i (v ∷ vs) (x ∷ es) e = ap suc (length-differing widt
 
 -- ---- the rows of a screen that shows no kept row
 
-and-none : (a b : Bool) → b ≡ false → (a && b) ≡ false
-and-none true b e = e
-and-none false b e = refl
-
 many : (s : State) → IsUnscrolled s → length s.shown.rows ≡ s.shown.height
 many s h = h.state.shown.sheet.count h.state.drawn
 
 pub shown-many : (s : State) → IsUnscrolled s → length (visible s.shown) ≡ s.shown.height
 shown-many s h = length-rows_by_position (length s.shown.rows) (visible_at s.shown) ∙ many s h
+
+pub few_visible : (g : GridView) (rows : List RowView) → IsGrid g → IsAllocated g → rows ≡ visible g
+    → length rows < 2 ^ 16
+few_visible g rows h some e =
+    let n = ap (λ (vs : List RowView). length vs) e ∙ length-rows_by_position (length g.rows) (visible_at g) in
+    omega (arith, n, h.sheet.count some, h.few_rows)
 
 pub row-is : (s : State) → IsUnscrolled s → (i : ℕ) → i < s.shown.height
     → row_at (visible s.shown) i ≡ row_at s.shown.rows i
@@ -119,7 +125,7 @@ not-before s h whole zero l c = before-first whole false (visible s.shown) (omeg
 not-before s h whole (suc k) l c =
     let k_in : k < s.shown.height = omega (arith, l) in
     before-later whole false (visible s.shown) k (omega (arith, l, shown-many s h))
-    ∙ and-none whole (row_at (visible s.shown) k).wrapped
+    ∙ and_right whole (row_at (visible s.shown) k).wrapped
     (ap (λ (v : RowView). v.wrapped) (row-is s h k k_in) ∙ sym (wraps-are s h k) ∙ c)
 
 cells-of : (s : State) → IsUnscrolled s → (i : ℕ) → (shown_state s).cell i ≡ cell_at (row_at s.shown.rows i).cells
@@ -165,6 +171,27 @@ text-is s h width i l c =
     ∙ ap (λ n. formatted_text (row_at s.shown.rows i) width n b) start
     ∙ ap (λ x. formatted_text (row_at s.shown.rows i) width i x) (not-before s h whole i l c)
 
+-- forms that draw the row on a terminal as wide as it is
+draws-row : (s : State) (h : IsUnscrolled s) (i : ℕ) (t : Term) (text : List ℕ) (d : Drawn) → i < s.shown.height
+    → text ≡ spell d.forms → (IsTrueOfSmallForms AreForms (row_at s.shown.rows i) → AreForms d.forms)
+    → IsPlainLine ((shown_state s).cell i) → IsRowDrawn i (cell_at (row_at s.shown.rows i).cells) d.pen t
+    (run (row_screen s.shown.height (row_at s.shown.rows i)) d.forms t)
+    → DrawsRow (grid_size s.shown) text ((shown_state s).cell i) i t
+draws-row s h i t text d l spelled forms plain drawn =
+    let v = row_at s.shown.rows i in
+    let size : row_screen s.shown.height v ≡ grid_size s.shown =
+    λ j. record { rows = s.shown.height; cols = (row-of s h i l).wide j } in
+    record {
+      forms = d.forms;
+      spelled = spelled;
+      are_forms = λ known.
+          let y = ready-row s h i l known in
+          forms (lists-forms v y.row y.small y.known (plain-row s h i plain).plain);
+      pen = d.pen;
+      drawn = subst (λ (z : Size). IsRowDrawn i ((shown_state s).cell i) d.pen t (run z d.forms t)) size
+          (rw (cells-of s h i) drawn);
+    }
+
 pub row-texts_lead : EachRowTextLeads
 unfolding IsSmallPen SmallErase
 row-texts_lead s width h wide = record {
@@ -172,23 +199,10 @@ row-texts_lead s width h wide = record {
   each = λ i t l c plain at.
       let v = row_at s.shown.rows i in
       let r = row-of s h i l in
-      let d = formatted v 0 width i false None None in
-      let size : row_screen s.shown.height v ≡ grid_size s.shown =
-      λ j. record { rows = s.shown.height; cols = r.wide j } in
-      let drawn = row-drawn s.shown.height t v i width None None r.row (plain-row s h i plain) l
-      (omega (arith, r.wide, h.state.shown.some_cols)) (omega (arith, r.wide, wide)) at in
-      record {
-        forms = d.forms;
-        spelled = text-is s h width i l c;
-        are_forms = λ known.
-            let y = ready-row s h i l known in
-            (lists-forms v y.row y.small y.known (plain-row s h i plain).plain v 0 width i false false _
-            (omega (arith, l, h.state.shown.few_rows)) ((tt, tt), tt)).0;
-        pen = d.pen;
-        drawn = subst (λ (z : Size). IsRowDrawn i ((shown_state s).cell i) d.pen t (run z d.forms t)) size
-            (subst (λ (f : ℕ → CellView). IsRowDrawn i f d.pen t (run (row_screen s.shown.height v) d.forms t))
-            (sym (cells-of s h i)) drawn);
-      };
+      draws-row s h i t _ (formatted v 0 width i false None None) l (text-is s h width i l c)
+      (λ lists. (lists v 0 width i false false _ (omega (arith, l, h.state.shown.few_rows)) ((tt, tt), tt)).0) plain
+      (row-drawn s.shown.height t v i width None None r.row (plain-row s h i plain) l
+      (omega (arith, r.wide, h.state.shown.some_cols)) (omega (arith, r.wide, wide)) at);
 }
 
 difference-is : (old new : State) → IsUnscrolled old → IsUnscrolled new → old.shown.height ≡ new.shown.height
@@ -213,17 +227,17 @@ row-differences_lead old new width o h same wide =
       count = length-differing width 0 (visible new.shown) (visible old.shown)
           (shown-many new h ∙ sym high ∙ sym (shown-many old o)) ∙ shown-many new h;
       each = λ i t l plain at.
-          let there : i < old.shown.height = omega (arith, l, high) in
           let v = row_at new.shown.rows i in
           let x = row_at old.shown.rows i in
+          let from : Pos = record { row = i; col = 0 } in
           let r = row-of new h i l in
-          let q = row-of old o i there in
-          let d = differing v x 0 width i false false (record { row = i; col = 0 }) default_attrs in
-          let size : row_screen new.shown.height v ≡ grid_size new.shown =
-          λ j. record { rows = new.shown.height; cols = r.wide j } in
-          let drawn = difference-drawn new.shown.height t v x i width false (record { row = i; col = 0 }) default_attrs
-          r.row (plain-row new h i plain) q.row (q.wide ∙ broad ∙ sym r.wide) l
-          (omega (arith, r.wide, h.state.shown.some_cols)) (omega (arith, r.wide, wide)) (record {
+          let q = row-of old o i (omega (arith, l, high)) in
+          draws-row new h i t _ (differing v x 0 width i false false from default_attrs) l
+          (difference-is old new o h high width i l)
+          (λ lists. (lists x 0 width i false false _ (omega (arith, l, h.state.shown.few_rows)) ((tt, tt), tt)).1) plain
+          (difference-drawn new.shown.height t v x i width false from default_attrs r.row (plain-row new h i plain) q.row
+          (q.wide ∙ broad ∙ sym r.wide) l (omega (arith, r.wide, h.state.shown.some_cols))
+          (omega (arith, r.wide, wide)) (record {
             cells = λ k. at.cells k ∙ ap (λ (f : ℕ → CellView). f k) (cells-of old o i);
             wrapped = at.wrapped ∙ wraps-are old o i;
             row_is = at.row_is;
@@ -231,17 +245,5 @@ row-differences_lead old new width o h same wide =
             attrs_are = at.attrs_are;
             told_pos = refl;
             told_attrs = refl;
-          }) in
-          record {
-            forms = d.forms;
-            spelled = difference-is old new o h high width i l;
-            are_forms = λ known.
-                let y = ready-row new h i l known in
-                (lists-forms v y.row y.small y.known (plain-row new h i plain).plain x 0 width i false false _
-                (omega (arith, l, h.state.shown.few_rows)) ((tt, tt), tt)).1;
-            pen = d.pen;
-            drawn = subst (λ (z : Size). IsRowDrawn i ((shown_state new).cell i) d.pen t (run z d.forms t)) size
-                (subst (λ (f : ℕ → CellView). IsRowDrawn i f d.pen t (run (row_screen new.shown.height v) d.forms t))
-                (sym (cells-of new h i)) drawn);
-          };
+          }));
     }

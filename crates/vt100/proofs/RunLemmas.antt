@@ -8,8 +8,9 @@ use Rattle.std.specs.Str.{IsUtf8, chars}
 use Rattle.std.proofs.lemmas.Grind.{common_steps}
 use Rattle.std.proofs.lemmas.Str.{chars_past_char, chars-nil}
 use Rattle.vte_core.proofs.Telling.{performs-append, same_events}
-use Rattle.std.proofs.lemmas.Bool.{cases_Bool, false≢true}
+use Rattle.std.proofs.lemmas.Bool.{cases_Bool}
 use Rattle.std.proofs.lemmas.Bool.Decides.{nat_tests}
+use Rattle.std.proofs.lemmas.List.{map-append}
 use Rattle.std.proofs.lemmas.List.Elements.{All-drop}
 use Rattle.vt100_cells.specs.Cell.{IsPrintable, columns_of, is_undrawable}
 use Rattle.vt100_cells.proofs.WidthLemmas.{drawn-is, printable-is}
@@ -34,11 +35,10 @@ use Rattle.vt100.specs.Tries.{Tries, SameBounds, HearsFront, alive}
 use Rattle.vt100.specs.Goes.{Fails, Goes, GoesThrough}
 use Rattle.vt100.specs.Runs.{IsHandled, typed_all, last_of, PrintsFront}
 use Rattle.vt100.specs.declared.screen.reported.Reporter.{Reporter}
-use Rattle.vt100.proofs.HearLemmas.{Reports, hears_all}
+use Rattle.vt100.proofs.HearLemmas.{Reports, hears_all, tries_ok, tries_front, refused_keeps}
 use Rattle.vt100_rows.proofs.PrintableLemmas.{printable-chars}
 use Rattle.vt100.proofs.EventLemmas.{is_alive, does_as, does_live, does_none, does_where}
 use Rattle.vt100.proofs.LimitsLemmas.{bounds_typed, bounds_back, keeps_typed}
-use Rattle.vt100.proofs.RefusedLemmas.{tries_front, refused_keeps}
 use Rattle.vt100.proofs.PlayLemmas.{Steps}
 
 -- ---- a character that stands in a cell of its own
@@ -49,25 +49,14 @@ pub record IsSpacing (w c : ℕ) : Type 0 where
   pub some : 0 < columns_of c
   pub fits : columns_of c ≤ w
 
+spacing : (w n c : ℕ) → 0 < n → n ≤ w → (is_undrawable c ≡ false) × (columns_of c ≡ n) → IsSpacing w c
+spacing w n c some fits h = record { drawn = h.0; some = omega (arith, h.1); fits = omega (arith, h.1) }
+
 pub printable-spacing : (w : ℕ) → 0 < w → (xs : List ℕ) → All IsPrintable xs → All (IsSpacing w) xs
-printable-spacing w h xs p k d l =
-    let c = get_or xs k d in
-    let one = printable-is c (p k d l) in
-    record {
-      drawn = one.0;
-      some = omega (arith, one.1);
-      fits = omega (arith, one.1);
-    }
+printable-spacing w h xs p k d l = spacing w 1 _ (omega arith) h (printable-is _ (p k d l))
 
 pub wide-spacing : (w : ℕ) → 2 ≤ w → (xs : List ℕ) → All IsWide xs → All (IsSpacing w) xs
-wide-spacing w h xs p k d l =
-    let c = get_or xs k d in
-    let one = drawn-is c 2 (p k d l) in
-    record {
-      drawn = one.0;
-      some = omega (arith, one.1);
-      fits = omega (arith, one.1);
-    }
+wide-spacing w h xs p k d l = spacing w 2 _ (omega arith) h (drawn-is _ 2 (p k d l))
 
 not-dropped : (u : Bool) (k w col : ℕ) → u ≡ false → 0 < k → k ≤ w
     → (u || (nat_lt w k || ((k == 0) && (col == 0)))) ≡ false
@@ -75,8 +64,7 @@ not-dropped u k w col eu some fits = grind (arith, nat_tests)
 
 printed-spacing : (g : GridView) (c : ℕ) (a : Attrs) → IsSpacing g.width c → printed g c a ≡ spaced g c a
 printed-spacing g c a s =
-    let kept = not-dropped (is_undrawable c) (columns_of c) g.width g.col s.drawn s.some s.fits in
-    printed-spaced g c a kept s.some
+    printed-spaced g c a (not-dropped (is_undrawable c) (columns_of c) g.width g.col s.drawn s.some s.fits) s.some
 
 -- a sheet stays as wide
 width-printed : (g : GridView) (c : ℕ) (a : Attrs) → IsSpacing g.width c → (printed g c a).grid.width ≡ g.width
@@ -125,45 +113,6 @@ typed_all-is (x ∷ xs) s p =
       reports = reports-append s.alternate d.sunk o.sunk i;
     })
 
-pub run_tries : {C : Type 0} (scrolls : C → RowView → Bool → C
-    → Type 0) (xs : List ℕ) (v : ScreenView) (c d : C) (g : GridView) (last : Option ℕ)
-    → v.failed ≡ false → All (IsSpacing v.state.shown.width) xs
-    → g ≡ (printed_all v.state.shown xs v.state.attrs).grid
-    → last ≡ last_of xs v.state.last
-    → Hears scrolls c (reports_of v.state.alternate (printed_all v.state.shown xs v.state.attrs).sunk) d
-    → Tries {A = Unit {0}} scrolls (typed_all xs) v c (Ok tt)
-    (record { state = record (v.state) { shown = g; last = last }; failed = v.failed }) d
-run_tries scrolls xs v c d g last live p is_grid is_last hears =
-    let is = typed_all-is xs v.state p in
-    record {
-      live = live;
-      screen = (λ i. record { state = record (v.state) { shown = is_grid i; last = is_last i }; failed = live i })
-          ∙ ap (λ (t : Stepped). alive t.state) (sym is);
-      hears = subst (λ (t : Stepped). Hears scrolls c t.reports d) (sym is) hears;
-      memory = λ e. cc;
-      told = λ e. cc;
-      refused = λ e. cc;
-      dead = λ e. absurd (false≢true (sym live ∙ e));
-    }
-
--- and one that was refused
-pub run_refused : {C : Type 0} (scrolls : C → RowView → Bool → C
-    → Type 0) (xs : List ℕ) (v : ScreenView) (c d : C) (w : ScreenView)
-    → v.failed ≡ false → All (IsSpacing v.state.shown.width) xs → w.failed ≡ true
-    → HearsFront scrolls c (reports_of v.state.alternate (printed_all v.state.shown xs v.state.attrs).sunk) d
-    → Tries {A = Unit {0}} scrolls (typed_all xs) v c (Err Memory) w d
-run_refused scrolls xs v c d w live p failed told =
-    tries_front scrolls (typed_all xs) v c w d live failed
-    (subst (λ (t : Stepped). HearsFront scrolls c t.reports d) (sym (typed_all-is xs v.state p)) told)
-
--- ---- what the callbacks heard of a run, and that they stay where they are
-
-pub run_heard : {C E : Type 0} (scrolls : C → RowView → Bool → C → Type 0) (result : Result (Unit {0}) E)
-    (s : Reporter C) (rows : List RowView) (t : Reporter C) → OnOk result (TakesAll (Reports scrolls) s rows t)
-    → OnOk result (Hears scrolls s.callbacks.now (reports_of s.alternate_screen rows) t.callbacks.now)
-run_heard scrolls (Ok u) s rows t h = (hears_all scrolls s rows t h).0
-run_heard scrolls (Err e) s rows t h = tt
-
 -- the rows that leave while some characters are printed, and then others
 sunk-append : (g : GridView) (xs ys : List ℕ) (a : Attrs) → (printed_all g (xs ++ ys) a).sunk
     ≡ (printed_all g xs a).sunk ++ (printed_all (printed_all g xs a).grid ys a).sunk
@@ -174,65 +123,84 @@ sunk-append g (x ∷ xs) ys a =
     ap (λ (rows : List RowView). first.sunk ++ rows) (sunk-append first.grid xs ys a)
     ∙ sym (append_assoc first.sunk others.sunk (printed_all others.grid ys a).sunk)
 
--- at a refusal they heard of the rows that left while a front was printed
-pub front_heard : {C E : Type 0} (scrolls : C → RowView → Bool → C → Type 0) (result : Result (Unit {0}) E)
-    (s : Reporter C) (g : GridView) (xs : List ℕ) (a : Attrs) (t : Reporter C)
-    → OnErr result (TakesFront (Reports scrolls) s g xs a t) → OnErr result (HearsFront scrolls s.callbacks.now
-    (reports_of s.alternate_screen (printed_all g xs a).sunk) t.callbacks.now)
-front_heard scrolls (Ok u) s g xs a t h = tt
-front_heard scrolls (Err e) s g xs a t h =
-    let front = printed_all g h.0 a in
-    let rest = printed_all front.grid h.1 a in
-    let reports = reports_of s.alternate_screen in (
-      reports front.sunk,
-      reports rest.sunk,
-      ap (λ (ys : List ℕ). reports (printed_all g ys a).sunk) h.2 ∙ ap reports (sunk-append g h.0 h.1 a)
-          ∙ sym (reports-append s.alternate_screen front.sunk rest.sunk),
-      (hears_all scrolls s front.sunk t h.3).0,
-    )
-
-pub run_same : {C E : Type 0} (scrolls : C → RowView → Bool → C → Type 0) (result : Result (Unit {0}) E)
-    (s : Reporter C) (g : GridView) (xs : List ℕ) (a : Attrs) (t : Reporter C)
-    → OnOk result (TakesAll (Reports scrolls) s (printed_all g xs a).sunk t)
-    → OnErr result (TakesFront (Reports scrolls) s g xs a t) → t.callbacks.ghost_name ≡ s.callbacks.ghost_name
-run_same scrolls (Ok u) s g xs a t h k = (hears_all scrolls s (printed_all g xs a).sunk t h).1
-run_same scrolls (Err e) s g xs a t h k = (hears_all scrolls s (printed_all g k.0 a).sunk t k.3).1
-
--- ---- a run, event by event
-
 printable-handled : (c : ℕ) → IsPrintable c → IsHandled c
 printable-handled c p = grind (arith, nat_tests)
 
--- reports of two changes are told of, one change after the other
-hears-split : {C : Type 0} (scrolls : C → RowView → Bool → C → Type 0) (c : C) (xs ys : List Report) (d : C)
-    → Hears scrolls c (xs ++ ys) d → (b : C) × Hears scrolls c xs b × Hears scrolls b ys d
-hears-split scrolls c [] ys d h = (c, refl, h)
-hears-split scrolls c (x ∷ xs) ys d h =
-    let r = hears-split scrolls h.0 xs ys d h.2 in
-    (r.0, (h.0, h.1, r.1), r.2)
+module _ {C : Type 0} (scrolls : C → RowView → Bool → C → Type 0) where
+  pub run_tries : (xs : List ℕ) (v : ScreenView) (c d : C) (g : GridView) (last : Option ℕ) → v.failed ≡ false
+      → All (IsSpacing v.state.shown.width) xs → g ≡ (printed_all v.state.shown xs v.state.attrs).grid
+      → last ≡ last_of xs v.state.last
+      → Hears scrolls c (reports_of v.state.alternate (printed_all v.state.shown xs v.state.attrs).sunk) d
+      → Tries {A = Unit {0}} scrolls (typed_all xs) v c (Ok tt)
+      (record { state = record (v.state) { shown = g; last = last }; failed = v.failed }) d
+  run_tries xs v c d g last live p is_grid is_last hears =
+      let is = typed_all-is xs v.state p in
+      tries_ok scrolls (typed_all xs) v c tt _ d live
+      ((λ i. record { state = record (v.state) { shown = is_grid i; last = is_last i }; failed = live i })
+      ∙ ap (λ (t : Stepped). alive t.state) (sym is))
+      (subst (λ (t : Stepped). Hears scrolls c t.reports d) (sym is) hears)
 
--- a front of two lists ends in the first of them, or has all of it
-abbrev Parts : List Report → List Report → List Report → List Report → Type 0
-Parts xs ys front rest =
-    ((more : List Report) × (xs ≡ front ++ more)) ⊎ ((other : List Report) × (front ≡ xs ++ other) × (ys ≡ other ++ rest))
+  -- and one that was refused
+  pub run_refused : (xs : List ℕ) (v : ScreenView) (c d : C) (w : ScreenView) → v.failed ≡ false
+      → All (IsSpacing v.state.shown.width) xs → w.failed ≡ true
+      → HearsFront scrolls c (reports_of v.state.alternate (printed_all v.state.shown xs v.state.attrs).sunk) d
+      → Tries {A = Unit {0}} scrolls (typed_all xs) v c (Err Memory) w d
+  run_refused xs v c d w live p failed told =
+      tries_front scrolls (typed_all xs) v c w d live failed
+      (subst (λ (t : Stepped). HearsFront scrolls c t.reports d) (sym (typed_all-is xs v.state p)) told)
 
-parts : (xs ys front rest : List Report) → xs ++ ys ≡ front ++ rest → Parts xs ys front rest
-parts xs ys [] rest e = inl (xs, refl)
-parts [] ys (f ∷ front) rest e = inr (f ∷ front, refl, e)
-parts (x ∷ xs) ys (f ∷ front) rest e =
-    let heads : x ≡ f = cc in
-    let tails : xs ++ ys ≡ front ++ rest = cc in
-    elim (parts xs ys front rest tails) [
-      | inl p ↦ inl (p.0, (λ i. heads i ∷ p.1 i))
-      | inr p ↦ inr (p.0, (λ i. sym heads i ∷ p.1 i), p.2)
-    ]
+  -- what the callbacks heard of a run, and that they stay where they are
+  pub run_heard : {E : Type 0} (result : Result (Unit {0}) E) (s : Reporter C) (rows : List RowView) (t : Reporter C)
+      → OnOk result (TakesAll (Reports scrolls) s rows t)
+      → OnOk result (Hears scrolls s.callbacks.now (reports_of s.alternate_screen rows) t.callbacks.now)
+  run_heard (Ok u) s rows t h = (hears_all scrolls s rows t h).0
+  run_heard (Err e) s rows t h = tt
 
-memory-failed : {A : Type 0} (x y : Result A ScreenError) → x ≡ Err Memory → y ≡ Err Failed → x ≡ y → false ≡ true
-memory-failed x y p q e = cc
+  -- at a refusal they heard of the rows that left while a front was printed
+  pub front_heard : {E : Type 0} (result : Result (Unit {0}) E) (s : Reporter C) (g : GridView) (xs : List ℕ)
+      (a : Attrs) (t : Reporter C) → OnErr result (TakesFront (Reports scrolls) s g xs a t)
+      → OnErr result (HearsFront scrolls s.callbacks.now (reports_of s.alternate_screen (printed_all g xs a).sunk)
+      t.callbacks.now)
+  front_heard (Ok u) s g xs a t h = tt
+  front_heard (Err e) s g xs a t h =
+      let front = printed_all g h.0 a in
+      let rest = printed_all front.grid h.1 a in
+      let reports = reports_of s.alternate_screen in (
+        reports front.sunk,
+        reports rest.sunk,
+        ap (λ (ys : List ℕ). reports (printed_all g ys a).sunk) h.2 ∙ ap reports (sunk-append g h.0 h.1 a)
+            ∙ sym (reports-append s.alternate_screen front.sunk rest.sunk),
+        (hears_all scrolls s front.sunk t h.3).0,
+      )
 
-map-append : (xs ys : List ℕ) → map Print xs ++ map Print ys ≡ map Print (xs ++ ys)
-map-append [] ys = refl
-map-append (x ∷ xs) ys = ap (λ (es : List Event). Print x ∷ es) (map-append xs ys)
+  pub run_same : {E : Type 0} (result : Result (Unit {0}) E) (s : Reporter C) (g : GridView) (xs : List ℕ)
+      (a : Attrs) (t : Reporter C) → OnOk result (TakesAll (Reports scrolls) s (printed_all g xs a).sunk t)
+      → OnErr result (TakesFront (Reports scrolls) s g xs a t) → t.callbacks.ghost_name ≡ s.callbacks.ghost_name
+  run_same (Ok u) s g xs a t h k = (hears_all scrolls s (printed_all g xs a).sunk t h).1
+  run_same (Err e) s g xs a t h k = (hears_all scrolls s (printed_all g k.0 a).sunk t k.3).1
+
+  -- reports of two changes are told of, one change after the other
+  hears-split : (c : C) (xs ys : List Report) (d : C) → Hears scrolls c (xs ++ ys) d
+      → (b : C) × Hears scrolls c xs b × Hears scrolls b ys d
+  hears-split c [] ys d h = (c, refl, h)
+  hears-split c (x ∷ xs) ys d h =
+      let r = hears-split h.0 xs ys d h.2 in
+      (r.0, (h.0, h.1, r.1), r.2)
+
+  -- and of a front of both, which ends in the first of them, or has all of it
+  front-split : (c : C) (xs ys : List Report) (d : C) → HearsFront scrolls c (xs ++ ys) d
+      → HearsFront scrolls c xs d ⊎ ((b : C) × Hears scrolls c xs b × HearsFront scrolls b ys d)
+  front-split c [] ys d h = inr (c, refl, h)
+  front-split c (x ∷ xs) ys d ([], rest, e, h) = inl ([], x ∷ xs, refl, h)
+  front-split c (x ∷ xs) ys d (f ∷ front, rest, e, h) =
+      let heads : x ≡ f = cc in
+      let tails : xs ++ ys ≡ front ++ rest = cc in
+      elim (front-split h.0 xs ys d (front, rest, tails, h.2)) [
+        | inl k ↦ inl (x ∷ k.0, k.1, ap (λ (rs : List Report). x ∷ rs) k.2, (h.0, rw heads h.1, k.3))
+        | inr k ↦ inr (k.0, (h.0, rw heads h.1, k.1), k.2)
+      ]
+
+-- ---- a run, event by event
 
 module _ {C : Type 0} (step : C → ScreenView → Call → C → ScreenView → Type 0)
     (scrolls : C → RowView → Bool → C → Type 0) where
@@ -274,40 +242,29 @@ module _ {C : Type 0} (step : C → ScreenView → Call → C → ScreenView →
   goes-refused x [] c v d w p live failed keeps bounds told = (
     d,
     w,
-    goes-typed x c v d w (p zero 0 (omega arith)) live (inr (record {
-      may_take = keeps;
-      failed = failed;
-      bounds = bounds;
-      told = (told.0, told.1, sym (append-nil (typed x v.state).reports) ∙ told.2, told.3);
-    })),
+    goes-typed x c v d w (p zero 0 (omega arith)) live
+        (inr (record { may_take = keeps; failed = failed; bounds = bounds; told = rw append-nil at told })),
     goes-failed [] d w failed,
   )
   goes-refused x (y ∷ ys) c v d w p live failed keeps bounds told =
       let t = typed x v.state in
       let handled = p zero 0 (omega arith) in
-      elim (parts t.reports (typed_all (y ∷ ys) t.state).reports told.0 told.1 told.2) [
+      elim (front-split scrolls c t.reports (typed_all (y ∷ ys) t.state).reports d told) [
         | inl here ↦ (
           d,
           w,
-          goes-typed x c v d w handled live (inr (record {
-            may_take = keeps;
-            failed = failed;
-            bounds = bounds;
-            told = (told.0, here.0, here.1, told.3);
-          })),
+          goes-typed x c v d w handled live
+              (inr (record { may_take = keeps; failed = failed; bounds = bounds; told = here })),
           goes-failed (y ∷ ys) d w failed,
         )
-        | inr later ↦
-            let s = hears-split scrolls c t.reports later.0 d
-            (subst (λ (rs : List Report). Hears scrolls c rs d) later.1 told.3) in (
-              s.0,
-              alive t.state,
-              goes-typed x c v s.0 (alive t.state) handled live (inl (s.1, refl)),
-              goes-refused y ys s.0 (alive t.state) d w (All-drop IsHandled 1 (x ∷ y ∷ ys) p) refl failed
-                  (keeps_typed x v.state ∙ keeps)
-                  (bounds_back v.state t.state w.state (bounds_typed x v.state) bounds)
-                  (later.0, told.1, later.2, s.2),
-            )
+        | inr s ↦ (
+          s.0,
+          alive t.state,
+          goes-typed x c v s.0 (alive t.state) handled live (inl (s.1, refl)),
+          goes-refused y ys s.0 (alive t.state) d w (All-drop IsHandled 1 (x ∷ y ∷ ys) p) refl failed
+              (keeps_typed x v.state ∙ keeps) (bounds_back v.state t.state w.state (bounds_typed x v.state) bounds)
+              s.2,
+        )
       ]
 
   pub goes-tries : (xs : List ℕ) (c : C) (v : ScreenView) (result : Result (Unit {0}) ScreenError) (d : C)
@@ -318,16 +275,13 @@ module _ {C : Type 0} (step : C → ScreenView → Call → C → ScreenView →
   goes-tries [] c v (Err Memory) d w some p t k keeps = absurd (omega arith)
   goes-tries (x ∷ xs) c v (Err Memory) d w some p t k keeps =
       elim (cases_Bool v.failed) [
-        | inl f ↦ absurd (false≢true (memory-failed {A = Unit {0}} (Err Memory) (Err Failed) refl refl (t.dead f).0))
+        | inl f ↦ absurd (cc ((t.dead f).0))
         | inr f ↦ goes-refused x xs c v d w p f (t.memory refl)
             (refused_keeps {A = Unit {0}} v.state.shown.kept.capacity (Err Memory) keeps f refl) k (t.told refl)
       ]
   goes-tries xs c v (Err Failed) d w some p t k keeps =
       let f = t.refused refl in
-      let same = t.dead f in
-      subst (λ (x : C). GoesThrough step scrolls (map Print xs) c v x w) (sym same.2)
-      (subst (λ (x : ScreenView). GoesThrough step scrolls (map Print xs) c v c x) (sym same.1)
-      (goes-failed xs c v f))
+      rw ((t.dead f).2, (t.dead f).1) (goes-failed xs c v f)
 
   -- ---- a performer's steps
 
@@ -354,14 +308,6 @@ module _ {C : Type 0} (step : C → ScreenView → Call → C → ScreenView →
             (λ i e l. printable-handled (get_or (take n bs) i e) (p i e l)) t k keeps,
       )
 
-  -- some characters
-  pub front-some : (bs rest front : List ℕ) (c : C) (v : ScreenView) (result : Result (Unit {0}) ScreenError) (d : C)
-      (w : ScreenView) → 0 < length front → All IsHandled front → chars bs ≡ front ++ chars rest
-      → Tries scrolls (typed_all front) v c result w d → SameBounds v.state w.state
-      → (v.failed ≡ false → v.state.shown.kept.capacity ≡ 0 → IsOk result) → PrintsFront step scrolls bs rest c v d w
-  front-some bs rest front c v result d w some p e t k keeps =
-      (front, e, goes-tries front c v result d w some p t k keeps)
-
   -- a character
   pub front-char : (bs rest : List ℕ) (ch : ℕ) (c : C) (v : ScreenView) (d : C) (w : ScreenView) → IsUtf8 bs
       → bs ≡ encode_utf8 ch ++ rest → Goes step scrolls (Print ch) c v d w → PrintsFront step scrolls bs rest c v d w
@@ -375,7 +321,7 @@ module _ {C : Type 0} (step : C → ScreenView → Call → C → ScreenView →
       → Performs (Steps step scrolls) p (map Print (chars bs)) q
   front-then bs rest p m q h more =
       same_events (Steps step scrolls) p q (map Print h.0 ++ map Print (chars rest)) (map Print (chars bs))
-      (map-append h.0 (chars rest) ∙ ap (map Print) (sym h.1))
+      (sym (map-append Print h.0 (chars rest)) ∙ ap (map Print) (sym h.1))
       (performs-append (Steps step scrolls) p m q (map Print h.0) (map Print (chars rest))
       (performs-goes (map Print h.0) p m h.2) more)
 

@@ -17,14 +17,12 @@ use Rattle.screen_drawing.specs.Screen.{grid_redraw, grid_contents_formatted, gr
 use Rattle.vt100_core.specs.Picture.{grid_size, term_of_grid, visible_lines}
 use Rattle.vt100_core.specs.WriterLaws as core
 use Rattle.vt100_core.specs.WriterLaws.{picture_of}
-use Rattle.vt100_core.specs.Writers.{redrawn, differing}
 use Rattle.vt100_core.proofs.PictureLemmas.{visible_lines-drawn, visible_wraps-drawn, IsTerm-grid}
 use Rattle.vt100_core.proofs.PictureWriters.{cursor-of_picture, redrawn-of_picture, differing-of_pictures}
 use Rattle.vt100_core.proofs.PictureWriters.{grid-drawable}
 use Rattle.vt100_rows.specs.Picture.{lines_of}
 use Rattle.screen_model.specs.State.{State}
 use Rattle.screen_model.specs.Shown.{shown_state, extras_of}
-use Rattle.vt100.specs.Writers.{contents_formatted, state_formatted, contents_diff, state_diff, cursor_state_formatted}
 use Rattle.vt100.specs.WriterLaws.{IsUnscrolled, EachRedrawIsOfShown, EachDifferenceIsOfShown, EachScreenIsDrawable}
 use Rattle.vt100.specs.WriterLaws.{EachRedrawLeads, EachDifferenceLeads}
 
@@ -51,62 +49,38 @@ picture-is s h =
 
 -- ---- redraws
 
-redrawn-is : (s : State) → IsUnscrolled s → redrawn s.shown ≡ grid_redraw (grid_size s.shown) (shown_state s)
-redrawn-is s h =
-    redrawn-of_picture s.shown (extras_of s) (grid-unscrolled s h)
-    ∙ ap (grid_redraw (grid_size s.shown)) (sym (picture-is s h))
-
-pub contents-is : (s : State) → IsUnscrolled s
-    → contents_formatted s ≡ picture.contents_formatted (grid_size s.shown) (shown_state s)
-unfolding picture.contents_formatted grid_contents_formatted
-contents-is s h =
-    ap (λ (d : Drawn). HideCursor s.hidden ∷ ((ClearAttrs ∷ ClearScreen ∷ d.forms) ++ change d.pen.attrs s.attrs))
-    (redrawn-is s h)
-
-pub state-is : (s : State) → IsUnscrolled s
-    → state_formatted s ≡ picture.state_formatted (grid_size s.shown) (shown_state s)
-unfolding picture.state_formatted
-state-is s h = ap (λ (fs : List Form). fs ++ input_mode_formatted (shown_state s)) (contents-is s h)
-
-pub cursor-is : (s : State) → IsUnscrolled s
-    → cursor_state_formatted s ≡ picture.cursor_state_formatted (grid_size s.shown) (shown_state s)
-unfolding picture.cursor_state_formatted
-cursor-is s h =
-    let z = grid_size s.shown in
-    ap (λ (fs : List Form). HideCursor s.hidden ∷ fs)
-    (cursor-of_picture s.shown (extras_of s) None None
-    ∙ ap (λ (x : Shown). cursor.cursor_position_formatted z x None default_attrs) (sym (picture-is s h)))
-
 pub redraw-of_shown : EachRedrawIsOfShown
-redraw-of_shown s h = record { contents = contents-is s h; state = state-is s h; cursor = cursor-is s h }
+unfolding picture.contents_formatted grid_contents_formatted picture.state_formatted picture.cursor_state_formatted
+redraw-of_shown s h =
+    let x = extras_of s in
+    let z = grid_size s.shown in
+    let is = sym (picture-is s h) in
+    let contents =
+    ap (λ (d : Drawn). HideCursor s.hidden ∷ ((ClearAttrs ∷ ClearScreen ∷ d.forms) ++ change d.pen.attrs s.attrs))
+    (redrawn-of_picture s.shown x (grid-unscrolled s h) ∙ ap (grid_redraw z) is) in
+    record {
+      contents = contents;
+      state = ap (λ (fs : List Form). fs ++ input_mode_formatted (shown_state s)) contents;
+      cursor = ap (λ (fs : List Form). HideCursor s.hidden ∷ fs) (cursor-of_picture s.shown x None None
+          ∙ ap (λ (y : Shown). cursor.cursor_position_formatted z y None default_attrs) is);
+    }
 
 -- ---- differences
 
-differing-is : (old new : State) → IsUnscrolled old → IsUnscrolled new → grid_size old.shown ≡ grid_size new.shown
-    → differing new.shown old.shown old.attrs
-    ≡ grid_difference (grid_size new.shown) (shown_state old) (shown_state new)
-differing-is old new o h e =
+pub difference-of_shown : EachDifferenceIsOfShown
+unfolding picture.contents_diff picture.state_diff
+difference-of_shown old new o h e =
     let z = grid_size new.shown in
-    differing-of_pictures new.shown old.shown (extras_of new) (extras_of old) (grid-unscrolled new h)
+    let drawn = differing-of_pictures new.shown old.shown (extras_of new) (extras_of old) (grid-unscrolled new h)
     (grid-unscrolled old o) e
     ∙ ap (λ (x : Shown). grid_difference z x (picture_of new.shown (extras_of new))) (sym (picture-is old o))
-    ∙ ap (λ (x : Shown). grid_difference z (shown_state old) x) (sym (picture-is new h))
-
-pub changed-is : (old new : State) → IsUnscrolled old → IsUnscrolled new → grid_size old.shown ≡ grid_size new.shown
-    → contents_diff old new ≡ picture.contents_diff (grid_size new.shown) (shown_state old) (shown_state new)
-unfolding picture.contents_diff
-changed-is old new o h e =
-    ap (λ (d : Drawn). switch HideCursor old.hidden new.hidden ++ d.forms ++ change d.pen.attrs new.attrs)
-    (differing-is old new o h e)
-
-pub all-changed_is : (old new : State) → IsUnscrolled old → IsUnscrolled new → grid_size old.shown ≡ grid_size new.shown
-    → state_diff old new ≡ picture.state_diff (grid_size new.shown) (shown_state old) (shown_state new)
-unfolding picture.state_diff
-all-changed_is old new o h e =
-    ap (λ (fs : List Form). fs ++ input_mode_diff (shown_state old) (shown_state new)) (changed-is old new o h e)
-
-pub difference-of_shown : EachDifferenceIsOfShown
-difference-of_shown old new o h e = record { contents = changed-is old new o h e; state = all-changed_is old new o h e }
+    ∙ ap (λ (x : Shown). grid_difference z (shown_state old) x) (sym (picture-is new h)) in
+    let contents =
+    ap (λ (d : Drawn). switch HideCursor old.hidden new.hidden ++ d.forms ++ change d.pen.attrs new.attrs) drawn in
+    record {
+      contents = contents;
+      state = ap (λ (fs : List Form). fs ++ input_mode_diff (shown_state old) (shown_state new)) contents;
+    }
 
 -- ---- what can be drawn
 
@@ -133,17 +107,22 @@ shown-is s h =
     (IsShown-of (grid_size s.shown) (term_of_grid s.shown (extras_of s))
     (IsTerm-grid s.shown (extras_of s) h.state.shown h.state.drawn))
 
+pub old-shown : (old new : State) → IsUnscrolled old → grid_size old.shown ≡ grid_size new.shown
+    → IsShown (grid_size new.shown) (shown_state old)
+old-shown old new o e = subst (λ (z : Size). IsShown z (shown_state old)) e (shown-is old o)
+
 pub redraws-lead : EachRedrawLeads
 redraws-lead s from h p =
     let z = grid_size s.shown in
     let x = shown_state s in
+    let is = redraw-of_shown s h in
     let d = screen-drawable s h p in
     record {
-      contents = subst (λ fs. Leads z fs from (with_modes from.modes from.style x)) (sym (contents-is s h))
+      contents = subst (λ fs. Leads z fs from (with_modes from.modes from.style x)) (sym is.contents)
           (redraw_leads z x from d);
-      state = λ m e y. subst (λ fs. Leads z fs from x) (sym (state-is s h)) (state-redraw_leads z x from d m e y);
+      state = λ m e y. subst (λ fs. Leads z fs from x) (sym is.state) (state-redraw_leads z x from d m e y);
       cursor = λ a c w. subst (λ fs. Leads z fs from (record from { row = x.row; col = x.col; hidden = x.hidden }))
-          (sym (cursor-is s h)) (cursor-state_set z x from d.drawable a c w);
+          (sym is.cursor) (cursor-state_set z x from d.drawable a c w);
     }
 
 pub differences-lead : EachDifferenceLeads
@@ -151,11 +130,11 @@ differences-lead old new o h e p =
     let z = grid_size new.shown in
     let x = shown_state old in
     let y = shown_state new in
+    let is = difference-of_shown old new o h e in
     let d = screen-drawable new h p in
-    let start = subst (λ (k : Size). IsShown k x) e (shown-is old o) in
+    let start = old-shown old new o e in
     record {
-      contents = λ m k. subst (λ fs. Leads z fs (with_modes m k x) (with_modes m k y)) (sym (changed-is old new o h e))
+      contents = λ m k. subst (λ fs. Leads z fs (with_modes m k x) (with_modes m k y)) (sym is.contents)
           (difference_leads z x y m k start o.state.attrs d);
-      state = subst (λ fs. Leads z fs x y) (sym (all-changed_is old new o h e))
-          (state-difference_leads z x y start o.state.attrs d);
+      state = subst (λ fs. Leads z fs x y) (sym is.state) (state-difference_leads z x y start o.state.attrs d);
     }

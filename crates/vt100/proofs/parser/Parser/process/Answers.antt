@@ -3,33 +3,26 @@ use Rattle.vt100.proofs.PlayLemmas.{goes_told, stands_fed, fed_bounded, some_tak
 use Rattle.vt100.proofs.parser.Parser.process.Goals as goal
 
 pub returns-then-failed-2-clause-goes : goal.returns-then-failed-2-clause-goes
-returns-then-failed-2-clause-goes g c = rw (← c.self.view_is) (λ live past read.
-    goes_told g.CB.Callbacks.step g.CB.Callbacks.scrolls _ _ _ _ c.advance.ensures.told past read)
+returns-then-failed-2-clause-goes g c = rw (← c.self.view_is) (λ live. goes_told c.advance.ensures.told)
 
 pub returns-clause-goes : goal.returns-clause-goes
-returns-clause-goes g c = rw (← c.self.view_is) (λ live past read.
-    goes_told g.CB.Callbacks.step g.CB.Callbacks.scrolls _ _ _ _ c.advance.ensures.told past read)
+returns-clause-goes g c = rw (← c.self.view_is) (λ live. goes_told c.advance.ensures.told)
 
 pub returns-clause-made : goal.returns-clause-made
 returns-clause-made g c =
     let lives : c.advance.new.performer.screen.failed ≡ false = grind arith in
-    rw (← c.self.view_is) (λ keeps rows cols capacity acts at.
-    stands_fed g.CB.Callbacks.step g.CB.Callbacks.scrolls keeps _ _ _ (λ past read. c.advance.ensures.stands past read)
-    (λ past read. goes_told g.CB.Callbacks.step g.CB.Callbacks.scrolls _ _ _ _ c.advance.ensures.told past
-    read) lives rows cols capacity acts at)
+    rw (← c.self.view_is) (λ keeps. stands_fed g.CB.Callbacks.step g.CB.Callbacks.scrolls keeps _ _ _
+    c.advance.ensures.stands (goes_told c.advance.ensures.told) lives)
 
 pub returns-then-failed-2-clause-bounds : goal.returns-then-failed-2-clause-bounds
-returns-then-failed-2-clause-bounds g c = rw (← c.self.view_is) (λ keeps rows cols capacity acts are at.
-    fed_bounded g.CB.Callbacks.step g.CB.Callbacks.scrolls keeps _ _ _ c.advance.ensures.told rows cols capacity acts
-    are at)
+returns-then-failed-2-clause-bounds g c = rw (← c.self.view_is)
+    (λ keeps. fed_bounded g.CB.Callbacks.step g.CB.Callbacks.scrolls keeps _ _ _ c.advance.ensures.told)
 
 pub returns-clause-bounds : goal.returns-clause-bounds
-returns-clause-bounds g c = rw (← c.self.view_is) (λ keeps rows cols capacity acts are at.
-    fed_bounded g.CB.Callbacks.step g.CB.Callbacks.scrolls keeps _ _ _ c.advance.ensures.told rows cols capacity acts
-    are at)
+returns-clause-bounds g c = rw (← c.self.view_is)
+    (λ keeps. fed_bounded g.CB.Callbacks.step g.CB.Callbacks.scrolls keeps _ _ _ c.advance.ensures.told)
 
 pub returns-then-failed-2-clause-takes : goal.returns-then-failed-2-clause-takes
 returns-then-failed-2-clause-takes g c = rw (← c.self.view_is) (λ keeps _ past read. some_taken g.CB.Callbacks.step
     g.CB.Callbacks.scrolls keeps _ _ _ _ _ (sym c.failed.ensures ∙ c.if-failed.false)
-    (goes_told g.CB.Callbacks.step g.CB.Callbacks.scrolls _ _ _ _ c.advance.ensures.told past read)
-    (sym c.failed-2.ensures ∙ c.if-failed-2.true))
+    (goes_told c.advance.ensures.told past read) (sym c.failed-2.ensures ∙ c.if-failed-2.true))

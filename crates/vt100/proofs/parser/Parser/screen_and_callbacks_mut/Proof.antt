@@ -34,8 +34,8 @@ use prog.Wp.{Calls, Loops, WpFn, Tables}
 use seplogic.Ra.Ura.{Ura}
 use sound.WpLaws.{WpFn-mono}
 use types.ByLocal.{alloc_all, pass_all, free_all, look_at, get, through, sets}
-use types.Kit.{‵, ◌⊛◌, raw, given, some, later, ◌$◌, ◌∵◌, !, qed, by, move, keep, drop, split, split3, join}
-use types.Kit.{fsplit, fsplit3, fjoin, fpack, feq_i, use3, await, pick, suffices, frame}
+use types.Kit.{‵, ◌⊛◌, raw, given, some, later, ◌$◌, ◌∵◌, !, qed, by, move, keep, drop, split, split3, join, fsplit}
+use types.Kit.{fsplit3, fjoin, fpack, feq_i, use3, await, pick, suffices, frame}
 use types.Logic.{Logic}
 use types.Part.{agg}
 use types.Run.{addr, and_then, enter, fld, no_more, returns, stop}

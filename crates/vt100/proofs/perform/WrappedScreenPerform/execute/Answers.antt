@@ -6,7 +6,7 @@ use Rattle.screen_model.specs.Effect.{control_rows, calling, effect_or}
 use Rattle.screen_model.specs.Step.{moved_left, tabbed, at_column, line_fed}
 use Rattle.vt100_rows.proofs.TextLemmas.{on-err}
 use Rattle.vt100.proofs.EventLemmas.{does_as, does_change, does_nothing, does_steps, does_call}
-use Rattle.vt100.proofs.RefusedLemmas.{refused_keeps}
+use Rattle.vt100.proofs.HearLemmas.{refused_keeps}
 use Rattle.vt100.proofs.perform.WrappedScreenPerform.execute.Goals as goal
 
 pub returns-in-7 : goal.returns-in-7

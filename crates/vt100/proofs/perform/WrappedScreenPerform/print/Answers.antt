@@ -5,7 +5,7 @@ use Rattle.screen_model.specs.Step.{typed}
 use Rattle.vt100_rows.proofs.TextLemmas.{on-err}
 use Rattle.vt100.specs.Memory.{keeps_rows}
 use Rattle.vt100.proofs.EventLemmas.{does_as, does_call, does_steps, does_where}
-use Rattle.vt100.proofs.RefusedLemmas.{refused_keeps}
+use Rattle.vt100.proofs.HearLemmas.{refused_keeps}
 use Rattle.vt100.proofs.perform.WrappedScreenPerform.print.Goals as goal
 
 pub returns-then-is_unhandled : goal.returns-then-is_unhandled

@@ -2,7 +2,8 @@ use Rattle.std.proofs.Common.{◌≡◌, ◌≤◌, ◌+◌, ◌-◌, sym, ap, �
 use Rattle.std.specs.Prelude.{string_bytes}
 use Rattle.vt100_core.specs.Grid.{GridView, visible_row_at}
 use Rattle.screen_model.specs.Call.{ScreenView}
-use Rattle.vt100.proofs.BetweenLemmas.{IsBetween-next, between-on, between-past, some-row, no-row}
+use Rattle.vt100_core.proofs.ShowLemmas.{shown-none}
+use Rattle.vt100.proofs.BetweenLemmas.{IsBetween-next, between-on, between-past, some-row}
 use Rattle.vt100.proofs.screen.Screen.contents_between.Goals as goal
 use Rattle.vt100.proofs.screen.Screen.contents_between.Goals.{in-Some-visible_row+in_ok-write_contents}
 use Rattle.vt100.proofs.screen.Screen.contents_between.Goals.{in_default-visible_row}
@@ -41,6 +42,6 @@ returns-clause-text c =
       | in_default-visible_row w ↦
           rw w.contents-is (between-past g first c.args.start_col end c.args.end_col (c.loop-r.r - first) end
           c.loop-r.start (string_bytes c.loop-r.contents) ordered (omega arith)
-          (no-row g end (ap (λ x. visible_row_at x end) (sym shown) ∙ sym w.in_default-visible_row.ensures))
+          (shown-none g end (ap (λ x. visible_row_at x end) (sym shown) ∙ sym w.in_default-visible_row.ensures))
           (ap (λ k. k - first) last) c.loop-r.invariant)
     ]

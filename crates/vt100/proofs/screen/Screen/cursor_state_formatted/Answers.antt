@@ -1,7 +1,8 @@
+use Rattle.std.proofs.Common.{◌∙◌, ap}
+use Rattle.vt100_forms.specs.Form.{spell}
 use Rattle.vt100.proofs.ShownLemmas.{redraw-of_shown}
-use Rattle.vt100.proofs.WriteLemmas.{as_shown}
 use Rattle.vt100.proofs.screen.Screen.cursor_state_formatted.Goals as goal
 
 pub returns-clause-shown : goal.returns-clause-shown
-returns-clause-shown c h = as_shown _ _ _ _ c.new-contents.ensures.bytes
-    c.in_ok-write_cursor_state_formatted.ensures (redraw-of_shown _ h).cursor
+returns-clause-shown c h = rw c.new-contents.ensures.bytes at c.in_ok-write_cursor_state_formatted.ensures
+    ∙ ap spell (redraw-of_shown _ h).cursor

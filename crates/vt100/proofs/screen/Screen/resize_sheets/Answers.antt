@@ -1,4 +1,4 @@
-use Rattle.vt100.proofs.SettledLemmas.{settled_screen}
+use Rattle.vt100.proofs.ProperScreens.{settled_screen}
 use Rattle.vt100.proofs.screen.Screen.resize_sheets.Goals as goal
 
 pub invariant_of-self : goal.invariant_of-self

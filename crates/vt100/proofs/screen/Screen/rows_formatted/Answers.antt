@@ -1,4 +1,4 @@
-use Rattle.vt100.proofs.RowsLemmas.{few_visible}
+use Rattle.vt100.proofs.RowTexts.{few_visible}
 use Rattle.vt100.proofs.screen.Screen.rows_formatted.Goals as goal
 
 pub new-requires : goal.new-requires

@@ -1,35 +1,18 @@
-use Rattle.std.proofs.Common.{refl, [], ◌∷◌}
-use Rattle.std.specs.Prelude.{string_bytes}
+use Rattle.std.proofs.Common.{[], ◌∷◌}
 use Rattle.screen_drawing.specs.Modes.{input_mode_formatted}
-use Rattle.screen_model.specs.Shown.{shown_state}
-use Rattle.vt100.specs.ScreenFields.{screen_inside}
-use Rattle.vt100.proofs.WriteLemmas.{written_then, last_written, modes-are}
+use Rattle.vt100.proofs.WriteLemmas.{six_written}
 use Rattle.vt100.proofs.screen.Screen.write_input_mode_formatted.Goals as goal
 
 pub returns : goal.returns
-returns c =
-    let s = string_bytes c.args.contents.now in
-    let t1 = string_bytes c.write_buf.new.buf in
-    let t2 = string_bytes c.write_buf-2.new.buf in
-    let t3 = string_bytes c.write_buf-3.new.buf in
-    let t4 = string_bytes c.write_buf-4.new.buf in
-    let t5 = string_bytes c.write_buf-5.new.buf in
-    let u = string_bytes c.write_buf-6.new.buf in
-    let r = c.write_buf-6.result in
-    let x = shown_state (screen_inside c.self.inside).state in
-    let f1 = c.new.result in
-    let f2 = c.new-2.result in
-    let f3 = c.new-3.result in
-    let r5 = c.new-6.result ∷ [] in
-    let r4 = c.new-5.result ∷ r5 in
-    let r3 = c.new-4.result ∷ r4 in
-    let r2 = f3 ∷ r3 in
-    let r1 = f2 ∷ r2 in
-    rw (← c.self.view_is) (written_then r (f1 ∷ []) r1 (input_mode_formatted x) s t1 u
-    (modes-are x f1 f2 f3 c.new-4.result c.new-5.result c.new-6.result c.new.ensures c.new-2.ensures c.new-3.ensures
-    c.new-4.ensures c.new-5.ensures c.new-6.ensures) c.in_ok-write_buf.ensures.bytes
-    (written_then r (f2 ∷ []) r2 r1 t1 t2 u refl c.in_ok-write_buf-2.ensures.bytes
-    (written_then r (f3 ∷ []) r3 r2 t2 t3 u refl c.in_ok-write_buf-3.ensures.bytes
-    (written_then r (c.new-4.result ∷ []) r4 r3 t3 t4 u refl c.in_ok-write_buf-4.ensures.bytes
-    (written_then r (c.new-5.result ∷ []) r5 r4 t4 t5 u refl c.in_ok-write_buf-5.ensures.bytes
-    (last_written r r5 t5 u c.write_buf-6.ensures.bytes))))))
+unfolding input_mode_formatted
+returns c = rw (← c.self.view_is) (rw (
+  c.new.ensures,
+  c.new-2.ensures,
+  c.new-3.ensures,
+  c.new-4.ensures,
+  c.new-5.ensures,
+  c.new-6.ensures,
+) at (six_written c.write_buf-6.result (c.new.result ∷ []) (c.new-2.result ∷ [])
+    (c.new-3.result ∷ []) (c.new-4.result ∷ []) (c.new-5.result ∷ []) (c.new-6.result ∷ []) _ _ _ _ _ _ _
+    c.in_ok-write_buf.ensures.bytes c.in_ok-write_buf-2.ensures.bytes c.in_ok-write_buf-3.ensures.bytes
+    c.in_ok-write_buf-4.ensures.bytes c.in_ok-write_buf-5.ensures.bytes c.write_buf-6.ensures.bytes))

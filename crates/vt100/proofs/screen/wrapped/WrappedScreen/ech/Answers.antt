@@ -4,5 +4,4 @@ use Rattle.vt100.proofs.ProperScreens.{drawn_screen}
 use Rattle.vt100.proofs.screen.wrapped.WrappedScreen.ech.Goals as goal
 
 pub invariant_of-self : goal.invariant_of-self
-invariant_of-self g c = drawn_screen _ _ _ c.self.invariant c.erase_cells.ensures.allocated (search rules)
-    (rw c.erase_cells.ensures.grid (proper_columns_erased c.self.inside.0.0.grid _ _ _ c.self.invariant.attrs))
+invariant_of-self g c = search (rules, drawn_screen, proper_columns_erased)

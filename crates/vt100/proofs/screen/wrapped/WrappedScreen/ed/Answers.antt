@@ -4,13 +4,10 @@ use Rattle.vt100.proofs.ProperScreens.{drawn_screen}
 use Rattle.vt100.proofs.screen.wrapped.WrappedScreen.ed.Goals as goal
 
 pub invariant_of-self : goal.invariant_of-self
-invariant_of-self g c = drawn_screen _ _ _ c.self.invariant c.erase_all_forward.ensures.allocated (search rules)
-    (rw c.erase_all_forward.ensures.grid (proper_all_erased_forward c.self.inside.0.0.grid _ c.self.invariant.attrs))
+invariant_of-self g c = search (rules, drawn_screen, proper_all_erased_forward)
 
 pub invariant_of-self-in-1 : goal.invariant_of-self-in-1
-invariant_of-self-in-1 g c = drawn_screen _ _ _ c.self.invariant c.erase_all_backward.ensures.allocated (search rules)
-    (rw c.erase_all_backward.ensures.grid (proper_all_erased_backward c.self.inside.0.0.grid _ c.self.invariant.attrs))
+invariant_of-self-in-1 g c = search (rules, drawn_screen, proper_all_erased_backward)
 
 pub invariant_of-self-in-2 : goal.invariant_of-self-in-2
-invariant_of-self-in-2 g c = drawn_screen _ _ _ c.self.invariant c.erase_all.ensures.allocated (search rules)
-    (rw c.erase_all.ensures.grid (proper_all_erased c.self.inside.0.0.grid _ c.self.invariant.attrs))
+invariant_of-self-in-2 g c = search (rules, drawn_screen, proper_all_erased)

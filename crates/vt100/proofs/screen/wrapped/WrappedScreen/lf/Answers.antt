@@ -1,8 +1,7 @@
 use Rattle.std.proofs.Common.{◌≡◌, Err, rules}
-use Rattle.vt100_core.specs.Scroll.{fed}
 use Rattle.screen_model.proofs.ProperSheets.{proper_fed}
 use Rattle.vt100.specs.declared.error.ScreenError.TheVariants.{Memory}
-use Rattle.vt100.proofs.RefusedLemmas.{tries_refused}
+use Rattle.vt100.proofs.HearLemmas.{tries_refused}
 use Rattle.vt100.proofs.ProperScreens.{drawn_screen}
 use Rattle.vt100.proofs.screen.wrapped.WrappedScreen.lf.Goals as goal
 
@@ -13,8 +12,4 @@ returns-in_err-settle-clause-tries g c =
     c.in_err-settle.ensures.failed c.line_feed-fed.ensures.hears))
 
 pub invariant_of-self-2 : goal.invariant_of-self-2
-invariant_of-self-2 g c =
-    let is : c.line_feed-fed.new.grid ≡ (fed c.self.inside.0.0.grid 1).grid = search rules in
-    rw c.in_ok-settle.ensures.same
-    (drawn_screen _ _ _ c.self.invariant c.line_feed-fed.ensures.allocated c.line_feed-fed.ensures.limits
-    (rw is (proper_fed c.self.inside.0.0.grid 1)))
+invariant_of-self-2 g c = rw c.in_ok-settle.ensures.same (search (rules, drawn_screen, proper_fed))

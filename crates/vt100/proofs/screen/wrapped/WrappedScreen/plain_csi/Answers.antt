@@ -5,7 +5,7 @@ use Rattle.screen_model.specs.Step.{line_above, at_column, at_row, at_place, lin
 use Rattle.screen_model.specs.Step.{region_up, region_down, cells_erased, repeated, in_region}
 use Rattle.vt100_rows.proofs.TextLemmas.{on-err}
 use Rattle.vt100.proofs.EventLemmas.{does_as, does_change, does_steps, plain_does}
-use Rattle.vt100.proofs.RefusedLemmas.{refused_keeps}
+use Rattle.vt100.proofs.HearLemmas.{refused_keeps}
 use Rattle.vt100.proofs.screen.wrapped.WrappedScreen.plain_csi.Goals as goal
 
 pub returns-in-64 : goal.returns-in-64

@@ -15,9 +15,9 @@ returns-in-K g c = row_does private_rows (λ n. private_may_take c.args.params.n
     (rw c.canonicalize_params_1-in-K.ensures at c.decsel-unhandled.ensures) c.unhandled_groups-in-K.ensures)
 
 pub returns-in-l : goal.returns-in-l
-returns-in-l g c = row_does private_rows (λ n. private_may_take c.args.params.now n c.args.self.now.screen.state) _ _ c.in-l.is
-    (does_counts (modes_reset c.args.params.now) _ c.requires
-    c.decrst-unhandled.ensures c.unhandled_groups-in-l.ensures)
+returns-in-l g c = row_does private_rows (λ n. private_may_take c.args.params.now n c.args.self.now.screen.state) _ _
+    c.in-l.is (does_counts (modes_reset c.args.params.now) _ c.requires c.decrst-unhandled.ensures
+    c.unhandled_groups-in-l.ensures)
 
 pub returns-in-Ok : goal.returns-in-Ok
 returns-in-Ok g c = row_does private_rows (λ n. private_may_take c.args.params.now n c.args.self.now.screen.state) _ _

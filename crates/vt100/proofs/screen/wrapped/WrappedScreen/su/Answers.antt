@@ -1,8 +1,7 @@
 use Rattle.std.proofs.Common.{◌≡◌, Err, rules}
-use Rattle.vt100_core.specs.Scroll.{scrolled_up}
 use Rattle.screen_model.proofs.ProperSheets.{proper_scrolled_up}
 use Rattle.vt100.specs.declared.error.ScreenError.TheVariants.{Memory}
-use Rattle.vt100.proofs.RefusedLemmas.{tries_refused}
+use Rattle.vt100.proofs.HearLemmas.{tries_refused}
 use Rattle.vt100.proofs.ProperScreens.{drawn_screen}
 use Rattle.vt100.proofs.screen.wrapped.WrappedScreen.su.Goals as goal
 
@@ -13,8 +12,4 @@ returns-in_err-settle-clause-tries g c =
     c.in_err-settle.ensures.failed c.scroll_up-scrolled.ensures.hears))
 
 pub invariant_of-self-2 : goal.invariant_of-self-2
-invariant_of-self-2 g c =
-    let is : c.scroll_up-scrolled.new.grid ≡ (scrolled_up c.self.inside.0.0.grid c.args.count).grid = search rules in
-    rw c.in_ok-settle.ensures.same
-    (drawn_screen _ _ _ c.self.invariant c.scroll_up-scrolled.ensures.allocated c.scroll_up-scrolled.ensures.limits
-    (rw is (proper_scrolled_up c.self.inside.0.0.grid c.args.count)))
+invariant_of-self-2 g c = rw c.in_ok-settle.ensures.same (search (rules, drawn_screen, proper_scrolled_up))

@@ -1,8 +1,7 @@
 use Rattle.std.proofs.Common.{◌≡◌, Err, rules}
-use Rattle.vt100_core.specs.Text.{printed}
 use Rattle.screen_model.proofs.ProperSheets.{proper_printed}
 use Rattle.vt100.specs.declared.error.ScreenError.TheVariants.{Memory}
-use Rattle.vt100.proofs.RefusedLemmas.{tries_refused}
+use Rattle.vt100.proofs.HearLemmas.{tries_refused}
 use Rattle.vt100.proofs.ProperScreens.{drawn_screen}
 use Rattle.vt100.proofs.screen.wrapped.WrappedScreen.text.Goals as goal
 
@@ -13,9 +12,4 @@ returns-in_err-printed-clause-tries g c =
     c.in_err-printed.ensures.failed c.print-printed.ensures.hears))
 
 pub invariant_of-self-2 : goal.invariant_of-self-2
-invariant_of-self-2 g c =
-    let is : c.print-printed.new.grid
-    ≡ (printed c.self.inside.0.0.grid c.args.c c.self.inside.0.0.attrs).grid = search rules in
-    rw c.in_ok-printed.ensures.same
-    (drawn_screen _ _ _ c.self.invariant c.print-printed.ensures.allocated c.print-printed.ensures.limits
-    (rw is (proper_printed c.self.inside.0.0.grid c.args.c _ c.self.invariant.attrs)))
+invariant_of-self-2 g c = rw c.in_ok-printed.ensures.same (search (rules, drawn_screen, proper_printed))

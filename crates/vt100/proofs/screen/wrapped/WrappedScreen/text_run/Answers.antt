@@ -1,9 +1,8 @@
 use Rattle.std.proofs.Common.{◌≡◌, Err, rules}
 use Rattle.screen_model.proofs.ProperSheets.{proper_printed_all}
 use Rattle.vt100.specs.declared.error.ScreenError.TheVariants.{Memory}
-use Rattle.vt100.proofs.ProperScreens.{drawn_screen}
+use Rattle.vt100.proofs.ProperScreens.{drawn_screen, at-err}
 use Rattle.vt100.proofs.RunLemmas.{run_tries, run_refused, printable-spacing}
-use Rattle.vt100.proofs.SettledLemmas.{at-ok, at-err}
 use Rattle.vt100.proofs.screen.wrapped.WrappedScreen.text_run.Goals as goal
 
 pub returns-in_err-settle-clause-tries : goal.returns-in_err-settle-clause-tries
@@ -19,12 +18,12 @@ returns-clause-tries g c =
     let is = c.in_ok-settle.ensures.done in
     rw (← c.self.view_is) (rw c.in_ok-settle.ensures.same
     (run_tries g.CB.Callbacks.scrolls c.args.text.now _ _ _ _ _ c.if-self.false
-    (printable-spacing _ run.ensures.some_columns _ c.requires) (at-ok run.result _ is run.ensures.grid)
-    c.last_of-self-inside.ensures (at-ok run.result _ is run.ensures.hears)))
+    (printable-spacing _ run.ensures.some_columns _ c.requires) (rw is at run.ensures.grid)
+    c.last_of-self-inside.ensures (rw is at run.ensures.hears)))
 
 pub invariant_of-self-2 : goal.invariant_of-self-2
 invariant_of-self-2 g c =
-    let is = at-ok c.print_run-printed.result _ c.in_ok-settle.ensures.done c.print_run-printed.ensures.grid in
+    let is = rw c.in_ok-settle.ensures.done at c.print_run-printed.ensures.grid in
     rw c.in_ok-settle.ensures.same
     (drawn_screen _ _ _ c.self.invariant c.print_run-printed.ensures.allocated c.print_run-printed.ensures.limits
     (rw is (proper_printed_all c.self.inside.0.0.grid c.args.text.now _ c.self.invariant.attrs)))
