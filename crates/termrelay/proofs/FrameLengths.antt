@@ -1,6 +1,5 @@
 -- How long a frame can be.
-use Rattle.std.proofs.Common.{◌≡◌, ◌||◌, ◌++◌, length, Option, Some, None, refl, arith}
-use Rattle.std.proofs.Common.{length-append}
+use Rattle.std.proofs.Common.{◌≡◌, ◌||◌, ◌++◌, length, Option, Some, None, refl, arith, length-append}
 use Rattle.std.proofs.lemmas.Bool.{cond_both}
 use Rattle.vt100_forms.specs.Form.{spell}
 use Rattle.terminal_model.specs.Term.{Size, Shown}

@@ -4,10 +4,10 @@ use Rattle.std.proofs.Common.{length, take, sym, ap, arith}
 use mathlib.Core.Logic.{⊎_elim}
 use Rattle.std.specs.Prelude.{slice_get}
 use Rattle.std.specs.Option.{option_map}
-use Rattle.std.proofs.lemmas.Bool.{cases_lt, eq-eqb}
+use Rattle.std.proofs.lemmas.Bool.{cases_lt}
 use Rattle.std.proofs.lemmas.Bool.Decides.{nat_tests}
 use Rattle.std.proofs.lemmas.List.{get_or-take}
-use Rattle.std.proofs.lemmas.Option.{slice_get_within, slice_get-get_or}
+use Rattle.std.proofs.lemmas.Option.{slice_get_within, slice_get-get_or, same_Some}
 use Rattle.vt100_cells.specs.Cell.{CellView, default_cell, cell_eq}
 use Rattle.vt100_cells.specs.CellEq.{cell_eq-of_same}
 use Rattle.vt100_cells.specs.Cells.{AreSame, cell_at}
@@ -24,24 +24,17 @@ use Rattle.termrelay.proofs.BelowLemmas.{all-missed, all-true, all-alike}
 cells-in : (o : Option RowView) (cells : List CellView) (c : ℕ) → option_map (λ v. v.cells) o ≡ Some cells
     → cell_in o c ≡ slice_get cells c
 cells-in None cells c e = absurd cc
-cells-in (Some v) cells c e =
-    let same : v.cells ≡ cells = cc in
-    ap (λ xs. slice_get xs c) same
+cells-in (Some v) cells c e = ap (λ xs. slice_get xs c) (same_Some v.cells cells e)
 
 reaches : (n : ℕ) (cells : List CellView) (f : ℕ → CellView) → ((c : ℕ) → c < n → slice_get cells c ≡ Some (f c))
     → n ≤ length cells
 reaches zero cells f h = omega arith
-reaches (suc n) cells f h =
-    let lt : n < length cells = slice_get_within cells n (f n) (h n (omega arith)) in
-    omega arith
+reaches (suc n) cells f h = omega (arith, slice_get_within cells n (f n) (h n (omega arith)))
 
 -- they are the cells that the screen shows there, and more where the row is wider
 pub record AreCellsOf (s : State) (r : ℕ) (cells : List CellView) : Type 0 where
   pub wide : s.shown.width ≤ length cells
   pub same : AreSame (cell_at cells) ((shown_state s).cell r) 0 s.shown.width
-
-some-same : (x y : CellView) → Some x ≡ Some y → x ≡ y
-some-same x y e = cc
 
 -- the cells that a screen tells of a row on it
 pub cells-told : (s : State) (r : ℕ) → IsState s → r < s.shown.height → (cells : List CellView)
@@ -52,7 +45,7 @@ cells-told s r i inside cells e =
     let wide = reaches s.shown.width cells ((shown_state s).cell r) told in
     record {
       wide = wide;
-      same = λ k _ h. some-same (cell_at cells k) ((shown_state s).cell r k)
+      same = λ k _ h. same_Some (cell_at cells k) ((shown_state s).cell r k)
           (sym (slice_get-get_or cells k default_cell (omega (arith, h, wide))) ∙ told k h);
     }
 
@@ -63,25 +56,23 @@ cells-cut n width cells f e same k low h = get_or-take n cells k default_cell (o
 
 -- ---- two rows
 
-unequal : (m n : ℕ) → m < n → (m == n) ≡ false
-unequal m n h = grind (arith, nat_tests)
-
 -- two rows of n cells that are the same up to m, where they differ unless they end there
 pub rows-compared : (n m : ℕ) (f g : ℕ → CellView) → m ≤ n → AreSame f g 0 m
     → (m < n → cell_eq (f m) (g m) ≡ false) → (m == n) ≡ all_below n (λ k. cell_eq (f k) (g k))
 rows-compared n m f g within same differs =
     ⊎_elim
-    (λ (less : m < n). unequal m n less ∙ sym (all-missed n m (λ k. cell_eq (f k) (g k)) less (differs less)))
-    (λ (all : n ≤ m).
-    let is : m ≡ n = omega (arith, within, all) in
-    eq-eqb m n is ∙ sym (all-true n (λ k. cell_eq (f k) (g k))
-    (λ k lt. cell_eq-of_same (f k) (g k) (same k (omega arith) (omega (arith, lt, is))))))
+    (λ (less : m < n). grind (arith, nat_tests, all-missed n m (λ k. cell_eq (f k) (g k)) less (differs less)))
+    (λ (all : n ≤ m). grind (
+      arith,
+      nat_tests,
+      all-true n (λ k. cell_eq (f k) (g k))
+          (λ k lt. cell_eq-of_same (f k) (g k) (same k (omega arith) (omega arith))),
+    ))
     (cases_lt m n)
 
 -- what is asked of two rows of n cells is asked of the rows that they are
 pub rows-alike : (m n : ℕ) (f g h k : ℕ → CellView) → m ≡ n → AreSame f h 0 n → AreSame g k 0 n
     → all_below m (λ c. cell_eq (f c) (g c)) ≡ all_below n (λ c. cell_eq (h c) (k c))
 rows-alike m n f g h k e one other =
-    ap (λ x. all_below x (λ c. cell_eq (f c) (g c))) e
-    ∙ all-alike n (λ c. cell_eq (f c) (g c)) (λ c. cell_eq (h c) (k c))
-    (λ c lt. ap (λ x. cell_eq x (g c)) (one c (omega arith) lt) ∙ ap (λ x. cell_eq (h c) x) (other c (omega arith) lt))
+    rw e (all-alike n (λ c. cell_eq (f c) (g c)) (λ c. cell_eq (h c) (k c))
+    (λ c lt i. cell_eq (one c (omega arith) lt i) (other c (omega arith) lt i)))

@@ -1,6 +1,6 @@
 -- One call more.
 use Rattle.std.proofs.Common.{◌≡◌, ◌∙◌, ℕ, ◌+◌, ◌<◌, ◌≤◌, List, [], ◌∷◌, ◌++◌, map, take, length, Result, Err}
-use Rattle.std.proofs.Common.{refl, sym, ap, subst, arith, append-nil, append_assoc, get_or}
+use Rattle.std.proofs.Common.{refl, sym, ap, arith, append-nil, append_assoc, get_or}
 use Rattle.std.proofs.lemmas.List.{take-map, take_more, take_all, length-map, map-append}
 use Rattle.termrelay.specs.declared.call.Reply.{Reply}
 use Rattle.termrelay.specs.declared.call.Call.{Call as Given}
@@ -13,12 +13,8 @@ use Rattle.termrelay.specs.Log.{SessionView, LogView, sessions_after, RunsLogged
 runs-more : (h g k : HubState as_kept) (ss ts us : List SessionView) (calls : List Call) (replies : List Reply) (call : Call)
     (reply : Reply) → RunsLogged h ss calls replies g ts → IsCall call → Serves g call reply k
     → us ≡ sessions_after g call reply ts → RunsLogged h ss (calls ++ call ∷ []) (replies ++ reply ∷ []) k us
-runs-more h g k ss ts us [] [] call reply run is serves e = (
-  k,
-  is,
-  subst (λ x. Serves x call reply k) run.0 serves,
-  (refl, e ∙ ap (λ x. sessions_after x call reply ts) run.0 ∙ ap (sessions_after h call reply) run.1),
-)
+runs-more h g k ss ts us [] [] call reply run is serves e =
+    (k, is, rw run.0 at serves, (refl, rw (← run.0, ← run.1) e))
 runs-more h g k ss ts us [] (r ∷ rs) call reply run is serves e = absurd run
 runs-more h g k ss ts us (c ∷ cs) [] call reply run is serves e = absurd run
 runs-more h g k ss ts us (c ∷ cs) (r ∷ rs) call reply (m, first, served, later) is serves e =
@@ -39,26 +35,16 @@ pub made-more : (h g k : HubState as_kept) (l m o : LogView) (calls : List Given
     → call ≡ get_or calls n call → MadeAll h l (map call_of (take n calls)) g m → ServesLogged g (call_of call) k m o
     → MadeAll h l (map call_of (take (n + 1) calls)) k o
 made-more h g k l m o calls n call lt is made serves =
-    let one : map call_of (take (n + 1) calls) ≡ map call_of (take n calls) ++ call_of call ∷ [] =
-    ap (map call_of) (take_more calls n call lt) ∙ map-append call_of (take n calls) (get_or calls n call ∷ [])
-    ∙ ap (λ c. map call_of (take n calls) ++ call_of c ∷ []) (sym is) in
-    subst (λ cs. MadeAll h l cs k o) (sym one)
+    rw (take_more calls n call lt, map-append call_of (take n calls) (get_or calls n call ∷ []), ← is)
     (made-one h g k l m o (map call_of (take n calls)) (call_of call) made serves)
 
 pub made-all : (h g : HubState as_kept) (l m : LogView) (calls : List Given) (n : ℕ) → length calls ≤ n
     → MadeAll h l (map call_of (take n calls)) g m → MadeAll h l (map call_of calls) g m
-made-all h g l m calls n le made = subst (λ cs. MadeAll h l (map call_of cs) g m) (take_all n calls le) made
+made-all h g l m calls n le made = rw (take_all n calls le) at made
 
 -- there was no memory for what is kept of a call
 pub made-some : (h g k : HubState as_kept) (l m o : LogView) (calls : List Given) (n : ℕ) (result : Result (Unit {0}) HubError)
     → n < length calls → MadeAll h l (map call_of (take n calls)) g m → k ≡ g → o ≡ m → result ≡ Err Memory
     → RunsCalls h l (map call_of calls) result k o
 made-some h g k l m o calls n result lt made same kept e =
-    let stays : MadeAll h l (map call_of (take n calls)) k o =
-    subst (λ x. MadeAll h l (map call_of (take n calls)) x o) (sym same)
-    (subst (λ x. MadeAll h l (map call_of (take n calls)) g x) (sym kept) made) in
-    subst (λ r. RunsCalls h l (map call_of calls) r k o) (sym e) (
-      n,
-      omega (arith, lt, length-map calls call_of),
-      subst (λ cs. MadeAll h l cs k o) (sym (take-map call_of n calls)) stays,
-    )
+    rw (e, same, kept) (n, omega (arith, length-map calls call_of), rw (take-map call_of n calls) made)

@@ -1,105 +1,41 @@
 -- Screens of which all that is shown is the same.
-use Rattle.std.proofs.Common.{◌≡◌, ℕ, zero, suc, ◌<◌, ◌≤◌, ◌==◌, Bool, true, false, arith, ap}
-use Rattle.std.proofs.Common.{sym, ◌∙◌, refl, if◌then◌else◌}
+use Rattle.std.proofs.Common.{◌≡◌, ℕ, ◌<◌, ◌≤◌, ◌==◌, Bool, true, arith, sym, ◌∙◌}
 use mathlib.Core.Logic.{⊎_elim}
 use Rattle.std.proofs.lemmas.Bool.{cases_lt, and_parts, eqb-true}
+use Rattle.std.proofs.lemmas.Bool.Decides.{nat_tests}
 use Rattle.vt100_forms.specs.declared.modes.MouseProtocolMode.{MouseProtocolMode}
-use Rattle.vt100_forms.specs.declared.modes.MouseProtocolMode.TheVariants as mouse
 use Rattle.vt100_forms.specs.declared.modes.MouseProtocolEncoding.{MouseProtocolEncoding}
-use Rattle.vt100_forms.specs.declared.modes.MouseProtocolEncoding.TheVariants as encoding
 use Rattle.vt100_forms.specs.declared.modes.CursorStyle.{CursorStyle}
-use Rattle.vt100_forms.specs.declared.modes.CursorStyle.TheVariants as style
 use Rattle.vt100_forms.specs.Attrs.{attrs_eq}
 use Rattle.vt100_forms.specs.Form.{mouse_number, encoding_number, style_number}
 use Rattle.vt100_cells.specs.Cell.{bool_eq, cell_eq}
 use Rattle.vt100_cells.specs.CellEq.{cell_eq-true, attrs_eq-true}
 use Rattle.terminal_model.specs.Term.{Size, Modes, Shown, IsShown}
 use Rattle.termrelay.specs.Answers.{all_below, modes_eq, same_shown, EachSameIsOne}
+use Rattle.termrelay.proofs.BelowLemmas.{all-missed}
 
 all-below : (k : ℕ) (p : ℕ → Bool) → all_below k p ≡ true → (m : ℕ) → m < k → p m ≡ true
-all-below zero p e m h = absurd (omega (arith, h))
-all-below (suc k) p e m h =
-    let parts = and_parts (all_below k p) (p k) e in
-    ⊎_elim (λ (l : m < k). all-below k p parts.0 m l)
-    (λ (l : k ≤ m). let same : m ≡ k = omega (arith, h, l) in ap p same ∙ parts.1)
-    (cases_lt m k)
+all-below k p e m h = grind (arith, all-missed k m p h)
 
 same-bool : (a b : Bool) → bool_eq a b ≡ true → a ≡ b
-same-bool true true h = refl
-same-bool true false h = cc
-same-bool false true h = cc
-same-bool false false h = refl
-
-mouse-of : ℕ → MouseProtocolMode
-mouse-of n =
-    if n == 0 then mouse.None
-    else if n == 9 then mouse.Press
-    else if n == 1000 then mouse.PressRelease
-    else if n == 1002 then mouse.ButtonMotion
-    else mouse.AnyMotion
-
-mouse-read : (m : MouseProtocolMode) → mouse-of (mouse_number m) ≡ m
-unfolding mouse-of
-mouse-read mouse.None = refl
-mouse-read mouse.Press = refl
-mouse-read mouse.PressRelease = refl
-mouse-read mouse.ButtonMotion = refl
-mouse-read mouse.AnyMotion = refl
+same-bool a b h = grind arith
 
 same-mouse : (m n : MouseProtocolMode) → (mouse_number m == mouse_number n) ≡ true → m ≡ n
-same-mouse m n h =
-    sym (mouse-read m) ∙ ap mouse-of (eqb-true (mouse_number m) (mouse_number n) h) ∙ mouse-read n
-
-encoding-of : ℕ → MouseProtocolEncoding
-encoding-of n =
-    if n == 0 then encoding.Default
-    else if n == 1005 then encoding.Utf8
-    else encoding.Sgr
-
-encoding-read : (m : MouseProtocolEncoding) → encoding-of (encoding_number m) ≡ m
-unfolding encoding-of
-encoding-read encoding.Default = refl
-encoding-read encoding.Utf8 = refl
-encoding-read encoding.Sgr = refl
+same-mouse m n h = grind (arith, nat_tests)
 
 same-encoding : (m n : MouseProtocolEncoding) → (encoding_number m == encoding_number n) ≡ true → m ≡ n
-same-encoding m n h =
-    sym (encoding-read m) ∙ ap encoding-of (eqb-true (encoding_number m) (encoding_number n) h) ∙ encoding-read n
-
-style-of : ℕ → CursorStyle
-style-of n =
-    if n == 0 then style.Default
-    else if n == 1 then style.BlinkBlock
-    else if n == 2 then style.SteadyBlock
-    else if n == 3 then style.BlinkUnderline
-    else if n == 4 then style.SteadyUnderline
-    else if n == 5 then style.BlinkVerticalBar
-    else style.SteadyVerticalBar
-
-style-read : (m : CursorStyle) → style-of (style_number m) ≡ m
-unfolding style-of
-style-read style.Default = refl
-style-read style.BlinkBlock = refl
-style-read style.SteadyBlock = refl
-style-read style.BlinkUnderline = refl
-style-read style.SteadyUnderline = refl
-style-read style.BlinkVerticalBar = refl
-style-read style.SteadyVerticalBar = refl
+same-encoding m n h = grind (arith, nat_tests)
 
 same-style : (m n : CursorStyle) → (style_number m == style_number n) ≡ true → m ≡ n
-same-style m n h = sym (style-read m) ∙ ap style-of (eqb-true (style_number m) (style_number n) h) ∙ style-read n
+same-style m n h = grind (arith, nat_tests)
 
 same-modes : (m n : Modes) → modes_eq m n ≡ true → m ≡ n
 same-modes m n h =
-    let a = and_parts (bool_eq m.keypad n.keypad) _ h in
-    let b = and_parts (bool_eq m.cursor_keys n.cursor_keys) _ a.1 in
-    let c = and_parts (bool_eq m.paste n.paste) _ b.1 in
-    let d = and_parts (mouse_number m.mouse == mouse_number n.mouse) _ c.1 in
-    let keypad = same-bool m.keypad n.keypad a.0 in
-    let keys = same-bool m.cursor_keys n.cursor_keys b.0 in
-    let paste = same-bool m.paste n.paste c.0 in
-    let mice = same-mouse m.mouse n.mouse d.0 in
-    let coding = same-encoding m.encoding n.encoding d.1 in
+    let keypad = same-bool m.keypad n.keypad (grind arith) in
+    let keys = same-bool m.cursor_keys n.cursor_keys (grind arith) in
+    let paste = same-bool m.paste n.paste (grind arith) in
+    let mice = same-mouse m.mouse n.mouse (grind arith) in
+    let coding = same-encoding m.encoding n.encoding (grind arith) in
     λ i. record { keypad = keypad i; cursor_keys = keys i; paste = paste i; mouse = mice i; encoding = coding i }
 
 -- cells that are the same on the screen are the same everywhere

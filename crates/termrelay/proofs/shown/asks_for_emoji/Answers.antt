@@ -1,8 +1,9 @@
 use Rattle.std.proofs.Common.{◌≡◌, ◌∙◌, ◌==◌, ◌<◌, length, encode_utf8_all, arith, rules, tests, ap, sym}
 use Rattle.std.specs.List.{list_any}
+use Rattle.std.proofs.lemmas.Bool.{lt-leb}
 use Rattle.std.proofs.lemmas.Iterator.{YieldsList-from_chars}
 use Rattle.std.proofs.lemmas.Iterator.Search.{any_from_yields_List}
-use Rattle.termrelay.proofs.ShownLemmas.{short-asks_not, too-short}
+use Rattle.termrelay.proofs.ShownLemmas.{short-asks_not}
 use Rattle.termrelay.proofs.shown.asks_for_emoji.Goals as goal
 
 pub returns-then-text-len_utf8 : goal.returns-then-text-len_utf8
@@ -17,5 +18,5 @@ returns-else-text-len_utf8 c =
     let three : c.len_utf8.result ≡ 3 = c.len_utf8.ensures.value in
     let short : length (encode_utf8_all text) < 3 =
     omega (arith, three, c.if-text-len_utf8.false, ap (λ bs. length bs) c.contents-text.ensures.bytes) in
-    too-short c.len_utf8.result (length c.contents-text.result.now) c.if-text-len_utf8.false
+    lt-leb c.len_utf8.result (length c.contents-text.result.now) c.if-text-len_utf8.false
     ∙ sym (short-asks_not text short)

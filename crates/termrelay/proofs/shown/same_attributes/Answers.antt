@@ -10,7 +10,7 @@ returns-then-underline c =
     let s = c.args.screen.now.state in
     let a = c.args.other.now.state.attrs in
     let asked : beq c.inverse.result c.inverse-then-underline.result ≡ attrs_asked s.attrs a = search rules in
-    asked ∙ attrs-told s a c.requires.state c.requires.other_state.attrs
+    asked ∙ attrs-told s.attrs a c.requires.state.attrs c.requires.other_state.attrs
 
 pub returns-else-underline : goal.returns-else-underline
 returns-else-underline c =
@@ -29,4 +29,4 @@ returns-else-underline c =
         ]
       ]
     ] in
-    asked ∙ attrs-told s a c.requires.state c.requires.other_state.attrs
+    asked ∙ attrs-told s.attrs a c.requires.state.attrs c.requires.other_state.attrs

@@ -1,8 +1,6 @@
-use Rattle.std.proofs.Common.{◌≡◌, ap, sym, ◌∙◌, subst, false}
+use Rattle.std.proofs.Common.{◌≡◌, ap, sym, ◌∙◌, false}
 use Rattle.std.specs.Option.{option_copied}
-use Rattle.vt100_core.specs.Picture.{grid_size}
-use Rattle.termrelay.specs.Frame.{IsShortFrame}
-use Rattle.termrelay.specs.Hub.{HubState, as_kept, size_in}
+use Rattle.termrelay.specs.Hub.{HubState, as_kept}
 use Rattle.termrelay.proofs.HubLemmas.{found-served}
 use Rattle.termrelay.proofs.hub.Hub.owed.Goals as goal
 
@@ -12,6 +10,5 @@ returns-in-Some-clause-short c alive =
     let r = c.in-Some.record.now in
     let live : p.screen.failed ≡ false = ap (λ (v : HubState as_kept). v.parser.screen.failed) c.self.view_is ∙ alive in
     let found = sym c.get.ensures ∙ ap option_copied c.in-Some.is in
-    let served = found-served c.self.inside.clients.slots c.key.result r p.screen found (c.self.invariant.served live) in
-    subst (λ (h : HubState as_kept). IsShortFrame (size_in h) c.owed.result.now) c.self.view_is
-    (subst (IsShortFrame (grid_size p.screen.state.shown)) (sym c.owed.ensures) served.short)
+    let served = found-served c.self.inside.clients c.key.result r p.screen found (c.self.invariant.served live) in
+    rw (← c.self.view_is, c.owed.ensures) served.short

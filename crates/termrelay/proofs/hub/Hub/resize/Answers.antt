@@ -1,4 +1,4 @@
-use Rattle.std.proofs.Common.{◌≡◌, ℕ, ap, sym, ◌∙◌, subst, false, arith}
+use Rattle.std.proofs.Common.{◌≡◌, ℕ, ap, sym, ◌∙◌, false, arith}
 use Rattle.screen_model.specs.Call.{ScreenView}
 use Rattle.screen_model.specs.Made.{Resized}
 use Rattle.screen_model.specs.Step.{resized_to}
@@ -45,6 +45,5 @@ returns c =
       sym c.has_failed.ensures ∙ c.if-has_failed.false,
       ap (λ (v : ScreenView). v.failed) is,
       no-clients c.clear.new.self.slots c.clear.ensures.empty,
-      subst (λ (q : ParserView (Unit {0})). GoesOn q (Resized rows cols) (record p { screen = w }))
-          (ap (λ (v : HubState as_kept). v.parser) c.self.view_is) (put-in-step p w rows cols is),
+      rw (← c.self.view_is) (put-in-step p w rows cols is),
     )
