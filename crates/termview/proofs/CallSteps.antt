@@ -11,15 +11,11 @@ use Rattle.vte.proofs.HoldLemmas.{calls_from-append}
 use Rattle.terminal_model.specs.Term.{Size, Term, blank_term}
 use Rattle.termview.specs.Step.{view_step, view_steps}
 use Rattle.termview.specs.Seen.{seen}
-use Rattle.termview.specs.Picture.{PictureView, term_of_picture, Becomes}
+use Rattle.termview.specs.Picture.{PictureView, term_of_picture, Becomes, Does}
 
 -- ---- calls, one after the other
 
--- what the handler does at a call
-abbrev pub steps : PictureView → Call → PictureView → Type 0
-steps p c q = Becomes p q (view_step p.size c (term_of_picture p))
-
-pub calls-become : (cs : List Call) (p q : PictureView) → Calls steps p cs q
+pub calls-become : (cs : List Call) (p q : PictureView) → Calls Does p cs q
     → Becomes p q (view_steps p.size cs (term_of_picture p))
 calls-become [] p q e = record { size = ap (λ (x : PictureView). x.size) e; shows = ap term_of_picture e }
 calls-become (c ∷ cs) p q g =
@@ -58,7 +54,7 @@ seen-append z parsed bytes =
 
 -- a picture that shows what the parsed bytes make shows, after the calls of more of them, what all make
 pub goes-on : (p q : PictureView) (parsed parsed' : List ℕ) (n : ℕ) (calls : List Call)
-    → term_of_picture p ≡ seen p.size parsed → Parses parsed parsed' n calls → Calls steps p calls q
+    → term_of_picture p ≡ seen p.size parsed → Parses parsed parsed' n calls → Calls Does p calls q
     → (q.size ≡ p.size) × (term_of_picture q ≡ seen q.size parsed')
 goes-on p q parsed parsed' n calls shows h g =
     let done = calls-become calls p q g in
@@ -70,7 +66,7 @@ goes-on p q parsed parsed' n calls shows h g =
 
 -- the same where the hold was emptied
 pub emptied-on : (p q : PictureView) (parsed bytes : List ℕ) → term_of_picture p ≡ seen p.size parsed
-    → Calls steps p (calls_from parsed bytes ++ hold.closing) q
+    → Calls Does p (calls_from parsed bytes ++ hold.closing) q
     → (q.size ≡ p.size) × (term_of_picture q ≡ seen q.size (parsed ++ bytes))
 unfolding view_step
 emptied-on p q parsed bytes shows g =
