@@ -14,7 +14,7 @@ use Rattle.terminal_model.specs.Term.{Size, Modes, Shown, IsShown}
 use Rattle.termrelay.specs.Answers.{all_below, modes_eq, same_shown, EachSameIsOne}
 use Rattle.termrelay.proofs.BelowLemmas.{all-missed}
 
-all-below : (k : ℕ) (p : ℕ → Bool) → all_below k p ≡ true → (m : ℕ) → m < k → p m ≡ true
+pub all-below : (k : ℕ) (p : ℕ → Bool) → all_below k p ≡ true → (m : ℕ) → m < k → p m ≡ true
 all-below k p e m h = grind (arith, all-missed k m p h)
 
 same-bool : (a b : Bool) → bool_eq a b ≡ true → a ≡ b

@@ -43,6 +43,16 @@ same-due now (Some w) v u h e same =
     let one = same-one z (shown_state w.state) (shown_state now.state) base (shown-is now.state u) alike in
     rw (rw one at sure, sure, alike)
 
+-- a base of which it is sure is one of this screen, and is sure
+pub base-sure : (now : ScreenView) (base : Option ScreenView) (v : ScreenView) → IfSome base (IsBaseOf now)
+    → Some v ≡ sure_base base
+    → IsBaseOf now v × (is_unsure (grid_size now.state.shown) (shown_state v.state) ≡ false)
+base-sure now None v h e = absurd cc
+base-sure now (Some w) v h e =
+    let sure : is_unsure_screen w ≡ false = grind arith in
+    let one : v ≡ w = grind arith in
+    rw one (h, ap (λ z. is_unsure z (shown_state w.state)) (sym h.size) ∙ sure)
+
 -- something else is shown than at a sure base
 pub other-due : (now : ScreenView) (base : Option ScreenView) (v : ScreenView) → IfSome base (IsBaseOf now)
     → Some v ≡ sure_base base

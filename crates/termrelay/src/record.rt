@@ -17,7 +17,7 @@ ghost use Rattle.termrelay.specs.declared.error.HubError.TheVariants.{Memory};
 use crate::answer::Answer;
 use crate::body::{push_difference, push_redraw, push_state};
 use crate::error::HubError;
-use crate::shown::{is_unsure, same_shown};
+use crate::shown::{is_unsure, is_unsure_since, same_shown};
 use std::alloc::Global;
 use std::io;
 use std::marker::Model;
@@ -41,15 +41,10 @@ pub(crate) fn is_too_long(text: &[u8]) -> bool
 }
 
 /// The answer, unless it isn't sure what another terminal makes of the screen.
-fn unless_unsure(now: &Screen, answer: Answer) -> Answer
-    requires { IsState now.now.state }
-    ensures { result ≡ (if is_unsure_screen now.now then Unsure else answer) }
+fn unless(unsure: bool, answer: Answer) -> Answer
+    ensures { result ≡ (if unsure then Unsure else answer) }
 {
-    if is_unsure(now) {
-        Answer::Unsure
-    } else {
-        answer
-    }
+    if unsure { Answer::Unsure } else { answer }
 }
 
 /// What a hub keeps of a client.
@@ -125,11 +120,13 @@ impl Record {
         requires served { IsRecordOf now.now self.now }
         ensures { result ≡ due (grid_size now.now.state.shown) (shown_state now.now.state) (client_of self.now).base }
     {
-        match self.sure_base() {
-            Some(base) if same_shown(base, now) => Answer::Unchanged,
-            Some(_) => unless_unsure(now, Answer::Difference),
-            None => unless_unsure(now, Answer::Full),
+        let Some(base) = self.sure_base() else {
+            return unless(is_unsure(now), Answer::Full);
+        };
+        if same_shown(base, now) {
+            return Answer::Unchanged;
         }
+        unless(is_unsure_since(base, now), Answer::Difference)
     }
 
     /// What a request for a frame is answered, unless the frame is too long.

@@ -1,5 +1,5 @@
 //! What screens show, by the calls that ask them about it.
-ghost use Rattle.std.specs.Prelude.{◌≡◌, ◌<◌, length};
+ghost use Rattle.std.specs.Prelude.{◌≡◌, ◌<◌, length, false};
 ghost use Rattle.vt100_forms.specs.Attrs.{attrs_eq};
 ghost use Rattle.vt100_cells.specs.Cell.{bool_eq, cell_eq};
 ghost use Rattle.vt100_cells.specs.Cells.{AreSame, cell_at};
@@ -92,6 +92,39 @@ fn has_same_cells(screen: &Screen, other: &Screen, row: u16) -> bool
         ((shown_state screen.now.state).cell row k) ((shown_state other.now.state).cell row k)) }
 {
     are_same(cells_of(screen, row), cells_of(other, row))
+}
+
+/// Whether one of a row's cells asks for an emoji, where none of a screen does that may have the same row.
+fn is_row_unsure_since(base: &Screen, now: &Screen, row: u16) -> bool
+    requires base_state { IsState base.now.state }
+    requires state { IsState now.now.state }
+    requires size { grid_size base.now.state.shown ≡ grid_size now.now.state.shown }
+    requires sure { is_unsure (grid_size now.now.state.shown) (shown_state base.now.state) ≡ false }
+    requires inside { row < now.now.state.shown.height }
+    ensures { result ≡ any_below now.now.state.shown.width
+        (λ k. asks_for_emoji ((shown_state now.now.state).cell row k)) }
+{
+    if has_same_cells(base, now, row) {
+        return false;
+    }
+    is_row_unsure(now, row)
+}
+
+/// The same of a screen since one of which it is sure: only rows that aren't as they were there are looked through.
+pub(crate) fn is_unsure_since(base: &Screen, now: &Screen) -> bool
+    requires base_state { IsState base.now.state }
+    requires state { IsState now.now.state }
+    requires size { grid_size base.now.state.shown ≡ grid_size now.now.state.shown }
+    requires sure { is_unsure (grid_size now.now.state.shown) (shown_state base.now.state) ≡ false }
+    ensures { result ≡ is_unsure (grid_size now.now.state.shown) (shown_state now.now.state) }
+{
+    let (rows, _) = now.size();
+    for row in 0..rows.get() {
+        if is_row_unsure_since(base, now, row) {
+            return true;
+        }
+    }
+    false
 }
 
 /// Whether two screens of one size show the same cells.

@@ -1,19 +1,31 @@
-use Rattle.std.proofs.Common.{◌∙◌, sym, ap}
+use Rattle.std.proofs.Common.{◌∙◌, sym, ap, if◌then◌else◌}
 use Rattle.std.specs.Option.{option_copied}
-use Rattle.termrelay.proofs.SureBases.{same-due, other-due, redraw-due}
+use Rattle.termrelay.specs.declared.answer.Answer.TheVariants.{Unsure, Difference}
+use Rattle.termrelay.proofs.SureBases.{base-sure, same-due, other-due}
 use Rattle.termrelay.proofs.record.Record.due.Goals as goal
 
-pub returns-in-Some : goal.returns-in-Some
-returns-in-Some c =
+pub returns-then-same_shown : goal.returns-then-same_shown
+returns-then-same_shown c =
     same-due c.args.now.now c.args.self.now.base c.in-Some.base.now c.requires.unscrolled c.requires.served.base
     (sym (ap option_copied c.in-Some.is) ∙ c.sure_base.ensures) (sym c.same_shown.ensures ∙ c.if-same_shown.true)
 
-pub returns-in-Some-2 : goal.returns-in-Some-2
-returns-in-Some-2 c =
-    c.unless_unsure.ensures ∙ other-due c.args.now.now c.args.self.now.base c.in-Some.base.now c.requires.served.base
-    (sym (ap option_copied c.in-Some.is) ∙ c.sure_base.ensures) (sym c.same_shown.ensures ∙ c.if-same_shown.false)
+pub is_unsure_since-requires-clause-base_state : goal.is_unsure_since-requires-clause-base_state
+is_unsure_since-requires-clause-base_state c =
+    (base-sure c.args.now.now c.args.self.now.base c.in-Some.base.now c.requires.served.base
+    (sym (ap option_copied c.in-Some.is) ∙ c.sure_base.ensures)).0.unscrolled.state
 
-pub returns-in-None : goal.returns-in-None
-returns-in-None c =
-    c.unless_unsure-in-None.ensures ∙ redraw-due c.args.now.now c.args.self.now.base c.requires.served.base
-    (sym (ap option_copied c.in-None.is) ∙ c.sure_base.ensures)
+pub is_unsure_since-requires-clause-size : goal.is_unsure_since-requires-clause-size
+is_unsure_since-requires-clause-size c =
+    (base-sure c.args.now.now c.args.self.now.base c.in-Some.base.now c.requires.served.base
+    (sym (ap option_copied c.in-Some.is) ∙ c.sure_base.ensures)).0.size
+
+pub is_unsure_since-requires-clause-sure : goal.is_unsure_since-requires-clause-sure
+is_unsure_since-requires-clause-sure c =
+    (base-sure c.args.now.now c.args.self.now.base c.in-Some.base.now c.requires.served.base
+    (sym (ap option_copied c.in-Some.is) ∙ c.sure_base.ensures)).1
+
+pub returns : goal.returns
+returns c =
+    c.unless-2.ensures ∙ ap (λ u. if u then Unsure else Difference) c.is_unsure_since.ensures
+    ∙ other-due c.args.now.now c.args.self.now.base c.in-Some.base.now c.requires.served.base
+    (sym (ap option_copied c.in-Some.is) ∙ c.sure_base.ensures) (sym c.same_shown.ensures ∙ c.if-same_shown.false)
