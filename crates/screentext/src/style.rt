@@ -51,24 +51,26 @@ impl Style {
 /// Appends the SGR sequence that leads from any attributes to these.
 pub(crate) fn push_sgr(out: &mut String, style: Style) -> Result<(), AllocError> {
     out.push_str("\x1b[0")?;
-    let flags = [
-        (style.bold, 1),
-        (style.dim, 2),
-        (style.italic, 3),
-        (style.underline, 4),
-        (style.inverse, 7),
-    ];
-    for (on, code) in flags {
-        if on {
-            write!(out, ";{code}")?;
-        }
-    }
+    push_flag(out, style.bold, ";1")?;
+    push_flag(out, style.dim, ";2")?;
+    push_flag(out, style.italic, ";3")?;
+    push_flag(out, style.underline, ";4")?;
+    push_flag(out, style.inverse, ";7")?;
+    push_colors(out, style.fgcolor, style.bgcolor)
+}
+
+// A parameter of SGR, where it is wanted.
+fn push_flag(out: &mut String, on: bool, parameter: &str) -> Result<(), AllocError> {
+    if on { out.push_str(parameter) } else { Ok(()) }
+}
+
+fn push_colors(out: &mut String, fgcolor: Color, bgcolor: Color) -> Result<(), AllocError> {
     let fgcolor = Shade {
-        color: style.fgcolor,
+        color: fgcolor,
         base: 30,
     };
     let bgcolor = Shade {
-        color: style.bgcolor,
+        color: bgcolor,
         base: 40,
     };
     write!(out, "{fgcolor}{bgcolor}m")
