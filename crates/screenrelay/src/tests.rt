@@ -1,7 +1,7 @@
 //! Whole commands, byte for byte, and faults of readers and writers in mid-stream.
 
 use crate::command::command;
-use relay_streams::{RelayError, far_view, view_of, write_view};
+use relay_streams::{RelayError, UntilCleared, View, far_view, view_of, write_view};
 use scripted_io::{Few, Narrow, Script, Step};
 use std::io::ErrorKind;
 use std::num::NonZeroU16;
@@ -90,12 +90,13 @@ fn commands(rt: HostRuntime) -> Result<(), Fail> {
         let mut told = Vec::new(rt.alloc());
         let mut left = input;
         let answer = command(rt.alloc(), words, &mut left, &mut written, &mut told);
-        assert_eq!(rt; answer, status, "{words:?}");
-        assert_eq!(rt; written.as_slice(), output, "{words:?}");
-        assert_eq!(rt; told.as_slice(), errors, "{words:?}");
-        if status == 2 {
-            assert_eq!(rt; left, input, "{words:?}");
-        }
+        // Words that aren't understood leave the input as it is.
+        let rest = if status == 2 { input } else { left };
+        assert_eq!(rt;
+            (answer, written.as_slice(), told.as_slice(), left),
+            (status, output, errors, rest),
+            "{words:?}"
+        );
     }
     Ok(())
 }
@@ -167,10 +168,10 @@ fn readers(rt: HostRuntime) -> Result<(), Fail> {
             &mut written,
             &mut told,
         );
-        assert_eq!(rt; answer, status);
-        assert_eq!(rt; written.as_slice(), output);
-        assert_eq!(rt; told.as_slice(), errors);
-        assert_eq!(rt; input.reads, reads);
+        assert_eq!(rt;
+            (answer, written.as_slice(), told.as_slice(), input.reads),
+            (status, output, errors, reads)
+        );
     }
     Ok(())
 }
@@ -188,9 +189,7 @@ fn errors(rt: HostRuntime) -> Result<(), Fail> {
             &mut written,
             &mut told,
         );
-        assert_eq!(rt; answer, 2);
-        assert_eq!(rt; told.kept.as_slice(), kept);
-        assert_eq!(rt; told.flushed, 0);
+        assert_eq!(rt; (answer, told.kept.as_slice(), told.flushed), (2, kept, 0));
     }
     Ok(())
 }
@@ -207,14 +206,13 @@ fn examples(rt: HostRuntime) -> Result<(), Fail> {
         let mut shown = Vec::new(rt.alloc());
         let mut told = Vec::new(rt.alloc());
         let mut left = session;
-        let status = command(
+        let relayed = command(
             rt.alloc(),
             &["relay", height, width],
             &mut left,
             &mut stream,
             &mut told,
         );
-        assert_eq!(rt; status, 0);
         let mut left = stream.as_slice();
         let status = command(
             rt.alloc(),
@@ -223,8 +221,7 @@ fn examples(rt: HostRuntime) -> Result<(), Fail> {
             &mut shown,
             &mut told,
         );
-        assert_eq!(rt; status, 0);
-        assert_eq!(rt; shown.as_slice(), screen);
+        assert_eq!(rt; (relayed, status, shown.as_slice()), (0, 0, screen));
     }
     Ok(())
 }
@@ -250,8 +247,10 @@ fn frames(rt: HostRuntime) -> Result<(), Fail> {
         let mut told = Vec::new(rt.alloc());
         let words: [&str; 3] = ["relay", "24", "80"];
         let status = command(rt.alloc(), &words, &mut left, &mut written, &mut told);
-        assert_eq!(rt; status, 0);
-        assert_eq!(rt; written.as_slice(), &frames[..wanted.min(frames.len())]);
+        assert_eq!(rt;
+            (status, written.as_slice()),
+            (0, &frames[..wanted.min(frames.len())])
+        );
     }
     Ok(())
 }
@@ -272,8 +271,7 @@ fn pieces(rt: HostRuntime) -> Result<(), Fail> {
     let mut written = Vec::new(rt.alloc());
     let mut told = Vec::new(rt.alloc());
     let answer = command(rt.alloc(), &words, &mut input, &mut written, &mut told);
-    assert_eq!(rt; answer, 0);
-    assert_eq!(rt; written.as_slice(), b"\n".as_slice());
+    assert_eq!(rt; (answer, written.as_slice()), (0, b"\n".as_slice()));
     Ok(())
 }
 
@@ -310,6 +308,33 @@ fn first_key(rt: &HostRuntime, rows: NonZeroU16, cols: NonZeroU16) -> Result<Cli
 
 fn side(n: u16) -> NonZeroU16 {
     NonZeroU16::new(n).unwrap_or(NonZeroU16::MIN)
+}
+
+/// What a far view shows of all that was pumped to the first client.
+fn seen(
+    rt: &HostRuntime,
+    rows: NonZeroU16,
+    cols: NonZeroU16,
+    calls: &[Call<'_>],
+) -> Result<View<UntilCleared>, Fail> {
+    let found = far_view(rt.alloc(), rows, cols, calls, 0, usize::MAX, &[])?;
+    Ok(found.ok_or("no view")?)
+}
+
+fn text_of(rt: &HostRuntime, view: &View<UntilCleared>) -> Result<Vec<u8>, Fail> {
+    let mut shown = Vec::new(rt.alloc());
+    write_view(view, &mut shown)?;
+    Ok(shown)
+}
+
+/// The text and the colour of a cell, and the cursor.
+fn cell_of(
+    view: &View<UntilCleared>,
+    row: u16,
+    col: u16,
+) -> Result<(&str, Color, (u16, u16)), Fail> {
+    let cell = view.cell(row, col).ok_or("no cell")?;
+    Ok((cell.contents(), cell.fgcolor(), view.cursor_position()))
 }
 
 // What a far view shows after two frames: the rows' text, the cursor, and whether the first row goes on in the second.
@@ -366,13 +391,16 @@ fn far_views(rt: HostRuntime) -> Result<(), Fail> {
             Call::Frame(key),
             Call::Pump(key, &[]),
         ];
-        let found = far_view(rt.alloc(), height, width, &calls, 0, usize::MAX, &[])?;
-        let view = found.ok_or("no view")?;
-        let mut shown = Vec::new(rt.alloc());
-        write_view(&view, &mut shown)?;
-        assert_eq!(rt; shown.as_slice(), text);
-        assert_eq!(rt; view.cursor_position(), cursor);
-        assert_eq!(rt; view.row_wrapped(0), wraps);
+        let view = seen(&rt, height, width, &calls)?;
+        let shown = text_of(&rt, &view)?;
+        assert_eq!(rt;
+            (
+                shown.as_slice(),
+                view.cursor_position(),
+                view.row_wrapped(0)
+            ),
+            (text, cursor, wraps)
+        );
     }
     Ok(())
 }
@@ -396,31 +424,30 @@ fn far_cuts(rt: HostRuntime) -> Result<(), Fail> {
         let take = if cut == 103 { 103 } else { 102 };
         let found = far_view(rt.alloc(), height, width, &calls, 0, take, &[cut])?;
         let view = found.ok_or("no view")?;
-        let cell = view.cell(0, 13).ok_or("no cell")?;
-        if take == 103 {
-            assert_eq!(rt; (cell.contents(), cell.fgcolor()), ("G", Color::Idx(2)));
-            assert_eq!(rt; view.cursor_position(), (0, 18));
+        let wanted = if take == 103 {
+            ("G", Color::Idx(2), (0, 18))
         } else {
-            assert_eq!(rt;
-                (cell.contents(), cell.fgcolor()),
-                ("R", Color::Idx(1)),
-                "{cut}"
-            );
-            assert_eq!(rt; view.cursor_position(), (0, 16));
-        }
+            ("R", Color::Idx(1), (0, 16))
+        };
+        assert_eq!(rt; cell_of(&view, 0, 13)?, wanted, "{cut}");
     }
-    let blank = far_view(rt.alloc(), height, width, &calls, 0, 0, &[])?;
+    Ok(())
+}
+
+// With no bytes a far view is blank, and there is none of a client that wasn't attached.
+#[test]
+fn far_views_of_nothing(rt: HostRuntime) -> Result<(), Fail> {
+    let blank = far_view(rt.alloc(), side(2), side(4), &[Call::Attach], 0, 0, &[])?;
     assert_eq!(rt; blank.ok_or("no view")?.cursor_position(), (0, 0));
-    let none = far_view(rt.alloc(), height, width, &calls, 1, 0, &[])?;
+    let none = far_view(rt.alloc(), side(2), side(4), &[Call::Attach], 1, 0, &[])?;
     assert!(rt; none.is_none());
     Ok(())
 }
 
-// A client that was attached after a resize, and modes, colours and a style.
+// A client that was attached after a resize.
 #[test]
-fn far_screens(rt: HostRuntime) -> Result<(), Fail> {
-    let (height, width) = (side(2), side(4));
-    let key = first_key(&rt, height, width)?;
+fn far_sizes(rt: HostRuntime) -> Result<(), Fail> {
+    let key = first_key(&rt, side(2), side(4))?;
     let calls: [Call<'_>; 5] = [
         Call::Feed(b"a\r\nb\r\nc"),
         Call::Resize(side(4), side(4)),
@@ -428,26 +455,40 @@ fn far_screens(rt: HostRuntime) -> Result<(), Fail> {
         Call::Frame(key),
         Call::Pump(key, &[]),
     ];
-    let found = far_view(rt.alloc(), height, width, &calls, 0, usize::MAX, &[])?;
-    let view = found.ok_or("no view")?;
-    let mut shown = Vec::new(rt.alloc());
-    write_view(&view, &mut shown)?;
-    assert_eq!(rt; shown.as_slice(), b"\nb\nc\n\n".as_slice());
-    assert_eq!(rt; view.cursor_position(), (2, 1));
+    let view = seen(&rt, side(2), side(4), &calls)?;
+    let shown = text_of(&rt, &view)?;
+    assert_eq!(rt;
+        (shown.as_slice(), view.cursor_position()),
+        (b"\nb\nc\n\n".as_slice(), (2, 1))
+    );
+    Ok(())
+}
+
+// Modes, colours and a style.
+#[test]
+fn far_modes(rt: HostRuntime) -> Result<(), Fail> {
+    let key = first_key(&rt, side(1), side(3))?;
     let calls: [Call<'_>; 4] = [
         Call::Attach,
         Call::Feed(b"\x1b[?1000h\x1b[?1006h\x1b[4 q\x1b=\x1b[?1h\x1b[91mA"),
         Call::Frame(key),
         Call::Pump(key, &[]),
     ];
-    let found = far_view(rt.alloc(), side(1), side(3), &calls, 0, usize::MAX, &[])?;
-    let view = found.ok_or("no view")?;
-    let cell = view.cell(0, 0).ok_or("no cell")?;
-    assert_eq!(rt; (cell.contents(), cell.fgcolor()), ("A", Color::Idx(9)));
-    assert_eq!(rt; view.mouse_protocol_mode(), MouseProtocolMode::PressRelease);
-    assert_eq!(rt; view.mouse_protocol_encoding(), MouseProtocolEncoding::Sgr);
-    assert_eq!(rt; view.cursor_style(), CursorStyle::SteadyUnderline);
-    assert!(rt; view.application_keypad() && view.application_cursor());
+    let view = seen(&rt, side(1), side(3), &calls)?;
+    assert_eq!(rt; cell_of(&view, 0, 0)?, ("A", Color::Idx(9), (0, 1)));
+    let modes = (
+        view.mouse_protocol_mode(),
+        view.mouse_protocol_encoding(),
+        view.cursor_style(),
+        view.application_keypad() && view.application_cursor(),
+    );
+    let wanted = (
+        MouseProtocolMode::PressRelease,
+        MouseProtocolEncoding::Sgr,
+        CursorStyle::SteadyUnderline,
+        true,
+    );
+    assert_eq!(rt; modes, wanted);
     Ok(())
 }
 
@@ -473,15 +514,15 @@ fn writers(rt: HostRuntime) -> Result<(), Fail> {
             &mut written,
             &mut told,
         );
-        assert_eq!(rt; answer, status);
-        assert_eq!(rt; written.kept.len(), taken);
-        assert_eq!(rt; written.flushed, flushed);
         let line: &[u8] = if status == 0 {
             b""
         } else {
             b"screenrelay: write\n"
         };
-        assert_eq!(rt; told.as_slice(), line);
+        assert_eq!(rt;
+            (answer, written.kept.len(), written.flushed, told.as_slice()),
+            (status, taken, flushed, line)
+        );
     }
     Ok(())
 }
