@@ -1,5 +1,7 @@
 //! Scripts of calls on a parser and its screen.
 
+ghost use Rattle.std.specs.Prelude.{◌<◌, IfOk};
+
 use crate::dump::{push_hex, push_screen};
 use crate::error::DumpError;
 use crate::stream::{flush, read_all, write_text};
@@ -133,17 +135,21 @@ fn unhex(alloc: Global, digits: &str) -> Result<Vec<u8>, DumpError> {
         let [high, low] = pair else {
             return Err(DumpError::Script);
         };
-        bytes.push(digit(*high)? << 4 | digit(*low)?)?;
+        bytes.push(digit(*high)? * 16 + digit(*low)?)?;
     }
     Ok(bytes)
 }
 
 // The value of an ASCII hexadecimal digit.
-fn digit(byte: u8) -> Result<u8, DumpError> {
-    let Some(value) = char::from(byte).to_digit(16) else {
-        return Err(DumpError::Script);
-    };
-    u8::try_from(value).map_err(|_| DumpError::Script)
+fn digit(byte: u8) -> Result<u8, DumpError>
+    ensures { IfOk result (λ d. d < 16) }
+{
+    match byte {
+        b'0'..=b'9' => Ok(byte - b'0'),
+        b'a'..=b'f' => Ok(byte - b'a' + 10),
+        b'A'..=b'F' => Ok(byte - b'A' + 10),
+        _ => Err(DumpError::Script),
+    }
 }
 
 /// Replays a script, a line each, and writes what its lines answer. It begins with a fresh parser of 24 rows and 80

@@ -3,7 +3,7 @@ ghost use Rattle.std.specs.Iterator.{IsFinite};
 
 use crate::dump::{push_hex, push_screen};
 use crate::error::DumpError;
-use std::alloc::{AllocError, Global};
+use std::alloc::Global;
 use vt100::{Parser, Screen, ScreenError};
 
 /// Appends what the screen writes of itself, in hexadecimal digits:
@@ -125,14 +125,11 @@ fn push_each<I: Iterator<Item = Result<String, ScreenError>> + Drop>(
     Ok(())
 }
 
-fn push_text(out: &mut String, name: &str, text: String) -> Result<(), AllocError> {
-    push_line(out, name, &text)
-}
-
-fn push_line(out: &mut String, name: &str, text: &str) -> Result<(), AllocError> {
+fn push_text(out: &mut String, name: &str, text: String) -> Result<(), DumpError> {
     write!(out, "{name} ")?;
     push_hex(out, text.as_bytes())?;
-    out.push('\n')
+    out.push('\n')?;
+    Ok(())
 }
 
 /// Appends whether a fresh terminal that reads the screen's redraw, and one that reads the redraw of `base` and then
