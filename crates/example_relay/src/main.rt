@@ -11,44 +11,57 @@ fn count(number: u16) -> NonZeroU16 {
     NonZeroU16::new(number).unwrap_or(NonZeroU16::MIN)
 }
 
-/// Asks for the frame that is due, and brings it to the view, five bytes at a time; what comes after so many pieces gets
-/// lost.
-fn carry(
+/// The hub reads what the program writes, and the frame that is due then.
+fn framed(
     alloc: Global,
     hub: &mut Hub,
     client: Client,
-    view: &mut View<UntilCleared>,
-    pieces: usize,
-) -> Result<(), HubError> {
+    output: &[u8],
+) -> Result<Vec<u8>, HubError> {
+    hub.feed(output)?;
     hub.frame(client)?;
     // Any `Write` will do: a socket, a pipe, a file.
     let mut wire = Vec::new(alloc);
     hub.pump(client, &mut wire)?;
+    Ok(wire)
+}
+
+/// Brings bytes to the view, five at a time; what comes after so many pieces gets lost.
+fn carry(wire: &[u8], view: &mut View<UntilCleared>, pieces: usize) {
     for piece in wire.chunks(5).take(pieces) {
         view.advance(piece);
     }
-    Ok(())
 }
 
 /// Two frames. The line ends in the middle of the second one, so that the view shows the first, which came whole.
-fn relay(alloc: Global, view: &mut View<UntilCleared>) -> Result<(), HubError> {
-    let (rows, cols) = view.size();
-    let mut hub = Hub::new(alloc, rows, cols)?;
+fn relay(alloc: Global, hub: &mut Hub, view: &mut View<UntilCleared>) -> Result<(), HubError> {
     let client = hub.attach()?;
-    hub.feed(b"[####      ]  40%")?;
-    carry(alloc, &mut hub, client, view, usize::MAX)?;
-    hub.feed(b"\r[########  ]  80%")?;
-    carry(alloc, &mut hub, client, view, 3)
+    carry(
+        &framed(alloc, hub, client, b"[####      ]  40%")?,
+        view,
+        usize::MAX,
+    );
+    carry(
+        &framed(alloc, hub, client, b"\r[########  ]  80%")?,
+        view,
+        3,
+    );
+    Ok(())
 }
 
 fn new_view(alloc: Global) -> Result<View<UntilCleared>, ViewError> {
     View::new(alloc, count(1), count(20), UntilCleared::new())
 }
 
-fn main(rt: HostRuntime) -> anyhow::Result<()> {
-    let mut view = new_view(rt.alloc())?;
-    relay(rt.alloc(), &mut view)?;
+fn tell(rt: &HostRuntime, view: &View<UntilCleared>) -> anyhow::Result<()> {
     view.row_text(0, &mut rt.stdout())?;
     println!(rt; "")?;
     Ok(())
+}
+
+fn main(rt: HostRuntime) -> anyhow::Result<()> {
+    let mut view = new_view(rt.alloc())?;
+    let mut hub = Hub::new(rt.alloc(), count(1), count(20))?;
+    relay(rt.alloc(), &mut hub, &mut view)?;
+    tell(&rt, &view)
 }

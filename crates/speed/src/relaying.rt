@@ -15,15 +15,20 @@ impl<'a> Job<'a> {
     pub(crate) fn hub(&self) -> Option<usize> {
         let mut hub = Hub::new(self.alloc, self.rows, self.cols).ok()?;
         let client = hub.attach().ok()?;
-        let mut count: usize = 0;
-        for _ in 0..self.times {
-            for piece in self.stream.chunks(PIECE_LEN) {
-                hub.feed(piece).ok()?;
-                count = count.wrapping_add(send(self.alloc, &mut hub, client)?);
-            }
-        }
-        Some(count)
+        send_stream(self, &mut hub, client)
     }
+}
+
+/// Feeds the stream in pieces, and sends a frame behind each.
+fn send_stream(job: &Job<'_>, hub: &mut Hub, client: Client) -> Option<usize> {
+    let mut count: usize = 0;
+    for _ in 0..job.times {
+        for piece in job.stream.chunks(PIECE_LEN) {
+            hub.feed(piece).ok()?;
+            count = count.wrapping_add(send(job.alloc, hub, client)?);
+        }
+    }
+    Some(count)
 }
 
 fn relay(job: &Job<'_>, hub: &mut Hub, work: Work) -> Option<usize> {
