@@ -1,19 +1,9 @@
 //! Prints what a stream of bytes makes of a terminal's screen, and replays scripts of calls on one.
 #![tactic(auto)]
 
-mod command;
-mod dump;
-mod error;
-mod script;
-mod stream;
-#[cfg(test)]
-mod tests;
-mod texts;
-mod words;
-
-use command::{command, report_fault};
 use command_line::{lend, words_of};
-use error::DumpError;
+use screen_dump::DumpError;
+use screendump_command::{command, report_fault};
 use std::process::ExitCode;
 use std::{env, io};
 

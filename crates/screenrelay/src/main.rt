@@ -1,14 +1,9 @@
 //! Relays the output of a terminal program as frames of its screen, and shows a relayed stream as text.
 #![tactic(auto)]
 
-mod command;
-#[cfg(test)]
-mod tests;
-mod words;
-
-use command::{command, report_fault};
 use command_line::{lend, words_of};
 use relay_streams::RelayError;
+use screenrelay_command::{command, report_fault};
 use std::process::ExitCode;
 use std::{env, io};
 

@@ -3,28 +3,8 @@
 //! The stream comes on standard input, as raw bytes or as a recording in asciicast v2.
 #![tactic(auto)]
 
-mod answer;
-mod cast;
-mod changes;
-mod command;
-mod error;
-mod known;
-mod moment;
-mod page;
-mod palette;
-mod picture;
-mod runs;
-mod streams;
-mod style;
-mod tag;
-#[cfg(test)]
-mod tests;
-mod text;
-mod words;
-
-use command::{command, report_fault};
 use command_line::{lend, words_of};
-use error::TextError;
+use screentext_command::{TextError, command, report_fault};
 use std::process::ExitCode;
 use std::{env, io};
 

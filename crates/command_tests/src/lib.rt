@@ -1,0 +1,12 @@
+//! Tests of the programs' command lines: whole commands, byte for byte, faults of readers and writers in mid-stream, and
+//! refusals of memory.
+#![tactic(auto)]
+
+#[cfg(test)]
+mod same;
+#[cfg(test)]
+mod screendump;
+#[cfg(test)]
+mod screenrelay;
+#[cfg(test)]
+mod screentext;

@@ -1,0 +1,307 @@
+//! Whole commands, byte for byte, and faults of readers and writers in mid-stream.
+
+use screenrelay_command::command;
+use scripted_io::{Few, Narrow, Script, Step};
+use std::io::ErrorKind;
+use std::test::Fail;
+
+const BLANK: &[u8] = b"\x1b[?2026h\x1b[?25h\x1b[m\x1b[H\x1b[J\x1b>\x1b[?1l\x1b[?2004l\x1b[?2026l";
+
+const HI: &[u8] = b"\x1b[?2026h\x1b[?25h\x1b[m\x1b[H\x1b[Jhi\x1b>\x1b[?1l\x1b[?2004l\x1b[?2026l";
+
+const BEGUN: &[u8] = b"\x1b[?2026h\x1b[?25h\x1b[m\x1b[H\x1b[Jhi\x1b>\x1b[?1l\x1b[?2004l\x1b[?2026";
+
+const START: &[u8] = b"\x1b[?2026h";
+
+/// The bytes of `examples/editor.session`, and of `examples/editor.screen`.
+const EDITOR: &[u8] =
+    b"$ edit notes.txt\r\n\x1b[?1049h\x1b[?1h\x1b=\x1b[?25l\x1b[2J\x1b[1;1H\x1b[7m notes.txt\
+    \x1b[1;35H 1:1  \x1b[m\x1b[2;1H\x1b[1;33m# Shopping\x1b[m\x1b[3;1H\x1b[32m-\x1b[m bread\x1b[4;1H\x1b[32m-\x1b[m\
+    \x20milk\x1b[5;1H\x1b[94m~\r\n~\r\n~\x1b[m\x1b[8;1H\x1b[1m-- INSERT --\x1b[m\x1b[4;7H\x1b[?25h, th\xc3\xa9\
+    \x1b[D\x1b[P\xc3\xa9 and \xe7\xb1\xb3\x1b[1;35H\x1b[7m 3:15\x1b[m\x1b[4;17H";
+
+const EDITOR_SCREEN: &[u8] = b" notes.txt                         3:15 \n# Shopping\n- bread\n\
+    - milk, th\xc3\xa9 and \xe7\xb1\xb3\n~\n~\n~\n-- INSERT --\n";
+
+/// Those of `examples/build.session`, and of `examples/build.screen`.
+const BUILD: &[u8] =
+    b"\x1b[H\x1b[Jmake: entering directory\r\ncompiling parser\r\ncompiling screen\r\n\
+    [          ]   0%\r[#####     ]  50%\r[##########] 100%\r\n\r\nlinked 2 objects\x1b[1;7Hleft    \
+    \x1b[9;1Hdone\x1b[3C[exit 0]";
+
+const BUILD_SCREEN: &[u8] =
+    b"make: left     directory\ncompiling parser\ncompiling screen\n[##########] 100%\n\n\
+    linked 2 objects\n\n\ndone   [exit 0]\n\n\n\n";
+
+const USAGE: &[u8] = b"usage: screenrelay relay|show ROWS COLS\n";
+
+#[test]
+fn commands(rt: HostRuntime) -> Result<(), Fail> {
+    let rows: [(&[&str], &[u8], u8, &[u8], &[u8]); 18] = [
+        (&["relay", "2", "4"], b"hi", 0, HI, b""),
+        (&["relay", "2", "4"], b"\x1b[?2026hhi", 0, b"", b""),
+        (
+            &["relay", "2", "4"],
+            b"\x1b[?2026hhi\x1b[?2026l",
+            0,
+            HI,
+            b"",
+        ),
+        (&["show", "2", "4"], HI, 0, b"hi\n\n", b""),
+        (&["show", "2", "4"], BEGUN, 0, b"\n\n", b""),
+        (&["relay", "2", "4"], b"", 0, BLANK, b""),
+        (&["relay", "1", "1"], b"", 0, BLANK, b""),
+        (&["relay", "24", "80"], b"", 0, BLANK, b""),
+        (&["show", "2", "4"], b"abcdxyz", 0, b"abcd\nxyz\n", b""),
+        (
+            &["show", "2", "4"],
+            b"abcd\r\nxyz\r\nk",
+            0,
+            b"xyz\nk\n",
+            b"",
+        ),
+        (
+            &["show", "2", "4"],
+            b"abcd\x1b[1;3H\x1b[J\x1b[2CZ",
+            0,
+            b"ab Z\n\n",
+            b"",
+        ),
+        (
+            &["relay", "2", "4"],
+            b"abcdxyz",
+            0,
+            b"\x1b[?2026h\x1b[?25h\x1b[m\x1b[H\x1b[Jabcdxyz\x1b>\x1b[?1l\x1b[?2004l\x1b[?2026l",
+            b"",
+        ),
+        (&["relay", "0", "80"], b"hi", 2, b"", USAGE),
+        (&["relay", "65536", "4"], b"hi", 2, b"", USAGE),
+        (&["relay", "000002", "4"], b"hi", 2, b"", USAGE),
+        (&["relay", "+2", "4"], b"hi", 2, b"", USAGE),
+        (&["relay", "2"], b"hi", 2, b"", USAGE),
+        (&[], b"hi", 2, b"", USAGE),
+    ];
+    for (words, input, status, output, errors) in rows {
+        let mut written = Vec::new(rt.alloc());
+        let mut told = Vec::new(rt.alloc());
+        let mut left = input;
+        let answer = command(rt.alloc(), words, &mut left, &mut written, &mut told);
+        // Words that aren't understood leave the input as it is.
+        let rest = if status == 2 { input } else { left };
+        assert_eq!(rt;
+            (answer, written.as_slice(), told.as_slice(), left),
+            (status, output, errors, rest),
+            "{words:?}"
+        );
+    }
+    Ok(())
+}
+
+#[test]
+fn readers(rt: HostRuntime) -> Result<(), Fail> {
+    let rows: [(&str, &'static [Step], u8, &[u8], &[u8], u64); 5] = [
+        (
+            "relay",
+            &[
+                Step::Give(b"hi"),
+                Step::Fail(ErrorKind::BrokenPipe),
+                Step::Give(b"x"),
+            ],
+            1,
+            b"",
+            b"screenrelay: read\n",
+            2,
+        ),
+        (
+            "relay",
+            &[Step::Fail(ErrorKind::Interrupted), Step::Give(b"hi")],
+            0,
+            HI,
+            b"",
+            3,
+        ),
+        (
+            "relay",
+            &[
+                Step::Give(b"h"),
+                Step::Fail(ErrorKind::Interrupted),
+                Step::Give(b"i"),
+            ],
+            0,
+            HI,
+            b"",
+            4,
+        ),
+        (
+            "show",
+            &[
+                Step::Give(b"h"),
+                Step::Fail(ErrorKind::Interrupted),
+                Step::Give(b"i"),
+            ],
+            0,
+            b"hi\n\n",
+            b"",
+            4,
+        ),
+        (
+            "show",
+            &[Step::Give(b"hi"), Step::Fail(ErrorKind::BrokenPipe)],
+            1,
+            b"",
+            b"screenrelay: read\n",
+            2,
+        ),
+    ];
+    for (job, steps, status, output, errors, reads) in rows {
+        let mut written = Vec::new(rt.alloc());
+        let mut told = Vec::new(rt.alloc());
+        let mut input = Script::new(steps);
+        let answer = command(
+            rt.alloc(),
+            &[job, "2", "4"],
+            &mut input,
+            &mut written,
+            &mut told,
+        );
+        assert_eq!(rt;
+            (answer, written.as_slice(), told.as_slice(), input.reads),
+            (status, output, errors, reads)
+        );
+    }
+    Ok(())
+}
+
+// A line on the error output, one byte a write, up to a write that fails. It is not flushed.
+#[test]
+fn errors(rt: HostRuntime) -> Result<(), Fail> {
+    for (room, kept) in [(100, USAGE), (10, &USAGE[..10])] {
+        let mut told = Narrow::new(rt.alloc(), room);
+        let mut written = Vec::new(rt.alloc());
+        let answer = command(
+            rt.alloc(),
+            &[],
+            &mut b"".as_slice(),
+            &mut written,
+            &mut told,
+        );
+        assert_eq!(rt; (answer, told.kept.as_slice(), told.flushed), (2, kept, 0));
+    }
+    Ok(())
+}
+
+// What `show` prints of what `relay` wrote of a session.
+#[test]
+fn examples(rt: HostRuntime) -> Result<(), Fail> {
+    let rows: [(&str, &str, &[u8], &[u8]); 2] = [
+        ("8", "40", EDITOR, EDITOR_SCREEN),
+        ("12", "40", BUILD, BUILD_SCREEN),
+    ];
+    for (height, width, session, screen) in rows {
+        let mut stream = Vec::new(rt.alloc());
+        let mut shown = Vec::new(rt.alloc());
+        let mut told = Vec::new(rt.alloc());
+        let mut left = session;
+        let relayed = command(
+            rt.alloc(),
+            &["relay", height, width],
+            &mut left,
+            &mut stream,
+            &mut told,
+        );
+        let mut left = stream.as_slice();
+        let status = command(
+            rt.alloc(),
+            &["show", height, width],
+            &mut left,
+            &mut shown,
+            &mut told,
+        );
+        assert_eq!(rt; (relayed, status, shown.as_slice()), (0, 0, screen));
+    }
+    Ok(())
+}
+
+// A frame comes after each full piece, and one at the end where more has come since.
+#[test]
+fn frames(rt: HostRuntime) -> Result<(), Fail> {
+    let mut input = Vec::new(rt.alloc());
+    for _ in 0..4097 {
+        input.push(b'a')?;
+    }
+    let mut frames = Vec::new(rt.alloc());
+    frames.extend_from_slice(b"\x1b[?2026h\x1b[?25h\x1b[m\x1b[H\x1b[J")?;
+    for _ in 0..1856 {
+        frames.push(b'a')?;
+    }
+    frames.extend_from_slice(b"\x1b>\x1b[?1l\x1b[?2004l\x1b[?2026l")?;
+    let first = frames.len();
+    frames.extend_from_slice(b"\x1b[?2026ha\x1b[?2026l")?;
+    for (given, wanted) in [(4096, first), (4097, frames.len())] {
+        let mut left = &input[..given.min(input.len())];
+        let mut written = Vec::new(rt.alloc());
+        let mut told = Vec::new(rt.alloc());
+        let words: [&str; 3] = ["relay", "24", "80"];
+        let status = command(rt.alloc(), &words, &mut left, &mut written, &mut told);
+        assert_eq!(rt;
+            (status, written.as_slice()),
+            (0, &frames[..wanted.min(frames.len())])
+        );
+    }
+    Ok(())
+}
+
+// A held update that is emptied in the last piece, for want of room: the second start mark ends in that piece, and
+// opens an update there. Cut as the reader gives it, the mark would be held, and the last byte shown.
+#[test]
+fn pieces(rt: HostRuntime) -> Result<(), Fail> {
+    let mut stream = Vec::new(rt.alloc());
+    stream.extend_from_slice(START)?;
+    for _ in 0..2_097_142 {
+        stream.push(0)?;
+    }
+    stream.extend_from_slice(START)?;
+    stream.push(b'b')?;
+    let words: [&str; 3] = ["show", "1", "1"];
+    let mut input = Few::new(&stream, 14);
+    let mut written = Vec::new(rt.alloc());
+    let mut told = Vec::new(rt.alloc());
+    let answer = command(rt.alloc(), &words, &mut input, &mut written, &mut told);
+    assert_eq!(rt; (answer, written.as_slice()), (0, b"\n".as_slice()));
+    Ok(())
+}
+
+#[test]
+fn writers(rt: HostRuntime) -> Result<(), Fail> {
+    let rows: [(&str, &[u8], usize, bool, u8, usize, u64); 6] = [
+        ("relay", b"hi", 100, true, 0, 48, 1),
+        ("relay", b"hi", 10, true, 1, 10, 0),
+        ("relay", b"hi", 100, false, 1, 48, 1),
+        ("show", HI, 1, true, 1, 1, 0),
+        ("show", HI, 100, true, 0, 4, 1),
+        ("show", HI, 100, false, 1, 4, 1),
+    ];
+    for (job, input, room, flushes, status, taken, flushed) in rows {
+        let mut written = Narrow::new(rt.alloc(), room);
+        written.flushes = flushes;
+        let mut told = Vec::new(rt.alloc());
+        let mut left = input;
+        let answer = command(
+            rt.alloc(),
+            &[job, "2", "4"],
+            &mut left,
+            &mut written,
+            &mut told,
+        );
+        let line: &[u8] = if status == 0 {
+            b""
+        } else {
+            b"screenrelay: write\n"
+        };
+        assert_eq!(rt;
+            (answer, written.kept.len(), written.flushed, told.as_slice()),
+            (status, taken, flushed, line)
+        );
+    }
+    Ok(())
+}

@@ -1,0 +1,232 @@
+//! Whole commands, byte for byte, and faults of readers and writers in mid-stream.
+
+mod refusals;
+
+use crate::same::same;
+use screentext_command::command;
+use scripted_io::{Few, Narrow, Script, Step};
+use std::io::ErrorKind;
+use std::process::Abort;
+use std::test::Fail;
+
+const USAGE: &[u8] =
+    b"usage: screentext [ROWS COLS] [--at SECONDS] [--diff SECONDS] [--history N] [--joined] \
+[--colours] [--html | --svg]\n";
+
+/// A screen of two rows: `a` from the beginning, `b` from half a second on.
+const CAST: &[u8] = b"{\"version\": 2, \"width\": 4, \"height\": 2}\n\
+[0.0, \"o\", \"a\\r\\n\"]\n\
+[0.5, \"o\", \"b\"]\n";
+
+/// A command's status, and what it writes and tells. Words that aren't understood leave the input as it is.
+fn check(
+    rt: &(impl Abort + AllocGlobal),
+    words: &[&str],
+    input: &[u8],
+    status: u8,
+    output: &[u8],
+    errors: &[u8],
+) {
+    let mut written = Vec::new(rt.alloc());
+    let mut told = Vec::new(rt.alloc());
+    let mut left = input;
+    let answer = command(rt.alloc(), words, &mut left, &mut written, &mut told);
+    same(rt, &words, &answer, &status);
+    same(rt, &words, &written.as_slice(), &output);
+    same(rt, &words, &told.as_slice(), &errors);
+    if status == 2 {
+        same(rt, &words, &left.len(), &input.len());
+    }
+}
+
+// Options with their values in a word of their own, and behind `=`. The last of an option counts.
+#[test]
+fn moments(rt: HostRuntime) {
+    let rows: [(&[&str], &[u8]); 10] = [
+        (&[], b"a\nb\n"),
+        (&["--at", "0.25"], b"a\n\n"),
+        (&["--at=0.25"], b"a\n\n"),
+        (&["--at=5"], b"a\nb\n"),
+        (&["--at=5", "--at=0"], b"a\n\n"),
+        (&["--diff=0.25"], b"-2: \n+2: b\n"),
+        (&["--diff", "1", "--at=2"], b""),
+        (&["1", "3"], b"b\n"),
+        (&["1", "3", "--history=1"], b"a\nb\n"),
+        (&["--history", "9", "1", "3", "--at=0.25"], b"a\n\n"),
+    ];
+    for (words, output) in rows {
+        check(&rt, words, CAST, 0, output, b"");
+    }
+}
+
+#[test]
+fn raw_streams(rt: HostRuntime) {
+    let rows: [(&[&str], &[u8], &[u8]); 5] = [
+        (&["1", "4"], b"hi", b"hi\n"),
+        (&["2", "2", "--joined"], b"abc ", b"abc \n"),
+        (
+            &["1", "2", "--colours"],
+            b"\x1b[31ma",
+            b"\x1b[0;31ma\x1b[0m\n",
+        ),
+        (
+            &["1", "2", "--colors"],
+            b"\x1b[31ma",
+            b"\x1b[0;31ma\x1b[0m\n",
+        ),
+        (&["1", "2"], b"\x1b[31ma", b"a\n"),
+    ];
+    for (words, input, output) in rows {
+        check(&rt, words, input, 0, output, b"");
+    }
+}
+
+#[test]
+fn words_that_are_not_understood(rt: HostRuntime) {
+    let rows: [&[&str]; 16] = [
+        &["1"],
+        &["1", "2", "3"],
+        &["0", "2"],
+        &["1", "65536"],
+        &["000001", "2"],
+        &["1", "+2"],
+        &["--at"],
+        &["--at=x"],
+        &["--at=-1"],
+        &["--at", "\"1\""],
+        &["--diff="],
+        &["--history=0000000001"],
+        &["--history=+1"],
+        &["--joined=1"],
+        &["--html", "--svg"],
+        &["--version=2"],
+    ];
+    for words in rows {
+        check(&rt, words, CAST, 2, b"", USAGE);
+    }
+    check(&rt, &["--bogus"], CAST, 2, b"", USAGE);
+}
+
+#[test]
+fn lines_that_are_no_events(rt: HostRuntime) {
+    let rows: [(&[u8], &[u8]); 6] = [
+        (
+            b"{\"version\": 1, \"width\": 4, \"height\": 2}\n",
+            b"screentext: line 1: not a header of asciicast v2\n",
+        ),
+        (
+            b"{\"version\": 2, \"width\": 4}\n",
+            b"screentext: line 1: not a header of asciicast v2\n",
+        ),
+        (
+            b"{\"version\": 2, \"width\": 4, \"height\": 2}\n\n[0, \"o\"]\n",
+            b"screentext: line 3: not an event of asciicast v2\n",
+        ),
+        (
+            b"{\"version\": 2, \"width\": 4, \"height\": 2}\nhi\n",
+            b"screentext: line 2: not an event of asciicast v2\n",
+        ),
+        (
+            b"{\"version\": 2, \"width\": 4, \"height\": 2}\n[0, \"r\", \"4x0\"]\n",
+            b"screentext: line 2: not an event of asciicast v2\n",
+        ),
+        (
+            b"{\"version\": 2, \"width\": 4, \"height\": 2}\n[-1, \"o\", \"a\"]\n",
+            b"screentext: line 2: not an event of asciicast v2\n",
+        ),
+    ];
+    for (input, errors) in rows {
+        check(&rt, &[], input, 1, b"", errors);
+    }
+}
+
+#[test]
+fn help_and_version(rt: HostRuntime) {
+    check(&rt, &["--version"], b"", 0, b"screentext 0.1\n", b"");
+    check(&rt, &["-V"], b"", 0, b"screentext 0.1\n", b"");
+    for word in ["--help", "-h"] {
+        let mut written = Vec::new(rt.alloc());
+        let mut told = Vec::new(rt.alloc());
+        let mut left = CAST;
+        let answer = command(rt.alloc(), &[word], &mut left, &mut written, &mut told);
+        same(&rt, &word, &(answer, left.len()), &(0, CAST.len()));
+        let begins = written
+            .as_slice()
+            .starts_with(b"Prints what a recorded terminal stream shows");
+        same(&rt, &word, &(begins, told.is_empty()), &(true, true));
+    }
+}
+
+#[test]
+fn readers(rt: HostRuntime) {
+    let rows: [(&'static [Step], u8, &[u8], &[u8]); 4] = [
+        (
+            &[Step::Give(b"h"), Step::Fail(ErrorKind::BrokenPipe)],
+            1,
+            b"",
+            b"screentext: read\n",
+        ),
+        (
+            &[Step::Give(b"h"), Step::Fail(ErrorKind::OutOfMemory)],
+            1,
+            b"",
+            b"screentext: memory\n",
+        ),
+        (
+            &[
+                Step::Give(b"h"),
+                Step::Fail(ErrorKind::Interrupted),
+                Step::Give(b"i"),
+            ],
+            0,
+            b"hi\n",
+            b"",
+        ),
+        (&[], 0, b"\n", b""),
+    ];
+    for (steps, status, output, errors) in rows {
+        let mut written = Vec::new(rt.alloc());
+        let mut told = Vec::new(rt.alloc());
+        let mut input = Script::new(steps);
+        let answer = command(rt.alloc(), &["1", "4"], &mut input, &mut written, &mut told);
+        same(&rt, &input.reads, &answer, &status);
+        same(&rt, &input.reads, &written.as_slice(), &output);
+        same(&rt, &input.reads, &told.as_slice(), &errors);
+    }
+}
+
+// One byte a read and one byte a write.
+#[test]
+fn a_byte_a_time(rt: HostRuntime) {
+    let mut input = Few::new(CAST, 1);
+    let mut output = Narrow::new(rt.alloc(), 100);
+    let mut told = Narrow::new(rt.alloc(), 100);
+    let answer = command(rt.alloc(), &[], &mut input, &mut output, &mut told);
+    same(&rt, &output.flushed, &answer, &0);
+    same(&rt, &answer, &output.kept.as_slice(), &b"a\nb\n".as_slice());
+    same(&rt, &answer, &told.kept.is_empty(), &true);
+}
+
+#[test]
+fn writers(rt: HostRuntime) {
+    let rows: [(usize, bool, &[u8]); 3] = [
+        (0, true, b""),
+        (3, true, b"a\nb"),
+        (9, false, b"a\nb\n"),
+    ];
+    for (room, flushes, kept) in rows {
+        let mut output = Narrow::new(rt.alloc(), room);
+        output.flushes = flushes;
+        let mut told = Vec::new(rt.alloc());
+        let mut left = CAST;
+        let answer = command(rt.alloc(), &[], &mut left, &mut output, &mut told);
+        same(&rt, &room, &answer, &1);
+        same(&rt, &room, &output.kept.as_slice(), &kept);
+        same(
+            &rt,
+            &room,
+            &told.as_slice(),
+            &b"screentext: write\n".as_slice(),
+        );
+    }
+}

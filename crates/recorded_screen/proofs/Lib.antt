@@ -1,0 +1,3 @@
+mod MomentLemmas
+mod PageLemmas
+mod SafeLemmas

@@ -1,0 +1,10 @@
+use Rattle.std.proofs.Common.{◌++◌, ℕ, List, take}
+use Rattle.vt100.specs.Parsing.{ParserStandsAt}
+use Rattle.screen_model.specs.Made.{Act}
+use Rattle.recorded_screen.specs.Moment.{acts_until}
+use Rattle.recorded_screen.proofs.moment.play.Given as goal
+
+-- the events so far have been counted in
+abbrev pub invariant-loop-event : goal.invariant-loop-event
+invariant-loop-event l = (rows cols capacity : ℕ) (acts : List Act) → ParserStandsAt l.fn.parser rows cols capacity acts
+    → ParserStandsAt l.parser rows cols capacity (acts ++ acts_until l.moment (take l.event-index l.events))

@@ -1,0 +1,35 @@
+-- The markup of pictures.
+use Rattle.std.specs.Prelude.{ℕ, List, codes}
+use Rattle.recorded_screen.specs.declared.tag.Tag.{Tag}
+use Rattle.recorded_screen.specs.declared.tag.Tag.TheVariants as tag
+
+abbrev pub tag_bytes : Tag → List ℕ
+tag_bytes tag.HtmlHead = codes "<!DOCTYPE html>\n<html><head><meta charset=\"utf-8\"><title>screentext</title></head>\n<body><pre style=\"display:inline-block;line-height:1.2;"
+tag_bytes tag.HtmlRows = codes "\">\n"
+tag_bytes tag.HtmlFoot = codes "</pre></body></html>\n"
+tag_bytes tag.Span = codes "<span style=\""
+tag_bytes tag.Color = codes "color:#"
+tag_bytes tag.Background = codes ";background:#"
+tag_bytes tag.SpanBold = codes ";font-weight:bold"
+tag_bytes tag.SpanItalic = codes ";font-style:italic"
+tag_bytes tag.SpanUnderline = codes ";text-decoration:underline"
+tag_bytes tag.SpanWide = codes ";display:inline-block;width:2ch"
+tag_bytes tag.SpanText = codes "\">"
+tag_bytes tag.SpanEnd = codes "</span>"
+tag_bytes tag.Newline = codes "\n"
+tag_bytes tag.Svg = codes "<svg xmlns=\"http://www.w3.org/2000/svg\" font-family=\"monospace\" font-size=\"15\" width=\""
+tag_bytes tag.SvgRows = codes "\">\n"
+tag_bytes tag.SvgFoot = codes "</svg>\n"
+tag_bytes tag.Rect = codes "<rect x=\""
+tag_bytes tag.Text = codes "<text xml:space=\"preserve\" x=\""
+tag_bytes tag.Y = codes "\" y=\""
+tag_bytes tag.Width = codes "\" width=\""
+tag_bytes tag.Height = codes "\" height=\""
+tag_bytes tag.Length = codes "\" textLength=\""
+tag_bytes tag.Fill = codes "\" fill=\"#"
+tag_bytes tag.TextBold = codes "\" font-weight=\"bold"
+tag_bytes tag.TextItalic = codes "\" font-style=\"italic"
+tag_bytes tag.TextUnderline = codes "\" text-decoration=\"underline"
+tag_bytes tag.Close = codes "\"/>\n"
+tag_bytes tag.TextStart = codes "\">"
+tag_bytes tag.TextEnd = codes "</text>\n"

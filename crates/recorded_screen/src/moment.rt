@@ -1,0 +1,62 @@
+//! The screen at a moment of a recording.
+
+ghost use Rattle.std.specs.Prelude.{◌++◌, ◌∷◌, [], ℕ, List, IfOk, OnOk};
+ghost use Rattle.vt100.specs.Parsing.{ParserStandsAt};
+ghost use Rattle.screen_model.specs.Made.{Act};
+ghost use Rattle.recorded_screen.specs.Moment.{act_of, acts_until};
+
+use crate::recording::{Change, Event, Size};
+use std::alloc::Global;
+use vt100::{Parser, ScreenError};
+
+/// The moment at which a recording has ended.
+pub const END: u64 = u64::MAX;
+
+/// The terminal at a moment: what the events whose time is at most that do to a new one, in their order, makes its
+/// screen.
+pub fn terminal_at(
+    alloc: Global,
+    size: Size,
+    capacity: usize,
+    events: &[Event],
+    moment: u64,
+) -> Result<Parser<()>, ScreenError>
+    ensures { IfOk result (λ p. ParserStandsAt p size.rows.value size.cols.value capacity (acts_until moment events.now)) }
+{
+    let mut parser = Parser::new(alloc, size.rows, size.cols, capacity)?;
+    play(&mut parser, events, moment)?;
+    Ok(parser)
+}
+
+// Does what the events up to a moment do.
+fn play(parser: &mut Parser<()>, events: &[Event], moment: u64) -> Result<(), ScreenError>
+    ensures { OnOk result ((rows cols capacity : ℕ) (acts : List Act) → ParserStandsAt parser.old rows cols capacity acts
+        → ParserStandsAt parser.new rows cols capacity (acts ++ acts_until moment events.now)) }
+{
+    for event in events {
+        step(parser, event, moment)?;
+    }
+    Ok(())
+}
+
+// Does what an event does, unless it comes after a moment.
+fn step(parser: &mut Parser<()>, event: &Event, moment: u64) -> Result<(), ScreenError>
+    ensures { OnOk result ((rows cols capacity : ℕ) (acts : List Act) → ParserStandsAt parser.old rows cols capacity acts
+        → ParserStandsAt parser.new rows cols capacity (acts ++ acts_until moment (event.now ∷ []))) }
+{
+    if event.time > moment {
+        return Ok(());
+    }
+    act(parser, &event.change)
+}
+
+// Does what an event does.
+fn act(parser: &mut Parser<()>, change: &Change) -> Result<(), ScreenError>
+    ensures { OnOk result ((rows cols capacity : ℕ) (acts : List Act) → ParserStandsAt parser.old rows cols capacity acts
+        → ParserStandsAt parser.new rows cols capacity (acts ++ act_of change.now ∷ [])) }
+{
+    match change {
+        Change::Output(bytes) => parser.process(bytes),
+        Change::Resize(size) => parser.set_size(size.rows, size.cols),
+    }
+}

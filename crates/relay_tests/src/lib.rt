@@ -1,0 +1,35 @@
+//! Tests of `termrelay` and `relay_streams`: what a hub answers and owes at each step of some runs, a program's own
+//! updates, the longest frame, writers that fail, clients among others, many clients and long sides, streams in pieces,
+//! what a run logs, frames on their way to a view, the texts of refusals, and calls that find no memory.
+#![tactic(auto)]
+
+#[cfg(test)]
+mod cuttings;
+#[cfg(test)]
+mod errors;
+#[cfg(test)]
+mod far_views;
+#[cfg(test)]
+mod logs;
+#[cfg(test)]
+mod long;
+#[cfg(test)]
+mod many;
+#[cfg(test)]
+mod others;
+#[cfg(test)]
+mod pieces;
+#[cfg(test)]
+mod play;
+#[cfg(test)]
+mod refusals;
+#[cfg(test)]
+mod runs;
+#[cfg(test)]
+mod seen;
+#[cfg(test)]
+mod sink;
+#[cfg(test)]
+mod updates;
+#[cfg(test)]
+mod writers;

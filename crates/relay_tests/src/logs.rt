@@ -1,0 +1,54 @@
+//! What a run of calls logs.
+use crate::runs::BLANK;
+use crate::seen::{count, same};
+use std::process::Abort;
+use std::test::Fail;
+use termrelay::{Answer, Call, Client, Hub, HubError, Log, Reply, Take, run};
+
+/// The client of the first session.
+fn first_client(log: &Log) -> Client {
+    match log.sessions().first() {
+        Some(session) => session.client(),
+        None => Client::from_key(usize::MAX),
+    }
+}
+
+/// A writer takes 10 bytes of a frame and fails, and the client ends.
+fn attach_and_fail(rt: &impl Abort, hub: &mut Hub, log: &mut Log) -> Result<(), Fail> {
+    run(hub, &[Call::Attach], log)?;
+    let client = first_client(log);
+    let takes = [Take::Bytes(10), Take::Fault];
+    let calls = [Call::Frame(client), Call::Pump(client, &takes)];
+    run(hub, &calls, log)?;
+    same(rt, &client, &hub.owed(client).ok(), &Some(&BLANK[10..]));
+    run(hub, &[Call::Detach(client)], log)?;
+    Ok(())
+}
+
+/// The log tells so.
+fn check_log(rt: &impl Abort, log: &Log) {
+    let is_told = matches!(
+        log.replies(),
+        [
+            Reply::Attached(_),
+            Reply::Answered(Answer::Full),
+            Reply::Refused(HubError::Write(_)),
+            Reply::Done
+        ]
+    );
+    same(rt, &"replies", &is_told, &true);
+    for session in log.sessions() {
+        let size = (session.rows().get(), session.cols().get());
+        let found = (size, session.pumped(), session.ended());
+        same(rt, &"session", &found, &((24, 80), &BLANK[..10], true));
+    }
+}
+
+#[test]
+fn a_writer_fails(rt: HostRuntime) -> Result<(), Fail> {
+    let mut hub = Hub::new(rt.alloc(), count(24), count(80))?;
+    let mut log = Log::new(rt.alloc());
+    attach_and_fail(&rt, &mut hub, &mut log)?;
+    check_log(&rt, &log);
+    Ok(())
+}

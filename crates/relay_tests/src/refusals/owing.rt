@@ -1,0 +1,48 @@
+//! Hubs, whose refused calls are made again.
+use crate::seen::count;
+use std::alloc::Global;
+use std::process::Abort;
+use termrelay::{Answer, Client, Hub, HubError};
+
+/// The first frame of a screen that shows `hi`.
+pub const HI: &[u8] =
+    b"\x1b[?2026h\x1b[?25h\x1b[m\x1b[H\x1b[Jhi\x1b>\x1b[?1l\x1b[?2004l\x1b[?2026l";
+
+/// A hub of 2 by 4.
+pub fn new_hub(alloc: Global) -> Result<Hub, HubError> {
+    match Hub::new(alloc, count(2), count(4)) {
+        Ok(hub) => Ok(hub),
+        Err(_) => Hub::new(alloc, count(2), count(4)),
+    }
+}
+
+/// The client is owed these bytes, or is unknown.
+pub fn check_owed(rt: &impl Abort, hub: &Hub, client: Client, wanted: Option<&[u8]>) {
+    assert_eq!(rt; hub.owed(client).ok(), wanted);
+}
+
+/// A new client, which gets a whole frame, `HI`. Where that was refused, it was owed nothing.
+pub fn attach_and_frame(rt: &impl Abort, hub: &mut Hub) -> Result<Client, HubError> {
+    let client = match hub.attach() {
+        Ok(client) => client,
+        Err(_) => hub.attach()?,
+    };
+    let answer = match hub.frame(client) {
+        Ok(answer) => answer,
+        Err(_) => {
+            check_owed(rt, hub, client, Some(b""));
+            hub.frame(client)?
+        }
+    };
+    assert_eq!(rt; answer, Answer::Full);
+    check_owed(rt, hub, client, Some(HI));
+    Ok(client)
+}
+
+/// A hub that shows `hi`, and a client that is owed that frame.
+pub fn owing(rt: &(impl Abort + AllocGlobal)) -> Result<(Hub, Client), HubError> {
+    let mut hub = new_hub(rt.alloc())?;
+    hub.feed(b"hi")?;
+    let client = attach_and_frame(rt, &mut hub)?;
+    Ok((hub, client))
+}

@@ -1,0 +1,50 @@
+//! Why a command ended before its work was done.
+
+ghost use Rattle.std.specs.Prelude.{◌≡◌};
+ghost use Rattle.screen_dump.specs.declared.error.DumpError.TheVariants.{Memory};
+
+use std::alloc::{AllocError, AllocFailed};
+use thiserror::Error;
+use vt100::ScreenError;
+
+/// Why a command ended early. What was written by then stays written.
+#[derive(Clone, Copy, Debug, Error, PartialEq, Eq)]
+pub enum DumpError {
+    /// A read failed.
+    #[error("read")]
+    Read,
+    /// A write or a flush failed, or a write took nothing.
+    #[error("write")]
+    Write,
+    /// Memory was refused.
+    #[error("memory")]
+    Memory,
+    /// A line of the script isn't understood.
+    #[error("script")]
+    Script,
+}
+
+impl From<AllocError> for DumpError {
+    ghost from_gives = { λ _ e. e ≡ Memory };
+
+    fn from(_error: AllocError) -> Self {
+        DumpError::Memory
+    }
+}
+
+impl<T: Drop> From<AllocFailed<T>> for DumpError {
+    ghost from_gives = { λ _ e. e ≡ Memory };
+
+    fn from(_error: AllocFailed<T>) -> Self {
+        DumpError::Memory
+    }
+}
+
+/// A screen refuses for memory alone: a failed one was refused before.
+impl From<ScreenError> for DumpError {
+    ghost from_gives = { λ _ e. e ≡ Memory };
+
+    fn from(_error: ScreenError) -> Self {
+        DumpError::Memory
+    }
+}

@@ -1,0 +1,244 @@
+//! Scripts of calls on a parser and its screen.
+
+ghost use Rattle.std.specs.Prelude.{◌<◌, IfOk};
+
+use crate::dump::{push_hex, push_screen};
+use crate::error::DumpError;
+use crate::stream::{flush, read_all, write_text};
+use crate::texts::{
+    push_check, push_diffs, push_rows, push_rows_diff, push_rows_formatted, push_texts,
+};
+use std::alloc::Global;
+use std::io::Read;
+use std::num::NonZeroU16;
+use std::str::SplitWhitespace;
+use takers::Sink;
+use vt100::{Parser, Screen};
+
+/// One line of a script.
+#[derive(Debug, Drop)]
+enum Step {
+    /// Nothing: an empty line or a comment.
+    Nothing,
+    /// `new ROWS COLS CAPACITY`: a fresh parser.
+    New(NonZeroU16, NonZeroU16, usize),
+    /// `feed BYTES`, in hexadecimal digits.
+    Feed(Vec<u8>),
+    /// `resize ROWS COLS`, by the parser.
+    Resize(NonZeroU16, NonZeroU16),
+    /// `screen_resize ROWS COLS`, by the screen.
+    ScreenResize(NonZeroU16, NonZeroU16),
+    /// `set_scrollback ROWS`.
+    SetScrollback(usize),
+    /// `clear_scrollback`.
+    ClearScrollback,
+    /// `base`: the screen as it is now is kept, and differences are told from it. A fresh parser's screen is kept too.
+    Base,
+    /// A question.
+    Ask(Question),
+}
+
+/// What a line asks of the screen.
+#[derive(Clone, Copy, Debug)]
+enum Question {
+    /// `dump`.
+    Dump,
+    /// `texts`.
+    Texts,
+    /// `diffs`.
+    Diffs,
+    /// `check`.
+    Check,
+    /// `rows START WIDTH`.
+    Rows(u16, u16),
+    /// `rows_formatted START WIDTH`.
+    RowsFormatted(u16, u16),
+    /// `rows_diff START WIDTH`.
+    RowsDiff(u16, u16),
+    /// `between START_ROW START_COL END_ROW END_COL`.
+    Between(u16, u16, u16, u16),
+}
+
+/// Reads a line of a script. What stands behind ` #`, and words past those that are wanted, don't count.
+fn parse_step(alloc: Global, line: &str) -> Result<Step, DumpError> {
+    let line = match line.split_once(" #") {
+        Some((line, _)) => line,
+        None => line,
+    };
+    let mut words = line.split_whitespace();
+    match words.next() {
+        None | Some("#") => Ok(Step::Nothing),
+        Some("feed") => {
+            let bytes = unhex(alloc, words.next().unwrap_or(""))?;
+            Ok(Step::Feed(bytes))
+        }
+        Some(name) => parse_call(name, &mut words),
+    }
+}
+
+// A name, and the numbers that follow it.
+fn parse_call(name: &str, words: &mut SplitWhitespace<'_>) -> Result<Step, DumpError> {
+    match name {
+        "new" => Ok(Step::New(size(words)?, size(words)?, number(words)?)),
+        "resize" => Ok(Step::Resize(size(words)?, size(words)?)),
+        "screen_resize" => Ok(Step::ScreenResize(size(words)?, size(words)?)),
+        "set_scrollback" => Ok(Step::SetScrollback(number(words)?)),
+        "clear_scrollback" => Ok(Step::ClearScrollback),
+        "base" => Ok(Step::Base),
+        _ => Ok(Step::Ask(parse_question(name, words)?)),
+    }
+}
+
+// A question, and the numbers that follow it.
+fn parse_question(name: &str, words: &mut SplitWhitespace<'_>) -> Result<Question, DumpError> {
+    match name {
+        "dump" => Ok(Question::Dump),
+        "texts" => Ok(Question::Texts),
+        "diffs" => Ok(Question::Diffs),
+        "check" => Ok(Question::Check),
+        "rows" => Ok(Question::Rows(place(words)?, place(words)?)),
+        "rows_formatted" => Ok(Question::RowsFormatted(place(words)?, place(words)?)),
+        "rows_diff" => Ok(Question::RowsDiff(place(words)?, place(words)?)),
+        "between" => Ok(Question::Between(
+            place(words)?,
+            place(words)?,
+            place(words)?,
+            place(words)?,
+        )),
+        _ => Err(DumpError::Script),
+    }
+}
+
+// A row, a column or a count of them.
+fn place(words: &mut SplitWhitespace<'_>) -> Result<u16, DumpError> {
+    let Some(word) = words.next() else {
+        return Err(DumpError::Script);
+    };
+    word.parse::<u16>().map_err(|_| DumpError::Script)
+}
+
+fn number(words: &mut SplitWhitespace<'_>) -> Result<usize, DumpError> {
+    let Some(word) = words.next() else {
+        return Err(DumpError::Script);
+    };
+    word.parse::<usize>().map_err(|_| DumpError::Script)
+}
+
+fn size(words: &mut SplitWhitespace<'_>) -> Result<NonZeroU16, DumpError> {
+    NonZeroU16::new(place(words)?).ok_or(DumpError::Script)
+}
+
+// The bytes of these hexadecimal digits, two for each.
+fn unhex(alloc: Global, digits: &str) -> Result<Vec<u8>, DumpError> {
+    let mut bytes = Vec::new(alloc);
+    for pair in digits.as_bytes().chunks(2) {
+        let [high, low] = pair else {
+            return Err(DumpError::Script);
+        };
+        bytes.push(digit(*high)? * 16 + digit(*low)?)?;
+    }
+    Ok(bytes)
+}
+
+// The value of an ASCII hexadecimal digit.
+fn digit(byte: u8) -> Result<u8, DumpError>
+    ensures { IfOk result (λ d. d < 16) }
+{
+    match byte {
+        b'0'..=b'9' => Ok(byte - b'0'),
+        b'a'..=b'f' => Ok(byte - b'a' + 10),
+        b'A'..=b'F' => Ok(byte - b'A' + 10),
+        _ => Err(DumpError::Script),
+    }
+}
+
+/// Replays a script, a line each, and writes what its lines answer. It begins with a fresh parser of 24 rows and 80
+/// columns that keeps no rows.
+///
+/// A fault ends it. What was written by then stays written.
+pub fn run_script<R: Read, W: Sink>(
+    alloc: Global,
+    input: &mut R,
+    output: &mut W,
+) -> Result<(), DumpError> {
+    let bytes = read_all(alloc, input)?;
+    match str::from_utf8(&bytes) {
+        Ok(script) => replay(alloc, script, output),
+        Err(_) => Err(DumpError::Script),
+    }
+}
+
+fn replay<W: Sink>(alloc: Global, script: &str, output: &mut W) -> Result<(), DumpError> {
+    let mut parser = Parser::new_default(alloc)?;
+    let mut base = parser.screen().clone()?;
+    take_lines(alloc, script, &mut parser, &mut base, output)
+}
+
+fn take_lines<W: Sink>(
+    alloc: Global,
+    script: &str,
+    parser: &mut Parser<()>,
+    base: &mut Screen,
+    output: &mut W,
+) -> Result<(), DumpError> {
+    let mut answer = String::new(alloc);
+    for line in script.lines() {
+        answer.clear();
+        let step = parse_step(alloc, line)?;
+        take_step(alloc, step, parser, base, &mut answer)?;
+        write_text(output, &answer)?;
+    }
+    flush(output)
+}
+
+// Takes one step, and appends its answer.
+fn take_step(
+    alloc: Global,
+    step: Step,
+    parser: &mut Parser<()>,
+    base: &mut Screen,
+    answer: &mut String,
+) -> Result<(), DumpError> {
+    match step {
+        Step::Nothing => {}
+        Step::New(rows, cols, capacity) => {
+            *parser = Parser::new(alloc, rows, cols, capacity)?;
+            *base = parser.screen().clone()?;
+            answer.push_str("new\n")?;
+        }
+        Step::Feed(bytes) => parser.process(&bytes)?,
+        Step::Resize(rows, cols) => parser.set_size(rows, cols)?,
+        Step::ScreenResize(rows, cols) => parser.screen_mut().set_size(rows, cols)?,
+        Step::SetScrollback(rows) => parser.screen_mut().set_scrollback(rows)?,
+        Step::ClearScrollback => parser.screen_mut().clear_scrollback(),
+        Step::Base => *base = parser.screen().clone()?,
+        Step::Ask(question) => tell(alloc, question, parser.screen(), base, answer)?,
+    }
+    Ok(())
+}
+
+// Appends the answer to a question.
+fn tell(
+    alloc: Global,
+    question: Question,
+    screen: &Screen,
+    base: &Screen,
+    answer: &mut String,
+) -> Result<(), DumpError> {
+    match question {
+        Question::Dump => push_screen(answer, screen)?,
+        Question::Texts => push_texts(answer, screen)?,
+        Question::Diffs => push_diffs(answer, screen, base)?,
+        Question::Check => push_check(alloc, answer, screen, base)?,
+        Question::Rows(start, width) => push_rows(answer, screen, start, width)?,
+        Question::RowsFormatted(start, width) => push_rows_formatted(answer, screen, start, width)?,
+        Question::RowsDiff(start, width) => push_rows_diff(answer, screen, base, start, width)?,
+        Question::Between(start_row, start_col, end_row, end_col) => {
+            let text = screen.contents_between(start_row, start_col, end_row, end_col)?;
+            answer.push_str("between ")?;
+            push_hex(answer, text.as_bytes())?;
+            answer.push('\n')?;
+        }
+    }
+    Ok(())
+}

@@ -1,0 +1,218 @@
+//! The texts of a screen, a line each, and where they lead.
+ghost use Rattle.std.specs.Iterator.{IsFinite};
+
+use crate::dump::{push_hex, push_screen};
+use crate::error::DumpError;
+use std::alloc::Global;
+use vt100::{Parser, Screen, ScreenError};
+
+/// Appends what the screen writes of itself, in hexadecimal digits:
+///
+/// ```text
+/// text NAME TEXT
+/// row ROW TEXT
+/// row_formatted ROW TEXT
+/// ```
+///
+/// The names are those of the calls.
+pub(crate) fn push_texts(out: &mut String, screen: &Screen) -> Result<(), DumpError> {
+    push_text(out, "text contents", screen.contents()?)?;
+    push_text(out, "text contents_formatted", screen.contents_formatted()?)?;
+    push_text(out, "text state_formatted", screen.state_formatted()?)?;
+    push_text(
+        out,
+        "text contents_formatted_basic",
+        screen.contents_formatted_basic()?,
+    )?;
+    push_text(
+        out,
+        "text input_mode_formatted",
+        screen.input_mode_formatted()?,
+    )?;
+    push_text(
+        out,
+        "text attributes_formatted",
+        screen.attributes_formatted()?,
+    )?;
+    push_text(
+        out,
+        "text cursor_state_formatted",
+        screen.cursor_state_formatted()?,
+    )?;
+    let (_, cols) = screen.size();
+    push_rows(out, screen, 0, cols.get())?;
+    push_rows_formatted(out, screen, 0, cols.get())
+}
+
+/// Appends what differs from the screen `base`, in hexadecimal digits:
+///
+/// ```text
+/// diff NAME TEXT
+/// row_diff ROW TEXT
+/// ```
+pub(crate) fn push_diffs(
+    out: &mut String,
+    screen: &Screen,
+    base: &Screen,
+) -> Result<(), DumpError> {
+    push_text(out, "diff state_diff", screen.state_diff(base)?)?;
+    push_text(out, "diff contents_diff", screen.contents_diff(base)?)?;
+    push_text(out, "diff input_mode_diff", screen.input_mode_diff(base)?)?;
+    let (_, cols) = screen.size();
+    push_rows_diff(out, screen, base, 0, cols.get())
+}
+
+/// A line for each row that is shown: its text in these columns.
+pub(crate) fn push_rows(
+    out: &mut String,
+    screen: &Screen,
+    start: u16,
+    width: u16,
+) -> Result<(), DumpError> {
+    push_each(out, screen, "row", screen.rows(start, width))
+}
+
+/// The same as forms.
+pub(crate) fn push_rows_formatted(
+    out: &mut String,
+    screen: &Screen,
+    start: u16,
+    width: u16,
+) -> Result<(), DumpError> {
+    push_each(
+        out,
+        screen,
+        "row_formatted",
+        screen.rows_formatted(start, width),
+    )
+}
+
+/// The same over the rows of the screen `base`.
+pub(crate) fn push_rows_diff(
+    out: &mut String,
+    screen: &Screen,
+    base: &Screen,
+    start: u16,
+    width: u16,
+) -> Result<(), DumpError> {
+    push_each(
+        out,
+        screen,
+        "row_diff",
+        screen.rows_diff(base, start, width),
+    )
+}
+
+// A line for each of these texts, of which a screen has one a row.
+fn push_each<I: Iterator<Item = Result<String, ScreenError>> + Drop>(
+    out: &mut String,
+    screen: &Screen,
+    name: &str,
+    mut texts: I,
+) -> Result<(), DumpError>
+    requires { I.can_next texts × IsFinite (I.remaining texts) }
+{
+    let (rows, _) = screen.size();
+    for i in 0..rows.get() {
+        let Some(text) = texts.next() else {
+            break;
+        };
+        let text = text?;
+        write!(out, "{name} {i} ")?;
+        push_hex(out, text.as_bytes())?;
+        out.push('\n')?;
+    }
+    Ok(())
+}
+
+fn push_text(out: &mut String, name: &str, text: String) -> Result<(), DumpError> {
+    write!(out, "{name} ")?;
+    push_hex(out, text.as_bytes())?;
+    out.push('\n')?;
+    Ok(())
+}
+
+/// Appends whether a fresh terminal that reads the screen's redraw, and one that reads the redraw of `base` and then
+/// what differs, show what the screen shows:
+///
+/// ```text
+/// check redraw same|DIFFERENT
+/// check difference same|DIFFERENT
+/// ```
+///
+/// Where they don't, the lines that one of the two dumps alone has follow, behind `screen` or `reader`.
+pub(crate) fn push_check(
+    alloc: Global,
+    out: &mut String,
+    screen: &Screen,
+    base: &Screen,
+) -> Result<(), DumpError> {
+    let redraw = reader_of(alloc, screen, screen)?;
+    push_answer(alloc, out, "redraw", screen, redraw.screen())?;
+    let mut difference = reader_of(alloc, screen, base)?;
+    read_difference(&mut difference, screen, base)?;
+    push_answer(alloc, out, "difference", screen, difference.screen())
+}
+
+// A fresh terminal of the screen's size that has read the redraw of `shown`.
+fn reader_of(alloc: Global, screen: &Screen, shown: &Screen) -> Result<Parser<()>, DumpError> {
+    let (rows, cols) = screen.size();
+    let mut reader = Parser::new(alloc, rows, cols, 0)?;
+    read_redraw(&mut reader, shown)?;
+    Ok(reader)
+}
+
+fn read_redraw(reader: &mut Parser<()>, screen: &Screen) -> Result<(), DumpError> {
+    reader.process(screen.state_formatted()?.as_bytes())?;
+    Ok(())
+}
+
+fn read_difference(
+    reader: &mut Parser<()>,
+    screen: &Screen,
+    base: &Screen,
+) -> Result<(), DumpError> {
+    reader.process(screen.state_diff(base)?.as_bytes())?;
+    Ok(())
+}
+
+fn push_answer(
+    alloc: Global,
+    out: &mut String,
+    name: &str,
+    screen: &Screen,
+    reader: &Screen,
+) -> Result<(), DumpError> {
+    let wanted = picture_of(alloc, screen)?;
+    let got = picture_of(alloc, reader)?;
+    if wanted == got {
+        writeln!(out, "check {name} same")?;
+        return Ok(());
+    }
+    writeln!(out, "check {name} DIFFERENT")?;
+    push_missing(out, "screen", &wanted, &got)?;
+    push_missing(out, "reader", &got, &wanted)
+}
+
+// The lines of a screen's dump without the modes, of which a redraw doesn't tell all, and the kept rows.
+fn picture_of(alloc: Global, screen: &Screen) -> Result<String, DumpError> {
+    let mut dump = String::new(alloc);
+    push_screen(&mut dump, screen)?;
+    let mut picture = String::new(alloc);
+    for line in dump.lines() {
+        if !line.starts_with("scrollback") && !line.starts_with("modes") && line != "updating" {
+            writeln!(picture, "{line}")?;
+        }
+    }
+    Ok(picture)
+}
+
+// The lines of one dump that another one hasn't.
+fn push_missing(out: &mut String, name: &str, dump: &str, other: &str) -> Result<(), DumpError> {
+    for line in dump.lines() {
+        if !other.lines().any(|l| l == line) {
+            writeln!(out, "  {name} {line}")?;
+        }
+    }
+    Ok(())
+}

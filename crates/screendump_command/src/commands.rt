@@ -1,0 +1,61 @@
+//! The command line.
+
+ghost use Rattle.std.specs.Prelude.{◌≡◌, ◌≤◌, map, true, false};
+ghost use Rattle.takers.specs.Pump.{Tells};
+ghost use Rattle.screendump_command.specs.Words.{is_order, usage_line};
+
+use crate::words::{Order, parse};
+use command_line::{FAULT, SUCCESS, USAGE, report};
+use screen_dump::{DumpError, dump_stream, run_script};
+use std::alloc::Global;
+use std::io::Read;
+use takers::{Sink, Taker};
+
+/// Runs the program on the words after its name, and answers its exit status.
+///
+/// A fault is told in a line on `errors`: `screendump: read`, `write`, `memory` or `script`. Any other command line
+/// than `ROWS COLS [CAPACITY [TIMES]]` and `run` gets the usage line there, and then nothing is read or written. Such a
+/// line is written whole, unless a write of it fails or takes nothing; that changes nothing else.
+pub fn command<R: Read, W: Sink, V: Taker>(
+    alloc: Global,
+    words: &[&str],
+    input: &mut R,
+    output: &mut W,
+    errors: &mut V,
+) -> u8
+    ensures usage { is_order (map (λ w. w.now) words.now) ≡ false → (result ≡ 2) × (input.new ≡ input.old)
+        × (output.new ≡ output.old) × Tells V.takes errors.old usage_line errors.new }
+    ensures understood { is_order (map (λ w. w.now) words.now) ≡ true → result ≤ 1 }
+{
+    let Some(order) = parse(words) else {
+        report(
+            errors,
+            b"usage: screendump run|ROWS COLS [CAPACITY [TIMES]]\n",
+        );
+        return USAGE;
+    };
+    let outcome = match order {
+        Order::Dump(dump) => dump_stream(alloc, dump, input, output),
+        Order::Run => run_script(alloc, input, output),
+    };
+    match outcome {
+        Ok(()) => SUCCESS,
+        Err(error) => report_fault(errors, error),
+    }
+}
+
+/// Tells a fault in a line on `errors`, and answers the exit status that goes with it.
+pub fn report_fault<V: Taker>(errors: &mut V, error: DumpError) -> u8
+    ensures { result ≡ 1 }
+{
+    report(
+        errors,
+        match error {
+            DumpError::Read => b"screendump: read\n",
+            DumpError::Write => b"screendump: write\n",
+            DumpError::Memory => b"screendump: memory\n",
+            DumpError::Script => b"screendump: script\n",
+        },
+    );
+    FAULT
+}

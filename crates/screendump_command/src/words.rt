@@ -1,0 +1,54 @@
+//! The words of the command line.
+
+ghost use Rattle.std.specs.Prelude.{◌≡◌, ◌&&◌, map, codes};
+ghost use Rattle.std.specs.Option.{is_some};
+ghost use Rattle.std.specs.Str.{bytes_eq};
+ghost use Rattle.command_line.specs.Numbers.{is_size, is_count};
+ghost use Rattle.screendump_command.specs.Words.{is_order};
+
+use command_line::{parse_count, parse_size};
+use screen_dump::Dump;
+
+/// What the program is asked to do.
+#[derive(Clone, Copy, Debug, PartialEq, Eq)]
+pub(crate) enum Order {
+    /// Print the state that a stream leaves.
+    Dump(Dump),
+    /// Replay a script.
+    Run,
+}
+
+/// Reads `ROWS COLS [CAPACITY [TIMES]]` or `run`.
+pub(crate) fn parse(words: &[&str]) -> Option<Order>
+    ensures { is_some result ≡ is_order (map (λ w. w.now) words.now) }
+{
+    match words {
+        [word] => parse_run(word),
+        [rows, cols] => parse_dump(rows, cols, "0", "1"),
+        [rows, cols, capacity] => parse_dump(rows, cols, capacity, "1"),
+        [rows, cols, capacity, times] => parse_dump(rows, cols, capacity, times),
+        _ => None,
+    }
+}
+
+fn parse_run(word: &str) -> Option<Order>
+    ensures { is_some result ≡ bytes_eq word.now (codes "run") }
+{
+    if word == "run" {
+        Some(Order::Run)
+    } else {
+        None
+    }
+}
+
+fn parse_dump(rows: &str, cols: &str, capacity: &str, times: &str) -> Option<Order>
+    ensures { is_some result ≡ (is_size rows.now && (is_size cols.now && (is_count capacity.now
+        && is_count times.now))) }
+{
+    Some(Order::Dump(Dump {
+        rows: parse_size(rows)?,
+        cols: parse_size(cols)?,
+        capacity: parse_count(capacity)?,
+        times: parse_count(times)?,
+    }))
+}

@@ -1,0 +1,58 @@
+-- What a command answers, reads, writes and says.
+use Rattle.std.specs.Prelude.{◌≡◌, ℕ, List, [], ◌∷◌, ◌++◌, Ok, Err, Result, codes}
+use Rattle.std.specs.declared.io.Error.{Error}
+use Rattle.takers.specs.Pump.{Tells}
+use Rattle.relay_streams.specs.declared.error.RelayError.{RelayError}
+use Rattle.relay_streams.specs.declared.error.RelayError.TheVariants.{Read, Write, Memory, TooManyReads, FrameTooLong}
+use Rattle.screenrelay_command.specs.declared.words.Job.{Job}
+use Rattle.screenrelay_command.specs.declared.words.Job.TheVariants.{Relay, Show}
+use Rattle.relay_streams.specs.Pieces.{pieces_of}
+use Rattle.relay_streams.specs.Relayed.{Relays}
+use Rattle.relay_streams.specs.Sessions.{IsRelayText}
+use Rattle.relay_streams.specs.Shown.{IsTextShown, Shows, sized}
+use Rattle.screenrelay_command.specs.Words.{Order}
+
+abbrev pub WantsBy : Job → ℕ → ℕ → List ℕ → List ℕ → Type 0
+WantsBy Relay rows cols bytes text = IsRelayText rows cols bytes text
+WantsBy Show rows cols bytes text = IsTextShown (sized rows cols) (pieces_of bytes) text
+
+-- an order writes this text where the input is these bytes
+abbrev pub Wants : Order → List ℕ → List ℕ → Type 0
+Wants order bytes text = WantsBy order.job order.rows order.cols bytes text
+
+abbrev pub DoesBy : {S W : Type 0} → (S → ℕ → Result (List ℕ) Error → S → Type 0)
+    → (W → List ℕ → Result ℕ Error → W → Type 0) → (W → Result (Unit {0}) Error → W → Type 0) → Job → ℕ → ℕ → S → W
+    → Result (Unit {0}) RelayError → S → W → Type 0
+DoesBy gives takes flushes Relay rows cols s w answer t v = Relays gives takes flushes rows cols s w answer t v
+DoesBy gives takes flushes Show rows cols s w answer t v = Shows gives takes flushes (sized rows cols) s w answer t v
+
+-- a line of these characters
+abbrev pub line : List ℕ → List ℕ
+line cs = cs ++ (0x0A ∷ [])
+
+abbrev pub usage_line : List ℕ
+usage_line = line (codes "usage: screenrelay relay|show ROWS COLS")
+
+-- the line that names a fault
+abbrev pub fault_line : RelayError → List ℕ
+fault_line Read = line (codes "screenrelay: read")
+fault_line Write = line (codes "screenrelay: write")
+fault_line Memory = line (codes "screenrelay: memory")
+fault_line TooManyReads = line (codes "screenrelay: too many reads")
+fault_line FrameTooLong = line (codes "screenrelay: frame too long")
+
+-- the exit status that goes with an answer, and what is told of it on the error output
+abbrev pub Reports : {V : Type 0} → (V → List ℕ → Result ℕ Error → V → Type 0) → Result (Unit {0}) RelayError → V → ℕ → V
+    → Type 0
+Reports told (Ok u) e status f = (status ≡ 0) × (f ≡ e)
+Reports told (Err fault) e status f = (status ≡ 1) × Tells told e (fault_line fault) f
+
+-- An order was carried out, from a source, a writer and an error output: what was answered, and so what was read,
+-- written and told.
+pub record CarriesOut {S W V : Type 0} (gives : S → ℕ → Result (List ℕ) Error → S → Type 0)
+    (takes : W → List ℕ → Result ℕ Error → W → Type 0) (flushes : W → Result (Unit {0}) Error → W → Type 0)
+    (told : V → List ℕ → Result ℕ Error → V → Type 0) (order : Order) (s : S) (w : W) (e : V) (status : ℕ) (t : S)
+    (v : W) (f : V) : Type 0 where
+  pub answer : Result (Unit {0}) RelayError
+  pub does : DoesBy gives takes flushes order.job order.rows order.cols s w answer t v
+  pub reports : Reports told answer e status f

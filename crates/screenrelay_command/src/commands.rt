@@ -1,0 +1,80 @@
+//! The command line.
+
+ghost use Rattle.std.specs.Prelude.{◌≡◌, ℕ, List, map, None, IfSome};
+ghost use Rattle.std.specs.Io.KnownBytes.{Appends};
+ghost use Rattle.takers.specs.Pump.{Tells};
+ghost use Rattle.screenrelay_command.specs.Command.{CarriesOut, DoesBy, Wants, fault_line, usage_line};
+ghost use Rattle.screenrelay_command.specs.Words.{order_of};
+
+use crate::words::{Job, Order, parse};
+use command_line::{FAULT, SUCCESS, USAGE, report};
+use relay_streams::{RelayError, Source, relay, show};
+use std::alloc::Global;
+use takers::{Sink, Taker};
+
+/// Runs the program on the words after its name, and answers its exit status.
+///
+/// A fault is told in a line on `errors`: `screenrelay: read`, `write`, `memory`, `too many reads` or `frame too long`. Any
+/// other command line than `relay ROWS COLS` and `show ROWS COLS` gets the usage line there, and then nothing is read
+/// or written. Such a line is written whole, unless a write of it fails or takes nothing; that changes nothing else.
+pub fn command<S: Source, W: Sink, V: Taker>(
+    alloc: Global,
+    words: &[&str],
+    input: &mut S,
+    output: &mut W,
+    errors: &mut V,
+) -> u8
+    ensures usage { order_of (map (λ w. w.now) words.now) ≡ None → (result ≡ 2) × (input.new ≡ input.old)
+        × (output.new ≡ output.old) × Tells V.takes errors.old usage_line errors.new }
+    ensures does { IfSome (order_of (map (λ w. w.now) words.now)) (λ order. CarriesOut S.gives W.takes W.flushes V.takes order
+        input.old output.old errors.old result input.new output.new errors.new) }
+    ensures done { result ≡ 0 → IfSome (order_of (map (λ w. w.now) words.now))
+        (λ order. IfSome (S.left input.old) (λ bytes. (text : List ℕ) × Wants order bytes text
+        × Appends (W.contents output.old) (W.contents output.new) text)) }
+{
+    let Some(order) = parse(words) else {
+        report(errors, b"usage: screenrelay relay|show ROWS COLS\n");
+        return USAGE;
+    };
+    match carry_out(alloc, order, input, output) {
+        Ok(()) => SUCCESS,
+        Err(error) => report_fault(errors, error),
+    }
+}
+
+// CarriesOut what is asked for.
+fn carry_out<S: Source, W: Sink>(
+    alloc: Global,
+    order: Order,
+    input: &mut S,
+    output: &mut W,
+) -> Result<(), RelayError>
+    ensures { DoesBy S.gives W.takes W.flushes order.job order.rows.value order.cols.value input.old output.old result
+        input.new output.new }
+{
+    match order.job {
+        Job::Relay => relay(alloc, order.rows, order.cols, input, output),
+        Job::Show => show(alloc, order.rows, order.cols, input, output),
+    }
+}
+
+/// Tells a fault in a line on `errors`, and answers the exit status that goes with it.
+pub fn report_fault<V: Taker>(errors: &mut V, error: RelayError) -> u8
+    ensures status { result ≡ 1 }
+    ensures reports { Tells V.takes errors.old (fault_line error) errors.new }
+{
+    report(errors, fault_line(error));
+    FAULT
+}
+
+fn fault_line(error: RelayError) -> &'static [u8]
+    ensures { result.now ≡ fault_line error }
+{
+    match error {
+        RelayError::Read => b"screenrelay: read\n",
+        RelayError::Write => b"screenrelay: write\n",
+        RelayError::Memory => b"screenrelay: memory\n",
+        RelayError::TooManyReads => b"screenrelay: too many reads\n",
+        RelayError::FrameTooLong => b"screenrelay: frame too long\n",
+    }
+}

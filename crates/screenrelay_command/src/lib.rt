@@ -1,0 +1,8 @@
+//! The command line of `screenrelay`: its words, the jobs that they ask for, and the lines that tell a fault.
+#![tactic(auto)]
+
+mod commands;
+mod words;
+
+pub use commands::{command, report_fault};
+pub use words::Job;

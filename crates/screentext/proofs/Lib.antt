@@ -1,5 +1,0 @@
-mod KindLemmas
-mod MomentLemmas
-mod PageLemmas
-mod SafeLemmas
-mod WordsLemmas

@@ -1,4 +1,0 @@
-pub mod Moment
-pub mod Page
-pub mod Tags
-pub mod Words

@@ -1,0 +1,2 @@
+mod KindLemmas
+mod WordsLemmas

@@ -1,0 +1,56 @@
+-- What `clap` is told of the words.
+use Rattle.std.proofs.Common.{◌≡◌, ◌∙◌, ap, ap₂, Bool, false, List, ◌++◌, map, inl, inr, true, refl, sym, [], ◌∷◌, subst, Err, Result, IfOk, Option, is_some}
+use Rattle.std.proofs.lemmas.Result.{IfOk-weaker}
+use Rattle.std.proofs.lemmas.List.{map-append}
+use Rattle.std.specs.Borrow.{Bor}
+use Rattle.clap.specs.Words.{AddsAliases, AddsArg, App, IsAmong, Kinds, Row, Rule, Text, app_of, is_simple, is_simple_and_free}
+use Rattle.clap.specs.Words.{rule_of, with_rule}
+use Rattle.clap.specs.declared.error.ErrorKind.{ErrorKind}
+use Rattle.clap.proofs.OnLiterals.{clap_on_literals}
+use Rattle.screentext_command.specs.Words.{are_values, is_order_of, is_request, known}
+use Rattle.screentext_command.proofs.KindLemmas.{IsSingle}
+use Rattle.clap.specs.declared.Arg.{Arg}
+use Rattle.clap.specs.declared.Command.{Command}
+
+-- a command to which one more argument was added
+pub added : (old new : Command) (a : Arg) (before : App) (r : Rule) → AddsArg old a new → rule_of a ≡ r → a.global ≡ false
+    → app_of old ≡ before → app_of new ≡ with_rule before r
+added old new a before r adds is local was = adds.shape local ∙ ap₂ with_rule was is
+
+-- an argument that got more names
+pub aliased : (old new : Arg) (xs : List (Bor Text × Bool)) → AddsAliases old new xs
+    → rule_of new ≡ record (rule_of old) { aliases = (rule_of old).aliases ++ map (λ x. x.0.now) xs }
+aliased old new xs adds =
+    ap rule_of adds.0 ∙ ap (λ (names : List Text). record (rule_of old) { aliases = names })
+    (ap (map (λ (x : Bor Text × Bool). x.0.now)) adds.1 ∙ map-append (λ (x : Bor Text × Bool). x.0.now) old.aliases.items xs)
+
+pub known_is_simple : is_simple known ≡ true
+unfolding clap_on_literals
+known_is_simple = refl
+
+pub known_is_free : is_simple_and_free known ≡ true
+unfolding clap_on_literals
+known_is_free = refl
+
+-- words that `clap` takes, by their values
+pub taken : (kinds : Kinds) (rows told : List Row) → kinds ≡ [] → told ≡ rows → are_values told ≡ is_order_of kinds rows
+taken kinds rows told none same = ap are_values same ∙ ap (λ ks. is_order_of ks rows) (sym none)
+
+-- words that it doesn't take, by the kind of its error
+pub not_taken : (k : ErrorKind) (kinds told : Kinds) (rows : List Row) → told ≡ kinds → IsSingle kinds → IsAmong k told
+    → is_request k ≡ is_order_of kinds rows
+not_taken k kinds told rows same single among = go kinds single (subst (IsAmong k) same among)
+  where
+    go : (ks : Kinds) → IsSingle ks → IsAmong k ks → is_request k ≡ is_order_of ks rows
+    go [] s a = absurd a
+    go (x ∷ []) s (inl e) = ap is_request e
+    go (x ∷ []) s (inr a) = absurd a
+    go (x ∷ (y ∷ ys)) s a = absurd s
+
+pub err_passes : {T E : Type 0} (r : Result T E) (e : E) (P : T → Type 0) → r ≡ Err e → IfOk r P
+err_passes r e P is = subst (λ q. IfOk q P) (sym is) tt
+
+-- an answer that is an order where a test says so, by another test that says the same
+pub by_same_test : {X E : Type 0} (r : Result (Option X) E) (a b : Bool) → a ≡ b → IfOk r (λ o. is_some o ≡ a)
+    → IfOk r (λ o. is_some o ≡ b)
+by_same_test r a b e = IfOk-weaker r (λ o. is_some o ≡ a) (λ o. is_some o ≡ b) (λ o is. is ∙ e)

@@ -1,0 +1,93 @@
+//! The command line.
+
+ghost use Rattle.std.specs.Prelude.{◌≡◌, ◌≤◌, ◌⊎◌, map, true, false};
+ghost use Rattle.takers.specs.Pump.{Tells};
+ghost use Rattle.screentext_command.specs.Words.{is_order, memory_line, usage_line};
+ghost use Rattle.screentext_command.specs.declared.error.TextError.TheVariants.{Memory};
+
+use crate::answer::answer_of;
+use crate::cast::parse_recording;
+use crate::error::TextError;
+use crate::streams::{read_all, write_all};
+use crate::words::{Order, parse};
+use command_line::{FAULT, SUCCESS, USAGE, report};
+use std::alloc::Global;
+use std::fmt::Write;
+use std::io::Read;
+use takers::{Sink, Taker};
+
+const MEMORY_LINE: &[u8] = b"screentext: memory\n";
+
+const USAGE_LINE: &[u8] =
+    b"usage: screentext [ROWS COLS] [--at SECONDS] [--diff SECONDS] [--history N] [--joined] \
+[--colours] [--html | --svg]\n";
+
+/// Runs the program on the words after its name, and answers its exit status.
+///
+/// A fault is told in a line on `errors`. Words that aren't understood get the usage line there, and then nothing is read
+/// or written, unless memory is refused before that is known: that is a fault. Such a line is written whole, unless a
+/// write of it fails or takes nothing; that changes nothing else.
+pub fn command<R: Read, W: Sink, V: Taker>(
+    alloc: Global,
+    words: &[&str],
+    input: &mut R,
+    output: &mut W,
+    errors: &mut V,
+) -> u8
+    ensures refused { is_order (map (λ w. w.now) words.now) ≡ false → (input.new ≡ input.old)
+        × (output.new ≡ output.old) × (((result ≡ 2) × Tells V.takes errors.old usage_line errors.new)
+        ⊎ ((result ≡ 1) × Tells V.takes errors.old memory_line errors.new)) }
+    ensures understood { is_order (map (λ w. w.now) words.now) ≡ true → result ≤ 1 }
+
+    // Whatever the words are:
+    ensures usage { result ≡ 2 → (input.new ≡ input.old) × (output.new ≡ output.old)
+        × Tells V.takes errors.old usage_line errors.new }
+    ensures done { result ≡ 0 → errors.new ≡ errors.old }
+    ensures status { result ≤ 2 }
+{
+    let order = match parse(alloc, words) {
+        Ok(Some(order)) => order,
+        Ok(None) => {
+            report(errors, USAGE_LINE);
+            return USAGE;
+        }
+        Err(error) => return report_fault(alloc, errors, error),
+    };
+    match obey(alloc, order, input, output) {
+        Ok(()) => SUCCESS,
+        Err(error) => report_fault(alloc, errors, error),
+    }
+}
+
+/// Tells a fault in a line on `errors`, and answers the exit status that goes with it.
+pub fn report_fault<V: Taker>(alloc: Global, errors: &mut V, error: TextError) -> u8
+    ensures status { result ≡ 1 }
+    ensures memory { error ≡ Memory → Tells V.takes errors.old memory_line errors.new }
+{
+    if let TextError::Memory = error {
+        report(errors, MEMORY_LINE);
+        return FAULT;
+    }
+    match format!(in alloc; "screentext: {error}\n") {
+        Ok(line) => report(errors, line.as_bytes()),
+        Err(_) => report(errors, MEMORY_LINE),
+    }
+    FAULT
+}
+
+fn obey<R: Read, W: Sink>(
+    alloc: Global,
+    order: Order,
+    input: &mut R,
+    output: &mut W,
+) -> Result<(), TextError> {
+    match order {
+        Order::Tell(text) => write_all(output, text.as_bytes()),
+        Order::Print(request) => {
+            let bytes = read_all(alloc, input)?;
+            let recording = parse_recording(alloc, bytes)?;
+            let answer = answer_of(alloc, &recording, request)?;
+            write_all(output, &answer)
+        }
+    }
+}

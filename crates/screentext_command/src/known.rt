@@ -1,0 +1,129 @@
+//! The words that the command line knows.
+
+ghost use Rattle.std.specs.Prelude.{◌≡◌, [], ◌∷◌, false, codes, IfOk};
+ghost use Rattle.clap.specs.Words.{app_of, new_rule, rule_of};
+ghost use Rattle.screentext_command.specs.Words.{colors_rule, flag_rule, known, program as program_app, value_rule};
+ghost use Rattle.screentext_command.specs.Words.{with_flags as with_flags_on, with_values as with_values_on};
+
+use clap::{Arg, ArgAction, Command};
+use std::alloc::{AllocError, Global};
+
+const ABOUT: &str = "Prints what a recorded terminal stream shows, at its end or at a moment.";
+
+const USAGE: &str = "screentext [ROWS COLS] [OPTIONS] < RECORDING";
+
+const NOTES: &str = "\
+The recording is an asciicast v2, or the raw bytes of a program's output. ROWS and
+COLS, both or neither, are the size of the screen at first, in place of that in the
+recording's header; a raw stream with none is shown on 24 rows and 80 columns.
+
+The status is 0 at success, 1 at a fault, 2 for words that aren't understood.";
+
+/// The words that are known: two positional ones, options with a value, and flags.
+pub(crate) fn known_words<'a>(alloc: Global) -> Result<Command<'a>, AllocError>
+    ensures { IfOk result (λ c. app_of c ≡ known) }
+{
+    with_flags(alloc, with_values(alloc, program(alloc))?)
+}
+
+// The program, with no words. A later use of an option replaces an earlier one.
+fn program<'a>(alloc: Global) -> Command<'a>
+    ensures { app_of result ≡ program_app }
+{
+    Command::new(alloc, "screentext")
+        .version("0.1")
+        .about(ABOUT)
+        .override_usage(USAGE)
+        .after_help(NOTES)
+        .no_binary_name(true)
+        .args_override_self(true)
+}
+
+fn with_values<'a>(alloc: Global, command: Command<'a>) -> Result<Command<'a>, AllocError>
+    ensures { IfOk result (λ c. app_of c ≡ with_values_on (app_of command.entry)) }
+{
+    let rows = size(alloc, "ROWS", "The rows of the screen at first");
+    let cols = size(alloc, "COLS", "Its columns");
+    let at = value(
+        alloc,
+        "at",
+        "SECONDS",
+        "The screen at this time of the recording, and not at its end",
+    );
+    let diff = value(
+        alloc,
+        "diff",
+        "SECONDS",
+        "The rows that changed from this time on, before and after",
+    );
+    let history = value(
+        alloc,
+        "history",
+        "N",
+        "The newest N rows that left at the top, before those of the screen",
+    );
+    Ok(
+        command
+            .arg(rows)?
+            .arg(cols)?
+            .arg(at)?
+            .arg(diff)?
+            .arg(history)?,
+    )
+}
+
+fn with_flags<'a>(alloc: Global, command: Command<'a>) -> Result<Command<'a>, AllocError>
+    ensures { IfOk result (λ c. app_of c ≡ with_flags_on (app_of command.entry)) }
+{
+    let joined = flag(
+        alloc,
+        "joined",
+        "A row that goes on in the next is one line with it",
+    );
+    let colors = colors(alloc)?;
+    let html = flag(alloc, "html", "A page in HTML that shows the screen");
+    let svg = flag(
+        alloc,
+        "svg",
+        "A picture in SVG of the screen; not with --html",
+    );
+    Ok(command.arg(joined)?.arg(colors)?.arg(html)?.arg(svg)?)
+}
+
+fn colors<'a>(alloc: Global) -> Result<Arg<'a>, AllocError>
+    ensures { IfOk result (λ a. (rule_of a ≡ colors_rule) × (a.global ≡ false)) }
+{
+    let colors = flag(
+        alloc,
+        "colours",
+        "Colours and other attributes, as escape sequences (SGR)",
+    );
+    Ok(colors.visible_alias("colors")?)
+}
+
+// A positional word.
+fn size<'a>(alloc: Global, id: &'a str, help: &'a str) -> Arg<'a>
+    ensures rule { rule_of result ≡ new_rule id.entry.now }
+    ensures local { result.global ≡ false }
+{
+    Arg::new(alloc, id).help(help)
+}
+
+// An option with a value.
+fn value<'a>(alloc: Global, id: &'a str, name: &'a str, help: &'a str) -> Arg<'a>
+    ensures rule { rule_of result ≡ value_rule id.entry.now }
+    ensures local { result.global ≡ false }
+{
+    Arg::new(alloc, id).long(id).value_name(name).help(help)
+}
+
+// An option without one. It may be repeated.
+fn flag<'a>(alloc: Global, id: &'a str, help: &'a str) -> Arg<'a>
+    ensures rule { rule_of result ≡ flag_rule id.entry.now }
+    ensures local { result.global ≡ false }
+{
+    Arg::new(alloc, id)
+        .long(id)
+        .action(ArgAction::Count)
+        .help(help)
+}

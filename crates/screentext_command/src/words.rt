@@ -1,0 +1,183 @@
+//! The words of the command line.
+
+ghost use Rattle.std.specs.Prelude.{◌≡◌, ◌&&◌, true, false, not, map, nat_le, is_some, codes, None, Err, IfOk, IfErr};
+ghost use Rattle.std.specs.Option.{option_map, option_map_or};
+ghost use Rattle.clap.specs.Words.{App, Kinds, app_of, fault_of, found_of, kind_of, matches_of, rows_of};
+ghost use Rattle.clap.specs.declared.error.ErrorKind.TheVariants.{OutOfMemory};
+ghost use Rattle.command_line.specs.Numbers.{is_count};
+ghost use Rattle.serde_json.specs.Read.{read as read_text};
+ghost use Rattle.screentext_command.specs.declared.error.TextError.TheVariants.{Memory};
+ghost use Rattle.screentext_command.specs.Words.{are_values, is_moment, is_order, is_request, is_screen, is_time};
+
+use crate::cast::{microseconds, parse_text};
+use crate::error::TextError;
+use crate::known::known_words;
+use clap::error::ErrorKind;
+use clap::{ArgMatches, Error};
+use command_line::{parse_count, parse_size};
+use recorded_screen::{END, Size};
+use std::alloc::Global;
+use std::fmt::Write;
+
+/// What the program is asked to do.
+#[derive(Drop)]
+pub(crate) enum Order {
+    /// Tell this text: the help or the version.
+    Tell(String),
+    /// Print a screen.
+    Print(Request),
+}
+
+/// The form in which a screen is printed.
+#[derive(Clone, Copy)]
+pub(crate) enum Form {
+    /// Its rows as text.
+    Text,
+    /// A page in HTML.
+    Html,
+    /// A picture in SVG.
+    Svg,
+}
+
+/// How the rows of a screen are written as text.
+#[derive(Clone, Copy)]
+pub(crate) struct Look {
+    /// Whether a row that goes on in the next has no newline, and rows keep the spaces at their ends.
+    pub(crate) joined: bool,
+    /// Whether colours and other attributes are told, by SGR.
+    pub(crate) colors: bool,
+}
+
+/// Which screen is printed, and how.
+#[derive(Clone, Copy)]
+pub(crate) struct Request {
+    /// The size at first, where the command line has one.
+    pub(crate) size: Option<Size>,
+    /// The moment, in microseconds.
+    pub(crate) moment: u64,
+    /// The other moment, where what changed from it on is wanted.
+    pub(crate) since: Option<u64>,
+    /// How many kept rows come before those of the screen, at most.
+    pub(crate) history: usize,
+    pub(crate) look: Look,
+    pub(crate) form: Form,
+}
+
+/// Reads the words. Words that aren't understood are no order, and the only fault is that memory is refused.
+pub(crate) fn parse(alloc: Global, words: &[&str]) -> Result<Option<Order>, TextError>
+    ensures fault { IfErr result (λ e. e ≡ Memory) }
+    ensures order { IfOk result (λ o. is_some o ≡ is_order (map (λ w. w.now) words.now)) }
+{
+    match known_words(alloc)?.try_get_matches_from(words) {
+        Ok(matches) => order_of(alloc, &matches),
+        Err(error) => asked(alloc, &error),
+    }
+}
+
+// What words ask for with which `clap` doesn't go on: the help, the version or nothing.
+fn asked(alloc: Global, error: &Error) -> Result<Option<Order>, TextError>
+    ensures fault { IfErr result (λ e. e ≡ Memory) }
+    ensures order { IfOk result (λ o. is_some o ≡ is_request (kind_of error.now)) }
+    ensures memory { kind_of error.now ≡ OutOfMemory → result ≡ Err Memory }
+{
+    match error.kind() {
+        ErrorKind::OutOfMemory => Err(TextError::Memory),
+        ErrorKind::DisplayHelp | ErrorKind::DisplayVersion => {
+            Ok(Some(Order::Tell(format!(in alloc; "{error}")?)))
+        }
+        _ => Ok(None),
+    }
+}
+
+fn order_of(alloc: Global, matches: &ArgMatches<'_>) -> Result<Option<Order>, TextError>
+    ensures fault { IfErr result (λ e. e ≡ Memory) }
+    ensures order { IfOk result (λ o. is_some o ≡ are_values (rows_of (found_of matches.now))) }
+{
+    let size = size_of(matches.get_str("ROWS"), matches.get_str("COLS"));
+    let moment = moment_of(alloc, matches.get_str("at"))?;
+    let since = moment_of(alloc, matches.get_str("diff"))?;
+    let history = history_of(matches.get_str("history"));
+    let form = form_of(matches.get_count("html") > 0, matches.get_count("svg") > 0);
+    let look = Look {
+        joined: matches.get_count("joined") > 0,
+        colors: matches.get_count("colours") > 0,
+    };
+    Ok(print_order(size, moment, since, history, form, look))
+}
+
+fn print_order(
+    size: Option<Option<Size>>,
+    moment: Option<Option<u64>>,
+    since: Option<Option<u64>>,
+    history: Option<usize>,
+    form: Option<Form>,
+    look: Look,
+) -> Option<Order>
+    ensures { is_some result ≡ (is_some size && (is_some moment && (is_some since
+        && (is_some history && is_some form)))) }
+{
+    Some(Order::Print(Request {
+        size: size?,
+        moment: moment?.unwrap_or(END),
+        since: since?,
+        history: history?,
+        look,
+        form: form?,
+    }))
+}
+
+// A size: of rows and columns, or none where there is neither.
+fn size_of(rows: Option<&str>, cols: Option<&str>) -> Option<Option<Size>>
+    ensures { is_some result ≡ is_screen (option_map (λ w. w.now) rows.entry) (option_map (λ w. w.now) cols.entry) }
+{
+    match (rows, cols) {
+        (None, None) => Some(None),
+        (Some(rows), Some(cols)) => Some(Some(Size {
+            rows: parse_size(rows)?,
+            cols: parse_size(cols)?,
+        })),
+        _ => None,
+    }
+}
+
+// A time, or none where there is no word.
+fn moment_of(alloc: Global, word: Option<&str>) -> Result<Option<Option<u64>>, TextError>
+    ensures fault { IfErr result (λ e. e ≡ Memory) }
+    ensures moment { IfOk result (λ t. is_some t ≡ is_moment (option_map (λ w. w.now) word.entry)) }
+{
+    match word {
+        None => Ok(Some(None)),
+        Some(word) => Ok(time_of(alloc, word)?.map(Some)),
+    }
+}
+
+// A number of seconds, written as in JSON, in whole microseconds.
+fn time_of(alloc: Global, word: &str) -> Result<Option<u64>, TextError>
+    ensures fault { IfErr result (λ e. e ≡ Memory) }
+    ensures time { IfOk result (λ t. is_some t ≡ is_time (read_text word.now)) }
+{
+    match parse_text(alloc, word)? {
+        Some(number) => Ok(microseconds(&number)),
+        None => Ok(None),
+    }
+}
+
+fn history_of(word: Option<&str>) -> Option<usize>
+    ensures { is_some result ≡ option_map_or is_count (option_map (λ w. w.now) word.entry) true }
+{
+    match word {
+        None => Some(0),
+        Some(word) => parse_count(word),
+    }
+}
+
+fn form_of(html: bool, svg: bool) -> Option<Form>
+    ensures { is_some result ≡ not (html && svg) }
+{
+    match (html, svg) {
+        (false, false) => Some(Form::Text),
+        (true, false) => Some(Form::Html),
+        (false, true) => Some(Form::Svg),
+        (true, true) => None,
+    }
+}
