@@ -1,5 +1,6 @@
 //! A screen as text, a fact a line.
 
+use hex_digits::push_hex;
 use std::alloc::AllocError;
 use std::fmt;
 use std::fmt::Write;
@@ -139,14 +140,6 @@ fn push_flags(out: &mut String, flags: [bool; 5]) -> Result<(), AllocError> {
         out.push(if *on { *letter } else { '-' })?;
     }
     out.push('\n')
-}
-
-/// Appends two hexadecimal digits for each byte.
-pub(crate) fn push_hex(out: &mut String, bytes: &[u8]) -> Result<(), AllocError> {
-    for byte in bytes {
-        write!(out, "{byte:02x}")?;
-    }
-    Ok(())
 }
 
 // A flag as 0 or 1.

@@ -1,13 +1,12 @@
 //! Scripts of calls on a parser and its screen.
 
-ghost use Rattle.std.specs.Prelude.{◌<◌, IfOk};
-
-use crate::dump::{push_hex, push_screen};
+use crate::dump::push_screen;
 use crate::error::DumpError;
 use crate::stream::{flush, read_all, write_text};
 use crate::texts::{
     push_check, push_diffs, push_rows, push_rows_diff, push_rows_formatted, push_texts,
 };
+use hex_digits::{digit_value, push_hex};
 use std::alloc::Global;
 use std::io::Read;
 use std::num::NonZeroU16;
@@ -96,17 +95,28 @@ fn parse_question(name: &str, words: &mut SplitWhitespace<'_>) -> Result<Questio
         "texts" => Ok(Question::Texts),
         "diffs" => Ok(Question::Diffs),
         "check" => Ok(Question::Check),
-        "rows" => Ok(Question::Rows(place(words)?, place(words)?)),
-        "rows_formatted" => Ok(Question::RowsFormatted(place(words)?, place(words)?)),
-        "rows_diff" => Ok(Question::RowsDiff(place(words)?, place(words)?)),
-        "between" => Ok(Question::Between(
-            place(words)?,
-            place(words)?,
-            place(words)?,
-            place(words)?,
-        )),
+        "between" => {
+            let (start_row, start_col) = places(words)?;
+            let (end_row, end_col) = places(words)?;
+            Ok(Question::Between(start_row, start_col, end_row, end_col))
+        }
+        _ => parse_rows(name, words),
+    }
+}
+
+// A question for each row, about these columns.
+fn parse_rows(name: &str, words: &mut SplitWhitespace<'_>) -> Result<Question, DumpError> {
+    let (start, width) = places(words)?;
+    match name {
+        "rows" => Ok(Question::Rows(start, width)),
+        "rows_formatted" => Ok(Question::RowsFormatted(start, width)),
+        "rows_diff" => Ok(Question::RowsDiff(start, width)),
         _ => Err(DumpError::Script),
     }
+}
+
+fn places(words: &mut SplitWhitespace<'_>) -> Result<(u16, u16), DumpError> {
+    Ok((place(words)?, place(words)?))
 }
 
 // A row, a column or a count of them.
@@ -132,24 +142,19 @@ fn size(words: &mut SplitWhitespace<'_>) -> Result<NonZeroU16, DumpError> {
 fn unhex(alloc: Global, digits: &str) -> Result<Vec<u8>, DumpError> {
     let mut bytes = Vec::new(alloc);
     for pair in digits.as_bytes().chunks(2) {
-        let [high, low] = pair else {
+        let Some(byte) = byte_of(pair) else {
             return Err(DumpError::Script);
         };
-        bytes.push(digit(*high)? * 16 + digit(*low)?)?;
+        bytes.push(byte)?;
     }
     Ok(bytes)
 }
 
-// The value of an ASCII hexadecimal digit.
-fn digit(byte: u8) -> Result<u8, DumpError>
-    ensures { IfOk result (λ d. d < 16) }
-{
-    match byte {
-        b'0'..=b'9' => Ok(byte - b'0'),
-        b'a'..=b'f' => Ok(byte - b'a' + 10),
-        b'A'..=b'F' => Ok(byte - b'A' + 10),
-        _ => Err(DumpError::Script),
-    }
+fn byte_of(pair: &[u8]) -> Option<u8> {
+    let [high, low] = pair else {
+        return None;
+    };
+    Some(digit_value(*high)? * 16 + digit_value(*low)?)
 }
 
 /// Replays a script, a line each, and writes what its lines answer. It begins with a fresh parser of 24 rows and 80
@@ -184,17 +189,27 @@ fn take_lines<W: Sink>(
     let mut answer = String::new(alloc);
     for line in script.lines() {
         answer.clear();
-        let step = parse_step(alloc, line)?;
-        take_step(alloc, step, parser, base, &mut answer)?;
+        take_line(alloc, line, parser, base, &mut answer)?;
         write_text(output, &answer)?;
     }
     flush(output)
 }
 
-// Takes one step, and appends its answer.
+// Takes the step of a line, and appends its answer.
+fn take_line(
+    alloc: Global,
+    line: &str,
+    parser: &mut Parser<()>,
+    base: &mut Screen,
+    answer: &mut String,
+) -> Result<(), DumpError> {
+    let step = parse_step(alloc, line)?;
+    take_step(alloc, &step, parser, base, answer)
+}
+
 fn take_step(
     alloc: Global,
-    step: Step,
+    step: &Step,
     parser: &mut Parser<()>,
     base: &mut Screen,
     answer: &mut String,
@@ -202,17 +217,17 @@ fn take_step(
     match step {
         Step::Nothing => {}
         Step::New(rows, cols, capacity) => {
-            *parser = Parser::new(alloc, rows, cols, capacity)?;
+            *parser = Parser::new(alloc, *rows, *cols, *capacity)?;
             *base = parser.screen().clone()?;
             answer.push_str("new\n")?;
         }
-        Step::Feed(bytes) => parser.process(&bytes)?,
-        Step::Resize(rows, cols) => parser.set_size(rows, cols)?,
-        Step::ScreenResize(rows, cols) => parser.screen_mut().set_size(rows, cols)?,
-        Step::SetScrollback(rows) => parser.screen_mut().set_scrollback(rows)?,
+        Step::Feed(bytes) => parser.process(bytes)?,
+        Step::Resize(rows, cols) => parser.set_size(*rows, *cols)?,
+        Step::ScreenResize(rows, cols) => parser.screen_mut().set_size(*rows, *cols)?,
+        Step::SetScrollback(rows) => parser.screen_mut().set_scrollback(*rows)?,
         Step::ClearScrollback => parser.screen_mut().clear_scrollback(),
         Step::Base => *base = parser.screen().clone()?,
-        Step::Ask(question) => tell(alloc, question, parser.screen(), base, answer)?,
+        Step::Ask(question) => tell(alloc, *question, parser.screen(), base, answer)?,
     }
     Ok(())
 }

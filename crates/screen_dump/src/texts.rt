@@ -1,10 +1,48 @@
 //! The texts of a screen, a line each, and where they lead.
 ghost use Rattle.std.specs.Iterator.{IsFinite};
 
-use crate::dump::{push_hex, push_screen};
+use crate::dump::push_screen;
 use crate::error::DumpError;
+use hex_digits::push_hex;
 use std::alloc::Global;
 use vt100::{Parser, Screen, ScreenError};
+
+/// A text that a screen writes of itself.
+#[derive(Clone, Copy)]
+enum Text {
+    Contents,
+    ContentsFormatted,
+    StateFormatted,
+    ContentsFormattedBasic,
+    InputModeFormatted,
+    AttributesFormatted,
+    CursorStateFormatted,
+}
+
+const TEXTS: [(&str, Text); 7] = [
+    ("text contents", Text::Contents),
+    ("text contents_formatted", Text::ContentsFormatted),
+    ("text state_formatted", Text::StateFormatted),
+    (
+        "text contents_formatted_basic",
+        Text::ContentsFormattedBasic,
+    ),
+    ("text input_mode_formatted", Text::InputModeFormatted),
+    ("text attributes_formatted", Text::AttributesFormatted),
+    ("text cursor_state_formatted", Text::CursorStateFormatted),
+];
+
+fn text_of(screen: &Screen, text: Text) -> Result<String, ScreenError> {
+    match text {
+        Text::Contents => screen.contents(),
+        Text::ContentsFormatted => screen.contents_formatted(),
+        Text::StateFormatted => screen.state_formatted(),
+        Text::ContentsFormattedBasic => screen.contents_formatted_basic(),
+        Text::InputModeFormatted => screen.input_mode_formatted(),
+        Text::AttributesFormatted => screen.attributes_formatted(),
+        Text::CursorStateFormatted => screen.cursor_state_formatted(),
+    }
+}
 
 /// Appends what the screen writes of itself, in hexadecimal digits:
 ///
@@ -16,29 +54,9 @@ use vt100::{Parser, Screen, ScreenError};
 ///
 /// The names are those of the calls.
 pub(crate) fn push_texts(out: &mut String, screen: &Screen) -> Result<(), DumpError> {
-    push_text(out, "text contents", screen.contents()?)?;
-    push_text(out, "text contents_formatted", screen.contents_formatted()?)?;
-    push_text(out, "text state_formatted", screen.state_formatted()?)?;
-    push_text(
-        out,
-        "text contents_formatted_basic",
-        screen.contents_formatted_basic()?,
-    )?;
-    push_text(
-        out,
-        "text input_mode_formatted",
-        screen.input_mode_formatted()?,
-    )?;
-    push_text(
-        out,
-        "text attributes_formatted",
-        screen.attributes_formatted()?,
-    )?;
-    push_text(
-        out,
-        "text cursor_state_formatted",
-        screen.cursor_state_formatted()?,
-    )?;
+    for (name, text) in TEXTS {
+        push_text(out, name, text_of(screen, text)?)?;
+    }
     let (_, cols) = screen.size();
     push_rows(out, screen, 0, cols.get())?;
     push_rows_formatted(out, screen, 0, cols.get())
@@ -117,16 +135,19 @@ fn push_each<I: Iterator<Item = Result<String, ScreenError>> + Drop>(
         let Some(text) = texts.next() else {
             break;
         };
-        let text = text?;
         write!(out, "{name} {i} ")?;
-        push_hex(out, text.as_bytes())?;
-        out.push('\n')?;
+        push_rest(out, text?)?;
     }
     Ok(())
 }
 
 fn push_text(out: &mut String, name: &str, text: String) -> Result<(), DumpError> {
     write!(out, "{name} ")?;
+    push_rest(out, text)
+}
+
+// A text in hexadecimal digits, and the line's end.
+fn push_rest(out: &mut String, text: String) -> Result<(), DumpError> {
     push_hex(out, text.as_bytes())?;
     out.push('\n')?;
     Ok(())

@@ -6,10 +6,11 @@ use std::marker::Model;
 use vte::ansi::{Call, Handler};
 use vte::{Event, Perform};
 
-/// Counts what it receives, and takes a text as so many characters as it has bytes.
+/// Counts what it receives, and takes a text as so many characters as it has bytes. After `usize::MAX` comes 0.
 #[derive(Drop)]
-pub(crate) struct Counting {
-    pub(crate) count: usize,
+pub struct Counting {
+    /// How many came so far.
+    pub count: usize,
 }
 
 /// Nothing is promised of the count.
@@ -22,7 +23,8 @@ impl Model for Counting {
 }
 
 impl Counting {
-    pub(crate) fn new() -> Self {
+    /// One that has received nothing.
+    pub fn new() -> Self {
         Counting { count: 0 }
     }
 
