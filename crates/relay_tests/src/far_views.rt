@@ -1,31 +1,36 @@
 //! Far views: what a session's bytes show, wherever they are cut, and the texts of a relay's faults.
-use crate::seen::{count, text_of};
+use crate::seen::{Size, count, same, text_of};
 use relay_streams::{RelayError, far_view, view_of};
+use std::alloc::Global;
 use std::num::NonZeroU16;
+use std::process::Abort;
 use std::test::Fail;
 use termrelay::{Call, Client, Hub, Log, Take, run};
 use termview::{Color, CursorStyle, MouseProtocolEncoding, MouseProtocolMode, UntilCleared, View};
 
-const HI: &[u8] = b"\x1b[?2026h\x1b[?25h\x1b[m\x1b[H\x1b[Jhi\x1b>\x1b[?1l\x1b[?2004l\x1b[?2026l";
+/// A frame of 48 bytes, and the beginning of another one.
+const STREAM: &[u8] =
+    b"\x1b[?2026h\x1b[?25h\x1b[m\x1b[H\x1b[Jhi\x1b>\x1b[?1l\x1b[?2004l\x1b[?2026l\x1b[?2026habc";
 
-const START: &[u8] = b"\x1b[?2026h";
+/// Where the stream is cut, and how many bytes are held then.
+const HELD: &[(&[usize], usize)] = &[
+    (&[], 11),
+    (&[48], 3),
+    (&[40, 8], 3),
+    (&[50], 3),
+    (&[1000, 1], 11),
+];
+
+fn check_held(rt: &(impl Abort + AllocGlobal), cuts: &[usize], held: usize) -> Result<(), Fail> {
+    let view = view_of(rt.alloc(), NonZeroU16::MIN, NonZeroU16::MAX, STREAM, cuts)?;
+    same(rt, &cuts, &view.sync_bytes_count(), &held);
+    Ok(())
+}
 
 #[test]
 fn views(rt: HostRuntime) -> Result<(), Fail> {
-    let mut stream = Vec::new(rt.alloc());
-    stream.extend_from_slice(HI)?;
-    stream.extend_from_slice(START)?;
-    stream.extend_from_slice(b"abc")?;
-    let rows: [(&[usize], usize); 5] = [
-        (&[], 11),
-        (&[48], 3),
-        (&[40, 8], 3),
-        (&[50], 3),
-        (&[1000, 1], 11),
-    ];
-    for (cuts, held) in rows {
-        let view = view_of(rt.alloc(), NonZeroU16::MIN, NonZeroU16::MAX, &stream, cuts)?;
-        assert_eq!(rt; view.sync_bytes_count(), held);
+    for (cuts, held) in HELD {
+        check_held(&rt, cuts, *held)?;
     }
     Ok(())
 }
@@ -39,21 +44,27 @@ fn attached(hub: &mut Hub, log: &mut Log) -> Result<Client, Fail> {
 }
 
 /// The key that a new hub gives its first client.
-fn first_key(rt: &HostRuntime, rows: NonZeroU16, cols: NonZeroU16) -> Result<Client, Fail> {
-    let mut hub = Hub::new(rt.alloc(), rows, cols)?;
-    let mut log = Log::new(rt.alloc());
+fn first_key(alloc: Global, size: Size) -> Result<Client, Fail> {
+    let mut hub = Hub::new(alloc, count(size.0), count(size.1))?;
+    let mut log = Log::new(alloc);
     attached(&mut hub, &mut log)
 }
 
-/// What a far view shows of all that was pumped to the first client.
-fn seen(
-    rt: &HostRuntime,
-    rows: NonZeroU16,
-    cols: NonZeroU16,
+/// What a far view shows of so many bytes of those that were pumped to the first client, which are cut so.
+fn seen_of(
+    alloc: Global,
+    size: Size,
     calls: &[Call<'_>],
+    take: usize,
+    cuts: &[usize],
 ) -> Result<View<UntilCleared>, Fail> {
-    let found = far_view(rt.alloc(), rows, cols, calls, 0, usize::MAX, &[])?;
+    let found = far_view(alloc, count(size.0), count(size.1), calls, 0, take, cuts)?;
     Ok(found.ok_or("no view")?)
+}
+
+/// What it shows of all of them.
+fn seen(alloc: Global, size: Size, calls: &[Call<'_>]) -> Result<View<UntilCleared>, Fail> {
+    seen_of(alloc, size, calls, usize::MAX, &[])
 }
 
 /// The text and the colour of a cell, and the cursor.
@@ -66,79 +77,105 @@ fn cell_of(
     Ok((cell.contents(), cell.fgcolor(), view.cursor_position()))
 }
 
-// What a far view shows after two frames: the rows' text, the cursor, and whether the first row goes on in the second.
+/// A cell is so, and the cursor.
+fn check_cell(
+    rt: &impl Abort,
+    view: &View<UntilCleared>,
+    (row, col): (u16, u16),
+    wanted: (&str, Color, (u16, u16)),
+) -> Result<(), Fail> {
+    same(rt, &(row, col), &cell_of(view, row, col)?, &wanted);
+    Ok(())
+}
+
+/// The rows' text, the cursor, and whether the first row goes on in the second.
+type Shown = (&'static [u8], (u16, u16), bool);
+
+fn check_shown(
+    rt: &(impl Abort + AllocGlobal),
+    view: &View<UntilCleared>,
+    wanted: Shown,
+) -> Result<(), Fail> {
+    let text = text_of(rt.alloc(), view)?;
+    let shown = (text.as_slice(), view.cursor_position(), view.row_wrapped(0));
+    same(rt, &"shown", &shown, &wanted);
+    Ok(())
+}
+
+/// A size, two streams, and what a far view shows after a frame of each.
+const TWO_FRAMES: &[(Size, &[u8], &[u8], Shown)] = &[
+    (
+        (2, 4),
+        b"abcdxyz",
+        b"\x1b[1;4He\x1b[2;2H\x1b[X",
+        (b"abce\nx z\n", (1, 1), true),
+    ),
+    (
+        (2, 4),
+        b"ab\xe4\xb8\xadx",
+        b"\x1b[1;4Hd",
+        (b"ab d\nx\n", (0, 4), true),
+    ),
+    (
+        (2, 4),
+        b"an\xe4\xb8\xady",
+        b"\x1b[1;2H\xe4\xb8\xadxy",
+        (b"a\xe4\xb8\xadx\ny\n", (1, 1), true),
+    ),
+    ((2, 2), b"ab", b"\x1b[2K", (b"\n\n", (0, 2), false)),
+    (
+        (2, 4),
+        b"\xe4\xb8",
+        b"\xad",
+        (b"\xe4\xb8\xad\n\n", (0, 2), false),
+    ),
+];
+
+fn check_two_frames(
+    rt: &(impl Abort + AllocGlobal),
+    size: Size,
+    first: &'static [u8],
+    second: &'static [u8],
+    wanted: Shown,
+) -> Result<(), Fail> {
+    let key = first_key(rt.alloc(), size)?;
+    let calls: [Call<'_>; 7] = [
+        Call::Attach,
+        Call::Feed(first),
+        Call::Frame(key),
+        Call::Pump(key, &[]),
+        Call::Feed(second),
+        Call::Frame(key),
+        Call::Pump(key, &[]),
+    ];
+    let view = seen(rt.alloc(), size, &calls)?;
+    check_shown(rt, &view, wanted)
+}
+
 #[test]
 fn far_views(rt: HostRuntime) -> Result<(), Fail> {
-    let rows: [(u16, u16, &[u8], &[u8], &[u8], (u16, u16), bool); 5] = [
-        (
-            2,
-            4,
-            b"abcdxyz",
-            b"\x1b[1;4He\x1b[2;2H\x1b[X",
-            b"abce\nx z\n",
-            (1, 1),
-            true,
-        ),
-        (
-            2,
-            4,
-            b"ab\xe4\xb8\xadx",
-            b"\x1b[1;4Hd",
-            b"ab d\nx\n",
-            (0, 4),
-            true,
-        ),
-        (
-            2,
-            4,
-            b"an\xe4\xb8\xady",
-            b"\x1b[1;2H\xe4\xb8\xadxy",
-            b"a\xe4\xb8\xadx\ny\n",
-            (1, 1),
-            true,
-        ),
-        (2, 2, b"ab", b"\x1b[2K", b"\n\n", (0, 2), false),
-        (
-            2,
-            4,
-            b"\xe4\xb8",
-            b"\xad",
-            b"\xe4\xb8\xad\n\n",
-            (0, 2),
-            false,
-        ),
-    ];
-    for (height, width, first, second, text, cursor, wraps) in rows {
-        let (height, width) = (count(height), count(width));
-        let key = first_key(&rt, height, width)?;
-        let calls: [Call<'_>; 7] = [
-            Call::Attach,
-            Call::Feed(first),
-            Call::Frame(key),
-            Call::Pump(key, &[]),
-            Call::Feed(second),
-            Call::Frame(key),
-            Call::Pump(key, &[]),
-        ];
-        let view = seen(&rt, height, width, &calls)?;
-        let shown = text_of(rt.alloc(), &view)?;
-        assert_eq!(rt;
-            (
-                shown.as_slice(),
-                view.cursor_position(),
-                view.row_wrapped(0)
-            ),
-            (text, cursor, wraps)
-        );
+    for (size, first, second, wanted) in TWO_FRAMES {
+        check_two_frames(&rt, *size, first, second, *wanted)?;
     }
+    Ok(())
+}
+
+fn check_cut(
+    rt: &(impl Abort + AllocGlobal),
+    calls: &[Call<'_>],
+    take: usize,
+    cut: usize,
+    wanted: (&str, Color, (u16, u16)),
+) -> Result<(), Fail> {
+    let view = seen_of(rt.alloc(), (24, 80), calls, take, &[cut])?;
+    same(rt, &cut, &cell_of(&view, 0, 13)?, &wanted);
     Ok(())
 }
 
 // All bytes but the last one of two frames show the first of them, wherever they are cut; all of them show the second.
 #[test]
 fn far_cuts(rt: HostRuntime) -> Result<(), Fail> {
-    let (height, width) = (count(24), count(80));
-    let key = first_key(&rt, height, width)?;
+    let key = first_key(rt.alloc(), (24, 80))?;
     let calls: [Call<'_>; 8] = [
         Call::Attach,
         Call::Feed(b"this text is \x1b[31mRED\x1b[m"),
@@ -149,34 +186,26 @@ fn far_cuts(rt: HostRuntime) -> Result<(), Fail> {
         Call::Frame(key),
         Call::Pump(key, &[]),
     ];
-    for cut in 0..104 {
-        let take = if cut == 103 { 103 } else { 102 };
-        let found = far_view(rt.alloc(), height, width, &calls, 0, take, &[cut])?;
-        let view = found.ok_or("no view")?;
-        let wanted = if take == 103 {
-            ("G", Color::Idx(2), (0, 18))
-        } else {
-            ("R", Color::Idx(1), (0, 16))
-        };
-        assert_eq!(rt; cell_of(&view, 0, 13)?, wanted, "{cut}");
+    for cut in 0..103 {
+        check_cut(&rt, &calls, 102, cut, ("R", Color::Idx(1), (0, 16)))?;
     }
-    Ok(())
+    check_cut(&rt, &calls, 103, 103, ("G", Color::Idx(2), (0, 18)))
 }
 
 // With no bytes a far view is blank, and there is none of a client that wasn't attached.
 #[test]
 fn far_views_of_nothing(rt: HostRuntime) -> Result<(), Fail> {
-    let blank = far_view(rt.alloc(), count(2), count(4), &[Call::Attach], 0, 0, &[])?;
-    assert_eq!(rt; blank.ok_or("no view")?.cursor_position(), (0, 0));
+    let blank = seen_of(rt.alloc(), (2, 4), &[Call::Attach], 0, &[])?;
+    same(&rt, &"cursor", &blank.cursor_position(), &(0, 0));
     let none = far_view(rt.alloc(), count(2), count(4), &[Call::Attach], 1, 0, &[])?;
-    assert!(rt; none.is_none());
+    same(&rt, &"unknown", &none.is_none(), &true);
     Ok(())
 }
 
 // A client that was attached after a resize.
 #[test]
 fn far_sizes(rt: HostRuntime) -> Result<(), Fail> {
-    let key = first_key(&rt, count(2), count(4))?;
+    let key = first_key(rt.alloc(), (2, 4))?;
     let calls: [Call<'_>; 5] = [
         Call::Feed(b"a\r\nb\r\nc"),
         Call::Resize(count(4), count(4)),
@@ -184,27 +213,11 @@ fn far_sizes(rt: HostRuntime) -> Result<(), Fail> {
         Call::Frame(key),
         Call::Pump(key, &[]),
     ];
-    let view = seen(&rt, count(2), count(4), &calls)?;
-    let shown = text_of(rt.alloc(), &view)?;
-    assert_eq!(rt;
-        (shown.as_slice(), view.cursor_position()),
-        (b"\nb\nc\n\n".as_slice(), (2, 1))
-    );
-    Ok(())
+    let view = seen(rt.alloc(), (2, 4), &calls)?;
+    check_shown(&rt, &view, (b"\nb\nc\n\n", (2, 1), false))
 }
 
-// Modes, colours and a style.
-#[test]
-fn far_modes(rt: HostRuntime) -> Result<(), Fail> {
-    let key = first_key(&rt, count(1), count(3))?;
-    let calls: [Call<'_>; 4] = [
-        Call::Attach,
-        Call::Feed(b"\x1b[?1000h\x1b[?1006h\x1b[4 q\x1b=\x1b[?1h\x1b[91mA"),
-        Call::Frame(key),
-        Call::Pump(key, &[]),
-    ];
-    let view = seen(&rt, count(1), count(3), &calls)?;
-    assert_eq!(rt; cell_of(&view, 0, 0)?, ("A", Color::Idx(9), (0, 1)));
+fn check_modes(rt: &impl Abort, view: &View<UntilCleared>) {
     let modes = (
         view.mouse_protocol_mode(),
         view.mouse_protocol_encoding(),
@@ -217,8 +230,22 @@ fn far_modes(rt: HostRuntime) -> Result<(), Fail> {
         CursorStyle::SteadyUnderline,
         true,
     );
-    assert_eq!(rt; modes, wanted);
-    Ok(())
+    same(rt, &"modes", &modes, &wanted);
+}
+
+// Modes, colours and a style.
+#[test]
+fn far_modes(rt: HostRuntime) -> Result<(), Fail> {
+    let key = first_key(rt.alloc(), (1, 3))?;
+    let calls: [Call<'_>; 4] = [
+        Call::Attach,
+        Call::Feed(b"\x1b[?1000h\x1b[?1006h\x1b[4 q\x1b=\x1b[?1h\x1b[91mA"),
+        Call::Frame(key),
+        Call::Pump(key, &[]),
+    ];
+    let view = seen(rt.alloc(), (1, 3), &calls)?;
+    check_modes(&rt, &view);
+    check_cell(&rt, &view, (0, 0), ("A", Color::Idx(9), (0, 1)))
 }
 
 #[test]

@@ -150,36 +150,42 @@ fn a_longer_frame(rt: HostRuntime) -> Result<(), Fail> {
     Ok(())
 }
 
+/// The other sheet is shown for two pieces, and then the first one again.
+fn show_other_sheet(input: &mut Vec<u8>) -> Result<(), AllocError> {
+    input.extend_from_slice(b"\x1b[?47h")?;
+    input.extend_from_slice(&[0; 8_192])?;
+    input.extend_from_slice(b"\x1b[?47l")
+}
+
+/// Relays a screen of one row.
+fn relay_row(alloc: Global, mut input: &[u8], output: &mut Vec<u8>) -> Result<(), RelayError> {
+    relay(alloc, count(1), count(60_000), &mut input, output)
+}
+
+/// What was relayed shows an empty row.
+fn check_row(rt: &(impl Abort + AllocGlobal), mut relayed: &[u8]) -> Result<(), Fail> {
+    let mut shown = Vec::new(rt.alloc());
+    show(
+        rt.alloc(),
+        count(1),
+        count(60_000),
+        &mut relayed,
+        &mut shown,
+    )?;
+    same(rt, &"show", &shown.as_slice(), &b"\n".as_slice());
+    Ok(())
+}
+
 /// The other sheet is shown for a while, and the frame that would lead back from it is too long: what was relayed shows
 /// that sheet.
 #[test]
 fn a_relay_that_ends(rt: HostRuntime) -> Result<(), Fail> {
     let mut input = cells(rt.alloc(), 30_000)?;
-    input.extend_from_slice(b"\x1b[?47h")?;
-    for _ in 0..8_192 {
-        input.push(0)?;
-    }
-    input.extend_from_slice(b"\x1b[?47l")?;
-    let (height, width) = (count(1), count(60_000));
+    show_other_sheet(&mut input)?;
     let mut relayed = Vec::new(rt.alloc());
-    let answer = relay(
-        rt.alloc(),
-        height,
-        width,
-        &mut input.as_slice(),
-        &mut relayed,
-    );
-    assert_eq!(rt; answer, Err(RelayError::FrameTooLong));
-    let mut shown = Vec::new(rt.alloc());
-    show(
-        rt.alloc(),
-        height,
-        width,
-        &mut relayed.as_slice(),
-        &mut shown,
-    )?;
-    assert_eq!(rt; shown.as_slice(), b"\n".as_slice());
-    Ok(())
+    let answer = relay_row(rt.alloc(), &input, &mut relayed);
+    same(&rt, &"relay", &answer, &Err(RelayError::FrameTooLong));
+    check_row(&rt, &relayed)
 }
 
 /// The letter at this place of the alphabet, which goes on from its start.

@@ -1,13 +1,13 @@
 //! A hub at work: what each call answers, and what each client is owed then.
 //!
 //! A call that found no memory has changed nothing and is made again, but for a feed, after which the hub has failed.
-use crate::seen::count;
+use crate::seen::{count, same};
 use crate::sink::Sink;
 use std::alloc::{AllocError, Global};
 use std::io::ErrorKind;
 use std::process::Abort;
 use std::test::Fail;
-use termrelay::{Answer, Client, Hub, HubError};
+use termrelay::{Answer, Client, Hub, HubError, Screen};
 use termview::Color;
 
 /// What is done with a hub, and what has to come of it. Clients are counted in the order of their coming.
@@ -55,6 +55,14 @@ fn new_hub(alloc: Global, rows: u16, cols: u16) -> Result<Hub, HubError> {
     }
 }
 
+/// The text of a screen's rows, at the second try if the first was refused.
+fn retried_contents(screen: &Screen) -> Result<String, Fail> {
+    match screen.contents() {
+        Ok(contents) => Ok(contents),
+        Err(_) => Ok(screen.contents()?),
+    }
+}
+
 /// The kind of a writer's fault; `NotFound` stands for any other refusal.
 fn fault_of(answer: &Result<(), HubError>) -> Option<ErrorKind> {
     match answer {
@@ -62,6 +70,11 @@ fn fault_of(answer: &Result<(), HubError>) -> Option<ErrorKind> {
         Err(HubError::Write(error)) => Some(error.kind()),
         Err(_) => Some(ErrorKind::NotFound),
     }
+}
+
+/// The client isn't known, says this answer.
+fn is_unknown<T>(answer: &Result<T, HubError>) -> bool {
+    matches!(answer, Err(HubError::UnknownClient))
 }
 
 /// How many clients come at most.
@@ -113,7 +126,7 @@ impl Stage {
         for place in self.places.iter() {
             if !place.has_ended {
                 let found = self.hub.owed(place.client()).ok();
-                assert_eq!(rt; found, Some(owed(steps, *place)));
+                same(rt, &place.key, &found, &Some(owed(steps, *place)));
             }
         }
     }
@@ -179,7 +192,8 @@ impl Stage {
         } else {
             None
         };
-        assert_eq!(rt; (fault, sink.wanted), (wanted_fault, &wanted[count..]));
+        let rest = wanted.get(count..).unwrap_or(b"");
+        same(rt, &index, &(fault, sink.wanted), &(wanted_fault, rest));
         let taken = place.taken.saturating_add(count);
         self.put(index, Place { taken, ..place });
     }
@@ -191,27 +205,29 @@ impl Stage {
             room: 0,
         };
         let unknown = [
-            matches!(self.hub.frame(client), Err(HubError::UnknownClient)),
-            matches!(self.hub.owed(client), Err(HubError::UnknownClient)),
-            matches!(self.hub.detach(client), Err(HubError::UnknownClient)),
-            matches!(
-                self.hub.pump(client, &mut sink),
-                Err(HubError::UnknownClient)
-            ),
+            is_unknown(&self.hub.frame(client)),
+            is_unknown(&self.hub.owed(client)),
+            is_unknown(&self.hub.detach(client)),
+            is_unknown(&self.hub.pump(client, &mut sink)),
         ];
-        assert_eq!(rt; unknown, [true; 4]);
+        same(rt, &client, &unknown, &[true; 4]);
     }
 
     fn check_shown(&self, rt: &impl Abort, text: &str, cursor: (u16, u16)) -> Result<(), Fail> {
         let screen = self.hub.screen();
-        let contents = match screen.contents() {
-            Ok(contents) => contents,
-            Err(_) => screen.contents()?,
-        };
-        assert_eq!(rt;
-            (contents.as_str(), screen.cursor_position()),
-            (text, cursor)
-        );
+        let contents = retried_contents(screen)?;
+        let shown = (contents.as_str(), screen.cursor_position());
+        same(rt, &"screen", &shown, &(text, cursor));
+        Ok(())
+    }
+
+    fn take_all(&mut self, rt: &impl Abort, steps: &[Step]) -> Result<(), Fail> {
+        for (number, step) in steps.iter().enumerate() {
+            if !self.hub.screen().failed() {
+                self.take(rt, steps, number, *step)?;
+                self.check(rt, steps);
+            }
+        }
         Ok(())
     }
 
@@ -226,13 +242,13 @@ impl Stage {
         match step {
             Step::Feed(bytes) => {
                 let is_refused = self.hub.feed(bytes).is_err();
-                assert_eq!(rt; is_refused, self.hub.screen().failed());
+                same(rt, &step, &is_refused, &self.hub.screen().failed());
             }
             Step::Resize(rows, cols) => self.resize(rows, cols)?,
             Step::Attach => self.attach(number)?,
             Step::Detach(index) => self.detach(index)?,
             Step::Frame(index, answer, _) => {
-                assert_eq!(rt; self.frame(rt, steps, index), Some(answer));
+                same(rt, &step, &self.frame(rt, steps, index), &Some(answer));
                 let place = self.place(index);
                 self.put(
                     index,
@@ -244,7 +260,7 @@ impl Stage {
                 );
             }
             Step::NoFrame(index, answer) => {
-                assert_eq!(rt; self.frame(rt, steps, index), Some(answer));
+                same(rt, &step, &self.frame(rt, steps, index), &Some(answer));
             }
             Step::Pump(index, room) => self.pump(rt, steps, index, room),
             Step::Unknown(index) => {
@@ -254,25 +270,22 @@ impl Stage {
             Step::Shows(text, cursor) => self.check_shown(rt, text, cursor)?,
             Step::Color(row, col, color) => {
                 let found = self.hub.screen().cell(row, col).map(|cell| cell.fgcolor());
-                assert_eq!(rt; found, Some(Color::Idx(color)));
+                same(rt, &step, &found, &Some(Color::Idx(color)));
             }
         }
         Ok(())
     }
 }
 
+fn new_stage(alloc: Global, (rows, cols): (u16, u16)) -> Result<Stage, Fail> {
+    Ok(Stage {
+        places: no_places(alloc)?,
+        hub: new_hub(alloc, rows, cols)?,
+    })
+}
+
 /// Does the steps with a new hub of this size, as long as it doesn't fail.
 pub fn play(rt: &(impl Abort + AllocGlobal), size: (u16, u16), steps: &[Step]) -> Result<(), Fail> {
-    let (rows, cols) = size;
-    let mut stage = Stage {
-        hub: new_hub(rt.alloc(), rows, cols)?,
-        places: no_places(rt.alloc())?,
-    };
-    for (number, step) in steps.iter().enumerate() {
-        if !stage.hub.screen().failed() {
-            stage.take(rt, steps, number, *step)?;
-            stage.check(rt, steps);
-        }
-    }
-    Ok(())
+    let mut stage = new_stage(rt.alloc(), size)?;
+    stage.take_all(rt, steps)
 }

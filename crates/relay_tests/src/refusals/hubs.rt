@@ -2,69 +2,89 @@
 use crate::refusals::far::Far;
 use crate::refusals::owing::{HI, attach_and_frame, check_owed, new_hub, owing};
 use crate::seen::{count, same};
+use std::alloc::Global;
 use std::process::Abort;
 use std::test::Fail;
 use termrelay::{Answer, Call, Client, Hub, HubError, Log, Reply, Take, run};
+use termview::ViewError;
+
+/// The hub has failed, says this answer.
+fn is_failed<T>(answer: &Result<T, HubError>) -> bool {
+    matches!(answer, Err(HubError::Failed))
+}
 
 /// What a failed hub answers.
 fn check_failed(rt: &impl Abort, hub: &mut Hub, client: Client) {
     let unknown = Client::from_key(usize::MAX);
     let answers = [
-        matches!(hub.feed(b"x"), Err(HubError::Failed)),
-        matches!(hub.attach(), Err(HubError::Failed)),
-        matches!(hub.resize(count(2), count(4)), Err(HubError::Failed)),
-        matches!(hub.frame(client), Err(HubError::Failed)),
+        is_failed(&hub.feed(b"x")),
+        is_failed(&hub.attach()),
+        is_failed(&hub.resize(count(2), count(4))),
+        is_failed(&hub.frame(client)),
         matches!(hub.frame(unknown), Err(HubError::UnknownClient)),
     ];
-    assert_eq!(rt; answers, [true; 5]);
+    same(rt, &client, &answers, &[true; 5]);
+}
+
+/// A view, made at the second try if the first was refused.
+fn new_far(alloc: Global) -> Result<Far, ViewError> {
+    match Far::new(alloc) {
+        Ok(far) => Ok(far),
+        Err(_) => Far::new(alloc),
+    }
 }
 
 /// What the client is owed is pumped to a view, which shows it.
 fn check_shown(rt: &(impl Abort + AllocGlobal), hub: &mut Hub, client: Client) -> Result<(), Fail> {
-    let mut far = match Far::new(rt.alloc()) {
-        Ok(far) => far,
-        Err(_) => Far::new(rt.alloc())?,
-    };
+    let mut far = new_far(rt.alloc())?;
     hub.pump(client, &mut far)?;
-    assert_eq!(rt; (far.text(0), far.text(1)), ("h", "i"));
+    same(rt, &client, &(far.text(0), far.text(1)), &("h", "i"));
     check_owed(rt, hub, client, Some(b""));
     Ok(())
 }
 
 /// What is fed takes memory. Without it the hub has failed, and what was owed before can still be sent.
-fn check_feed(rt: &(impl Abort + AllocGlobal), bytes: &[u8]) -> Result<(), Fail> {
-    let (mut hub, client) = owing(rt)?;
+fn check_feed(rt: &(impl Abort + AllocGlobal), hub: &mut Hub, bytes: &[u8]) -> Result<(), Fail> {
+    let client = owing(rt, hub)?;
     let is_refused = matches!(hub.feed(bytes), Err(HubError::Memory));
-    assert_eq!(rt; hub.screen().failed(), is_refused);
+    same(rt, &bytes, &hub.screen().failed(), &is_refused);
     if is_refused {
-        check_failed(rt, &mut hub, client);
+        check_failed(rt, hub, client);
     }
-    check_owed(rt, &hub, client, Some(HI));
-    check_shown(rt, &mut hub, client)?;
+    check_owed(rt, hub, client, Some(HI));
+    check_shown(rt, hub, client)?;
     hub.detach(client)?;
     Ok(())
 }
 
 #[test]
 fn an_alternate_sheet(rt: HostRuntime) -> Result<(), Fail> {
-    check_feed(&rt, b"\x1b[?1049hz")
+    let mut hub = new_hub(rt.alloc())?;
+    check_feed(&rt, &mut hub, b"\x1b[?1049hz")
 }
 
 #[test]
 fn a_reset(rt: HostRuntime) -> Result<(), Fail> {
-    check_feed(&rt, b"z\x1bcz")
+    let mut hub = new_hub(rt.alloc())?;
+    check_feed(&rt, &mut hub, b"z\x1bcz")
+}
+
+fn check_resize(rt: &impl Abort, hub: &mut Hub) -> Result<(), HubError> {
+    let client = owing(rt, hub)?;
+    if hub.resize(count(3), count(4)).is_err() {
+        check_owed(rt, hub, client, Some(HI));
+        hub.resize(count(3), count(4))?;
+    }
+    check_owed(rt, hub, client, None);
+    attach_and_frame(rt, hub)?;
+    Ok(())
 }
 
 /// Refused, it ends no client.
 #[test]
 fn a_resize(rt: HostRuntime) -> Result<(), Fail> {
-    let (mut hub, client) = owing(&rt)?;
-    if hub.resize(count(3), count(4)).is_err() {
-        check_owed(&rt, &hub, client, Some(HI));
-        hub.resize(count(3), count(4))?;
-    }
-    check_owed(&rt, &hub, client, None);
-    attach_and_frame(&rt, &mut hub)?;
+    let mut hub = new_hub(rt.alloc())?;
+    check_resize(&rt, &mut hub)?;
     Ok(())
 }
 
@@ -86,7 +106,12 @@ fn words_of(reply: &Reply) -> &'static str {
 /// A client by a run. Where its log had no room, nothing was done.
 fn attached(rt: &impl Abort, hub: &mut Hub, log: &mut Log) -> Result<Client, Fail> {
     if run(hub, &[Call::Attach], log).is_err() {
-        assert_eq!(rt; (log.replies().len(), log.sessions().len()), (0, 0));
+        same(
+            rt,
+            &"log",
+            &(log.replies().len(), log.sessions().len()),
+            &(0, 0),
+        );
     }
     if log.sessions().is_empty() {
         run(hub, &[Call::Attach], log)?;
@@ -138,7 +163,7 @@ fn check_replies(rt: &impl Abort, replies: &[Reply]) -> (usize, usize) {
         if words == "no memory" {
             due = Some(*wanted);
         } else {
-            assert_eq!(rt; words, due.unwrap_or(*wanted));
+            same(rt, wanted, &words, &due.unwrap_or(*wanted));
             due = None;
             then = (*pumped, *made);
         }
@@ -150,7 +175,7 @@ fn check_replies(rt: &impl Abort, replies: &[Reply]) -> (usize, usize) {
 fn check_log(rt: &impl Abort, hub: &Hub, log: &Log, start: usize) {
     let (pumped, made) = check_replies(rt, log.replies().get(start..).unwrap_or(&[]));
     for session in log.sessions() {
-        assert_eq!(rt; Some(session.pumped()), SENT.get(..pumped));
+        same(rt, &pumped, &Some(session.pumped()), &SENT.get(..pumped));
         check_owed(rt, hub, session.client(), SENT.get(pumped..made));
     }
 }

@@ -1,5 +1,5 @@
 //! Hubs, whose refused calls are made again.
-use crate::seen::count;
+use crate::seen::{count, same};
 use std::alloc::Global;
 use std::process::Abort;
 use termrelay::{Answer, Client, Hub, HubError};
@@ -18,7 +18,7 @@ pub fn new_hub(alloc: Global) -> Result<Hub, HubError> {
 
 /// The client is owed these bytes, or is unknown.
 pub fn check_owed(rt: &impl Abort, hub: &Hub, client: Client, wanted: Option<&[u8]>) {
-    assert_eq!(rt; hub.owed(client).ok(), wanted);
+    same(rt, &client, &hub.owed(client).ok(), &wanted);
 }
 
 /// A new client, which gets a whole frame, `HI`. Where that was refused, it was owed nothing.
@@ -34,15 +34,13 @@ pub fn attach_and_frame(rt: &impl Abort, hub: &mut Hub) -> Result<Client, HubErr
             hub.frame(client)?
         }
     };
-    assert_eq!(rt; answer, Answer::Full);
+    same(rt, &client, &answer, &Answer::Full);
     check_owed(rt, hub, client, Some(HI));
     Ok(client)
 }
 
-/// A hub that shows `hi`, and a client that is owed that frame.
-pub fn owing(rt: &(impl Abort + AllocGlobal)) -> Result<(Hub, Client), HubError> {
-    let mut hub = new_hub(rt.alloc())?;
+/// A client of a new hub that shows `hi` then, and owes that frame.
+pub fn owing(rt: &impl Abort, hub: &mut Hub) -> Result<Client, HubError> {
     hub.feed(b"hi")?;
-    let client = attach_and_frame(rt, &mut hub)?;
-    Ok((hub, client))
+    attach_and_frame(rt, hub)
 }

@@ -1,7 +1,7 @@
 //! Views, processors and streams that find no memory.
 ghost use Rattle.std.specs.Prelude.{⊤};
 
-use crate::seen::{blank, cell_of, count};
+use crate::seen::{blank, cell_of, count, same};
 use relay_streams::{RelayError, far_view, relay, show};
 use scripted_io::Narrow;
 use std::alloc::{AllocError, Global};
@@ -27,14 +27,17 @@ fn new_view(alloc: Global) -> Result<View<UntilCleared>, ViewError> {
     }
 }
 
+fn check_view(rt: &impl Abort, view: &View<UntilCleared>) {
+    let shown = (cell_of(view, 0, 1), view.sync_bytes_count());
+    let wanted = (("i", Color::Idx(1), Color::Default), 1);
+    same(rt, &"view", &shown, &wanted);
+}
+
 #[test]
 fn views(rt: HostRuntime) -> Result<(), Fail> {
     let mut view = new_view(rt.alloc())?;
     view.advance(b"\x1b[31mhi\x1b[?2026hx");
-    assert_eq!(rt;
-        (cell_of(&view, 0, 1), view.sync_bytes_count()),
-        (("i", Color::Idx(1), Color::Default), 1)
-    );
+    check_view(&rt, &view);
     Ok(())
 }
 
@@ -65,29 +68,35 @@ fn processors(rt: HostRuntime) -> Result<(), Fail> {
     let mut count = Count { calls: 0 };
     let mut processor = new_processor(rt.alloc())?;
     processor.advance(&mut count, b"\x1b[31mhi\x1b[?2026hx");
-    assert_eq!(rt; (count.calls, processor.sync_bytes_count()), (4, 1));
+    let found = (count.calls, processor.sync_bytes_count());
+    same(&rt, &"processor", &found, &(4, 1));
     Ok(())
 }
 
-/// A log of a run that attached the first client of a new hub.
-fn attached(alloc: Global) -> Result<Log, HubError> {
-    let mut hub = match Hub::new(alloc, count(24), count(80)) {
-        Ok(hub) => hub,
-        Err(_) => Hub::new(alloc, count(24), count(80))?,
-    };
-    let mut log = Log::new(alloc);
-    if run(&mut hub, &[Call::Attach], &mut log).is_err() {
-        run(&mut hub, &[Call::Attach], &mut log)?;
+/// A hub of 24 by 80, made at the second try if the first was refused.
+fn new_hub(alloc: Global) -> Result<Hub, HubError> {
+    match Hub::new(alloc, count(24), count(80)) {
+        Ok(hub) => Ok(hub),
+        Err(_) => Hub::new(alloc, count(24), count(80)),
+    }
+}
+
+/// Attaches a client by a run, again where the log or the hub found no memory.
+fn attach(hub: &mut Hub, log: &mut Log) -> Result<(), HubError> {
+    if run(hub, &[Call::Attach], log).is_err() {
+        run(hub, &[Call::Attach], log)?;
     }
     if log.sessions().is_empty() {
-        run(&mut hub, &[Call::Attach], &mut log)?;
+        run(hub, &[Call::Attach], log)?;
     }
-    Ok(log)
+    Ok(())
 }
 
 /// The key that a new hub gives its first client.
 fn first_client(alloc: Global) -> Result<Client, HubError> {
-    let log = attached(alloc)?;
+    let mut hub = new_hub(alloc)?;
+    let mut log = Log::new(alloc);
+    attach(&mut hub, &mut log)?;
     match log.sessions().first() {
         Some(session) => Ok(session.client()),
         None => Ok(Client::from_key(0)),
@@ -112,6 +121,23 @@ const TAKEN: [(usize, &str, Color, u16); 2] = [
     (103, "G", Color::Idx(2), 18),
 ];
 
+/// A far view of so many bytes shows this cell, and this column of the cursor.
+fn check_far_view(
+    rt: &(impl Abort + AllocGlobal),
+    calls: &[Call<'_>],
+    (take, text, color, col): (usize, &str, Color, u16),
+) -> Result<(), Fail> {
+    let view = retried_far_view(rt.alloc(), calls, take)?.ok_or("no view")?;
+    let shown = (cell_of(&view, 0, 13), view.cursor_position());
+    same(
+        rt,
+        &take,
+        &shown,
+        &((text, color, Color::Default), (0, col)),
+    );
+    Ok(())
+}
+
 #[test]
 fn far_views(rt: HostRuntime) -> Result<(), Fail> {
     let client = first_client(rt.alloc())?;
@@ -124,13 +150,8 @@ fn far_views(rt: HostRuntime) -> Result<(), Fail> {
         Call::Frame(client),
         Call::Pump(client, &[]),
     ];
-    for (take, text, color, col) in TAKEN {
-        let view = retried_far_view(rt.alloc(), &calls, take)?.ok_or("no view")?;
-        assert_eq!(rt;
-            (cell_of(&view, 0, 13), view.cursor_position()),
-            ((text, color, Color::Default), (0, col)),
-            "{take}"
-        );
+    for taken in TAKEN {
+        check_far_view(&rt, &calls, taken)?;
     }
     Ok(())
 }
@@ -152,46 +173,49 @@ fn narrow(alloc: Global) -> Result<Narrow, AllocError> {
 
 /// The answer was the refusal for memory, and only a front of the text was written.
 fn check_front(rt: &impl Abort, answer: Result<(), RelayError>, kept: &[u8], text: &[u8]) {
-    assert_eq!(rt;
-        (answer, text.starts_with(kept)),
-        (Err(RelayError::Memory), true)
-    );
+    let found = (answer, text.starts_with(kept));
+    same(rt, &text, &found, &(Err(RelayError::Memory), true));
+}
+
+fn relay_hi(alloc: Global, output: &mut Narrow) -> Result<(), RelayError> {
+    relay(alloc, count(2), count(4), &mut b"hi".as_slice(), output)
+}
+
+fn check_relay(rt: &(impl Abort + AllocGlobal), output: &mut Narrow) {
+    let mut answer = relay_hi(rt.alloc(), output);
+    if answer.is_err() {
+        check_front(rt, answer, &output.kept, HI);
+        output.kept.clear();
+        answer = relay_hi(rt.alloc(), output);
+    }
+    let found = (answer, output.kept.as_slice());
+    same(rt, &"relay", &found, &(Ok(()), HI));
 }
 
 #[test]
 fn relays(rt: HostRuntime) -> Result<(), Fail> {
     let mut output = narrow(rt.alloc())?;
-    let mut answer = relay(
-        rt.alloc(),
-        count(2),
-        count(4),
-        &mut b"hi".as_slice(),
-        &mut output,
-    );
-    if answer.is_err() {
-        check_front(&rt, answer, &output.kept, HI);
-        output.kept.clear();
-        answer = relay(
-            rt.alloc(),
-            count(2),
-            count(4),
-            &mut b"hi".as_slice(),
-            &mut output,
-        );
-    }
-    assert_eq!(rt; (answer, output.kept.as_slice()), (Ok(()), HI));
+    check_relay(&rt, &mut output);
     Ok(())
+}
+
+fn show_hi(alloc: Global, output: &mut Narrow) -> Result<(), RelayError> {
+    show(alloc, count(2), count(4), &mut &HI[..], output)
+}
+
+fn check_show(rt: &(impl Abort + AllocGlobal), output: &mut Narrow) {
+    let mut answer = show_hi(rt.alloc(), output);
+    if answer.is_err() {
+        check_front(rt, answer, &output.kept, b"");
+        answer = show_hi(rt.alloc(), output);
+    }
+    let found = (answer, output.kept.as_slice());
+    same(rt, &"show", &found, &(Ok(()), b"hi\n\n".as_slice()));
 }
 
 #[test]
 fn shows(rt: HostRuntime) -> Result<(), Fail> {
     let mut output = narrow(rt.alloc())?;
-    let mut answer = show(rt.alloc(), count(2), count(4), &mut &HI[..], &mut output);
-    if answer.is_err() {
-        check_front(&rt, answer, &output.kept, b"");
-        answer = show(rt.alloc(), count(2), count(4), &mut &HI[..], &mut output);
-    }
-    let wanted = b"hi\n\n".as_slice();
-    assert_eq!(rt; (answer, output.kept.as_slice()), (Ok(()), wanted));
+    check_show(&rt, &mut output);
     Ok(())
 }
