@@ -23,15 +23,36 @@ pub(crate) fn answer_of(
         &recording.events,
         request.moment,
     )?;
-    match (request.since, request.form) {
-        (Some(since), _) => {
-            let before = terminal_at(alloc, size, 0, &recording.events, since)?;
-            changes_of(alloc, &before, &terminal, request)
-        }
-        (None, Form::Text) => lines_of(alloc, &mut terminal, request),
-        (None, Form::Html) => Ok(html(alloc, terminal.screen())?),
-        (None, Form::Svg) => Ok(svg(alloc, terminal.screen())?),
+    match request.since {
+        Some(since) => changes_since(alloc, recording, request, since, &terminal),
+        None => picture_of(alloc, &mut terminal, request),
     }
+}
+
+// What the terminal shows, in the form that is asked for.
+fn picture_of(
+    alloc: Global,
+    terminal: &mut Parser<()>,
+    request: Request,
+) -> Result<Vec<u8>, TextError> {
+    match request.form {
+        Form::Text => lines_of(alloc, terminal, request),
+        Form::Html => Ok(html(alloc, terminal.screen())?),
+        Form::Svg => Ok(svg(alloc, terminal.screen())?),
+    }
+}
+
+// What differs from an earlier moment.
+fn changes_since(
+    alloc: Global,
+    recording: &Recording,
+    request: Request,
+    since: u64,
+    after: &Parser<()>,
+) -> Result<Vec<u8>, TextError> {
+    let size = size_of(recording, request);
+    let before = terminal_at(alloc, size, 0, &recording.events, since)?;
+    changes_of(alloc, &before, after, request)
 }
 
 // The size of the screen at first.
