@@ -1,20 +1,12 @@
 //! Calls that may be refused, where there is memory: on odd screens and large ones each of them succeeds.
 
+use crate::owners::{with_copy, with_fed, with_parser};
 use crate::report::{Text, places, report, text_of};
 use crate::same::{same, same_for};
 use crate::start::{Start, count};
-use std::alloc::Global;
 use std::process::Abort;
 use std::test::Fail;
 use vt100::{Parser, Screen};
-
-/// A parser of this size that has read a stream.
-fn fed(alloc: Global, start: Start, stream: &[u8]) -> Result<Parser<()>, Fail> {
-    let (rows, cols, capacity) = start;
-    let mut parser = Parser::new(alloc, count(rows), count(cols), capacity)?;
-    parser.process(stream)?;
-    Ok(parser)
-}
 
 /// Each of these texts is made of a screen, against another one.
 fn check_texts(
@@ -57,17 +49,18 @@ fn check_both(
     check_texts(rt, from, to, back)
 }
 
+/// The alternate sheet of a screen like this one.
+fn check_alternate(rt: &(impl Abort + AllocGlobal), main: &Screen) -> Result<(), Fail> {
+    with_fed(rt.alloc(), (2, 4, 3), b"ab\x1b[?47h", |alternate| {
+        check_both(rt, alternate.screen(), main, TO_ALTERNATE, TO_MAIN)
+    })
+}
+
 #[test]
 fn differences_across_the_sheets(rt: HostRuntime) -> Result<(), Fail> {
-    let main = fed(rt.alloc(), (2, 4, 3), b"ab")?;
-    let alternate = fed(rt.alloc(), (2, 4, 3), b"ab\x1b[?47h")?;
-    check_both(
-        &rt,
-        alternate.screen(),
-        main.screen(),
-        TO_ALTERNATE,
-        TO_MAIN,
-    )
+    with_fed(rt.alloc(), (2, 4, 3), b"ab", |main| {
+        check_alternate(&rt, main.screen())
+    })
 }
 
 /// A kept row that is shown, after the row that is drawn on.
@@ -84,18 +77,25 @@ const FROM_KEPT: &[(Text, &str)] = &[
     (Text::RowsDiff(0, 2), "b/"),
 ];
 
-/// A copy that shows a kept row.
-fn copy_of_a_kept_row(drawn: &Screen) -> Result<Screen, Fail> {
-    let mut kept = drawn.clone()?;
-    kept.set_scrollback(1)?;
-    Ok(kept)
+/// A copy shows a kept row.
+fn check_kept_row(
+    rt: &(impl Abort + AllocGlobal),
+    copy: &mut Screen,
+    drawn: &Screen,
+) -> Result<(), Fail> {
+    copy.set_scrollback(1)?;
+    check_both(rt, copy, drawn, TO_KEPT, FROM_KEPT)
+}
+
+fn check_kept_copy(rt: &(impl Abort + AllocGlobal), drawn: &Screen) -> Result<(), Fail> {
+    with_copy(drawn, |copy| check_kept_row(rt, copy, drawn))
 }
 
 #[test]
 fn differences_of_kept_rows(rt: HostRuntime) -> Result<(), Fail> {
-    let drawn = fed(rt.alloc(), (1, 2, 3), b"a\r\nb")?;
-    let kept = copy_of_a_kept_row(drawn.screen())?;
-    check_both(&rt, &kept, drawn.screen(), TO_KEPT, FROM_KEPT)
+    with_fed(rt.alloc(), (1, 2, 3), b"a\r\nb", |drawn| {
+        check_kept_copy(&rt, drawn.screen())
+    })
 }
 
 /// Screens of which everything is read: small ones, both sheets, and kept rows.
@@ -126,8 +126,7 @@ fn check_alike(
 
 /// A copy of a screen tells what the screen tells.
 fn check_copy(rt: &(impl Abort + AllocGlobal), screen: &Screen) -> Result<(), Fail> {
-    let copy = screen.clone()?;
-    check_alike(rt, screen, &copy)
+    with_copy(screen, |copy| check_alike(rt, screen, copy))
 }
 
 /// The same where the rows that are drawn on are shown, and where the kept ones are.
@@ -140,8 +139,9 @@ fn check_copies(rt: &(impl Abort + AllocGlobal), parser: &mut Parser<()>) -> Res
 #[test]
 fn everything_is_read(rt: HostRuntime) -> Result<(), Fail> {
     for (start, stream) in READ {
-        let mut parser = fed(rt.alloc(), *start, stream)?;
-        check_copies(&rt, &mut parser)?;
+        with_fed(rt.alloc(), *start, stream, |parser| {
+            check_copies(&rt, parser)
+        })?;
     }
     Ok(())
 }
@@ -177,8 +177,10 @@ fn check_capacity(
 #[test]
 fn large_capacities(rt: HostRuntime) -> Result<(), Fail> {
     for (capacity, len) in CAPACITIES {
-        let mut parser = fed(rt.alloc(), (1, 2, *capacity), b"a\r\nb\r\nc\r\nd\r\ne")?;
-        check_capacity(&rt, &mut parser, *capacity, *len)?;
+        let start = (1, 2, *capacity);
+        with_fed(rt.alloc(), start, b"a\r\nb\r\nc\r\nd\r\ne", |parser| {
+            check_capacity(&rt, parser, *capacity, *len)
+        })?;
     }
     Ok(())
 }
@@ -213,11 +215,21 @@ fn check_large(
     Ok(())
 }
 
+/// Such a screen's copy.
+fn check_large_copy(
+    rt: &(impl Abort + AllocGlobal),
+    screen: &Screen,
+    texts: &[(Text, &str)],
+    ends: (&str, &str),
+) -> Result<(), Fail> {
+    with_copy(screen, |copy| check_large(rt, copy, screen, texts, ends))
+}
+
 #[test]
 fn one_row_of_65535_columns(rt: HostRuntime) -> Result<(), Fail> {
-    let parser = fed(rt.alloc(), (1, 65_535, 3), b"a\x1b[65535Gb")?;
-    let copy = parser.screen().clone()?;
-    check_large(&rt, &copy, parser.screen(), WIDE, ("a ", " b"))
+    with_fed(rt.alloc(), (1, 65_535, 3), b"a\x1b[65535Gb", |parser| {
+        check_large_copy(&rt, parser.screen(), WIDE, ("a ", " b"))
+    })
 }
 
 /// The texts of 65,535 rows of one column, of which the last one alone shows a character.
@@ -236,9 +248,9 @@ const HIGH: &[(Text, &str)] = &[
 
 #[test]
 fn rows_of_one_column(rt: HostRuntime) -> Result<(), Fail> {
-    let parser = fed(rt.alloc(), (65_535, 1, 3), b"\x1b[65535Ha")?;
-    let copy = parser.screen().clone()?;
-    check_large(&rt, &copy, parser.screen(), HIGH, ("\n", "\na"))
+    with_fed(rt.alloc(), (65_535, 1, 3), b"\x1b[65535Ha", |parser| {
+        check_large_copy(&rt, parser.screen(), HIGH, ("\n", "\na"))
+    })
 }
 
 /// Gives a screen each of these sizes in turn.
@@ -251,13 +263,18 @@ fn check_size(rt: &impl Abort, parser: &mut Parser<()>, rows: u16, cols: u16) ->
     Ok(())
 }
 
-#[test]
-fn sizes(rt: HostRuntime) -> Result<(), Fail> {
-    let mut parser = fed(rt.alloc(), (2, 2, 3), b"a\r\nb\r\nc\x1b[?47h")?;
+fn check_sizes(rt: &impl Abort, parser: &mut Parser<()>) -> Result<(), Fail> {
     for (rows, cols) in SIZES {
-        check_size(&rt, &mut parser, *rows, *cols)?;
+        check_size(rt, parser, *rows, *cols)?;
     }
     Ok(())
+}
+
+#[test]
+fn sizes(rt: HostRuntime) -> Result<(), Fail> {
+    with_fed(rt.alloc(), (2, 2, 3), b"a\r\nb\r\nc\x1b[?47h", |parser| {
+        check_sizes(&rt, parser)
+    })
 }
 
 /// The longest text of a cell: 21 bytes.
@@ -266,13 +283,15 @@ const CELL: &str = "e\u{E0100}\u{E0100}\u{E0100}\u{E0100}\u{E0100}";
 /// How many cells 24 rows of 80 columns have.
 const CELLS: usize = 1_920;
 
-/// A screen whose cells all have the longest text. Each row goes on in the next.
-fn full_screen(alloc: Global) -> Result<Parser<()>, Fail> {
-    let mut parser = Parser::new_default(alloc)?;
+/// What such a screen has.
+const DEFAULT: Start = (24, 80, 0);
+
+/// Each cell gets the longest text. Each row goes on in the next.
+fn fill(parser: &mut Parser<()>) -> Result<(), Fail> {
     for _ in 0..CELLS {
         parser.process(CELL.as_bytes())?;
     }
-    Ok(parser)
+    Ok(())
 }
 
 /// The texts are those of the cells, and before the redraw come the forms that hide or show the cursor, take the
@@ -302,25 +321,35 @@ fn check_lengths(
     Ok(())
 }
 
-#[test]
-fn the_largest_texts(rt: HostRuntime) -> Result<(), Fail> {
-    let parser = full_screen(rt.alloc())?;
-    let copy = parser.screen().clone()?;
-    check_lengths(&rt, &copy, parser.screen())
+fn check_largest(rt: &(impl Abort + AllocGlobal), screen: &Screen) -> Result<(), Fail> {
+    with_copy(screen, |copy| check_lengths(rt, copy, screen))
 }
 
-/// Draws a screen on another one, and answers what differs then.
-fn difference_once_drawn(screen: &Screen, again: &mut Parser<()>) -> Result<String, Fail> {
+#[test]
+fn the_largest_texts(rt: HostRuntime) -> Result<(), Fail> {
+    with_parser(rt.alloc(), DEFAULT, |parser| {
+        fill(parser)?;
+        check_largest(&rt, parser.screen())
+    })
+}
+
+/// Draws a screen on another one. Nothing differs then.
+fn check_drawn(rt: &impl Abort, screen: &Screen, again: &mut Parser<()>) -> Result<(), Fail> {
     let state = screen.state_formatted()?;
     again.process(state.as_bytes())?;
-    Ok(again.screen().state_diff(screen)?)
+    let difference = again.screen().state_diff(screen)?;
+    same(rt, &difference.as_str(), &"");
+    Ok(())
+}
+
+fn check_redraw(rt: &(impl Abort + AllocGlobal), screen: &Screen) -> Result<(), Fail> {
+    with_parser(rt.alloc(), DEFAULT, |again| check_drawn(rt, screen, again))
 }
 
 #[test]
 fn the_largest_redraw_is_drawn_again(rt: HostRuntime) -> Result<(), Fail> {
-    let parser = full_screen(rt.alloc())?;
-    let mut again = Parser::new_default(rt.alloc())?;
-    let difference = difference_once_drawn(parser.screen(), &mut again)?;
-    same(&rt, &difference.as_str(), &"");
-    Ok(())
+    with_parser(rt.alloc(), DEFAULT, |parser| {
+        fill(parser)?;
+        check_redraw(&rt, parser.screen())
+    })
 }

@@ -1,10 +1,12 @@
 //! Direct calls that may be refused, and writing to a parser. Memory is found here.
 
+use crate::owners::with_parser;
 use crate::same::same;
 use crate::start::count;
 use std::io::Write;
+use std::process::Abort;
 use std::test::Fail;
-use vt100::{GridError, Parser, ScreenError, WrappedScreen};
+use vt100::{GridError, Parser, Screen, ScreenError, WrappedScreen};
 
 /// What each call answers.
 fn answers(wrapped: &mut WrappedScreen<()>) -> [Result<(), ScreenError>; 8] {
@@ -20,33 +22,41 @@ fn answers(wrapped: &mut WrappedScreen<()>) -> [Result<(), ScreenError>; 8] {
     ]
 }
 
-#[test]
-fn calls_on_a_screen(rt: HostRuntime) -> Result<(), Fail> {
-    let parser = Parser::new(rt.alloc(), count(2), count(3), 1)?;
-    let screen = parser.screen().clone()?;
-    let mut wrapped = WrappedScreen {
-        screen,
-        callbacks: (),
-    };
-    let answers = answers(&mut wrapped);
+fn check_answers(rt: &impl Abort, wrapped: &mut WrappedScreen<()>) -> Result<(), Fail> {
+    let answers = answers(wrapped);
     let contents = wrapped.screen.contents()?;
-    same(&rt, &(answers, contents.as_str()), &([Ok(()); 8], "b"));
+    same(rt, &(answers, contents.as_str()), &([Ok(()); 8], "b"));
     Ok(())
 }
 
-/// How much was written, and what is shown then.
-fn written(parser: &mut Parser<()>) -> Result<(usize, String), Fail> {
+/// A copy of a screen, with callbacks that do nothing.
+fn check_wrapped(rt: &impl Abort, screen: &Screen) -> Result<(), Fail> {
+    let mut wrapped = WrappedScreen {
+        screen: screen.clone()?,
+        callbacks: (),
+    };
+    check_answers(rt, &mut wrapped)
+}
+
+#[test]
+fn calls_on_a_screen(rt: HostRuntime) -> Result<(), Fail> {
+    with_parser(rt.alloc(), (2, 3, 1), |parser| {
+        check_wrapped(&rt, parser.screen())
+    })
+}
+
+/// How much is written, and what is shown then.
+fn check_written(rt: &impl Abort, parser: &mut Parser<()>) -> Result<(), Fail> {
     let written = parser.write(b"hi")?;
     parser.flush()?;
-    Ok((written, parser.screen().contents()?))
+    let contents = parser.screen().contents()?;
+    same(rt, &(written, contents.as_str()), &(2, "hi"));
+    Ok(())
 }
 
 #[test]
 fn writing_feeds(rt: HostRuntime) -> Result<(), Fail> {
-    let mut parser = Parser::new_default(rt.alloc())?;
-    let (written, contents) = written(&mut parser)?;
-    same(&rt, &(written, contents.as_str()), &(2, "hi"));
-    Ok(())
+    with_parser(rt.alloc(), (24, 80, 0), |parser| check_written(&rt, parser))
 }
 
 #[test]

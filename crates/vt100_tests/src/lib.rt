@@ -8,6 +8,8 @@ mod calls;
 #[cfg(test)]
 mod log;
 #[cfg(test)]
+mod owners;
+#[cfg(test)]
 mod refusals;
 #[cfg(test)]
 mod report;

@@ -21,6 +21,18 @@ fn retried_parser(alloc: Global, start: Start) -> Result<Parser<()>, ScreenError
     }
 }
 
+/// Does this with such a parser.
+fn with_retried<F: FnOnce(&mut Parser<()>) -> Result<(), Fail>>(
+    alloc: Global,
+    start: Start,
+    check: F,
+) -> Result<(), Fail>
+    requires { F.IsAlwaysCallable check }
+{
+    let mut parser = retried_parser(alloc, start)?;
+    check(&mut parser)
+}
+
 /// A text of a screen, at the second try if the first was refused.
 fn retried_text(
     screen: &Screen,
@@ -207,8 +219,9 @@ fn check_stream(
 #[test]
 fn streams(rt: HostRuntime) -> Result<(), Fail> {
     for (start, stream, want, kept) in STREAMS {
-        let mut parser = retried_parser(rt.alloc(), *start)?;
-        check_stream(&rt, &mut parser, stream, (want, *kept))?;
+        with_retried(rt.alloc(), *start, |parser| {
+            check_stream(&rt, parser, stream, (want, *kept))
+        })?;
     }
     Ok(())
 }
@@ -223,31 +236,38 @@ const STARTS: &[Start] = &[
     (1, 65_535, 9),
 ];
 
+/// A new screen is so.
+fn check_start(rt: &impl Abort, screen: &Screen, (rows, cols, capacity): Start) {
+    same(
+        rt,
+        &places(screen),
+        &((rows, cols), (0, 0), [0, capacity, 0]),
+    );
+}
+
 #[test]
 fn parsers_of_any_capacity(rt: HostRuntime) -> Result<(), Fail> {
     for start in STARTS {
-        let parser = retried_parser(rt.alloc(), *start)?;
-        let (rows, cols, capacity) = *start;
-        same(
-            &rt,
-            &places(parser.screen()),
-            &((rows, cols), (0, 0), [0, capacity, 0]),
-        );
+        with_retried(rt.alloc(), *start, |parser| {
+            check_start(&rt, parser.screen(), *start);
+            Ok(())
+        })?;
     }
     Ok(())
 }
 
+/// A parser of the default size, made at the second try if the first was refused.
+fn retried_default(alloc: Global) -> Result<Parser<()>, ScreenError> {
+    match Parser::new_default(alloc) {
+        Ok(parser) => Ok(parser),
+        Err(_) => Parser::new_default(alloc),
+    }
+}
+
 #[test]
 fn default_parsers(rt: HostRuntime) -> Result<(), Fail> {
-    let parser = match Parser::new_default(rt.alloc()) {
-        Ok(parser) => parser,
-        Err(_) => Parser::new_default(rt.alloc())?,
-    };
-    same(
-        &rt,
-        &places(parser.screen()),
-        &((24, 80), (0, 0), [0, 0, 0]),
-    );
+    let parser = retried_default(rt.alloc())?;
+    check_start(&rt, parser.screen(), (24, 80, 0));
     Ok(())
 }
 
@@ -270,8 +290,7 @@ fn read_after(
 #[test]
 fn everything_is_read(rt: HostRuntime) -> Result<(), Fail> {
     for (start, stream) in READ {
-        let mut parser = retried_parser(rt.alloc(), *start)?;
-        read_after(&rt, &mut parser, stream)?;
+        with_retried(rt.alloc(), *start, |parser| read_after(&rt, parser, stream))?;
     }
     Ok(())
 }
@@ -320,20 +339,27 @@ fn check_texts(
     Ok(())
 }
 
+/// After a screen of one row comes a second row.
+fn check_second_row(
+    rt: &(impl Abort + AllocGlobal),
+    parser: &mut Parser<()>,
+    prev: &Screen,
+) -> Result<(), Fail> {
+    parser.process(b"\r\n\x1b[1mc")?;
+    check_texts(rt, parser.screen(), prev, TWO_ROWS)?;
+    check_texts(rt, parser.screen(), prev, MODES_AND_ROWS)
+}
+
 /// A parser shows one row, which is copied, and then a second one too.
-fn two_rows(parser: &mut Parser<()>) -> Result<Screen, Fail> {
+fn check_two_rows(rt: &(impl Abort + AllocGlobal), parser: &mut Parser<()>) -> Result<(), Fail> {
     parser.process(b"ab")?;
     let prev = retried_clone(parser.screen())?;
-    parser.process(b"\r\n\x1b[1mc")?;
-    Ok(prev)
+    check_second_row(rt, parser, &prev)
 }
 
 #[test]
 fn texts(rt: HostRuntime) -> Result<(), Fail> {
-    let mut parser = retried_parser(rt.alloc(), (2, 4, 0))?;
-    let prev = two_rows(&mut parser)?;
-    check_texts(&rt, parser.screen(), &prev, TWO_ROWS)?;
-    check_texts(&rt, parser.screen(), &prev, MODES_AND_ROWS)
+    with_retried(rt.alloc(), (2, 4, 0), |parser| check_two_rows(&rt, parser))
 }
 
 /// The texts of a kept row that is shown, and what differs from the row that is drawn on.
@@ -347,23 +373,33 @@ const KEPT_ROW: &[(Text, &str)] = &[
 ];
 
 /// Shows a kept row, unless memory is refused, and makes its texts.
-fn check_kept_row(rt: &(impl Abort + AllocGlobal), parser: &mut Parser<()>) -> Result<(), Fail> {
-    let prev = retried_clone(parser.screen())?;
+fn check_kept_row(
+    rt: &(impl Abort + AllocGlobal),
+    parser: &mut Parser<()>,
+    prev: &Screen,
+) -> Result<(), Fail> {
     let answer = parser.screen_mut().set_scrollback(1);
     check_answer(rt, parser, answer)?;
     if answer.is_ok() {
-        check_texts(rt, parser.screen(), &prev, KEPT_ROW)?;
+        check_texts(rt, parser.screen(), prev, KEPT_ROW)?;
     }
     Ok(())
 }
 
+/// The same after a copy of the screen.
+fn check_kept_texts(rt: &(impl Abort + AllocGlobal), parser: &mut Parser<()>) -> Result<(), Fail> {
+    let prev = retried_clone(parser.screen())?;
+    check_kept_row(rt, parser, &prev)
+}
+
 #[test]
 fn texts_with_a_kept_row(rt: HostRuntime) -> Result<(), Fail> {
-    let mut parser = retried_parser(rt.alloc(), (1, 2, 3))?;
-    if check_process(&rt, &mut parser, b"a\r\nb")? {
-        check_kept_row(&rt, &mut parser)?;
-    }
-    Ok(())
+    with_retried(rt.alloc(), (1, 2, 3), |parser| {
+        if check_process(&rt, parser, b"a\r\nb")? {
+            check_kept_texts(&rt, parser)?;
+        }
+        Ok(())
+    })
 }
 
 /// Each row has its item. One that is refused is refused alone: how many were.
@@ -424,44 +460,56 @@ fn check_rows_diff(rt: &impl Abort, screen: &Screen, prev: &Screen) -> Result<()
 
 #[test]
 fn items_of_rows(rt: HostRuntime) -> Result<(), Fail> {
-    let mut parser = retried_parser(rt.alloc(), (3, 8, 0))?;
+    with_retried(rt.alloc(), (3, 8, 0), |parser| {
+        parser.process(b"one\r\ntwo\r\nthree")?;
+        check_rows(&rt, parser.screen())?;
+        check_rows_formatted(&rt, parser.screen())
+    })
+}
+
+/// The items of what differs from a blank screen.
+fn check_differences(rt: &impl Abort, parser: &mut Parser<()>) -> Result<(), Fail> {
+    let prev = retried_clone(parser.screen())?;
     parser.process(b"one\r\ntwo\r\nthree")?;
-    check_rows(&rt, parser.screen())?;
-    check_rows_formatted(&rt, parser.screen())
+    check_rows_diff(rt, parser.screen(), &prev)
 }
 
 #[test]
 fn items_of_differences(rt: HostRuntime) -> Result<(), Fail> {
-    let mut parser = retried_parser(rt.alloc(), (3, 8, 0))?;
-    let prev = retried_clone(parser.screen())?;
-    parser.process(b"one\r\ntwo\r\nthree")?;
-    check_rows_diff(&rt, parser.screen(), &prev)
+    with_retried(rt.alloc(), (3, 8, 0), |parser| {
+        check_differences(&rt, parser)
+    })
 }
 
 /// A copy of a screen that shows its alternate sheet.
-fn check_copy(rt: &impl Abort, screen: &Screen) -> Result<(), Fail> {
-    let copy = retried_clone(screen)?;
-    let contents = retried_contents(&copy)?;
+fn check_copied(rt: &impl Abort, copy: &Screen, screen: &Screen) -> Result<(), Fail> {
+    let contents = retried_contents(copy)?;
     same(
         rt,
         &(
             contents.as_str(),
             copy.alternate_screen(),
             copy.failed(),
-            places(&copy),
+            places(copy),
         ),
         &("x", true, false, places(screen)),
     );
     Ok(())
 }
 
+fn check_copy(rt: &impl Abort, screen: &Screen) -> Result<(), Fail> {
+    let copy = retried_clone(screen)?;
+    check_copied(rt, &copy, screen)
+}
+
 #[test]
 fn copies(rt: HostRuntime) -> Result<(), Fail> {
-    let mut parser = retried_parser(rt.alloc(), (2, 2, 3))?;
-    if check_process(&rt, &mut parser, b"a\r\nb\r\nc\x1b[?47hx")? {
-        check_copy(&rt, parser.screen())?;
-    }
-    Ok(())
+    with_retried(rt.alloc(), (2, 2, 3), |parser| {
+        if check_process(&rt, parser, b"a\r\nb\r\nc\x1b[?47hx")? {
+            check_copy(&rt, parser.screen())?;
+        }
+        Ok(())
+    })
 }
 
 /// A stream, and two sizes one after another. What the last call answers that was made.
@@ -488,13 +536,14 @@ fn check_sized(rt: &impl Abort, parser: &mut Parser<()>) -> Result<(), Fail> {
 /// lost and those at the top are kept.
 #[test]
 fn sizes(rt: HostRuntime) -> Result<(), Fail> {
-    let mut parser = retried_parser(rt.alloc(), (2, 2, 3))?;
-    let answer = two_sizes(&mut parser);
-    check_answer(&rt, &mut parser, answer)?;
-    if answer.is_ok() {
-        check_sized(&rt, &mut parser)?;
-    }
-    Ok(())
+    with_retried(rt.alloc(), (2, 2, 3), |parser| {
+        let answer = two_sizes(parser);
+        check_answer(&rt, parser, answer)?;
+        if answer.is_ok() {
+            check_sized(&rt, parser)?;
+        }
+        Ok(())
+    })
 }
 
 /// A stream, and then a kept row is shown. What the last call answers that was made.
@@ -511,13 +560,14 @@ fn check_kept(rt: &impl Abort, screen: &Screen) -> Result<(), Fail> {
 
 #[test]
 fn kept_rows(rt: HostRuntime) -> Result<(), Fail> {
-    let mut parser = retried_parser(rt.alloc(), (1, 2, 3))?;
-    let answer = show_kept_rows(&mut parser);
-    check_answer(&rt, &mut parser, answer)?;
-    if answer.is_ok() {
-        check_kept(&rt, parser.screen())?;
-    }
-    Ok(())
+    with_retried(rt.alloc(), (1, 2, 3), |parser| {
+        let answer = show_kept_rows(parser);
+        check_answer(&rt, parser, answer)?;
+        if answer.is_ok() {
+            check_kept(&rt, parser.screen())?;
+        }
+        Ok(())
+    })
 }
 
 /// A call that prints, scrolls, makes a new screen or gives it another size.
@@ -594,21 +644,26 @@ fn direct_calls(rt: HostRuntime) -> Result<(), Fail> {
     Ok(())
 }
 
-#[test]
-fn writing(rt: HostRuntime) -> Result<(), Fail> {
-    let mut parser = retried_parser(rt.alloc(), (2, 2, 3))?;
+fn check_writing(rt: &impl Abort, parser: &mut Parser<()>) {
     match parser.write(b"a\r\nb\r\nc") {
-        Ok(len) => same(&rt, &(len, parser.screen().failed()), &(7, false)),
+        Ok(len) => same(rt, &(len, parser.screen().failed()), &(7, false)),
         Err(error) => {
             same(
-                &rt,
+                rt,
                 &(error.kind(), parser.screen().failed()),
                 &(ErrorKind::OutOfMemory, true),
             );
-            check_write_refused(&rt, &mut parser);
+            check_write_refused(rt, parser);
         }
     }
-    Ok(())
+}
+
+#[test]
+fn writing(rt: HostRuntime) -> Result<(), Fail> {
+    with_retried(rt.alloc(), (2, 2, 3), |parser| {
+        check_writing(&rt, parser);
+        Ok(())
+    })
 }
 
 /// A screen that has failed takes no bytes.

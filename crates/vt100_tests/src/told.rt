@@ -3,6 +3,7 @@
 use crate::log::{Log, logging_parser};
 use crate::same::{same, same_for};
 use crate::start::{Start, count};
+use std::alloc::Global;
 use std::process::Abort;
 use std::test::Fail;
 use vt100::Parser;
@@ -29,10 +30,23 @@ fn check_stream(
     Ok(())
 }
 
+/// Does this with a parser whose callbacks keep what they are told.
+fn with_log<F: FnOnce(&mut Parser<Log>) -> Result<(), Fail>>(
+    alloc: Global,
+    start: Start,
+    check: F,
+) -> Result<(), Fail>
+    requires { F.IsAlwaysCallable check }
+{
+    let mut parser = logging_parser(alloc, start)?;
+    check(&mut parser)
+}
+
 fn check_told(rt: &(impl Abort + AllocGlobal), cases: &[Told]) -> Result<(), Fail> {
     for (start, stream, told) in cases {
-        let mut parser = logging_parser(rt.alloc(), *start)?;
-        check_stream(rt, &mut parser, stream, told)?;
+        with_log(rt.alloc(), *start, |parser| {
+            check_stream(rt, parser, stream, told)
+        })?;
     }
     Ok(())
 }
@@ -149,26 +163,24 @@ fn rows_are_told(rt: HostRuntime) -> Result<(), Fail> {
     check_told(&rt, ROWS)
 }
 
-fn two_sizes(parser: &mut Parser<Log>) -> Result<(), Fail> {
+fn check_two_sizes(rt: &impl Abort, parser: &mut Parser<Log>) -> Result<(), Fail> {
     parser.process(b"\x1b[8;3;4tabcd\r\ne\r\nf")?;
     parser.callbacks_mut().text.clear();
     parser.set_size(count(1), count(3))?;
+    let (rows, cols) = parser.screen().size();
+    let told = parser.callbacks().text.as_str();
+    same(
+        rt,
+        &(rows.get(), cols.get(), told),
+        &(1, 3, "row abcd; row e; "),
+    );
     Ok(())
 }
 
 /// A request for a size comes to callbacks that grant it, and a lower screen tells of the rows that leave.
 #[test]
 fn sizes_are_told(rt: HostRuntime) -> Result<(), Fail> {
-    let mut parser = logging_parser(rt.alloc(), (2, 2, 0))?;
-    two_sizes(&mut parser)?;
-    let (rows, cols) = parser.screen().size();
-    let told = parser.callbacks().text.as_str();
-    same(
-        &rt,
-        &(rows.get(), cols.get(), told),
-        &(1, 3, "row abcd; row e; "),
-    );
-    Ok(())
+    with_log(rt.alloc(), (2, 2, 0), |parser| check_two_sizes(&rt, parser))
 }
 
 /// Captures the kept rows and those that are drawn on, and then those that are shown.
@@ -182,19 +194,12 @@ fn capture(parser: &mut Parser<Log>) -> Result<(), Fail> {
     Ok(())
 }
 
-fn feed_and_capture(parser: &mut Parser<Log>) -> Result<(), Fail> {
+fn check_capture(rt: &impl Abort, parser: &mut Parser<Log>) -> Result<(), Fail> {
     parser.process("ab\x1b[31mcdef\x1b[m\r\n中\r\n\x1b[1;4mg".as_bytes())?;
-    capture(parser)
-}
-
-/// Rows that left, and then the kept ones and those that are drawn on, are one capture.
-#[test]
-fn captures_go_on(rt: HostRuntime) -> Result<(), Fail> {
-    let mut parser = logging_parser(rt.alloc(), (2, 2, 1))?;
-    feed_and_capture(&mut parser)?;
+    capture(parser)?;
     let log = parser.callbacks();
     same(
-        &rt,
+        rt,
         &(log.capture.as_str(), log.text.as_str()),
         &(
             "ab\x1b[31mcdef\n\x1b[m中\n\x1b[1;4mg",
@@ -202,4 +207,10 @@ fn captures_go_on(rt: HostRuntime) -> Result<(), Fail> {
         ),
     );
     Ok(())
+}
+
+/// Rows that left, and then the kept ones and those that are drawn on, are one capture.
+#[test]
+fn captures_go_on(rt: HostRuntime) -> Result<(), Fail> {
+    with_log(rt.alloc(), (2, 2, 1), |parser| check_capture(&rt, parser))
 }

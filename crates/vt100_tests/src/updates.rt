@@ -1,7 +1,9 @@
 //! The program's own synchronized updates (private mode 2026).
 
+use crate::owners::with_parser;
 use crate::same::{same, same_for};
 use crate::start::count;
+use std::process::Abort;
 use std::test::Fail;
 use vt100::Parser;
 
@@ -23,21 +25,28 @@ const STREAMS: &[(&[u8], bool)] = &[
 ];
 
 /// Whether the program is in an update after a stream, as the screen says and as its copy does.
-fn is_updating_after(parser: &mut Parser<()>, stream: &[u8]) -> Result<(bool, bool), Fail> {
+fn check_update(
+    rt: &impl Abort,
+    parser: &mut Parser<()>,
+    stream: &[u8],
+    is_updating: bool,
+) -> Result<(), Fail> {
     parser.process(stream)?;
     let copy = parser.screen().clone()?;
-    Ok((
+    let told = (
         parser.screen().synchronized_update(),
         copy.synchronized_update(),
-    ))
+    );
+    same_for(rt, &stream, &told, &(is_updating, is_updating));
+    Ok(())
 }
 
 #[test]
 fn updates(rt: HostRuntime) -> Result<(), Fail> {
     for (stream, is_updating) in STREAMS {
-        let mut parser = Parser::new(rt.alloc(), count(2), count(3), 1)?;
-        let told = is_updating_after(&mut parser, stream)?;
-        same_for(&rt, stream, &told, &(*is_updating, *is_updating));
+        with_parser(rt.alloc(), (2, 3, 1), |parser| {
+            check_update(&rt, parser, stream, *is_updating)
+        })?;
     }
     Ok(())
 }
@@ -52,13 +61,16 @@ fn is_updating_at_a_size(parser: &mut Parser<()>, rows: u16) -> Result<(bool, bo
     Ok((was, is, held.as_str().contains("2026")))
 }
 
+fn check_sizes(rt: &impl Abort, parser: &mut Parser<()>) -> Result<(), Fail> {
+    for rows in [2, 1] {
+        let told = is_updating_at_a_size(parser, rows)?;
+        same(rt, &told, &(true, false, false));
+    }
+    Ok(())
+}
+
 /// Another size ends an update, and so does the same size. No text of the screen tells of one.
 #[test]
 fn sizes_end_updates(rt: HostRuntime) -> Result<(), Fail> {
-    let mut parser = Parser::new(rt.alloc(), count(2), count(3), 1)?;
-    for rows in [2, 1] {
-        let told = is_updating_at_a_size(&mut parser, rows)?;
-        same(&rt, &told, &(true, false, false));
-    }
-    Ok(())
+    with_parser(rt.alloc(), (2, 3, 1), |parser| check_sizes(&rt, parser))
 }
