@@ -4,6 +4,7 @@ use crate::same::same;
 use screendump_command::command;
 use scripted_io::{Narrow, Script, Step};
 use std::io::ErrorKind;
+use std::process::Abort;
 
 const USAGE: &[u8] = b"usage: screendump run|ROWS COLS [CAPACITY [TIMES]]\n";
 
@@ -27,56 +28,71 @@ attrs i1 d b----\n\
 scrollback len=1 offset=0 capacity=3\n\
 cell 0 0 63 w=0 c=0 i1 d b----\n";
 
+/// Words, a stream, and then: the status, what the output begins with, and the error output.
+type Row = (
+    &'static [&'static str],
+    &'static [u8],
+    u8,
+    &'static [u8],
+    &'static [u8],
+);
+
+const COMMANDS: &[Row] = &[
+    (&["1", "2"], b"", 0, BLANK, b""),
+    (&["1", "2"], b"\x1b[?2026h", 0, UPDATING, b""),
+    (&["1", "2", "0", "0"], b"ab", 0, BLANK, b""),
+    (&["1", "2", "3"], b"ab\x1b[1;31mc", 0, AB_OF_ABC, b""),
+    (&["1", "2", "3", "7"], b"ab\x1b[1;31mc", 0, AB_OF_ABC, b""),
+    (&["run"], b"new 1 2 0\ndump\n", 0, b"new\n", b""),
+    (&["run"], b"", 0, b"", b""),
+    (&["run"], b"# a comment\n\n", 0, b"", b""),
+    (
+        &["run"],
+        b"new 1 4 0\r\nfeed 61E4b8AD # text\r\nrows 0 4\nbetween 0 0 0 1",
+        0,
+        b"new\nrow 0 61e4b8ad\nbetween 61\n",
+        b"",
+    ),
+    (
+        &["run"],
+        b"new 1 2 0\nfeed 6\n",
+        1,
+        b"new\n",
+        b"screendump: script\n",
+    ),
+    (&["run"], b"feed 6g", 1, b"", b"screendump: script\n"),
+    (&["run"], b"new 0 2 0", 1, b"", b"screendump: script\n"),
+    (&["run"], b"rows 1", 1, b"", b"screendump: script\n"),
+    (&["run"], b"rows 1 65536", 1, b"", b"screendump: script\n"),
+    (&["run"], b"dumps", 1, b"", b"screendump: script\n"),
+    (&["run"], b"\xff", 1, b"", b"screendump: script\n"),
+    (&["run", "1"], b"ab", 2, b"", USAGE),
+    (&["0", "80"], b"ab", 2, b"", USAGE),
+    (&["65536", "80"], b"ab", 2, b"", USAGE),
+    (&["000001", "80"], b"ab", 2, b"", USAGE),
+    (&["1", "2", "0000000001"], b"ab", 2, b"", USAGE),
+    (&["1", "2", "3", "4", "5"], b"ab", 2, b"", USAGE),
+    (&[], b"ab", 2, b"", USAGE),
+];
+
+fn check_command(rt: &(impl Abort + AllocGlobal), row: Row) {
+    let (words, input, status, output, errors) = row;
+    let mut written = Vec::new(rt.alloc());
+    let mut told = Vec::new(rt.alloc());
+    let mut left = input;
+    let answer = command(rt.alloc(), words, &mut left, &mut written, &mut told);
+    let begins = written.as_slice().starts_with(output);
+    same(rt, &words, &(answer, begins), &(status, true));
+    same(rt, &words, &told.as_slice(), &errors);
+    if status == 2 {
+        same(rt, &words, &left, &input);
+    }
+}
+
 #[test]
 fn commands(rt: HostRuntime) {
-    let rows: [(&[&str], &[u8], u8, &[u8], &[u8]); 23] = [
-        (&["1", "2"], b"", 0, BLANK, b""),
-        (&["1", "2"], b"\x1b[?2026h", 0, UPDATING, b""),
-        (&["1", "2", "0", "0"], b"ab", 0, BLANK, b""),
-        (&["1", "2", "3"], b"ab\x1b[1;31mc", 0, AB_OF_ABC, b""),
-        (&["1", "2", "3", "7"], b"ab\x1b[1;31mc", 0, AB_OF_ABC, b""),
-        (&["run"], b"new 1 2 0\ndump\n", 0, b"new\n", b""),
-        (&["run"], b"", 0, b"", b""),
-        (&["run"], b"# a comment\n\n", 0, b"", b""),
-        (
-            &["run"],
-            b"new 1 4 0\r\nfeed 61E4b8AD # text\r\nrows 0 4\nbetween 0 0 0 1",
-            0,
-            b"new\nrow 0 61e4b8ad\nbetween 61\n",
-            b"",
-        ),
-        (
-            &["run"],
-            b"new 1 2 0\nfeed 6\n",
-            1,
-            b"new\n",
-            b"screendump: script\n",
-        ),
-        (&["run"], b"feed 6g", 1, b"", b"screendump: script\n"),
-        (&["run"], b"new 0 2 0", 1, b"", b"screendump: script\n"),
-        (&["run"], b"rows 1", 1, b"", b"screendump: script\n"),
-        (&["run"], b"rows 1 65536", 1, b"", b"screendump: script\n"),
-        (&["run"], b"dumps", 1, b"", b"screendump: script\n"),
-        (&["run"], b"\xff", 1, b"", b"screendump: script\n"),
-        (&["run", "1"], b"ab", 2, b"", USAGE),
-        (&["0", "80"], b"ab", 2, b"", USAGE),
-        (&["65536", "80"], b"ab", 2, b"", USAGE),
-        (&["000001", "80"], b"ab", 2, b"", USAGE),
-        (&["1", "2", "0000000001"], b"ab", 2, b"", USAGE),
-        (&["1", "2", "3", "4", "5"], b"ab", 2, b"", USAGE),
-        (&[], b"ab", 2, b"", USAGE),
-    ];
-    for (words, input, status, output, errors) in rows {
-        let mut written = Vec::new(rt.alloc());
-        let mut told = Vec::new(rt.alloc());
-        let mut left = input;
-        let answer = command(rt.alloc(), words, &mut left, &mut written, &mut told);
-        let begins = written.as_slice().starts_with(output);
-        same(&rt, &words, &(answer, begins), &(status, true));
-        same(&rt, &words, &told.as_slice(), &errors);
-        if status == 2 {
-            same(&rt, &words, &left, &input);
-        }
+    for row in COMMANDS {
+        check_command(&rt, *row);
     }
 }
 

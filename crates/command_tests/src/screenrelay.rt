@@ -1,8 +1,11 @@
 //! Whole commands, byte for byte, and faults of readers and writers in mid-stream.
 
+use crate::same::same;
 use screenrelay_command::command;
 use scripted_io::{Few, Narrow, Script, Step};
+use std::alloc::AllocError;
 use std::io::ErrorKind;
+use std::process::Abort;
 use std::test::Fail;
 
 const BLANK: &[u8] = b"\x1b[?2026h\x1b[?25h\x1b[m\x1b[H\x1b[J\x1b>\x1b[?1l\x1b[?2004l\x1b[?2026l";
@@ -35,66 +38,79 @@ const BUILD_SCREEN: &[u8] =
 
 const USAGE: &[u8] = b"usage: screenrelay relay|show ROWS COLS\n";
 
-#[test]
-fn commands(rt: HostRuntime) -> Result<(), Fail> {
-    let rows: [(&[&str], &[u8], u8, &[u8], &[u8]); 18] = [
-        (&["relay", "2", "4"], b"hi", 0, HI, b""),
-        (&["relay", "2", "4"], b"\x1b[?2026hhi", 0, b"", b""),
-        (
-            &["relay", "2", "4"],
-            b"\x1b[?2026hhi\x1b[?2026l",
-            0,
-            HI,
-            b"",
-        ),
-        (&["show", "2", "4"], HI, 0, b"hi\n\n", b""),
-        (&["show", "2", "4"], BEGUN, 0, b"\n\n", b""),
-        (&["relay", "2", "4"], b"", 0, BLANK, b""),
-        (&["relay", "1", "1"], b"", 0, BLANK, b""),
-        (&["relay", "24", "80"], b"", 0, BLANK, b""),
-        (&["show", "2", "4"], b"abcdxyz", 0, b"abcd\nxyz\n", b""),
-        (
-            &["show", "2", "4"],
-            b"abcd\r\nxyz\r\nk",
-            0,
-            b"xyz\nk\n",
-            b"",
-        ),
-        (
-            &["show", "2", "4"],
-            b"abcd\x1b[1;3H\x1b[J\x1b[2CZ",
-            0,
-            b"ab Z\n\n",
-            b"",
-        ),
-        (
-            &["relay", "2", "4"],
-            b"abcdxyz",
-            0,
-            b"\x1b[?2026h\x1b[?25h\x1b[m\x1b[H\x1b[Jabcdxyz\x1b>\x1b[?1l\x1b[?2004l\x1b[?2026l",
-            b"",
-        ),
-        (&["relay", "0", "80"], b"hi", 2, b"", USAGE),
-        (&["relay", "65536", "4"], b"hi", 2, b"", USAGE),
-        (&["relay", "000002", "4"], b"hi", 2, b"", USAGE),
-        (&["relay", "+2", "4"], b"hi", 2, b"", USAGE),
-        (&["relay", "2"], b"hi", 2, b"", USAGE),
-        (&[], b"hi", 2, b"", USAGE),
-    ];
-    for (words, input, status, output, errors) in rows {
-        let mut written = Vec::new(rt.alloc());
-        let mut told = Vec::new(rt.alloc());
-        let mut left = input;
-        let answer = command(rt.alloc(), words, &mut left, &mut written, &mut told);
-        // Words that aren't understood leave the input as it is.
-        let rest = if status == 2 { input } else { left };
-        assert_eq!(rt;
-            (answer, written.as_slice(), told.as_slice(), left),
-            (status, output, errors, rest),
-            "{words:?}"
-        );
+/// Words, a stream, and then: the status, the output, and the error output.
+type Row = (
+    &'static [&'static str],
+    &'static [u8],
+    u8,
+    &'static [u8],
+    &'static [u8],
+);
+
+const COMMANDS: &[Row] = &[
+    (&["relay", "2", "4"], b"hi", 0, HI, b""),
+    (&["relay", "2", "4"], b"\x1b[?2026hhi", 0, b"", b""),
+    (
+        &["relay", "2", "4"],
+        b"\x1b[?2026hhi\x1b[?2026l",
+        0,
+        HI,
+        b"",
+    ),
+    (&["show", "2", "4"], HI, 0, b"hi\n\n", b""),
+    (&["show", "2", "4"], BEGUN, 0, b"\n\n", b""),
+    (&["relay", "2", "4"], b"", 0, BLANK, b""),
+    (&["relay", "1", "1"], b"", 0, BLANK, b""),
+    (&["relay", "24", "80"], b"", 0, BLANK, b""),
+    (&["show", "2", "4"], b"abcdxyz", 0, b"abcd\nxyz\n", b""),
+    (
+        &["show", "2", "4"],
+        b"abcd\r\nxyz\r\nk",
+        0,
+        b"xyz\nk\n",
+        b"",
+    ),
+    (
+        &["show", "2", "4"],
+        b"abcd\x1b[1;3H\x1b[J\x1b[2CZ",
+        0,
+        b"ab Z\n\n",
+        b"",
+    ),
+    (
+        &["relay", "2", "4"],
+        b"abcdxyz",
+        0,
+        b"\x1b[?2026h\x1b[?25h\x1b[m\x1b[H\x1b[Jabcdxyz\x1b>\x1b[?1l\x1b[?2004l\x1b[?2026l",
+        b"",
+    ),
+    (&["relay", "0", "80"], b"hi", 2, b"", USAGE),
+    (&["relay", "65536", "4"], b"hi", 2, b"", USAGE),
+    (&["relay", "000002", "4"], b"hi", 2, b"", USAGE),
+    (&["relay", "+2", "4"], b"hi", 2, b"", USAGE),
+    (&["relay", "2"], b"hi", 2, b"", USAGE),
+    (&[], b"hi", 2, b"", USAGE),
+];
+
+/// Words that aren't understood leave the input as it is.
+fn check_command(rt: &(impl Abort + AllocGlobal), row: Row) {
+    let (words, input, status, output, errors) = row;
+    let mut written = Vec::new(rt.alloc());
+    let mut told = Vec::new(rt.alloc());
+    let mut left = input;
+    let answer = command(rt.alloc(), words, &mut left, &mut written, &mut told);
+    same(rt, &words, &(answer, written.as_slice()), &(status, output));
+    same(rt, &words, &told.as_slice(), &errors);
+    if status == 2 {
+        same(rt, &words, &left, &input);
     }
-    Ok(())
+}
+
+#[test]
+fn commands(rt: HostRuntime) {
+    for row in COMMANDS {
+        check_command(&rt, *row);
+    }
 }
 
 #[test]
@@ -190,64 +206,55 @@ fn errors(rt: HostRuntime) -> Result<(), Fail> {
     Ok(())
 }
 
+/// What a command that succeeds writes.
+fn output_of(rt: &(impl Abort + AllocGlobal), words: &[&str], input: &[u8]) -> Vec<u8> {
+    let mut written = Vec::new(rt.alloc());
+    let mut told = Vec::new(rt.alloc());
+    let mut left = input;
+    let answer = command(rt.alloc(), words, &mut left, &mut written, &mut told);
+    same(rt, &words, &answer, &0);
+    written
+}
+
+fn check_session(
+    rt: &(impl Abort + AllocGlobal),
+    (height, width): (&str, &str),
+    session: &[u8],
+    screen: &[u8],
+) {
+    let stream = output_of(rt, &["relay", height, width], session);
+    let shown = output_of(rt, &["show", height, width], &stream);
+    same(rt, &height, &shown.as_slice(), &screen);
+}
+
 // What `show` prints of what `relay` wrote of a session.
 #[test]
-fn examples(rt: HostRuntime) -> Result<(), Fail> {
-    let rows: [(&str, &str, &[u8], &[u8]); 2] = [
-        ("8", "40", EDITOR, EDITOR_SCREEN),
-        ("12", "40", BUILD, BUILD_SCREEN),
-    ];
-    for (height, width, session, screen) in rows {
-        let mut stream = Vec::new(rt.alloc());
-        let mut shown = Vec::new(rt.alloc());
-        let mut told = Vec::new(rt.alloc());
-        let mut left = session;
-        let relayed = command(
-            rt.alloc(),
-            &["relay", height, width],
-            &mut left,
-            &mut stream,
-            &mut told,
-        );
-        let mut left = stream.as_slice();
-        let status = command(
-            rt.alloc(),
-            &["show", height, width],
-            &mut left,
-            &mut shown,
-            &mut told,
-        );
-        assert_eq!(rt; (relayed, status, shown.as_slice()), (0, 0, screen));
-    }
-    Ok(())
+fn examples(rt: HostRuntime) {
+    check_session(&rt, ("8", "40"), EDITOR, EDITOR_SCREEN);
+    check_session(&rt, ("12", "40"), BUILD, BUILD_SCREEN);
+}
+
+/// The first frame of a screen of 24 by 80 that shows the letters of a full piece.
+fn push_frame(frames: &mut Vec<u8>) -> Result<(), AllocError> {
+    frames.extend_from_slice(b"\x1b[?2026h\x1b[?25h\x1b[m\x1b[H\x1b[J")?;
+    frames.extend_from_slice(&[b'a'; 1856])?;
+    frames.extend_from_slice(b"\x1b>\x1b[?1l\x1b[?2004l\x1b[?2026l")
+}
+
+/// These letters make these frames.
+fn check_letters(rt: &(impl Abort + AllocGlobal), letters: &[u8], frames: &[u8]) {
+    let written = output_of(rt, &["relay", "24", "80"], letters);
+    same(rt, &letters.len(), &written.as_slice(), &frames);
 }
 
 // A frame comes after each full piece, and one at the end where more has come since.
 #[test]
 fn frames(rt: HostRuntime) -> Result<(), Fail> {
-    let mut input = Vec::new(rt.alloc());
-    for _ in 0..4097 {
-        input.push(b'a')?;
-    }
     let mut frames = Vec::new(rt.alloc());
-    frames.extend_from_slice(b"\x1b[?2026h\x1b[?25h\x1b[m\x1b[H\x1b[J")?;
-    for _ in 0..1856 {
-        frames.push(b'a')?;
-    }
-    frames.extend_from_slice(b"\x1b>\x1b[?1l\x1b[?2004l\x1b[?2026l")?;
-    let first = frames.len();
+    push_frame(&mut frames)?;
+    check_letters(&rt, &[b'a'; 4096], &frames);
     frames.extend_from_slice(b"\x1b[?2026ha\x1b[?2026l")?;
-    for (given, wanted) in [(4096, first), (4097, frames.len())] {
-        let mut left = &input[..given.min(input.len())];
-        let mut written = Vec::new(rt.alloc());
-        let mut told = Vec::new(rt.alloc());
-        let words: [&str; 3] = ["relay", "24", "80"];
-        let status = command(rt.alloc(), &words, &mut left, &mut written, &mut told);
-        assert_eq!(rt;
-            (status, written.as_slice()),
-            (0, &frames[..wanted.min(frames.len())])
-        );
-    }
+    check_letters(&rt, &[b'a'; 4097], &frames);
     Ok(())
 }
 
