@@ -1,5 +1,6 @@
 //! A long stream in different pieces.
-use crate::seen::{count, frame_of, same};
+use crate::same::same_for;
+use crate::seen::{count, frame_of};
 use std::alloc::{AllocError, Global};
 use std::process::Abort;
 use std::test::Fail;
@@ -100,7 +101,7 @@ fn check_frame(
     whole: &[u8],
 ) -> Result<(), Fail> {
     let frame = first_frame(rt.alloc(), stream, lengths)?;
-    same(rt, &lengths, &frame.as_slice(), &whole);
+    same_for(rt, &lengths, &frame.as_slice(), &whole);
     Ok(())
 }
 
@@ -108,7 +109,7 @@ fn check_frame(
 fn cuttings(rt: HostRuntime) -> Result<(), Fail> {
     let stream = stream(rt.alloc())?;
     let whole = first_frame(rt.alloc(), &stream, &[LENGTH])?;
-    same(
+    same_for(
         &rt,
         &whole.len(),
         &(stream.len(), whole.len() > 500),

@@ -1,5 +1,6 @@
 //! Far views: what a session's bytes show, wherever they are cut, and the texts of a relay's faults.
-use crate::seen::{Size, count, same, text_of};
+use crate::same::same_for;
+use crate::seen::{Size, count, text_of};
 use relay_streams::{RelayError, far_view, view_of};
 use std::alloc::Global;
 use std::num::NonZeroU16;
@@ -23,7 +24,7 @@ const HELD: &[(&[usize], usize)] = &[
 
 fn check_held(rt: &(impl Abort + AllocGlobal), cuts: &[usize], held: usize) -> Result<(), Fail> {
     let view = view_of(rt.alloc(), NonZeroU16::MIN, NonZeroU16::MAX, STREAM, cuts)?;
-    same(rt, &cuts, &view.sync_bytes_count(), &held);
+    same_for(rt, &cuts, &view.sync_bytes_count(), &held);
     Ok(())
 }
 
@@ -84,7 +85,7 @@ fn check_cell(
     (row, col): (u16, u16),
     wanted: (&str, Color, (u16, u16)),
 ) -> Result<(), Fail> {
-    same(rt, &(row, col), &cell_of(view, row, col)?, &wanted);
+    same_for(rt, &(row, col), &cell_of(view, row, col)?, &wanted);
     Ok(())
 }
 
@@ -98,7 +99,7 @@ fn check_shown(
 ) -> Result<(), Fail> {
     let text = text_of(rt.alloc(), view)?;
     let shown = (text.as_slice(), view.cursor_position(), view.row_wrapped(0));
-    same(rt, &"shown", &shown, &wanted);
+    same_for(rt, &"shown", &shown, &wanted);
     Ok(())
 }
 
@@ -168,7 +169,7 @@ fn check_cut(
     wanted: (&str, Color, (u16, u16)),
 ) -> Result<(), Fail> {
     let view = seen_of(rt.alloc(), (24, 80), calls, take, &[cut])?;
-    same(rt, &cut, &cell_of(&view, 0, 13)?, &wanted);
+    same_for(rt, &cut, &cell_of(&view, 0, 13)?, &wanted);
     Ok(())
 }
 
@@ -196,9 +197,9 @@ fn far_cuts(rt: HostRuntime) -> Result<(), Fail> {
 #[test]
 fn far_views_of_nothing(rt: HostRuntime) -> Result<(), Fail> {
     let blank = seen_of(rt.alloc(), (2, 4), &[Call::Attach], 0, &[])?;
-    same(&rt, &"cursor", &blank.cursor_position(), &(0, 0));
+    same_for(&rt, &"cursor", &blank.cursor_position(), &(0, 0));
     let none = far_view(rt.alloc(), count(2), count(4), &[Call::Attach], 1, 0, &[])?;
-    same(&rt, &"unknown", &none.is_none(), &true);
+    same_for(&rt, &"unknown", &none.is_none(), &true);
     Ok(())
 }
 
@@ -230,7 +231,7 @@ fn check_modes(rt: &impl Abort, view: &View<UntilCleared>) {
         CursorStyle::SteadyUnderline,
         true,
     );
-    same(rt, &"modes", &modes, &wanted);
+    same_for(rt, &"modes", &modes, &wanted);
 }
 
 // Modes, colours and a style.

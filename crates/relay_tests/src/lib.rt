@@ -1,4 +1,4 @@
-//! Tests of `termrelay` and `relay_streams`: what a hub answers and owes at each step of some runs, a program's own
+//! Tests of `termview`, `termrelay` and `relay_streams`: views by themselves, what a hub answers and owes at each step of some runs, a program's own
 //! updates, the longest frame, writers that fail, clients among others, many clients and long sides, streams in pieces,
 //! what a run logs, frames on their way to a view, the texts of refusals, and calls that find no memory.
 #![tactic(auto)]
@@ -26,10 +26,14 @@ mod refusals;
 #[cfg(test)]
 mod runs;
 #[cfg(test)]
+mod same;
+#[cfg(test)]
 mod seen;
 #[cfg(test)]
 mod sink;
 #[cfg(test)]
 mod updates;
+#[cfg(test)]
+mod views;
 #[cfg(test)]
 mod writers;

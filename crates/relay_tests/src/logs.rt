@@ -1,6 +1,7 @@
 //! What a run of calls logs.
 use crate::runs::BLANK;
-use crate::seen::{count, same};
+use crate::same::same_for;
+use crate::seen::count;
 use std::process::Abort;
 use std::test::Fail;
 use termrelay::{Answer, Call, Client, Hub, HubError, Log, Reply, Take, run};
@@ -20,7 +21,7 @@ fn attach_and_fail(rt: &impl Abort, hub: &mut Hub, log: &mut Log) -> Result<(), 
     let takes = [Take::Bytes(10), Take::Fault];
     let calls = [Call::Frame(client), Call::Pump(client, &takes)];
     run(hub, &calls, log)?;
-    same(rt, &client, &hub.owed(client).ok(), &Some(&BLANK[10..]));
+    same_for(rt, &client, &hub.owed(client).ok(), &Some(&BLANK[10..]));
     run(hub, &[Call::Detach(client)], log)?;
     Ok(())
 }
@@ -36,11 +37,11 @@ fn check_log(rt: &impl Abort, log: &Log) {
             Reply::Done
         ]
     );
-    same(rt, &"replies", &is_told, &true);
+    same_for(rt, &"replies", &is_told, &true);
     for session in log.sessions() {
         let size = (session.rows().get(), session.cols().get());
         let found = (size, session.pumped(), session.ended());
-        same(rt, &"session", &found, &((24, 80), &BLANK[..10], true));
+        same_for(rt, &"session", &found, &((24, 80), &BLANK[..10], true));
     }
 }
 

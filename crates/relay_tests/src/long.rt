@@ -1,5 +1,6 @@
 //! The longest frame that is made, frames that would be longer, and a stream that is longer than what a view can hold.
-use crate::seen::{blank, cell_of, count, frame_of, same, text_of};
+use crate::same::same_for;
+use crate::seen::{blank, cell_of, count, frame_of, text_of};
 use relay_streams::{RelayError, relay, show};
 use std::alloc::{AllocError, Global};
 use std::process::Abort;
@@ -117,7 +118,7 @@ fn check_frame(
     wanted: (Answer, usize),
 ) -> Result<Vec<u8>, HubError> {
     let (answer, frame) = frame_of(rt.alloc(), hub, client)?;
-    same(rt, &wanted, &(answer, frame.len()), &wanted);
+    same_for(rt, &wanted, &(answer, frame.len()), &wanted);
     Ok(frame)
 }
 
@@ -138,7 +139,7 @@ fn check_longer(rt: &(impl Abort + AllocGlobal), hub: &mut Hub) -> Result<(), Hu
     let client = hub.attach()?;
     check_frame(rt, hub, client, (Answer::TooLong, 0))?;
     hub.feed(b"\x1b[m\x1b[2K")?;
-    same(rt, &client, &hub.frame(client)?, &Answer::Full);
+    same_for(rt, &client, &hub.frame(client)?, &Answer::Full);
     Ok(())
 }
 
@@ -172,7 +173,7 @@ fn check_row(rt: &(impl Abort + AllocGlobal), mut relayed: &[u8]) -> Result<(), 
         &mut relayed,
         &mut shown,
     )?;
-    same(rt, &"show", &shown.as_slice(), &b"\n".as_slice());
+    same_for(rt, &"show", &shown.as_slice(), &b"\n".as_slice());
     Ok(())
 }
 
@@ -184,7 +185,7 @@ fn a_relay_that_ends(rt: HostRuntime) -> Result<(), Fail> {
     show_other_sheet(&mut input)?;
     let mut relayed = Vec::new(rt.alloc());
     let answer = relay_row(rt.alloc(), &input, &mut relayed);
-    same(&rt, &"relay", &answer, &Err(RelayError::FrameTooLong));
+    same_for(&rt, &"relay", &answer, &Err(RelayError::FrameTooLong));
     check_row(&rt, &relayed)
 }
 
@@ -230,7 +231,7 @@ fn text_before_last(alloc: Global, frames: &[u8]) -> Result<Vec<u8>, Fail> {
 fn check_many(rt: &(impl Abort + AllocGlobal), frames: &[u8]) -> Result<(), Fail> {
     let text = text_before_last(rt.alloc(), frames)?;
     let wanted = rows_from(rt.alloc(), 1_975)?;
-    same(rt, &frames.len(), &text.as_slice(), &wanted.as_slice());
+    same_for(rt, &frames.len(), &text.as_slice(), &wanted.as_slice());
     Ok(())
 }
 
@@ -239,7 +240,7 @@ fn check_many(rt: &(impl Abort + AllocGlobal), frames: &[u8]) -> Result<(), Fail
 fn many_frames(rt: HostRuntime) -> Result<(), Fail> {
     let mut frames = Vec::new(rt.alloc());
     many_lines(rt.alloc(), &mut frames)?;
-    same(&rt, &frames.len(), &(frames.len() > 3_800_000), &true);
+    same_for(&rt, &frames.len(), &(frames.len() > 3_800_000), &true);
     check_many(&rt, &frames)
 }
 

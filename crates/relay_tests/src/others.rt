@@ -1,5 +1,6 @@
 //! A client among others: what comes of it is the same, whatever is done with the others.
-use crate::seen::{count, same};
+use crate::same::same_for;
+use crate::seen::count;
 use std::alloc::Global;
 use std::process::Abort;
 use std::test::Fail;
@@ -145,9 +146,9 @@ const SENT: &[u8] = b"\x1b[?2026h\x1b[?25h\x1b[m\x1b[H\x1b[J\x1b>\x1b[?1l\x1b[?2
 
 /// Both clients are told the same and sent the same.
 fn check_fates(rt: &impl Abort, (first, sent): &Fate, (other, other_sent): &Fate) {
-    same(rt, &"told", &first.as_str(), &other.as_str());
-    same(rt, &"sent", &sent.as_slice(), &SENT);
-    same(rt, &"sent", &other_sent.as_slice(), &SENT);
+    same_for(rt, &"told", &first.as_str(), &other.as_str());
+    same_for(rt, &"sent", &sent.as_slice(), &SENT);
+    same_for(rt, &"sent", &other_sent.as_slice(), &SENT);
 }
 
 #[test]

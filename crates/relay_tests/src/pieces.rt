@@ -1,5 +1,6 @@
 //! Two frames in three pieces.
-use crate::seen::{blank, cell_of, same};
+use crate::same::same_for;
+use crate::seen::{blank, cell_of};
 use std::process::Abort;
 use std::test::Fail;
 use termview::Color;
@@ -17,7 +18,7 @@ fn check_pieces(rt: &(impl Abort + AllocGlobal), pieces: [&[u8]; 3]) -> Result<(
     }
     let red = ("R", Color::Idx(1), Color::Default);
     let shown = (cell_of(&view, 0, 13), view.cursor_position());
-    same(rt, &pieces, &shown, &(red, (0, 16)));
+    same_for(rt, &pieces, &shown, &(red, (0, 16)));
     Ok(())
 }
 

@@ -1,7 +1,8 @@
 //! A hub at work: what each call answers, and what each client is owed then.
 //!
 //! A call that found no memory has changed nothing and is made again, but for a feed, after which the hub has failed.
-use crate::seen::{count, same};
+use crate::same::same_for;
+use crate::seen::count;
 use crate::sink::Sink;
 use std::alloc::{AllocError, Global};
 use std::io::ErrorKind;
@@ -126,7 +127,7 @@ impl Stage {
         for place in self.places.iter() {
             if !place.has_ended {
                 let found = self.hub.owed(place.client()).ok();
-                same(rt, &place.key, &found, &Some(owed(steps, *place)));
+                same_for(rt, &place.key, &found, &Some(owed(steps, *place)));
             }
         }
     }
@@ -193,7 +194,7 @@ impl Stage {
             None
         };
         let rest = wanted.get(count..).unwrap_or(b"");
-        same(rt, &index, &(fault, sink.wanted), &(wanted_fault, rest));
+        same_for(rt, &index, &(fault, sink.wanted), &(wanted_fault, rest));
         let taken = place.taken.saturating_add(count);
         self.put(index, Place { taken, ..place });
     }
@@ -210,14 +211,14 @@ impl Stage {
             is_unknown(&self.hub.detach(client)),
             is_unknown(&self.hub.pump(client, &mut sink)),
         ];
-        same(rt, &client, &unknown, &[true; 4]);
+        same_for(rt, &client, &unknown, &[true; 4]);
     }
 
     fn check_shown(&self, rt: &impl Abort, text: &str, cursor: (u16, u16)) -> Result<(), Fail> {
         let screen = self.hub.screen();
         let contents = retried_contents(screen)?;
         let shown = (contents.as_str(), screen.cursor_position());
-        same(rt, &"screen", &shown, &(text, cursor));
+        same_for(rt, &"screen", &shown, &(text, cursor));
         Ok(())
     }
 
@@ -242,13 +243,13 @@ impl Stage {
         match step {
             Step::Feed(bytes) => {
                 let is_refused = self.hub.feed(bytes).is_err();
-                same(rt, &step, &is_refused, &self.hub.screen().failed());
+                same_for(rt, &step, &is_refused, &self.hub.screen().failed());
             }
             Step::Resize(rows, cols) => self.resize(rows, cols)?,
             Step::Attach => self.attach(number)?,
             Step::Detach(index) => self.detach(index)?,
             Step::Frame(index, answer, _) => {
-                same(rt, &step, &self.frame(rt, steps, index), &Some(answer));
+                same_for(rt, &step, &self.frame(rt, steps, index), &Some(answer));
                 let place = self.place(index);
                 self.put(
                     index,
@@ -260,7 +261,7 @@ impl Stage {
                 );
             }
             Step::NoFrame(index, answer) => {
-                same(rt, &step, &self.frame(rt, steps, index), &Some(answer));
+                same_for(rt, &step, &self.frame(rt, steps, index), &Some(answer));
             }
             Step::Pump(index, room) => self.pump(rt, steps, index, room),
             Step::Unknown(index) => {
@@ -270,7 +271,7 @@ impl Stage {
             Step::Shows(text, cursor) => self.check_shown(rt, text, cursor)?,
             Step::Color(row, col, color) => {
                 let found = self.hub.screen().cell(row, col).map(|cell| cell.fgcolor());
-                same(rt, &step, &found, &Some(Color::Idx(color)));
+                same_for(rt, &step, &found, &Some(Color::Idx(color)));
             }
         }
         Ok(())

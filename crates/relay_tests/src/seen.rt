@@ -1,9 +1,7 @@
 //! Hubs, views, and what is seen of them.
 use relay_streams::write_view;
 use std::alloc::Global;
-use std::fmt::Debug;
 use std::num::NonZeroU16;
-use std::process::Abort;
 use std::test::Fail;
 use termrelay::{Answer, Client, Hub, HubError};
 use termview::{Color, UntilCleared, View, ViewError};
@@ -38,11 +36,6 @@ pub fn frame_of(
     let mut frame = Vec::new(alloc);
     hub.pump(client, &mut frame)?;
     Ok((answer, frame))
-}
-
-/// What was told is what was wanted, where this was asked.
-pub fn same<R: Abort, A: Debug, T: PartialEq + Debug>(rt: &R, asked: &A, told: &T, wanted: &T) {
-    assert_eq!(rt; told, wanted, "{asked:?}");
 }
 
 /// A cell's text and colours.

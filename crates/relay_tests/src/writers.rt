@@ -1,6 +1,7 @@
 //! Writers that take little, are interrupted or take nothing.
 use crate::runs::BLANK;
-use crate::seen::{count, same};
+use crate::same::same_for;
+use crate::seen::count;
 use std::alloc::{AllocError, Global};
 use std::io;
 use std::io::{ErrorKind, Write};
@@ -86,13 +87,13 @@ fn check_habit(
     let found = fault_of(&hub.pump(client, &mut slow));
     let front = BLANK.get(..taken).unwrap_or(BLANK);
     let rest = BLANK.get(taken..).unwrap_or(BLANK);
-    same(
+    same_for(
         rt,
         &habit,
         &(found, slow.writes, slow.kept.as_slice()),
         &(fault, writes, front),
     );
-    same(rt, &habit, &hub.owed(client).ok(), &Some(rest));
+    same_for(rt, &habit, &hub.owed(client).ok(), &Some(rest));
     Ok(())
 }
 

@@ -1,6 +1,6 @@
 //! A screen as text, a fact a line.
 
-use hex_digits::push_hex;
+use crate::hex_digits::push_hex;
 use std::alloc::AllocError;
 use std::fmt;
 use std::fmt::Write;

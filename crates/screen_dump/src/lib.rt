@@ -4,6 +4,7 @@
 mod dump;
 mod dumping;
 mod error;
+mod hex_digits;
 mod script;
 mod stream;
 mod texts;

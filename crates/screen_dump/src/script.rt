@@ -2,11 +2,11 @@
 
 use crate::dump::push_screen;
 use crate::error::DumpError;
+use crate::hex_digits::{digit_value, push_hex};
 use crate::stream::{flush, read_all, write_text};
 use crate::texts::{
     push_check, push_diffs, push_rows, push_rows_diff, push_rows_formatted, push_texts,
 };
-use hex_digits::{digit_value, push_hex};
 use std::alloc::Global;
 use std::io::Read;
 use std::num::NonZeroU16;

@@ -3,7 +3,7 @@ ghost use Rattle.std.specs.Iterator.{IsFinite};
 
 use crate::dump::push_screen;
 use crate::error::DumpError;
-use hex_digits::push_hex;
+use crate::hex_digits::push_hex;
 use std::alloc::Global;
 use vt100::{Parser, Screen, ScreenError};
 

@@ -17,6 +17,7 @@
 //! The first five read the whole stream each time; the others read it once. `all` is one after another.
 #![tactic(auto)]
 
+mod counting;
 mod reading;
 mod relaying;
 mod work;

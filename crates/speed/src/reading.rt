@@ -1,7 +1,7 @@
 //! Work that reads the stream each time.
 
+use crate::counting::Counting;
 use crate::work::{Job, PIECE_LEN};
-use counting::Counting;
 use termview::{UntilCleared, View};
 use vt100::Parser;
 use vte::ansi::Processor;

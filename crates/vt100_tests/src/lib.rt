@@ -1,10 +1,19 @@
-//! Tests of `vt100`: callbacks and captures, direct calls, refusals, and odd or large screens.
+//! Tests of `vt100` and what it stands on: forms byte for byte, rows and grids at work, captures, callbacks, direct
+//! calls, refusals, and odd or large screens.
 #![tactic(auto)]
 
 #[cfg(test)]
 mod ample;
 #[cfg(test)]
+mod begun;
+#[cfg(test)]
 mod calls;
+#[cfg(test)]
+mod captures;
+#[cfg(test)]
+mod forms;
+#[cfg(test)]
+mod grid;
 #[cfg(test)]
 mod log;
 #[cfg(test)]
@@ -14,7 +23,11 @@ mod refusals;
 #[cfg(test)]
 mod report;
 #[cfg(test)]
+mod rows;
+#[cfg(test)]
 mod same;
+#[cfg(test)]
+mod shown;
 #[cfg(test)]
 mod start;
 #[cfg(test)]

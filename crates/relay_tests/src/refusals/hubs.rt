@@ -1,7 +1,8 @@
 //! Hubs and runs that find no memory.
 use crate::refusals::far::Far;
 use crate::refusals::owing::{HI, attach_and_frame, check_owed, new_hub, owing};
-use crate::seen::{count, same};
+use crate::same::same_for;
+use crate::seen::count;
 use std::alloc::Global;
 use std::process::Abort;
 use std::test::Fail;
@@ -23,7 +24,7 @@ fn check_failed(rt: &impl Abort, hub: &mut Hub, client: Client) {
         is_failed(&hub.frame(client)),
         matches!(hub.frame(unknown), Err(HubError::UnknownClient)),
     ];
-    same(rt, &client, &answers, &[true; 5]);
+    same_for(rt, &client, &answers, &[true; 5]);
 }
 
 /// A view, made at the second try if the first was refused.
@@ -38,7 +39,7 @@ fn new_far(alloc: Global) -> Result<Far, ViewError> {
 fn check_shown(rt: &(impl Abort + AllocGlobal), hub: &mut Hub, client: Client) -> Result<(), Fail> {
     let mut far = new_far(rt.alloc())?;
     hub.pump(client, &mut far)?;
-    same(rt, &client, &(far.text(0), far.text(1)), &("h", "i"));
+    same_for(rt, &client, &(far.text(0), far.text(1)), &("h", "i"));
     check_owed(rt, hub, client, Some(b""));
     Ok(())
 }
@@ -47,7 +48,7 @@ fn check_shown(rt: &(impl Abort + AllocGlobal), hub: &mut Hub, client: Client) -
 fn check_feed(rt: &(impl Abort + AllocGlobal), hub: &mut Hub, bytes: &[u8]) -> Result<(), Fail> {
     let client = owing(rt, hub)?;
     let is_refused = matches!(hub.feed(bytes), Err(HubError::Memory));
-    same(rt, &bytes, &hub.screen().failed(), &is_refused);
+    same_for(rt, &bytes, &hub.screen().failed(), &is_refused);
     if is_refused {
         check_failed(rt, hub, client);
     }
@@ -106,7 +107,7 @@ fn words_of(reply: &Reply) -> &'static str {
 /// A client by a run. Where its log had no room, nothing was done.
 fn attached(rt: &impl Abort, hub: &mut Hub, log: &mut Log) -> Result<Client, Fail> {
     if run(hub, &[Call::Attach], log).is_err() {
-        same(
+        same_for(
             rt,
             &"log",
             &(log.replies().len(), log.sessions().len()),
@@ -163,7 +164,7 @@ fn check_replies(rt: &impl Abort, replies: &[Reply]) -> (usize, usize) {
         if words == "no memory" {
             due = Some(*wanted);
         } else {
-            same(rt, wanted, &words, &due.unwrap_or(*wanted));
+            same_for(rt, wanted, &words, &due.unwrap_or(*wanted));
             due = None;
             then = (*pumped, *made);
         }
@@ -175,7 +176,7 @@ fn check_replies(rt: &impl Abort, replies: &[Reply]) -> (usize, usize) {
 fn check_log(rt: &impl Abort, hub: &Hub, log: &Log, start: usize) {
     let (pumped, made) = check_replies(rt, log.replies().get(start..).unwrap_or(&[]));
     for session in log.sessions() {
-        same(rt, &pumped, &Some(session.pumped()), &SENT.get(..pumped));
+        same_for(rt, &pumped, &Some(session.pumped()), &SENT.get(..pumped));
         check_owed(rt, hub, session.client(), SENT.get(pumped..made));
     }
 }
@@ -186,12 +187,12 @@ fn check_run(rt: &impl Abort, hub: &mut Hub, log: &mut Log) -> Result<(), Fail> 
     let calls = planned(client);
     let is_whole = run(hub, &calls, log).is_ok();
     let made = log.replies().len().saturating_sub(start);
-    same(rt, &made, &is_whole, &(made == calls.len()));
+    same_for(rt, &made, &is_whole, &(made == calls.len()));
     check_log(rt, hub, log, start);
     run(hub, calls.get(made..).unwrap_or(&[]), log)?;
     check_log(rt, hub, log, start);
     let made = log.replies().len().saturating_sub(start);
-    same(rt, &start, &made, &calls.len());
+    same_for(rt, &start, &made, &calls.len());
     Ok(())
 }
 

@@ -1,5 +1,6 @@
 //! Hubs, whose refused calls are made again.
-use crate::seen::{count, same};
+use crate::same::same_for;
+use crate::seen::count;
 use std::alloc::Global;
 use std::process::Abort;
 use termrelay::{Answer, Client, Hub, HubError};
@@ -18,7 +19,7 @@ pub fn new_hub(alloc: Global) -> Result<Hub, HubError> {
 
 /// The client is owed these bytes, or is unknown.
 pub fn check_owed(rt: &impl Abort, hub: &Hub, client: Client, wanted: Option<&[u8]>) {
-    same(rt, &client, &hub.owed(client).ok(), &wanted);
+    same_for(rt, &client, &hub.owed(client).ok(), &wanted);
 }
 
 /// A new client, which gets a whole frame, `HI`. Where that was refused, it was owed nothing.
@@ -34,7 +35,7 @@ pub fn attach_and_frame(rt: &impl Abort, hub: &mut Hub) -> Result<Client, HubErr
             hub.frame(client)?
         }
     };
-    same(rt, &client, &answer, &Answer::Full);
+    same_for(rt, &client, &answer, &Answer::Full);
     check_owed(rt, hub, client, Some(HI));
     Ok(client)
 }

@@ -1,7 +1,8 @@
 //! Views, processors and streams that find no memory.
 ghost use Rattle.std.specs.Prelude.{⊤};
 
-use crate::seen::{blank, cell_of, count, same};
+use crate::same::same_for;
+use crate::seen::{blank, cell_of, count};
 use relay_streams::{RelayError, far_view, relay, show};
 use scripted_io::Narrow;
 use std::alloc::{AllocError, Global};
@@ -30,7 +31,7 @@ fn new_view(alloc: Global) -> Result<View<UntilCleared>, ViewError> {
 fn check_view(rt: &impl Abort, view: &View<UntilCleared>) {
     let shown = (cell_of(view, 0, 1), view.sync_bytes_count());
     let wanted = (("i", Color::Idx(1), Color::Default), 1);
-    same(rt, &"view", &shown, &wanted);
+    same_for(rt, &"view", &shown, &wanted);
 }
 
 #[test]
@@ -69,7 +70,7 @@ fn processors(rt: HostRuntime) -> Result<(), Fail> {
     let mut processor = new_processor(rt.alloc())?;
     processor.advance(&mut count, b"\x1b[31mhi\x1b[?2026hx");
     let found = (count.calls, processor.sync_bytes_count());
-    same(&rt, &"processor", &found, &(4, 1));
+    same_for(&rt, &"processor", &found, &(4, 1));
     Ok(())
 }
 
@@ -129,7 +130,7 @@ fn check_far_view(
 ) -> Result<(), Fail> {
     let view = retried_far_view(rt.alloc(), calls, take)?.ok_or("no view")?;
     let shown = (cell_of(&view, 0, 13), view.cursor_position());
-    same(
+    same_for(
         rt,
         &take,
         &shown,
@@ -174,7 +175,7 @@ fn narrow(alloc: Global) -> Result<Narrow, AllocError> {
 /// The answer was the refusal for memory, and only a front of the text was written.
 fn check_front(rt: &impl Abort, answer: Result<(), RelayError>, kept: &[u8], text: &[u8]) {
     let found = (answer, text.starts_with(kept));
-    same(rt, &text, &found, &(Err(RelayError::Memory), true));
+    same_for(rt, &text, &found, &(Err(RelayError::Memory), true));
 }
 
 fn relay_hi(alloc: Global, output: &mut Narrow) -> Result<(), RelayError> {
@@ -189,7 +190,7 @@ fn check_relay(rt: &(impl Abort + AllocGlobal), output: &mut Narrow) {
         answer = relay_hi(rt.alloc(), output);
     }
     let found = (answer, output.kept.as_slice());
-    same(rt, &"relay", &found, &(Ok(()), HI));
+    same_for(rt, &"relay", &found, &(Ok(()), HI));
 }
 
 #[test]
@@ -210,7 +211,7 @@ fn check_show(rt: &(impl Abort + AllocGlobal), output: &mut Narrow) {
         answer = show_hi(rt.alloc(), output);
     }
     let found = (answer, output.kept.as_slice());
-    same(rt, &"show", &found, &(Ok(()), b"hi\n\n".as_slice()));
+    same_for(rt, &"show", &found, &(Ok(()), b"hi\n\n".as_slice()));
 }
 
 #[test]

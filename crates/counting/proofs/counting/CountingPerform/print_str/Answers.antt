@@ -1,5 +1,0 @@
-use Rattle.counting.proofs.Counts.{counts_all}
-use Rattle.counting.proofs.counting.CountingPerform.print_str.Goals as goal
-
-pub returns : goal.returns
-returns c = counts_all _ _ _

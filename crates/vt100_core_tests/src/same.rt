@@ -1,9 +1,0 @@
-//! Values that are to be the same.
-
-use std::fmt::Debug;
-use std::process::Abort;
-
-/// What was told is what was wanted. A test calls this in place of `assert_eq!`, whose proof is then done once.
-pub fn same<R: Abort, T: PartialEq + Debug>(rt: &R, told: &T, wanted: &T) {
-    assert_eq!(rt; told, wanted);
-}
