@@ -26,7 +26,7 @@ use Rattle.vt100_forms.specs.Form.{Form, Text, MoveTo, MoveRight, EraseChar, Cle
 use Rattle.vt100_forms.specs.Form.{Crlf, Lf, Backspace, SaveCursor, RestoreCursor, HideCursor, Keypad, CursorKeys}
 use Rattle.vt100_forms.specs.Form.{Paste, Mouse, Encoding, Style, Sgr, Change, mouse_number, encoding_number}
 use Rattle.vt100_forms.specs.Form.{style_number}
-use Rattle.forms_read.specs.Events.{kept_number}
+use Rattle.forms_read.specs.Events.{kept_number, mode_steps}
 
 -- ---- attributes
 
@@ -81,12 +81,8 @@ set_call number = call.set_private_mode (private_mode_of number)
 abbrev pub reset_call : ℕ → Call
 reset_call number = call.unset_private_mode (private_mode_of number)
 
--- from one mode to another, by their numbers, where 0 is the default
 abbrev pub mode_calls : ℕ → ℕ → List Call
-mode_calls to from =
-    if to == from then []
-    else if to == 0 then reset_call from ∷ []
-    else set_call to ∷ []
+mode_calls = mode_steps set_call reset_call
 
 abbrev pub style_told : CursorStyle → Option Drawn
 style_told style.Default = None

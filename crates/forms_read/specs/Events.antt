@@ -33,12 +33,15 @@ set_event n = sequence (0x3F ∷ []) (n ∷ []) 0x68
 abbrev pub reset_event : ℕ → Event
 reset_event n = sequence (0x3F ∷ []) (n ∷ []) 0x6C
 
--- from one mode to another, by their numbers, where 0 is the default
-abbrev pub mode_events : ℕ → ℕ → List Event
-mode_events to from =
+-- what leads from one mode to another, by their numbers, where 0 is the default: one is set, or the earlier one reset
+abbrev pub mode_steps : {S : Type 0} → (ℕ → S) → (ℕ → S) → ℕ → ℕ → List S
+mode_steps set reset to from =
     if to == from then []
-    else if to == 0 then reset_event from ∷ []
-    else set_event to ∷ []
+    else if to == 0 then reset from ∷ []
+    else set to ∷ []
+
+abbrev pub mode_events : ℕ → ℕ → List Event
+mode_events = mode_steps set_event reset_event
 
 abbrev pub sgr_events : List ℕ → List Event
 sgr_events [] = []

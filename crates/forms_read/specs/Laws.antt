@@ -7,7 +7,7 @@ use Rattle.vte_core.specs.Event.{Event}
 use Rattle.vte_core.specs.Shapes.{events}
 use Rattle.vte_core.specs.Added.{added}
 use Rattle.vte_core.specs.Ground.{AtGround}
-use Rattle.vt100_forms.specs.Form.{Form, Text, spelling, spell}
+use Rattle.vt100_forms.specs.Form.{Form, Text, HasText, spelling, spell}
 use Rattle.vt100_forms.specs.Length.{HasSmallNumbers}
 use Rattle.terminal_model.specs.FormText.{IsSentText, IsSentForm}
 use Rattle.forms_read.specs.Events.{events_of, events_of_all}
@@ -17,8 +17,7 @@ abbrev pub IsPrinted : ℕ → Type 0
 IsPrinted c = IsScalar c × ((nat_lt c 0x20 || is_in_range 0x80 0x9F c) ≡ false)
 
 abbrev pub HasPrintedText : Form → Type 0
-HasPrintedText (Text cs) = AllByRecursion IsPrinted cs
-HasPrintedText _ = Unit {0}
+HasPrintedText = HasText (AllByRecursion IsPrinted)
 
 -- its text is printed, and its numbers are of the code's types
 abbrev pub IsReadable : Form → Type 0

@@ -33,15 +33,16 @@ led_on old now new pieces piece led take = record {
   goes = λ parsed hold at.
       let l = led.goes parsed hold at in
       let t = take l.parsed' l.hold' l.holds in
-      let one : Drives (Gives piece ∷ []) l.parsed' l.hold' t.parsed' t.hold' =
-      gives piece [] l.parsed' l.hold' t.parsed' t.hold' t.calls t.ticks t.parsed' t.hold' t.takes
-      (ends t.parsed' t.hold') in
+      let p = t.leads in
+      let one : Drives (Gives piece ∷ []) l.parsed' l.hold' p.parsed' p.hold' =
+      gives piece [] l.parsed' l.hold' p.parsed' p.hold' p.calls p.ticks p.parsed' p.hold' p.takes
+      (ends p.parsed' p.hold') in
       record {
-        parsed' = t.parsed';
-        hold' = t.hold';
-        leads = subst (λ (ms : List Move). Drives ms parsed hold t.parsed' t.hold')
+        parsed' = p.parsed';
+        hold' = p.hold';
+        leads = subst (λ (ms : List Move). Drives ms parsed hold p.parsed' p.hold')
             (sym (map-append Gives pieces (piece ∷ [])))
-            (moves_follow (map Gives pieces) (Gives piece ∷ []) parsed hold l.parsed' l.hold' t.parsed' t.hold' l.leads
+            (moves_follow (map Gives pieces) (Gives piece ∷ []) parsed hold l.parsed' l.hold' p.parsed' p.hold' l.leads
             one);
         holds = t.stands;
         size = t.size ∙ l.size;

@@ -441,9 +441,10 @@ module _ (rows cols : ℕ) (z : Size) (height : IsSide z.rows) (width : IsSide z
       let out = none_torn z (frame_texts es) pieces beyond [] parsed hold (ground-nothing 1024)
       (All-from_recursion IsFrame (frame_texts es) (frames-are es k))
       (All-from_recursion (λ text. length text < limit) (frame_texts es) all-short) (e ∙ sym joined) leads in
+      let f = out.front in
       out.shows
-      ∙ ap (seen z) (sym (covers es None out.whole out.rest out.part k out.frames_are out.is_part))
-      ∙ ap (λ bytes. seen z (texts (whole_in es (length bytes)))) (sym out.bytes_are)
+      ∙ ap (seen z) (sym (covers es None f.whole f.rest f.part k f.frames_are f.is_part))
+      ∙ ap (λ bytes. seen z (texts (whole_in es (length bytes)))) (sym f.bytes_are)
 
 -- ---- sessions
 

@@ -9,7 +9,7 @@ use Rattle.termrelay.specs.Hub.{Telling, HubState, size_in, shown_in, clients_in
 use Rattle.termrelay.specs.declared.answer.Answer.{Answer}
 use Rattle.termrelay.specs.declared.call.Reply.{Reply}
 use Rattle.termrelay.specs.declared.call.Reply.TheVariants.{Done, Attached, Answered}
-use Rattle.termrelay.specs.Calls.{Call, Resize, Attach, Detach, Frame, Pump, IsCall, Serves}
+use Rattle.termrelay.specs.Calls.{Call, Resize, Attach, Detach, Frame, Pump, RunsBeside}
 use Rattle.termrelay.specs.Log.{SessionView, is_of, change_last, begun, ended, grown, bytes_taken}
 
 -- ---- hubs
@@ -96,9 +96,4 @@ stories_after h call reply ts = ts
 
 -- one call after another, with numbers of the code's types: from a hub h and stories ts to k and us
 abbrev pub RunsTold : HubState as_told → List Story → List Call → List Reply → HubState as_told → List Story → Type 0
-RunsTold h ts [] [] k us = (k ≡ h) × (us ≡ ts)
-RunsTold h ts (call ∷ calls) (reply ∷ replies) k us =
-    (g : HubState as_told) × IsCall call × Serves h call reply g
-    × RunsTold g (stories_after h call reply ts) calls replies k us
-RunsTold h ts [] (reply ∷ replies) k us = ⊥
-RunsTold h ts (call ∷ calls) [] k us = ⊥
+RunsTold = RunsBeside stories_after

@@ -3,7 +3,8 @@ use Rattle.std.proofs.Common.{ℕ, List}
 use Rattle.vt100_forms.specs.Form.{Form, Text, MoveTo, MoveRight, EraseChar, ClearRowForward, ClearScreen, ClearAttrs}
 use Rattle.vt100_forms.specs.Form.{Crlf, Lf, Backspace, SaveCursor, RestoreCursor, HideCursor, Keypad, CursorKeys}
 use Rattle.vt100_forms.specs.Form.{Paste, Mouse, Encoding, Style, Sgr}
-use Rattle.terminal_model.specs.FormText.{HasText, AllTexts}
+use Rattle.vt100_forms.specs.Form.{HasText}
+use Rattle.terminal_model.specs.FormText.{AllTexts}
 use Rattle.terminal_model.proofs.FormTexts.{all-each}
 use Rattle.row_drawing.specs.Texts.{IsDrawing, AllDrawing}
 

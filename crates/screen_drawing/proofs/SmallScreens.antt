@@ -11,7 +11,8 @@ use Rattle.vt100_forms.specs.Length.{HasSmallNumbers, longest}
 use Rattle.vt100_forms.proofs.Lengths.{length-change}
 use Rattle.vt100_cells.proofs.CellTexts.{text-short}
 use Rattle.terminal_model.specs.Term.{Size, Shown, blank_shown}
-use Rattle.terminal_model.specs.FormText.{IsSentText, IsFormText, HasText, AllTexts}
+use Rattle.vt100_forms.specs.Form.{HasText}
+use Rattle.terminal_model.specs.FormText.{IsSentText, IsFormText, AllTexts}
 use Rattle.terminal_model.proofs.FormTexts.{all-both}
 use Rattle.row_drawing.specs.Small.{AreSmall, SmallErase, IsSmallPen}
 use Rattle.row_drawing.proofs.Texts.{all-join}

@@ -14,7 +14,8 @@ use Rattle.vt100_cells.specs.Cell.{has_text, cell_of, columns_of}
 use Rattle.terminal_model.specs.Term.{Size, Modes, Shown, Term}
 use Rattle.terminal_model.specs.Apply.{with_line, erase, print, join, down, wrap, made_to_fit, is_dropped, input, inputs}
 use Rattle.terminal_model.specs.Apply.{apply, run}
-use Rattle.terminal_model.specs.FormText.{IsSentText, IsFormText, HasText, AllTexts}
+use Rattle.vt100_forms.specs.Form.{HasText}
+use Rattle.terminal_model.specs.FormText.{IsSentText, IsFormText, AllTexts}
 use Rattle.terminal_model.proofs.FormLemmas.{run-joined}
 use Rattle.terminal_model.proofs.PlainText.{cell-sent}
 use Rattle.terminal_model.proofs.FormTexts.{all-each, space-sent, space-form, some-text, text-is_plain}

@@ -8,7 +8,8 @@ use Rattle.vt100_forms.specs.Form.{Form, Text}
 use Rattle.vt100_forms.specs.Mark.{HasPlainText}
 use Rattle.vt100_cells.specs.Cell.{CellView, has_text, cell_of}
 use Rattle.vt100_cells.proofs.CellLemmas.{IsCell-space}
-use Rattle.terminal_model.specs.FormText.{IsSentText, IsFormText, HasText, IsForm, IsSentForm, AreForms}
+use Rattle.vt100_forms.specs.Form.{HasText}
+use Rattle.terminal_model.specs.FormText.{IsSentText, IsFormText, IsForm, IsSentForm, AreForms}
 use Rattle.terminal_model.specs.FormText.{AreSentForms, EachFormIsSent, EachSentFormIsPlain}
 use Rattle.terminal_model.proofs.PlainText.{text-plain, cell-sent}
 

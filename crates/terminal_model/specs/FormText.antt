@@ -2,7 +2,7 @@
 use Rattle.std.specs.Prelude.{ℕ, ◌<◌, List, length, All, Contains}
 use Rattle.std.specs.Char.{IsScalar}
 use Rattle.std.specs.List.{AllByRecursion}
-use Rattle.vt100_forms.specs.Form.{Form, Text}
+use Rattle.vt100_forms.specs.Form.{Form, Text, HasText}
 use Rattle.vt100_forms.specs.Length.{HasSmallNumbers}
 use Rattle.vt100_forms.specs.Mark.{HasPlainText}
 use Rattle.vt100_cells.specs.Cell.{CellView, IsCell, IsCellText, IsShort}
@@ -24,11 +24,6 @@ pub record IsFormText (cs : List ℕ) : Type 0 where
   pub plain : Contains cs 0xFE0F → ⊥
 
 -- ---- forms
-
--- a form whose text, if it has one, is as P says
-abbrev pub HasText : (List ℕ → Type 0) → Form → Type 0
-HasText P (Text cs) = P cs
-HasText P _ = Unit {0}
 
 abbrev pub AllTexts : (List ℕ → Type 0) → List Form → Type 0
 AllTexts P fs = AllByRecursion (HasText P) fs

@@ -90,3 +90,14 @@ module _ {way : Telling} where
       (g : HubState way) × IsCall call × Serves h call reply g × Runs g calls replies k
   Runs h [] (reply ∷ replies) k = ⊥
   Runs h (call ∷ calls) [] k = ⊥
+
+  -- The same, with what is told beside the hub: from b to c, where `after` gives what is told after a call on a hub that
+  -- gets a reply.
+  abbrev pub RunsBeside : {B : Type 0} → (HubState way → Call → Reply → B → B) → HubState way → B → List Call
+      → List Reply → HubState way → B → Type 0
+  RunsBeside after h b [] [] k c = (k ≡ h) × (c ≡ b)
+  RunsBeside after h b (call ∷ calls) (reply ∷ replies) k c =
+      (g : HubState way) × IsCall call × Serves h call reply g
+      × RunsBeside after g (after h call reply b) calls replies k c
+  RunsBeside after h b [] (reply ∷ replies) k c = ⊥
+  RunsBeside after h b (call ∷ calls) [] k c = ⊥

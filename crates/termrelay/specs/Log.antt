@@ -4,7 +4,7 @@ use Rattle.std.specs.Prelude.{Option, Some, None, Result, Ok, Err, if◌then◌e
 use Rattle.std.specs.List.{list_any}
 use Rattle.termrelay.specs.Answers.{ClientState}
 use Rattle.termrelay.specs.Hub.{Telling, HubState, as_kept, size_in, clients_in}
-use Rattle.termrelay.specs.Calls.{Call, Resize, Attach, Detach, Pump, taken_by, IsCall, Serves}
+use Rattle.termrelay.specs.Calls.{Call, Resize, Attach, Detach, Pump, taken_by, IsCall, Serves, RunsBeside}
 use Rattle.termrelay.specs.declared.call.Take.{Take}
 use Rattle.termrelay.specs.declared.call.Reply.{Reply}
 use Rattle.termrelay.specs.declared.call.Reply.TheVariants.{Done, Attached}
@@ -86,12 +86,7 @@ ServesLogged h call g l m =
 -- one call after another, with numbers of the code's types: from a hub h and sessions ss to k and ts
 abbrev pub RunsLogged : HubState as_kept → List SessionView → List Call → List Reply → HubState as_kept
     → List SessionView → Type 0
-RunsLogged h ss [] [] k ts = (k ≡ h) × (ts ≡ ss)
-RunsLogged h ss (call ∷ calls) (reply ∷ replies) k ts =
-    (g : HubState as_kept) × IsCall call × Serves h call reply g
-    × RunsLogged g (sessions_after h call reply ss) calls replies k ts
-RunsLogged h ss [] (reply ∷ replies) k ts = ⊥
-RunsLogged h ss (call ∷ calls) [] k ts = ⊥
+RunsLogged = RunsBeside sessions_after
 
 -- all the calls were made: the log gets their replies, and its sessions are those after them
 abbrev pub MadeAll : HubState as_kept → LogView → List Call → HubState as_kept → LogView → Type 0

@@ -266,8 +266,9 @@ spelling-parsed fs moves past parsed hold g k e l =
 
 pub spelling-taken : {T : Type 0} (ticking : Ticking T) → SpellingsAreTaken ticking
 spelling-taken ticking fs past old new g k t =
-    let r = quiet-piece past (spell fs) t.parsed' t.hold' t.calls t.ticks t.takes (opens_in-spelling past fs g k) in (
+    let l = t.leads in
+    let r = quiet-piece past (spell fs) l.parsed' l.hold' l.calls l.ticks l.takes (opens_in-spelling past fs g k) in (
       subst (λ (xs : List ℕ). HoldsAt ticking new xs None) r.0
-          (subst (λ (h : Option (List ℕ)). HoldsAt ticking new t.parsed' h) r.1 t.stands),
+          (subst (λ (h : Option (List ℕ)). HoldsAt ticking new l.parsed' h) r.1 t.stands),
       t.size,
     )

@@ -87,17 +87,13 @@ all_back P (x ∷ a) b h = all_back P a b h.1
 pub none_torn : NoFrameIsTorn
 none_torn z frames pieces beyond past parsed hold g all small e l =
     let u = never_torn frames pieces beyond past parsed hold all small e l in
-    let each : AllByRecursion IsFrame (u.whole ++ u.rest) =
-    subst (AllByRecursion IsFrame) u.frames_are (recursion_from_All IsFrame frames all) in
-    let begun = mark_begun (past ++ concat u.whole) u.part parsed hold u.rest (all_back IsFrame u.whole u.rest each)
-    u.is_part u.rests in
-    let ground = frames_ground u.whole past (all_front IsFrame u.whole u.rest each) g in
+    let f = u.front in
+    let each : AllByRecursion IsFrame (f.whole ++ f.rest) =
+    subst (AllByRecursion IsFrame) f.frames_are (recursion_from_All IsFrame frames all) in
+    let begun = mark_begun (past ++ concat f.whole) f.part parsed hold f.rest (all_back IsFrame f.whole f.rest each)
+    f.is_part u.rests in
+    let ground = frames_ground f.whole past (all_front IsFrame f.whole f.rest each) g in
     record {
-      whole = u.whole;
-      rest = u.rest;
-      part = u.part;
-      frames_are = u.frames_are;
-      bytes_are = u.bytes_are;
-      is_part = u.is_part;
-      shows = ap (seen z) begun.2 ∙ begun-shows z (past ++ concat u.whole) begun.0 ground begun.1;
+      front = f;
+      shows = ap (seen z) begun.2 ∙ begun-shows z (past ++ concat f.whole) begun.0 ground begun.1;
     }

@@ -9,7 +9,7 @@ use Rattle.vte.specs.Stretch.{last_of, calls_from}
 use Rattle.vte.specs.Marks.{start_mark, end_mark}
 use Rattle.vte.specs.Hold.{limit}
 use Rattle.vte.specs.Moves.{Move, Gives, given}
-use Rattle.vte.specs.Frames.{IsFrame, IsPart, Drives}
+use Rattle.vte.specs.Frames.{IsFrame, IsFront, Drives}
 use Rattle.vt100_forms.specs.Form.{Form, spell}
 use Rattle.terminal_model.specs.Term.{Size, Term, IsTerm}
 use Rattle.terminal_model.specs.Apply.{run}
@@ -45,13 +45,8 @@ WholeFramesAreShown = (z : Size) (frames : List (List ℕ)) (moves : List Move) 
 
 -- of the frames just those that were given whole are shown
 pub record ShowsWhole (z : Size) (frames : List (List ℕ)) (past bytes parsed : List ℕ) : Type 0 where
-  pub whole : List (List ℕ)
-  pub rest : List (List ℕ)
-  pub part : List ℕ
-  pub frames_are : frames ≡ whole ++ rest
-  pub bytes_are : bytes ≡ concat whole ++ part
-  pub is_part : IsPart part rest
-  pub shows : seen z parsed ≡ seen z (past ++ concat whole)
+  pub front : IsFront frames bytes
+  pub shows : seen z parsed ≡ seen z (past ++ concat front.whole)
 
 -- frames below the hold's limit are never shown in part, in whatever pieces the beginning of them comes
 abbrev pub NoFrameIsTorn : Type 0

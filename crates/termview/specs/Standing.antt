@@ -1,11 +1,12 @@
 -- Where a view stands: the bytes that it has parsed, those that it holds, and what it shows of the first.
 use Rattle.std.specs.Prelude.{ℕ, false, List, [], ◌∷◌, ◌++◌, ◌≡◌, Option, is_some}
 use Rattle.vte_types.specs.Call.{Call}
-use Rattle.vte.specs.Timeout.{Ticking, Tick, Clears, Ticked, Awaits}
+use Rattle.vte.specs.Timeout.{Ticking, Clears, Ticked, Awaits}
 use Rattle.vte.specs.Stretch.{ticks_from}
-use Rattle.vte.specs.Hold.{held_of, Takes}
+use Rattle.vte.specs.Hold.{held_of}
 use Rattle.vte.specs.Advances.{Advances}
 use Rattle.vte.specs.Standing as processor
+use Rattle.vte.specs.Standing.{TakesPiece}
 use Rattle.terminal_model.specs.Term.{Size, Term}
 use Rattle.termview.specs.Picture.{term_of_picture}
 use Rattle.termview.specs.Seen.{seen}
@@ -45,13 +46,8 @@ pub record Advanced {T : Type 0} (ticking : Ticking T) (old : View T) (parsed he
 -- what a piece led to, under a timeout that is pending exactly from setting to clearing
 pub record Taken {T : Type 0} (ticking : Ticking T) (old : View T) (parsed : List ℕ) (hold : Option (List ℕ))
     (piece : List ℕ) (new : View T) : Type 0 where
-  pub parsed' : List ℕ
-  pub hold' : Option (List ℕ)
-  pub calls : List Call
-  pub ticks : List Tick
-  pub takes : Takes parsed hold piece parsed' hold' calls ticks
-  pub stands : HoldsAt ticking new parsed' hold'
-  pub ticked : Ticked ticking (timeout_of old) ticks (timeout_of new)
+  pub leads : TakesPiece ticking (timeout_of old) parsed hold piece (timeout_of new)
+  pub stands : HoldsAt ticking new leads.parsed' leads.hold'
   pub size : view_size new ≡ view_size old
 
 -- all held bytes were parsed, and the update was closed

@@ -133,16 +133,9 @@ allocated g = if length g.rows == 0 then record g { rows = replicate g.height (b
 
 -- blank rows, and cursor, region and modes as in a new grid; what is kept stays
 abbrev pub cleared : GridView → GridView
-cleared g = record g {
+cleared g = record (new_grid g.height g.width Disabled) {
   rows = replicate (length g.rows) (blank_row g.width);
-  row = 0;
-  col = 0;
-  saved_row = 0;
-  saved_col = 0;
-  origin = false;
-  saved_origin = false;
-  top = 0;
-  bottom = g.height - 1;
+  kept = g.kept;
 }
 
 -- ---- what is shown

@@ -54,6 +54,11 @@ pub data Form : Type 0 where
   Style : (to from : CursorStyle) → Form
   Sgr : (change : Change) → Form
 
+-- a form whose text, if it has one, is as P says
+abbrev pub HasText : (List ℕ → Type 0) → Form → Type 0
+HasText P (Text cs) = P cs
+HasText P _ = Unit {0}
+
 -- a control sequence: ESC [, and what follows
 abbrev pub csi : List ℕ → List ℕ
 csi bs = 27 ∷ 91 ∷ bs

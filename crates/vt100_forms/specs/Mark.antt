@@ -1,7 +1,7 @@
 -- The marks of a synchronized update (private mode 2026), and that no list of forms holds one.
 use Rattle.std.specs.Prelude.{ℕ, ◌≡◌, List, ◌∷◌, ◌++◌, codes, encode_utf8_all}
 use Rattle.std.specs.List.{AllByRecursion}
-use Rattle.vt100_forms.specs.Form.{Form, Text, spell}
+use Rattle.vt100_forms.specs.Form.{Form, HasText, spell}
 
 -- what both marks begin with: the start mark ends in h, the end mark in l
 abbrev pub mark_head : List ℕ
@@ -9,8 +9,7 @@ mark_head = 27 ∷ codes "[?2026"
 
 -- the text of a cell has no ESC
 abbrev pub HasPlainText : Form → Type 0
-HasPlainText (Text cs) = AllByRecursion (λ b. b ≡ 27 → ⊥) (encode_utf8_all cs)
-HasPlainText _ = Unit {0}
+HasPlainText = HasText (λ cs. AllByRecursion (λ b. b ≡ 27 → ⊥) (encode_utf8_all cs))
 
 -- wherever a mark stands in forms that r follows, it stands behind the forms
 abbrev pub MarksStandBehindForms : Type 0

@@ -8,7 +8,8 @@ use Rattle.vt100_forms.specs.Length.{HasSmallNumbers}
 use Rattle.vt100_forms.specs.Mark.{HasPlainText, HasNoMark}
 use Rattle.vt100_forms.proofs.Marks.{no_mark}
 use Rattle.vt100_cells.specs.Cells.{cell_at}
-use Rattle.terminal_model.specs.FormText.{IsSentText, IsFormText, HasText}
+use Rattle.vt100_forms.specs.Form.{HasText}
+use Rattle.terminal_model.specs.FormText.{IsSentText, IsFormText}
 use Rattle.terminal_model.proofs.PlainText.{cell-sent}
 use Rattle.terminal_model.proofs.FormTexts.{all-each, all-both, space-sent, space-form, some-text, text-is_plain}
 use Rattle.row_drawing.specs.Writer.{Writer, skip}

@@ -106,15 +106,17 @@ module _ {T : Type 0} (ticking : Ticking T) (exact : IsExact ticking) where
   taken {A} {H} step old parsed hold piece h new h' at a =
       let r = exactly a.advances hold refl at.awaits (λ no. absurd (let b : false ≡ true = no in cc)) in
       record {
-        parsed' = a.parsed';
-        hold' = r.hold';
-        calls = a.calls;
-        ticks = r.ticks;
-        takes = r.takes;
+        leads = record {
+          parsed' = a.parsed';
+          hold' = r.hold';
+          calls = a.calls;
+          ticks = r.ticks;
+          takes = r.takes;
+          ticked = r.ticked;
+        };
         stands = record {
           stands = subst (λ (x : List ℕ). StandsAt new a.parsed' x) r.held_is a.stands;
           awaits = r.awaits;
         };
-        ticked = r.ticked;
         goes = a.goes;
       }

@@ -12,7 +12,7 @@ use Rattle.vte.specs.Timeout.{Tick}
 use Rattle.vte.specs.Marks.{start_mark, end_mark}
 use Rattle.vte.specs.Hold.{limit, held_of, Takes}
 use Rattle.vte.specs.Moves.{Move, Gives, Stops, given}
-use Rattle.vte.specs.Frames.{IsFrame, IsPart, Drives, ends, gives, stops, Rests, closed, opened, kept, IsUntorn}
+use Rattle.vte.specs.Frames.{IsFrame, IsPart, IsFront, Drives, ends, gives, stops, Rests, closed, opened, kept, IsUntorn}
 use Rattle.vte.proofs.FrameMarks.{ground_end}
 use Rattle.vte.proofs.FrameLemmas.{cut_later, Frames, frames_back, front_short, RestsBy, outside, inside}
 use Rattle.vte.proofs.FrameLemmas.{before, piece_rests}
@@ -52,13 +52,8 @@ cut_frames (f ∷ fs) xs beyond e =
 
 -- where bytes of frames leave a parsed text and a hold
 record Untorn (T : Type 0) (frames : List (List ℕ)) (past bytes parsed : List ℕ) (hold : Option (List ℕ)) : Type 0 where
-  whole : List (List ℕ)
-  rest : List (List ℕ)
-  part : List ℕ
-  frames_are : frames ≡ whole ++ rest
-  bytes_are : bytes ≡ concat whole ++ part
-  is_part : IsPart part rest
-  rests : RestsBy T (past ++ concat whole) part parsed hold
+  front : IsFront frames bytes
+  rests : RestsBy T (past ++ concat front.whole) front.part parsed hold
 
 -- one more piece
 more : {T : Type 0} {frames : List (List ℕ)} {past bytes piece parsed parsed' : List ℕ} {hold hold' : Option (List ℕ)}
@@ -66,27 +61,29 @@ more : {T : Type 0} {frames : List (List ℕ)} {past bytes piece parsed parsed' 
     → Frames T frames → (bytes ++ piece) ++ beyond ≡ concat frames → Untorn T frames past bytes parsed hold
     → Takes parsed hold piece parsed' hold' calls ticks → Untorn T frames past (bytes ++ piece) parsed' hold'
 more {T} {frames} {past} {bytes} {piece} {parsed} {parsed'} {hold} {hold'} beyond fs e r t =
-    let at = ap (λ zs. zs ++ piece) r.bytes_are ∙ append_assoc (concat r.whole) r.part piece in
-    let all = sym (append_assoc (concat r.whole) (r.part ++ piece) beyond)
-    ∙ (ap (λ zs. zs ++ beyond) (sym at) ∙ (e ∙ (ap concat r.frames_are ∙ concat-append r.whole r.rest))) in
-    let (front, rest, part, are, is, is_part) = cut_frames r.rest (r.part ++ piece) beyond
-    (append_cancel_left (concat r.whole) ((r.part ++ piece) ++ beyond) (concat r.rest) all) in
-    let here : Frames T r.rest = frames_back T r.whole r.rest
-    (subst (λ (gs : List (List ℕ)). Frames T gs) r.frames_are fs) in
-    let next = piece_rests T (past ++ concat r.whole) r.part part piece parsed parsed' front rest r.rests
+    let at = ap (λ zs. zs ++ piece) r.front.bytes_are ∙ append_assoc (concat r.front.whole) r.front.part piece in
+    let all = sym (append_assoc (concat r.front.whole) (r.front.part ++ piece) beyond)
+    ∙ (ap (λ zs. zs ++ beyond) (sym at) ∙ (e ∙ (ap concat r.front.frames_are ∙ concat-append r.front.whole r.front.rest))) in
+    let (front, rest, part, are, is, is_part) = cut_frames r.front.rest (r.front.part ++ piece) beyond
+    (append_cancel_left (concat r.front.whole) ((r.front.part ++ piece) ++ beyond) (concat r.front.rest) all) in
+    let here : Frames T r.front.rest = frames_back T r.front.whole r.front.rest
+    (subst (λ (gs : List (List ℕ)). Frames T gs) r.front.frames_are fs) in
+    let next = piece_rests T (past ++ concat r.front.whole) r.front.part part piece parsed parsed' front rest r.rests
     (subst (λ (gs : List (List ℕ)). Frames T gs) are here)
-    (subst (λ (gs : List (List ℕ)). IsPart r.part gs) are r.is_part) is is_part t in
-    let whole : concat (r.whole ++ front) ≡ concat r.whole ++ concat front = concat-append r.whole front in
+    (subst (λ (gs : List (List ℕ)). IsPart r.front.part gs) are r.front.is_part) is is_part t in
+    let whole : concat (r.front.whole ++ front) ≡ concat r.front.whole ++ concat front = concat-append r.front.whole front in
     record {
-      whole = r.whole ++ front;
-      rest = rest;
-      part = part;
-      frames_are = r.frames_are ∙ (ap (λ zs. r.whole ++ zs) are ∙ sym (append_assoc r.whole front rest));
-      bytes_are = at ∙ (ap (λ zs. concat r.whole ++ zs) is
-          ∙ (sym (append_assoc (concat r.whole) (concat front) part) ∙ ap (λ zs. zs ++ part) (sym whole)));
-      is_part = is_part;
+      front = record {
+        whole = r.front.whole ++ front;
+        rest = rest;
+        part = part;
+        frames_are = r.front.frames_are ∙ (ap (λ zs. r.front.whole ++ zs) are ∙ sym (append_assoc r.front.whole front rest));
+        bytes_are = at ∙ (ap (λ zs. concat r.front.whole ++ zs) is
+            ∙ (sym (append_assoc (concat r.front.whole) (concat front) part) ∙ ap (λ zs. zs ++ part) (sym whole)));
+        is_part = is_part;
+      };
       rests = subst (λ (w : List ℕ). RestsBy T w part parsed' hold')
-          (append_assoc past (concat r.whole) (concat front) ∙ ap (λ zs. past ++ zs) (sym whole)) next;
+          (append_assoc past (concat r.front.whole) (concat front) ∙ ap (λ zs. past ++ zs) (sym whole)) next;
     }
 
 -- the update is stopped
@@ -102,15 +99,7 @@ stopped_rests {part = part} {parsed = parsed} t (before long at is) =
 
 stopped : {T : Type 0} {frames : List (List ℕ)} {past bytes parsed : List ℕ} {hold : Option (List ℕ)} → T
     → Untorn T frames past bytes parsed hold → Untorn T frames past bytes (parsed ++ held_of hold) None
-stopped t r = record {
-  whole = r.whole;
-  rest = r.rest;
-  part = r.part;
-  frames_are = r.frames_are;
-  bytes_are = r.bytes_are;
-  is_part = r.is_part;
-  rests = stopped_rests t r.rests;
-}
+stopped t r = record { front = r.front; rests = stopped_rests t r.rests }
 
 -- the moves stop an update only where T holds
 abbrev pub StopsBy : Type 0 → List Move → Type 0
@@ -139,12 +128,14 @@ none_part T (f ∷ frames) fs = (f, refl, λ none. absurd (omega (arith, ap leng
 -- before the first frame
 at_first : (T : Type 0) (frames : List (List ℕ)) (past : List ℕ) → Frames T frames → Untorn T frames past [] past None
 at_first T frames past fs = record {
-  whole = [];
-  rest = frames;
-  part = [];
-  frames_are = refl;
-  bytes_are = refl;
-  is_part = none_part T frames fs;
+  front = record {
+    whole = [];
+    rest = frames;
+    part = [];
+    frames_are = refl;
+    bytes_are = refl;
+    is_part = none_part T frames fs;
+  };
   rests = outside (inl (omega arith)) (sym (append-nil (past ++ []) ∙ append-nil past)) refl;
 }
 
@@ -196,13 +187,13 @@ pub whole_are_parsed : (frames : List (List ℕ)) (moves : List Move) (past pars
 whole_are_parsed frames moves past parsed hold all e l =
     let fs = loose frames (recursion_from_All IsFrame frames all) in
     let r = follow [] fs (any_stops moves) (append-nil (given moves) ∙ e) (at_first (Unit {0}) frames past fs) l in
-    let here : Frames (Unit {0}) r.rest = frames_back (Unit {0}) r.whole r.rest
-    (subst (λ (gs : List (List ℕ)). Frames (Unit {0}) gs) r.frames_are fs) in
-    let left = nothing_left (Unit {0}) r.whole r.rest r.part here r.is_part (ap concat (sym r.frames_are)
-    ∙ (sym e ∙ r.bytes_are)) in
+    let here : Frames (Unit {0}) r.front.rest = frames_back (Unit {0}) r.front.whole r.front.rest
+    (subst (λ (gs : List (List ℕ)). Frames (Unit {0}) gs) r.front.frames_are fs) in
+    let left = nothing_left (Unit {0}) r.front.whole r.front.rest r.front.part here r.front.is_part (ap concat (sym r.front.frames_are)
+    ∙ (sym e ∙ r.front.bytes_are)) in
     let s = whole_rests left.1 r.rests in
-    let whole : r.whole ≡ frames = sym (append-nil r.whole)
-    ∙ (ap (λ gs. r.whole ++ gs) (sym left.0) ∙ sym r.frames_are) in
+    let whole : r.front.whole ≡ frames = sym (append-nil r.front.whole)
+    ∙ (ap (λ gs. r.front.whole ++ gs) (sym left.0) ∙ sym r.front.frames_are) in
     (s.0 ∙ ap (λ gs. past ++ concat gs) whole, s.1)
 
 tight : (frames : List (List ℕ)) → AllByRecursion IsFrame frames → AllByRecursion (λ f. length f < limit) frames
@@ -235,12 +226,14 @@ never_torn frames pieces beyond past parsed hold all small e l =
     let all_given : given moves ++ beyond ≡ concat frames = ap (λ xs. xs ++ beyond) (given_pieces pieces) ∙ e in
     let r = follow beyond fs (no_stops pieces) all_given (at_first ⊥ frames past fs) l in
     record {
-      whole = r.whole;
-      rest = r.rest;
-      part = r.part;
-      frames_are = r.frames_are;
-      bytes_are = sym (given_pieces pieces) ∙ r.bytes_are;
-      is_part = r.is_part;
+      front = record {
+        whole = r.front.whole;
+        rest = r.front.rest;
+        part = r.front.part;
+        frames_are = r.front.frames_are;
+        bytes_are = sym (given_pieces pieces) ∙ r.front.bytes_are;
+        is_part = r.front.is_part;
+      };
       rests = rests_so r.rests;
     }
 

@@ -48,6 +48,15 @@ abbrev pub IsPart : List ℕ → List (List ℕ) → Type 0
 IsPart part [] = part ≡ []
 IsPart part (frame ∷ frames) = (left : List ℕ) × (frame ≡ part ++ left) × (left ≢ [])
 
+-- the bytes are the first of the frames, and less than the next one
+pub record IsFront (frames : List (List ℕ)) (bytes : List ℕ) : Type 0 where
+  pub whole : List (List ℕ)
+  pub rest : List (List ℕ)
+  pub part : List ℕ
+  pub frames_are : frames ≡ whole ++ rest
+  pub bytes_are : bytes ≡ concat whole ++ part
+  pub is_part : IsPart part rest
+
 -- whole bytes, and part of a frame, were given: what is parsed and held
 pub data Rests (whole part parsed : List ℕ) (hold : Option (List ℕ)) : Type 0 where
   -- less than the start mark came, and no update is open
@@ -60,13 +69,8 @@ pub data Rests (whole part parsed : List ℕ) (hold : Option (List ℕ)) : Type 
 
 -- of the frames those that were given whole are parsed, and of the next one at most its start mark
 pub record IsUntorn (frames : List (List ℕ)) (past bytes parsed : List ℕ) (hold : Option (List ℕ)) : Type 0 where
-  pub whole : List (List ℕ)
-  pub rest : List (List ℕ)
-  pub part : List ℕ
-  pub frames_are : frames ≡ whole ++ rest
-  pub bytes_are : bytes ≡ concat whole ++ part
-  pub is_part : IsPart part rest
-  pub rests : Rests (past ++ concat whole) part parsed hold
+  pub front : IsFront frames bytes
+  pub rests : Rests (past ++ concat front.whole) front.part parsed hold
 
 -- frames below the hold's limit are never torn, in whatever pieces the beginning of them comes
 abbrev pub FramesAreNeverTorn : Type 0

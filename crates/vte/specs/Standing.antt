@@ -36,18 +36,23 @@ pub record Advanced {T A H : Type 0} (ticking : Ticking T) (step : H → Call �
   pub stands : StandsAt new parsed' held'
   pub goes : Calls step h calls h'
 
--- what a piece led to, under a timeout that is pending exactly from setting to clearing
-pub record Taken {T A H : Type 0} (ticking : Ticking T) (step : H → Call → H → Type 0)
-    (old : Processor T A) (parsed : List ℕ) (hold : Option (List ℕ)) (piece : List ℕ) (h : H) (new : Processor T A)
-    (h' : H) : Type 0 where
+-- where a piece leads: what is parsed and held then, the calls, and what the timeout is told, which takes it from t to t'
+pub record TakesPiece {T : Type 0} (ticking : Ticking T) (t : T) (parsed : List ℕ) (hold : Option (List ℕ))
+    (piece : List ℕ) (t' : T) : Type 0 where
   pub parsed' : List ℕ
   pub hold' : Option (List ℕ)
   pub calls : List Call
   pub ticks : List Tick
   pub takes : Takes parsed hold piece parsed' hold' calls ticks
-  pub stands : HoldsAt ticking new parsed' hold'
-  pub ticked : Ticked ticking (timeout_of old) ticks (timeout_of new)
-  pub goes : Calls step h calls h'
+  pub ticked : Ticked ticking t ticks t'
+
+-- what a piece led to, under a timeout that is pending exactly from setting to clearing
+pub record Taken {T A H : Type 0} (ticking : Ticking T) (step : H → Call → H → Type 0)
+    (old : Processor T A) (parsed : List ℕ) (hold : Option (List ℕ)) (piece : List ℕ) (h : H) (new : Processor T A)
+    (h' : H) : Type 0 where
+  pub leads : TakesPiece ticking (timeout_of old) parsed hold piece (timeout_of new)
+  pub stands : HoldsAt ticking new leads.parsed' leads.hold'
+  pub goes : Calls step h leads.calls h'
 
 -- bytes were parsed, and then those held are these
 pub record Parsed {T A H : Type 0} (ticking : Ticking T) (step : H → Call → H → Type 0)

@@ -42,24 +42,25 @@ device_end cut (b ∷ rest) = Unhook ∷ (if is_abort b then aborted cut b rest 
 abbrev pub device : Bool → List ℕ → List Event
 device cut s = map Put (filter is_put (before ends_device s)) ++ device_end cut (from ends_device s)
 
--- the header h of a device string, and what ends it
-abbrev pub hook_end : Bool → List ℕ → List ℕ → List Event
-hook_end cut h [] = []
-hook_end cut h (b ∷ rest) =
+-- The header h of a sequence, and what ends it: one that is well formed is told, and goes on so; else the rest is ignored.
+abbrev pub header_end : (List (List ℕ) → List ℕ → Bool → ℕ → Event) → (Bool → List ℕ → List Event)
+    → (Bool → List ℕ → List Event) → Bool → List ℕ → List ℕ → List Event
+header_end told after ignored cut h [] = []
+header_end told after ignored cut h (b ∷ rest) =
     if is_abort b then aborted cut b rest
-    else (if is_well_formed h then Hook (kept_groups h) (kept_intermediates h) (overflows h) b ∷ device cut rest
-    else swallowed cut rest)
+    else (if is_well_formed h then told (kept_groups h) (kept_intermediates h) (overflows h) b ∷ after cut rest
+    else ignored cut rest)
+
+-- a device string's
+abbrev pub hook_end : Bool → List ℕ → List ℕ → List Event
+hook_end = header_end Hook device swallowed
 
 abbrev pub hook : Bool → List ℕ → List Event
 hook cut s = hook_end cut (filter is_header (before ends_header s)) (from ends_header s)
 
--- the header h of a CSI, and what ends it
+-- a CSI's
 abbrev pub csi_end : Bool → List ℕ → List ℕ → List Event
-csi_end cut h [] = []
-csi_end cut h (b ∷ rest) =
-    if is_abort b then aborted cut b rest
-    else (if is_well_formed h then Csi (kept_groups h) (kept_intermediates h) (overflows h) b ∷ text cut rest
-    else text cut rest)
+csi_end = header_end Csi text text
 
 abbrev pub csi : Bool → List ℕ → List Event
 csi cut s = executed (before ends_header s) ++ csi_end cut (filter is_header (before ends_header s))

@@ -23,19 +23,15 @@ returns-clause-advanced g c = λ parsed held s.
 pub returns-clause-exact : goal.returns-clause-exact
 returns-clause-exact g c = λ parsed hold exact h.
     let a = c.advance.ensures.exact parsed hold exact (record { stands = h.stands.reads; awaits = h.awaits }) in
-    let p = taken_parsed parsed hold _ a.parsed' a.hold' a.calls a.ticks a.takes in
-    let n = goes-on c.args.self.now.picture c.advance.new.handler parsed a.parsed' (clearings a.ticks) a.calls
+    let l = a.leads in
+    let p = taken_parsed parsed hold _ l.parsed' l.hold' l.calls l.ticks l.takes in
+    let n = goes-on c.args.self.now.picture c.advance.new.handler parsed l.parsed' (clearings l.ticks) l.calls
     h.stands.shows p a.goes in
     record {
-      parsed' = a.parsed';
-      hold' = a.hold';
-      calls = a.calls;
-      ticks = a.ticks;
-      takes = a.takes;
+      leads = l;
       stands = record {
         stands = record { reads = a.stands.stands; shows = n.1 };
         awaits = a.stands.awaits;
       };
-      ticked = a.ticked;
       size = n.0;
     }
