@@ -2,8 +2,7 @@
 #![tactic(auto)]
 
 use command_line::{lend, words_of};
-use screen_dump::DumpError;
-use screendump_command::{command, report_fault};
+use screendump_command::{DumpError, command, report_fault};
 use std::process::ExitCode;
 use std::{env, io};
 

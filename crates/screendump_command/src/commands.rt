@@ -4,9 +4,11 @@ ghost use Rattle.std.specs.Prelude.{◌≡◌, ◌≤◌, map, true, false};
 ghost use Rattle.takers.specs.Pump.{Tells};
 ghost use Rattle.screendump_command.specs.Words.{is_order, usage_line};
 
+use crate::dumping::dump_stream;
+use crate::error::DumpError;
+use crate::script::run_script;
 use crate::words::{Order, parse};
 use command_line::{FAULT, SUCCESS, USAGE, report};
-use screen_dump::{DumpError, dump_stream, run_script};
 use std::alloc::Global;
 use std::io::Read;
 use takers::{Sink, Taker};

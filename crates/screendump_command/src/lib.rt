@@ -1,7 +1,18 @@
-//! The command line of `screendump`: its words, what they ask for, and the lines that tell a fault.
+//! What a stream of bytes makes of a terminal's screen, as text, a fact a line, scripts of calls on a screen, and the
+//! command line of `screendump`, which asks for either.
 #![tactic(auto)]
 
 mod commands;
+mod dump;
+mod dumping;
+mod error;
+mod hex_digits;
+mod script;
+mod stream;
+mod texts;
 mod words;
 
 pub use commands::{command, report_fault};
+pub use dumping::{Dump, dump_stream};
+pub use error::DumpError;
+pub use script::run_script;

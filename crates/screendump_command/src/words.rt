@@ -6,8 +6,8 @@ ghost use Rattle.std.specs.Str.{bytes_eq};
 ghost use Rattle.command_line.specs.Numbers.{is_size, is_count};
 ghost use Rattle.screendump_command.specs.Words.{is_order};
 
+use crate::dumping::Dump;
 use command_line::{parse_count, parse_size};
-use screen_dump::Dump;
 
 /// What the program is asked to do.
 #[derive(Clone, Copy, Debug, PartialEq, Eq)]

@@ -1,7 +1,7 @@
 //! Whole input, and whole output.
 
 ghost use Rattle.std.specs.Prelude.{◌≡◌, IfErr, ◌⊎◌};
-ghost use Rattle.screen_dump.specs.declared.error.DumpError.TheVariants as error;
+ghost use Rattle.screendump_command.specs.declared.error.DumpError.TheVariants as error;
 
 use crate::error::DumpError;
 use std::alloc::Global;

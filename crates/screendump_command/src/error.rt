@@ -1,7 +1,7 @@
 //! Why a command ended before its work was done.
 
 ghost use Rattle.std.specs.Prelude.{◌≡◌};
-ghost use Rattle.screen_dump.specs.declared.error.DumpError.TheVariants.{Memory};
+ghost use Rattle.screendump_command.specs.declared.error.DumpError.TheVariants.{Memory};
 
 use std::alloc::{AllocError, AllocFailed};
 use thiserror::Error;
