@@ -1,6 +1,7 @@
 //! The words after a program's name.
 
-ghost use Rattle.std.specs.Prelude.{◌≡◌, ◌≢◌, [], map, drop, IfOk, IfErr, OnErr, Err};
+ghost use Rattle.std.specs.Fn.{FnOnceReturnsAt};
+ghost use Rattle.std.specs.Prelude.{◌≡◌, ◌≢◌, List, ℕ, [], map, drop, IfOk, IfErr, OnErr, Err};
 ghost use Rattle.std.specs.IoError.{error_kind};
 ghost use Rattle.std.specs.String.{string_bytes};
 ghost use Rattle.std.specs.Vec.{vec_items};
@@ -45,4 +46,23 @@ pub fn lend<'a>(alloc: Global, words: &'a [String]) -> Result<Vec<&'a str>, Allo
         lent.push(word.as_str())?;
     }
     Ok(lent)
+}
+
+/// Does something with the words after a program's name, and answers what that gives.
+///
+/// They are what [`words_of`] makes of `args`, lent. Memory may be refused.
+pub fn with_words<F: FnOnce(&[&str]) -> u8>(
+    alloc: Global,
+    args: io::Result<Args>,
+    act: F,
+) -> io::Result<u8>
+    requires { F.IsAlwaysCallable act }
+    ensures given { IfOk args (λ all. IfOk result (λ status. (words : List _)
+        × (map (λ w. w.now) words ≡ map string_bytes (drop 1 (into_iter_items all)))
+        × FnOnceReturnsAt F.FnOnce act words status)) }
+    ensures other { IfErr args (λ e. error_kind e ≢ InvalidData → result ≡ Err e) }
+{
+    let words = words_of(alloc, args)?;
+    let lent = lend(alloc, &words)?;
+    Ok(act(&lent))
 }

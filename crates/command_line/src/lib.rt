@@ -6,6 +6,6 @@ mod args;
 mod numbers;
 mod reporting;
 
-pub use args::{lend, words_of};
+pub use args::{lend, with_words, words_of};
 pub use numbers::{parse_count, parse_size};
 pub use reporting::{FAULT, SUCCESS, USAGE, report};

@@ -1,30 +1,26 @@
 //! Relays the output of a terminal program as frames of its screen, and shows a relayed stream as text.
 #![tactic(auto)]
 
-use command_line::{lend, words_of};
+use command_line::with_words;
 use relay_streams::RelayError;
 use screenrelay_command::{command, report_fault};
+use std::env;
 use std::process::ExitCode;
-use std::{env, io};
 
 fn main(rt: HostRuntime) -> ExitCode {
-    let status = match run(&rt) {
+    let alloc = rt.alloc();
+    let answer = with_words(alloc, env::args(&rt), |words| {
+        command(
+            alloc,
+            words,
+            &mut rt.stdin(),
+            &mut rt.stdout(),
+            &mut rt.stderr(),
+        )
+    });
+    let status = match answer {
         Ok(status) => status,
         Err(_) => report_fault(&mut rt.stderr(), RelayError::Memory),
     };
     ExitCode::from(status)
-}
-
-// Runs the command line.
-fn run(rt: &HostRuntime) -> io::Result<u8> {
-    let alloc = rt.alloc();
-    let words = words_of(alloc, env::args(rt))?;
-    let words = lend(alloc, &words)?;
-    Ok(command(
-        alloc,
-        &words,
-        &mut rt.stdin(),
-        &mut rt.stdout(),
-        &mut rt.stderr(),
-    ))
 }
