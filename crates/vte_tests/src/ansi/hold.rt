@@ -1,6 +1,6 @@
 //! Synchronized updates.
 
-use super::log::{Flagged, Log, Processor, feed, processor};
+use super::log::{Flagged, Log, Processor, feed, with_processor};
 use super::table::calls;
 use crate::same::same;
 use std::alloc::Global;
@@ -62,24 +62,24 @@ const HELD: &[Piece] = &[
 
 #[test]
 fn holds_until_the_end_mark(rt: HostRuntime) -> Result<(), Fail> {
-    let mut log = Log::new(&rt);
-    let mut processor = processor(rt.alloc())?;
-    let pending = takes_all(&rt, &mut processor, &mut log, HELD);
-    same(&rt, &pending, &false);
-    Ok(())
+    with_processor(rt.alloc(), Log::new(&rt), |processor, log| {
+        let pending = takes_all(&rt, processor, log, HELD);
+        same(&rt, &pending, &false);
+    })
 }
 
 const BEGUN: &[Piece] = &[(b"\x1b[?20", "", 0), (b"26h\x1b[1m", OPENED, 4)];
 
+const STOPPED: &[Piece] = &[(b"", BOLD, 0)];
+
 #[test]
 fn begins_and_stops(rt: HostRuntime) -> Result<(), Fail> {
-    let mut log = Log::new(&rt);
-    let mut processor = processor(rt.alloc())?;
-    takes_all(&rt, &mut processor, &mut log, BEGUN);
-    processor.stop_sync(&mut log);
-    let pending = takes_all(&rt, &mut processor, &mut log, &[(b"", BOLD, 0)]);
-    same(&rt, &pending, &false);
-    Ok(())
+    with_processor(rt.alloc(), Log::new(&rt), |processor, log| {
+        takes_all(&rt, processor, log, BEGUN);
+        processor.stop_sync(log);
+        let pending = takes_all(&rt, processor, log, STOPPED);
+        same(&rt, &pending, &false);
+    })
 }
 
 const AMONG_OTHERS: &[Piece] = &[
@@ -98,10 +98,9 @@ const AMONG_OTHERS: &[Piece] = &[
 /// An update that is opened among other modes is closed only by the end mark.
 #[test]
 fn opens_among_other_modes(rt: HostRuntime) -> Result<(), Fail> {
-    let mut log = Log::new(&rt);
-    let mut processor = processor(rt.alloc())?;
-    takes_all(&rt, &mut processor, &mut log, AMONG_OTHERS);
-    Ok(())
+    with_processor(rt.alloc(), Log::new(&rt), |processor, log| {
+        takes_all(&rt, processor, log, AMONG_OTHERS);
+    })
 }
 
 /// Cut once at each place, before and in the hold, and byte by byte, all marks are found.
@@ -130,17 +129,20 @@ const SET_AGAIN: &[(Piece, usize)] = &[
     ((b"bcd", OPENED, 21), 3),
 ];
 
+fn check_sets(rt: &(impl Abort + AllocGlobal), processor: &mut Processor, log: &mut Log) {
+    for (piece, sets) in SET_AGAIN {
+        let told = takes(rt, processor, log, *piece);
+        same(rt, &told, sets);
+    }
+    same(rt, &processor.sync_timeout().pending, &true);
+}
+
 /// A start mark in the held bytes sets the timeout again, also where a cut goes through it.
 #[test]
 fn sets_the_timeout_again(rt: HostRuntime) -> Result<(), Fail> {
-    let mut log = Log::new(&rt);
-    let mut processor = processor(rt.alloc())?;
-    for (piece, sets) in SET_AGAIN {
-        let told = takes(&rt, &mut processor, &mut log, *piece);
-        same(&rt, &told, sets);
-    }
-    same(&rt, &processor.sync_timeout().pending, &true);
-    Ok(())
+    with_processor(rt.alloc(), Log::new(&rt), |processor, log| {
+        check_sets(&rt, processor, log);
+    })
 }
 
 /// Hands a piece over. How many bytes are held then.
@@ -153,6 +155,9 @@ fn held_after(
     processor.sync_bytes_count()
 }
 
+const HELD_FIRST: &str =
+    "SetPrivateMode(Named(SyncUpdate)) Input('a') Input('b') UnsetPrivateMode(Named(SyncUpdate)) Input('c') Input('d') ";
+
 /// Held bytes are parsed before later ones, also where the timeout isn't pending any more.
 #[test]
 fn parses_held_bytes_first(rt: HostRuntime) -> Result<(), Fail> {
@@ -162,10 +167,7 @@ fn parses_held_bytes_first(rt: HostRuntime) -> Result<(), Fail> {
     let held = held_after(&mut processor, &mut log, b"\x1b[?2026hab");
     pending.set(false);
     let after = held_after(&mut processor, &mut log, b"cd");
-    let all =
-        "SetPrivateMode(Named(SyncUpdate)) Input('a') Input('b') UnsetPrivateMode(Named(SyncUpdate)) Input('c') \
-         Input('d') ";
-    same(&rt, &(held, after, log.text.as_str()), &(2, 0, all));
+    same(&rt, &(held, after, log.text.as_str()), &(2, 0, HELD_FIRST));
     Ok(())
 }
 
@@ -178,15 +180,18 @@ fn fill(processor: &mut Processor, log: &mut Log) {
 
 const FILLED: &[Piece] = &[(b"\x1b[?2026h", OPENED, 0), (b"\x1b[1m", OPENED, 4)];
 
+fn check_full(rt: &(impl Abort + AllocGlobal), processor: &mut Processor, log: &mut Log) {
+    takes_all(rt, processor, log, FILLED);
+    fill(processor, log);
+    takes(rt, processor, log, (b"", OPENED, 2_097_150));
+    let before = log.inputs;
+    takes(rt, processor, log, (b"a", BOLD, 0));
+    same(rt, &(before, log.inputs), &(Some(0), Some(2_097_147)));
+}
+
 #[test]
 fn empties_a_full_hold(rt: HostRuntime) -> Result<(), Fail> {
-    let mut log = Log::with_count(&rt);
-    let mut processor = processor(rt.alloc())?;
-    takes_all(&rt, &mut processor, &mut log, FILLED);
-    fill(&mut processor, &mut log);
-    takes(&rt, &mut processor, &mut log, (b"", OPENED, 2_097_150));
-    let before = log.inputs;
-    takes(&rt, &mut processor, &mut log, (b"a", BOLD, 0));
-    same(&rt, &(before, log.inputs), &(Some(0), Some(2_097_147)));
-    Ok(())
+    with_processor(rt.alloc(), Log::with_count(&rt), |processor, log| {
+        check_full(&rt, processor, log);
+    })
 }

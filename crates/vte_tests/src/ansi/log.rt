@@ -87,6 +87,19 @@ pub fn processor(alloc: Global) -> Result<Processor, Fail> {
     Ok(ansi::Processor::new(alloc, UntilCleared::new())?)
 }
 
+/// Does this with a new processor and a log.
+pub fn with_processor<F: FnOnce(&mut Processor, &mut Log)>(
+    alloc: Global,
+    mut log: Log,
+    check: F,
+) -> Result<(), Fail>
+    requires { F.IsAlwaysCallable check }
+{
+    let mut processor = processor(alloc)?;
+    check(&mut processor, &mut log);
+    Ok(())
+}
+
 /// Hands a piece to a processor.
 pub fn feed(processor: &mut Processor, log: &mut Log, piece: &[u8]) {
     processor.advance(log, piece);

@@ -7,6 +7,9 @@ use crate::same::same;
 use std::process::Abort;
 use vte_core::{Event, Params, Parser, Perform};
 
+/// A stream, and its events.
+type Row = (&'static [u8], &'static str);
+
 /// Read in two pieces, a stream has these events.
 fn reads<const N: usize>(
     rt: &(impl Abort + AllocGlobal),
@@ -32,6 +35,13 @@ fn tells(rt: &(impl Abort + AllocGlobal), bytes: &[u8], wanted: &str) {
     }
 }
 
+/// The same of each row.
+fn all(rt: &(impl Abort + AllocGlobal), rows: &[Row]) {
+    for (bytes, wanted) in rows {
+        tells(rt, bytes, wanted);
+    }
+}
+
 /// The same for a parser that keeps 4 bytes of a command.
 fn tells_of_four(rt: &(impl Abort + AllocGlobal), bytes: &[u8], wanted: &str) {
     for cut in 0..=bytes.len() {
@@ -40,83 +50,81 @@ fn tells_of_four(rt: &(impl Abort + AllocGlobal), bytes: &[u8], wanted: &str) {
     }
 }
 
+const CONTROL_SEQUENCES: &[Row] = &[
+    (b"\x1b[m", "csi [0] | kept 109 "),
+    (b"\x1b[3;1\x1b[?1049h", "csi [1049] 63 | kept 104 "),
+    (
+        b"\x1b[38:2:255:0:255;1m",
+        "csi [38:2:255:0:255;1] | kept 109 ",
+    ),
+    (
+        b"\x1b[1\n;2\x7fH\n",
+        "execute 10 csi [1;2] | kept 72 execute 10 ",
+    ),
+    (
+        b"\x1b[65536;99999999;;7p",
+        "csi [65535;65535;0;7] | kept 112 ",
+    ),
+    (
+        b"\x1b[1;1;1;1;1;1;1;1;1;1;1;1;1;1;1;1;1;1;1;1;1;1;1;1;1;1;1;1;1;1;1;p",
+        "csi [1;1;1;1;1;1;1;1;1;1;1;1;1;1;1;1;1;1;1;1;1;1;1;1;1;1;1;1;1;1;1;0] | kept 112 ",
+    ),
+    (
+        b"\x1b[1;1;1;1;1;1;1;1;1;1;1;1;1;1;1;1;1;1;1;1;1;1;1;1;1;1;1;1;1;1;1;1;p",
+        "csi [1;1;1;1;1;1;1;1;1;1;1;1;1;1;1;1;1;1;1;1;1;1;1;1;1;1;1;1;1;1;1;1] | ignored 112 ",
+    ),
+    (
+        b"\x1b[? $p\x1b[ !#p",
+        "csi [0] 63 32 | ignored 112 csi [0] 32 33 | ignored 112 ",
+    ),
+    (b"\x1b[1?ma\x1b[1!2mb", "print 97 print 98 "),
+    (
+        b"\x1b[1\x18a\x1b[\x1ab",
+        "execute 24 print 97 execute 26 print 98 ",
+    ),
+];
+
 #[test]
 fn control_sequences(rt: HostRuntime) {
-    let rows: [(&[u8], &str); 10] = [
-        (b"\x1b[m", "csi [0] | kept 109 "),
-        (b"\x1b[3;1\x1b[?1049h", "csi [1049] 63 | kept 104 "),
-        (
-            b"\x1b[38:2:255:0:255;1m",
-            "csi [38:2:255:0:255;1] | kept 109 ",
-        ),
-        (
-            b"\x1b[1\n;2\x7fH\n",
-            "execute 10 csi [1;2] | kept 72 execute 10 ",
-        ),
-        (
-            b"\x1b[65536;99999999;;7p",
-            "csi [65535;65535;0;7] | kept 112 ",
-        ),
-        (
-            b"\x1b[1;1;1;1;1;1;1;1;1;1;1;1;1;1;1;1;1;1;1;1;1;1;1;1;1;1;1;1;1;1;1;p",
-            "csi [1;1;1;1;1;1;1;1;1;1;1;1;1;1;1;1;1;1;1;1;1;1;1;1;1;1;1;1;1;1;1;0] | kept 112 ",
-        ),
-        (
-            b"\x1b[1;1;1;1;1;1;1;1;1;1;1;1;1;1;1;1;1;1;1;1;1;1;1;1;1;1;1;1;1;1;1;1;p",
-            "csi [1;1;1;1;1;1;1;1;1;1;1;1;1;1;1;1;1;1;1;1;1;1;1;1;1;1;1;1;1;1;1;1] | ignored 112 ",
-        ),
-        (
-            b"\x1b[? $p\x1b[ !#p",
-            "csi [0] 63 32 | ignored 112 csi [0] 32 33 | ignored 112 ",
-        ),
-        (b"\x1b[1?ma\x1b[1!2mb", "print 97 print 98 "),
-        (
-            b"\x1b[1\x18a\x1b[\x1ab",
-            "execute 24 print 97 execute 26 print 98 ",
-        ),
-    ];
-    for (bytes, wanted) in rows {
-        tells(&rt, bytes, wanted);
-    }
+    all(&rt, CONTROL_SEQUENCES);
 }
+
+const STRINGS: &[Row] = &[
+    (b"\x1b]2;a;b\x07", "osc bell 50 | 97 | 98 | "),
+    (b"\x1b]2;a\x1b\\", "osc 50 | 97 | esc | kept 92 "),
+    (
+        b"\x1b]2;\x9ca\x18\x1b]\x07",
+        "osc 50 | 156 97 | execute 24 osc bell | ",
+    ),
+    (
+        b"\x1b];;;;;;;;;;;;;;;x;y\x07",
+        "osc bell | | | | | | | | | | | | | | | 120 | ",
+    ),
+    (
+        b"\x1bP1$qm\x1b\\",
+        "hook [1] 36 | kept 113 put 109 unhook esc | kept 92 ",
+    ),
+    (
+        b"\x1bPq\n\x7f\x80a\x18b",
+        "hook [0] | kept 113 put 10 put 97 unhook execute 24 print 98 ",
+    ),
+    (
+        b"\x1bPqa\x9cb\x1bP1?qx\x9c\x1a",
+        "hook [0] | kept 113 put 97 unhook print 98 execute 26 ",
+    ),
+    (
+        b"\x1b_a\x07\x9c\x1b^b\x1bXc\x1b(]\x1bc",
+        "esc 40 | kept 93 esc | kept 99 ",
+    ),
+    (
+        b"\x1b#!0$\x1b( !0",
+        "esc 35 33 | kept 48 print 36 esc 40 32 | ignored 48 ",
+    ),
+];
 
 #[test]
 fn strings(rt: HostRuntime) {
-    let rows: [(&[u8], &str); 9] = [
-        (b"\x1b]2;a;b\x07", "osc bell 50 | 97 | 98 | "),
-        (b"\x1b]2;a\x1b\\", "osc 50 | 97 | esc | kept 92 "),
-        (
-            b"\x1b]2;\x9ca\x18\x1b]\x07",
-            "osc 50 | 156 97 | execute 24 osc bell | ",
-        ),
-        (
-            b"\x1b];;;;;;;;;;;;;;;x;y\x07",
-            "osc bell | | | | | | | | | | | | | | | 120 | ",
-        ),
-        (
-            b"\x1bP1$qm\x1b\\",
-            "hook [1] 36 | kept 113 put 109 unhook esc | kept 92 ",
-        ),
-        (
-            b"\x1bPq\n\x7f\x80a\x18b",
-            "hook [0] | kept 113 put 10 put 97 unhook execute 24 print 98 ",
-        ),
-        (
-            b"\x1bPqa\x9cb\x1bP1?qx\x9c\x1a",
-            "hook [0] | kept 113 put 97 unhook print 98 execute 26 ",
-        ),
-        (
-            b"\x1b_a\x07\x9c\x1b^b\x1bXc\x1b(]\x1bc",
-            "esc 40 | kept 93 esc | kept 99 ",
-        ),
-        (
-            b"\x1b#!0$\x1b( !0",
-            "esc 35 33 | kept 48 print 36 esc 40 32 | ignored 48 ",
-        ),
-    ];
-    for (bytes, wanted) in rows {
-        tells(&rt, bytes, wanted);
-    }
+    all(&rt, STRINGS);
 }
 
 #[test]
@@ -125,26 +133,27 @@ fn long_strings(rt: HostRuntime) {
     tells_of_four(&rt, b"\x1b]0;abcdef;g\x07", "osc bell 48 | 97 98 99 | | ");
 }
 
+const CHARACTERS: &[Row] = &[
+    (b"\xF0\x9F\x41", "print 65533 print 65 "),
+    (b"\xED\xA0\x80", "print 65533 print 65533 execute 128 "),
+    (b"\xE4\xB8\xAD", "print 20013 "),
+    (b"\xE4\xB8", ""),
+    (b"\xE4\xB8\x1b[m", "print 65533 csi [0] | kept 109 "),
+    (
+        b"\x7f\xC2\x85\xC2\xA0\x85\xF0\x9F\x98\x80\xE4",
+        "print 127 execute 133 print 160 execute 133 print 128512 ",
+    ),
+];
+
 #[test]
 fn characters(rt: HostRuntime) {
-    let rows: [(&[u8], &str); 6] = [
-        (b"\xF0\x9F\x41", "print 65533 print 65 "),
-        (b"\xED\xA0\x80", "print 65533 print 65533 execute 128 "),
-        (b"\xE4\xB8\xAD", "print 20013 "),
-        (b"\xE4\xB8", ""),
-        (b"\xE4\xB8\x1b[m", "print 65533 csi [0] | kept 109 "),
-        (
-            b"\x7f\xC2\x85\xC2\xA0\x85\xF0\x9F\x98\x80\xE4",
-            "print 127 execute 133 print 160 execute 133 print 128512 ",
-        ),
-    ];
-    for (bytes, wanted) in rows {
-        tells(&rt, bytes, wanted);
-    }
+    all(&rt, CHARACTERS);
 }
 
 /// When a log asks the parser to stop, bytes, how many of them are read, and their events.
-const STOPS: &[(Until, &[u8], usize, &str)] = &[
+type Stop = (Until, &'static [u8], usize, &'static str);
+
+const STOPS: &[Stop] = &[
     (
         Until::ControlSequence,
         b"ab\x1b[1mcd",
@@ -168,14 +177,18 @@ const STOPS: &[(Until, &[u8], usize, &str)] = &[
 ];
 
 /// Read until the performer is terminated, and then read again, which reads nothing.
+fn check_stop(rt: &impl Abort, parser: &mut Parser<1024>, log: &mut Log, stop: &Stop) {
+    let (_, bytes, wanted, text) = stop;
+    let read = parser.advance_until_terminated(log, bytes);
+    let more = parser.advance_until_terminated(log, &bytes[read..]);
+    same(rt, &(read, more, log.text.as_str()), &(*wanted, 0, *text));
+}
+
 #[test]
 fn stops(rt: HostRuntime) {
-    for (until, bytes, wanted, text) in STOPS {
-        let mut log = Log::new(&rt, *until);
-        let mut parser: Parser<1024> = Parser::default();
-        let read = parser.advance_until_terminated(&mut log, bytes);
-        let more = parser.advance_until_terminated(&mut log, &bytes[read..]);
-        same(&rt, &(read, more, log.text.as_str()), &(*wanted, 0, *text));
+    for stop in STOPS {
+        let mut log = Log::new(&rt, stop.0);
+        check_stop(&rt, &mut Parser::default(), &mut log, stop);
     }
 }
 

@@ -281,25 +281,27 @@ fn reads_alike(rt: &(impl Abort + AllocGlobal), front: &[u8], byte: u8, end: &[u
     );
 }
 
+/// Bytes that lead to each place.
+const FRONTS: &[&[u8]] = &[
+    b"",
+    b"\x1b",
+    b"\x1b(",
+    b"\x1b[",
+    b"\x1b[1",
+    b"\x1b[1!",
+    b"\x1b[1!2",
+    b"\x1bP",
+    b"\x1bP1",
+    b"\x1bP1!",
+    b"\x1bP1!2",
+    b"\x1bPq",
+    b"\x1b]0;a",
+    b"\x1b_a",
+];
+
 #[test]
 fn every_byte_in_every_state(rt: HostRuntime) {
-    let fronts: [&[u8]; 14] = [
-        b"",
-        b"\x1b",
-        b"\x1b(",
-        b"\x1b[",
-        b"\x1b[1",
-        b"\x1b[1!",
-        b"\x1b[1!2",
-        b"\x1bP",
-        b"\x1bP1",
-        b"\x1bP1!",
-        b"\x1bP1!2",
-        b"\x1bPq",
-        b"\x1b]0;a",
-        b"\x1b_a",
-    ];
-    for front in fronts {
+    for front in FRONTS {
         for byte in 0..=255u8 {
             reads_alike(&rt, front, byte, b"7mx\x18y");
             reads_alike(&rt, front, byte, b"?mx\x1bc");

@@ -23,20 +23,28 @@ fn malformed(log: &mut Log, bytes: &[u8]) {
     }
 }
 
+/// The characters of a text.
+fn characters(log: &mut Log, text: &str) {
+    for c in text.chars() {
+        character(log, c);
+    }
+}
+
+/// How many bytes are text, and how many malformed ones follow, unless the bytes end before that is known.
+fn parts_of(bytes: &[u8]) -> (usize, Option<usize>) {
+    match str::from_utf8(bytes) {
+        Ok(text) => (text.len(), None),
+        Err(error) => (error.valid_up_to(), error.error_len()),
+    }
+}
+
 /// The events of bytes without ESC.
 fn events(log: &mut Log, bytes: &[u8]) {
     let mut rest = bytes;
     for _ in 0..=bytes.len() {
-        let (valid, error_len) = match str::from_utf8(rest) {
-            Ok(text) => (text.len(), None),
-            Err(error) => (error.valid_up_to(), error.error_len()),
-        };
+        let (valid, error_len) = parts_of(rest);
         let front = rest.get(..valid).unwrap_or(&[]);
-        if let Ok(text) = str::from_utf8(front) {
-            for c in text.chars() {
-                character(log, c);
-            }
-        }
+        characters(log, str::from_utf8(front).unwrap_or(""));
         let Some(len) = error_len else {
             return;
         };
@@ -55,33 +63,42 @@ fn parsed(rt: &impl AllocGlobal, front: &[u8], back: &[u8]) -> Log {
     log
 }
 
+/// The bytes in two pieces have the events that were wanted of them.
+fn agrees_cut(rt: &(impl Abort + AllocGlobal), front: &[u8], back: &[u8], wanted: &Log) {
+    let log = parsed(rt, front, back);
+    let failed = log.failed || wanted.failed;
+    same(
+        rt,
+        &(front, failed, log.text.as_str()),
+        &(front, false, wanted.text.as_str()),
+    );
+}
+
 /// The bytes, cut once at each place.
 fn agrees(rt: &(impl Abort + AllocGlobal), bytes: &[u8]) {
     let mut wanted = Log::new(rt, Until::Never);
     events(&mut wanted, bytes);
     for cut in 0..=bytes.len() {
-        let log = parsed(rt, &bytes[..cut], &bytes[cut..]);
-        let failed = log.failed || wanted.failed;
-        same(
-            rt,
-            &(cut, failed, log.text.as_str()),
-            &(cut, false, wanted.text.as_str()),
-        );
+        agrees_cut(rt, &bytes[..cut], &bytes[cut..], &wanted);
     }
 }
 
+/// First bytes, those that follow, and last ones.
+const FIRSTS: &[u8] = &[
+    0x1A, 0x41, 0x80, 0x9F, 0xA0, 0xC1, 0xC2, 0xDF, 0xE0, 0xE4, 0xED, 0xEF, 0xF0, 0xF3, 0xF4, 0xF5,
+];
+
+const OTHERS: &[u8] = &[0x07, 0x41, 0x80, 0x8F, 0x90, 0x9F, 0xA0, 0xBF, 0xC2, 0xE4];
+
+const LASTS: &[u8] = &[0x41, 0x80, 0xBF, 0xF0];
+
 #[test]
 fn malformed_text(rt: HostRuntime) {
-    let firsts: [u8; 16] = [
-        0x1A, 0x41, 0x80, 0x9F, 0xA0, 0xC1, 0xC2, 0xDF, 0xE0, 0xE4, 0xED, 0xEF, 0xF0, 0xF3, 0xF4,
-        0xF5,
-    ];
-    let others: [u8; 10] = [0x07, 0x41, 0x80, 0x8F, 0x90, 0x9F, 0xA0, 0xBF, 0xC2, 0xE4];
-    for a in firsts {
-        for b in others {
-            for c in others {
-                for d in [0x41, 0x80, 0xBF, 0xF0] {
-                    agrees(&rt, &[a, b, c, d]);
+    for a in FIRSTS {
+        for b in OTHERS {
+            for c in OTHERS {
+                for d in LASTS {
+                    agrees(&rt, &[*a, *b, *c, *d]);
                 }
             }
         }
