@@ -25,51 +25,56 @@ mod writing;
 
 use anyhow::bail;
 use command_line::{lend, parse_count, parse_size, words_of};
+use std::alloc::Global;
 use std::env;
 use std::io::Read;
-use work::{Job, WORKS};
+use work::{Job, WORKS, Work};
 
 fn main(rt: HostRuntime) -> anyhow::Result<()> {
-    let alloc = rt.alloc();
-    let words = words_of(alloc, env::args(&rt))?;
-    let words = lend(alloc, &words)?;
-    let [work, rows, cols, times] = words.as_slice() else {
-        bail!("usage: speed WORK ROWS COLS TIMES");
-    };
-    let mut stream = Vec::new(alloc);
-    rt.stdin().read_to_end(&mut stream)?;
-    let Some(job) = job_of(&rt, rows, cols, times, &stream) else {
-        bail!("usage: speed WORK ROWS COLS TIMES");
-    };
-    print_counts(&rt, job, work)
+    let words = words_of(rt.alloc(), env::args(&rt))?;
+    obey(&rt, &lend(rt.alloc(), &words)?)
 }
 
-fn job_of<'a>(
-    rt: &HostRuntime,
-    rows: &str,
-    cols: &str,
-    times: &str,
-    stream: &'a [u8],
-) -> Option<Job<'a>> {
-    Some(Job {
-        alloc: rt.alloc(),
+/// Does what the words ask for.
+fn obey(rt: &HostRuntime, words: &[&str]) -> anyhow::Result<()> {
+    let Some((name, job)) = parse(rt.alloc(), words) else {
+        bail!("usage: speed WORK ROWS COLS TIMES");
+    };
+    let mut stream = Vec::new(job.alloc);
+    rt.stdin().read_to_end(&mut stream)?;
+    print_counts(rt, &job.with_stream(&stream), name)
+}
+
+/// The name of the work, and what it is done with, but for the stream.
+fn parse<'a>(alloc: Global, words: &[&'a str]) -> Option<(&'a str, Job<'static>)> {
+    let [name, rows, cols, times] = words else {
+        return None;
+    };
+    let job = Job {
+        alloc,
         rows: parse_size(rows)?,
         cols: parse_size(cols)?,
         times: parse_count(times)?,
-        stream,
-    })
+        stream: &[],
+    };
+    Some((name, job))
 }
 
 /// Does the work of this name, or all, and prints what it counts.
-fn print_counts(rt: &HostRuntime, job: Job<'_>, name: &str) -> anyhow::Result<()> {
+fn print_counts(rt: &HostRuntime, job: &Job<'_>, name: &str) -> anyhow::Result<()> {
     let is_all = name == "all";
     for (word, work) in WORKS {
-        if is_all || name == word {
-            let Some(count) = job.count(work) else {
-                bail!("memory");
-            };
-            println!(rt; "{word} {count}")?;
+        if is_all || name == *word {
+            print_count(rt, job, word, *work)?;
         }
     }
+    Ok(())
+}
+
+fn print_count(rt: &HostRuntime, job: &Job<'_>, name: &str, work: Work) -> anyhow::Result<()> {
+    let Some(count) = job.count(work) else {
+        bail!("memory");
+    };
+    println!(rt; "{name} {count}")?;
     Ok(())
 }

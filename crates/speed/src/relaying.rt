@@ -5,22 +5,23 @@ use std::alloc::Global;
 use termrelay::{Client, Hub};
 
 impl<'a> Job<'a> {
-    /// Makes frames of the screen that the stream leaves.
+    /// Has a new hub make frames.
     pub(crate) fn relayed(&self, work: Work) -> Option<usize> {
         let mut hub = Hub::new(self.alloc, self.rows, self.cols).ok()?;
         relay(self, &mut hub, work)
     }
+}
 
-    /// Has a hub read the stream, and sends its client a frame behind each piece.
-    pub(crate) fn hub(&self) -> Option<usize> {
-        let mut hub = Hub::new(self.alloc, self.rows, self.cols).ok()?;
-        let client = hub.attach().ok()?;
-        send_stream(self, &mut hub, client)
+fn relay(job: &Job<'_>, hub: &mut Hub, work: Work) -> Option<usize> {
+    match work {
+        Work::Hub => send_stream(job, hub),
+        _ => send_frames(job, hub, work),
     }
 }
 
-/// Feeds the stream in pieces, and sends a frame behind each.
-fn send_stream(job: &Job<'_>, hub: &mut Hub, client: Client) -> Option<usize> {
+/// Feeds the stream in pieces, and sends a client's frame behind each.
+fn send_stream(job: &Job<'_>, hub: &mut Hub) -> Option<usize> {
+    let client = hub.attach().ok()?;
     let mut count: usize = 0;
     for _ in 0..job.times {
         for piece in job.stream.chunks(PIECE_LEN) {
@@ -31,7 +32,8 @@ fn send_stream(job: &Job<'_>, hub: &mut Hub, client: Client) -> Option<usize> {
     Some(count)
 }
 
-fn relay(job: &Job<'_>, hub: &mut Hub, work: Work) -> Option<usize> {
+/// Makes frames of the screen that the stream leaves.
+fn send_frames(job: &Job<'_>, hub: &mut Hub, work: Work) -> Option<usize> {
     hub.feed(job.stream).ok()?;
     let client = hub.attach().ok()?;
     let first = send(job.alloc, hub, client)?;

@@ -21,7 +21,7 @@ pub(crate) enum Work {
 }
 
 /// The kinds of work, by name.
-pub(crate) const WORKS: [(&str, Work); 12] = [
+pub(crate) const WORKS: &[(&str, Work)] = &[
     ("events", Work::Events),
     ("calls", Work::Calls),
     ("screen", Work::Screen),
@@ -61,6 +61,17 @@ pub(crate) struct Job<'a> {
 }
 
 impl<'a> Job<'a> {
+    /// The same with this stream.
+    pub(crate) fn with_stream<'b>(&self, stream: &'b [u8]) -> Job<'b> {
+        Job {
+            alloc: self.alloc,
+            rows: self.rows,
+            cols: self.cols,
+            times: self.times,
+            stream,
+        }
+    }
+
     /// Does the work, and counts what comes of it. Nothing where memory is refused.
     pub(crate) fn count(&self, work: Work) -> Option<usize> {
         match work {
@@ -68,10 +79,9 @@ impl<'a> Job<'a> {
             Work::Calls => self.calls(),
             Work::Screen => self.screen(),
             Work::View => self.view(),
-            Work::Hub => self.hub(),
             Work::Redraw | Work::Same | Work::Row => self.written(work),
             Work::Difference => self.difference(),
-            Work::Unchanged | Work::Frame | Work::Client => self.relayed(work),
+            Work::Hub | Work::Unchanged | Work::Frame | Work::Client => self.relayed(work),
         }
     }
 }
