@@ -2,10 +2,10 @@
 
 use crate::dump::push_screen;
 use crate::error::DumpError;
-use crate::hex_digits::{digit_value, push_hex};
+use crate::hex_digits::digit_value;
 use crate::stream::{flush, read_all, write_text};
 use crate::texts::{
-    push_check, push_diffs, push_rows, push_rows_diff, push_rows_formatted, push_texts,
+    push_check, push_diffs, push_rows, push_rows_diff, push_rows_formatted, push_text, push_texts,
 };
 use std::alloc::Global;
 use std::io::Read;
@@ -15,7 +15,7 @@ use takers::Sink;
 use vt100::{Parser, Screen};
 
 /// One line of a script.
-#[derive(Debug, Drop)]
+#[derive(Drop)]
 enum Step {
     /// Nothing: an empty line or a comment.
     Nothing,
@@ -38,7 +38,7 @@ enum Step {
 }
 
 /// What a line asks of the screen.
-#[derive(Clone, Copy, Debug)]
+#[derive(Clone, Copy)]
 enum Question {
     /// `dump`.
     Dump,
@@ -188,11 +188,22 @@ fn take_lines<W: Sink>(
 ) -> Result<(), DumpError> {
     let mut answer = String::new(alloc);
     for line in script.lines() {
-        answer.clear();
-        take_line(alloc, line, parser, base, &mut answer)?;
-        write_text(output, &answer)?;
+        answer_line(alloc, line, parser, base, &mut answer, output)?;
     }
     flush(output)
+}
+
+fn answer_line<W: Sink>(
+    alloc: Global,
+    line: &str,
+    parser: &mut Parser<()>,
+    base: &mut Screen,
+    answer: &mut String,
+    output: &mut W,
+) -> Result<(), DumpError> {
+    answer.clear();
+    take_line(alloc, line, parser, base, answer)?;
+    write_text(output, answer)
 }
 
 // Takes the step of a line, and appends its answer.
@@ -250,9 +261,7 @@ fn tell(
         Question::RowsDiff(start, width) => push_rows_diff(answer, screen, base, start, width)?,
         Question::Between(start_row, start_col, end_row, end_col) => {
             let text = screen.contents_between(start_row, start_col, end_row, end_col)?;
-            answer.push_str("between ")?;
-            push_hex(answer, text.as_bytes())?;
-            answer.push('\n')?;
+            push_text(answer, "between", text)?;
         }
     }
     Ok(())

@@ -19,7 +19,7 @@ enum Text {
     CursorStateFormatted,
 }
 
-const TEXTS: [(&str, Text); 7] = [
+const TEXTS: &[(&str, Text)] = &[
     ("text contents", Text::Contents),
     ("text contents_formatted", Text::ContentsFormatted),
     ("text state_formatted", Text::StateFormatted),
@@ -55,7 +55,7 @@ fn text_of(screen: &Screen, text: Text) -> Result<String, ScreenError> {
 /// The names are those of the calls.
 pub(crate) fn push_texts(out: &mut String, screen: &Screen) -> Result<(), DumpError> {
     for (name, text) in TEXTS {
-        push_text(out, name, text_of(screen, text)?)?;
+        push_text(out, name, text_of(screen, *text)?)?;
     }
     let (_, cols) = screen.size();
     push_rows(out, screen, 0, cols.get())?;
@@ -135,19 +135,28 @@ fn push_each<I: Iterator<Item = Result<String, ScreenError>> + Drop>(
         let Some(text) = texts.next() else {
             break;
         };
-        write!(out, "{name} {i} ")?;
-        push_rest(out, text?)?;
+        push_row(out, name, i, &text?)?;
     }
     Ok(())
 }
 
-fn push_text(out: &mut String, name: &str, text: String) -> Result<(), DumpError> {
+fn push_row(out: &mut String, name: &str, row: u16, text: &str) -> Result<(), DumpError> {
+    write!(out, "{name} {row} ")?;
+    push_rest(out, text)
+}
+
+/// A line: a name, and a text in hexadecimal digits.
+pub(crate) fn push_text(out: &mut String, name: &str, text: String) -> Result<(), DumpError> {
+    push_named(out, name, &text)
+}
+
+fn push_named(out: &mut String, name: &str, text: &str) -> Result<(), DumpError> {
     write!(out, "{name} ")?;
     push_rest(out, text)
 }
 
 // A text in hexadecimal digits, and the line's end.
-fn push_rest(out: &mut String, text: String) -> Result<(), DumpError> {
+fn push_rest(out: &mut String, text: &str) -> Result<(), DumpError> {
     push_hex(out, text.as_bytes())?;
     out.push('\n')?;
     Ok(())
@@ -168,11 +177,24 @@ pub(crate) fn push_check(
     screen: &Screen,
     base: &Screen,
 ) -> Result<(), DumpError> {
-    let redraw = reader_of(alloc, screen, screen)?;
-    push_answer(alloc, out, "redraw", screen, redraw.screen())?;
-    let mut difference = reader_of(alloc, screen, base)?;
-    read_difference(&mut difference, screen, base)?;
-    push_answer(alloc, out, "difference", screen, difference.screen())
+    push_redraw_check(alloc, out, screen)?;
+    push_difference_check(alloc, out, screen, base)
+}
+
+fn push_redraw_check(alloc: Global, out: &mut String, screen: &Screen) -> Result<(), DumpError> {
+    let reader = reader_of(alloc, screen, screen)?;
+    push_answer(alloc, out, "redraw", screen, reader.screen())
+}
+
+fn push_difference_check(
+    alloc: Global,
+    out: &mut String,
+    screen: &Screen,
+    base: &Screen,
+) -> Result<(), DumpError> {
+    let mut reader = reader_of(alloc, screen, base)?;
+    read_difference(&mut reader, screen, base)?;
+    push_answer(alloc, out, "difference", screen, reader.screen())
 }
 
 // A fresh terminal of the screen's size that has read the redraw of `shown`.
@@ -206,13 +228,17 @@ fn push_answer(
 ) -> Result<(), DumpError> {
     let wanted = picture_of(alloc, screen)?;
     let got = picture_of(alloc, reader)?;
+    push_comparison(out, name, &wanted, &got)
+}
+
+fn push_comparison(out: &mut String, name: &str, wanted: &str, got: &str) -> Result<(), DumpError> {
     if wanted == got {
         writeln!(out, "check {name} same")?;
         return Ok(());
     }
     writeln!(out, "check {name} DIFFERENT")?;
-    push_missing(out, "screen", &wanted, &got)?;
-    push_missing(out, "reader", &got, &wanted)
+    push_missing(out, "screen", wanted, got)?;
+    push_missing(out, "reader", got, wanted)
 }
 
 // The lines of a screen's dump without the modes, of which a redraw doesn't tell all, and the kept rows.
@@ -220,12 +246,17 @@ fn picture_of(alloc: Global, screen: &Screen) -> Result<String, DumpError> {
     let mut dump = String::new(alloc);
     push_screen(&mut dump, screen)?;
     let mut picture = String::new(alloc);
+    push_picture(&mut picture, &dump)?;
+    Ok(picture)
+}
+
+fn push_picture(out: &mut String, dump: &str) -> Result<(), DumpError> {
     for line in dump.lines() {
         if !line.starts_with("scrollback") && !line.starts_with("modes") && line != "updating" {
-            writeln!(picture, "{line}")?;
+            writeln!(out, "{line}")?;
         }
     }
-    Ok(picture)
+    Ok(())
 }
 
 // The lines of one dump that another one hasn't.
