@@ -36,19 +36,21 @@ fn raw_events(alloc: Global, bytes: Vec<u8>) -> Result<Vec<Event>, TextError> {
 
 // The size in the header, where the first line is an object with a version.
 fn parse_header(alloc: Global, bytes: &[u8]) -> Result<Option<Size>, TextError> {
-    let Some(line) = bytes.split(|b| *b == b'\n').next() else {
-        return Ok(None);
-    };
-    let Some(header) = parse_json(alloc, line)? else {
-        return Ok(None);
-    };
+    let line = bytes.split(|b| *b == b'\n').next().unwrap_or(&[]);
+    match parse_json(alloc, line)? {
+        Some(header) => size_in(&header),
+        None => Ok(None),
+    }
+}
+
+fn size_in(header: &Value) -> Result<Option<Size>, TextError> {
     let Some(version) = header.get("version") else {
         return Ok(None);
     };
     if version.as_u64() != Some(2) {
         return Err(TextError::Header);
     }
-    match (side(&header, "height"), side(&header, "width")) {
+    match (side(header, "height"), side(header, "width")) {
         (Some(rows), Some(cols)) => Ok(Some(Size { rows, cols })),
         _ => Err(TextError::Header),
     }
@@ -66,14 +68,19 @@ fn side(header: &Value, name: &str) -> Option<NonZeroU16> {
 // The events in the lines after the first. Empty lines don't count.
 fn parse_events(alloc: Global, bytes: &[u8]) -> Result<Vec<Event>, TextError> {
     let mut events = Vec::new(alloc);
+    push_events(alloc, &mut events, bytes)?;
+    Ok(events)
+}
+
+fn push_events(alloc: Global, events: &mut Vec<Event>, bytes: &[u8]) -> Result<(), TextError> {
     let mut number: u64 = 0;
     for line in bytes.split(|b| *b == b'\n') {
         number = number.saturating_add(1);
         if number > 1 && !line.trim_ascii().is_empty() {
-            push_event(alloc, &mut events, line, number)?;
+            push_event(alloc, events, line, number)?;
         }
     }
-    Ok(events)
+    Ok(())
 }
 
 // Appends the event in a line, unless it is of a kind that a screen has no part in.
@@ -83,15 +90,19 @@ fn push_event(
     line: &[u8],
     number: u64,
 ) -> Result<(), TextError> {
-    let Some(value) = parse_json(alloc, line)? else {
-        return Err(TextError::Line(number));
-    };
-    match parse_event(alloc, &value)? {
+    match parse_line(alloc, line)? {
         Parsed::Event(event) => events.push(event)?,
         Parsed::Passed => {}
         Parsed::Fault => return Err(TextError::Line(number)),
     }
     Ok(())
+}
+
+fn parse_line(alloc: Global, line: &[u8]) -> Result<Parsed, TextError> {
+    match parse_json(alloc, line)? {
+        Some(value) => parse_event(alloc, &value),
+        None => Ok(Parsed::Fault),
+    }
 }
 
 // What a line of a recording is.

@@ -1,7 +1,7 @@
 //! The words that the command line knows.
 
 ghost use Rattle.std.specs.Prelude.{◌≡◌, [], ◌∷◌, false, codes, IfOk};
-ghost use Rattle.clap.specs.Words.{app_of, new_rule, rule_of};
+ghost use Rattle.clap.specs.Words.{app_of, new_rule, rule_of, with_rule};
 ghost use Rattle.screentext_command.specs.Words.{colors_rule, flag_rule, known, program as program_app, value_rule};
 ghost use Rattle.screentext_command.specs.Words.{with_flags as with_flags_on, with_values as with_values_on};
 
@@ -42,52 +42,55 @@ fn program<'a>(alloc: Global) -> Command<'a>
 fn with_values<'a>(alloc: Global, command: Command<'a>) -> Result<Command<'a>, AllocError>
     ensures { IfOk result (λ c. app_of c ≡ with_values_on (app_of command.entry)) }
 {
-    let rows = size(alloc, "ROWS", "The rows of the screen at first");
-    let cols = size(alloc, "COLS", "Its columns");
-    let at = value(
-        alloc,
-        "at",
-        "SECONDS",
-        "The screen at this time of the recording, and not at its end",
-    );
-    let diff = value(
-        alloc,
-        "diff",
-        "SECONDS",
-        "The rows that changed from this time on, before and after",
-    );
-    let history = value(
-        alloc,
-        "history",
-        "N",
-        "The newest N rows that left at the top, before those of the screen",
-    );
     Ok(
         command
-            .arg(rows)?
-            .arg(cols)?
-            .arg(at)?
-            .arg(diff)?
-            .arg(history)?,
+            .arg(size(alloc, "ROWS", "The rows of the screen at first"))?
+            .arg(size(alloc, "COLS", "Its columns"))?
+            .arg(value(
+                alloc,
+                "at",
+                "SECONDS",
+                "The screen at this time of the recording, and not at its end",
+            ))?
+            .arg(value(
+                alloc,
+                "diff",
+                "SECONDS",
+                "The rows that changed from this time on, before and after",
+            ))?
+            .arg(value(
+                alloc,
+                "history",
+                "N",
+                "The newest N rows that left at the top, before those of the screen",
+            ))?,
     )
 }
 
 fn with_flags<'a>(alloc: Global, command: Command<'a>) -> Result<Command<'a>, AllocError>
     ensures { IfOk result (λ c. app_of c ≡ with_flags_on (app_of command.entry)) }
 {
-    let joined = flag(
+    let with_joined = command.arg(flag(
         alloc,
         "joined",
         "A row that goes on in the next is one line with it",
-    );
+    ))?;
+    Ok(
+        with_colors(alloc, with_joined)?
+            .arg(flag(alloc, "html", "A page in HTML that shows the screen"))?
+            .arg(flag(
+                alloc,
+                "svg",
+                "A picture in SVG of the screen; not with --html",
+            ))?,
+    )
+}
+
+fn with_colors<'a>(alloc: Global, command: Command<'a>) -> Result<Command<'a>, AllocError>
+    ensures { IfOk result (λ c. app_of c ≡ with_rule (app_of command.entry) colors_rule) }
+{
     let colors = colors(alloc)?;
-    let html = flag(alloc, "html", "A page in HTML that shows the screen");
-    let svg = flag(
-        alloc,
-        "svg",
-        "A picture in SVG of the screen; not with --html",
-    );
-    Ok(command.arg(joined)?.arg(colors)?.arg(html)?.arg(svg)?)
+    Ok(command.arg(colors)?)
 }
 
 fn colors<'a>(alloc: Global) -> Result<Arg<'a>, AllocError>
