@@ -8,7 +8,7 @@
 mod far_screen;
 mod words;
 
-use command_line::{FAULT, SUCCESS, USAGE, lend, report, words_of};
+use command_line::{FAULT, SUCCESS, USAGE, report, with_words};
 use far_screen::print_far_screen;
 use relay_streams::RelayError;
 use std::env;
@@ -16,27 +16,28 @@ use std::process::ExitCode;
 use words::{Size, parse};
 
 fn main(rt: HostRuntime) -> ExitCode {
-    let status = match run(&rt) {
+    let answer = with_words(rt.alloc(), env::args(&rt), |words| command(&rt, words));
+    let status = match answer {
         Ok(status) => status,
-        Err(error) => {
-            let _ = eprintln!(rt; "screencat: {error}");
-            FAULT
-        }
+        Err(_) => report_fault(&rt, RelayError::Memory),
     };
     ExitCode::from(status)
 }
 
-// Does what the command line asks for, and answers the exit status.
-fn run(rt: &HostRuntime) -> Result<u8, RelayError> {
-    let alloc = rt.alloc();
-    let Ok(words) = words_of(alloc, env::args(rt)) else {
-        return Err(RelayError::Memory);
-    };
-    let words = lend(alloc, &words)?;
-    let Some(Size { rows, cols }) = parse(&words) else {
+// Does what the words ask for, and answers the exit status.
+fn command(rt: &HostRuntime, words: &[&str]) -> u8 {
+    let Some(Size { rows, cols }) = parse(words) else {
         report(&mut rt.stderr(), b"usage: screencat ROWS COLS\n");
-        return Ok(USAGE);
+        return USAGE;
     };
-    print_far_screen(alloc, rows, cols, &mut rt.stdin(), &mut rt.stdout())?;
-    Ok(SUCCESS)
+    match print_far_screen(rt.alloc(), rows, cols, &mut rt.stdin(), &mut rt.stdout()) {
+        Ok(()) => SUCCESS,
+        Err(error) => report_fault(rt, error),
+    }
+}
+
+// Tells a fault in a line, and answers the exit status that goes with it.
+fn report_fault(rt: &HostRuntime, error: RelayError) -> u8 {
+    let _ = eprintln!(rt; "screencat: {error}");
+    FAULT
 }
