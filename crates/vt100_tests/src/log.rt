@@ -32,16 +32,42 @@ impl Log {
         self.failed |= write!(self.text, "{word} ").is_err();
     }
 
-    fn bytes(&mut self, bytes: &[u8]) {
-        self.word(str::from_utf8(bytes).unwrap_or("?"));
+    /// A word, and then each of these pieces.
+    fn pieces(&mut self, word: &str, pieces: &[&[u8]]) {
+        self.word(word);
+        for piece in pieces {
+            self.word(str::from_utf8(piece).unwrap_or("?"));
+        }
     }
 
-    fn sequence(&mut self, params: &[&[u16]], c: char) {
-        self.failed |= write!(self.text, "{params:?} {c} ").is_err();
+    fn number(&mut self, word: &str, number: u32) {
+        self.failed |= write!(self.text, "{word} {number} ").is_err();
     }
 
-    fn marks(&mut self, i1: Option<u8>, i2: Option<u8>) {
-        self.failed |= write!(self.text, "{i1:?} {i2:?} ").is_err();
+    fn escape(&mut self, i1: Option<u8>, i2: Option<u8>, b: u8) {
+        self.failed |= write!(self.text, "escape {i1:?} {i2:?} {b} ").is_err();
+    }
+
+    fn csi(&mut self, i1: Option<u8>, i2: Option<u8>, params: &[&[u16]], c: char) {
+        self.failed |= write!(self.text, "csi {i1:?} {i2:?} {params:?} {c} ").is_err();
+    }
+
+    /// A call that asks nothing of the screen.
+    fn told(&mut self, call: Call<'_>) {
+        match call {
+            Call::AudibleBell => self.word("bell by a detour"),
+            Call::VisualBell => self.word("flash"),
+            Call::SetWindowIconName(name) => self.pieces("icon", &[name]),
+            Call::SetWindowTitle(title) => self.pieces("title", &[title]),
+            Call::CopyToClipboard(ty, data) => self.pieces("copy", &[ty, data]),
+            Call::PasteFromClipboard(ty) => self.pieces("paste", &[ty]),
+            Call::UnhandledChar(c) => self.number("char", c as u32),
+            Call::UnhandledControl(b) => self.number("control", u32::from(b)),
+            Call::UnhandledEscape(i1, i2, b) => self.escape(i1, i2, b),
+            Call::UnhandledCsi(i1, i2, params, c) => self.csi(i1, i2, params, c),
+            Call::UnhandledOsc(params) => self.pieces("osc", params),
+            Call::Resize(_, _) => {}
+        }
     }
 
     /// What the screen has come to when a call is made.
@@ -64,48 +90,8 @@ impl Callbacks for Log {
 
     fn call(&mut self, screen: &mut Screen, call: Call<'_>) {
         match call {
-            Call::AudibleBell => self.word("bell by a detour"),
-            Call::VisualBell => self.word("flash"),
             Call::Resize(rows, cols) => self.request(screen, rows, cols),
-            Call::SetWindowIconName(name) => {
-                self.word("icon");
-                self.bytes(name);
-            }
-            Call::SetWindowTitle(title) => {
-                self.word("title");
-                self.bytes(title);
-            }
-            Call::CopyToClipboard(ty, data) => {
-                self.word("copy");
-                self.bytes(ty);
-                self.bytes(data);
-            }
-            Call::PasteFromClipboard(ty) => {
-                self.word("paste");
-                self.bytes(ty);
-            }
-            Call::UnhandledChar(c) => self.failed |= write!(
-                self.text,
-                "char {} ",
-                c as u32
-            ).is_err(),
-            Call::UnhandledControl(b) => self.failed |= write!(self.text, "control {b} ").is_err(),
-            Call::UnhandledEscape(i1, i2, b) => {
-                self.word("escape");
-                self.marks(i1, i2);
-                self.failed |= write!(self.text, "{b} ").is_err();
-            }
-            Call::UnhandledCsi(i1, i2, params, c) => {
-                self.word("csi");
-                self.marks(i1, i2);
-                self.sequence(params, c);
-            }
-            Call::UnhandledOsc(params) => {
-                self.word("osc");
-                for piece in params {
-                    self.bytes(piece);
-                }
-            }
+            call => self.told(call),
         }
         self.place(screen);
     }
