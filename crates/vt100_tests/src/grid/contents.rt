@@ -1,20 +1,12 @@
 //! The text of a whole grid.
 use super::*;
 
-/// A new grid, what is done to it, and its text then.
-type Case = (Start, &'static [Step], &'static str);
-
-fn check_texts(rt: &(impl Abort + AllocGlobal), cases: &[Case]) -> Result<(), Fail> {
-    for (start, steps, want) in cases {
-        let (grid, _) = run(rt.alloc(), *start, steps)?;
-        let mut text = String::new(rt.alloc());
-        grid.write_contents(&mut text)?;
-        same(rt, &text.as_str(), want);
-    }
-    Ok(())
+/// A grid's text is appended.
+pub fn check_contents<R: Abort + AllocGlobal>(rt: &R, grid: &Grid, want: &str) -> Result<(), Fail> {
+    appended(rt, want, |text| grid.write_contents(text))
 }
 
-const PRINTED: &[Case] = &[
+const PRINTED: &[Case<&str>] = &[
     ((2, 4, None), &[], ""),
     ((2, 4, None), &[Step::Print("abcdxyz")], "abcdxyz"),
     ((2, 4, None), &[Step::Print("中文x")], "中文x"),
@@ -27,10 +19,10 @@ const PRINTED: &[Case] = &[
 
 #[test]
 fn texts(rt: HostRuntime) -> Result<(), Fail> {
-    check_texts(&rt, PRINTED)
+    check_each(&rt, PRINTED, check_contents)
 }
 
-const ERASED_OR_KEPT: &[Case] = &[
+const ERASED_OR_KEPT: &[Case<&str>] = &[
     // A row that was erased below one that is wrapped.
     (
         (3, 2, None),
@@ -67,19 +59,27 @@ const ERASED_OR_KEPT: &[Case] = &[
 
 #[test]
 fn texts_of_erased_and_kept_rows(rt: HostRuntime) -> Result<(), Fail> {
-    check_texts(&rt, ERASED_OR_KEPT)
+    check_each(&rt, ERASED_OR_KEPT, check_contents)
+}
+
+/// What a text holds then that held this.
+fn text_after(alloc: Global, held: &str, grid: &Grid) -> Result<String, GridError> {
+    let mut text = String::from_str(alloc, held)?;
+    grid.write_contents(&mut text)?;
+    Ok(text)
+}
+
+fn check_newlines<R: Abort + AllocGlobal>(rt: &R, grid: &mut Grid) -> Result<(), Fail> {
+    let text = text_after(rt.alloc(), "x\n", grid)?;
+    same(rt, &text.as_str(), &"x\na");
+    grid.clear();
+    let text = text_after(rt.alloc(), "x\na\n", grid)?;
+    same(rt, &text.as_str(), &"x\na");
+    Ok(())
 }
 
 /// What stood in the string stays, but for newlines at its end.
 #[test]
 fn appends(rt: HostRuntime) -> Result<(), Fail> {
-    let (mut grid, _) = run(rt.alloc(), (2, 2, None), &[Step::Print("a")])?;
-    let mut text = String::from_str(rt.alloc(), "x\n")?;
-    grid.write_contents(&mut text)?;
-    same(&rt, &text.as_str(), &"x\na");
-    text.push('\n')?;
-    grid.clear();
-    grid.write_contents(&mut text)?;
-    same(&rt, &text.as_str(), &"x\na");
-    Ok(())
+    with_grid(&rt, (2, 2, None), &[Step::Print("a")], check_newlines)
 }
