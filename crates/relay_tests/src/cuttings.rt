@@ -1,7 +1,8 @@
 //! A long stream in different pieces.
+use crate::owners::{with_hub, with_list};
 use crate::same::same_for;
-use crate::seen::{count, frame_of};
-use std::alloc::{AllocError, Global};
+use crate::seen::take_frame;
+use std::alloc::AllocError;
 use std::process::Abort;
 use std::test::Fail;
 use termrelay::{Hub, HubError};
@@ -59,23 +60,17 @@ const PARTS: [&[u8]; 32] = [
 /// How many bytes are fed.
 const LENGTH: usize = 10_000;
 
-fn stream(alloc: Global) -> Result<Vec<u8>, AllocError> {
+/// Makes the stream.
+fn fill(stream: &mut Vec<u8>) -> Result<(), AllocError> {
     let mut numbers = Numbers { last: 1 };
-    let mut stream = Vec::new(alloc);
     for _ in 0..LENGTH {
         stream.extend_from_slice(PARTS[numbers.next() % PARTS.len()])?;
     }
     stream.truncate(LENGTH);
-    Ok(stream)
+    Ok(())
 }
 
-/// The first frame of a screen that was fed the stream in pieces of these lengths, again and again.
-fn first_frame(alloc: Global, stream: &[u8], lengths: &[usize]) -> Result<Vec<u8>, HubError> {
-    let mut hub = Hub::new(alloc, count(24), count(80))?;
-    feed_pieces(&mut hub, stream, lengths)?;
-    next_frame(alloc, &mut hub)
-}
-
+/// Feeds the stream in pieces of these lengths, again and again.
 fn feed_pieces(hub: &mut Hub, stream: &[u8], lengths: &[usize]) -> Result<(), HubError> {
     let mut left = stream;
     for length in lengths.iter().cycle().take(stream.len()) {
@@ -86,11 +81,19 @@ fn feed_pieces(hub: &mut Hub, stream: &[u8], lengths: &[usize]) -> Result<(), Hu
     Ok(())
 }
 
-/// The first frame of a new client.
-fn next_frame(alloc: Global, hub: &mut Hub) -> Result<Vec<u8>, HubError> {
-    let client = hub.attach()?;
-    let (_, frame) = frame_of(alloc, hub, client)?;
-    Ok(frame)
+/// Makes the first frame of a screen that was fed the stream in such pieces.
+fn first_frame(
+    rt: &impl AllocGlobal,
+    stream: &[u8],
+    lengths: &[usize],
+    frame: &mut Vec<u8>,
+) -> Result<(), Fail> {
+    with_hub(rt.alloc(), (24, 80), |hub| {
+        feed_pieces(hub, stream, lengths)?;
+        let client = hub.attach()?;
+        take_frame(hub, client, frame)?;
+        Ok(())
+    })
 }
 
 /// The first frame is this one, also after pieces of these lengths.
@@ -100,21 +103,31 @@ fn check_frame(
     lengths: &[usize],
     whole: &[u8],
 ) -> Result<(), Fail> {
-    let frame = first_frame(rt.alloc(), stream, lengths)?;
-    same_for(rt, &lengths, &frame.as_slice(), &whole);
-    Ok(())
+    with_list(rt.alloc(), |frame| {
+        first_frame(rt, stream, lengths, frame)?;
+        same_for(rt, &lengths, &frame.as_slice(), &whole);
+        Ok(())
+    })
+}
+
+fn check_frames(rt: &(impl Abort + AllocGlobal), stream: &[u8], whole: &[u8]) -> Result<(), Fail> {
+    let found = (stream.len(), whole.len() > 500);
+    same_for(rt, &whole.len(), &found, &(LENGTH, true));
+    check_frame(rt, stream, &[1], whole)?;
+    check_frame(rt, stream, &[7, 2, 130, 5], whole)
+}
+
+fn check_stream(rt: &(impl Abort + AllocGlobal), stream: &[u8]) -> Result<(), Fail> {
+    with_list(rt.alloc(), |whole| {
+        first_frame(rt, stream, &[LENGTH], whole)?;
+        check_frames(rt, stream, whole)
+    })
 }
 
 #[test]
 fn cuttings(rt: HostRuntime) -> Result<(), Fail> {
-    let stream = stream(rt.alloc())?;
-    let whole = first_frame(rt.alloc(), &stream, &[LENGTH])?;
-    same_for(
-        &rt,
-        &whole.len(),
-        &(stream.len(), whole.len() > 500),
-        &(LENGTH, true),
-    );
-    check_frame(&rt, &stream, &[1], &whole)?;
-    check_frame(&rt, &stream, &[7, 2, 130, 5], &whole)
+    with_list(rt.alloc(), |stream| {
+        fill(stream)?;
+        check_stream(&rt, stream)
+    })
 }

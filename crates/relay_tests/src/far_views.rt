@@ -1,13 +1,13 @@
-//! Far views: what a session's bytes show, wherever they are cut, and the texts of a relay's faults.
-use crate::same::same_for;
-use crate::seen::{Size, count, text_of};
-use relay_streams::{RelayError, far_view, view_of};
-use std::alloc::Global;
+//! Far views: what a session's bytes show, wherever they are cut.
+use crate::owners::{Part, first_key, with_far_view, with_list};
+use crate::same::{same, same_for};
+use crate::seen::{Drawn, Size, check_drawn, count};
+use relay_streams::{far_view, view_of, write_view};
 use std::num::NonZeroU16;
 use std::process::Abort;
 use std::test::Fail;
-use termrelay::{Call, Client, Hub, Log, Take, run};
-use termview::{Color, CursorStyle, MouseProtocolEncoding, MouseProtocolMode, UntilCleared, View};
+use termrelay::{Call, Client, Take};
+use termview::{CursorStyle, MouseProtocolEncoding, MouseProtocolMode, UntilCleared, View};
 
 /// A frame of 48 bytes, and the beginning of another one.
 const STREAM: &[u8] =
@@ -36,59 +36,6 @@ fn views(rt: HostRuntime) -> Result<(), Fail> {
     Ok(())
 }
 
-fn attached(hub: &mut Hub, log: &mut Log) -> Result<Client, Fail> {
-    run(hub, &[Call::Attach], log)?;
-    match log.sessions() {
-        [session, ..] => Ok(session.client()),
-        [] => Ok(Client::from_key(0)),
-    }
-}
-
-/// The key that a new hub gives its first client.
-fn first_key(alloc: Global, size: Size) -> Result<Client, Fail> {
-    let mut hub = Hub::new(alloc, count(size.0), count(size.1))?;
-    let mut log = Log::new(alloc);
-    attached(&mut hub, &mut log)
-}
-
-/// What a far view shows of so many bytes of those that were pumped to the first client, which are cut so.
-fn seen_of(
-    alloc: Global,
-    size: Size,
-    calls: &[Call<'_>],
-    take: usize,
-    cuts: &[usize],
-) -> Result<View<UntilCleared>, Fail> {
-    let found = far_view(alloc, count(size.0), count(size.1), calls, 0, take, cuts)?;
-    Ok(found.ok_or("no view")?)
-}
-
-/// What it shows of all of them.
-fn seen(alloc: Global, size: Size, calls: &[Call<'_>]) -> Result<View<UntilCleared>, Fail> {
-    seen_of(alloc, size, calls, usize::MAX, &[])
-}
-
-/// The text and the colour of a cell, and the cursor.
-fn cell_of(
-    view: &View<UntilCleared>,
-    row: u16,
-    col: u16,
-) -> Result<(&str, Color, (u16, u16)), Fail> {
-    let cell = view.cell(row, col).ok_or("no cell")?;
-    Ok((cell.contents(), cell.fgcolor(), view.cursor_position()))
-}
-
-/// A cell is so, and the cursor.
-fn check_cell(
-    rt: &impl Abort,
-    view: &View<UntilCleared>,
-    (row, col): (u16, u16),
-    wanted: (&str, Color, (u16, u16)),
-) -> Result<(), Fail> {
-    same_for(rt, &(row, col), &cell_of(view, row, col)?, &wanted);
-    Ok(())
-}
-
 /// The rows' text, the cursor, and whether the first row goes on in the second.
 type Shown = (&'static [u8], (u16, u16), bool);
 
@@ -97,11 +44,16 @@ fn check_shown(
     view: &View<UntilCleared>,
     wanted: Shown,
 ) -> Result<(), Fail> {
-    let text = text_of(rt.alloc(), view)?;
-    let shown = (text.as_slice(), view.cursor_position(), view.row_wrapped(0));
-    same_for(rt, &"shown", &shown, &wanted);
-    Ok(())
+    with_list(rt.alloc(), |text| {
+        write_view(view, text)?;
+        let shown = (text.as_slice(), view.cursor_position(), view.row_wrapped(0));
+        same(rt, &shown, &wanted);
+        Ok(())
+    })
 }
+
+/// All bytes, in one piece.
+const ALL: Part<'_> = (usize::MAX, &[]);
 
 /// A size, two streams, and what a far view shows after a frame of each.
 const TWO_FRAMES: &[(Size, &[u8], &[u8], Shown)] = &[
@@ -134,13 +86,12 @@ const TWO_FRAMES: &[(Size, &[u8], &[u8], Shown)] = &[
 
 fn check_two_frames(
     rt: &(impl Abort + AllocGlobal),
+    key: Client,
     size: Size,
-    first: &'static [u8],
-    second: &'static [u8],
+    (first, second): (&'static [u8], &'static [u8]),
     wanted: Shown,
 ) -> Result<(), Fail> {
-    let key = first_key(rt.alloc(), size)?;
-    let calls: [Call<'_>; 7] = [
+    let calls = [
         Call::Attach,
         Call::Feed(first),
         Call::Frame(key),
@@ -149,14 +100,16 @@ fn check_two_frames(
         Call::Frame(key),
         Call::Pump(key, &[]),
     ];
-    let view = seen(rt.alloc(), size, &calls)?;
-    check_shown(rt, &view, wanted)
+    with_far_view(rt.alloc(), size, &calls, ALL, |view| {
+        check_shown(rt, view, wanted)
+    })
 }
 
 #[test]
 fn far_views(rt: HostRuntime) -> Result<(), Fail> {
+    let key = first_key(rt.alloc())?;
     for (size, first, second, wanted) in TWO_FRAMES {
-        check_two_frames(&rt, *size, first, second, *wanted)?;
+        check_two_frames(&rt, key, *size, (first, second), *wanted)?;
     }
     Ok(())
 }
@@ -164,20 +117,20 @@ fn far_views(rt: HostRuntime) -> Result<(), Fail> {
 fn check_cut(
     rt: &(impl Abort + AllocGlobal),
     calls: &[Call<'_>],
-    take: usize,
-    cut: usize,
-    wanted: (&str, Color, (u16, u16)),
+    (take, cut): (usize, usize),
+    wanted: Drawn,
 ) -> Result<(), Fail> {
-    let view = seen_of(rt.alloc(), (24, 80), calls, take, &[cut])?;
-    same_for(rt, &cut, &cell_of(&view, 0, 13)?, &wanted);
-    Ok(())
+    with_far_view(rt.alloc(), (24, 80), calls, (take, &[cut]), |view| {
+        check_drawn(rt, &cut, view, (0, 13), wanted);
+        Ok(())
+    })
 }
 
 // All bytes but the last one of two frames show the first of them, wherever they are cut; all of them show the second.
 #[test]
 fn far_cuts(rt: HostRuntime) -> Result<(), Fail> {
-    let key = first_key(rt.alloc(), (24, 80))?;
-    let calls: [Call<'_>; 8] = [
+    let key = first_key(rt.alloc())?;
+    let calls = [
         Call::Attach,
         Call::Feed(b"this text is \x1b[31mRED\x1b[m"),
         Call::Frame(key),
@@ -188,34 +141,37 @@ fn far_cuts(rt: HostRuntime) -> Result<(), Fail> {
         Call::Pump(key, &[]),
     ];
     for cut in 0..103 {
-        check_cut(&rt, &calls, 102, cut, ("R", Color::Idx(1), (0, 16)))?;
+        check_cut(&rt, &calls, (102, cut), ("R", 1, (0, 16)))?;
     }
-    check_cut(&rt, &calls, 103, 103, ("G", Color::Idx(2), (0, 18)))
+    check_cut(&rt, &calls, (103, 103), ("G", 2, (0, 18)))
 }
 
 // With no bytes a far view is blank, and there is none of a client that wasn't attached.
 #[test]
 fn far_views_of_nothing(rt: HostRuntime) -> Result<(), Fail> {
-    let blank = seen_of(rt.alloc(), (2, 4), &[Call::Attach], 0, &[])?;
-    same_for(&rt, &"cursor", &blank.cursor_position(), &(0, 0));
+    with_far_view(rt.alloc(), (2, 4), &[Call::Attach], (0, &[]), |view| {
+        same(&rt, &view.cursor_position(), &(0, 0));
+        Ok(())
+    })?;
     let none = far_view(rt.alloc(), count(2), count(4), &[Call::Attach], 1, 0, &[])?;
-    same_for(&rt, &"unknown", &none.is_none(), &true);
+    same(&rt, &none.is_none(), &true);
     Ok(())
 }
 
 // A client that was attached after a resize.
 #[test]
 fn far_sizes(rt: HostRuntime) -> Result<(), Fail> {
-    let key = first_key(rt.alloc(), (2, 4))?;
-    let calls: [Call<'_>; 5] = [
+    let key = first_key(rt.alloc())?;
+    let calls = [
         Call::Feed(b"a\r\nb\r\nc"),
         Call::Resize(count(4), count(4)),
         Call::Attach,
         Call::Frame(key),
         Call::Pump(key, &[]),
     ];
-    let view = seen(rt.alloc(), (2, 4), &calls)?;
-    check_shown(&rt, &view, (b"\nb\nc\n\n", (2, 1), false))
+    with_far_view(rt.alloc(), (2, 4), &calls, ALL, |view| {
+        check_shown(&rt, view, (b"\nb\nc\n\n", (2, 1), false))
+    })
 }
 
 fn check_modes(rt: &impl Abort, view: &View<UntilCleared>) {
@@ -237,30 +193,16 @@ fn check_modes(rt: &impl Abort, view: &View<UntilCleared>) {
 // Modes, colours and a style.
 #[test]
 fn far_modes(rt: HostRuntime) -> Result<(), Fail> {
-    let key = first_key(rt.alloc(), (1, 3))?;
-    let calls: [Call<'_>; 4] = [
+    let key = first_key(rt.alloc())?;
+    let calls = [
         Call::Attach,
         Call::Feed(b"\x1b[?1000h\x1b[?1006h\x1b[4 q\x1b=\x1b[?1h\x1b[91mA"),
         Call::Frame(key),
         Call::Pump(key, &[]),
     ];
-    let view = seen(rt.alloc(), (1, 3), &calls)?;
-    check_modes(&rt, &view);
-    check_cell(&rt, &view, (0, 0), ("A", Color::Idx(9), (0, 1)))
-}
-
-#[test]
-fn texts_of_faults(rt: HostRuntime) -> Result<(), Fail> {
-    let faults = [
-        (RelayError::Read, "read"),
-        (RelayError::Write, "write"),
-        (RelayError::Memory, "memory"),
-        (RelayError::TooManyReads, "too many reads"),
-        (RelayError::FrameTooLong, "frame too long"),
-    ];
-    for (fault, want) in faults {
-        let text = format!(in rt.alloc(); "{fault}")?;
-        assert_eq!(rt; text.as_str(), want);
-    }
-    Ok(())
+    with_far_view(rt.alloc(), (1, 3), &calls, ALL, |view| {
+        check_modes(&rt, view);
+        check_drawn(&rt, &"modes", view, (0, 0), ("A", 9, (0, 1)));
+        Ok(())
+    })
 }

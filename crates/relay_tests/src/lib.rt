@@ -1,6 +1,7 @@
-//! Tests of `termview`, `termrelay` and `relay_streams`: views by themselves, what a hub answers and owes at each step of some runs, a program's own
-//! updates, the longest frame, writers that fail, clients among others, many clients and long sides, streams in pieces,
-//! what a run logs, frames on their way to a view, the texts of refusals, and calls that find no memory.
+//! Tests of `termview`, `termrelay` and `relay_streams`: views by themselves, what a hub answers and owes at each step of
+//! some runs, a program's own updates, the longest frame, writers that fail, clients among others, many clients and long
+//! sides, streams in pieces, what a run logs, frames on their way to a view, the texts of refusals, and calls that find
+//! no memory.
 #![tactic(auto)]
 
 #[cfg(test)]
@@ -18,6 +19,8 @@ mod many;
 #[cfg(test)]
 mod others;
 #[cfg(test)]
+mod owners;
+#[cfg(test)]
 mod pieces;
 #[cfg(test)]
 mod play;
@@ -30,7 +33,7 @@ mod same;
 #[cfg(test)]
 mod seen;
 #[cfg(test)]
-mod sink;
+mod sinks;
 #[cfg(test)]
 mod updates;
 #[cfg(test)]

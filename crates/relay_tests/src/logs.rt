@@ -1,23 +1,16 @@
 //! What a run of calls logs.
+use crate::owners::with_log;
 use crate::runs::BLANK;
 use crate::same::same_for;
-use crate::seen::count;
+use crate::seen::client_of;
 use std::process::Abort;
 use std::test::Fail;
-use termrelay::{Answer, Call, Client, Hub, HubError, Log, Reply, Take, run};
-
-/// The client of the first session.
-fn first_client(log: &Log) -> Client {
-    match log.sessions().first() {
-        Some(session) => session.client(),
-        None => Client::from_key(usize::MAX),
-    }
-}
+use termrelay::{Answer, Call, Hub, HubError, Log, Reply, Take, run};
 
 /// A writer takes 10 bytes of a frame and fails, and the client ends.
 fn attach_and_fail(rt: &impl Abort, hub: &mut Hub, log: &mut Log) -> Result<(), Fail> {
     run(hub, &[Call::Attach], log)?;
-    let client = first_client(log);
+    let client = client_of(log, 0);
     let takes = [Take::Bytes(10), Take::Fault];
     let calls = [Call::Frame(client), Call::Pump(client, &takes)];
     run(hub, &calls, log)?;
@@ -47,9 +40,9 @@ fn check_log(rt: &impl Abort, log: &Log) {
 
 #[test]
 fn a_writer_fails(rt: HostRuntime) -> Result<(), Fail> {
-    let mut hub = Hub::new(rt.alloc(), count(24), count(80))?;
-    let mut log = Log::new(rt.alloc());
-    attach_and_fail(&rt, &mut hub, &mut log)?;
-    check_log(&rt, &log);
-    Ok(())
+    with_log(rt.alloc(), (24, 80), |hub, log| {
+        attach_and_fail(&rt, hub, log)?;
+        check_log(&rt, log);
+        Ok(())
+    })
 }

@@ -1,11 +1,12 @@
 //! The longest frame that is made, frames that would be longer, and a stream that is longer than what a view can hold.
-use crate::same::same_for;
-use crate::seen::{blank, cell_of, count, frame_of, text_of};
-use relay_streams::{RelayError, relay, show};
+use crate::owners::{with_hub, with_list, with_view};
+use crate::same::{same, same_for};
+use crate::seen::{cell_of, count, take_frame};
+use relay_streams::{RelayError, relay, show, write_view};
 use std::alloc::{AllocError, Global};
 use std::process::Abort;
 use std::test::Fail;
-use termrelay::{Answer, Client, Hub, HubError};
+use termrelay::{Answer, Client, Hub};
 use termview::{Color, UntilCleared, View};
 
 const DARK: &[u8] = b"\x1b[38;2;100;100;100;48;2;100;100;100mx";
@@ -25,27 +26,23 @@ const CELLS: u16 = 2 * PAIRS + 1;
 /// How many bytes the frame has.
 const FRAME_LEN: usize = 2_097_150;
 
-/// So many pairs of a dark and a light cell, in which hardly one is drawn as the one before it.
-fn cells(alloc: Global, pairs: u16) -> Result<Vec<u8>, AllocError> {
-    let mut cells = Vec::with_capacity(alloc, FRAME_LEN)?;
+/// Adds so many pairs of a dark and a light cell, in which hardly one is drawn as the one before it.
+fn push_pairs(cells: &mut Vec<u8>, pairs: u16) -> Result<(), AllocError> {
     for _ in 0..pairs {
         cells.extend_from_slice(DARK)?;
         cells.extend_from_slice(LIGHT)?;
     }
-    Ok(cells)
-}
-
-fn feed_line(alloc: Global, hub: &mut Hub, last: &[u8]) -> Result<(), Fail> {
-    hub.feed(&cells(alloc, PAIRS)?)?;
-    hub.feed(last)?;
     Ok(())
 }
 
-/// A hub whose screen is one row of such cells, and of this last one.
-fn hub_of(alloc: Global, last: &[u8]) -> Result<Hub, Fail> {
-    let mut hub = Hub::new(alloc, count(1), count(CELLS))?;
-    feed_line(alloc, &mut hub, last)?;
-    Ok(hub)
+/// Feeds a hub one row of such cells, and of this last one.
+fn feed_row(rt: &impl AllocGlobal, hub: &mut Hub, last: &[u8]) -> Result<(), Fail> {
+    with_list(rt.alloc(), |cells| {
+        push_pairs(cells, PAIRS)?;
+        cells.extend_from_slice(last)?;
+        hub.feed(cells)?;
+        Ok(())
+    })
 }
 
 /// A cell's column, and its two colours' parts.
@@ -61,35 +58,34 @@ const COLORS: &[(u16, [u8; 3], [u8; 3])] = &[
 fn check_colors(rt: &impl Abort, view: &View<UntilCleared>) {
     for (col, [r, g, b], [red, green, blue]) in COLORS {
         let wanted = ("x", Color::Rgb(*r, *g, *b), Color::Rgb(*red, *green, *blue));
-        assert_eq!(rt; cell_of(view, 0, *col), wanted, "{col}");
+        same_for(rt, col, &cell_of(view, 0, *col), &wanted);
     }
 }
 
-/// The view shows so many characters `x`, and the cursor is after them.
-fn check_line(
-    rt: &(impl Abort + AllocGlobal),
+/// The view holds so many bytes, and shows so many characters `x`, and the cursor is after them.
+fn check_row(
+    rt: &impl Abort,
     view: &View<UntilCleared>,
-    number: u16,
-) -> Result<(), Fail> {
-    let text = text_of(rt.alloc(), view)?;
+    text: &[u8],
+    (held, number): (usize, u16),
+) {
     let shown = text.iter().take_while(|byte| **byte == b'x').count();
-    let number = usize::from(number);
-    assert_eq!(rt;
-        (text.len(), shown, view.cursor_position()),
-        (number + 1, number, (0, number as u16))
-    );
-    Ok(())
+    let found = (view.sync_bytes_count(), text.len(), shown);
+    let length = usize::from(number);
+    same_for(rt, &number, &found, &(held, length + 1, length));
+    same_for(rt, &number, &view.cursor_position(), &(0, number));
 }
 
-/// The view holds so many bytes, and shows so many characters `x`.
-fn check_held(
+fn check_shown(
     rt: &(impl Abort + AllocGlobal),
     view: &View<UntilCleared>,
-    held: usize,
-    number: u16,
+    wanted: (usize, u16),
 ) -> Result<(), Fail> {
-    assert_eq!(rt; view.sync_bytes_count(), held);
-    check_line(rt, view, number)
+    with_list(rt.alloc(), |text| {
+        write_view(view, text)?;
+        check_row(rt, view, text, wanted);
+        Ok(())
+    })
 }
 
 /// Gives a view all but the last byte, which is answered.
@@ -99,56 +95,76 @@ fn read_front<'a>(view: &mut View<UntilCleared>, frames: &'a [u8]) -> &'a [u8] {
     last
 }
 
-/// A view of the whole frame, but for its last byte at first.
-fn check_longest(rt: &(impl Abort + AllocGlobal), frame: &[u8]) -> Result<(), Fail> {
-    let mut view = blank(rt.alloc(), (1, CELLS))?;
-    let last = read_front(&mut view, frame);
-    check_held(rt, &view, 2_097_141, 0)?;
+/// A view is given a whole frame, but for its last byte at first.
+fn check_longest(
+    rt: &(impl Abort + AllocGlobal),
+    view: &mut View<UntilCleared>,
+    frame: &[u8],
+) -> Result<(), Fail> {
+    let last = read_front(view, frame);
+    check_shown(rt, view, (2_097_141, 0))?;
     view.advance(last);
-    check_held(rt, &view, 0, CELLS)?;
-    check_colors(rt, &view);
+    check_shown(rt, view, (0, CELLS))?;
+    check_colors(rt, view);
     Ok(())
 }
 
-/// The next frame of a client has this answer and this length.
-fn check_frame(
+/// The first frame of a screen that shows such cells, and this last one, has this answer and this length.
+fn check_first(
     rt: &(impl Abort + AllocGlobal),
     hub: &mut Hub,
-    client: Client,
+    frame: &mut Vec<u8>,
     wanted: (Answer, usize),
-) -> Result<Vec<u8>, HubError> {
-    let (answer, frame) = frame_of(rt.alloc(), hub, client)?;
-    same_for(rt, &wanted, &(answer, frame.len()), &wanted);
-    Ok(frame)
+) -> Result<Client, Fail> {
+    let client = hub.attach()?;
+    let answer = take_frame(hub, client, frame)?;
+    same(rt, &(answer, frame.len()), &wanted);
+    Ok(client)
 }
 
-fn longest(rt: &(impl Abort + AllocGlobal), hub: &mut Hub) -> Result<Vec<u8>, HubError> {
-    let client = hub.attach()?;
-    check_frame(rt, hub, client, (Answer::Full, FRAME_LEN))
+fn make_longest(rt: &(impl Abort + AllocGlobal), frame: &mut Vec<u8>) -> Result<(), Fail> {
+    with_hub(rt.alloc(), (1, CELLS), |hub| {
+        feed_row(rt, hub, LAST)?;
+        check_first(rt, hub, frame, (Answer::Full, FRAME_LEN))?;
+        Ok(())
+    })
+}
+
+fn read_longest(rt: &(impl Abort + AllocGlobal), frame: &[u8]) -> Result<(), Fail> {
+    with_view(rt.alloc(), (1, CELLS), |view| {
+        check_longest(rt, view, frame)
+    })
 }
 
 /// A view holds the whole frame but its last byte.
 #[test]
 fn the_longest_frame(rt: HostRuntime) -> Result<(), Fail> {
-    let mut hub = hub_of(rt.alloc(), LAST)?;
-    let frame = longest(&rt, &mut hub)?;
-    check_longest(&rt, &frame)
+    with_list(rt.alloc(), |frame| {
+        make_longest(&rt, frame)?;
+        read_longest(&rt, frame)
+    })
 }
 
-fn check_longer(rt: &(impl Abort + AllocGlobal), hub: &mut Hub) -> Result<(), HubError> {
-    let client = hub.attach()?;
-    check_frame(rt, hub, client, (Answer::TooLong, 0))?;
+fn check_longer(
+    rt: &(impl Abort + AllocGlobal),
+    hub: &mut Hub,
+    frame: &mut Vec<u8>,
+) -> Result<(), Fail> {
+    feed_row(rt, hub, LONGER_LAST)?;
+    let client = check_first(rt, hub, frame, (Answer::TooLong, 0))?;
     hub.feed(b"\x1b[m\x1b[2K")?;
-    same_for(rt, &client, &hub.frame(client)?, &Answer::Full);
+    same(rt, &hub.frame(client)?, &Answer::Full);
     Ok(())
+}
+
+fn check_longer_frame(rt: &(impl Abort + AllocGlobal), frame: &mut Vec<u8>) -> Result<(), Fail> {
+    with_hub(rt.alloc(), (1, CELLS), |hub| check_longer(rt, hub, frame))
 }
 
 /// A frame of one byte more isn't made, and the client's first one comes when it fits.
 #[test]
 fn a_longer_frame(rt: HostRuntime) -> Result<(), Fail> {
-    let mut hub = hub_of(rt.alloc(), LONGER_LAST)?;
-    check_longer(&rt, &mut hub)?;
-    Ok(())
+    with_list(rt.alloc(), |frame| check_longer_frame(&rt, frame))
 }
 
 /// The other sheet is shown for two pieces, and then the first one again.
@@ -163,30 +179,38 @@ fn relay_row(alloc: Global, mut input: &[u8], output: &mut Vec<u8>) -> Result<()
     relay(alloc, count(1), count(60_000), &mut input, output)
 }
 
+/// Shows a screen of one row.
+fn show_row(alloc: Global, mut relayed: &[u8], output: &mut Vec<u8>) -> Result<(), RelayError> {
+    show(alloc, count(1), count(60_000), &mut relayed, output)
+}
+
 /// What was relayed shows an empty row.
-fn check_row(rt: &(impl Abort + AllocGlobal), mut relayed: &[u8]) -> Result<(), Fail> {
-    let mut shown = Vec::new(rt.alloc());
-    show(
-        rt.alloc(),
-        count(1),
-        count(60_000),
-        &mut relayed,
-        &mut shown,
-    )?;
-    same_for(rt, &"show", &shown.as_slice(), &b"\n".as_slice());
-    Ok(())
+fn check_relayed(rt: &(impl Abort + AllocGlobal), relayed: &[u8]) -> Result<(), Fail> {
+    with_list(rt.alloc(), |shown| {
+        show_row(rt.alloc(), relayed, shown)?;
+        same(rt, &shown.as_slice(), &b"\n".as_slice());
+        Ok(())
+    })
+}
+
+/// The frame that would lead back from the other sheet is too long.
+fn check_relay(rt: &(impl Abort + AllocGlobal), input: &[u8]) -> Result<(), Fail> {
+    with_list(rt.alloc(), |relayed| {
+        let answer = relay_row(rt.alloc(), input, relayed);
+        same(rt, &answer, &Err(RelayError::FrameTooLong));
+        check_relayed(rt, relayed)
+    })
 }
 
 /// The other sheet is shown for a while, and the frame that would lead back from it is too long: what was relayed shows
 /// that sheet.
 #[test]
 fn a_relay_that_ends(rt: HostRuntime) -> Result<(), Fail> {
-    let mut input = cells(rt.alloc(), 30_000)?;
-    show_other_sheet(&mut input)?;
-    let mut relayed = Vec::new(rt.alloc());
-    let answer = relay_row(rt.alloc(), &input, &mut relayed);
-    same_for(&rt, &"relay", &answer, &Err(RelayError::FrameTooLong));
-    check_row(&rt, &relayed)
+    with_list(rt.alloc(), |input| {
+        push_pairs(input, 30_000)?;
+        show_other_sheet(input)?;
+        check_relay(&rt, input)
+    })
 }
 
 /// The letter at this place of the alphabet, which goes on from its start.
@@ -204,52 +228,65 @@ fn lines(hub: &mut Hub, client: Client, number: u16, frames: &mut Vec<u8>) -> Re
     Ok(())
 }
 
-/// Rows of 80 letters, with a newline after each, from this letter on.
-fn rows_from(alloc: Global, first: u16) -> Result<Vec<u8>, AllocError> {
-    let mut rows = Vec::new(alloc);
+/// Adds rows of 80 letters, with a newline after each, from this letter on.
+fn push_rows(rows: &mut Vec<u8>, first: u16) -> Result<(), AllocError> {
     for row in first..first.saturating_add(24) {
         rows.extend_from_slice(&[letter(row); 80])?;
         rows.push(b'\n')?;
     }
-    Ok(rows)
+    Ok(())
 }
 
-/// The frames of two thousand lines.
-fn many_lines(alloc: Global, frames: &mut Vec<u8>) -> Result<(), Fail> {
-    let mut hub = Hub::new(alloc, count(24), count(80))?;
-    let client = hub.attach()?;
-    lines(&mut hub, client, 2_000, frames)
+/// Makes the frames of two thousand lines.
+fn many_lines(rt: &impl AllocGlobal, frames: &mut Vec<u8>) -> Result<(), Fail> {
+    with_hub(rt.alloc(), (24, 80), |hub| {
+        let client = hub.attach()?;
+        lines(hub, client, 2_000, frames)
+    })
 }
 
-/// What a view shows of these bytes but the last one.
-fn text_before_last(alloc: Global, frames: &[u8]) -> Result<Vec<u8>, Fail> {
-    let mut view = blank(alloc, (24, 80))?;
-    read_front(&mut view, frames);
-    text_of(alloc, &view)
+/// Adds what a view shows of these bytes but the last one.
+fn show_front(rt: &impl AllocGlobal, frames: &[u8], text: &mut Vec<u8>) -> Result<(), Fail> {
+    with_view(rt.alloc(), (24, 80), |view| {
+        read_front(view, frames);
+        write_view(view, text)?;
+        Ok(())
+    })
+}
+
+/// The rows of a text are these.
+fn check_rows(rt: &(impl Abort + AllocGlobal), text: &[u8], first: u16) -> Result<(), Fail> {
+    with_list(rt.alloc(), |wanted| {
+        push_rows(wanted, first)?;
+        same_for(rt, &first, &text, &wanted.as_slice());
+        Ok(())
+    })
 }
 
 fn check_many(rt: &(impl Abort + AllocGlobal), frames: &[u8]) -> Result<(), Fail> {
-    let text = text_before_last(rt.alloc(), frames)?;
-    let wanted = rows_from(rt.alloc(), 1_975)?;
-    same_for(rt, &frames.len(), &text.as_slice(), &wanted.as_slice());
-    Ok(())
+    same_for(rt, &frames.len(), &(frames.len() > 3_800_000), &true);
+    with_list(rt.alloc(), |text| {
+        show_front(rt, frames, text)?;
+        check_rows(rt, text, 1_975)
+    })
 }
 
 /// Two thousand frames in one piece, which lacks only its last byte, show the last of them but one.
 #[test]
 fn many_frames(rt: HostRuntime) -> Result<(), Fail> {
-    let mut frames = Vec::new(rt.alloc());
-    many_lines(rt.alloc(), &mut frames)?;
-    same_for(&rt, &frames.len(), &(frames.len() > 3_800_000), &true);
-    check_many(&rt, &frames)
+    with_list(rt.alloc(), |frames| {
+        many_lines(&rt, frames)?;
+        check_many(&rt, frames)
+    })
 }
 
 /// A screen of more than a million cells.
 #[test]
 fn many_cells(rt: HostRuntime) -> Result<(), Fail> {
-    let mut view = blank(rt.alloc(), (1_100, 1_000))?;
-    view.advance(b"\x1b[1100;1000Hx");
-    let wanted = ("x", Color::Default, Color::Default);
-    assert_eq!(rt; cell_of(&view, 1_099, 999), wanted);
-    Ok(())
+    with_view(rt.alloc(), (1_100, 1_000), |view| {
+        view.advance(b"\x1b[1100;1000Hx");
+        let wanted = ("x", Color::Default, Color::Default);
+        same(&rt, &cell_of(view, 1_099, 999), &wanted);
+        Ok(())
+    })
 }

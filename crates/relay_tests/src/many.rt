@@ -1,12 +1,13 @@
 //! Many clients on one hub, and the longest sides.
+use crate::owners::{with_hub, with_list};
 use crate::play::Step::{Attach, Feed, Frame, Pump, Resize, Unknown};
 use crate::play::play;
-use crate::seen::count;
-use std::alloc::Global;
+use crate::same::same_for;
+use crate::seen::take_frame;
 use std::process::Abort;
 use std::test::Fail;
 use termrelay::Answer::{Difference, Full};
-use termrelay::{Answer, Client, Hub, HubError};
+use termrelay::{Answer, Client, Hub};
 
 const HI: &[u8] = b"\x1b[?2026h\x1b[?25h\x1b[m\x1b[H\x1b[Jhi\x1b>\x1b[?1l\x1b[?2004l\x1b[?2026l";
 
@@ -19,49 +20,58 @@ const C: &[u8] = b"\x1b[?2026hc\x1b[?2026l";
 /// What a writer takes that takes all.
 const ALL: usize = usize::MAX;
 
-/// Each client gets this answer, and these bytes.
+/// A client gets this answer, and these bytes.
+fn check_frame(
+    rt: &(impl Abort + AllocGlobal),
+    hub: &mut Hub,
+    client: Client,
+    wanted: (Answer, &[u8]),
+) -> Result<(), Fail> {
+    with_list(rt.alloc(), |kept| {
+        let answer = take_frame(hub, client, kept)?;
+        same_for(rt, &client, &(answer, kept.as_slice()), &wanted);
+        Ok(())
+    })
+}
+
 fn check_frames(
     rt: &(impl Abort + AllocGlobal),
     hub: &mut Hub,
     clients: &[Client],
     wanted: (Answer, &[u8]),
-) -> Result<(), HubError> {
+) -> Result<(), Fail> {
     for client in clients {
-        let answer = hub.frame(*client)?;
-        let mut kept = Vec::new(rt.alloc());
-        hub.pump(*client, &mut kept)?;
-        assert_eq!(rt; (answer, kept.as_slice()), wanted, "{client:?}");
+        check_frame(rt, hub, *client, wanted)?;
     }
     Ok(())
-}
-
-fn attached(alloc: Global, hub: &mut Hub, number: usize) -> Result<Vec<Client>, Fail> {
-    let mut clients = Vec::new(alloc);
-    for _ in 0..number {
-        clients.push(hub.attach()?)?;
-    }
-    Ok(clients)
 }
 
 /// So many clients, whose frames are made at two moments.
 fn check_clients(
     rt: &(impl Abort + AllocGlobal),
     hub: &mut Hub,
+    clients: &mut Vec<Client>,
     number: usize,
 ) -> Result<(), Fail> {
-    let clients = attached(rt.alloc(), hub, number)?;
+    for _ in 0..number {
+        clients.push(hub.attach()?)?;
+    }
     hub.feed(b"hi")?;
-    check_frames(rt, hub, &clients, (Full, HI))?;
+    check_frames(rt, hub, clients, (Full, HI))?;
     hub.feed(b"c")?;
-    check_frames(rt, hub, &clients, (Difference, C))?;
-    Ok(())
+    check_frames(rt, hub, clients, (Difference, C))
+}
+
+fn check_number(rt: &(impl Abort + AllocGlobal), hub: &mut Hub, number: usize) -> Result<(), Fail> {
+    with_list(rt.alloc(), |clients| {
+        check_clients(rt, hub, clients, number)
+    })
 }
 
 #[test]
 fn clients(rt: HostRuntime) -> Result<(), Fail> {
     for number in [65, 1000] {
-        let mut hub = Hub::new(rt.alloc(), count(2), count(4))?;
-        check_clients(&rt, &mut hub, number)?;
+        with_hub(rt.alloc(), (2, 4), |hub| check_number(&rt, hub, number))?;
     }
     Ok(())
 }

@@ -1,10 +1,10 @@
 //! A client among others: what comes of it is the same, whatever is done with the others.
-use crate::same::same_for;
-use crate::seen::count;
-use std::alloc::Global;
+use crate::owners::{with_log, with_text};
+use crate::same::{same, same_for};
+use crate::seen::client_of;
 use std::process::Abort;
 use std::test::Fail;
-use termrelay::{Call, Client, Hub, Log, Take, run};
+use termrelay::{Call, Hub, Log, Take, run};
 
 /// A call of a run. Clients are counted in the order of their coming.
 #[derive(Clone, Copy)]
@@ -17,18 +17,6 @@ enum Deed {
 }
 
 use Deed::{Attach, Detach, Feed, Frame, Pump};
-
-/// What becomes of a client: what its calls are answered and what it is owed after each, as text, and all that was
-/// pumped to it.
-type Fate = (String, Vec<u8>);
-
-/// The client that came with this number.
-fn client_of(log: &Log, index: usize) -> Client {
-    match log.sessions().get(index) {
-        Some(session) => session.client(),
-        None => Client::from_key(usize::MAX),
-    }
-}
 
 /// The call that a deed is, and whether it is one of this client's own.
 fn call_of(log: &Log, deed: Deed, own: usize) -> (Call<'static>, bool) {
@@ -48,31 +36,20 @@ fn tell(text: &mut String, hub: &Hub, log: &Log, own: usize) -> Result<(), Fail>
     Ok(())
 }
 
-/// What becomes of the client that came with this number.
-fn fate(alloc: Global, deeds: &[Deed], own: usize) -> Result<Fate, Fail> {
-    let mut log = Log::new(alloc);
-    let mut text = String::new(alloc);
-    run_deeds(alloc, deeds, own, &mut log, &mut text)?;
-    let mut pumped = Vec::new(alloc);
-    if let Some(session) = log.sessions().get(own) {
-        pumped.extend_from_slice(session.pumped())?;
-    }
-    Ok((text, pumped))
-}
-
+/// Does the deeds, and tells what the client that came with this number is answered, and what it is owed after each
+/// answer.
 fn run_deeds(
-    alloc: Global,
-    deeds: &[Deed],
-    own: usize,
+    hub: &mut Hub,
     log: &mut Log,
     text: &mut String,
+    deeds: &[Deed],
+    own: usize,
 ) -> Result<(), Fail> {
-    let mut hub = Hub::new(alloc, count(24), count(80))?;
     for deed in deeds {
         let (call, is_own) = call_of(log, *deed, own);
-        run(&mut hub, &[call], log)?;
+        run(hub, &[call], log)?;
         if is_own {
-            tell(text, &hub, log, own)?;
+            tell(text, hub, log, own)?;
         }
     }
     Ok(())
@@ -144,17 +121,38 @@ const THIRD: &[Deed] = &[
 const SENT: &[u8] = b"\x1b[?2026h\x1b[?25h\x1b[m\x1b[H\x1b[J\x1b>\x1b[?1l\x1b[?2004l\x1b[?2026l\
     \x1b[?2026ha\x1b[?2026l\x1b[?2026h\r\n\x1b[31mb\x1b[?2026l";
 
-/// Both clients are told the same and sent the same.
-fn check_fates(rt: &impl Abort, (first, sent): &Fate, (other, other_sent): &Fate) {
-    same_for(rt, &"told", &first.as_str(), &other.as_str());
-    same_for(rt, &"sent", &sent.as_slice(), &SENT);
-    same_for(rt, &"sent", &other_sent.as_slice(), &SENT);
+fn check_sent(rt: &impl Abort, log: &Log, own: usize) {
+    let sent = log.sessions().get(own).map(|session| session.pumped());
+    same_for(rt, &own, &sent, &Some(SENT));
+}
+
+/// Tells what becomes of a client, which is sent that.
+fn tell_fate(
+    rt: &(impl Abort + AllocGlobal),
+    text: &mut String,
+    deeds: &[Deed],
+    own: usize,
+) -> Result<(), Fail> {
+    with_log(rt.alloc(), (24, 80), |hub, log| {
+        run_deeds(hub, log, text, deeds, own)?;
+        check_sent(rt, log, own);
+        Ok(())
+    })
+}
+
+/// The third client is told this, too.
+fn check_third(rt: &(impl Abort + AllocGlobal), first: &str) -> Result<(), Fail> {
+    with_text(rt.alloc(), |third| {
+        tell_fate(rt, third, THIRD, 2)?;
+        same(rt, &first, &third.as_str());
+        Ok(())
+    })
 }
 
 #[test]
 fn others_change_nothing(rt: HostRuntime) -> Result<(), Fail> {
-    let first = fate(rt.alloc(), FIRST, 0)?;
-    let third = fate(rt.alloc(), THIRD, 2)?;
-    check_fates(&rt, &first, &third);
-    Ok(())
+    with_text(rt.alloc(), |first| {
+        tell_fate(&rt, first, FIRST, 0)?;
+        check_third(&rt, first)
+    })
 }

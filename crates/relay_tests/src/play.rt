@@ -2,8 +2,8 @@
 //!
 //! A call that found no memory has changed nothing and is made again, but for a feed, after which the hub has failed.
 use crate::same::same_for;
-use crate::seen::count;
-use crate::sink::Sink;
+use crate::seen::{count, fault_of};
+use crate::sinks::Sink;
 use std::alloc::{AllocError, Global};
 use std::io::ErrorKind;
 use std::process::Abort;
@@ -61,15 +61,6 @@ fn retried_contents(screen: &Screen) -> Result<String, Fail> {
     match screen.contents() {
         Ok(contents) => Ok(contents),
         Err(_) => Ok(screen.contents()?),
-    }
-}
-
-/// The kind of a writer's fault; `NotFound` stands for any other refusal.
-fn fault_of(answer: &Result<(), HubError>) -> Option<ErrorKind> {
-    match answer {
-        Ok(()) => None,
-        Err(HubError::Write(error)) => Some(error.kind()),
-        Err(_) => Some(ErrorKind::NotFound),
     }
 }
 

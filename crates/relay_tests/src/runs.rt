@@ -2,7 +2,7 @@
 use crate::play::Step::{
     Attach, Color, Detach, Feed, Frame, NoFrame, Pump, Resize, Shows, Unknown,
 };
-use crate::play::play;
+use crate::play::{Step, play};
 use std::test::Fail;
 use termrelay::Answer::{Behind, Difference, Full, Unchanged, Unsure};
 
@@ -16,7 +16,7 @@ const ALL: usize = usize::MAX;
 /// A word is drawn over, and a second client comes late.
 #[test]
 fn a_word_is_drawn_over(rt: HostRuntime) -> Result<(), Fail> {
-    let steps = &[
+    const STEPS: &[Step] = &[
         Attach,
         Feed(b"this text is \x1b[31mRED\x1b[m"),
         Frame(
@@ -40,7 +40,7 @@ fn a_word_is_drawn_over(rt: HostRuntime) -> Result<(), Fail> {
             b"\x1b[?2026h\x1b[?25h\x1b[m\x1b[H\x1b[Jthis text is \x1b[32mGREEN\x1b>\x1b[?1l\x1b[?2004l\x1b[?2026l",
         ),
     ];
-    play(&rt, (24, 80), steps)
+    play(&rt, (24, 80), STEPS)
 }
 
 /// A size, a stream and the first frame, and then another stream and the next frame.
@@ -118,7 +118,7 @@ fn differences(rt: HostRuntime) -> Result<(), Fail> {
 /// Half a character shows nothing, and a frame doesn't end it.
 #[test]
 fn half_a_character(rt: HostRuntime) -> Result<(), Fail> {
-    let steps = &[
+    const STEPS: &[Step] = &[
         Attach,
         Frame(0, Full, BLANK),
         Pump(0, ALL),
@@ -134,26 +134,26 @@ fn half_a_character(rt: HostRuntime) -> Result<(), Fail> {
         Feed(b"\xA9"),
         Frame(0, Difference, b"\x1b[?2026h\xC3\xA9\x1b[?2026l"),
     ];
-    play(&rt, (2, 4), steps)
+    play(&rt, (2, 4), STEPS)
 }
 
 /// A wide character has no room on one column.
 #[test]
 fn no_room_for_a_wide_character(rt: HostRuntime) -> Result<(), Fail> {
-    let steps = &[
+    const STEPS: &[Step] = &[
         Attach,
         Frame(0, Full, BLANK),
         Pump(0, ALL),
         Feed(b"\xE4\xB8\xAD"),
         NoFrame(0, Unchanged),
     ];
-    play(&rt, (2, 1), steps)
+    play(&rt, (2, 1), STEPS)
 }
 
 /// A screen that asks for an emoji, and one that doesn't any more.
 #[test]
 fn an_emoji_comes_and_goes(rt: HostRuntime) -> Result<(), Fail> {
-    let steps = &[
+    const STEPS: &[Step] = &[
         Attach,
         Feed(b"\xE2\x9D\xA4\xEF\xB8\x8F"),
         Frame(
@@ -169,7 +169,7 @@ fn an_emoji_comes_and_goes(rt: HostRuntime) -> Result<(), Fail> {
             b"\x1b[?2026h\x1b[?25h\x1b[m\x1b[H\x1b[J\x1b[2C\x1b[?2026l",
         ),
     ];
-    play(&rt, (2, 4), steps)
+    play(&rt, (2, 4), STEPS)
 }
 
 /// A size, a stream, what is shown then, and the first frame.
@@ -222,7 +222,7 @@ fn first_frames(rt: HostRuntime) -> Result<(), Fail> {
 /// The writer fails in mid-frame, and the next one gets the rest.
 #[test]
 fn a_writer_fails(rt: HostRuntime) -> Result<(), Fail> {
-    let steps = &[
+    const STEPS: &[Step] = &[
         Attach,
         Frame(0, Full, BLANK),
         Pump(0, 10),
@@ -231,21 +231,20 @@ fn a_writer_fails(rt: HostRuntime) -> Result<(), Fail> {
         Pump(0, 36),
         Frame(0, Difference, b"\x1b[?2026hx\x1b[?2026l"),
     ];
-    play(&rt, (24, 80), steps)
+    play(&rt, (24, 80), STEPS)
 }
 
 /// Every client ends, also where the size stays.
 #[test]
 fn sizes(rt: HostRuntime) -> Result<(), Fail> {
-    let same = &[
+    const SAME: &[Step] = &[
         Attach,
         Resize(24, 80),
         Unknown(0),
         Attach,
         Frame(1, Full, BLANK),
     ];
-    play(&rt, (24, 80), same)?;
-    let higher = &[
+    const HIGHER: &[Step] = &[
         Feed(b"a\r\nb\r\nc"),
         Resize(4, 4),
         Shows("\nb\nc", (2, 1)),
@@ -256,13 +255,14 @@ fn sizes(rt: HostRuntime) -> Result<(), Fail> {
             b"\x1b[?2026h\x1b[?25h\x1b[m\x1b[H\x1b[J\r\nb\r\nc\x1b>\x1b[?1l\x1b[?2004l\x1b[?2026l",
         ),
     ];
-    play(&rt, (2, 4), higher)
+    play(&rt, (24, 80), SAME)?;
+    play(&rt, (2, 4), HIGHER)
 }
 
 /// Clients that never came or have ended are unknown.
 #[test]
 fn clients_end(rt: HostRuntime) -> Result<(), Fail> {
-    let steps = &[
+    const STEPS: &[Step] = &[
         Unknown(7),
         Attach,
         Frame(0, Full, BLANK),
@@ -274,13 +274,13 @@ fn clients_end(rt: HostRuntime) -> Result<(), Fail> {
         NoFrame(1, Unchanged),
         Pump(1, 0),
     ];
-    play(&rt, (24, 80), steps)
+    play(&rt, (24, 80), STEPS)
 }
 
 /// Each client's frames lead on from its own last one, however many were made at one moment.
 #[test]
 fn bases_are_each_clients_own(rt: HostRuntime) -> Result<(), Fail> {
-    let steps = &[
+    const STEPS: &[Step] = &[
         Attach,
         Attach,
         Attach,
@@ -298,7 +298,7 @@ fn bases_are_each_clients_own(rt: HostRuntime) -> Result<(), Fail> {
         Frame(0, Difference, b"\x1b[?2026hy\x1b[?2026l"),
         Frame(2, Difference, b"\x1b[?2026hxy\x1b[?2026l"),
     ];
-    play(&rt, (24, 80), steps)
+    play(&rt, (24, 80), STEPS)
 }
 
 /// Client number 65 is one like the others: it gets frames of its own, ends alone, and another one comes after it.

@@ -1,10 +1,11 @@
-//! Hubs, views, and what is seen of them.
-use relay_streams::write_view;
-use std::alloc::Global;
+//! What is seen of hubs, logs and views.
+use crate::same::same_for;
+use std::fmt::Debug;
+use std::io::ErrorKind;
 use std::num::NonZeroU16;
-use std::test::Fail;
-use termrelay::{Answer, Client, Hub, HubError};
-use termview::{Color, UntilCleared, View, ViewError};
+use std::process::Abort;
+use termrelay::{Answer, Client, Hub, HubError, Log};
+use termview::{Color, UntilCleared, View};
 
 /// Rows and columns.
 pub type Size = (u16, u16);
@@ -14,28 +15,28 @@ pub fn count(number: u16) -> NonZeroU16 {
     NonZeroU16::new(number).unwrap_or(NonZeroU16::MIN)
 }
 
-/// A view of this size that shows nothing.
-pub fn blank(alloc: Global, size: Size) -> Result<View<UntilCleared>, ViewError> {
-    View::new(alloc, count(size.0), count(size.1), UntilCleared::new())
+/// The client that came with this number in a run.
+pub fn client_of(log: &Log, index: usize) -> Client {
+    match log.sessions().get(index) {
+        Some(session) => session.client(),
+        None => Client::from_key(usize::MAX),
+    }
 }
 
-/// The rows of what a view shows, with a newline after each.
-pub fn text_of(alloc: Global, view: &View<UntilCleared>) -> Result<Vec<u8>, Fail> {
-    let mut text = Vec::new(alloc);
-    write_view(view, &mut text)?;
-    Ok(text)
-}
-
-/// What a client that asks for a frame is answered and sent.
-pub fn frame_of(
-    alloc: Global,
-    hub: &mut Hub,
-    client: Client,
-) -> Result<(Answer, Vec<u8>), HubError> {
+/// What a client that asks for a frame is answered. What it is sent then is added to the list.
+pub fn take_frame(hub: &mut Hub, client: Client, frame: &mut Vec<u8>) -> Result<Answer, HubError> {
     let answer = hub.frame(client)?;
-    let mut frame = Vec::new(alloc);
-    hub.pump(client, &mut frame)?;
-    Ok((answer, frame))
+    hub.pump(client, frame)?;
+    Ok(answer)
+}
+
+/// The kind of a writer's fault; `NotFound` stands for any other refusal.
+pub fn fault_of(answer: &Result<(), HubError>) -> Option<ErrorKind> {
+    match answer {
+        Ok(()) => None,
+        Err(HubError::Write(error)) => Some(error.kind()),
+        Err(_) => Some(ErrorKind::NotFound),
+    }
 }
 
 /// A cell's text and colours.
@@ -44,4 +45,20 @@ pub fn cell_of(view: &View<UntilCleared>, row: u16, col: u16) -> (&str, Color, C
         Some(cell) => (cell.contents(), cell.fgcolor(), cell.bgcolor()),
         None => ("no cell", Color::Default, Color::Default),
     }
+}
+
+/// A cell's text, its colour in the palette, and where the cursor is.
+pub type Drawn = (&'static str, u8, (u16, u16));
+
+/// A view's cell at this row and column is drawn so.
+pub fn check_drawn<A: Debug>(
+    rt: &impl Abort,
+    asked: &A,
+    view: &View<UntilCleared>,
+    (row, col): (u16, u16),
+    (text, color, cursor): Drawn,
+) {
+    let found = (cell_of(view, row, col), view.cursor_position());
+    let cell = (text, Color::Idx(color), Color::Default);
+    same_for(rt, asked, &found, &(cell, cursor));
 }

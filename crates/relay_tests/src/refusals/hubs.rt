@@ -1,13 +1,13 @@
 //! Hubs and runs that find no memory.
+use crate::owners::{with_hub, with_log, with_view};
 use crate::refusals::far::Far;
-use crate::refusals::owing::{HI, attach_and_frame, check_owed, new_hub, owing};
+use crate::refusals::owing::{HI, attach_and_frame, check_owed, owing};
 use crate::same::same_for;
-use crate::seen::count;
-use std::alloc::Global;
+use crate::seen::{cell_of, count};
 use std::process::Abort;
 use std::test::Fail;
 use termrelay::{Answer, Call, Client, Hub, HubError, Log, Reply, Take, run};
-use termview::ViewError;
+use termview::{UntilCleared, View};
 
 /// The hub has failed, says this answer.
 fn is_failed<T>(answer: &Result<T, HubError>) -> bool {
@@ -27,21 +27,22 @@ fn check_failed(rt: &impl Abort, hub: &mut Hub, client: Client) {
     same_for(rt, &client, &answers, &[true; 5]);
 }
 
-/// A view, made at the second try if the first was refused.
-fn new_far(alloc: Global) -> Result<Far, ViewError> {
-    match Far::new(alloc) {
-        Ok(far) => Ok(far),
-        Err(_) => Far::new(alloc),
-    }
-}
-
 /// What the client is owed is pumped to a view, which shows it.
-fn check_shown(rt: &(impl Abort + AllocGlobal), hub: &mut Hub, client: Client) -> Result<(), Fail> {
-    let mut far = new_far(rt.alloc())?;
-    hub.pump(client, &mut far)?;
-    same_for(rt, &client, &(far.text(0), far.text(1)), &("h", "i"));
+fn check_pump(
+    rt: &impl Abort,
+    hub: &mut Hub,
+    client: Client,
+    view: &mut View<UntilCleared>,
+) -> Result<(), Fail> {
+    hub.pump(client, &mut Far { view })?;
+    let ((first, _, _), (second, _, _)) = (cell_of(view, 0, 0), cell_of(view, 0, 1));
+    same_for(rt, &client, &(first, second), &("h", "i"));
     check_owed(rt, hub, client, Some(b""));
     Ok(())
+}
+
+fn check_shown(rt: &(impl Abort + AllocGlobal), hub: &mut Hub, client: Client) -> Result<(), Fail> {
+    with_view(rt.alloc(), (2, 4), |view| check_pump(rt, hub, client, view))
 }
 
 /// What is fed takes memory. Without it the hub has failed, and what was owed before can still be sent.
@@ -60,17 +61,19 @@ fn check_feed(rt: &(impl Abort + AllocGlobal), hub: &mut Hub, bytes: &[u8]) -> R
 
 #[test]
 fn an_alternate_sheet(rt: HostRuntime) -> Result<(), Fail> {
-    let mut hub = new_hub(rt.alloc())?;
-    check_feed(&rt, &mut hub, b"\x1b[?1049hz")
+    with_hub(
+        rt.alloc(),
+        (2, 4),
+        |hub| check_feed(&rt, hub, b"\x1b[?1049hz"),
+    )
 }
 
 #[test]
 fn a_reset(rt: HostRuntime) -> Result<(), Fail> {
-    let mut hub = new_hub(rt.alloc())?;
-    check_feed(&rt, &mut hub, b"z\x1bcz")
+    with_hub(rt.alloc(), (2, 4), |hub| check_feed(&rt, hub, b"z\x1bcz"))
 }
 
-fn check_resize(rt: &impl Abort, hub: &mut Hub) -> Result<(), HubError> {
+fn check_resize(rt: &impl Abort, hub: &mut Hub) -> Result<(), Fail> {
     let client = owing(rt, hub)?;
     if hub.resize(count(3), count(4)).is_err() {
         check_owed(rt, hub, client, Some(HI));
@@ -84,9 +87,7 @@ fn check_resize(rt: &impl Abort, hub: &mut Hub) -> Result<(), HubError> {
 /// Refused, it ends no client.
 #[test]
 fn a_resize(rt: HostRuntime) -> Result<(), Fail> {
-    let mut hub = new_hub(rt.alloc())?;
-    check_resize(&rt, &mut hub)?;
-    Ok(())
+    with_hub(rt.alloc(), (2, 4), |hub| check_resize(&rt, hub))
 }
 
 /// A reply in words.
@@ -199,7 +200,5 @@ fn check_run(rt: &impl Abort, hub: &mut Hub, log: &mut Log) -> Result<(), Fail> 
 /// Where the log has no room the run ends before that call, and the rest can be made as if nothing had been.
 #[test]
 fn a_run(rt: HostRuntime) -> Result<(), Fail> {
-    let mut hub = new_hub(rt.alloc())?;
-    let mut log = Log::new(rt.alloc());
-    check_run(&rt, &mut hub, &mut log)
+    with_log(rt.alloc(), (2, 4), |hub, log| check_run(&rt, hub, log))
 }

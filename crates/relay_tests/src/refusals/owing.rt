@@ -1,21 +1,11 @@
 //! Hubs, whose refused calls are made again.
 use crate::same::same_for;
-use crate::seen::count;
-use std::alloc::Global;
 use std::process::Abort;
 use termrelay::{Answer, Client, Hub, HubError};
 
 /// The first frame of a screen that shows `hi`.
 pub const HI: &[u8] =
     b"\x1b[?2026h\x1b[?25h\x1b[m\x1b[H\x1b[Jhi\x1b>\x1b[?1l\x1b[?2004l\x1b[?2026l";
-
-/// A hub of 2 by 4.
-pub fn new_hub(alloc: Global) -> Result<Hub, HubError> {
-    match Hub::new(alloc, count(2), count(4)) {
-        Ok(hub) => Ok(hub),
-        Err(_) => Hub::new(alloc, count(2), count(4)),
-    }
-}
 
 /// The client is owed these bytes, or is unknown.
 pub fn check_owed(rt: &impl Abort, hub: &Hub, client: Client, wanted: Option<&[u8]>) {

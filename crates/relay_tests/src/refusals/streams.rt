@@ -1,15 +1,16 @@
 //! Views, processors and streams that find no memory.
 ghost use Rattle.std.specs.Prelude.{⊤};
 
+use crate::owners::{first_key, with_far_view, with_view};
 use crate::same::same_for;
-use crate::seen::{blank, cell_of, count};
-use relay_streams::{RelayError, far_view, relay, show};
+use crate::seen::{Drawn, cell_of, check_drawn, count};
+use relay_streams::{RelayError, relay, show};
 use scripted_io::Narrow;
 use std::alloc::{AllocError, Global};
 use std::process::Abort;
 use std::test::Fail;
-use termrelay::{Call, Client, Hub, HubError, Log, run};
-use termview::{Color, UntilCleared, View, ViewError};
+use termrelay::Call;
+use termview::{Color, UntilCleared, View};
 use vte::ansi::{Handler, OutOfMemory, Processor};
 
 /// Room for so many bytes, made at the second try if the first was refused.
@@ -17,14 +18,6 @@ fn room(alloc: Global, length: usize) -> Result<Vec<u8>, AllocError> {
     match Vec::with_capacity(alloc, length) {
         Ok(room) => Ok(room),
         Err(_) => Vec::with_capacity(alloc, length),
-    }
-}
-
-/// A view of 2 by 4, made at the second try if the first was refused.
-fn new_view(alloc: Global) -> Result<View<UntilCleared>, ViewError> {
-    match blank(alloc, (2, 4)) {
-        Ok(view) => Ok(view),
-        Err(_) => blank(alloc, (2, 4)),
     }
 }
 
@@ -36,10 +29,11 @@ fn check_view(rt: &impl Abort, view: &View<UntilCleared>) {
 
 #[test]
 fn views(rt: HostRuntime) -> Result<(), Fail> {
-    let mut view = new_view(rt.alloc())?;
-    view.advance(b"\x1b[31mhi\x1b[?2026hx");
-    check_view(&rt, &view);
-    Ok(())
+    with_view(rt.alloc(), (2, 4), |view| {
+        view.advance(b"\x1b[31mhi\x1b[?2026hx");
+        check_view(&rt, view);
+        Ok(())
+    })
 }
 
 /// How many calls there were.
@@ -74,74 +68,25 @@ fn processors(rt: HostRuntime) -> Result<(), Fail> {
     Ok(())
 }
 
-/// A hub of 24 by 80, made at the second try if the first was refused.
-fn new_hub(alloc: Global) -> Result<Hub, HubError> {
-    match Hub::new(alloc, count(24), count(80)) {
-        Ok(hub) => Ok(hub),
-        Err(_) => Hub::new(alloc, count(24), count(80)),
-    }
-}
+/// How many bytes of two frames are taken, and the cell and the cursor then.
+const TAKEN: &[(usize, Drawn)] = &[(102, ("R", 1, (0, 16))), (103, ("G", 2, (0, 18)))];
 
-/// Attaches a client by a run, again where the log or the hub found no memory.
-fn attach(hub: &mut Hub, log: &mut Log) -> Result<(), HubError> {
-    if run(hub, &[Call::Attach], log).is_err() {
-        run(hub, &[Call::Attach], log)?;
-    }
-    if log.sessions().is_empty() {
-        run(hub, &[Call::Attach], log)?;
-    }
-    Ok(())
-}
-
-/// The key that a new hub gives its first client.
-fn first_client(alloc: Global) -> Result<Client, HubError> {
-    let mut hub = new_hub(alloc)?;
-    let mut log = Log::new(alloc);
-    attach(&mut hub, &mut log)?;
-    match log.sessions().first() {
-        Some(session) => Ok(session.client()),
-        None => Ok(Client::from_key(0)),
-    }
-}
-
-/// A far view of 24 by 80, and whether the first try was refused for memory.
-fn retried_far_view(
-    alloc: Global,
-    calls: &[Call<'_>],
-    take: usize,
-) -> Result<Option<View<UntilCleared>>, RelayError> {
-    match far_view(alloc, count(24), count(80), calls, 0, take, &[50]) {
-        Err(RelayError::Memory) => far_view(alloc, count(24), count(80), calls, 0, take, &[50]),
-        answer => answer,
-    }
-}
-
-/// How many bytes of two frames are taken, and the cell and the cursor's column then.
-const TAKEN: [(usize, &str, Color, u16); 2] = [
-    (102, "R", Color::Idx(1), 16),
-    (103, "G", Color::Idx(2), 18),
-];
-
-/// A far view of so many bytes shows this cell, and this column of the cursor.
+/// A far view of so many bytes is drawn so.
 fn check_far_view(
     rt: &(impl Abort + AllocGlobal),
     calls: &[Call<'_>],
-    (take, text, color, col): (usize, &str, Color, u16),
+    take: usize,
+    wanted: Drawn,
 ) -> Result<(), Fail> {
-    let view = retried_far_view(rt.alloc(), calls, take)?.ok_or("no view")?;
-    let shown = (cell_of(&view, 0, 13), view.cursor_position());
-    same_for(
-        rt,
-        &take,
-        &shown,
-        &((text, color, Color::Default), (0, col)),
-    );
-    Ok(())
+    with_far_view(rt.alloc(), (24, 80), calls, (take, &[50]), |view| {
+        check_drawn(rt, &take, view, (0, 13), wanted);
+        Ok(())
+    })
 }
 
 #[test]
 fn far_views(rt: HostRuntime) -> Result<(), Fail> {
-    let client = first_client(rt.alloc())?;
+    let client = first_key(rt.alloc())?;
     let calls = [
         Call::Attach,
         Call::Feed(b"this text is \x1b[31mRED\x1b[m"),
@@ -151,8 +96,8 @@ fn far_views(rt: HostRuntime) -> Result<(), Fail> {
         Call::Frame(client),
         Call::Pump(client, &[]),
     ];
-    for taken in TAKEN {
-        check_far_view(&rt, &calls, taken)?;
+    for (take, wanted) in TAKEN {
+        check_far_view(&rt, &calls, *take, *wanted)?;
     }
     Ok(())
 }

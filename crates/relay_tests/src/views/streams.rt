@@ -1,9 +1,10 @@
 //! Streams on a view.
-use crate::same::same;
-use crate::seen::Size;
-use crate::views::shown::{settings, shown, view};
+use crate::owners::with_view;
+use crate::same::same_for;
+use crate::seen::{Size, cell_of};
+use crate::views::shown::{check_settings, check_shown, feed};
 use std::test::Fail;
-use vt100_forms::Color;
+use termview::Color;
 
 /// A size, a stream, and the view then.
 const STREAMS: &[(Size, &str, &str)] = &[
@@ -34,9 +35,10 @@ const STREAMS: &[(Size, &str, &str)] = &[
 #[test]
 fn streams(rt: HostRuntime) -> Result<(), Fail> {
     for (size, stream, wanted) in STREAMS {
-        let view = view(rt.alloc(), *size, stream)?;
-        let text = shown(rt.alloc(), &view)?;
-        same(&rt, &(stream, text.as_str()), &(stream, *wanted));
+        with_view(rt.alloc(), *size, |view| {
+            feed(view, stream.as_bytes());
+            check_shown(&rt, stream, view, wanted, 0)
+        })?;
     }
     Ok(())
 }
@@ -77,9 +79,10 @@ const SETTINGS: &[(&str, &str)] = &[
 #[test]
 fn modes_and_attributes(rt: HostRuntime) -> Result<(), Fail> {
     for (stream, wanted) in SETTINGS {
-        let view = view(rt.alloc(), (2, 4), stream)?;
-        let text = settings(rt.alloc(), &view)?;
-        same(&rt, &(stream, text.as_str()), &(stream, *wanted));
+        with_view(rt.alloc(), (2, 4), |view| {
+            feed(view, stream.as_bytes());
+            check_settings(&rt, stream, view, wanted)
+        })?;
     }
     Ok(())
 }
@@ -96,11 +99,12 @@ const COLORS: &[(&str, Color)] = &[
 #[test]
 fn colors(rt: HostRuntime) -> Result<(), Fail> {
     for (stream, wanted) in COLORS {
-        let view = view(rt.alloc(), (1, 3), stream)?;
-        let found = view
-            .cell(0, 0)
-            .map(|cell| (cell.contents(), cell.fgcolor()));
-        same(&rt, &(stream, found), &(stream, Some(("A", *wanted))));
+        with_view(rt.alloc(), (1, 3), |view| {
+            feed(view, stream.as_bytes());
+            let wanted = ("A", *wanted, Color::Default);
+            same_for(&rt, stream, &cell_of(view, 0, 0), &wanted);
+            Ok(())
+        })?;
     }
     Ok(())
 }

@@ -1,8 +1,8 @@
 //! Synchronized updates: the frames of a screen, whole and in part.
-use crate::same::same;
-use crate::seen::{Size, blank};
-use crate::views::shown::{feed, settings, shown};
-use std::alloc::Global;
+use crate::owners::with_view;
+use crate::seen::Size;
+use crate::views::shown::{check_settings, check_shown, feed};
+use std::process::Abort;
 use std::test::Fail;
 use termview::{UntilCleared, View};
 
@@ -55,86 +55,89 @@ const FRAMES: &[(Size, &str, &str, &str)] = &[
 #[test]
 fn frames(rt: HostRuntime) -> Result<(), Fail> {
     for (size, first, next, wanted) in FRAMES {
-        let mut view = blank(rt.alloc(), *size)?;
-        read(&mut view, &[RESET, first, MODES]);
-        read(&mut view, &[next]);
-        let text = shown(rt.alloc(), &view)?;
-        same(&rt, &(first, next, text.as_str()), &(first, next, *wanted));
+        with_view(rt.alloc(), *size, |view| {
+            read(view, &[RESET, first, MODES]);
+            read(view, &[next]);
+            check_shown(&rt, &(first, next), view, wanted, 0)
+        })?;
     }
     Ok(())
 }
 
+/// What a frame draws, and its modes.
+const PARTS: &[&str] = &[
+    RESET,
+    "\x1b[91mA",
+    "\x1b=\x1b[?1h\x1b[?2004l\x1b[?1000h\x1b[?1006h\x1b[4 q",
+];
+
 #[test]
 fn modes_of_a_frame(rt: HostRuntime) -> Result<(), Fail> {
-    let mut view = blank(rt.alloc(), (1, 3))?;
-    read(
-        &mut view,
-        &[
-            RESET,
-            "\x1b[91mA",
-            "\x1b=\x1b[?1h\x1b[?2004l\x1b[?1000h\x1b[?1006h\x1b[4 q",
-        ],
-    );
-    let text = settings(rt.alloc(), &view)?;
-    let wanted = "kc PressRelease Sgr SteadyUnderline Idx(9) Default  ";
-    same(&rt, &text.as_str(), &wanted);
-    Ok(())
+    with_view(rt.alloc(), (1, 3), |view| {
+        read(view, PARTS);
+        let wanted = "kc PressRelease Sgr SteadyUnderline Idx(9) Default  ";
+        check_settings(&rt, &"modes", view, wanted)
+    })
 }
 
-/// What a view shows, and how many bytes it holds.
-fn held(alloc: Global, view: &View<UntilCleared>) -> Result<(String, usize), Fail> {
-    Ok((shown(alloc, view)?, view.sync_bytes_count()))
+fn check_held(rt: &(impl Abort + AllocGlobal), view: &mut View<UntilCleared>) -> Result<(), Fail> {
+    feed(view, b"\x1b[?2026hhi");
+    check_shown(rt, &"held", view, "..../..../ 0 0", 2)?;
+    view.stop_sync();
+    check_shown(rt, &"stopped", view, "hi../..../ 0 2", 0)
 }
 
 #[test]
 fn an_update_is_held(rt: HostRuntime) -> Result<(), Fail> {
-    let mut view = blank(rt.alloc(), (2, 4))?;
-    feed(&mut view, b"\x1b[?2026hhi");
-    let (text, count) = held(rt.alloc(), &view)?;
-    same(&rt, &(text.as_str(), count), &("..../..../ 0 0", 2));
-    view.stop_sync();
-    let (text, count) = held(rt.alloc(), &view)?;
-    same(&rt, &(text.as_str(), count), &("hi../..../ 0 2", 0));
-    Ok(())
+    with_view(rt.alloc(), (2, 4), |view| check_held(&rt, view))
 }
 
 /// A first frame, of two characters.
 const FRAME: &[u8] = b"\x1b[?2026h\x1b[?25h\x1b[m\x1b[H\x1b[Jhi\x1b>\x1b[?1l\x1b[?2004l\x1b[?2026l";
 
-/// A frame that is cut anywhere shows at its last byte, and not before.
+/// How many bytes of a frame the view holds that was given so many of them.
+fn held(given: usize) -> usize {
+    given.saturating_sub(START.len())
+}
+
+/// A frame that is cut here shows at its last byte, and not before.
+fn check_cut(
+    rt: &(impl Abort + AllocGlobal),
+    view: &mut View<UntilCleared>,
+    cut: usize,
+) -> Result<(), Fail> {
+    let (front, rest) = FRAME.split_at(cut.min(FRAME.len()));
+    feed(view, front);
+    check_shown(rt, &cut, view, "..../..../ 0 0", held(cut))?;
+    feed(view, rest);
+    check_shown(rt, &cut, view, "hi../..../ 0 2", 0)
+}
+
 #[test]
 fn a_frame_is_never_torn(rt: HostRuntime) -> Result<(), Fail> {
     for cut in 0..FRAME.len() {
-        let mut view = blank(rt.alloc(), (2, 4))?;
-        feed(&mut view, &FRAME[..cut]);
-        let before = shown(rt.alloc(), &view)?;
-        feed(&mut view, &FRAME[cut..]);
-        let after = shown(rt.alloc(), &view)?;
-        same(
-            &rt,
-            &(cut, before.as_str(), after.as_str()),
-            &(cut, "..../..../ 0 0", "hi../..../ 0 2"),
-        );
+        with_view(rt.alloc(), (2, 4), |view| check_cut(&rt, view, cut))?;
     }
     Ok(())
 }
 
 /// Wherever its update is stopped, a whole frame shows in the end, and nothing is held.
+fn check_stop(
+    rt: &(impl Abort + AllocGlobal),
+    view: &mut View<UntilCleared>,
+    cut: usize,
+) -> Result<(), Fail> {
+    let (front, rest) = FRAME.split_at(cut.min(FRAME.len()));
+    feed(view, front);
+    view.stop_sync();
+    feed(view, rest);
+    check_shown(rt, &cut, view, "hi../..../ 0 2", 0)
+}
+
 #[test]
 fn a_stop_after_any_byte(rt: HostRuntime) -> Result<(), Fail> {
-    for cut in 0..FRAME.len() {
-        let (front, rest) = FRAME.split_at(cut + 1);
-        let mut view = blank(rt.alloc(), (2, 4))?;
-        feed(&mut view, front);
-        view.stop_sync();
-        feed(&mut view, rest);
-        let text = shown(rt.alloc(), &view)?;
-        let count = view.sync_bytes_count();
-        same(
-            &rt,
-            &(cut, text.as_str(), count),
-            &(cut, "hi../..../ 0 2", 0),
-        );
+    for cut in 1..FRAME.len() + 1 {
+        with_view(rt.alloc(), (2, 4), |view| check_stop(&rt, view, cut))?;
     }
     Ok(())
 }
