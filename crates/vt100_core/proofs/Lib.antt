@@ -2,6 +2,7 @@ pub mod GridLemmas
 pub mod ShowLemmas
 pub mod ContentsLemmas
 pub mod EraseLemmas
+pub mod CursorRow
 pub mod KeepLemmas
 pub mod ScrollLemmas
 pub mod StayLemmas

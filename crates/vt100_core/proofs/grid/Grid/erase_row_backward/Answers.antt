@@ -3,6 +3,8 @@ use Rattle.std.proofs.lemmas.Grind.{common_steps}
 use Rattle.vt100_core.specs.Erase.{columns_to_cursor}
 use Rattle.vt100_core.proofs.GridLemmas.{IsGrid-at}
 use Rattle.vt100_core.proofs.EraseLemmas.{IsGrid-columns_erased, columns_to_cursor-fit}
+use Rattle.vt100_core.specs.GridFields.{grid_of}
+use Rattle.vt100_core.proofs.CursorRow.{cursor_row-wide}
 use Rattle.vt100_core.proofs.grid.Grid.erase_row_backward.Goals as goal
 
 pub invariant_of-self : goal.invariant_of-self
@@ -11,3 +13,10 @@ invariant_of-self c =
     (rw (← c.self.view_is) c.self.invariant) c.requires
     (columns_to_cursor-fit c.args.self.now (rw (← c.self.view_is) c.self.invariant)))
     (grind (arith, common_steps))
+
+pub erase_range-requires : goal.erase_range-requires
+erase_range-requires c =
+    let own = grid_of c.self.inside in
+    let wide = cursor_row-wide own c.args.self.now c.from.result c.index_mut.result.now c.self.view_is
+    c.self.invariant c.requires c.from.ensures c.index_mut.ensures.value in
+    omega (arith, wide, c.self.invariant.some_cols)

@@ -1,0 +1,32 @@
+-- The cursor's row, as code reads it and puts it back. The grid s is what the fields g give.
+use Rattle.std.proofs.Common.{◌≡◌, ℕ, ◌<◌, length, set, get_or, sym, ap, subst, ◌∙◌, arith}
+use Rattle.std.proofs.lemmas.List.{get_or_read}
+use Rattle.vt100_rows.specs.Row.{RowView, blank_row}
+use Rattle.vt100_rows.specs.Sheet.{row_at}
+use Rattle.vt100_core.specs.Grid.{GridView, IsGrid, IsAllocated, row_of_cursor, with_cursor_row}
+use Rattle.vt100_core.proofs.EraseLemmas.{cursor_row_of}
+
+read-at : (g s : GridView) (r : ℕ) (v : RowView) → g ≡ s → IsGrid g → IsAllocated s → r ≡ g.row
+    → v ≡ get_or g.rows r v → v ≡ row_at g.rows r
+read-at g s r v e i a er ev =
+    let l : IsAllocated g = subst (λ (x : GridView). IsAllocated x) (sym e) a in
+    get_or_read g.rows r v (omega (arith, i.sheet.count l, i.cursor_row)) ev (blank_row 0)
+
+pub cursor_row-read : (g s : GridView) (r : ℕ) (v : RowView) → g ≡ s → IsGrid g → IsAllocated s → r ≡ g.row
+    → v ≡ get_or g.rows r v → v ≡ row_of_cursor s
+cursor_row-read g s r v e i a er ev =
+    let at = er ∙ ap (λ (x : GridView). x.row) e in
+    read-at g s r v e i a er ev ∙ (λ j. row_at (e j).rows (at j))
+
+pub cursor_row-wide : (g s : GridView) (r : ℕ) (v : RowView) → g ≡ s → IsGrid g → IsAllocated s → r ≡ g.row
+    → v ≡ get_or g.rows r v → length v.cells ≡ g.width
+cursor_row-wide g s r v e i a er ev =
+    ap (λ (x : RowView). length x.cells) (read-at g s r v e i a er ev)
+    ∙ ap (λ k. length (row_at g.rows k).cells) er
+    ∙ (cursor_row_of g i (subst (λ (x : GridView). IsAllocated x) (sym e) a)).wide
+
+pub cursor_row-written : (g s : GridView) (r : ℕ) (v w : RowView) → g ≡ s → r ≡ g.row → v ≡ w
+    → record g { rows = set g.rows r v } ≡ with_cursor_row s w
+cursor_row-written g s r v w e er ev =
+    let at = er ∙ ap (λ (x : GridView). x.row) e in
+    λ j. record (e j) { rows = set (e j).rows (at j) (ev j) }
