@@ -1,5 +1,5 @@
 -- The cursor's row, as code reads it and puts it back. The grid s is what the fields g give.
-use Rattle.std.proofs.Common.{◌≡◌, ℕ, ◌<◌, length, set, get_or, sym, ap, subst, ◌∙◌, arith}
+use Rattle.std.proofs.Common.{◌≡◌, ℕ, ◌<◌, List, length, set, get_or, sym, ap, subst, ◌∙◌, arith}
 use Rattle.std.proofs.lemmas.List.{get_or_read}
 use Rattle.vt100_rows.specs.Row.{RowView, blank_row}
 use Rattle.vt100_rows.specs.Sheet.{row_at}
@@ -30,3 +30,9 @@ pub cursor_row-written : (g s : GridView) (r : ℕ) (v w : RowView) → g ≡ s 
 cursor_row-written g s r v w e er ev =
     let at = er ∙ ap (λ (x : GridView). x.row) e in
     λ j. record (e j) { rows = set (e j).rows (at j) (ev j) }
+
+pub cursor_row-among : (g s : GridView) (rows : List RowView) (r : ℕ) → g ≡ s → IsGrid g → IsAllocated s
+    → rows ≡ g.rows → r ≡ g.row → length (row_at rows r).cells ≡ g.width
+cursor_row-among g s rows r e i a same er =
+    ap (λ (xs : List RowView). length (row_at xs r).cells) same ∙ ap (λ k. length (row_at g.rows k).cells) er
+    ∙ (cursor_row_of g i (subst (λ (x : GridView). IsAllocated x) (sym e) a)).wide

@@ -3,6 +3,7 @@ pub mod ShowLemmas
 pub mod ContentsLemmas
 pub mod EraseLemmas
 pub mod CursorRow
+pub mod PutBack
 pub mod KeepLemmas
 pub mod ScrollLemmas
 pub mod StayLemmas

@@ -1,15 +1,15 @@
 -- Scrolling up.
-use Rattle.std.proofs.Common.{◌≡◌, ℕ, ◌+◌, ◌<◌, ◌==◌, Bool, true, false, cond, not, ◌&&◌, List, [], length, take, drop}
+use Rattle.std.proofs.Common.{◌≡◌, ℕ, ◌+◌, ◌-◌, ◌<◌, ◌==◌, Bool, true, false, cond, not, ◌&&◌, List, [], length, take, drop}
 use Rattle.std.proofs.Common.{min, refl, sym, ap, ◌∙◌, arith, nat_le, subst}
-use Rattle.std.proofs.lemmas.Bool.{eq-eqb, eqb-true, and_parts, and_from, cond-true}
+use Rattle.std.proofs.lemmas.Bool.{eq-eqb, eqb-true, and_parts, and_from, cond-true, cond-false}
 use Rattle.std.proofs.lemmas.Bool.Decides.{nat_tests}
 use Rattle.vt100_rows.specs.Row.{RowView, with_wrap}
 use Rattle.vt100_rows.proofs.RowLemmas.{IsRow-with_wrap}
 use Rattle.vt100_rows.specs.Sheet.{row_at, rows_by_position, IsSheet, moved_up}
-use Rattle.vt100_core.specs.Grid.{KeptPart, GridView, IsGrid, IsShownWide, with_row, with_rows}
+use Rattle.vt100_core.specs.Grid.{KeptPart, GridView, IsGrid, IsAllocated, IsShownWide, with_row, with_rows}
 use Rattle.vt100_core.specs.Scroll.{widened, kept_after, pushed_out, up_count, left_rows, is_kept_from}
-use Rattle.vt100_core.specs.Scroll.{scrolled_up}
-use Rattle.vt100_core.proofs.GridLemmas.{IsGrid-with_row}
+use Rattle.vt100_core.specs.Scroll.{scrolled_up, scrollback_erased}
+use Rattle.vt100_core.proofs.GridLemmas.{IsGrid-with_row, IsGrid-parts}
 use Rattle.vt100_core.proofs.KeepLemmas.{IsShownWide-widened}
 
 pub IsSheet-as : (height height' width width' : ℕ) (rows : List RowView) → height ≡ height' → width ≡ width'
@@ -54,6 +54,35 @@ scrolls-off g count end n width height rows k t keeps ee en ew eh er ek =
       kept = same_kept i;
     }
 
+-- the same where the rows that leave aren't kept
+
+and-false : (b : Bool) → (b && false) ≡ false
+and-false true = refl
+and-false false = refl
+
+pub unkept : (g : GridView) → g.kept.keeps ≡ false → is_kept_from g ≡ false
+unkept g e = ap (λ b. (g.top == 0) && b) e ∙ and-false (g.top == 0)
+
+pub unkept-below : (g : GridView) → 0 < g.top → is_kept_from g ≡ false
+unkept-below g h = grind (arith, nat_tests)
+
+pub scrolls-unkept : (g : GridView) (count first end n width : ℕ) (rows : List RowView) → is_kept_from g ≡ false
+    → first ≡ g.top → end ≡ g.bottom + 1 → n ≡ min count (end - first) → width ≡ g.width
+    → rows ≡ rows_by_position (length g.rows) (moved_up g.rows first end n width)
+    → record g { rows = rows } ≡ (scrolled_up g count).grid
+unfolding scrolled_up
+scrolls-unkept g count first end n width rows k ef ee en ew er =
+    let c : n ≡ up_count g count = en ∙ (λ i. min count (ee i - ef i)) in
+    let same_rows : rows ≡ rows_by_position (length g.rows)
+    (moved_up g.rows g.top (g.bottom + 1) (up_count g count) g.width) =
+    er ∙ (λ i. rows_by_position (length g.rows) (moved_up g.rows (ef i) (ee i) (c i) (ew i))) in
+    let same_kept : g.kept ≡ cond (is_kept_from g) (widened (kept_after g.kept (left_rows g count)) g.height g.width)
+    g.kept = sym (cond-false (is_kept_from g) _ g.kept k) in
+    λ i. record (with_rows g (moved_up g.rows g.top (g.bottom + 1) (up_count g count) g.width)) {
+      rows = same_rows i;
+      kept = same_kept i;
+    }
+
 pub sunk-kept : (g : GridView) (count end n : ℕ) → g.top ≡ 0 → g.kept.keeps ≡ true → end ≡ g.bottom + 1
     → n ≡ min count end → pushed_out g.kept (take n g.rows) ≡ (scrolled_up g count).sunk
 unfolding scrolled_up
@@ -90,3 +119,18 @@ above-last g r wrap i e =
 
 pub too-wide : (g : GridView) (w : ℕ) → g.width < g.col + w → nat_le (g.col + w) g.width ≡ false
 too-wide g w h = grind (arith, nat_tests)
+
+-- ---- no row is kept any more
+
+pub IsGrid-scrollback_erased : (g : GridView) → IsGrid g → IsAllocated g → IsGrid (scrollback_erased g)
+IsGrid-scrollback_erased g i a =
+    IsGrid-parts g g.rows g.col (record (g.kept) { rows = []; offset = 0; scrolled_off = 0 }) i i.sheet i.cursor_col
+    (record {
+      each = λ j l. absurd (omega arith);
+      fits = omega arith;
+      counted = omega arith;
+      offset = omega arith;
+      none = λ e. ((i.kept.none e).0, refl);
+      bounded = omega arith;
+    })
+    (λ j above below l. absurd (omega arith)) (λ z. absurd (omega arith))

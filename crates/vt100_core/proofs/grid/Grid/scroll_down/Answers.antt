@@ -1,9 +1,9 @@
-use Rattle.std.proofs.Common.{arith, ◌<◌, List, length, ap, sym, subst, ◌∙◌}
+use Rattle.std.proofs.Common.{arith, List, length, ap, sym, subst, ◌∙◌}
 use Rattle.std.proofs.lemmas.Grind.{common_steps}
 use Rattle.vt100_core.proofs.GridLemmas.{IsGrid-at, IsGrid-scrolled_down}
 use Rattle.vt100_rows.specs.Row.{RowView}
 use Rattle.vt100_core.specs.Grid.{GridView, IsAllocated}
-use Rattle.vt100_rows.proofs.SheetLemmas.{refilled}
+use Rattle.vt100_core.proofs.PutBack.{some-refilled}
 use Rattle.vt100_core.proofs.grid.Grid.scroll_down.Goals as goal
 
 pub invariant_of-self : goal.invariant_of-self
@@ -18,8 +18,6 @@ returns-clause-grid c = grind (arith, common_steps)
 pub returns-clause-allocated : goal.returns-clause-allocated
 returns-clause-allocated c =
     let own = c.self.inside in
-    let count = c.open_lines.auto.rows ∙ ap (λ (xs : List RowView). length xs) c.deref_mut.ensures.value in
-    let some = subst (λ (x : GridView). IsAllocated x) (sym c.self.view_is) c.requires in
-    subst (λ (xs : List RowView). 0 < length xs)
-    (sym (refilled own.rows.len c.open_lines.new.rows own.rows.items own.rows.ok.0 count))
-    (omega (arith, count, some))
+    some-refilled own.rows.len c.open_lines.new.rows own.rows.items own.rows.ok.0
+    (c.open_lines.auto.rows ∙ ap (λ (xs : List RowView). length xs) c.deref_mut.ensures.value)
+    (subst (λ (x : GridView). IsAllocated x) (sym c.self.view_is) c.requires)

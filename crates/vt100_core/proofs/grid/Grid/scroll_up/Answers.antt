@@ -1,4 +1,4 @@
-use Rattle.std.proofs.Common.{arith, ap, subst, sym, ◌∙◌, ◌≡◌, ◌+◌, List, length, take, min}
+use Rattle.std.proofs.Common.{arith, ap, subst, sym, ◌∙◌, ◌≡◌, ◌+◌, List, length, take, min, ◌-◌, ◌<◌}
 use Rattle.std.proofs.lemmas.Grind.{common_steps}
 use Rattle.vt100_rows.specs.Row.{RowView}
 use Rattle.vt100_rows.specs.Sheet.{rows_by_position, moved_up}
@@ -10,8 +10,9 @@ use Rattle.vt100_rows.proofs.SheetLemmas.{refilled}
 use Rattle.vt100_rows.proofs.SinkLemmas.{TakesAll-list}
 use Rattle.vt100_core.proofs.GridLemmas.{IsGrid-at, IsGrid-moved_up, IsGrid-scrolled, region_rows}
 use Rattle.vt100_core.proofs.KeepLemmas.{IsShownWide-none}
-use Rattle.vt100_core.proofs.ScrollLemmas.{IsSheet-as, IsShownWide-is, scrolls-off, sunk-kept}
+use Rattle.vt100_core.proofs.ScrollLemmas.{IsSheet-as, IsShownWide-is, scrolls-off, sunk-kept, scrolls-unkept, unkept-below, unkept}
 use Rattle.vt100_core.proofs.StayLemmas.{scrolls-none}
+use Rattle.vt100_core.proofs.PutBack.{some-refilled}
 use Rattle.vt100_core.proofs.grid.Grid.scroll_up.Goals as goal
 
 pub invariant_of-self : goal.invariant_of-self
@@ -126,3 +127,67 @@ returns-then-n-eq0-clause-grid g c =
     let bottom = ap (λ (x : GridView). x.bottom) c.self.view_is in
     let none : up_count s c.args.count ≡ 0 = omega arith in
     scrolls-none s c.args.count none valid.kept valid.shown
+
+pub returns-in_err-scroll_off-clause-allocated : goal.returns-in_err-scroll_off-clause-allocated
+returns-in_err-scroll_off-clause-allocated g c =
+    let own = c.self.inside in
+    some-refilled own.rows.len c.scroll_off.new.rows own.rows.items own.rows.ok.0
+    (c.scroll_off.auto.rows ∙ ap (λ (xs : List RowView). length xs) c.deref_mut-then-self.ensures.value)
+    (subst (λ (x : GridView). IsAllocated x) (sym c.self.view_is) c.requires)
+
+pub returns-in_ok-scroll_off-clause-allocated : goal.returns-in_ok-scroll_off-clause-allocated
+returns-in_ok-scroll_off-clause-allocated g c =
+    let own = c.self.inside in
+    some-refilled own.rows.len c.scroll_off.new.rows own.rows.items own.rows.ok.0
+    (c.scroll_off.auto.rows ∙ ap (λ (xs : List RowView). length xs) c.deref_mut-then-self.ensures.value)
+    (subst (λ (x : GridView). IsAllocated x) (sym c.self.view_is) c.requires)
+
+pub returns-then-first-gt0-clause-allocated : goal.returns-then-first-gt0-clause-allocated
+returns-then-first-gt0-clause-allocated g c =
+    let own = c.self.inside in
+    some-refilled own.rows.len c.move_up.new.rows own.rows.items own.rows.ok.0
+    (c.move_up.auto.rows ∙ ap (λ (xs : List RowView). length xs) c.deref_mut.ensures.value)
+    (subst (λ (x : GridView). IsAllocated x) (sym c.self.view_is) c.requires)
+
+pub returns-else-self-clause-allocated : goal.returns-else-self-clause-allocated
+returns-else-self-clause-allocated g c =
+    let own = c.self.inside in
+    some-refilled own.rows.len c.move_up-else-self.new.rows own.rows.items own.rows.ok.0
+    (c.move_up-else-self.auto.rows ∙ ap (λ (xs : List RowView). length xs) c.deref_mut-else-self.ensures.value)
+    (subst (λ (x : GridView). IsAllocated x) (sym c.self.view_is) c.requires)
+
+pub returns-then-first-gt0-clause-grid : goal.returns-then-first-gt0-clause-grid
+returns-then-first-gt0-clause-grid g c =
+    let s = grid_of c.self.inside in
+    let same = c.deref_mut.ensures.value in
+    let back = refilled c.self.inside.rows.len c.move_up.new.rows s.rows c.self.inside.rows.ok.0
+    (c.move_up.auto.rows ∙ ap (λ (xs : List RowView). length xs) same) in
+    let first = c.from-first.result in
+    let end = c.from-end.result + 1 in
+    let n = c.min-n.result in
+    let top : first ≡ s.top = omega arith in
+    let last : end ≡ s.bottom + 1 = omega arith in
+    let lines : n ≡ min c.args.count (end - first) = omega arith in
+    ap (λ (xs : List RowView). record s { rows = xs }) back
+    ∙ scrolls-unkept s c.args.count first end n c.cols.result c.move_up.new.rows (unkept-below s (omega arith)) top last lines
+    c.cols.ensures (c.move_up.ensures ∙ ap (λ (xs : List RowView).
+    rows_by_position (length xs) (moved_up xs first end n c.cols.result)) same)
+    ∙ ap (λ (x : GridView). (scrolled_up x c.args.count).grid) c.self.view_is
+
+pub returns-else-self-clause-grid : goal.returns-else-self-clause-grid
+returns-else-self-clause-grid g c =
+    let s = grid_of c.self.inside in
+    let same = c.deref_mut-else-self.ensures.value in
+    let back = refilled c.self.inside.rows.len c.move_up-else-self.new.rows s.rows c.self.inside.rows.ok.0
+    (c.move_up-else-self.auto.rows ∙ ap (λ (xs : List RowView). length xs) same) in
+    let first = c.from-first.result in
+    let end = c.from-end.result + 1 in
+    let n = c.min-n.result in
+    let top : first ≡ s.top = omega arith in
+    let last : end ≡ s.bottom + 1 = omega arith in
+    let lines : n ≡ min c.args.count (end - first) = omega arith in
+    ap (λ (xs : List RowView). record s { rows = xs }) back
+    ∙ scrolls-unkept s c.args.count first end n c.cols-else-self.result c.move_up-else-self.new.rows (unkept s c.if-self.false) top last lines
+    c.cols-else-self.ensures (c.move_up-else-self.ensures ∙ ap (λ (xs : List RowView).
+    rows_by_position (length xs) (moved_up xs first end n c.cols-else-self.result)) same)
+    ∙ ap (λ (x : GridView). (scrolled_up x c.args.count).grid) c.self.view_is

@@ -6,6 +6,8 @@ use Rattle.vt100_core.specs.GridFields.{grid_of}
 use Rattle.vt100_rows.proofs.SheetLemmas.{refilled}
 use Rattle.vt100_core.proofs.GridLemmas.{IsGrid-at, IsGrid-rows}
 use Rattle.vt100_core.proofs.ResizeLemmas.{IsSheet-height_as, IsGrid-with_width}
+use Rattle.vt100_core.proofs.PutBack.{count-refilled}
+use Rattle.vt100_core.specs.Grid.{GridView}
 use Rattle.vt100_core.proofs.grid.Grid.set_width.Goals as goal
 
 pub resize_rows-requires : goal.resize_rows-requires
@@ -42,3 +44,17 @@ invariant_of-self-2 c =
     (omega (arith, c.get.ensures.nonzero, c.get.ensures.value)) (omega (arith, c.get.ensures.value))
     c.requires.hidden)
     (grind (arith, common_steps))
+
+pub returns-in_err-resize_rows-clause-count : goal.returns-in_err-resize_rows-clause-count
+returns-in_err-resize_rows-clause-count c =
+    let own = c.self.inside in
+    count-refilled own.rows.len c.resize_rows.new.rows own.rows.items own.rows.ok.0
+    (c.resize_rows.auto.rows ∙ ap (λ (xs : List RowView). length xs) c.deref_mut.ensures.value)
+    ∙ ap (λ (x : GridView). length x.rows) c.self.view_is
+
+pub returns-clause-count : goal.returns-clause-count
+returns-clause-count c =
+    let own = c.self.inside in
+    count-refilled own.rows.len c.resize_rows.new.rows own.rows.items own.rows.ok.0
+    (c.resize_rows.auto.rows ∙ ap (λ (xs : List RowView). length xs) c.deref_mut.ensures.value)
+    ∙ ap (λ (x : GridView). length x.rows) c.self.view_is
