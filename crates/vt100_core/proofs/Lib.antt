@@ -4,6 +4,7 @@ pub mod ContentsLemmas
 pub mod EraseLemmas
 pub mod CursorRow
 pub mod PutBack
+pub mod BlankLemmas
 pub mod KeepLemmas
 pub mod ScrollLemmas
 pub mod StayLemmas
