@@ -1,8 +1,8 @@
 -- Another size of the screen.
-use Rattle.std.proofs.Common.{◌≡◌, ℕ, ◌+◌, ◌-◌, ◌^◌, ◌<◌, ◌≤◌, ◌==◌, Bool, false, cond, ◌&&◌, List, [], ◌++◌}
+use Rattle.std.proofs.Common.{◌≡◌, ℕ, ◌+◌, ◌-◌, ◌^◌, ◌<◌, ◌≤◌, ◌==◌, Bool, true, false, cond, ◌&&◌, List, [], ◌++◌}
 use Rattle.std.proofs.Common.{length, min, refl, sym, ap, ◌∙◌, arith, length-append, replicate, nat_lt}
 use Rattle.std.proofs.Common.{⊎_elim, subst}
-use Rattle.std.proofs.lemmas.Bool.{cases_lt, eq-eqb}
+use Rattle.std.proofs.lemmas.Bool.{cases_lt, eq-eqb, le-ltb}
 use Rattle.std.proofs.lemmas.Bool.Decides.{nat_tests}
 use Rattle.vt100_cells.specs.Cell.{default_cell}
 use Rattle.vt100_cells.specs.Line.{extended}
@@ -191,6 +191,23 @@ pub lowers-sunk : (g : GridView) (up height width : ℕ) → height < g.height �
     → (scrolled_up (whole_screen g) up).sunk ≡ (resized g height width).sunk
 lowers-sunk g up height width h eup = ap (λ n. (scrolled_up (whole_screen g) n).sunk) eup
     ∙ ap (λ (x : Scrolled). x.sunk) (resized-lower g height width h)
+
+-- ---- a higher screen
+
+both-none : (b : Bool) (s t : Scrolled) → s.sunk ≡ [] → t.sunk ≡ [] → (cond b s t).sunk ≡ []
+both-none true s t e f = e
+both-none false s t e f = f
+
+pub raises-sunk : (g : GridView) (height width : ℕ) → g.height ≤ height → [] ≡ (resized g height width).sunk
+unfolding resized
+raises-sunk g height width h =
+    let same : Scrolled = record { grid = g; sunk = [] } in
+    let higher : Scrolled = record { grid = lengthened (with_width (whole_screen g) width) height; sunk = [] } in
+    sym (both-none ((height == g.height) && (width == g.width)) same
+    (cond (nat_lt height g.height) (lower_screen g height width) higher) refl
+    (ap (λ b. (cond b (lower_screen g height width) higher).sunk) (le-ltb height g.height h)))
+
+-- ---- rows stay
 
 pub some-shortened : (g h : GridView) (up height : ℕ) → h ≡ shortened g up height → 0 < height → IsAllocated g
     → IsAllocated h

@@ -1,11 +1,11 @@
-use Rattle.std.proofs.Common.{arith, ap, sym, subst, ◌∙◌, ◌≡◌, ◌<◌, ◌≤◌, [], length, ⊎_elim}
+use Rattle.std.proofs.Common.{arith, ap, sym, subst, ◌∙◌, ◌≡◌, ◌<◌, ◌≤◌, [], length, ⊎_elim, refl}
 use Rattle.std.proofs.lemmas.Bool.{cases_lt}
 use Rattle.std.proofs.lemmas.Grind.{common_steps}
 use Rattle.vt100_core.specs.Grid.{GridView, IsGrid, IsAllocated}
 use Rattle.vt100_core.specs.Resize.{whole_screen, up_rows}
 use Rattle.vt100_core.specs.Scroll.{scrolled_up}
 use Rattle.vt100_rows.specs.Sink.{TakesAll}
-use Rattle.vt100_core.proofs.ResizeLemmas.{IsGrid-whole_screen, lowers, lowers-sunk, some-shortened, some-lengthened}
+use Rattle.vt100_core.proofs.ResizeLemmas.{IsGrid-whole_screen, lowers, lowers-sunk, some-shortened, some-lengthened, raises-sunk}
 use Rattle.vt100_core.proofs.GridLemmas.{IsNew-of}
 use Rattle.vt100_core.proofs.StayLemmas.{scrolls-none, sinks-none}
 use Rattle.vt100_rows.proofs.SinkLemmas.{TakesAll-list}
@@ -136,3 +136,27 @@ returns-in_ok-lengthen-clause-allocated g c some =
     in
     some-lengthened c.set_width-else-lt.new.self c.lengthen.new.self c.args.size.rows.value
     c.in_ok-lengthen.ensures.grid before
+
+pub returns-in_err-set_width-2-clause-sink : goal.returns-in_err-set_width-2-clause-sink
+returns-in_err-set_width-2-clause-sink g c =
+    let s = c.args.self.now in
+    let height = c.args.size.rows.value in
+    let higher : s.height ≤ height = grind (arith, common_steps) in
+    TakesAll-list g.S.RowSink.takes c.args.sink.now c.args.sink.now [] _
+    (raises-sunk s height c.args.size.cols.value higher) refl
+
+pub returns-in_err-lengthen-clause-sink : goal.returns-in_err-lengthen-clause-sink
+returns-in_err-lengthen-clause-sink g c =
+    let s = c.args.self.now in
+    let height = c.args.size.rows.value in
+    let higher : s.height ≤ height = grind (arith, common_steps) in
+    TakesAll-list g.S.RowSink.takes c.args.sink.now c.args.sink.now [] _
+    (raises-sunk s height c.args.size.cols.value higher) refl
+
+pub returns-in_ok-lengthen-clause-sink : goal.returns-in_ok-lengthen-clause-sink
+returns-in_ok-lengthen-clause-sink g c =
+    let s = c.args.self.now in
+    let height = c.args.size.rows.value in
+    let higher : s.height ≤ height = grind (arith, common_steps) in
+    TakesAll-list g.S.RowSink.takes c.args.sink.now c.args.sink.now [] _
+    (raises-sunk s height c.args.size.cols.value higher) refl
