@@ -16,7 +16,7 @@ fn begun_text(alloc: Global) -> Result<String, GridError> {
 }
 
 /// A text that holds so much, begun at the second try if the first was refused.
-fn retried_text(alloc: Global) -> Result<String, GridError> {
+pub fn retried_text(alloc: Global) -> Result<String, GridError> {
     match begun_text(alloc) {
         Ok(text) => Ok(text),
         Err(_) => begun_text(alloc),
@@ -32,7 +32,7 @@ fn holds_a_front(text: &str, want: &str) -> bool {
 }
 
 /// After a refusal a text holds what it held before, and a front of what was to be appended. Then it is begun anew.
-fn check_refused(
+pub fn check_refused(
     rt: &impl Abort,
     text: &mut String,
     error: GridError,
@@ -48,34 +48,7 @@ fn check_refused(
     Ok(())
 }
 
-/// Appends to such a text, once more if that was refused.
-fn retried<T, F: FnMut(&mut String) -> Result<T, GridError>>(
-    rt: &impl Abort,
-    text: &mut String,
-    want: &str,
-    mut append: F,
-) -> Result<T, Fail>
-    requires { F.IsAlwaysCallable append }
-{
-    match append(text) {
-        Ok(answer) => Ok(answer),
-        Err(error) => {
-            check_refused(rt, text, error, want)?;
-            Ok(append(text)?)
-        }
-    }
-}
-
-/// This appends a text to one that holds something, at the second try if the first was refused. What it answers then.
-pub fn appended<T: Copy, F: FnMut(&mut String) -> Result<T, GridError>>(
-    rt: &(impl Abort + AllocGlobal),
-    want: &str,
-    append: F,
-) -> Result<T, Fail>
-    requires { F.IsAlwaysCallable append }
-{
-    let mut text = retried_text(rt.alloc())?;
-    let answer = retried(rt, &mut text, want, append)?;
+/// A text holds what it held before, and this after it.
+pub fn check_text(rt: &impl Abort, text: &String, want: &str) {
     same(rt, &text.as_str().strip_prefix(BEGUN), &Some(want));
-    Ok(answer)
 }

@@ -1,9 +1,7 @@
 //! Grids at work: what they show after a few calls.
-ghost use Rattle.std.specs.Borrow.{MutBor};
 ghost use Rattle.std.specs.Prelude.{IfOk, ◌<◌, length};
-ghost use Rattle.vt100_core.specs.Grid.{GridView, IsAllocated};
+ghost use Rattle.vt100_core.specs.Grid.{IsAllocated};
 
-mod bounds;
 mod contents;
 mod cursor;
 mod edits;
@@ -12,10 +10,8 @@ mod resize;
 mod text;
 mod writers;
 
-use crate::begun::appended;
 use crate::same::same;
-use crate::shown::show;
-use bounds::check_grid;
+use crate::shown::shown;
 use cursor::{Move, go};
 use edits::{Edit, apply};
 use std::alloc::Global;
@@ -26,7 +22,7 @@ use vt100_core::attrs::Attrs;
 use vt100_core::{Grid, GridError, Pos, Printed, Row, RowSink, Scrollback, Size};
 
 /// Counts the rows that it takes.
-#[derive(Clone, Copy, Default)]
+#[derive(Default, Drop)]
 struct Counter {
     rows: u64,
 }
@@ -41,8 +37,8 @@ impl RowSink for Counter {
 
 /// What is done to a grid.
 #[derive(Clone, Copy)]
-enum Step<'a> {
-    Print(&'a str),
+enum Step {
+    Print(&'static str),
     Go(Move),
     Edit(Edit),
     Size(u16, u16),
@@ -54,12 +50,9 @@ enum Step<'a> {
 /// Rows, columns, and how many rows are kept at most, if there is scrollback.
 type Start = (u16, u16, Option<usize>);
 
-/// A new grid, what is done to it, and what is wanted of it then.
-type Case<W> = (Start, &'static [Step<'static>], W);
-
-/// A grid's rows and the cursor's row and column; how many rows are kept, how many of these are shown, and how many went
-/// to the sink.
-type Outcome = (&'static str, (usize, usize, u64));
+/// A new grid, what is done to it, and then: its rows and the cursor's row and column; how many rows are kept, how many
+/// of these are shown, and how many went to the sink.
+type Case = (Start, &'static [Step], &'static str, (usize, usize, u64));
 
 fn size(rows: u16, cols: u16) -> Size {
     Size {
@@ -75,15 +68,12 @@ fn scrollback(capacity: Option<usize>) -> Scrollback {
     }
 }
 
-/// A grid whose rows were allocated at the second try, if the first was refused.
-fn new_grid(alloc: Global, start: Start) -> Result<Grid, Fail>
+fn grid(alloc: Global, start: Start) -> Result<Grid, Fail>
     ensures { IfOk result (λ g. IsAllocated g) }
 {
     let (rows, cols, capacity) = start;
     let mut grid = Grid::new(alloc, size(rows, cols), scrollback(capacity));
-    if grid.allocate_rows().is_err() {
-        grid.allocate_rows()?;
-    }
+    grid.allocate_rows()?;
     Ok(grid)
 }
 
@@ -106,7 +96,7 @@ fn print(grid: &mut Grid, text: &str, sink: &mut Counter) -> Result<(), GridErro
     Ok(())
 }
 
-fn take(grid: &mut Grid, step: Step<'_>, sink: &mut Counter) -> Result<(), GridError>
+fn take(grid: &mut Grid, step: Step, sink: &mut Counter) -> Result<(), GridError>
     requires { IsAllocated grid.old }
     ensures { IsAllocated grid.new }
 {
@@ -122,114 +112,41 @@ fn take(grid: &mut Grid, step: Step<'_>, sink: &mut Counter) -> Result<(), GridE
     Ok(())
 }
 
-/// Does these steps. How many rows went to the sink.
-fn take_all(grid: &mut Grid, steps: &[Step<'_>]) -> Result<u64, GridError>
-    requires { IsAllocated grid.old }
-    ensures { IsAllocated grid.new }
-{
+/// A grid after these steps, and how many rows went to the sink.
+fn run(alloc: Global, start: Start, steps: &[Step]) -> Result<(Grid, u64), Fail> {
+    let mut grid = grid(alloc, start)?;
     let mut sink = Counter::default();
     for step in steps {
-        take(grid, *step, &mut sink)?;
+        take(&mut grid, *step, &mut sink)?;
     }
-    Ok(sink.rows)
+    Ok((grid, sink.rows))
 }
 
-/// Does these steps, and all of them once more on the cleared grid if one was refused. How many rows went to the sink.
-fn retried_steps<R: Abort>(rt: &R, grid: &mut Grid, steps: &[Step<'_>]) -> Result<u64, Fail>
-    requires { IsAllocated grid.old }
-    ensures { IsAllocated grid.new }
-{
-    let size = grid.size();
-    match take_all(grid, steps) {
-        Ok(gone) => Ok(gone),
-        Err(_) => {
-            check_grid(rt, grid, size.rows(), size.cols());
-            grid.clear();
-            Ok(take_all(grid, steps)?)
-        }
+/// All rows that are drawn on, with a `/` after each.
+fn drawn(alloc: Global, grid: &Grid) -> Result<String, GridError> {
+    let mut text = String::new(alloc);
+    for row in grid.drawing_rows() {
+        text.push_str(shown(alloc, row)?.as_str())?;
+        text.push('/')?;
     }
+    Ok(text)
 }
 
-/// Does this with a new grid after these steps.
-fn with_grid<R: Abort + AllocGlobal, F: FnOnce(&R, &mut Grid) -> Result<(), Fail>>(
-    rt: &R,
-    start: Start,
-    steps: &[Step<'_>],
-    check: F,
-) -> Result<(), Fail>
-    requires { (g : MutBor GridView) → IsAllocated g.now → F.pre check rt g }
-{
-    let mut grid = new_grid(rt.alloc(), start)?;
-    retried_steps(rt, &mut grid, steps)?;
-    check(rt, &mut grid)
-}
-
-/// Does this with a new grid after these steps, and with what is wanted of it. How many rows went to the sink.
-fn check_one<R: Abort + AllocGlobal, W: Copy, F: FnOnce(&R, &Grid, W) -> Result<(), Fail>>(
-    rt: &R,
-    start: Start,
-    steps: &[Step<'_>],
-    want: W,
-    check: F,
-) -> Result<u64, Fail>
-    requires { F.IsAlwaysCallable check }
-{
-    let mut grid = new_grid(rt.alloc(), start)?;
-    let gone = retried_steps(rt, &mut grid, steps)?;
-    check(rt, &grid, want)?;
-    Ok(gone)
-}
-
-/// Does this with each of these grids.
-fn check_each<R: Abort + AllocGlobal, W: Copy, F: FnOnce(&R, &Grid, W) -> Result<(), Fail> + Copy>(
-    rt: &R,
-    cases: &[(Start, &[Step<'_>], W)],
-    check: F,
-) -> Result<(), Fail>
-    requires { F.IsAlwaysCallable check }
-{
-    for (start, steps, want) in cases {
-        check_one(rt, *start, steps, *want, check)?;
-    }
+/// A grid's rows are these, and its cursor stands at this row and column, as in `ab>/c./ 1 1`.
+fn check(rt: &(impl Abort + AllocGlobal), grid: &Grid, want: &str) -> Result<(), Fail> {
+    let mut text = drawn(rt.alloc(), grid)?;
+    let Pos { row, col } = grid.pos();
+    write!(text, " {row} {col}")?;
+    same(rt, &text.as_str(), &want);
     Ok(())
 }
 
-/// Appends all rows that are drawn on, with a `/` after each, and the cursor's row and column, as in `ab>/c./ 1 1`.
-fn draw(text: &mut String, grid: &Grid) -> Result<(), GridError> {
-    for row in grid.drawing_rows() {
-        show(text, row)?;
-        text.push('/')?;
-    }
-    let Pos { row, col } = grid.pos();
-    match write!(text, " {row} {col}") {
-        Ok(()) => Ok(()),
-        Err(_) => Err(GridError::Memory),
-    }
-}
-
-/// A grid's rows are these, and its cursor stands at this row and column.
-fn check<R: Abort + AllocGlobal>(rt: &R, grid: &Grid, want: &str) -> Result<(), Fail> {
-    appended(rt, want, |text| draw(text, grid))
-}
-
-fn check_outcome<R: Abort + AllocGlobal>(
-    rt: &R,
-    grid: &Grid,
-    (want, kept): (&str, (usize, usize)),
-) -> Result<(), Fail> {
-    same(
-        rt,
-        &(want, (grid.scrollback_len(), grid.scrollback())),
-        &(want, kept),
-    );
-    check(rt, grid, want)
-}
-
-fn check_all(rt: &(impl Abort + AllocGlobal), cases: &[Case<Outcome>]) -> Result<(), Fail> {
-    for (start, steps, (want, (len, offset, gone))) in cases {
-        let kept = (*len, *offset);
-        let told = check_one(rt, *start, steps, (*want, kept), check_outcome)?;
-        same(rt, &(want, told), &(want, *gone));
+fn check_all(rt: &(impl Abort + AllocGlobal), cases: &[Case]) -> Result<(), Fail> {
+    for (start, steps, want, counts) in cases {
+        let (grid, gone) = run(rt.alloc(), *start, steps)?;
+        let kept = (grid.scrollback_len(), grid.scrollback(), gone);
+        same(rt, &(want, kept), &(want, *counts));
+        check(rt, &grid, want)?;
     }
     Ok(())
 }

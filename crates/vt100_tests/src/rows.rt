@@ -1,9 +1,8 @@
 //! Rows at work.
 mod refusals;
 
-use crate::begun::appended;
 use crate::same::same;
-use crate::shown::show;
+use crate::shown::shown;
 use std::alloc::Global;
 use std::process::Abort;
 use std::test::Fail;
@@ -37,58 +36,11 @@ fn row_of(alloc: Global, cols: u16, text: &str) -> Result<Row, GridError> {
     Ok(row)
 }
 
-/// A row, made at the second try if the first was refused.
-fn retried_row(alloc: Global, cols: u16, text: &str) -> Result<Row, GridError> {
-    match row_of(alloc, cols, text) {
-        Ok(row) => Ok(row),
-        Err(_) => row_of(alloc, cols, text),
-    }
-}
-
-/// Does this with a row of so many columns on which a text is printed.
-fn with_row<R: Abort + AllocGlobal, F: FnOnce(&R, &mut Row) -> Result<(), Fail>>(
-    rt: &R,
-    cols: u16,
-    text: &str,
-    check: F,
-) -> Result<(), Fail>
-    requires { F.IsAlwaysCallable check }
-{
-    let mut row = retried_row(rt.alloc(), cols, text)?;
-    check(rt, &mut row)
-}
-
-/// Does this with such a row, and with what is wanted of it.
-fn check_one<R: Abort + AllocGlobal, W: Copy, F: FnOnce(&R, &mut Row, W) -> Result<(), Fail>>(
-    rt: &R,
-    cols: u16,
-    text: &str,
-    want: W,
-    check: F,
-) -> Result<(), Fail>
-    requires { F.IsAlwaysCallable check }
-{
-    let mut row = retried_row(rt.alloc(), cols, text)?;
-    check(rt, &mut row, want)
-}
-
-/// Does this with each of these rows.
-fn check_each<
-    R: Abort + AllocGlobal,
-    W: Copy,
-    F: FnOnce(&R, &mut Row, W) -> Result<(), Fail> + Copy,
->(rt: &R, cases: &[(u16, &str, W)], check: F) -> Result<(), Fail>
-    requires { F.IsAlwaysCallable check }
-{
-    for (cols, text, want) in cases {
-        check_one(rt, *cols, text, *want, check)?;
-    }
-    Ok(())
-}
-
 /// A row is this one.
 fn check(rt: &(impl Abort + AllocGlobal), row: &Row, want: &str) -> Result<(), Fail> {
-    appended(rt, want, |text| show(text, row))
+    let text = shown(rt.alloc(), row)?;
+    same(rt, &text.as_str(), &want);
+    Ok(())
 }
 
 #[derive(Clone, Copy)]
@@ -137,76 +89,72 @@ fn apply(row: &mut Row, edit: Edit) -> Result<(), GridError> {
 }
 
 /// Columns, a text that is printed on a row that is then wrapped, an edit, and the row then.
-type Edited = (u16, &'static str, (Edit, &'static str));
+type Edited = (u16, &'static str, Edit, &'static str);
 
-fn check_edit<R: Abort + AllocGlobal>(
-    rt: &R,
-    row: &mut Row,
-    (edit, want): (Edit, &str),
-) -> Result<(), Fail> {
-    row.wrap(true);
-    apply(row, edit)?;
-    check(rt, row, want)
+fn check_edits(rt: &(impl Abort + AllocGlobal), cases: &[Edited]) -> Result<(), Fail> {
+    for (cols, text, edit, want) in cases {
+        let mut row = row_of(rt.alloc(), *cols, text)?;
+        row.wrap(true);
+        apply(&mut row, *edit)?;
+        check(rt, &row, want)?;
+    }
+    Ok(())
 }
 
 const MOVED: &[Edited] = &[
-    (4, "中文", (Edit::Put(1, 'x'), ".x文_>")),
-    (4, "中文", (Edit::Put(0, 'x'), "x 文_>")),
-    (4, "a中b", (Edit::Put(0, '文'), "文_.b>")),
-    (4, "an中", (Edit::Put(1, '文'), "a文_.")),
-    (4, "中x", (Edit::Insert(1, 1), "中_.x")),
-    (4, "ab中", (Edit::Insert(0, 1), ".ab.")),
-    (4, "abcd", (Edit::Insert(4, 9), "abcd")),
-    (4, "abcd", (Edit::Insert(1, 9), "a...")),
-    (4, "中文", (Edit::Remove(1, 2), ".文_.")),
-    (4, "中文", (Edit::Remove(0, 1), ".文_.")),
-    (4, "abcd", (Edit::Remove(1, 3), "ad..")),
+    (4, "中文", Edit::Put(1, 'x'), ".x文_>"),
+    (4, "中文", Edit::Put(0, 'x'), "x 文_>"),
+    (4, "a中b", Edit::Put(0, '文'), "文_.b>"),
+    (4, "an中", Edit::Put(1, '文'), "a文_."),
+    (4, "中x", Edit::Insert(1, 1), "中_.x"),
+    (4, "ab中", Edit::Insert(0, 1), ".ab."),
+    (4, "abcd", Edit::Insert(4, 9), "abcd"),
+    (4, "abcd", Edit::Insert(1, 9), "a..."),
+    (4, "中文", Edit::Remove(1, 2), ".文_."),
+    (4, "中文", Edit::Remove(0, 1), ".文_."),
+    (4, "abcd", Edit::Remove(1, 3), "ad.."),
 ];
 
 #[test]
 fn cells_that_come_and_move_keep_wide_characters_whole(rt: HostRuntime) -> Result<(), Fail> {
-    check_each(&rt, MOVED, check_edit)
+    check_edits(&rt, MOVED)
 }
 
 const ERASED: &[Edited] = &[
-    (4, "中文", (Edit::Erase(0), "..文_>")),
-    (4, "中文", (Edit::Erase(1), "..文_>")),
-    (4, "中文", (Edit::Erase(2), "中_..")),
-    (2, "ab", (Edit::Erase(1), "a.")),
-    (4, "中文", (Edit::EraseRange(1, 3), "....")),
-    (4, "abcd", (Edit::EraseRange(3, 1), "abcd>")),
-    (4, "中文", (Edit::ClearWide(1), "..文_>")),
-    (4, "中文", (Edit::ClearWide(3), "中_..")),
+    (4, "中文", Edit::Erase(0), "..文_>"),
+    (4, "中文", Edit::Erase(1), "..文_>"),
+    (4, "中文", Edit::Erase(2), "中_.."),
+    (2, "ab", Edit::Erase(1), "a."),
+    (4, "中文", Edit::EraseRange(1, 3), "...."),
+    (4, "abcd", Edit::EraseRange(3, 1), "abcd>"),
+    (4, "中文", Edit::ClearWide(1), "..文_>"),
+    (4, "中文", Edit::ClearWide(3), "中_.."),
 ];
 
 #[test]
 fn cells_that_are_erased_keep_wide_characters_whole(rt: HostRuntime) -> Result<(), Fail> {
-    check_each(&rt, ERASED, check_edit)
+    check_edits(&rt, ERASED)
 }
 
 const OF_ROWS: &[Edited] = &[
-    (4, "ab中", (Edit::Truncate(3), "ab.")),
-    (4, "abcd", (Edit::Truncate(9), "abcd")),
-    (4, "abcd", (Edit::Truncate(0), "")),
-    (2, "ab", (Edit::Grow(4), "ab..")),
-    (2, "ab", (Edit::Grow(1), "ab>")),
-    (4, "ab中", (Edit::Resize(3), "ab.")),
-    (2, "中", (Edit::Resize(3), "中_.")),
-    (2, "ab", (Edit::Resize(2), "ab>")),
-    (5, "ab", (Edit::Trim, "ab")),
-    (3, "ab", (Edit::Wrap, "ab.")),
-    (2, "中", (Edit::Wrap, "中_>")),
-    (3, "中x", (Edit::Clear, "...")),
-    (3, "中x", (Edit::Reset, "...")),
+    (4, "ab中", Edit::Truncate(3), "ab."),
+    (4, "abcd", Edit::Truncate(9), "abcd"),
+    (4, "abcd", Edit::Truncate(0), ""),
+    (2, "ab", Edit::Grow(4), "ab.."),
+    (2, "ab", Edit::Grow(1), "ab>"),
+    (4, "ab中", Edit::Resize(3), "ab."),
+    (2, "中", Edit::Resize(3), "中_."),
+    (2, "ab", Edit::Resize(2), "ab>"),
+    (5, "ab", Edit::Trim, "ab"),
+    (3, "ab", Edit::Wrap, "ab."),
+    (2, "中", Edit::Wrap, "中_>"),
+    (3, "中x", Edit::Clear, "..."),
+    (3, "中x", Edit::Reset, "..."),
 ];
 
 #[test]
 fn edits_of_rows_keep_wide_characters_whole(rt: HostRuntime) -> Result<(), Fail> {
-    check_each(&rt, OF_ROWS, check_edit)
-}
-
-fn check_shown<R: Abort + AllocGlobal>(rt: &R, row: &mut Row, want: &str) -> Result<(), Fail> {
-    check(rt, row, want)
+    check_edits(&rt, OF_ROWS)
 }
 
 /// Columns, a text that is printed, and the row then.
@@ -232,17 +180,18 @@ const JOINED: &[(u16, &str, &str)] = &[
 
 #[test]
 fn zero_width_characters_join(rt: HostRuntime) -> Result<(), Fail> {
-    check_each(&rt, JOINED, check_shown)
-}
-
-fn check_blank<R: Abort + AllocGlobal>(rt: &R, row: &mut Row) -> Result<(), Fail> {
-    print(row, 1, "\u{301}", Attrs::new());
-    check(rt, row, " \u{301}.")
+    for (cols, text, want) in JOINED {
+        let row = row_of(rt.alloc(), *cols, text)?;
+        check(&rt, &row, want)?;
+    }
+    Ok(())
 }
 
 #[test]
 fn zero_width_characters_join_a_blank(rt: HostRuntime) -> Result<(), Fail> {
-    with_row(&rt, 2, "", check_blank)
+    let mut row = Row::new(rt.alloc(), 2)?;
+    print(&mut row, 1, "\u{301}", Attrs::new());
+    check(&rt, &row, " \u{301}.")
 }
 
 const RED: Attrs = Attrs {
@@ -258,26 +207,30 @@ fn background(row: &Row, col: u16) -> Option<Color> {
     }
 }
 
-fn check_widened<R: Abort + AllocGlobal>(rt: &R, row: &mut Row) -> Result<(), Fail> {
-    print(row, 1, "\u{FE0F}", RED);
-    let told = [background(row, 0), background(row, 1), background(row, 2)];
+#[test]
+fn a_widened_cell_keeps_its_attributes(rt: HostRuntime) -> Result<(), Fail> {
+    let mut row = row_of(rt.alloc(), 3, "\u{2764}中")?;
+    print(&mut row, 1, "\u{FE0F}", RED);
+    check(&rt, &row, "\u{2764}\u{FE0F}_.")?;
+    let told = [
+        background(&row, 0),
+        background(&row, 1),
+        background(&row, 2),
+    ];
     let default = Some(Color::Default);
-    same(rt, &told, &[default, default, Some(Color::Idx(1))]);
-    check(rt, row, "\u{2764}\u{FE0F}_.")
+    same(&rt, &told, &[default, default, Some(Color::Idx(1))]);
+    Ok(())
 }
 
 #[test]
-fn a_widened_cell_keeps_its_attributes(rt: HostRuntime) -> Result<(), Fail> {
-    with_row(&rt, 3, "\u{2764}中", check_widened)
-}
-
-fn check_carried<R: Abort>(rt: &R, row: &mut Row) -> Result<(), Fail> {
+fn a_cell_without_room_is_carried(rt: HostRuntime) -> Result<(), Fail> {
+    let mut row = row_of(rt.alloc(), 2, "a\u{2764}")?;
     if let (Some(0), 2) = (columns('\u{FE0F}'), row.cols()) {
         let join = row.join(2, '\u{FE0F}', RED);
-        same(rt, &matches!(join, Join::Carried(_)), &true);
+        same(&rt, &matches!(join, Join::Carried(_)), &true);
         if let Join::Carried(cell) = join {
             same(
-                rt,
+                &rt,
                 &(cell.contents(), cell.is_wide(), cell.bgcolor()),
                 &("\u{2764}\u{FE0F}", true, Color::Idx(1)),
             );
@@ -287,24 +240,16 @@ fn check_carried<R: Abort>(rt: &R, row: &mut Row) -> Result<(), Fail> {
 }
 
 #[test]
-fn a_cell_without_room_is_carried(rt: HostRuntime) -> Result<(), Fail> {
-    with_row(&rt, 2, "a\u{2764}", check_carried)
-}
-
-fn check_copy<R: Abort>(rt: &R, row: &mut Row) -> Result<(), Fail> {
+fn copies_are_equal(rt: HostRuntime) -> Result<(), Fail> {
+    let row = row_of(rt.alloc(), 2, "a")?;
     let copy = row.clone()?;
     let first = copy.get(0);
     same(
-        rt,
+        &rt,
         &(first == row.get(0), first == row.get(1)),
         &(true, false),
     );
     Ok(())
-}
-
-#[test]
-fn copies_are_equal(rt: HostRuntime) -> Result<(), Fail> {
-    with_row(&rt, 2, "a", check_copy)
 }
 
 /// What a cell's getters say: bold, dim, italic, underline and inverse.
@@ -318,7 +263,8 @@ fn flags(cell: &Cell) -> [bool; 5] {
     ]
 }
 
-fn check_attributes<R: Abort>(rt: &R, row: &mut Row) -> Result<(), Fail> {
+#[test]
+fn cells_tell_their_attributes(rt: HostRuntime) -> Result<(), Fail> {
     let mut attrs = Attrs {
         fgcolor: Color::Idx(9),
         bgcolor: Color::Rgb(1, 2, 3),
@@ -327,56 +273,48 @@ fn check_attributes<R: Abort>(rt: &R, row: &mut Row) -> Result<(), Fail> {
     attrs.set_bold();
     attrs.set_italic(true);
     attrs.set_inverse(true);
-    print(row, 0, "a", attrs);
+    let mut row = Row::new(rt.alloc(), 2)?;
+    print(&mut row, 0, "a", attrs);
     let cell = *row.get(0).ok_or("no cell")?;
     let told = (cell.attrs(), cell.fgcolor(), cell.bgcolor());
-    same(rt, &told, &(attrs, Color::Idx(9), Color::Rgb(1, 2, 3)));
-    same(rt, &flags(&cell), &[true, false, true, false, true]);
+    same(&rt, &told, &(attrs, Color::Idx(9), Color::Rgb(1, 2, 3)));
+    same(&rt, &flags(&cell), &[true, false, true, false, true]);
     Ok(())
-}
-
-#[test]
-fn cells_tell_their_attributes(rt: HostRuntime) -> Result<(), Fail> {
-    with_row(&rt, 2, "", check_attributes)
 }
 
 /// Columns, a text that is printed, the first column that is written, how many are, whether the row above is wrapped,
 /// and what is written.
-const WRITTEN: &[(u16, &str, ((u16, u16, bool), &str))] = &[
-    (4, "ab", ((0, 4, false), "ab")),
-    (4, "中x", ((0, 4, false), "中x")),
-    (4, "中x", ((1, 3, false), " x")),
-    (4, "中x", ((1, 1, false), "")),
-    (4, "中x", ((0, 1, false), "中")),
-    (4, "", ((0, 4, false), "")),
-    (4, "", ((0, 4, true), "\n")),
-    (4, "ab", ((0, 4, true), "ab")),
-    (4, "ab", ((9, 4, true), "\n")),
-    (4, "ab", ((1, 65_535, false), "b")),
+const WRITTEN: &[(u16, &str, u16, u16, bool, &str)] = &[
+    (4, "ab", 0, 4, false, "ab"),
+    (4, "中x", 0, 4, false, "中x"),
+    (4, "中x", 1, 3, false, " x"),
+    (4, "中x", 1, 1, false, ""),
+    (4, "中x", 0, 1, false, "中"),
+    (4, "", 0, 4, false, ""),
+    (4, "", 0, 4, true, "\n"),
+    (4, "ab", 0, 4, true, "ab"),
+    (4, "ab", 9, 4, true, "\n"),
+    (4, "ab", 1, 65_535, false, "b"),
 ];
-
-/// The text of so many columns of a row, from one on, where the row above is wrapped or not.
-fn check_columns<R: Abort + AllocGlobal>(
-    rt: &R,
-    row: &mut Row,
-    ((start, width, wrapping), want): ((u16, u16, bool), &str),
-) -> Result<(), Fail> {
-    appended(rt, want, |text| {
-        row.write_contents(text, start, width, wrapping)
-    })
-}
 
 #[test]
 fn writes_the_text_of_columns(rt: HostRuntime) -> Result<(), Fail> {
-    check_each(&rt, WRITTEN, check_columns)
-}
+    for (cols, text, start, width, wrapping, want) in WRITTEN {
+        let row = row_of(rt.alloc(), *cols, text)?;
+        let mut contents = String::new(rt.alloc());
+        row.write_contents(&mut contents, *start, *width, *wrapping)?;
+        same(&rt, &contents.as_str(), want);
+    }
 
-fn check_halves<R: Abort + AllocGlobal>(rt: &R, row: &mut Row) -> Result<(), Fail> {
-    apply(row, Edit::Insert(1, 1))?;
-    check_columns(rt, row, ((0, 4, false), "中 x"))
+    Ok(())
 }
 
 #[test]
 fn writes_a_space_between_halves(rt: HostRuntime) -> Result<(), Fail> {
-    with_row(&rt, 4, "中x", check_halves)
+    let mut row = row_of(rt.alloc(), 4, "中x")?;
+    apply(&mut row, Edit::Insert(1, 1))?;
+    let mut contents = String::new(rt.alloc());
+    row.write_contents(&mut contents, 0, 4, false)?;
+    same(&rt, &contents.as_str(), &"中 x");
+    Ok(())
 }

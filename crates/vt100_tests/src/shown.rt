@@ -1,4 +1,5 @@
 //! Rows as texts.
+use std::alloc::Global;
 use vt100_core::{Cell, GridError, Row};
 
 fn text_of(cell: Option<&Cell>) -> &str {
@@ -9,12 +10,12 @@ fn text_of(cell: Option<&Cell>) -> &str {
     }
 }
 
-/// Appends a row's cells, `.` for an empty one and `_` for the second half of a wide one, and `>` where the row is
-/// wrapped.
-pub fn show(text: &mut String, row: &Row) -> Result<(), GridError> {
+/// A row's cells, `.` for an empty one and `_` for the second half of a wide one, and `>` where the row is wrapped.
+pub fn shown(alloc: Global, row: &Row) -> Result<String, GridError> {
+    let mut text = String::new(alloc);
     for col in 0..row.cols() {
         text.push_str(text_of(row.get(col)))?;
     }
     text.push_str(if row.wrapped() { ">" } else { "" })?;
-    Ok(())
+    Ok(text)
 }

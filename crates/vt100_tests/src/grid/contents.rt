@@ -1,12 +1,20 @@
 //! The text of a whole grid.
 use super::*;
 
-/// A grid's text is appended.
-pub fn check_contents<R: Abort + AllocGlobal>(rt: &R, grid: &Grid, want: &str) -> Result<(), Fail> {
-    appended(rt, want, |text| grid.write_contents(text))
+/// A new grid, what is done to it, and its text then.
+type Case = (Start, &'static [Step], &'static str);
+
+fn check_texts(rt: &(impl Abort + AllocGlobal), cases: &[Case]) -> Result<(), Fail> {
+    for (start, steps, want) in cases {
+        let (grid, _) = run(rt.alloc(), *start, steps)?;
+        let mut text = String::new(rt.alloc());
+        grid.write_contents(&mut text)?;
+        same(rt, &text.as_str(), want);
+    }
+    Ok(())
 }
 
-const PRINTED: &[Case<&str>] = &[
+const PRINTED: &[Case] = &[
     ((2, 4, None), &[], ""),
     ((2, 4, None), &[Step::Print("abcdxyz")], "abcdxyz"),
     ((2, 4, None), &[Step::Print("中文x")], "中文x"),
@@ -19,10 +27,10 @@ const PRINTED: &[Case<&str>] = &[
 
 #[test]
 fn texts(rt: HostRuntime) -> Result<(), Fail> {
-    check_each(&rt, PRINTED, check_contents)
+    check_texts(&rt, PRINTED)
 }
 
-const ERASED_OR_KEPT: &[Case<&str>] = &[
+const ERASED_OR_KEPT: &[Case] = &[
     // A row that was erased below one that is wrapped.
     (
         (3, 2, None),
@@ -59,27 +67,19 @@ const ERASED_OR_KEPT: &[Case<&str>] = &[
 
 #[test]
 fn texts_of_erased_and_kept_rows(rt: HostRuntime) -> Result<(), Fail> {
-    check_each(&rt, ERASED_OR_KEPT, check_contents)
-}
-
-/// What a text holds then that held this.
-fn text_after(alloc: Global, held: &str, grid: &Grid) -> Result<String, GridError> {
-    let mut text = String::from_str(alloc, held)?;
-    grid.write_contents(&mut text)?;
-    Ok(text)
-}
-
-fn check_newlines<R: Abort + AllocGlobal>(rt: &R, grid: &mut Grid) -> Result<(), Fail> {
-    let text = text_after(rt.alloc(), "x\n", grid)?;
-    same(rt, &text.as_str(), &"x\na");
-    grid.clear();
-    let text = text_after(rt.alloc(), "x\na\n", grid)?;
-    same(rt, &text.as_str(), &"x\na");
-    Ok(())
+    check_texts(&rt, ERASED_OR_KEPT)
 }
 
 /// What stood in the string stays, but for newlines at its end.
 #[test]
 fn appends(rt: HostRuntime) -> Result<(), Fail> {
-    with_grid(&rt, (2, 2, None), &[Step::Print("a")], check_newlines)
+    let (mut grid, _) = run(rt.alloc(), (2, 2, None), &[Step::Print("a")])?;
+    let mut text = String::from_str(rt.alloc(), "x\n")?;
+    grid.write_contents(&mut text)?;
+    same(&rt, &text.as_str(), &"x\na");
+    text.push('\n')?;
+    grid.clear();
+    grid.write_contents(&mut text)?;
+    same(&rt, &text.as_str(), &"x\na");
+    Ok(())
 }

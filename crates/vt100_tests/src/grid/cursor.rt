@@ -82,33 +82,24 @@ fn follow(rt: &impl Abort, grid: &mut Grid, moves: &[(Move, (u16, u16))])
     }
 }
 
-fn check_moves<R: Abort>(rt: &R, grid: &mut Grid) -> Result<(), Fail>
-    requires { IsAllocated grid.old }
-{
-    follow(rt, grid, MOVES);
-    follow(rt, grid, IN_A_REGION);
+#[test]
+fn moves(rt: HostRuntime) -> Result<(), Fail> {
+    let mut screen = grid(rt.alloc(), (6, 20, None))?;
+    follow(&rt, &mut screen, MOVES);
+    follow(&rt, &mut screen, IN_A_REGION);
     Ok(())
 }
 
 #[test]
-fn moves(rt: HostRuntime) -> Result<(), Fail> {
-    with_grid(&rt, (6, 20, None), &[], check_moves)
-}
-
-fn check_waiting<R: Abort + AllocGlobal>(rt: &R, grid: &mut Grid) -> Result<(), Fail>
-    requires { IsAllocated grid.old }
-{
+fn waits_past_the_last_column(rt: HostRuntime) -> Result<(), Fail> {
+    let mut grid = grid(rt.alloc(), (2, 2, None))?;
+    print(&mut grid, "a", &mut Counter::default())?;
     if grid.pos().col < grid.size().cols() {
         grid.col_inc(1);
     }
-    check(rt, grid, "a./../ 0 2")?;
+    check(&rt, &grid, "a./../ 0 2")?;
     if 1 <= grid.size().cols() {
         grid.col_wrap(1, true, &mut ())?;
     }
-    check(rt, grid, "a./../ 1 0")
-}
-
-#[test]
-fn waits_past_the_last_column(rt: HostRuntime) -> Result<(), Fail> {
-    with_grid(&rt, (2, 2, None), &[Step::Print("a")], check_waiting)
+    check(&rt, &grid, "a./../ 1 0")
 }

@@ -46,22 +46,22 @@ pub fn apply(grid: &mut Grid, edit: Edit, sink: &mut Counter) -> Result<(), Grid
     Ok(())
 }
 
-/// Edits at the second column of the second row, and the rows and the cursor then.
+/// Edits at the second column of the second row.
 const AROUND: &[(Edit, &str)] = &[
-    (Edit::EraseAll, "..../..../..../ 1 1"),
-    (Edit::EraseAllForward, "abcd/e.../..../ 1 1"),
-    (Edit::EraseAllBackward, "..../..gh/ijkl/ 1 1"),
-    (Edit::EraseRow, "abcd/..../ijkl/ 1 1"),
-    (Edit::EraseRowForward, "abcd/e.../ijkl/ 1 1"),
-    (Edit::EraseRowBackward, "abcd/..gh/ijkl/ 1 1"),
-    (Edit::EraseCells(2), "abcd/e..h/ijkl/ 1 1"),
-    (Edit::InsertCells(2), "abcd/e..f/ijkl/ 1 1"),
-    (Edit::DeleteCells(2), "abcd/eh../ijkl/ 1 1"),
-    (Edit::InsertLines(1), "abcd/..../efgh/ 1 1"),
-    (Edit::DeleteLines(1), "abcd/ijkl/..../ 1 1"),
-    (Edit::ScrollUp(2), "ijkl/..../..../ 1 1"),
-    (Edit::ScrollDown(1), "..../abcd/efgh/ 1 1"),
-    (Edit::RowDecScroll(3), "..../..../abcd/ 0 1"),
+    (Edit::EraseAll, "..../..../..../"),
+    (Edit::EraseAllForward, "abcd/e.../..../"),
+    (Edit::EraseAllBackward, "..../..gh/ijkl/"),
+    (Edit::EraseRow, "abcd/..../ijkl/"),
+    (Edit::EraseRowForward, "abcd/e.../ijkl/"),
+    (Edit::EraseRowBackward, "abcd/..gh/ijkl/"),
+    (Edit::EraseCells(2), "abcd/e..h/ijkl/"),
+    (Edit::InsertCells(2), "abcd/e..f/ijkl/"),
+    (Edit::DeleteCells(2), "abcd/eh../ijkl/"),
+    (Edit::InsertLines(1), "abcd/..../efgh/"),
+    (Edit::DeleteLines(1), "abcd/ijkl/..../"),
+    (Edit::ScrollUp(2), "ijkl/..../..../"),
+    (Edit::ScrollDown(1), "..../abcd/efgh/"),
+    (Edit::RowDecScroll(3), "..../..../abcd/"),
 ];
 
 #[test]
@@ -72,12 +72,13 @@ fn edits_around_the_cursor(rt: HostRuntime) -> Result<(), Fail> {
             Step::Go(Move::To(1, 1)),
             Step::Edit(*edit),
         ];
-        check_one(&rt, (3, 4, None), &steps, *want, check)?;
+        let (grid, _) = run(rt.alloc(), (3, 4, None), &steps)?;
+        same(&rt, &drawn(rt.alloc(), &grid)?.as_str(), want);
     }
     Ok(())
 }
 
-const CASES: &[Case<Outcome>] = &[
+const CASES: &[Case] = &[
     // Lines of a region.
     (
         (3, 1, None),
@@ -86,18 +87,21 @@ const CASES: &[Case<Outcome>] = &[
             Step::Go(Move::Region(1, 2)),
             Step::Edit(Edit::RowDecScroll(1)),
         ],
-        ("a/./b/ 1 0", (0, 0, 0)),
+        "a/./b/ 1 0",
+        (0, 0, 0),
     ),
     (
         (2, 1, None),
         &[Step::Print("a\r\nb"), Step::Clear],
-        ("././ 0 0", (0, 0, 0)),
+        "././ 0 0",
+        (0, 0, 0),
     ),
     // The row that was kept goes, and of the two that leave then the first, which is never kept.
     (
         (2, 2, Some(1)),
         &[Step::Print("a\r\nb\r\nc"), Step::Edit(Edit::ScrollUp(3))],
-        ("../../ 1 1", (1, 0, 2)),
+        "../../ 1 1",
+        (1, 0, 2),
     ),
     (
         (2, 2, Some(1)),
@@ -106,7 +110,8 @@ const CASES: &[Case<Outcome>] = &[
             Step::Edit(Edit::ScrollUp(3)),
             Step::EraseScrollback,
         ],
-        ("../../ 1 1", (0, 0, 3)),
+        "../../ 1 1",
+        (0, 0, 3),
     ),
 ];
 
@@ -115,13 +120,10 @@ fn edits_of_lines(rt: HostRuntime) -> Result<(), Fail> {
     check_all(&rt, CASES)
 }
 
-fn check_copy<R: Abort + AllocGlobal>(rt: &R, grid: &mut Grid) -> Result<(), Fail> {
-    let copy = grid.clone()?;
-    grid.clear();
-    check(rt, &copy, "a/b/ 1 1")
-}
-
 #[test]
 fn a_copy_is_a_grid_of_its_own(rt: HostRuntime) -> Result<(), Fail> {
-    with_grid(&rt, (2, 1, None), &[Step::Print("a\r\nb")], check_copy)
+    let (mut grid, _) = run(rt.alloc(), (2, 1, None), &[Step::Print("a\r\nb")])?;
+    let copy = grid.clone()?;
+    grid.clear();
+    check(&rt, &copy, "a/b/ 1 1")
 }

@@ -1,23 +1,106 @@
 //! Calls that find no memory. They are refused where the tests run with allocations that fail; else each succeeds at
 //! once.
-ghost use Rattle.std.specs.Prelude.{◌<◌, length};
+ghost use Rattle.std.specs.Prelude.{IfOk, ◌<◌, length};
 ghost use Rattle.vt100_core.specs.Grid.{IsAllocated};
 
-use super::contents::check_contents;
-use super::writers::{check_difference, check_place, check_redraw};
 use super::*;
+use crate::begun::{check_refused, check_text, retried_text};
+use std::process::Abort;
 
-/// A grid has so many rows and columns, and keeps so many rows at most, if there is scrollback.
-fn check_start<R: Abort>(rt: &R, grid: &Grid, start: Start) -> Result<(), Fail> {
+/// How many rows are drawn on, and whether each has so many columns.
+fn drawn_rows(grid: &Grid, cols: u16) -> (u32, bool) {
+    let mut count = 0_u32;
+    let mut is_even = true;
+    for row in grid.drawing_rows() {
+        is_even &= row.cols() == cols;
+        count = count.saturating_add(1);
+    }
+    (count, is_even)
+}
+
+/// Whether each row that is shown has so many columns at least.
+fn shows_wide_rows(grid: &Grid, cols: u16) -> bool {
+    let mut is_wide = true;
+    for row in grid.visible_rows() {
+        is_wide &= row.cols() >= cols;
+    }
+    is_wide
+}
+
+/// Whether the cursor, the rows that are kept and those that are shown are within their bounds.
+fn fits(grid: &Grid, rows: u16, cols: u16) -> [bool; 4] {
+    let (len, offset) = (grid.scrollback_len(), grid.scrollback());
+    let capacity = grid.scrollback_capacity();
+    let Pos { row, col } = grid.pos();
+    [row < rows, col <= cols, len <= capacity, offset <= len]
+}
+
+/// What every grid keeps to, also after a refusal.
+fn check_grid<R: Abort>(rt: &R, grid: &Grid, rows: u16, cols: u16) {
+    let size = (grid.size().rows(), grid.size().cols());
+    let is_wide = shows_wide_rows(grid, cols);
+    same(
+        rt,
+        &(
+            size,
+            drawn_rows(grid, cols),
+            is_wide,
+            fits(grid, rows, cols),
+        ),
+        &((rows, cols), (u32::from(rows), true), true, [true; 4]),
+    );
+}
+
+/// A grid whose rows were allocated at the second try, if the first was refused.
+fn retried_grid(alloc: Global, start: Start) -> Result<Grid, Fail>
+    ensures { IfOk result (λ g. IsAllocated g) }
+{
     let (rows, cols, capacity) = start;
-    check_grid(rt, grid, rows, cols);
-    same(rt, &grid.scrollback_capacity(), &capacity.unwrap_or(0));
+    let mut grid = Grid::new(alloc, size(rows, cols), scrollback(capacity));
+    if grid.allocate_rows().is_err() {
+        grid.allocate_rows()?;
+    }
+    Ok(grid)
+}
+
+/// Prints a text, and once more from the start if that was refused.
+fn retried_print<R: Abort>(rt: &R, grid: &mut Grid, text: &str) -> Result<(), Fail>
+    requires { IsAllocated grid.old }
+    ensures { IsAllocated grid.new }
+{
+    let size = grid.size();
+    if print(grid, text, &mut Counter::default()).is_err() {
+        check_grid(rt, grid, size.rows(), size.cols());
+        grid.clear();
+        print(grid, text, &mut Counter::default())?;
+    }
+    Ok(())
+}
+
+/// A grid's rows as text, written at the second try if the first was refused.
+fn retried_drawn(alloc: Global, grid: &Grid) -> Result<String, GridError> {
+    match drawn(alloc, grid) {
+        Ok(text) => Ok(text),
+        Err(_) => drawn(alloc, grid),
+    }
+}
+
+/// A grid's rows are these, and its cursor stands at this row and column.
+fn check_again(
+    rt: &(impl Abort + AllocGlobal),
+    grid: &Grid,
+    want: (&str, u16, u16),
+) -> Result<(), Fail> {
+    let text = retried_drawn(rt.alloc(), grid)?;
+    let Pos { row, col } = grid.pos();
+    same(rt, &(text.as_str(), row, col), &want);
     Ok(())
 }
 
 #[test]
 fn rows_are_allocated_or_none(rt: HostRuntime) -> Result<(), Fail> {
-    check_one(&rt, (2, 3, None), &[], (2, 3, None), check_start)?;
+    let grid = retried_grid(rt.alloc(), (2, 3, None))?;
+    check_grid(&rt, &grid, 2, 3);
     Ok(())
 }
 
@@ -33,99 +116,76 @@ const ROOMY: &[Start] = &[
 #[test]
 fn rows_are_allocated_at_any_capacity(rt: HostRuntime) -> Result<(), Fail> {
     for start in ROOMY {
-        check_one(&rt, *start, &[], *start, check_start)?;
+        let grid = retried_grid(rt.alloc(), *start)?;
+        let (rows, cols, capacity) = *start;
+        check_grid(&rt, &grid, rows, cols);
+        same(&rt, &Some(grid.scrollback_capacity()), &capacity);
     }
     Ok(())
 }
-
-/// A grid of two rows and columns, and what it shows.
-fn check_small<R: Abort + AllocGlobal>(rt: &R, grid: &Grid, want: &str) -> Result<(), Fail> {
-    check_grid(rt, grid, 2, 2);
-    check(rt, grid, want)
-}
-
-const WIDENED: &[Case<&str>] = &[(
-    (2, 2, Some(3)),
-    &[Step::Print("abcd\u{2764}\u{fe0f}x")],
-    "\u{2764}\u{fe0f}_>/x./ 1 1",
-)];
 
 #[test]
 fn text_that_wraps_and_widens(rt: HostRuntime) -> Result<(), Fail> {
-    check_each(&rt, WIDENED, check_small)
-}
-
-const THREE_LINES: &[Step] = &[Step::Print("a\r\nb\r\nc")];
-
-/// Goes down by two rows, at the second try if the first was refused.
-fn retried_lines<R: Abort>(rt: &R, grid: &mut Grid) -> Result<(), Fail>
-    requires { IsAllocated grid.old }
-{
-    let mut lines = grid.row_inc_scroll(2, &mut ());
-    if lines.is_err() {
-        check_grid(rt, grid, 3, 2);
-        lines = grid.row_inc_scroll(2, &mut ());
-    }
-    same(rt, &lines, &Ok(2));
-    check_grid(rt, grid, 3, 2);
-    Ok(())
+    let mut grid = retried_grid(rt.alloc(), (2, 2, Some(3)))?;
+    retried_print(&rt, &mut grid, "abcd\u{2764}\u{fe0f}x")?;
+    check_grid(&rt, &grid, 2, 2);
+    check_again(&rt, &grid, ("\u{2764}\u{fe0f}_>/x./", 1, 1))
 }
 
 #[test]
 fn rows_that_are_kept(rt: HostRuntime) -> Result<(), Fail> {
-    with_grid(&rt, (3, 2, Some(3)), THREE_LINES, retried_lines)
-}
-
-/// Shows kept rows, at the second try if the first was refused.
-fn retried_scrollback<R: Abort>(rt: &R, grid: &mut Grid) -> Result<(), Fail>
-    requires { IsAllocated grid.old }
-{
-    if grid.set_scrollback(3).is_err() {
-        check_grid(rt, grid, 1, 2);
-        grid.set_scrollback(3)?;
+    let mut grid = retried_grid(rt.alloc(), (3, 2, Some(3)))?;
+    retried_print(&rt, &mut grid, "a\r\nb\r\nc")?;
+    let mut lines = grid.row_inc_scroll(2, &mut ());
+    if lines.is_err() {
+        check_grid(&rt, &grid, 3, 2);
+        lines = grid.row_inc_scroll(2, &mut ());
     }
-    check_grid(rt, grid, 1, 2);
-    same(rt, &(grid.scrollback() > 0), &true);
+    same(&rt, &lines, &Ok(2));
+    check_grid(&rt, &grid, 3, 2);
     Ok(())
 }
 
 #[test]
 fn rows_that_are_shown_again(rt: HostRuntime) -> Result<(), Fail> {
-    with_grid(&rt, (1, 2, Some(3)), THREE_LINES, retried_scrollback)
-}
-
-/// A copy, made at the second try if the first was refused.
-fn retried_copy<R: Abort>(rt: &R, grid: &Grid) -> Result<Grid, GridError> {
-    match grid.clone() {
-        Ok(copy) => Ok(copy),
-        Err(_) => {
-            check_grid(rt, grid, 2, 2);
-            grid.clone()
-        }
+    let mut grid = retried_grid(rt.alloc(), (1, 2, Some(3)))?;
+    retried_print(&rt, &mut grid, "a\r\nb\r\nc")?;
+    if grid.set_scrollback(3).is_err() {
+        check_grid(&rt, &grid, 1, 2);
+        grid.set_scrollback(3)?;
     }
-}
-
-fn check_copy<R: Abort>(rt: &R, grid: &mut Grid) -> Result<(), Fail> {
-    let copy = retried_copy(rt, grid)?;
-    check_grid(rt, &copy, 2, 2);
-    same(rt, &copy.scrollback_len(), &grid.scrollback_len());
+    check_grid(&rt, &grid, 1, 2);
+    same(&rt, &(grid.scrollback() > 0), &true);
     Ok(())
 }
 
 #[test]
 fn copies(rt: HostRuntime) -> Result<(), Fail> {
-    with_grid(&rt, (2, 2, Some(3)), THREE_LINES, check_copy)
+    let mut grid = retried_grid(rt.alloc(), (2, 2, Some(3)))?;
+    retried_print(&rt, &mut grid, "a\r\nb\r\nc")?;
+    let copy = match grid.clone() {
+        Ok(copy) => copy,
+        Err(_) => {
+            check_grid(&rt, &grid, 2, 2);
+            grid.clone()?
+        }
+    };
+    check_grid(&rt, &copy, 2, 2);
+    same(&rt, &copy.scrollback_len(), &grid.scrollback_len());
+    Ok(())
 }
-
-const TEXTS: &[Case<&str>] = &[(
-    (3, 20, None),
-    &[Step::Print("a line of text\r\n\r\nand a third")],
-    "a line of text\n\nand a third",
-)];
 
 #[test]
 fn texts(rt: HostRuntime) -> Result<(), Fail> {
-    check_each(&rt, TEXTS, check_contents)
+    let mut grid = retried_grid(rt.alloc(), (3, 20, None))?;
+    retried_print(&rt, &mut grid, "a line of text\r\n\r\nand a third")?;
+    let mut text = String::new(rt.alloc());
+    if grid.write_contents(&mut text).is_err() {
+        text.clear();
+        grid.write_contents(&mut text)?;
+    }
+    same(&rt, &text.as_str(), &"a line of text\n\nand a third");
+    Ok(())
 }
 
 /// Gives a grid another size, at the second try if the first was refused.
@@ -139,98 +199,66 @@ fn retried_size<R: Abort>(rt: &R, grid: &mut Grid, rows: u16, cols: u16) -> Resu
     Ok(())
 }
 
-fn check_sizes<R: Abort>(rt: &R, grid: &mut Grid) -> Result<(), Fail> {
-    retried_size(rt, grid, 4, 3)?;
-    retried_size(rt, grid, 1, 2)?;
-    retried_size(rt, grid, 3, 4)
-}
-
 #[test]
 fn sizes(rt: HostRuntime) -> Result<(), Fail> {
-    with_grid(&rt, (2, 2, Some(3)), THREE_LINES, check_sizes)
+    let mut grid = retried_grid(rt.alloc(), (2, 2, Some(3)))?;
+    retried_print(&rt, &mut grid, "a\r\nb\r\nc")?;
+    retried_size(&rt, &mut grid, 4, 3)?;
+    retried_size(&rt, &mut grid, 1, 2)?;
+    retried_size(&rt, &mut grid, 3, 4)?;
+    Ok(())
 }
 
-/// Scrolls a grid up after these steps, and does both once more on an empty one if that was refused.
-fn retried_scroll<R: Abort>(
-    rt: &R,
-    grid: &mut Grid,
-    steps: &[Step<'_>],
-    count: u16,
-) -> Result<(), Fail>
+/// Prints a text on a new grid, scrolls it up, and does both once more on an empty one if that was refused.
+fn scrolled_grid<R: Abort>(rt: &R, grid: &mut Grid, text: &str, count: u16) -> Result<(), Fail>
     requires { IsAllocated grid.old }
     ensures { IsAllocated grid.new }
 {
     let size = grid.size();
+    retried_print(rt, grid, text)?;
     if grid.scroll_up(count, &mut ()).is_err() {
         check_grid(rt, grid, size.rows(), size.cols());
         grid.clear();
         grid.erase_all_scrollback(&mut ());
-        retried_steps(rt, grid, steps)?;
+        retried_print(rt, grid, text)?;
         grid.scroll_up(count, &mut ())?;
     }
     Ok(())
 }
 
-/// Rows, columns and capacity, what is done to a grid, by how many lines it scrolls up, the grid then, and how many rows
-/// it keeps.
-const SCROLLED: &[(Start, &[Step], u16, &str, usize)] = &[
-    ((3, 2, Some(3)), THREE_LINES, 2, "c./../../ 2 1", 2),
-    ((3, 2, Some(1)), THREE_LINES, 2, "c./../../ 2 1", 1),
-    (
-        (2, 2, Some(9)),
-        &[Step::Print("ab\r\nc")],
-        9,
-        "../../ 1 1",
-        2,
-    ),
-    (
-        (2, 2, Some(0)),
-        &[Step::Print("ab\r\nc")],
-        1,
-        "c./../ 1 1",
-        0,
-    ),
+/// Rows, columns and capacity, a text that is printed, by how many lines it scrolls up, the grid then, and how many
+/// rows it keeps.
+const SCROLLED: &[(Start, &str, u16, (&str, u16, u16), usize)] = &[
+    ((3, 2, Some(3)), "a\r\nb\r\nc", 2, ("c./../../", 2, 1), 2),
+    ((3, 2, Some(1)), "a\r\nb\r\nc", 2, ("c./../../", 2, 1), 1),
+    ((2, 2, Some(9)), "ab\r\nc", 9, ("../../", 1, 1), 2),
+    ((2, 2, Some(0)), "ab\r\nc", 1, ("c./../", 1, 1), 0),
 ];
-
-fn check_scrolled<R: Abort + AllocGlobal>(
-    rt: &R,
-    grid: &mut Grid,
-    scroll: (&[Step<'_>], u16),
-    want: (&str, usize),
-) -> Result<(), Fail>
-    requires { IsAllocated grid.old }
-{
-    let ((steps, count), (shown, kept)) = (scroll, want);
-    retried_scroll(rt, grid, steps, count)?;
-    same(rt, &grid.scrollback_len(), &kept);
-    check(rt, grid, shown)
-}
 
 #[test]
 fn lines_that_scroll_up(rt: HostRuntime) -> Result<(), Fail> {
-    for (start, steps, count, want, kept) in SCROLLED {
-        with_grid(&rt, *start, steps, |rt, grid| {
-            check_scrolled(rt, grid, (steps, *count), (want, *kept))
-        })?;
+    for (start, text, count, want, kept) in SCROLLED {
+        let mut grid = retried_grid(rt.alloc(), *start)?;
+        scrolled_grid(&rt, &mut grid, text, *count)?;
+        check_again(&rt, &grid, *want)?;
+        same(&rt, &grid.scrollback_len(), kept);
     }
     Ok(())
 }
 
-/// A grid of two columns whose last row is full.
-const FULL_ROW: &[Step] = &[Step::Print("a\r\nbc")];
-
 /// Goes to the next row where there is no room for a column more, and does so again if that was refused.
-fn retried_wrap<R: Abort>(rt: &R, grid: &mut Grid) -> Result<(), Fail>
+fn retried_wrap<R: Abort>(rt: &R, grid: &mut Grid, text: &str) -> Result<(), Fail>
     requires { IsAllocated grid.old }
+    ensures { IsAllocated grid.new }
 {
-    let size = grid.size();
-    if size.cols() < 1 {
+    retried_print(rt, grid, text)?;
+    if grid.size().cols() < 1 {
         return Ok(());
     }
     if grid.col_wrap(1, true, &mut ()).is_err() {
-        check_grid(rt, grid, size.rows(), size.cols());
+        check_grid(rt, grid, grid.size().rows(), grid.size().cols());
         grid.clear();
-        take_all(grid, FULL_ROW)?;
+        print(grid, text, &mut Counter::default())?;
         if 1 <= grid.size().cols() {
             grid.col_wrap(1, true, &mut ())?;
         }
@@ -238,82 +266,113 @@ fn retried_wrap<R: Abort>(rt: &R, grid: &mut Grid) -> Result<(), Fail>
     Ok(())
 }
 
-fn check_full_row<R: Abort + AllocGlobal>(rt: &R, grid: &mut Grid) -> Result<(), Fail>
-    requires { IsAllocated grid.old }
-{
-    retried_wrap(rt, grid)?;
-    same(rt, &grid.scrollback_len(), &1);
-    check(rt, grid, "bc>/../ 1 0")
-}
-
 #[test]
 fn a_full_row_that_wraps(rt: HostRuntime) -> Result<(), Fail> {
-    with_grid(&rt, (2, 2, Some(3)), FULL_ROW, check_full_row)
+    let mut grid = retried_grid(rt.alloc(), (2, 2, Some(3)))?;
+    retried_wrap(&rt, &mut grid, "a\r\nbc")?;
+    check_again(&rt, &grid, ("bc>/../", 1, 0))?;
+    same(&rt, &grid.scrollback_len(), &1);
+    Ok(())
 }
 
-/// A grid's redraw, and how a cursor at a place that isn't known comes to its place.
-const REDRAWS: &[Case<(&str, &str)>] = &[
-    ((2, 4, None), &[], ("\x1b[m\x1b[H\x1b[J", "\x1b[H")),
+/// A grid with a text printed on it, each made at the second try if the first was refused.
+fn printed_grid<R: Abort>(rt: &R, alloc: Global, start: Start, text: &str) -> Result<Grid, Fail>
+    ensures { IfOk result (λ g. IsAllocated g) }
+{
+    let mut grid = retried_grid(alloc, start)?;
+    retried_print(rt, &mut grid, text)?;
+    Ok(grid)
+}
+
+/// Rows, columns and capacity, a text that is printed, the redraw, and how a cursor at a place that isn't known comes to
+/// its place.
+const REDRAWS: &[(Start, &str, &str, &str)] = &[
+    ((2, 4, None), "", "\x1b[m\x1b[H\x1b[J", "\x1b[H"),
     (
         (2, 4, None),
-        &[Step::Print("abcdxyz")],
-        ("\x1b[m\x1b[H\x1b[Jabcdxyz", "\x1b[2;4H"),
+        "abcdxyz",
+        "\x1b[m\x1b[H\x1b[Jabcdxyz",
+        "\x1b[2;4H",
     ),
     (
         (3, 4, Some(3)),
-        &[Step::Print("ab\r\n\r\nc")],
-        ("\x1b[m\x1b[H\x1b[Jab\x1b[3;1Hc", "\x1b[3;2H"),
+        "ab\r\n\r\nc",
+        "\x1b[m\x1b[H\x1b[Jab\x1b[3;1Hc",
+        "\x1b[3;2H",
     ),
-    (
-        (2, 4, None),
-        &[Step::Print("abcd")],
-        ("\x1b[m\x1b[H\x1b[Jabcd", "\x1b[1;4Hd"),
-    ),
+    ((2, 4, None), "abcd", "\x1b[m\x1b[H\x1b[Jabcd", "\x1b[1;4Hd"),
 ];
+
+/// Draws a grid, once more if that was refused.
+fn check_redraw(rt: &(impl Abort + AllocGlobal), grid: &Grid, want: &str) -> Result<(), Fail> {
+    let mut text = retried_text(rt.alloc())?;
+    if let Err(error) = grid.write_contents_formatted(&mut text) {
+        check_refused(rt, &mut text, error, want)?;
+        grid.write_contents_formatted(&mut text)?;
+    }
+    check_text(rt, &text, want);
+    Ok(())
+}
 
 #[test]
 fn redraws(rt: HostRuntime) -> Result<(), Fail> {
-    check_each(&rt, REDRAWS, check_redraw)
+    for (start, printed, want, _) in REDRAWS {
+        let grid = printed_grid(&rt, rt.alloc(), *start, printed)?;
+        check_redraw(&rt, &grid, want)?;
+    }
+    Ok(())
 }
 
-fn check_cursor<R: Abort + AllocGlobal>(
-    rt: &R,
-    grid: &Grid,
-    (_, want): (&str, &str),
-) -> Result<(), Fail> {
-    check_place(rt, grid, want)
+/// Brings the cursor to its place, once more if that was refused.
+fn check_place(rt: &(impl Abort + AllocGlobal), grid: &Grid, want: &str) -> Result<(), Fail> {
+    let mut text = retried_text(rt.alloc())?;
+    if let Err(error) = grid.write_cursor_position_formatted(&mut text, None, None) {
+        check_refused(rt, &mut text, error, want)?;
+        grid.write_cursor_position_formatted(&mut text, None, None)?;
+    }
+    check_text(rt, &text, want);
+    Ok(())
 }
 
 #[test]
 fn places_of_the_cursor(rt: HostRuntime) -> Result<(), Fail> {
-    check_each(&rt, REDRAWS, check_cursor)
+    for (start, printed, _, want) in REDRAWS {
+        let grid = printed_grid(&rt, rt.alloc(), *start, printed)?;
+        check_place(&rt, &grid, want)?;
+    }
+    Ok(())
 }
 
-/// What is printed on an earlier grid and on a later one, and how they differ.
-const DIFFERENCES: &[Case<(&[Step], &str)>] = &[
-    (
-        (2, 4, None),
-        &[Step::Print("abcd")],
-        (&[Step::Print("abcd")], ""),
-    ),
-    (
-        (2, 4, None),
-        &[Step::Print("abcd")],
-        (&[Step::Print("abcd\rxyz")], "\x1b[Hxyz"),
-    ),
-    (
-        (2, 4, None),
-        &[Step::Print("abcd")],
-        (&[Step::Print("abcdx")], "\x1b[1;4Hdx"),
-    ),
-    (
-        (2, 4, None),
-        &[Step::Print("ab")],
-        (&[Step::Print("ab中")], "中"),
-    ),
+/// Rows and columns, what is printed on the earlier grid and on the later one, and the difference.
+const DIFFERENCES: &[(Start, &str, &str, &str)] = &[
+    ((2, 4, None), "abcd", "abcd", ""),
+    ((2, 4, None), "abcd", "abcd\rxyz", "\x1b[Hxyz"),
+    ((2, 4, None), "abcd", "abcdx", "\x1b[1;4Hdx"),
+    ((2, 4, None), "ab", "ab中", "中"),
 ];
+
+/// Draws the difference of two grids, once more if that was refused.
+fn check_diff(
+    rt: &(impl Abort + AllocGlobal),
+    prev: &Grid,
+    grid: &Grid,
+    want: &str,
+) -> Result<(), Fail> {
+    let mut text = retried_text(rt.alloc())?;
+    if let Err(error) = grid.write_contents_diff(&mut text, prev, Attrs::new()) {
+        check_refused(rt, &mut text, error, want)?;
+        grid.write_contents_diff(&mut text, prev, Attrs::new())?;
+    }
+    check_text(rt, &text, want);
+    Ok(())
+}
 
 #[test]
 fn differences(rt: HostRuntime) -> Result<(), Fail> {
-    check_each(&rt, DIFFERENCES, check_difference)
+    for (start, earlier, later, want) in DIFFERENCES {
+        let prev = printed_grid(&rt, rt.alloc(), *start, earlier)?;
+        let grid = printed_grid(&rt, rt.alloc(), *start, later)?;
+        check_diff(&rt, &prev, &grid, want)?;
+    }
+    Ok(())
 }

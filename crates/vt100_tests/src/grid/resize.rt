@@ -3,24 +3,27 @@ use super::*;
 
 const THREE_LINES: Step = Step::Print("a\r\nb\r\nc");
 
-const CASES: &[Case<Outcome>] = &[
+const CASES: &[Case] = &[
     // A row that was not kept comes back blank.
     (
         (2, 4, Some(0)),
         &[THREE_LINES, Step::Size(4, 4)],
-        ("..../b.../c.../..../ 2 1", (0, 0, 1)),
+        "..../b.../c.../..../ 2 1",
+        (0, 0, 1),
     ),
     // A kept one comes back as wide as the screen.
     (
         (2, 4, Some(5)),
         &[THREE_LINES, Step::Show(1), Step::Size(3, 6)],
-        ("a...../b...../c...../ 2 1", (0, 0, 0)),
+        "a...../b...../c...../ 2 1",
+        (0, 0, 0),
     ),
     // The row below the cursor goes, then the first one scrolls off. The wide character is cut.
     (
         (3, 3, None),
         &[Step::Print("abcd中f")],
-        ("abc>/d中_>/f../ 2 1", (0, 0, 0)),
+        "abc>/d中_>/f../ 2 1",
+        (0, 0, 0),
     ),
     (
         (3, 3, None),
@@ -29,7 +32,8 @@ const CASES: &[Case<Outcome>] = &[
             Step::Go(Move::To(1, 2)),
             Step::Size(1, 2),
         ],
-        ("d./ 0 1", (0, 0, 1)),
+        "d./ 0 1",
+        (0, 0, 1),
     ),
     // The saved cursor comes into a lower screen.
     (
@@ -41,7 +45,8 @@ const CASES: &[Case<Outcome>] = &[
             Step::Size(1, 2),
             Step::Go(Move::Restore),
         ],
-        ("../ 0 1", (0, 0, 1)),
+        "../ 0 1",
+        (0, 0, 1),
     ),
     // The same size changes nothing.
     (
@@ -52,18 +57,21 @@ const CASES: &[Case<Outcome>] = &[
             Step::Go(Move::To(1, 4)),
             Step::Size(2, 4),
         ],
-        ("b.../c.../ 1 3", (1, 1, 0)),
+        "b.../c.../ 1 3",
+        (1, 1, 0),
     ),
     // A wider row is not wrapped any more.
     (
         (2, 2, None),
         &[Step::Print("abcd")],
-        ("ab>/cd/ 1 2", (0, 0, 0)),
+        "ab>/cd/ 1 2",
+        (0, 0, 0),
     ),
     (
         (2, 2, None),
         &[Step::Print("abcd"), Step::Size(2, 3)],
-        ("ab./cd./ 1 2", (0, 0, 0)),
+        "ab./cd./ 1 2",
+        (0, 0, 0),
     ),
 ];
 

@@ -2,10 +2,9 @@
 ghost use Rattle.std.specs.Prelude.{◌<◌, length};
 ghost use Rattle.vt100_core.specs.Grid.{IsAllocated};
 
-use super::contents::check_contents;
 use super::*;
 
-const CASES: &[Case<Outcome>] = &[
+const CASES: &[Case] = &[
     (
         (1, 4, None),
         &[
@@ -13,12 +12,14 @@ const CASES: &[Case<Outcome>] = &[
             Step::Go(Move::To(0, 1)),
             Step::Print("x"),
         ],
-        (".x文_/ 0 2", (0, 0, 0)),
+        ".x文_/ 0 2",
+        (0, 0, 0),
     ),
     (
         (2, 2, None),
         &[Step::Print("abc")],
-        ("ab>/c./ 1 1", (0, 0, 0)),
+        "ab>/c./ 1 1",
+        (0, 0, 0),
     ),
     (
         (2, 2, None),
@@ -27,13 +28,15 @@ const CASES: &[Case<Outcome>] = &[
             Step::Go(Move::To(0, 1)),
             Step::Edit(Edit::EraseCells(1)),
         ],
-        ("a./c./ 0 1", (0, 0, 0)),
+        "a./c./ 0 1",
+        (0, 0, 0),
     ),
     // A cell that is widened in the last column goes to the next row.
     (
         (2, 2, None),
         &[Step::Print("ab\r\nc\u{2764}\u{fe0f}")],
-        ("c./\u{2764}\u{fe0f}_/ 1 2", (0, 0, 1)),
+        "c./\u{2764}\u{fe0f}_/ 1 2",
+        (0, 0, 1),
     ),
 ];
 
@@ -42,15 +45,18 @@ fn prints(rt: HostRuntime) -> Result<(), Fail> {
     check_all(&rt, CASES)
 }
 
-fn check_wrapped<R: Abort + AllocGlobal>(rt: &R, grid: &mut Grid) -> Result<(), Fail> {
-    same(rt, &grid.pos(), &Pos { row: 0, col: 1 });
-    check_contents(rt, grid, "b")
-}
-
 #[test]
 fn wraps_at_the_last_of_65535_columns(rt: HostRuntime) -> Result<(), Fail> {
     let steps = [Step::Go(Move::To(0, 65534)), Step::Print("ab")];
-    with_grid(&rt, (1, 65535, None), &steps, check_wrapped)
+    let (grid, _) = run(rt.alloc(), (1, 65535, None), &steps)?;
+    let mut text = String::new(rt.alloc());
+    grid.write_contents(&mut text)?;
+    same(
+        &rt,
+        &(text.as_str(), grid.pos()),
+        &("b", Pos { row: 0, col: 1 }),
+    );
+    Ok(())
 }
 
 /// What became of a character, if memory was found.
@@ -61,32 +67,28 @@ fn printed(grid: &mut Grid, c: char) -> Option<Printed>
     grid.text(c, Attrs::new(), &mut ()).ok()
 }
 
-fn check_printed<R: Abort + AllocGlobal>(rt: &R, grid: &mut Grid) -> Result<(), Fail>
-    requires { IsAllocated grid.old }
-{
+#[test]
+fn tells_what_was_printed(rt: HostRuntime) -> Result<(), Fail> {
+    let mut grid = grid(rt.alloc(), (1, 3, None))?;
     let told = [
-        printed(grid, '\u{301}'),
-        printed(grid, 'e'),
-        printed(grid, '\u{301}'),
-        printed(grid, '\u{7f}'),
+        printed(&mut grid, '\u{301}'),
+        printed(&mut grid, 'e'),
+        printed(&mut grid, '\u{301}'),
+        printed(&mut grid, '\u{7f}'),
     ];
     let (nothing, spacing, joined) = (Printed::Nothing, Printed::Spacing, Printed::Joined);
     same(
-        rt,
+        &rt,
         &told,
         &[Some(nothing), Some(spacing), Some(joined), Some(nothing)],
     );
-    check(rt, grid, "e\u{301}../ 0 1")
+    check(&rt, &grid, "e\u{301}../ 0 1")
 }
 
 #[test]
-fn tells_what_was_printed(rt: HostRuntime) -> Result<(), Fail> {
-    with_grid(&rt, (1, 3, None), &[], check_printed)
-}
-
-fn check_kept<R: Abort>(rt: &R, grid: &mut Grid) -> Result<(), Fail>
-    requires { IsAllocated grid.old }
-{
+fn keeps_rows(rt: HostRuntime) -> Result<(), Fail> {
+    let mut grid = grid(rt.alloc(), (2, 2, Some(1)))?;
+    print(&mut grid, "a", &mut Counter::default())?;
     let lines = grid.row_inc_scroll(2, &mut ())?;
     grid.set_scrollback(5)?;
     let kept = (
@@ -97,36 +99,22 @@ fn check_kept<R: Abort>(rt: &R, grid: &mut Grid) -> Result<(), Fail>
     let first = grid
         .visible_cell(Pos { row: 0, col: 0 })
         .map(|cell| cell.contents());
-    same(rt, &(lines, kept, first), &(1, (1, 1, 1), Some("a")));
+    same(&rt, &(lines, kept, first), &(1, (1, 1, 1), Some("a")));
     Ok(())
 }
 
 #[test]
-fn keeps_rows(rt: HostRuntime) -> Result<(), Fail> {
-    with_grid(&rt, (2, 2, Some(1)), &[Step::Print("a")], check_kept)
-}
-
-fn check_run<R: Abort + AllocGlobal>(rt: &R, grid: &mut Grid) -> Result<(), Fail>
-    requires { IsAllocated grid.old }
-{
-    grid.text_run(b"abcdxyz", Attrs::new(), &mut ())?;
-    check(rt, grid, "abcd>/xyz./ 1 3")
-}
-
-#[test]
 fn prints_a_run(rt: HostRuntime) -> Result<(), Fail> {
-    with_grid(&rt, (2, 4, None), &[], check_run)
-}
-
-fn check_run_over_halves<R: Abort + AllocGlobal>(rt: &R, grid: &mut Grid) -> Result<(), Fail>
-    requires { IsAllocated grid.old }
-{
-    grid.text_run(b"xy", Attrs::new(), &mut ())?;
-    check(rt, grid, ".xy / 0 3")
+    let mut grid = grid(rt.alloc(), (2, 4, None))?;
+    grid.text_run(b"abcdxyz", Attrs::new(), &mut ())?;
+    check(&rt, &grid, "abcd>/xyz./ 1 3")
 }
 
 #[test]
 fn prints_a_run_over_halves_of_wide_characters(rt: HostRuntime) -> Result<(), Fail> {
-    let steps = [Step::Print("中文"), Step::Go(Move::ColSet(1))];
-    with_grid(&rt, (1, 4, None), &steps, check_run_over_halves)
+    let mut grid = grid(rt.alloc(), (1, 4, None))?;
+    print(&mut grid, "中文", &mut Counter::default())?;
+    grid.col_set(1);
+    grid.text_run(b"xy", Attrs::new(), &mut ())?;
+    check(&rt, &grid, ".xy / 0 3")
 }

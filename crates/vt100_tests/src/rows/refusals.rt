@@ -1,7 +1,38 @@
 //! Calls on a row that find no memory. They are refused where the tests run with allocations that fail; else each
 //! succeeds at once.
 use super::*;
+use crate::begun::{check_refused, check_text, retried_text};
 use vt100_forms::Pos;
+
+/// A row, made at the second try if the first was refused.
+fn retried_row(alloc: Global, cols: u16, text: &str) -> Result<Row, GridError> {
+    match row_of(alloc, cols, text) {
+        Ok(row) => Ok(row),
+        Err(_) => row_of(alloc, cols, text),
+    }
+}
+
+/// A wrapped row, made at the second try if the first was refused.
+fn wrapped_row(alloc: Global, cols: u16, text: &str) -> Result<Row, GridError> {
+    let mut row = retried_row(alloc, cols, text)?;
+    row.wrap(true);
+    Ok(row)
+}
+
+/// A row's cells as text, written at the second try if the first was refused.
+fn retried_shown(alloc: Global, row: &Row) -> Result<String, GridError> {
+    match shown(alloc, row) {
+        Ok(text) => Ok(text),
+        Err(_) => shown(alloc, row),
+    }
+}
+
+/// A row is this one.
+fn check_again(rt: &(impl Abort + AllocGlobal), row: &Row, want: &str) -> Result<(), Fail> {
+    let text = retried_shown(rt.alloc(), row)?;
+    same(rt, &text.as_str(), &want);
+    Ok(())
+}
 
 /// How many cells of a row are default ones.
 fn blank_cells(row: &Row) -> u32 {
@@ -15,24 +46,14 @@ fn blank_cells(row: &Row) -> u32 {
     count
 }
 
-/// How many columns a row has, how many cells are default ones, and whether it is wrapped.
-fn check_extent<R: Abort>(rt: &R, row: &mut Row, want: (u16, u32, bool)) -> Result<(), Fail> {
-    same(rt, &(row.cols(), blank_cells(row), row.wrapped()), &want);
-    Ok(())
-}
-
-/// Columns of a row on which nothing is printed, and its extent.
-const WIDTHS: &[(u16, &str, (u16, u32, bool))] = &[
-    (0, "", (0, 0, false)),
-    (1, "", (1, 1, false)),
-    (80, "", (80, 80, false)),
-    (4_096, "", (4_096, 4_096, false)),
-    (65_535, "", (65_535, 65_535, false)),
-];
-
 #[test]
 fn rows_of_any_width_are_made(rt: HostRuntime) -> Result<(), Fail> {
-    check_each(&rt, WIDTHS, check_extent)
+    for cols in [0, 1, 80, 4_096, 65_535] {
+        let row = retried_row(rt.alloc(), cols, "")?;
+        let told = (row.cols(), blank_cells(&row), row.wrapped());
+        same(&rt, &told, &(cols, u32::from(cols), false));
+    }
+    Ok(())
 }
 
 /// A copy, made at the second try if the first was refused.
@@ -55,16 +76,15 @@ const COPIED: &[(u16, &str, &str)] = &[
     ),
 ];
 
-/// A row that is wrapped and its copy are this one.
-fn check_copied<R: Abort + AllocGlobal>(rt: &R, row: &mut Row, want: &str) -> Result<(), Fail> {
-    row.wrap(true);
-    check(rt, &retried_copy(row)?, want)?;
-    check(rt, row, want)
-}
-
 #[test]
 fn rows_are_copied(rt: HostRuntime) -> Result<(), Fail> {
-    check_each(&rt, COPIED, check_copied)
+    for (cols, text, want) in COPIED {
+        let row = wrapped_row(rt.alloc(), *cols, text)?;
+        let copy = retried_copy(&row)?;
+        check_again(&rt, &copy, want)?;
+        check_again(&rt, &row, want)?;
+    }
+    Ok(())
 }
 
 /// Does an edit, at the second try if the first was refused: then the row was as before, and got longer.
@@ -77,7 +97,7 @@ fn retried_edit(
     let cols = row.cols();
     if let Err(error) = apply(row, edit) {
         same(rt, &error, &GridError::Memory);
-        check(rt, row, before)?;
+        check_again(rt, row, before)?;
         apply(row, edit)?;
         same(rt, &(cols < row.cols()), &true);
     }
@@ -85,74 +105,89 @@ fn retried_edit(
 }
 
 /// Columns, a text that is printed, the row when it is wrapped then, an edit, and the row after it.
-const LONGER: &[(u16, &str, (&str, Edit, &str))] = &[
-    (2, "ab", ("ab>", Edit::Grow(4), "ab..")),
-    (2, "中", ("中_>", Edit::Grow(3), "中_.")),
-    (0, "", ("", Edit::Grow(2), "..")),
-    (2, "ab", ("ab>", Edit::Resize(5), "ab...")),
-    (3, "a中", ("a中_>", Edit::Resize(4), "a中_.")),
+const LONGER: &[(u16, &str, &str, Edit, &str)] = &[
+    (2, "ab", "ab>", Edit::Grow(4), "ab.."),
+    (2, "中", "中_>", Edit::Grow(3), "中_."),
+    (0, "", "", Edit::Grow(2), ".."),
+    (2, "ab", "ab>", Edit::Resize(5), "ab..."),
+    (3, "a中", "a中_>", Edit::Resize(4), "a中_."),
 ];
 
 /// Rows that aren't to become longer.
-const NO_LONGER: &[(u16, &str, (&str, Edit, &str))] = &[
-    (2, "ab", ("ab>", Edit::Grow(2), "ab>")),
-    (2, "ab", ("ab>", Edit::Grow(0), "ab>")),
-    (2, "ab", ("ab>", Edit::Resize(2), "ab>")),
-    (4, "ab中", ("ab中_>", Edit::Resize(3), "ab.")),
-    (2, "中", ("中_>", Edit::Resize(0), "")),
+const NO_LONGER: &[(u16, &str, &str, Edit, &str)] = &[
+    (2, "ab", "ab>", Edit::Grow(2), "ab>"),
+    (2, "ab", "ab>", Edit::Grow(0), "ab>"),
+    (2, "ab", "ab>", Edit::Resize(2), "ab>"),
+    (4, "ab中", "ab中_>", Edit::Resize(3), "ab."),
+    (2, "中", "中_>", Edit::Resize(0), ""),
 ];
 
-fn check_longer<R: Abort + AllocGlobal>(
-    rt: &R,
-    row: &mut Row,
-    (before, edit, want): (&str, Edit, &str),
+fn check_edits(
+    rt: &(impl Abort + AllocGlobal),
+    alloc: Global,
+    cases: &[(u16, &str, &str, Edit, &str)],
 ) -> Result<(), Fail> {
-    row.wrap(true);
-    retried_edit(rt, row, edit, before)?;
-    check(rt, row, want)
+    for (cols, text, before, edit, want) in cases {
+        let mut row = wrapped_row(alloc, *cols, text)?;
+        retried_edit(rt, &mut row, *edit, before)?;
+        check_again(rt, &row, want)?;
+    }
+    Ok(())
 }
 
 #[test]
 fn rows_become_longer(rt: HostRuntime) -> Result<(), Fail> {
-    check_each(&rt, LONGER, check_longer)
+    check_edits(&rt, rt.alloc(), LONGER)
 }
 
 #[test]
 fn rows_become_no_longer(rt: HostRuntime) -> Result<(), Fail> {
-    check_each(&rt, NO_LONGER, check_longer)
+    check_edits(&rt, rt.alloc(), NO_LONGER)
 }
-
-fn check_longest<R: Abort + AllocGlobal>(rt: &R, row: &mut Row, edit: Edit) -> Result<(), Fail> {
-    row.wrap(true);
-    retried_edit(rt, row, edit, "ab>")?;
-    check_extent(rt, row, (65_535, 65_533, false))
-}
-
-/// Columns, a text that is printed, and an edit that makes the row as long as can be.
-const LONGEST: &[(u16, &str, Edit)] = &[
-    (2, "ab", Edit::Grow(65_535)),
-    (2, "ab", Edit::Resize(65_535)),
-];
 
 #[test]
 fn rows_become_as_long_as_can_be(rt: HostRuntime) -> Result<(), Fail> {
-    check_each(&rt, LONGEST, check_longest)
+    for edit in [Edit::Grow(65_535), Edit::Resize(65_535)] {
+        let mut row = wrapped_row(rt.alloc(), 2, "ab")?;
+        retried_edit(&rt, &mut row, edit, "ab>")?;
+        let told = (row.cols(), blank_cells(&row), row.wrapped());
+        same(&rt, &told, &(65_535, 65_533, false));
+    }
+    Ok(())
+}
+
+/// Appends the text of columns, once more if that was refused.
+fn check_contents(
+    rt: &(impl Abort + AllocGlobal),
+    row: &Row,
+    (start, width, wrapping): (u16, u16, bool),
+    want: &str,
+) -> Result<(), Fail> {
+    let mut text = retried_text(rt.alloc())?;
+    if let Err(error) = row.write_contents(&mut text, start, width, wrapping) {
+        check_refused(rt, &mut text, error, want)?;
+        row.write_contents(&mut text, start, width, wrapping)?;
+    }
+    check_text(rt, &text, want);
+    Ok(())
 }
 
 #[test]
 fn texts_of_columns(rt: HostRuntime) -> Result<(), Fail> {
-    check_each(&rt, WRITTEN, check_columns)
+    for (cols, printed, start, width, wrapping, want) in WRITTEN {
+        let row = retried_row(rt.alloc(), *cols, printed)?;
+        check_contents(&rt, &row, (*start, *width, *wrapping), want)?;
+    }
+    Ok(())
 }
 
 /// Forty characters, for which a text grows more than once.
 const LONG: &str = "one line of a text, which is rather long";
 
-/// A row that shows it, and its text.
-const LONG_TEXTS: &[(u16, &str, ((u16, u16, bool), &str))] = &[(50, LONG, ((0, 50, true), LONG))];
-
 #[test]
 fn long_texts(rt: HostRuntime) -> Result<(), Fail> {
-    check_each(&rt, LONG_TEXTS, check_columns)
+    let row = retried_row(rt.alloc(), 50, LONG)?;
+    check_contents(&rt, &row, (0, 50, true), LONG)
 }
 
 /// Where a cursor stands that wasn't moved off the row, and what it draws with, after a row's forms.
@@ -171,62 +206,74 @@ fn pos(place: (u16, u16)) -> Pos {
     Pos { row, col }
 }
 
-/// The first column that is drawn, how many are, and whether the row above is wrapped.
-type Drawn = (u16, u16, bool);
-
-/// Columns, a text that is printed, what of it is drawn, and where the cursor stands; the forms that draw it as the
-/// fourth row, and where they leave the cursor.
-const DRAWN: &[(u16, &str, (Drawn, Place, &str, Left))] = &[
-    (4, "ab", ((0, 4, false), None, "ab", (3, 2, true))),
-    (4, "", ((0, 4, false), None, "", (3, 0, true))),
+/// Columns, a text that is printed, the first column that is drawn, how many are, whether the row above is wrapped, and
+/// where the cursor stands; the forms that draw it as the fourth row, and where they leave the cursor.
+const DRAWN: &[(u16, &str, u16, u16, bool, Place, &str, Left)] = &[
+    (4, "ab", 0, 4, false, None, "ab", (3, 2, true)),
+    (4, "", 0, 4, false, None, "", (3, 0, true)),
     // A row that goes on from the one above, at whose end the cursor waits.
-    (4, "ab", ((0, 4, true), None, "ab", (3, 2, true))),
-    (4, "abcd", ((1, 2, false), None, "bc", (3, 3, true))),
-    (4, "ab", ((4, 4, false), None, "", (3, 4, true))),
+    (4, "ab", 0, 4, true, None, "ab", (3, 2, true)),
+    (4, "abcd", 1, 2, false, None, "bc", (3, 3, true)),
+    (4, "ab", 4, 4, false, None, "", (3, 4, true)),
     // From another place.
+    (4, "ab", 0, 4, false, Some((2, 1)), "\r\nab", (3, 2, true)),
     (
         4,
         "ab",
-        ((0, 4, false), Some((2, 1)), "\r\nab", (3, 2, true)),
-    ),
-    (
+        0,
         4,
-        "ab",
-        ((0, 4, false), Some((0, 1)), "\x1b[4;1Hab", (3, 2, true)),
+        false,
+        Some((0, 1)),
+        "\x1b[4;1Hab",
+        (3, 2, true),
     ),
-    (50, LONG, ((0, 50, false), None, LONG, (3, 40, true))),
+    (50, LONG, 0, 50, false, None, LONG, (3, 40, true)),
 ];
 
-/// Draws columns of a row as the fourth one.
-fn check_forms<R: Abort + AllocGlobal>(
-    rt: &R,
-    row: &mut Row,
-    ((start, width, above), place, want, end): (Drawn, Place, &str, Left),
+/// Draws columns of a row as the fourth one, once more if that was refused.
+fn check_forms(
+    rt: &(impl Abort + AllocGlobal),
+    row: &Row,
+    (start, width, above): (u16, u16, bool),
+    place: Option<Pos>,
+    (want, end): (&str, Left),
 ) -> Result<(), Fail> {
-    let place = place.map(pos);
-    let answer = appended(rt, want, |text| {
-        row.write_contents_formatted(text, start, width, 3, above, place, None)
-    })?;
+    let mut text = retried_text(rt.alloc())?;
+    let answer = match row.write_contents_formatted(
+        &mut text, start, width, 3, above, place, None,
+    ) {
+        Ok(answer) => answer,
+        Err(error) => {
+            check_refused(rt, &mut text, error, want)?;
+            row.write_contents_formatted(&mut text, start, width, 3, above, place, None)?
+        }
+    };
+    check_text(rt, &text, want);
     same(rt, &left(answer), &end);
     Ok(())
 }
 
 #[test]
 fn forms_of_rows(rt: HostRuntime) -> Result<(), Fail> {
-    check_each(&rt, DRAWN, check_forms)
+    for (cols, printed, start, width, above, place, want, end) in DRAWN {
+        let row = retried_row(rt.alloc(), *cols, printed)?;
+        let place = place.map(pos);
+        check_forms(&rt, &row, (*start, *width, *above), place, (want, *end))?;
+    }
+    Ok(())
 }
 
 /// Columns, what the earlier row shows and the later one; the forms that lead from the one to the other, where both are
 /// the fourth row and the cursor stands at its start, and where they leave the cursor.
-const CHANGED: &[(u16, &str, (&str, &str, Left))] = &[
-    (4, "abcd", ("abcd", "", (3, 0, true))),
-    (4, "abcd", ("axcd", "\x1b[Cx", (3, 2, true))),
-    (4, "", ("ab", "ab", (3, 2, true))),
-    (4, "abcd", ("ab", "\x1b[2C\x1b[K", (3, 2, true))),
-    (50, "", (LONG, LONG, (3, 40, true))),
+const CHANGED: &[(u16, &str, &str, &str, Left)] = &[
+    (4, "abcd", "abcd", "", (3, 0, true)),
+    (4, "abcd", "axcd", "\x1b[Cx", (3, 2, true)),
+    (4, "", "ab", "ab", (3, 2, true)),
+    (4, "abcd", "ab", "\x1b[2C\x1b[K", (3, 2, true)),
+    (50, "", LONG, LONG, (3, 40, true)),
 ];
 
-/// Draws the difference of two rows.
+/// Draws the difference of two rows, once more if that was refused.
 fn check_diff(
     rt: &(impl Abort + AllocGlobal),
     prev: &Row,
@@ -234,24 +281,27 @@ fn check_diff(
     (want, end): (&str, Left),
 ) -> Result<(), Fail> {
     let (begin, attrs, cols) = (Pos { row: 3, col: 0 }, Attrs::new(), row.cols());
-    let answer = appended(rt, want, |text| {
-        row.write_contents_diff(text, prev, 0, cols, 3, false, false, begin, attrs)
-    })?;
+    let mut text = retried_text(rt.alloc())?;
+    let answer = match row.write_contents_diff(
+        &mut text, prev, 0, cols, 3, false, false, begin, attrs,
+    ) {
+        Ok(answer) => answer,
+        Err(error) => {
+            check_refused(rt, &mut text, error, want)?;
+            row.write_contents_diff(&mut text, prev, 0, cols, 3, false, false, begin, attrs)?
+        }
+    };
+    check_text(rt, &text, want);
     same(rt, &left(answer), &end);
     Ok(())
 }
 
-fn check_change<R: Abort + AllocGlobal>(
-    rt: &R,
-    prev: &mut Row,
-    (later, want, end): (&str, &str, Left),
-) -> Result<(), Fail> {
-    with_row(rt, prev.cols(), later, |rt, row| {
-        check_diff(rt, prev, row, (want, end))
-    })
-}
-
 #[test]
 fn differences_of_rows(rt: HostRuntime) -> Result<(), Fail> {
-    check_each(&rt, CHANGED, check_change)
+    for (cols, earlier, later, want, end) in CHANGED {
+        let prev = retried_row(rt.alloc(), *cols, earlier)?;
+        let row = retried_row(rt.alloc(), *cols, later)?;
+        check_diff(&rt, &prev, &row, (want, *end))?;
+    }
+    Ok(())
 }
