@@ -60,6 +60,8 @@ pub fn with_words<F: FnOnce(&[&str]) -> u8>(
     ensures given { IfOk args (λ all. IfOk result (λ status. (words : List _)
         × (map (λ w. w.now) words ≡ map string_bytes (drop 1 (into_iter_items all)))
         × FnOnceReturnsAt F.FnOnce act words status)) }
+    ensures not_text { IfErr args (λ e. error_kind e ≡ InvalidData
+        → IfOk result (λ status. FnOnceReturnsAt F.FnOnce act [] status)) }
     ensures other { IfErr args (λ e. error_kind e ≢ InvalidData → result ≡ Err e) }
 {
     let words = words_of(alloc, args)?;
