@@ -8,7 +8,7 @@ use Rattle.std.proofs.Math.Seq.{take-nil, take-suc-set, take-append_seam}
 use Rattle.std.proofs.lemmas.Bool.{cases_lt}
 use Rattle.std.proofs.lemmas.Bool.Decides.{nat_tests}
 use Rattle.std.specs.List.{concat}
-use Rattle.vte_core.specs.Store.{total, cut_at, EndsRise, ends_from, ReadsOsc}
+use Rattle.vte_core.specs.Store.{total, cut_at, EndsRise, ends_from, pieces_of, ReadsOsc}
 use Rattle.vte_core.specs.Shapes.{first_bytes, osc_pieces}
 use Rattle.vte_core.proofs.Headers.{split-yes, split-no, onto_last, onto_last-last}
 
@@ -76,33 +76,33 @@ osc-byte n x s b bytes e r h = record {
 -- `;`
 pub osc-semicolon : (n : ℕ) (x : List ℕ × List ℕ) (s : List ℕ) (b : ℕ) (ends : List ℕ) → (b == 0x3B) ≡ true
     → (r : ReadsOsc n x s)
-    → ends ≡ take 16 (ends_from n 0 (r.parts ++ r.last ∷ [])) → ReadsOsc n (x.0, ends) (s ++ b ∷ [])
+    → ends ≡ take 16 (ends_from n 0 (pieces_of s)) → ReadsOsc n (x.0, ends) (s ++ b ∷ [])
 osc-semicolon n x s b ends e r h = record {
   parts = r.parts ++ r.last ∷ [];
   last = [];
   by_parts = split-yes _ s b e ∙ ap (λ q. q ++ [] ∷ []) r.by_parts;
   bytes = r.bytes ∙ ap (take n) (sym (concat-none (r.parts ++ r.last ∷ [])));
-  ends = h;
+  ends = h ∙ ap (λ ps. take 16 (ends_from n 0 ps)) r.by_parts;
 }
 
 -- one more end
 pub end-room : (n : ℕ) (x : List ℕ × List ℕ) (s : List ℕ) (r : ReadsOsc n x s) → length x.1 < 16
-    → x.1 ++ length x.0 ∷ [] ≡ take 16 (ends_from n 0 (r.parts ++ r.last ∷ []))
+    → x.1 ++ length x.0 ∷ [] ≡ take 16 (ends_from n 0 (pieces_of s))
 end-room n x s r h =
     let all = r.parts ++ r.last ∷ [] in
     let size : length x.0 ≡ min n (0 + total all) = ap length r.bytes ∙ (length-take n (concat all) ∙ omega arith) in
     let few : length (take 16 (ends_from n 0 r.parts)) < 16 = omega (arith, ap length r.ends) in
     ap (λ y. y ++ length x.0 ∷ []) r.ends ∙ (ap (λ j. take 16 (ends_from n 0 r.parts) ++ j ∷ []) size
     ∙ (sym (take-room 16 (ends_from n 0 r.parts) (min n (0 + total all)) few)
-    ∙ ap (take 16) (sym (ends_from-last n 0 r.parts r.last))))
+    ∙ ap (take 16) (sym (ends_from-last n 0 r.parts r.last) ∙ ap (ends_from n 0) (sym r.by_parts))))
 
 pub end-full : (n : ℕ) (x : List ℕ × List ℕ) (s : List ℕ) (r : ReadsOsc n x s) → 16 ≤ length x.1
-    → x.1 ≡ take 16 (ends_from n 0 (r.parts ++ r.last ∷ []))
+    → x.1 ≡ take 16 (ends_from n 0 (pieces_of s))
 end-full n x s r h =
     let all = r.parts ++ r.last ∷ [] in
     let many : 16 ≤ length (take 16 (ends_from n 0 r.parts)) = omega (arith, ap length r.ends) in
     r.ends ∙ (sym (take-full 16 (ends_from n 0 r.parts) (min n (0 + total all)) many)
-    ∙ ap (take 16) (sym (ends_from-last n 0 r.parts r.last)))
+    ∙ ap (take 16) (sym (ends_from-last n 0 r.parts r.last) ∙ ap (ends_from n 0) (sym r.by_parts)))
 
 -- the pieces at the end
 cut-take : (m start : ℕ) (ends xs : List ℕ) → cut_at start (take m ends) xs ≡ take m (cut_at start ends xs)
@@ -157,13 +157,14 @@ cut-first n k (p ∷ ps) pre h =
     ∙ (cut-first n (k + length p) ps (pre ++ p) len ∙ ap (λ j. first_bytes j ps) (omega arith)) in cc
 
 pub cut-pieces : (n : ℕ) (x : List ℕ × List ℕ) (s ends : List ℕ) (r : ReadsOsc n x s)
-    → ends ≡ take 16 (ends_from n 0 (r.parts ++ r.last ∷ [])) → cut_at 0 ends x.0 ≡ osc_pieces n s
+    → ends ≡ take 16 (ends_from n 0 (pieces_of s)) → cut_at 0 ends x.0 ≡ osc_pieces n s
 cut-pieces n x s ends r h =
-    let all = r.parts ++ r.last ∷ [] in
-    ap (λ y. cut_at 0 y x.0) h ∙ (ap (λ y. cut_at 0 (take 16 (ends_from n 0 all)) y) r.bytes
+    let all = pieces_of s in
+    let bytes : x.0 ≡ take n (concat all) = r.bytes ∙ ap (λ ps. take n (concat ps)) (sym r.by_parts) in
+    ap (λ y. cut_at 0 y x.0) h ∙ (ap (λ y. cut_at 0 (take 16 (ends_from n 0 all)) y) bytes
     ∙ (cut-take 16 0 (ends_from n 0 all) (take n (concat all))
     ∙ ap (take 16) (ap (λ j. cut_at j (ends_from n 0 all) (take n (concat all))) (omega arith)
-    ∙ (cut-first n 0 all [] refl ∙ (ap (λ j. first_bytes j all) (omega arith) ∙ ap (first_bytes n) (sym r.by_parts))))))
+    ∙ (cut-first n 0 all [] refl ∙ ap (λ j. first_bytes j all) (omega arith)))))
 
 -- one more piece told
 pub tell_step : {X : Type 0} (f : X → List ℕ) (xs : List X) (x : X) (i start end : ℕ) (rest bytes : List ℕ)

@@ -6,7 +6,7 @@ ghost use Rattle.vte_core.specs.Event.{Osc as OscEvent};
 ghost use Rattle.vte_core.specs.Bytes.{each, is_data};
 ghost use Rattle.vte_core.specs.Heard.{osc_event};
 ghost use Rattle.vte_core.specs.Shapes.{osc_pieces};
-ghost use Rattle.vte_core.specs.Store.{ReadsOsc, cut_at, EndsRise};
+ghost use Rattle.vte_core.specs.Store.{ReadsOsc, cut_at, ends_from, pieces_of, EndsRise};
 
 use crate::Perform;
 use arrayvec::ArrayVec;
@@ -65,14 +65,22 @@ impl<const N: usize> OscData<N> {
         self.ends.clear();
     }
 
+    /// The last piece of the data ends.
+    fn end_piece(&mut self)
+        ensures bytes { self.new.0 ≡ self.old.0 }
+        ensures ends { (s : List ℕ) → ReadsOsc N self.old s → self.new.1 ≡ take 16 (ends_from N 0 (pieces_of s)) }
+    {
+        if !self.ends.is_full() {
+            self.ends.push(self.bytes.len());
+        }
+    }
+
     /// A byte of data, or `;`, which isn't data: it begins a piece even where no more data is kept.
     pub fn push(&mut self, byte: u8)
         ensures { (s : List ℕ) → ReadsOsc N self.old s → ReadsOsc N self.new (s ++ byte ∷ []) }
     {
         if byte == b';' {
-            if !self.ends.is_full() {
-                self.ends.push(self.bytes.len());
-            }
+            self.end_piece();
         } else if !self.bytes.is_full() {
             self.bytes.push(byte);
         }
@@ -92,16 +100,6 @@ impl<const N: usize> OscData<N> {
             read += 1;
         }
         read
-    }
-
-    /// The last piece of the data ends.
-    fn end_piece(&mut self)
-        ensures { (s : List ℕ) → ReadsOsc N self.old s → cut_at 0 self.new.1 self.new.0 ≡ osc_pieces N s }
-    {
-        if self.ends.is_full() {
-            return;
-        }
-        self.ends.push(self.bytes.len());
     }
 
     /// The command ends.

@@ -1,6 +1,7 @@
 use Rattle.std.proofs.Common.{◌∙◌, ap, List, ℕ}
 use Rattle.vte_core.specs.Event.{Osc}
 use Rattle.vte_core.specs.Store.{cut_at}
+use Rattle.vte_core.proofs.OscLemmas.{cut-pieces}
 use Rattle.vte_core.proofs.Telling.{same_step}
 use Rattle.vte_core.proofs.osc_data.OscData.dispatch.Goals as goal
 
@@ -16,4 +17,5 @@ returns-clause-told g c =
     (ap (λ ps. Osc ps c.args.bell_terminated) e) c.tell.ensures
 
 pub returns-clause-is_told : goal.returns-clause-is_told
-returns-clause-is_told g c = λ s r. c.end_piece.ensures s r
+returns-clause-is_told g c = λ s r. ap (λ y. cut_at 0 c.end_piece.new.self.1 y) c.end_piece.ensures.bytes
+    ∙ cut-pieces g.row.N c.args.self.now s c.end_piece.new.self.1 r (c.end_piece.ensures.ends s r)
