@@ -34,11 +34,11 @@ before-drop (b ∷ bs) (suc k) l h =
     rw e (before-drop bs k (omega (arith, l)) g.1)
 
 -- a front that is told by itself
-pub reads_front : {S : Type 0} (step : S → Event → S
-    → Type 0) (u : List ℕ) (old : S) (bs : List ℕ) (k : ℕ) (new : S) (v : List ℕ) → 0 < k → k ≤ length bs
+pub reads_front : {S : Type 0} {step : S → Event → S → Type 0} {u : List ℕ} {old : S} (bs : List ℕ) (k : ℕ) {new : S}
+    {v : List ℕ} → 0 < k → k ≤ length bs
     → has_no_esc (take k bs) ≡ true → Performs step old (run_told u (take k bs)) new → v ≡ run_rest u (take k bs)
     → ReadsText step u old bs k new v
-reads_front step u old bs k new v s l h p r =
+reads_front {S} {step} {u} {old} bs k {new} {v} s l h p r =
     let e = front-before bs k l h in
     let left = drop k (before is_esc bs) in
     record {
@@ -53,35 +53,35 @@ reads_front step u old bs k new v s l h p r =
     }
 
 -- the same, where nothing is unfinished
-pub reads_alone : {S : Type 0} (step : S → Event → S → Type 0) (old : S) (bs front : List ℕ) (k : ℕ) (new : S)
-    (v : List ℕ) (es : List Event) → 0 < k → k ≤ length bs → take k bs ≡ front
+pub reads_alone : {S : Type 0} {step : S → Event → S → Type 0} {old : S} (bs front : List ℕ) (k : ℕ) {new : S}
+    {v : List ℕ} (es : List Event) → 0 < k → k ≤ length bs → take k bs ≡ front
     → (run_told [] front ≡ es) × (run_rest [] front ≡ v) × (has_no_esc front ≡ true)
     → Performs step old es new → ReadsText step [] old bs k new v
-reads_alone step old bs front k new v es s l is r p =
-    reads_front step [] old bs k new v s l (rw is r.2) (rw (is, r.0) p) (rw is (sym r.1))
+reads_alone bs front k es s l is r p =
+    reads_front bs k s l (rw is r.2) (rw (is, r.0) p) (rw is (sym r.1))
 
 -- one byte
-pub reads_byte : {S : Type 0} (step : S → Event → S → Type 0) (u : List ℕ) (old : S) (bs : List ℕ) (new : S)
-    (v : List ℕ)
+pub reads_byte : {S : Type 0} {step : S → Event → S → Type 0} {u : List ℕ} {old : S} (bs : List ℕ) {new : S}
+    {v : List ℕ}
     → 0 < length bs → is_esc (get_or bs 0 0) ≡ false → Performs step old (text_told u (get_or bs 0 0)) new
     → v ≡ text_rest u (get_or bs 0 0) → ReadsText step u old bs 1 new v
-reads_byte step u old [] new v some e p r = absurd (omega (arith, some))
-reads_byte step u old (b ∷ s) new v some e p r =
+reads_byte [] some e p r = absurd (omega (arith, some))
+reads_byte {S} {step} {u} (b ∷ s) some e p r =
     let f : is_esc b ≡ false = e in
-    reads_front step u old (b ∷ s) 1 new v (omega arith) (omega arith) (rw f refl) (rw (append-nil (text_told u b)) p) r
+    reads_front (b ∷ s) 1 (omega arith) (omega arith) (rw f refl) (rw (append-nil (text_told u b)) p) r
 
 -- a byte that doesn't go on the character that was begun: what is read after that character's U+FFFD
 cut-anew : (a : ℕ) (t : List ℕ) (b : ℕ) (s : List ℕ) → goes_on a t b ≡ false
     → (run_told (a ∷ t) (b ∷ s) ≡ Print 0xFFFD ∷ run_told [] (b ∷ s)) × (run_rest (a ∷ t) (b ∷ s) ≡ run_rest [] (b ∷ s))
 cut-anew a t b s off = (rw off refl, rw off refl)
 
-pub reads_cut : {S : Type 0} (step : S → Event → S → Type 0) (u : List ℕ) (old : S) (bs : List ℕ) (mid : S)
-    (w : List ℕ) (k : ℕ) (new : S) (v : List ℕ) → 0 < length u → is_esc (get_or bs 0 0) ≡ false
+pub reads_cut : {S : Type 0} {step : S → Event → S → Type 0} (u : List ℕ) {old : S} (bs : List ℕ) {mid : S}
+    {w : List ℕ} {k : ℕ} {new : S} {v : List ℕ} → 0 < length u → is_esc (get_or bs 0 0) ≡ false
     → whole_goes_on u (get_or bs 0 0) ≡ false → step old (Print 0xFFFD) mid → w ≡ []
     → ReadsText step w mid bs k new v → ReadsText step u old bs k new v
-reads_cut step [] old bs mid w k new v begun e off p none r = absurd (omega (arith, begun))
-reads_cut step (a ∷ t) old [] mid w k new v begun e off p none r = absurd (omega (arith, r.some, r.within))
-reads_cut step (a ∷ t) old (b ∷ s) mid w k new v begun e off p none r =
+reads_cut [] bs begun e off p none r = absurd (omega (arith, begun))
+reads_cut (a ∷ t) [] begun e off p none r = absurd (omega (arith, r.some, r.within))
+reads_cut (a ∷ t) (b ∷ s) {mid} begun e off p none r =
     let f : is_esc b ≡ false = e in
     let text : before is_esc (b ∷ s) ≡ b ∷ before is_esc s = rw f refl in
     let cut = cut-anew a t b (before is_esc s) off in
@@ -141,71 +141,63 @@ malformed-told a b s high off =
       | inr e ↦ let none : char_len a ≡ 0 = grind (arith, nat_tests) in rw none (refl, refl)
     ]
 
-pub reads_malformed : {S : Type 0} (step : S → Event → S → Type 0) (old : S) (bs : List ℕ) (new : S) → 1 < length bs
+-- the first k bytes tell an event
+reads_event : {S : Type 0} {step : S → Event → S → Type 0} {old : S} (bs : List ℕ) (k : ℕ) {new : S} (e : Event) → 0 < k
+    → k ≤ length bs → has_no_esc (take k bs) ≡ true
+    → (run_told [] (before is_esc bs) ≡ e ∷ run_told [] (drop k (before is_esc bs)))
+    × (run_rest [] (before is_esc bs) ≡ run_rest [] (drop k (before is_esc bs)))
+    → step old e new → ReadsText step [] old bs k new []
+reads_event bs k {new} e some within no_esc both h = record {
+  some = some;
+  within = within;
+  no_esc = no_esc;
+  told = e ∷ [];
+  performed = (new, h, refl);
+  added = both.0;
+  rest = both.1;
+}
+
+pub reads_malformed : {S : Type 0} {step : S → Event → S → Type 0} {old : S} (bs : List ℕ) {new : S} → 1 < length bs
     → 0x80 ≤ get_or bs 0 0 → is_esc (get_or bs 1 0) ≡ false
     → (1 < char_len (get_or bs 0 0) → goes_on (get_or bs 0 0) [] (get_or bs 1 0) ≡ false)
     → step old (malformed_event 1 (get_or bs 0 0)) new → ReadsText step [] old bs 1 new []
-reads_malformed step old [] new some high esc off h = absurd (omega (arith, some))
-reads_malformed step old (a ∷ []) new some high esc off h = absurd (omega (arith, some))
-reads_malformed step old (a ∷ b ∷ s) new some high esc off h =
+reads_malformed [] some high esc off h = absurd (omega (arith, some))
+reads_malformed (a ∷ []) some high esc off h = absurd (omega (arith, some))
+reads_malformed (a ∷ b ∷ s) some high esc off h =
     let e : is_esc a ≡ false = grind (arith, nat_tests) in
     let f : is_esc b ≡ false = esc in
-    let both = malformed-told a b (before is_esc s) high off in
-    record {
-      some = omega arith;
-      within = omega arith;
-      no_esc = rw e refl;
-      told = malformed_event 1 a ∷ [];
-      performed = (new, h, refl);
-      added = rw (e, f) both.0;
-      rest = rw (e, f) both.1;
-    }
+    reads_event (a ∷ b ∷ s) 1 (malformed_event 1 a) (omega arith) (omega arith) (rw e refl)
+    (rw (e, f) (malformed-told a b (before is_esc s) high off)) h
 
-pub reads_two : {S : Type 0} (step : S → Event → S → Type 0) (old : S) (bs : List ℕ) (new : S) → 2 < length bs
+pub reads_two : {S : Type 0} {step : S → Event → S → Type 0} {old : S} (bs : List ℕ) {new : S} → 2 < length bs
     → 2 < char_len (get_or bs 0 0) → goes_on (get_or bs 0 0) [] (get_or bs 1 0) ≡ true
     → is_in_range 0x80 0xBF (get_or bs 2 0) ≡ false → is_esc (get_or bs 2 0) ≡ false
     → step old (Print 0xFFFD) new → ReadsText step [] old bs 2 new []
-reads_two step old [] new some long begun off esc h = absurd (omega (arith, some))
-reads_two step old (a ∷ []) new some long begun off esc h = absurd (omega (arith, some))
-reads_two step old (a ∷ b ∷ []) new some long begun off esc h = absurd (omega (arith, some))
-reads_two step old (a ∷ b ∷ c ∷ s) new some long begun off esc h =
+reads_two [] some long begun off esc h = absurd (omega (arith, some))
+reads_two (a ∷ []) some long begun off esc h = absurd (omega (arith, some))
+reads_two (a ∷ b ∷ []) some long begun off esc h = absurd (omega (arith, some))
+reads_two (a ∷ b ∷ c ∷ s) some long begun off esc h =
     let e : is_esc a ≡ false = grind (arith, nat_tests) in
     let f : is_esc b ≡ false = grind (arith, nat_tests) in
     let g : is_esc c ≡ false = esc in
-    let both = cut-two a b c (before is_esc s) long begun off in
-    record {
-      some = omega arith;
-      within = omega arith;
-      no_esc = rw (e, f) refl;
-      told = Print 0xFFFD ∷ [];
-      performed = (new, h, refl);
-      added = rw (e, f, g) both.0;
-      rest = rw (e, f, g) both.1;
-    }
+    reads_event (a ∷ b ∷ c ∷ s) 2 (Print 0xFFFD) (omega arith) (omega arith) (rw (e, f) refl)
+    (rw (e, f, g) (cut-two a b c (before is_esc s) long begun off)) h
 
-pub reads_three : {S : Type 0} (step : S → Event → S → Type 0) (old : S) (bs : List ℕ) (new : S) → 3 < length bs
+pub reads_three : {S : Type 0} {step : S → Event → S → Type 0} {old : S} (bs : List ℕ) {new : S} → 3 < length bs
     → 3 < char_len (get_or bs 0 0) → goes_on (get_or bs 0 0) [] (get_or bs 1 0) ≡ true
     → is_in_range 0x80 0xBF (get_or bs 2 0) ≡ true → is_in_range 0x80 0xBF (get_or bs 3 0) ≡ false
     → is_esc (get_or bs 3 0) ≡ false → step old (Print 0xFFFD) new → ReadsText step [] old bs 3 new []
-reads_three step old [] new some long begun on off esc h = absurd (omega (arith, some))
-reads_three step old (a ∷ []) new some long begun on off esc h = absurd (omega (arith, some))
-reads_three step old (a ∷ b ∷ []) new some long begun on off esc h = absurd (omega (arith, some))
-reads_three step old (a ∷ b ∷ c ∷ []) new some long begun on off esc h = absurd (omega (arith, some))
-reads_three step old (a ∷ b ∷ c ∷ d ∷ s) new some long begun on off esc h =
+reads_three [] some long begun on off esc h = absurd (omega (arith, some))
+reads_three (a ∷ []) some long begun on off esc h = absurd (omega (arith, some))
+reads_three (a ∷ b ∷ []) some long begun on off esc h = absurd (omega (arith, some))
+reads_three (a ∷ b ∷ c ∷ []) some long begun on off esc h = absurd (omega (arith, some))
+reads_three (a ∷ b ∷ c ∷ d ∷ s) some long begun on off esc h =
     let e : is_esc a ≡ false = grind (arith, nat_tests) in
     let f : is_esc b ≡ false = grind (arith, nat_tests) in
     let g : is_esc c ≡ false = grind (arith, nat_tests) in
     let i : is_esc d ≡ false = esc in
-    let both = cut-three a b c d (before is_esc s) long begun on off in
-    record {
-      some = omega arith;
-      within = omega arith;
-      no_esc = rw (e, f, g) refl;
-      told = Print 0xFFFD ∷ [];
-      performed = (new, h, refl);
-      added = rw (e, f, g, i) both.0;
-      rest = rw (e, f, g, i) both.1;
-    }
+    reads_event (a ∷ b ∷ c ∷ d ∷ s) 3 (Print 0xFFFD) (omega arith) (omega arith) (rw (e, f, g) refl)
+    (rw (e, f, g, i) (cut-three a b c d (before is_esc s) long begun on off)) h
 
 -- a control of two bytes
 pub c1-run : (b : ℕ) → is_in_range 0x80 0x9F b ≡ true

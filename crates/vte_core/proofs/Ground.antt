@@ -1,5 +1,5 @@
 -- Ground text: controls and characters of ASCII, and where it ends.
-use Rattle.std.proofs.Common.{◌≡◌, ℕ, zero, suc, ◌<◌, ◌≤◌, true, false, List, [], ◌∷◌, ◌++◌, map, length, take}
+use Rattle.std.proofs.Common.{◌≡◌, ℕ, zero, suc, ◌<◌, ◌≤◌, Bool, true, false, List, [], ◌∷◌, ◌++◌, map, length, take}
 use Rattle.std.proofs.Common.{get_or, nat_lt, inl, inr, refl, ◌∙◌, ap, arith}
 use Rattle.std.proofs.lemmas.Bool.Decides.{nat_tests}
 use Rattle.std.specs.Int.{is_in_range}
@@ -17,40 +17,36 @@ pub no_esc-append : (xs ys : List ℕ) → has_no_esc xs ≡ true → has_no_esc
 no_esc-append [] ys h k = k
 no_esc-append (x ∷ xs) ys h k = let g = no_esc-both x xs h in rw g.0 (no_esc-append xs ys g.1 k)
 
--- controls are executed, one by one
-pub c0-run : (xs : List ℕ) → each is_c0 xs ≡ true → (run_told [] xs ≡ map Execute xs) × (run_rest [] xs ≡ [])
+-- ASCII without ESC tells what its characters are, one by one
+ascii-run : (p : ℕ → Bool) (f : ℕ → Event)
+    → ((b : ℕ) → p b ≡ true → (b < 128) × (is_esc b ≡ false) × (char_event b ≡ f b))
+    → (xs : List ℕ) → each p xs ≡ true → (run_told [] xs ≡ map f xs) × (run_rest [] xs ≡ [])
     × (has_no_esc xs ≡ true)
-c0-run [] h = (refl, refl, refl)
-c0-run (b ∷ xs) h =
-    let g = each-first is_c0 b xs h in
-    let low : b < 0x20 = grind (arith, nat_tests) in
-    let esc : is_esc b ≡ false = grind (arith, nat_tests) in
-    let control : nat_lt b 0x20 ≡ true = grind (arith, nat_tests) in
-    let event : char_event b ≡ Execute b = rw control refl in
-    let first = one b xs (omega (arith, low)) in
-    let more = c0-run xs g.1 in (
-      first.0 ∙ (ap (λ (e : Event). e ∷ run_told [] xs) event ∙ ap (λ (es : List Event). Execute b ∷ es) more.0),
+ascii-run p f is [] h = (refl, refl, refl)
+ascii-run p f is (b ∷ xs) h =
+    let g = each-first p b xs h in
+    let (low, esc, event) = is b g.0 in
+    let first = one b xs low in
+    let more = ascii-run p f is xs g.1 in (
+      first.0 ∙ (ap (λ (e : Event). e ∷ run_told [] xs) event ∙ ap (λ (es : List Event). f b ∷ es) more.0),
       first.1 ∙ more.1,
       rw esc more.2,
     )
 
+-- controls are executed, one by one
+pub c0-run : (xs : List ℕ) → each is_c0 xs ≡ true → (run_told [] xs ≡ map Execute xs) × (run_rest [] xs ≡ [])
+    × (has_no_esc xs ≡ true)
+c0-run = ascii-run is_c0 Execute (λ b h.
+    let control : nat_lt b 0x20 ≡ true = grind (arith, nat_tests) in
+    (grind (arith, nat_tests), grind (arith, nat_tests), rw control refl))
+
 -- characters of ASCII are printed, one by one
 pub plain-run : (xs : List ℕ) → each is_plain xs ≡ true → (run_told [] xs ≡ map Print xs) × (run_rest [] xs ≡ [])
     × (has_no_esc xs ≡ true)
-plain-run [] h = (refl, refl, refl)
-plain-run (b ∷ xs) h =
-    let g = each-first is_plain b xs h in
-    let low : b < 128 = grind (arith, nat_tests) in
-    let esc : is_esc b ≡ false = grind (arith, nat_tests) in
+plain-run = ascii-run is_plain Print (λ b h.
     let control : nat_lt b 0x20 ≡ false = grind (arith, nat_tests) in
     let high : is_in_range 0x80 0x9F b ≡ false = grind (arith, nat_tests) in
-    let event : char_event b ≡ Print b = rw (control, high) refl in
-    let first = one b xs low in
-    let more = plain-run xs g.1 in (
-      first.0 ∙ (ap (λ (e : Event). e ∷ run_told [] xs) event ∙ ap (λ (es : List Event). Print b ∷ es) more.0),
-      first.1 ∙ more.1,
-      rw esc more.2,
-    )
+    (grind (arith, nat_tests), grind (arith, nat_tests), rw (control, high) refl))
 
 pub plain-ascii : (xs : List ℕ) → each is_plain xs ≡ true → (i : ℕ) → slice_index xs i < 128
 plain-ascii [] h i = omega arith

@@ -1,7 +1,10 @@
 -- Steps of a performer.
-use Rattle.std.proofs.Common.{◌≡◌, ◌<◌, ◌+◌, ℕ, List, [], ◌∷◌, ◌++◌, length, map, take, get_or, refl, subst}
+use Rattle.std.proofs.Common.{◌≡◌, ◌<◌, ◌+◌, ℕ, Bool, true, List, [], ◌∷◌, ◌++◌, length, map, take, get_or, refl, subst}
+use Rattle.std.proofs.Common.{arith}
 use Rattle.std.proofs.lemmas.List.{map-append, take_more}
 use Rattle.vte_core.specs.Event.{Event, Performs}
+use Rattle.vte_core.specs.Runs.{TellsEach}
+use Rattle.vte_core.proofs.PhaseLemmas.{each-more}
 
 pub same_step : {S : Type 0} (step : S → Event → S → Type 0) (old new : S) (d e : Event) → d ≡ e → step old d new
     → step old e new
@@ -27,3 +30,12 @@ pub performs-next : {S : Type 0} (step : S → Event → S → Type 0) (f : ℕ 
     → Performs step old (map f (take (i + 1) xs)) new
 performs-next {S} step f xs i old mid new lt h s =
     rw (take_more xs i 0 lt) (performs-last step f (take i xs) (get_or xs i 0) old mid new h s)
+
+pub tells_next : {S : Type 0} {step : S → Event → S → Type 0} {p : ℕ → Bool} {f : ℕ → Event} {old mid new : S}
+    {bs : List ℕ} {i : ℕ} → TellsEach step p f old bs i mid → i < length bs → p (get_or bs i 0) ≡ true
+    → step mid (f (get_or bs i 0)) new → TellsEach step p f old bs (i + 1) new
+tells_next {S} {step} {p} {f} {old} {mid} {new} {bs} {i} so less passes one = record {
+  within = omega (arith, less);
+  all = rw (take_more bs i 0 less) (each-more p (take i bs) (get_or bs i 0) so.all passes);
+  told = performs-next step f bs i old mid new less so.told one;
+}

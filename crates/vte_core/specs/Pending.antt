@@ -1,6 +1,6 @@
 -- What of the bytes so far is still to be told: where a parser stands.
-use Rattle.std.specs.Prelude.{◌≡◌, ℕ, ◌+◌, ◌-◌, ◌<◌, Bool, false, not, ◌&&◌, ◌||◌, List, [], ◌∷◌, ◌++◌, length, take}
-use Rattle.std.specs.Prelude.{nat_lt, ◌==◌, if◌then◌else◌}
+use Rattle.std.specs.Prelude.{◌≡◌, ℕ, ◌+◌, ◌-◌, ◌<◌, Bool, true, false, not, ◌&&◌, ◌||◌, List, [], ◌∷◌, ◌++◌, length}
+use Rattle.std.specs.Prelude.{take, nat_lt, ◌==◌, if◌then◌else◌, slice_index}
 use Rattle.std.specs.Int.{is_in_range}
 use Rattle.vte_core.specs.Event.{Event, Print, Execute, Hook, Put, Unhook, Osc, Csi, Esc}
 use Rattle.vte_core.specs.Bytes.{is_esc, is_abort, is_control, is_intermediate, is_header, ends_header, ends_escape}
@@ -156,6 +156,12 @@ IsSound InSwallowed = Unit {0}
 abbrev pub whole_goes_on : List ℕ → ℕ → Bool
 whole_goes_on [] b = false
 whole_goes_on (a ∷ t) b = goes_on a t b
+
+-- the first two bytes begin a character of two bytes or more
+pub record BeginsLong (bs : List ℕ) : Type 0 where
+  pub some : 1 < length bs
+  pub begun : 1 < char_len (slice_index bs 0)
+  pub goes_on : goes_on (slice_index bs 0) [] (slice_index bs 1) ≡ true
 
 -- the bytes are a whole character
 abbrev pub IsWhole : List ℕ → Type 0

@@ -1,9 +1,9 @@
 -- Ground text without ESC.
 use Rattle.std.specs.Prelude.{◌≡◌, ◌<◌, ◌≤◌, ℕ, suc, take, Bool, true, false, not, ◌&&◌, ◌||◌, List, [], ◌∷◌, ◌++◌, ◌⊎◌}
-use Rattle.std.specs.Prelude.{length, drop, nat_lt, ◌==◌, if◌then◌else◌}
+use Rattle.std.specs.Prelude.{length, drop, map, nat_lt, ◌==◌, if◌then◌else◌}
 use Rattle.std.specs.Int.{is_in_range}
 use Rattle.vte_core.specs.Event.{Event, Performs}
-use Rattle.vte_core.specs.Bytes.{is_esc}
+use Rattle.vte_core.specs.Bytes.{each, is_esc}
 use Rattle.vte_core.specs.Pending.{Pending, text_told, text_rest, after_byte, after_bytes, events_from}
 use Rattle.vte_core.specs.Shapes.{before}
 use Rattle.vte_core.specs.Standing.{IsAt}
@@ -56,6 +56,13 @@ pub record Tells {S : Type 0} (step : S → Event → S
   pub told : List Event
   pub performed : Performs step old told new
   pub added : (q : Pending) → IsAt n parser q → told ≡ events_from n q bytes
+
+-- the first k bytes pass the test p, and the performer has gone through the event f of each of them
+pub record TellsEach {S : Type 0} (step : S → Event → S
+    → Type 0) (p : ℕ → Bool) (f : ℕ → Event) (old : S) (bs : List ℕ) (k : ℕ) (new : S) : Type 0 where
+  pub within : k ≤ length bs
+  pub all : each p (take k bs) ≡ true
+  pub told : Performs step old (map f (take k bs)) new
 
 -- the bytes after 0xC2 are the second byte of a control from U+0080 to U+009F
 abbrev pub begins_c1 : List ℕ → Bool

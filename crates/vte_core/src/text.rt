@@ -9,13 +9,13 @@ ghost use Rattle.std.specs.Prelude.{◌≡◌, ◌==◌, ◌+◌, ◌-◌, ◌<�
 ghost use Rattle.std.specs.Prelude.{IsTrue, true, false, slice_index, take};
 ghost use Rattle.std.specs.Str.{IsUtf8};
 ghost use Rattle.vte_core.specs.Bytes.{each, is_c0, is_esc, is_plain};
-ghost use Rattle.vte_core.specs.Runs.{ReadsText, run_told, run_rest, is_printed, printed_len};
+ghost use Rattle.vte_core.specs.Runs.{ReadsText, TellsEach, run_told, run_rest, is_printed, printed_len};
 ghost use Rattle.vte_core.specs.Shapes.{before};
 ghost use Rattle.vte_core.specs.Event.{Event, Print, Execute, Performs};
 ghost use Rattle.vte_core.specs.Text.{char_len, second_min, second_max, first_bits, joined, char_event};
 ghost use Rattle.vte_core.specs.Text.{malformed_event};
 ghost use Rattle.vte_core.specs.Pending.{IsUnfinished, begun, begun_rest, text_told, text_rest, goes_on, whole_goes_on};
-ghost use Rattle.vte_core.specs.Pending.{IsWhole, code_of};
+ghost use Rattle.vte_core.specs.Pending.{IsWhole, BeginsLong, code_of};
 ghost use Rattle.std.specs.Char.{InScalarRange};
 ghost use Rattle.std.specs.Int.{is_in_range};
 
@@ -282,9 +282,7 @@ fn is_begun(first: u8, second: u8) -> bool
 /// How long the character is that the first two bytes begin, 0 where it isn't whole.
 #[inline(always)]
 fn begun_len(bytes: &[u8]) -> usize
-    requires some { 1 < length bytes.now }
-    requires begun { 1 < char_len (slice_index bytes.now 0) }
-    requires goes_on { goes_on (slice_index bytes.now 0) [] (slice_index bytes.now 1) ≡ true }
+    requires { BeginsLong bytes.now }
     ensures within { result ≤ length bytes.now }
     ensures long { 0 < result → 1 < result }
     ensures whole { 0 < result → IsWhole (take result bytes.now) }
@@ -432,9 +430,7 @@ fn execute_all<P: Perform>(performer: &mut P, bytes: &[u8])
 /// Executes the controls of ASCII at the front, up to ESC, and returns how many they are.
 #[inline(always)]
 fn execute_controls<P: Perform>(performer: &mut P, bytes: &[u8]) -> usize
-    ensures within { result ≤ length bytes.now }
-    ensures controls { each is_c0 (take result bytes.now) ≡ true }
-    ensures told { Performs P.step performer.old (map Execute (take result bytes.now)) performer.new }
+    ensures { TellsEach P.step is_c0 Execute performer.old bytes.now result performer.new }
 {
     let mut read = 0;
     while bytes.len() - read >= BLOCK_LEN && are_controls(&bytes[read..read + BLOCK_LEN]) {
@@ -553,9 +549,7 @@ impl Unfinished {
     /// read.
     #[inline(always)]
     fn read_malformed<P: Perform>(&mut self, performer: &mut P, bytes: &[u8]) -> usize
-        requires some { 1 < length bytes.now }
-        requires begun { 1 < char_len (slice_index bytes.now 0) }
-        requires goes_on { goes_on (slice_index bytes.now 0) [] (slice_index bytes.now 1) ≡ true }
+        requires begins { BeginsLong bytes.now }
         requires none { self.old ≡ [] }
         ensures { ReadsText P.step self.old performer.old bytes.now result performer.new self.new }
     {
@@ -584,9 +578,7 @@ impl Unfinished {
     /// the front, or else one byte, and returns how many bytes it read.
     #[inline(always)]
     fn read_character<P: Perform>(&mut self, performer: &mut P, bytes: &[u8]) -> usize
-        requires some { 1 < length bytes.now }
-        requires begun { 1 < char_len (slice_index bytes.now 0) }
-        requires goes_on { goes_on (slice_index bytes.now 0) [] (slice_index bytes.now 1) ≡ true }
+        requires begins { BeginsLong bytes.now }
         requires none { self.old ≡ [] }
         ensures { ReadsText P.step self.old performer.old bytes.now result performer.new self.new }
     {

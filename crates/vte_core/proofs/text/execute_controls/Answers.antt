@@ -1,11 +1,11 @@
-use Rattle.std.proofs.Common.{◌≡◌, ◌∙◌, ◌+◌, ◌-◌, ◌≤◌, ◌++◌, ◌∷◌, [], ℕ, List, true, ap, sym, arith, take, drop}
+use Rattle.std.proofs.Common.{◌≡◌, ◌∙◌, ◌+◌, ◌-◌, ◌≤◌, ◌++◌, ℕ, List, true, ap, sym, arith, take, drop}
 use Rattle.std.proofs.Common.{get_or, map, length}
-use Rattle.std.proofs.lemmas.List.{take_more, map-append}
+use Rattle.std.proofs.lemmas.List.{map-append}
 use Rattle.std.proofs.lemmas.Bool.Decides.{nat_tests}
 use Rattle.vte_core.specs.Bytes.{each, is_c0}
 use Rattle.vte_core.specs.Event.{Event, Execute}
-use Rattle.vte_core.proofs.PhaseLemmas.{each-append, each-more}
-use Rattle.vte_core.proofs.Telling.{performs-append, performs-next, same_events}
+use Rattle.vte_core.proofs.PhaseLemmas.{each-append}
+use Rattle.vte_core.proofs.Telling.{performs-append, tells_next, same_events}
 use Rattle.vte_core.proofs.text.execute_controls.Goals as goal
 use lib.Seq.{take-add}
 
@@ -23,8 +23,8 @@ loop-read-preserved g c =
     let ds : List Event = map Execute block in
     record {
       within = within;
-      controls = ap (each is_c0) more
-          ∙ each-append is_c0 (take i bs) block inv.controls (c.are_controls.ensures c.if-are_controls.true);
+      all = ap (each is_c0) more
+          ∙ each-append is_c0 (take i bs) block inv.all (c.are_controls.ensures c.if-are_controls.true);
       told = same_events g.P.Perform.step c.args.performer.now c.execute_all.new.performer (es ++ ds)
           (map Execute (take (i + 16) bs)) (sym (map-append Execute (take i bs) block) ∙ ap (map Execute) (sym more))
           (performs-append g.P.Perform.step c.args.performer.now c.loop-read.performer c.execute_all.new.performer
@@ -33,15 +33,6 @@ loop-read-preserved g c =
 
 pub loop-read-2-preserved : goal.loop-read-2-preserved
 loop-read-2-preserved g c =
-    let bs = c.args.bytes.now in
-    let i = c.loop-read-2.read in
-    let b = get_or bs i 0 in
-    let inv = c.loop-read-2.invariant in
-    let more : take (i + 1) bs ≡ take i bs ++ b ∷ [] = take_more bs i 0 c.loop-read-2-test.true in
-    let is : is_c0 b ≡ true = grind (arith, nat_tests, c.if-bytes-read-lt32.true, c.if-bytes-read-ne27.true) in
-    record {
-      within = omega arith;
-      controls = ap (each is_c0) more ∙ each-more is_c0 (take i bs) b inv.controls is;
-      told = performs-next g.P.Perform.step Execute bs i c.args.performer.now c.loop-read-2.performer
-          c.execute.new.self c.loop-read-2-test.true inv.told c.execute.ensures;
-    }
+    let is : is_c0 (get_or c.args.bytes.now c.loop-read-2.read 0) ≡ true =
+    grind (arith, nat_tests, c.if-bytes-read-lt32.true, c.if-bytes-read-ne27.true) in
+    tells_next c.loop-read-2.invariant c.loop-read-2-test.true is c.execute.ensures

@@ -2,7 +2,6 @@ use Rattle.std.proofs.Common.{◌≡◌, ◌-◌, ◌++◌, arith, true, length,
 use Rattle.std.proofs.lemmas.Bool.{eq-eqb}
 use Rattle.vte_core.specs.Bytes.{is_esc}
 use Rattle.vte_core.specs.Runs.{has_no_esc}
-use Rattle.vte_core.specs.Shapes.{before}
 use Rattle.vte_core.proofs.Fronts.{reads_more, reads_all}
 use Rattle.vte_core.proofs.Runs.{read_more, within_more}
 use Rattle.vte_core.proofs.Ground.{no_esc-append, text_end}
@@ -35,24 +34,15 @@ returns-else-bytes-read-ne27 g c =
     let i = c.loop-read.read in
     let inv = c.loop-read.invariant in
     let esc : is_esc (get_or bs i 0) ≡ true = eq-eqb (get_or bs i 0) 0x1B (omega (arith, c.if-bytes-read-ne27.false)) in
-    let len : i ≡ length (before is_esc bs) = text_end bs i inv.within inv.no_esc (λ lt. esc) in
+    let len = text_end bs i inv.within inv.no_esc (λ lt. esc) in
     let all = reads_all c.args.self.now c.loop-read.self bs i inv.told len inv.added inv.rest in
-    record {
-      len = len;
-      told = rw all.0 at inv.performed;
-      rest = all.1;
-    }
+    record { len = len; told = rw all.0 at inv.performed; rest = all.1 }
 
 pub returns-after-loop-read : goal.returns-after-loop-read
 returns-after-loop-read g c =
     let bs = c.args.bytes.now in
     let i = c.loop-read.read in
     let inv = c.loop-read.invariant in
-    let len : i ≡ length (before is_esc bs) =
-    text_end bs i inv.within inv.no_esc (λ lt. absurd (omega (arith, lt, c.loop-read-test.false))) in
+    let len = text_end bs i inv.within inv.no_esc (λ lt. absurd (omega (arith, lt, c.loop-read-test.false))) in
     let all = reads_all c.args.self.now c.loop-read.self bs i inv.told len inv.added inv.rest in
-    record {
-      len = len;
-      told = rw all.0 at inv.performed;
-      rest = all.1;
-    }
+    record { len = len; told = rw all.0 at inv.performed; rest = all.1 }

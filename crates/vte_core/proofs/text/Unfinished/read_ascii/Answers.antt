@@ -13,8 +13,8 @@ returns-then-is_alone g c =
     let bs = c.args.bytes.now in
     let b = get_or bs 0 0 in
     let r = plain-run (b ∷ []) (rw c.requires.plain refl) in
-    rw c.requires.none (reads_alone g.P.Perform.step c.args.performer.now bs (b ∷ []) 1 c.print.new.self [] _
-    (omega arith) c.requires.some (take_more bs 0 0 c.requires.some) r (c.print.new.self, c.print.ensures, refl))
+    rw c.requires.none (reads_alone bs (b ∷ []) 1 _ (omega arith) c.requires.some (take_more bs 0 0 c.requires.some) r
+    (c.print.new.self, c.print.ensures, refl))
 
 pub returns-then-ends_text : goal.returns-then-ends_text
 returns-then-ends_text g c =
@@ -23,7 +23,7 @@ returns-then-ends_text g c =
     let front : List ℕ = take k bs in
     let spelt : chars c.ascii_text.result.now ≡ front = ap chars c.ascii_text.ensures
     ∙ chars-IsAscii front (plain-ascii front c.ascii_len-len.ensures.plain) in
-    rw c.requires.none (reads_alone g.P.Perform.step c.args.performer.now bs front k c.print_str.new.self [] _
-    (omega arith) c.ascii_len-len.ensures.within refl (plain-run front c.ascii_len-len.ensures.plain)
+    rw c.requires.none (reads_alone bs front k _ (omega arith) c.ascii_len-len.ensures.within refl
+    (plain-run front c.ascii_len-len.ensures.plain)
     (same_events g.P.Perform.step c.args.performer.now c.print_str.new.self _ _ (ap (map Print) spelt)
     c.print_str.ensures))

@@ -19,8 +19,7 @@ returns-then-bytes-lt32 g c =
     let front : take (1 + k) bs ≡ b ∷ rest = read_more bs 1 k ∙ ap (λ (xs : List ℕ). xs ++ rest) one in
     let esc : is_esc b ≡ false = c.requires.text in
     let is : is_c0 b ≡ true = grind (arith, nat_tests, c.if-bytes-lt32.true, esc) in
-    let r = c0-run (b ∷ rest) (rw is c.execute_controls.ensures.controls) in
+    let r = c0-run (b ∷ rest) (rw is c.execute_controls.ensures.all) in
     let within = within_more bs 1 k c.requires.some c.execute_controls.ensures.within in
-    rw c.requires.none (reads_alone g.P.Perform.step c.args.performer.now bs (b ∷ rest) (1 + k)
-    c.execute_controls.new.performer [] (map Execute (b ∷ rest)) (omega arith) within front r
+    rw c.requires.none (reads_alone bs (b ∷ rest) (1 + k) (map Execute (b ∷ rest)) (omega arith) within front r
     (c.execute.new.self, c.execute.ensures, c.execute_controls.ensures.told))

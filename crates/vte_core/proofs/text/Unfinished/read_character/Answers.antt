@@ -6,9 +6,9 @@ use Rattle.vte_core.proofs.text.Unfinished.read_character.Goals as goal
 
 pub returns-in-Some : goal.returns-in-Some
 returns-in-Some g c =
-    rw c.requires.none (reads_alone g.P.Perform.step c.args.performer.now c.args.bytes.now
-    (0xC2 ∷ c.in-Some.control ∷ []) 2 c.execute.new.self [] _ (omega arith) (omega (arith, c.requires.some))
-    c.in-Some.ensures.1 (c1-run c.in-Some.control c.in-Some.ensures.0) (c.execute.new.self, c.execute.ensures, refl))
+    rw c.requires.none (reads_alone c.args.bytes.now (0xC2 ∷ c.in-Some.control ∷ []) 2 _ (omega arith)
+    (omega (arith, c.requires.begins.some)) c.in-Some.ensures.1
+    (c1-run c.in-Some.control c.in-Some.ensures.0) (c.execute.new.self, c.execute.ensures, refl))
 
 pub returns-then-ends_text : goal.returns-then-ends_text
 returns-then-ends_text g c =
@@ -20,8 +20,7 @@ returns-then-ends_text g c =
       c.begun_len-len.ensures.within,
       length-take k bs,
     ) in
-    rw c.requires.none (reads_alone g.P.Perform.step c.args.performer.now bs (take k bs) k c.tell.new.performer [] _
-    (omega arith) c.begun_len-len.ensures.within refl
+    rw c.requires.none (reads_alone bs (take k bs) k _ (omega arith) c.begun_len-len.ensures.within refl
     (whole-told (take k bs) (c.begun_len-len.ensures.whole (omega arith)) long) (
       c.tell.new.performer,
       same_step g.P.Perform.step c.args.performer.now c.tell.new.performer _ _

@@ -9,32 +9,32 @@ pub returns-in-len3-up : goal.returns-in-len3-up
 returns-in-len3-up g c =
     let bs = c.args.bytes.now in
     let esc : is_esc (get_or bs 2 0) ≡ false = grind (arith, nat_tests, c.if-third-ne27.true) in
-    rw c.requires.none (reads_two g.P.Perform.step c.args.performer.now bs c.print.new.self
-    (omega (arith, c.in-len3-up.len_at_least)) (of_three (get_or bs 0 0) c.requires.begun c.if-first-ge224.true)
-    c.requires.goes_on (sym c.is_tail.ensures ∙ c.if-not-is_tail.true) esc c.print.ensures)
+    rw c.requires.none (reads_two bs (omega (arith, c.in-len3-up.len_at_least))
+    (of_three (get_or bs 0 0) c.requires.begins.begun c.if-first-ge224.true)
+    c.requires.begins.goes_on (sym c.is_tail.ensures ∙ c.if-not-is_tail.true) esc c.print.ensures)
 
 pub returns-in-len4-up : goal.returns-in-len4-up
 returns-in-len4-up g c =
     let bs = c.args.bytes.now in
     let esc : is_esc (get_or bs 3 0) ≡ false = grind (arith, nat_tests, c.if-fourth-ne27.true) in
-    rw c.requires.none (reads_three g.P.Perform.step c.args.performer.now bs c.print-in-len4-up.new.self
-    (omega (arith, c.in-len4-up.len_at_least)) (of_four (get_or bs 0 0) c.requires.begun c.if-first-ge240.true)
-    c.requires.goes_on (sym c.is_tail-then-first-ge240.ensures ∙ c.if-is_tail.true)
+    rw c.requires.none (reads_three bs (omega (arith, c.in-len4-up.len_at_least))
+    (of_four (get_or bs 0 0) c.requires.begins.begun c.if-first-ge240.true)
+    c.requires.begins.goes_on (sym c.is_tail-then-first-ge240.ensures ∙ c.if-is_tail.true)
     (sym c.is_tail-then-is_tail.ensures ∙ c.if-not-is_tail-2.true) esc c.print-in-len4-up.ensures)
 
 pub returns-in_default : goal.returns-in_default
 returns-in_default g c =
     let a = get_or c.args.bytes.now 0 0 in
-    let long : 1 < char_len a = c.requires.begun in
+    let long : 1 < char_len a = c.requires.begins.begun in
     let esc : is_esc a ≡ false = grind (arith, nat_tests, long) in
-    reads_byte g.P.Perform.step c.args.self.now c.args.performer.now c.args.bytes.now c.read_byte.new.performer
-    c.read_byte.new.self (omega (arith, c.requires.some)) esc c.read_byte.ensures.told c.read_byte.ensures.rest
+    reads_byte c.args.bytes.now (omega (arith, c.requires.begins.some)) esc c.read_byte.ensures.told
+    c.read_byte.ensures.rest
 
 pub keep-requires : goal.keep-requires
 keep-requires g c =
     let bs = c.args.bytes.now in
     let kept = kept_three bs (omega (arith, c.in-len4-up.len_at_least))
-    (of_four (get_or bs 0 0) c.requires.begun c.if-first-ge240-2.true) c.requires.goes_on
+    (of_four (get_or bs 0 0) c.requires.begins.begun c.if-first-ge240-2.true) c.requires.begins.goes_on
     (sym c.is_tail-then-first-ge240-2.ensures ∙ c.if-is_tail-2.true) in
     record { begun = kept.0; few = omega (arith, length-take 3 bs) }
 
@@ -42,8 +42,7 @@ pub returns-in-27 : goal.returns-in-27
 returns-in-27 g c =
     let bs = c.args.bytes.now in
     let kept = kept_three bs (omega (arith, c.in-len4-up.len_at_least))
-    (of_four (get_or bs 0 0) c.requires.begun c.if-first-ge240-2.true) c.requires.goes_on
+    (of_four (get_or bs 0 0) c.requires.begins.begun c.if-first-ge240-2.true) c.requires.begins.goes_on
     (sym c.is_tail-then-first-ge240-2.ensures ∙ c.if-is_tail-2.true) in
-    rw (c.requires.none, c.keep.ensures) (reads_alone g.P.Perform.step c.args.performer.now bs (take 3 bs) 3
-    c.args.performer.now (take 3 bs) [] (omega arith) (omega (arith, c.in-len4-up.len_at_least)) refl
-    (kept.1, kept.2, kept.3) refl)
+    rw (c.requires.none, c.keep.ensures) (reads_alone bs (take 3 bs) 3 [] (omega arith)
+    (omega (arith, c.in-len4-up.len_at_least)) refl (kept.1, kept.2, kept.3) refl)

@@ -12,8 +12,7 @@ pub slice_bounds-read_printed-end : goal.slice_bounds-read_printed-end
 slice_bounds-read_printed-end g c = omega (arith, length-take {A = ℕ}, c.text_len-len.ensures.within)
 
 pub returns-then-len-eq0 : goal.returns-then-len-eq0
-returns-then-len-eq0 g c = reads_byte g.P.Perform.step c.args.self.now c.args.performer.now c.args.bytes.now
-    c.read_byte.new.performer c.read_byte.new.self c.requires.some c.requires.text c.read_byte.ensures.told
+returns-then-len-eq0 g c = reads_byte c.args.bytes.now c.requires.some c.requires.text c.read_byte.ensures.told
     c.read_byte.ensures.rest
 
 pub returns-then-len-le-LINE_LEN : goal.returns-then-len-le-LINE_LEN
@@ -25,13 +24,12 @@ returns-then-len-le-LINE_LEN g c =
     let front : take k (take n bs) ≡ take k bs = take-take k n bs within in
     let no_esc = printed-no_esc (take k (take n bs))
     (all_printed-take k (take n bs) c.text_len-len.ensures.printed) in
-    reads_front g.P.Perform.step c.args.self.now c.args.performer.now bs k c.read_front.new.performer
-    c.read_front.new.self c.read_front.ensures.some (omega (arith, within, c.text_len-len.ensures.within)) (rw (sym front) no_esc)
+    reads_front bs k c.read_front.ensures.some (omega (arith, within, c.text_len-len.ensures.within))
+    (rw (sym front) no_esc)
     (rw (sym front) c.read_front.ensures.told) (rw (sym front) c.read_front.ensures.rest)
 
 pub returns : goal.returns
 returns g c =
     let front = take c.text_len-len.result c.args.bytes.now in
-    reads_front g.P.Perform.step c.args.self.now c.args.performer.now c.args.bytes.now c.text_len-len.result
-    c.read_printed.new.performer c.read_printed.new.self (omega arith) c.text_len-len.ensures.within
+    reads_front c.args.bytes.now c.text_len-len.result (omega arith) c.text_len-len.ensures.within
     (printed-no_esc front c.text_len-len.ensures.printed) c.read_printed.ensures.told c.read_printed.ensures.rest

@@ -8,12 +8,10 @@ pub returns-in-len2-up-2 : goal.returns-in-len2-up-2
 returns-in-len2-up-2 g c =
     let bs = c.args.bytes.now in
     let esc : is_esc (get_or bs 1 0) ≡ false = grind (arith, nat_tests, c.if-second-ne27.true) in
-    rw c.requires.none (reads_malformed g.P.Perform.step c.args.performer.now bs c.tell_malformed.new.performer
-    (omega (arith, c.in-len2-up.len_at_least)) c.requires.high esc (c.is_begun.ensures.not_begun c.if-is_begun.false)
-    c.tell_malformed.ensures)
+    rw c.requires.none (reads_malformed bs (omega (arith, c.in-len2-up.len_at_least)) c.requires.high esc
+    (c.is_begun.ensures.not_begun c.if-is_begun.false) c.tell_malformed.ensures)
 
 pub returns-in_default : goal.returns-in_default
 returns-in_default g c =
     let esc : is_esc (get_or c.args.bytes.now 0 0) ≡ false = grind (arith, nat_tests, c.requires.high) in
-    reads_byte g.P.Perform.step c.args.self.now c.args.performer.now c.args.bytes.now c.read_byte.new.performer
-    c.read_byte.new.self c.requires.some esc c.read_byte.ensures.told c.read_byte.ensures.rest
+    reads_byte c.args.bytes.now c.requires.some esc c.read_byte.ensures.told c.read_byte.ensures.rest

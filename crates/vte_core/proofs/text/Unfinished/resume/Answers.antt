@@ -4,14 +4,11 @@ use Rattle.vte_core.proofs.Fronts.{reads_byte, reads_cut}
 use Rattle.vte_core.proofs.text.Unfinished.resume.Goals as goal
 
 pub returns-then-goes_on : goal.returns-then-goes_on
-returns-then-goes_on g c = reads_byte g.P.Perform.step c.args.self.now c.args.performer.now c.args.bytes.now
-    c.read_byte.new.performer c.read_byte.new.self c.requires.some c.requires.text c.read_byte.ensures.told
+returns-then-goes_on g c = reads_byte c.args.bytes.now c.requires.some c.requires.text c.read_byte.ensures.told
     c.read_byte.ensures.rest
 
 pub returns : goal.returns
-returns g c = reads_cut g.P.Perform.step c.args.self.now c.args.performer.now c.args.bytes.now c.print.new.self
-    c.clear.new.self c.read_at_boundary.result c.read_at_boundary.new.performer c.read_at_boundary.new.self
-    c.requires.begun c.requires.text
+returns g c = reads_cut c.args.self.now c.args.bytes.now c.requires.begun c.requires.text
     (ap (λ (u : List ℕ). whole_goes_on u (get_or c.args.bytes.now 0 0))
     (sym c.self.view_is ∙ sym c.as_slice.ensures.value)
     ∙ (sym c.goes_on.ensures ∙ c.if-goes_on.false)) c.print.ensures c.clear.ensures c.read_at_boundary.ensures
