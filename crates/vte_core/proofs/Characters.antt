@@ -16,6 +16,17 @@ pub if_holds : {A : Type 0} (P : A → Type 0) (v : Bool) (x y : A) → P x → 
 if_holds P true x y h k = h
 if_holds P false x y h k = k
 
+-- ifs on one test agree where their branches do
+pub ifs_agree : {A B : Type 0} (f : A → B) (v : Bool) {x y : B} {a b : A} → x ≡ f a → y ≡ f b
+    → (if v then x else y) ≡ f (if v then a else b)
+ifs_agree f true h k = h
+ifs_agree f false h k = k
+
+pub both_ifs_agree : {A B C : Type 0} (f : A → C → B) (v : Bool) {x y : B} {a b : A} {c d : C} → x ≡ f a c → y ≡ f b d
+    → (if v then x else y) ≡ f (if v then a else b) (if v then c else d)
+both_ifs_agree f true h k = h
+both_ifs_agree f false h k = k
+
 pub bool_cases : (v : Bool) → (v ≡ true) ⊎ (v ≡ false)
 bool_cases true = inl refl
 bool_cases false = inr refl

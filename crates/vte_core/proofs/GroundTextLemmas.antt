@@ -17,7 +17,7 @@ use Rattle.vte_core.specs.Laws.{IsCharacter, TellsCharacters}
 use Rattle.vte_core.proofs.AddedLemmas.{added-from}
 use Rattle.vte_core.proofs.LawLemmas.{text_holds}
 use Rattle.vte_core.proofs.Machine.{filter-kept}
-use Rattle.vte_core.proofs.Characters.{bool_cases}
+use Rattle.vte_core.proofs.Characters.{bool_cases, ifs_agree}
 
 -- text is pending
 pub text_is : (q : Pending) → is_text q ≡ true → (u : List ℕ) × (q ≡ InText u)
@@ -56,19 +56,10 @@ device-byte h b s =
 
 introduced-byte : (is : List ℕ) (b : ℕ) (s : List ℕ) → past_introduced is b s ≡ text_on (final_rest is b) s
 introduced-byte is b s =
-    elim (bool_cases (length is == 0 && b == 0x5B)) [
-      | inl e ↦ rw e refl
-      | inr e ↦ rw e (elim (bool_cases (length is == 0 && b == 0x5D)) [
-        | inl f ↦ rw f refl
-        | inr f ↦ rw f (elim (bool_cases (length is == 0 && b == 0x50)) [
-          | inl g ↦ rw g refl
-          | inr g ↦ rw g (elim (bool_cases (length is == 0 && (b == 0x58 || (b == 0x5E || b == 0x5F)))) [
-            | inl h ↦ rw h refl
-            | inr h ↦ rw h refl
-          ])
-        ])
-      ])
-    ]
+    let on = λ (q : Pending). text_on q s in
+    ifs_agree on (length is == 0 && b == 0x5B) refl (ifs_agree on (length is == 0 && b == 0x5D) refl
+    (ifs_agree on (length is == 0 && b == 0x50) refl
+    (ifs_agree on (length is == 0 && (b == 0x58 || (b == 0x5E || b == 0x5F))) refl refl)))
 
 escape-byte : (is : List ℕ) (b : ℕ) (s : List ℕ) → text_on (InEscape is) (b ∷ s) ≡ text_on (byte_rest (InEscape is) b) s
 escape-byte is b s =

@@ -9,7 +9,8 @@ use Rattle.vte_core.specs.Text.{text}
 use Rattle.vte_core.specs.Header.{is_well_formed}
 use Rattle.vte_core.specs.Shapes.{before, from, executed, swallowed, device_end, device, hook_end, csi_end, osc_end}
 use Rattle.vte_core.specs.Shapes.{introduced, escape_end, escape, cut_at_esc, segments, events}
-use Rattle.vte_core.proofs.Characters.{bool_cases, if_holds, either_way, text-byte, text-end, IsUnfinished-rest}
+use Rattle.vte_core.proofs.Characters.{bool_cases, if_holds, both_ifs_agree, either_way, text-byte, text-end}
+use Rattle.vte_core.proofs.Characters.{IsUnfinished-rest}
 use Rattle.vte_core.specs.Pending.{Pending, InText, InEscape, InCsi, InOsc, InHook, InDevice, InSwallowed, kept, told}
 use Rattle.vte_core.specs.Pending.{closed, final_told, final_rest, byte_told, byte_rest, events_of_byte, after_byte}
 use Rattle.vte_core.specs.Pending.{events_from, after_bytes, pending, IsSound}
@@ -78,19 +79,10 @@ csi-byte n h cut b s =
 introduced-byte : (n : ℕ) (cut : Bool) (is : List ℕ) (b : ℕ) (s : List ℕ)
     → introduced n cut is b s ≡ final_told is b ++ go_on n (final_rest is b) cut s
 introduced-byte n cut is b s =
-    elim (bool_cases (length is == 0 && b == 0x5B)) [
-      | inl e ↦ rw e refl
-      | inr e ↦ rw e (elim (bool_cases (length is == 0 && b == 0x5D)) [
-        | inl f ↦ rw f refl
-        | inr f ↦ rw f (elim (bool_cases (length is == 0 && b == 0x50)) [
-          | inl g ↦ rw g refl
-          | inr g ↦ rw g (elim (bool_cases (length is == 0 && (b == 0x58 || (b == 0x5E || b == 0x5F)))) [
-            | inl h ↦ rw h refl
-            | inr h ↦ rw h refl
-          ])
-        ])
-      ])
-    ]
+    let on = λ (es : List Event) (q : Pending). es ++ go_on n q cut s in
+    both_ifs_agree on (length is == 0 && b == 0x5B) refl (both_ifs_agree on (length is == 0 && b == 0x5D) refl
+    (both_ifs_agree on (length is == 0 && b == 0x50) refl
+    (both_ifs_agree on (length is == 0 && (b == 0x58 || (b == 0x5E || b == 0x5F))) refl refl)))
 
 escape-byte : (n : ℕ) (is : List ℕ) (cut : Bool) (b : ℕ) (s : List ℕ)
     → go_on n (InEscape is) cut (b ∷ s) ≡ byte_told n (InEscape is) b ++ go_on n (byte_rest (InEscape is) b) cut s
