@@ -8,12 +8,13 @@ use Rattle.vte_core.specs.Event.{Event, Performs}
 use Rattle.vte_core.specs.Bytes.{each, is_esc, is_control, is_header, is_data, is_swallowed, is_abort}
 use Rattle.vte_core.specs.Bytes.{ends_header, ends_osc}
 use Rattle.vte_core.specs.Pending.{Pending, InText, InEscape, InCsi, InOsc, InHook, InDevice, InSwallowed}
-use Rattle.vte_core.specs.Pending.{events_of_byte, events_from, after_byte, after_bytes, closed}
+use Rattle.vte_core.specs.Pending.{events_of_byte, events_from, after_byte, after_bytes}
 use Rattle.vte_core.specs.Phases.{ReadsHeader}
 use Rattle.vte_core.specs.Store.{ReadsOsc}
 use Rattle.vte_core.specs.Standing.{IsAt, state_is_text}
 use Rattle.vte_core.specs.Stopping.{StopsAt, runs_on}
-use Rattle.vte_core.specs.Runs.{Tells, is_one_step, IsStep}
+use Rattle.vte_core.specs.Reads.{ReadsQuietly}
+use Rattle.vte_core.specs.Runs.{is_one_step, IsStep}
 use Rattle.vte_core.specs.declared.header.Header.{Header}
 use Rattle.vte_core.specs.declared.parser.Parser.{Parser}
 use Rattle.vte_core.specs.declared.parser.State.TheVariants.{Ground, Escape, Csi, OscString, DcsHeader}
@@ -22,7 +23,8 @@ use Rattle.vte_core.specs.declared.parser.State.{State}
 use Rattle.vte_core.proofs.Characters.{bool_cases}
 use Rattle.vte_core.proofs.PhaseLemmas.{each-first}
 use Rattle.vte_core.proofs.Machine.{events_from-append, after_bytes-append}
-use Rattle.vte_core.proofs.Runs.{stop_steps, byte-at, read_more, nil_of_len, stands_on, tells_more}
+use Rattle.vte_core.proofs.ReadsLemmas.{quiet_by}
+use Rattle.vte_core.proofs.Runs.{stop_steps, byte-at, read_more, nil_of_len}
 use Rattle.std.proofs.lemmas.List.{take_more, drop-drop}
 use lib.Seq.{take-add}
 
@@ -81,46 +83,6 @@ all_kept n f p h (b ∷ xs) k e =
     let from : events_from n (after_byte (f h) b) xs ≡ [] = ap (λ (q : Pending). events_from n q xs) one.1 ∙ more.0 in
     (rw (one.0, from) refl, ap (λ (q : Pending). after_bytes q xs) one.1 ∙ (more.1 ∙ ap f (append_assoc h (b ∷ []) xs)))
 
--- where the parser reads a header, or the data of a command
-
-pub header-at : (n : ℕ) (p : Parser n) (x : Header) (q : Pending) (xs : List ℕ)
-    → (p.state ≡ Csi) ⊎ (p.state ≡ DcsHeader) → each is_header xs ≡ true
-    → ((h : List ℕ) → ReadsHeader p.header h → ReadsHeader x (h ++ xs)) → IsAt n p q
-    → (events_from n q xs ≡ []) × IsAt n (record {
-      state = p.state;
-      unfinished = p.unfinished;
-      intermediates = p.intermediates;
-      header = x;
-      osc = p.osc;
-    }) (after_bytes q xs)
-header-at n p x q xs s g r at = elim s [
-  | inl i ↦
-      let (h, is) = by_state n p Csi q i at in
-      let here = rw is at at in
-      let m = all_kept n InCsi is_header h xs (header-csi n) g in
-      rw is (m.0, rw m.1 (here.0, here.1, r h here.2))
-  | inr i ↦
-      let (h, is) = by_state n p DcsHeader q i at in
-      let here = rw is at at in
-      let m = all_kept n InHook is_header h xs (header-hook n) g in
-      rw is (m.0, rw m.1 (here.0, here.1, r h here.2))
-]
-
-pub osc-at : (n : ℕ) (p : Parser n) (x : List ℕ × List ℕ) (q : Pending) (xs : List ℕ) → p.state ≡ OscString
-    → each is_data xs ≡ true → ((d : List ℕ) → ReadsOsc n p.osc d → ReadsOsc n x (d ++ xs)) → IsAt n p q
-    → (events_from n q xs ≡ []) × IsAt n (record {
-      state = p.state;
-      unfinished = p.unfinished;
-      intermediates = p.intermediates;
-      header = p.header;
-      osc = x;
-    }) (after_bytes q xs)
-osc-at n p x q xs s g r at =
-    let (d, is) = by_state n p OscString q s at in
-    let here = rw is at at in
-    let m = all_kept n InOsc is_data d xs (data-osc n) g in
-    rw is (m.0, rw m.1 (here.0, here.1, r d here.2))
-
 -- what is swallowed
 skip_on : (n : ℕ) (xs : List ℕ) → each is_swallowed xs ≡ true → (events_from n InSwallowed xs ≡ [])
     × (after_bytes InSwallowed xs ≡ InSwallowed)
@@ -133,14 +95,39 @@ skip_on n (b ∷ xs) h =
     let more = skip_on n xs g.1 in
     (rw (esc, abort) more.0, rw (esc, abort) more.1)
 
-pub swallowed-at : (n : ℕ) (p : Parser n) (q : Pending) (xs : List ℕ) → p.state ≡ SosPmApcString
-    → each is_swallowed xs ≡ true → IsAt n p q
-    → (events_from n q xs ≡ []) × IsAt n p (after_bytes q xs)
-swallowed-at n p q xs s e at =
-    let is = by_state n p SosPmApcString q s at in
-    let here = rw is at at in
-    let m = skip_on n xs e in
-    rw is (m.0, rw m.1 here)
+-- where the parser reads a header, or the data of a command, or swallows bytes
+
+module _ {n : ℕ} {p : Parser n} {bs : List ℕ} {k : ℕ} (within : k ≤ length bs) where
+  pub header_quiet : (x : Header) → (p.state ≡ Csi) ⊎ (p.state ≡ DcsHeader) → each is_header (take k bs) ≡ true
+      → ((h : List ℕ) → ReadsHeader p.header h → ReadsHeader x (h ++ take k bs))
+      → ReadsQuietly n p bs k (record p { header = x })
+  header_quiet x s all reads = quiet_by within (λ q at. elim s [
+    | inl i ↦
+        let (h, is) = by_state n p Csi q i at in
+        let here = rw is at at in
+        let m = all_kept n InCsi is_header h (take k bs) (header-csi n) all in
+        rw is (m.0, rw m.1 (here.0, here.1, reads h here.2))
+    | inr i ↦
+        let (h, is) = by_state n p DcsHeader q i at in
+        let here = rw is at at in
+        let m = all_kept n InHook is_header h (take k bs) (header-hook n) all in
+        rw is (m.0, rw m.1 (here.0, here.1, reads h here.2))
+  ])
+
+  pub osc_quiet : (x : List ℕ × List ℕ) → p.state ≡ OscString → each is_data (take k bs) ≡ true
+      → ((d : List ℕ) → ReadsOsc n p.osc d → ReadsOsc n x (d ++ take k bs))
+      → ReadsQuietly n p bs k (record p { osc = x })
+  osc_quiet x s all reads = quiet_by within (λ q at.
+      let (d, is) = by_state n p OscString q s at in
+      let here = rw is at at in
+      let m = all_kept n InOsc is_data d (take k bs) (data-osc n) all in
+      rw is (m.0, rw m.1 (here.0, here.1, reads d here.2)))
+
+  pub swallowed_quiet : p.state ≡ SosPmApcString → each is_swallowed (take k bs) ≡ true → ReadsQuietly n p bs k p
+  swallowed_quiet s all = quiet_by within (λ q at.
+      let is = by_state n p SosPmApcString q s at in
+      let m = skip_on n (take k bs) all in
+      rw is (m.0, rw m.1 (rw is at at)))
 
 -- where the performer is asked
 
@@ -221,37 +208,6 @@ quiet-step n q xs ys rest e s = record {
 pub one-step : (n : ℕ) (q : Pending) (bs rest : List ℕ) → is_one_step q bs rest ≡ true → IsStep n q bs rest
 one-step n q bs rest h = record { quiet = []; last = bs; parts = refl; nothing = refl; one = inr h }
 
-pub tells_nothing : {S : Type 0} (step : S → Event → S → Type 0) (n : ℕ) (p : Parser n) (old : S) (bs : List ℕ)
-    → ((q : Pending) → IsAt n p q → events_from n q bs ≡ []) → Tells step n p old bs old
-tells_nothing step n p old bs h = record { told = []; performed = refl; added = λ q at. sym (h q at) }
-
-pub tells_byte : {S : Type 0} (step : S → Event → S → Type 0) (n : ℕ) (p : Parser n) (old : S) (b : ℕ) (new : S)
-    (told : List Event) → Performs step old told new
-    → ((q : Pending) → IsAt n p q → told ≡ events_of_byte n q b) → Tells step n p old (b ∷ []) new
-tells_byte step n p old b new told done h = record {
-  told = told;
-  performed = done;
-  added = λ q at. h q at ∙ sym (append-nil (events_of_byte n q b));
-}
-
--- a byte after those that tell nothing
-module _ (n : ℕ) (p mid : Parser n) (bs : List ℕ) (k : ℕ) where
-  pub byte_stands : (new : Parser n) → k < length bs
-      → ((q : Pending) → IsAt n p q → IsAt n mid (after_bytes q (take k bs)))
-      → ((q : Pending) → IsAt n mid q → IsAt n new (after_byte q (get_or bs k 0)))
-      → (q : Pending) → IsAt n p q → IsAt n new (after_bytes q (take (k + 1) bs))
-  byte_stands new less =
-      stands_on n p mid new (take k bs) (get_or bs k 0 ∷ []) (take (k + 1) bs) (take_more bs k 0 less)
-
-  pub byte_tells : {S : Type 0} (step : S → Event → S → Type 0) (old new : S) (told : List Event) → k < length bs
-      → ((q : Pending) → IsAt n p q → IsAt n mid (after_bytes q (take k bs)))
-      → ((q : Pending) → IsAt n p q → events_from n q (take k bs) ≡ []) → Performs step old told new
-      → ((q : Pending) → IsAt n mid q → told ≡ events_of_byte n q (get_or bs k 0))
-      → Tells step n p old (take (k + 1) bs) new
-  byte_tells step old new told less at quiet done h =
-      tells_more step n p mid old old new (take k bs) (get_or bs k 0 ∷ []) (take (k + 1) bs) (take_more bs k 0 less)
-      at (tells_nothing step n p old (take k bs) quiet) (tells_byte step n mid old _ new told done h)
-
 -- such a byte of a control sequence, or ESC
 pub quiet-byte-step : (n : ℕ) (p : Parser n) (q : Pending) (bs : List ℕ) (k : ℕ) → k < length bs
     → events_from n q (take k bs) ≡ [] → p.state ≡ Csi → IsAt n p (after_bytes q (take k bs))
@@ -330,9 +286,3 @@ escape-header n p q f bs b k keeps quiet begun some e s none header at =
     let first : take 1 bs ≡ b ∷ [] = take_more bs 0 0 some ∙ ap (λ (c : ℕ). c ∷ []) e in
     let m = begun-header n (InEscape []) f bs (b ∷ []) 1 k keeps first quiet begun header in
     rw u.0 (m.0, m.1, u.1)
-
--- ESC at the front
-pub escape-at : (n : ℕ) (q : Pending) (bs : List ℕ) → 0 < length bs → get_or bs 0 0 ≡ 0x1B
-    → (closed n q ≡ events_from n q (take 1 bs)) × (after_bytes q (take 1 bs) ≡ InEscape [])
-escape-at n q [] some e = absurd (omega (arith, some))
-escape-at n q (b ∷ s) some e = let f : b ≡ 0x1B = e in rw f (sym (append-nil (closed n q)), refl)

@@ -16,7 +16,7 @@ use Rattle.vte_core.specs.Text.{char_len, second_min, second_max, first_bits, ch
 use Rattle.vte_core.specs.Shapes.{before, from}
 use Rattle.vte_core.specs.Pending.{Pending, InText, text_told, text_rest, events_of_byte, events_from, after_byte}
 use Rattle.vte_core.specs.Pending.{after_bytes}
-use Rattle.vte_core.specs.Runs.{Tells, run_told, run_rest, has_no_esc, is_one_step, is_printed, printed_len}
+use Rattle.vte_core.specs.Runs.{run_told, run_rest, has_no_esc, is_one_step, is_printed, printed_len}
 use Rattle.vte_core.specs.Standing.{IsAt, state_is_text}
 use Rattle.vte_core.specs.declared.parser.Parser.{Parser}
 use Rattle.vte_core.specs.declared.parser.State.TheVariants.{Ground}
@@ -24,10 +24,8 @@ use Rattle.vte_core.specs.Stopping.{StopsAt, runs_on, is_text}
 use Rattle.vte_core.proofs.Characters.{bool_cases}
 use lib.Seq.{take-add}
 use Rattle.std.proofs.lemmas.List.{take-append-drop, drop-drop, drop_more}
-use Rattle.vte_core.proofs.Machine.{events_from-append, after_bytes-append}
 use Rattle.vte_core.proofs.GroundTextLemmas.{text_is}
 use Rattle.vte_core.proofs.StopLemmas.{whole_rest, is_text-at}
-use Rattle.vte_core.proofs.Telling.{performs-append}
 
 -- a character of one byte, of two, three and four
 
@@ -302,37 +300,6 @@ byte-at n p (b ∷ s) q some none h = no_run q b s (λ t.
       | inr e ↦ let text : state_is_text p.state ≡ true = sym (is_text-at n p q h) ∙ t in let no = rw (text, e) at none
           in cc
     ])
-
--- where the parser stands after two pieces, and what they tell
-
-pub stands_on : (n : ℕ) (p mid new : Parser n) (front piece all : List ℕ) → all ≡ front ++ piece
-    → ((q : Pending) → IsAt n p q → IsAt n mid (after_bytes q front))
-    → ((q : Pending) → IsAt n mid q → IsAt n new (after_bytes q piece))
-    → (q : Pending) → IsAt n p q → IsAt n new (after_bytes q all)
-stands_on n p mid new front piece all e first next q h =
-    rw (e, after_bytes-append q front piece) (next (after_bytes q front) (first q h))
-
-pub stands_further : (n : ℕ) (p mid new : Parser n) (bs : List ℕ) (i k : ℕ)
-    → ((q : Pending) → IsAt n p q → IsAt n mid (after_bytes q (take i bs)))
-    → ((q : Pending) → IsAt n mid q → IsAt n new (after_bytes q (take k (take (length bs - i) (drop i bs)))))
-    → (q : Pending) → IsAt n p q → IsAt n new (after_bytes q (take (i + k) bs))
-stands_further n p mid new bs i k =
-    stands_on n p mid new (take i bs) (take k (take (length bs - i) (drop i bs))) (take (i + k) bs) (read_more bs i k)
-
-pub tells_more : {S : Type 0} (step : S → Event → S → Type 0) (n : ℕ) (p mid : Parser n) (old between new : S)
-    (front piece all : List ℕ) → all ≡ front ++ piece
-    → ((q : Pending) → IsAt n p q → IsAt n mid (after_bytes q front))
-    → Tells step n p old front between → Tells step n mid between piece new → Tells step n p old all new
-tells_more step n p mid old between new front piece all e at a b = record {
-  told = a.told ++ b.told;
-  performed = performs-append step old between new a.told b.told a.performed b.performed;
-  added = λ q h. rw (
-    e,
-    events_from-append n q front piece,
-    a.added q h,
-    b.added (after_bytes q front) (at q h),
-  ) refl;
-}
 
 -- the piece that a step read of what is left, and the rest of it
 pub piece_and_rest : (bs : List ℕ) (i k : ℕ) → k ≤ length (take (length bs - i) (drop i bs))

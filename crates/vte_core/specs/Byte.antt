@@ -1,15 +1,23 @@
--- What a byte other than ESC does, as clauses of the parser's functions: the parser before it (p) and after it (r).
-use Rattle.std.specs.Prelude.{◌≡◌, ℕ}
-use Rattle.vte_core.specs.Heard.{byte_heard}
-use Rattle.vte_core.specs.Pending.{Pending, byte_rest, byte_told}
+-- What the parser's functions do with a byte: the parser (p) and the performer (old) before it, and after it (r, new).
+use Rattle.std.specs.Prelude.{◌≡◌, ℕ, List}
+use Rattle.vte_core.specs.Event.{Event, Performs}
+use Rattle.vte_core.specs.Heard.{heard, byte_heard}
+use Rattle.vte_core.specs.Pending.{Pending, events_of_byte, after_byte, byte_rest, byte_told}
 use Rattle.vte_core.specs.Standing.{IsAt}
 use Rattle.vte_core.specs.declared.parser.Parser.{Parser}
 use Rattle.vte_core.specs.declared.parser.State.{State}
 
--- where the parser stood, it stands after the byte
-abbrev pub GoesOn : (n : ℕ) → Parser n → Parser n → ℕ → Type 0
-GoesOn n p r b = (q : Pending) → IsAt n p q → IsAt n r (byte_rest q b)
+-- Where the parser stood, it stands after the byte. The performer has gone through events that the parser's fields say,
+-- and they are those of the byte after what was pending.
+pub record ReadsByte {S : Type 0} (step : S → Event → S
+    → Type 0) (n : ℕ) (p : Parser n) (old : S) (b : ℕ) (r : Parser n) (new : S) : Type 0 where
+  pub stands : (q : Pending) → IsAt n p q → IsAt n r (after_byte q b)
+  pub told : Performs step old (heard n p r b) new
+  pub is_told : (q : Pending) → IsAt n p q → heard n p r b ≡ events_of_byte n q b
 
--- the events by the parser's fields are those of what was pending
-abbrev pub HearsAll : (n : ℕ) → State → Parser n → Parser n → ℕ → Type 0
-HearsAll n s p r b = (q : Pending) → IsAt n p q → byte_heard n s p r b ≡ byte_told n q b
+-- the same of a byte other than ESC, in the state s
+pub record ReadsOther {S : Type 0} (step : S → Event → S
+    → Type 0) (n : ℕ) (s : State) (p : Parser n) (old : S) (b : ℕ) (r : Parser n) (new : S) : Type 0 where
+  pub stands : (q : Pending) → IsAt n p q → IsAt n r (byte_rest q b)
+  pub told : Performs step old (byte_heard n s p r b) new
+  pub is_told : (q : Pending) → IsAt n p q → byte_heard n s p r b ≡ byte_told n q b

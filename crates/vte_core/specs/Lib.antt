@@ -18,5 +18,6 @@ pub mod Byte
 pub mod Laws
 pub mod Told
 pub mod Runs
+pub mod Reads
 pub mod Steps
 pub mod Ground

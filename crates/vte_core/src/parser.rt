@@ -1,22 +1,19 @@
 //! The parser: what each byte does where the bytes before it have led, and how bytes are read many at a time.
 
-ghost use Rattle.std.specs.Prelude.{◌≡◌, ◌≢◌, ◌+◌, ◌<◌, ◌≤◌, ℕ, Bool, List, [], ◌∷◌, ◌++◌, length, map, IsTrue, take};
-ghost use Rattle.std.specs.Prelude.{drop, slice_index};
-ghost use Rattle.vte_core.specs.Byte.{GoesOn, HearsAll};
-ghost use Rattle.vte_core.specs.Event as e;
-ghost use Rattle.vte_core.specs.Event.{Performs};
-ghost use Rattle.vte_core.specs.Told.{Told};
-ghost use Rattle.vte_core.specs.Runs.{Tells, IsStep, is_one_step};
-ghost use Rattle.vte_core.specs.Heard.{heard, byte_heard, closed_heard, final_heard};
-ghost use Rattle.vte_core.specs.Shapes.{events};
-ghost use Rattle.vte_core.specs.Pending.{Pending, InText, InEscape, InCsi, InOsc, InHook, InDevice, InSwallowed};
-ghost use Rattle.vte_core.specs.Pending.{final_rest, final_told, events_of_byte, after_byte};
-ghost use Rattle.vte_core.specs.Pending.{events_from, after_bytes, closed};
-ghost use Rattle.vte_core.specs.Standing.{IsAt, Stands, state_is_text};
-ghost use Rattle.vte_core.specs.Stopping.{Stops};
+ghost use Rattle.std.specs.Prelude.{◌≡◌, ◌≢◌, ◌<◌, ◌≤◌, ℕ, List, [], ◌++◌, length, IsTrue, take, slice_index};
 ghost use Rattle.std.specs.Prelude.{true, not, ◌&&◌};
 ghost use Rattle.std.specs.Int.{is_in_range};
+ghost use Rattle.vte_core.specs.Byte.{ReadsByte, ReadsOther};
 ghost use Rattle.vte_core.specs.Bytes.{each, is_device_data, is_esc, is_swallowed};
+ghost use Rattle.vte_core.specs.Event as e;
+ghost use Rattle.vte_core.specs.Event.{Performs};
+ghost use Rattle.vte_core.specs.Heard.{final_heard};
+ghost use Rattle.vte_core.specs.Pending.{InEscape, final_rest, final_told};
+ghost use Rattle.vte_core.specs.Reads.{BeginsWithEsc, Reads, ReadsSome, ReadsStep, ReadsQuietly};
+ghost use Rattle.vte_core.specs.Runs.{TellsEach};
+ghost use Rattle.vte_core.specs.Standing.{IsAt, Stands, state_is_text};
+ghost use Rattle.vte_core.specs.Stopping.{Stops};
+ghost use Rattle.vte_core.specs.Told.{Told};
 
 use crate::header::Header;
 use crate::intermediates::Intermediates;
@@ -86,10 +83,7 @@ impl<const N: usize> Parser<N> {
 
     /// ESC ends what was begun, and begins an escape sequence.
     fn begin_escape<P: Perform>(&mut self, performer: &mut P)
-        ensures stands { (q : Pending) → IsAt N self.old q → IsAt N self.new (InEscape []) }
-        ensures told { Performs P.step performer.old (closed_heard N self.old.state self.old self.new) performer.new }
-        ensures is_told { (q : Pending) → IsAt N self.old q
-            → closed_heard N self.old.state self.old self.new ≡ closed N q }
+        ensures reads { ReadsByte P.step N self.old performer.old 0x1B self.new performer.new }
         ensures state { self.new.state ≡ State.Escape }
     {
         match self.state {
@@ -111,9 +105,7 @@ impl<const N: usize> Parser<N> {
     fn escape<P: Perform>(&mut self, performer: &mut P, byte: u8)
         requires state { self.old.state ≡ State.Escape }
         requires not_esc { byte ≢ 0x1B }
-        ensures stands { GoesOn N self.old self.new byte }
-        ensures told { Performs P.step performer.old (byte_heard N State.Escape self.old self.new byte) performer.new }
-        ensures is_told { HearsAll N State.Escape self.old self.new byte }
+        ensures { ReadsOther P.step N State.Escape self.old performer.old byte self.new performer.new }
     {
         let (action, next) = step_of(State::Escape, byte);
         match action {
@@ -167,9 +159,7 @@ impl<const N: usize> Parser<N> {
     fn dispatch_csi<P: Perform>(&mut self, performer: &mut P, byte: u8)
         requires state { self.old.state ≡ State.Csi }
         requires is_final { is_in_range 0x40 0x7E byte ≡ true }
-        ensures stands { GoesOn N self.old self.new byte }
-        ensures told { Performs P.step performer.old (byte_heard N State.Csi self.old self.new byte) performer.new }
-        ensures is_told { HearsAll N State.Csi self.old self.new byte }
+        ensures { ReadsOther P.step N State.Csi self.old performer.old byte self.new performer.new }
     {
         self.state = State::Ground;
         if self.header.is_kept() {
@@ -181,9 +171,7 @@ impl<const N: usize> Parser<N> {
     fn csi<P: Perform>(&mut self, performer: &mut P, byte: u8)
         requires state { self.old.state ≡ State.Csi }
         requires not_esc { byte ≢ 0x1B }
-        ensures stands { GoesOn N self.old self.new byte }
-        ensures told { Performs P.step performer.old (byte_heard N State.Csi self.old self.new byte) performer.new }
-        ensures is_told { HearsAll N State.Csi self.old self.new byte }
+        ensures { ReadsOther P.step N State.Csi self.old performer.old byte self.new performer.new }
     {
         let (action, next) = step_of(State::Csi, byte);
         match action {
@@ -203,10 +191,7 @@ impl<const N: usize> Parser<N> {
     fn osc_string<P: Perform>(&mut self, performer: &mut P, byte: u8)
         requires state { self.old.state ≡ State.OscString }
         requires not_esc { byte ≢ 0x1B }
-        ensures stands { GoesOn N self.old self.new byte }
-        ensures told { Performs P.step performer.old (byte_heard N State.OscString self.old self.new byte)
-            performer.new }
-        ensures is_told { HearsAll N State.OscString self.old self.new byte }
+        ensures { ReadsOther P.step N State.OscString self.old performer.old byte self.new performer.new }
     {
         let (action, next) = step_of(State::OscString, byte);
         match action {
@@ -228,10 +213,7 @@ impl<const N: usize> Parser<N> {
     fn dcs_header<P: Perform>(&mut self, performer: &mut P, byte: u8)
         requires state { self.old.state ≡ State.DcsHeader }
         requires not_esc { byte ≢ 0x1B }
-        ensures stands { GoesOn N self.old self.new byte }
-        ensures told { Performs P.step performer.old (byte_heard N State.DcsHeader self.old self.new byte)
-            performer.new }
-        ensures is_told { HearsAll N State.DcsHeader self.old self.new byte }
+        ensures { ReadsOther P.step N State.DcsHeader self.old performer.old byte self.new performer.new }
     {
         let (action, next) = step_of(State::DcsHeader, byte);
         match action {
@@ -257,10 +239,7 @@ impl<const N: usize> Parser<N> {
     fn dcs_passthrough<P: Perform>(&mut self, performer: &mut P, byte: u8)
         requires state { self.old.state ≡ State.DcsPassthrough }
         requires not_esc { byte ≢ 0x1B }
-        ensures stands { GoesOn N self.old self.new byte }
-        ensures told { Performs P.step performer.old (byte_heard N State.DcsPassthrough self.old self.new byte)
-            performer.new }
-        ensures is_told { HearsAll N State.DcsPassthrough self.old self.new byte }
+        ensures { ReadsOther P.step N State.DcsPassthrough self.old performer.old byte self.new performer.new }
     {
         let (action, next) = step_of(State::DcsPassthrough, byte);
         match action {
@@ -281,10 +260,7 @@ impl<const N: usize> Parser<N> {
     fn sos_pm_apc_string<P: Perform>(&mut self, performer: &mut P, byte: u8)
         requires state { self.old.state ≡ State.SosPmApcString }
         requires not_esc { byte ≢ 0x1B }
-        ensures stands { GoesOn N self.old self.new byte }
-        ensures told { Performs P.step performer.old (byte_heard N State.SosPmApcString self.old self.new byte)
-            performer.new }
-        ensures is_told { HearsAll N State.SosPmApcString self.old self.new byte }
+        ensures { ReadsOther P.step N State.SosPmApcString self.old performer.old byte self.new performer.new }
     {
         let (action, next) = step_of(State::SosPmApcString, byte);
         match action {
@@ -299,18 +275,14 @@ impl<const N: usize> Parser<N> {
     /// A byte of ground text, other than ESC.
     fn ground<P: Perform>(&mut self, performer: &mut P, byte: u8)
         requires { self.old.state ≡ State.Ground }
-        ensures stands { GoesOn N self.old self.new byte }
-        ensures told { Performs P.step performer.old (byte_heard N State.Ground self.old self.new byte) performer.new }
-        ensures is_told { HearsAll N State.Ground self.old self.new byte }
+        ensures { ReadsOther P.step N State.Ground self.old performer.old byte self.new performer.new }
     {
         self.unfinished.read_byte(performer, byte);
     }
 
     /// A byte.
     fn byte<P: Perform>(&mut self, performer: &mut P, byte: u8)
-        ensures stands { (q : Pending) → IsAt N self.old q → IsAt N self.new (after_byte q byte) }
-        ensures told { Performs P.step performer.old (heard N self.old self.new byte) performer.new }
-        ensures is_told { (q : Pending) → IsAt N self.old q → heard N self.old self.new byte ≡ events_of_byte N q byte }
+        ensures { ReadsByte P.step N self.old performer.old byte self.new performer.new }
     {
         if byte == 0x1B {
             self.begin_escape(performer);
@@ -331,9 +303,7 @@ impl<const N: usize> Parser<N> {
     #[inline(always)]
     fn after_escape<P: Perform>(&mut self, performer: &mut P, byte: u8)
         requires { self.old.state ≡ State.Escape }
-        ensures stands { (q : Pending) → IsAt N self.old q → IsAt N self.new (after_byte q byte) }
-        ensures told { Performs P.step performer.old (heard N self.old self.new byte) performer.new }
-        ensures is_told { (q : Pending) → IsAt N self.old q → heard N self.old self.new byte ≡ events_of_byte N q byte }
+        ensures { ReadsByte P.step N self.old performer.old byte self.new performer.new }
     {
         if is_escape_final(byte) {
             self.end_escape(performer, byte);
@@ -349,11 +319,8 @@ impl<const N: usize> Parser<N> {
     #[inline(always)]
     fn begin_header(&mut self, bytes: &[u8]) -> usize
         requires { self.old.state ≡ State.Escape }
-        ensures within { result ≤ length bytes.now }
-        ensures stands { (q : Pending) → IsAt N self.old q → IsAt N self.new (after_bytes q (take result bytes.now)) }
-        ensures quiet { (q : Pending) → IsAt N self.old q → events_from N q (take result bytes.now) ≡ [] }
+        ensures reads { ReadsQuietly N self.old bytes.now result self.new }
         ensures csi { 0 < result → slice_index bytes.now 0 ≡ 0x5B → self.new.state ≡ State.Csi }
-        ensures hook { 0 < result → slice_index bytes.now 0 ≢ 0x5B → self.new.state ≡ State.DcsHeader }
     {
         match bytes {
             [b'[', rest @ ..] if self.intermediates.kept.is_empty() => {
@@ -374,9 +341,7 @@ impl<const N: usize> Parser<N> {
     /// how many they are.
     #[inline(always)]
     fn read_quiet(&mut self, bytes: &[u8]) -> usize
-        ensures within { result ≤ length bytes.now }
-        ensures stands { (q : Pending) → IsAt N self.old q → IsAt N self.new (after_bytes q (take result bytes.now)) }
-        ensures quiet { (q : Pending) → IsAt N self.old q → events_from N q (take result bytes.now) ≡ [] }
+        ensures { ReadsQuietly N self.old bytes.now result self.new }
     {
         match self.state {
             State::Csi | State::DcsHeader => self.header.read(bytes),
@@ -392,11 +357,9 @@ impl<const N: usize> Parser<N> {
     #[inline(always)]
     fn begin_csi(&mut self, bytes: &[u8]) -> usize
         requires { self.old.state ≡ State.Ground }
-        ensures within { result ≤ length bytes.now }
+        ensures reads { ReadsQuietly N self.old bytes.now result self.new }
         ensures begun { 0 < result → self.new.state ≡ State.Csi }
         ensures not_begun { result ≡ 0 → self.new.state ≡ State.Ground }
-        ensures stands { (q : Pending) → IsAt N self.old q → IsAt N self.new (after_bytes q (take result bytes.now)) }
-        ensures quiet { (q : Pending) → IsAt N self.old q → events_from N q (take result bytes.now) ≡ [] }
     {
         match bytes {
             [0x1B, b'[', rest @ ..] if self.unfinished.is_empty() => {
@@ -412,9 +375,7 @@ impl<const N: usize> Parser<N> {
     #[inline(always)]
     fn end_csi<P: Perform>(&mut self, performer: &mut P, byte: u8)
         requires { self.old.state ≡ State.Csi }
-        ensures stands { (q : Pending) → IsAt N self.old q → IsAt N self.new (after_byte q byte) }
-        ensures told { Performs P.step performer.old (heard N self.old self.new byte) performer.new }
-        ensures is_told { (q : Pending) → IsAt N self.old q → heard N self.old self.new byte ≡ events_of_byte N q byte }
+        ensures { ReadsByte P.step N self.old performer.old byte self.new performer.new }
     {
         if is_final(byte) {
             self.dispatch_csi(performer, byte);
@@ -425,29 +386,12 @@ impl<const N: usize> Parser<N> {
         }
     }
 
-    /// The byte after a device control string's header.
-    #[inline(always)]
-    fn end_dcs_header<P: Perform>(&mut self, performer: &mut P, byte: u8)
-        requires { self.old.state ≡ State.DcsHeader }
-        ensures stands { (q : Pending) → IsAt N self.old q → IsAt N self.new (after_byte q byte) }
-        ensures told { Performs P.step performer.old (heard N self.old self.new byte) performer.new }
-        ensures is_told { (q : Pending) → IsAt N self.old q → heard N self.old self.new byte ≡ events_of_byte N q byte }
-    {
-        if byte == 0x1B {
-            self.begin_escape(performer);
-        } else {
-            self.dcs_header(performer, byte);
-        }
-    }
-
     /// Reads what follows ESC up to the end of a header, and the byte after it; nothing where no header begins. Returns
     /// how many bytes it read.
     #[inline(always)]
     fn read_header<P: Perform>(&mut self, performer: &mut P, bytes: &[u8]) -> usize
         requires { self.old.state ≡ State.Escape }
-        ensures within { result ≤ length bytes.now }
-        ensures stands { (q : Pending) → IsAt N self.old q → IsAt N self.new (after_bytes q (take result bytes.now)) }
-        ensures told { Tells P.step N self.old performer.old (take result bytes.now) performer.new }
+        ensures { Reads P.step N self.old performer.old bytes.now result self.new performer.new }
     {
         let quiet = self.begin_header(bytes);
         if quiet == 0 || quiet == bytes.len() {
@@ -456,19 +400,15 @@ impl<const N: usize> Parser<N> {
         if bytes[0] == b'[' {
             self.end_csi(performer, bytes[quiet]);
         } else {
-            self.end_dcs_header(performer, bytes[quiet]);
+            self.byte(performer, bytes[quiet]);
         }
         quiet + 1
     }
 
     /// Reads ESC, and with it the header that it begins and the byte after that. Returns how many bytes it read.
     fn read_anew<P: Perform>(&mut self, performer: &mut P, bytes: &[u8]) -> usize
-        requires some { 0 < length bytes.now }
-        requires esc { slice_index bytes.now 0 ≡ 0x1B }
-        ensures some { 0 < result }
-        ensures within { result ≤ length bytes.now }
-        ensures stands { (q : Pending) → IsAt N self.old q → IsAt N self.new (after_bytes q (take result bytes.now)) }
-        ensures told { Tells P.step N self.old performer.old (take result bytes.now) performer.new }
+        requires { BeginsWithEsc bytes.now }
+        ensures { ReadsSome P.step N self.old performer.old bytes.now result self.new performer.new }
     {
         self.begin_escape(performer);
         1 + self.read_header(performer, &bytes[1..])
@@ -478,14 +418,9 @@ impl<const N: usize> Parser<N> {
     /// it; or else ESC alone. Returns how many bytes it read.
     #[inline(always)]
     fn read_escape<P: Perform>(&mut self, performer: &mut P, bytes: &[u8]) -> usize
-        requires some { 0 < length bytes.now }
+        requires begins { BeginsWithEsc bytes.now }
         requires ground { self.old.state ≡ State.Ground }
-        requires esc { slice_index bytes.now 0 ≡ 0x1B }
-        ensures some { 0 < result }
-        ensures within { result ≤ length bytes.now }
-        ensures stands { (q : Pending) → IsAt N self.old q → IsAt N self.new (after_bytes q (take result bytes.now)) }
-        ensures told { Tells P.step N self.old performer.old (take result bytes.now) performer.new }
-        ensures step { (q : Pending) → IsAt N self.old q → IsStep N q (take result bytes.now) (drop result bytes.now) }
+        ensures { ReadsStep P.step N self.old performer.old bytes.now result self.new performer.new }
     {
         let quiet = self.begin_csi(bytes);
         if quiet == 0 {
@@ -503,12 +438,7 @@ impl<const N: usize> Parser<N> {
     #[inline(always)]
     fn read_one<P: Perform>(&mut self, performer: &mut P, bytes: &[u8]) -> usize
         requires { 0 < length bytes.now }
-        ensures some { 0 < result }
-        ensures within { result ≤ length bytes.now }
-        ensures stands { (q : Pending) → IsAt N self.old q → IsAt N self.new (after_bytes q (take result bytes.now)) }
-        ensures told { Tells P.step N self.old performer.old (take result bytes.now) performer.new }
-        ensures step { (q : Pending) → IsAt N self.old q
-            → is_one_step q (take result bytes.now) (drop result bytes.now) ≡ true }
+        ensures { ReadsStep P.step N self.old performer.old bytes.now result self.new performer.new }
     {
         if is_text(self.state, bytes[0]) {
             return self.unfinished.read(performer, bytes);
@@ -522,11 +452,7 @@ impl<const N: usize> Parser<N> {
     #[inline(always)]
     fn read_step<P: Perform>(&mut self, performer: &mut P, bytes: &[u8]) -> usize
         requires { 0 < length bytes.now }
-        ensures some { 0 < result }
-        ensures within { result ≤ length bytes.now }
-        ensures stands { (q : Pending) → IsAt N self.old q → IsAt N self.new (after_bytes q (take result bytes.now)) }
-        ensures told { Tells P.step N self.old performer.old (take result bytes.now) performer.new }
-        ensures step { (q : Pending) → IsAt N self.old q → IsStep N q (take result bytes.now) (drop result bytes.now) }
+        ensures { ReadsStep P.step N self.old performer.old bytes.now result self.new performer.new }
     {
         let quiet = self.read_quiet(bytes);
         if quiet == bytes.len() {
@@ -539,11 +465,7 @@ impl<const N: usize> Parser<N> {
     #[inline(always)]
     fn read_some<P: Perform>(&mut self, performer: &mut P, bytes: &[u8]) -> usize
         requires { 0 < length bytes.now }
-        ensures some { 0 < result }
-        ensures within { result ≤ length bytes.now }
-        ensures stands { (q : Pending) → IsAt N self.old q → IsAt N self.new (after_bytes q (take result bytes.now)) }
-        ensures told { Tells P.step N self.old performer.old (take result bytes.now) performer.new }
-        ensures step { (q : Pending) → IsAt N self.old q → IsStep N q (take result bytes.now) (drop result bytes.now) }
+        ensures { ReadsStep P.step N self.old performer.old bytes.now result self.new performer.new }
     {
         match self.state {
             State::Ground if bytes[0] == 0x1B => self.read_escape(performer, bytes),
@@ -555,13 +477,9 @@ impl<const N: usize> Parser<N> {
     /// bytes it read.
     #[inline(always)]
     fn leave_text<P: Perform>(&mut self, performer: &mut P, bytes: &[u8]) -> usize
-        requires some { 0 < length bytes.now }
+        requires begins { BeginsWithEsc bytes.now }
         requires ground { self.old.state ≡ State.Ground }
-        requires esc { slice_index bytes.now 0 ≡ 0x1B }
-        ensures some { 0 < result }
-        ensures within { result ≤ length bytes.now }
-        ensures stands { (q : Pending) → IsAt N self.old q → IsAt N self.new (after_bytes q (take result bytes.now)) }
-        ensures told { Tells P.step N self.old performer.old (take result bytes.now) performer.new }
+        ensures { ReadsSome P.step N self.old performer.old bytes.now result self.new performer.new }
     {
         if self.unfinished.is_empty() {
             self.read_escape(performer, bytes)
@@ -575,10 +493,7 @@ impl<const N: usize> Parser<N> {
     fn read_text<P: Perform>(&mut self, performer: &mut P, bytes: &[u8]) -> usize
         requires some { 0 < length bytes.now }
         requires ground { self.old.state ≡ State.Ground }
-        ensures some { 0 < result }
-        ensures within { result ≤ length bytes.now }
-        ensures stands { (q : Pending) → IsAt N self.old q → IsAt N self.new (after_bytes q (take result bytes.now)) }
-        ensures told { Tells P.step N self.old performer.old (take result bytes.now) performer.new }
+        ensures { ReadsSome P.step N self.old performer.old bytes.now result self.new performer.new }
     {
         if bytes[0] == 0x1B {
             return self.leave_text(performer, bytes);
@@ -590,9 +505,7 @@ impl<const N: usize> Parser<N> {
     /// many they are.
     #[inline(always)]
     fn read_inside<P: Perform>(&mut self, performer: &mut P, bytes: &[u8]) -> usize
-        ensures within { result ≤ length bytes.now }
-        ensures stands { (q : Pending) → IsAt N self.old q → IsAt N self.new (after_bytes q (take result bytes.now)) }
-        ensures told { Tells P.step N self.old performer.old (take result bytes.now) performer.new }
+        ensures { Reads P.step N self.old performer.old bytes.now result self.new performer.new }
     {
         match self.state {
             State::DcsPassthrough => put_front(performer, bytes),
@@ -605,10 +518,7 @@ impl<const N: usize> Parser<N> {
     #[inline(always)]
     fn read_next<P: Perform>(&mut self, performer: &mut P, bytes: &[u8]) -> usize
         requires { 0 < length bytes.now }
-        ensures some { 0 < result }
-        ensures within { result ≤ length bytes.now }
-        ensures stands { (q : Pending) → IsAt N self.old q → IsAt N self.new (after_bytes q (take result bytes.now)) }
-        ensures told { Tells P.step N self.old performer.old (take result bytes.now) performer.new }
+        ensures { ReadsSome P.step N self.old performer.old bytes.now result self.new performer.new }
     {
         if bytes[0] == 0x1B {
             return self.read_anew(performer, bytes);
@@ -620,10 +530,7 @@ impl<const N: usize> Parser<N> {
     #[inline(always)]
     fn read_sequence<P: Perform>(&mut self, performer: &mut P, bytes: &[u8]) -> usize
         requires { 0 < length bytes.now }
-        ensures some { 0 < result }
-        ensures within { result ≤ length bytes.now }
-        ensures stands { (q : Pending) → IsAt N self.old q → IsAt N self.new (after_bytes q (take result bytes.now)) }
-        ensures told { Tells P.step N self.old performer.old (take result bytes.now) performer.new }
+        ensures { ReadsSome P.step N self.old performer.old bytes.now result self.new performer.new }
     {
         let len = self.read_inside(performer, bytes);
         if len == bytes.len() {
@@ -636,10 +543,7 @@ impl<const N: usize> Parser<N> {
     #[inline(always)]
     fn read_on<P: Perform>(&mut self, performer: &mut P, bytes: &[u8]) -> usize
         requires { 0 < length bytes.now }
-        ensures some { 0 < result }
-        ensures within { result ≤ length bytes.now }
-        ensures stands { (q : Pending) → IsAt N self.old q → IsAt N self.new (after_bytes q (take result bytes.now)) }
-        ensures told { Tells P.step N self.old performer.old (take result bytes.now) performer.new }
+        ensures { ReadsSome P.step N self.old performer.old bytes.now result self.new performer.new }
     {
         match self.state {
             State::Ground => self.read_text(performer, bytes),
@@ -732,9 +636,7 @@ fn swallowed_len(bytes: &[u8]) -> usize
 /// Puts the bytes at the front that are a device control string's data, and returns how many they are.
 #[inline(always)]
 fn put_front<P: Perform>(performer: &mut P, bytes: &[u8]) -> usize
-    ensures within { result ≤ length bytes.now }
-    ensures all_put { each is_device_data (take result bytes.now) ≡ true }
-    ensures told { Performs P.step performer.old (map e.Put (take result bytes.now)) performer.new }
+    ensures { TellsEach P.step is_device_data e.Put performer.old bytes.now result performer.new }
 {
     let mut read = 0;
     while read < bytes.len() && is_device_data(bytes[read]) {

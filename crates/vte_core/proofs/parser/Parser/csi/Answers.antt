@@ -1,60 +1,32 @@
-use Rattle.std.proofs.Common.{◌≡◌, ◌||◌, true, refl, arith}
+use Rattle.std.proofs.Common.{◌≡◌, ◌∷◌, ◌||◌, [], true, false, refl, arith, append-nil}
 use Rattle.std.proofs.lemmas.Bool.Decides.{nat_tests}
-use Rattle.vte_core.specs.Bytes.{is_header, is_intermediate, is_numeric, is_private}
-use Rattle.vte_core.specs.declared.parser.Parser.{Parser}
-use Rattle.vte_core.proofs.HeaderBytes.{csi-aborted, csi-longer, csi-executed}
+use Rattle.vte_core.specs.Bytes.{is_abort, is_control, is_header, ends_header, is_intermediate, is_numeric, is_private}
+use Rattle.vte_core.specs.Event.{Execute}
+use Rattle.vte_core.proofs.HeaderBytes.{reads_csi, csi_longer}
 use Rattle.vte_core.proofs.parser.Parser.csi.Goals as goal
 
-pub returns-in-Cancel-clause-stands : goal.returns-in-Cancel-clause-stands
-returns-in-Cancel-clause-stands g c =
-    let step = c.step_of-action.ensures in
-    let r : Parser g.row.N = record c.args.self.now { state = c.step_of-action.result.1 } in
-    (csi-aborted g.row.N c.args.self.now r c.args.byte c.requires.state (rw c.in-Cancel.is at step.action)
-    (rw c.in-Cancel.is at step.next) refl).0
+pub returns-in-Cancel : goal.returns-in-Cancel
+returns-in-Cancel g c =
+    let abort : is_abort c.args.byte ≡ true = rw c.in-Cancel.is at c.step_of-action.ensures.action in
+    let ground = rw c.in-Cancel.is at c.step_of-action.ensures.next in
+    reads_csi (Execute c.args.byte ∷ []) (_, c.execute.ensures, refl) c.requires.state (rw abort refl)
+    (λ h at. rw abort (refl, (ground, at.1)))
 
-pub returns-in-Cancel-clause-is_told : goal.returns-in-Cancel-clause-is_told
-returns-in-Cancel-clause-is_told g c =
-    let step = c.step_of-action.ensures in
-    let r : Parser g.row.N = record c.args.self.now { state = c.step_of-action.result.1 } in
-    (csi-aborted g.row.N c.args.self.now r c.args.byte c.requires.state (rw c.in-Cancel.is at step.action)
-    (rw c.in-Cancel.is at step.next) refl).1
+pub returns-in-Execute : goal.returns-in-Execute
+returns-in-Execute g c =
+    let control : is_control c.args.byte ≡ true = rw c.in-Execute.is at c.step_of-action.ensures.action in
+    let on : ends_header c.args.byte ≡ false = grind (arith, nat_tests) in
+    let other : is_header c.args.byte ≡ false = grind (arith, nat_tests) in
+    reads_csi (Execute c.args.byte ∷ []) (_, c.execute-in-Execute.ensures, refl) c.requires.state
+    (rw (on, control) refl) (λ h at. rw (on, control, other, append-nil h) (refl, at))
 
-pub returns-in-Param-clause-stands : goal.returns-in-Param-clause-stands
-returns-in-Param-clause-stands g c =
-    let r : Parser g.row.N = record c.args.self.now { header = c.numeric.new.self } in
+pub returns-in-Param : goal.returns-in-Param
+returns-in-Param g c =
     let numeric : is_numeric c.args.byte ≡ true = rw c.in-Param.is at c.step_of-action.ensures.action in
-    let header : is_header c.args.byte ≡ true = grind (arith, nat_tests) in
-    (csi-longer g.row.N c.args.self.now r c.args.byte c.requires.state header refl refl c.numeric.ensures).0
+    csi_longer (grind (arith, nat_tests)) c.requires.state (λ h at. (at.0, at.1, c.numeric.ensures h at.2))
 
-pub returns-in-Param-clause-is_told : goal.returns-in-Param-clause-is_told
-returns-in-Param-clause-is_told g c =
-    let r : Parser g.row.N = record c.args.self.now { header = c.numeric.new.self } in
-    let numeric : is_numeric c.args.byte ≡ true = rw c.in-Param.is at c.step_of-action.ensures.action in
-    let header : is_header c.args.byte ≡ true = grind (arith, nat_tests) in
-    (csi-longer g.row.N c.args.self.now r c.args.byte c.requires.state header refl refl c.numeric.ensures).1
-
-pub returns-in-Collect-clause-stands : goal.returns-in-Collect-clause-stands
-returns-in-Collect-clause-stands g c =
-    let r : Parser g.row.N = record c.args.self.now { header = c.collect.new.self } in
+pub returns-in-Collect : goal.returns-in-Collect
+returns-in-Collect g c =
     let other : (is_intermediate c.args.byte || is_private c.args.byte) ≡ true =
     rw c.in-Collect.is at c.step_of-action.ensures.action in
-    let header : is_header c.args.byte ≡ true = grind (arith, nat_tests) in
-    (csi-longer g.row.N c.args.self.now r c.args.byte c.requires.state header refl refl c.collect.ensures).0
-
-pub returns-in-Collect-clause-is_told : goal.returns-in-Collect-clause-is_told
-returns-in-Collect-clause-is_told g c =
-    let r : Parser g.row.N = record c.args.self.now { header = c.collect.new.self } in
-    let other : (is_intermediate c.args.byte || is_private c.args.byte) ≡ true =
-    rw c.in-Collect.is at c.step_of-action.ensures.action in
-    let header : is_header c.args.byte ≡ true = grind (arith, nat_tests) in
-    (csi-longer g.row.N c.args.self.now r c.args.byte c.requires.state header refl refl c.collect.ensures).1
-
-pub returns-in-Execute-clause-stands : goal.returns-in-Execute-clause-stands
-returns-in-Execute-clause-stands g c =
-    (csi-executed g.row.N c.args.self.now c.args.byte c.requires.state
-    (rw c.in-Execute.is at c.step_of-action.ensures.action)).0
-
-pub returns-in-Execute-clause-is_told : goal.returns-in-Execute-clause-is_told
-returns-in-Execute-clause-is_told g c =
-    (csi-executed g.row.N c.args.self.now c.args.byte c.requires.state
-    (rw c.in-Execute.is at c.step_of-action.ensures.action)).1
+    csi_longer (grind (arith, nat_tests)) c.requires.state (λ h at. (at.0, at.1, c.collect.ensures h at.2))

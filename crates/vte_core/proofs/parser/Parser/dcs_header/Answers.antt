@@ -1,85 +1,70 @@
-use Rattle.std.proofs.Common.{◌≡◌, ◌∙◌, ◌||◌, true, refl, sym, arith}
+use Rattle.std.proofs.Common.{◌≡◌, ◌∙◌, ◌∷◌, ◌||◌, ℕ, [], true, false, nat_lt, refl, sym, ap, arith, append-nil}
 use Rattle.std.proofs.lemmas.Bool.Decides.{nat_tests}
-use Rattle.vte_core.specs.Bytes.{is_header, is_intermediate, is_numeric, is_private}
-use Rattle.vte_core.specs.declared.parser.Parser.{Parser}
-use Rattle.vte_core.specs.declared.parser.State.TheVariants.{SosPmApcString}
-use Rattle.vte_core.proofs.HeaderBytes.{hook-aborted, hook-longer, hook-begun, hook-ignored}
+use Rattle.std.specs.Bool.{IsTrue}
+use Rattle.vte_core.specs.Bytes.{is_abort, is_control, is_header, ends_header, is_intermediate, is_numeric, is_private}
+use Rattle.vte_core.specs.Event.{Event, Execute}
+use Rattle.vte_core.specs.Heard.{hook_event}
+use Rattle.vte_core.specs.Steps.{does}
+use Rattle.vte_core.specs.declared.parser.State.TheVariants.{DcsHeader}
+use Rattle.vte_core.specs.declared.table.Action.{Action}
+use Rattle.vte_core.specs.declared.table.Action.TheVariants.{Ignore, Cancel, Collect, Param, Dispatch}
+use Rattle.vte_core.proofs.HeaderBytes.{reads_hook, hook_longer, final-ends}
 use Rattle.vte_core.proofs.parser.Parser.dcs_header.Goals as goal
 
-pub returns-in-Cancel-clause-stands : goal.returns-in-Cancel-clause-stands
-returns-in-Cancel-clause-stands g c =
-    let step = c.step_of-action.ensures in
-    let r : Parser g.row.N = record c.args.self.now { state = c.step_of-action.result.1 } in
-    (hook-aborted g.row.N c.args.self.now r c.args.byte c.requires.state (rw c.in-Cancel.is at step.action)
-    (rw c.in-Cancel.is at step.next) refl).0
+pub returns-in-Cancel : goal.returns-in-Cancel
+returns-in-Cancel g c =
+    let abort : is_abort c.args.byte ≡ true = rw c.in-Cancel.is at c.step_of-action.ensures.action in
+    let ground = rw c.in-Cancel.is at c.step_of-action.ensures.next in
+    reads_hook (Execute c.args.byte ∷ []) (_, c.execute.ensures, refl) c.requires.state (rw abort refl)
+    (λ h at. rw abort (refl, (ground, at.1)))
 
-pub returns-in-Cancel-clause-is_told : goal.returns-in-Cancel-clause-is_told
-returns-in-Cancel-clause-is_told g c =
-    let step = c.step_of-action.ensures in
-    let r : Parser g.row.N = record c.args.self.now { state = c.step_of-action.result.1 } in
-    (hook-aborted g.row.N c.args.self.now r c.args.byte c.requires.state (rw c.in-Cancel.is at step.action)
-    (rw c.in-Cancel.is at step.next) refl).1
-
-pub returns-in-Param-clause-stands : goal.returns-in-Param-clause-stands
-returns-in-Param-clause-stands g c =
-    let r : Parser g.row.N = record c.args.self.now { header = c.numeric.new.self } in
+pub returns-in-Param : goal.returns-in-Param
+returns-in-Param g c =
     let numeric : is_numeric c.args.byte ≡ true = rw c.in-Param.is at c.step_of-action.ensures.action in
-    let header : is_header c.args.byte ≡ true = grind (arith, nat_tests) in
-    (hook-longer g.row.N c.args.self.now r c.args.byte c.requires.state header refl refl c.numeric.ensures).0
+    hook_longer (grind (arith, nat_tests)) c.requires.state (λ h at. (at.0, at.1, c.numeric.ensures h at.2))
 
-pub returns-in-Param-clause-is_told : goal.returns-in-Param-clause-is_told
-returns-in-Param-clause-is_told g c =
-    let r : Parser g.row.N = record c.args.self.now { header = c.numeric.new.self } in
-    let numeric : is_numeric c.args.byte ≡ true = rw c.in-Param.is at c.step_of-action.ensures.action in
-    let header : is_header c.args.byte ≡ true = grind (arith, nat_tests) in
-    (hook-longer g.row.N c.args.self.now r c.args.byte c.requires.state header refl refl c.numeric.ensures).1
-
-pub returns-in-Collect-clause-stands : goal.returns-in-Collect-clause-stands
-returns-in-Collect-clause-stands g c =
-    let r : Parser g.row.N = record c.args.self.now { header = c.collect.new.self } in
+pub returns-in-Collect : goal.returns-in-Collect
+returns-in-Collect g c =
     let other : (is_intermediate c.args.byte || is_private c.args.byte) ≡ true =
     rw c.in-Collect.is at c.step_of-action.ensures.action in
-    let header : is_header c.args.byte ≡ true = grind (arith, nat_tests) in
-    (hook-longer g.row.N c.args.self.now r c.args.byte c.requires.state header refl refl c.collect.ensures).0
+    hook_longer (grind (arith, nat_tests)) c.requires.state (λ h at. (at.0, at.1, c.collect.ensures h at.2))
 
-pub returns-in-Collect-clause-is_told : goal.returns-in-Collect-clause-is_told
-returns-in-Collect-clause-is_told g c =
-    let r : Parser g.row.N = record c.args.self.now { header = c.collect.new.self } in
-    let other : (is_intermediate c.args.byte || is_private c.args.byte) ≡ true =
-    rw c.in-Collect.is at c.step_of-action.ensures.action in
-    let header : is_header c.args.byte ≡ true = grind (arith, nat_tests) in
-    (hook-longer g.row.N c.args.self.now r c.args.byte c.requires.state header refl refl c.collect.ensures).1
+pub returns-then-is_kept : goal.returns-then-is_kept
+returns-then-is_kept g c =
+    let ends = final-ends c.args.byte (rw c.in-Dispatch.is at c.step_of-action.ensures.action) in
+    let hooked = rw c.in-Dispatch.is at c.step_of-action.ensures.next in
+    let keeps = sym c.is_kept.ensures.kept ∙ c.if-is_kept.true in
+    reads_hook (hook_event c.hook.new.self c.args.byte ∷ []) (_, c.hook.ensures.told, refl) c.requires.state
+    (rw (ends.0, ends.1, keeps) refl)
+    (λ h at.
+    let well = sym (c.is_kept.ensures.well_formed h at.2) ∙ c.if-is_kept.true in
+    rw (ends.0, ends.1, well)
+    (ap (λ (x : Event). x ∷ []) (sym (c.hook.ensures.is_told h at.2)), (hooked, at.1)))
 
-pub returns-then-is_kept-clause-stands : goal.returns-then-is_kept-clause-stands
-returns-then-is_kept-clause-stands g c =
-    let step = c.step_of-action.ensures in
-    let r : Parser g.row.N = record c.args.self.now { state = c.step_of-action.result.1; header = c.hook.new.self } in
-    let keeps = c.if-is_kept.true in
-    (hook-begun g.row.N c.args.self.now r c.args.byte c.requires.state (rw c.in-Dispatch.is at step.action)
-    (rw c.in-Dispatch.is at step.next) refl (sym c.is_kept.ensures.kept ∙ keeps)
-    (λ h reads. sym (c.is_kept.ensures.well_formed h reads) ∙ keeps) c.hook.ensures.is_told).0
+pub returns-else-is_kept : goal.returns-else-is_kept
+returns-else-is_kept g c =
+    let ends = final-ends c.args.byte (rw c.in-Dispatch.is at c.step_of-action.ensures.action) in
+    let ignored = sym c.is_kept.ensures.kept ∙ c.if-is_kept.false in
+    reads_hook [] refl c.requires.state (rw (ends.0, ends.1, ignored) refl)
+    (λ h at.
+    let well = sym (c.is_kept.ensures.well_formed h at.2) ∙ c.if-is_kept.false in
+    rw (ends.0, ends.1, well) (refl, (refl, at.1)))
 
-pub returns-then-is_kept-clause-is_told : goal.returns-then-is_kept-clause-is_told
-returns-then-is_kept-clause-is_told g c =
-    let step = c.step_of-action.ensures in
-    let r : Parser g.row.N = record c.args.self.now { state = c.step_of-action.result.1; header = c.hook.new.self } in
-    let keeps = c.if-is_kept.true in
-    (hook-begun g.row.N c.args.self.now r c.args.byte c.requires.state (rw c.in-Dispatch.is at step.action)
-    (rw c.in-Dispatch.is at step.next) refl (sym c.is_kept.ensures.kept ∙ keeps)
-    (λ h reads. sym (c.is_kept.ensures.well_formed h reads) ∙ keeps) c.hook.ensures.is_told).1
+-- what is left of the table's actions
+ignored : (a : Action) (b : ℕ) → IsTrue (does DcsHeader a b) → (a ≡ Cancel → ⊥) → (a ≡ Collect → ⊥) → (a ≡ Param → ⊥)
+    → (a ≡ Dispatch → ⊥) → (is_control b || nat_lt 0x7E b) ≡ true
+ignored Ignore b h d e f g = h
+ignored Cancel b h d e f g = absurd (d refl)
+ignored Collect b h d e f g = absurd (e refl)
+ignored Param b h d e f g = absurd (f refl)
+ignored Dispatch b h d e f g = absurd (g refl)
+ignored a b h d e f g = absurd (let no : false ≡ true = h in cc)
 
-pub returns-else-is_kept-clause-stands : goal.returns-else-is_kept-clause-stands
-returns-else-is_kept-clause-stands g c =
-    let r : Parser g.row.N = record c.args.self.now { state = SosPmApcString } in
-    let ignored = c.if-is_kept.false in
-    (hook-ignored g.row.N c.args.self.now r c.args.byte c.requires.state
-    (rw c.in-Dispatch.is at c.step_of-action.ensures.action) refl refl (sym c.is_kept.ensures.kept ∙ ignored)
-    (λ h reads. sym (c.is_kept.ensures.well_formed h reads) ∙ ignored)).0
-
-pub returns-else-is_kept-clause-is_told : goal.returns-else-is_kept-clause-is_told
-returns-else-is_kept-clause-is_told g c =
-    let r : Parser g.row.N = record c.args.self.now { state = SosPmApcString } in
-    let ignored = c.if-is_kept.false in
-    (hook-ignored g.row.N c.args.self.now r c.args.byte c.requires.state
-    (rw c.in-Dispatch.is at c.step_of-action.ensures.action) refl refl (sym c.is_kept.ensures.kept ∙ ignored)
-    (λ h reads. sym (c.is_kept.ensures.well_formed h reads) ∙ ignored)).1
+pub returns-in_default : goal.returns-in_default
+returns-in_default g c =
+    let b = c.args.byte in
+    let rest = ignored _ b c.step_of-action.ensures.action c.in_default.not-Cancel c.in_default.not-Collect
+    c.in_default.not-Param c.in_default.not-Dispatch in
+    let on : ends_header b ≡ false = grind (arith, nat_tests, rest) in
+    let other : is_header b ≡ false = grind (arith, nat_tests, rest) in
+    reads_hook [] refl c.requires.state (rw on refl) (λ h at. rw (on, other, append-nil h) (refl, at))

@@ -1,0 +1,39 @@
+-- What the parser's functions do with the first k of some bytes: the parser (p) and the performer (old) before them,
+-- and after them (r, new).
+use Rattle.std.specs.Prelude.{◌≡◌, ◌<◌, ◌≤◌, ℕ, List, [], take, drop, length, slice_index}
+use Rattle.vte_core.specs.Event.{Event}
+use Rattle.vte_core.specs.Pending.{Pending, events_from, after_bytes}
+use Rattle.vte_core.specs.Runs.{Tells, IsStep}
+use Rattle.vte_core.specs.Standing.{IsAt}
+use Rattle.vte_core.specs.declared.parser.Parser.{Parser}
+
+-- ESC stands at the front
+pub record BeginsWithEsc (bs : List ℕ) : Type 0 where
+  pub some : 0 < length bs
+  pub esc : slice_index bs 0 ≡ 0x1B
+
+-- where the parser stood, it stands after them, and the performer has gone through their events
+pub record Reads {S : Type 0} (step : S → Event → S
+    → Type 0) (n : ℕ) (p : Parser n) (old : S) (bs : List ℕ) (k : ℕ) (r : Parser n) (new : S) : Type 0 where
+  pub within : k ≤ length bs
+  pub stands : (q : Pending) → IsAt n p q → IsAt n r (after_bytes q (take k bs))
+  pub told : Tells step n p old (take k bs) new
+
+-- the same, and there are some
+pub record ReadsSome {S : Type 0} (step : S → Event → S
+    → Type 0) (n : ℕ) (p : Parser n) (old : S) (bs : List ℕ) (k : ℕ) (r : Parser n) (new : S) : Type 0 where
+  pub some : 0 < k
+  pub reads : Reads step n p old bs k r new
+
+-- the same, and the performer has to be asked after them, and not between those that tell something
+pub record ReadsStep {S : Type 0} (step : S → Event → S
+    → Type 0) (n : ℕ) (p : Parser n) (old : S) (bs : List ℕ) (k : ℕ) (r : Parser n) (new : S) : Type 0 where
+  pub some : 0 < k
+  pub reads : Reads step n p old bs k r new
+  pub is_step : (q : Pending) → IsAt n p q → IsStep n q (take k bs) (drop k bs)
+
+-- they tell nothing
+pub record ReadsQuietly (n : ℕ) (p : Parser n) (bs : List ℕ) (k : ℕ) (r : Parser n) : Type 0 where
+  pub within : k ≤ length bs
+  pub stands : (q : Pending) → IsAt n p q → IsAt n r (after_bytes q (take k bs))
+  pub quiet : (q : Pending) → IsAt n p q → events_from n q (take k bs) ≡ []
