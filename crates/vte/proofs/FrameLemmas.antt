@@ -108,16 +108,6 @@ opens_sooner q a b m none o = record {
   ];
 }
 
-same_taking : (q r piece other q' : List ℕ) (h h' : Option (List ℕ)) → q ≡ r → piece ≡ other → Taking q h piece q' h'
-    → Taking r h other q' h'
-same_taking q r piece other q' h h' e f t = subst (λ (xs : List ℕ). Taking xs h other q' h') e
-    (subst (λ (xs : List ℕ). Taking q h xs q' h') f t)
-
-same_plain : (q r piece other q' : List ℕ) (h' : Option (List ℕ)) → q ≡ r → piece ≡ other → Plain q piece q' h'
-    → Plain r other q' h'
-same_plain q r piece other q' h' e f t = subst (λ (xs : List ℕ). Plain xs other q' h') e
-    (subst (λ (xs : List ℕ). Plain q xs q' h') f t)
-
 front_is : (q a b : List ℕ) (m : ℕ) → q ++ take (length a + m) (a ++ b) ≡ (q ++ a) ++ take m b
 front_is q a b m = ap (λ xs. q ++ xs) (take-append-add a b m) ∙ sym (append_assoc q a (take m b))
 
@@ -127,12 +117,7 @@ skip : (q a b q' : List ℕ) (h' : Option (List ℕ)) → opens_in q a ≡ false
 skip q a b q' h' none (inl u) = inl ((opens_in-parts q a b u.0).1, u.1 ∙ sym (append_assoc q a b), u.2)
 skip q a b q' h' none (inr o) =
     let (m, is, at) = opens_later q a b o.0 none o.1 in
-    inr (
-      m,
-      at,
-      same_taking _ _ _ _ q' (Some []) h' (ap (λ k. q ++ take k (a ++ b)) is ∙ front_is q a b m)
-          (ap (λ k. drop k (a ++ b)) is ∙ drop-append-add a b m) o.2,
-    )
+    inr (m, at, rw (is, front_is q a b m, drop-append-add a b m) at o.2)
 
 unskip : (q a b q' : List ℕ) (h' : Option (List ℕ)) → opens_in q a ≡ false → Plain (q ++ a) b q' h'
     → Plain q (a ++ b) q' h'
@@ -140,8 +125,7 @@ unskip q a b q' h' none (inl u) = inl (opens_in-later q a b none ∙ u.0, u.1 �
 unskip q a b q' h' none (inr o) = inr (
   length a + o.0,
   opens_sooner q a b o.0 none o.1,
-  same_taking _ _ _ _ q' (Some [])
-      h' (sym (front_is q a b o.0)) (sym (drop-append-add a b o.0)) o.2,
+  rw (front_is q a b o.0, drop-append-add a b o.0) o.2,
 )
 
 -- a start mark opens an update
@@ -157,8 +141,7 @@ start q rest q' h' (inr o) =
         | inl later ↦ absurd (contrary _ (start_opens q) (o.1.first 8 later))
         | inr same ↦
             let eight : o.0 ≡ 8 = omega (arith, late, same) in
-            same_taking _ _ _ _ q' (Some []) h' (ap (λ n. q ++ take n (start_mark ++ rest)) eight)
-            (ap (λ n. drop n (start_mark ++ rest)) eight) o.2
+            rw eight at o.2
       ]
     ]
 
@@ -425,21 +408,21 @@ module _ (T : Type 0) (p q' : List ℕ) (h' : Option (List ℕ)) (rest : List (L
       let piece_is = append_cancel_left part piece (left ++ more) (e
       ∙ (append_assoc f (concat frames) p ∙ (ap (λ xs. xs ++ more) is_part.1 ∙ append_assoc part left more))) in
       let none = left_none f part left h.0.frame is_part.1 long q in
-      let past = skip (q ++ part) left more q' h' none (same_plain _ _ piece (left ++ more) q' h' refl piece_is pl) in
+      let past = skip (q ++ part) left more q' h' none (rw piece_is at pl) in
       let whole = append_assoc q part left ∙ ap (λ xs. q ++ xs) (sym is_part.1) in
       subst (λ (w : List ℕ). RestsBy T w p q' h') (append_assoc q f (concat frames))
-      (next (same_plain _ _ more more q' h' whole refl past))
+      (next (rw whole at past))
 
   -- from a frame's start
   plain_started : (q all : List ℕ) (frames : List (List ℕ)) → Frames T (frames ++ rest)
       → IsPart start_mark (frames ++ rest) → start_mark ++ all ≡ concat frames ++ p
       → Goes q frames → Plain q (concat frames ++ p) q' h' → RestsBy T (q ++ concat frames) p q' h'
   plain_started q all frames h begun e next pl =
-      let t = start q all q' h' (same_plain q q _ _ q' h' refl (sym e) pl) in
+      let t = start q all q' h' (rw e pl) in
       elim (opened t.2) [
         | inl fits ↦ settle_after_start q all frames h e fits.1
         | inr full ↦ plain_past q start_mark all frames h begun (omega arith) e (inl (omega (arith, full.0))) next
-            (same_plain _ _ all all q' h' (append-nil (q ++ start_mark)) refl full.1)
+            (rw (append-nil (q ++ start_mark)) at full.1)
       ]
 
   plain_frames : (q : List ℕ) (frames : List (List ℕ)) → Frames T (frames ++ rest)
@@ -471,8 +454,8 @@ module _ (T : Type 0) (p q' : List ℕ) (h' : Option (List ℕ)) (rest : List (L
       → RestsBy T (q ++ concat frames) p q' h'
   plain_on q part piece frames h is_part e why pl =
       elim (cases_lt (length part) 8) [
-        | inl short ↦ plain_frames q frames h (same_plain q q _ _ q' h' refl e
-            (unskip q part piece q' h' (part_opens_none T q part (frames ++ rest) h is_part short) pl))
+        | inl short ↦ plain_frames q frames h (rw e at (unskip q part piece q' h'
+            (part_opens_none T q part (frames ++ rest) h is_part short) pl))
         | inr long ↦ plain_past q part piece frames h is_part long e
             (elim why [ inl short ↦ absurd (omega (arith, short, long)) | inr other ↦ other ])
             (plain_next q frames h) pl
@@ -500,7 +483,7 @@ piece_rests T q part p piece parsed parsed' {hold' = h'} frames rest (inside hel
           let big : limit ≤ length (part ++ piece) =
           omega (arith, full.0, ap length starts, length-append held piece, length-append part piece) in
           plain_on T p parsed' h' rest hr last q part piece frames h is_part e (inr (inl big))
-          (same_plain _ _ piece piece parsed' h' whole refl full.1)
+          (rw whole at full.1)
     ]
 piece_rests T q part p piece parsed parsed' {hold' = h'} frames rest (before long at is) h is_part e last t =
     let hr = frames_back T frames rest h in
