@@ -108,16 +108,17 @@ pub draw-is_same : (j : Job) (n : ℕ) (p : Pen) → is_same j n ≡ true → dr
 unfolding draw
 draw-is_same j n p h = rw h refl
 
-pub draw-full : (j : Job) (n : ℕ) (p : Pen) → is_same j n ≡ false → has_text (j.new n) ≡ true
-    → draw j n p ≡ (arrive j n (span_of (j.new n)) >> color (j.new n).attrs
-    >> print (j.new n) (put_unflags j.cols j.old n (j.new n))) p
+pub draw-full : (j : Job) (n : ℕ) (p : Pen) (x : CellView) (m : ℕ) (b : Bool) → x ≡ j.new n → is_same j n ≡ false
+    → has_text x ≡ true → m ≡ span_of x → b ≡ put_unflags j.cols j.old n (j.new n)
+    → draw j n p ≡ (arrive j n m >> color x.attrs >> print x b) p
 unfolding draw
-draw-full j n p h g = rw (h, g) refl
+draw-full j n p x m b is differs some em eb = rw (em, eb, is, differs, ap has_text (sym is) ∙ some) refl
 
-pub draw-marks : (j : Job) (n : ℕ) (p : Pen) → is_same j n ≡ false → has_text (j.new n) ≡ false → p.erase ≡ None
-    → draw j n p ≡ marking n (j.new n).attrs p
+pub draw-marks : (j : Job) (n : ℕ) (p : Pen) (x : CellView) (a : Attrs) → x ≡ j.new n → is_same j n ≡ false
+    → has_text x ≡ false → p.erase ≡ None → a ≡ x.attrs → draw j n p ≡ marking n a p
 unfolding draw mark mark_of
-draw-marks j n p differs none closed = rw (differs, none) (ap (λ o. mark_of j n o p) closed)
+draw-marks j n p x a is differs none closed e =
+    rw (e, is, differs, ap has_text (sym is) ∙ none) (ap (λ o. mark_of j n o p) closed)
 
 -- where columns wait to be erased
 pub draw-passes : (j : Job) (n : ℕ) (p : Pen) (e : Erase) → p.erase ≡ Some e → has_text (j.new n) ≡ false
@@ -334,13 +335,13 @@ module _ (s : Scene) (h : IsScene s) (C : ℕ → Type 0) (S : ℕ → ℕ → T
               (let loses = put_unflags j.cols j.old n x in
               let done = draws S s F f r k a lost loses n x h ha (h.proper n) (sends s h n full) (room-for s h n inside)
               (print-loses j n f l) standing (put-room s C S h o n f l single inside (o.differs n inside differs)) in
-              ends (reads-as (draw-full j n p differs full) done.reads) (at-row done.flags (put f n x x.attrs)
-              (h.proper n) (subst (λ m. Line j.old j.new m (put f n x x.attrs)) next
+              ends (reads-as (draw-full j n p _ _ _ refl differs full refl refl) done.reads) (at-row done.flags
+              (put f n x x.attrs) (h.proper n) (subst (λ m. Line j.old j.new m (put f n x x.attrs)) next
               (line-printed s h n f x.attrs l single)) tt (inl done.kept)))
           | inr empty ↦
               (let here : (i : ℕ) → n ≤ i → i < n + 1 → j.new i ≡ empty_cell x.attrs = λ i low high.
               ap j.new (omega (arith, low, high)) ∙ empty-is x (h.cells n) empty single in
-              ends (reads-as (draw-marks j n p differs empty refl) reads-marking)
+              ends (reads-as (draw-marks j n p _ _ refl differs empty refl refl) reads-marking)
               (at-row F f ha l (omega arith, h.proper n, here, differs) standing))
         ]
       ]

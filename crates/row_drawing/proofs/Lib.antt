@@ -1,17 +1,13 @@
-pub mod ClosingWrites
 pub mod Columns
 pub mod ColumnsWrites
-pub mod QuietColumns
 pub mod DrawnTexts
 pub mod Examples
-pub mod RunColumn
 pub mod KeptRows
 pub mod Lines
 pub mod Local
 pub mod LocalCells
 pub mod LocalColumns
 pub mod LocalRow
-pub mod OpeningWrites
 pub mod RowEnd
 pub mod RowForms
 pub mod RowLeads

@@ -29,59 +29,51 @@ record IsCause (K : Type 0) (j : Job) (p : Pen) : Type 0 where
 abbrev IsBlamed : Type 0 → Pen → Type 0
 IsBlamed K q = q.lost ≡ true → K
 
-marked-cause : (K : Type 0) (j : Job) (p : Pen) (e : Erase) → IsCause K j p → IsMarked j (Some e) → K
-marked-cause K j p e h m = h.differs e.from m
+module _ (K : Type 0) (j : Job) (p : Pen) (h : IsCause K j p) where
+  draw-blamed : (c : ℕ) (q : Pen) → IsBlamed K q → IsBlamed K (draw j c q).pen
+  unfolding draw skip
+  draw-blamed c q b =
+      cond_both (is_same j c) skip _ (λ (f : Writer). IsBlamed K (f q).pen) (λ _. b) (λ differs _. h.differs c differs)
 
-draw-blamed : (K : Type 0) (j : Job) (p : Pen) (c : ℕ) (q : Pen) → IsCause K j p → IsBlamed K q
-    → IsBlamed K (draw j c q).pen
-unfolding draw skip
-draw-blamed K j p c q h b =
-    cond_both (is_same j c) skip _ (λ (f : Writer). IsBlamed K (f q).pen) (λ _. b) (λ differs _. h.differs c differs)
+  flush_of-blamed : (c : ℕ) (o : Option Erase) (q : Pen) → IsMarked j o → IsBlamed K q
+      → IsBlamed K (flush_of j c o q).pen
+  unfolding flush_of skip
+  flush_of-blamed c None q m b = b
+  flush_of-blamed c (Some e) q m b =
+      cond_both (is_end (j.new c) e.attrs) _ skip (λ (f : Writer). IsBlamed K (f q).pen) (λ _ _. h.differs e.from m)
+      (λ _. b)
 
-flush_of-blamed : (K : Type 0) (j : Job) (p : Pen) (c : ℕ) (o : Option Erase) (q : Pen) → IsCause K j p → IsMarked j o
-    → IsBlamed K q → IsBlamed K (flush_of j c o q).pen
-unfolding flush_of skip
-flush_of-blamed K j p c None q h m b = b
-flush_of-blamed K j p c (Some e) q h m b =
-    cond_both (is_end (j.new c) e.attrs) _ skip (λ (f : Writer). IsBlamed K (f q).pen)
-    (λ _ _. marked-cause K j p e h m) (λ _. b)
+  column-blamed : (c : ℕ) (q : Pen) → IsMarked j q.erase → IsBlamed K q → IsBlamed K (column j c q).pen
+  unfolding column ◌>>◌ skip flush
+  column-blamed c q m b =
+      cond_both ((j.new c).continuation && not (c == j.start)) skip (flush j c >> draw j c)
+      (λ (f : Writer). IsBlamed K (f q).pen) (λ _. b)
+      (λ _. draw-blamed c (flush j c q).pen (flush_of-blamed c q.erase q m b))
 
-column-blamed : (K : Type 0) (j : Job) (p : Pen) (c : ℕ) (q : Pen) → IsCause K j p → IsMarked j q.erase → IsBlamed K q
-    → IsBlamed K (column j c q).pen
-unfolding column ◌>>◌ skip flush
-column-blamed K j p c q h m b =
-    cond_both ((j.new c).continuation && not (c == j.start)) skip (flush j c >> draw j c)
-    (λ (f : Writer). IsBlamed K (f q).pen) (λ _. b)
-    (λ _. draw-blamed K j p c (flush j c q).pen h (flush_of-blamed K j p c q.erase q h m b))
+  columns-blamed : (n : ℕ) (q : Pen) → IsMarked j q.erase → IsBlamed K q → IsBlamed K (columns j n q).pen
+  unfolding columns ◌>>◌ skip
+  columns-blamed zero q m b = b
+  columns-blamed (suc n) q m b =
+      column-blamed (j.start + n) (columns j n q).pen (columns-marked j n q m) (columns-blamed n q m b)
 
-columns-blamed : (K : Type 0) (j : Job) (p : Pen) (n : ℕ) (q : Pen) → IsCause K j p → IsMarked j q.erase → IsBlamed K q
-    → IsBlamed K (columns j n q).pen
-unfolding columns ◌>>◌ skip
-columns-blamed K j p zero q h m b = b
-columns-blamed K j p (suc n) q h m b =
-    column-blamed K j p (j.start + n) (columns j n q).pen h (columns-marked j n q m) (columns-blamed K j p n q h m b)
+  finish_of-blamed : (o : Option Erase) (q : Pen) → IsMarked j o → IsBlamed K q → IsBlamed K (finish_of j o q).pen
+  unfolding finish_of skip
+  finish_of-blamed None q m b = b
+  finish_of-blamed (Some e) q m b = λ _. h.differs e.from m
 
-finish_of-blamed : (K : Type 0) (j : Job) (p : Pen) (o : Option Erase) (q : Pen) → IsCause K j p → IsMarked j o
-    → IsBlamed K q → IsBlamed K (finish_of j o q).pen
-unfolding finish_of skip
-finish_of-blamed K j p None q h m b = b
-finish_of-blamed K j p (Some e) q h m b = λ _. marked-cause K j p e h m
+  opening-blamed : p.lost ≡ false → IsBlamed K (opening j p).pen
+  unfolding opening skip
+  opening-blamed kept =
+      cond_both (owes_flag j p) _ (skip p) (λ (d : Drawn). IsBlamed K d.pen) (λ owed _. h.owes owed)
+      (λ _ lost. absurd (both_ways p.lost kept lost))
 
-opening-blamed : (K : Type 0) (j : Job) (p : Pen) → IsCause K j p → p.lost ≡ false → IsBlamed K (opening j p).pen
-unfolding opening skip
-opening-blamed K j p h kept =
-    cond_both (owes_flag j p) _ (skip p) (λ (d : Drawn). IsBlamed K d.pen) (λ owed _. h.owes owed)
-    (λ _ lost. absurd (both_ways p.lost kept lost))
-
-lost-cause : (K : Type 0) (j : Job) (n : ℕ) (p : Pen) → IsCause K j p → p.erase ≡ None → p.lost ≡ false
-    → (row_redraw j n p).pen.lost ≡ true → K
-unfolding row_redraw ◌>>◌ finish
-lost-cause K j n p h closed kept =
-    let q = (opening j p).pen in
-    let m = opening-marked j p closed in
-    let u = (columns j n q).pen in
-    finish_of-blamed K j p u.erase u h (columns-marked j n q m) (columns-blamed K j p n q h m
-    (opening-blamed K j p h kept))
+  lost-cause : (n : ℕ) → p.erase ≡ None → p.lost ≡ false → (row_redraw j n p).pen.lost ≡ true → K
+  unfolding row_redraw ◌>>◌ finish
+  lost-cause n closed kept =
+      let q = (opening j p).pen in
+      let m = opening-marked j p closed in
+      let u = (columns j n q).pen in
+      finish_of-blamed u.erase u (columns-marked j n q m) (columns-blamed n q m (opening-blamed kept))
 
 -- ---- two pictures
 
@@ -149,8 +141,8 @@ near-last s old new p scene ready h needs =
     let q = (row_redraw j j.cols p).pen in
     elim (or-split (not (bool_eq j.wrapped j.was_wrapped)) (j.wrapped && q.lost) needs) [
       | inl flag ↦ inl (inr (λ e. flags-apart j.wrapped j.was_wrapped flag (sym h.new_flag ∙ sym e ∙ h.old_flag)))
-      | inr lost ↦ lost-cause (IsNear (scene_size s) old new j.row) j j.cols p (near-cause s old new p scene h)
-          ready.closed ready.kept (and_parts j.wrapped q.lost lost).1
+      | inr lost ↦ lost-cause _ j p (near-cause s old new p scene h) j.cols ready.closed ready.kept
+          (and_parts j.wrapped q.lost lost).1
     ]
 
 pub difference-local : EachDifferenceIsLocal

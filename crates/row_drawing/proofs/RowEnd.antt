@@ -199,10 +199,10 @@ pub closing-none : (j : Job) (p : Pen) → (not (bool_eq j.wrapped j.was_wrapped
 unfolding closing
 closing-none j p h = rw h refl
 
-pub closing-some : (j : Job) (p : Pen) → (not (bool_eq j.wrapped j.was_wrapped) || (j.wrapped && p.lost)) ≡ true
-    → closing j p ≡ (goto j.row (last_col_of j) >> mend j (last_cell_of j)) p
+pub closing-some : (j : Job) (p : Pen) (c : ℕ) (x : CellView) → owes_end j p ≡ true → c ≡ last_col_of j → x ≡ j.new c
+    → closing j p ≡ (goto j.row c >> mend j x) p
 unfolding closing
-closing-some j p h = rw h refl
+closing-some j p c x h e is = rw (is, e, h) refl
 
 -- ---- the last cell may be touched
 
@@ -419,7 +419,7 @@ module _ (s : Scene) (h : IsScene s) (C : ℕ → Type 0) (S : ℕ → ℕ → T
               waits = λ wraps g. absurd (both_ways (j.was_wrapped && not lost) g
                   (kept-no_need j.wrapped j.was_wrapped lost wraps fine));
             }))
-        | inl needs ↦ ends-as (closing-some j p needs)
+        | inl needs ↦ ends-as (closing-some j p _ _ needs refl refl)
             (ends-then (reads-goto _ h (omega (arith, last.up_to, some)))
             (mends s h S (end-room s C S h o (owed needs)) F a lost ha kept needs))
       ]

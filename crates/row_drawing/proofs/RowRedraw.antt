@@ -41,7 +41,7 @@ drawn-behind : (s : Scene) (n : ℕ) (p : Pen) → is_same s.job n ≡ false →
 unfolding ◌>>◌ color print
 drawn-behind s n p differs some closed =
     let j = s.job in
-    let is = draw-full j n p differs some in
+    let is = draw-full j n p _ _ _ refl differs some refl refl in
     let there = arrive-pen j n (span_of (j.new n)) p in
     record {
       row = ap (λ (d : Drawn). d.pen.pos.row) is ∙ ap (λ (x : Pen). x.pos.row) there;

@@ -37,10 +37,10 @@ pub opening-none : (j : Job) (p : Pen) → owes_flag j p ≡ false → opening j
 unfolding opening
 opening-none j p h = rw h refl
 
-pub opening-some : (j : Job) (p : Pen) → owes_flag j p ≡ true
-    → opening j p ≡ (turn j.row >> color (j.new j.start).attrs >> reprint j (j.new j.start)) p
+pub opening-some : (j : Job) (p : Pen) (x : CellView) → x ≡ j.new j.start → owes_flag j p ≡ true
+    → opening j p ≡ (turn j.row >> color x.attrs >> reprint j x) p
 unfolding opening
-opening-some j p h = rw h refl
+opening-some j p x is h = rw (is, h) refl
 
 pub reprint-wide : (j : Job) (x : CellView) (p : Pen) → has_text x ≡ true → x.wide ≡ true
     → reprint j x p ≡ (print x false >> (back >> back)) p
@@ -57,10 +57,10 @@ pub reprint-some : (j : Job) (x : CellView) (p : Pen) → has_text x ≡ true
 unfolding reprint
 reprint-some j x p h = rw h refl
 
-pub reprint-empty : (j : Job) (x : CellView) (p : Pen) → has_text x ≡ false
-    → reprint j x p ≡ (space >> back >> erasing 1 (wipe_unflags j.cols j.old 0 1)) p
+pub reprint-empty : (j : Job) (x : CellView) (p : Pen) (b : Bool) → has_text x ≡ false
+    → b ≡ wipe_unflags j.cols j.old 0 1 → reprint j x p ≡ (space >> back >> erasing 1 b) p
 unfolding reprint
-reprint-empty j x p h = rw h refl
+reprint-empty j x p b h e = rw (e, h) refl
 
 -- ---- nothing is owed
 
@@ -189,7 +189,7 @@ module _ (s : Scene) (h : IsScene s) (C : ℕ → Type 0) (S : ℕ → ℕ → T
       (omega (arith, h.some_col)) (λ i low high. ap j.new (zero i low high) ∙ is)
       (λ i low high. subst C (sym (zero i low high)) here) in
       ends (reads-then (reads-then reads-turn (reads-color _ ha (h.proper 0)))
-      (reads-as (reprint-empty j x _ none) (reads-then (reads-then spaces (reads-back _))
+      (reads-as (reprint-empty j x _ _ none refl) (reads-then (reads-then spaces (reads-back _))
       (reads-erasing g 1 loses 1 refl (omega (arith, h.some_col)) wipes))))
       (begins s (kept_or_off b G j.row) (wiped g 0 1 x.attrs) j.row 0 x.attrs (lost || loses) h (h.proper 0)
       (spaced-line s x.attrs h same is)
@@ -215,8 +215,8 @@ module _ (s : Scene) (h : IsScene s) (C : ℕ → Type 0) (S : ℕ → ℕ → T
             let now = wraps-now s (span_of (j.new 0)) p 0 turns in
             let kept : Flags (update s.flags r true) (flags_above s) j.row lost = inl
             (ap (λ i. update s.flags i true) (omega (arith, now.row)) ∙ sym (flags-on s now.above)) in
-            ends-as {f = turn j.row >> color (j.new 0).attrs >> reprint j (j.new 0)} (opening-some j p owed
-            ∙ ap (λ i. (turn j.row >> color (j.new i).attrs >> reprint j (j.new i)) p) h.whole)
+            ends-as {f = turn j.row >> color (j.new 0).attrs >> reprint j (j.new 0)}
+            (opening-some j p (j.new 0) (ap j.new (sym h.whole)) owed)
             (elim (cases_Bool (has_text (j.new 0))) [
               | inl some ↦ reprints-text r k a lost ha (first owed) same some now kept
               | inr none ↦ reprints-empty r k a lost ha (first owed) same none now kept

@@ -1,30 +1,62 @@
 -- Texts that are gathered, and then appended together.
 use Rattle.std.proofs.Common.{◌≡◌, ℕ, ◌+◌, ◌==◌, true, false, ◌&&◌, not, List, ◌++◌, refl, sym, ap, ◌∙◌}
 use Rattle.std.proofs.Common.{append-nil, append_assoc, arith, inl, inr, subst, ◌<◌, ◌≤◌}
-use Rattle.std.specs.Prelude.{encode_utf8_all, nat_lt, if◌then◌else◌}
-use Rattle.std.proofs.lemmas.Bool.{and_parts, cases_Bool, eq-eqb, eqb-true, lt-ltb, ltb-true, ne_eqb}
+use Rattle.std.specs.Prelude.{encode_utf8_all, nat_lt}
+use Rattle.std.proofs.lemmas.Bool.Decides.{nat_tests}
+use Rattle.std.proofs.lemmas.Bool.{and_parts, cases_Bool, ne_eqb}
 use Rattle.vt100_forms.specs.declared.attrs.Attrs.{Attrs}
 use Rattle.vt100_cells.proofs.CellLemmas.{or-false}
-use Rattle.vt100_cells.specs.Cell.{CellView}
+use Rattle.vt100_cells.specs.Cell.{CellView, has_text}
 use Rattle.vt100_cells.specs.CellEq.{attrs_eq-true}
 use Rattle.vt100_cells.specs.Line.{IsPaired, span_of}
 use Rattle.row_drawing.specs.declared.pen.Pen.{Pen}
 use Rattle.row_drawing.specs.Drawing.{behind, BeginsRun, GoesTo, IsAt, JoinsRun}
 use Rattle.row_drawing.specs.Writer.{color, print}
-use Rattle.row_drawing.specs.RowWriter.{Job, arrive, column, columns}
+use Rattle.row_drawing.specs.RowWriter.{Job, wraps, arrive, column}
 use Rattle.row_drawing.specs.Writes.{Wrote}
+use Rattle.row_drawing.proofs.RowLeads.{arrive-pen, arrive-goto}
+use Rattle.row_drawing.proofs.Columns.{column-is_half, column-is_whole, draw-full}
 use Rattle.row_drawing.proofs.ColumnsWrites.{wrote_columns_next}
-use Rattle.row_drawing.proofs.RunColumn.{wrote_arrive_here, wrote_column_on}
-use Rattle.row_drawing.proofs.Columns.{column-is_half}
-use Rattle.row_drawing.proofs.WritesLemmas.{color_same, wrote_by, wrote_skip}
+use Rattle.row_drawing.proofs.RowWrites.{wrote_flush_none}
+use Rattle.row_drawing.proofs.WritesLemmas.{color_same, wrote_both, wrote_by, goto_here, wrote_skip}
 
--- the text of one cell
-wrote_text : (x : CellView) (p : Pen) (t : List ℕ) → Wrote (print x false) p t (print x false p).pen (t
-    ++ encode_utf8_all x.text)
+-- ---- a column that is drawn
+
+-- the cursor stands in this row, and not in the one above
+stays_below : (j : Job) (n c : ℕ) (p : Pen) → p.pos.row ≡ j.row → (wraps j n p && (c == 0)) ≡ false
+stays_below j n c p e = grind (arith, nat_tests)
+
+wrote_arrive_here : (j : Job) (c n : ℕ) (p : Pen) (s : List ℕ) → IsAt j c p → Wrote (arrive j c n) p s p s
+wrote_arrive_here j c n p s here =
+    wrote_by (arrive-goto j c n p (stays_below j n c p here.row))
+    (goto_here p (record { row = j.row; col = c }) s (λ i. record { row = here.row i; col = here.col i }))
+
+-- the cursor comes there, the attributes are set, and then the text is printed
+pub wrote_column_on : {p v r q : Pen} {s w u t : List ℕ} (j : Job) (c m : ℕ) (x : CellView) → x ≡ j.new c
+    → m ≡ span_of x → BeginsRun j c p → Wrote (arrive j c m) p s v w → Wrote (color x.attrs) v w r u
+    → Wrote (print x false) r u q t → Wrote (column j c) p s q t
+wrote_column_on {p = p} {s = s} j c m x is span on arrived colored printed =
+    let drawn = draw-full j c p x m false is on.other (ap has_text is ∙ on.filled) span (sym on.keeps) in
+    wrote_by (column-is_whole j c p on.whole) (wrote_both (wrote_flush_none j c p s on.closed)
+    (wrote_by drawn (wrote_both (wrote_both arrived colored) printed)))
+
+pub colored_attrs : {p r : Pen} {s u : List ℕ} (a : Attrs) → Wrote (color a) p s r u → r.attrs ≡ a
+unfolding color
+colored_attrs a h = sym (ap (λ (y : Pen). y.attrs) h.pen_is)
+
+-- the attributes stay as the cursor comes there
+pub arrived_attrs : {p v : Pen} {s w : List ℕ} (j : Job) (c n : ℕ) → Wrote (arrive j c n) p s v w → v.attrs ≡ p.attrs
+arrived_attrs {p = p} j c n h = ap (λ (y : Pen). y.attrs) (sym h.pen_is ∙ arrive-pen j c n p)
+
+-- ---- the text of one cell
+
+pub wrote_text : {p q : Pen} (x : CellView) (t r u : List ℕ) → q ≡ (print x false p).pen
+    → u ≡ r ++ encode_utf8_all x.text → Wrote (print x false) p (t ++ r) q (t ++ u)
 unfolding print
-wrote_text x p t = record {
-  pen_is = refl;
-  text_is = ap (λ bs. t ++ bs) (sym (append-nil (encode_utf8_all x.text)));
+wrote_text {p = p} x t r u pen text = record {
+  pen_is = sym pen;
+  text_is = ap (λ bs. t ++ bs) text ∙ sym (append_assoc t r (encode_utf8_all x.text))
+      ∙ ap (λ bs. (t ++ r) ++ bs) (sym (append-nil (encode_utf8_all x.text)));
 }
 
 -- the pen after it
@@ -34,32 +66,34 @@ unfolding print
 passed x p n e =
     λ i. record p { pos = record (p.pos) { col = p.pos.col + e i }; lost = sym (or-false p.lost) i }
 
-pub pass-attrs : (x : CellView) (p : Pen) → (print x false p).pen.attrs ≡ p.attrs
+pub pass-attrs : (x : CellView) (p q : Pen) → q ≡ (print x false p).pen → q.attrs ≡ p.attrs
 unfolding print
-pass-attrs x p = refl
+pass-attrs x p q e = ap (λ (r : Pen). r.attrs) e
 
 -- it is drawn with the attributes of those before it
-pub joined_attrs : (j : Job) (c : ℕ) (p : Pen) (a : Attrs) (x : CellView) → x ≡ j.new c → JoinsRun j c p a → a ≡ x.attrs
-joined_attrs j c p a x is h =
-    sym (attrs_eq-true (j.new c).attrs a h.attrs) ∙ ap (λ (y : CellView). y.attrs) (sym is)
+pub joined_attrs : {j : Job} {c : ℕ} {p : Pen} {a : Attrs} (x : CellView) → x ≡ j.new c → JoinsRun j c p a
+    → a ≡ x.attrs
+joined_attrs {a = a} x is h = sym (attrs_eq-true _ a h.attrs) ∙ ap (λ (y : CellView). y.attrs) (sym is)
 
 -- a cell joins the run
-wrote_joined : (j : Job) (c : ℕ) (p : Pen) (a : Attrs) (t : List ℕ) (x : CellView) → x ≡ j.new c → p.attrs ≡ a
-    → JoinsRun j c p a → Wrote (column j c) p t (print x false p).pen (t ++ encode_utf8_all x.text)
-wrote_joined j c p a t x is drawn h =
-    let same : p.attrs ≡ x.attrs = drawn ∙ joined_attrs j c p a x is h in
-    wrote_column_on j c p t p t p t (print x false p).pen (t ++ encode_utf8_all x.text) x is h.begins
-    (wrote_arrive_here j c (span_of x) p t h.here) (color_same p x.attrs t same) (wrote_text x p t)
+pub wrote_joined : {j : Job} {c : ℕ} {p q : Pen} {a : Attrs} {s t : List ℕ} (x : CellView) → x ≡ j.new c → p.attrs ≡ a
+    → JoinsRun j c p a → Wrote (print x false) p s q t → Wrote (column j c) p s q t
+wrote_joined {j = j} {c = c} {p = p} {s = s} x is drawn h printed =
+    wrote_column_on j c (span_of x) x is refl h.begins (wrote_arrive_here j c (span_of x) p s h.here)
+    (color_same p x.attrs s (drawn ∙ joined_attrs x is h)) printed
 
 -- ---- several columns
 
--- the second half of a wide cell comes with it
-goes_half : (j : Job) (n m : ℕ) (p : Pen) (t : List ℕ) (q : Pen) (u : List ℕ)
-    → ((j.new (j.start + m)).continuation && not (j.start + m == j.start)) ≡ true → GoesTo j n m p t q u
-    → GoesTo j n (m + 1) p t q u
-goes_half j n m p t q u half h p0 s0 w =
-    wrote_columns_next j m p0 s0 q u q u (h p0 s0 w) (wrote_by (column-is_half j (j.start + m) q half)
-    (wrote_skip q u))
+pub goes_none : {j : Job} {n : ℕ} {p : Pen} {s : List ℕ} → GoesTo j n n p s p s
+goes_none = record { goes = λ p0 s0 w. w }
+
+pub goes_then : {j : Job} {n m k : ℕ} {p q r : Pen} {s t u : List ℕ} → GoesTo j n m p s q t → GoesTo j m k q t r u
+    → GoesTo j n k p s r u
+goes_then a b = record { goes = λ p0 s0 w. b.goes p0 s0 (a.goes p0 s0 w) }
+
+goes_next : {j : Job} {n m : ℕ} {p q r : Pen} {s t u : List ℕ} → GoesTo j n m p s q t
+    → Wrote (column j (j.start + m)) q t r u → GoesTo j n (m + 1) p s r u
+goes_next {j = j} {m = m} a b = record { goes = λ p0 s0 w. wrote_columns_next j m (a.goes p0 s0 w) b }
 
 second_half : (j : Job) (m : ℕ) → IsPaired j.new → (j.new (j.start + m)).wide ≡ true
     → ((j.new (j.start + (m + 1))).continuation && not (j.start + (m + 1) == j.start)) ≡ true
@@ -70,73 +104,30 @@ second_half j m paired wide =
     let apart : (j.start + (m + 1) == j.start) ≡ false = ne_eqb (j.start + (m + 1)) j.start (λ f. omega (arith, f)) in
     rw (next, apart) refl
 
-goes_behind : (j : Job) (n m k : ℕ) (p : Pen) (t : List ℕ) (q : Pen) (u : List ℕ) (x : CellView) → IsPaired j.new
-    → x ≡ j.new (j.start + m) → GoesTo j n (m + 1) p t q u → GoesTo j n (behind x m k) p t q u
-goes_behind j n m k p t q u x paired is h =
-    elim (cases_Bool (x.wide && nat_lt (m + 1) k)) [
+-- one cell more: the second half of a wide one comes with it
+pub goes_on : {j : Job} {n m : ℕ} {p q r : Pen} {s t u : List ℕ} (i k : ℕ) (x : CellView) → i ≡ behind x m k
+    → IsPaired j.new → x ≡ j.new (j.start + m) → GoesTo j n m p s q t → Wrote (column j (j.start + m)) q t r u
+    → GoesTo j n i p s r u
+goes_on {j = j} {n = n} {m = m} {p = p} {r = r} {s = s} {u = u} i k x behind_is paired is a b =
+    let next = goes_next a b in
+    let moved : GoesTo j n (behind x m k) p s r u = (elim (cases_Bool (x.wide && nat_lt (m + 1) k)) [
       | inl both ↦ (let wide = ap (λ (y : CellView). y.wide) (sym is) ∙ (and_parts x.wide (nat_lt (m + 1) k) both).0 in
           let two : m + 1 + 1 ≡ m + 2 = omega arith in
-          rw both (subst (λ i. GoesTo j n i p t q u) two
-          (goes_half j n (m + 1) p t q u (second_half j m paired wide) h)))
-      | inr one ↦ rw one h
-    ]
-
--- the first cell, to which the cursor is brought, and whose attributes are set before
-pub goes_first : (j : Job) (n k : ℕ) (p : Pen) (s : List ℕ) (v : Pen) (w : List ℕ) (r : Pen) (u : List ℕ) (x : CellView)
-    → IsPaired j.new → x ≡ j.new (j.start + n) → BeginsRun j (j.start + n) p
-    → Wrote (arrive j (j.start + n) (span_of x)) p s v w → Wrote (color x.attrs) v w r u
-    → GoesTo j n (behind x n k) p s (print x false r).pen (u ++ encode_utf8_all x.text)
-goes_first j n k p s v w r u x paired is h arrived colored =
-    goes_behind j n n k p s (print x false r).pen (u ++ encode_utf8_all x.text) x paired is
-    (λ p0 s0 before. wrote_columns_next j n p0 s0 p s (print x false r).pen (u ++ encode_utf8_all x.text) before
-    (wrote_column_on j (j.start + n) p s v w r u (print x false r).pen (u ++ encode_utf8_all x.text) x is h arrived
-    colored (wrote_text x r u)))
-
-pub goes_then : (j : Job) (n m k : ℕ) (p : Pen) (s : List ℕ) (q : Pen) (t : List ℕ) (r : Pen) (u : List ℕ)
-    → GoesTo j n m p s q t → GoesTo j m k q t r u → GoesTo j n k p s r u
-goes_then j n m k p s q t r u a b p0 s0 w = b p0 s0 (a p0 s0 w)
-
-pub goes_text : (j : Job) (n m k : ℕ) (p : Pen) (s t : List ℕ) (q : Pen) (r : List ℕ) (a : Attrs) (x : CellView)
-    → IsPaired j.new → x ≡ j.new (j.start + m) → q.attrs ≡ a → JoinsRun j (j.start + m) q a
-    → GoesTo j n m p s q (t ++ r)
-    → GoesTo j n (behind x m k) p s (print x false q).pen (t ++ (r ++ encode_utf8_all x.text))
-goes_text j n m k p s t q r a x paired is drawn joins h =
-    goes_behind j n m k p s (print x false q).pen (t ++ (r ++ encode_utf8_all x.text)) x paired is
-    (λ p0 s0 w. subst (λ bs. Wrote (columns j (m + 1)) p0 s0 (print x false q).pen bs)
-    (append_assoc t r (encode_utf8_all x.text))
-    (wrote_columns_next j m p0 s0 q (t ++ r) (print x false q).pen ((t ++ r) ++ encode_utf8_all x.text) (h p0 s0 w)
-    (wrote_joined j (j.start + m) q a (t ++ r) x is drawn joins)))
-
-behind-wide : (x : CellView) (n k : ℕ) → x.wide ≡ true → behind x n k < k → n + 1 < k
-behind-wide x n k wide inside =
-    elim (cases_Bool (nat_lt (n + 1) k)) [
-      | inl more ↦ ltb-true (n + 1) k more
-      | inr last ↦ subst (λ i. i < k)
-          (ap (λ b. if b then n + 2 else n + 1) (ap (λ b. b && nat_lt (n + 1) k) wide ∙ last)) inside
-    ]
+          let half = wrote_by (column-is_half j _ r (second_half j m paired wide)) (wrote_skip r u) in
+          rw both (subst (λ l. GoesTo j n l p s r u) two (goes_next next half)))
+      | inr one ↦ rw one next
+    ]) in
+    subst (λ l. GoesTo j n l p s r u) (sym behind_is) moved
 
 -- it lies behind
-pub behind-within : (x : CellView) (n k : ℕ) → n < k → (n < behind x n k) × (behind x n k ≤ k)
-behind-within x n k inside =
-    elim (cases_Bool (x.wide && nat_lt (n + 1) k)) [
-      | inl both ↦ (let more = ltb-true (n + 1) k (and_parts x.wide (nat_lt (n + 1) k) both).1 in
-          rw both (omega arith, omega (arith, more)))
-      | inr one ↦ rw one (omega arith, omega (arith, inside))
-    ]
+pub behind-within : (x : CellView) (n k i : ℕ) → i ≡ behind x n k → n < k → (n < i) × (i ≤ k)
+behind-within x n k i e inside = rw e (grind (arith, nat_tests), grind (arith, nat_tests))
 
 -- the cursor stands behind it
-pub here_behind : (j : Job) (n k : ℕ) (p : Pen) (x : CellView) → IsAt j (j.start + n) p → behind x n k < k
-    → IsAt j (j.start + behind x n k) (print x false p).pen
+pub here_behind : (j : Job) (n k i : ℕ) (p q : Pen) (x : CellView) → i ≡ behind x n k → q ≡ (print x false p).pen
+    → IsAt j (j.start + n) p → i < k → IsAt j (j.start + i) q
 unfolding print
-here_behind j n k p x here inside =
-    let row = (and_parts (p.pos.row == j.row) (p.pos.col == j.start + n) here).0 in
-    let col = eqb-true p.pos.col (j.start + n) (and_parts (p.pos.row == j.row) (p.pos.col == j.start + n) here).1 in
-    elim (cases_Bool x.wide) [
-      | inl wide ↦ (let more = behind-wide x n k wide inside in
-          rw (row, wide, lt-ltb (n + 1) k more) (eq-eqb (p.pos.col + 2) (j.start + (n + 2)) (omega (arith, col))))
-      | inr narrow ↦ rw (row, narrow) (eq-eqb (p.pos.col + 1) (j.start + (n + 1)) (omega (arith, col)))
-    ]
-
--- the cursor stands at the cell
-pub here_col : (j : Job) (c : ℕ) (p : Pen) (a : Attrs) → JoinsRun j c p a → p.pos.col ≡ c
-here_col j c p a h = eqb-true p.pos.col c (and_parts (p.pos.row == j.row) (p.pos.col == c) h.here).1
+here_behind j n k i p q x e pen here inside =
+    let col = here.col in
+    let next : p.pos.col + span_of x ≡ j.start + i = rw e (grind (arith, nat_tests)) in
+    record { row = ap (λ (r : Pen). r.pos.row) pen ∙ here.row; col = ap (λ (r : Pen). r.pos.col) pen ∙ next }

@@ -1,31 +1,23 @@
 -- What calls write, one after the other.
-use Rattle.std.proofs.Common.{◌≡◌, ℕ, ◌+◌, ◌-◌, ◌==◌, ◌&&◌, Bool, true, ◌||◌, List, [], ◌∷◌, ◌++◌, refl, sym, ap, ◌∙◌}
-use Rattle.std.proofs.Common.{append-nil, append_assoc, subst, None, arith}
-use Rattle.std.specs.Prelude.{encode_utf8_all}
+use Rattle.std.proofs.Common.{◌≡◌, ℕ, ◌+◌, ◌-◌, ◌==◌, ◌&&◌, Bool, true, false, ◌||◌, List, [], ◌∷◌, ◌++◌, refl, sym, ap}
+use Rattle.std.proofs.Common.{◌∙◌, append-nil, append_assoc, subst, None, arith, Result, Ok, Err}
+use Rattle.std.specs.Prelude.{encode_utf8_all, is_ok}
+use Rattle.std.specs.Result.{IsErr}
 use Rattle.vt100_forms.specs.declared.attrs.Attrs.{Attrs}
-use Rattle.vt100_forms.specs.Attrs.{attrs_eq}
-use Rattle.vt100_forms.specs.Form.{Form, EraseChar, ClearRowForward, Backspace, spell, spelling, moves, change}
+use Rattle.vt100_forms.specs.Form.{Form, EraseChar, Backspace, spell, spelling, moves, change}
 use Rattle.vt100_cells.specs.Cell.{CellView}
-use Rattle.vt100_cells.specs.CellEq.{attrs_eq-refl, attrs_eq-true}
+use Rattle.vt100_cells.specs.CellEq.{attrs_eq-refl}
 use Rattle.vt100_forms.specs.declared.position.Pos.{Pos}
-use Rattle.std.proofs.lemmas.Bool.{and_parts, eqb-true, ne_eqb, eq-eqb}
+use Rattle.std.proofs.lemmas.Bool.{and_parts, eqb-true, ne_eqb, eq-eqb, false≢true}
 use Rattle.vt100_cells.specs.Line.{span_of}
 use Rattle.row_drawing.specs.declared.pen.Pen.{Pen}
-use Rattle.row_drawing.specs.Writer.{Drawn, Writer, ◌>>◌, skip, goto, color, print, space, back, erasing, clearing}
-use Rattle.row_drawing.specs.Writes.{IsBegun, Wrote}
+use Rattle.row_drawing.specs.Writer.{Drawn, Writer, ◌>>◌, skip, goto, color, print, back, erasing}
+use Rattle.row_drawing.specs.Writes.{IsBegun, Wrote, Writes}
 
 pub spell-joined : (fs gs : List Form) → spell (fs ++ gs) ≡ spell fs ++ spell gs
 spell-joined [] gs = refl
 spell-joined (f ∷ fs) gs = ap (λ bs. spelling f ++ bs) (spell-joined fs gs)
     ∙ sym (append_assoc (spelling f) (spell fs) (spell gs))
-
--- nothing is appended
-pub begun-none : (s text : List ℕ) → IsBegun s text s
-begun-none s text = ([], text, refl, sym (append-nil s))
-
--- everything
-pub begun-all : (s text t : List ℕ) → t ≡ s ++ text → IsBegun s text t
-begun-all s text t e = (text, [], sym (append-nil text), e)
 
 pub begun-more : (s a b t : List ℕ) → IsBegun s a t → IsBegun s (a ++ b) t
 begun-more s a b t h = (
@@ -77,9 +69,31 @@ wrote_as f g p s q t e a = record {
   text_is = a.text_is ∙ ap (λ (d : Drawn). s ++ spell d.forms) (sym e);
 }
 
--- a call that was refused, of which a part of the forms may have been appended
+-- where the writers and the places are inferred
+pub wrote_both : {f g : Writer} {p : Pen} {s : List ℕ} {q : Pen} {t : List ℕ} {r : Pen} {u : List ℕ} → Wrote f p s q t
+    → Wrote g q t r u → Wrote (f >> g) p s r u
+wrote_both a b = wrote_then _ _ _ _ _ _ _ _ a b
+
+pub wrote_by : {f g : Writer} {p : Pen} {s : List ℕ} {q : Pen} {t : List ℕ} → g p ≡ f p → Wrote f p s q t
+    → Wrote g p s q t
+wrote_by e a = wrote_as _ _ _ _ _ _ e a
+
+-- ---- calls that may be refused
+
+-- of one that was, a part of the forms may have been appended
 pub record Began (f : Writer) (p : Pen) (s t : List ℕ) : Type 0 where
   pub is : IsBegun s (spell (f p).forms) t
+
+pub began : (f : Writer) {p : Pen} {s t : List ℕ} → IsBegun s (spell (f p).forms) t → Began f p s t
+began f h = record { is = h }
+
+-- none of them
+pub began_none : (f : Writer) (p : Pen) (s : List ℕ) → Began f p s s
+began_none f p s = record { is = ([], spell (f p).forms, refl, sym (append-nil s)) }
+
+-- all of them
+pub began_all : {f : Writer} {p : Pen} {s : List ℕ} {q : Pen} {t : List ℕ} → Wrote f p s q t → Began f p s t
+began_all {f = f} {p = p} h = record { is = (spell (f p).forms, [], sym (append-nil _), h.text_is) }
 
 pub began_first : {f : Writer} (g : Writer) {p : Pen} {s t : List ℕ} → Began f p s t → Began (f >> g) p s t
 began_first {f = f} g {p = p} {s = s} {t = t} h = record { is = begun_first f g p s t h.is }
@@ -90,17 +104,24 @@ began_then {f = f} {g = g} {p = p} {s = s} {q = q} {t = t} {u = u} a h = record 
   is = begun_then f g p s q t u a h.is;
 }
 
-pub began_as : {f g : Writer} {p : Pen} {s t : List ℕ} → g p ≡ f p → Began f p s t → Began g p s t
-began_as {s = s} {t = t} e h = record { is = subst (λ (d : Drawn). IsBegun s (spell d.forms) t) (sym e) h.is }
+-- then the ones after it aren't made
+pub refused : {T E : Type 0} (r : Result T E) {f : Writer} (h : Writer) (p : Pen) {s : List ℕ} (q : Pen) {t : List ℕ}
+    → IsErr r → h p ≡ f p → Began f p s t → Writes h p s (is_ok r) q t
+refused (Ok x) h p q failed e b = absurd (false≢true failed)
+refused (Err x) h p {s = s} q {t = t} failed e b =
+    subst (λ (d : Drawn). IsBegun s (spell d.forms) t) (sym e) b.is
 
--- where the writers and the places are inferred
-pub wrote_both : {f g : Writer} {p : Pen} {s : List ℕ} {q : Pen} {t : List ℕ} {r : Pen} {u : List ℕ} → Wrote f p s q t
-    → Wrote g q t r u → Wrote (f >> g) p s r u
-wrote_both a b = wrote_then _ _ _ _ _ _ _ _ a b
+-- the last one
+pub writes_by : (f g : Writer) (p : Pen) (s : List ℕ) (ok : Bool) (q : Pen) (t : List ℕ) → g p ≡ f p
+    → Writes f p s ok q t → Writes g p s ok q t
+writes_by f g p s true q t e a = wrote_by e a
+writes_by f g p s false q t e a = subst (λ (d : Drawn). IsBegun s (spell d.forms) t) (sym e) a
 
-pub wrote_by : {f g : Writer} {p : Pen} {s : List ℕ} {q : Pen} {t : List ℕ} → g p ≡ f p → Wrote f p s q t
-    → Wrote g p s q t
-wrote_by e a = wrote_as _ _ _ _ _ _ e a
+pub writes_last : {f : Writer} {s : List ℕ} {q : Pen} {t : List ℕ} (h : Writer) (p : Pen) (g : Writer) (ok : Bool)
+    (r : Pen) (u : List ℕ) → h p ≡ (f >> g) p → Wrote f p s q t → Writes g q t ok r u → Writes h p s ok r u
+writes_last h p g true r u e a b = wrote_by e (wrote_both a b)
+writes_last {f = f} {s = s} {q = q} {t = t} h p g false r u e a b =
+    writes_by (f >> g) h p s false r u e (begun_then f g p s q t u a b)
 
 pub wrote_skip : (p : Pen) (s : List ℕ) → Wrote skip p s p s
 unfolding skip
@@ -121,7 +142,7 @@ unchanged : (a : Attrs) → change a a ≡ []
 unchanged a = rw (attrs_eq-refl a) refl
 
 -- the cursor stands there
-goto_here : (p : Pen) (pos : Pos) (s : List ℕ) → p.pos ≡ pos → Wrote (goto pos.row pos.col) p s p s
+pub goto_here : (p : Pen) (pos : Pos) (s : List ℕ) → p.pos ≡ pos → Wrote (goto pos.row pos.col) p s p s
 unfolding goto
 goto_here p pos s e = record {
   pen_is = λ i. record p { pos = sym e i };
@@ -149,9 +170,6 @@ color_same p a s e = record {
   text_is = sym (append-nil s) ∙ ap (λ fs. s ++ spell fs) (sym (unchanged p.attrs) ∙ ap (change p.attrs) e);
 }
 
-pub wrote_color_same : (p : Pen) (a : Attrs) (s : List ℕ) → attrs_eq p.attrs a ≡ true → Wrote (color a) p s p s
-wrote_color_same p a s h = color_same p a s (attrs_eq-true p.attrs a h)
-
 pub wrote_print : (x : CellView) (loses : Bool) (p : Pen) (s t : List ℕ) (col : ℕ) (lost : Bool)
     → t ≡ s ++ encode_utf8_all x.text → col ≡ p.pos.col + span_of x → lost ≡ (p.lost || loses)
     → Wrote (print x loses) p s (record p { pos = record (p.pos) { col = col }; lost = lost }) t
@@ -159,14 +177,6 @@ unfolding print
 wrote_print x loses p s t col lost h e g = record {
   pen_is = λ i. record p { pos = record (p.pos) { col = sym e i }; lost = sym g i };
   text_is = h ∙ ap (λ bs. s ++ bs) (sym (append-nil (encode_utf8_all x.text)));
-}
-
-pub wrote_space : (p : Pen) (s t : List ℕ) → t ≡ s ++ encode_utf8_all (32 ∷ [])
-    → Wrote space p s (record p { pos = record (p.pos) { col = p.pos.col + 1 } }) t
-unfolding space
-wrote_space p s t h = record {
-  pen_is = refl;
-  text_is = h ∙ ap (λ bs. s ++ bs) (sym (append-nil (encode_utf8_all (32 ∷ []))));
 }
 
 pub wrote_back : (p : Pen) (s t : List ℕ) (col : ℕ) → t ≡ s ++ spell (Backspace ∷ []) → col ≡ p.pos.col - 1
@@ -184,8 +194,3 @@ wrote_erase n loses p s t lost h g = record {
   pen_is = λ i. record p { erase = None; lost = sym g i };
   text_is = h;
 }
-
-pub wrote_clear : (p : Pen) (s t : List ℕ) → t ≡ s ++ spell (ClearRowForward ∷ [])
-    → Wrote clearing p s (record p { erase = None; lost = true }) t
-unfolding clearing
-wrote_clear p s t h = record { pen_is = refl; text_is = h }

@@ -41,8 +41,8 @@ AreQuiet j p a b = (c : ℕ) → a ≤ c → c < b → column j c p ≡ skip p
 
 -- where the first n columns are drawn, and left the pen p and the text s, the first m are once the pen is q and the
 -- text t
-abbrev pub GoesTo : Job → ℕ → ℕ → Pen → List ℕ → Pen → List ℕ → Type 0
-GoesTo j n m p s q t = (p0 : Pen) (s0 : List ℕ) → Wrote (columns j n) p0 s0 p s → Wrote (columns j m) p0 s0 q t
+pub record GoesTo (j : Job) (n m : ℕ) (p : Pen) (s : List ℕ) (q : Pen) (t : List ℕ) : Type 0 where
+  pub goes : (p0 : Pen) (s0 : List ℕ) → Wrote (columns j n) p0 s0 p s → Wrote (columns j m) p0 s0 q t
 
 -- The cell at column c has a text that differs, of at most four bytes, which takes no flag away, and nothing is to be
 -- erased.
@@ -55,8 +55,9 @@ pub record BeginsRun (j : Job) (c : ℕ) (p : Pen) : Type 0 where
   pub keeps : put_unflags j.cols j.old c (j.new c) ≡ false
 
 -- the cursor stands at column c of the row
-abbrev pub IsAt : Job → ℕ → Pen → Type 0
-IsAt j c p = ((p.pos.row == j.row) && (p.pos.col == c)) ≡ true
+pub record IsAt (j : Job) (c : ℕ) (p : Pen) : Type 0 where
+  pub row : p.pos.row ≡ j.row
+  pub col : p.pos.col ≡ c
 
 -- It is such a cell, the cursor stands there, and it is drawn with these attributes.
 pub record JoinsRun (j : Job) (c : ℕ) (p : Pen) (a : Attrs) : Type 0 where

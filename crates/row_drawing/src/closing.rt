@@ -10,7 +10,7 @@ ghost use Rattle.row_drawing.specs.Writes.{Writes};
 use crate::drawing::Drawing;
 use crate::pen::Pen;
 use vt100_cells::Cell;
-use vt100_cells::line::{at, is_continuation_at, same_to};
+use vt100_cells::line::{is_continuation_at, same_to};
 use vt100_forms::GridError;
 use vt100_forms::position::Pos;
 
@@ -43,12 +43,10 @@ impl<'a> Drawing<'a> {
             (string_bytes contents.new) }
     {
         if self.wrapped {
-            pen.print_last(contents, cell)?;
-            return Ok(());
+            return pen.print_last(contents, cell);
         }
         pen.unflag(contents, cell)?;
-        pen.print_last(contents, cell)?;
-        Ok(())
+        pen.print_last(contents, cell)
     }
 
     /// Brings the row's flag in order, once its columns are drawn. A flag that is to be set is set by the next row: the
@@ -63,8 +61,7 @@ impl<'a> Drawing<'a> {
         }
         let col = self.last_col();
         pen.goto(contents, Pos { row: self.row, col })?;
-        self.mend(pen, contents, at(self.cells, usize::from(col)))?;
-        Ok(())
+        self.mend(pen, contents, self.cell(col))
     }
 
     /// How many cells from the left the terminal shows already.
@@ -121,8 +118,7 @@ impl<'a> Drawing<'a> {
             return Ok(());
         }
         self.redraw_behind(pen, contents, same, count)?;
-        self.closing(pen, contents)?;
-        Ok(())
+        self.closing(pen, contents)
     }
 }
 
@@ -134,12 +130,10 @@ impl Pen {
             (string_bytes contents.new) }
     {
         if cell.has_contents() {
-            self.erase(contents, 1, true)?;
-            return Ok(());
+            return self.erase(contents, 1, true);
         }
-        self.color(contents, cell.attrs())?;
-        self.erase(contents, 1, true)?;
-        Ok(())
+        self.color_as(contents, cell)?;
+        self.erase(contents, 1, true)
     }
 
     /// Prints the last cell of a row, if it has a text; then the cursor waits behind it.
@@ -151,8 +145,7 @@ impl Pen {
         if !cell.has_contents() {
             return Ok(());
         }
-        self.color(contents, cell.attrs())?;
-        self.print(contents, cell, false)?;
-        Ok(())
+        self.color_as(contents, cell)?;
+        self.print(contents, cell, false)
     }
 }

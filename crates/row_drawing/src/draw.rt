@@ -23,17 +23,26 @@ impl<'a> Drawing<'a> {
         self.cells.len() as u16
     }
 
+    /// The cell at `col`.
+    #[inline(always)]
+    pub(crate) fn cell(&self, col: u16) -> &'a Cell
+        requires { col < length self.now.cells.now }
+        ensures { result.now ≡ (job_of self.now).new col }
+    {
+        at(self.cells, usize::from(col))
+    }
+
     /// Whether the terminal shows the cell already.
     #[inline(always)]
     pub(crate) fn is_same(&self, col: u16) -> bool
         requires { col < length self.now.cells.now }
         ensures { result ≡ is_same (job_of self.now) col }
     {
-        let col = usize::from(col);
-        if col < self.earlier.len() {
-            is_same_at(self.cells, self.earlier, col)
+        let place = usize::from(col);
+        if place < self.earlier.len() {
+            is_same_at(self.cells, self.earlier, place)
         } else {
-            let cell = at(self.cells, col);
+            let cell = self.cell(col);
             !cell.has_contents() && cell.is_default()
         }
     }
@@ -70,8 +79,7 @@ impl<'a> Drawing<'a> {
             pen.turn(self.row);
             return Ok(());
         }
-        pen.goto(contents, Pos { row: self.row, col })?;
-        Ok(())
+        pen.goto(contents, Pos { row: self.row, col })
     }
 
     /// Brings the terminal to a column, as `arrive` does, by bytes that are put into `run`: 14 at most.
@@ -98,16 +106,14 @@ impl<'a> Drawing<'a> {
             pen.turn(self.row);
             pen.space(contents)?;
             pen.back(contents)?;
-            pen.color(contents, erase.attrs)?;
-            return Ok(());
+            return pen.color(contents, erase.attrs);
         }
         let pos = Pos {
             row: self.row,
             col: erase.from,
         };
         pen.goto(contents, pos)?;
-        pen.color(contents, erase.attrs)?;
-        Ok(())
+        pen.color(contents, erase.attrs)
     }
 
     /// Erases the columns before `col`, if there is something to be erased and this column ends it.
@@ -119,7 +125,7 @@ impl<'a> Drawing<'a> {
         let Some(erase) = pen.erase else {
             return Ok(());
         };
-        if !is_end(at(self.cells, usize::from(col)), erase.attrs) {
+        if !is_end(self.cell(col), erase.attrs) {
             return Ok(());
         }
         self.to_erase(pen, contents, erase)?;
@@ -127,8 +133,7 @@ impl<'a> Drawing<'a> {
             contents,
             col.saturating_sub(erase.from),
             self.loses_by_erase(erase.from, col),
-        )?;
-        Ok(())
+        )
     }
 
     /// Erases what is still to be erased, to the end of the row.
@@ -140,8 +145,7 @@ impl<'a> Drawing<'a> {
             return Ok(());
         };
         self.to_erase(pen, contents, erase)?;
-        pen.clear(contents)?;
-        Ok(())
+        pen.clear(contents)
     }
 
     /// Draws the cell at `col`, since the terminal shows another one there. An empty cell is erased later.
@@ -151,12 +155,11 @@ impl<'a> Drawing<'a> {
         ensures { Writes (draw (job_of self.now) col) pen.old (string_bytes contents.old) (is_ok result) pen.new
             (string_bytes contents.new) }
     {
-        let cell = at(self.cells, usize::from(col));
+        let cell = self.cell(col);
         if cell.has_contents() {
             self.arrive(pen, contents, col, span(cell))?;
-            pen.color(contents, cell.attrs())?;
-            pen.print(contents, cell, self.loses_by_print(col))?;
-            return Ok(());
+            pen.color_as(contents, cell)?;
+            return pen.print(contents, cell, self.loses_by_print(col));
         }
         match pen.erase {
             None => pen.mark(col, cell.attrs()),
@@ -171,7 +174,7 @@ impl<'a> Drawing<'a> {
         requires { col < length self.now.cells.now }
         ensures { result ≡ (((job_of self.now).new col).continuation && not (col == self.now.start)) }
     {
-        at(self.cells, usize::from(col)).is_wide_continuation() && col != self.start
+        self.cell(col).is_wide_continuation() && col != self.start
     }
 
     /// Draws one column, whatever stands there. The second half of a wide character comes with the first.
@@ -194,8 +197,7 @@ impl<'a> Drawing<'a> {
         if self.is_same(col) {
             return Ok(());
         }
-        self.draw(pen, contents, col)?;
-        Ok(())
+        self.draw(pen, contents, col)
     }
 }
 

@@ -8,7 +8,6 @@ ghost use Rattle.row_drawing.specs.Writes.{Writes};
 use crate::drawing::Drawing;
 use crate::pen::{Pen, span};
 use vt100_cells::Cell;
-use vt100_cells::line::at;
 use vt100_forms::GridError;
 
 impl<'a> Drawing<'a> {
@@ -20,7 +19,7 @@ impl<'a> Drawing<'a> {
         self.above
             && !self.was_above
             && self.is_same(self.start)
-            && self.wraps(pen, span(at(self.cells, usize::from(self.start))))
+            && self.wraps(pen, span(self.cell(self.start)))
     }
 
     /// Prints a cell over itself, and goes back to where it begins. An empty one is printed as a space and erased.
@@ -32,17 +31,14 @@ impl<'a> Drawing<'a> {
         if !cell.has_contents() {
             pen.space(contents)?;
             pen.back(contents)?;
-            pen.erase(contents, 1, self.loses_by_erase(0, 1))?;
-            return Ok(());
+            return pen.erase(contents, 1, self.loses_by_erase(0, 1));
         }
         pen.print(contents, cell, false)?;
         if cell.is_wide() {
             pen.back(contents)?;
-            pen.back(contents)?;
-            return Ok(());
+            return pen.back(contents);
         }
-        pen.back(contents)?;
-        Ok(())
+        pen.back(contents)
     }
 
     /// Sets the flag of the row above where it is missing and no other cell would set it.
@@ -54,11 +50,10 @@ impl<'a> Drawing<'a> {
         if !self.owes_flag(pen) {
             return Ok(());
         }
-        let first = at(self.cells, usize::from(self.start));
+        let first = self.cell(self.start);
         pen.turn(self.row);
-        pen.color(contents, first.attrs())?;
-        self.reprint(pen, contents, first)?;
-        Ok(())
+        pen.color_as(contents, first)?;
+        self.reprint(pen, contents, first)
     }
 
     /// Draws `count` columns, from the first that is drawn on, over a row that has no flag.
@@ -90,7 +85,6 @@ impl<'a> Drawing<'a> {
     {
         self.opening(pen, contents)?;
         self.columns(pen, contents, same, count)?;
-        self.finish(pen, contents)?;
-        Ok(())
+        self.finish(pen, contents)
     }
 }

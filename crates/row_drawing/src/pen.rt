@@ -118,6 +118,15 @@ impl Pen {
         self.attrs == attrs
     }
 
+    /// Sets the attributes of a cell.
+    #[inline(always)]
+    pub(crate) fn color_as(&mut self, contents: &mut String, cell: &Cell) -> Result<(), GridError>
+        ensures { Writes (color cell.now.attrs) self.old (string_bytes contents.old) (is_ok result) self.new
+            (string_bytes contents.new) }
+    {
+        self.color(contents, cell.attrs())
+    }
+
     /// Sets the attributes of a cell by bytes that are put into `run`. If `like` is there, it is a cell with those with
     /// which the terminal draws.
     // Two cells are compared: so no colour has to be put together first.

@@ -9,7 +9,7 @@ ghost use Rattle.row_drawing.specs.Writes.{Writes};
 use crate::drawing::Drawing;
 use crate::pen::{Pen, span};
 use vt100_cells::Cell;
-use vt100_cells::line::{alike_to, at, same_to};
+use vt100_cells::line::{alike_to, same_to};
 use vt100_forms::{GridError, SHORT_BYTES, TextRun};
 
 /// How many bytes a move of the cursor, a change of attributes and a short text take at most.
@@ -80,7 +80,7 @@ impl<'a> Drawing<'a> {
             if self.begins_run(pen, col) {
                 run.make_room(MOVE_CHANGE_AND_TEXT_BYTES, contents)?;
                 n = self.texts(pen, &mut run, like, n, count);
-                like = Some(at(self.cells, usize::from(col)));
+                like = Some(self.cell(col));
                 continue;
             }
             let quiet = self.after_quiet(pen, n, count);
@@ -109,7 +109,7 @@ impl<'a> Drawing<'a> {
         ensures { IsTrue result → BeginsRun (job_of self.now) col pen.now }
     {
         !self.is_same(col)
-            && at(self.cells, usize::from(col)).has_short_text()
+            && self.cell(col).has_short_text()
             && pen.erase.is_none()
             && !self.loses_by_print(col)
     }
@@ -121,7 +121,7 @@ impl<'a> Drawing<'a> {
         requires here { IsAt (job_of self.now) col pen.now }
         ensures { IsTrue result → JoinsRun (job_of self.now) col pen.now like.now.attrs }
     {
-        self.begins_run(pen, col) && at(self.cells, usize::from(col)).has_attrs_of(like)
+        self.begins_run(pen, col) && self.cell(col).has_attrs_of(like)
     }
 
     /// Gathers the texts of columns from the `n`-th of `count` on, at which the cursor stands, behind those that are in
@@ -145,7 +145,7 @@ impl<'a> Drawing<'a> {
             if !self.joins_run(pen, alike, col) {
                 break;
             }
-            let cell = at(self.cells, usize::from(col));
+            let cell = self.cell(col);
             cell.push_text(run);
             pen.pass(cell);
             alike = cell;
@@ -176,7 +176,7 @@ impl<'a> Drawing<'a> {
         ensures like { ((job_of self.now).new (self.now.start + n)).attrs ≡ pen.new.attrs }
     {
         let col = self.start + n;
-        let cell = at(self.cells, usize::from(col));
+        let cell = self.cell(col);
         self.arrive_in(pen, run, col, span(cell));
         pen.color_in(run, cell, like);
         cell.push_text(run);

@@ -2,9 +2,18 @@ use Rattle.std.proofs.Common.{sym, ◌∙◌}
 use Rattle.row_drawing.specs.Drawing.{job_of}
 use Rattle.row_drawing.specs.RowWriter.{column}
 use Rattle.row_drawing.proofs.Columns.{draw-is_same, column-is_half, column-is_whole}
-use Rattle.row_drawing.proofs.RowWrites.{refused}
-use Rattle.row_drawing.proofs.WritesLemmas.{began_first, began_then, began_as, wrote_both, wrote_by, wrote_skip}
+use Rattle.row_drawing.proofs.WritesLemmas.{began, began_first, refused, wrote_both, wrote_by, wrote_skip, writes_last}
 use Rattle.row_drawing.proofs.drawing.Drawing.change.Goals as goal
+
+pub returns-then-is_half : goal.returns-then-is_half
+returns-then-is_half c =
+    wrote_by (column-is_half _ _ _ (sym c.is_half.ensures ∙ c.if-is_half.true)) (wrote_skip _ _)
+
+pub returns-in_err-flush : goal.returns-in_err-flush
+returns-in_err-flush c =
+    refused _ (column (job_of c.args.self.now) c.args.col) c.args.pen.now _ c.from_residual.ensures.0
+    (column-is_whole _ _ _ (sym c.is_half.ensures ∙ c.if-is_half.false))
+    (began_first _ (began _ c.in_err-flush.ensures))
 
 pub returns-then-is_same : goal.returns-then-is_same
 returns-then-is_same c =
@@ -14,23 +23,7 @@ returns-then-is_same c =
 pub draw-requires : goal.draw-requires
 draw-requires c = record { in_row = c.requires; other = sym c.is_same.ensures ∙ c.if-is_same.false }
 
-pub returns-then-is_half : goal.returns-then-is_half
-returns-then-is_half c =
-    wrote_by (column-is_half _ _ _ (sym c.is_half.ensures ∙ c.if-is_half.true)) (wrote_skip _ _)
-
-pub returns-in_err-flush : goal.returns-in_err-flush
-returns-in_err-flush c =
-    refused _ (column (job_of c.args.self.now) c.args.col) c.args.pen.now _ _ _ c.from_residual.ensures.0
-    (began_as (column-is_whole _ _ _ (sym c.is_half.ensures ∙ c.if-is_half.false)) (began_first _
-    (record { is = c.in_err-flush.ensures })))
-
-pub returns-in_err-draw : goal.returns-in_err-draw
-returns-in_err-draw c =
-    refused _ (column (job_of c.args.self.now) c.args.col) c.args.pen.now _ _ _ c.from_residual-in_err-draw.ensures.0
-    (began_as (column-is_whole _ _ _ (sym c.is_half.ensures ∙ c.if-is_half.false)) (began_then c.in_ok-flush.ensures
-    (record { is = c.in_err-draw.ensures })))
-
 pub returns : goal.returns
 returns c =
-    wrote_by (column-is_whole _ _ _ (sym c.is_half.ensures ∙ c.if-is_half.false))
-    (wrote_both c.in_ok-flush.ensures c.in_ok-draw.ensures)
+    writes_last (column (job_of c.args.self.now) c.args.col) c.args.pen.now _ _ _ _
+    (column-is_whole _ _ _ (sym c.is_half.ensures ∙ c.if-is_half.false)) c.in_ok-flush.ensures c.draw.ensures

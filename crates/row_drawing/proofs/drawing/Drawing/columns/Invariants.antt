@@ -1,8 +1,8 @@
 use Rattle.std.specs.Prelude.{◌≡◌, ◌≤◌, ◌-◌, ◌++◌, IfSome, string_bytes}
-use Rattle.vt100_forms.specs.Form.{spell}
 use Rattle.row_drawing.specs.Drawing.{job_of}
 use Rattle.row_drawing.specs.RowWriter.{columns}
-use Rattle.row_drawing.specs.Writes.{IsBegun, Wrote}
+use Rattle.row_drawing.specs.Writes.{Wrote}
+use Rattle.row_drawing.proofs.WritesLemmas.{Began}
 use Rattle.row_drawing.proofs.drawing.Drawing.columns.Given as goal
 
 -- the columns so far are drawn, where the run's bytes follow those that are appended already, and `like`, if it is
@@ -12,7 +12,7 @@ invariant-loop-n l = record {
   within : l.n ≤ l.count;
   drawn : Wrote (columns (job_of l.self) l.n) l.initial.pen (string_bytes l.initial.contents) l.pen
       (string_bytes l.contents ++ l.run);
-  begun : IsBegun (string_bytes l.initial.contents) (spell (columns (job_of l.self) l.count l.initial.pen).forms)
+  begun : Began (columns (job_of l.self) l.count) l.initial.pen (string_bytes l.initial.contents)
       (string_bytes l.contents);
   like : IfSome l.like (λ x. x.now.attrs ≡ l.pen.attrs);
 }

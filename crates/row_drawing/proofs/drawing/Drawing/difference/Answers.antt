@@ -1,8 +1,7 @@
 use Rattle.row_drawing.specs.Drawing.{job_of}
 use Rattle.row_drawing.specs.RowWriter.{row_difference}
 use Rattle.row_drawing.proofs.KeptRows.{difference-is, settled_kept, wrote_difference_kept}
-use Rattle.row_drawing.proofs.RowWrites.{refused}
-use Rattle.row_drawing.proofs.WritesLemmas.{began_first, began_then, began_as, wrote_both, wrote_by}
+use Rattle.row_drawing.proofs.WritesLemmas.{began, began_first, refused, writes_last}
 use Rattle.row_drawing.proofs.drawing.Drawing.difference.Goals as goal
 
 pub returns-then-is_settled : goal.returns-then-is_settled
@@ -12,16 +11,10 @@ returns-then-is_settled c =
 
 pub returns-in_err-redraw_behind : goal.returns-in_err-redraw_behind
 returns-in_err-redraw_behind c =
-    refused _ (row_difference (job_of c.args.self.now) c.args.count) c.args.pen.now _ _ _ c.from_residual.ensures.0
-    (began_as (difference-is _ _ _) (began_first _ (record { is = c.in_err-redraw_behind.ensures })))
-
-pub returns-in_err-closing : goal.returns-in_err-closing
-returns-in_err-closing c =
-    refused _ (row_difference (job_of c.args.self.now) c.args.count) c.args.pen.now _ _ _
-    c.from_residual-in_err-closing.ensures.0
-    (began_as (difference-is _ _ _) (began_then c.in_ok-redraw_behind.ensures
-    (record { is = c.in_err-closing.ensures })))
+    refused _ (row_difference (job_of c.args.self.now) c.args.count) c.args.pen.now _ c.from_residual.ensures.0
+    (difference-is _ _ _) (began_first _ (began _ c.in_err-redraw_behind.ensures))
 
 pub returns : goal.returns
 returns c =
-    wrote_by (difference-is _ _ _) (wrote_both c.in_ok-redraw_behind.ensures c.in_ok-closing.ensures)
+    writes_last (row_difference (job_of c.args.self.now) c.args.count) c.args.pen.now _ _ _ _ (difference-is _ _ _)
+    c.in_ok-redraw_behind.ensures c.closing.ensures

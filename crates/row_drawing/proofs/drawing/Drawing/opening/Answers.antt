@@ -1,11 +1,10 @@
-use Rattle.std.proofs.Common.{sym, ap, ◌∙◌}
-use Rattle.vt100_cells.specs.Cells.{cell_at}
+use Rattle.std.proofs.Common.{sym, ◌∙◌, arith}
 use Rattle.row_drawing.specs.Drawing.{job_of}
 use Rattle.row_drawing.specs.RowWriter.{opening}
-use Rattle.row_drawing.proofs.OpeningWrites.{opening-as, turned_room}
-use Rattle.row_drawing.proofs.RowStart.{opening-none}
-use Rattle.row_drawing.proofs.RowWrites.{refused, wrote_turn}
-use Rattle.row_drawing.proofs.WritesLemmas.{began_first, began_then, began_as, wrote_both, wrote_by, wrote_skip}
+use Rattle.row_drawing.proofs.RowWrites.{turned_col, colored_col, wrote_turn}
+use Rattle.row_drawing.proofs.RowStart.{opening-none, opening-some}
+use Rattle.row_drawing.proofs.WritesLemmas.{began, began_first, began_then, refused, writes_last}
+use Rattle.row_drawing.proofs.WritesLemmas.{wrote_both, wrote_by, wrote_skip}
 use Rattle.row_drawing.proofs.drawing.Drawing.opening.Goals as goal
 
 pub returns-then-not-owes_flag : goal.returns-then-not-owes_flag
@@ -14,27 +13,18 @@ returns-then-not-owes_flag c =
 
 pub reprint-requires : goal.reprint-requires
 reprint-requires c =
-    turned_room _ _ _ _ _ _ _ c.turn.ensures c.in_ok-color.ensures
+    let first = turned_col _ _ _ c.turn.ensures in
+    let same = colored_col _ c.in_ok-color_as.ensures in
+    omega (arith, first, same)
 
-pub returns-in_err-color : goal.returns-in_err-color
-returns-in_err-color c =
-    let here = c.at-first.ensures ∙ ap (cell_at c.args.self.now.cells.now) c.from.ensures in
-    refused _ (opening (job_of c.args.self.now)) c.args.pen.now _ _ _ c.from_residual.ensures.0
-    (began_as (opening-as (job_of c.args.self.now) _ _ _ here c.attrs.ensures
-    (sym c.owes_flag.ensures ∙ c.if-not-owes_flag.false))
-    (began_first _ (began_then (wrote_turn _ _ _ _ c.turn.ensures) (record { is = c.in_err-color.ensures }))))
-
-pub returns-in_err-reprint : goal.returns-in_err-reprint
-returns-in_err-reprint c =
-    let here = c.at-first.ensures ∙ ap (cell_at c.args.self.now.cells.now) c.from.ensures in
-    refused _ (opening (job_of c.args.self.now)) c.args.pen.now _ _ _ c.from_residual-in_err-reprint.ensures.0
-    (began_as (opening-as (job_of c.args.self.now) _ _ _ here c.attrs.ensures
-    (sym c.owes_flag.ensures ∙ c.if-not-owes_flag.false))
-    (began_then (wrote_both (wrote_turn _ _ _ _ c.turn.ensures) c.in_ok-color.ensures)
-    (record { is = c.in_err-reprint.ensures })))
+pub returns-in_err-color_as : goal.returns-in_err-color_as
+returns-in_err-color_as c =
+    refused _ (opening (job_of c.args.self.now)) c.args.pen.now _ c.from_residual.ensures.0
+    (opening-some _ _ _ c.cell-first.ensures (sym c.owes_flag.ensures ∙ c.if-not-owes_flag.false))
+    (began_first _ (began_then (wrote_turn _ _ _ _ c.turn.ensures) (began _ c.in_err-color_as.ensures)))
 
 pub returns : goal.returns
 returns c =
-    let here = c.at-first.ensures ∙ ap (cell_at c.args.self.now.cells.now) c.from.ensures in
-    wrote_by (opening-as _ _ _ _ here c.attrs.ensures (sym c.owes_flag.ensures ∙ c.if-not-owes_flag.false)) (wrote_both
-    (wrote_both (wrote_turn _ _ _ _ c.turn.ensures) c.in_ok-color.ensures) c.in_ok-reprint.ensures)
+    writes_last (opening (job_of c.args.self.now)) c.args.pen.now _ _ _ _
+    (opening-some _ _ _ c.cell-first.ensures (sym c.owes_flag.ensures ∙ c.if-not-owes_flag.false))
+    (wrote_both (wrote_turn _ _ _ _ c.turn.ensures) c.in_ok-color_as.ensures) c.reprint.ensures

@@ -3,7 +3,7 @@ use Rattle.std.proofs.lemmas.Bool.{eqb-true}
 use Rattle.std.proofs.lemmas.List.{get_or_past}
 use Rattle.vt100_cells.specs.Cell.{default_cell}
 use Rattle.row_drawing.specs.Drawing.{job_of}
-use Rattle.row_drawing.proofs.QuietColumns.{erased_is_quiet, same_is_quiet}
+use Rattle.row_drawing.proofs.KeptRows.{erased_is_quiet, same_is_quiet}
 use Rattle.row_drawing.proofs.drawing.Drawing.quiet_to.Goals as goal
 
 pub returns-in-Some-clause-quiet : goal.returns-in-Some-clause-quiet

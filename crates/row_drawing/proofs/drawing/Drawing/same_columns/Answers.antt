@@ -1,6 +1,6 @@
 use Rattle.std.proofs.Common.{◌+◌, arith}
 use Rattle.row_drawing.specs.Drawing.{job_of}
-use Rattle.row_drawing.proofs.QuietColumns.{same_is_quiet}
+use Rattle.row_drawing.proofs.KeptRows.{same_is_quiet}
 use Rattle.row_drawing.proofs.drawing.Drawing.same_columns.Goals as goal
 
 pub returns-in-None-clause-quiet : goal.returns-in-None-clause-quiet

@@ -1,8 +1,7 @@
 use Rattle.std.proofs.Common.{sym, ◌∙◌}
-use Rattle.std.specs.Prelude.{string_bytes}
-use Rattle.row_drawing.proofs.WritesLemmas.{wrote_color_same}
+use Rattle.vt100_cells.specs.CellEq.{attrs_eq-true}
+use Rattle.row_drawing.proofs.WritesLemmas.{color_same}
 use Rattle.row_drawing.proofs.pen.Pen.color.Goals as goal
 
 pub returns-then-draws_with : goal.returns-then-draws_with
-returns-then-draws_with c = wrote_color_same c.args.self.now c.args.attrs (string_bytes c.args.contents.now)
-    (sym c.draws_with.ensures ∙ c.if-draws_with.true)
+returns-then-draws_with c = color_same _ _ _ (attrs_eq-true _ _ (sym c.draws_with.ensures ∙ c.if-draws_with.true))

@@ -1,8 +1,12 @@
-use Rattle.std.proofs.Common.{◌++◌, ap, ◌∙◌, sym, append-nil}
-use Rattle.std.specs.Prelude.{string_bytes, encode_utf8}
-use Rattle.row_drawing.proofs.WritesLemmas.{wrote_space}
+use Rattle.std.proofs.Common.{[], ◌∷◌, ◌++◌, ap, refl, ◌∙◌, sym, append-nil}
+use Rattle.std.specs.Prelude.{string_bytes, encode_utf8, encode_utf8_all}
+use Rattle.row_drawing.specs.Writer.{space}
 use Rattle.row_drawing.proofs.pen.Pen.space.Goals as goal
 
 pub returns : goal.returns
-returns c = wrote_space _ _ _ (c.in_ok-push.ensures.bytes ∙ ap (λ bs. string_bytes c.args.contents.now ++ bs) (sym
-    (append-nil (encode_utf8 32))))
+unfolding space
+returns c = record {
+  pen_is = refl;
+  text_is = c.in_ok-push.ensures.bytes ∙ ap (λ bs. string_bytes c.args.contents.now ++ bs) (sym (append-nil
+      (encode_utf8 32)) ∙ sym (append-nil (encode_utf8_all (32 ∷ []))));
+}

@@ -1,35 +1,21 @@
-use Rattle.std.proofs.Common.{sym, ◌∙◌, true}
+use Rattle.std.proofs.Common.{sym, ◌∙◌}
 use Rattle.row_drawing.specs.RowWriter.{unflag}
-use Rattle.row_drawing.specs.Writer.{erasing}
-use Rattle.row_drawing.proofs.ClosingWrites.{empty_as}
-use Rattle.row_drawing.proofs.RowEnd.{unflag-full}
-use Rattle.row_drawing.proofs.RowWrites.{refused}
-use Rattle.row_drawing.proofs.WritesLemmas.{began_first, began_then, began_as, wrote_both, wrote_by}
+use Rattle.row_drawing.proofs.RowEnd.{unflag-empty}
+use Rattle.row_drawing.proofs.WritesLemmas.{began, began_first, refused, writes_last}
 use Rattle.row_drawing.proofs.pen.Pen.unflag.Goals as goal
 
-pub returns-in_err-erase : goal.returns-in_err-erase
-returns-in_err-erase c =
-    refused _ (unflag c.args.cell.now) c.args.self.now _ _ _ c.from_residual.ensures.0
-    (began_as {f = erasing 1 true} (unflag-full _ _ (sym c.has_contents.ensures ∙ c.if-has_contents.true))
-    (record { is = c.in_err-erase.ensures }))
-
 pub returns-then-has_contents : goal.returns-then-has_contents
-returns-then-has_contents c =
-    wrote_by (unflag-full _ _ (sym c.has_contents.ensures ∙ c.if-has_contents.true)) c.in_ok-erase.ensures
+unfolding unflag
+returns-then-has_contents c = rw (sym c.has_contents.ensures ∙ c.if-has_contents.true) c.erase.ensures
 
-pub returns-in_err-color : goal.returns-in_err-color
-returns-in_err-color c =
-    refused _ (unflag c.args.cell.now) c.args.self.now _ _ _ c.from_residual-in_err-color.ensures.0
-    (began_as (empty_as _ _ _ (sym c.has_contents.ensures ∙ c.if-has_contents.false) c.attrs.ensures) (began_first _
-    (record { is = c.in_err-color.ensures })))
-
-pub returns-in_err-erase-2 : goal.returns-in_err-erase-2
-returns-in_err-erase-2 c =
-    refused _ (unflag c.args.cell.now) c.args.self.now _ _ _ c.from_residual-in_err-erase-2.ensures.0
-    (began_as (empty_as _ _ _ (sym c.has_contents.ensures ∙ c.if-has_contents.false) c.attrs.ensures)
-    (began_then c.in_ok-color.ensures (record { is = c.in_err-erase-2.ensures })))
+pub returns-in_err-color_as : goal.returns-in_err-color_as
+returns-in_err-color_as c =
+    refused _ (unflag c.args.cell.now) c.args.self.now _ c.from_residual.ensures.0
+    (unflag-empty _ _ (sym c.has_contents.ensures ∙ c.if-has_contents.false))
+    (began_first _ (began _ c.in_err-color_as.ensures))
 
 pub returns : goal.returns
 returns c =
-    wrote_by (empty_as _ _ _ (sym c.has_contents.ensures ∙ c.if-has_contents.false) c.attrs.ensures)
-    (wrote_both c.in_ok-color.ensures c.in_ok-erase-2.ensures)
+    writes_last (unflag c.args.cell.now) c.args.self.now _ _ _ _
+    (unflag-empty _ _ (sym c.has_contents.ensures ∙ c.if-has_contents.false)) c.in_ok-color_as.ensures
+    c.erase-2.ensures
