@@ -11,16 +11,15 @@ use Rattle.row_drawing.specs.declared.pen.Erase.{Erase}
 use Rattle.row_drawing.specs.declared.pen.Pen.{Pen}
 use Rattle.row_drawing.specs.Drawing.{job_of, AreQuiet, IsSettled}
 use Rattle.row_drawing.specs.Writer.{Drawn, Writer, ◌>>◌, skip}
-use Rattle.row_drawing.specs.RowWriter.{Job, is_same, opening, flush, finish, draw, column, columns, closing, is_end}
+use Rattle.row_drawing.specs.RowWriter.{Job, opening, flush, finish, draw, column, columns, closing, is_end}
 use Rattle.row_drawing.specs.RowWriter.{owes_end, row_redraw, row_difference, IsRowShown}
 use Rattle.row_drawing.specs.Writes.{Wrote}
 use Rattle.row_drawing.specs.Laws.{EachKeptRowIsLeft}
 use Rattle.row_drawing.proofs.Columns.{draw-is_same, draw-passes, flush-is_kept, flush-is_none, finish-is_none}
 use Rattle.row_drawing.proofs.Columns.{column-is_half, column-is_whole}
-use Rattle.row_drawing.proofs.ColumnsWrites.{wrote_columns_next}
 use Rattle.row_drawing.proofs.RowEnd.{closing-none}
 use Rattle.row_drawing.proofs.RowStart.{opening-none}
-use Rattle.row_drawing.proofs.WritesLemmas.{wrote_by, wrote_skip}
+use Rattle.row_drawing.proofs.WritesLemmas.{wrote_by, wrote_columns_next, wrote_skip}
 
 -- two writers that write nothing
 skips-then : (f g : Writer) (p : Pen) → f p ≡ skip p → g p ≡ skip p → (f >> g) p ≡ skip p

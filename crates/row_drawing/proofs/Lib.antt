@@ -1,5 +1,4 @@
 pub mod Columns
-pub mod ColumnsWrites
 pub mod DrawnTexts
 pub mod Examples
 pub mod KeptRows
@@ -15,7 +14,6 @@ pub mod RowReads
 pub mod RowRedraw
 pub mod RowStart
 pub mod RowWrites
-pub mod RunWrites
 pub mod SmallRows
 pub mod Steps
 pub mod Texts

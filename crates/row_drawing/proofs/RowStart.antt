@@ -94,9 +94,6 @@ not-owed s p h ready off =
 
 -- ---- the first cell once more
 
-pub first-whole : (s : Scene) → IsScene s → (s.job.old 0).continuation ≡ false
-first-whole s h = h.old.paired.first
-
 -- over itself, a wide cell empties nothing else
 same_unflags : (s : Scene) → IsScene s → s.job.old 0 ≡ s.job.new 0
     → put_unflags s.job.cols s.job.old 0 (s.job.new 0) ≡ false
@@ -118,7 +115,7 @@ spaced-line s b h same is =
       written = λ k high. absurd (omega arith);
       rest = λ k low. grind (arith, nat_tests, space, single, narrow);
       here = λ q. grind (arith, nat_tests);
-      broken = λ q. absurd (both_ways (j.old 0).continuation (first-whole s h) q);
+      broken = λ q. absurd (both_ways (j.old 0).continuation h.old.paired.first q);
     }
 
 -- no column is drawn yet
@@ -139,12 +136,12 @@ module _ (s : Scene) (h : IsScene s) (C : ℕ → Type 0) (S : ℕ → ℕ → T
       let j = s.job in
       let x = j.new 0 in
       let fits = room-for s h 0 h.some_col in
-      let begun = line-begun j.old j.new (first-whole s h) in
+      let begun = line-begun j.old j.new h.old.paired.first in
       let G : ℕ → Bool = update s.flags r true in
       let prints = reads-print_turned {S = S} s s.flags j.old r k x None lost false h now (sends s h 0 some) (omega (arith, fits))
       (put-room s C S h o 0 j.old begun h.new.paired.first h.some_col here) in
       let line : put j.old 0 x x.attrs ≡ j.old = ap (λ y. put j.old 0 y x.attrs) (sym same)
-      ∙ line-reprinted j.old 0 x.attrs h.old.paired (first-whole s h) in
+      ∙ line-reprinted j.old 0 x.attrs h.old.paired h.old.paired.first in
       let flags : kept_or_off (put_unflags j.cols j.old 0 x) G j.row ≡ G = ap (λ b. kept_or_off b G j.row)
       (same_unflags s h same) in
       let there : (n : ℕ) → span_of x ≡ n → Reads S s (print x false) (pen j.row 0 x.attrs None lost)
@@ -176,7 +173,7 @@ module _ (s : Scene) (h : IsScene s) (C : ℕ → Type 0) (S : ℕ → ℕ → T
       let x = j.new 0 in
       let is : x ≡ empty_cell x.attrs = empty-is x (h.cells 0) none h.new.paired.first in
       let span : span_of x ≡ 1 = span-narrow x (ap (λ (y : CellView). y.wide) is) in
-      let begun = line-begun j.old j.new (first-whole s h) in
+      let begun = line-begun j.old j.new h.old.paired.first in
       let G : ℕ → Bool = update s.flags r true in
       let g : ℕ → CellView = put j.old 0 (cell_of 32 x.attrs) x.attrs in
       let loses = wipe_unflags j.cols j.old 0 1 in
@@ -203,7 +200,7 @@ module _ (s : Scene) (h : IsScene s) (C : ℕ → Type 0) (S : ℕ → ℕ → T
       let p = pen r k a None lost in
       elim (cases_Bool (owes_flag j p)) [
         | inr off ↦ ends (reads-as (opening-none j p off) reads-skip) (begins s s.flags j.old r k a lost h ha
-            (line-begun j.old j.new (first-whole s h)) (not-owed s p h ready off))
+            (line-begun j.old j.new h.old.paired.first) (not-owed s p h ready off))
         | inl owed ↦
             (let parts = and_parts (j.above && not j.was_above) _ owed in
             let both = and_parts (is_same j j.start) _ parts.1 in

@@ -1,26 +1,28 @@
 -- A row's writer, piece by piece, as the code appends it.
-use Rattle.std.proofs.Common.{◌≡◌, ℕ, ◌+◌, ◌<◌, Bool, true, false, List, None}
-use Rattle.std.proofs.Common.{Result, Ok, Err, arith, refl, sym, ap, ◌∙◌, append-nil}
-use Rattle.std.specs.Prelude.{is_ok, length}
+use Rattle.std.proofs.Common.{◌≡◌, ℕ, ◌+◌, ◌<◌, ◌≤◌, ◌==◌, true, false, ◌&&◌, not, List, ◌++◌, Result, Ok, Err}
+use Rattle.std.proofs.Common.{arith, refl, sym, ap, ◌∙◌, append-nil, append_assoc, inl, inr, subst}
+use Rattle.std.specs.Prelude.{is_ok, length, encode_utf8_all, nat_lt}
 use Rattle.std.specs.Result.{IsErr}
 use Rattle.std.proofs.lemmas.Bool.Decides.{nat_tests}
-use Rattle.std.proofs.lemmas.Bool.{cond_both, false≢true}
+use Rattle.std.proofs.lemmas.Bool.{and_parts, cases_Bool, cond_both, false≢true, ne_eqb}
 use Rattle.vt100_forms.specs.declared.attrs.Attrs.{Attrs}
 use Rattle.vt100_forms.specs.declared.position.Pos.{Pos}
 use Rattle.vt100_forms.specs.Form.{spell}
+use Rattle.vt100_cells.proofs.CellLemmas.{or-false}
 use Rattle.vt100_cells.specs.Cell.{CellView, has_text}
+use Rattle.vt100_cells.specs.CellEq.{attrs_eq-true}
 use Rattle.vt100_cells.specs.Cells.{cell_at}
 use Rattle.vt100_cells.specs.Line.{IsPaired, span_of}
 use Rattle.vt100_cells.proofs.LineLemmas.{wide_within}
 use Rattle.vt100_cells.proofs.ListLemmas.{Bounded-row}
 use Rattle.row_drawing.specs.declared.pen.Pen.{Pen}
-use Rattle.row_drawing.specs.Drawing.{IsAt}
-use Rattle.row_drawing.specs.Writer.{Writer, ◌>>◌, goto, turn, color, erasing, marking}
-use Rattle.row_drawing.specs.RowWriter.{Job, flush, arrive, last_col_of, unflag}
+use Rattle.row_drawing.specs.Drawing.{behind, BeginsRun, GoesTo, IsAt, JoinsRun}
+use Rattle.row_drawing.specs.Writer.{Writer, ◌>>◌, goto, turn, color, print, erasing, marking}
+use Rattle.row_drawing.specs.RowWriter.{Job, arrive, column, last_col_of, unflag}
 use Rattle.row_drawing.specs.Writes.{IsBegun, Wrote, Writes}
-use Rattle.row_drawing.proofs.RowLeads.{arrive-pen}
-use Rattle.row_drawing.proofs.Columns.{flush-is_none}
-use Rattle.row_drawing.proofs.WritesLemmas.{wrote_by, wrote_skip}
+use Rattle.row_drawing.proofs.RowLeads.{arrive-pen, arrive-goto}
+use Rattle.row_drawing.proofs.Columns.{column-is_half, column-is_whole, draw-full, flush-is_none}
+use Rattle.row_drawing.proofs.WritesLemmas.{color_same, goto_here, wrote_both, wrote_by, wrote_columns_next, wrote_skip}
 
 -- a call that was refused
 pub on_err : {T E : Type 0} (r : Result T E) (f : Writer) (p : Pen) (s : List ℕ) (q : Pen) (t : List ℕ) → IsErr r
@@ -73,11 +75,115 @@ span_fits cells n x k is few paired inside here =
     let within = wide_within (length cells) (cell_at cells) n (Bounded-row cells) paired in
     rw is (grind (arith, nat_tests, within))
 
--- ---- what is to be erased
-
-pub wrote_flush_none : (j : Job) (n : ℕ) (p : Pen) (s : List ℕ) → p.erase ≡ None → Wrote (flush j n) p s p s
-wrote_flush_none j n p s e = wrote_by (flush-is_none j n p e) (wrote_skip p s)
-
 -- the last cell stands in the row
 pub last_inside : (j : Job) (c : ℕ) → 0 < j.cols → c ≡ last_col_of j → c < j.cols
 last_inside j c some e = rw e (grind (arith, nat_tests))
+
+-- ---- a column that is drawn
+
+wrote_arrive_here : (j : Job) (c n : ℕ) (p : Pen) (s : List ℕ) → IsAt j c p → Wrote (arrive j c n) p s p s
+wrote_arrive_here j c n p s here =
+    let below = here.row in
+    wrote_by (arrive-goto j c n p (grind (arith, nat_tests)))
+    (goto_here p (record { row = j.row; col = c }) s (λ i. record { row = here.row i; col = here.col i }))
+
+-- the cursor comes there, the attributes are set, and then the text is printed
+pub wrote_column_on : {p v r q : Pen} {s w u t : List ℕ} (j : Job) (c m : ℕ) (x : CellView) → x ≡ j.new c
+    → m ≡ span_of x → BeginsRun j c p → Wrote (arrive j c m) p s v w → Wrote (color x.attrs) v w r u
+    → Wrote (print x false) r u q t → Wrote (column j c) p s q t
+wrote_column_on {p = p} {s = s} j c m x is span on arrived colored printed =
+    let drawn = draw-full j c p x m false is on.other (ap has_text is ∙ on.filled) span (sym on.keeps) in
+    wrote_by (column-is_whole j c p on.whole) (wrote_both (wrote_by (flush-is_none j c p on.closed) (wrote_skip p s))
+    (wrote_by drawn (wrote_both (wrote_both arrived colored) printed)))
+
+pub colored_attrs : {p r : Pen} {s u : List ℕ} (a : Attrs) → Wrote (color a) p s r u → r.attrs ≡ a
+unfolding color
+colored_attrs a h = sym (ap (λ (y : Pen). y.attrs) h.pen_is)
+
+-- the attributes stay as the cursor comes there
+pub arrived_attrs : {p v : Pen} {s w : List ℕ} (j : Job) (c n : ℕ) → Wrote (arrive j c n) p s v w → v.attrs ≡ p.attrs
+arrived_attrs {p = p} j c n h = ap (λ (y : Pen). y.attrs) (sym h.pen_is ∙ arrive-pen j c n p)
+
+-- ---- the text of one cell
+
+pub wrote_text : {p q : Pen} (x : CellView) (t r u : List ℕ) → q ≡ (print x false p).pen
+    → u ≡ r ++ encode_utf8_all x.text → Wrote (print x false) p (t ++ r) q (t ++ u)
+unfolding print
+wrote_text {p = p} x t r u pen text = record {
+  pen_is = sym pen;
+  text_is = ap (λ bs. t ++ bs) text ∙ sym (append_assoc t r (encode_utf8_all x.text))
+      ∙ ap (λ bs. (t ++ r) ++ bs) (sym (append-nil (encode_utf8_all x.text)));
+}
+
+-- the pen after it
+pub passed : (x : CellView) (p : Pen) (n : ℕ) → n ≡ span_of x
+    → record p { pos = record (p.pos) { col = p.pos.col + n } } ≡ (print x false p).pen
+unfolding print
+passed x p n e =
+    λ i. record p { pos = record (p.pos) { col = p.pos.col + e i }; lost = sym (or-false p.lost) i }
+
+pub pass-attrs : (x : CellView) (p q : Pen) → q ≡ (print x false p).pen → q.attrs ≡ p.attrs
+unfolding print
+pass-attrs x p q e = ap (λ (r : Pen). r.attrs) e
+
+-- it is drawn with the attributes of those before it
+pub joined_attrs : {j : Job} {c : ℕ} {p : Pen} {a : Attrs} (x : CellView) → x ≡ j.new c → JoinsRun j c p a
+    → a ≡ x.attrs
+joined_attrs {a = a} x is h = sym (attrs_eq-true _ a h.attrs) ∙ ap (λ (y : CellView). y.attrs) (sym is)
+
+-- a cell joins the run
+pub wrote_joined : {j : Job} {c : ℕ} {p q : Pen} {a : Attrs} {s t : List ℕ} (x : CellView) → x ≡ j.new c → p.attrs ≡ a
+    → JoinsRun j c p a → Wrote (print x false) p s q t → Wrote (column j c) p s q t
+wrote_joined {j = j} {c = c} {p = p} {s = s} x is drawn h printed =
+    wrote_column_on j c (span_of x) x is refl h.begins (wrote_arrive_here j c (span_of x) p s h.here)
+    (color_same p x.attrs s (drawn ∙ joined_attrs x is h)) printed
+
+-- ---- several columns
+
+pub goes_none : {j : Job} {n : ℕ} {p : Pen} {s : List ℕ} → GoesTo j n n p s p s
+goes_none = record { goes = λ p0 s0 w. w }
+
+pub goes_then : {j : Job} {n m k : ℕ} {p q r : Pen} {s t u : List ℕ} → GoesTo j n m p s q t → GoesTo j m k q t r u
+    → GoesTo j n k p s r u
+goes_then a b = record { goes = λ p0 s0 w. b.goes p0 s0 (a.goes p0 s0 w) }
+
+goes_next : {j : Job} {n m : ℕ} {p q r : Pen} {s t u : List ℕ} → GoesTo j n m p s q t
+    → Wrote (column j (j.start + m)) q t r u → GoesTo j n (m + 1) p s r u
+goes_next {j = j} {m = m} a b = record { goes = λ p0 s0 w. wrote_columns_next j m (a.goes p0 s0 w) b }
+
+second_half : (j : Job) (m : ℕ) → IsPaired j.new → (j.new (j.start + m)).wide ≡ true
+    → ((j.new (j.start + (m + 1))).continuation && not (j.start + (m + 1) == j.start)) ≡ true
+second_half j m paired wide =
+    let after : j.start + (m + 1) ≡ j.start + m + 1 = omega arith in
+    let next : (j.new (j.start + (m + 1))).continuation ≡ true =
+    ap (λ c. (j.new c).continuation) after ∙ paired.next (j.start + m) ∙ wide in
+    let apart : (j.start + (m + 1) == j.start) ≡ false = ne_eqb (j.start + (m + 1)) j.start (λ f. omega (arith, f)) in
+    rw (next, apart) refl
+
+-- one cell more: the second half of a wide one comes with it
+pub goes_on : {j : Job} {n m : ℕ} {p q r : Pen} {s t u : List ℕ} (i k : ℕ) (x : CellView) → i ≡ behind x m k
+    → IsPaired j.new → x ≡ j.new (j.start + m) → GoesTo j n m p s q t → Wrote (column j (j.start + m)) q t r u
+    → GoesTo j n i p s r u
+goes_on {j = j} {n = n} {m = m} {p = p} {r = r} {s = s} {u = u} i k x behind_is paired is a b =
+    let next = goes_next a b in
+    let moved : GoesTo j n (behind x m k) p s r u = (elim (cases_Bool (x.wide && nat_lt (m + 1) k)) [
+      | inl both ↦ (let wide = ap (λ (y : CellView). y.wide) (sym is) ∙ (and_parts x.wide (nat_lt (m + 1) k) both).0 in
+          let two : m + 1 + 1 ≡ m + 2 = omega arith in
+          let half = wrote_by (column-is_half j _ r (second_half j m paired wide)) (wrote_skip r u) in
+          rw both (subst (λ l. GoesTo j n l p s r u) two (goes_next next half)))
+      | inr one ↦ rw one next
+    ]) in
+    subst (λ l. GoesTo j n l p s r u) (sym behind_is) moved
+
+-- it lies behind
+pub behind-within : (x : CellView) (n k i : ℕ) → i ≡ behind x n k → n < k → (n < i) × (i ≤ k)
+behind-within x n k i e inside = rw e (grind (arith, nat_tests), grind (arith, nat_tests))
+
+-- the cursor stands behind it
+pub here_behind : (j : Job) (n k i : ℕ) (p q : Pen) (x : CellView) → i ≡ behind x n k → q ≡ (print x false p).pen
+    → IsAt j (j.start + n) p → i < k → IsAt j (j.start + i) q
+unfolding print
+here_behind j n k i p q x e pen here inside =
+    let col = here.col in
+    let next : p.pos.col + span_of x ≡ j.start + i = rw e (grind (arith, nat_tests)) in
+    record { row = ap (λ (r : Pen). r.pos.row) pen ∙ here.row; col = ap (λ (r : Pen). r.pos.col) pen ∙ next }

@@ -6,9 +6,8 @@ use Rattle.std.proofs.lemmas.Bool.{lt-leb, both_ways, cond_both, and_parts, eqb-
 use Rattle.std.proofs.lemmas.Bool.{false≢true, ltb-true}
 use Rattle.std.proofs.lemmas.Bool.Decides.{nat_tests}
 use Rattle.vt100_forms.specs.declared.attrs.Attrs.{Attrs}
-use Rattle.vt100_forms.specs.declared.position.Pos.{Pos}
 use Rattle.vt100_forms.specs.Form.{Form, Text, MoveTo, MoveRight, EraseChar, ClearAttrs, Crlf}
-use Rattle.vt100_forms.specs.Form.{Sgr, changed_attrs, moves}
+use Rattle.vt100_forms.specs.Form.{Sgr, changed_attrs}
 use Rattle.vt100_cells.specs.Cell.{CellView, IsCell, IsCellText, IsWideAs, cell_of, columns_of, appended_plain}
 use Rattle.vt100_cells.specs.Cell.{is_filled, is_undrawable}
 use Rattle.vt100_cells.specs.Line.{span_of, put, base_col}
@@ -101,9 +100,6 @@ print-behind z y u whole = record {
       ∙ put-base (u.cell u.row) u.col y u.attrs whole;
 }
 
-put_touches-at : (f : ℕ → CellView) (i : ℕ) (x : CellView) (k : ℕ) → k ≡ i → put_touches f i x k ≡ true
-put_touches-at f i x k e = or_left (k == i) _ (eq-eqb k i e)
-
 -- the first character is put at column n of row i, over the line f
 pub record IsFirst (z : Size) (x : CellView) (c : ℕ) (t : Term) (i n : ℕ) (f : ℕ → CellView) : Type 0 where
   touched : (r k : ℕ) → input_touches z c t r k ≡ true → (r ≡ i) × (put_touches f n x k ≡ true)
@@ -116,7 +112,7 @@ first-text z x c cs t i n f r k h none q =
     elim (or-split (input_touches z c t r k) _ q) [
       | inl first ↦ h.touched r k first
       | inr later ↦ (let there = zeros-touch z cs i n (input z c t) r k none h.behind later in
-          (there.0, put_touches-at f n x k there.1))
+          (there.0, or_left (k == n) _ (eq-eqb k n there.1)))
     ]
 
 -- what the first character of a cell's text is
@@ -230,19 +226,13 @@ pub form-idle : (S : ℕ → ℕ → Type 0) (z : Size) (f : Form) (t : Term) �
     → Within S z (f ∷ []) t
 form-idle S z f t h = form-within S z f t (λ r k l e. absurd (both_ways (form_touches z f t r k) (h r k) e))
 
-moves-idle : (S : ℕ → ℕ → Type 0) (z : Size) (p q : Pos) (t : Term) → t.row ≡ p.row → q.row < z.rows
-    → Within S z (moves p q) t
-unfolding form_touches
-moves-idle S z p q t here room =
-    moves-cases (λ fs. Within S z fs t) p q
-    (λ next. form-idle S z Crlf t (λ r k. lt-leb z.rows (t.row + 1) (omega (arith, next, here)))) tt
-    (form-idle S z (MoveRight (q.col - p.col)) t (λ r k. refl))
-    (form-idle S z (MoveTo q.row q.col) t (λ r k. refl))
-
 pub stays-goto : (S : ℕ → ℕ → Type 0) (z : Size) (row col : ℕ) (p : Pen) (t : Term) → t.row ≡ p.pos.row → row < z.rows
     → Stays S z (goto row col) p t
-unfolding goto
-stays-goto S z row col p t here room = moves-idle S z p.pos (record { row = row; col = col }) t here room
+unfolding goto form_touches
+stays-goto S z row col p t here room =
+    moves-cases (λ fs. Within S z fs t) p.pos (record { row = row; col = col })
+    (λ next. form-idle S z Crlf t (λ r k. lt-leb z.rows (t.row + 1) (omega (arith, next, here, room)))) tt
+    (form-idle S z (MoveRight (col - p.pos.col)) t (λ r k. refl)) (form-idle S z (MoveTo row col) t (λ r k. refl))
 
 pub stays-color : (S : ℕ → ℕ → Type 0) (z : Size) (a : Attrs) (p : Pen) (t : Term) → Stays S z (color a) p t
 unfolding color form_touches

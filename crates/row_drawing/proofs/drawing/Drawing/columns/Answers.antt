@@ -4,10 +4,9 @@ use Rattle.vt100_cells.specs.Cell.{CellView}
 use Rattle.row_drawing.specs.Drawing.{job_of, AreQuiet}
 use Rattle.row_drawing.specs.RowWriter.{columns}
 use Rattle.row_drawing.specs.Writes.{Wrote}
-use Rattle.row_drawing.proofs.ColumnsWrites.{began_columns_all, began_columns_at, began_columns_moved}
-use Rattle.row_drawing.proofs.ColumnsWrites.{wrote_columns_next, wrote_columns_none}
 use Rattle.row_drawing.proofs.KeptRows.{wrote_columns_quiet}
-use Rattle.row_drawing.proofs.WritesLemmas.{began, began_none, refused}
+use Rattle.row_drawing.proofs.WritesLemmas.{began, began_columns_all, began_columns_at, began_columns_moved, began_none}
+use Rattle.row_drawing.proofs.WritesLemmas.{refused, wrote_columns_next, wrote_columns_none}
 use Rattle.row_drawing.proofs.drawing.Drawing.columns.Goals as goal
 
 pub loop-n-init : goal.loop-n-init
@@ -46,10 +45,9 @@ loop-n-preserved-then-begins_run c =
 
 pub loop-n-preserved-then-quiet-n : goal.loop-n-preserved-then-quiet-n
 loop-n-preserved-then-quiet-n c =
-    let j = job_of c.args.self.now in
     record {
       within = c.after_quiet-quiet.ensures.within.1;
-      drawn = wrote_columns_quiet j _ _ c.after_quiet-quiet.ensures.within.0 c.after_quiet-quiet.ensures.quiet
+      drawn = wrote_columns_quiet (job_of c.args.self.now) _ _ c.after_quiet-quiet.ensures.within.0 c.after_quiet-quiet.ensures.quiet
           c.loop-n.invariant.drawn;
       begun = c.loop-n.invariant.begun;
       like = c.loop-n.invariant.like;

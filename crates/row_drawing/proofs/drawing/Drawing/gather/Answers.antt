@@ -1,8 +1,7 @@
 use Rattle.std.proofs.Common.{◌∙◌, arith}
 use Rattle.row_drawing.specs.Drawing.{job_of}
-use Rattle.row_drawing.proofs.RowWrites.{span_fits}
-use Rattle.row_drawing.proofs.RunWrites.{behind-within, goes_on, here_behind, joined_attrs, pass-attrs, wrote_joined}
-use Rattle.row_drawing.proofs.RunWrites.{wrote_text}
+use Rattle.row_drawing.proofs.RowWrites.{behind-within, goes_on, here_behind, joined_attrs, pass-attrs, span_fits}
+use Rattle.row_drawing.proofs.RowWrites.{wrote_joined, wrote_text}
 use Rattle.row_drawing.proofs.drawing.Drawing.gather.Goals as goal
 
 pub pass-requires : goal.pass-requires

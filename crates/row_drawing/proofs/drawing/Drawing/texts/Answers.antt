@@ -1,9 +1,8 @@
 use Rattle.std.proofs.Common.{Bor, IfSome, ◌≡◌, ◌+◌, [], ap, sym, ◌∙◌, arith, subst}
 use Rattle.vt100_cells.specs.Cell.{CellView}
 use Rattle.row_drawing.specs.Drawing.{job_of}
-use Rattle.row_drawing.proofs.RowWrites.{drawn_here, span_fits}
-use Rattle.row_drawing.proofs.RunWrites.{arrived_attrs, colored_attrs, goes_none, goes_on, goes_then, here_behind}
-use Rattle.row_drawing.proofs.RunWrites.{pass-attrs, wrote_column_on, wrote_text}
+use Rattle.row_drawing.proofs.RowWrites.{arrived_attrs, colored_attrs, drawn_here, goes_none, goes_on, goes_then}
+use Rattle.row_drawing.proofs.RowWrites.{here_behind, pass-attrs, span_fits, wrote_column_on, wrote_text}
 use Rattle.row_drawing.proofs.drawing.Drawing.texts.Goals as goal
 
 pub pass-requires : goal.pass-requires

@@ -1,4 +1,4 @@
-use Rattle.row_drawing.proofs.RunWrites.{passed}
+use Rattle.row_drawing.proofs.RowWrites.{passed}
 use Rattle.row_drawing.proofs.pen.Pen.pass.Goals as goal
 
 pub returns : goal.returns
