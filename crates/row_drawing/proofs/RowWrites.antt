@@ -49,6 +49,14 @@ pub colored_col : {p q : Pen} {s t : List ℕ} (a : Attrs) → Wrote (color a) p
 unfolding color
 colored_col a w = ap (λ (x : Pen). x.pos.col) (sym w.pen_is)
 
+-- at the start of a row two columns have room
+pub turned_room : {q r : Pen} {s t : List ℕ} (row : ℕ) (a : Attrs) (p : Pen) → q ≡ (turn row p).pen
+    → Wrote (color a) q s r t → r.pos.col + 2 < 65536
+turned_room {q = q} row a p e w =
+    let first = turned_col row p q e in
+    let same = colored_col a w in
+    omega (arith, first, same)
+
 pub gone_col : {p q : Pen} {s t : List ℕ} (row col : ℕ) → Wrote (goto row col) p s q t → q.pos.col ≡ col
 unfolding goto
 gone_col row col w = ap (λ (x : Pen). x.pos.col) (sym w.pen_is)

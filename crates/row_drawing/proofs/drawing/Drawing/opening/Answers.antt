@@ -1,7 +1,7 @@
-use Rattle.std.proofs.Common.{sym, ◌∙◌, arith}
+use Rattle.std.proofs.Common.{sym, ◌∙◌}
 use Rattle.row_drawing.specs.Drawing.{job_of}
 use Rattle.row_drawing.specs.RowWriter.{opening}
-use Rattle.row_drawing.proofs.RowWrites.{turned_col, colored_col, wrote_turn}
+use Rattle.row_drawing.proofs.RowWrites.{turned_room, wrote_turn}
 use Rattle.row_drawing.proofs.RowStart.{opening-none, opening-some}
 use Rattle.row_drawing.proofs.WritesLemmas.{began, began_first, began_then, refused, writes_last}
 use Rattle.row_drawing.proofs.WritesLemmas.{wrote_both, wrote_by, wrote_skip}
@@ -12,19 +12,18 @@ returns-then-not-owes_flag c =
     wrote_by (opening-none _ _ (sym c.owes_flag.ensures ∙ c.if-not-owes_flag.true)) (wrote_skip _ _)
 
 pub reprint-requires : goal.reprint-requires
-reprint-requires c =
-    let first = turned_col _ _ _ c.turn.ensures in
-    let same = colored_col _ c.in_ok-color_as.ensures in
-    omega (arith, first, same)
+reprint-requires c = turned_room _ _ _ c.turn.ensures c.in_ok-color_as.ensures
 
 pub returns-in_err-color_as : goal.returns-in_err-color_as
 returns-in_err-color_as c =
     refused _ (opening (job_of c.args.self.now)) c.args.pen.now _ c.from_residual.ensures.0
-    (opening-some _ _ _ c.cell-first.ensures (sym c.owes_flag.ensures ∙ c.if-not-owes_flag.false))
+    (opening-some (job_of c.args.self.now) _ _ c.cell-first.ensures
+    (sym c.owes_flag.ensures ∙ c.if-not-owes_flag.false))
     (began_first _ (began_then (wrote_turn _ _ _ _ c.turn.ensures) (began _ c.in_err-color_as.ensures)))
 
 pub returns : goal.returns
 returns c =
     writes_last (opening (job_of c.args.self.now)) c.args.pen.now _ _ _ _
-    (opening-some _ _ _ c.cell-first.ensures (sym c.owes_flag.ensures ∙ c.if-not-owes_flag.false))
+    (opening-some (job_of c.args.self.now) _ _ c.cell-first.ensures
+    (sym c.owes_flag.ensures ∙ c.if-not-owes_flag.false))
     (wrote_both (wrote_turn _ _ _ _ c.turn.ensures) c.in_ok-color_as.ensures) c.reprint.ensures
