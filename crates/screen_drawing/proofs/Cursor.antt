@@ -70,9 +70,9 @@ still-scene z t s r h l = record {
 }
 
 pub record IsLast (z : Size) (s : Shown) (r : ℕ) : Type 0 where
-  pub up_to : end_col z s r + span_of (end_cell z s r) ≡ z.cols
-  pub whole : (end_cell z s r).continuation ≡ false
-  pub sent : has_text (end_cell z s r) ≡ true → IsSendable (end_cell z s r)
+  pub up_to : end_col z s.cell r + span_of (end_cell z s.cell r) ≡ z.cols
+  pub whole : (end_cell z s.cell r).continuation ≡ false
+  pub sent : has_text (end_cell z s.cell r) ≡ true → IsSendable (end_cell z s.cell r)
 
 pub last-of : (z : Size) (t : Term) (s : Shown) (r : ℕ) → IsDrawable z s → r < z.rows → IsLast z s r
 unfolding still
@@ -80,7 +80,7 @@ last-of z t s r h l =
     let k = still z t s r in
     let g = still-scene z t s r h l in
     let e = last-is k g in
-    record { up_to = e.up_to; whole = e.whole; sent = λ some. sends k g (end_col z s r) some }
+    record { up_to = e.up_to; whole = e.whole; sent = λ some. sends k g (end_col z s.cell r) some }
 
 -- ---- the cursor goes to a place
 
@@ -126,16 +126,17 @@ and_last true false c e = refl
 and_last false b c e = refl
 
 printed-again : (z : Size) (t : Term) (s : Shown) (r : ℕ) → IsDrawable z s → r < z.rows
-    → has_text (end_cell z s r) ≡ true
-    → run z (Text (end_cell z s r).text ∷ []) (at t s.cell s.wrapped r (end_col z s r) (end_cell z s r).attrs)
-    ≡ at t s.cell s.wrapped r z.cols (end_cell z s r).attrs
+    → has_text (end_cell z s.cell r) ≡ true
+    → run z (Text (end_cell z s.cell r).text ∷ [])
+    (at t s.cell s.wrapped r (end_col z s.cell r) (end_cell z s.cell r).attrs)
+    ≡ at t s.cell s.wrapped r z.cols (end_cell z s.cell r).attrs
 unfolding print
 printed-again z t s r h l some =
     let C = s.cell in
     let W = s.wrapped in
     let f = s.cell r in
-    let c = end_col z s r in
-    let x = end_cell z s r in
+    let c = end_col z s.cell r in
+    let x = end_cell z s.cell r in
     let a = x.attrs in
     let last = last-of z t s r h l in
     let k : Takes z (print x false) (pen r c a None false) (at t (update C r f) W r c a) _ _ =
@@ -151,12 +152,12 @@ printed-again z t s r h l some =
     ∙ ap (λ n. at t C W r n a) last.up_to
 
 reprinted : (z : Size) (t : Term) (s : Shown) (a : Attrs) (r : ℕ) → IsDrawable z s → IsProper a → r < z.rows
-    → has_text (end_cell z s r) ≡ true
-    → run z (printed_with a (end_cell z s r)) (at t s.cell s.wrapped r (end_col z s r) a)
+    → has_text (end_cell z s.cell r) ≡ true
+    → run z (printed_with a (end_cell z s.cell r)) (at t s.cell s.wrapped r (end_col z s.cell r) a)
     ≡ at t s.cell s.wrapped r z.cols a
 reprinted z t s a r h ha l some =
-    let c = end_col z s r in
-    let x = end_cell z s r in
+    let c = end_col z s.cell r in
+    let x = end_cell z s.cell r in
     let hx = h.proper r c in
     let back = change x.attrs a in
     run-joined z (change a x.attrs) (Text x.text ∷ back) (at t s.cell s.wrapped r c a)
@@ -165,20 +166,20 @@ reprinted z t s a r h ha l some =
     ∙ change-read z (at t s.cell s.wrapped r z.cols x.attrs) x.attrs a refl hx ha
 
 pub waits-behind : (z : Size) (t : Term) (s : Shown) (p : Option Pos) (a : Attrs) (r c row : ℕ) → IsDrawable z s
-    → IsProper a → Known p r c → row < z.rows → has_text (end_cell z s row) ≡ true
-    → run z (wait_behind z s p a row) (at t s.cell s.wrapped r c a) ≡ at t s.cell s.wrapped row z.cols a
+    → IsProper a → Known p r c → row < z.rows → has_text (end_cell z s.cell row) ≡ true
+    → run z (wait_behind z s.cell p a row) (at t s.cell s.wrapped r c a) ≡ at t s.cell s.wrapped row z.cols a
 unfolding wait_behind
 waits-behind z t s p a r c row h ha k l some =
     let last = last-of z t s row h l in
-    let few = span-few (end_cell z s row) in
-    let goes = arriving p (place row (end_col z s row)) in
+    let few = span-few (end_cell z s.cell row) in
+    let goes = arriving p (place row (end_col z s.cell row)) in
     let u = at t s.cell s.wrapped r c a in
-    cond_both (is_pen_at p (place row z.cols)) [] (goes ++ printed_with a (end_cell z s row))
+    cond_both (is_pen_at p (place row z.cols)) [] (goes ++ printed_with a (end_cell z s.cell row))
     (λ fs. run z fs u ≡ at t s.cell s.wrapped row z.cols a)
     (λ e. stays-at t s.cell s.wrapped a p r c row z.cols k e)
-    (λ e. run-joined z goes (printed_with a (end_cell z s row)) u
-    ∙ ap (run z (printed_with a (end_cell z s row)))
-    (arrives z t s.cell s.wrapped a p r c row (end_col z s row) k l (omega (arith, last.up_to, few)))
+    (λ e. run-joined z goes (printed_with a (end_cell z s.cell row)) u
+    ∙ ap (run z (printed_with a (end_cell z s.cell row)))
+    (arrives z t s.cell s.wrapped a p r c row (end_col z s.cell row) k l (omega (arith, last.up_to, few)))
     ∙ reprinted z t s a row h ha l some)
 
 -- ---- a space is printed in the last column, and erased
@@ -193,11 +194,11 @@ kept-off true W r e = update-kept W r false (sym e)
 kept-off false W r e = refl
 
 pub no-text_end : (z : Size) (t : Term) (s : Shown) (r : ℕ) → IsDrawable z s → r < z.rows
-    → has_text (end_cell z s r) ≡ false
+    → has_text (end_cell z s.cell r) ≡ false
     → s.cell r (z.cols - 1) ≡ empty_cell (s.cell r (z.cols - 1)).attrs
 no-text_end z t s r h l none =
-    let c = end_col z s r in
-    let x = end_cell z s r in
+    let c = end_col z s.cell r in
+    let x = end_cell z s.cell r in
     let last = last-of z t s r h l in
     let is : x ≡ empty_cell x.attrs = empty-is x (h.cells r c) none last.whole in
     let narrow : span_of x ≡ 1 = span-narrow x (ap (λ (y : CellView). y.wide) is) in
@@ -235,7 +236,7 @@ erased-back z t C W r n f b l =
     ∙ ap (apply z RestoreCursor) k.term_is
 
 waits-on_empty : (z : Size) (t : Term) (s : Shown) (p : Option Pos) (a : Attrs) (r c row : ℕ) → IsDrawable z s
-    → IsProper a → Known p r c → row < z.rows → has_text (end_cell z s row) ≡ false
+    → IsProper a → Known p r c → row < z.rows → has_text (end_cell z s.cell row) ≡ false
     → run z (wait_on_empty z p a row (s.cell row (z.cols - 1))) (at t s.cell s.wrapped r c a)
     ≡ at (saved_at t row z.cols (s.cell row (z.cols - 1)).attrs) s.cell s.wrapped row z.cols a
 unfolding wait_on_empty
@@ -282,32 +283,32 @@ waits-on_empty z t s p a r c row h ha k l none =
 -- ---- where the cursor waits
 
 unfoldable pub Ends : Size → Shown → ℕ → Option ℕ → Type 0
-Ends z s r None = has_text (end_cell z s r) ≡ false
-Ends z s r (Some i) = (i ≤ r) × (has_text (end_cell z s i) ≡ true)
+Ends z s r None = has_text (end_cell z s.cell r) ≡ false
+Ends z s r (Some i) = (i ≤ r) × (has_text (end_cell z s.cell i) ≡ true)
 
-ends-above : (z : Size) (s : Shown) (r : ℕ) (o : Option ℕ) → has_text (end_cell z s (suc r)) ≡ false → Ends z s r o
+ends-above : (z : Size) (s : Shown) (r : ℕ) (o : Option ℕ) → has_text (end_cell z s.cell (suc r)) ≡ false → Ends z s r o
     → Ends z s (suc r) o
 unfolding Ends
 ends-above z s r None none e = none
 ends-above z s r (Some i) none e = (let up = e.0 in omega arith, e.1)
 
-pub ends : (z : Size) (s : Shown) (r : ℕ) → Ends z s r (row_with_end z s r)
+pub ends : (z : Size) (s : Shown) (r : ℕ) → Ends z s r (row_with_end z s.cell r)
 unfolding Ends
-ends z s zero = cond_both (has_text (end_cell z s 0)) (Some 0) None (Ends z s 0) (λ h. (omega arith, h)) (λ h. h)
+ends z s zero = cond_both (has_text (end_cell z s.cell 0)) (Some 0) None (Ends z s 0) (λ h. (omega arith, h)) (λ h. h)
 ends z s (suc r) =
-    cond_both (has_text (end_cell z s (suc r))) (Some (suc r)) (row_with_end z s r) (Ends z s (suc r))
-    (λ h. (omega arith, h)) (λ h. ends-above z s r (row_with_end z s r) h (ends z s r))
+    cond_both (has_text (end_cell z s.cell (suc r))) (Some (suc r)) (row_with_end z s.cell r) (Ends z s (suc r))
+    (λ h. (omega arith, h)) (λ h. ends-above z s r (row_with_end z s.cell r) h (ends z s r))
 
 waits : (z : Size) (t : Term) (s : Shown) (p : Option Pos) (a : Attrs) (r c : ℕ) (o : Option ℕ) → IsDrawable z s
     → IsProper a → Known p r c → Ends z s s.row o
-    → shown_of (run z (wait z s p a o) (at t s.cell s.wrapped r c a))
+    → shown_of (run z (wait z s.cell p a s.row o) (at t s.cell s.wrapped r c a))
     ≡ shown_of (at t s.cell s.wrapped s.row z.cols a)
 unfolding wait Ends
 waits z t s p a r c None h ha k e = ap shown_of (waits-on_empty z t s p a r c s.row h ha k h.shown.in_rows e)
 waits z t s p a r c (Some i) h ha k e =
     let up = e.0 in
     let inside : i < z.rows = omega (arith, h.shown.in_rows) in
-    ap shown_of (run-joined z (wait_behind z s p a i) (replicate (s.row - i) Lf) (at t s.cell s.wrapped r c a)
+    ap shown_of (run-joined z (wait_behind z s.cell p a i) (replicate (s.row - i) Lf) (at t s.cell s.wrapped r c a)
     ∙ ap (run z (replicate (s.row - i) Lf)) (waits-behind z t s p a r c i h ha k inside e.1)
     ∙ fed z t s.cell s.wrapped a z.cols (s.row - i) i s.row (omega (arith, up)) h.shown.in_rows)
 
@@ -325,11 +326,11 @@ cursor-run z t s p a r c h ha k =
     let P : List Form → Type 0 = λ fs. shown_of (run z fs u) ≡ shown_of (at t C W s.row s.col a) in
     cond_both (nat_lt s.col z.cols) (arriving p (place s.row s.col)) _ P
     (λ l. ap shown_of (arrives z t C W a p r c s.row s.col k h.shown.in_rows (ltb-true s.col z.cols l)))
-    (λ l. cond_both (is_pen_at p (place s.row s.col)) [] (wait z s p a (row_with_end z s s.row)) P
+    (λ l. cond_both (is_pen_at p (place s.row s.col)) [] (wait z s.cell p a s.row (row_with_end z s.cell s.row)) P
     (λ e. ap shown_of (stays-at t C W a p r c s.row s.col k e))
     (λ _. let past = ltb-false s.col z.cols l in
     let all : z.cols ≡ s.col = omega (arith, h.shown.in_cols) in
-    waits z t s p a r c (row_with_end z s s.row) h ha k (ends z s s.row)
+    waits z t s p a r c (row_with_end z s.cell s.row) h ha k (ends z s s.row)
     ∙ ap (λ n. shown_of (at t C W s.row n a)) all))
 
 pub known-some : (row col : ℕ) → Known (Some (place row col)) row col

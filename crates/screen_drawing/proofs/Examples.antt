@@ -6,7 +6,7 @@ use Rattle.row_drawing.specs.Writer.{◌>>◌, skip, goto, turn, color, print, s
 use Rattle.row_drawing.specs.RowWriter.{reprint, opening, to_erase, flush_of, flush, finish_of, finish, arrive}
 use Rattle.row_drawing.specs.RowWriter.{mark_of, mark, draw, column, columns, unflag, print_last, mend, closing}
 use Rattle.row_drawing.specs.RowWriter.{row_redraw, row_difference}
-use Rattle.screen_drawing.specs.Rows.{next_redraw, rows_redraw, next_difference, rows_difference}
+use Rattle.screen_drawing.specs.Rows.{next_row, in_turn}
 use Rattle.screen_drawing.specs.Cursor.{wait_behind, wait_on_empty, wait, cursor_position_formatted}
 use Rattle.screen_drawing.specs.Modes.{input_mode_formatted, input_mode_diff, attributes_formatted}
 use Rattle.screen_drawing.specs.Screen.{cursor_placed, grid_redraw, grid_contents_formatted, grid_difference}
@@ -17,7 +17,7 @@ use Rattle.screen_drawing.specs.Examples.{EachExampleIsWritten}
 pub examples : EachExampleIsWritten
 unfolding ◌>>◌ skip goto turn color print space back erasing clearing marking reprint opening to_erase flush_of flush
     finish_of finish arrive mark_of mark draw column columns unflag print_last mend closing row_redraw row_difference
-    char_width encode next_redraw rows_redraw next_difference rows_difference wait_behind wait_on_empty wait
+    char_width encode next_row in_turn wait_behind wait_on_empty wait
     cursor_position_formatted input_mode_formatted input_mode_diff attributes_formatted cursor_placed grid_redraw
     grid_contents_formatted grid_difference contents_formatted state_formatted contents_diff state_diff
     cursor_state_formatted

@@ -6,7 +6,8 @@ use Rattle.terminal_model.specs.Term.{Shown}
 use Rattle.screen_drawing.specs.Modes.{input_mode_formatted, input_mode_diff}
 use Rattle.screen_drawing.specs.Length.{EachIsShort}
 use Rattle.screen_drawing.proofs.Lists.{modes-set, modes-changed}
-use Rattle.screen_drawing.proofs.SmallScreens.{IsSmallList, small-measure, small-modes, each-small}
+use Rattle.screen_drawing.proofs.Costs.{IsSmallList, small-measure}
+use Rattle.screen_drawing.proofs.SmallScreens.{small-modes, each-small}
 
 le-times : (n m : ℕ) → 0 < m → n ≤ n * m
 le-times n zero h = absurd (omega (arith, h))

@@ -19,7 +19,8 @@ use Rattle.terminal_model.specs.Term.{Size, Shown}
 use Rattle.row_drawing.specs.declared.pen.Pen.{Pen}
 use Rattle.row_drawing.specs.Writer.{Drawn, Writer, ◌>>◌, skip}
 use Rattle.row_drawing.proofs.Texts.{all-join}
-use Rattle.screen_drawing.specs.Rows.{pen_at, next_redraw, rows_redraw, next_difference, rows_difference}
+use Rattle.screen_drawing.specs.Rows.{pen_at, is_continued, RowWriters, next_row, in_turn, no_flags, redraws_of}
+use Rattle.screen_drawing.specs.Rows.{differences_of}
 use Rattle.screen_drawing.specs.Cursor.{place, arriving, is_pen_at, end_col, end_cell, row_with_end, printed_with}
 use Rattle.screen_drawing.specs.Cursor.{wait_behind, wait_on_empty, wait, cursor_position_formatted}
 use Rattle.screen_drawing.specs.Modes.{switch, input_mode_formatted, input_mode_diff, attributes_formatted}
@@ -66,8 +67,9 @@ pub record Rules (W : ℕ → List Form → Type 0) (A : Attrs → Type 0) (K : 
   pub begun : (row col : ℕ) (a : Attrs) → A a → K (pen_at row col a)
   pub held : (p : Pen) → K p → A p.attrs
   pub moved : (p : Pen) (q : Pos) → K p → K (record p { pos = q })
-  pub redraw : (i : ℕ) → i < z.rows → Writes W K (next_redraw z s i) (428 * z.cols)
-  pub difference : (old : Shown) (i : ℕ) → i < z.rows → Writes W K (next_difference z old s i) (428 * z.cols)
+  pub redraw : (i : ℕ) → i < z.rows → Writes W K (next_row no_flags (redraws_of z s) i) (428 * z.cols)
+  pub difference : (old : Shown) (i : ℕ) → i < z.rows
+      → Writes W K (next_row (is_continued old.wrapped) (differences_of z old s) i) (428 * z.cols)
 
 pub record ModeRules (W : ℕ → List Form → Type 0) : Type 0 where
   pub keypad : (b : Bool) → W 2 (Keypad b ∷ [])
@@ -87,7 +89,7 @@ module _ (W : ℕ → List Form → Type 0) (measure : IsMeasure W) where
   more : {fs : List Form} {m k : ℕ} → W m fs → m ≤ k → W k fs
   more {fs = fs} {m = m} {k = k} a l = measure.join [] fs 0 m k (measure.none 0) a (omega (arith, l))
 
-  then : (K : Pen → Type 0) {f g : Writer} {m n k : ℕ} → Writes W K f m → Writes W K g n → m + n ≤ k
+  pub then : (K : Pen → Type 0) {f g : Writer} {m n k : ℕ} → Writes W K f m → Writes W K g n → m + n ≤ k
       → Writes W K (f >> g) k
   unfolding ◌>>◌
   then K {f = f} a b l p s =
@@ -127,15 +129,15 @@ module _ (W : ℕ → List Form → Type 0) (measure : IsMeasure W) where
         let x = (s.cell r k).attrs in
         joined (h.changes a x (h.colors r k)) (both (h.text r k some) (h.changes x a ha)) (omega arith)
 
-    end-in : (r : ℕ) → end_col z s r ≤ z.cols
+    end-in : (r : ℕ) → end_col z s.cell r ≤ z.cols
     end-in r = cond_both (s.cell r (z.cols - 1)).continuation (z.cols - 2) (z.cols - 1) (λ c. c ≤ z.cols)
         (λ _. omega arith) (λ _. omega arith)
 
-    behind : (p : Option Pos) (a : Attrs) (r : ℕ) → A a → r ≤ s.row → has_text (end_cell z s r) ≡ true
-        → W 131 (wait_behind z s p a r)
+    behind : (p : Option Pos) (a : Attrs) (r : ℕ) → A a → r ≤ s.row → has_text (end_cell z s.cell r) ≡ true
+        → W 131 (wait_behind z s.cell p a r)
     unfolding wait_behind
     behind p a r ha up some =
-        let c = end_col z s r in
+        let c = end_col z s.cell r in
         cond_both (is_pen_at p (place r z.cols)) [] _ (W 131) (λ _. measure.none 131)
         (λ _. joined (h.arrives p r c up (end-in r)) (printed a r c ha some) (omega arith))
 
@@ -150,7 +152,7 @@ module _ (W : ℕ → List Form → Type 0) (measure : IsMeasure W) where
         (omega arith)
 
     waits : (p : Option Pos) (a : Attrs) (o : Option ℕ) → A a → Ends z s s.row o
-        → W (131 + s.row) (wait z s p a o)
+        → W (131 + s.row) (wait z s.cell p a s.row o)
     unfolding wait Ends
     waits p a None ha e = more (on_empty p a ha) (omega arith)
     waits p a (Some r) ha e = joined (behind p a r ha e.0 e.1) (feeds (s.row - r)) (omega arith)
@@ -163,7 +165,7 @@ module _ (W : ℕ → List Form → Type 0) (measure : IsMeasure W) where
         (omega arith))
         (λ _. cond_both (is_pen_at p (place s.row s.col)) [] _ (W (131 + s.row))
         (λ _. measure.none (131 + s.row))
-        (λ _. waits p a (row_with_end z s s.row) ha (ends z s s.row)))
+        (λ _. waits p a (row_with_end z s.cell s.row) ha (ends z s s.row)))
 
     placed : Writes W K (cursor_placed z s) (131 + s.row)
     unfolding cursor_placed
@@ -174,31 +176,25 @@ module _ (W : ℕ → List Form → Type 0) (measure : IsMeasure W) where
 
     -- ---- grids
 
-    redraws : (n : ℕ) → n ≤ z.rows → Writes W K (rows_redraw z s n) (428 * (n * z.cols))
-    unfolding rows_redraw skip
-    redraws zero l = λ p k. record { forms = measure.none (428 * (0 * z.cols)); pen = k }
-    redraws (suc n) l =
-        then K (redraws n (omega arith)) (h.redraw n (omega arith)) (omega (arith, suc-mul n z.cols))
-
-    differences : (old : Shown) (n : ℕ) → n ≤ z.rows
-        → Writes W K (rows_difference z old s n) (428 * (n * z.cols))
-    unfolding rows_difference skip
-    differences old zero l = λ p k. record { forms = measure.none (428 * (0 * z.cols)); pen = k }
-    differences old (suc n) l =
-        then K (differences old n (omega arith)) (h.difference old n (omega arith))
-        (omega (arith, suc-mul n z.cols))
+    rows : (had : ℕ → Bool) (rs : RowWriters)
+        → ((i : ℕ) → i < z.rows → Writes W K (next_row had rs i) (428 * z.cols))
+        → (n : ℕ) → n ≤ z.rows → Writes W K (in_turn had rs n) (428 * (n * z.cols))
+    unfolding in_turn skip
+    rows had rs each zero l = λ p k. record { forms = measure.none (428 * (0 * z.cols)); pen = k }
+    rows had rs each (suc n) l =
+        then K (rows had rs each n (omega arith)) (each n (omega arith)) (omega (arith, suc-mul n z.cols))
 
     redraw : IsWritten W K (428 * (z.rows * z.cols) + (131 + s.row)) (grid_redraw z s)
     unfolding grid_redraw
-    redraw = then K (redraws z.rows (omega arith)) placed (omega arith) (pen_at 0 0 default_attrs)
+    redraw = then K (rows _ _ h.redraw z.rows (omega arith)) placed (omega arith) (pen_at 0 0 default_attrs)
         (h.begun 0 0 default_attrs h.plain)
 
     difference : (old : Shown) → A old.attrs
         → IsWritten W K (428 * (z.rows * z.cols) + (131 + s.row)) (grid_difference z old s)
     unfolding grid_difference
     difference old ha =
-        then K (differences old z.rows (omega arith)) placed (omega arith) (pen_at old.row old.col old.attrs)
-        (h.begun old.row old.col old.attrs ha)
+        then K (rows _ _ (h.difference old) z.rows (omega arith)) placed (omega arith)
+        (pen_at old.row old.col old.attrs) (h.begun old.row old.col old.attrs ha)
 
     grid : W (428 * (z.rows * z.cols) + s.row + 140) (grid_contents_formatted z s)
     unfolding grid_contents_formatted
@@ -207,7 +203,7 @@ module _ (W : ℕ → List Form → Type 0) (measure : IsMeasure W) where
     -- ---- screens
 
     pub contents : W (428 * (z.rows * z.cols) + s.row + 194) (contents_formatted z s)
-    unfolding contents_formatted
+    unfolding contents_formatted grid_contents_formatted
     contents =
         joined (h.hides s.hidden) (both grid (h.changes (grid_redraw z s).pen.attrs s.attrs h.attrs))
         (omega arith)

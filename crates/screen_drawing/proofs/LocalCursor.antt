@@ -122,14 +122,14 @@ module _ (S : ℕ → ℕ → Type 0) (z : Size) (s : Shown) (h : IsDrawable z s
   -- ---- the last cell is printed again
 
   behind-within : (t : Term) (p : Option Pos) (a : Attrs) (i c : ℕ) → IsProper a → Known p i c
-      → has_text (end_cell z s r) ≡ true → Within S z (wait_behind z s p a r) (at t s.cell s.wrapped i c a)
+      → has_text (end_cell z s.cell r) ≡ true → Within S z (wait_behind z s.cell p a r) (at t s.cell s.wrapped i c a)
   unfolding wait_behind
   behind-within t p a i c ha k some =
       let C = s.cell in
       let W = s.wrapped in
       let last = last-of z t s r h l in
-      let n = end_col z s r in
-      let x = end_cell z s r in
+      let n = end_col z s.cell r in
+      let x = end_cell z s.cell r in
       let few = span-few x in
       let goes = arriving p (place r n) in
       let back = change x.attrs a in
@@ -192,7 +192,7 @@ module _ (S : ℕ → ℕ → Type 0) (z : Size) (s : Shown) (h : IsDrawable z s
       )
 
   empty-within : (t : Term) (p : Option Pos) (a : Attrs) (i c : ℕ) → IsProper a → Known p i c
-      → has_text (end_cell z s r) ≡ false
+      → has_text (end_cell z s.cell r) ≡ false
       → Within S z (wait_on_empty z p a r (s.cell r (z.cols - 1))) (at t s.cell s.wrapped i c a)
   unfolding wait_on_empty char_width
   empty-within t p a i c ha k none =
@@ -228,7 +228,7 @@ module _ (S : ℕ → ℕ → Type 0) (z : Size) (s : Shown) (h : IsDrawable z s
 
 waits-within : (S : ℕ → ℕ → Type 0) (z : Size) (t : Term) (s : Shown) (p : Option Pos) (a : Attrs) (r c : ℕ)
     (o : Option ℕ) → IsDrawable z s → IsProper a → Known p r c → Ends z s s.row o
-    → IsEndRoom S z s (row_or s.row o) → Within S z (wait z s p a o) (at t s.cell s.wrapped r c a)
+    → IsEndRoom S z s (row_or s.row o) → Within S z (wait z s.cell p a s.row o) (at t s.cell s.wrapped r c a)
 unfolding wait Ends
 waits-within S z t s p a r c None h ha k e room =
     empty-within S z s h s.row h.shown.in_rows room t p a r c ha k e
@@ -236,7 +236,7 @@ waits-within S z t s p a r c (Some i) h ha k e room =
     let up = e.0 in
     let inside : i < z.rows = omega (arith, up, h.shown.in_rows) in
     let down = replicate (s.row - i) Lf in
-    within-joined S z (wait_behind z s p a i) down (at t s.cell s.wrapped r c a)
+    within-joined S z (wait_behind z s.cell p a i) down (at t s.cell s.wrapped r c a)
     (behind-within S z s h i inside room t p a r c ha k e.1)
     (subst (Within S z down) (sym (waits-behind z t s p a r c i h ha k inside e.1))
     (fed-within S z t s.cell s.wrapped a z.cols (s.row - i) i s.row (omega (arith, up)) h.shown.in_rows))
@@ -251,7 +251,8 @@ cursor-within S z t s p a r c h ha k room =
     let P : List Form → Type 0 = λ fs. Within S z fs u in
     cond_both (nat_lt s.col z.cols) (arriving p (place s.row s.col)) _ P
     (λ _. arriving-within S z p r c s.row s.col u k refl h.shown.in_rows)
-    (λ l. cond_both (is_pen_at p (place s.row s.col)) [] (wait z s p a (row_with_end z s s.row)) P (λ _. tt)
+    (λ l. cond_both (is_pen_at p (place s.row s.col)) [] (wait z s.cell p a s.row (row_with_end z s.cell s.row)) P
+    (λ _. tt)
     (λ _. let past = ltb-false s.col z.cols l in
-    waits-within S z t s p a r c (row_with_end z s s.row) h ha k (ends z s s.row)
+    waits-within S z t s p a r c (row_with_end z s.cell s.row) h ha k (ends z s s.row)
     (room (omega (arith, past, h.shown.in_cols)))))

@@ -13,14 +13,13 @@ use Rattle.terminal_model.proofs.Positions.{update-same, update-other, update-ke
 use Rattle.terminal_model.proofs.Positions.{splice-update, splice-whole}
 use Rattle.terminal_model.proofs.FormLemmas.{run-joined}
 use Rattle.row_drawing.specs.declared.pen.Pen.{Pen}
-use Rattle.row_drawing.specs.Writer.{Drawn, Writer, ◌>>◌, skip}
-use Rattle.row_drawing.specs.RowWriter.{row_redraw, row_difference}
+use Rattle.row_drawing.specs.Writer.{Drawn, ◌>>◌, skip}
 use Rattle.row_drawing.specs.Scene.{Scene, IsScene, IsReady, IsDrawn, IsLine, with_row}
 use Rattle.row_drawing.proofs.Steps.{at}
 use Rattle.row_drawing.proofs.RowStart.{difference-leads}
 use Rattle.row_drawing.proofs.RowRedraw.{redraw-leads}
-use Rattle.screen_drawing.specs.Rows.{afresh, is_continued, row_job, next_redraw, rows_redraw, next_difference}
-use Rattle.screen_drawing.specs.Rows.{rows_difference}
+use Rattle.screen_drawing.specs.Rows.{afresh, is_continued, RowWriters, next_row, in_turn, no_flags, row_job}
+use Rattle.screen_drawing.specs.Rows.{redraws_of, rows_redraw, differences_of, rows_difference}
 use Rattle.screen_drawing.specs.Laws.{IsDrawable, showing, EachRowsRedrawLeads, EachRowsDifferenceLeads}
 
 -- ---- the row above
@@ -162,37 +161,92 @@ module _ (z : Size) (t : Term) (old new : Shown) (i : ℕ) (flagged : Bool) (p :
         waits = λ on k. (let place = d.waits on k in (omega (arith, place.0), place.1));
       }
 
+-- ---- the last row is drawn
+
+pub record IsDone (t : Term) (s : Shown) (p : Pen) (u : Term) : Type 0 where
+  pub stands : u ≡ showing t s p
+  pub proper : IsProper p.attrs
+
+ended : (z : Size) (t : Term) (old new : Shown) (p : Pen) (u : Term) → IsShown z old → IsShown z new
+    → Between z t old new z.rows p u → IsDone t new p u
+ended z t old new p u ho hn b =
+    let cells : splice old.cell 0 z.rows new.cell ≡ new.cell = splice-whole old.cell z.rows new.cell
+    (λ r l. fun_ext (λ k. ho.below r k l ∙ sym (hn.below r k l))) in
+    let flags : splice old.wrapped 0 z.rows new.wrapped ≡ new.wrapped = splice-whole old.wrapped z.rows new.wrapped
+    (λ r l. ho.below_flag r l ∙ sym (hn.below_flag r l)) in
+    let off : is_continued new.wrapped z.rows ≡ false = continued-is new.wrapped z.rows hn.some_row ∙ hn.last in
+    let own : b.flags ≡ new.wrapped =
+    ap (λ c. cond c (update b.flags (z.rows - 1) true) b.flags) (sym off) ∙ b.flagged ∙ flags in
+    record {
+      stands = b.stands ∙ (λ i. at t (cells i) (own i) p.pos.row p.pos.col p.attrs);
+      proper = b.proper;
+    }
+
 -- ---- all rows
 
-next-joined : (z : Size) (t : Term) (old new : Shown) (n : ℕ) (f g : Writer) (p : Pen) (x : Term)
-    → Between z t old new n (g (f p).pen).pen (run z (g (f p).pen).forms (run z (f p).forms x))
-    → Between z t old new n ((f >> g) p).pen (run z ((f >> g) p).forms x)
-unfolding ◌>>◌
-next-joined z t old new n f g p x h =
-    subst (λ v. Between z t old new n (g (f p).pen).pen v) (sym (run-joined z (f p).forms (g (f p).pen).forms x)) h
+-- by the same writers, row by row
+pub in_turn-same : (had has : ℕ → Bool) (rows others : RowWriters) (n : ℕ)
+    → ((i : ℕ) → i < n → next_row had rows i ≡ next_row has others i) → in_turn had rows n ≡ in_turn has others n
+unfolding in_turn
+in_turn-same had has rows others zero same = refl
+in_turn-same had has rows others (suc n) same =
+    let above = in_turn-same had has rows others n (λ i l. same i (omega arith)) in
+    let last = same n (omega arith) in λ j. above j >> last j
 
-difference-next : (z : Size) (t : Term) (old new : Shown) (i : ℕ) (p : Pen) (u : Term) → IsShown z old
-    → IsDrawable z new → i < z.rows → Between z t old new i p u
-    → Between z t old new (suc i) (next_difference z old new i p).pen (run z (next_difference z old new i p).forms u)
-unfolding next_difference
-difference-next z t old new i p u ho hn l b =
-    let flagged = is_continued old.wrapped i && not p.lost in
-    let s = scene_of z t old new i flagged b.flags in
-    between-next z t old new i flagged p u b refl (row_difference s.job z.cols (afresh p))
-    (difference-leads s (afresh p) (scene-is z t old new i flagged p u b refl ho hn l)
-    (ready-is z t old new i flagged p u b refl))
+-- what the writer of each row does on the terminal of its scene
+abbrev DrawEach : Size → Term → Shown → Shown → RowWriters → Type 0
+DrawEach z t old new rows = (i : ℕ) (flagged : Bool) (F : ℕ → Bool) (p : Pen)
+    → IsScene (scene_of z t old new i flagged F) → IsReady (scene_of z t old new i flagged F) p
+    → IsDrawn (scene_of z t old new i flagged F) (rows i flagged p).pen (run z (rows i flagged p).forms
+    (with_row (scene_of z t old new i flagged F) (old.cell i) F p.pos.row p.pos.col p.attrs))
+
+module _ (z : Size) (t : Term) (old new : Shown) (ho : IsShown z old) (hn : IsDrawable z new) (had : ℕ → Bool)
+    (told : (i : ℕ) (b : Bool) → (had i && b) ≡ (is_continued old.wrapped i && b)) (rows : RowWriters)
+    (draw : DrawEach z t old new rows) (p : Pen) (ha : IsProper p.attrs) (closed : p.erase ≡ None) where
+  between : (n : ℕ) → n ≤ z.rows
+      → Between z t old new n (in_turn had rows n p).pen (run z (in_turn had rows n p).forms (showing t old p))
+  unfolding in_turn next_row skip ◌>>◌
+  between zero l = begun z t old new p ha closed
+  between (suc n) l =
+      let q = (in_turn had rows n p).pen in
+      let fs = (in_turn had rows n p).forms in
+      let u = run z fs (showing t old p) in
+      let b = between n (omega arith) in
+      let flagged = had n && not q.lost in
+      let same = told n (not q.lost) in
+      let d = rows n flagged (afresh q) in
+      subst (Between z t old new (suc n) d.pen) (sym (run-joined z fs d.forms (showing t old p)))
+      (between-next z t old new n flagged q u b same d
+      (draw n flagged b.flags (afresh q) (scene-is z t old new n flagged q u b same ho hn (omega arith))
+      (ready-is z t old new n flagged q u b same)))
+
+  pub all-done : IsDone t new (in_turn had rows z.rows p).pen
+      (run z (in_turn had rows z.rows p).forms (showing t old p))
+  all-done = ended z t old new _ _ ho hn.shown (between z.rows (omega arith))
+
+-- ---- differences
+
+difference-draws : (z : Size) (t : Term) (old new : Shown) → DrawEach z t old new (differences_of z old new)
+difference-draws z t old new i flagged F p scene ready =
+    difference-leads (scene_of z t old new i flagged F) p scene ready
 
 pub differences : (z : Size) (t : Term) (old new : Shown) (p : Pen) (n : ℕ) → IsShown z old → IsDrawable z new
     → IsProper p.attrs → p.erase ≡ None → n ≤ z.rows
     → Between z t old new n (rows_difference z old new n p).pen
     (run z (rows_difference z old new n p).forms (showing t old p))
-unfolding rows_difference skip
-differences z t old new p zero ho hn ha closed l = begun z t old new p ha closed
-differences z t old new p (suc n) ho hn ha closed l =
-    next-joined z t old new (suc n) (rows_difference z old new n) (next_difference z old new n)
-    p (showing t old p)
-    (difference-next z t old new n _ _ ho hn (omega arith)
-    (differences z t old new p n ho hn ha closed (omega arith)))
+differences z t old new p n ho hn ha closed l =
+    between z t old new ho hn (is_continued old.wrapped) (λ i b. refl) (differences_of z old new)
+    (difference-draws z t old new) p ha closed n l
+
+pub difference-done : (z : Size) (t : Term) (old new : Shown) (p : Pen) → IsShown z old → IsDrawable z new
+    → IsProper p.attrs → p.erase ≡ None
+    → IsDone t new (rows_difference z old new z.rows p).pen
+    (run z (rows_difference z old new z.rows p).forms (showing t old p))
+difference-done z t old new p ho hn ha closed =
+    all-done z t old new ho hn (is_continued old.wrapped) (λ i b. refl) (differences_of z old new)
+    (difference-draws z t old new) p ha closed
+
+-- ---- redraws
 
 blank-paired : IsPaired (λ k. default_cell)
 blank-paired = record { first = refl; next = λ k. refl; blank = λ k e. absurd (false≢true e) }
@@ -217,61 +271,15 @@ none-flagged : (i : ℕ) (b : Bool) → false ≡ (is_continued (λ r. false) i 
 none-flagged zero b = refl
 none-flagged (suc i) b = refl
 
-redraw-next : (z : Size) (t : Term) (s : Shown) (i : ℕ) (p : Pen) (u : Term) → IsDrawable z s → i < z.rows
-    → Between z t blank_shown s i p u
-    → Between z t blank_shown s (suc i) (next_redraw z s i p).pen (run z (next_redraw z s i p).forms u)
-unfolding next_redraw
-redraw-next z t s i p u h l b =
-    let none = none-flagged i (not p.lost) in
-    let k = scene_of z t blank_shown s i false b.flags in
-    between-next z t blank_shown s i false p u b none (row_redraw k.job z.cols (afresh p))
-    (redraw-leads k (afresh p)
-    (scene-is z t blank_shown s i false p u b none (blank-shown z h.shown.some_row h.shown.some_col) h l)
-    (ready-is z t blank_shown s i false p u b none) (λ c. refl) refl)
-
-redraws : (z : Size) (t : Term) (s : Shown) (p : Pen) (n : ℕ) → IsDrawable z s → IsProper p.attrs → p.erase ≡ None
-    → n ≤ z.rows
-    → Between z t blank_shown s n (rows_redraw z s n p).pen (run z (rows_redraw z s n p).forms
-    (showing t blank_shown p))
-unfolding rows_redraw skip
-redraws z t s p zero h ha closed l = begun z t blank_shown s p ha closed
-redraws z t s p (suc n) h ha closed l =
-    next-joined z t blank_shown s (suc n) (rows_redraw z s n) (next_redraw z s n) p (showing t blank_shown p)
-    (redraw-next z t s n _ _ h (omega arith) (redraws z t s p n h ha closed (omega arith)))
-
--- ---- the last row is drawn
-
-pub record IsDone (t : Term) (s : Shown) (p : Pen) (u : Term) : Type 0 where
-  pub stands : u ≡ showing t s p
-  pub proper : IsProper p.attrs
-
-ended : (z : Size) (t : Term) (old new : Shown) (p : Pen) (u : Term) → IsShown z old → IsShown z new
-    → Between z t old new z.rows p u → IsDone t new p u
-ended z t old new p u ho hn b =
-    let cells : splice old.cell 0 z.rows new.cell ≡ new.cell = splice-whole old.cell z.rows new.cell
-    (λ r l. fun_ext (λ k. ho.below r k l ∙ sym (hn.below r k l))) in
-    let flags : splice old.wrapped 0 z.rows new.wrapped ≡ new.wrapped = splice-whole old.wrapped z.rows new.wrapped
-    (λ r l. ho.below_flag r l ∙ sym (hn.below_flag r l)) in
-    let off : is_continued new.wrapped z.rows ≡ false = continued-is new.wrapped z.rows hn.some_row ∙ hn.last in
-    let own : b.flags ≡ new.wrapped =
-    ap (λ c. cond c (update b.flags (z.rows - 1) true) b.flags) (sym off) ∙ b.flagged ∙ flags in
-    record {
-      stands = b.stands ∙ (λ i. at t (cells i) (own i) p.pos.row p.pos.col p.attrs);
-      proper = b.proper;
-    }
-
-pub difference-done : (z : Size) (t : Term) (old new : Shown) (p : Pen) → IsShown z old → IsDrawable z new
-    → IsProper p.attrs → p.erase ≡ None
-    → IsDone t new (rows_difference z old new z.rows p).pen
-    (run z (rows_difference z old new z.rows p).forms (showing t old p))
-difference-done z t old new p ho hn ha closed =
-    ended z t old new _ _ ho hn.shown (differences z t old new p z.rows ho hn ha closed (omega arith))
+redraw-draws : (z : Size) (t : Term) (s : Shown) → DrawEach z t blank_shown s (redraws_of z s)
+redraw-draws z t s i flagged F p scene ready =
+    redraw-leads (scene_of z t blank_shown s i flagged F) p scene ready (λ c. refl) refl
 
 pub redraw-done : (z : Size) (t : Term) (s : Shown) (p : Pen) → IsDrawable z s → IsProper p.attrs → p.erase ≡ None
     → IsDone t s (rows_redraw z s z.rows p).pen (run z (rows_redraw z s z.rows p).forms (showing t blank_shown p))
 redraw-done z t s p h ha closed =
-    ended z t blank_shown s _ _ (blank-shown z h.shown.some_row h.shown.some_col) h.shown
-    (redraws z t s p z.rows h ha closed (omega arith))
+    all-done z t blank_shown s (blank-shown z h.shown.some_row h.shown.some_col) h no_flags none-flagged
+    (redraws_of z s) (redraw-draws z t s) p ha closed
 
 pub rows-redraw_lead : EachRowsRedrawLeads
 rows-redraw_lead z t s p h ha closed = (redraw-done z t s p h ha closed).stands

@@ -88,10 +88,10 @@ cleared-at : (b : Bool) → cond b (empty_cell default_attrs) default_cell ≡ d
 cleared-at true = refl
 cleared-at false = refl
 
-cleared : (z : Size) (t : Term)
+cleared-run : (z : Size) (t : Term)
     → run z (ClearAttrs ∷ ClearScreen ∷ []) t ≡ showing t blank_shown (pen_at 0 0 default_attrs)
 unfolding apply
-cleared z t = ap (λ (C : ℕ → ℕ → CellView). at t C (λ r. false) 0 0 default_attrs)
+cleared-run z t = ap (λ (C : ℕ → ℕ → CellView). at t C (λ r. false) 0 0 default_attrs)
     (fun_ext (λ r. fun_ext (λ k. cleared-at (nat_lt r z.rows && nat_lt k z.cols))))
 
 redraw-grid : (z : Size) (t : Term) (s : Shown) → IsDrawable z s
@@ -103,7 +103,7 @@ redraw-grid z t s h =
     let all = d.forms ++ cursor_position_formatted z s (Some d.pen.pos) d.pen.attrs in
     let g = placed-after z t s d.pen d.forms (showing t blank_shown p) h (redraw-done z t s p h default-proper refl) in
     record {
-      leads = ap (λ u. shown_of (run z all u)) (cleared z t) ∙ g.leads;
+      leads = ap (λ u. shown_of (run z all u)) (cleared-run z t) ∙ g.leads;
       proper = g.proper;
     }
 
@@ -121,7 +121,7 @@ beside b m y s = record s { hidden = b; modes = m; style = y }
 
 redraws : (z : Size) (s from : Shown) → IsDrawableScreen z s
     → Reaches z (contents_formatted z s) from (with_modes from.modes from.style s)
-unfolding contents_formatted apply
+unfolding contents_formatted grid_contents_formatted apply
 redraws z s from h = record {
   leads = λ v.
       let t : Term = record (term_of from v) { hidden = s.hidden } in

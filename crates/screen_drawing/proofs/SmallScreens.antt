@@ -1,46 +1,27 @@
 -- Redraws and differences of screens have numbers of the code's types, and only so many bytes.
-use Rattle.std.proofs.Common.{ℕ, ◌+◌, ◌*◌, ◌<◌, ◌≤◌, Bool, false, not, ◌&&◌, List, [], ◌∷◌, length}
+use Rattle.std.proofs.Common.{ℕ, ◌+◌, ◌*◌, ◌<◌, Bool, false, not, ◌&&◌, List}
 use Rattle.std.proofs.Common.{Option, Some, None, refl, arith}
 use Rattle.std.specs.Prelude.{◌^◌}
 use Rattle.std.specs.List.{AllByRecursion}
 use Rattle.vt100_forms.specs.declared.position.Pos.{Pos}
 use Rattle.vt100_forms.specs.Attrs.{HasByteColors}
-use Rattle.vt100_forms.specs.Form.{Form, Text, MoveTo, ClearScreen, ClearAttrs, Lf}
-use Rattle.vt100_forms.specs.Form.{HideCursor, Keypad, CursorKeys, Paste, Mouse, Encoding, Style, spell}
-use Rattle.vt100_forms.specs.Length.{HasSmallNumbers, longest}
-use Rattle.vt100_forms.proofs.Lengths.{length-change}
+use Rattle.vt100_forms.specs.Form.{Text, MoveTo, ClearScreen, ClearAttrs, Lf}
+use Rattle.vt100_forms.specs.Form.{HideCursor, Keypad, CursorKeys, Paste, Mouse, Encoding, Style}
+use Rattle.vt100_forms.specs.Length.{HasSmallNumbers}
 use Rattle.vt100_cells.proofs.CellTexts.{text-short}
 use Rattle.terminal_model.specs.Term.{Size, Shown, blank_shown}
 use Rattle.vt100_forms.specs.Form.{HasText}
 use Rattle.terminal_model.specs.FormText.{IsSentText, IsFormText, AllTexts}
 use Rattle.terminal_model.proofs.FormTexts.{all-both}
-use Rattle.row_drawing.specs.Small.{AreSmall, SmallErase, IsSmallPen}
-use Rattle.row_drawing.proofs.Texts.{all-join}
-use Rattle.row_drawing.proofs.SmallRows.{moves-small, change-small, small-row_redraw, small-row_difference}
-use Rattle.screen_drawing.specs.Rows.{afresh, is_continued, row_job, next_redraw, next_difference}
+use Rattle.row_drawing.specs.Small.{SmallErase, IsSmallPen}
+use Rattle.screen_drawing.specs.Rows.{afresh, is_continued, row_job, next_row}
 use Rattle.screen_drawing.specs.Cursor.{place, arriving}
 use Rattle.screen_drawing.specs.Length.{IsSmallScreen}
 use Rattle.screen_drawing.specs.Laws.{IsTrueOfLists, IsTrueOfEach, EachListIsSent, EachListIsOfForms}
-use Rattle.screen_drawing.proofs.Costs.{join-length, form-length, moves-length, space-length, IsRowJob}
-use Rattle.screen_drawing.proofs.Costs.{costs-row_redraw, costs-row_difference}
-use Rattle.screen_drawing.proofs.Lists.{IsMeasure, Rules, ModeRules, every-list}
+use Rattle.screen_drawing.proofs.Costs.{IsSmallList, small-measure, form-small, moves-small, changes-small}
+use Rattle.screen_drawing.proofs.Costs.{space-small, IsRowJob, costs-row_redraw, costs-row_difference}
+use Rattle.screen_drawing.proofs.Lists.{Rules, ModeRules, every-list}
 use Rattle.screen_drawing.proofs.Texts.{each-both, texts-sent, texts-forms}
-
--- small numbers, and at most n bytes
-abbrev pub IsSmallList : ℕ → List Form → Type 0
-IsSmallList n fs = AreSmall fs × (length (spell fs) ≤ n)
-
-pub small-measure : IsMeasure IsSmallList
-small-measure = record {
-  none = λ n. (tt, omega arith);
-  join = λ fs gs m n k a b l. (
-    all-join HasSmallNumbers fs gs a.0 b.0,
-    omega (arith, join-length fs gs, a.1, b.1, l),
-  );
-}
-
-form-small : (f : Form) (n : ℕ) → HasSmallNumbers f → longest f ≤ n → IsSmallList n (f ∷ [])
-form-small f n h l = ((h, tt), form-length f n h l)
 
 -- ---- the parts
 
@@ -56,13 +37,12 @@ row-job z old s i flagged h l = record {
 arriving-small : (p : Option Pos) (row col : ℕ) → row < 2 ^ 16 → col < 2 ^ 16
     → IsSmallList 14 (arriving p (place row col))
 arriving-small None row col hr hc = form-small (MoveTo row col) 14 (hr, hc) (omega arith)
-arriving-small (Some p) row col hr hc =
-    (moves-small p (place row col) hr hc, moves-length p (place row col) hr hc)
+arriving-small (Some p) row col hr hc = moves-small p (place row col) hr hc
 
 small-rules : (z : Size) (s : Shown) → IsSmallScreen z s → Rules IsSmallList HasByteColors IsSmallPen z s
-unfolding next_redraw next_difference IsSmallPen SmallErase
+unfolding next_row IsSmallPen SmallErase
 small-rules z s h = record {
-  space = ((tt, tt), omega (arith, space-length));
+  space = space-small;
   text = λ r k _. form-small (Text (s.cell r k).text) 21 tt (text-short (s.cell r k) (h.cells r k));
   feed = form-small Lf 1 tt (omega arith);
   wipes = ((tt, (tt, (omega arith, (tt, tt)))), omega arith);
@@ -71,21 +51,16 @@ small-rules z s h = record {
   hides = λ b. form-small (HideCursor b) 6 tt (omega arith);
   arrives = λ p r c up left.
       arriving-small p r c (omega (arith, up, h.shown.in_rows, h.rows)) (omega (arith, left, h.cols));
-  changes = λ a b k. (change-small a b k, length-change a b k);
+  changes = changes-small;
   plain = (tt, tt);
   colors = h.colors;
   attrs = h.attrs;
   begun = λ row col a k. (k, tt);
   held = λ p k. k.0;
   moved = λ p q k. k;
-  redraw = λ i l p k.
-      let j = row-job z blank_shown s i false h l in
-      let d = small-row_redraw _ z.cols j.small (omega arith) (afresh p) k in
-      record { forms = (d.forms, (costs-row_redraw _ j (afresh p) k).bytes); pen = d.pen };
+  redraw = λ i l p k. costs-row_redraw _ (row-job z blank_shown s i false h l) (afresh p) k;
   difference = λ old i l p k.
-      let j = row-job z old s i (is_continued old.wrapped i && not p.lost) h l in
-      let d = small-row_difference _ z.cols j.small (omega arith) (afresh p) k in
-      record { forms = (d.forms, (costs-row_difference _ j (afresh p) k).bytes); pen = d.pen };
+      costs-row_difference _ (row-job z old s i (is_continued old.wrapped i && not p.lost) h l) (afresh p) k;
 }
 
 pub small-modes : ModeRules IsSmallList

@@ -22,7 +22,7 @@ use Rattle.terminal_model.proofs.FormTexts.{all-each, space-sent, space-form, so
 use Rattle.row_drawing.specs.Texts.{IsDrawing, AllDrawing}
 use Rattle.row_drawing.proofs.Texts.{AreTexts, moves-drawing, change-drawing, draws-row_redraw, draws-row_difference}
 use Rattle.row_drawing.proofs.DrawnTexts.{drawing-text}
-use Rattle.screen_drawing.specs.Rows.{afresh, next_redraw, next_difference}
+use Rattle.screen_drawing.specs.Rows.{afresh, next_row}
 use Rattle.screen_drawing.specs.Cursor.{place, arriving, cursor_position_formatted}
 use Rattle.screen_drawing.specs.Modes.{input_mode_formatted, input_mode_diff, attributes_formatted}
 use Rattle.screen_drawing.specs.Screen.{grid_contents_formatted, grid_difference, contents_formatted, state_formatted}
@@ -48,7 +48,7 @@ arriving-drawing P (Some p) q = moves-drawing P p q
 drawing-rules : (P : List ℕ → Type 0) (Q : Form → Type 0) (z : Size) (s : Shown)
     → ((f : Form) → IsDrawing P f → Q f)
     → TextsAre P s → Rules (λ n fs. AllByRecursion Q fs) (λ a. Unit {0}) (λ p. Unit {0}) z s
-unfolding next_redraw next_difference
+unfolding next_row
 drawing-rules P Q z s h t =
     let all : (fs : List Form) → AllDrawing P fs → AllByRecursion Q fs = all-each (IsDrawing P) Q h in
     let row : (i : ℕ) → AreTexts P (s.cell i) = λ i. record { space = t.space; cells = t.cells i } in

@@ -26,17 +26,21 @@ is_pen_at (Some p) q = (p.row == q.row) && (p.col == q.col)
 
 -- ---- the last cell of a row
 
--- its column, or that of its first half
-abbrev pub end_col : Size → Shown → ℕ → ℕ
-end_col z s r = if (s.cell r (z.cols - 1)).continuation then z.cols - 2 else z.cols - 1
+-- by row and column
+abbrev pub Cells : Type 0
+Cells = ℕ → ℕ → CellView
 
-abbrev pub end_cell : Size → Shown → ℕ → CellView
-end_cell z s r = s.cell r (end_col z s r)
+-- its column, or that of its first half
+abbrev pub end_col : Size → Cells → ℕ → ℕ
+end_col z cells r = if (cells r (z.cols - 1)).continuation then z.cols - 2 else z.cols - 1
+
+abbrev pub end_cell : Size → Cells → ℕ → CellView
+end_cell z cells r = cells r (end_col z cells r)
 
 -- the nearest row whose last cell has a text, from row r on upwards
-abbrev pub row_with_end : Size → Shown → ℕ → Option ℕ
-row_with_end z s zero = if has_text (end_cell z s 0) then Some 0 else None
-row_with_end z s (suc r) = if has_text (end_cell z s (suc r)) then Some (suc r) else row_with_end z s r
+abbrev pub row_with_end : Size → Cells → ℕ → Option ℕ
+row_with_end z cells zero = if has_text (end_cell z cells 0) then Some 0 else None
+row_with_end z cells (suc r) = if has_text (end_cell z cells (suc r)) then Some (suc r) else row_with_end z cells r
 
 -- ---- the cursor waits at the end of a row
 
@@ -45,20 +49,23 @@ abbrev pub printed_with : Attrs → CellView → List Form
 printed_with a x = change a x.attrs ++ (Text x.text ∷ change x.attrs a)
 
 -- at the end of row r, whose last cell has a text
-unfoldable pub wait_behind : Size → Shown → Option Pos → Attrs → ℕ → List Form
-wait_behind z s p a r =
+unfoldable pub wait_behind : Size → Cells → Option Pos → Attrs → ℕ → List Form
+wait_behind z cells p a r =
     if is_pen_at p (place r z.cols) then []
-    else arriving p (place r (end_col z s r)) ++ printed_with a (end_cell z s r)
+    else arriving p (place r (end_col z cells r)) ++ printed_with a (end_cell z cells r)
+
+-- the space behind which the cursor waits is erased with the attributes b, and the attributes a come back
+abbrev pub replaced : Attrs → Attrs → List Form
+replaced a b = change a b ++ SaveCursor ∷ Backspace ∷ EraseChar 1 ∷ RestoreCursor ∷ change b a
 
 -- at the end of row r, where the cell x in the last column is empty
 unfoldable pub wait_on_empty : Size → Option Pos → Attrs → ℕ → CellView → List Form
-wait_on_empty z p a r x =
-    arriving p (place r (z.cols - 1)) ++ Text (32 ∷ [])
-    ∷ (change a x.attrs ++ SaveCursor ∷ Backspace ∷ EraseChar 1 ∷ RestoreCursor ∷ change x.attrs a)
+wait_on_empty z p a r x = arriving p (place r (z.cols - 1)) ++ Text (32 ∷ []) ∷ replaced a x.attrs
 
-unfoldable pub wait : Size → Shown → Option Pos → Attrs → Option ℕ → List Form
-wait z s p a (Some r) = wait_behind z s p a r ++ replicate (s.row - r) Lf
-wait z s p a None = wait_on_empty z p a s.row (s.cell s.row (z.cols - 1))
+-- at the end of row q, below row r if a row is given
+unfoldable pub wait : Size → Cells → Option Pos → Attrs → ℕ → Option ℕ → List Form
+wait z cells p a q (Some r) = wait_behind z cells p a r ++ replicate (q - r) Lf
+wait z cells p a q None = wait_on_empty z p a q (cells q (z.cols - 1))
 
 -- ---- the cursor
 
@@ -67,4 +74,4 @@ unfoldable pub cursor_position_formatted : Size → Shown → Option Pos → Att
 cursor_position_formatted z s p a =
     if nat_lt s.col z.cols then arriving p (place s.row s.col)
     else if is_pen_at p (place s.row s.col) then []
-    else wait z s p a (row_with_end z s s.row)
+    else wait z s.cell p a s.row (row_with_end z s.cell s.row)

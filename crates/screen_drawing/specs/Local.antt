@@ -25,7 +25,7 @@ row_or r (Some i) = i
 -- the row at whose end a character is printed where the cursor of s waits: the nearest one, from the cursor's own
 -- upwards, whose last cell has a text, and its own where none has
 abbrev pub waiting_row : Size → Shown → ℕ
-waiting_row z s = row_or s.row (row_with_end z s s.row)
+waiting_row z s = row_or s.row (row_with_end z s.cell s.row)
 
 -- Read by a terminal that shows `old`, whatever it has saved, the forms touch local cells of the two pictures alone;
 -- but where the cursor of `new` waits, also the last cell of that one row, with its other half.

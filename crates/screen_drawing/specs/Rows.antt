@@ -19,6 +19,28 @@ abbrev pub is_continued : (ℕ → Bool) → ℕ → Bool
 is_continued wrapped zero = false
 is_continued wrapped (suc i) = wrapped i
 
+-- ---- one row after the other
+
+-- how each row is drawn, which is told whether the row above has its flag in the terminal
+abbrev pub RowWriters : Type 0
+RowWriters = ℕ → Bool → Writer
+
+-- Row i, after those above. `had i` says whether the row above had its flag: it still has it, unless it lost it when it
+-- was drawn.
+unfoldable pub next_row : (ℕ → Bool) → RowWriters → ℕ → Writer
+next_row had rows i p = rows i (had i && not p.lost) (afresh p)
+
+-- the first n rows, from the top
+unfoldable pub in_turn : (ℕ → Bool) → RowWriters → ℕ → Writer
+in_turn had rows zero = skip
+in_turn had rows (suc n) = in_turn had rows n >> next_row had rows n
+
+-- on a blank screen
+abbrev pub no_flags : ℕ → Bool
+no_flags i = false
+
+-- ---- the rows of a picture
+
 -- row i of the new picture over that of the old one; `flagged` says whether the row above has its flag in the terminal
 abbrev pub row_job : Size → Shown → Shown → ℕ → Bool → Job
 row_job z old new i flagged = record {
@@ -33,25 +55,16 @@ row_job z old new i flagged = record {
   was_above = flagged;
 }
 
--- ---- redraws
+-- on a blank screen
+abbrev pub redraws_of : Size → Shown → RowWriters
+redraws_of z s i flagged = row_redraw (row_job z blank_shown s i flagged) z.cols
 
--- row i on a blank screen, where no row has a flag
-unfoldable pub next_redraw : Size → Shown → ℕ → Writer
-next_redraw z s i p = row_redraw (row_job z blank_shown s i false) z.cols (afresh p)
+abbrev pub rows_redraw : Size → Shown → ℕ → Writer
+rows_redraw z s = in_turn no_flags (redraws_of z s)
 
--- the first n rows
-unfoldable pub rows_redraw : Size → Shown → ℕ → Writer
-rows_redraw z s zero = skip
-rows_redraw z s (suc n) = rows_redraw z s n >> next_redraw z s n
+-- over an old picture
+abbrev pub differences_of : Size → Shown → Shown → RowWriters
+differences_of z old new i flagged = row_difference (row_job z old new i flagged) z.cols
 
--- ---- differences
-
--- row i: the row above has its flag if it had one, and didn't lose it when it was drawn
-unfoldable pub next_difference : Size → Shown → Shown → ℕ → Writer
-next_difference z old new i p =
-    row_difference (row_job z old new i (is_continued old.wrapped i && not p.lost)) z.cols (afresh p)
-
--- the first n rows
-unfoldable pub rows_difference : Size → Shown → Shown → ℕ → Writer
-rows_difference z old new zero = skip
-rows_difference z old new (suc n) = rows_difference z old new n >> next_difference z old new n
+abbrev pub rows_difference : Size → Shown → Shown → ℕ → Writer
+rows_difference z old new = in_turn (is_continued old.wrapped) (differences_of z old new)

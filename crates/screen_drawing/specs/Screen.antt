@@ -21,27 +21,38 @@ cursor_placed z s p = record {
 unfoldable pub grid_redraw : Size → Shown → Drawn
 grid_redraw z s = (rows_redraw z s z.rows >> cursor_placed z s) (pen_at 0 0 default_attrs)
 
-unfoldable pub grid_contents_formatted : Size → Shown → List Form
-grid_contents_formatted z s = ClearAttrs ∷ ClearScreen ∷ (grid_redraw z s).forms
-
 -- over the old screen, with its cursor and its attributes
 unfoldable pub grid_difference : Size → Shown → Shown → Drawn
 grid_difference z old new =
     (rows_difference z old new z.rows >> cursor_placed z new) (pen_at old.row old.col old.attrs)
 
+-- ---- lists, where d has drawn a screen's cells and flags, and its cursor
+
+-- on a terminal that is cleared
+abbrev pub cleared : Drawn → List Form
+cleared d = ClearAttrs ∷ ClearScreen ∷ d.forms
+
+-- with the hiding of the cursor before it, and the attributes that are drawn with after it
+abbrev pub redraw_by : Shown → Drawn → List Form
+redraw_by s d = HideCursor s.hidden ∷ (cleared d ++ change d.pen.attrs s.attrs)
+
+-- the same over the old screen
+abbrev pub difference_by : Shown → Shown → Drawn → List Form
+difference_by old new d = switch HideCursor old.hidden new.hidden ++ d.forms ++ change d.pen.attrs new.attrs
+
 -- ---- screens
 
+unfoldable pub grid_contents_formatted : Size → Shown → List Form
+grid_contents_formatted z s = cleared (grid_redraw z s)
+
 unfoldable pub contents_formatted : Size → Shown → List Form
-contents_formatted z s =
-    HideCursor s.hidden ∷ (grid_contents_formatted z s ++ change (grid_redraw z s).pen.attrs s.attrs)
+contents_formatted z s = redraw_by s (grid_redraw z s)
 
 unfoldable pub state_formatted : Size → Shown → List Form
 state_formatted z s = contents_formatted z s ++ input_mode_formatted s
 
 unfoldable pub contents_diff : Size → Shown → Shown → List Form
-contents_diff z old new =
-    switch HideCursor old.hidden new.hidden ++ (grid_difference z old new).forms
-    ++ change (grid_difference z old new).pen.attrs new.attrs
+contents_diff z old new = difference_by old new (grid_difference z old new)
 
 unfoldable pub state_diff : Size → Shown → Shown → List Form
 state_diff z old new = contents_diff z old new ++ input_mode_diff old new

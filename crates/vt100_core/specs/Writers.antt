@@ -2,19 +2,16 @@
 --
 -- Rows are drawn as they are shown; the cursor is that of the rows that are drawn on, which are shown where no kept row
 -- is.
-use Rattle.std.specs.Prelude.{ℕ, zero, suc, ◌≡◌, Bool, true, false, not, ◌&&◌, min, List, ◌∷◌, ◌++◌, length}
-use Rattle.std.specs.Prelude.{Option, unwrap_or}
+use Rattle.std.specs.Prelude.{ℕ, ◌≡◌, Bool, true, false, min, List, ◌++◌, length, Option, unwrap_or}
 use Rattle.vt100_forms.specs.declared.attrs.Attrs.{Attrs}
 use Rattle.vt100_forms.specs.declared.position.Pos.{Pos}
 use Rattle.vt100_forms.specs.Attrs.{default_attrs}
-use Rattle.vt100_forms.specs.Form.{Form, ClearAttrs, ClearScreen, EraseChar, Backspace, SaveCursor}
-use Rattle.vt100_forms.specs.Form.{RestoreCursor, change}
-use Rattle.vt100_forms.specs.Form.{spell}
+use Rattle.vt100_forms.specs.Form.{Form, spell}
 use Rattle.terminal_model.specs.Term.{Shown, blank_shown}
-use Rattle.row_drawing.specs.Writer.{Drawn, Writer, ◌>>◌, skip}
+use Rattle.row_drawing.specs.Writer.{Drawn, Writer, ◌>>◌}
 use Rattle.row_drawing.specs.Writes.{IsBegun}
-use Rattle.screen_drawing.specs.Rows.{pen_at, afresh}
-use Rattle.screen_drawing.specs.Screen.{cursor_placed}
+use Rattle.screen_drawing.specs.Rows.{pen_at, RowWriters, in_turn, no_flags}
+use Rattle.screen_drawing.specs.Screen.{cursor_placed, cleared}
 use Rattle.screen_drawing.specs.Cursor as cursor
 use Rattle.vt100_rows.specs.Forms.{redraw, difference}
 use Rattle.vt100_rows.specs.Picture.{lines_of, wraps_of}
@@ -39,44 +36,36 @@ abbrev pub cursor_position_formatted : GridView → Option Pos → Option Attrs 
 cursor_position_formatted g p a =
     cursor.cursor_position_formatted (grid_size g) (drawn_on g) p (unwrap_or a default_attrs)
 
--- what follows the space on which the cursor waits: it is erased with the attributes b, and the attributes a come back
-abbrev pub replaced : Attrs → Attrs → List Form
-replaced a b = change a b ++ SaveCursor ∷ Backspace ∷ EraseChar 1 ∷ RestoreCursor ∷ change b a
-
 -- ---- redraws
 
--- the row that is shown at i, on a row of default cells
-unfoldable pub line_redraw : GridView → ℕ → Writer
-line_redraw g i p = redraw (visible_at g i) 0 g.width i (is_below_wrapped g i) (afresh p)
+-- the row that is shown at i, on a row of default cells below rows that have no flag
+abbrev pub line_redraw : GridView → RowWriters
+line_redraw g i flagged = redraw (visible_at g i) 0 g.width i (is_below_wrapped g i)
 
 -- the first n rows that are shown
-unfoldable pub lines_redraw : GridView → ℕ → Writer
-lines_redraw g zero = skip
-lines_redraw g (suc n) = lines_redraw g n >> line_redraw g n
+abbrev pub lines_redraw : GridView → ℕ → Writer
+lines_redraw g = in_turn no_flags (line_redraw g)
 
 -- on a terminal that is cleared
-unfoldable pub redrawn : GridView → Drawn
+abbrev pub redrawn : GridView → Drawn
 redrawn g = (lines_redraw g (length g.rows) >> cursor_placed (grid_size g) (drawn_on g)) (pen_at 0 0 default_attrs)
 
 abbrev pub contents_formatted : GridView → List Form
-contents_formatted g = ClearAttrs ∷ ClearScreen ∷ (redrawn g).forms
+contents_formatted g = cleared (redrawn g)
 
 -- ---- differences
 
--- the row that is shown at i, over the one of the earlier grid; the row above has its flag if it had one, and didn't
--- lose it when it was drawn
-unfoldable pub line_difference : GridView → GridView → ℕ → Writer
-line_difference g earlier i p =
-    difference (visible_at g i) (visible_at earlier i) 0 g.width i (is_below_wrapped g i)
-    (is_below_wrapped earlier i && not p.lost) (afresh p)
+-- the row that is shown at i, over the one of the earlier grid
+abbrev pub line_difference : GridView → GridView → RowWriters
+line_difference g earlier i flagged =
+    difference (visible_at g i) (visible_at earlier i) 0 g.width i (is_below_wrapped g i) flagged
 
 -- the first n rows that are shown
-unfoldable pub lines_difference : GridView → GridView → ℕ → Writer
-lines_difference g earlier zero = skip
-lines_difference g earlier (suc n) = lines_difference g earlier n >> line_difference g earlier n
+abbrev pub lines_difference : GridView → GridView → ℕ → Writer
+lines_difference g earlier = in_turn (is_below_wrapped earlier) (line_difference g earlier)
 
 -- over what the earlier grid shows, with its cursor, where the terminal draws with the attributes a
-unfoldable pub differing : GridView → GridView → Attrs → Drawn
+abbrev pub differing : GridView → GridView → Attrs → Drawn
 differing g earlier a =
     (lines_difference g earlier (min (length g.rows) (length earlier.rows)) >> cursor_placed (grid_size g) (drawn_on g))
     (pen_at earlier.row earlier.col a)

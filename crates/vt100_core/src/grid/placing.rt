@@ -2,9 +2,10 @@
 ghost use Rattle.std.specs.Prelude.{◌≡◌, ◌-◌, ◌<◌, ◌≤◌, length, is_ok, replicate, IfSome, string_bytes};
 ghost use Rattle.vt100_forms.specs.Form.{Lf};
 ghost use Rattle.screen_drawing.specs.Cursor.{is_pen_at, arriving, end_col, end_cell, printed_with, row_with_end};
-ghost use Rattle.screen_drawing.specs.Cursor.{wait_behind, wait_on_empty};
+ghost use Rattle.screen_drawing.specs.Cursor.{wait_behind, wait_on_empty, replaced};
 ghost use Rattle.vt100_core.specs.Picture.{grid_size};
-ghost use Rattle.vt100_core.specs.Writers.{Appends, drawn_on, cursor_position_formatted, replaced};
+ghost use Rattle.vt100_core.specs.Writers.{Appends, cursor_position_formatted};
+ghost use Rattle.vt100_rows.specs.Picture.{lines_of};
 
 use crate::grid::Grid;
 use vt100_cells::line;
@@ -57,7 +58,7 @@ impl Grid {
     /// The column of a row's last cell, or of that one's first half.
     fn last_col(&self, row: u16) -> u16
         requires { row < length self.now.rows }
-        ensures value { result ≡ end_col (grid_size self.now) (drawn_on self.now) row }
+        ensures value { result ≡ end_col (grid_size self.now) (lines_of self.now.rows) row }
         ensures inside { result < self.now.width }
     {
         let cells = at(&self.rows, usize::from(row)).cells();
@@ -72,7 +73,7 @@ impl Grid {
     /// A row's last cell, or its first half.
     fn last_cell(&self, row: u16) -> &Cell
         requires { row < length self.now.rows }
-        ensures { result.now ≡ end_cell (grid_size self.now) (drawn_on self.now) row }
+        ensures { result.now ≡ end_cell (grid_size self.now) (lines_of self.now.rows) row }
     {
         line::at(
             at(&self.rows, usize::from(row)).cells(),
@@ -83,7 +84,7 @@ impl Grid {
     /// The nearest row, from the cursor's on upwards, whose last cell has a text.
     fn row_with_end(&self) -> Option<u16>
         requires { self.now.row < length self.now.rows }
-        ensures value { result ≡ row_with_end (grid_size self.now) (drawn_on self.now) self.now.row }
+        ensures value { result ≡ row_with_end (grid_size self.now) (lines_of self.now.rows) self.now.row }
         ensures above { IfSome result (λ r. r ≤ self.now.row) }
     {
         let mut row = self.pos.row;
@@ -105,7 +106,7 @@ impl Grid {
         row: u16,
     ) -> Result<(), GridError>
         requires { row < length self.now.rows }
-        ensures { Appends (wait_behind (grid_size self.now) (drawn_on self.now) prev_pos attrs row)
+        ensures { Appends (wait_behind (grid_size self.now) (lines_of self.now.rows) prev_pos attrs row)
             (string_bytes contents.old) (is_ok result) (string_bytes contents.new) }
     {
         let end = Pos {
@@ -132,7 +133,7 @@ impl Grid {
     ) -> Result<(), GridError>
         requires { self.now.row < length self.now.rows }
         ensures { Appends (wait_on_empty (grid_size self.now) prev_pos attrs self.now.row
-            ((drawn_on self.now).cell self.now.row (self.now.width - 1)))
+            (lines_of self.now.rows self.now.row (self.now.width - 1)))
             (string_bytes contents.old) (is_ok result) (string_bytes contents.new) }
     {
         let pos = Pos {
@@ -147,7 +148,7 @@ impl Grid {
     /// The attributes in the last column of the cursor's row.
     fn end_attrs(&self) -> Attrs
         requires { self.now.row < length self.now.rows }
-        ensures { result ≡ ((drawn_on self.now).cell self.now.row (self.now.width - 1)).attrs }
+        ensures { result ≡ (lines_of self.now.rows self.now.row (self.now.width - 1)).attrs }
     {
         let cells = at(&self.rows, usize::from(self.pos.row)).cells();
         line::at(cells, usize::from(self.size.cols() - 1)).attrs()

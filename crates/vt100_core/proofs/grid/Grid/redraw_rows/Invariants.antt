@@ -1,8 +1,14 @@
+use Rattle.std.proofs.Common.{◌≡◌}
 use Rattle.std.specs.Prelude.{string_bytes}
-use Rattle.vt100_core.proofs.WriterLemmas.{IsRedrawn}
+use Rattle.row_drawing.specs.Writes.{Wrote}
+use Rattle.vt100_core.specs.Contents.{is_below_wrapped}
+use Rattle.vt100_core.specs.Writers.{lines_redraw}
 use Rattle.vt100_core.proofs.grid.Grid.redraw_rows.Given as goal
 
 -- the rows so far are drawn
 abbrev pub invariant-loop-i : goal.invariant-loop-i
-invariant-loop-i l = IsRedrawn l.self l.i l.wrapping l.initial.pen (string_bytes l.initial.contents) l.pen
-    (string_bytes l.contents)
+invariant-loop-i l = record {
+  wrote : Wrote (lines_redraw l.self l.i) l.initial.pen (string_bytes l.initial.contents) l.pen
+      (string_bytes l.contents);
+  wraps : l.wrapping ≡ is_below_wrapped l.self l.i;
+}

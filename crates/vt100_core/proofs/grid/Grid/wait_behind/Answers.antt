@@ -1,9 +1,9 @@
 use Rattle.std.proofs.Common.{ap, is_ok, refl, sym, ◌∙◌}
 use Rattle.std.specs.Prelude.{string_bytes}
 use Rattle.screen_drawing.specs.Cursor.{arriving, end_cell, place, printed_with, wait_behind}
+use Rattle.vt100_rows.specs.Picture.{lines_of}
 use Rattle.vt100_core.specs.Grid.{GridView}
 use Rattle.vt100_core.specs.Picture.{grid_size}
-use Rattle.vt100_core.specs.Writers.{drawn_on}
 use Rattle.vt100_core.proofs.WriterLemmas.{appends_rest, refused_front, wait_behind-none, wait_behind-some}
 use Rattle.vt100_core.proofs.grid.Grid.wait_behind.Goals as goal
 
@@ -11,7 +11,7 @@ pub returns-then-is_at : goal.returns-then-is_at
 returns-then-is_at c =
     let g = c.args.self.now in
     let width = c.cols.ensures ∙ ap (λ (x : GridView). x.width) c.self.view_is in
-    wait_behind-none (grid_size g) (drawn_on g) c.args.prev_pos c.args.attrs c.args.row c.cols.result
+    wait_behind-none (grid_size g) (lines_of g.rows) c.args.prev_pos c.args.attrs c.args.row c.cols.result
     (string_bytes c.args.contents.now) width (sym c.is_at.ensures ∙ c.if-is_at.true)
 
 pub returns-in_err-arrive : goal.returns-in_err-arrive
@@ -22,13 +22,13 @@ returns-in_err-arrive c =
     let a = c.args.attrs in
     let r = c.args.row in
     let k = c.last_col.result in
-    let x = end_cell z (drawn_on g) r in
+    let x = end_cell z (lines_of g.rows) r in
     let s = string_bytes c.args.contents.now in
     let t = string_bytes c.arrive.new.contents in
     let width = c.cols.ensures ∙ ap (λ (x : GridView). x.width) c.self.view_is in
-    refused_front c.from_residual.result (arriving p (place r k)) (printed_with a x) (wait_behind z (drawn_on g) p a r)
-    s t c.from_residual.ensures.0
-    (wait_behind-some z (drawn_on g) p a r c.cols.result k x width (sym c.is_at.ensures ∙ c.if-is_at.false)
+    refused_front c.from_residual.result (arriving p (place r k)) (printed_with a x)
+    (wait_behind z (lines_of g.rows) p a r) s t c.from_residual.ensures.0
+    (wait_behind-some z (lines_of g.rows) p a r c.cols.result k x width (sym c.is_at.ensures ∙ c.if-is_at.false)
     c.last_col.ensures.value refl) c.in_err-arrive.ensures
 
 pub returns : goal.returns
@@ -44,7 +44,7 @@ returns c =
     let t = string_bytes c.arrive.new.contents in
     let u = string_bytes c.print_with.new.contents in
     let width = c.cols.ensures ∙ ap (λ (x : GridView). x.width) c.self.view_is in
-    appends_rest (arriving p (place r k)) (printed_with a x) (wait_behind z (drawn_on g) p a r) s t
+    appends_rest (arriving p (place r k)) (printed_with a x) (wait_behind z (lines_of g.rows) p a r) s t
     (is_ok c.print_with.result) u
-    (wait_behind-some z (drawn_on g) p a r c.cols.result k x width (sym c.is_at.ensures ∙ c.if-is_at.false)
+    (wait_behind-some z (lines_of g.rows) p a r c.cols.result k x width (sym c.is_at.ensures ∙ c.if-is_at.false)
     c.last_col.ensures.value c.last_cell.ensures) c.in_ok-arrive.ensures c.print_with.ensures

@@ -1,11 +1,11 @@
 use Rattle.std.proofs.Common.{ap, append-nil, is_ok, refl, subst, sym, ◌∙◌, ◌-◌, [], ◌∷◌, ◌++◌}
 use Rattle.std.specs.Prelude.{encode_utf8, string_bytes}
 use Rattle.vt100_forms.specs.Form.{Text, spell}
-use Rattle.screen_drawing.specs.Cursor.{arriving, place, wait_on_empty}
+use Rattle.screen_drawing.specs.Cursor.{arriving, place, replaced, wait_on_empty}
 use Rattle.row_drawing.specs.Writes.{IsBegun}
+use Rattle.vt100_rows.specs.Picture.{lines_of}
 use Rattle.vt100_core.specs.Grid.{GridView}
 use Rattle.vt100_core.specs.Picture.{grid_size}
-use Rattle.vt100_core.specs.Writers.{drawn_on, replaced}
 use Rattle.vt100_core.proofs.WriterLemmas.{appends_rest, begun_none, begun_rest, refused, refused_front}
 use Rattle.vt100_core.proofs.WriterLemmas.{wait_on_empty-is}
 use Rattle.vt100_core.proofs.grid.Grid.wait_on_empty.Goals as goal
@@ -15,7 +15,7 @@ returns-in_err-arrive c =
     let g = c.args.self.now in
     let p = c.args.prev_pos in
     let a = c.args.attrs in
-    let x = (drawn_on g).cell g.row (g.width - 1) in
+    let x = lines_of g.rows g.row (g.width - 1) in
     let row = c.self.inside.pos.row in
     let col = c.cols.result - 1 in
     let s = string_bytes c.args.contents.now in
@@ -31,7 +31,7 @@ returns-in_err-push c =
     let g = c.args.self.now in
     let p = c.args.prev_pos in
     let a = c.args.attrs in
-    let x = (drawn_on g).cell g.row (g.width - 1) in
+    let x = lines_of g.rows g.row (g.width - 1) in
     let row = c.self.inside.pos.row in
     let col = c.cols.result - 1 in
     let s = string_bytes c.args.contents.now in
@@ -54,7 +54,7 @@ returns c =
     let p = c.args.prev_pos in
     let a = c.args.attrs in
     let b = c.end_attrs.result in
-    let x = (drawn_on g).cell g.row (g.width - 1) in
+    let x = lines_of g.rows g.row (g.width - 1) in
     let row = c.self.inside.pos.row in
     let col = c.cols.result - 1 in
     let s = string_bytes c.args.contents.now in

@@ -2,9 +2,10 @@ use Rattle.std.proofs.Common.{ap, arith, is_ok, replicate, subst, sym, ◌∙◌
 use Rattle.std.specs.Prelude.{string_bytes, unwrap_or}
 use Rattle.vt100_forms.specs.Form.{Lf}
 use Rattle.screen_drawing.specs.Cursor.{arriving, is_pen_at, place, wait_behind, wait_on_empty}
+use Rattle.vt100_rows.specs.Picture.{lines_of}
 use Rattle.vt100_core.specs.Grid.{GridView}
 use Rattle.vt100_core.specs.Picture.{grid_size}
-use Rattle.vt100_core.specs.Writers.{Appends, cursor_position_formatted, drawn_on}
+use Rattle.vt100_core.specs.Writers.{Appends, cursor_position_formatted}
 use Rattle.vt100_core.proofs.WriterLemmas.{appends_as, appends_rest, cursor-behind, cursor-inside, cursor-on_empty}
 use Rattle.vt100_core.proofs.WriterLemmas.{cursor-there, refused_front}
 use Rattle.vt100_core.proofs.grid.Grid.write_cursor_position_formatted.Goals as goal
@@ -45,9 +46,9 @@ returns-in_err-wait_behind-in-Some c =
     let off = ap (λ (v : GridView). is_pen_at p (place v.row v.col)) (sym c.self.view_is) ∙ sym c.is_at.ensures
     ∙ c.if-is_at.false in
     let attrs = c.unwrap_or-prev_attrs.ensures ∙ ap (unwrap_or a) c.new.ensures in
-    refused_front c.from_residual.result (wait_behind (grid_size g) (drawn_on g) p b r) (replicate (g.row - r) Lf)
+    refused_front c.from_residual.result (wait_behind (grid_size g) (lines_of g.rows) p b r) (replicate (g.row - r) Lf)
     (cursor_position_formatted g p a) (string_bytes c.args.contents.now) (string_bytes c.wait_behind.new.contents)
-    c.from_residual.ensures.0 (cursor-behind g p a b r attrs past off c.in-Some.ensures.value)
+    c.from_residual.ensures.0 (cursor-behind g p a b attrs past off r c.in-Some.ensures.value)
     c.in_err-wait_behind-in-Some.ensures
 
 pub returns-in_ok-wait_behind-in-Some : goal.returns-in_ok-wait_behind-in-Some
@@ -69,8 +70,8 @@ returns-in_ok-wait_behind-in-Some c =
     let attrs = c.unwrap_or-prev_attrs.ensures ∙ ap (unwrap_or a) c.new.ensures in
     let feeds = subst (λ k. Appends (replicate (k - r) Lf) t ok u) (ap (λ (v : GridView). v.row) c.self.view_is)
     c.push_line_feeds.ensures in
-    appends_rest (wait_behind (grid_size g) (drawn_on g) p b r) (replicate (g.row - r) Lf)
-    (cursor_position_formatted g p a) s t ok u (cursor-behind g p a b r attrs past off c.in-Some.ensures.value)
+    appends_rest (wait_behind (grid_size g) (lines_of g.rows) p b r) (replicate (g.row - r) Lf)
+    (cursor_position_formatted g p a) s t ok u (cursor-behind g p a b attrs past off r c.in-Some.ensures.value)
     c.in_ok-wait_behind-in-Some.ensures feeds
 
 pub returns-in-None : goal.returns-in-None
@@ -85,7 +86,7 @@ returns-in-None c =
     let off = ap (λ (v : GridView). is_pen_at p (place v.row v.col)) (sym c.self.view_is) ∙ sym c.is_at.ensures
     ∙ c.if-is_at.false in
     let attrs = c.unwrap_or-prev_attrs.ensures ∙ ap (unwrap_or a) c.new.ensures in
-    appends_as (wait_on_empty (grid_size g) p b g.row ((drawn_on g).cell g.row (g.width - 1)))
+    appends_as (wait_on_empty (grid_size g) p b g.row (lines_of g.rows g.row (g.width - 1)))
     (cursor_position_formatted g p a) (string_bytes c.args.contents.now) (is_ok c.wait_on_empty.result)
     (string_bytes c.wait_on_empty.new.contents) (cursor-on_empty g p a b attrs past off c.in-None.ensures.value)
     c.wait_on_empty.ensures

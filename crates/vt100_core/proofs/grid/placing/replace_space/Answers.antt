@@ -2,7 +2,7 @@ use Rattle.std.proofs.Common.{ap, is_ok, refl, ◌∙◌, List, [], ◌∷◌, �
 use Rattle.std.specs.Prelude.{string_bytes}
 use Rattle.vt100_forms.specs.declared.attrs.Attrs.{Attrs}
 use Rattle.vt100_forms.specs.Form.{Form, Backspace, EraseChar, RestoreCursor, SaveCursor, change, spell}
-use Rattle.vt100_core.specs.Writers.{replaced}
+use Rattle.screen_drawing.specs.Cursor.{replaced}
 use Rattle.vt100_core.proofs.WriterLemmas.{appends_rest, last_appends, begun_none, begun_rest, refused}
 use Rattle.vt100_core.proofs.grid.placing.replace_space.Goals as goal
 
