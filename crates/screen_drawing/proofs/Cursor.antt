@@ -1,346 +1,180 @@
--- The cursor comes to its place on a screen whose rows are drawn.
-use Rattle.std.proofs.Common.{◌≡◌, ℕ, zero, suc, ◌+◌, ◌-◌, ◌<◌, ◌≤◌, ◌==◌, Bool, true, false, ◌&&◌, nat_lt}
-use Rattle.std.proofs.Common.{List, [], ◌∷◌, ◌++◌, min, Option, Some, None, refl, arith, sym, ap, subst, ◌∙◌, inl, inr}
+-- How the cursor comes to its place: where the forms lead, and which cells they touch.
+use Rattle.std.proofs.Common.{◌≡◌, ℕ, ◌+◌, ◌-◌, ◌<◌, true, false, nat_lt, List, [], ◌∷◌, ◌++◌, Option, Some, None, arith}
+use Rattle.std.proofs.Common.{refl, sym, ap, subst, ◌∙◌}
 use Rattle.std.specs.Prelude.{replicate}
-use Rattle.std.proofs.lemmas.Bool.{cases_Bool, both_ways, cond_both, false≢true, and_parts, eqb-true, ne_eqb, ltb-true}
-use Rattle.std.proofs.lemmas.Bool.{ltb-false}
-use Rattle.std.proofs.lemmas.Bool.Decides.{nat_tests}
-use mathlib.Core.Path.{fun_ext}
+use Rattle.std.proofs.lemmas.Bool.{cond_both, false≢true, ltb-true, ltb-false}
 use Rattle.unicode_width.specs.Width.{char_width}
 use Rattle.vt100_forms.specs.declared.attrs.Attrs.{Attrs}
 use Rattle.vt100_forms.specs.declared.position.Pos.{Pos}
 use Rattle.vt100_forms.specs.Attrs.{IsProper}
 use Rattle.vt100_forms.specs.Form.{Form, Text, EraseChar, Lf, Backspace, SaveCursor, RestoreCursor, change}
-use Rattle.vt100_cells.specs.Cell.{CellView, has_text, empty_cell, cell_of, is_filled}
-use Rattle.vt100_cells.specs.Line.{IsPaired, span_of, put, put_unflags, wiped, wipe_unflags}
+use Rattle.vt100_forms.proofs.AttrsLemmas.{default-proper}
+use Rattle.vt100_cells.specs.Cell.{CellView, has_text, empty_cell, cell_of}
+use Rattle.vt100_cells.specs.Line.{put}
 use Rattle.terminal_model.specs.Position.{update}
 use Rattle.terminal_model.specs.Term.{Size, Shown, Saved, Term, shown_of, term_of}
 use Rattle.terminal_model.specs.Apply.{apply, run}
-use Rattle.terminal_model.proofs.Positions.{update-kept}
-use Rattle.terminal_model.proofs.FormLemmas.{run-joined, moves-lead, change-read, down-room}
-use Rattle.row_drawing.specs.Writer.{print, erasing}
-use Rattle.row_drawing.specs.Scene.{Scene, IsScene}
-use Rattle.row_drawing.proofs.Lines.{line-reprinted}
-use Rattle.row_drawing.proofs.Steps.{at, kept_or_off, IsSendable, takes-print, takes-erasing, sends-space, Takes, pen}
-use Rattle.row_drawing.proofs.Columns.{empty-is, sends, span-narrow}
-use Rattle.row_drawing.proofs.RowEnd.{last-is, span-few}
-use Rattle.screen_drawing.specs.Cursor.{place, arriving, is_pen_at, end_col, end_cell, row_with_end, printed_with}
-use Rattle.screen_drawing.specs.Cursor.{wait_behind, wait_on_empty, wait, cursor_position_formatted}
+use Rattle.terminal_model.specs.Touch.{Within}
+use Rattle.terminal_model.proofs.FormLemmas.{run-joined, change-read}
+use Rattle.terminal_model.proofs.TouchLemmas.{within-joined}
+use Rattle.row_drawing.proofs.Steps.{at, sends-space, span-space}
+use Rattle.row_drawing.proofs.RowEnd.{span-few}
+use Rattle.screen_drawing.specs.Cursor.{place, arriving, is_pen_at, end_col, end_cell, row_with_end, wait_behind}
+use Rattle.screen_drawing.specs.Cursor.{wait_on_empty, wait, cursor_position_formatted}
 use Rattle.screen_drawing.specs.Screen.{cursor_state_formatted}
-use Rattle.screen_drawing.proofs.Rows.{line-of}
-use Rattle.screen_drawing.specs.Laws.{IsDrawable, CursorIsAt, EachCursorIsPlaced, EachCursorStateIsSet}
-use Rattle.vt100_forms.proofs.AttrsLemmas.{default-proper}
+use Rattle.screen_drawing.specs.Laws.{IsDrawable, EachCursorIsPlaced, EachCursorStateIsSet}
+use Rattle.screen_drawing.specs.Local.{row_or, waiting_row}
+use Rattle.screen_drawing.proofs.CursorForms.{last-of, Known, arrives, stays-at, fed, printed-again, no-text_end}
+use Rattle.screen_drawing.proofs.CursorForms.{space-printed, saved_at, wiped-back, Ends, ends, known-at}
+use Rattle.screen_drawing.proofs.LocalCursor.{change-within, arriving-within, fed-within, IsEndRoom, print-within}
+use Rattle.screen_drawing.proofs.LocalCursor.{wipes-within}
 
--- ---- a row that is drawn, as a scene
+-- ---- lists of forms
 
-still : Size → Term → Shown → ℕ → Scene
-still z t s r = record {
-  rows = z.rows;
-  job = record {
-    cols = z.cols;
-    row = r;
-    start = 0;
-    old = s.cell r;
-    new = s.cell r;
-    wrapped = s.wrapped r;
-    was_wrapped = s.wrapped r;
-    above = false;
-    was_above = false;
-  };
-  term = t;
-  cells = s.cell;
-  flags = s.wrapped;
+-- they lead from t to u, and touch cells of S alone
+record Comes (S : ℕ → ℕ → Type 0) (z : Size) (fs : List Form) (t u : Term) : Type 0 where
+  leads : run z fs t ≡ u
+  within : Within S z fs t
+
+comes-then : {S : ℕ → ℕ → Type 0} {z : Size} {fs gs : List Form} {t u v : Term} → Comes S z fs t u
+    → Comes S z gs u v → Comes S z (fs ++ gs) t v
+comes-then {S = S} {z = z} {fs = fs} {gs = gs} {t = t} a b = record {
+  leads = run-joined z fs gs t ∙ ap (run z gs) a.leads ∙ b.leads;
+  within = within-joined S z fs gs t a.within (subst (Within S z gs) (sym a.leads) b.within);
 }
 
-still-scene : (z : Size) (t : Term) (s : Shown) (r : ℕ) → IsDrawable z s → r < z.rows → IsScene (still z t s r)
-unfolding still
-still-scene z t s r h l = record {
-  whole = refl;
-  some_col = h.shown.some_col;
-  row_in = l;
-  old = line-of z s r h.shown;
-  new = line-of z s r h.shown;
-  cells = h.cells r;
-  plain = h.plain r;
-  proper = h.proper r;
-  flag = refl;
-  below_first = λ e. absurd (false≢true e);
-  above_filled = λ e. absurd (false≢true e);
-  above_flag = λ e _. absurd (false≢true e);
-}
+-- ---- the end of a row
 
-pub record IsLast (z : Size) (s : Shown) (r : ℕ) : Type 0 where
-  pub up_to : end_col z s.cell r + span_of (end_cell z s.cell r) ≡ z.cols
-  pub whole : (end_cell z s.cell r).continuation ≡ false
-  pub sent : has_text (end_cell z s.cell r) ≡ true → IsSendable (end_cell z s.cell r)
+module _ (S : ℕ → ℕ → Type 0) (z : Size) (s : Shown) (h : IsDrawable z s) where
+  changes : (t : Term) (r c : ℕ) (C : ℕ → ℕ → CellView) (a b : Attrs) → IsProper a → IsProper b
+      → Comes S z (change a b) (at t C s.wrapped r c a) (at t C s.wrapped r c b)
+  changes t r c C a b ha hb = record {
+    leads = change-read z (at t C s.wrapped r c a) a b refl ha hb;
+    within = change-within S z a b (at t C s.wrapped r c a);
+  }
 
-pub last-of : (z : Size) (t : Term) (s : Shown) (r : ℕ) → IsDrawable z s → r < z.rows → IsLast z s r
-unfolding still
-last-of z t s r h l =
-    let k = still z t s r in
-    let g = still-scene z t s r h l in
-    let e = last-is k g in
-    record { up_to = e.up_to; whole = e.whole; sent = λ some. sends k g (end_col z s.cell r) some }
+  goes : (t : Term) (a : Attrs) (p : Option Pos) (r c row col : ℕ) → Known p r c → row < z.rows → col < z.cols
+      → Comes S z (arriving p (place row col)) (at t s.cell s.wrapped r c a) (at t s.cell s.wrapped row col a)
+  goes t a p r c row col k hr hc = record {
+    leads = arrives z t s.cell s.wrapped a p r c row col k hr hc;
+    within = arriving-within S z p r c row col (at t s.cell s.wrapped r c a) k refl hr;
+  }
 
--- ---- the cursor goes to a place
+  module _ (row : ℕ) (l : row < z.rows) (room : IsEndRoom S z s row) (t : Term) (p : Option Pos) (a : Attrs) (r c : ℕ)
+      (ha : IsProper a) (k : Known p r c) where
+    -- the last cell is printed again
+    behind : has_text (end_cell z s.cell row) ≡ true
+        → Comes S z (wait_behind z s.cell p a row) (at t s.cell s.wrapped r c a) (at t s.cell s.wrapped row z.cols a)
+    unfolding wait_behind
+    behind some =
+        let last = last-of z t s row h l in
+        let n = end_col z s.cell row in
+        let x = end_cell z s.cell row in
+        let few = span-few x in
+        let u = at t s.cell s.wrapped r c a in
+        let v = at t s.cell s.wrapped row z.cols a in
+        let prints : Comes S z (Text x.text ∷ []) (at t s.cell s.wrapped row n x.attrs)
+        (at t s.cell s.wrapped row z.cols x.attrs) = record {
+          leads = printed-again z t s row h l some;
+          within = print-within S z s h row l room t n x x.attrs (last.sent some) last.up_to last.whole (λ e. e);
+        } in
+        cond_both (is_pen_at p (place row z.cols)) [] _ (λ fs. Comes S z fs u v)
+        (λ e. record { leads = stays-at t s.cell s.wrapped a p r c row z.cols k e; within = tt })
+        (λ _. comes-then (goes t a p r c row n k l (omega (arith, last.up_to, few)))
+        (comes-then (changes t row n s.cell a x.attrs ha (h.proper row n))
+        (comes-then prints (changes t row z.cols s.cell x.attrs a (h.proper row n) ha))))
 
-unfoldable pub Known : Option Pos → ℕ → ℕ → Type 0
-Known None r c = Unit {0}
-Known (Some p) r c = (r ≡ p.row) × (c ≡ p.col)
+    -- a space is printed in the last column, and erased
+    on_empty : has_text (end_cell z s.cell row) ≡ false
+        → Comes S z (wait_on_empty z p a row (s.cell row (z.cols - 1))) (at t s.cell s.wrapped r c a)
+        (at (saved_at t row (z.cols - 1 + 1) (s.cell row (z.cols - 1)).attrs) s.cell s.wrapped row (z.cols - 1 + 1) a)
+    unfolding wait_on_empty char_width
+    on_empty none =
+        let n = z.cols - 1 in
+        let b = (s.cell row n).attrs in
+        let hb = h.proper row n in
+        let end : n + 1 ≡ z.cols = omega (arith, h.shown.some_col) in
+        let is : s.cell row n ≡ empty_cell b = no-text_end z t s row h l none in
+        let one = span-space a in
+        let D = update s.cell row (put (s.cell row) n (cell_of 32 a) a) in
+        let spaces : Comes S z (Text (32 ∷ []) ∷ []) (at t s.cell s.wrapped row n a) (at t D s.wrapped row (n + 1) a) =
+        record {
+          leads = space-printed z t s.cell s.wrapped row n a (omega (arith, end));
+          within = print-within S z s h row l room t n (cell_of 32 a) a (sends-space a) (omega (arith, one, end))
+              (ap (λ (y : CellView). y.continuation) is) (λ e. absurd (false≢true e));
+        } in
+        let wipes : Comes S z (SaveCursor ∷ Backspace ∷ EraseChar 1 ∷ RestoreCursor ∷ [])
+        (at t D s.wrapped row (n + 1) b) (at (saved_at t row (n + 1) b) s.cell s.wrapped row (n + 1) b) = record {
+          leads = wiped-back z t s row a h l none;
+          within = wipes-within S z s h row l room t n a b end;
+        } in
+        comes-then (goes t a p r c row n k l (omega (arith, end)))
+        (comes-then spaces (comes-then (changes t row (n + 1) D a b ha hb)
+        (comes-then wipes (changes (saved_at t row (n + 1) b) row (n + 1) s.cell b a hb ha))))
 
-moved-at : (t : Term) (C : ℕ → ℕ → CellView) (W : ℕ → Bool) (a : Attrs) (r s c d : ℕ) → r ≡ s → c ≡ d
-    → at t C W r c a ≡ at t C W s d a
-moved-at t C W a r s c d e f = λ i. at t C W (e i) (f i) a
+  -- ---- the cursor
 
-pub arrives : (z : Size) (t : Term) (C : ℕ → ℕ → CellView) (W : ℕ → Bool) (a : Attrs) (p : Option Pos) (r c row col : ℕ)
-    → Known p r c → row < z.rows → col < z.cols
-    → run z (arriving p (place row col)) (at t C W r c a) ≡ at t C W row col a
-unfolding apply Known
-arrives z t C W a None r c row col k hr hc =
-    moved-at t C W a (min row (z.rows - 1)) row (min col (z.cols - 1)) col (omega arith) (omega arith)
-arrives z t C W a (Some p) r c row col k hr hc =
-    moves-lead z (at t C W r c a) p (place row col) k.0 k.1 hr hc
+  -- what is shown is as before, but for the cursor, which is that of s
+  record IsPlaced (fs : List Form) (t : Term) (a : Attrs) (u : Term) : Type 0 where
+    leads : shown_of (run z fs u) ≡ shown_of (at t s.cell s.wrapped s.row s.col a)
+    within : Within S z fs u
 
-stays-at : (t : Term) (C : ℕ → ℕ → CellView) (W : ℕ → Bool) (a : Attrs) (p : Option Pos) (r c row col : ℕ)
-    → Known p r c → is_pen_at p (place row col) ≡ true → at t C W r c a ≡ at t C W row col a
-unfolding Known
-stays-at t C W a None r c row col k h = absurd (false≢true h)
-stays-at t C W a (Some p) r c row col k h =
-    let parts = and_parts (p.row == row) (p.col == col) h in
-    moved-at t C W a r row c col (k.0 ∙ eqb-true p.row row parts.0) (k.1 ∙ eqb-true p.col col parts.1)
+  module _ (t : Term) (p : Option Pos) (a : Attrs) (r c : ℕ) (ha : IsProper a) (k : Known p r c) where
+    waits : (o : Option ℕ) → s.col ≡ z.cols → Ends z s s.row o → IsEndRoom S z s (row_or s.row o)
+        → IsPlaced (wait z s.cell p a s.row o) t a (at t s.cell s.wrapped r c a)
+    unfolding wait Ends
+    waits None there e room =
+        let b = (s.cell s.row (z.cols - 1)).attrs in
+        let all : z.cols - 1 + 1 ≡ s.col = omega (arith, h.shown.some_col, there) in
+        let w = on_empty s.row h.shown.in_rows room t p a r c ha k e in
+        record {
+          leads = ap shown_of w.leads ∙ ap (λ m. shown_of (at t s.cell s.wrapped s.row m a)) all;
+          within = w.within;
+        }
+    waits (Some i) there e room =
+        let up = e.0 in
+        let inside : i < z.rows = omega (arith, up, h.shown.in_rows) in
+        let feeds : Comes S z (replicate (s.row - i) Lf) (at t s.cell s.wrapped i z.cols a)
+        (at t s.cell s.wrapped s.row z.cols a) = record {
+          leads = fed z t s.cell s.wrapped a z.cols (s.row - i) i s.row (omega (arith, up)) h.shown.in_rows;
+          within = fed-within S z t s.cell s.wrapped a z.cols (s.row - i) i s.row (omega (arith, up))
+              h.shown.in_rows;
+        } in
+        let w = comes-then (behind i inside room t p a r c ha k e.1) feeds in
+        record {
+          leads = ap shown_of w.leads ∙ ap (λ m. shown_of (at t s.cell s.wrapped s.row m a)) (sym there);
+          within = w.within;
+        }
 
--- the rows below come by line feeds
-fed : (z : Size) (t : Term) (C : ℕ → ℕ → CellView) (W : ℕ → Bool) (a : Attrs) (c n r row : ℕ) → r + n ≡ row
-    → row < z.rows → run z (replicate n Lf) (at t C W r c a) ≡ at t C W row c a
-unfolding apply
-fed z t C W a c zero r row e l = moved-at t C W a r row c c (omega (arith, e)) refl
-fed z t C W a c (suc n) r row e l =
-    ap (run z (replicate n Lf)) (down-room z (at t C W r c a) (omega (arith, e, l)))
-    ∙ fed z t C W a c n (r + 1) row (omega (arith, e)) l
+    cursor : (s.col ≡ z.cols → IsEndRoom S z s (waiting_row z s))
+        → IsPlaced (cursor_position_formatted z s p a) t a (at t s.cell s.wrapped r c a)
+    unfolding cursor_position_formatted
+    cursor room =
+        let u = at t s.cell s.wrapped r c a in
+        cond_both (nat_lt s.col z.cols) (arriving p (place s.row s.col)) _ (λ fs. IsPlaced fs t a u)
+        (λ l. let g = goes t a p r c s.row s.col k h.shown.in_rows (ltb-true s.col z.cols l) in
+        record { leads = ap shown_of g.leads; within = g.within })
+        (λ l. cond_both (is_pen_at p (place s.row s.col)) [] _ (λ fs. IsPlaced fs t a u)
+        (λ e. record { leads = ap shown_of (stays-at t s.cell s.wrapped a p r c s.row s.col k e); within = tt })
+        (λ _. let past = ltb-false s.col z.cols l in
+        let there : s.col ≡ z.cols = omega (arith, past, h.shown.in_cols) in
+        waits (row_with_end z s.cell s.row) there (ends z s s.row) (room there)))
 
--- ---- the last cell is printed again
-
-and_last : (a b c : Bool) → c ≡ false → (a && (b && c)) ≡ false
-and_last true true c e = e
-and_last true false c e = refl
-and_last false b c e = refl
-
-printed-again : (z : Size) (t : Term) (s : Shown) (r : ℕ) → IsDrawable z s → r < z.rows
-    → has_text (end_cell z s.cell r) ≡ true
-    → run z (Text (end_cell z s.cell r).text ∷ [])
-    (at t s.cell s.wrapped r (end_col z s.cell r) (end_cell z s.cell r).attrs)
-    ≡ at t s.cell s.wrapped r z.cols (end_cell z s.cell r).attrs
-unfolding print
-printed-again z t s r h l some =
-    let C = s.cell in
-    let W = s.wrapped in
-    let f = s.cell r in
-    let c = end_col z s.cell r in
-    let x = end_cell z s.cell r in
-    let a = x.attrs in
-    let last = last-of z t s r h l in
-    let k : Takes z (print x false) (pen r c a None false) (at t (update C r f) W r c a) _ _ =
-    takes-print z t C W r c f x None false false (last.sent some) (omega (arith, last.up_to)) in
-    let far : ((c + 3) == z.cols) ≡ false = ne_eqb (c + 3) z.cols (λ e. let few = span-few x
-    in absurd (omega (arith, e, last.up_to, few))) in
-    let stays : put_unflags z.cols f c x ≡ false = and_last x.wide (f (c + 1)).wide ((c + 3) == z.cols) far in
-    let line : put f c x a ≡ f = line-reprinted f c a (h.shown.paired r) last.whole in
-    ap (λ D. run z (Text x.text ∷ []) (at t D W r c a)) (sym (update-kept C r f refl)) ∙ k.term_is
-    ∙ ap (λ b. at t (update C r (put f c x a)) (kept_or_off b W r) r (c + span_of x) a) stays
-    ∙ ap (λ g. at t (update C r g) W r (c + span_of x) a) line
-    ∙ ap (λ D. at t D W r (c + span_of x) a) (update-kept C r f refl)
-    ∙ ap (λ n. at t C W r n a) last.up_to
-
-reprinted : (z : Size) (t : Term) (s : Shown) (a : Attrs) (r : ℕ) → IsDrawable z s → IsProper a → r < z.rows
-    → has_text (end_cell z s.cell r) ≡ true
-    → run z (printed_with a (end_cell z s.cell r)) (at t s.cell s.wrapped r (end_col z s.cell r) a)
-    ≡ at t s.cell s.wrapped r z.cols a
-reprinted z t s a r h ha l some =
-    let c = end_col z s.cell r in
-    let x = end_cell z s.cell r in
-    let hx = h.proper r c in
-    let back = change x.attrs a in
-    run-joined z (change a x.attrs) (Text x.text ∷ back) (at t s.cell s.wrapped r c a)
-    ∙ ap (run z (Text x.text ∷ back)) (change-read z (at t s.cell s.wrapped r c a) a x.attrs refl ha hx)
-    ∙ ap (run z back) (printed-again z t s r h l some)
-    ∙ change-read z (at t s.cell s.wrapped r z.cols x.attrs) x.attrs a refl hx ha
-
-pub waits-behind : (z : Size) (t : Term) (s : Shown) (p : Option Pos) (a : Attrs) (r c row : ℕ) → IsDrawable z s
-    → IsProper a → Known p r c → row < z.rows → has_text (end_cell z s.cell row) ≡ true
-    → run z (wait_behind z s.cell p a row) (at t s.cell s.wrapped r c a) ≡ at t s.cell s.wrapped row z.cols a
-unfolding wait_behind
-waits-behind z t s p a r c row h ha k l some =
-    let last = last-of z t s row h l in
-    let few = span-few (end_cell z s.cell row) in
-    let goes = arriving p (place row (end_col z s.cell row)) in
-    let u = at t s.cell s.wrapped r c a in
-    cond_both (is_pen_at p (place row z.cols)) [] (goes ++ printed_with a (end_cell z s.cell row))
-    (λ fs. run z fs u ≡ at t s.cell s.wrapped row z.cols a)
-    (λ e. stays-at t s.cell s.wrapped a p r c row z.cols k e)
-    (λ e. run-joined z goes (printed_with a (end_cell z s.cell row)) u
-    ∙ ap (run z (printed_with a (end_cell z s.cell row)))
-    (arrives z t s.cell s.wrapped a p r c row (end_col z s.cell row) k l (omega (arith, last.up_to, few)))
-    ∙ reprinted z t s a row h ha l some)
-
--- ---- a space is printed in the last column, and erased
-
--- in a narrow cell
-spaced-wiped_at : (f : ℕ → CellView) (n : ℕ) (x : CellView) (a b : Attrs) (k : ℕ) → IsPaired f → x.wide ≡ false
-    → f n ≡ empty_cell b → (f n).wide ≡ false → (f n).continuation ≡ false → wiped (put f n x a) n (n + 1) b k ≡ f k
-spaced-wiped_at f n x a b k p w e narrow single = grind (arith, nat_tests, p.next k, p.next n)
-
-kept-off : (b : Bool) (W : ℕ → Bool) (r : ℕ) → W r ≡ false → kept_or_off b W r ≡ W
-kept-off true W r e = update-kept W r false (sym e)
-kept-off false W r e = refl
-
-pub no-text_end : (z : Size) (t : Term) (s : Shown) (r : ℕ) → IsDrawable z s → r < z.rows
-    → has_text (end_cell z s.cell r) ≡ false
-    → s.cell r (z.cols - 1) ≡ empty_cell (s.cell r (z.cols - 1)).attrs
-no-text_end z t s r h l none =
-    let c = end_col z s.cell r in
-    let x = end_cell z s.cell r in
-    let last = last-of z t s r h l in
-    let is : x ≡ empty_cell x.attrs = empty-is x (h.cells r c) none last.whole in
-    let narrow : span_of x ≡ 1 = span-narrow x (ap (λ (y : CellView). y.wide) is) in
-    let here : c ≡ z.cols - 1 = omega (arith, last.up_to, narrow) in
-    subst (λ k. s.cell r k ≡ empty_cell (s.cell r k).attrs) here is
-
-pub space-printed : (z : Size) (t : Term) (C : ℕ → ℕ → CellView) (W : ℕ → Bool) (r n : ℕ) (a : Attrs) → n + 1 ≤ z.cols
-    → run z (Text (32 ∷ []) ∷ []) (at t C W r n a)
-    ≡ at t (update C r (put (C r) n (cell_of 32 a) a)) W r (n + 1) a
-unfolding print char_width
-space-printed z t C W r n a l =
-    let k : Takes z (print (cell_of 32 a) false) (pen r n a None false) (at t (update C r (C r)) W r n a) _ _ =
-    takes-print z t C W r n (C r) (cell_of 32 a) None false false (sends-space a) l in
-    ap (λ D. run z (Text (32 ∷ []) ∷ []) (at t D W r n a)) (sym (update-kept C r (C r) refl)) ∙ k.term_is
-
-pub narrow-space : (a : Attrs) → (cell_of 32 a).wide ≡ false
-unfolding char_width
-narrow-space a = refl
-
-abbrev saved_at : Term → ℕ → ℕ → Attrs → Term
-saved_at t r c a = record t { saved_row = r; saved_col = c; saved_attrs = a }
-
-erased-back : (z : Size) (t : Term) (C : ℕ → ℕ → CellView) (W : ℕ → Bool) (r n : ℕ) (f : ℕ → CellView) (b : Attrs)
-    → n + 1 ≤ z.cols
-    → run z (SaveCursor ∷ Backspace ∷ EraseChar 1 ∷ RestoreCursor ∷ []) (at t (update C r f) W r (n + 1) b)
-    ≡ at (saved_at t r (n + 1) b) (update C r (wiped f n (n + 1) b))
-    (kept_or_off (wipe_unflags z.cols f n (n + 1)) W r) r (n + 1) b
-unfolding erasing apply
-erased-back z t C W r n f b l =
-    let v = saved_at t r (n + 1) b in
-    let back : n + 1 - 1 ≡ n = omega arith in
-    let k : Takes z (erasing 1 false) (pen r n b None false) (at v (update C r f) W r n b) _ _ =
-    takes-erasing z v C W r n 1 f b None false false l in
-    ap (λ c. run z (EraseChar 1 ∷ RestoreCursor ∷ []) (at v (update C r f) W r c b)) back
-    ∙ ap (apply z RestoreCursor) k.term_is
-
-waits-on_empty : (z : Size) (t : Term) (s : Shown) (p : Option Pos) (a : Attrs) (r c row : ℕ) → IsDrawable z s
-    → IsProper a → Known p r c → row < z.rows → has_text (end_cell z s.cell row) ≡ false
-    → run z (wait_on_empty z p a row (s.cell row (z.cols - 1))) (at t s.cell s.wrapped r c a)
-    ≡ at (saved_at t row z.cols (s.cell row (z.cols - 1)).attrs) s.cell s.wrapped row z.cols a
-unfolding wait_on_empty
-waits-on_empty z t s p a r c row h ha k l none =
-    let C = s.cell in
-    let W = s.wrapped in
-    let n = z.cols - 1 in
-    let x = C row n in
-    let b = x.attrs in
-    let hb = h.proper row n in
-    let some = h.shown.some_col in
-    let room : n + 1 ≤ z.cols = omega (arith, some) in
-    let all : n + 1 ≡ z.cols = omega (arith, some) in
-    let is : x ≡ empty_cell b = no-text_end z t s row h l none in
-    let g = put (C row) n (cell_of 32 a) a in
-    let goes = arriving p (place row n) in
-    let dyes = change a b in
-    let wipes = SaveCursor ∷ Backspace ∷ EraseChar 1 ∷ RestoreCursor ∷ [] in
-    let back = change b a in
-    let tail = SaveCursor ∷ Backspace ∷ EraseChar 1 ∷ RestoreCursor ∷ back in
-    let line : wiped g n (n + 1) b ≡ C row = fun_ext (λ i. spaced-wiped_at (C row) n (cell_of 32 a) a b i
-    (h.shown.paired row) (narrow-space a) is (ap (λ (y : CellView). y.wide) is)
-    (ap (λ (y : CellView). y.continuation) is)) in
-    let off : W row ≡ false = (elim (cases_Bool (W row)) [
-      | inr off ↦ off
-      | inl on ↦ absurd (both_ways (is_filled x) (ap is_filled is) (h.shown.filled row on))
-    ]) in
-    let w = wipe_unflags z.cols g n (n + 1) in
-    let one : run z wipes (at t (update C row g) W row (n + 1) b)
-    ≡ at (saved_at t row (n + 1) b) C W row (n + 1) b =
-    erased-back z t C W row n g b room
-    ∙ ap (λ f. at (saved_at t row (n + 1) b) (update C row f) (kept_or_off w W row) row (n + 1) b) line
-    ∙ ap (λ D. at (saved_at t row (n + 1) b) D (kept_or_off w W row) row (n + 1) b) (update-kept C row (C row) refl)
-    ∙ ap (λ V. at (saved_at t row (n + 1) b) C V row (n + 1) b) (kept-off w W row off) in
-    run-joined z goes (Text (32 ∷ []) ∷ (dyes ++ tail)) (at t C W r c a)
-    ∙ ap (run z (Text (32 ∷ []) ∷ (dyes ++ tail))) (arrives z t C W a p r c row n k l (omega (arith, some)))
-    ∙ ap (run z (dyes ++ tail)) (space-printed z t C W row n a room)
-    ∙ run-joined z dyes tail (at t (update C row g) W row (n + 1) a)
-    ∙ ap (run z tail) (change-read z (at t (update C row g) W row (n + 1) a) a b refl ha hb)
-    ∙ ap (run z back) one
-    ∙ change-read z (at (saved_at t row (n + 1) b) C W row (n + 1) b) b a refl hb ha
-    ∙ ap (λ m. at (saved_at t row m b) C W row m a) all
-
--- ---- where the cursor waits
-
-unfoldable pub Ends : Size → Shown → ℕ → Option ℕ → Type 0
-Ends z s r None = has_text (end_cell z s.cell r) ≡ false
-Ends z s r (Some i) = (i ≤ r) × (has_text (end_cell z s.cell i) ≡ true)
-
-ends-above : (z : Size) (s : Shown) (r : ℕ) (o : Option ℕ) → has_text (end_cell z s.cell (suc r)) ≡ false → Ends z s r o
-    → Ends z s (suc r) o
-unfolding Ends
-ends-above z s r None none e = none
-ends-above z s r (Some i) none e = (let up = e.0 in omega arith, e.1)
-
-pub ends : (z : Size) (s : Shown) (r : ℕ) → Ends z s r (row_with_end z s.cell r)
-unfolding Ends
-ends z s zero = cond_both (has_text (end_cell z s.cell 0)) (Some 0) None (Ends z s 0) (λ h. (omega arith, h)) (λ h. h)
-ends z s (suc r) =
-    cond_both (has_text (end_cell z s.cell (suc r))) (Some (suc r)) (row_with_end z s.cell r) (Ends z s (suc r))
-    (λ h. (omega arith, h)) (λ h. ends-above z s r (row_with_end z s.cell r) h (ends z s r))
-
-waits : (z : Size) (t : Term) (s : Shown) (p : Option Pos) (a : Attrs) (r c : ℕ) (o : Option ℕ) → IsDrawable z s
-    → IsProper a → Known p r c → Ends z s s.row o
-    → shown_of (run z (wait z s.cell p a s.row o) (at t s.cell s.wrapped r c a))
-    ≡ shown_of (at t s.cell s.wrapped s.row z.cols a)
-unfolding wait Ends
-waits z t s p a r c None h ha k e = ap shown_of (waits-on_empty z t s p a r c s.row h ha k h.shown.in_rows e)
-waits z t s p a r c (Some i) h ha k e =
-    let up = e.0 in
-    let inside : i < z.rows = omega (arith, h.shown.in_rows) in
-    ap shown_of (run-joined z (wait_behind z s.cell p a i) (replicate (s.row - i) Lf) (at t s.cell s.wrapped r c a)
-    ∙ ap (run z (replicate (s.row - i) Lf)) (waits-behind z t s p a r c i h ha k inside e.1)
-    ∙ fed z t s.cell s.wrapped a z.cols (s.row - i) i s.row (omega (arith, up)) h.shown.in_rows)
-
--- ---- the cursor
+-- where the cursor of s waits, the last cell of one row may be touched
+pub cursor-within : (S : ℕ → ℕ → Type 0) (z : Size) (t : Term) (s : Shown) (p : Option Pos) (a : Attrs) (r c : ℕ)
+    → IsDrawable z s → IsProper a → Known p r c → (s.col ≡ z.cols → IsEndRoom S z s (waiting_row z s))
+    → Within S z (cursor_position_formatted z s p a) (at t s.cell s.wrapped r c a)
+cursor-within S z t s p a r c h ha k room = (cursor S z s h t p a r c ha k room).within
 
 pub cursor-run : (z : Size) (t : Term) (s : Shown) (p : Option Pos) (a : Attrs) (r c : ℕ) → IsDrawable z s
     → IsProper a → Known p r c
     → shown_of (run z (cursor_position_formatted z s p a) (at t s.cell s.wrapped r c a))
     ≡ shown_of (at t s.cell s.wrapped s.row s.col a)
-unfolding cursor_position_formatted
 cursor-run z t s p a r c h ha k =
-    let C = s.cell in
-    let W = s.wrapped in
-    let u = at t C W r c a in
-    let P : List Form → Type 0 = λ fs. shown_of (run z fs u) ≡ shown_of (at t C W s.row s.col a) in
-    cond_both (nat_lt s.col z.cols) (arriving p (place s.row s.col)) _ P
-    (λ l. ap shown_of (arrives z t C W a p r c s.row s.col k h.shown.in_rows (ltb-true s.col z.cols l)))
-    (λ l. cond_both (is_pen_at p (place s.row s.col)) [] (wait z s.cell p a s.row (row_with_end z s.cell s.row)) P
-    (λ e. ap shown_of (stays-at t C W a p r c s.row s.col k e))
-    (λ _. let past = ltb-false s.col z.cols l in
-    let all : z.cols ≡ s.col = omega (arith, h.shown.in_cols) in
-    waits z t s p a r c (row_with_end z s.cell s.row) h ha k (ends z s s.row)
-    ∙ ap (λ n. shown_of (at t C W s.row n a)) all))
+    (cursor (λ i j. Unit {0}) z s h t p a r c ha k
+    (λ _. record { last = λ i e. tt; first = λ i e w. tt })).leads
 
-pub known-some : (row col : ℕ) → Known (Some (place row col)) row col
-unfolding Known
-known-some row col = (refl, refl)
-
-known-at : (p : Option Pos) (s : Shown) → CursorIsAt p s → Known p s.row s.col
-unfolding Known
-known-at None s h = tt
-known-at (Some p) s h = h
+-- ---- laws
 
 drawn-as : (z : Size) (s from : Shown) (v : Saved) → from.cell ≡ s.cell → from.wrapped ≡ s.wrapped
     → term_of from v ≡ at (term_of from v) s.cell s.wrapped from.row from.col from.attrs

@@ -1,5 +1,7 @@
 pub mod Rows
 pub mod Modes
+pub mod CursorForms
+pub mod LocalCursor
 pub mod Cursor
 pub mod Screens
 pub mod Lists
@@ -10,6 +12,5 @@ pub mod Costs
 pub mod Lengths
 pub mod LostFlags
 pub mod LocalRows
-pub mod LocalCursor
 pub mod LocalScreens
 pub mod LocalExamples

@@ -28,7 +28,7 @@ use Rattle.screen_drawing.specs.Screen.{cursor_placed, grid_redraw, grid_content
 use Rattle.screen_drawing.specs.Screen.{contents_formatted, state_formatted, contents_diff, state_diff}
 use Rattle.screen_drawing.specs.Screen.{cursor_state_formatted}
 use Rattle.screen_drawing.specs.Laws.{IsTrueOfLists}
-use Rattle.screen_drawing.proofs.Cursor.{Ends, ends}
+use Rattle.screen_drawing.proofs.CursorForms.{Ends, ends}
 
 -- W n fs says that the list fs is as wanted, with at most n bytes where they are counted
 pub record IsMeasure (W : ℕ → List Form → Type 0) : Type 0 where

@@ -19,10 +19,11 @@ use Rattle.screen_drawing.specs.Laws.{IsDrawable, showing}
 use Rattle.screen_drawing.specs.Local.{waiting_row, EachGridDifferenceIsLocal, EachContentsDifferenceIsLocal}
 use Rattle.screen_drawing.specs.Local.{EachDifferenceIsLocal}
 use Rattle.screen_drawing.proofs.Modes.{hide-switched}
-use Rattle.screen_drawing.proofs.Cursor.{known-some}
+use Rattle.screen_drawing.proofs.CursorForms.{known-some}
 use Rattle.screen_drawing.proofs.Rows.{difference-done}
 use Rattle.screen_drawing.proofs.LocalRows.{rows-local}
-use Rattle.screen_drawing.proofs.LocalCursor.{idle, change-within, IsEndRoom, cursor-within}
+use Rattle.screen_drawing.proofs.LocalCursor.{idle, change-within, IsEndRoom}
+use Rattle.screen_drawing.proofs.Cursor.{cursor-within}
 
 abbrev Room : Size → Shown → Shown → ℕ → ℕ → Type 0
 Room z old new = IsLocalOrEnd z old new (waiting_row z new)

@@ -27,7 +27,8 @@ use Rattle.screen_drawing.specs.Laws.{EachDifferenceLeads, EachStateDifferenceLe
 use Rattle.screen_drawing.specs.Laws.{EachLaterRedrawLeads}
 use Rattle.vt100_forms.proofs.AttrsLemmas.{default-proper}
 use Rattle.screen_drawing.proofs.Modes.{hide-switched, modes-run, modes-run_changed}
-use Rattle.screen_drawing.proofs.Cursor.{cursor-run, known-some}
+use Rattle.screen_drawing.proofs.CursorForms.{known-some}
+use Rattle.screen_drawing.proofs.Cursor.{cursor-run}
 use Rattle.screen_drawing.proofs.Rows.{IsDone, redraw-done, difference-done}
 
 -- ---- lists of forms, whatever is saved
