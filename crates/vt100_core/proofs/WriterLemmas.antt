@@ -69,6 +69,16 @@ pub last_appends : (fs : List Form) (s : List ℕ) (b : Bool) (t : List ℕ) →
 last_appends fs s true t e = e
 last_appends fs s false t e = begun_none fs s t e
 
+-- a form is appended, and then the others, or a part of them
+pub form_appends : (f : Form) (gs : List Form) (s t : List ℕ) (b : Bool) (u : List ℕ) → t ≡ s ++ spell (f ∷ [])
+    → Appends gs t b u → Appends (f ∷ gs) s b u
+form_appends f gs s t b u h r = appends_rest (f ∷ []) gs (f ∷ gs) s t b u refl h r
+
+-- none is appended
+pub none_appends : {T E : Type 0} (r : Result T E) (fs : List Form) (s t : List ℕ) → IsErr r → t ≡ s
+    → Appends fs s (is_ok r) t
+none_appends r fs s t err e = refused r fs s t err (begun_none fs s t e)
+
 -- the first ones are refused
 pub refused_front : {T E : Type 0} (r : Result T E) (fs gs all : List Form) (s t : List ℕ) → IsErr r → all ≡ fs ++ gs
     → IsBegun s (spell fs) t → Appends all s (is_ok r) t

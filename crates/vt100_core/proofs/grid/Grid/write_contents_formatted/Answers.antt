@@ -1,31 +1,32 @@
-use Rattle.std.proofs.Common.{ap, false, true, ◌∙◌, [], ◌∷◌}
+use Rattle.std.proofs.Common.{ap, false, is_ok, true, ◌∙◌, ◌∷◌}
 use Rattle.vt100_forms.specs.Form.{ClearAttrs, ClearScreen}
 use Rattle.screen_drawing.specs.Rows.{pen_at}
 use Rattle.vt100_core.specs.Writers.{contents_formatted, redrawn}
-use Rattle.vt100_core.proofs.WriterLemmas.{appended_then, begun_rest, placed-attrs, placed-cursor, placed-rows}
-use Rattle.vt100_core.proofs.WriterLemmas.{refused}
+use Rattle.vt100_core.proofs.WriterLemmas.{form_appends, placed-attrs, placed-cursor, placed-rows, refused}
 use Rattle.vt100_core.proofs.FormLists.{grid-short, grown-short}
 use Rattle.vt100_core.proofs.grid.Grid.write_contents_formatted.Goals as goal
 
 pub returns-in_err-redraw_rows-clause-text : goal.returns-in_err-redraw_rows-clause-text
 returns-in_err-redraw_rows-clause-text c =
     let fs = (redrawn c.args.self.now).forms in
+    let ok = is_ok c.from_residual-in_err-redraw_rows.result in
     let pen = c.pen_at-pen.ensures ∙ ap (pen_at 0 0) c.new.ensures in
-    refused c.from_residual-in_err-redraw_rows.result (contents_formatted c.args.self.now) _ _
+    form_appends ClearAttrs (ClearScreen ∷ fs) _ _ ok _ c.in_ok-write_buf.ensures.bytes
+    (form_appends ClearScreen fs _ _ ok _ c.in_ok-write_buf-2.ensures.bytes
+    (refused c.from_residual-in_err-redraw_rows.result fs _ _
     c.from_residual-in_err-redraw_rows.ensures.0
-    (begun_rest (ClearAttrs ∷ []) (ClearScreen ∷ fs) _ _ _ c.in_ok-write_buf.ensures.bytes
-    (begun_rest (ClearScreen ∷ []) fs _ _ _ c.in_ok-write_buf-2.ensures.bytes
     (placed-rows c.args.self.now _ _ _ _ pen c.in_err-redraw_rows.ensures)))
 
 pub returns-in_err-write_cursor_position_formatted-clause-text :
     goal.returns-in_err-write_cursor_position_formatted-clause-text
 returns-in_err-write_cursor_position_formatted-clause-text c =
     let fs = (redrawn c.args.self.now).forms in
+    let ok = is_ok c.from_residual-in_err-write_cursor_position_formatted.result in
     let pen = c.pen_at-pen.ensures ∙ ap (pen_at 0 0) c.new.ensures in
-    refused c.from_residual-in_err-write_cursor_position_formatted.result (contents_formatted c.args.self.now) _ _
+    form_appends ClearAttrs (ClearScreen ∷ fs) _ _ ok _ c.in_ok-write_buf.ensures.bytes
+    (form_appends ClearScreen fs _ _ ok _ c.in_ok-write_buf-2.ensures.bytes
+    (refused c.from_residual-in_err-write_cursor_position_formatted.result fs _ _
     c.from_residual-in_err-write_cursor_position_formatted.ensures.0
-    (begun_rest (ClearAttrs ∷ []) (ClearScreen ∷ fs) _ _ _ c.in_ok-write_buf.ensures.bytes
-    (begun_rest (ClearScreen ∷ []) fs _ _ _ c.in_ok-write_buf-2.ensures.bytes
     (placed-cursor c.args.self.now _ _ false _ pen c.in_ok-redraw_rows.ensures
     c.in_err-write_cursor_position_formatted.ensures)))
 
@@ -33,8 +34,8 @@ pub returns-clause-text : goal.returns-clause-text
 returns-clause-text c =
     let fs = (redrawn c.args.self.now).forms in
     let pen = c.pen_at-pen.ensures ∙ ap (pen_at 0 0) c.new.ensures in
-    appended_then (ClearAttrs ∷ []) (ClearScreen ∷ fs) _ _ _ c.in_ok-write_buf.ensures.bytes
-    (appended_then (ClearScreen ∷ []) fs _ _ _ c.in_ok-write_buf-2.ensures.bytes
+    form_appends ClearAttrs (ClearScreen ∷ fs) _ _ true _ c.in_ok-write_buf.ensures.bytes
+    (form_appends ClearScreen fs _ _ true _ c.in_ok-write_buf-2.ensures.bytes
     (placed-cursor c.args.self.now _ _ true _ pen c.in_ok-redraw_rows.ensures
     c.in_ok-write_cursor_position_formatted.ensures))
 
