@@ -1,19 +1,18 @@
 -- A screen's forms are those of what it shows.
 use Rattle.std.proofs.Common.{◌≡◌, ◌∙◌, ℕ, List, ◌∷◌, ◌++◌, Contains, None, sym, ap, subst}
 use Rattle.vt100_forms.specs.Attrs.{default_attrs}
-use Rattle.vt100_forms.specs.Form.{Form, HideCursor, ClearAttrs, ClearScreen, change}
+use Rattle.vt100_forms.specs.Form.{Form, HideCursor}
 use Rattle.vt100_cells.specs.Cell.{CellView}
 use Rattle.terminal_model.specs.Term.{Size, Shown, IsShown}
 use Rattle.terminal_model.specs.Leads.{Leads}
 use Rattle.terminal_model.proofs.FormLemmas.{IsShown-of}
-use Rattle.row_drawing.specs.Writer.{Drawn}
-use Rattle.screen_drawing.specs.Modes.{switch, input_mode_formatted, input_mode_diff}
+use Rattle.screen_drawing.specs.Modes.{input_mode_formatted, input_mode_diff}
 use Rattle.screen_drawing.specs.Cursor as cursor
 use Rattle.screen_drawing.specs.Laws.{IsDrawable, with_modes}
 use Rattle.screen_drawing.proofs.Screens.{redraw_leads, state-redraw_leads, difference_leads, state-difference_leads}
 use Rattle.screen_drawing.proofs.Cursor.{cursor-state_set}
 use Rattle.screen_drawing.specs.Screen as picture
-use Rattle.screen_drawing.specs.Screen.{grid_redraw, grid_contents_formatted, grid_difference}
+use Rattle.screen_drawing.specs.Screen.{grid_redraw, grid_difference, redraw_by, difference_by}
 use Rattle.vt100_core.specs.Picture.{grid_size, term_of_grid, visible_lines}
 use Rattle.vt100_core.specs.WriterLaws as core
 use Rattle.vt100_core.specs.WriterLaws.{picture_of}
@@ -50,14 +49,13 @@ picture-is s h =
 -- ---- redraws
 
 pub redraw-of_shown : EachRedrawIsOfShown
-unfolding picture.contents_formatted grid_contents_formatted picture.state_formatted picture.cursor_state_formatted
+unfolding picture.contents_formatted picture.state_formatted picture.cursor_state_formatted
 redraw-of_shown s h =
     let x = extras_of s in
     let z = grid_size s.shown in
     let is = sym (picture-is s h) in
-    let contents =
-    ap (λ (d : Drawn). HideCursor s.hidden ∷ ((ClearAttrs ∷ ClearScreen ∷ d.forms) ++ change d.pen.attrs s.attrs))
-    (redrawn-of_picture s.shown x (grid-unscrolled s h) ∙ ap (grid_redraw z) is) in
+    let drawn = redrawn-of_picture s.shown x (grid-unscrolled s h) ∙ ap (grid_redraw z) is in
+    let contents = ap (redraw_by (shown_state s)) drawn in
     record {
       contents = contents;
       state = ap (λ (fs : List Form). fs ++ input_mode_formatted (shown_state s)) contents;
@@ -72,11 +70,8 @@ unfolding picture.contents_diff picture.state_diff
 difference-of_shown old new o h e =
     let z = grid_size new.shown in
     let drawn = differing-of_pictures new.shown old.shown (extras_of new) (extras_of old) (grid-unscrolled new h)
-    (grid-unscrolled old o) e
-    ∙ ap (λ (x : Shown). grid_difference z x (picture_of new.shown (extras_of new))) (sym (picture-is old o))
-    ∙ ap (λ (x : Shown). grid_difference z (shown_state old) x) (sym (picture-is new h)) in
-    let contents =
-    ap (λ (d : Drawn). switch HideCursor old.hidden new.hidden ++ d.forms ++ change d.pen.attrs new.attrs) drawn in
+    (grid-unscrolled old o) e ∙ (λ i. grid_difference z (sym (picture-is old o) i) (sym (picture-is new h) i)) in
+    let contents = ap (difference_by (shown_state old) (shown_state new)) drawn in
     record {
       contents = contents;
       state = ap (λ (fs : List Form). fs ++ input_mode_diff (shown_state old) (shown_state new)) contents;

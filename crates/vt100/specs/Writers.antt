@@ -3,11 +3,12 @@
 -- The rows are drawn as they are shown. Where no kept row is, these are the forms for what the screen shows.
 use Rattle.std.specs.Prelude.{ℕ, ◌+◌, ◌==◌, Bool, false, ◌&&◌, List, [], ◌∷◌, ◌++◌, None}
 use Rattle.vt100_forms.specs.Attrs.{default_attrs}
-use Rattle.vt100_forms.specs.Form.{Form, HideCursor, change, spell}
+use Rattle.vt100_forms.specs.Form.{Form, HideCursor, spell}
 use Rattle.row_drawing.specs.Writer.{Drawn}
 use Rattle.vt100_rows.specs.Row.{RowView}
 use Rattle.vt100_rows.specs.Forms as row
-use Rattle.screen_drawing.specs.Modes.{switch, input_mode_formatted, input_mode_diff}
+use Rattle.screen_drawing.specs.Modes.{input_mode_formatted, input_mode_diff}
+use Rattle.screen_drawing.specs.Screen.{redraw_by, difference_by}
 use Rattle.vt100_core.specs.Grid.{GridView, visible}
 use Rattle.vt100_core.specs.Writers as grid
 use Rattle.screen_model.specs.State.{State}
@@ -15,10 +16,9 @@ use Rattle.screen_model.specs.Shown.{shown_state}
 
 -- ---- the whole screen
 
--- the hiding of the cursor, the shown sheet, and the attributes that are drawn with
+-- the shown sheet, with the hiding of the cursor and the attributes that are drawn with
 abbrev pub contents_formatted : State → List Form
-contents_formatted s =
-    HideCursor s.hidden ∷ (grid.contents_formatted s.shown ++ change (grid.redrawn s.shown).pen.attrs s.attrs)
+contents_formatted s = redraw_by (shown_state s) (grid.redrawn s.shown)
 
 -- and the modes
 abbrev pub state_formatted : State → List Form
@@ -29,9 +29,7 @@ abbrev pub sheet_diff : State → State → Drawn
 sheet_diff old new = grid.differing new.shown old.shown old.attrs
 
 abbrev pub contents_diff : State → State → List Form
-contents_diff old new =
-    switch HideCursor old.hidden new.hidden ++ (sheet_diff old new).forms
-    ++ change (sheet_diff old new).pen.attrs new.attrs
+contents_diff old new = difference_by (shown_state old) (shown_state new) (sheet_diff old new)
 
 abbrev pub state_diff : State → State → List Form
 state_diff old new = contents_diff old new ++ input_mode_diff (shown_state old) (shown_state new)
