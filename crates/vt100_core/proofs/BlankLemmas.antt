@@ -6,7 +6,7 @@ use Rattle.vt100_rows.specs.Sheet.{IsSheet}
 use Rattle.vt100_rows.proofs.SheetLemmas.{IsSheet-blank}
 use Rattle.vt100_core.specs.declared.scrollback.Scrollback.TheVariants.{Disabled}
 use Rattle.vt100_core.specs.Grid.{GridView, IsGrid, new_grid, cleared}
-use Rattle.vt100_core.proofs.GridLemmas.{IsGrid-parts, IsNew-of, new-again, no-rows}
+use Rattle.vt100_core.proofs.GridLemmas.{IsGrid-parts, no-rows}
 
 pub IsGrid-filled : (g : GridView) (rows : List RowView) → IsGrid g → rows ≡ replicate g.height (blank_row g.width)
     → IsGrid (record g { rows = rows })
@@ -34,22 +34,8 @@ IsGrid-cleared g i = record {
   kept = i.kept;
   shown = i.shown;
   fresh = λ z.
-      let n = IsNew-of g i (sym (length-replicate (length g.rows) (blank_row g.width)) ∙ z) in
-      new-again (cleared g) i.kept
-      (record {
-        rows = no-rows (cleared g).rows z;
-        row = refl;
-        col = refl;
-        saved_row = refl;
-        saved_col = refl;
-        origin = refl;
-        saved_origin = refl;
-        top = refl;
-        bottom = refl;
-        kept_rows = n.kept_rows;
-        offset = n.offset;
-        scrolled_off = n.scrolled_off;
-      });
+      let new = i.fresh (sym (length-replicate (length g.rows) (blank_row g.width)) ∙ z) in
+      λ j. record (new_grid g.height g.width Disabled) { rows = no-rows (cleared g).rows z j; kept = (new j).kept };
 }
 
 pub clears : (g s : GridView) (rows : List RowView) (bottom : ℕ) → g ≡ s

@@ -39,38 +39,55 @@ IsShown-at : (g : GridView) (n m : ℕ) (left : List RowView) (wrapping : Bool) 
     → IsShown g n left wrapping old now → IsShown g m left wrapping old now
 IsShown-at g n m left wrapping old now e h = rw e h
 
--- one row more
-pub IsShown-next : (g : GridView) (n m : ℕ) (from left : List RowView) (v : RowView) (wrapping wraps : Bool)
-    (old was row now : List ℕ) → m ≡ n + 1 → IsShown g n from wrapping old was → from ≡ v ∷ left
-    → row ≡ was ++ encode_utf8_all (written_text v 0 g.width wrapping) → wraps ≡ v.wrapped
-    → now ≡ row ++ encode_utf8_all (cond v.wrapped [] (10 ∷ [])) → IsShown g m left wraps old now
-IsShown-next g n m from left v wrapping wraps old was row now em h cut er ew en =
+-- the row v is shown at n, and `left` are those below it
+record IsNextRow (g : GridView) (n : ℕ) (left : List RowView) (v : RowView) (wrapping : Bool) : Type 0 where
+  within : n < length g.rows
+  here : v ≡ visible_at g n
+  others : left ≡ drop (suc n) (visible g)
+  line : text_line g n ≡ written_text v 0 g.width wrapping ++ cond v.wrapped [] (10 ∷ [])
+
+next-row : (g : GridView) (n : ℕ) (from left : List RowView) (v : RowView) (wrapping : Bool) (old was : List ℕ)
+    → IsShown g n from wrapping old was → from ≡ v ∷ left → IsNextRow g n left v wrapping
+next-row g n from left v wrapping old was h cut =
     let all : drop n (visible g) ≡ v ∷ left = sym h.rows ∙ cut in
+    let count = length-rows_by_position (length g.rows) (visible_at g) in
     let within : n < length (visible g) = some-left (visible g) left n v all in
     let parts : v ∷ left ≡ get_or (visible g) n (blank_row 0) ∷ drop (suc n) (visible g) =
     sym all ∙ drop-cons (visible g) n (blank_row 0) within in
     let here : v ≡ visible_at g n =
     ap (λ (xs : List RowView). get_or xs 0 v) parts
-    ∙ row_at-by_position (length g.rows) (visible_at g) n
-    (omega (arith, length-rows_by_position (length g.rows) (visible_at g))) in
-    let line : encode_utf8_all (text_line g n) ≡ encode_utf8_all (written_text v 0 g.width wrapping)
-    ++ encode_utf8_all (cond v.wrapped [] (10 ∷ [])) =
-    ap (λ (x : RowView). encode_utf8_all (written_text x 0 g.width (is_below_wrapped g n)
-    ++ cond x.wrapped [] (10 ∷ []))) (sym here)
-    ∙ ap (λ b. encode_utf8_all (written_text v 0 g.width b ++ cond v.wrapped [] (10 ∷ []))) (sym h.wraps)
-    ∙ encodes-append (written_text v 0 g.width wrapping) (cond v.wrapped [] (10 ∷ [])) in
+    ∙ row_at-by_position (length g.rows) (visible_at g) n (omega (arith, count)) in
+    record {
+      within = omega (arith, count, within);
+      here = here;
+      others = ap (λ (xs : List RowView). drop 1 xs) parts;
+      line = ap (λ (x : RowView). written_text x 0 g.width (is_below_wrapped g n) ++ cond x.wrapped [] (10 ∷ []))
+          (sym here)
+          ∙ ap (λ b. written_text v 0 g.width b ++ cond v.wrapped [] (10 ∷ [])) (sym h.wraps);
+    }
+
+-- one row more
+pub IsShown-next : {g : GridView} {n m : ℕ} {from left : List RowView} {v : RowView} {wrapping wraps : Bool}
+    {old was row now : List ℕ} → m ≡ n + 1 → IsShown g n from wrapping old was → from ≡ v ∷ left
+    → row ≡ was ++ encode_utf8_all (written_text v 0 g.width wrapping) → wraps ≡ v.wrapped
+    → now ≡ row ++ encode_utf8_all (cond v.wrapped [] (10 ∷ [])) → IsShown g m left wraps old now
+IsShown-next {g} {n} {m} {from} {left} {v} {wrapping} {wraps} {old} {was} {row} {now} em h cut er ew en =
+    let next = next-row g n from left v wrapping old was h cut in
+    let within = next.within in
+    let newline : List ℕ = cond v.wrapped [] (10 ∷ []) in
     IsShown-at g (suc n) m left wraps old now (omega arith) (record {
-      rows = ap (λ (xs : List RowView). drop 1 xs) parts;
-      wraps = ew ∙ ap (λ (x : RowView). x.wrapped) here ∙ below-next g n;
+      rows = next.others;
+      wraps = ew ∙ ap (λ (x : RowView). x.wrapped) next.here ∙ below-next g n;
       bytes =
-          en ∙ ap (λ (bs : List ℕ). bs ++ encode_utf8_all (cond v.wrapped [] (10 ∷ []))) (er
+          en ∙ ap (λ (bs : List ℕ). bs ++ encode_utf8_all newline) (er
           ∙ ap (λ (bs : List ℕ). bs ++ encode_utf8_all (written_text v 0 g.width wrapping)) h.bytes)
           ∙ append_assoc (old ++ encode_utf8_all (text_lines g n))
-          (encode_utf8_all (written_text v 0 g.width wrapping)) (encode_utf8_all (cond v.wrapped [] (10 ∷ [])))
-          ∙ ap (λ bs. (old ++ encode_utf8_all (text_lines g n)) ++ bs) (sym line)
+          (encode_utf8_all (written_text v 0 g.width wrapping)) (encode_utf8_all newline)
+          ∙ ap (λ bs. (old ++ encode_utf8_all (text_lines g n)) ++ bs)
+          (sym (ap encode_utf8_all next.line ∙ encodes-append (written_text v 0 g.width wrapping) newline))
           ∙ append_assoc old (encode_utf8_all (text_lines g n)) (encode_utf8_all (text_line g n))
           ∙ ap (λ bs. old ++ bs) (sym (encodes-append (text_lines g n) (text_line g n)));
-      few = omega (arith, length-rows_by_position (length g.rows) (visible_at g));
+      few = omega arith;
     })
 
 pub no-newline : (wrapped : Bool) (bs : List ℕ) → wrapped ≡ true
@@ -114,26 +131,17 @@ lines-more g n (suc m) h =
     (cases_lt m n)
 
 -- n rows are written, and a part of the next
-pub IsBegun-row : (g : GridView) (n : ℕ) (from left : List RowView) (v : RowView) (wrapping : Bool)
-    (old was now : List ℕ) → IsShown g n from wrapping old was → from ≡ v ∷ left
+pub IsBegun-row : {g : GridView} {n : ℕ} {from left : List RowView} {v : RowView} {wrapping : Bool}
+    {old was : List ℕ} (now : List ℕ) → IsShown g n from wrapping old was → from ≡ v ∷ left
     → IsBegun was (encode_utf8_all (written_text v 0 g.width wrapping)) now
     → IsBegun old (encode_utf8_all (text_lines g (length g.rows))) now
-IsBegun-row g n from left v wrapping old was now h cut begun =
-    let all : drop n (visible g) ≡ v ∷ left = sym h.rows ∙ cut in
-    let within : n < length (visible g) = some-left (visible g) left n v all in
-    let here : v ≡ visible_at g n =
-    ap (λ (xs : List RowView). get_or xs 0 v) (sym all ∙ drop-cons (visible g) n (blank_row 0) within)
-    ∙ row_at-by_position (length g.rows) (visible_at g) n
-    (omega (arith, length-rows_by_position (length g.rows) (visible_at g))) in
+IsBegun-row {g} {n} {from} {left} {v} {wrapping} {old} {was} now h cut begun =
+    let next = next-row g n from left v wrapping old was h cut in
     let written = written_text v 0 g.width wrapping in
     let newline : List ℕ = cond v.wrapped [] (10 ∷ []) in
-    let line : text_line g n ≡ written ++ newline =
-    ap (λ (x : RowView). written_text x 0 g.width (is_below_wrapped g n) ++ cond x.wrapped [] (10 ∷ [])) (sym here)
-    ∙ ap (λ b. written_text v 0 g.width b ++ newline) (sym h.wraps) in
-    let more = lines-more g (suc n) (length g.rows)
-    (omega (arith, length-rows_by_position (length g.rows) (visible_at g))) in
+    let more = lines-more g (suc n) (length g.rows) (omega (arith, next.within)) in
     let whole : text_lines g (length g.rows) ≡ (text_lines g n ++ written) ++ (newline ++ more.0) =
-    more.1 ∙ ap (λ cs. (text_lines g n ++ cs) ++ more.0) line
+    more.1 ∙ ap (λ cs. (text_lines g n ++ cs) ++ more.0) next.line
     ∙ ap (λ (cs : List ℕ). cs ++ more.0) (sym (append_assoc (text_lines g n) written newline))
     ∙ append_assoc (text_lines g n ++ written) newline more.0 in
     IsBegun-within old was (encode_utf8_all (text_lines g n)) (encode_utf8_all written)

@@ -15,7 +15,6 @@ use Rattle.vt100_core.specs.Erase.{all_erased, all_erased_forward, all_erased_ba
 use Rattle.vt100_core.specs.Erase.{columns_erased, cells_inserted, cells_deleted}
 use Rattle.vt100_rows.specs.Sheet.{erased_forward_at, erased_backward_at}
 use Rattle.vt100_rows.proofs.SheetLemmas.{length-rows_by_position, IsSheet-by_position}
-use Rattle.vt100_rows.proofs.SheetLemmas.{IsRowOf-cond, wrapped-cond}
 use Rattle.vt100_core.proofs.GridLemmas.{IsGrid-rows, IsGrid-with_row}
 
 -- ---- rows stay what they are
@@ -33,6 +32,9 @@ IsRowOf-wiped width v s e a r h =
       row = IsRow-wiped v s e a r.row (omega (arith, r.wide));
       wide = length-by_position (length v.cells) (wiped (cell_at v.cells) s e a) ∙ r.wide;
     }
+
+wiped-wrapped : (v : RowView) (s e : ℕ) (a : Attrs) → v.wrapped ≡ false → (wiped_row v s e a).wrapped ≡ false
+wiped-wrapped v s e a w = ap (λ b. b && not (wipe_unflags (length v.cells) (cell_at v.cells) s e)) w
 
 length-cond : (b : Bool) (v w : RowView) (n : ℕ) → length v.cells ≡ n → length w.cells ≡ n
     → length (cond b v.cells w.cells) ≡ n
@@ -78,7 +80,7 @@ pub IsGrid-columns_erased : (g : GridView) (s e : ℕ) (a : Attrs) → IsGrid g 
 IsGrid-columns_erased g s e a i l h =
     IsGrid-cursor_row g (wiped_row (row_of_cursor g) s e a) i l
     (IsRowOf-wiped g.width (row_of_cursor g) s e a (cursor_row_of g i l) h)
-    (λ w. ap (λ b. b && not (wipe_unflags (length (row_of_cursor g).cells) (cell_at (row_of_cursor g).cells) s e)) w)
+    (wiped-wrapped (row_of_cursor g) s e a)
 
 pub IsGrid-cells_inserted : (g : GridView) (n : ℕ) → IsGrid g → IsAllocated g → IsGrid (cells_inserted g n)
 IsGrid-cells_inserted g n i l = IsGrid-cursor_row g (inserted (row_of_cursor g) g.col n) i l
@@ -103,43 +105,36 @@ pub IsGrid-all_erased : (g : GridView) (a : Attrs) → IsGrid g → IsAllocated 
 IsGrid-all_erased g a i l = IsGrid-positions g (λ r. cleared_row (row_at g.rows r) a) i l
     (λ r k. IsRowOf-cleared g.width (row_at g.rows r) a (i.sheet.each r k)) refl
 
-wiped-wrapped : (v : RowView) (s e : ℕ) (a : Attrs) → v.wrapped ≡ false → (wiped_row v s e a).wrapped ≡ false
-wiped-wrapped v s e a w = ap (λ b. b && not (wipe_unflags (length v.cells) (cell_at v.cells) s e)) w
+-- a row above or below the cursor's is empty, and the cursor's in part
+erased-each : (far here : Bool) (width : ℕ) (v : RowView) (s e : ℕ) (a : Attrs) → IsRowOf width v → e ≤ width
+    → IsRowOf width (cond far (cleared_row v a) (cond here (wiped_row v s e a) v))
+erased-each true here width v s e a r h = IsRowOf-cleared width v a r
+erased-each false true width v s e a r h = IsRowOf-wiped width v s e a r h
+erased-each false false width v s e a r h = r
+
+erased-last : (far here : Bool) (v : RowView) (s e : ℕ) (a : Attrs) → v.wrapped ≡ false
+    → (cond far (cleared_row v a) (cond here (wiped_row v s e a) v)).wrapped ≡ false
+erased-last true here v s e a w = refl
+erased-last false true v s e a w = wiped-wrapped v s e a w
+erased-last false false v s e a w = w
 
 pub IsGrid-all_erased_forward : (g : GridView) (a : Attrs) → IsGrid g → IsAllocated g → IsGrid (all_erased_forward g a)
 IsGrid-all_erased_forward g a i l =
     IsGrid-positions g (erased_forward_at g.rows g.row g.col g.width a) i l
-    (λ r k. IsRowOf-cond (nat_lt g.row r) g.width (cleared_row (row_at g.rows r) a)
-    (cond (r == g.row) (wiped_row (row_at g.rows r) g.col g.width a) (row_at g.rows r))
-    (λ _. IsRowOf-cleared g.width (row_at g.rows r) a (i.sheet.each r k))
-    (λ _. IsRowOf-cond (r == g.row) g.width (wiped_row (row_at g.rows r) g.col g.width a) (row_at g.rows r)
-    (λ _. IsRowOf-wiped g.width (row_at g.rows r) g.col g.width a (i.sheet.each r k) (omega arith))
-    (λ _. i.sheet.each r k)))
-    (wrapped-cond (nat_lt g.row (g.height - 1)) (cleared_row (row_at g.rows (g.height - 1)) a)
-    (cond ((g.height - 1) == g.row) (wiped_row (row_at g.rows (g.height - 1)) g.col g.width a)
-    (row_at g.rows (g.height - 1)))
-    (λ _. refl)
-    (λ _. wrapped-cond ((g.height - 1) == g.row) (wiped_row (row_at g.rows (g.height - 1)) g.col g.width a)
-    (row_at g.rows (g.height - 1))
-    (λ _. wiped-wrapped (row_at g.rows (g.height - 1)) g.col g.width a i.sheet.last) (λ _. i.sheet.last)))
+    (λ r k. erased-each (nat_lt g.row r) (r == g.row) g.width (row_at g.rows r) g.col g.width a (i.sheet.each r k)
+    (omega arith))
+    (erased-last (nat_lt g.row (g.height - 1)) ((g.height - 1) == g.row) (row_at g.rows (g.height - 1)) g.col g.width a
+    i.sheet.last)
 
 pub IsGrid-all_erased_backward : (g : GridView) (a : Attrs) → IsGrid g → IsAllocated g
     → IsGrid (all_erased_backward g a)
 IsGrid-all_erased_backward g a i l =
     let e = columns_to_cursor g in
     IsGrid-positions g (erased_backward_at g.rows g.row e a) i l
-    (λ r k. IsRowOf-cond (nat_lt r g.row) g.width (cleared_row (row_at g.rows r) a)
-    (cond (r == g.row) (wiped_row (row_at g.rows r) 0 e a) (row_at g.rows r))
-    (λ _. IsRowOf-cleared g.width (row_at g.rows r) a (i.sheet.each r k))
-    (λ _. IsRowOf-cond (r == g.row) g.width (wiped_row (row_at g.rows r) 0 e a) (row_at g.rows r)
-    (λ _. IsRowOf-wiped g.width (row_at g.rows r) 0 e a (i.sheet.each r k) (omega (arith, i.some_cols)))
-    (λ _. i.sheet.each r k)))
-    (wrapped-cond (nat_lt (g.height - 1) g.row) (cleared_row (row_at g.rows (g.height - 1)) a)
-    (cond ((g.height - 1) == g.row) (wiped_row (row_at g.rows (g.height - 1)) 0 e a) (row_at g.rows (g.height - 1)))
-    (λ _. refl)
-    (λ _. wrapped-cond ((g.height - 1) == g.row) (wiped_row (row_at g.rows (g.height - 1)) 0 e a)
-    (row_at g.rows (g.height - 1))
-    (λ _. wiped-wrapped (row_at g.rows (g.height - 1)) 0 e a i.sheet.last) (λ _. i.sheet.last)))
+    (λ r k. erased-each (nat_lt r g.row) (r == g.row) g.width (row_at g.rows r) 0 e a (i.sheet.each r k)
+    (omega (arith, i.some_cols)))
+    (erased-last (nat_lt (g.height - 1) g.row) ((g.height - 1) == g.row) (row_at g.rows (g.height - 1)) 0 e a
+    i.sheet.last)
 
 pub columns_to_cursor-fit : (g : GridView) → IsGrid g → columns_to_cursor g ≤ g.width
 columns_to_cursor-fit g i = omega (arith, i.some_cols)

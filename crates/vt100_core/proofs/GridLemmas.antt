@@ -1,13 +1,13 @@
 -- What is true of a grid stays true.
-use Rattle.std.proofs.Common.{◌≡◌, ℕ, ◌+◌, ◌-◌, ◌<◌, ◌≤◌, Bool, true, false, cond, ◌&&◌, List, [], ◌∷◌, length, set}
-use Rattle.std.proofs.Common.{min, refl, sym, ap, ◌∙◌, arith, length-set, nat_lt}
+use Rattle.std.proofs.Common.{◌≡◌, ℕ, ◌+◌, ◌-◌, ◌<◌, ◌≤◌, Bool, true, false, cond, List, [], ◌∷◌, length, set}
+use Rattle.std.proofs.Common.{min, refl, sym, ap, ◌∙◌, arith, length-set}
 use Rattle.vt100_rows.specs.Row.{RowView}
 use Rattle.vt100_rows.specs.Sheet.{rows_by_position, IsRowOf, IsSheet, moved_up, opened_line}
 use Rattle.vt100_core.specs.declared.scrollback.Scrollback.{Scrollback}
 use Rattle.vt100_core.specs.declared.scrollback.Scrollback.TheVariants.{Disabled, Enabled}
 use Rattle.vt100_core.specs.Grid.{KeptPart, IsKept, IsShownWide, GridView, IsGrid, IsAllocated, SameLimits, keeps_of}
 use Rattle.vt100_core.specs.Grid.{capacity_of, scrollback_of, new_grid, with_row, with_rows, is_in_region}
-use Rattle.vt100_core.specs.Lines.{lines_opened, lines_inserted, lines_deleted, scrolled_down}
+use Rattle.vt100_core.specs.Lines.{lines_opened, lines_deleted}
 use Rattle.vt100_rows.proofs.SheetLemmas.{length-rows_by_position, IsSheet-with_row}
 use Rattle.vt100_rows.proofs.MoveLemmas.{IsSheet-moved_up, IsSheet-opened_line}
 
@@ -144,14 +144,6 @@ IsGrid-lines_opened g first n i a =
     IsGrid-rows g (rows_by_position (length g.rows) f) i (length-rows_by_position (length g.rows) f)
     (IsSheet-opened_line g.height g.width g.rows first (g.bottom + 1) (min n (g.bottom + 1 - first)) i.sheet
     i.some_rows i.few_cols (region_rows g i a))
-
-pub IsGrid-lines_inserted : (g : GridView) (n : ℕ) → IsGrid g → IsAllocated g → IsGrid (lines_inserted g n)
-IsGrid-lines_inserted g n i a = IsGrid-cond (nat_lt 0 n
-    && is_in_region g) (lines_opened g g.row n) g (λ _. IsGrid-lines_opened g g.row n i a) (λ _. i)
-
-pub IsGrid-scrolled_down : (g : GridView) (n : ℕ) → IsGrid g → IsAllocated g → IsGrid (scrolled_down g n)
-IsGrid-scrolled_down g n i a = IsGrid-cond (nat_lt 0 n) (lines_opened g g.top n) g
-    (λ _. IsGrid-lines_opened g g.top n i a) (λ _. i)
 
 pub IsGrid-moved_up : (g : GridView) (first end n : ℕ) → IsGrid g → end ≤ length g.rows
     → IsGrid (with_rows g (moved_up g.rows first end n g.width))

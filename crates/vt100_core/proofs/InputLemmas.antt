@@ -1,7 +1,7 @@
 -- Printing on a grid is input to the terminal that shows its rows.
 use Rattle.std.proofs.Common.{◌≡◌, ℕ, ◌+◌, ◌-◌, ◌^◌, ◌<◌, ◌≤◌, ◌==◌, Bool, true, false, cond, not, ◌&&◌, ◌||◌, nat_lt}
 use Rattle.std.proofs.Common.{nat_le, List, [], length, set, min, sym, refl, ap, subst, ◌∙◌, arith, length-set, ⊎_elim}
-use Rattle.std.proofs.lemmas.Bool.{cond_both, cond-true, cond-false, lt-ltb, le-ltb, ne_eqb, eqb-true, and_from}
+use Rattle.std.proofs.lemmas.Bool.{cond_both, cond-true, cond-false, lt-ltb, le-ltb, ne_eqb, eqb-true}
 use Rattle.std.proofs.lemmas.Bool.{eq-eqb, cases_lt, cases_Bool}
 use Rattle.std.proofs.lemmas.Bool.Decides.{nat_tests}
 use mathlib.Core.Path.{fun_ext}
@@ -122,12 +122,7 @@ in-region g d = grind (arith, nat_tests, d.top, d.bottom, d.row)
 feeds : (g : GridView) → is_in_region g ≡ true
     → fed g 1 ≡ scrolled_up (record g { row = min (g.row + 1) g.bottom }) (min (g.row + 1) 65535 - g.bottom)
 unfolding fed
-feeds g e =
-    ap (λ b. cond b (scrolled_up (record g { row = min (g.row + 1) (cond b g.bottom (g.height - 1)) }) (cond b
-    (min (g.row + 1) 65535 - g.bottom) 0)) (let s : Scrolled = record {
-      grid = record g { row = min (g.row + 1) (cond b g.bottom (g.height - 1)) };
-      sunk = [];
-    } in s)) e
+feeds g e = rw e
 
 moves-none : (rows : List RowView) (end width k : ℕ) → k < end → row_at rows k ≡ moved_up rows 0 end 0 width k
 moves-none rows end width k h = grind (arith, nat_tests)
@@ -202,13 +197,7 @@ flagged-middle : (g : GridView) → IsDrawable g → g.row + 1 < g.height
     → flagged g (record g { col = 0; rows = fed_rows g 0; row = g.row + 1 }) ≡ gone_on g
 flagged-middle g d l =
     let middle : (g.row == g.bottom) ≡ false = ne_eqb g.row g.bottom (λ e. absurd (omega (arith, d.bottom, e))) in
-    let G = record g { col = 0; rows = fed_rows g 0; row = g.row + 1 } in
-    ap (λ b. cond (b && (g.row == 0)) G (with_row G (cond b (g.row - 1) g.row)
-    (with_wrap (row_at G.rows (cond b (g.row - 1) g.row)) (true && ((cond b (g.row - 1) g.row + 1) == (g.row + 1))))))
-    middle
-    ∙ ap (λ b. with_row G g.row (with_wrap (row_at G.rows g.row) b)) (eq-eqb (g.row + 1) (g.row + 1) refl)
-    ∙ ap (λ rows. record g { rows = set rows g.row (with_wrap (row_at rows g.row) true); col = 0; row = g.row + 1 })
-    (fed_rows-none g)
+    rw (middle, eq-eqb (g.row + 1) (g.row + 1) refl, fed_rows-none g)
 
 -- in the last row
 abbrev gone_up : GridView → GridView
@@ -238,14 +227,7 @@ flagged-last : (g : GridView) → IsDrawable g → 0 < g.row → g.row + 1 ≡ g
 flagged-last g d h e =
     let last : (g.row == g.bottom) ≡ true = eq-eqb g.row g.bottom (omega (arith, d.bottom)) in
     let later : (g.row == 0) ≡ false = ne_eqb g.row 0 (λ z. absurd (omega (arith, z))) in
-    let G = record g { col = 0; rows = fed_rows g 1 } in
-    ap (λ b. cond (b && (g.row == 0)) G (with_row G (cond b (g.row - 1) g.row)
-    (with_wrap (row_at G.rows (cond b (g.row - 1) g.row)) (true && ((cond b (g.row - 1) g.row + 1) == g.row))))) last
-    ∙ ap (λ b. cond b G (with_row G (g.row - 1) (with_wrap (row_at G.rows (g.row - 1))
-    ((g.row - 1 + 1) == g.row)))) later
-    ∙ ap (λ b. with_row G (g.row - 1) (with_wrap (row_at G.rows (g.row - 1)) b))
-    (eq-eqb (g.row - 1 + 1) g.row (omega arith))
-    ∙ ap (λ v. with_row G (g.row - 1) (with_wrap v true)) (fed_row-above g d h e)
+    rw (last, later, eq-eqb (g.row - 1 + 1) g.row (omega arith), fed_row-above g d h e)
 
 flagged-only : (g : GridView) → IsDrawable g → g.row ≡ 0 → g.row + 1 ≡ g.height
     → flagged g (record g { col = 0; rows = fed_rows g 1; row = g.row })
@@ -253,8 +235,7 @@ flagged-only : (g : GridView) → IsDrawable g → g.row ≡ 0 → g.row + 1 ≡
 flagged-only g d z e =
     let last : (g.row == g.bottom) ≡ true = eq-eqb g.row g.bottom (omega (arith, d.bottom)) in
     let first : (g.row == 0) ≡ true = eq-eqb g.row 0 z in
-    cond-true ((g.row == g.bottom) && (g.row == 0)) (record g { col = 0; rows = fed_rows g 1 }) _
-    (and_from (g.row == g.bottom) (g.row == 0) last first)
+    rw (last, first)
 
 -- ---- what that is in the picture
 

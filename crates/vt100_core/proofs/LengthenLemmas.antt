@@ -1,6 +1,7 @@
 -- Rows that come back at the top.
 use Rattle.std.proofs.Common.{◌≡◌, ℕ, ◌+◌, ◌-◌, ◌^◌, ◌<◌, ◌≤◌, ◌==◌, false, List, [], ◌++◌, length, take, drop, map}
-use Rattle.std.proofs.Common.{replicate, refl, sym, subst, ap, ◌∙◌, arith, length-take-le, length-drop, length-append, ⊎_elim}
+use Rattle.std.proofs.Common.{replicate, refl, sym, subst, ap, ◌∙◌, arith, length-take-le, length-drop, length-append}
+use Rattle.std.proofs.Common.{⊎_elim}
 use Rattle.std.proofs.lemmas.Bool.{cases_lt, cond_both, eqb-true}
 use Rattle.std.proofs.lemmas.Bool.Decides.{nat_tests}
 use Rattle.std.proofs.lemmas.List.{length-map, length-replicate, get_or-replicate, get_or-append_right, get_or-map}
@@ -15,7 +16,7 @@ use Rattle.vt100_rows.proofs.WidthLemmas.{length-resized}
 use Rattle.vt100_core.specs.Grid.{KeptPart, IsKept, GridView, IsGrid, IsAllocated}
 use Rattle.vt100_core.specs.Resize.{down_rows, rows_back, lengthened}
 use Rattle.vt100_rows.proofs.SheetLemmas.{IsRowOf-blank, IsSheet-none}
-use Rattle.vt100_core.proofs.GridLemmas.{IsGrid-parts, IsNew-of, new-again, no-rows}
+use Rattle.vt100_core.proofs.GridLemmas.{IsGrid-parts, IsNew-of, no-rows}
 use Rattle.vt100_core.proofs.KeepLemmas.{IsShownWide-none}
 
 -- ---- what is true of the rows of a screen
@@ -190,19 +191,7 @@ IsGrid-kept_changed g rows others i e each count off =
     IsGrid-parts g rows g.col k i (subst (λ (xs : List RowView). IsSheet g.height g.width xs) (sym e) i.sheet)
     i.cursor_col kept (IsShownWide-none k g.height g.width off)
     (λ z.
-    let n = IsNew-of g i (ap (λ (xs : List RowView). length xs) (sym e) ∙ z) in
-    new-again (record g { rows = rows; kept = k }) kept
-    (record {
-      rows = no-rows rows z;
-      row = n.row;
-      col = n.col;
-      saved_row = n.saved_row;
-      saved_col = n.saved_col;
-      origin = n.origin;
-      saved_origin = n.saved_origin;
-      top = n.top;
-      bottom = n.bottom;
-      kept_rows = no-rows others (count ∙ ap (λ (xs : List RowView). length xs) n.kept_rows);
-      offset = n.offset;
-      scrolled_off = n.scrolled_off;
-    }))
+    let none : length g.rows ≡ 0 = ap (λ (xs : List RowView). length xs) (sym e) ∙ z in
+    let new = i.fresh none in
+    let left : length others ≡ 0 = count ∙ ap (λ (x : GridView). length x.kept.rows) new in
+    λ j. record (new j) { rows = no-rows rows z j; kept = record ((new j).kept) { rows = no-rows others left j } })

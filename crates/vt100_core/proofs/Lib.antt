@@ -15,7 +15,6 @@ pub mod PlaceLemmas
 pub mod LengthenLemmas
 pub mod PictureLemmas
 pub mod RunLemmas
-pub mod WideLemmas
 pub mod InputLemmas
 pub mod BasicLemmas
 pub mod InputTexts

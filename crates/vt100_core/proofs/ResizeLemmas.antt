@@ -172,12 +172,7 @@ not-same m n b h = grind (arith, nat_tests)
 resized-lower : (g : GridView) (height width : ℕ) → height < g.height
     → lower_screen g height width ≡ resized g height width
 unfolding resized
-resized-lower g height width h =
-    let same : Scrolled = record { grid = g; sunk = [] } in
-    let higher : Scrolled = record { grid = lengthened (with_width (whole_screen g) width) height; sunk = [] } in
-    sym (ap (λ b. cond b same (cond (nat_lt height g.height) (lower_screen g height width) higher))
-    (not-same height g.height (width == g.width) h)
-    ∙ ap (λ b. cond b (lower_screen g height width) higher) (lt_ltb height g.height h))
+resized-lower g height width h = rw (not-same height g.height (width == g.width) h, lt_ltb height g.height h)
 
 pub lowers : (g s t u : GridView) (up height width : ℕ) → height < g.height → up ≡ up_rows g height
     → s ≡ (scrolled_up (whole_screen g) up).grid
@@ -200,12 +195,7 @@ both-none false s t e f = f
 
 pub raises-sunk : (g : GridView) (height width : ℕ) → g.height ≤ height → [] ≡ (resized g height width).sunk
 unfolding resized
-raises-sunk g height width h =
-    let same : Scrolled = record { grid = g; sunk = [] } in
-    let higher : Scrolled = record { grid = lengthened (with_width (whole_screen g) width) height; sunk = [] } in
-    sym (both-none ((height == g.height) && (width == g.width)) same
-    (cond (nat_lt height g.height) (lower_screen g height width) higher) refl
-    (ap (λ b. (cond b (lower_screen g height width) higher).sunk) (le-ltb height g.height h)))
+raises-sunk g height width h = rw (le-ltb height g.height h) (sym (both-none _ _ _ refl refl))
 
 -- ---- rows stay
 

@@ -1,32 +1,28 @@
--- Printing a run of printable ASCII characters.
-use Rattle.std.proofs.Common.{◌≡◌, ℕ, zero, ◌+◌, ◌<◌, ◌≤◌, ◌==◌, Bool, true, false, ◌&&◌, ◌||◌, List, [], ◌∷◌}
+-- Printing a run of characters, each of which takes one column or each two.
+use Rattle.std.proofs.Common.{◌≡◌, ℕ, zero, ◌+◌, ◌*◌, ◌<◌, ◌≤◌, ◌==◌, Bool, true, false, ◌&&◌, ◌||◌, List, [], ◌∷◌}
 use Rattle.std.proofs.Common.{◌++◌, length, set, take, drop, sym, refl, ap, ◌∙◌, arith, nat_lt, nat_le, length-set}
-use Rattle.std.proofs.Common.{append-nil, append_assoc, subst}
-use Rattle.std.specs.Prelude.{All}
+use Rattle.std.proofs.Common.{append-nil, append_assoc, subst, length-take}
+use Rattle.std.specs.Prelude.{All, Some, Ok, Err}
+use Rattle.std.specs.Char.{IsScalar}
 use Rattle.std.proofs.lemmas.Bool.{cond-true, le-leb}
 use Rattle.std.proofs.lemmas.Bool.Decides.{nat_tests}
-use Rattle.std.proofs.lemmas.List.Elements.{All-drop}
+use Rattle.std.proofs.lemmas.List.Elements.{All-drop, All-take}
 use Rattle.std.proofs.lemmas.List.{get_or-set_same, set-get_or, set-set, take-append-drop}
 use Rattle.vt100_forms.specs.declared.attrs.Attrs.{Attrs}
-use Rattle.vt100_cells.specs.Cell.{IsPrintable, columns_of, is_undrawable, cell_of}
-use Rattle.vt100_cells.specs.Cells.{cell_at}
-use Rattle.vt100_cells.specs.Line.{printed_run}
-use Rattle.vt100_cells.proofs.WidthLemmas.{printable-is}
-use Rattle.vt100_cells.proofs.ListLemmas.{length-by_position}
-use Rattle.vt100_rows.specs.Row.{RowView, blank_row, placed, placed_each}
-use Rattle.vt100_rows.proofs.RowRuns.{run_row-each, IsRow-each}
+use Rattle.vt100_cells.specs.Cell.{IsPrintable, columns_of, drawn_columns, is_undrawable, cell_of}
+use Rattle.vt100_cells.proofs.CellLemmas.{IsCell-of}
+use Rattle.vt100_cells.proofs.WidthLemmas.{drawn-is, drawn-ascii}
+use Rattle.vt100_rows.specs.Row.{RowView, blank_row, placed, placed_each, placed_pairs}
+use Rattle.vt100_rows.specs.Sheet.{IsRowOf}
 use Rattle.vt100_rows.specs.Sink.{TakesAll}
-use Rattle.vt100_rows.proofs.SinkLemmas.{TakesAll-append}
+use Rattle.vt100_rows.proofs.SinkLemmas.{TakesAll-append, TakesAll-list}
 use Rattle.vt100_core.specs.declared.printed.Printed.TheVariants.{Spacing}
-use Rattle.vt100_core.specs.Grid.{GridView, IsGrid, IsAllocated, row_of_cursor, with_cursor_row}
-use Rattle.vt100_core.specs.Scroll.{Scrolled, wrapped_on, made_to_fit}
-use Rattle.vt100_core.specs.Text.{PrintedGrid, put_at, printed, printed_all, TakesFront}
+use Rattle.vt100_core.specs.Grid.{GridView, IsGrid, IsAllocated, SameLimits, row_of_cursor, with_cursor_row}
+use Rattle.vt100_core.specs.Scroll.{Scrolled, ScrollsTo, wrapped_on, made_to_fit}
+use Rattle.vt100_core.specs.Text.{PrintedGrid, PrintsAll, PrintsFirst, put_at, printed, printed_all}
+use Rattle.vt100_core.proofs.GridLemmas.{SameLimits-trans}
 use Rattle.vt100_core.proofs.EraseLemmas.{cursor_row_of}
-use Rattle.vt100_core.proofs.TextLemmas.{IsGrid-put_row, printed-spaced}
-
--- the characters at the cursor, and the cursor behind them
-abbrev pub run_at : GridView → List ℕ → Attrs → GridView
-run_at g xs a = record (with_cursor_row g (placed_each (row_of_cursor g) g.col xs a)) { col = g.col + length xs }
+use Rattle.vt100_core.proofs.TextLemmas.{IsGrid-put_row, IsRowOf-placed, unwrapped-placed, span_of-cell, printed-spaced}
 
 -- ---- characters of so many columns
 
@@ -38,16 +34,23 @@ not-dropped u k n w col eu ek some h = grind (arith, nat_tests)
 abbrev pub drawn_at : Scrolled → ℕ → Attrs → ℕ → PrintedGrid
 drawn_at s c a n = record { grid = put_at s.grid (cell_of c a) a n; sunk = s.sunk; printed = Spacing }
 
-pub printed-of : (g : GridView) (c : ℕ) (a : Attrs) (n : ℕ) → (is_undrawable c ≡ false) × (columns_of c ≡ n) → 0 < n
-    → n ≤ g.width → printed g c a ≡ drawn_at (made_to_fit g n true) c a n
-printed-of g c a n d some w =
+printed-of : (g : GridView) (c : ℕ) (a : Attrs) (n : ℕ) → drawn_columns c ≡ Some n → 0 < n → n ≤ g.width
+    → printed g c a ≡ drawn_at (made_to_fit g n true) c a n
+printed-of g c a n e some w =
+    let d = drawn-is c n e in
     printed-spaced g c a (not-dropped (is_undrawable c) (columns_of c) n g.width g.col d.0 d.1 some w)
     (omega (arith, d.1))
     ∙ ap (λ m. drawn_at (made_to_fit g m true) c a m) d.1
 
 pub printed-printable : (g : GridView) (c : ℕ) (a : Attrs) → IsPrintable c → 0 < g.width
     → printed g c a ≡ drawn_at (made_to_fit g 1 true) c a 1
-printed-printable g c a p w = printed-of g c a 1 (printable-is c p) (omega arith) w
+printed-printable g c a p w = printed-of g c a 1 (sym (drawn-ascii c p.0 p.1)) (omega arith) w
+
+pub printable-drawn : (xs : List ℕ) → All IsPrintable xs → All (λ c. drawn_columns c ≡ Some 1) xs
+printable-drawn xs p k b l = sym (drawn-ascii _ (p k b l).0 (p k b l).1)
+
+pub printable-scalars : (xs : List ℕ) → All IsPrintable xs → All IsScalar xs
+printable-scalars xs p k b l = let one = p k b l in grind (arith, nat_tests)
 
 made-here : (g : GridView) (n : ℕ) → g.col + n ≤ g.width → made_to_fit g n true ≡ record { grid = g; sunk = [] }
 made-here g n h = cond-true (nat_le (g.col + n) g.width) _ (wrapped_on g true) (le-leb (g.col + n) g.width h)
@@ -58,30 +61,41 @@ made-here g n h = cond-true (nat_le (g.col + n) g.width) _ (wrapped_on g true) (
 abbrev after_first : PrintedGrid → List ℕ → Attrs → Scrolled
 after_first d xs a = record { grid = (printed_all d.grid xs a).grid; sunk = d.sunk ++ (printed_all d.grid xs a).sunk }
 
--- characters of n columns each, the columns that a text of them takes, and the row in which such a text is put
-pub record IsRun (n : ℕ) (IsOne : ℕ → Type 0) (columns : List ℕ → ℕ)
-    (put_in : RowView → ℕ → List ℕ → Attrs → RowView) : Type 0 where
+-- the columns that a text of characters of n columns takes, and the row in which such a text is put
+pub record IsRun (n : ℕ) (columns : List ℕ → ℕ) (put_in : RowView → ℕ → List ℕ → Attrs → RowView) : Type 0 where
+  pub some : 0 < n
   pub row_of_none : (v : RowView) (i : ℕ) (a : Attrs) → put_in v i [] a ≡ v
   pub row_of_more : (v : RowView) (i x : ℕ) (xs : List ℕ) (a : Attrs)
       → put_in (placed v i (cell_of x a) a) (i + n) xs a ≡ put_in v i (x ∷ xs) a
   pub none : columns [] ≡ 0
   pub more : (x : ℕ) (xs : List ℕ) → columns (x ∷ xs) ≡ n + columns xs
-  pub one : (g : GridView) (c : ℕ) (a : Attrs) → IsOne c → n ≤ g.width
-      → printed g c a ≡ drawn_at (made_to_fit g n true) c a n
 
-pub printable-run : IsRun 1 IsPrintable length placed_each
-printable-run = record {
+pub narrow-run : IsRun 1 length placed_each
+narrow-run = record {
+  some = omega arith;
   row_of_none = λ v i a. refl;
   row_of_more = λ v i x xs a. refl;
   none = refl;
   more = λ x xs. omega arith;
-  one = printed-printable;
 }
 
-module _ {n : ℕ} {IsOne : ℕ → Type 0} {columns : List ℕ → ℕ} {put_in : RowView → ℕ → List ℕ → Attrs → RowView}
-    (run : IsRun n IsOne columns put_in) where
+pub wide-run : IsRun 2 (λ xs. 2 * length xs) placed_pairs
+wide-run = record {
+  some = omega arith;
+  row_of_none = λ v i a. refl;
+  row_of_more = λ v i x xs a. refl;
+  none = refl;
+  more = λ x xs. omega arith;
+}
+
+module _ {n : ℕ} {columns : List ℕ → ℕ} {put_in : RowView → ℕ → List ℕ → Attrs → RowView}
+    (run : IsRun n columns put_in) where
+  -- a character of n columns
+  abbrev IsOne : ℕ → Type 0
+  IsOne c = drawn_columns c ≡ Some n
+
   -- the text at the cursor, and the cursor behind it
-  abbrev text_at : GridView → List ℕ → Attrs → GridView
+  abbrev pub text_at : GridView → List ℕ → Attrs → GridView
   text_at g xs a = record (with_cursor_row g (put_in (row_of_cursor g) g.col xs a)) { col = g.col + columns xs }
 
   with-first : (g : GridView) (x : ℕ) (xs : List ℕ) (a : Attrs) → g.row < length g.rows
@@ -107,7 +121,7 @@ module _ {n : ℕ} {IsOne : ℕ → Type 0} {columns : List ℕ → ℕ} {put_in
       in s) (text_at-none g a)
   all-here (x ∷ xs) g a p h w l =
       let more = run.more x xs in
-      let first = run.one g x a (p zero 0 (omega arith)) w
+      let first = printed-of g x a n (p zero 0 (omega arith)) run.some w
       ∙ ap (λ (s : Scrolled). drawn_at s x a n) (made-here g n (omega arith)) in
       let count = length-set g.rows g.row (placed (row_of_cursor g) g.col (cell_of x a) a) in
       ap (λ (d : PrintedGrid). after_first d xs a) first
@@ -122,7 +136,8 @@ module _ {n : ℕ} {IsOne : ℕ → Type 0} {columns : List ℕ → ℕ} {put_in
   in-row g [] a s some p w e room h l = absurd (omega arith)
   in-row g (x ∷ xs) a s some p w e room h l =
       let more = run.more x xs in
-      let first = run.one g x a (p zero 0 (omega arith)) w ∙ ap (λ (t : Scrolled). drawn_at t x a n) e in
+      let first = printed-of g x a n (p zero 0 (omega arith)) run.some w
+      ∙ ap (λ (t : Scrolled). drawn_at t x a n) e in
       let count = length-set s.grid.rows s.grid.row (placed (row_of_cursor s.grid) s.grid.col (cell_of x a) a) in
       ap (λ (d : PrintedGrid). after_first d xs a) first
       ∙ ap (λ (o : Scrolled). let t : Scrolled = record { grid = o.grid; sunk = s.sunk ++ o.sunk } in t)
@@ -130,38 +145,75 @@ module _ {n : ℕ} {IsOne : ℕ → Type 0} {columns : List ℕ → ℕ} {put_in
       (omega (arith, count)))
       ∙ (λ i. record { grid = with-first s.grid x xs a l i; sunk = append-nil s.sunk i })
 
-  -- what is printed of a text that fits where its first character does
-  pub in-row-all : (g h : GridView) (xs : List ℕ) (a : Attrs) → 0 < length xs → All IsOne xs → n ≤ g.width
-      → h ≡ (made_to_fit g n true).grid → n ≤ h.width → h.col + columns xs ≤ h.width → h.row < length h.rows
-      → record { grid = text_at h xs a; sunk = (made_to_fit g n true).sunk } ≡ printed_all g xs a
-  in-row-all g h xs a some p w e room fits l =
-      ap (λ (y : GridView). let s : Scrolled = record { grid = text_at y xs a; sunk = (made_to_fit g n true).sunk }
-      in s) e
-      ∙ sym (in-row g xs a (made_to_fit g n true) some p w refl (rw (← e) room) (rw (← e) fits) (rw (← e) l))
+  -- a front of m characters, for which the row of h has room, where the first character is made to fit
+  pub prints-in-row : {S : Type 0} {takes : S → RowView → S → Type 0} {s t : S} {g h k : GridView} {T E : Type 0}
+      {x : T} (text : List ℕ) (a : Attrs) (m : ℕ) → All IsOne text → n ≤ g.width → 0 < m → m ≤ length text
+      → ScrollsTo takes s t g h {T = T} {E = E} (Ok x) (made_to_fit g n true) → IsGrid h
+      → h.col + columns (take m text) ≤ h.width → k ≡ text_at h (take m text) a → IsAllocated k
+      → PrintsFirst takes s t g k {E = E} (Ok m) text a
+  prints-in-row {S} {takes} {s} {t} {g} {h} {k} text a m p w some within c i fits e l =
+      let xs = take m text in
+      let here : h.row < length h.rows = omega (arith, i.sheet.count c.allocated, i.cursor_row) in
+      let all : record { grid = text_at h xs a; sunk = (made_to_fit g n true).sunk } ≡ printed_all g xs a =
+      ap (λ (y : GridView). let o : Scrolled = record { grid = text_at y xs a; sunk = (made_to_fit g n true).sunk }
+      in o) c.grid
+      ∙ sym (in-row g xs a (made_to_fit g n true) (omega (arith, length-take m text)) (All-take IsOne m text p) w refl
+      (rw (← c.grid) (omega (arith, c.limits.width))) (rw (← c.grid) fits) (rw (← c.grid) here)) in
+      record {
+        some = some;
+        within = within;
+        grid = e ∙ ap (λ (o : Scrolled). o.grid) all;
+        sink = TakesAll-list takes s t _ _ (ap (λ (o : Scrolled). o.sunk) all) c.sink;
+        begun = tt;
+        limits = rw e (record { height = c.limits.height; width = c.limits.width; kept = c.limits.kept });
+        keeps_none = λ z. refl;
+        allocated = l;
+      }
 
-  -- what leaves where the first character is made to fit
-  pub first-sunk : (g : GridView) (xs : List ℕ) (a : Attrs) → 0 < length xs → All IsOne xs → n ≤ g.width
-      → (made_to_fit g n true).sunk ≡ (printed_all g (take 1 xs) a).sunk
-  first-sunk g [] a some p w = absurd (omega arith)
-  first-sunk g (x ∷ xs) a some p w =
-      sym (append-nil (printed g x a).sunk
-      ∙ ap (λ (d : PrintedGrid). d.sunk) (run.one g x a (p zero 0 (omega arith)) w))
+  -- where there is no memory to make the first character fit
+  pub refused-in-row : {S : Type 0} {takes : S → RowView → S → Type 0} {s t : S} {g h : GridView} {T E : Type 0} {e : E}
+      (text : List ℕ) (a : Attrs) → 0 < length text → All IsOne text → n ≤ g.width
+      → ScrollsTo takes s t g h {T = T} {E = E} (Err e) (made_to_fit g n true)
+      → PrintsFirst takes s t g h {E = E} (Err e) text a
+  refused-in-row [] a some p w c = absurd (omega arith)
+  refused-in-row {takes = takes} {s} {t} {g} (x ∷ xs) a some p w c = record {
+    some = tt;
+    within = tt;
+    grid = tt;
+    sink = tt;
+    begun = TakesAll-list takes s t _ _ (sym (append-nil (printed g x a).sunk
+        ∙ ap (λ (d : PrintedGrid). d.sunk) (printed-of g x a n (p zero 0 (omega arith)) run.some w))) c.sink;
+    limits = c.limits;
+    keeps_none = c.keeps_none;
+    allocated = c.allocated;
+  }
 
--- ---- what is true of a grid stays true
+  -- ---- what is true of a grid stays true
 
-pub IsGrid-run_at : (g : GridView) (xs : List ℕ) (a : Attrs) → IsGrid g → IsAllocated g → All IsPrintable xs
-    → g.col + length xs ≤ g.width → IsGrid (run_at g xs a)
-IsGrid-run_at g xs a i l p h =
-    let v = row_of_cursor g in
-    let r = cursor_row_of g i l in
-    let e = run_row-each xs v g.col a r.row p (omega (arith, r.wide)) in
-    IsGrid-put_row g (placed_each v g.col xs a) (length xs) i l
-    (record {
-      row = IsRow-each xs v g.col a r.row p (omega (arith, r.wide));
-      wide = sym (ap (λ (u : RowView). length u.cells) e)
-          ∙ length-by_position (length v.cells) (printed_run (cell_at v.cells) g.col xs a) ∙ r.wide;
-    })
-    (λ w. sym (ap (λ (u : RowView). u.wrapped) e) ∙ w) h
+  IsRowOf-put_in : (xs : List ℕ) (v : RowView) (i width : ℕ) (a : Attrs) → IsRowOf width v → All IsOne xs
+      → All IsScalar xs → i + columns xs ≤ width → IsRowOf width (put_in v i xs a)
+  IsRowOf-put_in [] v i width a r p s h = rw (run.row_of_none v i a) r
+  IsRowOf-put_in (x ∷ xs) v i width a r p s h =
+      let d = drawn-is x n (p zero 0 (omega arith)) in
+      let more = run.more x xs in
+      let span = span_of-cell x n a d.1 run.some in
+      let cell = IsCell-of x a (s zero 0 (omega arith)) d.0 (omega (arith, d.1, run.some)) in
+      rw (← run.row_of_more v i x xs a) (IsRowOf-put_in xs (placed v i (cell_of x a) a) (i + n) width a
+      (IsRowOf-placed width v i (cell_of x a) a r cell refl (omega (arith, span)))
+      (All-drop IsOne 1 (x ∷ xs) p) (All-drop IsScalar 1 (x ∷ xs) s) (omega arith))
+
+  unwrapped-put_in : (xs : List ℕ) (v : RowView) (i : ℕ) (a : Attrs) → v.wrapped ≡ false
+      → (put_in v i xs a).wrapped ≡ false
+  unwrapped-put_in [] v i a w = rw (run.row_of_none v i a) w
+  unwrapped-put_in (x ∷ xs) v i a w = rw (← run.row_of_more v i x xs a) (unwrapped-put_in xs
+      (placed v i (cell_of x a) a) (i + n) a (unwrapped-placed v i (cell_of x a) a w))
+
+  pub IsGrid-text_at : (g : GridView) (xs : List ℕ) (a : Attrs) → IsGrid g → IsAllocated g → All IsOne xs
+      → All IsScalar xs → g.col + columns xs ≤ g.width → IsGrid (text_at g xs a)
+  IsGrid-text_at g xs a i l p s h =
+      let v = row_of_cursor g in
+      IsGrid-put_row g (put_in v g.col xs a) (columns xs) i l
+      (IsRowOf-put_in xs v g.col g.width a (cursor_row_of g i l) p s h) (unwrapped-put_in xs v g.col a) h
 
 -- ---- one row after another
 
@@ -180,12 +232,15 @@ printed_all-append (x ∷ xs) ys g a =
     ∙ (λ i. record { grid = t.grid; sunk = sym (append_assoc d.sunk o.sunk t.sunk) i })
 
 -- a grid g and a sink s on the way from g0 and s0: a front of the text has been printed
-pub record IsOnTheWay {S : Type 0} (takes : S → RowView → S
-    → Type 0) (g0 : GridView) (s0 : S) (text : List ℕ) (a : Attrs) (g : GridView) (s : S) (rest : List ℕ) : Type 0 where
+pub record IsOnTheWay (IsOne : ℕ → Type 0) {S : Type 0} (takes : S → RowView → S → Type 0) (s0 s : S)
+    (g0 g : GridView) (text : List ℕ) (a : Attrs) (rest : List ℕ) : Type 0 where
   pub front : List ℕ
   pub parts : text ≡ front ++ rest
+  pub each : All IsOne rest
   pub grid : g ≡ (printed_all g0 front a).grid
   pub taken : TakesAll takes s0 (printed_all g0 front a).sunk s
+  pub limits : SameLimits g0 g
+  pub allocated : IsAllocated g
 
 -- what has been taken once n more characters have been printed
 taken-next : {S : Type 0} (takes : S → RowView → S
@@ -198,33 +253,38 @@ taken-next takes g0 g s0 s t front xs a e taken next =
     (TakesAll-append takes s0 s t o.sunk (printed_all o.grid xs a).sunk taken
     (subst (λ (y : GridView). TakesAll takes s (printed_all y xs a).sunk t) e next))
 
-pub on-the-way-next : {S : Type 0} (takes : S → RowView → S
-    → Type 0) (g0 g h : GridView) (s0 s t : S) (text rest : List ℕ) (a : Attrs) (n : ℕ)
-    → IsOnTheWay takes g0 s0 text a g s rest
-    → h ≡ (printed_all g (take n rest) a).grid → TakesAll takes s (printed_all g (take n rest) a).sunk t
-    → IsOnTheWay takes g0 s0 text a h t (drop n rest)
-on-the-way-next takes g0 g h s0 s t text rest a n w e taken = record {
+pub on-the-way-next : {IsOne : ℕ → Type 0} {S : Type 0} {takes : S → RowView → S → Type 0} {s0 s t : S}
+    {g0 g h : GridView} {text rest others : List ℕ} {a : Attrs} {E : Type 0} {n : ℕ}
+    → IsOnTheWay IsOne takes s0 s g0 g text a rest → PrintsFirst takes s t g h {E = E} (Ok n) rest a
+    → others ≡ drop n rest → IsOnTheWay IsOne takes s0 t g0 h text a others
+on-the-way-next {IsOne} {takes = takes} {s0} {s} {t} {g0} {g} {h} {rest = rest} {a = a} {n = n} w next e = record {
   front = w.front ++ take n rest;
-  parts = w.parts ∙ ap (λ xs. w.front ++ xs) (sym (take-append-drop n rest))
-      ∙ sym (append_assoc w.front (take n rest) (drop n rest));
-  grid = e ∙ ap (λ (y : GridView). (printed_all y (take n rest) a).grid) w.grid
+  parts = w.parts ∙ ap (λ xs. w.front ++ xs) (sym (take-append-drop n rest) ∙ ap (λ xs. take n rest ++ xs) (sym e))
+      ∙ sym (append_assoc w.front (take n rest) _);
+  each = rw e (All-drop IsOne n rest w.each);
+  grid = next.grid ∙ ap (λ (y : GridView). (printed_all y (take n rest) a).grid) w.grid
       ∙ sym (ap (λ (p : Scrolled). p.grid) (printed_all-append w.front (take n rest) g0 a));
-  taken = taken-next takes g0 g s0 s t w.front (take n rest) a w.grid w.taken taken;
+  taken = taken-next takes g0 g s0 s t w.front (take n rest) a w.grid w.taken next.sink;
+  limits = SameLimits-trans g0 g h w.limits next.limits;
+  allocated = next.allocated;
 }
 
--- what a sink has taken where the first character of what is left was refused
-pub on-the-way-refused : {S : Type 0} (takes : S → RowView → S
-    → Type 0) (g0 g : GridView) (s0 s t : S) (text rest : List ℕ) (a : Attrs) → IsOnTheWay takes g0 s0 text a g s rest
-    → TakesAll takes s (printed_all g (take 1 rest) a).sunk t → TakesFront takes s0 g0 text a t
-on-the-way-refused takes g0 g s0 s t text rest a w taken = (
-  w.front ++ take 1 rest,
-  drop 1 rest,
-  w.parts ∙ ap (λ xs. w.front ++ xs) (sym (take-append-drop 1 rest))
-      ∙ sym (append_assoc w.front (take 1 rest) (drop 1 rest)),
-  taken-next takes g0 g s0 s t w.front (take 1 rest) a w.grid w.taken taken,
-)
-
--- ---- the code
-
-pub cursor-within : (g : GridView) → IsGrid g → IsAllocated g → g.row < length g.rows
-cursor-within g i a = omega (arith, i.sheet.count a, i.cursor_row)
+-- where the first character of what is left is refused
+pub on-the-way-refused : {IsOne : ℕ → Type 0} {S : Type 0} {takes : S → RowView → S → Type 0} {s0 s t : S}
+    {g0 g h : GridView} {text rest : List ℕ} {a : Attrs} {T E : Type 0} {e : E}
+    → IsOnTheWay IsOne takes s0 s g0 g text a rest → PrintsFirst takes s t g h {E = E} (Err e) rest a
+    → PrintsAll takes s0 t g0 h {T = T} {E = E} (Err e) text a
+on-the-way-refused {takes = takes} {s0} {s} {t} {g0} {g} {h} {rest = rest} {a} w next = record {
+  grid = tt;
+  sink = tt;
+  begun = (
+    w.front ++ take 1 rest,
+    drop 1 rest,
+    w.parts ∙ ap (λ xs. w.front ++ xs) (sym (take-append-drop 1 rest))
+        ∙ sym (append_assoc w.front (take 1 rest) (drop 1 rest)),
+    taken-next takes g0 g s0 s t w.front (take 1 rest) a w.grid w.taken next.begun,
+  );
+  limits = SameLimits-trans g0 g h w.limits next.limits;
+  keeps_none = λ z. next.keeps_none (w.limits.kept.capacity ∙ z);
+  allocated = next.allocated;
+}

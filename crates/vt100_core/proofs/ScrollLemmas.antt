@@ -1,18 +1,23 @@
 -- Scrolling up.
-use Rattle.std.proofs.Common.{◌≡◌, ℕ, ◌+◌, ◌-◌, ◌<◌, ◌==◌, Bool, true, false, cond, not, ◌&&◌, List, [], length, take, drop}
-use Rattle.std.proofs.Common.{min, refl, sym, ap, ◌∙◌, arith, nat_le, subst}
-use Rattle.std.proofs.lemmas.Bool.{eq-eqb, eqb-true, and_parts, and_from, cond-true, cond-false}
+use Rattle.std.proofs.Common.{◌≡◌, ℕ, ◌+◌, ◌-◌, ◌<◌, ◌==◌, Bool, true, false, cond, ◌&&◌, List, [], length, take, drop}
+use Rattle.std.proofs.Common.{⊎_elim, min, refl, sym, ap, ◌∙◌, arith, nat_le, subst}
+use Rattle.std.specs.Prelude.{Result, Ok}
+use Rattle.std.proofs.lemmas.Bool.{cases_Bool, eq-eqb, ne_eqb, eqb-true, and_parts, and_from, cond-true, cond-false}
 use Rattle.std.proofs.lemmas.Bool.Decides.{nat_tests}
 use Rattle.vt100_rows.specs.Row.{RowView, with_wrap}
 use Rattle.vt100_rows.proofs.RowLemmas.{IsRow-with_wrap}
 use Rattle.vt100_rows.specs.Sheet.{row_at, rows_by_position, IsSheet, moved_up}
-use Rattle.vt100_core.specs.Grid.{KeptPart, GridView, IsGrid, IsAllocated, IsShownWide, with_row, with_rows}
-use Rattle.vt100_core.specs.Scroll.{widened, kept_after, pushed_out, up_count, left_rows, is_kept_from}
+use Rattle.vt100_rows.specs.Sink.{TakesAll}
+use Rattle.vt100_rows.proofs.SheetLemmas.{length-rows_by_position}
+use Rattle.vt100_rows.proofs.SinkLemmas.{TakesAll-list}
+use Rattle.vt100_core.specs.Grid.{KeptPart, IsKept, IsShownWide, GridView, IsGrid, IsAllocated, SameKeeping, with_row}
+use Rattle.vt100_core.specs.Grid.{with_rows}
+use Rattle.vt100_core.specs.Scroll.{ScrollsTo, widened, kept_after, pushed_out, up_count, left_rows, is_kept_from}
 use Rattle.vt100_core.specs.Scroll.{scrolled_up, scrollback_erased}
-use Rattle.vt100_core.proofs.GridLemmas.{IsGrid-with_row, IsGrid-parts}
+use Rattle.vt100_core.proofs.GridLemmas.{IsGrid-with_row, IsGrid-parts, IsGrid-scrolled}
 use Rattle.vt100_core.proofs.KeepLemmas.{IsShownWide-widened}
 
-pub IsSheet-as : (height height' width width' : ℕ) (rows : List RowView) → height ≡ height' → width ≡ width'
+IsSheet-as : (height height' width width' : ℕ) (rows : List RowView) → height ≡ height' → width ≡ width'
     → IsSheet height width rows → IsSheet height' width' rows
 IsSheet-as height height' width width' rows e f s =
     subst (λ w. IsSheet height' w rows) f (subst (λ h. IsSheet h width rows) e s)
@@ -33,7 +38,7 @@ count-same : (g : GridView) (count end n : ℕ) → g.top ≡ 0 → end ≡ g.bo
     → n ≡ up_count g count
 count-same g count end n t e f = omega arith
 
-pub scrolls-off : (g : GridView) (count end n width height : ℕ) (rows : List RowView) (k : KeptPart) → g.top ≡ 0
+scrolls-off : (g : GridView) (count end n width height : ℕ) (rows : List RowView) (k : KeptPart) → g.top ≡ 0
     → g.kept.keeps ≡ true → end ≡ g.bottom + 1 → n ≡ min count end → width ≡ g.width → height ≡ g.height
     → rows ≡ rows_by_position (length g.rows) (moved_up g.rows 0 end n width)
     → k ≡ widened (kept_after g.kept (take n g.rows)) height width
@@ -66,7 +71,7 @@ unkept g e = ap (λ b. (g.top == 0) && b) e ∙ and-false (g.top == 0)
 pub unkept-below : (g : GridView) → 0 < g.top → is_kept_from g ≡ false
 unkept-below g h = grind (arith, nat_tests)
 
-pub scrolls-unkept : (g : GridView) (count first end n width : ℕ) (rows : List RowView) → is_kept_from g ≡ false
+scrolls-unkept : (g : GridView) (count first end n width : ℕ) (rows : List RowView) → is_kept_from g ≡ false
     → first ≡ g.top → end ≡ g.bottom + 1 → n ≡ min count (end - first) → width ≡ g.width
     → rows ≡ rows_by_position (length g.rows) (moved_up g.rows first end n width)
     → record g { rows = rows } ≡ (scrolled_up g count).grid
@@ -83,33 +88,119 @@ scrolls-unkept g count first end n width rows k ef ee en ew er =
       kept = same_kept i;
     }
 
-pub sunk-kept : (g : GridView) (count end n : ℕ) → g.top ≡ 0 → g.kept.keeps ≡ true → end ≡ g.bottom + 1
+sunk-kept : (g : GridView) (count end n : ℕ) → g.top ≡ 0 → g.kept.keeps ≡ true → end ≡ g.bottom + 1
     → n ≡ min count end → pushed_out g.kept (take n g.rows) ≡ (scrolled_up g count).sunk
 unfolding scrolled_up
 sunk-kept g count end n t keeps ee en =
     let c = count-same g count end n t ee en in
     let left : take n g.rows ≡ left_rows g count = λ i. take (c i) (drop (sym t i) g.rows) in
-    ap (λ (xs : List RowView). pushed_out g.kept xs) left
-    ∙ sym (ap (λ b. cond (not b) [] (cond g.kept.keeps (pushed_out g.kept (left_rows g count)) (left_rows g count)))
-    (eq-eqb g.top 0 t)
-    ∙ ap (λ b. cond b (pushed_out g.kept (left_rows g count)) (left_rows g count)) keeps)
+    rw (eq-eqb g.top 0 t, keeps) (ap (λ (xs : List RowView). pushed_out g.kept xs) left)
+
+sunk-unkept : (g : GridView) (count end n : ℕ) → g.top ≡ 0 → g.kept.keeps ≡ false → end ≡ g.bottom + 1
+    → n ≡ min count end → take n g.rows ≡ (scrolled_up g count).sunk
+unfolding scrolled_up
+sunk-unkept g count end n t keeps ee en =
+    let c = count-same g count end n t ee en in
+    let left : take n g.rows ≡ left_rows g count = λ i. take (c i) (drop (sym t i) g.rows) in
+    rw (eq-eqb g.top 0 t, keeps) left
+
+sunk-below : (g : GridView) (count : ℕ) → 0 < g.top → [] ≡ (scrolled_up g count).sunk
+unfolding scrolled_up
+sunk-below g count h = rw (ne_eqb g.top 0 (λ e. absurd (omega (arith, h, e))))
+
+pub taken-kept : {S : Type 0} (takes : S → RowView → S → Type 0) (s t : S) (g : GridView) {lent : List RowView}
+    (count end n : ℕ) → g.top ≡ 0 → g.kept.keeps ≡ true → end ≡ g.bottom + 1 → n ≡ min count end → lent ≡ g.rows
+    → TakesAll takes s (pushed_out g.kept (take n lent)) t → TakesAll takes s (scrolled_up g count).sunk t
+taken-kept takes s t g count end n top keeps ee en same taken =
+    TakesAll-list takes s t _ _ (ap (λ (xs : List RowView). pushed_out g.kept (take n xs)) same
+    ∙ sunk-kept g count end n top keeps ee en) taken
+
+-- rows and kept rows as a call leaves them
+pub IsGrid-off : (g : GridView) {rows all lent : List RowView} {width : ℕ} (k : KeptPart) → IsGrid g → IsAllocated g
+    → all ≡ rows → length rows ≡ length lent → lent ≡ g.rows → width ≡ g.width → IsSheet (length lent) width rows
+    → IsKept k → IsShownWide k g.height g.width → IsGrid (record g { rows = all; kept = k })
+IsGrid-off g {rows} {all} {lent} k i a back count same ew sheet kept shown =
+    let same_count = ap (λ (xs : List RowView). length xs) same in
+    rw back (IsGrid-scrolled g rows k i a (count ∙ same_count) (IsSheet-as _ g.height _ g.width rows
+    (same_count ∙ i.sheet.count a) ew sheet) kept shown)
+
+-- what becomes of a grid that is the same
+pub ScrollsTo-at : {g h : GridView} (count : ℕ) → g ≡ h → {S : Type 0} {takes : S → RowView → S → Type 0} {s t : S}
+    {k : GridView} {T E : Type 0} {r : Result T E} → ScrollsTo takes s t g k r (scrolled_up g count)
+    → ScrollsTo takes s t h k r (scrolled_up h count)
+ScrollsTo-at count e {takes = takes} {s} {t} {k} {r = r} h =
+    subst (λ (x : GridView). ScrollsTo takes s t x k r (scrolled_up x count)) e h
+
+-- ---- what the code does
+
+-- `lent` are the rows of g, which a call makes into `rows`
+module _ (g : GridView) {rows lent : List RowView} (count first end n width : ℕ) (same : lent ≡ g.rows)
+    (a : IsAllocated g) (ef : first ≡ g.top) (ee : end ≡ g.bottom + 1) (en : n ≡ min count (end - first))
+    (ew : width ≡ g.width) (er : rows ≡ rows_by_position (length lent) (moved_up lent first end n width)) where
+  rows-are : rows ≡ rows_by_position (length g.rows) (moved_up g.rows first end n width)
+  rows-are = er ∙ ap (λ (xs : List RowView). rows_by_position (length xs) (moved_up xs first end n width)) same
+
+  some-rows : 0 < length rows
+  some-rows =
+      let count = ap (λ (xs : List RowView). length xs) rows-are
+      ∙ length-rows_by_position (length g.rows) (moved_up g.rows first end n width) in
+      omega (arith, count, a)
+
+  scrolls-moved : {S : Type 0} {takes : S → RowView → S → Type 0} {s t : S} {T E : Type 0} {x : T}
+      → is_kept_from g ≡ false → TakesAll takes s (scrolled_up g count).sunk t
+      → ScrollsTo takes s t g (record g { rows = rows }) {T = T} {E = E} (Ok x) (scrolled_up g count)
+  scrolls-moved k taken = record {
+    grid = scrolls-unkept g count first end n width rows k ef ee en ew rows-are;
+    sink = taken;
+    limits = record { height = refl; width = refl; kept = record { keeps = refl; capacity = refl } };
+    keeps_none = λ z. refl;
+    allocated = some-rows;
+  }
+
+  -- no row is kept from a region that begins further down, or where none is kept at all
+  pub scrolls-below : {S : Type 0} {takes : S → RowView → S → Type 0} {s : S} {T E : Type 0} {x : T} → 0 < first
+      → ScrollsTo takes s s g (record g { rows = rows }) {T = T} {E = E} (Ok x) (scrolled_up g count)
+  scrolls-below {takes = takes} {s} h =
+      let below : 0 < g.top = omega (arith, h, ef) in
+      scrolls-moved (unkept-below g below) (TakesAll-list takes s s [] _ (sunk-below g count below) refl)
+
+  pub scrolls-given : {S : Type 0} {takes : S → RowView → S → Type 0} {s t : S} {T E : Type 0} {x : T}
+      {given : List RowView} → first ≡ 0 → g.kept.keeps ≡ false → given ≡ g.rows → TakesAll takes s (take n given) t
+      → ScrollsTo takes s t g (record g { rows = rows }) {T = T} {E = E} (Ok x) (scrolled_up g count)
+  scrolls-given {takes = takes} {s} {t} z keeps eg taken =
+      let lines : n ≡ min count end = omega (arith, en, z) in
+      scrolls-moved (unkept g keeps)
+      (TakesAll-list takes s t _ _ (ap (λ (xs : List RowView). take n xs) eg
+      ∙ sunk-unkept g count end n (sym ef ∙ z) keeps ee lines) taken)
+
+  pub scrolls-kept : {S : Type 0} {takes : S → RowView → S → Type 0} {s t : S} {T E : Type 0} {x : T} (height : ℕ)
+      (k : KeptPart) → first ≡ 0 → g.kept.keeps ≡ true → height ≡ g.height
+      → k ≡ widened (kept_after g.kept (take n lent)) height width → SameKeeping g.kept k
+      → TakesAll takes s (pushed_out g.kept (take n lent)) t
+      → ScrollsTo takes s t g (record g { rows = rows; kept = k }) {T = T} {E = E} (Ok x) (scrolled_up g count)
+  scrolls-kept {takes = takes} {s} {t} height k z keeps eh ek limits taken =
+      let lines : n ≡ min count end = omega (arith, en, z) in
+      let kept : k ≡ widened (kept_after g.kept (take n g.rows)) height width =
+      ek ∙ ap (λ (xs : List RowView). widened (kept_after g.kept (take n xs)) height width) same in
+      record {
+        grid = scrolls-off g count end n width height rows k (sym ef ∙ z) keeps ee lines ew eh
+            (rows-are ∙ (λ j. rows_by_position (length g.rows) (moved_up g.rows (z j) end n width))) kept;
+        sink = taken-kept takes s t g count end n (sym ef ∙ z) keeps ee lines same taken;
+        limits = record { height = refl; width = refl; kept = limits };
+        keeps_none = λ none. refl;
+        allocated = some-rows;
+      }
 
 -- ---- the row that the cursor leaves
 
 pub IsGrid-wrap_row : (g : GridView) (r : ℕ) (wraps : Bool) → IsGrid g → r < length g.rows
     → (wraps ≡ true → r + 1 < g.height) → IsGrid (with_row g r (with_wrap (row_at g.rows r) wraps))
-IsGrid-wrap_row g r true i h below =
-    IsGrid-with_row g r (with_wrap (row_at g.rows r) true) i h
-    (record {
-      row = IsRow-with_wrap (row_at g.rows r) true (i.sheet.each r h).row;
-      wide = (i.sheet.each r h).wide;
-    }) (λ e. absurd (omega (arith, below refl)))
-IsGrid-wrap_row g r false i h below =
-    IsGrid-with_row g r (with_wrap (row_at g.rows r) false) i h
-    (record {
-      row = IsRow-with_wrap (row_at g.rows r) false (i.sheet.each r h).row;
-      wide = (i.sheet.each r h).wide;
-    }) (λ e. refl)
+IsGrid-wrap_row g r wraps i h below =
+    let row = i.sheet.each r h in
+    IsGrid-with_row g r (with_wrap (row_at g.rows r) wraps) i h
+    (record { row = IsRow-with_wrap (row_at g.rows r) wraps row.row; wide = row.wide })
+    (λ e. ⊎_elim (λ (t : wraps ≡ true). absurd (omega (arith, below t, e)))
+    (λ (f : wraps ≡ false). ap (λ b. (with_wrap (row_at g.rows r) b).wrapped) f) (cases_Bool wraps))
 
 pub above-last : (g : GridView) (r : ℕ) (wrap : Bool) → IsGrid g → (wrap && ((r + 1) == g.row)) ≡ true
     → r + 1 < g.height

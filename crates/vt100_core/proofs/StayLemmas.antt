@@ -1,6 +1,7 @@
 -- Where no line scrolls nothing else changes.
 use Rattle.std.proofs.Common.{◌≡◌, ℕ, ◌+◌, ◌-◌, ◌^◌, ◌<◌, ◌≤◌, ◌==◌, Bool, true, false, cond, not, ◌&&◌, List, [], ◌++◌}
 use Rattle.std.proofs.Common.{length, take, drop, map, min, refl, sym, ap, ◌∙◌, arith, nat_lt, nat_le}
+use Rattle.std.specs.Prelude.{Ok}
 use Rattle.std.proofs.lemmas.Bool.{cond_both, cond-true}
 use Rattle.std.proofs.lemmas.Bool.Decides.{nat_tests}
 use Rattle.std.proofs.lemmas.List.{append-nil}
@@ -9,10 +10,11 @@ use Rattle.vt100_cells.specs.Cell.{default_cell}
 use Rattle.vt100_rows.specs.Row.{RowView, grown, trimmed}
 use Rattle.vt100_rows.specs.Sheet.{row_at, rows_by_position, changed_between, moved_up}
 use Rattle.vt100_rows.proofs.KeptLemmas.{grown-longer}
+use Rattle.vt100_rows.proofs.SinkLemmas.{TakesAll-list}
 use Rattle.vt100_rows.proofs.SheetLemmas.{rows_by_position_is}
-use Rattle.vt100_core.specs.Grid.{KeptPart, IsKept, IsShownWide, GridView, is_in_region}
+use Rattle.vt100_core.specs.Grid.{KeptPart, IsKept, IsShownWide, GridView, IsGrid, IsAllocated, is_in_region}
 use Rattle.vt100_core.specs.Cursor.{moved_rows_down}
-use Rattle.vt100_core.specs.Scroll.{Scrolled, widened, overflow, kept_after, pushed_out, up_count, left_rows}
+use Rattle.vt100_core.specs.Scroll.{Scrolled, ScrollsTo, widened, overflow, kept_after, pushed_out, up_count, left_rows}
 use Rattle.vt100_core.specs.Scroll.{is_kept_from, scrolled_up, rows_past_bottom, fed}
 
 stays-one : (rows : List RowView) (first end width m k : ℕ) → m ≡ 0 → row_at rows k ≡ moved_up rows first end m width k
@@ -94,6 +96,18 @@ sinks-none g n e h =
     ∙ ap (λ (xs : List RowView). cond (not (g.top == 0)) [] xs)
     (choice-same g.kept.keeps (pushed_out g.kept []) [] (pushed_out-none g.kept h))
     ∙ choice-same (not (g.top == 0)) [] [] refl)
+
+-- where no line goes
+pub scrolls-nothing : {S : Type 0} {takes : S → RowView → S → Type 0} {s : S} {T E : Type 0} {x : T} (g : GridView)
+    (n : ℕ) → up_count g n ≡ 0 → IsGrid g → IsAllocated g
+    → ScrollsTo takes s s g g {T = T} {E = E} (Ok x) (scrolled_up g n)
+scrolls-nothing {takes = takes} {s} g n e i a = record {
+  grid = scrolls-none g n e i.kept i.shown;
+  sink = TakesAll-list takes s s [] _ (sinks-none g n e i.kept.fits) refl;
+  limits = record { height = refl; width = refl; kept = record { keeps = refl; capacity = refl } };
+  keeps_none = λ z. refl;
+  allocated = a;
+}
 
 -- ---- a line feed above the region's last row
 

@@ -1,6 +1,6 @@
 -- Printing one character.
 use Rattle.std.proofs.Common.{◌≡◌, ℕ, ◌+◌, ◌-◌, ◌<◌, ◌≤◌, ◌==◌, Bool, true, false, cond, not, ◌&&◌, ◌||◌, List, []}
-use Rattle.std.proofs.Common.{length, min, refl, sym, ap, ◌∙◌, arith, nat_lt, nat_le, length-set}
+use Rattle.std.proofs.Common.{length, min, refl, sym, ap, subst, ◌∙◌, arith, nat_lt, nat_le, length-set}
 use Rattle.std.specs.Prelude.{Some, None, unwrap_or}
 use Rattle.unicode_width.specs.Width.{char_width}
 use Rattle.std.specs.Char.{IsScalar}
@@ -14,7 +14,7 @@ use Rattle.vt100_cells.specs.Cell.{CellView, IsCell, cell_of, columns_of, is_und
 use Rattle.vt100_cells.specs.Line.{span_of, put, put_unflags, wipe_unflags}
 use Rattle.vt100_cells.specs.Cells.{cell_at}
 use Rattle.vt100_rows.specs.Row.{RowView, blank_row, placed, wiped_row, with_wrap, joined_row, joined_cell, is_widening}
-use Rattle.vt100_rows.specs.Row.{join_row}
+use Rattle.vt100_rows.specs.Row.{join_row, join_answer}
 use Rattle.vt100_rows.proofs.RowLemmas.{IsRow-placed}
 use Rattle.vt100_rows.proofs.JoinLemmas.{IsRow-join, length-join}
 use Rattle.vt100_cells.proofs.ListLemmas.{length-by_position}
@@ -24,7 +24,7 @@ use Rattle.vt100_core.specs.Grid.{GridView, IsGrid, IsAllocated, with_row, with_
 use Rattle.vt100_core.specs.Cursor.{moved_rows_down}
 use Rattle.vt100_core.specs.Scroll.{Scrolled, scrolled_up, up_count, rows_past_bottom, fed, left_row, wrapped_on}
 use Rattle.vt100_core.specs.Scroll.{made_to_fit}
-use Rattle.vt100_core.specs.Text.{PrintedGrid, put_at, spaced, carried, joined, printed}
+use Rattle.vt100_core.specs.Text.{PrintedGrid, put_at, spaced, carried, carried_on, joined, printed}
 use Rattle.terminal_model.specs.Apply.{is_dropped}
 use Rattle.vt100_rows.proofs.SheetLemmas.{length-rows_by_position}
 use Rattle.vt100_core.proofs.GridLemmas.{IsGrid-parts}
@@ -122,18 +122,19 @@ span_of-wide x e = sym (ap (λ b. cond b 2 1) e)
 
 -- ---- a zero-width character in a row
 
-joined-wrapped : (v : RowView) (col c : ℕ) (a : Attrs) → v.wrapped ≡ false → (join_row v col c a).wrapped ≡ false
-joined-wrapped v col c a e =
-    let p = placed v (col - 1) (joined_cell v col c) a in
-    let w = wiped_row v (col - 1) col a in
-    cond_both (not (is_widening v col c)) (joined_row v col c)
-    (cond (length v.cells == 1) v (cond (nat_lt col (length v.cells)) p w)) (λ (x : RowView). x.wrapped ≡ false)
-    (λ _. e)
-    (λ _. cond_both (length v.cells == 1) v (cond (nat_lt col (length v.cells)) p w) (λ (x : RowView). x.wrapped
-    ≡ false) (λ _. e)
-    (λ _. cond_both (nat_lt col (length v.cells)) p w (λ (x : RowView). x.wrapped ≡ false)
-    (λ _. ap (λ b. b && not (put_unflags (length v.cells) (cell_at v.cells) (col - 1) (joined_cell v col c))) e)
-    (λ _. ap (λ b. b && not (wipe_unflags (length v.cells) (cell_at v.cells) (col - 1) col)) e)))
+-- the row, by what the three tests say
+abbrev row_by : RowView → ℕ → ℕ → Attrs → Bool → Bool → Bool → RowView
+row_by v col c a wide one room =
+    cond (not wide) (joined_row v col c) (cond one v
+    (cond room (placed v (col - 1) (joined_cell v col c) a) (wiped_row v (col - 1) col a)))
+
+unwrapped-by : (v : RowView) (col c : ℕ) (a : Attrs) (wide one room : Bool) → v.wrapped ≡ false
+    → (row_by v col c a wide one room).wrapped ≡ false
+unwrapped-by v col c a false one room e = e
+unwrapped-by v col c a true true room e = e
+unwrapped-by v col c a true false true e = unwrapped-placed v (col - 1) (joined_cell v col c) a e
+unwrapped-by v col c a true false false e =
+    ap (λ b. b && not (wipe_unflags (length v.cells) (cell_at v.cells) (col - 1) col)) e
 
 pub IsGrid-join : (g : GridView) (c : ℕ) (a : Attrs) → IsGrid g → IsAllocated g → IsScalar c → drawn_columns c ≡ Some 0
     → 0 < g.col → IsGrid (with_cursor_row g (join_row (row_of_cursor g) g.col c a))
@@ -145,130 +146,87 @@ IsGrid-join g c a i l s z h =
       row = IsRow-join v g.col c a r.row s z h (omega (arith, r.wide, i.cursor_col));
       wide = length-join v g.col c a ∙ r.wide;
     })
-    (joined-wrapped v g.col c a)
+    (unwrapped-by v g.col c a (is_widening v g.col c) (length v.cells == 1) (nat_lt g.col (length v.cells)))
 
 -- what each answer says
 
 abbrev answer_by : Bool → Bool → Bool → CellView → Join
 answer_by wide one room x = cond (not wide) InPlace (cond one Ignored (cond room Widened (Carried x)))
 
-pub answer-InPlace : (wide one room : Bool) (x : CellView) → InPlace ≡ answer_by wide one room x → wide ≡ false
-answer-InPlace false one room x e = refl
-answer-InPlace true true room x e = cc
-answer-InPlace true false true x e = cc
-answer-InPlace true false false x e = cc
+-- what the three tests say where this is the answer
+abbrev TestsOf : Join → Bool → Bool → Bool → CellView → Type 0
+TestsOf InPlace wide one room x = wide ≡ false
+TestsOf Ignored wide one room x = (wide ≡ true) × (one ≡ true)
+TestsOf Widened wide one room x = (wide ≡ true) × (one ≡ false) × (room ≡ true)
+TestsOf (Carried y) wide one room x = (wide ≡ true) × (one ≡ false) × (room ≡ false) × (y ≡ x)
 
-pub answer-Ignored : (wide one room : Bool) (x : CellView) → Ignored ≡ answer_by wide one room x → (wide ≡ true)
-    × (one ≡ true)
-answer-Ignored false one room x e = cc
-answer-Ignored true true room x e = (refl, refl)
-answer-Ignored true false true x e = cc
-answer-Ignored true false false x e = cc
+tests-at : (wide one room : Bool) (x : CellView) → TestsOf (answer_by wide one room x) wide one room x
+tests-at false one room x = refl
+tests-at true true room x = (refl, refl)
+tests-at true false true x = (refl, refl, refl)
+tests-at true false false x = (refl, refl, refl, refl)
 
-pub answer-Widened : (wide one room : Bool) (x : CellView) → Widened ≡ answer_by wide one room x → (wide ≡ true)
-    × (one ≡ false) × (room ≡ true)
-answer-Widened false one room x e = cc
-answer-Widened true true room x e = cc
-answer-Widened true false true x e = (refl, refl, refl)
-answer-Widened true false false x e = cc
-
-pub answer-Carried : (wide one room : Bool) (x y : CellView) → Carried y ≡ answer_by wide one room x → (wide ≡ true)
-    × (one ≡ false) × (room ≡ false) × (y ≡ x)
-answer-Carried false one room x y e = cc
-answer-Carried true true room x y e = cc
-answer-Carried true false true x y e = cc
-answer-Carried true false false x y e = (refl, refl, refl, cc)
+pub tests-of : (v : RowView) (col c : ℕ) (a : Attrs) (j : Join) → j ≡ join_answer v col c a
+    → TestsOf j (is_widening v col c) (length v.cells == 1) (nat_lt col (length v.cells))
+    (record (joined_cell v col c) { attrs = a })
+tests-of v col c a j e =
+    let wide = is_widening v col c in
+    let one = length v.cells == 1 in
+    let room = nat_lt col (length v.cells) in
+    let x : CellView = record (joined_cell v col c) { attrs = a } in
+    subst (λ (k : Join). TestsOf k wide one room x) (sym e) (tests-at wide one room x)
 
 -- the grid after each
 
-abbrev row_by : RowView → ℕ → ℕ → Attrs → Bool → Bool → Bool → RowView
-row_by v col c a wide one room =
-    cond (not wide) (joined_row v col c) (cond one v
-    (cond room (placed v (col - 1) (joined_cell v col c) a) (wiped_row v (col - 1) col a)))
-
-abbrev drawn_by : GridView → ℕ → Attrs → Bool → Bool → Bool → PrintedGrid
-drawn_by g c a wide one room =
-    let v = row_of_cursor g in
-    cond (not wide) (record { grid = with_cursor_row g (joined_row v g.col c); sunk = []; printed = Joined })
-    (cond one (record { grid = g; sunk = []; printed = Nothing })
-    (cond room (record {
-      grid = record (with_cursor_row g (placed v (g.col - 1) (joined_cell v g.col c) a)) {
-        col = g.col + 1;
-      };
-      sunk = [];
-      printed = Joined;
-    })
-    (carried g c a)))
-
 module _ (g : GridView) (c : ℕ) (a : Attrs) (h : GridView) (width-is : length (row_of_cursor g).cells ≡ g.width)
     (after : h ≡ with_cursor_row g (join_row (row_of_cursor g) g.col c a)) where
-  -- where the three tests are known
-  row-by : (wide one room : Bool) → is_widening (row_of_cursor g) g.col c ≡ wide
-      → (length (row_of_cursor g).cells == 1) ≡ one → nat_lt g.col (length (row_of_cursor g).cells) ≡ room
-      → h ≡ with_cursor_row g (row_by (row_of_cursor g) g.col c a wide one room)
-  row-by wide one room p q r =
-      after ∙ (λ i. with_cursor_row g (row_by (row_of_cursor g) g.col c a (p i) (q i) (r i)))
+  -- what the tests on the row's length say of the screen's width
+  one-column : (b : Bool) → (length (row_of_cursor g).cells == 1) ≡ b → (g.width == 1) ≡ b
+  one-column b e = ap (λ n. n == 1) (sym width-is) ∙ e
 
-  drawn-by : (wide one room : Bool) → is_widening (row_of_cursor g) g.col c ≡ wide
-      → (length (row_of_cursor g).cells == 1) ≡ one → nat_lt g.col (length (row_of_cursor g).cells) ≡ room
-      → joined g c a ≡ drawn_by g c a wide one room
-  drawn-by wide one room p q r =
-      let one' = ap (λ n. n == 1) (sym width-is) ∙ q in
-      let room' = ap (λ n. nat_lt g.col n) (sym width-is) ∙ r in λ i. drawn_by g c a (p i) (one' i) (room' i)
+  has-room : (b : Bool) → nat_lt g.col (length (row_of_cursor g).cells) ≡ b → nat_lt g.col g.width ≡ b
+  has-room b e = ap (λ n. nat_lt g.col n) (sym width-is) ∙ e
 
   pub in-place : is_widening (row_of_cursor g) g.col c ≡ false → (h ≡ (joined g c a).grid) × ((joined g c a).sunk ≡ [])
       × ((joined g c a).printed ≡ Joined)
-  in-place e =
-      let d = drawn-by false _ _ e refl refl in (
-        row-by false _ _ e refl refl ∙ sym (ap (λ (x : PrintedGrid). x.grid) d),
-        ap (λ (x : PrintedGrid). x.sunk) d,
-        ap (λ (x : PrintedGrid). x.printed) d,
-      )
+  in-place e = rw e ((rw e at after), refl, refl)
 
   pub ignored : is_widening (row_of_cursor g) g.col c ≡ true → (length (row_of_cursor g).cells == 1) ≡ true
       → (h ≡ (joined g c a).grid) × ((joined g c a).sunk ≡ []) × ((joined g c a).printed ≡ Nothing)
-  ignored e one =
-      let d = drawn-by true true _ e one refl in (
-        row-by true true _ e one refl
-            ∙ ap (λ (xs : List RowView). record g { rows = xs }) (set-get_or g.rows g.row (blank_row 0))
-            ∙ sym (ap (λ (x : PrintedGrid). x.grid) d),
-        ap (λ (x : PrintedGrid). x.sunk) d,
-        ap (λ (x : PrintedGrid). x.printed) d,
-      )
+  ignored e one = rw (e, one-column true one) (
+    (rw (e, one) at after) ∙ ap (λ (xs : List RowView). record g { rows = xs }) (set-get_or g.rows g.row (blank_row 0)),
+    refl,
+    refl,
+  )
 
   pub widens : is_widening (row_of_cursor g) g.col c ≡ true → (length (row_of_cursor g).cells == 1) ≡ false
       → nat_lt g.col (length (row_of_cursor g).cells) ≡ true
       → (record h { col = g.col + 1 } ≡ (joined g c a).grid) × ((joined g c a).sunk ≡ [])
       × ((joined g c a).printed ≡ Joined)
-  widens e one room =
-      let d = drawn-by true false true e one room in (
-        ap (λ (x : GridView). record x { col = g.col + 1 }) (row-by true false true e one room)
-            ∙ sym (ap (λ (x : PrintedGrid). x.grid) d),
-        ap (λ (x : PrintedGrid). x.sunk) d,
-        ap (λ (x : PrintedGrid). x.printed) d,
-      )
+  widens e one room = rw (e, one-column false one, has-room true room) (
+    ap (λ (x : GridView). record x { col = g.col + 1 }) (rw (e, one, room) at after),
+    refl,
+    refl,
+  )
 
   pub carries : is_widening (row_of_cursor g) g.col c ≡ true → (length (row_of_cursor g).cells == 1) ≡ false
       → nat_lt g.col (length (row_of_cursor g).cells) ≡ false
       → (h ≡ with_cursor_row g (wiped_row (row_of_cursor g) (g.col - 1) g.col a)) × (joined g c a ≡ carried g c a)
-  carries e one room = (row-by true false false e one room, drawn-by true false false e one room)
+  carries e one room =
+      ((rw (e, one, room) at after), (rw (e, one-column false one, has-room false room)))
 
 -- the cell goes on to the next row
 pub carried-is : (g h : GridView) (c : ℕ) (a : Attrs) (x : CellView) → g.width < g.col + 2
     → h ≡ with_cursor_row g (wiped_row (row_of_cursor g) (g.col - 1) g.col a)
-    → x ≡ record (joined_cell (row_of_cursor g) g.col c) { attrs = a }
-    → (put_at (made_to_fit h 2 false).grid x a 2 ≡ (carried g c a).grid)
-    × ((made_to_fit h 2 false).sunk ≡ (carried g c a).sunk)
+    → x ≡ record (joined_cell (row_of_cursor g) g.col c) { attrs = a } → carried_on h x a ≡ carried g c a
 carried-is g h c a x wide eh ex =
     let w = with_cursor_row g (wiped_row (row_of_cursor g) (g.col - 1) g.col a) in
-    let made : made_to_fit h 2 false ≡ wrapped_on w false =
-    ap (λ (y : GridView). made_to_fit y 2 false) eh
-    ∙ ap (λ b. cond b (let s : Scrolled = record { grid = w; sunk = [] } in s) (wrapped_on w false))
-    (too-wide w 2 wide) in (
-      ap (λ (s : Scrolled). put_at s.grid x a 2) made
-          ∙ ap (λ (y : CellView). put_at (wrapped_on w false).grid y a 2) ex,
-      ap (λ (s : Scrolled). s.sunk) made,
-    )
+    (λ j. carried_on (eh j) (ex j) a)
+    ∙ ap (λ (s : Scrolled). let p : PrintedGrid = record {
+      grid = put_at s.grid (record (joined_cell (row_of_cursor g) g.col c) { attrs = a }) a 2;
+      sunk = s.sunk;
+      printed = Joined;
+    } in p) (cond-false (nat_le (w.col + 2) w.width) _ (wrapped_on w false) (too-wide w 2 wide))
 
 -- ---- which are dropped
 

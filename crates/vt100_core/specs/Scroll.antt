@@ -1,17 +1,29 @@
 -- Scrolling up, and the rows that leave the screen. A row that leaves for good is given to a sink; a result says which
 -- rows, in their order.
 use Rattle.std.specs.Prelude.{ℕ, ◌+◌, ◌-◌, ◌^◌, ◌==◌, Bool, not, ◌&&◌, nat_le, min, List, [], ◌++◌, length, take, drop}
-use Rattle.std.specs.Prelude.{map, if◌then◌else◌}
+use Rattle.std.specs.Prelude.{◌≡◌, map, if◌then◌else◌, Result, OnOk, IsOk}
 use Rattle.vt100_cells.specs.Cell.{default_cell}
 use Rattle.vt100_rows.specs.Row.{RowView, grown, trimmed, with_wrap}
 use Rattle.vt100_rows.specs.Sheet.{row_at, rows_by_position, moved_up, changed_between}
-use Rattle.vt100_core.specs.Grid.{KeptPart, GridView, with_row, with_rows, is_in_region}
+use Rattle.vt100_rows.specs.Sink.{TakesAll}
+use Rattle.vt100_core.specs.Grid.{KeptPart, GridView, IsAllocated, SameLimits, with_row, with_rows, is_in_region}
 use Rattle.vt100_core.specs.Cursor.{moved_rows_down}
 
 -- a grid, and the rows that have left for good on the way to it, the first to leave first
 pub record Scrolled : Type 0 where
   pub grid : GridView
   pub sunk : List RowView
+
+-- what a call does that makes a grid g into h and a sink s into t: it gives the sink the rows that leave for good on
+-- the way to o, also where it is refused, and h is the grid of o unless it is. Only a grid that keeps rows can be
+-- refused.
+pub record ScrollsTo {S : Type 0} (takes : S → RowView → S → Type 0) (s t : S) (g h : GridView) {T E : Type 0}
+    (result : Result T E) (o : Scrolled) : Type 0 where
+  pub grid : OnOk result (h ≡ o.grid)
+  pub sink : TakesAll takes s o.sunk t
+  pub limits : SameLimits g h
+  pub keeps_none : g.kept.capacity ≡ 0 → IsOk result
+  pub allocated : IsAllocated h
 
 -- ---- what is kept
 

@@ -1,13 +1,13 @@
--- Printing one character on a grid.
-use Rattle.std.specs.Prelude.{ℕ, ◌+◌, ◌-◌, ◌==◌, true, false, not, nat_lt, List, [], ◌∷◌, ◌++◌}
-use Rattle.std.specs.Prelude.{◌≡◌, if◌then◌else◌}
+-- Printing characters on a grid.
+use Rattle.std.specs.Prelude.{ℕ, ◌+◌, ◌-◌, ◌<◌, ◌≤◌, ◌==◌, true, false, not, nat_lt, List, [], ◌∷◌, ◌++◌, length, take}
+use Rattle.std.specs.Prelude.{◌≡◌, if◌then◌else◌, Result, OnOk, OnErr, IfOk, IsOk}
 use Rattle.vt100_forms.specs.declared.attrs.Attrs.{Attrs}
 use Rattle.vt100_cells.specs.Cell.{CellView, columns_of, cell_of}
 pub use Rattle.vt100_cells.specs.Cell.{IsWide}
 use Rattle.vt100_rows.specs.Row.{RowView, placed, wiped_row, joined_cell, joined_row, is_widening}
 use Rattle.terminal_model.specs.Apply.{is_dropped}
 use Rattle.vt100_rows.specs.Sink.{TakesAll}
-use Rattle.vt100_core.specs.Grid.{GridView, with_cursor_row, row_of_cursor}
+use Rattle.vt100_core.specs.Grid.{GridView, IsAllocated, SameLimits, with_cursor_row, row_of_cursor}
 use Rattle.vt100_core.specs.Scroll.{Scrolled, made_to_fit, wrapped_on}
 use Rattle.vt100_core.specs.declared.printed.Printed.{Printed}
 use Rattle.vt100_core.specs.declared.printed.Printed.TheVariants.{Nothing, Spacing, Joined}
@@ -18,6 +18,18 @@ pub record PrintedGrid : Type 0 where
   pub sunk : List RowView
   pub printed : Printed
 
+-- what a call does that makes a grid g into h and a sink s into t: it gives the sink the rows that leave for good on
+-- the way to p, also where it is refused, and h is the grid of p unless it is. Only a grid that keeps rows can be
+-- refused.
+pub record Prints {S : Type 0} (takes : S → RowView → S → Type 0) (s t : S) (g h : GridView) {E : Type 0}
+    (result : Result Printed E) (p : PrintedGrid) : Type 0 where
+  pub grid : OnOk result (h ≡ p.grid)
+  pub sink : TakesAll takes s p.sunk t
+  pub answer : IfOk result (λ answer. answer ≡ p.printed)
+  pub limits : SameLimits g h
+  pub keeps_none : g.kept.capacity ≡ 0 → IsOk result
+  pub allocated : IsAllocated h
+
 -- the cell at the cursor, and the cursor n columns on
 abbrev pub put_at : GridView → CellView → Attrs → ℕ → GridView
 put_at g x a n = record (with_cursor_row g (placed (row_of_cursor g) g.col x a)) { col = g.col + n }
@@ -27,6 +39,12 @@ abbrev pub spaced : GridView → ℕ → Attrs → PrintedGrid
 spaced g c a =
     let s = made_to_fit g (columns_of c) true in
     record { grid = put_at s.grid (cell_of c a) a (columns_of c); sunk = s.sunk; printed = Spacing }
+
+-- a wide cell, on the next row where fewer than two columns are left
+abbrev pub carried_on : GridView → CellView → Attrs → PrintedGrid
+carried_on g x a =
+    let s = made_to_fit g 2 false in
+    record { grid = put_at s.grid x a 2; sunk = s.sunk; printed = Joined }
 
 -- a cell that has become wide in the last column stands at the start of the next row, with the drawing attributes
 abbrev pub carried : GridView → ℕ → Attrs → PrintedGrid
@@ -76,3 +94,26 @@ printed_all g (c ∷ cs) a =
 abbrev pub TakesFront : {S : Type 0} → (S → RowView → S → Type 0) → S → GridView → List ℕ → Attrs → S → Type 0
 TakesFront takes s g text a t =
     (front : List ℕ) × (rest : List ℕ) × (text ≡ front ++ rest) × TakesAll takes s (printed_all g front a).sunk t
+
+-- what a call does that prints a text on a grid g, which is h then, as `Prints` says of each character in turn; where
+-- it is refused the sink has been given what leaves while a front of the text is printed
+pub record PrintsAll {S : Type 0} (takes : S → RowView → S → Type 0) (s t : S) (g h : GridView) {T E : Type 0}
+    (result : Result T E) (text : List ℕ) (a : Attrs) : Type 0 where
+  pub grid : OnOk result (h ≡ (printed_all g text a).grid)
+  pub sink : OnOk result (TakesAll takes s (printed_all g text a).sunk t)
+  pub begun : OnErr result (TakesFront takes s g text a t)
+  pub limits : SameLimits g h
+  pub keeps_none : g.kept.capacity ≡ 0 → IsOk result
+  pub allocated : IsAllocated h
+
+-- the same of some characters at the text's front, where its first one may be refused
+pub record PrintsFirst {S : Type 0} (takes : S → RowView → S → Type 0) (s t : S) (g h : GridView) {E : Type 0}
+    (result : Result ℕ E) (text : List ℕ) (a : Attrs) : Type 0 where
+  pub some : IfOk result (λ n. 0 < n)
+  pub within : IfOk result (λ n. n ≤ length text)
+  pub grid : IfOk result (λ n. h ≡ (printed_all g (take n text) a).grid)
+  pub sink : IfOk result (λ n. TakesAll takes s (printed_all g (take n text) a).sunk t)
+  pub begun : OnErr result (TakesAll takes s (printed_all g (take 1 text) a).sunk t)
+  pub limits : SameLimits g h
+  pub keeps_none : g.kept.capacity ≡ 0 → IsOk result
+  pub allocated : IsAllocated h

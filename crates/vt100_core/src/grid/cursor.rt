@@ -110,12 +110,18 @@ impl Grid {
         ensures grid { self.new ≡ moved_rows_up self.old count }
         ensures allocated { IsAllocated self.new }
     {
-        let first_row = if self.in_scroll_region() {
+        self.pos.row = self.pos.row.saturating_sub(count).max(self.first_row());
+    }
+
+    /// The row above which the cursor doesn't move: the scroll region's first if it is there, else the screen's.
+    pub(crate) fn first_row(&self) -> u16
+        ensures { result ≡ (if is_in_region self.now then self.now.top else 0) }
+    {
+        if self.in_scroll_region() {
             self.scroll_top
         } else {
             0
-        };
-        self.pos.row = self.pos.row.saturating_sub(count).max(first_row);
+        }
     }
 
     /// Moves the cursor to a row, or to the last one (VPA).

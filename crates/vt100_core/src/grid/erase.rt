@@ -2,6 +2,7 @@
 ghost use Rattle.std.specs.Prelude.{◌≡◌, ℕ, ◌+◌, ◌-◌, ◌<◌, ◌≤◌, ◌==◌, min, true, false, if◌then◌else◌};
 
 use crate::grid::Grid;
+use std::ops::Range;
 use vt100_forms::attrs::Attrs;
 use vt100_rows::rows_edit::{clear_all, erase_backward, erase_forward};
 
@@ -55,7 +56,7 @@ impl Grid {
         ensures grid { self.new ≡ columns_erased self.old self.old.col self.old.width attrs }
         ensures allocated { IsAllocated self.new }
     {
-        self.rows[usize::from(self.pos.row)].erase_range(self.pos.col..self.size.cols(), attrs);
+        self.erase_columns(self.pos.col..self.size.cols(), attrs);
     }
 
     /// Empties the cursor's row up to the cursor and at it (EL 1).
@@ -65,7 +66,17 @@ impl Grid {
         ensures allocated { IsAllocated self.new }
     {
         let end = self.pos.col.min(self.size.cols() - 1) + 1;
-        self.rows[usize::from(self.pos.row)].erase_range(0..end, attrs);
+        self.erase_columns(0..end, attrs);
+    }
+
+    /// Empties columns of the cursor's row.
+    fn erase_columns(&mut self, range: Range<u16>, attrs: Attrs)
+        requires allocated { IsAllocated self.old }
+        requires in_row { range.end ≤ self.old.width }
+        ensures grid { self.new ≡ columns_erased self.old range.start range.end attrs }
+        ensures allocated { IsAllocated self.new }
+    {
+        self.rows[usize::from(self.pos.row)].erase_range(range, attrs);
     }
 
     /// Inserts default cells at the cursor (ICH). What falls off the row's end is gone.
@@ -95,6 +106,6 @@ impl Grid {
         ensures allocated { IsAllocated self.new }
     {
         let end = self.pos.col.saturating_add(count).min(self.size.cols());
-        self.rows[usize::from(self.pos.row)].erase_range(self.pos.col..end, attrs);
+        self.erase_columns(self.pos.col..end, attrs);
     }
 }

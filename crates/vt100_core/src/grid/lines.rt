@@ -6,7 +6,7 @@ use vt100_rows::rows_edit::{move_up, open_lines};
 
 impl Grid {
     ghost use Rattle.vt100_core.specs.Grid.{GridView, IsAllocated, is_in_region};
-    ghost use Rattle.vt100_core.specs.Lines.{lines_inserted, lines_deleted, scrolled_down, fed_up};
+    ghost use Rattle.vt100_core.specs.Lines.{lines_opened, lines_inserted, lines_deleted, scrolled_down, fed_up};
 
     /// Inserts blank lines at the cursor's row, if it is in the scroll region (IL). Lines that this pushes out of the
     /// region are gone.
@@ -15,13 +15,9 @@ impl Grid {
         ensures grid { self.new ≡ lines_inserted self.old count }
         ensures allocated { IsAllocated self.new }
     {
-        if count == 0 || self.pos.row < self.scroll_top || self.pos.row > self.scroll_bottom {
-            return;
+        if count > 0 && self.in_scroll_region() {
+            self.open_lines_at(self.pos.row, count);
         }
-        let first = usize::from(self.pos.row);
-        let end = usize::from(self.scroll_bottom) + 1;
-        let n = usize::from(count).min(end - first);
-        open_lines(&mut self.rows, first, end, n, self.size.cols());
     }
 
     /// Takes lines out at the cursor's row, if it is in the scroll region; blank ones follow at the region's end (DL).
@@ -30,7 +26,7 @@ impl Grid {
         ensures grid { self.new ≡ lines_deleted self.old count }
         ensures allocated { IsAllocated self.new }
     {
-        if self.pos.row < self.scroll_top || self.pos.row > self.scroll_bottom {
+        if !self.in_scroll_region() {
             return;
         }
         let first = usize::from(self.pos.row);
@@ -45,10 +41,19 @@ impl Grid {
         ensures grid { self.new ≡ scrolled_down self.old count }
         ensures allocated { IsAllocated self.new }
     {
-        if count == 0 {
-            return;
+        if count > 0 {
+            self.open_lines_at(self.scroll_top, count);
         }
-        let first = usize::from(self.scroll_top);
+    }
+
+    /// Inserts blank lines at a row of the scroll region, as many as there are down to its end.
+    fn open_lines_at(&mut self, first: u16, count: u16)
+        requires allocated { IsAllocated self.old }
+        requires in_region { first ≤ self.old.bottom }
+        ensures grid { self.new ≡ lines_opened self.old first count }
+        ensures allocated { IsAllocated self.new }
+    {
+        let first = usize::from(first);
         let end = usize::from(self.scroll_bottom) + 1;
         let n = usize::from(count).min(end - first);
         open_lines(&mut self.rows, first, end, n, self.size.cols());
@@ -60,12 +65,7 @@ impl Grid {
         ensures grid { self.new ≡ fed_up self.old count }
         ensures allocated { IsAllocated self.new }
     {
-        let first_row = if self.in_scroll_region() {
-            self.scroll_top
-        } else {
-            0
-        };
-        let room = self.pos.row - first_row;
+        let room = self.pos.row - self.first_row();
         self.row_dec_clamp(count);
         self.scroll_down(count.saturating_sub(room));
     }

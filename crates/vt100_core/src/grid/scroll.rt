@@ -13,8 +13,8 @@ impl Grid {
     ghost use Rattle.vt100_core.specs.Grid.{GridView, IsAllocated, IsShownWide, SameLimits, is_in_region, with_row};
     ghost use Rattle.vt100_rows.specs.Sheet.{row_at};
     ghost use Rattle.vt100_rows.specs.Row.{with_wrap};
-    ghost use Rattle.vt100_core.specs.Scroll.{scrolled_up, fed, rows_past_bottom, made_to_fit, scrollback_erased};
-    ghost use Rattle.vt100_core.specs.Scroll.{scrollback_shown};
+    ghost use Rattle.vt100_core.specs.Scroll.{ScrollsTo, scrolled_up, fed, rows_past_bottom, made_to_fit};
+    ghost use Rattle.vt100_core.specs.Scroll.{scrollback_erased, scrollback_shown};
 
     /// Moves the lines of the scroll region up; blank ones come in at its bottom (SU). Where the region begins at the
     /// screen's first row, the rows that leave it are kept, as many as the capacity allows. The sink is given those
@@ -25,11 +25,7 @@ impl Grid {
     #[tactic(auto, unfolding(crate::specs::Scroll::scrolled_up))]
     pub fn scroll_up<S: RowSink>(&mut self, count: u16, sink: &mut S) -> Result<(), GridError>
         requires { IsAllocated self.old }
-        ensures grid { OnOk result (self.new ≡ (scrolled_up self.old count).grid) }
-        ensures sink { TakesAll S.takes sink.old (scrolled_up self.old count).sunk sink.new }
-        ensures limits { SameLimits self.old self.new }
-        ensures keeps_none { self.old.kept.capacity ≡ 0 → IsOk result }
-        ensures allocated { IsAllocated self.new }
+        ensures { ScrollsTo S.takes sink.old sink.new self.old self.new result (scrolled_up self.old count) }
     {
         let first = usize::from(self.scroll_top);
         let end = usize::from(self.scroll_bottom) + 1;
@@ -131,11 +127,7 @@ impl Grid {
     ) -> Result<(), GridError>
         requires allocated { IsAllocated self.old }
         requires fits { width ≤ self.old.width }
-        ensures grid { OnOk result (self.new ≡ (made_to_fit self.old width wrap).grid) }
-        ensures sink { TakesAll S.takes sink.old (made_to_fit self.old width wrap).sunk sink.new }
-        ensures limits { SameLimits self.old self.new }
-        ensures keeps_none { self.old.kept.capacity ≡ 0 → IsOk result }
-        ensures allocated { IsAllocated self.new }
+        ensures { ScrollsTo S.takes sink.old sink.new self.old self.new result (made_to_fit self.old width wrap) }
     {
         if self.pos.col <= self.size.cols() - width {
             return Ok(());

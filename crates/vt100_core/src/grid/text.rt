@@ -1,10 +1,9 @@
 //! Printing text.
-ghost use Rattle.std.specs.Prelude.{◌≡◌, ℕ, ◌+◌, ◌-◌, ◌<◌, ◌≤◌, ◌==◌, ◌&&◌, ◌||◌, nat_lt, true, false, Some, IsOk};
-ghost use Rattle.std.specs.Prelude.{OnOk, OnErr, IfOk, if◌then◌else◌, All, length, take};
+ghost use Rattle.std.specs.Prelude.{◌≡◌, ℕ, ◌+◌, ◌-◌, ◌<◌, ◌≤◌, ◌==◌, ◌&&◌, ◌||◌, nat_lt, true, false, Some};
+ghost use Rattle.std.specs.Prelude.{if◌then◌else◌, All, length};
 ghost use Rattle.vt100_cells.specs.Cell.{IsCell, cell_of, columns_of, drawn_columns, has_text, IsPrintable};
 ghost use Rattle.vt100_cells.specs.Line.{span_of};
 ghost use Rattle.vt100_rows.specs.Row.{join_row, join_answer, placed_each};
-ghost use Rattle.vt100_rows.specs.Sink.{TakesAll};
 
 use crate::grid::Grid;
 use crate::printed::Printed;
@@ -13,10 +12,10 @@ use vt100_forms::attrs::Attrs;
 use vt100_rows::{Cell, Join, RowSink, columns};
 
 impl Grid {
-    ghost use Rattle.vt100_core.specs.Grid.{GridView, IsGrid, IsAllocated, SameLimits, row_of_cursor, with_cursor_row};
-    ghost use Rattle.vt100_core.specs.Text.{put_at, spaced, joined, printed};
+    ghost use Rattle.vt100_core.specs.Grid.{GridView, IsGrid, IsAllocated, row_of_cursor, with_cursor_row};
+    ghost use Rattle.vt100_core.specs.Text.{Prints, put_at, spaced, joined, carried_on, printed};
     ghost use Rattle.terminal_model.specs.Apply.{is_dropped};
-    ghost use Rattle.vt100_core.specs.Scroll.{made_to_fit};
+    ghost use Rattle.vt100_core.specs.Scroll.{ScrollsTo, made_to_fit};
 
     /// Prints one character at the cursor, with these attributes.
     ///
@@ -36,12 +35,7 @@ impl Grid {
         sink: &mut S,
     ) -> Result<Printed, GridError>
         requires { IsAllocated self.old }
-        ensures grid { OnOk result (self.new ≡ (printed self.old c attrs).grid) }
-        ensures sink { TakesAll S.takes sink.old (printed self.old c attrs).sunk sink.new }
-        ensures answer { IfOk result (λ p. p ≡ (printed self.old c attrs).printed) }
-        ensures limits { SameLimits self.old self.new }
-        ensures keeps_none { self.old.kept.capacity ≡ 0 → IsOk result }
-        ensures allocated { IsAllocated self.new }
+        ensures { Prints S.takes sink.old sink.new self.old self.new result (printed self.old c attrs) }
     {
         // The short way, which is inlined, for most characters.
         if let ' '..='~' = c {
@@ -56,11 +50,7 @@ impl Grid {
     #[inline]
     fn make_room<S: RowSink>(&mut self, sink: &mut S) -> Result<(), GridError>
         requires allocated { IsAllocated self.old }
-        ensures grid { OnOk result (self.new ≡ (made_to_fit self.old 1 true).grid) }
-        ensures sink { TakesAll S.takes sink.old (made_to_fit self.old 1 true).sunk sink.new }
-        ensures limits { SameLimits self.old self.new }
-        ensures keeps_none { self.old.kept.capacity ≡ 0 → IsOk result }
-        ensures allocated { IsAllocated self.new }
+        ensures scrolls { ScrollsTo S.takes sink.old sink.new self.old self.new result (made_to_fit self.old 1 true) }
         ensures wide { 0 < self.old.width }
     {
         if self.pos.col < self.size.cols() {
@@ -78,21 +68,16 @@ impl Grid {
         sink: &mut S,
     ) -> Result<Printed, GridError>
         requires { IsAllocated self.old }
-        ensures grid { OnOk result (self.new ≡ (printed self.old c attrs).grid) }
-        ensures sink { TakesAll S.takes sink.old (printed self.old c attrs).sunk sink.new }
-        ensures answer { IfOk result (λ p. p ≡ (printed self.old c attrs).printed) }
-        ensures limits { SameLimits self.old self.new }
-        ensures keeps_none { self.old.kept.capacity ≡ 0 → IsOk result }
-        ensures allocated { IsAllocated self.new }
+        ensures { Prints S.takes sink.old sink.new self.old self.new result (printed self.old c attrs) }
     {
         match self.drawn_columns(c) {
             None => Ok(Printed::Nothing),
             Some(columns) => {
                 if columns == 0 {
-                    return self.join(c, attrs, sink);
+                    self.join(c, attrs, sink)
+                } else {
+                    self.space(c, columns, attrs, sink)
                 }
-                self.space(c, columns, attrs, sink)?;
-                Ok(Printed::Spacing)
             }
         }
     }
@@ -121,20 +106,16 @@ impl Grid {
         columns: u16,
         attrs: Attrs,
         sink: &mut S,
-    ) -> Result<(), GridError>
+    ) -> Result<Printed, GridError>
         requires allocated { IsAllocated self.old }
         requires drawn { drawn_columns c ≡ Some columns }
         requires some { 0 < columns }
         requires fits { columns ≤ self.old.width }
-        ensures grid { OnOk result (self.new ≡ (spaced self.old c attrs).grid) }
-        ensures sink { TakesAll S.takes sink.old (spaced self.old c attrs).sunk sink.new }
-        ensures limits { SameLimits self.old self.new }
-        ensures keeps_none { self.old.kept.capacity ≡ 0 → IsOk result }
-        ensures allocated { IsAllocated self.new }
+        ensures { Prints S.takes sink.old sink.new self.old self.new result (spaced self.old c attrs) }
     {
         self.col_wrap(columns, true, sink)?;
         self.put(c, columns, attrs);
-        Ok(())
+        Ok(Printed::Spacing)
     }
 
     /// Puts a character of one or two columns at the cursor.
@@ -191,12 +172,7 @@ impl Grid {
         requires allocated { IsAllocated self.old }
         requires zero_width { drawn_columns c ≡ Some 0 }
         requires after_some { 0 < self.old.col }
-        ensures grid { OnOk result (self.new ≡ (joined self.old c attrs).grid) }
-        ensures sink { TakesAll S.takes sink.old (joined self.old c attrs).sunk sink.new }
-        ensures answer { IfOk result (λ p. p ≡ (joined self.old c attrs).printed) }
-        ensures limits { SameLimits self.old self.new }
-        ensures keeps_none { self.old.kept.capacity ≡ 0 → IsOk result }
-        ensures allocated { IsAllocated self.new }
+        ensures { Prints S.takes sink.old sink.new self.old self.new result (joined self.old c attrs) }
     {
         match self.join_in_row(c, attrs) {
             Join::InPlace => Ok(Printed::Joined),
@@ -205,36 +181,34 @@ impl Grid {
                 self.pos.col += 1;
                 Ok(Printed::Joined)
             }
-            Join::Carried(cell) => {
-                self.carry(cell, attrs, sink)?;
-                Ok(Printed::Joined)
-            }
+            Join::Carried(cell) => self.carry(cell, attrs, sink),
         }
     }
 
     /// Puts a wide cell at the start of the next row.
-    fn carry<S: RowSink>(&mut self, cell: Cell, attrs: Attrs, sink: &mut S) -> Result<(), GridError>
+    fn carry<S: RowSink>(
+        &mut self,
+        cell: Cell,
+        attrs: Attrs,
+        sink: &mut S,
+    ) -> Result<Printed, GridError>
         requires allocated { IsAllocated self.old }
         requires valid { IsCell cell }
         requires text { has_text cell ≡ true }
         requires wide { cell.wide ≡ true }
         requires fits { 2 ≤ self.old.width }
-        ensures grid { OnOk result (self.new ≡ put_at (made_to_fit self.old 2 false).grid cell attrs 2) }
-        ensures sink { TakesAll S.takes sink.old (made_to_fit self.old 2 false).sunk sink.new }
-        ensures limits { SameLimits self.old self.new }
-        ensures keeps_none { self.old.kept.capacity ≡ 0 → IsOk result }
-        ensures allocated { IsAllocated self.new }
+        ensures { Prints S.takes sink.old sink.new self.old self.new result (carried_on self.old cell attrs) }
     {
         self.col_wrap(2, false, sink)?;
         self.put_wide(cell, attrs);
-        Ok(())
+        Ok(Printed::Joined)
     }
 }
 
 /// Printing a run of characters.
 impl Grid {
-    ghost use Rattle.vt100_core.specs.Grid.{IsAllocated, SameLimits, row_of_cursor, with_cursor_row};
-    ghost use Rattle.vt100_core.specs.Text.{printed_all, TakesFront};
+    ghost use Rattle.vt100_core.specs.Grid.{IsAllocated, row_of_cursor, with_cursor_row};
+    ghost use Rattle.vt100_core.specs.Text.{PrintsAll, PrintsFirst};
 
     /// Prints the characters of `text`, which are printable ASCII, as [`text`](Self::text) of each in turn does.
     ///
@@ -248,12 +222,7 @@ impl Grid {
     ) -> Result<(), GridError>
         requires allocated { IsAllocated self.old }
         requires printable { All IsPrintable text.now }
-        ensures grid { OnOk result (self.new ≡ (printed_all self.old text.now attrs).grid) }
-        ensures sink { OnOk result (TakesAll S.takes sink.old (printed_all self.old text.now attrs).sunk sink.new) }
-        ensures begun { OnErr result (TakesFront S.takes sink.old self.old text.now attrs sink.new) }
-        ensures limits { SameLimits self.old self.new }
-        ensures keeps_none { self.old.kept.capacity ≡ 0 → IsOk result }
-        ensures allocated { IsAllocated self.new }
+        ensures { PrintsAll S.takes sink.old sink.new self.old self.new result text.now attrs }
     {
         let mut rest = text;
         while !rest.is_empty() {
@@ -273,16 +242,7 @@ impl Grid {
         requires allocated { IsAllocated self.old }
         requires some { 0 < length text.now }
         requires printable { All IsPrintable text.now }
-        ensures some { IfOk result (λ n. 0 < n) }
-        ensures within { IfOk result (λ n. n ≤ length text.now) }
-        ensures grid { IfOk result (λ n. self.new ≡ (printed_all self.old (take n text.now) attrs).grid) }
-        ensures sink { IfOk result (λ n. TakesAll S.takes sink.old (printed_all self.old (take n text.now) attrs).sunk
-            sink.new) }
-        ensures begun { OnErr result (TakesAll S.takes sink.old (printed_all self.old (take 1 text.now) attrs).sunk
-            sink.new) }
-        ensures limits { SameLimits self.old self.new }
-        ensures keeps_none { self.old.kept.capacity ≡ 0 → IsOk result }
-        ensures allocated { IsAllocated self.new }
+        ensures { PrintsFirst S.takes sink.old sink.new self.old self.new result text.now attrs }
     {
         let cols = self.size.cols();
         self.make_room(sink)?;

@@ -1,8 +1,7 @@
 //! Printing a run of wide characters.
-ghost use Rattle.std.specs.Prelude.{◌≡◌, ℕ, ◌+◌, ◌*◌, ◌<◌, ◌≤◌, All, IsOk, OnOk, OnErr, IfOk, length, take};
+ghost use Rattle.std.specs.Prelude.{◌≡◌, ℕ, ◌+◌, ◌*◌, ◌<◌, ◌≤◌, All, length};
 ghost use Rattle.vt100_rows.specs.Row.{placed_pairs};
 ghost use Rattle.vt100_core.specs.Text.{IsWide};
-ghost use Rattle.vt100_rows.specs.Sink.{TakesAll};
 
 use crate::grid::Grid;
 use vt100_forms::GridError;
@@ -10,9 +9,8 @@ use vt100_forms::attrs::Attrs;
 use vt100_rows::RowSink;
 
 impl Grid {
-    ghost use Rattle.vt100_core.specs.Grid.{IsAllocated, SameLimits, row_of_cursor, with_cursor_row};
-    ghost use Rattle.vt100_core.specs.Scroll.{made_to_fit};
-    ghost use Rattle.vt100_core.specs.Text.{printed_all, TakesFront};
+    ghost use Rattle.vt100_core.specs.Grid.{IsAllocated, row_of_cursor, with_cursor_row};
+    ghost use Rattle.vt100_core.specs.Text.{PrintsAll, PrintsFirst};
 
     /// Prints the characters of `text`, each of which takes two columns, as [`text`](Self::text) of each in turn does.
     /// For a screen of two columns or more.
@@ -27,12 +25,7 @@ impl Grid {
         requires allocated { IsAllocated self.old }
         requires wide { All IsWide text.now }
         requires room { 2 ≤ self.old.width }
-        ensures grid { OnOk result (self.new ≡ (printed_all self.old text.now attrs).grid) }
-        ensures sink { OnOk result (TakesAll S.takes sink.old (printed_all self.old text.now attrs).sunk sink.new) }
-        ensures begun { OnErr result (TakesFront S.takes sink.old self.old text.now attrs sink.new) }
-        ensures limits { SameLimits self.old self.new }
-        ensures keeps_none { self.old.kept.capacity ≡ 0 → IsOk result }
-        ensures allocated { IsAllocated self.new }
+        ensures { PrintsAll S.takes sink.old sink.new self.old self.new result text.now attrs }
     {
         let mut rest = text;
         while !rest.is_empty() {
@@ -53,16 +46,7 @@ impl Grid {
         requires some { 0 < length text.now }
         requires wide { All IsWide text.now }
         requires room { 2 ≤ self.old.width }
-        ensures some { IfOk result (λ n. 0 < n) }
-        ensures within { IfOk result (λ n. n ≤ length text.now) }
-        ensures grid { IfOk result (λ n. self.new ≡ (printed_all self.old (take n text.now) attrs).grid) }
-        ensures sink { IfOk result (λ n. TakesAll S.takes sink.old (printed_all self.old (take n text.now) attrs).sunk
-            sink.new) }
-        ensures begun { OnErr result (TakesAll S.takes sink.old (printed_all self.old (take 1 text.now) attrs).sunk
-            sink.new) }
-        ensures limits { SameLimits self.old self.new }
-        ensures keeps_none { self.old.kept.capacity ≡ 0 → IsOk result }
-        ensures allocated { IsAllocated self.new }
+        ensures { PrintsFirst S.takes sink.old sink.new self.old self.new result text.now attrs }
     {
         let cols = self.size.cols();
         self.col_wrap(2, true, sink)?;

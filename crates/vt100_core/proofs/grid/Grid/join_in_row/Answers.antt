@@ -2,7 +2,6 @@ use Rattle.std.proofs.Common.{arith}
 use Rattle.std.proofs.lemmas.Grind.{common_steps}
 use Rattle.vt100_core.proofs.GridLemmas.{IsGrid-at}
 use Rattle.vt100_core.proofs.TextLemmas.{IsGrid-join}
-use Rattle.vt100_core.specs.GridFields.{grid_of}
 use Rattle.vt100_core.proofs.CursorRow.{cursor_row-wide}
 use Rattle.vt100_core.proofs.grid.Grid.join_in_row.Goals as goal
 
@@ -16,7 +15,6 @@ invariant_of-self c =
 
 pub join-requires-clause-in_row : goal.join-requires-clause-in_row
 join-requires-clause-in_row c =
-    let own = grid_of c.self.inside in
-    let wide = cursor_row-wide own c.args.self.now c.from.result c.index_mut.result.now c.self.view_is
-    c.self.invariant c.requires.allocated c.from.ensures c.index_mut.ensures.value in
+    let wide = cursor_row-wide c.self.view_is c.self.invariant c.requires.allocated c.from.ensures
+    c.index_mut.ensures.value in
     omega (arith, wide, c.self.invariant.cursor_col)

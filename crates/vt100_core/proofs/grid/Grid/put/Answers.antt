@@ -1,13 +1,11 @@
-use Rattle.std.proofs.Common.{arith, refl, subst, sym, ◌+◌, ◌≤◌}
+use Rattle.std.proofs.Common.{arith, refl}
 use Rattle.std.proofs.lemmas.Grind.{common_steps}
 use Rattle.vt100_cells.specs.Cell.{cell_of}
 use Rattle.vt100_cells.proofs.CellLemmas.{IsCell-of}
 use Rattle.vt100_cells.proofs.WidthLemmas.{drawn-is}
 use Rattle.vt100_core.proofs.GridLemmas.{IsGrid-at}
 use Rattle.vt100_core.proofs.TextLemmas.{IsGrid-put_at, span_of-cell}
-use Rattle.vt100_core.specs.GridFields.{grid_of}
-use Rattle.vt100_core.proofs.CursorRow.{cursor_row-wide}
-use Rattle.vt100_core.specs.Grid.{GridView}
+use Rattle.vt100_core.proofs.CursorRow.{cursor_row-fits}
 use Rattle.vt100_core.proofs.grid.Grid.put.Goals as goal
 
 pub invariant_of-self : goal.invariant_of-self
@@ -21,8 +19,5 @@ invariant_of-self c =
 
 pub put-requires-clause-in_row : goal.put-requires-clause-in_row
 put-requires-clause-in_row c =
-    let own = grid_of c.self.inside in
-    let wide = cursor_row-wide own c.args.self.now c.from.result c.index_mut.result.now c.self.view_is
-    c.self.invariant c.requires.allocated c.from.ensures c.index_mut.ensures.value in
-    let fits = subst (λ (x : GridView). x.col + c.args.columns ≤ x.width) (sym c.self.view_is) c.requires.fits in
-    omega (arith, wide, fits)
+    cursor_row-fits _ c.self.view_is c.self.invariant c.requires.allocated c.from.ensures
+    c.index_mut.ensures.value c.requires.fits

@@ -1,23 +1,18 @@
-use Rattle.std.proofs.Common.{arith, subst, sym, ◌+◌, ◌≤◌, ◌*◌, length}
+use Rattle.std.proofs.Common.{arith}
 use Rattle.std.proofs.lemmas.Grind.{common_steps}
 use Rattle.vt100_core.proofs.GridLemmas.{IsGrid-at}
-use Rattle.vt100_core.proofs.WideLemmas.{IsGrid-pairs_at}
-use Rattle.vt100_core.specs.GridFields.{grid_of}
-use Rattle.vt100_core.proofs.CursorRow.{cursor_row-wide}
-use Rattle.vt100_core.specs.Grid.{GridView}
+use Rattle.vt100_core.proofs.RunLemmas.{wide-run, IsGrid-text_at}
+use Rattle.vt100_core.proofs.CursorRow.{cursor_row-fits}
 use Rattle.vt100_core.proofs.grid.Grid.put_pairs.Goals as goal
 
 pub invariant_of-self : goal.invariant_of-self
 invariant_of-self c =
     IsGrid-at
-    (IsGrid-pairs_at c.args.self.now c.args.text.now c.args.attrs (rw (← c.self.view_is) c.self.invariant)
+    (IsGrid-text_at wide-run c.args.self.now c.args.text.now c.args.attrs (rw (← c.self.view_is) c.self.invariant)
     c.requires.allocated c.requires.wide c.put_pairs.ensures.characters c.requires.fits)
     (grind (arith, common_steps))
 
 pub put_pairs-requires-clause-in_row : goal.put_pairs-requires-clause-in_row
 put_pairs-requires-clause-in_row c =
-    let own = grid_of c.self.inside in
-    let wide = cursor_row-wide own c.args.self.now c.from.result c.index_mut.result.now c.self.view_is
-    c.self.invariant c.requires.allocated c.from.ensures c.index_mut.ensures.value in
-    let fits = subst (λ (x : GridView). x.col + 2 * length c.args.text.now ≤ x.width) (sym c.self.view_is) c.requires.fits in
-    omega (arith, wide, fits)
+    cursor_row-fits _ c.self.view_is c.self.invariant c.requires.allocated c.from.ensures
+    c.index_mut.ensures.value c.requires.fits

@@ -1,23 +1,19 @@
-use Rattle.std.proofs.Common.{arith, subst, sym, ◌+◌, ◌≤◌, length}
+use Rattle.std.proofs.Common.{arith}
 use Rattle.std.proofs.lemmas.Grind.{common_steps}
 use Rattle.vt100_core.proofs.GridLemmas.{IsGrid-at}
-use Rattle.vt100_core.proofs.RunLemmas.{IsGrid-run_at}
-use Rattle.vt100_core.specs.GridFields.{grid_of}
-use Rattle.vt100_core.proofs.CursorRow.{cursor_row-wide}
-use Rattle.vt100_core.specs.Grid.{GridView}
+use Rattle.vt100_core.proofs.RunLemmas.{narrow-run, IsGrid-text_at, printable-drawn, printable-scalars}
+use Rattle.vt100_core.proofs.CursorRow.{cursor_row-fits}
 use Rattle.vt100_core.proofs.grid.Grid.put_run.Goals as goal
 
 pub invariant_of-self : goal.invariant_of-self
 invariant_of-self c =
     IsGrid-at
-    (IsGrid-run_at c.args.self.now c.args.text.now c.args.attrs (rw (← c.self.view_is) c.self.invariant)
-    c.requires.allocated c.requires.printable c.requires.fits)
+    (IsGrid-text_at narrow-run c.args.self.now c.args.text.now c.args.attrs (rw (← c.self.view_is) c.self.invariant)
+    c.requires.allocated (printable-drawn _ c.requires.printable) (printable-scalars _ c.requires.printable)
+    c.requires.fits)
     (grind (arith, common_steps))
 
 pub put_run-requires-clause-in_row : goal.put_run-requires-clause-in_row
 put_run-requires-clause-in_row c =
-    let own = grid_of c.self.inside in
-    let wide = cursor_row-wide own c.args.self.now c.from.result c.index_mut.result.now c.self.view_is
-    c.self.invariant c.requires.allocated c.from.ensures c.index_mut.ensures.value in
-    let fits = subst (λ (x : GridView). x.col + length c.args.text.now ≤ x.width) (sym c.self.view_is) c.requires.fits in
-    omega (arith, wide, fits)
+    cursor_row-fits _ c.self.view_is c.self.invariant c.requires.allocated c.from.ensures
+    c.index_mut.ensures.value c.requires.fits

@@ -3,11 +3,9 @@ use Rattle.std.proofs.lemmas.Grind.{common_steps}
 use Rattle.vt100_rows.specs.Row.{RowView}
 use Rattle.vt100_rows.specs.Sheet.{IsSheet}
 use Rattle.vt100_core.specs.GridFields.{grid_of}
-use Rattle.vt100_rows.proofs.SheetLemmas.{refilled}
 use Rattle.vt100_core.proofs.GridLemmas.{IsGrid-at, IsGrid-rows}
 use Rattle.vt100_core.proofs.ResizeLemmas.{IsSheet-height_as, IsGrid-with_width}
-use Rattle.vt100_core.proofs.PutBack.{count-refilled}
-use Rattle.vt100_core.specs.Grid.{GridView}
+use Rattle.vt100_core.proofs.PutBack.{put-back, count-again}
 use Rattle.vt100_core.proofs.grid.Grid.set_width.Goals as goal
 
 pub resize_rows-requires : goal.resize_rows-requires
@@ -25,9 +23,8 @@ pub invariant_of-self : goal.invariant_of-self
 invariant_of-self c =
     let own = c.self.inside in
     let same : c.deref_mut.result.now ≡ own.rows.items = c.deref_mut.ensures.value in
-    let count : length c.resize_rows.new.rows ≡ length own.rows.items =
-    c.resize_rows.auto.rows ∙ ap (λ (xs : List RowView). length xs) same in
-    let back = refilled own.rows.len c.resize_rows.new.rows own.rows.items own.rows.ok.0 count in
+    let count = c.resize_rows.auto.rows ∙ ap (λ (xs : List RowView). length xs) same in
+    let back = put-back own.rows.ok.0 c.resize_rows.auto.rows same in
     let sheet : IsSheet (length own.rows.items) own.size.cols.value c.resize_rows.new.rows =
     subst (λ w. IsSheet (length own.rows.items) w c.resize_rows.new.rows) c.cols.ensures
     (subst (λ (xs : List RowView). IsSheet (length xs) c.cols.result c.resize_rows.new.rows) same
@@ -47,14 +44,8 @@ invariant_of-self-2 c =
 
 pub returns-in_err-resize_rows-clause-count : goal.returns-in_err-resize_rows-clause-count
 returns-in_err-resize_rows-clause-count c =
-    let own = c.self.inside in
-    count-refilled own.rows.len c.resize_rows.new.rows own.rows.items own.rows.ok.0
-    (c.resize_rows.auto.rows ∙ ap (λ (xs : List RowView). length xs) c.deref_mut.ensures.value)
-    ∙ ap (λ (x : GridView). length x.rows) c.self.view_is
+    count-again _ c.self.view_is c.self.inside.rows.ok.0 c.resize_rows.auto.rows c.deref_mut.ensures.value
 
 pub returns-clause-count : goal.returns-clause-count
 returns-clause-count c =
-    let own = c.self.inside in
-    count-refilled own.rows.len c.resize_rows.new.rows own.rows.items own.rows.ok.0
-    (c.resize_rows.auto.rows ∙ ap (λ (xs : List RowView). length xs) c.deref_mut.ensures.value)
-    ∙ ap (λ (x : GridView). length x.rows) c.self.view_is
+    count-again _ c.self.view_is c.self.inside.rows.ok.0 c.resize_rows.auto.rows c.deref_mut.ensures.value

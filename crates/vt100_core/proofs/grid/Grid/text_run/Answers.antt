@@ -1,37 +1,14 @@
-use Rattle.std.proofs.Common.{ℕ, List, sym, subst}
-use Rattle.std.specs.Prelude.{All}
+use Rattle.std.proofs.Common.{rules, ◌≡◌}
+use Rattle.std.specs.Prelude.{Err}
 use Rattle.std.proofs.lemmas.List.{take_rest}
-use Rattle.std.proofs.lemmas.List.Elements.{All-drop}
-use Rattle.vt100_cells.specs.Cell.{IsPrintable}
-use Rattle.vt100_rows.proofs.TextLemmas.{on-err}
-use Rattle.vt100_core.proofs.GridLemmas.{SameLimits-trans}
-use Rattle.vt100_core.proofs.RunLemmas.{IsOnTheWay, on-the-way-next, on-the-way-refused}
+use Rattle.vt100_core.proofs.RunLemmas.{on-the-way-next, on-the-way-refused}
 use Rattle.vt100_core.proofs.grid.Grid.text_run.Goals as goal
 
 pub loop-rest-preserved : goal.loop-rest-preserved
 loop-rest-preserved g c =
-    let self = c.args.self.now in
-    let sink = c.args.sink.now in
-    let text = c.args.text.now in
-    let a = c.args.attrs in
-    let rest = c.loop-rest.rest.now in
-    let n = c.in_ok-n.n in
-    let e = take_rest rest n in
-    record {
-      allocated = c.in_ok-n.ensures.allocated;
-      limits = SameLimits-trans self c.loop-rest.self c.text_in_row.new.self c.loop-rest.invariant.limits
-          c.in_ok-n.ensures.limits;
-      printable = subst (λ (xs : List ℕ). All IsPrintable xs) (sym e)
-          (All-drop IsPrintable n rest c.loop-rest.invariant.printable);
-      printed = subst (λ (xs : List ℕ). IsOnTheWay g.S.RowSink.takes self sink text a c.text_in_row.new.self
-          c.text_in_row.new.sink xs) (sym e)
-          (on-the-way-next g.S.RowSink.takes self c.loop-rest.self c.text_in_row.new.self sink c.loop-rest.sink
-          c.text_in_row.new.sink text rest a n c.loop-rest.invariant.printed c.in_ok-n.ensures.grid
-          c.in_ok-n.ensures.sink);
-    }
+    on-the-way-next c.loop-rest.invariant c.in_ok-n.ensures (take_rest c.loop-rest.rest.now c.in_ok-n.n)
 
-pub returns-in_err-n-clause-begun : goal.returns-in_err-n-clause-begun
-returns-in_err-n-clause-begun g c =
-    on-err c.from_residual.result (on-the-way-refused g.S.RowSink.takes c.args.self.now c.loop-rest.self
-    c.args.sink.now c.loop-rest.sink c.text_in_row.new.sink c.args.text.now c.loop-rest.rest.now c.args.attrs
-    c.loop-rest.invariant.printed c.in_err-n.ensures.begun)
+pub returns-in_err-n : goal.returns-in_err-n
+returns-in_err-n g c =
+    let is : c.from_residual.result ≡ Err c.in_err-n.field-0.0 = search rules in
+    rw is (on-the-way-refused c.loop-rest.invariant c.in_err-n.ensures)

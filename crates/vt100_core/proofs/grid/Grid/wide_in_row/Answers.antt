@@ -1,71 +1,28 @@
-use Rattle.std.proofs.Common.{arith, ◌∙◌, ◌≡◌, ◌+◌, ◌*◌, ◌<◌, ◌≤◌, length, take, subst, sym, ap, length-take, min, true}
+use Rattle.std.proofs.Common.{arith, rules, true, ◌≡◌, subst, sym, ap, length-take}
+use Rattle.std.specs.Prelude.{Err}
 use Rattle.std.proofs.lemmas.List.Elements.{All-take}
-use Rattle.vt100_rows.proofs.TextLemmas.{on-err}
-use Rattle.vt100_rows.proofs.SinkLemmas.{TakesAll-list}
+use Rattle.vt100_core.specs.Text.{IsWide}
 use Rattle.vt100_core.specs.Grid.{GridView, IsGrid}
-use Rattle.vt100_core.specs.Scroll.{Scrolled, made_to_fit}
-use Rattle.vt100_core.specs.Text.{IsWide, printed_all}
 use Rattle.vt100_core.proofs.TextLemmas.{IsMade, IsMade-made}
-use Rattle.vt100_core.proofs.RunLemmas.{cursor-within, in-row-all, first-sunk}
-use Rattle.vt100_core.proofs.WideLemmas.{wide-run}
+use Rattle.vt100_core.proofs.RunLemmas.{wide-run, prints-in-row, refused-in-row}
 use Rattle.vt100_core.proofs.grid.Grid.wide_in_row.Goals as goal
 
 pub put_pairs-requires-clause-wide : goal.put_pairs-requires-clause-wide
 put_pairs-requires-clause-wide g c = All-take IsWide c.min-n.result c.args.text.now c.requires.wide
 
-pub returns-clause-some : goal.returns-clause-some
-returns-clause-some g c =
-    let s = c.args.self.now in
-    let h = c.col_wrap.new.self in
-    let m = subst (λ (x : GridView). IsMade s x 2) (sym c.in_ok-col_wrap.ensures.grid)
-    (IsMade-made s 2 true c.requires.room) in
-    let col : c.self-2.inside.pos.col ≡ h.col = ap (λ (x : GridView). x.col) c.self-2.view_is in
-    let cols : c.self.inside.size.cols.value ≡ s.width = ap (λ (x : GridView). x.width) c.self.view_is in
-    omega arith
+pub returns : goal.returns
+returns g c =
+    let made = c.in_ok-col_wrap.ensures in
+    let room = subst (λ (x : GridView). IsMade c.args.self.now x 2) (sym made.grid)
+    (IsMade-made c.args.self.now 2 true c.requires.room) in
+    let col = ap (λ (x : GridView). x.col) c.self-2.view_is in
+    let cols = ap (λ (x : GridView). x.width) c.self.view_is in
+    prints-in-row wide-run c.args.text.now c.args.attrs c.min-n.result c.requires.wide c.requires.room
+    (omega arith) (omega arith) made (subst IsGrid c.self-2.view_is c.self-2.invariant)
+    (omega (arith, length-take c.min-n.result c.args.text.now)) c.put_pairs.ensures.grid c.put_pairs.ensures.allocated
 
-pub returns-clause-grid : goal.returns-clause-grid
-returns-clause-grid g c =
-    let s = c.args.self.now in
-    let h = c.col_wrap.new.self in
-    let m = subst (λ (x : GridView). IsMade s x 2) (sym c.in_ok-col_wrap.ensures.grid)
-    (IsMade-made s 2 true c.requires.room) in
-    let col : c.self-2.inside.pos.col ≡ h.col = ap (λ (x : GridView). x.col) c.self-2.view_is in
-    let cols : c.self.inside.size.cols.value ≡ s.width = ap (λ (x : GridView). x.width) c.self.view_is in
-    let xs = take c.min-n.result c.args.text.now in
-    let count : length xs ≡ min c.min-n.result (length c.args.text.now) = length-take c.min-n.result c.args.text.now in
-    let some : 0 < length xs = omega arith in
-    let room : 2 ≤ h.width = omega arith in
-    let fits : h.col + 2 * length xs ≤ h.width = omega arith in
-    let all = in-row-all wide-run s h xs c.args.attrs some
-    (All-take IsWide c.min-n.result c.args.text.now c.requires.wide)
-    c.requires.room c.in_ok-col_wrap.ensures.grid room fits
-    (cursor-within h (subst IsGrid c.self-2.view_is c.self-2.invariant) c.in_ok-col_wrap.ensures.allocated) in
-    c.put_pairs.ensures.grid ∙ ap (λ (o : Scrolled). o.grid) all
-
-pub returns-clause-sink : goal.returns-clause-sink
-returns-clause-sink g c =
-    let s = c.args.self.now in
-    let h = c.col_wrap.new.self in
-    let m = subst (λ (x : GridView). IsMade s x 2) (sym c.in_ok-col_wrap.ensures.grid)
-    (IsMade-made s 2 true c.requires.room) in
-    let col : c.self-2.inside.pos.col ≡ h.col = ap (λ (x : GridView). x.col) c.self-2.view_is in
-    let cols : c.self.inside.size.cols.value ≡ s.width = ap (λ (x : GridView). x.width) c.self.view_is in
-    let xs = take c.min-n.result c.args.text.now in
-    let count : length xs ≡ min c.min-n.result (length c.args.text.now) = length-take c.min-n.result c.args.text.now in
-    let some : 0 < length xs = omega arith in
-    let room : 2 ≤ h.width = omega arith in
-    let fits : h.col + 2 * length xs ≤ h.width = omega arith in
-    let all = in-row-all wide-run s h xs c.args.attrs some
-    (All-take IsWide c.min-n.result c.args.text.now c.requires.wide)
-    c.requires.room c.in_ok-col_wrap.ensures.grid room fits
-    (cursor-within h (subst IsGrid c.self-2.view_is c.self-2.invariant) c.in_ok-col_wrap.ensures.allocated) in
-    TakesAll-list g.S.RowSink.takes c.args.sink.now c.col_wrap.new.sink (made_to_fit s 2 true).sunk
-    (printed_all s xs c.args.attrs).sunk (ap (λ (o : Scrolled). o.sunk) all) c.in_ok-col_wrap.ensures.sink
-
-pub returns-in_err-col_wrap-clause-begun : goal.returns-in_err-col_wrap-clause-begun
-returns-in_err-col_wrap-clause-begun g c =
-    let s = c.args.self.now in
-    on-err c.from_residual.result (TakesAll-list g.S.RowSink.takes c.args.sink.now c.col_wrap.new.sink
-    (made_to_fit s 2 true).sunk (printed_all s (take 1 c.args.text.now) c.args.attrs).sunk
-    (first-sunk wide-run s c.args.text.now c.args.attrs c.requires.some c.requires.wide c.requires.room)
-    c.in_err-col_wrap.ensures.sink)
+pub returns-in_err-col_wrap : goal.returns-in_err-col_wrap
+returns-in_err-col_wrap g c =
+    let is : c.from_residual.result ≡ Err c.in_err-col_wrap.field-0.0 = search rules in
+    rw is (refused-in-row wide-run c.args.text.now c.args.attrs c.requires.some c.requires.wide
+    c.requires.room c.in_err-col_wrap.ensures)

@@ -1,9 +1,12 @@
 use Rattle.std.proofs.Common.{arith, ◌≡◌, ◌-◌, ◌∙◌, ◌++◌, ap, min, take, map, slice_range, length}
 use Rattle.vt100_rows.specs.Row.{trimmed}
+use Rattle.vt100_rows.specs.Sink.{TakesAll}
 use Rattle.vt100_core.specs.KeptFields.{kept_of}
 use Rattle.vt100_core.specs.Scroll.{pushed_out}
 use Rattle.vt100_core.proofs.KeepLemmas.{pushes, pushed, blanks, IsSheet-pushed}
 use Rattle.vt100_rows.proofs.SinkLemmas.{TakesAll-append, TakesAll-list}
+use Rattle.vt100_core.proofs.scrollback.ScrollbackState.push_off.Given.{Over}
+use Rattle.vt100_core.proofs.scrollback.ScrollbackState.push_off.Goals.{After-give_rows}
 use Rattle.vt100_core.proofs.scrollback.ScrollbackState.push_off.Goals as goal
 
 pub returns-clause-kept : goal.returns-clause-kept
@@ -17,8 +20,10 @@ returns-clause-kept g c =
     ∙ ap (λ m. c.drop_oldest-spare.new.rows.items ++ map trimmed (slice_range c.args.rows.now m c.args.n)) first)
     (omega arith)
 
-pub returns-clause-sink : goal.returns-clause-sink
-returns-clause-sink g c =
+-- what the sink has been given once `give_rows` has returned
+given : (g : Over) (c : After-give_rows g) → TakesAll g.S.RowSink.takes c.args.sink.now
+    (pushed_out (kept_of c.args.self.now) (take c.args.n c.args.rows.now)) c.give_rows.new.sink
+given g c =
     let s = c.args.self.now in
     let over : c.saturating_sub.result ≡ min c.args.n s.capacity - (s.capacity - length s.rows.items) = omega arith in
     let first : c.args.n - c.min-fits.result ≡ c.args.n - min c.args.n s.capacity = omega arith in
@@ -31,19 +36,11 @@ returns-clause-sink g c =
     (take c.saturating_sub.result s.rows.items) (take (c.args.n - c.min-fits.result) c.args.rows.now)
     c.drop_oldest-spare.ensures.sink c.give_rows.ensures)
 
+pub returns-clause-sink : goal.returns-clause-sink
+returns-clause-sink g c = given g (goal.at.returns-clause-sink g c).After-give_rows
+
 pub returns-in_err-keep_rows-clause-sink : goal.returns-in_err-keep_rows-clause-sink
-returns-in_err-keep_rows-clause-sink g c =
-    let s = c.args.self.now in
-    let over : c.saturating_sub.result ≡ min c.args.n s.capacity - (s.capacity - length s.rows.items) = omega arith in
-    let first : c.args.n - c.min-fits.result ≡ c.args.n - min c.args.n s.capacity = omega arith in
-    TakesAll-list g.S.RowSink.takes c.args.sink.now c.give_rows.new.sink (take c.saturating_sub.result s.rows.items
-    ++ take (c.args.n - c.min-fits.result) c.args.rows.now) (pushed_out (kept_of s) (take c.args.n c.args.rows.now))
-    (ap (λ m. take c.saturating_sub.result s.rows.items ++ take m c.args.rows.now) first
-    ∙ pushed (kept_of s) c.args.rows.now c.args.n c.saturating_sub.result c.requires.in_rows c.requires.valid.fits
-    over)
-    (TakesAll-append g.S.RowSink.takes c.args.sink.now c.drop_oldest-spare.new.sink c.give_rows.new.sink
-    (take c.saturating_sub.result s.rows.items) (take (c.args.n - c.min-fits.result) c.args.rows.now)
-    c.drop_oldest-spare.ensures.sink c.give_rows.ensures)
+returns-in_err-keep_rows-clause-sink g c = given g (goal.at.returns-in_err-keep_rows-clause-sink g c).After-give_rows
 
 pub returns-clause-rows : goal.returns-clause-rows
 returns-clause-rows g c =
@@ -54,7 +51,6 @@ returns-clause-rows g c =
 pub returns-clause-sheet : goal.returns-clause-sheet
 returns-clause-sheet g c =
     IsSheet-pushed c.args.rows.now c.reset_between.new.rows c.args.width c.args.n c.requires.sheet c.requires.in_rows
-    (omega arith)
-    (blanks c.args.rows.now c.keep_rows.new.rows c.reset_between.new.rows c.args.width (c.args.n - c.min-fits.result)
-    c.args.n (omega arith) c.requires.in_rows c.requires.sheet.each
+    (omega arith) (blanks c.args.rows.now c.keep_rows.new.rows c.reset_between.new.rows c.args.width
+    (c.args.n - c.min-fits.result) c.args.n (omega arith) c.requires.in_rows c.requires.sheet.each
     c.in_ok-keep_rows.ensures.rows c.reset_between.ensures)
