@@ -79,10 +79,8 @@ pub new-again : (g : GridView) → IsKept g.kept → IsNew g → g ≡ new_grid 
 new-again g k n =
     let keeps = sym (keeps-same g.kept.keeps g.kept.capacity) in
     let capacity = sym (capacity-same g.kept.keeps g.kept.capacity (λ e. (k.none e).0)) in
-    λ i. record {
+    λ i. record g {
       rows = n.rows i;
-      height = g.height;
-      width = g.width;
       row = n.row i;
       col = n.col i;
       saved_row = n.saved_row i;

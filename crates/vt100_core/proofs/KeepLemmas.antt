@@ -34,13 +34,7 @@ shows k rows offset height width first end h ef ee e =
     ∙ length-rows_by_position (length k.rows) (changed_between f k.rows first end))
     (λ j l. ap (λ vs. row_at vs j) e ∙ row_at-by_position (length k.rows) (changed_between f k.rows first end) j l
     ∙ shown-read f k.rows offset height first end j l ef ee) in
-    λ i. record {
-      keeps = k.keeps;
-      rows = same i;
-      capacity = k.capacity;
-      offset = offset;
-      scrolled_off = k.scrolled_off;
-    }
+    λ i. record k { rows = same i; offset = offset }
 
 -- rows that scroll off
 
@@ -70,7 +64,7 @@ pushes k rows one two n over off h l eo e1 e2 ef =
     ∙ ap (λ (xs : List RowView). drop (overflow k (length (take n rows))) k.rows ++ xs) come in
     let count : off ≡ min (k.scrolled_off + length (take n rows)) (2 ^ 64 - 1) =
     ef ∙ ap (λ m. min (k.scrolled_off + m) (2 ^ 64 - 1)) n-is in
-    λ i. record { keeps = k.keeps; rows = all i; capacity = k.capacity; offset = 0; scrolled_off = count i }
+    λ i. record k { rows = all i; offset = 0; scrolled_off = count i }
 
 blanks-read : (rows ys : List RowView) (width m n r : ℕ) → m ≤ n → length (row_at rows r).cells ≡ width
     → row_at ys r ≡ changed_between (λ v. blank_row width) rows m n r

@@ -34,8 +34,7 @@ IsSheet-height_as height other width rows e i =
 first-last : (rows : List RowView) (height : ℕ) → 0 < height → (first_rows rows height (height - 1)).wrapped ≡ false
 first-last rows height h =
     let last : (height - 1 + 1) ≡ height = omega arith in
-    ap (λ b. (cond b (unwrapped (row_at rows (height - 1))) (row_at rows (height - 1))).wrapped)
-    (eq-eqb (height - 1 + 1) height last)
+    rw (eq-eqb (height - 1 + 1) height last)
 
 IsSheet-shortened : (height from width : ℕ) (rows : List RowView) → IsSheet from width rows → 0 < height
     → height < from → IsSheet height width (rows_by_position (min height (length rows)) (first_rows rows height))
