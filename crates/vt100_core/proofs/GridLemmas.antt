@@ -6,17 +6,13 @@ use Rattle.vt100_rows.specs.Sheet.{rows_by_position, IsRowOf, IsSheet, moved_up,
 use Rattle.vt100_core.specs.declared.scrollback.Scrollback.{Scrollback}
 use Rattle.vt100_core.specs.declared.scrollback.Scrollback.TheVariants.{Disabled, Enabled}
 use Rattle.vt100_core.specs.Grid.{KeptPart, IsKept, IsShownWide, GridView, IsGrid, IsAllocated, SameLimits, keeps_of}
-use Rattle.vt100_core.specs.Grid.{capacity_of, scrollback_of, new_grid, with_row, with_rows, is_in_region}
-use Rattle.vt100_core.specs.Lines.{lines_opened, lines_deleted}
+use Rattle.vt100_core.specs.Grid.{capacity_of, scrollback_of, new_grid, with_row, with_rows}
+use Rattle.vt100_core.specs.Lines.{lines_opened, lines_closed}
 use Rattle.vt100_rows.proofs.SheetLemmas.{length-rows_by_position, IsSheet-with_row}
 use Rattle.vt100_rows.proofs.MoveLemmas.{IsSheet-moved_up, IsSheet-opened_line}
 
 pub IsGrid-at : {g h : GridView} → IsGrid h → g ≡ h → IsGrid g
 IsGrid-at i e = rw e i
-
-pub IsGrid-cond : (b : Bool) (g h : GridView) → (b ≡ true → IsGrid g) → (b ≡ false → IsGrid h) → IsGrid (cond b g h)
-IsGrid-cond true g h p q = p refl
-IsGrid-cond false g h p q = q refl
 
 -- ---- limits
 
@@ -150,9 +146,9 @@ IsGrid-moved_up g first end n i h =
     (length-rows_by_position (length g.rows) (moved_up g.rows first end n g.width))
     (IsSheet-moved_up g.height g.width g.rows first end n i.sheet i.some_rows i.few_cols h)
 
-pub IsGrid-lines_deleted : (g : GridView) (n : ℕ) → IsGrid g → IsAllocated g → IsGrid (lines_deleted g n)
-IsGrid-lines_deleted g n i a = IsGrid-cond (is_in_region g) _ g
-    (λ _. IsGrid-moved_up g g.row (g.bottom + 1) (min n (g.bottom + 1 - g.row)) i (region_rows g i a)) (λ _. i)
+pub IsGrid-lines_closed : (g : GridView) (first n : ℕ) → IsGrid g → IsAllocated g → IsGrid (lines_closed g first n)
+IsGrid-lines_closed g first n i a =
+    IsGrid-moved_up g first (g.bottom + 1) (min n (g.bottom + 1 - first)) i (region_rows g i a)
 
 -- ---- rows that have scrolled off
 

@@ -12,6 +12,7 @@ use Rattle.vt100_rows.proofs.SheetLemmas.{length-rows_by_position}
 use Rattle.vt100_rows.proofs.SinkLemmas.{TakesAll-list}
 use Rattle.vt100_core.specs.Grid.{KeptPart, IsKept, IsShownWide, GridView, IsGrid, IsAllocated, SameKeeping, with_row}
 use Rattle.vt100_core.specs.Grid.{with_rows}
+use Rattle.vt100_core.specs.Lines.{lines_closed}
 use Rattle.vt100_core.specs.Scroll.{ScrollsTo, widened, kept_after, pushed_out, up_count, left_rows, is_kept_from}
 use Rattle.vt100_core.specs.Scroll.{scrolled_up, scrollback_erased}
 use Rattle.vt100_core.proofs.GridLemmas.{IsGrid-with_row, IsGrid-parts, IsGrid-scrolled}
@@ -71,22 +72,12 @@ unkept g e = ap (λ b. (g.top == 0) && b) e ∙ and-false (g.top == 0)
 pub unkept-below : (g : GridView) → 0 < g.top → is_kept_from g ≡ false
 unkept-below g h = grind (arith, nat_tests)
 
-scrolls-unkept : (g : GridView) (count first end n width : ℕ) (rows : List RowView) → is_kept_from g ≡ false
-    → first ≡ g.top → end ≡ g.bottom + 1 → n ≡ min count (end - first) → width ≡ g.width
-    → rows ≡ rows_by_position (length g.rows) (moved_up g.rows first end n width)
-    → record g { rows = rows } ≡ (scrolled_up g count).grid
+closes : (g : GridView) (count : ℕ) → is_kept_from g ≡ false → lines_closed g g.top count ≡ (scrolled_up g count).grid
 unfolding scrolled_up
-scrolls-unkept g count first end n width rows k ef ee en ew er =
-    let c : n ≡ up_count g count = en ∙ (λ i. min count (ee i - ef i)) in
-    let same_rows : rows ≡ rows_by_position (length g.rows)
-    (moved_up g.rows g.top (g.bottom + 1) (up_count g count) g.width) =
-    er ∙ (λ i. rows_by_position (length g.rows) (moved_up g.rows (ef i) (ee i) (c i) (ew i))) in
-    let same_kept : g.kept ≡ cond (is_kept_from g) (widened (kept_after g.kept (left_rows g count)) g.height g.width)
+closes g count k =
+    let kept : g.kept ≡ cond (is_kept_from g) (widened (kept_after g.kept (left_rows g count)) g.height g.width)
     g.kept = sym (cond-false (is_kept_from g) _ g.kept k) in
-    λ i. record (with_rows g (moved_up g.rows g.top (g.bottom + 1) (up_count g count) g.width)) {
-      rows = same_rows i;
-      kept = same_kept i;
-    }
+    λ i. record (lines_closed g g.top count) { kept = kept i }
 
 sunk-kept : (g : GridView) (count end n : ℕ) → g.top ≡ 0 → g.kept.keeps ≡ true → end ≡ g.bottom + 1
     → n ≡ min count end → pushed_out g.kept (take n g.rows) ≡ (scrolled_up g count).sunk
@@ -133,63 +124,58 @@ ScrollsTo-at count e {takes = takes} {s} {t} {k} {r = r} h =
 
 -- ---- what the code does
 
--- `lent` are the rows of g, which a call makes into `rows`
-module _ (g : GridView) {rows lent : List RowView} (count first end n width : ℕ) (same : lent ≡ g.rows)
-    (a : IsAllocated g) (ef : first ≡ g.top) (ee : end ≡ g.bottom + 1) (en : n ≡ min count (end - first))
-    (ew : width ≡ g.width) (er : rows ≡ rows_by_position (length lent) (moved_up lent first end n width)) where
-  rows-are : rows ≡ rows_by_position (length g.rows) (moved_up g.rows first end n width)
-  rows-are = er ∙ ap (λ (xs : List RowView). rows_by_position (length xs) (moved_up xs first end n width)) same
+-- the region's lines have moved up, and no row is kept
+scrolls-closed : {S : Type 0} {takes : S → RowView → S → Type 0} {s t : S} {T E : Type 0} {x : T} (g : GridView)
+    {h : GridView} (count : ℕ) → h ≡ lines_closed g g.top count → is_kept_from g ≡ false → IsAllocated h
+    → TakesAll takes s (scrolled_up g count).sunk t
+    → ScrollsTo takes s t g h {T = T} {E = E} (Ok x) (scrolled_up g count)
+scrolls-closed g count e k some taken = record {
+  grid = e ∙ closes g count k;
+  sink = taken;
+  limits = rw e (record { height = refl; width = refl; kept = record { keeps = refl; capacity = refl } });
+  keeps_none = λ z. refl;
+  allocated = some;
+}
 
-  some-rows : 0 < length rows
-  some-rows =
-      let count = ap (λ (xs : List RowView). length xs) rows-are
-      ∙ length-rows_by_position (length g.rows) (moved_up g.rows first end n width) in
-      omega (arith, count, a)
+-- since the region begins further down
+pub scrolls-below : {S : Type 0} {takes : S → RowView → S → Type 0} {s : S} {T E : Type 0} {x : T} (g : GridView)
+    {h : GridView} (count : ℕ) → h ≡ lines_closed g g.top count → 0 < g.top → IsAllocated h
+    → ScrollsTo takes s s g h {T = T} {E = E} (Ok x) (scrolled_up g count)
+scrolls-below {takes = takes} {s} g count e below some = scrolls-closed g count e (unkept-below g below) some
+    (TakesAll-list takes s s [] _ (sunk-below g count below) refl)
 
-  scrolls-moved : {S : Type 0} {takes : S → RowView → S → Type 0} {s t : S} {T E : Type 0} {x : T}
-      → is_kept_from g ≡ false → TakesAll takes s (scrolled_up g count).sunk t
-      → ScrollsTo takes s t g (record g { rows = rows }) {T = T} {E = E} (Ok x) (scrolled_up g count)
-  scrolls-moved k taken = record {
-    grid = scrolls-unkept g count first end n width rows k ef ee en ew rows-are;
-    sink = taken;
-    limits = record { height = refl; width = refl; kept = record { keeps = refl; capacity = refl } };
-    keeps_none = λ z. refl;
-    allocated = some-rows;
-  }
+-- since none is kept at all
+pub scrolls-given : {S : Type 0} {takes : S → RowView → S → Type 0} {s t : S} {T E : Type 0} {x : T} (g : GridView)
+    {h : GridView} {given : List RowView} (count end n : ℕ) → h ≡ lines_closed g g.top count → g.top ≡ 0
+    → g.kept.keeps ≡ false → end ≡ g.bottom + 1 → n ≡ min count end → given ≡ g.rows → IsAllocated h
+    → TakesAll takes s (take n given) t → ScrollsTo takes s t g h {T = T} {E = E} (Ok x) (scrolled_up g count)
+scrolls-given {takes = takes} {s} {t} g count end n e top keeps ee en eg some taken =
+    scrolls-closed g count e (unkept g keeps) some
+    (TakesAll-list takes s t _ _ (ap (λ (xs : List RowView). take n xs) eg ∙ sunk-unkept g count end n top keeps ee en)
+    taken)
 
-  -- no row is kept from a region that begins further down, or where none is kept at all
-  pub scrolls-below : {S : Type 0} {takes : S → RowView → S → Type 0} {s : S} {T E : Type 0} {x : T} → 0 < first
-      → ScrollsTo takes s s g (record g { rows = rows }) {T = T} {E = E} (Ok x) (scrolled_up g count)
-  scrolls-below {takes = takes} {s} h =
-      let below : 0 < g.top = omega (arith, h, ef) in
-      scrolls-moved (unkept-below g below) (TakesAll-list takes s s [] _ (sunk-below g count below) refl)
-
-  pub scrolls-given : {S : Type 0} {takes : S → RowView → S → Type 0} {s t : S} {T E : Type 0} {x : T}
-      {given : List RowView} → first ≡ 0 → g.kept.keeps ≡ false → given ≡ g.rows → TakesAll takes s (take n given) t
-      → ScrollsTo takes s t g (record g { rows = rows }) {T = T} {E = E} (Ok x) (scrolled_up g count)
-  scrolls-given {takes = takes} {s} {t} z keeps eg taken =
-      let lines : n ≡ min count end = omega (arith, en, z) in
-      scrolls-moved (unkept g keeps)
-      (TakesAll-list takes s t _ _ (ap (λ (xs : List RowView). take n xs) eg
-      ∙ sunk-unkept g count end n (sym ef ∙ z) keeps ee lines) taken)
-
-  pub scrolls-kept : {S : Type 0} {takes : S → RowView → S → Type 0} {s t : S} {T E : Type 0} {x : T} (height : ℕ)
-      (k : KeptPart) → first ≡ 0 → g.kept.keeps ≡ true → height ≡ g.height
-      → k ≡ widened (kept_after g.kept (take n lent)) height width → SameKeeping g.kept k
-      → TakesAll takes s (pushed_out g.kept (take n lent)) t
-      → ScrollsTo takes s t g (record g { rows = rows; kept = k }) {T = T} {E = E} (Ok x) (scrolled_up g count)
-  scrolls-kept {takes = takes} {s} {t} height k z keeps eh ek limits taken =
-      let lines : n ≡ min count end = omega (arith, en, z) in
-      let kept : k ≡ widened (kept_after g.kept (take n g.rows)) height width =
-      ek ∙ ap (λ (xs : List RowView). widened (kept_after g.kept (take n xs)) height width) same in
-      record {
-        grid = scrolls-off g count end n width height rows k (sym ef ∙ z) keeps ee lines ew eh
-            (rows-are ∙ (λ j. rows_by_position (length g.rows) (moved_up g.rows (z j) end n width))) kept;
-        sink = taken-kept takes s t g count end n (sym ef ∙ z) keeps ee lines same taken;
-        limits = record { height = refl; width = refl; kept = limits };
-        keeps_none = λ none. refl;
-        allocated = some-rows;
-      }
+-- `lent` are the rows of g, which a call makes into `rows`, and what is kept into k
+pub scrolls-kept : {S : Type 0} {takes : S → RowView → S → Type 0} {s t : S} {T E : Type 0} {x : T} (g : GridView)
+    {rows lent : List RowView} (count end n width height : ℕ) (k : KeptPart) → lent ≡ g.rows → IsAllocated g
+    → g.top ≡ 0 → g.kept.keeps ≡ true → end ≡ g.bottom + 1 → n ≡ min count end → width ≡ g.width
+    → height ≡ g.height → rows ≡ rows_by_position (length lent) (moved_up lent 0 end n width)
+    → k ≡ widened (kept_after g.kept (take n lent)) height width → SameKeeping g.kept k
+    → TakesAll takes s (pushed_out g.kept (take n lent)) t
+    → ScrollsTo takes s t g (record g { rows = rows; kept = k }) {T = T} {E = E} (Ok x) (scrolled_up g count)
+scrolls-kept {takes = takes} {s} {t} g {rows} count end n width height k same a top keeps ee en ew eh er ek limits z =
+    let rows-are : rows ≡ rows_by_position (length g.rows) (moved_up g.rows 0 end n width) =
+    er ∙ ap (λ (xs : List RowView). rows_by_position (length xs) (moved_up xs 0 end n width)) same in
+    let some = ap (λ (xs : List RowView). length xs) rows-are
+    ∙ length-rows_by_position (length g.rows) (moved_up g.rows 0 end n width) in
+    let kept : k ≡ widened (kept_after g.kept (take n g.rows)) height width =
+    ek ∙ ap (λ (xs : List RowView). widened (kept_after g.kept (take n xs)) height width) same in
+    record {
+      grid = scrolls-off g count end n width height rows k top keeps ee en ew eh rows-are kept;
+      sink = taken-kept takes s t g count end n top keeps ee en same z;
+      limits = record { height = refl; width = refl; kept = limits };
+      keeps_none = λ none. refl;
+      allocated = omega (arith, some, a);
+    }
 
 -- ---- the row that the cursor leaves
 

@@ -12,11 +12,12 @@ lines_opened g first n = with_rows g (opened_line g.rows first (g.bottom + 1) (m
 abbrev pub lines_inserted : GridView → ℕ → GridView
 lines_inserted g n = if nat_lt 0 n && is_in_region g then lines_opened g g.row n else g
 
--- n lines go at the cursor's row, and blank ones follow at the region's end
+-- n lines go at row `first`, as many as there are down to the region's end, where blank ones follow
+abbrev pub lines_closed : GridView → ℕ → ℕ → GridView
+lines_closed g first n = with_rows g (moved_up g.rows first (g.bottom + 1) (min n (g.bottom + 1 - first)) g.width)
+
 abbrev pub lines_deleted : GridView → ℕ → GridView
-lines_deleted g n =
-    if is_in_region g then with_rows g (moved_up g.rows g.row (g.bottom + 1) (min n (g.bottom + 1 - g.row)) g.width)
-    else g
+lines_deleted g n = if is_in_region g then lines_closed g g.row n else g
 
 abbrev pub scrolled_down : GridView → ℕ → GridView
 scrolled_down g n = if nat_lt 0 n then lines_opened g g.top n else g

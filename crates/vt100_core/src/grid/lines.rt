@@ -6,7 +6,8 @@ use vt100_rows::rows_edit::{move_up, open_lines};
 
 impl Grid {
     ghost use Rattle.vt100_core.specs.Grid.{GridView, IsAllocated, is_in_region};
-    ghost use Rattle.vt100_core.specs.Lines.{lines_opened, lines_inserted, lines_deleted, scrolled_down, fed_up};
+    ghost use Rattle.vt100_core.specs.Lines.{lines_opened, lines_closed, lines_inserted, lines_deleted};
+    ghost use Rattle.vt100_core.specs.Lines.{scrolled_down, fed_up};
 
     /// Inserts blank lines at the cursor's row, if it is in the scroll region (IL). Lines that this pushes out of the
     /// region are gone.
@@ -26,10 +27,19 @@ impl Grid {
         ensures grid { self.new ≡ lines_deleted self.old count }
         ensures allocated { IsAllocated self.new }
     {
-        if !self.in_scroll_region() {
-            return;
+        if self.in_scroll_region() {
+            self.close_lines_at(self.pos.row, count);
         }
-        let first = usize::from(self.pos.row);
+    }
+
+    /// Takes lines out at a row of the scroll region, as many as there are down to its end, where blank ones follow.
+    pub(crate) fn close_lines_at(&mut self, first: u16, count: u16)
+        requires allocated { IsAllocated self.old }
+        requires in_region { first ≤ self.old.bottom }
+        ensures grid { self.new ≡ lines_closed self.old first count }
+        ensures allocated { IsAllocated self.new }
+    {
+        let first = usize::from(first);
         let end = usize::from(self.scroll_bottom) + 1;
         let n = usize::from(count).min(end - first);
         move_up(&mut self.rows, first, end, n, self.size.cols());

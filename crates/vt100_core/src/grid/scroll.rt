@@ -7,7 +7,6 @@ use crate::grid::Grid;
 use vt100_forms::GridError;
 use vt100_rows::kept_rows::drop_oldest;
 use vt100_rows::row_sink::{RowSink, give_rows};
-use vt100_rows::rows_edit::move_up;
 
 impl Grid {
     ghost use Rattle.vt100_core.specs.Grid.{GridView, IsAllocated, IsShownWide, SameLimits, is_in_region, with_row};
@@ -27,14 +26,14 @@ impl Grid {
         requires { IsAllocated self.old }
         ensures { ScrollsTo S.takes sink.old sink.new self.old self.new result (scrolled_up self.old count) }
     {
-        let first = usize::from(self.scroll_top);
+        let first = self.scroll_top;
         let end = usize::from(self.scroll_bottom) + 1;
-        let n = usize::from(count).min(end - first);
+        let n = usize::from(count).min(end - usize::from(first));
         if n == 0 {
             return Ok(());
         }
         if first > 0 {
-            move_up(&mut self.rows, first, end, n, self.size.cols());
+            self.close_lines_at(first, count);
         } else if self.scrollback.enabled {
             self.scrollback.scroll_off(
                 &mut self.rows,
@@ -46,7 +45,7 @@ impl Grid {
             )?;
         } else {
             give_rows(&self.rows[..n], sink);
-            move_up(&mut self.rows, first, end, n, self.size.cols());
+            self.close_lines_at(first, count);
         }
         Ok(())
     }
