@@ -7,13 +7,16 @@ use Rattle.screen_model.specs.State.{State}
 use Rattle.screen_model.specs.Step.{Stepped, Partly}
 use Rattle.screen_model.specs.Call.{Call, ScreenView, Hears, unhandled_escape}
 use Rattle.screen_model.specs.Effect.{Effect, changes, steps, calling, partly, first, second, row_effect, plain_effect}
-use Rattle.screen_model.specs.Effect.{plain_rows, escape_effect}
+use Rattle.screen_model.specs.Effect.{plain_rows, private_rows, other_rows, escape_effect}
 use Rattle.screen_model.specs.Lookup.{lookup}
 use Rattle.vt100.specs.declared.error.ScreenError.{ScreenError}
 use Rattle.vt100.specs.declared.error.ScreenError.TheVariants.{Memory, Failed}
-use Rattle.vt100.specs.Memory.{plain_may_take}
-use Rattle.vt100.specs.Tries.{Tries, TriesParts, Counts, SameBounds, alive, unless_failed}
+use Rattle.vt100_rows.proofs.TextLemmas.{on-err}
+use Rattle.vt100.specs.declared.screen.wrapped.WrappedScreen.{WrappedScreen}
+use Rattle.vt100.specs.Memory.{keeps_rows, plain_may_take, private_may_take}
+use Rattle.vt100.specs.Tries.{Changes, MayScroll, Tries, TriesParts, Counts, SameBounds, alive}
 use Rattle.vt100.specs.Goes.{Either, Tells, Acts, Fails, Does}
+use Rattle.vt100.proofs.HearLemmas.{refused_keeps}
 
 pub is_alive : (v : ScreenView) → v.failed ≡ false → v ≡ alive v.state
 is_alive v h = λ i. record { state = v.state; failed = h i }
@@ -37,12 +40,12 @@ module _ {C : Type 0} {step : C → ScreenView → Call → C → ScreenView →
   -- ---- what is done at once
 
   -- a call that changes the state
-  pub does_change : {t : Bool} {c d : C} {v w : ScreenView} (f : State → State) → w ≡ unless_failed f v → d ≡ c
-      → Does step scrolls (λ s. changes (f s)) t c v d w
-  does_change {t} {c} {d} {v} f screen callbacks = record {
-    dead = λ e. (callbacks, screen ∙ ap (λ (b : Bool). cond b v (alive (f v.state))) e);
-    live = λ e. inl (c, refl, (callbacks, screen ∙ ap (λ (b : Bool). cond b v (alive (f v.state))) e));
-  }
+  pub does_change : {t : Bool} {f : State → State} {p q : WrappedScreen C} → Changes f p q
+      → Does step scrolls (λ s. changes (f s)) t p.callbacks p.screen q.callbacks q.screen
+  does_change {t} {f} {p} x =
+      let is = λ (b : Bool) (e : p.screen.failed ≡ b).
+      x.screen ∙ ap (λ (b : Bool). cond b p.screen (alive (f p.screen.state))) e in
+      record { dead = λ e. (x.callbacks, is true e); live = λ e. inl (p.callbacks, refl, (x.callbacks, is false e)) }
 
   -- nothing
   pub does_nothing : {t : Bool} {c : C} {v : ScreenView} → Does step scrolls changes t c v c v
@@ -82,6 +85,13 @@ module _ {C : Type 0} {step : C → ScreenView → Call → C → ScreenView →
     live = λ e. absurd (false≢true (sym e ∙ x.refused refl));
   }
 
+  pub does_scroll : {f : State → Stepped} {p q : WrappedScreen C} {result : Result (Unit {0}) ScreenError}
+      → MayScroll scrolls f p result q → Does step scrolls (λ s. steps (f s)) (keeps_rows p.screen.state) p.callbacks
+      p.screen q.callbacks q.screen
+  does_scroll {f} {p} {q} {result} x =
+      does_steps f result x.tries (on-err result x.bounds)
+      (refused_keeps p.screen.state.shown.kept.capacity result x.keeps_none)
+
   -- ---- calls
 
   -- a call, and then others
@@ -113,15 +123,17 @@ module _ {C : Type 0} {step : C → ScreenView → Call → C → ScreenView →
   does_unhandled f k n b u h hears screen count calls =
       does_live (λ s. partly (f s) k) h (inl (b, hears, rw (count, screen) at calls))
 
-  pub does_counts : {t : Bool} {c b d : C} {v u w : ScreenView} {n : ℕ} (f : State → Partly) (k : Call)
+  pub does_counts : {t : Bool} {c b d : C} {v u w : ScreenView} {n : ℕ} {f : State → Partly} (k : Call)
       → v.failed ≡ false → Counts scrolls f v c n u b → Tells step b u (replicate n k) d w
       → Does step scrolls (λ s. partly (f s) k) t c v d w
-  does_counts f k h x calls = does_unhandled f k _ _ _ h (x.hears h) (x.screen h) (x.count h) calls
+  does_counts {t} {c} {b} {d} {v} {u} {w} {n} {f} k h x calls =
+      does_unhandled f k _ _ _ h (x.hears h) (x.screen h) (x.count h) calls
 
-  pub does_parts : {t : Bool} {c b d : C} {v u w : ScreenView} {n : ℕ} (f : State → Partly) (k : Call)
+  pub does_parts : {t : Bool} {c b d : C} {v u w : ScreenView} {n : ℕ} {f : State → Partly} (k : Call)
       → v.failed ≡ false → TriesParts scrolls f v c (Ok n) u b → Tells step b u (replicate n k) d w
       → Does step scrolls (λ s. partly (f s) k) t c v d w
-  does_parts f k h x calls = does_unhandled f k _ _ _ h x.tries.hears x.tries.screen x.count calls
+  does_parts {t} {c} {b} {d} {v} {u} {w} {n} {f} k h x calls =
+      does_unhandled f k _ _ _ h x.tries.hears x.tries.screen x.count calls
 
   -- the same effect, in other words
   pub does_as : {t : Bool} {g : State → Effect} {c d : C} {v w : ScreenView} (f : State → Effect)
@@ -138,16 +150,20 @@ module _ {C : Type 0} {step : C → ScreenView → Call → C → ScreenView →
 
   -- ---- rows of tables
 
-  pub row_does : {a b : ℕ} {c d : C} {v w : ScreenView} (rows : List (ℕ × (List (List ℕ) → Call → State → Effect)))
-      (t : ℕ → Bool) (gs : List (List ℕ)) (k : Call) → a ≡ b
-      → Does step scrolls (row_effect (lookup b rows) gs k) (t b) c v d w
-      → Does step scrolls (row_effect (lookup a rows) gs k) (t a) c v d w
-  row_does rows t gs k e x = rw e x
-
   pub plain_does : {a b : ℕ} {c d : C} {v w : ScreenView} (gs : List (List ℕ)) → a ≡ b
       → Does step scrolls (plain_effect (lookup b plain_rows) gs b) (plain_may_take b v.state) c v d w
       → Does step scrolls (plain_effect (lookup a plain_rows) gs a) (plain_may_take a v.state) c v d w
   plain_does gs e x = rw e x
+
+  pub private_does : {a b : ℕ} {c d : C} {v w : ScreenView} (gs : List (List ℕ)) (k : Call) → a ≡ b
+      → Does step scrolls (row_effect (lookup b private_rows) gs k) (private_may_take gs b v.state) c v d w
+      → Does step scrolls (row_effect (lookup a private_rows) gs k) (private_may_take gs a v.state) c v d w
+  private_does gs k e x = rw e x
+
+  pub other_does : {t : Bool} {a b : ℕ} {c d : C} {v w : ScreenView} (gs : List (List ℕ)) (k : Call) → a ≡ b
+      → Does step scrolls (row_effect (lookup b other_rows) gs k) t c v d w
+      → Does step scrolls (row_effect (lookup a other_rows) gs k) t c v d w
+  other_does gs k e x = rw e x
 
 pub escape_more : (ms : List ℕ) (b : ℕ) (s : State) → 0 < length ms
     → calling (unhandled_escape (first ms) (second ms) b ∷ []) s ≡ escape_effect ms b s

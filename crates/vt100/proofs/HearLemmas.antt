@@ -1,18 +1,33 @@
 -- Callbacks behind a sink of rows, and calls of a screen that go through or find no memory.
 use Rattle.std.proofs.Common.{◌≡◌, ◌∙◌, ℕ, Bool, true, false, List, [], ◌∷◌, ◌++◌, ap, sym, subst, append-nil, nat_lt}
-use Rattle.std.proofs.Common.{Ok, Err, Result, arith}
-use Rattle.std.specs.Prelude.{IsOk}
+use Rattle.std.proofs.Common.{Ok, Err, Result, OnOk, OnErr, arith}
+use Rattle.std.specs.Prelude.{IsOk, IsErr}
 use Rattle.std.proofs.lemmas.Bool.Decides.{nat_tests}
 use Rattle.std.proofs.lemmas.Bool.{false≢true}
 use Rattle.vt100_rows.specs.Row.{RowView}
+use Rattle.vt100_forms.proofs.ChangeLemmas.{on_ok}
 use Rattle.vt100_rows.specs.Sink.{TakesAll}
+use Rattle.vt100_rows.proofs.TextLemmas.{on-err}
+use Rattle.vt100_core.specs.Grid.{GridView, IsAllocated, SameLimits}
+use Rattle.vt100_core.specs.Scroll.{Scrolled}
 use Rattle.screen_model.specs.State.{State}
 use Rattle.screen_model.specs.Step.{Report, Stepped, reports_of}
 use Rattle.screen_model.specs.Call.{ScreenView, Hears}
-use Rattle.vt100.specs.Tries.{Tries, HearsFront, alive}
+use Rattle.vt100.specs.Draws.{Draws}
+use Rattle.vt100.specs.Tries.{MayScroll, Tries, HearsFront, alive}
 use Rattle.vt100.specs.declared.error.ScreenError.{ScreenError}
 use Rattle.vt100.specs.declared.error.ScreenError.TheVariants.{Memory}
 use Rattle.vt100.specs.declared.screen.reported.Reporter.{Reporter}
+use Rattle.vt100.specs.declared.screen.wrapped.WrappedScreen.{WrappedScreen}
+use Rattle.vt100.proofs.LimitsLemmas.{bounds_drawn}
+
+at-err : {T E P : Type 0} (r : Result T E) → IsErr r → OnErr r P → P
+at-err (Ok x) e h = absurd (false≢true e)
+at-err (Err x) e h = h
+
+not-ok : {T E P : Type 0} (r : Result T E) → IsErr r → IsOk r → P
+not-ok (Ok x) e h = absurd (false≢true e)
+not-ok (Err x) e h = absurd (false≢true h)
 
 -- what a reporter does with a row
 abbrev pub Reports : {C : Type 0} → (C → RowView → Bool → C → Type 0) → Reporter C → RowView → Reporter C → Type 0
@@ -40,6 +55,23 @@ module _ {C : Type 0} (scrolls : C → RowView → Bool → C → Type 0) where
   -- all of some rows
   pub hears_whole : (c : C) (xs : List Report) (d : C) → Hears scrolls c xs d → HearsFront scrolls c xs d
   hears_whole c xs d h = (xs, [], sym (append-nil xs), h)
+
+  -- ---- calls on a sheet
+
+  pub draws_all : {A E : Type 0} {x : Scrolled} {g h : GridView} {s t : Reporter C} (result : Result A E)
+      → OnOk result (h ≡ x.grid) → TakesAll (Reports scrolls) s x.sunk t → SameLimits g h
+      → (g.kept.capacity ≡ 0 → IsOk result) → IsAllocated h → Draws scrolls x g s result h t
+  draws_all {A} {E} {x} {g} {h} {s} {t} result is taken limits keeps some =
+      let all = hears_all s x.sunk t taken in
+      record {
+        grid = is;
+        same = all.1;
+        hears = on_ok result (λ _. all.0);
+        told = on-err result (hears_whole s.callbacks.now (reports_of s.alternate_screen x.sunk) t.callbacks.now all.0);
+        limits = limits;
+        keeps_none = keeps;
+        allocated = some;
+      }
 
   -- ---- calls
 
@@ -70,11 +102,38 @@ module _ {C : Type 0} (scrolls : C → RowView → Bool → C → Type 0) where
     dead = λ e. absurd (false≢true (sym live ∙ e));
   }
 
-  -- or of all of them
-  pub tries_refused : {A : Type 0} (f : State → Stepped) (v : ScreenView) (c : C) (w : ScreenView) (d : C)
-      → v.failed ≡ false → w.failed ≡ true → Hears scrolls c (f v.state).reports d
-      → Tries {A = A} scrolls f v c (Err Memory) w d
-  tries_refused f v c w d live failed told = tries_front f v c w d live failed (hears_whole c (f v.state).reports d told)
+  -- after a call on the shown sheet
+  pub scroll_refused : {A E : Type 0} {c d : C} {h : GridView} {failed : Bool} (f : State → Stepped) (v : ScreenView)
+      (answer : Result A E) → v.failed ≡ false → failed ≡ true → IsErr answer
+      → OnErr answer (HearsFront scrolls c (f v.state).reports d) → SameLimits v.state.shown h
+      → (v.state.shown.kept.capacity ≡ 0 → IsOk answer)
+      → MayScroll scrolls f (record { screen = v; callbacks = c }) (Err Memory)
+      (record { screen = record { state = record (v.state) { shown = h }; failed = failed }; callbacks = d })
+  scroll_refused {A} {E} {c} {d} {h} f v answer live failed refused told limits keeps = record {
+    tries = tries_front f v c _ d live failed (at-err answer refused told);
+    bounds = bounds_drawn v.state h v.state.last limits;
+    keeps_none = λ _ none. not-ok answer refused (keeps none);
+  }
+
+  -- a call by which rows may leave, in other words
+  pub scroll_as : {f : State → Stepped} {p q : WrappedScreen C} {result : Result (Unit {0}) ScreenError}
+      (g : State → Stepped) → f p.screen.state ≡ g p.screen.state → MayScroll scrolls f p result q
+      → MayScroll scrolls g p result q
+  scroll_as {f} {p} {q} {result} g e x =
+      let t = x.tries in
+      record {
+        tries = record {
+          live = t.live;
+          screen = subst (λ (u : Stepped). OnOk result (q.screen ≡ alive u.state)) e t.screen;
+          hears = subst (λ (u : Stepped). OnOk result (Hears scrolls p.callbacks u.reports q.callbacks)) e t.hears;
+          memory = t.memory;
+          told = λ m. subst (λ (u : Stepped). HearsFront scrolls p.callbacks u.reports q.callbacks) e (t.told m);
+          refused = t.refused;
+          dead = t.dead;
+        };
+        bounds = x.bounds;
+        keeps_none = x.keeps_none;
+      }
 
 some-kept : (n : ℕ) → (n ≡ 0 → ⊥) → nat_lt 0 n ≡ true
 some-kept n h = grind (arith, nat_tests)

@@ -1,5 +1,5 @@
 -- Sheets keep their sizes, and how many rows they keep at most.
-use Rattle.std.proofs.Common.{◌≡◌, ◌∙◌, ◌==◌, ◌&&◌, ◌+◌, ℕ, zero, suc, Bool, true, false, not, cond, refl, sym, ap, ◌-◌}
+use Rattle.std.proofs.Common.{◌≡◌, ◌∙◌, ◌==◌, ◌&&◌, ◌+◌, ℕ, zero, suc, Bool, Option, true, false, not, cond, refl, sym, ap, ◌-◌}
 use Rattle.std.proofs.Common.{nat_le, nat_lt, [], arith}
 use Rattle.std.proofs.lemmas.Bool.{cond_both}
 use Rattle.vt100_forms.specs.declared.attrs.Attrs.{Attrs}
@@ -17,61 +17,49 @@ use Rattle.vt100.specs.Memory.{keeps_rows}
 use Rattle.vt100.specs.Tries.{SameBounds}
 use Rattle.vt100_core.proofs.GridLemmas.{SameLimits-trans}
 
-abbrev HasLimits : GridView → GridView → Type 0
-HasLimits g h =
-    (h.height ≡ g.height) × (h.width ≡ g.width) × (h.kept.keeps ≡ g.kept.keeps) × (h.kept.capacity ≡ g.kept.capacity)
+-- a sheet's size, and whether and how many rows it keeps
+abbrev limits_of : GridView → ℕ × ℕ × Bool × ℕ
+limits_of g = (g.height, g.width, g.kept.keeps, g.kept.capacity)
 
-limits-scrolled : (g : GridView) (n : ℕ) → HasLimits g (scrolled_up g n).grid
+limits-scrolled : (g : GridView) (n : ℕ) → limits_of (scrolled_up g n).grid ≡ limits_of g
 unfolding scrolled_up
-limits-scrolled g n = (refl, refl, grind arith, grind arith)
+limits-scrolled g n = grind arith
 
-limits-fed : (g : GridView) (n : ℕ) → HasLimits g (fed g n).grid
+limits-fed : (g : GridView) (n : ℕ) → limits_of (fed g n).grid ≡ limits_of g
 unfolding fed
-limits-fed g n =
-    let h = moved_rows_down g n in
-    cond_both (is_in_region g) (scrolled_up h (rows_past_bottom g n)) (record { grid = h; sunk = [] })
-    (λ (s : Scrolled). HasLimits g s.grid) (λ _. limits-scrolled h (rows_past_bottom g n))
-    (λ _. (refl, refl, refl, refl))
+limits-fed g n = grind (arith, limits-scrolled)
 
-limits-wrapped : (g : GridView) (wrap : Bool) → HasLimits g (wrapped_on g wrap).grid
+limits-wrapped : (g : GridView) (wrap : Bool) → limits_of (wrapped_on g wrap).grid ≡ limits_of g
 unfolding wrapped_on
-limits-wrapped g wrap =
-    let from = record g { col = 0 } in
-    let h = (fed from 1).grid in
-    let v = with_wrap (row_at h.rows (left_row g)) (wrap && ((left_row g + 1) == h.row)) in
-    cond_both ((g.row == g.bottom) && (g.row == 0)) h (with_row h (left_row g) v) (HasLimits g)
-    (λ _. limits-fed from 1) (λ _. limits-fed from 1)
+limits-wrapped g wrap = grind (arith, limits-fed)
 
-limits-made : (g : GridView) (columns : ℕ) (wrap : Bool) → HasLimits g (made_to_fit g columns wrap).grid
-limits-made g columns wrap =
-    cond_both (nat_le (g.col + columns) g.width) (record { grid = g; sunk = [] }) (wrapped_on g wrap)
-    (λ (s : Scrolled). HasLimits g s.grid) (λ _. (refl, refl, refl, refl)) (λ _. limits-wrapped g wrap)
+limits-made : (g : GridView) (columns : ℕ) (wrap : Bool) → limits_of (made_to_fit g columns wrap).grid ≡ limits_of g
+limits-made g columns wrap = grind (arith, limits-wrapped)
 
-limits-carried : (g : GridView) (c : ℕ) (a : Attrs) → HasLimits g (carried g c a).grid
-limits-carried g c a = limits-wrapped (with_cursor_row g (wiped_row (row_of_cursor g) (g.col - 1) g.col a)) false
+limits-joined : (g : GridView) (c : ℕ) (a : Attrs) → limits_of (joined g c a).grid ≡ limits_of g
+limits-joined g c a = grind (arith, limits-wrapped)
 
-limits-joined : (g : GridView) (c : ℕ) (a : Attrs) → HasLimits g (joined g c a).grid
-limits-joined g c a =
-    let P = λ (d : PrintedGrid). HasLimits g d.grid in
-    cond_both (not (is_widening (row_of_cursor g) g.col c)) _ _ P (λ _. (refl, refl, refl, refl))
-    (λ _. cond_both (g.width == 1) _ _ P (λ _. (refl, refl, refl, refl))
-    (λ _. cond_both (nat_lt g.col g.width) _ _ P (λ _. (refl, refl, refl, refl)) (λ _. limits-carried g c a)))
-
-limits-printed : (g : GridView) (c : ℕ) (a : Attrs) → HasLimits g (printed g c a).grid
+limits-printed : (g : GridView) (c : ℕ) (a : Attrs) → limits_of (printed g c a).grid ≡ limits_of g
 unfolding printed
 limits-printed g c a =
-    let P = λ (d : PrintedGrid). HasLimits g d.grid in
-    cond_both (is_dropped g.width g.col c) _ _ P (λ _. (refl, refl, refl, refl))
-    (λ _. cond_both (nat_lt 0 (columns_of c)) _ _ P (λ _. limits-made g (columns_of c) true)
-    (λ _. limits-joined g c a))
+    let P = λ (d : PrintedGrid). limits_of d.grid ≡ limits_of g in
+    cond_both (is_dropped g.width g.col c) _ _ P (λ _. refl)
+    (λ _. cond_both (nat_lt 0 (columns_of c)) _ _ P (λ _. limits-made g (columns_of c) true) (λ _. limits-joined g c a))
 
 -- ---- of a state
 
-limits : {g h : GridView} → HasLimits g h → SameLimits g h
-limits l = record { height = l.0; width = l.1; kept = record { keeps = l.2; capacity = l.3 } }
+limits : {g h : GridView} → limits_of h ≡ limits_of g → SameLimits g h
+limits e = record {
+  height = ap (λ (l : ℕ × ℕ × Bool × ℕ). l.0) e;
+  width = ap (λ (l : ℕ × ℕ × Bool × ℕ). l.1) e;
+  kept = record {
+    keeps = ap (λ (l : ℕ × ℕ × Bool × ℕ). l.2) e;
+    capacity = ap (λ (l : ℕ × ℕ × Bool × ℕ). l.3) e;
+  };
+}
 
 pub bounds_same : (s : State) → SameBounds s s
-bounds_same s = record { main = limits (refl, refl, refl, refl); alternate = limits (refl, refl, refl, refl) }
+bounds_same s = record { main = limits refl; alternate = limits refl }
 
 pub bounds_trans : (s t u : State) → SameBounds s t → SameBounds t u → SameBounds s u
 bounds_trans s t u p q = record {
@@ -86,13 +74,16 @@ limits-if false g h k l p q = q
 limits-typed : (c : ℕ) (s : State) → SameLimits s.shown (typed c s).state.shown
 limits-typed c s = limits (limits-printed s.shown c s.attrs)
 
+-- the shown sheet has changed
+pub bounds_drawn : (s : State) (g : GridView) (last : Option ℕ) → SameLimits s.shown g
+    → SameBounds s (record s { shown = g; last = last })
+bounds_drawn s g last h = record {
+  main = limits-if s.alternate _ _ _ _ (limits refl) h;
+  alternate = limits-if s.alternate _ _ _ _ h (limits refl);
+}
+
 pub bounds_typed : (c : ℕ) (s : State) → SameBounds s (typed c s).state
-bounds_typed c s =
-    let h = limits-typed c s in
-    record {
-      main = limits-if s.alternate _ _ _ _ (limits (refl, refl, refl, refl)) h;
-      alternate = limits-if s.alternate _ _ _ _ h (limits (refl, refl, refl, refl));
-    }
+bounds_typed c s = bounds_drawn s _ _ (limits-typed c s)
 
 limits-back : (g h k : GridView) → SameLimits g h → SameLimits g k → SameLimits h k
 limits-back g h k p q = record {

@@ -3,7 +3,8 @@ use Rattle.std.proofs.Common.{◌≡◌, ◌∙◌, ◌==◌, ℕ, Bool, Option,
 use Rattle.std.proofs.Common.{Result, Ok, Err, OnOk, OnErr}
 use Rattle.std.specs.Prelude.{IsErr, IfOk}
 use Rattle.std.proofs.lemmas.Bool.{both_ways, cond_both, false≢true}
-use Rattle.vt100_forms.specs.Attrs.{default_attrs}
+use Rattle.vt100_forms.specs.Attrs.{default_attrs, IsProper}
+use Rattle.vt100_forms.specs.declared.attrs.Attrs.{Attrs}
 use Rattle.vt100_rows.specs.Row.{blank_row}
 use Rattle.vt100_core.specs.Grid.{GridView, IsAllocated, SameLimits, new_grid, allocated}
 use Rattle.vt100_core.specs.declared.scrollback.Scrollback.TheVariants.{Disabled, Enabled}
@@ -12,6 +13,15 @@ use Rattle.vt100_core.specs.Resize.{resized}
 use Rattle.screen_model.specs.State.{IsProperSheet}
 use Rattle.vt100_forms.proofs.AttrsLemmas.{default-proper}
 use Rattle.screen_model.proofs.ProperSheets.{proper_new, proper_resized, proper_allocated, proper_scrollback_shown}
+use Rattle.screen_model.proofs.ProperSheets.{proper_printed, proper_printed_all, proper_fed, proper_scrolled_up}
+use Rattle.screen_model.proofs.ProperSheets.{proper_cells_inserted, proper_cells_deleted, proper_columns_erased}
+use Rattle.screen_model.proofs.ProperSheets.{proper_row_erased, proper_all_erased, proper_all_erased_forward}
+use Rattle.screen_model.proofs.ProperSheets.{proper_all_erased_backward, proper_lines_inserted, proper_lines_deleted}
+use Rattle.screen_model.proofs.ProperSheets.{proper_scrolled_down}
+use Rattle.vt100.specs.declared.screen.reported.Drawing.{Drawing}
+use Rattle.vt100.specs.declared.screen.reported.Drawing.TheVariants.{Characters, LineFeed, ScrollUp}
+use Rattle.vt100.specs.Runs.{characters}
+use Rattle.vt100.specs.Draws.{drawn}
 use Rattle.vt100.specs.ScreenFields.{IsInside}
 use Rattle.vt100.specs.declared.error.ScreenError.{ScreenError}
 use Rattle.vt100.specs.declared.screen.Screen.TheInside.{Inside}
@@ -44,11 +54,16 @@ drawn_screen s g last i some limits proper =
     changed-screen s g s.other_grid last s.failed i some i.main (λ live. i.height live ∙ sym limits.height)
     (λ live. i.width live ∙ sym limits.width) limits.kept.keeps refl (λ live. proper (i.proper live)) i.other_proper
 
--- ---- another size
+pub proper_drawn : (d : Drawing) (g : GridView) (a : Attrs) → IsProper a → IsProperSheet g
+    → IsProperSheet (drawn d g a).grid
+proper_drawn (Characters run) g a h p = proper_printed_all g (characters run) a h p
+proper_drawn LineFeed g a h p = proper_fed g 1 p
+proper_drawn (ScrollUp n) g a h p = proper_scrolled_up g n p
 
-pub at-err : {T E P : Type 0} (r : Result T E) → IsErr r → OnErr r P → P
-at-err (Ok x) e h = absurd (false≢true e)
-at-err (Err x) e h = h
+-- what keeps it
+pub ruleset drawn_rules = (drawn_screen, proper_printed, proper_cells_inserted, proper_cells_deleted, proper_columns_erased, proper_row_erased, proper_all_erased, proper_all_erased_forward, proper_all_erased_backward, proper_lines_inserted, proper_lines_deleted, proper_scrolled_down)
+
+-- ---- another size
 
 -- also where the screen is marked as failed, at an error
 pub settled_screen : {E : Type 0} (s : Inside) (g h : GridView) (rows cols : ℕ) (answer : Result (Unit {0}) E)

@@ -1,14 +1,17 @@
 -- A character that is printed again and again.
-use Rattle.std.proofs.Common.{◌≡◌, ◌∙◌, ◌+◌, ◌<◌, ◌++◌, ℕ, zero, suc, Bool, false, List, [], Option, Some, Ok, Err}
-use Rattle.std.proofs.Common.{subst, add-one, ap, sym, arith, append_assoc, append-nil, inl, inr}
+use Rattle.std.proofs.Common.{◌≡◌, ◌∙◌, ◌<◌, ◌++◌, ℕ, zero, suc, Bool, false, List, [], Ok, Err}
+use Rattle.std.proofs.Common.{refl, ap, sym, arith, append_assoc, append-nil, inl, inr}
 use Rattle.std.proofs.lemmas.Bool.{cases_lt, false≢true}
 use Rattle.vt100_rows.specs.Row.{RowView}
 use Rattle.screen_model.specs.State.{State}
-use Rattle.screen_model.specs.Step.{Report, typed, typed_times, repeated, repeated_last}
+use Rattle.screen_model.specs.Step.{Report, typed, typed_times}
 use Rattle.screen_model.specs.Call.{ScreenView, Hears}
-use Rattle.vt100.specs.Tries.{Tries, HearsFront, alive}
+use Rattle.vt100.specs.Tries.{MayScroll, HearsFront}
 use Rattle.vt100.specs.declared.error.ScreenError.{ScreenError}
+use Rattle.vt100.specs.declared.screen.wrapped.WrappedScreen.{WrappedScreen}
+use Rattle.vt100.proofs.EventLemmas.{is_alive}
 use Rattle.vt100.proofs.HearLemmas.{hears_append, tries_ok}
+use Rattle.vt100.proofs.LimitsLemmas.{bounds_same, bounds_trans, capacity_times}
 
 -- of n times, the reports of the first i, those of the next one, and others
 times_more : (n i ch : ℕ) (s : State) → i < n → (more : List Report) × ((typed_times n ch s).reports
@@ -26,26 +29,28 @@ times_more (suc n) i ch s h =
     ]
 
 module _ {C : Type 0} (scrolls : C → RowView → Bool → C → Type 0) where
-  -- once more
-  pub typed_more : (i ch : ℕ) (s : State) (c b d : C) (v w : ScreenView) → v ≡ alive (typed_times i ch s).state
-      → Hears scrolls c (typed_times i ch s).reports b
-      → w ≡ alive (typed ch v.state).state → Hears scrolls b (typed ch v.state).reports d
-      → (w ≡ alive (typed_times (i + 1) ch s).state) × Hears scrolls c (typed_times (i + 1) ch s).reports d
-  typed_more i ch s c b d v w is_v heard is_w hears =
-      let t = typed_times i ch s in
-      rw add-one (
-        rw is_v at is_w,
-        hears_append scrolls c t.reports (typed ch t.state).reports b d heard
-            (rw is_v at hears),
-      )
+  pub scroll_none : (ch : ℕ) (p : WrappedScreen C) → p.screen.failed ≡ false
+      → MayScroll scrolls (typed_times 0 ch) p (Ok tt) p
+  scroll_none ch p live = record {
+    tries = tries_ok scrolls (typed_times 0 ch) p.screen p.callbacks tt p.screen p.callbacks live
+        (is_alive p.screen live) refl;
+    bounds = bounds_same p.screen.state;
+    keeps_none = λ _ _. refl;
+  }
 
-  pub repeated_tries : (n ch : ℕ) (v w : ScreenView) (c d : C) → v.failed ≡ false → v.state.last ≡ Some ch
-      → w ≡ alive (typed_times n ch v.state).state → Hears scrolls c (typed_times n ch v.state).reports d
-      → Tries {A = Unit {0}} scrolls (repeated n) v c (Ok tt) w d
-  repeated_tries n ch v w c d live is_last is_w hears =
-      tries_ok scrolls (repeated n) v c tt w d live
-      (subst (λ (o : Option ℕ). w ≡ alive (repeated_last o n v.state).state) (sym is_last) is_w)
-      (subst (λ (o : Option ℕ). Hears scrolls c (repeated_last o n v.state).reports d) (sym is_last) hears)
+  -- once more
+  pub scroll_more : {p m q : WrappedScreen C} (i ch : ℕ) → MayScroll scrolls (typed_times i ch) p (Ok tt) m
+      → MayScroll scrolls (typed ch) m (Ok tt) q → MayScroll scrolls (typed_times (suc i) ch) p (Ok tt) q
+  scroll_more {p} {m} {q} i ch x y =
+      let t = typed_times i ch p.screen.state in
+      record {
+        tries = tries_ok scrolls (typed_times (suc i) ch) p.screen p.callbacks tt q.screen q.callbacks x.tries.live
+            (rw x.tries.screen at y.tries.screen)
+            (hears_append scrolls p.callbacks t.reports (typed ch t.state).reports m.callbacks q.callbacks x.tries.hears
+            (rw x.tries.screen at y.tries.hears));
+        bounds = bounds_trans p.screen.state m.screen.state q.screen.state x.bounds y.bounds;
+        keeps_none = λ _ _. refl;
+      }
 
   -- the first of the rows of a part, after all that were before it
   front_after : (all first next more : List Report) (c b d : C) → all ≡ first ++ (next ++ more)
@@ -53,22 +58,27 @@ module _ {C : Type 0} (scrolls : C → RowView → Bool → C → Type 0) where
   front_after all first next more c b d e heard h =
       (first ++ h.0, h.1 ++ more, rw e (rw h.2 (simp append_assoc)), hears_append scrolls c first h.0 b d heard h.3)
 
-  -- a refusal on the way, of a screen u that hadn't failed
-  pub repeated_refused : (n i ch : ℕ) (v u w : ScreenView) (c b d : C) (e : ScreenError) → v.failed ≡ false → i < n
-      → v.state.last ≡ Some ch → u ≡ alive (typed_times i ch v.state).state
-      → Hears scrolls c (typed_times i ch v.state).reports b → Tries {A = Unit {0}} scrolls (typed ch) u b (Err e) w d
-      → Tries {A = Unit {0}} scrolls (repeated n) v c (Err e) w d
-  repeated_refused n i ch v u w c b d e live within is_last is_u heard h =
-      let o = times_more n i ch v.state within in
-      let t = typed_times i ch v.state in
+  -- or not any more
+  pub scroll_stops : {p m q : WrappedScreen C} {e : ScreenError} (n i ch : ℕ) → i < n
+      → MayScroll scrolls (typed_times i ch) p (Ok tt) m → MayScroll scrolls (typed ch) m (Err e) q
+      → MayScroll scrolls (typed_times n ch) p (Err e) q
+  scroll_stops {p} {m} {q} n i ch within x y =
+      let s = p.screen.state in
+      let t = typed_times i ch s in
+      let o = times_more n i ch s within in
+      let is = x.tries.screen in
       record {
-        live = tt;
-        screen = tt;
-        hears = tt;
-        memory = h.memory;
-        told = λ x. subst (λ (l : Option ℕ). HearsFront scrolls c (repeated_last l n v.state).reports d) (sym is_last)
-            (front_after (typed_times n ch v.state).reports t.reports (typed ch t.state).reports o.0 c b d o.1 heard
-            (rw is_u at (h.told x)));
-        refused = λ x. absurd (false≢true (sym (ap (λ (y : ScreenView). y.failed) is_u) ∙ h.refused x));
-        dead = λ x. absurd (false≢true (sym live ∙ x));
+        tries = record {
+          live = tt;
+          screen = tt;
+          hears = tt;
+          memory = y.tries.memory;
+          told = λ h. front_after (typed_times n ch s).reports t.reports (typed ch t.state).reports o.0 p.callbacks
+              m.callbacks q.callbacks o.1 x.tries.hears (rw is at (y.tries.told h));
+          refused = λ h. absurd (false≢true (sym (ap (λ (v : ScreenView). v.failed) is) ∙ y.tries.refused h));
+          dead = λ h. absurd (false≢true (sym x.tries.live ∙ h));
+        };
+        bounds = bounds_trans s m.screen.state q.screen.state x.bounds y.bounds;
+        keeps_none = λ _ none. y.keeps_none (ap (λ (v : ScreenView). v.failed) is)
+            (ap (λ (v : ScreenView). v.state.shown.kept.capacity) is ∙ capacity_times i ch s ∙ none);
       }

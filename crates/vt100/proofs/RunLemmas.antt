@@ -17,7 +17,7 @@ use Rattle.vt100_cells.proofs.WidthLemmas.{drawn-is, printable-is}
 use Rattle.vt100_forms.specs.declared.attrs.Attrs.{Attrs}
 use Rattle.vt100_rows.specs.Row.{RowView}
 use Rattle.vt100_rows.specs.Sink.{TakesAll}
-use Rattle.vt100_core.specs.Grid.{GridView}
+use Rattle.vt100_core.specs.Grid.{GridView, IsAllocated, SameLimits}
 use Rattle.vt100_core.specs.Text.{PrintedGrid, IsWide, printed, spaced, printed_all, TakesFront}
 use Rattle.vt100_core.specs.declared.printed.Printed.{Printed}
 use Rattle.vt100_core.proofs.TextLemmas.{IsMade-made, printed-spaced}
@@ -31,11 +31,15 @@ use Rattle.vt100.specs.declared.error.ScreenError.{ScreenError}
 use Rattle.vt100.specs.declared.error.ScreenError.TheVariants.{Memory, Failed}
 use Rattle.vt100.specs.declared.screen.wrapped.WrappedScreen.{WrappedScreen}
 use Rattle.vt100.specs.Memory.{keeps_rows}
-use Rattle.vt100.specs.Tries.{Tries, SameBounds, HearsFront, alive}
+use Rattle.vt100.specs.Tries.{MayScroll, SameBounds, HearsFront, alive}
 use Rattle.vt100.specs.Goes.{Fails, Goes, GoesThrough}
-use Rattle.vt100.specs.Runs.{IsHandled, typed_all, last_of, PrintsFront}
+use Rattle.vt100.specs.Runs.{IsHandled, IsRun, characters, typed_all, last_of, PrintsFront}
+use Rattle.vt100.specs.Draws.{Draws, drawn_on}
+use Rattle.vt100.specs.declared.screen.reported.Drawing.TheVariants.{Characters}
+use Rattle.vt100.specs.declared.screen.reported.Run.{Run}
+use Rattle.vt100.specs.declared.screen.reported.Run.TheVariants.{Narrow, Wide}
 use Rattle.vt100.specs.declared.screen.reported.Reporter.{Reporter}
-use Rattle.vt100.proofs.HearLemmas.{Reports, hears_all, tries_ok, tries_front, refused_keeps}
+use Rattle.vt100.proofs.HearLemmas.{Reports, hears_all, draws_all, scroll_as, refused_keeps}
 use Rattle.vt100_rows.proofs.PrintableLemmas.{printable-chars}
 use Rattle.vt100.proofs.EventLemmas.{is_alive, does_as, does_live, does_none, does_where}
 use Rattle.vt100.proofs.LimitsLemmas.{bounds_typed, bounds_back, keeps_typed}
@@ -52,11 +56,9 @@ pub record IsSpacing (w c : ℕ) : Type 0 where
 spacing : (w n c : ℕ) → 0 < n → n ≤ w → (is_undrawable c ≡ false) × (columns_of c ≡ n) → IsSpacing w c
 spacing w n c some fits h = record { drawn = h.0; some = omega (arith, h.1); fits = omega (arith, h.1) }
 
-pub printable-spacing : (w : ℕ) → 0 < w → (xs : List ℕ) → All IsPrintable xs → All (IsSpacing w) xs
-printable-spacing w h xs p k d l = spacing w 1 _ (omega arith) h (printable-is _ (p k d l))
-
-pub wide-spacing : (w : ℕ) → 2 ≤ w → (xs : List ℕ) → All IsWide xs → All (IsSpacing w) xs
-wide-spacing w h xs p k d l = spacing w 2 _ (omega arith) h (drawn-is _ 2 (p k d l))
+run-spacing : (w : ℕ) → 0 < w → (run : Run) → IsRun w run → All (IsSpacing w) (characters run)
+run-spacing w some (Narrow text) p k d l = spacing w 1 _ (omega arith) some (printable-is _ (p k d l))
+run-spacing w some (Wide text) p k d l = spacing w 2 _ (omega arith) p.1 (drawn-is _ 2 (p.0 k d l))
 
 not-dropped : (u : Bool) (k w col : ℕ) → u ≡ false → 0 < k → k ≤ w
     → (u || (nat_lt w k || ((k == 0) && (col == 0)))) ≡ false
@@ -127,57 +129,42 @@ printable-handled : (c : ℕ) → IsPrintable c → IsHandled c
 printable-handled c p = grind (arith, nat_tests)
 
 module _ {C : Type 0} (scrolls : C → RowView → Bool → C → Type 0) where
-  pub run_tries : (xs : List ℕ) (v : ScreenView) (c d : C) (g : GridView) (last : Option ℕ) → v.failed ≡ false
-      → All (IsSpacing v.state.shown.width) xs → g ≡ (printed_all v.state.shown xs v.state.attrs).grid
-      → last ≡ last_of xs v.state.last
-      → Hears scrolls c (reports_of v.state.alternate (printed_all v.state.shown xs v.state.attrs).sunk) d
-      → Tries {A = Unit {0}} scrolls (typed_all xs) v c (Ok tt)
-      (record { state = record (v.state) { shown = g; last = last }; failed = v.failed }) d
-  run_tries xs v c d g last live p is_grid is_last hears =
-      let is = typed_all-is xs v.state p in
-      tries_ok scrolls (typed_all xs) v c tt _ d live
-      ((λ i. record { state = record (v.state) { shown = is_grid i; last = is_last i }; failed = live i })
-      ∙ ap (λ (t : Stepped). alive t.state) (sym is))
-      (subst (λ (t : Stepped). Hears scrolls c t.reports d) (sym is) hears)
+  -- drawing a run is typing it
+  pub run_scrolls : {p q : WrappedScreen C} {result : Result (Unit {0}) ScreenError} (run : Run)
+      → IsRun p.screen.state.shown.width run → 0 < p.screen.state.shown.width
+      → MayScroll scrolls (drawn_on (Characters run)) p result q
+      → MayScroll scrolls (typed_all (characters run)) p result q
+  run_scrolls {p} run is some x =
+      scroll_as scrolls (typed_all (characters run)) (sym (typed_all-is (characters run) p.screen.state
+      (run-spacing p.screen.state.shown.width some run is))) x
 
-  -- and one that was refused
-  pub run_refused : (xs : List ℕ) (v : ScreenView) (c d : C) (w : ScreenView) → v.failed ≡ false
-      → All (IsSpacing v.state.shown.width) xs → w.failed ≡ true
-      → HearsFront scrolls c (reports_of v.state.alternate (printed_all v.state.shown xs v.state.attrs).sunk) d
-      → Tries {A = Unit {0}} scrolls (typed_all xs) v c (Err Memory) w d
-  run_refused xs v c d w live p failed told =
-      tries_front scrolls (typed_all xs) v c w d live failed
-      (subst (λ (t : Stepped). HearsFront scrolls c t.reports d) (sym (typed_all-is xs v.state p)) told)
-
-  -- what the callbacks heard of a run, and that they stay where they are
-  pub run_heard : {E : Type 0} (result : Result (Unit {0}) E) (s : Reporter C) (rows : List RowView) (t : Reporter C)
-      → OnOk result (TakesAll (Reports scrolls) s rows t)
-      → OnOk result (Hears scrolls s.callbacks.now (reports_of s.alternate_screen rows) t.callbacks.now)
-  run_heard (Ok u) s rows t h = (hears_all scrolls s rows t h).0
-  run_heard (Err e) s rows t h = tt
-
-  -- at a refusal they heard of the rows that left while a front was printed
-  pub front_heard : {E : Type 0} (result : Result (Unit {0}) E) (s : Reporter C) (g : GridView) (xs : List ℕ)
-      (a : Attrs) (t : Reporter C) → OnErr result (TakesFront (Reports scrolls) s g xs a t)
-      → OnErr result (HearsFront scrolls s.callbacks.now (reports_of s.alternate_screen (printed_all g xs a).sunk)
-      t.callbacks.now)
-  front_heard (Ok u) s g xs a t h = tt
-  front_heard (Err e) s g xs a t h =
-      let front = printed_all g h.0 a in
-      let rest = printed_all front.grid h.1 a in
-      let reports = reports_of s.alternate_screen in (
-        reports front.sunk,
-        reports rest.sunk,
-        ap (λ (ys : List ℕ). reports (printed_all g ys a).sunk) h.2 ∙ ap reports (sunk-append g h.0 h.1 a)
-            ∙ sym (reports-append s.alternate_screen front.sunk rest.sunk),
-        (hears_all scrolls s front.sunk t h.3).0,
-      )
-
-  pub run_same : {E : Type 0} (result : Result (Unit {0}) E) (s : Reporter C) (g : GridView) (xs : List ℕ)
-      (a : Attrs) (t : Reporter C) → OnOk result (TakesAll (Reports scrolls) s (printed_all g xs a).sunk t)
-      → OnErr result (TakesFront (Reports scrolls) s g xs a t) → t.callbacks.ghost_name ≡ s.callbacks.ghost_name
-  run_same (Ok u) s g xs a t h k = (hears_all scrolls s (printed_all g xs a).sunk t h).1
-  run_same (Err e) s g xs a t h k = (hears_all scrolls s (printed_all g k.0 a).sunk t k.3).1
+  -- a run on a sheet; at a refusal the callbacks heard of the rows that left while a front was printed
+  pub draws_run : {E : Type 0} {g h : GridView} {s t : Reporter C} (xs : List ℕ) (a : Attrs)
+      (result : Result (Unit {0}) E) → OnOk result (h ≡ (printed_all g xs a).grid)
+      → OnOk result (TakesAll (Reports scrolls) s (printed_all g xs a).sunk t)
+      → OnErr result (TakesFront (Reports scrolls) s g xs a t) → SameLimits g h
+      → (g.kept.capacity ≡ 0 → IsOk result) → IsAllocated h → Draws scrolls (printed_all g xs a) g s result h t
+  draws_run xs a (Ok u) is taken begun limits keeps some = draws_all scrolls (Ok u) is taken limits keeps some
+  draws_run {E} {g} {h} {s} {t} xs a (Err e) is taken begun limits keeps some =
+      let front = printed_all g begun.0 a in
+      let rest = printed_all front.grid begun.1 a in
+      let reports = reports_of s.alternate_screen in
+      let heard = hears_all scrolls s front.sunk t begun.3 in
+      record {
+        grid = tt;
+        same = heard.1;
+        hears = tt;
+        told = (
+          reports front.sunk,
+          reports rest.sunk,
+          ap (λ (ys : List ℕ). reports (printed_all g ys a).sunk) begun.2
+              ∙ ap reports (sunk-append g begun.0 begun.1 a) ∙ sym (reports-append s.alternate_screen front.sunk rest.sunk),
+          heard.0,
+        );
+        limits = limits;
+        keeps_none = keeps;
+        allocated = some;
+      }
 
   -- reports of two changes are told of, one change after the other
   hears-split : (c : C) (xs ys : List Report) (d : C) → Hears scrolls c (xs ++ ys) d
@@ -234,29 +221,27 @@ module _ {C : Type 0} (step : C → ScreenView → Call → C → ScreenView →
         goes-run xs s.0 (alive t.state) d w (All-drop IsHandled 1 (x ∷ xs) p) refl s.2 screen,
       )
 
-  -- the screen fails at one of some characters, where it is w then
+  -- the screen fails at the first of some characters, where it is w then
+  goes-here : (x : ℕ) (xs : List ℕ) (c : C) (v : ScreenView) (d : C) (w : ScreenView) → IsHandled x → v.failed ≡ false
+      → w.failed ≡ true → keeps_rows v.state ≡ true → SameBounds v.state w.state
+      → HearsFront scrolls c (typed x v.state).reports d → GoesThrough step scrolls (map Print (x ∷ xs)) c v d w
+  goes-here x xs c v d w h live failed keeps bounds told =
+      let one : Fails scrolls (keeps_rows v.state) (typed x v.state).reports c v d w =
+      record { may_take = keeps; failed = failed; bounds = bounds; told = told } in
+      (d, w, goes-typed x c v d w h live (inr one), goes-failed xs d w failed)
+
+  -- or at one of them
   goes-refused : (x : ℕ) (xs : List ℕ) (c : C) (v : ScreenView) (d : C) (w : ScreenView) → All IsHandled (x ∷ xs)
       → v.failed ≡ false → w.failed ≡ true → keeps_rows v.state ≡ true → SameBounds v.state w.state
       → HearsFront scrolls c (typed_all (x ∷ xs) v.state).reports d
       → GoesThrough step scrolls (map Print (x ∷ xs)) c v d w
-  goes-refused x [] c v d w p live failed keeps bounds told = (
-    d,
-    w,
-    goes-typed x c v d w (p zero 0 (omega arith)) live
-        (inr (record { may_take = keeps; failed = failed; bounds = bounds; told = rw append-nil at told })),
-    goes-failed [] d w failed,
-  )
+  goes-refused x [] c v d w p live failed keeps bounds told =
+      goes-here x [] c v d w (p zero 0 (omega arith)) live failed keeps bounds (rw append-nil at told)
   goes-refused x (y ∷ ys) c v d w p live failed keeps bounds told =
       let t = typed x v.state in
       let handled = p zero 0 (omega arith) in
       elim (front-split scrolls c t.reports (typed_all (y ∷ ys) t.state).reports d told) [
-        | inl here ↦ (
-          d,
-          w,
-          goes-typed x c v d w handled live
-              (inr (record { may_take = keeps; failed = failed; bounds = bounds; told = here })),
-          goes-failed (y ∷ ys) d w failed,
-        )
+        | inl here ↦ goes-here x (y ∷ ys) c v d w handled live failed keeps bounds here
         | inr s ↦ (
           s.0,
           alive t.state,
@@ -267,21 +252,22 @@ module _ {C : Type 0} (step : C → ScreenView → Call → C → ScreenView →
         )
       ]
 
-  pub goes-tries : (xs : List ℕ) (c : C) (v : ScreenView) (result : Result (Unit {0}) ScreenError) (d : C)
-      (w : ScreenView) → 0 < length xs → All IsHandled xs → Tries scrolls (typed_all xs) v c result w d
-      → SameBounds v.state w.state → (v.failed ≡ false → v.state.shown.kept.capacity ≡ 0 → IsOk result)
-      → GoesThrough step scrolls (map Print xs) c v d w
-  goes-tries xs c v (Ok a) d w some p t k keeps = goes-run xs c v d w p t.live t.hears t.screen
-  goes-tries [] c v (Err Memory) d w some p t k keeps = absurd (omega arith)
-  goes-tries (x ∷ xs) c v (Err Memory) d w some p t k keeps =
-      elim (cases_Bool v.failed) [
-        | inl f ↦ absurd (cc ((t.dead f).0))
-        | inr f ↦ goes-refused x xs c v d w p f (t.memory refl)
-            (refused_keeps {A = Unit {0}} v.state.shown.kept.capacity (Err Memory) keeps f refl) k (t.told refl)
+  pub goes-typed_all : (xs : List ℕ) {p q : WrappedScreen C} (result : Result (Unit {0}) ScreenError) → 0 < length xs
+      → All IsHandled xs → MayScroll scrolls (typed_all xs) p result q
+      → GoesThrough step scrolls (map Print xs) p.callbacks p.screen q.callbacks q.screen
+  goes-typed_all xs {p} {q} (Ok a) some h x =
+      goes-run xs p.callbacks p.screen q.callbacks q.screen h x.tries.live x.tries.hears x.tries.screen
+  goes-typed_all [] (Err Memory) some h x = absurd (omega arith)
+  goes-typed_all (y ∷ ys) {p} {q} (Err Memory) some h x =
+      elim (cases_Bool p.screen.failed) [
+        | inl f ↦ absurd (cc ((x.tries.dead f).0))
+        | inr f ↦ goes-refused y ys p.callbacks p.screen q.callbacks q.screen h f (x.tries.memory refl)
+            (refused_keeps {A = Unit {0}} p.screen.state.shown.kept.capacity (Err Memory) x.keeps_none f refl) x.bounds
+            (x.tries.told refl)
       ]
-  goes-tries xs c v (Err Failed) d w some p t k keeps =
-      let f = t.refused refl in
-      rw ((t.dead f).2, (t.dead f).1) (goes-failed xs c v f)
+  goes-typed_all xs {p} {q} (Err Failed) some h x =
+      let f = x.tries.refused refl in
+      rw ((x.tries.dead f).2, (x.tries.dead f).1) (goes-failed xs p.callbacks p.screen f)
 
   -- ---- a performer's steps
 
@@ -295,17 +281,14 @@ module _ {C : Type 0} (step : C → ScreenView → Call → C → ScreenView →
   -- ---- the front of a text
 
   -- printable ASCII
-  pub front-run : (bs : List ℕ) (n : ℕ) (c : C) (v : ScreenView) (result : Result (Unit {0}) ScreenError) (d : C)
-      (w : ScreenView) → 0 < n → n ≤ length bs → All IsPrintable (take n bs)
-      → Tries scrolls (typed_all (take n bs)) v c result w d → SameBounds v.state w.state
-      → (v.failed ≡ false → v.state.shown.kept.capacity ≡ 0 → IsOk result)
-      → PrintsFront step scrolls bs (drop n bs) c v d w
-  front-run bs n c v result d w pos within p t k keeps =
+  pub front-run : (bs : List ℕ) (n : ℕ) {p q : WrappedScreen C} (result : Result (Unit {0}) ScreenError) → 0 < n
+      → n ≤ length bs → All IsPrintable (take n bs) → MayScroll scrolls (typed_all (take n bs)) p result q
+      → PrintsFront step scrolls bs (drop n bs) p.callbacks p.screen q.callbacks q.screen
+  front-run bs n result pos within h x =
       let some : 0 < length (take n bs) = grind (arith, common_steps) in (
         take n bs,
-        printable-chars bs n p,
-        goes-tries (take n bs) c v result d w some
-            (λ i e l. printable-handled (get_or (take n bs) i e) (p i e l)) t k keeps,
+        printable-chars bs n h,
+        goes-typed_all (take n bs) result some (λ i e l. printable-handled (get_or (take n bs) i e) (h i e l)) x,
       )
 
   -- a character

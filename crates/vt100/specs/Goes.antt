@@ -6,6 +6,7 @@ use Rattle.screen_model.specs.State.{State}
 use Rattle.screen_model.specs.Step.{Report}
 use Rattle.screen_model.specs.Call.{Call, ScreenView, Hears}
 use Rattle.screen_model.specs.Effect.{Effect, effect}
+use Rattle.vt100.specs.declared.screen.wrapped.WrappedScreen.{WrappedScreen}
 use Rattle.vt100.specs.Memory.{may_take_memory}
 use Rattle.vt100.specs.Tries.{SameBounds, HearsFront, alive}
 
@@ -44,6 +45,11 @@ pub record Does {C : Type 0} (step : C → ScreenView → Call → C → ScreenV
     (w : ScreenView) : Type 0 where
   pub dead : v.failed ≡ true → (d ≡ c) × (w ≡ v)
   pub live : v.failed ≡ false → Acts step scrolls c (f v.state) d w ⊎ Fails scrolls takes (f v.state).reports c v d w
+
+-- the same of a screen with its callbacks
+abbrev pub Handles : {C : Type 0} → (C → ScreenView → Call → C → ScreenView → Type 0)
+    → (C → RowView → Bool → C → Type 0) → (State → Effect) → Bool → WrappedScreen C → WrappedScreen C → Type 0
+Handles step scrolls f takes p q = Does step scrolls f takes p.callbacks p.screen q.callbacks q.screen
 
 -- an event
 abbrev pub Goes : {C : Type 0} → (C → ScreenView → Call → C → ScreenView → Type 0) → (C → RowView → Bool → C → Type 0)

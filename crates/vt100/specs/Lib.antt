@@ -1,4 +1,5 @@
 pub mod CallOf
+pub mod Draws
 pub mod Goes
 pub mod Laws
 pub mod Memory
@@ -12,3 +13,4 @@ pub mod Tries
 pub mod WriterLaws
 pub mod FormLists
 pub mod Writers
+pub mod Written

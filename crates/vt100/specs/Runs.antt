@@ -1,13 +1,27 @@
 -- Characters that are printed one after another.
-use Rattle.std.specs.Prelude.{◌≡◌, ℕ, Bool, false, List, [], ◌∷◌, ◌++◌, map, Option, Some}
+use Rattle.std.specs.Prelude.{◌≡◌, ◌≤◌, ℕ, Bool, false, List, [], ◌∷◌, ◌++◌, map, Option, Some, All}
 use Rattle.std.specs.Str.{chars}
+use Rattle.vt100_cells.specs.Cell.{IsPrintable}
 use Rattle.vte_core.specs.Event.{Print}
 use Rattle.vt100_rows.specs.Row.{RowView}
+use Rattle.vt100_core.specs.Text.{IsWide}
 use Rattle.screen_model.specs.State.{State}
 use Rattle.screen_model.specs.Step.{Stepped, quietly, typed}
 use Rattle.screen_model.specs.Call.{Call, ScreenView}
 use Rattle.screen_model.specs.Effect.{is_unhandled}
+use Rattle.vt100.specs.declared.screen.reported.Run.{Run}
+use Rattle.vt100.specs.declared.screen.reported.Run.TheVariants.{Narrow, Wide}
 use Rattle.vt100.specs.Goes.{GoesThrough}
+
+-- the characters of a run
+abbrev pub characters : Run → List ℕ
+characters (Narrow text) = text.now
+characters (Wide text) = text.now
+
+-- printable ASCII, or characters of two columns, for a sheet of w
+abbrev pub IsRun : ℕ → Run → Type 0
+IsRun w (Narrow text) = All IsPrintable text.now
+IsRun w (Wide text) = All IsWide text.now × (2 ≤ w)
 
 -- characters, one after another
 abbrev pub typed_all : List ℕ → State → Stepped

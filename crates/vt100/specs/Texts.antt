@@ -1,6 +1,7 @@
 -- The texts that a screen shows: of each row, and between two places.
 use Rattle.std.specs.Prelude.{ℕ, zero, suc, ◌+◌, ◌-◌, ◌≡◌, ◌==◌, nat_lt, min, List, [], ◌∷◌, ◌++◌, length, map}
-use Rattle.std.specs.Prelude.{encode_utf8_all, Option, Result, MatchOption, MatchResult, if◌then◌else◌}
+use Rattle.std.specs.Prelude.{encode_utf8_all, Option, Result, IfOk, OnErr, Err, MatchOption, MatchResult}
+use Rattle.std.specs.Prelude.{String, string_bytes, if◌then◌else◌}
 use Rattle.vt100_rows.specs.Row.{RowView}
 use Rattle.vt100_rows.specs.Text.{row_text}
 use Rattle.vt100_core.specs.Grid.{GridView, visible_at}
@@ -10,6 +11,11 @@ use Rattle.vt100.specs.declared.error.ScreenError.TheVariants.{Memory}
 -- the texts of rows in n columns from column s on, in UTF-8
 abbrev pub row_texts : ℕ → ℕ → List RowView → List (List ℕ)
 row_texts s n rows = map (λ v. encode_utf8_all (row_text v s (s + n))) rows
+
+-- a text, unless there is no memory for it
+pub record Gives {Z : Type 0} (bytes : List ℕ) (result : Result (String Z) ScreenError) : Type 0 where
+  pub text : IfOk result (λ string. string_bytes string ≡ bytes)
+  pub memory : OnErr result (result ≡ Err Memory)
 
 -- an iterator over texts: the first of those that are left comes, or there was no memory for it; the others are left
 abbrev pub YieldsText : {S : Type 0} → (S → List ℕ) → List (List ℕ) → Option (Result S ScreenError) → List (List ℕ)

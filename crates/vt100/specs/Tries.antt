@@ -1,5 +1,5 @@
 -- What calls do to a screen, and how they are refused.
-use Rattle.std.specs.Prelude.{◌≡◌, ◌⊎◌, ℕ, Bool, true, false, List, ◌++◌, Result, Err, OnOk, IfOk, if◌then◌else◌}
+use Rattle.std.specs.Prelude.{◌≡◌, ◌⊎◌, ℕ, Bool, true, false, List, ◌++◌, Result, Err, OnOk, IfOk, IsOk, if◌then◌else◌}
 use Rattle.vt100_rows.specs.Row.{RowView}
 use Rattle.vt100_core.specs.Grid.{SameLimits}
 use Rattle.vt100_core.specs.Resize.{resized}
@@ -8,6 +8,7 @@ use Rattle.screen_model.specs.Step.{Stepped, Partly, Report}
 use Rattle.screen_model.specs.Call.{ScreenView, Hears}
 use Rattle.vt100.specs.declared.error.ScreenError.{ScreenError}
 use Rattle.vt100.specs.declared.error.ScreenError.TheVariants.{Memory, Failed}
+use Rattle.vt100.specs.declared.screen.wrapped.WrappedScreen.{WrappedScreen}
 
 -- a screen in this state, which hasn't failed
 abbrev pub alive : State → ScreenView
@@ -16,6 +17,11 @@ alive s = record { state = s; failed = false }
 -- f changes the state; a failed screen stays as it is
 abbrev pub unless_failed : (State → State) → ScreenView → ScreenView
 unless_failed f v = if v.failed then v else alive (f v.state)
+
+-- A call that can't be refused: f changes the state, unless the screen has failed, and the callbacks are told of nothing.
+pub record Changes {C : Type 0} (f : State → State) (old new : WrappedScreen C) : Type 0 where
+  pub screen : new.screen ≡ unless_failed f old.screen
+  pub callbacks : new.callbacks ≡ old.callbacks
 
 -- two states of which each sheet has one size, and keeps as many rows at most
 pub record SameBounds (s t : State) : Type 0 where
@@ -45,6 +51,22 @@ pub record Tries {C A : Type 0} (scrolls : C → RowView → Bool → C → Type
   pub told : result ≡ Err Memory → HearsFront scrolls c (f v.state).reports d
   pub refused : result ≡ Err Failed → v.failed ≡ true
   pub dead : v.failed ≡ true → (result ≡ Err Failed) × (w ≡ v) × (d ≡ c)
+
+-- A call that does f, by which rows may leave a sheet: the sheets keep their sizes, and memory is refused only where rows
+-- are kept.
+pub record MayScroll {C : Type 0} (scrolls : C → RowView → Bool → C → Type 0) (f : State → Stepped)
+    (old : WrappedScreen C) (result : Result (Unit {0}) ScreenError) (new : WrappedScreen C) : Type 0 where
+  pub tries : Tries scrolls f old.screen old.callbacks result new.screen new.callbacks
+  pub bounds : SameBounds old.screen.state new.screen.state
+  pub keeps_none : old.screen.failed ≡ false → old.screen.state.shown.kept.capacity ≡ 0 → IsOk result
+
+-- A call that gives a screen and its sheets another size, as f does. A refused one says where it has stopped, and the same
+-- size isn't refused.
+pub record Resizes {C : Type 0} (scrolls : C → RowView → Bool → C → Type 0) (f : State → Stepped) (rows cols : ℕ)
+    (v : ScreenView) (c : C) (result : Result (Unit {0}) ScreenError) (w : ScreenView) (d : C) : Type 0 where
+  pub tries : Tries scrolls f v c result w d
+  pub stops : result ≡ Err Memory → Stops rows cols v.state w.state
+  pub same : v.failed ≡ false → rows ≡ v.state.shown.height → cols ≡ v.state.shown.width → IsOk result
 
 -- A call that can't be refused, but of which parts can be unknown; the answer says how many were. A failed screen stays
 -- as it is, and then none was.

@@ -9,12 +9,13 @@ ghost use Rattle.screen_model.specs.Effect.{first, second, effect_or, escape_row
 ghost use Rattle.screen_model.specs.Effect.{is_selector, is_question, is_base64};
 ghost use Rattle.screen_model.specs.Lookup.{lookup};
 ghost use Rattle.screen_model.specs.Call as said;
-ghost use Rattle.vt100.specs.Goes.{Does, Tells};
+ghost use Rattle.vt100.specs.Goes.{Handles, Tells};
 ghost use Rattle.vt100.specs.Memory.{escape_may_take, plain_may_take, private_may_take};
 ghost use Rattle.vt100.specs.Runs.{PrintsFront};
 
 use crate::callbacks::Callbacks;
 use crate::screen::WrappedScreen;
+use crate::screen::reported::Run;
 use arrayvec::ArrayVec;
 use std::num::NonZeroU16;
 use vt100_rows::printable::printable_len;
@@ -148,7 +149,7 @@ impl<CB: Callbacks> WrappedScreen<CB> {
     {
         let len = printable_len(text.as_bytes());
         if len > 0 {
-            let _ = self.text_run(&text.as_bytes()[..len]);
+            let _ = self.run(Run::Narrow(&text.as_bytes()[..len]));
             return &text[len..];
         }
         if let Some(rest) = self.print_wide(text) {
@@ -164,8 +165,8 @@ impl<CB: Callbacks> WrappedScreen<CB> {
     /// An escape sequence without intermediates.
     fn plain_esc(&mut self, byte: u8)
         requires { self.old.screen.failed ≡ false }
-        ensures { Does CB.step CB.scrolls (effect_or (lookup byte escape_rows) (said.unhandled_escape None None byte))
-            (escape_may_take [] byte) self.old.callbacks self.old.screen self.new.callbacks self.new.screen }
+        ensures { Handles CB.step CB.scrolls (effect_or (lookup byte escape_rows)
+            (said.unhandled_escape None None byte)) (escape_may_take [] byte) self.old self.new }
     {
         match byte {
             b'7' => self.decsc(),
@@ -186,8 +187,8 @@ impl<CB: Callbacks> WrappedScreen<CB> {
     /// A control sequence without intermediates.
     fn plain_csi(&mut self, params: &Params, action: char)
         requires { self.old.screen.failed ≡ false }
-        ensures { Does CB.step CB.scrolls (plain_effect (lookup action plain_rows) params.now action)
-            (plain_may_take action self.old.screen.state) self.old.callbacks self.old.screen self.new.callbacks self.new.screen }
+        ensures { Handles CB.step CB.scrolls (plain_effect (lookup action plain_rows) params.now action)
+            (plain_may_take action self.old.screen.state) self.old self.new }
     {
         match action {
             '@' => self.ich(canonicalize_params_1(params, 1)),
@@ -223,8 +224,8 @@ impl<CB: Callbacks> WrappedScreen<CB> {
     /// The finals that are unhandled at some numbers, and all others.
     fn other_csi(&mut self, params: &Params, action: char)
         requires { self.old.screen.failed ≡ false }
-        ensures { Does CB.step CB.scrolls (row_effect (lookup action other_rows) params.now
-            (csi_call [] params.now action)) false self.old.callbacks self.old.screen self.new.callbacks self.new.screen }
+        ensures { Handles CB.step CB.scrolls (row_effect (lookup action other_rows) params.now
+            (csi_call [] params.now action)) false self.old self.new }
     {
         match action {
             'J' => {
@@ -247,8 +248,8 @@ impl<CB: Callbacks> WrappedScreen<CB> {
     /// XTWINOPS: 8 asks for a size, of which an absent number is the screen's.
     fn window(&mut self, params: &Params, action: char)
         requires { self.old.screen.failed ≡ false }
-        ensures { Does CB.step CB.scrolls (window_effect params.now (csi_call [] params.now action))
-            false self.old.callbacks self.old.screen self.new.callbacks self.new.screen }
+        ensures { Handles CB.step CB.scrolls (window_effect params.now (csi_call [] params.now action)) false
+            self.old self.new }
     {
         let mut groups = params.iter();
         let operation = next_number(&mut groups).unwrap_or(0);
@@ -264,10 +265,9 @@ impl<CB: Callbacks> WrappedScreen<CB> {
     /// A control sequence with a space as its first intermediate.
     fn space_csi(&mut self, params: &Params, intermediates: &[u8], action: char)
         requires { self.old.screen.failed ≡ false }
-        ensures { Does CB.step CB.scrolls (λ s. if nat_eq action 0x71
+        ensures { Handles CB.step CB.scrolls (λ s. if nat_eq action 0x71
             then partly (styled (number_or 0 params.now) s) (csi_call intermediates.now params.now action)
-            else calling (csi_call [] params.now action ∷ []) s)
-            false self.old.callbacks self.old.screen self.new.callbacks self.new.screen }
+            else calling (csi_call [] params.now action ∷ []) s) false self.old self.new }
     {
         match action {
             'q' => {
@@ -281,10 +281,9 @@ impl<CB: Callbacks> WrappedScreen<CB> {
     /// One with `?`.
     fn private_csi(&mut self, params: &Params, intermediates: &[u8], action: char)
         requires { self.old.screen.failed ≡ false }
-        ensures { Does CB.step CB.scrolls (row_effect (lookup action private_rows) params.now
-            (csi_call intermediates.now params.now action))
-            (private_may_take params.now action self.old.screen.state) self.old.callbacks self.old.screen self.new.callbacks
-            self.new.screen }
+        ensures { Handles CB.step CB.scrolls (row_effect (lookup action private_rows) params.now
+            (csi_call intermediates.now params.now action)) (private_may_take params.now action self.old.screen.state)
+            self.old self.new }
     {
         match action {
             'J' => {
@@ -330,8 +329,8 @@ impl<CB: Callbacks> WrappedScreen<CB> {
     /// An unhandled sequence.
     fn unhandled_csi(&mut self, params: &Params, intermediates: &[u8], action: char)
         requires { self.old.screen.failed ≡ false }
-        ensures { Does CB.step CB.scrolls (calling (csi_call intermediates.now params.now action ∷ []))
-            false self.old.callbacks self.old.screen self.new.callbacks self.new.screen }
+        ensures { Handles CB.step CB.scrolls (calling (csi_call intermediates.now params.now action ∷ [])) false
+            self.old self.new }
     {
         self.tell_csi(params, intermediates, action);
     }
@@ -359,8 +358,8 @@ impl<CB: Callbacks> WrappedScreen<CB> {
     fn title(&mut self, params: &[&[u8]], command: &[u8], text: &[u8])
         requires live { self.old.screen.failed ≡ false }
         requires pieces { map (λ p. p.now) params.now ≡ command.now ∷ text.now ∷ [] }
-        ensures { Does CB.step CB.scrolls (calling (osc_calls (map (λ p. p.now) params.now)))
-            false self.old.callbacks self.old.screen self.new.callbacks self.new.screen }
+        ensures { Handles CB.step CB.scrolls (calling (osc_calls (map (λ p. p.now) params.now))) false
+            self.old self.new }
     {
         match command {
             [b'0'] => self.icon_and_title(text),
@@ -373,9 +372,8 @@ impl<CB: Callbacks> WrappedScreen<CB> {
     /// One text for both.
     fn icon_and_title(&mut self, text: &[u8])
         requires { self.old.screen.failed ≡ false }
-        ensures { Does CB.step CB.scrolls (calling (said.set_window_icon_name text.now
-            ∷ said.set_window_title text.now ∷ []))
-            false self.old.callbacks self.old.screen self.new.callbacks self.new.screen }
+        ensures { Handles CB.step CB.scrolls (calling (said.set_window_icon_name text.now
+            ∷ said.set_window_title text.now ∷ [])) false self.old self.new }
     {
         self.callbacks.set_window_icon_name(&mut self.screen, text);
         if !self.screen.failed() {
@@ -387,8 +385,8 @@ impl<CB: Callbacks> WrappedScreen<CB> {
     fn clipboard(&mut self, params: &[&[u8]], command: &[u8], selectors: &[u8], bytes: &[u8])
         requires live { self.old.screen.failed ≡ false }
         requires pieces { map (λ p. p.now) params.now ≡ command.now ∷ selectors.now ∷ bytes.now ∷ [] }
-        ensures { Does CB.step CB.scrolls (calling (osc_calls (map (λ p. p.now) params.now)))
-            false self.old.callbacks self.old.screen self.new.callbacks self.new.screen }
+        ensures { Handles CB.step CB.scrolls (calling (osc_calls (map (λ p. p.now) params.now))) false
+            self.old self.new }
     {
         if !is_clipboard(command) || !are_selectors(selectors) {
             self.callbacks.unhandled_osc(&mut self.screen, params);

@@ -10,7 +10,7 @@ mod getters;
 mod motion;
 mod private_modes;
 mod readers;
-mod reported;
+pub(crate) mod reported;
 mod rows;
 mod rows_diff;
 mod rows_formatted;

@@ -1,6 +1,6 @@
 //! Controls and escape sequences.
-ghost use Rattle.std.specs.Prelude.{◌≡◌, ◌-◌, true, false};
-ghost use Rattle.vt100.specs.Tries.{unless_failed};
+ghost use Rattle.std.specs.Prelude.{◌-◌, true, false};
+ghost use Rattle.vt100.specs.Tries.{Changes};
 ghost use Rattle.screen_model.specs.Step.{moved_left, tabbed, at_column, saved, restored, with_keypad, line_fed_back};
 
 use crate::callbacks::Callbacks;
@@ -9,8 +9,7 @@ use crate::screen::WrappedScreen;
 impl<CB: Callbacks> WrappedScreen<CB> {
     /// Moves the cursor one column to the left (BS).
     pub fn bs(&mut self)
-        ensures screen { self.new.screen ≡ unless_failed (moved_left 1) self.old.screen }
-        ensures callbacks { self.new.callbacks ≡ self.old.callbacks }
+        ensures { Changes (moved_left 1) self.old self.new }
     {
         if !self.screen.failed {
             self.screen.grid.col_dec(1);
@@ -19,8 +18,7 @@ impl<CB: Callbacks> WrappedScreen<CB> {
 
     /// Moves the cursor to the next tab stop, one every eight columns, or to the last column (HT).
     pub fn tab(&mut self)
-        ensures screen { self.new.screen ≡ unless_failed (tabbed) self.old.screen }
-        ensures callbacks { self.new.callbacks ≡ self.old.callbacks }
+        ensures { Changes tabbed self.old self.new }
     {
         if !self.screen.failed {
             self.screen.grid.col_tab();
@@ -29,8 +27,7 @@ impl<CB: Callbacks> WrappedScreen<CB> {
 
     /// Moves the cursor to the first column (CR).
     pub fn cr(&mut self)
-        ensures screen { self.new.screen ≡ unless_failed (at_column 0) self.old.screen }
-        ensures callbacks { self.new.callbacks ≡ self.old.callbacks }
+        ensures { Changes (at_column 0) self.old self.new }
     {
         if !self.screen.failed {
             self.screen.grid.col_set(0);
@@ -39,8 +36,7 @@ impl<CB: Callbacks> WrappedScreen<CB> {
 
     /// Saves the cursor, origin mode and the drawing attributes (DECSC).
     pub fn decsc(&mut self)
-        ensures screen { self.new.screen ≡ unless_failed (saved) self.old.screen }
-        ensures callbacks { self.new.callbacks ≡ self.old.callbacks }
+        ensures { Changes saved self.old self.new }
     {
         if !self.screen.failed {
             self.screen.save_cursor();
@@ -49,8 +45,7 @@ impl<CB: Callbacks> WrappedScreen<CB> {
 
     /// Brings back the cursor, origin mode and the drawing attributes that were saved last (DECRC).
     pub fn decrc(&mut self)
-        ensures screen { self.new.screen ≡ unless_failed (restored) self.old.screen }
-        ensures callbacks { self.new.callbacks ≡ self.old.callbacks }
+        ensures { Changes restored self.old self.new }
     {
         if !self.screen.failed {
             self.screen.restore_cursor();
@@ -59,8 +54,7 @@ impl<CB: Callbacks> WrappedScreen<CB> {
 
     /// Sets application keypad mode (DECKPAM).
     pub fn deckpam(&mut self)
-        ensures screen { self.new.screen ≡ unless_failed (with_keypad true) self.old.screen }
-        ensures callbacks { self.new.callbacks ≡ self.old.callbacks }
+        ensures { Changes (with_keypad true) self.old self.new }
     {
         if !self.screen.failed {
             self.screen.application_keypad = true;
@@ -69,8 +63,7 @@ impl<CB: Callbacks> WrappedScreen<CB> {
 
     /// Resets application keypad mode (DECKPNM).
     pub fn deckpnm(&mut self)
-        ensures screen { self.new.screen ≡ unless_failed (with_keypad false) self.old.screen }
-        ensures callbacks { self.new.callbacks ≡ self.old.callbacks }
+        ensures { Changes (with_keypad false) self.old self.new }
     {
         if !self.screen.failed {
             self.screen.application_keypad = false;
@@ -80,8 +73,7 @@ impl<CB: Callbacks> WrappedScreen<CB> {
     /// Moves the cursor a row up. At the scroll region's top, and at the screen's, the region scrolls down instead
     /// (RI).
     pub fn ri(&mut self)
-        ensures screen { self.new.screen ≡ unless_failed (line_fed_back) self.old.screen }
-        ensures callbacks { self.new.callbacks ≡ self.old.callbacks }
+        ensures { Changes line_fed_back self.old self.new }
     {
         if !self.screen.failed {
             self.screen.grid.row_dec_scroll(1);

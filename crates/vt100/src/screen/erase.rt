@@ -1,6 +1,6 @@
 //! Control sequences by which cells and lines come in, go or are emptied.
-ghost use Rattle.std.specs.Prelude.{◌≡◌, true, false};
-ghost use Rattle.vt100.specs.Tries.{unless_failed, Counts};
+ghost use Rattle.std.specs.Prelude.{true, false};
+ghost use Rattle.vt100.specs.Tries.{Changes, Counts};
 ghost use Rattle.screen_model.specs.Step.{cells_added, cells_taken, cells_erased, lines_added, lines_taken, region_down};
 ghost use Rattle.screen_model.specs.Effect.{display_erased, line_erased, styled};
 
@@ -11,9 +11,9 @@ use vt100_core::CursorStyle;
 
 impl<CB: Callbacks> WrappedScreen<CB> {
     /// Inserts default cells at the cursor; what falls off the row's end is gone (ICH).
+    #[tactic(auto, using(crate::proofs::ProperScreens::drawn_rules))]
     pub fn ich(&mut self, count: u16)
-        ensures screen { self.new.screen ≡ unless_failed (cells_added count) self.old.screen }
-        ensures callbacks { self.new.callbacks ≡ self.old.callbacks }
+        ensures { Changes (cells_added count) self.old self.new }
     {
         if !self.screen.failed {
             self.screen.grid.insert_cells(count);
@@ -22,8 +22,7 @@ impl<CB: Callbacks> WrappedScreen<CB> {
 
     /// Takes cells out at the cursor; default ones follow at the row's end (DCH).
     pub fn dch(&mut self, count: u16)
-        ensures screen { self.new.screen ≡ unless_failed (cells_taken count) self.old.screen }
-        ensures callbacks { self.new.callbacks ≡ self.old.callbacks }
+        ensures { Changes (cells_taken count) self.old self.new }
     {
         if !self.screen.failed {
             self.screen.grid.delete_cells(count);
@@ -31,9 +30,9 @@ impl<CB: Callbacks> WrappedScreen<CB> {
     }
 
     /// Empties cells from the cursor on, with the drawing attributes (ECH).
+    #[tactic(auto, using(crate::proofs::ProperScreens::drawn_rules))]
     pub fn ech(&mut self, count: u16)
-        ensures screen { self.new.screen ≡ unless_failed (cells_erased count) self.old.screen }
-        ensures callbacks { self.new.callbacks ≡ self.old.callbacks }
+        ensures { Changes (cells_erased count) self.old self.new }
     {
         if !self.screen.failed {
             let attrs = self.screen.attrs;
@@ -43,8 +42,7 @@ impl<CB: Callbacks> WrappedScreen<CB> {
 
     /// Inserts blank lines at the cursor's row, if it is in the scroll region (IL).
     pub fn il(&mut self, count: u16)
-        ensures screen { self.new.screen ≡ unless_failed (lines_added count) self.old.screen }
-        ensures callbacks { self.new.callbacks ≡ self.old.callbacks }
+        ensures { Changes (lines_added count) self.old self.new }
     {
         if !self.screen.failed {
             self.screen.grid.insert_lines(count);
@@ -53,8 +51,7 @@ impl<CB: Callbacks> WrappedScreen<CB> {
 
     /// Takes lines out at the cursor's row, if it is in the scroll region; blank ones follow at its end (DL).
     pub fn dl(&mut self, count: u16)
-        ensures screen { self.new.screen ≡ unless_failed (lines_taken count) self.old.screen }
-        ensures callbacks { self.new.callbacks ≡ self.old.callbacks }
+        ensures { Changes (lines_taken count) self.old self.new }
     {
         if !self.screen.failed {
             self.screen.grid.delete_lines(count);
@@ -63,8 +60,7 @@ impl<CB: Callbacks> WrappedScreen<CB> {
 
     /// Moves the lines of the scroll region down; blank ones come in at its top (SD).
     pub fn sd(&mut self, count: u16)
-        ensures screen { self.new.screen ≡ unless_failed (region_down count) self.old.screen }
-        ensures callbacks { self.new.callbacks ≡ self.old.callbacks }
+        ensures { Changes (region_down count) self.old self.new }
     {
         if !self.screen.failed {
             self.screen.grid.scroll_down(count);

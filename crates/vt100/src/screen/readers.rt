@@ -1,5 +1,5 @@
 //! The texts that a screen shows.
-ghost use Rattle.std.specs.Prelude.{◌≡◌, ◌++◌, OnOk, OnErr, IfOk, Err, length, string_bytes};
+ghost use Rattle.std.specs.Prelude.{◌≡◌, ◌++◌, OnOk, length, string_bytes};
 ghost use Rattle.std.specs.Prelude.{encode_utf8_all, [], IsOk};
 ghost use Rattle.std.specs.Fmt.{WritesInCalls};
 ghost use Rattle.vt100_capture.specs.Capture.{captured, after_rows, new_capture};
@@ -7,8 +7,7 @@ ghost use Rattle.vt100_capture.specs.Range.{start_of, LeavesState};
 ghost use Rattle.vt100_core.specs.Basic.{rows_in};
 ghost use Rattle.vt100_core.specs.Grid.{visible};
 ghost use Rattle.vt100_core.specs.Contents.{newlines_cut, text_lines};
-ghost use Rattle.vt100.specs.Texts.{row_texts, rest_of_row, text_between};
-ghost use Rattle.vt100.specs.declared.error.ScreenError.TheVariants.{Memory};
+ghost use Rattle.vt100.specs.Texts.{Gives, row_texts, rest_of_row, text_between};
 
 use crate::error::ScreenError;
 use crate::screen::Screen;
@@ -21,9 +20,8 @@ impl Screen {
     /// The text of the rows that are shown, in the screen's columns: without the empty columns at a row's end, with a
     /// newline after each row that doesn't go on in the next, and without newlines at its own end.
     pub fn contents(&self) -> Result<String, ScreenError>
-        ensures text { IfOk result (λ contents. string_bytes contents ≡ newlines_cut (encode_utf8_all
-            (text_lines self.now.state.shown (length self.now.state.shown.rows)))) }
-        ensures memory { OnErr result (result ≡ Err Memory) }
+        ensures { Gives (newlines_cut (encode_utf8_all
+            (text_lines self.now.state.shown (length self.now.state.shown.rows)))) result }
     {
         let mut contents = String::new(self.alloc);
         self.grid.write_contents(&mut contents)?;
@@ -50,9 +48,8 @@ impl Screen {
         end_row: u16,
         end_col: u16,
     ) -> Result<String, ScreenError>
-        ensures text { IfOk result (λ contents. string_bytes contents ≡ encode_utf8_all
-            (text_between self.now.state.shown start_row start_col end_row end_col)) }
-        ensures memory { OnErr result (result ≡ Err Memory) }
+        ensures { Gives (encode_utf8_all (text_between self.now.state.shown start_row start_col end_row end_col))
+            result }
     {
         let mut contents = String::new(self.alloc);
         if end_row < start_row {
@@ -77,9 +74,7 @@ impl Screen {
     /// but a newline after each row but the last that doesn't go on in the next. The attributes that are set before it
     /// have to be the default ones, and aren't reset at the end.
     pub fn contents_formatted_basic(&self) -> Result<String, ScreenError>
-        ensures text { IfOk result (λ contents. string_bytes contents
-            ≡ captured new_capture (visible self.now.state.shown)) }
-        ensures memory { OnErr result (result ≡ Err Memory) }
+        ensures { Gives (captured new_capture (visible self.now.state.shown)) result }
     {
         let mut contents = String::new(self.alloc);
         let written = self.write_contents_formatted_basic(

@@ -1,13 +1,13 @@
 //! Calls on a sheet that tell callbacks of the rows that leave it.
-ghost use Rattle.std.specs.Prelude.{◌≡◌, ◌⊎◌, ◌<◌, ◌++◌, OnOk, OnErr, IfOk, IsOk, All, true, false};
-ghost use Rattle.vt100_cells.specs.Cell.{IsPrintable};
-ghost use Rattle.vt100_core.specs.Grid.{IsAllocated, SameLimits};
-ghost use Rattle.vt100_core.specs.Scroll.{fed, scrolled_up, scrollback_erased};
+ghost use Rattle.std.specs.Prelude.{◌≡◌, ◌⊎◌, ◌++◌, OnOk, OnErr, IfOk, IsOk, true, false};
+ghost use Rattle.vt100_core.specs.Grid.{IsAllocated};
+ghost use Rattle.vt100_core.specs.Scroll.{scrollback_erased};
 ghost use Rattle.vt100_core.specs.Resize.{resized};
-ghost use Rattle.vt100_core.specs.Text.{printed, printed_all};
+ghost use Rattle.vt100_core.specs.Text.{printed};
 ghost use Rattle.screen_model.specs.Step.{reports_of};
 ghost use Rattle.screen_model.specs.Call.{Hears};
 ghost use Rattle.vt100.specs.Tries.{HearsFront};
+ghost use Rattle.vt100.specs.Draws.{IsDrawable, Draws, drawn, scrolled_of};
 
 use crate::callbacks::Callbacks;
 use vt100_core::attrs::Attrs;
@@ -40,81 +40,51 @@ pub(super) fn print<CB: Callbacks>(
     attrs: Attrs,
 ) -> Result<Printed, GridError>
     requires { IsAllocated grid.old }
-    ensures grid { OnOk result (grid.new ≡ (printed grid.old c attrs).grid) }
+    ensures drawn { Draws CB.scrolls (scrolled_of (printed grid.old c attrs)) grid.old reporter.old result grid.new
+        reporter.new }
     ensures answer { IfOk result (λ p. p ≡ (printed grid.old c attrs).printed) }
-    ensures same { reporter.new.callbacks.ghost_name ≡ reporter.old.callbacks.ghost_name }
-    ensures hears { Hears CB.scrolls reporter.old.callbacks.now
-        (reports_of reporter.old.alternate_screen (printed grid.old c attrs).sunk) reporter.new.callbacks.now }
-    ensures limits { SameLimits grid.old grid.new }
-    ensures keeps_none { grid.old.kept.capacity ≡ 0 → IsOk result }
-    ensures allocated { IsAllocated grid.new }
 {
     grid.text(c, attrs, reporter)
 }
 
-/// Printable ASCII, character by character.
+/// Characters that each stand in cells of their own, one after another.
+#[derive(Clone, Copy)]
+pub(crate) enum Run<'a> {
+    /// Printable ASCII.
+    Narrow(&'a [u8]),
+    /// Characters of two columns, where a row has room for one.
+    Wide(&'a [char]),
+}
+
+/// What may have rows leave a sheet.
+#[derive(Clone, Copy)]
+pub(super) enum Drawing<'a> {
+    Characters(Run<'a>),
+    LineFeed,
+    /// The scroll region moves up.
+    ScrollUp(u16),
+}
+
 #[inline]
-pub(super) fn print_run<CB: Callbacks>(
+pub(super) fn draw<CB: Callbacks>(
     grid: &mut Grid,
     reporter: &mut Reporter<'_, CB>,
-    text: &[u8],
+    drawing: Drawing<'_>,
     attrs: Attrs,
 ) -> Result<(), GridError>
     requires allocated { IsAllocated grid.old }
-    requires printable { All IsPrintable text.now }
-    ensures some_columns { 0 < grid.old.width }
-    ensures grid { OnOk result (grid.new ≡ (printed_all grid.old text.now attrs).grid) }
-    ensures same { reporter.new.callbacks.ghost_name ≡ reporter.old.callbacks.ghost_name }
-    ensures hears { OnOk result (Hears CB.scrolls reporter.old.callbacks.now
-        (reports_of reporter.old.alternate_screen (printed_all grid.old text.now attrs).sunk)
-        reporter.new.callbacks.now) }
-    ensures told { OnErr result (HearsFront CB.scrolls reporter.old.callbacks.now
-        (reports_of reporter.old.alternate_screen (printed_all grid.old text.now attrs).sunk)
-        reporter.new.callbacks.now) }
-    ensures limits { SameLimits grid.old grid.new }
-    ensures keeps_none { grid.old.kept.capacity ≡ 0 → IsOk result }
-    ensures allocated { IsAllocated grid.new }
+    requires drawable { IsDrawable grid.old.width drawing }
+    ensures { Draws CB.scrolls (drawn drawing.entry grid.old attrs) grid.old reporter.old result grid.new reporter.new }
 {
-    prove!(grid.size().cols.get() > 0);
-    grid.text_run(text, attrs, reporter)
-}
-
-/// A line feed.
-#[inline]
-pub(super) fn line_feed<CB: Callbacks>(
-    grid: &mut Grid,
-    reporter: &mut Reporter<'_, CB>,
-) -> Result<(), GridError>
-    requires { IsAllocated grid.old }
-    ensures grid { OnOk result (grid.new ≡ (fed grid.old 1).grid) }
-    ensures same { reporter.new.callbacks.ghost_name ≡ reporter.old.callbacks.ghost_name }
-    ensures hears { Hears CB.scrolls reporter.old.callbacks.now
-        (reports_of reporter.old.alternate_screen (fed grid.old 1).sunk) reporter.new.callbacks.now }
-    ensures limits { SameLimits grid.old grid.new }
-    ensures keeps_none { grid.old.kept.capacity ≡ 0 → IsOk result }
-    ensures allocated { IsAllocated grid.new }
-{
-    grid.row_inc_scroll(1, reporter)?;
-    Ok(())
-}
-
-/// The scroll region moves up.
-#[inline]
-pub(super) fn scroll_up<CB: Callbacks>(
-    grid: &mut Grid,
-    reporter: &mut Reporter<'_, CB>,
-    count: u16,
-) -> Result<(), GridError>
-    requires { IsAllocated grid.old }
-    ensures grid { OnOk result (grid.new ≡ (scrolled_up grid.old count).grid) }
-    ensures same { reporter.new.callbacks.ghost_name ≡ reporter.old.callbacks.ghost_name }
-    ensures hears { Hears CB.scrolls reporter.old.callbacks.now
-        (reports_of reporter.old.alternate_screen (scrolled_up grid.old count).sunk) reporter.new.callbacks.now }
-    ensures limits { SameLimits grid.old grid.new }
-    ensures keeps_none { grid.old.kept.capacity ≡ 0 → IsOk result }
-    ensures allocated { IsAllocated grid.new }
-{
-    grid.scroll_up(count, reporter)
+    match drawing {
+        Drawing::Characters(Run::Narrow(text)) => grid.text_run(text, attrs, reporter),
+        Drawing::Characters(Run::Wide(text)) => grid.wide_run(text, attrs, reporter),
+        Drawing::LineFeed => {
+            grid.row_inc_scroll(1, reporter)?;
+            Ok(())
+        }
+        Drawing::ScrollUp(count) => grid.scroll_up(count, reporter),
+    }
 }
 
 /// The kept rows go.

@@ -1,9 +1,8 @@
 //! The texts of a screen's rows.
-ghost use Rattle.std.specs.Prelude.{◌≡◌, ◌+◌, OnErr, IfOk, Err, string_bytes, encode_utf8_all};
+ghost use Rattle.std.specs.Prelude.{◌≡◌, ◌+◌, string_bytes, encode_utf8_all};
 ghost use Rattle.std.specs.Iterator.{item_count};
 ghost use Rattle.vt100_rows.specs.Text.{row_text};
-ghost use Rattle.vt100.specs.Texts.{row_texts, YieldsText};
-ghost use Rattle.vt100.specs.declared.error.ScreenError.TheVariants.{Memory};
+ghost use Rattle.vt100.specs.Texts.{Gives, row_texts, YieldsText};
 
 use crate::error::ScreenError;
 use std::alloc::Global;
@@ -56,9 +55,7 @@ impl<'a> Iterator for Rows<'a> {
 }
 
 fn text_of(alloc: Global, row: &Row, start: u16, width: u16) -> Result<String, ScreenError>
-    ensures text { IfOk result (λ contents. string_bytes contents
-        ≡ encode_utf8_all (row_text row.now start (start + width))) }
-    ensures memory { OnErr result (result ≡ Err Memory) }
+    ensures { Gives (encode_utf8_all (row_text row.now start (start + width))) result }
 {
     let mut contents = String::new(alloc);
     row.write_contents(&mut contents, start, width, false)?;

@@ -1,12 +1,11 @@
 //! What differs in the rows of two screens, one by one.
-ghost use Rattle.std.specs.Prelude.{◌≡◌, ◌<◌, ◌^◌, length, false, OnErr, IfOk, Err, string_bytes};
+ghost use Rattle.std.specs.Prelude.{◌≡◌, ◌<◌, ◌^◌, length, false, string_bytes};
 ghost use Rattle.std.specs.Iterator.{item_count};
 ghost use Rattle.vt100_forms.specs.Attrs.{default_attrs};
 ghost use Rattle.vt100_forms.specs.Form.{spell};
 ghost use Rattle.vt100_rows.specs.Forms.{differing};
-ghost use Rattle.vt100.specs.Texts.{YieldsText};
+ghost use Rattle.vt100.specs.Texts.{Gives, YieldsText};
 ghost use Rattle.vt100.specs.Writers.{each_diff};
-ghost use Rattle.vt100.specs.declared.error.ScreenError.TheVariants.{Memory};
 
 use crate::error::ScreenError;
 use std::alloc::Global;
@@ -85,9 +84,8 @@ fn text_of(
     width: u16,
     i: u16,
 ) -> Result<String, ScreenError>
-    ensures text { IfOk result (λ contents. string_bytes contents ≡ spell (differing row.now prev.now start width i
-        false false (record { row = i; col = start }) default_attrs).forms) }
-    ensures memory { OnErr result (result ≡ Err Memory) }
+    ensures { Gives (spell (differing row.now prev.now start width i false false (record { row = i; col = start })
+        default_attrs).forms) result }
 {
     let mut contents = String::new(alloc);
     let pos = Pos { row: i, col: start };

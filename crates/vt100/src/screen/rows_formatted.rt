@@ -1,12 +1,11 @@
 //! The rows of a screen as forms, one by one.
-ghost use Rattle.std.specs.Prelude.{◌≡◌, ◌<◌, ◌^◌, length, false, OnErr, IfOk, Err, string_bytes};
+ghost use Rattle.std.specs.Prelude.{◌≡◌, ◌<◌, ◌^◌, length, false, string_bytes};
 ghost use Rattle.std.specs.Prelude.{None};
 ghost use Rattle.std.specs.Iterator.{item_count};
 ghost use Rattle.vt100_forms.specs.Form.{spell};
 ghost use Rattle.vt100_rows.specs.Forms.{formatted};
-ghost use Rattle.vt100.specs.Texts.{YieldsText};
+ghost use Rattle.vt100.specs.Texts.{Gives, YieldsText};
 ghost use Rattle.vt100.specs.Writers.{each_formatted};
-ghost use Rattle.vt100.specs.declared.error.ScreenError.TheVariants.{Memory};
 
 use crate::error::ScreenError;
 use std::alloc::Global;
@@ -93,9 +92,7 @@ fn text_of(
     i: u16,
     wrapping: bool,
 ) -> Result<String, ScreenError>
-    ensures text { IfOk result (λ contents. string_bytes contents
-        ≡ spell (formatted row.now start width i wrapping None None).forms) }
-    ensures memory { OnErr result (result ≡ Err Memory) }
+    ensures { Gives (spell (formatted row.now start width i wrapping None None).forms) result }
 {
     let mut contents = String::new(alloc);
     row.write_contents_formatted(&mut contents, start, width, i, wrapping, None, None)?;

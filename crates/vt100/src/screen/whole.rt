@@ -3,7 +3,7 @@ ghost use Rattle.std.specs.Prelude.{◌≡◌, min, length, OnErr, IfOk, IsOk, E
 ghost use Rattle.screen_model.specs.State.{main_sheet};
 ghost use Rattle.vt100_core.specs.Grid.{IsShownWide};
 ghost use Rattle.screen_model.specs.Step.{kept_shown, kept_dropped, resized_to, sheets_resized, made_anew, quietly};
-ghost use Rattle.vt100.specs.Tries.{Tries, TriesAlone, SameBounds, Stops, alive, unless_failed};
+ghost use Rattle.vt100.specs.Tries.{Tries, TriesAlone, Resizes, SameBounds, Stops, alive, unless_failed};
 ghost use Rattle.vt100.specs.declared.error.ScreenError.TheVariants.{Memory};
 
 use crate::callbacks::Callbacks;
@@ -31,11 +31,8 @@ impl Screen {
 
     /// Gives both sheets another size, tells callbacks of the rows that leave them, and ends the program's update.
     fn resize<CB: Callbacks>(&mut self, callbacks: &mut CB, size: Size) -> Result<(), ScreenError>
-        ensures tries { Tries CB.scrolls (resized_to size.rows.value size.cols.value) self.old callbacks.old result
-            self.new callbacks.new }
-        ensures stops { result ≡ Err Memory → Stops size.rows.value size.cols.value self.old.state self.new.state }
-        ensures same { self.old.failed ≡ false → size.rows.value ≡ self.old.state.shown.height
-            → size.cols.value ≡ self.old.state.shown.width → IsOk result }
+        ensures { Resizes CB.scrolls (resized_to size.rows.value size.cols.value) size.rows.value size.cols.value
+            self.old callbacks.old result self.new callbacks.new }
     {
         self.resize_sheets(callbacks, size)?;
         self.synchronized_update = false;
@@ -48,11 +45,8 @@ impl Screen {
         callbacks: &mut CB,
         size: Size,
     ) -> Result<(), ScreenError>
-        ensures tries { Tries CB.scrolls (sheets_resized size.rows.value size.cols.value) self.old callbacks.old result
-            self.new callbacks.new }
-        ensures stops { result ≡ Err Memory → Stops size.rows.value size.cols.value self.old.state self.new.state }
-        ensures same { self.old.failed ≡ false → size.rows.value ≡ self.old.state.shown.height
-            → size.cols.value ≡ self.old.state.shown.width → IsOk result }
+        ensures { Resizes CB.scrolls (sheets_resized size.rows.value size.cols.value) size.rows.value size.cols.value
+            self.old callbacks.old result self.new callbacks.new }
     {
         if self.failed {
             return Err(ScreenError::Failed);
@@ -170,12 +164,8 @@ impl<CB: Callbacks> WrappedScreen<CB> {
         rows: NonZeroU16,
         cols: NonZeroU16,
     ) -> Result<(), ScreenError>
-        ensures tries { Tries CB.scrolls (resized_to rows.value cols.value) self.old.screen self.old.callbacks result
-            self.new.screen self.new.callbacks }
-        ensures stops { result ≡ Err Memory
-            → Stops rows.value cols.value self.old.screen.state self.new.screen.state }
-        ensures same { self.old.screen.failed ≡ false → rows.value ≡ self.old.screen.state.shown.height
-            → cols.value ≡ self.old.screen.state.shown.width → IsOk result }
+        ensures { Resizes CB.scrolls (resized_to rows.value cols.value) rows.value cols.value self.old.screen
+            self.old.callbacks result self.new.screen self.new.callbacks }
     {
         self.screen.resize(&mut self.callbacks, Size { rows, cols })
     }

@@ -1,22 +1,14 @@
 //! Wide characters, printed at once.
-ghost use Rattle.std.specs.Prelude.{◌≡◌, ◌<◌, ◌≤◌, ◌+◌, ◌++◌, ◌∷◌, [], OnOk, OnErr, IsOk, IfSome, IfNone, IsTrue};
-ghost use Rattle.std.specs.Prelude.{All, false, length};
+ghost use Rattle.std.specs.Prelude.{◌≡◌, ◌<◌, ◌≤◌, ◌+◌, ◌++◌, ◌∷◌, [], IfSome, IfNone, IsTrue, All, length};
 ghost use Rattle.std.specs.Str.{chars};
-ghost use Rattle.vt100_core.specs.Grid.{IsAllocated, SameLimits};
-ghost use Rattle.vt100_core.specs.Text.{IsWide, printed_all};
-ghost use Rattle.screen_model.specs.Step.{reports_of};
-ghost use Rattle.screen_model.specs.Call.{Hears};
-ghost use Rattle.vt100.specs.Runs.{IsHandled, PrintsFront, typed_all, last_of};
-ghost use Rattle.vt100.specs.Tries.{HearsFront, Tries, SameBounds};
+ghost use Rattle.vt100_core.specs.Text.{IsWide};
+ghost use Rattle.vt100.specs.Runs.{IsHandled, PrintsFront};
 
 use crate::callbacks::Callbacks;
-use crate::error::ScreenError;
-use crate::screen::reported::Reporter;
-use crate::screen::{WrappedScreen, settle};
+use crate::screen::WrappedScreen;
+use crate::screen::reported::Run;
 use arrayvec::ArrayVec;
 use vt100_cells::columns;
-use vt100_core::attrs::Attrs;
-use vt100_core::{Grid, GridError};
 
 /// How many characters are printed at once.
 const RUN_LEN: usize = 32;
@@ -39,59 +31,9 @@ impl<CB: Callbacks> WrappedScreen<CB> {
         if run.is_empty() {
             return None;
         }
-        let _ = self.wide_run(run.as_slice());
+        let _ = self.run(Run::Wide(run.as_slice()));
         Some(rest)
     }
-
-    /// Prints wide characters as [`text`](Self::text) of each in turn does.
-    fn wide_run(&mut self, text: &[char]) -> Result<(), ScreenError>
-        requires wide { All IsWide text.now }
-        requires room { 2 ≤ self.old.screen.state.shown.width }
-        ensures tries { Tries CB.scrolls (typed_all text.now) self.old.screen self.old.callbacks result self.new.screen
-            self.new.callbacks }
-        ensures bounds { SameBounds self.old.screen.state self.new.screen.state }
-        ensures keeps_none { self.old.screen.failed ≡ false → self.old.screen.state.shown.kept.capacity ≡ 0
-            → IsOk result }
-    {
-        if self.screen.failed {
-            return Err(ScreenError::Failed);
-        }
-        let attrs = self.screen.attrs;
-        let mut reporter = Reporter {
-            callbacks: &mut self.callbacks,
-            alternate_screen: self.screen.alternate_screen,
-        };
-        let printed = print_wide_run(&mut self.screen.grid, &mut reporter, text, attrs);
-        settle(&mut self.screen.failed, printed)?;
-        self.screen.last_char = last_of(text, self.screen.last_char);
-        Ok(())
-    }
-}
-
-/// Wide characters, one after another.
-#[inline]
-fn print_wide_run<CB: Callbacks>(
-    grid: &mut Grid,
-    reporter: &mut Reporter<'_, CB>,
-    text: &[char],
-    attrs: Attrs,
-) -> Result<(), GridError>
-    requires allocated { IsAllocated grid.old }
-    requires wide { All IsWide text.now }
-    requires room { 2 ≤ grid.old.width }
-    ensures grid { OnOk result (grid.new ≡ (printed_all grid.old text.now attrs).grid) }
-    ensures same { reporter.new.callbacks.ghost_name ≡ reporter.old.callbacks.ghost_name }
-    ensures hears { OnOk result (Hears CB.scrolls reporter.old.callbacks.now
-        (reports_of reporter.old.alternate_screen (printed_all grid.old text.now attrs).sunk)
-        reporter.new.callbacks.now) }
-    ensures told { OnErr result (HearsFront CB.scrolls reporter.old.callbacks.now
-        (reports_of reporter.old.alternate_screen (printed_all grid.old text.now attrs).sunk)
-        reporter.new.callbacks.now) }
-    ensures limits { SameLimits grid.old grid.new }
-    ensures keeps_none { grid.old.kept.capacity ≡ 0 → IsOk result }
-    ensures allocated { IsAllocated grid.new }
-{
-    grid.wide_run(text, attrs, reporter)
 }
 
 /// Takes the wide characters at the front of a text into an empty run, as many as it holds, and returns what is left.
@@ -138,15 +80,4 @@ fn is_wide(c: char) -> bool
     ensures handled { IsTrue result → IsHandled c }
 {
     c >= '\u{2E80}' && c != '\u{FFFD}' && columns(c) == Some(2)
-}
-
-/// The last of these characters, or where there are none the one before them.
-#[inline]
-fn last_of(text: &[char], last: Option<char>) -> Option<char>
-    ensures { result ≡ last_of text.now last }
-{
-    match text {
-        [.., c] => Some(*c),
-        [] => last,
-    }
 }

@@ -1,14 +1,14 @@
 //! A screen with its callbacks.
-ghost use Rattle.std.specs.Prelude.{◌≡◌, OnOk, OnErr, IfOk, IsOk, Err, All, true, false};
-ghost use Rattle.vt100_cells.specs.Cell.{IsPrintable};
-ghost use Rattle.vt100.specs.Runs.{typed_all, last_of};
-ghost use Rattle.vt100.specs.Tries.{Tries, SameBounds};
+ghost use Rattle.std.specs.Prelude.{◌≡◌, OnOk, OnErr, IfOk, Err, true, false};
+ghost use Rattle.vt100.specs.Runs.{IsRun, characters, typed_all};
+ghost use Rattle.vt100.specs.Draws.{IsDrawable, drawn_on, last_drawn};
+ghost use Rattle.vt100.specs.Tries.{MayScroll};
 ghost use Rattle.screen_model.specs.Step.{typed, repeated, line_fed, region_up, last_after};
 ghost use Rattle.vt100.specs.declared.error.ScreenError.TheVariants.{Memory};
 
 use crate::callbacks::Callbacks;
 use crate::error::ScreenError;
-use crate::screen::reported::{Reporter, line_feed, print, print_run, scroll_up};
+use crate::screen::reported::{Drawing, Reporter, Run, draw, print};
 use crate::screen::{Screen, settle};
 use vt100_core::Printed;
 
@@ -29,11 +29,7 @@ pub struct WrappedScreen<CB> {
 impl<CB: Callbacks> WrappedScreen<CB> {
     /// Prints a character at the cursor, with the drawing attributes.
     pub fn text(&mut self, c: char) -> Result<(), ScreenError>
-        ensures tries { Tries CB.scrolls (typed c) self.old.screen self.old.callbacks result self.new.screen
-            self.new.callbacks }
-        ensures bounds { SameBounds self.old.screen.state self.new.screen.state }
-        ensures keeps_none { self.old.screen.failed ≡ false → self.old.screen.state.shown.kept.capacity ≡ 0
-            → IsOk result }
+        ensures { MayScroll CB.scrolls (typed c) self.old result self.new }
     {
         if self.screen.failed {
             return Err(ScreenError::Failed);
@@ -49,14 +45,19 @@ impl<CB: Callbacks> WrappedScreen<CB> {
         Ok(())
     }
 
-    /// Prints printable ASCII as [`text`](Self::text) of each character in turn does.
-    pub(crate) fn text_run(&mut self, text: &[u8]) -> Result<(), ScreenError>
-        requires { All IsPrintable text.now }
-        ensures tries { Tries CB.scrolls (typed_all text.now) self.old.screen self.old.callbacks result self.new.screen
-            self.new.callbacks }
-        ensures bounds { SameBounds self.old.screen.state self.new.screen.state }
-        ensures keeps_none { self.old.screen.failed ≡ false → self.old.screen.state.shown.kept.capacity ≡ 0
-            → IsOk result }
+    /// Prints the characters of a run as [`text`](Self::text) of each in turn does.
+    pub(crate) fn run(&mut self, run: Run<'_>) -> Result<(), ScreenError>
+        requires { IsRun self.old.screen.state.shown.width run }
+        ensures { MayScroll CB.scrolls (typed_all (characters run.entry)) self.old result self.new }
+    {
+        prove!(self.screen.size().1.get() > 0);
+        self.draw(Drawing::Characters(run))
+    }
+
+    /// Draws on the shown sheet, and tells the callbacks of the rows that leave it.
+    fn draw(&mut self, drawing: Drawing<'_>) -> Result<(), ScreenError>
+        requires { IsDrawable self.old.screen.state.shown.width drawing }
+        ensures { MayScroll CB.scrolls (drawn_on drawing.entry) self.old result self.new }
     {
         if self.screen.failed {
             return Err(ScreenError::Failed);
@@ -66,81 +67,43 @@ impl<CB: Callbacks> WrappedScreen<CB> {
             callbacks: &mut self.callbacks,
             alternate_screen: self.screen.alternate_screen,
         };
-        let printed = print_run(&mut self.screen.grid, &mut reporter, text, attrs);
-        settle(&mut self.screen.failed, printed)?;
-        self.screen.last_char = last_of(text, self.screen.last_char);
+        let drawn = draw(&mut self.screen.grid, &mut reporter, drawing, attrs);
+        settle(&mut self.screen.failed, drawn)?;
+        self.screen.last_char = last_drawn(drawing, self.screen.last_char);
         Ok(())
     }
 
     /// Moves the cursor a row down, where the scroll region moves up at its last row (LF).
     pub fn lf(&mut self) -> Result<(), ScreenError>
-        ensures tries { Tries CB.scrolls line_fed self.old.screen self.old.callbacks result self.new.screen
-            self.new.callbacks }
-        ensures bounds { SameBounds self.old.screen.state self.new.screen.state }
-        ensures keeps_none { self.old.screen.failed ≡ false → self.old.screen.state.shown.kept.capacity ≡ 0
-            → IsOk result }
+        ensures { MayScroll CB.scrolls line_fed self.old result self.new }
     {
-        if self.screen.failed {
-            return Err(ScreenError::Failed);
-        }
-        let mut reporter = Reporter {
-            callbacks: &mut self.callbacks,
-            alternate_screen: self.screen.alternate_screen,
-        };
-        let fed = line_feed(&mut self.screen.grid, &mut reporter);
-        settle(&mut self.screen.failed, fed)?;
-        Ok(())
+        self.draw(Drawing::LineFeed)
     }
 
     /// Moves the cursor down one row, as [`lf`](Self::lf) does (VT).
     pub fn vt(&mut self) -> Result<(), ScreenError>
-        ensures tries { Tries CB.scrolls line_fed self.old.screen self.old.callbacks result self.new.screen
-            self.new.callbacks }
-        ensures bounds { SameBounds self.old.screen.state self.new.screen.state }
-        ensures keeps_none { self.old.screen.failed ≡ false → self.old.screen.state.shown.kept.capacity ≡ 0
-            → IsOk result }
+        ensures { MayScroll CB.scrolls line_fed self.old result self.new }
     {
         self.lf()
     }
 
     /// Moves the cursor down one row, as [`lf`](Self::lf) does (FF).
     pub fn ff(&mut self) -> Result<(), ScreenError>
-        ensures tries { Tries CB.scrolls line_fed self.old.screen self.old.callbacks result self.new.screen
-            self.new.callbacks }
-        ensures bounds { SameBounds self.old.screen.state self.new.screen.state }
-        ensures keeps_none { self.old.screen.failed ≡ false → self.old.screen.state.shown.kept.capacity ≡ 0
-            → IsOk result }
+        ensures { MayScroll CB.scrolls line_fed self.old result self.new }
     {
         self.lf()
     }
 
     /// Moves the lines of the scroll region up; blank ones come in at its bottom (SU).
     pub fn su(&mut self, count: u16) -> Result<(), ScreenError>
-        ensures tries { Tries CB.scrolls (region_up count) self.old.screen self.old.callbacks result self.new.screen
-            self.new.callbacks }
-        ensures bounds { SameBounds self.old.screen.state self.new.screen.state }
-        ensures keeps_none { self.old.screen.failed ≡ false → self.old.screen.state.shown.kept.capacity ≡ 0
-            → IsOk result }
+        ensures { MayScroll CB.scrolls (region_up count) self.old result self.new }
     {
-        if self.screen.failed {
-            return Err(ScreenError::Failed);
-        }
-        let mut reporter = Reporter {
-            callbacks: &mut self.callbacks,
-            alternate_screen: self.screen.alternate_screen,
-        };
-        let scrolled = scroll_up(&mut self.screen.grid, &mut reporter, count);
-        settle(&mut self.screen.failed, scrolled)?;
-        Ok(())
+        self.draw(Drawing::ScrollUp(count))
     }
 
     /// Prints the last character that was drawn in a cell of its own, so many times more, if there is one (REP).
     pub(crate) fn rep(&mut self, count: u16) -> Result<(), ScreenError>
-        ensures tries { Tries CB.scrolls (repeated count) self.old.screen self.old.callbacks result self.new.screen
-            self.new.callbacks }
-        ensures bounds { SameBounds self.old.screen.state self.new.screen.state }
-        ensures keeps_none { self.old.screen.failed ≡ false → self.old.screen.state.shown.kept.capacity ≡ 0
-            → IsOk result }
+        ensures { MayScroll CB.scrolls (repeated count) self.old result self.new }
     {
         if self.screen.failed {
             return Err(ScreenError::Failed);
@@ -154,14 +117,15 @@ impl<CB: Callbacks> WrappedScreen<CB> {
     }
 }
 
-/// The last of these characters, or where there are none the one before them.
+/// The last character of what is drawn, or where there is none the one before it.
 #[inline]
-fn last_of(text: &[u8], last: Option<char>) -> Option<char>
-    ensures { result ≡ last_of text.now last }
+fn last_drawn(drawing: Drawing<'_>, last: Option<char>) -> Option<char>
+    ensures { result ≡ last_drawn drawing.entry last }
 {
-    match text {
-        [.., byte] => Some(*byte as char),
-        [] => last,
+    match drawing {
+        Drawing::Characters(Run::Narrow([.., byte])) => Some(*byte as char),
+        Drawing::Characters(Run::Wide([.., c])) => Some(*c),
+        _ => last,
     }
 }
 

@@ -1,5 +1,5 @@
 //! What a screen shows, as forms for a terminal.
-ghost use Rattle.std.specs.Prelude.{◌≡◌, ◌≤◌, [], ◌++◌, length, OnOk, OnErr, IfOk, Err, string_bytes, if◌then◌else◌};
+ghost use Rattle.std.specs.Prelude.{◌≡◌, [], OnErr, IfOk, Err, string_bytes, if◌then◌else◌};
 ghost use Rattle.vt100_forms.specs.Form.{spell};
 ghost use Rattle.vt100_cells.specs.Cell.{bool_eq};
 ghost use Rattle.screen_drawing.specs.Modes.{input_mode_formatted, input_mode_diff, attributes_formatted};
@@ -8,8 +8,9 @@ ghost use Rattle.vt100_core.specs.Picture.{grid_size};
 ghost use Rattle.screen_model.specs.Shown.{shown_state};
 ghost use Rattle.vt100.specs.Writers.{contents_formatted, state_formatted, contents_diff, state_diff};
 ghost use Rattle.vt100.specs.Writers.{cursor_state_formatted, rows_formatted, rows_diff};
-ghost use Rattle.vt100.specs.WriterLaws.{IsUnscrolled, IsPlainlyShown};
-ghost use Rattle.vt100.specs.FormLists.{IsShortText, IsLocalText};
+ghost use Rattle.vt100.specs.WriterLaws.{IsUnscrolled};
+ghost use Rattle.vt100.specs.Texts.{Gives};
+ghost use Rattle.vt100.specs.Written.{Writes, GivesModes, GivesRedraw, GivesDifference};
 ghost use Rattle.vt100.specs.declared.error.ScreenError.TheVariants.{Memory};
 
 use crate::error::ScreenError;
@@ -28,12 +29,7 @@ impl Screen {
     /// [`contents_formatted`](Self::contents_formatted), and [`input_mode_formatted`](Self::input_mode_formatted)
     /// after it. Where no kept row is shown they are at most 1,024 bytes for each cell, and 1,008 more (`short`).
     pub fn state_formatted(&self) -> Result<String, ScreenError>
-        ensures text { IfOk result (λ contents. string_bytes contents ≡ spell (state_formatted self.now.state)) }
-        ensures shown { IsUnscrolled self.now.state → IfOk result (λ contents. string_bytes contents
-            ≡ spell (picture.state_formatted (grid_size self.now.state.shown) (shown_state self.now.state))) }
-        ensures short { IsUnscrolled self.now.state → IfOk result (λ contents.
-            IsShortText (grid_size self.now.state.shown) 1008 (string_bytes contents)) }
-        ensures memory { OnErr result (result ≡ Err Memory) }
+        ensures { GivesRedraw state_formatted picture.state_formatted 1008 self.now.state result }
     {
         let mut contents = String::new(self.alloc);
         self.write_contents_formatted(&mut contents)?;
@@ -50,21 +46,7 @@ impl Screen {
     /// them, empty ones and those of the first and the last column; each with its other half. Where the cursor waits at
     /// the end of a row, they may also touch the last cell of one row (`local`).
     pub fn state_diff(&self, prev: &Self) -> Result<String, ScreenError>
-        ensures text { IfOk result (λ contents. string_bytes contents
-            ≡ spell (state_diff prev.now.state self.now.state)) }
-        ensures shown { IsUnscrolled prev.now.state → IsUnscrolled self.now.state
-            → grid_size prev.now.state.shown ≡ grid_size self.now.state.shown
-            → IfOk result (λ contents. string_bytes contents ≡ spell (picture.state_diff
-            (grid_size self.now.state.shown) (shown_state prev.now.state) (shown_state self.now.state))) }
-        ensures short { IsUnscrolled prev.now.state → IsUnscrolled self.now.state
-            → grid_size prev.now.state.shown ≡ grid_size self.now.state.shown
-            → IfOk result (λ contents. IsShortText (grid_size self.now.state.shown) 1008 (string_bytes contents)) }
-        ensures local { IsUnscrolled prev.now.state → IsUnscrolled self.now.state
-            → grid_size prev.now.state.shown ≡ grid_size self.now.state.shown
-            → IsPlainlyShown (shown_state self.now.state)
-            → IfOk result (λ contents. IsLocalText (grid_size self.now.state.shown) (shown_state prev.now.state)
-            (shown_state self.now.state) (string_bytes contents)) }
-        ensures memory { OnErr result (result ≡ Err Memory) }
+        ensures { GivesDifference state_diff picture.state_diff 1008 prev.now.state self.now.state result }
     {
         let mut contents = String::new(self.alloc);
         self.write_contents_diff(&mut contents, prev)?;
@@ -77,12 +59,7 @@ impl Screen {
     /// they are shown; the cursor is that of the rows that are drawn on. Where no kept row is shown they are at most
     /// 1,024 bytes for each cell, and 512 more (`short`).
     pub fn contents_formatted(&self) -> Result<String, ScreenError>
-        ensures text { IfOk result (λ contents. string_bytes contents ≡ spell (contents_formatted self.now.state)) }
-        ensures shown { IsUnscrolled self.now.state → IfOk result (λ contents. string_bytes contents
-            ≡ spell (picture.contents_formatted (grid_size self.now.state.shown) (shown_state self.now.state))) }
-        ensures short { IsUnscrolled self.now.state → IfOk result (λ contents.
-            IsShortText (grid_size self.now.state.shown) 512 (string_bytes contents)) }
-        ensures memory { OnErr result (result ≡ Err Memory) }
+        ensures { GivesRedraw contents_formatted picture.contents_formatted 512 self.now.state result }
     {
         let mut contents = String::new(self.alloc);
         self.write_contents_formatted(&mut contents)?;
@@ -90,8 +67,7 @@ impl Screen {
     }
 
     fn write_contents_formatted(&self, contents: &mut String) -> Result<(), GridError>
-        ensures { OnOk result (string_bytes contents.new
-            ≡ string_bytes contents.old ++ spell (contents_formatted self.now.state)) }
+        ensures { Writes (contents_formatted self.now.state) contents.old result contents.new }
     {
         HideCursor::new(self.hide_cursor).write_buf(contents)?;
         let prev_attrs = self.grid.write_contents_formatted(contents)?;
@@ -119,21 +95,7 @@ impl Screen {
     /// Where neither shows a kept row they are at most 1,024 bytes for each cell, and 512 more (`short`), and touch the
     /// cells that [`state_diff`](Self::state_diff) says (`local`).
     pub fn contents_diff(&self, prev: &Self) -> Result<String, ScreenError>
-        ensures text { IfOk result (λ contents. string_bytes contents
-            ≡ spell (contents_diff prev.now.state self.now.state)) }
-        ensures shown { IsUnscrolled prev.now.state → IsUnscrolled self.now.state
-            → grid_size prev.now.state.shown ≡ grid_size self.now.state.shown
-            → IfOk result (λ contents. string_bytes contents ≡ spell (picture.contents_diff
-            (grid_size self.now.state.shown) (shown_state prev.now.state) (shown_state self.now.state))) }
-        ensures short { IsUnscrolled prev.now.state → IsUnscrolled self.now.state
-            → grid_size prev.now.state.shown ≡ grid_size self.now.state.shown
-            → IfOk result (λ contents. IsShortText (grid_size self.now.state.shown) 512 (string_bytes contents)) }
-        ensures local { IsUnscrolled prev.now.state → IsUnscrolled self.now.state
-            → grid_size prev.now.state.shown ≡ grid_size self.now.state.shown
-            → IsPlainlyShown (shown_state self.now.state)
-            → IfOk result (λ contents. IsLocalText (grid_size self.now.state.shown) (shown_state prev.now.state)
-            (shown_state self.now.state) (string_bytes contents)) }
-        ensures memory { OnErr result (result ≡ Err Memory) }
+        ensures { GivesDifference contents_diff picture.contents_diff 512 prev.now.state self.now.state result }
     {
         let mut contents = String::new(self.alloc);
         self.write_contents_diff(&mut contents, prev)?;
@@ -141,8 +103,7 @@ impl Screen {
     }
 
     fn write_contents_diff(&self, contents: &mut String, prev: &Self) -> Result<(), GridError>
-        ensures { OnOk result (string_bytes contents.new
-            ≡ string_bytes contents.old ++ spell (contents_diff prev.now.state self.now.state)) }
+        ensures { Writes (contents_diff prev.now.state self.now.state) contents.old result contents.new }
     {
         let hiding = HideCursor::new(self.hide_cursor);
         write_change(contents, prev.hide_cursor, self.hide_cursor, &hiding)?;
@@ -169,10 +130,7 @@ impl Screen {
     /// bracketed paste; and where they aren't as at first, the mouse's mode and encoding and the cursor's style. They
     /// are at most 128 bytes (`short`).
     pub fn input_mode_formatted(&self) -> Result<String, ScreenError>
-        ensures text { IfOk result (λ contents. string_bytes contents
-            ≡ spell (input_mode_formatted (shown_state self.now.state))) }
-        ensures short { IfOk result (λ contents. length (string_bytes contents) ≤ 128) }
-        ensures memory { OnErr result (result ≡ Err Memory) }
+        ensures { GivesModes (input_mode_formatted (shown_state self.now.state)) 128 result }
     {
         let mut contents = String::new(self.alloc);
         self.write_input_mode_formatted(&mut contents)?;
@@ -180,8 +138,7 @@ impl Screen {
     }
 
     fn write_input_mode_formatted(&self, contents: &mut String) -> Result<(), GridError>
-        ensures { OnOk result (string_bytes contents.new
-            ≡ string_bytes contents.old ++ spell (input_mode_formatted (shown_state self.now.state))) }
+        ensures { Writes (input_mode_formatted (shown_state self.now.state)) contents.old result contents.new }
     {
         ApplicationKeypad::new(self.application_keypad).write_buf(contents)?;
         ApplicationCursor::new(self.application_cursor).write_buf(contents)?;
@@ -199,10 +156,7 @@ impl Screen {
     /// The escape sequences that change the modes of a terminal from those of `prev` to those of the screen: at most
     /// 128 bytes (`short`).
     pub fn input_mode_diff(&self, prev: &Self) -> Result<String, ScreenError>
-        ensures text { IfOk result (λ contents. string_bytes contents
-            ≡ spell (input_mode_diff (shown_state prev.now.state) (shown_state self.now.state))) }
-        ensures short { IfOk result (λ contents. length (string_bytes contents) ≤ 128) }
-        ensures memory { OnErr result (result ≡ Err Memory) }
+        ensures { GivesModes (input_mode_diff (shown_state prev.now.state) (shown_state self.now.state)) 128 result }
     {
         let mut contents = String::new(self.alloc);
         self.write_input_mode_diff(&mut contents, prev)?;
@@ -210,8 +164,8 @@ impl Screen {
     }
 
     fn write_input_mode_diff(&self, contents: &mut String, prev: &Self) -> Result<(), GridError>
-        ensures { OnOk result (string_bytes contents.new ≡ string_bytes contents.old
-            ++ spell (input_mode_diff (shown_state prev.now.state) (shown_state self.now.state))) }
+        ensures { Writes (input_mode_diff (shown_state prev.now.state) (shown_state self.now.state)) contents.old result
+            contents.new }
     {
         let keypad = ApplicationKeypad::new(self.application_keypad);
         write_change(
@@ -241,9 +195,7 @@ impl Screen {
 
     /// The escape sequences that set the attributes with which a terminal draws, whatever they were before.
     pub fn attributes_formatted(&self) -> Result<String, ScreenError>
-        ensures text { IfOk result (λ contents. string_bytes contents
-            ≡ spell (attributes_formatted (shown_state self.now.state))) }
-        ensures memory { OnErr result (result ≡ Err Memory) }
+        ensures { Gives (spell (attributes_formatted (shown_state self.now.state))) result }
     {
         let mut contents = String::new(self.alloc);
         self.write_attributes_formatted(&mut contents)?;
@@ -251,8 +203,7 @@ impl Screen {
     }
 
     fn write_attributes_formatted(&self, contents: &mut String) -> Result<(), GridError>
-        ensures { OnOk result (string_bytes contents.new
-            ≡ string_bytes contents.old ++ spell (attributes_formatted (shown_state self.now.state))) }
+        ensures { Writes (attributes_formatted (shown_state self.now.state)) contents.old result contents.new }
     {
         ClearAttrs.write_buf(contents)?;
         self.attrs.write_escape_code_diff(contents, &Attrs::new())
@@ -274,8 +225,7 @@ impl Screen {
     }
 
     fn write_cursor_state_formatted(&self, contents: &mut String) -> Result<(), GridError>
-        ensures { OnOk result (string_bytes contents.new
-            ≡ string_bytes contents.old ++ spell (cursor_state_formatted self.now.state)) }
+        ensures { Writes (cursor_state_formatted self.now.state) contents.old result contents.new }
     {
         HideCursor::new(self.hide_cursor).write_buf(contents)?;
         self.grid
@@ -290,8 +240,7 @@ fn write_change<F: BufWrite>(
     now: bool,
     form: &F,
 ) -> Result<(), GridError>
-    ensures { OnOk result (string_bytes contents.new ≡ string_bytes contents.old
-        ++ spell (if bool_eq now prev then [] else F.forms form.now)) }
+    ensures { Writes (if bool_eq now prev then [] else F.forms form.now) contents.old result contents.new }
 {
     if now == prev {
         return Ok(());

@@ -3,10 +3,7 @@ use Rattle.std.proofs.lemmas.Bool.Decides.{nat_tests}
 use Rattle.screen_model.specs.Lookup.{lookup}
 use Rattle.screen_model.specs.Call as said
 use Rattle.screen_model.specs.Effect.{control_rows, calling, effect_or}
-use Rattle.screen_model.specs.Step.{moved_left, tabbed, at_column, line_fed}
-use Rattle.vt100_rows.proofs.TextLemmas.{on-err}
-use Rattle.vt100.proofs.EventLemmas.{does_as, does_change, does_nothing, does_steps, does_call}
-use Rattle.vt100.proofs.HearLemmas.{refused_keeps}
+use Rattle.vt100.proofs.EventLemmas.{does_as, does_change, does_nothing, does_scroll, does_call}
 use Rattle.vt100.proofs.perform.WrappedScreenPerform.execute.Goals as goal
 
 pub returns-in-7 : goal.returns-in-7
@@ -14,25 +11,22 @@ returns-in-7 g c = rw c.in-7.is (does_call said.audible_bell
     (sym c.failed.ensures ∙ c.if-failed.false) c.audible_bell.ensures)
 
 pub returns-in-8 : goal.returns-in-8
-returns-in-8 g c = rw c.in-8.is (does_change (moved_left 1) c.bs.ensures.screen c.bs.ensures.callbacks)
+returns-in-8 g c = rw c.in-8.is (does_change c.bs.ensures)
 
 pub returns-in-9 : goal.returns-in-9
-returns-in-9 g c = rw c.in-9.is (does_change tabbed c.tab.ensures.screen c.tab.ensures.callbacks)
+returns-in-9 g c = rw c.in-9.is (does_change c.tab.ensures)
 
 pub returns-in-10 : goal.returns-in-10
-returns-in-10 g c = rw c.in-10.is (does_steps line_fed _ c.lf.ensures.tries (on-err c.lf.result c.lf.ensures.bounds)
-    (refused_keeps _ _ c.lf.ensures.keeps_none))
+returns-in-10 g c = rw c.in-10.is (does_scroll c.lf.ensures)
 
 pub returns-in-11 : goal.returns-in-11
-returns-in-11 g c = rw c.in-11.is (does_steps line_fed _ c.vt.ensures.tries (on-err c.vt.result c.vt.ensures.bounds)
-    (refused_keeps _ _ c.vt.ensures.keeps_none))
+returns-in-11 g c = rw c.in-11.is (does_scroll c.vt.ensures)
 
 pub returns-in-12 : goal.returns-in-12
-returns-in-12 g c = rw c.in-12.is (does_steps line_fed _ c.ff.ensures.tries (on-err c.ff.result c.ff.ensures.bounds)
-    (refused_keeps _ _ c.ff.ensures.keeps_none))
+returns-in-12 g c = rw c.in-12.is (does_scroll c.ff.ensures)
 
 pub returns-in-13 : goal.returns-in-13
-returns-in-13 g c = rw c.in-13.is (does_change (at_column 0) c.cr.ensures.screen c.cr.ensures.callbacks)
+returns-in-13 g c = rw c.in-13.is (does_change c.cr.ensures)
 
 pub returns-in-14 : goal.returns-in-14
 returns-in-14 g c =

@@ -2,10 +2,8 @@ use Rattle.std.proofs.Common.{◌≡◌, ◌∙◌, [], ◌∷◌, Bool, true, f
 use Rattle.screen_model.specs.Call as said
 use Rattle.screen_model.specs.Effect.{is_unhandled, calling, steps}
 use Rattle.screen_model.specs.Step.{typed}
-use Rattle.vt100_rows.proofs.TextLemmas.{on-err}
 use Rattle.vt100.specs.Memory.{keeps_rows}
-use Rattle.vt100.proofs.EventLemmas.{does_as, does_call, does_steps, does_where}
-use Rattle.vt100.proofs.HearLemmas.{refused_keeps}
+use Rattle.vt100.proofs.EventLemmas.{does_as, does_call, does_scroll, does_where}
 use Rattle.vt100.proofs.perform.WrappedScreenPerform.print.Goals as goal
 
 pub returns-then-is_unhandled : goal.returns-then-is_unhandled
@@ -24,5 +22,4 @@ returns-else-is_unhandled g c =
     let is : is_unhandled ch ≡ false = sym c.is_unhandled.ensures ∙ c.if-is_unhandled.false in
     does_where (ap (λ (b : Bool). not b && keeps_rows s) (sym is)) (does_as (λ t. steps (typed ch t))
     (ap (λ (b : Bool). cond b (calling (said.unhandled_char ch ∷ []) s) (steps (typed ch s))) (sym is))
-    (does_steps (typed ch) _ c.text.ensures.tries
-    (on-err c.text.result c.text.ensures.bounds) (refused_keeps _ _ c.text.ensures.keeps_none)))
+    (does_scroll c.text.ensures))

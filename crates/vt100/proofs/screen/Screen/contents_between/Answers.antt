@@ -22,8 +22,8 @@ loop-r-preserved c =
     (c.cols-cols.ensures ∙ c.size.ensures.cols ∙ ap (λ (x : GridView). x.width) shown) c.loop-r.invariant
     c.in_ok-write_rest.ensures
 
-pub returns-clause-text : goal.returns-clause-text
-returns-clause-text c =
+pub returns : goal.returns
+returns c =
     let g = c.args.self.now.state.shown in
     let first = c.args.start_row in
     let end = c.args.end_row in
@@ -31,17 +31,21 @@ returns-clause-text c =
     let ordered : first ≤ end = c.if-end_row-start_row.false in
     let last : c.loop-r.r ≡ end =
     omega (arith, ordered, c.loop-r.auto.r-end, c.loop-r-test.false) in
-    elim c.match-visible_row-2.branch [
-      | in-Some-visible_row+in_ok-write_contents w ↦
-          let v = w.in-Some-visible_row.row.now in
-          let row = some-row g end v (ap (λ x. visible_row_at x end) (sym shown) ∙ sym w.in-Some-visible_row.ensures) in
-          rw w.contents-is (between-on g first c.args.start_col end c.args.end_col (c.loop-r.r - first)
-          w.saturating_sub.result v c.loop-r.start (string_bytes c.loop-r.contents)
-          (string_bytes w.write_contents.new.contents) ordered row.0 (ap (λ k. k - first) last) w.saturating_sub.ensures
-          row.1 c.loop-r.invariant w.in_ok-write_contents.ensures.text)
-      | in_default-visible_row w ↦
-          rw w.contents-is (between-past g first c.args.start_col end c.args.end_col (c.loop-r.r - first) end
-          c.loop-r.start (string_bytes c.loop-r.contents) ordered (omega arith)
-          (shown-none g end (ap (λ x. visible_row_at x end) (sym shown) ∙ sym w.in_default-visible_row.ensures))
-          (ap (λ k. k - first) last) c.loop-r.invariant)
-    ]
+    record {
+      text = elim c.match-visible_row-2.branch [
+        | in-Some-visible_row+in_ok-write_contents w ↦
+            let v = w.in-Some-visible_row.row.now in
+            let row = some-row g end v
+            (ap (λ x. visible_row_at x end) (sym shown) ∙ sym w.in-Some-visible_row.ensures) in
+            rw w.contents-is (between-on g first c.args.start_col end c.args.end_col (c.loop-r.r - first)
+            w.saturating_sub.result v c.loop-r.start (string_bytes c.loop-r.contents)
+            (string_bytes w.write_contents.new.contents) ordered row.0 (ap (λ k. k - first) last)
+            w.saturating_sub.ensures row.1 c.loop-r.invariant w.in_ok-write_contents.ensures.text)
+        | in_default-visible_row w ↦
+            rw w.contents-is (between-past g first c.args.start_col end c.args.end_col (c.loop-r.r - first) end
+            c.loop-r.start (string_bytes c.loop-r.contents) ordered (omega arith)
+            (shown-none g end (ap (λ x. visible_row_at x end) (sym shown) ∙ sym w.in_default-visible_row.ensures))
+            (ap (λ k. k - first) last) c.loop-r.invariant)
+      ];
+      memory = tt;
+    }

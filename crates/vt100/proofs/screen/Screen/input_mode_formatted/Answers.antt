@@ -1,9 +1,10 @@
-use Rattle.std.proofs.Common.{length, ap, arith}
+use Rattle.std.proofs.Common.{length, ap, arith, rules}
 use Rattle.screen_drawing.proofs.Lengths.{modes-length}
 use Rattle.screen_model.specs.Shown.{shown_state}
 use Rattle.vt100.proofs.screen.Screen.input_mode_formatted.Goals as goal
 
-pub returns-clause-short : goal.returns-clause-short
-returns-clause-short c =
+pub returns : goal.returns
+returns c =
     let is = rw c.new-contents.ensures.bytes at c.in_ok-write_input_mode_formatted.ensures in
-    omega (arith, ap length is, modes-length (shown_state c.args.self.now.state))
+    let short = modes-length (shown_state c.args.self.now.state) in
+    record { text = is; short = omega (arith, ap length is, short); memory = search rules }

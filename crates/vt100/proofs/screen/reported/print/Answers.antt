@@ -1,8 +1,7 @@
-use Rattle.vt100.proofs.HearLemmas.{hears_all}
+use Rattle.vt100.proofs.HearLemmas.{draws_all}
 use Rattle.vt100.proofs.screen.reported.print.Goals as goal
 
-pub returns-clause-same : goal.returns-clause-same
-returns-clause-same g c = (hears_all g.CB.Callbacks.scrolls _ _ _ c.text.ensures.sink).1
-
-pub returns-clause-hears : goal.returns-clause-hears
-returns-clause-hears g c = (hears_all g.CB.Callbacks.scrolls _ _ _ c.text.ensures.sink).0
+pub returns-clause-drawn : goal.returns-clause-drawn
+returns-clause-drawn g c =
+    let e = c.text.ensures in
+    draws_all g.CB.Callbacks.scrolls _ e.grid e.sink e.limits e.keeps_none e.allocated

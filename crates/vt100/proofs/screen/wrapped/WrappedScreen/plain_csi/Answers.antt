@@ -1,94 +1,65 @@
 use Rattle.std.proofs.Common.{◌≡◌, ◌⊎◌, ◌-◌, inl, inr, arith}
-use Rattle.screen_model.specs.Effect.{changes, count, later, number_or}
-use Rattle.screen_model.specs.Step.{cells_added, cursor_up, cursor_down, moved_right, moved_left, line_below}
-use Rattle.screen_model.specs.Step.{line_above, at_column, at_row, at_place, lines_added, lines_taken, cells_taken}
-use Rattle.screen_model.specs.Step.{region_up, region_down, cells_erased, repeated, in_region}
-use Rattle.vt100_rows.proofs.TextLemmas.{on-err}
-use Rattle.vt100.proofs.EventLemmas.{does_as, does_change, does_steps, plain_does}
-use Rattle.vt100.proofs.HearLemmas.{refused_keeps}
+use Rattle.screen_model.specs.Effect.{changes, later, number_or}
+use Rattle.screen_model.specs.Step.{in_region}
+use Rattle.vt100.proofs.EventLemmas.{does_as, does_change, does_scroll, plain_does}
 use Rattle.vt100.proofs.screen.wrapped.WrappedScreen.plain_csi.Goals as goal
 
 pub returns-in-64 : goal.returns-in-64
-returns-in-64 g c = plain_does _ c.in-64.is (does_change (cells_added (count c.args.params.now))
-    (rw c.canonicalize_params_1.ensures at c.ich.ensures.screen) c.ich.ensures.callbacks)
+returns-in-64 g c = plain_does _ c.in-64.is (does_change (rw c.canonicalize_params_1.ensures at c.ich.ensures))
 
 pub returns-in-A : goal.returns-in-A
-returns-in-A g c = plain_does _ c.in-A.is (does_change (cursor_up (count c.args.params.now))
-    (rw c.canonicalize_params_1-in-A.ensures at c.cuu.ensures.screen) c.cuu.ensures.callbacks)
+returns-in-A g c = plain_does _ c.in-A.is (does_change (rw c.canonicalize_params_1-in-A.ensures at c.cuu.ensures))
 
 pub returns-in-B : goal.returns-in-B
-returns-in-B g c = plain_does _ c.in-B.is (does_change (cursor_down (count c.args.params.now))
-    (rw c.canonicalize_params_1-in-B.ensures at c.cud.ensures.screen) c.cud.ensures.callbacks)
+returns-in-B g c = plain_does _ c.in-B.is (does_change (rw c.canonicalize_params_1-in-B.ensures at c.cud.ensures))
 
 pub returns-in-C : goal.returns-in-C
-returns-in-C g c = plain_does _ c.in-C.is (does_change (moved_right (count c.args.params.now))
-    (rw c.canonicalize_params_1-in-C.ensures at c.cuf.ensures.screen) c.cuf.ensures.callbacks)
+returns-in-C g c = plain_does _ c.in-C.is (does_change (rw c.canonicalize_params_1-in-C.ensures at c.cuf.ensures))
 
 pub returns-in-D : goal.returns-in-D
-returns-in-D g c = plain_does _ c.in-D.is (does_change (moved_left (count c.args.params.now))
-    (rw c.canonicalize_params_1-in-D.ensures at c.cub.ensures.screen) c.cub.ensures.callbacks)
+returns-in-D g c = plain_does _ c.in-D.is (does_change (rw c.canonicalize_params_1-in-D.ensures at c.cub.ensures))
 
 pub returns-in-E : goal.returns-in-E
-returns-in-E g c = plain_does _ c.in-E.is (does_change (line_below (count c.args.params.now))
-    (rw c.canonicalize_params_1-in-E.ensures at c.cnl.ensures.screen) c.cnl.ensures.callbacks)
+returns-in-E g c = plain_does _ c.in-E.is (does_change (rw c.canonicalize_params_1-in-E.ensures at c.cnl.ensures))
 
 pub returns-in-F : goal.returns-in-F
-returns-in-F g c = plain_does _ c.in-F.is (does_change (line_above (count c.args.params.now))
-    (rw c.canonicalize_params_1-in-F.ensures at c.cpl.ensures.screen) c.cpl.ensures.callbacks)
+returns-in-F g c = plain_does _ c.in-F.is (does_change (rw c.canonicalize_params_1-in-F.ensures at c.cpl.ensures))
 
 pub returns-in-G : goal.returns-in-G
-returns-in-G g c = plain_does _ c.in-G.is (does_change (at_column (count c.args.params.now - 1))
-    (rw c.canonicalize_params_1-in-G.ensures at c.cha.ensures.screen) c.cha.ensures.callbacks)
+returns-in-G g c = plain_does _ c.in-G.is (does_change (rw c.canonicalize_params_1-in-G.ensures at c.cha.ensures))
 
 pub returns-in-L : goal.returns-in-L
-returns-in-L g c = plain_does _ c.in-L.is (does_change (lines_added (count c.args.params.now))
-    (rw c.canonicalize_params_1-in-L.ensures at c.il.ensures.screen) c.il.ensures.callbacks)
+returns-in-L g c = plain_does _ c.in-L.is (does_change (rw c.canonicalize_params_1-in-L.ensures at c.il.ensures))
 
 pub returns-in-M : goal.returns-in-M
-returns-in-M g c = plain_does _ c.in-M.is (does_change (lines_taken (count c.args.params.now))
-    (rw c.canonicalize_params_1-in-M.ensures at c.dl.ensures.screen) c.dl.ensures.callbacks)
+returns-in-M g c = plain_does _ c.in-M.is (does_change (rw c.canonicalize_params_1-in-M.ensures at c.dl.ensures))
 
 pub returns-in-P : goal.returns-in-P
-returns-in-P g c = plain_does _ c.in-P.is (does_change (cells_taken (count c.args.params.now))
-    (rw c.canonicalize_params_1-in-P.ensures at c.dch.ensures.screen) c.dch.ensures.callbacks)
+returns-in-P g c = plain_does _ c.in-P.is (does_change (rw c.canonicalize_params_1-in-P.ensures at c.dch.ensures))
 
 pub returns-in-S : goal.returns-in-S
-returns-in-S g c = plain_does _ c.in-S.is (does_steps (region_up (count c.args.params.now)) _
-    (rw c.canonicalize_params_1-in-S.ensures at c.su.ensures.tries) (on-err c.su.result c.su.ensures.bounds)
-    (refused_keeps _ _ c.su.ensures.keeps_none))
+returns-in-S g c = plain_does _ c.in-S.is (does_scroll (rw c.canonicalize_params_1-in-S.ensures at c.su.ensures))
 
 pub returns-in-T : goal.returns-in-T
-returns-in-T g c = plain_does _ c.in-T.is (does_change (region_down (count c.args.params.now))
-    (rw c.canonicalize_params_1-in-T.ensures at c.sd.ensures.screen) c.sd.ensures.callbacks)
+returns-in-T g c = plain_does _ c.in-T.is (does_change (rw c.canonicalize_params_1-in-T.ensures at c.sd.ensures))
 
 pub returns-in-X : goal.returns-in-X
-returns-in-X g c = plain_does _ c.in-X.is (does_change (cells_erased (count c.args.params.now))
-    (rw c.canonicalize_params_1-in-X.ensures at c.ech.ensures.screen) c.ech.ensures.callbacks)
+returns-in-X g c = plain_does _ c.in-X.is (does_change (rw c.canonicalize_params_1-in-X.ensures at c.ech.ensures))
 
 pub returns-in-96 : goal.returns-in-96
-returns-in-96 g c = plain_does _ c.in-96.is (does_change (at_column (count c.args.params.now - 1))
-    (rw c.canonicalize_params_1-in-96.ensures at c.hpa.ensures.screen) c.hpa.ensures.callbacks)
+returns-in-96 g c = plain_does _ c.in-96.is (does_change (rw c.canonicalize_params_1-in-96.ensures at c.hpa.ensures))
 
 pub returns-in-b : goal.returns-in-b
-returns-in-b g c = plain_does _ c.in-b.is (does_steps (repeated (count c.args.params.now)) _
-    (rw c.canonicalize_params_1-in-b.ensures at c.rep.ensures.tries) (on-err c.rep.result c.rep.ensures.bounds)
-    (refused_keeps _ _ c.rep.ensures.keeps_none))
+returns-in-b g c = plain_does _ c.in-b.is (does_scroll (rw c.canonicalize_params_1-in-b.ensures at c.rep.ensures))
 
 pub returns-in-d : goal.returns-in-d
-returns-in-d g c = plain_does _ c.in-d.is (does_change (at_row (count c.args.params.now - 1))
-    (rw c.canonicalize_params_1-in-d.ensures at c.vpa.ensures.screen) c.vpa.ensures.callbacks)
+returns-in-d g c = plain_does _ c.in-d.is (does_change (rw c.canonicalize_params_1-in-d.ensures at c.vpa.ensures))
 
 pub returns-in-H : goal.returns-in-H
 returns-in-H g c =
-    let gs = c.args.params.now in
-    let one = rw c.canonicalize_params_2.ensures.first at c.cup.ensures.screen in
-    let two = rw c.canonicalize_params_2.ensures.second at one in
+    let made = rw c.canonicalize_params_2.ensures.second at (rw c.canonicalize_params_2.ensures.first at c.cup.ensures) in
     let is : (c.args.action ≡ 72) ⊎ (c.args.action ≡ 102) = grind arith in
-    let place = at_place (count gs - 1) (count (later gs) - 1) in
-    elim is [
-      | inl e ↦ plain_does _ e (does_change place two c.cup.ensures.callbacks)
-      | inr e ↦ plain_does _ e (does_change place two c.cup.ensures.callbacks)
-    ]
+    elim is [ inl e ↦ plain_does _ e (does_change made) | inr e ↦ plain_does _ e (does_change made) ]
 
 pub returns-in-r : goal.returns-in-r
 returns-in-r g c =
@@ -98,5 +69,4 @@ returns-in-r g c =
     let top : r.0 ≡ number_or 1 gs = c.canonicalize_params_2-in-r.ensures.first in
     let bottom : r.1 ≡ number_or s.shown.height (later gs) = grind arith in
     plain_does _ c.in-r.is (does_as (λ t. changes (in_region (r.0 - 1) (r.1 - 1) t))
-    (λ i. changes (in_region (top i - 1) (bottom i - 1) s)) (does_change (in_region (r.0 - 1) (r.1 - 1))
-    c.decstbm.ensures.screen c.decstbm.ensures.callbacks))
+    (λ i. changes (in_region (top i - 1) (bottom i - 1) s)) (does_change c.decstbm.ensures))

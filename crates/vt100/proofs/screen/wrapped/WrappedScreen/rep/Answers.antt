@@ -1,44 +1,29 @@
-use Rattle.std.proofs.Common.{◌≡◌, ◌∙◌, false, Some, Err, ap, arith, rules}
-use Rattle.std.proofs.lemmas.Bool.{false≢true}
-use Rattle.screen_model.specs.Call.{ScreenView}
-use Rattle.vt100.proofs.LimitsLemmas.{bounds_trans, capacity_times}
-use Rattle.vt100.proofs.RepeatLemmas.{typed_more, repeated_tries, repeated_refused}
+use Rattle.std.proofs.Common.{◌≡◌, Option, Some, Err, add-one, ap, sym, arith, rules, ℕ}
+use Rattle.screen_model.specs.Step.{repeated, repeated_last}
+use Rattle.vt100.proofs.HearLemmas.{scroll_as}
+use Rattle.vt100.proofs.RepeatLemmas.{scroll_none, scroll_more, scroll_stops}
 use Rattle.vt100.proofs.screen.wrapped.WrappedScreen.rep.Goals as goal
 
+pub loop-i-init : goal.loop-i-init
+loop-i-init g c = scroll_none g.CB.Callbacks.scrolls c.in-Some.c _ (search rules)
+
 pub loop-i-preserved : goal.loop-i-preserved
-loop-i-preserved g c =
-    let both = typed_more g.CB.Callbacks.scrolls c.loop-i._i c.in-Some.c c.args.self.now.screen.state _ _ _ _ _
-    c.loop-i.invariant.screen c.loop-i.invariant.hears c.in_ok-text.ensures.tries.screen
-    c.in_ok-text.ensures.tries.hears in
-    record {
-      screen = both.0;
-      hears = both.1;
-      bounds = bounds_trans _ _ _ c.loop-i.invariant.bounds c.text.ensures.bounds;
-    }
+loop-i-preserved g c = rw add-one
+    (scroll_more g.CB.Callbacks.scrolls c.loop-i._i c.in-Some.c c.loop-i.invariant c.in_ok-text.ensures)
 
-pub returns-in_err-text-clause-tries : goal.returns-in_err-text-clause-tries
-returns-in_err-text-clause-tries g c =
+pub returns-in_err-text : goal.returns-in_err-text
+returns-in_err-text g c =
     let is : c.from_residual.result ≡ Err c.in_err-text.field-0.0 = search rules in
-    let live : c.args.self.now.screen.failed ≡ false = search rules in
     let last : c.args.self.now.screen.state.last ≡ Some c.in-Some.c = search rules in
-    rw is (repeated_refused g.CB.Callbacks.scrolls c.args.count c.loop-i._i c.in-Some.c _ _ _ _ _ _ _ live
-    c.loop-i-test.true last c.loop-i.invariant.screen c.loop-i.invariant.hears c.in_err-text.ensures.tries)
+    rw is (scroll_as g.CB.Callbacks.scrolls (repeated c.args.count)
+    (ap (λ (o : Option ℕ). repeated_last o c.args.count c.args.self.now.screen.state) (sym last))
+    (scroll_stops g.CB.Callbacks.scrolls c.args.count c.loop-i._i c.in-Some.c c.loop-i-test.true c.loop-i.invariant
+    c.in_err-text.ensures))
 
-pub returns-in_err-text-clause-keeps_none : goal.returns-in_err-text-clause-keeps_none
-returns-in_err-text-clause-keeps_none g c live none =
-    let v = c.loop-i.self.screen in
-    let lives : v.failed ≡ false = ap (λ (x : ScreenView). x.failed) c.loop-i.invariant.screen in
-    let same = ap (λ (x : ScreenView). x.state.shown.kept.capacity) c.loop-i.invariant.screen
-    ∙ capacity_times c.loop-i._i c.in-Some.c c.args.self.now.screen.state in
-    absurd (false≢true (c.in_err-text.ensures.keeps_none lives (same ∙ none)))
-
-pub returns-after-loop-i-clause-tries : goal.returns-after-loop-i-clause-tries
-returns-after-loop-i-clause-tries g c =
+pub returns-after-loop-i : goal.returns-after-loop-i
+returns-after-loop-i g c =
     let n : c.loop-i._i ≡ c.args.count = omega arith in
-    let live : c.args.self.now.screen.failed ≡ false = search rules in
     let last : c.args.self.now.screen.state.last ≡ Some c.in-Some.c = search rules in
-    repeated_tries g.CB.Callbacks.scrolls c.args.count c.in-Some.c _ _ _ _ live last
-    (rw (← n) c.loop-i.invariant.screen) (rw (← n) c.loop-i.invariant.hears)
-
-pub returns-in_err-text-clause-bounds : goal.returns-in_err-text-clause-bounds
-returns-in_err-text-clause-bounds g c = bounds_trans _ _ _ c.loop-i.invariant.bounds c.text.ensures.bounds
+    scroll_as g.CB.Callbacks.scrolls (repeated c.args.count)
+    (ap (λ (o : Option ℕ). repeated_last o c.args.count c.args.self.now.screen.state) (sym last))
+    (rw n at c.loop-i.invariant)

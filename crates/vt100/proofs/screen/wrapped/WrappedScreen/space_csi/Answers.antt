@@ -11,5 +11,5 @@ returns-in-q g c =
     does_as (λ t. partly (styled (number_or 0 gs) t) k)
     (ap (λ (a : ℕ). cond (nat_eq a 113) (partly (styled (number_or 0 gs) s) k)
     (calling (csi_call [] gs c.args.action ∷ []) s)) (sym c.in-q.is))
-    (does_counts (styled (number_or 0 gs)) _ c.requires
+    (does_counts _ c.requires
     (rw c.canonicalize_params_1.ensures at c.decscusr-unhandled.ensures) c.unhandled_groups.ensures)
