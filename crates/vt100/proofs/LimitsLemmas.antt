@@ -1,16 +1,12 @@
 -- Sheets keep their sizes, and how many rows they keep at most.
-use Rattle.std.proofs.Common.{◌≡◌, ◌∙◌, ◌==◌, ◌&&◌, ◌+◌, ℕ, zero, suc, Bool, Option, true, false, not, cond, refl, sym, ap, ◌-◌}
-use Rattle.std.proofs.Common.{nat_le, nat_lt, [], arith}
+use Rattle.std.proofs.Common.{◌≡◌, ◌∙◌, ℕ, zero, suc, Bool, Option, true, false, cond, refl, sym, ap, nat_lt, arith}
 use Rattle.std.proofs.lemmas.Bool.{cond_both}
 use Rattle.vt100_forms.specs.declared.attrs.Attrs.{Attrs}
 use Rattle.vt100_cells.specs.Cell.{columns_of}
 use Rattle.terminal_model.specs.Apply.{is_dropped}
-use Rattle.vt100_rows.specs.Row.{wiped_row, is_widening, with_wrap}
-use Rattle.vt100_rows.specs.Sheet.{row_at}
-use Rattle.vt100_core.specs.Grid.{GridView, SameLimits, is_in_region, with_row, with_cursor_row, row_of_cursor}
-use Rattle.vt100_core.specs.Cursor.{moved_rows_down}
-use Rattle.vt100_core.specs.Scroll.{Scrolled, scrolled_up, fed, rows_past_bottom, wrapped_on, left_row, made_to_fit}
-use Rattle.vt100_core.specs.Text.{PrintedGrid, printed, joined, carried}
+use Rattle.vt100_core.specs.Grid.{GridView, SameLimits}
+use Rattle.vt100_core.specs.Scroll.{scrolled_up, fed, wrapped_on, made_to_fit}
+use Rattle.vt100_core.specs.Text.{PrintedGrid, printed, joined}
 use Rattle.screen_model.specs.State.{State, main_sheet, alternate_sheet}
 use Rattle.screen_model.specs.Step.{typed, typed_times}
 use Rattle.vt100.specs.Memory.{keeps_rows}

@@ -1,7 +1,7 @@
 -- A screen of which a sheet, or both, have changed.
 use Rattle.std.proofs.Common.{◌≡◌, ◌∙◌, ◌==◌, ℕ, Bool, Option, true, false, not, length, replicate, refl, sym, ap}
 use Rattle.std.proofs.Common.{Result, Ok, Err, OnOk, OnErr}
-use Rattle.std.specs.Prelude.{IsErr, IfOk}
+use Rattle.std.specs.Prelude.{IfOk}
 use Rattle.std.proofs.lemmas.Bool.{both_ways, cond_both, false≢true}
 use Rattle.vt100_forms.specs.Attrs.{default_attrs, IsProper}
 use Rattle.vt100_forms.specs.declared.attrs.Attrs.{Attrs}
@@ -13,7 +13,7 @@ use Rattle.vt100_core.specs.Resize.{resized}
 use Rattle.screen_model.specs.State.{IsProperSheet}
 use Rattle.vt100_forms.proofs.AttrsLemmas.{default-proper}
 use Rattle.screen_model.proofs.ProperSheets.{proper_new, proper_resized, proper_allocated, proper_scrollback_shown}
-use Rattle.screen_model.proofs.ProperSheets.{proper_printed, proper_printed_all, proper_fed, proper_scrolled_up}
+use Rattle.screen_model.proofs.ProperSheets.{proper_printed_all, proper_fed, proper_scrolled_up}
 use Rattle.screen_model.proofs.ProperSheets.{proper_cells_inserted, proper_cells_deleted, proper_columns_erased}
 use Rattle.screen_model.proofs.ProperSheets.{proper_row_erased, proper_all_erased, proper_all_erased_forward}
 use Rattle.screen_model.proofs.ProperSheets.{proper_all_erased_backward, proper_lines_inserted, proper_lines_deleted}
@@ -60,8 +60,10 @@ proper_drawn (Characters run) g a h p = proper_printed_all g (characters run) a 
 proper_drawn LineFeed g a h p = proper_fed g 1 p
 proper_drawn (ScrollUp n) g a h p = proper_scrolled_up g n p
 
--- what keeps it
-pub ruleset drawn_rules = (drawn_screen, proper_printed, proper_cells_inserted, proper_cells_deleted, proper_columns_erased, proper_row_erased, proper_all_erased, proper_all_erased_forward, proper_all_erased_backward, proper_lines_inserted, proper_lines_deleted, proper_scrolled_down)
+-- what the calls that draw on it keep
+pub ruleset drawn_rules = (drawn_screen, proper_cells_inserted, proper_cells_deleted, proper_columns_erased,
+    proper_row_erased, proper_all_erased, proper_all_erased_forward, proper_all_erased_backward, proper_lines_inserted,
+    proper_lines_deleted, proper_scrolled_down)
 
 -- ---- another size
 

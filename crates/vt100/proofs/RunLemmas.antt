@@ -18,7 +18,7 @@ use Rattle.vt100_forms.specs.declared.attrs.Attrs.{Attrs}
 use Rattle.vt100_rows.specs.Row.{RowView}
 use Rattle.vt100_rows.specs.Sink.{TakesAll}
 use Rattle.vt100_core.specs.Grid.{GridView, IsAllocated, SameLimits}
-use Rattle.vt100_core.specs.Text.{PrintedGrid, IsWide, printed, spaced, printed_all, TakesFront}
+use Rattle.vt100_core.specs.Text.{PrintedGrid, printed, spaced, printed_all, TakesFront}
 use Rattle.vt100_core.specs.declared.printed.Printed.{Printed}
 use Rattle.vt100_core.proofs.TextLemmas.{IsMade-made, printed-spaced}
 use Rattle.screen_model.specs.State.{State}
@@ -158,7 +158,8 @@ module _ {C : Type 0} (scrolls : C → RowView → Bool → C → Type 0) where
           reports front.sunk,
           reports rest.sunk,
           ap (λ (ys : List ℕ). reports (printed_all g ys a).sunk) begun.2
-              ∙ ap reports (sunk-append g begun.0 begun.1 a) ∙ sym (reports-append s.alternate_screen front.sunk rest.sunk),
+              ∙ ap reports (sunk-append g begun.0 begun.1 a)
+              ∙ sym (reports-append s.alternate_screen front.sunk rest.sunk),
           heard.0,
         );
         limits = limits;

@@ -45,8 +45,8 @@ abbrev pub scrolled_of : PrintedGrid → Scrolled
 scrolled_of d = record { grid = d.grid; sunk = d.sunk }
 
 -- A call that makes x of a sheet g, which is then h, and tells the callbacks of a reporter s, which is then t, of the
--- rows that leave. It finds no memory only where rows are kept; then what h shows is open, but its bounds are those of g,
--- and the callbacks were told of the first of the rows alone.
+-- rows that leave. It finds no memory only where rows are kept; then what h shows is open, but not its bounds, and the
+-- callbacks were told of the first of the rows alone.
 pub record Draws {C A E : Type 0} (scrolls : C → RowView → Bool → C → Type 0) (x : Scrolled) (g : GridView)
     (s : Reporter C) (result : Result A E) (h : GridView) (t : Reporter C) : Type 0 where
   pub grid : OnOk result (h ≡ x.grid)

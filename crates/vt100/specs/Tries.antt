@@ -18,7 +18,7 @@ alive s = record { state = s; failed = false }
 abbrev pub unless_failed : (State → State) → ScreenView → ScreenView
 unless_failed f v = if v.failed then v else alive (f v.state)
 
--- A call that can't be refused: f changes the state, unless the screen has failed, and the callbacks are told of nothing.
+-- A call that can't be refused: f changes the state, unless the screen has failed. The callbacks are told of nothing.
 pub record Changes {C : Type 0} (f : State → State) (old new : WrappedScreen C) : Type 0 where
   pub screen : new.screen ≡ unless_failed f old.screen
   pub callbacks : new.callbacks ≡ old.callbacks
@@ -52,16 +52,16 @@ pub record Tries {C A : Type 0} (scrolls : C → RowView → Bool → C → Type
   pub refused : result ≡ Err Failed → v.failed ≡ true
   pub dead : v.failed ≡ true → (result ≡ Err Failed) × (w ≡ v) × (d ≡ c)
 
--- A call that does f, by which rows may leave a sheet: the sheets keep their sizes, and memory is refused only where rows
--- are kept.
+-- A call that does f, by which rows may leave a sheet: the sheets keep their sizes, and memory is refused only where
+-- rows are kept.
 pub record MayScroll {C : Type 0} (scrolls : C → RowView → Bool → C → Type 0) (f : State → Stepped)
     (old : WrappedScreen C) (result : Result (Unit {0}) ScreenError) (new : WrappedScreen C) : Type 0 where
   pub tries : Tries scrolls f old.screen old.callbacks result new.screen new.callbacks
   pub bounds : SameBounds old.screen.state new.screen.state
   pub keeps_none : old.screen.failed ≡ false → old.screen.state.shown.kept.capacity ≡ 0 → IsOk result
 
--- A call that gives a screen and its sheets another size, as f does. A refused one says where it has stopped, and the same
--- size isn't refused.
+-- A call that gives a screen and its sheets another size, as f does. A refused one says where it has stopped, and the
+-- same size isn't refused.
 pub record Resizes {C : Type 0} (scrolls : C → RowView → Bool → C → Type 0) (f : State → Stepped) (rows cols : ℕ)
     (v : ScreenView) (c : C) (result : Result (Unit {0}) ScreenError) (w : ScreenView) (d : C) : Type 0 where
   pub tries : Tries scrolls f v c result w d

@@ -21,6 +21,7 @@ impl<CB: Callbacks> WrappedScreen<CB> {
     }
 
     /// Takes cells out at the cursor; default ones follow at the row's end (DCH).
+    #[tactic(auto, using(crate::proofs::ProperScreens::drawn_rules))]
     pub fn dch(&mut self, count: u16)
         ensures { Changes (cells_taken count) self.old self.new }
     {
@@ -41,6 +42,7 @@ impl<CB: Callbacks> WrappedScreen<CB> {
     }
 
     /// Inserts blank lines at the cursor's row, if it is in the scroll region (IL).
+    #[tactic(auto, using(crate::proofs::ProperScreens::drawn_rules))]
     pub fn il(&mut self, count: u16)
         ensures { Changes (lines_added count) self.old self.new }
     {
@@ -50,6 +52,7 @@ impl<CB: Callbacks> WrappedScreen<CB> {
     }
 
     /// Takes lines out at the cursor's row, if it is in the scroll region; blank ones follow at its end (DL).
+    #[tactic(auto, using(crate::proofs::ProperScreens::drawn_rules))]
     pub fn dl(&mut self, count: u16)
         ensures { Changes (lines_taken count) self.old self.new }
     {
@@ -59,6 +62,7 @@ impl<CB: Callbacks> WrappedScreen<CB> {
     }
 
     /// Moves the lines of the scroll region down; blank ones come in at its top (SD).
+    #[tactic(auto, using(crate::proofs::ProperScreens::drawn_rules))]
     pub fn sd(&mut self, count: u16)
         ensures { Changes (region_down count) self.old self.new }
     {
@@ -70,6 +74,7 @@ impl<CB: Callbacks> WrappedScreen<CB> {
     /// Empties the screen from the cursor on (0), up to the cursor and at it (1), or whole (2), with the drawing
     /// attributes; or takes the kept rows away, of which the callbacks are told (3) (ED). Answers how many sequences
     /// were unhandled: 1 at another number.
+    #[tactic(auto, using(crate::proofs::ProperScreens::drawn_rules))]
     pub fn ed(&mut self, mode: u16) -> usize
         ensures { Counts CB.scrolls (display_erased mode) self.old.screen self.old.callbacks result self.new.screen
             self.new.callbacks }
@@ -105,6 +110,7 @@ impl<CB: Callbacks> WrappedScreen<CB> {
 
     /// Empties the cursor's row from the cursor on (0), up to the cursor and at it (1), or whole (2), with the drawing
     /// attributes (EL). Answers how many sequences were unhandled: 1 at another number.
+    #[tactic(auto, using(crate::proofs::ProperScreens::drawn_rules))]
     pub fn el(&mut self, mode: u16) -> usize
         ensures { Counts CB.scrolls (line_erased mode) self.old.screen self.old.callbacks result self.new.screen
             self.new.callbacks }

@@ -57,7 +57,8 @@ returns-in-d g c = plain_does _ c.in-d.is (does_change (rw c.canonicalize_params
 
 pub returns-in-H : goal.returns-in-H
 returns-in-H g c =
-    let made = rw c.canonicalize_params_2.ensures.second at (rw c.canonicalize_params_2.ensures.first at c.cup.ensures) in
+    let n = c.canonicalize_params_2.ensures in
+    let made = rw n.second at (rw n.first at c.cup.ensures) in
     let is : (c.args.action ≡ 72) ⊎ (c.args.action ≡ 102) = grind arith in
     elim is [ inl e ↦ plain_does _ e (does_change made) | inr e ↦ plain_does _ e (does_change made) ]
 
