@@ -14,24 +14,25 @@ use Rattle.vt100.specs.declared.screen.reported.Reporter.{Reporter}
 use Rattle.vt100.specs.Runs.{IsRun, characters, last_of}
 use Rattle.vt100.specs.Tries.{HearsFront}
 
--- on a sheet of w columns
+-- a sheet of w columns has room for what is drawn
 abbrev pub IsDrawable : ℕ → Drawing → Type 0
 IsDrawable w (Characters run) = IsRun w run
 IsDrawable w LineFeed = Unit {0}
 IsDrawable w (ScrollUp n) = Unit {0}
 
--- the sheet with it, and the rows that leave
+-- what becomes of a sheet, drawn on with these attributes, and the rows that leave it
 abbrev pub drawn : Drawing → GridView → Attrs → Scrolled
 drawn (Characters run) g a = printed_all g (characters run) a
 drawn LineFeed g a = fed g 1
 drawn (ScrollUp n) g a = scrolled_up g n
 
--- the last character that was drawn
+-- the last character that was drawn, where there was one before
 abbrev pub last_drawn : Drawing → Option ℕ → Option ℕ
 last_drawn (Characters run) last = last_of (characters run) last
 last_drawn LineFeed last = last
 last_drawn (ScrollUp n) last = last
 
+-- the same of the shown sheet
 abbrev pub drawn_on : Drawing → State → Stepped
 drawn_on d s =
     let x = drawn d s.shown s.attrs in
@@ -40,7 +41,7 @@ drawn_on d s =
       reports = reports_of s.alternate x.sunk;
     }
 
--- one character
+-- the same of one character
 abbrev pub scrolled_of : PrintedGrid → Scrolled
 scrolled_of d = record { grid = d.grid; sunk = d.sunk }
 

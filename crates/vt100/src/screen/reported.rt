@@ -65,6 +65,7 @@ pub(super) enum Drawing<'a> {
     ScrollUp(u16),
 }
 
+/// Draws on a sheet, and gives the reporter the rows that leave it.
 #[inline]
 pub(super) fn draw<CB: Callbacks>(
     grid: &mut Grid,
