@@ -12,3 +12,4 @@ pub mod ScalarEvents
 pub mod UnscrolledEvents
 pub mod MadeLemmas
 pub mod ShownLemmas
+pub mod OnLiterals

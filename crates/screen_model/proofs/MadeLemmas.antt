@@ -153,3 +153,14 @@ keeps-at_same_size s i =
       state = record s { shown = (shown j).grid; other = (other j).grid; updating = false };
       reports = reports j;
     }
+
+pub ruleset held = (
+  makes-states,
+  makes-last_size,
+  makes-capacity,
+  makes-no_offset,
+  makes-cells,
+  makes-proper_cells,
+  makes-byte_colors,
+  keeps-at_same_size,
+)

@@ -175,3 +175,5 @@ alike-show_the_same s t i j a =
       modes = a.modes k;
       style = a.style k;
     }
+
+pub ruleset told = (each-cell_is_told, each-wrap_is_told, each-character_is_told, alike-show_the_same)

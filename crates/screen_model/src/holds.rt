@@ -2,6 +2,8 @@
 //! contract of a function that does nothing.
 //!
 //! Sizes are from 1 to 65,535, and fewer than 2^64 rows are kept, as the types of the calls say.
+#![tactic(auto, using(crate::proofs::MadeLemmas::held, crate::proofs::ShownLemmas::told))]
+
 ghost use Rattle.screen_model.specs.Holds.{MakesStates, MakesLastSize, MakesCapacity, MakesNoOffset, MakesCells};
 ghost use Rattle.screen_model.specs.Holds.{MakesProperCells, MakesByteColors, KeepsAtSameSize};
 ghost use Rattle.screen_model.specs.Shown.{EachCellIsTold, EachWrapIsTold, AlikeShowTheSame, EachCharacterIsTold};

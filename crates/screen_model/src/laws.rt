@@ -1,4 +1,6 @@
 //! Worked examples of the definitions, each the contract of a function that does nothing.
+#![tactic(auto, unfolding(crate::proofs::OnLiterals::on_literals))]
+
 ghost use Rattle.std.specs.Prelude.{◌≡◌, ◌++◌, ◌∷◌, [], codes, length, Some, None, true, false};
 ghost use Rattle.vt100_forms.specs.declared.attrs.Color.TheVariants.{Idx};
 ghost use Rattle.vt100_forms.specs.declared.modes.CursorStyle.TheVariants as style;

