@@ -8,7 +8,6 @@ use Rattle.std.proofs.lemmas.List.{length-map}
 use Rattle.std.proofs.Common.{length-drop}
 use Rattle.std.proofs.lemmas.List.Elements.{All-drop, All-take}
 use Rattle.std.proofs.lemmas.List.Elements.{All-from_get_or}
-use Rattle.vt100_forms.specs.declared.attrs.Attrs.{Attrs}
 use Rattle.vt100_rows.specs.Row.{RowView, IsRow, blank_row, trimmed}
 use Rattle.vt100_rows.proofs.TrimLemmas.{IsRow-trimmed}
 use Rattle.vt100_rows.specs.Sheet.{IsSheet, rows_by_position, moved_up}
@@ -16,10 +15,7 @@ use Rattle.vt100_rows.proofs.SheetLemmas.{length-rows_by_position}
 use Rattle.vt100_rows.proofs.MoveLemmas.{IsSheet-moved_up}
 use Rattle.vt100_core.specs.Grid.{KeptPart, IsKept, IsShownWide, GridView, IsGrid, IsAllocated, new_grid}
 use Rattle.vt100_core.specs.Grid.{scrollback_of, with_row, with_rows, is_in_region}
-use Rattle.vt100_core.specs.Cursor.{cursor_at, with_origin, cursor_saved, cursor_restored, with_region, moved_rows_down}
-use Rattle.vt100_core.specs.Cursor.{moved_rows_up}
-use Rattle.vt100_core.specs.Erase.{all_erased, all_erased_forward, all_erased_backward, row_erased, columns_erased}
-use Rattle.vt100_core.specs.Erase.{cells_inserted, cells_deleted}
+use Rattle.vt100_core.specs.Cursor.{cursor_at, with_origin, with_region, moved_rows_down, moved_rows_up}
 use Rattle.vt100_core.specs.Lines.{lines_opened, lines_inserted, lines_deleted, scrolled_down, rows_past_top, fed_up}
 use Rattle.vt100_core.specs.Scroll.{Scrolled, widened, overflow, kept_after, up_count, left_rows, is_kept_from}
 use Rattle.vt100_core.specs.Scroll.{scrolled_up, rows_past_bottom, fed}
@@ -28,9 +24,6 @@ use Rattle.vt100_core.proofs.GridLemmas.{IsGrid-lines_opened}
 use Rattle.vt100_core.proofs.GridLemmas.{IsGrid-moved_up, IsGrid-scrolled}
 use Rattle.vt100_core.proofs.KeepLemmas.{IsShownWide-none}
 use Rattle.vt100_core.proofs.StayLemmas.{widened-none}
-use Rattle.vt100_core.proofs.EraseLemmas.{IsGrid-row_erased, IsGrid-columns_erased, IsGrid-cells_inserted}
-use Rattle.vt100_core.proofs.EraseLemmas.{IsGrid-cells_deleted, IsGrid-all_erased, IsGrid-all_erased_forward}
-use Rattle.vt100_core.proofs.EraseLemmas.{IsGrid-all_erased_backward}
 use Rattle.screen_model.proofs.SheetTraits.{kept-all}
 
 -- a sheet's size, and how many rows it keeps, if any
@@ -51,6 +44,27 @@ pub record HasLimits (l : Limits) (rows cols : ℕ) (some : Bool) (most shown : 
 -- it has this size, keeps so many rows, and shows none of them
 abbrev pub IsUnscrolledSheet : Limits → GridView → Type 0
 IsUnscrolledSheet l g = HasLimits l g.height g.width g.kept.keeps g.kept.capacity g.kept.offset
+
+abbrev pub sized : Limits → ℕ → ℕ → Limits
+sized l height width = record l { height = height; width = width }
+
+-- as many rows are kept on a screen of another size, and none of them is shown
+pub sized-limits : (l : Limits) (g : GridView) (height width rows cols offset : ℕ) → IsUnscrolledSheet l g
+    → rows ≡ height → cols ≡ width → offset ≡ 0
+    → HasLimits (sized l height width) rows cols g.kept.keeps g.kept.capacity offset
+sized-limits l g height width rows cols offset few h w hidden = record {
+  height = h;
+  width = w;
+  keeps = few.keeps;
+  capacity = few.capacity;
+  few = few.few;
+  hidden = hidden;
+}
+
+pub hidden-limits : (l : Limits) (g : GridView) (offset : ℕ) → IsUnscrolledSheet l g → offset ≡ 0
+    → HasLimits l g.height g.width g.kept.keeps g.kept.capacity offset
+hidden-limits l g offset few =
+    sized-limits l g l.height l.width g.height g.width offset few few.height few.width
 
 pub record IsFineSheet (l : Limits) (g : GridView) : Type 0 where
   pub limits : IsUnscrolledSheet l g
@@ -73,7 +87,7 @@ rows-drawn l g rows d i n = record {
   some = omega (arith, n, d.some);
 }
 
-positions-drawn : (l : Limits) (g : GridView) (f : ℕ → RowView) → IsShownSheet l g → IsGrid (with_rows g f)
+pub positions-drawn : (l : Limits) (g : GridView) (f : ℕ → RowView) → IsShownSheet l g → IsGrid (with_rows g f)
     → IsShownSheet l (with_rows g f)
 positions-drawn l g f d i =
     rows-drawn l g (rows_by_position (length g.rows) f) d i (length-rows_by_position (length g.rows) f)
@@ -82,31 +96,7 @@ pub row-drawn : (l : Limits) (g : GridView) (r : ℕ) (v : RowView) → IsShownS
     → IsShownSheet l (with_row g r v)
 row-drawn l g r v d i = rows-drawn l g (set g.rows r v) d i (length-set g.rows r v)
 
--- ---- erasing, and cells and lines that come in and go
-
-pub drawn-all_erased : (l : Limits) (g : GridView) (a : Attrs) → IsShownSheet l g → IsShownSheet l (all_erased g a)
-drawn-all_erased l g a d = positions-drawn l g _ d (IsGrid-all_erased g a d.fine.grid d.some)
-
-pub drawn-all_erased_forward : (l : Limits) (g : GridView) (a : Attrs) → IsShownSheet l g
-    → IsShownSheet l (all_erased_forward g a)
-drawn-all_erased_forward l g a d = positions-drawn l g _ d (IsGrid-all_erased_forward g a d.fine.grid d.some)
-
-pub drawn-all_erased_backward : (l : Limits) (g : GridView) (a : Attrs) → IsShownSheet l g
-    → IsShownSheet l (all_erased_backward g a)
-drawn-all_erased_backward l g a d = positions-drawn l g _ d (IsGrid-all_erased_backward g a d.fine.grid d.some)
-
-pub drawn-row_erased : (l : Limits) (g : GridView) (a : Attrs) → IsShownSheet l g → IsShownSheet l (row_erased g a)
-drawn-row_erased l g a d = row-drawn l g g.row _ d (IsGrid-row_erased g a d.fine.grid d.some)
-
-pub drawn-columns_erased : (l : Limits) (g : GridView) (s e : ℕ) (a : Attrs) → e ≤ g.width → IsShownSheet l g
-    → IsShownSheet l (columns_erased g s e a)
-drawn-columns_erased l g s e a h d = row-drawn l g g.row _ d (IsGrid-columns_erased g s e a d.fine.grid d.some h)
-
-pub drawn-cells_inserted : (l : Limits) (g : GridView) (n : ℕ) → IsShownSheet l g → IsShownSheet l (cells_inserted g n)
-drawn-cells_inserted l g n d = row-drawn l g g.row _ d (IsGrid-cells_inserted g n d.fine.grid d.some)
-
-pub drawn-cells_deleted : (l : Limits) (g : GridView) (n : ℕ) → IsShownSheet l g → IsShownSheet l (cells_deleted g n)
-drawn-cells_deleted l g n d = row-drawn l g g.row _ d (IsGrid-cells_deleted g n d.fine.grid d.some)
+-- ---- lines that come in and go
 
 drawn-lines_opened : (l : Limits) (g : GridView) (first n : ℕ) → IsShownSheet l g → IsShownSheet l (lines_opened g first n)
 drawn-lines_opened l g first n d = positions-drawn l g _ d (IsGrid-lines_opened g first n d.fine.grid d.some)
@@ -173,7 +163,7 @@ region-drawn l g h d row col saved_row saved_col region region_end region_lines 
     }
 
 -- the region stays
-cursors-drawn : (l : Limits) (g h : GridView) → IsShownSheet l g → h.row < g.height → h.col ≤ g.width
+pub cursors-drawn : (l : Limits) (g h : GridView) → IsShownSheet l g → h.row < g.height → h.col ≤ g.width
     → h.saved_row < g.height → h.saved_col ≤ g.width
     → IsShownSheet l (record g {
       row = h.row;
@@ -214,16 +204,6 @@ drawn-origin l g mode d =
     let i = d.fine.grid in
     drawn-cursor_at l (record g { origin = mode }) 0 0
     (cursors-drawn l g (record g { origin = mode }) d i.cursor_row i.cursor_col i.saved_row i.saved_col)
-
-pub drawn-saved : (l : Limits) (g : GridView) → IsShownSheet l g → IsShownSheet l (cursor_saved g)
-drawn-saved l g d =
-    let i = d.fine.grid in
-    cursors-drawn l g (cursor_saved g) d i.cursor_row i.cursor_col i.cursor_row i.cursor_col
-
-pub drawn-restored : (l : Limits) (g : GridView) → IsShownSheet l g → IsShownSheet l (cursor_restored g)
-drawn-restored l g d =
-    let i = d.fine.grid in
-    cursors-drawn l g (cursor_restored g) d i.saved_row i.saved_col i.saved_row i.saved_col
 
 pub drawn-region : (l : Limits) (g : GridView) (top bottom : ℕ) → IsShownSheet l g → IsShownSheet l (with_region g top bottom)
 drawn-region l g top bottom d =
@@ -319,14 +299,7 @@ drawn-scrolled_up l g n d =
     (widened-none k g.height g.width narrow))
     (record {
       fine = record {
-        limits = record {
-          height = few.height;
-          width = few.width;
-          keeps = few.keeps;
-          capacity = few.capacity;
-          few = few.few;
-          hidden = off;
-        };
+        limits = hidden-limits l g k.offset few off;
         grid = IsGrid-scrolled g rows k i d.some m
             (IsSheet-moved_up g.height g.width g.rows g.top (g.bottom + 1) (up_count g n) i.sheet i.some_rows i.few_cols
             (region_rows g i d.some)) valid narrow;

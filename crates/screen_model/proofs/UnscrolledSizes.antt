@@ -10,20 +10,20 @@ use Rattle.vt100_rows.specs.Row.{RowView, blank_row, resized_row}
 use Rattle.vt100_rows.specs.Sheet.{row_at}
 use Rattle.vt100_rows.proofs.SheetLemmas.{length-rows_by_position, IsSheet-blank, IsSheet-none}
 use Rattle.vt100_core.specs.Grid.{KeptPart, IsKept, GridView, IsAllocated, new_grid, keeps_of, capacity_of}
-use Rattle.vt100_core.specs.Grid.{allocated, cleared}
+use Rattle.vt100_core.specs.Grid.{scrollback_of, allocated, cleared}
 use Rattle.vt100_core.specs.declared.scrollback.Scrollback.{Scrollback}
 use Rattle.vt100_core.specs.declared.scrollback.Scrollback.TheVariants.{Disabled, Enabled}
 use Rattle.vt100_core.specs.Scroll.{Scrolled, scrolled_up, up_count, scrollback_erased, scrollback_shown}
 use Rattle.vt100_core.specs.Resize.{whole_screen, up_rows, shortened, with_width, lengthened}
 use Rattle.vt100_core.specs.Resize.{resized}
-use Rattle.vt100_core.proofs.GridLemmas.{IsNew-of, new-again, no-rows}
+use Rattle.vt100_core.proofs.GridLemmas.{IsNew-of}
 use Rattle.vt100_core.proofs.KeepLemmas.{IsShownWide-none}
 use Rattle.vt100_core.proofs.StayLemmas.{widened-none, scrolls-none}
 use Rattle.vt100_core.proofs.ResizeLemmas.{IsGrid-whole_screen, IsGrid-shortened, IsGrid-with_width, some-shortened}
 use Rattle.vt100_core.proofs.ResizeLemmas.{some-lengthened}
 use Rattle.vt100_core.proofs.LengthenLemmas.{IsGrid-lengthened}
-use Rattle.screen_model.proofs.UnscrolledSheets.{Limits, HasLimits, IsUnscrolledSheet, IsFineSheet, IsShownSheet}
-use Rattle.screen_model.proofs.UnscrolledSheets.{IsGrid-as, drawn-scrolled_up}
+use Rattle.screen_model.proofs.UnscrolledSheets.{Limits, IsFineSheet, IsShownSheet, sized, sized-limits}
+use Rattle.screen_model.proofs.UnscrolledSheets.{hidden-limits, IsGrid-as, drawn-scrolled_up}
 
 -- ---- a new sheet
 
@@ -43,6 +43,11 @@ new-kept s k keeps capacity rows offset off =
       none = λ e. (nothing-kept s k.keeps k.capacity keeps capacity e, off);
       bounded = omega (arith, off);
     }
+
+same-new : (height width : ℕ) (s : Scrollback)
+    → new_grid height width s ≡ new_grid height width (scrollback_of (new_grid height width s).kept)
+same-new height width Disabled = refl
+same-new height width (Enabled c) = refl
 
 pub new-fine : (height width : ℕ) (s : Scrollback) → 0 < height → height < 2 ^ 16 → 0 < width → width < 2 ^ 16
     → capacity_of s < 2 ^ 64
@@ -67,20 +72,7 @@ new-fine height width s some_rows few_rows some_cols few_cols few =
         region_lines = λ e. omega (arith, some_rows, e);
         kept = kept;
         shown = IsShownWide-none g.kept height width refl;
-        fresh = λ z. new-again g kept (record {
-          rows = refl;
-          row = refl;
-          col = refl;
-          saved_row = refl;
-          saved_col = refl;
-          origin = refl;
-          saved_origin = refl;
-          top = refl;
-          bottom = refl;
-          kept_rows = refl;
-          offset = refl;
-          scrolled_off = refl;
-        });
+        fresh = λ z. same-new height width s;
       };
       limits = record { height = refl; width = refl; keeps = refl; capacity = refl; few = few; hidden = refl };
     }
@@ -117,20 +109,7 @@ fine-cleared l g d =
       grid = IsGrid-as g (cleared g) i
           (IsSheet-blank g.height g.width (length g.rows) i.sheet.count i.few_cols) i.some_rows (omega arith) i.some_rows
           (omega arith) (omega arith) (omega (arith, i.some_rows)) (λ e. omega (arith, i.some_rows, e)) i.kept i.shown
-          (λ z. let m = IsNew-of g i (sym n ∙ z) in new-again (cleared g) i.kept (record {
-            rows = no-rows (cleared g).rows z;
-            row = refl;
-            col = refl;
-            saved_row = refl;
-            saved_col = refl;
-            origin = refl;
-            saved_origin = refl;
-            top = refl;
-            bottom = refl;
-            kept_rows = m.kept_rows;
-            offset = m.offset;
-            scrolled_off = m.scrolled_off;
-          }));
+          (λ z. ap cleared (i.fresh (sym n ∙ z)));
       limits = d.limits;
     }
 
@@ -154,7 +133,6 @@ none-shown g e =
 pub drawn-none_kept : (l : Limits) (g : GridView) → IsShownSheet l g → IsShownSheet l (scrollback_erased g)
 drawn-none_kept l g d =
     let i = d.fine.grid in
-    let few = d.fine.limits in
     let k : KeptPart = record (g.kept) { rows = []; offset = 0; scrolled_off = 0 } in
     let kept : IsKept k = record {
       each = λ j h. absurd (omega arith);
@@ -169,68 +147,34 @@ drawn-none_kept l g d =
         grid = IsGrid-as g (record g { kept = k }) i i.sheet i.cursor_row i.cursor_col i.saved_row i.saved_col i.region
             i.region_end i.region_lines kept (IsShownWide-none k g.height g.width refl)
             (λ z. absurd (omega (arith, z, d.some)));
-        limits = record {
-          height = few.height;
-          width = few.width;
-          keeps = few.keeps;
-          capacity = few.capacity;
-          few = few.few;
-          hidden = refl;
-        };
+        limits = hidden-limits l g 0 d.fine.limits refl;
       };
       some = d.some;
     }
 
 -- ---- another size
 
-abbrev sized : Limits → ℕ → ℕ → Limits
-sized l height width = record l { height = height; width = width }
-
 whole-fine : (l : Limits) (g : GridView) → IsFineSheet l g → IsFineSheet l (whole_screen g)
-whole-fine l g d =
-    let few = d.limits in
-    record {
-      limits = record {
-        height = few.height;
-        width = few.width;
-        keeps = few.keeps;
-        capacity = few.capacity;
-        few = few.few;
-        hidden = refl;
-      };
-      grid = IsGrid-whole_screen g d.grid;
-    }
-
--- as many rows are kept, on a screen of another size
-sized-limits : (l : Limits) (g : GridView) (height width rows cols : ℕ) → IsUnscrolledSheet l g → rows ≡ height
-    → cols ≡ width → HasLimits (sized l height width) rows cols g.kept.keeps g.kept.capacity g.kept.offset
-sized-limits l g height width rows cols few h w = record {
-  height = h;
-  width = w;
-  keeps = few.keeps;
-  capacity = few.capacity;
-  few = few.few;
-  hidden = few.hidden;
-}
+whole-fine l g d = record { limits = hidden-limits l g 0 d.limits refl; grid = IsGrid-whole_screen g d.grid }
 
 width-fine : (l : Limits) (g : GridView) (width : ℕ) → IsFineSheet l g → 0 < width → width < 2 ^ 16
     → IsFineSheet (sized l l.height width) (with_width g width)
 width-fine l g width d some small = record {
-  limits = sized-limits l g l.height width g.height width d.limits d.limits.height refl;
+  limits = sized-limits l g l.height width g.height width g.kept.offset d.limits d.limits.height refl d.limits.hidden;
   grid = IsGrid-with_width g width d.grid some small d.limits.hidden;
 }
 
 shorter-fine : (l : Limits) (g : GridView) (up height : ℕ) → IsFineSheet l g → 0 < height → height < g.height
     → g.row - up < height → g.top ≡ 0 → IsFineSheet (sized l height l.width) (shortened g up height)
 shorter-fine l g up height d some lower above top = record {
-  limits = sized-limits l g height l.width height g.width d.limits refl d.limits.width;
+  limits = sized-limits l g height l.width height g.width g.kept.offset d.limits refl d.limits.width d.limits.hidden;
   grid = IsGrid-shortened g up height d.grid some lower above top d.limits.hidden;
 }
 
 longer-fine : (l : Limits) (g : GridView) (height : ℕ) → IsFineSheet l g → g.height ≤ height → height < 2 ^ 16
     → g.top ≡ 0 → IsFineSheet (sized l height l.width) (lengthened g height)
 longer-fine l g height d higher small top = record {
-  limits = sized-limits l g height l.width height g.width d.limits refl d.limits.width;
+  limits = sized-limits l g height l.width height g.width g.kept.offset d.limits refl d.limits.width d.limits.hidden;
   grid = IsGrid-lengthened g height d.grid higher small top d.limits.hidden;
 }
 
@@ -286,7 +230,7 @@ pub fine-resized : (l : Limits) (g : GridView) (height width : ℕ) → IsFineSh
 fine-resized l g height width d some_rows few_rows some_cols few_cols =
     resized-either (IsFineSheet (sized l height width)) g height width
     (λ h w. record {
-      limits = sized-limits l g height width g.height g.width d.limits (sym h) (sym w);
+      limits = sized-limits l g height width g.height g.width g.kept.offset d.limits (sym h) (sym w) d.limits.hidden;
       grid = d.grid;
     })
     (λ e. lower-fine l g height width d some_rows e some_cols few_cols)

@@ -6,15 +6,19 @@ use Rattle.std.proofs.lemmas.Bool.{cond_both, false≢true}
 use Rattle.vt100_forms.specs.Attrs.{IsProper}
 use Rattle.vt100_forms.proofs.AttrsLemmas.{default-proper}
 use Rattle.vt100_forms.specs.declared.attrs.Attrs.{Attrs}
-use Rattle.vt100_core.specs.Grid.{GridView, IsAllocated, new_grid, allocated, cleared}
+use Rattle.vt100_rows.specs.Row.{RowView}
+use Rattle.vt100_core.specs.Grid.{GridView, IsGrid, IsAllocated, new_grid, allocated, cleared, with_cursor_row}
+use Rattle.vt100_core.specs.Grid.{with_rows}
 use Rattle.vt100_core.specs.declared.scrollback.Scrollback.TheVariants.{Disabled, Enabled}
 use Rattle.vt100_core.specs.declared.printed.Printed.{Printed}
 use Rattle.vt100_core.specs.declared.printed.Printed.TheVariants.{Spacing}
-use Rattle.vt100_core.specs.Cursor.{tab_stop}
+use Rattle.vt100_core.specs.Cursor.{tab_stop, cursor_saved, cursor_restored}
 use Rattle.vt100_core.specs.Scroll.{scrollback_shown}
 use Rattle.vt100_core.specs.Erase.{columns_erased}
 use Rattle.vt100_core.specs.Text.{printed}
-use Rattle.vt100_core.proofs.EraseLemmas.{columns_to_cursor-fit}
+use Rattle.vt100_core.proofs.EraseLemmas.{IsGrid-row_erased, IsGrid-columns_erased, IsGrid-cells_inserted}
+use Rattle.vt100_core.proofs.EraseLemmas.{IsGrid-cells_deleted, IsGrid-all_erased, IsGrid-all_erased_forward}
+use Rattle.vt100_core.proofs.EraseLemmas.{IsGrid-all_erased_backward, columns_to_cursor-fit}
 use Rattle.screen_model.specs.State.{State, IsState, main_sheet, alternate_sheet, fresh_state}
 use Rattle.screen_model.specs.Step.{Stepped, with_shown, last_after, typed, typed_times}
 use Rattle.screen_model.specs.Step.{repeated_last, repeated, moved_left, moved_right, tabbed, at_column, at_row}
@@ -33,12 +37,10 @@ use Rattle.screen_model.proofs.SheetTraits.{sheet-scrolled_up, sheet-fed, sheet-
 use Rattle.screen_model.proofs.SheetTraits.{sheet-scrollback_erased, sheet-printed, sheet-new, sheet-allocated}
 use Rattle.screen_model.proofs.SheetTraits.{sheet-cleared, sheet-resized}
 use Rattle.screen_model.proofs.UnscrolledSheets.{Limits, IsUnscrolledSheet, IsFineSheet, IsShownSheet}
-use Rattle.screen_model.proofs.UnscrolledSheets.{drawn-col, drawn-row, drawn-cursor_at}
-use Rattle.screen_model.proofs.UnscrolledSheets.{drawn-origin, drawn-saved, drawn-restored, drawn-region, drawn-down, drawn-up}
-use Rattle.screen_model.proofs.UnscrolledSheets.{drawn-fed_up, drawn-fed, drawn-scrolled_up, drawn-all_erased}
-use Rattle.screen_model.proofs.UnscrolledSheets.{drawn-all_erased_forward, drawn-all_erased_backward, drawn-row_erased}
-use Rattle.screen_model.proofs.UnscrolledSheets.{drawn-columns_erased, drawn-cells_inserted, drawn-cells_deleted}
-use Rattle.screen_model.proofs.UnscrolledSheets.{drawn-lines_inserted, drawn-lines_deleted, drawn-scrolled_down}
+use Rattle.screen_model.proofs.UnscrolledSheets.{row-drawn, positions-drawn, cursors-drawn, drawn-col, drawn-row}
+use Rattle.screen_model.proofs.UnscrolledSheets.{drawn-cursor_at, drawn-origin, drawn-region, drawn-down, drawn-up}
+use Rattle.screen_model.proofs.UnscrolledSheets.{drawn-fed_up, drawn-fed, drawn-scrolled_up, drawn-lines_inserted}
+use Rattle.screen_model.proofs.UnscrolledSheets.{drawn-lines_deleted, drawn-scrolled_down}
 use Rattle.screen_model.proofs.UnscrolledTexts.{drawn-printed}
 use Rattle.screen_model.proofs.UnscrolledSizes.{new-fine, drawn-allocated, fine-cleared, drawn-cleared, none-shown}
 use Rattle.screen_model.proofs.UnscrolledSizes.{drawn-none_kept, fine-resized, some-resized}
@@ -116,6 +118,15 @@ well-with b s g attrs saved last w shown clean drawn = record {
 well-shown : (b : Bounds) (s : State) (g : GridView) → IsUnscrolledState b s → IsShownSheet (limits b s.alternate) g
     → IsCleanSheet sound g → IsUnscrolledState b (with_shown s g)
 well-shown b s g w shown clean = well-with b s g s.attrs s.saved_attrs s.last w shown clean w.drawn
+
+-- the row of the cursor becomes this one, or every row one by its place
+well-row : (b : Bounds) (s : State) (v : RowView) → IsUnscrolledState b s → IsGrid (with_cursor_row s.shown v)
+    → IsCleanSheet sound (with_cursor_row s.shown v) → IsUnscrolledState b (with_shown s (with_cursor_row s.shown v))
+well-row b s v w grid clean = well-shown b s _ w (row-drawn _ s.shown s.shown.row v w.shown grid) clean
+
+well-rows : (b : Bounds) (s : State) (f : ℕ → RowView) → IsUnscrolledState b s → IsGrid (with_rows s.shown f)
+    → IsCleanSheet sound (with_rows s.shown f) → IsUnscrolledState b (with_shown s (with_rows s.shown f))
+well-rows b s f w grid clean = well-shown b s _ w (positions-drawn _ s.shown f w.shown grid) clean
 
 abbrev pub Keeps : (State → State) → Type 0
 Keeps f = (b : Bounds) (s : State) → IsUnscrolledState b s → IsUnscrolledState b (f s)
@@ -202,28 +213,32 @@ well-in_region top bottom b s w =
 
 pub well-saved : Keeps saved
 well-saved b s w =
-    well-with b s _ _ _ _ w (drawn-saved _ s.shown w.shown) w.clean
+    let i = w.shown.fine.grid in
+    well-with b s _ _ _ _ w
+    (cursors-drawn _ s.shown (cursor_saved s.shown) w.shown i.cursor_row i.cursor_col i.cursor_row i.cursor_col) w.clean
     (record { attrs = w.drawn.attrs; saved_attrs = w.drawn.attrs; last = w.drawn.last })
 
 pub well-restored : Keeps restored
 well-restored b s w =
-    well-with b s _ _ _ _ w (drawn-restored _ s.shown w.shown) w.clean
+    let i = w.shown.fine.grid in
+    well-with b s _ _ _ _ w
+    (cursors-drawn _ s.shown (cursor_restored s.shown) w.shown i.saved_row i.saved_col i.saved_row i.saved_col) w.clean
     (record { attrs = w.drawn.saved_attrs; saved_attrs = w.drawn.saved_attrs; last = w.drawn.last })
 
 -- ---- erasing, and cells and lines that come in and go
 
 pub well-erased_below : Keeps erased_below
 well-erased_below b s w =
-    well-shown b s _ w (drawn-all_erased_forward _ s.shown s.attrs w.shown)
+    well-rows b s _ w (IsGrid-all_erased_forward s.shown s.attrs w.shown.fine.grid w.shown.some)
     (sheet-all_erased_forward sound s.shown s.attrs w.drawn.attrs w.clean)
 
 pub well-erased_above : Keeps erased_above
 well-erased_above b s w =
-    well-shown b s _ w (drawn-all_erased_backward _ s.shown s.attrs w.shown)
+    well-rows b s _ w (IsGrid-all_erased_backward s.shown s.attrs w.shown.fine.grid w.shown.some)
     (sheet-all_erased_backward sound s.shown s.attrs w.drawn.attrs w.clean)
 
 pub well-erased_all : Keeps erased_all
-well-erased_all b s w = well-shown b s _ w (drawn-all_erased _ s.shown s.attrs w.shown)
+well-erased_all b s w = well-rows b s _ w (IsGrid-all_erased s.shown s.attrs w.shown.fine.grid w.shown.some)
     (sheet-all_erased sound s.shown s.attrs w.drawn.attrs w.clean)
 
 pub well-erased_kept : KeepsStepped erased_kept
@@ -233,7 +248,7 @@ well-erased_kept b s w = well-shown b s _ w (drawn-none_kept _ s.shown w.shown)
 well-columns_erased : (from to : ℕ) (b : Bounds) (s : State) → to ≤ s.shown.width → IsUnscrolledState b s
     → IsUnscrolledState b (with_shown s (columns_erased s.shown from to s.attrs))
 well-columns_erased from to b s h w =
-    well-shown b s _ w (drawn-columns_erased _ s.shown from to s.attrs h w.shown)
+    well-row b s _ w (IsGrid-columns_erased s.shown from to s.attrs w.shown.fine.grid w.shown.some h)
     (sheet-columns_erased sound s.shown from to s.attrs w.drawn.attrs w.clean)
 
 pub well-erased_right : Keeps erased_right
@@ -243,18 +258,18 @@ pub well-erased_left : Keeps erased_left
 well-erased_left b s w = well-columns_erased 0 _ b s (columns_to_cursor-fit s.shown w.shown.fine.grid) w
 
 pub well-erased_row : Keeps erased_row
-well-erased_row b s w = well-shown b s _ w (drawn-row_erased _ s.shown s.attrs w.shown)
+well-erased_row b s w = well-row b s _ w (IsGrid-row_erased s.shown s.attrs w.shown.fine.grid w.shown.some)
     (sheet-row_erased sound s.shown s.attrs w.drawn.attrs w.clean)
 
 pub well-cells_erased : (n : ℕ) → Keeps (cells_erased n)
 well-cells_erased n b s w = well-columns_erased s.shown.col (min (s.shown.col + n) s.shown.width) b s (omega arith) w
 
 pub well-cells_added : (n : ℕ) → Keeps (cells_added n)
-well-cells_added n b s w = well-shown b s _ w (drawn-cells_inserted _ s.shown n w.shown)
+well-cells_added n b s w = well-row b s _ w (IsGrid-cells_inserted s.shown n w.shown.fine.grid w.shown.some)
     (sheet-cells_inserted sound s.shown n w.clean)
 
 pub well-cells_taken : (n : ℕ) → Keeps (cells_taken n)
-well-cells_taken n b s w = well-shown b s _ w (drawn-cells_deleted _ s.shown n w.shown)
+well-cells_taken n b s w = well-row b s _ w (IsGrid-cells_deleted s.shown n w.shown.fine.grid w.shown.some)
     (sheet-cells_deleted sound s.shown n w.clean)
 
 pub well-lines_added : (n : ℕ) → Keeps (lines_added n)
