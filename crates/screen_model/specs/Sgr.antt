@@ -1,6 +1,6 @@
 -- What the groups of an SGR sequence do to the drawing attributes (ECMA-48 8.3.117; colours by ITU-T T.416).
-use Rattle.std.specs.Prelude.{ℕ, ◌+◌, ◌-◌, ◌&&◌, Bool, true, false, List, [], ◌∷◌, Option, Some, None, nat_eq, nat_lt}
-use Rattle.std.specs.Prelude.{if◌then◌else◌}
+use Rattle.std.specs.Prelude.{ℕ, zero, suc, ◌+◌, ◌-◌, Bool, true, false, List, [], ◌∷◌, get_or, Option, Some, None}
+use Rattle.std.specs.Prelude.{option_map, nat_eq, nat_lt, if◌then◌else◌}
 use Rattle.std.specs.Int.{is_in_range}
 use Rattle.vt100_forms.specs.Attrs.{default_attrs, with_bold, with_dim, with_normal_intensity, with_italic}
 use Rattle.vt100_forms.specs.Attrs.{with_underline, with_inverse}
@@ -32,79 +32,72 @@ code_row n =
     else if is_in_range 100 107 n then Some (colored false (Idx (n - 92)))
     else lookup n flag_rows
 
+-- ---- colours
+
+-- a colour's values are below 256
+abbrev pub value : ℕ → Option ℕ
+value n = if nat_lt n 256 then Some n else None
+
+-- the value of a group that has no other number
+abbrev pub alone : List ℕ → Option ℕ
+alone (n ∷ []) = value n
+alone ns = None
+
+-- that of the group at k
+abbrev pub value_at : List (List ℕ) → ℕ → Option ℕ
+value_at gs k = alone (get_or gs k [])
+
+abbrev pub rgb : Option ℕ → Option ℕ → Option ℕ → Option Color
+rgb (Some r) (Some g) (Some b) = Some (Rgb r g b)
+rgb r g b = None
+
+-- ---- what the groups at the front of a list ask for
+
+pub data Asks : Type 0 where
+  -- a change, told by the first group and so many after it
+  change : (Attrs → Attrs) → ℕ → Asks
+  -- the first group is unhandled, and the next one is read as ever
+  passed_over : Asks
+  -- the list ends: a value is missing, past 255, or in a group with others
+  ends : Asks
+  -- the same, and a group is unhandled: the kind is neither 2 nor 5
+  ends_unhandled : Asks
+
+abbrev pub color_change : Bool → Option Color → ℕ → Asks
+color_change t None k = ends
+color_change t (Some x) k = change (colored t x) k
+
+-- a colour in groups of their own after 38 or 48: 2, red, green and blue, or 5 and an index
+abbrev pub separate_color : Bool → List (List ℕ) → Asks
+separate_color t [] = ends
+separate_color t ((n ∷ []) ∷ gs) =
+    if nat_eq n 2 then color_change t (rgb (value_at gs 0) (value_at gs 1) (value_at gs 2)) 4
+    else if nat_eq n 5 then color_change t (option_map Idx (value_at gs 0)) 2
+    else ends_unhandled
+separate_color t (g ∷ gs) = ends_unhandled
+
+-- the same in one group with 38 or 48
+abbrev pub group_color : Bool → List ℕ → Asks
+group_color t (n ∷ i ∷ []) = if nat_eq n 5 then color_change t (option_map Idx (value i)) 0 else passed_over
+group_color t (n ∷ r ∷ g ∷ b ∷ []) =
+    if nat_eq n 2 then color_change t (rgb (value r) (value g) (value b)) 0 else passed_over
+group_color t ns = passed_over
+
+abbrev pub row_asks : Option (Attrs → Attrs) → Asks
+row_asks None = passed_over
+row_asks (Some f) = change f 0
+
 -- 38 begins a foreground colour, 48 a background
-abbrev pub target_of : ℕ → Option Bool
-target_of n = lookup n ((38, true) ∷ (48, false) ∷ [])
-
--- ---- reading on from group to group
-
--- what a colour in groups of its own still waits for: which kind it is, an index, red, green after red, blue after both
-pub data Awaits : Type 0 where
-  nothing : Awaits
-  kind : Bool → Awaits
-  index : Bool → Awaits
-  red : Bool → Awaits
-  green : Bool → ℕ → Awaits
-  blue : Bool → ℕ → ℕ → Awaits
-
--- what a group leads to
-pub data Next : Type 0 where
-  goes_on : Awaits → Attrs → Next
-  -- it is unhandled, and the next one is read as ever
-  passed_over : Next
-  -- the list ends: a value is past 255, or in a group with others
-  ends : Next
-  -- the same, and the group is unhandled: the kind is neither 2 nor 5
-  ends_unhandled : Next
-
--- a colour where its values are below 256
-abbrev pub rgb_next : Bool → ℕ → ℕ → ℕ → Attrs → Next
-rgb_next t r g b a = if nat_lt r 256 && (nat_lt g 256 && nat_lt b 256) then goes_on nothing (colored t (Rgb r g b) a)
-    else ends
-
-abbrev pub index_next : Bool → ℕ → Attrs → Next
-index_next t i a = if nat_lt i 256 then goes_on nothing (colored t (Idx i) a) else ends
-
--- the numbers of a group after 38 or 48: 2 and three values, 5 and one
-abbrev pub color_next : Bool → List ℕ → Attrs → Next
-color_next t (m ∷ i ∷ []) a = if nat_eq m 5 then index_next t i a else passed_over
-color_next t (m ∷ r ∷ g ∷ b ∷ []) a = if nat_eq m 2 then rgb_next t r g b a else passed_over
-color_next t ns a = passed_over
-
-abbrev pub target_next : Option Bool → List ℕ → Attrs → Next
-target_next None ns a = passed_over
-target_next (Some t) ns a = color_next t ns a
-
-abbrev pub code_next : Option (Attrs → Attrs) → Attrs → Next
-code_next None a = passed_over
-code_next (Some f) a = goes_on nothing (f a)
-
-abbrev pub single_next : Option Bool → ℕ → Attrs → Next
-single_next None n a = code_next (code_row n) a
-single_next (Some t) n a = goes_on (kind t) a
-
-abbrev pub first_next : List ℕ → Attrs → Next
-first_next [] a = passed_over
-first_next (n ∷ []) a = single_next (target_of n) n a
-first_next (n ∷ m ∷ ns) a = target_next (target_of n) (m ∷ ns) a
-
-abbrev pub kind_next : Bool → List ℕ → Attrs → Next
-kind_next t (n ∷ []) a = if nat_eq n 2 then goes_on (red t) a
-    else (if nat_eq n 5 then goes_on (index t) a else ends_unhandled)
-kind_next t ns a = ends_unhandled
-
--- a value that stands alone and is below 256
-abbrev pub value_next : (ℕ → Next) → List ℕ → Next
-value_next f (n ∷ []) = if nat_lt n 256 then f n else ends
-value_next f ns = ends
-
-abbrev pub next : Awaits → List ℕ → Attrs → Next
-next nothing g a = first_next g a
-next (kind t) g a = kind_next t g a
-next (index t) g a = value_next (λ i. goes_on nothing (colored t (Idx i) a)) g
-next (red t) g a = value_next (λ r. goes_on (green t r) a) g
-next (green t r) g a = value_next (λ gr. goes_on (blue t r gr) a) g
-next (blue t r gr) g a = value_next (λ b. goes_on nothing (colored t (Rgb r gr b) a)) g
+abbrev pub asks : List ℕ → List (List ℕ) → Asks
+asks [] gs = passed_over
+asks (n ∷ []) gs =
+    if nat_eq n 38 then separate_color true gs
+    else if nat_eq n 48 then separate_color false gs
+    else row_asks (code_row n)
+asks (n ∷ ns) gs =
+    if nat_eq n 38 then group_color true ns
+    else if nat_eq n 48 then group_color false ns
+    else passed_over
 
 -- ---- all groups
 
@@ -116,17 +109,19 @@ pub record Read : Type 0 where
 abbrev pub one_more : Read → Read
 one_more x = record { attrs = x.attrs; unhandled = x.unhandled + 1 }
 
-abbrev pub read_on : (Awaits → Attrs → Read) → Attrs → Next → Read
-read_on rest a (goes_on w b) = rest w b
-read_on rest a passed_over = one_more (rest nothing a)
+abbrev pub read_on : (ℕ → Attrs → Read) → Attrs → Asks → Read
+read_on rest a (change f k) = rest k (f a)
+read_on rest a passed_over = one_more (rest 0 a)
 read_on rest a ends = record { attrs = a; unhandled = 0 }
 read_on rest a ends_unhandled = record { attrs = a; unhandled = 1 }
 
-abbrev pub read_groups : List (List ℕ) → Awaits → Attrs → Read
-read_groups [] w a = record { attrs = a; unhandled = 0 }
-read_groups (g ∷ gs) w a = read_on (read_groups gs) a (next w g a)
+-- these groups, of which the first k belong to a colour that is read
+abbrev pub read_groups : List (List ℕ) → ℕ → Attrs → Read
+read_groups [] k a = record { attrs = a; unhandled = 0 }
+read_groups (g ∷ gs) (suc k) a = read_groups gs k a
+read_groups (g ∷ gs) zero a = read_on (read_groups gs) a (asks g gs)
 
 -- without any group the attributes are the default ones
 abbrev pub sgr_read : List (List ℕ) → Attrs → Read
 sgr_read [] a = record { attrs = default_attrs; unhandled = 0 }
-sgr_read (g ∷ gs) a = read_groups (g ∷ gs) nothing a
+sgr_read (g ∷ gs) a = read_groups (g ∷ gs) 0 a

@@ -1,10 +1,8 @@
 -- What the reading of an SGR sequence leads to, group by group.
-use Rattle.std.specs.Prelude.{ℕ, Bool, true, false, ◌&&◌, List, [], ◌∷◌, Option, Some, None, Result, Ok, Err, nat_lt}
-use Rattle.std.specs.Prelude.{if◌then◌else◌}
+use Rattle.std.specs.Prelude.{ℕ, Bool, true, false, List, Option, Some, None, Result, Ok, Err}
 use Rattle.vt100_forms.specs.declared.attrs.Attrs.{Attrs}
 use Rattle.vt100_forms.specs.declared.attrs.Color.{Color}
-use Rattle.vt100_forms.specs.declared.attrs.Color.TheVariants.{Rgb}
-use Rattle.screen_model.specs.Sgr.{Read, read_groups, one_more, nothing, colored}
+use Rattle.screen_model.specs.Sgr.{Read, read_groups, one_more, colored}
 use Rattle.vt100.specs.declared.screen.sgr.End.{End}
 use Rattle.vt100.specs.declared.screen.sgr.End.TheVariants.{Value, Kind}
 
@@ -18,29 +16,16 @@ ended Kind a = read_of a 1
 
 -- a group is read, with these attributes afterwards, and these groups follow
 abbrev pub group_led : Result Bool End → Attrs → List (List ℕ) → Read
-group_led (Ok true) a gs = read_groups gs nothing a
-group_led (Ok false) a gs = one_more (read_groups gs nothing a)
+group_led (Ok true) a gs = read_groups gs 0 a
+group_led (Ok false) a gs = one_more (read_groups gs 0 a)
 group_led (Err e) a gs = ended e a
 
 -- a colour of the foreground, or of the background, is read
 abbrev pub color_led : Bool → Result Color End → Attrs → List (List ℕ) → Read
-color_led t (Ok x) a gs = read_groups gs nothing (colored t x a)
+color_led t (Ok x) a gs = read_groups gs 0 (colored t x a)
 color_led t (Err e) a gs = ended e a
 
 -- what a row of a table does, where there is one
 abbrev pub code_applied : Option (Attrs → Attrs) → Attrs → Attrs
 code_applied None a = a
 code_applied (Some f) a = f a
-
-abbrev pub value_read : ℕ → Result ℕ End
-value_read n = if nat_lt n 256 then Ok n else Err Value
-
-abbrev pub rgb_read : ℕ → ℕ → ℕ → Result Color End
-rgb_read r g b = if nat_lt r 256 && (nat_lt g 256 && nat_lt b 256) then Ok (Rgb r g b) else Err Value
-
--- the value in a group of its own with which groups begin
-abbrev pub first_value : List (List ℕ) → Option ℕ
-first_value [] = None
-first_value ([] ∷ gs) = None
-first_value ((n ∷ []) ∷ gs) = if nat_lt n 256 then Some n else None
-first_value ((n ∷ m ∷ ns) ∷ gs) = None

@@ -1,10 +1,9 @@
 //! SGR: the drawing attributes (ECMA-48 8.3.117; colours by ITU-T T.416).
-ghost use Rattle.std.specs.Prelude.{◌≡◌, ◌≤◌, ◌<◌, ◌∷◌, [], ℕ, Bool, List, length, MatchResult, None, is_some};
+ghost use Rattle.std.specs.Prelude.{◌≡◌, ◌≤◌, ◌∷◌, Bool, List, length, drop, ok_or, is_some, IfOk};
 ghost use Rattle.vt100_forms.specs.declared.attrs.Attrs.{Attrs};
-ghost use Rattle.screen_model.specs.Sgr.{read_groups, nothing, kind, red, code_row};
+ghost use Rattle.screen_model.specs.Sgr.{value, value_at, rgb, separate_color, code_row, read_on, read_groups};
 ghost use Rattle.screen_model.specs.Effect.{attributes_read};
-ghost use Rattle.vt100.specs.SgrReading.{first_value, value_read, rgb_read, group_led, color_led, code_applied};
-ghost use Rattle.vt100.specs.SgrReading.{read_of};
+ghost use Rattle.vt100.specs.SgrReading.{read_of, group_led, color_led, code_applied};
 ghost use Rattle.vt100.specs.Tries.{Counts};
 ghost use Rattle.vt100.specs.declared.screen.sgr.End.TheVariants.{Value};
 
@@ -45,7 +44,7 @@ pub(super) enum End {
 
 /// Reads groups, from the first one on. Answers how many were unhandled.
 fn read_groups(attrs: &mut Attrs, params: &Params) -> usize
-    ensures { read_of attrs.new result ≡ read_groups params.now nothing attrs.old }
+    ensures { read_of attrs.new result ≡ read_groups params.now 0 attrs.old }
 {
     let mut unhandled = 0;
     let mut groups = params.iter();
@@ -63,7 +62,7 @@ fn read_groups(attrs: &mut Attrs, params: &Params) -> usize
 /// Reads a group, and of those after it the ones that a colour in groups of its own takes. Answers whether it is
 /// handled.
 fn read_group(attrs: &mut Attrs, group: &[u16], groups: &mut ParamsIter<'_>) -> Result<bool, End>
-    ensures reads { read_groups (group.now ∷ groups.old) nothing attrs.old ≡ group_led result attrs.new groups.new }
+    ensures reads { read_groups (group.now ∷ groups.old) 0 attrs.old ≡ group_led result attrs.new groups.new }
     ensures shorter { length groups.new ≤ length groups.old }
 {
     match group {
@@ -108,7 +107,8 @@ fn read_code(attrs: &mut Attrs, code: u16) -> bool
 
 /// A colour in groups of its own: its kind, and its values.
 fn color_in_groups(groups: &mut ParamsIter<'_>) -> Result<Color, End>
-    ensures reads { (t : Bool) (a : Attrs) → read_groups groups.old (kind t) a ≡ color_led t result a groups.new }
+    ensures reads { (t : Bool) (a : Attrs) → read_on (read_groups groups.old) a (separate_color t groups.old)
+        ≡ color_led t result a groups.new }
     ensures shorter { length groups.new ≤ length groups.old }
 {
     match groups.next() {
@@ -121,7 +121,9 @@ fn color_in_groups(groups: &mut ParamsIter<'_>) -> Result<Color, End>
 
 /// Red, green and blue in groups of their own.
 fn rgb_in_groups(groups: &mut ParamsIter<'_>) -> Result<Color, End>
-    ensures reads { (t : Bool) (a : Attrs) → read_groups groups.old (red t) a ≡ color_led t result a groups.new }
+    ensures color { result
+        ≡ ok_or (rgb (value_at groups.old 0) (value_at groups.old 1) (value_at groups.old 2)) Value }
+    ensures rest { IfOk result (λ x. groups.new ≡ drop 3 groups.old) }
     ensures shorter { length groups.new ≤ length groups.old }
 {
     let red = next_value(groups)?;
@@ -132,9 +134,8 @@ fn rgb_in_groups(groups: &mut ParamsIter<'_>) -> Result<Color, End>
 
 /// A value in a group of its own.
 fn next_value(groups: &mut ParamsIter<'_>) -> Result<u8, End>
-    ensures reads { MatchResult result (λ n. (groups.old ≡ (n ∷ []) ∷ groups.new) × (n < 256))
-        (λ e. (e ≡ Value) × (first_value groups.old ≡ None)) }
-    ensures shorter { length groups.new ≤ length groups.old }
+    ensures value { result ≡ ok_or (value_at groups.old 0) Value }
+    ensures rest { groups.new ≡ drop 1 groups.old }
 {
     match groups.next() {
         Some([number]) => value(*number),
@@ -143,13 +144,13 @@ fn next_value(groups: &mut ParamsIter<'_>) -> Result<u8, End>
 }
 
 fn rgb(red: u16, green: u16, blue: u16) -> Result<Color, End>
-    ensures { result ≡ rgb_read red green blue }
+    ensures { result ≡ ok_or (rgb (value red) (value green) (value blue)) Value }
 {
     Ok(Color::Rgb(value(red)?, value(green)?, value(blue)?))
 }
 
 fn value(number: u16) -> Result<u8, End>
-    ensures { result ≡ value_read number }
+    ensures { result ≡ ok_or (value number) Value }
 {
     u8::try_from(number).map_err(|_| End::Value)
 }

@@ -1,14 +1,14 @@
 use Rattle.std.proofs.Common.{◌≡◌, ◌+◌, ◌≤◌, length}
-use Rattle.screen_model.specs.Sgr.{read_groups, nothing}
+use Rattle.screen_model.specs.Sgr.{read_groups}
 use Rattle.vt100.proofs.screen.sgr.read_groups.Given as goal
 
 -- what the groups that are left lead to, all lead to from the start
 abbrev pub invariant-loop-group : goal.invariant-loop-group
 invariant-loop-group l = record {
   few : l.unhandled + length l.groups ≤ 32;
-  attrs : (read_groups l.groups nothing l.attrs).attrs ≡ (read_groups l.fn.params nothing l.fn.attrs).attrs;
-  unhandled : l.unhandled + (read_groups l.groups nothing l.attrs).unhandled
-      ≡ (read_groups l.fn.params nothing l.fn.attrs).unhandled;
+  attrs : (read_groups l.groups 0 l.attrs).attrs ≡ (read_groups l.fn.params 0 l.fn.attrs).attrs;
+  unhandled : l.unhandled + (read_groups l.groups 0 l.attrs).unhandled
+      ≡ (read_groups l.fn.params 0 l.fn.attrs).unhandled;
 }
 
 abbrev pub decreases-loop-group : goal.decreases-loop-group
