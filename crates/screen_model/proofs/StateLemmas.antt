@@ -10,15 +10,10 @@ drawn true g h p q = q refl
 drawn false g h p q = p
 
 -- what the flag says of the main sheet and of the alternate one
-main_keeps : (b : Bool) (g h : GridView) → g.kept.keeps ≡ not b → h.kept.keeps ≡ b
-    → (if b then h else g).kept.keeps ≡ true
-main_keeps true g h p q = q
-main_keeps false g h p q = p
-
-alternate_keeps : (b : Bool) (g h : GridView) → g.kept.keeps ≡ not b → h.kept.keeps ≡ b
-    → (if b then g else h).kept.keeps ≡ false
-alternate_keeps true g h p q = p
-alternate_keeps false g h p q = q
+sheets_keep : (b : Bool) (g h : GridView) → g.kept.keeps ≡ not b → h.kept.keeps ≡ b
+    → ((if b then h else g).kept.keeps ≡ true) × ((if b then g else h).kept.keeps ≡ false)
+sheets_keep true g h p q = (q, p)
+sheets_keep false g h p q = (p, q)
 
 pub state_whole : (s : State) → IsAllocated s.shown → (s.alternate ≡ true → IsAllocated s.other)
     → s.other.height ≡ s.shown.height → s.other.width ≡ s.shown.width
@@ -33,8 +28,8 @@ state_whole s shown main height width keeps other_keeps attrs saved_attrs proper
       main_drawn = drawn s.alternate s.shown s.other shown main;
       height = height;
       width = width;
-      main_keeps = main_keeps s.alternate s.shown s.other keeps other_keeps;
-      alternate_keeps = alternate_keeps s.alternate s.shown s.other keeps other_keeps;
+      main_keeps = (sheets_keep s.alternate s.shown s.other keeps other_keeps).0;
+      alternate_keeps = (sheets_keep s.alternate s.shown s.other keeps other_keeps).1;
       attrs = attrs;
       saved_attrs = saved_attrs;
       proper = proper;
