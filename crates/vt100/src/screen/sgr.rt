@@ -1,5 +1,5 @@
 //! SGR: the drawing attributes (ECMA-48 8.3.117; colours by ITU-T T.416).
-ghost use Rattle.std.specs.Prelude.{◌≡◌, ◌≤◌, ◌∷◌, Bool, List, length, drop, ok_or, is_some, IfOk};
+ghost use Rattle.std.specs.Prelude.{◌≡◌, ◌≤◌, ◌∷◌, Bool, length, drop, ok_or, is_some, IfOk};
 ghost use Rattle.vt100_forms.specs.declared.attrs.Attrs.{Attrs};
 ghost use Rattle.screen_model.specs.Sgr.{value, value_at, rgb, separate_color, code_row, read_on, read_groups};
 ghost use Rattle.screen_model.specs.Effect.{attributes_read};

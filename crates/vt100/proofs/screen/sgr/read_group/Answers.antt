@@ -1,5 +1,4 @@
-use Rattle.std.proofs.Common.{◌≡◌, ◌∙◌, ap, arith, rules, true, false}
-use Rattle.std.proofs.lemmas.Grind.{common_steps}
+use Rattle.std.proofs.Common.{◌≡◌, ◌∙◌, ap, rules, true, false}
 use Rattle.screen_model.specs.Sgr.{Asks, asks, separate_color, read_on, read_groups}
 use Rattle.vt100.proofs.screen.sgr.read_group.Goals as goal
 
@@ -11,7 +10,6 @@ returns-in_ok-attrs-in-38-clause-reads c =
 
 pub returns-in_ok-attrs-in-48-clause-reads : goal.returns-in_ok-attrs-in-48-clause-reads
 returns-in_ok-attrs-in-48-clause-reads c =
-    let asked : asks c.args.group.now c.args.groups.now ≡ separate_color false c.args.groups.now =
-    grind (arith, common_steps) in
+    let asked : asks c.args.group.now c.args.groups.now ≡ separate_color false c.args.groups.now = search rules in
     ap (λ (x : Asks). read_on (read_groups c.args.groups.now) c.args.attrs.now x) asked
     ∙ c.in_ok-attrs-in-48.ensures.reads false c.args.attrs.now
