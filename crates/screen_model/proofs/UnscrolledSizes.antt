@@ -1,5 +1,5 @@
 -- New sheets, other sizes, and what is kept by itself.
-use Rattle.std.proofs.Common.{◌≡◌, ℕ, ◌-◌, ◌^◌, ◌<◌, ◌≤◌, ◌==◌, Bool, false, ◌&&◌, []}
+use Rattle.std.proofs.Common.{◌≡◌, ℕ, ◌-◌, ◌^◌, ◌<◌, ◌≤◌, ◌==◌, false, ◌&&◌, []}
 use Rattle.std.proofs.Common.{length, min, replicate, refl, sym, ap, ◌∙◌, arith, subst, ⊎_elim}
 use Rattle.std.proofs.Common.{nat_lt}
 use Rattle.std.proofs.lemmas.Bool.{cond_both, cases_lt, eqb-true, eq-eqb, ltb-true, ltb-false, and_parts, false≢true}
@@ -27,22 +27,20 @@ use Rattle.screen_model.proofs.UnscrolledSheets.{hidden-limits, IsGrid-as, drawn
 
 -- ---- a new sheet
 
-nothing-kept : (s : Scrollback) (b : Bool) (n : ℕ) → b ≡ keeps_of s → n ≡ capacity_of s → b ≡ false → n ≡ 0
-nothing-kept Disabled b n p q e = q
-nothing-kept (Enabled c) b n p q e = absurd (false≢true (sym e ∙ p))
+nothing-kept : (s : Scrollback) → keeps_of s ≡ false → capacity_of s ≡ 0
+nothing-kept Disabled e = refl
+nothing-kept (Enabled c) e = absurd (false≢true (sym e))
 
-new-kept : (s : Scrollback) (k : KeptPart) → k.keeps ≡ keeps_of s → k.capacity ≡ capacity_of s → k.rows ≡ []
-    → k.offset ≡ 0 → k.scrolled_off ≡ 0 → IsKept k
-new-kept s k keeps capacity rows offset off =
-    let none : length k.rows ≡ 0 = ap length rows in
-    record {
-      each = λ j l. absurd (omega (arith, none));
-      fits = omega (arith, none);
-      counted = omega (arith, none);
-      offset = omega (arith, offset);
-      none = λ e. (nothing-kept s k.keeps k.capacity keeps capacity e, off);
-      bounded = omega (arith, off);
-    }
+none-kept : (k : KeptPart) → (k.keeps ≡ false → k.capacity ≡ 0)
+    → IsKept (record k { rows = []; offset = 0; scrolled_off = 0 })
+none-kept k none = record {
+  each = λ j h. absurd (omega arith);
+  fits = omega arith;
+  counted = omega arith;
+  offset = omega arith;
+  none = λ e. (none e, refl);
+  bounded = omega arith;
+}
 
 same-new : (height width : ℕ) (s : Scrollback)
     → new_grid height width s ≡ new_grid height width (scrollback_of (new_grid height width s).kept)
@@ -55,7 +53,7 @@ pub new-fine : (height width : ℕ) (s : Scrollback) → 0 < height → height <
     (new_grid height width s)
 new-fine height width s some_rows few_rows some_cols few_cols few =
     let g = new_grid height width s in
-    let kept = new-kept s g.kept refl refl refl refl refl in
+    let kept : IsKept g.kept = none-kept g.kept (nothing-kept s) in
     record {
       grid = record {
         sheet = IsSheet-none height width [] (omega arith);
@@ -134,14 +132,7 @@ pub drawn-none_kept : (l : Limits) (g : GridView) → IsShownSheet l g → IsSho
 drawn-none_kept l g d =
     let i = d.fine.grid in
     let k : KeptPart = record (g.kept) { rows = []; offset = 0; scrolled_off = 0 } in
-    let kept : IsKept k = record {
-      each = λ j h. absurd (omega arith);
-      fits = omega arith;
-      counted = omega arith;
-      offset = omega arith;
-      none = λ e. ((i.kept.none e).0, refl);
-      bounded = omega arith;
-    } in
+    let kept : IsKept k = none-kept g.kept (λ e. (i.kept.none e).0) in
     record {
       fine = record {
         grid = IsGrid-as g (record g { kept = k }) i i.sheet i.cursor_row i.cursor_col i.saved_row i.saved_col i.region
