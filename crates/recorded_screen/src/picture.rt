@@ -93,10 +93,7 @@ fn push_svg_head(page: &mut Page, screen: &Screen) -> Result<(), AllocError> {
     let (rows, cols) = screen.size();
     let width = u32::from(cols.get()) * COL_WIDTH;
     let height = u32::from(rows.get()) * ROW_HEIGHT;
-    page.markup(Tag::Svg)?;
-    push_number(page, width)?;
-    page.markup(Tag::Height)?;
-    push_number(page, height)?;
+    push_numbers(page, &[(Tag::Svg, width), (Tag::Height, height)])?;
     page.markup(Tag::SvgRows)?;
     push_rect(
         page,
@@ -138,14 +135,13 @@ fn push_run(page: &mut Page, run: &Run, row: u16) -> Result<(), AllocError> {
 }
 
 fn push_rect(page: &mut Page, area: Area, fill: Rgb) -> Result<(), AllocError> {
-    page.markup(Tag::Rect)?;
-    push_number(page, area.x)?;
-    page.markup(Tag::Y)?;
-    push_number(page, area.y)?;
-    page.markup(Tag::Width)?;
-    push_number(page, area.width)?;
-    page.markup(Tag::Height)?;
-    push_number(page, area.height)?;
+    let numbers = [
+        (Tag::Rect, area.x),
+        (Tag::Y, area.y),
+        (Tag::Width, area.width),
+        (Tag::Height, area.height),
+    ];
+    push_numbers(page, &numbers)?;
     push_fill(page, fill)?;
     page.markup(Tag::Close)
 }
@@ -162,12 +158,12 @@ fn push_text(page: &mut Page, run: &Run, area: Area, fill: Rgb) -> Result<(), Al
 }
 
 fn push_text_place(page: &mut Page, area: Area) -> Result<(), AllocError> {
-    page.markup(Tag::Text)?;
-    push_number(page, area.x)?;
-    page.markup(Tag::Y)?;
-    push_number(page, area.y.saturating_add(BASELINE))?;
-    page.markup(Tag::Length)?;
-    push_number(page, area.width)
+    let numbers = [
+        (Tag::Text, area.x),
+        (Tag::Y, area.y.saturating_add(BASELINE)),
+        (Tag::Length, area.width),
+    ];
+    push_numbers(page, &numbers)
 }
 
 fn push_fill(page: &mut Page, fill: Rgb) -> Result<(), AllocError> {
@@ -187,6 +183,15 @@ fn push_rgb(page: &mut Page, color: Rgb) -> Result<(), AllocError> {
     for part in [color.red, color.green, color.blue] {
         page.digit(part / 16)?;
         page.digit(part % 16)?;
+    }
+    Ok(())
+}
+
+// Pieces of markup, each with the number that follows it.
+fn push_numbers(page: &mut Page, numbers: &[(Tag, u32)]) -> Result<(), AllocError> {
+    for (tag, number) in numbers {
+        page.markup(*tag)?;
+        push_number(page, *number)?;
     }
     Ok(())
 }
