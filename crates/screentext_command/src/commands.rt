@@ -8,9 +8,9 @@ ghost use Rattle.screentext_command.specs.declared.error.TextError.TheVariants.{
 use crate::answer::answer_of;
 use crate::cast::parse_recording;
 use crate::error::TextError;
-use crate::streams::{read_all, write_all};
+use crate::streams::write_all;
 use crate::words::{Order, parse};
-use command_line::{FAULT, SUCCESS, USAGE, report};
+use command_line::{FAULT, SUCCESS, USAGE, read_all, report};
 use std::alloc::Global;
 use std::fmt::Write;
 use std::io::Read;
@@ -84,7 +84,7 @@ fn obey<R: Read, W: Sink>(
     match order {
         Order::Tell(text) => write_all(output, text.as_bytes()),
         Order::Print(request) => {
-            let bytes = read_all(alloc, input)?;
+            let bytes = read_all(alloc, input, TextError::Read, TextError::Memory)?;
             let recording = parse_recording(alloc, bytes)?;
             let answer = answer_of(alloc, &recording, request)?;
             write_all(output, &answer)
