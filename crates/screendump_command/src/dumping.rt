@@ -2,7 +2,8 @@
 
 use crate::dump::push_screen;
 use crate::error::DumpError;
-use crate::stream::{flush, read_all, write_text};
+use crate::stream::{flush, write_text};
+use command_line::read_all;
 use std::alloc::Global;
 use std::io::Read;
 use std::num::NonZeroU16;
@@ -35,7 +36,7 @@ pub fn dump_stream<R: Read, W: Sink>(
     input: &mut R,
     output: &mut W,
 ) -> Result<(), DumpError> {
-    let bytes = read_all(alloc, input)?;
+    let bytes = read_all(alloc, input, DumpError::Read, DumpError::Memory)?;
     let parser = parser_of(alloc, dump, &bytes)?;
     write_screen(alloc, parser.screen(), output)
 }

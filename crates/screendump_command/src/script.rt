@@ -3,10 +3,11 @@
 use crate::dump::push_screen;
 use crate::error::DumpError;
 use crate::hex_digits::digit_value;
-use crate::stream::{flush, read_all, write_text};
+use crate::stream::{flush, write_text};
 use crate::texts::{
     push_check, push_diffs, push_rows, push_rows_diff, push_rows_formatted, push_text, push_texts,
 };
+use command_line::read_all;
 use std::alloc::Global;
 use std::io::Read;
 use std::num::NonZeroU16;
@@ -166,103 +167,104 @@ pub fn run_script<R: Read, W: Sink>(
     input: &mut R,
     output: &mut W,
 ) -> Result<(), DumpError> {
-    let bytes = read_all(alloc, input)?;
+    let bytes = read_all(alloc, input, DumpError::Read, DumpError::Memory)?;
     match str::from_utf8(&bytes) {
-        Ok(script) => replay(alloc, script, output),
+        Ok(script) => play(alloc, script, output),
         Err(_) => Err(DumpError::Script),
     }
 }
 
-fn replay<W: Sink>(alloc: Global, script: &str, output: &mut W) -> Result<(), DumpError> {
-    let mut parser = Parser::new_default(alloc)?;
-    let mut base = parser.screen().clone()?;
-    take_lines(alloc, script, &mut parser, &mut base, output)
+fn play<W: Sink>(alloc: Global, script: &str, output: &mut W) -> Result<(), DumpError> {
+    let mut replay = Replay::new(alloc)?;
+    replay.take_lines(script, output)
 }
 
-fn take_lines<W: Sink>(
+/// The parser that a script's lines work on, and the screen that differences are told from.
+#[derive(Drop)]
+struct Replay {
     alloc: Global,
-    script: &str,
-    parser: &mut Parser<()>,
-    base: &mut Screen,
-    output: &mut W,
-) -> Result<(), DumpError> {
-    let mut answer = String::new(alloc);
-    for line in script.lines() {
-        answer_line(alloc, line, parser, base, &mut answer, output)?;
+    parser: Parser<()>,
+    base: Screen,
+}
+
+impl Replay {
+    fn new(alloc: Global) -> Result<Replay, DumpError> {
+        let parser = Parser::new_default(alloc)?;
+        let base = parser.screen().clone()?;
+        Ok(Replay {
+            alloc,
+            parser,
+            base,
+        })
     }
-    flush(output)
-}
 
-fn answer_line<W: Sink>(
-    alloc: Global,
-    line: &str,
-    parser: &mut Parser<()>,
-    base: &mut Screen,
-    answer: &mut String,
-    output: &mut W,
-) -> Result<(), DumpError> {
-    answer.clear();
-    take_line(alloc, line, parser, base, answer)?;
-    write_text(output, answer)
-}
-
-// Takes the step of a line, and appends its answer.
-fn take_line(
-    alloc: Global,
-    line: &str,
-    parser: &mut Parser<()>,
-    base: &mut Screen,
-    answer: &mut String,
-) -> Result<(), DumpError> {
-    let step = parse_step(alloc, line)?;
-    take_step(alloc, &step, parser, base, answer)
-}
-
-fn take_step(
-    alloc: Global,
-    step: &Step,
-    parser: &mut Parser<()>,
-    base: &mut Screen,
-    answer: &mut String,
-) -> Result<(), DumpError> {
-    match step {
-        Step::Nothing => {}
-        Step::New(rows, cols, capacity) => {
-            *parser = Parser::new(alloc, *rows, *cols, *capacity)?;
-            *base = parser.screen().clone()?;
-            answer.push_str("new\n")?;
+    fn take_lines<W: Sink>(&mut self, script: &str, output: &mut W) -> Result<(), DumpError> {
+        let mut answer = String::new(self.alloc);
+        for line in script.lines() {
+            self.answer_line(line, &mut answer, output)?;
         }
-        Step::Feed(bytes) => parser.process(bytes)?,
-        Step::Resize(rows, cols) => parser.set_size(*rows, *cols)?,
-        Step::ScreenResize(rows, cols) => parser.screen_mut().set_size(*rows, *cols)?,
-        Step::SetScrollback(rows) => parser.screen_mut().set_scrollback(*rows)?,
-        Step::ClearScrollback => parser.screen_mut().clear_scrollback(),
-        Step::Base => *base = parser.screen().clone()?,
-        Step::Ask(question) => tell(alloc, *question, parser.screen(), base, answer)?,
+        flush(output)
     }
-    Ok(())
-}
 
-// Appends the answer to a question.
-fn tell(
-    alloc: Global,
-    question: Question,
-    screen: &Screen,
-    base: &Screen,
-    answer: &mut String,
-) -> Result<(), DumpError> {
-    match question {
-        Question::Dump => push_screen(answer, screen)?,
-        Question::Texts => push_texts(answer, screen)?,
-        Question::Diffs => push_diffs(answer, screen, base)?,
-        Question::Check => push_check(alloc, answer, screen, base)?,
-        Question::Rows(start, width) => push_rows(answer, screen, start, width)?,
-        Question::RowsFormatted(start, width) => push_rows_formatted(answer, screen, start, width)?,
-        Question::RowsDiff(start, width) => push_rows_diff(answer, screen, base, start, width)?,
-        Question::Between(start_row, start_col, end_row, end_col) => {
-            let text = screen.contents_between(start_row, start_col, end_row, end_col)?;
-            push_text(answer, "between", text)?;
-        }
+    fn answer_line<W: Sink>(
+        &mut self,
+        line: &str,
+        answer: &mut String,
+        output: &mut W,
+    ) -> Result<(), DumpError> {
+        answer.clear();
+        self.take_line(line, answer)?;
+        write_text(output, answer)
     }
-    Ok(())
+
+    // Takes the step of a line, and appends its answer.
+    fn take_line(&mut self, line: &str, answer: &mut String) -> Result<(), DumpError> {
+        let step = parse_step(self.alloc, line)?;
+        self.take_step(&step, answer)
+    }
+
+    fn take_step(&mut self, step: &Step, answer: &mut String) -> Result<(), DumpError> {
+        let Replay {
+            alloc,
+            parser,
+            base,
+        } = self;
+        match step {
+            Step::Nothing => {}
+            Step::New(rows, cols, capacity) => {
+                *parser = Parser::new(*alloc, *rows, *cols, *capacity)?;
+                *base = parser.screen().clone()?;
+                answer.push_str("new\n")?;
+            }
+            Step::Feed(bytes) => parser.process(bytes)?,
+            Step::Resize(rows, cols) => parser.set_size(*rows, *cols)?,
+            Step::ScreenResize(rows, cols) => parser.screen_mut().set_size(*rows, *cols)?,
+            Step::SetScrollback(rows) => parser.screen_mut().set_scrollback(*rows)?,
+            Step::ClearScrollback => parser.screen_mut().clear_scrollback(),
+            Step::Base => *base = parser.screen().clone()?,
+            Step::Ask(question) => self.tell(*question, answer)?,
+        }
+        Ok(())
+    }
+
+    // Appends the answer to a question.
+    fn tell(&self, question: Question, answer: &mut String) -> Result<(), DumpError> {
+        let (screen, base) = (self.parser.screen(), &self.base);
+        match question {
+            Question::Dump => push_screen(answer, screen)?,
+            Question::Texts => push_texts(answer, screen)?,
+            Question::Diffs => push_diffs(answer, screen, base)?,
+            Question::Check => push_check(self.alloc, answer, screen, base)?,
+            Question::Rows(start, width) => push_rows(answer, screen, start, width)?,
+            Question::RowsFormatted(start, width) => {
+                push_rows_formatted(answer, screen, start, width)?
+            }
+            Question::RowsDiff(start, width) => push_rows_diff(answer, screen, base, start, width)?,
+            Question::Between(start_row, start_col, end_row, end_col) => {
+                let text = screen.contents_between(start_row, start_col, end_row, end_col)?;
+                push_text(answer, "between", text)?;
+            }
+        }
+        Ok(())
+    }
 }

@@ -97,12 +97,8 @@ pub(crate) fn push_rows_formatted(
     start: u16,
     width: u16,
 ) -> Result<(), DumpError> {
-    push_each(
-        out,
-        screen,
-        "row_formatted",
-        screen.rows_formatted(start, width),
-    )
+    let rows = screen.rows_formatted(start, width);
+    push_each(out, screen, "row_formatted", rows)
 }
 
 /// The same over the rows of the screen `base`.
@@ -113,12 +109,8 @@ pub(crate) fn push_rows_diff(
     start: u16,
     width: u16,
 ) -> Result<(), DumpError> {
-    push_each(
-        out,
-        screen,
-        "row_diff",
-        screen.rows_diff(base, start, width),
-    )
+    let rows = screen.rows_diff(base, start, width);
+    push_each(out, screen, "row_diff", rows)
 }
 
 // A line for each of these texts, of which a screen has one a row.
