@@ -3,25 +3,17 @@
 //! The stream comes on standard input, as raw bytes or as a recording in asciicast v2.
 #![tactic(auto)]
 
-use command_line::with_words;
+use command_line::run;
 use screentext_command::{TextError, command, report_fault};
 use std::env;
 use std::process::ExitCode;
 
 fn main(rt: HostRuntime) -> ExitCode {
-    let alloc = rt.alloc();
-    let answer = with_words(alloc, env::args(&rt), |words| {
-        command(
-            alloc,
-            words,
-            &mut rt.stdin(),
-            &mut rt.stdout(),
-            &mut rt.stderr(),
-        )
-    });
-    let status = match answer {
-        Ok(status) => status,
-        Err(_) => report_fault(alloc, &mut rt.stderr(), TextError::Memory),
-    };
-    ExitCode::from(status)
+    let (mut input, mut output, mut errors) = (rt.stdin(), rt.stdout(), rt.stderr());
+    run(
+        rt.alloc(),
+        env::args(&rt),
+        |words| command(rt.alloc(), words, &mut input, &mut output, &mut errors),
+        || report_fault(rt.alloc(), &mut rt.stderr(), TextError::Memory),
+    )
 }
