@@ -1,26 +1,12 @@
 //! Calls that may be refused, where there is memory: on odd screens and large ones each of them succeeds.
 
-use crate::owners::{with_copy, with_fed, with_parser};
-use crate::report::{Text, places, report, text_of};
+use crate::owners::{fed, parser_of, with};
+use crate::report::{Text, check_alike, check_texts, places, report, text_of};
 use crate::same::{same, same_for};
 use crate::start::{Start, count};
 use std::process::Abort;
 use std::test::Fail;
 use vt100::{Parser, Screen};
-
-/// Each of these texts is made of a screen, against another one.
-fn check_texts(
-    rt: &(impl Abort + AllocGlobal),
-    screen: &Screen,
-    prev: &Screen,
-    texts: &[(Text, &str)],
-) -> Result<(), Fail> {
-    for (text, want) in texts {
-        let told = text_of(screen, prev, rt.alloc(), *text)?;
-        same_for(rt, text, &told.as_str(), want);
-    }
-    Ok(())
-}
 
 /// The alternate sheet, which shows nothing yet, after the main one.
 const TO_ALTERNATE: &[(Text, &str)] = &[
@@ -45,20 +31,20 @@ fn check_both(
     there: &[(Text, &str)],
     back: &[(Text, &str)],
 ) -> Result<(), Fail> {
-    check_texts(rt, to, from, there)?;
-    check_texts(rt, from, to, back)
+    check_texts(rt, there, |text| text_of(to, from, rt.alloc(), text))?;
+    check_texts(rt, back, |text| text_of(from, to, rt.alloc(), text))
 }
 
 /// The alternate sheet of a screen like this one.
 fn check_alternate(rt: &(impl Abort + AllocGlobal), main: &Screen) -> Result<(), Fail> {
-    with_fed(rt.alloc(), (2, 4, 3), b"ab\x1b[?47h", |alternate| {
+    with(fed(rt.alloc(), (2, 4, 3), b"ab\x1b[?47h"), |alternate| {
         check_both(rt, alternate.screen(), main, TO_ALTERNATE, TO_MAIN)
     })
 }
 
 #[test]
 fn differences_across_the_sheets(rt: HostRuntime) -> Result<(), Fail> {
-    with_fed(rt.alloc(), (2, 4, 3), b"ab", |main| {
+    with(fed(rt.alloc(), (2, 4, 3), b"ab"), |main| {
         check_alternate(&rt, main.screen())
     })
 }
@@ -88,12 +74,12 @@ fn check_kept_row(
 }
 
 fn check_kept_copy(rt: &(impl Abort + AllocGlobal), drawn: &Screen) -> Result<(), Fail> {
-    with_copy(drawn, |copy| check_kept_row(rt, copy, drawn))
+    with(drawn.clone(), |copy| check_kept_row(rt, copy, drawn))
 }
 
 #[test]
 fn differences_of_kept_rows(rt: HostRuntime) -> Result<(), Fail> {
-    with_fed(rt.alloc(), (1, 2, 3), b"a\r\nb", |drawn| {
+    with(fed(rt.alloc(), (1, 2, 3), b"a\r\nb"), |drawn| {
         check_kept_copy(&rt, drawn.screen())
     })
 }
@@ -112,21 +98,16 @@ const READ: &[(Start, &[u8])] = &[
     ((2, 2, usize::MAX), b"a\r\nb\r\nc\x1b[1;2;3;4;7;31;42m"),
 ];
 
-/// Two screens tell the same.
-fn check_alike(
-    rt: &(impl Abort + AllocGlobal),
-    screen: &Screen,
-    copy: &Screen,
-) -> Result<(), Fail> {
-    let told = report(screen, copy, rt.alloc())?;
-    let told_by_copy = report(copy, screen, rt.alloc())?;
-    same(rt, &told.as_str(), &told_by_copy.as_str());
-    Ok(())
-}
-
 /// A copy of a screen tells what the screen tells.
 fn check_copy(rt: &(impl Abort + AllocGlobal), screen: &Screen) -> Result<(), Fail> {
-    with_copy(screen, |copy| check_alike(rt, screen, copy))
+    with(screen.clone(), |copy| {
+        check_alike(
+            rt,
+            screen,
+            copy,
+            |screen, prev| report(screen, prev, rt.alloc()),
+        )
+    })
 }
 
 /// The same where the rows that are drawn on are shown, and where the kept ones are.
@@ -139,7 +120,7 @@ fn check_copies(rt: &(impl Abort + AllocGlobal), parser: &mut Parser<()>) -> Res
 #[test]
 fn everything_is_read(rt: HostRuntime) -> Result<(), Fail> {
     for (start, stream) in READ {
-        with_fed(rt.alloc(), *start, stream, |parser| {
+        with(fed(rt.alloc(), *start, stream), |parser| {
             check_copies(&rt, parser)
         })?;
     }
@@ -178,7 +159,7 @@ fn check_capacity(
 fn large_capacities(rt: HostRuntime) -> Result<(), Fail> {
     for (capacity, len) in CAPACITIES {
         let start = (1, 2, *capacity);
-        with_fed(rt.alloc(), start, b"a\r\nb\r\nc\r\nd\r\ne", |parser| {
+        with(fed(rt.alloc(), start, b"a\r\nb\r\nc\r\nd\r\ne"), |parser| {
             check_capacity(&rt, parser, *capacity, *len)
         })?;
     }
@@ -208,7 +189,7 @@ fn check_large(
     texts: &[(Text, &str)],
     (begin, end): (&str, &str),
 ) -> Result<(), Fail> {
-    check_texts(rt, screen, prev, texts)?;
+    check_texts(rt, texts, |text| text_of(screen, prev, rt.alloc(), text))?;
     let contents = screen.contents()?;
     let is_whole = contents.as_str().starts_with(begin) && contents.as_str().ends_with(end);
     same(rt, &(contents.len(), is_whole), &(65_535, true));
@@ -222,14 +203,18 @@ fn check_large_copy(
     texts: &[(Text, &str)],
     ends: (&str, &str),
 ) -> Result<(), Fail> {
-    with_copy(screen, |copy| check_large(rt, copy, screen, texts, ends))
+    with(
+        screen.clone(),
+        |copy| check_large(rt, copy, screen, texts, ends),
+    )
 }
 
 #[test]
 fn one_row_of_65535_columns(rt: HostRuntime) -> Result<(), Fail> {
-    with_fed(rt.alloc(), (1, 65_535, 3), b"a\x1b[65535Gb", |parser| {
-        check_large_copy(&rt, parser.screen(), WIDE, ("a ", " b"))
-    })
+    with(
+        fed(rt.alloc(), (1, 65_535, 3), b"a\x1b[65535Gb"),
+        |parser| { check_large_copy(&rt, parser.screen(), WIDE, ("a ", " b")) },
+    )
 }
 
 /// The texts of 65,535 rows of one column, of which the last one alone shows a character.
@@ -248,7 +233,7 @@ const HIGH: &[(Text, &str)] = &[
 
 #[test]
 fn rows_of_one_column(rt: HostRuntime) -> Result<(), Fail> {
-    with_fed(rt.alloc(), (65_535, 1, 3), b"\x1b[65535Ha", |parser| {
+    with(fed(rt.alloc(), (65_535, 1, 3), b"\x1b[65535Ha"), |parser| {
         check_large_copy(&rt, parser.screen(), HIGH, ("\n", "\na"))
     })
 }
@@ -272,9 +257,10 @@ fn check_sizes(rt: &impl Abort, parser: &mut Parser<()>) -> Result<(), Fail> {
 
 #[test]
 fn sizes(rt: HostRuntime) -> Result<(), Fail> {
-    with_fed(rt.alloc(), (2, 2, 3), b"a\r\nb\r\nc\x1b[?47h", |parser| {
-        check_sizes(&rt, parser)
-    })
+    with(
+        fed(rt.alloc(), (2, 2, 3), b"a\r\nb\r\nc\x1b[?47h"),
+        |parser| { check_sizes(&rt, parser) },
+    )
 }
 
 /// The longest text of a cell: 21 bytes.
@@ -322,12 +308,12 @@ fn check_lengths(
 }
 
 fn check_largest(rt: &(impl Abort + AllocGlobal), screen: &Screen) -> Result<(), Fail> {
-    with_copy(screen, |copy| check_lengths(rt, copy, screen))
+    with(screen.clone(), |copy| check_lengths(rt, copy, screen))
 }
 
 #[test]
 fn the_largest_texts(rt: HostRuntime) -> Result<(), Fail> {
-    with_parser(rt.alloc(), DEFAULT, |parser| {
+    with(parser_of(rt.alloc(), DEFAULT), |parser| {
         fill(parser)?;
         check_largest(&rt, parser.screen())
     })
@@ -343,12 +329,15 @@ fn check_drawn(rt: &impl Abort, screen: &Screen, again: &mut Parser<()>) -> Resu
 }
 
 fn check_redraw(rt: &(impl Abort + AllocGlobal), screen: &Screen) -> Result<(), Fail> {
-    with_parser(rt.alloc(), DEFAULT, |again| check_drawn(rt, screen, again))
+    with(
+        parser_of(rt.alloc(), DEFAULT),
+        |again| check_drawn(rt, screen, again),
+    )
 }
 
 #[test]
 fn the_largest_redraw_is_drawn_again(rt: HostRuntime) -> Result<(), Fail> {
-    with_parser(rt.alloc(), DEFAULT, |parser| {
+    with(parser_of(rt.alloc(), DEFAULT), |parser| {
         fill(parser)?;
         check_redraw(&rt, parser.screen())
     })

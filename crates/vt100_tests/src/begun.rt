@@ -1,4 +1,4 @@
-//! Texts that hold something before more is appended, also where memory is refused.
+//! Calls that are made once more where memory was refused, and texts that hold something before more is appended.
 
 use crate::same::same;
 use std::alloc::Global;
@@ -9,18 +9,20 @@ use vt100_core::GridError;
 /// What a text holds before more is appended.
 const BEGUN: &str = "begun:";
 
+/// What this makes, at the second try if the first one got this refusal.
+pub fn retried<T, E: PartialEq + Drop, F: Fn() -> Result<T, E>>(refusal: E, make: F) -> Result<T, E>
+    requires { F.IsAlwaysCallable make }
+{
+    match make() {
+        Err(error) if error == refusal => make(),
+        answer => answer,
+    }
+}
+
 fn begun_text(alloc: Global) -> Result<String, GridError> {
     let mut text = String::new(alloc);
     text.push_str(BEGUN)?;
     Ok(text)
-}
-
-/// A text that holds so much, begun at the second try if the first was refused.
-pub fn retried_text(alloc: Global) -> Result<String, GridError> {
-    match begun_text(alloc) {
-        Ok(text) => Ok(text),
-        Err(_) => begun_text(alloc),
-    }
 }
 
 /// Whether a text holds what it held before, and a front of what was to be appended.
@@ -32,7 +34,7 @@ fn holds_a_front(text: &str, want: &str) -> bool {
 }
 
 /// After a refusal a text holds what it held before, and a front of what was to be appended. Then it is begun anew.
-pub fn check_refused(
+fn check_refused(
     rt: &impl Abort,
     text: &mut String,
     error: GridError,
@@ -49,6 +51,26 @@ pub fn check_refused(
 }
 
 /// A text holds what it held before, and this after it.
-pub fn check_text(rt: &impl Abort, text: &String, want: &str) {
+fn check_text(rt: &impl Abort, text: &String, want: &str) {
     same(rt, &text.as_str().strip_prefix(BEGUN), &Some(want));
+}
+
+/// A call appends this to a text that holds something before. Once more if that was refused: its answer.
+pub fn check_appended<T, F: Fn(&mut String) -> Result<T, GridError>>(
+    rt: &(impl Abort + AllocGlobal),
+    want: &str,
+    append: F,
+) -> Result<T, Fail>
+    requires { F.IsAlwaysCallable append }
+{
+    let mut text = retried(GridError::Memory, || begun_text(rt.alloc()))?;
+    let answer = match append(&mut text) {
+        Ok(answer) => answer,
+        Err(error) => {
+            check_refused(rt, &mut text, error, want)?;
+            append(&mut text)?
+        }
+    };
+    check_text(rt, &text, want);
+    Ok(answer)
 }

@@ -1,6 +1,6 @@
 //! Direct calls that may be refused, and writing to a parser. Memory is found here.
 
-use crate::owners::with_parser;
+use crate::owners::{parser_of, with};
 use crate::same::same;
 use crate::start::count;
 use std::io::Write;
@@ -40,7 +40,7 @@ fn check_wrapped(rt: &impl Abort, screen: &Screen) -> Result<(), Fail> {
 
 #[test]
 fn calls_on_a_screen(rt: HostRuntime) -> Result<(), Fail> {
-    with_parser(rt.alloc(), (2, 3, 1), |parser| {
+    with(parser_of(rt.alloc(), (2, 3, 1)), |parser| {
         check_wrapped(&rt, parser.screen())
     })
 }
@@ -56,7 +56,10 @@ fn check_written(rt: &impl Abort, parser: &mut Parser<()>) -> Result<(), Fail> {
 
 #[test]
 fn writing_feeds(rt: HostRuntime) -> Result<(), Fail> {
-    with_parser(rt.alloc(), (24, 80, 0), |parser| check_written(&rt, parser))
+    with(
+        parser_of(rt.alloc(), (24, 80, 0)),
+        |parser| check_written(&rt, parser),
+    )
 }
 
 #[test]

@@ -1,17 +1,16 @@
 //! Captures: what is written of rows that leave and that are shown, and what is read of it.
-ghost use Rattle.std.specs.Prelude.{IfOk, ◌<◌, length};
+ghost use Rattle.std.specs.Prelude.{◌<◌, length};
 ghost use Rattle.vt100_core.specs.Grid.{IsAllocated};
 
+use crate::grid::grid;
 use crate::same::same;
-use std::alloc::Global;
-use std::num::NonZeroU16;
 use std::test::Fail;
 use vt100_core::attrs::Attrs;
 use vt100_core::capture::{
     BasicFormattedCaptureRange, BasicFormattedCaptureState, RowContents, basic_formatted_rows,
     basic_formatted_to_plain, basic_formatted_to_plain_indexed,
 };
-use vt100_core::{Color, Grid, GridError, Row, RowSink, Scrollback, Size};
+use vt100_core::{Color, Grid, GridError, Row, RowSink};
 
 /// Captures the rows that it takes.
 #[derive(Drop)]
@@ -28,18 +27,6 @@ impl RowSink for Recorder {
         let written = RowContents::new(row).write_formatted_basic(&mut self.text, &mut self.state);
         self.failed = self.failed || written.is_err();
     }
-}
-
-fn new_grid(alloc: Global, rows: u16, cols: u16, capacity: usize) -> Result<Grid, GridError>
-    ensures { IfOk result (λ g. IsAllocated g) }
-{
-    let size = Size {
-        rows: NonZeroU16::new(rows).unwrap_or(NonZeroU16::MIN),
-        cols: NonZeroU16::new(cols).unwrap_or(NonZeroU16::MIN),
-    };
-    let mut grid = Grid::new(alloc, size, Scrollback::Enabled { capacity });
-    grid.allocate_rows()?;
-    Ok(grid)
 }
 
 const RED: Attrs = Attrs {
@@ -65,7 +52,7 @@ fn print(
 
 #[test]
 fn rows_that_leave_go_on_in_the_capture_of_the_others(rt: HostRuntime) -> Result<(), Fail> {
-    let mut grid = new_grid(rt.alloc(), 1, 2, 0)?;
+    let mut grid = grid(rt.alloc(), (1, 2, Some(0)))?;
     let mut sink = Recorder {
         text: String::new(rt.alloc()),
         state: BasicFormattedCaptureState::new(),

@@ -48,7 +48,7 @@ enum Step {
 }
 
 /// Rows, columns, and how many rows are kept at most, if there is scrollback.
-type Start = (u16, u16, Option<usize>);
+pub type Start = (u16, u16, Option<usize>);
 
 /// A new grid, what is done to it, and then: its rows and the cursor's row and column; how many rows are kept, how many
 /// of these are shown, and how many went to the sink.
@@ -68,7 +68,8 @@ fn scrollback(capacity: Option<usize>) -> Scrollback {
     }
 }
 
-fn grid(alloc: Global, start: Start) -> Result<Grid, Fail>
+/// A grid whose rows are allocated.
+pub fn grid(alloc: Global, start: Start) -> Result<Grid, Fail>
     ensures { IfOk result (λ g. IsAllocated g) }
 {
     let (rows, cols, capacity) = start;

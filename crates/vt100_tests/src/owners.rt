@@ -1,46 +1,32 @@
-//! Who owns a test's parser or screen: these functions alone. Each makes one and lends it to what the test does, so that
-//! what becomes of it at the end is proved in one place.
+//! Who owns a test's parser or screen: `with` alone. It takes one that was made, and lends it to what the test does, so
+//! that what becomes of it at the end is proved in one place.
 
 use crate::start::{Start, count};
 use std::alloc::Global;
+use std::fmt::Debug;
 use std::test::Fail;
-use vt100::{Parser, Screen};
+use vt100::{Parser, ScreenError};
 
-/// Does this with a parser.
-pub fn with_parser<F: FnOnce(&mut Parser<()>) -> Result<(), Fail>>(
-    alloc: Global,
-    start: Start,
+/// Does this with what was made.
+pub fn with<T: Drop, E: Debug + Drop, F: FnOnce(&mut T) -> Result<(), Fail>>(
+    made: Result<T, E>,
     check: F,
 ) -> Result<(), Fail>
     requires { F.IsAlwaysCallable check }
 {
-    let (rows, cols, capacity) = start;
-    let mut parser = Parser::new(alloc, count(rows), count(cols), capacity)?;
-    check(&mut parser)
+    let mut owned = made?;
+    check(&mut owned)
 }
 
-/// Does this with a parser that has read a stream.
-pub fn with_fed<F: FnOnce(&mut Parser<()>) -> Result<(), Fail>>(
-    alloc: Global,
-    start: Start,
-    stream: &[u8],
-    check: F,
-) -> Result<(), Fail>
-    requires { F.IsAlwaysCallable check }
-{
+/// A parser.
+pub fn parser_of(alloc: Global, start: Start) -> Result<Parser<()>, ScreenError> {
     let (rows, cols, capacity) = start;
-    let mut parser = Parser::new(alloc, count(rows), count(cols), capacity)?;
+    Parser::new(alloc, count(rows), count(cols), capacity)
+}
+
+/// A parser that has read a stream.
+pub fn fed(alloc: Global, start: Start, stream: &[u8]) -> Result<Parser<()>, ScreenError> {
+    let mut parser = parser_of(alloc, start)?;
     parser.process(stream)?;
-    check(&mut parser)
-}
-
-/// Does this with a copy of a screen.
-pub fn with_copy<F: FnOnce(&mut Screen) -> Result<(), Fail>>(
-    screen: &Screen,
-    check: F,
-) -> Result<(), Fail>
-    requires { F.IsAlwaysCallable check }
-{
-    let mut copy = screen.clone()?;
-    check(&mut copy)
+    Ok(parser)
 }

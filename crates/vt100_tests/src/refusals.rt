@@ -2,8 +2,10 @@
 //! once.
 ghost use Rattle.std.specs.Iterator.{IsFinite};
 
-use crate::report::{Text, places, report, text_of};
-use crate::same::{same, same_for};
+use crate::begun::retried;
+use crate::owners::{parser_of, with};
+use crate::report::{Text, check_alike, check_texts, places, report, text_of};
+use crate::same::same;
 use crate::start::{Start, count};
 use std::alloc::Global;
 use std::io::{ErrorKind, Write};
@@ -13,83 +15,25 @@ use vt100::{Parser, Screen, ScreenError, WrappedScreen};
 
 /// A parser, made at the second try if the first was refused.
 fn retried_parser(alloc: Global, start: Start) -> Result<Parser<()>, ScreenError> {
-    let (rows, cols, capacity) = start;
-    match Parser::new(alloc, count(rows), count(cols), capacity) {
-        Ok(parser) => Ok(parser),
-        Err(ScreenError::Memory) => Parser::new(alloc, count(rows), count(cols), capacity),
-        Err(error) => Err(error),
-    }
-}
-
-/// Does this with such a parser.
-fn with_retried<F: FnOnce(&mut Parser<()>) -> Result<(), Fail>>(
-    alloc: Global,
-    start: Start,
-    check: F,
-) -> Result<(), Fail>
-    requires { F.IsAlwaysCallable check }
-{
-    let mut parser = retried_parser(alloc, start)?;
-    check(&mut parser)
-}
-
-/// A text of a screen, at the second try if the first was refused.
-fn retried_text(
-    screen: &Screen,
-    prev: &Screen,
-    alloc: Global,
-    text: Text,
-) -> Result<String, ScreenError> {
-    match text_of(screen, prev, alloc, text) {
-        Ok(text) => Ok(text),
-        Err(ScreenError::Memory) => text_of(screen, prev, alloc, text),
-        Err(error) => Err(error),
-    }
+    retried(ScreenError::Memory, || parser_of(alloc, start))
 }
 
 /// The text of a screen's rows, at the second try if the first was refused.
 fn retried_contents(screen: &Screen) -> Result<String, ScreenError> {
-    match screen.contents() {
-        Ok(contents) => Ok(contents),
-        Err(ScreenError::Memory) => screen.contents(),
-        Err(error) => Err(error),
-    }
+    retried(ScreenError::Memory, || screen.contents())
 }
 
 /// A copy, made at the second try if the first was refused.
 fn retried_clone(screen: &Screen) -> Result<Screen, ScreenError> {
-    match screen.clone() {
-        Ok(screen) => Ok(screen),
-        Err(ScreenError::Memory) => screen.clone(),
-        Err(error) => Err(error),
-    }
-}
-
-/// Everything that a screen tells, at the second try if the first was refused.
-fn retried_report(screen: &Screen, prev: &Screen, alloc: Global) -> Result<String, ScreenError> {
-    match report(screen, prev, alloc) {
-        Ok(told) => Ok(told),
-        Err(ScreenError::Memory) => report(screen, prev, alloc),
-        Err(error) => Err(error),
-    }
-}
-
-/// Two screens tell the same.
-fn check_alike(
-    rt: &(impl Abort + AllocGlobal),
-    screen: &Screen,
-    copy: &Screen,
-) -> Result<(), Fail> {
-    let told = retried_report(screen, copy, rt.alloc())?;
-    let told_by_copy = retried_report(copy, screen, rt.alloc())?;
-    same(rt, &told.as_str(), &told_by_copy.as_str());
-    Ok(())
+    retried(ScreenError::Memory, || screen.clone())
 }
 
 /// Everything is read of a screen, whether it has failed or not, and of its copy, which tells the same.
 fn read_all(rt: &(impl Abort + AllocGlobal), screen: &Screen) -> Result<(), Fail> {
     let copy = retried_clone(screen)?;
-    check_alike(rt, screen, &copy)
+    check_alike(rt, screen, &copy, |screen, prev| {
+        retried(ScreenError::Memory, || report(screen, prev, rt.alloc()))
+    })
 }
 
 /// A screen that has failed does nothing more.
@@ -131,12 +75,12 @@ fn check_readable(rt: &(impl Abort + AllocGlobal), screen: &Screen) -> Result<()
     read_all(rt, screen)
 }
 
-/// A call succeeded, or memory was refused and the screen has failed.
+/// A call succeeded, or memory was refused and the screen has failed: whether it succeeded.
 fn check_answer(
     rt: &(impl Abort + AllocGlobal),
     parser: &mut Parser<()>,
     answer: Result<(), ScreenError>,
-) -> Result<(), Fail> {
+) -> Result<bool, Fail> {
     let has_failed = parser.screen().failed();
     same(
         rt,
@@ -147,7 +91,7 @@ fn check_answer(
         check_dead(rt, parser)?;
         check_readable(rt, parser.screen())?;
     }
-    Ok(())
+    Ok(answer.is_ok())
 }
 
 /// A screen has this size, and its main sheet this capacity.
@@ -170,11 +114,11 @@ fn check_process(
 ) -> Result<bool, Fail> {
     let (size, _, [_, capacity, _]) = places(parser.screen());
     let answer = parser.process(stream);
-    check_answer(rt, parser, answer)?;
-    if answer.is_err() {
+    let is_done = check_answer(rt, parser, answer)?;
+    if !is_done {
         check_places(rt, parser.screen(), size, capacity);
     }
-    Ok(answer.is_ok())
+    Ok(is_done)
 }
 
 /// A size and how many rows are kept at most, a stream, and then: what is shown, and how many rows are kept.
@@ -219,7 +163,7 @@ fn check_stream(
 #[test]
 fn streams(rt: HostRuntime) -> Result<(), Fail> {
     for (start, stream, want, kept) in STREAMS {
-        with_retried(rt.alloc(), *start, |parser| {
+        with(retried_parser(rt.alloc(), *start), |parser| {
             check_stream(&rt, parser, stream, (want, *kept))
         })?;
     }
@@ -248,7 +192,7 @@ fn check_start(rt: &impl Abort, screen: &Screen, (rows, cols, capacity): Start) 
 #[test]
 fn parsers_of_any_capacity(rt: HostRuntime) -> Result<(), Fail> {
     for start in STARTS {
-        with_retried(rt.alloc(), *start, |parser| {
+        with(retried_parser(rt.alloc(), *start), |parser| {
             check_start(&rt, parser.screen(), *start);
             Ok(())
         })?;
@@ -258,10 +202,7 @@ fn parsers_of_any_capacity(rt: HostRuntime) -> Result<(), Fail> {
 
 /// A parser of the default size, made at the second try if the first was refused.
 fn retried_default(alloc: Global) -> Result<Parser<()>, ScreenError> {
-    match Parser::new_default(alloc) {
-        Ok(parser) => Ok(parser),
-        Err(_) => Parser::new_default(alloc),
-    }
+    retried(ScreenError::Memory, || Parser::new_default(alloc))
 }
 
 #[test]
@@ -290,7 +231,10 @@ fn read_after(
 #[test]
 fn everything_is_read(rt: HostRuntime) -> Result<(), Fail> {
     for (start, stream) in READ {
-        with_retried(rt.alloc(), *start, |parser| read_after(&rt, parser, stream))?;
+        with(
+            retried_parser(rt.alloc(), *start),
+            |parser| read_after(&rt, parser, stream),
+        )?;
     }
     Ok(())
 }
@@ -325,18 +269,19 @@ const MODES_AND_ROWS: &[(Text, &str)] = &[
     (Text::RowsDiff(0, 4), "/\x1b[1mc/"),
 ];
 
-/// Each of these texts is made of a screen, against another one.
-fn check_texts(
+/// Each of these texts is made of a screen, against another one, at the second try if the first was refused.
+fn check_retried(
     rt: &(impl Abort + AllocGlobal),
     screen: &Screen,
     prev: &Screen,
     texts: &[(Text, &str)],
 ) -> Result<(), Fail> {
-    for (text, want) in texts {
-        let told = retried_text(screen, prev, rt.alloc(), *text)?;
-        same_for(rt, text, &told.as_str(), want);
-    }
-    Ok(())
+    check_texts(rt, texts, |text| {
+        retried(
+            ScreenError::Memory,
+            || text_of(screen, prev, rt.alloc(), text),
+        )
+    })
 }
 
 /// After a screen of one row comes a second row.
@@ -346,8 +291,8 @@ fn check_second_row(
     prev: &Screen,
 ) -> Result<(), Fail> {
     parser.process(b"\r\n\x1b[1mc")?;
-    check_texts(rt, parser.screen(), prev, TWO_ROWS)?;
-    check_texts(rt, parser.screen(), prev, MODES_AND_ROWS)
+    check_retried(rt, parser.screen(), prev, TWO_ROWS)?;
+    check_retried(rt, parser.screen(), prev, MODES_AND_ROWS)
 }
 
 /// A parser shows one row, which is copied, and then a second one too.
@@ -359,7 +304,10 @@ fn check_two_rows(rt: &(impl Abort + AllocGlobal), parser: &mut Parser<()>) -> R
 
 #[test]
 fn texts(rt: HostRuntime) -> Result<(), Fail> {
-    with_retried(rt.alloc(), (2, 4, 0), |parser| check_two_rows(&rt, parser))
+    with(
+        retried_parser(rt.alloc(), (2, 4, 0)),
+        |parser| check_two_rows(&rt, parser),
+    )
 }
 
 /// The texts of a kept row that is shown, and what differs from the row that is drawn on.
@@ -379,9 +327,8 @@ fn check_kept_row(
     prev: &Screen,
 ) -> Result<(), Fail> {
     let answer = parser.screen_mut().set_scrollback(1);
-    check_answer(rt, parser, answer)?;
-    if answer.is_ok() {
-        check_texts(rt, parser.screen(), prev, KEPT_ROW)?;
+    if check_answer(rt, parser, answer)? {
+        check_retried(rt, parser.screen(), prev, KEPT_ROW)?;
     }
     Ok(())
 }
@@ -394,7 +341,7 @@ fn check_kept_texts(rt: &(impl Abort + AllocGlobal), parser: &mut Parser<()>) ->
 
 #[test]
 fn texts_with_a_kept_row(rt: HostRuntime) -> Result<(), Fail> {
-    with_retried(rt.alloc(), (1, 2, 3), |parser| {
+    with(retried_parser(rt.alloc(), (1, 2, 3)), |parser| {
         if check_process(&rt, parser, b"a\r\nb")? {
             check_kept_texts(&rt, parser)?;
         }
@@ -460,7 +407,7 @@ fn check_rows_diff(rt: &impl Abort, screen: &Screen, prev: &Screen) -> Result<()
 
 #[test]
 fn items_of_rows(rt: HostRuntime) -> Result<(), Fail> {
-    with_retried(rt.alloc(), (3, 8, 0), |parser| {
+    with(retried_parser(rt.alloc(), (3, 8, 0)), |parser| {
         parser.process(b"one\r\ntwo\r\nthree")?;
         check_rows(&rt, parser.screen())?;
         check_rows_formatted(&rt, parser.screen())
@@ -476,7 +423,7 @@ fn check_differences(rt: &impl Abort, parser: &mut Parser<()>) -> Result<(), Fai
 
 #[test]
 fn items_of_differences(rt: HostRuntime) -> Result<(), Fail> {
-    with_retried(rt.alloc(), (3, 8, 0), |parser| {
+    with(retried_parser(rt.alloc(), (3, 8, 0)), |parser| {
         check_differences(&rt, parser)
     })
 }
@@ -504,7 +451,7 @@ fn check_copy(rt: &impl Abort, screen: &Screen) -> Result<(), Fail> {
 
 #[test]
 fn copies(rt: HostRuntime) -> Result<(), Fail> {
-    with_retried(rt.alloc(), (2, 2, 3), |parser| {
+    with(retried_parser(rt.alloc(), (2, 2, 3)), |parser| {
         if check_process(&rt, parser, b"a\r\nb\r\nc\x1b[?47hx")? {
             check_copy(&rt, parser.screen())?;
         }
@@ -536,10 +483,9 @@ fn check_sized(rt: &impl Abort, parser: &mut Parser<()>) -> Result<(), Fail> {
 /// lost and those at the top are kept.
 #[test]
 fn sizes(rt: HostRuntime) -> Result<(), Fail> {
-    with_retried(rt.alloc(), (2, 2, 3), |parser| {
+    with(retried_parser(rt.alloc(), (2, 2, 3)), |parser| {
         let answer = two_sizes(parser);
-        check_answer(&rt, parser, answer)?;
-        if answer.is_ok() {
+        if check_answer(&rt, parser, answer)? {
             check_sized(&rt, parser)?;
         }
         Ok(())
@@ -560,10 +506,9 @@ fn check_kept(rt: &impl Abort, screen: &Screen) -> Result<(), Fail> {
 
 #[test]
 fn kept_rows(rt: HostRuntime) -> Result<(), Fail> {
-    with_retried(rt.alloc(), (1, 2, 3), |parser| {
+    with(retried_parser(rt.alloc(), (1, 2, 3)), |parser| {
         let answer = show_kept_rows(parser);
-        check_answer(&rt, parser, answer)?;
-        if answer.is_ok() {
+        if check_answer(&rt, parser, answer)? {
             check_kept(&rt, parser.screen())?;
         }
         Ok(())
@@ -660,7 +605,7 @@ fn check_writing(rt: &impl Abort, parser: &mut Parser<()>) {
 
 #[test]
 fn writing(rt: HostRuntime) -> Result<(), Fail> {
-    with_retried(rt.alloc(), (2, 2, 3), |parser| {
+    with(retried_parser(rt.alloc(), (2, 2, 3)), |parser| {
         check_writing(&rt, parser);
         Ok(())
     })

@@ -1,7 +1,10 @@
 //! All that a screen answers about itself.
 ghost use Rattle.std.specs.Iterator.{IsFinite};
 
+use crate::same::{same, same_for};
 use std::alloc::Global;
+use std::process::Abort;
+use std::test::Fail;
 use vt100::capture::{BasicFormattedCaptureRange, BasicFormattedCaptureState};
 use vt100::{
     Color, CursorStyle, GridError, MouseProtocolEncoding, MouseProtocolMode, Screen, ScreenError,
@@ -53,16 +56,17 @@ fn add(text: &mut String, more: &str) -> Result<(), GridError> {
     Ok(())
 }
 
-/// The texts of so many rows, each with a `/` after it.
+/// The texts of a screen's rows, each with a `/` after it.
 fn joined<I: Iterator<Item = Result<String, ScreenError>> + Drop>(
     alloc: Global,
-    count: u16,
+    screen: &Screen,
     mut texts: I,
 ) -> Result<String, ScreenError>
     requires { I.can_next texts × IsFinite (I.remaining texts) }
 {
     let mut text = String::new(alloc);
-    for _ in 0..count {
+    let (rows, _) = screen.size();
+    for _ in 0..rows.get() {
         let Some(row) = texts.next() else {
             break;
         };
@@ -70,32 +74,6 @@ fn joined<I: Iterator<Item = Result<String, ScreenError>> + Drop>(
         add(&mut text, "/")?;
     }
     Ok(text)
-}
-
-fn rows_of(screen: &Screen, alloc: Global, start: u16, width: u16) -> Result<String, ScreenError> {
-    let (rows, _) = screen.size();
-    joined(alloc, rows.get(), screen.rows(start, width))
-}
-
-fn rows_formatted_of(
-    screen: &Screen,
-    alloc: Global,
-    start: u16,
-    width: u16,
-) -> Result<String, ScreenError> {
-    let (rows, _) = screen.size();
-    joined(alloc, rows.get(), screen.rows_formatted(start, width))
-}
-
-fn rows_diff_of(
-    screen: &Screen,
-    prev: &Screen,
-    alloc: Global,
-    start: u16,
-    width: u16,
-) -> Result<String, ScreenError> {
-    let (rows, _) = screen.size();
-    joined(alloc, rows.get(), screen.rows_diff(prev, start, width))
 }
 
 fn all_rows_basic(screen: &Screen, alloc: Global) -> Result<String, ScreenError> {
@@ -130,9 +108,13 @@ pub fn text_of(
         Text::InputModeDiff => screen.input_mode_diff(prev),
         Text::AttributesFormatted => screen.attributes_formatted(),
         Text::CursorStateFormatted => screen.cursor_state_formatted(),
-        Text::Rows(start, width) => rows_of(screen, alloc, start, width),
-        Text::RowsFormatted(start, width) => rows_formatted_of(screen, alloc, start, width),
-        Text::RowsDiff(start, width) => rows_diff_of(screen, prev, alloc, start, width),
+        Text::Rows(start, width) => joined(alloc, screen, screen.rows(start, width)),
+        Text::RowsFormatted(start, width) => joined(
+            alloc,
+            screen,
+            screen.rows_formatted(start, width),
+        ),
+        Text::RowsDiff(start, width) => joined(alloc, screen, screen.rows_diff(prev, start, width)),
     }
 }
 
@@ -227,4 +209,34 @@ pub fn report(screen: &Screen, prev: &Screen, alloc: Global) -> Result<String, S
         add(&mut report, "\n")?;
     }
     Ok(report)
+}
+
+/// Two screens tell the same, as this reports it of a screen against another one.
+pub fn check_alike<F: Fn(&Screen, &Screen) -> Result<String, ScreenError>>(
+    rt: &impl Abort,
+    screen: &Screen,
+    copy: &Screen,
+    report: F,
+) -> Result<(), Fail>
+    requires { F.IsAlwaysCallable report }
+{
+    let told = report(screen, copy)?;
+    let told_by_copy = report(copy, screen)?;
+    same(rt, &told.as_str(), &told_by_copy.as_str());
+    Ok(())
+}
+
+/// Each of these texts is made so by this.
+pub fn check_texts<F: Fn(Text) -> Result<String, ScreenError>>(
+    rt: &impl Abort,
+    texts: &[(Text, &str)],
+    make: F,
+) -> Result<(), Fail>
+    requires { F.IsAlwaysCallable make }
+{
+    for (text, want) in texts {
+        let told = make(*text)?;
+        same_for(rt, text, &told.as_str(), want);
+    }
+    Ok(())
 }

@@ -1,9 +1,9 @@
 //! What callbacks are told, in order, each call after its event's change, and captures of what they keep.
 
 use crate::log::{Log, logging_parser};
+use crate::owners::with;
 use crate::same::{same, same_for};
 use crate::start::{Start, count};
-use std::alloc::Global;
 use std::process::Abort;
 use std::test::Fail;
 use vt100::Parser;
@@ -30,21 +30,9 @@ fn check_stream(
     Ok(())
 }
 
-/// Does this with a parser whose callbacks keep what they are told.
-fn with_log<F: FnOnce(&mut Parser<Log>) -> Result<(), Fail>>(
-    alloc: Global,
-    start: Start,
-    check: F,
-) -> Result<(), Fail>
-    requires { F.IsAlwaysCallable check }
-{
-    let mut parser = logging_parser(alloc, start)?;
-    check(&mut parser)
-}
-
 fn check_told(rt: &(impl Abort + AllocGlobal), cases: &[Told]) -> Result<(), Fail> {
     for (start, stream, told) in cases {
-        with_log(rt.alloc(), *start, |parser| {
+        with(logging_parser(rt.alloc(), *start), |parser| {
             check_stream(rt, parser, stream, told)
         })?;
     }
@@ -180,7 +168,10 @@ fn check_two_sizes(rt: &impl Abort, parser: &mut Parser<Log>) -> Result<(), Fail
 /// A request for a size comes to callbacks that grant it, and a lower screen tells of the rows that leave.
 #[test]
 fn sizes_are_told(rt: HostRuntime) -> Result<(), Fail> {
-    with_log(rt.alloc(), (2, 2, 0), |parser| check_two_sizes(&rt, parser))
+    with(
+        logging_parser(rt.alloc(), (2, 2, 0)),
+        |parser| check_two_sizes(&rt, parser),
+    )
 }
 
 /// Captures the kept rows and those that are drawn on, and then those that are shown.
@@ -212,5 +203,8 @@ fn check_capture(rt: &impl Abort, parser: &mut Parser<Log>) -> Result<(), Fail> 
 /// Rows that left, and then the kept ones and those that are drawn on, are one capture.
 #[test]
 fn captures_go_on(rt: HostRuntime) -> Result<(), Fail> {
-    with_log(rt.alloc(), (2, 2, 1), |parser| check_capture(&rt, parser))
+    with(
+        logging_parser(rt.alloc(), (2, 2, 1)),
+        |parser| check_capture(&rt, parser),
+    )
 }

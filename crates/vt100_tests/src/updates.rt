@@ -1,6 +1,6 @@
 //! The program's own synchronized updates (private mode 2026).
 
-use crate::owners::with_parser;
+use crate::owners::{parser_of, with};
 use crate::same::{same, same_for};
 use crate::start::count;
 use std::process::Abort;
@@ -44,7 +44,7 @@ fn check_update(
 #[test]
 fn updates(rt: HostRuntime) -> Result<(), Fail> {
     for (stream, is_updating) in STREAMS {
-        with_parser(rt.alloc(), (2, 3, 1), |parser| {
+        with(parser_of(rt.alloc(), (2, 3, 1)), |parser| {
             check_update(&rt, parser, stream, *is_updating)
         })?;
     }
@@ -72,5 +72,8 @@ fn check_sizes(rt: &impl Abort, parser: &mut Parser<()>) -> Result<(), Fail> {
 /// Another size ends an update, and so does the same size. No text of the screen tells of one.
 #[test]
 fn sizes_end_updates(rt: HostRuntime) -> Result<(), Fail> {
-    with_parser(rt.alloc(), (2, 3, 1), |parser| check_sizes(&rt, parser))
+    with(
+        parser_of(rt.alloc(), (2, 3, 1)),
+        |parser| check_sizes(&rt, parser),
+    )
 }

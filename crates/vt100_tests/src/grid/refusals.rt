@@ -4,7 +4,7 @@ ghost use Rattle.std.specs.Prelude.{IfOk, ◌<◌, length};
 ghost use Rattle.vt100_core.specs.Grid.{IsAllocated};
 
 use super::*;
-use crate::begun::{check_refused, check_text, retried_text};
+use crate::begun::{check_appended, retried};
 use std::process::Abort;
 
 /// How many rows are drawn on, and whether each has so many columns.
@@ -77,21 +77,13 @@ fn retried_print<R: Abort>(rt: &R, grid: &mut Grid, text: &str) -> Result<(), Fa
     Ok(())
 }
 
-/// A grid's rows as text, written at the second try if the first was refused.
-fn retried_drawn(alloc: Global, grid: &Grid) -> Result<String, GridError> {
-    match drawn(alloc, grid) {
-        Ok(text) => Ok(text),
-        Err(_) => drawn(alloc, grid),
-    }
-}
-
 /// A grid's rows are these, and its cursor stands at this row and column.
 fn check_again(
     rt: &(impl Abort + AllocGlobal),
     grid: &Grid,
     want: (&str, u16, u16),
 ) -> Result<(), Fail> {
-    let text = retried_drawn(rt.alloc(), grid)?;
+    let text = retried(GridError::Memory, || drawn(rt.alloc(), grid))?;
     let Pos { row, col } = grid.pos();
     same(rt, &(text.as_str(), row, col), &want);
     Ok(())
@@ -303,42 +295,24 @@ const REDRAWS: &[(Start, &str, &str, &str)] = &[
     ((2, 4, None), "abcd", "\x1b[m\x1b[H\x1b[Jabcd", "\x1b[1;4Hd"),
 ];
 
-/// Draws a grid, once more if that was refused.
-fn check_redraw(rt: &(impl Abort + AllocGlobal), grid: &Grid, want: &str) -> Result<(), Fail> {
-    let mut text = retried_text(rt.alloc())?;
-    if let Err(error) = grid.write_contents_formatted(&mut text) {
-        check_refused(rt, &mut text, error, want)?;
-        grid.write_contents_formatted(&mut text)?;
-    }
-    check_text(rt, &text, want);
-    Ok(())
-}
-
+/// Draws a grid.
 #[test]
 fn redraws(rt: HostRuntime) -> Result<(), Fail> {
     for (start, printed, want, _) in REDRAWS {
         let grid = printed_grid(&rt, rt.alloc(), *start, printed)?;
-        check_redraw(&rt, &grid, want)?;
+        check_appended(&rt, want, |text| grid.write_contents_formatted(text))?;
     }
     Ok(())
 }
 
-/// Brings the cursor to its place, once more if that was refused.
-fn check_place(rt: &(impl Abort + AllocGlobal), grid: &Grid, want: &str) -> Result<(), Fail> {
-    let mut text = retried_text(rt.alloc())?;
-    if let Err(error) = grid.write_cursor_position_formatted(&mut text, None, None) {
-        check_refused(rt, &mut text, error, want)?;
-        grid.write_cursor_position_formatted(&mut text, None, None)?;
-    }
-    check_text(rt, &text, want);
-    Ok(())
-}
-
+/// Brings the cursor to its place.
 #[test]
 fn places_of_the_cursor(rt: HostRuntime) -> Result<(), Fail> {
     for (start, printed, _, want) in REDRAWS {
         let grid = printed_grid(&rt, rt.alloc(), *start, printed)?;
-        check_place(&rt, &grid, want)?;
+        check_appended(&rt, want, |text| {
+            grid.write_cursor_position_formatted(text, None, None)
+        })?;
     }
     Ok(())
 }
@@ -351,28 +325,15 @@ const DIFFERENCES: &[(Start, &str, &str, &str)] = &[
     ((2, 4, None), "ab", "ab中", "中"),
 ];
 
-/// Draws the difference of two grids, once more if that was refused.
-fn check_diff(
-    rt: &(impl Abort + AllocGlobal),
-    prev: &Grid,
-    grid: &Grid,
-    want: &str,
-) -> Result<(), Fail> {
-    let mut text = retried_text(rt.alloc())?;
-    if let Err(error) = grid.write_contents_diff(&mut text, prev, Attrs::new()) {
-        check_refused(rt, &mut text, error, want)?;
-        grid.write_contents_diff(&mut text, prev, Attrs::new())?;
-    }
-    check_text(rt, &text, want);
-    Ok(())
-}
-
+/// Draws the difference of two grids.
 #[test]
 fn differences(rt: HostRuntime) -> Result<(), Fail> {
     for (start, earlier, later, want) in DIFFERENCES {
         let prev = printed_grid(&rt, rt.alloc(), *start, earlier)?;
         let grid = printed_grid(&rt, rt.alloc(), *start, later)?;
-        check_diff(&rt, &prev, &grid, want)?;
+        check_appended(&rt, want, |text| {
+            grid.write_contents_diff(text, &prev, Attrs::new())
+        })?;
     }
     Ok(())
 }

@@ -1,15 +1,12 @@
 //! Calls on a row that find no memory. They are refused where the tests run with allocations that fail; else each
 //! succeeds at once.
 use super::*;
-use crate::begun::{check_refused, check_text, retried_text};
+use crate::begun::{check_appended, retried};
 use vt100_forms::Pos;
 
 /// A row, made at the second try if the first was refused.
 fn retried_row(alloc: Global, cols: u16, text: &str) -> Result<Row, GridError> {
-    match row_of(alloc, cols, text) {
-        Ok(row) => Ok(row),
-        Err(_) => row_of(alloc, cols, text),
-    }
+    retried(GridError::Memory, || row_of(alloc, cols, text))
 }
 
 /// A wrapped row, made at the second try if the first was refused.
@@ -19,17 +16,9 @@ fn wrapped_row(alloc: Global, cols: u16, text: &str) -> Result<Row, GridError> {
     Ok(row)
 }
 
-/// A row's cells as text, written at the second try if the first was refused.
-fn retried_shown(alloc: Global, row: &Row) -> Result<String, GridError> {
-    match shown(alloc, row) {
-        Ok(text) => Ok(text),
-        Err(_) => shown(alloc, row),
-    }
-}
-
 /// A row is this one.
 fn check_again(rt: &(impl Abort + AllocGlobal), row: &Row, want: &str) -> Result<(), Fail> {
-    let text = retried_shown(rt.alloc(), row)?;
+    let text = retried(GridError::Memory, || shown(rt.alloc(), row))?;
     same(rt, &text.as_str(), &want);
     Ok(())
 }
@@ -56,14 +45,6 @@ fn rows_of_any_width_are_made(rt: HostRuntime) -> Result<(), Fail> {
     Ok(())
 }
 
-/// A copy, made at the second try if the first was refused.
-fn retried_copy(row: &Row) -> Result<Row, GridError> {
-    match row.clone() {
-        Ok(copy) => Ok(copy),
-        Err(_) => row.clone(),
-    }
-}
-
 /// Columns, a text that is printed, and the row when it is wrapped then.
 const COPIED: &[(u16, &str, &str)] = &[
     (0, "", ""),
@@ -80,7 +61,7 @@ const COPIED: &[(u16, &str, &str)] = &[
 fn rows_are_copied(rt: HostRuntime) -> Result<(), Fail> {
     for (cols, text, want) in COPIED {
         let row = wrapped_row(rt.alloc(), *cols, text)?;
-        let copy = retried_copy(&row)?;
+        let copy = retried(GridError::Memory, || row.clone())?;
         check_again(&rt, &copy, want)?;
         check_again(&rt, &row, want)?;
     }
@@ -156,20 +137,16 @@ fn rows_become_as_long_as_can_be(rt: HostRuntime) -> Result<(), Fail> {
     Ok(())
 }
 
-/// Appends the text of columns, once more if that was refused.
+/// Appends the text of columns.
 fn check_contents(
     rt: &(impl Abort + AllocGlobal),
     row: &Row,
     (start, width, wrapping): (u16, u16, bool),
     want: &str,
 ) -> Result<(), Fail> {
-    let mut text = retried_text(rt.alloc())?;
-    if let Err(error) = row.write_contents(&mut text, start, width, wrapping) {
-        check_refused(rt, &mut text, error, want)?;
-        row.write_contents(&mut text, start, width, wrapping)?;
-    }
-    check_text(rt, &text, want);
-    Ok(())
+    check_appended(rt, want, |text| {
+        row.write_contents(text, start, width, wrapping)
+    })
 }
 
 #[test]
@@ -230,7 +207,7 @@ const DRAWN: &[(u16, &str, u16, u16, bool, Place, &str, Left)] = &[
     (50, LONG, 0, 50, false, None, LONG, (3, 40, true)),
 ];
 
-/// Draws columns of a row as the fourth one, once more if that was refused.
+/// Draws columns of a row as the fourth one.
 fn check_forms(
     rt: &(impl Abort + AllocGlobal),
     row: &Row,
@@ -238,17 +215,9 @@ fn check_forms(
     place: Option<Pos>,
     (want, end): (&str, Left),
 ) -> Result<(), Fail> {
-    let mut text = retried_text(rt.alloc())?;
-    let answer = match row.write_contents_formatted(
-        &mut text, start, width, 3, above, place, None,
-    ) {
-        Ok(answer) => answer,
-        Err(error) => {
-            check_refused(rt, &mut text, error, want)?;
-            row.write_contents_formatted(&mut text, start, width, 3, above, place, None)?
-        }
-    };
-    check_text(rt, &text, want);
+    let answer = check_appended(rt, want, |text| {
+        row.write_contents_formatted(text, start, width, 3, above, place, None)
+    })?;
     same(rt, &left(answer), &end);
     Ok(())
 }
@@ -273,7 +242,7 @@ const CHANGED: &[(u16, &str, &str, &str, Left)] = &[
     (50, "", LONG, LONG, (3, 40, true)),
 ];
 
-/// Draws the difference of two rows, once more if that was refused.
+/// Draws the difference of two rows.
 fn check_diff(
     rt: &(impl Abort + AllocGlobal),
     prev: &Row,
@@ -281,17 +250,9 @@ fn check_diff(
     (want, end): (&str, Left),
 ) -> Result<(), Fail> {
     let (begin, attrs, cols) = (Pos { row: 3, col: 0 }, Attrs::new(), row.cols());
-    let mut text = retried_text(rt.alloc())?;
-    let answer = match row.write_contents_diff(
-        &mut text, prev, 0, cols, 3, false, false, begin, attrs,
-    ) {
-        Ok(answer) => answer,
-        Err(error) => {
-            check_refused(rt, &mut text, error, want)?;
-            row.write_contents_diff(&mut text, prev, 0, cols, 3, false, false, begin, attrs)?
-        }
-    };
-    check_text(rt, &text, want);
+    let answer = check_appended(rt, want, |text| {
+        row.write_contents_diff(text, prev, 0, cols, 3, false, false, begin, attrs)
+    })?;
     same(rt, &left(answer), &end);
     Ok(())
 }
