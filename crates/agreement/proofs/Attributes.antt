@@ -15,7 +15,7 @@ use Rattle.vt100_forms.specs.Length.{IsByteOption}
 use Rattle.terminal_model.specs.Apply.{apply}
 use Rattle.forms_read.specs.Events.{kept_number, sgr_events, events_of}
 use Rattle.screen_model.specs.State.{State}
-use Rattle.screen_model.specs.Sgr.{colored, nothing, index, red, first_next, goes_on, Read, read_groups}
+use Rattle.screen_model.specs.Sgr.{colored, change, separate_color, asks, Read, read_on, read_groups}
 use Rattle.screen_model.specs.Made.{played}
 use Rattle.agreement.specs.Plain.{terminal_of, size_shown, IsPlainState}
 use Rattle.agreement.specs.StateLaws.{Shows}
@@ -34,18 +34,18 @@ singles-join (m ∷ ms) ns gs = ap (λ rest. (kept_number m ∷ []) ∷ rest) (s
 -- the numbers change the attributes by f, whatever follows them
 abbrev IsReadBy : List ℕ → (Attrs → Attrs) → Type 0
 IsReadBy ns f = (gs : List (List ℕ)) (a : Attrs)
-    → read_groups (singles ns ++ gs) nothing a ≡ read_groups gs nothing (f a)
+    → read_groups (singles ns ++ gs) 0 a ≡ read_groups gs 0 (f a)
 
 read-both : (ms ns : List ℕ) (f k : Attrs → Attrs) → IsReadBy ms f → IsReadBy ns k
     → IsReadBy (ms ++ ns) (λ a. k (f a))
 read-both ms ns f k h g gs a =
-    ap (λ rest. read_groups rest nothing a) (singles-join ms ns gs) ∙ h (singles ns ++ gs) a ∙ g gs (f a)
+    ap (λ rest. read_groups rest 0 a) (singles-join ms ns gs) ∙ h (singles ns ++ gs) a ∙ g gs (f a)
 
 -- ---- colours
 
 -- a number that sets a colour by itself
 abbrev SetsColor : Bool → ℕ → ℕ → Type 0
-SetsColor fore n i = (a : Attrs) → first_next (kept_number n ∷ []) a ≡ goes_on nothing (colored fore (Idx i) a)
+SetsColor fore n i = (gs : List (List ℕ)) → asks (kept_number n ∷ []) gs ≡ change (colored fore (Idx i)) 0
 
 low : (fore : Bool) → Below (λ i. SetsColor fore (cond fore 30 40 + i) i) 8
 low true =
@@ -64,24 +64,28 @@ above P i h l m =
     let e : 8 + (i - 8) ≡ i = omega (arith, l) in
     subst P e (each-below (λ j. P (8 + j)) 8 (i - 8) h (omega (arith, l, m)))
 
+-- what groups after 38 or 48 alone lead to
+abbrev read_after : Bool → List (List ℕ) → Attrs → Read
+read_after fore gs a = read_on (read_groups gs) a (separate_color fore gs)
+
 index-read : (fore : Bool) (i : ℕ) (gs : List (List ℕ)) (a : Attrs) → i < 256
-    → read_groups ((kept_number i ∷ []) ∷ gs) (index fore) a ≡ read_groups gs nothing (colored fore (Idx i) a)
+    → read_after fore ((5 ∷ []) ∷ (kept_number i ∷ []) ∷ gs) a ≡ read_groups gs 0 (colored fore (Idx i) a)
 index-read fore i gs a h =
     let kept : kept_number i ≡ i = omega (arith, h) in
-    ap (λ n. read_groups ((n ∷ []) ∷ gs) (index fore) a) kept ∙ rw (lt-ltb i 256 h) refl
+    ap (λ n. read_after fore ((5 ∷ []) ∷ (n ∷ []) ∷ gs) a) kept ∙ rw (lt-ltb i 256 h) refl
 
 indexed-is : (fore : Bool) (i : ℕ) → i < 256 → IsReadBy ((cond fore 30 40 + 8) ∷ 5 ∷ i ∷ []) (colored fore (Idx i))
 indexed-is true i h gs a = index-read true i gs a h
 indexed-is false i h gs a = index-read false i gs a h
 
 values-read : (fore : Bool) (r g b : ℕ) (gs : List (List ℕ)) (a : Attrs) → r < 256 → g < 256 → b < 256
-    → read_groups ((kept_number r ∷ []) ∷ (kept_number g ∷ []) ∷ (kept_number b ∷ []) ∷ gs) (red fore) a
-    ≡ read_groups gs nothing (colored fore (Rgb r g b) a)
+    → read_after fore ((2 ∷ []) ∷ (kept_number r ∷ []) ∷ (kept_number g ∷ []) ∷ (kept_number b ∷ []) ∷ gs) a
+    ≡ read_groups gs 0 (colored fore (Rgb r g b) a)
 values-read fore r g b gs a hr hg hb =
     let er : kept_number r ≡ r = omega (arith, hr) in
     let eg : kept_number g ≡ g = omega (arith, hg) in
     let eb : kept_number b ≡ b = omega (arith, hb) in
-    (λ i. read_groups ((er i ∷ []) ∷ (eg i ∷ []) ∷ (eb i ∷ []) ∷ gs) (red fore) a)
+    (λ i. read_after fore ((2 ∷ []) ∷ (er i ∷ []) ∷ (eg i ∷ []) ∷ (eb i ∷ []) ∷ gs) a)
     ∙ rw (lt-ltb r 256 hr, lt-ltb g 256 hg, lt-ltb b 256 hb) refl
 
 spec-is : (fore : Bool) (r g b : ℕ) → r < 256 → g < 256 → b < 256
@@ -90,9 +94,9 @@ spec-is true r g b hr hg hb gs a = values-read true r g b gs a hr hg hb
 spec-is false r g b hr hg hb gs a = values-read false r g b gs a hr hg hb
 
 -- one number that goes on
-one-is : (n : ℕ) (f : Attrs → Attrs) → ((a : Attrs) → first_next (kept_number n ∷ []) a ≡ goes_on nothing (f a))
+one-is : (n : ℕ) (f : Attrs → Attrs) → ((gs : List (List ℕ)) → asks (kept_number n ∷ []) gs ≡ change f 0)
     → IsReadBy (n ∷ []) f
-one-is n f h gs a = rw (h a) refl
+one-is n f h gs a = ap (read_on (read_groups gs) a) (h gs)
 
 color-is : (t : Bool) (c : Color) → IsByteColor c → IsReadBy (color_numbers (cond t 30 40) c) (colored t c)
 color-is true Default h = λ gs a. refl
@@ -152,7 +156,7 @@ sgr-played : (ns : List ℕ) (f : Attrs → Attrs) (s : State) → IsReadBy ns f
     → played (sgr_events ns) s ≡ record s { attrs = f s.attrs }
 sgr-played [] f s h = ap (λ (r : Read). record s { attrs = r.attrs }) (h [] s.attrs)
 sgr-played (n ∷ ns) f s h =
-    ap (λ gs. record s { attrs = (read_groups gs nothing s.attrs).attrs }) (sym (append-nil (singles (n ∷ ns))))
+    ap (λ gs. record s { attrs = (read_groups gs 0 s.attrs).attrs }) (sym (append-nil (singles (n ∷ ns))))
     ∙ ap (λ (r : Read). record s { attrs = r.attrs }) (h [] s.attrs)
 
 pub shows-Sgr : (s : State) (c : Change) → IsPlainState s → IsByteOption c.fgcolor → IsByteOption c.bgcolor

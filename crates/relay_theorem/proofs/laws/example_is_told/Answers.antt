@@ -7,7 +7,7 @@ use Rattle.row_drawing.specs.Writer.{◌>>◌, skip, goto, turn, color, print, s
 use Rattle.row_drawing.specs.RowWriter.{reprint, opening, to_erase, flush_of, flush, finish_of, finish, arrive}
 use Rattle.row_drawing.specs.RowWriter.{mark_of, mark, draw, column, columns, unflag, print_last, mend, closing}
 use Rattle.row_drawing.specs.RowWriter.{row_redraw, row_difference}
-use Rattle.screen_drawing.specs.Rows.{next_redraw, rows_redraw}
+use Rattle.screen_drawing.specs.Rows.{next_row, in_turn}
 use Rattle.screen_drawing.specs.Cursor.{wait_behind, wait_on_empty, wait, cursor_position_formatted}
 use Rattle.screen_drawing.specs.Modes.{input_mode_formatted}
 use Rattle.screen_drawing.specs.Screen.{cursor_placed, grid_redraw, grid_contents_formatted}
@@ -94,7 +94,7 @@ told e =
 pub returns : goal.returns
 unfolding ◌>>◌ skip goto turn color print space back erasing clearing marking reprint opening to_erase flush_of flush
     finish_of finish arrive mark_of mark draw column columns unflag print_last mend closing row_redraw row_difference
-    char_width encode next_redraw rows_redraw wait_behind wait_on_empty wait cursor_position_formatted
+    char_width encode next_row in_turn wait_behind wait_on_empty wait cursor_position_formatted
     input_mode_formatted cursor_placed grid_redraw grid_contents_formatted contents_formatted state_formatted printed
     scrolled_up fed wrapped_on resized is_unsure body_forms same_shown taken_by
 returns c e = record {
