@@ -1,6 +1,6 @@
 -- A session's own calls can be made alone.
-use Rattle.std.proofs.Common.{◌≡◌, ◌∙◌, ℕ, false, ◌||◌, List, [], ◌∷◌, ◌++◌, map, Option, Some, None}
-use Rattle.std.proofs.Common.{Result, Ok, Err, refl, sym, ap, subst, if◌then◌else◌}
+use Rattle.std.proofs.Common.{◌≡◌, ◌∙◌, ℕ, false, ◌||◌, List, [], ◌∷◌, ◌++◌, map, Option, Some, None, Result, Ok, Err}
+use Rattle.std.proofs.Common.{drop, refl, sym, ap, subst, if◌then◌else◌}
 use Rattle.std.specs.Prelude.{◌==◌, slice_get}
 use Rattle.std.specs.List.{list_any}
 use Rattle.std.specs.declared.io.Error.{Error}
@@ -15,12 +15,13 @@ use Rattle.termrelay.specs.Calls.{Feed, Resize, Attach, Detach, Frame, Pump, IsC
 use Rattle.termrelay.specs.Log.{begun}
 use Rattle.termrelay.proofs.ScriptLemmas.{taken-as-told}
 use Rattle.relay_theorem.specs.History.{as_told, Story, stories_after, RunsTold}
-use Rattle.relay_theorem.specs.Isolation.{is_starved, Own, Acts, Comes, Asks, Pumped, Leaves, own_then, own_of, own_calls}
-use Rattle.relay_theorem.specs.Isolation.{alone, EachSessionStandsAlone}
+use Rattle.relay_theorem.specs.Isolation.{is_starved, Own, Acts, Comes, Asks, Pumped, Leaves, own_then, own_of}
+use Rattle.relay_theorem.specs.Isolation.{own_calls, alone, EachSessionStandsAlone}
 use Rattle.relay_theorem.proofs.StoryLemmas.{at-key}
-use Rattle.relay_theorem.proofs.HistoryLemmas.{IsKept, call-kept, fresh-kept}
-use Rattle.relay_theorem.proofs.OwnLemmas.{Life, past, story_of, born, answer_now, client_by, left_by, taken, lives}
-use Rattle.relay_theorem.proofs.OwnLemmas.{tell_on, CanLive, CanCome, Lives}
+use Rattle.relay_theorem.proofs.CallLemmas.{left_in}
+use Rattle.relay_theorem.proofs.HistoryLemmas.{IsKept, fed-kept, resized-kept, attached-kept, fresh-kept, run-went}
+use Rattle.relay_theorem.proofs.OwnLemmas.{Life, past, story_of, born, answer_now, client_by, lives, tell_on, CanLive}
+use Rattle.relay_theorem.proofs.OwnLemmas.{CanCome, Lives}
 use Rattle.relay_theorem.proofs.OwnRunLemmas.{EndsAs, lives-run, session-found}
 
 -- however a pump ends, it wasn't refused for want of memory
@@ -99,7 +100,7 @@ module _ (rows cols key : ℕ) where
       (own-first Asks (own_of key (map (alone key) owns) r.replies))
   goes-on l (Pumped takes ∷ owns) clients ts ((end, m, rest, pumps), can) at =
       let h = hub_at l.acts clients in
-      let left = left_by rows cols l in
+      let left = λ (i : ℕ). record (l.client) { owed = drop i l.client.owed } in
       let now = with_client clients key (Some (left m)) in
       let g = hub_at l.acts now in
       let reply = done (pump_answer end) in
@@ -110,7 +111,7 @@ module _ (rows cols key : ℕ) where
             (end, m, pumps, refl, (refl, refl)),
         refl,
       ) in
-      let after : now key ≡ Some (left (taken rows cols l takes)) =
+      let after : now key ≡ Some (left_in takes l.client) =
       at-key clients key (Some (left m))
       ∙ ap (λ i. Some (left i)) (taken-as-told takes rest l.client.owed end m pumps) in
       let r = goes-on (lives rows cols l (Pumped takes)) owns now (stories_after h (Pump key takes) reply ts) can after in
@@ -147,7 +148,7 @@ module _ (rows cols key : ℕ) where
       let h = hub_at acts no_clients in
       let g = hub_at (acts ++ Fed bytes ∷ []) no_clients in
       let serves : Serves h (Feed bytes) Done g = (Ok tt, (refl, refl, refl, refl), refl) in
-      let r = starts (acts ++ Fed bytes ∷ []) owns (call-kept h g [] kept (Feed bytes) Done tt serves) can.1 in
+      let r = starts (acts ++ Fed bytes ∷ []) owns (fed-kept h bytes [] kept) can.1 in
       record {
         replies = Done ∷ r.replies;
         hub = r.hub;
@@ -163,7 +164,7 @@ module _ (rows cols key : ℕ) where
       let act = Resized height width in
       let g = hub_at (acts ++ act ∷ []) no_clients in
       let serves : Serves h (Resize height width) Done g = (Ok tt, (refl, refl, refl, refl), refl) in
-      let r = starts (acts ++ act ∷ []) owns (call-kept h g [] kept (Resize height width) Done can.0 serves) can.1 in
+      let r = starts (acts ++ act ∷ []) owns (resized-kept h height width [] can.0 kept) can.1 in
       record {
         replies = Done ∷ r.replies;
         hub = r.hub;
@@ -185,8 +186,8 @@ module _ (rows cols key : ℕ) where
       let s : Lives rows cols key 0 g ts (born rows cols acts) = record { parser = refl; client = at; story = refl } in
       let e : EndsAs rows cols key 0 r.hub r.stories (born rows cols acts)
       (own_of key (map (alone key) owns) r.replies) =
-      lives-run rows cols key 0 (born rows cols acts) g r.hub ts r.stories (map (alone key) owns) r.replies
-      (call-kept h g [] kept Attach (Attached key) tt serves) s r.fed r.run in
+      lives-run rows cols key 0 (born rows cols acts) g r.hub ts r.stories (map (alone key) owns) r.replies s r.fed
+      (run-went g r.hub ts r.stories (map (alone key) owns) r.replies (attached-kept h key [] refl kept) r.run) in
       let l = tell_on rows cols (born rows cols acts) (own_of key (map (alone key) owns) r.replies) in
       record {
         replies = Attached key ∷ r.replies;

@@ -1,6 +1,6 @@
 -- How long frames are, and what is owed.
-use Rattle.std.proofs.Common.{◌≡◌, ℕ, Bool, true, false, List, [], ◌∷◌, ◌++◌, length, Option, None}
-use Rattle.std.proofs.Common.{IfSome, sym, ap, subst, arith, length-append}
+use Rattle.std.proofs.Common.{◌≡◌, ℕ, Bool, true, false, List, [], ◌∷◌, ◌++◌, length, Option, None, IfSome, sym, ap}
+use Rattle.std.proofs.Common.{subst, arith, length-append}
 use Rattle.std.specs.List.{AllByRecursion}
 use Rattle.std.specs.Prelude.{if◌then◌else◌}
 use Rattle.terminal_model.specs.Term.{Size}
@@ -43,7 +43,7 @@ client-short rows cols clients t h short live =
 pub sessions-bounded : EachSessionIsBounded
 sessions-bounded rows cols calls replies n t s =
     let h = sessions-told rows cols calls replies n t s in
-    let short = entries-short rows cols (size_of_story t) h.height h.width None t.entries tt h.entries in
+    let short = entries-short rows cols (size_of_story t) h.height h.width t.entries h.entries in
     (short, client-short rows cols (clients_in s.hub) t h short)
 
 -- ---- the hold
@@ -51,9 +51,9 @@ sessions-bounded rows cols calls replies n t s =
 pub frames-fit : EachFrameFitsTheHold
 frames-fit rows cols calls replies n t s =
     let h = sessions-told rows cols calls replies n t s in
-    entries-fit rows cols (size_of_story t) h.height h.width None t.entries h.entries
+    entries-fit rows cols (size_of_story t) h.height h.width t.entries h.entries
 
 pub small-made : NoSmallFrameIsTooLong
 small-made rows cols calls replies n t s few =
     let h = sessions-told rows cols calls replies n t s in
-    entries-made rows cols (size_of_story t) h.height h.width few None t.entries tt h.entries
+    entries-made rows cols (size_of_story t) h.height h.width few t.entries h.entries

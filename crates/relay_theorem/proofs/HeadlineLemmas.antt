@@ -1,7 +1,7 @@
 -- From a session's frames to what is shown.
-use Rattle.std.proofs.Common.{◌≡◌, ◌≢◌, ◌∙◌, ℕ, suc, ◌+◌, ◌-◌, ◌<◌, ◌≤◌, nat_le, Bool, true, false, List, [], ◌∷◌, ◌++◌}
-use Rattle.std.proofs.Common.{length, map, Option, Some, None, refl, sym, ap, subst, arith, append_assoc, append-nil}
-use Rattle.std.proofs.Common.{length-append, if◌then◌else◌, ◌&&◌, ◌*◌, ltb-false}
+use Rattle.std.proofs.Common.{◌≡◌, ◌≢◌, ◌∙◌, ℕ, suc, ◌+◌, ◌-◌, ◌<◌, ◌≤◌, nat_le, Bool, true, false, List, [], ◌∷◌}
+use Rattle.std.proofs.Common.{◌++◌, length, map, Option, Some, None, refl, sym, ap, subst, arith, append_assoc}
+use Rattle.std.proofs.Common.{append-nil, length-append, if◌then◌else◌, ◌&&◌, ◌*◌, ltb-false}
 use Rattle.std.specs.Prelude.{nat_lt}
 use Rattle.std.specs.List.{AllByRecursion, concat}
 use Rattle.std.proofs.lemmas.Bool.{lt-leb}
@@ -21,8 +21,7 @@ use Rattle.screen_model.specs.Made.{made}
 use Rattle.screen_model.specs.Holds.{IsSide}
 use Rattle.forms_read.specs.Terminals.{IsSmall}
 use Rattle.termrelay.specs.Frame.{is_unsure, frame_text, ShowsUnless, Agrees}
-use Rattle.termrelay.specs.Answers.{is_frame, same_shown, answer_for, due_from, due, is_too_long}
-use Rattle.termrelay.specs.Answers.{longest_frame}
+use Rattle.termrelay.specs.Answers.{is_frame, same_shown, answer_for, due_from, is_too_long, longest_frame}
 use Rattle.termrelay.specs.declared.answer.Answer.{Answer}
 use Rattle.termrelay.specs.declared.answer.Answer.TheVariants.{Full, Difference, Unsure, Unchanged, Behind, Held}
 use Rattle.termrelay.specs.declared.answer.Answer.TheVariants.{TooLong}
@@ -31,17 +30,19 @@ use Rattle.termview.proofs.LawLemmas.{whole_shown, none_torn}
 use Rattle.termrelay.specs.Calls.{Call}
 use Rattle.termrelay.specs.declared.call.Reply.{Reply}
 use Rattle.relay_theorem.specs.History.{Entry, Story, size_of_story}
-use Rattle.relay_theorem.specs.Judge.{state_at, size_at, shown_at, texts, frame_or, last_frame, whole_in}
-use Rattle.relay_theorem.specs.Judge.{judged, IsSure}
+use Rattle.relay_theorem.specs.Judge.{state_at, size_at, shown_at, texts, frame_or, last_frame, whole_in, judged}
+use Rattle.relay_theorem.specs.Judge.{IsSure}
 use Rattle.relay_theorem.specs.Laws.{base_then, IsAnswered, AreAnswered}
-use Rattle.relay_theorem.specs.Headline.{EachTextIsAFrame, WholeSessionsAreShown, LastWholeFrameIsShown, NoSessionIsTorn}
-use Rattle.relay_theorem.specs.Headline.{ReadsSession, last_read, whole_read, ReadsWhole, OneMomentShowsTheSame}
-use Rattle.relay_theorem.specs.Headline.{OneMomentShowsTheSameWhole}
+use Rattle.relay_theorem.specs.Headline.{EachTextIsAFrame, WholeSessionsAreShown, LastWholeFrameIsShown}
+use Rattle.relay_theorem.specs.Headline.{NoSessionIsTorn, ReadsSession, last_read, whole_read, ReadsWhole}
+use Rattle.relay_theorem.specs.Headline.{OneMomentShowsTheSame, OneMomentShowsTheSameWhole}
 use Rattle.relay_theorem.proofs.HistoryLemmas.{sessions-told}
 use Rattle.relay_theorem.proofs.ScreenLemmas.{IsShot, shot-made, IsShotBase}
 use Rattle.relay_theorem.proofs.FrameSteps.{byte-base, text-frame, frame-read, frame-ends}
 use Rattle.termrelay.specs.Frame.{IsShortFrame}
 use Rattle.termrelay.proofs.FrameLengths.{frame-short}
+use Rattle.termrelay.proofs.SameLemmas.{same-one}
+use Rattle.termrelay.specs.Answers.{ClientState}
 
 -- ---- the frames among the entries
 
@@ -57,75 +58,81 @@ joined-by : (frame : Bool) (e : Entry) (rest : List (List ℕ)) (more : List ℕ
 joined-by true e rest more none h = ap (λ xs. e.text ++ xs) h
 joined-by false e rest more none h = h ∙ ap (λ xs. xs ++ more) (sym (none refl))
 
--- a frame of an unsure screen is answered so
-due-unsure : (z : Size) (now : Shown) (base : Option Shown) (unsure : Bool) → unsure ≡ true
-    → (if unsure then Unsure else due_from z now base) ≡ Unsure
-due-unsure z now base true h = refl
-due-unsure z now base false h = absurd (let no : false ≡ true = h in cc)
+-- ---- why a client is answered so
 
--- a frame is what is due where no update is open and it isn't too long
-frame-due : (updating frame long : Bool) (a : Answer)
-    → is_frame (if updating then Held else if frame && long then TooLong else a) ≡ true
-    → (if updating then Held else if frame && long then TooLong else a) ≡ a
-frame-due true frame long a h = absurd (let no : false ≡ true = h in cc)
-frame-due false true true a h = absurd (let no : false ≡ true = h in cc)
-frame-due false true false a h = refl
-frame-due false false long a h = refl
+-- it isn't put off
+abbrev pub IsReady : Answer → Type 0
+IsReady Behind = ⊥
+IsReady Held = ⊥
+IsReady TooLong = ⊥
+IsReady a = Unit {0}
 
-frame-fits : (updating frame long : Bool) (a : Answer) → is_frame a ≡ frame
-    → is_frame (if updating then Held else if frame && long then TooLong else a) ≡ true → long ≡ false
-frame-fits true frame long a e h = absurd (let no : false ≡ true = h in cc)
-frame-fits false true true a e h = absurd (let no : false ≡ true = h in cc)
-frame-fits false true false a e h = refl
-frame-fits false false long a e h = absurd (let no : false ≡ true = sym e ∙ h in cc)
+-- a client c that asks for a frame of this state, on a screen of this size
+pub data IsDue (z : Size) (s : State) (c : ClientState) : Answer → Type 0 where
+  behind : c.owed ≢ [] → IsDue z s c Behind
+  held : s.updating ≡ true → IsDue z s c Held
+  overlong : is_too_long z (shown_state s) c.base ≡ true → IsDue z s c TooLong
+  unsure : is_unsure z (shown_state s) ≡ true → is_too_long z (shown_state s) c.base ≡ false → IsDue z s c Unsure
+  full : is_unsure z (shown_state s) ≡ false → is_too_long z (shown_state s) c.base ≡ false → IsDue z s c Full
+  difference : is_unsure z (shown_state s) ≡ false → is_too_long z (shown_state s) c.base ≡ false
+      → IsDue z s c Difference
+  unchanged : (base : Shown) → c.base ≡ Some base → same_shown z base (shown_state s) ≡ true → IsDue z s c Unchanged
 
-short-made : (updating frame long : Bool) (a : Answer) → long ≡ false → (a ≡ TooLong → ⊥)
-    → (if updating then Held else if frame && long then TooLong else a) ≡ TooLong → ⊥
-short-made true frame long a short other e = absurd (let no : Held ≡ TooLong = e in cc)
-short-made false true true a short other e = absurd (let no : true ≡ false = short in cc)
-short-made false true false a short other e = other e
-short-made false false long a short other e = other e
+module _ (z : Size) (s : State) where
+  abbrev now : Shown
+  now = shown_state s
 
-due-by : (unsure again same : Bool)
-    → (if unsure then Unsure else if again then Full else if same then Unchanged else Difference) ≡ TooLong → ⊥
-due-by true again same e = absurd (let no : Unsure ≡ TooLong = e in cc)
-due-by false true same e = absurd (let no : Full ≡ TooLong = e in cc)
-due-by false false true e = absurd (let no : Unchanged ≡ TooLong = e in cc)
-due-by false false false e = absurd (let no : Difference ≡ TooLong = e in cc)
+  abbrev client : Option Shown → ClientState
+  client base = record { owed = []; base = base }
 
-due-made : (z : Size) (now : Shown) (base : Option Shown) → due z now base ≡ TooLong → ⊥
-due-made z now None e = due-by (is_unsure z now) true true e
-due-made z now (Some base) e = due-by (is_unsure z now) (is_unsure z base) (same_shown z base now) e
+  abbrev due_as : Bool → Answer → Answer
+  due_as long a = if is_frame a && long then TooLong else a
 
-answer-unsure : (s : State) (z : Size) (base : Option Shown) (owed : List ℕ) → grid_size s.shown ≡ z
-    → is_frame (answer_for s (record { owed = owed; base = base })) ≡ true → is_unsure z (shown_state s) ≡ true
-    → answer_for s (record { owed = owed; base = base }) ≡ Unsure
-answer-unsure s z base [] same f h =
+  due-again : (b : Shown) (again same long : Bool) → same_shown z b now ≡ same → is_unsure z now ≡ false
+      → is_too_long z now (Some b) ≡ long
+      → IsDue z s (client (Some b)) (due_as long (if again then Full else if same then Unchanged else Difference))
+  due-again b true same true e u l = overlong l
+  due-again b true same false e u l = full u l
+  due-again b false true long e u l = unchanged b refl e
+  due-again b false false true e u l = overlong l
+  due-again b false false false e u l = difference u l
+
+  due-by : (base : Option Shown) (updating not_sure long : Bool) → s.updating ≡ updating → is_unsure z now ≡ not_sure
+      → is_too_long z now base ≡ long
+      → IsDue z s (client base)
+      (if updating then Held else due_as long (if not_sure then Unsure else due_from z now base))
+  due-by base true not_sure long o u l = held o
+  due-by base false true true o u l = overlong l
+  due-by base false true false o u l = unsure u l
+  due-by None false false true o u l = overlong l
+  due-by None false false false o u l = full u l
+  due-by (Some b) false false long o u l = due-again b (is_unsure z b) (same_shown z b now) long refl u l
+
+pub answer-due : (z : Size) (s : State) (base : Option Shown) (owed : List ℕ) → grid_size s.shown ≡ z
+    → IsDue z s (record { owed = owed; base = base }) (answer_for s (record { owed = owed; base = base }))
+answer-due z s base [] same =
     let k = grid_size s.shown in
-    let now = shown_state s in
-    frame-due s.updating (is_frame (due k now base)) (is_too_long k now base) (due k now base) f
-    ∙ due-unsure k now base (is_unsure k now) (ap (λ y. is_unsure y now) same ∙ h)
-answer-unsure s z base (x ∷ owed) same f h = absurd (let no : false ≡ true = f in cc)
+    subst (λ y. IsDue y s (client z s base) (answer_for s (client z s base))) same
+    (due-by k s base s.updating (is_unsure k (shown_state s)) (is_too_long k (shown_state s) base) refl refl refl)
+answer-due z s base (x ∷ owed) same = behind (λ no. absurd (cc))
 
--- and none is too long
-answer-fits : (s : State) (z : Size) (base : Option Shown) (owed : List ℕ) → grid_size s.shown ≡ z
-    → is_frame (answer_for s (record { owed = owed; base = base })) ≡ true → is_too_long z (shown_state s) base ≡ false
-answer-fits s z base [] same f =
-    let k = grid_size s.shown in
-    let now = shown_state s in
-    ap (λ y. is_too_long y now base) (sym same)
-    ∙ frame-fits s.updating (is_frame (due k now base)) (is_too_long k now base) (due k now base) refl f
-answer-fits s z base (x ∷ owed) same f = absurd (let no : false ≡ true = f in cc)
+module _ (z : Size) (s : State) (c : ClientState) where
+  -- a frame isn't too long, and one of an unsure screen is answered so
+  due-frame : (a : Answer) → IsDue z s c a → is_frame a ≡ true
+      → (is_too_long z (shown_state s) c.base ≡ false) × (is_unsure z (shown_state s) ≡ true → a ≡ Unsure)
+  due-frame a (unsure u l) f = (l, λ v. refl)
+  due-frame a (full u l) f = (l, λ v. absurd (let no : true ≡ false = sym v ∙ u in cc))
+  due-frame a (difference u l) f = (l, λ v. absurd (let no : true ≡ false = sym v ∙ u in cc))
+  due-frame a (behind o) f = absurd (let no : false ≡ true = f in cc)
+  due-frame a (held o) f = absurd (let no : false ≡ true = f in cc)
+  due-frame a (overlong l) f = absurd (let no : false ≡ true = f in cc)
+  due-frame a (unchanged base is e) f = absurd (let no : false ≡ true = f in cc)
 
--- where none would be too long, none is said to be
-answer-made : (s : State) (z : Size) (base : Option Shown) (owed : List ℕ) → grid_size s.shown ≡ z
-    → is_too_long z (shown_state s) base ≡ false → answer_for s (record { owed = owed; base = base }) ≡ TooLong → ⊥
-answer-made s z base [] same fits e =
-    let k = grid_size s.shown in
-    let now = shown_state s in
-    short-made s.updating (is_frame (due k now base)) (is_too_long k now base) (due k now base)
-    (ap (λ y. is_too_long y now base) same ∙ fits) (due-made k now base) e
-answer-made s z base (x ∷ owed) same fits e = absurd (let no : Behind ≡ TooLong = e in cc)
+  due-unsure : IsDue z s c Unsure → is_unsure z (shown_state s) ≡ true
+  due-unsure (unsure u l) = u
+
+  due-overlong : IsDue z s c TooLong → is_too_long z (shown_state s) c.base ≡ true
+  due-overlong (overlong l) = l
 
 -- ---- lengths
 
@@ -158,7 +165,7 @@ module _ (rows cols : ℕ) (z : Size) (height : IsSide z.rows) (width : IsSide z
   abbrev Known : Option Entry → Type 0
   Known None = Unit {0}
   Known (Some e) = IsShot z (shown_at rows cols e) × (is_unsure z (shown_at rows cols e) ≡ true → e.answer ≡ Unsure)
-      × (size_at rows cols e ≡ z)
+      × (size_at rows cols e ≡ z) × (e.answer ≡ Unsure → is_unsure z (shown_at rows cols e) ≡ true)
 
   known-base : (last : Option Entry) → Known last → IsShotBase z (base_of last)
   known-base None h = tt
@@ -189,13 +196,25 @@ module _ (rows cols : ℕ) (z : Size) (height : IsSide z.rows) (width : IsSide z
   entry-shot : (base : Option Shown) (e : Entry) → IsAnswered rows cols z base e → IsShot z (shown_at rows cols e)
   entry-shot base e h = shot-made rows cols e.moment z h.acts height width h.size
 
+  abbrev client_of : (base : Option Shown) (e : Entry) → IsAnswered rows cols z base e → ClientState
+  client_of base e h = record { owed = h.owed; base = base }
+
+  entry-due : (base : Option Shown) (e : Entry) → (h : IsAnswered rows cols z base e)
+      → IsDue z (state_at rows cols e) (client_of base e h) e.answer
+  entry-due base e h =
+      subst (IsDue z (state_at rows cols e) (client_of base e h)) (sym h.answer)
+      (answer-due z (state_at rows cols e) base h.owed h.size)
+
   entry-known : (base : Option Shown) (e : Entry) → IsAnswered rows cols z base e → is_frame e.answer ≡ true
       → Known (Some e)
-  entry-known base e h f = (
-    entry-shot base e h,
-    λ u. h.answer ∙ answer-unsure (state_at rows cols e) z base h.owed h.size (ap is_frame (sym h.answer) ∙ f) u,
-    h.size,
-  )
+  entry-known base e h f =
+      let s = state_at rows cols e in
+      let c = client_of base e h in (
+        entry-shot base e h,
+        (due-frame z s c e.answer (entry-due base e h) f).1,
+        h.size,
+        λ u. due-unsure z s c (subst (IsDue z s c) u (entry-due base e h)),
+      )
 
   known-by : (frame : Bool) (last : Option Entry) (e : Entry) → Known last → (frame ≡ true → Known (Some e))
       → Known (frame_by frame last e)
@@ -206,79 +225,71 @@ module _ (rows cols : ℕ) (z : Size) (height : IsSide z.rows) (width : IsSide z
       → Known (frame_or last e)
   known-next last e h k = known-by (is_frame e.answer) last e h (λ f. entry-known (base_of last) e k f)
 
+  -- what is true of each entry, by what is known of the last frame before it
+  entries-all : (P : Entry → Type 0)
+      → ((last : Option Entry) (e : Entry) → Known last → IsAnswered rows cols z (base_of last) e → P e)
+      → (last : Option Entry) (es : List Entry) → Known last → AreAnswered rows cols z (base_of last) es
+      → AllByRecursion P es
+  entries-all P each last [] h k = tt
+  entries-all P each last (e ∷ es) h k =
+      (each last e h k.0, entries-all P each (frame_or last e) es (known-next last e h k.0) (later last e es k))
+
+  -- and of its text, which is a frame's or empty
+  text-by : (P : List ℕ → Type 0) (frame : Bool) (last : Option Entry) (e : Entry)
+      → IsAnswered rows cols z (base_of last) e → is_frame e.answer ≡ frame → P []
+      → (is_frame e.answer ≡ true → P (frame_text z (base_of last) (shown_at rows cols e))) → P e.text
+  text-by P true last e k f none some = subst P (sym (entry-some last e k f)) (some f)
+  text-by P false last e k f none some = subst P (sym (entry-none last e k f)) none
+
   -- ---- the texts are frames
 
-  entry-frame : (last : Option Entry) (e : Entry) → Known last → IsAnswered rows cols z (base_of last) e
-      → is_frame e.answer ≡ true → IsFrame e.text
-  entry-frame last e h k f =
-      subst IsFrame (sym (entry-some last e k f))
-      (text-frame z (base_of last) (shown_at rows cols e) (known-base last h) (entry-shot (base_of last) e k))
-
-  pub entries-frames : (last : Option Entry) (es : List Entry) → Known last
-      → AreAnswered rows cols z (base_of last) es
+  pub entries-frames : (es : List Entry) → AreAnswered rows cols z None es
       → AllByRecursion (λ e. is_frame e.answer ≡ true → IsFrame e.text) es
-  entries-frames last [] h k = tt
-  entries-frames last (e ∷ es) h k = (
-    λ f. entry-frame last e h k.0 f,
-    entries-frames (frame_or last e) es (known-next last e h k.0) (later last e es k),
-  )
+  entries-frames es k =
+      entries-all (λ e. is_frame e.answer ≡ true → IsFrame e.text)
+      (λ last e h a f. subst IsFrame (sym (entry-some last e a f))
+      (text-frame z (base_of last) (shown_at rows cols e) (known-base last h) (entry-shot (base_of last) e a)))
+      None es tt k
 
   -- ---- and short
 
-  entry-short : (frame : Bool) (last : Option Entry) (e : Entry) → Known last → IsAnswered rows cols z (base_of last) e
-      → is_frame e.answer ≡ frame → IsShortFrame z e.text
-  entry-short true last e h k f =
-      subst (IsShortFrame z) (sym (entry-some last e k f))
-      (frame-short z (base_of last) (shown_at rows cols e) (byte-base z (base_of last) (known-base last h))
-      (entry-shot (base_of last) e k).small)
-  entry-short false last e h k f =
-      subst (IsShortFrame z) (sym (entry-none last e k f)) (omega arith)
+  frame-few : (last : Option Entry) (e : Entry) → Known last → IsAnswered rows cols z (base_of last) e
+      → IsShortFrame z (frame_text z (base_of last) (shown_at rows cols e))
+  frame-few last e h k =
+      frame-short z (base_of last) (shown_at rows cols e) (byte-base z (base_of last) (known-base last h))
+      (entry-shot (base_of last) e k).small
 
-  pub entries-short : (last : Option Entry) (es : List Entry) → Known last → AreAnswered rows cols z (base_of last) es
+  pub entries-short : (es : List Entry) → AreAnswered rows cols z None es
       → AllByRecursion (λ e. IsShortFrame z e.text) es
-  entries-short last [] h k = tt
-  entries-short last (e ∷ es) h k = (
-    entry-short (is_frame e.answer) last e h k.0 refl,
-    entries-short (frame_or last e) es (known-next last e h k.0) (later last e es k),
-  )
+  entries-short es k =
+      entries-all (λ e. IsShortFrame z e.text)
+      (λ last e h a. text-by (IsShortFrame z) (is_frame e.answer) last e a refl (omega arith)
+      (λ f. frame-few last e h a)) None es tt k
 
   -- ---- below the hold's limit
 
-  entry-fits : (frame : Bool) (last : Option Entry) (e : Entry) → IsAnswered rows cols z (base_of last) e
-      → is_frame e.answer ≡ frame → length e.text < limit
-  entry-fits true last e h f =
-      let now = shown_at rows cols e in
-      subst (λ (xs : List ℕ). length xs < limit) (sym (entry-some last e h f))
-      (below-limit (frame_text z (base_of last) now)
-      (answer-fits (state_at rows cols e) z (base_of last) h.owed h.size (ap is_frame (sym h.answer) ∙ f)))
-  entry-fits false last e h f =
-      subst (λ (xs : List ℕ). length xs < limit) (sym (entry-none last e h f)) (omega arith)
-
-  pub entries-fit : (last : Option Entry) (es : List Entry) → AreAnswered rows cols z (base_of last) es
+  pub entries-fit : (es : List Entry) → AreAnswered rows cols z None es
       → AllByRecursion (λ e. length e.text < limit) es
-  entries-fit last [] h = tt
-  entries-fit last (e ∷ es) h = (
-    entry-fits (is_frame e.answer) last e h.0 refl,
-    entries-fit (frame_or last e) es (later last e es h),
-  )
+  entries-fit es k =
+      entries-all (λ e. length e.text < limit)
+      (λ last e h a. text-by (λ (xs : List ℕ). length xs < limit) (is_frame e.answer) last e a refl (omega arith)
+      (λ f. below-limit (frame_text z (base_of last) (shown_at rows cols e))
+      (due-frame z (state_at rows cols e) (client_of (base_of last) e a) e.answer (entry-due (base_of last) e a) f).0))
+      None es tt k
 
   -- a frame of few cells is made
   entry-made : z.rows * z.cols ≤ 2000 → (last : Option Entry) (e : Entry) → Known last
       → IsAnswered rows cols z (base_of last) e → e.answer ≡ TooLong → ⊥
   entry-made few last e h k is =
-      let now = shown_at rows cols e in
-      answer-made (state_at rows cols e) z (base_of last) k.owed k.size
-      (few-cells z (frame_text z (base_of last) now) few
-      (frame-short z (base_of last) now (byte-base z (base_of last) (known-base last h))
-      (entry-shot (base_of last) e k).small)) (sym k.answer ∙ is)
+      let s = state_at rows cols e in
+      let c = client_of (base_of last) e k in
+      let long = due-overlong z s c (subst (IsDue z s c) is (entry-due (base_of last) e k)) in
+      let fits = few-cells z (frame_text z (base_of last) (shown_at rows cols e)) few (frame-few last e h k) in
+      let no : true ≡ false = sym long ∙ fits in absurd (cc)
 
-  pub entries-made : z.rows * z.cols ≤ 2000 → (last : Option Entry) (es : List Entry) → Known last
-      → AreAnswered rows cols z (base_of last) es → AllByRecursion (λ e. e.answer ≡ TooLong → ⊥) es
-  entries-made few last [] h k = tt
-  entries-made few last (e ∷ es) h k = (
-    λ is. entry-made few last e h k.0 is,
-    entries-made few (frame_or last e) es (known-next last e h k.0) (later last e es k),
-  )
+  pub entries-made : z.rows * z.cols ≤ 2000 → (es : List Entry) → AreAnswered rows cols z None es
+      → AllByRecursion (λ e. e.answer ≡ TooLong → ⊥) es
+  entries-made few es k = entries-all (λ e. e.answer ≡ TooLong → ⊥) (entry-made few) None es tt k
 
   all-by : (P : List ℕ → Type 0) (frame : Bool) (e : Entry) (rest : List (List ℕ)) → (frame ≡ true → P e.text)
       → AllByRecursion P rest → AllByRecursion P (frames_by frame e rest)
@@ -356,6 +367,55 @@ module _ (rows cols : ℕ) (z : Size) (height : IsSide z.rows) (width : IsSide z
       → size_at rows cols e ≡ z
   last-size es e k is = (subst Known is (read-all None es [] read-nothing k).known).2
 
+  -- ---- the last answer
+
+  abbrev IsShownAt : Entry → Option Entry → Type 0
+  IsShownAt e last = IsSure last × (judged rows cols last ≡ shown_at rows cols e)
+
+  ready-shown : (last : Option Entry) (e : Entry) (a : Answer) (c : ClientState) → c.base ≡ base_of last → Known last
+      → IsShot z (shown_at rows cols e) → is_unsure z (shown_at rows cols e) ≡ false
+      → IsDue z (state_at rows cols e) c a → IsReady a → e.answer ≡ a
+      → IsShownAt e (if is_frame a then Some e else last)
+  ready-shown last e a c base known shot sure (behind o) ready is = absurd ready
+  ready-shown last e a c base known shot sure (held o) ready is = absurd ready
+  ready-shown last e a c base known shot sure (overlong l) ready is = absurd ready
+  ready-shown last e a c base known shot sure (unsure u l) ready is =
+      absurd (let no : false ≡ true = sym sure ∙ u in cc)
+  ready-shown last e a c base known shot sure (full u l) ready is = (λ v. let no = sym is ∙ v in cc, refl)
+  ready-shown last e a c base known shot sure (difference u l) ready is = (λ v. let no = sym is ∙ v in cc, refl)
+  ready-shown None e a c base known shot sure (unchanged b at same) ready is =
+      absurd (let no : None ≡ Some b = sym base ∙ at in cc)
+  ready-shown (Some d) e a c base known shot sure (unchanged b at same) ready is =
+      let both : Some (shown_at rows cols d) ≡ Some b = sym base ∙ at in
+      let first : b ≡ shown_at rows cols d = cc in
+      let one = same-one z (shown_at rows cols d) (shown_at rows cols e) known.0.small.shown shot.small.shown
+      (subst (λ x. same_shown z x (shown_at rows cols e) ≡ true) first same) in
+      (λ v. let no : false ≡ true = sym sure ∙ ap (is_unsure z) (sym one) ∙ known.3 v in absurd (cc), one)
+
+  last-push : (last : Option Entry) (es : List Entry) (e : Entry)
+      → last_frame last (es ++ e ∷ []) ≡ frame_or (last_frame last es) e
+  last-push last [] e = refl
+  last-push last (x ∷ es) e = last-push (frame_or last x) es e
+
+  answered-push : (last : Option Entry) (es : List Entry) (e : Entry)
+      → AreAnswered rows cols z (base_of last) (es ++ e ∷ [])
+      → AreAnswered rows cols z (base_of last) es × IsAnswered rows cols z (base_of (last_frame last es)) e
+  answered-push last [] e h = (tt, h.0)
+  answered-push last (x ∷ es) e h =
+      let rest = answered-push (frame_or last x) es e (later last x (es ++ e ∷ []) h) in
+      ((h.0, subst (λ base. AreAnswered rows cols z base es) (sym (base-by (is_frame x.answer) last x)) rest.0), rest.1)
+
+  -- where the screen was sure then, it is what is judged
+  pub last-judged : (es : List Entry) (e : Entry) → AreAnswered rows cols z None (es ++ e ∷ []) → IsReady e.answer
+      → is_unsure z (shown_at rows cols e) ≡ false → IsShownAt e (last_frame None (es ++ e ∷ []))
+  last-judged es e h ready sure =
+      let parts = answered-push None es e h in
+      let last = last_frame None es in
+      subst (IsShownAt e) (sym (last-push None es e))
+      (ready-shown last e e.answer (client_of (base_of last) e parts.1) refl
+      (read-all None es [] read-nothing parts.0).known (entry-shot (base_of last) e parts.1) sure
+      (entry-due (base_of last) e parts.1) ready refl)
+
   -- ---- a front of the frames' texts
 
   not-whole : (p text left : List ℕ) → text ≡ p ++ left → left ≢ [] → length p < length text
@@ -417,7 +477,7 @@ module _ (rows cols : ℕ) (z : Size) (height : IsSide z.rows) (width : IsSide z
   -- ---- in pieces
 
   frames-are : (es : List Entry) → AreAnswered rows cols z None es → AllByRecursion IsFrame (frame_texts es)
-  frames-are es k = frames-all IsFrame es (entries-frames None es tt k)
+  frames-are es k = frames-all IsFrame es (entries-frames es k)
 
   pub whole-shown : (es : List Entry) (moves : List Move) (parsed : List ℕ) (hold : Option (List ℕ))
       → AreAnswered rows cols z None es → given moves ≡ texts es → Drives moves [] None parsed hold
@@ -437,7 +497,7 @@ module _ (rows cols : ℕ) (z : Size) (height : IsSide z.rows) (width : IsSide z
       let joined = frames-joined None es k in
       let all-short = frames-all (λ text. length text < limit) es
       (all-each (λ e. length e.text < limit) (λ e. is_frame e.answer ≡ true → length e.text < limit) (λ e h _. h) es
-      (entries-fit None es k)) in
+      (entries-fit es k)) in
       let out = none_torn z (frame_texts es) pieces beyond [] parsed hold (ground-nothing 1024)
       (All-from_recursion IsFrame (frame_texts es) (frames-are es k))
       (All-from_recursion (λ text. length text < limit) (frame_texts es) all-short) (e ∙ sym joined) leads in
@@ -470,7 +530,7 @@ answered-whole rows cols z base (e ∷ es) n h =
 pub texts-frames : EachTextIsAFrame
 texts-frames rows cols calls replies n t s =
     let h = sessions-told rows cols calls replies n t s in
-    entries-frames rows cols (size_of_story t) h.height h.width None t.entries tt h.entries
+    entries-frames rows cols (size_of_story t) h.height h.width t.entries h.entries
 
 pub wholes-shown : WholeSessionsAreShown
 wholes-shown rows cols calls replies n t front back moves parsed hold s e given_is leads =

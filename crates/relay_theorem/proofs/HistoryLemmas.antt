@@ -1,7 +1,7 @@
 -- What is true of each session stays true, call by call.
-use Rattle.std.proofs.Common.{◌≡◌, ◌∙◌, ℕ, Bool, true, false, ◌||◌, List, [], ◌∷◌, ◌++◌, map, length, take}
-use Rattle.std.proofs.Common.{drop, Option, Some, None, Result, Ok, Err, refl, sym, ap, subst, append_assoc}
-use Rattle.std.proofs.Common.{append-nil, take-append-drop, arith}
+use Rattle.std.proofs.Common.{◌≡◌, ◌∙◌, ℕ, Bool, true, false, ◌||◌, List, [], ◌∷◌, ◌++◌, map, length, take, drop}
+use Rattle.std.proofs.Common.{Option, Some, None, refl, sym, ap, subst, append_assoc, append-nil, take-append-drop}
+use Rattle.std.proofs.Common.{arith}
 use Rattle.std.specs.Prelude.{◌==◌, is_some, if◌then◌else◌}
 use Rattle.std.specs.List.{AllByRecursion, list_any}
 use Rattle.std.proofs.lemmas.Bool.{eqb-true, eq-eqb}
@@ -17,27 +17,23 @@ use Rattle.screen_model.proofs.MadeLemmas.{makes-last_size}
 use Rattle.termrelay.specs.Frame.{frame_text}
 use Rattle.termrelay.specs.Answers.{ClientState, is_frame, answer_for, after_answer}
 use Rattle.termrelay.specs.declared.answer.Answer.{Answer}
-use Rattle.termrelay.specs.declared.call.Take.{Take}
 use Rattle.termrelay.specs.declared.call.Reply.{Reply}
-use Rattle.termrelay.specs.declared.call.Reply.TheVariants.{Attached, Answered}
-use Rattle.termrelay.specs.declared.error.HubError.{HubError}
 use Rattle.termrelay.specs.declared.error.HubError.TheVariants as hub
 use Rattle.termrelay.specs.Hub.{HubState, screen_in, size_in, shown_in, with_client, new_client, no_clients}
-use Rattle.termrelay.specs.Hub.{Feeds, Resizes, Attaches, DetachesFrom, CanFrame, Framed, PumpsFrom}
-use Rattle.termrelay.specs.Calls.{Call, Feed, Resize, Attach, Detach, Frame, Pump, IsCall, taken_by, WritesAsTold}
-use Rattle.termrelay.specs.Calls.{done, replied, Serves}
+use Rattle.termrelay.specs.Calls.{Call, Frame, Pump, IsCall, taken_by}
 use Rattle.termrelay.specs.Log.{change_last, begun, ended, grown, bytes_taken}
 use Rattle.termrelay.proofs.LogLemmas.{none-changed}
-use Rattle.termrelay.proofs.ScriptLemmas.{taken-as-told}
-use Rattle.relay_theorem.specs.History.{Past, as_told, fresh, Entry, Story, size_of_story, is_on, with_session, with_entries}
-use Rattle.relay_theorem.specs.History.{entries_of, stories_after, RunsTold}
+use Rattle.relay_theorem.specs.History.{as_told, fresh, Entry, Story, size_of_story, is_on, with_session}
+use Rattle.relay_theorem.specs.History.{with_entries, entries_of, stories_after, RunsTold}
 use Rattle.relay_theorem.specs.Judge.{texts}
 use Rattle.relay_theorem.specs.Laws.{base_then, base_after, last_text, IsAnswered, AreAnswered, IsServed, IsTold}
 use Rattle.relay_theorem.specs.Laws.{EachSessionIsTold, AtMostOne, EachClientHasASession}
 use Rattle.relay_theorem.proofs.StoryLemmas.{all-map, all-push, all-at, any-mapped, one-mapped, none-mapped}
-use Rattle.relay_theorem.proofs.StoryLemmas.{no-one-mapped, any-pushed, one-pushed, pick, only-changed, on-live, on-key}
-use Rattle.relay_theorem.proofs.StoryLemmas.{off-key, other-key, picked-on, ends-on, ends-other}
-use Rattle.relay_theorem.proofs.StoryLemmas.{put, at-key, at-other, at-known}
+use Rattle.relay_theorem.proofs.StoryLemmas.{no-one-mapped, any-pushed, one-pushed, pick, only-changed, on-live}
+use Rattle.relay_theorem.proofs.StoryLemmas.{on-key, off-key, other-key, picked-on, ends-on, ends-other, put, at-key}
+use Rattle.relay_theorem.proofs.StoryLemmas.{at-other, at-known}
+use Rattle.relay_theorem.proofs.CallLemmas.{acted, left_in, Does, refuses, feeds, fails, resizes, attaches, detaches}
+use Rattle.relay_theorem.proofs.CallLemmas.{answers, declines, pumps, misses, serves-does}
 
 -- ---- sizes
 
@@ -334,42 +330,33 @@ by-key clients key slot other true c e same others = ap (λ b. is_some (if b the
 by-key clients key slot other false c e same others =
     ap (λ b. is_some (if b then slot else clients other)) e ∙ others refl
 
-fed-kept : (h : HubState as_told) (bytes : List ℕ) (ts : List Story) → IsKept h ts
-    → IsKept (record h { parser = record (h.parser) { acts = h.parser.acts ++ Fed bytes ∷ [] } }) ts
+-- the parser goes on, and the screen keeps its size
+parser-kept : (h : HubState as_told) (acts : List Act) (failed : Bool) (ts : List Story)
+    → AreActs h.parser.rows h.parser.cols 0 acts
+    → grid_size (made h.parser.rows h.parser.cols 0 acts).shown ≡ size_in h → IsKept h ts
+    → IsKept (record h { parser = record (h.parser) { acts = acts; failed = failed } }) ts
+parser-kept h acts failed ts are size k =
+    let g : HubState as_told = record h { parser = record (h.parser) { acts = acts; failed = failed } } in
+    record {
+      acts = are;
+      each = all-each (IsIn h) (IsIn g)
+          (λ t i. record { told = i.told; size = λ live. i.size live ∙ sym size }) ts k.each;
+      keys = k.keys;
+      one = k.one;
+    }
+
+pub fed-kept : (h : HubState as_told) (bytes : List ℕ) (ts : List Story) → IsKept h ts
+    → IsKept (acted h (Fed bytes) h.clients) ts
 fed-kept h bytes ts k =
     let p = h.parser in
-    let g : HubState as_told = record h { parser = record p { acts = p.acts ++ Fed bytes ∷ [] } } in
-    record {
-      acts = acts-more p.rows p.cols p.acts k.acts (Fed bytes) tt;
-      each = all-each (IsIn h) (IsIn g)
-          (λ t i. record {
-            told = i.told;
-            size = λ live. i.size live ∙ sym (size-fed p.rows p.cols p.acts bytes k.acts);
-          }) ts k.each;
-      keys = k.keys;
-      one = k.one;
-    }
+    parser-kept h (p.acts ++ Fed bytes ∷ []) p.failed ts (acts-more p.rows p.cols p.acts k.acts (Fed bytes) tt)
+    (size-fed p.rows p.cols p.acts bytes k.acts) k
 
-failed-kept : (h : HubState as_told) (ts : List Story) → IsKept h ts
-    → IsKept (record h { parser = record (h.parser) { failed = true } }) ts
-failed-kept h ts k =
-    let g : HubState as_told = record h { parser = record (h.parser) { failed = true } } in
-    record {
-      acts = k.acts;
-      each = all-each (IsIn h) (IsIn g) (λ t i. record { told = i.told; size = i.size }) ts k.each;
-      keys = k.keys;
-      one = k.one;
-    }
-
-resized-kept : (h : HubState as_told) (rows cols : ℕ) (ts : List Story) → IsSide rows × IsSide cols → IsKept h ts
-    → IsKept (record {
-      parser = record (h.parser) { acts = h.parser.acts ++ Resized rows cols ∷ [] };
-      clients = no_clients;
-    }) (map (with_session ended) ts)
+pub resized-kept : (h : HubState as_told) (rows cols : ℕ) (ts : List Story) → IsSide rows × IsSide cols → IsKept h ts
+    → IsKept (acted h (Resized rows cols) no_clients) (map (with_session ended) ts)
 resized-kept h rows cols ts s k =
     let p = h.parser in
-    let g : HubState as_told =
-    record { parser = record p { acts = p.acts ++ Resized rows cols ∷ [] }; clients = no_clients } in
+    let g = acted h (Resized rows cols) no_clients in
     record {
       acts = acts-more p.rows p.cols p.acts k.acts (Resized rows cols) s;
       each = all-map (IsIn h) (IsIn g) (with_session ended) (λ t i. ended-in h g t refl refl i) ts k.each;
@@ -389,7 +376,7 @@ there-on : (key other : ℕ) (ts : List Story) → (other == key) ≡ false
 there-on key other ts e =
     ap (λ b. list_any (is_on other) ts || b) (other-key key other e) ∙ or-false (list_any (is_on other) ts)
 
-attached-kept : (h : HubState as_told) (key : ℕ) (ts : List Story) → h.clients key ≡ None → IsKept h ts
+pub attached-kept : (h : HubState as_told) (key : ℕ) (ts : List Story) → h.clients key ≡ None → IsKept h ts
     → IsKept (put h key (Some new_client)) (ts ++ record { session = begun h key; entries = [] } ∷ [])
 attached-kept h key ts free k =
     let g = put h key (Some new_client) in
@@ -471,173 +458,77 @@ module _ (h : HubState as_told) (key : ℕ) where
 
 -- ---- calls
 
--- the hub and the stories after a call are these
-is-kept : (g x : HubState as_told) (ts us : List Story) → g ≡ x → ts ≡ us → IsKept x us → IsKept g ts
-is-kept g x ts us e f k = subst (λ y. IsKept y ts) (sym e) (subst (IsKept x) (sym f) k)
-
-is-put : (h : HubState as_told) (key : ℕ) (slot : Option ClientState) (g : HubState as_told) → g.parser ≡ h.parser
-    → g.clients ≡ with_client h.clients key slot → g ≡ put h key slot
-is-put h key slot g e f = λ i. record { parser = e i; clients = f i }
-
-module _ (h g : HubState as_told) (ts : List Story) (k : IsKept h ts) where
-  feed-kept : (bytes : List ℕ) (result : Result (Unit {0}) HubError) → Feeds h bytes result g → IsKept g ts
-  feed-kept bytes (Ok u) f =
-      is-kept g (record h { parser = record (h.parser) { acts = h.parser.acts ++ Fed bytes ∷ [] } }) ts ts
-      (λ i. record { parser = f.3 i; clients = f.2 i }) refl (fed-kept h bytes ts k)
-  feed-kept bytes (Err hub.Memory) f =
-      is-kept g (record h { parser = record (h.parser) { failed = true } }) ts ts
-      (λ i. record { parser = f.1.1 i; clients = f.2 i }) refl (failed-kept h ts k)
-  feed-kept bytes (Err hub.Failed) f = is-kept g h ts ts f.1 refl k
-  feed-kept bytes _ f = absurd f
-
-  -- by the stories after the reply
-  abbrev After : Call → Reply → Type 0
-  After call reply = IsKept g (stories_after h call reply ts)
-
-  resize-kept : (rows cols : ℕ) (result : Result (Unit {0}) HubError) → IsSide rows × IsSide cols
-      → Resizes h rows cols result g → After (Resize rows cols) (done result)
-  resize-kept rows cols (Ok u) s f =
-      let us = map (with_session ended) ts in
-      is-kept g (record {
-        parser = record (h.parser) { acts = h.parser.acts ++ Resized rows cols ∷ [] };
-        clients = no_clients;
-      }) us us (λ i. record { parser = f.3 i; clients = f.2 i }) refl (resized-kept h rows cols ts s k)
-  resize-kept rows cols (Err hub.Memory) s f = is-kept g h ts ts f.1 refl k
-  resize-kept rows cols (Err hub.Failed) s f = is-kept g h ts ts f.1 refl k
-  resize-kept rows cols _ s f = absurd f
-
-  attach-kept : (result : Result ℕ HubError) → Attaches h result g → After Attach (replied Attached result)
-  attach-kept (Ok key) f =
-      let us = ts ++ record { session = begun h key; entries = [] } ∷ [] in
-      is-kept g (put h key (Some new_client)) us us (is-put h key (Some new_client) g f.2.0 f.2.1) refl
-      (attached-kept h key ts f.1 k)
-  attach-kept (Err hub.Memory) f = is-kept g h ts ts f.1 refl k
-  attach-kept (Err hub.Failed) f = is-kept g h ts ts f.1 refl k
-  attach-kept _ f = absurd f
-
-  detach-kept : (key : ℕ) (o : Option ClientState) (result : Result (Unit {0}) HubError)
-      → DetachesFrom h key o result g → After (Detach key) (done result)
-  detach-kept key None result f =
-      subst (λ r. After (Detach key) (done r)) (sym f.0) (is-kept g h ts ts f.1 refl k)
-  detach-kept key (Some c) result f =
-      let us = change_last (is_on key) (with_session ended) ts in
-      subst (λ r. After (Detach key) (done r)) (sym f.0)
-      (is-kept g (put h key None) us us (is-put h key None g f.1.0 f.1.1) refl (gone-kept h key ts k))
-
-  frame-kept : (key : ℕ) (o : Option ClientState) (result : Result Answer HubError) → h.clients key ≡ o
-      → CanFrame (screen_in h) o result → Framed h key o result g → After (Frame key) (replied Answered result)
-  frame-kept key None (Ok answer) at can f = absurd (let no : Ok answer ≡ Err hub.UnknownClient = can in cc)
-  frame-kept key None (Err e) at can f = is-kept g h ts ts f refl k
-  frame-kept key (Some c) (Ok answer) at can f =
+module _ (h : HubState as_told) (ts : List Story) (k : IsKept h ts) where
+  does-kept : (call : Call) (reply : Reply) (g : HubState as_told) → IsCall call → Does h call reply g
+      → IsKept g (stories_after h call reply ts)
+  does-kept call reply g is (refuses (Frame key) e never) = absurd never
+  does-kept call reply g is (refuses (Pump key takes) e never) = absurd never
+  does-kept call reply g is (refuses _ e idle) = k
+  does-kept call reply g is (feeds bytes) = fed-kept h bytes ts k
+  does-kept call reply g is (fails bytes) = parser-kept h h.parser.acts true ts k.acts refl k
+  does-kept call reply g is (resizes high wide) = resized-kept h high wide ts is k
+  does-kept call reply g is (attaches key free) = attached-kept h key ts free k
+  does-kept call reply g is (detaches key c at) = gone-kept h key ts k
+  does-kept call reply g is (answers key c answer at due) =
       let new = after_answer (size_in h) (shown_in h) c answer in
       let change = λ (o : Option ClientState). change_last (is_on key) (with_entries (entries_of h o answer)) ts in
-      is-kept g (put h key (Some new)) (change (h.clients key)) (change (Some c))
-      (is-put h key (Some new) g f.0 f.1) (ap change at)
+      subst (λ o. IsKept (put h key (Some new)) (change o)) (sym at)
       (slot-kept h key c new (with_entries (entries_of h (Some c) answer)) at (λ n t. refl)
-      (λ t i on. answered-in h key c answer t k.acts at can.1 i on) ts k)
-  frame-kept key (Some c) (Err e) at can f = is-kept g h ts ts f refl k
-
-  pump-kept : (key : ℕ) (takes rest : List Take) (o : Option ClientState) (result : Result (Unit {0}) HubError)
-      → h.clients key ≡ o → PumpsFrom WritesAsTold h key o takes result rest g
-      → After (Pump key takes) (done result)
-  pump-kept key takes rest None result at f =
-      let none : list_any (is_on key) ts ≡ false = sym (k.keys key) ∙ ap is_some at in
-      is-kept g h (change_last (is_on key) (with_session (grown (bytes_taken takes (h.clients key)))) ts) ts f.2
-      (none-changed (is_on key) (with_session (grown (bytes_taken takes (h.clients key)))) ts none) k
-  pump-kept key takes rest (Some c) result at (end, n, pumps, is, puts) =
-      let slot = λ (m : ℕ). Some (record c { owed = drop m c.owed }) in
-      let change = λ (bytes : List ℕ). change_last (is_on key) (with_session (grown bytes)) ts in
-      let taken : n ≡ taken_by takes (length c.owed) = taken-as-told takes rest c.owed end n pumps in
-      let bytes : bytes_taken takes (h.clients key) ≡ take n c.owed =
-      ap (bytes_taken takes) at ∙ ap (λ m. take m c.owed) (sym taken) in
-      is-kept g (put h key (slot n)) (change (bytes_taken takes (h.clients key))) (change (take n c.owed))
-      (is-put h key (slot n) g puts.0 puts.1) (ap change bytes)
-      (slot-kept h key c (record c { owed = drop n c.owed }) (with_session (grown (take n c.owed))) at (λ m t. refl)
-      (λ t i on. pumped-in h key c n t at i on) ts k)
-
-  pub call-kept : (call : Call) (reply : Reply) → IsCall call → Serves h call reply g → After call reply
-  call-kept (Feed bytes) reply is (result, f, e) = feed-kept bytes result f
-  call-kept (Resize rows cols) reply is (result, f, e) =
-      subst (After (Resize rows cols)) (sym e) (resize-kept rows cols result is f)
-  call-kept Attach reply is (result, f, e) = subst (After Attach) (sym e) (attach-kept result f)
-  call-kept (Detach key) reply is (result, f, e) =
-      subst (After (Detach key)) (sym e) (detach-kept key (h.clients key) result f)
-  call-kept (Frame key) reply is (result, f, e) =
-      subst (After (Frame key)) (sym e) (frame-kept key (h.clients key) result refl f.0 f.1)
-  call-kept (Pump key takes) reply is (result, rest, f, e) =
-      subst (After (Pump key takes)) (sym e) (pump-kept key takes rest (h.clients key) result refl f)
-
--- ---- the first size stays
-
-abbrev KeepsFirst : HubState as_told → HubState as_told → Type 0
-KeepsFirst h g = (g.parser.rows ≡ h.parser.rows) × (g.parser.cols ≡ h.parser.cols)
-
-module _ (h g : HubState as_told) where
-  same-hub : g ≡ h → KeepsFirst h g
-  same-hub e = (ap (λ (x : HubState as_told). x.parser.rows) e, ap (λ (x : HubState as_told). x.parser.cols) e)
-
-  same-parser : (p : Past) → p.rows ≡ h.parser.rows → p.cols ≡ h.parser.cols → g.parser ≡ p → KeepsFirst h g
-  same-parser p er ec e = (ap (λ (q : Past). q.rows) e ∙ er, ap (λ (q : Past). q.cols) e ∙ ec)
-
-  same-past : g.parser ≡ h.parser → KeepsFirst h g
-  same-past e = same-parser h.parser refl refl e
-
-  feed-stays : (bytes : List ℕ) (result : Result (Unit {0}) HubError) → Feeds h bytes result g → KeepsFirst h g
-  feed-stays bytes (Ok u) f =
-      same-parser (record (h.parser) { acts = h.parser.acts ++ Fed bytes ∷ [] }) refl refl f.3
-  feed-stays bytes (Err hub.Memory) f = same-parser (record (h.parser) { failed = true }) refl refl f.1.1
-  feed-stays bytes (Err hub.Failed) f = same-hub f.1
-  feed-stays bytes _ f = absurd f
-
-  resize-stays : (rows cols : ℕ) (result : Result (Unit {0}) HubError) → Resizes h rows cols result g
-      → KeepsFirst h g
-  resize-stays rows cols (Ok u) f =
-      same-parser (record (h.parser) { acts = h.parser.acts ++ Resized rows cols ∷ [] }) refl refl f.3
-  resize-stays rows cols (Err hub.Memory) f = same-hub f.1
-  resize-stays rows cols (Err hub.Failed) f = same-hub f.1
-  resize-stays rows cols _ f = absurd f
-
-  attach-stays : (result : Result ℕ HubError) → Attaches h result g → KeepsFirst h g
-  attach-stays (Ok key) f = same-past f.2.0
-  attach-stays (Err hub.Memory) f = same-hub f.1
-  attach-stays (Err hub.Failed) f = same-hub f.1
-  attach-stays _ f = absurd f
-
-  detach-stays : (key : ℕ) (o : Option ClientState) (result : Result (Unit {0}) HubError)
-      → DetachesFrom h key o result g → KeepsFirst h g
-  detach-stays key None result f = same-hub f.1
-  detach-stays key (Some c) result f = same-past f.1.0
-
-  frame-stays : (key : ℕ) (o : Option ClientState) (result : Result Answer HubError) → Framed h key o result g
-      → KeepsFirst h g
-  frame-stays key None result f = same-hub f
-  frame-stays key (Some c) (Ok answer) f = same-past f.0
-  frame-stays key (Some c) (Err e) f = same-hub f
-
-  pump-stays : (key : ℕ) (takes rest : List Take) (o : Option ClientState) (result : Result (Unit {0}) HubError)
-      → PumpsFrom WritesAsTold h key o takes result rest g → KeepsFirst h g
-  pump-stays key takes rest None result f = same-hub f.2
-  pump-stays key takes rest (Some c) result (end, n, pumps, is, puts) = same-past puts.0
-
-  call-stays : (call : Call) (reply : Reply) → Serves h call reply g → KeepsFirst h g
-  call-stays (Feed bytes) reply (result, f, e) = feed-stays bytes result f
-  call-stays (Resize rows cols) reply (result, f, e) = resize-stays rows cols result f
-  call-stays Attach reply (result, f, e) = attach-stays result f
-  call-stays (Detach key) reply (result, f, e) = detach-stays key (h.clients key) result f
-  call-stays (Frame key) reply (result, f, e) = frame-stays key (h.clients key) result f.1
-  call-stays (Pump key takes) reply (result, rest, f, e) = pump-stays key takes rest (h.clients key) result f
+      (λ t i on. answered-in h key c answer t k.acts at due i on) ts k)
+  does-kept call reply g is (declines key e can) = k
+  does-kept call reply g is (pumps key takes reply' c at can) =
+      let change = λ (o : Option ClientState).
+      change_last (is_on key) (with_session (grown (bytes_taken takes o))) ts in
+      subst (λ o. IsKept (put h key (Some (left_in takes c))) (change o)) (sym at)
+      (slot-kept h key c (left_in takes c) (with_session (grown (bytes_taken takes (Some c)))) at
+      (λ m t. refl) (λ t i on. pumped-in h key c (taken_by takes (length c.owed)) t at i on) ts k)
+  does-kept call reply g is (misses key takes reply' free) =
+      let none : list_any (is_on key) ts ≡ false = sym (k.keys key) ∙ ap is_some free in
+      subst (IsKept h)
+      (sym (none-changed (is_on key) (with_session (grown (bytes_taken takes (h.clients key)))) ts none)) k
 
 -- ---- runs
 
-run-kept : (h k : HubState as_told) (ts us : List Story) (calls : List Call) (replies : List Reply) → IsKept h ts
-    → RunsTold h ts calls replies k us → IsKept k us × (k.parser.rows ≡ h.parser.rows) × (k.parser.cols ≡ h.parser.cols)
-run-kept h k ts us [] [] kept run = (is-kept k h us ts run.0 run.1 kept, (same-hub h k run.0).0, (same-hub h k run.0).1)
-run-kept h k ts us [] (reply ∷ replies) kept run = absurd run
-run-kept h k ts us (call ∷ calls) [] kept run = absurd run
-run-kept h k ts us (call ∷ calls) (reply ∷ replies) kept (g, is, serves, later) =
-    let first = call-stays h g call reply serves in
-    let rest = run-kept g k (stories_after h call reply ts) us calls replies
-    (call-kept h g ts kept call reply is serves) later in
+-- a run, call by call, with what is kept before each
+pub data Went : HubState as_told → List Story → List Call → List Reply → HubState as_told → List Story → Type 0 where
+  over : {h : HubState as_told} {ts : List Story} → IsKept h ts → Went h ts [] [] h ts
+  called : {h k : HubState as_told} {ts us : List Story} {call : Call} {reply : Reply} {calls : List Call}
+      {replies : List Reply} (g : HubState as_told) → IsKept h ts → Does h call reply g → IsCall call
+      → Went g (stories_after h call reply ts) calls replies k us → Went h ts (call ∷ calls) (reply ∷ replies) k us
+
+pub run-went : (h k : HubState as_told) (ts us : List Story) (calls : List Call) (replies : List Reply)
+    → IsKept h ts → RunsTold h ts calls replies k us → Went h ts calls replies k us
+run-went h k ts us [] [] kept run =
+    subst (λ vs. Went h ts [] [] k vs) (sym run.1)
+    (subst (λ x. Went h ts [] [] x ts) (sym run.0) (over kept))
+run-went h k ts us [] (reply ∷ replies) kept run = absurd run
+run-went h k ts us (call ∷ calls) [] kept run = absurd run
+run-went h k ts us (call ∷ calls) (reply ∷ replies) kept (g, is, serves, later) =
+    let does = serves-does h g call reply serves in
+    called g kept does is (run-went g k (stories_after h call reply ts) us calls replies
+    (does-kept h ts kept call reply g is does) later)
+
+does-first : (h : HubState as_told) (call : Call) (reply : Reply) (g : HubState as_told) → Does h call reply g
+    → (g.parser.rows ≡ h.parser.rows) × (g.parser.cols ≡ h.parser.cols)
+does-first h call reply g (refuses c e idle) = (refl, refl)
+does-first h call reply g (feeds bytes) = (refl, refl)
+does-first h call reply g (fails bytes) = (refl, refl)
+does-first h call reply g (resizes rows cols) = (refl, refl)
+does-first h call reply g (attaches key free) = (refl, refl)
+does-first h call reply g (detaches key c at) = (refl, refl)
+does-first h call reply g (answers key c answer at due) = (refl, refl)
+does-first h call reply g (declines key e can) = (refl, refl)
+does-first h call reply g (pumps key takes r c at can) = (refl, refl)
+does-first h call reply g (misses key takes r free) = (refl, refl)
+
+-- what is kept after it, and the first size stays
+went-kept : (h k : HubState as_told) (ts us : List Story) (calls : List Call) (replies : List Reply)
+    → Went h ts calls replies k us
+    → IsKept k us × (k.parser.rows ≡ h.parser.rows) × (k.parser.cols ≡ h.parser.cols)
+went-kept h k ts us calls replies (over kept) = (kept, refl, refl)
+went-kept h k ts us (call ∷ calls) (reply ∷ replies) (called g kept does is later) =
+    let first = does-first h call reply g does in
+    let rest = went-kept g k (stories_after h call reply ts) us calls replies later in
     (rest.0, rest.1 ∙ first.0, rest.2 ∙ first.1)
 
 pub fresh-kept : (rows cols : ℕ) → IsSide rows → IsSide cols → IsKept (fresh rows cols) []
@@ -648,15 +539,23 @@ fresh-kept rows cols height width = record {
   one = λ key. tt;
 }
 
+-- a run of a new hub
+pub fresh-went : (rows cols : ℕ) (hub : HubState as_told) (stories : List Story) (calls : List Call)
+    (replies : List Reply) → IsSide rows → IsSide cols → RunsTold (fresh rows cols) [] calls replies hub stories
+    → Went (fresh rows cols) [] calls replies hub stories
+fresh-went rows cols hub stories calls replies height width ran =
+    run-went (fresh rows cols) hub [] stories calls replies (fresh-kept rows cols height width) ran
+
 pub sessions-told : EachSessionIsTold
 sessions-told rows cols calls replies n t s =
-    let run = run-kept (fresh rows cols) s.hub [] s.stories calls replies (fresh-kept rows cols s.height s.width)
-    s.ran in
+    let run = went-kept (fresh rows cols) s.hub [] s.stories calls replies
+    (fresh-went rows cols s.hub s.stories calls replies s.height s.width s.ran) in
     let told = (all-at (IsIn s.hub) s.stories n t run.0.each s.is).told in
     subst (λ c. IsTold rows c s.hub.clients t) run.2
     (subst (λ r. IsTold r s.hub.parser.cols s.hub.clients t) run.1 told)
 
 pub clients-have-sessions : EachClientHasASession
 clients-have-sessions rows cols calls replies hub stories key height width ran =
-    let kept = (run-kept (fresh rows cols) hub [] stories calls replies (fresh-kept rows cols height width) ran).0 in
+    let kept = (went-kept (fresh rows cols) hub [] stories calls replies
+    (fresh-went rows cols hub stories calls replies height width ran)).0 in
     (kept.keys key, kept.one key)

@@ -1,4 +1,5 @@
 pub mod StoryLemmas
+pub mod CallLemmas
 pub mod HistoryLemmas
 pub mod ScreenLemmas
 pub mod FrameSteps

@@ -1,13 +1,10 @@
 -- What a session has, and what one call makes of it.
 use Rattle.std.proofs.Common.{◌≡◌, ◌∙◌, ℕ, zero, suc, ◌+◌, Bool, true, false, List, [], ◌∷◌, ◌++◌, map, length}
-use Rattle.std.proofs.Common.{take, drop, Option, Some, None, Result, Ok, Err, refl, sym, ap, subst, arith}
-use Rattle.std.proofs.Common.{if◌then◌else◌}
+use Rattle.std.proofs.Common.{Option, Some, None, Err, refl, sym, ap, subst, arith, if◌then◌else◌}
 use Rattle.std.specs.Prelude.{◌==◌, slice_get}
-use Rattle.std.specs.declared.io.Error.{Error}
 use Rattle.std.specs.Option.{option_map}
 use Rattle.std.proofs.lemmas.Bool.{eqb-true, eq-eqb}
 use Rattle.std.proofs.lemmas.Option.{slice_get-map, slice_get_past}
-use Rattle.takers.specs.Pump.{Pumps}
 use Rattle.vt100_core.specs.Picture.{grid_size}
 use Rattle.screen_model.specs.Made.{Act, Fed, Resized, made}
 use Rattle.screen_model.specs.Shown.{shown_state}
@@ -15,22 +12,20 @@ use Rattle.screen_model.specs.Holds.{IsSide, IsAct}
 use Rattle.termrelay.specs.Frame.{frame_text}
 use Rattle.termrelay.specs.Answers.{ClientState, is_frame, answer_for, after_answer}
 use Rattle.termrelay.specs.declared.answer.Answer.{Answer}
-use Rattle.termrelay.specs.declared.call.Take.{Take}
 use Rattle.termrelay.specs.declared.call.Reply.{Reply}
-use Rattle.termrelay.specs.declared.call.Reply.TheVariants.{Attached, Answered}
+use Rattle.termrelay.specs.declared.call.Reply.TheVariants.{Refused}
 use Rattle.termrelay.specs.declared.error.HubError.{HubError}
 use Rattle.termrelay.specs.declared.error.HubError.TheVariants as hub
-use Rattle.termrelay.specs.Hub.{HubState, screen_in, size_in, shown_in, new_client, Puts}
-use Rattle.termrelay.specs.Hub.{Feeds, Resizes, Attaches, DetachesFrom, CanFrame, Framed, PumpsFrom}
-use Rattle.termrelay.specs.Calls.{Call, Feed, Resize, Attach, Detach, Frame, Pump, IsCall, taken_by, WritesAsTold}
-use Rattle.termrelay.specs.Calls.{done, replied, Serves}
+use Rattle.termrelay.specs.Hub.{HubState, screen_in, size_in, shown_in, new_client, CanFrame}
+use Rattle.termrelay.specs.Calls.{Call, Frame, Pump, IsCall, done}
 use Rattle.termrelay.specs.Log.{change_last, begun, ended, grown, bytes_taken}
-use Rattle.termrelay.proofs.ScriptLemmas.{taken-as-told}
-use Rattle.relay_theorem.specs.History.{Past, as_told, Entry, Story, is_on, with_session, with_entries}
-use Rattle.relay_theorem.specs.History.{entries_of, stories_after}
+use Rattle.relay_theorem.specs.History.{Past, as_told, Entry, Story, is_on, with_session, with_entries, entries_of}
+use Rattle.relay_theorem.specs.History.{stories_after}
 use Rattle.relay_theorem.specs.Laws.{AtMostOne}
 use Rattle.relay_theorem.specs.Isolation.{is_starved, Own, Acts, Comes, Asks, Pumped, Leaves, own_at, ends}
-use Rattle.relay_theorem.proofs.StoryLemmas.{pick, only-changed, other-key, at-key, at-other, at-known}
+use Rattle.relay_theorem.proofs.StoryLemmas.{pick, only-changed, other-key, put, at-key, at-other, at-known}
+use Rattle.relay_theorem.proofs.CallLemmas.{CanPump, left_in, Does, refuses, feeds, fails, resizes, attaches}
+use Rattle.relay_theorem.proofs.CallLemmas.{detaches, answers, declines, pumps, misses}
 use Rattle.relay_theorem.proofs.HistoryLemmas.{IsKept}
 
 -- ---- lists
@@ -62,11 +57,6 @@ pub record Life : Type 0 where
   pub cols : ℕ
   pub pumped : List ℕ
   pub entries : List Entry
-
--- a writer that is told of so can end a pump of these bytes
-abbrev pub CanPump : List Take → List ℕ → Type 0
-CanPump takes owed =
-    (end : Result (Unit {0}) Error) × (n : ℕ) × (rest : List Take) × Pumps WritesAsTold takes owed end n rest
 
 -- on a hub that was first of this size
 module _ (rows cols : ℕ) where
@@ -109,19 +99,13 @@ module _ (rows cols : ℕ) where
   abbrev pub asked : Life → Answer → Life
   asked l answer = record l { client = client_by l answer; entries = l.entries ++ entry_by l answer ∷ [] }
 
-  abbrev pub left_by : Life → ℕ → ClientState
-  left_by l n = record (l.client) { owed = drop n l.client.owed }
-
-  abbrev pub taken : Life → List Take → ℕ
-  taken l takes = taken_by takes (length l.client.owed)
-
   -- what it has after one of its own
   abbrev pub lives : Life → Own → Life
   lives l (Acts act) = record l { acts = l.acts ++ act ∷ [] }
   lives l Comes = l
   lives l Asks = asked l (answer_now l)
   lives l (Pumped takes) =
-      record l { client = left_by l (taken l takes); pumped = l.pumped ++ take (taken l takes) l.client.owed }
+      record l { client = left_in takes l.client; pumped = l.pumped ++ bytes_taken takes (Some l.client) }
   lives l Leaves = l
 
   -- after all of them, and whether it has ended
@@ -170,14 +154,11 @@ module _ (rows cols : ℕ) where
   Goes key n g us l (Some (Pumped takes)) = CanPump takes l.client.owed × Lives key n g us (lives l (Pumped takes))
   Goes key n g us l (Some Leaves) = slice_get us n ≡ Some (story_of key true l)
 
-  module _ (key n : ℕ) (l : Life) (clients : ℕ → Option ClientState) (g : HubState as_told) (ts : List Story)
+  module _ (key n : ℕ) (l : Life) (clients : ℕ → Option ClientState) (ts : List Story)
       (one : (k : ℕ) → AtMostOne (is_on k) ts) (client : clients key ≡ Some l.client)
       (story : slice_get ts n ≡ Some (story_of key false l)) where
     abbrev now : HubState as_told
     now = record { parser = past l.acts; clients = clients }
-
-    abbrev After : Call → Reply → Type 0
-    After call reply = Goes key n g (stories_after now call reply ts) l (own_at key call reply)
 
     own-changed : (f : Story → Story) → slice_get (change_last (is_on key) f ts) n ≡ Some (f (story_of key false l))
     own-changed f =
@@ -194,188 +175,107 @@ module _ (rows cols : ℕ) where
         ∙ got-mapped (pick (is_on other) f) ts n t story
         ∙ ap (λ b. Some (if b then f t else t)) apart
 
-    stays : (us : List Story) → slice_get us n ≡ Some (story_of key false l) → g ≡ now → Lives key n g us l
-    stays us at e = record {
-      parser = ap (λ (x : HubState as_told). x.parser) e;
-      client = ap (λ (x : HubState as_told). x.clients key) e ∙ client;
-      story = at;
-    }
+    stays : (us : List Story) → slice_get us n ≡ Some (story_of key false l) → Lives key n now us l
+    stays us at = record { parser = refl; client = client; story = at }
 
-    put-stays : (other : ℕ) (slot : Option ClientState) (us : List Story) → (key == other) ≡ false
-        → slice_get us n ≡ Some (story_of key false l) → Puts now other slot g → Lives key n g us l
-    put-stays other slot us apart at puts = record {
-      parser = puts.0;
-      client = ap (λ (c : ℕ → Option ClientState). c key) puts.1 ∙ at-other clients other slot key apart ∙ client;
-      story = at;
-    }
+    -- something is put at a key, which is its own, or another's
+    put-goes : (b : Bool) (other : ℕ) (slot : Option ClientState) (f : Story → Story) (own : Own) → (other == key) ≡ b
+        → ((other == key) ≡ true → Goes key n (put now key slot) (change_last (is_on key) f ts) l (Some own))
+        → Goes key n (put now other slot) (change_last (is_on other) f ts) l (if b then Some own else None)
+    put-goes true other slot f own e goes =
+        subst (λ k. Goes key n (put now k slot) (change_last (is_on k) f ts) l (Some own)) (sym (eqb-true other key e))
+        (goes e)
+    put-goes false other slot f own e goes =
+        let apart = other-key key other e in
+        record {
+          parser = refl;
+          client = at-other clients other slot key apart ∙ client;
+          story = other-changed other f apart;
+        }
 
-    feed-goes : (bytes : List ℕ) (result : Result (Unit {0}) HubError) → Feeds now bytes result g
-        → is_starved (done result) ≡ false → After (Feed bytes) (done result)
-    feed-goes bytes (Ok u) f fed = record {
-      parser = f.3;
-      client = ap (λ (c : ℕ → Option ClientState). c key) f.2 ∙ client;
-      story = story;
-    }
-    feed-goes bytes (Err hub.Memory) f fed = absurd (let no : true ≡ false = fed in cc)
-    feed-goes bytes (Err hub.Failed) f fed = absurd (let no : false ≡ true = f.0 in cc)
-    feed-goes bytes _ f fed = absurd f
+    -- a client at its own key is its own
+    its-own : (other : ℕ) (o : Option ClientState) → (other == key) ≡ true → clients other ≡ o → o ≡ Some l.client
+    its-own other o e at = sym at ∙ ap clients (eqb-true other key e) ∙ client
 
-    resize-goes : (height width : ℕ) (result : Result (Unit {0}) HubError) → IsSide height × IsSide width
-        → Resizes now height width result g → is_starved (done result) ≡ false
-        → After (Resize height width) (done result)
-    resize-goes height width (Ok u) is f fed =
+    -- where there is none at a key, it isn't its own
+    free-by : (b : Bool) (other : ℕ) → (other == key) ≡ b → clients other ≡ None → b ≡ false
+    free-by true other e free = let no : None ≡ Some l.client = its-own other None e free in absurd (cc)
+    free-by false other e free = refl
+
+    free-goes : (other : ℕ) (own : Own) (us : List Story) → clients other ≡ None
+        → ((key == other) ≡ false → slice_get us n ≡ Some (story_of key false l))
+        → Goes key n now us l (if other == key then Some own else None)
+    free-goes other own us free at =
+        let apart = free-by (other == key) other refl free in
+        subst (λ b. Goes key n now us l (if b then Some own else None)) (sym apart)
+        (stays us (at (other-key key other apart)))
+
+    -- no frame where no client is
+    declined : (o : Option ClientState) (e : HubError) → CanFrame (screen_in now) o (Err e)
+        → is_starved (Refused e) ≡ false → o ≡ None
+    declined None e can fed = refl
+    declined (Some c) hub.Memory can fed = absurd (let no : true ≡ false = fed in cc)
+    declined (Some c) hub.Failed can fed = absurd (let no : false ≡ true = can in cc)
+    declined (Some c) _ can fed = absurd can
+
+    does-goes : (call : Call) (reply : Reply) (g : HubState as_told) → IsCall call → Does now call reply g
+        → is_starved reply ≡ false → Goes key n g (stories_after now call reply ts) l (own_at key call reply)
+    does-goes call reply g is (refuses (Frame other) e never) fed = absurd never
+    does-goes call reply g is (refuses (Pump other takes) e never) fed = absurd never
+    does-goes call reply g is (refuses _ e idle) fed = stays ts story
+    does-goes call reply g is (feeds bytes) fed = record { parser = refl; client = client; story = story }
+    does-goes call reply g is (fails bytes) fed = absurd (let no : true ≡ false = fed in cc)
+    does-goes call reply g is (resizes height width) fed =
         (is, got-mapped (with_session ended) ts n (story_of key false l) story)
-    resize-goes height width (Err hub.Memory) is f fed = absurd (let no : true ≡ false = fed in cc)
-    resize-goes height width (Err hub.Failed) is f fed = absurd (let no : false ≡ true = f.0 in cc)
-    resize-goes height width _ is f fed = absurd f
-
-    attach-goes : (result : Result ℕ HubError) → Attaches now result g → is_starved (replied Attached result) ≡ false
-        → After Attach (replied Attached result)
-    attach-goes (Ok other) f fed = record {
-      parser = f.2.0;
-      client = ap (λ (c : ℕ → Option ClientState). c key) f.2.1
-          ∙ at-known clients other (Some new_client) key l.client f.1 client;
+    does-goes call reply g is (attaches other free) fed = record {
+      parser = refl;
+      client = at-known clients other (Some new_client) key l.client free client;
       story = got-front ts (record { session = begun now other; entries = [] } ∷ []) n (story_of key false l) story;
     }
-    attach-goes (Err hub.Memory) f fed = absurd (let no : true ≡ false = fed in cc)
-    attach-goes (Err hub.Failed) f fed = absurd (let no : false ≡ true = f.0 in cc)
-    attach-goes _ f fed = absurd f
-
-    -- a client that is another's leaves
-    left-by : (other : ℕ) (u : Unit {0}) (o : Option ClientState) → (key == other) ≡ false
-        → DetachesFrom now other o (Ok u) g
-        → Lives key n g (change_last (is_on other) (with_session ended) ts) l
-    left-by other u None apart f = absurd (let no : Ok u ≡ Err hub.UnknownClient = f.0 in cc)
-    left-by other u (Some c) apart f =
-        put-stays other None (change_last (is_on other) (with_session ended) ts) apart
-        (other-changed other (with_session ended) apart) f.1
-
-    detached : (b : Bool) (other : ℕ) (u : Unit {0}) → (other == key) ≡ b
-        → DetachesFrom now other (clients other) (Ok u) g
-        → Goes key n g (change_last (is_on other) (with_session ended) ts) l (if b then Some Leaves else None)
-    detached true other u e f =
-        subst (λ k. slice_get (change_last (is_on k) (with_session ended) ts) n ≡ Some (story_of key true l))
-        (sym (eqb-true other key e)) (own-changed (with_session ended))
-    detached false other u e f = left-by other u (clients other) (other-key key other e) f
-
-    refused-by : (other : ℕ) (x : HubError) (o : Option ClientState) → DetachesFrom now other o (Err x) g
-        → Lives key n g ts l
-    refused-by other x None f = stays ts story f.1
-    refused-by other x (Some c) f = absurd (let no : Err x ≡ Ok tt = f.0 in cc)
-
-    detach-goes : (other : ℕ) (result : Result (Unit {0}) HubError) → DetachesFrom now other (clients other) result g
-        → After (Detach other) (done result)
-    detach-goes other (Ok u) f = detached (other == key) other u refl f
-    detach-goes other (Err x) f = refused-by other x (clients other) f
-
-    -- its own request, and another's
-    own-asks : (result : Result Answer HubError) → CanFrame (screen_in now) (Some l.client) result
-        → Framed now key (Some l.client) result g → is_starved (replied Answered result) ≡ false
-        → Lives key n g (stories_after now (Frame key) (replied Answered result) ts) (lives l Asks)
-    own-asks (Ok answer) can f fed = record {
-      parser = f.0;
-      client = ap (λ (c : ℕ → Option ClientState). c key) f.1
-          ∙ at-key clients key (Some (client_by l answer))
-          ∙ ap (λ a. Some (client_by l a)) can.1;
-      story = own-changed (with_entries (entries_of now (clients key) answer))
-          ∙ ap (λ o. Some (with_entries (entries_of now o answer) (story_of key false l))) client
-          ∙ ap (λ a. Some (with_entries (entry_by l a ∷ []) (story_of key false l))) can.1;
-    }
-    own-asks (Err hub.Memory) can f fed = absurd (let no : true ≡ false = fed in cc)
-    own-asks (Err hub.Failed) can f fed = absurd (let no : false ≡ true = can in cc)
-    own-asks _ can f fed = absurd can
-
-    other-asks : (other : ℕ) (o : Option ClientState) (result : Result Answer HubError) → (key == other) ≡ false
-        → CanFrame (screen_in now) o result → Framed now other o result g
-        → is_starved (replied Answered result) ≡ false
-        → Lives key n g (stories_after now (Frame other) (replied Answered result) ts) l
-    other-asks other None (Ok answer) apart can f fed =
-        absurd (let no : Ok answer ≡ Err hub.UnknownClient = can in cc)
-    other-asks other None (Err x) apart can f fed = stays ts story f
-    other-asks other (Some c) (Ok answer) apart can f fed =
-        let us = change_last (is_on other) (with_entries (entries_of now (clients other) answer)) ts in
-        put-stays other (Some (after_answer (size_in now) (shown_in now) c answer)) us apart
-        (other-changed other (with_entries (entries_of now (clients other) answer)) apart) f
-    other-asks other (Some c) (Err hub.Memory) apart can f fed = absurd (let no : true ≡ false = fed in cc)
-    other-asks other (Some c) (Err hub.Failed) apart can f fed = absurd (let no : false ≡ true = can in cc)
-    other-asks other (Some c) _ apart can f fed = absurd can
-
-    frame-by : (b : Bool) (other : ℕ) (result : Result Answer HubError) → (other == key) ≡ b
-        → CanFrame (screen_in now) (clients other) result → Framed now other (clients other) result g
-        → is_starved (replied Answered result) ≡ false
-        → Goes key n g (stories_after now (Frame other) (replied Answered result) ts) l (if b then Some Asks else None)
-    frame-by true other result e can f fed =
-        subst (λ k. CanFrame (screen_in now) (clients k) result → Framed now k (clients k) result g
-        → Lives key n g (stories_after now (Frame k) (replied Answered result) ts) (lives l Asks))
-        (sym (eqb-true other key e))
-        (λ c d. own-asks result (subst (λ o. CanFrame (screen_in now) o result) client c)
-        (subst (λ o. Framed now key o result g) client d) fed) can f
-    frame-by false other result e can f fed =
-        other-asks other (clients other) result (other-key key other e) can f fed
-
-    -- its own pump, and another's
-    own-pumps : (takes rest : List Take) (result : Result (Unit {0}) HubError) (reply : Reply)
-        → PumpsFrom WritesAsTold now key (Some l.client) takes result rest g
-        → Goes key n g (stories_after now (Pump key takes) reply ts) l (Some (Pumped takes))
-    own-pumps takes rest result reply (end, m, pumps, is, puts) =
-        let t = story_of key false l in (
-          (end, m, rest, pumps),
-          record {
-            parser = puts.0;
-            client = ap (λ (c : ℕ → Option ClientState). c key) puts.1
-                ∙ at-key clients key (Some (left_by l m))
-                ∙ ap (λ i. Some (left_by l i)) (taken-as-told takes rest l.client.owed end m pumps);
-            story = own-changed (with_session (grown (bytes_taken takes (clients key))))
-                ∙ ap (λ o. Some (with_session (grown (bytes_taken takes o)) t)) client;
-          },
-        )
-
-    other-pumps : (other : ℕ) (takes rest : List Take) (o : Option ClientState) (result : Result (Unit {0}) HubError)
-        (reply : Reply) → (key == other) ≡ false → PumpsFrom WritesAsTold now other o takes result rest g
-        → Lives key n g (stories_after now (Pump other takes) reply ts) l
-    other-pumps other takes rest None result reply apart f =
+    does-goes call reply g is (detaches other c at) fed =
+        put-goes (other == key) other None (with_session ended) Leaves refl (λ e. own-changed (with_session ended))
+    does-goes call reply g is (answers other c answer at due) fed =
+        let change = with_entries (entries_of now (clients other) answer) in
+        put-goes (other == key) other (Some (after_answer (size_in now) (shown_in now) c answer)) change Asks refl
+        (λ e.
+            let same : c ≡ l.client = let both = its-own other (Some c) e at in cc in
+            let told : answer ≡ answer_now l = due ∙ ap (answer_for (made rows cols 0 l.acts)) same in
+            record {
+              parser = refl;
+              client = at-key clients key (Some (after_answer (size_in now) (shown_in now) c answer))
+                  ∙ ap (λ d. Some (after_answer (size_in now) (shown_in now) d answer)) same
+                  ∙ ap (λ a. Some (client_by l a)) told;
+              story = own-changed change
+                  ∙ ap (λ o. Some (with_entries (entries_of now o answer) (story_of key false l)))
+                  (at ∙ its-own other (Some c) e at)
+                  ∙ ap (λ a. Some (with_entries (entry_by l a ∷ []) (story_of key false l))) told;
+            })
+    does-goes call reply g is (declines other e can) fed =
+        free-goes other Asks ts (declined (clients other) e can fed) (λ apart. story)
+    does-goes call reply g is (pumps other takes r c at can) fed =
         let change = with_session (grown (bytes_taken takes (clients other))) in
-        stays (change_last (is_on other) change ts) (other-changed other change apart) f.2
-    other-pumps other takes rest (Some c) result reply apart (end, m, pumps, is, puts) =
+        put-goes (other == key) other (Some (left_in takes c)) change (Pumped takes) refl
+        (λ e.
+            let same : c ≡ l.client = let both = its-own other (Some c) e at in cc in (
+              subst (λ (d : ClientState). CanPump takes d.owed) same can,
+              record {
+                parser = refl;
+                client = at-key clients key (Some (left_in takes c)) ∙ ap (λ d. Some (left_in takes d)) same;
+                story = own-changed change
+                    ∙ ap (λ o. Some (with_session (grown (bytes_taken takes o)) (story_of key false l)))
+                    (at ∙ its-own other (Some c) e at);
+              },
+            ))
+    does-goes call reply g is (misses other takes r free) fed =
         let change = with_session (grown (bytes_taken takes (clients other))) in
-        put-stays other (Some (record c { owed = drop m c.owed })) (change_last (is_on other) change ts) apart
-        (other-changed other change apart) puts
-
-    pump-by : (b : Bool) (other : ℕ) (takes rest : List Take) (result : Result (Unit {0}) HubError) (reply : Reply)
-        → (other == key) ≡ b → PumpsFrom WritesAsTold now other (clients other) takes result rest g
-        → Goes key n g (stories_after now (Pump other takes) reply ts) l (if b then Some (Pumped takes) else None)
-    pump-by true other takes rest result reply e f =
-        subst (λ k. PumpsFrom WritesAsTold now k (clients k) takes result rest g
-        → Goes key n g (stories_after now (Pump k takes) reply ts) l (Some (Pumped takes)))
-        (sym (eqb-true other key e))
-        (λ d. own-pumps takes rest result reply
-        (subst (λ o. PumpsFrom WritesAsTold now key o takes result rest g) client d)) f
-    pump-by false other takes rest result reply e f =
-        other-pumps other takes rest (clients other) result reply (other-key key other e) f
-
-    call-goes : (call : Call) (reply : Reply) → IsCall call → Serves now call reply g → is_starved reply ≡ false
-        → After call reply
-    call-goes (Feed bytes) reply is (result, f, e) fed =
-        subst (After (Feed bytes)) (sym e) (feed-goes bytes result f (ap is_starved (sym e) ∙ fed))
-    call-goes (Resize height width) reply is (result, f, e) fed =
-        subst (After (Resize height width)) (sym e)
-        (resize-goes height width result is f (ap is_starved (sym e) ∙ fed))
-    call-goes Attach reply is (result, f, e) fed =
-        subst (After Attach) (sym e) (attach-goes result f (ap is_starved (sym e) ∙ fed))
-    call-goes (Detach other) reply is (result, f, e) fed =
-        subst (After (Detach other)) (sym e) (detach-goes other result f)
-    call-goes (Frame other) reply is (result, f, e) fed =
-        subst (After (Frame other)) (sym e)
-        (frame-by (other == key) other result refl f.0 f.1 (ap is_starved (sym e) ∙ fed))
-    call-goes (Pump other takes) reply is (result, rest, f, e) fed =
-        pump-by (other == key) other takes rest result reply refl f
+        free-goes other (Pumped takes) (change_last (is_on other) change ts) free (other-changed other change)
 
   pub call-goes-on : (key n : ℕ) (l : Life) (h g : HubState as_told) (ts : List Story) (call : Call) (reply : Reply)
-      → IsKept h ts → Lives key n h ts l → IsCall call → Serves h call reply g → is_starved reply ≡ false
+      → IsKept h ts → Lives key n h ts l → IsCall call → Does h call reply g → is_starved reply ≡ false
       → Goes key n g (stories_after h call reply ts) l (own_at key call reply)
-  call-goes-on key n l h g ts call reply kept s is serves fed =
-      let same : h ≡ now key n l h.clients g ts kept.one s.client s.story =
+  call-goes-on key n l h g ts call reply kept s is does fed =
+      let same : h ≡ now key n l h.clients ts kept.one s.client s.story =
       λ i. record { parser = s.parser i; clients = h.clients } in
       subst (λ x. Goes key n g (stories_after x call reply ts) l (own_at key call reply)) (sym same)
-      (call-goes key n l h.clients g ts kept.one s.client s.story call reply is
-      (subst (λ x. Serves x call reply g) same serves) fed)
+      (does-goes key n l h.clients ts kept.one s.client s.story call reply g is
+      (subst (λ x. Does x call reply g) same does) fed)

@@ -1,7 +1,7 @@
 -- A run's calls on a session, followed to its end.
-use Rattle.std.proofs.Common.{◌≡◌, ◌∙◌, ℕ, ◌+◌, ◌-◌, Bool, true, false, List, [], ◌∷◌, ◌++◌, map, length}
-use Rattle.std.proofs.Common.{Option, Some, None, Result, Ok, Err, refl, sym, ap, subst, append_assoc}
-use Rattle.std.proofs.Common.{append-nil, arith, if◌then◌else◌, ◌<◌, length-append}
+use Rattle.std.proofs.Common.{◌≡◌, ◌∙◌, ℕ, ◌+◌, ◌-◌, Bool, true, false, List, [], ◌∷◌, ◌++◌, map, length, Option}
+use Rattle.std.proofs.Common.{Some, None, refl, sym, ap, subst, append_assoc, append-nil, arith, if◌then◌else◌, ◌<◌}
+use Rattle.std.proofs.Common.{length-append}
 use Rattle.std.specs.Prelude.{◌==◌, slice_get}
 use Rattle.std.specs.List.{list_any}
 use Rattle.std.proofs.lemmas.Bool.{eqb-true, or_parts}
@@ -9,29 +9,24 @@ use Rattle.std.proofs.lemmas.Bool.Decides.{nat_tests}
 use Rattle.std.proofs.lemmas.List.{length-map}
 use Rattle.vt100_core.specs.Picture.{grid_size}
 use Rattle.screen_model.specs.Made.{Act, Fed, Resized, made}
-use Rattle.screen_model.specs.Holds.{IsSide}
 use Rattle.termrelay.specs.Answers.{ClientState}
-use Rattle.termrelay.specs.declared.answer.Answer.{Answer}
-use Rattle.termrelay.specs.declared.call.Take.{Take}
 use Rattle.termrelay.specs.declared.call.Reply.{Reply}
-use Rattle.termrelay.specs.declared.call.Reply.TheVariants.{Done, Attached, Answered}
-use Rattle.termrelay.specs.declared.error.HubError.{HubError}
+use Rattle.termrelay.specs.declared.call.Reply.TheVariants.{Done, Attached, Answered, Refused}
 use Rattle.termrelay.specs.declared.error.HubError.TheVariants as hub
-use Rattle.termrelay.specs.Hub.{HubState, new_client, Puts}
-use Rattle.termrelay.specs.Hub.{Feeds, Resizes, Attaches, DetachesFrom, Framed, PumpsFrom}
-use Rattle.termrelay.specs.Calls.{Call, Feed, Resize, Attach, Detach, Frame, Pump, IsCall, WritesAsTold}
-use Rattle.termrelay.specs.Calls.{done, replied, Serves}
+use Rattle.termrelay.specs.Hub.{HubState, new_client}
+use Rattle.termrelay.specs.Calls.{Call, Feed, Resize, Attach, Detach, Frame, Pump, IsCall, done}
 use Rattle.termrelay.specs.Log.{change_last, begun, ended, grown, bytes_taken}
-use Rattle.relay_theorem.specs.History.{Past, as_told, fresh, Story, is_on, with_session, with_entries}
-use Rattle.relay_theorem.specs.History.{entries_of, stories_after, RunsTold}
+use Rattle.relay_theorem.specs.History.{Past, as_told, fresh, Story, is_on, with_session, with_entries, entries_of}
+use Rattle.relay_theorem.specs.History.{stories_after}
 use Rattle.relay_theorem.specs.Laws.{AtMostOne, IsSession}
 use Rattle.relay_theorem.specs.Isolation.{is_starved, Own, Acts, Comes, Asks, Pumped, Leaves, acts_of, own_at}
 use Rattle.relay_theorem.specs.Isolation.{own_then, own_of, own_calls}
-use Rattle.relay_theorem.proofs.StoryLemmas.{pick, only-changed, at-key}
-use Rattle.relay_theorem.proofs.HistoryLemmas.{IsKept, call-kept, fresh-kept}
-use Rattle.relay_theorem.proofs.OwnLemmas.{got-mapped, got-front, got-last, none-past, Life, past}
-use Rattle.relay_theorem.proofs.OwnLemmas.{story_of, born, lives, tell_on, tell, CanLive, CanCome, Lives, Goes}
-use Rattle.relay_theorem.proofs.OwnLemmas.{call-goes-on}
+use Rattle.relay_theorem.proofs.StoryLemmas.{pick, only-changed, put, at-key}
+use Rattle.relay_theorem.proofs.CallLemmas.{Does, refuses, feeds, fails, resizes, attaches, detaches, answers}
+use Rattle.relay_theorem.proofs.CallLemmas.{declines, pumps, misses}
+use Rattle.relay_theorem.proofs.HistoryLemmas.{IsKept, Went, over, called, fresh-went}
+use Rattle.relay_theorem.proofs.OwnLemmas.{got-mapped, got-front, got-last, none-past, Life, past, story_of, born}
+use Rattle.relay_theorem.proofs.OwnLemmas.{lives, tell_on, tell, CanLive, CanCome, Lives, Goes, call-goes-on}
 
 -- on a hub that was first of this size
 module _ (rows cols : ℕ) where
@@ -61,14 +56,12 @@ module _ (rows cols : ℕ) where
     gone-stays _ _ = at
 
   gone-run : (key n : ℕ) (l : Life) (h k : HubState as_told) (ts us : List Story) (calls : List Call)
-      (replies : List Reply) → IsKept h ts → slice_get ts n ≡ Some (story_of rows cols key true l)
-      → RunsTold h ts calls replies k us → slice_get us n ≡ Some (story_of rows cols key true l)
-  gone-run key n l h k ts us [] [] kept at run = ap (λ xs. slice_get xs n) run.1 ∙ at
-  gone-run key n l h k ts us [] (reply ∷ replies) kept at run = absurd run
-  gone-run key n l h k ts us (call ∷ calls) [] kept at run = absurd run
-  gone-run key n l h k ts us (call ∷ calls) (reply ∷ replies) kept at (g, is, serves, later) =
+      (replies : List Reply) → slice_get ts n ≡ Some (story_of rows cols key true l) → Went h ts calls replies k us
+      → slice_get us n ≡ Some (story_of rows cols key true l)
+  gone-run key n l h k ts us calls replies at (over kept) = at
+  gone-run key n l h k ts us (call ∷ calls) (reply ∷ replies) at (called g kept does is later) =
       gone-run key n l g k (stories_after h call reply ts) us calls replies
-      (call-kept h g ts kept call reply is serves) (gone-stays key n l h ts kept.one at call reply) later
+      (gone-stays key n l h ts kept.one at call reply) later
 
   -- ---- from its coming on
 
@@ -108,23 +101,17 @@ module _ (rows cols : ℕ) where
     }
 
   pub lives-run : (key n : ℕ) (l : Life) (h k : HubState as_told) (ts us : List Story) (calls : List Call)
-      (replies : List Reply) → IsKept h ts → Lives rows cols key n h ts l → list_any is_starved replies ≡ false
-      → RunsTold h ts calls replies k us → EndsAs key n k us l (own_of key calls replies)
-  lives-run key n l h k ts us [] [] kept s fed run = record {
-    story = ap (λ xs. slice_get xs n) run.1 ∙ s.story;
-    client = λ _. ap (λ (x : HubState as_told). x.clients key) run.0 ∙ s.client;
-    can = tt;
-  }
-  lives-run key n l h k ts us [] (reply ∷ replies) kept s fed run = absurd run
-  lives-run key n l h k ts us (call ∷ calls) [] kept s fed run = absurd run
-  lives-run key n l h k ts us (call ∷ calls) (reply ∷ replies) kept s fed (g, is, serves, later) =
+      (replies : List Reply) → Lives rows cols key n h ts l → list_any is_starved replies ≡ false
+      → Went h ts calls replies k us → EndsAs key n k us l (own_of key calls replies)
+  lives-run key n l h k ts us calls replies s fed (over kept) =
+      record { story = s.story; client = λ _. s.client; can = tt }
+  lives-run key n l h k ts us (call ∷ calls) (reply ∷ replies) s fed (called g kept does is later) =
       let after = stories_after h call reply ts in
-      let stays = call-kept h g ts kept call reply is serves in
       let each = or_parts (is_starved reply) (list_any is_starved replies) fed in
       lives-then key n g k after us (own_of key calls replies)
-      (λ m t. lives-run key n m g k after us calls replies stays t each.1 later)
-      (λ m at. gone-run key n m g k after us calls replies stays at later) l (own_at key call reply)
-      (call-goes-on rows cols key n l h g ts call reply kept s is serves each.0)
+      (λ m t. lives-run key n m g k after us calls replies t each.1 later)
+      (λ m at. gone-run key n m g k after us calls replies at later) l (own_at key call reply)
+      (call-goes-on rows cols key n l h g ts call reply kept s is does each.0)
 
   -- ---- before it comes
 
@@ -139,115 +126,62 @@ module _ (rows cols : ℕ) where
     pub can : CanCome rows cols acts owns
 
   -- no session comes by this call
-  abbrev IsQuiet : Call → Type 0
-  IsQuiet Attach = ⊥
-  IsQuiet call = Unit {0}
+  abbrev IsQuiet : Call → Reply → Type 0
+  IsQuiet Attach (Attached key) = ⊥
+  IsQuiet call reply = Unit {0}
 
   -- the screen goes on by the call's acts
-  pub record Passes (acts : List Act) (h g : HubState as_told) (ts : List Story) (call : Call) (reply : Reply)
-      : Type 0 where
-    pub parser : g.parser ≡ past rows cols (acts ++ acts_of call reply)
-    pub count : length (stories_after h call reply ts) ≡ length ts
-    pub sides : (owns : List Own) → CanCome rows cols (acts ++ acts_of call reply) owns
-        → CanCome rows cols acts (map Acts (acts_of call reply) ++ owns)
+  pub record Passes (acts : List Act) (g : HubState as_told) (ts us : List Story) (done : List Act) : Type 0 where
+    pub parser : g.parser ≡ past rows cols (acts ++ done)
+    pub count : length us ≡ length ts
+    pub sides : (owns : List Own) → CanCome rows cols (acts ++ done) owns
+        → CanCome rows cols acts (map Acts done ++ owns)
 
-  module _ (acts : List Act) (clients : ℕ → Option ClientState) (g : HubState as_told) (ts : List Story)
+  module _ (acts : List Act) (clients : ℕ → Option ClientState) (ts : List Story)
       (one : (k : ℕ) → AtMostOne (is_on k) ts) where
     abbrev before : HubState as_told
     before = record { parser = past rows cols acts; clients = clients }
 
-    none-done : (p : Past) → p ≡ past rows cols acts → p ≡ past rows cols (acts ++ [])
-    none-done p e = e ∙ ap (past rows cols) (sym (append-nil acts))
-
-    none-can : (owns : List Own) → CanCome rows cols (acts ++ []) owns → CanCome rows cols acts owns
-    none-can owns can = subst (λ done. CanCome rows cols done owns) (append-nil acts) can
-
-    hub-stays : g ≡ before → g.parser ≡ past rows cols (acts ++ [])
-    hub-stays e = none-done g.parser (ap (λ (x : HubState as_told). x.parser) e)
+    idle-passes : (g : HubState as_told) (us : List Story) → g.parser ≡ past rows cols acts → length us ≡ length ts
+        → Passes acts g ts us []
+    idle-passes g us same count = record {
+      parser = same ∙ ap (past rows cols) (sym (append-nil acts));
+      count = count;
+      sides = λ owns can. subst (λ done. CanCome rows cols done owns) (append-nil acts) can;
+    }
 
     changed-count : (key : ℕ) (f : Story → Story) → length (change_last (is_on key) f ts) ≡ length ts
     changed-count key f =
         ap (λ (xs : List Story). length xs) (only-changed (is_on key) f ts (one key))
         ∙ length-map ts (pick (is_on key) f)
 
-    feed-passes : (bytes : List ℕ) (result : Result (Unit {0}) HubError) → Feeds before bytes result g
-        → is_starved (done result) ≡ false → Passes acts before g ts (Feed bytes) (done result)
-    feed-passes bytes (Ok u) f fed = record { parser = f.3; count = refl; sides = λ owns can. (tt, can) }
-    feed-passes bytes (Err hub.Memory) f fed = absurd (let no : true ≡ false = fed in cc)
-    feed-passes bytes (Err hub.Failed) f fed = absurd (let no : false ≡ true = f.0 in cc)
-    feed-passes bytes _ f fed = absurd f
-
-    resize-passes : (height width : ℕ) (result : Result (Unit {0}) HubError) → IsSide height × IsSide width
-        → Resizes before height width result g → is_starved (done result) ≡ false
-        → Passes acts before g ts (Resize height width) (done result)
-    resize-passes height width (Ok u) is f fed = record {
-      parser = f.3;
+    does-pass : (call : Call) (reply : Reply) (g : HubState as_told) → IsQuiet call reply → IsCall call
+        → Does before call reply g → is_starved reply ≡ false
+        → Passes acts g ts (stories_after before call reply ts) (acts_of call reply)
+    does-pass call reply g quiet is (refuses (Frame key) e never) fed = absurd never
+    does-pass call reply g quiet is (refuses (Pump key takes) e never) fed = absurd never
+    does-pass call reply g quiet is (refuses _ e idle) fed = idle-passes before ts refl refl
+    does-pass call reply g quiet is (feeds bytes) fed =
+        record { parser = refl; count = refl; sides = λ owns can. (tt, can) }
+    does-pass call reply g quiet is (fails bytes) fed = absurd (let no : true ≡ false = fed in cc)
+    does-pass call reply g quiet is (resizes height width) fed = record {
+      parser = refl;
       count = length-map ts (with_session ended);
       sides = λ owns can. (is, can);
     }
-    resize-passes height width (Err hub.Memory) is f fed = absurd (let no : true ≡ false = fed in cc)
-    resize-passes height width (Err hub.Failed) is f fed = absurd (let no : false ≡ true = f.0 in cc)
-    resize-passes height width _ is f fed = absurd f
-
-    detach-parser : (key : ℕ) (o : Option ClientState) (result : Result (Unit {0}) HubError)
-        → DetachesFrom before key o result g → g.parser ≡ past rows cols (acts ++ [])
-    detach-parser key None result f = hub-stays f.1
-    detach-parser key (Some c) result f = none-done g.parser f.1.0
-
-    detach-passes : (key : ℕ) (result : Result (Unit {0}) HubError) → DetachesFrom before key (clients key) result g
-        → Passes acts before g ts (Detach key) (done result)
-    detach-passes key (Ok u) f = record {
-      parser = detach-parser key (clients key) (Ok u) f;
-      count = changed-count key (with_session ended);
-      sides = none-can;
-    }
-    detach-passes key (Err e) f =
-        record { parser = detach-parser key (clients key) (Err e) f; count = refl; sides = none-can }
-
-    frame-parser : (key : ℕ) (o : Option ClientState) (result : Result Answer HubError) → Framed before key o result g
-        → g.parser ≡ past rows cols (acts ++ [])
-    frame-parser key None result f = hub-stays f
-    frame-parser key (Some c) (Ok answer) f = none-done g.parser f.0
-    frame-parser key (Some c) (Err e) f = hub-stays f
-
-    frame-passes : (key : ℕ) (result : Result Answer HubError) → Framed before key (clients key) result g
-        → Passes acts before g ts (Frame key) (replied Answered result)
-    frame-passes key (Ok answer) f = record {
-      parser = frame-parser key (clients key) (Ok answer) f;
-      count = changed-count key (with_entries (entries_of before (clients key) answer));
-      sides = none-can;
-    }
-    frame-passes key (Err e) f =
-        record { parser = frame-parser key (clients key) (Err e) f; count = refl; sides = none-can }
-
-    pump-parser : (key : ℕ) (takes rest : List Take) (o : Option ClientState) (result : Result (Unit {0}) HubError)
-        → PumpsFrom WritesAsTold before key o takes result rest g → g.parser ≡ past rows cols (acts ++ [])
-    pump-parser key takes rest None result f = hub-stays f.2
-    pump-parser key takes rest (Some c) result (end, m, pumps, is, puts) = none-done g.parser puts.0
-
-    pump-passes : (key : ℕ) (takes rest : List Take) (result : Result (Unit {0}) HubError) (reply : Reply)
-        → PumpsFrom WritesAsTold before key (clients key) takes result rest g
-        → Passes acts before g ts (Pump key takes) reply
-    pump-passes key takes rest result reply f = record {
-      parser = pump-parser key takes rest (clients key) result f;
-      count = changed-count key (with_session (grown (bytes_taken takes (clients key))));
-      sides = none-can;
-    }
-
-    call-passes : (call : Call) (reply : Reply) → IsQuiet call → IsCall call → Serves before call reply g
-        → is_starved reply ≡ false → Passes acts before g ts call reply
-    call-passes (Feed bytes) reply quiet is (result, f, e) fed =
-        subst (Passes acts before g ts (Feed bytes)) (sym e)
-        (feed-passes bytes result f (ap is_starved (sym e) ∙ fed))
-    call-passes (Resize height width) reply quiet is (result, f, e) fed =
-        subst (Passes acts before g ts (Resize height width)) (sym e)
-        (resize-passes height width result is f (ap is_starved (sym e) ∙ fed))
-    call-passes Attach reply quiet is serves fed = absurd quiet
-    call-passes (Detach key) reply quiet is (result, f, e) fed =
-        subst (Passes acts before g ts (Detach key)) (sym e) (detach-passes key result f)
-    call-passes (Frame key) reply quiet is (result, f, e) fed =
-        subst (Passes acts before g ts (Frame key)) (sym e) (frame-passes key result f.1)
-    call-passes (Pump key takes) reply quiet is (result, rest, f, e) fed = pump-passes key takes rest result reply f
+    does-pass call reply g quiet is (attaches key free) fed = absurd quiet
+    does-pass call reply g quiet is (detaches key c at) fed =
+        idle-passes g (change_last (is_on key) (with_session ended) ts) refl (changed-count key (with_session ended))
+    does-pass call reply g quiet is (answers key c answer at due) fed =
+        let change = with_entries (entries_of before (clients key) answer) in
+        idle-passes g (change_last (is_on key) change ts) refl (changed-count key change)
+    does-pass call reply g quiet is (declines key e can) fed = idle-passes before ts refl refl
+    does-pass call reply g quiet is (pumps key takes r c at can) fed =
+        let change = with_session (grown (bytes_taken takes (clients key))) in
+        idle-passes g (change_last (is_on key) change ts) refl (changed-count key change)
+    does-pass call reply g quiet is (misses key takes r free) fed =
+        let change = with_session (grown (bytes_taken takes (clients key))) in
+        idle-passes before (change_last (is_on key) change ts) refl (changed-count key change)
 
   -- what is told of a run's own calls goes on by the acts before them
   tell-more : (acts more : List Act) (owns : List Own)
@@ -257,44 +191,38 @@ module _ (rows cols : ℕ) where
       tell-more (acts ++ act ∷ []) more owns ∙ ap (λ all. tell rows cols all owns) (append_assoc acts (act ∷ []) more)
 
   -- a call by which no session comes, and what is found after it
-  module _ (acts : List Act) (h g k : HubState as_told) (ts us : List Story) (call : Call) (reply : Reply)
-      (owns : List Own) (n : ℕ) (t : Story) (kept : IsKept h ts) (parser : h.parser ≡ past rows cols acts)
-      (more : (all : List Act) → g.parser ≡ past rows cols all
-      → slice_get us (length (stories_after h call reply ts) + n) ≡ Some t → Found all owns k t) where
-    passes-then : Passes acts h g ts call reply → slice_get us (length ts + n) ≡ Some t
-        → Found acts (map Acts (acts_of call reply) ++ owns) k t
-    passes-then p at =
-        let f = more (acts ++ acts_of call reply) p.parser (ap (λ i. slice_get us (i + n)) p.count ∙ at) in
-        record {
-          key = f.key;
-          life = f.life;
-          gone = f.gone;
-          told = tell-more acts (acts_of call reply) owns ∙ f.told;
-          is = f.is;
-          client = f.client;
-          can = p.sides owns f.can;
-        }
-
-    quiet-then : IsQuiet call → IsCall call → Serves h call reply g → is_starved reply ≡ false
-        → slice_get us (length ts + n) ≡ Some t → Found acts (map Acts (acts_of call reply) ++ owns) k t
-    quiet-then quiet is serves fed at =
-        let same : h ≡ before acts h.clients g ts kept.one =
-        λ i. record { parser = parser i; clients = h.clients } in
-        passes-then
-        (subst (λ x. Passes acts x g ts call reply) (sym same)
-        (call-passes acts h.clients g ts kept.one call reply quiet is
-        (subst (λ x. Serves x call reply g) same serves) fed)) at
+  quiet-then : (acts : List Act) (h g k : HubState as_told) (ts us : List Story) (call : Call) (reply : Reply)
+      (owns : List Own) (n : ℕ) (t : Story) → IsKept h ts → h.parser ≡ past rows cols acts
+      → ((all : List Act) → g.parser ≡ past rows cols all
+      → slice_get us (length (stories_after h call reply ts) + n) ≡ Some t → Found all owns k t)
+      → IsQuiet call reply → IsCall call → Does h call reply g → is_starved reply ≡ false
+      → slice_get us (length ts + n) ≡ Some t → Found acts (map Acts (acts_of call reply) ++ owns) k t
+  quiet-then acts h g k ts us call reply owns n t kept parser more quiet is does fed at =
+      let same : h ≡ before acts h.clients ts kept.one = λ i. record { parser = parser i; clients = h.clients } in
+      let p : Passes acts g ts (stories_after h call reply ts) (acts_of call reply) =
+      subst (λ x. Passes acts g ts (stories_after x call reply ts) (acts_of call reply)) (sym same)
+      (does-pass acts h.clients ts kept.one call reply g quiet is (subst (λ x. Does x call reply g) same does) fed) in
+      let f = more (acts ++ acts_of call reply) p.parser (ap (λ i. slice_get us (i + n)) p.count ∙ at) in
+      record {
+        key = f.key;
+        life = f.life;
+        gone = f.gone;
+        told = tell-more acts (acts_of call reply) owns ∙ f.told;
+        is = f.is;
+        client = f.client;
+        can = p.sides owns f.can;
+      }
 
   -- one comes, and is the one or another
-  module _ (acts : List Act) (h g k : HubState as_told) (ts us : List Story) (calls : List Call)
-      (replies : List Reply) (n : ℕ) (t : Story) (parser : h.parser ≡ past rows cols acts)
-      (fed : list_any is_starved replies ≡ false) (at : slice_get us (length ts + n) ≡ Some t) where
-    new-story : ℕ → Story
-    new-story key = record { session = begun h key; entries = [] }
+  new-story : HubState as_told → ℕ → Story
+  new-story h key = record { session = begun h key; entries = [] }
 
-    same-born : (key : ℕ) → new-story key ≡ story_of rows cols key false (born rows cols acts)
+  module _ (acts : List Act) (h k : HubState as_told) (ts us : List Story) (calls : List Call) (replies : List Reply)
+      (n : ℕ) (t : Story) (parser : h.parser ≡ past rows cols acts) (fed : list_any is_starved replies ≡ false)
+      (at : slice_get us (length ts + n) ≡ Some t) (key : ℕ) where
+    same-born : new-story h key ≡ story_of rows cols key false (born rows cols acts)
     unfolding new-story
-    same-born key =
+    same-born =
         ap (λ (p : Past). record {
           session = record {
             client = key;
@@ -306,21 +234,21 @@ module _ (rows cols : ℕ) where
           entries = [];
         }) parser
 
-    comes-at : (key : ℕ) (b : Bool) → (n == 0) ≡ b → Puts h key (Some new_client) g
-        → IsKept g (ts ++ new-story key ∷ []) → RunsTold g (ts ++ new-story key ∷ []) calls replies k us
-        → ((m : ℕ) → g.parser ≡ past rows cols acts → slice_get us (length (ts ++ new-story key ∷ []) + m) ≡ Some t
+    comes-at : (b : Bool) → (n == 0) ≡ b
+        → Went (put h key (Some new_client)) (ts ++ new-story h key ∷ []) calls replies k us
+        → ((m : ℕ) → slice_get us (length (ts ++ new-story h key ∷ []) + m) ≡ Some t
         → Found acts (own_calls m calls replies) k t)
         → Found acts (if b then Comes ∷ own_of key calls replies else own_calls (n - 1) calls replies) k t
-    comes-at key true e puts kept later more =
-        let s : Lives rows cols key (length ts) g (ts ++ new-story key ∷ []) (born rows cols acts) =
+    comes-at true e later more =
+        let g = put h key (Some new_client) in
+        let s : Lives rows cols key (length ts) g (ts ++ new-story h key ∷ []) (born rows cols acts) =
         record {
-          parser = puts.0 ∙ parser;
-          client = ap (λ (c : ℕ → Option ClientState). c key) puts.1
-              ∙ at-key h.clients key (Some new_client);
-          story = got-last ts (new-story key) ∙ ap (λ x. Some x) (same-born key);
+          parser = parser;
+          client = at-key h.clients key (Some new_client);
+          story = got-last ts (new-story h key) ∙ ap (λ x. Some x) same-born;
         } in
-        let r = lives-run key (length ts) (born rows cols acts) g k (ts ++ new-story key ∷ []) us calls replies kept s
-        fed later in
+        let r = lives-run key (length ts) (born rows cols acts) g k (ts ++ new-story h key ∷ []) us calls replies s fed
+        later in
         let l = tell_on rows cols (born rows cols acts) (own_of key calls replies) in
         let first : n ≡ 0 = eqb-true n 0 e in
         let place : length ts + n ≡ length ts = omega arith in
@@ -334,75 +262,53 @@ module _ (rows cols : ℕ) where
           client = r.client;
           can = r.can;
         }
-    comes-at key false e puts kept later more =
+    comes-at false e later more =
         let pos : 0 < n = grind (arith, nat_tests) in
-        let count = length-append ts (new-story key ∷ []) in
-        let place : length (ts ++ new-story key ∷ []) + (n - 1) ≡ length ts + n = omega (arith, pos, count) in
-        more (n - 1) (puts.0 ∙ parser) (ap (λ i. slice_get us i) place ∙ at)
+        let count = length-append ts (new-story h key ∷ []) in
+        let place : length (ts ++ new-story h key ∷ []) + (n - 1) ≡ length ts + n = omega (arith, pos, count) in
+        more (n - 1) (ap (λ i. slice_get us i) place ∙ at)
 
-    attach-then : (result : Result ℕ HubError) → Attaches h result g → is_starved (replied Attached result) ≡ false
-        → IsKept g (stories_after h Attach (replied Attached result) ts)
-        → RunsTold g (stories_after h Attach (replied Attached result) ts) calls replies k us
-        → ((m : ℕ) → g.parser ≡ past rows cols acts
-        → slice_get us (length (stories_after h Attach (replied Attached result) ts) + m) ≡ Some t
-        → Found acts (own_calls m calls replies) k t)
-        → Found acts (own_calls n (Attach ∷ calls) (replied Attached result ∷ replies)) k t
-    unfolding new-story
-    attach-then (Ok key) f ok kept later more = comes-at key (n == 0) refl f.2 kept later more
-    attach-then (Err hub.Memory) f ok kept later more = absurd (let no : true ≡ false = ok in cc)
-    attach-then (Err hub.Failed) f ok kept later more =
-        let no : false ≡ true = sym (ap (λ (p : Past). p.failed) parser) ∙ f.0 in absurd (cc)
-    attach-then _ f ok kept later more = absurd f
-
-  -- one call more, whichever it is
-  module _ (acts : List Act) (h g k : HubState as_told) (ts us : List Story) (calls : List Call) (reply : Reply)
-      (replies : List Reply) (n : ℕ) (t : Story) (kept : IsKept h ts) (parser : h.parser ≡ past rows cols acts)
-      (first : is_starved reply ≡ false) (rest : list_any is_starved replies ≡ false)
-      (at : slice_get us (length ts + n) ≡ Some t) where
-    -- where the session is found after it
-    abbrev Later : Call → Type 0
-    Later call =
+  -- one call more, whichever it is, by where the session is found after it
+  module _ (acts : List Act) (h k : HubState as_told) (ts us : List Story) (calls : List Call) (replies : List Reply)
+      (n : ℕ) (t : Story) (kept : IsKept h ts) (parser : h.parser ≡ past rows cols acts)
+      (rest : list_any is_starved replies ≡ false) (at : slice_get us (length ts + n) ≡ Some t) where
+    abbrev Later : HubState as_told → Call → Reply → Type 0
+    Later g call reply =
         (all : List Act) (m : ℕ) → g.parser ≡ past rows cols all
         → slice_get us (length (stories_after h call reply ts) + m) ≡ Some t → Found all (own_calls m calls replies) k t
 
-    abbrev Now : Call → Type 0
-    Now call = Found acts (own_calls n (call ∷ calls) (reply ∷ replies)) k t
-
-    quiet-now : (call : Call) → IsQuiet call → IsCall call → Serves h call reply g → Later call
+    quiet-now : (call : Call) (reply : Reply) (g : HubState as_told) → IsQuiet call reply → IsCall call
+        → Does h call reply g → is_starved reply ≡ false → Later g call reply
         → Found acts (map Acts (acts_of call reply) ++ own_calls n calls replies) k t
-    quiet-now call quiet is serves more =
+    quiet-now call reply g quiet is does first more =
         quiet-then acts h g k ts us call reply (own_calls n calls replies) n t kept parser (λ all p i. more all n p i)
-        quiet is serves first at
+        quiet is does first at
 
-    call-now : (call : Call) → IsCall call → Serves h call reply g
-        → RunsTold g (stories_after h call reply ts) calls replies k us → Later call → Now call
-    call-now (Feed bytes) is serves later more = quiet-now (Feed bytes) tt is serves more
-    call-now (Resize height width) is serves later more = quiet-now (Resize height width) tt is serves more
-    call-now Attach is (result, f, e) later more =
-        let stays = call-kept h g ts kept Attach reply is (result, f, e) in
-        subst (λ r. IsKept g (stories_after h Attach r ts) → RunsTold g (stories_after h Attach r ts) calls replies k us
-        → ((m : ℕ) → g.parser ≡ past rows cols acts
-        → slice_get us (length (stories_after h Attach r ts) + m) ≡ Some t → Found acts (own_calls m calls replies) k t)
-        → Found acts (own_calls n (Attach ∷ calls) (r ∷ replies)) k t) (sym e)
-        (attach-then acts h g k ts us calls replies n t parser rest at result f (ap is_starved (sym e) ∙ first))
-        stays later (λ m p i. more acts m p i)
-    call-now (Detach key) is serves later more = quiet-now (Detach key) tt is serves more
-    call-now (Frame key) is serves later more = quiet-now (Frame key) tt is serves more
-    call-now (Pump key takes) is serves later more = quiet-now (Pump key takes) tt is serves more
+    call-now : (call : Call) (reply : Reply) (g : HubState as_told) → IsCall call → Does h call reply g
+        → is_starved reply ≡ false → Went g (stories_after h call reply ts) calls replies k us → Later g call reply
+        → Found acts (own_calls n (call ∷ calls) (reply ∷ replies)) k t
+    unfolding new-story
+    call-now Attach reply g is (attaches key free) first later more =
+        comes-at acts h k ts us calls replies n t parser rest at key (n == 0) refl later (λ m i. more acts m parser i)
+    call-now Attach reply g is (refuses call e idle) first later more =
+        quiet-now Attach (Refused e) h tt is (refuses Attach e idle) first more
+    call-now (Feed bytes) reply g is does first later more = quiet-now (Feed bytes) reply g tt is does first more
+    call-now (Resize height width) reply g is does first later more =
+        quiet-now (Resize height width) reply g tt is does first more
+    call-now (Detach key) reply g is does first later more = quiet-now (Detach key) reply g tt is does first more
+    call-now (Frame key) reply g is does first later more = quiet-now (Frame key) reply g tt is does first more
+    call-now (Pump key takes) reply g is does first later more =
+        quiet-now (Pump key takes) reply g tt is does first more
 
   come-run : (acts : List Act) (h k : HubState as_told) (ts us : List Story) (calls : List Call)
-      (replies : List Reply) (n : ℕ) (t : Story) → IsKept h ts → h.parser ≡ past rows cols acts
-      → list_any is_starved replies ≡ false → RunsTold h ts calls replies k us
-      → slice_get us (length ts + n) ≡ Some t → Found acts (own_calls n calls replies) k t
-  come-run acts h k ts us [] [] n t kept parser fed run at =
-      absurd (none-past ts n t (ap (λ xs. slice_get xs (length ts + n)) (sym run.1) ∙ at))
-  come-run acts h k ts us [] (reply ∷ replies) n t kept parser fed run at = absurd run
-  come-run acts h k ts us (call ∷ calls) [] n t kept parser fed run at = absurd run
-  come-run acts h k ts us (call ∷ calls) (reply ∷ replies) n t kept parser fed (g, is, serves, later) at =
+      (replies : List Reply) (n : ℕ) (t : Story) → h.parser ≡ past rows cols acts
+      → list_any is_starved replies ≡ false → slice_get us (length ts + n) ≡ Some t → Went h ts calls replies k us
+      → Found acts (own_calls n calls replies) k t
+  come-run acts h k ts us calls replies n t parser fed at (over kept) = absurd (none-past ts n t at)
+  come-run acts h k ts us (call ∷ calls) (reply ∷ replies) n t parser fed at (called g kept does is later) =
       let each = or_parts (is_starved reply) (list_any is_starved replies) fed in
-      let stays = call-kept h g ts kept call reply is serves in
-      call-now acts h g k ts us calls reply replies n t kept parser each.0 each.1 at call is serves later
-      (λ all m p i. come-run all g k (stories_after h call reply ts) us calls replies m t stays p each.1 later i)
+      call-now acts h k ts us calls replies n t kept parser each.1 at call reply g is does each.0 later
+      (λ all m p i. come-run all g k (stories_after h call reply ts) us calls replies m t p each.1 i later)
 
   -- the session of a run
   pub session-found : (calls : List Call) (replies : List Reply) (n : ℕ) (t : Story)
@@ -410,5 +316,6 @@ module _ (rows cols : ℕ) where
       → Found [] (own_calls n calls replies) s.hub t
   session-found calls replies n t s fed =
       let place : 0 + n ≡ n = omega arith in
-      come-run [] (fresh rows cols) s.hub [] s.stories calls replies n t
-      (fresh-kept rows cols s.height s.width) refl fed s.ran (ap (λ i. slice_get s.stories i) place ∙ s.is)
+      come-run [] (fresh rows cols) s.hub [] s.stories calls replies n t refl fed
+      (ap (λ i. slice_get s.stories i) place ∙ s.is)
+      (fresh-went rows cols s.hub s.stories calls replies s.height s.width s.ran)
