@@ -1,6 +1,6 @@
 -- Forms that erase.
-use Rattle.std.proofs.Common.{◌≡◌, ℕ, ◌+◌, ◌-◌, ◌<◌, ◌≤◌, ◌==◌, true, false, cond, not, ◌&&◌, nat_lt}
-use Rattle.std.proofs.Common.{nat_eq, List, [], ◌∷◌, length, set, min, refl, sym, ap, subst, ◌∙◌, arith, length-set, ⊎_elim}
+use Rattle.std.proofs.Common.{◌≡◌, ℕ, ◌+◌, ◌-◌, ◌<◌, ◌≤◌, ◌==◌, true, false, cond, not, ◌&&◌, nat_lt, nat_eq, List}
+use Rattle.std.proofs.Common.{[], ◌∷◌, length, set, min, refl, sym, ap, subst, ◌∙◌, arith, length-set, ⊎_elim}
 use Rattle.std.proofs.lemmas.Bool.{cond_both, cases_lt, lt-ltb, le-ltb, eqb-true}
 use Rattle.std.proofs.lemmas.Bool.Decides.{nat_tests}
 use Rattle.std.proofs.lemmas.List.{length-replicate}
@@ -18,8 +18,8 @@ use Rattle.vt100_rows.specs.Row.{RowView, wiped_row, cleared_row}
 use Rattle.vt100_rows.proofs.RowLemmas.{line-wiped}
 use Rattle.vt100_rows.specs.Sheet.{row_at, rows_by_position, erased_forward_at, IsRowOf, IsSheet}
 use Rattle.vt100_rows.specs.Picture.{lines_of, wraps_of}
-use Rattle.vt100_rows.proofs.SheetLemmas.{row_at-by_position, length-rows_by_position, IsRowOf-cond}
-use Rattle.vt100_rows.proofs.SheetLemmas.{IsSheet-with_row, IsSheet-by_position}
+use Rattle.vt100_rows.proofs.SheetLemmas.{row_at-by_position, length-rows_by_position, IsSheet-with_row}
+use Rattle.vt100_rows.proofs.SheetLemmas.{IsSheet-by_position}
 use Rattle.vt100_rows.proofs.PictureLemmas.{lines-past, wraps-past}
 use Rattle.vt100_core.specs.Grid.{GridView, row_of_cursor, with_cursor_row}
 use Rattle.vt100_core.specs.Erase.{columns_erased}
@@ -142,15 +142,20 @@ empty-wiped width v a k r =
 first-only : (r : ℕ) → nat_lt 0 r ≡ false → (r == 0) ≡ false → ⊥
 first-only r e q = absurd (grind (arith, nat_tests))
 
+-- such a row is cleared, or wiped from its first column on
+emptied-by : (P : RowView → Type 0) (rows : List RowView) (width : ℕ) (a : Attrs) (r : ℕ)
+    → P (cleared_row (row_at rows r) a) → P (wiped_row (row_at rows r) 0 width a) → P (emptied rows width a r)
+emptied-by P rows width a r cleared wiped =
+    let v = row_at rows r in
+    cond_both (nat_lt 0 r) (cleared_row v a) (cond (r == 0) (wiped_row v 0 width a) v) P (λ _. cleared)
+    (λ e. cond_both (r == 0) (wiped_row v 0 width a) v P (λ _. wiped) (λ q. absurd (first-only r e q)))
+
 empty-cell : (rows : List RowView) (width : ℕ) (a : Attrs) (r k : ℕ) → IsRowOf width (row_at rows r)
     → cell_at (emptied rows width a r).cells k ≡ cond (nat_lt k width) (empty_cell a) default_cell
 empty-cell rows width a r k i =
     let v = row_at rows r in
-    let P : RowView → Type 0 = λ w. cell_at w.cells k ≡ cond (nat_lt k width) (empty_cell a) default_cell in
-    cond_both (nat_lt 0 r) (cleared_row v a) (cond (r == 0) (wiped_row v 0 width a) v) P
-    (λ _. empty-cleared width v a k i.wide)
-    (λ e. cond_both (r == 0) (wiped_row v 0 width a) v P (λ _. empty-wiped width v a k i)
-    (λ q. absurd (first-only r e q)))
+    emptied-by (λ w. cell_at w.cells k ≡ cond (nat_lt k width) (empty_cell a) default_cell) rows width a r
+    (empty-cleared width v a k i.wide) (empty-wiped width v a k i)
 
 wiped-flag : (width : ℕ) (v : RowView) (a : Attrs) → 0 < width → IsRowOf width v
     → (wiped_row v 0 width a).wrapped ≡ false
@@ -162,21 +167,14 @@ wiped-flag width v a some i =
 empty-flag : (rows : List RowView) (width : ℕ) (a : Attrs) (r : ℕ) → 0 < width → IsRowOf width (row_at rows r)
     → (emptied rows width a r).wrapped ≡ false
 empty-flag rows width a r some i =
-    let v = row_at rows r in
-    let P : RowView → Type 0 = λ w. w.wrapped ≡ false in
-    cond_both (nat_lt 0 r) (cleared_row v a) (cond (r == 0) (wiped_row v 0 width a) v) P
-    (λ _. refl)
-    (λ e. cond_both (r == 0) (wiped_row v 0 width a) v P (λ _. wiped-flag width v a some i)
-    (λ q. absurd (first-only r e q)))
+    emptied-by (λ w. w.wrapped ≡ false) rows width a r refl (wiped-flag width (row_at rows r) a some i)
 
 empty-row : (rows : List RowView) (width : ℕ) (a : Attrs) (r : ℕ) → IsRowOf width (row_at rows r)
     → IsRowOf width (emptied rows width a r)
 empty-row rows width a r i =
     let v = row_at rows r in
-    IsRowOf-cond (nat_lt 0 r) width (cleared_row v a) (cond (r == 0) (wiped_row v 0 width a) v)
-    (λ _. IsRowOf-cleared width v a i)
-    (λ _. IsRowOf-cond (r == 0) width (wiped_row v 0 width a) v
-    (λ _. IsRowOf-wiped width v 0 width a i (omega arith)) (λ _. i))
+    emptied-by (IsRowOf width) rows width a r (IsRowOf-cleared width v a i)
+    (IsRowOf-wiped width v 0 width a i (omega arith))
 
 abbrev emptied_rows : List RowView → ℕ → Attrs → List RowView
 emptied_rows rows width a = rows_by_position (length rows) (emptied rows width a)

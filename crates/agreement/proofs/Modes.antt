@@ -1,5 +1,5 @@
 -- Forms that set modes, and the cursor's style.
-use Rattle.std.proofs.Common.{◌≡◌, ℕ, ◌==◌, Bool, true, false, cond, not, ◌&&◌, [], ◌∷◌, refl, sym, ap, subst, ◌∙◌}
+use Rattle.std.proofs.Common.{◌≡◌, ◌==◌, Bool, true, false, cond, not, [], ◌∷◌, refl, sym, ap, subst, ◌∙◌}
 use Rattle.std.proofs.lemmas.Bool.{false≢true}
 use Rattle.vt100_forms.specs.declared.modes.MouseProtocolMode.{MouseProtocolMode}
 use Rattle.vt100_forms.specs.declared.modes.MouseProtocolMode.TheVariants as mouse
@@ -7,42 +7,19 @@ use Rattle.vt100_forms.specs.declared.modes.MouseProtocolEncoding.{MouseProtocol
 use Rattle.vt100_forms.specs.declared.modes.MouseProtocolEncoding.TheVariants as encoding
 use Rattle.vt100_forms.specs.declared.modes.CursorStyle.{CursorStyle}
 use Rattle.vt100_forms.specs.declared.modes.CursorStyle.TheVariants as style
-use Rattle.vt100_forms.specs.Form.{Mouse, Encoding, Style, mouse_number}
-use Rattle.vt100_forms.specs.Form.{encoding_number, style_number}
+use Rattle.vt100_forms.specs.Form.{Mouse, Encoding, Style, mouse_number, encoding_number, style_number}
 use Rattle.terminal_model.specs.Apply.{switched, apply}
 use Rattle.forms_read.specs.Events.{sequence, set_event, reset_event, mode_events, events_of}
+use Rattle.forms_read.proofs.Stepping.{mouse-zero, encoding-zero, mode-led}
 use Rattle.screen_model.specs.State.{State}
 use Rattle.screen_model.specs.Step.{with_style}
-use Rattle.screen_model.specs.PrivateModes.{is_mouse, is_encoding, mouse_set, encoding_set, mouse_reset, encoding_reset}
+use Rattle.screen_model.specs.PrivateModes.{is_mouse, is_encoding, mouse_set, encoding_set, mouse_reset}
+use Rattle.screen_model.specs.PrivateModes.{encoding_reset}
 use Rattle.screen_model.specs.Made.{played}
 use Rattle.agreement.specs.Plain.{terminal_of, size_shown, IsPlainState}
 use Rattle.agreement.specs.StateLaws.{Shows}
 
 -- ---- the mouse
-
--- a mode of a state, where `with` is the state with each of them: it is set, or reset
-mode-played : {A : Type 0} (number : A → ℕ) (none to from now : A) (with : A → State)
-    → ((m : A) → (number m == 0) ≡ true → m ≡ none)
-    → ((number none == number from) ≡ false
-    → played (reset_event (number from) ∷ []) (with now) ≡ with (cond (not (number now == number from)) now none))
-    → ((number to == 0) ≡ false → played (set_event (number to) ∷ []) (with now) ≡ with to)
-    → played (mode_events (number to) (number from)) (with now) ≡ with (switched number to from now)
-mode-played number none to from now with zero resets sets =
-    (elim (number to == number from) as (λ b. (number to == number from) ≡ b
-    → played (cond b [] (cond (number to == 0) (reset_event (number from) ∷ []) (set_event (number to) ∷ []))) (with now)
-    ≡ with (cond b now (cond ((number to == 0) && not (number now == number from)) now to))) [
-      | true ↦ λ _. refl
-      | false ↦ λ e.
-          (elim (number to == 0) as (λ z. (number to == 0) ≡ z
-          → played (cond z (reset_event (number from) ∷ []) (set_event (number to) ∷ [])) (with now)
-          ≡ with (cond (z && not (number now == number from)) now to)) [
-            | true ↦ λ z.
-                let is = sym (zero to z) in
-                resets (ap (λ m. number m == number from) is ∙ e)
-                ∙ ap (λ m. with (cond (not (number now == number from)) now m)) is
-            | false ↦ λ z. sets z
-          ]) refl
-    ]) refl
 
 is_mouse-number : (m n : MouseProtocolMode) → is_mouse m n ≡ (mouse_number m == mouse_number n)
 is_mouse-number mouse.None mouse.None = refl
@@ -67,17 +44,14 @@ mouse-kept : (b : Bool) (s : State)
 mouse-kept true s = refl
 mouse-kept false s = refl
 
-mouse-zero : (m : MouseProtocolMode) → (mouse_number m == 0) ≡ true → m ≡ mouse.None
-mouse-zero mouse.None h = refl
-mouse-zero m h = absurd (false≢true h)
-
 -- the mode that a form leads to
 mouse-played : (to from : MouseProtocolMode) (s : State)
     → played (mode_events (mouse_number to) (mouse_number from)) s
     ≡ mouse_set (switched mouse_number to from s.modes.mouse) s
 mouse-played to from s =
     let now = s.modes.mouse in
-    mode-played mouse_number mouse.None to from now (λ m. mouse_set m s) mouse-zero
+    mode-led mouse_number mouse.None to from now (λ m. mouse_set m s) (λ es. played es s)
+    (reset_event (mouse_number from)) (set_event (mouse_number to)) mouse-zero refl
     (λ h. mouse-reset_is from s h ∙ mouse-kept (is_mouse now from) s
     ∙ ap (λ b. mouse_set (cond (not b) now mouse.None) s) (is_mouse-number now from))
     (mouse-set_is to s)
@@ -109,17 +83,14 @@ encoding-kept : (b : Bool) (s : State)
 encoding-kept true s = refl
 encoding-kept false s = refl
 
-encoding-zero : (m : MouseProtocolEncoding) → (encoding_number m == 0) ≡ true → m ≡ encoding.Default
-encoding-zero encoding.Default h = refl
-encoding-zero m h = absurd (false≢true h)
-
 -- the mode that a form leads to
 encoding-played : (to from : MouseProtocolEncoding) (s : State)
     → played (mode_events (encoding_number to) (encoding_number from)) s
     ≡ encoding_set (switched encoding_number to from s.modes.encoding) s
 encoding-played to from s =
     let now = s.modes.encoding in
-    mode-played encoding_number encoding.Default to from now (λ m. encoding_set m s) encoding-zero
+    mode-led encoding_number encoding.Default to from now (λ m. encoding_set m s) (λ es. played es s)
+    (reset_event (encoding_number from)) (set_event (encoding_number to)) encoding-zero refl
     (λ h. encoding-reset_is from s h ∙ encoding-kept (is_encoding now from) s
     ∙ ap (λ b. encoding_set (cond (not b) now encoding.Default) s) (is_encoding-number now from))
     (encoding-set_is to s)

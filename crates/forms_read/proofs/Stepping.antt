@@ -31,11 +31,11 @@ use Rattle.terminal_model.proofs.TermLemmas.{IsTerm-moved, IsTerm-apply}
 use Rattle.forms_read.specs.Events.{kept_number}
 use Rattle.terminal_model.specs.FormText.{IsSentForm}
 use Rattle.forms_read.proofs.SentTexts.{forms-readable}
-use Rattle.forms_read.specs.Calls.{place_told, foreground_told, background_told, intensity_told, flag_told, change_told}
-use Rattle.forms_read.specs.Calls.{mode_calls, style_told, set_call, reset_call, form_calls, form_calls_all}
+use Rattle.forms_read.specs.Calls.{place_told, foreground_told, background_told, intensity_told, flag_told}
+use Rattle.forms_read.specs.Calls.{change_told, mode_calls, style_told, set_call, reset_call, form_calls}
+use Rattle.forms_read.specs.Calls.{form_calls_all}
 use Rattle.forms_read.specs.Terminals.{stepped, ReadsAttributes, ReadsCalls, IsSmall, EachFormIsStepped}
-use Rattle.forms_read.specs.Terminals.{EachListIsStepped}
-use Rattle.forms_read.specs.Terminals.{EachSpellingIsStepped}
+use Rattle.forms_read.specs.Terminals.{EachListIsStepped, EachSpellingIsStepped}
 use Rattle.forms_read.proofs.ReadForms.{cond-two}
 use Rattle.forms_read.proofs.Calling.{spelling-called}
 
@@ -107,13 +107,38 @@ module _ (f : Attr → Attrs → Attrs) (r : ReadsAttributes f) where
 
 -- ---- modes
 
-mouse-zero : (m : MouseProtocolMode) → (mouse_number m == 0) ≡ true → m ≡ mouse.None
+pub mouse-zero : (m : MouseProtocolMode) → (mouse_number m == 0) ≡ true → m ≡ mouse.None
 mouse-zero mouse.None h = refl
 mouse-zero m h = absurd (false≢true h)
 
-encoding-zero : (m : MouseProtocolEncoding) → (encoding_number m == 0) ≡ true → m ≡ encoding.Default
+pub encoding-zero : (m : MouseProtocolEncoding) → (encoding_number m == 0) ≡ true → m ≡ encoding.Default
 encoding-zero encoding.Default h = refl
 encoding-zero m h = absurd (false≢true h)
+
+-- A mode, where `with` is what has each of them, and `done` what some calls or events make of what has `now`: it is
+-- set, or reset.
+pub mode-led : {A X Y : Type 0} (number : A → ℕ) (none to from now : A) (with : A → Y) (done : List X → Y)
+    (reset set : X) → ((m : A) → (number m == 0) ≡ true → m ≡ none) → done [] ≡ with now
+    → ((number none == number from) ≡ false
+    → done (reset ∷ []) ≡ with (cond (not (number now == number from)) now none))
+    → ((number to == 0) ≡ false → done (set ∷ []) ≡ with to)
+    → done (cond (number to == number from) [] (cond (number to == 0) (reset ∷ []) (set ∷ [])))
+    ≡ with (switched number to from now)
+mode-led number none to from now with done reset set zero stays resets sets =
+    (elim (number to == number from) as (λ b. (number to == number from) ≡ b
+    → done (cond b [] (cond (number to == 0) (reset ∷ []) (set ∷ [])))
+    ≡ with (cond b now (cond ((number to == 0) && not (number now == number from)) now to))) [
+      | true ↦ λ _. stays
+      | false ↦ λ e.
+          (elim (number to == 0) as (λ b. (number to == 0) ≡ b → done (cond b (reset ∷ []) (set ∷ []))
+          ≡ with (cond (b && not (number now == number from)) now to)) [
+            | true ↦ λ q.
+                let is = sym (zero to q) in
+                resets (ap (λ m. number m == number from) is ∙ e)
+                ∙ ap (λ m. with (cond (not (number now == number from)) now m)) is
+            | false ↦ λ q. sets q
+          ]) refl
+    ]) refl
 
 -- ---- forms
 
@@ -168,32 +193,19 @@ module _ (step : Size → Call → Term → Term) (f : Attr → Attrs → Attrs)
       let at : step z (call.goto (pos 0) 0) t ≡ home = s.goto 0 0 t ∙ (λ k. record t { row = row k; col = col k }) in
       ap (step z _) at ∙ s.clear_screen home (IsTerm-moved z t 0 0 h h.some_row (omega arith)) refl refl
 
-  -- a mode of a terminal, where `with` is the terminal with each of them: it is set, or reset
+  -- a mode of a terminal, where `with` is the terminal with each of them
   step-mode : {A : Type 0} (number : A → ℕ) (none to from now : A) (with : A → Term) → number none ≡ 0
       → ((m : A) → (number m == 0) ≡ true → m ≡ none)
       → ((from ≡ none → ⊥) → step z (reset_call (number from)) (with now) ≡ with (switched number none from now))
       → ((to ≡ none → ⊥) → step z (set_call (number to)) (with now) ≡ with to)
       → stepped step z (mode_calls (number to) (number from)) (with now) ≡ with (switched number to from now)
   step-mode number none to from now with is_zero zero resets sets =
-      (elim (number to == number from) as (λ b. (number to == number from) ≡ b
-      → stepped step z (cond b [] (cond (number to == 0) (reset_call (number from) ∷ []) (set_call (number to) ∷ [])))
-      (with now) ≡ with (cond b now (cond ((number to == 0) && not (number now == number from)) now to))) [
-        | true ↦ λ _. refl
-        | false ↦ λ e.
-            (elim (number to == 0) as (λ b. (number to == 0) ≡ b
-            → stepped step z (cond b (reset_call (number from) ∷ []) (set_call (number to) ∷ [])) (with now)
-            ≡ with (cond (b && not (number now == number from)) now to)) [
-              | true ↦ λ q.
-                  let is = sym (zero to q) in
-                  let other = ap (λ m. number m == number from) is ∙ e in
-                  let none_is = ap (λ m. number m == 0) is ∙ q in
-                  resets (λ w. false≢true (sym other ∙ eq-eqb (number none) (number from) (ap number (sym w))))
-                  ∙ ap (λ b. with (cond b now (cond ((number none == 0) && not (number now == number from)) now none))) other
-                  ∙ ap (λ b. with (cond (b && not (number now == number from)) now none)) none_is
-                  ∙ ap (λ m. with (cond (not (number now == number from)) now m)) is
-              | false ↦ λ q. sets (λ w. false≢true (sym q ∙ eq-eqb (number to) 0 (ap number w ∙ is_zero)))
-            ]) refl
-      ]) refl
+      mode-led number none to from now with (λ cs. stepped step z cs (with now)) (reset_call (number from))
+      (set_call (number to)) zero refl
+      (λ other. resets (λ w. false≢true (sym other ∙ eq-eqb (number none) (number from) (ap number (sym w))))
+      ∙ ap (λ b. with (cond b now (cond ((number none == 0) && not (number now == number from)) now none))) other
+      ∙ ap (λ b. with (cond (b && not (number now == number from)) now none)) (eq-eqb (number none) 0 is_zero))
+      (λ q. sets (λ w. false≢true (sym q ∙ eq-eqb (number to) 0 (ap number w ∙ is_zero))))
 
   step-Mouse : (to from : MouseProtocolMode) (t : Term)
       → stepped step z (form_calls (Mouse to from)) t ≡ apply z (Mouse to from) t
