@@ -1,31 +1,28 @@
 -- Views of a run's sessions.
-use Rattle.std.proofs.Common.{◌≡◌, ◌∙◌, ℕ, zero, suc, ◌≤◌, false, List, [], ◌∷◌, ◌++◌, length, take}
-use Rattle.std.proofs.Common.{drop, map}
-use Rattle.std.proofs.Common.{Option, None, Some, sym, ap, subst, arith, take-append-drop}
+use Rattle.std.proofs.Common.{◌≡◌, ◌∙◌, ℕ, zero, suc, ◌≤◌, false, List, [], ◌∷◌, ◌++◌, length, take, drop, map, None}
+use Rattle.std.proofs.Common.{Some, sym, ap, subst, arith, take-append-drop}
 use Rattle.std.specs.List.{list_any, slice_get, concat}
 use Rattle.vte.specs.Moves.{Gives}
-use Rattle.vte.specs.Frames.{Drives}
 use Rattle.terminal_model.specs.Term.{Size, Term, shown_of}
 use Rattle.termrelay.specs.Hub.{HubState, as_kept, IsNewHub}
 use Rattle.termrelay.specs.Calls.{Call}
 use Rattle.termrelay.specs.declared.call.Reply.{Reply}
 use Rattle.termrelay.specs.Log.{SessionView, LogView, empty_log, MadeAll}
 use Rattle.termview.specs.Seen.{seen}
-use Rattle.termview.specs.Standing.{HoldsAt, view_size, shown_by}
+use Rattle.termview.specs.Standing.{shown_by}
 use Rattle.termview.specs.declared.view.View.{View}
 use Rattle.termview.specs.declared.until_cleared.UntilCleared.{UntilCleared}
 use Rattle.screen_model.specs.Holds.{IsSide}
-use Rattle.relay_theorem.specs.History.{Entry, Story}
-use Rattle.relay_theorem.specs.Judge.{texts, last_frame, last_whole, judged, IsSure}
+use Rattle.relay_theorem.specs.History.{Entry, Story, size_of_story}
+use Rattle.relay_theorem.specs.Judge.{texts, last_frame, last_whole, judged, IsSure, IsShownRight}
 use Rattle.relay_theorem.specs.Laws.{IsSession}
 use Rattle.relay_theorem.specs.Headline.{last_read}
 use Rattle.relay_theorem.specs.Isolation.{is_starved}
 use Rattle.relay_theorem.proofs.HeadlineLemmas.{last-shown, wholes-shown}
 use Rattle.relay_theorem.proofs.ServesLemmas.{logs-follow}
 use Rattle.relay_theorem.proofs.LoggedLemmas.{story-at}
-use Rattle.termview.specs.Timeout.{until_cleared}
 use Rattle.relay_streams.specs.Pieces.{cut_by}
-use Rattle.relay_streams.specs.Far.{IsFarView, ReadsStory, ShowsJudged, FarViewsShow, last_given}
+use Rattle.relay_streams.specs.Far.{HasReadFirst, IsFarView, ShowsJudged, FarViewsShow, last_given}
 use Rattle.relay_streams.proofs.LawLemmas.{given-Gives}
 use Rattle.relay_streams.proofs.PieceLemmas.{concat-cut_by}
 
@@ -56,18 +53,11 @@ module _ (rows cols : ℕ) (calls : List Call) (h g : HubState as_kept) (m : Log
         }
 
     -- a view has read it
-    pub one-found : (s : SessionView) (v : View UntilCleared) (parsed : List ℕ) (hold : Option (List ℕ))
-        → slice_get m.sessions n ≡ Some s
-        → Drives (map Gives (cut_by cuts (take most s.pumped))) [] None parsed hold → HoldsAt until_cleared v parsed hold
-        → (view_size v).rows ≡ s.rows → (view_size v).cols ≡ s.cols → IsFarView rows cols calls n most cuts (Some v)
-    one-found s v parsed hold is leads holds high wide =
+    pub one-found : (s : SessionView) (v : View UntilCleared) → slice_get m.sessions n ≡ Some s
+        → HasReadFirst s most cuts v → IsFarView rows cols calls n most cuts (Some v)
+    one-found s v is reads =
         let all = logs-follow rows cols calls ran.0 h g m.sessions new ran.2 in
         let found = story-at m.sessions all.1 n s all.4 is in
-        let same = sym found.logged in
-        let given : take most s.pumped ≡ take most found.story.session.pumped =
-        ap (λ (x : SessionView). take most x.pumped) same in
-        let rows_are = high ∙ ap (λ (x : SessionView). x.rows) same in
-        let cols_are = wide ∙ ap (λ (x : SessionView). x.cols) same in
         record {
           replies = ran.0;
           hub = all.0;
@@ -77,17 +67,17 @@ module _ (rows cols : ℕ) (calls : List Call) (h g : HubState as_kept) (m : Log
           is = (
             found.story,
             found.is,
-            record {
-              parsed = parsed;
-              hold = hold;
-              leads = subst (λ (xs : List ℕ). Drives (map Gives (cut_by cuts xs)) [] None parsed hold) given leads;
-              holds = holds;
-              size = λ i. record { rows = rows_are i; cols = cols_are i };
-            },
+            subst (λ (x : SessionView). HasReadFirst x most cuts v) (sym found.logged) reads,
           );
         }
 
 -- ---- what is shown
+
+-- what is shown of what was parsed
+seen-so : (t : Story) (most : ℕ) (cuts : List ℕ) (v : View UntilCleared) → (r : HasReadFirst t.session most cuts v)
+    → shown_of (shown_by v) ≡ shown_of (seen (size_of_story t) r.parsed)
+seen-so t most cuts v r =
+    ap (λ (x : Term). shown_of x) r.holds.stands.shows ∙ ap (λ (z : Size). shown_of (seen z r.parsed)) r.size
 
 pub far-shown : FarViewsShow
 far-shown rows cols calls replies n most cuts t v session r sure =
@@ -96,31 +86,29 @@ far-shown rows cols calls replies n most cuts t v session r sure =
     let joined : concat pieces ≡ given = concat-cut_by cuts given in
     let same : last_given t most ≡ last_read t pieces =
     ap (λ (xs : List ℕ). last_whole None t.entries (length xs)) (sym joined) in
-    let shown = last-shown rows cols calls replies n t pieces r.parsed (record {
-      session = session;
+    let shown = last-shown rows cols calls replies n t pieces r.parsed session (record {
       beyond = drop most t.session.pumped;
-      pumped = ap (λ xs. xs ++ drop most t.session.pumped) joined ∙ take-append-drop most t.session.pumped;
+      joined = ap (λ xs. xs ++ drop most t.session.pumped) joined ∙ take-append-drop most t.session.pumped;
       hold = r.hold;
       leads = r.leads;
     }) in
-    ap (λ (x : Term). shown_of x) r.holds.stands.shows
-    ∙ ap (λ (z : Size). shown_of (seen z r.parsed)) r.size
-    ∙ shown (subst IsSure same sure)
-    ∙ ap (judged rows cols) (sym same)
+    seen-so t most cuts v r ∙ shown (subst IsSure same sure) ∙ ap (judged rows cols) (sym same)
 
 -- where the bytes given end with a frame
 whole-given : (rows cols : ℕ) (calls : List Call) (replies : List Reply) (n most : ℕ) (cuts : List ℕ) (t : Story)
-    (v : View UntilCleared) (front back : List Entry) → IsSession rows cols calls replies n t → ReadsStory t most cuts v
-    → t.entries ≡ front ++ back → take most t.session.pumped ≡ texts front → IsSure (last_frame None front)
-    → shown_of (shown_by v) ≡ judged rows cols (last_frame None front)
+    (v : View UntilCleared) (front back : List Entry) → IsSession rows cols calls replies n t
+    → HasReadFirst t.session most cuts v → t.entries ≡ front ++ back → take most t.session.pumped ≡ texts front
+    → IsShownRight rows cols (shown_of (shown_by v)) (last_frame None front)
 whole-given rows cols calls replies n most cuts t v front back session r are given sure =
     let bytes = take most t.session.pumped in
-    let pieces = cut_by cuts bytes in
-    let shown = wholes-shown rows cols calls replies n t front back (map Gives pieces) r.parsed r.hold session are
-    (given-Gives pieces ∙ concat-cut_by cuts bytes ∙ given) r.leads in
-    ap (λ (x : Term). shown_of x) r.holds.stands.shows
-    ∙ ap (λ (z : Size). shown_of (seen z r.parsed)) r.size
-    ∙ shown.1 sure
+    let shown = wholes-shown rows cols calls replies n t front r.parsed r.hold session (record {
+      back = back;
+      parts = are;
+      moves = map Gives (cut_by cuts bytes);
+      given = given-Gives (cut_by cuts bytes) ∙ concat-cut_by cuts bytes ∙ given;
+      leads = r.leads;
+    }) in
+    seen-so t most cuts v r ∙ shown.1 sure
 
 pub shows-judged : (rows cols : ℕ) (calls : List Call) (n most : ℕ) (cuts : List ℕ) (v : View UntilCleared)
     → IsSide rows → IsSide cols → IsFarView rows cols calls n most cuts (Some v) → ShowsJudged rows cols calls n most v
@@ -135,6 +123,5 @@ shows-judged rows cols calls n most cuts v height width f =
       fed = f.fed;
       size = f.is.2.size;
       shows = far-shown rows cols calls f.replies n most cuts t v session f.is.2;
-      whole = λ front back are given sure.
-          whole-given rows cols calls f.replies n most cuts t v front back session f.is.2 are given sure;
+      whole = λ front back. whole-given rows cols calls f.replies n most cuts t v front back session f.is.2;
     }

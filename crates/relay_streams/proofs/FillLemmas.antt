@@ -1,8 +1,6 @@
 -- Reads one after another.
-use Rattle.std.proofs.Common.{◌≡◌, ◌≢◌, ℕ, ◌+◌, ◌-◌, ◌<◌, ◌≤◌, List, [], ◌++◌, Ok, Err, Result}
-use Rattle.std.proofs.Common.{length, take, drop, sym, ap, ◌∙◌, arith, append_assoc, append-nil, add_assoc}
-use Rattle.std.proofs.Common.{zero-add}
-use Rattle.std.proofs.Common.{length-drop}
+use Rattle.std.proofs.Common.{◌≡◌, ◌≢◌, ℕ, ◌+◌, ◌-◌, ◌<◌, ◌≤◌, List, [], ◌++◌, Ok, Err, Result, length, take, drop}
+use Rattle.std.proofs.Common.{sym, ap, ◌∙◌, arith, append_assoc, append-nil, add_assoc, zero-add, length-drop}
 use Rattle.std.proofs.lemmas.List.{length-take-le, take-append-le}
 use Rattle.std.proofs.lemmas.Slice.{take-put_mid_below}
 use Rattle.std.proofs.Math.Seq.{take-append-add, take-append_seam}
@@ -45,35 +43,35 @@ pub record GoesOn {S : Type 0} (step : S → ℕ → Result (List ℕ) Error →
   pub further : (n : ℕ) (bytes : List ℕ) (end : FillEnd) (t : S) → Fills step now left n bytes end t
       → Fills step old room (made + n) (got ++ bytes) end t
 
-module _ (S : Type 0) (step : S → ℕ → Result (List ℕ) Error → S → Type 0) (old : S) (room : ℕ) where
-  pub begun : (left : ℕ) → left ≡ room → GoesOn step old room old left 0 []
-  begun left is = record { further = λ n bytes end t f. rw zero-add (rw is at f) }
+pub begun : {S : Type 0} {step : S → ℕ → Result (List ℕ) Error → S → Type 0} {old : S} {room : ℕ} (left : ℕ)
+    → left ≡ room → GoesOn step old room old left 0 []
+begun left is = record { further = λ n bytes end t f. rw zero-add (rw is at f) }
 
+module _ {S : Type 0} {step : S → ℕ → Result (List ℕ) Error → S → Type 0} {old : S} {room : ℕ} {now : S} {left made : ℕ}
+    {got : List ℕ} (g : GoesOn step old room now left made got) (new : S) where
   -- one read more, which was interrupted
-  pub once_more : (now new : S) (left made : ℕ) (got : List ℕ) (e : Error) → 0 < left
-      → step now left (Err e) new → error_kind e ≡ Interrupted → GoesOn step old room now left made got
+  pub once_more : (e : Error) → 0 < left → step now left (Err e) new → error_kind e ≡ Interrupted
       → GoesOn step old room new left (made + 1) got
-  once_more now new left made got e some read is g = record {
+  once_more e some read is = record {
     further = λ n bytes end t f.
         rw (add_assoc made 1 n) (g.further (1 + n) bytes end t (again new e some read is f));
   }
 
   -- one that gave some bytes
-  pub some_more : (now new : S) (left left' made : ℕ) (got bytes : List ℕ) → bytes ≢ [] → length bytes ≤ left
-      → left' ≡ left - length bytes → step now left (Ok bytes) new → GoesOn step old room now left made got
-      → GoesOn step old room new left' (made + 1) (got ++ bytes)
-  some_more now new left left' made got some none fits is read g = record {
+  pub some_more : (left' : ℕ) (bytes : List ℕ) → bytes ≢ [] → length bytes ≤ left → left' ≡ left - length bytes
+      → step now left (Ok bytes) new → GoesOn step old room new left' (made + 1) (got ++ bytes)
+  some_more left' some none fits is read = record {
     further = λ n bytes end t f.
         rw (add_assoc made 1 n, append_assoc got some bytes)
         (g.further (1 + n) (some ++ bytes) end t (more new some none fits read (rw is at f)));
   }
 
   -- the reads have ended
-  pub filled : (now new : S) (left made n before after : ℕ) (got piece : List ℕ) (end : FillEnd)
-      (answer : Result ℕ RelayError) → GoesOn step old room now left made got → Fills step now left n [] end new
-      → take (length got) piece ≡ got → after ≡ before + (made + n) → CountsTo end after
-      → answer ≡ end_answer end (length got) → Filled step old room before answer new piece after
-  filled now new left made n before after got piece end answer g f front counted most is = record {
+  pub filled : {n : ℕ} {end : FillEnd} (before after : ℕ) (piece : List ℕ) (answer : Result ℕ RelayError)
+      → Fills step now left n [] end new → take (length got) piece ≡ got → after ≡ before + (made + n)
+      → CountsTo end after → answer ≡ end_answer end (length got)
+      → Filled step old room before answer new piece after
+  filled {n} {end} before after piece answer f front counted most is = record {
     made = made + n;
     bytes = got;
     end = end;

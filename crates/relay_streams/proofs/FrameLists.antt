@@ -3,6 +3,7 @@ use Rattle.std.proofs.Common.{◌≡◌, ◌∙◌, ℕ, true, false, ◌||◌, 
 use Rattle.std.proofs.Common.{append_assoc, append-nil}
 use Rattle.std.specs.List.{concat, list_any}
 use Rattle.std.proofs.lemmas.Bool.{or_from}
+use Rattle.std.proofs.lemmas.List.{map-append}
 use Rattle.std.proofs.lemmas.List.Folds.{list_any-append}
 use Rattle.std.proofs.Math.Bool.{or-true}
 use Rattle.terminal_model.specs.Term.{Shown}
@@ -11,28 +12,44 @@ use Rattle.screen_model.specs.Made.{Fed, made, made_on, events_added, played}
 use Rattle.vt100.proofs.PlayLemmas.{feeds_join, feeds_nothing}
 use Rattle.termrelay.specs.declared.answer.Answer.{Answer}
 use Rattle.termrelay.specs.declared.answer.Answer.TheVariants.{TooLong}
+use Rattle.relay_theorem.specs.History.{Entry}
 use Rattle.relay_streams.specs.Frames.{state_after, asked, answered, is_overlong}
 use Rattle.relay_streams.specs.Pieces.{pieces_of}
 
--- the client asks after each piece, and gets what it is owed then: these texts, these answers, and last this base
-abbrev pub frames_from : ℕ → ℕ → List ℕ → Option Shown → List (List ℕ) → List (List ℕ)
-frames_from rows cols past base [] = []
-frames_from rows cols past base (piece ∷ pieces) =
-    (asked rows cols (past ++ piece) base).owed
-    ∷ frames_from rows cols (past ++ piece) (asked rows cols (past ++ piece) base).base pieces
+-- what the client is answered that asks after these pieces, and gets what it is owed then
+abbrev pub entry_at : ℕ → ℕ → List (List ℕ) → Option Shown → Entry
+entry_at rows cols pieces base = record {
+  moment = map Fed pieces;
+  answer = answered rows cols (concat pieces) base;
+  text = (asked rows cols (concat pieces) base).owed;
+}
 
-abbrev pub answers_from : ℕ → ℕ → List ℕ → Option Shown → List (List ℕ) → List Answer
-answers_from rows cols past base [] = []
-answers_from rows cols past base (piece ∷ pieces) =
-    answered rows cols (past ++ piece) base
-    ∷ answers_from rows cols (past ++ piece) (asked rows cols (past ++ piece) base).base pieces
+-- and its base then
+abbrev pub base_at : ℕ → ℕ → List (List ℕ) → Option Shown → Option Shown
+base_at rows cols pieces base = (asked rows cols (concat pieces) base).base
 
-abbrev pub base_from : ℕ → ℕ → List ℕ → Option Shown → List (List ℕ) → Option Shown
+-- it asks after each piece more
+abbrev pub entries_from : ℕ → ℕ → List (List ℕ) → Option Shown → List (List ℕ) → List Entry
+entries_from rows cols past base [] = []
+entries_from rows cols past base (piece ∷ pieces) =
+    entry_at rows cols (past ++ piece ∷ []) base
+    ∷ entries_from rows cols (past ++ piece ∷ []) (base_at rows cols (past ++ piece ∷ []) base) pieces
+
+abbrev pub base_from : ℕ → ℕ → List (List ℕ) → Option Shown → List (List ℕ) → Option Shown
 base_from rows cols past base [] = base
 base_from rows cols past base (piece ∷ pieces) =
-    base_from rows cols (past ++ piece) (asked rows cols (past ++ piece) base).base pieces
+    base_from rows cols (past ++ piece ∷ []) (base_at rows cols (past ++ piece ∷ []) base) pieces
+
+abbrev pub frames_from : ℕ → ℕ → List (List ℕ) → Option Shown → List (List ℕ) → List (List ℕ)
+frames_from rows cols past base pieces = map (λ e. e.text) (entries_from rows cols past base pieces)
+
+abbrev pub answers_from : ℕ → ℕ → List (List ℕ) → Option Shown → List (List ℕ) → List Answer
+answers_from rows cols past base pieces = map (λ e. e.answer) (entries_from rows cols past base pieces)
 
 -- from a new screen and a new client on
+abbrev pub entries_after : ℕ → ℕ → List (List ℕ) → List Entry
+entries_after rows cols pieces = entries_from rows cols [] None pieces
+
 abbrev pub frames_of : ℕ → ℕ → List (List ℕ) → List (List ℕ)
 frames_of rows cols pieces = frames_from rows cols [] None pieces
 
@@ -76,68 +93,53 @@ pub pieces-make : (rows cols : ℕ) (pieces : List (List ℕ))
 pieces-make rows cols pieces = pieces-join [] (fresh_state rows cols 0) pieces
 
 module _ (rows cols : ℕ) where
-  -- more pieces have more frames
-  pub from-more : (past : List ℕ) (base : Option Shown) (pieces more : List (List ℕ))
-      → frames_from rows cols past base (pieces ++ more)
-      ≡ frames_from rows cols past base pieces
-      ++ frames_from rows cols (past ++ concat pieces) (base_from rows cols past base pieces) more
-  from-more past base [] more = ap (λ xs. frames_from rows cols xs base more) (sym (append-nil past))
-  from-more past base (p ∷ ps) more =
-      let next = (asked rows cols (past ++ p) base).base in
-      ap (λ fs. (asked rows cols (past ++ p) base).owed ∷ fs)
-      (from-more (past ++ p) next ps more
-      ∙ ap (λ xs. frames_from rows cols (past ++ p) next ps
-      ++ frames_from rows cols xs (base_from rows cols (past ++ p) next ps) more) (append_assoc past p (concat ps)))
+  -- more pieces have more answers
+  pub entries-more : (past : List (List ℕ)) (base : Option Shown) (pieces more : List (List ℕ))
+      → entries_from rows cols past base (pieces ++ more)
+      ≡ entries_from rows cols past base pieces
+      ++ entries_from rows cols (past ++ pieces) (base_from rows cols past base pieces) more
+  entries-more past base [] more = ap (λ ps. entries_from rows cols ps base more) (sym (append-nil past))
+  entries-more past base (p ∷ ps) more =
+      let all = past ++ p ∷ [] in
+      let next = base_at rows cols all base in
+      ap (λ es. entry_at rows cols all base ∷ es)
+      (entries-more all next ps more
+      ∙ ap (λ qs. entries_from rows cols all next ps
+      ++ entries_from rows cols qs (base_from rows cols all next ps) more) (append_assoc past (p ∷ []) ps))
 
-  pub answers-later : (past : List ℕ) (base : Option Shown) (pieces more : List (List ℕ))
-      → answers_from rows cols past base (pieces ++ more)
-      ≡ answers_from rows cols past base pieces
-      ++ answers_from rows cols (past ++ concat pieces) (base_from rows cols past base pieces) more
-  answers-later past base [] more = ap (λ xs. answers_from rows cols xs base more) (sym (append-nil past))
-  answers-later past base (p ∷ ps) more =
-      let next = (asked rows cols (past ++ p) base).base in
-      ap (λ xs. answered rows cols (past ++ p) base ∷ xs)
-      (answers-later (past ++ p) next ps more
-      ∙ ap (λ xs. answers_from rows cols (past ++ p) next ps
-      ++ answers_from rows cols xs (base_from rows cols (past ++ p) next ps) more) (append_assoc past p (concat ps)))
-
-  base-more : (past : List ℕ) (base : Option Shown) (pieces more : List (List ℕ))
+  base-more : (past : List (List ℕ)) (base : Option Shown) (pieces more : List (List ℕ))
       → base_from rows cols past base (pieces ++ more)
-      ≡ base_from rows cols (past ++ concat pieces) (base_from rows cols past base pieces) more
-  base-more past base [] more = ap (λ xs. base_from rows cols xs base more) (sym (append-nil past))
+      ≡ base_from rows cols (past ++ pieces) (base_from rows cols past base pieces) more
+  base-more past base [] more = ap (λ ps. base_from rows cols ps base more) (sym (append-nil past))
   base-more past base (p ∷ ps) more =
-      let next = (asked rows cols (past ++ p) base).base in
-      base-more (past ++ p) next ps more
-      ∙ ap (λ xs. base_from rows cols xs (base_from rows cols (past ++ p) next ps) more)
-      (append_assoc past p (concat ps))
+      let all = past ++ p ∷ [] in
+      let next = base_at rows cols all base in
+      base-more all next ps more
+      ∙ ap (λ qs. base_from rows cols qs (base_from rows cols all next ps) more) (append_assoc past (p ∷ []) ps)
 
-  -- one piece more
-  pub frames-push : (pieces : List (List ℕ)) (piece : List ℕ) (bytes : List ℕ)
-      → bytes ≡ concat pieces ++ piece → frames_of rows cols (pieces ++ piece ∷ [])
-      ≡ frames_of rows cols pieces ++ (asked rows cols bytes (base_of rows cols pieces)).owed ∷ []
-  frames-push pieces piece bytes is =
-      from-more [] None pieces (piece ∷ [])
-      ∙ ap (λ xs. frames_of rows cols pieces ++ (asked rows cols xs (base_of rows cols pieces)).owed ∷ []) (sym is)
+  pub frames-more : (pieces more : List (List ℕ)) → frames_of rows cols (pieces ++ more)
+      ≡ frames_of rows cols pieces ++ frames_from rows cols pieces (base_of rows cols pieces) more
+  frames-more pieces more =
+      ap (λ (es : List Entry). map (λ e. e.text) es) (entries-more [] None pieces more)
+      ∙ map-append (λ (e : Entry). e.text) (entries_after rows cols pieces)
+      (entries_from rows cols pieces (base_of rows cols pieces) more)
 
-  pub answers-push : (pieces : List (List ℕ)) (piece : List ℕ) (bytes : List ℕ)
-      → bytes ≡ concat pieces ++ piece → answers_of rows cols (pieces ++ piece ∷ [])
-      ≡ answers_of rows cols pieces ++ answered rows cols bytes (base_of rows cols pieces) ∷ []
-  answers-push pieces piece bytes is =
-      answers-later [] None pieces (piece ∷ [])
-      ∙ ap (λ xs. answers_of rows cols pieces ++ answered rows cols xs (base_of rows cols pieces) ∷ []) (sym is)
+  pub answers-more : (pieces more : List (List ℕ)) → answers_of rows cols (pieces ++ more)
+      ≡ answers_of rows cols pieces ++ answers_from rows cols pieces (base_of rows cols pieces) more
+  answers-more pieces more =
+      ap (λ (es : List Entry). map (λ e. e.answer) es) (entries-more [] None pieces more)
+      ∙ map-append (λ (e : Entry). e.answer) (entries_after rows cols pieces)
+      (entries_from rows cols pieces (base_of rows cols pieces) more)
 
-  -- where no frame is too long, and neither is that of one piece more
-  pub fits-push : (pieces : List (List ℕ)) (piece : List ℕ) (bytes : List ℕ) → bytes ≡ concat pieces ++ piece
-      → list_any is_overlong (answers_of rows cols pieces) ≡ false
-      → is_overlong (answered rows cols bytes (base_of rows cols pieces)) ≡ false
+  -- one piece more: where no frame is too long, and neither is its own
+  pub fits-push : (pieces : List (List ℕ)) (piece : List ℕ) → list_any is_overlong (answers_of rows cols pieces) ≡ false
+      → is_overlong (answered rows cols (concat (pieces ++ piece ∷ [])) (base_of rows cols pieces)) ≡ false
       → list_any is_overlong (answers_of rows cols (pieces ++ piece ∷ [])) ≡ false
-  fits-push pieces piece bytes is fits last =
-      ap (λ (xs : List Answer). list_any is_overlong xs) (answers-push pieces piece bytes is)
-      ∙ none-more (answers_of rows cols pieces) (answered rows cols bytes (base_of rows cols pieces)) fits last
+  fits-push pieces piece fits last =
+      ap (λ (xs : List Answer). list_any is_overlong xs) (answers-more pieces (piece ∷ []))
+      ∙ none-more (answers_of rows cols pieces)
+      (answered rows cols (concat (pieces ++ piece ∷ [])) (base_of rows cols pieces)) fits last
 
-  pub base-push : (pieces : List (List ℕ)) (piece : List ℕ) (bytes : List ℕ)
-      → bytes ≡ concat pieces ++ piece → base_of rows cols (pieces ++ piece ∷ [])
-      ≡ (asked rows cols bytes (base_of rows cols pieces)).base
-  base-push pieces piece bytes is =
-      base-more [] None pieces (piece ∷ [])
-      ∙ ap (λ xs. (asked rows cols xs (base_of rows cols pieces)).base) (sym is)
+  pub base-push : (pieces : List (List ℕ)) (piece : List ℕ) → base_of rows cols (pieces ++ piece ∷ [])
+      ≡ base_at rows cols (pieces ++ piece ∷ []) (base_of rows cols pieces)
+  base-push pieces piece = base-more [] None pieces (piece ∷ [])

@@ -1,7 +1,6 @@
 -- What commands leave, where the source and the writer tell their bytes.
-use Rattle.std.proofs.Common.{◌≡◌, ℕ, true, List, [], ◌∷◌, ◌++◌, append-nil, Option, None, Some, Ok, Err}
-use Rattle.std.proofs.Common.{Result, OnOk, IfSome, take, refl, sym}
-use Rattle.std.proofs.Common.{ap, ◌∙◌, subst}
+use Rattle.std.proofs.Common.{◌≡◌, ℕ, true, List, [], ◌∷◌, ◌++◌, append-nil, Option, None, Some, Ok, Err, Result}
+use Rattle.std.proofs.Common.{OnOk, IfSome, take, refl, sym, ap, ◌∙◌, subst}
 use Rattle.std.specs.List.{concat, list_any}
 use Rattle.std.proofs.lemmas.List.Folds.{concat-append}
 use Rattle.std.specs.Io.KnownBytes.{Appends, Keeps}
@@ -26,7 +25,7 @@ use Rattle.relay_streams.specs.Shown.{IsTextShown, Prints, Shows}
 use Rattle.takers.proofs.AppendLemmas.{TakesFront-none, TakesFront-longer}
 use Rattle.relay_streams.proofs.PieceLemmas.{drained-pieces, drained-front, begun-front, begun-well}
 use Rattle.relay_streams.proofs.FrameLists.{frames_of, frames_from, answers_of, answers_from, base_of, relay_text}
-use Rattle.relay_streams.proofs.FrameLists.{from-more, answers-later, one-there}
+use Rattle.relay_streams.proofs.FrameLists.{frames-more, answers-more, one-there}
 use Rattle.relay_streams.proofs.SessionLemmas.{relayed-answers, frames-of, pumped-of, overlong-of, relayed-as}
 use Rattle.takers.proofs.SendLemmas.{sends-appends, sends-front, text-appends, text-front}
 use Rattle.relay_streams.proofs.LawLemmas.{texts_are_one}
@@ -71,9 +70,9 @@ module _ (S W : Type 0) (gives : S → ℕ → Result (List ℕ) Error → S →
         → (more : List (List ℕ)) × (pieces_of bytes ≡ pieces ++ more)
         → TakesFront (contents w) (contents v) (relay_text rows cols bytes)
     front-of rows cols w v pieces frames answer bytes relayed sends (more, are) =
-        let rest = frames_from rows cols (concat pieces) (base_of rows cols pieces) more in
+        let rest = frames_from rows cols pieces (base_of rows cols pieces) more in
         let whole : concat (frames_of rows cols pieces) ++ concat rest ≡ relay_text rows cols bytes =
-        sym (concat-append (frames_of rows cols pieces) rest) ∙ ap concat (sym (from-more rows cols [] None pieces more))
+        sym (concat-append (frames_of rows cols pieces) rest) ∙ ap concat (sym (frames-more rows cols pieces more))
         ∙ ap (λ (ps : List (List ℕ)). concat (frames_of rows cols ps)) (sym are) in
         subst (TakesFront (contents w) (contents v)) whole
         (TakesFront-longer (contents w) (contents v) (concat (frames_of rows cols pieces)) (concat rest)
@@ -152,11 +151,11 @@ module _ (S W : Type 0) (gives : S → ℕ → Result (List ℕ) Error → S →
     long-front : (rows cols key : ℕ) (pieces more all : List (List ℕ)) (u : Story) → EndsOverlong rows cols pieces
         → all ≡ pieces ++ more → IsRelayed rows cols key all u → has_overlong u ≡ true
     long-front rows cols key pieces more all u ends are is =
-        let rest = answers_from rows cols (concat pieces) (base_of rows cols pieces) more in
+        let rest = answers_from rows cols pieces (base_of rows cols pieces) more in
         let first : answers_of rows cols pieces ≡ ends.front ++ TooLong ∷ [] =
         sym (relayed-answers rows cols ends.key pieces ends.story ends.is) ∙ ends.answers in
         let whole : answers_of rows cols all ≡ (ends.front ++ TooLong ∷ []) ++ rest =
-        ap (answers_of rows cols) are ∙ answers-later rows cols [] None pieces more
+        ap (answers_of rows cols) are ∙ answers-more rows cols pieces more
         ∙ ap (λ (xs : List Answer). xs ++ rest) first in
         overlong-of rows cols key all u is ∙ ap (λ (xs : List Answer). list_any is_overlong xs) whole
         ∙ one-there ends.front rest

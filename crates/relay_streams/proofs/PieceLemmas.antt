@@ -9,9 +9,8 @@ use Rattle.std.specs.List.{concat}
 use Rattle.std.specs.Io.KnownBytes.{Consumes, IsAtEnd, Keeps}
 use Rattle.std.specs.declared.io.Error.{Error}
 use Rattle.relay_streams.specs.declared.error.RelayError.{RelayError}
-use Rattle.relay_streams.specs.Fill.{FillEnd, Full, Ended, Failed, TooMany, Fills, full, stopped, ended, failed, again}
-use Rattle.relay_streams.specs.Fill.{more}
-use Rattle.relay_streams.specs.Fill.{IsReadBy, CountsTo, end_answer, max_reads, Filled}
+use Rattle.relay_streams.specs.Fill.{FillEnd, Full, Ended, Failed, TooMany, Fills, full, stopped, ended, failed}
+use Rattle.relay_streams.specs.Fill.{again, more, IsReadBy, CountsTo, end_answer, max_reads, Filled}
 use Rattle.relay_streams.specs.Pieces.{cut_by, piece_len, pieces_of, Drains, last, next, outcome_of, Drained, Begun}
 use Rattle.std.proofs.Math.Nat.{add-div_left}
 
@@ -283,11 +282,12 @@ pub record DrainsOn {S : Type 0} (step : S → ℕ → Result (List ℕ) Error �
   pub further : (n : ℕ) (others : List (List ℕ)) (end : FillEnd) (t : S) → Drains step room now n others end t
       → Drains step room old (made + n) (pieces ++ others) end t
 
-module _ (S : Type 0) (step : S → ℕ → Result (List ℕ) Error → S → Type 0) (room : ℕ) (old : S) where
-  pub none_read : DrainsOn step room old old 0 []
-  none_read = record { further = λ n others end t d. rw zero-add d }
+pub none_read : {S : Type 0} {step : S → ℕ → Result (List ℕ) Error → S → Type 0} {room : ℕ} {old : S}
+    → DrainsOn step room old old 0 []
+none_read = record { further = λ n others end t d. rw zero-add d }
 
-  pub one_more : (now new : S) (made n : ℕ) (pieces : List (List ℕ)) (bytes : List ℕ)
+module _ (S : Type 0) (step : S → ℕ → Result (List ℕ) Error → S → Type 0) (room : ℕ) (old : S) where
+  one_more : (now new : S) (made n : ℕ) (pieces : List (List ℕ)) (bytes : List ℕ)
       → DrainsOn step room old now made pieces → Fills step now room n bytes Full new
       → DrainsOn step room old new (made + n) (pieces ++ bytes ∷ [])
   one_more now new made n pieces bytes d fills = record {
@@ -296,7 +296,7 @@ module _ (S : Type 0) (step : S → ℕ → Result (List ℕ) Error → S → Ty
         (d.further (n + k) (bytes ∷ others) end t (next new fills rest));
   }
 
-  pub drained : (now new : S) (made n : ℕ) (pieces : List (List ℕ)) (bytes : List ℕ) (end : FillEnd)
+  drained : (now new : S) (made n : ℕ) (pieces : List (List ℕ)) (bytes : List ℕ) (end : FillEnd)
       (answer : Result (Unit {0}) RelayError) → DrainsOn step room old now made pieces
       → Fills step now room n bytes end new
       → end ≢ Full → CountsTo end (made + n) → answer ≡ outcome_of end
@@ -349,72 +349,79 @@ counted_end Full answer len n count is ok most = (λ no. absurd (cc), most)
 counted_end Ended answer len n count is ok most = (λ no. absurd (cc), most)
 counted_end _ answer len n count is ok most = absurd (let e = sym is ∙ ok in cc)
 
+-- of the room of a full piece
 module _ {S : Type 0} {step : S → ℕ → Result (List ℕ) Error → S → Type 0} {room : ℕ} {now new : S} {before after : ℕ}
-    {piece : List ℕ} {answer : Result ℕ RelayError} (f : Filled step now room before answer new piece after) where
+    {piece : List ℕ} {answer : Result ℕ RelayError} (given : Filled step now room before answer new piece after)
+    (whole : room ≡ piece_len) where
+  pub filled : Filled step now piece_len before answer new piece after
+  filled = subst (λ (r : ℕ). Filled step now r before answer new piece after) whole given
+
   -- reads were made, and there may be more
-  pub filled_most : (n : ℕ) → answer ≡ Ok n → 0 < room → (after ≤ max_reads) × (before < after)
-  filled_most n ok some =
-      let most = counted_end f.end answer (length f.bytes) n after f.answered ok f.most in
-      let made = fills-made S step now room f.made f.bytes f.end new f.fills some most.0 in
-      (most.1, omega (arith, f.counted, made))
+  pub filled_most : (n : ℕ) → answer ≡ Ok n → (after ≤ max_reads) × (before < after)
+  filled_most n ok =
+      let most = counted_end filled.end answer (length filled.bytes) n after filled.answered ok filled.most in
+      let made = fills-made S step now piece_len filled.made filled.bytes filled.end new filled.fills (omega arith)
+      most.0 in
+      (most.1, omega (arith, filled.counted, made))
 
   -- its bytes, as they stand in the buffer
-  filled_as : (n : ℕ) (end : FillEnd) → f.end ≡ end → n ≡ length f.bytes
-      → Fills step now room f.made (take n piece) end new
+  filled_as : (n : ℕ) (end : FillEnd) → filled.end ≡ end → n ≡ length filled.bytes
+      → Fills step now piece_len filled.made (take n piece) end new
   filled_as n end is e =
-      subst (λ (k : FillEnd). Fills step now room f.made (take n piece) k new) is
-      (subst (λ (bytes : List ℕ). Fills step now room f.made bytes f.end new)
-      (sym f.front ∙ ap (λ (k : ℕ). take k piece) (sym e)) f.fills)
+      subst (λ (k : FillEnd). Fills step now piece_len filled.made (take n piece) k new) is
+      (subst (λ (bytes : List ℕ). Fills step now piece_len filled.made bytes filled.end new)
+      (sym filled.front ∙ ap (λ (k : ℕ). take k piece) (sym e)) filled.fills)
 
   -- a full piece
-  pub filled_on : {old : S} {past : List (List ℕ)} (n : ℕ) → answer ≡ Ok n → room ≤ n
-      → DrainsOn step room old now before past → DrainsOn step room old new after (past ++ take n piece ∷ [])
+  pub filled_on : {old : S} {past : List (List ℕ)} (n : ℕ) → answer ≡ Ok n → piece_len ≤ n
+      → DrainsOn step piece_len old now before past → DrainsOn step piece_len old new after (past ++ take n piece ∷ [])
   filled_on {old} {past} n ok long d =
-      let end = full_end f.end answer (length f.bytes) n room f.answered ok
-      (fills-short S step now room f.made f.bytes f.end new f.fills) long in
-      subst (λ (k : ℕ). DrainsOn step room old new k (past ++ take n piece ∷ [])) (sym f.counted)
-      (one_more S step room old now new before f.made past (take n piece) d (filled_as n Full end.0 end.1))
+      let end = full_end filled.end answer (length filled.bytes) n piece_len filled.answered ok
+      (fills-short S step now piece_len filled.made filled.bytes filled.end new filled.fills) long in
+      subst (λ (k : ℕ). DrainsOn step piece_len old new k (past ++ take n piece ∷ [])) (sym filled.counted)
+      (one_more S step piece_len old now new before filled.made past (take n piece) d (filled_as n Full end.0 end.1))
 
   -- the last one
-  pub filled_last : {old : S} {past : List (List ℕ)} (n : ℕ) → answer ≡ Ok n → n < room
-      → DrainsOn step room old now before past → Drained step room old (past ++ take n piece ∷ []) (Ok tt) new
+  pub filled_last : {old : S} {past : List (List ℕ)} (n : ℕ) → answer ≡ Ok n → n < piece_len
+      → DrainsOn step piece_len old now before past → Drained step piece_len old (past ++ take n piece ∷ []) (Ok tt) new
   filled_last {old} {past} n ok low d =
-      let end = short_end f.end answer (length f.bytes) n room f.answered ok
-      (fills-full S step now room f.made f.bytes f.end new f.fills) low in
-      let most = counted_end f.end answer (length f.bytes) n after f.answered ok f.most in
-      drained S step room old now new before f.made past (take n piece) Ended (Ok tt) d
-      (filled_as n Ended end.0 end.1) (λ no. absurd (cc)) (omega (arith, most.1, f.counted)) refl
+      let end = short_end filled.end answer (length filled.bytes) n piece_len filled.answered ok
+      (fills-full S step now piece_len filled.made filled.bytes filled.end new filled.fills) low in
+      let most = counted_end filled.end answer (length filled.bytes) n after filled.answered ok filled.most in
+      drained S step piece_len old now new before filled.made past (take n piece) Ended (Ok tt) d
+      (filled_as n Ended end.0 end.1) (λ no. absurd (cc)) (omega (arith, most.1, filled.counted)) refl
 
   -- one that was read well, full or not
-  pub filled_begun : {old : S} {past : List (List ℕ)} (n : ℕ) → answer ≡ Ok n → DrainsOn step room old now before past
-      → Begun step room old (past ++ take n piece ∷ []) new
+  pub filled_begun : {old : S} {past : List (List ℕ)} (n : ℕ) → answer ≡ Ok n
+      → DrainsOn step piece_len old now before past → Begun step piece_len old (past ++ take n piece ∷ []) new
   filled_begun {old} {past} n ok d =
-      let end = well_end f.end answer (length f.bytes) n f.answered ok in
+      let end = well_end filled.end answer (length filled.bytes) n filled.answered ok in
       record {
-        made = before + f.made;
-        end = f.end;
-        drains = d.further f.made (take n piece ∷ []) f.end new (last (filled_as n f.end refl end.1));
-        most = subst (λ (k : ℕ). CountsTo f.end k) f.counted f.most;
+        made = before + filled.made;
+        end = filled.end;
+        drains = d.further filled.made (take n piece ∷ []) filled.end new (last (filled_as n filled.end refl end.1));
+        most = subst (λ (k : ℕ). CountsTo filled.end k) filled.counted filled.most;
         well = end.0;
       }
 
   -- one at which the reading stopped
   pub filled_fault : {old : S} {past : List (List ℕ)} (fault : RelayError) → answer ≡ Err fault
-      → DrainsOn step room old now before past → Drained step room old (past ++ f.bytes ∷ []) (Err fault) new
+      → DrainsOn step piece_len old now before past
+      → Drained step piece_len old (past ++ filled.bytes ∷ []) (Err fault) new
   filled_fault {old} {past} fault err d =
-      let end = fault_end f.end answer (length f.bytes) fault f.answered err in
-      drained S step room old now new before f.made past f.bytes f.end (Err fault) d f.fills end.0
-      (subst (λ (k : ℕ). CountsTo f.end k) f.counted f.most) end.1
+      let end = fault_end filled.end answer (length filled.bytes) fault filled.answered err in
+      drained S step piece_len old now new before filled.made past filled.bytes filled.end (Err fault) d filled.fills
+      end.0 (subst (λ (k : ℕ). CountsTo filled.end k) filled.counted filled.most) end.1
 
 -- the bytes of one piece more
 pub concat-push : (pieces : List (List ℕ)) (piece : List ℕ) → concat (pieces ++ piece ∷ []) ≡ concat pieces ++ piece
 concat-push pieces piece = concat-append pieces (piece ∷ []) ∙ ap (λ zs. concat pieces ++ zs) (append-nil piece)
 
 -- the answer is the fault at which the reading stopped
-pub stopped_so : (S : Type 0) (step : S → ℕ → Result (List ℕ) Error → S → Type 0) (room : ℕ) (old new : S)
-    (pieces : List (List ℕ)) (answer : Result (Unit {0}) RelayError) (fault : RelayError)
+pub stopped_so : {S : Type 0} {step : S → ℕ → Result (List ℕ) Error → S → Type 0} {room : ℕ} {old new : S}
+    {pieces : List (List ℕ)} {answer : Result (Unit {0}) RelayError} {fault : RelayError}
     (P : List (List ℕ) → Type 0) → answer ≡ Err fault → Drained step room old pieces (Err fault) new
     → (ps : List (List ℕ)) × Drained step room old ps answer new × OnOk answer (P ps)
-stopped_so S step room old new pieces answer fault P is d =
+stopped_so {step = step} {room} {old} {new} {pieces} P is d =
     subst (λ (r : Result (Unit {0}) RelayError). (ps : List (List ℕ)) × Drained step room old ps r new
     × OnOk r (P ps)) (sym is) (pieces, d, tt)

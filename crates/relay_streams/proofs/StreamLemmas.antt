@@ -15,8 +15,7 @@ use Rattle.relay_streams.specs.Relayed.{Streams, unmade, overlong, stopped}
 use Rattle.takers.specs.Sent as sent
 use Rattle.takers.specs.Sent.{Sends}
 use Rattle.relay_streams.specs.Turns.{Relaying, Turned, fault_of}
-use Rattle.relay_streams.proofs.FrameLists.{frames_of, answers_of, base_of, frames-push, fits-push, base-push}
-use Rattle.relay_streams.proofs.PieceLemmas.{concat-push}
+use Rattle.relay_streams.proofs.FrameLists.{frames_of, answers_of, base_of, frames-more, fits-push, base-push}
 use Rattle.relay_streams.proofs.SessionLemmas.{frames-are-relayed, ends-overlong}
 use Rattle.takers.proofs.SendLemmas.{sends-more}
 
@@ -37,15 +36,14 @@ module _ (S W : Type 0) (gives : S → ℕ → Result (List ℕ) Error → S →
   base = base_of rows cols past
 
   frames-are : frames_of rows cols pieces ≡ frames_of rows cols past ++ (asked rows cols (concat pieces) base).owed ∷ []
-  frames-are = frames-push rows cols past piece (concat pieces) (concat-push past piece)
+  frames-are = frames-more rows cols past (piece ∷ [])
 
   -- no frame is too long
   abbrev Fit : List (List ℕ) → Type 0
   Fit ps = list_any is_overlong (answers_of rows cols ps) ≡ false
 
   fits-on : is_overlong (answered rows cols (concat pieces) base) ≡ false → Fit past → Fit pieces
-  fits-on last fit =
-      fits-push rows cols past piece (concat pieces) (concat-push past piece) fit last
+  fits-on last fit = fits-push rows cols past piece fit last
 
   -- a turn at which a fault came
   pub turn-faults : (s t : S) (w m v : W) (e : RelayError) → IsSide rows → IsSide cols → Begun gives piece_len s pieces t
@@ -64,7 +62,7 @@ module _ (S W : Type 0) (gives : S → ℕ → Result (List ℕ) Error → S →
       (subst (λ (u : W). Sends takes w (frames_of rows cols past) (Ok tt) u) (sym turned) sends)
   turn-faults s t w m v FrameTooLong height width b fit sends (long, stays) =
       overlong past (frames_of rows cols past) piece b (frames-are-relayed rows cols past height width fit)
-      (ends-overlong rows cols past piece (concat pieces) height width (concat-push past piece) long)
+      (ends-overlong rows cols past piece height width long)
       (subst (λ (u : W). Sends takes w (frames_of rows cols past) (Ok tt) u) (sym stays) sends)
   turn-faults s t w m v TooManyReads height width b fit sends turned = absurd turned
 
@@ -79,5 +77,5 @@ module _ (S W : Type 0) (gives : S → ℕ → Result (List ℕ) Error → S →
         (sends-more W takes w m v (frames_of rows cols past) ((asked rows cols (concat pieces) base).owed ∷ []) (Ok tt)
         (Ok tt) sends refl (sent.next v turned.1.1 sent.none)),
     subst (λ (b : Option Shown). Relaying rows cols pieces b g key)
-        (sym (base-push rows cols past piece (concat pieces) (concat-push past piece))) turned.2,
+        (sym (base-push rows cols past piece)) turned.2,
   )

@@ -1,14 +1,12 @@
 -- Pieces lead to one parsed text and one hold.
-use Rattle.std.proofs.Common.{◌≡◌, ℕ, ◌+◌, ◌<◌, Bool, true, false, ◌||◌, List, [], ◌++◌, Option, None, Some}
-use Rattle.std.proofs.Common.{take, drop, refl, sym, ap, ◌∙◌, subst, inl, inr, arith}
-use Rattle.std.proofs.Common.{take-append-drop}
+use Rattle.std.proofs.Common.{◌≡◌, ℕ, ◌+◌, ◌<◌, Bool, true, false, ◌||◌, List, [], ◌++◌, Option, None, Some, take}
+use Rattle.std.proofs.Common.{drop, refl, sym, ap, ◌∙◌, subst, inl, inr, arith, take-append-drop}
 use Rattle.std.proofs.lemmas.Bool.{cases_lt}
 use Rattle.vte_types.specs.Call.{Call}
 use Rattle.vte.specs.Timeout.{Tick}
 use Rattle.vte.specs.Marks.{start_mark, end_mark, stands_at, NoneFrom, IsLast, IsFirstFrom}
 use Rattle.vte.specs.Stretch.{opens_in, OpensAt}
-use Rattle.vte.specs.Hold.{held_of, IsCut, Closes, Settles, keeps, replays, closes, Takes, parses, begins}
-use Rattle.vte.specs.Hold.{settles}
+use Rattle.vte.specs.Hold.{held_of, IsCut, Closes, Settles, keeps, replays, closes, Takes, parses, begins, settles}
 use Rattle.vte.specs.Hold.{overflows}
 use Rattle.vte.specs.Moves.{Move}
 use Rattle.vte.specs.Frames.{Drives, ends, gives, stops}

@@ -1,7 +1,6 @@
 -- A turn: what feeding a piece, asking for a frame and pumping leave.
-use Rattle.std.proofs.Common.{◌≡◌, ◌∙◌, ℕ, Bool, false, List, [], ◌∷◌, ◌++◌, map, drop, Option, Some, None, Ok}
-use Rattle.std.proofs.Common.{Err}
-use Rattle.std.proofs.Common.{Result, refl, sym, ap, subst, if◌then◌else◌}
+use Rattle.std.proofs.Common.{◌≡◌, ◌∙◌, ℕ, false, List, [], ◌∷◌, ◌++◌, map, drop, Option, Some, None, Ok, Err, Result}
+use Rattle.std.proofs.Common.{refl, sym, ap, subst, if◌then◌else◌}
 use Rattle.std.specs.List.{concat}
 use Rattle.std.proofs.lemmas.Bool.{eq-eqb}
 use Rattle.std.proofs.lemmas.List.{map-append}
@@ -14,8 +13,8 @@ use Rattle.screen_model.specs.Holds.{IsSide}
 use Rattle.vt100.specs.Parsing.{ParserStandsAt}
 use Rattle.termrelay.specs.Answers.{ClientState, after_answer}
 use Rattle.takers.specs.Pump.{Pumps}
-use Rattle.termrelay.specs.Hub.{HubState, as_kept, clients_in, new_client, size_in, shown_in, Puts}
-use Rattle.termrelay.specs.Hub.{IsNewHub, Attaches, Feeds, CanFrame, Framed, Frames, pump_answer, PumpsFrom, PumpsClient}
+use Rattle.termrelay.specs.Hub.{HubState, as_kept, clients_in, new_client, size_in, shown_in, Puts, IsNewHub}
+use Rattle.termrelay.specs.Hub.{Attaches, Feeds, CanFrame, Framed, Frames, pump_answer, PumpsFrom, PumpsClient}
 use Rattle.termrelay.specs.declared.answer.Answer.{Answer}
 use Rattle.termrelay.specs.declared.error.HubError.{HubError}
 use Rattle.termrelay.specs.declared.error.HubError.TheVariants as hub
@@ -43,7 +42,7 @@ first-attached rows cols key h g height width new at = record {
 }
 
 -- a piece was fed
-pub piece-fed : (rows cols : ℕ) (pieces : List (List ℕ)) (piece : List ℕ) (base : Option Shown) (h g : HubState as_kept)
+piece-fed : (rows cols : ℕ) (pieces : List (List ℕ)) (piece : List ℕ) (base : Option Shown) (h g : HubState as_kept)
     (key : ℕ) → Relaying rows cols pieces base h key → Feeds h piece over g
     → Relaying rows cols (pieces ++ piece ∷ []) base g key
 piece-fed rows cols pieces piece base h g key r f = record {
@@ -64,7 +63,7 @@ state-now : (rows cols : ℕ) (pieces : List (List ℕ)) (base : Option Shown) (
 state-now rows cols pieces base h key r =
     ap (λ (v : ScreenView). v.state) r.parser.screen ∙ pieces-make rows cols pieces
 
-pub frame-asked : (rows cols : ℕ) (pieces : List (List ℕ)) (base : Option Shown) (h g : HubState as_kept) (key : ℕ)
+frame-asked : (rows cols : ℕ) (pieces : List (List ℕ)) (base : Option Shown) (h g : HubState as_kept) (key : ℕ)
     (answer : Answer) → Relaying rows cols pieces base h key → Frames h key (Ok answer) g
     → Asked rows cols pieces base h g key
 unfolding asked
@@ -83,14 +82,34 @@ frame-asked rows cols pieces base h g key answer r f =
     )
 
 -- and was answered so
-pub frame-answered : (rows cols : ℕ) (pieces : List (List ℕ)) (base : Option Shown) (h g : HubState as_kept) (key : ℕ)
-    (answer : Answer) (overlong : Bool) → Relaying rows cols pieces base h key → Frames h key (Ok answer) g
-    → is_overlong answer ≡ overlong → is_overlong (answered rows cols (concat pieces) base) ≡ overlong
+frame-answered : (rows cols : ℕ) (pieces : List (List ℕ)) (base : Option Shown) (h g : HubState as_kept) (key : ℕ)
+    (answer : Answer) → Relaying rows cols pieces base h key → Frames h key (Ok answer) g
+    → is_overlong (answered rows cols (concat pieces) base) ≡ is_overlong answer
 unfolding answered
-frame-answered rows cols pieces base h g key answer overlong r f is =
+frame-answered rows cols pieces base h g key answer r f =
     let can : CanFrame h.parser.screen (Some (idle base)) (Ok answer) =
     subst (λ (o : Option ClientState). CanFrame h.parser.screen o (Ok answer)) r.client f.0 in
-    ap is_overlong (sym (can.1 ∙ ap (λ (s : State). answer_on s base) (state-now rows cols pieces base h key r))) ∙ is
+    ap is_overlong (sym (can.1 ∙ ap (λ (s : State). answer_on s base) (state-now rows cols pieces base h key r)))
+
+-- a piece was fed, and then a frame asked for
+pub record HasAsked {rows cols : ℕ} {past : List (List ℕ)} {base : Option Shown} {old : HubState as_kept} {key : ℕ}
+    (at : Relaying rows cols past base old key) (piece : List ℕ) (h k : HubState as_kept) (answer : Answer)
+    : Type 0 where
+  pub fed : Relaying rows cols (past ++ piece ∷ []) base h key
+  pub asked : Asked rows cols (past ++ piece ∷ []) base h k key
+  pub long : is_overlong (answered rows cols (concat (past ++ piece ∷ [])) base) ≡ is_overlong answer
+
+pub asks : {rows cols : ℕ} {past : List (List ℕ)} {base : Option Shown} {old : HubState as_kept} {key : ℕ}
+    (at : Relaying rows cols past base old key) (piece : List ℕ) (h k : HubState as_kept) (answer : Answer)
+    → Feeds old piece over h → Frames h key (Ok answer) k → HasAsked at piece h k answer
+asks {rows} {cols} {past} {base} {old} {key} at piece h k answer feeds frames =
+    let all : List (List ℕ) = past ++ piece ∷ [] in
+    let fed = piece-fed rows cols past piece base old h key at feeds in
+    record {
+      fed = fed;
+      asked = frame-asked rows cols all base h k key answer fed frames;
+      long = frame-answered rows cols all base h k key answer fed frames;
+    }
 
 module _ (W : Type 0) (takes : W → List ℕ → Result ℕ Error → W → Type 0) where
   -- what was owed was pumped whole
@@ -106,21 +125,23 @@ module _ (W : Type 0) (takes : W → List ℕ → Result ℕ Error → W → Typ
   )
   pumped-by h g key c w v (Err e) n pumps is after = absurd (cc)
 
-  pub turn-ends : (rows cols : ℕ) (pieces : List (List ℕ)) (base : Option Shown) (h k g : HubState as_kept) (key : ℕ)
-      (w v : W) → Relaying rows cols pieces base h key → Asked rows cols pieces base h k key
-      → is_overlong (answered rows cols (concat pieces) base) ≡ false
-      → PumpsClient takes k key w over v g → Turned takes rows cols pieces base key w (Ok tt) v g
-  turn-ends rows cols pieces base h k g key w v r a fits p =
-      let c = asked rows cols (concat pieces) base in
+  pub turn-ends : {rows cols : ℕ} {past : List (List ℕ)} {base : Option Shown} {old h k : HubState as_kept} {key : ℕ}
+      {at : Relaying rows cols past base old key} {piece : List ℕ} {answer : Answer} (g : HubState as_kept) (w v : W)
+      → HasAsked at piece h k answer → is_overlong answer ≡ false → PumpsClient takes k key w over v g
+      → Turned takes rows cols (past ++ piece ∷ []) base key w (Ok tt) v g
+  turn-ends {rows = rows} {cols = cols} {past = past} {base = base} {h = h} {k = k} {key = key} {piece = piece} g w v a
+      short p =
+      let all : List (List ℕ) = past ++ piece ∷ [] in
+      let c = asked rows cols (concat all) base in
       let q : PumpsFrom takes k key (Some c) w over v g =
-      subst (λ (o : Option ClientState). PumpsFrom takes k key o w over v g) a.1 p in
+      subst (λ (o : Option ClientState). PumpsFrom takes k key o w over v g) a.asked.1 p in
       let end = pumped-by k g key c w v q.0 q.1 q.2 q.3 q.4 in (
-        fits,
+        a.long ∙ short,
         end.0,
         record {
-          height = r.height;
-          width = r.width;
-          parser = subst (λ p. ParserStandsAt p rows cols 0 (map Fed pieces)) (sym (end.1 ∙ a.0)) r.parser;
+          height = a.fed.height;
+          width = a.fed.width;
+          parser = subst (λ p. ParserStandsAt p rows cols 0 (map Fed all)) (sym (end.1 ∙ a.asked.0)) a.fed.parser;
           client = end.2;
         },
       )
@@ -137,11 +158,14 @@ module _ (W : Type 0) (takes : W → List ℕ → Result ℕ Error → W → Typ
   broken-by rows cols pieces base key w v g hub.UnknownClient (Err x) n fits pumps is = absurd (cc)
   broken-by rows cols pieces base key w v g (hub.Write y) (Err x) n fits pumps is = (fits, x, n, pumps)
 
-  pub turn-breaks : (rows cols : ℕ) (pieces : List (List ℕ)) (base : Option Shown) (h k g : HubState as_kept) (key : ℕ)
-      (w v : W) (e : HubError) → Asked rows cols pieces base h k key
-      → is_overlong (answered rows cols (concat pieces) base) ≡ false → PumpsClient takes k key w (Err e) v g
-      → Turned takes rows cols pieces base key w (Err (fault_of e)) v g
-  turn-breaks rows cols pieces base h k g key w v e a fits p =
-      let q : PumpsFrom takes k key (Some (asked rows cols (concat pieces) base)) w (Err e) v g =
-      subst (λ (o : Option ClientState). PumpsFrom takes k key o w (Err e) v g) a.1 p in
-      broken-by rows cols pieces base key w v g e q.0 q.1 fits q.2 q.3
+  pub turn-breaks : {rows cols : ℕ} {past : List (List ℕ)} {base : Option Shown} {old h k : HubState as_kept} {key : ℕ}
+      {at : Relaying rows cols past base old key} {piece : List ℕ} {answer : Answer} (g : HubState as_kept) (w v : W)
+      (e : HubError) → HasAsked at piece h k answer → is_overlong answer ≡ false
+      → PumpsClient takes k key w (Err e) v g
+      → Turned takes rows cols (past ++ piece ∷ []) base key w (Err (fault_of e)) v g
+  turn-breaks {rows = rows} {cols = cols} {past = past} {base = base} {k = k} {key = key} {piece = piece} g w v e a
+      short p =
+      let all : List (List ℕ) = past ++ piece ∷ [] in
+      let q : PumpsFrom takes k key (Some (asked rows cols (concat all) base)) w (Err e) v g =
+      subst (λ (o : Option ClientState). PumpsFrom takes k key o w (Err e) v g) a.asked.1 p in
+      broken-by rows cols all base key w v g e q.0 q.1 (a.long ∙ short) q.2 q.3

@@ -24,30 +24,42 @@ not_led view = record {
   };
 }
 
+-- more pieces
+pub led_more : (a b c : View UntilCleared) (ps qs : List (List ℕ)) → Led a ps b → Led b qs c → Led a (ps ++ qs) c
+led_more a b c ps qs first then = record {
+  goes = λ parsed hold at.
+      let l = first.goes parsed hold at in
+      let m = then.goes l.parsed' l.hold' l.holds in
+      record {
+        parsed' = m.parsed';
+        hold' = m.hold';
+        leads = subst (λ (ms : List Move). Drives ms parsed hold m.parsed' m.hold') (sym (map-append Gives ps qs))
+            (moves_follow (map Gives ps) (map Gives qs) parsed hold l.parsed' l.hold' m.parsed' m.hold' l.leads
+            m.leads);
+        holds = m.holds;
+        size = m.size ∙ l.size;
+      };
+}
+
 -- one piece more
 pub led_on : (old now new : View UntilCleared) (pieces : List (List ℕ)) (piece : List ℕ) → Led old pieces now
     → ((parsed : List ℕ) (hold : Option (List ℕ)) → HoldsAt until_cleared now parsed hold
     → Taken until_cleared now parsed hold piece new)
     → Led old (pieces ++ piece ∷ []) new
-led_on old now new pieces piece led take = record {
-  goes = λ parsed hold at.
-      let l = led.goes parsed hold at in
-      let t = take l.parsed' l.hold' l.holds in
-      let p = t.leads in
-      let one : Drives (Gives piece ∷ []) l.parsed' l.hold' p.parsed' p.hold' =
-      gives piece [] l.parsed' l.hold' p.parsed' p.hold' p.calls p.ticks p.parsed' p.hold' p.takes
-      (ends p.parsed' p.hold') in
-      record {
-        parsed' = p.parsed';
-        hold' = p.hold';
-        leads = subst (λ (ms : List Move). Drives ms parsed hold p.parsed' p.hold')
-            (sym (map-append Gives pieces (piece ∷ [])))
-            (moves_follow (map Gives pieces) (Gives piece ∷ []) parsed hold l.parsed' l.hold' p.parsed' p.hold' l.leads
-            one);
-        holds = t.stands;
-        size = t.size ∙ l.size;
-      };
-}
+led_on old now new pieces piece led take =
+    led_more old now new pieces (piece ∷ []) led (record {
+      goes = λ parsed hold at.
+          let t = take parsed hold at in
+          let p = t.leads in
+          record {
+            parsed' = p.parsed';
+            hold' = p.hold';
+            leads = gives piece [] parsed hold p.parsed' p.hold' p.calls p.ticks p.parsed' p.hold' p.takes
+                (ends p.parsed' p.hold');
+            holds = t.stands;
+            size = t.size;
+          };
+    })
 
 -- what a fresh view shows once it has read pieces
 pub shown_so : (fresh now : View UntilCleared) (z : Size) (pieces : List (List ℕ)) → HoldsAt until_cleared fresh [] None

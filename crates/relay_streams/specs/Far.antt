@@ -3,33 +3,37 @@ use Rattle.std.specs.Prelude.{◌≡◌, ℕ, ◌≤◌, false, List, [], ◌++�
 use Rattle.std.specs.List.{list_any, slice_get}
 use Rattle.vte.specs.Moves.{Gives}
 use Rattle.vte.specs.Frames.{Drives}
-use Rattle.terminal_model.specs.Term.{shown_of}
+use Rattle.terminal_model.specs.Term.{Size, shown_of}
 use Rattle.termrelay.specs.Calls.{Call}
 use Rattle.termview.specs.Standing.{HoldsAt, view_size, shown_by}
 use Rattle.termview.specs.declared.view.View.{View}
 use Rattle.termview.specs.declared.until_cleared.UntilCleared.{UntilCleared}
 use Rattle.termrelay.specs.Hub.{HubState}
+use Rattle.termrelay.specs.Log.{SessionView}
 use Rattle.termrelay.specs.declared.call.Reply.{Reply}
-use Rattle.relay_theorem.specs.History.{as_told, Entry, Story, size_of_story, fresh, RunsTold}
-use Rattle.relay_theorem.specs.Judge.{texts, last_frame, last_whole, judged, IsSure}
+use Rattle.relay_theorem.specs.History.{as_told, Entry, Story, size_of_session, size_of_story, fresh, RunsTold}
+use Rattle.relay_theorem.specs.Judge.{texts, last_frame, last_whole, IsShownRight}
 use Rattle.relay_theorem.specs.Laws.{IsSession}
 use Rattle.relay_theorem.specs.Isolation.{is_starved}
 use Rattle.termview.specs.Timeout.{until_cleared}
 use Rattle.relay_streams.specs.Pieces.{cut_by}
 
--- a view of a session's size stands where the first bytes that were pumped to it, in pieces of these lengths, lead a
--- new one
-pub record ReadsStory (t : Story) (most : ℕ) (cuts : List ℕ) (v : View UntilCleared) : Type 0 where
+-- a view of this size stands where these bytes, in pieces of these lengths, lead a new one
+pub record HasRead (z : Size) (bytes cuts : List ℕ) (v : View UntilCleared) : Type 0 where
   pub parsed : List ℕ
   pub hold : Option (List ℕ)
-  pub leads : Drives (map Gives (cut_by cuts (take most t.session.pumped))) [] None parsed hold
+  pub leads : Drives (map Gives (cut_by cuts bytes)) [] None parsed hold
   pub holds : HoldsAt until_cleared v parsed hold
-  pub size : view_size v ≡ size_of_story t
+  pub size : view_size v ≡ z
+
+-- and of a session's size, where the first bytes that were pumped to it lead one
+abbrev pub HasReadFirst : SessionView → ℕ → List ℕ → View UntilCleared → Type 0
+HasReadFirst s most cuts v = HasRead (size_of_session s) (take most s.pumped) cuts v
 
 -- of these sessions there is no n-th one, or the view has read it
 abbrev pub FoundIn : List Story → ℕ → ℕ → List ℕ → Option (View UntilCleared) → Type 0
 FoundIn ts n most cuts None = length ts ≤ n
-FoundIn ts n most cuts (Some v) = (t : Story) × (slice_get ts n ≡ Some t) × ReadsStory t most cuts v
+FoundIn ts n most cuts (Some v) = (t : Story) × (slice_get ts n ≡ Some t) × HasReadFirst t.session most cuts v
 
 -- These calls can get such replies on a new hub, none of which is a refusal for want of memory, and of the sessions
 -- that they then have this view was found.
@@ -55,15 +59,13 @@ pub record ShowsJudged (rows cols : ℕ) (calls : List Call) (n most : ℕ) (v :
   pub session : IsSession rows cols calls replies n story
   pub fed : list_any is_starved replies ≡ false
   pub size : view_size v ≡ size_of_story story
-  pub shows : IsSure (last_given story most)
-      → shown_of (shown_by v) ≡ judged rows cols (last_given story most)
+  pub shows : IsShownRight rows cols (shown_of (shown_by v)) (last_given story most)
   pub whole : (front back : List Entry) → story.entries ≡ front ++ back → take most story.session.pumped ≡ texts front
-      → IsSure (last_frame None front) → shown_of (shown_by v) ≡ judged rows cols (last_frame None front)
+      → IsShownRight rows cols (shown_of (shown_by v)) (last_frame None front)
 
 -- such a view shows what the judge says of the last frame that lies wholly in the bytes that it was given, unless that
 -- one wasn't sure
 abbrev pub FarViewsShow : Type 0
 FarViewsShow = (rows cols : ℕ) (calls : List Call) (replies : List Reply) (n most : ℕ) (cuts : List ℕ) (t : Story)
-    (v : View UntilCleared) → IsSession rows cols calls replies n t → ReadsStory t most cuts v
-    → IsSure (last_given t most)
-    → shown_of (shown_by v) ≡ judged rows cols (last_given t most)
+    (v : View UntilCleared) → IsSession rows cols calls replies n t → HasReadFirst t.session most cuts v
+    → IsShownRight rows cols (shown_of (shown_by v)) (last_given t most)

@@ -1,15 +1,14 @@
 -- Laws of what is shown.
-use Rattle.std.specs.Prelude.{◌≡◌, ℕ, false, List, [], ◌++◌, map, Option, None}
+use Rattle.std.specs.Prelude.{◌≡◌, ℕ, false, List}
 use Rattle.std.specs.List.{All, concat}
-use Rattle.vte.specs.Moves.{Gives}
-use Rattle.vte.specs.Frames.{IsFrame, Drives}
+use Rattle.vte.specs.Frames.{IsFrame}
 use Rattle.terminal_model.specs.Term.{Size, shown_of}
 use Rattle.screen_model.specs.Shown.{shown_state}
 use Rattle.termrelay.specs.Frame.{is_unsure}
 use Rattle.termview.specs.Seen.{seen}
 use Rattle.relay_theorem.specs.History.{Story}
-use Rattle.relay_theorem.specs.Judge.{judged, IsSure}
-use Rattle.relay_theorem.specs.Headline.{last_read}
+use Rattle.relay_theorem.specs.Judge.{IsShownRight}
+use Rattle.relay_theorem.specs.Headline.{ReadsFront, last_read}
 use Rattle.relay_streams.specs.Frames.{state_after}
 use Rattle.relay_streams.specs.Pieces.{pieces_of}
 use Rattle.relay_streams.specs.Sessions.{IsRelayed, IsRelayText}
@@ -28,11 +27,9 @@ WholeFramesArePrinted = (z : Size) (frames : List (List ℕ)) (text : List ℕ)
 -- Any front of what is relayed, in whatever pieces it comes: a new view of the size, which has parsed so much of it,
 -- shows what the judge says of the last frame that lies wholly in it, unless that one wasn't sure.
 abbrev pub RelayedFrontsAreShown : Type 0
-RelayedFrontsAreShown = (rows cols key : ℕ) (input beyond parsed : List ℕ) (pieces : List (List ℕ))
-    (hold : Option (List ℕ)) (t : Story) → IsRelayed rows cols key (pieces_of input) t
-    → concat pieces ++ beyond ≡ t.session.pumped → Drives (map Gives pieces) [] None parsed hold
-    → IsSure (last_read t pieces)
-    → shown_of (seen (sized rows cols) parsed) ≡ judged rows cols (last_read t pieces)
+RelayedFrontsAreShown = (rows cols key : ℕ) (input parsed : List ℕ) (pieces : List (List ℕ)) (t : Story)
+    → IsRelayed rows cols key (pieces_of input) t → ReadsFront t.session.pumped pieces parsed
+    → IsShownRight rows cols (shown_of (seen (sized rows cols) parsed)) (last_read t pieces)
 
 -- what is relayed is printed, in whatever pieces it comes, as the text of the screen that the whole input makes, unless
 -- that shows U+FE0F or the input ends inside an update of its own

@@ -1,16 +1,13 @@
 //! What a far terminal makes of a run's bytes, which reach it in pieces.
 
-ghost use Rattle.std.specs.Prelude.{◌≡◌, ℕ, List, [], Option, None, Err, map, take, IfOk, IfSome, OnErr};
+ghost use Rattle.std.specs.Prelude.{◌≡◌, Err, map, IfOk, IfSome, OnErr};
 ghost use Rattle.std.specs.List.{list_any};
-ghost use Rattle.vte.specs.Moves.{Gives};
-ghost use Rattle.vte.specs.Frames.{Drives};
 ghost use Rattle.termrelay.specs.Calls.{call_of};
-ghost use Rattle.termview.specs.Standing.{HoldsAt, view_size};
 ghost use Rattle.relay_theorem.specs.Isolation.{is_starved as starved};
-ghost use Rattle.relay_streams.specs.Far.{IsFarView, ShowsJudged};
+ghost use Rattle.relay_streams.specs.Far.{HasRead, HasReadFirst, IsFarView, ShowsJudged};
 ghost use Rattle.relay_streams.specs.Led.{Led};
-ghost use Rattle.termview.specs.Timeout.{until_cleared};
 ghost use Rattle.relay_streams.specs.Pieces.{cut_by};
+ghost use Rattle.relay_streams.specs.Shown.{sized};
 ghost use Rattle.relay_streams.specs.declared.error.RelayError.TheVariants.{Memory};
 
 use crate::error::RelayError;
@@ -63,11 +60,7 @@ fn view_session(
     most: usize,
     cuts: &[usize],
 ) -> Result<View<UntilCleared>, RelayError>
-    ensures stands { IfOk result (λ v. (parsed : List ℕ) × (hold : Option (List ℕ))
-        × Drives (map Gives (cut_by cuts.now (take most session.now.pumped))) [] None parsed hold
-        × HoldsAt until_cleared v parsed hold) }
-    ensures rows { IfOk result (λ v. (view_size v).rows ≡ session.now.rows) }
-    ensures cols { IfOk result (λ v. (view_size v).cols ≡ session.now.cols) }
+    ensures reads { IfOk result (HasReadFirst session.now most cuts.now) }
     ensures memory { OnErr result (result ≡ Err Memory) }
 {
     let pumped = session.pumped();
@@ -106,11 +99,7 @@ pub fn view_of(
     bytes: &[u8],
     cuts: &[usize],
 ) -> Result<View<UntilCleared>, RelayError>
-    ensures stands { IfOk result (λ v. (parsed : List ℕ) × (hold : Option (List ℕ))
-        × Drives (map Gives (cut_by cuts.now bytes.now)) [] None parsed hold
-        × HoldsAt until_cleared v parsed hold) }
-    ensures rows { IfOk result (λ v. (view_size v).rows ≡ rows.value) }
-    ensures cols { IfOk result (λ v. (view_size v).cols ≡ cols.value) }
+    ensures reads { IfOk result (HasRead (sized rows.value cols.value) bytes.now cuts.now) }
     ensures memory { OnErr result (result ≡ Err Memory) }
 {
     let mut view = View::new(alloc, rows, cols, UntilCleared::new())?;

@@ -1,7 +1,6 @@
 -- A view that reads a frame comes to show what the frame was made of.
-use Rattle.std.proofs.Common.{◌≡◌, ◌∙◌, ℕ, ◌<◌, ◌≤◌, Bool, true, false, List, ◌++◌, Option, Some, None}
-use Rattle.std.proofs.Common.{refl}
-use Rattle.std.proofs.Common.{sym, ap, subst}
+use Rattle.std.proofs.Common.{◌≡◌, ◌∙◌, ℕ, ◌<◌, ◌≤◌, Bool, true, false, List, ◌++◌, Option, Some, None, refl, sym, ap}
+use Rattle.std.proofs.Common.{subst}
 use Rattle.vte_core.specs.Ground.{AtGround}
 use Rattle.vte.specs.Frames.{IsFrame}
 use Rattle.terminal_model.specs.Term.{Size, Shown, Term, saved_of, shown_of}

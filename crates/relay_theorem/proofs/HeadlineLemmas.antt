@@ -31,10 +31,11 @@ use Rattle.termrelay.specs.Calls.{Call}
 use Rattle.termrelay.specs.declared.call.Reply.{Reply}
 use Rattle.relay_theorem.specs.History.{Entry, Story, size_of_story}
 use Rattle.relay_theorem.specs.Judge.{state_at, size_at, shown_at, texts, frame_or, last_frame, whole_in, judged}
-use Rattle.relay_theorem.specs.Judge.{IsSure}
-use Rattle.relay_theorem.specs.Laws.{base_then, IsAnswered, AreAnswered}
+use Rattle.relay_theorem.specs.Judge.{IsSure, IsShownRight}
+use Rattle.relay_theorem.specs.Laws.{base_then, IsAnswered, AreAnswered, IsTold, IsSession}
+use Rattle.termrelay.specs.Hub.{clients_in}
 use Rattle.relay_theorem.specs.Headline.{EachTextIsAFrame, WholeSessionsAreShown, LastWholeFrameIsShown}
-use Rattle.relay_theorem.specs.Headline.{NoSessionIsTorn, ReadsSession, last_read, whole_read, ReadsWhole}
+use Rattle.relay_theorem.specs.Headline.{NoSessionIsTorn, ReadsFrames, ReadsFront, last_read, whole_read}
 use Rattle.relay_theorem.specs.Headline.{OneMomentShowsTheSame, OneMomentShowsTheSameWhole}
 use Rattle.relay_theorem.proofs.HistoryLemmas.{sessions-told}
 use Rattle.relay_theorem.proofs.ScreenLemmas.{IsShot, shot-made, IsShotBase}
@@ -532,81 +533,88 @@ texts-frames rows cols calls replies n t s =
     let h = sessions-told rows cols calls replies n t s in
     entries-frames rows cols (size_of_story t) h.height h.width t.entries h.entries
 
+-- what is told of a session, and of the entries whose frames come whole
+module _ (rows cols : ℕ) (calls : List Call) (replies : List Reply) (n : ℕ) (t : Story)
+    (s : IsSession rows cols calls replies n t) where
+  abbrev told : IsTold rows cols (clients_in s.hub) t
+  told = sessions-told rows cols calls replies n t s
+
+  answered-first : (front : List Entry) (parsed : List ℕ) (hold : Option (List ℕ)) → ReadsFrames t front parsed hold
+      → AreAnswered rows cols (size_of_story t) None front
+  answered-first front parsed hold r =
+      answered-front rows cols (size_of_story t) None front r.back
+      (subst (AreAnswered rows cols (size_of_story t) None) r.parts told.entries)
+
+  answered-read : (pieces : List (List ℕ)) → AreAnswered rows cols (size_of_story t) None (whole_read t pieces)
+  answered-read pieces =
+      answered-whole rows cols (size_of_story t) None t.entries (length (concat pieces)) told.entries
+
+  size-of : (es : List Entry) (e : Entry) → AreAnswered rows cols (size_of_story t) None es
+      → last_frame None es ≡ Some e → size_at rows cols e ≡ size_of_story t
+  size-of es e are is = last-size rows cols (size_of_story t) told.height told.width es e are is
+
 pub wholes-shown : WholeSessionsAreShown
-wholes-shown rows cols calls replies n t front back moves parsed hold s e given_is leads =
-    let h = sessions-told rows cols calls replies n t s in
-    let entries = answered-front rows cols (size_of_story t) None front back
-    (subst (AreAnswered rows cols (size_of_story t) None) e h.entries) in
-    whole-shown rows cols (size_of_story t) h.height h.width front moves parsed hold entries given_is leads
+wholes-shown rows cols calls replies n t front parsed hold s r =
+    let h = told rows cols calls replies n t s in
+    whole-shown rows cols (size_of_story t) h.height h.width front r.moves parsed hold
+    (answered-first rows cols calls replies n t s front parsed hold r) r.given r.leads
 
 seen-then : (rows cols : ℕ) (calls : List Call) (replies : List Reply) (n : ℕ) (t : Story) (pieces : List (List ℕ))
-    (parsed : List ℕ) → ReadsSession rows cols calls replies n t pieces parsed
+    (parsed : List ℕ) → IsSession rows cols calls replies n t → ReadsFront t.session.pumped pieces parsed
     → seen (size_of_story t) parsed ≡ seen (size_of_story t) (texts (whole_read t pieces))
-seen-then rows cols calls replies n t pieces parsed r =
-    let h = sessions-told rows cols calls replies n t r.session in
+seen-then rows cols calls replies n t pieces parsed s r =
+    let h = told rows cols calls replies n t s in
     let all : concat pieces ++ (r.beyond ++ h.left) ≡ texts t.entries =
-    sym (append_assoc (concat pieces) r.beyond h.left) ∙ ap (λ xs. xs ++ h.left) r.pumped ∙ h.front in
+    sym (append_assoc (concat pieces) r.beyond h.left) ∙ ap (λ xs. xs ++ h.left) r.joined ∙ h.front in
     front-seen rows cols (size_of_story t) h.height h.width t.entries pieces (r.beyond ++ h.left) parsed r.hold h.entries all
     r.leads
 
 pub last-shown : LastWholeFrameIsShown
-last-shown rows cols calls replies n t pieces parsed r sure =
-    let h = sessions-told rows cols calls replies n t r.session in
-    ap shown_of (seen-then rows cols calls replies n t pieces parsed r)
+last-shown rows cols calls replies n t pieces parsed s r sure =
+    let h = told rows cols calls replies n t s in
+    ap shown_of (seen-then rows cols calls replies n t pieces parsed s r)
     ∙ seen-judged rows cols (size_of_story t) h.height h.width (whole_read t pieces)
-    (answered-whole rows cols (size_of_story t) None t.entries (length (concat pieces)) h.entries) sure
-
-size-then : (rows cols : ℕ) (calls : List Call) (replies : List Reply) (n : ℕ) (t : Story) (pieces : List (List ℕ))
-    (parsed : List ℕ) (e : Entry) → ReadsSession rows cols calls replies n t pieces parsed → last_read t pieces ≡ Some e
-    → size_at rows cols e ≡ size_of_story t
-size-then rows cols calls replies n t pieces parsed e r is =
-    let h = sessions-told rows cols calls replies n t r.session in
-    last-size rows cols (size_of_story t) h.height h.width (whole_read t pieces) e
-    (answered-whole rows cols (size_of_story t) None t.entries (length (concat pieces)) h.entries) is
+    (answered-read rows cols calls replies n t s pieces) sure
 
 pub none-torn : NoSessionIsTorn
-none-torn rows cols calls replies n t pieces more parsed parsed' r q same =
-    ap shown_of (seen-then rows cols calls replies n t (pieces ++ more) parsed' q
+none-torn rows cols calls replies n t pieces more parsed parsed' s r q same =
+    ap shown_of (seen-then rows cols calls replies n t (pieces ++ more) parsed' s q
     ∙ ap (λ es. seen (size_of_story t) (texts es)) same
-    ∙ sym (seen-then rows cols calls replies n t pieces parsed r))
+    ∙ sym (seen-then rows cols calls replies n t pieces parsed s r))
+
+-- ---- one moment
+
+-- what is shown of two frames that were taken at one moment
+same-moment : (rows cols : ℕ) (e f : Entry) (z y : Size) (shown shown' : Shown) → size_at rows cols e ≡ z
+    → size_at rows cols f ≡ y → shown ≡ shown_at rows cols e → shown' ≡ shown_at rows cols f → e.moment ≡ f.moment
+    → (z ≡ y) × (shown ≡ shown')
+same-moment rows cols e f z y shown shown' size size' is is' same = (
+  sym size ∙ ap (λ acts. grid_size (made rows cols 0 acts).shown) same ∙ size',
+  is ∙ ap (λ acts. shown_state (made rows cols 0 acts)) same ∙ sym is',
+)
+
+-- what is shown right of a sure frame
+shown-right : (rows cols : ℕ) (shown : Shown) (last : Option Entry) (e : Entry) → last ≡ Some e
+    → (e.answer ≡ Unsure → ⊥) → IsShownRight rows cols shown last → shown ≡ shown_at rows cols e
+shown-right rows cols shown last e is sure right = right (subst IsSure (sym is) sure) ∙ ap (judged rows cols) is
 
 pub moments-same : OneMomentShowsTheSame
-moments-same rows cols calls replies n m t u pieces others parsed parsed' e f r q is are same sure sure' = (
-  sym (size-then rows cols calls replies n t pieces parsed e r is)
-      ∙ ap (λ acts. grid_size (made rows cols 0 acts).shown) same
-      ∙ size-then rows cols calls replies m u others parsed' f q are,
-  last-shown rows cols calls replies n t pieces parsed r (subst IsSure (sym is) sure)
-      ∙ ap (judged rows cols) is
-      ∙ ap (λ acts. shown_state (made rows cols 0 acts)) same
-      ∙ ap (judged rows cols) (sym are)
-      ∙ sym (last-shown rows cols calls replies m u others parsed' q (subst IsSure (sym are) sure')),
-)
-
--- ---- whole frames alone
-
-whole-size : (rows cols : ℕ) (calls : List Call) (replies : List Reply) (n : ℕ) (t : Story) (front : List Entry)
-    (parsed : List ℕ) (e : Entry) → ReadsWhole rows cols calls replies n t front parsed → last_frame None front ≡ Some e
-    → size_at rows cols e ≡ size_of_story t
-whole-size rows cols calls replies n t front parsed e r is =
-    let h = sessions-told rows cols calls replies n t r.session in
-    let entries = answered-front rows cols (size_of_story t) None front r.back
-    (subst (AreAnswered rows cols (size_of_story t) None) r.parts h.entries) in
-    last-size rows cols (size_of_story t) h.height h.width front e entries is
-
-whole-judged : (rows cols : ℕ) (calls : List Call) (replies : List Reply) (n : ℕ) (t : Story) (front : List Entry)
-    (parsed : List ℕ) → ReadsWhole rows cols calls replies n t front parsed → IsSure (last_frame None front)
-    → shown_of (seen (size_of_story t) parsed) ≡ judged rows cols (last_frame None front)
-whole-judged rows cols calls replies n t front parsed r sure =
-    (wholes-shown rows cols calls replies n t front r.back r.moves parsed r.hold r.session r.parts r.given r.leads).1 sure
+moments-same rows cols calls replies n m t u pieces others parsed parsed' e f s z r q is are same sure sure' =
+    let first = answered-read rows cols calls replies n t s pieces in
+    let other = answered-read rows cols calls replies m u z others in
+    same-moment rows cols e f (size_of_story t) (size_of_story u) (shown_of (seen (size_of_story t) parsed))
+    (shown_of (seen (size_of_story u) parsed'))
+    (size-of rows cols calls replies n t s (whole_read t pieces) e first is)
+    (size-of rows cols calls replies m u z (whole_read u others) f other are)
+    (shown-right rows cols _ _ e is sure (last-shown rows cols calls replies n t pieces parsed s r))
+    (shown-right rows cols _ _ f are sure' (last-shown rows cols calls replies m u others parsed' z q)) same
 
 pub moments-whole : OneMomentShowsTheSameWhole
-moments-whole rows cols calls replies n m t u front others parsed parsed' e f r q is are same sure sure' = (
-  sym (whole-size rows cols calls replies n t front parsed e r is)
-      ∙ ap (λ acts. grid_size (made rows cols 0 acts).shown) same
-      ∙ whole-size rows cols calls replies m u others parsed' f q are,
-  whole-judged rows cols calls replies n t front parsed r (subst IsSure (sym is) sure)
-      ∙ ap (judged rows cols) is
-      ∙ ap (λ acts. shown_state (made rows cols 0 acts)) same
-      ∙ ap (judged rows cols) (sym are)
-      ∙ sym (whole-judged rows cols calls replies m u others parsed' q (subst IsSure (sym are) sure')),
-)
+moments-whole rows cols calls replies n m t u front others parsed parsed' hold hold' e f s z r q is are same sure k =
+    let first = answered-first rows cols calls replies n t s front parsed hold r in
+    let other = answered-first rows cols calls replies m u z others parsed' hold' q in
+    same-moment rows cols e f (size_of_story t) (size_of_story u) (shown_of (seen (size_of_story t) parsed))
+    (shown_of (seen (size_of_story u) parsed')) (size-of rows cols calls replies n t s front e first is)
+    (size-of rows cols calls replies m u z others f other are)
+    (shown-right rows cols _ _ e is sure (wholes-shown rows cols calls replies n t front parsed hold s r).1)
+    (shown-right rows cols _ _ f are k (wholes-shown rows cols calls replies m u others parsed' hold' z q).1) same

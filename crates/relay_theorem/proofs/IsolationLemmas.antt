@@ -2,8 +2,7 @@
 use Rattle.std.proofs.Common.{◌≡◌, ◌∙◌, ℕ, Bool, false, List, [], Some, refl, sym, ap, subst}
 use Rattle.termrelay.specs.Hub.{HubState, clients_in}
 use Rattle.relay_theorem.specs.History.{as_told, Story}
-use Rattle.relay_theorem.specs.Isolation.{Own, own_calls, AreAlike, SessionsAreIsolated}
-use Rattle.relay_theorem.specs.Isolation.{LoggedSessionsAreIsolated}
+use Rattle.relay_theorem.specs.Isolation.{Own, own_calls, AreAlike, SessionsAreIsolated, LoggedSessionsAreIsolated}
 use Rattle.relay_theorem.proofs.LoggedLemmas.{logged-story}
 use Rattle.relay_theorem.proofs.OwnLemmas.{Life, story_of}
 use Rattle.relay_theorem.proofs.OwnRunLemmas.{Found, session-found}

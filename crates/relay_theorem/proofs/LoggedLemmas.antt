@@ -10,7 +10,8 @@ use Rattle.termrelay.specs.Hub.{HubState, as_kept, clients_in}
 use Rattle.termrelay.specs.Log.{SessionView, LogView}
 use Rattle.relay_theorem.specs.History.{as_told, Story, fresh, size_of_session, RunsTold}
 use Rattle.relay_theorem.specs.Laws.{IsSession}
-use Rattle.relay_theorem.specs.Headline.{ReadsSession}
+use Rattle.relay_theorem.specs.Judge.{last_frame, IsShownRight}
+use Rattle.relay_theorem.specs.Headline.{ReadsFront, last_read}
 use Rattle.relay_theorem.specs.Serves.{Matches}
 use Rattle.relay_theorem.specs.Logged.{IsLogged, HasStory, EachLoggedReadIsARead, LoggedFramesAreShown}
 use Rattle.relay_theorem.specs.Logged.{WholeLoggedFramesAreShown}
@@ -64,10 +65,6 @@ logged-story rows cols calls l n s a =
       kept = all.3.clients;
     }
 
-abbrev IsRead : ℕ → ℕ → List Call → LogView → ℕ → SessionView → List (List ℕ) → List ℕ → Type 0
-IsRead rows cols calls l n s pieces parsed =
-    (t : Story) × HasStory rows cols calls l n s t × ReadsSession rows cols calls l.replies n t pieces parsed
-
 abbrev IsTold : ℕ → ℕ → List Call → LogView → ℕ → SessionView → Type 0
 IsTold rows cols calls l n s = (t : Story) × HasStory rows cols calls l n s t
 
@@ -76,40 +73,37 @@ story-of : (rows cols : ℕ) (calls : List Call) (l : LogView) (n : ℕ) (s : Se
 story-of rows cols calls l n s r =
     let x = logged-story rows cols calls l n s r in (x.story, record { session = x.session; logged = x.logged })
 
+-- what is read of a log's session is read of its story
+read-of : (rows cols : ℕ) (calls : List Call) (l : LogView) (n : ℕ) (s : SessionView) (t : Story)
+    (pieces : List (List ℕ)) (parsed : List ℕ) → HasStory rows cols calls l n s t → ReadsFront s.pumped pieces parsed
+    → ReadsFront t.session.pumped pieces parsed
+read-of rows cols calls l n s t pieces parsed h r =
+    subst (λ (x : SessionView). ReadsFront x.pumped pieces parsed) (sym h.logged) r
+
 pub logged-reads : EachLoggedReadIsARead
-logged-reads rows cols calls l n s pieces parsed r =
-    let told : IsTold rows cols calls l n s = story-of rows cols calls l n s r.session in (
-      told.0,
-      told.1,
-      record {
-        session = told.1.session;
-        beyond = r.beyond;
-        pumped = r.pumped ∙ ap (λ (x : SessionView). x.pumped) (sym told.1.logged);
-        hold = r.hold;
-        leads = r.leads;
-      },
-    )
+logged-reads rows cols calls l n s pieces parsed a r =
+    let told : IsTold rows cols calls l n s = story-of rows cols calls l n s a in
+    (told.0, told.1, read-of rows cols calls l n s told.0 pieces parsed told.1 r)
 
 pub logged-whole : WholeLoggedFramesAreShown
-logged-whole rows cols calls l n s r =
-    let told : IsTold rows cols calls l n s = story-of rows cols calls l n s r in (
+logged-whole rows cols calls l n s a =
+    let told : IsTold rows cols calls l n s = story-of rows cols calls l n s a in (
       told.0,
       told.1,
-      λ front back moves parsed hold are is leads.
-          let out = wholes-shown rows cols calls l.replies n told.0 front back moves parsed hold told.1.session are is
-          leads in (
-            out.0,
-            λ sure. ap (λ (x : SessionView). shown_of (seen (size_of_session x) parsed)) (sym told.1.logged) ∙ out.1 sure,
-          ),
+      λ front parsed hold r.
+          subst (λ (x : SessionView). (hold ≡ None)
+          × IsShownRight rows cols (shown_of (seen (size_of_session x) parsed)) (last_frame None front)) told.1.logged
+          (wholes-shown rows cols calls l.replies n told.0 front parsed hold told.1.session r),
     )
 
 pub logged-shown : LoggedFramesAreShown
-logged-shown rows cols calls l n s pieces parsed r =
-    let read : IsRead rows cols calls l n s pieces parsed = logged-reads rows cols calls l n s pieces parsed r in
-    let t = read.0 in (
+logged-shown rows cols calls l n s pieces parsed a r =
+    let told : IsTold rows cols calls l n s = story-of rows cols calls l n s a in
+    let t = told.0 in (
       t,
-      read.1,
-      λ sure.
-          ap (λ (x : SessionView). shown_of (seen (size_of_session x) parsed)) (sym read.1.logged)
-          ∙ last-shown rows cols calls l.replies n t pieces parsed read.2 sure,
+      told.1,
+      subst (λ (x : SessionView).
+          IsShownRight rows cols (shown_of (seen (size_of_session x) parsed)) (last_read t pieces)) told.1.logged
+          (last-shown rows cols calls l.replies n t pieces parsed told.1.session
+          (read-of rows cols calls l n s t pieces parsed told.1 r)),
     )

@@ -238,34 +238,34 @@ module _ (rows cols : ℕ) where
         let change = with_entries (entries_of now (clients other) answer) in
         put-goes (other == key) other (Some (after_answer (size_in now) (shown_in now) c answer)) change Asks refl
         (λ e.
-            let same : c ≡ l.client = let both = its-own other (Some c) e at in cc in
-            let told : answer ≡ answer_now l = due ∙ ap (answer_for (made rows cols 0 l.acts)) same in
-            record {
-              parser = refl;
-              client = at-key clients key (Some (after_answer (size_in now) (shown_in now) c answer))
-                  ∙ ap (λ d. Some (after_answer (size_in now) (shown_in now) d answer)) same
-                  ∙ ap (λ a. Some (client_by l a)) told;
-              story = own-changed change
-                  ∙ ap (λ o. Some (with_entries (entries_of now o answer) (story_of key false l)))
-                  (at ∙ its-own other (Some c) e at)
-                  ∙ ap (λ a. Some (with_entries (entry_by l a ∷ []) (story_of key false l))) told;
-            })
+        let same : c ≡ l.client = let both = its-own other (Some c) e at in cc in
+        let told : answer ≡ answer_now l = due ∙ ap (answer_for (made rows cols 0 l.acts)) same in
+        record {
+          parser = refl;
+          client = at-key clients key (Some (after_answer (size_in now) (shown_in now) c answer))
+              ∙ ap (λ d. Some (after_answer (size_in now) (shown_in now) d answer)) same
+              ∙ ap (λ a. Some (client_by l a)) told;
+          story = own-changed change
+              ∙ ap (λ o. Some (with_entries (entries_of now o answer) (story_of key false l)))
+              (at ∙ its-own other (Some c) e at)
+              ∙ ap (λ a. Some (with_entries (entry_by l a ∷ []) (story_of key false l))) told;
+        })
     does-goes call reply g is (declines other e can) fed =
         free-goes other Asks ts (declined (clients other) e can fed) (λ apart. story)
     does-goes call reply g is (pumps other takes r c at can) fed =
         let change = with_session (grown (bytes_taken takes (clients other))) in
         put-goes (other == key) other (Some (left_in takes c)) change (Pumped takes) refl
         (λ e.
-            let same : c ≡ l.client = let both = its-own other (Some c) e at in cc in (
-              subst (λ (d : ClientState). CanPump takes d.owed) same can,
-              record {
-                parser = refl;
-                client = at-key clients key (Some (left_in takes c)) ∙ ap (λ d. Some (left_in takes d)) same;
-                story = own-changed change
-                    ∙ ap (λ o. Some (with_session (grown (bytes_taken takes o)) (story_of key false l)))
-                    (at ∙ its-own other (Some c) e at);
-              },
-            ))
+        let same : c ≡ l.client = let both = its-own other (Some c) e at in cc in (
+          subst (λ (d : ClientState). CanPump takes d.owed) same can,
+          record {
+            parser = refl;
+            client = at-key clients key (Some (left_in takes c)) ∙ ap (λ d. Some (left_in takes d)) same;
+            story = own-changed change
+                ∙ ap (λ o. Some (with_session (grown (bytes_taken takes o)) (story_of key false l)))
+                (at ∙ its-own other (Some c) e at);
+          },
+        ))
     does-goes call reply g is (misses other takes r free) fed =
         let change = with_session (grown (bytes_taken takes (clients other))) in
         free-goes other (Pumped takes) (change_last (is_on other) change ts) free (other-changed other change)

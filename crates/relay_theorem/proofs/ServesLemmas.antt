@@ -1,7 +1,6 @@
 -- Runs of a hub are histories.
-use Rattle.std.proofs.Common.{◌≡◌, ◌∙◌, ℕ, ◌+◌, ◌-◌, ◌<◌, true, false, List, [], ◌∷◌, ◌++◌, drop, length, min}
-use Rattle.std.proofs.Common.{map, Option, Some, None, Result, Ok, Err, refl, sym, ap, subst, arith}
-use Rattle.std.proofs.Common.{length-drop}
+use Rattle.std.proofs.Common.{◌≡◌, ◌∙◌, ℕ, ◌+◌, ◌-◌, ◌<◌, true, false, List, [], ◌∷◌, ◌++◌, drop, length, min, map}
+use Rattle.std.proofs.Common.{Option, Some, None, Result, Ok, Err, refl, sym, ap, subst, arith, length-drop}
 use Rattle.std.specs.Prelude.{◌==◌}
 use Rattle.std.proofs.lemmas.Bool.Decides.{nat_tests}
 use Rattle.std.proofs.lemmas.List.{map-append}
@@ -14,9 +13,9 @@ use Rattle.vt100.specs.Memory.{some_may_take}
 use Rattle.vt100.specs.Parsing.{ParserView, HasRead, ParserStandsAt}
 use Rattle.takers.specs.Pump.{Pumps, all, nothing, fault, some}
 use Rattle.termrelay.specs.Answers.{ClientState, answer_for, after_answer, may_take_memory}
-use Rattle.termrelay.specs.Hub.{Telling, HubState, as_kept, is_failed, screen_in, clients_in}
-use Rattle.termrelay.specs.Hub.{with_client, new_client, no_clients, Puts, IsNewHub, Feeds, Resizes, Attaches}
-use Rattle.termrelay.specs.Hub.{DetachesFrom, CanFrame, Framed, pump_answer, PumpsFrom}
+use Rattle.termrelay.specs.Hub.{Telling, HubState, as_kept, is_failed, screen_in, clients_in, with_client, new_client}
+use Rattle.termrelay.specs.Hub.{no_clients, Puts, IsNewHub, Feeds, Resizes, Attaches, DetachesFrom, CanFrame, Framed}
+use Rattle.termrelay.specs.Hub.{pump_answer, PumpsFrom}
 use Rattle.termrelay.specs.declared.answer.Answer.{Answer}
 use Rattle.termrelay.specs.declared.error.HubError.{HubError}
 use Rattle.termrelay.specs.declared.error.HubError.TheVariants as hub
@@ -24,8 +23,8 @@ use Rattle.termrelay.specs.declared.call.Take.{Take}
 use Rattle.termrelay.specs.declared.call.Take.TheVariants.{Bytes, Fault}
 use Rattle.termrelay.specs.declared.call.Reply.{Reply}
 use Rattle.termrelay.specs.declared.call.Reply.TheVariants.{Done, Attached, Answered, Refused}
-use Rattle.termrelay.specs.Calls.{Call, Feed, Resize, Attach, Detach, Frame, Pump, taken_by, WritesAsTold, Serves, Runs}
-use Rattle.termrelay.specs.Calls.{done, replied}
+use Rattle.termrelay.specs.Calls.{Call, Feed, Resize, Attach, Detach, Frame, Pump, taken_by, WritesAsTold, Serves}
+use Rattle.termrelay.specs.Calls.{Runs, done, replied}
 use Rattle.termrelay.specs.Log.{SessionView, is_of, change_last, begun, ended, grown, bytes_taken, sessions_after}
 use Rattle.termrelay.specs.Log.{RunsLogged}
 use Rattle.std.proofs.lemmas.List.{drop_min}
@@ -33,8 +32,8 @@ use Rattle.termrelay.proofs.ScriptLemmas.{takes-nothing, some-owed, first-none, 
 use Rattle.termrelay.proofs.ScriptLemmas.{pumped-left}
 use Rattle.relay_theorem.specs.History.{as_told, fresh, Story, is_on, with_session, with_entries, entries_of}
 use Rattle.relay_theorem.specs.History.{stories_after, RunsTold}
-use Rattle.relay_theorem.specs.Serves.{IsPumpReply, EachPumpTakesAsTold, EachPumpIsServed, Matches, EachRunHasAHistory}
-use Rattle.relay_theorem.specs.Serves.{EachLogHasAHistory}
+use Rattle.relay_theorem.specs.Serves.{IsPumpReply, EachPumpTakesAsTold, EachPumpIsServed, Matches}
+use Rattle.relay_theorem.specs.Serves.{EachRunHasAHistory, EachLogHasAHistory}
 use Rattle.relay_theorem.proofs.StoryLemmas.{put, shown-changed, unchanged}
 
 -- ---- a call on a hub, and on what is told of it

@@ -10,7 +10,7 @@ use Rattle.termview.specs.Seen.{seen}
 use Rattle.termrelay.specs.Calls.{Call}
 use Rattle.termrelay.specs.declared.call.Reply.{Reply}
 use Rattle.relay_theorem.specs.History.{Entry, Story, size_of_story}
-use Rattle.relay_theorem.specs.Judge.{texts, last_frame, whole_in, last_whole, judged, IsSure}
+use Rattle.relay_theorem.specs.Judge.{texts, last_frame, whole_in, last_whole, IsShownRight}
 use Rattle.relay_theorem.specs.Laws.{IsSession}
 
 -- each text of a session's frames is a frame to whoever reads it
@@ -19,24 +19,27 @@ EachTextIsAFrame = (rows cols : ℕ) (calls : List Call) (replies : List Reply) 
     → IsSession rows cols calls replies n t
     → AllByRecursion (λ e. is_frame e.answer ≡ true → IsFrame e.text) t.entries
 
--- Frames that come whole, in whatever pieces and wherever an update is stopped by hand: a new view of the session's
--- size, which these moves lead to what is parsed and held, shows what the judge says of the last one, unless that
--- wasn't sure; and nothing is held.
+-- A new view has parsed so much of frames that come whole, in whatever pieces and wherever an update is stopped by
+-- hand: the texts of a story's first entries. It holds this.
+pub record ReadsFrames (t : Story) (front : List Entry) (parsed : List ℕ) (hold : Option (List ℕ)) : Type 0 where
+  pub back : List Entry
+  pub parts : t.entries ≡ front ++ back
+  pub moves : List Move
+  pub given : given moves ≡ texts front
+  pub leads : Drives moves [] None parsed hold
+
+-- A view of the session's size shows what the judge says of the last one, unless that one wasn't sure; and nothing is
+-- held.
 abbrev pub WholeSessionsAreShown : Type 0
 WholeSessionsAreShown = (rows cols : ℕ) (calls : List Call) (replies : List Reply) (n : ℕ) (t : Story)
-    (front back : List Entry) (moves : List Move) (parsed : List ℕ) (hold : Option (List ℕ))
-    → IsSession rows cols calls replies n t → t.entries ≡ front ++ back → given moves ≡ texts front
-    → Drives moves [] None parsed hold
-    → (hold ≡ None)
-    × (IsSure (last_frame None front) → shown_of (seen (size_of_story t) parsed) ≡ judged rows cols (last_frame None front))
+    (front : List Entry) (parsed : List ℕ) (hold : Option (List ℕ)) → IsSession rows cols calls replies n t
+    → ReadsFrames t front parsed hold
+    → (hold ≡ None) × IsShownRight rows cols (shown_of (seen (size_of_story t) parsed)) (last_frame None front)
 
--- A new view of a session's size has parsed so much of these pieces, which are a beginning of what was pumped to the
--- session.
-pub record ReadsSession (rows cols : ℕ) (calls : List Call) (replies : List Reply) (n : ℕ) (t : Story)
-    (pieces : List (List ℕ)) (parsed : List ℕ) : Type 0 where
-  pub session : IsSession rows cols calls replies n t
+-- A new view has parsed so much of these pieces, which are a beginning of these bytes.
+pub record ReadsFront (bytes : List ℕ) (pieces : List (List ℕ)) (parsed : List ℕ) : Type 0 where
   pub beyond : List ℕ
-  pub pumped : concat pieces ++ beyond ≡ t.session.pumped
+  pub joined : concat pieces ++ beyond ≡ bytes
   pub hold : Option (List ℕ)
   pub leads : Drives (map Gives pieces) [] None parsed hold
 
@@ -44,11 +47,13 @@ pub record ReadsSession (rows cols : ℕ) (calls : List Call) (replies : List Re
 abbrev pub last_read : Story → List (List ℕ) → Option Entry
 last_read t pieces = last_whole None t.entries (length (concat pieces))
 
--- in whatever pieces they come, the view shows what the judge says of that frame, unless it wasn't sure
+-- in whatever pieces what was pumped to a session comes, a view of its size shows what the judge says of that frame,
+-- unless it wasn't sure
 abbrev pub LastWholeFrameIsShown : Type 0
 LastWholeFrameIsShown = (rows cols : ℕ) (calls : List Call) (replies : List Reply) (n : ℕ) (t : Story)
-    (pieces : List (List ℕ)) (parsed : List ℕ) → ReadsSession rows cols calls replies n t pieces parsed
-    → IsSure (last_read t pieces) → shown_of (seen (size_of_story t) parsed) ≡ judged rows cols (last_read t pieces)
+    (pieces : List (List ℕ)) (parsed : List ℕ) → IsSession rows cols calls replies n t
+    → ReadsFront t.session.pumped pieces parsed
+    → IsShownRight rows cols (shown_of (seen (size_of_story t) parsed)) (last_read t pieces)
 
 -- the entries that lie wholly in the pieces
 abbrev pub whole_read : Story → List (List ℕ) → List Entry
@@ -57,35 +62,28 @@ whole_read t pieces = whole_in t.entries (length (concat pieces))
 -- A view that reads more, but no whole frame more, shows the same; also where the last one wasn't sure.
 abbrev pub NoSessionIsTorn : Type 0
 NoSessionIsTorn = (rows cols : ℕ) (calls : List Call) (replies : List Reply) (n : ℕ) (t : Story)
-    (pieces more : List (List ℕ)) (parsed parsed' : List ℕ) → ReadsSession rows cols calls replies n t pieces parsed
-    → ReadsSession rows cols calls replies n t (pieces ++ more) parsed' → whole_read t (pieces ++ more) ≡ whole_read t pieces
+    (pieces more : List (List ℕ)) (parsed parsed' : List ℕ) → IsSession rows cols calls replies n t
+    → ReadsFront t.session.pumped pieces parsed → ReadsFront t.session.pumped (pieces ++ more) parsed'
+    → whole_read t (pieces ++ more) ≡ whole_read t pieces
     → shown_of (seen (size_of_story t) parsed') ≡ shown_of (seen (size_of_story t) parsed)
 
 -- Views of two sessions whose last whole frames were taken at one moment show the same.
 abbrev pub OneMomentShowsTheSame : Type 0
 OneMomentShowsTheSame = (rows cols : ℕ) (calls : List Call) (replies : List Reply) (n m : ℕ) (t u : Story)
     (pieces others : List (List ℕ)) (parsed parsed' : List ℕ) (e f : Entry)
-    → ReadsSession rows cols calls replies n t pieces parsed → ReadsSession rows cols calls replies m u others parsed'
+    → IsSession rows cols calls replies n t → IsSession rows cols calls replies m u
+    → ReadsFront t.session.pumped pieces parsed → ReadsFront u.session.pumped others parsed'
     → last_read t pieces ≡ Some e → last_read u others ≡ Some f → e.moment ≡ f.moment
     → (e.answer ≡ Unsure → ⊥) → (f.answer ≡ Unsure → ⊥)
     → (size_of_story t ≡ size_of_story u)
     × (shown_of (seen (size_of_story t) parsed) ≡ shown_of (seen (size_of_story u) parsed'))
 
 -- So do views that have read whole frames alone, wherever updates were stopped by hand.
-pub record ReadsWhole (rows cols : ℕ) (calls : List Call) (replies : List Reply) (n : ℕ) (t : Story)
-    (front : List Entry) (parsed : List ℕ) : Type 0 where
-  pub session : IsSession rows cols calls replies n t
-  pub back : List Entry
-  pub parts : t.entries ≡ front ++ back
-  pub moves : List Move
-  pub given : given moves ≡ texts front
-  pub hold : Option (List ℕ)
-  pub leads : Drives moves [] None parsed hold
-
 abbrev pub OneMomentShowsTheSameWhole : Type 0
 OneMomentShowsTheSameWhole = (rows cols : ℕ) (calls : List Call) (replies : List Reply) (n m : ℕ) (t u : Story)
-    (front others : List Entry) (parsed parsed' : List ℕ) (e f : Entry)
-    → ReadsWhole rows cols calls replies n t front parsed → ReadsWhole rows cols calls replies m u others parsed'
+    (front others : List Entry) (parsed parsed' : List ℕ) (hold hold' : Option (List ℕ)) (e f : Entry)
+    → IsSession rows cols calls replies n t → IsSession rows cols calls replies m u
+    → ReadsFrames t front parsed hold → ReadsFrames u others parsed' hold'
     → last_frame None front ≡ Some e → last_frame None others ≡ Some f → e.moment ≡ f.moment
     → (e.answer ≡ Unsure → ⊥) → (f.answer ≡ Unsure → ⊥)
     → (size_of_story t ≡ size_of_story u)

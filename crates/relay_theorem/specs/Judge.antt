@@ -50,3 +50,7 @@ judged rows cols (Some e) = shown_at rows cols e
 abbrev pub IsSure : Option Entry → Type 0
 IsSure None = Unit {0}
 IsSure (Some e) = e.answer ≡ Unsure → ⊥
+
+-- this is shown: what the judge says of that frame, unless it wasn't sure
+abbrev pub IsShownRight : ℕ → ℕ → Shown → Option Entry → Type 0
+IsShownRight rows cols shown last = IsSure last → shown ≡ judged rows cols last

@@ -1,13 +1,9 @@
 -- What is carried to a view.
-use Rattle.std.proofs.Common.{◌≡◌, ◌∙◌, ℕ, List, [], ◌∷◌, ◌++◌, map, take, drop, Option, None, Some, Ok, refl, sym, ap}
+use Rattle.std.proofs.Common.{◌≡◌, ◌∙◌, ℕ, List, [], ◌∷◌, ◌++◌, take, drop, Option, None, Some, Ok, refl, sym, ap}
 use Rattle.std.proofs.Common.{subst, append-nil, Result, Err, OnOk, IfSome}
-use Rattle.std.proofs.lemmas.List.{map-append}
 use Rattle.std.proofs.lemmas.List.Folds.{concat-append}
 use Rattle.std.specs.List.{concat}
 use Rattle.std.specs.Io.KnownBytes.{Appends}
-use Rattle.vte.specs.Moves.{Move, Gives}
-use Rattle.vte.specs.Frames.{Drives}
-use Rattle.vte.proofs.FrameMoves.{moves_follow}
 use Rattle.terminal_model.specs.Term.{Shown}
 use Rattle.termview.specs.declared.view.View.{View}
 use Rattle.termview.specs.declared.until_cleared.UntilCleared.{UntilCleared}
@@ -15,28 +11,11 @@ use Rattle.termrelay.specs.Hub.{HubState, as_kept}
 use Rattle.takers.specs.Pump.{Pumps, Writes}
 use Rattle.takers.proofs.PumpLaws.{takes-all, appends-front}
 use Rattle.relay_streams.specs.Frames.{asked}
-use Rattle.relay_streams.specs.Led.{Led}
 use Rattle.relay_streams.specs.Turns.{Relaying}
-use Rattle.relay_streams.proofs.FrameLists.{frames_of, base_of, frames-push, base-push}
+use Rattle.relay_streams.proofs.FrameLists.{frames_of, base_of, frames-more, base-push}
 use Rattle.relay_streams.proofs.PieceLemmas.{concat-push}
-use Rattle.relay_streams.proofs.ViewLemmas.{not_led}
+use Rattle.relay_streams.proofs.ViewLemmas.{not_led, led_more}
 use Rattle.screencat.specs.Carried.{Carries}
-
-led_more : (a b c : View UntilCleared) (ps qs : List (List ℕ)) → Led a ps b → Led b qs c → Led a (ps ++ qs) c
-led_more a b c ps qs first then = record {
-  goes = λ parsed hold at.
-      let l = first.goes parsed hold at in
-      let m = then.goes l.parsed' l.hold' l.holds in
-      record {
-        parsed' = m.parsed';
-        hold' = m.hold';
-        leads = subst (λ (ms : List Move). Drives ms parsed hold m.parsed' m.hold') (sym (map-append Gives ps qs))
-            (moves_follow (map Gives ps) (map Gives qs) parsed hold l.parsed' l.hold' m.parsed' m.hold' l.leads
-            m.leads);
-        holds = m.holds;
-        size = m.size ∙ l.size;
-      };
-}
 
 -- all was written
 pub printed : {E : Type 0} (answer : Result (Unit {0}) E) (known : Option (List ℕ)) (P : List ℕ → List ℕ → Type 0)
@@ -84,7 +63,7 @@ module _ (rows cols : ℕ) (past : List (List ℕ)) (piece : List ℕ) where
   carries-on a b c first then =
       let owed = (asked rows cols (concat pieces) base).owed in
       let is : concat (frames_of rows cols pieces) ≡ concat (frames_of rows cols past) ++ owed =
-      ap concat (frames-push rows cols past piece (concat pieces) (concat-push past piece))
+      ap concat (frames-more rows cols past (piece ∷ []))
       ∙ concat-push (frames_of rows cols past) owed in
       subst (λ (xs : List ℕ). Carries a xs c) (sym is)
       (carries-more a b c (concat (frames_of rows cols past)) owed first then)
@@ -93,4 +72,4 @@ module _ (rows cols : ℕ) (past : List (List ℕ)) (piece : List ℕ) where
       → Relaying rows cols pieces (base_of rows cols pieces) g key
   relays-on g key r =
       subst (λ (b : Option Shown). Relaying rows cols pieces b g key)
-      (sym (base-push rows cols past piece (concat pieces) (concat-push past piece))) r
+      (sym (base-push rows cols past piece)) r

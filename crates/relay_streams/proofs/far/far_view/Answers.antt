@@ -42,12 +42,10 @@ returns-in-Some c =
     let is : slice_get m.sessions c.args.session ≡ Some s =
     ap (λ (xs : List SessionView). slice_get xs c.args.session) (sym c.sessions.ensures)
     ∙ slice_get-get_or c.sessions.result.now c.args.session s lookup.3.0 ∙ ap (λ (x : SessionView). Some x) (sym lookup.1) in
-    let stands = c.in_ok-view_session-in-Some.ensures.stands in
     let rows = c.args.rows.value in
     let cols = c.args.cols.value in
     let found = one-found rows cols calls h g m c.in_ok-hub.ensures.new ran fed c.args.session c.args.take
-    c.args.cuts.now s v stands.0 stands.1 is stands.2 stands.3 c.in_ok-view_session-in-Some.ensures.rows
-    c.in_ok-view_session-in-Some.ensures.cols in
+    c.args.cuts.now s v is c.in_ok-view_session-in-Some.ensures.reads in
     record {
       view = found;
       shows = shows-judged rows cols calls c.args.session c.args.take c.args.cuts.now v (c.args.rows.ok, omega arith)

@@ -1,17 +1,15 @@
-use Rattle.std.proofs.Common.{[], None, ap, ◌∙◌}
-use Rattle.terminal_model.specs.Term.{Size}
+use Rattle.std.proofs.Common.{[], None, ◌∙◌}
+use Rattle.relay_streams.proofs.ViewLemmas.{size_is}
 use Rattle.relay_streams.proofs.far.view_of.Goals as goal
 
-pub returns-clause-stands : goal.returns-clause-stands
-returns-clause-stands c =
-    let l = c.give_pieces.ensures.goes [] None (c.in_ok-view.ensures.exact (λ b e. e ∙ c.new.ensures)) in (l.parsed', l.hold', l.leads, l.holds)
-
-pub returns-clause-rows : goal.returns-clause-rows
-returns-clause-rows c =
-    let l = c.give_pieces.ensures.goes [] None (c.in_ok-view.ensures.exact (λ b e. e ∙ c.new.ensures)) in
-    ap (λ (z : Size). z.rows) l.size ∙ c.in_ok-view.ensures.rows
-
-pub returns-clause-cols : goal.returns-clause-cols
-returns-clause-cols c =
-    let l = c.give_pieces.ensures.goes [] None (c.in_ok-view.ensures.exact (λ b e. e ∙ c.new.ensures)) in
-    ap (λ (z : Size). z.cols) l.size ∙ c.in_ok-view.ensures.cols
+pub returns-clause-reads : goal.returns-clause-reads
+returns-clause-reads c =
+    let made = c.in_ok-view.ensures in
+    let l = c.give_pieces.ensures.goes [] None (made.exact (λ b e. e ∙ c.new.ensures)) in
+    record {
+      parsed = l.parsed';
+      hold = l.hold';
+      leads = l.leads;
+      holds = l.holds;
+      size = l.size ∙ size_is _ _ _ made.rows made.cols;
+    }

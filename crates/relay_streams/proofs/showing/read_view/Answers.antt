@@ -1,9 +1,7 @@
-use Rattle.std.proofs.Common.{◌≡◌, ℕ, List, [], ◌∷◌, ◌++◌, take, length, arith}
-use Rattle.std.proofs.Common.{rules, Err}
+use Rattle.std.proofs.Common.{◌≡◌, ℕ, List, [], ◌∷◌, ◌++◌, take, length, arith, rules, Err}
 use Rattle.relay_streams.specs.Led.{Led}
 use Rattle.relay_streams.specs.Pieces.{piece_len}
-use Rattle.relay_streams.proofs.PieceLemmas.{none_read, filled_most, filled_on, filled_last, filled_fault}
-use Rattle.relay_streams.proofs.PieceLemmas.{stopped_so}
+use Rattle.relay_streams.proofs.PieceLemmas.{none_read, filled_most, filled_on, filled_last, filled_fault, stopped_so}
 use Rattle.relay_streams.proofs.ViewLemmas.{not_led, led_on}
 use Rattle.relay_streams.proofs.showing.read_view.Goals as goal
 
@@ -11,7 +9,7 @@ pub pieces-init : goal.pieces-init
 pieces-init g c = record {
   most = omega arith;
   past = [];
-  read = none_read g.row.S.Denot g.S.Source.gives piece_len c.args.input.now;
+  read = none_read;
   led = not_led c.args.view.now;
 }
 
@@ -19,24 +17,19 @@ pub returns-in_err-n : goal.returns-in_err-n
 returns-in_err-n g c =
     let so_far = c.pieces.invariant in
     let whole : length c.pieces.piece ≡ piece_len = omega (arith, c.fill.auto.piece) in
-    let f = rw whole at c.fill.ensures in
     let fault = c.in_err-n.field-0.0 in
     let is : c.from_residual.result ≡ Err fault = search rules in
-    stopped_so g.row.S.Denot g.S.Source.gives piece_len c.args.input.now c.fill.new.input
-    (so_far.past ++ f.bytes ∷ []) c.from_residual.result fault
-    (λ ps. Led c.args.view.now ps c.pieces.view) is
-    (filled_fault f fault c.in_err-n.was
-    so_far.read)
+    stopped_so (λ ps. Led c.args.view.now ps c.pieces.view) is
+    (filled_fault c.fill.ensures whole fault c.in_err-n.was so_far.read)
 
 pub returns-then-n-lt-PIECE_LEN : goal.returns-then-n-lt-PIECE_LEN
 returns-then-n-lt-PIECE_LEN g c =
     let so_far = c.pieces.invariant in
     let whole : length c.pieces.piece ≡ piece_len = omega (arith, c.fill.auto.piece) in
-    let f = rw whole at c.fill.ensures in
     let n = c.in_ok-n.n in
     let piece : List ℕ = take n c.fill.new.piece in (
       so_far.past ++ piece ∷ [],
-      filled_last f n c.in_ok-n.was (omega arith) so_far.read,
+      filled_last c.fill.ensures whole n c.in_ok-n.was (omega arith) so_far.read,
       led_on c.args.view.now c.pieces.view c.advance.new.self so_far.past piece so_far.led
           (λ parsed hold at. c.advance.ensures.exact parsed hold c.until_cleared_is_exact.ensures at),
     )
@@ -45,21 +38,18 @@ pub pieces-preserved : goal.pieces-preserved
 pieces-preserved g c =
     let so_far = c.pieces.invariant in
     let whole : length c.pieces.piece ≡ piece_len = omega (arith, c.fill.auto.piece) in
-    let f = rw whole at c.fill.ensures in
     let n = c.in_ok-n.n in
     let piece : List ℕ = take n c.fill.new.piece in
     record {
-      most = (filled_most f n c.in_ok-n.was (omega arith)).0;
+      most = (filled_most c.fill.ensures whole n c.in_ok-n.was).0;
       past = so_far.past ++ piece ∷ [];
-      read = filled_on f n c.in_ok-n.was (omega arith) so_far.read;
+      read = filled_on c.fill.ensures whole n c.in_ok-n.was (omega arith) so_far.read;
       led = led_on c.args.view.now c.pieces.view c.advance.new.self so_far.past piece so_far.led
           (λ parsed hold at. c.advance.ensures.exact parsed hold c.until_cleared_is_exact.ensures at);
     }
 
 pub pieces-smaller : goal.pieces-smaller
 pieces-smaller g c =
-    let so_far = c.pieces.invariant in
     let whole : length c.pieces.piece ≡ piece_len = omega (arith, c.fill.auto.piece) in
-    let f = rw whole at c.fill.ensures in
-    let most = filled_most f c.in_ok-n.n c.in_ok-n.was (omega arith) in
+    let most = filled_most c.fill.ensures whole c.in_ok-n.n c.in_ok-n.was in
     omega (arith, most.0, most.1)

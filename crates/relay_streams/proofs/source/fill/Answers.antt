@@ -1,10 +1,9 @@
-use Rattle.std.proofs.Common.{◌≡◌, ◌≢◌, [], Ok, ◌+◌, ◌-◌, take, length, sym, ap, arith}
-use Rattle.std.proofs.Common.{refl, rules}
+use Rattle.std.proofs.Common.{◌≡◌, ◌≢◌, [], Ok, ◌+◌, ◌-◌, take, length, sym, ap, arith, refl, rules}
 use Rattle.std.specs.IoError.{error_kind}
 use Rattle.std.specs.declared.io.ErrorKind.TheVariants.{Interrupted}
 use borrow.Rule.Slice.PartMut.{same_len_mid}
 use Rattle.std.proofs.lemmas.List.{length-take-le}
-use Rattle.relay_streams.specs.Fill.{Fills, Full, Ended, Failed, TooMany, full, stopped, ended, failed}
+use Rattle.relay_streams.specs.Fill.{Fills, Full, full, stopped, ended, failed}
 use Rattle.relay_streams.proofs.FillLemmas.{take_put, front_put, front_put-len, front_is, window, begun, once_more}
 use Rattle.relay_streams.proofs.FillLemmas.{some_more, filled}
 use Rattle.relay_streams.proofs.source.fill.Goals as goal
@@ -15,18 +14,15 @@ reading-init g c = record {
   most = c.requires;
   made = 0;
   counted = omega arith;
-  goes_on = begun g.row.S.Denot g.S.Source.gives c.args.input.now (length c.args.piece.now)
-      (length c.args.piece.now - 0) (omega arith);
+  goes_on = begun (length c.args.piece.now - 0) (omega arith);
 }
 
 pub returns-then-reads-ge-MAX_READS : goal.returns-then-reads-ge-MAX_READS
 returns-then-reads-ge-MAX_READS g c =
     let inv = c.reading.invariant in
     let piece = c.reading.piece in
-    filled g.row.S.Denot g.S.Source.gives c.args.input.now (length c.args.piece.now) c.reading.input c.reading.input
-    (length piece - c.reading.len) inv.made 0 c.args.reads.now c.reading.reads (take c.reading.len piece) piece TooMany
-    _ inv.goes_on (stopped (omega arith)) (front_is piece c.reading.len inv.within) (omega (arith, inv.counted))
-    (omega (arith, inv.most)) refl
+    filled inv.goes_on c.reading.input c.args.reads.now c.reading.reads piece _ (stopped (omega arith))
+    (front_is piece c.reading.len inv.within) (omega (arith, inv.counted)) (omega (arith, inv.most)) refl
 
 pub returns-in-Ok-eq0 : goal.returns-in-Ok-eq0
 returns-in-Ok-eq0 g c =
@@ -34,9 +30,8 @@ returns-in-Ok-eq0 g c =
     let piece = c.reading.piece in
     let len = c.reading.len in
     let read = rw (window piece len, c.in-Ok-eq0.field-0-test) at c.in-Ok-eq0.ensures.gives in
-    filled g.row.S.Denot g.S.Source.gives c.args.input.now (length c.args.piece.now) c.reading.input c.give.new.self
-    (length piece - len) inv.made 1 c.args.reads.now (c.reading.reads + 1) (take len piece) _ Ended _ inv.goes_on
-    (ended (omega arith) read) (front_put piece c.give.new.room len _) (omega (arith, inv.counted)) (omega arith)
+    filled inv.goes_on c.give.new.self c.args.reads.now (c.reading.reads + 1) _ _ (ended (omega arith) read)
+    (front_put piece c.give.new.room len _) (omega (arith, inv.counted)) (omega arith)
     (ap Ok (sym (length-take-le len piece inv.within)))
 
 pub reading-preserved-in-Ok : goal.reading-preserved-in-Ok
@@ -57,9 +52,8 @@ reading-preserved-in-Ok g c =
       most = omega arith;
       made = inv.made + 1;
       counted = omega (arith, inv.counted);
-      goes_on = rw got (some_more g.row.S.Denot g.S.Source.gives c.args.input.now (length c.args.piece.now)
-          c.reading.input c.give.new.self (length piece - len) _ inv.made (take len piece) (take n room) some
-          (omega (arith, bound.0, bound.1, whole)) (omega (arith, same, bound.1)) read inv.goes_on);
+      goes_on = rw got (some_more inv.goes_on c.give.new.self _ (take n room) some
+          (omega (arith, bound.0, bound.1, whole)) (omega (arith, same, bound.1)) read);
     }
 
 pub returns-then-ne : goal.returns-then-ne
@@ -68,8 +62,7 @@ returns-then-ne g c =
     let piece = c.reading.piece in
     let len = c.reading.len in
     let read = rw (window piece len) at c.in-Err.ensures.gives in
-    filled g.row.S.Denot g.S.Source.gives c.args.input.now (length c.args.piece.now) c.reading.input c.give.new.self
-    (length piece - len) inv.made 1 c.args.reads.now (c.reading.reads + 1) (take len piece) _ Failed _ inv.goes_on
+    filled inv.goes_on c.give.new.self c.args.reads.now (c.reading.reads + 1) _ _
     (failed (omega arith) read (search rules)) (front_put piece c.give.new.room len _) (omega (arith, inv.counted))
     (omega arith) refl
 
@@ -88,9 +81,7 @@ reading-preserved g c =
       made = inv.made + 1;
       counted = omega (arith, inv.counted);
       goes_on = rw (same, front_put-len piece room len (length piece - len) inv.within)
-          (once_more g.row.S.Denot g.S.Source.gives c.args.input.now (length c.args.piece.now) c.reading.input
-          c.give.new.self (length piece - len) inv.made (take len piece) c.in-Err.error (omega arith) read is
-          inv.goes_on);
+          (once_more inv.goes_on c.give.new.self c.in-Err.error (omega arith) read is);
     }
 
 pub returns : goal.returns
@@ -100,7 +91,6 @@ returns g c =
     let len = c.reading.len in
     let none : length piece - len ≡ 0 = omega arith in
     let last : Fills g.S.Source.gives c.reading.input (length piece - len) 0 [] Full c.reading.input = rw none full in
-    filled g.row.S.Denot g.S.Source.gives c.args.input.now (length c.args.piece.now) c.reading.input c.reading.input
-    (length piece - len) inv.made 0 c.args.reads.now c.reading.reads (take len piece) piece Full _ inv.goes_on last
+    filled inv.goes_on c.reading.input c.args.reads.now c.reading.reads piece _ last
     (front_is piece len inv.within) (omega (arith, inv.counted)) (omega (arith, inv.most))
     (ap Ok (sym (length-take-le len piece inv.within)))

@@ -1,9 +1,8 @@
 use Rattle.std.proofs.Common.{◌≡◌, ℕ, List, [], ◌∷◌, ◌++◌, take, length, refl, arith, None}
 use Rattle.relay_streams.specs.Turns.{Relaying}
-use Rattle.std.specs.List.{concat}
 use Rattle.relay_streams.specs.Pieces.{piece_len}
 use Rattle.relay_streams.proofs.FrameLists.{frames_of, base_of, fits-push}
-use Rattle.relay_streams.proofs.PieceLemmas.{none_read, filled_most, filled_on, filled_last, concat-push}
+use Rattle.relay_streams.proofs.PieceLemmas.{none_read, filled_most, filled_on, filled_last}
 use Rattle.relay_streams.proofs.SessionLemmas.{frames-are-relayed}
 use Rattle.screencat.proofs.CarryLemmas.{carries-none, carries-on, relays-on}
 use Rattle.screencat.proofs.far_screen.carry_frames.Goals as goal
@@ -12,7 +11,7 @@ pub pieces-init : goal.pieces-init
 pieces-init g c = record {
   most = omega arith;
   past = [];
-  read = none_read g.row.S.Denot g.S.Source.gives piece_len c.args.input.now;
+  read = none_read;
   at = λ rows cols at. at;
   fits = λ rows cols at. refl;
   carried = λ rows cols at. carries-none c.args.view.now;
@@ -22,19 +21,17 @@ pub returns-then-n-lt-PIECE_LEN : goal.returns-then-n-lt-PIECE_LEN
 returns-then-n-lt-PIECE_LEN g c =
     let so_far = c.pieces.invariant in
     let whole : length c.pieces.piece ≡ piece_len = omega (arith, c.fill.auto.piece) in
-    let f = rw whole at c.fill.ensures in
     let n = c.in_ok-n.n in
     let piece : List ℕ = take n c.fill.new.piece in
     let pieces : List (List ℕ) = so_far.past ++ piece ∷ [] in (
       pieces,
-      filled_last f n c.in_ok-n.was (omega arith) so_far.read,
+      filled_last c.fill.ensures whole n c.in_ok-n.was (omega arith) so_far.read,
       λ rows cols at.
           let brought = c.in_ok-carry_frame.ensures rows cols so_far.past (base_of rows cols so_far.past)
           (so_far.at rows cols at) in (
             frames_of rows cols pieces,
             frames-are-relayed rows cols pieces at.height at.width
-                (fits-push rows cols so_far.past piece (concat pieces) (concat-push so_far.past piece)
-                (so_far.fits rows cols at) brought.0),
+                (fits-push rows cols so_far.past piece (so_far.fits rows cols at) brought.0),
             carries-on rows cols so_far.past piece c.args.view.now c.pieces.view c.carry_frame.new.view
                 (so_far.carried rows cols at) brought.1,
           ),
@@ -44,27 +41,23 @@ pub pieces-preserved : goal.pieces-preserved
 pieces-preserved g c =
     let so_far = c.pieces.invariant in
     let whole : length c.pieces.piece ≡ piece_len = omega (arith, c.fill.auto.piece) in
-    let f = rw whole at c.fill.ensures in
     let n = c.in_ok-n.n in
     let piece : List ℕ = take n c.fill.new.piece in
     let brought = λ (rows cols : ℕ) (at : Relaying rows cols [] None c.args.hub.now c.args.client).
     c.in_ok-carry_frame.ensures rows cols so_far.past (base_of rows cols so_far.past) (so_far.at rows cols at) in
     let pieces : List (List ℕ) = so_far.past ++ piece ∷ [] in
     record {
-      most = (filled_most f n c.in_ok-n.was (omega arith)).0;
+      most = (filled_most c.fill.ensures whole n c.in_ok-n.was).0;
       past = pieces;
-      read = filled_on f n c.in_ok-n.was (omega arith) so_far.read;
+      read = filled_on c.fill.ensures whole n c.in_ok-n.was (omega arith) so_far.read;
       at = λ rows cols at. relays-on rows cols so_far.past piece c.carry_frame.new.hub c.args.client (brought rows cols at).2;
-      fits = λ rows cols at. fits-push rows cols so_far.past piece (concat pieces) (concat-push so_far.past piece)
-          (so_far.fits rows cols at) (brought rows cols at).0;
+      fits = λ rows cols at. fits-push rows cols so_far.past piece (so_far.fits rows cols at) (brought rows cols at).0;
       carried = λ rows cols at. carries-on rows cols so_far.past piece c.args.view.now c.pieces.view
           c.carry_frame.new.view (so_far.carried rows cols at) (brought rows cols at).1;
     }
 
 pub pieces-smaller : goal.pieces-smaller
 pieces-smaller g c =
-    let so_far = c.pieces.invariant in
     let whole : length c.pieces.piece ≡ piece_len = omega (arith, c.fill.auto.piece) in
-    let f = rw whole at c.fill.ensures in
-    let most = filled_most f c.in_ok-n.n c.in_ok-n.was (omega arith) in
+    let most = filled_most c.fill.ensures whole c.in_ok-n.n c.in_ok-n.was in
     omega (arith, most.0, most.1)
