@@ -1,6 +1,6 @@
 //! Whole commands, byte for byte, and faults of readers and writers.
 
-use crate::same::same;
+use crate::same::{Row, same, written};
 use screendump_command::command;
 use scripted_io::{Narrow, Script, Step};
 use std::io::ErrorKind;
@@ -28,15 +28,7 @@ attrs i1 d b----\n\
 scrollback len=1 offset=0 capacity=3\n\
 cell 0 0 63 w=0 c=0 i1 d b----\n";
 
-/// Words, a stream, and then: the status, what the output begins with, and the error output.
-type Row = (
-    &'static [&'static str],
-    &'static [u8],
-    u8,
-    &'static [u8],
-    &'static [u8],
-);
-
+/// Here the output begins so.
 const COMMANDS: &[Row] = &[
     (&["1", "2"], b"", 0, BLANK, b""),
     (&["1", "2"], b"\x1b[?2026h", 0, UPDATING, b""),
@@ -77,16 +69,12 @@ const COMMANDS: &[Row] = &[
 
 fn check_command(rt: &(impl Abort + AllocGlobal), row: Row) {
     let (words, input, status, output, errors) = row;
-    let mut written = Vec::new(rt.alloc());
-    let mut told = Vec::new(rt.alloc());
-    let mut left = input;
-    let answer = command(rt.alloc(), words, &mut left, &mut written, &mut told);
+    let wanted = (status, errors);
+    let written = written(rt, words, input, wanted, |left, written, told| {
+        command(rt.alloc(), words, left, written, told)
+    });
     let begins = written.as_slice().starts_with(output);
-    same(rt, &words, &(answer, begins), &(status, true));
-    same(rt, &words, &told.as_slice(), &errors);
-    if status == 2 {
-        same(rt, &words, &left, &input);
-    }
+    same(rt, &words, &begins, &true);
 }
 
 #[test]

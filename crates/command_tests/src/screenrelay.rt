@@ -1,6 +1,6 @@
 //! Whole commands, byte for byte, and faults of readers and writers in mid-stream.
 
-use crate::same::same;
+use crate::same::{Row, same, written};
 use screenrelay_command::command;
 use scripted_io::{Few, Narrow, Script, Step};
 use std::alloc::AllocError;
@@ -37,15 +37,6 @@ const BUILD_SCREEN: &[u8] =
     linked 2 objects\n\n\ndone   [exit 0]\n\n\n\n";
 
 const USAGE: &[u8] = b"usage: screenrelay relay|show ROWS COLS\n";
-
-/// Words, a stream, and then: the status, the output, and the error output.
-type Row = (
-    &'static [&'static str],
-    &'static [u8],
-    u8,
-    &'static [u8],
-    &'static [u8],
-);
 
 const COMMANDS: &[Row] = &[
     (&["relay", "2", "4"], b"hi", 0, HI, b""),
@@ -92,18 +83,22 @@ const COMMANDS: &[Row] = &[
     (&[], b"hi", 2, b"", USAGE),
 ];
 
-/// Words that aren't understood leave the input as it is.
+/// What the command writes that answers this status and tells this.
+fn output_of(
+    rt: &(impl Abort + AllocGlobal),
+    words: &[&str],
+    input: &[u8],
+    wanted: (u8, &[u8]),
+) -> Vec<u8> {
+    written(rt, words, input, wanted, |left, written, told| {
+        command(rt.alloc(), words, left, written, told)
+    })
+}
+
 fn check_command(rt: &(impl Abort + AllocGlobal), row: Row) {
     let (words, input, status, output, errors) = row;
-    let mut written = Vec::new(rt.alloc());
-    let mut told = Vec::new(rt.alloc());
-    let mut left = input;
-    let answer = command(rt.alloc(), words, &mut left, &mut written, &mut told);
-    same(rt, &words, &(answer, written.as_slice()), &(status, output));
-    same(rt, &words, &told.as_slice(), &errors);
-    if status == 2 {
-        same(rt, &words, &left, &input);
-    }
+    let written = output_of(rt, words, input, (status, errors));
+    same(rt, &words, &written.as_slice(), &output);
 }
 
 #[test]
@@ -112,6 +107,13 @@ fn commands(rt: HostRuntime) {
         check_command(&rt, *row);
     }
 }
+
+/// A reader that is interrupted between two bytes.
+const INTERRUPTED: &[Step] = &[
+    Step::Give(b"h"),
+    Step::Fail(ErrorKind::Interrupted),
+    Step::Give(b"i"),
+];
 
 #[test]
 fn readers(rt: HostRuntime) -> Result<(), Fail> {
@@ -136,30 +138,8 @@ fn readers(rt: HostRuntime) -> Result<(), Fail> {
             b"",
             3,
         ),
-        (
-            "relay",
-            &[
-                Step::Give(b"h"),
-                Step::Fail(ErrorKind::Interrupted),
-                Step::Give(b"i"),
-            ],
-            0,
-            HI,
-            b"",
-            4,
-        ),
-        (
-            "show",
-            &[
-                Step::Give(b"h"),
-                Step::Fail(ErrorKind::Interrupted),
-                Step::Give(b"i"),
-            ],
-            0,
-            b"hi\n\n",
-            b"",
-            4,
-        ),
+        ("relay", INTERRUPTED, 0, HI, b"", 4),
+        ("show", INTERRUPTED, 0, b"hi\n\n", b"", 4),
         (
             "show",
             &[Step::Give(b"hi"), Step::Fail(ErrorKind::BrokenPipe)],
@@ -173,13 +153,8 @@ fn readers(rt: HostRuntime) -> Result<(), Fail> {
         let mut written = Vec::new(rt.alloc());
         let mut told = Vec::new(rt.alloc());
         let mut input = Script::new(steps);
-        let answer = command(
-            rt.alloc(),
-            &[job, "2", "4"],
-            &mut input,
-            &mut written,
-            &mut told,
-        );
+        let words = [job, "2", "4"];
+        let answer = command(rt.alloc(), &words, &mut input, &mut written, &mut told);
         assert_eq!(rt;
             (answer, written.as_slice(), told.as_slice(), input.reads),
             (status, output, errors, reads)
@@ -194,26 +169,11 @@ fn errors(rt: HostRuntime) -> Result<(), Fail> {
     for (room, kept) in [(100, USAGE), (10, &USAGE[..10])] {
         let mut told = Narrow::new(rt.alloc(), room);
         let mut written = Vec::new(rt.alloc());
-        let answer = command(
-            rt.alloc(),
-            &[],
-            &mut b"".as_slice(),
-            &mut written,
-            &mut told,
-        );
+        let mut left = b"".as_slice();
+        let answer = command(rt.alloc(), &[], &mut left, &mut written, &mut told);
         assert_eq!(rt; (answer, told.kept.as_slice(), told.flushed), (2, kept, 0));
     }
     Ok(())
-}
-
-/// What a command that succeeds writes.
-fn output_of(rt: &(impl Abort + AllocGlobal), words: &[&str], input: &[u8]) -> Vec<u8> {
-    let mut written = Vec::new(rt.alloc());
-    let mut told = Vec::new(rt.alloc());
-    let mut left = input;
-    let answer = command(rt.alloc(), words, &mut left, &mut written, &mut told);
-    same(rt, &words, &answer, &0);
-    written
 }
 
 fn check_session(
@@ -222,8 +182,8 @@ fn check_session(
     session: &[u8],
     screen: &[u8],
 ) {
-    let stream = output_of(rt, &["relay", height, width], session);
-    let shown = output_of(rt, &["show", height, width], &stream);
+    let stream = output_of(rt, &["relay", height, width], session, (0, b""));
+    let shown = output_of(rt, &["show", height, width], &stream, (0, b""));
     same(rt, &height, &shown.as_slice(), &screen);
 }
 
@@ -243,7 +203,7 @@ fn push_frame(frames: &mut Vec<u8>) -> Result<(), AllocError> {
 
 /// These letters make these frames.
 fn check_letters(rt: &(impl Abort + AllocGlobal), letters: &[u8], frames: &[u8]) {
-    let written = output_of(rt, &["relay", "24", "80"], letters);
+    let written = output_of(rt, &["relay", "24", "80"], letters, (0, b""));
     same(rt, &letters.len(), &written.as_slice(), &frames);
 }
 
@@ -293,13 +253,8 @@ fn writers(rt: HostRuntime) -> Result<(), Fail> {
         written.flushes = flushes;
         let mut told = Vec::new(rt.alloc());
         let mut left = input;
-        let answer = command(
-            rt.alloc(),
-            &[job, "2", "4"],
-            &mut left,
-            &mut written,
-            &mut told,
-        );
+        let words = [job, "2", "4"];
+        let answer = command(rt.alloc(), &words, &mut left, &mut written, &mut told);
         let line: &[u8] = if status == 0 {
             b""
         } else {

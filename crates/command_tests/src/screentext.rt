@@ -2,7 +2,7 @@
 
 mod refusals;
 
-use crate::same::same;
+use crate::same::{same, written};
 use screentext_command::command;
 use scripted_io::{Few, Narrow, Script, Step};
 use std::io::ErrorKind;
@@ -27,16 +27,11 @@ fn check(
     output: &[u8],
     errors: &[u8],
 ) {
-    let mut written = Vec::new(rt.alloc());
-    let mut told = Vec::new(rt.alloc());
-    let mut left = input;
-    let answer = command(rt.alloc(), words, &mut left, &mut written, &mut told);
-    same(rt, &words, &answer, &status);
+    let wanted = (status, errors);
+    let written = written(rt, words, input, wanted, |left, written, told| {
+        command(rt.alloc(), words, left, written, told)
+    });
     same(rt, &words, &written.as_slice(), &output);
-    same(rt, &words, &told.as_slice(), &errors);
-    if status == 2 {
-        same(rt, &words, &left.len(), &input.len());
-    }
 }
 
 // Options with their values in a word of their own, and behind `=`. The last of an option counts.
