@@ -8,7 +8,7 @@
 mod far_screen;
 mod words;
 
-use command_line::{FAULT, SUCCESS, USAGE, report, with_words};
+use command_line::{FAULT, SUCCESS, USAGE, report, run};
 use far_screen::print_far_screen;
 use relay_streams::RelayError;
 use std::env;
@@ -16,12 +16,12 @@ use std::process::ExitCode;
 use words::{Size, parse};
 
 fn main(rt: HostRuntime) -> ExitCode {
-    let answer = with_words(rt.alloc(), env::args(&rt), |words| command(&rt, words));
-    let status = match answer {
-        Ok(status) => status,
-        Err(_) => report_fault(&rt, RelayError::Memory),
-    };
-    ExitCode::from(status)
+    run(
+        rt.alloc(),
+        env::args(&rt),
+        |words| command(&rt, words),
+        || report_fault(&rt, RelayError::Memory),
+    )
 }
 
 // Does what the words ask for, and answers the exit status.
