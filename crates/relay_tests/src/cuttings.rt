@@ -1,5 +1,5 @@
 //! A long stream in different pieces.
-use crate::owners::{with_hub, with_list};
+use crate::owners::{lend, new_hub, with};
 use crate::same::same_for;
 use crate::seen::take_frame;
 use std::alloc::AllocError;
@@ -88,7 +88,7 @@ fn first_frame(
     lengths: &[usize],
     frame: &mut Vec<u8>,
 ) -> Result<(), Fail> {
-    with_hub(rt.alloc(), (24, 80), |hub| {
+    with(new_hub(rt.alloc(), (24, 80)), |hub| {
         feed_pieces(hub, stream, lengths)?;
         let client = hub.attach()?;
         take_frame(hub, client, frame)?;
@@ -103,7 +103,7 @@ fn check_frame(
     lengths: &[usize],
     whole: &[u8],
 ) -> Result<(), Fail> {
-    with_list(rt.alloc(), |frame| {
+    lend(Vec::new(rt.alloc()), |frame| {
         first_frame(rt, stream, lengths, frame)?;
         same_for(rt, &lengths, &frame.as_slice(), &whole);
         Ok(())
@@ -118,7 +118,7 @@ fn check_frames(rt: &(impl Abort + AllocGlobal), stream: &[u8], whole: &[u8]) ->
 }
 
 fn check_stream(rt: &(impl Abort + AllocGlobal), stream: &[u8]) -> Result<(), Fail> {
-    with_list(rt.alloc(), |whole| {
+    lend(Vec::new(rt.alloc()), |whole| {
         first_frame(rt, stream, &[LENGTH], whole)?;
         check_frames(rt, stream, whole)
     })
@@ -126,7 +126,7 @@ fn check_stream(rt: &(impl Abort + AllocGlobal), stream: &[u8]) -> Result<(), Fa
 
 #[test]
 fn cuttings(rt: HostRuntime) -> Result<(), Fail> {
-    with_list(rt.alloc(), |stream| {
+    lend(Vec::new(rt.alloc()), |stream| {
         fill(stream)?;
         check_stream(&rt, stream)
     })

@@ -1,5 +1,5 @@
 //! The texts of refusals and of faults.
-use crate::owners::with_text;
+use crate::owners::lend;
 use crate::same::same;
 use relay_streams::RelayError;
 use std::fmt::Display;
@@ -16,7 +16,7 @@ fn check_text(
     error: &impl Display,
     wanted: &str,
 ) -> Result<(), Fail> {
-    with_text(rt.alloc(), |text| {
+    lend(String::new(rt.alloc()), |text| {
         write!(text, "{error}")?;
         same(rt, &text.as_str(), &wanted);
         Ok(())

@@ -1,5 +1,5 @@
 //! Far views: what a session's bytes show, wherever they are cut.
-use crate::owners::{Part, first_key, with_far_view, with_list};
+use crate::owners::{Part, first_key, lend, with_far_view};
 use crate::same::{same, same_for};
 use crate::seen::{Drawn, Size, check_drawn, count};
 use relay_streams::{far_view, view_of, write_view};
@@ -44,7 +44,7 @@ fn check_shown(
     view: &View<UntilCleared>,
     wanted: Shown,
 ) -> Result<(), Fail> {
-    with_list(rt.alloc(), |text| {
+    lend(Vec::new(rt.alloc()), |text| {
         write_view(view, text)?;
         let shown = (text.as_slice(), view.cursor_position(), view.row_wrapped(0));
         same(rt, &shown, &wanted);
@@ -84,22 +84,27 @@ const TWO_FRAMES: &[(Size, &[u8], &[u8], Shown)] = &[
     ),
 ];
 
+/// A client is sent a frame after each of two streams.
+pub fn two_frames<'a>(client: Client, (first, second): (&'a [u8], &'a [u8])) -> [Call<'a>; 7] {
+    [
+        Call::Attach,
+        Call::Feed(first),
+        Call::Frame(client),
+        Call::Pump(client, &[]),
+        Call::Feed(second),
+        Call::Frame(client),
+        Call::Pump(client, &[]),
+    ]
+}
+
 fn check_two_frames(
     rt: &(impl Abort + AllocGlobal),
     key: Client,
     size: Size,
-    (first, second): (&'static [u8], &'static [u8]),
+    streams: (&'static [u8], &'static [u8]),
     wanted: Shown,
 ) -> Result<(), Fail> {
-    let calls = [
-        Call::Attach,
-        Call::Feed(first),
-        Call::Frame(key),
-        Call::Pump(key, &[]),
-        Call::Feed(second),
-        Call::Frame(key),
-        Call::Pump(key, &[]),
-    ];
+    let calls = two_frames(key, streams);
     with_far_view(rt.alloc(), size, &calls, ALL, |view| {
         check_shown(rt, view, wanted)
     })
@@ -114,14 +119,15 @@ fn far_views(rt: HostRuntime) -> Result<(), Fail> {
     Ok(())
 }
 
-fn check_cut(
+/// A far view of so many bytes, which are cut here, is drawn so.
+pub fn check_cut(
     rt: &(impl Abort + AllocGlobal),
     calls: &[Call<'_>],
     (take, cut): (usize, usize),
     wanted: Drawn,
 ) -> Result<(), Fail> {
     with_far_view(rt.alloc(), (24, 80), calls, (take, &[cut]), |view| {
-        check_drawn(rt, &cut, view, (0, 13), wanted);
+        check_drawn(rt, &(take, cut), view, (0, 13), wanted);
         Ok(())
     })
 }

@@ -1,5 +1,5 @@
 //! The longest frame that is made, frames that would be longer, and a stream that is longer than what a view can hold.
-use crate::owners::{with_hub, with_list, with_view};
+use crate::owners::{lend, new_hub, new_view, with};
 use crate::same::{same, same_for};
 use crate::seen::{cell_of, count, take_frame};
 use relay_streams::{RelayError, relay, show, write_view};
@@ -37,7 +37,7 @@ fn push_pairs(cells: &mut Vec<u8>, pairs: u16) -> Result<(), AllocError> {
 
 /// Feeds a hub one row of such cells, and of this last one.
 fn feed_row(rt: &impl AllocGlobal, hub: &mut Hub, last: &[u8]) -> Result<(), Fail> {
-    with_list(rt.alloc(), |cells| {
+    lend(Vec::new(rt.alloc()), |cells| {
         push_pairs(cells, PAIRS)?;
         cells.extend_from_slice(last)?;
         hub.feed(cells)?;
@@ -81,7 +81,7 @@ fn check_shown(
     view: &View<UntilCleared>,
     wanted: (usize, u16),
 ) -> Result<(), Fail> {
-    with_list(rt.alloc(), |text| {
+    lend(Vec::new(rt.alloc()), |text| {
         write_view(view, text)?;
         check_row(rt, view, text, wanted);
         Ok(())
@@ -123,7 +123,7 @@ fn check_first(
 }
 
 fn make_longest(rt: &(impl Abort + AllocGlobal), frame: &mut Vec<u8>) -> Result<(), Fail> {
-    with_hub(rt.alloc(), (1, CELLS), |hub| {
+    with(new_hub(rt.alloc(), (1, CELLS)), |hub| {
         feed_row(rt, hub, LAST)?;
         check_first(rt, hub, frame, (Answer::Full, FRAME_LEN))?;
         Ok(())
@@ -131,7 +131,7 @@ fn make_longest(rt: &(impl Abort + AllocGlobal), frame: &mut Vec<u8>) -> Result<
 }
 
 fn read_longest(rt: &(impl Abort + AllocGlobal), frame: &[u8]) -> Result<(), Fail> {
-    with_view(rt.alloc(), (1, CELLS), |view| {
+    with(new_view(rt.alloc(), (1, CELLS)), |view| {
         check_longest(rt, view, frame)
     })
 }
@@ -139,7 +139,7 @@ fn read_longest(rt: &(impl Abort + AllocGlobal), frame: &[u8]) -> Result<(), Fai
 /// A view holds the whole frame but its last byte.
 #[test]
 fn the_longest_frame(rt: HostRuntime) -> Result<(), Fail> {
-    with_list(rt.alloc(), |frame| {
+    lend(Vec::new(rt.alloc()), |frame| {
         make_longest(&rt, frame)?;
         read_longest(&rt, frame)
     })
@@ -158,13 +158,16 @@ fn check_longer(
 }
 
 fn check_longer_frame(rt: &(impl Abort + AllocGlobal), frame: &mut Vec<u8>) -> Result<(), Fail> {
-    with_hub(rt.alloc(), (1, CELLS), |hub| check_longer(rt, hub, frame))
+    with(
+        new_hub(rt.alloc(), (1, CELLS)),
+        |hub| check_longer(rt, hub, frame),
+    )
 }
 
 /// A frame of one byte more isn't made, and the client's first one comes when it fits.
 #[test]
 fn a_longer_frame(rt: HostRuntime) -> Result<(), Fail> {
-    with_list(rt.alloc(), |frame| check_longer_frame(&rt, frame))
+    lend(Vec::new(rt.alloc()), |frame| check_longer_frame(&rt, frame))
 }
 
 /// The other sheet is shown for two pieces, and then the first one again.
@@ -186,7 +189,7 @@ fn show_row(alloc: Global, mut relayed: &[u8], output: &mut Vec<u8>) -> Result<(
 
 /// What was relayed shows an empty row.
 fn check_relayed(rt: &(impl Abort + AllocGlobal), relayed: &[u8]) -> Result<(), Fail> {
-    with_list(rt.alloc(), |shown| {
+    lend(Vec::new(rt.alloc()), |shown| {
         show_row(rt.alloc(), relayed, shown)?;
         same(rt, &shown.as_slice(), &b"\n".as_slice());
         Ok(())
@@ -195,7 +198,7 @@ fn check_relayed(rt: &(impl Abort + AllocGlobal), relayed: &[u8]) -> Result<(), 
 
 /// The frame that would lead back from the other sheet is too long.
 fn check_relay(rt: &(impl Abort + AllocGlobal), input: &[u8]) -> Result<(), Fail> {
-    with_list(rt.alloc(), |relayed| {
+    lend(Vec::new(rt.alloc()), |relayed| {
         let answer = relay_row(rt.alloc(), input, relayed);
         same(rt, &answer, &Err(RelayError::FrameTooLong));
         check_relayed(rt, relayed)
@@ -206,7 +209,7 @@ fn check_relay(rt: &(impl Abort + AllocGlobal), input: &[u8]) -> Result<(), Fail
 /// that sheet.
 #[test]
 fn a_relay_that_ends(rt: HostRuntime) -> Result<(), Fail> {
-    with_list(rt.alloc(), |input| {
+    lend(Vec::new(rt.alloc()), |input| {
         push_pairs(input, 30_000)?;
         show_other_sheet(input)?;
         check_relay(&rt, input)
@@ -239,7 +242,7 @@ fn push_rows(rows: &mut Vec<u8>, first: u16) -> Result<(), AllocError> {
 
 /// Makes the frames of two thousand lines.
 fn many_lines(rt: &impl AllocGlobal, frames: &mut Vec<u8>) -> Result<(), Fail> {
-    with_hub(rt.alloc(), (24, 80), |hub| {
+    with(new_hub(rt.alloc(), (24, 80)), |hub| {
         let client = hub.attach()?;
         lines(hub, client, 2_000, frames)
     })
@@ -247,7 +250,7 @@ fn many_lines(rt: &impl AllocGlobal, frames: &mut Vec<u8>) -> Result<(), Fail> {
 
 /// Adds what a view shows of these bytes but the last one.
 fn show_front(rt: &impl AllocGlobal, frames: &[u8], text: &mut Vec<u8>) -> Result<(), Fail> {
-    with_view(rt.alloc(), (24, 80), |view| {
+    with(new_view(rt.alloc(), (24, 80)), |view| {
         read_front(view, frames);
         write_view(view, text)?;
         Ok(())
@@ -256,7 +259,7 @@ fn show_front(rt: &impl AllocGlobal, frames: &[u8], text: &mut Vec<u8>) -> Resul
 
 /// The rows of a text are these.
 fn check_rows(rt: &(impl Abort + AllocGlobal), text: &[u8], first: u16) -> Result<(), Fail> {
-    with_list(rt.alloc(), |wanted| {
+    lend(Vec::new(rt.alloc()), |wanted| {
         push_rows(wanted, first)?;
         same_for(rt, &first, &text, &wanted.as_slice());
         Ok(())
@@ -265,7 +268,7 @@ fn check_rows(rt: &(impl Abort + AllocGlobal), text: &[u8], first: u16) -> Resul
 
 fn check_many(rt: &(impl Abort + AllocGlobal), frames: &[u8]) -> Result<(), Fail> {
     same_for(rt, &frames.len(), &(frames.len() > 3_800_000), &true);
-    with_list(rt.alloc(), |text| {
+    lend(Vec::new(rt.alloc()), |text| {
         show_front(rt, frames, text)?;
         check_rows(rt, text, 1_975)
     })
@@ -274,7 +277,7 @@ fn check_many(rt: &(impl Abort + AllocGlobal), frames: &[u8]) -> Result<(), Fail
 /// Two thousand frames in one piece, which lacks only its last byte, show the last of them but one.
 #[test]
 fn many_frames(rt: HostRuntime) -> Result<(), Fail> {
-    with_list(rt.alloc(), |frames| {
+    lend(Vec::new(rt.alloc()), |frames| {
         many_lines(&rt, frames)?;
         check_many(&rt, frames)
     })
@@ -283,7 +286,7 @@ fn many_frames(rt: HostRuntime) -> Result<(), Fail> {
 /// A screen of more than a million cells.
 #[test]
 fn many_cells(rt: HostRuntime) -> Result<(), Fail> {
-    with_view(rt.alloc(), (1_100, 1_000), |view| {
+    with(new_view(rt.alloc(), (1_100, 1_000)), |view| {
         view.advance(b"\x1b[1100;1000Hx");
         let wanted = ("x", Color::Default, Color::Default);
         same(&rt, &cell_of(view, 1_099, 999), &wanted);

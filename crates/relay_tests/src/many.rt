@@ -1,5 +1,5 @@
 //! Many clients on one hub, and the longest sides.
-use crate::owners::{with_hub, with_list};
+use crate::owners::{lend, new_hub, with};
 use crate::play::Step::{Attach, Feed, Frame, Pump, Resize, Unknown};
 use crate::play::play;
 use crate::same::same_for;
@@ -27,7 +27,7 @@ fn check_frame(
     client: Client,
     wanted: (Answer, &[u8]),
 ) -> Result<(), Fail> {
-    with_list(rt.alloc(), |kept| {
+    lend(Vec::new(rt.alloc()), |kept| {
         let answer = take_frame(hub, client, kept)?;
         same_for(rt, &client, &(answer, kept.as_slice()), &wanted);
         Ok(())
@@ -63,7 +63,7 @@ fn check_clients(
 }
 
 fn check_number(rt: &(impl Abort + AllocGlobal), hub: &mut Hub, number: usize) -> Result<(), Fail> {
-    with_list(rt.alloc(), |clients| {
+    lend(Vec::new(rt.alloc()), |clients| {
         check_clients(rt, hub, clients, number)
     })
 }
@@ -71,7 +71,10 @@ fn check_number(rt: &(impl Abort + AllocGlobal), hub: &mut Hub, number: usize) -
 #[test]
 fn clients(rt: HostRuntime) -> Result<(), Fail> {
     for number in [65, 1000] {
-        with_hub(rt.alloc(), (2, 4), |hub| check_number(&rt, hub, number))?;
+        with(
+            new_hub(rt.alloc(), (2, 4)),
+            |hub| check_number(&rt, hub, number),
+        )?;
     }
     Ok(())
 }

@@ -1,5 +1,5 @@
 //! A client among others: what comes of it is the same, whatever is done with the others.
-use crate::owners::{with_log, with_text};
+use crate::owners::{lend, with_log};
 use crate::same::{same, same_for};
 use crate::seen::client_of;
 use std::process::Abort;
@@ -142,7 +142,7 @@ fn tell_fate(
 
 /// The third client is told this, too.
 fn check_third(rt: &(impl Abort + AllocGlobal), first: &str) -> Result<(), Fail> {
-    with_text(rt.alloc(), |third| {
+    lend(String::new(rt.alloc()), |third| {
         tell_fate(rt, third, THIRD, 2)?;
         same(rt, &first, &third.as_str());
         Ok(())
@@ -151,7 +151,7 @@ fn check_third(rt: &(impl Abort + AllocGlobal), first: &str) -> Result<(), Fail>
 
 #[test]
 fn others_change_nothing(rt: HostRuntime) -> Result<(), Fail> {
-    with_text(rt.alloc(), |first| {
+    lend(String::new(rt.alloc()), |first| {
         tell_fate(&rt, first, FIRST, 0)?;
         check_third(&rt, first)
     })

@@ -1,40 +1,57 @@
-//! Who owns a test's hub, log, view, text or list: these functions alone. Each makes one and lends it to what the test
-//! does, so that what becomes of it at the end is proved in one place.
+//! Who owns a test's hub, log, view, text or list: these functions alone. Each lends it to what the test does, so that
+//! what becomes of it at the end is proved in one place.
 //!
 //! What was refused memory is made once more, so that tests that find none may also call them.
 
 use crate::seen::{Size, count};
-use crate::sinks::{Limit, Slow};
 use relay_streams::{RelayError, far_view};
 use std::alloc::Global;
+use std::fmt::Debug;
 use std::test::Fail;
 use termrelay::{Call, Client, Hub, HubError, Log};
 use termview::{UntilCleared, View, ViewError};
 
-fn new_hub(alloc: Global, (rows, cols): Size) -> Result<Hub, HubError> {
-    match Hub::new(alloc, count(rows), count(cols)) {
-        Ok(hub) => Ok(hub),
-        Err(_) => Hub::new(alloc, count(rows), count(cols)),
-    }
-}
-
-fn blank(alloc: Global, (rows, cols): Size) -> Result<View<UntilCleared>, ViewError> {
-    match View::new(alloc, count(rows), count(cols), UntilCleared::new()) {
-        Ok(view) => Ok(view),
-        Err(_) => View::new(alloc, count(rows), count(cols), UntilCleared::new()),
-    }
-}
-
-/// Does this with a hub of this size.
-pub fn with_hub<F: FnOnce(&mut Hub) -> Result<(), Fail>>(
-    alloc: Global,
-    size: Size,
+/// Does this with what the test owns.
+pub fn lend<T: Drop, F: FnOnce(&mut T) -> Result<(), Fail>>(
+    mut owned: T,
     check: F,
 ) -> Result<(), Fail>
     requires { F.IsAlwaysCallable check }
 {
-    let mut hub = new_hub(alloc, size)?;
-    check(&mut hub)
+    check(&mut owned)
+}
+
+/// Does this with what was made.
+pub fn with<T: Drop, E: Debug + Drop, F: FnOnce(&mut T) -> Result<(), Fail>>(
+    made: Result<T, E>,
+    check: F,
+) -> Result<(), Fail>
+    requires { F.IsAlwaysCallable check }
+{
+    lend(made?, check)
+}
+
+/// What this makes, at the second try if the first was refused.
+pub fn retried<T, E: Drop, F: Fn() -> Result<T, E>>(make: F) -> Result<T, E>
+    requires { F.IsAlwaysCallable make }
+{
+    match make() {
+        Ok(made) => Ok(made),
+        Err(_) => make(),
+    }
+}
+
+/// A hub of this size.
+pub fn new_hub(alloc: Global, (rows, cols): Size) -> Result<Hub, HubError> {
+    match Hub::new(alloc, count(rows), count(cols)) {
+        Err(HubError::Memory) => Hub::new(alloc, count(rows), count(cols)),
+        answer => answer,
+    }
+}
+
+/// A view of this size that shows nothing.
+pub fn new_view(alloc: Global, (rows, cols): Size) -> Result<View<UntilCleared>, ViewError> {
+    retried(|| View::new(alloc, count(rows), count(cols), UntilCleared::new()))
 }
 
 /// Does this with a hub of this size, and a log.
@@ -48,18 +65,6 @@ pub fn with_log<F: FnOnce(&mut Hub, &mut Log) -> Result<(), Fail>>(
     let mut hub = new_hub(alloc, size)?;
     let mut log = Log::new(alloc);
     check(&mut hub, &mut log)
-}
-
-/// Does this with a view of this size that shows nothing.
-pub fn with_view<F: FnOnce(&mut View<UntilCleared>) -> Result<(), Fail>>(
-    alloc: Global,
-    size: Size,
-    check: F,
-) -> Result<(), Fail>
-    requires { F.IsAlwaysCallable check }
-{
-    let mut view = blank(alloc, size)?;
-    check(&mut view)
 }
 
 /// The key that a new hub gives its first client.
@@ -100,42 +105,4 @@ pub fn with_far_view<F: FnOnce(&View<UntilCleared>) -> Result<(), Fail>>(
         Some(view) => check(&view),
         None => Err("no view".into()),
     }
-}
-
-/// Does this with an empty list.
-pub fn with_list<T: Drop, F: FnOnce(&mut Vec<T>) -> Result<(), Fail>>(
-    alloc: Global,
-    check: F,
-) -> Result<(), Fail>
-    requires { F.IsAlwaysCallable check }
-{
-    let mut list = Vec::new(alloc);
-    check(&mut list)
-}
-
-/// Does this with an empty text.
-pub fn with_text<F: FnOnce(&mut String) -> Result<(), Fail>>(
-    alloc: Global,
-    check: F,
-) -> Result<(), Fail>
-    requires { F.IsAlwaysCallable check }
-{
-    let mut text = String::new(alloc);
-    check(&mut text)
-}
-
-/// Does this with a writer of this limit.
-pub fn with_slow<F: FnOnce(&mut Slow) -> Result<(), Fail>>(
-    alloc: Global,
-    limit: Limit,
-    check: F,
-) -> Result<(), Fail>
-    requires { F.IsAlwaysCallable check }
-{
-    let mut slow = Slow {
-        kept: Vec::new(alloc),
-        limit,
-        writes: 0,
-    };
-    check(&mut slow)
 }

@@ -1,5 +1,5 @@
 //! Two frames in three pieces.
-use crate::owners::with_view;
+use crate::owners::{new_view, with};
 use crate::seen::check_drawn;
 use std::process::Abort;
 use std::test::Fail;
@@ -27,7 +27,7 @@ fn two_frames(rt: HostRuntime) -> Result<(), Fail> {
             let first = &FRAMES[..first_cut];
             let second = &FRAMES[first_cut..second_cut];
             let pieces = [first, second, &FRAMES[second_cut..last]];
-            with_view(rt.alloc(), (24, 80), |view| {
+            with(new_view(rt.alloc(), (24, 80)), |view| {
                 check_pieces(&rt, view, pieces);
                 Ok(())
             })?;

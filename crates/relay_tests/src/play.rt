@@ -1,14 +1,15 @@
 //! A hub at work: what each call answers, and what each client is owed then.
 //!
 //! A call that found no memory has changed nothing and is made again, but for a feed, after which the hub has failed.
+use crate::owners::{new_hub, retried};
 use crate::same::same_for;
-use crate::seen::{count, fault_of};
+use crate::seen::{Size, count, fault_of};
 use crate::sinks::Sink;
 use std::alloc::{AllocError, Global};
 use std::io::ErrorKind;
 use std::process::Abort;
 use std::test::Fail;
-use termrelay::{Answer, Client, Hub, HubError, Screen};
+use termrelay::{Answer, Client, Hub, HubError};
 use termview::Color;
 
 /// What is done with a hub, and what has to come of it. Clients are counted in the order of their coming.
@@ -49,21 +50,6 @@ struct Stage {
     places: Vec<Place>,
 }
 
-fn new_hub(alloc: Global, rows: u16, cols: u16) -> Result<Hub, HubError> {
-    match Hub::new(alloc, count(rows), count(cols)) {
-        Err(HubError::Memory) => Hub::new(alloc, count(rows), count(cols)),
-        answer => answer,
-    }
-}
-
-/// The text of a screen's rows, at the second try if the first was refused.
-fn retried_contents(screen: &Screen) -> Result<String, Fail> {
-    match screen.contents() {
-        Ok(contents) => Ok(contents),
-        Err(_) => Ok(screen.contents()?),
-    }
-}
-
 /// The client isn't known, says this answer.
 fn is_unknown<T>(answer: &Result<T, HubError>) -> bool {
     matches!(answer, Err(HubError::UnknownClient))
@@ -74,10 +60,7 @@ const MAX_CLIENTS: usize = 66;
 
 /// Room for so many clients.
 fn no_places(alloc: Global) -> Result<Vec<Place>, AllocError> {
-    match Vec::with_capacity(alloc, MAX_CLIENTS) {
-        Ok(places) => Ok(places),
-        Err(_) => Vec::with_capacity(alloc, MAX_CLIENTS),
-    }
+    retried(|| Vec::with_capacity(alloc, MAX_CLIENTS))
 }
 
 /// What a client has to be owed.
@@ -207,7 +190,7 @@ impl Stage {
 
     fn check_shown(&self, rt: &impl Abort, text: &str, cursor: (u16, u16)) -> Result<(), Fail> {
         let screen = self.hub.screen();
-        let contents = retried_contents(screen)?;
+        let contents = retried(|| screen.contents())?;
         let shown = (contents.as_str(), screen.cursor_position());
         same_for(rt, &"screen", &shown, &(text, cursor));
         Ok(())
@@ -269,10 +252,10 @@ impl Stage {
     }
 }
 
-fn new_stage(alloc: Global, (rows, cols): (u16, u16)) -> Result<Stage, Fail> {
+fn new_stage(alloc: Global, size: Size) -> Result<Stage, Fail> {
     Ok(Stage {
         places: no_places(alloc)?,
-        hub: new_hub(alloc, rows, cols)?,
+        hub: new_hub(alloc, size)?,
     })
 }
 

@@ -1,4 +1,5 @@
 //! Writers.
+use std::alloc::Global;
 use std::io;
 use std::io::{ErrorKind, Write};
 
@@ -39,6 +40,17 @@ pub struct Slow {
     pub kept: Vec<u8>,
     pub limit: Limit,
     pub writes: usize,
+}
+
+impl Slow {
+    /// One that has taken nothing.
+    pub fn new(alloc: Global, limit: Limit) -> Slow {
+        Slow {
+            kept: Vec::new(alloc),
+            limit,
+            writes: 0,
+        }
+    }
 }
 
 impl Write for Slow {

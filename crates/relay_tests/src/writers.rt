@@ -1,5 +1,5 @@
 //! Writers that take little, are interrupted or take nothing.
-use crate::owners::{with_hub, with_slow};
+use crate::owners::{lend, new_hub, with};
 use crate::runs::BLANK;
 use crate::same::same_for;
 use crate::seen::fault_of;
@@ -46,14 +46,20 @@ fn check_pump(
 }
 
 fn check_limit(rt: &(impl Abort + AllocGlobal), slow: &mut Slow, row: Row) -> Result<(), Fail> {
-    with_hub(rt.alloc(), (24, 80), |hub| check_pump(rt, hub, slow, row))
+    with(
+        new_hub(rt.alloc(), (24, 80)),
+        |hub| check_pump(rt, hub, slow, row),
+    )
 }
 
 #[test]
 fn habits(rt: HostRuntime) -> Result<(), Fail> {
     for row in LIMITS {
         let (limit, _, _, _) = *row;
-        with_slow(rt.alloc(), limit, |slow| check_limit(&rt, slow, *row))?;
+        lend(
+            Slow::new(rt.alloc(), limit),
+            |slow| check_limit(&rt, slow, *row),
+        )?;
     }
     Ok(())
 }

@@ -1,5 +1,5 @@
 //! Hubs and runs that find no memory.
-use crate::owners::{with_hub, with_log, with_view};
+use crate::owners::{new_hub, new_view, with, with_log};
 use crate::refusals::far::Far;
 use crate::refusals::owing::{HI, attach_and_frame, check_owed, owing};
 use crate::same::same_for;
@@ -42,7 +42,10 @@ fn check_pump(
 }
 
 fn check_shown(rt: &(impl Abort + AllocGlobal), hub: &mut Hub, client: Client) -> Result<(), Fail> {
-    with_view(rt.alloc(), (2, 4), |view| check_pump(rt, hub, client, view))
+    with(
+        new_view(rt.alloc(), (2, 4)),
+        |view| check_pump(rt, hub, client, view),
+    )
 }
 
 /// What is fed takes memory. Without it the hub has failed, and what was owed before can still be sent.
@@ -61,16 +64,18 @@ fn check_feed(rt: &(impl Abort + AllocGlobal), hub: &mut Hub, bytes: &[u8]) -> R
 
 #[test]
 fn an_alternate_sheet(rt: HostRuntime) -> Result<(), Fail> {
-    with_hub(
-        rt.alloc(),
-        (2, 4),
+    with(
+        new_hub(rt.alloc(), (2, 4)),
         |hub| check_feed(&rt, hub, b"\x1b[?1049hz"),
     )
 }
 
 #[test]
 fn a_reset(rt: HostRuntime) -> Result<(), Fail> {
-    with_hub(rt.alloc(), (2, 4), |hub| check_feed(&rt, hub, b"z\x1bcz"))
+    with(
+        new_hub(rt.alloc(), (2, 4)),
+        |hub| check_feed(&rt, hub, b"z\x1bcz"),
+    )
 }
 
 fn check_resize(rt: &impl Abort, hub: &mut Hub) -> Result<(), Fail> {
@@ -87,7 +92,7 @@ fn check_resize(rt: &impl Abort, hub: &mut Hub) -> Result<(), Fail> {
 /// Refused, it ends no client.
 #[test]
 fn a_resize(rt: HostRuntime) -> Result<(), Fail> {
-    with_hub(rt.alloc(), (2, 4), |hub| check_resize(&rt, hub))
+    with(new_hub(rt.alloc(), (2, 4)), |hub| check_resize(&rt, hub))
 }
 
 /// A reply in words.

@@ -1,24 +1,21 @@
 //! Views, processors and streams that find no memory.
 ghost use Rattle.std.specs.Prelude.{⊤};
 
-use crate::owners::{first_key, with_far_view, with_view};
+use crate::far_views::{check_cut, two_frames};
+use crate::owners::{first_key, new_view, retried, with};
 use crate::same::same_for;
-use crate::seen::{Drawn, cell_of, check_drawn, count};
+use crate::seen::{Drawn, cell_of, count};
 use relay_streams::{RelayError, relay, show};
 use scripted_io::Narrow;
 use std::alloc::{AllocError, Global};
 use std::process::Abort;
 use std::test::Fail;
-use termrelay::Call;
 use termview::{Color, UntilCleared, View};
 use vte::ansi::{Handler, OutOfMemory, Processor};
 
 /// Room for so many bytes, made at the second try if the first was refused.
 fn room(alloc: Global, length: usize) -> Result<Vec<u8>, AllocError> {
-    match Vec::with_capacity(alloc, length) {
-        Ok(room) => Ok(room),
-        Err(_) => Vec::with_capacity(alloc, length),
-    }
+    retried(|| Vec::with_capacity(alloc, length))
 }
 
 fn check_view(rt: &impl Abort, view: &View<UntilCleared>) {
@@ -29,7 +26,7 @@ fn check_view(rt: &impl Abort, view: &View<UntilCleared>) {
 
 #[test]
 fn views(rt: HostRuntime) -> Result<(), Fail> {
-    with_view(rt.alloc(), (2, 4), |view| {
+    with(new_view(rt.alloc(), (2, 4)), |view| {
         view.advance(b"\x1b[31mhi\x1b[?2026hx");
         check_view(&rt, view);
         Ok(())
@@ -52,10 +49,7 @@ impl Handler for Count {
 
 /// A processor, made at the second try if the first was refused.
 fn new_processor(alloc: Global) -> Result<Processor<UntilCleared, Global>, OutOfMemory> {
-    match Processor::new(alloc, UntilCleared::new()) {
-        Ok(processor) => Ok(processor),
-        Err(_) => Processor::new(alloc, UntilCleared::new()),
-    }
+    retried(|| Processor::new(alloc, UntilCleared::new()))
 }
 
 #[test]
@@ -71,33 +65,13 @@ fn processors(rt: HostRuntime) -> Result<(), Fail> {
 /// How many bytes of two frames are taken, and the cell and the cursor then.
 const TAKEN: &[(usize, Drawn)] = &[(102, ("R", 1, (0, 16))), (103, ("G", 2, (0, 18)))];
 
-/// A far view of so many bytes is drawn so.
-fn check_far_view(
-    rt: &(impl Abort + AllocGlobal),
-    calls: &[Call<'_>],
-    take: usize,
-    wanted: Drawn,
-) -> Result<(), Fail> {
-    with_far_view(rt.alloc(), (24, 80), calls, (take, &[50]), |view| {
-        check_drawn(rt, &take, view, (0, 13), wanted);
-        Ok(())
-    })
-}
-
 #[test]
 fn far_views(rt: HostRuntime) -> Result<(), Fail> {
     let client = first_key(rt.alloc())?;
-    let calls = [
-        Call::Attach,
-        Call::Feed(b"this text is \x1b[31mRED\x1b[m"),
-        Call::Frame(client),
-        Call::Pump(client, &[]),
-        Call::Feed(b"\x1b[3D\x1b[32mGREEN"),
-        Call::Frame(client),
-        Call::Pump(client, &[]),
-    ];
+    let streams: (&[u8], &[u8]) = (b"this text is \x1b[31mRED\x1b[m", b"\x1b[3D\x1b[32mGREEN");
+    let calls = two_frames(client, streams);
     for (take, wanted) in TAKEN {
-        check_far_view(&rt, &calls, *take, *wanted)?;
+        check_cut(&rt, &calls, (*take, 50), *wanted)?;
     }
     Ok(())
 }

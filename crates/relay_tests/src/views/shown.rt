@@ -1,5 +1,5 @@
 //! Views as texts.
-use crate::owners::with_text;
+use crate::owners::lend;
 use crate::same::same_for;
 use std::fmt::Debug;
 use std::process::Abort;
@@ -47,7 +47,7 @@ pub fn check_shown<A: Debug>(
     wanted: &str,
     held: usize,
 ) -> Result<(), Fail> {
-    with_text(rt.alloc(), |text| {
+    lend(String::new(rt.alloc()), |text| {
         push_shown(text, view)?;
         let found = (text.as_str(), view.sync_bytes_count());
         same_for(rt, asked, &found, &(wanted, held));
@@ -96,7 +96,7 @@ pub fn check_settings<A: Debug>(
     view: &View<UntilCleared>,
     wanted: &str,
 ) -> Result<(), Fail> {
-    with_text(rt.alloc(), |text| {
+    lend(String::new(rt.alloc()), |text| {
         push_settings(text, view)?;
         same_for(rt, asked, &text.as_str(), &wanted);
         Ok(())

@@ -1,5 +1,5 @@
 //! Streams on a view.
-use crate::owners::with_view;
+use crate::owners::{new_view, with};
 use crate::same::same_for;
 use crate::seen::{Size, cell_of};
 use crate::views::shown::{check_settings, check_shown, feed};
@@ -35,7 +35,7 @@ const STREAMS: &[(Size, &str, &str)] = &[
 #[test]
 fn streams(rt: HostRuntime) -> Result<(), Fail> {
     for (size, stream, wanted) in STREAMS {
-        with_view(rt.alloc(), *size, |view| {
+        with(new_view(rt.alloc(), *size), |view| {
             feed(view, stream.as_bytes());
             check_shown(&rt, stream, view, wanted, 0)
         })?;
@@ -79,7 +79,7 @@ const SETTINGS: &[(&str, &str)] = &[
 #[test]
 fn modes_and_attributes(rt: HostRuntime) -> Result<(), Fail> {
     for (stream, wanted) in SETTINGS {
-        with_view(rt.alloc(), (2, 4), |view| {
+        with(new_view(rt.alloc(), (2, 4)), |view| {
             feed(view, stream.as_bytes());
             check_settings(&rt, stream, view, wanted)
         })?;
@@ -99,7 +99,7 @@ const COLORS: &[(&str, Color)] = &[
 #[test]
 fn colors(rt: HostRuntime) -> Result<(), Fail> {
     for (stream, wanted) in COLORS {
-        with_view(rt.alloc(), (1, 3), |view| {
+        with(new_view(rt.alloc(), (1, 3)), |view| {
             feed(view, stream.as_bytes());
             let wanted = ("A", *wanted, Color::Default);
             same_for(&rt, stream, &cell_of(view, 0, 0), &wanted);

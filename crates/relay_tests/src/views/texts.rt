@@ -1,5 +1,5 @@
 //! The texts of rows, and writers that fail.
-use crate::owners::{with_list, with_slow, with_view};
+use crate::owners::{lend, new_view, with};
 use crate::same::same_for;
 use crate::sinks::{Limit, Slow};
 use crate::views::shown::feed;
@@ -24,7 +24,7 @@ fn check_text(
     row: u16,
     wanted: &str,
 ) -> Result<(), Fail> {
-    with_list(rt.alloc(), |text| {
+    lend(Vec::new(rt.alloc()), |text| {
         view.row_text(row, text)?;
         same_for(rt, &row, &text.as_slice(), &wanted.as_bytes());
         Ok(())
@@ -34,7 +34,7 @@ fn check_text(
 #[test]
 fn texts_of_rows(rt: HostRuntime) -> Result<(), Fail> {
     for (stream, row, wanted) in TEXTS {
-        with_view(rt.alloc(), (2, 4), |view| {
+        with(new_view(rt.alloc(), (2, 4)), |view| {
             feed(view, stream.as_bytes());
             check_text(&rt, view, *row, wanted)
         })?;
@@ -71,7 +71,7 @@ fn check_fault(
 
 fn check_faults(rt: &(impl Abort + AllocGlobal), view: &View<UntilCleared>) -> Result<(), Fail> {
     for (limit, wanted) in FAULTS {
-        with_slow(rt.alloc(), *limit, |slow| {
+        lend(Slow::new(rt.alloc(), *limit), |slow| {
             check_fault(rt, view, slow, *wanted);
             Ok(())
         })?;
@@ -81,7 +81,7 @@ fn check_faults(rt: &(impl Abort + AllocGlobal), view: &View<UntilCleared>) -> R
 
 #[test]
 fn faults_of_writers(rt: HostRuntime) -> Result<(), Fail> {
-    with_view(rt.alloc(), (2, 4), |view| {
+    with(new_view(rt.alloc(), (2, 4)), |view| {
         feed(view, b"hi");
         check_faults(&rt, view)
     })

@@ -1,5 +1,5 @@
 //! Synchronized updates: the frames of a screen, whole and in part.
-use crate::owners::with_view;
+use crate::owners::{new_view, with};
 use crate::seen::Size;
 use crate::views::shown::{check_settings, check_shown, feed};
 use std::process::Abort;
@@ -55,7 +55,7 @@ const FRAMES: &[(Size, &str, &str, &str)] = &[
 #[test]
 fn frames(rt: HostRuntime) -> Result<(), Fail> {
     for (size, first, next, wanted) in FRAMES {
-        with_view(rt.alloc(), *size, |view| {
+        with(new_view(rt.alloc(), *size), |view| {
             read(view, &[RESET, first, MODES]);
             read(view, &[next]);
             check_shown(&rt, &(first, next), view, wanted, 0)
@@ -73,7 +73,7 @@ const PARTS: &[&str] = &[
 
 #[test]
 fn modes_of_a_frame(rt: HostRuntime) -> Result<(), Fail> {
-    with_view(rt.alloc(), (1, 3), |view| {
+    with(new_view(rt.alloc(), (1, 3)), |view| {
         read(view, PARTS);
         let wanted = "kc PressRelease Sgr SteadyUnderline Idx(9) Default  ";
         check_settings(&rt, &"modes", view, wanted)
@@ -89,7 +89,7 @@ fn check_held(rt: &(impl Abort + AllocGlobal), view: &mut View<UntilCleared>) ->
 
 #[test]
 fn an_update_is_held(rt: HostRuntime) -> Result<(), Fail> {
-    with_view(rt.alloc(), (2, 4), |view| check_held(&rt, view))
+    with(new_view(rt.alloc(), (2, 4)), |view| check_held(&rt, view))
 }
 
 /// A first frame, of two characters.
@@ -100,15 +100,18 @@ fn held(given: usize) -> usize {
     given.saturating_sub(START.len())
 }
 
-/// A frame that is cut here shows at its last byte, and not before.
-fn check_cut(
+/// A frame shows at its end, and nothing is held then, whatever is done with the view where it is cut.
+fn check_cut<F: FnOnce(&mut View<UntilCleared>) -> Result<(), Fail>>(
     rt: &(impl Abort + AllocGlobal),
     view: &mut View<UntilCleared>,
     cut: usize,
-) -> Result<(), Fail> {
+    act: F,
+) -> Result<(), Fail>
+    requires { F.IsAlwaysCallable act }
+{
     let (front, rest) = FRAME.split_at(cut.min(FRAME.len()));
     feed(view, front);
-    check_shown(rt, &cut, view, "..../..../ 0 0", held(cut))?;
+    act(view)?;
     feed(view, rest);
     check_shown(rt, &cut, view, "hi../..../ 0 2", 0)
 }
@@ -116,28 +119,24 @@ fn check_cut(
 #[test]
 fn a_frame_is_never_torn(rt: HostRuntime) -> Result<(), Fail> {
     for cut in 0..FRAME.len() {
-        with_view(rt.alloc(), (2, 4), |view| check_cut(&rt, view, cut))?;
+        with(new_view(rt.alloc(), (2, 4)), |view| {
+            check_cut(&rt, view, cut, |view| {
+                check_shown(&rt, &cut, view, "..../..../ 0 0", held(cut))
+            })
+        })?;
     }
     Ok(())
-}
-
-/// Wherever its update is stopped, a whole frame shows in the end, and nothing is held.
-fn check_stop(
-    rt: &(impl Abort + AllocGlobal),
-    view: &mut View<UntilCleared>,
-    cut: usize,
-) -> Result<(), Fail> {
-    let (front, rest) = FRAME.split_at(cut.min(FRAME.len()));
-    feed(view, front);
-    view.stop_sync();
-    feed(view, rest);
-    check_shown(rt, &cut, view, "hi../..../ 0 2", 0)
 }
 
 #[test]
 fn a_stop_after_any_byte(rt: HostRuntime) -> Result<(), Fail> {
     for cut in 1..FRAME.len() + 1 {
-        with_view(rt.alloc(), (2, 4), |view| check_stop(&rt, view, cut))?;
+        with(new_view(rt.alloc(), (2, 4)), |view| {
+            check_cut(&rt, view, cut, |view| {
+                view.stop_sync();
+                Ok(())
+            })
+        })?;
     }
     Ok(())
 }
