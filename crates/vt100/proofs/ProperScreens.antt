@@ -61,9 +61,19 @@ proper_drawn LineFeed g a h p = proper_fed g 1 p
 proper_drawn (ScrollUp n) g a h p = proper_scrolled_up g n p
 
 -- what the calls that draw on it keep
-pub ruleset drawn_rules = (drawn_screen, proper_cells_inserted, proper_cells_deleted, proper_columns_erased,
-    proper_row_erased, proper_all_erased, proper_all_erased_forward, proper_all_erased_backward, proper_lines_inserted,
-    proper_lines_deleted, proper_scrolled_down)
+pub ruleset drawn_rules = (
+  drawn_screen,
+  proper_cells_inserted,
+  proper_cells_deleted,
+  proper_columns_erased,
+  proper_row_erased,
+  proper_all_erased,
+  proper_all_erased_forward,
+  proper_all_erased_backward,
+  proper_lines_inserted,
+  proper_lines_deleted,
+  proper_scrolled_down,
+)
 
 -- ---- another size
 
