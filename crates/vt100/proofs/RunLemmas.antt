@@ -139,13 +139,13 @@ module _ {C : Type 0} (scrolls : C → RowView → Bool → C → Type 0) where
       (run-spacing p.screen.state.shown.width some run is))) x
 
   -- a run on a sheet; at a refusal the callbacks heard of the rows that left while a front was printed
-  pub draws_run : {E : Type 0} {g h : GridView} {s t : Reporter C} (xs : List ℕ) (a : Attrs)
-      (result : Result (Unit {0}) E) → OnOk result (h ≡ (printed_all g xs a).grid)
+  pub draws_run : {A E : Type 0} {g h : GridView} {s t : Reporter C} (xs : List ℕ) (a : Attrs)
+      (result : Result A E) → OnOk result (h ≡ (printed_all g xs a).grid)
       → OnOk result (TakesAll (Reports scrolls) s (printed_all g xs a).sunk t)
       → OnErr result (TakesFront (Reports scrolls) s g xs a t) → SameLimits g h
       → (g.kept.capacity ≡ 0 → IsOk result) → IsAllocated h → Draws scrolls (printed_all g xs a) g s result h t
   draws_run xs a (Ok u) is taken begun limits keeps some = draws_all scrolls (Ok u) is taken limits keeps some
-  draws_run {E} {g} {h} {s} {t} xs a (Err e) is taken begun limits keeps some =
+  draws_run {A} {E} {g} {h} {s} {t} xs a (Err e) is taken begun limits keeps some =
       let front = printed_all g begun.0 a in
       let rest = printed_all front.grid begun.1 a in
       let reports = reports_of s.alternate_screen in

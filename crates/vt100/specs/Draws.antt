@@ -4,46 +4,58 @@ use Rattle.vt100_forms.specs.declared.attrs.Attrs.{Attrs}
 use Rattle.vt100_rows.specs.Row.{RowView}
 use Rattle.vt100_core.specs.Grid.{GridView, IsAllocated, SameLimits}
 use Rattle.vt100_core.specs.Scroll.{Scrolled, fed, scrolled_up}
-use Rattle.vt100_core.specs.Text.{PrintedGrid, printed_all}
+use Rattle.vt100_core.specs.Text.{PrintedGrid, printed, printed_all}
+use Rattle.vt100_core.specs.declared.printed.Printed.{Printed}
+use Rattle.vt100_core.specs.declared.printed.Printed.TheVariants.{Nothing, Spacing}
 use Rattle.screen_model.specs.State.{State}
-use Rattle.screen_model.specs.Step.{Stepped, reports_of}
+use Rattle.screen_model.specs.Step.{Stepped, last_after, reports_of}
 use Rattle.screen_model.specs.Call.{Hears}
 use Rattle.vt100.specs.declared.screen.reported.Drawing.{Drawing}
-use Rattle.vt100.specs.declared.screen.reported.Drawing.TheVariants.{Characters, LineFeed, ScrollUp}
+use Rattle.vt100.specs.declared.screen.reported.Drawing.TheVariants.{Character, Characters, LineFeed, ScrollUp}
 use Rattle.vt100.specs.declared.screen.reported.Reporter.{Reporter}
 use Rattle.vt100.specs.Runs.{IsRun, characters, last_of}
 use Rattle.vt100.specs.Tries.{HearsFront}
 
 -- a sheet of w columns has room for what is drawn
 abbrev pub IsDrawable : ℕ → Drawing → Type 0
+IsDrawable w (Character c) = Unit {0}
 IsDrawable w (Characters run) = IsRun w run
 IsDrawable w LineFeed = Unit {0}
 IsDrawable w (ScrollUp n) = Unit {0}
 
--- what becomes of a sheet, drawn on with these attributes, and the rows that leave it
+-- what one character makes of a sheet, and the rows that leave it
+abbrev pub scrolled_of : PrintedGrid → Scrolled
+scrolled_of d = record { grid = d.grid; sunk = d.sunk }
+
+-- the same of what is drawn with these attributes
 abbrev pub drawn : Drawing → GridView → Attrs → Scrolled
+drawn (Character c) g a = scrolled_of (printed g c a)
 drawn (Characters run) g a = printed_all g (characters run) a
 drawn LineFeed g a = fed g 1
 drawn (ScrollUp n) g a = scrolled_up g n
 
--- the last character that was drawn, where there was one before
-abbrev pub last_drawn : Drawing → Option ℕ → Option ℕ
-last_drawn (Characters run) last = last_of (characters run) last
-last_drawn LineFeed last = last
-last_drawn (ScrollUp n) last = last
+-- what becomes of the last character
+abbrev pub printed_by : Drawing → GridView → Attrs → Printed
+printed_by (Character c) g a = (printed g c a).printed
+printed_by (Characters run) g a = Spacing
+printed_by LineFeed g a = Nothing
+printed_by (ScrollUp n) g a = Nothing
 
--- the same of the shown sheet
+-- the last character that was drawn in a cell of its own, where there was one before
+abbrev pub last_drawn : Drawing → Printed → Option ℕ → Option ℕ
+last_drawn (Character c) p last = last_after p c last
+last_drawn (Characters run) p last = last_of (characters run) last
+last_drawn LineFeed p last = last
+last_drawn (ScrollUp n) p last = last
+
+-- what becomes of the shown sheet
 abbrev pub drawn_on : Drawing → State → Stepped
 drawn_on d s =
     let x = drawn d s.shown s.attrs in
     record {
-      state = record s { shown = x.grid; last = last_drawn d s.last };
+      state = record s { shown = x.grid; last = last_drawn d (printed_by d s.shown s.attrs) s.last };
       reports = reports_of s.alternate x.sunk;
     }
-
--- the same of one character
-abbrev pub scrolled_of : PrintedGrid → Scrolled
-scrolled_of d = record { grid = d.grid; sunk = d.sunk }
 
 -- A call that makes x of a sheet g, which is then h, and tells the callbacks of a reporter s, which is then t, of the
 -- rows that leave. It finds no memory only where rows are kept; then what h shows is open, but not its bounds, and the

@@ -3,11 +3,10 @@ ghost use Rattle.std.specs.Prelude.{◌≡◌, ◌⊎◌, ◌++◌, OnOk, OnErr,
 ghost use Rattle.vt100_core.specs.Grid.{IsAllocated};
 ghost use Rattle.vt100_core.specs.Scroll.{scrollback_erased};
 ghost use Rattle.vt100_core.specs.Resize.{resized};
-ghost use Rattle.vt100_core.specs.Text.{printed};
 ghost use Rattle.screen_model.specs.Step.{reports_of};
 ghost use Rattle.screen_model.specs.Call.{Hears};
 ghost use Rattle.vt100.specs.Tries.{HearsFront};
-ghost use Rattle.vt100.specs.Draws.{IsDrawable, Draws, drawn, scrolled_of};
+ghost use Rattle.vt100.specs.Draws.{IsDrawable, Draws, drawn, printed_by};
 
 use crate::callbacks::Callbacks;
 use vt100_core::attrs::Attrs;
@@ -31,22 +30,6 @@ impl<'a, CB: Callbacks> RowSink for Reporter<'a, CB> {
     }
 }
 
-/// A character.
-#[inline]
-pub(super) fn print<CB: Callbacks>(
-    grid: &mut Grid,
-    reporter: &mut Reporter<'_, CB>,
-    c: char,
-    attrs: Attrs,
-) -> Result<Printed, GridError>
-    requires { IsAllocated grid.old }
-    ensures drawn { Draws CB.scrolls (scrolled_of (printed grid.old c attrs)) grid.old reporter.old result grid.new
-        reporter.new }
-    ensures answer { IfOk result (λ p. p ≡ (printed grid.old c attrs).printed) }
-{
-    grid.text(c, attrs, reporter)
-}
-
 /// Characters that each stand in cells of their own, one after another.
 #[derive(Clone, Copy)]
 pub(crate) enum Run<'a> {
@@ -59,32 +42,45 @@ pub(crate) enum Run<'a> {
 /// What may have rows leave a sheet.
 #[derive(Clone, Copy)]
 pub(super) enum Drawing<'a> {
+    Character(char),
     Characters(Run<'a>),
     LineFeed,
     /// The scroll region moves up.
     ScrollUp(u16),
 }
 
-/// Draws on a sheet, and gives the reporter the rows that leave it.
+/// Draws on a sheet, and gives the reporter the rows that leave it. Answers what became of the last character.
 #[inline]
 pub(super) fn draw<CB: Callbacks>(
     grid: &mut Grid,
     reporter: &mut Reporter<'_, CB>,
     drawing: Drawing<'_>,
     attrs: Attrs,
-) -> Result<(), GridError>
+) -> Result<Printed, GridError>
     requires allocated { IsAllocated grid.old }
     requires drawable { IsDrawable grid.old.width drawing }
-    ensures { Draws CB.scrolls (drawn drawing.entry grid.old attrs) grid.old reporter.old result grid.new reporter.new }
+    ensures drawn { Draws CB.scrolls (drawn drawing.entry grid.old attrs) grid.old reporter.old result grid.new
+        reporter.new }
+    ensures answer { IfOk result (λ p. p ≡ printed_by drawing.entry grid.old attrs) }
 {
     match drawing {
-        Drawing::Characters(Run::Narrow(text)) => grid.text_run(text, attrs, reporter),
-        Drawing::Characters(Run::Wide(text)) => grid.wide_run(text, attrs, reporter),
+        Drawing::Character(c) => grid.text(c, attrs, reporter),
+        Drawing::Characters(Run::Narrow(text)) => {
+            grid.text_run(text, attrs, reporter)?;
+            Ok(Printed::Spacing)
+        }
+        Drawing::Characters(Run::Wide(text)) => {
+            grid.wide_run(text, attrs, reporter)?;
+            Ok(Printed::Spacing)
+        }
         Drawing::LineFeed => {
             grid.row_inc_scroll(1, reporter)?;
-            Ok(())
+            Ok(Printed::Nothing)
         }
-        Drawing::ScrollUp(count) => grid.scroll_up(count, reporter),
+        Drawing::ScrollUp(count) => {
+            grid.scroll_up(count, reporter)?;
+            Ok(Printed::Nothing)
+        }
     }
 }
 

@@ -8,7 +8,7 @@ ghost use Rattle.vt100.specs.declared.error.ScreenError.TheVariants.{Memory};
 
 use crate::callbacks::Callbacks;
 use crate::error::ScreenError;
-use crate::screen::reported::{Drawing, Reporter, Run, draw, print};
+use crate::screen::reported::{Drawing, Reporter, Run, draw};
 use crate::screen::{Screen, settle};
 use vt100_core::Printed;
 
@@ -31,18 +31,7 @@ impl<CB: Callbacks> WrappedScreen<CB> {
     pub fn text(&mut self, c: char) -> Result<(), ScreenError>
         ensures { MayScroll CB.scrolls (typed c) self.old result self.new }
     {
-        if self.screen.failed {
-            return Err(ScreenError::Failed);
-        }
-        let attrs = self.screen.attrs;
-        let mut reporter = Reporter {
-            callbacks: &mut self.callbacks,
-            alternate_screen: self.screen.alternate_screen,
-        };
-        let printed = print(&mut self.screen.grid, &mut reporter, c, attrs);
-        let printed = settle(&mut self.screen.failed, printed)?;
-        self.screen.last_char = last_after(printed, c, self.screen.last_char);
-        Ok(())
+        self.draw(Drawing::Character(c))
     }
 
     /// Prints the characters of a run as [`text`](Self::text) of each in turn does.
@@ -55,6 +44,7 @@ impl<CB: Callbacks> WrappedScreen<CB> {
     }
 
     /// Draws on the shown sheet, and tells the callbacks of the rows that leave it.
+    #[inline]
     fn draw(&mut self, drawing: Drawing<'_>) -> Result<(), ScreenError>
         requires { IsDrawable self.old.screen.state.shown.width drawing }
         ensures { MayScroll CB.scrolls (drawn_on drawing.entry) self.old result self.new }
@@ -68,8 +58,8 @@ impl<CB: Callbacks> WrappedScreen<CB> {
             alternate_screen: self.screen.alternate_screen,
         };
         let drawn = draw(&mut self.screen.grid, &mut reporter, drawing, attrs);
-        settle(&mut self.screen.failed, drawn)?;
-        self.screen.last_char = last_drawn(drawing, self.screen.last_char);
+        let printed = settle(&mut self.screen.failed, drawn)?;
+        self.screen.last_char = last_drawn(drawing, printed, self.screen.last_char);
         Ok(())
     }
 
@@ -119,10 +109,11 @@ impl<CB: Callbacks> WrappedScreen<CB> {
 
 /// The last character of what is drawn, or where there is none the one before it.
 #[inline]
-fn last_drawn(drawing: Drawing<'_>, last: Option<char>) -> Option<char>
-    ensures { result ≡ last_drawn drawing.entry last }
+fn last_drawn(drawing: Drawing<'_>, printed: Printed, last: Option<char>) -> Option<char>
+    ensures { result ≡ last_drawn drawing.entry printed last }
 {
     match drawing {
+        Drawing::Character(c) => last_after(printed, c, last),
         Drawing::Characters(Run::Narrow([.., byte])) => Some(*byte as char),
         Drawing::Characters(Run::Wide([.., c])) => Some(*c),
         _ => last,
