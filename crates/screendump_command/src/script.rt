@@ -4,9 +4,7 @@ use crate::dump::push_screen;
 use crate::error::DumpError;
 use crate::hex_digits::digit_value;
 use crate::stream::{flush, write_text};
-use crate::texts::{
-    push_check, push_diffs, push_rows, push_rows_diff, push_rows_formatted, push_text, push_texts,
-};
+use crate::texts::{push_check, push_diffs, push_rows, push_text, push_texts};
 use command_line::read_all;
 use std::alloc::Global;
 use std::io::Read;
@@ -255,11 +253,18 @@ impl Replay {
             Question::Texts => push_texts(answer, screen)?,
             Question::Diffs => push_diffs(answer, screen, base)?,
             Question::Check => push_check(self.alloc, answer, screen, base)?,
-            Question::Rows(start, width) => push_rows(answer, screen, start, width)?,
-            Question::RowsFormatted(start, width) => {
-                push_rows_formatted(answer, screen, start, width)?
+            Question::Rows(start, width) => {
+                let rows = screen.rows(start, width);
+                push_rows(answer, screen, "row", rows)?;
             }
-            Question::RowsDiff(start, width) => push_rows_diff(answer, screen, base, start, width)?,
+            Question::RowsFormatted(start, width) => {
+                let rows = screen.rows_formatted(start, width);
+                push_rows(answer, screen, "row_formatted", rows)?;
+            }
+            Question::RowsDiff(start, width) => {
+                let rows = screen.rows_diff(base, start, width);
+                push_rows(answer, screen, "row_diff", rows)?;
+            }
             Question::Between(start_row, start_col, end_row, end_col) => {
                 let text = screen.contents_between(start_row, start_col, end_row, end_col)?;
                 push_text(answer, "between", text)?;

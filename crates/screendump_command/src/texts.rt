@@ -1,11 +1,10 @@
 //! The texts of a screen, a line each, and where they lead.
-ghost use Rattle.std.specs.Iterator.{IsFinite};
 
 use crate::dump::push_screen;
 use crate::error::DumpError;
 use crate::hex_digits::push_hex;
 use std::alloc::Global;
-use vt100::{Parser, Screen, ScreenError};
+use vt100::{Parser, Rows, Screen, ScreenError};
 
 /// A text that a screen writes of itself.
 #[derive(Clone, Copy)]
@@ -58,8 +57,13 @@ pub(crate) fn push_texts(out: &mut String, screen: &Screen) -> Result<(), DumpEr
         push_text(out, name, text_of(screen, *text)?)?;
     }
     let (_, cols) = screen.size();
-    push_rows(out, screen, 0, cols.get())?;
-    push_rows_formatted(out, screen, 0, cols.get())
+    push_rows(out, screen, "row", screen.rows(0, cols.get()))?;
+    push_rows(
+        out,
+        screen,
+        "row_formatted",
+        screen.rows_formatted(0, cols.get()),
+    )
 }
 
 /// Appends what differs from the screen `base`, in hexadecimal digits:
@@ -77,74 +81,36 @@ pub(crate) fn push_diffs(
     push_text(out, "diff contents_diff", screen.contents_diff(base)?)?;
     push_text(out, "diff input_mode_diff", screen.input_mode_diff(base)?)?;
     let (_, cols) = screen.size();
-    push_rows_diff(out, screen, base, 0, cols.get())
+    push_rows(
+        out,
+        screen,
+        "row_diff",
+        screen.rows_diff(base, 0, cols.get()),
+    )
 }
 
-/// A line for each row that is shown: its text in these columns.
+/// A line for each row that a screen shows, with a text of it.
 pub(crate) fn push_rows(
     out: &mut String,
     screen: &Screen,
-    start: u16,
-    width: u16,
-) -> Result<(), DumpError> {
-    push_each(out, screen, "row", screen.rows(start, width))
-}
-
-/// The same as forms.
-pub(crate) fn push_rows_formatted(
-    out: &mut String,
-    screen: &Screen,
-    start: u16,
-    width: u16,
-) -> Result<(), DumpError> {
-    let rows = screen.rows_formatted(start, width);
-    push_each(out, screen, "row_formatted", rows)
-}
-
-/// The same over the rows of the screen `base`.
-pub(crate) fn push_rows_diff(
-    out: &mut String,
-    screen: &Screen,
-    base: &Screen,
-    start: u16,
-    width: u16,
-) -> Result<(), DumpError> {
-    let rows = screen.rows_diff(base, start, width);
-    push_each(out, screen, "row_diff", rows)
-}
-
-// A line for each of these texts, of which a screen has one a row.
-fn push_each<I: Iterator<Item = Result<String, ScreenError>> + Drop>(
-    out: &mut String,
-    screen: &Screen,
     name: &str,
-    mut texts: I,
-) -> Result<(), DumpError>
-    requires { I.can_next texts × IsFinite (I.remaining texts) }
-{
+    mut texts: Rows<'_>,
+) -> Result<(), DumpError> {
     let (rows, _) = screen.size();
     for i in 0..rows.get() {
         let Some(text) = texts.next() else {
             break;
         };
-        push_row(out, name, i, &text?)?;
+        write!(out, "{name} {i} ")?;
+        push_rest(out, &text?)?;
     }
     Ok(())
 }
 
-fn push_row(out: &mut String, name: &str, row: u16, text: &str) -> Result<(), DumpError> {
-    write!(out, "{name} {row} ")?;
-    push_rest(out, text)
-}
-
 /// A line: a name, and a text in hexadecimal digits.
 pub(crate) fn push_text(out: &mut String, name: &str, text: String) -> Result<(), DumpError> {
-    push_named(out, name, &text)
-}
-
-fn push_named(out: &mut String, name: &str, text: &str) -> Result<(), DumpError> {
     write!(out, "{name} ")?;
-    push_rest(out, text)
+    push_rest(out, &text)
 }
 
 // A text in hexadecimal digits, and the line's end.

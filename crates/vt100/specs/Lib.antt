@@ -5,6 +5,7 @@ pub mod Laws
 pub mod Memory
 pub mod ParserLends
 pub mod Parsing
+pub mod Rows
 pub mod Runs
 pub mod ScreenFields
 pub mod SgrReading

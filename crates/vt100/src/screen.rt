@@ -12,8 +12,6 @@ mod private_modes;
 mod readers;
 pub(crate) mod reported;
 mod rows;
-mod rows_diff;
-mod rows_formatted;
 mod sgr;
 mod whole;
 mod wide;
@@ -22,8 +20,6 @@ mod writers;
 
 use crate::error::ScreenError;
 pub use rows::Rows;
-pub use rows_diff::RowsDiff;
-pub use rows_formatted::RowsFormatted;
 use std::alloc::Global;
 use std::marker::Model;
 use vt100_core::attrs::Attrs;

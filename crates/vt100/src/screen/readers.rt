@@ -11,7 +11,7 @@ ghost use Rattle.vt100.specs.Texts.{Gives, row_texts, rest_of_row, text_between}
 
 use crate::error::ScreenError;
 use crate::screen::Screen;
-use crate::screen::rows::Rows;
+use crate::screen::rows::{Rows, Writing};
 use std::fmt;
 use vt100_core::capture::BasicFormattedCaptureRange;
 use vt100_core::{GridError, Row};
@@ -34,7 +34,14 @@ impl Screen {
     pub fn rows(&self, start: u16, width: u16) -> Rows<'_>
         ensures { result ≡ row_texts start width (visible self.now.state.shown) }
     {
-        Rows::new(self.alloc, self.grid.visible_rows(), start, width)
+        prove!(self.grid.is_allocated());
+        Rows::new(
+            self.alloc,
+            self.grid.visible_rows(),
+            Writing::Text,
+            start,
+            width,
+        )
     }
 
     /// The text from one place up to another: the rest of row `start_row` from `start_col` on, the rows between the

@@ -15,8 +15,7 @@ ghost use Rattle.vt100.specs.declared.error.ScreenError.TheVariants.{Memory};
 
 use crate::error::ScreenError;
 use crate::screen::Screen;
-use crate::screen::rows_diff::RowsDiff;
-use crate::screen::rows_formatted::RowsFormatted;
+use crate::screen::rows::{Rows, Writing};
 use vt100_core::attrs::Attrs;
 use vt100_core::term::{
     ApplicationCursor, ApplicationKeypad, BracketedPaste, BufWrite, ClearAttrs, HideCursor,
@@ -80,12 +79,13 @@ impl Screen {
     /// Before each row the cursor is brought to the row's column `start`, and the attributes are the default ones.
     /// Where whole rows are asked for, a row that goes on from the one above is drawn with the cursor at the end of
     /// that one.
-    pub fn rows_formatted(&self, start: u16, width: u16) -> RowsFormatted<'_>
+    pub fn rows_formatted(&self, start: u16, width: u16) -> Rows<'_>
         ensures { result ≡ rows_formatted self.now.state.shown start width }
     {
         prove!(self.grid.is_allocated());
         let whole = start == 0 && width == self.grid.size().cols();
-        RowsFormatted::new(self.alloc, self.grid.visible_rows(), start, width, whole)
+        let writing = Writing::Formatted(whole);
+        Rows::new(self.alloc, self.grid.visible_rows(), writing, start, width)
     }
 
     /// The escape sequences that take a terminal from the picture that `prev` shows to the one that the screen shows.
@@ -118,12 +118,13 @@ impl Screen {
     /// screens alone has have no item.
     ///
     /// Before each row the cursor is brought to the row's column `start`, and the attributes are the default ones.
-    pub fn rows_diff<'a>(&'a self, prev: &'a Self, start: u16, width: u16) -> RowsDiff<'a>
+    pub fn rows_diff<'a>(&'a self, prev: &'a Self, start: u16, width: u16) -> Rows<'a>
         ensures { result ≡ rows_diff prev.now.state.shown self.now.state.shown start width }
     {
         prove!(self.grid.is_allocated());
         let rows = self.grid.visible_rows();
-        RowsDiff::new(self.alloc, rows, prev.grid.visible_rows(), start, width)
+        let writing = Writing::Diff(prev.grid.visible_rows());
+        Rows::new(self.alloc, rows, writing, start, width)
     }
 
     /// The escape sequences that set a terminal's modes: the keypad's and the cursor keys' application mode and
