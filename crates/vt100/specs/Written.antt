@@ -43,6 +43,6 @@ module _ {Z : Type 0} where
         → IfOk result (λ string. IsShortText (grid_size new.shown) more (string_bytes string))
     pub local : IsUnscrolled old → IsUnscrolled new → grid_size old.shown ≡ grid_size new.shown
         → IsPlainlyShown (shown_state new)
-        → IfOk result
-        (λ string. IsLocalText (grid_size new.shown) (shown_state old) (shown_state new) (string_bytes string))
+        → IfOk result (λ string. IsLocalText (forms old new) (grid_size new.shown) (shown_state old) (shown_state new)
+        (string_bytes string))
     pub memory : OnErr result (result ≡ Err Memory)

@@ -95,16 +95,16 @@ grown-short g fs s t h is = omega (arith, h, ap length is, length-append s (spel
 
 -- which cells a difference touches
 pub appends-local : (g old : GridView) (a : Attrs) (s t : List ℕ) → IsDrawableGrid g → IsUnscrolledGrid old
-    → grid_size old ≡ grid_size g → IsProper a → t ≡ s ++ spell (differing g old a).forms → AppendsLocal g old a s t
-appends-local g old a s t h o e proper is = (
-  (differing g old a).forms,
-  is,
-  λ x same.
+    → grid_size old ≡ grid_size g → IsProper a → t ≡ s ++ spell (differing g old a).forms
+    → AppendsLocal (differing g old a).forms g old a s t
+appends-local g old a s t h o e proper is = record {
+  appended = is;
+  touches = λ x same.
       let z = grid_size g in
       let made : differing g old a ≡ picture.grid_difference z (picture_of old x) (drawn_on g) =
       ap (λ (b : Attrs). differing g old b) (sym same) ∙ differing-of_pictures g old plain_extras x h.shown o e in
       subst (λ (d : Drawn). IsLocalList z (picture_of old x) (drawn_on g) d.forms) (sym made)
       (grid-local z (picture_of old x) (drawn_on g)
       (subst (λ (y : Size). IsShown y (picture_of old x)) e (shown-grid old x o))
-      (subst IsProper (sym same) proper) (grid-drawable g plain_extras h)),
-)
+      (subst IsProper (sym same) proper) (grid-drawable g plain_extras h));
+}

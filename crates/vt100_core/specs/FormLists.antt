@@ -53,9 +53,9 @@ IsShortGrowth g old new = length new ≤ length old + (1024 * (g.height * g.widt
 
 -- ---- which cells they touch
 
--- The text s becomes t by forms. Read by a terminal that shows the earlier grid, and draws with the attributes a, they
--- touch local cells of the two pictures alone; but where the cursor waits, also the last cell of one row.
-abbrev pub AppendsLocal : GridView → GridView → Attrs → List ℕ → List ℕ → Type 0
-AppendsLocal g old a s t =
-    (forms : List Form) × (t ≡ s ++ spell forms)
-    × ((x : Extras) → x.attrs ≡ a → IsLocalList (grid_size g) (picture_of old x) (drawn_on g) forms)
+-- These forms are appended to the text s, which becomes t. Read by a terminal that shows the earlier grid, and draws with
+-- the attributes a, they touch local cells of the two pictures alone; but where the cursor waits, also the last cell of
+-- one row.
+pub record AppendsLocal (forms : List Form) (g old : GridView) (a : Attrs) (s t : List ℕ) : Type 0 where
+  pub appended : t ≡ s ++ spell forms
+  pub touches : (x : Extras) → x.attrs ≡ a → IsLocalList (grid_size g) (picture_of old x) (drawn_on g) forms

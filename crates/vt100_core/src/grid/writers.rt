@@ -67,7 +67,8 @@ impl Grid {
             IsShortGrowth self.now (string_bytes contents.old) (string_bytes contents.new)) }
         ensures local { IsDrawableGrid self.now → IsUnscrolledGrid prev.now → grid_size prev.now ≡ grid_size self.now
             → IsProper prev_attrs → IfOk result (λ answer.
-            AppendsLocal self.now prev.now prev_attrs (string_bytes contents.old) (string_bytes contents.new)) }
+            AppendsLocal (differing self.now prev.now prev_attrs).forms self.now prev.now prev_attrs
+            (string_bytes contents.old) (string_bytes contents.new)) }
     {
         let mut pen = pen_at(prev.pos, prev_attrs);
         self.rows_diff(contents, &mut pen, prev)?;

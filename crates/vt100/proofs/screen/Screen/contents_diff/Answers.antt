@@ -1,7 +1,6 @@
 use Rattle.std.proofs.Common.{◌∙◌, rules, ap, subst, sym}
 use Rattle.vt100_forms.specs.Form.{spell}
 use Rattle.vt100.specs.FormLists.{IsShortText}
-use Rattle.vt100.specs.Writers.{contents_diff}
 use Rattle.vt100.proofs.ShownLemmas.{difference-of_shown}
 use Rattle.vt100.proofs.FormLists.{screen-short, differences-local}
 use Rattle.vt100.proofs.screen.Screen.contents_diff.Goals as goal
@@ -13,7 +12,6 @@ returns c =
       text = is;
       shown = λ o h e. is ∙ ap spell (difference-of_shown _ _ o h e).contents;
       short = λ o h e. subst (IsShortText _ 512) (sym is) (screen-short _ _ o h e).contents_diff;
-      local = λ o h e plain.
-          (contents_diff c.args.prev.now.state c.args.self.now.state, is, (differences-local _ _ o h e plain).0);
+      local = λ o h e plain. record { spelled = is; touches = (differences-local _ _ o h e plain).0 };
       memory = search rules;
     }

@@ -1,7 +1,7 @@
 use Rattle.std.proofs.Common.{◌∙◌, rules, [], ap, subst, sym}
 use Rattle.vt100_forms.specs.Form.{spell}
 use Rattle.vt100.specs.FormLists.{IsShortText}
-use Rattle.vt100.specs.Writers.{contents_diff, state_diff}
+use Rattle.vt100.specs.Writers.{contents_diff}
 use Rattle.vt100.proofs.ShownLemmas.{difference-of_shown}
 use Rattle.vt100.proofs.FormLists.{screen-short, differences-local}
 use Rattle.vt100_core.proofs.WriterLemmas.{appended_then}
@@ -17,6 +17,6 @@ returns c =
       text = is;
       shown = λ o h e. is ∙ ap spell (difference-of_shown old new o h e).state;
       short = λ o h e. subst (IsShortText _ 1008) (sym is) (screen-short old new o h e).state_diff;
-      local = λ o h e plain. (state_diff old new, is, (differences-local old new o h e plain).1);
+      local = λ o h e plain. record { spelled = is; touches = (differences-local old new o h e plain).1 };
       memory = search rules;
     }
