@@ -71,7 +71,7 @@ Costs f n = Writes IsSmallList IsSmallPen f n
 costs-then : {f g : Writer} {m n : ℕ} → Costs f m → Costs g n → Costs (f >> g) (m + n)
 costs-then a b = then IsSmallList small-measure IsSmallPen a b (omega arith)
 
-costs-more : {f : Writer} {m n : ℕ} → Costs f m → m ≤ n → Costs f n
+pub costs-more : {f : Writer} {m n : ℕ} → Costs f m → m ≤ n → Costs f n
 costs-more h l p s = let a = h p s in record { forms = (a.forms.0, omega (arith, a.forms.1, l)); pen = a.pen }
 
 costs-either : (b : Bool) {f g : Writer} {n : ℕ} → Costs f n → Costs g n → Costs (cond b f g) n
@@ -82,7 +82,7 @@ costs-here : (b : Bool) {f g : Writer} {n : ℕ} (p : Pen) → IsSmallPen p → 
 costs-here b {f = f} {g = g} {n = n} p s h k =
     cond_both b (f p) (g p) (IsWritten IsSmallList IsSmallPen n) (λ _. h p s) (λ _. k p s)
 
-costs-skip : {n : ℕ} → Costs skip n
+pub costs-skip : {n : ℕ} → Costs skip n
 unfolding skip
 costs-skip p s = record { forms = (tt, omega arith); pen = s }
 
@@ -125,10 +125,9 @@ costs-marking n a h k p s = record { forms = (tt, omega arith); pen = (s.0, (h, 
 
 -- ---- a row
 
--- a whole row
+-- a row that is drawn from its first column on
 pub record IsRowJob (j : Job) : Type 0 where
   pub start : j.start ≡ 0
-  pub some : 0 < j.cols
   pub cells : (k : ℕ) → IsCell (j.new k)
   pub small : IsSmallJob j
 
@@ -199,11 +198,10 @@ module _ (j : Job) (h : IsRowJob j) where
       (costs-then (λ p s. costs-flush_of c p.erase here s.1 p s) (costs-draw c here))))
       (omega arith)
 
-  costs-redraw : Costs (row_redraw j j.cols) (71 + 153 * j.cols + 65)
+  costs-redraw : (n : ℕ) → n ≤ j.cols → Costs (row_redraw j n) (71 + 153 * n + 65)
   unfolding row_redraw finish IsSmallPen
-  costs-redraw =
-      costs-then (costs-then costs-opening (costs-columns j.cols (omega arith)))
-      (λ p s. costs-finish_of p.erase s.1 p s)
+  costs-redraw n l =
+      costs-then (costs-then costs-opening (costs-columns n l)) (λ p s. costs-finish_of p.erase s.1 p s)
 
   costs-print_last : (k : ℕ) → Costs (print_last (j.new k)) 69
   unfolding print_last
@@ -224,10 +222,10 @@ module _ (j : Job) (h : IsRowJob j) where
       prints)))
       costs-skip
 
-  -- 428 bytes a column
-  pub costs-row_redraw : Costs (row_redraw j j.cols) (428 * j.cols)
-  costs-row_redraw = costs-more costs-redraw (omega (arith, h.some))
+  -- 428 bytes a column that is drawn
+  pub costs-row_redraw : (n : ℕ) → 0 < n → n ≤ j.cols → Costs (row_redraw j n) (428 * n)
+  costs-row_redraw n some l = costs-more (costs-redraw n l) (omega (arith, some))
 
-  pub costs-row_difference : Costs (row_difference j j.cols) (428 * j.cols)
+  pub costs-row_difference : (n : ℕ) → 0 < n → n ≤ j.cols → Costs (row_difference j n) (428 * n)
   unfolding row_difference
-  costs-row_difference = costs-more (costs-then costs-redraw costs-closing) (omega (arith, h.some))
+  costs-row_difference n some l = costs-more (costs-then (costs-redraw n l) costs-closing) (omega (arith, some))

@@ -9,7 +9,7 @@ use Rattle.screen_drawing.proofs.Lists.{modes-set, modes-changed}
 use Rattle.screen_drawing.proofs.Costs.{IsSmallList, small-measure}
 use Rattle.screen_drawing.proofs.SmallScreens.{small-modes, each-small}
 
-le-times : (n m : ℕ) → 0 < m → n ≤ n * m
+pub le-times : (n m : ℕ) → 0 < m → n ≤ n * m
 le-times n zero h = absurd (omega (arith, h))
 le-times n (suc k) h = omega (arith, mul-suc n k)
 

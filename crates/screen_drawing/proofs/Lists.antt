@@ -167,7 +167,7 @@ module _ (W : ℕ → List Form → Type 0) (measure : IsMeasure W) where
         (λ _. measure.none (131 + s.row))
         (λ _. waits p a (row_with_end z s.cell s.row) ha (ends z s s.row)))
 
-    placed : Writes W K (cursor_placed z s) (131 + s.row)
+    pub placed : Writes W K (cursor_placed z s) (131 + s.row)
     unfolding cursor_placed
     placed p k = record {
       forms = cursor (Some p.pos) p.attrs (h.held p k);
@@ -176,7 +176,7 @@ module _ (W : ℕ → List Form → Type 0) (measure : IsMeasure W) where
 
     -- ---- grids
 
-    rows : (had : ℕ → Bool) (rs : RowWriters)
+    pub rows : (had : ℕ → Bool) (rs : RowWriters)
         → ((i : ℕ) → i < z.rows → Writes W K (next_row had rs i) (428 * z.cols))
         → (n : ℕ) → n ≤ z.rows → Writes W K (in_turn had rs n) (428 * (n * z.cols))
     unfolding in_turn skip

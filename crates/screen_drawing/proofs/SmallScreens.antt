@@ -29,7 +29,6 @@ row-job : (z : Size) (old s : Shown) (i : ℕ) (flagged : Bool) → IsSmallScree
     → IsRowJob (row_job z old s i flagged)
 row-job z old s i flagged h l = record {
   start = refl;
-  some = h.shown.some_col;
   cells = h.cells i;
   small = record { cols = h.cols; row = omega (arith, l, h.rows); colors = h.colors i };
 }
@@ -39,7 +38,7 @@ arriving-small : (p : Option Pos) (row col : ℕ) → row < 2 ^ 16 → col < 2 ^
 arriving-small None row col hr hc = form-small (MoveTo row col) 14 (hr, hc) (omega arith)
 arriving-small (Some p) row col hr hc = moves-small p (place row col) hr hc
 
-small-rules : (z : Size) (s : Shown) → IsSmallScreen z s → Rules IsSmallList HasByteColors IsSmallPen z s
+pub small-rules : (z : Size) (s : Shown) → IsSmallScreen z s → Rules IsSmallList HasByteColors IsSmallPen z s
 unfolding next_row IsSmallPen SmallErase
 small-rules z s h = record {
   space = space-small;
@@ -58,9 +57,11 @@ small-rules z s h = record {
   begun = λ row col a k. (k, tt);
   held = λ p k. k.0;
   moved = λ p q k. k;
-  redraw = λ i l p k. costs-row_redraw _ (row-job z blank_shown s i false h l) (afresh p) k;
+  redraw = λ i l p k.
+      costs-row_redraw _ (row-job z blank_shown s i false h l) z.cols h.shown.some_col (omega arith) (afresh p) k;
   difference = λ old i l p k.
-      costs-row_difference _ (row-job z old s i (is_continued old.wrapped i && not p.lost) h l) (afresh p) k;
+      costs-row_difference _ (row-job z old s i (is_continued old.wrapped i && not p.lost) h l) z.cols h.shown.some_col
+      (omega arith) (afresh p) k;
 }
 
 pub small-modes : ModeRules IsSmallList

@@ -1,9 +1,8 @@
 -- Which cells the forms of a difference touch, and how long a frame is that a hub makes.
-use Rattle.std.proofs.Common.{◌≡◌, ℕ, false, List, ◌++◌, Option, Some, None, refl, ap, ◌∙◌, arith}
+use Rattle.std.proofs.Common.{◌≡◌, ℕ, false, List, Option, Some, None, refl, sym, subst, arith}
 use Rattle.std.specs.Option.{option_map, IfSome}
-use Rattle.vt100_forms.specs.Form.{Form, spell}
 use Rattle.terminal_model.specs.Term.{Shown, IsShown}
-use Rattle.screen_drawing.specs.Screen.{state_diff}
+use Rattle.screen_drawing.specs.Local.{IsLocalList}
 use Rattle.screen_drawing.proofs.LocalScreens.{difference-local}
 use Rattle.vt100_core.specs.Picture.{grid_size}
 use Rattle.screen_model.specs.Call.{ScreenView}
@@ -11,7 +10,7 @@ use Rattle.screen_model.specs.Shown.{shown_state}
 use Rattle.vt100.specs.WriterLaws.{IsUnscrolled}
 use Rattle.vt100.proofs.ShownLemmas.{shown-is, screen-drawable}
 use Rattle.vt100.proofs.FormLists.{small-screen}
-use Rattle.termrelay.specs.Frame.{start_mark, end_mark, is_unsure, frame_text, HasByteBase, IsShortFrame, IsLocalFrame}
+use Rattle.termrelay.specs.Frame.{is_unsure, frame_text, HasByteBase, IsShortFrame, IsLocalFrame}
 use Rattle.termrelay.specs.Answers.{due}
 use Rattle.termrelay.specs.Record.{RecordView, client_of, IsBaseOf, IsRecordOf}
 use Rattle.termrelay.specs.declared.answer.Answer.TheVariants.{Difference}
@@ -58,9 +57,9 @@ due-local now (Some v) text u h e is =
     record {
       shown = old;
       is = refl;
-      local = (
-        state_diff z old new,
-        is ∙ ap (λ (fs : List Form). start_mark ++ (spell fs ++ end_mark)) (difference-body z old new e),
-        difference-local z old new from h.unscrolled.state.attrs screen,
-      );
+      local = record {
+        framed = is;
+        touches = subst (IsLocalList z old new) (sym (difference-body z old new e))
+            (difference-local z old new from h.unscrolled.state.attrs screen);
+      };
     }

@@ -125,8 +125,8 @@ EachFrameIsShort = (z : Size) (base : Option Shown) (now : Shown) → HasByteBas
 
 -- ---- which cells it touches
 
--- The text is a frame of forms. Read by a client that shows `base`, they touch local cells of the two pictures alone; but
--- where the cursor of `now` waits, also the last cell of one row.
-abbrev pub IsLocalFrame : Size → Shown → Shown → List ℕ → Type 0
-IsLocalFrame z base now text =
-    (forms : List Form) × (text ≡ start_mark ++ (spell forms ++ end_mark)) × IsLocalList z base now forms
+-- The text is the frame from `base` to `now`. Read by a client that shows `base`, the forms of its body touch local cells
+-- of the two pictures alone; but where the cursor of `now` waits, also the last cell of one row.
+pub record IsLocalFrame (z : Size) (base now : Shown) (text : List ℕ) : Type 0 where
+  pub framed : text ≡ frame_text z (Some base) now
+  pub touches : IsLocalList z base now (body_forms z (Some base) now)

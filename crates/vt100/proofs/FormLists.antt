@@ -16,10 +16,8 @@ use Rattle.vt100_rows.specs.Laws.{IsTrueOfSmallForms}
 use Rattle.vt100_rows.proofs.SentTexts as rows
 use Rattle.vt100_rows.specs.Sheet.{row_at}
 use Rattle.screen_drawing.specs.Laws as writers
-use Rattle.screen_drawing.specs.Length.{IsWithin}
 use Rattle.screen_drawing.proofs.SmallScreens.{lists-sent, lists-forms}
 use Rattle.screen_drawing.specs.Local.{IsLocalList}
-use Rattle.screen_drawing.proofs.Lengths.{each-short}
 use Rattle.screen_drawing.proofs.LocalScreens.{contents-local, difference-local}
 use Rattle.vt100_core.specs.Grid.{visible, visible_at}
 use Rattle.vt100_core.specs.Picture.{grid_size}
@@ -32,7 +30,7 @@ use Rattle.vt100.specs.Writers.{contents_diff, state_diff, each_formatted, each_
 use Rattle.vt100.specs.WriterLaws.{IsUnscrolled, IsPlainlyShown}
 use Rattle.vt100.specs.FormLists.{EachScreenIsKnown, EachMadeScreenIsKnown, IsTrueOfLists, EachListIsSent}
 use Rattle.vt100.specs.FormLists.{EachListIsOfForms, IsSpelled, IsTrueOfRows, EachRowIsSent, EachRowIsOfForms}
-use Rattle.vt100.specs.FormLists.{EachListIsShort, EachScreenIsSmall}
+use Rattle.vt100.specs.FormLists.{EachScreenIsSmall}
 use Rattle.vt100.proofs.ShownLemmas.{cells-are, shown-is, old-shown, redraw-of_shown, difference-of_shown}
 use Rattle.vt100.proofs.ShownLemmas.{screen-drawable}
 use Rattle.vt100.proofs.RowTexts.{row-is, shown-many, IsReadyRow, ready-row}
@@ -112,21 +110,6 @@ screen-forms old new o h e known plain =
     of-shown AreForms old new o h e
     (lists-forms (grid_size new.shown) (shown_state old) (shown_state new) o.state.attrs.colors (small-screen new h) known
     plain)
-
-pub screen-short : EachListIsShort
-screen-short old new o h e =
-    let z = grid_size new.shown in
-    let is = redraw-of_shown new h in
-    let differs = difference-of_shown old new o h e in
-    let all = each-short z (shown_state old) (shown_state new) o.state.attrs.colors (small-screen new h) in
-    record {
-      contents_formatted = subst (IsWithin z 512) (sym is.contents) all.contents_formatted;
-      contents_diff = subst (IsWithin z 512) (sym differs.contents) all.contents_diff;
-      state_formatted = subst (IsWithin z 1008) (sym is.state) all.state_formatted;
-      state_diff = subst (IsWithin z 1008) (sym differs.state) all.state_diff;
-      input_mode_formatted = all.input_mode_formatted;
-      input_mode_diff = all.input_mode_diff;
-    }
 
 -- which cells two lists of differences touch
 pub differences-local : (old new : State) → IsUnscrolled old → IsUnscrolled new

@@ -12,5 +12,6 @@ pub mod ShownLemmas
 pub mod WriteLemmas
 pub mod RowTexts
 pub mod FormLists
+pub mod ShortLists
 mod LendTwo
 mod ParserParts

@@ -100,7 +100,7 @@ pub shown-is : (s : State) → IsUnscrolled s → IsShown (grid_size s.shown) (s
 shown-is s h =
     subst (IsShown (grid_size s.shown)) (sym (picture-is s h))
     (IsShown-of (grid_size s.shown) (term_of_grid s.shown (extras_of s))
-    (IsTerm-grid s.shown (extras_of s) h.state.shown h.state.drawn))
+    (IsTerm-grid s.shown (extras_of s) h.state.shown))
 
 pub old-shown : (old new : State) → IsUnscrolled old → grid_size old.shown ≡ grid_size new.shown
     → IsShown (grid_size new.shown) (shown_state old)

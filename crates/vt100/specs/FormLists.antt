@@ -2,6 +2,7 @@
 -- bytes they take, and which cells those of differences touch.
 use Rattle.std.specs.Prelude.{ℕ, ◌≡◌, ◌+◌, ◌*◌, ◌≤◌, List, length, Contains}
 use Rattle.std.specs.List.{AllByRecursion}
+use Rattle.vt100_forms.specs.Attrs.{HasByteColors}
 use Rattle.vt100_forms.specs.Form.{Form, spell}
 use Rattle.vt100_forms.specs.declared.modes.MouseProtocolMode.TheVariants as mouse
 use Rattle.vt100_forms.specs.declared.modes.MouseProtocolEncoding.TheVariants as encoding
@@ -109,9 +110,9 @@ pub record AreShort (old new : State) : Type 0 where
   pub input_mode_formatted : length (spell (input_mode_formatted (shown_state new))) ≤ 128
   pub input_mode_diff : length (spell (input_mode_diff (shown_state old) (shown_state new))) ≤ 128
 
+-- whatever the earlier screen shows, and also where kept rows are shown
 abbrev pub EachListIsShort : Type 0
-EachListIsShort = (old new : State) → IsUnscrolled old → IsUnscrolled new → grid_size old.shown ≡ grid_size new.shown
-    → AreShort old new
+EachListIsShort = (old new : State) → HasByteColors old.attrs → IsState new → AreShort old new
 
 -- a text of at most 1,024 bytes a cell, and so many more
 abbrev pub IsShortText : Size → ℕ → List ℕ → Type 0
@@ -119,7 +120,8 @@ IsShortText z more text = length text ≤ 1024 * (z.rows * z.cols) + more
 
 -- ---- which cells they touch
 
--- The text is one of forms. Read by a terminal that shows `old`, they touch local cells of the two pictures alone; but
--- where the cursor of `new` waits, also the last cell of one row.
-abbrev pub IsLocalText : Size → Shown → Shown → List ℕ → Type 0
-IsLocalText z old new text = (forms : List Form) × (text ≡ spell forms) × IsLocalList z old new forms
+-- The text is that of these forms. Read by a terminal that shows `old`, they touch local cells of the two pictures alone;
+-- but where the cursor of `new` waits, also the last cell of one row.
+pub record IsLocalText (forms : List Form) (z : Size) (old new : Shown) (text : List ℕ) : Type 0 where
+  pub spelled : text ≡ spell forms
+  pub touches : IsLocalList z old new forms

@@ -3,7 +3,7 @@ use Rattle.std.specs.Prelude.{◌≡◌, ◌≤◌, ◌++◌, ℕ, List, length,
 use Rattle.vt100_forms.specs.Form.{Form, spell}
 use Rattle.terminal_model.specs.Term.{Size, Shown}
 use Rattle.vt100_core.specs.Picture.{grid_size}
-use Rattle.screen_model.specs.State.{State}
+use Rattle.screen_model.specs.State.{State, IsState}
 use Rattle.screen_model.specs.Shown.{shown_state}
 use Rattle.vt100.specs.WriterLaws.{IsUnscrolled, IsPlainlyShown}
 use Rattle.vt100.specs.FormLists.{IsShortText, IsLocalText}
@@ -21,28 +21,27 @@ module _ {Z : Type 0} where
     pub short : IfOk result (λ string. length (string_bytes string) ≤ most)
     pub memory : OnErr result (result ≡ Err Memory)
 
-  -- the text of a screen's forms: where no kept row is shown, of those of its picture, with at most so many bytes more
-  -- than 1,024 a cell
+  -- the text of a screen's forms, with at most so many bytes more than 1,024 a cell: where no kept row is shown, the
+  -- forms of its picture
   pub record GivesRedraw (forms : State → List Form) (pictured : Size → Shown → List Form) (more : ℕ) (s : State)
       (result : Result (String Z) ScreenError) : Type 0 where
     pub text : IfOk result (λ string. string_bytes string ≡ spell (forms s))
     pub shown : IsUnscrolled s
         → IfOk result (λ string. string_bytes string ≡ spell (pictured (grid_size s.shown) (shown_state s)))
-    pub short : IsUnscrolled s → IfOk result (λ string. IsShortText (grid_size s.shown) more (string_bytes string))
+    pub short : IsState s → IfOk result (λ string. IsShortText (grid_size s.shown) more (string_bytes string))
     pub memory : OnErr result (result ≡ Err Memory)
 
-  -- and of those for what differs from an earlier screen of the same size: where no cell shows U+FE0F, they touch local
-  -- cells
+  -- the same for what differs from an earlier screen: where both have one size and show no kept row, the forms are those
+  -- of their pictures, and where no cell shows U+FE0F, they touch local cells
   pub record GivesDifference (forms : State → State → List Form) (pictured : Size → Shown → Shown → List Form)
       (more : ℕ) (old new : State) (result : Result (String Z) ScreenError) : Type 0 where
     pub text : IfOk result (λ string. string_bytes string ≡ spell (forms old new))
     pub shown : IsUnscrolled old → IsUnscrolled new → grid_size old.shown ≡ grid_size new.shown
         → IfOk result (λ string. string_bytes string
         ≡ spell (pictured (grid_size new.shown) (shown_state old) (shown_state new)))
-    pub short : IsUnscrolled old → IsUnscrolled new → grid_size old.shown ≡ grid_size new.shown
-        → IfOk result (λ string. IsShortText (grid_size new.shown) more (string_bytes string))
+    pub short : IsState new → IfOk result (λ string. IsShortText (grid_size new.shown) more (string_bytes string))
     pub local : IsUnscrolled old → IsUnscrolled new → grid_size old.shown ≡ grid_size new.shown
         → IsPlainlyShown (shown_state new)
-        → IfOk result
-        (λ string. IsLocalText (grid_size new.shown) (shown_state old) (shown_state new) (string_bytes string))
+        → IfOk result (λ string. IsLocalText (forms old new) (grid_size new.shown) (shown_state old) (shown_state new)
+        (string_bytes string))
     pub memory : OnErr result (result ≡ Err Memory)

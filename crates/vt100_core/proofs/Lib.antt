@@ -20,4 +20,5 @@ pub mod BasicLemmas
 pub mod InputTexts
 pub mod WriterLemmas
 pub mod PictureWriters
+pub mod ShortLists
 pub mod FormLists

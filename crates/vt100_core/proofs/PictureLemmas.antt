@@ -48,9 +48,15 @@ wraps-filled height width rows r h w =
     (λ (l : length rows ≤ r). absurd (false≢true (sym (wraps-past rows r l) ∙ w)))
     (cases_lt r (length rows))
 
-pub IsTerm-grid : (g : GridView) (x : Extras) → IsGrid g → IsAllocated g → IsTerm (grid_size g) (term_of_grid g x)
-IsTerm-grid g x h some =
-    let count = h.sheet.count some in
+-- a grid has its rows, or none yet
+pub few-rows : (g : GridView) → IsGrid g → length g.rows ≤ g.height
+few-rows g h =
+    ⊎_elim (λ (l : 0 < length g.rows). omega (arith, h.sheet.count l)) (λ (l : length g.rows ≤ 0). omega (arith, l))
+    (cases_lt 0 (length g.rows))
+
+pub IsTerm-grid : (g : GridView) (x : Extras) → IsGrid g → IsTerm (grid_size g) (term_of_grid g x)
+IsTerm-grid g x h =
+    let few = few-rows g h in
     record {
       some_row = h.some_rows;
       some_col = h.some_cols;

@@ -121,7 +121,7 @@ differing-of_pictures g old x y h o e =
 -- ---- where they lead
 
 pub shown-grid : (g : GridView) (x : Extras) → IsUnscrolledGrid g → IsShown (grid_size g) (picture_of g x)
-shown-grid g x h = IsShown-of (grid_size g) (term_of_grid g x) (IsTerm-grid g x h.grid h.some)
+shown-grid g x h = IsShown-of (grid_size g) (term_of_grid g x) (IsTerm-grid g x h.grid)
 
 pub lines-cells : (g : GridView) (r k : ℕ) → IsGrid g → IsCell (lines_of g.rows r k)
 lines-cells g r k h =

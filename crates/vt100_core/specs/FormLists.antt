@@ -2,21 +2,25 @@
 use Rattle.std.specs.Prelude.{ℕ, ◌+◌, ◌*◌, ◌≤◌, ◌≡◌, List, ◌++◌, length, Contains, Option, unwrap_or}
 use Rattle.vt100_forms.specs.declared.attrs.Attrs.{Attrs}
 use Rattle.vt100_forms.specs.declared.position.Pos.{Pos}
-use Rattle.vt100_forms.specs.Attrs.{IsProper, HasByteColors, default_attrs}
+use Rattle.vt100_forms.specs.Attrs.{HasByteColors, default_attrs}
 use Rattle.vt100_forms.specs.Form.{Form, spell}
+use Rattle.vt100_cells.specs.Cells.{cell_at}
 use Rattle.terminal_model.specs.FormText.{AreForms, AreSentForms}
 use Rattle.vt100_rows.specs.Picture.{lines_of}
 use Rattle.screen_drawing.specs.Length.{IsWithin}
 use Rattle.screen_drawing.specs.Local.{IsLocalList}
-use Rattle.vt100_core.specs.Grid.{GridView}
+use Rattle.vt100_core.specs.Grid.{GridView, IsGrid, visible_at}
 use Rattle.vt100_core.specs.Picture.{grid_size, Extras}
 use Rattle.vt100_core.specs.Writers.{drawn_on, cursor_position_formatted, contents_formatted, differing}
 use Rattle.vt100_core.specs.WriterLaws.{IsUnscrolledGrid, picture_of}
 
--- a grid with its rows, which shows no kept row, with attributes such as control sequences can set
-pub record IsProperGrid (g : GridView) : Type 0 where
-  pub shown : IsUnscrolledGrid g
-  pub proper : (r k : ℕ) → IsProper (lines_of g.rows r k).attrs
+-- the colours of each cell are numbers of bytes, in the rows that are drawn on
+abbrev pub HasByteCells : GridView → Type 0
+HasByteCells g = (r k : ℕ) → HasByteColors (lines_of g.rows r k).attrs
+
+-- and in those that are shown, of which some may be kept ones
+abbrev pub HasByteVisibleCells : GridView → Type 0
+HasByteVisibleCells g = (r k : ℕ) → HasByteColors (cell_at (visible_at g r).cells k).attrs
 
 -- the character c stands in no cell
 abbrev pub HasNo : ℕ → GridView → Type 0
@@ -32,20 +36,21 @@ pub record IsTrueOfLists (Q : List Form → Type 0) (g : GridView) : Type 0 wher
       → Q (cursor_position_formatted g p a)
 
 abbrev pub EachListIsSent : Type 0
-EachListIsSent = (g : GridView) → IsProperGrid g → HasNo 0xFFFD g → IsTrueOfLists AreSentForms g
+EachListIsSent = (g : GridView) → IsUnscrolledGrid g → HasByteCells g → HasNo 0xFFFD g → IsTrueOfLists AreSentForms g
 
 -- where no cell has U+FE0F, they are forms that a screen and a view read alike
 abbrev pub EachListIsOfForms : Type 0
-EachListIsOfForms = (g : GridView) → IsProperGrid g → HasNo 0xFFFD g → HasNo 0xFE0F g → IsTrueOfLists AreForms g
+EachListIsOfForms = (g : GridView) → IsUnscrolledGrid g → HasByteCells g → HasNo 0xFFFD g → HasNo 0xFE0F g
+    → IsTrueOfLists AreForms g
 
--- at most 1,024 bytes a cell, and 256 more
+-- at most 1,024 bytes a cell, and 256 more, whatever the earlier grid is
 pub record AreShort (g : GridView) : Type 0 where
   pub contents : IsWithin (grid_size g) 256 (contents_formatted g)
-  pub difference : (old : GridView) (a : Attrs) → IsUnscrolledGrid old → grid_size old ≡ grid_size g → HasByteColors a
-      → IsWithin (grid_size g) 256 (differing g old a).forms
+  pub difference : (old : GridView) (a : Attrs) → HasByteColors a → IsWithin (grid_size g) 256 (differing g old a).forms
 
+-- whichever rows are shown
 abbrev pub EachListIsShort : Type 0
-EachListIsShort = (g : GridView) → IsProperGrid g → AreShort g
+EachListIsShort = (g : GridView) → IsGrid g → HasByteCells g → HasByteVisibleCells g → AreShort g
 
 -- a text has grown by no more than that
 abbrev pub IsShortGrowth : GridView → List ℕ → List ℕ → Type 0
@@ -53,9 +58,9 @@ IsShortGrowth g old new = length new ≤ length old + (1024 * (g.height * g.widt
 
 -- ---- which cells they touch
 
--- The text s becomes t by forms. Read by a terminal that shows the earlier grid, and draws with the attributes a, they
--- touch local cells of the two pictures alone; but where the cursor waits, also the last cell of one row.
-abbrev pub AppendsLocal : GridView → GridView → Attrs → List ℕ → List ℕ → Type 0
-AppendsLocal g old a s t =
-    (forms : List Form) × (t ≡ s ++ spell forms)
-    × ((x : Extras) → x.attrs ≡ a → IsLocalList (grid_size g) (picture_of old x) (drawn_on g) forms)
+-- These forms are appended to the text s, which becomes t. Read by a terminal that shows the earlier grid, and draws with
+-- the attributes a, they touch local cells of the two pictures alone; but where the cursor waits, also the last cell of
+-- one row.
+pub record AppendsLocal (forms : List Form) (g old : GridView) (a : Attrs) (s t : List ℕ) : Type 0 where
+  pub appended : t ≡ s ++ spell forms
+  pub touches : (x : Extras) → x.attrs ≡ a → IsLocalList (grid_size g) (picture_of old x) (drawn_on g) forms

@@ -26,7 +26,7 @@ impl Screen {
     /// The escape sequences that take a terminal to all that the screen shows, whatever it showed before, if its
     /// mouse mode and encoding and its cursor's style are as they are at first:
     /// [`contents_formatted`](Self::contents_formatted), and [`input_mode_formatted`](Self::input_mode_formatted)
-    /// after it. Where no kept row is shown they are at most 1,024 bytes for each cell, and 1,008 more (`short`).
+    /// after it. They are at most 1,024 bytes for each cell of the screen, and 1,008 more (`short`).
     pub fn state_formatted(&self) -> Result<String, ScreenError>
         ensures { GivesRedraw state_formatted picture.state_formatted 1008 self.now.state result }
     {
@@ -40,13 +40,15 @@ impl Screen {
     /// [`contents_diff`](Self::contents_diff), and [`input_mode_diff`](Self::input_mode_diff) after it. Both screens
     /// have one size.
     ///
-    /// Where neither shows a kept row they are at most 1,024 bytes for each cell, and 1,008 more (`short`). Where no cell
-    /// shows U+FE0F either, they touch local cells alone: those that differ, and, in rows that differ and right below
-    /// them, empty ones and those of the first and the last column; each with its other half. Where the cursor waits at
-    /// the end of a row, they may also touch the last cell of one row (`local`).
+    /// They are at most 1,024 bytes for each cell of the screen, and 1,008 more (`short`).
+    ///
+    /// Where neither shows a kept row and no cell shows U+FE0F, they touch local cells alone: those that differ, and, in
+    /// rows that differ and right below them, empty ones and those of the first and the last column; each with its other
+    /// half. Where the cursor waits at the end of a row, they may also touch the last cell of one row (`local`).
     pub fn state_diff(&self, prev: &Self) -> Result<String, ScreenError>
         ensures { GivesDifference state_diff picture.state_diff 1008 prev.now.state self.now.state result }
     {
+        let _prev_attrs = &prev.attrs;
         let mut contents = String::new(self.alloc);
         self.write_contents_diff(&mut contents, prev)?;
         self.write_input_mode_diff(&mut contents, prev)?;
@@ -55,8 +57,8 @@ impl Screen {
 
     /// The escape sequences that take a terminal to the picture that the screen shows, whatever it showed before:
     /// whether the cursor is hidden, the rows, the cursor, and the attributes that are drawn with. Rows are drawn as
-    /// they are shown; the cursor is that of the rows that are drawn on. Where no kept row is shown they are at most
-    /// 1,024 bytes for each cell, and 512 more (`short`).
+    /// they are shown; the cursor is that of the rows that are drawn on. They are at most 1,024 bytes for each cell of
+    /// the screen, and 512 more (`short`).
     pub fn contents_formatted(&self) -> Result<String, ScreenError>
         ensures { GivesRedraw contents_formatted picture.contents_formatted 512 self.now.state result }
     {
@@ -92,11 +94,12 @@ impl Screen {
     /// What is alike isn't drawn again. Both screens have one size: of others, the rows and columns that both have
     /// are compared.
     ///
-    /// Where neither shows a kept row they are at most 1,024 bytes for each cell, and 512 more (`short`), and touch the
-    /// cells that [`state_diff`](Self::state_diff) says (`local`).
+    /// They are at most 1,024 bytes for each cell of the screen, and 512 more (`short`), and touch the cells that
+    /// [`state_diff`](Self::state_diff) says (`local`).
     pub fn contents_diff(&self, prev: &Self) -> Result<String, ScreenError>
         ensures { GivesDifference contents_diff picture.contents_diff 512 prev.now.state self.now.state result }
     {
+        let _prev_attrs = &prev.attrs;
         let mut contents = String::new(self.alloc);
         self.write_contents_diff(&mut contents, prev)?;
         Ok(contents)

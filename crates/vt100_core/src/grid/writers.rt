@@ -7,7 +7,7 @@ ghost use Rattle.vt100_core.specs.Writers.{Appends, contents_formatted, redrawn,
 ghost use Rattle.vt100_core.specs.Writers.{lines_difference};
 ghost use Rattle.vt100_core.specs.Picture.{grid_size};
 ghost use Rattle.vt100_core.specs.WriterLaws.{IsUnscrolledGrid, IsDrawableGrid};
-ghost use Rattle.vt100_core.specs.FormLists.{IsProperGrid, IsShortGrowth, AppendsLocal};
+ghost use Rattle.vt100_core.specs.FormLists.{HasByteCells, HasByteVisibleCells, IsShortGrowth, AppendsLocal};
 
 use crate::grid::Grid;
 use row_drawing::Pen;
@@ -23,16 +23,17 @@ impl Grid {
     ///
     /// Kept rows that are shown are drawn in the screen's columns; the cursor is that of the rows that are drawn on.
     ///
-    /// Where no kept row is shown, they are at most 1,024 bytes for each cell, and 256 more (`short`).
+    /// They are at most 1,024 bytes for each cell of the screen, and 256 more (`short`).
     ///
     /// On an error a part of the forms may have been appended.
     pub fn write_contents_formatted(&self, contents: &mut String) -> Result<Attrs, GridError>
         ensures text { Appends (contents_formatted self.now) (string_bytes contents.old) (is_ok result)
             (string_bytes contents.new) }
         ensures attrs { IfOk result (λ answer. answer ≡ (redrawn self.now).pen.attrs) }
-        ensures short { IsProperGrid self.now → IfOk result (λ answer.
+        ensures short { HasByteCells self.now → HasByteVisibleCells self.now → IfOk result (λ answer.
             IsShortGrowth self.now (string_bytes contents.old) (string_bytes contents.new)) }
     {
+        let _rows = &self.rows;
         ClearAttrs.write_buf(contents)?;
         ClearScreen.write_buf(contents)?;
         let mut pen = pen_at(Pos { row: 0, col: 0 }, Attrs::new());
@@ -47,10 +48,11 @@ impl Grid {
     /// with which the terminal draws; answers those with which it draws afterwards. Both grids have one size: of
     /// others, the rows and columns that both have are compared.
     ///
-    /// Where no kept row is shown, they are at most 1,024 bytes for each cell, and 256 more (`short`), and touch local
-    /// cells alone: those that differ, and, in rows that differ and right below them, empty ones and those of the first
-    /// and the last column; each with its other half. Where the cursor waits at the end of a row, they may also touch the
-    /// last cell of one row (`local`).
+    /// They are at most 1,024 bytes for each cell of the screen, and 256 more (`short`).
+    ///
+    /// Where no kept row is shown, they touch local cells alone: those that differ, and, in rows that differ and right
+    /// below them, empty ones and those of the first and the last column; each with its other half. Where the cursor
+    /// waits at the end of a row, they may also touch the last cell of one row (`local`).
     ///
     /// On an error a part of the forms may have been appended.
     pub fn write_contents_diff(
@@ -62,13 +64,14 @@ impl Grid {
         ensures text { Appends (differing self.now prev.now prev_attrs).forms (string_bytes contents.old) (is_ok result)
             (string_bytes contents.new) }
         ensures attrs { IfOk result (λ answer. answer ≡ (differing self.now prev.now prev_attrs).pen.attrs) }
-        ensures short { IsProperGrid self.now → IsUnscrolledGrid prev.now → grid_size prev.now ≡ grid_size self.now
-            → HasByteColors prev_attrs → IfOk result (λ answer.
-            IsShortGrowth self.now (string_bytes contents.old) (string_bytes contents.new)) }
+        ensures short { HasByteCells self.now → HasByteVisibleCells self.now → HasByteColors prev_attrs
+            → IfOk result (λ answer. IsShortGrowth self.now (string_bytes contents.old) (string_bytes contents.new)) }
         ensures local { IsDrawableGrid self.now → IsUnscrolledGrid prev.now → grid_size prev.now ≡ grid_size self.now
             → IsProper prev_attrs → IfOk result (λ answer.
-            AppendsLocal self.now prev.now prev_attrs (string_bytes contents.old) (string_bytes contents.new)) }
+            AppendsLocal (differing self.now prev.now prev_attrs).forms self.now prev.now prev_attrs
+            (string_bytes contents.old) (string_bytes contents.new)) }
     {
+        let _rows = &self.rows;
         let mut pen = pen_at(prev.pos, prev_attrs);
         self.rows_diff(contents, &mut pen, prev)?;
         self.write_cursor_position_formatted(contents, Some(pen.pos), Some(pen.attrs))?;

@@ -1,4 +1,4 @@
-use Rattle.vt100.proofs.FormLists.{screen-short}
+use Rattle.vt100.proofs.ShortLists.{screen-short}
 use Rattle.vt100.proofs.laws.lists_are_short.Goals as goal
 
 pub returns : goal.returns

@@ -1,4 +1,4 @@
-use Rattle.vt100_core.proofs.FormLists.{grid-short}
+use Rattle.vt100_core.proofs.ShortLists.{grid-short}
 use Rattle.vt100_core.proofs.laws.lists_are_short.Goals as goal
 
 pub returns : goal.returns

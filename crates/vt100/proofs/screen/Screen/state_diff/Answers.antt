@@ -1,9 +1,11 @@
 use Rattle.std.proofs.Common.{◌∙◌, rules, [], ap, subst, sym}
+use Rattle.vt100_forms.specs.Attrs.{HasByteColors}
 use Rattle.vt100_forms.specs.Form.{spell}
 use Rattle.vt100.specs.FormLists.{IsShortText}
-use Rattle.vt100.specs.Writers.{contents_diff, state_diff}
+use Rattle.vt100.specs.Writers.{contents_diff}
 use Rattle.vt100.proofs.ShownLemmas.{difference-of_shown}
-use Rattle.vt100.proofs.FormLists.{screen-short, differences-local}
+use Rattle.vt100.proofs.FormLists.{differences-local}
+use Rattle.vt100.proofs.ShortLists.{screen-short}
 use Rattle.vt100_core.proofs.WriterLemmas.{appended_then}
 use Rattle.vt100.proofs.screen.Screen.state_diff.Goals as goal
 
@@ -13,10 +15,11 @@ returns c =
     let new = c.args.self.now.state in
     let first = rw c.new-contents.ensures.bytes at c.in_ok-write_contents_diff.ensures in
     let is = appended_then (contents_diff old new) _ [] _ _ first c.in_ok-write_input_mode_diff.ensures in
+    let colors : HasByteColors old.attrs = rw (← c.prev.view_is) c.prev.invariant.attrs.colors in
     record {
       text = is;
       shown = λ o h e. is ∙ ap spell (difference-of_shown old new o h e).state;
-      short = λ o h e. subst (IsShortText _ 1008) (sym is) (screen-short old new o h e).state_diff;
-      local = λ o h e plain. (state_diff old new, is, (differences-local old new o h e plain).1);
+      short = λ h. subst (IsShortText _ 1008) (sym is) (screen-short old new colors h).state_diff;
+      local = λ o h e plain. record { spelled = is; touches = (differences-local old new o h e plain).1 };
       memory = search rules;
     }

@@ -1,9 +1,9 @@
-use Rattle.std.proofs.Common.{◌∙◌, rules, [], ap, refl, subst, sym}
+use Rattle.std.proofs.Common.{◌∙◌, rules, [], ap, subst, sym}
 use Rattle.vt100_forms.specs.Form.{spell}
 use Rattle.vt100.specs.FormLists.{IsShortText}
 use Rattle.vt100.specs.Writers.{contents_formatted}
 use Rattle.vt100.proofs.ShownLemmas.{redraw-of_shown}
-use Rattle.vt100.proofs.FormLists.{screen-short}
+use Rattle.vt100.proofs.ShortLists.{screen-short}
 use Rattle.vt100_core.proofs.WriterLemmas.{appended_then}
 use Rattle.vt100.proofs.screen.Screen.state_formatted.Goals as goal
 
@@ -15,6 +15,6 @@ returns c =
     record {
       text = is;
       shown = λ h. is ∙ ap spell (redraw-of_shown s h).state;
-      short = λ h. subst (IsShortText _ 1008) (sym is) (screen-short s s h h refl).state_formatted;
+      short = λ h. subst (IsShortText _ 1008) (sym is) (screen-short s s h.attrs.colors h).state_formatted;
       memory = search rules;
     }

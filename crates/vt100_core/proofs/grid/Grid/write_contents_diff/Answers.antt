@@ -3,7 +3,8 @@ use Rattle.screen_drawing.specs.Rows.{pen_at}
 use Rattle.vt100_core.specs.Grid.{GridView}
 use Rattle.vt100_core.specs.Writers.{differing}
 use Rattle.vt100_core.proofs.WriterLemmas.{placed-attrs, placed-cursor, placed-rows, refused}
-use Rattle.vt100_core.proofs.FormLists.{grid-short, grown-short, appends-local}
+use Rattle.vt100_core.proofs.ShortLists.{grid-short}
+use Rattle.vt100_core.proofs.FormLists.{grown-short, appends-local}
 use Rattle.vt100_core.proofs.grid.Grid.write_contents_diff.Goals as goal
 
 pub returns-in_err-rows_diff-clause-text : goal.returns-in_err-rows_diff-clause-text
@@ -35,9 +36,10 @@ returns-clause-attrs c =
     placed-attrs c.args.self.now _ _ pen c.in_ok-rows_diff.ensures
 
 pub returns-clause-short : goal.returns-clause-short
-returns-clause-short c i o e k =
+returns-clause-short c drawn shown k =
     grown-short c.args.self.now (differing c.args.self.now c.args.prev.now c.args.prev_attrs).forms _ _
-    ((grid-short _ i).difference c.args.prev.now c.args.prev_attrs o e k) (returns-clause-text c)
+    ((grid-short c.args.self.now (rw (← c.self.view_is) c.self.invariant) drawn shown).difference c.args.prev.now c.args.prev_attrs k)
+    (returns-clause-text c)
 
 pub returns-clause-local : goal.returns-clause-local
 returns-clause-local c i o e k = appends-local c.args.self.now _ _ _ _ i o e k (returns-clause-text c)

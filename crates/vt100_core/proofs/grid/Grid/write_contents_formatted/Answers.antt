@@ -3,7 +3,8 @@ use Rattle.vt100_forms.specs.Form.{ClearAttrs, ClearScreen}
 use Rattle.screen_drawing.specs.Rows.{pen_at}
 use Rattle.vt100_core.specs.Writers.{contents_formatted, redrawn}
 use Rattle.vt100_core.proofs.WriterLemmas.{form_appends, placed-attrs, placed-cursor, placed-rows, refused}
-use Rattle.vt100_core.proofs.FormLists.{grid-short, grown-short}
+use Rattle.vt100_core.proofs.ShortLists.{grid-short}
+use Rattle.vt100_core.proofs.FormLists.{grown-short}
 use Rattle.vt100_core.proofs.grid.Grid.write_contents_formatted.Goals as goal
 
 pub returns-in_err-redraw_rows-clause-text : goal.returns-in_err-redraw_rows-clause-text
@@ -45,6 +46,6 @@ returns-clause-attrs c =
     placed-attrs c.args.self.now _ _ pen c.in_ok-redraw_rows.ensures
 
 pub returns-clause-short : goal.returns-clause-short
-returns-clause-short c h =
-    grown-short c.args.self.now (contents_formatted c.args.self.now) _ _ (grid-short _ h).contents
-    (returns-clause-text c)
+returns-clause-short c drawn shown =
+    grown-short c.args.self.now (contents_formatted c.args.self.now) _ _
+    (grid-short c.args.self.now (rw (← c.self.view_is) c.self.invariant) drawn shown).contents (returns-clause-text c)
