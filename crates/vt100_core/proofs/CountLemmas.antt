@@ -40,6 +40,9 @@ pub record CountsOn (g h : GridView) : Type 0 where
   pub more : g.kept.scrolled_off ≤ h.kept.scrolled_off
   pub bounded : h.kept.scrolled_off < 2 ^ 64
 
+pub CountsOn-trans : (g h k : GridView) → CountsOn g h → CountsOn h k → CountsOn g k
+CountsOn-trans g h k p q = record { more = omega (arith, p.more, q.more); bounded = q.bounded }
+
 counts-up : (g : GridView) (n : ℕ) → g.kept.scrolled_off < 2 ^ 64 → CountsOn g (scrolled_up g n).grid
 unfolding scrolled_up
 counts-up g n h =
@@ -95,7 +98,7 @@ counts-spaced g c a h =
     let on = counts-made g (columns_of c) true h in
     record { more = on.more; bounded = on.bounded }
 
-counts-printed : (g : GridView) (c : ℕ) (a : Attrs) → g.kept.scrolled_off < 2 ^ 64 → CountsOn g (printed g c a).grid
+pub counts-printed : (g : GridView) (c : ℕ) (a : Attrs) → g.kept.scrolled_off < 2 ^ 64 → CountsOn g (printed g c a).grid
 unfolding printed
 counts-printed g c a h =
     cond_both (is_dropped g.width g.col c) (record { grid = g; sunk = []; printed = Nothing })
@@ -109,5 +112,5 @@ pub counts-all : (xs : List ℕ) (g : GridView) (a : Attrs) → g.kept.scrolled_
 counts-all [] g a h = record { more = omega arith; bounded = h }
 counts-all (x ∷ xs) g a h =
     let one = counts-printed g x a h in
-    let more = counts-all xs (printed g x a).grid a one.bounded in
-    record { more = omega (arith, one.more, more.more); bounded = more.bounded }
+    CountsOn-trans g (printed g x a).grid (printed_all (printed g x a).grid xs a).grid one
+    (counts-all xs (printed g x a).grid a one.bounded)

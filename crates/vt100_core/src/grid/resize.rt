@@ -9,7 +9,7 @@ use vt100_rows::rows_resize::{keep_first, resize_rows};
 use vt100_rows::{RowSink, Size};
 
 impl Grid {
-    ghost use Rattle.vt100_core.specs.Grid.{GridView, IsAllocated, SameKeeping};
+    ghost use Rattle.vt100_core.specs.Grid.{GridView, IsGrid, IsAllocated, SameKeeping};
     ghost use Rattle.vt100_core.specs.Resize.{KeepsNoMore, whole_screen, shortened, with_width, resized};
 
     /// Gives the screen another size. The scroll region becomes the whole screen, and no kept row is shown.
@@ -30,8 +30,10 @@ impl Grid {
         ensures height { OnErr result ((self.new.height ≡ self.old.height) ⊎ (self.new.height ≡ size.rows.value)) }
         ensures width { OnErr result ((self.new.width ≡ self.old.width) ⊎ (self.new.width ≡ size.cols.value)) }
         ensures keeping { SameKeeping self.old.kept self.new.kept }
+        ensures same { size.rows.value ≡ self.old.height → size.cols.value ≡ self.old.width → IsOk result }
         ensures smaller { size.rows.value ≤ self.old.height → size.cols.value ≤ self.old.width
             → KeepsNoMore self.old size.rows.value → IsOk result }
+        ensures valid { IsGrid self.old }
         ensures allocated { IsAllocated self.old → IsAllocated self.new }
     {
         if size == self.size {
