@@ -1,5 +1,5 @@
 -- Callbacks behind a sink of rows, and calls of a screen that go through or find no memory.
-use Rattle.std.proofs.Common.{◌≡◌, ◌∙◌, ℕ, Bool, true, false, List, [], ◌∷◌, ◌++◌, ap, sym, subst, append-nil, nat_lt}
+use Rattle.std.proofs.Common.{◌≡◌, ◌∙◌, ℕ, Bool, true, false, List, [], ◌∷◌, ◌++◌, refl, ap, sym, subst, append-nil, nat_lt}
 use Rattle.std.proofs.Common.{Ok, Err, Result, OnOk, OnErr, arith}
 use Rattle.std.specs.Prelude.{IsOk, IsErr}
 use Rattle.std.proofs.lemmas.Bool.Decides.{nat_tests}
@@ -9,7 +9,7 @@ use Rattle.vt100_forms.proofs.ChangeLemmas.{on_ok}
 use Rattle.vt100_rows.specs.Sink.{TakesAll}
 use Rattle.vt100_rows.proofs.TextLemmas.{on-err}
 use Rattle.vt100_core.specs.Grid.{GridView, IsAllocated, SameLimits}
-use Rattle.vt100_core.specs.Scroll.{Scrolled}
+use Rattle.vt100_core.specs.Scroll.{Scrolled, ScrollsNoneOff}
 use Rattle.screen_model.specs.State.{State}
 use Rattle.screen_model.specs.Step.{Report, Stepped, reports_of}
 use Rattle.screen_model.specs.Call.{ScreenView, Hears}
@@ -28,6 +28,11 @@ at-err (Err x) e h = h
 not-ok : {T E P : Type 0} (r : Result T E) → IsErr r → IsOk r → P
 not-ok (Ok x) e h = absurd (false≢true e)
 not-ok (Err x) e h = absurd (false≢true h)
+
+pub ok-along : {T E U F : Type 0} (answer : Result T E) (result : Result U F) → OnErr result (IsErr answer) → IsOk answer
+    → IsOk result
+ok-along answer (Ok x) refused done = refl
+ok-along answer (Err e) refused done = not-ok answer refused done
 
 -- what a reporter does with a row
 abbrev pub Reports : {C : Type 0} → (C → RowView → Bool → C → Type 0) → Reporter C → RowView → Reporter C → Type 0
@@ -60,8 +65,9 @@ module _ {C : Type 0} (scrolls : C → RowView → Bool → C → Type 0) where
 
   pub draws_all : {A E : Type 0} {x : Scrolled} {g h : GridView} {s t : Reporter C} (result : Result A E)
       → OnOk result (h ≡ x.grid) → TakesAll (Reports scrolls) s x.sunk t → SameLimits g h
-      → (g.kept.capacity ≡ 0 → IsOk result) → IsAllocated h → Draws scrolls x g s result h t
-  draws_all {A} {E} {x} {g} {h} {s} {t} result is taken limits keeps some =
+      → (g.kept.capacity ≡ 0 → IsOk result) → (ScrollsNoneOff g x.grid → IsOk result) → IsAllocated h
+      → Draws scrolls x g s result h t
+  draws_all {A} {E} {x} {g} {h} {s} {t} result is taken limits keeps stays some =
       let all = hears_all s x.sunk t taken in
       record {
         grid = is;
@@ -70,6 +76,7 @@ module _ {C : Type 0} (scrolls : C → RowView → Bool → C → Type 0) where
         told = on-err result (hears_whole s.callbacks.now (reports_of s.alternate_screen x.sunk) t.callbacks.now all.0);
         limits = limits;
         keeps_none = keeps;
+        stays = stays;
         allocated = some;
       }
 
@@ -107,12 +114,14 @@ module _ {C : Type 0} (scrolls : C → RowView → Bool → C → Type 0) where
       (answer : Result A E) → v.failed ≡ false → failed ≡ true → IsErr answer
       → OnErr answer (HearsFront scrolls c (f v.state).reports d) → SameLimits v.state.shown h
       → (v.state.shown.kept.capacity ≡ 0 → IsOk answer)
+      → (ScrollsNoneOff v.state.shown (f v.state).state.shown → IsOk answer)
       → MayScroll scrolls f (record { screen = v; callbacks = c }) (Err Memory)
       (record { screen = record { state = record (v.state) { shown = h }; failed = failed }; callbacks = d })
-  scroll_refused {A} {E} {c} {d} {h} f v answer live failed refused told limits keeps = record {
+  scroll_refused {A} {E} {c} {d} {h} f v answer live failed refused told limits keeps stays = record {
     tries = tries_front f v c _ d live failed (at-err answer refused told);
     bounds = bounds_drawn v.state h v.state.last limits;
     keeps_none = λ _ none. not-ok answer refused (keeps none);
+    stays = λ _ none. not-ok answer refused (stays none);
   }
 
   -- a call by which rows may leave, in other words
@@ -133,6 +142,8 @@ module _ {C : Type 0} (scrolls : C → RowView → Bool → C → Type 0) where
         };
         bounds = x.bounds;
         keeps_none = x.keeps_none;
+        stays = λ live none. x.stays live
+            (subst (λ (u : Stepped). ScrollsNoneOff p.screen.state.shown u.state.shown) (sym e) none);
       }
 
 some-kept : (n : ℕ) → (n ≡ 0 → ⊥) → nat_lt 0 n ≡ true

@@ -1,8 +1,10 @@
 -- A character that is printed again and again.
-use Rattle.std.proofs.Common.{◌≡◌, ◌∙◌, ◌<◌, ◌++◌, ℕ, zero, suc, Bool, false, List, [], Ok, Err}
+use Rattle.std.proofs.Common.{◌≡◌, ◌∙◌, ◌<◌, ◌^◌, ◌++◌, ℕ, zero, suc, Bool, false, List, [], Ok, Err}
 use Rattle.std.proofs.Common.{refl, ap, sym, arith, append_assoc, append-nil, inl, inr}
 use Rattle.std.proofs.lemmas.Bool.{cases_lt, false≢true}
 use Rattle.vt100_rows.specs.Row.{RowView}
+use Rattle.vt100_core.specs.Scroll.{ScrollsNoneOff}
+use Rattle.vt100_core.proofs.CountLemmas.{CountsOn, CountsOn-trans, counts-printed}
 use Rattle.screen_model.specs.State.{State}
 use Rattle.screen_model.specs.Step.{Report, typed, typed_times}
 use Rattle.screen_model.specs.Call.{ScreenView, Hears}
@@ -28,6 +30,44 @@ times_more (suc n) i ch s h =
           rw is ([], ap (λ (xs : List Report). (typed_times n ch s).reports ++ xs) (sym (append-nil last)))
     ]
 
+-- ---- how many rows have scrolled off
+
+counts_times : (n ch : ℕ) (s : State) → s.shown.kept.scrolled_off < 2 ^ 64
+    → CountsOn s.shown (typed_times n ch s).state.shown
+counts_times zero ch s h = record { more = omega arith; bounded = h }
+counts_times (suc n) ch s h =
+    let t = (typed_times n ch s).state in
+    let c = counts_times n ch s h in
+    CountsOn-trans s.shown t.shown (typed ch t).state.shown c (counts-printed t.shown ch t.attrs c.bounded)
+
+-- of n times, after the first i and one more
+counts_more : (n i ch : ℕ) (s : State) → i < n → s.shown.kept.scrolled_off < 2 ^ 64
+    → CountsOn (typed_times (suc i) ch s).state.shown (typed_times n ch s).state.shown
+counts_more zero i ch s l h = absurd (omega (arith, l))
+counts_more (suc n) i ch s within h =
+    let t = (typed_times n ch s).state in
+    let u = (typed_times (suc i) ch s).state in
+    let c = counts_times n ch s h in
+    elim (cases_lt i n) [
+      | inl l ↦ CountsOn-trans u.shown t.shown (typed ch t).state.shown (counts_more n i ch s l h)
+          (counts-printed t.shown ch t.attrs c.bounded)
+      | inr l ↦
+          let is : i ≡ n = omega arith in
+          rw is (let whole = counts_times (suc n) ch s h in record { more = omega arith; bounded = whole.bounded })
+    ]
+
+-- where no row scrolls off by all of them none does by one
+none_once_more : (n i ch : ℕ) (s : State) → i < n → ScrollsNoneOff s.shown (typed_times n ch s).state.shown
+    → ScrollsNoneOff (typed_times i ch s).state.shown (typed_times (suc i) ch s).state.shown
+none_once_more n i ch s l none =
+    let t = (typed_times i ch s).state in
+    let first = counts_times i ch s (omega (arith, none.0)) in
+    let next = counts-printed t.shown ch t.attrs first.bounded in
+    let last = counts_more n i ch s l (omega (arith, none.0)) in (
+      omega (arith, none.0, none.1, first.more, next.more, last.more),
+      omega (arith, none.1, first.more, next.more, last.more),
+    )
+
 module _ {C : Type 0} (scrolls : C → RowView → Bool → C → Type 0) where
   pub scroll_none : (ch : ℕ) (p : WrappedScreen C) → p.screen.failed ≡ false
       → MayScroll scrolls (typed_times 0 ch) p (Ok tt) p
@@ -36,6 +76,7 @@ module _ {C : Type 0} (scrolls : C → RowView → Bool → C → Type 0) where
         (is_alive p.screen live) refl;
     bounds = bounds_same p.screen.state;
     keeps_none = λ _ _. refl;
+    stays = λ _ _. refl;
   }
 
   -- once more
@@ -50,6 +91,7 @@ module _ {C : Type 0} (scrolls : C → RowView → Bool → C → Type 0) where
             (rw x.tries.screen at y.tries.hears));
         bounds = bounds_trans p.screen.state m.screen.state q.screen.state x.bounds y.bounds;
         keeps_none = λ _ _. refl;
+        stays = λ _ _. refl;
       }
 
   -- the first of the rows of a part, after all that were before it
@@ -81,4 +123,6 @@ module _ {C : Type 0} (scrolls : C → RowView → Bool → C → Type 0) where
         bounds = bounds_trans s m.screen.state q.screen.state x.bounds y.bounds;
         keeps_none = λ _ none. y.keeps_none (ap (λ (v : ScreenView). v.failed) is)
             (ap (λ (v : ScreenView). v.state.shown.kept.capacity) is ∙ capacity_times i ch s ∙ none);
+        stays = λ _ none. y.stays (ap (λ (v : ScreenView). v.failed) is)
+            (rw is (none_once_more n i ch s within none));
       }

@@ -18,6 +18,7 @@ use Rattle.vt100_forms.specs.declared.attrs.Attrs.{Attrs}
 use Rattle.vt100_rows.specs.Row.{RowView}
 use Rattle.vt100_rows.specs.Sink.{TakesAll}
 use Rattle.vt100_core.specs.Grid.{GridView, IsAllocated, SameLimits}
+use Rattle.vt100_core.specs.Scroll.{ScrollsNoneOff}
 use Rattle.vt100_core.specs.Text.{PrintedGrid, printed, spaced, printed_all, TakesFront}
 use Rattle.vt100_core.specs.declared.printed.Printed.{Printed}
 use Rattle.vt100_core.proofs.TextLemmas.{IsMade-made, printed-spaced}
@@ -143,9 +144,11 @@ module _ {C : Type 0} (scrolls : C → RowView → Bool → C → Type 0) where
       (result : Result A E) → OnOk result (h ≡ (printed_all g xs a).grid)
       → OnOk result (TakesAll (Reports scrolls) s (printed_all g xs a).sunk t)
       → OnErr result (TakesFront (Reports scrolls) s g xs a t) → SameLimits g h
-      → (g.kept.capacity ≡ 0 → IsOk result) → IsAllocated h → Draws scrolls (printed_all g xs a) g s result h t
-  draws_run xs a (Ok u) is taken begun limits keeps some = draws_all scrolls (Ok u) is taken limits keeps some
-  draws_run {A} {E} {g} {h} {s} {t} xs a (Err e) is taken begun limits keeps some =
+      → (g.kept.capacity ≡ 0 → IsOk result) → (ScrollsNoneOff g (printed_all g xs a).grid → IsOk result)
+      → IsAllocated h → Draws scrolls (printed_all g xs a) g s result h t
+  draws_run xs a (Ok u) is taken begun limits keeps stays some =
+      draws_all scrolls (Ok u) is taken limits keeps stays some
+  draws_run {A} {E} {g} {h} {s} {t} xs a (Err e) is taken begun limits keeps stays some =
       let front = printed_all g begun.0 a in
       let rest = printed_all front.grid begun.1 a in
       let reports = reports_of s.alternate_screen in
@@ -164,6 +167,7 @@ module _ {C : Type 0} (scrolls : C → RowView → Bool → C → Type 0) where
         );
         limits = limits;
         keeps_none = keeps;
+        stays = stays;
         allocated = some;
       }
 

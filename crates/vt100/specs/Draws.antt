@@ -3,7 +3,7 @@ use Rattle.std.specs.Prelude.{◌≡◌, ℕ, Bool, Option, Result, OnOk, OnErr,
 use Rattle.vt100_forms.specs.declared.attrs.Attrs.{Attrs}
 use Rattle.vt100_rows.specs.Row.{RowView}
 use Rattle.vt100_core.specs.Grid.{GridView, IsAllocated, SameLimits}
-use Rattle.vt100_core.specs.Scroll.{Scrolled, fed, scrolled_up}
+use Rattle.vt100_core.specs.Scroll.{Scrolled, ScrollsNoneOff, fed, scrolled_up}
 use Rattle.vt100_core.specs.Text.{PrintedGrid, printed, printed_all}
 use Rattle.vt100_core.specs.declared.printed.Printed.{Printed}
 use Rattle.vt100_core.specs.declared.printed.Printed.TheVariants.{Nothing, Spacing}
@@ -58,8 +58,8 @@ drawn_on d s =
     }
 
 -- A call that makes x of a sheet g, which is then h, and tells the callbacks of a reporter s, which is then t, of the
--- rows that leave. It finds no memory only where rows are kept; then what h shows is open, but not its bounds, and the
--- callbacks were told of the first of the rows alone.
+-- rows that leave. It finds no memory only where rows scroll off that are kept; then what h shows is open, but not its
+-- bounds, and the callbacks were told of the first of the rows alone.
 pub record Draws {C A E : Type 0} (scrolls : C → RowView → Bool → C → Type 0) (x : Scrolled) (g : GridView)
     (s : Reporter C) (result : Result A E) (h : GridView) (t : Reporter C) : Type 0 where
   pub grid : OnOk result (h ≡ x.grid)
@@ -68,4 +68,5 @@ pub record Draws {C A E : Type 0} (scrolls : C → RowView → Bool → C → Ty
   pub told : OnErr result (HearsFront scrolls s.callbacks.now (reports_of s.alternate_screen x.sunk) t.callbacks.now)
   pub limits : SameLimits g h
   pub keeps_none : g.kept.capacity ≡ 0 → IsOk result
+  pub stays : ScrollsNoneOff g x.grid → IsOk result
   pub allocated : IsAllocated h

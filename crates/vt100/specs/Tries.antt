@@ -1,8 +1,9 @@
 -- What calls do to a screen, and how they are refused.
-use Rattle.std.specs.Prelude.{◌≡◌, ◌⊎◌, ℕ, Bool, true, false, List, ◌++◌, Result, Err, OnOk, IfOk, IsOk, if◌then◌else◌}
+use Rattle.std.specs.Prelude.{◌≡◌, ◌⊎◌, ◌≤◌, ℕ, Bool, true, false, List, ◌++◌, Result, Err, OnOk, IfOk, IsOk, if◌then◌else◌}
 use Rattle.vt100_rows.specs.Row.{RowView}
 use Rattle.vt100_core.specs.Grid.{SameLimits}
-use Rattle.vt100_core.specs.Resize.{resized}
+use Rattle.vt100_core.specs.Scroll.{ScrollsNoneOff}
+use Rattle.vt100_core.specs.Resize.{KeepsNoMore, resized}
 use Rattle.screen_model.specs.State.{State, main_sheet, alternate_sheet}
 use Rattle.screen_model.specs.Step.{Stepped, Partly, Report}
 use Rattle.screen_model.specs.Call.{ScreenView, Hears}
@@ -53,12 +54,14 @@ pub record Tries {C A : Type 0} (scrolls : C → RowView → Bool → C → Type
   pub dead : v.failed ≡ true → (result ≡ Err Failed) × (w ≡ v) × (d ≡ c)
 
 -- A call that does f, by which rows may leave a sheet: the sheets keep their sizes, and memory is refused only where
--- rows are kept.
+-- rows scroll off that are kept.
 pub record MayScroll {C : Type 0} (scrolls : C → RowView → Bool → C → Type 0) (f : State → Stepped)
     (old : WrappedScreen C) (result : Result (Unit {0}) ScreenError) (new : WrappedScreen C) : Type 0 where
   pub tries : Tries scrolls f old.screen old.callbacks result new.screen new.callbacks
   pub bounds : SameBounds old.screen.state new.screen.state
   pub keeps_none : old.screen.failed ≡ false → old.screen.state.shown.kept.capacity ≡ 0 → IsOk result
+  pub stays : old.screen.failed ≡ false
+      → ScrollsNoneOff old.screen.state.shown (f old.screen.state).state.shown → IsOk result
 
 -- A call that gives a screen and its sheets another size, as f does. A refused one says where it has stopped, and the
 -- same size isn't refused.
@@ -67,6 +70,10 @@ pub record Resizes {C : Type 0} (scrolls : C → RowView → Bool → C → Type
   pub tries : Tries scrolls f v c result w d
   pub stops : result ≡ Err Memory → Stops rows cols v.state w.state
   pub same : v.failed ≡ false → rows ≡ v.state.shown.height → cols ≡ v.state.shown.width → IsOk result
+
+-- a size that takes no memory: the screen gets no wider and no higher, and keeps no row more
+abbrev pub TakesNone : ℕ → ℕ → State → Type 0
+TakesNone rows cols s = (rows ≤ s.shown.height) × (cols ≤ s.shown.width) × KeepsNoMore (main_sheet s) rows
 
 -- A call that can't be refused, but of which parts can be unknown; the answer says how many were. A failed screen stays
 -- as it is, and then none was.

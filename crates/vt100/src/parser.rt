@@ -11,7 +11,7 @@ ghost use Rattle.screen_model.specs.Step.{resized_to};
 ghost use Rattle.screen_model.specs.Made.{Act, Fed, Resized, events_added};
 ghost use Rattle.screen_model.specs.Holds.{AreActs};
 ghost use Rattle.vt100.specs.Memory.{some_may_take};
-ghost use Rattle.vt100.specs.Tries.{Tries, SameBounds, Stops, alive};
+ghost use Rattle.vt100.specs.Tries.{Tries, TakesNone, SameBounds, Stops, alive};
 ghost use Rattle.vt100.specs.declared.error.ScreenError.TheVariants.{Memory, Failed};
 
 use crate::callbacks::Callbacks;
@@ -152,11 +152,13 @@ impl<CB: Callbacks> Parser<CB> {
     }
 
     /// Gives the screen another size, and tells the callbacks of the rows that leave it. A synchronized update of the
-    /// program's ends. The same size changes nothing else, and isn't refused.
+    /// program's ends. The same size changes nothing else.
     ///
     /// A screen that becomes lower first loses the rows under the cursor, and then lets its top rows scroll off. One
-    /// that becomes higher gets as many rows back at its top as have scrolled off, blank where they weren't kept. Where
-    /// memory is refused the call has stopped at the sheet that found none, whose size is open; the main one comes first.
+    /// that becomes higher gets as many rows back at its top as have scrolled off, blank where they weren't kept.
+    ///
+    /// Refused is only what makes the screen wider or higher, or keeps a row more. Then the call has stopped at the sheet
+    /// that found no memory, whose size is open; the main one comes first.
     pub fn set_size(&mut self, rows: NonZeroU16, cols: NonZeroU16) -> Result<(), ScreenError>
         ensures screen { Tries CB.scrolls (resized_to rows.value cols.value) self.old.screen self.old.callbacks
             result self.new.screen self.new.callbacks }
@@ -164,6 +166,8 @@ impl<CB: Callbacks> Parser<CB> {
             → Stops rows.value cols.value self.old.screen.state self.new.screen.state }
         ensures same { self.old.screen.failed ≡ false → rows.value ≡ self.old.screen.state.shown.height
             → cols.value ≡ self.old.screen.state.shown.width → IsOk result }
+        ensures smaller { self.old.screen.failed ≡ false → TakesNone rows.value cols.value self.old.screen.state
+            → IsOk result }
         ensures reader { self.new.reader ≡ self.old.reader }
         ensures made { (height width capacity : ℕ) (acts : List Act) → ParserStandsAt self.old height width capacity acts
             → OnOk result (ParserStandsAt self.new height width capacity (acts ++ Resized rows.value cols.value ∷ [])) }

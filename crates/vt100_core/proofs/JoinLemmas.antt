@@ -50,6 +50,7 @@ module _ {g : GridView} (c : ℕ) (a : Attrs) {h : GridView} (i : IsGrid g) (l :
     answer = sym is.2;
     limits = same;
     keeps_none = λ z. refl;
+    stays = λ z. refl;
     allocated = some;
   }
 

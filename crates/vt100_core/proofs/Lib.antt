@@ -14,6 +14,7 @@ pub mod ResizeLemmas
 pub mod PlaceLemmas
 pub mod LengthenLemmas
 pub mod PictureLemmas
+pub mod CountLemmas
 pub mod RunLemmas
 pub mod InputLemmas
 pub mod BasicLemmas

@@ -18,9 +18,10 @@ use Rattle.vt100_rows.specs.Sink.{TakesAll}
 use Rattle.vt100_rows.proofs.SinkLemmas.{TakesAll-append, TakesAll-list}
 use Rattle.vt100_core.specs.declared.printed.Printed.TheVariants.{Spacing}
 use Rattle.vt100_core.specs.Grid.{GridView, IsGrid, IsAllocated, SameLimits, row_of_cursor, with_cursor_row}
-use Rattle.vt100_core.specs.Scroll.{Scrolled, ScrollsTo, wrapped_on, made_to_fit}
+use Rattle.vt100_core.specs.Scroll.{Scrolled, ScrollsTo, ScrollsNoneOff, wrapped_on, made_to_fit}
 use Rattle.vt100_core.specs.Text.{PrintedGrid, PrintsAll, PrintsFirst, put_at, printed, printed_all}
 use Rattle.vt100_core.proofs.GridLemmas.{SameLimits-trans}
+use Rattle.vt100_core.proofs.CountLemmas.{counts-all}
 use Rattle.vt100_core.proofs.EraseLemmas.{cursor_row_of}
 use Rattle.vt100_core.proofs.TextLemmas.{IsGrid-put_row, IsRowOf-placed, unwrapped-placed, span_of-cell, printed-spaced}
 
@@ -167,6 +168,7 @@ module _ {n : ℕ} {columns : List ℕ → ℕ} {put_in : RowView → ℕ → Li
         begun = tt;
         limits = rw e (record { height = c.limits.height; width = c.limits.width; kept = c.limits.kept });
         keeps_none = λ z. refl;
+        stays = λ z. refl;
         allocated = l;
       }
 
@@ -185,6 +187,8 @@ module _ {n : ℕ} {columns : List ℕ → ℕ} {put_in : RowView → ℕ → Li
         ∙ ap (λ (d : PrintedGrid). d.sunk) (printed-of g x a n (p zero 0 (omega arith)) run.some w))) c.sink;
     limits = c.limits;
     keeps_none = c.keeps_none;
+    stays = λ z. c.stays (subst (λ (d : PrintedGrid). ScrollsNoneOff g d.grid)
+        (printed-of g x a n (p zero 0 (omega arith)) run.some w) z);
     allocated = c.allocated;
   }
 
@@ -269,6 +273,27 @@ on-the-way-next {IsOne} {takes = takes} {s0} {s} {t} {g0} {g} {h} {rest = rest} 
   allocated = next.allocated;
 }
 
+-- where no row scrolls off by all of them none does by the first of what is left
+none-on-the-way : (g0 g : GridView) (front rest : List ℕ) (a : Attrs) → g ≡ (printed_all g0 front a).grid
+    → ScrollsNoneOff g0 (printed_all g0 (front ++ rest) a).grid → ScrollsNoneOff g (printed_all g (take 1 rest) a).grid
+none-on-the-way g0 g front rest a e none =
+    let f = (printed_all g0 front a).grid in
+    let m = (printed_all f (take 1 rest) a).grid in
+    let t = (printed_all m (drop 1 rest) a).grid in
+    let parts : (printed_all g0 (front ++ rest) a).grid ≡ t =
+    ap (λ (s : Scrolled). s.grid) (printed_all-append front rest g0 a)
+    ∙ ap (λ xs. (printed_all f xs a).grid) (sym (take-append-drop 1 rest))
+    ∙ ap (λ (s : Scrolled). s.grid) (printed_all-append (take 1 rest) (drop 1 rest) f a) in
+    let count : t.kept.scrolled_off ≡ g0.kept.scrolled_off =
+    ap (λ (x : GridView). x.kept.scrolled_off) (sym parts) ∙ none.1 in
+    let one = counts-all front g0 a (omega (arith, none.0)) in
+    let two = counts-all (take 1 rest) f a one.bounded in
+    let three = counts-all (drop 1 rest) m a two.bounded in
+    rw e (
+      omega (arith, none.0, count, one.more, two.more, three.more),
+      omega (arith, count, one.more, two.more, three.more),
+    )
+
 -- where the first character of what is left is refused
 pub on-the-way-refused : {IsOne : ℕ → Type 0} {S : Type 0} {takes : S → RowView → S → Type 0} {s0 s t : S}
     {g0 g h : GridView} {text rest : List ℕ} {a : Attrs} {T E : Type 0} {e : E}
@@ -286,5 +311,7 @@ on-the-way-refused {takes = takes} {s0} {s} {t} {g0} {g} {h} {rest = rest} {a} w
   );
   limits = SameLimits-trans g0 g h w.limits next.limits;
   keeps_none = λ z. next.keeps_none (w.limits.kept.capacity ∙ z);
+  stays = λ z. next.stays (none-on-the-way g0 g w.front rest a w.grid
+      (subst (λ xs. ScrollsNoneOff g0 (printed_all g0 xs a).grid) w.parts z));
   allocated = next.allocated;
 }

@@ -1,5 +1,5 @@
 -- Scrolling up.
-use Rattle.std.proofs.Common.{◌≡◌, ℕ, ◌+◌, ◌-◌, ◌<◌, ◌==◌, Bool, true, false, cond, ◌&&◌, List, [], length, take, drop}
+use Rattle.std.proofs.Common.{◌≡◌, ℕ, ◌+◌, ◌<◌, ◌==◌, Bool, true, false, cond, ◌&&◌, List, [], length, take, drop}
 use Rattle.std.proofs.Common.{⊎_elim, min, refl, sym, ap, ◌∙◌, arith, nat_le, subst}
 use Rattle.std.specs.Prelude.{Result, Ok}
 use Rattle.std.proofs.lemmas.Bool.{cases_Bool, eq-eqb, ne_eqb, eqb-true, and_parts, and_from, cond-true, cond-false}
@@ -134,6 +134,7 @@ scrolls-closed g count e k some taken = record {
   sink = taken;
   limits = rw e (record { height = refl; width = refl; kept = record { keeps = refl; capacity = refl } });
   keeps_none = λ z. refl;
+  stays = λ z. refl;
   allocated = some;
 }
 
@@ -174,6 +175,7 @@ scrolls-kept {takes = takes} {s} {t} g {rows} count end n width height k same a 
       sink = taken-kept takes s t g count end n top keeps ee en same z;
       limits = record { height = refl; width = refl; kept = limits };
       keeps_none = λ none. refl;
+      stays = λ none. refl;
       allocated = omega (arith, some, a);
     }
 

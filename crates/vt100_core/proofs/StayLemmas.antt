@@ -106,6 +106,7 @@ scrolls-nothing {takes = takes} {s} g n e i a = record {
   sink = TakesAll-list takes s s [] _ (sinks-none g n e i.kept.fits) refl;
   limits = record { height = refl; width = refl; kept = record { keeps = refl; capacity = refl } };
   keeps_none = λ z. refl;
+  stays = λ z. refl;
   allocated = a;
 }
 

@@ -1,5 +1,5 @@
 -- Another size of the screen, in steps, each by positions.
-use Rattle.std.specs.Prelude.{◌≡◌, ℕ, ◌+◌, ◌-◌, ◌<◌, ◌==◌, ◌&&◌, nat_lt, min, List, [], ◌++◌, length, take, drop, map}
+use Rattle.std.specs.Prelude.{◌≡◌, ◌⊎◌, ℕ, ◌+◌, ◌-◌, ◌<◌, ◌==◌, ◌&&◌, nat_lt, min, List, [], ◌++◌, length, take, drop, map}
 use Rattle.std.specs.Prelude.{replicate, if◌then◌else◌}
 use Rattle.vt100_cells.specs.Cell.{default_cell}
 use Rattle.vt100_rows.specs.Row.{RowView, blank_row, resized_row, unwrapped}
@@ -14,6 +14,10 @@ whole_screen g = record g { top = 0; bottom = g.height - 1; kept = record (g.kep
 -- how many rows scroll off at the top where the screen gets this height: as many as go, less those under the cursor
 abbrev pub up_rows : GridView → ℕ → ℕ
 up_rows g height = (g.height - height) - (g.height - 1 - g.row)
+
+-- no row more is kept where the screen gets this height: none scrolls off, or the grid keeps none
+abbrev pub KeepsNoMore : GridView → ℕ → Type 0
+KeepsNoMore g height = (up_rows g height ≡ 0) ⊎ (g.kept.capacity ≡ 0)
 
 -- the rows up to this height alone, after `up` others have scrolled off; the cursors go with their rows
 abbrev pub shortened : GridView → ℕ → ℕ → GridView

@@ -1,6 +1,6 @@
 -- Scrolling up, and the rows that leave the screen. A row that leaves for good is given to a sink; a result says which
 -- rows, in their order.
-use Rattle.std.specs.Prelude.{ℕ, ◌+◌, ◌-◌, ◌^◌, ◌==◌, Bool, not, ◌&&◌, nat_le, min, List, [], ◌++◌, length, take, drop}
+use Rattle.std.specs.Prelude.{ℕ, ◌+◌, ◌-◌, ◌^◌, ◌<◌, ◌==◌, Bool, not, ◌&&◌, nat_le, min, List, [], ◌++◌, length, take, drop}
 use Rattle.std.specs.Prelude.{◌≡◌, map, if◌then◌else◌, Result, OnOk, IsOk}
 use Rattle.vt100_cells.specs.Cell.{default_cell}
 use Rattle.vt100_rows.specs.Row.{RowView, grown, trimmed, with_wrap}
@@ -14,15 +14,20 @@ pub record Scrolled : Type 0 where
   pub grid : GridView
   pub sunk : List RowView
 
+-- no row scrolls off at the top on the way from g to h, as the counts say; a count that has come to its end says nothing
+abbrev pub ScrollsNoneOff : GridView → GridView → Type 0
+ScrollsNoneOff g h = (g.kept.scrolled_off < 2 ^ 64 - 1) × (h.kept.scrolled_off ≡ g.kept.scrolled_off)
+
 -- what a call does that makes a grid g into h and a sink s into t: it gives the sink the rows that leave for good on
--- the way to o, also where it is refused, and h is the grid of o unless it is. Only a grid that keeps rows can be
--- refused.
+-- the way to o, also where it is refused, and h is the grid of o unless it is. It is refused only where rows scroll
+-- off that are kept.
 pub record ScrollsTo {S : Type 0} (takes : S → RowView → S → Type 0) (s t : S) (g h : GridView) {T E : Type 0}
     (result : Result T E) (o : Scrolled) : Type 0 where
   pub grid : OnOk result (h ≡ o.grid)
   pub sink : TakesAll takes s o.sunk t
   pub limits : SameLimits g h
   pub keeps_none : g.kept.capacity ≡ 0 → IsOk result
+  pub stays : ScrollsNoneOff g o.grid → IsOk result
   pub allocated : IsAllocated h
 
 -- ---- what is kept

@@ -8,7 +8,7 @@ use Rattle.vt100_rows.specs.Row.{RowView, placed, wiped_row, joined_cell, joined
 use Rattle.terminal_model.specs.Apply.{is_dropped}
 use Rattle.vt100_rows.specs.Sink.{TakesAll}
 use Rattle.vt100_core.specs.Grid.{GridView, IsAllocated, SameLimits, with_cursor_row, row_of_cursor}
-use Rattle.vt100_core.specs.Scroll.{Scrolled, made_to_fit, wrapped_on}
+use Rattle.vt100_core.specs.Scroll.{Scrolled, ScrollsNoneOff, made_to_fit, wrapped_on}
 use Rattle.vt100_core.specs.declared.printed.Printed.{Printed}
 use Rattle.vt100_core.specs.declared.printed.Printed.TheVariants.{Nothing, Spacing, Joined}
 
@@ -19,8 +19,8 @@ pub record PrintedGrid : Type 0 where
   pub printed : Printed
 
 -- what a call does that makes a grid g into h and a sink s into t: it gives the sink the rows that leave for good on
--- the way to p, also where it is refused, and h is the grid of p unless it is. Only a grid that keeps rows can be
--- refused.
+-- the way to p, also where it is refused, and h is the grid of p unless it is. It is refused only where rows scroll
+-- off that are kept.
 pub record Prints {S : Type 0} (takes : S → RowView → S → Type 0) (s t : S) (g h : GridView) {E : Type 0}
     (result : Result Printed E) (p : PrintedGrid) : Type 0 where
   pub grid : OnOk result (h ≡ p.grid)
@@ -28,6 +28,7 @@ pub record Prints {S : Type 0} (takes : S → RowView → S → Type 0) (s t : S
   pub answer : IfOk result (λ answer. answer ≡ p.printed)
   pub limits : SameLimits g h
   pub keeps_none : g.kept.capacity ≡ 0 → IsOk result
+  pub stays : ScrollsNoneOff g p.grid → IsOk result
   pub allocated : IsAllocated h
 
 -- the cell at the cursor, and the cursor n columns on
@@ -104,6 +105,7 @@ pub record PrintsAll {S : Type 0} (takes : S → RowView → S → Type 0) (s t 
   pub begun : OnErr result (TakesFront takes s g text a t)
   pub limits : SameLimits g h
   pub keeps_none : g.kept.capacity ≡ 0 → IsOk result
+  pub stays : ScrollsNoneOff g (printed_all g text a).grid → IsOk result
   pub allocated : IsAllocated h
 
 -- the same of some characters at the text's front, where its first one may be refused
@@ -116,4 +118,5 @@ pub record PrintsFirst {S : Type 0} (takes : S → RowView → S → Type 0) (s 
   pub begun : OnErr result (TakesAll takes s (printed_all g (take 1 text) a).sunk t)
   pub limits : SameLimits g h
   pub keeps_none : g.kept.capacity ≡ 0 → IsOk result
+  pub stays : ScrollsNoneOff g (printed_all g (take 1 text) a).grid → IsOk result
   pub allocated : IsAllocated h

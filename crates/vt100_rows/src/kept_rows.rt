@@ -129,9 +129,10 @@ pub fn resize_newest(rows: &mut VecDeque<Row>, n: usize, width: u16) -> Result<(
     ensures rows { OnOk result (rows.new.items ≡ take (length rows.old.items - n) rows.old.items
         ++ map (λ v. resized_row v width default_cell) (drop (length rows.old.items - n) rows.old.items)) }
 
-    // Also where memory ran out.
+    // Also where memory ran out, which it does only where a row gets other columns.
     ensures each { (j : ℕ) → j < length rows.new.items → IsRow (row_at rows.new.items j) }
     ensures count { length rows.new.items ≡ length rows.old.items }
+    ensures none { n ≡ 0 → IsOk result }
 {
     for j in rows.len() - n..rows.len() {
         rows[j].resize(width, Cell::new())?;

@@ -49,9 +49,10 @@ impl Model for Row {
 }
 
 impl Row {
-    /// A row of `cols` default cells. It takes memory for these and no more.
+    /// A row of `cols` default cells. It takes memory for these and no more; a row without cells takes none.
     pub fn new(alloc: Global, cols: u16) -> Result<Self, GridError>
-        ensures { IfOk result (λ row. row ≡ blank_row cols) }
+        ensures row { IfOk result (λ row. row ≡ blank_row cols) }
+        ensures none { cols ≡ 0 → IsOk result }
     {
         let mut cells = Vec::with_capacity(alloc, usize::from(cols))?;
         cells.resize(usize::from(cols), Cell::new())?;

@@ -1,6 +1,6 @@
 //! Rows that come back at the top of a list of rows.
 ghost use Rattle.std.specs.Prelude.{◌≡◌, ℕ, ◌+◌, ◌-◌, ◌^◌, ◌<◌, ◌≤◌, ◌++◌, List, length, take, drop, map, replicate};
-ghost use Rattle.std.specs.Prelude.{vec_len, vec_capacity, OnOk, OnErr};
+ghost use Rattle.std.specs.Prelude.{vec_len, vec_capacity, IsOk, OnOk, OnErr};
 ghost use Rattle.vt100_cells.specs.Cell.{default_cell};
 ghost use Rattle.vt100_rows.specs.Row.{RowView, IsRow, blank_row, resized_row};
 ghost use Rattle.vt100_rows.specs.Sheet.{row_at};
@@ -26,10 +26,11 @@ pub fn bring_back(
         ++ rows.old.items ++ replicate below (blank_row width)) }
     ensures kept { OnOk result (kept.new.items ≡ take (length kept.old.items - down) kept.old.items) }
 
-    // Where memory ran out.
+    // Where memory ran out, which it does only where rows are put.
     ensures same { OnErr result (rows.new.items ≡ rows.old.items) }
     ensures each { OnErr result ((j : ℕ) → j < length kept.new.items → IsRow (row_at kept.new.items j)) }
     ensures count { OnErr result (length kept.new.items ≡ length kept.old.items) }
+    ensures none { down + below ≡ 0 → IsOk result }
 {
     let come = down.min(kept.len());
     resize_newest(kept, come, width)?;
@@ -48,6 +49,7 @@ fn push_blank(rows: &mut Vec<Row>, n: usize, width: u16) -> Result<(), GridError
     ensures len { OnOk result (vec_len rows.new ≡ vec_len rows.old + n) }
     ensures capacity { vec_capacity rows.new ≡ vec_capacity rows.old }
     ensures same { OnErr result (rows.new.items ≡ rows.old.items) }
+    ensures none { n ≡ 0 → IsOk result }
 {
     let alloc = *rows.allocator();
     let len = rows.len();

@@ -1,5 +1,5 @@
 //! Another size of a list of rows.
-ghost use Rattle.std.specs.Prelude.{◌≡◌, ℕ, ◌<◌, ◌≤◌, length, min, OnOk, OnErr};
+ghost use Rattle.std.specs.Prelude.{◌≡◌, ℕ, ◌<◌, ◌≤◌, length, min, IsOk, OnOk, OnErr};
 ghost use Rattle.vt100_cells.specs.Cell.{default_cell};
 ghost use Rattle.vt100_rows.specs.Row.{RowView, truncated, grown, resized_row};
 ghost use Rattle.vt100_rows.specs.Sheet.{row_at, rows_by_position, IsSheet, changed_between, first_rows};
@@ -21,12 +21,14 @@ pub fn keep_first(rows: &mut Vec<Row>, height: u16)
     }
 }
 
-/// Gives every row `to` columns, where they have `from`. If there isn't memory for that each has `from` columns again.
+/// Gives every row `to` columns, where they have `from`. If there isn't memory for that each has `from` columns again;
+/// that can be only where the rows become wider.
 pub fn resize_rows(rows: &mut [Row], from: u16, to: u16) -> Result<(), GridError>
     requires sheet { IsSheet (length rows.old) from rows.old }
     ensures rows { OnOk result (rows.new ≡ rows_by_position (length rows.old)
         (λ r. resized_row (row_at rows.old r) to default_cell)) }
     ensures sheet { OnErr result (IsSheet (length rows.old) from rows.new) }
+    ensures narrower { to ≤ from → IsOk result }
 {
     if to < from {
         narrow_rows(rows, rows.len(), to);
@@ -44,6 +46,7 @@ fn widen_rows(rows: &mut [Row], from: u16, to: u16) -> Result<(), GridError>
     ensures rows { OnOk result (rows.new ≡ rows_by_position (length rows.old)
         (λ r. grown (row_at rows.old r) to default_cell)) }
     ensures sheet { OnErr result (IsSheet (length rows.old) from rows.new) }
+    ensures same { to ≤ from → IsOk result }
 {
     for r in 0..rows.len() {
         if let Err(error) = rows[r].grow(to, Cell::new()) {

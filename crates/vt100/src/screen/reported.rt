@@ -1,8 +1,8 @@
 //! Calls on a sheet that tell callbacks of the rows that leave it.
-ghost use Rattle.std.specs.Prelude.{◌≡◌, ◌⊎◌, ◌++◌, OnOk, OnErr, IfOk, IsOk, true, false};
-ghost use Rattle.vt100_core.specs.Grid.{IsAllocated};
+ghost use Rattle.std.specs.Prelude.{◌≡◌, ◌⊎◌, ◌≤◌, ◌++◌, OnOk, OnErr, IfOk, IsOk, true, false};
+ghost use Rattle.vt100_core.specs.Grid.{IsGrid, IsAllocated};
 ghost use Rattle.vt100_core.specs.Scroll.{scrollback_erased};
-ghost use Rattle.vt100_core.specs.Resize.{resized};
+ghost use Rattle.vt100_core.specs.Resize.{KeepsNoMore, resized};
 ghost use Rattle.screen_model.specs.Step.{reports_of};
 ghost use Rattle.screen_model.specs.Call.{Hears};
 ghost use Rattle.vt100.specs.Tries.{HearsFront};
@@ -112,6 +112,9 @@ fn resize<CB: Callbacks>(
     ensures cols { OnOk result (grid.new.width ≡ size.cols.value) }
     ensures keeps { grid.new.kept.keeps ≡ grid.old.kept.keeps }
     ensures unchanged { size.rows.value ≡ grid.old.height → size.cols.value ≡ grid.old.width → IsOk result }
+    ensures smaller { size.rows.value ≤ grid.old.height → size.cols.value ≤ grid.old.width
+        → KeepsNoMore grid.old size.rows.value → IsOk result }
+    ensures valid { IsGrid grid.old }
     ensures allocated { IsAllocated grid.old → IsAllocated grid.new }
 {
     grid.set_size(size, reporter)
@@ -139,6 +142,9 @@ pub(super) fn resize_both<CB: Callbacks>(
         ⊎ (main.new ≡ (resized main.old size.rows.value size.cols.value).grid)) }
     ensures unchanged { size.rows.value ≡ main.old.height → size.cols.value ≡ main.old.width
         → size.rows.value ≡ alternate.old.height → size.cols.value ≡ alternate.old.width → IsOk result }
+    ensures smaller { size.rows.value ≤ main.old.height → size.cols.value ≤ main.old.width
+        → KeepsNoMore main.old size.rows.value → size.rows.value ≤ alternate.old.height
+        → size.cols.value ≤ alternate.old.width → alternate.old.kept.keeps ≡ false → IsOk result }
     ensures rows { OnOk result (alternate.new.height ≡ main.new.height) }
     ensures cols { OnOk result (alternate.new.width ≡ main.new.width) }
     ensures main_keeps { main.new.kept.keeps ≡ main.old.kept.keeps }

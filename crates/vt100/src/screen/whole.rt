@@ -3,7 +3,7 @@ ghost use Rattle.std.specs.Prelude.{◌≡◌, min, length, OnErr, IfOk, IsOk, E
 ghost use Rattle.screen_model.specs.State.{main_sheet};
 ghost use Rattle.vt100_core.specs.Grid.{IsShownWide};
 ghost use Rattle.screen_model.specs.Step.{kept_shown, kept_dropped, resized_to, sheets_resized, made_anew, quietly};
-ghost use Rattle.vt100.specs.Tries.{Tries, TriesAlone, Resizes, SameBounds, Stops, alive, unless_failed};
+ghost use Rattle.vt100.specs.Tries.{Tries, TriesAlone, Resizes, TakesNone, SameBounds, Stops, alive, unless_failed};
 ghost use Rattle.vt100.specs.declared.error.ScreenError.TheVariants.{Memory};
 
 use crate::callbacks::Callbacks;
@@ -15,24 +15,28 @@ use vt100_core::{Grid, Size};
 
 impl Screen {
     /// Gives the screen another size, and tells no callbacks of the rows that leave it. A synchronized update of the
-    /// program's ends. The same size changes nothing else, and isn't refused.
+    /// program's ends. The same size changes nothing else.
     ///
-    /// Where memory is refused the answer is [`ScreenError::Memory`], the screen has failed, and the call has stopped at
-    /// the sheet that found no memory, whose size is open; the main sheet comes first. On a failed screen nothing is
-    /// done, and the answer is [`ScreenError::Failed`].
+    /// Refused is only what makes the screen wider or higher, or keeps a row more. Then the answer is
+    /// [`ScreenError::Memory`], the screen has failed, and the call has stopped at the sheet that found no memory, whose
+    /// size is open; the main sheet comes first. On a failed screen nothing is done, and the answer is
+    /// [`ScreenError::Failed`].
     pub fn set_size(&mut self, rows: NonZeroU16, cols: NonZeroU16) -> Result<(), ScreenError>
         ensures tries { TriesAlone (λ s. (resized_to rows.value cols.value s).state) self.old result self.new }
         ensures stops { result ≡ Err Memory → Stops rows.value cols.value self.old.state self.new.state }
         ensures same { self.old.failed ≡ false → rows.value ≡ self.old.state.shown.height
             → cols.value ≡ self.old.state.shown.width → IsOk result }
+        ensures smaller { self.old.failed ≡ false → TakesNone rows.value cols.value self.old.state → IsOk result }
     {
         self.resize(&mut (), Size { rows, cols })
     }
 
     /// Gives both sheets another size, tells callbacks of the rows that leave them, and ends the program's update.
     fn resize<CB: Callbacks>(&mut self, callbacks: &mut CB, size: Size) -> Result<(), ScreenError>
-        ensures { Resizes CB.scrolls (resized_to size.rows.value size.cols.value) size.rows.value size.cols.value
-            self.old callbacks.old result self.new callbacks.new }
+        ensures resizes { Resizes CB.scrolls (resized_to size.rows.value size.cols.value) size.rows.value
+            size.cols.value self.old callbacks.old result self.new callbacks.new }
+        ensures smaller { self.old.failed ≡ false → TakesNone size.rows.value size.cols.value self.old.state
+            → IsOk result }
     {
         self.resize_sheets(callbacks, size)?;
         self.synchronized_update = false;
@@ -45,8 +49,10 @@ impl Screen {
         callbacks: &mut CB,
         size: Size,
     ) -> Result<(), ScreenError>
-        ensures { Resizes CB.scrolls (sheets_resized size.rows.value size.cols.value) size.rows.value size.cols.value
-            self.old callbacks.old result self.new callbacks.new }
+        ensures resizes { Resizes CB.scrolls (sheets_resized size.rows.value size.cols.value) size.rows.value
+            size.cols.value self.old callbacks.old result self.new callbacks.new }
+        ensures smaller { self.old.failed ≡ false → TakesNone size.rows.value size.cols.value self.old.state
+            → IsOk result }
     {
         if self.failed {
             return Err(ScreenError::Failed);
@@ -156,16 +162,18 @@ impl<CB: Callbacks> WrappedScreen<CB> {
     }
 
     /// Gives the screen another size, and tells the callbacks of the rows that leave it: those of the main sheet first.
-    /// A synchronized update of the program's ends. The same size changes nothing else, and isn't refused.
+    /// A synchronized update of the program's ends. The same size changes nothing else.
     ///
-    /// Where memory is refused the call has stopped at the sheet that found none, whose size is open.
+    /// Refused is only what makes the screen wider or higher, or keeps a row more. Then the call has stopped at the sheet that found none, whose size is open.
     pub fn set_size_with_cb(
         &mut self,
         rows: NonZeroU16,
         cols: NonZeroU16,
     ) -> Result<(), ScreenError>
-        ensures { Resizes CB.scrolls (resized_to rows.value cols.value) rows.value cols.value self.old.screen
+        ensures resizes { Resizes CB.scrolls (resized_to rows.value cols.value) rows.value cols.value self.old.screen
             self.old.callbacks result self.new.screen self.new.callbacks }
+        ensures smaller { self.old.screen.failed ≡ false → TakesNone rows.value cols.value self.old.screen.state
+            → IsOk result }
     {
         self.screen.resize(&mut self.callbacks, Size { rows, cols })
     }

@@ -1,5 +1,5 @@
 //! A higher screen.
-ghost use Rattle.std.specs.Prelude.{◌≡◌, ℕ, ◌+◌, ◌-◌, ◌<◌, ◌≤◌, OnOk, OnErr};
+ghost use Rattle.std.specs.Prelude.{◌≡◌, ℕ, ◌+◌, ◌-◌, ◌<◌, ◌≤◌, IsOk, OnOk, OnErr};
 
 use crate::grid::Grid;
 use std::num::NonZeroU16;
@@ -22,6 +22,7 @@ impl Grid {
         ensures height { OnErr result (self.new.height ≡ self.old.height) }
         ensures width { self.new.width ≡ self.old.width }
         ensures keeping { SameKeeping self.old.kept self.new.kept }
+        ensures same { rows.value ≡ self.old.height → IsOk result }
     {
         let added = usize::from(rows.get() - self.size.rows());
         let down = self.scrollback.unbounded_len.min(added);

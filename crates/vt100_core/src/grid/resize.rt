@@ -9,8 +9,8 @@ use vt100_rows::rows_resize::{keep_first, resize_rows};
 use vt100_rows::{RowSink, Size};
 
 impl Grid {
-    ghost use Rattle.vt100_core.specs.Grid.{GridView, IsAllocated, SameKeeping};
-    ghost use Rattle.vt100_core.specs.Resize.{whole_screen, shortened, with_width, resized};
+    ghost use Rattle.vt100_core.specs.Grid.{GridView, IsGrid, IsAllocated, SameKeeping};
+    ghost use Rattle.vt100_core.specs.Resize.{KeepsNoMore, whole_screen, shortened, with_width, resized};
 
     /// Gives the screen another size. The scroll region becomes the whole screen, and no kept row is shown.
     ///
@@ -20,8 +20,9 @@ impl Grid {
     /// cursors go with their rows, and stay on the screen. A row of another width isn't wrapped any more. The size that
     /// the screen has already changes nothing.
     ///
-    /// After a refusal the grid is whole, it keeps as many rows at most, and the sink has been given the rows that
-    /// leave for good; its height and its width are each the old or the new one, and what it shows is open.
+    /// Refused is only what makes the screen wider or higher, or keeps a row more. After a refusal the grid is whole, it
+    /// keeps as many rows at most, and the sink has been given the rows that leave for good; its height and its width
+    /// are each the old or the new one, and what it shows is open.
     #[tactic(auto, unfolding(crate::specs::Resize::resized, crate::specs::Scroll::scrolled_up))]
     pub fn set_size<S: RowSink>(&mut self, size: Size, sink: &mut S) -> Result<(), GridError>
         ensures grid { OnOk result (self.new ≡ (resized self.old size.rows.value size.cols.value).grid) }
@@ -30,6 +31,9 @@ impl Grid {
         ensures width { OnErr result ((self.new.width ≡ self.old.width) ⊎ (self.new.width ≡ size.cols.value)) }
         ensures keeping { SameKeeping self.old.kept self.new.kept }
         ensures same { size.rows.value ≡ self.old.height → size.cols.value ≡ self.old.width → IsOk result }
+        ensures smaller { size.rows.value ≤ self.old.height → size.cols.value ≤ self.old.width
+            → KeepsNoMore self.old size.rows.value → IsOk result }
+        ensures valid { IsGrid self.old }
         ensures allocated { IsAllocated self.old → IsAllocated self.new }
     {
         if size == self.size {
@@ -84,6 +88,7 @@ impl Grid {
         ensures height { self.new.height ≡ self.old.height }
         ensures width { OnErr result (self.new.width ≡ self.old.width) }
         ensures kept { self.new.kept ≡ self.old.kept }
+        ensures narrower { cols.value ≤ self.old.width → IsOk result }
     {
         resize_rows(&mut self.rows, self.size.cols(), cols.get())?;
         let last_col = cols.get() - 1;

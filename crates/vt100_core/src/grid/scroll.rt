@@ -12,15 +12,15 @@ impl Grid {
     ghost use Rattle.vt100_core.specs.Grid.{GridView, IsAllocated, IsShownWide, SameLimits, is_in_region, with_row};
     ghost use Rattle.vt100_rows.specs.Sheet.{row_at};
     ghost use Rattle.vt100_rows.specs.Row.{with_wrap};
-    ghost use Rattle.vt100_core.specs.Scroll.{ScrollsTo, scrolled_up, fed, rows_past_bottom, made_to_fit};
+    ghost use Rattle.vt100_core.specs.Scroll.{ScrollsTo, ScrollsNoneOff, scrolled_up, fed, rows_past_bottom, made_to_fit};
     ghost use Rattle.vt100_core.specs.Scroll.{scrollback_erased, scrollback_shown};
 
     /// Moves the lines of the scroll region up; blank ones come in at its bottom (SU). Where the region begins at the
     /// screen's first row, the rows that leave it are kept, as many as the capacity allows. The sink is given those
     /// that leave for good: the oldest kept ones, and those that are never kept.
     ///
-    /// Only a grid that keeps rows can be refused. After a refusal the sink has been given these rows, the grid is
-    /// whole, and what it shows is open.
+    /// Refused is only what keeps a row: not on a grid that keeps none, and not where no row leaves the screen at its
+    /// top. After a refusal the sink has been given these rows, the grid is whole, and what it shows is open.
     #[tactic(auto, unfolding(crate::specs::Scroll::scrolled_up))]
     pub fn scroll_up<S: RowSink>(&mut self, count: u16, sink: &mut S) -> Result<(), GridError>
         requires { IsAllocated self.old }
@@ -93,6 +93,7 @@ impl Grid {
         ensures lines { IfOk result (λ n. n ≡ rows_past_bottom self.old count) }
         ensures limits { SameLimits self.old self.new }
         ensures keeps_none { self.old.kept.capacity ≡ 0 → IsOk result }
+        ensures stays { ScrollsNoneOff self.old (fed self.old count).grid → IsOk result }
         ensures allocated { IsAllocated self.new }
     {
         if !self.in_scroll_region() {
@@ -116,7 +117,7 @@ impl Grid {
     /// [`row_inc_scroll`](Self::row_inc_scroll) does. The row that it left is marked as wrapped if `wrap` is set, it
     /// shows something in its last column, and it now stands directly above the cursor; else it isn't wrapped any more.
     ///
-    /// Memory is refused only where rows scroll, as by [`scroll_up`](Self::scroll_up), which says what stays then.
+    /// Refused is only what scrolls, as [`scroll_up`](Self::scroll_up) is, which says what stays then.
     #[tactic(auto, unfolding(crate::specs::Scroll::wrapped_on))]
     pub fn col_wrap<S: RowSink>(
         &mut self,

@@ -25,8 +25,8 @@ impl Grid {
     /// it then has no room it moves to the next row. Dropped are control characters, what is wider than the screen, and
     /// zero-width characters at the first column.
     ///
-    /// Only a grid that keeps rows can be refused. After a refusal the sink has been given the rows that leave for
-    /// good, the grid is whole, and what it shows is open.
+    /// Refused is only a character that scrolls, as [`scroll_up`](Self::scroll_up) is. After a refusal the sink has been
+    /// given the rows that leave for good, the grid is whole, and what it shows is open.
     #[inline]
     pub fn text<S: RowSink>(
         &mut self,
@@ -212,8 +212,8 @@ impl Grid {
 
     /// Prints the characters of `text`, which are printable ASCII, as [`text`](Self::text) of each in turn does.
     ///
-    /// Only a grid that keeps rows can be refused. After a refusal the sink has been given the rows that leave for good
-    /// while a front of the text is printed, the grid is whole, and what it shows is open.
+    /// Refused is only a text that scrolls, as [`scroll_up`](Self::scroll_up) is. After a refusal the sink has been given
+    /// the rows that leave for good while a front of the text is printed, the grid is whole, and what it shows is open.
     pub fn text_run<S: RowSink>(
         &mut self,
         text: &[u8],

@@ -6,7 +6,7 @@ use Rattle.vt100.proofs.screen.reported.draw.Goals as goal
 pub returns-in-Character-clause-drawn : goal.returns-in-Character-clause-drawn
 returns-in-Character-clause-drawn g c =
     let e = c.text.ensures in
-    rw c.in-Character.is (draws_all g.CB.Callbacks.scrolls _ e.grid e.sink e.limits e.keeps_none e.allocated)
+    rw c.in-Character.is (draws_all g.CB.Callbacks.scrolls _ e.grid e.sink e.limits e.keeps_none e.stays e.allocated)
 
 pub returns-in_err-text_run-in-Characters-Narrow-clause-drawn :
     goal.returns-in_err-text_run-in-Characters-Narrow-clause-drawn
@@ -16,7 +16,7 @@ returns-in_err-text_run-in-Characters-Narrow-clause-drawn g c =
     let is : c.from_residual.result ≡ Err r.field-0.0 = search rules in
     let e = r.ensures in
     rw (w.is, rw w.is at w.field-0-is, is)
-    (draws_run g.CB.Callbacks.scrolls _ _ _ e.grid e.sink e.begun e.limits e.keeps_none e.allocated)
+    (draws_run g.CB.Callbacks.scrolls _ _ _ e.grid e.sink e.begun e.limits e.keeps_none e.stays e.allocated)
 
 pub returns-in_ok-text_run-in-Characters-Narrow-clause-drawn :
     goal.returns-in_ok-text_run-in-Characters-Narrow-clause-drawn
@@ -24,7 +24,7 @@ returns-in_ok-text_run-in-Characters-Narrow-clause-drawn g c =
     let w = c.in-Characters-Narrow in
     let e = c.in_ok-text_run-in-Characters-Narrow.ensures in
     rw (w.is, rw w.is at w.field-0-is)
-    (draws_run g.CB.Callbacks.scrolls _ _ _ e.grid e.sink e.begun e.limits e.keeps_none e.allocated)
+    (draws_run g.CB.Callbacks.scrolls _ _ _ e.grid e.sink e.begun e.limits e.keeps_none e.stays e.allocated)
 
 pub returns-in_err-wide_run-in-Characters-Wide-clause-drawn :
     goal.returns-in_err-wide_run-in-Characters-Wide-clause-drawn
@@ -34,7 +34,7 @@ returns-in_err-wide_run-in-Characters-Wide-clause-drawn g c =
     let is : c.from_residual-in_err-wide_run-in-Characters-Wide.result ≡ Err r.field-0.0 = search rules in
     let e = r.ensures in
     rw (w.is, rw w.is at w.field-0-is, is)
-    (draws_run g.CB.Callbacks.scrolls _ _ _ e.grid e.sink e.begun e.limits e.keeps_none e.allocated)
+    (draws_run g.CB.Callbacks.scrolls _ _ _ e.grid e.sink e.begun e.limits e.keeps_none e.stays e.allocated)
 
 pub returns-in_ok-wide_run-in-Characters-Wide-clause-drawn :
     goal.returns-in_ok-wide_run-in-Characters-Wide-clause-drawn
@@ -42,26 +42,26 @@ returns-in_ok-wide_run-in-Characters-Wide-clause-drawn g c =
     let w = c.in-Characters-Wide in
     let e = c.in_ok-wide_run-in-Characters-Wide.ensures in
     rw (w.is, rw w.is at w.field-0-is)
-    (draws_run g.CB.Callbacks.scrolls _ _ _ e.grid e.sink e.begun e.limits e.keeps_none e.allocated)
+    (draws_run g.CB.Callbacks.scrolls _ _ _ e.grid e.sink e.begun e.limits e.keeps_none e.stays e.allocated)
 
 pub returns-in_err-row_inc_scroll-in-LineFeed-clause-drawn : goal.returns-in_err-row_inc_scroll-in-LineFeed-clause-drawn
 returns-in_err-row_inc_scroll-in-LineFeed-clause-drawn g c =
     let is : c.from_residual-in_err-row_inc_scroll-in-LineFeed.result ≡ Err c.in_err-row_inc_scroll-in-LineFeed.field-0.0 = search rules in
     let e = c.in_err-row_inc_scroll-in-LineFeed.ensures in
-    rw (c.in-LineFeed.is, is) (draws_all g.CB.Callbacks.scrolls _ e.grid e.sink e.limits e.keeps_none e.allocated)
+    rw (c.in-LineFeed.is, is) (draws_all g.CB.Callbacks.scrolls _ e.grid e.sink e.limits e.keeps_none e.stays e.allocated)
 
 pub returns-in_ok-row_inc_scroll-in-LineFeed-clause-drawn : goal.returns-in_ok-row_inc_scroll-in-LineFeed-clause-drawn
 returns-in_ok-row_inc_scroll-in-LineFeed-clause-drawn g c =
     let e = c.in_ok-row_inc_scroll-in-LineFeed.ensures in
-    rw c.in-LineFeed.is (draws_all g.CB.Callbacks.scrolls _ e.grid e.sink e.limits e.keeps_none e.allocated)
+    rw c.in-LineFeed.is (draws_all g.CB.Callbacks.scrolls _ e.grid e.sink e.limits e.keeps_none e.stays e.allocated)
 
 pub returns-in_err-scroll_up-in-ScrollUp-clause-drawn : goal.returns-in_err-scroll_up-in-ScrollUp-clause-drawn
 returns-in_err-scroll_up-in-ScrollUp-clause-drawn g c =
     let is : c.from_residual-in_err-scroll_up-in-ScrollUp.result ≡ Err c.in_err-scroll_up-in-ScrollUp.field-0.0 = search rules in
     let e = c.in_err-scroll_up-in-ScrollUp.ensures in
-    rw (c.in-ScrollUp.is, is) (draws_all g.CB.Callbacks.scrolls _ e.grid e.sink e.limits e.keeps_none e.allocated)
+    rw (c.in-ScrollUp.is, is) (draws_all g.CB.Callbacks.scrolls _ e.grid e.sink e.limits e.keeps_none e.stays e.allocated)
 
 pub returns-in_ok-scroll_up-in-ScrollUp-clause-drawn : goal.returns-in_ok-scroll_up-in-ScrollUp-clause-drawn
 returns-in_ok-scroll_up-in-ScrollUp-clause-drawn g c =
     let e = c.in_ok-scroll_up-in-ScrollUp.ensures in
-    rw c.in-ScrollUp.is (draws_all g.CB.Callbacks.scrolls _ e.grid e.sink e.limits e.keeps_none e.allocated)
+    rw c.in-ScrollUp.is (draws_all g.CB.Callbacks.scrolls _ e.grid e.sink e.limits e.keeps_none e.stays e.allocated)

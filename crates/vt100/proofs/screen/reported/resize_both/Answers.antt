@@ -1,4 +1,4 @@
-use Rattle.std.proofs.Common.{rules, ◌++◌, true, false}
+use Rattle.std.proofs.Common.{rules, ◌++◌, true, false, inr}
 use Rattle.vt100_rows.proofs.TextLemmas.{on-err}
 use Rattle.vt100_core.specs.Resize.{resized}
 use Rattle.screen_model.specs.Step.{reports_of}
@@ -15,3 +15,7 @@ returns-clause-told g c =
     let heard : Hears g.CB.Callbacks.scrolls c.args.callbacks.now (first ++ second) c.callbacks-2-1.given.0 =
     search (rules, hears_append) in
     on-err c.resize-2.result (hears_whole g.CB.Callbacks.scrolls _ _ _ heard)
+
+pub returns-clause-smaller : goal.returns-clause-smaller
+returns-clause-smaller g c low narrow none other_low other_narrow keeps =
+    c.resize-2.ensures.smaller other_low other_narrow (inr (c.resize-2.ensures.valid.kept.none keeps).0)

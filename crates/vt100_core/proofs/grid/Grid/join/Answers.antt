@@ -1,4 +1,4 @@
-use Rattle.std.proofs.Common.{arith, rules, sym, subst, ◌+◌}
+use Rattle.std.proofs.Common.{arith, rules, ap, sym, subst, ◌+◌, ◌∙◌}
 use Rattle.vt100_core.specs.Grid.{GridView, IsAllocated}
 use Rattle.vt100_core.specs.GridFields.{grid_of}
 use Rattle.vt100_core.proofs.TextLemmas.{IsGrid-col}
@@ -48,11 +48,13 @@ pub returns-in-Carried : goal.returns-in-Carried
 returns-in-Carried g c =
     let is = joins-carried _ _ c.join_in_row.ensures.valid c.requires.allocated c.join_in_row.ensures.grid _
     c.in-Carried.ensures.answer in
+    let count = ap (λ (x : GridView). x.kept.scrolled_off) c.join_in_row.ensures.grid in
     rw (← is.prints) (let carried = c.carry.ensures in record {
       grid = carried.grid;
       sink = carried.sink;
       answer = carried.answer;
       limits = search rules;
       keeps_none = search rules;
+      stays = λ z. carried.stays (omega (arith, count, z.0), z.1 ∙ sym count);
       allocated = carried.allocated;
     })

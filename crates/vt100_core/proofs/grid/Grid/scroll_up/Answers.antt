@@ -1,15 +1,16 @@
-use Rattle.std.proofs.Common.{arith, rules, ◌≡◌, ap, subst, sym, ◌∙◌, ◌+◌, ◌-◌}
+use Rattle.std.proofs.Common.{arith, rules, ◌≡◌, ap, subst, sym, ◌∙◌, ◌+◌}
 use Rattle.std.proofs.lemmas.Grind.{common_steps}
 use Rattle.vt100_rows.specs.Sink.{TakesAll}
 use Rattle.vt100_core.specs.Grid.{GridView, IsAllocated}
 use Rattle.vt100_core.specs.GridFields.{grid_of}
 use Rattle.vt100_core.specs.KeptFields.{kept_of}
 use Rattle.vt100_core.specs.Lines.{lines_closed}
-use Rattle.vt100_core.specs.Scroll.{scrolled_up}
+use Rattle.vt100_core.specs.Scroll.{ScrollsNoneOff, scrolled_up}
 use Rattle.vt100_core.proofs.KeepLemmas.{IsShownWide-none}
 use Rattle.vt100_core.proofs.ScrollLemmas.{IsShownWide-is, IsGrid-off, ScrollsTo-at, scrolls-below, scrolls-given}
 use Rattle.vt100_core.proofs.ScrollLemmas.{scrolls-kept, taken-kept}
 use Rattle.vt100_core.proofs.StayLemmas.{scrolls-nothing}
+use Rattle.vt100_core.proofs.CountLemmas.{scrolls-some}
 use Rattle.vt100_core.proofs.PutBack.{put-back, allocated-again}
 use Rattle.vt100_core.proofs.grid.Grid.scroll_up.Goals as goal
 
@@ -77,5 +78,9 @@ returns-in_err-scroll_off g c =
           c.in_err-scroll_off.ensures.sink);
       limits = grind (arith, common_steps);
       keeps_none = grind (arith, common_steps);
+      stays = λ z. absurd (scrolls-some own c.args.count c.self.invariant
+          (subst (λ (x : GridView). IsAllocated x) (sym c.self.view_is) c.requires) (omega arith) c.if-self.true
+          (omega arith) (subst (λ (x : GridView). ScrollsNoneOff x (scrolled_up x c.args.count).grid)
+          (sym c.self.view_is) z));
       allocated = allocated-again _ c.self.view_is c.requires c.self.inside.rows.ok.0 c.scroll_off.auto.rows same;
     }

@@ -26,6 +26,7 @@ returns-in-32-to-126 g c =
       answer = refl;
       limits = search rules;
       keeps_none = search rules;
+      stays = search rules;
       allocated = c.put.ensures.allocated;
     })
 
@@ -43,5 +44,6 @@ returns-in_err-make_room g c =
       answer = tt;
       limits = refused.limits;
       keeps_none = refused.keeps_none;
+      stays = refused.stays;
       allocated = refused.allocated;
     })
