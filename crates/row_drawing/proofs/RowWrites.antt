@@ -1,7 +1,7 @@
 -- A row's writer, piece by piece, as the code appends it.
 use Rattle.std.proofs.Common.{◌≡◌, ℕ, ◌+◌, ◌<◌, ◌≤◌, ◌==◌, true, false, ◌&&◌, not, List, ◌++◌, Result, Ok, Err}
 use Rattle.std.proofs.Common.{arith, refl, sym, ap, ◌∙◌, append-nil, append_assoc, inl, inr, subst}
-use Rattle.std.specs.Prelude.{is_ok, length, encode_utf8_all, nat_lt}
+use Rattle.std.specs.Prelude.{length, encode_utf8_all, nat_lt, String, string_bytes}
 use Rattle.std.specs.Result.{IsErr}
 use Rattle.std.proofs.lemmas.Bool.Decides.{nat_tests}
 use Rattle.std.proofs.lemmas.Bool.{and_parts, cases_Bool, cond_both, false≢true, ne_eqb}
@@ -19,25 +19,24 @@ use Rattle.row_drawing.specs.declared.pen.Pen.{Pen}
 use Rattle.row_drawing.specs.Drawing.{behind, BeginsRun, GoesTo, IsAt, JoinsRun}
 use Rattle.row_drawing.specs.Writer.{Writer, ◌>>◌, goto, turn, color, print, erasing, marking}
 use Rattle.row_drawing.specs.RowWriter.{Job, arrive, column, last_col_of, unflag}
-use Rattle.row_drawing.specs.Writes.{IsBegun, Wrote, Writes}
+use Rattle.row_drawing.specs.Writes.{Wrote, Appended}
 use Rattle.row_drawing.proofs.RowLeads.{arrive-pen, arrive-goto}
 use Rattle.row_drawing.proofs.Columns.{column-is_half, column-is_whole, draw-full, flush-is_none}
-use Rattle.row_drawing.proofs.WritesLemmas.{color_same, goto_here, wrote_both, wrote_by, wrote_columns_next, wrote_skip}
-
--- a call that was refused
-pub on_err : {T E : Type 0} (r : Result T E) (f : Writer) (p : Pen) (s : List ℕ) (q : Pen) (t : List ℕ) → IsErr r
-    → IsBegun s (spell (f p).forms) t → Writes f p s (is_ok r) q t
-on_err (Ok x) f p s q t e h = absurd (false≢true e)
-on_err (Err x) f p s q t e h = h
+use Rattle.row_drawing.proofs.WritesLemmas.{appended_none, color_same, goto_here, wrote_both, wrote_by, wrote_columns_next, wrote_skip}
 
 pub wrote_turn : (row : ℕ) (p : Pen) (s : List ℕ) (q : Pen) → q ≡ (turn row p).pen → Wrote (turn row) p s q s
 unfolding turn
 wrote_turn row p s q e = record { pen_is = sym e; text_is = sym (append-nil s) }
 
-pub wrote_marking : (n : ℕ) (a : Attrs) (p : Pen) (s : List ℕ) (q : Pen) → q ≡ (marking n a p).pen
-    → Wrote (marking n a) p s q s
+pub appended_turn : {Z : Type 0} (row : ℕ) (p : Pen) (s : String Z) (q : Pen) → q ≡ (turn row p).pen
+    → Appended (turn row) p s q s
+appended_turn row p s q e = appended_none s (wrote_turn row p (string_bytes s) q e)
+
+pub appended_marking : {Z : Type 0} (n : ℕ) (a : Attrs) (p : Pen) (s : String Z) (q : Pen)
+    → q ≡ (marking n a p).pen → Appended (marking n a) p s q s
 unfolding marking
-wrote_marking n a p s q e = record { pen_is = sym e; text_is = sym (append-nil s) }
+appended_marking n a p s q e =
+    appended_none s (record { pen_is = sym e; text_is = sym (append-nil (string_bytes s)) })
 
 -- ---- where the cursor stands
 

@@ -1,7 +1,7 @@
 -- What calls write, one after the other.
 use Rattle.std.proofs.Common.{◌≡◌, ℕ, zero, suc, ◌+◌, ◌-◌, ◌<◌, ◌≤◌, ◌==◌, ◌&&◌, Bool, true, false, ◌||◌, ◌⊎◌, List, []}
-use Rattle.std.proofs.Common.{◌∷◌, ◌++◌, refl, sym, ap, ◌∙◌, inl, inr, append-nil, append_assoc, subst, None, arith, Result, Ok, Err}
-use Rattle.std.specs.Prelude.{encode_utf8_all, is_ok}
+use Rattle.std.proofs.Common.{◌∷◌, ◌++◌, refl, sym, ap, ◌∙◌, inl, inr, append-nil, append_assoc, length-append, subst, None, arith, Result, Ok, Err}
+use Rattle.std.specs.Prelude.{encode_utf8_all, is_ok, length, String, string_bytes, string_len, string_capacity}
 use Rattle.std.specs.Result.{IsErr}
 use Rattle.vt100_forms.specs.declared.attrs.Attrs.{Attrs}
 use Rattle.vt100_forms.specs.Form.{Form, EraseChar, Backspace, spell, spelling, moves, change}
@@ -13,7 +13,7 @@ use Rattle.vt100_cells.specs.Line.{span_of}
 use Rattle.row_drawing.specs.declared.pen.Pen.{Pen}
 use Rattle.row_drawing.specs.Writer.{Drawn, Writer, ◌>>◌, skip, goto, color, print, back, erasing}
 use Rattle.row_drawing.specs.RowWriter.{Job, column, columns}
-use Rattle.row_drawing.specs.Writes.{IsBegun, Wrote, Writes}
+use Rattle.row_drawing.specs.Writes.{IsBegun, Wrote, Appended, Refused, Writes}
 
 pub spell-joined : (fs gs : List Form) → spell (fs ++ gs) ≡ spell fs ++ spell gs
 spell-joined [] gs = refl
@@ -27,6 +27,10 @@ begun-more s a b t h = (
   ap (λ bs. bs ++ b) h.2 ∙ append_assoc h.0 h.1 b,
   h.3,
 )
+
+-- the whole text
+pub begun_whole : (s a t : List ℕ) → t ≡ s ++ a → IsBegun s a t
+begun_whole s a t e = (a, [], sym (append-nil a), e)
 
 pub begun-later : (s a b t u : List ℕ) → t ≡ s ++ a → IsBegun t b u → IsBegun s (a ++ b) u
 begun-later s a b t u e h = (
@@ -79,54 +83,125 @@ pub wrote_by : {f g : Writer} {p : Pen} {s : List ℕ} {q : Pen} {t : List ℕ} 
     → Wrote g p s q t
 wrote_by e a = wrote_as _ _ _ _ _ _ e a
 
--- ---- calls that may be refused
-
--- of one that was, a part of the forms may have been appended
+-- of what a call appends, this is a front
 pub record Began (f : Writer) (p : Pen) (s t : List ℕ) : Type 0 where
   pub is : IsBegun s (spell (f p).forms) t
 
-pub began : (f : Writer) {p : Pen} {s t : List ℕ} → IsBegun s (spell (f p).forms) t → Began f p s t
-began f h = record { is = h }
-
--- none of them
+-- none of it
 pub began_none : (f : Writer) (p : Pen) (s : List ℕ) → Began f p s s
 began_none f p s = record { is = ([], spell (f p).forms, refl, sym (append-nil s)) }
 
--- all of them
+-- all of it
 pub began_all : {f : Writer} {p : Pen} {s : List ℕ} {q : Pen} {t : List ℕ} → Wrote f p s q t → Began f p s t
 began_all {f = f} {p = p} h = record { is = (spell (f p).forms, [], sym (append-nil _), h.text_is) }
 
 pub began_first : {f : Writer} (g : Writer) {p : Pen} {s t : List ℕ} → Began f p s t → Began (f >> g) p s t
 began_first {f = f} g {p = p} {s = s} {t = t} h = record { is = begun_first f g p s t h.is }
 
-pub began_then : {f g : Writer} {p : Pen} {s : List ℕ} {q : Pen} {t u : List ℕ} → Wrote f p s q t → Began g q t u
-    → Began (f >> g) p s u
-began_then {f = f} {g = g} {p = p} {s = s} {q = q} {t = t} {u = u} a h = record {
-  is = begun_then f g p s q t u a h.is;
-}
-
--- then the ones after it aren't made
-pub refused : {T E : Type 0} (r : Result T E) {f : Writer} (h : Writer) (p : Pen) {s : List ℕ} (q : Pen) {t : List ℕ}
-    → IsErr r → h p ≡ f p → Began f p s t → Writes h p s (is_ok r) q t
-refused (Ok x) h p q failed e b = absurd (false≢true failed)
-refused (Err x) h p {s = s} q {t = t} failed e b =
-    subst (λ (d : Drawn). IsBegun s (spell d.forms) t) (sym e) b.is
-
--- the last one
-pub writes_by : (f g : Writer) (p : Pen) (s : List ℕ) (ok : Bool) (q : Pen) (t : List ℕ) → g p ≡ f p
-    → Writes f p s ok q t → Writes g p s ok q t
-writes_by f g p s true q t e a = wrote_by e a
-writes_by f g p s false q t e a = subst (λ (d : Drawn). IsBegun s (spell d.forms) t) (sym e) a
-
-pub writes_last : {f : Writer} {s : List ℕ} {q : Pen} {t : List ℕ} (h : Writer) (p : Pen) (g : Writer) (ok : Bool)
-    (r : Pen) (u : List ℕ) → h p ≡ (f >> g) p → Wrote f p s q t → Writes g q t ok r u → Writes h p s ok r u
-writes_last h p g true r u e a b = wrote_by e (wrote_both a b)
-writes_last {f = f} {s = s} {q = q} {t = t} h p g false r u e a b =
-    writes_by (f >> g) h p s false r u e (begun_then f g p s q t u a b)
-
 pub wrote_skip : (p : Pen) (s : List ℕ) → Wrote skip p s p s
 unfolding skip
 wrote_skip p s = record { pen_is = refl; text_is = sym (append-nil s) }
+
+-- ---- calls that append to a string
+
+-- how many bytes two writers append
+bytes_of_both : (f g : Writer) (p : Pen) → length (spell ((f >> g) p).forms)
+    ≡ length (spell (f p).forms) + length (spell (g (f p).pen).forms)
+unfolding ◌>>◌
+bytes_of_both f g p = ap length (spell-joined (f p).forms (g (f p).pen).forms)
+    ∙ length-append (spell (f p).forms) (spell (g (f p).pen).forms)
+
+-- how many one has appended
+bytes_of_wrote : {f : Writer} {p : Pen} {s : List ℕ} {q : Pen} {t : List ℕ} → Wrote f p s q t
+    → length t ≡ length s + length (spell (f p).forms)
+bytes_of_wrote {f = f} {p = p} {s = s} h = ap length h.text_is ∙ length-append s (spell (f p).forms)
+
+module _ {Z : Type 0} where
+  len_is : (s : String Z) → string_len s ≡ length (string_bytes s)
+  len_is s = s.bytes.ok.0
+
+  pub appended_both : {f g : Writer} {p : Pen} {s : String Z} {q : Pen} {t : String Z} {r : Pen} {u : String Z}
+      → Appended f p s q t → Appended g q t r u → Appended (f >> g) p s r u
+  appended_both a b = record {
+    wrote = wrote_both a.wrote b.wrote;
+    capacity = omega (arith, a.capacity, b.capacity);
+  }
+
+  pub appended_by : {f g : Writer} {p : Pen} {s : String Z} {q : Pen} {t : String Z} → g p ≡ f p
+      → Appended f p s q t → Appended g p s q t
+  appended_by e a = record { wrote = wrote_by e a.wrote; capacity = a.capacity }
+
+  -- nothing is appended
+  pub appended_none : {f : Writer} {p : Pen} (s : String Z) {q : Pen} → Wrote f p (string_bytes s) q (string_bytes s)
+      → Appended f p s q s
+  appended_none s h = record { wrote = h; capacity = omega arith }
+
+  pub appended_skip : (p : Pen) (s : String Z) → Appended skip p s p s
+  appended_skip p s = appended_none s (wrote_skip p (string_bytes s))
+
+  -- of two calls the first is refused
+  pub refused_first : {f : Writer} (g : Writer) {p : Pen} {s t : String Z} → Refused f p s t → Refused (f >> g) p s t
+  refused_first {f = f} g {p = p} {s = s} {t = t} h =
+      let both = bytes_of_both f g p in
+      record {
+        begun = begun_first f g p (string_bytes s) (string_bytes t) h.begun;
+        full = omega (arith, h.full, both);
+      }
+
+  -- the second is
+  pub refused_then : {f g : Writer} {p : Pen} {s : String Z} {q : Pen} {t u : String Z} → Appended f p s q t
+      → Refused g q t u → Refused (f >> g) p s u
+  refused_then {f = f} {g = g} {p = p} {s = s} {q = q} {t = t} {u = u} a h =
+      let both = bytes_of_both f g p in
+      let first = bytes_of_wrote a.wrote in
+      let second = ap (λ x. length (spell (g x).forms)) a.wrote.pen_is in
+      record {
+        begun = begun_then f g p (string_bytes s) q (string_bytes t) (string_bytes u) a.wrote h.begun;
+        full = omega (arith, both, first, second, a.capacity, h.full, len_is s, len_is t);
+      }
+
+  pub refused_by : {f g : Writer} {p : Pen} {s t : String Z} → g p ≡ f p → Refused f p s t → Refused g p s t
+  refused_by {p = p} {s = s} {t = t} e h = record {
+    begun = subst (λ (d : Drawn). IsBegun (string_bytes s) (spell d.forms) (string_bytes t)) (sym e) h.begun;
+    full = subst (λ (d : Drawn). string_capacity s < string_len s + length (spell d.forms)) (sym e) h.full;
+  }
+
+  -- then the ones after it aren't made
+  pub refused : {X E : Type 0} (r : Result X E) {f : Writer} (h : Writer) (p : Pen) {s : String Z} (q : Pen)
+      {t : String Z} → IsErr r → h p ≡ f p → Refused f p s t → Writes h p s (is_ok r) q t
+  refused (Ok x) h p q failed e b = absurd (false≢true failed)
+  refused (Err x) h p q failed e b = refused_by e b
+
+  -- of a single call that is refused, nothing is appended
+  pub refused_whole : {X E : Type 0} (r : Result X E) (h : Writer) (p : Pen) (s : String Z) (q : Pen) (t : String Z)
+      (text : List ℕ) → IsErr r → text ≡ spell (h p).forms → string_bytes t ≡ string_bytes s
+      → string_capacity s < string_len s + length text → Writes h p s (is_ok r) q t
+  refused_whole (Ok x) h p s q t text failed e same full = absurd (false≢true failed)
+  refused_whole (Err x) h p s q t text failed e same full = record {
+    begun = ([], spell (h p).forms, refl, same ∙ sym (append-nil (string_bytes s)));
+    full = subst (λ bs. string_capacity s < string_len s + length bs) e full;
+  }
+
+  -- the last one
+  pub writes_by : (f g : Writer) (p : Pen) (s : String Z) (ok : Bool) (q : Pen) (t : String Z) → g p ≡ f p
+      → Writes f p s ok q t → Writes g p s ok q t
+  writes_by f g p s true q t e a = appended_by e a
+  writes_by f g p s false q t e a = refused_by e a
+
+  pub writes_last : {f : Writer} {s : String Z} {q : Pen} {t : String Z} (h : Writer) (p : Pen) (g : Writer)
+      (ok : Bool) (r : Pen) (u : String Z) → h p ≡ (f >> g) p → Appended f p s q t → Writes g q t ok r u
+      → Writes h p s ok r u
+  writes_last h p g true r u e a b = appended_by e (appended_both a b)
+  writes_last h p g false r u e a b = refused_by e (refused_then a b)
+
+  -- a front of a text is appended, up to bytes that don't fit
+  pub full_within : (s t : String Z) (more text : List ℕ) → string_capacity s ≤ string_capacity t
+      → string_capacity t < string_len t + length more → IsBegun (string_bytes s) text (string_bytes t ++ more)
+      → string_capacity s < string_len s + length text
+  full_within s t more text room full h =
+      let texts = ap length h.2 ∙ length-append h.0 h.1 in
+      let now = sym (length-append (string_bytes t) more) ∙ ap length h.3 ∙ length-append (string_bytes s) h.0 in
+      omega (arith, texts, now, room, full, len_is s, len_is t)
 
 -- ---- several columns
 
@@ -161,12 +236,23 @@ pub began_columns_all : {p q : Pen} {s t : List ℕ} (j : Job) (n m : ℕ) → n
 began_columns_all j n m le h = began_columns j n m le (began_all h)
 
 -- a column is refused
-pub began_columns_at : {p q : Pen} {s t u : List ℕ} (j : Job) (n m : ℕ) → n < m → Wrote (columns j n) p s q t
-    → Began (column j (j.start + n)) q t u → Began (columns j m) p s u
+refused_columns : {Z : Type 0} {p : Pen} {s t : String Z} (j : Job) (n m : ℕ) → n ≤ m → Refused (columns j n) p s t
+    → Refused (columns j m) p s t
 unfolding columns
-began_columns_at {p = p} {s = s} {u = u} j n m inside a b =
-    let next : Began (columns j (suc n)) p s u = began_then a b in
-    began_columns j (suc n) m (omega (arith, inside)) next
+refused_columns {p = p} {s = s} {t = t} j n zero le h =
+    let all : n ≡ 0 = omega (arith, le) in subst (λ k. Refused (columns j k) p s t) all h
+refused_columns {p = p} {s = s} {t = t} j n (suc m) le h =
+    elim (cases_lt n (m + 1)) [
+      | inl before ↦ refused_first _ (refused_columns j n m (omega (arith, before)) h)
+      | inr after ↦ (let all : n ≡ suc m = omega (arith, le, after) in subst (λ k. Refused (columns j k) p s t) all h)
+    ]
+
+pub refused_columns_at : {Z : Type 0} {p q : Pen} {s t u : String Z} (j : Job) (n m : ℕ) → n < m
+    → Appended (columns j n) p s q t → Refused (column j (j.start + n)) q t u → Refused (columns j m) p s u
+unfolding columns
+refused_columns_at {p = p} {s = s} {u = u} j n m inside a b =
+    let next : Refused (columns j (suc n)) p s u = refused_then a b in
+    refused_columns j (suc n) m (omega (arith, inside)) next
 
 -- the bytes of the columns so far are appended, or none of those that were still to come
 pub began_columns_moved : {p q : Pen} {s t u : List ℕ} (j : Job) (n m : ℕ) (r : List ℕ) → n ≤ m

@@ -1,5 +1,6 @@
 -- What it is for a call to write what a writer says.
-use Rattle.std.specs.Prelude.{ℕ, ◌≡◌, Bool, true, false, List, ◌++◌}
+use Rattle.std.specs.Prelude.{ℕ, ◌≡◌, ◌+◌, ◌<◌, ◌≤◌, Bool, true, false, List, ◌++◌, length}
+use Rattle.std.specs.Prelude.{String, string_bytes, string_len, string_capacity}
 use Rattle.vt100_forms.specs.Form.{spell}
 use Rattle.row_drawing.specs.declared.pen.Pen.{Pen}
 use Rattle.row_drawing.specs.Writer.{Writer}
@@ -13,7 +14,18 @@ pub record Wrote (f : Writer) (p : Pen) (s : List ℕ) (q : Pen) (t : List ℕ) 
   pub pen_is : (f p).pen ≡ q
   pub text_is : t ≡ s ++ spell (f p).forms
 
--- where the call is refused, a part of the forms may have been appended
-abbrev pub Writes : Writer → Pen → List ℕ → Bool → Pen → List ℕ → Type 0
-Writes f p s true q t = Wrote f p s q t
-Writes f p s false q t = IsBegun s (spell (f p).forms) t
+module _ {Z : Type 0} where
+  -- to a string, which keeps its room
+  pub record Appended (f : Writer) (p : Pen) (s : String Z) (q : Pen) (t : String Z) : Type 0 where
+    pub wrote : Wrote f p (string_bytes s) q (string_bytes t)
+    pub capacity : string_capacity s ≤ string_capacity t
+
+  -- the forms don't fit in the string's room, and there is no memory for more; a part of them may have been appended
+  pub record Refused (f : Writer) (p : Pen) (s t : String Z) : Type 0 where
+    pub begun : IsBegun (string_bytes s) (spell (f p).forms) (string_bytes t)
+    pub full : string_capacity s < string_len s + length (spell (f p).forms)
+
+  -- the forms are appended, or the call is refused
+  abbrev pub Writes : Writer → Pen → String Z → Bool → Pen → String Z → Type 0
+  Writes f p s true q t = Appended f p s q t
+  Writes f p s false q t = Refused f p s t

@@ -1,5 +1,5 @@
 //! How a row ends, and the difference of a whole row. Where the row's flag changes its last cell is drawn again.
-ghost use Rattle.std.specs.Prelude.{◌≡◌, ◌+◌, ◌<◌, ◌≤◌, ◌^◌, length, is_ok, string_bytes, IsTrue};
+ghost use Rattle.std.specs.Prelude.{◌≡◌, ◌+◌, ◌<◌, ◌≤◌, ◌^◌, length, is_ok, IsTrue};
 ghost use Rattle.vt100_cells.specs.Cells.{AreSame, cell_at};
 ghost use Rattle.vt100_cells.specs.Line.{span_of};
 ghost use Rattle.row_drawing.specs.Drawing.{job_of, IsSettled};
@@ -39,8 +39,8 @@ impl<'a> Drawing<'a> {
     /// which takes the flag away.
     fn mend(&self, pen: &mut Pen, contents: &mut String, cell: &Cell) -> Result<(), GridError>
         requires { pen.old.pos.col + span_of cell.now < 2 ^ 16 }
-        ensures { Writes (mend (job_of self.now) cell.now) pen.old (string_bytes contents.old) (is_ok result) pen.new
-            (string_bytes contents.new) }
+        ensures { Writes (mend (job_of self.now) cell.now) pen.old contents.old (is_ok result) pen.new
+            contents.new }
     {
         if self.wrapped {
             return pen.print_last(contents, cell);
@@ -53,8 +53,8 @@ impl<'a> Drawing<'a> {
     /// cursor waits at the end of this one.
     pub(crate) fn closing(&self, pen: &mut Pen, contents: &mut String) -> Result<(), GridError>
         requires { 0 < length self.now.cells.now }
-        ensures { Writes (closing (job_of self.now)) pen.old (string_bytes contents.old) (is_ok result) pen.new
-            (string_bytes contents.new) }
+        ensures { Writes (closing (job_of self.now)) pen.old contents.old (is_ok result) pen.new
+            contents.new }
     {
         if !self.owes_end(pen) {
             return Ok(());
@@ -110,8 +110,8 @@ impl<'a> Drawing<'a> {
     ) -> Result<(), GridError>
         requires starts_inside { self.now.start < length self.now.cells.now }
         requires ends_inside { self.now.start + count ≤ length self.now.cells.now }
-        ensures { Writes (row_difference (job_of self.now) count) pen.old (string_bytes contents.old) (is_ok result)
-            pen.new (string_bytes contents.new) }
+        ensures { Writes (row_difference (job_of self.now) count) pen.old contents.old (is_ok result)
+            pen.new contents.new }
     {
         let same = self.same();
         if self.is_settled(pen, same) {
@@ -126,8 +126,8 @@ impl Pen {
     /// Erases the last cell of a row, where the cursor stands, and with it the row's flag. An empty cell is erased with
     /// its own attributes.
     fn unflag(&mut self, contents: &mut String, cell: &Cell) -> Result<(), GridError>
-        ensures { Writes (unflag cell.now) self.old (string_bytes contents.old) (is_ok result) self.new
-            (string_bytes contents.new) }
+        ensures { Writes (unflag cell.now) self.old contents.old (is_ok result) self.new
+            contents.new }
     {
         if cell.has_contents() {
             return self.erase(contents, 1, true);
@@ -139,8 +139,8 @@ impl Pen {
     /// Prints the last cell of a row, if it has a text; then the cursor waits behind it.
     fn print_last(&mut self, contents: &mut String, cell: &Cell) -> Result<(), GridError>
         requires { self.old.pos.col + span_of cell.now < 2 ^ 16 }
-        ensures { Writes (print_last cell.now) self.old (string_bytes contents.old) (is_ok result) self.new
-            (string_bytes contents.new) }
+        ensures { Writes (print_last cell.now) self.old contents.old (is_ok result) self.new
+            contents.new }
     {
         if !cell.has_contents() {
             return Ok(());

@@ -1,6 +1,6 @@
 //! How one column of a row is drawn on a terminal that shows an earlier one.
 ghost use Rattle.std.specs.Prelude.{ℕ, ◌≡◌, ◌+◌, ◌<◌, ◌≤◌, ◌^◌, ◌-◌, ◌==◌, ◌&&◌, not, false, List, ◌++◌, length};
-ghost use Rattle.std.specs.Prelude.{is_ok, string_bytes};
+ghost use Rattle.std.specs.Prelude.{is_ok};
 ghost use Rattle.vt100_cells.specs.Cell.{has_text};
 ghost use Rattle.vt100_cells.specs.Cells.{cell_at};
 ghost use Rattle.vt100_cells.specs.Line.{put_unflags, wipe_unflags};
@@ -72,8 +72,8 @@ impl<'a> Drawing<'a> {
         col: u16,
         columns: u16,
     ) -> Result<(), GridError>
-        ensures { Writes (arrive (job_of self.now) col columns) pen.old (string_bytes contents.old) (is_ok result)
-            pen.new (string_bytes contents.new) }
+        ensures { Writes (arrive (job_of self.now) col columns) pen.old contents.old (is_ok result)
+            pen.new contents.new }
     {
         if self.is_wrapping(pen, columns, col) {
             pen.turn(self.row);
@@ -99,8 +99,8 @@ impl<'a> Drawing<'a> {
 
     /// Brings the cursor to the first of the columns that are to be erased, and sets their attributes.
     fn to_erase(&self, pen: &mut Pen, contents: &mut String, erase: Erase) -> Result<(), GridError>
-        ensures { Writes (to_erase (job_of self.now) erase) pen.old (string_bytes contents.old) (is_ok result) pen.new
-            (string_bytes contents.new) }
+        ensures { Writes (to_erase (job_of self.now) erase) pen.old contents.old (is_ok result) pen.new
+            contents.new }
     {
         if self.is_wrapping(pen, 1, erase.from) {
             pen.turn(self.row);
@@ -119,8 +119,8 @@ impl<'a> Drawing<'a> {
     /// Erases the columns before `col`, if there is something to be erased and this column ends it.
     fn flush(&self, pen: &mut Pen, contents: &mut String, col: u16) -> Result<(), GridError>
         requires { col < length self.now.cells.now }
-        ensures { Writes (flush (job_of self.now) col) pen.old (string_bytes contents.old) (is_ok result) pen.new
-            (string_bytes contents.new) }
+        ensures { Writes (flush (job_of self.now) col) pen.old contents.old (is_ok result) pen.new
+            contents.new }
     {
         let Some(erase) = pen.erase else {
             return Ok(());
@@ -138,8 +138,8 @@ impl<'a> Drawing<'a> {
 
     /// Erases what is still to be erased, to the end of the row.
     pub(crate) fn finish(&self, pen: &mut Pen, contents: &mut String) -> Result<(), GridError>
-        ensures { Writes (finish (job_of self.now)) pen.old (string_bytes contents.old) (is_ok result) pen.new
-            (string_bytes contents.new) }
+        ensures { Writes (finish (job_of self.now)) pen.old contents.old (is_ok result) pen.new
+            contents.new }
     {
         let Some(erase) = pen.erase else {
             return Ok(());
@@ -152,8 +152,8 @@ impl<'a> Drawing<'a> {
     fn draw(&self, pen: &mut Pen, contents: &mut String, col: u16) -> Result<(), GridError>
         requires in_row { col < length self.now.cells.now }
         requires other { is_same (job_of self.now) col ≡ false }
-        ensures { Writes (draw (job_of self.now) col) pen.old (string_bytes contents.old) (is_ok result) pen.new
-            (string_bytes contents.new) }
+        ensures { Writes (draw (job_of self.now) col) pen.old contents.old (is_ok result) pen.new
+            contents.new }
     {
         let cell = self.cell(col);
         if cell.has_contents() {
@@ -187,8 +187,8 @@ impl<'a> Drawing<'a> {
         col: u16,
     ) -> Result<(), GridError>
         requires { col < length self.now.cells.now }
-        ensures { Writes (column (job_of self.now) col) pen.old (string_bytes contents.old) (is_ok result) pen.new
-            (string_bytes contents.new) }
+        ensures { Writes (column (job_of self.now) col) pen.old contents.old (is_ok result) pen.new
+            contents.new }
     {
         if self.is_half(col) {
             return Ok(());

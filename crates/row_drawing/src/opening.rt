@@ -1,5 +1,5 @@
 //! How a row begins, and how it is drawn whole.
-ghost use Rattle.std.specs.Prelude.{◌≡◌, ◌+◌, ◌<◌, ◌≤◌, ◌^◌, length, is_ok, string_bytes};
+ghost use Rattle.std.specs.Prelude.{◌≡◌, ◌+◌, ◌<◌, ◌≤◌, ◌^◌, length, is_ok};
 ghost use Rattle.vt100_cells.specs.Cells.{AreSame, cell_at};
 ghost use Rattle.row_drawing.specs.Drawing.{job_of};
 ghost use Rattle.row_drawing.specs.RowWriter.{owes_flag, reprint, opening, row_redraw};
@@ -25,8 +25,8 @@ impl<'a> Drawing<'a> {
     /// Prints a cell over itself, and goes back to where it begins. An empty one is printed as a space and erased.
     fn reprint(&self, pen: &mut Pen, contents: &mut String, cell: &Cell) -> Result<(), GridError>
         requires { pen.old.pos.col + 2 < 2 ^ 16 }
-        ensures { Writes (reprint (job_of self.now) cell.now) pen.old (string_bytes contents.old) (is_ok result)
-            pen.new (string_bytes contents.new) }
+        ensures { Writes (reprint (job_of self.now) cell.now) pen.old contents.old (is_ok result)
+            pen.new contents.new }
     {
         if !cell.has_contents() {
             pen.space(contents)?;
@@ -44,8 +44,8 @@ impl<'a> Drawing<'a> {
     /// Sets the flag of the row above where it is missing and no other cell would set it.
     fn opening(&self, pen: &mut Pen, contents: &mut String) -> Result<(), GridError>
         requires { self.now.start < length self.now.cells.now }
-        ensures { Writes (opening (job_of self.now)) pen.old (string_bytes contents.old) (is_ok result) pen.new
-            (string_bytes contents.new) }
+        ensures { Writes (opening (job_of self.now)) pen.old contents.old (is_ok result) pen.new
+            contents.new }
     {
         if !self.owes_flag(pen) {
             return Ok(());
@@ -62,8 +62,8 @@ impl<'a> Drawing<'a> {
     pub fn redraw(&self, pen: &mut Pen, contents: &mut String, count: u16) -> Result<(), GridError>
         requires starts_inside { self.now.start < length self.now.cells.now }
         requires ends_inside { self.now.start + count ≤ length self.now.cells.now }
-        ensures { Writes (row_redraw (job_of self.now) count) pen.old (string_bytes contents.old) (is_ok result)
-            pen.new (string_bytes contents.new) }
+        ensures { Writes (row_redraw (job_of self.now) count) pen.old contents.old (is_ok result)
+            pen.new contents.new }
     {
         self.redraw_behind(pen, contents, 0, count)
     }
@@ -80,8 +80,8 @@ impl<'a> Drawing<'a> {
         requires starts_inside { self.now.start < length self.now.cells.now }
         requires ends_inside { self.now.start + count ≤ length self.now.cells.now }
         requires same { AreSame (cell_at self.now.cells.now) (cell_at self.now.earlier.now) 0 same }
-        ensures { Writes (row_redraw (job_of self.now) count) pen.old (string_bytes contents.old) (is_ok result)
-            pen.new (string_bytes contents.new) }
+        ensures { Writes (row_redraw (job_of self.now) count) pen.old contents.old (is_ok result)
+            pen.new contents.new }
     {
         self.opening(pen, contents)?;
         self.columns(pen, contents, same, count)?;

@@ -1,5 +1,6 @@
 //! What a writer keeps between forms.
-ghost use Rattle.std.specs.Prelude.{ℕ, ◌≡◌, ◌+◌, ◌<◌, ◌≤◌, ◌^◌, List, ◌++◌, length, is_ok, IfSome, string_bytes};
+ghost use Rattle.std.specs.Prelude.{ℕ, ◌≡◌, ◌+◌, ◌<◌, ◌≤◌, ◌^◌, List, ◌++◌, length, is_ok, IfSome, OnErr};
+ghost use Rattle.std.specs.Prelude.{string_bytes, string_len, string_capacity};
 ghost use Rattle.std.specs.Prelude.{if◌then◌else◌, false};
 ghost use Rattle.vt100_forms.specs.Attrs.{attrs_eq};
 ghost use Rattle.vt100_cells.specs.Line.{span_of};
@@ -42,8 +43,8 @@ impl Pen {
     // Mostly it stands there already: this test is to cost no call.
     #[inline(always)]
     pub fn goto(&mut self, contents: &mut String, pos: Pos) -> Result<(), GridError>
-        ensures { Writes (goto pos.row pos.col) self.old (string_bytes contents.old) (is_ok result) self.new
-            (string_bytes contents.new) }
+        ensures { Writes (goto pos.row pos.col) self.old contents.old (is_ok result) self.new
+            contents.new }
     {
         if self.pos == pos {
             return Ok(());
@@ -52,8 +53,8 @@ impl Pen {
     }
 
     fn travel(&mut self, contents: &mut String, pos: Pos) -> Result<(), GridError>
-        ensures { Writes (goto pos.row pos.col) self.old (string_bytes contents.old) (is_ok result) self.new
-            (string_bytes contents.new) }
+        ensures { Writes (goto pos.row pos.col) self.old contents.old (is_ok result) self.new
+            contents.new }
     {
         MoveFromTo::new(self.pos, pos).write_buf(contents)?;
         self.pos = pos;
@@ -102,8 +103,8 @@ impl Pen {
     /// Sets the attributes.
     #[inline(always)]
     pub fn color(&mut self, contents: &mut String, attrs: Attrs) -> Result<(), GridError>
-        ensures { Writes (color attrs) self.old (string_bytes contents.old) (is_ok result) self.new
-            (string_bytes contents.new) }
+        ensures { Writes (color attrs) self.old contents.old (is_ok result) self.new
+            contents.new }
     {
         if self.draws_with(attrs) {
             return Ok(());
@@ -121,8 +122,8 @@ impl Pen {
     /// Sets the attributes of a cell.
     #[inline(always)]
     pub(crate) fn color_as(&mut self, contents: &mut String, cell: &Cell) -> Result<(), GridError>
-        ensures { Writes (color cell.now.attrs) self.old (string_bytes contents.old) (is_ok result) self.new
-            (string_bytes contents.new) }
+        ensures { Writes (color cell.now.attrs) self.old contents.old (is_ok result) self.new
+            contents.new }
     {
         self.color(contents, cell.attrs())
     }
@@ -159,8 +160,8 @@ impl Pen {
 
     #[inline(never)]
     fn recolor(&mut self, contents: &mut String, attrs: Attrs) -> Result<(), GridError>
-        ensures { Writes (color attrs) self.old (string_bytes contents.old) (is_ok result) self.new
-            (string_bytes contents.new) }
+        ensures { Writes (color attrs) self.old contents.old (is_ok result) self.new
+            contents.new }
     {
         attrs.write_escape_code_diff(contents, &self.attrs)?;
         self.attrs = attrs;
@@ -176,8 +177,8 @@ impl Pen {
         loses: bool,
     ) -> Result<(), GridError>
         requires { self.old.pos.col + span_of cell.now < 2 ^ 16 }
-        ensures { Writes (print cell.now loses) self.old (string_bytes contents.old) (is_ok result) self.new
-            (string_bytes contents.new) }
+        ensures { Writes (print cell.now loses) self.old contents.old (is_ok result) self.new
+            contents.new }
     {
         push_text(contents, cell.contents())?;
         self.pos.col += span(cell);
@@ -197,8 +198,8 @@ impl Pen {
     /// Prints a space.
     pub fn space(&mut self, contents: &mut String) -> Result<(), GridError>
         requires { self.old.pos.col + 1 < 2 ^ 16 }
-        ensures { Writes space self.old (string_bytes contents.old) (is_ok result) self.new
-            (string_bytes contents.new) }
+        ensures { Writes space self.old contents.old (is_ok result) self.new
+            contents.new }
     {
         contents.push(' ')?;
         self.pos.col += 1;
@@ -207,8 +208,8 @@ impl Pen {
 
     /// Moves the cursor to the left by a column.
     pub fn back(&mut self, contents: &mut String) -> Result<(), GridError>
-        ensures { Writes back self.old (string_bytes contents.old) (is_ok result) self.new
-            (string_bytes contents.new) }
+        ensures { Writes back self.old contents.old (is_ok result) self.new
+            contents.new }
     {
         Backspace.write_buf(contents)?;
         self.pos.col = self.pos.col.saturating_sub(1);
@@ -217,8 +218,8 @@ impl Pen {
 
     /// Erases `count` columns from the cursor on. The row loses its flag where `loses` is set.
     pub fn erase(&mut self, contents: &mut String, count: u16, loses: bool) -> Result<(), GridError>
-        ensures { Writes (erasing count loses) self.old (string_bytes contents.old) (is_ok result) self.new
-            (string_bytes contents.new) }
+        ensures { Writes (erasing count loses) self.old contents.old (is_ok result) self.new
+            contents.new }
     {
         EraseChar::new(count).write_buf(contents)?;
         self.erase = None;
@@ -228,8 +229,8 @@ impl Pen {
 
     /// Erases the columns from the cursor to the end of the row, which loses its flag.
     pub fn clear(&mut self, contents: &mut String) -> Result<(), GridError>
-        ensures { Writes clearing self.old (string_bytes contents.old) (is_ok result) self.new
-            (string_bytes contents.new) }
+        ensures { Writes clearing self.old contents.old (is_ok result) self.new
+            contents.new }
     {
         ClearRowForward.write_buf(contents)?;
         self.erase = None;
@@ -250,8 +251,10 @@ pub(crate) fn span(cell: &Cell) -> u16
 // Mostly it is one byte, and then this costs no call of `memmove`.
 #[inline(always)]
 fn push_text(contents: &mut String, text: &str) -> Result<(), AllocError>
-    ensures { string_bytes contents.new ≡ (if is_ok result then string_bytes contents.old ++ text.now
+    ensures bytes { string_bytes contents.new ≡ (if is_ok result then string_bytes contents.old ++ text.now
         else string_bytes contents.old) }
+    ensures full { OnErr result (string_capacity contents.old < string_len contents.old + length text.now) }
+    ensures capacity { string_capacity contents.old ≤ string_capacity contents.new }
 {
     if let [byte] = text.as_bytes() {
         if byte.is_ascii() {

@@ -1,5 +1,5 @@
 //! Several columns of a row: what needs nothing is passed over, and texts that go on are printed together.
-ghost use Rattle.std.specs.Prelude.{ℕ, ◌≡◌, ◌+◌, ◌<◌, ◌≤◌, List, ◌++◌, length, is_ok, string_bytes};
+ghost use Rattle.std.specs.Prelude.{ℕ, ◌≡◌, ◌+◌, ◌<◌, ◌≤◌, List, ◌++◌, length, is_ok};
 ghost use Rattle.std.specs.Prelude.{IfSome, IsTrue};
 ghost use Rattle.vt100_cells.specs.Cells.{AreSame, cell_at};
 ghost use Rattle.row_drawing.specs.Drawing.{job_of, behind, AreQuiet, BeginsRun, GoesTo, IsAt, JoinsRun};
@@ -68,8 +68,8 @@ impl<'a> Drawing<'a> {
     ) -> Result<(), GridError>
         requires in_row { self.now.start + count ≤ length self.now.cells.now }
         requires same { AreSame (cell_at self.now.cells.now) (cell_at self.now.earlier.now) 0 same }
-        ensures { Writes (columns (job_of self.now) count) pen.old (string_bytes contents.old) (is_ok result) pen.new
-            (string_bytes contents.new) }
+        ensures { Writes (columns (job_of self.now) count) pen.old contents.old (is_ok result) pen.new
+            contents.new }
     {
         // A cell with the attributes with which the terminal draws.
         let mut like = None;

@@ -150,5 +150,13 @@ IsBegun-row {g} {n} {from} {left} {v} {wrapping} {old} {was} now h cut begun =
     ∙ ap (λ (bs : List ℕ). bs ++ encode_utf8_all (newline ++ more.0)) (encodes-append (text_lines g n) written))
     begun
 
-pub IsBegun-all : (old text now : List ℕ) → now ≡ old ++ text → IsBegun old text now
-IsBegun-all old text now e = (text, [], sym (append-nil text), e)
+-- n rows are written
+pub IsBegun-shown : {g : GridView} {n : ℕ} {left : List RowView} {wrapping : Bool} {old now : List ℕ}
+    → IsShown g n left wrapping old now → IsBegun old (encode_utf8_all (text_lines g (length g.rows))) now
+IsBegun-shown {g} {n} h =
+    let more = lines-more g n (length g.rows) h.few in (
+      encode_utf8_all (text_lines g n),
+      encode_utf8_all more.0,
+      ap encode_utf8_all more.1 ∙ encodes-append (text_lines g n) more.0,
+      h.bytes,
+    )

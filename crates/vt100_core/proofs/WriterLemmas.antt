@@ -1,9 +1,9 @@
 -- What a grid's writers append, form by form.
 use Rattle.std.proofs.Common.{◌≡◌, ℕ, zero, suc, ◌+◌, ◌-◌, ◌<◌, ◌≤◌, Bool, true, false, cond, not, ◌&&◌}
-use Rattle.std.proofs.Common.{List, [], ◌∷◌, ◌++◌, refl, sym, ap, ◌∙◌, subst, arith, append-nil}
+use Rattle.std.proofs.Common.{List, [], ◌∷◌, ◌++◌, refl, sym, ap, ◌∙◌, subst, arith, append-nil, length-append}
 use Rattle.std.proofs.Common.{append_assoc, inl, inr, Option, Some, None, Result, Ok, Err, IsErr, is_ok}
 use Rattle.std.proofs.lemmas.Bool.{false≢true, cases_lt, le-ltb, lt-ltb}
-use Rattle.std.specs.Prelude.{replicate, unwrap_or}
+use Rattle.std.specs.Prelude.{length, OnErr, replicate, unwrap_or, String, string_bytes, string_len, string_capacity}
 use Rattle.vt100_forms.specs.declared.attrs.Attrs.{Attrs}
 use Rattle.vt100_forms.specs.declared.position.Pos.{Pos}
 use Rattle.vt100_forms.specs.Form.{Form, Text, Lf, spell}
@@ -12,8 +12,9 @@ use Rattle.vt100_cells.specs.Cell.{CellView, has_text}
 use Rattle.terminal_model.specs.Term.{Size}
 use Rattle.row_drawing.specs.declared.pen.Pen.{Pen}
 use Rattle.row_drawing.specs.Writer.{Drawn, Writer, ◌>>◌}
-use Rattle.row_drawing.specs.Writes.{IsBegun, Wrote}
-use Rattle.row_drawing.proofs.WritesLemmas.{spell-joined, begun-more, begun-later, wrote_then, begun_first, begun_then}
+use Rattle.row_drawing.specs.Writes.{Appended, IsBegun, Refused, Wrote}
+use Rattle.row_drawing.proofs.WritesLemmas.{appended_both, begun-later, begun-more, refused_first, refused_then}
+use Rattle.row_drawing.proofs.WritesLemmas.{spell-joined}
 use Rattle.screen_drawing.specs.Rows.{afresh, RowWriters, next_row, in_turn}
 use Rattle.screen_drawing.specs.Screen.{cursor_placed}
 use Rattle.screen_drawing.specs.Cursor as cursor
@@ -23,72 +24,110 @@ use Rattle.vt100_rows.specs.Row.{RowView}
 use Rattle.vt100_rows.specs.Picture.{lines_of}
 use Rattle.vt100_core.specs.Grid.{GridView, visible_at}
 use Rattle.vt100_core.specs.Contents.{is_below_wrapped}
-use Rattle.vt100_core.specs.Writers.{Appends, drawn_on, cursor_position_formatted}
+use Rattle.vt100_core.specs.Writers.{Appends, AppendedForms, RefusedForms, drawn_on, cursor_position_formatted}
 use Rattle.vt100_core.specs.Picture.{grid_size}
 use Rattle.vt100_core.proofs.ContentsLemmas.{below-next}
 
 -- ---- lists of forms
 
-pub appended_then : (fs gs : List Form) (s t u : List ℕ) → t ≡ s ++ spell fs → u ≡ t ++ spell gs
+pub spelled_then : (fs gs : List Form) (s t u : List ℕ) → t ≡ s ++ spell fs → u ≡ t ++ spell gs
     → u ≡ s ++ spell (fs ++ gs)
-appended_then fs gs s t u a b =
+spelled_then fs gs s t u a b =
     b ∙ ap (λ bs. bs ++ spell gs) a ∙ append_assoc s (spell fs) (spell gs)
     ∙ ap (λ bs. s ++ bs) (sym (spell-joined fs gs))
 
--- nothing was appended
-pub begun_none : (fs : List Form) (s t : List ℕ) → t ≡ s → IsBegun s (spell fs) t
-begun_none fs s t e = ([], spell fs, refl, e ∙ sym (append-nil s))
+bytes_of_both : (fs gs : List Form) → length (spell (fs ++ gs)) ≡ length (spell fs) + length (spell gs)
+bytes_of_both fs gs = ap length (spell-joined fs gs) ∙ length-append (spell fs) (spell gs)
 
--- a part of the first ones
-pub begun_front : (fs gs : List Form) (s t : List ℕ) → IsBegun s (spell fs) t → IsBegun s (spell (fs ++ gs)) t
-begun_front fs gs s t h =
-    subst (λ bs. IsBegun s bs t) (sym (spell-joined fs gs)) (begun-more s (spell fs) (spell gs) t h)
+module _ {Z : Type 0} where
+  pub appended : {fs : List Form} {s : String Z} (t : String Z) → string_bytes t ≡ string_bytes s ++ spell fs
+      → string_capacity s ≤ string_capacity t → AppendedForms fs s t
+  appended t bytes room = record { bytes = bytes; capacity = room }
 
--- the first ones, and a part of the others
-pub begun_rest : (fs gs : List Form) (s t u : List ℕ) → t ≡ s ++ spell fs → IsBegun t (spell gs) u
-    → IsBegun s (spell (fs ++ gs)) u
-begun_rest fs gs s t u e h =
-    subst (λ bs. IsBegun s bs u) (sym (spell-joined fs gs)) (begun-later s (spell fs) (spell gs) t u e h)
+  -- the first ones are refused
+  begun_front : (fs gs : List Form) (s t : String Z) → RefusedForms fs s t → RefusedForms (fs ++ gs) s t
+  begun_front fs gs s t h =
+      let both = bytes_of_both fs gs in
+      record {
+        begun = subst (λ bs. IsBegun (string_bytes s) bs (string_bytes t)) (sym (spell-joined fs gs))
+            (begun-more (string_bytes s) (spell fs) (spell gs) (string_bytes t) h.begun);
+        full = omega (arith, h.full, both);
+      }
 
-pub refused : {T E : Type 0} (r : Result T E) (fs : List Form) (s t : List ℕ) → IsErr r → IsBegun s (spell fs) t
-    → Appends fs s (is_ok r) t
-refused (Ok x) fs s t e h = absurd (false≢true e)
-refused (Err x) fs s t e h = h
+  -- the first ones are appended, and the others refused
+  pub begun_rest : (fs gs : List Form) (s t u : String Z) → AppendedForms fs s t → RefusedForms gs t u
+      → RefusedForms (fs ++ gs) s u
+  begun_rest fs gs s t u e h =
+      let both = bytes_of_both fs gs in
+      let now = ap length e.bytes ∙ length-append (string_bytes s) (spell fs) in
+      record {
+        begun = subst (λ bs. IsBegun (string_bytes s) bs (string_bytes u)) (sym (spell-joined fs gs))
+            (begun-later (string_bytes s) (spell fs) (spell gs) (string_bytes t) (string_bytes u) e.bytes h.begun);
+        full = omega (arith, both, now, e.capacity, h.full, s.bytes.ok.0, t.bytes.ok.0);
+      }
 
--- the first ones are appended, and then the others, or a part of them
-pub appends_rest : (fs gs all : List Form) (s t : List ℕ) (b : Bool) (u : List ℕ) → all ≡ fs ++ gs → t ≡ s ++ spell fs
-    → Appends gs t b u → Appends all s b u
-appends_rest fs gs all s t true u e h r =
-    appended_then fs gs s t u h r ∙ ap (λ hs. s ++ spell hs) (sym e)
-appends_rest fs gs all s t false u e h r =
-    subst (λ hs. IsBegun s (spell hs) u) (sym e) (begun_rest fs gs s t u h r)
+  -- a call that appends the first ones in one piece is refused
+  pub begun_none : (fs gs all : List Form) (s t : String Z) → all ≡ fs ++ gs → string_bytes t ≡ string_bytes s
+      → string_capacity s < string_len s + length (spell fs) → RefusedForms all s t
+  begun_none fs gs all s t e same full =
+      subst (λ hs. RefusedForms hs s t) (sym e) (begun_front fs gs s t (record {
+        begun = ([], spell fs, refl, same ∙ sym (append-nil (string_bytes s)));
+        full = full;
+      }))
 
--- what a call says that appends one form, or nothing
-pub last_appends : (fs : List Form) (s : List ℕ) (b : Bool) (t : List ℕ) → t ≡ cond b (s ++ spell fs) s
-    → Appends fs s b t
-last_appends fs s true t e = e
-last_appends fs s false t e = begun_none fs s t e
+  pub refused : {T E : Type 0} (r : Result T E) (fs : List Form) (s t : String Z) → IsErr r → RefusedForms fs s t
+      → Appends fs s (is_ok r) t
+  refused (Ok x) fs s t e h = absurd (false≢true e)
+  refused (Err x) fs s t e h = h
 
--- a form is appended, and then the others, or a part of them
-pub form_appends : (f : Form) (gs : List Form) (s t : List ℕ) (b : Bool) (u : List ℕ) → t ≡ s ++ spell (f ∷ [])
-    → Appends gs t b u → Appends (f ∷ gs) s b u
-form_appends f gs s t b u h r = appends_rest (f ∷ []) gs (f ∷ gs) s t b u refl h r
+  -- the first ones are appended, and then the others, or a part of them
+  pub appends_rest : (fs gs all : List Form) (s t : String Z) (b : Bool) (u : String Z) → all ≡ fs ++ gs
+      → AppendedForms fs s t → Appends gs t b u → Appends all s b u
+  appends_rest fs gs all s t true u e h r = record {
+    bytes = spelled_then fs gs (string_bytes s) (string_bytes t) (string_bytes u) h.bytes r.bytes
+        ∙ ap (λ hs. string_bytes s ++ spell hs) (sym e);
+    capacity = omega (arith, h.capacity, r.capacity);
+  }
+  appends_rest fs gs all s t false u e h r =
+      subst (λ hs. RefusedForms hs s u) (sym e) (begun_rest fs gs s t u h r)
 
--- none is appended
-pub none_appends : {T E : Type 0} (r : Result T E) (fs : List Form) (s t : List ℕ) → IsErr r → t ≡ s
-    → Appends fs s (is_ok r) t
-none_appends r fs s t err e = refused r fs s t err (begun_none fs s t e)
+  -- what a call says that appends some in one piece
+  pub last_appends : {T E : Type 0} (r : Result T E) (fs : List Form) (s t : String Z)
+      → string_bytes t ≡ cond (is_ok r) (string_bytes s ++ spell fs) (string_bytes s)
+      → OnErr r (string_capacity s < string_len s + length (spell fs)) → string_capacity s ≤ string_capacity t
+      → Appends fs s (is_ok r) t
+  last_appends (Ok x) fs s t e full room = record { bytes = e; capacity = room }
+  last_appends (Err x) fs s t e full room =
+      begun_none fs [] fs s t (sym (append-nil fs)) e full
 
--- the first ones are refused
-pub refused_front : {T E : Type 0} (r : Result T E) (fs gs all : List Form) (s t : List ℕ) → IsErr r → all ≡ fs ++ gs
-    → IsBegun s (spell fs) t → Appends all s (is_ok r) t
-refused_front r fs gs all s t err e h =
-    refused r all s t err (subst (λ hs. IsBegun s (spell hs) t) (sym e) (begun_front fs gs s t h))
+  -- a form is appended, and then the others, or a part of them
+  pub form_appends : (f : Form) (gs : List Form) (s t : String Z) (b : Bool) (u : String Z)
+      → string_bytes t ≡ string_bytes s ++ spell (f ∷ []) → string_capacity s ≤ string_capacity t → Appends gs t b u
+      → Appends (f ∷ gs) s b u
+  form_appends f gs s t b u h room r =
+      appends_rest (f ∷ []) gs (f ∷ gs) s t b u refl (record { bytes = h; capacity = room }) r
 
--- the same forms
-pub appends_as : (fs gs : List Form) (s : List ℕ) (b : Bool) (t : List ℕ) → gs ≡ fs → Appends fs s b t
-    → Appends gs s b t
-appends_as fs gs s b t e h = subst (λ hs. Appends hs s b t) (sym e) h
+  -- none is appended
+  pub none_appends : {T E : Type 0} (r : Result T E) (fs gs all : List Form) (s t : String Z) → IsErr r
+      → all ≡ fs ++ gs → string_bytes t ≡ string_bytes s → string_capacity s < string_len s + length (spell fs)
+      → Appends all s (is_ok r) t
+  none_appends r fs gs all s t err e same full = refused r all s t err (begun_none fs gs all s t e same full)
+
+  -- the first ones are refused
+  pub refused_front : {T E : Type 0} (r : Result T E) (fs gs all : List Form) (s t : String Z) → IsErr r
+      → all ≡ fs ++ gs → RefusedForms fs s t → Appends all s (is_ok r) t
+  refused_front r fs gs all s t err e h =
+      refused r all s t err (subst (λ hs. RefusedForms hs s t) (sym e) (begun_front fs gs s t h))
+
+  -- the same forms
+  pub appends_as : (fs gs : List Form) (s : String Z) (b : Bool) (t : String Z) → gs ≡ fs → Appends fs s b t
+      → Appends gs s b t
+  appends_as fs gs s b t e h = subst (λ hs. Appends hs s b t) (sym e) h
+
+  -- none are to be appended
+  pub appends_nothing : (fs : List Form) (s : String Z) → string_bytes s ≡ string_bytes s ++ spell fs
+      → AppendedForms fs s s
+  appends_nothing fs s e = record { bytes = e; capacity = omega arith }
 
 -- ---- line feeds
 
@@ -100,7 +139,7 @@ pub line_feeds-next : (n m : ℕ) (s t u : List ℕ) → m ≡ n + 1 → t ≡ s
     → u ≡ t ++ spell (Lf ∷ []) → u ≡ s ++ spell (replicate m Lf)
 line_feeds-next n m s t u e a b =
     let next : suc n ≡ m = omega (arith, e) in
-    appended_then (replicate n Lf) (Lf ∷ []) s t u a b ∙ ap (λ fs. s ++ spell fs) (sym (line_feeds-suc n))
+    spelled_then (replicate n Lf) (Lf ∷ []) s t u a b ∙ ap (λ fs. s ++ spell fs) (sym (line_feeds-suc n))
     ∙ ap (λ k. s ++ spell (replicate k Lf)) next
 
 line_feeds-both : (n k m : ℕ) → n + k ≡ m → replicate m Lf ≡ replicate n Lf ++ replicate k Lf
@@ -108,11 +147,15 @@ line_feeds-both zero k m e = let same : m ≡ k = omega (arith, e) in ap (λ j. 
 line_feeds-both (suc n) k zero e = absurd (omega (arith, e))
 line_feeds-both (suc n) k (suc m) e = ap (λ (fs : List Form). Lf ∷ fs) (line_feeds-both n k m (omega (arith, e)))
 
-pub line_feeds-begun : (n m : ℕ) (s t u : List ℕ) → n ≤ m → t ≡ s ++ spell (replicate n Lf) → u ≡ t
-    → IsBegun s (spell (replicate m Lf)) u
-line_feeds-begun n m s t u le a b =
-    subst (λ fs. IsBegun s (spell fs) u) (sym (line_feeds-both n (m - n) m (omega (arith, le))))
-    (begun_rest (replicate n Lf) (replicate (m - n) Lf) s t u a (begun_none (replicate (m - n) Lf) t u b))
+pub line_feeds-begun : {Z : Type 0} (n m : ℕ) (s t u : String Z) → n < m → AppendedForms (replicate n Lf) s t
+    → string_bytes u ≡ string_bytes t → string_capacity t < string_len t + length (spell (Lf ∷ []))
+    → RefusedForms (replicate m Lf) s u
+line_feeds-begun n m s t u inside a same full =
+    let k = m - n - 1 in
+    let whole : n + suc k ≡ m = omega (arith, inside) in
+    subst (λ fs. RefusedForms fs s u) (sym (line_feeds-both n (suc k) m whole))
+    (begun_rest (replicate n Lf) (replicate (suc k) Lf) s t u a
+    (begun_none (Lf ∷ []) (replicate k Lf) (replicate (suc k) Lf) t u refl same full))
 
 -- ---- the row at whose end the cursor waits
 
@@ -190,32 +233,33 @@ module _ (g : GridView) (p : Option Pos) (a : Option Attrs) (b : Attrs) (eb : b 
 
 module _ (had : ℕ → Bool) (rows : RowWriters) where
   -- row n is drawn
-  pub rows-next : {n m : ℕ} {f : Writer} {p q r : Pen} {s t u : List ℕ} → m ≡ n + 1
-      → f ≡ rows n (had n && not q.lost) → Wrote (in_turn had rows n) p s q t → Wrote f (afresh q) t r u
-      → Wrote (in_turn had rows m) p s r u
+  pub rows-next : {Z : Type 0} {n m : ℕ} {f : Writer} {p q r : Pen} {s t u : String Z} → m ≡ n + 1
+      → f ≡ rows n (had n && not q.lost) → Appended (in_turn had rows n) p s q t → Appended f (afresh q) t r u
+      → Appended (in_turn had rows m) p s r u
   unfolding in_turn next_row
   rows-next {n = n} {m = m} {f = f} {p = p} {q = q} {r = r} {s = s} {t = t} {u = u} em is above row =
       let next : suc n ≡ m = omega (arith, em) in
-      let here = subst (λ (w : Writer). Wrote w (afresh q) t r u) is row in
-      subst (λ k. Wrote (in_turn had rows k) p s r u) next
-      (wrote_then (in_turn had rows n) (next_row had rows n) p s q t r u above
-      (record { pen_is = here.pen_is; text_is = here.text_is }))
+      let here = subst (λ (w : Writer). Appended w (afresh q) t r u) is row in
+      let drawn : Appended (next_row had rows n) q t r u = record {
+        wrote = record { pen_is = here.wrote.pen_is; text_is = here.wrote.text_is };
+        capacity = here.capacity;
+      } in
+      subst (λ k. Appended (in_turn had rows k) p s r u) next (appended_both above drawn)
 
   -- row n is refused
-  pub rows-begun : {n : ℕ} (m : ℕ) {f : Writer} {p q : Pen} {s t : List ℕ} (u : List ℕ) → n < m
-      → f ≡ rows n (had n && not q.lost) → Wrote (in_turn had rows n) p s q t
-      → IsBegun t (spell (f (afresh q)).forms) u → IsBegun s (spell (in_turn had rows m p).forms) u
+  pub rows-begun : {Z : Type 0} {n : ℕ} (m : ℕ) {f : Writer} {p q : Pen} {s t : String Z} (u : String Z) → n < m
+      → f ≡ rows n (had n && not q.lost) → Appended (in_turn had rows n) p s q t → Refused f (afresh q) t u
+      → Refused (in_turn had rows m) p s u
   unfolding in_turn next_row
   rows-begun zero u inside is above begun = absurd (omega (arith, inside))
   rows-begun {n = n} (suc m) {f = f} {p = p} {q = q} {s = s} {t = t} u inside is above begun =
       elim (cases_lt n m) [
-        | inl before ↦ begun_first (in_turn had rows m) (next_row had rows m) p s u
-            (rows-begun m u before is above begun)
+        | inl before ↦ refused_first (next_row had rows m) (rows-begun m u before is above begun)
         | inr after ↦
             (let same : n ≡ m = omega (arith, inside, after) in
-            subst (λ k. IsBegun s (spell (in_turn had rows (suc k) p).forms) u) same
-            (begun_then (in_turn had rows n) (next_row had rows n) p s q t u above
-            (subst (λ (w : Writer). IsBegun t (spell (w (afresh q)).forms) u) is begun)))
+            let here = subst (λ (w : Writer). Refused w (afresh q) t u) is begun in
+            subst (λ k. Refused (in_turn had rows (suc k)) p s u) same
+            (refused_then {g = next_row had rows n} above (record { begun = here.begun; full = here.full })))
       ]
 
 -- whether row v, which is shown at n, goes on in the next
@@ -243,18 +287,20 @@ module _ (g : GridView) (f : Writer) (start : Pen) where
   placed-attrs {q = q} e h = ap (λ (x : Pen). x.attrs) (sym h.pen_is) ∙ ap (λ x. (f x).pen.attrs) e
 
   -- the rows are refused
-  pub placed-rows : {p : Pen} (s t : List ℕ) → p ≡ start → IsBegun s (spell (f p).forms) t
-      → IsBegun s (spell placed.forms) t
+  pub placed-rows : {Z : Type 0} {p : Pen} (s t : String Z) → p ≡ start → Refused f p s t
+      → RefusedForms placed.forms s t
   unfolding ◌>>◌
   placed-rows {p = p} s t e h =
       let q = (f start).pen in
+      let rows = subst (λ x. Refused f x s t) e h in
       begun_front (f start).forms (cursor_placed (grid_size g) (drawn_on g) q).forms s t
-      (subst (λ x. IsBegun s (spell (f x).forms) t) e h)
+      (record { begun = rows.begun; full = rows.full })
 
   -- they are drawn, and then the cursor is placed, or this is refused
-  pub placed-cursor : {p q : Pen} {s t : List ℕ} (b : Bool) (u : List ℕ) → p ≡ start → Wrote f p s q t
-      → Appends (cursor_position_formatted g (Some q.pos) (Some q.attrs)) t b u → Appends placed.forms s b u
+  pub placed-cursor : {Z : Type 0} {p q : Pen} {s t : String Z} (b : Bool) (u : String Z) → p ≡ start
+      → Appended f p s q t → Appends (cursor_position_formatted g (Some q.pos) (Some q.attrs)) t b u
+      → Appends placed.forms s b u
   placed-cursor {q = q} {s = s} {t = t} b u e h r =
-      let drawn = subst (λ x. Wrote f x s q t) e h in
+      let drawn = subst (λ x. Appended f x s q t) e h in
       appends_rest (f start).forms (cursor_position_formatted g (Some q.pos) (Some q.attrs)) placed.forms s t b u
-      (placed-forms drawn) drawn.text_is r
+      (placed-forms drawn.wrote) (record { bytes = drawn.wrote.text_is; capacity = drawn.capacity }) r

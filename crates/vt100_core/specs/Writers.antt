@@ -2,7 +2,8 @@
 --
 -- Rows are drawn as they are shown; the cursor is that of the rows that are drawn on, which are shown where no kept row
 -- is.
-use Rattle.std.specs.Prelude.{ℕ, ◌≡◌, Bool, true, false, min, List, ◌++◌, length, Option, unwrap_or}
+use Rattle.std.specs.Prelude.{ℕ, ◌≡◌, ◌+◌, ◌<◌, ◌≤◌, Bool, true, false, min, List, ◌++◌, length, Option, unwrap_or}
+use Rattle.std.specs.Prelude.{String, string_bytes, string_len, string_capacity}
 use Rattle.vt100_forms.specs.declared.attrs.Attrs.{Attrs}
 use Rattle.vt100_forms.specs.declared.position.Pos.{Pos}
 use Rattle.vt100_forms.specs.Attrs.{default_attrs}
@@ -19,10 +20,21 @@ use Rattle.vt100_core.specs.Grid.{GridView, visible_at}
 use Rattle.vt100_core.specs.Contents.{is_below_wrapped}
 use Rattle.vt100_core.specs.Picture.{grid_size}
 
--- The text s becomes t: these forms are appended, or where the call is refused, a part of them may have been.
-abbrev pub Appends : List Form → List ℕ → Bool → List ℕ → Type 0
-Appends fs s true t = t ≡ s ++ spell fs
-Appends fs s false t = IsBegun s (spell fs) t
+module _ {Z : Type 0} where
+  -- The string s becomes t: these forms are appended, and s keeps its room.
+  pub record AppendedForms (fs : List Form) (s t : String Z) : Type 0 where
+    pub bytes : string_bytes t ≡ string_bytes s ++ spell fs
+    pub capacity : string_capacity s ≤ string_capacity t
+
+  -- They don't fit in the room of s, and there is no memory for more; a part of them may have been appended.
+  pub record RefusedForms (fs : List Form) (s t : String Z) : Type 0 where
+    pub begun : IsBegun (string_bytes s) (spell fs) (string_bytes t)
+    pub full : string_capacity s < string_len s + length (spell fs)
+
+  -- they are appended, or refused
+  abbrev pub Appends : List Form → String Z → Bool → String Z → Type 0
+  Appends fs s true t = AppendedForms fs s t
+  Appends fs s false t = RefusedForms fs s t
 
 -- ---- the cursor
 

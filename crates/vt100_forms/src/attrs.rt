@@ -188,6 +188,7 @@ impl Attrs {
             else string_bytes contents.old) }
         ensures full { OnErr result
             (string_capacity contents.old < string_len contents.old + length (spell (change other.now self.now))) }
+        ensures capacity { string_capacity contents.old ≤ string_capacity contents.new }
     {
         let mut run = TextRun::new();
         self.push_escape_code_diff(&mut run, other);

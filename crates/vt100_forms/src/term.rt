@@ -55,6 +55,7 @@ pub trait BufWrite {
             (if is_ok result then string_bytes buf.old ++ spell (forms self.now) else string_bytes buf.old) }
         ensures full { OnErr result
             (string_capacity buf.old < string_len buf.old + length (spell (forms self.now))) }
+        ensures capacity { string_capacity buf.old ≤ string_capacity buf.new }
     {
         let mut room = FormText::new();
         buf.push_str(self.as_text(&mut room))?;

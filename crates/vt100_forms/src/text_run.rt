@@ -98,6 +98,7 @@ impl TextRun {
             (if is_ok result then string_bytes contents.old ++ self.old else string_bytes contents.old) }
         ensures empty { self.new ≡ [] }
         ensures full { OnErr result (string_capacity contents.old < string_len contents.old + length self.old) }
+        ensures capacity { string_capacity contents.old ≤ string_capacity contents.new }
     {
         if self.len == 0 {
             return Ok(());
@@ -115,6 +116,8 @@ impl TextRun {
         ensures kept { OnOk result (string_bytes contents.new ++ self.new ≡ string_bytes contents.old ++ self.old) }
         ensures moved { (string_bytes contents.new ≡ string_bytes contents.old)
             ⊎ (string_bytes contents.new ≡ string_bytes contents.old ++ self.old) }
+        ensures full { OnErr result (string_capacity contents.old < string_len contents.old + length self.old) }
+        ensures capacity { string_capacity contents.old ≤ string_capacity contents.new }
     {
         if self.has_room(count) {
             return Ok(());

@@ -1,7 +1,7 @@
 -- The text of a row, column by column.
 use Rattle.std.proofs.Common.{◌≡◌, ℕ, zero, suc, ◌+◌, ◌-◌, ◌<◌, ◌≤◌, ◌==◌, Bool, true, false, cond, not, ◌&&◌, List, []}
 use Rattle.std.proofs.Common.{◌∷◌, ◌++◌, length, replicate, sym, refl, ap, ◌∙◌, arith, append_assoc, append-nil}
-use Rattle.std.proofs.Common.{length-append, min, ⊎_elim}
+use Rattle.std.proofs.Common.{length-append, min, subst, ⊎_elim}
 use Rattle.std.specs.Prelude.{encode_utf8_all, Result, Ok, Err, OnErr}
 use Rattle.std.proofs.lemmas.Bool.{false≢true, cond_both, cases_lt}
 use Rattle.std.proofs.lemmas.Bool.Decides.{nat_tests}
@@ -200,7 +200,8 @@ on-err (Err e) p = p
 pub IsBegun-text : (v : RowView) (s start n col b : ℕ) (wrapping shown : Bool) (old was now : List ℕ) (x : CellView)
     → s ≡ start → s ≤ col → col < min (s + n) (length v.cells)
     → IsWritten (cell_at v.cells) s (col - s) old was b shown → x ≡ cell_at v.cells col → has_text x ≡ true
-    → IsBegun was (replicate b 32) now → IsBegun old (encode_utf8_all (written_text v start n wrapping)) now
+    → IsBegun was (replicate b 32 ++ encode_utf8_all x.text) now
+    → IsBegun old (encode_utf8_all (written_text v start n wrapping)) now
 IsBegun-text v s start n col b wrapping shown old was now x es later within h ex has begun = rw (← es) (
     let f = cell_at v.cells in
     let stands = ap has_text (sym ex) ∙ has in
@@ -218,13 +219,18 @@ IsBegun-text v s start n col b wrapping shown old was now x es later within h ex
     let some : (wrapping && (length (row_text v s (s + n)) == 0)) ≡ false =
     and-none wrapping (length (row_text v s (s + n)) == 0) (ap (λ (cs : List ℕ). not (length cs == 0)) whole
     ∙ some-text (ls ++ replicate b 32) (t ++ more.0) (some-front t more.0 here)) in
-    IsBegun-within old was (encode_utf8_all ls) (replicate b 32) (encode_utf8_all (t ++ more.0))
+    let text = ap (λ (y : CellView). replicate b 32 ++ encode_utf8_all y.text) (ex ∙ ap f (sym at)) in
+    IsBegun-within old was (encode_utf8_all ls) (replicate b 32 ++ encode_utf8_all t) (encode_utf8_all more.0)
     (encode_utf8_all (written_text v s n wrapping)) now h.bytes
     (ap (λ r. encode_utf8_all (cond r (10 ∷ []) (row_text v s (s + n)))) some ∙ ap encode_utf8_all whole
     ∙ encodes-append (ls ++ replicate b 32) (t ++ more.0)
     ∙ ap (λ (bs : List ℕ). bs ++ encode_utf8_all (t ++ more.0)) (encodes-append ls (replicate b 32)
-    ∙ ap (λ bs. encode_utf8_all ls ++ bs) (encodes-spaces b)))
-    begun)
+    ∙ ap (λ bs. encode_utf8_all ls ++ bs) (encodes-spaces b))
+    ∙ ap (λ bs. (encode_utf8_all ls ++ replicate b 32) ++ bs) (encodes-append t more.0)
+    ∙ sym (append_assoc (encode_utf8_all ls ++ replicate b 32) (encode_utf8_all t) (encode_utf8_all more.0))
+    ∙ ap (λ (bs : List ℕ). bs ++ encode_utf8_all more.0)
+    (append_assoc (encode_utf8_all ls) (replicate b 32) (encode_utf8_all t)))
+    (subst (λ bs. IsBegun was bs now) text begun))
   where
     and-none : (p q : Bool) → not q ≡ true → (p && q) ≡ false
     and-none true true e = absurd (false≢true e)

@@ -1,6 +1,7 @@
 //! One row of a terminal.
 ghost use Rattle.std.specs.Prelude.{◌≡◌, ℕ, ◌+◌, ◌-◌, ◌*◌, ◌<◌, ◌≤◌, ◌==◌, ◌++◌, List, length, Some, true, false, not, ◌&&◌};
-ghost use Rattle.std.specs.Prelude.{IfOk, IsOk, OnOk, OnErr, slice_get, string_bytes, encode_utf8_all, replicate, All};
+ghost use Rattle.std.specs.Prelude.{IfOk, IsOk, OnOk, OnErr, slice_get, encode_utf8_all, replicate, All};
+ghost use Rattle.std.specs.Prelude.{string_bytes, string_len, string_capacity};
 ghost use Rattle.std.specs.Option.{option_copied};
 ghost use Rattle.std.specs.Char.{IsScalar};
 ghost use Rattle.vt100_cells.specs.Cell.{cell_of, default_cell, has_text, drawn_columns, IsPrintable, IsWide};
@@ -388,7 +389,8 @@ impl Row {
     /// Appends the text of `width` columns from column `start` on, without the empty columns at its end. Where no text
     /// stands there and `wrapping` is set, a newline stands for it.
     ///
-    /// On an error a part of the text may have been appended.
+    /// It is refused only where the text doesn't fit in the capacity of `contents` and there is no memory for more
+    /// (`full`). Then a part of it may have been appended.
     pub fn write_contents(
         &self,
         contents: &mut String,
@@ -400,6 +402,9 @@ impl Row {
             ++ encode_utf8_all (written_text self.now start width wrapping)) }
         ensures begun { OnErr result (IsBegun (string_bytes contents.old)
             (encode_utf8_all (written_text self.now start width wrapping)) (string_bytes contents.new)) }
+        ensures full { OnErr result (string_capacity contents.old
+            < string_len contents.old + length (encode_utf8_all (written_text self.now start width wrapping))) }
+        ensures capacity { string_capacity contents.old ≤ string_capacity contents.new }
     {
         let start = usize::from(start);
         let end = (start + usize::from(width))
@@ -470,6 +475,8 @@ fn is_empty_column(cell: &Cell, is_first: bool) -> bool
 fn push_spaces(contents: &mut String, n: usize) -> Result<(), GridError>
     ensures text { OnOk result (string_bytes contents.new ≡ string_bytes contents.old ++ replicate n 32) }
     ensures begun { OnErr result (IsBegun (string_bytes contents.old) (replicate n 32) (string_bytes contents.new)) }
+    ensures full { OnErr result (string_capacity contents.old < string_len contents.old + n) }
+    ensures capacity { string_capacity contents.old ≤ string_capacity contents.new }
 {
     for _ in 0..n {
         contents.push(' ')?;

@@ -1,5 +1,6 @@
 //! The text that a grid shows.
-ghost use Rattle.std.specs.Prelude.{◌≡◌, ◌++◌, length, OnOk, OnErr, string_bytes, encode_utf8_all};
+ghost use Rattle.std.specs.Prelude.{◌≡◌, ◌+◌, ◌<◌, ◌++◌, length, OnOk, OnErr, encode_utf8_all};
+ghost use Rattle.std.specs.Prelude.{string_bytes, string_len, string_capacity};
 ghost use Rattle.row_drawing.specs.Writes.{IsBegun};
 ghost use Rattle.vt100_core.specs.Contents.{newlines_cut, text_lines};
 
@@ -11,13 +12,16 @@ impl Grid {
     /// and with a newline after each row that doesn't go on in the next. Then the newlines at the end of `contents` go,
     /// also those that it had before.
     ///
-    /// On an error a part of the text may have been appended.
+    /// It is refused only where the text, with the newlines that go again, doesn't fit in the capacity of `contents` and
+    /// there is no memory for more (`full`). Then a part of it may have been appended.
     pub fn write_contents(&self, contents: &mut String) -> Result<(), GridError>
         ensures text { OnOk result (string_bytes contents.new
             ≡ newlines_cut (string_bytes contents.old
             ++ encode_utf8_all (text_lines self.now (length self.now.rows)))) }
         ensures begun { OnErr result (IsBegun (string_bytes contents.old)
             (encode_utf8_all (text_lines self.now (length self.now.rows))) (string_bytes contents.new)) }
+        ensures full { OnErr result (string_capacity contents.old
+            < string_len contents.old + length (encode_utf8_all (text_lines self.now (length self.now.rows)))) }
     {
         let mut wrapping = false;
         for row in self.visible_rows() {

@@ -26,15 +26,16 @@ impl Grid {
     /// no text, by the last cell of the nearest row above that has one, and line feeds; where no row has one, by a
     /// space, which is erased again while the cursor is saved.
     ///
-    /// On an error a part of the forms may have been appended.
+    /// It is refused only where the forms don't fit in the capacity of `contents` and there is no memory for more. Then a
+    /// part of them may have been appended.
     pub fn write_cursor_position_formatted(
         &self,
         contents: &mut String,
         prev_pos: Option<Pos>,
         prev_attrs: Option<Attrs>,
     ) -> Result<(), GridError>
-        ensures { Appends (cursor_position_formatted self.now prev_pos prev_attrs) (string_bytes contents.old)
-            (is_ok result) (string_bytes contents.new) }
+        ensures { Appends (cursor_position_formatted self.now prev_pos prev_attrs) contents.old
+            (is_ok result) contents.new }
     {
         let prev_attrs = prev_attrs.unwrap_or(Attrs::new());
         if self.pos.col < self.size.cols() {
@@ -107,7 +108,7 @@ impl Grid {
     ) -> Result<(), GridError>
         requires { row < length self.now.rows }
         ensures { Appends (wait_behind (grid_size self.now) (lines_of self.now.rows) prev_pos attrs row)
-            (string_bytes contents.old) (is_ok result) (string_bytes contents.new) }
+            contents.old (is_ok result) contents.new }
     {
         let end = Pos {
             row,
@@ -134,7 +135,7 @@ impl Grid {
         requires { self.now.row < length self.now.rows }
         ensures { Appends (wait_on_empty (grid_size self.now) prev_pos attrs self.now.row
             (lines_of self.now.rows self.now.row (self.now.width - 1)))
-            (string_bytes contents.old) (is_ok result) (string_bytes contents.new) }
+            contents.old (is_ok result) contents.new }
     {
         let pos = Pos {
             row: self.pos.row,
@@ -157,8 +158,8 @@ impl Grid {
 
 /// Brings the cursor to `pos`, from `prev_pos` if that is known.
 fn arrive(contents: &mut String, prev_pos: Option<Pos>, pos: Pos) -> Result<(), GridError>
-    ensures { Appends (arriving prev_pos pos) (string_bytes contents.old) (is_ok result)
-        (string_bytes contents.new) }
+    ensures { Appends (arriving prev_pos pos) contents.old (is_ok result)
+        contents.new }
 {
     match prev_pos {
         Some(prev_pos) => MoveFromTo::new(prev_pos, pos).write_buf(contents),
@@ -178,8 +179,8 @@ fn is_at(prev_pos: Option<Pos>, pos: Pos) -> bool
 
 /// Prints a cell with its own attributes.
 fn print_with(contents: &mut String, attrs: Attrs, cell: &Cell) -> Result<(), GridError>
-    ensures { Appends (printed_with attrs cell.now) (string_bytes contents.old) (is_ok result)
-        (string_bytes contents.new) }
+    ensures { Appends (printed_with attrs cell.now) contents.old (is_ok result)
+        contents.new }
 {
     cell.attrs().write_escape_code_diff(contents, &attrs)?;
     contents.push_str(cell.contents())?;
@@ -188,7 +189,7 @@ fn print_with(contents: &mut String, attrs: Attrs, cell: &Cell) -> Result<(), Gr
 
 /// Erases the space on which the cursor waits, with the attributes of the cell in its place.
 fn replace_space(contents: &mut String, attrs: Attrs, own: Attrs) -> Result<(), GridError>
-    ensures { Appends (replaced attrs own) (string_bytes contents.old) (is_ok result) (string_bytes contents.new) }
+    ensures { Appends (replaced attrs own) contents.old (is_ok result) contents.new }
 {
     own.write_escape_code_diff(contents, &attrs)?;
     SaveCursor.write_buf(contents)?;
@@ -199,7 +200,7 @@ fn replace_space(contents: &mut String, attrs: Attrs, own: Attrs) -> Result<(), 
 }
 
 fn push_line_feeds(contents: &mut String, count: u16) -> Result<(), GridError>
-    ensures { Appends (replicate count Lf) (string_bytes contents.old) (is_ok result) (string_bytes contents.new) }
+    ensures { Appends (replicate count Lf) contents.old (is_ok result) contents.new }
 {
     for _n in 0..count {
         contents.push('\n')?;

@@ -25,10 +25,11 @@ impl Grid {
     ///
     /// They are at most 1,024 bytes for each cell of the screen, and 256 more (`short`).
     ///
-    /// On an error a part of the forms may have been appended.
+    /// It is refused only where the forms don't fit in the capacity of `contents` and there is no memory for more. Then a
+    /// part of them may have been appended.
     pub fn write_contents_formatted(&self, contents: &mut String) -> Result<Attrs, GridError>
-        ensures text { Appends (contents_formatted self.now) (string_bytes contents.old) (is_ok result)
-            (string_bytes contents.new) }
+        ensures text { Appends (contents_formatted self.now) contents.old (is_ok result)
+            contents.new }
         ensures attrs { IfOk result (λ answer. answer ≡ (redrawn self.now).pen.attrs) }
         ensures short { HasByteCells self.now → HasByteVisibleCells self.now → IfOk result (λ answer.
             IsShortGrowth self.now (string_bytes contents.old) (string_bytes contents.new)) }
@@ -54,15 +55,16 @@ impl Grid {
     /// below them, empty ones and those of the first and the last column; each with its other half. Where the cursor
     /// waits at the end of a row, they may also touch the last cell of one row (`local`).
     ///
-    /// On an error a part of the forms may have been appended.
+    /// It is refused only where the forms don't fit in the capacity of `contents` and there is no memory for more. Then a
+    /// part of them may have been appended.
     pub fn write_contents_diff(
         &self,
         contents: &mut String,
         prev: &Self,
         prev_attrs: Attrs,
     ) -> Result<Attrs, GridError>
-        ensures text { Appends (differing self.now prev.now prev_attrs).forms (string_bytes contents.old) (is_ok result)
-            (string_bytes contents.new) }
+        ensures text { Appends (differing self.now prev.now prev_attrs).forms contents.old (is_ok result)
+            contents.new }
         ensures attrs { IfOk result (λ answer. answer ≡ (differing self.now prev.now prev_attrs).pen.attrs) }
         ensures short { HasByteCells self.now → HasByteVisibleCells self.now → HasByteColors prev_attrs
             → IfOk result (λ answer. IsShortGrowth self.now (string_bytes contents.old) (string_bytes contents.new)) }
@@ -80,8 +82,8 @@ impl Grid {
 
     /// Draws the rows that are shown, on a cleared screen.
     fn redraw_rows(&self, contents: &mut String, pen: &mut Pen) -> Result<(), GridError>
-        ensures { Writes (lines_redraw self.now (length self.now.rows)) pen.old (string_bytes contents.old)
-            (is_ok result) pen.new (string_bytes contents.new) }
+        ensures { Writes (lines_redraw self.now (length self.now.rows)) pen.old contents.old
+            (is_ok result) pen.new contents.new }
     {
         let mut wrapping = false;
         for i in 0..self.rows.len() as u16 {
@@ -96,7 +98,7 @@ impl Grid {
     /// Draws the rows that are shown over those that `prev` shows.
     fn rows_diff(&self, contents: &mut String, pen: &mut Pen, prev: &Self) -> Result<(), GridError>
         ensures { Writes (lines_difference self.now prev.now (min (length self.now.rows) (length prev.now.rows)))
-            pen.old (string_bytes contents.old) (is_ok result) pen.new (string_bytes contents.new) }
+            pen.old contents.old (is_ok result) pen.new contents.new }
     {
         let mut wrapping = false;
         let mut prev_wrapping = false;

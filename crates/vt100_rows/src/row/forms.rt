@@ -1,5 +1,6 @@
 //! A row as forms.
-ghost use Rattle.std.specs.Prelude.{◌≡◌, ◌++◌, is_ok, OnOk, IfOk, OnErr, string_bytes};
+ghost use Rattle.std.specs.Prelude.{◌≡◌, ◌+◌, ◌<◌, ◌++◌, length, is_ok, OnOk, IfOk, OnErr};
+ghost use Rattle.std.specs.Prelude.{string_bytes, string_len, string_capacity};
 ghost use Rattle.vt100_forms.specs.Form.{spell};
 ghost use Rattle.row_drawing.specs.Writes.{Writes};
 ghost use Rattle.vt100_rows.specs.Forms.{redraw, pen_before, formatted, difference, differing};
@@ -20,7 +21,8 @@ impl Row {
     /// the row above where `wrapping` is set. `prev_attrs` are the attributes that it draws with, the default ones if
     /// they aren't given. Both are answered as they are afterwards. A row that ends before `start` appends nothing.
     ///
-    /// On an error a part of the forms may have been appended.
+    /// It is refused only where the forms don't fit in the capacity of `contents` and there is no memory for more
+    /// (`full`). Then a part of them may have been appended.
     pub fn write_contents_formatted(
         &self,
         contents: &mut String,
@@ -40,6 +42,8 @@ impl Row {
         ensures begun { OnErr result (IsBegun (string_bytes contents.old)
             (spell (formatted self.now start width row wrapping prev_pos prev_attrs).forms)
             (string_bytes contents.new)) }
+        ensures full { OnErr result (string_capacity contents.old < string_len contents.old
+            + length (spell (formatted self.now start width row wrapping prev_pos prev_attrs).forms)) }
     {
         let mut pen = self.pen_at(start, row, wrapping, prev_pos, prev_attrs);
         self.redraw(contents, &mut pen, start, width, row, wrapping)?;
@@ -55,7 +59,8 @@ impl Row {
     /// Both are answered as they are afterwards. Of rows of different lengths the columns that both have are compared;
     /// where one of them ends before `start` nothing is appended.
     ///
-    /// On an error a part of the forms may have been appended.
+    /// It is refused only where the forms don't fit in the capacity of `contents` and there is no memory for more
+    /// (`full`). Then a part of them may have been appended.
     pub fn write_contents_diff(
         &self,
         contents: &mut String,
@@ -77,6 +82,8 @@ impl Row {
         ensures begun { OnErr result (IsBegun (string_bytes contents.old) (spell
             (differing self.now prev.now start width row wrapping prev_wrapping prev_pos prev_attrs).forms)
             (string_bytes contents.new)) }
+        ensures full { OnErr result (string_capacity contents.old < string_len contents.old + length (spell
+            (differing self.now prev.now start width row wrapping prev_wrapping prev_pos prev_attrs).forms)) }
     {
         let mut pen = Pen {
             pos: prev_pos,
@@ -139,8 +146,8 @@ impl Row {
         row: u16,
         above: bool,
     ) -> Result<(), GridError>
-        ensures { Writes (redraw self.now start width row above) pen.old (string_bytes contents.old) (is_ok result)
-            pen.new (string_bytes contents.new) }
+        ensures { Writes (redraw self.now start width row above) pen.old contents.old (is_ok result)
+            pen.new contents.new }
     {
         let cols = self.cols();
         if cols <= start {
@@ -159,6 +166,7 @@ impl Row {
         drawing.redraw(pen, contents, width.min(cols - start))?;
         Ok(())
     }
+
     /// Draws the row over `prev` as [`write_contents_diff`](Self::write_contents_diff) does. `above` says whether the
     /// row above goes on in this one, `was_above` whether the terminal has the flag for it.
     #[doc(hidden)]
@@ -174,7 +182,7 @@ impl Row {
         was_above: bool,
     ) -> Result<(), GridError>
         ensures { Writes (difference self.now prev.now start width row above was_above) pen.old
-            (string_bytes contents.old) (is_ok result) pen.new (string_bytes contents.new) }
+            contents.old (is_ok result) pen.new contents.new }
     {
         let cols = self.cols().min(prev.cols());
         if cols <= start {

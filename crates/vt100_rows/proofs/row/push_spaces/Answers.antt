@@ -5,4 +5,4 @@ use Rattle.vt100_rows.proofs.row.push_spaces.Goals as goal
 pub returns-in_err-push-clause-begun : goal.returns-in_err-push-clause-begun
 returns-in_err-push-clause-begun c = on-err c.from_residual.result
     (IsBegun-spaces c.args.n c.loop.counter _ _ (omega (arith, c.loop-test.true)) (c.in_err-push.ensures.bytes
-    ∙ c.loop.invariant))
+    ∙ c.loop.invariant.text))

@@ -1,6 +1,9 @@
-use Rattle.std.proofs.Common.{◌≡◌, ◌++◌, replicate}
-use Rattle.std.specs.Prelude.{string_bytes}
+use Rattle.std.proofs.Common.{◌≡◌, ◌≤◌, ◌++◌, replicate}
+use Rattle.std.specs.Prelude.{string_bytes, string_capacity}
 use Rattle.vt100_rows.proofs.row.push_spaces.Given as goal
 
 abbrev pub invariant-loop : goal.invariant-loop
-invariant-loop l = string_bytes l.contents ≡ string_bytes l.initial.contents ++ replicate l.counter 32
+invariant-loop l = record {
+  text : string_bytes l.contents ≡ string_bytes l.initial.contents ++ replicate l.counter 32;
+  capacity : string_capacity l.initial.contents ≤ string_capacity l.contents;
+}

@@ -3,14 +3,14 @@ use Rattle.row_drawing.specs.Drawing.{job_of}
 use Rattle.row_drawing.specs.RowWriter.{arrive}
 use Rattle.row_drawing.specs.Writer.{goto}
 use Rattle.row_drawing.proofs.RowLeads.{arrive-turn, arrive-goto}
-use Rattle.row_drawing.proofs.RowWrites.{wrote_turn}
-use Rattle.row_drawing.proofs.WritesLemmas.{wrote_by, writes_by}
+use Rattle.row_drawing.proofs.RowWrites.{appended_turn}
+use Rattle.row_drawing.proofs.WritesLemmas.{appended_by, writes_by}
 use Rattle.row_drawing.proofs.drawing.Drawing.arrive.Goals as goal
 
 pub returns-then-is_wrapping : goal.returns-then-is_wrapping
 returns-then-is_wrapping c =
-    wrote_by (arrive-turn _ _ _ _ (sym c.is_wrapping.ensures ∙ c.if-is_wrapping.true))
-    (wrote_turn _ _ _ _ c.turn.ensures)
+    appended_by (arrive-turn _ _ _ _ (sym c.is_wrapping.ensures ∙ c.if-is_wrapping.true))
+    (appended_turn _ _ _ _ c.turn.ensures)
 
 pub returns : goal.returns
 returns c =

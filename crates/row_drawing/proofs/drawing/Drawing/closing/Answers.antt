@@ -3,22 +3,22 @@ use Rattle.row_drawing.specs.Drawing.{job_of}
 use Rattle.row_drawing.specs.RowWriter.{closing}
 use Rattle.row_drawing.proofs.RowWrites.{gone_col, last_inside, span_fits}
 use Rattle.row_drawing.proofs.RowEnd.{closing-none, closing-some}
-use Rattle.row_drawing.proofs.WritesLemmas.{began, began_first, refused, wrote_by, wrote_skip, writes_last}
+use Rattle.row_drawing.proofs.WritesLemmas.{refused_first, refused, appended_by, appended_skip, writes_last}
 use Rattle.row_drawing.proofs.drawing.Drawing.closing.Goals as goal
 
 pub returns-then-not-owes_end : goal.returns-then-not-owes_end
-returns-then-not-owes_end c = wrote_by (closing-none _ _ (sym c.if-not-owes_end.ensures)) (wrote_skip _ _)
+returns-then-not-owes_end c = appended_by (closing-none _ _ (sym c.if-not-owes_end.ensures)) (appended_skip _ _)
 
 pub returns-in_err-goto : goal.returns-in_err-goto
 returns-in_err-goto c =
     refused _ (closing (job_of c.args.self.now)) c.args.pen.now _ c.from_residual.ensures.0
     (closing-some _ _ _ _ (sym c.if-not-owes_end.ensures) c.last_col-col.ensures refl)
-    (began_first _ (began _ c.in_err-goto.ensures))
+    (refused_first _ c.in_err-goto.ensures)
 
 pub mend-requires : goal.mend-requires
 mend-requires c =
     span_fits _ _ _ _ c.cell.ensures c.args.self.now.few c.args.self.now.paired
-    (last_inside (job_of c.args.self.now) _ c.requires c.last_col-col.ensures) (gone_col _ _ c.in_ok-goto.ensures)
+    (last_inside (job_of c.args.self.now) _ c.requires c.last_col-col.ensures) (gone_col _ _ c.in_ok-goto.ensures.wrote)
 
 pub returns : goal.returns
 returns c =

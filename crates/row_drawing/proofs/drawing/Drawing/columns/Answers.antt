@@ -1,12 +1,13 @@
-use Rattle.std.proofs.Common.{◌≡◌, ◌+◌, ap, arith, append-nil, subst, sym, ◌∙◌, ◌++◌, refl}
-use Rattle.std.specs.Prelude.{string_bytes}
+use Rattle.std.proofs.Common.{◌≡◌, ◌+◌, ◌≤◌, ap, arith, append-nil, subst, sym, ◌∙◌, ◌++◌, refl}
+use Rattle.std.specs.Prelude.{string_bytes, string_capacity}
+use Rattle.vt100_forms.specs.Form.{spell}
 use Rattle.vt100_cells.specs.Cell.{CellView}
 use Rattle.row_drawing.specs.Drawing.{job_of, AreQuiet}
 use Rattle.row_drawing.specs.RowWriter.{columns}
-use Rattle.row_drawing.specs.Writes.{Wrote}
+use Rattle.row_drawing.specs.Writes.{Appended, IsBegun, Wrote}
 use Rattle.row_drawing.proofs.KeptRows.{wrote_columns_quiet}
-use Rattle.row_drawing.proofs.WritesLemmas.{began, began_columns_all, began_columns_at, began_columns_moved, began_none}
-use Rattle.row_drawing.proofs.WritesLemmas.{refused, wrote_columns_next, wrote_columns_none}
+use Rattle.row_drawing.proofs.WritesLemmas.{began_columns_all, began_columns_moved, began_none, full_within}
+use Rattle.row_drawing.proofs.WritesLemmas.{refused, refused_columns_at, wrote_columns_next, wrote_columns_none}
 use Rattle.row_drawing.proofs.drawing.Drawing.columns.Goals as goal
 
 pub loop-n-init : goal.loop-n-init
@@ -22,6 +23,7 @@ loop-n-init c =
       drawn = subst (λ bs. Wrote (columns j n) p s p bs) (sym (ap (λ bs. s ++ bs) c.new-run.ensures ∙ append-nil s))
           (wrote_columns_quiet j 0 n (omega arith) quiet (wrote_columns_none j p s));
       begun = began_none _ p s;
+      capacity = omega arith;
       like = tt;
     }
 
@@ -29,8 +31,24 @@ pub returns-in_err-make_room : goal.returns-in_err-make_room
 returns-in_err-make_room c =
     let j = job_of c.args.self.now in
     let inv = c.loop-n.invariant in
-    refused _ (columns j c.args.count) c.args.pen.now _ c.from_residual.ensures.0 refl
-    (began_columns_moved j _ _ _ inv.within inv.drawn inv.begun c.in_err-make_room.ensures.moved)
+    refused _ {f = columns j c.args.count} (columns j c.args.count) c.args.pen.now _ c.from_residual.ensures.0 refl
+    (record {
+      begun = (began_columns_moved j _ _ _ inv.within inv.drawn inv.begun c.in_err-make_room.ensures.moved).is;
+      full = full_within c.args.contents.now c.loop-n.contents c.loop-n.run _ inv.capacity c.in_err-make_room.ensures.full
+          (began_columns_all j _ c.args.count inv.within inv.drawn).is;
+    })
+
+pub returns-in_err-move_to : goal.returns-in_err-move_to
+returns-in_err-move_to c =
+    let j = job_of c.args.self.now in
+    let inv = c.loop-n.invariant in
+    refused _ {f = columns j c.args.count} (columns j c.args.count) c.args.pen.now _
+    c.from_residual-in_err-move_to.ensures.0 refl (record {
+      begun = subst (λ t. IsBegun (string_bytes c.args.contents.now) (spell (columns j c.args.count c.args.pen.now).forms) t)
+          (sym c.in_err-move_to.ensures.bytes) inv.begun.is;
+      full = full_within c.args.contents.now c.loop-n.contents c.loop-n.run _ inv.capacity c.in_err-move_to.ensures.full
+          (began_columns_all j _ c.args.count inv.within inv.drawn).is;
+    })
 
 pub loop-n-preserved-then-begins_run : goal.loop-n-preserved-then-begins_run
 loop-n-preserved-then-begins_run c =
@@ -40,6 +58,7 @@ loop-n-preserved-then-begins_run c =
       within = c.texts-n.ensures.within.1;
       drawn = (c.texts-n.ensures.written _).goes _ _ (rw (sym c.in_ok-make_room.ensures.kept) at inv.drawn);
       begun = began_columns_moved j _ _ _ inv.within inv.drawn inv.begun c.in_ok-make_room.ensures.moved;
+      capacity = omega (arith, inv.capacity, c.in_ok-make_room.ensures.capacity);
       like = ap (λ (x : CellView). x.attrs) c.cell.ensures ∙ c.texts-n.ensures.like;
     }
 
@@ -50,6 +69,7 @@ loop-n-preserved-then-quiet-n c =
       drawn = wrote_columns_quiet (job_of c.args.self.now) _ _ c.after_quiet-quiet.ensures.within.0 c.after_quiet-quiet.ensures.quiet
           c.loop-n.invariant.drawn;
       begun = c.loop-n.invariant.begun;
+      capacity = c.loop-n.invariant.capacity;
       like = c.loop-n.invariant.like;
     }
 
@@ -57,8 +77,12 @@ pub returns-in_err-change : goal.returns-in_err-change
 returns-in_err-change c =
     let j = job_of c.args.self.now in
     let drawn = rw (sym c.in_ok-move_to.ensures.bytes) at c.loop-n.invariant.drawn in
+    let room : string_capacity c.args.contents.now ≤ string_capacity c.move_to.new.contents =
+    omega (arith, c.loop-n.invariant.capacity, c.in_ok-move_to.ensures.capacity) in
+    let before : Appended (columns j c.loop-n.n) c.args.pen.now c.args.contents.now c.loop-n.pen c.move_to.new.contents =
+    record { wrote = drawn; capacity = room } in
     refused _ (columns j c.args.count) c.args.pen.now _ c.from_residual-in_err-change.ensures.0 refl
-    (began_columns_at j c.loop-n.n c.args.count c.loop-n-test.true drawn (began _ c.in_err-change.ensures))
+    (refused_columns_at j c.loop-n.n c.args.count c.loop-n-test.true before c.in_err-change.ensures)
 
 pub loop-n-preserved : goal.loop-n-preserved
 loop-n-preserved c =
@@ -66,11 +90,29 @@ loop-n-preserved c =
     let n = c.loop-n.n in
     let u = string_bytes c.change.new.contents in
     let drawn = rw (sym c.in_ok-move_to.ensures.bytes) at c.loop-n.invariant.drawn in
-    let next = wrote_columns_next j n drawn c.in_ok-change.ensures in
+    let next = wrote_columns_next j n drawn c.in_ok-change.ensures.wrote in
     let all = ap (λ bs. u ++ bs) c.in_ok-move_to.ensures.empty ∙ append-nil u in
     record {
       within = omega (arith, c.loop-n-test.true);
       drawn = rw (sym all) at next;
       begun = began_columns_all j (n + 1) c.args.count (omega (arith, c.loop-n-test.true)) next;
+      capacity = omega (
+        arith,
+        c.loop-n.invariant.capacity,
+        c.in_ok-move_to.ensures.capacity,
+        c.in_ok-change.ensures.capacity,
+      );
       like = tt;
     }
+
+pub returns-in_err-move_to-2 : goal.returns-in_err-move_to-2
+returns-in_err-move_to-2 c =
+    let j = job_of c.args.self.now in
+    let inv = c.loop-n.invariant in
+    refused _ {f = columns j c.args.count} (columns j c.args.count) c.args.pen.now _
+    c.from_residual-in_err-move_to-2.ensures.0 refl (record {
+      begun = subst (λ t. IsBegun (string_bytes c.args.contents.now) (spell (columns j c.args.count c.args.pen.now).forms) t)
+          (sym c.in_err-move_to-2.ensures.bytes) inv.begun.is;
+      full = full_within c.args.contents.now c.loop-n.contents c.loop-n.run _ inv.capacity c.in_err-move_to-2.ensures.full
+          (began_columns_all j _ c.args.count inv.within inv.drawn).is;
+    })

@@ -1,4 +1,4 @@
-use Rattle.std.specs.Prelude.{◌≡◌, ◌≤◌, ◌-◌, ◌++◌, IfSome, string_bytes}
+use Rattle.std.specs.Prelude.{◌≡◌, ◌≤◌, ◌-◌, ◌++◌, IfSome, string_bytes, string_capacity}
 use Rattle.row_drawing.specs.Drawing.{job_of}
 use Rattle.row_drawing.specs.RowWriter.{columns}
 use Rattle.row_drawing.specs.Writes.{Wrote}
@@ -14,6 +14,7 @@ invariant-loop-n l = record {
       (string_bytes l.contents ++ l.run);
   begun : Began (columns (job_of l.self) l.count) l.initial.pen (string_bytes l.initial.contents)
       (string_bytes l.contents);
+  capacity : string_capacity l.initial.contents ≤ string_capacity l.contents;
   like : IfSome l.like (λ x. x.now.attrs ≡ l.pen.attrs);
 }
 

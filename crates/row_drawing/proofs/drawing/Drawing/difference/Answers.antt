@@ -1,18 +1,18 @@
 use Rattle.row_drawing.specs.Drawing.{job_of}
 use Rattle.row_drawing.specs.RowWriter.{row_difference}
 use Rattle.row_drawing.proofs.KeptRows.{difference-is, settled_kept, wrote_difference_kept}
-use Rattle.row_drawing.proofs.WritesLemmas.{began, began_first, refused, writes_last}
+use Rattle.row_drawing.proofs.WritesLemmas.{appended_none, refused_first, refused, writes_last}
 use Rattle.row_drawing.proofs.drawing.Drawing.difference.Goals as goal
 
 pub returns-then-is_settled : goal.returns-then-is_settled
 returns-then-is_settled c =
-    wrote_difference_kept (job_of c.args.self.now) c.args.count _ _ (settled_kept _ _
-    (c.is_settled.ensures c.if-is_settled.true))
+    appended_none _ (wrote_difference_kept (job_of c.args.self.now) c.args.count _ _ (settled_kept _ _
+    (c.is_settled.ensures c.if-is_settled.true)))
 
 pub returns-in_err-redraw_behind : goal.returns-in_err-redraw_behind
 returns-in_err-redraw_behind c =
     refused _ (row_difference (job_of c.args.self.now) c.args.count) c.args.pen.now _ c.from_residual.ensures.0
-    (difference-is _ _ _) (began_first _ (began _ c.in_err-redraw_behind.ensures))
+    (difference-is _ _ _) (refused_first _ c.in_err-redraw_behind.ensures)
 
 pub returns : goal.returns
 returns c =

@@ -2,21 +2,21 @@ use Rattle.std.proofs.Common.{refl, sym}
 use Rattle.row_drawing.specs.Drawing.{job_of}
 use Rattle.row_drawing.specs.RowWriter.{flush}
 use Rattle.row_drawing.proofs.Columns.{flush-is_none, flush-is_kept, flush-is_ended}
-use Rattle.row_drawing.proofs.WritesLemmas.{began, began_first, refused, wrote_by, wrote_skip, writes_last}
+use Rattle.row_drawing.proofs.WritesLemmas.{refused_first, refused, appended_by, appended_skip, writes_last}
 use Rattle.row_drawing.proofs.drawing.Drawing.flush.Goals as goal
 
 pub returns-in_default : goal.returns-in_default
-returns-in_default c = wrote_by (flush-is_none _ _ _ c.in_default.is) (wrote_skip _ _)
+returns-in_default c = appended_by (flush-is_none _ _ _ c.in_default.is) (appended_skip _ _)
 
 pub returns-then-not-is_end : goal.returns-then-not-is_end
 returns-then-not-is_end c =
-    wrote_by (flush-is_kept _ _ _ _ _ c.in-Some.is c.cell.ensures (sym c.if-not-is_end.ensures)) (wrote_skip _ _)
+    appended_by (flush-is_kept _ _ _ _ _ c.in-Some.is c.cell.ensures (sym c.if-not-is_end.ensures)) (appended_skip _ _)
 
 pub returns-in_err-to_erase : goal.returns-in_err-to_erase
 returns-in_err-to_erase c =
     refused _ (flush (job_of c.args.self.now) c.args.col) c.args.pen.now _ c.from_residual.ensures.0
     (flush-is_ended _ _ _ _ _ _ _ c.in-Some.is c.cell.ensures (sym c.if-not-is_end.ensures) refl refl)
-    (began_first _ (began _ c.in_err-to_erase.ensures))
+    (refused_first _ c.in_err-to_erase.ensures)
 
 pub returns : goal.returns
 returns c =

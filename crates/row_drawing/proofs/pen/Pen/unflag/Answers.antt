@@ -1,7 +1,7 @@
 use Rattle.std.proofs.Common.{sym, ◌∙◌}
 use Rattle.row_drawing.specs.RowWriter.{unflag}
 use Rattle.row_drawing.proofs.RowEnd.{unflag-empty}
-use Rattle.row_drawing.proofs.WritesLemmas.{began, began_first, refused, writes_last}
+use Rattle.row_drawing.proofs.WritesLemmas.{refused_first, refused, writes_last}
 use Rattle.row_drawing.proofs.pen.Pen.unflag.Goals as goal
 
 pub returns-then-has_contents : goal.returns-then-has_contents
@@ -12,7 +12,7 @@ pub returns-in_err-color_as : goal.returns-in_err-color_as
 returns-in_err-color_as c =
     refused _ (unflag c.args.cell.now) c.args.self.now _ c.from_residual.ensures.0
     (unflag-empty _ _ (sym c.has_contents.ensures ∙ c.if-has_contents.false))
-    (began_first _ (began _ c.in_err-color_as.ensures))
+    (refused_first _ c.in_err-color_as.ensures)
 
 pub returns : goal.returns
 returns c =

@@ -6,7 +6,7 @@ use Rattle.vt100.specs.Writers.{contents_diff}
 use Rattle.vt100.proofs.ShownLemmas.{difference-of_shown}
 use Rattle.vt100.proofs.FormLists.{differences-local}
 use Rattle.vt100.proofs.ShortLists.{screen-short}
-use Rattle.vt100_core.proofs.WriterLemmas.{appended_then}
+use Rattle.vt100_core.proofs.WriterLemmas.{spelled_then}
 use Rattle.vt100.proofs.screen.Screen.state_diff.Goals as goal
 
 pub returns : goal.returns
@@ -14,7 +14,7 @@ returns c =
     let old = c.args.prev.now.state in
     let new = c.args.self.now.state in
     let first = rw c.new-contents.ensures.bytes at c.in_ok-write_contents_diff.ensures in
-    let is = appended_then (contents_diff old new) _ [] _ _ first c.in_ok-write_input_mode_diff.ensures in
+    let is = spelled_then (contents_diff old new) _ [] _ _ first c.in_ok-write_input_mode_diff.ensures in
     let colors : HasByteColors old.attrs = rw (← c.prev.view_is) c.prev.invariant.attrs.colors in
     record {
       text = is;

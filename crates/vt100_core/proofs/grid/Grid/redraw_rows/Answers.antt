@@ -1,7 +1,5 @@
 use Rattle.std.proofs.Common.{◌<◌, ap, arith, ◌∙◌, length, refl}
-use Rattle.std.specs.Prelude.{string_bytes}
-use Rattle.row_drawing.proofs.RowWrites.{on_err}
-use Rattle.row_drawing.proofs.WritesLemmas.{wrote_skip}
+use Rattle.row_drawing.proofs.WritesLemmas.{appended_skip, refused}
 use Rattle.screen_drawing.specs.Rows.{in_turn}
 use Rattle.vt100_rows.specs.Forms.{redraw}
 use Rattle.vt100_core.specs.Grid.{GridView}
@@ -12,7 +10,7 @@ use Rattle.vt100_core.proofs.grid.Grid.redraw_rows.Goals as goal
 pub loop-i-init : goal.loop-i-init
 unfolding in_turn
 loop-i-init c = record {
-  wrote = wrote_skip c.args.pen.now (string_bytes c.args.contents.now);
+  wrote = appended_skip c.args.pen.now c.args.contents.now;
   wraps = refl;
 }
 
@@ -22,9 +20,8 @@ returns-in_err-redraw c =
     let width = c.cols.ensures ∙ ap (λ (x : GridView). x.width) c.self.view_is in
     let count = ap (λ (x : GridView). length x.rows) c.self.view_is in
     let inside : c.loop-i.i < n = omega (arith, count) in
-    on_err c.from_residual.result (lines_redraw c.args.self.now n) c.args.pen.now
-    (string_bytes c.args.contents.now) c.redraw.new.pen (string_bytes c.redraw.new.contents)
-    c.from_residual.ensures.0
+    refused c.from_residual.result (lines_redraw c.args.self.now n) c.args.pen.now c.redraw.new.pen
+    c.from_residual.ensures.0 refl
     (rows-begun _ _ n _ inside
     (λ i. redraw (c.shown_row-row.ensures i) 0 (width i) c.loop-i.i (c.loop-i.invariant.wraps i))
     c.loop-i.invariant.wrote c.in_err-redraw.ensures)

@@ -1,7 +1,5 @@
 use Rattle.std.proofs.Common.{◌<◌, ap, arith, ◌∙◌, ◌&&◌, length, min, not, refl}
-use Rattle.std.specs.Prelude.{string_bytes}
-use Rattle.row_drawing.proofs.RowWrites.{on_err}
-use Rattle.row_drawing.proofs.WritesLemmas.{wrote_skip}
+use Rattle.row_drawing.proofs.WritesLemmas.{appended_skip, refused}
 use Rattle.screen_drawing.specs.Rows.{in_turn}
 use Rattle.vt100_rows.specs.Forms.{difference}
 use Rattle.vt100_core.specs.Grid.{GridView}
@@ -12,7 +10,7 @@ use Rattle.vt100_core.proofs.grid.Grid.rows_diff.Goals as goal
 pub loop-i-init : goal.loop-i-init
 unfolding in_turn
 loop-i-init c = record {
-  wrote = wrote_skip c.args.pen.now (string_bytes c.args.contents.now);
+  wrote = appended_skip c.args.pen.now c.args.contents.now;
   wraps = refl;
   wrapped = refl;
 }
@@ -27,8 +25,8 @@ returns-in_err-difference c =
     let others = ap (λ (x : GridView). length x.rows) c.prev.view_is in
     let inside : c.loop-i.i < n = omega (arith, count, others) in
     let flag = c.has_flag-flagged.ensures ∙ ap (λ b. b && not c.loop-i.pen.lost) c.loop-i.invariant.wrapped in
-    on_err c.from_residual.result (lines_difference g h n) c.args.pen.now (string_bytes c.args.contents.now)
-    c.difference.new.pen (string_bytes c.difference.new.contents) c.from_residual.ensures.0
+    refused c.from_residual.result (lines_difference g h n) c.args.pen.now c.difference.new.pen
+    c.from_residual.ensures.0 refl
     (rows-begun _ _ n _ inside
     (λ i. difference (c.shown_row-row.ensures i) (c.shown_row-prev_row.ensures i) 0 (width i) c.loop-i.i
     (c.loop-i.invariant.wraps i) (flag i))

@@ -1,15 +1,16 @@
 use Rattle.std.proofs.Common.{ap, is_ok, refl, sym, ◌∙◌}
-use Rattle.screen_drawing.specs.Cursor.{arriving, end_cell, place, printed_with}
+use Rattle.screen_drawing.specs.Cursor.{arriving, end_cell, place, printed_with, wait_behind}
 use Rattle.vt100_rows.specs.Picture.{lines_of}
 use Rattle.vt100_core.specs.Grid.{GridView}
 use Rattle.vt100_core.specs.Picture.{grid_size}
-use Rattle.vt100_core.proofs.WriterLemmas.{appends_rest, refused_front, wait_behind-none, wait_behind-some}
+use Rattle.vt100_core.proofs.WriterLemmas.{appends_rest, refused_front, wait_behind-none, wait_behind-some, appends_nothing}
 use Rattle.vt100_core.proofs.grid.Grid.wait_behind.Goals as goal
 
 pub returns-then-is_at : goal.returns-then-is_at
 returns-then-is_at c =
-    wait_behind-none (grid_size c.args.self.now) (lines_of c.args.self.now.rows) _ _ _ _ _
-    (c.cols.ensures ∙ ap (λ (x : GridView). x.width) c.self.view_is) (sym c.is_at.ensures ∙ c.if-is_at.true)
+    appends_nothing (wait_behind (grid_size c.args.self.now) (lines_of c.args.self.now.rows) c.args.prev_pos
+    c.args.attrs c.args.row) _ (wait_behind-none (grid_size c.args.self.now) (lines_of c.args.self.now.rows) _ _ _ _ _
+    (c.cols.ensures ∙ ap (λ (x : GridView). x.width) c.self.view_is) (sym c.is_at.ensures ∙ c.if-is_at.true))
 
 pub returns-in_err-arrive : goal.returns-in_err-arrive
 returns-in_err-arrive c =

@@ -19,6 +19,7 @@ returns-in_err-arrive c =
     (ap (λ (v : GridView). v.row) c.self.view_is) (ap (λ n. n - 1) width) refl) c.in_err-arrive.ensures
 
 pub returns-in_err-push : goal.returns-in_err-push
+unfolding lib.Utf8.encode
 returns-in_err-push c =
     let g = c.args.self.now in
     let width = c.cols.ensures ∙ ap (λ (v : GridView). v.width) c.self.view_is in
@@ -28,7 +29,8 @@ returns-in_err-push c =
     appends_rest (arriving c.args.prev_pos (place c.self.inside.pos.row (c.cols.result - 1))) rest _ _ _ (is_ok r) _
     (wait_on_empty-is (grid_size g) c.args.prev_pos c.args.attrs g.row x _ _ _
     (ap (λ (v : GridView). v.row) c.self.view_is) (ap (λ n. n - 1) width) refl) c.in_ok-arrive.ensures
-    (none_appends r rest _ _ c.from_residual-in_err-push.ensures.0 c.in_err-push.ensures.bytes)
+    (none_appends r (Text (32 ∷ []) ∷ []) (replaced c.args.attrs x.attrs) rest _ _
+    c.from_residual-in_err-push.ensures.0 refl c.in_err-push.ensures.bytes c.in_err-push.ensures.full)
 
 pub returns : goal.returns
 unfolding lib.Utf8.encode
@@ -43,4 +45,4 @@ returns c =
     (Text (32 ∷ []) ∷ own) _ _ _ ok _
     (wait_on_empty-is (grid_size g) c.args.prev_pos c.args.attrs g.row (lines_of g.rows g.row (g.width - 1)) _ _ _
     (ap (λ (v : GridView). v.row) c.self.view_is) (ap (λ n. n - 1) width) c.end_attrs.ensures) c.in_ok-arrive.ensures
-    (form_appends (Text (32 ∷ [])) own _ _ ok _ space c.replace_space.ensures)
+    (form_appends (Text (32 ∷ [])) own _ _ ok _ space c.in_ok-push.ensures.capacity c.replace_space.ensures)

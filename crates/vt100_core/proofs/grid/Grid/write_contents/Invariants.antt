@@ -1,8 +1,11 @@
-use Rattle.std.proofs.Common.{length}
-use Rattle.std.specs.Prelude.{string_bytes}
+use Rattle.std.proofs.Common.{◌≤◌, length}
+use Rattle.std.specs.Prelude.{string_bytes, string_capacity}
 use Rattle.vt100_core.proofs.ContentsLemmas.{IsShown}
 use Rattle.vt100_core.proofs.grid.Grid.write_contents.Given as goal
 
 abbrev pub invariant-loop-row : goal.invariant-loop-row
-invariant-loop-row l = IsShown l.self (length l.yielded) l.row-iterator l.wrapping (string_bytes l.initial.contents)
-    (string_bytes l.contents)
+invariant-loop-row l = record {
+  shown : IsShown l.self (length l.yielded) l.row-iterator l.wrapping (string_bytes l.initial.contents)
+      (string_bytes l.contents);
+  capacity : string_capacity l.initial.contents ≤ string_capacity l.contents;
+}

@@ -33,13 +33,13 @@ returns-clause-text c =
 pub returns-clause-attrs : goal.returns-clause-attrs
 returns-clause-attrs c =
     let pen = c.pen_at-pen.ensures ∙ ap (λ (v : GridView). pen_at v.row v.col c.args.prev_attrs) c.prev.view_is in
-    placed-attrs c.args.self.now _ _ pen c.in_ok-rows_diff.ensures
+    placed-attrs c.args.self.now _ _ pen c.in_ok-rows_diff.ensures.wrote
 
 pub returns-clause-short : goal.returns-clause-short
 returns-clause-short c drawn shown k =
     grown-short c.args.self.now (differing c.args.self.now c.args.prev.now c.args.prev_attrs).forms _ _
     ((grid-short c.args.self.now (rw (← c.self.view_is) c.self.invariant) drawn shown).difference c.args.prev.now c.args.prev_attrs k)
-    (returns-clause-text c)
+    (returns-clause-text c).bytes
 
 pub returns-clause-local : goal.returns-clause-local
-returns-clause-local c i o e k = appends-local c.args.self.now _ _ _ _ i o e k (returns-clause-text c)
+returns-clause-local c i o e k = appends-local c.args.self.now _ _ _ _ i o e k (returns-clause-text c).bytes

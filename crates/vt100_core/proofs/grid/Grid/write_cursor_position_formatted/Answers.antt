@@ -1,12 +1,12 @@
 use Rattle.std.proofs.Common.{ap, arith, is_ok, replicate, subst, sym, ◌∙◌, ◌-◌, ◌<◌, ◌≤◌}
-use Rattle.std.specs.Prelude.{string_bytes, unwrap_or}
+use Rattle.std.specs.Prelude.{unwrap_or}
 use Rattle.vt100_forms.specs.Form.{Lf}
 use Rattle.screen_drawing.specs.Cursor.{arriving, is_pen_at, place, wait_behind, wait_on_empty}
 use Rattle.vt100_rows.specs.Picture.{lines_of}
 use Rattle.vt100_core.specs.Grid.{GridView}
 use Rattle.vt100_core.specs.Picture.{grid_size}
-use Rattle.vt100_core.specs.Writers.{Appends}
-use Rattle.vt100_core.proofs.WriterLemmas.{appends_as, appends_rest, cursor-behind, cursor-inside, cursor-on_empty}
+use Rattle.vt100_core.specs.Writers.{Appends, cursor_position_formatted}
+use Rattle.vt100_core.proofs.WriterLemmas.{appends_as, appends_nothing, appends_rest, cursor-behind, cursor-inside, cursor-on_empty}
 use Rattle.vt100_core.proofs.WriterLemmas.{cursor-there, refused_front}
 use Rattle.vt100_core.proofs.grid.Grid.write_cursor_position_formatted.Goals as goal
 
@@ -26,9 +26,10 @@ returns-then-is_at c =
     let width = c.cols.ensures ∙ ap (λ (v : GridView). v.width) c.self.view_is in
     let col = ap (λ (v : GridView). v.col) c.self.view_is in
     let past : g.width ≤ g.col = omega (arith, width, col) in
-    cursor-there g c.args.prev_pos c.args.prev_attrs _ past
+    appends_nothing (cursor_position_formatted g c.args.prev_pos c.args.prev_attrs) _
+    (cursor-there g c.args.prev_pos c.args.prev_attrs _ past
     (ap (λ (v : GridView). is_pen_at c.args.prev_pos (place v.row v.col)) (sym c.self.view_is) ∙ sym c.is_at.ensures
-    ∙ c.if-is_at.true)
+    ∙ c.if-is_at.true))
 
 pub returns-in_err-wait_behind-in-Some : goal.returns-in_err-wait_behind-in-Some
 returns-in_err-wait_behind-in-Some c =
@@ -61,8 +62,8 @@ returns-in_ok-wait_behind-in-Some c =
     (replicate (g.row - c.in-Some.row) Lf) _ _ _ ok _
     (cursor-behind g p c.args.prev_attrs _ attrs past off c.in-Some.row c.in-Some.ensures.value)
     c.in_ok-wait_behind-in-Some.ensures
-    (subst (λ k. Appends (replicate (k - c.in-Some.row) Lf) (string_bytes c.wait_behind.new.contents) ok
-    (string_bytes c.push_line_feeds.new.contents)) (ap (λ (v : GridView). v.row) c.self.view_is)
+    (subst (λ k. Appends (replicate (k - c.in-Some.row) Lf) c.wait_behind.new.contents ok
+    c.push_line_feeds.new.contents) (ap (λ (v : GridView). v.row) c.self.view_is)
     c.push_line_feeds.ensures)
 
 pub returns-in-None : goal.returns-in-None

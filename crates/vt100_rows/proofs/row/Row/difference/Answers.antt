@@ -3,6 +3,7 @@ use Rattle.std.specs.Prelude.{string_bytes}
 use Rattle.vt100_cells.specs.Cell.{CellView}
 use Rattle.vt100_cells.specs.Cells.{cell_at}
 use Rattle.vt100_cells.specs.Line.{IsPaired}
+use Rattle.row_drawing.proofs.WritesLemmas.{appended_none}
 use Rattle.vt100_rows.proofs.FormsLemmas.{wrote_difference_none}
 use Rattle.vt100_rows.proofs.row.Row.difference.Goals as goal
 
@@ -12,8 +13,8 @@ returns-then-cols-start c =
     let earlier = c.args.prev.now in
     let outside : min (length v.cells) (length earlier.cells) ≤ c.args.start =
     omega (arith, c.cols.ensures, c.cols-2.ensures, c.min-cols.ensures) in
-    wrote_difference_none v earlier c.args.start c.args.width c.args.row c.args.above c.args.was_above c.args.pen.now
-    (string_bytes c.args.contents.now) outside
+    appended_none _ (wrote_difference_none v earlier c.args.start c.args.width c.args.row c.args.above c.args.was_above c.args.pen.now
+    (string_bytes c.args.contents.now) outside)
 
 pub invariant_of-drawing : goal.invariant_of-drawing
 invariant_of-drawing c = record {

@@ -3,14 +3,15 @@ use Rattle.std.specs.Prelude.{string_bytes}
 use Rattle.vt100_cells.specs.Cell.{CellView}
 use Rattle.vt100_cells.specs.Cells.{cell_at}
 use Rattle.vt100_cells.specs.Line.{IsPaired}
+use Rattle.row_drawing.proofs.WritesLemmas.{appended_none}
 use Rattle.vt100_rows.proofs.FormsLemmas.{wrote_row_none}
 use Rattle.vt100_rows.proofs.row.Row.redraw.Goals as goal
 
 pub returns-then-cols-start : goal.returns-then-cols-start
 returns-then-cols-start c =
     let outside : length c.args.self.now.cells ≤ c.args.start = omega (arith, c.cols-cols.ensures) in
-    wrote_row_none c.args.self.now c.args.start c.args.width c.args.row c.args.above c.args.pen.now
-    (string_bytes c.args.contents.now) outside
+    appended_none _ (wrote_row_none c.args.self.now c.args.start c.args.width c.args.row c.args.above c.args.pen.now
+    (string_bytes c.args.contents.now) outside)
 
 pub invariant_of-drawing : goal.invariant_of-drawing
 invariant_of-drawing c = record {
