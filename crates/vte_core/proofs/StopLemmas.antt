@@ -19,8 +19,7 @@ use Rattle.vte_core.proofs.GroundTextLemmas.{ends_in_text-last}
 use Rattle.vte_core.specs.Bytes.{is_esc}
 use Rattle.vte_core.specs.Added.{added}
 use Rattle.vte_core.specs.GroundText.{ends_in_text}
-use Rattle.vte_core.specs.Laws.{AsksAsSaid}
-use Rattle.vte_core.specs.Stopping.{StopsAt, Stops, is_text, runs_on, ends_run, asks_at, PassedBy}
+use Rattle.vte_core.specs.Stopping.{StopsAt, Stops, is_text, runs_on, ends_run, asks_at, asks_after, PassedBy}
 use Rattle.vte_core.specs.Standing.{IsAt, state_is_text}
 use Rattle.vte_core.specs.declared.parser.Parser.{Parser}
 
@@ -152,7 +151,9 @@ runs-said : (q : Pending) (b : ℕ) (rest : List ℕ)
 runs-said q b [] = sym (or-true (not (is_text q && not (is_esc b))))
 runs-said q b (c ∷ rest) = not_both (is_text q && not (is_esc b)) (is_esc c)
 
-pub asks-said : AsksAsSaid
+-- the points at which the performer is asked, byte by byte and in the words of the whole texts
+asks-said : (past piece : List ℕ) (m : ℕ) → m ≤ length piece
+    → asks_at (pending past) true piece m ≡ asks_after past piece m
 asks-said past piece zero within = refl
 asks-said past piece (suc m) within =
     let q = after_bytes (pending past) (take m piece) in

@@ -1,12 +1,11 @@
 -- Laws of the events of a byte stream, for a parser that keeps n bytes of an operating system command.
-use Rattle.std.specs.Prelude.{◌≡◌, ℕ, ◌<◌, ◌≤◌, true, List, [], ◌∷◌, ◌++◌, length}
+use Rattle.std.specs.Prelude.{◌≡◌, ◌≢◌, ℕ, ◌+◌, ◌<◌, ◌≤◌, true, false, List, [], ◌∷◌, ◌++◌, length}
 use Rattle.std.specs.List.{All, concat}
-use Rattle.vte_core.specs.Event.{Event, Print, Execute, Osc}
+use Rattle.vte_core.specs.Event.{Event, Print, Execute, Unhook, Osc}
 use Rattle.vte_core.specs.Shapes.{events}
 use Rattle.vte_core.specs.Added.{added}
 use Rattle.vte_core.specs.GroundText.{ends_in_text}
-use Rattle.vte_core.specs.Pending.{pending}
-use Rattle.vte_core.specs.Stopping.{asks_at, asks_after}
+use Rattle.vte_core.specs.Stopping.{asks_after}
 
 -- the events of a beginning of a stream are a beginning of its events
 abbrev pub KeepsBeginnings : Type 0
@@ -19,6 +18,17 @@ AddsInOrder = (n : ℕ) (past a b : List ℕ) → added n past (a ++ b) ≡ adde
 -- ESC begins anew, and ends what came before it
 abbrev pub CutsBeforeEsc : Type 0
 CutsBeforeEsc = (n : ℕ) (s t : List ℕ) → events n (s ++ 0x1B ∷ t) ≡ events n (s ++ 0x1B ∷ []) ++ events n (0x1B ∷ t)
+
+-- an unfinished character, a command, or a device string, which ESC cuts off
+abbrev pub IsCutOff : Event → Type 0
+IsCutOff (Print c) = c ≡ 0xFFFD
+IsCutOff (Osc ps bell) = bell ≡ false
+IsCutOff Unhook = Unit {0}
+IsCutOff _ = ⊥
+
+-- ESC itself tells nothing else
+abbrev pub EscCutsOff : Type 0
+EscCutsOff = (n : ℕ) (past : List ℕ) → All IsCutOff (added n past (0x1B ∷ []))
 
 -- after this byte a stream begins anew
 abbrev pub CutsAfter : ℕ → Type 0
@@ -44,7 +54,26 @@ abbrev pub TellsCharacters : Type 0
 TellsCharacters = (n : ℕ) (past : List ℕ) (b : ℕ) → ends_in_text (past ++ b ∷ []) ≡ true
     → All IsCharacter (added n past (b ∷ []))
 
--- the points at which the performer is asked, byte by byte and in the words of the whole texts
-abbrev pub AsksAsSaid : Type 0
-AsksAsSaid = (past piece : List ℕ) (m : ℕ) → m ≤ length piece
-    → asks_at (pending past) true piece m ≡ asks_after past piece m
+-- no character is printed
+abbrev pub PrintsNothing : Event → Type 0
+PrintsNothing (Print c) = ⊥
+PrintsNothing _ = Unit {0}
+
+-- a byte that isn't ground text, and isn't an ESC that cuts a character off, prints nothing
+abbrev pub PrintsTextAlone : Type 0
+PrintsTextAlone = (n : ℕ) (past : List ℕ) (b : ℕ) → b ≢ 0x1B → ends_in_text (past ++ b ∷ []) ≡ false
+    → All PrintsNothing (added n past (b ∷ []))
+
+-- the performer is asked before the first byte of a piece, and after its last
+abbrev pub AsksAtEnds : Type 0
+AsksAtEnds = (past piece : List ℕ) → (asks_after past piece 0 ≡ true) × (asks_after past piece (length piece) ≡ true)
+
+-- and after each byte that adds more than characters of ground text
+abbrev pub AsksAfterSequences : Type 0
+AsksAfterSequences = (n : ℕ) (past bytes : List ℕ) (b : ℕ) (rest : List ℕ)
+    → ¬ All IsCharacter (added n (past ++ bytes) (b ∷ [])) → asks_after past (bytes ++ b ∷ rest) (length bytes + 1) ≡ true
+
+-- but not behind ground text that goes on in the piece
+abbrev pub AsksOutsideRuns : Type 0
+AsksOutsideRuns = (past bytes : List ℕ) (b : ℕ) (rest : List ℕ) → 0 < length bytes
+    → ends_in_text (past ++ bytes) ≡ true → b ≢ 0x1B → asks_after past (bytes ++ b ∷ rest) (length bytes) ≡ false

@@ -21,3 +21,4 @@ pub mod Runs
 pub mod Reads
 pub mod Steps
 pub mod Ground
+pub mod ParamsText

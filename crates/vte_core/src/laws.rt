@@ -1,7 +1,7 @@
 //! Laws of the events of a byte stream, each as the contract of a function that does nothing.
 
-ghost use Rattle.vte_core.specs.Laws.{KeepsBeginnings, AddsInOrder, CutsBeforeEsc, CutsAfter, AddsFitting};
-ghost use Rattle.vte_core.specs.Laws.{TellsCharacters, AsksAsSaid};
+ghost use Rattle.vte_core.specs.Laws.{KeepsBeginnings, AddsInOrder, CutsBeforeEsc, EscCutsOff, CutsAfter, AddsFitting};
+ghost use Rattle.vte_core.specs.Laws.{TellsCharacters, PrintsTextAlone, AsksAtEnds, AsksAfterSequences, AsksOutsideRuns};
 ghost use Rattle.vte_core.specs.Ground.{AddsAsAlone, NothingIsAtGround, GroundJoins, EscLeavesGround, LeadsToGround};
 ghost use Rattle.vte_core.specs.Ground.{EscapesEndAtGround, ControlSequencesEndAtGround, TextsEndAtGround};
 ghost use Rattle.vte_core.specs.Ground.{NothingPendingIsGround, EscapesTell, ControlSequencesTell, TextsTell};
@@ -13,9 +13,11 @@ pub fn beginnings()
     ensures in_order { AddsInOrder }
 {}
 
-/// A stream may be cut before each ESC: `s ESC t` has the events of `s ESC`, then those of `ESC t`.
+/// A stream may be cut before each ESC: `s ESC t` has the events of `s ESC`, then those of `ESC t`. The ESC itself tells
+/// only what it cuts off: an unfinished character as U+FFFD, an operating system command, or a device string's end.
 pub fn cut_before_esc()
-    ensures { CutsBeforeEsc }
+    ensures cut { CutsBeforeEsc }
+    ensures ended { EscCutsOff }
 {}
 
 /// A stream may be cut after each CAN and each SUB: `s CAN t` has the events of `s CAN`, then those of `t`.
@@ -30,17 +32,21 @@ pub fn osc_fits()
     ensures { AddsFitting }
 {}
 
-/// A byte of ground text prints characters or executes controls, and does nothing else. Ground text stands before the
+/// A byte of ground text prints characters or executes controls, and does nothing else. A byte that isn't ground text
+/// prints nothing, but an ESC that cuts off an unfinished character prints U+FFFD for it. Ground text stands before the
 /// first ESC, and after the shape that each ESC begins.
 pub fn ground_text()
-    ensures { TellsCharacters }
+    ensures characters { TellsCharacters }
+    ensures alone { PrintsTextAlone }
 {}
 
-/// `Parser::advance_until_terminated` asks its performer before the first byte of a piece, after each byte that isn't
-/// ground text, and after each run of ground text, which goes up to the next ESC or to the piece's end; never inside a
-/// run.
+/// Where `Parser::advance_until_terminated` asks its performer: before the first byte of a piece and after its last, and
+/// after each byte that adds an event other than a printed character or an executed control; but never behind ground
+/// text that goes on in the piece.
 pub fn asking_points()
-    ensures { AsksAsSaid }
+    ensures ends { AsksAtEnds }
+    ensures sequences { AsksAfterSequences }
+    ensures runs { AsksOutsideRuns }
 {}
 
 /// A parser is at ground where what follows is read as if it stood alone: before the first byte, after bytes that end

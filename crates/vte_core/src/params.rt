@@ -2,7 +2,9 @@
 
 ghost use Rattle.std.specs.Prelude.{◌≡◌, ◌+◌, ◌<◌, ◌≤◌, ◌==◌, ℕ, List, [], ◌∷◌, ◌++◌, length, take, map};
 ghost use Rattle.vte_core.specs.Store.{total};
+ghost use Rattle.vte_core.specs.ParamsText.{group_text, groups_text};
 ghost use Rattle.std.specs.Iterator.{YieldsFirstBy, item_count};
+ghost use Rattle.std.specs.Fmt.{WritesOnOk};
 
 use std::fmt;
 use std::marker::Model;
@@ -173,29 +175,43 @@ impl<'a> IntoIterator for &'a Params {
     }
 }
 
-/// The numbers as they stand in a control sequence: groups joined by `;`, the numbers of a group by `:`.
+/// The numbers as they stand in a control sequence, in brackets: groups joined by `;`, the numbers of a group by `:`.
 impl fmt::Debug for Params {
+    ghost use Rattle.std.specs.Prelude.{Some};
+    ghost use Rattle.vte_core.specs.ParamsText.{params_text};
+
+    ghost debug_output = { λ params. Some (params_text params) };
+
     fn fmt<W: fmt::Write>(&self, f: &mut fmt::Formatter<W>) -> fmt::Result {
         f.write_str("[")?;
-        let mut is_first = true;
-        for group in self {
-            if !is_first {
-                f.write_str(";")?;
-            }
-            write_group(f, group)?;
-            is_first = false;
-        }
+        write_groups(f, self.iter())?;
         f.write_str("]")
     }
 }
 
-/// Writes the numbers of a group, joined by `:`.
-fn write_group<W: fmt::Write>(f: &mut fmt::Formatter<W>, group: &[u16]) -> fmt::Result {
-    for (i, number) in group.iter().enumerate() {
-        if i != 0 {
-            f.write_str(":")?;
+/// Writes groups, joined by `;`.
+fn write_groups<W: fmt::Write>(f: &mut fmt::Formatter<W>, mut groups: ParamsIter<'_>) -> fmt::Result
+    ensures { WritesOnOk W.write_str_gives f.old result (groups_text groups.entry) f.new }
+{
+    if let Some(first) = groups.next() {
+        write_group(f, first)?;
+        for group in groups {
+            f.write_str(";")?;
+            write_group(f, group)?;
         }
-        write!(f, "{number}")?;
+    }
+    Ok(())
+}
+
+/// Writes the numbers of a group, joined by `:`.
+fn write_group<W: fmt::Write>(f: &mut fmt::Formatter<W>, group: &[u16]) -> fmt::Result
+    ensures { WritesOnOk W.write_str_gives f.old result (group_text group.now) f.new }
+{
+    if let [first, rest @ ..] = group {
+        write!(f, "{first}")?;
+        for number in rest {
+            write!(f, ":{number}")?;
+        }
     }
     Ok(())
 }

@@ -39,8 +39,8 @@ pub trait Perform {
     }
 
     /// A run of ground text without controls: its characters, one after another. The parser hands over what lies
-    /// between two controls or malformed sequences as one text. Only a character that stands alone, or that the end of
-    /// a piece cut, comes by `print`, and the text goes on after it.
+    /// between two controls or malformed sequences as one text. Only a character that stands alone, that the end of a
+    /// piece cut, or that ends a malformed sequence comes by `print`, and the text goes on after it.
     fn print_str(&mut self, text: &str)
         ensures { Performs step self.old (map e.Print (chars text.now)) self.new }
     {

@@ -98,3 +98,40 @@ pub const US: u8 = 0x1F;
 
 /// Delete.
 pub const DEL: u8 = 0x7F;
+
+/// The numbers of ECMA-48 5.2.
+const _: () = prove!(
+    NUL == 0
+        && SOH == 1
+        && STX == 2
+        && ETX == 3
+        && EOT == 4
+        && ENQ == 5
+        && ACK == 6
+        && BEL == 7
+        && BS == 8
+        && HT == 9
+        && LF == 10
+        && VT == 11
+        && FF == 12
+        && CR == 13
+        && SO == 14
+        && SI == 15
+        && DLE == 16
+        && XON == 17
+        && DC2 == 18
+        && XOFF == 19
+        && DC4 == 20
+        && NAK == 21
+        && SYN == 22
+        && ETB == 23
+        && CAN == 24
+        && EM == 25
+        && SUB == 26
+        && ESC == 27
+        && FS == 28
+        && GS == 29
+        && RS == 30
+        && US == 31
+        && DEL == 127
+);

@@ -68,6 +68,43 @@ pub enum NamedColor {
     DimForeground,
 }
 
+/// The numbers of the colours that SGR names.
+const _: () = prove!(
+    NamedColor::Black as u16 == 0
+        && NamedColor::Red as u16 == 1
+        && NamedColor::Green as u16 == 2
+        && NamedColor::Yellow as u16 == 3
+        && NamedColor::Blue as u16 == 4
+        && NamedColor::Magenta as u16 == 5
+        && NamedColor::Cyan as u16 == 6
+        && NamedColor::White as u16 == 7
+        && NamedColor::BrightBlack as u16 == 8
+        && NamedColor::BrightRed as u16 == 9
+        && NamedColor::BrightGreen as u16 == 10
+        && NamedColor::BrightYellow as u16 == 11
+        && NamedColor::BrightBlue as u16 == 12
+        && NamedColor::BrightMagenta as u16 == 13
+        && NamedColor::BrightCyan as u16 == 14
+        && NamedColor::BrightWhite as u16 == 15
+);
+
+/// The numbers of the colours of their own, and of the dim ones.
+const _: () = prove!(
+    NamedColor::Foreground as u16 == 256
+        && NamedColor::Background as u16 == 257
+        && NamedColor::Cursor as u16 == 258
+        && NamedColor::DimBlack as u16 == 259
+        && NamedColor::DimRed as u16 == 260
+        && NamedColor::DimGreen as u16 == 261
+        && NamedColor::DimYellow as u16 == 262
+        && NamedColor::DimBlue as u16 == 263
+        && NamedColor::DimMagenta as u16 == 264
+        && NamedColor::DimCyan as u16 == 265
+        && NamedColor::DimWhite as u16 == 266
+        && NamedColor::BrightForeground as u16 == 267
+        && NamedColor::DimForeground as u16 == 268
+);
+
 impl NamedColor {
     /// The next brighter form: bright for plain, plain for dim. A colour without one stays.
     pub fn to_bright(self) -> Self
