@@ -7,6 +7,8 @@ mod same;
 #[cfg(test)]
 mod screendump;
 #[cfg(test)]
+mod screenlive;
+#[cfg(test)]
 mod screenrelay;
 #[cfg(test)]
 mod screentext;

@@ -2,6 +2,7 @@ pub mod FarLemmas
 pub mod FillLemmas
 pub mod FrameLists
 pub mod LawLemmas
+pub mod LiveLemmas
 pub mod OutcomeLemmas
 pub mod OutputLemmas
 pub mod PieceLemmas

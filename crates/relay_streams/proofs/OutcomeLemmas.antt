@@ -35,7 +35,7 @@ pub if_known : (known : Option (List ℕ)) (P : List ℕ → Type 0) → ((bytes
 if_known None P all = tt
 if_known (Some bytes) P all = all bytes refl
 
-Appends-kept : (a b c : Option (List ℕ)) (xs : List ℕ) → Appends a b xs → Keeps b c → Appends a c xs
+pub Appends-kept : (a b c : Option (List ℕ)) (xs : List ℕ) → Appends a b xs → Keeps b c → Appends a c xs
 Appends-kept None b c xs h k = tt
 Appends-kept (Some a) None c xs h k = absurd h
 Appends-kept (Some a) (Some b) None xs h k = absurd k

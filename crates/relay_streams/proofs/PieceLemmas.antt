@@ -14,7 +14,7 @@ use Rattle.relay_streams.specs.Fill.{again, more, IsReadBy, CountsTo, end_answer
 use Rattle.relay_streams.specs.Pieces.{cut_by, piece_len, pieces_of, Drains, last, next, outcome_of, Drained, Begun}
 use Rattle.std.proofs.Math.Nat.{add-div_left}
 
-Consumes-more : (a b c : Option (List ℕ)) (xs ys : List ℕ) → Consumes a b xs → Consumes b c ys → Consumes a c (xs ++ ys)
+pub Consumes-more : (a b c : Option (List ℕ)) (xs ys : List ℕ) → Consumes a b xs → Consumes b c ys → Consumes a c (xs ++ ys)
 Consumes-more None b c xs ys h k = tt
 Consumes-more (Some a) None c xs ys h k = absurd h
 Consumes-more (Some a) (Some b) None xs ys h k = absurd k
@@ -53,25 +53,25 @@ pieces-more bytes rest is =
     ap (λ (k : ℕ). cut_by (replicate k piece_len) (bytes ++ rest)) count
     ∙ cut-next (length rest / piece_len) piece_len bytes rest is
 
-Consumes-none : (a : Option (List ℕ)) → Consumes a a []
+pub Consumes-none : (a : Option (List ℕ)) → Consumes a a []
 Consumes-none None = tt
 Consumes-none (Some a) = refl
 
-kept-Consumes : (a b c : Option (List ℕ)) (xs : List ℕ) → Keeps a b → Consumes b c xs → Consumes a c xs
+pub kept-Consumes : (a b c : Option (List ℕ)) (xs : List ℕ) → Keeps a b → Consumes b c xs → Consumes a c xs
 kept-Consumes None b c xs h k = tt
 kept-Consumes (Some a) None c xs h k = absurd h
 kept-Consumes (Some a) (Some b) None xs h k = absurd k
 kept-Consumes (Some a) (Some b) (Some c) xs h k = sym h ∙ k
 
 -- what is known after some bytes were taken
-left-known : (a b : Option (List ℕ)) (xs ys : List ℕ) → a ≡ Some xs → Consumes a b ys
+pub left-known : (a b : Option (List ℕ)) (xs ys : List ℕ) → a ≡ Some xs → Consumes a b ys
     → (rest : List ℕ) × (b ≡ Some rest) × (xs ≡ ys ++ rest)
 left-known None b xs ys e h = absurd (cc)
 left-known (Some a) None xs ys e h = absurd h
 left-known (Some a) (Some b) xs ys e h = (b, refl, let same : a ≡ xs = cc in sym same ∙ h)
 
 -- all that was known was taken
-all-taken : (a b : Option (List ℕ)) (xs ys : List ℕ) → a ≡ Some xs → Consumes a b ys → IsAtEnd b → ys ≡ xs
+pub all-taken : (a b : Option (List ℕ)) (xs ys : List ℕ) → a ≡ Some xs → Consumes a b ys → IsAtEnd b → ys ≡ xs
 all-taken None b xs ys e h at = absurd (cc)
 all-taken (Some a) None xs ys e h at = absurd h
 all-taken (Some a) (Some b) xs ys e h at =

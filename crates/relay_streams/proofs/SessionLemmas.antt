@@ -540,8 +540,7 @@ relay-texts-are-one rows cols input a b r s = text-of rows cols input a r ∙ sy
 -- ---- any front of it
 
 pub fronts-shown : RelayedFrontsAreShown
-fronts-shown rows cols key input parsed pieces t r reads =
-    let cut = pieces_of input in
+fronts-shown rows cols key parsed cut pieces t r reads =
     subst (λ (z : Size). IsShownRight rows cols (shown_of (seen z parsed)) (last_read t pieces))
     (relayed-by rows cols key cut t r).size
     (last-shown rows cols (relay_calls key cut) (Attached key ∷ r.replies) 0 t pieces parsed r.session reads)

@@ -24,11 +24,11 @@ WholeFramesArePrinted = (z : Size) (frames : List (List ℕ)) (text : List ℕ)
     → All IsFrame frames → IsTextShown z (pieces_of (concat frames)) text
     → text ≡ screen_text z (seen z (concat frames)).cell
 
--- Any front of what is relayed, in whatever pieces it comes: a new view of the size, which has parsed so much of it,
--- shows what the judge says of the last frame that lies wholly in it, unless that one wasn't sure.
+-- Any prefix of what is relayed of some pieces, in whatever pieces it comes: a new view of the size, which has parsed so
+-- much of it, shows what the judge says of the last frame that lies wholly in it, unless that one wasn't sure.
 abbrev pub RelayedFrontsAreShown : Type 0
-RelayedFrontsAreShown = (rows cols key : ℕ) (input parsed : List ℕ) (pieces : List (List ℕ)) (t : Story)
-    → IsRelayed rows cols key (pieces_of input) t → ReadsFront t.session.pumped pieces parsed
+RelayedFrontsAreShown = (rows cols key : ℕ) (parsed : List ℕ) (fed pieces : List (List ℕ)) (t : Story)
+    → IsRelayed rows cols key fed t → ReadsFront t.session.pumped pieces parsed
     → IsShownRight rows cols (shown_of (seen (sized rows cols) parsed)) (last_read t pieces)
 
 -- what is relayed is printed, in whatever pieces it comes, as the text of the screen that the whole input makes, unless

@@ -3,6 +3,7 @@ pub mod Fill
 pub mod Frames
 pub mod Laws
 pub mod Led
+pub mod Live
 pub mod Pieces
 pub mod Relayed
 pub mod Sessions

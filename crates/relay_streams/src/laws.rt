@@ -19,9 +19,9 @@ pub fn relayed_is_shown()
     ensures { RelayedIsShown }
 {}
 
-/// Of any front of what `relay` writes, in whatever pieces it comes, a view shows what the input's first pieces had made
-/// when the last frame was taken that lies wholly in it, or a blank screen: so where that screen showed no U+FE0F. So
-/// also where `relay` ended since a frame would be too long.
+/// Of any prefix of what `relay` or `relay_live` writes, in whatever pieces it comes, a view shows what the input's first
+/// pieces had made when the last frame was taken that lies wholly in it, or a blank screen: so where that screen showed no
+/// U+FE0F. So also where the relay ended since a frame would be too long.
 pub fn relayed_fronts_are_shown()
     ensures { RelayedFrontsAreShown }
 {}

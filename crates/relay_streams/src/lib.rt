@@ -1,19 +1,21 @@
 //! Relayed streams: a terminal program's output as frames of its screen, those frames as text, and what a far terminal
 //! makes of the bytes that a hub's client was sent.
 //!
-//! [`relay`] reads a program's output and writes frames, [`show`] reads such a stream and writes the rows of the picture
+//! [`relay`] reads a program's output and writes frames, [`relay_live`] writes each as soon as it is due, [`show`] reads such a stream and writes the rows of the picture
 //! that it leaves, and [`far_view`] makes any calls on a hub and gives a view the first bytes of a session, in any pieces.
 #![tactic(auto)]
 
 mod error;
 mod far;
 pub mod laws;
+mod live;
 mod relaying;
 mod showing;
 mod source;
 
 pub use error::RelayError;
 pub use far::{far_view, view_of};
+pub use live::{LIVE_LEN, relay_live};
 pub use relaying::{is_overlong, relay};
 pub use showing::{print_view, show, write_view};
 pub use source::{PIECE_LEN, Source, fill};

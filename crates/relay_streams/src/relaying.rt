@@ -77,7 +77,7 @@ fn relay_pieces<S: Source, W: Sink>(
 }
 
 // Feeds a piece, and sends the frame that is then due.
-fn turn<W: Sink>(
+pub(crate) fn turn<W: Sink>(
     hub: &mut Hub,
     client: Client,
     piece: &[u8],

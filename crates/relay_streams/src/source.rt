@@ -13,7 +13,7 @@ use std::io::{ErrorKind, Read};
 pub const PIECE_LEN: usize = 4096;
 
 /// Reads tried, interrupted ones included, before the input is given up as endless.
-const MAX_READS: u64 = 1 << 40;
+pub(crate) const MAX_READS: u64 = 1 << 40;
 
 /// What gives bytes. Each kind says what one read does to it, also when it fails.
 pub trait Source {

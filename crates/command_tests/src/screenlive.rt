@@ -1,0 +1,96 @@
+//! A live relay: a frame after each read, flushed, and faults of readers and writers in mid-stream.
+
+use screenlive_command::command;
+use scripted_io::{Narrow, Script, Step};
+use std::io::ErrorKind;
+use std::test::Fail;
+
+const HI: &[u8] = b"\x1b[?2026h\x1b[?25h\x1b[m\x1b[H\x1b[Jhi\x1b>\x1b[?1l\x1b[?2004l\x1b[?2026l";
+
+/// The frame of `hi`, and then that of an `x` behind it.
+const HI_X: &[u8] =
+    b"\x1b[?2026h\x1b[?25h\x1b[m\x1b[H\x1b[Jhi\x1b>\x1b[?1l\x1b[?2004l\x1b[?2026l\x1b[?2026hx\x1b[?2026l";
+
+const READ: &[u8] = b"screenlive: read\n";
+
+#[test]
+fn reads(rt: HostRuntime) -> Result<(), Fail> {
+    let rows: [(&'static [Step], u8, &[u8], &[u8], u64); 6] = [
+        (&[Step::Give(b"hi"), Step::Give(b"x")], 0, HI_X, b"", 3),
+        (
+            &[Step::Fail(ErrorKind::Interrupted), Step::Give(b"hi")],
+            0,
+            HI,
+            b"",
+            3,
+        ),
+        (
+            &[
+                Step::Give(b"hi"),
+                Step::Fail(ErrorKind::BrokenPipe),
+                Step::Give(b"x"),
+            ],
+            1,
+            HI,
+            READ,
+            2,
+        ),
+        (&[], 0, b"", b"", 1),
+        (&[Step::Give(b"\x1b[?2026hhi")], 0, b"", b"", 2),
+        (
+            &[Step::Give(b"\x1b[?2026hhi"), Step::Give(b"\x1b[?2026l")],
+            0,
+            HI,
+            b"",
+            3,
+        ),
+    ];
+    for (steps, status, output, errors, reads) in rows {
+        let mut written = Vec::new(rt.alloc());
+        let mut reported = Vec::new(rt.alloc());
+        let mut input = Script::new(steps);
+        let words = ["2", "4"];
+        let answer = command(rt.alloc(), &words, &mut input, &mut written, &mut reported);
+        assert_eq!(rt;
+            (answer, written.as_slice(), reported.as_slice(), input.reads),
+            (status, output, errors, reads)
+        );
+    }
+    Ok(())
+}
+
+// The words, how much a writer takes, whether a flush goes well; and then status, bytes taken, flushes, and the line.
+#[test]
+fn writers(rt: HostRuntime) -> Result<(), Fail> {
+    let rows: [(&[&str], usize, bool, u8, usize, u64, &[u8]); 4] = [
+        (&["2", "4"], 100, true, 0, 48, 1, b""),
+        (&["2", "4"], 10, true, 1, 10, 0, b"screenlive: write\n"),
+        (&["2", "4"], 100, false, 1, 48, 1, b"screenlive: write\n"),
+        (
+            &["0", "4"],
+            100,
+            true,
+            2,
+            0,
+            0,
+            b"usage: screenlive ROWS COLS\n",
+        ),
+    ];
+    for (words, room, flushes, status, taken, flushed, line) in rows {
+        let mut written = Narrow::new(rt.alloc(), room);
+        written.flushes = flushes;
+        let mut reported = Vec::new(rt.alloc());
+        let mut left = b"hi".as_slice();
+        let answer = command(rt.alloc(), words, &mut left, &mut written, &mut reported);
+        assert_eq!(rt;
+            (
+                answer,
+                written.kept.len(),
+                written.flushed,
+                reported.as_slice()
+            ),
+            (status, taken, flushed, line)
+        );
+    }
+    Ok(())
+}

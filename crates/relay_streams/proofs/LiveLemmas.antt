@@ -1,0 +1,338 @@
+-- A live input, piece by piece, and what its frames leave.
+use Rattle.std.proofs.Common.{◌≡◌, ◌≢◌, ◌∙◌, ℕ, ◌+◌, ◌<◌, ◌≤◌, false, List, [], ◌∷◌, ◌++◌, Option, Some, Ok, Err}
+use Rattle.std.proofs.Common.{Result, IfSome, IfOk, OnOk, refl, sym, ap, subst, take, length, arith, append_assoc, append-nil}
+use Rattle.std.proofs.Common.{add_assoc, zero-add}
+use Rattle.std.proofs.Math.Seq.{take-length}
+use Rattle.std.proofs.lemmas.List.{length-take-le}
+use Rattle.std.proofs.lemmas.List.Folds.{concat-append}
+use Rattle.std.specs.List.{concat, list_any}
+use Rattle.std.specs.Io.KnownBytes.{Appends, Consumes, IsAtEnd, Keeps}
+use Rattle.std.specs.IoError.{error_kind}
+use Rattle.std.specs.declared.io.Error.{Error}
+use Rattle.std.specs.declared.io.ErrorKind.TheVariants.{Interrupted}
+use Rattle.terminal_model.specs.Term.{Shown}
+use Rattle.screen_model.specs.Holds.{IsSide}
+use Rattle.takers.specs.Output.{TakesFront}
+use Rattle.takers.specs.Pump.{Writes}
+use Rattle.takers.proofs.AppendLemmas.{Appends-more, Appends-none, TakesFront-none, TakesPart-then}
+use Rattle.takers.proofs.SendLemmas.{text-pumped, text-failed, text-appends, text-part}
+use Rattle.termrelay.specs.Hub.{HubState, as_kept}
+use Rattle.relay_streams.specs.declared.error.RelayError.{RelayError}
+use Rattle.relay_streams.specs.declared.error.RelayError.TheVariants.{Read, Write, Memory, TooManyReads, FrameTooLong}
+use Rattle.relay_streams.specs.Fill.{IsReadBy, max_reads}
+use Rattle.relay_streams.specs.Frames.{asked, is_overlong}
+use Rattle.relay_streams.specs.Live as live
+use Rattle.relay_streams.specs.Live.{live_len, Tries, Listens, SendsFlushed, StreamsLive, RelaysLive, IsLiveText}
+use Rattle.relay_streams.specs.Live.{TakesLive, TriesOnce, read_as}
+use Rattle.relay_streams.specs.Sessions.{AreRelayed}
+use Rattle.relay_streams.specs.Turns.{Relaying, Turned}
+use Rattle.relay_streams.proofs.FrameLists.{frames_of, answers_of, base_of, frames-more, fits-push, base-push}
+use Rattle.relay_streams.proofs.OutcomeLemmas.{if_known, Appends-kept}
+use Rattle.relay_streams.proofs.PieceLemmas.{Consumes-more, Consumes-none, kept-Consumes, left-known, all-taken}
+use Rattle.relay_streams.proofs.SessionLemmas.{frames-are-relayed, ends-overlong, frames-of, relayed-by}
+
+abbrev pub over : Result (Unit {0}) Error
+over = Ok tt
+
+abbrev pub well : Result (Unit {0}) RelayError
+well = Ok tt
+
+abbrev pub gives_bytes : List ℕ → Result (List ℕ) RelayError
+gives_bytes bytes = Ok bytes
+
+concat-one : (pieces : List (List ℕ)) (piece : List ℕ) → concat (pieces ++ piece ∷ []) ≡ concat pieces ++ piece
+concat-one pieces piece =
+    concat-append pieces (piece ∷ []) ∙ ap (λ zs. concat pieces ++ zs) (append-nil piece)
+
+-- ---- one read
+
+-- some reads were interrupted: whatever the others do completes the whole
+pub record TriesOn {S : Type 0} (step : S → ℕ → Result (List ℕ) Error → S → Type 0) (room : ℕ) (old now : S) (made : ℕ)
+    : Type 0 where
+  pub further : (n : ℕ) (answer : Result (List ℕ) RelayError) (t : S) → Tries step room now n answer t
+      → Tries step room old (made + n) answer t
+
+more-made : (made n : ℕ) (answer : Result ℕ RelayError) → IfOk answer (λ k. 0 < n) → IfOk answer (λ k. 0 < made + n)
+more-made made n (Ok k) h = omega (arith, h)
+more-made made n (Err e) h = tt
+
+pub not_tried : {S : Type 0} {step : S → ℕ → Result (List ℕ) Error → S → Type 0} {room : ℕ} {old : S}
+    → TriesOn step room old old 0
+not_tried = record { further = λ n answer t tries. rw zero-add tries }
+
+module _ {S : Type 0} {step : S → ℕ → Result (List ℕ) Error → S → Type 0} {room : ℕ} {old now : S} {made : ℕ}
+    (g : TriesOn step room old now made) (new : S) where
+  pub interrupted : (e : Error) → step now room (Err e) new → error_kind e ≡ Interrupted
+      → TriesOn step room old new (made + 1)
+  interrupted e read is = record {
+    further = λ n answer t tries. rw (add_assoc made 1 n) (g.further (1 + n) answer t (live.again new e read is tries));
+  }
+
+  -- the reads have ended
+  pub tried : {n : ℕ} (before after : ℕ) (piece : List ℕ) (answer : Result ℕ RelayError)
+      → Tries step room now n (read_as answer piece) new → after ≡ before + (made + n) → after ≤ max_reads
+      → IfOk answer (λ k. k ≤ room) → IfOk answer (λ k. 0 < n)
+      → TriesOnce step old room before answer new piece after
+  tried {n} before after piece answer tries counted most within some = record {
+    made = made + n;
+    tries = g.further n (read_as answer piece) new tries;
+    counted = counted;
+    most = most;
+    within = within;
+    some = more-made made n answer some;
+  }
+
+module _ {S : Type 0} {step : S → ℕ → Result (List ℕ) Error → S → Type 0} {old new : S} {room before after : ℕ}
+    {answer : Result ℕ RelayError} {piece : List ℕ} (r : TriesOnce step old room before answer new piece after)
+    (whole : room ≡ live_len) where
+  -- it failed
+  pub tried-fault : (e : RelayError) → answer ≡ Err e → Tries step live_len old r.made (Err e) new
+  tried-fault e is =
+      subst (λ (k : ℕ). Tries step k old r.made (Err e) new) whole
+      (subst (λ (a : Result ℕ RelayError). Tries step room old r.made (read_as a piece) new) is r.tries)
+
+  -- it gave some bytes, or none
+  pub tried-gave : (n : ℕ) → answer ≡ Ok n → Tries step live_len old r.made (Ok (take n piece)) new
+  tried-gave n is =
+      subst (λ (k : ℕ). Tries step k old r.made (Ok (take n piece)) new) whole
+      (subst (λ (a : Result ℕ RelayError). Tries step room old r.made (read_as a piece) new) is r.tries)
+
+  pub listens-on : {s : S} {past : List (List ℕ)} (n : ℕ) → answer ≡ Ok n → 0 < n → length piece ≡ room
+      → Listens step live_len s before past old → Listens step live_len s after (past ++ take n piece ∷ []) new
+  listens-on {s} {past} n is some len listens =
+      let within : n ≤ room = subst (λ (a : Result ℕ RelayError). IfOk a (λ k. k ≤ room)) is r.within in
+      let got : take n piece ≢ [] = λ none. absurd (omega (
+        arith,
+        some,
+        ap length none,
+        length-take-le n piece (omega (arith, within, len)),
+      )) in
+      subst (λ (k : ℕ). Listens step live_len s k (past ++ take n piece ∷ []) new) (sym r.counted)
+      (live.more old listens (tried-gave n is) got)
+
+  pub tried-made : (n : ℕ) → answer ≡ Ok n → 0 < r.made
+  tried-made n is = subst (λ (a : Result ℕ RelayError). IfOk a (λ k. 0 < r.made)) is r.some
+
+-- ---- turns
+
+module _ (S W : Type 0) (gives : S → ℕ → Result (List ℕ) Error → S → Type 0)
+    (takes : W → List ℕ → Result ℕ Error → W → Type 0) (flushes : W → Result (Unit {0}) Error → W → Type 0)
+    (rows cols : ℕ) (past : List (List ℕ)) (piece : List ℕ) (key : ℕ) (g : HubState as_kept) where
+  abbrev pieces : List (List ℕ)
+  pieces = past ++ piece ∷ []
+
+  abbrev base : Option Shown
+  base = base_of rows cols past
+
+  frames-are : frames_of rows cols pieces ≡ frames_of rows cols past ++ (asked rows cols (concat pieces) base).owed ∷ []
+  frames-are = frames-more rows cols past (piece ∷ [])
+
+  -- no frame is too long
+  abbrev Fit : List (List ℕ) → Type 0
+  Fit ps = list_any is_overlong (answers_of rows cols ps) ≡ false
+
+  -- a turn at which a fault came
+  pub live-faults : (s t : S) (w m v : W) (n : ℕ) (e : RelayError) → IsSide rows → IsSide cols
+      → Listens gives live_len s n pieces t → Fit past → SendsFlushed takes flushes w (frames_of rows cols past) over m
+      → Turned takes rows cols pieces base key m (Err e) v g
+      → StreamsLive gives takes flushes rows cols s w (Err e) t v
+  live-faults s t w m v n Read height width b fit sends turned = absurd turned
+  live-faults s t w m v n Write height width b fit sends (last, x, k, pumps) =
+      live.stopped pieces (frames_of rows cols pieces) x b
+      (frames-are-relayed rows cols pieces height width (fits-push rows cols past piece fit last))
+      (subst (λ (texts : List (List ℕ)). SendsFlushed takes flushes w texts (Err x) v) (sym frames-are)
+      (live.broken m sends pumps))
+  live-faults s t w m v n Memory height width b fit sends turned =
+      live.unmade past (frames_of rows cols past) piece b (frames-are-relayed rows cols past height width fit)
+      (subst (λ (u : W). SendsFlushed takes flushes w (frames_of rows cols past) over u) (sym turned) sends)
+  live-faults s t w m v n FrameTooLong height width b fit sends (long, stays) =
+      live.overlong past (frames_of rows cols past) piece b (frames-are-relayed rows cols past height width fit)
+      (ends-overlong rows cols past piece height width long)
+      (subst (λ (u : W). SendsFlushed takes flushes w (frames_of rows cols past) over u) (sym stays) sends)
+  live-faults s t w m v n TooManyReads height width b fit sends turned = absurd turned
+
+  -- one that went well, and the flush after it
+  pub live-goes : (w m k v : W) (answer : Result (Unit {0}) Error) → Fit past
+      → SendsFlushed takes flushes w (frames_of rows cols past) over m
+      → Turned takes rows cols pieces base key m well k g → flushes k answer v
+      → Fit pieces × SendsFlushed takes flushes w (frames_of rows cols pieces) answer v
+      × Relaying rows cols pieces (base_of rows cols pieces) g key
+  live-goes w m k v answer fit sends turned flush = (
+    fits-push rows cols past piece fit turned.0,
+    subst (λ (texts : List (List ℕ)). SendsFlushed takes flushes w texts answer v) (sym frames-are)
+        (live.sent m k sends turned.1.1 flush),
+    subst (λ (b : Option Shown). Relaying rows cols pieces b g key) (sym (base-push rows cols past piece)) turned.2,
+  )
+
+-- ---- what is left, where the source and the writer tell their bytes
+
+module _ (S W : Type 0) (gives : S → ℕ → Result (List ℕ) Error → S → Type 0)
+    (takes : W → List ℕ → Result ℕ Error → W → Type 0) (flushes : W → Result (Unit {0}) Error → W → Type 0)
+    (contents : W → Option (List ℕ)) (left : S → Option (List ℕ))
+    (gave : (s : S) (room : ℕ) (answer : Result (List ℕ) Error) (t : S) → gives s room answer t
+    → IsReadBy left s room answer t)
+    (took : (w : W) (bytes : List ℕ) (answer : Result ℕ Error) (v : W) → takes w bytes answer v
+    → Writes contents w bytes answer v)
+    (flushed : (w : W) (answer : Result (Unit {0}) Error) (v : W) → flushes w answer v
+    → Keeps (contents w) (contents v))
+  where
+    tries-taken : (room : ℕ) (s : S) (n : ℕ) (answer : Result (List ℕ) RelayError) (t : S) (bytes : List ℕ)
+        → Tries gives room s n answer t → answer ≡ gives_bytes bytes → Consumes (left s) (left t) bytes
+    tries-taken room s n answer t bytes (live.gave {bytes = some} read) is =
+        let same : some ≡ bytes = cc in
+        subst (Consumes (left s) (left t)) same (gave s room (Ok some) t read).0
+    tries-taken room s n answer t bytes (live.again m e read broke tries) is =
+        kept-Consumes (left s) (left m) (left t) bytes (gave s room (Err e) m read)
+        (tries-taken room m _ answer t bytes tries is)
+    tries-taken room s n answer t bytes _ is = absurd (cc)
+
+    tries-ended : (room : ℕ) (s : S) (n : ℕ) (answer : Result (List ℕ) RelayError) (t : S)
+        → Tries gives room s n answer t → answer ≡ gives_bytes [] → 0 < room → IsAtEnd (left t)
+    tries-ended room s n answer t (live.gave {bytes = some} read) is wide =
+        let none : some ≡ [] = cc in
+        (gave s room (Ok some) t read).1 none wide
+    tries-ended room s n answer t (live.again m e read broke tries) is wide =
+        tries-ended room m _ answer t tries is wide
+    tries-ended room s n answer t _ is wide = absurd (cc)
+
+    listens-taken : (s : S) (room n : ℕ) (pieces : List (List ℕ)) (t : S) → Listens gives room s n pieces t
+        → Consumes (left s) (left t) (concat pieces)
+    listens-taken s room n all t live.begun = Consumes-none (left s)
+    listens-taken s room n all t (live.more {pieces = past} {bytes = bytes} m listens tries some) =
+        subst (Consumes (left s) (left t)) (sym (concat-one past bytes))
+        (Consumes-more (left s) (left m) (left t) (concat past) bytes (listens-taken s room _ past m listens)
+        (tries-taken room m _ (Ok bytes) t bytes tries refl))
+
+    flushed-appends : (w v : W) (texts : List (List ℕ)) (answer : Result (Unit {0}) Error)
+        → SendsFlushed takes flushes w texts answer v → answer ≡ over
+        → Appends (contents w) (contents v) (concat texts)
+    flushed-appends w v texts answer live.none is = Appends-none (contents w)
+    flushed-appends w v texts answer (live.sent {text = text} {texts = before} {n = n} m k sends pumps flush) is =
+        Appends-kept (contents w) (contents k) (contents v) (concat (before ++ text ∷ []))
+        (subst (Appends (contents w) (contents k)) (sym (concat-one before text))
+        (Appends-more (contents w) (contents m) (contents k) (concat before) text
+        (flushed-appends w m before over sends refl)
+        (text-appends W takes contents took m k text over (text-pumped W takes m k text n pumps) refl)))
+        (flushed k answer v flush)
+    flushed-appends w v texts answer (live.broken m sends pumps) is = absurd (cc)
+
+    flushed-front : (w v : W) (texts : List (List ℕ)) (answer : Result (Unit {0}) Error)
+        → SendsFlushed takes flushes w texts answer v → TakesFront (contents w) (contents v) (concat texts)
+    flushed-front w v texts answer live.none = TakesFront-none (contents w) []
+    flushed-front w v texts answer (live.sent {text = text} {texts = before} {n = n} m k sends pumps flush) =
+        let all : Appends (contents w) (contents k) (concat (before ++ text ∷ [])) =
+        subst (Appends (contents w) (contents k)) (sym (concat-one before text))
+        (Appends-more (contents w) (contents m) (contents k) (concat before) text
+        (flushed-appends w m before over sends refl)
+        (text-appends W takes contents took m k text over (text-pumped W takes m k text n pumps) refl)) in
+        let text' = concat (before ++ text ∷ []) in (
+          length text',
+          rw (take-length text') (Appends-kept (contents w) (contents k) (contents v) text' all
+              (flushed k answer v flush)),
+        )
+    flushed-front w v texts answer (live.broken {text = text} {texts = before} {n = n} {e = e} m sends pumps) =
+        let part = TakesPart-then (contents w) (contents m) (contents v) (concat before) text
+        (flushed-appends w m before over sends refl)
+        (text-part W takes contents took m v text (Err e) e (text-failed W takes m v text e n pumps) refl) in
+        subst (TakesFront (contents w) (contents v)) (sym (concat-one before text)) (part.0, part.2)
+
+    -- what was pumped to the client of these pieces
+    pumped-is : (rows cols : ℕ) (pieces frames : List (List ℕ)) (are : AreRelayed rows cols pieces frames)
+        → are.story.session.pumped ≡ concat frames
+    pumped-is rows cols pieces frames are =
+        (relayed-by rows cols are.key pieces are.story are.is).pumped
+        ∙ ap concat (sym (frames-of rows cols pieces frames are))
+
+    takes-live : (rows cols : ℕ) (w v : W) (pieces frames : List (List ℕ)) (answer : Result (Unit {0}) Error)
+        (bytes rest : List ℕ) → AreRelayed rows cols pieces frames → SendsFlushed takes flushes w frames answer v
+        → bytes ≡ concat pieces ++ rest → TakesLive rows cols bytes (contents w) (contents v)
+    takes-live rows cols w v pieces frames answer bytes rest are sends cut = record {
+      pieces = pieces;
+      rest = rest;
+      cut = cut;
+      key = are.key;
+      story = are.story;
+      is = are.is;
+      took = subst (TakesFront (contents w) (contents v)) (sym (pumped-is rows cols pieces frames are))
+          (flushed-front w v frames answer sends);
+    }
+
+    listened : (s : S) (n : ℕ) (pieces : List (List ℕ)) (t : S) (bytes : List ℕ) → Listens gives live_len s n pieces t
+        → left s ≡ Some bytes → (rest : List ℕ) × (bytes ≡ concat pieces ++ rest)
+    listened s n pieces t bytes listens is =
+        let known = left-known (left s) (left t) bytes (concat pieces) is (listens-taken s live_len n pieces t listens) in
+        (known.0, known.2)
+
+    -- the same of all pieces but the last one
+    listened-past : (s : S) (n : ℕ) (pieces : List (List ℕ)) (piece : List ℕ) (t : S) (bytes : List ℕ)
+        → Listens gives live_len s n (pieces ++ piece ∷ []) t → left s ≡ Some bytes
+        → (rest : List ℕ) × (bytes ≡ concat pieces ++ rest)
+    listened-past s n pieces piece t bytes listens is =
+        let all = listened s n (pieces ++ piece ∷ []) t bytes listens is in (
+          piece ++ all.0,
+          all.1 ∙ ap (λ zs. zs ++ all.0) (concat-one pieces piece) ∙ append_assoc (concat pieces) piece all.0,
+        )
+
+    pub streams-front : (rows cols : ℕ) (s : S) (w : W) (answer : Result (Unit {0}) RelayError) (t : S) (v : W)
+        (bytes : List ℕ) → StreamsLive gives takes flushes rows cols s w answer t v → left s ≡ Some bytes
+        → TakesLive rows cols bytes (contents w) (contents v)
+    streams-front rows cols s w answer t v bytes (live.unread {n = n} m pieces frames e listens tries are sends) is =
+        let cut = listened s n pieces m bytes listens is in
+        takes-live rows cols w v pieces frames over bytes cut.0 are sends cut.1
+    streams-front rows cols s w answer t v bytes (live.unmade {n = n} pieces frames piece listens are sends) is =
+        let cut = listened-past s n pieces piece t bytes listens is in
+        takes-live rows cols w v pieces frames over bytes cut.0 are sends cut.1
+    streams-front rows cols s w answer t v bytes (live.overlong {n = n} pieces frames piece listens are ends sends) is =
+        let cut = listened-past s n pieces piece t bytes listens is in
+        takes-live rows cols w v pieces frames over bytes cut.0 are sends cut.1
+    streams-front rows cols s w answer t v bytes (live.stopped {n = n} pieces frames e listens are sends) is =
+        let cut = listened s n pieces t bytes listens is in
+        takes-live rows cols w v pieces frames (Err e) bytes cut.0 are sends cut.1
+    streams-front rows cols s w answer t v bytes (live.ended {n = n} m pieces frames listens tries are sends) is =
+        let cut = listened s n pieces m bytes listens is in
+        takes-live rows cols w v pieces frames over bytes cut.0 are sends cut.1
+
+    streams-whole : (rows cols : ℕ) (s : S) (w : W) (answer : Result (Unit {0}) RelayError) (t : S) (v : W)
+        (bytes : List ℕ) → StreamsLive gives takes flushes rows cols s w answer t v → answer ≡ well
+        → left s ≡ Some bytes
+        → (text : List ℕ) × IsLiveText rows cols bytes text × Appends (contents w) (contents v) text
+    streams-whole rows cols s w answer t v bytes (live.ended {n = n} {k = k} m pieces frames listens tries are sends) ok
+        is = (
+          concat frames,
+          record {
+            pieces = pieces;
+            whole = all-taken (left s) (left t) bytes (concat pieces) is
+                (subst (Consumes (left s) (left t)) (append-nil (concat pieces))
+                (Consumes-more (left s) (left m) (left t) (concat pieces) []
+                (listens-taken s live_len n pieces m listens) (tries-taken live_len m k (Ok []) t [] tries refl)))
+                (tries-ended live_len m k (Ok []) t tries refl (omega arith));
+            key = are.key;
+            story = are.story;
+            is = are.is;
+            fits = are.fits;
+            pumped = pumped-is rows cols pieces frames are;
+          },
+          flushed-appends w v frames over sends refl,
+        )
+    streams-whole rows cols s w answer t v bytes _ ok is = absurd (cc)
+
+    -- all that the contract of `relay_live` says of what it leaves
+    pub live-told : (rows cols : ℕ) (s : S) (w : W) (answer : Result (Unit {0}) RelayError) (t : S) (v : W)
+        → IsSide rows → IsSide cols → RelaysLive gives takes flushes rows cols s w answer t v
+        → OnOk answer (IfSome (left s) (λ bytes. (text : List ℕ) × IsLiveText rows cols bytes text
+        × Appends (contents w) (contents v) text))
+        × IfSome (left s) (λ bytes. TakesLive rows cols bytes (contents w) (contents v))
+    live-told rows cols s w answer t v height width live.refused = (
+      tt,
+      if_known (left s) _ (λ bytes is.
+          takes-live rows cols w w [] (frames_of rows cols []) over bytes bytes
+          (frames-are-relayed rows cols [] height width refl) live.none refl),
+    )
+    live-told rows cols s w (Ok u) t v height width (live.streamed streams) = (
+      if_known (left s) _ (λ bytes is. streams-whole rows cols s w (Ok u) t v bytes streams refl is),
+      if_known (left s) _ (λ bytes is. streams-front rows cols s w (Ok u) t v bytes streams is),
+    )
+    live-told rows cols s w (Err e) t v height width (live.streamed streams) = (
+      tt,
+      if_known (left s) _ (λ bytes is. streams-front rows cols s w (Err e) t v bytes streams is),
+    )

@@ -1,0 +1,130 @@
+-- What `relay_live` answers, reads and writes.
+use Rattle.std.specs.Prelude.{◌≡◌, ◌≢◌, ℕ, ◌+◌, false, List, [], ◌∷◌, ◌++◌, Option, Ok, Err, Result}
+use Rattle.std.specs.Prelude.{◌<◌, ◌≤◌, take, IfOk}
+use Rattle.std.specs.List.{concat}
+use Rattle.std.specs.IoError.{error_kind}
+use Rattle.std.specs.declared.io.Error.{Error}
+use Rattle.std.specs.declared.io.ErrorKind.TheVariants.{Interrupted}
+use Rattle.takers.specs.Output.{TakesFront}
+use Rattle.takers.specs.Pump.{Pumps}
+use Rattle.relay_theorem.specs.History.{Story}
+use Rattle.relay_streams.specs.declared.error.RelayError.{RelayError}
+use Rattle.relay_streams.specs.declared.error.RelayError.TheVariants.{Read, Write, Memory, TooManyReads, FrameTooLong}
+use Rattle.relay_streams.specs.Fill.{max_reads}
+use Rattle.relay_streams.specs.Sessions.{IsRelayed, has_overlong, AreRelayed, EndsOverlong}
+
+-- bytes of the room that a live read is given
+abbrev pub live_len : ℕ
+live_len = 65536
+
+-- ---- reading
+
+-- From a source, with so much room, so many reads are made until one isn't interrupted: it gives these bytes, none at
+-- the input's end, or fails; or no more reads may be made.
+pub data Tries {S : Type 0} (step : S → ℕ → Result (List ℕ) Error → S → Type 0) (room : ℕ)
+    : S → ℕ → Result (List ℕ) RelayError → S → Type 0 where
+  gave : {s t : S} {bytes : List ℕ} → step s room (Ok bytes) t → Tries step room s 1 (Ok bytes) t
+  failed : {s t : S} {e : Error} → step s room (Err e) t → error_kind e ≢ Interrupted
+      → Tries step room s 1 (Err Read) t
+  stopped : {s : S} → Tries step room s 0 (Err TooManyReads) s
+  again : {s t : S} {n : ℕ} {answer : Result (List ℕ) RelayError} (m : S) (e : Error) → step s room (Err e) m
+      → error_kind e ≡ Interrupted → Tries step room m n answer t → Tries step room s (1 + n) answer t
+
+-- the bytes that one read gave, where a function answers so and leaves its room so
+abbrev pub read_as : Result ℕ RelayError → List ℕ → Result (List ℕ) RelayError
+read_as (Ok n) room = Ok (take n room)
+read_as (Err e) room = Err e
+
+-- One read that isn't interrupted was made, after so many reads before.
+pub record TriesOnce {S : Type 0} (step : S → ℕ → Result (List ℕ) Error → S → Type 0) (old : S) (room before : ℕ)
+    (answer : Result ℕ RelayError) (new : S) (piece : List ℕ) (after : ℕ) : Type 0 where
+  pub made : ℕ
+  pub tries : Tries step room old made (read_as answer piece) new
+  pub counted : after ≡ before + made
+  pub most : after ≤ max_reads
+  pub within : IfOk answer (λ n. n ≤ room)
+  pub some : IfOk answer (λ n. 0 < made)
+
+-- From a source, so many reads give these pieces, each by a read that gives something, and leave the source so.
+pub data Listens {S : Type 0} (step : S → ℕ → Result (List ℕ) Error → S → Type 0) (room : ℕ) (s : S)
+    : ℕ → List (List ℕ) → S → Type 0 where
+  begun : Listens step room s 0 [] s
+  more : {t : S} {n k : ℕ} {pieces : List (List ℕ)} {bytes : List ℕ} (m : S) → Listens step room s n pieces m
+      → Tries step room m k (Ok bytes) t → bytes ≢ [] → Listens step room s (n + k) (pieces ++ bytes ∷ []) t
+
+-- ---- writing
+
+-- From a writer, each of these texts is pumped, and the writer is flushed after each: so the last of these calls is
+-- answered, and so the writer is left. All before it end well.
+pub data SendsFlushed {W : Type 0} (takes : W → List ℕ → Result ℕ Error → W → Type 0)
+    (flushes : W → Result (Unit {0}) Error → W → Type 0) (w : W)
+    : List (List ℕ) → Result (Unit {0}) Error → W → Type 0 where
+  none : SendsFlushed takes flushes w [] (Ok tt) w
+  sent : {v : W} {text : List ℕ} {texts : List (List ℕ)} {n : ℕ} {answer : Result (Unit {0}) Error} (m k : W)
+      → SendsFlushed takes flushes w texts (Ok tt) m → Pumps takes m text (Ok tt) n k → flushes k answer v
+      → SendsFlushed takes flushes w (texts ++ text ∷ []) answer v
+  broken : {v : W} {text : List ℕ} {texts : List (List ℕ)} {n : ℕ} {e : Error} (m : W)
+      → SendsFlushed takes flushes w texts (Ok tt) m → Pumps takes m text (Err e) n v
+      → SendsFlushed takes flushes w (texts ++ text ∷ []) (Err e) v
+
+-- ---- both
+
+-- From a source and a writer, pieces are read, and the frame that is due after each is sent and flushed before the next
+-- one is read: so it is answered, and so both are left.
+pub data StreamsLive {S W : Type 0} (gives : S → ℕ → Result (List ℕ) Error → S → Type 0)
+    (takes : W → List ℕ → Result ℕ Error → W → Type 0) (flushes : W → Result (Unit {0}) Error → W → Type 0)
+    (rows cols : ℕ) (s : S) (w : W) : Result (Unit {0}) RelayError → S → W → Type 0 where
+  -- a read failed, or as many were made as may be: the frames of the pieces were sent
+  unread : {t : S} {v : W} {n k : ℕ} (m : S) (pieces frames : List (List ℕ)) (e : RelayError)
+      → Listens gives live_len s n pieces m → Tries gives live_len m k (Err e) t → AreRelayed rows cols pieces frames
+      → SendsFlushed takes flushes w frames (Ok tt) v → StreamsLive gives takes flushes rows cols s w (Err e) t v
+  -- there was no memory for a piece or its frame: the frames before it were sent
+  unmade : {t : S} {v : W} {n : ℕ} (pieces frames : List (List ℕ)) (piece : List ℕ)
+      → Listens gives live_len s n (pieces ++ piece ∷ []) t → AreRelayed rows cols pieces frames
+      → SendsFlushed takes flushes w frames (Ok tt) v → StreamsLive gives takes flushes rows cols s w (Err Memory) t v
+  -- the frame of the last piece would be too long: the frames before it were sent
+  overlong : {t : S} {v : W} {n : ℕ} (pieces frames : List (List ℕ)) (piece : List ℕ)
+      → Listens gives live_len s n (pieces ++ piece ∷ []) t → AreRelayed rows cols pieces frames
+      → EndsOverlong rows cols (pieces ++ piece ∷ []) → SendsFlushed takes flushes w frames (Ok tt) v
+      → StreamsLive gives takes flushes rows cols s w (Err FrameTooLong) t v
+  -- a write of the last piece's frame failed or took nothing, or the flush after it failed
+  stopped : {t : S} {v : W} {n : ℕ} (pieces frames : List (List ℕ)) (e : Error)
+      → Listens gives live_len s n pieces t → AreRelayed rows cols pieces frames
+      → SendsFlushed takes flushes w frames (Err e) v → StreamsLive gives takes flushes rows cols s w (Err Write) t v
+  -- the input was read to its end, and all frames were sent
+  ended : {t : S} {v : W} {n k : ℕ} (m : S) (pieces frames : List (List ℕ)) → Listens gives live_len s n pieces m
+      → Tries gives live_len m k (Ok []) t → AreRelayed rows cols pieces frames
+      → SendsFlushed takes flushes w frames (Ok tt) v → StreamsLive gives takes flushes rows cols s w (Ok tt) t v
+
+-- From a source and a writer it answers so, and leaves both so: there was no memory for the screen, and nothing is read
+-- or written; or pieces were read and frames sent.
+pub data RelaysLive {S W : Type 0} (gives : S → ℕ → Result (List ℕ) Error → S → Type 0)
+    (takes : W → List ℕ → Result ℕ Error → W → Type 0) (flushes : W → Result (Unit {0}) Error → W → Type 0)
+    (rows cols : ℕ) (s : S) (w : W) : Result (Unit {0}) RelayError → S → W → Type 0 where
+  refused : RelaysLive gives takes flushes rows cols s w (Err Memory) s w
+  streamed : {t : S} {v : W} {answer : Result (Unit {0}) RelayError}
+      → StreamsLive gives takes flushes rows cols s w answer t v
+      → RelaysLive gives takes flushes rows cols s w answer t v
+
+-- ---- what comes out
+
+-- This is what is pumped to a client to whom the whole input is relayed, in some pieces, a frame for each that is due.
+pub record IsLiveText (rows cols : ℕ) (input text : List ℕ) : Type 0 where
+  pub pieces : List (List ℕ)
+  pub whole : concat pieces ≡ input
+  pub key : ℕ
+  pub story : Story
+  pub is : IsRelayed rows cols key pieces story
+  pub fits : has_overlong story ≡ false
+  pub pumped : story.session.pumped ≡ text
+
+-- A writer has taken a prefix of what is pumped to a client to whom the first bytes of the input are relayed, in some
+-- pieces.
+pub record TakesLive (rows cols : ℕ) (input : List ℕ) (before after : Option (List ℕ)) : Type 0 where
+  pub pieces : List (List ℕ)
+  pub rest : List ℕ
+  pub cut : input ≡ concat pieces ++ rest
+  pub key : ℕ
+  pub story : Story
+  pub is : IsRelayed rows cols key pieces story
+  pub took : TakesFront before after story.session.pumped

@@ -1,0 +1,96 @@
+//! A live program's output as frames of its screen, each as soon as it is due.
+
+ghost use Rattle.std.specs.Prelude.{◌≡◌, ◌≤◌, ℕ, List, [], None, Option, OnOk, IfSome, length};
+ghost use Rattle.std.specs.Io.KnownBytes.{Appends};
+ghost use Rattle.relay_streams.specs.Fill.{max_reads};
+ghost use Rattle.relay_streams.specs.Live.{IsLiveText, RelaysLive, StreamsLive, TakesLive, TriesOnce};
+ghost use Rattle.relay_streams.specs.Turns.{Relaying};
+
+use crate::error::RelayError;
+use crate::relaying::turn;
+use crate::source::{MAX_READS, Source};
+use std::alloc::Global;
+use std::io::ErrorKind;
+use std::num::NonZeroU16;
+use takers::Sink;
+use termrelay::{Client, Hub};
+
+/// Bytes that one read of a live input is given room for.
+pub const LIVE_LEN: usize = 65_536;
+
+/// Reads a program's output to its end, and after each read that gave something writes the frame that is then due, if
+/// there is one, and flushes. So what is written is what is pumped to a client of a hub that comes first, and after each
+/// piece asks for a frame and gets what it is owed.
+///
+/// A read is given room for 65,536 bytes, so the output of a fast program is gathered while a write waits. No frame is
+/// due while the program is in a synchronized update of its own. A frame that would be longer than 2,097,150 bytes is a
+/// fault, [`RelayError::FrameTooLong`], and nothing of it is written.
+///
+/// At most 2^40 reads are made; an interrupted one is tried again and counted. A fault ends it. What was written by then
+/// stays written.
+pub fn relay_live<S: Source, W: Sink>(
+    alloc: Global,
+    rows: NonZeroU16,
+    cols: NonZeroU16,
+    input: &mut S,
+    output: &mut W,
+) -> Result<(), RelayError>
+    ensures relays { RelaysLive S.gives W.takes W.flushes rows.value cols.value input.old output.old result input.new
+        output.new }
+    ensures text { OnOk result (IfSome (S.left input.old) (λ bytes. (text : List ℕ)
+        × IsLiveText rows.value cols.value bytes text × Appends (W.contents output.old) (W.contents output.new) text)) }
+    ensures front { IfSome (S.left input.old) (λ bytes.
+        TakesLive rows.value cols.value bytes (W.contents output.old) (W.contents output.new)) }
+{
+    let mut hub = Hub::new(alloc, rows, cols)?;
+    let client = hub.attach()?;
+    relay_reads(&mut hub, client, input, output)
+}
+
+// Reads the whole input, and has a turn with what each read gives.
+fn relay_reads<S: Source, W: Sink>(
+    hub: &mut Hub,
+    client: Client,
+    input: &mut S,
+    output: &mut W,
+) -> Result<(), RelayError>
+    ensures { (rows cols : ℕ) → Relaying rows cols [] None hub.old client
+        → StreamsLive S.gives W.takes W.flushes rows cols input.old output.old result input.new output.new }
+{
+    let mut piece = [0; LIVE_LEN];
+    let mut reads = 0;
+    'reads: loop {
+        let n = read_some(input, &mut piece, &mut reads)?;
+        if n == 0 {
+            return Ok(());
+        }
+        turn(hub, client, &piece[..n], output)?;
+        match output.finish() {
+            Ok(()) => {}
+            Err(_) => return Err(RelayError::Write),
+        }
+    }
+}
+
+// One read that isn't interrupted. Reads are counted from those made before.
+fn read_some<S: Source>(
+    input: &mut S,
+    room: &mut [u8],
+    reads: &mut u64,
+) -> Result<usize, RelayError>
+    requires { reads.old ≤ max_reads }
+    ensures { TriesOnce S.gives input.old (length room.old) reads.old result input.new room.new reads.new }
+{
+    'reading: while *reads < MAX_READS {
+        *reads += 1;
+        match input.give(room) {
+            Ok(n) => return Ok(n),
+            Err(error) => {
+                if error.kind() != ErrorKind::Interrupted {
+                    return Err(RelayError::Read);
+                }
+            }
+        }
+    }
+    Err(RelayError::TooManyReads)
+}
