@@ -13,7 +13,7 @@ use Rattle.vt100.specs.declared.error.ScreenError.{ScreenError}
 use Rattle.vt100.specs.declared.error.ScreenError.TheVariants.{Memory, Failed}
 use Rattle.vt100_rows.proofs.TextLemmas.{on-err}
 use Rattle.vt100.specs.declared.screen.wrapped.WrappedScreen.{WrappedScreen}
-use Rattle.vt100.specs.Memory.{keeps_rows, plain_may_take, private_may_take}
+use Rattle.vt100.specs.Memory.{keeps_row, plain_may_take, private_may_take}
 use Rattle.vt100.specs.Tries.{Changes, MayScroll, Tries, TriesParts, Counts, SameBounds, alive}
 use Rattle.vt100.specs.Goes.{Either, Tells, Acts, Fails, Does}
 use Rattle.vt100.proofs.HearLemmas.{refused_keeps}
@@ -86,11 +86,12 @@ module _ {C : Type 0} {step : C → ScreenView → Call → C → ScreenView →
   }
 
   pub does_scroll : {f : State → Stepped} {p q : WrappedScreen C} {result : Result (Unit {0}) ScreenError}
-      → MayScroll scrolls f p result q → Does step scrolls (λ s. steps (f s)) (keeps_rows p.screen.state) p.callbacks
-      p.screen q.callbacks q.screen
+      → MayScroll scrolls f p result q → Does step scrolls (λ s. steps (f s))
+      (keeps_row p.screen.state (f p.screen.state).state) p.callbacks p.screen q.callbacks q.screen
   does_scroll {f} {p} {q} {result} x =
       does_steps f result x.tries (on-err result x.bounds)
-      (refused_keeps p.screen.state.shown.kept.capacity result x.keeps_none)
+      (refused_keeps p.screen.state.shown.kept.capacity p.screen.state.shown.kept.scrolled_off
+      (f p.screen.state).state.shown.kept.scrolled_off result x.keeps_none x.stays)
 
   -- ---- calls
 
@@ -151,8 +152,8 @@ module _ {C : Type 0} {step : C → ScreenView → Call → C → ScreenView →
   -- ---- rows of tables
 
   pub plain_does : {a b : ℕ} {c d : C} {v w : ScreenView} (gs : List (List ℕ)) → a ≡ b
-      → Does step scrolls (plain_effect (lookup b plain_rows) gs b) (plain_may_take b v.state) c v d w
-      → Does step scrolls (plain_effect (lookup a plain_rows) gs a) (plain_may_take a v.state) c v d w
+      → Does step scrolls (plain_effect (lookup b plain_rows) gs b) (plain_may_take gs b v.state) c v d w
+      → Does step scrolls (plain_effect (lookup a plain_rows) gs a) (plain_may_take gs a v.state) c v d w
   plain_does gs e x = rw e x
 
   pub private_does : {a b : ℕ} {c d : C} {v w : ScreenView} (gs : List (List ℕ)) (k : Call) → a ≡ b

@@ -1,9 +1,9 @@
 -- Callbacks behind a sink of rows, and calls of a screen that go through or find no memory.
 use Rattle.std.proofs.Common.{◌≡◌, ◌∙◌, ℕ, Bool, true, false, List, [], ◌∷◌, ◌++◌, refl, ap, sym, subst, append-nil, nat_lt}
-use Rattle.std.proofs.Common.{Ok, Err, Result, OnOk, OnErr, arith}
+use Rattle.std.proofs.Common.{Ok, Err, Result, OnOk, OnErr, arith, inl, inr, not, nat_le, ◌-◌, ◌^◌, ◌<◌, ◌==◌, ◌&&◌, ◌||◌}
 use Rattle.std.specs.Prelude.{IsOk, IsErr}
 use Rattle.std.proofs.lemmas.Bool.Decides.{nat_tests}
-use Rattle.std.proofs.lemmas.Bool.{false≢true}
+use Rattle.std.proofs.lemmas.Bool.{cases_Bool, false≢true}
 use Rattle.vt100_rows.specs.Row.{RowView}
 use Rattle.vt100_forms.proofs.ChangeLemmas.{on_ok}
 use Rattle.vt100_rows.specs.Sink.{TakesAll}
@@ -149,8 +149,25 @@ module _ {C : Type 0} (scrolls : C → RowView → Bool → C → Type 0) where
 some-kept : (n : ℕ) → (n ≡ 0 → ⊥) → nat_lt 0 n ≡ true
 some-kept n h = grind (arith, nat_tests)
 
--- a call that is refused only where rows are kept
-pub refused_keeps : {A L : Type 0} (capacity : ℕ) (result : Result A ScreenError)
-    → (L → capacity ≡ 0 → IsOk result) → L → result ≡ Err Memory → nat_lt 0 capacity ≡ true
-refused_keeps {A} capacity result h live e =
-    some-kept capacity (λ none. false≢true (subst (λ (r : Result A ScreenError). IsOk r) e (h live none)))
+-- a count goes from n to m where so many rows are kept
+abbrev pub grows : ℕ → ℕ → ℕ → Bool
+grows capacity n m = nat_lt 0 capacity && (not (m == n) || nat_le (2 ^ 64 - 1) n)
+
+pub not_grown : (capacity n m : ℕ) → nat_lt 0 capacity ≡ true → grows capacity n m ≡ false
+    → (n < 2 ^ 64 - 1) × (m ≡ n)
+not_grown capacity n m some e = (grind (arith, nat_tests), grind (arith, nat_tests))
+
+grown : (capacity n m : ℕ) → nat_lt 0 capacity ≡ true → ((n < 2 ^ 64 - 1) × (m ≡ n) → ⊥) → grows capacity n m ≡ true
+grown capacity n m some h =
+    elim (cases_Bool (grows capacity n m)) [
+      | inl e ↦ e
+      | inr e ↦ absurd (h (not_grown capacity n m some e))
+    ]
+
+-- a call that is refused only where a row is kept
+pub refused_keeps : {A L : Type 0} (capacity n m : ℕ) (result : Result A ScreenError)
+    → (L → capacity ≡ 0 → IsOk result) → (L → (n < 2 ^ 64 - 1) × (m ≡ n) → IsOk result) → L → result ≡ Err Memory
+    → grows capacity n m ≡ true
+refused_keeps {A} capacity n m result h k live e =
+    let no = λ (ok : IsOk result). false≢true (subst (λ (r : Result A ScreenError). IsOk r) e ok) in
+    grown capacity n m (some-kept capacity (λ none. no (h live none))) (λ none. no (k live none))

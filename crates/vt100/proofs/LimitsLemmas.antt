@@ -9,7 +9,6 @@ use Rattle.vt100_core.specs.Scroll.{scrolled_up, fed, wrapped_on, made_to_fit}
 use Rattle.vt100_core.specs.Text.{PrintedGrid, printed, joined}
 use Rattle.screen_model.specs.State.{State, main_sheet, alternate_sheet}
 use Rattle.screen_model.specs.Step.{typed, typed_times}
-use Rattle.vt100.specs.Memory.{keeps_rows}
 use Rattle.vt100.specs.Tries.{SameBounds}
 use Rattle.vt100_core.proofs.GridLemmas.{SameLimits-trans}
 
@@ -94,8 +93,8 @@ bounds_back s t u p q = record {
   alternate = limits-back (alternate_sheet s) (alternate_sheet t) (alternate_sheet u) p.alternate q.alternate;
 }
 
-pub keeps_typed : (c : ℕ) (s : State) → keeps_rows (typed c s).state ≡ keeps_rows s
-keeps_typed c s = ap (λ (n : ℕ). nat_lt 0 n) (limits-typed c s).kept.capacity
+pub capacity_typed : (c : ℕ) (s : State) → (typed c s).state.shown.kept.capacity ≡ s.shown.kept.capacity
+capacity_typed c s = (limits-typed c s).kept.capacity
 
 pub capacity_times : (n c : ℕ) (s : State) → (typed_times n c s).state.shown.kept.capacity ≡ s.shown.kept.capacity
 capacity_times zero c s = refl

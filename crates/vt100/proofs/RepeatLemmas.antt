@@ -33,24 +33,25 @@ times_more (suc n) i ch s h =
 -- ---- how many rows have scrolled off
 
 counts_times : (n ch : ℕ) (s : State) → s.shown.kept.scrolled_off < 2 ^ 64
-    → CountsOn s.shown (typed_times n ch s).state.shown
+    → CountsOn s.shown.kept (typed_times n ch s).state.shown.kept
 counts_times zero ch s h = record { more = omega arith; bounded = h }
 counts_times (suc n) ch s h =
     let t = (typed_times n ch s).state in
     let c = counts_times n ch s h in
-    CountsOn-trans s.shown t.shown (typed ch t).state.shown c (counts-printed t.shown ch t.attrs c.bounded)
+    CountsOn-trans s.shown.kept t.shown.kept (typed ch t).state.shown.kept c
+    (counts-printed t.shown ch t.attrs c.bounded).on
 
 -- of n times, after the first i and one more
 counts_more : (n i ch : ℕ) (s : State) → i < n → s.shown.kept.scrolled_off < 2 ^ 64
-    → CountsOn (typed_times (suc i) ch s).state.shown (typed_times n ch s).state.shown
+    → CountsOn (typed_times (suc i) ch s).state.shown.kept (typed_times n ch s).state.shown.kept
 counts_more zero i ch s l h = absurd (omega (arith, l))
 counts_more (suc n) i ch s within h =
     let t = (typed_times n ch s).state in
     let u = (typed_times (suc i) ch s).state in
     let c = counts_times n ch s h in
     elim (cases_lt i n) [
-      | inl l ↦ CountsOn-trans u.shown t.shown (typed ch t).state.shown (counts_more n i ch s l h)
-          (counts-printed t.shown ch t.attrs c.bounded)
+      | inl l ↦ CountsOn-trans u.shown.kept t.shown.kept (typed ch t).state.shown.kept
+          (counts_more n i ch s l h) (counts-printed t.shown ch t.attrs c.bounded).on
       | inr l ↦
           let is : i ≡ n = omega arith in
           rw is (let whole = counts_times (suc n) ch s h in record { more = omega arith; bounded = whole.bounded })
@@ -62,7 +63,7 @@ none_once_more : (n i ch : ℕ) (s : State) → i < n → ScrollsNoneOff s.shown
 none_once_more n i ch s l none =
     let t = (typed_times i ch s).state in
     let first = counts_times i ch s (omega (arith, none.0)) in
-    let next = counts-printed t.shown ch t.attrs first.bounded in
+    let next = (counts-printed t.shown ch t.attrs first.bounded).on in
     let last = counts_more n i ch s l (omega (arith, none.0)) in (
       omega (arith, none.0, none.1, first.more, next.more, last.more),
       omega (arith, none.1, first.more, next.more, last.more),

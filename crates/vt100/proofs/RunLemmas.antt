@@ -1,5 +1,5 @@
 -- Characters that are printed at once, as event by event.
-use Rattle.std.proofs.Common.{◌≡◌, ◌∙◌, ◌<◌, ◌==◌, ℕ, zero, Bool, true, false, cond, List, [], ◌∷◌, ◌++◌, ap, sym}
+use Rattle.std.proofs.Common.{◌≡◌, ◌∙◌, ◌^◌, ◌<◌, ◌==◌, ℕ, zero, Bool, true, false, cond, List, [], ◌∷◌, ◌++◌, ap, sym}
 use Rattle.std.proofs.Common.{Option, Some, Result, Ok, Err, OnOk, OnErr, length, map, refl, subst, inl, inr, arith}
 use Rattle.std.proofs.Common.{nat_lt, get_or, take, drop, ◌⊎◌, ◌&&◌, ◌||◌, ◌≤◌, not, append_assoc, append-nil}
 use Rattle.std.specs.Prelude.{All, IsOk}
@@ -8,7 +8,7 @@ use Rattle.std.specs.Str.{IsUtf8, chars}
 use Rattle.std.proofs.lemmas.Grind.{common_steps}
 use Rattle.std.proofs.lemmas.Str.{chars_past_char, chars-nil}
 use Rattle.vte_core.proofs.Telling.{performs-append, same_events}
-use Rattle.std.proofs.lemmas.Bool.{cases_Bool}
+use Rattle.std.proofs.lemmas.Bool.{cases_Bool, and_parts}
 use Rattle.std.proofs.lemmas.Bool.Decides.{nat_tests}
 use Rattle.std.proofs.lemmas.List.{map-append}
 use Rattle.std.proofs.lemmas.List.Elements.{All-drop}
@@ -17,12 +17,13 @@ use Rattle.vt100_cells.proofs.WidthLemmas.{drawn-is, printable-is}
 use Rattle.vt100_forms.specs.declared.attrs.Attrs.{Attrs}
 use Rattle.vt100_rows.specs.Row.{RowView}
 use Rattle.vt100_rows.specs.Sink.{TakesAll}
-use Rattle.vt100_core.specs.Grid.{GridView, IsAllocated, SameLimits}
+use Rattle.vt100_core.specs.Grid.{IsKept, GridView, IsAllocated, SameLimits}
 use Rattle.vt100_core.specs.Scroll.{ScrollsNoneOff}
 use Rattle.vt100_core.specs.Text.{PrintedGrid, printed, spaced, printed_all, TakesFront}
 use Rattle.vt100_core.specs.declared.printed.Printed.{Printed}
 use Rattle.vt100_core.proofs.TextLemmas.{IsMade-made, printed-spaced}
-use Rattle.screen_model.specs.State.{State}
+use Rattle.vt100_core.proofs.CountLemmas.{Counts, Counts-map, Counts-trans, counts-same, counts-printed}
+use Rattle.screen_model.specs.State.{State, IsState}
 use Rattle.screen_model.specs.Step.{Report, Stepped, reports_of, typed, last_after}
 use Rattle.screen_model.specs.Call as said
 use Rattle.screen_model.specs.Call.{Call, ScreenView, Hears}
@@ -31,7 +32,7 @@ use Rattle.vte_core.specs.Event.{Event, Print, Performs}
 use Rattle.vt100.specs.declared.error.ScreenError.{ScreenError}
 use Rattle.vt100.specs.declared.error.ScreenError.TheVariants.{Memory, Failed}
 use Rattle.vt100.specs.declared.screen.wrapped.WrappedScreen.{WrappedScreen}
-use Rattle.vt100.specs.Memory.{keeps_rows}
+use Rattle.vt100.specs.Memory.{keeps_row}
 use Rattle.vt100.specs.Tries.{MayScroll, SameBounds, HearsFront, alive}
 use Rattle.vt100.specs.Goes.{Fails, Goes, GoesThrough}
 use Rattle.vt100.specs.Runs.{IsHandled, IsRun, characters, typed_all, last_of, PrintsFront}
@@ -40,10 +41,11 @@ use Rattle.vt100.specs.declared.screen.reported.Drawing.TheVariants.{Characters}
 use Rattle.vt100.specs.declared.screen.reported.Run.{Run}
 use Rattle.vt100.specs.declared.screen.reported.Run.TheVariants.{Narrow, Wide}
 use Rattle.vt100.specs.declared.screen.reported.Reporter.{Reporter}
-use Rattle.vt100.proofs.HearLemmas.{Reports, hears_all, draws_all, scroll_as, refused_keeps}
+use Rattle.vt100.proofs.HearLemmas.{Reports, hears_all, hears_whole, draws_all, scroll_as, refused_keeps}
+use Rattle.vt100.proofs.HearLemmas.{not_grown}
 use Rattle.vt100_rows.proofs.PrintableLemmas.{printable-chars}
 use Rattle.vt100.proofs.EventLemmas.{is_alive, does_as, does_live, does_none, does_where}
-use Rattle.vt100.proofs.LimitsLemmas.{bounds_typed, bounds_back, keeps_typed}
+use Rattle.vt100.proofs.LimitsLemmas.{bounds_typed, bounds_back, capacity_typed}
 use Rattle.vt100.proofs.PlayLemmas.{Steps}
 
 -- ---- a character that stands in a cell of its own
@@ -192,16 +194,77 @@ module _ {C : Type 0} (scrolls : C → RowView → Bool → C → Type 0) where
         | inr k ↦ inr (k.0, (h.0, rw heads h.1, k.1), k.2)
       ]
 
+-- ---- how many rows scroll off, and which are told of
+
+counts-typed : (c : ℕ) (s : State) → s.shown.kept.scrolled_off < 2 ^ 64
+    → Counts s.shown.kept (typed c s).state.shown.kept (typed c s).reports
+counts-typed c s h = Counts-map (λ v. record { row = v; alternate = s.alternate }) (counts-printed s.shown c s.attrs h)
+
+counts-typed_all : (xs : List ℕ) (s : State) → s.shown.kept.scrolled_off < 2 ^ 64
+    → Counts s.shown.kept (typed_all xs s).state.shown.kept (typed_all xs s).reports
+counts-typed_all [] s h = counts-same s.shown.kept h
+counts-typed_all (x ∷ xs) s h =
+    let t = typed x s in
+    let all = typed_all xs t.state in
+    let first = counts-typed x s h in
+    Counts-trans s.shown.kept t.state.shown.kept all.state.shown.kept t.reports all.reports first
+    (counts-typed_all xs t.state first.on.bounded)
+
+-- the shown sheet keeps rows
+record IsKeeping (s : State) : Type 0 where
+  some : nat_lt 0 s.shown.kept.capacity ≡ true
+  keeps : s.shown.kept.keeps ≡ true
+  few : s.shown.kept.scrolled_off < 2 ^ 64
+  fits : length s.shown.kept.rows ≤ s.shown.kept.capacity
+
+IsKeeping-typed : (c : ℕ) (s : State) → IsKeeping s → IsKeeping (typed c s).state
+IsKeeping-typed c s k =
+    let one = counts-typed c s k.few in
+    record {
+      some = ap (λ n. nat_lt 0 n) (capacity_typed c s) ∙ k.some;
+      keeps = one.keeps ∙ k.keeps;
+      few = one.on.bounded;
+      fits = one.fits k.fits;
+    }
+
+not-zero : (n : ℕ) → nat_lt 0 n ≡ true → n ≡ 0 → ⊥
+not-zero n e z = grind (arith, nat_tests)
+
+IsKeeping-of : (s : State) → IsKept s.shown.kept → nat_lt 0 s.shown.kept.capacity ≡ true → IsKeeping s
+IsKeeping-of s i some = record {
+  some = some;
+  keeps = elim (cases_Bool s.shown.kept.keeps) [
+    | inl e ↦ e
+    | inr e ↦ absurd (not-zero s.shown.kept.capacity some (i.none e).0)
+  ];
+  few = i.bounded;
+  fits = i.fits;
+}
+
+-- of a row that is kept on the way from s by t to u, where none is kept up to t, or none from there on
+late-keeps : (s t u : State) → t.shown.kept.capacity ≡ s.shown.kept.capacity
+    → t.shown.kept.scrolled_off ≡ s.shown.kept.scrolled_off → keeps_row s u ≡ true → keeps_row t u ≡ true
+late-keeps s t u e f h = rw (e, f) h
+
+first-keeps : (s t u : State) → u.shown.kept.scrolled_off ≡ t.shown.kept.scrolled_off → keeps_row s u ≡ true
+    → keeps_row s t ≡ true
+first-keeps s t u e h = rw (← e) h
+
 -- ---- a run, event by event
 
 module _ {C : Type 0} (step : C → ScreenView → Call → C → ScreenView → Type 0)
     (scrolls : C → RowView → Bool → C → Type 0) where
+  -- callbacks that were told of no rows are the same
+  front-none : (c : C) (rows : List Report) (d : C) → rows ≡ [] → HearsFront scrolls c rows d → d ≡ c
+  front-none c rows d e ([], rest, parts, h) = sym h
+  front-none c rows d e (f ∷ front, rest, parts, h) = absurd (cc (sym e ∙ parts))
+
   -- one character of a run
   goes-typed : (ch : ℕ) (c : C) (v : ScreenView) (d : C) (w : ScreenView) → is_unhandled ch ≡ false → v.failed ≡ false
       → (Hears scrolls c (typed ch v.state).reports d × (w ≡ alive (typed ch v.state).state)) ⊎ Fails scrolls
-      (keeps_rows v.state) (typed ch v.state).reports c v d w → Goes step scrolls (Print ch) c v d w
+      (keeps_row v.state (typed ch v.state).state) (typed ch v.state).reports c v d w → Goes step scrolls (Print ch) c v d w
   goes-typed ch c v d w p live h =
-      does_where (ap (λ (b : Bool). not b && keeps_rows v.state) (sym p)) (does_as (λ t. steps (typed ch t))
+      does_where (ap (λ (b : Bool). not b && keeps_row v.state (typed ch v.state).state) (sym p)) (does_as (λ t. steps (typed ch t))
       (ap (λ (b : Bool). cond b (calling (said.unhandled_char ch ∷ []) v.state) (steps (typed ch v.state))) (sym p))
       (does_live (λ t. steps (typed ch t)) live (elim h [
         | inl a ↦ inl (d, a.0, (refl, a.1))
@@ -228,49 +291,84 @@ module _ {C : Type 0} (step : C → ScreenView → Call → C → ScreenView →
 
   -- the screen fails at the first of some characters, where it is w then
   goes-here : (x : ℕ) (xs : List ℕ) (c : C) (v : ScreenView) (d : C) (w : ScreenView) → IsHandled x → v.failed ≡ false
-      → w.failed ≡ true → keeps_rows v.state ≡ true → SameBounds v.state w.state
+      → w.failed ≡ true → keeps_row v.state (typed x v.state).state ≡ true → SameBounds v.state w.state
       → HearsFront scrolls c (typed x v.state).reports d → GoesThrough step scrolls (map Print (x ∷ xs)) c v d w
   goes-here x xs c v d w h live failed keeps bounds told =
-      let one : Fails scrolls (keeps_rows v.state) (typed x v.state).reports c v d w =
+      let one : Fails scrolls (keeps_row v.state (typed x v.state).state) (typed x v.state).reports
+      c v d w =
       record { may_take = keeps; failed = failed; bounds = bounds; told = told } in
       (d, w, goes-typed x c v d w h live (inr one), goes-failed xs d w failed)
 
-  -- or at one of them
+  -- or at one of them, by which a row is kept: if the callbacks haven't heard of rows that leave by the others
   goes-refused : (x : ℕ) (xs : List ℕ) (c : C) (v : ScreenView) (d : C) (w : ScreenView) → All IsHandled (x ∷ xs)
-      → v.failed ≡ false → w.failed ≡ true → keeps_rows v.state ≡ true → SameBounds v.state w.state
+      → v.failed ≡ false → w.failed ≡ true → IsKeeping v.state
+      → keeps_row v.state (typed_all (x ∷ xs) v.state).state ≡ true → SameBounds v.state w.state
       → HearsFront scrolls c (typed_all (x ∷ xs) v.state).reports d
       → GoesThrough step scrolls (map Print (x ∷ xs)) c v d w
-  goes-refused x [] c v d w p live failed keeps bounds told =
+  goes-refused x [] c v d w p live failed k keeps bounds told =
       goes-here x [] c v d w (p zero 0 (omega arith)) live failed keeps bounds (rw append-nil at told)
-  goes-refused x (y ∷ ys) c v d w p live failed keeps bounds told =
-      let t = typed x v.state in
+  goes-refused x (y ∷ ys) c v d w p live failed k keeps bounds told =
+      let s = v.state in
+      let t = typed x s in
+      let all = typed_all (y ∷ ys) t.state in
       let handled = p zero 0 (omega arith) in
-      elim (front-split scrolls c t.reports (typed_all (y ∷ ys) t.state).reports d told) [
-        | inl here ↦ goes-here x (y ∷ ys) c v d w handled live failed keeps bounds here
-        | inr s ↦ (
-          s.0,
-          alive t.state,
-          goes-typed x c v s.0 (alive t.state) handled live (inl (s.1, refl)),
-          goes-refused y ys s.0 (alive t.state) d w (All-drop IsHandled 1 (x ∷ y ∷ ys) p) refl failed
-              (keeps_typed x v.state ∙ keeps) (bounds_back v.state t.state w.state (bounds_typed x v.state) bounds)
-              s.2,
-        )
+      let others = All-drop IsHandled 1 (x ∷ y ∷ ys) p in
+      let one = counts-typed x s k.few in
+      let more = counts-typed_all (y ∷ ys) t.state one.on.bounded in
+      let next = IsKeeping-typed x s k in
+      let later = bounds_back s t.state w.state (bounds_typed x s) bounds in
+      elim (front-split scrolls c t.reports all.reports d told) [
+        | inl here ↦ elim (cases_Bool (keeps_row s t.state)) [
+          | inl e ↦ goes-here x (y ∷ ys) c v d w handled live failed e bounds here
+          | inr e ↦
+              let none = not_grown s.shown.kept.capacity s.shown.kept.scrolled_off t.state.shown.kept.scrolled_off
+              k.some e in
+              let silent = one.quiet k.fits k.keeps none.0 none.1 in
+              let same = front-none c t.reports d silent here in (
+                c,
+                alive t.state,
+                goes-typed x c v c (alive t.state) handled live
+                    (inl (subst (λ (rows : List Report). Hears scrolls c rows c) (sym silent) refl, refl)),
+                goes-refused y ys c (alive t.state) d w others refl failed next
+                    (late-keeps s t.state all.state (capacity_typed x s) none.1 keeps) later ([], all.reports, refl, sym same),
+              )
+        ]
+        | inr h ↦ elim (cases_Bool (keeps_row t.state all.state)) [
+          | inl e ↦ (
+            h.0,
+            alive t.state,
+            goes-typed x c v h.0 (alive t.state) handled live (inl (h.1, refl)),
+            goes-refused y ys h.0 (alive t.state) d w others refl failed next e later h.2,
+          )
+          | inr e ↦
+              let none = not_grown t.state.shown.kept.capacity t.state.shown.kept.scrolled_off
+              all.state.shown.kept.scrolled_off next.some e in
+              let silent = more.quiet next.fits next.keeps none.0 none.1 in
+              let same = front-none h.0 all.reports d silent h.2 in
+              goes-here x (y ∷ ys) c v d w handled live failed (first-keeps s t.state all.state none.1 keeps) bounds
+              (hears_whole scrolls c t.reports d (subst (λ (b : C). Hears scrolls c t.reports b) (sym same) h.1))
+        ]
       ]
 
   pub goes-typed_all : (xs : List ℕ) {p q : WrappedScreen C} (result : Result (Unit {0}) ScreenError) → 0 < length xs
-      → All IsHandled xs → MayScroll scrolls (typed_all xs) p result q
+      → All IsHandled xs → (p.screen.failed ≡ false → IsState p.screen.state)
+      → MayScroll scrolls (typed_all xs) p result q
       → GoesThrough step scrolls (map Print xs) p.callbacks p.screen q.callbacks q.screen
-  goes-typed_all xs {p} {q} (Ok a) some h x =
+  goes-typed_all xs {p} {q} (Ok a) some h is x =
       goes-run xs p.callbacks p.screen q.callbacks q.screen h x.tries.live x.tries.hears x.tries.screen
-  goes-typed_all [] (Err Memory) some h x = absurd (omega arith)
-  goes-typed_all (y ∷ ys) {p} {q} (Err Memory) some h x =
+  goes-typed_all [] (Err Memory) some h is x = absurd (omega arith)
+  goes-typed_all (y ∷ ys) {p} {q} (Err Memory) some h is x =
       elim (cases_Bool p.screen.failed) [
         | inl f ↦ absurd (cc ((x.tries.dead f).0))
-        | inr f ↦ goes-refused y ys p.callbacks p.screen q.callbacks q.screen h f (x.tries.memory refl)
-            (refused_keeps {A = Unit {0}} p.screen.state.shown.kept.capacity (Err Memory) x.keeps_none f refl) x.bounds
+        | inr f ↦
+            let s = p.screen.state in
+            let keeps = refused_keeps {A = Unit {0}} s.shown.kept.capacity s.shown.kept.scrolled_off
+            (typed_all (y ∷ ys) s).state.shown.kept.scrolled_off (Err Memory) x.keeps_none x.stays f refl in
+            goes-refused y ys p.callbacks p.screen q.callbacks q.screen h f (x.tries.memory refl)
+            (IsKeeping-of s (is f).shown.kept (and_parts (nat_lt 0 s.shown.kept.capacity) _ keeps).0) keeps x.bounds
             (x.tries.told refl)
       ]
-  goes-typed_all xs {p} {q} (Err Failed) some h x =
+  goes-typed_all xs {p} {q} (Err Failed) some h is x =
       let f = x.tries.refused refl in
       rw ((x.tries.dead f).2, (x.tries.dead f).1) (goes-failed xs p.callbacks p.screen f)
 
@@ -287,13 +385,14 @@ module _ {C : Type 0} (step : C → ScreenView → Call → C → ScreenView →
 
   -- printable ASCII
   pub front-run : (bs : List ℕ) (n : ℕ) {p q : WrappedScreen C} (result : Result (Unit {0}) ScreenError) → 0 < n
-      → n ≤ length bs → All IsPrintable (take n bs) → MayScroll scrolls (typed_all (take n bs)) p result q
+      → n ≤ length bs → All IsPrintable (take n bs) → (p.screen.failed ≡ false → IsState p.screen.state)
+      → MayScroll scrolls (typed_all (take n bs)) p result q
       → PrintsFront step scrolls bs (drop n bs) p.callbacks p.screen q.callbacks q.screen
-  front-run bs n result pos within h x =
+  front-run bs n result pos within h is x =
       let some : 0 < length (take n bs) = grind (arith, common_steps) in (
         take n bs,
         printable-chars bs n h,
-        goes-typed_all (take n bs) result some (λ i e l. printable-handled (get_or (take n bs) i e) (h i e l)) x,
+        goes-typed_all (take n bs) result some (λ i e l. printable-handled (get_or (take n bs) i e) (h i e l)) is x,
       )
 
   -- a character

@@ -1,14 +1,19 @@
 -- Where an event may take memory. Nowhere else a screen may fail.
-use Rattle.std.specs.Prelude.{ℕ, ◌==◌, Bool, false, not, ◌&&◌, ◌||◌, nat_lt, nat_eq, List, [], ◌∷◌, length}
+use Rattle.std.specs.Prelude.{ℕ, ◌-◌, ◌^◌, ◌==◌, Bool, false, not, ◌&&◌, ◌||◌, nat_lt, nat_le, nat_eq, List, [], ◌∷◌, length}
 use Rattle.std.specs.Int.{is_in_range}
 use Rattle.std.specs.List.{list_any}
 use Rattle.vte_core.specs.Event.{Event, Print, Execute, Hook, Put, Unhook, Osc, Csi, Esc}
 use Rattle.screen_model.specs.State.{State, alternate_sheet}
-use Rattle.screen_model.specs.Effect.{effect, is_unhandled}
+use Rattle.screen_model.specs.Step.{typed, line_fed}
+use Rattle.screen_model.specs.Lookup.{lookup}
+use Rattle.screen_model.specs.Effect.{effect, is_unhandled, plain_effect, plain_rows}
 
--- rows that leave the shown sheet at its top are kept
-abbrev pub keeps_rows : State → Bool
-keeps_rows s = nat_lt 0 s.shown.kept.capacity
+-- a change of s into t keeps a row: the shown sheet keeps rows, and one scrolls off at its top. A count that has come to
+-- its end doesn't say whether one does.
+abbrev pub keeps_row : State → State → Bool
+keeps_row s t =
+    nat_lt 0 s.shown.kept.capacity && (not (t.shown.kept.scrolled_off == s.shown.kept.scrolled_off)
+    || nat_le (2 ^ 64 - 1) s.shown.kept.scrolled_off)
 
 -- the alternate sheet, which gets its rows when it is first shown, has none yet
 abbrev pub is_unused : State → Bool
@@ -25,7 +30,7 @@ modes_may_take gs s = list_any shows_alternate gs && is_unused s
 
 -- LF, VT, FF
 abbrev pub control_may_take : ℕ → State → Bool
-control_may_take b s = is_in_range 10 12 b && keeps_rows s
+control_may_take b s = is_in_range 10 12 b && keeps_row s (line_fed s).state
 
 -- RIS
 abbrev pub escape_may_take : List ℕ → ℕ → Bool
@@ -33,19 +38,20 @@ escape_may_take [] b = nat_eq b 0x63
 escape_may_take (i ∷ is) b = false
 
 -- SU and REP; after `?` the setting of modes
-abbrev pub plain_may_take : ℕ → State → Bool
-plain_may_take b s = (nat_eq b 0x53 || nat_eq b 0x62) && keeps_rows s
+abbrev pub plain_may_take : List (List ℕ) → ℕ → State → Bool
+plain_may_take gs b s =
+    (nat_eq b 0x53 || nat_eq b 0x62) && keeps_row s (plain_effect (lookup b plain_rows) gs b s).state
 
 abbrev pub private_may_take : List (List ℕ) → ℕ → State → Bool
 private_may_take gs b s = nat_eq b 0x68 && modes_may_take gs s
 
 abbrev pub csi_may_take : List (List ℕ) → List ℕ → ℕ → State → Bool
-csi_may_take gs [] b s = plain_may_take b s
+csi_may_take gs [] b s = plain_may_take gs b s
 csi_may_take gs (m ∷ ms) b s = nat_eq m 0x3F && private_may_take gs b s
 
 -- an event, in this state
 abbrev pub may_take_memory : Event → State → Bool
-may_take_memory (Print c) s = not (is_unhandled c) && keeps_rows s
+may_take_memory (Print c) s = not (is_unhandled c) && keeps_row s (typed c s).state
 may_take_memory (Execute b) s = control_may_take b s
 may_take_memory (Hook gs ms ignore b) s = false
 may_take_memory (Put b) s = false

@@ -149,6 +149,7 @@ impl<CB: Callbacks> WrappedScreen<CB> {
     {
         let len = printable_len(text.as_bytes());
         if len > 0 {
+            prove!(self.screen.is_live() || self.screen.failed());
             let _ = self.run(Run::Narrow(&text.as_bytes()[..len]));
             return &text[len..];
         }
@@ -188,7 +189,7 @@ impl<CB: Callbacks> WrappedScreen<CB> {
     fn plain_csi(&mut self, params: &Params, action: char)
         requires { self.old.screen.failed ≡ false }
         ensures { Handles CB.step CB.scrolls (plain_effect (lookup action plain_rows) params.now action)
-            (plain_may_take action self.old.screen.state) self.old self.new }
+            (plain_may_take params.now action self.old.screen.state) self.old self.new }
     {
         match action {
             '@' => self.ich(canonicalize_params_1(params, 1)),

@@ -1,19 +1,25 @@
 -- How many rows have scrolled off.
-use Rattle.std.proofs.Common.{◌≡◌, ℕ, ◌+◌, ◌-◌, ◌^◌, ◌<◌, ◌≤◌, ◌==◌, Bool, true, false, cond, not, ◌&&◌, List, [], ◌∷◌, length}
-use Rattle.std.proofs.Common.{drop, min, ap, arith, nat_le, nat_lt, length-drop, length-take-le}
-use Rattle.std.proofs.lemmas.Bool.{cond_both, cond-true, and_from, eq-eqb}
+use Rattle.std.proofs.Common.{◌≡◌, ℕ, ◌+◌, ◌-◌, ◌^◌, ◌<◌, ◌≤◌, ◌==◌, Bool, true, false, cond, not, ◌&&◌, List, [], ◌∷◌}
+use Rattle.std.proofs.Common.{◌++◌, length, take, drop, map, min, refl, sym, ap, ◌∙◌, arith, nat_le, nat_lt, length-drop}
+use Rattle.std.proofs.Common.{length-append, length-take-le}
+use Rattle.std.proofs.lemmas.Bool.{cond_both, cond-true, and_from, eq-eqb, false≢true}
+use Rattle.std.proofs.lemmas.List.{length-map}
 use Rattle.vt100_forms.specs.declared.attrs.Attrs.{Attrs}
-use Rattle.vt100_cells.specs.Cell.{columns_of}
-use Rattle.vt100_rows.specs.Row.{with_wrap, wiped_row, is_widening}
-use Rattle.vt100_rows.specs.Sheet.{row_at}
+use Rattle.vt100_cells.specs.Cell.{default_cell, columns_of}
+use Rattle.vt100_rows.specs.Row.{RowView, grown, trimmed, with_wrap, wiped_row, is_widening}
+use Rattle.vt100_rows.specs.Sheet.{row_at, changed_between}
+use Rattle.vt100_rows.proofs.SheetLemmas.{length-rows_by_position}
 use Rattle.terminal_model.specs.Apply.{is_dropped}
 use Rattle.vt100_core.specs.declared.printed.Printed.TheVariants.{Nothing}
 use Rattle.vt100_core.specs.Grid.{KeptPart, GridView, IsGrid, IsAllocated, with_row, with_cursor_row, row_of_cursor}
 use Rattle.vt100_core.specs.Grid.{is_in_region}
 use Rattle.vt100_core.specs.Cursor.{moved_rows_down}
-use Rattle.vt100_core.specs.Scroll.{Scrolled, ScrollsNoneOff, widened, kept_after, up_count, left_rows, is_kept_from}
-use Rattle.vt100_core.specs.Scroll.{scrolled_up, rows_past_bottom, fed, left_row, wrapped_on, made_to_fit}
+use Rattle.vt100_core.specs.Scroll.{Scrolled, ScrollsNoneOff, widened, overflow, kept_after, pushed_out, up_count}
+use Rattle.vt100_core.specs.Scroll.{left_rows, is_kept_from, scrolled_up, rows_past_bottom, fed, left_row, wrapped_on}
+use Rattle.vt100_core.specs.Scroll.{made_to_fit}
 use Rattle.vt100_core.specs.Text.{PrintedGrid, spaced, carried, joined, printed, printed_all}
+use Rattle.vt100_core.proofs.GridLemmas.{no-rows}
+use Rattle.vt100_core.proofs.StayLemmas.{pushed_out-none}
 
 -- ---- where some rows are kept
 
@@ -36,81 +42,152 @@ scrolls-some g n i a t keeps some none =
 
 -- ---- the count never falls
 
-pub record CountsOn (g h : GridView) : Type 0 where
-  pub more : g.kept.scrolled_off ≤ h.kept.scrolled_off
-  pub bounded : h.kept.scrolled_off < 2 ^ 64
+pub record CountsOn (k m : KeptPart) : Type 0 where
+  pub more : k.scrolled_off ≤ m.scrolled_off
+  pub bounded : m.scrolled_off < 2 ^ 64
 
-pub CountsOn-trans : (g h k : GridView) → CountsOn g h → CountsOn h k → CountsOn g k
-CountsOn-trans g h k p q = record { more = omega (arith, p.more, q.more); bounded = q.bounded }
+pub CountsOn-trans : (k l m : KeptPart) → CountsOn k l → CountsOn l m → CountsOn k m
+CountsOn-trans k l m p q = record { more = omega (arith, p.more, q.more); bounded = q.bounded }
 
-counts-up : (g : GridView) (n : ℕ) → g.kept.scrolled_off < 2 ^ 64 → CountsOn g (scrolled_up g n).grid
+-- k becomes m, and this leaves for good: nothing does where rows are kept, and none scrolls off
+pub record Counts {A : Type 0} (k m : KeptPart) (gone : List A) : Type 0 where
+  pub on : CountsOn k m
+  pub keeps : m.keeps ≡ k.keeps
+  pub fits : length k.rows ≤ k.capacity → length m.rows ≤ m.capacity
+  pub quiet : length k.rows ≤ k.capacity → k.keeps ≡ true → k.scrolled_off < 2 ^ 64 - 1
+      → m.scrolled_off ≡ k.scrolled_off → gone ≡ []
+
+pub Counts-trans : {A : Type 0} (k l m : KeptPart) (xs ys : List A) → Counts k l xs → Counts l m ys
+    → Counts k m (xs ++ ys)
+Counts-trans k l m xs ys p q = record {
+  on = CountsOn-trans k l m p.on q.on;
+  keeps = q.keeps ∙ p.keeps;
+  fits = λ h. q.fits (p.fits h);
+  quiet = λ h keeps few same.
+      let first : l.scrolled_off ≡ k.scrolled_off = omega (arith, p.on.more, q.on.more, same) in
+      let second : m.scrolled_off ≡ l.scrolled_off = omega (arith, first, same) in
+      let one = p.quiet h keeps few first in
+      let two = q.quiet (p.fits h) (p.keeps ∙ keeps) (omega (arith, few, first)) second in
+      λ j. one j ++ two j;
+}
+
+pub Counts-map : {A B : Type 0} (f : A → B) {k m : KeptPart} {xs : List A} → Counts k m xs → Counts k m (map f xs)
+Counts-map f p = record {
+  on = p.on;
+  keeps = p.keeps;
+  fits = p.fits;
+  quiet = λ h keeps few same. ap (map f) (p.quiet h keeps few same);
+}
+
+pub counts-same : {A : Type 0} (k : KeptPart) → k.scrolled_off < 2 ^ 64 → Counts {A = A} k k []
+counts-same k h = record {
+  on = record { more = omega arith; bounded = h };
+  keeps = refl;
+  fits = λ fits. fits;
+  quiet = λ _ _ _ _. refl;
+}
+
+length-kept : (k : KeptPart) (left : List RowView) (height width : ℕ) → length k.rows ≤ k.capacity
+    → length (widened (kept_after k left) height width).rows ≤ k.capacity
+length-kept k left height width h =
+    let m = kept_after k left in
+    let all = length-rows_by_position (length m.rows) (changed_between (λ v. grown v width default_cell) m.rows
+    (length m.rows - m.offset) (length m.rows - m.offset + height)) in
+    let come = drop (length left - min (length left) k.capacity) left in
+    let parts = length-append (drop (overflow k (length left)) k.rows) (map trimmed come) in
+    let old = length-drop (overflow k (length left)) k.rows in
+    let new = length-map come trimmed ∙ length-drop (length left - min (length left) k.capacity) left in
+    omega (arith, all, parts, old, new, h)
+
+none-left : (k : KeptPart) (left : List RowView) → k.scrolled_off < 2 ^ 64 - 1
+    → min (k.scrolled_off + length left) (2 ^ 64 - 1) ≡ k.scrolled_off → left ≡ []
+none-left k left few same = no-rows left (omega (arith, few, same))
+
+-- these rows leave the region, which begins at the first row, and the grid keeps rows, as `first` and `keeps` say
+counts-kept : (g : GridView) (left : List RowView) (first keeps : Bool) → g.kept.keeps ≡ keeps
+    → g.kept.scrolled_off < 2 ^ 64
+    → Counts g.kept (cond (first && keeps) (widened (kept_after g.kept left) g.height g.width) g.kept)
+    (cond (not first) [] (cond keeps (pushed_out g.kept left) left))
+counts-kept g left true true e h = record {
+  on = record { more = omega (arith, h); bounded = omega (arith, h) };
+  keeps = refl;
+  fits = λ fits. length-kept g.kept left g.height g.width fits;
+  quiet = λ fits keeps few same. ap (λ (rows : List RowView). pushed_out g.kept rows) (none-left g.kept left few same)
+      ∙ pushed_out-none g.kept fits;
+}
+counts-kept g left true false e h = record {
+  on = record { more = omega arith; bounded = h };
+  keeps = refl;
+  fits = λ fits. fits;
+  quiet = λ _ keeps _ _. absurd (false≢true (sym e ∙ keeps));
+}
+counts-kept g left false keeps e h = counts-same g.kept h
+
+-- what a grid keeps, on the way to a scrolled one
+abbrev pub CountsTo : GridView → Scrolled → Type 0
+CountsTo g s = Counts g.kept s.grid.kept s.sunk
+
+counts-up : (g : GridView) (n : ℕ) → g.kept.scrolled_off < 2 ^ 64 → CountsTo g (scrolled_up g n)
 unfolding scrolled_up
-counts-up g n h =
-    cond_both (is_kept_from g) (widened (kept_after g.kept (left_rows g n)) g.height g.width) g.kept
-    (λ (k : KeptPart). CountsOn g (record (scrolled_up g n).grid { kept = k }))
-    (λ _. record { more = omega arith; bounded = omega arith })
-    (λ _. record { more = omega arith; bounded = h })
+counts-up g n h = counts-kept g (left_rows g n) (g.top == 0) g.kept.keeps refl h
 
-counts-fed : (g : GridView) (n : ℕ) → g.kept.scrolled_off < 2 ^ 64 → CountsOn g (fed g n).grid
+counts-fed : (g : GridView) (n : ℕ) → g.kept.scrolled_off < 2 ^ 64 → CountsTo g (fed g n)
 unfolding fed
 counts-fed g n h =
     let down = moved_rows_down g n in
     cond_both (is_in_region g) (scrolled_up down (rows_past_bottom g n)) (record { grid = down; sunk = [] })
-    (λ (s : Scrolled). CountsOn g s.grid)
-    (λ _. let up = counts-up down (rows_past_bottom g n) h in record { more = up.more; bounded = up.bounded })
-    (λ _. record { more = omega arith; bounded = h })
+    (λ (s : Scrolled). CountsTo g s) (λ _. counts-up down (rows_past_bottom g n) h) (λ _. counts-same g.kept h)
 
-counts-wrapped : (g : GridView) (wrap : Bool) → g.kept.scrolled_off < 2 ^ 64 → CountsOn g (wrapped_on g wrap).grid
+counts-wrapped : (g : GridView) (wrap : Bool) → g.kept.scrolled_off < 2 ^ 64 → CountsTo g (wrapped_on g wrap)
 unfolding wrapped_on
 counts-wrapped g wrap h =
+    let f = fed (record g { col = 0 }) 1 in
     let on = counts-fed (record g { col = 0 }) 1 h in
-    let f = (fed (record g { col = 0 }) 1).grid in
-    cond_both ((g.row == g.bottom) && (g.row == 0)) f
-    (with_row f (left_row g) (with_wrap (row_at f.rows (left_row g)) (wrap && ((left_row g + 1) == f.row))))
-    (λ (x : GridView). CountsOn g x)
-    (λ _. record { more = on.more; bounded = on.bounded })
-    (λ _. record { more = on.more; bounded = on.bounded })
+    cond_both ((g.row == g.bottom) && (g.row == 0)) f.grid
+    (with_row f.grid (left_row g) (with_wrap (row_at f.grid.rows (left_row g))
+    (wrap && ((left_row g + 1) == f.grid.row))))
+    (λ (x : GridView). Counts g.kept x.kept f.sunk) (λ _. on) (λ _. on)
 
 counts-made : (g : GridView) (columns : ℕ) (wrap : Bool) → g.kept.scrolled_off < 2 ^ 64
-    → CountsOn g (made_to_fit g columns wrap).grid
+    → CountsTo g (made_to_fit g columns wrap)
 counts-made g columns wrap h =
     cond_both (nat_le (g.col + columns) g.width) (record { grid = g; sunk = [] }) (wrapped_on g wrap)
-    (λ (s : Scrolled). CountsOn g s.grid)
-    (λ _. record { more = omega arith; bounded = h }) (λ _. counts-wrapped g wrap h)
+    (λ (s : Scrolled). CountsTo g s) (λ _. counts-same g.kept h) (λ _. counts-wrapped g wrap h)
 
-counts-carried : (g : GridView) (c : ℕ) (a : Attrs) → g.kept.scrolled_off < 2 ^ 64 → CountsOn g (carried g c a).grid
+-- ---- where text is printed
+
+-- what a grid keeps, on the way to a printed one
+abbrev CountsPrinted : GridView → PrintedGrid → Type 0
+CountsPrinted g p = Counts g.kept p.grid.kept p.sunk
+
+counts-carried : (g : GridView) (c : ℕ) (a : Attrs) → g.kept.scrolled_off < 2 ^ 64 → CountsPrinted g (carried g c a)
 counts-carried g c a h =
-    let on = counts-wrapped (with_cursor_row g (wiped_row (row_of_cursor g) (g.col - 1) g.col a)) false h in
-    record { more = on.more; bounded = on.bounded }
+    counts-wrapped (with_cursor_row g (wiped_row (row_of_cursor g) (g.col - 1) g.col a)) false h
 
-counts-joined : (g : GridView) (c : ℕ) (a : Attrs) → g.kept.scrolled_off < 2 ^ 64 → CountsOn g (joined g c a).grid
+counts-joined : (g : GridView) (c : ℕ) (a : Attrs) → g.kept.scrolled_off < 2 ^ 64 → CountsPrinted g (joined g c a)
 counts-joined g c a h =
-    let v = row_of_cursor g in
-    cond_both (not (is_widening v g.col c)) _ _ (λ (p : PrintedGrid). CountsOn g p.grid)
-    (λ _. record { more = omega arith; bounded = h })
-    (λ _. cond_both (g.width == 1) _ _ (λ (p : PrintedGrid). CountsOn g p.grid)
-    (λ _. record { more = omega arith; bounded = h })
-    (λ _. cond_both (nat_lt g.col g.width) _ (carried g c a) (λ (p : PrintedGrid). CountsOn g p.grid)
-    (λ _. record { more = omega arith; bounded = h }) (λ _. counts-carried g c a h)))
+    let same = counts-same g.kept h in
+    cond_both (not (is_widening (row_of_cursor g) g.col c)) _ _ (CountsPrinted g) (λ _. same)
+    (λ _. cond_both (g.width == 1) _ _ (CountsPrinted g) (λ _. same)
+    (λ _. cond_both (nat_lt g.col g.width) _ (carried g c a) (CountsPrinted g) (λ _. same)
+    (λ _. counts-carried g c a h)))
 
-counts-spaced : (g : GridView) (c : ℕ) (a : Attrs) → g.kept.scrolled_off < 2 ^ 64 → CountsOn g (spaced g c a).grid
-counts-spaced g c a h =
-    let on = counts-made g (columns_of c) true h in
-    record { more = on.more; bounded = on.bounded }
-
-pub counts-printed : (g : GridView) (c : ℕ) (a : Attrs) → g.kept.scrolled_off < 2 ^ 64 → CountsOn g (printed g c a).grid
+pub counts-printed : (g : GridView) (c : ℕ) (a : Attrs) → g.kept.scrolled_off < 2 ^ 64
+    → Counts g.kept (printed g c a).grid.kept (printed g c a).sunk
 unfolding printed
 counts-printed g c a h =
     cond_both (is_dropped g.width g.col c) (record { grid = g; sunk = []; printed = Nothing })
-    (cond (nat_lt 0 (columns_of c)) (spaced g c a) (joined g c a)) (λ (p : PrintedGrid). CountsOn g p.grid)
-    (λ _. record { more = omega arith; bounded = h })
-    (λ _. cond_both (nat_lt 0 (columns_of c)) (spaced g c a) (joined g c a)
-    (λ (p : PrintedGrid). CountsOn g p.grid) (λ _. counts-spaced g c a h) (λ _. counts-joined g c a h))
+    (cond (nat_lt 0 (columns_of c)) (spaced g c a) (joined g c a)) (CountsPrinted g)
+    (λ _. counts-same g.kept h)
+    (λ _. cond_both (nat_lt 0 (columns_of c)) (spaced g c a) (joined g c a) (CountsPrinted g)
+    (λ _. counts-made g (columns_of c) true h) (λ _. counts-joined g c a h))
 
 pub counts-all : (xs : List ℕ) (g : GridView) (a : Attrs) → g.kept.scrolled_off < 2 ^ 64
-    → CountsOn g (printed_all g xs a).grid
-counts-all [] g a h = record { more = omega arith; bounded = h }
+    → CountsTo g (printed_all g xs a)
+counts-all [] g a h = counts-same g.kept h
 counts-all (x ∷ xs) g a h =
-    let one = counts-printed g x a h in
-    CountsOn-trans g (printed g x a).grid (printed_all (printed g x a).grid xs a).grid one
-    (counts-all xs (printed g x a).grid a one.bounded)
+    let one = printed g x a in
+    let first = counts-printed g x a h in
+    let all = printed_all one.grid xs a in
+    Counts-trans g.kept one.grid.kept all.grid.kept one.sunk all.sunk first
+    (counts-all xs one.grid a first.on.bounded)

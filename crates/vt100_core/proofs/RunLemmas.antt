@@ -287,11 +287,11 @@ none-on-the-way g0 g front rest a e none =
     let count : t.kept.scrolled_off ≡ g0.kept.scrolled_off =
     ap (λ (x : GridView). x.kept.scrolled_off) (sym parts) ∙ none.1 in
     let one = counts-all front g0 a (omega (arith, none.0)) in
-    let two = counts-all (take 1 rest) f a one.bounded in
-    let three = counts-all (drop 1 rest) m a two.bounded in
+    let two = counts-all (take 1 rest) f a one.on.bounded in
+    let three = counts-all (drop 1 rest) m a two.on.bounded in
     rw e (
-      omega (arith, none.0, count, one.more, two.more, three.more),
-      omega (arith, count, one.more, two.more, three.more),
+      omega (arith, none.0, count, one.on.more, two.on.more, three.on.more),
+      omega (arith, count, one.on.more, two.on.more, three.on.more),
     )
 
 -- where the first character of what is left is refused

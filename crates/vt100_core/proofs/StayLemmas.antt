@@ -83,7 +83,7 @@ scrolls-none g n e i wide =
     ∙ widened-none g.kept g.height g.width wide) in
     λ j. record g { rows = sym rows j; kept = sym kept j }
 
-pushed_out-none : (k : KeptPart) → length k.rows ≤ k.capacity → pushed_out k [] ≡ []
+pub pushed_out-none : (k : KeptPart) → length k.rows ≤ k.capacity → pushed_out k [] ≡ []
 pushed_out-none k h = ap (λ n. take n k.rows ++ take (0 - min 0 k.capacity) []) (overflow-none k h)
     ∙ take-nil (0 - min 0 k.capacity)
 

@@ -164,7 +164,8 @@ impl<CB: Callbacks> WrappedScreen<CB> {
     /// Gives the screen another size, and tells the callbacks of the rows that leave it: those of the main sheet first.
     /// A synchronized update of the program's ends. The same size changes nothing else.
     ///
-    /// Refused is only what makes the screen wider or higher, or keeps a row more. Then the call has stopped at the sheet that found none, whose size is open.
+    /// Refused is only what makes the screen wider or higher, or keeps a row more. Then the call has stopped at the sheet
+    /// that found no memory, whose size is open.
     pub fn set_size_with_cb(
         &mut self,
         rows: NonZeroU16,

@@ -31,6 +31,7 @@ impl<CB: Callbacks> WrappedScreen<CB> {
         if run.is_empty() {
             return None;
         }
+        prove!(self.screen.is_live() || self.screen.failed());
         let _ = self.run(Run::Wide(run.as_slice()));
         Some(rest)
     }

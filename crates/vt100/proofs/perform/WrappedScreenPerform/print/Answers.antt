@@ -2,7 +2,7 @@ use Rattle.std.proofs.Common.{◌≡◌, ◌∙◌, [], ◌∷◌, Bool, true, f
 use Rattle.screen_model.specs.Call as said
 use Rattle.screen_model.specs.Effect.{is_unhandled, calling, steps}
 use Rattle.screen_model.specs.Step.{typed}
-use Rattle.vt100.specs.Memory.{keeps_rows}
+use Rattle.vt100.specs.Memory.{keeps_row}
 use Rattle.vt100.proofs.EventLemmas.{does_as, does_call, does_scroll, does_where}
 use Rattle.vt100.proofs.perform.WrappedScreenPerform.print.Goals as goal
 
@@ -20,6 +20,6 @@ returns-else-is_unhandled g c =
     let ch = c.args.c in
     let s = c.args.self.now.screen.state in
     let is : is_unhandled ch ≡ false = sym c.is_unhandled.ensures ∙ c.if-is_unhandled.false in
-    does_where (ap (λ (b : Bool). not b && keeps_rows s) (sym is)) (does_as (λ t. steps (typed ch t))
+    does_where (ap (λ (b : Bool). not b && keeps_row s (typed ch s).state) (sym is)) (does_as (λ t. steps (typed ch t))
     (ap (λ (b : Bool). cond b (calling (said.unhandled_char ch ∷ []) s) (steps (typed ch s))) (sym is))
     (does_scroll c.text.ensures))

@@ -10,5 +10,6 @@ returns-clause-printed g c =
       xs,
       c.take_wide-rest.ensures.parts,
       goes-typed_all g.CB.Callbacks.step g.CB.Callbacks.scrolls xs _ some c.take_wide-rest.ensures.handled
+          c.is_live.ensures.live
           (rw c.as_slice.ensures.value at c.run.ensures),
     )
