@@ -1,16 +1,16 @@
 -- Only events of sequences open an update, and after each of them the parser asks.
-use Rattle.std.proofs.Common.{◌≡◌, ℕ, zero, suc, ◌+◌, ◌<◌, ◌≤◌, true, false, List, [], ◌∷◌, ◌++◌, ◌||◌, ◌==◌}
-use Rattle.std.proofs.Common.{take, length, get_or, length-append, append_assoc, arith, refl, ap, sym, ◌∙◌, inl, inr}
+use Rattle.std.proofs.Common.{◌≡◌, ℕ, zero, suc, ◌+◌, ◌<◌, ◌≤◌, true, false, List, [], ◌∷◌, ◌++◌, ◌||◌}
+use Rattle.std.proofs.Common.{take, length, get_or, append_assoc, arith, refl, ap, sym, ◌∙◌, inl, inr}
 use Rattle.std.specs.List.{All, list_any}
 use Rattle.std.proofs.lemmas.Bool.{cases_Bool}
-use Rattle.std.proofs.Math.Bool.{or-true}
 use Rattle.std.proofs.lemmas.List.Elements.{All-head, All-tail}
-use Rattle.std.proofs.Math.Seq.{take-suc, take-append_seam}
+use Rattle.std.proofs.Math.Seq.{take-suc}
 use Rattle.vte_core.specs.Event.{Event, Print, Execute}
 use Rattle.vte_core.specs.GroundText.{ends_in_text}
 use Rattle.vte_core.specs.Stopping.{asks_after}
 use Rattle.vte_core.specs.Laws.{IsCharacter}
 use Rattle.vte_core.proofs.GroundTextLemmas.{text-tells}
+use Rattle.vte_core.proofs.AskLemmas.{asks-past_text, sequences-asked}
 use Rattle.vte.specs.Table.{opens}
 use Rattle.vte.specs.Stretch.{added, opens_in}
 use Rattle.vte.proofs.HoldLemmas.{opens_in-none, opens_in-append}
@@ -27,11 +27,6 @@ all_none (e ∷ es) h = rw (one_none e (All-head IsCharacter e es h)) (all_none 
 -- ground text opens none
 pub text_opens_none : (past : List ℕ) (b : ℕ) → ends_in_text (past ++ b ∷ []) ≡ true → opens_in past (b ∷ []) ≡ false
 text_opens_none past b h = all_none (added past (b ∷ [])) (text-tells 1024 past b h)
-
--- after a byte that isn't ground text the parser asks
-asks_past_text : (past piece : List ℕ) (m : ℕ) → ends_in_text (past ++ take m piece) ≡ false
-    → asks_after past piece m ≡ true
-asks_past_text past piece m h = rw h (or-true (m == 0))
 
 front : (past bs : List ℕ) (m : ℕ) → m < length bs → past ++ take (suc m) bs ≡ (past ++ take m bs) ++ get_or bs m 0 ∷ []
 front past bs m lt = ap (λ xs. past ++ xs) (take-suc bs m 0 lt)
@@ -55,22 +50,11 @@ none_before past bs n within asked (suc m) lt =
     let before : opens_in past (take m bs) ≡ false = none_before past bs n within asked m (omega arith) in
     elim (cases_Bool (ends_in_text (past ++ take (suc m) bs))) [
       | inl text ↦ opens_in-text past bs m (omega arith) text before
-      | inr other ↦ asked (suc m) lt (asks_past_text past bs (suc m) other)
+      | inr other ↦ asked (suc m) lt (asks-past_text past bs (suc m) other)
     ]
 
 -- after a byte that opens an update the parser asks
 pub asks_where_opened : (past bytes : List ℕ) (b : ℕ) (rest : List ℕ)
     → opens_in (past ++ bytes) (b ∷ []) ≡ true → asks_after past (bytes ++ b ∷ rest) (length bytes + 1) ≡ true
-asks_where_opened past bytes b rest h =
-    let piece = bytes ++ b ∷ rest in
-    let more : length piece ≡ length bytes + length (b ∷ rest) = length-append bytes (b ∷ rest) in
-    let m : length bytes + 1 ≡ length (bytes ++ b ∷ []) = sym (length-append bytes (b ∷ [])) in
-    let so_far = ap (λ xs. past ++ xs) (ap (λ k. take k piece) m
-    ∙ (ap (take (length (bytes ++ b ∷ []))) (sym (append_assoc bytes (b ∷ []) rest))
-    ∙ take-append_seam (bytes ++ b ∷ []) rest))
-    ∙ sym (append_assoc past bytes (b ∷ [])) in
-    elim (cases_Bool (ends_in_text (past ++ take (length bytes + 1) piece))) [
-      | inl text ↦ absurd (let no : true ≡ false =
-          sym h ∙ text_opens_none (past ++ bytes) b (ap ends_in_text (sym so_far) ∙ text) in cc)
-      | inr other ↦ asks_past_text past piece (length bytes + 1) other
-    ]
+asks_where_opened past bytes b rest h = sequences-asked 1024 past bytes b rest
+    (λ told. let no : true ≡ false = sym h ∙ all_none (added (past ++ bytes) (b ∷ [])) told in cc)

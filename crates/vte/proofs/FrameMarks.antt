@@ -1,25 +1,30 @@
 -- Marks as the parser reads them, and where they stand in a text.
 use Rattle.std.proofs.Common.{◌≡◌, ℕ, zero, suc, ◌+◌, ◌-◌, ◌<◌, ◌≤◌, Bool, true, false, ◌&&◌, ◌||◌, ◌==◌, List, [], ◌∷◌, ◌++◌}
-use Rattle.std.proofs.Common.{length, take, drop, nat_eq, refl, sym, ◌∙◌, ap, inl, inr, arith, length-append}
+use Rattle.std.proofs.Common.{length, take, drop, nat_eq, refl, sym, ◌∙◌, ap, inl, inr, arith, length-append, append_assoc}
 use Rattle.std.proofs.Common.{length-drop}
 use Rattle.std.specs.List.{list_any, starts_with}
 use Rattle.std.proofs.lemmas.Bool.{cases_Bool, cases_lt, eqb-true, or_parts, and_right, agree_below_at}
 use Rattle.std.proofs.lemmas.List.{take-append-drop, take_at, nil_from_length}
 use Rattle.std.proofs.lemmas.List.Folds.{list_any-append}
 use Rattle.std.proofs.Math.Seq.{drop-append-add, drop-append_seam}
+use Rattle.std.specs.List.{All}
+use Rattle.std.specs.Int.{is_in_range}
+use Rattle.std.proofs.lemmas.List.Elements.{All-head, All-tail}
+use Rattle.vte_core.specs.Event.{Event, Print, Unhook, Osc}
 use Rattle.vte_core.specs.Shapes.{events}
-use Rattle.vte_core.specs.Pending.{Pending, InText, InEscape, pending}
-use Rattle.vte_core.specs.Pending.{closed, events_from}
 use Rattle.vte_core.specs.Ground.{AtGround}
-use Rattle.vte_core.proofs.AddedLemmas.{added-from}
-use Rattle.vte_core.proofs.GroundLemmas.{ground-added, ground-esc, ground-pending}
+use Rattle.vte_core.specs.Laws.{IsCutOff}
+use Rattle.vte_core.proofs.LawLemmas.{esc-cut}
+use Rattle.vte_core.proofs.AddedLemmas.{added-is, events-added}
+use Rattle.vte_core.proofs.QuietBytes.{esc-cuts_off}
+use Rattle.vte_core.proofs.GroundLemmas.{ground-added, ground-esc, ground-sequence}
 use Rattle.vte_types.specs.Call.{set_private_mode}
 use Rattle.vte_types.specs.declared.mode.PrivateMode.TheVariants.{Named}
 use Rattle.vte_types.specs.declared.mode.NamedPrivateMode.TheVariants.{SyncUpdate}
 use Rattle.vte.specs.Table.{opens}
 use Rattle.vte.specs.Performed.{calls_of_all}
 use Rattle.vte.specs.Marks.{start_mark, end_mark, stands_at, NoneFrom, IsLast, IsFirstFrom}
-use Rattle.vte.specs.Stretch.{last_of, calls_from, opens_in, OpensAt}
+use Rattle.vte.specs.Stretch.{added, last_of, calls_from, opens_in, OpensAt}
 use Rattle.vte.specs.Hold.{closing}
 use Rattle.vte.proofs.HoldLemmas.{opens_in-append, opens_in-none}
 
@@ -42,24 +47,41 @@ opens_in-front past bytes n h = (opens_in-parts past (take n bytes) (drop n byte
 
 -- marks
 
-closed_none : (q : Pending) → list_any opens (closed 1024 q) ≡ false
-closed_none (InText []) = refl
-closed_none (InText (a ∷ t)) = refl
-closed_none q = refl
+-- ESC itself opens nothing
+cut_off_none : (e : Event) → IsCutOff e → opens e ≡ false
+cut_off_none (Print c) h = refl
+cut_off_none (Osc ps bell) h = refl
+cut_off_none Unhook h = refl
+cut_off_none e h = absurd h
 
--- what ESC begins opens as it does alone
-esc_opens : (past bytes : List ℕ) → opens_in past (27 ∷ bytes) ≡ list_any opens (events_from 1024 (InEscape []) bytes)
+all_cut_off_none : (es : List Event) → All IsCutOff es → list_any opens es ≡ false
+all_cut_off_none [] h = refl
+all_cut_off_none (e ∷ es) h = rw (cut_off_none e (All-head IsCutOff e es h))
+    (all_cut_off_none es (All-tail IsCutOff e es h))
+
+-- what ESC begins is told as it is alone
+esc_added : (past bytes : List ℕ) → added past (27 ∷ bytes) ≡ added past (27 ∷ []) ++ events 1024 (27 ∷ bytes)
+esc_added past bytes =
+    let told = events 1024 (27 ∷ bytes) in
+    let whole : events 1024 (past ++ 27 ∷ bytes) ≡ events 1024 past ++ (added past (27 ∷ []) ++ told) =
+    esc-cut 1024 past bytes ∙ (ap (λ es. es ++ told) (events-added 1024 past (27 ∷ []))
+    ∙ append_assoc (events 1024 past) (added past (27 ∷ [])) told) in
+    sym (added-is 1024 past (27 ∷ bytes) (added past (27 ∷ []) ++ told) whole)
+
+-- and opens as it does alone
+esc_opens : (past bytes : List ℕ) → opens_in past (27 ∷ bytes) ≡ list_any opens (events 1024 (27 ∷ bytes))
 esc_opens past bytes =
-    ap (list_any opens) (added-from 1024 past (27 ∷ bytes))
-    ∙ (list_any-append opens (closed 1024 (pending past)) (events_from 1024 (InEscape []) bytes)
-    ∙ ap (λ v. v || list_any opens (events_from 1024 (InEscape []) bytes)) (closed_none (pending past)))
+    let more = list_any opens (events 1024 (27 ∷ bytes)) in
+    ap (list_any opens) (esc_added past bytes)
+    ∙ (list_any-append opens (added past (27 ∷ [])) (events 1024 (27 ∷ bytes))
+    ∙ ap (λ v. v || more) (all_cut_off_none (added past (27 ∷ [])) (esc-cuts_off 1024 past)))
 
 abbrev start_tail : List ℕ
 start_tail = 91 ∷ 63 ∷ 50 ∷ 48 ∷ 50 ∷ 54 ∷ 104 ∷ []
 
-tail_none : (count : ℕ) → count < 7 → list_any opens (events_from 1024 (InEscape []) (take count start_tail)) ≡ false
+tail_none : (count : ℕ) → count < 7 → list_any opens (events 1024 (27 ∷ take count start_tail)) ≡ false
 tail_none count h =
-    agree_below_at (λ k. list_any opens (events_from 1024 (InEscape []) (take k start_tail))) (λ k. false) 7 count refl h
+    agree_below_at (λ k. list_any opens (events 1024 (27 ∷ take k start_tail))) (λ k. false) 7 count refl h
 
 -- less than a start mark opens nothing
 pub begun_none : (past : List ℕ) (count : ℕ) → count < 8 → opens_in past (take count start_mark) ≡ false
@@ -80,11 +102,16 @@ end_none past = esc_opens past (91 ∷ 63 ∷ 50 ∷ 48 ∷ 50 ∷ 54 ∷ 108 �
 pub start_opens_at : (past : List ℕ) → OpensAt past start_mark 8
 start_opens_at past = record { within = omega arith; opened = start_opens past; first = λ m h. begun_none past m h }
 
+-- after a mark nothing is unfinished
+mark_ends : (final : ℕ) → is_in_range 0x40 0x7E final ≡ true
+    → AtGround 1024 (27 ∷ 91 ∷ (63 ∷ 50 ∷ 48 ∷ 50 ∷ 54 ∷ final ∷ []))
+mark_ends final h = ground-sequence 1024 (63 ∷ 50 ∷ 48 ∷ 50 ∷ 54 ∷ []) final ((refl, (refl, (refl, (refl, (refl, tt))))), h)
+
 pub ground_start : (past : List ℕ) → AtGround 1024 (past ++ start_mark)
-ground_start past = ground-esc 1024 past start_tail (ground-pending 1024 start_mark refl)
+ground_start past = ground-esc 1024 past start_tail (mark_ends 104 refl)
 
 pub ground_end : (past : List ℕ) → AtGround 1024 (past ++ end_mark)
-ground_end past = ground-esc 1024 past (91 ∷ 63 ∷ 50 ∷ 48 ∷ 50 ∷ 54 ∷ 108 ∷ []) (ground-pending 1024 end_mark refl)
+ground_end past = ground-esc 1024 past (91 ∷ 63 ∷ 50 ∷ 48 ∷ 50 ∷ 54 ∷ 108 ∷ []) (mark_ends 108 refl)
 
 begun_events : (count : ℕ) → count < 8 → events 1024 (take count start_mark) ≡ []
 begun_events count h = nil_from_length _ (eqb-true _ 0

@@ -15,3 +15,4 @@ pub mod FrameMarks
 pub mod FrameLemmas
 pub mod FrameMoves
 pub mod FrameBodies
+pub mod OutcomeLemmas

@@ -18,6 +18,18 @@ use Rattle.vte.specs.Advances.{Advances}
 use Rattle.vte.specs.Closings.{without_closings, WithClosings, clearings, Parses}
 use Rattle.vte.specs.Moves.{Move, Runs, given}
 
+-- the same text parsed, the same bytes held, the same calls, and the same settings of the timeout
+abbrev pub SameOutcome : List ℕ → Option (List ℕ) → List Call → List Tick
+    → List ℕ → Option (List ℕ) → List Call → List Tick → Type 0
+SameOutcome parsed hold calls ticks parsed' hold' calls' ticks' =
+    (parsed ≡ parsed') × (hold ≡ hold') × (calls ≡ calls') × (ticks ≡ ticks')
+
+-- a piece has one outcome
+abbrev pub TakesOneWay : Type 0
+TakesOneWay = (parsed : List ℕ) (hold : Option (List ℕ)) (piece p q : List ℕ) (h k : Option (List ℕ)) (c d : List Call)
+    (s t : List Tick)
+    → Takes parsed hold piece p h c s → Takes parsed hold piece q k d t → SameOutcome p h c s q k d t
+
 -- all bytes given are the parsed ones followed by the held ones
 abbrev pub ConservesBytes : Type 0
 ConservesBytes = (parsed : List ℕ) (hold : Option (List ℕ)) (piece parsed' : List ℕ) (hold' : Option (List ℕ))

@@ -1,5 +1,5 @@
 //! Laws of the calls, of the hold and of the values, each as the contract of a function that does nothing.
-ghost use Rattle.vte.specs.Laws.{ConservesBytes, ConservesUnderAny, NeverTears, JoinsCalls, JoinsPrinted};
+ghost use Rattle.vte.specs.Laws.{ConservesBytes, ConservesUnderAny, TakesOneWay, NeverTears, JoinsCalls, JoinsPrinted};
 ghost use Rattle.vte.specs.Laws.{JoinsOpenings, JoinsTicks, CallsAreOfParsed, CallsAreOfParsedUnderAny};
 ghost use Rattle.vte.specs.Laws.{FiltersClosings, IgnoresClosings, MakesTableCalls, OpensAsCalled, OpensAsAllCalled};
 ghost use Rattle.vte.specs.Laws.{OpensByStarts, AsksWhereOpened};
@@ -18,6 +18,13 @@ pub use vte_types::rgb::display_is_read;
 pub fn bytes_are_conserved<T: Timeout>()
     ensures exact { ConservesBytes }
     ensures any { ConservesUnderAny T.ticking }
+{}
+
+/// Under a timeout that is pending exactly from setting to clearing a piece has one outcome: what was parsed and held
+/// before it and the piece itself settle what is parsed and held then, the calls, and how the timeout is set and
+/// cleared.
+pub fn outcomes_are_settled()
+    ensures { TakesOneWay }
 {}
 
 /// While an update is open, there is room and its end mark hasn't come whole, nothing is parsed and no call is made.

@@ -1,15 +1,13 @@
 -- Where the performer is asked.
-use Rattle.std.proofs.Common.{◌≡◌, ◌≢◌, ℕ, ◌+◌, ◌<◌, Bool, true, false, not, ◌||◌, ◌==◌, List, [], ◌∷◌, ◌++◌}
+use Rattle.std.proofs.Common.{◌≡◌, ℕ, ◌+◌, true, false, not, ◌==◌, List, [], ◌∷◌, ◌++◌}
 use Rattle.std.proofs.Common.{take, drop, length, length-append, append_assoc, arith, refl, ap, sym, ◌∙◌, inl, inr}
-use Rattle.std.specs.List.{All}
 use Rattle.std.proofs.Math.Bool.{or-true}
 use Rattle.std.proofs.Math.Seq.{take-append_seam, drop-append_seam}
 use Rattle.std.proofs.lemmas.Bool.{ne_eqb}
 use Rattle.std.proofs.lemmas.List.{drop_all}
 use Rattle.vte_core.specs.GroundText.{ends_in_text}
 use Rattle.vte_core.specs.Stopping.{asks_after, ends_run}
-use Rattle.vte_core.specs.Added.{added}
-use Rattle.vte_core.specs.Laws.{IsCharacter, AsksAtEnds, AsksAfterSequences, AsksOutsideRuns}
+use Rattle.vte_core.specs.Laws.{AsksAtEnds, AsksAfterSequences, AsksOutsideRuns}
 use Rattle.vte_core.proofs.Characters.{bool_cases}
 use Rattle.vte_core.proofs.GroundTextLemmas.{text-tells}
 

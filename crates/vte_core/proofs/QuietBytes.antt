@@ -1,6 +1,6 @@
 -- Bytes that print nothing, and what ESC tells.
-use Rattle.std.proofs.Common.{◌≡◌, ◌≢◌, ℕ, Bool, true, false, not, ◌&&◌, ◌||◌, ◌==◌, List, [], ◌∷◌, ◌++◌, length}
-use Rattle.std.proofs.Common.{take, nat_lt, if◌then◌else◌, refl, sym, ◌∙◌, ap, subst, append-nil}
+use Rattle.std.proofs.Common.{◌≡◌, ℕ, Bool, true, false, not, ◌&&◌, ◌||◌, ◌==◌, List, [], ◌∷◌, length}
+use Rattle.std.proofs.Common.{take, nat_lt, if◌then◌else◌, refl, sym, ◌∙◌, subst, append-nil}
 use Rattle.std.specs.List.{All}
 use Rattle.std.proofs.Math.Bool.{and-true}
 use Rattle.std.proofs.lemmas.Bool.{ne_eqb}
@@ -9,7 +9,6 @@ use Rattle.vte_core.specs.Event.{Event, Print, Execute, Hook, Put, Unhook, Osc, 
 use Rattle.vte_core.specs.Bytes.{is_esc, is_abort, is_control, is_put, ends_header, ends_escape, ends_osc, ends_device}
 use Rattle.vte_core.specs.Header.{is_well_formed, kept_groups, kept_intermediates, overflows}
 use Rattle.vte_core.specs.Shapes.{osc_pieces}
-use Rattle.vte_core.specs.GroundText.{ends_in_text}
 use Rattle.vte_core.specs.Pending.{Pending, InText, InEscape, InCsi, InOsc, InHook, InDevice, InSwallowed, pending}
 use Rattle.vte_core.specs.Pending.{told, closed, final_told, byte_told, events_of_byte}
 use Rattle.vte_core.specs.Stopping.{is_text}

@@ -1,5 +1,5 @@
 -- What the parser's functions do with a byte: the parser (p) and the performer (old) before it, and after it (r, new).
-use Rattle.std.specs.Prelude.{◌≡◌, ℕ, List}
+use Rattle.std.specs.Prelude.{◌≡◌, ℕ}
 use Rattle.vte_core.specs.Event.{Event, Performs}
 use Rattle.vte_core.specs.Heard.{heard, byte_heard}
 use Rattle.vte_core.specs.Pending.{Pending, events_of_byte, after_byte, byte_rest, byte_told}

@@ -1,4 +1,5 @@
--- Where a parser stands.
+-- Where a parser stands. A caller carries `Stands` from one call to the next, and needs nothing of what it says: what a
+-- call tells is said of the bytes alone (Shapes, Added).
 use Rattle.std.specs.Prelude.{◌≡◌, ℕ, Bool, true, false, List, []}
 use Rattle.vte_core.specs.declared.parser.State.{State}
 use Rattle.vte_core.specs.Pending.{Pending, InText, InEscape, InCsi, InOsc, InHook, InDevice, InSwallowed, pending}

@@ -1,5 +1,5 @@
-use Rattle.std.proofs.Common.{rules, ◌≡◌, ℕ, List, ◌∷◌, ◌++◌, codes, refl, sym, ◌∙◌, ap, append-nil, append_assoc}
-use Rattle.std.proofs.Output.{has_written_append, has_written_of_eq}
+use Rattle.std.proofs.Common.{rules, ◌≡◌, ℕ, List, ◌∷◌, ◌++◌, codes, refl, ◌∙◌, append_assoc}
+use Rattle.std.proofs.Output.{has_written_append}
 use Rattle.std.specs.List.{flat_map}
 use Rattle.vte_core.specs.ParamsText.{group_text, groups_text}
 use Rattle.vte_core.proofs.params.write_groups.Goals as goal
