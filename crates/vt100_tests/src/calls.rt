@@ -78,11 +78,63 @@ fn errors_have_texts(rt: HostRuntime) -> Result<(), Fail> {
     Ok(())
 }
 
-#[test]
-fn a_default_parser_has_the_default_size(rt: HostRuntime) -> Result<(), Fail> {
-    let parser = Parser::new_default(rt.alloc())?;
+/// A parser of the default size is blank, and so is a copy of its screen.
+fn check_default(rt: &impl Abort, parser: &mut Parser<()>) -> Result<(), Fail> {
     let size = (Parser::<()>::DEFAULT_ROWS, Parser::<()>::DEFAULT_COLS);
-    same(&rt, &(size.0.get(), size.1.get()), &(24, 80));
-    same(&rt, &parser.screen().size(), &size);
+    same(rt, &(size.0.get(), size.1.get()), &(24, 80));
+    let copy = parser.screen().clone()?;
+    same(rt, &[parser.screen().size(), copy.size()], &[size, size]);
+    let (contents, copied) = (parser.screen().contents()?, copy.contents()?);
+    same(rt, &(contents.as_str(), copied.as_str()), &("", ""));
+    check_written(rt, parser)
+}
+
+#[test]
+fn a_default_parser_is_blank(rt: HostRuntime) -> Result<(), Fail> {
+    with(Parser::new_default(rt.alloc()), |parser| {
+        check_default(&rt, parser)
+    })
+}
+
+/// The cursor's places after each call that moves it, made at the second row and the third column.
+fn places_at_zero(wrapped: &mut WrappedScreen<()>) -> [(u16, u16); 4] {
+    let mut places = [(9, 9); 4];
+    for (step, place) in places.iter_mut().enumerate() {
+        wrapped.cup((2, 3));
+        match step {
+            0 => wrapped.cha(0),
+            1 => wrapped.vpa(0),
+            2 => wrapped.cup((0, 0)),
+            _ => wrapped.decstbm((0, 0)),
+        }
+        *place = wrapped.screen.cursor_position();
+    }
+    places
+}
+
+/// A row or column of 0 counts as 1. The region from 0 to 0 is thus the whole screen, of which the last row scrolls.
+fn check_zeros(rt: &impl Abort, screen: &Screen) -> Result<(), Fail> {
+    let mut wrapped = WrappedScreen {
+        screen: screen.clone()?,
+        callbacks: (),
+    };
+    wrapped.decstbm((1, 2));
+    same(
+        rt,
+        &places_at_zero(&mut wrapped),
+        &[(1, 0), (0, 2), (0, 0), (0, 0)],
+    );
+    wrapped.cup((3, 1));
+    wrapped.text('a')?;
+    wrapped.lf()?;
+    let contents = wrapped.screen.contents()?;
+    same(rt, &contents.as_str(), &"\na");
     Ok(())
+}
+
+#[test]
+fn zeros_count_as_one(rt: HostRuntime) -> Result<(), Fail> {
+    with(parser_of(rt.alloc(), (3, 4, 0)), |parser| {
+        check_zeros(&rt, parser.screen())
+    })
 }

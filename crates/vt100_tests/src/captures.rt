@@ -2,8 +2,11 @@
 ghost use Rattle.std.specs.Prelude.{◌<◌, length};
 ghost use Rattle.vt100_core.specs.Grid.{IsAllocated};
 
+use crate::forms::{Limited, writer_with_room};
 use crate::grid::grid;
 use crate::same::same;
+use std::fmt;
+use std::process::Abort;
 use std::test::Fail;
 use vt100_core::attrs::Attrs;
 use vt100_core::capture::{
@@ -33,6 +36,12 @@ const RED: Attrs = Attrs {
     fgcolor: Color::Idx(1),
     bgcolor: Color::Default,
     mode: 0,
+};
+
+const INVERSE: Attrs = Attrs {
+    fgcolor: Color::Default,
+    bgcolor: Color::Default,
+    mode: 16,
 };
 
 /// Prints two characters, the second with these attributes.
@@ -68,6 +77,72 @@ fn rows_that_leave_go_on_in_the_capture_of_the_others(rt: HostRuntime) -> Result
         &(written.is_ok(), sink.text.as_str()),
         &(true, "ab\nc\u{1b}[31md"),
     );
+    Ok(())
+}
+
+/// One of the three calls that write a capture of a grid of one row.
+#[derive(Clone, Copy)]
+enum Capture {
+    Row,
+    Full,
+    Visible,
+}
+
+fn write_capture(grid: &Grid, capture: Capture, writer: &mut Limited) -> fmt::Result {
+    let mut state = BasicFormattedCaptureState::new();
+    match (capture, grid.visible_row(0)) {
+        (Capture::Row, Some(row)) => {
+            RowContents::new(row).write_formatted_basic(writer, &mut state)
+        }
+        (Capture::Visible, _) => {
+            grid.write_contents_formatted_basic(writer, BasicFormattedCaptureRange::Visible)
+        }
+        _ => {
+            let range = BasicFormattedCaptureRange::Full(&mut state);
+            grid.write_contents_formatted_basic(writer, range)
+        }
+    }
+}
+
+/// A writer with this room takes a front of the capture, and the whole of it where there is room.
+fn check_room(
+    rt: &(impl Abort + AllocGlobal),
+    grid: &Grid,
+    capture: Capture,
+    room: usize,
+) -> Result<(), Fail> {
+    let mut writer = writer_with_room(rt.alloc(), room)?;
+    let answer = write_capture(grid, capture, &mut writer);
+    let taken = writer.taken.as_str();
+    same(
+        rt,
+        &(answer.is_ok(), taken == COLOURED_ROW),
+        &(room == COLOURED_ROW.len(), room == COLOURED_ROW.len()),
+    );
+    same(
+        rt,
+        &(COLOURED_ROW.starts_with(taken), taken.is_empty()),
+        &(true, room == 0),
+    );
+    Ok(())
+}
+
+/// The capture of `a`, a blank cell in inverse, and a character of two columns in red.
+const COLOURED_ROW: &str = "a\x1b[7m \x1b[31;27m中";
+
+/// A writer's refusal, at once and in mid-stream, is the capture's.
+#[test]
+fn writers_may_refuse(rt: HostRuntime) -> Result<(), Fail> {
+    let mut grid = grid(rt.alloc(), (1, 4, None))?;
+    grid.text('a', Attrs::new(), &mut ())?;
+    grid.erase_cells(1, INVERSE);
+    grid.col_set(2);
+    grid.text('中', RED, &mut ())?;
+    for capture in [Capture::Row, Capture::Full, Capture::Visible] {
+        for room in [0, 3, 8, COLOURED_ROW.len()] {
+            check_room(&rt, &grid, capture, room)?;
+        }
+    }
     Ok(())
 }
 

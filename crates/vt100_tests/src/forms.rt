@@ -10,8 +10,8 @@ use vt100_forms::{CursorStyle, GridError, MouseProtocolEncoding, MouseProtocolMo
 
 /// Takes whole texts while there is room for them.
 #[derive(Drop)]
-struct Limited {
-    taken: String,
+pub struct Limited {
+    pub taken: String,
     room: usize,
     calls: usize,
 }
@@ -30,7 +30,7 @@ impl fmt::Write for Limited {
     }
 }
 
-fn writer_with_room(alloc: Global, room: usize) -> Result<Limited, GridError> {
+pub fn writer_with_room(alloc: Global, room: usize) -> Result<Limited, GridError> {
     Ok(Limited {
         taken: String::with_capacity(alloc, 64)?,
         room,
@@ -131,6 +131,25 @@ fn default_changes_are_empty(rt: HostRuntime) {
     check(&rt, &term::MouseProtocolEncoding::default(), "");
     check(&rt, &term::CursorStyle::default(), "");
     check(&rt, &term::Attrs::default(), "");
+}
+
+#[test]
+fn default_values(rt: HostRuntime) {
+    let mouse = (MouseProtocolMode::None, MouseProtocolEncoding::Default);
+    same(
+        &rt,
+        &(
+            MouseProtocolMode::default(),
+            MouseProtocolEncoding::default(),
+        ),
+        &mouse,
+    );
+    let others = (CursorStyle::Default, Pos { row: 0, col: 0 }, Color::Default);
+    same(
+        &rt,
+        &(CursorStyle::default(), Pos::default(), Color::default()),
+        &others,
+    );
 }
 
 const PLACES: &[(u16, u16, &str)] = &[

@@ -1,6 +1,7 @@
 //! Calls that find no memory. They are refused where the tests run with allocations that fail; else each succeeds at
 //! once.
 ghost use Rattle.std.specs.Iterator.{IsFinite};
+ghost use Rattle.std.specs.Prelude.{⊤};
 
 use crate::begun::retried;
 use crate::owners::{parser_of, with};
@@ -11,7 +12,8 @@ use std::alloc::Global;
 use std::io::{ErrorKind, Write};
 use std::process::Abort;
 use std::test::Fail;
-use vt100::{Parser, Screen, ScreenError, WrappedScreen};
+use vt100::capture::RowContents;
+use vt100::{Call, Callbacks, Parser, Screen, ScreenError, WrappedScreen};
 
 /// A parser, made at the second try if the first was refused.
 fn retried_parser(alloc: Global, start: Start) -> Result<Parser<()>, ScreenError> {
@@ -203,6 +205,57 @@ fn parsers_of_any_capacity(rt: HostRuntime) -> Result<(), Fail> {
 /// A parser of the default size, made at the second try if the first was refused.
 fn retried_default(alloc: Global) -> Result<Parser<()>, ScreenError> {
     retried(ScreenError::Memory, || Parser::new_default(alloc))
+}
+
+/// Grants each request for a size, and says whether that was refused.
+#[derive(Drop)]
+struct Grants {
+    refused: bool,
+}
+
+impl Callbacks for Grants {
+    ghost step = { λ _ _ _ _ _. ⊤ };
+
+    ghost scrolls = { λ _ _ _ _. ⊤ };
+
+    fn call(&mut self, screen: &mut Screen, call: Call<'_>) {
+        if let Call::Resize(rows, cols) = call {
+            self.refused |= screen.set_size(count(rows), count(cols)).is_err();
+        }
+    }
+
+    fn on_scroll(&mut self, _contents: RowContents<'_>, _alternate_screen: bool) {}
+}
+
+fn retried_grants(alloc: Global) -> Result<Parser<Grants>, ScreenError> {
+    retried(ScreenError::Memory, || {
+        let callbacks = Grants { refused: false };
+        Parser::new_with_callbacks(alloc, count(2), count(2), 0, callbacks)
+    })
+}
+
+/// Where a callback makes the screen fail, the bytes are refused for memory, and the next ones since it has failed.
+fn check_grants(rt: &impl Abort, parser: &mut Parser<Grants>) -> Result<(), Fail> {
+    let answer = parser.process(b"\x1b[8;5;7tx");
+    let is_refused = parser.callbacks().refused;
+    let (first, second) = if is_refused {
+        (Err(ScreenError::Memory), Err(ScreenError::Failed))
+    } else {
+        (Ok(()), Ok(()))
+    };
+    same(
+        rt,
+        &(parser.screen().failed(), answer, parser.process(b"")),
+        &(is_refused, first, second),
+    );
+    Ok(())
+}
+
+#[test]
+fn callbacks_that_are_refused(rt: HostRuntime) -> Result<(), Fail> {
+    with(retried_grants(rt.alloc()), |parser| {
+        check_grants(&rt, parser)
+    })
 }
 
 #[test]

@@ -88,8 +88,9 @@ fn tells_what_was_printed(rt: HostRuntime) -> Result<(), Fail> {
 #[test]
 fn keeps_rows(rt: HostRuntime) -> Result<(), Fail> {
     let mut grid = grid(rt.alloc(), (2, 2, Some(1)))?;
-    print(&mut grid, "a", &mut Counter::default())?;
-    let lines = grid.row_inc_scroll(2, &mut ())?;
+    let mut sink = Counter::default();
+    print(&mut grid, "a", &mut sink)?;
+    let lines = grid.row_inc_scroll(2, &mut sink)?;
     grid.set_scrollback(5)?;
     let kept = (
         grid.scrollback_len(),
@@ -99,7 +100,8 @@ fn keeps_rows(rt: HostRuntime) -> Result<(), Fail> {
     let first = grid
         .visible_cell(Pos { row: 0, col: 0 })
         .map(|cell| cell.contents());
-    same(&rt, &(lines, kept, first), &(1, (1, 1, 1), Some("a")));
+    same(&rt, &(lines, sink.rows), &(1, 0));
+    same(&rt, &(kept, first), &((1, 1, 1), Some("a")));
     Ok(())
 }
 
