@@ -11,7 +11,7 @@ pub mod screen;
 pub use callbacks::{Call, Callbacks};
 pub use error::ScreenError;
 pub use parser::Parser;
-pub use screen::{Rows, Screen, WrappedScreen};
+pub use screen::{Rows, RowsDiff, RowsFormatted, Screen, WrappedScreen};
 pub use vt100_core::{
     Cell, Color, CursorStyle, DrawingRows, Grid, GridError, MouseProtocolEncoding,
     MouseProtocolMode, Pos, Printed, Row, RowSink, Scrollback, Size, VisibleRows, attrs, capture,

@@ -220,6 +220,7 @@ impl<CB: Callbacks> Parser<CB> {
 /// of kind `Other` where the screen had failed. The screen has failed then; bytes without an event that may take memory
 /// aren't refused (`takes`).
 impl Write for Parser<()> {
+    ghost use Rattle.vt100.specs.Goes.{GoesThrough};
     ghost use Rattle.vt100.specs.Parsing.{HasRead, ParserStandsAt};
 
     fn write(&mut self, buf: &[u8]) -> io::Result<usize>
@@ -230,6 +231,11 @@ impl Write for Parser<()> {
         ensures failed { IfErr result (λ e. self.old.screen.failed ≡ true → error_kind e ≡ Other) }
         ensures fails { OnErr result (self.new.screen.failed ≡ true) }
         ensures dead { self.old.screen.failed ≡ true → self.new ≡ self.old }
+        ensures reads { self.old.screen.failed ≡ false → (past : List ℕ) → HasRead self.old past
+            → HasRead self.new (past ++ buf.now) }
+        ensures goes { self.old.screen.failed ≡ false → (past : List ℕ) → HasRead self.old past
+            → GoesThrough (λ c v k d w. v ≡ w) (λ c v a d. c ≡ d) (events_added past buf.now) self.old.callbacks
+            self.old.screen self.new.callbacks self.new.screen }
         ensures made { (rows cols capacity : ℕ) (acts : List Act) → ParserStandsAt self.old rows cols capacity acts
             → OnOk result (ParserStandsAt self.new rows cols capacity (acts ++ Fed buf.now ∷ [])) }
         ensures bounds { (rows cols capacity : ℕ) (acts : List Act) → AreActs rows cols capacity acts

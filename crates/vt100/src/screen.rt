@@ -19,7 +19,7 @@ mod wrapped;
 mod writers;
 
 use crate::error::ScreenError;
-pub use rows::Rows;
+pub use rows::{Rows, RowsDiff, RowsFormatted};
 use std::alloc::Global;
 use std::marker::Model;
 use vt100_core::attrs::Attrs;

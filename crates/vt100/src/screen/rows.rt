@@ -28,6 +28,12 @@ pub struct Rows<'a> {
     alloc: Global,
 }
 
+/// The rows as forms: those of [`rows_formatted`](crate::Screen::rows_formatted).
+pub type RowsFormatted<'a> = Rows<'a>;
+
+/// The rows as forms over earlier ones: those of [`rows_diff`](crate::Screen::rows_diff).
+pub type RowsDiff<'a> = Rows<'a>;
+
 /// What is written of each row.
 #[derive(Debug, Drop)]
 pub(super) enum Writing<'a> {

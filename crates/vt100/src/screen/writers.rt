@@ -15,7 +15,7 @@ ghost use Rattle.vt100.specs.declared.error.ScreenError.TheVariants.{Memory};
 
 use crate::error::ScreenError;
 use crate::screen::Screen;
-use crate::screen::rows::{Rows, Writing};
+use crate::screen::rows::{Rows, RowsDiff, RowsFormatted, Writing};
 use vt100_core::attrs::Attrs;
 use vt100_core::term::{
     ApplicationCursor, ApplicationKeypad, BracketedPaste, BufWrite, ClearAttrs, HideCursor,
@@ -81,7 +81,7 @@ impl Screen {
     /// Before each row the cursor is brought to the row's column `start`, and the attributes are the default ones.
     /// Where whole rows are asked for, a row that goes on from the one above is drawn with the cursor at the end of
     /// that one.
-    pub fn rows_formatted(&self, start: u16, width: u16) -> Rows<'_>
+    pub fn rows_formatted(&self, start: u16, width: u16) -> RowsFormatted<'_>
         ensures { result ≡ rows_formatted self.now.state.shown start width }
     {
         prove!(self.grid.is_allocated());
@@ -121,7 +121,7 @@ impl Screen {
     /// screens alone has have no item.
     ///
     /// Before each row the cursor is brought to the row's column `start`, and the attributes are the default ones.
-    pub fn rows_diff<'a>(&'a self, prev: &'a Self, start: u16, width: u16) -> Rows<'a>
+    pub fn rows_diff<'a>(&'a self, prev: &'a Self, start: u16, width: u16) -> RowsDiff<'a>
         ensures { result ≡ rows_diff prev.now.state.shown self.now.state.shown start width }
     {
         prove!(self.grid.is_allocated());
